@@ -1,0 +1,19 @@
+-- What one read or write moves, and when it has failed. This project's own choice.
+use Rattle.std.specs.Prelude.{◌≡◌, ℕ, zero, List, [], ◌∷◌, take, Option, Result, Ok, Err}
+use Rattle.std.specs.Io.KnownBytes.{append_known}
+
+-- the front of the bytes that the answer names was moved, or nothing where the call failed
+abbrev pub Moves : Option (List ℕ) → Option (List ℕ) → Result ℕ (Unit {0}) → List ℕ → Type 0
+Moves old new (Ok n) bytes = new ≡ append_known old (take n bytes)
+Moves old new (Err e) bytes = new ≡ old
+
+-- a read fails where it answers an error
+abbrev pub fails_read : Result ℕ (Unit {0}) → ℕ
+fails_read (Ok n) = 0
+fails_read (Err e) = 1
+
+-- a write fails where it answers an error, or takes none of some bytes
+abbrev pub fails_write : Result ℕ (Unit {0}) → List ℕ → ℕ
+fails_write (Ok zero) (b ∷ bytes) = 1
+fails_write (Ok n) bytes = 0
+fails_write (Err e) bytes = 1

@@ -1,0 +1,65 @@
+ghost use Rattle.std.specs.Prelude.{◌≡◌};
+
+use crate::places::Place;
+use std::alloc::AllocError;
+
+/// What is wrong with a program. The codes are this project's own choice.
+#[derive(Clone, Copy, Debug, PartialEq, Eq)]
+pub enum Code {
+    /// No token begins here, or no well-formed character.
+    E01,
+    /// No program goes on so.
+    E02,
+    /// A limit is passed.
+    E03,
+    /// A name is declared twice in its space.
+    E04,
+    /// A type that isn't declared.
+    E05,
+    /// A name before `(` or `[` that is no symbol.
+    E06,
+    /// The number of arguments isn't the arity.
+    E07,
+    /// A variable or a free name doesn't stand as often as it has to.
+    E08,
+    /// A closed wire.
+    E09,
+    /// A wire whose two types aren't opposite.
+    E10,
+    /// The heads of a rule whose principal types aren't opposite.
+    E11,
+    /// A rule that isn't semi-simple.
+    E12,
+    /// An initial net that isn't semi-simple.
+    E13,
+    /// A second rule for a pair of symbols.
+    E14,
+    /// No rule for a matching pair of symbols.
+    E15,
+}
+
+/// Why a program is refused, and where.
+#[derive(Clone, Copy, Debug, PartialEq, Eq)]
+pub struct Refusal {
+    pub code: Code,
+    pub place: Place,
+    /// The earlier declared symbol of a pair without a rule; nothing for all other codes.
+    pub other: Option<Place>,
+}
+
+/// A refusal, or want of memory.
+#[derive(Debug, Drop)]
+pub enum Fault {
+    Refused(Refusal),
+    Memory(AllocError),
+}
+
+impl From<AllocError> for Fault {
+    ghost use Rattle.in_syntax.specs.declared.faults.Fault.TheVariants as fault;
+
+    ghost from_gives = { λ e r. r ≡ fault.Memory e };
+
+    fn from(error: AllocError) -> Fault {
+        Fault::Memory(error)
+    }
+}

@@ -1,0 +1,12 @@
+/// Where something stands in a text.
+///
+/// `from` and `to` are offsets in bytes, the first byte and the one after the last; where they are equal, the place is
+/// between two characters. `line` and `col` are those of `from`, both counted from 1: lines end with a line feed, and
+/// columns are characters. That columns are characters is this project's own choice.
+#[derive(Clone, Copy, Debug, PartialEq, Eq)]
+pub struct Place {
+    pub from: usize,
+    pub to: usize,
+    pub line: u32,
+    pub col: u32,
+}

@@ -1,0 +1,34 @@
+ghost use Rattle.std.specs.Prelude.{◌≡◌, ℕ, ◌+◌, ◌-◌, ◌^◌, ◌<◌, ◌≤◌, List, Option, length, IfOk};
+ghost use Rattle.in_syntax.specs.Streams.{Moves, fails_read, fails_write};
+
+/// Where a text comes from.
+pub trait TextIn {
+    /// The bytes that it gave so far, or nothing where it doesn't tell.
+    ghost given: { Self → Option (List ℕ) };
+
+    /// How many reads failed.
+    ghost failures: { Self → ℕ };
+
+    /// Reads up to as many bytes as are lent, and says how many. 0 bytes for a slice that isn't empty is the end.
+    fn read(&mut self, into: &mut [u8]) -> Result<usize, ()>
+        requires { failures self.old < 2 ^ 64 - 1 }
+        ensures within { IfOk result (λ n. n ≤ length into.new) }
+        ensures given { Moves (given self.old) (given self.new) result into.new }
+        ensures failures { failures self.new ≡ failures self.old + fails_read result };
+}
+
+/// Where a text goes.
+pub trait TextOut {
+    /// The bytes that it took so far, or nothing where it doesn't tell.
+    ghost taken: { Self → Option (List ℕ) };
+
+    /// How many writes failed.
+    ghost failures: { Self → ℕ };
+
+    /// Writes a front of the bytes, and says how long it is. 0 of some bytes is a failure.
+    fn write(&mut self, bytes: &[u8]) -> Result<usize, ()>
+        requires { failures self.old < 2 ^ 64 - 1 }
+        ensures within { IfOk result (λ n. n ≤ length bytes.now) }
+        ensures taken { Moves (taken self.old) (taken self.new) result bytes.now }
+        ensures failures { failures self.new ≡ failures self.old + fails_write result bytes.now };
+}
