@@ -1,0 +1,3 @@
+pub mod Heads
+pub mod Maps
+pub mod Shapes
