@@ -1,2 +1,4 @@
 pub mod Names
+pub mod Parts
+pub mod Reading
 pub mod Tables

@@ -1,14 +1,15 @@
 -- The tables of a program: what is declared of its types and symbols. Lafont 1990: a symbol has a principal port and auxiliary
 -- ports, each with a type and a sign, and its auxiliary ports fall into classes.
-use Rattle.std.specs.Prelude.{◌≡◌, ℕ, zero, suc, ◌+◌, ◌-◌, ◌<◌, ◌≤◌, Bool, true, false, ◌||◌, ◌&&◌, List, [], ◌∷◌, ◌++◌, length, map, unwrap_or, slice_index_or, slice_get, Option, Some, None, IsSome, is_some, Result, Ok, Err, option_map}
+use Rattle.std.specs.Prelude.{◌≡◌, ℕ, zero, suc, ◌+◌, ◌-◌, ◌<◌, ◌≤◌, Bool, true, false, ◌||◌, ◌&&◌, ◌==◌, List, [], ◌∷◌, ◌++◌, length, map, unwrap_or, slice_index_or, slice_get, Option, Some, None, IsSome, is_some, Result, Ok, Err, option_map}
 use Rattle.std.proofs.Math.ListN.{replicate}
 use Rattle.in_syntax.specs.declared.faults.Fault.{Fault}
 use Rattle.in_syntax.specs.declared.tree.Term.{Term}
 use Rattle.in_syntax.specs.declared.tree.Term.TheFolds.{fold-Term}
 use Rattle.in_syntax.specs.declared.tree.Equation.{Equation}
-use Rattle.std.specs.List.{flat_map, AllByRecursion}
+use Rattle.std.specs.List.{flat_map, list_all, AllByRecursion}
 use Rattle.in_syntax.specs.declared.places.Place.{Place}
 use Rattle.in_syntax.specs.declared.tree.Source.{Source}
+use Rattle.in_syntax.specs.declared.tree.SourceNet.{SourceNet}
 use Rattle.in_syntax.specs.declared.tree.SourcePort.{SourcePort}
 use Rattle.in_syntax.specs.declared.tree.SourceSymbol.{SourceSymbol}
 use Rattle.in_net.specs.declared.symbols.PortType.{PortType}
@@ -137,3 +138,16 @@ HeadsKnown names = AllByRecursion (λ e. (heads_known names e.left ≡ true) × 
 abbrev pub Tabulates : Source → Result Tables Fault → Type 0
 Tabulates source (Ok t) = (t ≡ tables_of source) × HeadsKnown t.names source.net.equations
 Tabulates source (Err e) = Unit {0}
+
+-- ---- numbers of arguments
+
+abbrev pub fits_arity : Tables → Option ℕ → ℕ → Bool
+fits_arity t None n = true
+fits_arity t (Some s) n = n == arity_of t s
+
+-- each agent of the term has as many arguments as its symbol has auxiliary ports
+abbrev pub arities_fit : Tables → Term → Bool
+arities_fit t = fold-Term Bool (λ f. fits_arity t (number_in f.name.text t.names) (length f.args) && all_true f.args)
+
+abbrev pub all_arities_fit : Tables → SourceNet → Bool
+all_arities_fit t n = list_all (λ e. arities_fit t e.left && arities_fit t e.right) n.equations

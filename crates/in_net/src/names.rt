@@ -1,4 +1,4 @@
-ghost use Rattle.std.specs.Prelude.{◌≡◌, ◌-◌, ◌^◌, ◌<◌, [], length};
+ghost use Rattle.std.specs.Prelude.{◌≡◌, ◌<◌, [], length};
 ghost use Rattle.in_net.specs.Names.{number_in, name_in, Declares};
 
 use indexmap::IndexSet;
@@ -12,13 +12,11 @@ pub struct Names {
 }
 
 impl Model for Names {
-    ghost use Rattle.std.specs.Prelude.{List, ℕ, ◌^◌, ◌<◌, length, map, string_bytes};
+    ghost use Rattle.std.specs.Prelude.{List, ℕ, map, string_bytes};
 
     ghost Value = { List (List ℕ) };
 
     ghost view = { λ n. map string_bytes n.set.keys };
-
-    ghost invariant = { λ n. length n.set.keys < 2 ^ 32 };
 }
 
 impl Names {
@@ -30,34 +28,33 @@ impl Names {
         }
     }
 
-    pub fn len(&self) -> u32
+    pub fn len(&self) -> usize
         ensures { result ≡ length self.now }
     {
-        self.set.len() as u32
+        self.set.len()
     }
 
     /// Adds a name, and says whether it is new. A name that is there changes nothing.
     pub fn declare(&mut self, alloc: Global, name: &str) -> Result<bool, AllocError>
-        requires { length self.old < 2 ^ 32 - 1 }
         ensures { Declares self.old name.now self.new result }
     {
         let added = self.set.insert(String::from_str(alloc, name)?)?;
         Ok(added)
     }
 
-    pub fn number_of(&self, name: &str) -> Option<u32>
+    pub fn number_of(&self, name: &str) -> Option<usize>
         ensures { result ≡ number_in name.now self.now }
     {
         match self.set.get_index_of(name) {
-            Some(number) => Some(number as u32),
+            Some(number) => Some(number),
             None => None,
         }
     }
 
-    pub fn name(&self, number: u32) -> &str
+    pub fn name(&self, number: usize) -> &str
         requires { number < length self.now }
         ensures { result.now ≡ name_in number self.now }
     {
-        self.set.get_index(number as usize).unwrap().as_str()
+        self.set.get_index(number).unwrap().as_str()
     }
 }

@@ -1,1 +1,180 @@
+ghost use Rattle.std.specs.Prelude.{◌≡◌, ◌<◌, length, count_by, is_some, IsTrue, slice_get};
+ghost use Rattle.in_net.specs.Parts.{IsWhole, as_built, IsPointOf, partner_in, symbol_in, wire_in, wire_place_in, agent_place_in, free_type_in, free_name_in};
 
+use crate::symbols::{PortType, SymbolNo};
+use in_syntax::{Place, Text};
+use sqlite_items::Items;
+use std::marker::Model;
+
+/// The number of an agent. As built, agents are numbered from 0 by the places of their names.
+#[derive(Clone, Copy, Debug, PartialEq, Eq)]
+pub struct AgentNo(pub u32);
+
+/// A port of an agent, by its place (0 is the principal port), or a free end by its number.
+#[derive(Clone, Copy, Debug, PartialEq, Eq)]
+pub enum Point {
+    Port(AgentNo, u8),
+    Free(u32),
+}
+
+/// An agent: its symbol, and the partner of each of its places.
+#[derive(Drop)]
+pub(crate) struct Cell {
+    pub(crate) symbol: SymbolNo,
+    pub(crate) ends: Items<Point>,
+}
+
+/// A free end: its name, the type that it is declared with, and its partner.
+#[derive(Drop)]
+pub(crate) struct FreeEnd {
+    pub(crate) name: Text,
+    pub(crate) kind: PortType,
+    pub(crate) end: Point,
+}
+
+/// Two points that are joined, and where the last joint between them stands in the text.
+#[derive(Clone, Copy)]
+pub(crate) struct Wire {
+    pub(crate) one: Point,
+    pub(crate) other: Point,
+    pub(crate) place: Place,
+}
+
+/// A net. Lafont 1990: agents, each with a symbol, and wires, each of which joins two points, a point being a port or a free
+/// end; each point is on exactly one wire.
+#[derive(Drop)]
+pub struct Net {
+    cells: Items<Option<Cell>>,
+    free: Items<FreeEnd>,
+    wires: Items<Wire>,
+    places: Items<Place>,
+    built: bool,
+}
+
+// Contracts see all that a looking call reads. Which net that is, `specs/Parts.antt` says.
+impl Model for Net {
+    ghost use Rattle.in_net.specs.Parts.{Parts, IsWhole};
+
+    ghost Value = { Parts };
+
+    ghost view = { λ n. record { cells = n.cells; free = n.free; wires = n.wires; places = n.places; built = n.built } };
+
+    ghost invariant = { λ n. IsWhole (record { cells = n.cells; free = n.free; wires = n.wires; places = n.places; built = n.built }) };
+}
+
+impl Net {
+    /// The net of these parts, with an agent at each cell.
+    pub(crate) fn built(
+        cells: Items<Option<Cell>>,
+        free: Items<FreeEnd>,
+        wires: Items<Wire>,
+        places: Items<Place>,
+    ) -> Net
+        requires { IsWhole (as_built cells free wires places) }
+        ensures { result ≡ as_built cells free wires places }
+    {
+        Net {
+            cells,
+            free,
+            wires,
+            places,
+            built: true,
+        }
+    }
+
+    /// How many agents the net has.
+    pub fn agents(&self) -> u32
+        ensures { result ≡ count_by is_some self.now.cells }
+    {
+        self.cells.as_slice().iter().filter(|cell| cell.is_some()).count() as u32
+    }
+
+    /// The symbol of the agent of that number, where there is one.
+    pub fn symbol(&self, agent: AgentNo) -> Option<SymbolNo>
+        ensures { result ≡ symbol_in self.now agent.0 }
+    {
+        match self.cells.get(agent.0 as usize) {
+            Some(Some(cell)) => Some(cell.symbol),
+            _ => None,
+        }
+    }
+
+    /// The point on the other end of the wire at this point.
+    pub fn partner(&self, point: Point) -> Point
+        requires { IsPointOf self.now point }
+        ensures { partner_in self.now point ≡ Some result }
+    {
+        match point {
+            Point::Port(agent, place) => match &self.cells.as_slice()[agent.0 as usize] {
+                Some(cell) => cell.ends.as_slice()[place as usize],
+                None => unreachable!(),
+            },
+            Point::Free(number) => self.free.as_slice()[number as usize].end,
+        }
+    }
+
+    /// How many wires the net has.
+    pub fn wires(&self) -> u32
+        ensures { result ≡ length self.now.wires }
+    {
+        self.wires.len() as u32
+    }
+
+    /// The two points of a wire. As built, wires are numbered from 0 by their places.
+    pub fn wire(&self, number: u32) -> (Point, Point)
+        requires { number < length self.now.wires }
+        ensures { Some result ≡ wire_in self.now number }
+    {
+        let wire = &self.wires.as_slice()[number as usize];
+        (wire.one, wire.other)
+    }
+
+    /// Where a wire stands in the text: the last in the text among the `~` and the first tokens of arguments that it
+    /// passes. That a wire stands at the last of them is this project's own choice.
+    pub fn wire_place(&self, number: u32) -> Place
+        requires number { number < length self.now.wires }
+        requires built { IsTrue self.now.built }
+        ensures { Some result ≡ wire_place_in self.now number }
+    {
+        self.wires.as_slice()[number as usize].place
+    }
+
+    /// Where the agent's name stands in the text.
+    pub fn agent_place(&self, agent: AgentNo) -> Place
+        requires agent { agent.0 < length self.now.cells }
+        requires built { IsTrue self.now.built }
+        ensures { Some result ≡ agent_place_in self.now agent.0 }
+    {
+        self.places.as_slice()[agent.0 as usize]
+    }
+
+    /// How many free ends the net has.
+    pub fn free_ends(&self) -> u32
+        ensures { result ≡ length self.now.free }
+    {
+        self.free.len() as u32
+    }
+
+    /// The type that a free end is declared with.
+    pub fn free_type(&self, number: u32) -> PortType
+        requires { number < length self.now.free }
+        ensures { Some result ≡ free_type_in self.now number }
+    {
+        self.free.as_slice()[number as usize].kind
+    }
+
+    /// The name of a free end.
+    pub fn free_name(&self, number: u32) -> &str
+        requires { number < length self.now.free }
+        ensures { Some result.now ≡ free_name_in self.now number }
+    {
+        self.free.as_slice()[number as usize].name.as_str()
+    }
+
+    /// Whether the net is as built: no interaction happened in it, and its agents and wires have places in the text.
+    pub fn is_built(&self) -> bool
+        ensures { result ≡ self.now.built }
+    {
+        self.built
+    }
+}

@@ -1,1 +1,218 @@
+ghost use Rattle.std.specs.Prelude.{◌≡◌, length, IfOk, unwrap_or};
+ghost use Rattle.in_net.specs.Names.{number_in};
+ghost use Rattle.in_net.specs.Reading.{with_name, with_agent, with_occurrence, reader_of, reads_equation, reads_free, reading_of};
+ghost use Rattle.in_net.specs.Tables.{arities_fit, all_arities_fit};
 
+use crate::names::Names;
+use crate::symbols::{SymbolNo, Symbols};
+use in_syntax::{Equation, Name, Place, SourceFree, SourceNet, Term};
+use sqlite_items::Items;
+use std::alloc::{AllocError, Global};
+
+/// A spot of a text: a port of an agent, a free end, or the occurrence of a variable or free name at a place.
+#[derive(Clone, Copy)]
+pub(crate) enum Spot {
+    Port(usize, u8),
+    Free(usize),
+    Occurrence(Place),
+}
+
+/// An agent as it is written: its symbol, where its name stands, and the number of its principal port among the spots.
+#[derive(Clone, Copy)]
+pub(crate) struct Agent {
+    pub(crate) symbol: SymbolNo,
+    pub(crate) place: Place,
+    pub(crate) first: usize,
+}
+
+/// An argument: its agent's number, the place that it stands at, the number of its own spot, and its first token's place.
+#[derive(Clone, Copy)]
+pub(crate) struct Argument {
+    pub(crate) agent: usize,
+    pub(crate) port: usize,
+    pub(crate) spot: usize,
+    pub(crate) place: Place,
+}
+
+/// An equation: the numbers of its terms' spots, and where its `~` stands.
+#[derive(Clone, Copy)]
+pub(crate) struct Equated {
+    pub(crate) left: usize,
+    pub(crate) right: usize,
+    pub(crate) place: Place,
+}
+
+/// An occurrence of a variable or free name: the number of the name, and the number of its spot.
+#[derive(Clone, Copy)]
+pub(crate) struct Occurrence {
+    pub(crate) name: usize,
+    pub(crate) spot: usize,
+}
+
+/// What is read of a net so far, each list in the order of the text; free ends are the first spots and the first names.
+#[derive(Drop)]
+pub(crate) struct Reading {
+    pub(crate) spots: Items<Spot>,
+    pub(crate) agents: Items<Agent>,
+    pub(crate) arguments: Items<Argument>,
+    pub(crate) equations: Items<Equated>,
+    pub(crate) names: Names,
+    pub(crate) occurrences: Items<Occurrence>,
+}
+
+impl Reading {
+    ghost use Rattle.in_net.specs.Reading.{nothing_read};
+
+    pub(crate) fn new(alloc: Global) -> Reading
+        ensures { result ≡ nothing_read }
+    {
+        Reading {
+            spots: Items::new(alloc),
+            agents: Items::new(alloc),
+            arguments: Items::new(alloc),
+            equations: Items::new(alloc),
+            names: Names::new(alloc),
+            occurrences: Items::new(alloc),
+        }
+    }
+}
+
+/// Adds an agent with its ports, and answers its number.
+fn add_agent(
+    reading: &mut Reading,
+    symbol: SymbolNo,
+    arity: u8,
+    place: Place,
+) -> Result<usize, AllocError>
+    ensures { IfOk result (λ agent. (agent ≡ length reading.old.agents) × (reading.new ≡ with_agent reading.old symbol arity place)) }
+{
+    let first = reading.spots.len();
+    let agent = reading.agents.len();
+    for port in 0..=arity {
+        reading.spots.push(Spot::Port(agent, port))?;
+    }
+    reading.agents.push(Agent {
+        symbol,
+        place,
+        first,
+    })?;
+    Ok(agent)
+}
+
+/// The number of a name, which is added where it is new.
+fn number_of(alloc: Global, names: &mut Names, name: &str) -> Result<usize, AllocError>
+    ensures { IfOk result (λ number. (number ≡ unwrap_or (number_in name.now names.old) (length names.old)) × (names.new ≡ with_name names.old name.now)) }
+{
+    if let Some(number) = names.number_of(name) {
+        return Ok(number);
+    }
+    let number = names.len();
+    names.declare(alloc, name)?;
+    Ok(number)
+}
+
+/// Adds the occurrence of a variable or free name, and answers its number among the spots.
+fn add_occurrence(alloc: Global, reading: &mut Reading, name: &Name) -> Result<usize, AllocError>
+    ensures { IfOk result (λ spot. (spot ≡ length reading.old.spots) × (reading.new ≡ with_occurrence reading.old name.now)) }
+{
+    let spot = reading.spots.len();
+    let number = number_of(alloc, &mut reading.names, name.text.as_str())?;
+    reading.spots.push(Spot::Occurrence(name.place))?;
+    reading.occurrences.push(Occurrence { name: number, spot })?;
+    Ok(spot)
+}
+
+/// Reads a term, each agent before its arguments, and answers the number of its spot.
+fn read_term(
+    alloc: Global,
+    symbols: &Symbols,
+    term: &Term,
+    reading: &mut Reading,
+) -> Result<usize, AllocError>
+    ensures { IfOk result (λ spot. (reading.new, spot) ≡ (reader_of symbols.now term.now).reads reading.old) }
+{
+    let Some(symbol) = symbols.number_of(term.name.text.as_str()) else {
+        return add_occurrence(alloc, reading, &term.name);
+    };
+    let first = reading.spots.len();
+    let agent = add_agent(reading, symbol, symbols.arity(symbol), term.name.place)?;
+    for (index, argument) in term.args.as_slice().iter().enumerate() {
+        let spot = read_term(alloc, symbols, argument, reading)?;
+        reading.arguments.push(Argument {
+            agent,
+            port: index + 1,
+            spot,
+            place: argument.name.place,
+        })?;
+    }
+    Ok(first)
+}
+
+/// Reads both terms of an equation.
+fn read_equation(
+    alloc: Global,
+    symbols: &Symbols,
+    equation: &Equation,
+    reading: &mut Reading,
+) -> Result<(), AllocError>
+    ensures { IfOk result (λ _. reading.new ≡ reads_equation symbols.now equation.now reading.old) }
+{
+    let left = read_term(alloc, symbols, &equation.left, reading)?;
+    let right = read_term(alloc, symbols, &equation.right, reading)?;
+    reading.equations.push(Equated {
+        left,
+        right,
+        place: equation.tilde,
+    })
+}
+
+/// Reads the free ends.
+fn read_free(alloc: Global, free: &[SourceFree]) -> Result<Reading, AllocError>
+    ensures { IfOk result (λ r. r ≡ reads_free free.now) }
+{
+    let mut reading = Reading::new(alloc);
+    for (number, end) in free.iter().enumerate() {
+        reading.spots.push(Spot::Free(number))?;
+        number_of(alloc, &mut reading.names, end.name.text.as_str())?;
+    }
+    Ok(reading)
+}
+
+/// Reads a net: its free ends, and then its equations.
+pub(crate) fn read_net(
+    alloc: Global,
+    symbols: &Symbols,
+    net: &SourceNet,
+) -> Result<Reading, AllocError>
+    ensures { IfOk result (λ r. r ≡ reading_of symbols.now net.now) }
+{
+    let mut reading = read_free(alloc, net.free.as_slice())?;
+    for equation in net.equations.as_slice() {
+        read_equation(alloc, symbols, equation, &mut reading)?;
+    }
+    Ok(reading)
+}
+
+/// Whether each agent of the term has as many arguments as its symbol has auxiliary ports.
+pub(crate) fn arities_fit(symbols: &Symbols, term: &Term) -> bool
+    ensures { result ≡ arities_fit symbols.now term.now }
+{
+    let mut fit = match symbols.number_of(term.name.text.as_str()) {
+        Some(symbol) => term.args.len() == symbols.arity(symbol) as usize,
+        None => true,
+    };
+    for argument in term.args.as_slice() {
+        fit = arities_fit(symbols, argument) && fit;
+    }
+    fit
+}
+
+/// Whether all agents of a net do.
+pub(crate) fn all_arities_fit(symbols: &Symbols, net: &SourceNet) -> bool
+    ensures { result ≡ all_arities_fit symbols.now net.now }
+{
+    net.equations
+        .as_slice()
+        .iter()
+        .all(|equation| arities_fit(symbols, &equation.left) && arities_fit(symbols, &equation.right))
+}

@@ -42,13 +42,13 @@ pub struct Symbols {
 // Contracts see the declarations, symbol by symbol.
 impl Model for Symbols {
     ghost use Rattle.in_net.specs.Tables.{Tables, AreShapes};
-    ghost use Rattle.std.specs.Prelude.{◌≡◌, length};
+    ghost use Rattle.std.specs.Prelude.{◌≡◌, ◌<◌, ◌^◌, length};
 
     ghost Value = { Tables };
 
     ghost view = { λ s. record { types = s.types; names = s.names; shapes = s.shapes } };
 
-    ghost invariant = { λ s. (length s.names ≡ length s.shapes) × AreShapes s.shapes };
+    ghost invariant = { λ s. (length s.types < 2 ^ 32) × (length s.names < 2 ^ 32) × (length s.names ≡ length s.shapes) × AreShapes s.shapes };
 }
 
 impl Symbols {
@@ -78,14 +78,14 @@ impl Symbols {
     pub fn types(&self) -> u32
         ensures { result ≡ length self.now.types }
     {
-        self.types.len()
+        self.types.len() as u32
     }
 
     /// How many symbols are declared.
     pub fn symbols(&self) -> u32
         ensures { result ≡ length self.now.names }
     {
-        self.names.len()
+        self.names.len() as u32
     }
 
     /// How many auxiliary ports the symbol has.
@@ -139,7 +139,7 @@ impl Symbols {
         ensures { result ≡ symbol_numbered self.now name.now }
     {
         match self.names.number_of(name) {
-            Some(number) => Some(SymbolNo(number)),
+            Some(number) => Some(SymbolNo(number as u32)),
             None => None,
         }
     }
@@ -149,6 +149,6 @@ impl Symbols {
         requires { IsSymbol self.now symbol.0 }
         ensures { result.now ≡ name_in symbol.0 self.now.names }
     {
-        self.names.name(symbol.0)
+        self.names.name(symbol.0 as usize)
     }
 }

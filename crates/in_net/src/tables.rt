@@ -1,4 +1,4 @@
-ghost use Rattle.std.specs.Prelude.{◌≡◌, ◌+◌, ◌<◌, ◌≤◌, length,  MatchOption, IfOk};
+ghost use Rattle.std.specs.Prelude.{◌≡◌, ◌<◌, ◌^◌, length,  MatchOption, IfOk};
 ghost use Rattle.in_syntax.specs.Sizes.{IsSized, IsSizedSymbol};
 ghost use Rattle.in_net.specs.Tables.{type_names, symbol_names, port_of, shape_of, shapes_of, Knows, AddsClass, heads_known, HeadsKnown};
 ghost use Rattle.in_net.specs.Names.{has_name};
@@ -25,7 +25,6 @@ pub(crate) fn refused_at_start(code: Code) -> Fault {
 
 /// The names of the types, each declared once.
 pub(crate) fn types_of(alloc: Global, source: &Source) -> Result<Names, Fault>
-    requires { IsSized source.now }
     ensures { IfOk result (λ names. names ≡ type_names source.now) }
 {
     let mut names = Names::new(alloc);
@@ -39,7 +38,6 @@ pub(crate) fn types_of(alloc: Global, source: &Source) -> Result<Names, Fault>
 
 /// The names of the symbols, each declared once.
 pub(crate) fn symbols_of(alloc: Global, source: &Source) -> Result<Names, Fault>
-    requires { IsSized source.now }
     ensures { IfOk result (λ names. names ≡ symbol_names source.now) }
 {
     let mut names = Names::new(alloc);
@@ -52,9 +50,7 @@ pub(crate) fn symbols_of(alloc: Global, source: &Source) -> Result<Names, Fault>
 }
 
 /// Refuses a free name that is declared twice, and one that is a symbol's name.
-pub(crate) fn test_free_names(alloc: Global, source: &Source, symbols: &Names) -> Result<(), Fault>
-    requires { IsSized source.now }
-{
+pub(crate) fn test_free_names(alloc: Global, source: &Source, symbols: &Names) -> Result<(), Fault> {
     let mut names = Names::new(alloc);
     for free in source.net.free.as_slice() {
         let name = free.name.text.as_str();
@@ -67,11 +63,12 @@ pub(crate) fn test_free_names(alloc: Global, source: &Source, symbols: &Names) -
 
 /// The type of a port, where its name is declared.
 pub(crate) fn port_type(types: &Names, port: &SourcePort) -> Option<PortType>
+    requires { length types.now < 2 ^ 32 }
     ensures { MatchOption result (Knows types.now port.now → ⊥) (λ p. (p ≡ port_of types.now port.now) × Knows types.now port.now) }
 {
     match types.number_of(port.kind.text.as_str()) {
         Some(kind) => Some(PortType {
-            kind,
+            kind: kind as u32,
             output: port.output,
         }),
         None => None,
@@ -79,7 +76,9 @@ pub(crate) fn port_type(types: &Names, port: &SourcePort) -> Option<PortType>
 }
 
 /// Refuses a free name whose type isn't declared.
-pub(crate) fn test_free_types(source: &Source, types: &Names) -> Result<(), Fault> {
+pub(crate) fn test_free_types(source: &Source, types: &Names) -> Result<(), Fault>
+    requires { length types.now < 2 ^ 32 }
+{
     for free in source.net.free.as_slice() {
         if port_type(types, &free.port).is_none() {
             return Err(refused_at_start(Code::E05));
@@ -95,6 +94,7 @@ fn add_class(
     number: u8,
     ports: &[SourcePort],
 ) -> Result<(), Fault>
+    requires { length types.now < 2 ^ 32 }
     ensures { IfOk result (λ _. AddsClass types.now number ports.now shape.old shape.new) }
 {
     for port in ports {
@@ -109,7 +109,8 @@ fn add_class(
 
 /// What is declared of a symbol.
 fn shape(alloc: Global, types: &Names, symbol: &SourceSymbol) -> Result<Shape, Fault>
-    requires { IsSizedSymbol symbol.now }
+    requires sized { IsSizedSymbol symbol.now }
+    requires types { length types.now < 2 ^ 32 }
     ensures { IfOk result (λ s. s ≡ shape_of types.now symbol.now) }
 {
     let Some(principal) = port_type(types, &symbol.port) else {
@@ -133,7 +134,8 @@ fn shape(alloc: Global, types: &Names, symbol: &SourceSymbol) -> Result<Shape, F
 
 /// What is declared of each symbol.
 pub(crate) fn shapes(alloc: Global, source: &Source, types: &Names) -> Result<Items<Shape>, Fault>
-    requires { IsSized source.now }
+    requires sized { IsSized source.now }
+    requires types { length types.now < 2 ^ 32 }
     ensures { IfOk result (λ s. s ≡ shapes_of types.now source.now) }
 {
     let mut all = Items::new(alloc);

@@ -1,8 +1,5 @@
-use Rattle.std.proofs.Common.{◌≡◌, ◌++◌, drop, map, length}
+use Rattle.std.proofs.Common.{◌≡◌, ◌++◌, drop, map}
 use Rattle.in_net.proofs.tables.types_of.Given as goal
 
 abbrev pub invariant-loop-name : goal.invariant-loop-name
-invariant-loop-name l = record {
-  names : l.names ++ map (λ n. n.text) (drop l.name-index l.source.types) ≡ map (λ n. n.text) l.source.types;
-  count : length l.names ≡ l.name-index;
-}
+invariant-loop-name l = l.names ++ map (λ n. n.text) (drop l.name-index l.source.types) ≡ map (λ n. n.text) l.source.types
