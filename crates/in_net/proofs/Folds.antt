@@ -1,18 +1,18 @@
 -- What is said of a term by a fold, at one term.
-use Rattle.std.proofs.Common.{◌≡◌, ℕ, suc, ◌+◌, ◌≤◌, ◌<◌, Bool, true, false, ◌&&◌, List, [], ◌∷◌, length, map, sum, drop, Option, Some, None, refl, sym, ◌∙◌, ap, subst, arith, option_map, nat_eq}
+use Rattle.std.proofs.Common.{◌≡◌, ℕ, suc, ◌+◌, ◌≤◌, ◌<◌, Bool, true, false, ◌&&◌, List, [], ◌∷◌, length, map, drop, Option, Some, None, refl, sym, ◌∙◌, ap, subst, arith, option_map, nat_eq}
 use Rattle.std.proofs.lemmas.Bool.{eqb-true}
 use Rattle.std.proofs.lemmas.List.{length-map, drop_all}
 use Rattle.in_syntax.specs.declared.tree.Term.{Term, out-Term}
 use Rattle.in_syntax.specs.declared.tree.Term.TheFolds.{fold_out-Term}
-use Rattle.in_syntax.specs.Sizes.{names_in}
+use Rattle.in_syntax.specs.Sizes.{total, names_in}
 use Rattle.in_net.specs.declared.symbols.SymbolNo.{SymbolNo}
 use Rattle.in_net.specs.Names.{number_in}
 use Rattle.in_net.specs.Tables.{Tables, arity_of, fits_arity, all_true, arities_fit, symbol_numbered}
 use Rattle.in_net.specs.declared.reading.Reading.{Reading}
 use Rattle.in_net.specs.Reading.{Reader, reader_step, reads_name, reads_arguments, with_agent, with_occurrence, reader_of}
 
-pub names_out : (u : Term) → names_in u ≡ sum (map names_in (out-Term u).args) + 1
-names_out = fold_out-Term ℕ (λ f. sum f.args + 1)
+pub names_out : (u : Term) → names_in u ≡ total (map names_in (out-Term u).args) + 1
+names_out = fold_out-Term ℕ (λ f. total f.args + 1)
 
 pub fits_out : (t : Tables) (u : Term) →
     arities_fit t u ≡ (fits_arity t (number_in (out-Term u).name.text t.names) (length (map (arities_fit t) (out-Term u).args)) && all_true (map (arities_fit t) (out-Term u).args))

@@ -1,6 +1,9 @@
 pub mod Absent
 pub mod Folds
 pub mod Heads
+pub mod Inside
 pub mod Maps
 pub mod Ports
+pub mod Read
 pub mod Shapes
+pub mod Unlinked

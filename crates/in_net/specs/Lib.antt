@@ -1,3 +1,4 @@
+pub mod Joining
 pub mod Names
 pub mod Parts
 pub mod Reading

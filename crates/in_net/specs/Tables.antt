@@ -9,6 +9,7 @@ use Rattle.in_syntax.specs.declared.tree.Equation.{Equation}
 use Rattle.std.specs.List.{flat_map, list_all, AllByRecursion}
 use Rattle.in_syntax.specs.declared.places.Place.{Place}
 use Rattle.in_syntax.specs.declared.tree.Source.{Source}
+use Rattle.in_syntax.specs.declared.tree.SourceFree.{SourceFree}
 use Rattle.in_syntax.specs.declared.tree.SourceNet.{SourceNet}
 use Rattle.in_syntax.specs.declared.tree.SourcePort.{SourcePort}
 use Rattle.in_syntax.specs.declared.tree.SourceSymbol.{SourceSymbol}
@@ -134,9 +135,19 @@ heads_known names = fold-Term Bool (λ f. (is_none f.args || is_some (number_in 
 abbrev pub HeadsKnown : List (List ℕ) → List Equation → Type 0
 HeadsKnown names = AllByRecursion (λ e. (heads_known names e.left ≡ true) × (heads_known names e.right ≡ true))
 
--- where it is Ok, the tables are the declarations, and each name before ( is a symbol's
+-- the types of the free ends are declared
+abbrev pub FreeKnown : List (List ℕ) → List SourceFree → Type 0
+FreeKnown types = AllByRecursion (λ f. Knows types f.port)
+
+-- the tables are the declarations of the program, whose names are declared
+pub record IsTabled (source : Source) (t : Tables) : Type 0 where
+  pub tables : t ≡ tables_of source
+  pub heads : HeadsKnown t.names source.net.equations
+  pub free : FreeKnown t.types source.net.free
+
+-- where it is Ok, the tables are the declarations
 abbrev pub Tabulates : Source → Result Tables Fault → Type 0
-Tabulates source (Ok t) = (t ≡ tables_of source) × HeadsKnown t.names source.net.equations
+Tabulates source (Ok t) = IsTabled source t
 Tabulates source (Err e) = Unit {0}
 
 -- ---- numbers of arguments

@@ -2,6 +2,7 @@
 #![tactic(auto)]
 
 mod building;
+mod joining;
 mod names;
 mod nets;
 mod reading;

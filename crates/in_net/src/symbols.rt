@@ -1,11 +1,11 @@
 ghost use Rattle.std.specs.Prelude.{◌≡◌, ◌≤◌, length};
 ghost use Rattle.in_syntax.specs.Sizes.{IsSized};
 ghost use Rattle.in_net.specs.Names.{name_in};
-ghost use Rattle.in_net.specs.Tables.{tables_of, IsSymbol, arity_of, port_at, class_at, classes_of, is_constructor, symbol_numbered, Tabulates};
+ghost use Rattle.in_net.specs.Tables.{tables_of, IsSymbol, arity_of, port_at, class_at, classes_of, is_constructor, symbol_numbered, Knows, port_of, Tabulates};
 
 use crate::names::Names;
 use crate::tables;
-use in_syntax::{Fault, Place, Source};
+use in_syntax::{Fault, Place, Source, SourcePort};
 use sqlite_items::Items;
 use std::alloc::Global;
 use std::marker::Model;
@@ -72,6 +72,17 @@ impl Symbols {
             names,
             shapes,
         })
+    }
+
+    /// The type of a port whose type is declared.
+    pub(crate) fn port_type(&self, port: &SourcePort) -> PortType
+        requires { Knows self.now.types port.now }
+        ensures { result ≡ port_of self.now.types port.now }
+    {
+        match tables::port_type(&self.types, port) {
+            Some(port) => port,
+            None => unreachable!(),
+        }
     }
 
     /// How many types are declared.

@@ -1,6 +1,6 @@
 ghost use Rattle.std.specs.Prelude.{◌≡◌, ◌<◌, ◌^◌, length,  MatchOption, IfOk};
 ghost use Rattle.in_syntax.specs.Sizes.{IsSized, IsSizedSymbol};
-ghost use Rattle.in_net.specs.Tables.{type_names, symbol_names, port_of, shape_of, shapes_of, Knows, AddsClass, heads_known, HeadsKnown};
+ghost use Rattle.in_net.specs.Tables.{type_names, symbol_names, port_of, shape_of, shapes_of, Knows, AddsClass, heads_known, HeadsKnown, FreeKnown};
 ghost use Rattle.in_net.specs.Names.{has_name};
 
 use crate::names::Names;
@@ -78,6 +78,7 @@ pub(crate) fn port_type(types: &Names, port: &SourcePort) -> Option<PortType>
 /// Refuses a free name whose type isn't declared.
 pub(crate) fn test_free_types(source: &Source, types: &Names) -> Result<(), Fault>
     requires { length types.now < 2 ^ 32 }
+    ensures { IfOk result (λ _. FreeKnown types.now source.now.net.free) }
 {
     for free in source.net.free.as_slice() {
         if port_type(types, &free.port).is_none() {

@@ -1,5 +1,5 @@
 -- How large a program is that a text of limited length has.
-use Rattle.std.specs.Prelude.{ℕ, ◌+◌, ◌≤◌, List, map, sum, length}
+use Rattle.std.specs.Prelude.{ℕ, ◌+◌, ◌≤◌, List, [], ◌∷◌, map, length}
 use Rattle.std.specs.List.{flat_map, AllByRecursion}
 use Rattle.in_syntax.specs.declared.tree.Term.{Term}
 use Rattle.in_syntax.specs.declared.tree.Term.TheFolds.{fold-Term}
@@ -7,15 +7,19 @@ use Rattle.in_syntax.specs.declared.tree.Equation.{Equation}
 use Rattle.in_syntax.specs.declared.tree.Source.{Source}
 use Rattle.in_syntax.specs.declared.tree.SourceSymbol.{SourceSymbol}
 
+abbrev pub total : List ℕ → ℕ
+total [] = 0
+total (n ∷ ns) = n + total ns
+
 -- the names that stand in a term
 abbrev pub names_in : Term → ℕ
-names_in = fold-Term ℕ (λ f. sum f.args + 1)
+names_in = fold-Term ℕ (λ f. total f.args + 1)
 
 abbrev pub names_in_equation : Equation → ℕ
 names_in_equation e = names_in e.left + names_in e.right
 
 abbrev pub names_in_equations : List Equation → ℕ
-names_in_equations es = sum (map names_in_equation es)
+names_in_equations es = total (map names_in_equation es)
 
 -- at most so many bytes has a text, and no more names
 abbrev pub most_bytes : ℕ
