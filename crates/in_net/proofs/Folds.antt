@@ -74,8 +74,8 @@ pub read_whole : (t : Tables) (u : Term) (r before after : Reading) (s : SymbolN
 read_whole t u r before after s agent first index arity items is fits all begins added past kept =
     let none : drop index items ≡ [] = drop_all index items past in
     let done : after ≡ reads_arguments (length r.agents) (map (reader_of t) (out-Term u).args) 1 (with_agent r s (arity_of t s.0) (out-Term u).name.place) =
-        sym (ap (λ z. reads_arguments agent (map (reader_of t) z) (index + 1) after) none) ∙ kept
-        ∙ ap (λ z. reads_arguments agent (map (reader_of t) z) 1 before) all
-        ∙ ap (λ z. reads_arguments z (map (reader_of t) (out-Term u).args) 1 before) added.0
-        ∙ ap (λ z. reads_arguments (length r.agents) (map (reader_of t) (out-Term u).args) 1 z) (added.1 ∙ ap (λ a. with_agent r s a (out-Term u).name.place) fits) in
+    sym (ap (λ z. reads_arguments agent (map (reader_of t) z) (index + 1) after) none) ∙ kept
+    ∙ ap (λ z. reads_arguments agent (map (reader_of t) z) 1 before) all
+    ∙ ap (λ z. reads_arguments z (map (reader_of t) (out-Term u).args) 1 before) added.0
+    ∙ ap (λ z. reads_arguments (length r.agents) (map (reader_of t) (out-Term u).args) 1 z) (added.1 ∙ ap (λ a. with_agent r s a (out-Term u).name.place) fits) in
     ap (λ (z : Reading). (z, first)) done ∙ ap (λ (n : ℕ). (reads_arguments (length r.agents) (map (reader_of t) (out-Term u).args) 1 (with_agent r s (arity_of t s.0) (out-Term u).name.place), n)) begins ∙ sym (read_agent t u r s is)

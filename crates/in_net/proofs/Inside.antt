@@ -68,7 +68,7 @@ from_place xs i d lt = let next : suc i ≡ i + 1 = omega arith in drop-cons xs 
 pub meeting_step : (links new : List Link) (ms : List Meeting) (i : ℕ) → i < length ms →
     (get_or links (get_or ms i (record { one = 0; other = 0 })).one no_link).to ≢ (get_or ms i (record { one = 0; other = 0 })).other →
     new ≡ with_link links (get_or links (get_or ms i (record { one = 0; other = 0 })).one no_link).to (get_or links (get_or ms i (record { one = 0; other = 0 })).other no_link).to
-        (later_of (get_or links (get_or ms i (record { one = 0; other = 0 })).one no_link).place (get_or links (get_or ms i (record { one = 0; other = 0 })).other no_link).place) →
+    (later_of (get_or links (get_or ms i (record { one = 0; other = 0 })).one no_link).place (get_or links (get_or ms i (record { one = 0; other = 0 })).other no_link).place) →
     with_meetings new (drop (i + 1) ms) ≡ with_meetings links (drop i ms)
 meeting_step links new ms i lt open_ joined =
     let m : Meeting = get_or ms i (record { one = 0; other = 0 }) in
@@ -76,7 +76,7 @@ meeting_step links new ms i lt open_ joined =
     let other : Link = get_or links m.other no_link in
     ap (λ z. with_meetings z (drop (i + 1) ms)) joined
     ∙ sym (ap (with_meetings links) (from_place ms i (record { one = 0; other = 0 }) lt)
-        ∙ ap (λ b. cond b (links, false) (with_meetings (with_link links one.to other.to (later_of one.place other.place)) (drop (i + 1) ms))) (ne_eqb one.to m.other open_))
+    ∙ ap (λ b. cond b (links, false) (with_meetings (with_link links one.to other.to (later_of one.place other.place)) (drop (i + 1) ms))) (ne_eqb one.to m.other open_))
 
 pub meetings_rest : (n : ℕ) (ms : List Meeting) (i : ℕ) → i < length ms → MeetingsInside n (drop i ms) → MeetingsInside n (drop (i + 1) ms)
 meetings_rest n ms i lt all = (subst (MeetingsInside n) (from_place ms i (record { one = 0; other = 0 }) lt) all).1

@@ -1,4 +1,5 @@
 pub mod Absent
+pub mod Cells
 pub mod Folds
 pub mod Heads
 pub mod Inside
@@ -6,4 +7,6 @@ pub mod Maps
 pub mod Ports
 pub mod Read
 pub mod Shapes
+pub mod Small
 pub mod Unlinked
+pub mod Whole

@@ -78,7 +78,7 @@ read_agent_inside t free names r s place read known few =
     let more : List Spot = ports_from (length r.agents) 0 (arity_of t s.0 + 1) in
     let agent : Agent = record { symbol = s; place = place; first = length r.spots } in
     let count : length (r.spots ++ ports_from (length r.agents) 0 (arity_of t s.0 + 1)) ≡ length r.spots + (arity_of t s.0 + 1) =
-        length-append r.spots (ports_from (length r.agents) 0 (arity_of t s.0 + 1)) ∙ ap (λ n. length r.spots + n) (length-ports_from (length r.agents) 0 (arity_of t s.0 + 1)) in
+    length-append r.spots (ports_from (length r.agents) 0 (arity_of t s.0 + 1)) ∙ ap (λ n. length r.spots + n) (length-ports_from (length r.agents) 0 (arity_of t s.0 + 1)) in
     let wider : length r.spots ≤ length (r.spots ++ ports_from (length r.agents) 0 (arity_of t s.0 + 1)) = omega (arith, count) in
     let agents : length (r.agents ++ agent ∷ []) ≡ length r.agents + 1 = length-append r.agents (agent ∷ []) in
     let here : get_or (r.agents ++ agent ∷ []) (length r.agents) no_agent ≡ agent = last_is r.agents agent no_agent in
@@ -89,7 +89,7 @@ read_agent_inside t free names r s place read known few =
       spots =
           all_append (IsSpotOf t free (r.agents ++ agent ∷ [])) r.spots more (all_along _ _ (spot_stays t free r.agents (agent ∷ [])) r.spots read.spots)
           (ports_inside t free (r.agents ++ agent ∷ []) (length r.agents) 0 (arity_of t s.0 + 1) (omega (arith, agents))
-              (let same : arity_of t (get_or (r.agents ++ agent ∷ []) (length r.agents) no_agent).symbol.0 ≡ arity_of t s.0 = ap (λ (x : Agent). arity_of t x.symbol.0) here in omega (arith, same)));
+          (let same : arity_of t (get_or (r.agents ++ agent ∷ []) (length r.agents) no_agent).symbol.0 ≡ arity_of t s.0 = ap (λ (x : Agent). arity_of t x.symbol.0) here in omega (arith, same)));
       agents = all_snoc (IsAgentOf t _) r.agents agent (all_along _ _ (λ a h. (h.0, omega (arith, h.1, wider))) r.agents read.agents) (known, omega (arith, count));
       few_agents = omega (arith, agents, read.few_agents);
       few_spots = omega (arith, count, read.few_spots, few);
@@ -193,9 +193,9 @@ reads_all t free h ih (u ∷ args) agent port names r short fits read known room
     let count : length there.0.agents ≡ length r.agents + length on.0.more = ap length on.0.agents ∙ length-append r.agents on.0.more in
     let same : port_spot there.0.agents agent port ≡ port_spot r.agents agent port = same_port r.agents there.0.agents on.0.more agent port on.0.agents known in
     let joined : IsRead t free (names + names_in u) (with_argument there.0 agent port there.1 (reader_of t u).place) =
-        read_argument_inside t free (names + names_in u) there.0 agent port there.1 (reader_of t u).place on.0.read (omega (arith, count, known)) (omega (arith, same, room, on.0.wider)) on.1 in
+    read_argument_inside t free (names + names_in u) there.0 agent port there.1 (reader_of t u).place on.0.read (omega (arith, count, known)) (omega (arith, same, room, on.0.wider)) on.1 in
     let rest = reads_all t free h ih args agent (port + 1) (names + names_in u) (with_argument there.0 agent port there.1 (reader_of t u).place)
-        (omega (arith, short)) both.1 joined (omega (arith, count, known)) (omega (arith, same, room, on.0.wider)) in
+    (omega (arith, short)) both.1 joined (omega (arith, count, known)) (omega (arith, same, room, on.0.wider)) in
     let sum_is : names + names_in u + total (map names_in args) ≡ names + (names_in u + total (map names_in args)) = omega arith in
     subst (λ n. IsReadOn t free n r (reads_arguments agent (map (reader_of t) (u ∷ args)) port r)) sum_is
     (then_on t free (names + names_in u + total (map names_in args)) r (with_argument there.0 agent port there.1 (reader_of t u).place) (reads_arguments agent (map (reader_of t) (u ∷ args)) port r) on.0.wider on.0.more on.0.agents rest)
@@ -243,7 +243,7 @@ reads_term t free h small ih u names r short fits read (Some s) is =
     let here : get_or (r.agents ++ agent ∷ []) (length r.agents) no_agent ≡ agent = last_is r.agents agent no_agent in
     let first : port_spot (r.agents ++ agent ∷ []) (length r.agents) 1 ≡ length r.spots + 1 = ap (λ (x : Agent). x.first + 1) here in
     let count : length (r.spots ++ ports_from (length r.agents) 0 (arity_of t s + 1)) ≡ length r.spots + (arity_of t s + 1) =
-        length-append r.spots (ports_from (length r.agents) 0 (arity_of t s + 1)) ∙ ap (λ n. length r.spots + n) (length-ports_from (length r.agents) 0 (arity_of t s + 1)) in
+    length-append r.spots (ports_from (length r.agents) 0 (arity_of t s + 1)) ∙ ap (λ n. length r.spots + n) (length-ports_from (length r.agents) 0 (arity_of t s + 1)) in
     let rest = reads_all t free h ih args (length r.agents) 1 (names + 1) (with_agent r symbol (arity_of t s) place) (omega (arith, out, short)) fit.1 ready (omega (arith, agents)) (omega (arith, first, count, fit.0)) in
     let on = then_on t free (names + 1 + total (map names_in args)) r (with_agent r symbol (arity_of t s) place) (reads_arguments (length r.agents) (map (reader_of t) args) 1 (with_agent r symbol (arity_of t s) place)) (omega (arith, count)) (agent ∷ []) refl rest in
     let P : Reading × ℕ → Type 0 = λ p. IsReadOn t free (names + names_in u) r p.0 × (p.1 < length p.0.spots) in
@@ -297,3 +297,18 @@ pub net_read : (t : Tables) (n : SourceNet) → AreSmall t → all_arities_fit t
 net_read t n small fits =
     more_names t (length n.free) (0 + names_in_equations n.equations) (names_in_equations n.equations) (reading_of t n) (omega arith)
     (reads_equations_on t (length n.free) small n.equations 0 (reads_free n.free) fits (free_read t n.free))
+
+-- the spots grow, from the free ends on
+wider_equations : (t : Tables) (free : ℕ) → AreSmall t → (es : List Equation) (names : ℕ) (r : Reading) → list_all (λ e. arities_fit t e.left && arities_fit t e.right) es ≡ true → IsRead t free names r →
+    length r.spots ≤ length (reads_equations t es r).spots
+wider_equations t free small [] names r fits read = omega arith
+wider_equations t free small (e ∷ es) names r fits read =
+    let both = fits_both (arities_fit t e.left && arities_fit t e.right) (list_all (λ e. arities_fit t e.left && arities_fit t e.right) es) fits in
+    let here = fits_both (arities_fit t e.left) (arities_fit t e.right) both.0 in
+    let a = reads_on t free small (names_in e.left) e.left names r (omega arith) here.0 read in
+    let b = reads_on t free small (names_in e.right) e.right (names + names_in e.left) ((reader_of t e.left).reads r).0 (omega arith) here.1 a.0.read in
+    let rest = wider_equations t free small es (names + names_in_equation e) (reads_equation t e r) both.1 (reads_equation_on t free small e names r here.0 here.1 read) in
+    omega (arith, rest, a.0.wider, b.0.wider)
+
+pub free_within : (t : Tables) (n : SourceNet) → AreSmall t → all_arities_fit t n ≡ true → length n.free ≤ length (reading_of t n).spots
+free_within t n small fits = omega (arith, wider_equations t (length n.free) small n.equations 0 (reads_free n.free) fits (free_read t n.free), length-free_from 0 n.free)

@@ -88,6 +88,12 @@ IsSpotOf t free agents (spot.Occurrence p) = Unit {0}
 abbrev pub IsAgentOf : Tables → ℕ → Agent → Type 0
 IsAgentOf t spots a = (a.symbol.0 < length t.names) × (a.first + arity_of t a.symbol.0 < spots)
 
+abbrev pub SpotsOf : Tables → ℕ → List Agent → List Spot → Type 0
+SpotsOf t free agents = AllByRecursion (IsSpotOf t free agents)
+
+abbrev pub AgentsOf : Tables → ℕ → List Agent → Type 0
+AgentsOf t spots = AllByRecursion (IsAgentOf t spots)
+
 abbrev pub MeetingsInside : ℕ → List Meeting → Type 0
 MeetingsInside spots = AllByRecursion (λ m. (m.one < spots) × (m.other < spots))
 

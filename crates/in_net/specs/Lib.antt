@@ -1,3 +1,5 @@
+pub mod Building
+pub mod Built
 pub mod Joining
 pub mod Names
 pub mod Parts

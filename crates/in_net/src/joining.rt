@@ -88,7 +88,8 @@ fn later(one: Place, other: Place) -> Place
 fn join_names(links: &mut [Link], meetings: &[Meeting]) -> bool
     requires meetings { MeetingsInside (length links.old) meetings.now }
     requires links { LinksInside links.old }
-    ensures { (links.new, result) ≡ with_meetings links.old meetings.now }
+    ensures joined { (links.new, result) ≡ with_meetings links.old meetings.now }
+    ensures inside { LinksInside links.new }
 {
     for meeting in meetings {
         let one = links[meeting.one];
@@ -106,10 +107,15 @@ pub(crate) fn join_all(links: &mut [Link], reading: &Reading, meetings: &[Meetin
     requires inside { IsInside reading.now }
     requires links { links.old ≡ self_links 0 (length reading.now.spots) }
     requires meetings { MeetingsInside (length reading.now.spots) meetings.now }
-    ensures { (links.new, result) ≡ with_meetings (joint_links reading.now) meetings.now }
+    ensures joined { (links.new, result) ≡ with_meetings (joint_links reading.now) meetings.now }
+    ensures inside { LinksInside links.new }
 {
     join_equations(links, reading.equations.as_slice());
-    join_arguments(links, reading.agents.as_slice(), reading.arguments.as_slice());
+    join_arguments(
+        links,
+        reading.agents.as_slice(),
+        reading.arguments.as_slice(),
+    );
     join_names(links, meetings)
 }
 

@@ -9,6 +9,6 @@ mod reading;
 mod symbols;
 mod tables;
 
-// pub use building::build_net;
-// pub use nets::{AgentNo, Net, Point};
-// pub use symbols::{PortType, SymbolNo, Symbols};
+pub use building::build_net;
+pub use nets::{AgentNo, Net, Point};
+pub use symbols::{PortType, SymbolNo, Symbols};

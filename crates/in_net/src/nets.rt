@@ -86,7 +86,11 @@ impl Net {
     pub fn agents(&self) -> u32
         ensures { result ≡ count_by is_some self.now.cells }
     {
-        self.cells.as_slice().iter().filter(|cell| cell.is_some()).count() as u32
+        self.cells
+            .as_slice()
+            .iter()
+            .filter(|cell| cell.is_some())
+            .count() as u32
     }
 
     /// The symbol of the agent of that number, where there is one.

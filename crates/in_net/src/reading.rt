@@ -211,8 +211,6 @@ pub(crate) fn arities_fit(symbols: &Symbols, term: &Term) -> bool
 pub(crate) fn all_arities_fit(symbols: &Symbols, net: &SourceNet) -> bool
     ensures { result ≡ all_arities_fit symbols.now net.now }
 {
-    net.equations
-        .as_slice()
-        .iter()
-        .all(|equation| arities_fit(symbols, &equation.left) && arities_fit(symbols, &equation.right))
+    net.equations.as_slice().iter().all(|equation| arities_fit(symbols, &equation.left)
+        && arities_fit(symbols, &equation.right))
 }

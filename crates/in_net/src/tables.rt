@@ -1,4 +1,4 @@
-ghost use Rattle.std.specs.Prelude.{◌≡◌, ◌<◌, ◌^◌, length,  MatchOption, IfOk};
+ghost use Rattle.std.specs.Prelude.{◌≡◌, ◌<◌, ◌^◌, length, MatchOption, IfOk};
 ghost use Rattle.in_syntax.specs.Sizes.{IsSized, IsSizedSymbol};
 ghost use Rattle.in_net.specs.Tables.{type_names, symbol_names, port_of, shape_of, shapes_of, Knows, AddsClass, heads_known, HeadsKnown, FreeKnown};
 ghost use Rattle.in_net.specs.Names.{has_name};
@@ -50,7 +50,11 @@ pub(crate) fn symbols_of(alloc: Global, source: &Source) -> Result<Names, Fault>
 }
 
 /// Refuses a free name that is declared twice, and one that is a symbol's name.
-pub(crate) fn test_free_names(alloc: Global, source: &Source, symbols: &Names) -> Result<(), Fault> {
+pub(crate) fn test_free_names(
+    alloc: Global,
+    source: &Source,
+    symbols: &Names,
+) -> Result<(), Fault> {
     let mut names = Names::new(alloc);
     for free in source.net.free.as_slice() {
         let name = free.name.text.as_str();

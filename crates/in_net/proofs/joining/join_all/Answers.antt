@@ -22,8 +22,8 @@ pub join_names-requires-clause-meetings : goal.join_names-requires-clause-meetin
 join_names-requires-clause-meetings c =
     let n = length c.args.reading.now.spots in
     let size =
-        ap length c.join_arguments.ensures ∙ length-with_arguments c.as_slice-2.result.now c.join_equations.new.links c.as_slice-3.result.now
-        ∙ ap length c.join_equations.ensures ∙ length-with_equations c.args.links.now c.as_slice.result.now ∙ ap length c.requires.links ∙ length-self_links 0 n in
+    ap length c.join_arguments.ensures ∙ length-with_arguments c.as_slice-2.result.now c.join_equations.new.links c.as_slice-3.result.now
+    ∙ ap length c.join_equations.ensures ∙ length-with_equations c.args.links.now c.as_slice.result.now ∙ ap length c.requires.links ∙ length-self_links 0 n in
     subst (λ n. MeetingsInside n c.args.meetings.now) (sym size) c.requires.meetings
 
 pub join_names-requires-clause-links : goal.join_names-requires-clause-links
@@ -31,11 +31,11 @@ join_names-requires-clause-links c =
     let n = length c.args.reading.now.spots in
     let r = c.args.reading.now in
     let size =
-        ap length c.join_arguments.ensures ∙ length-with_arguments c.as_slice-2.result.now c.join_equations.new.links c.as_slice-3.result.now
-        ∙ ap length c.join_equations.ensures ∙ length-with_equations c.args.links.now c.as_slice.result.now ∙ ap length c.requires.links ∙ length-self_links 0 n in
+    ap length c.join_arguments.ensures ∙ length-with_arguments c.as_slice-2.result.now c.join_equations.new.links c.as_slice-3.result.now
+    ∙ ap length c.join_equations.ensures ∙ length-with_equations c.args.links.now c.as_slice.result.now ∙ ap length c.requires.links ∙ length-self_links 0 n in
     let is =
-        c.join_arguments.ensures ∙ ap (λ a. with_arguments a c.join_equations.new.links c.as_slice-3.result.now) c.as_slice-2.ensures
-        ∙ ap (λ l. with_arguments r.agents l c.as_slice-3.result.now) (c.join_equations.ensures ∙ ap (with_equations c.args.links.now) c.as_slice.ensures ∙ ap (λ l. with_equations l r.equations) c.requires.links)
-        ∙ ap (with_arguments r.agents (with_equations (self_links 0 n) r.equations)) c.as_slice-3.ensures in
+    c.join_arguments.ensures ∙ ap (λ a. with_arguments a c.join_equations.new.links c.as_slice-3.result.now) c.as_slice-2.ensures
+    ∙ ap (λ l. with_arguments r.agents l c.as_slice-3.result.now) (c.join_equations.ensures ∙ ap (with_equations c.args.links.now) c.as_slice.ensures ∙ ap (λ l. with_equations l r.equations) c.requires.links)
+    ∙ ap (with_arguments r.agents (with_equations (self_links 0 n) r.equations)) c.as_slice-3.ensures in
     subst (λ m. AllByRecursion (λ l. l.to < m) c.join_arguments.new.links) (sym size)
     (subst (AllByRecursion (λ l. l.to < n)) (sym is) (within_joints n r.agents r.equations r.arguments c.requires.inside.equations c.requires.inside.arguments))

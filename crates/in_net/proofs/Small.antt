@@ -1,0 +1,17 @@
+-- A program's symbols have at most eight auxiliary ports.
+use Rattle.std.proofs.Common.{◌≡◌, ℕ, zero, suc, ◌+◌, ◌-◌, ◌≤◌, List, [], ◌∷◌, length, arith, subst, sym, slice_get}
+use Rattle.std.specs.List.{AllByRecursion}
+use Rattle.in_syntax.specs.declared.tree.Source.{Source}
+use Rattle.in_syntax.specs.Sizes.{IsSized}
+use Rattle.in_net.specs.declared.symbols.Shape.{Shape}
+use Rattle.in_net.specs.Tables.{Tables, IsShape, AreShapes, arity_in, arity_of, type_names, IsTabled}
+use Rattle.in_net.proofs.Shapes.{are_shapes}
+use Rattle.in_net.proofs.Read.{AreSmall}
+
+few : (ss : List Shape) (s : ℕ) → AreShapes ss → arity_in (slice_get ss s) ≤ 8
+few [] s all = omega arith
+few (x ∷ xs) zero all = let h = all.0.few in omega (arith, h)
+few (x ∷ xs) (suc s) all = few xs s all.1
+
+pub are_small : (source : Source) (t : Tables) → IsSized source → IsTabled source t → AreSmall t
+are_small source t sized tabled s = subst (λ (t : Tables). arity_of t s ≤ 8) (sym tabled.tables) (few _ s (are_shapes (type_names source) source.symbols sized.ports))
