@@ -10,3 +10,4 @@ pub mod Shapes
 pub mod Small
 pub mod Unlinked
 pub mod Whole
+pub mod WireAt

@@ -127,7 +127,8 @@ impl Net {
     /// The two points of a wire. As built, wires are numbered from 0 by their places.
     pub fn wire(&self, number: u32) -> (Point, Point)
         requires { number < length self.now.wires }
-        ensures { Some result ≡ wire_in self.now number }
+        ensures wire { Some result ≡ wire_in self.now number }
+        ensures points { IsPointOf self.now result.0 × IsPointOf self.now result.1 }
     {
         let wire = &self.wires.as_slice()[number as usize];
         (wire.one, wire.other)

@@ -1,0 +1,44 @@
+-- When a net is typed. Lafont 1990: a wire joins an output to an input of one type.
+use Rattle.std.specs.Prelude.{◌≡◌, ℕ, ◌<◌, Bool, not, List, length, Option, Some, None, Result, Ok, Err, option_map}
+use Rattle.in_syntax.specs.declared.faults.Refusal.{Refusal}
+use Rattle.in_syntax.specs.declared.faults.Code.TheVariants.{E10}
+use Rattle.in_net.specs.declared.symbols.PortType.{PortType}
+use Rattle.in_net.specs.declared.nets.Point.{Point}
+use Rattle.in_net.specs.declared.nets.Point.TheVariants.{Port, Free}
+use Rattle.in_net.specs.Tables.{Tables, port_at}
+use Rattle.in_net.specs.Parts.{Parts, symbol_in, free_type_in, wire_in, wire_place_in}
+
+abbrev pub opposite : PortType → PortType
+opposite p = record { kind = p.kind; output = not p.output }
+
+-- the type at a point: a port's own, and the opposite of the one that a free end is declared with
+abbrev pub type_at : Tables → Parts → Point → Option PortType
+type_at t n (Port x i) = option_map (λ s. port_at t s.0 i) (symbol_in n x.0)
+type_at t n (Free k) = option_map opposite (free_type_in n k)
+
+-- the two types have one name and opposite signs
+abbrev pub WireFits : Tables → Parts → Point → Point → Type 0
+WireFits t n one other = type_at t n one ≡ option_map opposite (type_at t n other)
+
+-- the wire of that number fits
+abbrev pub FitsAt : Tables → Parts → ℕ → Type 0
+FitsAt t n w = (one other : Point) → wire_in n w ≡ Some (one, other) → WireFits t n one other
+
+-- each wire fits
+abbrev pub IsTyped : Tables → Parts → Type 0
+IsTyped t n = (w : ℕ) → FitsAt t n w
+
+-- the first wire that doesn't fit, by the order of places, in which wires are numbered
+pub record IsMistyped (t : Tables) (n : Parts) (r : Refusal) : Type 0 where
+  pub wire : ℕ
+  pub stands : wire < length n.wires
+  pub mistyped : FitsAt t n wire → ⊥
+  pub first : (w : ℕ) → w < wire → FitsAt t n w
+  pub code : r.code ≡ E10
+  pub place : wire_place_in n wire ≡ Some r.place
+  pub other : r.other ≡ None
+
+-- Ok exactly where each wire fits, else the first that doesn't
+abbrev pub Types : Tables → Parts → Result (Unit {0}) Refusal → Type 0
+Types t n (Ok u) = IsTyped t n
+Types t n (Err r) = IsMistyped t n r

@@ -1,0 +1,6 @@
+//! Whether the wires of a net fit: Lafont 1990 has each wire join an output to an input of one type.
+#![tactic(auto)]
+
+mod typing;
+
+pub use typing::type_net;
