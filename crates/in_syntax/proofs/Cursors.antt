@@ -3,9 +3,12 @@ use Rattle.std.proofs.Common.{◌≡◌, ℕ, ◌+◌, ◌≤◌, Bool, true, fa
 use Rattle.std.specs.List.{list_all}
 use Rattle.std.specs.Str.{chars, IsUtf8}
 use Rattle.std.specs.Char.{encode_utf8}
+use Rattle.std.proofs.lemmas.Bool.{and_from}
+use Rattle.std.proofs.lemmas.List.Folds.{list_all-append}
 use Rattle.std.proofs.lemmas.Str.{chars_past_char, IsUtf8-past_char, length-encode, len_utf8_bounds}
 use Rattle.in_syntax.specs.declared.characters.Spot.{Spot}
-use Rattle.in_syntax.specs.Places.{past, past_all}
+use Rattle.in_syntax.specs.Places.{past}
+use Rattle.in_syntax.proofs.PastCharacters.{past_all-append}
 use Rattle.in_syntax.specs.Cursors.{BeginsWith, IsWithin, Runs}
 
 pub begins_with : (text rest : List ℕ) (c : ℕ) → IsUtf8 text → text ≡ encode_utf8 c ++ rest → BeginsWith text c rest
@@ -15,22 +18,6 @@ begins_with text rest c u e = record {
   some = omega (arith, length-encode c, len_utf8_bounds c);
   utf8 = IsUtf8-past_char text rest c u e;
 }
-
-pub past_all-append : (s : Spot) (v w : List ℕ) → past_all s (v ++ w) ≡ past_all (past_all s v) w
-past_all-append s [] w = refl
-past_all-append s (c ∷ v) w = past_all-append (past s c) v w
-
-pub list_all-append : (p : ℕ → Bool) (v w : List ℕ) → list_all p v ≡ true → list_all p w ≡ true → list_all p (v ++ w) ≡ true
-list_all-append p [] w hv hw = hw
-list_all-append p (c ∷ v) w hv hw = both (p c) (list_all p v) (list_all p (v ++ w)) hv (list_all-append p v w (after (p c) (list_all p v) hv) hw)
-  where
-    after : (a b : Bool) → (a && b) ≡ true → b ≡ true
-    after true b e = e
-    after false b e = absurd (cc)
-
-    both : (a b d : Bool) → (a && b) ≡ true → d ≡ true → (a && d) ≡ true
-    both true b d e h = h
-    both false b d e h = e
 
 -- a step keeps the spot's numbers small
 pub within_past : (s : Spot) (text : List ℕ) (c : ℕ) (rest : List ℕ) → IsWithin s text → BeginsWith text c rest → IsWithin (past s c) rest
@@ -50,7 +37,7 @@ runs_none p s text h u = record { split = refl; all = refl; end = refl; within =
 pub runs_more : (p : ℕ → Bool) (s t : Spot) (text w rest more : List ℕ) (c : ℕ) → Runs p s text w t rest → BeginsWith rest c more → p c ≡ true → Runs p s text (w ++ c ∷ []) (past t c) more
 runs_more p s t text w rest more c r b h = record {
   split = r.split ∙ ap (λ z. w ++ z) b.chars ∙ sym (append_assoc w (c ∷ []) (chars more));
-  all = list_all-append p w (c ∷ []) r.all (ap (λ z. z && true) h);
+  all = list_all-append p w (c ∷ []) ∙ and_from (list_all p w) (list_all p (c ∷ [])) r.all (ap (λ z. z && true) h);
   end = ap (λ z. past z c) r.end ∙ sym (past_all-append s w (c ∷ []));
   within = within_past t rest c more r.within b;
   utf8 = b.utf8;

@@ -1,5 +1,5 @@
 -- Which characters are a token by themselves.
-use Rattle.std.proofs.Common.{◌≡◌, ◌≢◌, ℕ, ◌<◌, ◌⊎◌, inl, inr, Bool, true, false, if◌then◌else◌, List, [], ◌∷◌, ◌++◌, Some, None, refl, sym, ◌∙◌, ap, subst, ◌&&◌, ◌||◌, ◌==◌, lit<}
+use Rattle.std.proofs.Common.{◌≡◌, ◌≢◌, ℕ, ◌<◌, ◌⊎◌, inl, inr, Bool, true, false, if◌then◌else◌, List, [], ◌∷◌, ◌++◌, length, arith, Some, None, refl, sym, ◌∙◌, ap, subst, ◌&&◌, ◌||◌, ◌==◌, lit<}
 use Rattle.std.specs.Prelude.{codes}
 use Rattle.std.specs.List.{list_all}
 use Rattle.std.specs.Str.{bytes_eq}
@@ -12,7 +12,7 @@ use Rattle.unicode_ident.specs.Ident.{is_xid_start, is_xid_continue}
 use Rattle.unicode_ident.proofs.IdentLemmas.{is_xid_start-ascii, is_xid_continue-ascii, is_xid_start-is_xid_continue}
 use Rattle.in_syntax.specs.declared.words.TokenKind.{TokenKind}
 use Rattle.in_syntax.specs.declared.words.TokenKind.TheVariants as kind
-use Rattle.in_syntax.specs.Characters.{is_plain, begins_name, continues_name}
+use Rattle.in_syntax.specs.Characters.{is_plain, is_blank, begins_name, continues_name}
 use Rattle.in_syntax.specs.Tokens.{signs, beside, is_word, word_kind, kind_of, IsLongest, BeginsNoToken}
 use Rattle.in_syntax.specs.Cursors.{FirstIs, FirstFails}
 
@@ -82,6 +82,11 @@ longest_word w rest h stops = record { token = kind_of-word w h; longest = longe
         (list_all-append continues_name bs (c ∷ more) ∙ and_right (list_all continues_name bs) (list_all continues_name (c ∷ more)) (and_left (continues_name c) (list_all continues_name more) fails)) in
         kind_of-other (b ∷ (bs ++ (c ∷ more))) no_word ∙ beside-signs_name b (bs ++ (c ∷ more)) (and_parts (begins_name b) (list_all continues_name bs) h).0
 
+-- a word is not empty
+pub is_word-some : (w : List ℕ) → is_word w ≡ true → 0 < length w
+is_word-some [] h = absurd (false≢true h)
+is_word-some (c ∷ cs) h = omega arith
+
 -- a character with which no name begins is no word, whatever follows
 no_word : (c : ℕ) (cs : List ℕ) → begins_name c ≡ false → kind_of (c ∷ cs) ≡ beside (c ∷ cs) signs
 no_word c cs h = kind_of-other (c ∷ cs) (and_left (begins_name c) (list_all continues_name cs) h)
@@ -138,3 +143,25 @@ pub is_word-run : (w rest : List ℕ) → FirstIs (λ c. begins_name c ≡ true)
 is_word-run [] [] f a stops = absurd f
 is_word-run [] (d ∷ ds) f a stops = absurd (false≢true (sym stops ∙ continues-begins d f))
 is_word-run (b ∷ bs) rest f a stops = and_from (begins_name b) (list_all continues_name bs) f (and_parts (continues_name b) (list_all continues_name bs) a).1
+
+-- an ASCII character that is no letter and no `_` begins no name
+plain_other : (c : ℕ) (cs : List ℕ) → c < 128 → is_plain c ≡ true → (is_ascii_alphabetic c || c == 95) ≡ false → kind_of (c ∷ cs) ≡ beside (c ∷ cs) signs
+plain_other c cs l p e = no_word c cs (begins_name-ascii c l p ∙ e)
+
+-- no token begins with a blank
+pub kind_of-blank : (c : ℕ) (cs : List ℕ) → is_blank c ≡ true → kind_of (c ∷ cs) ≡ None
+kind_of-blank c cs h = go (c == 32) (c == 9) (c == 13) (c == 10) refl refl refl refl h
+  where
+    at : (n : ℕ) → (c == n) ≡ true → kind_of (n ∷ cs) ≡ None → kind_of (c ∷ cs) ≡ None
+    at n e g = subst (λ x. kind_of (x ∷ cs) ≡ None) (sym (eqb-true c n e)) g
+
+    go : (x y z w : Bool) → (c == 32) ≡ x → (c == 9) ≡ y → (c == 13) ≡ z → (c == 10) ≡ w → (x || y || z || w) ≡ true → kind_of (c ∷ cs) ≡ None
+    go true y z w e1 e2 e3 e4 h = at 32 e1 (plain_other 32 cs (lit< tt) refl refl)
+    go false true z w e1 e2 e3 e4 h = at 9 e2 (plain_other 9 cs (lit< tt) refl refl)
+    go false false true w e1 e2 e3 e4 h = at 13 e3 (plain_other 13 cs (lit< tt) refl refl)
+    go false false false true e1 e2 e3 e4 h = at 10 e4 (plain_other 10 cs (lit< tt) refl refl)
+    go false false false false e1 e2 e3 e4 h = absurd (false≢true h)
+
+-- nor with `#`
+pub kind_of-hash : (cs : List ℕ) → kind_of (35 ∷ cs) ≡ None
+kind_of-hash cs = plain_other 35 cs (lit< tt) refl refl

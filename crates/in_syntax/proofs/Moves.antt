@@ -16,7 +16,7 @@ use Rattle.in_syntax.specs.declared.words.TokenKind.TheVariants as kind
 use Rattle.in_syntax.specs.Tokens.{signs, beside, is_word, word_kind, EndsLine, name_limit, Passes, blank, comment, token, Faults, stray, in_comment, too_long}
 use Rattle.in_syntax.specs.Cursors.{FirstIs, FirstFails, BeginsSigns, BeginsWith, IsWithin, Runs, Goes}
 use Rattle.in_syntax.proofs.Cursors.{within_past}
-use Rattle.in_syntax.proofs.Lexemes.{longest_word, longest_mark, longest_meets, begins_no_token, is_word-run}
+use Rattle.in_syntax.proofs.Lexemes.{longest_word, longest_mark, longest_meets, begins_no_token, is_word-run, is_word-some}
 
 -- from a run of some characters
 goes : (p : ℕ → Bool) (s t : Spot) (text w rest : List ℕ) (ts : List Token) → Runs p s text w t rest → Passes s (w ++ chars rest) ts (past_all s w) (chars rest) → 0 < length w → Goes s text ts t rest
@@ -55,9 +55,13 @@ comment_wrong s t text w rest more c first r b bad =
 pub bytes_split : (text w rest : List ℕ) → IsUtf8 text → IsUtf8 rest → chars text ≡ w ++ chars rest → text ≡ encode_utf8_all w ++ rest
 bytes_split text w rest u v e = sym (encodes-chars text u) ∙ ap encode_utf8_all e ∙ encodes-append w (chars rest) ∙ ap (λ z. encode_utf8_all w ++ z) (encodes-chars rest v)
 
-scalars-front : (v w : List ℕ) → all_scalars (v ++ w) ≡ true → all_scalars v ≡ true
+pub scalars-front : (v w : List ℕ) → all_scalars (v ++ w) ≡ true → all_scalars v ≡ true
 scalars-front [] w h = refl
 scalars-front (c ∷ v) w h = let parts = and_parts (scalar c) (all_scalars (v ++ w)) h in and_from (scalar c) (all_scalars v) parts.0 (scalars-front v w parts.1)
+
+pub scalars-rest : (v w : List ℕ) → all_scalars (v ++ w) ≡ true → all_scalars w ≡ true
+scalars-rest [] w h = h
+scalars-rest (c ∷ v) w h = scalars-rest v w (and_parts (scalar c) (all_scalars (v ++ w)) h).1
 
 -- the characters of those bytes
 pub chars_front : (text w rest : List ℕ) → IsUtf8 text → IsUtf8 rest → chars text ≡ w ++ chars rest → chars (take (length text - length rest) text) ≡ w
@@ -91,12 +95,8 @@ pub word_goes : (s t : Spot) (text w rest : List ℕ) (k : TokenKind) (place : P
 word_goes s t text w rest k place first r stops short e f =
     let is = run_is_word s t text w rest first r stops in
     let passes = token w (chars rest) (longest_word w (chars rest) is stops) short in
-    let h = goes continues_name s t text w rest _ r passes (some w is) in
+    let h = goes continues_name s t text w rest _ r passes (is_word-some w is) in
     at_place s t text rest k (word_kind w) place e f (subst (λ u. Goes s text (record { kind = word_kind w; place = place_between s u } ∷ []) t rest) (sym r.end) h)
-  where
-    some : (w : List ℕ) → is_word w ≡ true → 0 < length w
-    some [] h = absurd (false≢true h)
-    some (c ∷ cs) h = omega arith
 
 -- from one character
 pub step_goes : (s t : Spot) (text rest : List ℕ) (c : ℕ) (ts : List Token) → IsWithin s text → BeginsWith text c rest → t ≡ past s c → Passes s (c ∷ chars rest) ts (past s c) (chars rest) → Goes s text ts t rest

@@ -1,7 +1,9 @@
--- Spots and places in a text. Lines end with a line feed (10), a column is one character, and both are counted from 1.
+-- Spots and places in a text. Lines end with a line feed, a column is one character, and both are counted from 1.
 -- That columns are characters is this project's own choice.
 use Rattle.std.specs.Prelude.{ℕ, ◌+◌, ◌==◌, if◌then◌else◌, List, [], ◌∷◌, length}
 use Rattle.std.specs.Char.{encode_utf8}
+use Rattle.std.specs.Str.{chars}
+use Rattle.in_syntax.specs.Characters.{line_feed}
 use Rattle.in_syntax.specs.declared.characters.Spot.{Spot}
 use Rattle.in_syntax.specs.declared.places.Place.{Place}
 
@@ -13,8 +15,8 @@ start = record { at = 0; line = 1; col = 1 }
 abbrev pub past : Spot → ℕ → Spot
 past s c = record {
   at = s.at + length (encode_utf8 c);
-  line = if c == 10 then s.line + 1 else s.line;
-  col = if c == 10 then 1 else s.col + 1;
+  line = if c == line_feed then s.line + 1 else s.line;
+  col = if c == line_feed then 1 else s.col + 1;
 }
 
 -- the spot after some characters
@@ -29,3 +31,7 @@ place_between s t = record { from = s.at; to = t.at; line = s.line; col = s.col 
 -- the empty place at a spot
 abbrev pub place_at : Spot → Place
 place_at s = place_between s s
+
+-- the place after a text's last character
+abbrev pub end_place : List ℕ → Place
+end_place text = place_at (past_all start (chars text))

@@ -1,12 +1,14 @@
-ghost use Rattle.std.specs.Prelude.{◌≡◌, ◌+◌, ◌<◌, ◌≤◌, List, ℕ, [], ◌∷◌, ◌++◌, true, ◌==◌, length, option_to_list, IfOk, MatchResult, IfErr};
+ghost use Rattle.std.specs.Prelude.{◌≡◌, ◌+◌, ◌<◌, ◌≤◌, List, ℕ, [], ◌∷◌, ◌++◌, true, ◌==◌, length, option_to_list, IfOk, IfErr};
 ghost use Rattle.std.specs.Str.{chars};
-ghost use Rattle.in_syntax.specs.Characters.{begins_name, continues_name};
-ghost use Rattle.in_syntax.specs.Places.{start, past_all};
-ghost use Rattle.in_syntax.specs.Tokens.{beside, word_kind, signs, text_limit, well_formed, refusal_at, Reads, IsTokensOf, IsTokenFault};
+ghost use Rattle.in_syntax.specs.Characters.{hash, begins_name, continues_name};
+ghost use Rattle.in_syntax.specs.Places.{start, past_all, end_place};
+ghost use Rattle.in_syntax.specs.Tokens.{beside, word_kind, signs, text_limit, well_formed, refusal_at, Reads, IsTokensOf, IsTokenFault, StandsIn};
+ghost use Rattle.std.specs.List.{AllByRecursion};
 ghost use Rattle.in_syntax.specs.Cursors.{FirstIs, BeginsSigns, IsWithin, IsRun, IsMove, RefusedBy, IsStopOf};
 
 use crate::characters::{START, Spot, begins_name, continues_name, first_char, is_blank, is_plain};
 use crate::faults::{Code, Fault, Refusal};
+use crate::places::Place;
 use crate::words::{Token, TokenKind};
 use std::alloc::{AllocError, Global};
 use std::str;
@@ -33,7 +35,7 @@ pub enum Move<'a> {
 /// A comment, from its `#` to the end of its line.
 fn comment(spot: Spot, text: &str) -> Move<'_>
     requires within { IsWithin spot text.now }
-    requires first { FirstIs (λ c. c ≡ 35) (chars text.now) }
+    requires first { FirstIs (λ c. c ≡ hash) (chars text.now) }
     ensures { IsMove spot text.now result }
 {
     let mut end = spot;
@@ -221,6 +223,26 @@ fn front(text: &[u8]) -> &str
     }
 }
 
+/// The tokens of a program's text as `tokens` answers them, and the place after its last character.
+pub fn tokens_to_end(alloc: Global, text: &[u8]) -> Result<(Vec<Token>, Place), Fault>
+    ensures tokens { IfOk result (λ r. IsTokensOf text.now r.0.items) }
+    ensures end { IfOk result (λ r. r.1 ≡ end_place text.now) }
+    ensures fault { IfErr result (RefusedBy (IsTokenFault text.now)) }
+
+    // Follows from the first clause.
+    ensures texts { IfOk result (λ r. AllByRecursion (StandsIn text.now) r.0.items) }
+{
+    if text.len() > MAX_TEXT_BYTES {
+        return Err(refused(Code::E03, START));
+    }
+    let front = front(text);
+    let (tokens, end) = read(alloc, front)?;
+    if front.len() < text.len() {
+        return Err(refused(Code::E01, end));
+    }
+    Ok((tokens, end.place_to(end)))
+}
+
 /// The tokens of a program's text, in order.
 ///
 /// A text is of at most `MAX_TEXT_BYTES` bytes of UTF-8. Space, tab, carriage return and line feed part tokens, and
@@ -235,15 +257,12 @@ fn front(text: &[u8]) -> &str
 ///
 /// Of the last two the first in the text is answered. The other error is want of memory.
 pub fn tokens(alloc: Global, text: &[u8]) -> Result<Vec<Token>, Fault>
-    ensures { MatchResult result (λ v. IsTokensOf text.now v.items) (RefusedBy (IsTokenFault text.now)) }
+    ensures tokens { IfOk result (λ v. IsTokensOf text.now v.items) }
+    ensures fault { IfErr result (RefusedBy (IsTokenFault text.now)) }
+
+    // Follows from the first clause.
+    ensures texts { IfOk result (λ v. AllByRecursion (StandsIn text.now) v.items) }
 {
-    if text.len() > MAX_TEXT_BYTES {
-        return Err(refused(Code::E03, START));
-    }
-    let front = front(text);
-    let (tokens, end) = read(alloc, front)?;
-    if front.len() < text.len() {
-        return Err(refused(Code::E01, end));
-    }
+    let (tokens, _end) = tokens_to_end(alloc, text)?;
     Ok(tokens)
 }

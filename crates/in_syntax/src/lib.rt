@@ -3,6 +3,7 @@
 
 mod characters;
 mod faults;
+pub mod laws;
 mod lexer;
 mod memory;
 mod places;

@@ -1,5 +1,4 @@
 use super::*;
-use crate::places::Place;
 use std::test::Fail;
 
 fn refusal(alloc: Global, text: &[u8]) -> Option<Refusal> {
