@@ -26,8 +26,8 @@ impl Spot {
     /// The spot after a character.
     pub fn past(self, c: char) -> Spot
         requires at { self.at + 4 < 2 ^ 64 }
-        requires line { self.line + 1 < 2 ^ 32 }
-        requires col { self.col + 1 < 2 ^ 32 }
+        requires line { self.line + 4 < 2 ^ 32 }
+        requires col { self.col + 4 < 2 ^ 32 }
         ensures { result ≡ past self c }
     {
         let at = self.at + c.len_utf8();
