@@ -1,7 +1,10 @@
 //! The text of a program: its tokens, its tree, and the first fault in either.
 #![tactic(auto)]
 
+mod characters;
 mod faults;
+pub mod laws;
+mod lexer;
 mod memory;
 mod places;
 mod streams;
@@ -10,6 +13,7 @@ mod tree;
 mod words;
 
 pub use faults::{Code, Fault, Refusal};
+pub use lexer::{MAX_NAME_CHARACTERS, MAX_TEXT_BYTES, tokens};
 pub use memory::{MemoryIn, MemoryOut};
 pub use places::Place;
 pub use streams::{TextIn, TextOut};

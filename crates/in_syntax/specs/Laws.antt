@@ -1,0 +1,30 @@
+-- Laws of the definitions, for every text.
+use Rattle.std.specs.Prelude.{◌≡◌, ℕ, ◌⊎◌, List}
+use Rattle.std.specs.List.{AllByRecursion}
+use Rattle.in_syntax.specs.declared.words.Token.{Token}
+use Rattle.in_syntax.specs.declared.faults.Refusal.{Refusal}
+use Rattle.in_syntax.specs.Tokens.{IsTokensOf, IsTokenFault, StandsIn, StandInOrder}
+
+-- a text has at most one list of tokens
+abbrev pub TokensAreUnique : Type 0
+TokensAreUnique = (text : List ℕ) (ts us : List Token) → IsTokensOf text ts → IsTokensOf text us → ts ≡ us
+
+-- a text has at most one first fault of its tokens
+abbrev pub TokenFaultsAreUnique : Type 0
+TokenFaultsAreUnique = (text : List ℕ) (q r : Refusal) → IsTokenFault text q → IsTokenFault text r → q ≡ r
+
+-- a text has tokens or a fault of its tokens
+abbrev pub TextsHaveTokensOrFault : Type 0
+TextsHaveTokensOrFault = (text : List ℕ) → ((ts : List Token) × IsTokensOf text ts) ⊎ ((r : Refusal) × IsTokenFault text r)
+
+-- no text has both
+abbrev pub NoTextHasBoth : Type 0
+NoTextHasBoth = (text : List ℕ) (ts : List Token) (r : Refusal) → IsTokensOf text ts → IsTokenFault text r → ⊥
+
+-- each token of a text stands in it
+abbrev pub TokensStandInTheirText : Type 0
+TokensStandInTheirText = (text : List ℕ) (ts : List Token) → IsTokensOf text ts → AllByRecursion (StandsIn text) ts
+
+-- the tokens of a text stand in it one after another
+abbrev pub TokensStandInOrder : Type 0
+TokensStandInOrder = (text : List ℕ) (ts : List Token) → IsTokensOf text ts → StandInOrder 0 ts

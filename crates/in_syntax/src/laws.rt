@@ -1,0 +1,32 @@
+//! Laws of the definitions that contracts cite, each the contract of a function that does nothing.
+ghost use Rattle.in_syntax.specs.Laws.{TokensAreUnique, TokenFaultsAreUnique, TextsHaveTokensOrFault, NoTextHasBoth, TokensStandInTheirText, TokensStandInOrder};
+
+/// A text has at most one list of tokens.
+pub fn tokens_are_unique()
+    ensures { TokensAreUnique }
+{}
+
+/// A text has at most one first fault of its tokens.
+pub fn token_faults_are_unique()
+    ensures { TokenFaultsAreUnique }
+{}
+
+/// A text has tokens or a fault of its tokens.
+pub fn texts_have_tokens_or_fault()
+    ensures { TextsHaveTokensOrFault }
+{}
+
+/// No text has tokens and a fault of its tokens.
+pub fn no_text_has_both()
+    ensures { NoTextHasBoth }
+{}
+
+/// Each token of a text stands in it.
+pub fn tokens_stand_in_their_text()
+    ensures { TokensStandInTheirText }
+{}
+
+/// The tokens of a text stand in it one after another.
+pub fn tokens_stand_in_order()
+    ensures { TokensStandInOrder }
+{}
