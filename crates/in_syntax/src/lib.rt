@@ -2,15 +2,25 @@
 #![tactic(auto)]
 
 mod faults;
+mod machine;
 mod memory;
+mod parser;
+#[cfg(test)]
+mod parser_tests;
 mod places;
+mod reader;
+mod signs;
+mod spots;
+mod stack;
 mod streams;
 mod text;
 mod tree;
 mod words;
 
 pub use faults::{Code, Fault, Refusal};
+pub use machine::{MAX_DEPTH, MAX_PORTS};
 pub use memory::{MemoryIn, MemoryOut};
+pub use parser::program;
 pub use places::Place;
 pub use streams::{TextIn, TextOut};
 pub use text::Text;
