@@ -1,4 +1,5 @@
 ghost use Rattle.in_syntax.specs.Programs.{HasTexts};
+ghost use Rattle.in_syntax.specs.Steps.{Gives};
 
 use crate::faults::Fault;
 use crate::places::Place;
@@ -18,6 +19,19 @@ use std::alloc::Global;
 /// project's own choice. Its other error is want of memory.
 pub fn program(alloc: Global, text: &[u8], tokens: &[Token], end: Place) -> Result<Source, Fault>
     requires { HasTexts text.now tokens.now }
+    ensures { Gives text.now tokens.now end result }
+{
+    program_by_steps(alloc, text, tokens, end)
+}
+
+fn program_by_steps(
+    alloc: Global,
+    text: &[u8],
+    tokens: &[Token],
+    end: Place,
+) -> Result<Source, Fault>
+    requires { HasTexts text.now tokens.now }
+    ensures { Gives text.now tokens.now end result }
 {
     let mut reader = Reader::new(alloc);
     for token in tokens {

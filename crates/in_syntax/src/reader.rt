@@ -1,4 +1,7 @@
-ghost use Rattle.in_syntax.specs.Programs.{HasText};
+ghost use Rattle.std.specs.Prelude.{◌≡◌};
+ghost use Rattle.in_syntax.specs.Programs.{HasText, sign_of};
+ghost use Rattle.in_syntax.specs.Steps.{start, Takes, Ends};
+ghost use Rattle.in_syntax.specs.Steps as steps;
 
 use crate::faults::{Code, Fault, Refusal};
 use crate::machine::{Move, step};
@@ -18,7 +21,9 @@ pub struct Reader {
 }
 
 impl Reader {
-    pub fn new(alloc: Global) -> Reader {
+    pub fn new(alloc: Global) -> Reader
+        ensures { result ≡ start }
+    {
         Reader {
             types: Names::new(alloc),
             symbols: SourceSymbols::new(alloc),
@@ -29,12 +34,15 @@ impl Reader {
     /// Reads one token.
     pub fn take(self, alloc: Global, text: &[u8], token: Token) -> Result<Reader, Fault>
         requires { HasText text.now token.kind token.place }
+        ensures { Takes self (sign_of text.now token) token.place result }
     {
         self.take_sign(alloc, read_sign(alloc, text, token)?, token.place)
     }
 
     /// Reads one sign, that of the token at this place.
-    pub fn take_sign(self, alloc: Global, sign: Sign, place: Place) -> Result<Reader, Fault> {
+    pub fn take_sign(self, alloc: Global, sign: Sign, place: Place) -> Result<Reader, Fault>
+        ensures { Takes self sign place result }
+    {
         let Reader {
             mut types,
             mut symbols,
@@ -67,7 +75,9 @@ impl Reader {
     }
 
     /// The program, where the text ends here.
-    pub fn finish(self, end: Place) -> Result<Source, Fault> {
+    pub fn finish(self, end: Place) -> Result<Source, Fault>
+        ensures { Ends self end result }
+    {
         let Reader {
             types,
             symbols,
@@ -84,14 +94,18 @@ impl Reader {
     }
 }
 
-fn net_of(spot: Spot) -> Option<SourceNet> {
+fn net_of(spot: Spot) -> Option<SourceNet>
+    ensures { result ≡ steps.net_of spot }
+{
     match spot {
         Spot::Done(net) => Some(net),
         _ => None,
     }
 }
 
-fn refused(code: Code, place: Place) -> Fault {
+fn refused(code: Code, place: Place) -> Fault
+    ensures { result ≡ steps.fault_at code place }
+{
     Fault::Refused(Refusal {
         code,
         place,

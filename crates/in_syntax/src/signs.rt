@@ -1,4 +1,5 @@
-ghost use Rattle.in_syntax.specs.Programs.{IsTextAt, HasText};
+ghost use Rattle.std.specs.Prelude.{◌≡◌, IfOk};
+ghost use Rattle.in_syntax.specs.Programs.{IsTextAt, HasText, sign_of, name_at as name_of};
 
 use crate::places::Place;
 use crate::text::Text;
@@ -18,6 +19,7 @@ pub enum Sign {
 /// The sign of a token of this text. Its only error is want of memory.
 pub fn read_sign(alloc: Global, text: &[u8], token: Token) -> Result<Sign, AllocError>
     requires { HasText text.now token.kind token.place }
+    ensures { IfOk result (λ s. s ≡ sign_of text.now token) }
 {
     match token.kind {
         TokenKind::Name => Ok(Sign::Named(name_at(alloc, text, token.place)?)),
@@ -28,6 +30,7 @@ pub fn read_sign(alloc: Global, text: &[u8], token: Token) -> Result<Sign, Alloc
 
 fn name_at(alloc: Global, text: &[u8], place: Place) -> Result<Name, AllocError>
     requires { IsTextAt text.now place }
+    ensures { IfOk result (λ n. n ≡ name_of text.now place) }
 {
     match str::from_utf8(&text[place.from..place.to]) {
         Ok(text) => Ok(Name {

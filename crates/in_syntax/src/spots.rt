@@ -7,8 +7,8 @@ use crate::tree::{Name, Names, SourceClass, SourceFrees, SourceNet, SourceSymbol
 pub enum PortOf {
     /// The principal port of the symbol of this name.
     Principal(Name),
-    /// A port of a class, after the symbol so far, the class so far, and how many types of auxiliary ports were
-    /// named so far.
+    /// A port of a class, after the symbol so far and the class so far, with the number of the auxiliary port
+    /// whose type is named next.
     Auxiliary(SourceSymbol, SourceClass, usize),
     /// A free name, after those before it.
     Free(SourceFrees, Name),
@@ -26,7 +26,7 @@ pub enum Side {
 pub struct Body {
     pub net: SourceNet,
     pub side: Side,
-    pub open: Stack,
+    pub around: Stack,
 }
 
 /// Where in a program its next token stands, with what was read of the item or net around it.
@@ -46,9 +46,9 @@ pub enum Spot {
     PortKind(PortOf),
     /// The sign of a port comes.
     PortSign(PortOf, Name),
-    /// After the principal port or a class, with the number of auxiliary ports.
+    /// After the principal port or a class, with the number of the next auxiliary port.
     SymbolEnd(SourceSymbol, usize),
-    /// After a port of a class.
+    /// After a port of a class, with the number of the next auxiliary port.
     ClassEnd(SourceSymbol, SourceClass, usize),
     /// After `net`.
     NetOpen,

@@ -1,3 +1,6 @@
+ghost use Rattle.std.specs.Prelude.{◌≡◌, IfOk};
+ghost use Rattle.in_syntax.specs.Steps.{bare, with_argument, with_class, with_equation};
+
 use crate::places::Place;
 use crate::text::Text;
 use sqlite_items::Items;
@@ -49,7 +52,9 @@ pub struct SourceSymbol {
 
 impl SourceSymbol {
     /// The symbol with one more class, at the end. Its only error is want of memory.
-    pub fn with_class(self, class: SourceClass) -> Result<SourceSymbol, AllocError> {
+    pub fn with_class(self, class: SourceClass) -> Result<SourceSymbol, AllocError>
+        ensures { IfOk result (λ t. t ≡ with_class self class) }
+    {
         let SourceSymbol {
             name,
             port,
@@ -73,7 +78,9 @@ pub struct Term {
 
 impl Term {
     /// A bare name.
-    pub fn bare(alloc: Global, name: Name) -> Term {
+    pub fn bare(alloc: Global, name: Name) -> Term
+        ensures { result ≡ bare name }
+    {
         Term {
             name,
             args: Terms::new(alloc),
@@ -81,7 +88,9 @@ impl Term {
     }
 
     /// The term with one more argument, at the end. Its only error is want of memory.
-    pub fn with_argument(self, argument: Term) -> Result<Term, AllocError> {
+    pub fn with_argument(self, argument: Term) -> Result<Term, AllocError>
+        ensures { IfOk result (λ t. t ≡ with_argument self argument) }
+    {
         let Term { name, mut args } = self;
         args.push(argument)?;
         Ok(Term { name, args })
@@ -112,7 +121,9 @@ pub struct SourceNet {
 
 impl SourceNet {
     /// The net with one more equation, at the end. Its only error is want of memory.
-    pub fn with_equation(self, equation: Equation) -> Result<SourceNet, AllocError> {
+    pub fn with_equation(self, equation: Equation) -> Result<SourceNet, AllocError>
+        ensures { IfOk result (λ t. t ≡ with_equation self equation) }
+    {
         let SourceNet {
             free,
             mut equations,

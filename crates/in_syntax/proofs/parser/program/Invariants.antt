@@ -1,6 +1,0 @@
-use Rattle.std.proofs.Common.{drop}
-use Rattle.in_syntax.specs.Programs.{HasTexts}
-use Rattle.in_syntax.proofs.parser.program.Given as goal
-
-abbrev pub invariant-loop-token : goal.invariant-loop-token
-invariant-loop-token l = record { texts : HasTexts l.text (drop l.token-index l.tokens) }
