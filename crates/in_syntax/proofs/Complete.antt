@@ -47,7 +47,7 @@ path_names r names (n ∷ more) = (
     at_spot r (spot.TypeEnd (names ++ n ∷ [])),
     refl,
     to_spot (at_spot r (spot.TypeEnd (names ++ n ∷ []))) r (after (map one more)) (spot.TypeEnd ((names ++ n ∷ []) ++ more)) (spot.TypeEnd (names ++ n ∷ more))
-      (ap (λ z. spot.TypeEnd z) (append_assoc names (n ∷ []) more)) (path_names r (names ++ n ∷ []) more),
+        (ap (λ z. spot.TypeEnd z) (append_assoc names (n ∷ []) more)) (path_names r (names ++ n ∷ []) more),
   ),
 )
 
@@ -60,7 +60,7 @@ path_types r (n ∷ more) full = (
     at_spot r (spot.TypeEnd (n ∷ [])),
     refl,
     join (after (map one more)) (plain kind.Semicolon ∷ []) (at_spot r (spot.TypeEnd (n ∷ []))) (at_spot r (spot.TypeEnd (n ∷ more))) (with_types r (n ∷ more))
-      (path_names r (n ∷ []) more) (with_types r (n ∷ more), refl, refl),
+        (path_names r (n ∷ []) more) (with_types r (n ∷ more), refl, refl),
   ),
 )
 
@@ -86,9 +86,9 @@ path_ports r s (p ∷ more) c number =
       at_spot r (spot.PortKind (Auxiliary s c number)),
       refl,
       join (spell_port (nat_lt max_ports number) p) (after (spell_ports (number + 1) more)) (at_spot r (spot.PortKind (Auxiliary s c number))) (at_spot r (spot.ClassEnd s (c ++ p ∷ []) (number + 1)))
-        (at_spot r (spot.ClassEnd s (c ++ p ∷ more) (number + length (p ∷ more))))
-        (path_port r s c number p)
-        (to_spot (at_spot r (spot.ClassEnd s (c ++ p ∷ []) (number + 1))) r (after (spell_ports (number + 1) more)) (spot.ClassEnd s ((c ++ p ∷ []) ++ more) ((number + 1) + length more))
+          (at_spot r (spot.ClassEnd s (c ++ p ∷ more) (number + length (p ∷ more))))
+          (path_port r s c number p)
+          (to_spot (at_spot r (spot.ClassEnd s (c ++ p ∷ []) (number + 1))) r (after (spell_ports (number + 1) more)) (spot.ClassEnd s ((c ++ p ∷ []) ++ more) ((number + 1) + length more))
           (spot.ClassEnd s (c ++ p ∷ more) (number + length (p ∷ more)))
           (ap (λ z. spot.ClassEnd s z ((number + 1) + length more)) (append_assoc c (p ∷ []) more) ∙ ap (λ z. spot.ClassEnd s (c ++ p ∷ more) z) e)
           (path_ports r s more (c ++ p ∷ []) (number + 1))),
@@ -102,11 +102,11 @@ path_class r s (p ∷ more) number full =
       at_spot r (spot.PortKind (Auxiliary s [] number)),
       refl,
       join (spell_port (nat_lt max_ports number) p ++ after (spell_ports (number + 1) more)) (plain kind.CloseBrace ∷ []) (at_spot r (spot.PortKind (Auxiliary s [] number)))
-        (at_spot r (spot.ClassEnd s (p ∷ more) ((number + 1) + length more))) (at_spot r (spot.SymbolEnd (with_class s (p ∷ more)) (number + length (p ∷ more))))
-        (join (spell_port (nat_lt max_ports number) p) (after (spell_ports (number + 1) more)) (at_spot r (spot.PortKind (Auxiliary s [] number))) (at_spot r (spot.ClassEnd s (p ∷ []) (number + 1)))
+          (at_spot r (spot.ClassEnd s (p ∷ more) ((number + 1) + length more))) (at_spot r (spot.SymbolEnd (with_class s (p ∷ more)) (number + length (p ∷ more))))
+          (join (spell_port (nat_lt max_ports number) p) (after (spell_ports (number + 1) more)) (at_spot r (spot.PortKind (Auxiliary s [] number))) (at_spot r (spot.ClassEnd s (p ∷ []) (number + 1)))
           (at_spot r (spot.ClassEnd s (p ∷ more) ((number + 1) + length more)))
           (path_port r s [] number p) (path_ports r s more (p ∷ []) (number + 1)))
-        (at_spot r (spot.SymbolEnd (with_class s (p ∷ more)) ((number + 1) + length more)), refl, ap (λ z. at_spot r (spot.SymbolEnd (with_class s (p ∷ more)) z)) e),
+          (at_spot r (spot.SymbolEnd (with_class s (p ∷ more)) ((number + 1) + length more)), refl, ap (λ z. at_spot r (spot.SymbolEnd (with_class s (p ∷ more)) z)) e),
     )
 
 abbrev with_classes : SourceSymbol → List (List SourcePort) → SourceSymbol
@@ -117,12 +117,12 @@ path_classes : (r : Reader) (cs : List (List SourcePort)) (s : SourceSymbol) (nu
 path_classes r [] s number each = ap (λ z. at_spot r (spot.SymbolEnd (record { name = s.name; port = s.port; classes = z }) number)) (sym (append-nil s.classes))
 path_classes r (c ∷ cs) s number each =
     join (spell_class number c) (spell_classes (number + length c) cs) (at_spot r (spot.SymbolEnd s number)) (at_spot r (spot.SymbolEnd (with_class s c) (number + length c)))
-      (at_spot r (spot.SymbolEnd (with_classes s (c ∷ cs)) (ports_after number (c ∷ cs))))
-      (path_class r s c number each.0)
-      (to_spot (at_spot r (spot.SymbolEnd (with_class s c) (number + length c))) r (spell_classes (number + length c) cs) (spot.SymbolEnd (with_classes (with_class s c) cs) (ports_after number (c ∷ cs)))
-        (spot.SymbolEnd (with_classes s (c ∷ cs)) (ports_after number (c ∷ cs)))
-        (ap (λ z. spot.SymbolEnd (record { name = s.name; port = s.port; classes = z }) (ports_after number (c ∷ cs))) (append_assoc s.classes (c ∷ []) cs))
-        (path_classes r cs (with_class s c) (number + length c) each.1))
+    (at_spot r (spot.SymbolEnd (with_classes s (c ∷ cs)) (ports_after number (c ∷ cs))))
+    (path_class r s c number each.0)
+    (to_spot (at_spot r (spot.SymbolEnd (with_class s c) (number + length c))) r (spell_classes (number + length c) cs) (spot.SymbolEnd (with_classes (with_class s c) cs) (ports_after number (c ∷ cs)))
+    (spot.SymbolEnd (with_classes s (c ∷ cs)) (ports_after number (c ∷ cs)))
+    (ap (λ z. spot.SymbolEnd (record { name = s.name; port = s.port; classes = z }) (ports_after number (c ∷ cs))) (append_assoc s.classes (c ∷ []) cs))
+    (path_classes r cs (with_class s c) (number + length c) each.1))
 
 abbrev no_classes : SourceSymbol → SourceSymbol
 no_classes s = record { name = s.name; port = s.port; classes = [] }
@@ -144,7 +144,7 @@ path_symbol r s each = (
           at_spot r (spot.SymbolEnd (no_classes s) 1),
           sign_turn r (Principal s.name) s.port.kind s.port.output,
           join (spell_classes 1 s.classes) (plain kind.Semicolon ∷ []) (at_spot r (spot.SymbolEnd (no_classes s) 1)) (at_spot r (spot.SymbolEnd s (ports_after 1 s.classes))) (with_symbol r s)
-            (path_classes r s.classes (no_classes s) 1 each) (with_symbol r s, refl, refl),
+              (path_classes r s.classes (no_classes s) 1 each) (with_symbol r s, refl, refl),
         ),
       ),
     ),
@@ -160,14 +160,14 @@ path_items [] r each =
     ∙ ap (λ z. record { types = r.types ++ []; symbols = z; spot = spot.Item }) (sym (append-nil r.symbols))
 path_items (types names ∷ items) r each =
     join (spell_types names) (flat_map spell_item items) (at_spot r spot.Item) (with_types r names) (with_items r (types names ∷ items))
-      (path_types r names each.0)
-      (subst (λ z. Path (with_types r names) (flat_map spell_item items) (record { types = z; symbols = r.symbols ++ flat_map symbols_in items; spot = spot.Item }))
-        (append_assoc r.types names (flat_map types_in items)) (path_items items (with_types r names) each.1))
+    (path_types r names each.0)
+    (subst (λ z. Path (with_types r names) (flat_map spell_item items) (record { types = z; symbols = r.symbols ++ flat_map symbols_in items; spot = spot.Item }))
+    (append_assoc r.types names (flat_map types_in items)) (path_items items (with_types r names) each.1))
 path_items (symbol s ∷ items) r each =
     join (spell_symbol s) (flat_map spell_item items) (at_spot r spot.Item) (with_symbol r s) (with_items r (symbol s ∷ items))
-      (path_symbol r s each.0)
-      (subst (λ z. Path (with_symbol r s) (flat_map spell_item items) (record { types = r.types ++ flat_map types_in items; symbols = z; spot = spot.Item }))
-        (append_assoc r.symbols (s ∷ []) (flat_map symbols_in items)) (path_items items (with_symbol r s) each.1))
+    (path_symbol r s each.0)
+    (subst (λ z. Path (with_symbol r s) (flat_map spell_item items) (record { types = r.types ++ flat_map types_in items; symbols = z; spot = spot.Item }))
+    (append_assoc r.symbols (s ∷ []) (flat_map symbols_in items)) (path_items items (with_symbol r s) each.1))
 
 -- ---- terms
 
@@ -240,14 +240,14 @@ path_more h ih (c ∷ more) f a r b short =
       at_spot r (spot.TermName (inside (with_argument f a) b)),
       ended_turn r (inside f b) a (Plain kind.Comma) tt,
       subst (λ z. Path (at_spot r (spot.TermName (inside (with_argument f a) b))) z (at_spot r (spot.TermEnd b (with_arguments f (a ∷ c ∷ more)))))
-        (sym (append_assoc (spell_term c ((length b.around + 1) + 1)) (after (arguments_at ((length b.around + 1) + 1) more)) (plain kind.CloseParenthesis ∷ [])))
-        (join (spell_term c ((length b.around + 1) + 1)) (after (arguments_at ((length b.around + 1) + 1) more) ++ plain kind.CloseParenthesis ∷ [])
+          (sym (append_assoc (spell_term c ((length b.around + 1) + 1)) (after (arguments_at ((length b.around + 1) + 1) more)) (plain kind.CloseParenthesis ∷ [])))
+          (join (spell_term c ((length b.around + 1) + 1)) (after (arguments_at ((length b.around + 1) + 1) more) ++ plain kind.CloseParenthesis ∷ [])
           (at_spot r (spot.TermName (inside (with_argument f a) b))) (at_spot r (ended (inside (with_argument f a) b) c)) (at_spot r (spot.TermEnd b (with_arguments f (a ∷ c ∷ more))))
           (path_argument h ih c (with_argument f a) r b (omega arith))
           (to_spot (at_spot r (ended (inside (with_argument f a) b) c)) r (after (arguments_at ((length b.around + 1) + 1) more) ++ plain kind.CloseParenthesis ∷ [])
-            (spot.TermEnd b (with_arguments (with_argument f a) (c ∷ more))) (spot.TermEnd b (with_arguments f (a ∷ c ∷ more)))
-            (ap (λ z. spot.TermEnd b z) (with_again f a (c ∷ more)))
-            (path_more h ih more (with_argument f a) c r b (omega arith)))),
+          (spot.TermEnd b (with_arguments (with_argument f a) (c ∷ more))) (spot.TermEnd b (with_arguments f (a ∷ c ∷ more)))
+          (ap (λ z. spot.TermEnd b z) (with_again f a (c ∷ more)))
+          (path_more h ih more (with_argument f a) c r b (omega arith)))),
     )
 
 path_level : (h : ℕ) → ReadsTerms h → (n : Name) (args : List Term) (r : Reader) (b : Body) → tallest (map height args) ≤ h →
@@ -257,14 +257,14 @@ path_level h ih n (a ∷ more) r b short = (
   at_spot r (spot.TermName (inside (bare n) b)),
   refl,
   subst (λ z. Path (at_spot r (spot.TermName (inside (bare n) b))) z (at_spot r (spot.TermEnd b (roll-Term (record { name = n; args = a ∷ more })))))
-    (sym (append_assoc (spell_term a ((length b.around + 1) + 1)) (after (arguments_at ((length b.around + 1) + 1) more)) (plain kind.CloseParenthesis ∷ [])))
-    (join (spell_term a ((length b.around + 1) + 1)) (after (arguments_at ((length b.around + 1) + 1) more) ++ plain kind.CloseParenthesis ∷ [])
+      (sym (append_assoc (spell_term a ((length b.around + 1) + 1)) (after (arguments_at ((length b.around + 1) + 1) more)) (plain kind.CloseParenthesis ∷ [])))
+      (join (spell_term a ((length b.around + 1) + 1)) (after (arguments_at ((length b.around + 1) + 1) more) ++ plain kind.CloseParenthesis ∷ [])
       (at_spot r (spot.TermName (inside (bare n) b))) (at_spot r (ended (inside (bare n) b) a)) (at_spot r (spot.TermEnd b (roll-Term (record { name = n; args = a ∷ more }))))
       (path_argument h ih a (bare n) r b (omega arith))
       (to_spot (at_spot r (ended (inside (bare n) b) a)) r (after (arguments_at ((length b.around + 1) + 1) more) ++ plain kind.CloseParenthesis ∷ [])
-        (spot.TermEnd b (with_arguments (bare n) (a ∷ more))) (spot.TermEnd b (roll-Term (record { name = n; args = a ∷ more })))
-        (ap (λ z. spot.TermEnd b z) (bare_with n (a ∷ more)))
-        (path_more h ih more (bare n) a r b (omega arith)))),
+      (spot.TermEnd b (with_arguments (bare n) (a ∷ more))) (spot.TermEnd b (roll-Term (record { name = n; args = a ∷ more })))
+      (ap (λ z. spot.TermEnd b z) (bare_with n (a ∷ more)))
+      (path_more h ih more (bare n) a r b (omega arith)))),
 )
 
 path_out : (h : ℕ) → ReadsTerms h → (o : Term-F Term) (r : Reader) (b : Body) → tallest (map height o.args) ≤ h →
@@ -275,11 +275,11 @@ path_terms : (h : ℕ) → ReadsTerms h
 path_terms zero t r b short = absurd (omega (arith, height_out t))
 path_terms (suc h) t r b short =
     let out : Path (at_spot r (spot.TermName b)) (marked (nat_lt max_depth (length b.around + 1)) (Named (out-Term t).name) ∷ spell_arguments (arguments_at ((length b.around + 1) + 1) (out-Term t).args))
-          (at_spot r (ended_by b (roll-Term (out-Term t)) (out-Term t).args)) =
-        path_out h (λ u q c le. path_terms h u q c le) (out-Term t) r b (omega (arith, height_out t)) in
+    (at_spot r (ended_by b (roll-Term (out-Term t)) (out-Term t).args)) =
+    path_out h (λ u q c le. path_terms h u q c le) (out-Term t) r b (omega (arith, height_out t)) in
     subst (λ z. Path (at_spot r (spot.TermName b)) z (at_spot r (ended b t))) (sym (spell_out t (length b.around + 1)))
-      (to_spot (at_spot r (spot.TermName b)) r (marked (nat_lt max_depth (length b.around + 1)) (Named (out-Term t).name) ∷ spell_arguments (arguments_at ((length b.around + 1) + 1) (out-Term t).args))
-        (ended_by b (roll-Term (out-Term t)) (out-Term t).args) (ended b t) (ap (λ z. ended_by b z (out-Term t).args) (roll-out-Term t)) out)
+    (to_spot (at_spot r (spot.TermName b)) r (marked (nat_lt max_depth (length b.around + 1)) (Named (out-Term t).name) ∷ spell_arguments (arguments_at ((length b.around + 1) + 1) (out-Term t).args))
+    (ended_by b (roll-Term (out-Term t)) (out-Term t).args) (ended b t) (ap (λ z. ended_by b z (out-Term t).args) (roll-out-Term t)) out)
 
 path_term : (t : Term) (r : Reader) (b : Body) → Path (at_spot r (spot.TermName b)) (spell_term t (length b.around + 1)) (at_spot r (ended b t))
 path_term t r b = path_terms (height t) t r b (omega arith)
@@ -295,29 +295,29 @@ right_of n l p = record { net = n; side = Right l p; around = [] }
 path_left : (t : Term) (r : Reader) (n : SourceNet) → Path (at_spot r (spot.Equation n)) (spell_term t 1) (at_spot r (ended (left_of n) t))
 path_left t r n =
     let p : Path (at_spot r (spot.TermName (left_of n))) (marked false (Named (out-Term t).name) ∷ spell_arguments (arguments_at 2 (out-Term t).args)) (at_spot r (ended (left_of n) t)) =
-        subst (λ z. Path (at_spot r (spot.TermName (left_of n))) z (at_spot r (ended (left_of n) t))) (spell_out t 1) (path_term t r (left_of n)) in
+    subst (λ z. Path (at_spot r (spot.TermName (left_of n))) z (at_spot r (ended (left_of n) t))) (spell_out t 1) (path_term t r (left_of n)) in
     subst (λ z. Path (at_spot r (spot.Equation n)) z (at_spot r (ended (left_of n) t))) (sym (spell_out t 1)) (p.0, p.1, p.2)
 
 path_equation : (e : Equation) (r : Reader) (n : SourceNet) → Path (at_spot r (spot.Equation n)) (spell_equation e) (at_spot r (spot.Equation (with_equation n e)))
 path_equation e r n =
     join (spell_term e.left 1 ++ within (Tilde e.tilde) ∷ spell_term e.right 1) (plain kind.Semicolon ∷ []) (at_spot r (spot.Equation n)) (at_spot r (ended (right_of n e.left e.tilde) e.right))
-      (at_spot r (spot.Equation (with_equation n e)))
-      (join (spell_term e.left 1) (within (Tilde e.tilde) ∷ spell_term e.right 1) (at_spot r (spot.Equation n)) (at_spot r (ended (left_of n) e.left)) (at_spot r (ended (right_of n e.left e.tilde) e.right))
-        (path_left e.left r n)
-        (at_spot r (spot.TermName (right_of n e.left e.tilde)), ended_turn r (left_of n) e.left (Tilde e.tilde) tt, path_term e.right r (right_of n e.left e.tilde)))
-      (at_spot r (spot.Equation (with_equation n e)), ended_turn r (right_of n e.left e.tilde) e.right (Plain kind.Semicolon) tt, refl)
+    (at_spot r (spot.Equation (with_equation n e)))
+    (join (spell_term e.left 1) (within (Tilde e.tilde) ∷ spell_term e.right 1) (at_spot r (spot.Equation n)) (at_spot r (ended (left_of n) e.left)) (at_spot r (ended (right_of n e.left e.tilde) e.right))
+    (path_left e.left r n)
+    (at_spot r (spot.TermName (right_of n e.left e.tilde)), ended_turn r (left_of n) e.left (Tilde e.tilde) tt, path_term e.right r (right_of n e.left e.tilde)))
+    (at_spot r (spot.Equation (with_equation n e)), ended_turn r (right_of n e.left e.tilde) e.right (Plain kind.Semicolon) tt, refl)
 
 path_equations : (es : List Equation) (r : Reader) (n : SourceNet) →
     Path (at_spot r (spot.Equation n)) (flat_map spell_equation es) (at_spot r (spot.Equation (record { free = n.free; equations = n.equations ++ es })))
 path_equations [] r n = ap (λ z. at_spot r (spot.Equation (record { free = n.free; equations = z }))) (sym (append-nil n.equations))
 path_equations (e ∷ es) r n =
     join (spell_equation e) (flat_map spell_equation es) (at_spot r (spot.Equation n)) (at_spot r (spot.Equation (with_equation n e)))
-      (at_spot r (spot.Equation (record { free = n.free; equations = n.equations ++ e ∷ es })))
-      (path_equation e r n)
-      (to_spot (at_spot r (spot.Equation (with_equation n e))) r (flat_map spell_equation es) (spot.Equation (record { free = n.free; equations = (n.equations ++ e ∷ []) ++ es }))
-        (spot.Equation (record { free = n.free; equations = n.equations ++ e ∷ es }))
-        (ap (λ z. spot.Equation (record { free = n.free; equations = z })) (append_assoc n.equations (e ∷ []) es))
-        (path_equations es r (with_equation n e)))
+    (at_spot r (spot.Equation (record { free = n.free; equations = n.equations ++ e ∷ es })))
+    (path_equation e r n)
+    (to_spot (at_spot r (spot.Equation (with_equation n e))) r (flat_map spell_equation es) (spot.Equation (record { free = n.free; equations = (n.equations ++ e ∷ []) ++ es }))
+    (spot.Equation (record { free = n.free; equations = n.equations ++ e ∷ es }))
+    (ap (λ z. spot.Equation (record { free = n.free; equations = z })) (append_assoc n.equations (e ∷ []) es))
+    (path_equations es r (with_equation n e)))
 
 path_free : (f : SourceFree) (r : Reader) (fs : List SourceFree) → Path (at_spot r (spot.FreeName fs)) (spell_free f) (at_spot r (spot.FreeEnd (fs ++ f ∷ [])))
 path_free f r fs = (
@@ -336,8 +336,8 @@ path_frees (f ∷ more) r fs = (
   at_spot r (spot.FreeName fs),
   refl,
   join (spell_free f) (after (map spell_free more)) (at_spot r (spot.FreeName fs)) (at_spot r (spot.FreeEnd (fs ++ f ∷ []))) (at_spot r (spot.FreeEnd (fs ++ f ∷ more)))
-    (path_free f r fs)
-    (to_spot (at_spot r (spot.FreeEnd (fs ++ f ∷ []))) r (after (map spell_free more)) (spot.FreeEnd ((fs ++ f ∷ []) ++ more)) (spot.FreeEnd (fs ++ f ∷ more))
+      (path_free f r fs)
+      (to_spot (at_spot r (spot.FreeEnd (fs ++ f ∷ []))) r (after (map spell_free more)) (spot.FreeEnd ((fs ++ f ∷ []) ++ more)) (spot.FreeEnd (fs ++ f ∷ more))
       (ap (λ z. spot.FreeEnd z) (append_assoc fs (f ∷ []) more)) (path_frees more r (fs ++ f ∷ []))),
 )
 
@@ -347,9 +347,9 @@ path_all_frees [] r = (at_spot r (spot.BodyOpen []), refl, refl)
 path_all_frees (f ∷ more) r =
     let p = path_free f r [] in
     join (spell_free f ++ after (map spell_free more)) (plain kind.CloseParenthesis ∷ []) (at_spot r spot.FreeFirst) (at_spot r (spot.FreeEnd (f ∷ more))) (at_spot r (spot.BodyOpen (f ∷ more)))
-      (join (spell_free f) (after (map spell_free more)) (at_spot r spot.FreeFirst) (at_spot r (spot.FreeEnd (f ∷ []))) (at_spot r (spot.FreeEnd (f ∷ more)))
-        (p.0, p.1, p.2) (path_frees more r (f ∷ [])))
-      (at_spot r (spot.BodyOpen (f ∷ more)), refl, refl)
+    (join (spell_free f) (after (map spell_free more)) (at_spot r spot.FreeFirst) (at_spot r (spot.FreeEnd (f ∷ []))) (at_spot r (spot.FreeEnd (f ∷ more)))
+    (p.0, p.1, p.2) (path_frees more r (f ∷ [])))
+    (at_spot r (spot.BodyOpen (f ∷ more)), refl, refl)
 
 abbrev no_equations : SourceNet → SourceNet
 no_equations n = record { free = n.free; equations = [] }
@@ -365,15 +365,14 @@ path_net n r = (
     at_spot r spot.FreeFirst,
     refl,
     subst (λ z. Path (at_spot r spot.FreeFirst) z (at_spot r (spot.Done n)))
-      (net_again (separated (map spell_free n.free)) (plain kind.CloseParenthesis ∷ []) (plain kind.OpenBrace ∷ []) (flat_map spell_equation n.equations) (plain kind.CloseBrace ∷ []))
-      (join (separated (map spell_free n.free) ++ plain kind.CloseParenthesis ∷ []) (plain kind.OpenBrace ∷ (flat_map spell_equation n.equations ++ plain kind.CloseBrace ∷ []))
+        (net_again (separated (map spell_free n.free)) (plain kind.CloseParenthesis ∷ []) (plain kind.OpenBrace ∷ []) (flat_map spell_equation n.equations) (plain kind.CloseBrace ∷ []))
+        (join (separated (map spell_free n.free) ++ plain kind.CloseParenthesis ∷ []) (plain kind.OpenBrace ∷ (flat_map spell_equation n.equations ++ plain kind.CloseBrace ∷ []))
         (at_spot r spot.FreeFirst) (at_spot r (spot.BodyOpen n.free)) (at_spot r (spot.Done n))
-        (path_all_frees n.free r)
-        (
+        (path_all_frees n.free r) (
           at_spot r (spot.Equation (no_equations n)),
           refl,
           join (flat_map spell_equation n.equations) (plain kind.CloseBrace ∷ []) (at_spot r (spot.Equation (no_equations n))) (at_spot r (spot.Equation n)) (at_spot r (spot.Done n))
-            (path_equations n.equations r (no_equations n)) (at_spot r (spot.Done n), refl, refl),
+              (path_equations n.equations r (no_equations n)) (at_spot r (spot.Done n), refl, refl),
         )),
   ),
 )

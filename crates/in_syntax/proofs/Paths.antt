@@ -80,12 +80,13 @@ one_more : (r next : Reader) (x : Sign) (s : List Sign) (a : Answer) → turn r 
 one_more r next x s (reads source) e t = (t.0, (next, e, t.1), t.2)
 one_more r next x s (refused c rest) e t = (x ∷ t.0, ap (λ z. x ∷ z) t.1, t.2, (next, e, t.3), t.4)
 
-abbrev along : Reader → Sign → List Sign → Move → Answer
+abbrev pub along : Reader → Sign → List Sign → Move → Answer
 along r x s m = elim m as (λ m. Answer) [
-    move.Goes p ↦ run (at_spot r p) s
+  | move.Goes p ↦ run (at_spot r p) s
   | move.Types names ↦ run (with_types r names) s
   | move.Symbol y ↦ run (with_symbol r y) s
-  | move.Refuses c ↦ refused c (x ∷ s) ]
+  | move.Refuses c ↦ refused c (x ∷ s)
+]
 
 trace_step : (r : Reader) (x : Sign) (s : List Sign) → ((next : Reader) → IsTrace next s (run next s)) → (m : Step) → step r.spot x ≡ m → IsTrace r (x ∷ s) (along r x s (move_of m))
 trace_step r x s ih (goes false p) e = one_more r (at_spot r p) x s (run (at_spot r p) s) (ap (turn_of r) e) (ih (at_spot r p))

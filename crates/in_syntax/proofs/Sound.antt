@@ -178,14 +178,14 @@ keeps_after_port (Principal n) p full = ((tt, refl), append-nil _)
 keeps_after_port (Auxiliary s c number) p full = (
   (full.0, nonempty_snoc c p, omega (arith, length-append c (p ∷ []))),
   ap (λ z. symbol_front s ++ plain kind.OpenBrace ∷ z)
-    (ap separated (ports_snoc (ports_after 1 s.classes) c p) ∙ separated_snoc (spell_ports (ports_after 1 s.classes) c) (spell_port (nat_lt max_ports (next_port s c)) p))
-  ∙ simp append_assoc,
+      (ap separated (ports_snoc (ports_after 1 s.classes) c p) ∙ separated_snoc (spell_ports (ports_after 1 s.classes) c) (spell_port (nat_lt max_ports (next_port s c)) p))
+      ∙ simp append_assoc,
 )
 keeps_after_port (Free fs n) p full = (
   nonempty_snoc fs (record { name = n; port = p }),
   ap (λ z. plain kind.Net ∷ plain kind.OpenParenthesis ∷ z)
-    (ap separated (map_snoc spell_free fs (record { name = n; port = p })) ∙ separated_snoc (map spell_free fs) (spell_free (record { name = n; port = p })))
-  ∙ simp append_assoc,
+      (ap separated (map_snoc spell_free fs (record { name = n; port = p })) ∙ separated_snoc (map spell_free fs) (spell_free (record { name = n; port = p })))
+      ∙ simp append_assoc,
 )
 
 keeps_port_sign : (o : PortOf) (k : Name) (x : Sign) → IsFullSign o → Keeps (spot.PortSign o k) x (at_port_sign o k x)
@@ -206,12 +206,12 @@ keeps_class_end : (s : SourceSymbol) (c : List SourcePort) (number : ℕ) (x : S
 keeps_class_end s c number (Plain kind.Comma) full = (
   (full.0, full.2),
   ap (λ z. symbol_front s ++ plain kind.OpenBrace ∷ z) (before_is (spell_ports (ports_after 1 s.classes) c) (nonempty_ports (ports_after 1 s.classes) c full.1))
-  ∙ simp append_assoc,
+      ∙ simp append_assoc,
 )
 keeps_class_end s c number (Plain kind.CloseBrace) full = (
   (each_append IsNonempty s.classes (c ∷ []) full.0 (full.1, tt), full.2 ∙ sym (ports_after_snoc 1 s.classes c)),
   ap (λ z. plain kind.Symbol ∷ named s.name ∷ plain kind.Colon ∷ spell_port false s.port ++ z) (classes_snoc 1 s.classes c)
-  ∙ simp append_assoc,
+      ∙ simp append_assoc,
 )
 keeps_class_end s c number _ full = tt
 
@@ -276,14 +276,14 @@ opened_more : (depth : ℕ) (f t : Term) → opened depth (with_argument f t) �
 opened_more depth f t =
     opened_roll depth (record { name = (out-Term f).name; args = (out-Term f).args ++ t ∷ [] })
     ∙ ap (λ z. marked (nat_lt max_depth depth) (Named (out-Term f).name) ∷ plain kind.OpenParenthesis ∷ z)
-      (ap before (arguments_snoc (depth + 1) (out-Term f).args t) ∙ before_snoc (arguments_at (depth + 1) (out-Term f).args) (spell_term t (depth + 1)))
+    (ap before (arguments_snoc (depth + 1) (out-Term f).args t) ∙ before_snoc (arguments_at (depth + 1) (out-Term f).args) (spell_term t (depth + 1)))
 
 closed_one : (depth : ℕ) (f t : Term) → spell_term (with_argument f t) depth ≡ opened depth f ++ (spell_term t (depth + 1) ++ plain kind.CloseParenthesis ∷ [])
 closed_one depth f t =
     spell_roll depth (record { name = (out-Term f).name; args = (out-Term f).args ++ t ∷ [] })
     ∙ ap (λ z. marked (nat_lt max_depth depth) (Named (out-Term f).name) ∷ z)
-      (ap spell_arguments (arguments_snoc (depth + 1) (out-Term f).args t) ∙ closed_snoc (arguments_at (depth + 1) (out-Term f).args) (spell_term t (depth + 1))
-        ∙ ap (λ z. plain kind.OpenParenthesis ∷ z) (append_assoc (before (arguments_at (depth + 1) (out-Term f).args)) (spell_term t (depth + 1)) (plain kind.CloseParenthesis ∷ [])))
+    (ap spell_arguments (arguments_snoc (depth + 1) (out-Term f).args t) ∙ closed_snoc (arguments_at (depth + 1) (out-Term f).args) (spell_term t (depth + 1))
+    ∙ ap (λ z. plain kind.OpenParenthesis ∷ z) (append_assoc (before (arguments_at (depth + 1) (out-Term f).args)) (spell_term t (depth + 1)) (plain kind.CloseParenthesis ∷ [])))
 
 opened_bare : (depth : ℕ) (n : Name) → opened depth (bare n) ≡ marked (nat_lt max_depth depth) (Named n) ∷ plain kind.OpenParenthesis ∷ []
 opened_bare depth n = opened_roll depth (record { name = n; args = [] })
@@ -313,14 +313,14 @@ keeps_after_argument : (n : SourceNet) (side : Side) (around : List Term) (outer
 keeps_after_argument n side around outer t (Plain kind.Comma) = (
   tt,
   ap (λ z. (net_front n ++ side_front side) ++ (stacked around ++ z)) (opened_more (length around + 1) outer t)
-  ∙ ap (λ d. (net_front n ++ side_front side) ++ (stacked around ++ (opened (length around + 1) outer ++ (spell_term t d ++ comma ∷ [])))) (one_deeper outer around)
-  ∙ regroup_more (net_front n ++ side_front side) (stacked around) (opened (length around + 1) outer) (spell_term t (length (outer ∷ around) + 1)) (comma ∷ []),
+      ∙ ap (λ d. (net_front n ++ side_front side) ++ (stacked around ++ (opened (length around + 1) outer ++ (spell_term t d ++ comma ∷ [])))) (one_deeper outer around)
+      ∙ regroup_more (net_front n ++ side_front side) (stacked around) (opened (length around + 1) outer) (spell_term t (length (outer ∷ around) + 1)) (comma ∷ []),
 )
 keeps_after_argument n side around outer t (Plain kind.CloseParenthesis) = (
   tt,
   ap (λ z. ((net_front n ++ side_front side) ++ stacked around) ++ z) (closed_one (length around + 1) outer t)
-  ∙ ap (λ d. ((net_front n ++ side_front side) ++ stacked around) ++ (opened (length around + 1) outer ++ (spell_term t d ++ plain kind.CloseParenthesis ∷ []))) (one_deeper outer around)
-  ∙ regroup_closed (net_front n ++ side_front side) (stacked around) (opened (length around + 1) outer) (spell_term t (length (outer ∷ around) + 1)) (plain kind.CloseParenthesis ∷ []),
+      ∙ ap (λ d. ((net_front n ++ side_front side) ++ stacked around) ++ (opened (length around + 1) outer ++ (spell_term t d ++ plain kind.CloseParenthesis ∷ []))) (one_deeper outer around)
+      ∙ regroup_closed (net_front n ++ side_front side) (stacked around) (opened (length around + 1) outer) (spell_term t (length (outer ∷ around) + 1)) (plain kind.CloseParenthesis ∷ []),
 )
 keeps_after_argument n side around outer t _ = tt
 
@@ -331,15 +331,15 @@ keeps_after_side : (n : SourceNet) (side : Side) (t : Term) (x : Sign) → Keeps
 keeps_after_side n Left t (Tilde p) = (
   tt,
   append-nil (net_front n ++ (spell_term t 1 ++ within (Tilde p) ∷ []))
-  ∙ sym (append_assoc (net_front n) (spell_term t 1) (within (Tilde p) ∷ []))
-  ∙ ap (λ z. (z ++ spell_term t 1) ++ within (Tilde p) ∷ []) (sym (no_more (net_front n))),
+      ∙ sym (append_assoc (net_front n) (spell_term t 1) (within (Tilde p) ∷ []))
+      ∙ ap (λ z. (z ++ spell_term t 1) ++ within (Tilde p) ∷ []) (sym (no_more (net_front n))),
 )
 keeps_after_side n (Right l p) t (Plain kind.Semicolon) = (
   tt,
   ap (λ z. frees_front (map spell_free n.free) ++ plain kind.CloseParenthesis ∷ plain kind.OpenBrace ∷ z)
-    (flat_snoc spell_equation n.equations (record { left = l; tilde = p; right = t }))
-  ∙ regroup_equation (frees_front (map spell_free n.free)) (plain kind.CloseParenthesis ∷ plain kind.OpenBrace ∷ []) (flat_map spell_equation n.equations) (spell_term l 1) (within (Tilde p) ∷ []) (spell_term t 1) (plain kind.Semicolon ∷ [])
-  ∙ ap (λ z. (z ++ spell_term t 1) ++ plain kind.Semicolon ∷ []) (sym (append-nil (net_front n ++ (spell_term l 1 ++ within (Tilde p) ∷ [])))),
+      (flat_snoc spell_equation n.equations (record { left = l; tilde = p; right = t }))
+      ∙ regroup_equation (frees_front (map spell_free n.free)) (plain kind.CloseParenthesis ∷ plain kind.OpenBrace ∷ []) (flat_map spell_equation n.equations) (spell_term l 1) (within (Tilde p) ∷ []) (spell_term t 1) (plain kind.Semicolon ∷ [])
+      ∙ ap (λ z. (z ++ spell_term t 1) ++ plain kind.Semicolon ∷ []) (sym (append-nil (net_front n ++ (spell_term l 1 ++ within (Tilde p) ∷ [])))),
 )
 keeps_after_side n Left t _ = tt
 keeps_after_side n (Right l p) t _ = tt
@@ -416,7 +416,7 @@ reads_step r next m x past (goes b q) h k e =
       symbols = h.symbols;
       full = k.0;
       spells = ap (λ z. z ++ marked past x ∷ []) h.spells ∙ append_assoc (flat_map spell_item h.items) (spelled r.spot) (marked past x ∷ [])
-        ∙ ap (λ z. flat_map spell_item h.items ++ z) (ap (λ z. spelled r.spot ++ marked z x ∷ []) (sym same) ∙ sym k.1);
+          ∙ ap (λ z. flat_map spell_item h.items ++ z) (ap (λ z. spelled r.spot ++ marked z x ∷ []) (sym same) ∙ sym k.1);
     })
 reads_step r next m x past (steps.types names) h k e =
     let is : with_types r names ≡ next = cc in
