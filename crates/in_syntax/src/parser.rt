@@ -1,4 +1,4 @@
-ghost use Rattle.in_syntax.specs.Programs.{HasTexts};
+ghost use Rattle.in_syntax.specs.Programs.{HasTexts, IsParsing};
 ghost use Rattle.in_syntax.specs.Steps.{Gives};
 
 use crate::faults::Fault;
@@ -19,7 +19,7 @@ use std::alloc::Global;
 /// project's own choice. Its other error is want of memory.
 pub fn program(alloc: Global, text: &[u8], tokens: &[Token], end: Place) -> Result<Source, Fault>
     requires { HasTexts text.now tokens.now }
-    ensures { Gives text.now tokens.now end result }
+    ensures { IsParsing text.now tokens.now end result }
 {
     program_by_steps(alloc, text, tokens, end)
 }
