@@ -19,7 +19,8 @@ use Rattle.in_syntax.specs.declared.spots.Side.{Side}
 use Rattle.in_syntax.specs.declared.spots.Side.TheVariants.{Left, Right}
 use Rattle.in_syntax.specs.declared.spots.Body.{Body}
 use Rattle.in_syntax.specs.Grammar.{Marked, marked, within, named, plain, max_ports, max_depth}
-use Rattle.in_syntax.specs.Steps.{at_term_open, at_term_end, after_port, step, bare, with_argument, with_class, with_equation, at_spot, with_types, with_symbol}
+use Rattle.in_syntax.specs.Steps.{at_term_open, at_term_end, after_port, step, at_spot, with_types, with_symbol}
+use Rattle.in_syntax.specs.Trees.{bare, with_argument, with_class, with_equation}
 use Rattle.in_syntax.proofs.Paths.{Turn, turns, turn_of, turn, Path}
 use Rattle.in_syntax.proofs.Complete.{IsPast, open_past}
 

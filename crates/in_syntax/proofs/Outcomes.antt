@@ -17,8 +17,8 @@ use Rattle.in_syntax.specs.declared.spots.Spot.{Spot}
 use Rattle.in_syntax.specs.declared.spots.Spot.TheVariants as spot
 use Rattle.in_syntax.specs.Grammar.{Marked, marked, within, Program, spelling, source_of, spell_item, types_in, symbols_in}
 use Rattle.in_syntax.specs.Programs.{signs_of, sign_of, signs, unmarked, IsProgram, Begins, BeginsWithin, BeginsPast, IsFault, Outcome, tree, fault, IsOutcome, IsParsing}
-use Rattle.in_syntax.specs.GrammarLaws.{OneOutcome}
-use Rattle.in_syntax.specs.Steps.{Step, goes, types, symbol, stuck, step, move_of, Answer, reads, refused, net_of, whole, run, start, Gives}
+use Rattle.in_syntax.specs.GrammarLaws.{OneOutcome, OneTree}
+use Rattle.in_syntax.specs.Steps.{Step, goes, adds_types, adds_symbol, stuck, step, move_of, Answer, reads, refused, net_of, whole, run, start, Gives}
 use Rattle.in_syntax.proofs.Paths.{Turn, turns, halts, turn_of, turn, Path, join, split, same, IsFaultAt, IsTrace, along, trace}
 use Rattle.in_syntax.proofs.Sound.{HasRead, has_read, read_nothing, spelled}
 use Rattle.in_syntax.proofs.Complete.{done_with, program_path}
@@ -63,8 +63,8 @@ after_turn x s halts = refused E02 (x ∷ s)
 turned : (r : Reader) (x : Sign) (s : List Sign) (m : Step) (t : Turn) → turn_of r m ≡ t → along r x s (move_of m) ≡ after_turn x s t
 turned r x s (goes false p) t e = ap (after_turn x s) e
 turned r x s (goes true p) t e = ap (after_turn x s) e
-turned r x s (types names) t e = ap (after_turn x s) e
-turned r x s (symbol y) t e = ap (after_turn x s) e
+turned r x s (adds_types names) t e = ap (after_turn x s) e
+turned r x s (adds_symbol y) t e = ap (after_turn x s) e
 turned r x s stuck t e = ap (after_turn x s) e
 
 run_turn : (r : Reader) (x : Sign) (s : List Sign) (t : Turn) → turn r x ≡ t → run r (x ∷ s) ≡ after_turn x s t
@@ -217,6 +217,13 @@ pub one_outcome : OneOutcome
 one_outcome s =
     let o = found s (run start s) refl in
     (o.0, o.1, λ p is. same_outcome s p o.0 is o.1 (sym (decided s p is) ∙ decided s o.0 o.1))
+
+pub one_tree : OneTree
+one_tree p q e =
+    let k = same (spelling p) (spelling q) start (done_with p) (done_with q) (program_path p) (program_path q) e in
+    let trees : reads (source_of p) ≡ reads (source_of q) = ap (λ r. whole r (net_of r.spot)) k.1 in
+    let tree : source_of p ≡ source_of q = cc in
+    (tree, k.0)
 
 -- ---- the function's answer
 

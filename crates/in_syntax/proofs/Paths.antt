@@ -12,7 +12,7 @@ use Rattle.in_syntax.specs.declared.machine.Move.{Move}
 use Rattle.in_syntax.specs.declared.machine.Move.TheVariants as move
 use Rattle.in_syntax.specs.Grammar.{Marked, marked, within}
 use Rattle.in_syntax.specs.Programs.{signs, unmarked}
-use Rattle.in_syntax.specs.Steps.{Step, goes, types, symbol, stuck, step, move_of, Answer, reads, refused, net_of, whole, at_spot, with_types, with_symbol, run}
+use Rattle.in_syntax.specs.Steps.{Step, goes, adds_types, adds_symbol, stuck, step, move_of, Answer, reads, refused, net_of, whole, at_spot, with_types, with_symbol, run}
 
 pub data Turn : Type 0 where
   turns : Bool → Reader → Turn
@@ -20,8 +20,8 @@ pub data Turn : Type 0 where
 
 abbrev pub turn_of : Reader → Step → Turn
 turn_of r (goes past p) = turns past (at_spot r p)
-turn_of r (types names) = turns false (with_types r names)
-turn_of r (symbol s) = turns false (with_symbol r s)
+turn_of r (adds_types names) = turns false (with_types r names)
+turn_of r (adds_symbol s) = turns false (with_symbol r s)
 turn_of r stuck = halts
 
 abbrev pub turn : Reader → Sign → Turn
@@ -91,8 +91,8 @@ along r x s m = elim m as (λ m. Answer) [
 trace_step : (r : Reader) (x : Sign) (s : List Sign) → ((next : Reader) → IsTrace next s (run next s)) → (m : Step) → step r.spot x ≡ m → IsTrace r (x ∷ s) (along r x s (move_of m))
 trace_step r x s ih (goes false p) e = one_more r (at_spot r p) x s (run (at_spot r p) s) (ap (turn_of r) e) (ih (at_spot r p))
 trace_step r x s ih (goes true p) e = ([], refl, r, refl, (at_spot r p, ap (turn_of r) e))
-trace_step r x s ih (types names) e = one_more r (with_types r names) x s (run (with_types r names) s) (ap (turn_of r) e) (ih (with_types r names))
-trace_step r x s ih (symbol y) e = one_more r (with_symbol r y) x s (run (with_symbol r y) s) (ap (turn_of r) e) (ih (with_symbol r y))
+trace_step r x s ih (adds_types names) e = one_more r (with_types r names) x s (run (with_types r names) s) (ap (turn_of r) e) (ih (with_types r names))
+trace_step r x s ih (adds_symbol y) e = one_more r (with_symbol r y) x s (run (with_symbol r y) s) (ap (turn_of r) e) (ih (with_symbol r y))
 trace_step r x s ih stuck e = ([], refl, r, refl, ap (turn_of r) e)
 
 pub trace : (s : List Sign) (r : Reader) → IsTrace r s (run r s)

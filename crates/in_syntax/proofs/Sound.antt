@@ -23,8 +23,8 @@ use Rattle.in_syntax.specs.declared.spots.Side.{Side}
 use Rattle.in_syntax.specs.declared.spots.Side.TheVariants.{Left, Right}
 use Rattle.in_syntax.specs.declared.spots.Body.{Body}
 use Rattle.in_syntax.specs.Grammar.{Marked, marked, within, named, plain, separated, spell_port, spell_ports, spell_class, spell_classes, spell_symbol, spell_types, spell_arguments, spell_level, spell_term, spell_equation, spell_free, spell_net, max_ports, max_depth, IsNonempty, Each, Item, types, symbol, spell_item, IsItem, types_in, symbols_in}
-use Rattle.in_syntax.specs.Steps.{Step, goes, stuck, at_item, at_type_name, at_type_end, at_symbol_name, at_symbol_colon, at_port_kind, after_port, at_port_sign, at_symbol_end, at_class_end, at_net_open, at_free_first, at_free_name, at_free_colon, at_free_end, at_body_open, at_equation, at_term_name, after_argument, after_side, after_term, at_term_end, at_term_open, step, bare, with_argument, with_class, with_equation, at_spot, with_types, with_symbol, start}
-use Rattle.in_syntax.specs.Steps as steps
+use Rattle.in_syntax.specs.Steps.{Step, goes, adds_types, adds_symbol, stuck, at_item, at_type_name, at_type_end, at_symbol_name, at_symbol_colon, at_port_kind, after_port, at_port_sign, at_symbol_end, at_class_end, at_net_open, at_free_first, at_free_name, at_free_colon, at_free_end, at_body_open, at_equation, at_term_name, after_argument, after_side, after_term, at_term_end, at_term_open, step, at_spot, with_types, with_symbol, start}
+use Rattle.in_syntax.specs.Trees.{bare, with_argument, with_class, with_equation}
 use Rattle.in_syntax.proofs.Separated.{comma, before, separated_snoc, before_is, nonempty_snoc, nonempty_map, each_append, map_snoc, flat_snoc, ports_snoc, nonempty_ports, ports_after, ports_after_snoc, classes_snoc}
 use Rattle.in_syntax.proofs.Paths.{Turn, turns, halts, turn_of, turn, Path}
 
@@ -126,8 +126,8 @@ IsFull _ = Unit {0}
 -- what a step from a spot has to keep
 abbrev pub KeepsAll : List Marked → Sign → Step → Type 0
 KeepsAll l x (goes past q) = IsFull q × (spelled q ≡ l ++ marked past x ∷ [])
-KeepsAll l x (steps.types names) = IsNonempty names × (spell_types names ≡ l ++ within x ∷ [])
-KeepsAll l x (steps.symbol s) = Each IsNonempty s.classes × (spell_symbol s ≡ l ++ within x ∷ [])
+KeepsAll l x (adds_types names) = IsNonempty names × (spell_types names ≡ l ++ within x ∷ [])
+KeepsAll l x (adds_symbol s) = Each IsNonempty s.classes × (spell_symbol s ≡ l ++ within x ∷ [])
 KeepsAll l x stuck = Unit {0}
 
 abbrev pub Keeps : Spot → Sign → Step → Type 0
@@ -418,7 +418,7 @@ reads_step r next m x past (goes b q) h k e =
       spells = ap (λ z. z ++ marked past x ∷ []) h.spells ∙ append_assoc (flat_map spell_item h.items) (spelled r.spot) (marked past x ∷ [])
           ∙ ap (λ z. flat_map spell_item h.items ++ z) (ap (λ z. spelled r.spot ++ marked z x ∷ []) (sym same) ∙ sym k.1);
     })
-reads_step r next m x past (steps.types names) h k e =
+reads_step r next m x past (adds_types names) h k e =
     let is : with_types r names ≡ next = cc in
     let same : false ≡ past = cc in
     subst (λ z. HasRead z (m ++ marked past x ∷ [])) is (subst (λ z. HasRead (with_types r names) (m ++ marked z x ∷ [])) same (record {
@@ -429,7 +429,7 @@ reads_step r next m x past (steps.types names) h k e =
       full = tt;
       spells = with_item m h.items (types names) (spelled r.spot) (within x) h.spells k.1;
     }))
-reads_step r next m x past (steps.symbol s) h k e =
+reads_step r next m x past (adds_symbol s) h k e =
     let is : with_symbol r s ≡ next = cc in
     let same : false ≡ past = cc in
     subst (λ z. HasRead z (m ++ marked past x ∷ [])) is (subst (λ z. HasRead (with_symbol r s) (m ++ marked z x ∷ [])) same (record {

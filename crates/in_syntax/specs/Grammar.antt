@@ -29,15 +29,19 @@ pub record Marked : Type 0 where
   pub sign : Sign
   pub past : Bool
 
+-- a sign with its mark
 abbrev pub marked : Bool → Sign → Marked
 marked past s = record { sign = s; past = past }
 
+-- a sign that passes no limit
 abbrev pub within : Sign → Marked
 within = marked false
 
+-- a name that passes no limit
 abbrev pub named : Name → Marked
 named n = within (Named n)
 
+-- a word or sign that is known by its kind
 abbrev pub plain : TokenKind → Marked
 plain k = within (Plain k)
 
@@ -101,18 +105,22 @@ spell_net n =
     ++ plain kind.CloseParenthesis ∷ plain kind.OpenBrace ∷ flat_map spell_equation n.equations
     ++ plain kind.CloseBrace ∷ []
 
+-- what stands before the net, in any order
 pub data Item : Type 0 where
   types : List Name → Item
   symbol : SourceSymbol → Item
 
+-- item = "type" .. | "symbol" ..
 abbrev pub spell_item : Item → List Marked
 spell_item (types names) = spell_types names
 spell_item (symbol s) = spell_symbol s
 
+-- there is an element at least
 abbrev pub IsNonempty : {A : Type 0} → List A → Type 0
 IsNonempty [] = ⊥
 IsNonempty (x ∷ xs) = Unit {0}
 
+-- each element is so
 abbrev pub Each : {A : Type 0} → (A → Type 0) → List A → Type 0
 Each P [] = Unit {0}
 Each P (x ∷ xs) = P x × Each P xs
@@ -128,13 +136,16 @@ pub record Program : Type 0 where
   pub each : Each IsItem items
   pub net : SourceNet
 
+-- its signs in the order of the text
 abbrev pub spelling : Program → List Marked
 spelling p = flat_map spell_item p.items ++ spell_net p.net
 
+-- the types that an item declares
 abbrev pub types_in : Item → List Name
 types_in (types names) = names
 types_in (symbol s) = []
 
+-- the symbol that an item declares
 abbrev pub symbols_in : Item → List SourceSymbol
 symbols_in (types names) = []
 symbols_in (symbol s) = s ∷ []

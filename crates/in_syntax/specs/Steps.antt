@@ -1,4 +1,4 @@
--- How a program is read from the left, one sign at a time.
+-- How a program is read from the left, one sign at a time: what the code does. No public contract speaks of it.
 use Rattle.std.specs.Prelude.{◌≡◌, ℕ, ◌+◌, ◌≤◌, Bool, true, false, nat_lt, List, [], ◌∷◌, ◌++◌, length, drop, Option, Some, None, Result, Ok, Err}
 use Rattle.in_syntax.specs.declared.places.Place.{Place}
 use Rattle.in_syntax.specs.declared.faults.Code.{Code}
@@ -17,7 +17,7 @@ use Rattle.in_syntax.specs.declared.tree.SourceFree.{SourceFree}
 use Rattle.in_syntax.specs.declared.tree.SourceNet.{SourceNet}
 use Rattle.in_syntax.specs.declared.tree.Source.{Source}
 use Rattle.in_syntax.specs.declared.tree.Equation.{Equation}
-use Rattle.in_syntax.specs.declared.tree.Term.{Term, out-Term, roll-Term}
+use Rattle.in_syntax.specs.declared.tree.Term.{Term}
 use Rattle.in_syntax.specs.declared.spots.Spot.{Spot}
 use Rattle.in_syntax.specs.declared.spots.Spot.TheVariants as spot
 use Rattle.in_syntax.specs.declared.spots.PortOf.{PortOf}
@@ -29,30 +29,22 @@ use Rattle.in_syntax.specs.declared.machine.Move.{Move}
 use Rattle.in_syntax.specs.declared.machine.Move.TheVariants as move
 use Rattle.in_syntax.specs.declared.reader.Reader.{Reader}
 use Rattle.in_syntax.specs.Grammar.{max_ports, max_depth}
+use Rattle.in_syntax.specs.Trees.{bare, with_argument, with_class, with_equation}
 use Rattle.in_syntax.specs.Programs.{signs_of, place_at}
 
 -- what a sign leads to, by the grammar alone
 pub data Step : Type 0 where
   -- to another spot; and whether the sign passes a limit
   goes : Bool → Spot → Step
-  types : List Name → Step
-  symbol : SourceSymbol → Step
+  -- past a whole item
+  adds_types : List Name → Step
+  adds_symbol : SourceSymbol → Step
+  -- nowhere: no program goes on so
   stuck : Step
 
+-- on to another spot, within the limits
 abbrev pub on : Spot → Step
 on = goes false
-
-abbrev pub bare : Name → Term
-bare n = roll-Term (record { name = n; args = [] })
-
-abbrev pub with_argument : Term → Term → Term
-with_argument t a = roll-Term (record { name = (out-Term t).name; args = (out-Term t).args ++ a ∷ [] })
-
-abbrev pub with_class : SourceSymbol → List SourcePort → SourceSymbol
-with_class s c = record { name = s.name; port = s.port; classes = s.classes ++ c ∷ [] }
-
-abbrev pub with_equation : SourceNet → Equation → SourceNet
-with_equation n e = record { free = n.free; equations = n.equations ++ e ∷ [] }
 
 abbrev pub at_item : Sign → Step
 at_item (Plain kind.Type) = on (spot.TypeName [])
@@ -66,7 +58,7 @@ at_type_name names _ = stuck
 
 abbrev pub at_type_end : List Name → Sign → Step
 at_type_end names (Plain kind.Comma) = on (spot.TypeName names)
-at_type_end names (Plain kind.Semicolon) = types names
+at_type_end names (Plain kind.Semicolon) = adds_types names
 at_type_end names _ = stuck
 
 abbrev pub at_symbol_name : Sign → Step
@@ -98,7 +90,7 @@ at_port_sign o k _ = stuck
 
 abbrev pub at_symbol_end : SourceSymbol → ℕ → Sign → Step
 at_symbol_end s number (Plain kind.OpenBrace) = on (spot.PortKind (Auxiliary s [] number))
-at_symbol_end s number (Plain kind.Semicolon) = symbol s
+at_symbol_end s number (Plain kind.Semicolon) = adds_symbol s
 at_symbol_end s number _ = stuck
 
 abbrev pub at_class_end : SourceSymbol → List SourcePort → ℕ → Sign → Step
@@ -191,8 +183,8 @@ step (spot.Done n) x = stuck
 abbrev pub move_of : Step → Move
 move_of (goes false s) = move.Goes s
 move_of (goes true s) = move.Refuses E03
-move_of (types names) = move.Types names
-move_of (symbol s) = move.Symbol s
+move_of (adds_types names) = move.Types names
+move_of (adds_symbol s) = move.Symbol s
 move_of stuck = move.Refuses E02
 
 abbrev pub start : Reader

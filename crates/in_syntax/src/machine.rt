@@ -22,15 +22,17 @@ pub const MAX_DEPTH: usize = 200;
 /// What a token leads to.
 #[derive(Drop)]
 pub enum Move {
+    /// The next token stands there.
     Goes(Spot),
     /// A `type` item is whole.
     Types(Names),
     /// A `symbol` item is whole.
     Symbol(SourceSymbol),
+    /// The token is the fault.
     Refuses(Code),
 }
 
-/// The move for a token.
+/// What this sign leads to from this spot. Its only error is want of memory.
 pub fn step(alloc: Global, spot: Spot, sign: Sign) -> Result<Move, AllocError>
     ensures { IfOk result (λ m. m ≡ move_of (steps.step spot sign)) }
 {
@@ -131,22 +133,12 @@ fn at_port_kind(port_of: PortOf, sign: Sign) -> Move
 fn at_port_sign(alloc: Global, port_of: PortOf, kind: Name, sign: Sign) -> Result<Move, AllocError>
     ensures { IfOk result (λ m. m ≡ move_of (steps.at_port_sign port_of kind sign)) }
 {
-    match sign {
-        Sign::Plain(TokenKind::Plus) => after_port(
-            alloc,
-            port_of,
-            SourcePort { kind, output: true },
-        ),
-        Sign::Plain(TokenKind::Minus) => after_port(
-            alloc,
-            port_of,
-            SourcePort {
-                kind,
-                output: false,
-            },
-        ),
-        _ => Ok(Move::Refuses(Code::E02)),
-    }
+    let output = match sign {
+        Sign::Plain(TokenKind::Plus) => true,
+        Sign::Plain(TokenKind::Minus) => false,
+        _ => return Ok(Move::Refuses(Code::E02)),
+    };
+    after_port(alloc, port_of, SourcePort { kind, output })
 }
 
 fn after_port(alloc: Global, port_of: PortOf, port: SourcePort) -> Result<Move, AllocError>

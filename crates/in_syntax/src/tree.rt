@@ -1,5 +1,5 @@
 ghost use Rattle.std.specs.Prelude.{◌≡◌, IfOk};
-ghost use Rattle.in_syntax.specs.Steps.{bare, with_argument, with_class, with_equation};
+ghost use Rattle.in_syntax.specs.Trees.{bare, with_argument, with_class, with_equation};
 
 use crate::places::Place;
 use crate::text::Text;
