@@ -1,4 +1,5 @@
 //! Laws of the definitions that contracts cite, each the contract of a function that does nothing.
+ghost use Rattle.in_syntax.specs.GrammarLaws.{OneOutcome, OneTree};
 ghost use Rattle.in_syntax.specs.Laws.{TokensAreUnique, TokenFaultsAreUnique, TextsHaveTokensOrFault, NoTextHasBoth, TokensStandInTheirText, TokensStandInOrder};
 
 /// A text has at most one list of tokens.
@@ -29,4 +30,14 @@ pub fn tokens_stand_in_their_text()
 /// The tokens of a text stand in it one after another.
 pub fn tokens_stand_in_order()
     ensures { TokensStandInOrder }
+{}
+
+/// A list of signs is one program within the limits, with one tree, or it has one first fault; never both.
+pub fn one_outcome()
+    ensures { OneOutcome }
+{}
+
+/// Two programs that are spelled alike are one tree, and pass the limits at the same tokens.
+pub fn one_tree()
+    ensures { OneTree }
 {}

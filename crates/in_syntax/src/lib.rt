@@ -5,8 +5,17 @@ mod characters;
 mod faults;
 pub mod laws;
 mod lexer;
+mod machine;
 mod memory;
+mod parser;
+mod parsing;
+#[cfg(test)]
+mod parser_tests;
 mod places;
+mod reader;
+mod signs;
+mod spots;
+mod stack;
 mod streams;
 mod text;
 mod tree;
@@ -14,7 +23,10 @@ mod words;
 
 pub use faults::{Code, Fault, Refusal};
 pub use lexer::{MAX_NAME_CHARACTERS, MAX_TEXT_BYTES, tokens};
+pub use machine::{MAX_DEPTH, MAX_PORTS};
 pub use memory::{MemoryIn, MemoryOut};
+pub use parser::program;
+pub use parsing::parse;
 pub use places::Place;
 pub use streams::{TextIn, TextOut};
 pub use text::Text;

@@ -1,6 +1,10 @@
+ghost use Rattle.std.specs.Prelude.{◌≡◌, IfOk};
+ghost use Rattle.in_syntax.specs.Trees.{bare, with_argument, with_class, with_equation};
+
 use crate::places::Place;
 use crate::text::Text;
 use sqlite_items::Items;
+use std::alloc::{AllocError, Global};
 
 pub type Names = Items<Name>;
 
@@ -46,11 +50,51 @@ pub struct SourceSymbol {
     pub classes: SourceClasses,
 }
 
+impl SourceSymbol {
+    /// The symbol with one more class, at the end. Its only error is want of memory.
+    pub fn with_class(self, class: SourceClass) -> Result<SourceSymbol, AllocError>
+        ensures { IfOk result (λ t. t ≡ with_class self class) }
+    {
+        let SourceSymbol {
+            name,
+            port,
+            mut classes,
+        } = self;
+        classes.push(class)?;
+        Ok(SourceSymbol {
+            name,
+            port,
+            classes,
+        })
+    }
+}
+
 /// An agent with its arguments, or a bare name, which has none: an agent, a variable or a free name.
 #[derive(Drop)]
 pub struct Term {
     pub name: Name,
     pub args: Terms,
+}
+
+impl Term {
+    /// A bare name.
+    pub fn bare(alloc: Global, name: Name) -> Term
+        ensures { result ≡ bare name }
+    {
+        Term {
+            name,
+            args: Terms::new(alloc),
+        }
+    }
+
+    /// The term with one more argument, at the end. Its only error is want of memory.
+    pub fn with_argument(self, argument: Term) -> Result<Term, AllocError>
+        ensures { IfOk result (λ t. t ≡ with_argument self argument) }
+    {
+        let Term { name, mut args } = self;
+        args.push(argument)?;
+        Ok(Term { name, args })
+    }
 }
 
 /// Two terms that are joined, and where the `~` between them stands.
@@ -73,4 +117,18 @@ pub struct SourceFree {
 pub struct SourceNet {
     pub free: SourceFrees,
     pub equations: Equations,
+}
+
+impl SourceNet {
+    /// The net with one more equation, at the end. Its only error is want of memory.
+    pub fn with_equation(self, equation: Equation) -> Result<SourceNet, AllocError>
+        ensures { IfOk result (λ t. t ≡ with_equation self equation) }
+    {
+        let SourceNet {
+            free,
+            mut equations,
+        } = self;
+        equations.push(equation)?;
+        Ok(SourceNet { free, equations })
+    }
 }

@@ -1,0 +1,33 @@
+-- What reading the tokens of a text and then their grammar gives.
+use Rattle.std.proofs.Common.{◌≡◌, ◌⊎◌, ℕ, ◌≤◌, ◌<◌, List, [], ◌∷◌, drop, Result, Ok, Err, inl, inr, arith, subst, sym}
+use Rattle.std.specs.List.{AllByRecursion}
+use Rattle.in_syntax.specs.declared.faults.Fault.{Fault}
+use Rattle.in_syntax.specs.declared.faults.Fault.TheVariants.{Refused, Memory}
+use Rattle.in_syntax.specs.declared.tree.Source.{Source}
+use Rattle.in_syntax.specs.declared.words.Token.{Token}
+use Rattle.in_syntax.specs.declared.words.TokenKind.{TokenKind}
+use Rattle.in_syntax.specs.declared.words.TokenKind.TheVariants as kind
+use Rattle.in_syntax.specs.declared.places.Place.{Place}
+use Rattle.in_syntax.specs.Places.{end_place}
+use Rattle.in_syntax.specs.Tokens.{IsTokensOf, StandsIn}
+use Rattle.in_syntax.specs.Programs.{IsTextAt, HasText, HasTexts, IsParsing, place_at}
+use Rattle.in_syntax.specs.Parsing.{Parses}
+
+has_text : (text : List ℕ) (t : Token) (k : TokenKind) → StandsIn text t → HasText text k t.place
+has_text text t k h = go k
+  where
+    here : IsTextAt text t.place
+    here = let some = h.some in record { order = omega (arith, some); within = h.within; utf8 = h.utf8 }
+    go : (k : TokenKind) → HasText text k t.place
+    go kind.Name = here
+    go _ = tt
+
+pub has_texts : (text : List ℕ) (ts : List Token) → AllByRecursion (StandsIn text) ts → HasTexts text ts
+has_texts text [] all = tt
+has_texts text (t ∷ ts) all = (has_text text t t.kind all.0, has_texts text ts all.1)
+
+pub parsed : (text : List ℕ) (ts : List Token) (end : Place) (r : Result Source Fault) → IsTokensOf text ts → end ≡ end_place text → IsParsing text ts end r → Parses text r
+parsed text ts end (Ok source) read last p = record { tokens = ts; read = read; tree = p }
+parsed text ts end (Err (Refused r)) read last p =
+    inr (record { tokens = ts; read = read; at = p.0; first = p.1; place = subst (λ e. r.place ≡ place_at (drop p.0 ts) e) last p.2; other = p.3 })
+parsed text ts end (Err (Memory e)) read last p = tt

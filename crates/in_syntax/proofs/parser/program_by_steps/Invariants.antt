@@ -1,0 +1,10 @@
+use Rattle.std.proofs.Common.{◌≡◌, drop}
+use Rattle.in_syntax.specs.Programs.{HasTexts, signs_of}
+use Rattle.in_syntax.specs.Steps.{run, start}
+use Rattle.in_syntax.proofs.parser.program_by_steps.Given as goal
+
+abbrev pub invariant-loop-token : goal.invariant-loop-token
+invariant-loop-token l = record {
+  texts : HasTexts l.text (drop l.token-index l.tokens);
+  answer : run l.reader (signs_of l.text (drop l.token-index l.tokens)) ≡ run start (signs_of l.text l.tokens);
+}

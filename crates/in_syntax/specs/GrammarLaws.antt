@@ -1,0 +1,13 @@
+-- What is proved of the grammar over the definitions alone.
+use Rattle.std.specs.Prelude.{◌≡◌, List}
+use Rattle.in_syntax.specs.declared.signs.Sign.{Sign}
+use Rattle.in_syntax.specs.Grammar.{Program, spelling, source_of}
+use Rattle.in_syntax.specs.Programs.{signs, Outcome, IsOutcome}
+
+-- every list of signs has exactly one outcome: one tree, or one first fault
+abbrev pub OneOutcome : Type 0
+OneOutcome = (s : List Sign) → (o : Outcome) × IsOutcome s o × ((p : Outcome) → IsOutcome s p → p ≡ o)
+
+-- two programs with the same signs have one tree, and pass the limits at the same signs
+abbrev pub OneTree : Type 0
+OneTree = (p q : Program) → signs (spelling p) ≡ signs (spelling q) → (source_of p ≡ source_of q) × (spelling p ≡ spelling q)

@@ -1,0 +1,35 @@
+-- What parsing a text answers.
+use Rattle.std.specs.Prelude.{◌≡◌, ◌⊎◌, ℕ, List, drop, None, Result, Ok, Err}
+use Rattle.in_syntax.specs.declared.faults.Refusal.{Refusal}
+use Rattle.in_syntax.specs.declared.faults.Fault.{Fault}
+use Rattle.in_syntax.specs.declared.faults.Fault.TheVariants.{Refused, Memory}
+use Rattle.in_syntax.specs.declared.tree.Source.{Source}
+use Rattle.in_syntax.specs.declared.words.Token.{Token}
+use Rattle.in_syntax.specs.Places.{end_place}
+use Rattle.in_syntax.specs.Tokens.{IsTokensOf, IsTokenFault}
+use Rattle.in_syntax.specs.Programs.{signs_of, IsTree, IsOutcome, fault, place_at}
+
+-- the text has tokens, and the grammar relates them to this tree
+pub record IsTreeOf (text : List ℕ) (source : Source) : Type 0 where
+  pub tokens : List Token
+  pub read : IsTokensOf text tokens
+  pub tree : IsTree (signs_of text tokens) source
+
+-- the text has tokens, and this is the first fault of the grammar in them
+pub record IsGrammarFault (text : List ℕ) (r : Refusal) : Type 0 where
+  pub tokens : List Token
+  pub read : IsTokensOf text tokens
+  pub at : ℕ
+  pub first : IsOutcome (signs_of text tokens) (fault r.code at)
+  pub place : r.place ≡ place_at (drop at tokens) (end_place text)
+  pub other : r.other ≡ None
+
+-- the first fault of a text: that of the tokens, or, where they have none, that of the grammar
+abbrev pub IsTextFault : List ℕ → Refusal → Type 0
+IsTextFault text r = IsTokenFault text r ⊎ IsGrammarFault text r
+
+-- Ok with the tree, else the first fault
+abbrev pub Parses : List ℕ → Result Source Fault → Type 0
+Parses text (Ok source) = IsTreeOf text source
+Parses text (Err (Refused r)) = IsTextFault text r
+Parses text (Err (Memory e)) = Unit {0}

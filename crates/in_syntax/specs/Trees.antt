@@ -1,0 +1,24 @@
+-- Trees that grow at their end.
+use Rattle.std.specs.Prelude.{List, [], ◌∷◌, ◌++◌}
+use Rattle.in_syntax.specs.declared.tree.Name.{Name}
+use Rattle.in_syntax.specs.declared.tree.SourcePort.{SourcePort}
+use Rattle.in_syntax.specs.declared.tree.SourceSymbol.{SourceSymbol}
+use Rattle.in_syntax.specs.declared.tree.SourceNet.{SourceNet}
+use Rattle.in_syntax.specs.declared.tree.Equation.{Equation}
+use Rattle.in_syntax.specs.declared.tree.Term.{Term, out-Term, roll-Term}
+
+-- a bare name
+abbrev pub bare : Name → Term
+bare n = roll-Term (record { name = n; args = [] })
+
+-- one more argument
+abbrev pub with_argument : Term → Term → Term
+with_argument t a = roll-Term (record { name = (out-Term t).name; args = (out-Term t).args ++ a ∷ [] })
+
+-- one more class
+abbrev pub with_class : SourceSymbol → List SourcePort → SourceSymbol
+with_class s c = record { name = s.name; port = s.port; classes = s.classes ++ c ∷ [] }
+
+-- one more equation
+abbrev pub with_equation : SourceNet → Equation → SourceNet
+with_equation n e = record { free = n.free; equations = n.equations ++ e ∷ [] }

@@ -1,0 +1,41 @@
+ghost use Rattle.in_syntax.specs.Programs.{HasTexts, IsParsing};
+ghost use Rattle.in_syntax.specs.Steps.{Gives};
+
+use crate::faults::Fault;
+use crate::places::Place;
+use crate::reader::Reader;
+use crate::tree::Source;
+use crate::words::Token;
+use std::alloc::Global;
+
+/// The tree of a program, of its tokens in order; `end` is the place of a program that ends too early.
+///
+/// The first fault in the order of the tokens is answered:
+/// - E02, at the first token that no program continues with, or at `end` where a program only begins so;
+/// - E03, at the type's name of a symbol's ninth auxiliary port, counted over all its classes, or at the name of a term
+///   at depth 201. The terms of an equation have depth 1, an argument one more than its agent.
+///
+/// The grammar is that of Lafont's language ("Interaction nets", 1990) in this project's own signs, the limits are this
+/// project's own choice. Its other error is want of memory.
+pub fn program(alloc: Global, text: &[u8], tokens: &[Token], end: Place) -> Result<Source, Fault>
+    requires { HasTexts text.now tokens.now }
+    ensures { IsParsing text.now tokens.now end result }
+{
+    program_by_steps(alloc, text, tokens, end)
+}
+
+fn program_by_steps(
+    alloc: Global,
+    text: &[u8],
+    tokens: &[Token],
+    end: Place,
+) -> Result<Source, Fault>
+    requires { HasTexts text.now tokens.now }
+    ensures { Gives text.now tokens.now end result }
+{
+    let mut reader = Reader::new(alloc);
+    for token in tokens {
+        reader = reader.take(alloc, text, *token)?;
+    }
+    reader.finish(end)
+}

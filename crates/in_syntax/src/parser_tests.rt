@@ -1,0 +1,152 @@
+use crate::faults::{Code, Fault};
+use crate::places::Place;
+use crate::reader::Reader;
+use crate::signs::Sign;
+use crate::text::Text;
+use crate::tree::{Name, Source, Term};
+use crate::words::TokenKind;
+use std::alloc::Global;
+use std::process::Abort;
+use std::test::Fail;
+
+fn sign_of(alloc: Global, word: &str, place: Place) -> Result<Sign, Fault> {
+    Ok(match word {
+        "type" => Sign::Plain(TokenKind::Type),
+        "symbol" => Sign::Plain(TokenKind::Symbol),
+        "rule" => Sign::Plain(TokenKind::Rule),
+        "net" => Sign::Plain(TokenKind::Net),
+        "," => Sign::Plain(TokenKind::Comma),
+        ";" => Sign::Plain(TokenKind::Semicolon),
+        ":" => Sign::Plain(TokenKind::Colon),
+        "+" => Sign::Plain(TokenKind::Plus),
+        "-" => Sign::Plain(TokenKind::Minus),
+        "{" => Sign::Plain(TokenKind::OpenBrace),
+        "}" => Sign::Plain(TokenKind::CloseBrace),
+        "(" => Sign::Plain(TokenKind::OpenParenthesis),
+        ")" => Sign::Plain(TokenKind::CloseParenthesis),
+        "~" => Sign::Tilde(place),
+        _ => Sign::Named(Name {
+            text: Text::from_str(alloc, word)?,
+            place,
+        }),
+    })
+}
+
+fn place_of(at: usize) -> Place {
+    Place {
+        from: at,
+        to: at,
+        line: 1,
+        col: 1,
+    }
+}
+
+// the program of these words between single blanks; places count words
+fn read(alloc: Global, text: &str) -> Result<Source, Fault> {
+    let mut reader = Reader::new(alloc);
+    let mut count = 0;
+    for (at, word) in text.split(' ').enumerate() {
+        let place = place_of(at);
+        reader = reader.take_sign(alloc, sign_of(alloc, word, place)?, place)?;
+        count = at;
+    }
+    reader.finish(place_of(count))
+}
+
+fn fault(alloc: Global, text: &str) -> Option<(Code, usize)> {
+    match read(alloc, text) {
+        Err(Fault::Refused(refusal)) => Some((refusal.code, refusal.place.from)),
+        _ => None,
+    }
+}
+
+fn is_named(name: &Name, text: &str) -> bool {
+    name.text.as_str() == text
+}
+
+fn is_bare(term: &Term, text: &str) -> bool {
+    is_named(&term.name, text) && term.args.is_empty()
+}
+
+#[test]
+fn declarations(rt: HostRuntime) -> Result<(), Fail> {
+    let text =
+        "type nat , list ; symbol Z : nat + ; symbol Add : nat - { nat - , nat + } { list - } ; type tree ; net ( ) { }";
+    let source = read(rt.alloc(), text)?;
+    let types = source.types.as_slice();
+    assert_eq!(rt; types.len(), 3);
+    assert!(rt; is_named(&types[0], "nat"));
+    assert!(rt; is_named(&types[1], "list"));
+    assert!(rt; is_named(&types[2], "tree"));
+    let symbols = source.symbols.as_slice();
+    assert_eq!(rt; symbols.len(), 2);
+    assert!(rt; is_named(&symbols[0].name, "Z"));
+    assert!(rt; symbols[0].port.output);
+    assert!(rt; symbols[0].classes.is_empty());
+    assert!(rt; is_named(&symbols[1].name, "Add"));
+    assert!(rt; !symbols[1].port.output);
+    let classes = symbols[1].classes.as_slice();
+    assert_eq!(rt; classes.len(), 2);
+    let first = classes[0].as_slice();
+    assert_eq!(rt; first.len(), 2);
+    assert!(rt; !first[0].output);
+    assert!(rt; first[1].output);
+    let second = classes[1].as_slice();
+    assert_eq!(rt; second.len(), 1);
+    assert!(rt; is_named(&second[0].kind, "list"));
+    Ok(())
+}
+
+#[test]
+fn nets(rt: HostRuntime) -> Result<(), Fail> {
+    let source = read(
+        rt.alloc(),
+        "net ( r : nat + , s : nat - ) { x ~ Add ( Z , S ( y ) ) ; y ~ x ; }",
+    )?;
+    let free = source.net.free.as_slice();
+    assert_eq!(rt; free.len(), 2);
+    assert!(rt; is_named(&free[0].name, "r"));
+    assert!(rt; free[0].port.output);
+    assert!(rt; is_named(&free[1].port.kind, "nat"));
+    let equations = source.net.equations.as_slice();
+    assert_eq!(rt; equations.len(), 2);
+    assert!(rt; is_bare(&equations[0].left, "x"));
+    assert_eq!(rt; equations[0].tilde.from, 14);
+    assert!(rt; is_named(&equations[0].right.name, "Add"));
+    let arguments = equations[0].right.args.as_slice();
+    assert_eq!(rt; arguments.len(), 2);
+    assert!(rt; is_bare(&arguments[0], "Z"));
+    assert!(rt; is_named(&arguments[1].name, "S"));
+    let inner = arguments[1].args.as_slice();
+    assert_eq!(rt; inner.len(), 1);
+    assert!(rt; is_bare(&inner[0], "y"));
+    assert!(rt; is_bare(&equations[1].right, "x"));
+    Ok(())
+}
+
+fn expect_fault(rt: &impl Abort, alloc: Global, text: &str, code: Code, at: usize) {
+    match fault(alloc, text) {
+        Some((found, place)) => {
+            assert!(rt; found == code, "{text}");
+            assert_eq!(rt; place, at, "{text}");
+        }
+        None => assert!(rt; false, "{text}"),
+    }
+}
+
+#[test]
+fn refusals(rt: HostRuntime) -> Result<(), Fail> {
+    let alloc = rt.alloc();
+    expect_fault(&rt, alloc, "type ;", Code::E02, 1);
+    expect_fault(&rt, alloc, "type nat ;", Code::E02, 2);
+    expect_fault(&rt, alloc, "rule x", Code::E02, 0);
+    expect_fault(&rt, alloc, "symbol x : nat + { } ;", Code::E02, 6);
+    expect_fault(&rt, alloc, "net ( ) { } net", Code::E02, 5);
+    expect_fault(&rt, alloc, "net ( r : nat + , ) { }", Code::E02, 7);
+    expect_fault(&rt, alloc, "net ( ) { Z ( ) ~ x ; }", Code::E02, 6);
+    expect_fault(&rt, alloc, "net ( ) { x ~ y }", Code::E02, 7);
+    expect_fault(&rt, alloc, "net ( ) { x ~ y ~ z ; }", Code::E02, 7);
+    let nine = "symbol x : t + { t + , t + , t + , t + } { t + , t + , t + , t + , t + } ;";
+    expect_fault(&rt, alloc, nine, Code::E03, 31);
+    Ok(())
+}
