@@ -18,6 +18,7 @@ has_text text t k h = go k
   where
     here : IsTextAt text t.place
     here = let some = h.some in record { order = omega (arith, some); within = h.within; utf8 = h.utf8 }
+
     go : (k : TokenKind) → HasText text k t.place
     go kind.Name = here
     go _ = tt

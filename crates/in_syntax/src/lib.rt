@@ -8,9 +8,9 @@ mod lexer;
 mod machine;
 mod memory;
 mod parser;
-mod parsing;
 #[cfg(test)]
 mod parser_tests;
+mod parsing;
 mod places;
 mod reader;
 mod signs;
