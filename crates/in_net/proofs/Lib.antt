@@ -1,4 +1,5 @@
 pub mod Absent
+pub mod Agents
 pub mod Cells
 pub mod Folds
 pub mod Heads

@@ -10,6 +10,7 @@ use Rattle.in_net.specs.declared.nets.Cell.{Cell}
 use Rattle.in_net.specs.Parts.{Parts}
 use Rattle.in_net.specs.Tables.{Tables, arity_of}
 use Rattle.in_net.specs.Building.{AreCellsOf, AreFreeOf}
+use Rattle.in_net.specs.TextNet.{HasPointsOf}
 
 -- what was read is in range
 pub record IsReadFrom (source : Source) (t : Tables) (r : Reading) : Type 0 where
@@ -34,7 +35,7 @@ IsCellOver t (Some c) = (c.symbol.0 < length t.names) × (length c.ends ≡ arit
 pub record IsOver (t : Tables) (n : Parts) : Type 0 where
   pub cells : AllByRecursion (IsCellOver t) n.cells
 
--- where it is Ok, the net is over the program's tables
+-- where it is Ok, the net is over the program's tables, and has the agents and free ends of the text
 abbrev pub Builds : Source → Tables → Result Parts Fault → Type 0
-Builds source t (Ok n) = IsOver t n × (n.built ≡ true)
+Builds source t (Ok n) = IsOver t n × HasPointsOf t source.net n
 Builds source t (Err e) = Unit {0}

@@ -1,14 +1,16 @@
 -- The net that a text has. Lafont 1990 writes a net as equations between terms: a term stands for a point, an agent's for its
 -- principal port, and two occurrences of one variable for one wire. Where a wire stands in the text is this project's own choice.
-use Rattle.std.specs.Prelude.{◌≡◌, ◌≢◌, ◌⊎◌, ◌↔◌, ℕ, suc, ◌+◌, ◌<◌, ◌≤◌, true, List, [], ◌∷◌, length, Option, Some, None, IsSome, slice_get, slice_index_or}
-use Rattle.std.specs.List.{AllByRecursion}
+use Rattle.std.specs.Prelude.{◌≡◌, ◌≢◌, ◌⊎◌, ◌↔◌, ℕ, suc, ◌+◌, ◌<◌, ◌≤◌, true, List, [], ◌∷◌, ◌++◌, length, map, Option, Some, None, IsSome, slice_get, slice_index_or}
+use Rattle.std.specs.List.{AllByRecursion, flat_map}
 use Rattle.in_syntax.specs.declared.places.Place.{Place}
 use Rattle.in_syntax.specs.declared.tree.Term.{Term, out-Term}
+use Rattle.in_syntax.specs.declared.tree.Term.TheFolds.{fold-Term}
 use Rattle.in_syntax.specs.declared.tree.Equation.{Equation}
 use Rattle.in_syntax.specs.declared.tree.SourceFree.{SourceFree}
 use Rattle.in_syntax.specs.declared.tree.SourceNet.{SourceNet}
 use Rattle.in_net.specs.declared.nets.Point.{Point}
 use Rattle.in_net.specs.declared.nets.Point.TheVariants.{Port, Free}
+use Rattle.in_net.specs.declared.nets.Cell.{Cell}
 use Rattle.in_net.specs.Names.{number_in}
 use Rattle.in_net.specs.Tables.{Tables, arity_of}
 use Rattle.in_net.specs.Parts.{Parts, cell_in, wire_in, wire_place_in}
@@ -138,3 +140,42 @@ pub record IsNetOf (t : Tables) (n : SourceNet) (m : Parts) : Type 0 where
   pub free : AreFreeOf t n.free m.free
   pub wires : (w : ℕ) (a b : Point) (p : Place) → wire_in m w ≡ Some (a, b) → wire_place_in m w ≡ Some p → IsWireOf t n (spot_at m a) (spot_at m b) p
   pub by_place : (v w : ℕ) (p q : Place) → v < w → wire_place_in m v ≡ Some p → wire_place_in m w ≡ Some q → p.from < q.from
+
+-- ---- the agents in the order of the text
+
+-- an agent as it is written: its symbol's number, and where its name stands
+pub record Written : Type 0 where
+  pub symbol : ℕ
+  pub place : Place
+
+abbrev pub written_by : Option ℕ → Place → List Written
+written_by None place = []
+written_by (Some s) place = record { symbol = s; place = place } ∷ []
+
+-- the agents of a term: itself, if its name is a symbol's, and then those of its arguments
+abbrev pub agents_of : Tables → Term → List Written
+agents_of t = fold-Term (List Written) (λ f. written_by (number_in f.name.text t.names) f.name.place ++ flat_map (λ a. a) f.args)
+
+-- the agents of a net
+abbrev pub agents_of_net : Tables → SourceNet → List Written
+agents_of_net t n = flat_map (λ e. agents_of t e.left ++ agents_of t e.right) n.equations
+
+-- a cell is a written agent: its symbol, and an end for each of its places
+pub record IsCellFor (t : Tables) (w : Written) (c : Cell) : Type 0 where
+  pub symbol : c.symbol.0 ≡ w.symbol
+  pub ends : length c.ends ≡ arity_of t w.symbol + 1
+
+-- the cells are these agents, in this order
+abbrev pub AreCellsFor : Tables → List Written → List (Option Cell) → Type 0
+AreCellsFor t [] [] = Unit {0}
+AreCellsFor t [] (c ∷ cs) = ⊥
+AreCellsFor t (w ∷ ws) [] = ⊥
+AreCellsFor t (w ∷ ws) (None ∷ cs) = ⊥
+AreCellsFor t (w ∷ ws) (Some c ∷ cs) = IsCellFor t w c × AreCellsFor t ws cs
+
+-- the net has the text's agents, numbered in the order of their names, with their places, and its free ends in order, with their declared types
+pub record HasPointsOf (t : Tables) (n : SourceNet) (m : Parts) : Type 0 where
+  pub built : m.built ≡ true
+  pub agents : AreCellsFor t (agents_of_net t n) m.cells
+  pub places : m.places ≡ map (λ w. w.place) (agents_of_net t n)
+  pub free : AreFreeOf t n.free m.free

@@ -4,3 +4,6 @@
 mod typing;
 
 pub use typing::type_net;
+
+#[cfg(test)]
+mod tests;

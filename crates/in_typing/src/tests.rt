@@ -1,0 +1,173 @@
+use crate::type_net;
+use in_net::{AgentNo, Point, PortType, SymbolNo, Symbols, build_net};
+use in_syntax::{Code, Fault, Refusal, parse};
+use std::alloc::Global;
+use std::test::Fail;
+
+const ADDITION: &str =
+    "type nat;\nsymbol Z : nat+;\nsymbol S : nat+ {nat-};\nsymbol Add : nat- {nat-} {nat+};\nnet (r : nat+) { S(S(Z)) ~ Add(S(Z), r); }\n";
+
+#[test]
+fn tables_are_the_declarations(rt: HostRuntime) -> Result<(), Fail> {
+    let source = parse(rt.alloc(), ADDITION.as_bytes())?;
+    let symbols = Symbols::build(rt.alloc(), &source)?;
+    assert_eq!(rt; symbols.types(), 1);
+    assert_eq!(rt; symbols.symbols(), 3);
+    assert_eq!(rt; symbols.number_of("Add"), Some(SymbolNo(2)));
+    assert_eq!(rt; symbols.number_of("nat"), None);
+    assert_eq!(rt; symbols.name(SymbolNo(1)), "S");
+    assert_eq!(rt; symbols.arity(SymbolNo(2)), 2);
+    assert_eq!(rt; symbols.classes(SymbolNo(2)), 2);
+    assert_eq!(rt; symbols.class_of(SymbolNo(2), 0), 0);
+    assert_eq!(rt; symbols.class_of(SymbolNo(2), 2), 2);
+    assert_eq!(rt;
+        symbols.port(SymbolNo(2), 1),
+        PortType {
+            kind: 0,
+            output: false
+        }
+    );
+    assert_eq!(rt;
+        symbols.port(SymbolNo(2), 2),
+        PortType {
+            kind: 0,
+            output: true
+        }
+    );
+    assert!(rt; symbols.is_constructor(SymbolNo(0)));
+    assert!(rt; !symbols.is_constructor(SymbolNo(2)));
+    Ok(())
+}
+
+/// What the passes answer: how many agents and wires the net has, or the refusal.
+fn passes(alloc: Global, text: &str) -> Result<(u32, u32), Fault> {
+    let source = parse(alloc, text.as_bytes())?;
+    let symbols = Symbols::build(alloc, &source)?;
+    let net = build_net(alloc, &source, &symbols)?;
+    match type_net(&symbols, &net) {
+        Ok(()) => Ok((net.agents(), net.wires())),
+        Err(refusal) => Err(Fault::Refused(refusal)),
+    }
+}
+
+/// The refusal's code, line and column.
+fn refused(alloc: Global, text: &str) -> Option<(Code, u32, u32)> {
+    match passes(alloc, text) {
+        Err(Fault::Refused(Refusal { code, place, .. })) => Some((code, place.line, place.col)),
+        _ => None,
+    }
+}
+
+fn at_start(code: Code) -> Option<(Code, u32, u32)> {
+    Some((code, 1, 1))
+}
+
+#[test]
+fn a_sum_has_six_agents_and_six_wires(rt: HostRuntime) -> Result<(), Fail> {
+    let source = parse(rt.alloc(), ADDITION.as_bytes())?;
+    let symbols = Symbols::build(rt.alloc(), &source)?;
+    let net = build_net(rt.alloc(), &source, &symbols)?;
+    assert!(rt; net.is_built());
+    assert_eq!(rt; net.agents(), 6);
+    assert_eq!(rt; net.symbol(AgentNo(0)), Some(SymbolNo(1)));
+    assert_eq!(rt; net.symbol(AgentNo(3)), Some(SymbolNo(2)));
+    assert_eq!(rt; net.symbol(AgentNo(6)), None);
+    assert_eq!(rt; net.free_ends(), 1);
+    assert_eq!(rt; net.free_name(0), "r");
+    assert_eq!(rt;
+        net.free_type(0),
+        PortType {
+            kind: 0,
+            output: true
+        }
+    );
+    assert_eq!(rt; net.wires(), 6);
+
+    // The wires in the order of their places: inside S(S(Z)), the equation, inside Add(S(Z), r).
+    assert_eq!(rt;
+        net.wire(0),
+        (Point::Port(AgentNo(0), 1), Point::Port(AgentNo(1), 0))
+    );
+    assert_eq!(rt;
+        net.wire(1),
+        (Point::Port(AgentNo(1), 1), Point::Port(AgentNo(2), 0))
+    );
+    assert_eq!(rt;
+        net.wire(2),
+        (Point::Port(AgentNo(0), 0), Point::Port(AgentNo(3), 0))
+    );
+    assert_eq!(rt; net.wire(5), (Point::Free(0), Point::Port(AgentNo(3), 2)));
+    assert_eq!(rt; net.wire_place(2).col, 26);
+    let (one, other) = net.wire(5);
+    assert_eq!(rt; net.partner(one), other);
+    assert_eq!(rt; net.partner(other), one);
+    assert!(rt; type_net(&symbols, &net).is_ok());
+    Ok(())
+}
+
+#[test]
+fn a_wire_runs_over_many_equations(rt: HostRuntime) -> Result<(), Fail> {
+    let text = "type nat;\nsymbol Z : nat+;\nnet (r : nat+) { a ~ b; b ~ c; r ~ a; c ~ Z; }";
+    let source = parse(rt.alloc(), text.as_bytes())?;
+    let symbols = Symbols::build(rt.alloc(), &source)?;
+    let net = build_net(rt.alloc(), &source, &symbols)?;
+    assert_eq!(rt; net.wires(), 1);
+    assert_eq!(rt; net.wire(0), (Point::Free(0), Point::Port(AgentNo(0), 0)));
+    assert_eq!(rt; net.wire_place(0).col, 41);
+    Ok(())
+}
+
+#[test]
+fn a_wire_stands_at_its_last_joint(rt: HostRuntime) -> Result<(), Fail> {
+    let head =
+        "type nat;\nsymbol Z : nat+;\nsymbol S : nat+ {nat-};\nsymbol Add : nat- {nat-} {nat+};\n";
+    let text = format!(in rt.alloc(); "{head}net () {{ S(x) ~ Add(x, a); a ~ Z; }}")?;
+    assert_eq!(rt;
+        refused(rt.alloc(), text.as_str()),
+        Some((Code::E10, 5, 21))
+    );
+    Ok(())
+}
+
+#[test]
+fn each_code_of_names_and_nets_is_answered_at_the_start(rt: HostRuntime) -> Result<(), Fail> {
+    let head =
+        "type nat;\nsymbol Z : nat+;\nsymbol S : nat+ {nat-};\nsymbol Add : nat- {nat-} {nat+};\n";
+    let cases = [
+        ("symbol Z : nat+; net () { }", Code::E04),
+        ("net (Z : nat+) { }", Code::E04),
+        ("net (r : nat+, r : nat-) { }", Code::E04),
+        ("symbol K : bit+; net () { }", Code::E05),
+        ("net (r : bit+) { r ~ Z; }", Code::E05),
+        ("net () { F(S) ~ x; }", Code::E06),
+        ("net (r : nat+) { S ~ Add(Z, r); }", Code::E07),
+        ("net (r : nat+) { S(x) ~ Add(Z, r); }", Code::E08),
+        ("net () { x ~ S(x); Z ~ S(x); }", Code::E08),
+        ("net (r : nat+) { }", Code::E08),
+        ("net (r : nat+) { r ~ Z; r ~ Z; }", Code::E08),
+        ("net () { x ~ x; }", Code::E09),
+        ("net () { x ~ y; z ~ y; x ~ z; }", Code::E09),
+    ];
+    for (net, code) in cases {
+        let text = format!(in rt.alloc(); "{head}{net}")?;
+        assert_eq!(rt; refused(rt.alloc(), text.as_str()), at_start(code));
+    }
+    Ok(())
+}
+
+#[test]
+fn types_and_signs_are_compared(rt: HostRuntime) -> Result<(), Fail> {
+    let head = "type nat, bit;\nsymbol Z : nat+;\nsymbol O : bit+;\nsymbol Era : nat-;\n";
+    let cases = [
+        ("net () { Era ~ Z; }", None),
+        ("net () { Z ~ Z; }", Some((Code::E10, 5, 12))),
+        ("net () { Era ~ O; }", Some((Code::E10, 5, 14))),
+        ("net (r : nat-) { r ~ Z; }", Some((Code::E10, 5, 20))),
+        ("net (r : nat+) { r ~ Z; }", None),
+    ];
+    for (net, answer) in cases {
+        let text = format!(in rt.alloc(); "{head}{net}")?;
+        assert_eq!(rt; refused(rt.alloc(), text.as_str()), answer);
+    }
+    Ok(())
+}
