@@ -1,5 +1,5 @@
 -- From every reader on, some signs end a program.
-use Rattle.std.proofs.Common.{◌≡◌, ℕ, ◌+◌, Bool, true, false, nat_lt, List, [], ◌∷◌, ◌++◌, length, refl, sym, ◌∙◌, ap}
+use Rattle.std.proofs.Common.{◌≡◌, ℕ, ◌+◌, Bool, true, false, nat_lt, List, [], ◌∷◌, ◌++◌, length, refl, ap}
 use Rattle.in_syntax.specs.declared.words.TokenKind.TheVariants as kind
 use Rattle.in_syntax.specs.declared.signs.Sign.{Sign}
 use Rattle.in_syntax.specs.declared.signs.Sign.TheVariants.{Named, Tilde, Plain}
@@ -18,10 +18,10 @@ use Rattle.in_syntax.specs.declared.spots.PortOf.TheVariants.{Principal, Auxilia
 use Rattle.in_syntax.specs.declared.spots.Side.{Side}
 use Rattle.in_syntax.specs.declared.spots.Side.TheVariants.{Left, Right}
 use Rattle.in_syntax.specs.declared.spots.Body.{Body}
-use Rattle.in_syntax.specs.Grammar.{Marked, marked, within, named, plain, max_ports, max_depth}
-use Rattle.in_syntax.specs.Steps.{at_term_open, at_term_end, after_port, step, at_spot, with_types, with_symbol}
+use Rattle.in_syntax.specs.Grammar.{Marked, marked, max_ports, max_depth}
+use Rattle.in_syntax.specs.Steps.{at_term_end, after_port, step, at_spot, with_types, with_symbol}
 use Rattle.in_syntax.specs.Trees.{bare, with_argument, with_class, with_equation}
-use Rattle.in_syntax.proofs.Paths.{Turn, turns, turn_of, turn, Path}
+use Rattle.in_syntax.proofs.Paths.{turns, turn_of, turn, Path}
 use Rattle.in_syntax.proofs.Complete.{IsPast, open_past}
 
 pub record CanEnd (r : Reader) : Type 0 where

@@ -20,14 +20,13 @@ use Rattle.in_syntax.specs.declared.spots.Spot.{Spot}
 use Rattle.in_syntax.specs.declared.spots.Spot.TheVariants as spot
 use Rattle.in_syntax.specs.declared.spots.PortOf.{PortOf}
 use Rattle.in_syntax.specs.declared.spots.PortOf.TheVariants.{Principal, Auxiliary, Free}
-use Rattle.in_syntax.specs.declared.spots.Side.{Side}
 use Rattle.in_syntax.specs.declared.spots.Side.TheVariants.{Left, Right}
 use Rattle.in_syntax.specs.declared.spots.Body.{Body}
-use Rattle.in_syntax.specs.Grammar.{Marked, marked, within, named, plain, separated, spell_port, spell_ports, spell_class, spell_classes, spell_symbol, spell_types, spell_arguments, spell_term, spell_equation, spell_free, spell_net, max_ports, max_depth, IsNonempty, Each, Item, types, symbol, spell_item, IsItem, types_in, symbols_in, Program, spelling, source_of}
+use Rattle.in_syntax.specs.Grammar.{Marked, marked, within, plain, separated, spell_port, spell_ports, spell_class, spell_classes, spell_symbol, spell_types, spell_arguments, spell_term, spell_equation, spell_free, spell_net, max_ports, max_depth, IsNonempty, Each, Item, types, symbol, spell_item, IsItem, types_in, symbols_in, Program, spelling}
 use Rattle.in_syntax.specs.Steps.{at_term_open, at_term_end, after_port, step, at_spot, with_types, with_symbol, start}
 use Rattle.in_syntax.specs.Trees.{bare, with_argument, with_class, with_equation}
-use Rattle.in_syntax.proofs.Separated.{comma, ports_after, flat_snoc}
-use Rattle.in_syntax.proofs.Paths.{Turn, turns, turn_of, turn, Path, join}
+use Rattle.in_syntax.proofs.Separated.{ports_after}
+use Rattle.in_syntax.proofs.Paths.{turns, turn_of, turn, Path, join}
 use Rattle.in_syntax.proofs.Sound.{one, arguments_at, spell_out}
 
 abbrev after : List (List Marked) → List Marked

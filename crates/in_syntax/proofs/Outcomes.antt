@@ -1,5 +1,5 @@
 -- The outcome of signs is that of the run.
-use Rattle.std.proofs.Common.{◌≡◌, ℕ, zero, suc, ◌+◌, ◌≤◌, Bool, true, false, List, [], ◌∷◌, ◌++◌, length, map, take, drop, refl, sym, ◌∙◌, ap, subst, append_assoc, append-nil, arith, length-append, length-drop, take-append-drop, Option, Some, None, Result, Ok, Err}
+use Rattle.std.proofs.Common.{◌≡◌, ℕ, zero, suc, ◌≤◌, Bool, true, false, List, [], ◌∷◌, ◌++◌, length, take, drop, refl, sym, ◌∙◌, ap, subst, append_assoc, append-nil, arith, length-append, length-drop, take-append-drop, Option, Some, None, Result, Ok, Err}
 use Rattle.std.proofs.Math.Seq.{take-append_seam, drop-append_seam}
 use Rattle.std.proofs.lemmas.List.{map-append}
 use Rattle.std.specs.List.{flat_map}
@@ -15,14 +15,14 @@ use Rattle.in_syntax.specs.declared.tree.SourceNet.{SourceNet}
 use Rattle.in_syntax.specs.declared.reader.Reader.{Reader}
 use Rattle.in_syntax.specs.declared.spots.Spot.{Spot}
 use Rattle.in_syntax.specs.declared.spots.Spot.TheVariants as spot
-use Rattle.in_syntax.specs.Grammar.{Marked, marked, within, Program, spelling, source_of, spell_item, types_in, symbols_in}
-use Rattle.in_syntax.specs.Programs.{signs_of, sign_of, signs, unmarked, IsProgram, Begins, BeginsWithin, BeginsPast, IsFault, Outcome, tree, fault, IsOutcome, IsParsing}
+use Rattle.in_syntax.specs.Grammar.{Marked, marked, Program, spelling, source_of, spell_item, symbols_in}
+use Rattle.in_syntax.specs.Programs.{signs_of, signs, unmarked, IsProgram, Begins, BeginsWithin, BeginsPast, IsFault, Outcome, tree, fault, IsOutcome, IsParsing}
 use Rattle.in_syntax.specs.GrammarLaws.{OneOutcome, OneTree}
 use Rattle.in_syntax.specs.Steps.{Step, goes, adds_types, adds_symbol, stuck, step, move_of, Answer, reads, refused, net_of, whole, run, start, Gives}
 use Rattle.in_syntax.proofs.Paths.{Turn, turns, halts, turn_of, turn, Path, join, split, same, IsFaultAt, IsTrace, along, trace}
 use Rattle.in_syntax.proofs.Sound.{HasRead, has_read, read_nothing, spelled}
 use Rattle.in_syntax.proofs.Complete.{done_with, program_path}
-use Rattle.in_syntax.proofs.Closing.{CanEnd, can_end}
+use Rattle.in_syntax.proofs.Closing.{can_end}
 
 signs_unmarked : (s : List Sign) → signs (unmarked s) ≡ s
 signs_unmarked [] = refl

@@ -1,16 +1,12 @@
 -- Which marked signs lead from one reader to another: each marked as its turn says.
-use Rattle.std.proofs.Common.{◌≡◌, ℕ, Bool, true, false, List, [], ◌∷◌, ◌++◌, map, refl, sym, ◌∙◌, ap, subst, Option, Some, None}
+use Rattle.std.proofs.Common.{◌≡◌, Bool, true, false, List, [], ◌∷◌, ◌++◌, refl, sym, ◌∙◌, ap, subst, Option, Some, None}
 use Rattle.in_syntax.specs.declared.faults.Code.{Code}
 use Rattle.in_syntax.specs.declared.faults.Code.TheVariants.{E02, E03}
-use Rattle.in_syntax.specs.declared.tree.Name.{Name}
-use Rattle.in_syntax.specs.declared.tree.Source.{Source}
-use Rattle.in_syntax.specs.declared.tree.SourceSymbol.{SourceSymbol}
 use Rattle.in_syntax.specs.declared.signs.Sign.{Sign}
 use Rattle.in_syntax.specs.declared.reader.Reader.{Reader}
-use Rattle.in_syntax.specs.declared.spots.Spot.{Spot}
 use Rattle.in_syntax.specs.declared.machine.Move.{Move}
 use Rattle.in_syntax.specs.declared.machine.Move.TheVariants as move
-use Rattle.in_syntax.specs.Grammar.{Marked, marked, within}
+use Rattle.in_syntax.specs.Grammar.{Marked, marked}
 use Rattle.in_syntax.specs.Programs.{signs, unmarked}
 use Rattle.in_syntax.specs.Steps.{Step, goes, adds_types, adds_symbol, stuck, step, move_of, Answer, reads, refused, net_of, whole, at_spot, with_types, with_symbol, run}
 

@@ -1,9 +1,9 @@
 -- Lists that grow at their end, and how they are spelled.
-use Rattle.std.proofs.Common.{◌≡◌, ℕ, ◌+◌, nat_lt, List, [], ◌∷◌, ◌++◌, length, map, refl, sym, ◌∙◌, ap, append_assoc, append-nil, arith, length-append}
+use Rattle.std.proofs.Common.{◌≡◌, ℕ, ◌+◌, nat_lt, List, [], ◌∷◌, ◌++◌, length, map, refl, sym, ◌∙◌, ap, append_assoc, append-nil, arith}
 use Rattle.std.specs.List.{flat_map}
 use Rattle.in_syntax.specs.declared.tree.SourcePort.{SourcePort}
 use Rattle.in_syntax.specs.declared.words.TokenKind.TheVariants as kind
-use Rattle.in_syntax.specs.Grammar.{Marked, marked, plain, separated, spell_port, spell_ports, spell_class, spell_classes, max_ports, IsNonempty, Each}
+use Rattle.in_syntax.specs.Grammar.{Marked, plain, separated, spell_port, spell_ports, spell_class, spell_classes, max_ports, IsNonempty, Each}
 
 abbrev pub comma : Marked
 comma = plain kind.Comma

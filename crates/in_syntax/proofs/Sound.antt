@@ -1,5 +1,5 @@
 -- What was read before a reader is spelled so.
-use Rattle.std.proofs.Common.{◌≡◌, ℕ, ◌+◌, Bool, true, false, cond, nat_lt, List, [], ◌∷◌, ◌++◌, length, map, refl, sym, ◌∙◌, ap, subst, append_assoc, append-nil, length-append, arith}
+use Rattle.std.proofs.Common.{◌≡◌, ℕ, ◌+◌, Bool, true, false, nat_lt, List, [], ◌∷◌, ◌++◌, length, map, refl, sym, ◌∙◌, ap, subst, append_assoc, append-nil, length-append, arith}
 use Rattle.std.specs.List.{flat_map}
 use Rattle.in_syntax.specs.declared.words.TokenKind.TheVariants as kind
 use Rattle.in_syntax.specs.declared.signs.Sign.{Sign}
@@ -9,7 +9,6 @@ use Rattle.in_syntax.specs.declared.tree.SourcePort.{SourcePort}
 use Rattle.in_syntax.specs.declared.tree.SourceSymbol.{SourceSymbol}
 use Rattle.in_syntax.specs.declared.tree.SourceFree.{SourceFree}
 use Rattle.in_syntax.specs.declared.tree.SourceNet.{SourceNet}
-use Rattle.in_syntax.specs.declared.tree.Equation.{Equation}
 use Rattle.in_syntax.specs.declared.tree.Term.{Term, out-Term, roll-Term}
 use Rattle.in_syntax.specs.declared.tree.Term.TheOpen.{Term-F}
 use Rattle.in_syntax.specs.declared.tree.Term.TheFolds.{fold_out-Term}
@@ -22,11 +21,11 @@ use Rattle.in_syntax.specs.declared.spots.PortOf.TheVariants.{Principal, Auxilia
 use Rattle.in_syntax.specs.declared.spots.Side.{Side}
 use Rattle.in_syntax.specs.declared.spots.Side.TheVariants.{Left, Right}
 use Rattle.in_syntax.specs.declared.spots.Body.{Body}
-use Rattle.in_syntax.specs.Grammar.{Marked, marked, within, named, plain, separated, spell_port, spell_ports, spell_class, spell_classes, spell_symbol, spell_types, spell_arguments, spell_level, spell_term, spell_equation, spell_free, spell_net, max_ports, max_depth, IsNonempty, Each, Item, types, symbol, spell_item, IsItem, types_in, symbols_in}
+use Rattle.in_syntax.specs.Grammar.{Marked, marked, within, named, plain, separated, spell_port, spell_ports, spell_classes, spell_symbol, spell_types, spell_arguments, spell_level, spell_term, spell_equation, spell_free, spell_net, max_ports, max_depth, IsNonempty, Each, Item, types, symbol, spell_item, IsItem, types_in, symbols_in}
 use Rattle.in_syntax.specs.Steps.{Step, goes, adds_types, adds_symbol, stuck, at_item, at_type_name, at_type_end, at_symbol_name, at_symbol_colon, at_port_kind, after_port, at_port_sign, at_symbol_end, at_class_end, at_net_open, at_free_first, at_free_name, at_free_colon, at_free_end, at_body_open, at_equation, at_term_name, after_argument, after_side, after_term, at_term_end, at_term_open, step, at_spot, with_types, with_symbol, start}
-use Rattle.in_syntax.specs.Trees.{bare, with_argument, with_class, with_equation}
+use Rattle.in_syntax.specs.Trees.{bare, with_argument}
 use Rattle.in_syntax.proofs.Separated.{comma, before, separated_snoc, before_is, nonempty_snoc, nonempty_map, each_append, map_snoc, flat_snoc, ports_snoc, nonempty_ports, ports_after, ports_after_snoc, classes_snoc}
-use Rattle.in_syntax.proofs.Paths.{Turn, turns, halts, turn_of, turn, Path}
+use Rattle.in_syntax.proofs.Paths.{turns, turn_of, Path}
 
 -- ---- what of an item or the net is read before a spot
 

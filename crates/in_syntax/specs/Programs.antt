@@ -77,14 +77,15 @@ BeginsWithin front = (p : Program) × (more : List Marked) × (spelling p ≡ un
 abbrev pub BeginsPast : List Sign → Sign → Type 0
 BeginsPast front s = (p : Program) × (more : List Marked) × (spelling p ≡ unmarked front ++ marked true s ∷ more)
 
--- the first fault is this one, between the signs before it and those from it on: E02 where a program within the limits begins with the
--- former, and none goes on with the next sign, or none ends here; E03 where some program goes on with the next sign, which passes a limit
+-- the first fault is this one, between the signs before it and those from it on: some program begins with the former, and passes no
+-- limit there; E02 where none goes on with the next sign, or none ends here, E03 where one does, and its sign passes a limit
 abbrev pub IsFault : Code → List Sign → List Sign → Type 0
 IsFault E02 front [] = BeginsWithin front × ¬ IsProgram front
 IsFault E02 front (s ∷ rest) = BeginsWithin front × ¬ Begins (front ++ s ∷ [])
 IsFault E03 front (s ∷ rest) = BeginsPast front s
 IsFault _ front rest = ⊥
 
+-- what signs can be
 pub data Outcome : Type 0 where
   tree : Source → Outcome
   -- a fault at the sign of this number, counted from 0, or at the end

@@ -8,7 +8,8 @@ use crate::tree::Source;
 use crate::words::Token;
 use std::alloc::Global;
 
-/// The tree of a program, of its tokens in order; `end` is the place of a program that ends too early.
+/// The tree of a program: `tokens` are those of the text, in order, and `end` is the place of a program that ends too
+/// early. Each name's place is that of a part of the text that is UTF-8.
 ///
 /// The first fault in the order of the tokens is answered:
 /// - E02, at the first token that no program continues with, or at `end` where a program only begins so;

@@ -1,10 +1,13 @@
+ghost use Rattle.std.specs.Prelude.{◌≡◌};
+
 use crate::faults::{Code, Fault};
+use crate::parser::program;
 use crate::places::Place;
 use crate::reader::Reader;
 use crate::signs::Sign;
 use crate::text::Text;
 use crate::tree::{Name, Source, Term};
-use crate::words::TokenKind;
+use crate::words::{Token, TokenKind};
 use std::alloc::Global;
 use std::process::Abort;
 use std::test::Fail;
@@ -149,4 +152,65 @@ fn refusals(rt: HostRuntime) -> Result<(), Fail> {
     let nine = "symbol x : t + { t + , t + , t + , t + } { t + , t + , t + , t + , t + } ;";
     expect_fault(&rt, alloc, nine, Code::E03, 31);
     Ok(())
+}
+
+// an equation whose right side has a name at this depth
+fn deep(alloc: Global, depth: usize) -> Result<String, Fault> {
+    let mut text = String::from_str(alloc, "net ( ) { x ~")?;
+    for _ in 1..depth {
+        text.push_str(" S (")?;
+    }
+    text.push_str(" y")?;
+    for _ in 1..depth {
+        text.push_str(" )")?;
+    }
+    text.push_str(" ; }")?;
+    Ok(text)
+}
+
+#[test]
+fn limits(rt: HostRuntime) -> Result<(), Fail> {
+    let alloc = rt.alloc();
+    let eight = "symbol x : t + { t + , t + , t + , t + } { t + , t + , t + , t + } ; net ( ) { }";
+    let source = read(alloc, eight)?;
+    assert_eq!(rt; source.symbols.len(), 1);
+    let text = deep(alloc, 200)?;
+    let source = read(alloc, text.as_str())?;
+    assert_eq!(rt; source.net.equations.len(), 1);
+    let text = deep(alloc, 201)?;
+    expect_fault(&rt, alloc, text.as_str(), Code::E03, 406);
+    Ok(())
+}
+
+fn token(kind: TokenKind, at: usize) -> Token
+    ensures { result.kind ≡ kind }
+{
+    Token {
+        kind,
+        place: place_of(at),
+    }
+}
+
+#[test]
+fn shortest(rt: HostRuntime) -> Result<(), Fail> {
+    let alloc = rt.alloc();
+    let tokens = [
+        token(TokenKind::Net, 0),
+        token(TokenKind::OpenParenthesis, 1),
+        token(TokenKind::CloseParenthesis, 2),
+        token(TokenKind::OpenBrace, 3),
+        token(TokenKind::CloseBrace, 4),
+    ];
+    let source = program(alloc, b"net(){}", &tokens, place_of(5))?;
+    assert!(rt; source.types.is_empty());
+    assert!(rt; source.net.equations.is_empty());
+    Ok(())
+}
+
+#[test]
+fn nothing(rt: HostRuntime) {
+    match program(rt.alloc(), b"", &[], place_of(7)) {
+        Err(Fault::Refused(refusal)) => assert_eq!(rt; refusal.place.from, 7),
+        _ => assert!(rt; false),
+    }
 }
