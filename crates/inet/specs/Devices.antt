@@ -1,0 +1,40 @@
+-- What a call did to a reader or a writer.
+use Rattle.std.specs.Prelude.{◌≡◌, ℕ, ◌+◌, ◌<◌, List, length, take, Option, Result, Ok, Err}
+use Rattle.std.specs.Io.KnownBytes.{append_known}
+use Rattle.inet.specs.declared.reading.Input.{Input}
+use Rattle.inet.specs.declared.reading.Input.TheVariants as input
+
+-- a reader or a writer: the bytes that it moved so far, or nothing where it doesn't tell them, and how many of its calls failed
+pub record Device : Type 0 where
+  pub bytes : Option (List ℕ)
+  pub failures : ℕ
+
+abbrev pub device : Option (List ℕ) → ℕ → Device
+device bytes failures = record { bytes = bytes; failures = failures }
+
+-- these bytes were moved, and no call failed
+pub record Moves (old new : Device) (bytes : List ℕ) : Type 0 where
+  pub moved : new.bytes ≡ append_known old.bytes bytes
+  pub sound : new.failures ≡ old.failures
+
+-- these bytes were moved, and then a call failed
+pub record Breaks (old new : Device) (bytes : List ℕ) : Type 0 where
+  pub moved : new.bytes ≡ append_known old.bytes bytes
+  pub failed : new.failures ≡ old.failures + 1
+
+-- a front of the bytes was moved, but not all, and then a call failed
+pub record BreaksWithin (old new : Device) (bytes : List ℕ) : Type 0 where
+  pub count : ℕ
+  pub short : count < length bytes
+  pub breaks : Breaks old new (take count bytes)
+
+-- how reading a text ended
+abbrev pub IsInput : Device → Device → Input → Type 0
+IsInput old new (input.Text text) = Moves old new text.items
+IsInput old new input.Failed = (bytes : List ℕ) × Breaks old new bytes
+IsInput old new input.Memory = (bytes : List ℕ) × Moves old new bytes
+
+-- all is written, or a front of it up to a failure
+abbrev pub WritesAll : Device → Device → List ℕ → Result (Unit {0}) (Unit {0}) → Type 0
+WritesAll old new bytes (Ok u) = Moves old new bytes
+WritesAll old new bytes (Err e) = BreaksWithin old new bytes

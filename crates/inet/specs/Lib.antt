@@ -1,0 +1,4 @@
+pub mod Acting
+pub mod Checking
+pub mod Devices
+pub mod Lines

@@ -1,0 +1,47 @@
+-- The lines that the program writes. They are this project's own choice.
+use Rattle.std.specs.Prelude.{ℕ, ◌==◌, List, [], ◌∷◌, ◌++◌, codes, decimal, if◌then◌else◌, slice_range}
+use Rattle.in_syntax.specs.Characters.{line_feed}
+use Rattle.in_syntax.specs.declared.places.Place.{Place}
+use Rattle.in_syntax.specs.declared.faults.Code.{Code}
+use Rattle.in_syntax.specs.declared.faults.Code.TheVariants as code
+use Rattle.in_syntax.specs.declared.faults.Refusal.{Refusal}
+use Rattle.inet.specs.declared.checking.Counts.{Counts}
+
+abbrev pub line_end : List ℕ
+line_end = line_feed ∷ []
+
+-- the line of an accepted program, which has no rules yet
+abbrev pub accepted_line : Counts → List ℕ
+accepted_line c =
+    codes "accepted: " ++ (decimal c.types ++ (codes " types, " ++ (decimal c.symbols
+    ++ (codes " symbols, 0 rules, " ++ (decimal c.agents ++ (codes " agents" ++ line_end))))))
+
+abbrev pub code_name : Code → List ℕ
+code_name code.E01 = codes "E01"
+code_name code.E02 = codes "E02"
+code_name code.E03 = codes "E03"
+code_name code.E04 = codes "E04"
+code_name code.E05 = codes "E05"
+code_name code.E06 = codes "E06"
+code_name code.E07 = codes "E07"
+code_name code.E08 = codes "E08"
+code_name code.E09 = codes "E09"
+code_name code.E10 = codes "E10"
+code_name code.E11 = codes "E11"
+code_name code.E12 = codes "E12"
+code_name code.E13 = codes "E13"
+code_name code.E14 = codes "E14"
+code_name code.E15 = codes "E15"
+
+-- a colon and the text at the place; nothing where the place is empty
+abbrev pub text_at : List ℕ → Place → List ℕ
+text_at text p = if p.from == p.to then [] else (codes ": " ++ slice_range text p.from p.to)
+
+-- the code, the line and the column, and the text at the place
+abbrev pub refused_line : List ℕ → Refusal → List ℕ
+refused_line text r =
+    codes "refused " ++ (code_name r.code ++ (codes " at " ++ (decimal r.place.line ++ (codes ":" ++ (decimal r.place.col
+    ++ (text_at text r.place ++ line_end))))))
+
+abbrev pub memory_line : List ℕ
+memory_line = codes "memory" ++ line_end

@@ -1,0 +1,67 @@
+ghost use Rattle.std.specs.Prelude.{◌≡◌, IfOk, slice_range};
+ghost use Rattle.inet.specs.Lines.{accepted_line, code_name, refused_line};
+
+use crate::checking::Counts;
+use in_syntax::{Code, Place, Refusal};
+use std::alloc::{AllocError, Global};
+
+/// The line of an accepted program. It has no rules yet.
+pub fn accepted_line(alloc: Global, counts: Counts) -> Result<Vec<u8>, AllocError>
+    ensures { IfOk result (λ line. line.items ≡ accepted_line counts) }
+{
+    let Counts {
+        types,
+        symbols,
+        agents,
+    } = counts;
+    let line = format!(in alloc;
+        "accepted: {types} types, {symbols} symbols, 0 rules, {agents} agents\n"
+    )?;
+    Ok(line.into_bytes())
+}
+
+fn code_name(code: Code) -> &'static str
+    ensures { result.now ≡ code_name code }
+{
+    match code {
+        Code::E01 => "E01",
+        Code::E02 => "E02",
+        Code::E03 => "E03",
+        Code::E04 => "E04",
+        Code::E05 => "E05",
+        Code::E06 => "E06",
+        Code::E07 => "E07",
+        Code::E08 => "E08",
+        Code::E09 => "E09",
+        Code::E10 => "E10",
+        Code::E11 => "E11",
+        Code::E12 => "E12",
+        Code::E13 => "E13",
+        Code::E14 => "E14",
+        Code::E15 => "E15",
+    }
+}
+
+/// The bytes of the text at a place: those of the place that there are.
+fn part(text: &[u8], place: Place) -> &[u8]
+    ensures { result.now ≡ slice_range text.now place.from place.to }
+{
+    let to = place.to.min(text.len());
+    &text[place.from.min(to)..to]
+}
+
+/// The line of a refused text: the code, the line and the column, and what stands at the place, if the place isn't empty.
+pub fn refused_line(alloc: Global, text: &[u8], refusal: Refusal) -> Result<Vec<u8>, AllocError>
+    ensures { IfOk result (λ line. line.items ≡ refused_line text.now refusal) }
+{
+    let place = refusal.place;
+    let Place { line, col, .. } = place;
+    let name = code_name(refusal.code);
+    let mut bytes = format!(in alloc; "refused {name} at {line}:{col}")?.into_bytes();
+    if place.from != place.to {
+        bytes.extend_from_slice(b": ")?;
+        bytes.extend_from_slice(part(text, place))?;
+    }
+    bytes.push(b'\n')?;
+    Ok(bytes)
+}

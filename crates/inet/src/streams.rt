@@ -1,0 +1,78 @@
+ghost use Rattle.std.specs.Prelude.{◌≡◌, None};
+
+use in_syntax::{TextIn, TextOut};
+use std::io::{Read, Write};
+
+/// A text from a stream of the system, which tells its failures and no bytes.
+#[derive(Drop)]
+pub struct StreamIn<R> {
+    reader: R,
+    failures: u64,
+}
+
+impl<R> StreamIn<R> {
+    /// The stream, which hasn't failed yet.
+    pub fn new(reader: R) -> StreamIn<R>
+        ensures { result.failures ≡ 0 }
+    {
+        StreamIn {
+            reader,
+            failures: 0,
+        }
+    }
+}
+
+impl<R: Read> TextIn for StreamIn<R> {
+    ghost given = { λ _. None };
+
+    ghost failures = { λ s. s.failures };
+
+    fn read(&mut self, into: &mut [u8]) -> Result<usize, ()> {
+        match self.reader.read(into) {
+            Ok(n) => Ok(n),
+            Err(_) => {
+                self.failures += 1;
+                Err(())
+            }
+        }
+    }
+}
+
+/// A text to a stream of the system, which tells its failures and no bytes.
+#[derive(Drop)]
+pub struct StreamOut<W> {
+    writer: W,
+    failures: u64,
+}
+
+impl<W> StreamOut<W> {
+    /// The stream, which hasn't failed yet.
+    pub fn new(writer: W) -> StreamOut<W>
+        ensures { result.failures ≡ 0 }
+    {
+        StreamOut {
+            writer,
+            failures: 0,
+        }
+    }
+}
+
+impl<W: Write> TextOut for StreamOut<W> {
+    ghost taken = { λ _. None };
+
+    ghost failures = { λ s. s.failures };
+
+    fn write(&mut self, bytes: &[u8]) -> Result<usize, ()> {
+        match self.writer.write(bytes) {
+            Ok(0) if !bytes.is_empty() => {
+                self.failures += 1;
+                Ok(0)
+            }
+            Ok(n) => Ok(n),
+            Err(_) => {
+                self.failures += 1;
+                Err(())
+            }
+        }
+    }
+}

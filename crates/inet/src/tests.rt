@@ -1,0 +1,175 @@
+mod devices;
+
+use crate::acting::{Status, act, tell_usage};
+use devices::{Paper, Stop, Tape};
+use in_words::{Action, Usage};
+use std::alloc::Global;
+use std::process::Abort;
+use std::test::Fail;
+
+const NUMBERS: &str = "type nat;\nsymbol Z : nat+;\nsymbol S : nat+ {nat-};\n";
+
+const SUMS: &str =
+    "type nat;\nsymbol Z : nat+;\nsymbol S : nat+ {nat-};\nsymbol Add : nat- {nat-} {nat+};\n";
+
+const ACCEPTED: &str = "accepted: 1 types, 2 symbols, 0 rules, 3 agents\n";
+
+/// Checks the line and the status on a text that comes from memory.
+fn expect(rt: &impl Abort, alloc: Global, text: &str, line: &str, status: u8) {
+    let mut reader = Tape::new(text.as_bytes());
+    let mut writer = Paper::new(alloc);
+    let answer = act(alloc, &Action::Check, &mut reader, &mut writer);
+    assert!(rt; writer.has(line.as_bytes()), "{line}");
+    assert!(rt; answer == Status(status), "{line}");
+}
+
+/// The text of a program of three agents, as it is accepted.
+fn accepted_text(alloc: Global) -> Result<String, Fail> {
+    Ok(format!(in alloc; "{NUMBERS}net (r : nat+) {{ r ~ S(S(Z)); }}\n")?)
+}
+
+#[test]
+fn nets_over_four_declarations_are_accepted_or_refused(rt: HostRuntime) -> Result<(), Fail> {
+    let rows = [
+        (
+            "net () { }",
+            "accepted: 1 types, 3 symbols, 0 rules, 0 agents\n",
+            0,
+        ),
+        (
+            "net (r : nat+) { S(S(Z)) ~ Add(S(Z), r); }",
+            "accepted: 1 types, 3 symbols, 0 rules, 6 agents\n",
+            0,
+        ),
+        ("net () { $ }", "refused E01 at 5:10\n", 1),
+        ("rule Z[] >< Add[y, y];", "refused E02 at 5:1: rule\n", 1),
+        ("net () { S(Z) ~ S(Z); }", "refused E10 at 5:15: ~\n", 1),
+        ("net () { x ~ x; }", "refused E09 at 1:1\n", 1),
+    ];
+    for (net, line, status) in rows {
+        let text = format!(in rt.alloc(); "{SUMS}{net}\n")?;
+        expect(&rt, rt.alloc(), text.as_str(), line, status);
+    }
+    Ok(())
+}
+
+#[test]
+fn nets_over_three_declarations_are_accepted_or_refused(rt: HostRuntime) -> Result<(), Fail> {
+    let rows = [
+        ("net (r : nat+) { r ~ S(S(Z)); }", ACCEPTED, 0),
+        ("net () { S(Z) ~ S(Z); }", "refused E10 at 4:15: ~\n", 1),
+    ];
+    for (net, line, status) in rows {
+        let text = format!(in rt.alloc(); "{NUMBERS}{net}")?;
+        expect(&rt, rt.alloc(), text.as_str(), line, status);
+    }
+    Ok(())
+}
+
+#[test]
+fn names_come_before_types(rt: HostRuntime) -> Result<(), Fail> {
+    let text = format!(in rt.alloc(); "{NUMBERS}net () {{ S(Z) ~ S(Z); x ~ x; }}")?;
+    expect(&rt, rt.alloc(), text.as_str(), "refused E09 at 1:1\n", 1);
+    Ok(())
+}
+
+#[test]
+fn a_text_may_fill_the_limit_and_not_pass_it(rt: HostRuntime) -> Result<(), Fail> {
+    let alloc = rt.alloc();
+    for (length, line, status) in [
+        (1_048_576usize, ACCEPTED, 0),
+        (1_048_577, "refused E03 at 1:1\n", 1),
+    ] {
+        let program = accepted_text(alloc)?;
+        let mut text = vec![in alloc; b' '; length]?;
+        for (place, byte) in text.iter_mut().zip(program.as_bytes()) {
+            *place = *byte;
+        }
+        let mut reader = Tape::new(text.as_slice());
+        let mut writer = Paper::new(alloc);
+        let answer = act(alloc, &Action::Check, &mut reader, &mut writer);
+        assert!(rt; writer.has(line.as_bytes()), "{length}");
+        assert!(rt; answer == Status(status), "{length}");
+    }
+    Ok(())
+}
+
+#[test]
+fn a_text_comes_byte_by_byte_until_a_read_fails(rt: HostRuntime) -> Result<(), Fail> {
+    let alloc = rt.alloc();
+    let text = accepted_text(alloc)?;
+    let reads = text.len().saturating_add(1);
+    for failing in 1..reads.saturating_add(2) {
+        let mut reader = Tape::dripping(text.as_bytes(), failing);
+        let mut writer = Paper::new(alloc);
+        let answer = act(alloc, &Action::Check, &mut reader, &mut writer);
+        if failing <= reads {
+            assert!(rt; answer == Status(6), "{failing}");
+            assert!(rt; writer.has(b""), "{failing}");
+        } else {
+            assert!(rt; answer == Status(0), "{failing}");
+            assert!(rt; writer.has(ACCEPTED.as_bytes()), "{failing}");
+        }
+    }
+    Ok(())
+}
+
+/// Checks that of this text's line the writers take what they have room for.
+fn expect_fronts(rt: &impl Abort, alloc: Global, text: &str, line: &[u8], status: u8) {
+    for stop in [Stop::Fails, Stop::TakesNothing] {
+        for room in 0..line.len().saturating_add(1) {
+            for step in [1usize, 7, 100] {
+                let mut reader = Tape::new(text.as_bytes());
+                let mut writer = Paper::narrow(alloc, room, step, stop);
+                let answer = act(alloc, &Action::Check, &mut reader, &mut writer);
+                let wanted = if room < line.len() { 6 } else { status };
+                assert!(rt; answer == Status(wanted), "{room} {step}");
+                assert!(rt; writer.has(&line[..room.min(line.len())]), "{room} {step}");
+            }
+        }
+    }
+}
+
+#[test]
+fn a_line_is_written_as_far_as_the_writer_goes(rt: HostRuntime) -> Result<(), Fail> {
+    let alloc = rt.alloc();
+    let text = accepted_text(alloc)?;
+    expect_fronts(&rt, alloc, text.as_str(), ACCEPTED.as_bytes(), 0);
+    expect_fronts(&rt, alloc, "net net", b"refused E02 at 1:5: net\n", 1);
+    Ok(())
+}
+
+#[test]
+fn help_is_output_and_wrong_words_are_an_error(rt: HostRuntime) -> Result<(), Fail> {
+    let alloc = rt.alloc();
+    let help = Usage::Help(String::from_str(alloc, "help\n")?);
+    let wrong = Usage::Wrong(String::from_str(alloc, "wrong\n")?);
+    let rows: [(&Usage, &[u8], &[u8], u8); 3] = [
+        (&help, b"help\n", b"", 0),
+        (&wrong, b"", b"wrong\n", 2),
+        (&Usage::Memory, b"memory\n", b"", 5),
+    ];
+    for (usage, output, error, status) in rows {
+        let mut writer = Paper::new(alloc);
+        let mut errors = Paper::new(alloc);
+        let answer = tell_usage(usage, &mut writer, &mut errors);
+        assert!(rt; answer == Status(status), "{status}");
+        assert!(rt; writer.has(output), "{status}");
+        assert!(rt; errors.has(error), "{status}");
+    }
+    Ok(())
+}
+
+#[test]
+fn what_is_said_of_words_may_find_no_writer(rt: HostRuntime) -> Result<(), Fail> {
+    let alloc = rt.alloc();
+    let help = Usage::Help(String::from_str(alloc, "help\n")?);
+    let wrong = Usage::Wrong(String::from_str(alloc, "wrong\n")?);
+    for (usage, status) in [(&help, 6), (&wrong, 2), (&Usage::Memory, 6)] {
+        let mut writer = Paper::narrow(alloc, 2, 1, Stop::Fails);
+        let mut errors = Paper::narrow(alloc, 2, 1, Stop::Fails);
+        let answer = tell_usage(usage, &mut writer, &mut errors);
+        assert!(rt; answer == Status(status), "{status}");
+    }
+    Ok(())
+}
