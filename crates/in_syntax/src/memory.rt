@@ -1,4 +1,4 @@
-ghost use Rattle.std.specs.Prelude.{◌≡◌, ◌≤◌, Some, take, length};
+ghost use Rattle.std.specs.Prelude.{◌≡◌, ◌≤◌, false, [], Some, take, length};
 
 use crate::streams::{TextIn, TextOut};
 use std::alloc::Global;
@@ -7,23 +7,36 @@ use std::alloc::Global;
 pub struct MemoryIn<'a> {
     text: &'a [u8],
     at: usize,
+    ended: bool,
     ghost within: { at ≤ length text.now },
 }
 
 impl<'a> MemoryIn<'a> {
-    pub fn new(text: &'a [u8]) -> MemoryIn<'a> {
-        MemoryIn { text, at: 0 }
+    pub fn new(text: &'a [u8]) -> MemoryIn<'a>
+        ensures text { result.text.now ≡ text.now }
+        ensures begins { (result.at ≡ 0) × (result.ended ≡ false) }
+    {
+        MemoryIn {
+            text,
+            at: 0,
+            ended: false,
+        }
     }
 }
 
 impl TextIn for MemoryIn<'_> {
     ghost given = { λ s. Some (take s.at s.text.now) };
 
+    ghost ended = { λ s. s.ended };
+
     ghost failures = { λ s. 0 };
 
     fn read(&mut self, into: &mut [u8]) -> Result<usize, ()> {
         let left = self.text.len() - self.at;
         let n = left.min(into.len());
+        if n == 0 && !into.is_empty() {
+            self.ended = true;
+        }
         into[..n].copy_from_slice(&self.text[self.at..self.at + n]);
         self.at += n;
         Ok(n)
@@ -38,7 +51,9 @@ pub struct MemoryOut {
 }
 
 impl MemoryOut {
-    pub fn new(alloc: Global) -> MemoryOut {
+    pub fn new(alloc: Global) -> MemoryOut
+        ensures { (result.text.items ≡ []) × (result.failures ≡ 0) }
+    {
         MemoryOut {
             text: Vec::new(alloc),
             failures: 0,

@@ -1,10 +1,13 @@
-ghost use Rattle.std.specs.Prelude.{◌≡◌, ℕ, ◌+◌, ◌-◌, ◌^◌, ◌<◌, ◌≤◌, List, Option, length, IfOk};
-ghost use Rattle.in_syntax.specs.Streams.{Moves, fails_read, fails_write};
+ghost use Rattle.std.specs.Prelude.{◌≡◌, ℕ, ◌+◌, ◌-◌, ◌^◌, ◌<◌, ◌≤◌, Bool, List, Option, length, IfOk};
+ghost use Rattle.in_syntax.specs.Streams.{Moves, ended_after, fails_read, fails_write};
 
 /// Where a text comes from.
 pub trait TextIn {
     /// The bytes that it gave so far, or nothing where it doesn't tell.
     ghost given: { Self → Option (List ℕ) };
+
+    /// Whether a read gave none of some bytes that were asked for: then the text has ended.
+    ghost ended: { Self → Bool };
 
     /// How many reads failed.
     ghost failures: { Self → ℕ };
@@ -14,6 +17,7 @@ pub trait TextIn {
         requires { failures self.old < 2 ^ 64 - 1 }
         ensures within { IfOk result (λ n. n ≤ length into.new) }
         ensures given { Moves (given self.old) (given self.new) result into.new }
+        ensures ended { ended self.new ≡ ended_after (ended self.old) result into.new }
         ensures failures { failures self.new ≡ failures self.old + fails_read result };
 }
 
