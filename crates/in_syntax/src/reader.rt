@@ -36,7 +36,13 @@ impl Reader {
         requires { HasText text.now token.kind token.place }
         ensures { Takes self (sign_of text.now token) token.place result }
     {
-        self.take_sign(alloc, read_sign(alloc, text, token)?, token.place)
+        match read_sign(alloc, text, token) {
+            Ok(sign) => self.take_sign(alloc, sign, token.place),
+            Err(error) => {
+                put_away(self.spot);
+                Err(Fault::Memory(error))
+            }
+        }
     }
 
     /// Reads one sign, that of the token at this place.
@@ -99,9 +105,15 @@ fn net_of(spot: Spot) -> Option<SourceNet>
 {
     match spot {
         Spot::Done(net) => Some(net),
-        _ => None,
+        unfinished => {
+            put_away(unfinished);
+            None
+        }
     }
 }
+
+// Drops a spot: a call, since the proof of each drop goes through all spots anew.
+fn put_away(_spot: Spot) {}
 
 fn refused(code: Code, place: Place) -> Fault
     ensures { result ≡ steps.fault_at code place }
