@@ -1,12 +1,12 @@
 -- A pass that refuses is the answer, and want of memory is allowed.
-use Rattle.std.specs.Prelude.{List, ℕ, Result, Ok, Err}
+use Rattle.std.proofs.Common.{List, ℕ, Ok, Err}
 use Rattle.in_syntax.specs.declared.faults.Fault.{Fault}
 use Rattle.in_syntax.specs.declared.faults.Fault.TheVariants.{Refused, Memory}
 use Rattle.in_syntax.specs.declared.tree.Source.{Source}
 use Rattle.in_syntax.specs.Parsing.{Parses}
 use Rattle.in_net.specs.Tables.{Tables, Tabulates}
 use Rattle.in_net.specs.Built.{Builds}
-use Rattle.inet.specs.Checking.{IsChecked, IsRefused, no_tree, no_tables, no_net}
+use Rattle.inet.specs.Checking.{IsChecked, no_tree, no_tables, no_net}
 
 pub at_tree : (text : List ℕ) (e : Fault) → Parses text (Err e) → IsChecked text (Err e)
 at_tree text (Refused r) refuses = no_tree refuses

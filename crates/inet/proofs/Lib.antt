@@ -1,2 +1,3 @@
 pub mod Checked
 pub mod Known
+pub mod Told

@@ -1,4 +1,4 @@
-use Rattle.std.proofs.Common.{◌++◌, take, ap, ◌∙◌, ◌≡◌, arith}
+use Rattle.std.proofs.Common.{◌++◌, take, ap, ◌∙◌, arith}
 use Rattle.std.specs.Io.KnownBytes.{append_known}
 use Rattle.inet.proofs.Known.{append_known-twice}
 use Rattle.inet.proofs.reading.read_text.Goals as goal

@@ -1,4 +1,4 @@
-use Rattle.std.proofs.Common.{◌++◌, ◌≤◌, ◌-◌, take, drop, ap, ◌∙◌, ◌≡◌, arith, length, length-take, length-drop}
+use Rattle.std.proofs.Common.{◌≤◌, ◌-◌, take, drop, ap, ◌∙◌, arith, length, length-take, length-drop}
 use Rattle.std.specs.Io.KnownBytes.{append_known}
 use Rattle.inet.proofs.Known.{append_known-twice, written, takes_some}
 use Rattle.inet.proofs.writing.write_all.Goals as goal
