@@ -16,7 +16,12 @@ fn passes(alloc: Global, text: &str) -> Result<(u32, u32, u32, u32), Fault> {
     let symbols = Symbols::build(alloc, &source)?;
     let net = build_net(alloc, &source, &symbols)?;
     match type_net(&symbols, &net) {
-        Ok(()) => Ok((symbols.symbols(), net.agents(), net.wires(), net.free_ends())),
+        Ok(()) => Ok((
+            symbols.symbols(),
+            net.agents(),
+            net.wires(),
+            net.free_ends(),
+        )),
         Err(refusal) => Err(Fault::Refused(refusal)),
     }
 }
@@ -26,7 +31,9 @@ fn main(rt: HostRuntime) -> Result<()> {
         let text = fs::read_to_string(&rt, name)?;
         match passes(rt.alloc(), text.as_str()) {
             Ok((symbols, agents, wires, free)) => {
-                println!(rt; "{name}: {symbols} symbols, {agents} agents, {wires} wires, {free} free ends")?
+                println!(rt;
+                    "{name}: {symbols} symbols, {agents} agents, {wires} wires, {free} free ends"
+                )?
             }
             Err(fault) => println!(rt; "{name}: {fault:?}")?,
         }

@@ -57,10 +57,10 @@ term_read : (t : Tables) (h : ℕ) → AgentsRead t h → (u : Term) (r : Readin
 term_read t h ih u r short heads None is =
     let both = two (is_none (map (heads_known t.names) (out-Term u).args) || is_some (number_in (out-Term u).name.text t.names)) (all_true (map (heads_known t.names) (out-Term u).args)) (sym (heads_out t.names u) ∙ heads) in
     let alone : is_none (map (heads_known t.names) (out-Term u).args) ≡ true =
-        sym (or_false (is_none (map (heads_known t.names) (out-Term u).args))) ∙ ap (λ (o : Option ℕ). is_none (map (heads_known t.names) (out-Term u).args) || is_some o) (sym is) ∙ both.0 in
+    sym (or_false (is_none (map (heads_known t.names) (out-Term u).args))) ∙ ap (λ (o : Option ℕ). is_none (map (heads_known t.names) (out-Term u).args) || is_some o) (sym is) ∙ both.0 in
     let none = no_arguments t (out-Term u).args alone in
     let nothing : agents_of t u ≡ [] =
-        agents_out t u ∙ ap (λ (o : Option ℕ). written_by o (out-Term u).name.place ++ flat_map (λ a. a) (map (agents_of t) (out-Term u).args)) is ∙ ap (λ us. flat_map (λ a. a) (map (agents_of t) us)) none in
+    agents_out t u ∙ ap (λ (o : Option ℕ). written_by o (out-Term u).name.place ++ flat_map (λ a. a) (map (agents_of t) (out-Term u).args)) is ∙ ap (λ us. flat_map (λ a. a) (map (agents_of t) us)) none in
     ap (λ (p : Reading × ℕ). as_written p.0.agents) (read_occurrence t u r is) ∙ sym (append-nil (as_written r.agents)) ∙ ap (λ z. as_written r.agents ++ z) (sym nothing)
 term_read t h ih u r short heads (Some s) is =
     let symbol : SymbolNo = record { 0 = s } in
@@ -86,8 +86,8 @@ equations_read t (e ∷ es) r heads =
     let left : Reading = ((reader_of t e.left).reads r).0 in
     equations_read t es (reads_equation t e r) heads.1
     ∙ ap (λ z. z ++ flat_map (λ e. agents_of t e.left ++ agents_of t e.right) es)
-        (agents_read t (names_in e.right) e.right ((reader_of t e.left).reads r).0 (omega arith) heads.0.1 ∙ ap (λ z. z ++ agents_of t e.right) (agents_read t (names_in e.left) e.left r (omega arith) heads.0.0)
-        ∙ append_assoc (as_written r.agents) (agents_of t e.left) (agents_of t e.right))
+    (agents_read t (names_in e.right) e.right ((reader_of t e.left).reads r).0 (omega arith) heads.0.1 ∙ ap (λ z. z ++ agents_of t e.right) (agents_read t (names_in e.left) e.left r (omega arith) heads.0.0)
+    ∙ append_assoc (as_written r.agents) (agents_of t e.left) (agents_of t e.right))
     ∙ append_assoc (as_written r.agents) (agents_of t e.left ++ agents_of t e.right) (flat_map (λ e. agents_of t e.left ++ agents_of t e.right) es)
 
 -- the agents that are read of a net

@@ -25,7 +25,6 @@ pub use faults::{Code, Fault, Refusal};
 pub use lexer::{MAX_NAME_CHARACTERS, MAX_TEXT_BYTES, tokens};
 pub use machine::{MAX_DEPTH, MAX_PORTS};
 pub use memory::{MemoryIn, MemoryOut};
-pub use parser::program;
 pub use parsing::parse;
 pub use places::Place;
 pub use streams::{TextIn, TextOut};

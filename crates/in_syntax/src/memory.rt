@@ -1,4 +1,4 @@
-ghost use Rattle.std.specs.Prelude.{◌≡◌, ◌≤◌, false, [], Some, take, length};
+ghost use Rattle.std.specs.Prelude.{◌≡◌, ◌≤◌, false, true, [], Some, take, length};
 
 use crate::streams::{TextIn, TextOut};
 use std::alloc::Global;
@@ -9,6 +9,7 @@ pub struct MemoryIn<'a> {
     at: usize,
     ended: bool,
     ghost within: { at ≤ length text.now },
+    ghost whole: { ended ≡ true → at ≡ length text.now },
 }
 
 impl<'a> MemoryIn<'a> {

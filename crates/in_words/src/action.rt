@@ -31,7 +31,9 @@ impl From<AllocError> for Usage {
 }
 
 fn command<'a>(alloc: Global) -> Result<Command<'a>, AllocError> {
-    let check = Command::new(alloc, "check").about("Says whether the program on standard input is accepted");
+    let check = Command::new(alloc, "check").about(
+        "Says whether the program on standard input is accepted",
+    );
     Command::new(alloc, "inet")
         .about("Checks programs of interaction nets")
         .subcommand_required(true)

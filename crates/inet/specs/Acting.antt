@@ -1,30 +1,27 @@
 -- What the program does: the line that it writes on the text that it reads, and its status.
-use Rattle.std.specs.Prelude.{◌≡◌, ◌⊎◌, ℕ, List, string_bytes}
+use Rattle.std.specs.Prelude.{◌≡◌, ◌⊎◌, ℕ, Bool, List, string_bytes}
 use Rattle.in_syntax.specs.declared.faults.Refusal.{Refusal}
 use Rattle.inet.specs.declared.acting.Status.{Status}
 use Rattle.in_words.specs.declared.action.Usage.{Usage}
 use Rattle.in_words.specs.declared.action.Usage.TheVariants.{Wrong, Help, Memory}
 use Rattle.inet.specs.declared.checking.Counts.{Counts}
 use Rattle.inet.specs.Checking.{IsAccepted, IsRefused}
-use Rattle.inet.specs.Devices.{Device, Moves, Breaks, BreaksWithin}
+use Rattle.inet.specs.Devices.{Device, Moves, Breaks, BreaksWithin, IsWhole}
 use Rattle.inet.specs.Lines.{accepted_line, refused_line, memory_line}
 
 -- what the program says of a text
 pub data Report : Type 0 where
   accepted : Counts → Report
   refused : Refusal → Report
-  memory : Report
 
--- what it says is so; it may want memory for any text
+-- what it says is so
 abbrev pub IsReport : List ℕ → Report → Type 0
 IsReport text (accepted counts) = IsAccepted text counts
 IsReport text (refused r) = IsRefused text r
-IsReport text memory = Unit {0}
 
 abbrev pub line_of : List ℕ → Report → List ℕ
 line_of text (accepted counts) = accepted_line counts
 line_of text (refused r) = refused_line text r
-line_of text memory = memory_line
 
 abbrev pub status : ℕ → Status
 status n = record { 0 = n }
@@ -32,7 +29,6 @@ status n = record { 0 = n }
 abbrev pub status_of : Report → Status
 status_of (accepted counts) = status 0
 status_of (refused r) = status 1
-status_of memory = status 5
 
 -- the status of a call in which a read or a write failed
 abbrev pub fault_status : Status
@@ -55,12 +51,16 @@ TellsUsage w w' e e' (Help text) answer = Tells w w' (string_bytes text) (status
 TellsUsage w w' e e' (Wrong text) answer = (w' ≡ w) × (Moves e e' (string_bytes text) ⊎ BreaksWithin e e' (string_bytes text)) × (answer ≡ status 2)
 TellsUsage w w' e e' Memory answer = Tells w w' memory_line (status 5) answer × (e' ≡ e)
 
--- what a call did, from a reader r and a writer w to what they are after it
-pub data Acts (r r' w w' : Device) (s : Status) : Type 0 where
-  -- a text was read, and the line on it written
-  told : (text line : List ℕ) → Moves r r' text → IsReply text line s → Moves w w' line → Acts r r' w w' s
+-- what a call did, from a reader r and a writer w to what they are after it; whether the reader's text has ended then
+pub data Acts (r r' : Device) (ended : Bool) (w w' : Device) (s : Status) : Type 0 where
+  -- the whole text was read, and the line on it written
+  told : (text line : List ℕ) → Moves r r' text → IsWhole ended text → IsReply text line s → Moves w w' line → Acts r r' ended w w' s
+  -- memory was wanted, and nothing else is told
+  wanted : (bytes : List ℕ) → Moves r r' bytes → Moves w w' memory_line → s ≡ status 5 → Acts r r' ended w w' s
   -- a read failed, and nothing was written
-  unread : (text : List ℕ) → Breaks r r' text → w' ≡ w → s ≡ fault_status → Acts r r' w w' s
+  unread : (bytes : List ℕ) → Breaks r r' bytes → w' ≡ w → s ≡ fault_status → Acts r r' ended w w' s
   -- a write failed within the line on the text that was read
-  unwritten : (text line : List ℕ) (t : Status) → Moves r r' text → IsReply text line t → BreaksWithin w w' line → s ≡ fault_status →
-      Acts r r' w w' s
+  unwritten : (text line : List ℕ) (t : Status) → Moves r r' text → IsWhole ended text → IsReply text line t → BreaksWithin w w' line → s ≡ fault_status →
+      Acts r r' ended w w' s
+  -- a write failed within the line that tells of want of memory
+  unwanted : (bytes : List ℕ) → Moves r r' bytes → BreaksWithin w w' memory_line → s ≡ fault_status → Acts r r' ended w w' s

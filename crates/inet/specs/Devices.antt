@@ -1,6 +1,7 @@
 -- What a call did to a reader or a writer.
-use Rattle.std.specs.Prelude.{◌≡◌, ℕ, ◌+◌, ◌<◌, List, length, take, Option, Result, Ok, Err}
+use Rattle.std.specs.Prelude.{◌≡◌, ◌⊎◌, ℕ, ◌+◌, ◌<◌, Bool, true, List, length, take, Option, Result, Ok, Err}
 use Rattle.std.specs.Io.KnownBytes.{append_known}
+use Rattle.in_syntax.specs.Tokens.{text_limit}
 use Rattle.inet.specs.declared.reading.Input.{Input}
 use Rattle.inet.specs.declared.reading.Input.TheVariants as input
 
@@ -28,11 +29,15 @@ pub record BreaksWithin (old new : Device) (bytes : List ℕ) : Type 0 where
   pub short : count < length bytes
   pub breaks : Breaks old new (take count bytes)
 
--- how reading a text ended
-abbrev pub IsInput : Device → Device → Input → Type 0
-IsInput old new (input.Text text) = Moves old new text.items
-IsInput old new input.Failed = (bytes : List ℕ) × Breaks old new bytes
-IsInput old new input.Memory = (bytes : List ℕ) × Moves old new bytes
+-- the bytes are all that there are, or more than a text has
+abbrev pub IsWhole : Bool → List ℕ → Type 0
+IsWhole ended bytes = (ended ≡ true) ⊎ (text_limit < length bytes)
+
+-- how reading a text came to an end, and whether the reader's text has ended then
+abbrev pub IsInput : Device → Device → Bool → Input → Type 0
+IsInput old new ended (input.Text text) = Moves old new text.items × IsWhole ended text.items
+IsInput old new ended input.Failed = (bytes : List ℕ) × Breaks old new bytes
+IsInput old new ended input.Memory = (bytes : List ℕ) × Moves old new bytes
 
 -- all is written, or a front of it up to a failure
 abbrev pub WritesAll : Device → Device → List ℕ → Result (Unit {0}) (Unit {0}) → Type 0

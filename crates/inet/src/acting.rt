@@ -70,7 +70,7 @@ pub fn act<R: TextIn, W: TextOut>(
 ) -> Status
     requires reader { R.failures reader.old < 2 ^ 64 - 1 }
     requires writer { W.failures writer.old < 2 ^ 64 - 1 }
-    ensures { Acts (device (R.given reader.old) (R.failures reader.old)) (device (R.given reader.new) (R.failures reader.new)) (device (W.taken writer.old) (W.failures writer.old)) (device (W.taken writer.new) (W.failures writer.new)) result }
+    ensures { Acts (device (R.given reader.old) (R.failures reader.old)) (device (R.given reader.new) (R.failures reader.new)) (R.ended reader.new) (device (W.taken writer.old) (W.failures writer.old)) (device (W.taken writer.new) (W.failures writer.new)) result }
 {
     match action {
         Action::Check => match read_text(alloc, reader) {

@@ -18,7 +18,7 @@ pub enum Input {
 /// Reads to the end, or until more bytes came than a text has.
 pub fn read_text<R: TextIn>(alloc: Global, reader: &mut R) -> Input
     requires { R.failures reader.old < 2 ^ 64 - 1 }
-    ensures { IsInput (device (R.given reader.old) (R.failures reader.old)) (device (R.given reader.new) (R.failures reader.new)) result }
+    ensures { IsInput (device (R.given reader.old) (R.failures reader.old)) (device (R.given reader.new) (R.failures reader.new)) (R.ended reader.new) result }
 {
     let mut text = Vec::new(alloc);
     let mut buffer = [0u8; 4096];

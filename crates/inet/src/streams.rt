@@ -7,6 +7,7 @@ use std::io::{Read, Write};
 #[derive(Drop)]
 pub struct StreamIn<R> {
     reader: R,
+    ended: bool,
     failures: u64,
 }
 
@@ -17,6 +18,7 @@ impl<R> StreamIn<R> {
     {
         StreamIn {
             reader,
+            ended: false,
             failures: 0,
         }
     }
@@ -25,11 +27,18 @@ impl<R> StreamIn<R> {
 impl<R: Read> TextIn for StreamIn<R> {
     ghost given = { λ _. None };
 
+    ghost ended = { λ s. s.ended };
+
     ghost failures = { λ s. s.failures };
 
     fn read(&mut self, into: &mut [u8]) -> Result<usize, ()> {
         match self.reader.read(into) {
-            Ok(n) => Ok(n),
+            Ok(n) => {
+                if n == 0 && !into.is_empty() {
+                    self.ended = true;
+                }
+                Ok(n)
+            }
             Err(_) => {
                 self.failures += 1;
                 Err(())

@@ -10,6 +10,7 @@ pub struct Tape<'a> {
     step: usize,
     failing: usize,
     reads: usize,
+    ended: bool,
     failures: u64,
 }
 
@@ -23,6 +24,7 @@ impl<'a> Tape<'a> {
             step: usize::MAX,
             failing: 0,
             reads: 0,
+            ended: false,
             failures: 0,
         }
     }
@@ -36,6 +38,7 @@ impl<'a> Tape<'a> {
             step: 1,
             failing,
             reads: 0,
+            ended: false,
             failures: 0,
         }
     }
@@ -43,6 +46,8 @@ impl<'a> Tape<'a> {
 
 impl TextIn for Tape<'_> {
     ghost given = { λ _. None };
+
+    ghost ended = { λ s. s.ended };
 
     ghost failures = { λ s. s.failures };
 
@@ -56,6 +61,9 @@ impl TextIn for Tape<'_> {
         let n = self.step.min(into.len()).min(text.len());
         into[..n].copy_from_slice(&text[..n]);
         self.text = &text[n..];
+        if n == 0 && !into.is_empty() {
+            self.ended = true;
+        }
         Ok(n)
     }
 }
