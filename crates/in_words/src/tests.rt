@@ -1,6 +1,20 @@
 use crate::{Action, Usage, action_of};
 use std::test::Fail;
 
+fn is_wrong(answer: &Result<Action, Usage>) -> bool {
+    match answer {
+        Err(Usage::Wrong(text)) => !text.is_empty(),
+        _ => false,
+    }
+}
+
+fn is_help(answer: &Result<Action, Usage>) -> bool {
+    match answer {
+        Err(Usage::Help(text)) => text.as_str().contains("Usage: inet"),
+        _ => false,
+    }
+}
+
 #[test]
 fn the_word_check_is_an_action(rt: HostRuntime) -> Result<(), Fail> {
     assert!(rt; action_of(rt.alloc(), &["inet", "check"])? == Action::Check);
@@ -10,34 +24,18 @@ fn the_word_check_is_an_action(rt: HostRuntime) -> Result<(), Fail> {
 #[test]
 fn other_words_are_wrong(rt: HostRuntime) {
     let alloc = rt.alloc();
-    let words: [&[&str]; 6] = [
-        &["inet"],
-        &["inet", "derive"],
-        &["inet", "run"],
-        &["inet", "check", "check"],
-        &["inet", "check", "--limit", "1"],
-        &["inet", "Check"],
-    ];
-    for line in words {
-        match action_of(alloc, line) {
-            Err(Usage::Wrong(text)) => assert!(rt; !text.is_empty()),
-            _ => assert!(rt; false, "{line:?}"),
-        }
-    }
+    assert!(rt; is_wrong(&action_of(alloc, &["inet"])));
+    assert!(rt; is_wrong(&action_of(alloc, &["inet", "derive"])));
+    assert!(rt; is_wrong(&action_of(alloc, &["inet", "run"])));
+    assert!(rt; is_wrong(&action_of(alloc, &["inet", "check", "check"])));
+    assert!(rt; is_wrong(&action_of(alloc, &["inet", "check", "--limit", "1"])));
+    assert!(rt; is_wrong(&action_of(alloc, &["inet", "Check"])));
 }
 
 #[test]
 fn help_is_told(rt: HostRuntime) {
     let alloc = rt.alloc();
-    let words: [&[&str]; 3] = [
-        &["inet", "--help"],
-        &["inet", "-h"],
-        &["inet", "check", "--help"],
-    ];
-    for line in words {
-        match action_of(alloc, line) {
-            Err(Usage::Help(text)) => assert!(rt; text.as_str().contains("Usage: inet")),
-            _ => assert!(rt; false, "{line:?}"),
-        }
-    }
+    assert!(rt; is_help(&action_of(alloc, &["inet", "--help"])));
+    assert!(rt; is_help(&action_of(alloc, &["inet", "-h"])));
+    assert!(rt; is_help(&action_of(alloc, &["inet", "check", "--help"])));
 }

@@ -1,5 +1,5 @@
 -- What a call did to a reader or a writer.
-use Rattle.std.specs.Prelude.{◌≡◌, ◌⊎◌, ℕ, ◌+◌, ◌<◌, Bool, true, List, length, take, Option, Result, Ok, Err}
+use Rattle.std.specs.Prelude.{◌≡◌, ◌⊎◌, ℕ, ◌+◌, ◌<◌, Bool, IsTrue, List, length, take, Option, Result, Ok, Err}
 use Rattle.std.specs.Io.KnownBytes.{append_known}
 use Rattle.in_syntax.specs.Tokens.{text_limit}
 use Rattle.inet.specs.declared.reading.Input.{Input}
@@ -29,13 +29,13 @@ pub record BreaksWithin (old new : Device) (bytes : List ℕ) : Type 0 where
   pub short : count < length bytes
   pub breaks : Breaks old new (take count bytes)
 
--- the bytes are all that there are, or more than a text has
-abbrev pub IsWhole : Bool → List ℕ → Type 0
-IsWhole ended bytes = (ended ≡ true) ⊎ (text_limit < length bytes)
+-- the bytes are the text up to its end, or more of it than a text may have
+abbrev pub IsEnough : Bool → List ℕ → Type 0
+IsEnough ended bytes = IsTrue ended ⊎ (text_limit < length bytes)
 
--- how reading a text came to an end, and whether the reader's text has ended then
+-- how reading a text ended, where the last argument but one says whether the reader tells that it has ended
 abbrev pub IsInput : Device → Device → Bool → Input → Type 0
-IsInput old new ended (input.Text text) = Moves old new text.items × IsWhole ended text.items
+IsInput old new ended (input.Text text) = Moves old new text.items × IsEnough ended text.items
 IsInput old new ended input.Failed = (bytes : List ℕ) × Breaks old new bytes
 IsInput old new ended input.Memory = (bytes : List ℕ) × Moves old new bytes
 

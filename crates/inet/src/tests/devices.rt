@@ -59,11 +59,11 @@ impl TextIn for Tape<'_> {
         }
         let text = self.text;
         let n = self.step.min(into.len()).min(text.len());
-        into[..n].copy_from_slice(&text[..n]);
-        self.text = &text[n..];
         if n == 0 && !into.is_empty() {
             self.ended = true;
         }
+        into[..n].copy_from_slice(&text[..n]);
+        self.text = &text[n..];
         Ok(n)
     }
 }

@@ -1,11 +1,11 @@
 use Rattle.std.proofs.Common.{refl}
 use Rattle.inet.specs.Acting.{unread}
-use Rattle.inet.proofs.Told.{tells_seen, wants_memory}
+use Rattle.inet.proofs.Told.{tells_reply, wants_memory}
 use Rattle.inet.proofs.acting.act.Goals as goal
 
 pub returns-in-Ok : goal.returns-in-Ok
-returns-in-Ok g c = tells_seen _ _ _ _ _ c.in-Text.text.items c.in-Ok.reply.line.items _ _ c.in-Ok.reply.status _
-    c.as_slice.ensures.value c.as_slice-in-Ok.ensures.value c.in-Text.ensures.0 c.in-Text.ensures.1 c.in-Ok.ensures c.tell.ensures
+returns-in-Ok g c = tells_reply _ _ _ _ _ c.in-Text.text.items c.in-Ok.reply.line.items _ _ c.in-Ok.reply.status _
+    c.as_slice.ensures.value c.as_slice-in-Ok.ensures.value c.in-Text.ensures c.in-Ok.ensures c.tell.ensures
 
 pub returns-in-Text : goal.returns-in-Text
 returns-in-Text g c = wants_memory _ _ _ _ _ c.in-Text.text.items _ c.in-Text.ensures.0 c.tell-in-Err.ensures
