@@ -2,7 +2,8 @@
 #![tactic(auto)]
 
 use anyhow::Result;
-use in_net::{Symbols, build_net};
+use in_net::build_net;
+use in_symbols::Symbols;
 use in_syntax::{Fault, parse};
 use in_typing::type_net;
 use std::alloc::Global;

@@ -9,16 +9,16 @@ use Rattle.in_syntax.specs.declared.tree.Equation.{Equation}
 use Rattle.in_syntax.specs.declared.tree.SourceNet.{SourceNet}
 use Rattle.in_syntax.specs.Sizes.{total, names_in}
 use Rattle.in_net.specs.declared.nets.Cell.{Cell}
-use Rattle.in_net.specs.declared.symbols.SymbolNo.{SymbolNo}
+use Rattle.in_symbols.specs.declared.symbols.SymbolNo.{SymbolNo}
 use Rattle.in_net.specs.declared.reading.Agent.{Agent}
 use Rattle.in_net.specs.declared.reading.Reading.{Reading}
-use Rattle.in_net.specs.Names.{number_in}
-use Rattle.in_net.specs.Tables.{Tables, arity_of, is_none, all_true, heads_known, HeadsKnown}
+use Rattle.in_symbols.specs.Names.{number_in}
+use Rattle.in_symbols.specs.Tables.{Tables, arity_of, is_none, all_true, heads_known, HeadsKnown}
 use Rattle.in_net.specs.Reading.{with_agent, with_argument, reader_of, reads_arguments, reads_equation, reads_equations, reads_free, reading_of}
 use Rattle.in_net.specs.Building.{IsCellOf, AreCellsOf}
 use Rattle.in_net.specs.TextNet.{Written, written_by, agents_of, agents_of_net, IsCellFor, AreCellsFor}
 use Rattle.in_net.proofs.Folds.{names_out, read_agent, read_occurrence}
-use Rattle.in_net.proofs.Heads.{heads_out}
+use Rattle.in_symbols.proofs.Heads.{heads_out}
 
 or_false : (b : Bool) → (b || false) ≡ b
 or_false true = refl

@@ -6,7 +6,7 @@ use Rattle.in_net.specs.declared.reading.Agent.{Agent}
 use Rattle.in_net.specs.declared.nets.Cell.{Cell}
 use Rattle.in_net.specs.declared.nets.FreeEnd.{FreeEnd}
 use Rattle.in_net.specs.declared.nets.Wire.{Wire}
-use Rattle.in_net.specs.Tables.{Tables, Knows, FreeKnown}
+use Rattle.in_symbols.specs.Tables.{Tables, Knows, FreeKnown}
 use Rattle.in_net.specs.Joining.{IsAgentOf, AgentsOf}
 use Rattle.in_net.specs.Building.{IsCellOf, AreCellsOf, IsFreeOf, AreFreeOf, IsWireIn, AreWiresIn}
 use Rattle.in_net.proofs.Inside.{all_snoc, from_place}

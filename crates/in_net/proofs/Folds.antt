@@ -5,9 +5,10 @@ use Rattle.std.proofs.lemmas.List.{length-map, drop_all}
 use Rattle.in_syntax.specs.declared.tree.Term.{Term, out-Term}
 use Rattle.in_syntax.specs.declared.tree.Term.TheFolds.{fold_out-Term}
 use Rattle.in_syntax.specs.Sizes.{total, names_in}
-use Rattle.in_net.specs.declared.symbols.SymbolNo.{SymbolNo}
-use Rattle.in_net.specs.Names.{number_in}
-use Rattle.in_net.specs.Tables.{Tables, arity_of, fits_arity, all_true, arities_fit, symbol_numbered}
+use Rattle.in_symbols.specs.declared.symbols.SymbolNo.{SymbolNo}
+use Rattle.in_symbols.specs.Names.{number_in}
+use Rattle.in_symbols.specs.Tables.{Tables, arity_of, all_true, symbol_numbered}
+use Rattle.in_net.specs.Arities.{fits_arity, arities_fit}
 use Rattle.in_net.specs.declared.reading.Reading.{Reading}
 use Rattle.in_net.specs.Reading.{Reader, reader_step, reads_name, reads_arguments, with_agent, with_occurrence, reader_of}
 

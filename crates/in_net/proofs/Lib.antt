@@ -2,12 +2,9 @@ pub mod Absent
 pub mod Agents
 pub mod Cells
 pub mod Folds
-pub mod Heads
 pub mod Inside
-pub mod Maps
 pub mod Ports
 pub mod Read
-pub mod Shapes
 pub mod Small
 pub mod Unlinked
 pub mod Whole

@@ -10,13 +10,14 @@ use Rattle.in_syntax.specs.declared.tree.Equation.{Equation}
 use Rattle.in_syntax.specs.declared.tree.SourceFree.{SourceFree}
 use Rattle.in_syntax.specs.declared.tree.SourceNet.{SourceNet}
 use Rattle.in_syntax.specs.Sizes.{total, names_in, names_in_equation, names_in_equations}
-use Rattle.in_net.specs.declared.symbols.SymbolNo.{SymbolNo}
+use Rattle.in_symbols.specs.declared.symbols.SymbolNo.{SymbolNo}
 use Rattle.in_net.specs.declared.reading.Spot.{Spot}
 use Rattle.in_net.specs.declared.reading.Spot.TheVariants.{Port, Free, Occurrence}
 use Rattle.in_net.specs.declared.reading.Agent.{Agent}
 use Rattle.in_net.specs.declared.reading.Reading.{Reading}
-use Rattle.in_net.specs.Names.{number_in}
-use Rattle.in_net.specs.Tables.{Tables, arity_of, arities_fit, all_arities_fit, all_true}
+use Rattle.in_symbols.specs.Names.{number_in}
+use Rattle.in_symbols.specs.Tables.{Tables, arity_of, all_true}
+use Rattle.in_net.specs.Arities.{arities_fit, all_arities_fit}
 use Rattle.in_net.specs.Reading.{with_agent, with_occurrence, with_argument, with_equation, with_name, ports_from, reader_of, reads_arguments, reads_equation, reads_equations, free_from, reads_free, reading_of}
 use Rattle.in_net.specs.Joining.{no_agent, port_spot, EquationsInside, ArgumentsInside, OccurrencesInside, IsSpotOf, IsAgentOf}
 use Rattle.in_net.proofs.Inside.{all_snoc}

@@ -3,9 +3,9 @@ use Rattle.std.proofs.Common.{◌≡◌, ℕ, zero, suc, ◌+◌, ◌-◌, ◌�
 use Rattle.std.specs.List.{AllByRecursion}
 use Rattle.in_syntax.specs.declared.tree.Source.{Source}
 use Rattle.in_syntax.specs.Sizes.{IsSized}
-use Rattle.in_net.specs.declared.symbols.Shape.{Shape}
-use Rattle.in_net.specs.Tables.{Tables, IsShape, AreShapes, arity_in, arity_of, type_names, IsTabled}
-use Rattle.in_net.proofs.Shapes.{are_shapes}
+use Rattle.in_symbols.specs.declared.symbols.Shape.{Shape}
+use Rattle.in_symbols.specs.Tables.{Tables, IsShape, AreShapes, arity_in, arity_of, type_names, IsTabled}
+use Rattle.in_symbols.proofs.Shapes.{are_shapes}
 use Rattle.in_net.proofs.Read.{AreSmall}
 
 few : (ss : List Shape) (s : ℕ) → AreShapes ss → arity_in (slice_get ss s) ≤ 8

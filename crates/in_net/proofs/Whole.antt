@@ -13,7 +13,7 @@ use Rattle.in_net.specs.declared.nets.FreeEnd.{FreeEnd}
 use Rattle.in_net.specs.declared.nets.Wire.{Wire}
 use Rattle.in_net.specs.declared.reading.Agent.{Agent}
 use Rattle.in_net.specs.declared.reading.Reading.{Reading}
-use Rattle.in_net.specs.Tables.{Tables, arity_of}
+use Rattle.in_symbols.specs.Tables.{Tables, arity_of}
 use Rattle.in_net.specs.Joining.{no_agent, IsAgentOf, AgentsOf}
 use Rattle.in_net.specs.Building.{IsCellOf, AreCellsOf, AreFreeOf, IsPointIn, IsWireIn, AreWiresIn}
 use Rattle.in_net.specs.Built.{IsReadFrom, IsCellOver}

@@ -10,7 +10,7 @@ use Rattle.in_net.specs.declared.nets.Point.TheVariants.{Port, Free}
 use Rattle.in_net.specs.declared.nets.Cell.{Cell}
 use Rattle.in_net.specs.declared.nets.FreeEnd.{FreeEnd}
 use Rattle.in_net.specs.declared.nets.Wire.{Wire}
-use Rattle.in_net.specs.Tables.{Tables, arity_of, port_of}
+use Rattle.in_symbols.specs.Tables.{Tables, arity_of, port_of}
 use Rattle.in_net.specs.Joining.{no_agent}
 
 -- the point that a spot is; an occurrence is none

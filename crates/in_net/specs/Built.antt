@@ -8,7 +8,7 @@ use Rattle.in_net.specs.declared.reading.Reading.{Reading}
 use Rattle.in_net.specs.Joining.{SpotsOf, AgentsOf}
 use Rattle.in_net.specs.declared.nets.Cell.{Cell}
 use Rattle.in_net.specs.Parts.{Parts}
-use Rattle.in_net.specs.Tables.{Tables, arity_of}
+use Rattle.in_symbols.specs.Tables.{Tables, arity_of}
 use Rattle.in_net.specs.Building.{AreCellsOf, AreFreeOf}
 use Rattle.in_net.specs.TextNet.{HasPointsOf}
 

@@ -9,7 +9,7 @@ use Rattle.in_net.specs.declared.reading.Argument.{Argument}
 use Rattle.in_net.specs.declared.reading.Equated.{Equated}
 use Rattle.in_net.specs.declared.reading.Occurrence.{Occurrence}
 use Rattle.in_net.specs.declared.reading.Reading.{Reading}
-use Rattle.in_net.specs.Tables.{Tables, arity_of}
+use Rattle.in_symbols.specs.Tables.{Tables, arity_of}
 use Rattle.in_net.specs.declared.joining.Link.{Link}
 use Rattle.in_net.specs.declared.joining.Meeting.{Meeting}
 use Rattle.in_net.specs.declared.joining.Seen.{Seen}

@@ -1,9 +1,8 @@
+pub mod Arities
 pub mod Building
 pub mod Built
 pub mod Joining
-pub mod Names
 pub mod Nets
 pub mod Parts
 pub mod Reading
-pub mod Tables
 pub mod TextNet

@@ -1,9 +1,9 @@
 -- Nets over any names of agents. Lafont 1990: agents carry symbols, and each port and each free end is on exactly one wire.
 use Rattle.std.specs.Prelude.{◌≡◌, ◌≢◌, ℕ, suc, ◌<◌, ◌≤◌, List, length, map, Option, Some, None, IsSome, IsSomeAnd, option_map}
-use Rattle.in_net.specs.declared.symbols.PortType.{PortType}
+use Rattle.in_symbols.specs.declared.symbols.PortType.{PortType}
 use Rattle.in_net.specs.declared.nets.Point as points
 use Rattle.in_net.specs.declared.nets.Point.TheVariants as point
-use Rattle.in_net.specs.Tables.{Tables, arity_of, port_at, class_at}
+use Rattle.in_symbols.specs.Tables.{Tables, arity_of, port_at, class_at}
 use Rattle.in_net.specs.Parts.{Parts, symbol_in, partner_in}
 use Rattle.in_net.specs.TextNet.{IsAmong}
 

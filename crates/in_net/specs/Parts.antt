@@ -2,8 +2,8 @@
 use Rattle.std.specs.Prelude.{◌≡◌, ℕ, ◌^◌, ◌<◌, Bool, true, List, length, Option, Some, None, IsSomeAnd, option_map, option_and_then, slice_get}
 use Rattle.std.specs.List.{AllByRecursion}
 use Rattle.in_syntax.specs.declared.places.Place.{Place}
-use Rattle.in_net.specs.declared.symbols.PortType.{PortType}
-use Rattle.in_net.specs.declared.symbols.SymbolNo.{SymbolNo}
+use Rattle.in_symbols.specs.declared.symbols.PortType.{PortType}
+use Rattle.in_symbols.specs.declared.symbols.SymbolNo.{SymbolNo}
 use Rattle.in_net.specs.declared.nets.Point.{Point}
 use Rattle.in_net.specs.declared.nets.Point.TheVariants.{Port, Free}
 use Rattle.in_net.specs.declared.nets.Cell.{Cell}

@@ -8,15 +8,15 @@ use Rattle.in_syntax.specs.declared.tree.Term.TheFolds.{fold-Term}
 use Rattle.in_syntax.specs.declared.tree.Equation.{Equation}
 use Rattle.in_syntax.specs.declared.tree.SourceFree.{SourceFree}
 use Rattle.in_syntax.specs.declared.tree.SourceNet.{SourceNet}
-use Rattle.in_net.specs.declared.symbols.SymbolNo.{SymbolNo}
+use Rattle.in_symbols.specs.declared.symbols.SymbolNo.{SymbolNo}
 use Rattle.in_net.specs.declared.reading.Spot.{Spot}
 use Rattle.in_net.specs.declared.reading.Spot.TheVariants.{Port, Free, Occurrence}
 use Rattle.in_net.specs.declared.reading.Agent.{Agent}
 use Rattle.in_net.specs.declared.reading.Argument.{Argument}
 use Rattle.in_net.specs.declared.reading.Equated.{Equated}
 use Rattle.in_net.specs.declared.reading.Reading.{Reading}
-use Rattle.in_net.specs.Names.{number_in}
-use Rattle.in_net.specs.Tables.{Tables, arity_of}
+use Rattle.in_symbols.specs.Names.{number_in}
+use Rattle.in_symbols.specs.Tables.{Tables, arity_of}
 
 abbrev pub nothing_read : Reading
 nothing_read = record { spots = []; agents = []; arguments = []; equations = []; names = []; occurrences = [] }

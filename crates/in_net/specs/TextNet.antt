@@ -11,8 +11,8 @@ use Rattle.in_syntax.specs.declared.tree.SourceNet.{SourceNet}
 use Rattle.in_net.specs.declared.nets.Point.{Point}
 use Rattle.in_net.specs.declared.nets.Point.TheVariants.{Port, Free}
 use Rattle.in_net.specs.declared.nets.Cell.{Cell}
-use Rattle.in_net.specs.Names.{number_in}
-use Rattle.in_net.specs.Tables.{Tables, arity_of}
+use Rattle.in_symbols.specs.Names.{number_in}
+use Rattle.in_symbols.specs.Tables.{Tables, arity_of}
 use Rattle.in_net.specs.Parts.{Parts, cell_in, wire_in, wire_place_in}
 use Rattle.in_net.specs.Building.{AreFreeOf}
 

@@ -4,14 +4,13 @@ ghost use Rattle.in_net.specs.Joining.{LinksInside, SpotsOf, AgentsOf, IsInside}
 ghost use Rattle.in_net.specs.Reading.{reading_of};
 ghost use Rattle.in_syntax.specs.Sizes.{IsSized};
 ghost use Rattle.in_net.specs.Built.{Builds, Assembles, IsReadFrom};
-ghost use Rattle.in_net.specs.Tables.{Tables, FreeKnown, IsTabled};
+ghost use Rattle.in_symbols.specs.Tables.{Tables, FreeKnown, IsTabled};
 ghost use Rattle.in_net.specs.declared.reading.Agent.{Agent};
 
 use crate::joining::{Link, Pairing, join_all, pair_names, unlinked};
 use crate::nets::{AgentNo, Cell, FreeEnd, Net, Point, Wire};
 use crate::reading::{Agent, Reading, Spot, all_arities_fit, read_net};
-use crate::symbols::Symbols;
-use crate::tables::refused_at_start;
+use in_symbols::{Symbols, refused_at_start};
 use in_syntax::{Code, Fault, Place, Source, SourceFree, Text};
 use sqlite_items::Items;
 use std::alloc::{AllocError, Global};

@@ -1,10 +1,9 @@
 ghost use Rattle.std.specs.Prelude.{◌≡◌, length, IfOk, unwrap_or};
-ghost use Rattle.in_net.specs.Names.{number_in};
+ghost use Rattle.in_symbols.specs.Names.{number_in};
 ghost use Rattle.in_net.specs.Reading.{with_name, with_agent, with_occurrence, reader_of, reads_equation, reads_free, reading_of};
-ghost use Rattle.in_net.specs.Tables.{arities_fit, all_arities_fit};
+ghost use Rattle.in_net.specs.Arities.{arities_fit, all_arities_fit};
 
-use crate::names::Names;
-use crate::symbols::{SymbolNo, Symbols};
+use in_symbols::{Names, SymbolNo, Symbols};
 use in_syntax::{Equation, Name, Place, SourceFree, SourceNet, Term};
 use sqlite_items::Items;
 use std::alloc::{AllocError, Global};

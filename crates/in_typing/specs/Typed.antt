@@ -2,10 +2,10 @@
 use Rattle.std.specs.Prelude.{◌≡◌, ℕ, ◌<◌, Bool, not, List, length, Option, Some, None, Result, Ok, Err, option_map}
 use Rattle.in_syntax.specs.declared.faults.Refusal.{Refusal}
 use Rattle.in_syntax.specs.declared.faults.Code.TheVariants.{E10}
-use Rattle.in_net.specs.declared.symbols.PortType.{PortType}
+use Rattle.in_symbols.specs.declared.symbols.PortType.{PortType}
 use Rattle.in_net.specs.declared.nets.Point.{Point}
 use Rattle.in_net.specs.declared.nets.Point.TheVariants.{Port, Free}
-use Rattle.in_net.specs.Tables.{Tables, port_at}
+use Rattle.in_symbols.specs.Tables.{Tables, port_at}
 use Rattle.in_net.specs.Parts.{Parts, symbol_in, free_type_in, wire_in, wire_place_in}
 
 abbrev pub opposite : PortType → PortType

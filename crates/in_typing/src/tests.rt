@@ -1,5 +1,6 @@
 use crate::type_net;
-use in_net::{AgentNo, Point, PortType, SymbolNo, Symbols, build_net};
+use in_net::{AgentNo, Point, build_net};
+use in_symbols::{PortType, SymbolNo, Symbols};
 use in_syntax::{Code, Fault, Refusal, parse};
 use std::alloc::Global;
 use std::test::Fail;

@@ -3,7 +3,8 @@ ghost use Rattle.in_net.specs.Built.{IsOver};
 ghost use Rattle.in_net.specs.Parts.{IsPointOf};
 ghost use Rattle.in_typing.specs.Typed.{opposite, type_at, WireFits, Types};
 
-use in_net::{Net, Point, PortType, Symbols};
+use in_net::{Net, Point};
+use in_symbols::{PortType, Symbols};
 use in_syntax::{Code, Refusal};
 
 /// The same type with the other sign.

@@ -4,7 +4,7 @@ use Rattle.in_syntax.specs.declared.faults.Fault.{Fault}
 use Rattle.in_syntax.specs.declared.faults.Fault.TheVariants.{Refused, Memory}
 use Rattle.in_syntax.specs.declared.tree.Source.{Source}
 use Rattle.in_syntax.specs.Parsing.{Parses}
-use Rattle.in_net.specs.Tables.{Tables, Tabulates}
+use Rattle.in_symbols.specs.Tables.{Tables, Tabulates}
 use Rattle.in_net.specs.Built.{Builds}
 use Rattle.inet.specs.Checking.{IsChecked, no_tree, no_tables, no_net}
 

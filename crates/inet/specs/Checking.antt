@@ -5,7 +5,7 @@ use Rattle.in_syntax.specs.declared.faults.Fault.{Fault}
 use Rattle.in_syntax.specs.declared.faults.Fault.TheVariants.{Refused, Memory}
 use Rattle.in_syntax.specs.declared.tree.Source.{Source}
 use Rattle.in_syntax.specs.Parsing.{Parses}
-use Rattle.in_net.specs.Tables.{Tables, Tabulates}
+use Rattle.in_symbols.specs.Tables.{Tables, Tabulates}
 use Rattle.in_net.specs.Parts.{Parts}
 use Rattle.in_net.specs.Built.{Builds}
 use Rattle.in_typing.specs.Typed.{Types}

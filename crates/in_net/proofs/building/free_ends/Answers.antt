@@ -1,5 +1,5 @@
 use Rattle.std.proofs.Common.{◌∙◌, ap, sym}
-use Rattle.in_net.specs.Tables.{port_of}
+use Rattle.in_symbols.specs.Tables.{port_of}
 use Rattle.in_net.proofs.Cells.{free_more, free_rest}
 use Rattle.in_net.proofs.building.free_ends.Goals as goal
 

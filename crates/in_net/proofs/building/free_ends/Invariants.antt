@@ -1,6 +1,6 @@
 use Rattle.std.proofs.Common.{take, drop}
 use Rattle.in_net.specs.Building.{AreFreeOf}
-use Rattle.in_net.specs.Tables.{FreeKnown}
+use Rattle.in_symbols.specs.Tables.{FreeKnown}
 use Rattle.in_net.proofs.building.free_ends.Given as goal
 
 abbrev pub invariant-loop-number : goal.invariant-loop-number

@@ -2,7 +2,7 @@ use Rattle.std.proofs.Common.{ℕ, List, ◌≤◌, length}
 use Rattle.in_net.specs.declared.reading.Agent.{Agent}
 use Rattle.in_net.specs.Building.{AreWiresIn}
 use Rattle.in_net.specs.Joining.{SpotsOf}
-use Rattle.in_net.specs.Tables.{Tables}
+use Rattle.in_symbols.specs.Tables.{Tables}
 use Rattle.in_net.proofs.building.wires.Given as goal
 
 abbrev pub invariant-loop-at : goal.invariant-loop-at

@@ -1,5 +1,6 @@
 use Rattle.std.proofs.Common.{◌≡◌, drop, map, ◌&&◌}
-use Rattle.in_net.specs.Tables.{arities_fit, all_true}
+use Rattle.in_symbols.specs.Tables.{all_true}
+use Rattle.in_net.specs.Arities.{arities_fit}
 use Rattle.in_net.proofs.reading.+arities_fit.Given as goal
 
 abbrev pub decreases-arities_fit : goal.decreases-arities_fit

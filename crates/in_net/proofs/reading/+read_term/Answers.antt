@@ -1,6 +1,6 @@
 use Rattle.std.proofs.Common.{◌∙◌, sym, ap}
 use Rattle.in_syntax.specs.declared.tree.Term.{out-Term}
-use Rattle.in_net.specs.Tables.{symbol_numbered}
+use Rattle.in_symbols.specs.Tables.{symbol_numbered}
 use Rattle.in_net.proofs.Folds.{numbered, read_whole}
 use Rattle.in_net.proofs.reading.+read_term.Goals as goal
 

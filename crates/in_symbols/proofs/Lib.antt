@@ -1,0 +1,4 @@
+pub mod Absent
+pub mod Heads
+pub mod Maps
+pub mod Shapes

@@ -1,0 +1,154 @@
+-- The tables of a program: what is declared of its types and symbols. Lafont 1990: a symbol has a principal port and auxiliary
+-- ports, each with a type and a sign, and its auxiliary ports fall into classes.
+use Rattle.std.specs.Prelude.{◌≡◌, ℕ, zero, suc, ◌+◌, ◌-◌, ◌<◌, ◌≤◌, Bool, true, false, ◌||◌, ◌&&◌, List, [], ◌∷◌, ◌++◌, length, map, unwrap_or, slice_index_or, slice_get, Option, Some, None, IsSome, is_some, Result, Ok, Err, option_map}
+use Rattle.std.proofs.Math.ListN.{replicate}
+use Rattle.in_syntax.specs.declared.faults.Fault.{Fault}
+use Rattle.in_syntax.specs.declared.tree.Term.{Term}
+use Rattle.in_syntax.specs.declared.tree.Term.TheFolds.{fold-Term}
+use Rattle.in_syntax.specs.declared.tree.Equation.{Equation}
+use Rattle.std.specs.List.{flat_map, AllByRecursion}
+use Rattle.in_syntax.specs.declared.places.Place.{Place}
+use Rattle.in_syntax.specs.declared.tree.Source.{Source}
+use Rattle.in_syntax.specs.declared.tree.SourceFree.{SourceFree}
+use Rattle.in_syntax.specs.declared.tree.SourcePort.{SourcePort}
+use Rattle.in_syntax.specs.declared.tree.SourceSymbol.{SourceSymbol}
+use Rattle.in_symbols.specs.declared.symbols.PortType.{PortType}
+use Rattle.in_symbols.specs.declared.symbols.Shape.{Shape}
+use Rattle.in_symbols.specs.declared.symbols.SymbolNo.{SymbolNo}
+use Rattle.in_symbols.specs.Names.{number_in}
+
+-- the names of the types, the names of the symbols, and what is declared of each symbol, in the order of declaration
+pub record Tables : Type 0 where
+  pub types : List (List ℕ)
+  pub names : List (List ℕ)
+  pub shapes : List Shape
+
+-- the type of a port as declared: the number of the type's name, and the sign
+abbrev pub port_of : List (List ℕ) → SourcePort → PortType
+port_of types p = record { kind = unwrap_or (number_in p.kind.text types) 0; output = p.output }
+
+-- the places of a class have its number; classes count from 1
+abbrev pub classes_from : ℕ → List (List SourcePort) → List ℕ
+classes_from k [] = []
+classes_from k (c ∷ cs) = replicate (length c) k ++ classes_from (k + 1) cs
+
+-- places are numbered over all classes from 1; place 0 is the principal port, a class by itself (this project's own choice)
+abbrev pub shape_of : List (List ℕ) → SourceSymbol → Shape
+shape_of types s = record {
+  place = s.name.place;
+  ports = port_of types s.port ∷ map (port_of types) (flat_map (λ c. c) s.classes);
+  classes = 0 ∷ classes_from 1 s.classes;
+  class_count = length s.classes;
+}
+
+abbrev pub type_names : Source → List (List ℕ)
+type_names s = map (λ n. n.text) s.types
+
+abbrev pub symbol_names : Source → List (List ℕ)
+symbol_names s = map (λ d. d.name.text) s.symbols
+
+-- the tables of a program
+abbrev pub tables_of : Source → Tables
+tables_of s = record { types = type_names s; names = symbol_names s; shapes = map (shape_of (type_names s)) s.symbols }
+
+abbrev pub shapes_of : List (List ℕ) → Source → List Shape
+shapes_of types s = map (shape_of types) s.symbols
+
+-- the type of the port is declared
+abbrev pub Knows : List (List ℕ) → SourcePort → Type 0
+Knows types p = IsSome (number_in p.kind.text types)
+
+-- the places of one class go last
+pub record AddsClass (types : List (List ℕ)) (number : ℕ) (class : List SourcePort) (old new : Shape) : Type 0 where
+  pub ports : new.ports ≡ old.ports ++ map (port_of types) class
+  pub classes : new.classes ≡ old.classes ++ replicate (length class) number
+  pub others : (new.place ≡ old.place) × (new.class_count ≡ old.class_count)
+
+-- a principal port, at most eight auxiliary ports, and a class for each
+pub record IsShape (s : Shape) : Type 0 where
+  pub some : 1 ≤ length s.ports
+  pub few : length s.ports ≤ 9
+  pub classed : length s.classes ≡ length s.ports
+
+abbrev pub AreShapes : List Shape → Type 0
+AreShapes = AllByRecursion IsShape
+
+-- ---- what the looking calls read
+
+abbrev pub IsSymbol : Tables → ℕ → Type 0
+IsSymbol t s = s < length t.names
+
+-- where its name is declared
+abbrev pub place_of : Tables → ℕ → Option Place
+place_of t s = option_map (λ d. d.place) (slice_get t.shapes s)
+
+-- places of the list, 0 to the arity
+abbrev pub arity_in : Option Shape → ℕ
+arity_in None = 0
+arity_in (Some s) = length s.ports - 1
+
+abbrev pub arity_of : Tables → ℕ → ℕ
+arity_of t s = arity_in (slice_get t.shapes s)
+
+abbrev pub port_in : Option Shape → ℕ → PortType
+port_in None i = record { kind = 0; output = false }
+port_in (Some s) i = slice_index_or s.ports i (record { kind = 0; output = false })
+
+-- the type at a place
+abbrev pub port_at : Tables → ℕ → ℕ → PortType
+port_at t s i = port_in (slice_get t.shapes s) i
+
+abbrev pub class_in : Option Shape → ℕ → ℕ
+class_in None zero = 0
+class_in None (suc i) = 1
+class_in (Some s) i = slice_index_or s.classes i 1
+
+-- the class of a place: the principal port is a class by itself
+abbrev pub class_at : Tables → ℕ → ℕ → ℕ
+class_at t s i = class_in (slice_get t.shapes s) i
+
+abbrev pub classes_in : Option Shape → ℕ
+classes_in None = 0
+classes_in (Some s) = s.class_count
+
+abbrev pub classes_of : Tables → ℕ → ℕ
+classes_of t s = classes_in (slice_get t.shapes s)
+
+-- a constructor's principal port is an output
+abbrev pub is_constructor : Tables → ℕ → Bool
+is_constructor t s = (port_at t s 0).output
+
+abbrev pub symbol_numbered : Tables → List ℕ → Option SymbolNo
+symbol_numbered t name = option_map (λ n. record { 0 = n }) (number_in name t.names)
+
+-- ---- names before ( are symbols
+
+abbrev pub all_true : List Bool → Bool
+all_true [] = true
+all_true (b ∷ bs) = b && all_true bs
+
+abbrev pub is_none : List Bool → Bool
+is_none [] = true
+is_none (b ∷ bs) = false
+
+-- each name of the term that has arguments is a symbol's
+abbrev pub heads_known : List (List ℕ) → Term → Bool
+heads_known names = fold-Term Bool (λ f. (is_none f.args || is_some (number_in f.name.text names)) && all_true f.args)
+
+abbrev pub HeadsKnown : List (List ℕ) → List Equation → Type 0
+HeadsKnown names = AllByRecursion (λ e. (heads_known names e.left ≡ true) × (heads_known names e.right ≡ true))
+
+-- the types of the free ends are declared
+abbrev pub FreeKnown : List (List ℕ) → List SourceFree → Type 0
+FreeKnown types = AllByRecursion (λ f. Knows types f.port)
+
+-- the tables are the declarations of the program, whose names are declared
+pub record IsTabled (source : Source) (t : Tables) : Type 0 where
+  pub tables : t ≡ tables_of source
+  pub heads : HeadsKnown t.names source.net.equations
+  pub free : FreeKnown t.types source.net.free
+
+-- where it is Ok, the tables are the declarations
+abbrev pub Tabulates : Source → Result Tables Fault → Type 0
+Tabulates source (Ok t) = IsTabled source t
+Tabulates source (Err e) = Unit {0}

@@ -1,0 +1,173 @@
+ghost use Rattle.std.specs.Prelude.{◌≡◌, ◌≤◌, length, Some};
+ghost use Rattle.in_syntax.specs.Sizes.{IsSized};
+ghost use Rattle.in_symbols.specs.Names.{name_in};
+ghost use Rattle.in_symbols.specs.Tables.{place_of, IsSymbol, arity_of, port_at, class_at, classes_of, is_constructor, symbol_numbered, Knows, port_of, Tabulates};
+
+use crate::names::Names;
+use crate::tables;
+use in_syntax::{Fault, Place, Source, SourcePort};
+use sqlite_items::Items;
+use std::alloc::Global;
+use std::marker::Model;
+
+/// The type of a port: the number of its type, and whether it is an output. Lafont 1990 gives each port of a symbol a type
+/// with a sign, input or output.
+#[derive(Clone, Copy, Debug, PartialEq, Eq)]
+pub struct PortType {
+    pub kind: u32,
+    pub output: bool,
+}
+
+/// The number of a symbol, from 0 in the order of declaration.
+#[derive(Clone, Copy, Debug, PartialEq, Eq)]
+pub struct SymbolNo(pub u32);
+
+/// What is declared of a symbol: the types and classes of its places, the principal port being place 0 and a class by itself.
+#[derive(Drop)]
+pub(crate) struct Shape {
+    pub(crate) place: Place,
+    pub(crate) ports: Items<PortType>,
+    pub(crate) classes: Items<u8>,
+    pub(crate) class_count: u8,
+}
+
+/// The types and symbols of a program, each numbered from 0 in the order of declaration.
+#[derive(Drop)]
+pub struct Symbols {
+    types: Names,
+    names: Names,
+    shapes: Items<Shape>,
+}
+
+// Contracts see the declarations, symbol by symbol.
+impl Model for Symbols {
+    ghost use Rattle.in_symbols.specs.Tables.{Tables, AreShapes};
+    ghost use Rattle.std.specs.Prelude.{◌≡◌, ◌<◌, ◌^◌, length};
+
+    ghost Value = { Tables };
+
+    ghost view = { λ s. record { types = s.types; names = s.names; shapes = s.shapes } };
+
+    ghost invariant = { λ s. (length s.types < 2 ^ 32) × (length s.names < 2 ^ 32) × (length s.names ≡ length s.shapes) × AreShapes s.shapes };
+}
+
+impl Symbols {
+    /// The tables of a program.
+    ///
+    /// Refused with the lowest code that stands: E04 for a type, symbol or free name that is declared twice in its space or
+    /// a free name that is a symbol's, E05 for an unknown type, E06 for a name before `(` that is no symbol. These codes
+    /// and what they stand for are this project's own choice.
+    pub fn build(alloc: Global, source: &Source) -> Result<Symbols, Fault>
+        requires { IsSized source.now }
+        ensures { Tabulates source.now result }
+    {
+        let types = tables::types_of(alloc, source)?;
+        let names = tables::symbols_of(alloc, source)?;
+        tables::test_free_names(alloc, source, &names)?;
+        let shapes = tables::shapes(alloc, source, &types)?;
+        tables::test_free_types(source, &types)?;
+        tables::test_heads(source, &names)?;
+        Ok(Symbols {
+            types,
+            names,
+            shapes,
+        })
+    }
+
+    /// The type of a port whose type is declared.
+    pub fn port_type(&self, port: &SourcePort) -> PortType
+        requires { Knows self.now.types port.now }
+        ensures { result ≡ port_of self.now.types port.now }
+    {
+        match tables::port_type(&self.types, port) {
+            Some(port) => port,
+            None => unreachable!(),
+        }
+    }
+
+    /// How many types are declared.
+    pub fn types(&self) -> u32
+        ensures { result ≡ length self.now.types }
+    {
+        self.types.len() as u32
+    }
+
+    /// How many symbols are declared.
+    pub fn symbols(&self) -> u32
+        ensures { result ≡ length self.now.names }
+    {
+        self.names.len() as u32
+    }
+
+    /// Where the symbol's name is declared.
+    pub fn place(&self, symbol: SymbolNo) -> Place
+        requires { IsSymbol self.now symbol.0 }
+        ensures { Some result ≡ place_of self.now symbol.0 }
+    {
+        self.shapes.as_slice()[symbol.0 as usize].place
+    }
+
+    /// How many auxiliary ports the symbol has.
+    pub fn arity(&self, symbol: SymbolNo) -> u8
+        requires { IsSymbol self.now symbol.0 }
+        ensures { result ≡ arity_of self.now symbol.0 }
+    {
+        let shape = &self.shapes.as_slice()[symbol.0 as usize];
+        (shape.ports.len() - 1) as u8
+    }
+
+    /// The type of the port at a place; place 0 is the principal port.
+    pub fn port(&self, symbol: SymbolNo, place: u8) -> PortType
+        requires symbol { IsSymbol self.now symbol.0 }
+        requires place { place ≤ arity_of self.now symbol.0 }
+        ensures { result ≡ port_at self.now symbol.0 place }
+    {
+        let shape = &self.shapes.as_slice()[symbol.0 as usize];
+        shape.ports.as_slice()[place as usize]
+    }
+
+    /// The class of the port at a place: 0 for the principal port; classes of auxiliary ports count from 1.
+    pub fn class_of(&self, symbol: SymbolNo, place: u8) -> u8
+        requires symbol { IsSymbol self.now symbol.0 }
+        requires place { place ≤ arity_of self.now symbol.0 }
+        ensures { result ≡ class_at self.now symbol.0 place }
+    {
+        let shape = &self.shapes.as_slice()[symbol.0 as usize];
+        shape.classes.as_slice()[place as usize]
+    }
+
+    /// How many classes of auxiliary ports the symbol has.
+    pub fn classes(&self, symbol: SymbolNo) -> u8
+        requires { IsSymbol self.now symbol.0 }
+        ensures { result ≡ classes_of self.now symbol.0 }
+    {
+        self.shapes.as_slice()[symbol.0 as usize].class_count
+    }
+
+    /// Whether the symbol's principal port is an output. Lafont 1990 calls such a symbol a constructor, and one whose
+    /// principal port is an input a destructor.
+    pub fn is_constructor(&self, symbol: SymbolNo) -> bool
+        requires { IsSymbol self.now symbol.0 }
+        ensures { result ≡ is_constructor self.now symbol.0 }
+    {
+        self.port(symbol, 0).output
+    }
+
+    /// The symbol of that name, if there is one.
+    pub fn number_of(&self, name: &str) -> Option<SymbolNo>
+        ensures { result ≡ symbol_numbered self.now name.now }
+    {
+        match self.names.number_of(name) {
+            Some(number) => Some(SymbolNo(number as u32)),
+            None => None,
+        }
+    }
+
+    /// The name of the symbol.
+    pub fn name(&self, symbol: SymbolNo) -> &str
+        requires { IsSymbol self.now symbol.0 }
+        ensures { result.now ≡ name_in symbol.0 self.now.names }
+    {
+        self.names.name(symbol.0 as usize)
+    }
+}
