@@ -1,5 +1,5 @@
 -- The agents that are read of a net are those of its text, in their order.
-use Rattle.std.proofs.Common.{◌≡◌, ℕ, zero, suc, ◌+◌, ◌≤◌, Bool, true, false, ◌&&◌, ◌||◌, List, [], ◌∷◌, ◌++◌, length, map, Option, Some, None, refl, sym, ◌∙◌, ap, subst, arith, append_assoc, append-nil, is_some}
+use Rattle.std.proofs.Common.{◌≡◌, ℕ, zero, suc, ◌+◌, ◌≤◌, ◌<◌, Bool, true, false, ◌&&◌, ◌||◌, List, [], ◌∷◌, ◌++◌, length, map, Option, Some, None, refl, sym, ◌∙◌, ap, subst, arith, append_assoc, append-nil, is_some}
 use Rattle.std.proofs.lemmas.List.{map-append, length-map}
 use Rattle.std.specs.List.{AllByRecursion, flat_map}
 use Rattle.in_syntax.specs.declared.places.Place.{Place}
@@ -10,15 +10,23 @@ use Rattle.in_syntax.specs.declared.tree.SourceNet.{SourceNet}
 use Rattle.in_syntax.specs.Sizes.{total, names_in}
 use Rattle.in_net.specs.declared.nets.Cell.{Cell}
 use Rattle.in_symbols.specs.declared.symbols.SymbolNo.{SymbolNo}
+use Rattle.in_syntax.specs.declared.tree.SourceFree.{SourceFree}
+use Rattle.in_net.specs.declared.reading.Spot.{Spot}
+use Rattle.in_net.specs.declared.joining.Link.{Link}
 use Rattle.in_net.specs.declared.reading.Agent.{Agent}
 use Rattle.in_net.specs.declared.reading.Reading.{Reading}
 use Rattle.in_symbols.specs.Names.{number_in}
 use Rattle.in_symbols.specs.Tables.{Tables, arity_of, is_none, all_true, heads_known, HeadsKnown}
-use Rattle.in_net.specs.Reading.{with_agent, with_argument, reader_of, reads_arguments, reads_equation, reads_equations, reads_free, reading_of}
-use Rattle.in_net.specs.Building.{IsCellOf, AreCellsOf}
-use Rattle.in_net.specs.TextNet.{Written, written_by, agents_of, agents_of_net, IsCellFor, AreCellsFor}
+use Rattle.in_net.specs.Reading.{with_agent, with_joint, reader_of, reads_arguments, reads_equation, reads_equations, reads_free, reads_free_from, reads_free_end, nothing_read, reading_of}
+use Rattle.in_net.specs.Building.{ends_from, cells_of, free_ends_from}
+use Rattle.in_net.specs.Built.{IsCellOver}
+use Rattle.in_net.specs.TextNet.{Written, written_by, agents_of, agents_of_net, IsCellFor, AreCellsFor, AreFreeOf}
 use Rattle.in_net.proofs.Folds.{names_out, read_agent, read_occurrence}
 use Rattle.in_symbols.proofs.Heads.{heads_out}
+
+length-ends : (spots : List Spot) (links : List Link) (first n : ℕ) → length (ends_from spots links first n) ≡ n
+length-ends spots links first zero = refl
+length-ends spots links first (suc n) = ap suc (length-ends spots links (first + 1) n)
 
 or_false : (b : Bool) → (b || false) ≡ b
 or_false true = refl
@@ -42,13 +50,13 @@ no_arguments t (u ∷ us) e = cc
 abbrev AgentsRead : Tables → ℕ → Type 0
 AgentsRead t h = (u : Term) (r : Reading) → names_in u ≤ h → heads_known t.names u ≡ true → as_written ((reader_of t u).reads r).0.agents ≡ as_written r.agents ++ agents_of t u
 
-arguments_read : (t : Tables) (h : ℕ) → AgentsRead t h → (us : List Term) (agent port : ℕ) (r : Reading) → total (map names_in us) ≤ h → all_true (map (heads_known t.names) us) ≡ true →
-    as_written (reads_arguments agent (map (reader_of t) us) port r).agents ≡ as_written r.agents ++ flat_map (λ a. a) (map (agents_of t) us)
-arguments_read t h ih [] agent port r short heads = sym (append-nil (as_written r.agents))
-arguments_read t h ih (u ∷ us) agent port r short heads =
+arguments_read : (t : Tables) (h : ℕ) → AgentsRead t h → (us : List Term) (first port : ℕ) (r : Reading) → total (map names_in us) ≤ h → all_true (map (heads_known t.names) us) ≡ true →
+    as_written (reads_arguments first (map (reader_of t) us) port r).agents ≡ as_written r.agents ++ flat_map (λ a. a) (map (agents_of t) us)
+arguments_read t h ih [] first port r short heads = sym (append-nil (as_written r.agents))
+arguments_read t h ih (u ∷ us) first port r short heads =
     let there : Reading × ℕ = (reader_of t u).reads r in
     let both = two (heads_known t.names u) (all_true (map (heads_known t.names) us)) heads in
-    arguments_read t h ih us agent (port + 1) (with_argument there.0 agent port there.1 (reader_of t u).place) (omega (arith, short)) both.1
+    arguments_read t h ih us first (port + 1) (with_joint there.0 first port there.1 (reader_of t u).place) (omega (arith, short)) both.1
     ∙ ap (λ z. z ++ flat_map (λ a. a) (map (agents_of t) us)) (ih u r (omega (arith, short)) both.0)
     ∙ append_assoc (as_written r.agents) (agents_of t u) (flat_map (λ a. a) (map (agents_of t) us))
 
@@ -71,7 +79,7 @@ term_read t h ih u r short heads (Some s) is =
     let both = two (is_none (map (heads_known t.names) (out-Term u).args) || is_some (number_in (out-Term u).name.text t.names)) (all_true (map (heads_known t.names) (out-Term u).args)) (sym (heads_out t.names u) ∙ heads) in
     let rest : List Written = flat_map (λ a. a) (map (agents_of t) (out-Term u).args) in
     ap (λ (p : Reading × ℕ). as_written p.0.agents) (read_agent t u r symbol is)
-    ∙ arguments_read t h ih (out-Term u).args (length r.agents) 1 (with_agent r symbol (arity_of t s) place) (omega (arith, out, short)) both.1
+    ∙ arguments_read t h ih (out-Term u).args (length r.spots) 1 (with_agent r symbol (arity_of t s) place) (omega (arith, out, short)) both.1
     ∙ ap (λ z. z ++ flat_map (λ a. a) (map (agents_of t) (out-Term u).args)) (map-append (λ (a : Agent). let v : Written = record { symbol = a.symbol.0; place = a.place } in v) r.agents (agent ∷ []))
     ∙ append_assoc (as_written r.agents) (w ∷ []) (flat_map (λ a. a) (map (agents_of t) (out-Term u).args))
     ∙ ap (λ z. as_written r.agents ++ z) (sym (agents_out t u ∙ ap (λ (o : Option ℕ). written_by o (out-Term u).name.place ++ flat_map (λ a. a) (map (agents_of t) (out-Term u).args)) is))
@@ -90,19 +98,29 @@ equations_read t (e ∷ es) r heads =
     ∙ append_assoc (as_written r.agents) (agents_of t e.left) (agents_of t e.right))
     ∙ append_assoc (as_written r.agents) (agents_of t e.left ++ agents_of t e.right) (flat_map (λ e. agents_of t e.left ++ agents_of t e.right) es)
 
+free_agents : (k : ℕ) (fs : List SourceFree) (r : Reading) → (reads_free_from k fs r).agents ≡ r.agents
+free_agents k [] r = refl
+free_agents k (f ∷ fs) r = free_agents (k + 1) fs (reads_free_end k f r)
+
 -- the agents that are read of a net
 pub net_agents : (t : Tables) (n : SourceNet) → HeadsKnown t.names n.equations → as_written (reading_of t n).agents ≡ agents_of_net t n
-net_agents t n heads = equations_read t n.equations (reads_free n.free) heads
+net_agents t n heads = equations_read t n.equations (reads_free n.free) heads ∙ ap (λ z. as_written z ++ agents_of_net t n) (free_agents 0 n.free nothing_read)
 
-cells_written : (t : Tables) (as_ : List Agent) (cs : List (Option Cell)) → AreCellsOf t as_ cs → AreCellsFor t (as_written as_) cs
-cells_written t [] [] all = tt
-cells_written t [] (c ∷ cs) all = absurd all
-cells_written t (a ∷ as_) [] all = absurd all
-cells_written t (a ∷ as_) (None ∷ cs) all = absurd all
-cells_written t (a ∷ as_) (Some c ∷ cs) all = (record { symbol = ap (λ (s : SymbolNo). s.0) all.0.symbol; ends = all.0.count }, cells_written t as_ cs all.1)
+cells_written : (t : Tables) (spots : List Spot) (links : List Link) (as_ : List Agent) → AreCellsFor t (as_written as_) (cells_of t spots links as_)
+cells_written t spots links [] = tt
+cells_written t spots links (a ∷ as_) = (record { symbol = refl; ends = length-ends spots links a.first (arity_of t a.symbol.0 + 1) }, cells_written t spots links as_)
 
-pub cells_for : (t : Tables) (n : SourceNet) (r : Reading) (cs : List (Option Cell)) → HeadsKnown t.names n.equations → r ≡ reading_of t n → AreCellsOf t r.agents cs → AreCellsFor t (agents_of_net t n) cs
-cells_for t n r cs heads is all = subst (λ ws. AreCellsFor t ws cs) (ap (λ (q : Reading). as_written q.agents) is ∙ net_agents t n heads) (cells_written t r.agents cs all)
+pub cells_for : (t : Tables) (n : SourceNet) (r : Reading) (links : List Link) (cs : List (Option Cell)) → HeadsKnown t.names n.equations → r ≡ reading_of t n → cs ≡ cells_of t r.spots links r.agents → AreCellsFor t (agents_of_net t n) cs
+cells_for t n r links cs heads is all =
+    subst (λ ws. AreCellsFor t ws cs) (ap (λ (q : Reading). as_written q.agents) is ∙ net_agents t n heads) (subst (AreCellsFor t (as_written r.agents)) (sym all) (cells_written t r.spots links r.agents))
+
+pub cells_over : (t : Tables) (spots : List Spot) (links : List Link) (as_ : List Agent) → AllByRecursion (λ a. a.symbol.0 < length t.names) as_ → AllByRecursion (IsCellOver t) (cells_of t spots links as_)
+cells_over t spots links [] h = tt
+cells_over t spots links (a ∷ as_) h = ((h.0, length-ends spots links a.first (arity_of t a.symbol.0 + 1)), cells_over t spots links as_ h.1)
+
+pub free_for : (t : Tables) (spots : List Spot) (links : List Link) (k : ℕ) (fs : List SourceFree) → AreFreeOf t fs (free_ends_from t spots links k fs)
+free_for t spots links k [] = tt
+free_for t spots links k (f ∷ fs) = ((refl, refl), free_for t spots links (k + 1) fs)
 
 places_written : (as_ : List Agent) → map (λ a. a.place) as_ ≡ map (λ w. w.place) (as_written as_)
 places_written [] = refl

@@ -63,20 +63,20 @@ module _ (t : Tables) (u : Term) (r : Reading) where
   read_occurrence is = read_by None is
 
   pub read_agent : (s : SymbolNo) → number_in (out-Term u).name.text t.names ≡ Some s.0 →
-      (reader_of t u).reads r ≡ (reads_arguments (length r.agents) (map (reader_of t) (out-Term u).args) 1 (with_agent r s (arity_of t s.0) (out-Term u).name.place), length r.spots)
+      (reader_of t u).reads r ≡ (reads_arguments (length r.spots) (map (reader_of t) (out-Term u).args) 1 (with_agent r s (arity_of t s.0) (out-Term u).name.place), length r.spots)
   read_agent s is = read_by (Some s.0) is
 
 -- the arguments that are left are none: the whole term is read
-pub read_whole : (t : Tables) (u : Term) (r before after : Reading) (s : SymbolNo) (agent first index arity : ℕ) (items : List Term) →
-    number_in (out-Term u).name.text t.names ≡ Some s.0 → arity ≡ arity_of t s.0 → items ≡ (out-Term u).args → first ≡ length r.spots →
-    (agent ≡ length r.agents) × (before ≡ with_agent r s arity (out-Term u).name.place) → length items ≤ index →
-    reads_arguments agent (map (reader_of t) (drop index items)) (index + 1) after ≡ reads_arguments agent (map (reader_of t) items) 1 before →
+pub read_whole : (t : Tables) (u : Term) (r before after : Reading) (s : SymbolNo) (first index arity : ℕ) (items : List Term) →
+    number_in (out-Term u).name.text t.names ≡ Some s.0 → arity ≡ arity_of t s.0 → items ≡ (out-Term u).args →
+    (first ≡ length r.spots) × (before ≡ with_agent r s arity (out-Term u).name.place) → length items ≤ index →
+    reads_arguments first (map (reader_of t) (drop index items)) (index + 1) after ≡ reads_arguments first (map (reader_of t) items) 1 before →
     (after, first) ≡ (reader_of t u).reads r
-read_whole t u r before after s agent first index arity items is fits all begins added past kept =
+read_whole t u r before after s first index arity items is fits all added past kept =
     let none : drop index items ≡ [] = drop_all index items past in
-    let done : after ≡ reads_arguments (length r.agents) (map (reader_of t) (out-Term u).args) 1 (with_agent r s (arity_of t s.0) (out-Term u).name.place) =
-    sym (ap (λ z. reads_arguments agent (map (reader_of t) z) (index + 1) after) none) ∙ kept
-    ∙ ap (λ z. reads_arguments agent (map (reader_of t) z) 1 before) all
+    let done : after ≡ reads_arguments (length r.spots) (map (reader_of t) (out-Term u).args) 1 (with_agent r s (arity_of t s.0) (out-Term u).name.place) =
+    sym (ap (λ z. reads_arguments first (map (reader_of t) z) (index + 1) after) none) ∙ kept
+    ∙ ap (λ z. reads_arguments first (map (reader_of t) z) 1 before) all
     ∙ ap (λ z. reads_arguments z (map (reader_of t) (out-Term u).args) 1 before) added.0
-    ∙ ap (λ z. reads_arguments (length r.agents) (map (reader_of t) (out-Term u).args) 1 z) (added.1 ∙ ap (λ a. with_agent r s a (out-Term u).name.place) fits) in
-    ap (λ (z : Reading). (z, first)) done ∙ ap (λ (n : ℕ). (reads_arguments (length r.agents) (map (reader_of t) (out-Term u).args) 1 (with_agent r s (arity_of t s.0) (out-Term u).name.place), n)) begins ∙ sym (read_agent t u r s is)
+    ∙ ap (λ z. reads_arguments (length r.spots) (map (reader_of t) (out-Term u).args) 1 z) (added.1 ∙ ap (λ a. with_agent r s a (out-Term u).name.place) fits) in
+    ap (λ (z : Reading). (z, first)) done ∙ ap (λ (n : ℕ). (reads_arguments (length r.spots) (map (reader_of t) (out-Term u).args) 1 (with_agent r s (arity_of t s.0) (out-Term u).name.place), n)) added.0 ∙ sym (read_agent t u r s is)

@@ -1,8 +1,9 @@
--- What is read of a net is in range, and not too much.
-use Rattle.std.proofs.Common.{◌≡◌, ℕ, zero, suc, ◌+◌, ◌*◌, ◌<◌, ◌≤◌, Bool, true, false, ◌&&◌, List, [], ◌∷◌, ◌++◌, length, map, Option, Some, None, refl, sym, ◌∙◌, ap, subst, arith, get_or, length-append, is_some, cond, unwrap_or, append_assoc, append-nil}
+-- What is read of a net: its spots, agents and joints are those of the text.
+use Rattle.std.proofs.Common.{◌≡◌, ◌≢◌, ◌⊎◌, inl, inr, ℕ, zero, suc, ◌+◌, ◌*◌, ◌<◌, ◌≤◌, Bool, true, false, ◌&&◌, List, [], ◌∷◌, ◌++◌, length, map, Option, Some, None, IsSome, refl, sym, ◌∙◌, ap, subst, arith, get_or, slice_get, length-append, is_some, cond, unwrap_or, append_assoc, append-nil}
 use Rattle.std.specs.List.{AllByRecursion, list_all}
 use Rattle.std.specs.Str.{bytes_eq}
 use Rattle.std.proofs.lemmas.List.Quantifiers.{position-Some}
+use Rattle.std.proofs.lemmas.Slice.Eq.{bytes_eq-Decides}
 use Rattle.in_syntax.specs.declared.places.Place.{Place}
 use Rattle.in_syntax.specs.declared.tree.Name.{Name}
 use Rattle.in_syntax.specs.declared.tree.Term.{Term, out-Term}
@@ -11,305 +12,361 @@ use Rattle.in_syntax.specs.declared.tree.SourceFree.{SourceFree}
 use Rattle.in_syntax.specs.declared.tree.SourceNet.{SourceNet}
 use Rattle.in_syntax.specs.Sizes.{total, names_in, names_in_equation, names_in_equations}
 use Rattle.in_symbols.specs.declared.symbols.SymbolNo.{SymbolNo}
+use Rattle.in_net.specs.declared.joining.Link.{Link}
 use Rattle.in_net.specs.declared.reading.Spot.{Spot}
 use Rattle.in_net.specs.declared.reading.Spot.TheVariants.{Port, Free, Occurrence}
 use Rattle.in_net.specs.declared.reading.Agent.{Agent}
 use Rattle.in_net.specs.declared.reading.Reading.{Reading}
-use Rattle.in_symbols.specs.Names.{number_in}
+use Rattle.in_symbols.specs.Names.{number_in, name_in}
 use Rattle.in_symbols.specs.Tables.{Tables, arity_of, all_true}
 use Rattle.in_net.specs.Arities.{arities_fit, all_arities_fit}
-use Rattle.in_net.specs.Reading.{with_agent, with_occurrence, with_argument, with_equation, with_name, ports_from, reader_of, reads_arguments, reads_equation, reads_equations, free_from, reads_free, reading_of}
-use Rattle.in_net.specs.Joining.{no_agent, port_spot, EquationsInside, ArgumentsInside, OccurrencesInside, IsSpotOf, IsAgentOf}
-use Rattle.in_net.proofs.Inside.{all_snoc}
-use Rattle.in_net.proofs.Folds.{names_out, fits_agent, read_agent, read_occurrence}
+use Rattle.in_net.specs.Reading.{with_agent, with_occurrence, with_joint, with_name, number_with, ports_from, reader_of, reads_arguments, reads_equation, reads_equations, reads_free_end, reads_free_from, reads_free, nothing_read, reading_of}
+use Rattle.in_net.specs.Counting.{NamesInside, IsNameInside}
+use Rattle.in_net.specs.Joining.{JointsInside, links_of, with_link}
+use Rattle.in_net.specs.Building.{no_agent, no_spot, nth_spot, nth_link, nth_agent}
+use Rattle.in_net.specs.Built.{IsPortOf, IsNumbered}
+use Rattle.in_net.specs.TextNet as text
+use Rattle.in_net.specs.TextNet.{Body, IsTermOf, IsPartOf, IsAmong, IsVariable, PlacedJoint, name_of, place_of, spot_of, spot_by}
+use Rattle.in_net.proofs.Folds.{names_out, fits_agent, read_agent, read_occurrence, place_read}
+use Rattle.in_net.proofs.Links.{all_along, all_append, length-with_link}
+use Rattle.in_net.proofs.Linked.{front_or_back, at_front, at_back, at_first, at_second, at_third, stays, added, links_joint, length-links_of}
+use Rattle.in_net.proofs.Sound.{named, IsLinked, linked_more, linked_joint}
 
--- in range, with so many agents and spots at most
-pub record IsRead (t : Tables) (free names : ℕ) (r : Reading) : Type 0 where
-  pub equations : EquationsInside (length r.spots) r.equations
-  pub arguments : ArgumentsInside (length r.spots) r.agents r.arguments
-  pub occurrences : OccurrencesInside (length r.spots) (length r.names) r.occurrences
-  pub spots : AllByRecursion (IsSpotOf t free r.agents) r.spots
-  pub agents : AllByRecursion (IsAgentOf t (length r.spots)) r.agents
-  pub few_agents : length r.agents ≤ names
-  pub few_spots : length r.spots ≤ free + 9 * names
+-- the name of that number is the term's, which is no symbol's
+pub record IsVariableAt (t : Tables) (b : Body) (names : List (List ℕ)) (m : ℕ) (p : Place) : Type 0 where
+  pub term : Term
+  pub there : IsTermOf b term
+  pub variable : IsVariable t term
+  pub place : place_of term ≡ p
+  pub name : name_in m names ≡ name_of term
+  pub inside : m < length names
 
-all_along : {X : Type 0} (P Q : X → Type 0) → ((x : X) → P x → Q x) → (xs : List X) → AllByRecursion P xs → AllByRecursion Q xs
-all_along P Q h [] all = tt
-all_along P Q h (x ∷ xs) all = (h x all.0, all_along P Q h xs all.1)
+-- the name of that number is the free end's
+pub record IsFreeAt (b : Body) (names : List (List ℕ)) (k m : ℕ) : Type 0 where
+  pub end : SourceFree
+  pub declared : slice_get b.free k ≡ Some end
+  pub name : name_in m names ≡ end.name.text
+  pub inside : m < length names
 
-all_append : {X : Type 0} (P : X → Type 0) (xs ys : List X) → AllByRecursion P xs → AllByRecursion P ys → AllByRecursion P (xs ++ ys)
-all_append P [] ys all more = more
-all_append P (x ∷ xs) ys all more = (all.0, all_append P xs ys all.1 more)
+-- the names of the spots, in the text
+abbrev pub IsNamed : Tables → Body → List (List ℕ) → Spot → Type 0
+IsNamed t b names (Port a i p) = Unit {0}
+IsNamed t b names (Free k m) = IsFreeAt b names k m
+IsNamed t b names (Occurrence m p) = IsVariableAt t b names m p
 
-at_front : {X : Type 0} (xs ys : List X) (i : ℕ) (d : X) → i < length xs → get_or (xs ++ ys) i d ≡ get_or xs i d
-at_front [] ys i d lt = absurd (omega arith)
-at_front (x ∷ xs) ys zero d lt = refl
-at_front (x ∷ xs) ys (suc i) d lt = at_front xs ys i d (omega arith)
+-- what is read so far, with so many names at most
+pub record IsRead (t : Tables) (b : Body) (free count : ℕ) (r : Reading) : Type 0 where
+  pub numbered : IsNumbered t free r
+  pub joints : JointsInside (length r.spots) r.joints
+  pub linked : IsLinked t b r.spots (links_of r)
+  pub known : AllByRecursion (λ a. a.symbol.0 < length t.names) r.agents
+  pub named_as : AllByRecursion (IsNamed t b r.names) r.spots
+  pub few_agents : length r.agents ≤ count
+  pub few_spots : length r.spots ≤ free + 9 * count
 
--- agents that are added leave those before them
-spot_stays : (t : Tables) (free : ℕ) (agents more : List Agent) (s : Spot) → IsSpotOf t free agents s → IsSpotOf t free (agents ++ more) s
-spot_stays t free agents more (Port a i) h =
-    (omega (arith, h.0, length-append agents more), subst (λ (x : Agent). i ≤ arity_of t x.symbol.0) (sym (at_front agents more a no_agent h.0)) h.1)
-spot_stays t free agents more (Free k) h = h
-spot_stays t free agents more (Occurrence p) h = h
+-- ---- names
 
-length-ports_from : (agent port n : ℕ) → length (ports_from agent port n) ≡ n
-length-ports_from agent port zero = refl
-length-ports_from agent port (suc n) = omega (arith, length-ports_from agent (port + 1) n)
+name_there : (names : List (List ℕ)) (name : List ℕ) (o : Option ℕ) → number_in name names ≡ o → (number_with names name < length (with_name names name)) × (name_in (number_with names name) (with_name names name) ≡ name)
+name_there names name None is =
+    let grown : with_name names name ≡ names ++ name ∷ [] = ap (λ (o : Option ℕ). cond (is_some o) names (names ++ name ∷ [])) is in
+    let last : number_with names name ≡ length names = ap (λ o. unwrap_or o (length names)) is in
+    let here : length names ≡ length names + 0 = omega arith in
+    (omega (arith, ap length grown, length-append names (name ∷ []), last),
+     ap (λ n. get_or (with_name names name) n []) (last ∙ here) ∙ ap (λ z. get_or z (length names + 0) []) grown ∙ at_back names (name ∷ []) 0 [])
+name_there names name (Some n) is =
+    let same : with_name names name ≡ names = ap (λ (o : Option ℕ). cond (is_some o) names (names ++ name ∷ [])) is in
+    let number : number_with names name ≡ n = ap (λ o. unwrap_or o (length names)) is in
+    let found = position-Some (bytes_eq name) names n [] is in
+    (omega (arith, ap length same, number, found.0),
+     ap (λ k. get_or (with_name names name) k []) number ∙ ap (λ z. get_or z n []) same ∙ sym ((bytes_eq-Decides name (get_or names n [])).0 found.1))
 
-ports_inside : (t : Tables) (free : ℕ) (agents : List Agent) (agent port n : ℕ) → agent < length agents → port + n ≤ arity_of t (get_or agents agent no_agent).symbol.0 + 1 →
-    AllByRecursion (IsSpotOf t free agents) (ports_from agent port n)
-ports_inside t free agents agent port zero lt le = tt
-ports_inside t free agents agent port (suc n) lt le = ((lt, omega (arith, le)), ports_inside t free agents agent (port + 1) n lt (omega (arith, le)))
+grows_by : (names : List (List ℕ)) (name : List ℕ) (o : Option ℕ) → number_in name names ≡ o → (more : List (List ℕ)) × (with_name names name ≡ names ++ more)
+grows_by names name None is = (name ∷ [], ap (λ (o : Option ℕ). cond (is_some o) names (names ++ name ∷ [])) is)
+grows_by names name (Some n) is = ([], ap (λ (o : Option ℕ). cond (is_some o) names (names ++ name ∷ [])) is ∙ sym (append-nil names))
 
-last_is : {X : Type 0} (xs : List X) (x d : X) → get_or (xs ++ x ∷ []) (length xs) d ≡ x
-last_is [] x d = refl
-last_is (y ∷ ys) x d = last_is ys x d
+-- names that are added leave those before them
+still_named : (t : Tables) (b : Body) (names more : List (List ℕ)) (s : Spot) → IsNamed t b names s → IsNamed t b (names ++ more) s
+still_named t b names more (Port a i p) h = tt
+still_named t b names more (Free k m) h = record {
+  end = h.end;
+  declared = h.declared;
+  name = at_front names more m [] h.inside ∙ h.name;
+  inside = omega (arith, h.inside, length-append names more);
+}
+still_named t b names more (Occurrence m p) h = record {
+  term = h.term;
+  there = h.there;
+  variable = h.variable;
+  place = h.place;
+  name = at_front names more m [] h.inside ∙ h.name;
+  inside = omega (arith, h.inside, length-append names more);
+}
 
-argument_stays : (agents more : List Agent) (spots wider a port spot : ℕ) → spots ≤ wider → (a < length agents) × (port_spot agents a port < spots) × (spot < spots) →
-    (a < length (agents ++ more)) × (port_spot (agents ++ more) a port < wider) × (spot < wider)
-argument_stays agents more spots wider a port spot le h =
-    let there : port_spot (agents ++ more) a port ≡ port_spot agents a port = ap (λ (x : Agent). x.first + port) (at_front agents more a no_agent h.0) in
-    (omega (arith, h.0, length-append agents more), omega (arith, h.1, there), omega (arith, h.2))
+all_still_named : (t : Tables) (b : Body) (names : List (List ℕ)) (name : List ℕ) (spots : List Spot) → AllByRecursion (IsNamed t b names) spots → AllByRecursion (IsNamed t b (with_name names name)) spots
+all_still_named t b names name spots all =
+    let grown = grows_by names name (number_in name names) refl in
+    all_along _ _ (λ s h. subst (λ z. IsNamed t b z s) (sym grown.1) (still_named t b names grown.0 s h)) spots all
 
-read_agent_inside : (t : Tables) (free names : ℕ) (r : Reading) (s : SymbolNo) (place : Place) → IsRead t free names r → s.0 < length t.names → arity_of t s.0 ≤ 8 →
-    IsRead t free (names + 1) (with_agent r s (arity_of t s.0) place)
-read_agent_inside t free names r s place read known few =
-    let arity = arity_of t s.0 in
-    let more : List Spot = ports_from (length r.agents) 0 (arity_of t s.0 + 1) in
-    let agent : Agent = record { symbol = s; place = place; first = length r.spots } in
-    let count : length (r.spots ++ ports_from (length r.agents) 0 (arity_of t s.0 + 1)) ≡ length r.spots + (arity_of t s.0 + 1) =
-    length-append r.spots (ports_from (length r.agents) 0 (arity_of t s.0 + 1)) ∙ ap (λ n. length r.spots + n) (length-ports_from (length r.agents) 0 (arity_of t s.0 + 1)) in
-    let wider : length r.spots ≤ length (r.spots ++ ports_from (length r.agents) 0 (arity_of t s.0 + 1)) = omega (arith, count) in
-    let agents : length (r.agents ++ agent ∷ []) ≡ length r.agents + 1 = length-append r.agents (agent ∷ []) in
-    let here : get_or (r.agents ++ agent ∷ []) (length r.agents) no_agent ≡ agent = last_is r.agents agent no_agent in
+pub name_inside : (t : Tables) (b : Body) (names : List (List ℕ)) (s : Spot) → IsNamed t b names s → IsNameInside (length names) s
+name_inside t b names (Port a i p) h = tt
+name_inside t b names (Free k m) h = h.inside
+name_inside t b names (Occurrence m p) h = h.inside
+
+-- ---- an agent
+
+nth_port : (agent : ℕ) (at : Place) (port n j : ℕ) → j < n → nth_spot (ports_from agent at port n) j ≡ Port agent (port + j) at
+nth_port agent at port zero j lt = absurd (omega arith)
+nth_port agent at port (suc n) zero lt = let e : port ≡ port + 0 = omega arith in ap (λ i. Port agent i at) e
+nth_port agent at port (suc n) (suc j) lt = let e : port + 1 + j ≡ port + suc j = omega arith in nth_port agent at (port + 1) n j (omega arith) ∙ ap (λ i. Port agent i at) e
+
+pub length-ports_from : (agent : ℕ) (at : Place) (port n : ℕ) → length (ports_from agent at port n) ≡ n
+length-ports_from agent at port zero = refl
+length-ports_from agent at port (suc n) = omega (arith, length-ports_from agent at (port + 1) n)
+
+ports_named : (t : Tables) (b : Body) (names : List (List ℕ)) (agent : ℕ) (at : Place) (port n : ℕ) → AllByRecursion (IsNamed t b names) (ports_from agent at port n)
+ports_named t b names agent at port zero = tt
+ports_named t b names agent at port (suc n) = (tt, ports_named t b names agent at (port + 1) n)
+
+module _ (t : Tables) (free : ℕ) (r : Reading) (numbered : IsNumbered t free r) (s : SymbolNo) (place : Place) where
+  abbrev arity : ℕ
+  arity = arity_of t s.0
+
+  abbrev ports : List Spot
+  ports = ports_from (length r.agents) place 0 (arity_of t s.0 + 1)
+
+  abbrev then_ : Reading
+  then_ = with_agent r s (arity_of t s.0) place
+
+  abbrev agent : Agent
+  agent = record { symbol = s; place = place; first = length r.spots }
+
+  count : length (r.spots ++ ports) ≡ length r.spots + (arity_of t s.0 + 1)
+  count = length-append r.spots ports ∙ ap (λ n. length r.spots + n) (length-ports_from (length r.agents) place 0 (arity_of t s.0 + 1))
+
+  agents : length (r.agents ++ agent ∷ []) ≡ length r.agents + 1
+  agents = length-append r.agents (agent ∷ [])
+
+  same_agent : (a : ℕ) → a < length r.agents → nth_agent (r.agents ++ agent ∷ []) a ≡ nth_agent r.agents a
+  same_agent a lt = at_front r.agents (agent ∷ []) a no_agent lt
+
+  new_agent : nth_agent (r.agents ++ agent ∷ []) (length r.agents) ≡ agent
+  new_agent = let e : length r.agents ≡ length r.agents + 0 = omega arith in ap (nth_agent (r.agents ++ agent ∷ [])) e ∙ at_back r.agents (agent ∷ []) 0 no_agent
+
+  old_spot : (k : ℕ) → k < length r.spots → nth_spot (r.spots ++ ports) k ≡ nth_spot r.spots k
+  old_spot k lt = at_front r.spots ports k no_spot lt
+
+  pub new_spot : (j : ℕ) → j ≤ arity_of t s.0 → nth_spot (r.spots ++ ports) (length r.spots + j) ≡ Port (length r.agents) j place
+  new_spot j le = let e : 0 + j ≡ j = omega arith in at_back r.spots ports j no_spot ∙ nth_port (length r.agents) place 0 (arity_of t s.0 + 1) j (omega (arith, le)) ∙ ap (λ i. Port (length r.agents) i place) e
+
+  port_old : (k a i : ℕ) (p : Place) → IsPortOf t r k a i p → IsPortOf t then_ k a i p
+  port_old k a i p h =
+      let same = same_agent a h.agent in
+      record {
+        agent = omega (arith, h.agent, agents);
+        place = subst (λ (x : Agent). i ≤ arity_of t x.symbol.0) (sym same) h.place;
+        number = ap (λ (x : Agent). x.first + i) same ∙ h.number;
+        name = h.name ∙ sym (ap (λ (x : Agent). x.place) same);
+      }
+
+  port_new : (k j a i : ℕ) (p : Place) → k ≡ length r.spots + j → j ≤ arity_of t s.0 → Port (length r.agents) j place ≡ Port a i p → IsPortOf t then_ k a i p
+  port_new k j a i p at le is =
+      let agent_is : length r.agents ≡ a = cc in
+      let place_is : j ≡ i = cc in
+      let name_is : place ≡ p = cc in
+      let here : nth_agent (r.agents ++ agent ∷ []) a ≡ agent = subst (λ n. nth_agent (r.agents ++ agent ∷ []) n ≡ agent) agent_is new_agent in
+      record {
+        agent = omega (arith, agent_is, agents);
+        place = subst (λ (x : Agent). i ≤ arity_of t x.symbol.0) (sym here) (omega (arith, place_is, le));
+        number = let first = ap (λ (x : Agent). x.first) here in omega (arith, at, first, place_is);
+        name = sym name_is ∙ sym (ap (λ (x : Agent). x.place) here);
+      }
+
+  port_by : (k a i : ℕ) (p : Place) → k < length (r.spots ++ ports) → nth_spot (r.spots ++ ports) k ≡ Port a i p → (k < length r.spots) ⊎ ((j : ℕ) × (k ≡ length r.spots + j)) → IsPortOf t then_ k a i p
+  port_by k a i p lt is (inl front) = port_old k a i p (numbered.port k a i p front (sym (old_spot k front) ∙ is))
+  port_by k a i p lt is (inr (j, e)) =
+      let le : j ≤ arity_of t s.0 = omega (arith, lt, e, count) in
+      port_new k j a i p e le (sym (new_spot j le) ∙ sym (ap (nth_spot (r.spots ++ ports)) e) ∙ is)
+
+  end_by : (k j m : ℕ) → k < length (r.spots ++ ports) → nth_spot (r.spots ++ ports) k ≡ Free j m → (k < length r.spots) ⊎ ((i : ℕ) × (k ≡ length r.spots + i)) → (j ≡ k) × (j < free)
+  end_by k j m lt is (inl front) = numbered.end k j m front (sym (old_spot k front) ∙ is)
+  end_by k j m lt is (inr (i, e)) =
+      let le : i ≤ arity_of t s.0 = omega (arith, lt, e, count) in
+      absurd (let wrong : Port (length r.agents) i place ≡ Free j m = sym (new_spot i le) ∙ sym (ap (nth_spot (r.spots ++ ports)) e) ∙ is in cc)
+
+  ports_by : (a i : ℕ) → a < length (r.agents ++ agent ∷ []) → i ≤ arity_of t (nth_agent (r.agents ++ agent ∷ []) a).symbol.0 → (a < length r.agents) ⊎ ((j : ℕ) × (a ≡ length r.agents + j)) →
+      ((nth_agent (r.agents ++ agent ∷ []) a).first + i < length (r.spots ++ ports)) ×
+      (nth_spot (r.spots ++ ports) ((nth_agent (r.agents ++ agent ∷ []) a).first + i) ≡ Port a i (nth_agent (r.agents ++ agent ∷ []) a).place)
+  ports_by a i lt le (inl front) =
+      let same = same_agent a front in
+      let old = numbered.ports a i front (subst (λ (x : Agent). i ≤ arity_of t x.symbol.0) same le) in
+      subst (λ (x : Agent). (x.first + i < length (r.spots ++ ports)) × (nth_spot (r.spots ++ ports) (x.first + i) ≡ Port a i x.place)) (sym same)
+      (omega (arith, old.0, count), old_spot ((nth_agent r.agents a).first + i) old.0 ∙ old.1)
+  ports_by a i lt le (inr (j, e)) =
+      let at : length r.agents ≡ a = omega (arith, lt, e, agents) in
+      let here : nth_agent (r.agents ++ agent ∷ []) a ≡ agent = subst (λ n. nth_agent (r.agents ++ agent ∷ []) n ≡ agent) at new_agent in
+      let fits : i ≤ arity_of t s.0 = subst (λ (x : Agent). i ≤ arity_of t x.symbol.0) here le in
+      subst (λ (x : Agent). (x.first + i < length (r.spots ++ ports)) × (nth_spot (r.spots ++ ports) (x.first + i) ≡ Port a i x.place)) (sym here)
+      (omega (arith, fits, count), new_spot i fits ∙ ap (λ n. Port n i place) at)
+
+  pub numbered_agent : IsNumbered t free then_
+  numbered_agent = record {
+    port = λ k a i p lt is. port_by k a i p lt is (front_or_back (length r.spots) k);
+    end = λ k j m lt is. end_by k j m lt is (front_or_back (length r.spots) k);
+    ports = λ a i lt le. ports_by a i lt le (front_or_back (length r.agents) a);
+    ends = λ k lt. let old = numbered.ends k lt in (omega (arith, old.0, count), (old.1.0, old_spot k old.0 ∙ old.1.1));
+  }
+
+  pub wider_agent : length (r.spots ++ ports) ≡ length r.spots + (arity_of t s.0 + 1)
+  wider_agent = count
+
+wider_joints : (n m : ℕ) (r : Reading) → n ≤ m → JointsInside n r.joints → JointsInside m r.joints
+wider_joints n m r le all = all_along _ _ (λ j h. (omega (arith, h.0, le), omega (arith, h.1, le))) r.joints all
+
+pub with_agent_read : (t : Tables) (b : Body) (free names : ℕ) (r : Reading) (s : SymbolNo) (place : Place) → IsRead t b free names r → s.0 < length t.names → arity_of t s.0 ≤ 8 →
+    IsRead t b free (names + 1) (with_agent r s (arity_of t s.0) place)
+with_agent_read t b free names r s place read known few =
+    let count = wider_agent t free r read.numbered s place in
+    let one : Agent = record { symbol = s; place = place; first = length r.spots } in
     record {
-      equations = all_along _ _ (λ e h. (omega (arith, h.0, wider), omega (arith, h.1, wider))) r.equations read.equations;
-      arguments = all_along _ _ (λ a h. argument_stays r.agents (agent ∷ []) (length r.spots) _ a.agent a.port a.spot wider h) r.arguments read.arguments;
-      occurrences = all_along _ _ (λ o h. (h.0, omega (arith, h.1, wider))) r.occurrences read.occurrences;
-      spots =
-          all_append (IsSpotOf t free (r.agents ++ agent ∷ [])) r.spots more (all_along _ _ (spot_stays t free r.agents (agent ∷ [])) r.spots read.spots)
-          (ports_inside t free (r.agents ++ agent ∷ []) (length r.agents) 0 (arity_of t s.0 + 1) (omega (arith, agents))
-          (let same : arity_of t (get_or (r.agents ++ agent ∷ []) (length r.agents) no_agent).symbol.0 ≡ arity_of t s.0 = ap (λ (x : Agent). arity_of t x.symbol.0) here in omega (arith, same)));
-      agents = all_snoc (IsAgentOf t _) r.agents agent (all_along _ _ (λ a h. (h.0, omega (arith, h.1, wider))) r.agents read.agents) (known, omega (arith, count));
-      few_agents = omega (arith, agents, read.few_agents);
-      few_spots = omega (arith, count, read.few_spots, few);
+      numbered = numbered_agent t free r read.numbered s place;
+      joints = wider_joints (length r.spots) _ r (omega (arith, count)) read.joints;
+      linked = linked_more t b r.spots (ports_from (length r.agents) place 0 (arity_of t s.0 + 1)) r.joints read.joints read.linked;
+      known = all_append _ r.agents (one ∷ []) read.known (known, tt);
+      named_as = all_append _ r.spots (ports_from (length r.agents) place 0 (arity_of t s.0 + 1)) read.named_as (ports_named t b r.names (length r.agents) place 0 (arity_of t s.0 + 1));
+      few_agents = omega (arith, read.few_agents, length-append r.agents (one ∷ []));
+      few_spots = omega (arith, read.few_spots, few, count);
     }
 
-name_inside : (names : List (List ℕ)) (name : List ℕ) (o : Option ℕ) → number_in name names ≡ o → (length names ≤ length (with_name names name)) × (unwrap_or (number_in name names) (length names) < length (with_name names name))
-name_inside names name None is =
-    let grown : with_name names name ≡ names ++ name ∷ [] = ap (λ (o : Option ℕ). cond (is_some o) names (names ++ name ∷ [])) is in
-    let count = ap length grown ∙ length-append names (name ∷ []) in
-    let last : unwrap_or (number_in name names) (length names) ≡ length names = ap (λ o. unwrap_or o (length names)) is in
-    (omega (arith, count), omega (arith, count, last))
-name_inside names name (Some n) is =
-    let same : with_name names name ≡ names = ap (λ (o : Option ℕ). cond (is_some o) names (names ++ name ∷ [])) is in
-    let count = ap length same in
-    let number : unwrap_or (number_in name names) (length names) ≡ n = ap (λ o. unwrap_or o (length names)) is in
-    let found = position-Some (bytes_eq name) names n [] is in
-    (omega (arith, count), omega (arith, count, number, found.0))
+-- ---- one spot that is no agent's: the occurrence of a name, or a free end
 
-read_occurrence_inside : (t : Tables) (free names : ℕ) (r : Reading) (name : Name) → IsRead t free names r → IsRead t free (names + 1) (with_occurrence r name)
-read_occurrence_inside t free names r name read =
-    let count : length (r.spots ++ Occurrence name.place ∷ []) ≡ length r.spots + 1 = length-append r.spots (Occurrence name.place ∷ []) in
-    let wider : length r.spots ≤ length (r.spots ++ Occurrence name.place ∷ []) = omega (arith, count) in
-    let named = name_inside r.names name.text (number_in name.text r.names) refl in
+-- a spot that isn't a port or a free end keeps the numbering, and so does the next free end
+module _ (t : Tables) (free : ℕ) (r : Reading) (numbered : IsNumbered t free r) (s : Spot) (names : List (List ℕ)) where
+  abbrev and_one : Reading
+  and_one = record r { spots = r.spots ++ s ∷ []; names = names }
+
+  one_more : length (r.spots ++ s ∷ []) ≡ length r.spots + 1
+  one_more = length-append r.spots (s ∷ [])
+
+  before_it : (k : ℕ) → k < length r.spots → nth_spot (r.spots ++ s ∷ []) k ≡ nth_spot r.spots k
+  before_it k lt = at_front r.spots (s ∷ []) k no_spot lt
+
+  pub is_it : (k j : ℕ) → k < length (r.spots ++ s ∷ []) → k ≡ length r.spots + j → nth_spot (r.spots ++ s ∷ []) k ≡ s
+  is_it k j lt e = let none : j ≡ 0 = omega (arith, lt, e, one_more) in ap (nth_spot (r.spots ++ s ∷ [])) (e ∙ ap (λ i. length r.spots + i) none) ∙ at_back r.spots (s ∷ []) 0 no_spot
+
+  one_port : (k a i : ℕ) (p : Place) → ((a i : ℕ) (p : Place) → s ≢ Port a i p) → k < length (r.spots ++ s ∷ []) → nth_spot (r.spots ++ s ∷ []) k ≡ Port a i p → (k < length r.spots) ⊎ ((j : ℕ) × (k ≡ length r.spots + j)) →
+      IsPortOf t r k a i p
+  one_port k a i p never lt is (inl front) = numbered.port k a i p front (sym (before_it k front) ∙ is)
+  one_port k a i p never lt is (inr (j, e)) = absurd (never a i p (sym (is_it k j lt e) ∙ is))
+
+  one_end : (k j m : ℕ) → ((j m : ℕ) → s ≡ Free j m → (j ≡ length r.spots) × (j < free)) → k < length (r.spots ++ s ∷ []) → nth_spot (r.spots ++ s ∷ []) k ≡ Free j m → (k < length r.spots) ⊎ ((j : ℕ) × (k ≡ length r.spots + j)) →
+      (j ≡ k) × (j < free)
+  one_end k j m only lt is (inl front) = numbered.end k j m front (sym (before_it k front) ∙ is)
+  one_end k j m only lt is (inr (i, e)) = let here = only j m (sym (is_it k i lt e) ∙ is) in (omega (arith, here.0, lt, e, one_more), here.1)
+
+  pub numbered_one : ((a i : ℕ) (p : Place) → s ≢ Port a i p) → ((j m : ℕ) → s ≡ Free j m → (j ≡ length r.spots) × (j < free)) → IsNumbered t free and_one
+  numbered_one never only = record {
+    port = λ k a i p lt is. let old = one_port k a i p never lt is (front_or_back (length r.spots) k) in record { agent = old.agent; place = old.place; number = old.number; name = old.name };
+    end = λ k j m lt is. one_end k j m only lt is (front_or_back (length r.spots) k);
+    ports = λ a i lt le. let old = numbered.ports a i lt le in (omega (arith, old.0, one_more), before_it ((nth_agent r.agents a).first + i) old.0 ∙ old.1);
+    ends = λ k lt. let old = numbered.ends k lt in (omega (arith, old.0, one_more), (old.1.0, before_it k old.0 ∙ old.1.1));
+  }
+
+pub with_occurrence_read : (t : Tables) (b : Body) (free names : ℕ) (r : Reading) (u : Term) → IsTermOf b u → IsVariable t u → IsRead t b free names r → IsRead t b free (names + 1) (with_occurrence r (out-Term u).name)
+with_occurrence_read t b free names r u there variable read =
+    let name : List ℕ = (out-Term u).name.text in
+    let spot : Spot = Occurrence (number_with r.names name) (out-Term u).name.place in
+    let count : length (r.spots ++ Occurrence (number_with r.names (out-Term u).name.text) (out-Term u).name.place ∷ []) ≡ length r.spots + 1 = length-append r.spots (spot ∷ []) in
+    let at = name_there r.names name (number_in name r.names) refl in
     record {
-      equations = all_along _ _ (λ e h. (omega (arith, h.0, wider), omega (arith, h.1, wider))) r.equations read.equations;
-      arguments = all_along _ _ (λ a h. (h.0, omega (arith, h.1, wider), omega (arith, h.2, wider))) r.arguments read.arguments;
-      occurrences = all_snoc _ r.occurrences _ (all_along _ _ (λ o h. (omega (arith, h.0, named.0), omega (arith, h.1, wider))) r.occurrences read.occurrences) (named.1, omega (arith, count));
-      spots = all_snoc (IsSpotOf t free r.agents) r.spots (Occurrence name.place) read.spots tt;
-      agents = all_along _ _ (λ a h. (h.0, omega (arith, h.1, wider))) r.agents read.agents;
+      numbered = numbered_one t free r read.numbered spot (with_name r.names name) (λ a i p e. cc) (λ j m e. cc);
+      joints = wider_joints (length r.spots) _ r (omega (arith, count)) read.joints;
+      linked = linked_more t b r.spots (spot ∷ []) r.joints read.joints read.linked;
+      known = read.known;
+      named_as =
+          all_append _ r.spots (spot ∷ []) (all_still_named t b r.names name r.spots read.named_as) (record { term = u; there = there; variable = variable; place = refl; name = at.1; inside = at.0 }, tt);
       few_agents = omega (arith, read.few_agents);
       few_spots = omega (arith, count, read.few_spots);
     }
 
-read_argument_inside : (t : Tables) (free names : ℕ) (r : Reading) (agent port spot : ℕ) (place : Place) → IsRead t free names r →
-    agent < length r.agents → port_spot r.agents agent port < length r.spots → spot < length r.spots → IsRead t free names (with_argument r agent port spot place)
-read_argument_inside t free names r agent port spot place read a p s = record {
-  equations = read.equations;
-  arguments = all_snoc _ r.arguments _ read.arguments (a, p, s);
-  occurrences = read.occurrences;
-  spots = read.spots;
-  agents = read.agents;
+-- ---- two spots that are joined
+
+pub with_joint_read : (t : Tables) (b : Body) (free names : ℕ) (r : Reading) (one port other : ℕ) (place : Place) → IsRead t b free names r → one + port < length r.spots → other < length r.spots → one + port ≢ other →
+    (nth_link (links_of r) (one + port)).to ≡ one + port → (nth_link (links_of r) other).to ≡ other → PlacedJoint t b (named (nth_spot r.spots (one + port))) (named (nth_spot r.spots other)) place →
+    IsRead t b free names (with_joint r one port other place)
+with_joint_read t b free names r one port other place read a c apart one_alone other_alone joint = record {
+  numbered = record { port = λ k a i p lt is. let old = read.numbered.port k a i p lt is in record { agent = old.agent; place = old.place; number = old.number; name = old.name }; end = read.numbered.end; ports = read.numbered.ports; ends = read.numbered.ends };
+  joints = all_append _ r.joints (record { one = one; port = port; other = other; place = place } ∷ []) read.joints ((a, c), tt);
+  linked =
+      subst (IsLinked t b r.spots) (sym (links_joint r one port other place)) (linked_joint t b r.spots (links_of r) (length-links_of r) read.linked (one + port) other place a c apart one_alone other_alone joint);
+  known = read.known;
+  named_as = read.named_as;
   few_agents = read.few_agents;
   few_spots = read.few_spots;
 }
 
-read_equation_inside : (t : Tables) (free names : ℕ) (r : Reading) (left right : ℕ) (place : Place) → IsRead t free names r →
-    left < length r.spots → right < length r.spots → IsRead t free names (with_equation r left right place)
-read_equation_inside t free names r left right place read a b = record {
-  equations = all_snoc _ r.equations _ read.equations (a, b);
-  arguments = read.arguments;
-  occurrences = read.occurrences;
-  spots = read.spots;
-  agents = read.agents;
-  few_agents = read.few_agents;
-  few_spots = read.few_spots;
+pub more_names : (t : Tables) (b : Body) (free names most : ℕ) (r : Reading) → names ≤ most → IsRead t b free names r → IsRead t b free most r
+more_names t b free names most r le read = record {
+  numbered = read.numbered;
+  joints = read.joints;
+  linked = read.linked;
+  known = read.known;
+  named_as = read.named_as;
+  few_agents = omega (arith, read.few_agents, le);
+  few_spots = omega (arith, read.few_spots, le);
 }
 
--- what reading on keeps of what was read
-pub record IsReadOn (t : Tables) (free names : ℕ) (before after : Reading) : Type 0 where
-  pub read : IsRead t free names after
-  pub wider : length before.spots ≤ length after.spots
-  pub more : List Agent
-  pub agents : after.agents ≡ before.agents ++ more
+-- ---- a free end
 
--- a symbol has at most eight auxiliary ports
-abbrev pub AreSmall : Tables → Type 0
-AreSmall t = (s : ℕ) → arity_of t s ≤ 8
+pub free_end_read : (t : Tables) (b : Body) (k : ℕ) (r : Reading) (f : SourceFree) → slice_get b.free k ≡ Some f → length r.spots ≡ k → r.agents ≡ [] → r.joints ≡ [] → IsRead t b k 0 r → IsRead t b (k + 1) 0 (reads_free_end k f r)
+free_end_read t b k r f is count no_agents no_joints read =
+    let spot : Spot = Free k (number_with r.names f.name.text) in
+    let at = name_there r.names f.name.text (number_in f.name.text r.names) refl in
+    let grown : length (r.spots ++ spot ∷ []) ≡ length r.spots + 1 = length-append r.spots (spot ∷ []) in
+    let before : (j : ℕ) → j < length r.spots → nth_spot (r.spots ++ spot ∷ []) j ≡ nth_spot r.spots j = λ j lt. at_front r.spots (spot ∷ []) j no_spot lt in
+    let last : nth_spot (r.spots ++ spot ∷ []) k ≡ spot = let e : k ≡ length r.spots + 0 = omega (arith, count) in ap (nth_spot (r.spots ++ spot ∷ [])) e ∙ at_back r.spots (spot ∷ []) 0 no_spot in
+    record {
+      numbered = record {
+        port = λ j a i p lt e. absurd (no_port j a i p lt e (front_or_back (length r.spots) j));
+        end = λ j i m lt e. end_at j i m lt e (front_or_back (length r.spots) j);
+        ports = λ a i lt le. absurd (let none = ap length no_agents in omega (arith, lt, none));
+        ends = λ j lt. ends_at j lt (front_or_back (length r.spots) j) before last;
+      };
+      joints = wider_joints (length r.spots) _ r (omega (arith, grown)) read.joints;
+      linked = linked_more t b r.spots (spot ∷ []) r.joints read.joints read.linked;
+      known = read.known;
+      named_as = all_append _ r.spots (spot ∷ []) (all_still_named t b r.names f.name.text r.spots read.named_as) (record { end = f; declared = is; name = at.1; inside = at.0 }, tt);
+      few_agents = read.few_agents;
+      few_spots = omega (arith, grown, count);
+    }
+  where
+    spot : Spot
+    spot = Free k (number_with r.names f.name.text)
 
-abbrev ReadsOn : Tables → ℕ → ℕ → Type 0
-ReadsOn t free h =
-    (u : Term) (names : ℕ) (r : Reading) → names_in u ≤ h → arities_fit t u ≡ true → IsRead t free names r →
-    IsReadOn t free (names + names_in u) r ((reader_of t u).reads r).0 × (((reader_of t u).reads r).1 < length ((reader_of t u).reads r).0.spots)
+    it : (j i : ℕ) → j < length (r.spots ++ spot ∷ []) → j ≡ length r.spots + i → nth_spot (r.spots ++ spot ∷ []) j ≡ spot
+    it j i lt e = is_it t k r read.numbered spot (with_name r.names f.name.text) j i lt e
 
--- one reading after another
-then_on : (t : Tables) (free names : ℕ) (a b c : Reading) → length a.spots ≤ length b.spots → (more : List Agent) → b.agents ≡ a.agents ++ more → IsReadOn t free names b c → IsReadOn t free names a c
-then_on t free names a b c wider more grown on = record {
-  read = on.read;
-  wider = omega (arith, wider, on.wider);
-  more = more ++ on.more;
-  agents = on.agents ∙ ap (λ z. z ++ on.more) grown ∙ append_assoc a.agents more on.more;
-}
+    no_port : (j a i : ℕ) (p : Place) → j < length (r.spots ++ spot ∷ []) → nth_spot (r.spots ++ spot ∷ []) j ≡ Port a i p → (j < length r.spots) ⊎ ((i : ℕ) × (j ≡ length r.spots + i)) → ⊥
+    no_port j a i p lt e (inl front) =
+        let old = read.numbered.port j a i p front (sym (at_front r.spots (spot ∷ []) j no_spot front) ∙ e) in
+        let none = ap length no_agents in
+        absurd (omega (arith, old.agent, none))
+    no_port j a i p lt e (inr (x, f_)) = let wrong : spot ≡ Port a i p = sym (it j x lt f_) ∙ e in cc
 
-same_port : (before after more : List Agent) (agent port : ℕ) → after ≡ before ++ more → agent < length before → port_spot after agent port ≡ port_spot before agent port
-same_port before after more agent port grown lt = ap (λ (x : Agent). x.first + port) (ap (λ z. get_or z agent no_agent) grown ∙ at_front before more agent no_agent lt)
+    end_at : (j i m : ℕ) → j < length (r.spots ++ spot ∷ []) → nth_spot (r.spots ++ spot ∷ []) j ≡ Free i m → (j < length r.spots) ⊎ ((x : ℕ) × (j ≡ length r.spots + x)) → (i ≡ j) × (i < k + 1)
+    end_at j i m lt e (inl front) = let old = read.numbered.end j i m front (sym (at_front r.spots (spot ∷ []) j no_spot front) ∙ e) in (old.0, omega (arith, old.1))
+    end_at j i m lt e (inr (x, f_)) =
+        let here : spot ≡ Free i m = sym (it j x lt f_) ∙ e in
+        let same : k ≡ i = cc in
+        let grown : length (r.spots ++ spot ∷ []) ≡ length r.spots + 1 = length-append r.spots (spot ∷ []) in
+        (omega (arith, same, f_, lt, grown, count), omega (arith, same))
 
-fits_both : (a b : Bool) → (a && b) ≡ true → (a ≡ true) × (b ≡ true)
-fits_both true true e = (refl, refl)
-fits_both true false e = cc
-fits_both false b e = cc
-
-reads_all : (t : Tables) (free h : ℕ) → ReadsOn t free h → (args : List Term) (agent port names : ℕ) (r : Reading) →
-    total (map names_in args) ≤ h → all_true (map (arities_fit t) args) ≡ true → IsRead t free names r → agent < length r.agents → port_spot r.agents agent port + length args ≤ length r.spots →
-    IsReadOn t free (names + total (map names_in args)) r (reads_arguments agent (map (reader_of t) args) port r)
-reads_all t free h ih [] agent port names r short fits read known room =
-    let none : names + total (map names_in []) ≡ names = omega arith in
-    subst (λ n. IsReadOn t free n r r) (sym none) (record { read = read; wider = omega arith; more = []; agents = sym (append-nil r.agents) })
-reads_all t free h ih (u ∷ args) agent port names r short fits read known room =
-    let there : Reading × ℕ = (reader_of t u).reads r in
-    let both = fits_both (arities_fit t u) (all_true (map (arities_fit t) args)) fits in
-    let on = ih u names r (omega (arith, short)) both.0 read in
-    let count : length there.0.agents ≡ length r.agents + length on.0.more = ap length on.0.agents ∙ length-append r.agents on.0.more in
-    let same : port_spot there.0.agents agent port ≡ port_spot r.agents agent port = same_port r.agents there.0.agents on.0.more agent port on.0.agents known in
-    let joined : IsRead t free (names + names_in u) (with_argument there.0 agent port there.1 (reader_of t u).place) =
-    read_argument_inside t free (names + names_in u) there.0 agent port there.1 (reader_of t u).place on.0.read (omega (arith, count, known)) (omega (arith, same, room, on.0.wider)) on.1 in
-    let rest = reads_all t free h ih args agent (port + 1) (names + names_in u) (with_argument there.0 agent port there.1 (reader_of t u).place)
-    (omega (arith, short)) both.1 joined (omega (arith, count, known)) (omega (arith, same, room, on.0.wider)) in
-    let sum_is : names + names_in u + total (map names_in args) ≡ names + (names_in u + total (map names_in args)) = omega arith in
-    subst (λ n. IsReadOn t free n r (reads_arguments agent (map (reader_of t) (u ∷ args)) port r)) sum_is
-    (then_on t free (names + names_in u + total (map names_in args)) r (with_argument there.0 agent port there.1 (reader_of t u).place) (reads_arguments agent (map (reader_of t) (u ∷ args)) port r) on.0.wider on.0.more on.0.agents rest)
-
-more_names : (t : Tables) (free names most : ℕ) (r : Reading) → names ≤ most → IsRead t free names r → IsRead t free most r
-more_names t free names most r le read = record {
-  equations = read.equations;
-  arguments = read.arguments;
-  occurrences = read.occurrences;
-  spots = read.spots;
-  agents = read.agents;
-  few_agents = omega (arith, read.few_agents);
-  few_spots = omega (arith, read.few_spots);
-}
-
-more_on : (t : Tables) (free names most : ℕ) (a b : Reading) → names ≤ most → IsReadOn t free names a b → IsReadOn t free most a b
-more_on t free names most a b le on = record { read = more_names t free names most b le on.read; wider = on.wider; more = on.more; agents = on.agents }
-
--- one term
-reads_term : (t : Tables) (free h : ℕ) → AreSmall t → ReadsOn t free h → (u : Term) (names : ℕ) (r : Reading) → names_in u ≤ suc h → arities_fit t u ≡ true → IsRead t free names r →
-    (o : Option ℕ) → number_in (out-Term u).name.text t.names ≡ o →
-    IsReadOn t free (names + names_in u) r ((reader_of t u).reads r).0 × (((reader_of t u).reads r).1 < length ((reader_of t u).reads r).0.spots)
-reads_term t free h small ih u names r short fits read None is =
-    let out = names_out u in
-    let count = length-append r.spots (Occurrence (out-Term u).name.place ∷ []) in
-    let on : IsReadOn t free (names + 1) r (with_occurrence r (out-Term u).name) = record {
-      read = read_occurrence_inside t free names r (out-Term u).name read;
-      wider = omega (arith, count);
-      more = [];
-      agents = sym (append-nil r.agents);
-    } in
-    let P : Reading × ℕ → Type 0 = λ p. IsReadOn t free (names + names_in u) r p.0 × (p.1 < length p.0.spots) in
-    subst P (sym (read_occurrence t u r is)) (more_on t free (names + 1) (names + names_in u) r (with_occurrence r (out-Term u).name) (omega (arith, out)) on, omega (arith, count))
-reads_term t free h small ih u names r short fits read (Some s) is =
-    let symbol : SymbolNo = record { 0 = s } in
-    let args = (out-Term u).args in
-    let place = (out-Term u).name.place in
-    let out = names_out u in
-    let known = position-Some (bytes_eq (out-Term u).name.text) t.names s [] is in
-    let fit = fits_agent t u symbol is fits in
-    let begun : Reading = with_agent r symbol (arity_of t s) place in
-    let agent : Agent = record { symbol = symbol; place = place; first = length r.spots } in
-    let ready : IsRead t free (names + 1) (with_agent r symbol (arity_of t s) place) = read_agent_inside t free names r symbol place read known.0 (small s) in
-    let agents : length (r.agents ++ agent ∷ []) ≡ length r.agents + 1 = length-append r.agents (agent ∷ []) in
-    let here : get_or (r.agents ++ agent ∷ []) (length r.agents) no_agent ≡ agent = last_is r.agents agent no_agent in
-    let first : port_spot (r.agents ++ agent ∷ []) (length r.agents) 1 ≡ length r.spots + 1 = ap (λ (x : Agent). x.first + 1) here in
-    let count : length (r.spots ++ ports_from (length r.agents) 0 (arity_of t s + 1)) ≡ length r.spots + (arity_of t s + 1) =
-    length-append r.spots (ports_from (length r.agents) 0 (arity_of t s + 1)) ∙ ap (λ n. length r.spots + n) (length-ports_from (length r.agents) 0 (arity_of t s + 1)) in
-    let rest = reads_all t free h ih args (length r.agents) 1 (names + 1) (with_agent r symbol (arity_of t s) place) (omega (arith, out, short)) fit.1 ready (omega (arith, agents)) (omega (arith, first, count, fit.0)) in
-    let on = then_on t free (names + 1 + total (map names_in args)) r (with_agent r symbol (arity_of t s) place) (reads_arguments (length r.agents) (map (reader_of t) args) 1 (with_agent r symbol (arity_of t s) place)) (omega (arith, count)) (agent ∷ []) refl rest in
-    let P : Reading × ℕ → Type 0 = λ p. IsReadOn t free (names + names_in u) r p.0 × (p.1 < length p.0.spots) in
-    subst P (sym (read_agent t u r symbol is)) (more_on t free (names + 1 + total (map names_in args)) (names + names_in u) r _ (omega (arith, out)) on, omega (arith, count, rest.wider))
-
-pub reads_on : (t : Tables) (free : ℕ) → AreSmall t → (h : ℕ) → ReadsOn t free h
-reads_on t free small zero u names r short fits read = absurd (omega (arith, names_out u, short))
-reads_on t free small (suc h) u names r short fits read =
-    reads_term t free h small (λ v n q a b c. reads_on t free small h v n q a b c) u names r short fits read (number_in (out-Term u).name.text t.names) refl
-
--- one equation, and all
-reads_equation_on : (t : Tables) (free : ℕ) → AreSmall t → (e : Equation) (names : ℕ) (r : Reading) → arities_fit t e.left ≡ true → arities_fit t e.right ≡ true → IsRead t free names r →
-    IsRead t free (names + names_in_equation e) (reads_equation t e r)
-reads_equation_on t free small e names r left right read =
-    let a = reads_on t free small (names_in e.left) e.left names r (omega arith) left read in
-    let b = reads_on t free small (names_in e.right) e.right (names + names_in e.left) ((reader_of t e.left).reads r).0 (omega arith) right a.0.read in
-    more_names t free (names + names_in e.left + names_in e.right) (names + names_in_equation e) _ (omega arith)
-    (read_equation_inside t free (names + names_in e.left + names_in e.right) ((reader_of t e.right).reads ((reader_of t e.left).reads r).0).0 ((reader_of t e.left).reads r).1 ((reader_of t e.right).reads ((reader_of t e.left).reads r).0).1 e.tilde b.0.read (omega (arith, a.1, b.0.wider)) b.1)
-
-pub reads_equations_on : (t : Tables) (free : ℕ) → AreSmall t → (es : List Equation) (names : ℕ) (r : Reading) → list_all (λ e. arities_fit t e.left && arities_fit t e.right) es ≡ true → IsRead t free names r →
-    IsRead t free (names + names_in_equations es) (reads_equations t es r)
-reads_equations_on t free small [] names r fits read = more_names t free names _ r (omega arith) read
-reads_equations_on t free small (e ∷ es) names r fits read =
-    let both = fits_both (arities_fit t e.left && arities_fit t e.right) (list_all (λ e. arities_fit t e.left && arities_fit t e.right) es) fits in
-    let here = fits_both (arities_fit t e.left) (arities_fit t e.right) both.0 in
-    more_names t free (names + names_in_equation e + names_in_equations es) (names + names_in_equations (e ∷ es)) _ (omega arith)
-    (reads_equations_on t free small es (names + names_in_equation e) (reads_equation t e r) both.1 (reads_equation_on t free small e names r here.0 here.1 read))
-
--- the free ends alone
-free_inside : (t : Tables) (free : ℕ) (k : ℕ) (fs : List SourceFree) → k + length fs ≤ free → AllByRecursion (IsSpotOf t free []) (free_from k fs)
-free_inside t free k [] le = tt
-free_inside t free k (f ∷ fs) le = (omega arith, free_inside t free (k + 1) fs (omega arith))
-
-length-free_from : (k : ℕ) (fs : List SourceFree) → length (free_from k fs) ≡ length fs
-length-free_from k [] = refl
-length-free_from k (f ∷ fs) = omega (arith, length-free_from (k + 1) fs)
-
-free_read : (t : Tables) (fs : List SourceFree) → IsRead t (length fs) 0 (reads_free fs)
-free_read t fs = record {
-  equations = tt;
-  arguments = tt;
-  occurrences = tt;
-  spots = free_inside t (length fs) 0 fs (omega arith);
-  agents = tt;
-  few_agents = omega arith;
-  few_spots = omega (arith, length-free_from 0 fs);
-}
-
--- what is read of a net is in range
-pub net_read : (t : Tables) (n : SourceNet) → AreSmall t → all_arities_fit t n ≡ true → IsRead t (length n.free) (names_in_equations n.equations) (reading_of t n)
-net_read t n small fits =
-    more_names t (length n.free) (0 + names_in_equations n.equations) (names_in_equations n.equations) (reading_of t n) (omega arith)
-    (reads_equations_on t (length n.free) small n.equations 0 (reads_free n.free) fits (free_read t n.free))
-
--- the spots grow, from the free ends on
-wider_equations : (t : Tables) (free : ℕ) → AreSmall t → (es : List Equation) (names : ℕ) (r : Reading) → list_all (λ e. arities_fit t e.left && arities_fit t e.right) es ≡ true → IsRead t free names r →
-    length r.spots ≤ length (reads_equations t es r).spots
-wider_equations t free small [] names r fits read = omega arith
-wider_equations t free small (e ∷ es) names r fits read =
-    let both = fits_both (arities_fit t e.left && arities_fit t e.right) (list_all (λ e. arities_fit t e.left && arities_fit t e.right) es) fits in
-    let here = fits_both (arities_fit t e.left) (arities_fit t e.right) both.0 in
-    let a = reads_on t free small (names_in e.left) e.left names r (omega arith) here.0 read in
-    let b = reads_on t free small (names_in e.right) e.right (names + names_in e.left) ((reader_of t e.left).reads r).0 (omega arith) here.1 a.0.read in
-    let rest = wider_equations t free small es (names + names_in_equation e) (reads_equation t e r) both.1 (reads_equation_on t free small e names r here.0 here.1 read) in
-    omega (arith, rest, a.0.wider, b.0.wider)
-
-pub free_within : (t : Tables) (n : SourceNet) → AreSmall t → all_arities_fit t n ≡ true → length n.free ≤ length (reading_of t n).spots
-free_within t n small fits = omega (arith, wider_equations t (length n.free) small n.equations 0 (reads_free n.free) fits (free_read t n.free), length-free_from 0 n.free)
+    ends_at : (j : ℕ) → j < k + 1 → (j < length r.spots) ⊎ ((x : ℕ) × (j ≡ length r.spots + x)) → ((j : ℕ) → j < length r.spots → nth_spot (r.spots ++ spot ∷ []) j ≡ nth_spot r.spots j) → nth_spot (r.spots ++ spot ∷ []) k ≡ spot →
+        (j < length (r.spots ++ spot ∷ [])) × ((m : ℕ) × (nth_spot (r.spots ++ spot ∷ []) j ≡ Free j m))
+    ends_at j lt (inl front) before last =
+        let old = read.numbered.ends j (omega (arith, front, count)) in
+        let grown : length (r.spots ++ spot ∷ []) ≡ length r.spots + 1 = length-append r.spots (spot ∷ []) in
+        (omega (arith, front, grown), (old.1.0, before j front ∙ old.1.1))
+    ends_at j lt (inr (x, e)) before last =
+        let same : k ≡ j = omega (arith, lt, e, count) in
+        let grown : length (r.spots ++ spot ∷ []) ≡ length r.spots + 1 = length-append r.spots (spot ∷ []) in
+        (omega (arith, lt, grown, count), subst (λ j. (m : ℕ) × (nth_spot (r.spots ++ spot ∷ []) j ≡ Free j m)) same (number_with r.names f.name.text, last))

@@ -6,7 +6,7 @@ use Rattle.in_syntax.specs.Sizes.{IsSized}
 use Rattle.in_symbols.specs.declared.symbols.Shape.{Shape}
 use Rattle.in_symbols.specs.Tables.{Tables, IsShape, AreShapes, arity_in, arity_of, type_names, IsTabled}
 use Rattle.in_symbols.proofs.Shapes.{are_shapes}
-use Rattle.in_net.proofs.Read.{AreSmall}
+use Rattle.in_net.proofs.Terms.{AreSmall}
 
 few : (ss : List Shape) (s : ℕ) → AreShapes ss → arity_in (slice_get ss s) ≤ 8
 few [] s all = omega arith

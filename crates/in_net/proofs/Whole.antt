@@ -1,69 +1,321 @@
--- The parts that were read and joined are whole.
-use Rattle.std.proofs.Common.{◌≡◌, ℕ, zero, suc, ◌+◌, ◌*◌, ◌<◌, ◌≤◌, Bool, true, List, [], ◌∷◌, length, map, Option, Some, None, IsSomeAnd, refl, sym, ◌∙◌, ap, subst, arith, get_or, slice_get, option_map, option_and_then}
+-- The parts that were read and joined are whole: each point is in exactly one wire.
+use Rattle.std.proofs.Common.{◌≡◌, ◌≢◌, ◌⊎◌, inl, inr, ℕ, zero, suc, ◌+◌, ◌*◌, ◌<◌, ◌≤◌, Bool, true, false, ◌&&◌, ◌==◌, cond, nat_lt, List, [], ◌∷◌, ◌++◌, length, length-append, map, Option, Some, None, option_map, slice_get, refl, sym, ◌∙◌, ap, subst, arith, get_or, Contains, IsPermutation, ltb-true, ltb-false}
+use Rattle.std.specs.Prelude.{option_to_list}
+use Rattle.std.specs.List.{AllByRecursion, IsDistinct}
+use Rattle.std.proofs.lemmas.Bool.{eqb-true, eqb-false, true≢false}
+use Rattle.std.proofs.lemmas.Bool.Decides.{Decides-eqb}
+use Rattle.std.specs.Bool.{one_answer, Decides}
 use Rattle.std.proofs.lemmas.List.{length-map}
-use Rattle.std.specs.List.{AllByRecursion}
+use Rattle.std.proofs.lemmas.List.Sorted.{All-permutation, Contains-permutation, length_permutation}
+use Rattle.std.proofs.lemmas.List.Elements.{recursion_from_All, All-from_recursion, Contains-append_left, Contains-append_right}
+use Rattle.std.proofs.lemmas.Map.Keys.{IsDistinct-IsPermutation}
+use Rattle.std.proofs.lemmas.Option.{slice_get-get_or, slice_get_within}
 use Rattle.in_syntax.specs.declared.places.Place.{Place}
 use Rattle.in_syntax.specs.declared.tree.Source.{Source}
 use Rattle.in_syntax.specs.declared.tree.SourceFree.{SourceFree}
 use Rattle.in_syntax.specs.Sizes.{IsSized, names_in_equations}
+use Rattle.in_symbols.specs.Tables.{Tables}
+use Rattle.in_net.specs.declared.reading.Spot.{Spot}
+use Rattle.in_net.specs.declared.reading.Reading.{Reading}
+use Rattle.in_net.specs.declared.joining.Link.{Link}
+use Rattle.in_net.specs.declared.nets.AgentNo.{AgentNo}
 use Rattle.in_net.specs.declared.nets.Point.{Point}
 use Rattle.in_net.specs.declared.nets.Point.TheVariants.{Port, Free}
-use Rattle.in_net.specs.declared.nets.Cell.{Cell}
-use Rattle.in_net.specs.declared.nets.FreeEnd.{FreeEnd}
 use Rattle.in_net.specs.declared.nets.Wire.{Wire}
-use Rattle.in_net.specs.declared.reading.Agent.{Agent}
-use Rattle.in_net.specs.declared.reading.Reading.{Reading}
-use Rattle.in_symbols.specs.Tables.{Tables, arity_of}
-use Rattle.in_net.specs.Joining.{no_agent, IsAgentOf, AgentsOf}
-use Rattle.in_net.specs.Building.{IsCellOf, AreCellsOf, AreFreeOf, IsPointIn, IsWireIn, AreWiresIn}
-use Rattle.in_net.specs.Built.{IsReadFrom, IsCellOver}
-use Rattle.in_net.specs.Parts.{Parts, IsWhole, as_built, IsPointOf, wire_in}
-use Rattle.in_net.proofs.Cells.{length-cells, length-free}
+use Rattle.in_net.specs.Building.{nth_spot, nth_link, IsPointSpot, point_in, IsJoined, partner_of, cell_of, cells_of, free_ends_from, wire_of, wires_from}
+use Rattle.in_net.specs.Built.{IsNumbered, IsReadFrom, AreListedOf}
+use Rattle.in_net.specs.Parts.{Parts, IsWhole, IsWireBetween, as_built, partner_in, wire_in}
+use Rattle.in_net.proofs.Linked.{same_or_not, below_or_not}
+use Rattle.in_net.proofs.Links.{all_append}
+use Rattle.in_net.proofs.Points.{Stands, to_of, point_here, point_to, partner_stands, partner_back, only_one, partner_at, stands_at, leads_back, never_itself, length-free_ends}
 
--- a place of an agent is an end of its cell
-port_of_cell : (t : Tables) (agents : List Agent) (cells : List (Option Cell)) (a i : ℕ) → AreCellsOf t agents cells → a < length agents → i ≤ arity_of t (get_or agents a no_agent).symbol.0 →
-    IsSomeAnd (option_and_then (λ c. c) (slice_get cells a)) (λ c. i < length c.ends)
-port_of_cell t [] cells a i all lt le = absurd (omega arith)
-port_of_cell t (b ∷ agents) [] a i all lt le = absurd all
-port_of_cell t (b ∷ agents) (None ∷ cells) a i all lt le = absurd all
-port_of_cell t (b ∷ agents) (Some c ∷ cells) zero i all lt le = let same : arity_of t c.symbol.0 ≡ arity_of t b.symbol.0 = ap (λ s. arity_of t s.0) all.0.symbol in omega (arith, all.0.count, le)
-port_of_cell t (b ∷ agents) (Some c ∷ cells) (suc a) i all lt le = port_of_cell t agents cells a i all.1 (omega arith) le
+-- ---- the wires that are found, one for each spot that is joined to a later one
 
-module _ (t : Tables) (fs : List SourceFree) (agents : List Agent) (cells : List (Option Cell)) (free : List FreeEnd) (wires : List Wire) (places : List Place) (at_cells : AreCellsOf t agents cells) (at_free : AreFreeOf t fs free) where
-  point_inside : (p : Point) → IsPointIn t (length fs) agents p → IsPointOf (as_built cells free wires places) p
-  point_inside (Port a i) h = port_of_cell t agents cells a.0 i at_cells h.0 h.1
-  point_inside (Free k) h = omega (arith, h, length-free t fs free at_free)
+-- the wire was found at that spot
+pub record IsFoundAt (spots : List Spot) (links : List Link) (from k : ℕ) (w : Wire) : Type 0 where
+  pub after : from ≤ k
+  pub inside : k < length spots
+  pub later : k < (nth_link links k).to
+  pub is : w ≡ record { one = point_in (nth_spot spots k); other = partner_of spots links k; place = (nth_link links k).place }
 
-  wires_inside : (ws : List Wire) → AreWiresIn t (length fs) agents ws → (w : ℕ) (one other : Point) → option_map {U = Point × Point} (λ (v : Wire). (v.one, v.other)) (slice_get ws w) ≡ Some (one, other) →
-      IsPointOf (as_built cells free wires places) one × IsPointOf (as_built cells free wires places) other
-  wires_inside [] all w one other e = cc
-  wires_inside (v ∷ ws) all zero one other e =
-      let same : ◌≡◌ {A = Point × Point} (v.one, v.other) (one, other) = cc in
-      let P : Point × Point → Type 0 = λ p. IsPointOf (as_built cells free wires places) p.0 × IsPointOf (as_built cells free wires places) p.1 in
-      subst P same (point_inside v.one all.0.0, point_inside v.other all.0.1)
-  wires_inside (v ∷ ws) all (suc w) one other e = wires_inside ws all.1 w one other e
+abbrev pub IsFound : List Spot → List Link → ℕ → Wire → Type 0
+IsFound spots links from w = (k : ℕ) × IsFoundAt spots links from k w
 
-pub whole : (source : Source) (t : Tables) (r : Reading) (cells : List (Option Cell)) (free : List FreeEnd) (wires : List Wire) (places : List Place) → IsSized source → IsReadFrom source t r →
-    AreCellsOf t r.agents cells → AreFreeOf t source.net.free free → AreWiresIn t (length source.net.free) r.agents wires → length wires ≤ length r.spots → places ≡ map (λ a. a.place) r.agents →
-    IsWhole (as_built cells free wires places)
-whole source t r cells free wires places sized read at_cells at_free at_wires few at_places =
-    let agents = length-cells t r.agents cells at_cells in
-    let ends = length-free t source.net.free free at_free in
-    let s = sized.free in
-    let n = sized.names in
-    record {
-      agents = omega (arith, agents, read.few_agents, n);
-      ends = omega (arith, ends, s);
-      wires = omega (arith, few, read.few_spots, s, n);
-      joined = wires_inside t source.net.free r.agents cells free wires places at_cells at_free wires at_wires;
-      placed = λ b. ap length at_places ∙ length-map r.agents (λ a. a.place) ∙ sym agents;
-    }
+abbrev pub found_wire : List Spot → List Link → ℕ → Wire
+found_wire spots links k = record { one = point_in (nth_spot spots k); other = partner_of spots links k; place = (nth_link links k).place }
 
-pub over : (t : Tables) (n : ℕ) (agents : List Agent) (cells : List (Option Cell)) → AgentsOf t n agents → AreCellsOf t agents cells → AllByRecursion (IsCellOver t) cells
-over t n [] [] known all = tt
-over t n [] (c ∷ cells) known all = absurd all
-over t n (a ∷ agents) [] known all = absurd all
-over t n (a ∷ agents) (None ∷ cells) known all = absurd all
-over t n (a ∷ agents) (Some c ∷ cells) known all =
-    let same = all.0.symbol in
-    ((subst (λ s. s.0 < length t.names) (sym same) known.0.0, all.0.count ∙ ap (λ s. arity_of t s.0 + 1) (sym same)), over t n agents cells known.1 all.1)
+wire_by : (spots : List Spot) (links : List Link) (at : ℕ) (b : Bool) → nat_lt at (nth_link links at).to ≡ b → at < length spots →
+    AllByRecursion (IsFound spots links at) (option_to_list (cond b (Some (found_wire spots links at)) None))
+wire_by spots links at true is lt = ((at, record { after = omega arith; inside = lt; later = ltb-true at (nth_link links at).to is; is = refl }), tt)
+wire_by spots links at false is lt = tt
+
+all_found : (spots : List Spot) (links : List Link) (from n : ℕ) → from + n ≤ length spots → AllByRecursion (IsFound spots links from) (wires_from spots links from n)
+all_found spots links from zero le = tt
+all_found spots links from (suc n) le =
+    all_append (IsFound spots links from) (option_to_list (wire_of spots links from)) (wires_from spots links (from + 1) n)
+    (here (nat_lt from (nth_link links from).to) refl)
+    (weaker (wires_from spots links (from + 1) n) (all_found spots links (from + 1) n (omega (arith, le))))
+  where
+    here : (b : Bool) → nat_lt from (nth_link links from).to ≡ b → AllByRecursion (IsFound spots links from) (option_to_list (cond b (Some (found_wire spots links from)) None))
+    here b is = wire_by spots links from b is (omega (arith, le))
+
+    weaker : (ws : List Wire) → AllByRecursion (IsFound spots links (from + 1)) ws → AllByRecursion (IsFound spots links from) ws
+    weaker [] h = tt
+    weaker (w ∷ ws) h = ((h.0.0, record { after = let a = h.0.1.after in omega (arith, a); inside = h.0.1.inside; later = h.0.1.later; is = h.0.1.is }), weaker ws h.1)
+
+-- ---- no wire is found twice
+
+abbrev pub eq_point : Point → Point → Bool
+eq_point (Port a i) (Port c j) = (a.0 == c.0) && (i == j)
+eq_point (Port a i) (Free l) = false
+eq_point (Free k) (Port c j) = false
+eq_point (Free k) (Free l) = k == l
+
+both_true : (a b : Bool) → (a && b) ≡ true → (a ≡ true) × (b ≡ true)
+both_true true true e = (refl, refl)
+both_true true false e = cc
+both_true false b e = cc
+
+both_are : (a b : Bool) → a ≡ true → b ≡ true → (a && b) ≡ true
+both_are true true e f = refl
+both_are true false e f = f
+both_are false b e f = e
+
+eq_point-Decides : (p q : Point) → Decides (eq_point p q) (p ≡ q)
+eq_point-Decides (Port a i) (Port c j) =
+    ((λ e.
+      let parts = both_true (a.0 == c.0) (i == j) e in
+      let agent : a.0 ≡ c.0 = eqb-true a.0 c.0 parts.0 in
+      ap (λ n. let x : AgentNo = record { 0 = n } in Port x i) agent ∙ ap (Port c) (eqb-true i j parts.1)),
+     (λ e.
+      let agent : a ≡ c = cc in
+      let place : i ≡ j = cc in
+      both_are (a.0 == c.0) (i == j) ((Decides-eqb a.0 c.0).1 (ap (λ (n : AgentNo). n.0) agent)) ((Decides-eqb i j).1 place)))
+eq_point-Decides (Port a i) (Free l) = ((λ e. cc), (λ e. cc))
+eq_point-Decides (Free k) (Port c j) = ((λ e. cc), (λ e. cc))
+eq_point-Decides (Free k) (Free l) = ((λ e. ap Free (eqb-true k l e)), (λ e. (Decides-eqb k l).1 (let same : k ≡ l = cc in same)))
+
+turns : (p q : Point) → eq_point p q ≡ eq_point q p
+turns p q = one_answer (eq_point p q) (eq_point q p) (eq_point-Decides p q) (((λ e. sym ((eq_point-Decides q p).0 e)), (λ e. (eq_point-Decides q p).1 (sym e))))
+
+abbrev pub same_one : Wire → Wire → Bool
+same_one v w = eq_point v.one w.one
+
+distinct_at : (ws : List Wire) (i j : ℕ) (d : Wire) → i < j → j < length ws → IsDistinct same_one ws → same_one (get_or ws i d) (get_or ws j d) ≡ false
+unfolding IsDistinct
+distinct_at [] i j d lt in_ h = absurd (omega (arith, in_))
+distinct_at (w ∷ ws) zero zero d lt in_ h = absurd (omega (arith, lt))
+distinct_at (w ∷ ws) zero (suc j) d lt in_ h = later ws j (omega (arith, in_)) h.0
+  where
+    later : (vs : List Wire) (j : ℕ) → j < length vs → AllByRecursion (λ y. same_one w y ≡ false) vs → same_one w (get_or vs j d) ≡ false
+    later [] j lt all = absurd (omega (arith, lt))
+    later (v ∷ vs) zero lt all = all.0
+    later (v ∷ vs) (suc j) lt all = later vs j (omega (arith, lt)) all.1
+distinct_at (w ∷ ws) (suc i) zero d lt in_ h = absurd (omega (arith, lt))
+distinct_at (w ∷ ws) (suc i) (suc j) d lt in_ h = distinct_at ws i j d (omega (arith, lt)) (omega (arith, in_)) h.1
+
+is_false : (b : Bool) → (b ≡ true → ⊥) → b ≡ false
+is_false true h = absurd (h refl)
+is_false false h = refl
+
+module _ (t : Tables) (fs : List SourceFree) (r : Reading) (links : List Link) (read : (p : Point) (k l : ℕ) → Stands r.spots p k → Stands r.spots p l → k ≡ l) (joined : IsJoined r.spots links) where
+  -- the two points of a found wire, where they stand
+  one_stands : (from k : ℕ) (w : Wire) → IsFoundAt r.spots links from k w → Stands r.spots w.one k
+  one_stands from k w f = record {
+    inside = f.inside;
+    point = point_here r.spots links joined k f.inside (λ e. absurd (let l = f.later in omega (arith, l, e)));
+    is = sym (ap (λ (w : Wire). w.one) f.is);
+  }
+
+  other_stands : (from k : ℕ) (w : Wire) → IsFoundAt r.spots links from k w → Stands r.spots w.other (nth_link links k).to
+  other_stands from k w f =
+      subst (λ p. Stands r.spots p (nth_link links k).to) (sym (ap (λ (w : Wire). w.other) f.is)) (partner_stands r.spots links joined w.one k (one_stands from k w f))
+
+  distinct_found : (from n : ℕ) → from + n ≤ length r.spots → IsDistinct same_one (wires_from r.spots links from n)
+  unfolding IsDistinct
+  distinct_found from zero le = tt
+  distinct_found from (suc n) le = by_test (nat_lt from (nth_link links from).to) refl (distinct_found (from + 1) n (omega (arith, le)))
+    where
+      apart : (w : Wire) → IsFoundAt r.spots links from from w → (ws : List Wire) → AllByRecursion (IsFound r.spots links (from + 1)) ws → AllByRecursion (λ y. same_one w y ≡ false) ws
+      apart w f [] h = tt
+      apart w f (v ∷ ws) h =
+          let other : eq_point w.one v.one ≡ true → ⊥ = λ e.
+          (let same = (eq_point-Decides w.one v.one).0 e in
+          let one : Stands r.spots v.one from = subst (λ p. Stands r.spots p from) same (one_stands from from w f) in
+          let k = read v.one from h.0.0 one (one_stands (from + 1) h.0.0 v h.0.1) in
+          let after = h.0.1.after in
+          absurd (omega (arith, after, k))) in
+          (is_false (same_one w v) other, apart w f ws h.1)
+
+      by_test : (b : Bool) → nat_lt from (nth_link links from).to ≡ b → IsDistinct same_one (wires_from r.spots links (from + 1) n) → IsDistinct same_one (option_to_list (cond b (Some (found_wire r.spots links from)) None) ++ wires_from r.spots links (from + 1) n)
+      by_test true is h =
+          (apart (found_wire r.spots links from) (record { after = omega arith; inside = omega (arith, le); later = ltb-true from (nth_link links from).to is; is = refl }) (wires_from r.spots links (from + 1) n) (all_found r.spots links (from + 1) n (omega (arith, le))), h)
+      by_test false is h = h
+
+-- a spot that is joined to a later one has its wire among those found
+found_there : (spots : List Spot) (links : List Link) (from n k : ℕ) → from ≤ k → k < from + n → k < (nth_link links k).to → Contains (wires_from spots links from n) (found_wire spots links k)
+found_there spots links from zero k le lt later = absurd (omega (arith, le, lt))
+found_there spots links from (suc n) k le lt later = by_same (same_or_not k from) (λ x. found_there spots links (from + 1) n k (omega (arith, le, x)) (omega (arith, lt)) later)
+  where
+    by_same : (k ≡ from) ⊎ (k ≢ from) → (k ≢ from → Contains (wires_from spots links (from + 1) n) (found_wire spots links k)) → Contains (wires_from spots links from (suc n)) (found_wire spots links k)
+    by_same (inl e) next =
+        let less : from < (nth_link links from).to = subst (λ k. k < (nth_link links k).to) e later in
+        Contains-append_left (option_to_list (wire_of spots links from)) (wires_from spots links (from + 1) n) (found_wire spots links k)
+        (subst (λ z. Contains (option_to_list (wire_of spots links from)) (found_wire spots links z)) (sym e) (by_test (nat_lt from (nth_link links from).to) refl less))
+      where
+        by_test : (b : Bool) → nat_lt from (nth_link links from).to ≡ b → from < (nth_link links from).to → Contains (option_to_list (cond b (Some (found_wire spots links from)) None)) (found_wire spots links from)
+        by_test true is less = (0, omega arith, refl)
+        by_test false is less = absurd (let no_ = ltb-false from (nth_link links from).to is in omega (arith, no_, less))
+    by_same (inr e) next = Contains-append_right (option_to_list (wire_of spots links from)) (wires_from spots links (from + 1) n) (found_wire spots links k) (next e)
+
+few_found : (spots : List Spot) (links : List Link) (from n : ℕ) → length (wires_from spots links from n) ≤ n
+few_found spots links from zero = omega arith
+few_found spots links from (suc n) =
+    let one : length (option_to_list (wire_of spots links from)) ≤ 1 = at_most (wire_of spots links from) in
+    omega (arith, one, few_found spots links (from + 1) n, length-append (option_to_list (wire_of spots links from)) (wires_from spots links (from + 1) n))
+  where
+    at_most : (o : Option Wire) → length (option_to_list o) ≤ 1
+    at_most None = omega arith
+    at_most (Some w) = omega arith
+
+-- ---- the whole net
+
+some_pair : {X Y : Type 0} (a c : X) (b d : Y) → ◌≡◌ {A = Option (X × Y)} (Some (a, b)) (Some (c, d)) → (a ≡ c) × (b ≡ d)
+some_pair {X} {Y} a c b d e = let same : ◌≡◌ {A = X × Y} (a, b) (c, d) = cc in (ap (λ (p : X × Y). p.0) same, ap (λ (p : X × Y). p.1) same)
+
+no_pair : {Y : Type 0} (y : Y) → ◌≡◌ {A = Option Y} None (Some y) → ⊥
+no_pair y e = cc
+
+module _ (t : Tables) (fs : List SourceFree) (r : Reading) (links : List Link) (numbered : IsNumbered t (length fs) r) (joined : IsJoined r.spots links) (wires : List Wire) (places : List Place)
+  (listed : AreListedOf (wires_from r.spots links 0 (length r.spots)) wires) where
+  abbrev found : List Wire
+  found = wires_from r.spots links 0 (length r.spots)
+
+  abbrev net : Parts
+  net = as_built (cells_of t r.spots links r.agents) (free_ends_from t r.spots links 0 fs) wires places
+
+  only : (p : Point) (k l : ℕ) → Stands r.spots p k → Stands r.spots p l → k ≡ l
+  only = only_one t fs r links numbered joined wires places
+
+  all_listed : AllByRecursion (IsFound r.spots links 0) wires
+  all_listed =
+      recursion_from_All (IsFound r.spots links 0) wires
+      (All-permutation (IsFound r.spots links 0) found wires listed.same (All-from_recursion (IsFound r.spots links 0) found (all_found r.spots links 0 (length r.spots) (omega arith))))
+
+  distinct : IsDistinct same_one wires
+  distinct = IsDistinct-IsPermutation same_one (λ v w. turns v.one w.one) found wires listed.same (distinct_found t fs r links only joined 0 (length r.spots) (omega arith))
+
+  -- the wire of that number, and the spot where it was found
+  pub record IsWireAt (w : ℕ) (p q : Point) : Type 0 where
+    pub inside : w < length wires
+    pub spot : ℕ
+    pub one : Stands r.spots p spot
+    pub other : Stands r.spots q (nth_link links spot).to
+    pub later : spot < (nth_link links spot).to
+    pub partner : q ≡ partner_of r.spots links spot
+    pub listed_one : (d : Wire) → (get_or wires w d).one ≡ p
+
+  wire_found : (w : ℕ) (p q : Point) (ws : List Wire) → AllByRecursion (IsFound r.spots links 0) ws → option_map {U = Point × Point} (λ (v : Wire). (v.one, v.other)) (slice_get ws w) ≡ Some (p, q) →
+      (w < length ws) × ((d : Wire) → (get_or ws w d).one ≡ p) × ((v : Wire) × (v.one ≡ p) × (v.other ≡ q) × IsFound r.spots links 0 v)
+  wire_found w p q [] all e = absurd (no_pair (p, q) e)
+  wire_found zero p q (v ∷ ws) all e =
+      let same = some_pair v.one p v.other q e in
+      (omega arith, (λ d. same.0), (v, same.0, same.1, all.0))
+  wire_found (suc w) p q (v ∷ ws) all e =
+      let rest = wire_found w p q ws all.1 e in
+      (omega (arith, rest.0), rest.1, rest.2)
+
+  pub wire_at : (w : ℕ) (p q : Point) → wire_in net w ≡ Some (p, q) → IsWireAt w p q
+  wire_at w p q e =
+      let here = wire_found w p q wires all_listed e in
+      let v : Wire = here.2.0 in
+      let k : ℕ = here.2.3.0 in
+      let f = here.2.3.1 in
+      record {
+        inside = here.0;
+        spot = here.2.3.0;
+        one = subst (λ x. Stands r.spots x here.2.3.0) here.2.1 (one_stands t fs r links only joined 0 k v f);
+        other = subst (λ x. Stands r.spots x (nth_link links here.2.3.0).to) here.2.2 (other_stands t fs r links only joined 0 k v f);
+        later = f.later;
+        partner = sym here.2.2 ∙ ap (λ (w : Wire). w.other) f.is;
+        listed_one = here.1;
+      }
+
+  partners_of : (w : ℕ) (p q : Point) → wire_in net w ≡ Some (p, q) → partner_in net p ≡ Some q
+  partners_of w p q e = let at = wire_at w p q e in partner_at t fs r links numbered joined wires places p at.spot at.one ∙ ap Some (sym at.partner)
+
+  -- the number of a found wire
+  number_of : (k : ℕ) → k < length r.spots → k < (nth_link links k).to → (w : ℕ) × (wire_in net w ≡ Some (point_in (nth_spot r.spots k), partner_of r.spots links k))
+  number_of k lt later =
+      let there = Contains-permutation found wires (found_wire r.spots links k) listed.same (found_there r.spots links 0 (length r.spots) k (omega arith) (omega (arith, lt)) later) in
+      (there.0, ap (option_map {T = Wire} {U = Point × Point} (λ v. (v.one, v.other))) (slice_get-get_or wires there.0 (found_wire r.spots links k) there.1 ∙ ap Some there.2))
+
+  listed_of : (p q : Point) → partner_in net p ≡ Some q → (w : ℕ) × IsWireBetween net w p q
+  listed_of p q e =
+      let at = stands_at t fs r links numbered joined wires places p q e in
+      by_side at.0 at.1 at.2 (below_or_not at.0 (nth_link links at.0).to)
+    where
+      by_side : (k : ℕ) → Stands r.spots p k → q ≡ partner_of r.spots links k → (k < (nth_link links k).to) ⊎ ((nth_link links k).to ≤ k) → (w : ℕ) × IsWireBetween net w p q
+      by_side k stands is (inl later) =
+          let w = number_of k stands.inside later in
+          (w.0, inl (w.1 ∙ ap (λ x. Some (x, partner_of r.spots links k)) stands.is ∙ ap (λ x. Some (p, x)) (sym is)))
+      by_side k stands is (inr before) =
+          let differ = joined.apart k stands.inside stands.point in
+          let back = to_of r.spots links joined k stands.inside in
+          let less : (nth_link links k).to < (nth_link links (nth_link links k).to).to = omega (arith, differ, back, before) in
+          let w = number_of (nth_link links k).to (joined.inside k stands.inside) less in
+          (w.0, inr (w.1 ∙ ap (λ x. Some (partner_of r.spots links k, x)) (partner_back r.spots links joined p k stands) ∙ ap (λ x. Some (x, p)) (sym is)))
+
+  not_turned : (v w : ℕ) (p q : Point) → wire_in net v ≡ Some (p, q) → wire_in net w ≡ Some (q, p) → ⊥
+  not_turned v w p q a b =
+      let f = wire_at v p q a in
+      let g = wire_at w q p b in
+      let one = only q (nth_link links f.spot).to g.spot f.other g.one in
+      let other = only p (nth_link links g.spot).to f.spot g.other f.one in
+      absurd (let l = f.later in let m = g.later in omega (arith, one, other, l, m))
+
+  same_number : (v w : ℕ) (p q : Point) → wire_in net v ≡ Some (p, q) → wire_in net w ≡ Some (p, q) → v ≡ w
+  same_number v w p q a b = by_order (same_or_not v w) (below_or_not v w)
+    where
+      f : IsWireAt v p q
+      f = wire_at v p q a
+
+      g : IsWireAt w p q
+      g = wire_at w p q b
+
+      ordered : (v w : ℕ) → IsWireAt v p q → IsWireAt w p q → v < w → ⊥
+      ordered v w f g lt =
+          let apart = distinct_at wires v w (found_wire r.spots links 0) lt g.inside distinct in
+          let same : eq_point (get_or wires v (found_wire r.spots links 0)).one (get_or wires w (found_wire r.spots links 0)).one ≡ true =
+          (eq_point-Decides (get_or wires v (found_wire r.spots links 0)).one (get_or wires w (found_wire r.spots links 0)).one).1 (f.listed_one (found_wire r.spots links 0) ∙ sym (g.listed_one (found_wire r.spots links 0))) in
+          true≢false (sym same ∙ apart)
+
+      by_order : (v ≡ w) ⊎ (v ≢ w) → (v < w) ⊎ (w ≤ v) → v ≡ w
+      by_order (inl e) s = e
+      by_order (inr e) (inl s) = absurd (ordered v w f g s)
+      by_order (inr e) (inr s) = absurd (ordered w v g f (omega (arith, e, s)))
+
+  once_of : (v w : ℕ) (p q : Point) → IsWireBetween net v p q → IsWireBetween net w p q → v ≡ w
+  once_of v w p q (inl a) (inl b) = same_number v w p q a b
+  once_of v w p q (inl a) (inr b) = absurd (not_turned v w p q a b)
+  once_of v w p q (inr a) (inl b) = absurd (not_turned v w q p a b)
+  once_of v w p q (inr a) (inr b) = same_number v w q p a b
+
+  pub whole : (source : Source) → fs ≡ source.net.free → IsSized source → IsReadFrom source t r → places ≡ map (λ a. a.place) r.agents → IsWhole net
+  whole source is sized read at_places =
+      let agents : length (cells_of t r.spots links r.agents) ≡ length r.agents = length-map r.agents (λ a. Some (cell_of t r.spots links a)) in
+      let ends = length-free_ends t r.spots links 0 fs in
+      let same = ap length is in
+      let s = sized.free in
+      let n = sized.names in
+      record {
+        agents = omega (arith, agents, read.few_agents, n);
+        ends = omega (arith, ends, same, s);
+        wires = omega (arith, length_permutation found wires listed.same, few_found r.spots links 0 (length r.spots), read.few_spots, s, n);
+        back = leads_back t fs r links numbered joined wires places;
+        apart = never_itself t fs r links numbered joined wires places;
+        listed = listed_of;
+        partners = partners_of;
+        once = once_of;
+        placed = λ b. ap length at_places ∙ length-map r.agents (λ a. a.place) ∙ sym agents;
+      }

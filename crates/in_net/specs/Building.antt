@@ -1,60 +1,95 @@
 -- The parts of a net out of what is read and joined: no public contract names this.
-use Rattle.std.specs.Prelude.{◌≡◌, ℕ, ◌+◌, ◌^◌, ◌<◌, ◌≤◌, List, [], ◌∷◌, length, map, Option, Some, None, slice_index_or}
+use Rattle.std.specs.Prelude.{◌≡◌, ◌≢◌, ℕ, zero, suc, ◌+◌, ◌^◌, ◌<◌, ◌≤◌, cond, nat_lt, List, [], ◌∷◌, ◌++◌, length, map, Option, Some, None, option_to_list, slice_index_or}
 use Rattle.std.specs.List.{AllByRecursion}
+use Rattle.in_syntax.specs.declared.places.Place.{Place}
 use Rattle.in_syntax.specs.declared.tree.SourceFree.{SourceFree}
 use Rattle.in_net.specs.declared.reading.Spot.{Spot}
 use Rattle.in_net.specs.declared.reading.Spot.TheVariants as spot
 use Rattle.in_net.specs.declared.reading.Agent.{Agent}
+use Rattle.in_net.specs.declared.reading.Reading.{Reading}
+use Rattle.in_net.specs.declared.joining.Link.{Link}
 use Rattle.in_net.specs.declared.nets.Point.{Point}
 use Rattle.in_net.specs.declared.nets.Point.TheVariants.{Port, Free}
 use Rattle.in_net.specs.declared.nets.Cell.{Cell}
 use Rattle.in_net.specs.declared.nets.FreeEnd.{FreeEnd}
 use Rattle.in_net.specs.declared.nets.Wire.{Wire}
 use Rattle.in_symbols.specs.Tables.{Tables, arity_of, port_of}
-use Rattle.in_net.specs.Joining.{no_agent}
+use Rattle.in_net.specs.Joining.{no_link}
+
+abbrev pub no_agent : Agent
+no_agent = record { symbol = record { 0 = 0 }; place = record { from = 0; to = 0; line = 0; col = 0 }; first = 0 }
+
+abbrev pub no_spot : Spot
+no_spot = spot.Port 0 0 (record { from = 0; to = 0; line = 0; col = 0 })
+
+-- the spot of that number, and what it is joined to
+abbrev pub nth_spot : List Spot → ℕ → Spot
+nth_spot spots i = slice_index_or spots i no_spot
+
+abbrev pub nth_link : List Link → ℕ → Link
+nth_link links i = slice_index_or links i no_link
+
+abbrev pub nth_agent : List Agent → ℕ → Agent
+nth_agent agents a = slice_index_or agents a no_agent
 
 -- the point that a spot is; an occurrence is none
 abbrev pub point_of : Spot → Option Point
-point_of (spot.Port a i) = Some (Port (record { 0 = a }) i)
-point_of (spot.Free k) = Some (Free k)
-point_of (spot.Occurrence p) = None
+point_of (spot.Port a i p) = Some (Port (record { 0 = a }) i)
+point_of (spot.Free k m) = Some (Free k)
+point_of (spot.Occurrence m p) = None
+
+abbrev pub IsPointSpot : Spot → Type 0
+IsPointSpot (spot.Port a i p) = Unit {0}
+IsPointSpot (spot.Free k m) = Unit {0}
+IsPointSpot (spot.Occurrence m p) = ⊥
+
+abbrev pub point_in : Spot → Point
+point_in (spot.Port a i p) = Port (record { 0 = a }) i
+point_in (spot.Free k m) = Free k
+point_in (spot.Occurrence m p) = Free 0
 
 abbrev pub IsSmall : Spot → Type 0
-IsSmall (spot.Port a i) = a < 2 ^ 32
-IsSmall (spot.Free k) = k < 2 ^ 32
-IsSmall (spot.Occurrence p) = Unit {0}
+IsSmall (spot.Port a i p) = a < 2 ^ 32
+IsSmall (spot.Free k m) = k < 2 ^ 32
+IsSmall (spot.Occurrence m p) = Unit {0}
 
 abbrev pub AreSmallSpots : List Spot → Type 0
 AreSmallSpots = AllByRecursion IsSmall
 
--- a cell is the agent's, with an end for each of its places
-pub record IsCellOf (t : Tables) (a : Agent) (c : Cell) : Type 0 where
-  pub symbol : c.symbol ≡ a.symbol
-  pub count : length c.ends ≡ arity_of t a.symbol.0 + 1
+-- once all is joined: points are joined to other points, each of which leads back, and no occurrence is joined to anything
+pub record IsJoined (spots : List Spot) (links : List Link) : Type 0 where
+  pub count : length links ≡ length spots
+  pub inside : (i : ℕ) → i < length spots → (nth_link links i).to < length spots
+  pub back : (i : ℕ) → i < length spots → nth_link links (nth_link links i).to ≡ record { to = i; place = (nth_link links i).place }
+  pub apart : (i : ℕ) → i < length spots → IsPointSpot (nth_spot spots i) → (nth_link links i).to ≢ i
+  pub alone : (i : ℕ) → i < length spots → (IsPointSpot (nth_spot spots i) → ⊥) → (nth_link links i).to ≡ i
 
-abbrev pub AreCellsOf : Tables → List Agent → List (Option Cell) → Type 0
-AreCellsOf t [] [] = Unit {0}
-AreCellsOf t [] (c ∷ cs) = ⊥
-AreCellsOf t (a ∷ as_) [] = ⊥
-AreCellsOf t (a ∷ as_) (None ∷ cs) = ⊥
-AreCellsOf t (a ∷ as_) (Some c ∷ cs) = IsCellOf t a c × AreCellsOf t as_ cs
+-- the point that a spot is joined to
+abbrev pub partner_of : List Spot → List Link → ℕ → Point
+partner_of spots links at = point_in (nth_spot spots (nth_link links at).to)
 
--- a point is a place of an agent, or a free end
-abbrev pub IsPointIn : Tables → ℕ → List Agent → Point → Type 0
-IsPointIn t free agents (Port a i) = (a.0 < length agents) × (i ≤ arity_of t (slice_index_or agents a.0 no_agent).symbol.0)
-IsPointIn t free agents (Free k) = k < free
+abbrev pub ends_from : List Spot → List Link → ℕ → ℕ → List Point
+ends_from spots links at zero = []
+ends_from spots links at (suc n) = partner_of spots links at ∷ ends_from spots links (at + 1) n
 
-abbrev pub IsWireIn : Tables → ℕ → List Agent → Wire → Type 0
-IsWireIn t free agents w = IsPointIn t free agents w.one × IsPointIn t free agents w.other
+abbrev pub cell_of : Tables → List Spot → List Link → Agent → Cell
+cell_of t spots links a = record { symbol = a.symbol; ends = ends_from spots links a.first (arity_of t a.symbol.0 + 1) }
 
-abbrev pub AreWiresIn : Tables → ℕ → List Agent → List Wire → Type 0
-AreWiresIn t free agents = AllByRecursion (IsWireIn t free agents)
+abbrev pub cells_of : Tables → List Spot → List Link → List Agent → List (Option Cell)
+cells_of t spots links = map (λ a. Some (cell_of t spots links a))
 
-abbrev pub IsFreeOf : Tables → SourceFree → FreeEnd → Type 0
-IsFreeOf t f e = (e.name ≡ f.name.text) × (e.kind ≡ port_of t.types f.port)
+abbrev pub free_end_of : Tables → List Spot → List Link → ℕ → SourceFree → FreeEnd
+free_end_of t spots links k f = record { name = f.name.text; kind = port_of t.types f.port; end = partner_of spots links k }
 
-abbrev pub AreFreeOf : Tables → List SourceFree → List FreeEnd → Type 0
-AreFreeOf t [] [] = Unit {0}
-AreFreeOf t [] (e ∷ es) = ⊥
-AreFreeOf t (f ∷ fs) [] = ⊥
-AreFreeOf t (f ∷ fs) (e ∷ es) = IsFreeOf t f e × AreFreeOf t fs es
+abbrev pub free_ends_from : Tables → List Spot → List Link → ℕ → List SourceFree → List FreeEnd
+free_ends_from t spots links k [] = []
+free_ends_from t spots links k (f ∷ fs) = free_end_of t spots links k f ∷ free_ends_from t spots links (k + 1) fs
+
+-- the wire between a spot and a later one
+abbrev pub wire_of : List Spot → List Link → ℕ → Option Wire
+wire_of spots links at =
+    cond (nat_lt at (nth_link links at).to) (Some (record { one = point_in (nth_spot spots at); other = partner_of spots links at; place = (nth_link links at).place })) None
+
+abbrev pub wires_from : List Spot → List Link → ℕ → ℕ → List Wire
+wires_from spots links at zero = []
+wires_from spots links at (suc n) = option_to_list (wire_of spots links at) ++ wires_from spots links (at + 1) n

@@ -1,29 +1,65 @@
 -- What building a net answers.
-use Rattle.std.specs.Prelude.{◌≡◌, ℕ, ◌+◌, ◌*◌, ◌<◌, ◌≤◌, Bool, true, List, length, map, Result, Ok, Err, Option, Some, None}
+use Rattle.std.specs.Prelude.{◌≡◌, ℕ, suc, ◌+◌, ◌*◌, ◌<◌, ◌≤◌, Bool, true, List, length, map, Result, Ok, Err, Option, Some, None, IsPermutation}
 use Rattle.std.specs.List.{AllByRecursion}
+use Rattle.std.specs.List.Sorted.{IsNonDecreasingBy}
 use Rattle.in_syntax.specs.declared.faults.Fault.{Fault}
+use Rattle.in_syntax.specs.declared.places.Place.{Place}
 use Rattle.in_syntax.specs.declared.tree.Source.{Source}
 use Rattle.in_syntax.specs.Sizes.{names_in_equations}
 use Rattle.in_net.specs.declared.reading.Reading.{Reading}
-use Rattle.in_net.specs.Joining.{SpotsOf, AgentsOf}
+use Rattle.in_net.specs.declared.reading.Agent.{Agent}
+use Rattle.in_net.specs.declared.reading.Spot.{Spot}
+use Rattle.in_net.specs.declared.reading.Spot.TheVariants as spot
+use Rattle.in_net.specs.declared.joining.Link.{Link}
 use Rattle.in_net.specs.declared.nets.Cell.{Cell}
+use Rattle.in_net.specs.declared.nets.Wire.{Wire}
 use Rattle.in_net.specs.Parts.{Parts}
 use Rattle.in_symbols.specs.Tables.{Tables, arity_of}
-use Rattle.in_net.specs.Building.{AreCellsOf, AreFreeOf}
-use Rattle.in_net.specs.TextNet.{HasPointsOf}
+use Rattle.in_net.specs.Building.{nth_spot, nth_agent, IsPointSpot, AreSmallSpots, cells_of, free_ends_from, wires_from}
+use Rattle.in_net.specs.TextNet.{IsNetOf}
 
--- what was read is in range
+-- so many spots from one on are points
+abbrev pub ArePointsAt : List Spot → ℕ → ℕ → Type 0
+ArePointsAt spots first n = (j : ℕ) → j < n → (first + j < length spots) × IsPointSpot (nth_spot spots (first + j))
+
+-- an agent's symbol is declared, and its ports are among the spots
+abbrev pub AgentsOf : Tables → List Spot → List Agent → Type 0
+AgentsOf t spots = AllByRecursion (λ a. (a.symbol.0 < length t.names) × ArePointsAt spots a.first (arity_of t a.symbol.0 + 1))
+
+-- a port is a place of an agent that is read, at its number among the spots
+pub record IsPortOf (t : Tables) (r : Reading) (k a i : ℕ) (p : Place) : Type 0 where
+  pub agent : a < length r.agents
+  pub place : i ≤ arity_of t (nth_agent r.agents a).symbol.0
+  pub number : (nth_agent r.agents a).first + i ≡ k
+  pub name : p ≡ (nth_agent r.agents a).place
+
+-- which spots stand for which points
+pub record IsNumbered (t : Tables) (free : ℕ) (r : Reading) : Type 0 where
+  pub port : (k a i : ℕ) (p : Place) → k < length r.spots → nth_spot r.spots k ≡ spot.Port a i p → IsPortOf t r k a i p
+  pub end : (k j m : ℕ) → k < length r.spots → nth_spot r.spots k ≡ spot.Free j m → (j ≡ k) × (j < free)
+  pub ports : (a i : ℕ) → a < length r.agents → i ≤ arity_of t (nth_agent r.agents a).symbol.0 →
+      ((nth_agent r.agents a).first + i < length r.spots) × (nth_spot r.spots ((nth_agent r.agents a).first + i) ≡ spot.Port a i (nth_agent r.agents a).place)
+  pub ends : (k : ℕ) → k < free → (k < length r.spots) × ((m : ℕ) × (nth_spot r.spots k ≡ spot.Free k m))
+
+-- what was read is in range, and not too much
 pub record IsReadFrom (source : Source) (t : Tables) (r : Reading) : Type 0 where
-  pub spots : SpotsOf t (length source.net.free) r.agents r.spots
-  pub agents : AgentsOf t (length r.spots) r.agents
-  pub free : length source.net.free ≤ length r.spots
+  pub numbered : IsNumbered t (length source.net.free) r
+  pub agents : AgentsOf t r.spots r.agents
+  pub free : ArePointsAt r.spots 0 (length source.net.free)
+  pub small : AreSmallSpots r.spots
   pub few_agents : length r.agents ≤ names_in_equations source.net.equations
   pub few_spots : length r.spots ≤ length source.net.free + 9 * names_in_equations source.net.equations
 
--- the net has the agents and free ends that were read
-pub record Assembles (source : Source) (t : Tables) (r : Reading) (n : Parts) : Type 0 where
-  pub cells : AreCellsOf t r.agents n.cells
-  pub free : AreFreeOf t source.net.free n.free
+-- the same wires, in the order of their places
+pub record AreListedOf (found listed : List Wire) : Type 0 where
+  pub same : IsPermutation found listed
+  pub by_place : IsNonDecreasingBy (λ w. w.place.from) listed
+
+-- the net has the agents, free ends and wires that were read and joined
+pub record Assembles (source : Source) (t : Tables) (r : Reading) (links : List Link) (n : Parts) : Type 0 where
+  pub cells : n.cells ≡ cells_of t r.spots links r.agents
+  pub free : n.free ≡ free_ends_from t r.spots links 0 source.net.free
+  pub wires : AreListedOf (wires_from r.spots links 0 (length r.spots)) n.wires
   pub places : n.places ≡ map (λ a. a.place) r.agents
   pub built : n.built ≡ true
 
@@ -35,7 +71,7 @@ IsCellOver t (Some c) = (c.symbol.0 < length t.names) × (length c.ends ≡ arit
 pub record IsOver (t : Tables) (n : Parts) : Type 0 where
   pub cells : AllByRecursion (IsCellOver t) n.cells
 
--- where it is Ok, the net is over the program's tables, and has the agents and free ends of the text
+-- where it is Ok, the net is over the program's tables, and is the net of the text
 abbrev pub Builds : Source → Tables → Result Parts Fault → Type 0
-Builds source t (Ok n) = IsOver t n × HasPointsOf t source.net n
+Builds source t (Ok n) = IsOver t n × IsNetOf t source.net n
 Builds source t (Err e) = Unit {0}

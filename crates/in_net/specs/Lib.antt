@@ -1,6 +1,7 @@
 pub mod Arities
 pub mod Building
 pub mod Built
+pub mod Counting
 pub mod Joining
 pub mod Nets
 pub mod Parts

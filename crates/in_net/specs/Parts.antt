@@ -1,5 +1,5 @@
 -- What contracts see of a net: all that its looking calls read.
-use Rattle.std.specs.Prelude.{◌≡◌, ℕ, ◌^◌, ◌<◌, Bool, true, List, length, Option, Some, None, IsSomeAnd, option_map, option_and_then, slice_get}
+use Rattle.std.specs.Prelude.{◌≡◌, ◌≢◌, ◌⊎◌, ℕ, ◌^◌, ◌<◌, Bool, true, List, length, Option, Some, None, IsSomeAnd, option_map, option_and_then, slice_get}
 use Rattle.std.specs.List.{AllByRecursion}
 use Rattle.in_syntax.specs.declared.places.Place.{Place}
 use Rattle.in_symbols.specs.declared.symbols.PortType.{PortType}
@@ -52,10 +52,19 @@ free_type_in n k = option_map (λ f. f.kind) (slice_get n.free k)
 abbrev pub free_name_in : Parts → ℕ → Option (List ℕ)
 free_name_in n k = option_map (λ f. f.name) (slice_get n.free k)
 
--- numbers fit, each wire joins points of the net, and as built each agent has a place
+-- the wire of that number joins these two points, whichever is named first
+abbrev pub IsWireBetween : Parts → ℕ → Point → Point → Type 0
+IsWireBetween n w p q = (wire_in n w ≡ Some (p, q)) ⊎ (wire_in n w ≡ Some (q, p))
+
+-- numbers fit, and each point is in exactly one wire: its partner's partner is the point, never itself, and just one listed wire
+-- joins them; as built each agent has a place
 pub record IsWhole (n : Parts) : Type 0 where
   pub agents : length n.cells < 2 ^ 32
   pub ends : length n.free < 2 ^ 32
   pub wires : length n.wires < 2 ^ 32
-  pub joined : (w : ℕ) (one other : Point) → wire_in n w ≡ Some (one, other) → IsPointOf n one × IsPointOf n other
+  pub back : (p q : Point) → partner_in n p ≡ Some q → partner_in n q ≡ Some p
+  pub apart : (p : Point) → partner_in n p ≢ Some p
+  pub listed : (p q : Point) → partner_in n p ≡ Some q → (w : ℕ) × IsWireBetween n w p q
+  pub partners : (w : ℕ) (p q : Point) → wire_in n w ≡ Some (p, q) → partner_in n p ≡ Some q
+  pub once : (v w : ℕ) (p q : Point) → IsWireBetween n v p q → IsWireBetween n w p q → v ≡ w
   pub placed : n.built ≡ true → length n.places ≡ length n.cells

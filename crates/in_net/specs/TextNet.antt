@@ -2,6 +2,7 @@
 -- principal port, and two occurrences of one variable for one wire. Where a wire stands in the text is this project's own choice.
 use Rattle.std.specs.Prelude.{◌≡◌, ◌≢◌, ◌⊎◌, ◌↔◌, ℕ, suc, ◌+◌, ◌<◌, ◌≤◌, true, List, [], ◌∷◌, ◌++◌, length, map, Option, Some, None, IsSome, slice_get, slice_index_or}
 use Rattle.std.specs.List.{AllByRecursion, flat_map}
+use Rattle.std.specs.List.Sorted.{IsNonDecreasingBy}
 use Rattle.in_syntax.specs.declared.places.Place.{Place}
 use Rattle.in_syntax.specs.declared.tree.Term.{Term, out-Term}
 use Rattle.in_syntax.specs.declared.tree.Term.TheFolds.{fold-Term}
@@ -12,9 +13,9 @@ use Rattle.in_net.specs.declared.nets.Point.{Point}
 use Rattle.in_net.specs.declared.nets.Point.TheVariants.{Port, Free}
 use Rattle.in_net.specs.declared.nets.Cell.{Cell}
 use Rattle.in_symbols.specs.Names.{number_in}
-use Rattle.in_symbols.specs.Tables.{Tables, arity_of}
-use Rattle.in_net.specs.Parts.{Parts, cell_in, wire_in, wire_place_in}
-use Rattle.in_net.specs.Building.{AreFreeOf}
+use Rattle.in_symbols.specs.Tables.{Tables, arity_of, port_of}
+use Rattle.in_net.specs.Parts.{Parts, wire_in, wire_place_in}
+use Rattle.in_net.specs.declared.nets.FreeEnd.{FreeEnd}
 
 -- x is one of the list
 abbrev pub IsAmong : {X : Type 0} → X → List X → Type 0
@@ -26,9 +27,21 @@ pub data IsPartOf : Term → Term → Type 0 where
   itself : (u : Term) → IsPartOf u u
   deeper : (u v t : Term) → IsAmong v (out-Term t).args → IsPartOf u v → IsPartOf u t
 
--- a term of the net
-abbrev pub IsTermOf : SourceNet → Term → Type 0
-IsTermOf n u = (e : Equation) × IsAmong e n.equations × (IsPartOf u e.left ⊎ IsPartOf u e.right)
+-- what a net's text joins: its free names, its equations, and its boundary ends with the terms that stand there
+pub record Body : Type 0 where
+  pub free : List SourceFree
+  pub equations : List Equation
+  pub ends : List (ℕ × Term)
+
+-- the initial net has no boundary ends
+abbrev pub body_of : SourceNet → Body
+body_of n = record { free = n.free; equations = n.equations; ends = [] }
+
+-- a term of the body
+pub data IsTermOf (b : Body) (u : Term) : Type 0 where
+  in_left : (e : Equation) → IsAmong e b.equations → IsPartOf u e.left → IsTermOf b u
+  in_right : (e : Equation) → IsAmong e b.equations → IsPartOf u e.right → IsTermOf b u
+  at_end : (k : ℕ) (v : Term) → IsAmong (k, v) b.ends → IsPartOf u v → IsTermOf b u
 
 abbrev pub name_of : Term → List ℕ
 name_of u = (out-Term u).name.text
@@ -59,21 +72,22 @@ spot_by (Some s) place = port_at place 0
 abbrev pub spot_of : Tables → Term → Spot
 spot_of t u = spot_by (number_in (name_of u) t.names) (place_of u)
 
--- the joints that stand at a place: of the two terms of an equation at its ~, of an agent's place and the argument there at the
--- argument's first token
-pub data PlacedJoint (t : Tables) (n : SourceNet) : Spot → Spot → Place → Type 0 where
-  of_equation : (e : Equation) → IsAmong e n.equations → PlacedJoint t n (spot_of t e.left) (spot_of t e.right) e.tilde
-  of_argument : (u v : Term) (i : ℕ) → IsTermOf n u → slice_get (out-Term u).args i ≡ Some v →
-      PlacedJoint t n (port_at (place_of u) (suc i)) (spot_of t v) (place_of v)
-  turned : (a b : Spot) (p : Place) → PlacedJoint t n a b p → PlacedJoint t n b a p
+-- the joints that stand at a place: of the two terms of an equation at its ~, of an agent's place and the argument there and of a
+-- boundary end and the term there at that term's first token
+pub data PlacedJoint (t : Tables) (b : Body) : Spot → Spot → Place → Type 0 where
+  of_equation : (e : Equation) → IsAmong e b.equations → PlacedJoint t b (spot_of t e.left) (spot_of t e.right) e.tilde
+  of_argument : (u v : Term) (i : ℕ) → IsTermOf b u → IsSome (number_in (name_of u) t.names) → slice_get (out-Term u).args i ≡ Some v →
+      PlacedJoint t b (port_at (place_of u) (suc i)) (spot_of t v) (place_of v)
+  of_end : (k : ℕ) (v : Term) → IsAmong (k, v) b.ends → PlacedJoint t b (free_end k) (spot_of t v) (place_of v)
+  turned : (x y : Spot) (p : Place) → PlacedJoint t b x y p → PlacedJoint t b y x p
 
 -- the joints of names: of the two occurrences of a variable, of a free end and the occurrence of its name
-pub data NameJoint (t : Tables) (n : SourceNet) : Spot → Spot → Type 0 where
-  of_variable : (u v : Term) → IsTermOf n u → IsTermOf n v → IsVariable t u → name_of u ≡ name_of v → place_of u ≢ place_of v →
-      NameJoint t n (occurrence (place_of u)) (occurrence (place_of v))
-  of_free : (k : ℕ) (f : SourceFree) (u : Term) → slice_get n.free k ≡ Some f → IsTermOf n u → IsVariable t u → name_of u ≡ f.name.text →
-      NameJoint t n (free_end k) (occurrence (place_of u))
-  turned_name : (a b : Spot) → NameJoint t n a b → NameJoint t n b a
+pub data NameJoint (t : Tables) (b : Body) : Spot → Spot → Type 0 where
+  of_variable : (u v : Term) → IsTermOf b u → IsTermOf b v → IsVariable t u → name_of u ≡ name_of v → place_of u ≢ place_of v →
+      NameJoint t b (occurrence (place_of u)) (occurrence (place_of v))
+  of_free : (k : ℕ) (f : SourceFree) (u : Term) → slice_get b.free k ≡ Some f → IsTermOf b u → IsVariable t u → name_of u ≡ f.name.text →
+      NameJoint t b (free_end k) (occurrence (place_of u))
+  turned_name : (x y : Spot) → NameJoint t b x y → NameJoint t b y x
 
 pub data Kind : Type 0 where
   placed : Kind
@@ -86,60 +100,38 @@ IsOccurrence (occurrence p) = Unit {0}
 
 -- a chain of joints, of either kind in turn, that goes on only through occurrences: the kind of its first joint, that of its
 -- last one, its two ends, and the places of its placed joints
-pub data Chain (t : Tables) (n : SourceNet) : Kind → Kind → Spot → Spot → List Place → Type 0 where
-  one_placed : (a b : Spot) (p : Place) → PlacedJoint t n a b p → Chain t n placed placed a b (p ∷ [])
-  one_name : (a b : Spot) → NameJoint t n a b → Chain t n of_name of_name a b []
-  then_name : (k : Kind) (a o b : Spot) (p : Place) (ps : List Place) → PlacedJoint t n a o p → IsOccurrence o → Chain t n of_name k o b ps → Chain t n placed k a b (p ∷ ps)
-  then_placed : (k : Kind) (a o b : Spot) (ps : List Place) → NameJoint t n a o → IsOccurrence o → Chain t n placed k o b ps → Chain t n of_name k a b ps
+pub data Chain (t : Tables) (b : Body) : Kind → Kind → Spot → Spot → List Place → Type 0 where
+  one_placed : (x y : Spot) (p : Place) → PlacedJoint t b x y p → Chain t b placed placed x y (p ∷ [])
+  one_name : (x y : Spot) → NameJoint t b x y → Chain t b of_name of_name x y []
+  then_name : (k : Kind) (x o y : Spot) (p : Place) (ps : List Place) → PlacedJoint t b x o p → IsOccurrence o → Chain t b of_name k o y ps → Chain t b placed k x y (p ∷ ps)
+  then_placed : (k : Kind) (x o y : Spot) (ps : List Place) → NameJoint t b x o → IsOccurrence o → Chain t b placed k o y ps → Chain t b of_name k x y ps
 
 -- the last in the text of these places
 abbrev pub IsLastOf : Place → List Place → Type 0
 IsLastOf p ps = IsAmong p ps × AllByRecursion (λ q. q.from ≤ p.from) ps
 
 -- a wire joins two spots that are points, by a chain that can't be longer, and stands at the last of the chain's places
-pub record IsWireOf (t : Tables) (n : SourceNet) (a b : Spot) (p : Place) : Type 0 where
-  pub one : IsOccurrence a → ⊥
-  pub other : IsOccurrence b → ⊥
+pub record IsWireOf (t : Tables) (b : Body) (x y : Spot) (p : Place) : Type 0 where
+  pub one : IsOccurrence x → ⊥
+  pub other : IsOccurrence y → ⊥
   pub first : Kind
   pub last : Kind
   pub places : List Place
-  pub chain : Chain t n first last a b places
+  pub chain : Chain t b first last x y places
   pub place : IsLastOf p places
 
 -- a closed wire is a chain without an end, and stands at the last of its places
-pub record IsClosedWireOf (t : Tables) (n : SourceNet) (p : Place) : Type 0 where
+pub record IsClosedWireOf (t : Tables) (b : Body) (p : Place) : Type 0 where
   pub through : Spot
   pub occurs : IsOccurrence through
   pub places : List Place
-  pub chain : Chain t n placed of_name through through places
+  pub chain : Chain t b placed of_name through through places
   pub place : IsLastOf p places
-
--- each place stands before the next
-abbrev pub Rises : List Place → Type 0
-Rises [] = Unit {0}
-Rises (p ∷ ps) = AllByRecursion (λ q. p.from < q.from) ps × Rises ps
 
 -- the spot of a point: agents are numbered by their places
 abbrev pub spot_at : Parts → Point → Spot
 spot_at m (Port x i) = port_at (slice_index_or m.places x.0 (record { from = 0; to = 0; line = 0; col = 0 })) i
 spot_at m (Free k) = free_end k
-
--- the agent of that number is the one whose name stands there: its symbol, and an end for each of its places
-pub record IsAgentAt (t : Tables) (m : Parts) (x s : ℕ) : Type 0 where
-  pub symbol : (c : _) → cell_in m x ≡ Some c → c.symbol.0 ≡ s
-  pub ends : (c : _) → cell_in m x ≡ Some c → length c.ends ≡ arity_of t s + 1
-  pub there : IsSome (cell_in m x)
-
--- the parts are the net of the text: agents numbered from 0 by the places of their names, free ends in order with their declared
--- types, wires the chains of joints, numbered from 0 by their places
-pub record IsNetOf (t : Tables) (n : SourceNet) (m : Parts) : Type 0 where
-  pub built : m.built ≡ true
-  pub agents : (p : Place) → IsAmong p m.places ↔ ((u : Term) × IsTermOf n u × IsSome (number_in (name_of u) t.names) × (place_of u ≡ p))
-  pub in_order : Rises m.places
-  pub symbols : (x s : ℕ) (u : Term) → IsTermOf n u → IsAgent t u s → slice_get m.places x ≡ Some (place_of u) → IsAgentAt t m x s
-  pub free : AreFreeOf t n.free m.free
-  pub wires : (w : ℕ) (a b : Point) (p : Place) → wire_in m w ≡ Some (a, b) → wire_place_in m w ≡ Some p → IsWireOf t n (spot_at m a) (spot_at m b) p
-  pub by_place : (v w : ℕ) (p q : Place) → v < w → wire_place_in m v ≡ Some p → wire_place_in m w ≡ Some q → p.from < q.from
 
 -- ---- the agents in the order of the text
 
@@ -173,9 +165,31 @@ AreCellsFor t (w ∷ ws) [] = ⊥
 AreCellsFor t (w ∷ ws) (None ∷ cs) = ⊥
 AreCellsFor t (w ∷ ws) (Some c ∷ cs) = IsCellFor t w c × AreCellsFor t ws cs
 
+abbrev pub IsFreeOf : Tables → SourceFree → FreeEnd → Type 0
+IsFreeOf t f e = (e.name ≡ f.name.text) × (e.kind ≡ port_of t.types f.port)
+
+-- the free ends are these, in this order, with their names and declared types
+abbrev pub AreFreeOf : Tables → List SourceFree → List FreeEnd → Type 0
+AreFreeOf t [] [] = Unit {0}
+AreFreeOf t [] (e ∷ es) = ⊥
+AreFreeOf t (f ∷ fs) [] = ⊥
+AreFreeOf t (f ∷ fs) (e ∷ es) = IsFreeOf t f e × AreFreeOf t fs es
+
 -- the net has the text's agents, numbered in the order of their names, with their places, and its free ends in order, with their declared types
 pub record HasPointsOf (t : Tables) (n : SourceNet) (m : Parts) : Type 0 where
   pub built : m.built ≡ true
   pub agents : AreCellsFor t (agents_of_net t n) m.cells
   pub places : m.places ≡ map (λ w. w.place) (agents_of_net t n)
   pub free : AreFreeOf t n.free m.free
+
+-- the wires are those of the text: where two points are partners, a wire of the text joins them, and the listed wires stand at the
+-- places of theirs, in the order of these places
+pub record HasWiresOf (t : Tables) (b : Body) (m : Parts) : Type 0 where
+  pub wires : (w : ℕ) (x y : Point) (p : Place) → wire_in m w ≡ Some (x, y) → wire_place_in m w ≡ Some p → IsWireOf t b (spot_at m x) (spot_at m y) p
+  pub by_place : IsNonDecreasingBy (λ w. w.place.from) m.wires
+
+-- the parts are the net of the text: its agents and free ends, and its wires. That each point is in exactly one of these wires, the
+-- net's own invariant says
+pub record IsNetOf (t : Tables) (n : SourceNet) (m : Parts) : Type 0 where
+  pub points : HasPointsOf t n m
+  pub wires : HasWiresOf t (body_of n) m

@@ -1,13 +1,15 @@
-ghost use Rattle.std.specs.Prelude.{◌≡◌, ℕ, ◌+◌, ◌<◌, ◌≤◌, List, ◌++◌, length, map, option_to_list, IfOk, OnOk, IfSome};
-ghost use Rattle.in_net.specs.Building.{point_of, IsSmall, AreSmallSpots, AreCellsOf, AreFreeOf, IsWireIn, AreWiresIn};
-ghost use Rattle.in_net.specs.Joining.{LinksInside, SpotsOf, AgentsOf, IsInside};
-ghost use Rattle.in_net.specs.Reading.{reading_of};
+ghost use Rattle.std.specs.Prelude.{◌≡◌, ◌+◌, ◌<◌, ◌++◌, true, length, map, option_to_list, IfOk, OnOk};
 ghost use Rattle.in_syntax.specs.Sizes.{IsSized};
-ghost use Rattle.in_net.specs.Built.{Builds, Assembles, IsReadFrom};
-ghost use Rattle.in_symbols.specs.Tables.{Tables, FreeKnown, IsTabled};
-ghost use Rattle.in_net.specs.declared.reading.Agent.{Agent};
+ghost use Rattle.in_symbols.specs.Tables.{FreeKnown, IsTabled};
+ghost use Rattle.in_net.specs.Arities.{all_arities_fit};
+ghost use Rattle.in_net.specs.Reading.{reading_of};
+ghost use Rattle.in_net.specs.Counting.{NamesInside, none_seen, counted_from, all_twice};
+ghost use Rattle.in_net.specs.Joining.{JointsInside, joining_of};
+ghost use Rattle.in_net.specs.Building.{point_of, IsSmall, AreSmallSpots, IsJoined, nth_spot, IsPointSpot, partner_of, ends_from, cells_of, free_ends_from, wire_of, wires_from};
+ghost use Rattle.in_net.specs.Built.{Builds, Assembles, IsReadFrom, ArePointsAt, AgentsOf, AreListedOf};
 
-use crate::joining::{Link, Pairing, join_all, pair_names, unlinked};
+use crate::counting::all_stand_twice;
+use crate::joining::{Joined, Link, join_all};
 use crate::nets::{AgentNo, Cell, FreeEnd, Net, Point, Wire};
 use crate::reading::{Agent, Reading, Spot, all_arities_fit, read_net};
 use in_symbols::{Symbols, refused_at_start};
@@ -21,23 +23,23 @@ fn point_of(spot: Spot) -> Option<Point>
     ensures { result ≡ point_of spot }
 {
     match spot {
-        Spot::Port(agent, place) => Some(Point::Port(AgentNo(agent as u32), place)),
-        Spot::Free(number) => Some(Point::Free(number as u32)),
-        Spot::Occurrence(_) => None,
+        Spot::Port(agent, place, _) => Some(Point::Port(AgentNo(agent as u32), place)),
+        Spot::Free(number, _) => Some(Point::Free(number as u32)),
+        Spot::Occurrence(..) => None,
     }
 }
 
-/// The point that a spot is joined to, once all names are joined: no spot is joined to an occurrence then, so the refusal
-/// never comes. That is not proved yet.
-fn partner(spots: &[Spot], links: &[Link], at: usize) -> Result<Point, Fault>
+/// The point that a spot is joined to: once all is joined, no spot is joined to an occurrence.
+fn partner(spots: &[Spot], links: &[Link], at: usize) -> Point
     requires at { at < length spots.now }
-    requires count { length links.now ≡ length spots.now }
-    requires links { LinksInside links.now }
+    requires point { IsPointSpot (nth_spot spots.now at) }
+    requires joined { IsJoined spots.now links.now }
     requires small { AreSmallSpots spots.now }
+    ensures { result ≡ partner_of spots.now links.now at }
 {
     match point_of(spots[links[at].to]) {
-        Some(point) => Ok(point),
-        None => Err(refused_at_start(Code::E09)),
+        Some(point) => point,
+        None => unreachable!(),
     }
 }
 
@@ -48,16 +50,15 @@ fn cell(
     links: &[Link],
     agent: &Agent,
     arity: u8,
-) -> Result<Cell, Fault>
-    requires ports { agent.now.first + arity < length spots.now }
-    requires count { length links.now ≡ length spots.now }
-    requires links { LinksInside links.now }
+) -> Result<Cell, AllocError>
+    requires ports { ArePointsAt spots.now agent.now.first (arity + 1) }
+    requires joined { IsJoined spots.now links.now }
     requires small { AreSmallSpots spots.now }
-    ensures { IfOk result (λ c. (c.symbol ≡ agent.now.symbol) × (length c.ends ≡ arity + 1)) }
+    ensures { IfOk result (λ c. (c.symbol ≡ agent.now.symbol) × (c.ends ≡ ends_from spots.now links.now agent.now.first (arity + 1))) }
 {
     let mut ends = Items::new(alloc);
     for port in 0..=arity {
-        ends.push(partner(spots, links, agent.first + port as usize)?)?;
+        ends.push(partner(spots, links, agent.first + port as usize))?;
     }
     Ok(Cell {
         symbol: agent.symbol,
@@ -72,12 +73,11 @@ fn cells(
     spots: &[Spot],
     links: &[Link],
     agents: &[Agent],
-) -> Result<Items<Option<Cell>>, Fault>
-    requires agents { AgentsOf symbols.now (length spots.now) agents.now }
-    requires count { length links.now ≡ length spots.now }
-    requires links { LinksInside links.now }
+) -> Result<Items<Option<Cell>>, AllocError>
+    requires agents { AgentsOf symbols.now spots.now agents.now }
+    requires joined { IsJoined spots.now links.now }
     requires small { AreSmallSpots spots.now }
-    ensures { IfOk result (AreCellsOf symbols.now agents.now) }
+    ensures { IfOk result (λ cells. cells ≡ cells_of symbols.now spots.now links.now agents.now) }
 {
     let mut cells = Items::new(alloc);
     for agent in agents {
@@ -94,44 +94,42 @@ fn free_ends(
     spots: &[Spot],
     links: &[Link],
     free: &[SourceFree],
-) -> Result<Items<FreeEnd>, Fault>
-    requires free { length free.now ≤ length spots.now }
+) -> Result<Items<FreeEnd>, AllocError>
+    requires free { ArePointsAt spots.now 0 (length free.now) }
     requires known { FreeKnown symbols.now.types free.now }
-    requires count { length links.now ≡ length spots.now }
-    requires links { LinksInside links.now }
+    requires joined { IsJoined spots.now links.now }
     requires small { AreSmallSpots spots.now }
-    ensures { IfOk result (AreFreeOf symbols.now free.now) }
+    ensures { IfOk result (λ ends. ends ≡ free_ends_from symbols.now spots.now links.now 0 free.now) }
 {
     let mut ends = Items::new(alloc);
     for (number, end) in free.iter().enumerate() {
         ends.push(FreeEnd {
             name: Text::from_str(alloc, end.name.text.as_str())?,
             kind: symbols.port_type(&end.port),
-            end: partner(spots, links, number)?,
+            end: partner(spots, links, number),
         })?;
     }
     Ok(ends)
 }
 
-/// The wire that begins at a spot, where the spot is a point and the wire's other end is a later spot.
+/// The wire that begins at a spot, where the spot is joined to a later one.
 fn wire_from(spots: &[Spot], links: &[Link], at: usize) -> Option<Wire>
     requires at { at < length spots.now }
-    requires count { length links.now ≡ length spots.now }
-    requires links { LinksInside links.now }
+    requires joined { IsJoined spots.now links.now }
     requires small { AreSmallSpots spots.now }
-    ensures { (t : Tables) (free : ℕ) (agents : List Agent) → SpotsOf t free agents spots.now → IfSome result (IsWireIn t free agents) }
+    ensures { result ≡ wire_of spots.now links.now at }
 {
     let link = links[at];
     if link.to <= at {
         return None;
     }
-    match (point_of(spots[at]), point_of(spots[link.to])) {
-        (Some(one), Some(other)) => Some(Wire {
+    match point_of(spots[at]) {
+        Some(one) => Some(Wire {
             one,
-            other,
+            other: partner(spots, links, at),
             place: link.place,
         }),
-        _ => None,
+        None => unreachable!(),
     }
 }
 
@@ -147,11 +145,9 @@ fn add_wire(wires: &mut Vec<Wire>, wire: Option<Wire>) -> Result<(), AllocError>
 
 /// The wires, in the order of their places.
 fn wires(alloc: Global, spots: &[Spot], links: &[Link]) -> Result<Items<Wire>, AllocError>
-    requires count { length links.now ≡ length spots.now }
-    requires links { LinksInside links.now }
+    requires joined { IsJoined spots.now links.now }
     requires small { AreSmallSpots spots.now }
-    ensures inside { (t : Tables) (free : ℕ) (agents : List Agent) → SpotsOf t free agents spots.now → IfOk result (AreWiresIn t free agents) }
-    ensures count { IfOk result (λ wires. length wires ≤ length spots.now) }
+    ensures { IfOk result (AreListedOf (wires_from spots.now links.now 0 (length spots.now))) }
 {
     let mut wires = Vec::new(alloc);
     for at in 0..spots.len() {
@@ -179,13 +175,12 @@ fn assemble(
     symbols: &Symbols,
     reading: &Reading,
     links: &[Link],
-) -> Result<Net, Fault>
+) -> Result<Net, AllocError>
     requires sized { IsSized source.now }
     requires tabled { IsTabled source.now symbols.now }
     requires read { IsReadFrom source.now symbols.now reading.now }
-    requires count { length links.now ≡ length reading.now.spots }
-    requires links { LinksInside links.now }
-    ensures { IfOk result (Assembles source.now symbols.now reading.now) }
+    requires joined { IsJoined reading.now.spots links.now }
+    ensures { IfOk result (Assembles source.now symbols.now reading.now links.now) }
 {
     let spots = reading.spots.as_slice();
     let agents = reading.agents.as_slice();
@@ -200,8 +195,7 @@ fn assemble(
 fn read(alloc: Global, source: &Source, symbols: &Symbols) -> Result<Reading, Fault>
     requires sized { IsSized source.now }
     requires tabled { IsTabled source.now symbols.now }
-    ensures inside { IfOk result IsInside }
-    ensures read { IfOk result (IsReadFrom source.now symbols.now) }
+    ensures fit { IfOk result (λ _. all_arities_fit symbols.now source.now.net ≡ true) }
     ensures reading { IfOk result (λ r. r ≡ reading_of symbols.now source.now.net) }
 {
     if !all_arities_fit(symbols, &source.net) {
@@ -213,21 +207,20 @@ fn read(alloc: Global, source: &Source, symbols: &Symbols) -> Result<Reading, Fa
 
 /// What the spots of the reading are joined to, refused with E08 where a name doesn't stand as often as it has to, and with
 /// E09 where a wire is closed.
-fn join(alloc: Global, reading: &Reading, free: usize) -> Result<Vec<Link>, Fault>
-    requires inside { IsInside reading.now }
-    requires free { free ≤ length reading.now.spots }
-    ensures inside { IfOk result (λ links. LinksInside links.items) }
-    ensures count { IfOk result (λ links. length links.items ≡ length reading.now.spots) }
+fn join(alloc: Global, reading: &Reading) -> Result<Items<Link>, Fault>
+    requires joints { JointsInside (length reading.now.spots) reading.now.joints }
+    requires names { NamesInside (length reading.now.names) reading.now.spots }
+    ensures twice { IfOk result (λ _. all_twice (counted_from 0 reading.now.spots (none_seen (length reading.now.names))) ≡ true) }
+    ensures links { IfOk result (λ links. links ≡ (joining_of reading.now).links) }
 {
-    let meetings = match pair_names(alloc, reading, free)? {
-        Pairing::Meetings(meetings) => meetings,
-        Pairing::Miscounted => return Err(refused_at_start(Code::E08)),
-    };
-    let mut links = unlinked(alloc, reading.spots.len())?;
-    if !join_all(links.as_mut_slice(), reading, meetings.as_slice()) {
-        return Err(refused_at_start(Code::E09));
+    if !all_stand_twice(alloc, reading.names.len(), reading.spots.as_slice())? {
+        return Err(refused_at_start(Code::E08));
     }
-    Ok(links)
+    let Joined { links, closed } = join_all(alloc, reading)?;
+    match closed {
+        Some(_) => Err(refused_at_start(Code::E09)),
+        None => Ok(links),
+    }
 }
 
 /// The initial net of a program.
@@ -241,7 +234,7 @@ pub fn build_net(alloc: Global, source: &Source, symbols: &Symbols) -> Result<Ne
     ensures { Builds source.now symbols.now result }
 {
     let reading = read(alloc, source, symbols)?;
-    let links = join(alloc, &reading, source.net.free.len())?;
+    let links = join(alloc, &reading)?;
     let net = assemble(alloc, source, symbols, &reading, links.as_slice())?;
     Ok(net)
 }

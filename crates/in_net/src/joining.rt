@@ -1,37 +1,26 @@
-ghost use Rattle.std.specs.Prelude.{◌≡◌, ℕ, ◌<◌, ◌≤◌, length, IfOk};
-ghost use Rattle.in_net.specs.Joining.{self_links, with_link, with_equations, with_arguments, joint_links, with_meetings, later_of, EquationsInside, ArgumentsInside, MeetingsInside, LinksInside, PairsInside, IsSeenInside, SeenInside, IsInside};
+ghost use Rattle.std.specs.Prelude.{◌≡◌, ◌<◌, ◌^◌, length, IfOk};
+ghost use Rattle.in_net.specs.Counting.{IsNameInside, NamesInside, IsSeenInside};
+ghost use Rattle.in_net.specs.Joining.{self_links, with_link, with_joints, merged, met, later_of, earlier_of, not_named, joins, joins_from, joined_spots, JointsInside, LinksInside, IsJoiningInside};
 
-use crate::reading::{Agent, Argument, Equated, Reading};
+use crate::counting::{Seen, name_of, once_more, unseen};
+use crate::reading::{Joint, Reading, Spot};
 use in_syntax::Place;
+use sqlite_items::Items;
 use std::alloc::{AllocError, Global};
 
-/// What a spot is joined to: the number of the other spot, and the last place on the way there.
+/// What a spot is joined to: the number of the other spot, its own where it is joined to none, and the last place on the way
+/// there.
 #[derive(Clone, Copy)]
 pub(crate) struct Link {
     pub(crate) to: usize,
     pub(crate) place: Place,
 }
 
-/// Two spots that have one name: both occurrences of a variable, or a free end and its occurrence.
-#[derive(Clone, Copy)]
-pub(crate) struct Meeting {
-    pub(crate) one: usize,
-    pub(crate) other: usize,
-}
-
-/// How often a name was met, and at which spot first.
-#[derive(Clone, Copy)]
-enum Seen {
-    Never,
-    Once(usize),
-    Twice,
-}
-
 /// Each spot by itself.
-pub(crate) fn unlinked(alloc: Global, count: usize) -> Result<Vec<Link>, AllocError>
-    ensures { IfOk result (λ links. links.items ≡ self_links 0 count) }
+fn unlinked(alloc: Global, count: usize) -> Result<Items<Link>, AllocError>
+    ensures { IfOk result (λ links. links ≡ self_links 0 count) }
 {
-    let mut links = Vec::new(alloc);
+    let mut links = Items::new(alloc);
     for to in 0..count {
         links.push(Link {
             to,
@@ -47,33 +36,23 @@ pub(crate) fn unlinked(alloc: Global, count: usize) -> Result<Vec<Link>, AllocEr
 }
 
 /// Joins two spots.
-fn connect(links: &mut [Link], one: usize, other: usize, place: Place)
+fn connect(links: &mut Items<Link>, one: usize, other: usize, place: Place)
     requires one { one < length links.old }
     requires other { other < length links.old }
     ensures { links.new ≡ with_link links.old one other place }
 {
-    links[one] = Link { to: other, place };
-    links[other] = Link { to: one, place };
+    links.set(one, Link { to: other, place });
+    links.set(other, Link { to: one, place });
 }
 
-/// Joins the terms of each equation.
-fn join_equations(links: &mut [Link], equations: &[Equated])
-    requires { EquationsInside (length links.old) equations.now }
-    ensures { links.new ≡ with_equations links.old equations.now }
+/// Joins the spots of each joint.
+fn join_joints(links: &mut Items<Link>, joints: &[Joint])
+    requires joints { JointsInside (length links.old) joints.now }
+    requires count { length links.old < 2 ^ 64 }
+    ensures { links.new ≡ with_joints links.old joints.now }
 {
-    for equation in equations {
-        connect(links, equation.left, equation.right, equation.place);
-    }
-}
-
-/// Joins each argument to its agent's port.
-fn join_arguments(links: &mut [Link], agents: &[Agent], arguments: &[Argument])
-    requires { ArgumentsInside (length links.old) agents.now arguments.now }
-    ensures { links.new ≡ with_arguments agents.now links.old arguments.now }
-{
-    for argument in arguments {
-        let port = agents[argument.agent].first + argument.port;
-        connect(links, port, argument.spot, argument.place);
+    for joint in joints {
+        connect(links, joint.one + joint.port, joint.other, joint.place);
     }
 }
 
@@ -81,101 +60,114 @@ fn join_arguments(links: &mut [Link], agents: &[Agent], arguments: &[Argument])
 fn later(one: Place, other: Place) -> Place
     ensures { result ≡ later_of one other }
 {
-    if one.from < other.from { other } else { one }
+    if other.from < one.from { one } else { other }
 }
 
-/// Joins, at each name, what its two spots are joined to; false where a wire is closed.
-fn join_names(links: &mut [Link], meetings: &[Meeting]) -> bool
-    requires meetings { MeetingsInside (length links.old) meetings.now }
+/// The earlier of two places in the text, if there are any.
+fn earlier(one: Option<Place>, other: Option<Place>) -> Option<Place>
+    ensures { result ≡ earlier_of one other }
+{
+    match (one, other) {
+        (Some(one), Some(other)) => Some(if other.from < one.from { other } else { one }),
+        (Some(one), None) => Some(one),
+        (None, other) => other,
+    }
+}
+
+/// Joins what two spots of one name are joined to, so that the wire goes on through them; answers the wire's place where they
+/// are joined to each other, so that it is closed.
+fn merge(links: &mut Items<Link>, one: usize, other: usize) -> Option<Place>
+    requires one { one < length links.old }
+    requires other { other < length links.old }
     requires links { LinksInside links.old }
-    ensures joined { (links.new, result) ≡ with_meetings links.old meetings.now }
-    ensures inside { LinksInside links.new }
+    ensures { (links.new, result) ≡ merged links.old one other }
 {
-    for meeting in meetings {
-        let one = links[meeting.one];
-        let other = links[meeting.other];
-        if one.to == meeting.other {
-            return false;
-        }
-        connect(links, one.to, other.to, later(one.place, other.place));
+    let from = links.as_slice()[one];
+    let on = links.as_slice()[other];
+    links.set(one, Link { to: one, place: from.place });
+    links.set(other, Link { to: other, place: on.place });
+    if from.to == other {
+        return Some(from.place);
     }
-    true
+    connect(links, from.to, on.to, later(from.place, on.place));
+    None
 }
 
-/// Joins all spots that the text joins; false where a wire is closed.
-pub(crate) fn join_all(links: &mut [Link], reading: &Reading, meetings: &[Meeting]) -> bool
-    requires inside { IsInside reading.now }
-    requires links { links.old ≡ self_links 0 (length reading.now.spots) }
-    requires meetings { MeetingsInside (length reading.now.spots) meetings.now }
-    ensures joined { (links.new, result) ≡ with_meetings (joint_links reading.now) meetings.now }
-    ensures inside { LinksInside links.new }
+/// Meets a spot of a name that was seen so often: the second one is joined to the first.
+fn meet(links: &mut Items<Link>, seen: Seen, at: usize) -> Option<Place>
+    requires at { at < length links.old }
+    requires seen { IsSeenInside (length links.old) seen }
+    requires links { LinksInside links.old }
+    ensures { (links.new, result) ≡ met links.old seen at }
 {
-    join_equations(links, reading.equations.as_slice());
-    join_arguments(
-        links,
-        reading.agents.as_slice(),
-        reading.arguments.as_slice(),
-    );
-    join_names(links, meetings)
+    match seen {
+        Seen::Once(one) => merge(links, one, at),
+        Seen::Never | Seen::Twice | Seen::Often => None,
+    }
 }
 
-/// What pairing the occurrences of names answers.
+/// What is joined so far: what each spot is joined to, how often each name was seen, and the place of the first closed wire.
 #[derive(Drop)]
-pub(crate) enum Pairing {
-    Meetings(Vec<Meeting>),
-    /// Some name doesn't stand as often as it has to.
-    Miscounted,
+struct Joining {
+    links: Items<Link>,
+    seen: Items<Seen>,
+    closed: Option<Place>,
 }
 
-/// What is seen of a name before the equations: a free end is the first spot of its name.
-fn before_equations(number: usize, free: usize) -> Seen
-    ensures { (spots : ℕ) → free ≤ spots → IsSeenInside spots result }
+/// Nothing is joined by names yet.
+fn begun(alloc: Global, links: Items<Link>, names: usize) -> Result<Joining, AllocError>
+    ensures { IfOk result (λ j. j ≡ not_named links names) }
 {
-    if number < free {
-        Seen::Once(number)
-    } else {
-        Seen::Never
+    Ok(Joining {
+        links,
+        seen: unseen(alloc, names)?,
+        closed: None,
+    })
+}
+
+/// Goes on to the next spot, and joins it where it is the second one of a name.
+fn step(joining: &mut Joining, at: usize, spot: Spot)
+    requires at { at < length joining.old.links }
+    requires name { IsNameInside (length joining.old.seen) spot }
+    requires inside { IsJoiningInside joining.old }
+    ensures { joining.new ≡ joins joining.old at spot }
+{
+    if let Some(name) = name_of(spot) {
+        let seen = joining.seen.as_slice()[name];
+        let closed = meet(&mut joining.links, seen, at);
+        joining.seen.set(name, once_more(seen, at));
+        joining.closed = earlier(joining.closed, closed);
     }
 }
 
-/// The same of each name.
-fn first_seen(alloc: Global, free: usize, names: usize) -> Result<Vec<Seen>, AllocError>
-    ensures count { IfOk result (λ seen. length seen.items ≡ names) }
-    ensures inside { (spots : ℕ) → free ≤ spots → IfOk result (λ seen. SeenInside spots seen.items) }
+/// Joins the spots of each name.
+fn join_names(joining: &mut Joining, spots: &[Spot])
+    requires count { length joining.old.links ≡ length spots.now }
+    requires names { NamesInside (length joining.old.seen) spots.now }
+    requires inside { IsJoiningInside joining.old }
+    ensures { joining.new ≡ joins_from 0 spots.now joining.old }
 {
-    let mut seen = Vec::new(alloc);
-    for number in 0..names {
-        seen.push(before_equations(number, free))?;
+    for (at, spot) in spots.iter().enumerate() {
+        step(joining, at, *spot);
     }
-    Ok(seen)
 }
 
-/// Pairs the spots of each name.
-pub(crate) fn pair_names(
-    alloc: Global,
-    reading: &Reading,
-    free: usize,
-) -> Result<Pairing, AllocError>
-    requires inside { IsInside reading.now }
-    requires free { free ≤ length reading.now.spots }
-    ensures { IfOk result (PairsInside (length reading.now.spots)) }
+/// What all spots of a text are joined to, and the place of its first closed wire, if there is one.
+pub(crate) struct Joined {
+    pub(crate) links: Items<Link>,
+    pub(crate) closed: Option<Place>,
+}
+
+/// Joins all spots that the text joins: first those of equations and arguments, then those of names.
+pub(crate) fn join_all(alloc: Global, reading: &Reading) -> Result<Joined, AllocError>
+    requires joints { JointsInside (length reading.now.spots) reading.now.joints }
+    requires names { NamesInside (length reading.now.names) reading.now.spots }
+    ensures { IfOk result (λ j. j ≡ joined_spots reading.now) }
 {
-    let mut seen = first_seen(alloc, free, reading.names.len())?;
-    let mut meetings = Vec::new(alloc);
-    for occurrence in reading.occurrences.as_slice() {
-        let other = occurrence.spot;
-        match seen[occurrence.name] {
-            Seen::Never => seen[occurrence.name] = Seen::Once(other),
-            Seen::Once(one) => {
-                meetings.push(Meeting { one, other })?;
-                seen[occurrence.name] = Seen::Twice;
-            }
-            Seen::Twice => return Ok(Pairing::Miscounted),
-        }
-    }
-    if seen.iter().all(|seen| matches!(seen, Seen::Twice)) {
-        Ok(Pairing::Meetings(meetings))
-    } else {
-        Ok(Pairing::Miscounted)
-    }
+    let mut links = unlinked(alloc, reading.spots.len())?;
+    join_joints(&mut links, reading.joints.as_slice());
+    let mut joining = begun(alloc, links, reading.names.len())?;
+    join_names(&mut joining, reading.spots.as_slice());
+    let Joining { links, closed, .. } = joining;
+    Ok(Joined { links, closed })
 }

@@ -2,6 +2,7 @@
 #![tactic(auto)]
 
 mod building;
+mod counting;
 mod joining;
 mod nets;
 mod reading;

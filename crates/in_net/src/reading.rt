@@ -8,12 +8,13 @@ use in_syntax::{Equation, Name, Place, SourceFree, SourceNet, Term};
 use sqlite_items::Items;
 use std::alloc::{AllocError, Global};
 
-/// A spot of a text: a port of an agent, a free end, or the occurrence of a variable or free name at a place.
+/// A spot of a text: a port of an agent, by its place, with the place in the text of the agent's name; a free end, with the
+/// number of its name; or the occurrence of the name of that number at a place.
 #[derive(Clone, Copy)]
 pub(crate) enum Spot {
-    Port(usize, u8),
-    Free(usize),
-    Occurrence(Place),
+    Port(usize, u8, Place),
+    Free(usize, usize),
+    Occurrence(usize, Place),
 }
 
 /// An agent as it is written: its symbol, where its name stands, and the number of its principal port among the spots.
@@ -24,39 +25,23 @@ pub(crate) struct Agent {
     pub(crate) first: usize,
 }
 
-/// An argument: its agent's number, the place that it stands at, the number of its own spot, and its first token's place.
+/// Two spots that the text joins at a place: the terms of an equation at its `~`, an argument and the port of its agent at the
+/// argument's first token. The first of them stands so many spots after `one`: the agent's principal port, or the term's spot.
 #[derive(Clone, Copy)]
-pub(crate) struct Argument {
-    pub(crate) agent: usize,
+pub(crate) struct Joint {
+    pub(crate) one: usize,
     pub(crate) port: usize,
-    pub(crate) spot: usize,
+    pub(crate) other: usize,
     pub(crate) place: Place,
 }
 
-/// An equation: the numbers of its terms' spots, and where its `~` stands.
-#[derive(Clone, Copy)]
-pub(crate) struct Equated {
-    pub(crate) left: usize,
-    pub(crate) right: usize,
-    pub(crate) place: Place,
-}
-
-/// An occurrence of a variable or free name: the number of the name, and the number of its spot.
-#[derive(Clone, Copy)]
-pub(crate) struct Occurrence {
-    pub(crate) name: usize,
-    pub(crate) spot: usize,
-}
-
-/// What is read of a net so far, each list in the order of the text; free ends are the first spots and the first names.
+/// What is read of a net so far. Spots and agents are in the order of the text; free ends are the first spots.
 #[derive(Drop)]
 pub(crate) struct Reading {
     pub(crate) spots: Items<Spot>,
     pub(crate) agents: Items<Agent>,
-    pub(crate) arguments: Items<Argument>,
-    pub(crate) equations: Items<Equated>,
+    pub(crate) joints: Items<Joint>,
     pub(crate) names: Names,
-    pub(crate) occurrences: Items<Occurrence>,
 }
 
 impl Reading {
@@ -68,34 +53,32 @@ impl Reading {
         Reading {
             spots: Items::new(alloc),
             agents: Items::new(alloc),
-            arguments: Items::new(alloc),
-            equations: Items::new(alloc),
+            joints: Items::new(alloc),
             names: Names::new(alloc),
-            occurrences: Items::new(alloc),
         }
     }
 }
 
-/// Adds an agent with its ports, and answers its number.
+/// Adds an agent with its ports, and answers the number of its principal port among the spots.
 fn add_agent(
     reading: &mut Reading,
     symbol: SymbolNo,
     arity: u8,
     place: Place,
 ) -> Result<usize, AllocError>
-    ensures { IfOk result (λ agent. (agent ≡ length reading.old.agents) × (reading.new ≡ with_agent reading.old symbol arity place)) }
+    ensures { IfOk result (λ first. (first ≡ length reading.old.spots) × (reading.new ≡ with_agent reading.old symbol arity place)) }
 {
     let first = reading.spots.len();
     let agent = reading.agents.len();
     for port in 0..=arity {
-        reading.spots.push(Spot::Port(agent, port))?;
+        reading.spots.push(Spot::Port(agent, port, place))?;
     }
     reading.agents.push(Agent {
         symbol,
         place,
         first,
     })?;
-    Ok(agent)
+    Ok(first)
 }
 
 /// The number of a name, which is added where it is new.
@@ -116,8 +99,7 @@ fn add_occurrence(alloc: Global, reading: &mut Reading, name: &Name) -> Result<u
 {
     let spot = reading.spots.len();
     let number = number_of(alloc, &mut reading.names, name.text.as_str())?;
-    reading.spots.push(Spot::Occurrence(name.place))?;
-    reading.occurrences.push(Occurrence { name: number, spot })?;
+    reading.spots.push(Spot::Occurrence(number, name.place))?;
     Ok(spot)
 }
 
@@ -133,14 +115,13 @@ fn read_term(
     let Some(symbol) = symbols.number_of(term.name.text.as_str()) else {
         return add_occurrence(alloc, reading, &term.name);
     };
-    let first = reading.spots.len();
-    let agent = add_agent(reading, symbol, symbols.arity(symbol), term.name.place)?;
+    let first = add_agent(reading, symbol, symbols.arity(symbol), term.name.place)?;
     for (index, argument) in term.args.as_slice().iter().enumerate() {
-        let spot = read_term(alloc, symbols, argument, reading)?;
-        reading.arguments.push(Argument {
-            agent,
+        let other = read_term(alloc, symbols, argument, reading)?;
+        reading.joints.push(Joint {
+            one: first,
             port: index + 1,
-            spot,
+            other,
             place: argument.name.place,
         })?;
     }
@@ -156,11 +137,12 @@ fn read_equation(
 ) -> Result<(), AllocError>
     ensures { IfOk result (λ _. reading.new ≡ reads_equation symbols.now equation.now reading.old) }
 {
-    let left = read_term(alloc, symbols, &equation.left, reading)?;
-    let right = read_term(alloc, symbols, &equation.right, reading)?;
-    reading.equations.push(Equated {
-        left,
-        right,
+    let one = read_term(alloc, symbols, &equation.left, reading)?;
+    let other = read_term(alloc, symbols, &equation.right, reading)?;
+    reading.joints.push(Joint {
+        one,
+        port: 0,
+        other,
         place: equation.tilde,
     })
 }
@@ -171,8 +153,8 @@ fn read_free(alloc: Global, free: &[SourceFree]) -> Result<Reading, AllocError>
 {
     let mut reading = Reading::new(alloc);
     for (number, end) in free.iter().enumerate() {
-        reading.spots.push(Spot::Free(number))?;
-        number_of(alloc, &mut reading.names, end.name.text.as_str())?;
+        let name = number_of(alloc, &mut reading.names, end.name.text.as_str())?;
+        reading.spots.push(Spot::Free(number, name))?;
     }
     Ok(reading)
 }

@@ -1,19 +1,23 @@
-use Rattle.std.proofs.Common.{sym, arith, subst}
-use Rattle.std.proofs.lemmas.List.Sorted.{All-permutation}
-use Rattle.std.proofs.lemmas.List.Elements.{recursion_from_All, All-from_recursion}
-use Rattle.in_net.specs.Building.{IsWireIn, AreWiresIn}
-use Rattle.in_net.proofs.Cells.{wires_more, one_wire}
+use Rattle.std.proofs.Common.{◌≡◌, ◌∙◌, ◌-◌, ◌++◌, rules, sym, ap, arith, subst, append-nil, length, zero, IsPermutation}
+use Rattle.std.proofs.lemmas.List.Sorted.{IsNonDecreasingBy-from_sort_by_key}
+use Rattle.in_net.specs.declared.nets.Wire.{Wire}
+use Rattle.in_net.specs.Building.{wires_from}
+use Rattle.in_net.specs.Built.{AreListedOf}
+use Rattle.in_net.proofs.Steps.{one_wire}
 use Rattle.in_net.proofs.building.wires.Goals as goal
 
 pub loop-at-preserved : goal.loop-at-preserved
-loop-at-preserved c = record {
-  inside = λ t free agents spots.
-      wires_more t free agents c.loop-at.wires.items c.add_wire.new.wires.items c.wire_from.result (c.loop-at.invariant.inside t free agents spots) (c.wire_from.ensures t free agents spots) c.in_ok-add_wire.ensures;
-  count = omega (arith, one_wire c.loop-at.wires.items c.add_wire.new.wires.items c.wire_from.result c.in_ok-add_wire.ensures, c.loop-at.invariant.count);
-}
+loop-at-preserved c = one_wire c.args.spots.now c.args.links.now c.loop-at.at _ c.wire_from.result c.loop-at.wires.items c.add_wire.new.wires.items _ c.loop-at-test.true c.wire_from.ensures c.in_ok-add_wire.ensures c.loop-at.invariant
 
-pub returns-clause-inside : goal.returns-clause-inside
-returns-clause-inside c = λ t free agents spots.
-    subst (AreWiresIn t free agents) (sym c.from_vec.ensures)
-    (recursion_from_All (IsWireIn t free agents) c.sort_by_key.new.self.items
-    (All-permutation (IsWireIn t free agents) c.loop-at.wires.items c.sort_by_key.new.self.items c.sort_by_key.ensures.permutation (All-from_recursion (IsWireIn t free agents) c.loop-at.wires.items (c.loop-at.invariant.inside t free agents spots))))
+pub returns : goal.returns
+returns c =
+    let spots = c.args.spots.now in
+    let links = c.args.links.now in
+    let none : length spots - c.loop-at.at ≡ zero = omega (arith, c.loop-at-test.false) in
+    let done : c.loop-at.wires.items ≡ wires_from spots links 0 (length spots) =
+    sym (append-nil c.loop-at.wires.items) ∙ sym (ap (λ k. c.loop-at.wires.items ++ wires_from spots links c.loop-at.at k) none) ∙ c.loop-at.invariant in
+    subst (AreListedOf (wires_from spots links 0 (length spots))) (sym c.from_vec.ensures)
+    (record {
+      same = subst (λ ws. IsPermutation ws c.sort_by_key.new.self.items) done c.in_ok-sort_by_key.ensures.permutation;
+      by_place = IsNonDecreasingBy-from_sort_by_key (λ (w : Wire). w.place.from) _ c.in_ok-sort_by_key.ensures.sorted (λ a r q k. search rules);
+    })

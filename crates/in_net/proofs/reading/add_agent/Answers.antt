@@ -6,12 +6,10 @@ use Rattle.in_net.proofs.reading.add_agent.Goals as goal
 pub loop-port-preserved : goal.loop-port-preserved
 loop-port-preserved c = record {
   spots =
-      one_more (length c.loop-port.reading.agents) c.loop-port.port c.args.arity c.loop-port.reading.spots c.push.new.self _ (omega arith)
-      (c.in_ok-push.ensures.ok ∙ ap (λ a. c.loop-port.reading.spots ++ Port a c.loop-port.port ∷ []) (c.len-agent.ensures ∙ sym (ap length c.loop-port.invariant.agents)))
+      one_more (length c.loop-port.reading.agents) c.args.place c.loop-port.port c.args.arity c.loop-port.reading.spots c.push.new.self _ (omega arith)
+      (c.in_ok-push.ensures.ok ∙ ap (λ a. c.loop-port.reading.spots ++ Port a c.loop-port.port c.args.place ∷ []) (c.len-agent.ensures ∙ sym (ap length c.loop-port.invariant.agents)))
       c.loop-port.invariant.spots;
   agents = c.loop-port.invariant.agents;
-  arguments = c.loop-port.invariant.arguments;
-  equations = c.loop-port.invariant.equations;
+  joints = c.loop-port.invariant.joints;
   names = c.loop-port.invariant.names;
-  occurrences = c.loop-port.invariant.occurrences;
 }

@@ -4,10 +4,8 @@ use Rattle.in_net.proofs.reading.add_agent.Given as goal
 
 abbrev pub invariant-loop-port : goal.invariant-loop-port
 invariant-loop-port l = record {
-  spots : l.reading.spots ++ ports_from (length l.reading.agents) l.port (l.arity + 1 - l.port) ≡ l.fn.reading.spots ++ ports_from (length l.fn.reading.agents) 0 (l.arity + 1);
+  spots : l.reading.spots ++ ports_from (length l.reading.agents) l.place l.port (l.arity + 1 - l.port) ≡ l.fn.reading.spots ++ ports_from (length l.fn.reading.agents) l.place 0 (l.arity + 1);
   agents : l.reading.agents ≡ l.fn.reading.agents;
-  arguments : l.reading.arguments ≡ l.fn.reading.arguments;
-  equations : l.reading.equations ≡ l.fn.reading.equations;
+  joints : l.reading.joints ≡ l.fn.reading.joints;
   names : l.reading.names ≡ l.fn.reading.names;
-  occurrences : l.reading.occurrences ≡ l.fn.reading.occurrences;
 }

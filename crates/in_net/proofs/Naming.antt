@@ -1,0 +1,566 @@
+-- One spot more is joined at its name.
+use Rattle.std.proofs.Common.{◌≡◌, ◌≢◌, ◌⊎◌, inl, inr, ℕ, zero, suc, ◌+◌, ◌<◌, ◌≤◌, Bool, true, false, cond, nat_lt, List, [], ◌∷◌, ◌++◌, length, Option, Some, None, refl, sym, ◌∙◌, ap, subst, arith, get_or, set}
+use Rattle.std.proofs.lemmas.List.{length-set, get_or-set_same, get_or-set_other}
+use Rattle.in_syntax.specs.declared.places.Place.{Place}
+use Rattle.in_symbols.specs.Tables.{Tables}
+use Rattle.in_net.specs.declared.reading.Spot.{Spot}
+use Rattle.in_net.specs.declared.reading.Spot.TheVariants.{Port, Free, Occurrence}
+use Rattle.in_net.specs.declared.joining.Link.{Link}
+use Rattle.in_net.specs.declared.joining.Joining.{Joining}
+use Rattle.in_net.specs.declared.counting.Seen.{Seen}
+use Rattle.in_net.specs.declared.counting.Seen.TheVariants.{Never, Once, Twice, Often}
+use Rattle.in_net.specs.Counting as counting
+use Rattle.in_net.specs.Building.{nth_link, nth_spot}
+use Rattle.in_net.specs.Joining.{self_link, later_of, earlier_of, merged, met, joins_named, joins}
+use Rattle.in_net.specs.TextNet.{Body, NameJoint, IsClosedWireOf}
+use Rattle.in_net.proofs.Linked.{same_or_not, below_or_not}
+use Rattle.in_net.proofs.Sound.{named}
+use Rattle.in_net.proofs.Read.{IsNamed}
+use Rattle.in_net.proofs.Joins.{length-merged}
+use Rattle.in_net.proofs.Merged.{IsClosed, IsOpened, merges}
+use Rattle.in_net.proofs.Ways.{nth_seen, IsMet, IsOpen, IsWay, IsSeenAt, IsJoiningAt, spot_named, name_joint, free_joint, on_through, back_through, from_free, to_free, closes}
+
+-- the spots are a text's: each has its name there, free ends come first and have different names, occurrences different places
+pub record AreOfText (t : Tables) (b : Body) (names : List (List ℕ)) (spots : List Spot) : Type 0 where
+  pub facts : (i : ℕ) → i < length spots → IsNamed t b names (nth_spot spots i)
+  pub numbers : (i m : ℕ) → i < length spots → counting.name_of (nth_spot spots i) ≡ Some m → m < length names
+  pub free_first : (i j k m n : ℕ) (p : Place) → i < j → j < length spots → nth_spot spots i ≡ Occurrence n p → nth_spot spots j ≢ Free k m
+  pub free_differ : (i j k l m : ℕ) → i < length spots → j < length spots → nth_spot spots i ≡ Free k m → nth_spot spots j ≡ Free l m → i ≡ j
+  pub places_differ : (i j m n : ℕ) (p q : Place) → i < j → j < length spots → nth_spot spots i ≡ Occurrence m p → nth_spot spots j ≡ Occurrence n q → p ≢ q
+
+seen_other : (seen : List Seen) (m n : ℕ) (x : Seen) → n ≢ m → nth_seen (set seen m x) n ≡ nth_seen seen n
+seen_other seen m n x differ = get_or-set_other seen m n x Never differ
+
+-- a spot of another name is an end as it was
+open_back : (seen : List Seen) (m : ℕ) (x : Seen) (s : Spot) → counting.name_of s ≢ Some m → IsOpen (set seen m x) s → IsOpen seen s
+open_back seen m x (Port a i p) other h = tt
+open_back seen m x (Free k n) other h = subst IsMet (seen_other seen m n x (λ e. other (ap Some e))) h
+open_back seen m x (Occurrence n p) other h = λ met. h (subst IsMet (sym (seen_other seen m n x (λ e. other (ap Some e)))) met)
+
+earlier_is : (c d : Option Place) (p : Place) → earlier_of c d ≡ Some p → (c ≡ Some p) ⊎ (d ≡ Some p)
+earlier_is None d p e = inr e
+earlier_is (Some q) None p e = inl e
+earlier_is (Some q) (Some r) p e = by_test (nat_lt r.from q.from) e
+  where
+    by_test : (x : Bool) → Some (cond x r q) ≡ Some p → (Some q ≡ Some p) ⊎ (Some r ≡ Some p)
+    by_test true e = inr e
+    by_test false e = inl e
+
+-- no spot beyond has the name, and those before it are as they were
+seen_on : (spots : List Spot) (at m n : ℕ) (s : Seen) → counting.name_of (nth_spot spots at) ≡ Some m → n ≢ m → IsSeenAt spots at n s → IsSeenAt spots (at + 1) n s
+seen_on spots at m n Never name differ h = λ i lt e. part i e lt (below_or_not i at)
+  where
+    part : (i : ℕ) → counting.name_of (nth_spot spots i) ≡ Some n → i < at + 1 → (i < at) ⊎ (at ≤ i) → ⊥
+    part i e lt (inl a) = h i a e
+    part i e lt (inr a) = let same : i ≡ at = omega (arith, a, lt) in differ (some_is (sym e ∙ ap (λ k. counting.name_of (nth_spot spots k)) same ∙ name))
+      where
+        some_is : Some n ≡ Some m → n ≡ m
+        some_is e = cc
+seen_on spots at m n (Once x) name differ h = (omega (arith, h.0), h.1, λ i lt e. part i e (below_or_not i at) lt)
+  where
+    part : (i : ℕ) → counting.name_of (nth_spot spots i) ≡ Some n → (i < at) ⊎ (at ≤ i) → i < at + 1 → i ≡ x
+    part i e (inl a) lt = h.2 i a e
+    part i e (inr a) lt = let same : i ≡ at = omega (arith, a, lt) in absurd (differ (some_is (sym e ∙ ap (λ k. counting.name_of (nth_spot spots k)) same ∙ name)))
+      where
+        some_is : Some n ≡ Some m → n ≡ m
+        some_is e = cc
+seen_on spots at m n Twice name differ h = tt
+seen_on spots at m n Often name differ h = tt
+
+-- the second spot of a name: a is the first
+module _ (t : Tables) (b : Body) (names : List (List ℕ)) (spots : List Spot) (of : AreOfText t b names spots) (count at m a : ℕ) (j : Joining) (h : IsJoiningAt t b spots count at j)
+  (at_in : at < length spots) (m_in : m < count) (name : counting.name_of (nth_spot spots at) ≡ Some m) (seen_is : nth_seen j.seen m ≡ Once a)
+  (only : (i : ℕ) → at < i → i < length spots → counting.name_of (nth_spot spots i) ≢ Some m) where
+  abbrev links : List Link
+  links = j.links
+
+  abbrev seen2 : List Seen
+  seen2 = set j.seen m Twice
+
+  first : (a < at) × (counting.name_of (nth_spot spots a) ≡ Some m) × ((i : ℕ) → i < at → counting.name_of (nth_spot spots i) ≡ Some m → i ≡ a)
+  first = subst (IsSeenAt spots at m) seen_is (h.seen m m_in)
+
+  a_in : a < length spots
+  a_in = let lt = first.0 in omega (arith, lt, at_in)
+
+  differ : a ≢ at
+  differ e = let lt = first.0 in absurd (omega (arith, e, lt))
+
+  -- the second one is an occurrence
+  second_by : ((p : Place) × (nth_spot spots at ≡ Occurrence m p)) ⊎ ((k : ℕ) × (nth_spot spots at ≡ Free k m)) → ((p : Place) × (nth_spot spots a ≡ Occurrence m p)) ⊎ ((k : ℕ) × (nth_spot spots a ≡ Free k m)) → (p : Place) × (nth_spot spots at ≡ Occurrence m p)
+  second_by (inl x) y = x
+  second_by (inr (k, e)) (inl (p, f)) = absurd (of.free_first a at k m m p first.0 at_in f e)
+  second_by (inr (k, e)) (inr (l, f)) = absurd (differ (of.free_differ a at l k m a_in at_in f e))
+
+  second : (p : Place) × (nth_spot spots at ≡ Occurrence m p)
+  second = second_by (spot_named (nth_spot spots at) m name) (spot_named (nth_spot spots a) m first.1)
+
+  unmet : IsMet (nth_seen j.seen m) → ⊥
+  unmet x = subst IsMet seen_is x
+
+  open_at : IsOpen j.seen (nth_spot spots at)
+  open_at = subst (IsOpen j.seen) (sym second.1) unmet
+
+  met2 : IsMet (nth_seen seen2 m)
+  met2 = subst IsMet (sym (get_or-set_same j.seen m Twice Never (omega (arith, m_in, h.count)))) tt
+
+  not_open2 : (i : ℕ) (p : Place) → nth_spot spots i ≡ Occurrence m p → IsOpen seen2 (nth_spot spots i) → ⊥
+  not_open2 i p e x = subst (IsOpen seen2) e x met2
+
+  -- a spot of that name is one of the two
+  is_one_of : (i : ℕ) → i < length spots → i ≢ a → i ≢ at → counting.name_of (nth_spot spots i) ≢ Some m
+  is_one_of i lt x y e = part (below_or_not i at) (below_or_not at i)
+    where
+      part : (i < at) ⊎ (at ≤ i) → (at < i) ⊎ (i ≤ at) → ⊥
+      part (inl z) w = x (first.2 i z e)
+      part (inr z) (inl w) = only i w lt e
+      part (inr z) (inr w) = y (omega (arith, z, w))
+
+  to_of : (i : ℕ) → i < length spots → (nth_link links (nth_link links i).to).to ≡ i
+  to_of i lt = ap (λ (l : Link). l.to) (h.back i lt)
+
+  abbrev p : ℕ
+  p = (nth_link links a).to
+
+  abbrev q : ℕ
+  q = (nth_link links at).to
+
+  q_not_at : q ≢ at
+  q_not_at = h.apart at at_in open_at
+
+  p_not_q : p ≢ q
+  p_not_q e = differ (sym (to_of a a_in) ∙ ap (λ k. (nth_link links k).to) e ∙ to_of at at_in)
+
+  q_not_a : p ≢ at → q ≢ a
+  q_not_a x e = x (sym (ap (λ k. (nth_link links k).to) e) ∙ to_of at at_in)
+
+  joint_by : ((p : Place) × (nth_spot spots a ≡ Occurrence m p)) ⊎ ((k : ℕ) × (nth_spot spots a ≡ Free k m)) → NameJoint t b (named (nth_spot spots a)) (named (nth_spot spots at))
+  joint_by (inl (x, e)) =
+      subst (λ s. NameJoint t b (named s) (named (nth_spot spots at))) (sym e)
+      (subst (λ s. NameJoint t b (named (Occurrence m x)) (named s)) (sym second.1)
+      (name_joint t b names m x second.0 (subst (IsNamed t b names) e (of.facts a a_in)) (subst (IsNamed t b names) second.1 (of.facts at at_in)) (of.places_differ a at m m x second.0 first.0 at_in e second.1)))
+  joint_by (inr (k, e)) =
+      subst (λ s. NameJoint t b (named s) (named (nth_spot spots at))) (sym e)
+      (subst (λ s. NameJoint t b (named (Free k m)) (named s)) (sym second.1)
+      (free_joint t b names k m second.0 (subst (IsNamed t b names) e (of.facts a a_in)) (subst (IsNamed t b names) second.1 (of.facts at at_in))))
+
+  joint : NameJoint t b (named (nth_spot spots a)) (named (nth_spot spots at))
+  joint = joint_by (spot_named (nth_spot spots a) m first.1)
+
+  seen_then : (n : ℕ) → n < count → (n ≡ m) ⊎ (n ≢ m) → IsSeenAt spots (at + 1) n (nth_seen seen2 n)
+  seen_then n lt (inl e) = subst (IsSeenAt spots (at + 1) n) (sym (ap (nth_seen seen2) e ∙ get_or-set_same j.seen m Twice Never (omega (arith, m_in, h.count)))) tt
+  seen_then n lt (inr e) = subst (IsSeenAt spots (at + 1) n) (sym (seen_other j.seen m n Twice e)) (seen_on spots at m n (nth_seen j.seen n) name e (h.seen n lt))
+
+  way_here : (i : ℕ) → i < length spots → IsOpen j.seen (nth_spot spots i) → IsWay t b (nth_spot spots i) (nth_spot spots (nth_link links i).to) (nth_link links i).place
+  way_here i lt open_ = h.way i lt open_
+
+  -- ---- the wire is closed
+  module _ (new : List Link) (closed : Option Place) (size : length new ≡ length spots) (shut : IsClosed links new a at closed) where
+    abbrev pub after_closed : Joining
+    after_closed = record { links = new; seen = seen2; closed = earlier_of j.closed closed }
+
+    -- where it is closed, the first spot is an occurrence too
+    first_occurs : (x : Place) × (nth_spot spots a ≡ Occurrence m x)
+    first_occurs = by_spot (spot_named (nth_spot spots a) m first.1)
+      where
+        by_spot : ((p : Place) × (nth_spot spots a ≡ Occurrence m p)) ⊎ ((k : ℕ) × (nth_spot spots a ≡ Free k m)) → (x : Place) × (nth_spot spots a ≡ Occurrence m x)
+        by_spot (inl x) = x
+        by_spot (inr (k, e)) = absurd (differ (sym (ap (λ (l : Link). l.to) (h.fresh a k m a_in e unmet)) ∙ shut.round))
+
+    round_back : q ≡ a
+    round_back = ap (λ k. (nth_link links k).to) (sym shut.round) ∙ to_of a a_in
+
+    -- what another spot is joined to is none of the two
+    to_other : (i : ℕ) → i < length spots → i ≢ a → i ≢ at → ((nth_link links i).to ≢ a) × ((nth_link links i).to ≢ at)
+    to_other i lt x y =
+        ((λ e. y (sym (to_of i lt) ∙ ap (λ k. (nth_link links k).to) e ∙ shut.round)), (λ e. x (sym (to_of i lt) ∙ ap (λ k. (nth_link links k).to) e ∙ round_back)))
+
+    inside_by : (i : ℕ) → i < length spots → (i ≡ a) ⊎ (i ≢ a) → (i ≡ at) ⊎ (i ≢ at) → (nth_link new i).to < length spots
+    inside_by i lt (inl e) y = subst (λ k. (nth_link new k).to < length spots) (sym e) (let s_ = shut.one in omega (arith, s_, a_in))
+    inside_by i lt (inr e) (inl f) = subst (λ k. (nth_link new k).to < length spots) (sym f) (let s_ = shut.other in omega (arith, s_, at_in))
+    inside_by i lt (inr e) (inr f) = let s_ = ap (λ (l : Link). l.to) (shut.rest i e f) in omega (arith, s_, h.inside i lt)
+
+    abbrev Back : ℕ → Type 0
+    Back i = nth_link new (nth_link new i).to ≡ record { to = i; place = (nth_link new i).place }
+
+    self_back : (i : ℕ) → (nth_link new i).to ≡ i → Back i
+    self_back i e = ap (nth_link new) e ∙ ap (λ k. let l : Link = record { to = k; place = (nth_link new i).place } in l) e
+
+    back_by : (i : ℕ) → i < length spots → (i ≡ a) ⊎ (i ≢ a) → (i ≡ at) ⊎ (i ≢ at) → Back i
+    back_by i lt (inl e) y = subst Back (sym e) (self_back a shut.one)
+    back_by i lt (inr e) (inl f) = subst Back (sym f) (self_back at shut.other)
+    back_by i lt (inr e) (inr f) =
+        let there = to_other i lt e f in
+        ap (λ (l : Link). nth_link new l.to) (shut.rest i e f) ∙ shut.rest (nth_link links i).to there.0 there.1 ∙ h.back i lt
+        ∙ ap (λ (l : Link). let k : Link = record { to = i; place = l.place } in k) (sym (shut.rest i e f))
+
+    abbrev Open2 : ℕ → Type 0
+    Open2 i = IsOpen seen2 (nth_spot spots i)
+
+    -- an end is none of the two
+    end_other : (i : ℕ) → Open2 i → (i ≢ a) × (i ≢ at)
+    end_other i open_ = ((λ e. not_open2 a first_occurs.0 first_occurs.1 (subst Open2 e open_)), (λ e. not_open2 at second.0 second.1 (subst Open2 e open_)))
+
+    apart_then : (i : ℕ) → i < length spots → Open2 i → (nth_link new i).to ≢ i
+    apart_then i lt open_ e =
+        let no_ = end_other i open_ in
+        h.apart i lt (open_back j.seen m Twice (nth_spot spots i) (is_one_of i lt no_.0 no_.1) open_) (sym (ap (λ (l : Link). l.to) (shut.rest i no_.0 no_.1)) ∙ e)
+
+    way_then : (i : ℕ) → i < length spots → Open2 i → IsWay t b (nth_spot spots i) (nth_spot spots (nth_link new i).to) (nth_link new i).place
+    way_then i lt open_ =
+        let no_ = end_other i open_ in
+        subst (λ (l : Link). IsWay t b (nth_spot spots i) (nth_spot spots l.to) l.place) (sym (shut.rest i no_.0 no_.1)) (h.way i lt (open_back j.seen m Twice (nth_spot spots i) (is_one_of i lt no_.0 no_.1) open_))
+
+    used_by : (i n : ℕ) (x : Place) → i < length spots → nth_spot spots i ≡ Occurrence n x → IsMet (nth_seen seen2 n) → (i ≡ a) ⊎ (i ≢ a) → (i ≡ at) ⊎ (i ≢ at) → (nth_link new i).to ≡ i
+    used_by i n x lt is met (inl e) y = ap (λ k. (nth_link new k).to) e ∙ shut.one ∙ sym e
+    used_by i n x lt is met (inr e) (inl f) = ap (λ k. (nth_link new k).to) f ∙ shut.other ∙ sym f
+    used_by i n x lt is met (inr e) (inr f) =
+        let other : n ≢ m = λ g. is_one_of i lt e f (ap counting.name_of is ∙ ap Some g) in
+        ap (λ (l : Link). l.to) (shut.rest i e f) ∙ h.used i n x lt is (subst IsMet (seen_other j.seen m n Twice other) met)
+
+    fresh_by : (i k n : ℕ) → i < length spots → nth_spot spots i ≡ Free k n → (IsMet (nth_seen seen2 n) → ⊥) → (n ≡ m) ⊎ (n ≢ m) → nth_link new i ≡ self_link i
+    fresh_by i k n lt is unmet_ (inl e) = absurd (unmet_ (subst (λ n. IsMet (nth_seen seen2 n)) (sym e) met2))
+    fresh_by i k n lt is unmet_ (inr e) =
+        let named_n : counting.name_of (nth_spot spots i) ≡ Some n = ap counting.name_of is in
+        let not_a : i ≢ a = λ f. e (same_name (sym named_n ∙ ap (λ k. counting.name_of (nth_spot spots k)) f ∙ first.1)) in
+        let not_at : i ≢ at = λ f. e (same_name (sym named_n ∙ ap (λ k. counting.name_of (nth_spot spots k)) f ∙ name)) in
+        shut.rest i not_a not_at ∙ h.fresh i k n lt is (λ met. unmet_ (subst IsMet (sym (seen_other j.seen m n Twice e)) met))
+      where
+        same_name : Some n ≡ Some m → n ≡ m
+        same_name e = cc
+
+    closed_then : (x : Place) → earlier_of j.closed closed ≡ Some x → IsClosedWireOf t b x
+    closed_then x e = by_which (earlier_is j.closed closed x e)
+      where
+        by_which : (j.closed ≡ Some x) ⊎ (closed ≡ Some x) → IsClosedWireOf t b x
+        by_which (inl f) = h.closed x f
+        by_which (inr f) =
+            let place : (nth_link links a).place ≡ x = some_is (sym shut.place ∙ f) in
+            let open_a : IsOpen j.seen (nth_spot spots a) = subst (IsOpen j.seen) (sym first_occurs.1) unmet in
+            let way : IsWay t b (nth_spot spots a) (nth_spot spots at) (nth_link links a).place = subst (λ k. IsWay t b (nth_spot spots a) (nth_spot spots k) (nth_link links a).place) shut.round (h.way a a_in open_a) in
+            subst (IsClosedWireOf t b) place (closes t b (nth_spot spots a) (nth_spot spots at) m first_occurs.0 second.0 (nth_link links a).place first_occurs.1 second.1 joint way)
+          where
+            some_is : Some (nth_link links a).place ≡ Some x → (nth_link links a).place ≡ x
+            some_is e = cc
+
+    pub closed_on : IsJoiningAt t b spots count (at + 1) after_closed
+    closed_on = record {
+      size = size;
+      count = length-set j.seen m Twice ∙ h.count;
+      inside = λ i lt. inside_by i lt (same_or_not i a) (same_or_not i at);
+      back = λ i lt. back_by i lt (same_or_not i a) (same_or_not i at);
+      apart = apart_then;
+      way = way_then;
+      used = λ i n x lt is met. used_by i n x lt is met (same_or_not i a) (same_or_not i at);
+      fresh = λ i k n lt is unmet_. fresh_by i k n lt is unmet_ (same_or_not n m);
+      seen = λ n lt. seen_then n lt (same_or_not n m);
+      closed = closed_then;
+    }
+
+  -- ---- the wire goes on
+  module _ (new : List Link) (closed : Option Place) (size : length new ≡ length spots) (on : IsOpened links new a at p q closed) where
+    abbrev pub after_opened : Joining
+    after_opened = record { links = new; seen = seen2; closed = earlier_of j.closed closed }
+
+    p_in : p < length spots
+    p_in = h.inside a a_in
+
+    q_in : q < length spots
+    q_in = h.inside at at_in
+
+    -- which of the four a spot is
+    data Which4 (i : ℕ) : Type 0 where
+      is_q : i ≡ q → Which4 i
+      is_p : i ≡ p → Which4 i
+      is_at : i ≡ at → Which4 i
+      is_a : i ≡ a → a ≢ p → Which4 i
+      is_else : i ≢ a → i ≢ at → i ≢ p → i ≢ q → Which4 i
+
+    which4 : (i : ℕ) → Which4 i
+    which4 i = go (same_or_not i q) (same_or_not i p) (same_or_not i at) (same_or_not i a)
+      where
+        go : (i ≡ q) ⊎ (i ≢ q) → (i ≡ p) ⊎ (i ≢ p) → (i ≡ at) ⊎ (i ≢ at) → (i ≡ a) ⊎ (i ≢ a) → Which4 i
+        go (inl e) f g k = is_q e
+        go (inr e) (inl f) g k = is_p f
+        go (inr e) (inr f) (inl g) k = is_at g
+        go (inr e) (inr f) (inr g) (inl k) = is_a k (λ x. f (k ∙ x))
+        go (inr e) (inr f) (inr g) (inr k) = is_else k g f e
+
+    -- what another spot is joined to is another one
+    to_else : (i : ℕ) → i < length spots → i ≢ a → i ≢ at → i ≢ p → i ≢ q → ((nth_link links i).to ≢ a) × ((nth_link links i).to ≢ at) × ((nth_link links i).to ≢ p) × ((nth_link links i).to ≢ q)
+    to_else i lt x y z w = (
+      (λ e. z (sym (to_of i lt) ∙ ap (λ k. (nth_link links k).to) e)),
+      (λ e. w (sym (to_of i lt) ∙ ap (λ k. (nth_link links k).to) e)),
+      (λ e. x (sym (to_of i lt) ∙ ap (λ k. (nth_link links k).to) e ∙ to_of a a_in)),
+      (λ e. y (sym (to_of i lt) ∙ ap (λ k. (nth_link links k).to) e ∙ to_of at at_in)),
+    )
+
+    inside_4 : (i : ℕ) → i < length spots → Which4 i → (nth_link new i).to < length spots
+    inside_4 i lt (is_q e) = subst (λ k. (nth_link new k).to < length spots) (sym e) (let s_ = ap (λ (l : Link). l.to) on.at_q in omega (arith, s_, p_in))
+    inside_4 i lt (is_p e) = subst (λ k. (nth_link new k).to < length spots) (sym e) (let s_ = ap (λ (l : Link). l.to) on.at_p in omega (arith, s_, q_in))
+    inside_4 i lt (is_at e) = subst (λ k. (nth_link new k).to < length spots) (sym e) (let s_ = on.other in omega (arith, s_, at_in))
+    inside_4 i lt (is_a e x) = subst (λ k. (nth_link new k).to < length spots) (sym e) (let s_ = on.one x in omega (arith, s_, a_in))
+    inside_4 i lt (is_else x y z w) = let s_ = ap (λ (l : Link). l.to) (on.rest i x y z w) in omega (arith, s_, h.inside i lt)
+
+    abbrev Back4 : ℕ → Type 0
+    Back4 i = nth_link new (nth_link new i).to ≡ record { to = i; place = (nth_link new i).place }
+
+    self_back4 : (i : ℕ) → (nth_link new i).to ≡ i → Back4 i
+    self_back4 i e = ap (nth_link new) e ∙ ap (λ k. let l : Link = record { to = k; place = (nth_link new i).place } in l) e
+
+    back_4 : (i : ℕ) → i < length spots → Which4 i → Back4 i
+    back_4 i lt (is_q e) = subst Back4 (sym e) (ap (λ (l : Link). nth_link new l.to) on.at_q ∙ on.at_p ∙ ap (λ (l : Link). let k : Link = record { to = q; place = l.place } in k) (sym on.at_q))
+    back_4 i lt (is_p e) = subst Back4 (sym e) (ap (λ (l : Link). nth_link new l.to) on.at_p ∙ on.at_q ∙ ap (λ (l : Link). let k : Link = record { to = p; place = l.place } in k) (sym on.at_p))
+    back_4 i lt (is_at e) = subst Back4 (sym e) (self_back4 at on.other)
+    back_4 i lt (is_a e x) = subst Back4 (sym e) (self_back4 a (on.one x))
+    back_4 i lt (is_else x y z w) =
+        let there = to_else i lt x y z w in
+        ap (λ (l : Link). nth_link new l.to) (on.rest i x y z w) ∙ on.rest (nth_link links i).to there.0 there.1 there.2 there.3 ∙ h.back i lt
+        ∙ ap (λ (l : Link). let k : Link = record { to = i; place = l.place } in k) (sym (on.rest i x y z w))
+
+    abbrev Open4 : ℕ → Type 0
+    Open4 i = IsOpen seen2 (nth_spot spots i)
+
+    -- the first spot is an occurrence, or a free end that was joined to nothing
+    data First : Type 0 where
+      occurs : (x : Place) → nth_spot spots a ≡ Occurrence m x → First
+      is_free : (k : ℕ) → nth_spot spots a ≡ Free k m → p ≡ a → (nth_link links a).place.from ≡ 0 → First
+
+    first_is : First
+    first_is = by_spot (spot_named (nth_spot spots a) m first.1)
+      where
+        by_spot : ((p : Place) × (nth_spot spots a ≡ Occurrence m p)) ⊎ ((k : ℕ) × (nth_spot spots a ≡ Free k m)) → First
+        by_spot (inl (x, e)) = occurs x e
+        by_spot (inr (k, e)) =
+            let self = h.fresh a k m a_in e unmet in
+            is_free k e (ap (λ (l : Link). l.to) self) (ap (λ (l : Link). l.place.from) self)
+
+    no_end_at : Open4 at → ⊥
+    no_end_at open_ = not_open2 at second.0 second.1 open_
+
+    no_end_a : a ≢ p → Open4 a → ⊥
+    no_end_a x open_ = by_first first_is
+      where
+        by_first : First → ⊥
+        by_first (occurs y e) = not_open2 a y e open_
+        by_first (is_free k e f g) = x (sym f)
+
+    old_end : (i : ℕ) → i < length spots → i ≢ a → i ≢ at → Open4 i → IsOpen j.seen (nth_spot spots i)
+    old_end i lt x y open_ = open_back j.seen m Twice (nth_spot spots i) (is_one_of i lt x y) open_
+
+    apart_4 : (i : ℕ) → i < length spots → Open4 i → Which4 i → (nth_link new i).to ≢ i
+    apart_4 i lt open_ (is_q e) f = p_not_q (sym (ap (λ (l : Link). l.to) on.at_q) ∙ ap (λ k. (nth_link new k).to) (sym e) ∙ f ∙ e)
+    apart_4 i lt open_ (is_p e) f = p_not_q (sym (sym (ap (λ (l : Link). l.to) on.at_p) ∙ ap (λ k. (nth_link new k).to) (sym e) ∙ f ∙ e))
+    apart_4 i lt open_ (is_at e) f = absurd (no_end_at (subst Open4 e open_))
+    apart_4 i lt open_ (is_a e x) f = absurd (no_end_a x (subst Open4 e open_))
+    apart_4 i lt open_ (is_else x y z w) f = h.apart i lt (old_end i lt x y open_) (sym (ap (λ (l : Link). l.to) (on.rest i x y z w)) ∙ f)
+
+    abbrev pa : Place
+    pa = (nth_link links a).place
+
+    abbrev pb : Place
+    pb = (nth_link links at).place
+
+    abbrev Way4 : ℕ → Link → Type 0
+    Way4 i l = IsWay t b (nth_spot spots i) (nth_spot spots l.to) l.place
+
+    way_at : IsWay t b (nth_spot spots at) (nth_spot spots q) pb
+    way_at = h.way at at_in open_at
+
+    -- the spot that an end is joined to is an end, but for the two
+    way_from : (i c : ℕ) → c < length spots → i ≡ (nth_link links c).to → IsOpen j.seen (nth_spot spots i) → IsWay t b (nth_spot spots i) (nth_spot spots c) (nth_link links c).place
+    way_from i c lt e open_ =
+        let there : nth_link links i ≡ record { to = c; place = (nth_link links c).place } = ap (nth_link links) e ∙ h.back c lt in
+        subst (Way4 i) there (h.way i (subst (λ k. k < length spots) (sym e) (h.inside c lt)) open_)
+
+    way_p : Open4 p → First → IsWay t b (nth_spot spots p) (nth_spot spots q) (later_of pa pb)
+    way_p open_ (occurs x e) =
+        let open_a : IsOpen j.seen (nth_spot spots a) = subst (IsOpen j.seen) (sym e) unmet in
+        let p_not_a : p ≢ a = h.apart a a_in open_a in
+        on_through t b (nth_spot spots p) (nth_spot spots q) (nth_spot spots a) (nth_spot spots at) m second.0 pa pb second.1 x e joint (way_from p a a_in refl (old_end p p_in p_not_a on.on open_)) way_at
+    way_p open_ (is_free k e f g) =
+        subst (λ i. IsWay t b (nth_spot spots i) (nth_spot spots q) (later_of pa pb)) (sym f) (from_free t b (nth_spot spots q) (nth_spot spots q) (nth_spot spots a) (nth_spot spots at) m second.0 pa pb second.1 k e joint g way_at)
+
+    way_q : Open4 q → First → IsWay t b (nth_spot spots q) (nth_spot spots p) (later_of pa pb)
+    way_q open_ (occurs x e) =
+        let open_a : IsOpen j.seen (nth_spot spots a) = subst (IsOpen j.seen) (sym e) unmet in
+        back_through t b (nth_spot spots p) (nth_spot spots q) (nth_spot spots a) (nth_spot spots at) m second.0 pa pb second.1 x e joint (h.way a a_in open_a) (way_from q at at_in refl (old_end q q_in (q_not_a on.on) q_not_at open_))
+    way_q open_ (is_free k e f g) =
+        subst (λ i. IsWay t b (nth_spot spots q) (nth_spot spots i) (later_of pa pb)) (sym f)
+        (to_free t b (nth_spot spots q) (nth_spot spots q) (nth_spot spots a) (nth_spot spots at) m second.0 pa pb second.1 k e joint g (way_from q at at_in refl (old_end q q_in (q_not_a on.on) q_not_at open_)))
+
+    way_4 : (i : ℕ) → i < length spots → Open4 i → Which4 i → Way4 i (nth_link new i)
+    way_4 i lt open_ (is_q e) = subst (λ k. Way4 k (nth_link new k)) (sym e) (subst (Way4 q) (sym on.at_q) (way_q (subst Open4 e open_) first_is))
+    way_4 i lt open_ (is_p e) = subst (λ k. Way4 k (nth_link new k)) (sym e) (subst (Way4 p) (sym on.at_p) (way_p (subst Open4 e open_) first_is))
+    way_4 i lt open_ (is_at e) = absurd (no_end_at (subst Open4 e open_))
+    way_4 i lt open_ (is_a e x) = absurd (no_end_a x (subst Open4 e open_))
+    way_4 i lt open_ (is_else x y z w) = subst (Way4 i) (sym (on.rest i x y z w)) (h.way i lt (old_end i lt x y open_))
+
+    -- a spot that is joined to nothing, and isn't one of the two, is none of the four
+    not_joined : (i : ℕ) → i < length spots → i ≢ a → i ≢ at → (nth_link links i).to ≡ i → (i ≢ p) × (i ≢ q)
+    not_joined i lt x y self = (
+      (λ e. x (sym self ∙ ap (λ k. (nth_link links k).to) e ∙ to_of a a_in)),
+      (λ e. y (sym self ∙ ap (λ k. (nth_link links k).to) e ∙ to_of at at_in)),
+    )
+
+    used_4 : (i n : ℕ) (x : Place) → i < length spots → nth_spot spots i ≡ Occurrence n x → IsMet (nth_seen seen2 n) → (i ≡ a) ⊎ (i ≢ a) → (i ≡ at) ⊎ (i ≢ at) → (nth_link new i).to ≡ i
+    used_4 i n x lt is met (inl e) y = ap (λ k. (nth_link new k).to) e ∙ on.one (a_not_p first_is) ∙ sym e
+      where
+        a_not_p : First → a ≢ p
+        a_not_p (occurs z f) = λ g. h.apart a a_in (subst (IsOpen j.seen) (sym f) unmet) (sym g)
+        a_not_p (is_free k f g z) = absurd (let wrong : Occurrence n x ≡ Free k m = sym is ∙ ap (nth_spot spots) e ∙ f in cc)
+    used_4 i n x lt is met (inr e) (inl f) = ap (λ k. (nth_link new k).to) f ∙ on.other ∙ sym f
+    used_4 i n x lt is met (inr e) (inr f) =
+        let other : n ≢ m = λ g. is_one_of i lt e f (ap counting.name_of is ∙ ap Some g) in
+        let self = h.used i n x lt is (subst IsMet (seen_other j.seen m n Twice other) met) in
+        let none = not_joined i lt e f self in
+        ap (λ (l : Link). l.to) (on.rest i e f none.0 none.1) ∙ self
+
+    fresh_4 : (i k n : ℕ) → i < length spots → nth_spot spots i ≡ Free k n → (IsMet (nth_seen seen2 n) → ⊥) → (n ≡ m) ⊎ (n ≢ m) → nth_link new i ≡ self_link i
+    fresh_4 i k n lt is unmet_ (inl e) = absurd (unmet_ (subst (λ n. IsMet (nth_seen seen2 n)) (sym e) met2))
+    fresh_4 i k n lt is unmet_ (inr e) =
+        let named_n : counting.name_of (nth_spot spots i) ≡ Some n = ap counting.name_of is in
+        let not_a : i ≢ a = λ f. e (same_name (sym named_n ∙ ap (λ k. counting.name_of (nth_spot spots k)) f ∙ first.1)) in
+        let not_at : i ≢ at = λ f. e (same_name (sym named_n ∙ ap (λ k. counting.name_of (nth_spot spots k)) f ∙ name)) in
+        let self = h.fresh i k n lt is (λ met. unmet_ (subst IsMet (sym (seen_other j.seen m n Twice e)) met)) in
+        let none = not_joined i lt not_a not_at (ap (λ (l : Link). l.to) self) in
+        on.rest i not_a not_at none.0 none.1 ∙ self
+      where
+        same_name : Some n ≡ Some m → n ≡ m
+        same_name e = cc
+
+    closed_4 : (x : Place) → earlier_of j.closed closed ≡ Some x → IsClosedWireOf t b x
+    closed_4 x e = by_which (earlier_is j.closed closed x e)
+      where
+        by_which : (j.closed ≡ Some x) ⊎ (closed ≡ Some x) → IsClosedWireOf t b x
+        by_which (inl f) = h.closed x f
+        by_which (inr f) = absurd (let wrong : None ≡ Some x = sym on.place ∙ f in cc)
+
+    pub opened_on : IsJoiningAt t b spots count (at + 1) after_opened
+    opened_on = record {
+      size = size;
+      count = length-set j.seen m Twice ∙ h.count;
+      inside = λ i lt. inside_4 i lt (which4 i);
+      back = λ i lt. back_4 i lt (which4 i);
+      apart = λ i lt open_. apart_4 i lt open_ (which4 i);
+      way = λ i lt open_. way_4 i lt open_ (which4 i);
+      used = λ i n x lt is met. used_4 i n x lt is met (same_or_not i a) (same_or_not i at);
+      fresh = λ i k n lt is unmet_. fresh_4 i k n lt is unmet_ (same_or_not n m);
+      seen = λ n lt. seen_then n lt (same_or_not n m);
+      closed = closed_4;
+    }
+
+  -- either way
+  pub merged_on : IsJoiningAt t b spots count (at + 1) (record { links = (merged links a at).0; seen = seen2; closed = earlier_of j.closed (merged links a at).1 })
+  merged_on = by_outcome (merges links a at (omega (arith, a_in, h.size)) (omega (arith, at_in, h.size)) differ (omega (arith, h.inside a a_in, h.size)) (omega (arith, h.inside at at_in, h.size)) p_not_q q_not_a q_not_at)
+    where
+      by_outcome : IsClosed links (merged links a at).0 a at (merged links a at).1 ⊎ IsOpened links (merged links a at).0 a at p q (merged links a at).1 →
+          IsJoiningAt t b spots count (at + 1) (record { links = (merged links a at).0; seen = seen2; closed = earlier_of j.closed (merged links a at).1 })
+      by_outcome (inl x) = closed_on (merged links a at).0 (merged links a at).1 (length-merged links a at ∙ h.size) x
+      by_outcome (inr x) = opened_on (merged links a at).0 (merged links a at).1 (length-merged links a at ∙ h.size) x
+
+-- the first spot of a name, or a third one, joins nothing
+module _ (t : Tables) (b : Body) (names : List (List ℕ)) (spots : List Spot) (count at m : ℕ) (j : Joining) (h : IsJoiningAt t b spots count at j) (m_in : m < count) (x : Seen)
+  (name : counting.name_of (nth_spot spots at) ≡ Some m) (same : IsMet x → IsMet (nth_seen j.seen m)) (still : IsMet (nth_seen j.seen m) → IsMet x) (right : IsSeenAt spots (at + 1) m x) where
+  abbrev seen3 : List Seen
+  seen3 = set j.seen m x
+
+  there3 : nth_seen seen3 m ≡ x
+  there3 = get_or-set_same j.seen m x Never (omega (arith, m_in, h.count))
+
+  met_back : (n : ℕ) → (n ≡ m) ⊎ (n ≢ m) → IsMet (nth_seen seen3 n) → IsMet (nth_seen j.seen n)
+  met_back n (inl e) met = subst (λ n. IsMet (nth_seen j.seen n)) (sym e) (same (subst IsMet (ap (nth_seen seen3) e ∙ there3) met))
+  met_back n (inr e) met = subst IsMet (seen_other j.seen m n x e) met
+
+  met_on : (n : ℕ) → (n ≡ m) ⊎ (n ≢ m) → IsMet (nth_seen j.seen n) → IsMet (nth_seen seen3 n)
+  met_on n (inl e) met = subst IsMet (sym (ap (nth_seen seen3) e ∙ there3)) (still (subst (λ n. IsMet (nth_seen j.seen n)) e met))
+  met_on n (inr e) met = subst IsMet (sym (seen_other j.seen m n x e)) met
+
+  end_back : (s : Spot) → IsOpen seen3 s → IsOpen j.seen s
+  end_back (Port a i p) o = tt
+  end_back (Free k n) o = met_back n (same_or_not n m) o
+  end_back (Occurrence n p) o = λ met. o (met_on n (same_or_not n m) met)
+
+  seen_3 : (n : ℕ) → n < count → (n ≡ m) ⊎ (n ≢ m) → IsSeenAt spots (at + 1) n (nth_seen seen3 n)
+  seen_3 n lt (inl e) = subst (λ n. IsSeenAt spots (at + 1) n (nth_seen (set j.seen m x) n)) (sym e) (subst (IsSeenAt spots (at + 1) m) (sym there3) right)
+  seen_3 n lt (inr e) = subst (IsSeenAt spots (at + 1) n) (sym (seen_other j.seen m n x e)) (seen_on spots at m n (nth_seen j.seen n) name e (h.seen n lt))
+
+  none_new : (p : Place) → earlier_of j.closed None ≡ Some p → IsClosedWireOf t b p
+  none_new p e = by_which (earlier_is j.closed None p e)
+    where
+      by_which : (j.closed ≡ Some p) ⊎ (None ≡ Some p) → IsClosedWireOf t b p
+      by_which (inl f) = h.closed p f
+      by_which (inr f) = cc
+
+  pub counted_on : IsJoiningAt t b spots count (at + 1) (record { links = j.links; seen = seen3; closed = earlier_of j.closed None })
+  counted_on = record {
+    size = h.size;
+    count = length-set j.seen m x ∙ h.count;
+    inside = h.inside;
+    back = h.back;
+    apart = λ i lt o. h.apart i lt (end_back (nth_spot spots i) o);
+    way = λ i lt o. h.way i lt (end_back (nth_spot spots i) o);
+    used = λ i n p lt is met. h.used i n p lt is (met_back n (same_or_not n m) met);
+    fresh = λ i k n lt is unmet. h.fresh i k n lt is (λ met. unmet (met_on n (same_or_not n m) met));
+    seen = λ n lt. seen_3 n lt (same_or_not n m);
+    closed = none_new;
+  }
+
+-- a spot without a name
+unnamed_on : (t : Tables) (b : Body) (spots : List Spot) (count at : ℕ) (j : Joining) → IsJoiningAt t b spots count at j → counting.name_of (nth_spot spots at) ≡ None → IsJoiningAt t b spots count (at + 1) j
+unnamed_on t b spots count at j h none = record {
+  size = h.size;
+  count = h.count;
+  inside = h.inside;
+  back = h.back;
+  apart = h.apart;
+  way = h.way;
+  used = h.used;
+  fresh = h.fresh;
+  seen = λ n lt. on n (nth_seen j.seen n) (h.seen n lt);
+  closed = h.closed;
+}
+  where
+    here : (n i : ℕ) → counting.name_of (nth_spot spots i) ≡ Some n → at ≤ i → i < at + 1 → ⊥
+    here n i e le lt = let same : i ≡ at = omega (arith, le, lt) in let wrong : None ≡ Some n = sym none ∙ ap (λ k. counting.name_of (nth_spot spots k)) (sym same) ∙ e in cc
+
+    on : (n : ℕ) (s : Seen) → IsSeenAt spots at n s → IsSeenAt spots (at + 1) n s
+    on n Never s_ = λ i lt e. part i e lt (below_or_not i at)
+      where
+        part : (i : ℕ) → counting.name_of (nth_spot spots i) ≡ Some n → i < at + 1 → (i < at) ⊎ (at ≤ i) → ⊥
+        part i e lt (inl a) = s_ i a e
+        part i e lt (inr a) = here n i e a lt
+    on n (Once x) s_ = (omega (arith, s_.0), s_.1, λ i lt e. part i e lt (below_or_not i at))
+      where
+        part : (i : ℕ) → counting.name_of (nth_spot spots i) ≡ Some n → i < at + 1 → (i < at) ⊎ (at ≤ i) → i ≡ x
+        part i e lt (inl a) = s_.2 i a e
+        part i e lt (inr a) = absurd (here n i e a lt)
+    on n Twice s_ = tt
+    on n Often s_ = tt
+
+-- no later spot has the name of this one, if it was met once before
+abbrev pub IsLast : List Spot → ℕ → List Seen → Type 0
+IsLast spots at seen = (m a : ℕ) → counting.name_of (nth_spot spots at) ≡ Some m → nth_seen seen m ≡ Once a → (i : ℕ) → at < i → i < length spots → counting.name_of (nth_spot spots i) ≢ Some m
+
+module _ (t : Tables) (b : Body) (names : List (List ℕ)) (spots : List Spot) (of : AreOfText t b names spots) (at : ℕ) (j : Joining) (h : IsJoiningAt t b spots (length names) at j) (at_in : at < length spots) (last : IsLast spots at j.seen) where
+  named_on : (m : ℕ) (s : Seen) → counting.name_of (nth_spot spots at) ≡ Some m → nth_seen j.seen m ≡ s →
+      IsJoiningAt t b spots (length names) (at + 1) (record { links = (met j.links s at).0; seen = set j.seen m (counting.seen_again s at); closed = earlier_of j.closed (met j.links s at).1 })
+  named_on m Never name is =
+      let m_in = of.numbers at m at_in name in
+      counted_on t b names spots (length names) at m j h m_in (Once at) name (λ x. absurd x) (λ x. absurd (subst IsMet is x))
+      (omega arith, name, λ i lt e. part i e lt (below_or_not i at))
+    where
+      part : (i : ℕ) → counting.name_of (nth_spot spots i) ≡ Some m → i < at + 1 → (i < at) ⊎ (at ≤ i) → i ≡ at
+      part i e lt (inl a) = absurd (subst (IsSeenAt spots at m) is (h.seen m (of.numbers at m at_in name)) i a e)
+      part i e lt (inr a) = omega (arith, a, lt)
+  named_on m (Once a) name is = merged_on t b names spots of (length names) at m a j h at_in (of.numbers at m at_in name) name is (last m a name is)
+  named_on m Twice name is = counted_on t b names spots (length names) at m j h (of.numbers at m at_in name) Often name (λ x. subst IsMet (sym is) tt) (λ x. tt) tt
+  named_on m Often name is = counted_on t b names spots (length names) at m j h (of.numbers at m at_in name) Often name (λ x. subst IsMet (sym is) tt) (λ x. tt) tt
+
+  step_by : (o : Option ℕ) → counting.name_of (nth_spot spots at) ≡ o → IsJoiningAt t b spots (length names) (at + 1) (joins_named j at o)
+  step_by None is = unnamed_on t b spots (length names) at j h is
+  step_by (Some m) is = named_on m (nth_seen j.seen m) is refl
+
+  -- the next spot is joined
+  pub step_on : IsJoiningAt t b spots (length names) (at + 1) (joins j at (nth_spot spots at))
+  step_on = step_by (counting.name_of (nth_spot spots at)) refl

@@ -1,0 +1,189 @@
+-- The spots of names stand in the order of the text.
+use Rattle.std.proofs.Common.{◌≡◌, ◌≢◌, ℕ, zero, suc, ◌+◌, ◌<◌, ◌≤◌, Bool, true, false, ◌&&◌, ◌||◌, List, [], ◌∷◌, ◌++◌, length, map, Option, Some, None, refl, sym, ◌∙◌, ap, subst, arith, append_assoc, append-nil, is_some, get_or}
+use Rattle.std.specs.List.{AllByRecursion, flat_map}
+use Rattle.in_syntax.specs.declared.places.Place.{Place}
+use Rattle.in_syntax.specs.declared.tree.Term.{Term, out-Term}
+use Rattle.in_syntax.specs.declared.tree.Term.TheFolds.{fold_out-Term}
+use Rattle.in_syntax.specs.declared.tree.Equation.{Equation}
+use Rattle.in_syntax.specs.declared.tree.SourceFree.{SourceFree}
+use Rattle.in_syntax.specs.declared.tree.SourceNet.{SourceNet}
+use Rattle.in_syntax.specs.Sizes.{total, names_in}
+use Rattle.in_syntax.specs.Order.{Rises, term_places, equation_places, IsInOrder}
+use Rattle.in_symbols.specs.declared.symbols.SymbolNo.{SymbolNo}
+use Rattle.in_net.specs.declared.reading.Spot.{Spot}
+use Rattle.in_net.specs.declared.reading.Spot.TheVariants.{Port, Free, Occurrence}
+use Rattle.in_net.specs.declared.reading.Reading.{Reading}
+use Rattle.in_symbols.specs.Names.{number_in}
+use Rattle.in_symbols.specs.Tables.{Tables, arity_of, is_none, all_true, heads_known, HeadsKnown}
+use Rattle.in_net.specs.Building.{nth_spot}
+use Rattle.in_net.specs.Reading.{with_agent, with_joint, number_with, ports_from, reader_of, reads_arguments, reads_equation, reads_equations, reads_free_from, reads_free, reads_free_end, nothing_read, reading_of}
+use Rattle.in_symbols.proofs.Heads.{heads_out}
+use Rattle.in_net.proofs.Folds.{names_out, read_agent, read_occurrence}
+
+-- the place of a name, at the spot of its occurrence or of its agent's principal port
+abbrev pub root_place : Spot → List Place
+root_place (Port a zero p) = p ∷ []
+root_place (Port a (suc i) p) = []
+root_place (Free k m) = []
+root_place (Occurrence m p) = p ∷ []
+
+abbrev pub root_places : List Spot → List Place
+root_places = flat_map root_place
+
+roots_append : (xs ys : List Spot) → root_places (xs ++ ys) ≡ root_places xs ++ root_places ys
+roots_append [] ys = refl
+roots_append (x ∷ xs) ys = ap (λ z. root_place x ++ z) (roots_append xs ys) ∙ sym (append_assoc (root_place x) (root_places xs) (root_places ys))
+
+no_roots : (agent : ℕ) (at : Place) (port n : ℕ) → root_places (ports_from agent at (port + 1) n) ≡ []
+no_roots agent at port zero = refl
+no_roots agent at port (suc n) =
+    let e : port + 1 ≡ suc port = omega arith in
+    ap (λ i. root_place (Port agent i at) ++ root_places (ports_from agent at (port + 1 + 1) n)) e ∙ no_roots agent at (port + 1) n
+
+one_root : (agent : ℕ) (at : Place) (n : ℕ) → root_places (ports_from agent at 0 (n + 1)) ≡ at ∷ []
+one_root agent at n =
+    let e : n + 1 ≡ suc n = omega arith in
+    ap (λ k. root_places (ports_from agent at 0 k)) e ∙ ap (λ z. at ∷ z) (no_roots agent at 0 n)
+
+places_out : (u : Term) → term_places u ≡ (out-Term u).name.place ∷ flat_map (λ ps. ps) (map term_places (out-Term u).args)
+places_out = fold_out-Term (List Place) (λ f. f.name.place ∷ flat_map (λ ps. ps) f.args)
+
+two : (a b : Bool) → (a && b) ≡ true → (a ≡ true) × (b ≡ true)
+two true true e = (refl, refl)
+two true false e = cc
+two false b e = cc
+
+or_false : (b : Bool) → (b || false) ≡ b
+or_false true = refl
+or_false false = refl
+
+no_arguments : (t : Tables) (us : List Term) → is_none (map (heads_known t.names) us) ≡ true → us ≡ []
+no_arguments t [] e = refl
+no_arguments t (u ∷ us) e = cc
+
+abbrev RootsRead : Tables → ℕ → Type 0
+RootsRead t h = (u : Term) (r : Reading) → names_in u ≤ h → heads_known t.names u ≡ true → root_places ((reader_of t u).reads r).0.spots ≡ root_places r.spots ++ term_places u
+
+arguments_roots : (t : Tables) (h : ℕ) → RootsRead t h → (us : List Term) (first port : ℕ) (r : Reading) → total (map names_in us) ≤ h → all_true (map (heads_known t.names) us) ≡ true →
+    root_places (reads_arguments first (map (reader_of t) us) port r).spots ≡ root_places r.spots ++ flat_map (λ ps. ps) (map term_places us)
+arguments_roots t h ih [] first port r short heads = sym (append-nil (root_places r.spots))
+arguments_roots t h ih (u ∷ us) first port r short heads =
+    let there : Reading × ℕ = (reader_of t u).reads r in
+    let both = two (heads_known t.names u) (all_true (map (heads_known t.names) us)) heads in
+    arguments_roots t h ih us first (port + 1) (with_joint there.0 first port there.1 (reader_of t u).place) (omega (arith, short)) both.1
+    ∙ ap (λ z. z ++ flat_map (λ ps. ps) (map term_places us)) (ih u r (omega (arith, short)) both.0)
+    ∙ append_assoc (root_places r.spots) (term_places u) (flat_map (λ ps. ps) (map term_places us))
+
+term_roots : (t : Tables) (h : ℕ) → RootsRead t h → (u : Term) (r : Reading) → names_in u ≤ suc h → heads_known t.names u ≡ true → (o : Option ℕ) → number_in (out-Term u).name.text t.names ≡ o →
+    root_places ((reader_of t u).reads r).0.spots ≡ root_places r.spots ++ term_places u
+term_roots t h ih u r short heads None is =
+    let both = two (is_none (map (heads_known t.names) (out-Term u).args) || is_some (number_in (out-Term u).name.text t.names)) (all_true (map (heads_known t.names) (out-Term u).args)) (sym (heads_out t.names u) ∙ heads) in
+    let alone : is_none (map (heads_known t.names) (out-Term u).args) ≡ true =
+    sym (or_false (is_none (map (heads_known t.names) (out-Term u).args))) ∙ ap (λ (o : Option ℕ). is_none (map (heads_known t.names) (out-Term u).args) || is_some o) (sym is) ∙ both.0 in
+    let none = no_arguments t (out-Term u).args alone in
+    let spot : Spot = Occurrence (number_with r.names (out-Term u).name.text) (out-Term u).name.place in
+    ap (λ (p : Reading × ℕ). root_places p.0.spots) (read_occurrence t u r is) ∙ roots_append r.spots (spot ∷ [])
+    ∙ ap (λ z. root_places r.spots ++ z) (sym (places_out u ∙ ap (λ us. (out-Term u).name.place ∷ flat_map (λ ps. ps) (map term_places us)) none))
+term_roots t h ih u r short heads (Some s) is =
+    let symbol : SymbolNo = record { 0 = s } in
+    let place : Place = (out-Term u).name.place in
+    let ports : List Spot = ports_from (length r.agents) (out-Term u).name.place 0 (arity_of t s + 1) in
+    let out = names_out u in
+    let both = two (is_none (map (heads_known t.names) (out-Term u).args) || is_some (number_in (out-Term u).name.text t.names)) (all_true (map (heads_known t.names) (out-Term u).args)) (sym (heads_out t.names u) ∙ heads) in
+    ap (λ (p : Reading × ℕ). root_places p.0.spots) (read_agent t u r symbol is)
+    ∙ arguments_roots t h ih (out-Term u).args (length r.spots) 1 (with_agent r symbol (arity_of t s) place) (omega (arith, out, short)) both.1
+    ∙ ap (λ z. z ++ flat_map (λ ps. ps) (map term_places (out-Term u).args)) (roots_append r.spots ports ∙ ap (λ z. root_places r.spots ++ z) (one_root (length r.agents) place (arity_of t s)))
+    ∙ append_assoc (root_places r.spots) (place ∷ []) (flat_map (λ ps. ps) (map term_places (out-Term u).args))
+    ∙ ap (λ z. root_places r.spots ++ z) (sym (places_out u))
+
+roots_read : (t : Tables) (h : ℕ) → RootsRead t h
+roots_read t zero u r short heads = absurd (omega (arith, names_out u, short))
+roots_read t (suc h) u r short heads = term_roots t h (λ v q a b. roots_read t h v q a b) u r short heads (number_in (out-Term u).name.text t.names) refl
+
+-- without the ~
+abbrev pub name_places : List Equation → List Place
+name_places = flat_map (λ e. term_places e.left ++ term_places e.right)
+
+equations_roots : (t : Tables) (es : List Equation) (r : Reading) → HeadsKnown t.names es → root_places (reads_equations t es r).spots ≡ root_places r.spots ++ name_places es
+equations_roots t [] r heads = sym (append-nil (root_places r.spots))
+equations_roots t (e ∷ es) r heads =
+    equations_roots t es (reads_equation t e r) heads.1
+    ∙ ap (λ z. z ++ name_places es)
+    (roots_read t (names_in e.right) e.right ((reader_of t e.left).reads r).0 (omega arith) heads.0.1 ∙ ap (λ z. z ++ term_places e.right) (roots_read t (names_in e.left) e.left r (omega arith) heads.0.0)
+    ∙ append_assoc (root_places r.spots) (term_places e.left) (term_places e.right))
+    ∙ append_assoc (root_places r.spots) (term_places e.left ++ term_places e.right) (name_places es)
+
+free_roots : (k : ℕ) (fs : List SourceFree) (r : Reading) → root_places (reads_free_from k fs r).spots ≡ root_places r.spots
+free_roots k [] r = refl
+free_roots k (f ∷ fs) r = free_roots (k + 1) fs (reads_free_end k f r) ∙ roots_append r.spots (Free k (number_with r.names f.name.text) ∷ []) ∙ append-nil (root_places r.spots)
+
+-- ---- what rises still rises without some of it
+
+all_left : (P : Place → Type 0) (xs ys : List Place) → AllByRecursion P (xs ++ ys) → AllByRecursion P xs
+all_left P [] ys h = tt
+all_left P (x ∷ xs) ys h = (h.0, all_left P xs ys h.1)
+
+all_right : (P : Place → Type 0) (xs ys : List Place) → AllByRecursion P (xs ++ ys) → AllByRecursion P ys
+all_right P [] ys h = h
+all_right P (x ∷ xs) ys h = all_right P xs ys h.1
+
+all_both : (P : Place → Type 0) (xs ys : List Place) → AllByRecursion P xs → AllByRecursion P ys → AllByRecursion P (xs ++ ys)
+all_both P [] ys h k = k
+all_both P (x ∷ xs) ys h k = (h.0, all_both P xs ys h.1 k)
+
+without_middle : (xs ys : List Place) (y : Place) → Rises (xs ++ y ∷ ys) → Rises (xs ++ ys)
+without_middle [] ys y h = h.1
+without_middle (x ∷ xs) ys y h = (all_both (λ q. x.from < q.from) xs ys (all_left (λ q. x.from < q.from) xs (y ∷ ys) h.0) (all_right (λ q. x.from < q.from) xs (y ∷ ys) h.0).1, without_middle xs ys y h.1)
+
+all_names : (P : Place → Type 0) (es : List Equation) → AllByRecursion P (flat_map equation_places es) → AllByRecursion P (name_places es)
+all_names P [] h = tt
+all_names P (e ∷ es) h =
+    let here = all_left P (equation_places e) (flat_map equation_places es) h in
+    all_both P (term_places e.left ++ term_places e.right) (name_places es)
+    (all_both P (term_places e.left) (term_places e.right) (all_left P (term_places e.left) (e.tilde ∷ term_places e.right) here) (all_right P (term_places e.left) (e.tilde ∷ term_places e.right) here).1)
+    (all_names P es (all_right P (equation_places e) (flat_map equation_places es) h))
+
+rises_left : (xs ys : List Place) → Rises (xs ++ ys) → Rises xs
+rises_left [] ys h = tt
+rises_left (x ∷ xs) ys h = (all_left (λ q. x.from < q.from) xs ys h.0, rises_left xs ys h.1)
+
+rises_right : (xs ys : List Place) → Rises (xs ++ ys) → Rises ys
+rises_right [] ys h = h
+rises_right (x ∷ xs) ys h = rises_right xs ys h.1
+
+-- the first list is the same, and the second one's places are among those that came after it
+rises_on : (xs ys zs : List Place) → ((P : Place → Type 0) → AllByRecursion P ys → AllByRecursion P zs) → Rises zs → Rises (xs ++ ys) → Rises (xs ++ zs)
+rises_on [] ys zs less up h = up
+rises_on (x ∷ xs) ys zs less up h =
+    (all_both (λ q. x.from < q.from) xs zs (all_left (λ q. x.from < q.from) xs ys h.0) (less (λ q. x.from < q.from) (all_right (λ q. x.from < q.from) xs ys h.0)), rises_on xs ys zs less up h.1)
+
+names_rise : (es : List Equation) → Rises (flat_map equation_places es) → Rises (name_places es)
+names_rise [] h = tt
+names_rise (e ∷ es) h =
+    let rest = names_rise es (rises_right (equation_places e) (flat_map equation_places es) h) in
+    let names : Rises (equation_places e ++ name_places es) = rises_on (equation_places e) (flat_map equation_places es) (name_places es) (λ P k. all_names P es k) rest h in
+    subst Rises (sym (append_assoc (term_places e.left) (term_places e.right) (name_places es)))
+    (without_middle (term_places e.left) (term_places e.right ++ name_places es) e.tilde (subst Rises (append_assoc (term_places e.left) (e.tilde ∷ term_places e.right) (name_places es)) names))
+
+-- what is read of a net stands in the order of its text
+pub roots_rise : (t : Tables) (n : SourceNet) → HeadsKnown t.names n.equations → IsInOrder n → Rises (root_places (reading_of t n).spots)
+roots_rise t n heads order =
+    subst Rises (sym (equations_roots t n.equations (reads_free n.free) heads ∙ ap (λ z. z ++ name_places n.equations) (free_roots 0 n.free nothing_read))) (names_rise n.equations order)
+
+-- ---- and so two occurrences have different places
+
+later_root : (P : Place → Type 0) (spots : List Spot) (j m : ℕ) (q : Place) → AllByRecursion P (root_places spots) → j < length spots → nth_spot spots j ≡ Occurrence m q → P q
+later_root P [] j m q all lt is = absurd (omega (arith, lt))
+later_root P (s ∷ spots) zero m q all lt is =
+    let here : AllByRecursion P (root_place s) = all_left P (root_place s) (root_places spots) all in
+    (subst (λ s. AllByRecursion P (root_place s)) is here).0
+later_root P (s ∷ spots) (suc j) m q all lt is = later_root P spots j m q (all_right P (root_place s) (root_places spots) all) (omega (arith, lt)) is
+
+pub root_before : (spots : List Spot) (i j m n : ℕ) (p q : Place) → Rises (root_places spots) → i < j → j < length spots → nth_spot spots i ≡ Occurrence m p → nth_spot spots j ≡ Occurrence n q → p.from < q.from
+root_before [] i j m n p q up lt in_ is at = absurd (omega (arith, in_))
+root_before (s ∷ spots) zero zero m n p q up lt in_ is at = absurd (omega (arith, lt))
+root_before (s ∷ spots) zero (suc j) m n p q up lt in_ is at =
+    let first : Rises (root_place (Occurrence m p) ++ root_places spots) = subst (λ s. Rises (root_place s ++ root_places spots)) is up in
+    later_root (λ q. p.from < q.from) spots j n q first.0 (omega (arith, in_)) at
+root_before (s ∷ spots) (suc i) zero m n p q up lt in_ is at = absurd (omega (arith, lt))
+root_before (s ∷ spots) (suc i) (suc j) m n p q up lt in_ is at = root_before spots i j m n p q (rises_right (root_place s) (root_places spots) up) (omega (arith, lt)) (omega (arith, in_)) is at

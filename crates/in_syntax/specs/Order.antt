@@ -1,0 +1,25 @@
+-- The order in which the names and the ~ of a net stand in its text.
+use Rattle.std.specs.Prelude.{◌<◌, List, [], ◌∷◌, ◌++◌}
+use Rattle.std.specs.List.{AllByRecursion, flat_map}
+use Rattle.in_syntax.specs.declared.places.Place.{Place}
+use Rattle.in_syntax.specs.declared.tree.Term.{Term}
+use Rattle.in_syntax.specs.declared.tree.Term.TheFolds.{fold-Term}
+use Rattle.in_syntax.specs.declared.tree.Equation.{Equation}
+use Rattle.in_syntax.specs.declared.tree.SourceNet.{SourceNet}
+
+-- each place stands before those after it
+abbrev pub Rises : List Place → Type 0
+Rises [] = Unit {0}
+Rises (p ∷ ps) = AllByRecursion (λ q. p.from < q.from) ps × Rises ps
+
+-- the places of a term's names: its own, and then those of its arguments
+abbrev pub term_places : Term → List Place
+term_places = fold-Term (List Place) (λ f. f.name.place ∷ flat_map (λ ps. ps) f.args)
+
+-- the places of an equation's names and of its ~
+abbrev pub equation_places : Equation → List Place
+equation_places e = term_places e.left ++ e.tilde ∷ term_places e.right
+
+-- the names and the ~ of a net stand one after another, as they are listed
+abbrev pub IsInOrder : SourceNet → Type 0
+IsInOrder n = Rises (flat_map equation_places n.equations)
