@@ -1,4 +1,11 @@
 pub mod Absent
+pub mod First
 pub mod Heads
+pub mod Least
 pub mod Maps
+pub mod Named
+pub mod Repeated
 pub mod Shapes
+pub mod Tabled
+pub mod Unknown
+pub mod Untyped

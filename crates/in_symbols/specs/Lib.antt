@@ -1,2 +1,4 @@
+pub mod Faults
 pub mod Names
+pub mod Searching
 pub mod Tables

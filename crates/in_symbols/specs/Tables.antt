@@ -15,6 +15,8 @@ use Rattle.in_syntax.specs.declared.tree.SourceSymbol.{SourceSymbol}
 use Rattle.in_symbols.specs.declared.symbols.PortType.{PortType}
 use Rattle.in_symbols.specs.declared.symbols.Shape.{Shape}
 use Rattle.in_symbols.specs.declared.symbols.SymbolNo.{SymbolNo}
+use Rattle.in_syntax.specs.declared.faults.Fault.TheVariants.{Refused, Memory}
+use Rattle.in_symbols.specs.Faults.{IsFaultless, IsFirstFault}
 use Rattle.in_symbols.specs.Names.{number_in}
 
 -- the names of the types, the names of the symbols, and what is declared of each symbol, in the order of declaration
@@ -57,6 +59,10 @@ shapes_of types s = map (shape_of types) s.symbols
 -- the type of the port is declared
 abbrev pub Knows : List (List ℕ) → SourcePort → Type 0
 Knows types p = IsSome (number_in p.kind.text types)
+
+-- the types of all its ports are declared
+abbrev pub KnowsAll : List (List ℕ) → SourceSymbol → Type 0
+KnowsAll types d = Knows types d.port × AllByRecursion (AllByRecursion (Knows types)) d.classes
 
 -- the places of one class go last
 pub record AddsClass (types : List (List ℕ)) (number : ℕ) (class : List SourcePort) (old new : Shape) : Type 0 where
@@ -148,7 +154,8 @@ pub record IsTabled (source : Source) (t : Tables) : Type 0 where
   pub heads : HeadsKnown t.names source.net.equations
   pub free : FreeKnown t.types source.net.free
 
--- where it is Ok, the tables are the declarations
+-- Ok exactly where the program has no fault of names, and then the tables are its declarations; else refused for the first fault
 abbrev pub Tabulates : Source → Result Tables Fault → Type 0
-Tabulates source (Ok t) = IsTabled source t
-Tabulates source (Err e) = Unit {0}
+Tabulates source (Ok t) = IsTabled source t × IsFaultless source
+Tabulates source (Err (Refused r)) = IsFirstFault source r.code r.place × (r.other ≡ None)
+Tabulates source (Err (Memory e)) = Unit {0}

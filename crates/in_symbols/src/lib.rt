@@ -1,9 +1,13 @@
 //! Tables of types and symbols, and spaces of names.
 #![tactic(auto)]
 
+mod declaring;
 mod names;
+mod searching;
 mod symbols;
 mod tables;
+#[cfg(test)]
+mod tests;
 
 pub use names::Names;
 pub use symbols::{PortType, SymbolNo, Symbols};

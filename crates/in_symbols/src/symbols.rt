@@ -4,7 +4,8 @@ ghost use Rattle.in_symbols.specs.Names.{name_in};
 ghost use Rattle.in_symbols.specs.Tables.{place_of, IsSymbol, arity_of, port_at, class_at, classes_of, is_constructor, symbol_numbered, Knows, port_of, Tabulates};
 
 use crate::names::Names;
-use crate::tables;
+use crate::searching::first_fault;
+use crate::{declaring, tables};
 use in_syntax::{Fault, Place, Source, SourcePort};
 use sqlite_items::Items;
 use std::alloc::Global;
@@ -54,22 +55,23 @@ impl Model for Symbols {
 impl Symbols {
     /// The tables of a program.
     ///
-    /// Refused with the lowest code that stands: E04 for a type, symbol or free name that is declared twice in its space or
-    /// a free name that is a symbol's, E05 for an unknown type, E06 for a name before `(` that is no symbol. These codes
-    /// and what they stand for are this project's own choice.
+    /// Refused for the first fault of the names in the order of the text: E04 at the name of a type, symbol or free name that
+    /// is declared twice in its space, at the later one, and at a free name that is a symbol's; E05 at an unknown type of a
+    /// port or a free name; E06 at a name before `(` that is no symbol's. Or for want of memory. Lafont 1990 has the types of
+    /// ports and the symbols of agents; the spaces of names, the codes and the places are this project's own choice.
     pub fn build(alloc: Global, source: &Source) -> Result<Symbols, Fault>
         requires { IsSized source.now }
         ensures { Tabulates source.now result }
     {
-        let types = tables::types_of(alloc, source)?;
-        let names = tables::symbols_of(alloc, source)?;
-        tables::test_free_names(alloc, source, &names)?;
-        let shapes = tables::shapes(alloc, source, &types)?;
-        tables::test_free_types(source, &types)?;
-        tables::test_heads(source, &names)?;
+        let types = declaring::types_of(alloc, source)?;
+        let symbols = declaring::symbols_of(alloc, source)?;
+        if let Some(refusal) = first_fault(alloc, source, &types, &symbols)? {
+            return Err(Fault::Refused(refusal));
+        }
+        let shapes = tables::shapes(alloc, source, &types.names)?;
         Ok(Symbols {
-            types,
-            names,
+            types: types.names,
+            names: symbols.names,
             shapes,
         })
     }
@@ -79,10 +81,7 @@ impl Symbols {
         requires { Knows self.now.types port.now }
         ensures { result ≡ port_of self.now.types port.now }
     {
-        match tables::port_type(&self.types, port) {
-            Some(port) => port,
-            None => unreachable!(),
-        }
+        tables::port_type(&self.types, port)
     }
 
     /// How many types are declared.

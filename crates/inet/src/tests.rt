@@ -54,6 +54,22 @@ fn nets_over_four_declarations_are_accepted_or_refused(rt: HostRuntime) -> Resul
 }
 
 #[test]
+fn faults_of_names_stand_at_their_names(rt: HostRuntime) -> Result<(), Fail> {
+    let rows = [
+        ("symbol Z : nat+;\nnet () { }", "refused E04 at 5:8: Z\n"),
+        ("symbol K : bit+;\nnet () { }", "refused E05 at 5:12: bit\n"),
+        ("net () { F(S) ~ x; }", "refused E06 at 5:10: F\n"),
+        ("net (Z : nat+) { }", "refused E04 at 5:6: Z\n"),
+        ("net (r : nat+, r : nat-) { }", "refused E04 at 5:16: r\n"),
+    ];
+    for (rest, line) in rows {
+        let text = format!(in rt.alloc(); "{SUMS}{rest}\n")?;
+        expect(&rt, rt.alloc(), text.as_str(), line, 1);
+    }
+    Ok(())
+}
+
+#[test]
 fn nets_over_three_declarations_are_accepted_or_refused(rt: HostRuntime) -> Result<(), Fail> {
     let rows = [
         ("net (r : nat+) { r ~ S(S(Z)); }", ACCEPTED, 0),

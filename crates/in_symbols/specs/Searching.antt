@@ -1,0 +1,107 @@
+-- How the code searches for the first fault: what it has found after each name, port and term.
+use Rattle.std.specs.Prelude.{ℕ, Bool, true, false, List, [], ◌∷◌, ◌++◌, map, Option, Some, None, is_some, if◌then◌else◌, nat_lt, option_map}
+use Rattle.in_syntax.specs.declared.faults.Code.{Code}
+use Rattle.in_syntax.specs.declared.faults.Code.TheVariants.{E04, E05, E06}
+use Rattle.in_syntax.specs.declared.faults.Refusal.{Refusal}
+use Rattle.in_syntax.specs.declared.places.Place.{Place}
+use Rattle.in_syntax.specs.declared.tree.Equation.{Equation}
+use Rattle.in_syntax.specs.declared.tree.Name.{Name}
+use Rattle.in_syntax.specs.declared.tree.Source.{Source}
+use Rattle.in_syntax.specs.declared.tree.SourceFree.{SourceFree}
+use Rattle.in_syntax.specs.declared.tree.SourcePort.{SourcePort}
+use Rattle.in_syntax.specs.declared.tree.SourceSymbol.{SourceSymbol}
+use Rattle.in_syntax.specs.declared.tree.Term.{Term}
+use Rattle.in_syntax.specs.declared.tree.Term.TheFolds.{fold-Term}
+use Rattle.in_symbols.specs.declared.declaring.Declared.{Declared}
+use Rattle.in_symbols.specs.Names.{number_in, has_name}
+
+-- the earlier of two places; the first, where both begin at one byte
+abbrev pub earlier : Option Place → Option Place → Option Place
+earlier None q = q
+earlier (Some p) None = Some p
+earlier (Some p) (Some q) = if nat_lt q.from p.from then Some q else Some p
+
+-- the earliest of some places, where one is found already
+abbrev pub earliest : Option Place → List (Option Place) → Option Place
+earliest found [] = found
+earliest found (p ∷ ps) = earliest (earlier found p) ps
+
+-- ---- declared twice
+
+abbrev pub undeclared : Declared
+undeclared = record { names = []; repeat = None }
+
+abbrev pub repeats : Declared → Name → Declared
+repeats d n = record { names = d.names; repeat = earlier d.repeat (Some n.place) }
+
+-- one more name is declared
+abbrev pub declares : Declared → Name → Declared
+declares d n = if has_name n.text d.names then repeats d n else record { names = d.names ++ n.text ∷ []; repeat = d.repeat }
+
+abbrev pub declares_all : Declared → List Name → Declared
+declares_all d [] = d
+declares_all d (n ∷ ns) = declares_all (declares d n) ns
+
+-- one more free name, among symbols of these names
+abbrev pub declares_free : List (List ℕ) → Declared → Name → Declared
+declares_free symbols d n = if is_some (number_in n.text symbols) then repeats d n else declares d n
+
+abbrev pub declares_all_free : List (List ℕ) → Declared → List Name → Declared
+declares_all_free symbols d [] = d
+declares_all_free symbols d (n ∷ ns) = declares_all_free symbols (declares_free symbols d n) ns
+
+-- ---- unknown types
+
+abbrev pub untyped : List (List ℕ) → SourcePort → Option Place
+untyped types p = if is_some (number_in p.kind.text types) then None else Some p.kind.place
+
+abbrev pub untyped_in_class : List (List ℕ) → List SourcePort → Option Place
+untyped_in_class types ps = earliest None (map (untyped types) ps)
+
+abbrev pub untyped_in_symbol : List (List ℕ) → SourceSymbol → Option Place
+untyped_in_symbol types d = earliest (untyped types d.port) (map (untyped_in_class types) d.classes)
+
+abbrev pub untyped_in_symbols : List (List ℕ) → List SourceSymbol → Option Place
+untyped_in_symbols types ds = earliest None (map (untyped_in_symbol types) ds)
+
+abbrev pub untyped_in_free : List (List ℕ) → List SourceFree → Option Place
+untyped_in_free types fs = earliest None (map (λ f. untyped types f.port) fs)
+
+-- ---- names before (
+
+abbrev pub is_empty : {X : Type 0} → List X → Bool
+is_empty [] = true
+is_empty (x ∷ xs) = false
+
+abbrev pub unknown_here : List (List ℕ) → Bool → Name → Option Place
+unknown_here names bare n = if bare then None else (if is_some (number_in n.text names) then None else Some n.place)
+
+abbrev pub unknown_in_term : List (List ℕ) → Term → Option Place
+unknown_in_term names = fold-Term (Option Place) (λ f. earliest (unknown_here names (is_empty f.args) f.name) f.args)
+
+abbrev pub unknown_in_equation : List (List ℕ) → Equation → Option Place
+unknown_in_equation names e = earlier (unknown_in_term names e.left) (unknown_in_term names e.right)
+
+abbrev pub unknown_in_equations : List (List ℕ) → List Equation → Option Place
+unknown_in_equations names es = earliest None (map (unknown_in_equation names) es)
+
+-- ---- the first fault
+
+-- the refusal of this code at the place, if there is one
+abbrev pub refused : Code → Option Place → Option Refusal
+refused c = option_map (λ p. record { code = c; place = p; other = None })
+
+-- the refusal at the earlier place; the first, where both begin at one byte
+abbrev pub earlier_refusal : Option Refusal → Option Refusal → Option Refusal
+earlier_refusal None s = s
+earlier_refusal (Some r) None = Some r
+earlier_refusal (Some r) (Some s) = if nat_lt s.place.from r.place.from then Some s else Some r
+
+-- the first fault, where these types and symbols were declared
+abbrev pub first_fault : Source → Declared → Declared → Option Refusal
+first_fault s types symbols =
+    let free = declares_all_free symbols.names undeclared (map (λ f. f.name) s.net.free) in
+    let twice = earlier (earlier types.repeat symbols.repeat) free.repeat in
+    let untyped = earlier (untyped_in_symbols types.names s.symbols) (untyped_in_free types.names s.net.free) in
+    let unknown = unknown_in_equations symbols.names s.net.equations in
+    earlier_refusal (earlier_refusal (refused E04 twice) (refused E05 untyped)) (refused E06 unknown)

@@ -1,0 +1,152 @@
+ghost use Rattle.std.specs.Prelude.{◌≡◌, IfOk};
+ghost use Rattle.in_syntax.specs.declared.tree.Term.{out-Term};
+ghost use Rattle.in_symbols.specs.Searching.{earlier, earlier_refusal, refused, untyped, untyped_in_class, untyped_in_symbol, untyped_in_symbols, untyped_in_free, unknown_here, unknown_in_term, unknown_in_equations, first_fault, is_empty};
+
+use crate::declaring::{Declared, free_names_of};
+use crate::names::Names;
+use in_syntax::{Code, Equation, Place, Refusal, Source, SourcePort, SourceSymbol, Term};
+use std::alloc::{AllocError, Global};
+
+/// The earlier of two places; the first, where both begin at one byte.
+pub(crate) fn earlier(first: Option<Place>, second: Option<Place>) -> Option<Place>
+    ensures { result ≡ earlier first second }
+{
+    match (first, second) {
+        (Some(p), Some(q)) => Some(if q.from < p.from { q } else { p }),
+        (Some(p), None) => Some(p),
+        (None, found) => found,
+    }
+}
+
+/// Where the port's type stands, if it isn't declared.
+fn untyped(types: &Names, port: &SourcePort) -> Option<Place>
+    ensures { result ≡ untyped types.now port.now }
+{
+    if types.number_of(port.kind.text.as_str()).is_some() {
+        None
+    } else {
+        Some(port.kind.place)
+    }
+}
+
+fn untyped_in_class(types: &Names, ports: &[SourcePort]) -> Option<Place>
+    ensures { result ≡ untyped_in_class types.now ports.now }
+{
+    let mut found = None;
+    for port in ports {
+        found = earlier(found, untyped(types, port));
+    }
+    found
+}
+
+fn untyped_in_symbol(types: &Names, symbol: &SourceSymbol) -> Option<Place>
+    ensures { result ≡ untyped_in_symbol types.now symbol.now }
+{
+    let mut found = untyped(types, &symbol.port);
+    for class in symbol.classes.as_slice() {
+        found = earlier(found, untyped_in_class(types, class.as_slice()));
+    }
+    found
+}
+
+fn untyped_in_symbols(types: &Names, source: &Source) -> Option<Place>
+    ensures { result ≡ untyped_in_symbols types.now source.now.symbols }
+{
+    let mut found = None;
+    for symbol in source.symbols.as_slice() {
+        found = earlier(found, untyped_in_symbol(types, symbol));
+    }
+    found
+}
+
+fn untyped_in_free(types: &Names, source: &Source) -> Option<Place>
+    ensures { result ≡ untyped_in_free types.now source.now.net.free }
+{
+    let mut found = None;
+    for free in source.net.free.as_slice() {
+        found = earlier(found, untyped(types, &free.port));
+    }
+    found
+}
+
+/// Where the term's own name stands, if it has arguments and is no symbol's.
+fn unknown_here(symbols: &Names, term: &Term) -> Option<Place>
+    ensures { result ≡ unknown_here symbols.now (is_empty (out-Term term.now).args) (out-Term term.now).name }
+{
+    if term.args.is_empty() || symbols.number_of(term.name.text.as_str()).is_some() {
+        None
+    } else {
+        Some(term.name.place)
+    }
+}
+
+/// Where the first name in the term stands that has arguments and is no symbol's.
+fn unknown_in_term(symbols: &Names, term: &Term) -> Option<Place>
+    ensures { result ≡ unknown_in_term symbols.now term.now }
+{
+    let mut found = unknown_here(symbols, term);
+    for argument in term.args.as_slice() {
+        found = earlier(found, unknown_in_term(symbols, argument));
+    }
+    found
+}
+
+fn unknown_in_equations(symbols: &Names, source: &Source) -> Option<Place>
+    ensures { result ≡ unknown_in_equations symbols.now source.now.net.equations }
+{
+    let mut found = None;
+    for equation in source.net.equations.as_slice() {
+        let Equation { left, right, .. } = equation;
+        let place = earlier(
+            unknown_in_term(symbols, left),
+            unknown_in_term(symbols, right),
+        );
+        found = earlier(found, place);
+    }
+    found
+}
+
+/// The refusal of this code at the place, if there is one.
+fn refused(code: Code, place: Option<Place>) -> Option<Refusal>
+    ensures { result ≡ refused code place }
+{
+    match place {
+        Some(place) => Some(Refusal {
+            code,
+            place,
+            other: None,
+        }),
+        None => None,
+    }
+}
+
+/// The refusal at the earlier place; the first, where both begin at one byte.
+fn earlier_refusal(first: Option<Refusal>, second: Option<Refusal>) -> Option<Refusal>
+    ensures { result ≡ earlier_refusal first second }
+{
+    match (first, second) {
+        (Some(r), Some(s)) => Some(if s.place.from < r.place.from { s } else { r }),
+        (Some(r), None) => Some(r),
+        (None, found) => found,
+    }
+}
+
+/// The first fault of the names in the order of the text. At one place the lower code comes first.
+pub(crate) fn first_fault(
+    alloc: Global,
+    source: &Source,
+    types: &Declared,
+    symbols: &Declared,
+) -> Result<Option<Refusal>, AllocError>
+    ensures { IfOk result (λ fault. fault ≡ first_fault source.now types.now symbols.now) }
+{
+    let free = free_names_of(alloc, source, &symbols.names)?;
+    let twice = earlier(earlier(types.repeat, symbols.repeat), free.repeat);
+    let untyped = earlier(
+        untyped_in_symbols(&types.names, source),
+        untyped_in_free(&types.names, source),
+    );
+    let unknown = unknown_in_equations(&symbols.names, source);
+    let fault = earlier_refusal(refused(Code::E04, twice), refused(Code::E05, untyped));
+    Ok(earlier_refusal(fault, refused(Code::E06, unknown)))
+}
