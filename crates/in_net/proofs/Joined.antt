@@ -157,7 +157,7 @@ pub AreDifferent : Body → Type 0
 AreDifferent b = (k l : ℕ) (f g : SourceFree) → slice_get b.free k ≡ Some f → slice_get b.free l ≡ Some g → f.name.text ≡ g.name.text → k ≡ l
 
 module _ (t : Tables) (b : Body) (free count : ℕ) (r : Reading) (net : IsNetRead t b free count r) (differ : (k l : ℕ) (f g : SourceFree) → slice_get b.free k ≡ Some f → slice_get b.free l ≡ Some g → f.name.text ≡ g.name.text → k ≡ l)
-  (up : Rises (root_places r.spots)) where
+    (up : Rises (root_places r.spots)) where
   abbrev spots : List Spot
   spots = r.spots
 

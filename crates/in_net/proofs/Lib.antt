@@ -18,5 +18,7 @@ pub mod Small
 pub mod Sound
 pub mod Steps
 pub mod Terms
+pub mod TextWires
 pub mod Ways
 pub mod Whole
+pub mod WireAt

@@ -43,7 +43,7 @@ pub record IsOpened (links new : List Link) (a b p q : ℕ) (closed : Option Pla
   pub rest : (i : ℕ) → i ≢ a → i ≢ b → i ≢ p → i ≢ q → nth_link new i ≡ nth_link links i
 
 module _ (links : List Link) (a b : ℕ) (a_in : a < length links) (b_in : b < length links) (differ : a ≢ b) (p_in : (nth_link links a).to < length links) (q_in : (nth_link links b).to < length links)
-  (p_not_q : (nth_link links a).to ≢ (nth_link links b).to) (q_not_a : (nth_link links a).to ≢ b → (nth_link links b).to ≢ a) (q_not_b : (nth_link links b).to ≢ b) where
+    (p_not_q : (nth_link links a).to ≢ (nth_link links b).to) (q_not_a : (nth_link links a).to ≢ b → (nth_link links b).to ≢ a) (q_not_b : (nth_link links b).to ≢ b) where
   abbrev p : ℕ
   p = (nth_link links a).to
 

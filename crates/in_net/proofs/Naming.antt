@@ -69,8 +69,8 @@ seen_on spots at m n Often name differ h = tt
 
 -- the second spot of a name: a is the first
 module _ (t : Tables) (b : Body) (names : List (List ℕ)) (spots : List Spot) (of : AreOfText t b names spots) (count at m a : ℕ) (j : Joining) (h : IsJoiningAt t b spots count at j)
-  (at_in : at < length spots) (m_in : m < count) (name : counting.name_of (nth_spot spots at) ≡ Some m) (seen_is : nth_seen j.seen m ≡ Once a)
-  (only : (i : ℕ) → at < i → i < length spots → counting.name_of (nth_spot spots i) ≢ Some m) where
+    (at_in : at < length spots) (m_in : m < count) (name : counting.name_of (nth_spot spots at) ≡ Some m) (seen_is : nth_seen j.seen m ≡ Once a)
+    (only : (i : ℕ) → at < i → i < length spots → counting.name_of (nth_spot spots i) ≢ Some m) where
   abbrev links : List Link
   links = j.links
 
@@ -461,7 +461,7 @@ module _ (t : Tables) (b : Body) (names : List (List ℕ)) (spots : List Spot) (
 
 -- the first spot of a name, or a third one, joins nothing
 module _ (t : Tables) (b : Body) (names : List (List ℕ)) (spots : List Spot) (count at m : ℕ) (j : Joining) (h : IsJoiningAt t b spots count at j) (m_in : m < count) (x : Seen)
-  (name : counting.name_of (nth_spot spots at) ≡ Some m) (same : IsMet x → IsMet (nth_seen j.seen m)) (still : IsMet (nth_seen j.seen m) → IsMet x) (right : IsSeenAt spots (at + 1) m x) where
+    (name : counting.name_of (nth_spot spots at) ≡ Some m) (same : IsMet x → IsMet (nth_seen j.seen m)) (still : IsMet (nth_seen j.seen m) → IsMet x) (right : IsSeenAt spots (at + 1) m x) where
   abbrev seen3 : List Seen
   seen3 = set j.seen m x
 

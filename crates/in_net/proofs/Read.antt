@@ -70,15 +70,17 @@ name_there : (names : List (List ℕ)) (name : List ℕ) (o : Option ℕ) → nu
 name_there names name None is =
     let grown : with_name names name ≡ names ++ name ∷ [] = ap (λ (o : Option ℕ). cond (is_some o) names (names ++ name ∷ [])) is in
     let last : number_with names name ≡ length names = ap (λ o. unwrap_or o (length names)) is in
-    let here : length names ≡ length names + 0 = omega arith in
-    (omega (arith, ap length grown, length-append names (name ∷ []), last),
-     ap (λ n. get_or (with_name names name) n []) (last ∙ here) ∙ ap (λ z. get_or z (length names + 0) []) grown ∙ at_back names (name ∷ []) 0 [])
+    let here : length names ≡ length names + 0 = omega arith in (
+      omega (arith, ap length grown, length-append names (name ∷ []), last),
+      ap (λ n. get_or (with_name names name) n []) (last ∙ here) ∙ ap (λ z. get_or z (length names + 0) []) grown ∙ at_back names (name ∷ []) 0 [],
+    )
 name_there names name (Some n) is =
     let same : with_name names name ≡ names = ap (λ (o : Option ℕ). cond (is_some o) names (names ++ name ∷ [])) is in
     let number : number_with names name ≡ n = ap (λ o. unwrap_or o (length names)) is in
-    let found = position-Some (bytes_eq name) names n [] is in
-    (omega (arith, ap length same, number, found.0),
-     ap (λ k. get_or (with_name names name) k []) number ∙ ap (λ z. get_or z n []) same ∙ sym ((bytes_eq-Decides name (get_or names n [])).0 found.1))
+    let found = position-Some (bytes_eq name) names n [] is in (
+      omega (arith, ap length same, number, found.0),
+      ap (λ k. get_or (with_name names name) k []) number ∙ ap (λ z. get_or z n []) same ∙ sym ((bytes_eq-Decides name (get_or names n [])).0 found.1),
+    )
 
 grows_by : (names : List (List ℕ)) (name : List ℕ) (o : Option ℕ) → number_in name names ≡ o → (more : List (List ℕ)) × (with_name names name ≡ names ++ more)
 grows_by names name None is = (name ∷ [], ap (λ (o : Option ℕ). cond (is_some o) names (names ++ name ∷ [])) is)

@@ -41,9 +41,10 @@ module _ (source : Source) (t : Tables) (sized : IsSized source) (tabled : IsTab
 
   agent_at : (i : ℕ) → i < length (reading_of t source.net).agents → (nth_agent (reading_of t source.net).agents i).symbol.0 < length t.names ×
       ArePointsAt (reading_of t source.net).spots (nth_agent (reading_of t source.net).agents i).first (arity_of t (nth_agent (reading_of t source.net).agents i).symbol.0 + 1)
-  agent_at i lt =
-      (all_at _ (reading_of t source.net).agents i no_agent net.read.known lt,
-       λ j less. let port = net.read.numbered.ports i j lt (omega (arith, less)) in (port.0, subst IsPointSpot (sym port.1) tt))
+  agent_at i lt = (
+    all_at _ (reading_of t source.net).agents i no_agent net.read.known lt,
+    λ j less. let port = net.read.numbered.ports i j lt (omega (arith, less)) in (port.0, subst IsPointSpot (sym port.1) tt),
+  )
 
   small_at : (i : ℕ) (s : Spot) → i < length (reading_of t source.net).spots → nth_spot (reading_of t source.net).spots i ≡ s → IsSmall s
   small_at i (Port a j p) lt is = let port = net.read.numbered.port i a j p lt is in let n = sized.names in let few = net.read.few_agents in let less = port.agent in omega (arith, less, few, n)

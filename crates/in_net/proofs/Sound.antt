@@ -79,8 +79,8 @@ module _ (t : Tables) (b : Body) (spots more : List Spot) (js : List Joint) (all
   }
 
 module _ (t : Tables) (b : Body) (spots : List Spot) (links : List Link) (count : length links ≡ length spots) (linked : IsLinked t b spots links)
-  (one other : ℕ) (place : Place) (a : one < length spots) (c : other < length spots) (apart : one ≢ other) (one_alone : (nth_link links one).to ≡ one) (other_alone : (nth_link links other).to ≡ other)
-  (joint : PlacedJoint t b (named (nth_spot spots one)) (named (nth_spot spots other)) place) where
+    (one other : ℕ) (place : Place) (a : one < length spots) (c : other < length spots) (apart : one ≢ other) (one_alone : (nth_link links one).to ≡ one) (other_alone : (nth_link links other).to ≡ other)
+    (joint : PlacedJoint t b (named (nth_spot spots one)) (named (nth_spot spots other)) place) where
   abbrev then_ : List Link
   then_ = with_link links one other place
 

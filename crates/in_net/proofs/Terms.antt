@@ -77,10 +77,10 @@ fits_both false b e = cc
 
 -- one argument: q is before it, q1 after it, and then it is joined
 module _ (t : Tables) (b : Body) (free count first arity port agent : ℕ) (u v : Term) (done rest : List Term) (q q1 : Reading) (other : ℕ)
-  (is_agent : IsSome (number_in (name_of u) t.names)) (there : IsTermOf b u)
-  (all : done ++ v ∷ rest ≡ (out-Term u).args) (at : port ≡ length done + 1) (le : port ≤ arity) (room : first + arity < length q.spots)
-  (ports : (j : ℕ) → j ≤ arity → nth_spot q.spots (first + j) ≡ Port agent j (place_of u))
-  (past : IsPast first arity port q) (on : IsReadOn t b free count v q q1 other) where
+    (is_agent : IsSome (number_in (name_of u) t.names)) (there : IsTermOf b u)
+    (all : done ++ v ∷ rest ≡ (out-Term u).args) (at : port ≡ length done + 1) (le : port ≤ arity) (room : first + arity < length q.spots)
+    (ports : (j : ℕ) → j ≤ arity → nth_spot q.spots (first + j) ≡ Port agent j (place_of u))
+    (past : IsPast first arity port q) (on : IsReadOn t b free count v q q1 other) where
   abbrev q2 : Reading
   q2 = with_joint q1 first port other (reader_of t v).place
 

@@ -24,7 +24,7 @@ use Rattle.in_net.specs.declared.nets.Point.TheVariants.{Port, Free}
 use Rattle.in_net.specs.declared.nets.Wire.{Wire}
 use Rattle.in_net.specs.Building.{nth_spot, nth_link, IsPointSpot, point_in, IsJoined, partner_of, cell_of, cells_of, free_ends_from, wire_of, wires_from}
 use Rattle.in_net.specs.Built.{IsNumbered, IsReadFrom, AreListedOf}
-use Rattle.in_net.specs.Parts.{Parts, IsWhole, IsWireBetween, as_built, partner_in, wire_in}
+use Rattle.in_net.specs.Parts.{Parts, IsWhole, IsWireBetween, as_built, partner_in, wire_in, wire_place_in}
 use Rattle.in_net.proofs.Linked.{same_or_not, below_or_not}
 use Rattle.in_net.proofs.Links.{all_append}
 use Rattle.in_net.proofs.Points.{Stands, to_of, point_here, point_to, partner_stands, partner_back, only_one, partner_at, stands_at, leads_back, never_itself, length-free_ends}
@@ -82,15 +82,16 @@ both_are true false e f = f
 both_are false b e f = e
 
 eq_point-Decides : (p q : Point) → Decides (eq_point p q) (p ≡ q)
-eq_point-Decides (Port a i) (Port c j) =
-    ((λ e.
+eq_point-Decides (Port a i) (Port c j) = (
+  (λ e.
       let parts = both_true (a.0 == c.0) (i == j) e in
       let agent : a.0 ≡ c.0 = eqb-true a.0 c.0 parts.0 in
       ap (λ n. let x : AgentNo = record { 0 = n } in Port x i) agent ∙ ap (Port c) (eqb-true i j parts.1)),
-     (λ e.
+  (λ e.
       let agent : a ≡ c = cc in
       let place : i ≡ j = cc in
-      both_are (a.0 == c.0) (i == j) ((Decides-eqb a.0 c.0).1 (ap (λ (n : AgentNo). n.0) agent)) ((Decides-eqb i j).1 place)))
+      both_are (a.0 == c.0) (i == j) ((Decides-eqb a.0 c.0).1 (ap (λ (n : AgentNo). n.0) agent)) ((Decides-eqb i j).1 place)),
+)
 eq_point-Decides (Port a i) (Free l) = ((λ e. cc), (λ e. cc))
 eq_point-Decides (Free k) (Port c j) = ((λ e. cc), (λ e. cc))
 eq_point-Decides (Free k) (Free l) = ((λ e. ap Free (eqb-true k l e)), (λ e. (Decides-eqb k l).1 (let same : k ≡ l = cc in same)))
@@ -187,7 +188,7 @@ no_pair : {Y : Type 0} (y : Y) → ◌≡◌ {A = Option Y} None (Some y) → �
 no_pair y e = cc
 
 module _ (t : Tables) (fs : List SourceFree) (r : Reading) (links : List Link) (numbered : IsNumbered t (length fs) r) (joined : IsJoined r.spots links) (wires : List Wire) (places : List Place)
-  (listed : AreListedOf (wires_from r.spots links 0 (length r.spots)) wires) where
+    (listed : AreListedOf (wires_from r.spots links 0 (length r.spots)) wires) where
   abbrev found : List Wire
   found = wires_from r.spots links 0 (length r.spots)
 
@@ -214,13 +215,14 @@ module _ (t : Tables) (fs : List SourceFree) (r : Reading) (links : List Link) (
     pub later : spot < (nth_link links spot).to
     pub partner : q ≡ partner_of r.spots links spot
     pub listed_one : (d : Wire) → (get_or wires w d).one ≡ p
+    pub place : wire_place_in net w ≡ Some (nth_link links spot).place
 
   wire_found : (w : ℕ) (p q : Point) (ws : List Wire) → AllByRecursion (IsFound r.spots links 0) ws → option_map {U = Point × Point} (λ (v : Wire). (v.one, v.other)) (slice_get ws w) ≡ Some (p, q) →
-      (w < length ws) × ((d : Wire) → (get_or ws w d).one ≡ p) × ((v : Wire) × (v.one ≡ p) × (v.other ≡ q) × IsFound r.spots links 0 v)
+      (w < length ws) × ((d : Wire) → (get_or ws w d).one ≡ p) × ((v : Wire) × (v.one ≡ p) × (v.other ≡ q) × IsFound r.spots links 0 v × (option_map (λ (v : Wire). v.place) (slice_get ws w) ≡ Some v.place))
   wire_found w p q [] all e = absurd (no_pair (p, q) e)
   wire_found zero p q (v ∷ ws) all e =
       let same = some_pair v.one p v.other q e in
-      (omega arith, (λ d. same.0), (v, same.0, same.1, all.0))
+      (omega arith, (λ d. same.0), (v, same.0, same.1, all.0, refl))
   wire_found (suc w) p q (v ∷ ws) all e =
       let rest = wire_found w p q ws all.1 e in
       (omega (arith, rest.0), rest.1, rest.2)
@@ -239,6 +241,7 @@ module _ (t : Tables) (fs : List SourceFree) (r : Reading) (links : List Link) (
         later = f.later;
         partner = sym here.2.2 ∙ ap (λ (w : Wire). w.other) f.is;
         listed_one = here.1;
+        place = here.2.4 ∙ ap (λ (w : Wire). Some w.place) f.is;
       }
 
   partners_of : (w : ℕ) (p q : Point) → wire_in net w ≡ Some (p, q) → partner_in net p ≡ Some q

@@ -80,5 +80,9 @@ pub(crate) fn all_stand_twice(
     ensures { IfOk result (λ all. all ≡ all_twice (counted_from 0 spots.now (none_seen names))) }
 {
     let seen = counts(alloc, names, spots)?;
-    Ok(seen.as_slice().iter().all(|seen| matches!(seen, Seen::Twice)))
+    Ok(
+        seen.as_slice()
+            .iter()
+            .all(|seen| matches!(seen, Seen::Twice)),
+    )
 }

@@ -84,8 +84,20 @@ fn merge(links: &mut Items<Link>, one: usize, other: usize) -> Option<Place>
 {
     let from = links.as_slice()[one];
     let on = links.as_slice()[other];
-    links.set(one, Link { to: one, place: from.place });
-    links.set(other, Link { to: other, place: on.place });
+    links.set(
+        one,
+        Link {
+            to: one,
+            place: from.place,
+        },
+    );
+    links.set(
+        other,
+        Link {
+            to: other,
+            place: on.place,
+        },
+    );
     if from.to == other {
         return Some(from.place);
     }
