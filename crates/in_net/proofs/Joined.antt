@@ -57,7 +57,7 @@ not_over : (seen : List Seen) (at m : ℕ) (o : Option ℕ) → nth_seen seen m 
 not_over seen at m None is e = is
 not_over seen at m (Some n) is e = get_or-set_other seen n m (seen_again (nth_seen seen n) at) Never (λ f. e (ap Some (sym f))) ∙ is
 
-is_named_or_not : (o : Option ℕ) (m : ℕ) → (o ≡ Some m) ⊎ (o ≢ Some m)
+pub is_named_or_not : (o : Option ℕ) (m : ℕ) → (o ≡ Some m) ⊎ (o ≢ Some m)
 is_named_or_not None m = inr (λ e. cc)
 is_named_or_not (Some n) m = by_same (same_or_not n m)
   where
@@ -146,7 +146,7 @@ module _ (t : Tables) (b : Body) (names : List (List ℕ)) (spots : List Spot) (
       all_on (at + 1) ss (joins j at s) (omega (arith, count)) (λ i lt. let e : at + suc i ≡ at + 1 + i = omega arith in same (suc i) (omega (arith, lt)) ∙ ap (nth_spot spots) e)
       (subst (λ z. all_twice (counted_from (at + 1) ss z) ≡ true) (sym (seen_named j at (counting.name_of s))) twice) next
 
-nth_none : (n m : ℕ) → nth_seen (none_seen n) m ≡ Never
+pub nth_none : (n m : ℕ) → nth_seen (none_seen n) m ≡ Never
 nth_none zero zero = refl
 nth_none zero (suc m) = refl
 nth_none (suc n) zero = refl

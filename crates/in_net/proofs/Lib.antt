@@ -1,12 +1,16 @@
 pub mod Absent
 pub mod Agents
 pub mod Chains
+pub mod Counts
 pub mod Folds
+pub mod HeadsOf
 pub mod Joined
 pub mod Joins
+pub mod Kept
 pub mod Linked
 pub mod Links
 pub mod Merged
+pub mod NamesApart
 pub mod Naming
 pub mod NetRead
 pub mod Order
@@ -14,6 +18,7 @@ pub mod Points
 pub mod Ports
 pub mod Read
 pub mod ReadFrom
+pub mod Single
 pub mod Small
 pub mod Sound
 pub mod Steps
@@ -21,4 +26,5 @@ pub mod Terms
 pub mod TextWires
 pub mod Ways
 pub mod Whole
+pub mod OneNet
 pub mod WireAt

@@ -11,7 +11,7 @@ use Rattle.in_net.specs.declared.joining.Link.{Link}
 use Rattle.in_net.specs.declared.reading.Spot.{Spot}
 use Rattle.in_net.specs.declared.reading.Spot.TheVariants.{Port, Free, Occurrence}
 use Rattle.in_net.specs.declared.reading.Reading.{Reading}
-use Rattle.in_symbols.specs.Tables.{Tables}
+use Rattle.in_symbols.specs.Tables.{Tables, heads_known}
 use Rattle.in_net.specs.Arities.{arities_fit, all_arities_fit}
 use Rattle.in_net.specs.Reading.{with_joint, with_name, number_with, reader_of, reads_equation, reads_equations, reads_free_end, reads_free_from, reads_free, nothing_read, reading_of}
 use Rattle.in_net.specs.Joining.{links_of, self_link, self_links, with_joints}
@@ -21,7 +21,8 @@ use Rattle.in_net.proofs.Linked.{nth_self, same_or_not, below_or_not, front_or_b
 use Rattle.in_net.proofs.Links.{all_append}
 use Rattle.in_net.proofs.Sound.{named, linked_more}
 use Rattle.in_net.proofs.Read.{IsRead, with_joint_read, more_names, free_end_read}
-use Rattle.in_net.proofs.Terms.{AreSmall, reads_on, fits_both}
+use Rattle.in_net.proofs.Kept.{IsSettled, Keeps, keeps_both, keeps_itself, keeps_joint, settled_joint}
+use Rattle.in_net.proofs.Terms.{AreSmall, IsHeldIn, held_stays, reads_on, fits_both}
 
 -- the free ends are the first spots, joined to nothing, and each spot after them is joined
 pub record IsNetRead (t : Tables) (b : Body) (free count : ℕ) (r : Reading) : Type 0 where
@@ -30,8 +31,23 @@ pub record IsNetRead (t : Tables) (b : Body) (free count : ℕ) (r : Reading) : 
   pub alone : (i : ℕ) → i < free → nth_link (links_of r) i ≡ self_link i
   pub joined : (i : ℕ) → free ≤ i → i < length r.spots → (nth_link (links_of r) i).to ≢ i
 
+-- the joint of an equation and those in its terms stand among the spots
+pub record IsEquationHeld (t : Tables) (e : Equation) (r : Reading) : Type 0 where
+  pub joint : IsSettled r (spot_of t e.left) (spot_of t e.right) e.tilde
+  pub left : heads_known t.names e.left ≡ true → IsHeldIn t e.left r
+  pub right : heads_known t.names e.right ≡ true → IsHeldIn t e.right r
+
+equation_stays : (t : Tables) (e : Equation) (r q : Reading) → Keeps r q → IsEquationHeld t e r → IsEquationHeld t e q
+equation_stays t e r q keeps h = record { joint = keeps.settled _ _ _ h.joint; left = λ heads. held_stays t e.left r q keeps (h.left heads); right = λ heads. held_stays t e.right r q keeps (h.right heads) }
+
+-- what reading an equation does
+pub record IsEquationRead (t : Tables) (b : Body) (free count : ℕ) (e : Equation) (before after : Reading) : Type 0 where
+  pub net : IsNetRead t b free count after
+  pub keeps : Keeps before after
+  pub held : IsEquationHeld t e after
+
 pub equation_read : (t : Tables) (b : Body) (free count : ℕ) → AreSmall t → (e : Equation) (r : Reading) → IsAmong e b.equations → arities_fit t e.left ≡ true → arities_fit t e.right ≡ true → IsNetRead t b free count r →
-    IsNetRead t b free (count + names_in_equation e) (reads_equation t e r)
+    IsEquationRead t b free (count + names_in_equation e) e r (reads_equation t e r)
 equation_read t b free count small e r among fits_left fits_right net =
     let r1 : Reading = ((reader_of t e.left).reads r).0 in
     let one : ℕ = ((reader_of t e.left).reads r).1 in
@@ -57,7 +73,11 @@ equation_read t b free count small e r among fits_left fits_right net =
     ap (λ (z : List Link). (nth_link z (one + 0)).to) (links_joint r2 one 0 other e.tilde) ∙ ap (λ (l : Link). l.to) (at_first (links_of r2) (one + 0) other e.tilde (omega (arith, one_in, size)) (omega (arith, c.there, size)) apart) in
     let other_to : (nth_link (links_of (with_joint r2 one 0 other e.tilde)) other).to ≡ one + 0 =
     ap (λ (z : List Link). (nth_link z other).to) (links_joint r2 one 0 other e.tilde) ∙ ap (λ (l : Link). l.to) (at_second (links_of r2) (one + 0) other e.tilde (omega (arith, one_in, size)) (omega (arith, c.there, size))) in
-    record {
+    let keeps_joined = keeps_joint r2 one 0 other e.tilde one_alone c.alone in
+    let settled : IsSettled (with_joint r2 one 0 other e.tilde) (named (nth_spot r2.spots (one + 0))) (named (nth_spot r2.spots other)) e.tilde =
+    settled_joint r2 one 0 other e.tilde (omega (arith, one_in, size)) (omega (arith, c.there, size)) size apart in
+    let one_is : named (nth_spot r2.spots (one + 0)) ≡ spot_of t e.left = ap (λ k. named (nth_spot r2.spots k)) zero_on ∙ one_stands in
+    let whole : IsNetRead t b free (count + names_in_equation e) (reads_equation t e r) = record {
       read =
           more_names t b free (count + names_in e.left + names_in e.right) (count + names_in_equation e) _ (omega arith)
           (with_joint_read t b free (count + names_in e.left + names_in e.right) r2 one 0 other e.tilde c.read (omega (arith, one_in)) c.there apart one_alone c.alone joint);
@@ -66,6 +86,15 @@ equation_read t b free count small e r among fits_left fits_right net =
           third i (λ f. absurd (omega (arith, f, lt, a.root_is, net.wide))) (λ f. absurd (omega (arith, f, lt, c.root_is, wide_1, net.wide)))
           ∙ c.links i (omega (arith, lt, net.wide, wide_1)) ∙ a.links i (omega (arith, lt, net.wide)) ∙ net.alone i lt;
       joined = λ i from in_. by_side i from in_ (same_or_not i (one + 0)) (same_or_not i other) (below_or_not i (length r.spots)) (below_or_not i (length r1.spots)) third one_to other_to apart a.links c.links a.joined c.joined a.root_is c.root_is;
+    } in
+    record {
+      net = whole;
+      keeps = keeps_both r r1 _ a.keeps (keeps_both r1 r2 _ c.keeps keeps_joined);
+      held = record {
+        joint = subst (λ s. IsSettled (with_joint r2 one 0 other e.tilde) s (spot_of t e.right) e.tilde) one_is (subst (λ s. IsSettled (with_joint r2 one 0 other e.tilde) (named (nth_spot r2.spots (one + 0))) s e.tilde) c.stands settled);
+        left = λ heads. held_stays t e.left r1 _ (keeps_both r1 r2 _ c.keeps keeps_joined) (a.held heads);
+        right = λ heads. held_stays t e.right r2 _ keeps_joined (c.held heads);
+      };
     }
   where
     r1 : Reading
@@ -109,15 +138,34 @@ equation_read t b free count small e r among fits_left fits_right net =
         beyond (inl g) = g
         beyond (inr g) = absurd (y (omega (arith, g, b_, w2)))
 
+-- what reading equations does
+pub record AreEquationsRead (t : Tables) (b : Body) (free count : ℕ) (es : List Equation) (before after : Reading) : Type 0 where
+  pub net : IsNetRead t b free count after
+  pub keeps : Keeps before after
+  pub held : (e : Equation) → IsAmong e es → IsEquationHeld t e after
+
 pub equations_read : (t : Tables) (b : Body) (free count : ℕ) → AreSmall t → (es : List Equation) (r : Reading) → ((e : Equation) → IsAmong e es → IsAmong e b.equations) →
-    list_all (λ e. arities_fit t e.left && arities_fit t e.right) es ≡ true → IsNetRead t b free count r → IsNetRead t b free (count + names_in_equations es) (reads_equations t es r)
-equations_read t b free count small [] r among fits net = record { read = more_names t b free count (count + names_in_equations []) r (omega arith) net.read; wide = net.wide; alone = net.alone; joined = net.joined }
+    list_all (λ e. arities_fit t e.left && arities_fit t e.right) es ≡ true → IsNetRead t b free count r → AreEquationsRead t b free (count + names_in_equations es) es r (reads_equations t es r)
+equations_read t b free count small [] r among fits net = record {
+  net = record { read = more_names t b free count (count + names_in_equations []) r (omega arith) net.read; wide = net.wide; alone = net.alone; joined = net.joined };
+  keeps = keeps_itself r;
+  held = λ e h. absurd h;
+}
 equations_read t b free count small (e ∷ es) r among fits net =
     let both = fits_both (arities_fit t e.left && arities_fit t e.right) (list_all (λ e. arities_fit t e.left && arities_fit t e.right) es) fits in
     let here = fits_both (arities_fit t e.left) (arities_fit t e.right) both.0 in
     let one = equation_read t b free count small e r (among e (inl refl)) here.0 here.1 net in
-    let all = equations_read t b free (count + names_in_equation e) small es (reads_equation t e r) (λ x h. among x (inr h)) both.1 one in
-    record { read = more_names t b free (count + names_in_equation e + names_in_equations es) (count + names_in_equations (e ∷ es)) _ (omega arith) all.read; wide = all.wide; alone = all.alone; joined = all.joined }
+    let all = equations_read t b free (count + names_in_equation e) small es (reads_equation t e r) (λ x h. among x (inr h)) both.1 one.net in
+    record {
+      net = record { read = more_names t b free (count + names_in_equation e + names_in_equations es) (count + names_in_equations (e ∷ es)) _ (omega arith) all.net.read; wide = all.net.wide; alone = all.net.alone; joined = all.net.joined };
+      keeps = keeps_both r (reads_equation t e r) _ one.keeps all.keeps;
+      held = λ x h. held_by x h one.held all.keeps all.held;
+    }
+  where
+    held_by : (x : Equation) → IsAmong x (e ∷ es) → IsEquationHeld t e (reads_equation t e r) → Keeps (reads_equation t e r) (reads_equations t es (reads_equation t e r)) →
+        ((x : Equation) → IsAmong x es → IsEquationHeld t x (reads_equations t es (reads_equation t e r))) → IsEquationHeld t x (reads_equations t es (reads_equation t e r))
+    held_by x (inl y) here keeps others = subst (λ x. IsEquationHeld t x (reads_equations t es (reads_equation t e r))) y (equation_stays t e (reads_equation t e r) _ keeps here)
+    held_by x (inr y) here keeps others = others x y
 
 -- only free ends are read
 pub record AreFreeRead (t : Tables) (b : Body) (k : ℕ) (r : Reading) : Type 0 where
@@ -174,9 +222,12 @@ free_net t b free r h = record {
     self i lt = let e : 0 + i ≡ i = omega arith in ap (λ js. nth_link (with_joints (self_links 0 (length r.spots)) js) i) h.joints ∙ nth_self 0 (length r.spots) i lt ∙ ap self_link e
 
 -- what is read of a net
-pub net_read : (t : Tables) (n : SourceNet) → AreSmall t → all_arities_fit t n ≡ true → IsNetRead t (body_of n) (length n.free) (names_in_equations n.equations) (reading_of t n)
-net_read t n small fits =
+pub whole_read : (t : Tables) (n : SourceNet) → AreSmall t → all_arities_fit t n ≡ true → AreEquationsRead t (body_of n) (length n.free) (names_in_equations n.equations) n.equations (reads_free n.free) (reading_of t n)
+whole_read t n small fits =
     let zero_on : 0 + names_in_equations n.equations ≡ names_in_equations n.equations = omega arith in
-    subst (λ k. IsNetRead t (body_of n) (length n.free) k (reading_of t n)) zero_on
+    subst (λ k. AreEquationsRead t (body_of n) (length n.free) k n.equations (reads_free n.free) (reading_of t n)) zero_on
     (equations_read t (body_of n) (length n.free) 0 small n.equations (reads_free n.free) (λ e h. h) fits
     (free_net t (body_of n) (length n.free) (reads_free n.free) (free_read t (body_of n) [] n.free nothing_read refl (nothing t (body_of n)))))
+
+pub net_read : (t : Tables) (n : SourceNet) → AreSmall t → all_arities_fit t n ≡ true → IsNetRead t (body_of n) (length n.free) (names_in_equations n.equations) (reading_of t n)
+net_read t n small fits = (whole_read t n small fits).net

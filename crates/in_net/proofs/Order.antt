@@ -187,3 +187,20 @@ root_before (s ∷ spots) zero (suc j) m n p q up lt in_ is at =
     later_root (λ q. p.from < q.from) spots j n q first.0 (omega (arith, in_)) at
 root_before (s ∷ spots) (suc i) zero m n p q up lt in_ is at = absurd (omega (arith, lt))
 root_before (s ∷ spots) (suc i) (suc j) m n p q up lt in_ is at = root_before spots i j m n p q (rises_right (root_place s) (root_places spots) up) (omega (arith, lt)) (omega (arith, in_)) is at
+
+-- the same at any two names
+later_place : (P : Place → Type 0) (spots : List Spot) (j : ℕ) (q : Place) → AllByRecursion P (root_places spots) → j < length spots → root_place (nth_spot spots j) ≡ q ∷ [] → P q
+later_place P [] j q all lt is = absurd (omega (arith, lt))
+later_place P (s ∷ spots) zero q all lt is =
+    let here : AllByRecursion P (root_place s) = all_left P (root_place s) (root_places spots) all in
+    (subst (AllByRecursion P) is here).0
+later_place P (s ∷ spots) (suc j) q all lt is = later_place P spots j q (all_right P (root_place s) (root_places spots) all) (omega (arith, lt)) is
+
+pub place_before : (spots : List Spot) (i j : ℕ) (p q : Place) → Rises (root_places spots) → i < j → j < length spots → root_place (nth_spot spots i) ≡ p ∷ [] → root_place (nth_spot spots j) ≡ q ∷ [] → p.from < q.from
+place_before [] i j p q up lt in_ is at = absurd (omega (arith, in_))
+place_before (s ∷ spots) zero zero p q up lt in_ is at = absurd (omega (arith, lt))
+place_before (s ∷ spots) zero (suc j) p q up lt in_ is at =
+    let first : Rises ((p ∷ []) ++ root_places spots) = subst (λ z. Rises (z ++ root_places spots)) is up in
+    later_place (λ q. p.from < q.from) spots j q first.0 (omega (arith, in_)) at
+place_before (s ∷ spots) (suc i) zero p q up lt in_ is at = absurd (omega (arith, lt))
+place_before (s ∷ spots) (suc i) (suc j) p q up lt in_ is at = place_before spots i j p q (rises_right (root_place s) (root_places spots) up) (omega (arith, lt)) (omega (arith, in_)) is at

@@ -66,7 +66,7 @@ pub record IsRead (t : Tables) (b : Body) (free count : ℕ) (r : Reading) : Typ
 
 -- ---- names
 
-name_there : (names : List (List ℕ)) (name : List ℕ) (o : Option ℕ) → number_in name names ≡ o → (number_with names name < length (with_name names name)) × (name_in (number_with names name) (with_name names name) ≡ name)
+pub name_there : (names : List (List ℕ)) (name : List ℕ) (o : Option ℕ) → number_in name names ≡ o → (number_with names name < length (with_name names name)) × (name_in (number_with names name) (with_name names name) ≡ name)
 name_there names name None is =
     let grown : with_name names name ≡ names ++ name ∷ [] = ap (λ (o : Option ℕ). cond (is_some o) names (names ++ name ∷ [])) is in
     let last : number_with names name ≡ length names = ap (λ o. unwrap_or o (length names)) is in
@@ -82,7 +82,7 @@ name_there names name (Some n) is =
       ap (λ k. get_or (with_name names name) k []) number ∙ ap (λ z. get_or z n []) same ∙ sym ((bytes_eq-Decides name (get_or names n [])).0 found.1),
     )
 
-grows_by : (names : List (List ℕ)) (name : List ℕ) (o : Option ℕ) → number_in name names ≡ o → (more : List (List ℕ)) × (with_name names name ≡ names ++ more)
+pub grows_by : (names : List (List ℕ)) (name : List ℕ) (o : Option ℕ) → number_in name names ≡ o → (more : List (List ℕ)) × (with_name names name ≡ names ++ more)
 grows_by names name None is = (name ∷ [], ap (λ (o : Option ℕ). cond (is_some o) names (names ++ name ∷ [])) is)
 grows_by names name (Some n) is = ([], ap (λ (o : Option ℕ). cond (is_some o) names (names ++ name ∷ [])) is ∙ sym (append-nil names))
 

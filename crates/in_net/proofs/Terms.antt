@@ -11,7 +11,7 @@ use Rattle.in_net.specs.declared.reading.Spot.{Spot}
 use Rattle.in_net.specs.declared.reading.Spot.TheVariants.{Port, Free, Occurrence}
 use Rattle.in_net.specs.declared.reading.Reading.{Reading}
 use Rattle.in_symbols.specs.Names.{number_in}
-use Rattle.in_symbols.specs.Tables.{Tables, arity_of, all_true}
+use Rattle.in_symbols.specs.Tables.{Tables, arity_of, all_true, heads_known}
 use Rattle.in_net.specs.Arities.{arities_fit}
 use Rattle.in_net.specs.Reading.{with_agent, with_occurrence, with_joint, number_with, ports_from, reader_of, reads_arguments}
 use Rattle.in_net.specs.Joining.{links_of, with_link}
@@ -21,7 +21,17 @@ use Rattle.in_net.specs.TextNet.{Body, IsTermOf, IsPartOf, IsAmong, IsVariable, 
 use Rattle.in_net.proofs.Folds.{names_out, fits_agent, read_agent, read_occurrence, place_read}
 use Rattle.in_net.proofs.Linked.{same_or_not, below_or_not, at_front, at_back, at_first, at_second, at_third, stays, added, links_joint, length-links_of}
 use Rattle.in_net.proofs.Sound.{named}
-use Rattle.in_net.proofs.Read.{IsRead, with_agent_read, with_occurrence_read, with_joint_read, more_names, new_spot, wider_agent}
+use Rattle.in_net.proofs.HeadsOf.{two, arguments_known, no_arguments}
+use Rattle.in_net.proofs.Kept.{IsSettled, IsHeldAt, Keeps, keeps_both, keeps_itself, keeps_more, keeps_joint, settled_joint}
+use Rattle.in_net.proofs.Read.{name_there, grows_by, IsRead, with_agent_read, with_occurrence_read, with_joint_read, more_names, new_spot, wider_agent}
+
+-- the joints of a term's arguments and its variables stand among the spots
+pub record IsHeldIn (t : Tables) (u : Term) (r : Reading) : Type 0 where
+  pub arguments : (v w : Term) (i : ℕ) → IsPartOf v u → IsSome (number_in (name_of v) t.names) → slice_get (out-Term v).args i ≡ Some w → IsSettled r (text.port_at (place_of v) (suc i)) (spot_of t w) (place_of w)
+  pub variables : (v : Term) → IsPartOf v u → IsVariable t v → IsHeldAt r v
+
+pub held_stays : (t : Tables) (u : Term) (r q : Reading) → Keeps r q → IsHeldIn t u r → IsHeldIn t u q
+held_stays t u r q keeps h = record { arguments = λ v w i part symbol is. keeps.settled _ _ _ (h.arguments v w i part symbol is); variables = λ v part variable. keeps.held v (h.variables v part variable) }
 
 -- what reading a term does
 pub record IsReadOn (t : Tables) (b : Body) (free count : ℕ) (u : Term) (before after : Reading) (root : ℕ) : Type 0 where
@@ -34,6 +44,10 @@ pub record IsReadOn (t : Tables) (b : Body) (free count : ℕ) (u : Term) (befor
   pub alone : (nth_link (links_of after) root).to ≡ root
   pub joined : (i : ℕ) → root < i → i < length after.spots → (nth_link (links_of after) i).to ≢ i
   pub stands : named (nth_spot after.spots root) ≡ spot_of t u
+  pub more_names : List (List ℕ)
+  pub names_on : after.names ≡ before.names ++ more_names
+  pub keeps : Keeps before after
+  pub held : heads_known t.names u ≡ true → IsHeldIn t u after
 
 -- what is joined of an agent that begins at a spot, before the argument at that port is read
 pub record IsPast (first arity port : ℕ) (q : Reading) : Type 0 where
@@ -42,16 +56,18 @@ pub record IsPast (first arity port : ℕ) (q : Reading) : Type 0 where
   pub joined : (i : ℕ) → first < i → i < length q.spots → (i < first + port) ⊎ (first + arity < i) → (nth_link (links_of q) i).to ≢ i
 
 -- what reading the rest of the arguments does
-pub record AreReadOn (t : Tables) (b : Body) (free count first : ℕ) (before after : Reading) : Type 0 where
+pub record AreReadOn (t : Tables) (b : Body) (free count first port : ℕ) (u : Term) (args : List Term) (before after : Reading) : Type 0 where
   pub read : IsRead t b free count after
   pub more : List Spot
   pub spots : after.spots ≡ before.spots ++ more
   pub links : (i : ℕ) → i < first → nth_link (links_of after) i ≡ nth_link (links_of before) i
   pub root : (nth_link (links_of after) first).to ≡ first
   pub joined : (i : ℕ) → first < i → i < length after.spots → (nth_link (links_of after) i).to ≢ i
-
-pub AreTerms : Body → Term → Type 0
-AreTerms b u = (v : Term) → IsPartOf v u → IsTermOf b v
+  pub more_names : List (List ℕ)
+  pub names_on : after.names ≡ before.names ++ more_names
+  pub keeps : Keeps before after
+  pub held : all_true (map (heads_known t.names) args) ≡ true → (w : Term) → IsAmong w args → IsHeldIn t w after
+  pub settled : (j : ℕ) (w : Term) → slice_get args j ≡ Some w → IsSettled after (text.port_at (place_of u) (port + j)) (spot_of t w) (place_of w)
 
 -- a symbol has at most eight auxiliary ports
 abbrev pub AreSmall : Tables → Type 0
@@ -165,13 +181,23 @@ module _ (t : Tables) (b : Body) (free count first arity port agent : ℕ) (u v 
     joined = λ i lt in_ side. joined_by i lt in_ side (same_or_not i (first + port)) (same_or_not i other) (below_or_not i (length q.spots));
   }
 
+  pub keeps_it : Keeps q1 q2
+  keeps_it = keeps_joint q1 first port other (reader_of t v).place alone on.alone
+
+  pub settles_it : IsSettled q2 (text.port_at (place_of u) port) (spot_of t v) (place_of v)
+  settles_it =
+      let e : port ≡ suc (length done) = omega (arith, at) in
+      subst (λ p. IsSettled q2 (text.port_at (place_of u) port) (spot_of t v) p) (place_read t v q1)
+      (subst (λ s. IsSettled q2 (text.port_at (place_of u) port) s (reader_of t v).place) on.stands
+      (subst (λ s. IsSettled q2 s (named (nth_spot q1.spots other)) (reader_of t v).place) (here ∙ ap (λ i. text.port_at (place_of u) i) (sym e)) (settled_joint q1 first port other (reader_of t v).place one_in other_in (length-links_of q1) apart)))
+
   pub ports_still : (j : ℕ) → j ≤ arity → nth_spot q1.spots (first + j) ≡ Port agent j (place_of u)
   ports_still j to_ = still (first + j) (omega (arith, room, to_)) ∙ ports j to_
 
 reads_all : (t : Tables) (b : Body) (free h : ℕ) → ReadsOn t b free h → (u : Term) (done args : List Term) (first arity port agent count : ℕ) (q : Reading) → total (map names_in args) ≤ h → all_true (map (arities_fit t) args) ≡ true →
     IsSome (number_in (name_of u) t.names) → ((v : Term) → IsPartOf v u → IsTermOf b v) → done ++ args ≡ (out-Term u).args → port ≡ length done + 1 → port + length args ≡ arity + 1 → first + arity < length q.spots →
     ((j : ℕ) → j ≤ arity → nth_spot q.spots (first + j) ≡ Port agent j (place_of u)) → IsPast first arity port q → IsRead t b free count q →
-    AreReadOn t b free (count + total (map names_in args)) first q (reads_arguments first (map (reader_of t) args) port q)
+    AreReadOn t b free (count + total (map names_in args)) first port u args q (reads_arguments first (map (reader_of t) args) port q)
 reads_all t b free h ih u done [] first arity port agent count q short fits symbol terms all at rest room ports past read = record {
   read = more_names t b free count (count + total (map names_in [])) q (omega arith) read;
   more = [];
@@ -179,11 +205,19 @@ reads_all t b free h ih u done [] first arity port agent count q short fits symb
   links = λ i lt. refl;
   root = past.root;
   joined = λ i lt in_. past.joined i lt in_ (side i (below_or_not i (first + port)));
+  more_names = [];
+  names_on = sym (append-nil q.names);
+  keeps = keeps_itself q;
+  held = λ heads w among. absurd among;
+  settled = λ j w e. absurd (no_element j w e);
 }
   where
     side : (i : ℕ) → (i < first + port) ⊎ (first + port ≤ i) → (i < first + port) ⊎ (first + arity < i)
     side i (inl a) = inl a
     side i (inr a) = inr (omega (arith, a, rest))
+
+    no_element : (j : ℕ) (w : Term) → slice_get {X = Term} [] j ≡ Some w → ⊥
+    no_element j w e = cc
 reads_all t b free h ih u done (v ∷ args) first arity port agent count q short fits symbol terms all at rest room ports past read =
     let both = fits_both (arities_fit t v) (all_true (map (arities_fit t) args)) fits in
     let q1 : Reading = ((reader_of t v).reads q).0 in
@@ -197,6 +231,8 @@ reads_all t b free h ih u done (v ∷ args) first arity port agent count q short
     let then_ = past_it t b free (count + names_in v) first arity port agent u v done args q q1 other symbol there all at le room ports past on (omega (arith, at)) in
     let still = ports_still t b free (count + names_in v) first arity port agent u v done args q q1 other symbol there all at le room ports past on in
     let grown = ap length on.spots ∙ length-append q.spots on.more in
+    let keeps_one = keeps_it t b free (count + names_in v) first arity port agent u v done args q q1 other symbol there all at le room ports past on in
+    let settled_one = settles_it t b free (count + names_in v) first arity port agent u v done args q q1 other symbol there all at le room ports past on in
     let all_on : (done ++ v ∷ []) ++ args ≡ (out-Term u).args = append_assoc done (v ∷ []) args ∙ all in
     let more = reads_all t b free h ih u (done ++ v ∷ []) args first arity (port + 1) agent (count + names_in v) q2 (omega (arith, short)) both.1 symbol terms all_on (omega (arith, at, length-append done (v ∷ []))) (omega (arith, rest))
     (omega (arith, room, grown)) still then_ joined in
@@ -209,7 +245,29 @@ reads_all t b free h ih u done (v ∷ args) first arity port agent count q short
           ∙ old t b free (count + names_in v) first arity port agent u v done args q q1 other symbol there all at le room ports past on i (omega (arith, lt, room)) (λ e. absurd (omega (arith, e, lt)));
       root = more.root;
       joined = more.joined;
+      more_names = on.more_names ++ more.more_names;
+      names_on = more.names_on ∙ ap (λ z. z ++ more.more_names) on.names_on ∙ append_assoc q.names on.more_names more.more_names;
+      keeps = keeps_both q q1 _ on.keeps (keeps_both q1 q2 _ keeps_one more.keeps);
+      held = λ heads w among_. held_by heads w among_ on.held (keeps_both q1 q2 _ keeps_one more.keeps) more.held;
+      settled = λ j w e. settled_by j w e settled_one more.keeps more.settled;
     }
+  where
+    after : Reading
+    after = reads_arguments first (map (reader_of t) args) (port + 1) (with_joint ((reader_of t v).reads q).0 first port ((reader_of t v).reads q).1 (reader_of t v).place)
+
+    held_by : all_true (map (heads_known t.names) (v ∷ args)) ≡ true → (w : Term) → IsAmong w (v ∷ args) → (heads_known t.names v ≡ true → IsHeldIn t v ((reader_of t v).reads q).0) → Keeps ((reader_of t v).reads q).0 after →
+        (all_true (map (heads_known t.names) args) ≡ true → (w : Term) → IsAmong w args → IsHeldIn t w after) → IsHeldIn t w after
+    held_by heads w (inl e) here keeps others = subst (λ w. IsHeldIn t w after) e (held_stays t v ((reader_of t v).reads q).0 after keeps (here (two (heads_known t.names v) (all_true (map (heads_known t.names) args)) heads).0))
+    held_by heads w (inr h) here keeps others = others (two (heads_known t.names v) (all_true (map (heads_known t.names) args)) heads).1 w h
+
+    settled_by : (j : ℕ) (w : Term) → slice_get (v ∷ args) j ≡ Some w → IsSettled (with_joint ((reader_of t v).reads q).0 first port ((reader_of t v).reads q).1 (reader_of t v).place) (text.port_at (place_of u) port) (spot_of t v) (place_of v) →
+        Keeps (with_joint ((reader_of t v).reads q).0 first port ((reader_of t v).reads q).1 (reader_of t v).place) after →
+        ((j : ℕ) (w : Term) → slice_get args j ≡ Some w → IsSettled after (text.port_at (place_of u) (port + 1 + j)) (spot_of t w) (place_of w)) → IsSettled after (text.port_at (place_of u) (port + j)) (spot_of t w) (place_of w)
+    settled_by zero w e here keeps others =
+        let same : v ≡ w = cc in
+        let zero_on : port ≡ port + 0 = omega arith in
+        subst (λ n. IsSettled after (text.port_at (place_of u) n) (spot_of t w) (place_of w)) zero_on (subst (λ x. IsSettled after (text.port_at (place_of u) port) (spot_of t x) (place_of x)) same (keeps.settled _ _ _ here))
+    settled_by (suc j) w e here keeps others = let n : port + 1 + j ≡ port + suc j = omega arith in subst (λ n. IsSettled after (text.port_at (place_of u) n) (spot_of t w) (place_of w)) n (others j w e)
 
 some_is : (o : Option ℕ) (s : ℕ) → o ≡ Some s → IsSome o
 some_is None s e = cc
@@ -225,6 +283,7 @@ reads_term t b free h small ih u count r short fits terms read None is =
     let zero_on : length r.spots ≡ length r.spots + 0 = omega arith in
     let last : nth_spot (r.spots ++ spot ∷ []) (length r.spots) ≡ spot = ap (nth_spot (r.spots ++ spot ∷ [])) zero_on ∙ at_back r.spots (spot ∷ []) 0 no_spot in
     let alone = added r.spots (spot ∷ []) r.joints read.joints 0 (omega arith) in
+    let grown_names = grows_by r.names (out-Term u).name.text (number_in (out-Term u).name.text r.names) refl in
     let P : Reading × ℕ → Type 0 = λ p. IsReadOn t b free (count + names_in u) u r p.0 p.1 in
     subst P (sym (read_occurrence t u r is))
     (record {
@@ -237,7 +296,29 @@ reads_term t b free h small ih u count r short fits terms read None is =
       alone = ap (λ k. (nth_link (links_of (with_occurrence r (out-Term u).name)) k).to) zero_on ∙ ap (λ (l : Link). l.to) alone ∙ sym zero_on;
       joined = λ i lt in_. absurd (omega (arith, lt, in_, grown));
       stands = ap named last ∙ sym stands;
+      more_names = grown_names.0;
+      names_on = grown_names.1;
+      keeps = keeps_more r (with_occurrence r (out-Term u).name) (spot ∷ []) grown_names.0 refl grown_names.1 (λ i lt. stays r.spots (spot ∷ []) r.joints read.joints i lt);
+      held = λ heads. record {
+        arguments = λ v w i part symbol e. absurd (none_of_it heads v part (λ x y. no_symbol x symbol y));
+        variables = λ v part variable. held_here heads v part last grown;
+      };
     })
+  where
+    -- a term without arguments has no part but itself
+    none_of_it : heads_known t.names u ≡ true → (v : Term) → IsPartOf v u → (v ≡ u → IsVariable t u → ⊥) → ⊥
+    none_of_it heads _ (IsPartOf.itself _) h = h refl is
+    none_of_it heads v (IsPartOf.deeper _ w _ among part) h = subst (IsAmong w) (no_arguments t.names u heads is) among
+
+    no_symbol : {v : Term} → v ≡ u → IsSome (number_in (name_of v) t.names) → IsVariable t u → ⊥
+    no_symbol e symbol variable = let wrong : IsSome {T = ℕ} None = subst IsSome variable (subst (λ v. IsSome (number_in (name_of v) t.names)) e symbol) in cc
+
+    held_here : heads_known t.names u ≡ true → (v : Term) → IsPartOf v u → nth_spot (r.spots ++ Occurrence (number_with r.names (out-Term u).name.text) (out-Term u).name.place ∷ []) (length r.spots) ≡ Occurrence (number_with r.names (out-Term u).name.text) (out-Term u).name.place →
+        length (r.spots ++ Occurrence (number_with r.names (out-Term u).name.text) (out-Term u).name.place ∷ []) ≡ length r.spots + 1 → IsHeldAt (with_occurrence r (out-Term u).name) v
+    held_here heads _ (IsPartOf.itself _) last grown =
+        let at = name_there r.names (out-Term u).name.text (number_in (out-Term u).name.text r.names) refl in
+        record { spot = length r.spots; number = number_with r.names (out-Term u).name.text; inside = omega (arith, grown); is = last; known = at.0; name = at.1 }
+    held_here heads v (IsPartOf.deeper _ w _ among part) last grown = absurd (subst (IsAmong w) (no_arguments t.names u heads is) among)
 reads_term t b free h small ih u count r short fits terms read (Some s) is =
     let symbol : SymbolNo = record { 0 = s } in
     let args = (out-Term u).args in
@@ -280,8 +361,28 @@ reads_term t b free h small ih u count r short fits terms read (Some s) is =
       alone = on.root;
       joined = on.joined;
       stands = ap named root_spot ∙ sym stands;
+      more_names = on.more_names;
+      names_on = on.names_on;
+      keeps = keeps_both r begun _ (keeps_more r begun more [] refl (sym (append-nil r.names)) (λ i lt. stays r.spots more r.joints read.joints i lt)) on.keeps;
+      held = λ heads. record {
+        arguments = λ v w i part symbol_ e. argument_by v w i part symbol_ e on.settled (on.held (arguments_known t.names u heads));
+        variables = λ v part variable. variable_by v part variable (on.held (arguments_known t.names u heads));
+      };
     })
   where
+    after : Reading
+    after = reads_arguments (length r.spots) (map (reader_of t) (out-Term u).args) 1 (with_agent r (record { 0 = s }) (arity_of t s) (out-Term u).name.place)
+
+    argument_by : (v w : Term) (i : ℕ) → IsPartOf v u → IsSome (number_in (name_of v) t.names) → slice_get (out-Term v).args i ≡ Some w →
+        ((j : ℕ) (w : Term) → slice_get (out-Term u).args j ≡ Some w → IsSettled after (text.port_at (place_of u) (1 + j)) (spot_of t w) (place_of w)) → ((w : Term) → IsAmong w (out-Term u).args → IsHeldIn t w after) →
+        IsSettled after (text.port_at (place_of v) (suc i)) (spot_of t w) (place_of w)
+    argument_by _ w i (IsPartOf.itself _) symbol e settled held = let n : 1 + i ≡ suc i = omega arith in subst (λ n. IsSettled after (text.port_at (place_of u) n) (spot_of t w) (place_of w)) n (settled i w e)
+    argument_by v w i (IsPartOf.deeper _ x _ among part) symbol e settled held = (held x among).arguments v w i part symbol e
+
+    variable_by : (v : Term) → IsPartOf v u → IsVariable t v → ((w : Term) → IsAmong w (out-Term u).args → IsHeldIn t w after) → IsHeldAt after v
+    variable_by _ (IsPartOf.itself _) variable held = absurd (let wrong : None ≡ Some s = sym variable ∙ is in cc)
+    variable_by v (IsPartOf.deeper _ x _ among part) variable held = (held x among).variables v part variable
+
     beyond : (i : ℕ) → length r.spots < i → i < length r.spots + (arity_of t s + 1) → (i < length r.spots + 1) ⊎ (length r.spots + arity_of t s < i) → ⊥
     beyond i lt in_ (inl a) = absurd (omega (arith, lt, a))
     beyond i lt in_ (inr a) = absurd (omega (arith, in_, a))

@@ -22,7 +22,7 @@ use Rattle.in_net.specs.Arities.{all_arities_fit}
 use Rattle.in_net.specs.Counting.{none_seen, counted_from, all_twice}
 use Rattle.in_net.specs.Joining.{joining_of}
 use Rattle.in_net.specs.Reading.{reading_of}
-use Rattle.in_net.specs.Building.{no_agent, nth_spot, nth_link, nth_agent, IsPointSpot, point_in, IsJoined, cells_of, free_ends_from, wires_from}
+use Rattle.in_net.specs.Building.{no_agent, nth_spot, nth_link, nth_agent, IsPointSpot, point_in, IsJoined, partner_of, cells_of, free_ends_from, wires_from}
 use Rattle.in_net.specs.Built.{IsNumbered, AreListedOf, Assembles, IsOver, IsCellOver}
 use Rattle.in_net.specs.declared.nets.Cell.{Cell}
 use Rattle.in_net.specs.declared.nets.FreeEnd.{FreeEnd}
@@ -32,10 +32,13 @@ use Rattle.in_net.specs.TextNet.{Body, body_of, IsOccurrence, IsWireOf, HasWires
 use Rattle.in_net.proofs.Agents.{cells_for, cells_over, free_for, places_for}
 use Rattle.in_net.proofs.Linked.{same_or_not, below_or_not}
 use Rattle.in_net.proofs.Sound.{named}
-use Rattle.in_net.proofs.Points.{Stands, point_to}
+use Rattle.in_net.proofs.Points.{Stands, stands_at, partner_stands}
+use Rattle.in_net.proofs.Single.{one_wire}
+use Rattle.in_net.proofs.NamesApart.{names_apart}
+use Rattle.in_net.proofs.Small.{are_small}
 use Rattle.in_net.proofs.Whole.{wire_at}
 use Rattle.in_net.proofs.Ways.{IsWay, kind_of}
-use Rattle.in_net.proofs.NetRead.{IsNetRead}
+use Rattle.in_net.proofs.NetRead.{whole_read}
 use Rattle.in_net.proofs.Order.{roots_rise}
 use Rattle.in_net.proofs.Joined.{are_joined, way_of}
 use Rattle.in_net.proofs.ReadFrom as read_from
@@ -93,24 +96,36 @@ module _ (t : Tables) (b : Body) (fs : List SourceFree) (r : Reading) (links : L
   some_same : (x y : Place) → Some x ≡ Some y → x ≡ y
   some_same x y e = cc
 
-  pub text_wires : HasWiresOf t b net
-  text_wires = record {
+  -- the wire of the spot of a point
+  wire_from : (x : Point) (k : ℕ) → Stands r.spots x k → IsWireOf t b (spot_at net x) (spot_at net (partner_of r.spots links k)) (nth_link links k).place
+  wire_from x k stands =
+      let way = ways k stands.inside stands.point in
+      let other = partner_stands r.spots links joined x k stands in
+      record {
+        one = no_occurrence net x;
+        other = no_occurrence net (partner_of r.spots links k);
+        first = kind_of (nth_spot r.spots k);
+        last = kind_of (nth_spot r.spots (nth_link links k).to);
+        places = way.places;
+        chain =
+            subst (λ s. text.Chain t b (kind_of (nth_spot r.spots k)) (kind_of (nth_spot r.spots (nth_link links k).to)) s (spot_at net (partner_of r.spots links k)) way.places) (named_point x k stands)
+            (subst (λ s. text.Chain t b (kind_of (nth_spot r.spots k)) (kind_of (nth_spot r.spots (nth_link links k).to)) (named (nth_spot r.spots k)) s way.places)
+            (named_point (partner_of r.spots links k) (nth_link links k).to other) way.chain);
+        place = way.last;
+      }
+
+  pub text_wires : ((x y z : text.Spot) (p q : Place) → IsWireOf t b x y p → IsWireOf t b x z q → y ≡ z) → HasWiresOf t b net
+  text_wires single = record {
+    partners = λ x y e.
+        let at = stands_at t fs r links numbered joined wires (map (λ a. a.place) r.agents) x y e in
+        ((nth_link links at.0).place, subst (λ y. IsWireOf t b (spot_at net x) (spot_at net y) (nth_link links at.0).place) (sym at.2) (wire_from x at.0 at.1));
+    only = λ x y s p e wire.
+        let at = stands_at t fs r links numbered joined wires (map (λ a. a.place) r.agents) x y e in
+        single (spot_at net x) s (spot_at net y) p (nth_link links at.0).place wire (subst (λ y. IsWireOf t b (spot_at net x) (spot_at net y) (nth_link links at.0).place) (sym at.2) (wire_from x at.0 at.1));
     wires = λ w x y p is at.
         let found = wire_at t fs r links numbered joined wires (map (λ a. a.place) r.agents) listed w x y is in
-        let way = ways found.spot found.one.inside found.one.point in
         let place : (nth_link links found.spot).place ≡ p = some_same (nth_link links found.spot).place p (sym found.place ∙ at) in
-        record {
-          one = no_occurrence net x;
-          other = no_occurrence net y;
-          first = kind_of (nth_spot r.spots found.spot);
-          last = kind_of (nth_spot r.spots (nth_link links found.spot).to);
-          places = way.places;
-          chain =
-              subst (λ s. text.Chain t b (kind_of (nth_spot r.spots found.spot)) (kind_of (nth_spot r.spots (nth_link links found.spot).to)) s (spot_at net y) way.places) (named_point x found.spot found.one)
-              (subst (λ s. text.Chain t b (kind_of (nth_spot r.spots found.spot)) (kind_of (nth_spot r.spots (nth_link links found.spot).to)) (named (nth_spot r.spots found.spot)) s way.places)
-              (named_point y (nth_link links found.spot).to found.other) way.chain);
-          place = subst (λ q. text.IsLastOf q way.places) place way.last;
-        };
+        subst (IsWireOf t b (spot_at net x) (spot_at net y)) place (subst (λ y. IsWireOf t b (spot_at net x) (spot_at net y) (nth_link links found.spot).place) (sym found.partner) (wire_from x found.spot found.one));
     by_place = listed.by_place;
   }
 
@@ -129,6 +144,19 @@ module _ (source : Source) (t : Tables) (sized : IsSized source) (tabled : IsTab
       way_of t (body_of source.net) (length source.net.free) (names_in_equations source.net.equations) (reading_of t source.net) (read_from.net source t sized tabled fits) (free_differ source faultless)
       (roots_rise t source.net tabled.heads order) twice
 
+  -- all of it, and that its joints are single
+  pub read_single : (x y z : text.Spot) (p q : Place) → IsWireOf t (body_of source.net) x y p → IsWireOf t (body_of source.net) x z q → y ≡ z
+  read_single =
+      one_wire t source.net (names_in_equations source.net.equations) (reading_of t source.net)
+      (record {
+        net = read_from.net source t sized tabled fits;
+        held = (whole_read t source.net (are_small source t sized tabled) fits).held;
+        heads = tabled.heads;
+        rises = roots_rise t source.net tabled.heads order;
+        apart = names_apart t source.net;
+        twice = twice;
+      })
+
 -- the net that is assembled is the text's
 pub is_text_net : (source : Source) (t : Tables) (r : Reading) (links : List Link) (n : Parts) → IsSized source → IsTabled source t → IsFaultless source → IsInOrder source.net → all_arities_fit t source.net ≡ true →
     all_twice (counted_from 0 r.spots (none_seen (length r.names))) ≡ true → r ≡ reading_of t source.net → links ≡ (joining_of r).links → Assembles source t r links n → IsOver t n × IsNetOf t source.net n
@@ -140,7 +168,7 @@ is_text_net source t r links n sized tabled faultless order fits twice is_read i
     let P : Reading → List Link → Type 0 = λ r links. Assembles source t r links n in
     let at_read : Assembles source t (reading_of t source.net) (joining_of (reading_of t source.net)).links n = subst (P (reading_of t source.net)) same_links (subst (λ r. P r links) is_read made) in
     let from = read_from.read_from source t sized tabled fits in
-    let wires = text_wires t (body_of source.net) source.net.free r0 links0 from.numbered (read_joined source t sized tabled faultless order fits twice0) (read_ways source t sized tabled faultless order fits twice0) n.wires at_read.wires in
+    let wires = text_wires t (body_of source.net) source.net.free r0 links0 from.numbered (read_joined source t sized tabled faultless order fits twice0) (read_ways source t sized tabled faultless order fits twice0) n.wires at_read.wires (read_single source t sized tabled faultless order fits twice0) in
     let parts : as_built (cells_of t (reading_of t source.net).spots (joining_of (reading_of t source.net)).links (reading_of t source.net).agents)
     (free_ends_from t (reading_of t source.net).spots (joining_of (reading_of t source.net)).links 0 source.net.free) n.wires (map (λ a. a.place) (reading_of t source.net).agents) ≡ n =
     parts_are n _ _ _ at_read.cells at_read.free at_read.places at_read.built in (

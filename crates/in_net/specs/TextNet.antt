@@ -14,7 +14,7 @@ use Rattle.in_net.specs.declared.nets.Point.TheVariants.{Port, Free}
 use Rattle.in_net.specs.declared.nets.Cell.{Cell}
 use Rattle.in_symbols.specs.Names.{number_in}
 use Rattle.in_symbols.specs.Tables.{Tables, arity_of, port_of}
-use Rattle.in_net.specs.Parts.{Parts, wire_in, wire_place_in}
+use Rattle.in_net.specs.Parts.{Parts, partner_in, wire_in, wire_place_in}
 use Rattle.in_net.specs.declared.nets.FreeEnd.{FreeEnd}
 
 -- x is one of the list
@@ -182,9 +182,11 @@ pub record HasPointsOf (t : Tables) (n : SourceNet) (m : Parts) : Type 0 where
   pub places : m.places ≡ map (λ w. w.place) (agents_of_net t n)
   pub free : AreFreeOf t n.free m.free
 
--- the wires are those of the text: where two points are partners, a wire of the text joins them, and the listed wires stand at the
--- places of theirs, in the order of these places
+-- the wires are those of the text: two points are partners by a wire of the text, which leads to no other spot, and the listed
+-- wires stand at the places of theirs, in the order of these places
 pub record HasWiresOf (t : Tables) (b : Body) (m : Parts) : Type 0 where
+  pub partners : (x y : Point) → partner_in m x ≡ Some y → (p : Place) × IsWireOf t b (spot_at m x) (spot_at m y) p
+  pub only : (x y : Point) (s : Spot) (p : Place) → partner_in m x ≡ Some y → IsWireOf t b (spot_at m x) s p → s ≡ spot_at m y
   pub wires : (w : ℕ) (x y : Point) (p : Place) → wire_in m w ≡ Some (x, y) → wire_place_in m w ≡ Some p → IsWireOf t b (spot_at m x) (spot_at m y) p
   pub by_place : IsNonDecreasingBy (λ w. w.place.from) m.wires
 

@@ -4,6 +4,7 @@
 mod building;
 mod counting;
 mod joining;
+pub mod laws;
 mod nets;
 mod reading;
 

@@ -1,0 +1,18 @@
+//! Laws over the definitions of a net, for whoever reasons above them. No function here does anything.
+
+ghost use Rattle.in_net.specs.Laws.{PartnersLeadBack, TextNetsAreOne, WholePartsAreNets};
+
+/// In a net, the partner of a point's partner is the point, and no point is its own partner.
+pub fn partners_lead_back()
+    ensures { PartnersLeadBack }
+{}
+
+/// The parts of a net over some tables are a net over their signature: finitely many agents, and each point on exactly one wire.
+pub fn whole_parts_are_nets()
+    ensures { WholePartsAreNets }
+{}
+
+/// A text has one net: two nets of one text have the same agents and free ends, and partners at the same spots of the text.
+pub fn text_nets_are_one()
+    ensures { TextNetsAreOne }
+{}
