@@ -1,8 +1,7 @@
 -- A tree has no more names than its text has bytes.
-use Rattle.std.proofs.Common.{◌≡◌, ℕ, zero, suc, ◌+◌, ◌≤◌, ◌<◌, Bool, true, false, List, [], ◌∷◌, ◌++◌, length, map, refl, sym, ◌∙◌, ap, subst, arith, length-append, nat_lt, ltb-false, Result, Ok, Err, IfOk}
+use Rattle.std.proofs.Common.{◌≡◌, ℕ, zero, suc, ◌+◌, ◌≤◌, false, List, [], ◌∷◌, ◌++◌, length, map, refl, sym, ◌∙◌, ap, subst, arith, length-append, nat_lt, ltb-false, Result, Ok, Err, IfOk}
 use Rattle.std.proofs.lemmas.List.{length-map}
 use Rattle.std.specs.List.{AllByRecursion, flat_map}
-use Rattle.in_syntax.specs.declared.tree.Name.{Name}
 use Rattle.in_syntax.specs.declared.tree.Term.{Term, out-Term}
 use Rattle.in_syntax.specs.declared.tree.Term.TheFolds.{fold_out-Term}
 use Rattle.in_syntax.specs.declared.tree.Equation.{Equation}
@@ -14,9 +13,9 @@ use Rattle.in_syntax.specs.declared.faults.Fault.{Fault}
 use Rattle.in_syntax.specs.declared.words.Token.{Token}
 use Rattle.in_syntax.specs.declared.words.TokenKind.TheVariants as kind
 use Rattle.in_syntax.specs.declared.signs.Sign.{Sign}
-use Rattle.in_syntax.specs.declared.signs.Sign.TheVariants.{Named, Tilde, Plain}
-use Rattle.in_syntax.specs.Grammar.{Marked, marked, within, plain, named, max_ports, separated, spell_port, spell_ports, spell_class, spell_classes, spell_symbol, spell_types, spell_arguments, spell_level, spell_term, spell_equation, spell_free, spell_net, Item, types, symbol, spell_item, IsNonempty, Each, IsItem, Program, spelling, types_in, symbols_in, source_of}
-use Rattle.in_syntax.specs.Programs.{sign_of, signs_of, unmarked, IsTree}
+use Rattle.in_syntax.specs.declared.signs.Sign.TheVariants.{Tilde}
+use Rattle.in_syntax.specs.Grammar.{Marked, within, plain, named, max_ports, separated, spell_port, spell_ports, spell_class, spell_classes, spell_symbol, spell_types, spell_arguments, spell_level, spell_term, spell_equation, spell_free, spell_net, Item, types, symbol, spell_item, IsNonempty, Each, IsItem, Program, spelling, types_in, symbols_in, source_of}
+use Rattle.in_syntax.specs.Programs.{sign_of, signs_of, unmarked}
 use Rattle.in_syntax.specs.Parsing.{IsTreeOf, Parses}
 use Rattle.in_syntax.specs.Sizes.{total, names_in, names_in_equation, names_in_equations, IsSizedSymbol, IsSized}
 use Rattle.in_syntax.specs.Tokens.{StandsIn, StandInOrder}
