@@ -24,7 +24,7 @@ use Rattle.in_syntax.proofs.Sound.{HasRead, has_read, read_nothing, spelled}
 use Rattle.in_syntax.proofs.Complete.{done_with, program_path}
 use Rattle.in_syntax.proofs.Closing.{can_end}
 
-signs_unmarked : (s : List Sign) → signs (unmarked s) ≡ s
+pub signs_unmarked : (s : List Sign) → signs (unmarked s) ≡ s
 signs_unmarked [] = refl
 signs_unmarked (x ∷ s) = ap (λ z. x ∷ z) (signs_unmarked s)
 

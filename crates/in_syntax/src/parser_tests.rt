@@ -2,6 +2,7 @@ ghost use Rattle.std.specs.Prelude.{◌≡◌};
 
 use crate::faults::{Code, Fault};
 use crate::parser::program;
+use crate::parsing::parse;
 use crate::places::Place;
 use crate::reader::Reader;
 use crate::signs::Sign;
@@ -292,4 +293,51 @@ fn nothing(rt: HostRuntime) {
         Err(Fault::Refused(refusal)) => assert_eq!(rt; refusal.place.from, 7),
         _ => assert!(rt; false),
     }
+}
+
+#[test]
+fn parses_a_text(rt: HostRuntime) -> Result<(), Fail> {
+    let text = "type ж; # \u{feff} $\nsymbol é : ж+; rule é[x(y)]><é[];\nnet(){\u{3b1}~b;}";
+    let source = parse(rt.alloc(), text.as_bytes())?;
+    assert!(rt; is_named(&source.types.as_slice()[0], "ж"));
+    let rules = source.rules.as_slice();
+    assert_eq!(rt; rules.len(), 1);
+    let second = &rules[0].second.name;
+    assert!(rt; is_named(second, "é"));
+    assert_eq!(rt; (second.place.from, second.place.to), (49, 51));
+    assert_eq!(rt; (second.place.line, second.place.col), (2, 30));
+    let equation = &source.net.equations.as_slice()[0];
+    assert!(rt; is_bare(&equation.left, "\u{3b1}"));
+    assert_eq!(rt; (equation.tilde.line, equation.tilde.col), (3, 8));
+    Ok(())
+}
+
+#[test]
+fn answers_the_first_fault(rt: HostRuntime) -> Result<(), Fail> {
+    let cases: [(&[u8], Code, usize, usize); 10] = [
+        (b"type type; .. $", Code::E01, 11, 11),
+        (b"type type; # \xFF", Code::E01, 13, 13),
+        (b"type type;", Code::E02, 5, 9),
+        (b"rule S >< Z[];", Code::E02, 7, 9),
+        (b"rule S[] >< Z[]; # no net\n ", Code::E02, 27, 27),
+        (b"net(){} rule", Code::E02, 8, 12),
+        (b"net(){} >", Code::E01, 8, 8),
+        (b"net(){}\xEF\xBB\xBF", Code::E01, 7, 7),
+        (b"\xEF\xBB\xBFnet(){}", Code::E01, 0, 0),
+        (b"", Code::E02, 0, 0),
+    ];
+    for (text, code, from, to) in cases {
+        match parse(rt.alloc(), text) {
+            Err(Fault::Refused(refusal)) => {
+                assert!(rt; refusal.code == code, "at {text:?}");
+                assert_eq!(rt;
+                    (refusal.place.from, refusal.place.to),
+                    (from, to),
+                    "at {text:?}"
+                );
+            }
+            _ => assert!(rt; false, "at {text:?}"),
+        }
+    }
+    Ok(())
 }
