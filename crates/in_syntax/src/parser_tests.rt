@@ -299,16 +299,20 @@ fn nothing(rt: HostRuntime) {
 fn parses_a_text(rt: HostRuntime) -> Result<(), Fail> {
     let text = "type ж; # \u{feff} $\nsymbol é : ж+; rule é[x(y)]><é[];\nnet(){\u{3b1}~b;}";
     let source = parse(rt.alloc(), text.as_bytes())?;
-    assert!(rt; is_named(&source.types.as_slice()[0], "ж"));
+    let types = source.types.as_slice();
+    assert_eq!(rt; types.len(), 1);
+    assert!(rt; is_named(&types[0], "ж"));
     let rules = source.rules.as_slice();
     assert_eq!(rt; rules.len(), 1);
     let second = &rules[0].second.name;
     assert!(rt; is_named(second, "é"));
     assert_eq!(rt; (second.place.from, second.place.to), (49, 51));
     assert_eq!(rt; (second.place.line, second.place.col), (2, 30));
-    let equation = &source.net.equations.as_slice()[0];
-    assert!(rt; is_bare(&equation.left, "\u{3b1}"));
-    assert_eq!(rt; (equation.tilde.line, equation.tilde.col), (3, 8));
+    let equations = source.net.equations.as_slice();
+    assert_eq!(rt; equations.len(), 1);
+    assert!(rt; is_bare(&equations[0].left, "\u{3b1}"));
+    let tilde = equations[0].tilde;
+    assert_eq!(rt; (tilde.line, tilde.col), (3, 8));
     Ok(())
 }
 
