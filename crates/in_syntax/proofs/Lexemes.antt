@@ -12,19 +12,18 @@ use Rattle.unicode_ident.specs.Ident.{is_xid_start, is_xid_continue}
 use Rattle.unicode_ident.proofs.IdentLemmas.{is_xid_start-ascii, is_xid_continue-ascii, is_xid_start-is_xid_continue}
 use Rattle.in_syntax.specs.declared.words.TokenKind.{TokenKind}
 use Rattle.in_syntax.specs.declared.words.TokenKind.TheVariants as kind
-use Rattle.in_syntax.specs.Characters.{is_plain, is_blank, begins_name, continues_name}
+use Rattle.in_syntax.specs.Characters.{is_blank, begins_name, continues_name}
 use Rattle.in_syntax.specs.Tokens.{signs, beside, is_word, word_kind, kind_of, IsLongest, BeginsNoToken}
 use Rattle.in_syntax.specs.Cursors.{FirstIs, FirstFails}
 
--- a character of one byte begins a name where it is a letter or `_`
-pub begins_name-ascii : (c : ℕ) → c < 128 → is_plain c ≡ true → begins_name c ≡ (is_ascii_alphabetic c || c == 95)
-begins_name-ascii c h p = ap (λ b. b && (is_xid_start c || c == 95)) p ∙ ap (λ b. b || c == 95) (is_xid_start-ascii c h)
+-- an ASCII character begins a name where it is a letter or `_`
+pub begins_name-ascii : (c : ℕ) → c < 128 → begins_name c ≡ (is_ascii_alphabetic c || c == 95)
+begins_name-ascii c h = ap (λ b. b || c == 95) (is_xid_start-ascii c h)
 
 -- what a name begins with it may go on with
 pub continues-begins : (c : ℕ) → begins_name c ≡ true → continues_name c ≡ true
 continues-begins c h =
-    let parts = and_parts (is_plain c) (is_xid_start c || c == 95) h in
-    ap (λ b. b && is_xid_continue c) parts.0 ∙ go (is_xid_start c) (c == 95) refl refl parts.1
+    go (is_xid_start c) (c == 95) refl refl h
   where
     underscore : is_xid_continue 95 ≡ true
     underscore = is_xid_continue-ascii 95 (lit< tt)
@@ -42,20 +41,20 @@ other p c n h g = false_from_ne_true (c == n) (λ e. true≢false (sym h ∙ ap 
 pub beside-signs_name : (c : ℕ) (cs : List ℕ) → begins_name c ≡ true → beside (c ∷ cs) signs ≡ None
 beside-signs_name c cs h =
     let not : (n : ℕ) → begins_name n ≡ false → (c == n) ≡ false = λ n g. other begins_name c n h g in
-    let plain : (n : ℕ) (l : n < 128) → is_plain n ≡ true → (is_ascii_alphabetic n || n == 95) ≡ false → begins_name n ≡ false = λ n l p e. begins_name-ascii n l p ∙ e in
-    let comma = not 44 (plain 44 (lit< tt) refl refl) in
-    let semicolon = not 59 (plain 59 (lit< tt) refl refl) in
-    let colon = not 58 (plain 58 (lit< tt) refl refl) in
-    let plus = not 43 (plain 43 (lit< tt) refl refl) in
-    let minus = not 45 (plain 45 (lit< tt) refl refl) in
-    let open_brace = not 123 (plain 123 (lit< tt) refl refl) in
-    let close_brace = not 125 (plain 125 (lit< tt) refl refl) in
-    let open_parenthesis = not 40 (plain 40 (lit< tt) refl refl) in
-    let close_parenthesis = not 41 (plain 41 (lit< tt) refl refl) in
-    let open_bracket = not 91 (plain 91 (lit< tt) refl refl) in
-    let close_bracket = not 93 (plain 93 (lit< tt) refl refl) in
-    let tilde = not 126 (plain 126 (lit< tt) refl refl) in
-    let greater = not 62 (plain 62 (lit< tt) refl refl) in
+    let plain : (n : ℕ) (l : n < 128) → (is_ascii_alphabetic n || n == 95) ≡ false → begins_name n ≡ false = λ n l e. begins_name-ascii n l ∙ e in
+    let comma = not 44 (plain 44 (lit< tt) refl) in
+    let semicolon = not 59 (plain 59 (lit< tt) refl) in
+    let colon = not 58 (plain 58 (lit< tt) refl) in
+    let plus = not 43 (plain 43 (lit< tt) refl) in
+    let minus = not 45 (plain 45 (lit< tt) refl) in
+    let open_brace = not 123 (plain 123 (lit< tt) refl) in
+    let close_brace = not 125 (plain 125 (lit< tt) refl) in
+    let open_parenthesis = not 40 (plain 40 (lit< tt) refl) in
+    let close_parenthesis = not 41 (plain 41 (lit< tt) refl) in
+    let open_bracket = not 91 (plain 91 (lit< tt) refl) in
+    let close_bracket = not 93 (plain 93 (lit< tt) refl) in
+    let tilde = not 126 (plain 126 (lit< tt) refl) in
+    let greater = not 62 (plain 62 (lit< tt) refl) in
     simp (comma, semicolon, colon, plus, minus, open_brace, close_brace, open_parenthesis, close_parenthesis, open_bracket, close_bracket, tilde, greater)
 
 -- the only sign of two and more characters is `><`
@@ -109,7 +108,7 @@ longest_meets rest = record {
 }
   where
     no_name : begins_name 62 ≡ false
-    no_name = begins_name-ascii 62 (lit< tt) refl
+    no_name = begins_name-ascii 62 (lit< tt)
 
 -- where no token begins
 pub begins_no_token : (c : ℕ) (cs : List ℕ) → begins_name c ≡ false → beside (c ∷ []) signs ≡ None → (c == 62) ≡ false ⊎ FirstFails (λ d. d == 60) cs → BeginsNoToken (c ∷ cs)
@@ -145,8 +144,8 @@ is_word-run [] (d ∷ ds) f a stops = absurd (false≢true (sym stops ∙ contin
 is_word-run (b ∷ bs) rest f a stops = and_from (begins_name b) (list_all continues_name bs) f (and_parts (continues_name b) (list_all continues_name bs) a).1
 
 -- an ASCII character that is no letter and no `_` begins no name
-plain_other : (c : ℕ) (cs : List ℕ) → c < 128 → is_plain c ≡ true → (is_ascii_alphabetic c || c == 95) ≡ false → kind_of (c ∷ cs) ≡ beside (c ∷ cs) signs
-plain_other c cs l p e = no_word c cs (begins_name-ascii c l p ∙ e)
+plain_other : (c : ℕ) (cs : List ℕ) → c < 128 → (is_ascii_alphabetic c || c == 95) ≡ false → kind_of (c ∷ cs) ≡ beside (c ∷ cs) signs
+plain_other c cs l e = no_word c cs (begins_name-ascii c l ∙ e)
 
 -- no token begins with a blank
 pub kind_of-blank : (c : ℕ) (cs : List ℕ) → is_blank c ≡ true → kind_of (c ∷ cs) ≡ None
@@ -156,12 +155,12 @@ kind_of-blank c cs h = go (c == 32) (c == 9) (c == 13) (c == 10) refl refl refl 
     at n e g = subst (λ x. kind_of (x ∷ cs) ≡ None) (sym (eqb-true c n e)) g
 
     go : (x y z w : Bool) → (c == 32) ≡ x → (c == 9) ≡ y → (c == 13) ≡ z → (c == 10) ≡ w → (x || y || z || w) ≡ true → kind_of (c ∷ cs) ≡ None
-    go true y z w e1 e2 e3 e4 h = at 32 e1 (plain_other 32 cs (lit< tt) refl refl)
-    go false true z w e1 e2 e3 e4 h = at 9 e2 (plain_other 9 cs (lit< tt) refl refl)
-    go false false true w e1 e2 e3 e4 h = at 13 e3 (plain_other 13 cs (lit< tt) refl refl)
-    go false false false true e1 e2 e3 e4 h = at 10 e4 (plain_other 10 cs (lit< tt) refl refl)
+    go true y z w e1 e2 e3 e4 h = at 32 e1 (plain_other 32 cs (lit< tt) refl)
+    go false true z w e1 e2 e3 e4 h = at 9 e2 (plain_other 9 cs (lit< tt) refl)
+    go false false true w e1 e2 e3 e4 h = at 13 e3 (plain_other 13 cs (lit< tt) refl)
+    go false false false true e1 e2 e3 e4 h = at 10 e4 (plain_other 10 cs (lit< tt) refl)
     go false false false false e1 e2 e3 e4 h = absurd (false≢true h)
 
 -- nor with `#`
 pub kind_of-hash : (cs : List ℕ) → kind_of (35 ∷ cs) ≡ None
-kind_of-hash cs = plain_other 35 cs (lit< tt) refl refl
+kind_of-hash cs = plain_other 35 cs (lit< tt) refl

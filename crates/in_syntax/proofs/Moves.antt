@@ -3,17 +3,17 @@ use Rattle.std.proofs.Common.{◌≡◌, ℕ, ◌<◌, ◌≤◌, ◌⊎◌, Boo
 use Rattle.std.specs.List.{list_all}
 use Rattle.std.specs.Str.{chars, IsUtf8, IsCharBoundary, encode_utf8_all, all_scalars}
 use lib.Utf8.{scalar}
-use Rattle.std.proofs.lemmas.Bool.{and_parts, and_from, false≢true}
+use Rattle.std.proofs.lemmas.Bool.{and_parts, and_from}
 use Rattle.std.proofs.lemmas.Str.{encodes-chars, encodes-append, scalars-chars, chars-encodes, IsCharBoundary-at_seam}
 use Rattle.in_syntax.specs.declared.characters.Spot.{Spot}
 use Rattle.in_syntax.specs.declared.words.Token.{Token}
 use Rattle.in_syntax.specs.declared.words.TokenKind.{TokenKind}
 use Rattle.in_syntax.specs.declared.faults.Code.TheVariants.{E01, E03}
-use Rattle.in_syntax.specs.Characters.{is_plain, is_blank, begins_name, continues_name, stays_in_comment}
+use Rattle.in_syntax.specs.Characters.{is_blank, begins_name, continues_name, stays_in_comment}
 use Rattle.in_syntax.specs.Places.{past, past_all, place_between}
 use Rattle.in_syntax.specs.declared.places.Place.{Place}
 use Rattle.in_syntax.specs.declared.words.TokenKind.TheVariants as kind
-use Rattle.in_syntax.specs.Tokens.{signs, beside, is_word, word_kind, EndsLine, name_limit, Passes, blank, comment, token, Faults, stray, in_comment, too_long}
+use Rattle.in_syntax.specs.Tokens.{signs, beside, is_word, word_kind, EndsLine, name_limit, Passes, blank, comment, token, Faults, stray, too_long}
 use Rattle.in_syntax.specs.Cursors.{FirstIs, FirstFails, BeginsSigns, BeginsWith, IsWithin, Runs, Goes}
 use Rattle.in_syntax.proofs.Cursors.{within_past}
 use Rattle.in_syntax.proofs.Lexemes.{longest_word, longest_mark, longest_meets, begins_no_token, is_word-run, is_word-some}
@@ -39,17 +39,6 @@ comment_goes s t text w rest first r ends =
       subst (λ x. Passes s (x ∷ (w ++ after)) [] (past_all s (x ∷ w)) after) (sym f) (comment w after (and_parts (stays_in_comment b) (list_all stays_in_comment w) a).1 e),
       omega arith,
     )
-
-pub comment_wrong : (s t : Spot) (text w rest more : List ℕ) (c : ℕ) → FirstIs (λ c. c ≡ 35) (chars text) → Runs stays_in_comment s text w t rest → BeginsWith rest c more → is_plain c ≡ false → Faults s (chars text) E01 t
-comment_wrong s t text w rest more c first r b bad =
-    let split : chars text ≡ w ++ (c ∷ chars more) = r.split ∙ ap (λ z. w ++ z) b.chars in
-    subst (λ u. Faults s (chars text) E01 u) (sym r.end)
-    (subst (λ cs. Faults s cs E01 (past_all s w)) (sym split) (go w (chars more) (subst (FirstIs (λ c. c ≡ 35)) split first) r.all))
-  where
-    go : (w after : List ℕ) → FirstIs (λ c. c ≡ 35) (w ++ (c ∷ after)) → list_all stays_in_comment w ≡ true → Faults s (w ++ (c ∷ after)) E01 (past_all s w)
-    go [] after f a = absurd (false≢true (sym bad ∙ ap is_plain f))
-    go (x ∷ w) after f a =
-        subst (λ y. Faults s (y ∷ (w ++ (c ∷ after))) E01 (past_all s (y ∷ w))) (sym f) (in_comment w after c (and_parts (stays_in_comment x) (list_all stays_in_comment w) a).1 bad)
 
 -- the bytes of what was read
 pub bytes_split : (text w rest : List ℕ) → IsUtf8 text → IsUtf8 rest → chars text ≡ w ++ chars rest → text ≡ encode_utf8_all w ++ rest

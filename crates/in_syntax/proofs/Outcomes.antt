@@ -13,30 +13,32 @@ use Rattle.in_syntax.specs.declared.signs.Sign.{Sign}
 use Rattle.in_syntax.specs.declared.tree.Source.{Source}
 use Rattle.in_syntax.specs.declared.tree.SourceNet.{SourceNet}
 use Rattle.in_syntax.specs.declared.reader.Reader.{Reader}
-use Rattle.in_syntax.specs.declared.spots.Spot.{Spot}
-use Rattle.in_syntax.specs.declared.spots.Spot.TheVariants as spot
-use Rattle.in_syntax.specs.Grammar.{Marked, marked, Program, spelling, source_of, spell_item, symbols_in}
+use Rattle.in_syntax.specs.declared.states.State.{State}
+use Rattle.in_syntax.specs.declared.states.State.TheVariants as state
+use Rattle.in_syntax.specs.Grammar.{Marked, marked, Program, spelling, source_of, none_yet, spell_items, symbols_in, rules_in}
 use Rattle.in_syntax.specs.Programs.{signs_of, signs, unmarked, IsProgram, Begins, BeginsWithin, BeginsPast, IsFault, Outcome, tree, fault, IsOutcome, IsParsing}
 use Rattle.in_syntax.specs.GrammarLaws.{OneOutcome, OneTree}
-use Rattle.in_syntax.specs.Steps.{Step, goes, adds_types, adds_symbol, stuck, step, move_of, Answer, reads, refused, net_of, whole, run, start, Gives}
+use Rattle.in_syntax.specs.Steps.{Step, goes, adds_types, adds_symbol, adds_rule, stuck, step, move_of, Answer, reads, refused, net_of, whole, counts_of, run, start, Gives}
 use Rattle.in_syntax.proofs.Paths.{Turn, turns, halts, turn_of, turn, Path, join, split, same, IsFaultAt, IsTrace, along, trace}
 use Rattle.in_syntax.proofs.Sound.{HasRead, has_read, read_nothing, spelled}
 use Rattle.in_syntax.proofs.Complete.{done_with, program_path}
 use Rattle.in_syntax.proofs.Closing.{can_end}
 
-signs_unmarked : (s : List Sign) → signs (unmarked s) ≡ s
+pub signs_unmarked : (s : List Sign) → signs (unmarked s) ≡ s
 signs_unmarked [] = refl
 signs_unmarked (x ∷ s) = ap (λ z. x ∷ z) (signs_unmarked s)
 
 -- the program that was read where the net is whole
 abbrev Reads : Reader → List Marked → SourceNet → Type 0
-Reads last m n = (p : Program) × (spelling p ≡ m) × (source_of p ≡ record { types = last.types; symbols = last.symbols; net = n })
+Reads last m n = (p : Program) × (spelling p ≡ m) × (source_of p ≡ record { types = last.types; symbols = last.symbols; rules = last.rules; net = n })
 
-program_read : (last : Reader) (m : List Marked) (n : SourceNet) → HasRead last m → last.spot ≡ spot.Done n → Reads last m n
+program_read : (last : Reader) (m : List Marked) (n : SourceNet) → HasRead last m → last.state ≡ state.Done n → Reads last m n
 program_read last m n h e = (
   record { items = h.items; each = h.each; net = n },
-  sym (h.spells ∙ ap (λ z. flat_map spell_item h.items ++ spelled z) e),
-  ap (λ z. record { types = z; symbols = flat_map symbols_in h.items; net = n }) (sym h.types) ∙ ap (λ z. record { types = last.types; symbols = z; net = n }) (sym h.symbols),
+  sym (h.spells ∙ ap (λ z. spell_items none_yet h.items ++ spelled (counts_of last) z) e),
+  ap (λ z. record { types = z; symbols = flat_map symbols_in h.items; rules = flat_map rules_in h.items; net = n }) (sym h.types)
+      ∙ ap (λ z. record { types = last.types; symbols = z; rules = flat_map rules_in h.items; net = n }) (sym h.symbols)
+      ∙ ap (λ z. record { types = last.types; symbols = last.symbols; rules = z; net = n }) (sym h.rules),
 )
 
 read_path : (m : List Marked) (last : Reader) → Path start m last → HasRead last m
@@ -49,9 +51,9 @@ begun front last path =
     let p = program_read c.last (front ++ c.more) c.net (has_read c.more front last c.last (read_path front last path) c.path) c.done in
     (p.0, c.more, p.1)
 
-done_spot : (p : Spot) (n : SourceNet) → net_of p ≡ Some n → p ≡ spot.Done n
-done_spot (spot.Done k) n e = let is : k ≡ n = cc in ap (λ z. spot.Done z) is
-done_spot p n e = cc
+done_state : (p : State) (n : SourceNet) → net_of p ≡ Some n → p ≡ state.Done n
+done_state (state.Done k) n e = let is : k ≡ n = cc in ap (λ z. state.Done z) is
+done_state p n e = cc
 
 -- ---- the run along a path
 
@@ -65,10 +67,11 @@ turned r x s (goes false p) t e = ap (after_turn x s) e
 turned r x s (goes true p) t e = ap (after_turn x s) e
 turned r x s (adds_types names) t e = ap (after_turn x s) e
 turned r x s (adds_symbol y) t e = ap (after_turn x s) e
+turned r x s (adds_rule y) t e = ap (after_turn x s) e
 turned r x s stuck t e = ap (after_turn x s) e
 
 run_turn : (r : Reader) (x : Sign) (s : List Sign) (t : Turn) → turn r x ≡ t → run r (x ∷ s) ≡ after_turn x s t
-run_turn r x s t e = turned r x s (step r.spot x) t e
+run_turn r x s t e = turned r x s (step (counts_of r) r.state x) t e
 
 run_along : (s rest : List Sign) (r last : Reader) → Path r (unmarked s) last → run r (s ++ rest) ≡ run last rest
 run_along [] rest r last p = ap (λ z. run z rest) p
@@ -76,26 +79,26 @@ run_along (x ∷ s) rest r last p = run_turn r x (s ++ rest) (turns false p.0) p
 
 -- ---- what the run answers is the outcome
 
-read_end : (s : List Sign) (source : Source) (last : Reader) → Path start (unmarked s) last → (o : Option SourceNet) → net_of last.spot ≡ o → whole last o ≡ reads source →
+read_end : (s : List Sign) (source : Source) (last : Reader) → Path start (unmarked s) last → (o : Option SourceNet) → net_of last.state ≡ o → whole last o ≡ reads source →
     IsOutcome s (tree source)
 read_end s source last path (Some n) is e =
-    let p = program_read last (unmarked s) n (read_path (unmarked s) last path) (done_spot last.spot n is) in
-    let same : record { types = last.types; symbols = last.symbols; net = n } ≡ source = cc in
+    let p = program_read last (unmarked s) n (read_path (unmarked s) last path) (done_state last.state n is) in
+    let same : record { types = last.types; symbols = last.symbols; rules = last.rules; net = n } ≡ source = cc in
     (p.0, p.1, p.2 ∙ same)
 read_end s source last path None is e = cc
 
 pub tree_outcome : (s : List Sign) (source : Source) → run start s ≡ reads source → IsOutcome s (tree source)
 tree_outcome s source e =
     let t : IsTrace start s (reads source) = subst (IsTrace start s) e (trace s start) in
-    read_end s source t.0 t.1 (net_of t.0.spot) refl t.2
+    read_end s source t.0 t.1 (net_of t.0.state) refl t.2
 
 begins_within : (front : List Sign) (last : Reader) → Path start (unmarked front) last → BeginsWithin front
 begins_within front last path = begun (unmarked front) last path
 
-no_program : (front : List Sign) (last : Reader) → Path start (unmarked front) last → net_of last.spot ≡ None → IsProgram front → ⊥
+no_program : (front : List Sign) (last : Reader) → Path start (unmarked front) last → net_of last.state ≡ None → IsProgram front → ⊥
 no_program front last path e (p, is) =
     let k = same (spelling p) (unmarked front) start (done_with p) last (program_path p) path (is ∙ sym (signs_unmarked front)) in
-    let never : Some p.net ≡ None = ap (λ z. net_of z.spot) k.1 ∙ e in
+    let never : Some p.net ≡ None = ap (λ z. net_of z.state) k.1 ∙ e in
     cc
 
 split_signs : (m : List Marked) (a b : List Sign) → signs m ≡ a ++ b → (k : List Marked) × (l : List Marked) × (m ≡ k ++ l) × (signs k ≡ a) × (signs l ≡ b)
@@ -167,9 +170,9 @@ leads front (p, more, e) =
     let two = split (unmarked front) more start (done_with p) (subst (λ z. Path start z (done_with p)) e (program_path p)) in
     (two.0, two.1)
 
-end_refuses : (front : List Sign) (mid : Reader) → Path start (unmarked front) mid → ¬ IsProgram front → (o : Option SourceNet) → net_of mid.spot ≡ o → whole mid o ≡ refused E02 []
+end_refuses : (front : List Sign) (mid : Reader) → Path start (unmarked front) mid → ¬ IsProgram front → (o : Option SourceNet) → net_of mid.state ≡ o → whole mid o ≡ refused E02 []
 end_refuses front mid path never (Some n) e =
-    let p = program_read mid (unmarked front) n (read_path (unmarked front) mid path) (done_spot mid.spot n e) in
+    let p = program_read mid (unmarked front) n (read_path (unmarked front) mid path) (done_state mid.state n e) in
     absurd (never (p.0, ap signs p.1 ∙ signs_unmarked front))
 end_refuses front mid path never None e = refl
 
@@ -192,7 +195,7 @@ past_refuses front rest x (p, more, e) =
 faulted : (c : Code) (front rest : List Sign) → IsFault c front rest → run start (front ++ rest) ≡ refused c rest
 faulted E02 front [] is =
     let at = leads front is.0 in
-    run_along front [] start at.0 at.1 ∙ end_refuses front at.0 at.1 is.1 (net_of at.0.spot) refl
+    run_along front [] start at.0 at.1 ∙ end_refuses front at.0 at.1 is.1 (net_of at.0.state) refl
 faulted E02 front (x ∷ rest) is =
     let at = leads front is.0 in
     run_along front (x ∷ rest) start at.0 at.1 ∙ run_turn at.0 x rest (turn at.0 x) refl ∙ sign_refuses front rest x at.0 at.1 is.1 (turn at.0 x) refl
@@ -221,7 +224,7 @@ one_outcome s =
 pub one_tree : OneTree
 one_tree p q e =
     let k = same (spelling p) (spelling q) start (done_with p) (done_with q) (program_path p) (program_path q) e in
-    let trees : reads (source_of p) ≡ reads (source_of q) = ap (λ r. whole r (net_of r.spot)) k.1 in
+    let trees : reads (source_of p) ≡ reads (source_of q) = ap (λ r. whole r (net_of r.state)) k.1 in
     let tree : source_of p ≡ source_of q = cc in
     (tree, k.0)
 

@@ -1,5 +1,5 @@
 -- What reading the tokens of a text and then their grammar gives.
-use Rattle.std.proofs.Common.{◌≡◌, ◌⊎◌, ℕ, ◌≤◌, ◌<◌, List, [], ◌∷◌, drop, Result, Ok, Err, inl, inr, arith, subst, sym}
+use Rattle.std.proofs.Common.{◌≡◌, ℕ, List, [], ◌∷◌, drop, Result, Ok, Err, inr, arith, subst}
 use Rattle.std.specs.List.{AllByRecursion}
 use Rattle.in_syntax.specs.declared.faults.Fault.{Fault}
 use Rattle.in_syntax.specs.declared.faults.Fault.TheVariants.{Refused, Memory}

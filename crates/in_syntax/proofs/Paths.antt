@@ -8,20 +8,21 @@ use Rattle.in_syntax.specs.declared.machine.Move.{Move}
 use Rattle.in_syntax.specs.declared.machine.Move.TheVariants as move
 use Rattle.in_syntax.specs.Grammar.{Marked, marked}
 use Rattle.in_syntax.specs.Programs.{signs, unmarked}
-use Rattle.in_syntax.specs.Steps.{Step, goes, adds_types, adds_symbol, stuck, step, move_of, Answer, reads, refused, net_of, whole, at_spot, with_types, with_symbol, run}
+use Rattle.in_syntax.specs.Steps.{Step, goes, adds_types, adds_symbol, adds_rule, stuck, step, move_of, Answer, reads, refused, net_of, whole, at_state, with_types, with_symbol, with_rule, counts_of, run}
 
 pub data Turn : Type 0 where
   turns : Bool → Reader → Turn
   halts : Turn
 
 abbrev pub turn_of : Reader → Step → Turn
-turn_of r (goes past p) = turns past (at_spot r p)
+turn_of r (goes past p) = turns past (at_state r p)
 turn_of r (adds_types names) = turns false (with_types r names)
 turn_of r (adds_symbol s) = turns false (with_symbol r s)
+turn_of r (adds_rule y) = turns false (with_rule r y)
 turn_of r stuck = halts
 
 abbrev pub turn : Reader → Sign → Turn
-turn r x = turn_of r (step r.spot x)
+turn r x = turn_of r (step (counts_of r) r.state x)
 
 abbrev pub Path : Reader → List Marked → Reader → Type 0
 Path a [] b = a ≡ b
@@ -59,16 +60,16 @@ same (x ∷ m) (y ∷ n) a b c p q e =
 -- ---- what the run of the code is
 
 abbrev pub IsFaultAt : Code → Reader → List Sign → Type 0
-IsFaultAt E02 r [] = net_of r.spot ≡ None
+IsFaultAt E02 r [] = net_of r.state ≡ None
 IsFaultAt E02 r (x ∷ rest) = turn r x ≡ halts
 IsFaultAt E03 r (x ∷ rest) = (next : Reader) × (turn r x ≡ turns true next)
 IsFaultAt _ r rest = ⊥
 
 abbrev pub IsTrace : Reader → List Sign → Answer → Type 0
-IsTrace r s (reads source) = (last : Reader) × Path r (unmarked s) last × (whole last (net_of last.spot) ≡ reads source)
+IsTrace r s (reads source) = (last : Reader) × Path r (unmarked s) last × (whole last (net_of last.state) ≡ reads source)
 IsTrace r s (refused c rest) = (front : List Sign) × (s ≡ front ++ rest) × (last : Reader) × Path r (unmarked front) last × IsFaultAt c last rest
 
-at_end : (r : Reader) (n : Option _) → net_of r.spot ≡ n → IsTrace r [] (whole r n)
+at_end : (r : Reader) (n : Option _) → net_of r.state ≡ n → IsTrace r [] (whole r n)
 at_end r (Some n) e = (r, refl, ap (whole r) e)
 at_end r None e = ([], refl, r, refl, e)
 
@@ -78,19 +79,21 @@ one_more r next x s (refused c rest) e t = (x ∷ t.0, ap (λ z. x ∷ z) t.1, t
 
 abbrev pub along : Reader → Sign → List Sign → Move → Answer
 along r x s m = elim m as (λ m. Answer) [
-  | move.Goes p ↦ run (at_spot r p) s
+  | move.Goes p ↦ run (at_state r p) s
   | move.Types names ↦ run (with_types r names) s
   | move.Symbol y ↦ run (with_symbol r y) s
+  | move.Rule y ↦ run (with_rule r y) s
   | move.Refuses c ↦ refused c (x ∷ s)
 ]
 
-trace_step : (r : Reader) (x : Sign) (s : List Sign) → ((next : Reader) → IsTrace next s (run next s)) → (m : Step) → step r.spot x ≡ m → IsTrace r (x ∷ s) (along r x s (move_of m))
-trace_step r x s ih (goes false p) e = one_more r (at_spot r p) x s (run (at_spot r p) s) (ap (turn_of r) e) (ih (at_spot r p))
-trace_step r x s ih (goes true p) e = ([], refl, r, refl, (at_spot r p, ap (turn_of r) e))
+trace_step : (r : Reader) (x : Sign) (s : List Sign) → ((next : Reader) → IsTrace next s (run next s)) → (m : Step) → step (counts_of r) r.state x ≡ m → IsTrace r (x ∷ s) (along r x s (move_of m))
+trace_step r x s ih (goes false p) e = one_more r (at_state r p) x s (run (at_state r p) s) (ap (turn_of r) e) (ih (at_state r p))
+trace_step r x s ih (goes true p) e = ([], refl, r, refl, (at_state r p, ap (turn_of r) e))
 trace_step r x s ih (adds_types names) e = one_more r (with_types r names) x s (run (with_types r names) s) (ap (turn_of r) e) (ih (with_types r names))
 trace_step r x s ih (adds_symbol y) e = one_more r (with_symbol r y) x s (run (with_symbol r y) s) (ap (turn_of r) e) (ih (with_symbol r y))
+trace_step r x s ih (adds_rule y) e = one_more r (with_rule r y) x s (run (with_rule r y) s) (ap (turn_of r) e) (ih (with_rule r y))
 trace_step r x s ih stuck e = ([], refl, r, refl, ap (turn_of r) e)
 
 pub trace : (s : List Sign) (r : Reader) → IsTrace r s (run r s)
-trace [] r = at_end r (net_of r.spot) refl
-trace (x ∷ s) r = trace_step r x s (λ next. trace s next) (step r.spot x) refl
+trace [] r = at_end r (net_of r.state) refl
+trace (x ∷ s) r = trace_step r x s (λ next. trace s next) (step (counts_of r) r.state x) refl

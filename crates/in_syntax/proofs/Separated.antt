@@ -1,9 +1,10 @@
 -- Lists that grow at their end, and how they are spelled.
-use Rattle.std.proofs.Common.{◌≡◌, ℕ, ◌+◌, nat_lt, List, [], ◌∷◌, ◌++◌, length, map, refl, sym, ◌∙◌, ap, append_assoc, append-nil, arith}
+use Rattle.std.proofs.Common.{◌≡◌, ℕ, ◌+◌, List, [], ◌∷◌, ◌++◌, length, map, refl, sym, ◌∙◌, ap, append_assoc, append-nil, arith}
 use Rattle.std.specs.List.{flat_map}
+use Rattle.in_syntax.specs.declared.counts.Counts.{Counts}
 use Rattle.in_syntax.specs.declared.tree.SourcePort.{SourcePort}
 use Rattle.in_syntax.specs.declared.words.TokenKind.TheVariants as kind
-use Rattle.in_syntax.specs.Grammar.{Marked, plain, separated, spell_port, spell_ports, spell_class, spell_classes, max_ports, IsNonempty, Each}
+use Rattle.in_syntax.specs.Grammar.{Marked, plain, separated, numbered, spell_class, spell_classes, IsNonempty, Each, Item, counted, spell_item, spell_items}
 
 abbrev pub comma : Marked
 comma = plain kind.Comma
@@ -52,17 +53,17 @@ pub flat_snoc : {A B : Type 0} (f : A → List B) (l : List A) (a : A) → flat_
 flat_snoc f [] a = append-nil (f a)
 flat_snoc f (b ∷ l) a = ap (λ z. f b ++ z) (flat_snoc f l a) ∙ sym (append_assoc (f b) (flat_map f l) (f a))
 
--- ---- ports by their numbers
+-- ---- lists by their numbers
 
-pub ports_snoc : (number : ℕ) (c : List SourcePort) (p : SourcePort) → spell_ports number (c ++ p ∷ []) ≡ spell_ports number c ++ spell_port (nat_lt max_ports (number + length c)) p ∷ []
-ports_snoc number [] p = let e : number ≡ number + 0 = omega arith in ap (λ n. spell_port (nat_lt max_ports n) p ∷ []) e
-ports_snoc number (q ∷ c) p =
-    let e : (number + 1) + length c ≡ number + length (q ∷ c) = omega arith in
-    ap (λ z. spell_port (nat_lt max_ports number) q ∷ z) (ports_snoc (number + 1) c p ∙ ap (λ n. spell_ports (number + 1) c ++ spell_port (nat_lt max_ports n) p ∷ []) e)
+pub numbered_snoc : {A : Type 0} (f : ℕ → A → List Marked) (number : ℕ) (l : List A) (a : A) → numbered f number (l ++ a ∷ []) ≡ numbered f number l ++ f (number + length l) a ∷ []
+numbered_snoc f number [] a = let e : number ≡ number + 0 = omega arith in ap (λ n. f n a ∷ []) e
+numbered_snoc f number (b ∷ l) a =
+    let e : (number + 1) + length l ≡ number + length (b ∷ l) = omega arith in
+    ap (λ z. f number b ∷ z) (numbered_snoc f (number + 1) l a ∙ ap (λ n. numbered f (number + 1) l ++ f n a ∷ []) e)
 
-pub nonempty_ports : (number : ℕ) (c : List SourcePort) → IsNonempty c → IsNonempty (spell_ports number c)
-nonempty_ports number [] full = absurd full
-nonempty_ports number (p ∷ c) full = tt
+pub nonempty_numbered : {A : Type 0} (f : ℕ → A → List Marked) (number : ℕ) (l : List A) → IsNonempty l → IsNonempty (numbered f number l)
+nonempty_numbered f number [] full = absurd full
+nonempty_numbered f number (a ∷ l) full = tt
 
 -- the number of the first port after these classes
 abbrev pub ports_after : ℕ → List (List SourcePort) → ℕ
@@ -78,3 +79,19 @@ classes_snoc number [] c = append-nil (spell_class number c)
 classes_snoc number (d ∷ cs) c =
     ap (λ z. spell_class number d ++ z) (classes_snoc (number + length d) cs c)
     ∙ sym (append_assoc (spell_class number d) (spell_classes (number + length d) cs) (spell_class (ports_after (number + length d) cs) c))
+
+-- ---- items by what is declared before them
+
+abbrev pub counted_all : Counts → List Item → Counts
+counted_all c [] = c
+counted_all c (i ∷ more) = counted_all (counted c i) more
+
+pub counted_snoc : (c : Counts) (is : List Item) (i : Item) → counted_all c (is ++ i ∷ []) ≡ counted (counted_all c is) i
+counted_snoc c [] i = refl
+counted_snoc c (j ∷ is) i = counted_snoc (counted c j) is i
+
+pub items_snoc : (c : Counts) (is : List Item) (i : Item) → spell_items c (is ++ i ∷ []) ≡ spell_items c is ++ spell_item (counted_all c is) i
+items_snoc c [] i = append-nil (spell_item c i)
+items_snoc c (j ∷ is) i =
+    ap (λ z. spell_item c j ++ z) (items_snoc (counted c j) is i)
+    ∙ sym (append_assoc (spell_item c j) (spell_items (counted c j) is) (spell_item (counted_all (counted c j) is) i))

@@ -4,9 +4,13 @@ use Rattle.std.specs.List.{flat_map}
 use Rattle.in_syntax.specs.declared.words.TokenKind.TheVariants as kind
 use Rattle.in_syntax.specs.declared.signs.Sign.{Sign}
 use Rattle.in_syntax.specs.declared.signs.Sign.TheVariants.{Named, Tilde, Plain}
+use Rattle.in_syntax.specs.declared.counts.Counts.{Counts}
+use Rattle.in_syntax.specs.declared.places.Place.{Place}
 use Rattle.in_syntax.specs.declared.tree.Name.{Name}
 use Rattle.in_syntax.specs.declared.tree.SourcePort.{SourcePort}
 use Rattle.in_syntax.specs.declared.tree.SourceSymbol.{SourceSymbol}
+use Rattle.in_syntax.specs.declared.tree.SourceRule.{SourceRule}
+use Rattle.in_syntax.specs.declared.tree.Head.{Head}
 use Rattle.in_syntax.specs.declared.tree.SourceFree.{SourceFree}
 use Rattle.in_syntax.specs.declared.tree.SourceNet.{SourceNet}
 use Rattle.in_syntax.specs.declared.tree.Term.{Term, out-Term, roll-Term}
@@ -14,23 +18,22 @@ use Rattle.in_syntax.specs.declared.tree.Term.TheOpen.{Term-F}
 use Rattle.in_syntax.specs.declared.tree.Term.TheFolds.{fold_out-Term}
 use Rattle.in_syntax.specs.declared.tree.Term.TheViews.{out-roll-Term}
 use Rattle.in_syntax.specs.declared.reader.Reader.{Reader}
-use Rattle.in_syntax.specs.declared.spots.Spot.{Spot}
-use Rattle.in_syntax.specs.declared.spots.Spot.TheVariants as spot
-use Rattle.in_syntax.specs.declared.spots.PortOf.{PortOf}
-use Rattle.in_syntax.specs.declared.spots.PortOf.TheVariants.{Principal, Auxiliary, Free}
-use Rattle.in_syntax.specs.declared.spots.Side.{Side}
-use Rattle.in_syntax.specs.declared.spots.Side.TheVariants.{Left, Right}
-use Rattle.in_syntax.specs.declared.spots.Body.{Body}
-use Rattle.in_syntax.specs.Grammar.{Marked, marked, within, named, plain, separated, spell_port, spell_ports, spell_classes, spell_symbol, spell_types, spell_arguments, spell_level, spell_term, spell_equation, spell_free, spell_net, max_ports, max_depth, IsNonempty, Each, Item, types, symbol, spell_item, IsItem, types_in, symbols_in}
-use Rattle.in_syntax.specs.Steps.{Step, goes, adds_types, adds_symbol, stuck, at_item, at_type_name, at_type_end, at_symbol_name, at_symbol_colon, at_port_kind, after_port, at_port_sign, at_symbol_end, at_class_end, at_net_open, at_free_first, at_free_name, at_free_colon, at_free_end, at_body_open, at_equation, at_term_name, after_argument, after_side, after_term, at_term_end, at_term_open, step, at_spot, with_types, with_symbol, start}
-use Rattle.in_syntax.specs.Trees.{bare, with_argument}
-use Rattle.in_syntax.proofs.Separated.{comma, before, separated_snoc, before_is, nonempty_snoc, nonempty_map, each_append, map_snoc, flat_snoc, ports_snoc, nonempty_ports, ports_after, ports_after_snoc, classes_snoc}
+use Rattle.in_syntax.specs.declared.states.State.{State}
+use Rattle.in_syntax.specs.declared.states.State.TheVariants as state
+use Rattle.in_syntax.specs.declared.states.PortOf.{PortOf}
+use Rattle.in_syntax.specs.declared.states.PortOf.TheVariants.{Principal, Auxiliary, Free}
+use Rattle.in_syntax.specs.declared.states.HeadOf.{HeadOf}
+use Rattle.in_syntax.specs.declared.states.HeadOf.TheVariants.{First, Second}
+use Rattle.in_syntax.specs.declared.states.TermOf.{TermOf}
+use Rattle.in_syntax.specs.declared.states.TermOf.TheVariants.{Left, Right, Inside}
+use Rattle.in_syntax.specs.declared.states.Nest.{Nest}
+use Rattle.in_syntax.specs.Grammar.{Marked, marked, within, named, plain, separated, numbered, spell_port, spell_auxiliary, spell_classes, spell_symbol, spell_type, spell_types, spell_arguments, spell_level, spell_term, spell_outermost, spell_head, spell_rule, spell_equation, spell_free, spell_net, max_symbols, max_rules, max_free, max_ports, max_depth, IsNonempty, Each, Item, types, symbol, rule, none_yet, counted, spell_item, spell_items, IsItem, types_in, symbols_in, rules_in}
+use Rattle.in_syntax.specs.Steps.{Step, goes, adds_types, adds_symbol, adds_rule, stuck, at_item, at_type_name, at_type_end, at_symbol_name, at_symbol_colon, at_port_kind, after_port, at_port_sign, at_symbol_end, at_class_end, at_head_name, at_head_open, at_head_first, at_head_end, at_net_open, at_free_first, at_free_name, at_free_colon, at_free_end, at_body_open, at_equation, at_term_name, after_argument, after_left, after_right, after_head_term, after_outermost, after_term, at_term_end, at_term_open, step, at_state, with_types, with_symbol, with_rule, counts_of, start}
+use Rattle.in_syntax.specs.Trees.{bare, bare_head, with_argument}
+use Rattle.in_syntax.proofs.Separated.{comma, before, separated_snoc, before_is, nonempty_snoc, each_append, map_snoc, flat_snoc, numbered_snoc, nonempty_numbered, ports_after, ports_after_snoc, classes_snoc, counted_all, counted_snoc, items_snoc}
 use Rattle.in_syntax.proofs.Paths.{turns, turn_of, Path}
 
--- ---- what of an item or the net is read before a spot
-
-abbrev pub one : Name → List Marked
-one n = named n ∷ []
+-- ---- what of an item or the net is read before a state
 
 abbrev pub arguments_at : ℕ → List Term → List (List Marked)
 arguments_at depth ts = map (λ a. a depth) (map spell_term ts)
@@ -43,36 +46,54 @@ abbrev pub stacked : List Term → List Marked
 stacked [] = []
 stacked (t ∷ around) = stacked around ++ opened (length around + 1) t
 
-abbrev pub symbol_front : SourceSymbol → List Marked
-symbol_front s = plain kind.Symbol ∷ named s.name ∷ plain kind.Colon ∷ spell_port false s.port ++ spell_classes 1 s.classes
+abbrev pub types_front : Counts → List Name → List Marked
+types_front c names = plain kind.Type ∷ separated (numbered spell_type (c.types + 1) names)
+
+abbrev pub symbol_front : Counts → SourceSymbol → List Marked
+symbol_front c s =
+    plain kind.Symbol ∷ marked (nat_lt max_symbols (c.symbols + 1)) (Named s.name) ∷ plain kind.Colon ∷ spell_port false s.port ++ spell_classes 1 s.classes
+
+abbrev pub head_of_front : Counts → HeadOf → List Marked
+head_of_front c First = marked (nat_lt max_rules (c.rules + 1)) (Plain kind.Rule) ∷ []
+head_of_front c (Second h) = marked (nat_lt max_rules (c.rules + 1)) (Plain kind.Rule) ∷ spell_head h ++ plain kind.Meets ∷ []
+
+-- a head up to where its next term begins
+abbrev pub head_before : Counts → HeadOf → Head → List Marked
+head_before c o h = head_of_front c o ++ named h.name ∷ plain kind.OpenBracket ∷ before (map spell_outermost h.terms)
 
 abbrev pub frees_front : List (List Marked) → List Marked
 frees_front l = plain kind.Net ∷ plain kind.OpenParenthesis ∷ separated l
 
 abbrev pub frees_before : List SourceFree → List Marked
-frees_before fs = plain kind.Net ∷ plain kind.OpenParenthesis ∷ before (map spell_free fs)
+frees_before fs = plain kind.Net ∷ plain kind.OpenParenthesis ∷ before (numbered spell_free 1 fs)
+
+-- a free name after those before it
+abbrev pub free_name : List SourceFree → Name → Marked
+free_name fs n = marked (nat_lt max_free (1 + length fs)) (Named n)
 
 abbrev pub net_front : SourceNet → List Marked
-net_front n = frees_front (map spell_free n.free) ++ plain kind.CloseParenthesis ∷ plain kind.OpenBrace ∷ flat_map spell_equation n.equations
+net_front n = frees_front (numbered spell_free 1 n.free) ++ plain kind.CloseParenthesis ∷ plain kind.OpenBrace ∷ flat_map spell_equation n.equations
 
-abbrev pub side_front : Side → List Marked
-side_front Left = []
-side_front (Right l p) = spell_term l 1 ++ within (Tilde p) ∷ []
+-- what is read before a term and the terms that are open around it
+abbrev pub of_front : Counts → TermOf → List Marked
+of_front c (Left n) = net_front n
+of_front c (Right n l p) = net_front n ++ spell_term l 1 ++ within (Tilde p) ∷ []
+of_front c (Inside o h) = head_before c o h
 
-abbrev pub body_front : SourceNet → Side → List Term → List Marked
-body_front n side around = (net_front n ++ side_front side) ++ stacked around
+abbrev pub nest_front : Counts → Nest → List Marked
+nest_front c b = of_front c b.of ++ stacked b.around
 
 -- the number of the port after these
 abbrev pub next_port : SourceSymbol → List SourcePort → ℕ
 next_port s c = ports_after 1 s.classes + length c
 
-abbrev pub class_before : SourceSymbol → List SourcePort → List Marked
-class_before s c = symbol_front s ++ plain kind.OpenBrace ∷ before (spell_ports (ports_after 1 s.classes) c)
+abbrev pub class_before : Counts → SourceSymbol → List SourcePort → List Marked
+class_before k s c = symbol_front k s ++ plain kind.OpenBrace ∷ before (numbered spell_auxiliary (ports_after 1 s.classes) c)
 
-abbrev pub port_front : PortOf → List Marked
-port_front (Principal n) = plain kind.Symbol ∷ named n ∷ plain kind.Colon ∷ []
-port_front (Auxiliary s c number) = class_before s c
-port_front (Free fs n) = frees_before fs ++ named n ∷ plain kind.Colon ∷ []
+abbrev pub port_front : Counts → PortOf → List Marked
+port_front k (Principal n) = plain kind.Symbol ∷ marked (nat_lt max_symbols (k.symbols + 1)) (Named n) ∷ plain kind.Colon ∷ []
+port_front k (Auxiliary s c number) = class_before k s c
+port_front k (Free fs n) = frees_before fs ++ free_name fs n ∷ plain kind.Colon ∷ []
 
 -- whether the port that is written passes the limit
 abbrev pub port_past : PortOf → Bool
@@ -80,27 +101,31 @@ port_past (Principal n) = false
 port_past (Auxiliary s c number) = nat_lt max_ports (next_port s c)
 port_past (Free fs n) = false
 
-abbrev pub spelled : Spot → List Marked
-spelled spot.Item = []
-spelled (spot.TypeName names) = plain kind.Type ∷ before (map one names)
-spelled (spot.TypeEnd names) = plain kind.Type ∷ separated (map one names)
-spelled spot.SymbolName = plain kind.Symbol ∷ []
-spelled (spot.SymbolColon n) = plain kind.Symbol ∷ named n ∷ []
-spelled (spot.PortKind o) = port_front o
-spelled (spot.PortSign o k) = port_front o ++ marked (port_past o) (Named k) ∷ []
-spelled (spot.SymbolEnd s number) = symbol_front s
-spelled (spot.ClassEnd s c number) = symbol_front s ++ plain kind.OpenBrace ∷ separated (spell_ports (ports_after 1 s.classes) c)
-spelled spot.NetOpen = plain kind.Net ∷ []
-spelled spot.FreeFirst = plain kind.Net ∷ plain kind.OpenParenthesis ∷ []
-spelled (spot.FreeName fs) = frees_before fs
-spelled (spot.FreeColon fs n) = frees_before fs ++ named n ∷ []
-spelled (spot.FreeEnd fs) = frees_front (map spell_free fs)
-spelled (spot.BodyOpen fs) = frees_front (map spell_free fs) ++ plain kind.CloseParenthesis ∷ []
-spelled (spot.Equation n) = net_front n
-spelled (spot.TermName b) = body_front b.net b.side b.around
-spelled (spot.TermOpen b n) = body_front b.net b.side b.around ++ marked (nat_lt max_depth (length b.around + 1)) (Named n) ∷ []
-spelled (spot.TermEnd b t) = body_front b.net b.side b.around ++ spell_term t (length b.around + 1)
-spelled (spot.Done n) = spell_net n
+abbrev pub spelled : Counts → State → List Marked
+spelled k state.Item = []
+spelled k (state.TypeName names) = plain kind.Type ∷ before (numbered spell_type (k.types + 1) names)
+spelled k (state.TypeEnd names) = types_front k names
+spelled k state.SymbolName = plain kind.Symbol ∷ []
+spelled k (state.SymbolColon n) = plain kind.Symbol ∷ marked (nat_lt max_symbols (k.symbols + 1)) (Named n) ∷ []
+spelled k (state.PortKind o) = port_front k o
+spelled k (state.PortSign o n) = port_front k o ++ marked (port_past o) (Named n) ∷ []
+spelled k (state.SymbolEnd s number) = symbol_front k s
+spelled k (state.ClassEnd s c number) = symbol_front k s ++ plain kind.OpenBrace ∷ separated (numbered spell_auxiliary (ports_after 1 s.classes) c)
+spelled k (state.HeadName o) = head_of_front k o
+spelled k (state.HeadOpen o n) = head_of_front k o ++ named n ∷ []
+spelled k (state.HeadFirst o n) = head_of_front k o ++ named n ∷ plain kind.OpenBracket ∷ []
+spelled k (state.HeadEnd o h) = head_of_front k o ++ spell_head h
+spelled k state.NetOpen = plain kind.Net ∷ []
+spelled k state.FreeFirst = plain kind.Net ∷ plain kind.OpenParenthesis ∷ []
+spelled k (state.FreeName fs) = frees_before fs
+spelled k (state.FreeColon fs n) = frees_before fs ++ free_name fs n ∷ []
+spelled k (state.FreeEnd fs) = frees_front (numbered spell_free 1 fs)
+spelled k (state.BodyOpen fs) = frees_front (numbered spell_free 1 fs) ++ plain kind.CloseParenthesis ∷ []
+spelled k (state.Equation n) = net_front n
+spelled k (state.TermName b) = nest_front k b
+spelled k (state.TermOpen b n) = nest_front k b ++ marked (nat_lt max_depth (length b.around + 1)) (Named n) ∷ []
+spelled k (state.TermEnd b t) = nest_front k b ++ spell_term t (length b.around + 1)
+spelled k (state.Done n) = spell_net n
 
 -- lists that have an element, and the numbers of ports
 abbrev pub IsFullPort : PortOf → Type 0
@@ -113,140 +138,178 @@ IsFullSign (Principal n) = Unit {0}
 IsFullSign (Auxiliary s c number) = Each IsNonempty s.classes × (number ≡ next_port s c + 1)
 IsFullSign (Free fs n) = Unit {0}
 
-abbrev pub IsFull : Spot → Type 0
-IsFull (spot.TypeEnd names) = IsNonempty names
-IsFull (spot.PortKind o) = IsFullPort o
-IsFull (spot.PortSign o k) = IsFullSign o
-IsFull (spot.SymbolEnd s number) = Each IsNonempty s.classes × (number ≡ ports_after 1 s.classes)
-IsFull (spot.ClassEnd s c number) = Each IsNonempty s.classes × IsNonempty c × (number ≡ next_port s c)
-IsFull (spot.FreeEnd fs) = IsNonempty fs
+abbrev pub IsFull : State → Type 0
+IsFull (state.TypeEnd names) = IsNonempty names
+IsFull (state.PortKind o) = IsFullPort o
+IsFull (state.PortSign o k) = IsFullSign o
+IsFull (state.SymbolEnd s number) = Each IsNonempty s.classes × (number ≡ ports_after 1 s.classes)
+IsFull (state.ClassEnd s c number) = Each IsNonempty s.classes × IsNonempty c × (number ≡ next_port s c)
+IsFull (state.FreeEnd fs) = IsNonempty fs
 IsFull _ = Unit {0}
 
--- what a step from a spot has to keep
-abbrev pub KeepsAll : List Marked → Sign → Step → Type 0
-KeepsAll l x (goes past q) = IsFull q × (spelled q ≡ l ++ marked past x ∷ [])
-KeepsAll l x (adds_types names) = IsNonempty names × (spell_types names ≡ l ++ within x ∷ [])
-KeepsAll l x (adds_symbol s) = Each IsNonempty s.classes × (spell_symbol s ≡ l ++ within x ∷ [])
-KeepsAll l x stuck = Unit {0}
+-- what a step from a state has to keep
+abbrev pub KeepsAll : Counts → List Marked → Sign → Step → Type 0
+KeepsAll k l x (goes past q) = IsFull q × (spelled k q ≡ l ++ marked past x ∷ [])
+KeepsAll k l x (adds_types names) = IsNonempty names × (spell_types (k.types + 1) names ≡ l ++ within x ∷ [])
+KeepsAll k l x (adds_symbol s) = Each IsNonempty s.classes × (spell_symbol (k.symbols + 1) s ≡ l ++ within x ∷ [])
+KeepsAll k l x (adds_rule y) = spell_rule (k.rules + 1) y ≡ l ++ within x ∷ []
+KeepsAll k l x stuck = Unit {0}
 
-abbrev pub Keeps : Spot → Sign → Step → Type 0
-Keeps p = KeepsAll (spelled p)
+abbrev pub Keeps : Counts → State → Sign → Step → Type 0
+Keeps k p = KeepsAll k (spelled k p)
 
 -- ---- items
 
-keeps_item : (x : Sign) → Keeps spot.Item x (at_item x)
-keeps_item (Plain kind.Type) = (tt, refl)
-keeps_item (Plain kind.Symbol) = (tt, refl)
-keeps_item (Plain kind.Net) = (tt, refl)
-keeps_item _ = tt
+keeps_item : (k : Counts) (x : Sign) → Keeps k state.Item x (at_item k x)
+keeps_item k (Plain kind.Type) = (tt, refl)
+keeps_item k (Plain kind.Symbol) = (tt, refl)
+keeps_item k (Plain kind.Rule) = (tt, refl)
+keeps_item k (Plain kind.Net) = (tt, refl)
+keeps_item k _ = tt
 
-keeps_type_name : (names : List Name) (x : Sign) → Keeps (spot.TypeName names) x (at_type_name names x)
-keeps_type_name names (Named n) =
-    (nonempty_snoc names n, ap (λ z. plain kind.Type ∷ z) (ap separated (map_snoc one names n) ∙ separated_snoc (map one names) (one n)))
-keeps_type_name names _ = tt
+keeps_type_name : (k : Counts) (names : List Name) (x : Sign) → Keeps k (state.TypeName names) x (at_type_name k names x)
+keeps_type_name k names (Named n) = (
+  nonempty_snoc names n,
+  ap (λ z. plain kind.Type ∷ z)
+      (ap separated (numbered_snoc spell_type (k.types + 1) names n)
+      ∙ separated_snoc (numbered spell_type (k.types + 1) names) (spell_type ((k.types + 1) + length names) n)),
+)
+keeps_type_name k names _ = tt
 
-keeps_type_end : (names : List Name) (x : Sign) → IsNonempty names → Keeps (spot.TypeEnd names) x (at_type_end names x)
-keeps_type_end names (Plain kind.Comma) full = (tt, ap (λ z. plain kind.Type ∷ z) (before_is (map one names) (nonempty_map one names full)))
-keeps_type_end names (Plain kind.Semicolon) full = (full, refl)
-keeps_type_end names _ full = tt
+keeps_type_end : (k : Counts) (names : List Name) (x : Sign) → IsNonempty names → Keeps k (state.TypeEnd names) x (at_type_end names x)
+keeps_type_end k names (Plain kind.Comma) full =
+    (tt, ap (λ z. plain kind.Type ∷ z) (before_is (numbered spell_type (k.types + 1) names) (nonempty_numbered spell_type (k.types + 1) names full)))
+keeps_type_end k names (Plain kind.Semicolon) full = (full, refl)
+keeps_type_end k names _ full = tt
 
-keeps_symbol_name : (x : Sign) → Keeps spot.SymbolName x (at_symbol_name x)
-keeps_symbol_name (Named n) = (tt, refl)
-keeps_symbol_name _ = tt
+keeps_symbol_name : (k : Counts) (x : Sign) → Keeps k state.SymbolName x (at_symbol_name k x)
+keeps_symbol_name k (Named n) = (tt, refl)
+keeps_symbol_name k _ = tt
 
-keeps_symbol_colon : (n : Name) (x : Sign) → Keeps (spot.SymbolColon n) x (at_symbol_colon n x)
-keeps_symbol_colon n (Plain kind.Colon) = (tt, refl)
-keeps_symbol_colon n _ = tt
+keeps_symbol_colon : (k : Counts) (n : Name) (x : Sign) → Keeps k (state.SymbolColon n) x (at_symbol_colon n x)
+keeps_symbol_colon k n (Plain kind.Colon) = (tt, refl)
+keeps_symbol_colon k n _ = tt
 
-keeps_kind : (o : PortOf) (k : Name) → IsFullPort o → Keeps (spot.PortKind o) (Named k) (at_port_kind o (Named k))
-keeps_kind (Principal n) k full = (tt, refl)
-keeps_kind (Auxiliary s c number) k full =
-    ((full.0, ap (λ z. z + 1) full.1), ap (λ z. class_before s c ++ marked (nat_lt max_ports z) (Named k) ∷ []) (sym full.1))
-keeps_kind (Free fs n) k full = (tt, refl)
+keeps_kind : (k : Counts) (o : PortOf) (n : Name) → IsFullPort o → Keeps k (state.PortKind o) (Named n) (at_port_kind o (Named n))
+keeps_kind k (Principal m) n full = (tt, refl)
+keeps_kind k (Auxiliary s c number) n full =
+    ((full.0, ap (λ z. z + 1) full.1), ap (λ z. class_before k s c ++ marked (nat_lt max_ports z) (Named n) ∷ []) (sym full.1))
+keeps_kind k (Free fs m) n full = (tt, refl)
 
-keeps_port_kind : (o : PortOf) (x : Sign) → IsFullPort o → Keeps (spot.PortKind o) x (at_port_kind o x)
-keeps_port_kind o (Named k) full = keeps_kind o k full
-keeps_port_kind o _ full = tt
+keeps_port_kind : (k : Counts) (o : PortOf) (x : Sign) → IsFullPort o → Keeps k (state.PortKind o) x (at_port_kind o x)
+keeps_port_kind k o (Named n) full = keeps_kind k o n full
+keeps_port_kind k o _ full = tt
 
 -- a port is whole
-abbrev whole_port : PortOf → SourcePort → List Marked
-whole_port o p = port_front o ++ spell_port (port_past o) p
+abbrev whole_port : Counts → PortOf → SourcePort → List Marked
+whole_port k o p = port_front k o ++ spell_port (port_past o) p
 
-keeps_after_port : (o : PortOf) (p : SourcePort) → IsFullSign o → IsFull (after_port o p) × (spelled (after_port o p) ≡ whole_port o p)
-keeps_after_port (Principal n) p full = ((tt, refl), append-nil _)
-keeps_after_port (Auxiliary s c number) p full = (
+keeps_after_port : (k : Counts) (o : PortOf) (p : SourcePort) → IsFullSign o → IsFull (after_port o p) × (spelled k (after_port o p) ≡ whole_port k o p)
+keeps_after_port k (Principal n) p full = ((tt, refl), append-nil _)
+keeps_after_port k (Auxiliary s c number) p full = (
   (full.0, nonempty_snoc c p, omega (arith, length-append c (p ∷ []))),
-  ap (λ z. symbol_front s ++ plain kind.OpenBrace ∷ z)
-      (ap separated (ports_snoc (ports_after 1 s.classes) c p) ∙ separated_snoc (spell_ports (ports_after 1 s.classes) c) (spell_port (nat_lt max_ports (next_port s c)) p))
+  ap (λ z. symbol_front k s ++ plain kind.OpenBrace ∷ z)
+      (ap separated (numbered_snoc spell_auxiliary (ports_after 1 s.classes) c p)
+      ∙ separated_snoc (numbered spell_auxiliary (ports_after 1 s.classes) c) (spell_auxiliary (next_port s c) p))
       ∙ simp append_assoc,
 )
-keeps_after_port (Free fs n) p full = (
+keeps_after_port k (Free fs n) p full = (
   nonempty_snoc fs (record { name = n; port = p }),
   ap (λ z. plain kind.Net ∷ plain kind.OpenParenthesis ∷ z)
-      (ap separated (map_snoc spell_free fs (record { name = n; port = p })) ∙ separated_snoc (map spell_free fs) (spell_free (record { name = n; port = p })))
+      (ap separated (numbered_snoc spell_free 1 fs (record { name = n; port = p }))
+      ∙ separated_snoc (numbered spell_free 1 fs) (spell_free (1 + length fs) (record { name = n; port = p })))
       ∙ simp append_assoc,
 )
 
-keeps_port_sign : (o : PortOf) (k : Name) (x : Sign) → IsFullSign o → Keeps (spot.PortSign o k) x (at_port_sign o k x)
-keeps_port_sign o k (Plain kind.Plus) full =
-    let kept = keeps_after_port o (record { kind = k; output = true }) full in
-    (kept.0, kept.1 ∙ sym (append_assoc (port_front o) (marked (port_past o) (Named k) ∷ []) (plain kind.Plus ∷ [])))
-keeps_port_sign o k (Plain kind.Minus) full =
-    let kept = keeps_after_port o (record { kind = k; output = false }) full in
-    (kept.0, kept.1 ∙ sym (append_assoc (port_front o) (marked (port_past o) (Named k) ∷ []) (plain kind.Minus ∷ [])))
-keeps_port_sign o k _ full = tt
+keeps_port_sign : (k : Counts) (o : PortOf) (n : Name) (x : Sign) → IsFullSign o → Keeps k (state.PortSign o n) x (at_port_sign o n x)
+keeps_port_sign k o n (Plain kind.Plus) full =
+    let kept = keeps_after_port k o (record { kind = n; output = true }) full in
+    (kept.0, kept.1 ∙ sym (append_assoc (port_front k o) (marked (port_past o) (Named n) ∷ []) (plain kind.Plus ∷ [])))
+keeps_port_sign k o n (Plain kind.Minus) full =
+    let kept = keeps_after_port k o (record { kind = n; output = false }) full in
+    (kept.0, kept.1 ∙ sym (append_assoc (port_front k o) (marked (port_past o) (Named n) ∷ []) (plain kind.Minus ∷ [])))
+keeps_port_sign k o n _ full = tt
 
-keeps_symbol_end : (s : SourceSymbol) (number : ℕ) (x : Sign) → IsFull (spot.SymbolEnd s number) → Keeps (spot.SymbolEnd s number) x (at_symbol_end s number x)
-keeps_symbol_end s number (Plain kind.OpenBrace) full = ((full.0, full.1 ∙ omega arith), refl)
-keeps_symbol_end s number (Plain kind.Semicolon) full = (full.0, refl)
-keeps_symbol_end s number _ full = tt
+keeps_symbol_end : (k : Counts) (s : SourceSymbol) (number : ℕ) (x : Sign) → IsFull (state.SymbolEnd s number) → Keeps k (state.SymbolEnd s number) x (at_symbol_end s number x)
+keeps_symbol_end k s number (Plain kind.OpenBrace) full = ((full.0, full.1 ∙ omega arith), refl)
+keeps_symbol_end k s number (Plain kind.Semicolon) full = (full.0, refl)
+keeps_symbol_end k s number _ full = tt
 
-keeps_class_end : (s : SourceSymbol) (c : List SourcePort) (number : ℕ) (x : Sign) → IsFull (spot.ClassEnd s c number) → Keeps (spot.ClassEnd s c number) x (at_class_end s c number x)
-keeps_class_end s c number (Plain kind.Comma) full = (
+keeps_class_end : (k : Counts) (s : SourceSymbol) (c : List SourcePort) (number : ℕ) (x : Sign) → IsFull (state.ClassEnd s c number) →
+    Keeps k (state.ClassEnd s c number) x (at_class_end s c number x)
+keeps_class_end k s c number (Plain kind.Comma) full = (
   (full.0, full.2),
-  ap (λ z. symbol_front s ++ plain kind.OpenBrace ∷ z) (before_is (spell_ports (ports_after 1 s.classes) c) (nonempty_ports (ports_after 1 s.classes) c full.1))
+  ap (λ z. symbol_front k s ++ plain kind.OpenBrace ∷ z)
+      (before_is (numbered spell_auxiliary (ports_after 1 s.classes) c) (nonempty_numbered spell_auxiliary (ports_after 1 s.classes) c full.1))
       ∙ simp append_assoc,
 )
-keeps_class_end s c number (Plain kind.CloseBrace) full = (
+keeps_class_end k s c number (Plain kind.CloseBrace) full = (
   (each_append IsNonempty s.classes (c ∷ []) full.0 (full.1, tt), full.2 ∙ sym (ports_after_snoc 1 s.classes c)),
-  ap (λ z. plain kind.Symbol ∷ named s.name ∷ plain kind.Colon ∷ spell_port false s.port ++ z) (classes_snoc 1 s.classes c)
+  ap (λ z. plain kind.Symbol ∷ marked (nat_lt max_symbols (k.symbols + 1)) (Named s.name) ∷ plain kind.Colon ∷ spell_port false s.port ++ z) (classes_snoc 1 s.classes c)
       ∙ simp append_assoc,
 )
-keeps_class_end s c number _ full = tt
+keeps_class_end k s c number _ full = tt
+
+-- ---- rules
+
+keeps_head_name : (k : Counts) (o : HeadOf) (x : Sign) → Keeps k (state.HeadName o) x (at_head_name o x)
+keeps_head_name k o (Named n) = (tt, refl)
+keeps_head_name k o _ = tt
+
+keeps_head_open : (k : Counts) (o : HeadOf) (n : Name) (x : Sign) → Keeps k (state.HeadOpen o n) x (at_head_open o n x)
+keeps_head_open k o n (Plain kind.OpenBracket) = (tt, sym (append_assoc (head_of_front k o) (named n ∷ []) (plain kind.OpenBracket ∷ [])))
+keeps_head_open k o n _ = tt
+
+keeps_head_first : (k : Counts) (o : HeadOf) (n : Name) (x : Sign) → Keeps k (state.HeadFirst o n) x (at_head_first o n x)
+keeps_head_first k o n (Named m) =
+    (tt, ap (λ z. z ++ named m ∷ []) (append-nil (head_before k o (bare_head n))))
+keeps_head_first k o n (Plain kind.CloseBracket) =
+    (tt, sym (append_assoc (head_of_front k o) (named n ∷ plain kind.OpenBracket ∷ []) (plain kind.CloseBracket ∷ [])))
+keeps_head_first k o n _ = tt
+
+keeps_head_end : (k : Counts) (o : HeadOf) (h : Head) (x : Sign) → Keeps k (state.HeadEnd o h) x (at_head_end o h x)
+keeps_head_end k First h (Plain kind.Meets) = (tt, refl)
+keeps_head_end k (Second f) h (Plain kind.Semicolon) =
+    ap (λ z. marked (nat_lt max_rules (k.rules + 1)) (Plain kind.Rule) ∷ z) (regroup_rule (spell_head f) (plain kind.Meets ∷ []) (spell_head h) (plain kind.Semicolon ∷ []))
+  where
+    regroup_rule : (a b c d : List Marked) → (a ++ (b ++ c)) ++ d ≡ ((a ++ b) ++ c) ++ d
+    regroup_rule a b c d = simp append_assoc
+keeps_head_end k First h _ = tt
+keeps_head_end k (Second f) h _ = tt
 
 -- ---- the net
 
-keeps_net_open : (x : Sign) → Keeps spot.NetOpen x (at_net_open x)
-keeps_net_open (Plain kind.OpenParenthesis) = (tt, refl)
-keeps_net_open _ = tt
+keeps_net_open : (k : Counts) (x : Sign) → Keeps k state.NetOpen x (at_net_open x)
+keeps_net_open k (Plain kind.OpenParenthesis) = (tt, refl)
+keeps_net_open k _ = tt
 
-keeps_free_first : (x : Sign) → Keeps spot.FreeFirst x (at_free_first x)
-keeps_free_first (Named n) = (tt, refl)
-keeps_free_first (Plain kind.CloseParenthesis) = (tt, refl)
-keeps_free_first _ = tt
+keeps_free_first : (k : Counts) (x : Sign) → Keeps k state.FreeFirst x (at_free_first x)
+keeps_free_first k (Named n) = (tt, refl)
+keeps_free_first k (Plain kind.CloseParenthesis) = (tt, refl)
+keeps_free_first k _ = tt
 
-keeps_free_name : (fs : List SourceFree) (x : Sign) → Keeps (spot.FreeName fs) x (at_free_name fs x)
-keeps_free_name fs (Named n) = (tt, refl)
-keeps_free_name fs _ = tt
+keeps_free_name : (k : Counts) (fs : List SourceFree) (x : Sign) → Keeps k (state.FreeName fs) x (at_free_name fs x)
+keeps_free_name k fs (Named n) = (tt, refl)
+keeps_free_name k fs _ = tt
 
-keeps_free_colon : (fs : List SourceFree) (n : Name) (x : Sign) → Keeps (spot.FreeColon fs n) x (at_free_colon fs n x)
-keeps_free_colon fs n (Plain kind.Colon) = (tt, simp append_assoc)
-keeps_free_colon fs n _ = tt
+keeps_free_colon : (k : Counts) (fs : List SourceFree) (n : Name) (x : Sign) → Keeps k (state.FreeColon fs n) x (at_free_colon fs n x)
+keeps_free_colon k fs n (Plain kind.Colon) = (tt, simp append_assoc)
+keeps_free_colon k fs n _ = tt
 
-keeps_free_end : (fs : List SourceFree) (x : Sign) → IsNonempty fs → Keeps (spot.FreeEnd fs) x (at_free_end fs x)
-keeps_free_end fs (Plain kind.Comma) full =
-    (tt, ap (λ z. plain kind.Net ∷ plain kind.OpenParenthesis ∷ z) (before_is (map spell_free fs) (nonempty_map spell_free fs full)))
-keeps_free_end fs (Plain kind.CloseParenthesis) full = (tt, refl)
-keeps_free_end fs _ full = tt
+keeps_free_end : (k : Counts) (fs : List SourceFree) (x : Sign) → IsNonempty fs → Keeps k (state.FreeEnd fs) x (at_free_end fs x)
+keeps_free_end k fs (Plain kind.Comma) full =
+    (tt, ap (λ z. plain kind.Net ∷ plain kind.OpenParenthesis ∷ z) (before_is (numbered spell_free 1 fs) (nonempty_numbered spell_free 1 fs full)))
+keeps_free_end k fs (Plain kind.CloseParenthesis) full = (tt, refl)
+keeps_free_end k fs _ full = tt
 
-keeps_body_open : (fs : List SourceFree) (x : Sign) → Keeps (spot.BodyOpen fs) x (at_body_open fs x)
-keeps_body_open fs (Plain kind.OpenBrace) = (tt, simp append_assoc)
-keeps_body_open fs _ = tt
+keeps_body_open : (k : Counts) (fs : List SourceFree) (x : Sign) → Keeps k (state.BodyOpen fs) x (at_body_open fs x)
+keeps_body_open k fs (Plain kind.OpenBrace) = (tt, simp append_assoc)
+keeps_body_open k fs _ = tt
 
-keeps_equation : (n : SourceNet) (x : Sign) → Keeps (spot.Equation n) x (at_equation n x)
-keeps_equation n (Named m) = (tt, ap (λ z. z ++ named m ∷ []) (append-nil (net_front n ++ []) ∙ append-nil (net_front n)))
-keeps_equation n (Plain kind.CloseBrace) = (tt, simp append_assoc)
-keeps_equation n _ = tt
+keeps_equation : (k : Counts) (n : SourceNet) (x : Sign) → Keeps k (state.Equation n) x (at_equation n x)
+keeps_equation k n (Named m) = (tt, ap (λ z. z ++ named m ∷ []) (append-nil (net_front n)))
+keeps_equation k n (Plain kind.CloseBrace) = (tt, simp append_assoc)
+keeps_equation k n _ = tt
 
 -- ---- terms
 
@@ -290,9 +353,9 @@ opened_bare depth n = opened_roll depth (record { name = n; args = [] })
 pub spell_bare : (depth : ℕ) (n : Name) → spell_term (bare n) depth ≡ marked (nat_lt max_depth depth) (Named n) ∷ []
 spell_bare depth n = spell_roll depth (record { name = n; args = [] })
 
-keeps_term_name : (b : Body) (x : Sign) → Keeps (spot.TermName b) x (at_term_name b x)
-keeps_term_name b (Named n) = (tt, refl)
-keeps_term_name b _ = tt
+keeps_term_name : (k : Counts) (b : Nest) (x : Sign) → Keeps k (state.TermName b) x (at_term_name b x)
+keeps_term_name k b (Named n) = (tt, refl)
+keeps_term_name k b _ = tt
 
 -- an argument is one deeper than its agent
 one_deeper : (outer : Term) (around : List Term) → (length around + 1) + 1 ≡ length (outer ∷ around) + 1
@@ -304,118 +367,174 @@ regroup_more f s o a c = simp append_assoc
 regroup_closed : (f s o a c : List Marked) → (f ++ s) ++ (o ++ (a ++ c)) ≡ ((f ++ (s ++ o)) ++ a) ++ c
 regroup_closed f s o a c = simp append_assoc
 
-regroup_equation : (f o e l c t d : List Marked) → f ++ (o ++ (e ++ ((l ++ (c ++ t)) ++ d))) ≡ (((f ++ (o ++ e)) ++ (l ++ c)) ++ t) ++ d
+regroup_equation : (f o e l c t d : List Marked) → f ++ (o ++ (e ++ ((l ++ (c ++ t)) ++ d))) ≡ ((((f ++ (o ++ e)) ++ l) ++ c) ++ t) ++ d
 regroup_equation f o e l c t d = simp append_assoc
 
-keeps_after_argument : (n : SourceNet) (side : Side) (around : List Term) (outer t : Term) (x : Sign) →
-    Keeps (spot.TermEnd (record { net = n; side = side; around = outer ∷ around }) t) x (after_argument n side around outer t x)
-keeps_after_argument n side around outer t (Plain kind.Comma) = (
+keeps_after_argument : (k : Counts) (of : TermOf) (around : List Term) (outer t : Term) (x : Sign) →
+    Keeps k (state.TermEnd (record { of = of; around = outer ∷ around }) t) x (after_argument of around outer t x)
+keeps_after_argument k of around outer t (Plain kind.Comma) = (
   tt,
-  ap (λ z. (net_front n ++ side_front side) ++ (stacked around ++ z)) (opened_more (length around + 1) outer t)
-      ∙ ap (λ d. (net_front n ++ side_front side) ++ (stacked around ++ (opened (length around + 1) outer ++ (spell_term t d ++ comma ∷ [])))) (one_deeper outer around)
-      ∙ regroup_more (net_front n ++ side_front side) (stacked around) (opened (length around + 1) outer) (spell_term t (length (outer ∷ around) + 1)) (comma ∷ []),
+  ap (λ z. of_front k of ++ (stacked around ++ z)) (opened_more (length around + 1) outer t)
+      ∙ ap (λ d. of_front k of ++ (stacked around ++ (opened (length around + 1) outer ++ (spell_term t d ++ comma ∷ [])))) (one_deeper outer around)
+      ∙ regroup_more (of_front k of) (stacked around) (opened (length around + 1) outer) (spell_term t (length (outer ∷ around) + 1)) (comma ∷ []),
 )
-keeps_after_argument n side around outer t (Plain kind.CloseParenthesis) = (
+keeps_after_argument k of around outer t (Plain kind.CloseParenthesis) = (
   tt,
-  ap (λ z. ((net_front n ++ side_front side) ++ stacked around) ++ z) (closed_one (length around + 1) outer t)
-      ∙ ap (λ d. ((net_front n ++ side_front side) ++ stacked around) ++ (opened (length around + 1) outer ++ (spell_term t d ++ plain kind.CloseParenthesis ∷ []))) (one_deeper outer around)
-      ∙ regroup_closed (net_front n ++ side_front side) (stacked around) (opened (length around + 1) outer) (spell_term t (length (outer ∷ around) + 1)) (plain kind.CloseParenthesis ∷ []),
+  ap (λ z. (of_front k of ++ stacked around) ++ z) (closed_one (length around + 1) outer t)
+      ∙ ap (λ d. (of_front k of ++ stacked around) ++ (opened (length around + 1) outer ++ (spell_term t d ++ plain kind.CloseParenthesis ∷ []))) (one_deeper outer around)
+      ∙ regroup_closed (of_front k of) (stacked around) (opened (length around + 1) outer) (spell_term t (length (outer ∷ around) + 1)) (plain kind.CloseParenthesis ∷ []),
 )
-keeps_after_argument n side around outer t _ = tt
+keeps_after_argument k of around outer t _ = tt
 
-no_more : (l : List Marked) → (l ++ []) ++ [] ≡ l
-no_more l = append-nil (l ++ []) ∙ append-nil l
-
-keeps_after_side : (n : SourceNet) (side : Side) (t : Term) (x : Sign) → Keeps (spot.TermEnd (record { net = n; side = side; around = [] }) t) x (after_side n side t x)
-keeps_after_side n Left t (Tilde p) = (
+keeps_after_left : (k : Counts) (n : SourceNet) (t : Term) (x : Sign) → Keeps k (state.TermEnd (record { of = Left n; around = [] }) t) x (after_left n t x)
+keeps_after_left k n t (Tilde p) = (
   tt,
-  append-nil (net_front n ++ (spell_term t 1 ++ within (Tilde p) ∷ []))
-      ∙ sym (append_assoc (net_front n) (spell_term t 1) (within (Tilde p) ∷ []))
-      ∙ ap (λ z. (z ++ spell_term t 1) ++ within (Tilde p) ∷ []) (sym (no_more (net_front n))),
+  append-nil ((net_front n ++ spell_term t 1) ++ within (Tilde p) ∷ [])
+      ∙ ap (λ z. (z ++ spell_term t 1) ++ within (Tilde p) ∷ []) (sym (append-nil (net_front n))),
 )
-keeps_after_side n (Right l p) t (Plain kind.Semicolon) = (
+keeps_after_left k n t _ = tt
+
+keeps_after_right : (k : Counts) (n : SourceNet) (l : Term) (p : Place) (t : Term) (x : Sign) →
+    Keeps k (state.TermEnd (record { of = Right n l p; around = [] }) t) x (after_right n l p t x)
+keeps_after_right k n l p t (Plain kind.Semicolon) = (
   tt,
-  ap (λ z. frees_front (map spell_free n.free) ++ plain kind.CloseParenthesis ∷ plain kind.OpenBrace ∷ z)
+  ap (λ z. frees_front (numbered spell_free 1 n.free) ++ plain kind.CloseParenthesis ∷ plain kind.OpenBrace ∷ z)
       (flat_snoc spell_equation n.equations (record { left = l; tilde = p; right = t }))
-      ∙ regroup_equation (frees_front (map spell_free n.free)) (plain kind.CloseParenthesis ∷ plain kind.OpenBrace ∷ []) (flat_map spell_equation n.equations) (spell_term l 1) (within (Tilde p) ∷ []) (spell_term t 1) (plain kind.Semicolon ∷ [])
-      ∙ ap (λ z. (z ++ spell_term t 1) ++ plain kind.Semicolon ∷ []) (sym (append-nil (net_front n ++ (spell_term l 1 ++ within (Tilde p) ∷ [])))),
+      ∙ regroup_equation (frees_front (numbered spell_free 1 n.free)) (plain kind.CloseParenthesis ∷ plain kind.OpenBrace ∷ []) (flat_map spell_equation n.equations) (spell_term l 1) (within (Tilde p) ∷ []) (spell_term t 1) (plain kind.Semicolon ∷ [])
+      ∙ ap (λ z. (z ++ spell_term t 1) ++ plain kind.Semicolon ∷ []) (sym (append-nil ((net_front n ++ spell_term l 1) ++ within (Tilde p) ∷ []))),
 )
-keeps_after_side n Left t _ = tt
-keeps_after_side n (Right l p) t _ = tt
+keeps_after_right k n l p t _ = tt
 
-keeps_after_term : (n : SourceNet) (side : Side) (around : List Term) (t : Term) (x : Sign) →
-    Keeps (spot.TermEnd (record { net = n; side = side; around = around }) t) x (after_term n side around t x)
-keeps_after_term n side [] t x = keeps_after_side n side t x
-keeps_after_term n side (outer ∷ around) t x = keeps_after_argument n side around outer t x
+regroup_term : (f h b t c : List Marked) → (f ++ (h ++ (b ++ (t ++ c)))) ++ [] ≡ (((f ++ (h ++ b)) ++ []) ++ t) ++ c
+regroup_term f h b t c = simp (append_assoc, append-nil)
 
-keeps_as_bare : (b : Body) (n : Name) (x : Sign) → Keeps (spot.TermOpen b n) x (at_term_end b (bare n) x)
-keeps_as_bare b n x =
-    subst (λ z. KeepsAll (body_front b.net b.side b.around ++ z) x (at_term_end b (bare n) x)) (spell_bare (length b.around + 1) n) (keeps_after_term b.net b.side b.around (bare n) x)
+regroup_head : (f h b t c : List Marked) → f ++ (h ++ ((b ++ t) ++ c)) ≡ (((f ++ (h ++ b)) ++ []) ++ t) ++ c
+regroup_head f h b t c = simp (append_assoc, append-nil)
 
-keeps_opening : (b : Body) (n : Name) → Keeps (spot.TermOpen b n) (Plain kind.OpenParenthesis) (at_term_open b n (Plain kind.OpenParenthesis))
-keeps_opening b n = (
+keeps_after_head_term : (k : Counts) (o : HeadOf) (h : Head) (t : Term) (x : Sign) →
+    Keeps k (state.TermEnd (record { of = Inside o h; around = [] }) t) x (after_head_term o h t x)
+keeps_after_head_term k o h t (Plain kind.Comma) = (
   tt,
-  ap (λ z. (net_front b.net ++ side_front b.side) ++ (stacked b.around ++ z)) (opened_bare (length b.around + 1) n) ∙ simp append_assoc,
+  ap (λ z. (head_of_front k o ++ named h.name ∷ plain kind.OpenBracket ∷ z) ++ [])
+      (ap before (map_snoc spell_outermost h.terms t) ∙ before_snoc (map spell_outermost h.terms) (spell_term t 1))
+      ∙ regroup_term (head_of_front k o) (named h.name ∷ plain kind.OpenBracket ∷ []) (before (map spell_outermost h.terms)) (spell_term t 1) (comma ∷ []),
+)
+keeps_after_head_term k o h t (Plain kind.CloseBracket) = (
+  tt,
+  ap (λ z. head_of_front k o ++ (named h.name ∷ plain kind.OpenBracket ∷ z ++ plain kind.CloseBracket ∷ []))
+      (ap separated (map_snoc spell_outermost h.terms t) ∙ separated_snoc (map spell_outermost h.terms) (spell_term t 1))
+      ∙ regroup_head (head_of_front k o) (named h.name ∷ plain kind.OpenBracket ∷ []) (before (map spell_outermost h.terms)) (spell_term t 1) (plain kind.CloseBracket ∷ []),
+)
+keeps_after_head_term k o h t _ = tt
+
+keeps_after_outermost : (k : Counts) (of : TermOf) (t : Term) (x : Sign) → Keeps k (state.TermEnd (record { of = of; around = [] }) t) x (after_outermost of t x)
+keeps_after_outermost k (Left n) t x = keeps_after_left k n t x
+keeps_after_outermost k (Right n l p) t x = keeps_after_right k n l p t x
+keeps_after_outermost k (Inside o h) t x = keeps_after_head_term k o h t x
+
+keeps_after_term : (k : Counts) (of : TermOf) (around : List Term) (t : Term) (x : Sign) →
+    Keeps k (state.TermEnd (record { of = of; around = around }) t) x (after_term of around t x)
+keeps_after_term k of [] t x = keeps_after_outermost k of t x
+keeps_after_term k of (outer ∷ around) t x = keeps_after_argument k of around outer t x
+
+keeps_as_bare : (k : Counts) (b : Nest) (n : Name) (x : Sign) → Keeps k (state.TermOpen b n) x (at_term_end b (bare n) x)
+keeps_as_bare k b n x =
+    subst (λ z. KeepsAll k (nest_front k b ++ z) x (at_term_end b (bare n) x)) (spell_bare (length b.around + 1) n) (keeps_after_term k b.of b.around (bare n) x)
+
+keeps_opening : (k : Counts) (b : Nest) (n : Name) → Keeps k (state.TermOpen b n) (Plain kind.OpenParenthesis) (at_term_open b n (Plain kind.OpenParenthesis))
+keeps_opening k b n = (
+  tt,
+  ap (λ z. of_front k b.of ++ (stacked b.around ++ z)) (opened_bare (length b.around + 1) n) ∙ simp append_assoc,
 )
 
-keeps_term_open : (b : Body) (n : Name) (x : Sign) → Keeps (spot.TermOpen b n) x (at_term_open b n x)
-keeps_term_open b n (Plain kind.OpenParenthesis) = keeps_opening b n
-keeps_term_open b n x = keeps_as_bare b n x
+keeps_term_open : (k : Counts) (b : Nest) (n : Name) (x : Sign) → Keeps k (state.TermOpen b n) x (at_term_open b n x)
+keeps_term_open k b n (Plain kind.OpenParenthesis) = keeps_opening k b n
+keeps_term_open k b n x = keeps_as_bare k b n x
 
-pub keeps : (p : Spot) (x : Sign) → IsFull p → Keeps p x (step p x)
-keeps spot.Item x full = keeps_item x
-keeps (spot.TypeName names) x full = keeps_type_name names x
-keeps (spot.TypeEnd names) x full = keeps_type_end names x full
-keeps spot.SymbolName x full = keeps_symbol_name x
-keeps (spot.SymbolColon n) x full = keeps_symbol_colon n x
-keeps (spot.PortKind o) x full = keeps_port_kind o x full
-keeps (spot.PortSign o k) x full = keeps_port_sign o k x full
-keeps (spot.SymbolEnd s number) x full = keeps_symbol_end s number x full
-keeps (spot.ClassEnd s c number) x full = keeps_class_end s c number x full
-keeps spot.NetOpen x full = keeps_net_open x
-keeps spot.FreeFirst x full = keeps_free_first x
-keeps (spot.FreeName fs) x full = keeps_free_name fs x
-keeps (spot.FreeColon fs n) x full = keeps_free_colon fs n x
-keeps (spot.FreeEnd fs) x full = keeps_free_end fs x full
-keeps (spot.BodyOpen fs) x full = keeps_body_open fs x
-keeps (spot.Equation n) x full = keeps_equation n x
-keeps (spot.TermName b) x full = keeps_term_name b x
-keeps (spot.TermOpen b n) x full = keeps_term_open b n x
-keeps (spot.TermEnd b t) x full = keeps_after_term b.net b.side b.around t x
-keeps (spot.Done n) x full = tt
+pub keeps : (k : Counts) (p : State) (x : Sign) → IsFull p → Keeps k p x (step k p x)
+keeps k state.Item x full = keeps_item k x
+keeps k (state.TypeName names) x full = keeps_type_name k names x
+keeps k (state.TypeEnd names) x full = keeps_type_end k names x full
+keeps k state.SymbolName x full = keeps_symbol_name k x
+keeps k (state.SymbolColon n) x full = keeps_symbol_colon k n x
+keeps k (state.PortKind o) x full = keeps_port_kind k o x full
+keeps k (state.PortSign o n) x full = keeps_port_sign k o n x full
+keeps k (state.SymbolEnd s number) x full = keeps_symbol_end k s number x full
+keeps k (state.ClassEnd s c number) x full = keeps_class_end k s c number x full
+keeps k (state.HeadName o) x full = keeps_head_name k o x
+keeps k (state.HeadOpen o n) x full = keeps_head_open k o n x
+keeps k (state.HeadFirst o n) x full = keeps_head_first k o n x
+keeps k (state.HeadEnd o h) x full = keeps_head_end k o h x
+keeps k state.NetOpen x full = keeps_net_open k x
+keeps k state.FreeFirst x full = keeps_free_first k x
+keeps k (state.FreeName fs) x full = keeps_free_name k fs x
+keeps k (state.FreeColon fs n) x full = keeps_free_colon k fs n x
+keeps k (state.FreeEnd fs) x full = keeps_free_end k fs x full
+keeps k (state.BodyOpen fs) x full = keeps_body_open k fs x
+keeps k (state.Equation n) x full = keeps_equation k n x
+keeps k (state.TermName b) x full = keeps_term_name k b x
+keeps k (state.TermOpen b n) x full = keeps_term_open k b n x
+keeps k (state.TermEnd b t) x full = keeps_after_term k b.of b.around t x
+keeps k (state.Done n) x full = tt
 
 -- ---- what a reader has read
+
+pub counts_types : (r : Reader) (names : List Name) → counts_of (with_types r names) ≡ counted (counts_of r) (types names)
+counts_types r names = ap (λ z. record { types = z; symbols = length r.symbols; rules = length r.rules }) (length-append r.types names)
+
+pub counts_symbol : (r : Reader) (s : SourceSymbol) → counts_of (with_symbol r s) ≡ counted (counts_of r) (symbol s)
+counts_symbol r s = ap (λ z. record { types = length r.types; symbols = z; rules = length r.rules }) (length-append r.symbols (s ∷ []))
+
+pub counts_rule : (r : Reader) (y : SourceRule) → counts_of (with_rule r y) ≡ counted (counts_of r) (rule y)
+counts_rule r y = ap (λ z. record { types = length r.types; symbols = length r.symbols; rules = z }) (length-append r.rules (y ∷ []))
 
 pub record HasRead (r : Reader) (m : List Marked) : Type 0 where
   pub items : List Item
   pub each : Each IsItem items
   pub types : r.types ≡ flat_map types_in items
   pub symbols : r.symbols ≡ flat_map symbols_in items
-  pub full : IsFull r.spot
-  pub spells : m ≡ flat_map spell_item items ++ spelled r.spot
+  pub rules : r.rules ≡ flat_map rules_in items
+  pub counts : counts_of r ≡ counted_all none_yet items
+  pub full : IsFull r.state
+  pub spells : m ≡ spell_items none_yet items ++ spelled (counts_of r) r.state
 
 pub read_nothing : HasRead start []
-read_nothing = record { items = []; each = tt; types = refl; symbols = refl; full = tt; spells = refl }
+read_nothing = record { items = []; each = tt; types = refl; symbols = refl; rules = refl; counts = refl; full = tt; spells = refl }
 
 -- an item more
-with_item : (l : List Marked) (items : List Item) (i : Item) (p : List Marked) (x : Marked) → l ≡ flat_map spell_item items ++ p → spell_item i ≡ p ++ x ∷ [] →
-    l ++ x ∷ [] ≡ flat_map spell_item (items ++ i ∷ []) ++ []
-with_item l items i p x e f =
-    ap (λ z. z ++ x ∷ []) e ∙ append_assoc (flat_map spell_item items) p (x ∷ []) ∙ ap (λ z. flat_map spell_item items ++ z) (sym f)
-    ∙ sym (flat_snoc spell_item items i) ∙ sym (append-nil (flat_map spell_item (items ++ i ∷ [])))
+with_item : (l : List Marked) (k : Counts) (items : List Item) (i : Item) (p : List Marked) (x : Marked) → l ≡ spell_items none_yet items ++ p → k ≡ counted_all none_yet items → spell_item k i ≡ p ++ x ∷ [] →
+    l ++ x ∷ [] ≡ spell_items none_yet (items ++ i ∷ []) ++ []
+with_item l k items i p x e n f =
+    ap (λ z. z ++ x ∷ []) e ∙ append_assoc (spell_items none_yet items) p (x ∷ []) ∙ ap (λ z. spell_items none_yet items ++ z) (sym f)
+    ∙ ap (λ z. spell_items none_yet items ++ spell_item z i) n
+    ∙ sym (items_snoc none_yet items i) ∙ sym (append-nil (spell_items none_yet (items ++ i ∷ [])))
 
-reads_step : (r next : Reader) (m : List Marked) (x : Sign) (past : Bool) (s : Step) → HasRead r m → Keeps r.spot x s → turn_of r s ≡ turns past next → HasRead next (m ++ marked past x ∷ [])
+-- and what is declared after it
+count_item : (k next : Counts) (items : List Item) (i : Item) → k ≡ counted_all none_yet items → next ≡ counted k i → next ≡ counted_all none_yet (items ++ i ∷ [])
+count_item k next items i n e = e ∙ ap (λ z. counted z i) n ∙ sym (counted_snoc none_yet items i)
+
+-- a list of the tree, by an item that adds nothing to it
+none_more : {A : Type 0} (f : Item → List A) (l : List A) (items : List Item) (i : Item) → l ≡ flat_map f items → f i ≡ [] → l ≡ flat_map f (items ++ i ∷ [])
+none_more f l items i e n = e ∙ sym (append-nil (flat_map f items)) ∙ ap (λ z. flat_map f items ++ z) (sym n) ∙ sym (flat_snoc f items i)
+
+-- and by one that adds something
+some_more : {A : Type 0} (f : Item → List A) (l more : List A) (items : List Item) (i : Item) → l ≡ flat_map f items → f i ≡ more → l ++ more ≡ flat_map f (items ++ i ∷ [])
+some_more f l more items i e n = ap (λ z. z ++ more) e ∙ ap (λ z. flat_map f items ++ z) (sym n) ∙ sym (flat_snoc f items i)
+
+reads_step : (r next : Reader) (m : List Marked) (x : Sign) (past : Bool) (s : Step) → HasRead r m → Keeps (counts_of r) r.state x s → turn_of r s ≡ turns past next → HasRead next (m ++ marked past x ∷ [])
 reads_step r next m x past (goes b q) h k e =
-    let is : at_spot r q ≡ next = cc in
+    let is : at_state r q ≡ next = cc in
     let same : b ≡ past = cc in
     subst (λ z. HasRead z (m ++ marked past x ∷ [])) is (record {
       items = h.items;
       each = h.each;
       types = h.types;
       symbols = h.symbols;
+      rules = h.rules;
+      counts = h.counts;
       full = k.0;
-      spells = ap (λ z. z ++ marked past x ∷ []) h.spells ∙ append_assoc (flat_map spell_item h.items) (spelled r.spot) (marked past x ∷ [])
-          ∙ ap (λ z. flat_map spell_item h.items ++ z) (ap (λ z. spelled r.spot ++ marked z x ∷ []) (sym same) ∙ sym k.1);
+      spells = ap (λ z. z ++ marked past x ∷ []) h.spells ∙ append_assoc (spell_items none_yet h.items) (spelled (counts_of r) r.state) (marked past x ∷ [])
+          ∙ ap (λ z. spell_items none_yet h.items ++ z) (ap (λ z. spelled (counts_of r) r.state ++ marked z x ∷ []) (sym same) ∙ sym k.1);
     })
 reads_step r next m x past (adds_types names) h k e =
     let is : with_types r names ≡ next = cc in
@@ -423,10 +542,12 @@ reads_step r next m x past (adds_types names) h k e =
     subst (λ z. HasRead z (m ++ marked past x ∷ [])) is (subst (λ z. HasRead (with_types r names) (m ++ marked z x ∷ [])) same (record {
       items = h.items ++ types names ∷ [];
       each = each_append IsItem h.items (types names ∷ []) h.each (k.0, tt);
-      types = ap (λ z. z ++ names) h.types ∙ sym (flat_snoc types_in h.items (types names));
-      symbols = h.symbols ∙ sym (append-nil (flat_map symbols_in h.items)) ∙ sym (flat_snoc symbols_in h.items (types names));
+      types = some_more types_in r.types names h.items (types names) h.types refl;
+      symbols = none_more symbols_in r.symbols h.items (types names) h.symbols refl;
+      rules = none_more rules_in r.rules h.items (types names) h.rules refl;
+      counts = count_item (counts_of r) (counts_of (with_types r names)) h.items (types names) h.counts (counts_types r names);
       full = tt;
-      spells = with_item m h.items (types names) (spelled r.spot) (within x) h.spells k.1;
+      spells = with_item m (counts_of r) h.items (types names) (spelled (counts_of r) r.state) (within x) h.spells h.counts k.1;
     }))
 reads_step r next m x past (adds_symbol s) h k e =
     let is : with_symbol r s ≡ next = cc in
@@ -434,15 +555,30 @@ reads_step r next m x past (adds_symbol s) h k e =
     subst (λ z. HasRead z (m ++ marked past x ∷ [])) is (subst (λ z. HasRead (with_symbol r s) (m ++ marked z x ∷ [])) same (record {
       items = h.items ++ symbol s ∷ [];
       each = each_append IsItem h.items (symbol s ∷ []) h.each (k.0, tt);
-      types = h.types ∙ sym (append-nil (flat_map types_in h.items)) ∙ sym (flat_snoc types_in h.items (symbol s));
-      symbols = ap (λ z. z ++ s ∷ []) h.symbols ∙ sym (flat_snoc symbols_in h.items (symbol s));
+      types = none_more types_in r.types h.items (symbol s) h.types refl;
+      symbols = some_more symbols_in r.symbols (s ∷ []) h.items (symbol s) h.symbols refl;
+      rules = none_more rules_in r.rules h.items (symbol s) h.rules refl;
+      counts = count_item (counts_of r) (counts_of (with_symbol r s)) h.items (symbol s) h.counts (counts_symbol r s);
       full = tt;
-      spells = with_item m h.items (symbol s) (spelled r.spot) (within x) h.spells k.1;
+      spells = with_item m (counts_of r) h.items (symbol s) (spelled (counts_of r) r.state) (within x) h.spells h.counts k.1;
+    }))
+reads_step r next m x past (adds_rule y) h k e =
+    let is : with_rule r y ≡ next = cc in
+    let same : false ≡ past = cc in
+    subst (λ z. HasRead z (m ++ marked past x ∷ [])) is (subst (λ z. HasRead (with_rule r y) (m ++ marked z x ∷ [])) same (record {
+      items = h.items ++ rule y ∷ [];
+      each = each_append IsItem h.items (rule y ∷ []) h.each (tt, tt);
+      types = none_more types_in r.types h.items (rule y) h.types refl;
+      symbols = none_more symbols_in r.symbols h.items (rule y) h.symbols refl;
+      rules = some_more rules_in r.rules (y ∷ []) h.items (rule y) h.rules refl;
+      counts = count_item (counts_of r) (counts_of (with_rule r y)) h.items (rule y) h.counts (counts_rule r y);
+      full = tt;
+      spells = with_item m (counts_of r) h.items (rule y) (spelled (counts_of r) r.state) (within x) h.spells h.counts k;
     }))
 reads_step r next m x past stuck h k e = cc
 
 pub has_read : (n m : List Marked) (r last : Reader) → HasRead r m → Path r n last → HasRead last (m ++ n)
 has_read [] m r last h p = subst (λ z. HasRead z (m ++ [])) p (subst (λ z. HasRead r z) (sym (append-nil m)) h)
 has_read (x ∷ n) m r last h p =
-    let next : HasRead p.0 (m ++ x ∷ []) = reads_step r p.0 m x.sign x.past (step r.spot x.sign) h (keeps r.spot x.sign h.full) p.1 in
+    let next : HasRead p.0 (m ++ x ∷ []) = reads_step r p.0 m x.sign x.past (step (counts_of r) r.state x.sign) h (keeps (counts_of r) r.state x.sign h.full) p.1 in
     subst (λ z. HasRead last z) (append_assoc m (x ∷ []) n) (has_read n (m ++ x ∷ []) p.0 last next p.2)

@@ -1,5 +1,5 @@
 -- Laws of the tokens of whole texts.
-use Rattle.std.proofs.Common.{◌≡◌, ℕ, zero, suc, ◌<◌, ◌≤◌, ◌⊎◌, inl, inr, Bool, true, false, if◌then◌else◌, not, List, [], ◌∷◌, ◌++◌, length, take, Option, Some, None, refl, sym, ◌∙◌, ap, subst, arith, ◌&&◌, ◌==◌, length-append, lit≤}
+use Rattle.std.proofs.Common.{◌≡◌, ℕ, zero, suc, ◌<◌, ◌≤◌, ◌⊎◌, inl, inr, Bool, true, false, if◌then◌else◌, List, [], ◌∷◌, ◌++◌, length, take, Option, Some, None, refl, sym, ◌∙◌, ap, subst, arith, ◌&&◌, ◌==◌, length-append, lit≤}
 use Rattle.std.specs.List.{list_all}
 use Rattle.std.specs.Str.{chars, IsUtf8, is_utf8}
 use Rattle.std.specs.Str.Lossy.{utf8_valid_len, valid_len_up_to}
@@ -12,9 +12,9 @@ use Rattle.in_syntax.specs.declared.words.TokenKind.{TokenKind}
 use Rattle.in_syntax.specs.declared.faults.Code.{Code}
 use Rattle.in_syntax.specs.declared.faults.Code.TheVariants.{E01, E03}
 use Rattle.in_syntax.specs.declared.faults.Refusal.{Refusal}
-use Rattle.in_syntax.specs.Characters.{is_plain, is_blank, begins_name, continues_name, stays_in_comment}
+use Rattle.in_syntax.specs.Characters.{is_blank, begins_name, continues_name, stays_in_comment}
 use Rattle.in_syntax.specs.Places.{start, past_all}
-use Rattle.in_syntax.specs.Tokens.{signs, beside, is_word, EndsLine, name_limit, text_limit, Passes, blank, comment, token, Reads, ends, goes_on, Faults, stray, in_comment, too_long, Stops, here, later, IsTokensOf, well_formed, refusal_at, IsTokenFault, long_text, first_fault, ill_formed}
+use Rattle.in_syntax.specs.Tokens.{signs, beside, is_word, EndsLine, name_limit, text_limit, Passes, blank, comment, token, Reads, ends, goes_on, Faults, stray, too_long, Stops, here, later, IsTokensOf, well_formed, refusal_at, IsTokenFault, long_text, first_fault, ill_formed}
 use Rattle.in_syntax.specs.Cursors.{FirstIs, FirstFails}
 use Rattle.in_syntax.proofs.Lexemes.{longest_word, longest_mark, longest_meets, begins_no_token, is_word-run, is_word-some}
 use Rattle.in_syntax.proofs.TokenLaws.{reads_unique, reads_not_stops, stops_unique}
@@ -73,15 +73,9 @@ at_comment s cs = let h = split_of stays_in_comment cs in subst (λ z. Stand s (
     passed : (body rest : List ℕ) → list_all stays_in_comment body ≡ true → EndsLine rest → Stand s (35 ∷ (body ++ rest))
     passed body rest all e = something [] (past_all s (35 ∷ body)) rest (comment body rest all e) (omega (arith, length-append body rest))
 
-    decide : (body rest : List ℕ) (d : ℕ) (b : Bool) → list_all stays_in_comment body ≡ true → stays_in_comment d ≡ false → is_plain d ≡ b → Stand s (35 ∷ (body ++ (d ∷ rest)))
-    decide body rest d false all e f = a_fault E01 (past_all s (35 ∷ body)) (in_comment body rest d all f)
-    decide body rest d true all e f =
-        let feed : (d == 10) ≡ true = not-false (d == 10) (sym (ap (λ b. b && not (d == 10)) f) ∙ e) in
-        passed body (d ∷ rest) all (eqb-true d 10 feed)
-
     go : (body rest : List ℕ) → list_all stays_in_comment body ≡ true → FirstFails stays_in_comment rest → Stand s (35 ∷ (body ++ rest))
     go body [] all fails = passed body [] all tt
-    go body (d ∷ ds) all fails = decide body ds d (is_plain d) all fails refl
+    go body (d ∷ ds) all fails = passed body (d ∷ ds) all (eqb-true d 10 (not-false (d == 10) fails))
 
 at_word : (s : Spot) (c : ℕ) (cs : List ℕ) → begins_name c ≡ true → Stand s (c ∷ cs)
 at_word s c cs h =

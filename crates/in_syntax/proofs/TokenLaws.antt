@@ -1,15 +1,15 @@
 -- Laws of the definitions of tokens.
 use Rattle.std.proofs.Common.{◌≡◌, ℕ, true, false, List, [], ◌∷◌, ◌++◌, length, Some, None, refl, sym, ◌∙◌, ap, subst, arith, ◌==◌}
 use Rattle.std.specs.List.{list_all}
-use Rattle.std.proofs.lemmas.Bool.{and_parts, and_left, true≢false, false≢true}
+use Rattle.std.proofs.lemmas.Bool.{and_parts, true≢false, false≢true}
 use Rattle.std.proofs.lemmas.List.Folds.{list_all-append}
 use Rattle.in_syntax.specs.declared.characters.Spot.{Spot}
 use Rattle.in_syntax.specs.declared.words.Token.{Token}
 use Rattle.in_syntax.specs.declared.words.TokenKind.{TokenKind}
 use Rattle.in_syntax.specs.declared.faults.Code.{Code}
-use Rattle.in_syntax.specs.Characters.{is_plain, is_blank, stays_in_comment}
+use Rattle.in_syntax.specs.Characters.{is_blank, stays_in_comment}
 use Rattle.in_syntax.specs.Places.{past, past_all, place_between}
-use Rattle.in_syntax.specs.Tokens.{kind_of, IsLongest, BeginsNoToken, EndsLine, Passes, blank, comment, token, Reads, ends, goes_on, Faults, stray, in_comment, too_long, Stops, here, later}
+use Rattle.in_syntax.specs.Tokens.{kind_of, IsLongest, BeginsNoToken, EndsLine, Passes, blank, comment, token, Reads, ends, goes_on, Faults, stray, too_long, Stops, here, later}
 use Rattle.in_syntax.proofs.Lexemes.{kind_of-blank, kind_of-hash}
 
 -- two ways to part one list: alike, or the second front goes on with c, or the first does
@@ -60,10 +60,6 @@ stays_on v w c more h e =
 leaves : (c : ℕ) → c ≡ 10 → stays_in_comment c ≡ true → ⊥
 leaves c e h = false≢true (ap stays_in_comment (sym e) ∙ h)
 
--- nor does a character that isn't plain
-strange : (c : ℕ) → is_plain c ≡ false → stays_in_comment c ≡ true → ⊥
-strange c e h = false≢true (sym (and_left (is_plain c) _ e) ∙ h)
-
 same_body : (v a w b : List ℕ) → v ++ a ≡ w ++ b → list_all stays_in_comment v ≡ true → EndsLine a → list_all stays_in_comment w ≡ true → EndsLine b → (v ≡ w) × (a ≡ b)
 same_body v a w b e hv ha hw hb = go (parts v a w b e)
   where
@@ -71,29 +67,6 @@ same_body v a w b e hv ha hw hb = go (parts v a w b e)
     go (alike f g) = (f, g)
     go (second_more c more f g) = absurd (leaves c (subst EndsLine g ha) (stays_on v w c more hw f))
     go (first_more c more f g) = absurd (leaves c (subst EndsLine g hb) (stays_on w v c more hv f))
-
--- a comment with a character that isn't plain has no end
-no_body : (v a w b : List ℕ) (x : ℕ) → v ++ (x ∷ a) ≡ w ++ b → list_all stays_in_comment v ≡ true → is_plain x ≡ false → list_all stays_in_comment w ≡ true → EndsLine b → ⊥
-no_body v a w b x e hv hx hw hb = go (parts v (x ∷ a) w b e)
-  where
-    go : Parts v (x ∷ a) w b → ⊥
-    go (alike f g) = true≢false (sym (ap is_plain (subst EndsLine (sym g) hb)) ∙ hx)
-    go (second_more c more f g) =
-        let same : x ≡ c = cc in
-        strange x hx (ap stays_in_comment same ∙ stays_on v w c more hw f)
-    go (first_more c more f g) = leaves c (subst EndsLine g hb) (stays_on w v c more hv f)
-
-same_strange : (v a w b : List ℕ) (x y : ℕ) → v ++ (x ∷ a) ≡ w ++ (y ∷ b) → list_all stays_in_comment v ≡ true → is_plain x ≡ false → list_all stays_in_comment w ≡ true → is_plain y ≡ false → v ≡ w
-same_strange v a w b x y e hv hx hw hy = go (parts v (x ∷ a) w (y ∷ b) e)
-  where
-    go : Parts v (x ∷ a) w (y ∷ b) → v ≡ w
-    go (alike f g) = f
-    go (second_more c more f g) =
-        let same : x ≡ c = cc in
-        absurd (strange x hx (ap stays_in_comment same ∙ stays_on v w c more hw f))
-    go (first_more c more f g) =
-        let same : y ≡ c = cc in
-        absurd (strange y hy (ap stays_in_comment same ∙ stays_on w v c more hv f))
 
 -- a token begins with the first character of its text
 token_first : (c : ℕ) (cs w rest : List ℕ) (k : TokenKind) → c ∷ cs ≡ w ++ rest → kind_of w ≡ Some k → (more : List ℕ) × (kind_of (c ∷ more) ≡ Some k)
@@ -147,7 +120,6 @@ passes_some s t cs rest ts (token (c ∷ w) after p q) e = absurd (cc)
 
 faults_some : (s t : Spot) (cs : List ℕ) (code : Code) → Faults s cs code t → cs ≡ [] → ⊥
 faults_some s t cs code (stray p q r) e = absurd (cc)
-faults_some s t cs code (in_comment body rest c p q) e = absurd (cc)
 faults_some s t cs code (too_long {k = k} [] rest p q) e = let none : None ≡ Some k = p.token in absurd (cc)
 faults_some s t cs code (too_long (c ∷ w) rest p q) e = absurd (cc)
 
@@ -166,15 +138,10 @@ no_pass : (s t u : Spot) (cs ds rest : List ℕ) (ts : List Token) (code : Code)
 no_pass s t u cs ds rest ts code (blank {c = c} p) (stray {c = d} q r n) e =
     let same : c ≡ d = cc in
     true≢false (sym p ∙ ap is_blank same ∙ q)
-no_pass s t u cs ds rest ts code (blank {c = c} {cs = x} p) (in_comment body after d q r) e = no_blank_hash c x (body ++ (d ∷ after)) p e
 no_pass s t u cs ds rest ts code (blank {c = c} {cs = x} p) (too_long {k = k} w after q r) e = no_blank_token c x w after k p e q.token
 no_pass s t u cs ds rest ts code (comment body after p q) (stray {c = c} {cs = x} b h n) e = no_stray_hash c x (body ++ after) h (sym e)
-no_pass s t u cs ds rest ts code (comment w b p q) (in_comment v a c r h) e =
-    let inner : v ++ (c ∷ a) ≡ w ++ b = cc in
-    no_body v a w b c inner r h p q
 no_pass s t u cs ds rest ts code (comment body after p q) (too_long {k = k} w b r h) e = no_hash_token (body ++ after) w b k e r.token
 no_pass s t u cs ds rest ts code (token {k = k} w after p q) (stray {c = c} {cs = x} b h n) e = no_stray_token c x w after k n (sym e) p.token
-no_pass s t u cs ds rest ts code (token {k = k} w after p q) (in_comment v a c r h) e = no_hash_token (v ++ (c ∷ a)) w after k (sym e) p.token
 no_pass s t u cs ds rest ts code (token {k = k} v a p q) (too_long {k = l} w b r h) e =
     let same : v ≡ w = (same_token v a w b k l e p r).0 in
     omega (arith, ap length same)
@@ -182,15 +149,8 @@ no_pass s t u cs ds rest ts code (token {k = k} v a p q) (too_long {k = l} w b r
 -- a fault at once is determined
 faults_unique : (s t u : Spot) (cs ds : List ℕ) (code dode : Code) → Faults s cs code t → Faults s ds dode u → cs ≡ ds → (code ≡ dode) × (t ≡ u)
 faults_unique s t u cs ds code dode (stray p q r) (stray p' q' r') e = (refl, refl)
-faults_unique s t u cs ds code dode (stray {c = c} {cs = x} p q r) (in_comment v a d p' q') e = absurd (no_stray_hash c x (v ++ (d ∷ a)) q e)
 faults_unique s t u cs ds code dode (stray {c = c} {cs = x} p q r) (too_long {k = k} w b p' q') e = absurd (no_stray_token c x w b k r e p'.token)
-faults_unique s t u cs ds code dode (in_comment v a d p' q') (stray {c = c} {cs = x} p q r) e = absurd (no_stray_hash c x (v ++ (d ∷ a)) q (sym e))
-faults_unique s t u cs ds code dode (in_comment v a c p q) (in_comment w b d p' q') e =
-    let inner : v ++ (c ∷ a) ≡ w ++ (d ∷ b) = cc in
-    (refl, ap (λ z. past_all s (35 ∷ z)) (same_strange v a w b c d inner p q p' q'))
-faults_unique s t u cs ds code dode (in_comment v a c p q) (too_long {k = k} w b p' q') e = absurd (no_hash_token (v ++ (c ∷ a)) w b k e p'.token)
 faults_unique s t u cs ds code dode (too_long {k = k} w b p' q') (stray {c = c} {cs = x} p q r) e = absurd (no_stray_token c x w b k r (sym e) p'.token)
-faults_unique s t u cs ds code dode (too_long {k = k} w b p' q') (in_comment v a c p q) e = absurd (no_hash_token (v ++ (c ∷ a)) w b k (sym e) p'.token)
 faults_unique s t u cs ds code dode (too_long v a p q) (too_long w b p' q') e = (refl, refl)
 
 -- a text reads as one list of tokens

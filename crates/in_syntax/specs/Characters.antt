@@ -1,5 +1,5 @@
 -- What characters do in a program, by their codes. This project's own choice: Lafont 1990 says nothing of characters.
-use Rattle.std.specs.Prelude.{ℕ, Bool, not, ◌&&◌, ◌||◌, ◌==◌, nat_lt}
+use Rattle.std.specs.Prelude.{ℕ, Bool, not, ◌||◌, ◌==◌}
 use Rattle.unicode_ident.specs.Ident.{is_xid_start, is_xid_continue}
 
 -- a line ends with it
@@ -10,22 +10,18 @@ line_feed = 10
 abbrev pub hash : ℕ
 hash = 35
 
--- a character of one byte: for now no other stands in a program
-abbrev pub is_plain : ℕ → Bool
-is_plain c = nat_lt c 128
-
 -- space, tab, carriage return and line feed
 abbrev pub is_blank : ℕ → Bool
 is_blank c = c == 32 || c == 9 || c == 13 || c == line_feed
 
 -- a name begins with such a character: XID_Start or `_`
 abbrev pub begins_name : ℕ → Bool
-begins_name c = is_plain c && (is_xid_start c || c == 95)
+begins_name c = is_xid_start c || c == 95
 
--- a name goes on with such characters
+-- a name goes on with such characters: XID_Continue
 abbrev pub continues_name : ℕ → Bool
-continues_name c = is_plain c && is_xid_continue c
+continues_name c = is_xid_continue c
 
 -- a comment is made of such characters: all but a line feed
 abbrev pub stays_in_comment : ℕ → Bool
-stays_in_comment c = is_plain c && not (c == line_feed)
+stays_in_comment c = not (c == line_feed)

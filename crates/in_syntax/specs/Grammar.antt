@@ -1,9 +1,12 @@
 -- The grammar of programs, as the spelling of their trees: Lafont's language (1990), in signs and with limits of this project's own choice.
 use Rattle.std.specs.Prelude.{ℕ, ◌+◌, Bool, false, cond, nat_lt, List, [], ◌∷◌, ◌++◌, length, map}
 use Rattle.std.specs.List.{flat_map}
+use Rattle.in_syntax.specs.declared.counts.Counts.{Counts}
 use Rattle.in_syntax.specs.declared.tree.Name.{Name}
 use Rattle.in_syntax.specs.declared.tree.SourcePort.{SourcePort}
 use Rattle.in_syntax.specs.declared.tree.SourceSymbol.{SourceSymbol}
+use Rattle.in_syntax.specs.declared.tree.SourceRule.{SourceRule}
+use Rattle.in_syntax.specs.declared.tree.Head.{Head}
 use Rattle.in_syntax.specs.declared.tree.SourceFree.{SourceFree}
 use Rattle.in_syntax.specs.declared.tree.SourceNet.{SourceNet}
 use Rattle.in_syntax.specs.declared.tree.Source.{Source}
@@ -15,6 +18,19 @@ use Rattle.in_syntax.specs.declared.signs.Sign.{Sign}
 use Rattle.in_syntax.specs.declared.signs.Sign.TheVariants.{Named, Tilde, Plain}
 use Rattle.in_syntax.specs.declared.words.TokenKind.{TokenKind}
 use Rattle.in_syntax.specs.declared.words.TokenKind.TheVariants as kind
+
+-- the greatest number of types, of symbols, of rules and of free names
+abbrev pub max_types : ℕ
+max_types = 256
+
+abbrev pub max_symbols : ℕ
+max_symbols = 512
+
+abbrev pub max_rules : ℕ
+max_rules = 4096
+
+abbrev pub max_free : ℕ
+max_free = 256
 
 -- the greatest number of a symbol's auxiliary ports
 abbrev pub max_ports : ℕ
@@ -50,32 +66,41 @@ abbrev pub separated : List (List Marked) → List Marked
 separated [] = []
 separated (a ∷ more) = a ++ flat_map (λ b. plain kind.Comma ∷ b) more
 
+-- each spelled with its number, where the first one's is given
+abbrev pub numbered : {A : Type 0} → (ℕ → A → List Marked) → ℕ → List A → List (List Marked)
+numbered spell number [] = []
+numbered spell number (x ∷ more) = spell number x ∷ numbered spell (number + 1) more
+
 -- port = name ("+" | "-")
 abbrev pub spell_port : Bool → SourcePort → List Marked
 spell_port past p = marked past (Named p.kind) ∷ plain (cond p.output kind.Plus kind.Minus) ∷ []
 
--- ports by their numbers in the symbol, the first of them given: a ninth and later port passes the limit
-abbrev pub spell_ports : ℕ → List SourcePort → List (List Marked)
-spell_ports number [] = []
-spell_ports number (p ∷ more) = spell_port (nat_lt max_ports number) p ∷ spell_ports (number + 1) more
+-- an auxiliary port by its number in the symbol: the ninth and later ones pass the limit
+abbrev pub spell_auxiliary : ℕ → SourcePort → List Marked
+spell_auxiliary number p = spell_port (nat_lt max_ports number) p
 
 -- class = "{" port ("," port)* "}"
 abbrev pub spell_class : ℕ → List SourcePort → List Marked
-spell_class number c = plain kind.OpenBrace ∷ separated (spell_ports number c) ++ plain kind.CloseBrace ∷ []
+spell_class number c = plain kind.OpenBrace ∷ separated (numbered spell_auxiliary number c) ++ plain kind.CloseBrace ∷ []
 
 -- class*, with the numbers of ports going on from class to class
 abbrev pub spell_classes : ℕ → List (List SourcePort) → List Marked
 spell_classes number [] = []
 spell_classes number (c ∷ more) = spell_class number c ++ spell_classes (number + length c) more
 
--- "symbol" name ":" port class* ";"
-abbrev pub spell_symbol : SourceSymbol → List Marked
-spell_symbol s =
-    plain kind.Symbol ∷ named s.name ∷ plain kind.Colon ∷ spell_port false s.port ++ spell_classes 1 s.classes ++ plain kind.Semicolon ∷ []
+-- "symbol" name ":" port class* ";", of a symbol by its number: the name of the 513th and of later ones passes the limit
+abbrev pub spell_symbol : ℕ → SourceSymbol → List Marked
+spell_symbol number s =
+    plain kind.Symbol ∷ marked (nat_lt max_symbols number) (Named s.name) ∷ plain kind.Colon ∷ spell_port false s.port
+    ++ spell_classes 1 s.classes ++ plain kind.Semicolon ∷ []
 
--- "type" name ("," name)* ";"
-abbrev pub spell_types : List Name → List Marked
-spell_types names = plain kind.Type ∷ separated (map (λ n. named n ∷ []) names) ++ plain kind.Semicolon ∷ []
+-- a type's name by its number: the 257th and later ones pass the limit
+abbrev pub spell_type : ℕ → Name → List Marked
+spell_type number n = marked (nat_lt max_types number) (Named n) ∷ []
+
+-- "type" name ("," name)* ";", where the first name's number is given
+abbrev pub spell_types : ℕ → List Name → List Marked
+spell_types number names = plain kind.Type ∷ separated (numbered spell_type number names) ++ plain kind.Semicolon ∷ []
 
 -- [ "(" term ("," term)* ")" ]
 abbrev pub spell_arguments : List (List Marked) → List Marked
@@ -94,14 +119,27 @@ spell_term = fold-Term (ℕ → List Marked) spell_level
 abbrev pub spell_equation : Equation → List Marked
 spell_equation e = spell_term e.left 1 ++ within (Tilde e.tilde) ∷ spell_term e.right 1 ++ plain kind.Semicolon ∷ []
 
--- free = name ":" port
-abbrev pub spell_free : SourceFree → List Marked
-spell_free f = named f.name ∷ plain kind.Colon ∷ spell_port false f.port
+-- a term of a head, at depth 1
+abbrev pub spell_outermost : Term → List Marked
+spell_outermost t = spell_term t 1
+
+-- head = name "[" [ term ("," term)* ] "]"
+abbrev pub spell_head : Head → List Marked
+spell_head h = named h.name ∷ plain kind.OpenBracket ∷ separated (map spell_outermost h.terms) ++ plain kind.CloseBracket ∷ []
+
+-- "rule" head "><" head ";", of a rule by its number: the word of the 4,097th and of later ones passes the limit
+abbrev pub spell_rule : ℕ → SourceRule → List Marked
+spell_rule number r =
+    marked (nat_lt max_rules number) (Plain kind.Rule) ∷ spell_head r.first ++ plain kind.Meets ∷ spell_head r.second ++ plain kind.Semicolon ∷ []
+
+-- free = name ":" port, by its number: the name of the 257th and of later ones passes the limit
+abbrev pub spell_free : ℕ → SourceFree → List Marked
+spell_free number f = marked (nat_lt max_free number) (Named f.name) ∷ plain kind.Colon ∷ spell_port false f.port
 
 -- net = "net" "(" [ free ("," free)* ] ")" "{" (term "~" term ";")* "}"
 abbrev pub spell_net : SourceNet → List Marked
 spell_net n =
-    plain kind.Net ∷ plain kind.OpenParenthesis ∷ separated (map spell_free n.free)
+    plain kind.Net ∷ plain kind.OpenParenthesis ∷ separated (numbered spell_free 1 n.free)
     ++ plain kind.CloseParenthesis ∷ plain kind.OpenBrace ∷ flat_map spell_equation n.equations
     ++ plain kind.CloseBrace ∷ []
 
@@ -109,11 +147,28 @@ spell_net n =
 pub data Item : Type 0 where
   types : List Name → Item
   symbol : SourceSymbol → Item
+  rule : SourceRule → Item
 
--- item = "type" .. | "symbol" ..
-abbrev pub spell_item : Item → List Marked
-spell_item (types names) = spell_types names
-spell_item (symbol s) = spell_symbol s
+-- nothing is declared yet
+abbrev pub none_yet : Counts
+none_yet = record { types = 0; symbols = 0; rules = 0 }
+
+-- how much is declared after an item
+abbrev pub counted : Counts → Item → Counts
+counted c (types names) = record { types = c.types + length names; symbols = c.symbols; rules = c.rules }
+counted c (symbol s) = record { types = c.types; symbols = c.symbols + 1; rules = c.rules }
+counted c (rule r) = record { types = c.types; symbols = c.symbols; rules = c.rules + 1 }
+
+-- item = "type" .. | "symbol" .. | "rule" .., where so much is declared before it
+abbrev pub spell_item : Counts → Item → List Marked
+spell_item c (types names) = spell_types (c.types + 1) names
+spell_item c (symbol s) = spell_symbol (c.symbols + 1) s
+spell_item c (rule r) = spell_rule (c.rules + 1) r
+
+-- item*
+abbrev pub spell_items : Counts → List Item → List Marked
+spell_items c [] = []
+spell_items c (i ∷ more) = spell_item c i ++ spell_items (counted c i) more
 
 -- there is an element at least
 abbrev pub IsNonempty : {A : Type 0} → List A → Type 0
@@ -129,6 +184,7 @@ Each P (x ∷ xs) = P x × Each P xs
 abbrev pub IsItem : Item → Type 0
 IsItem (types names) = IsNonempty names
 IsItem (symbol s) = Each IsNonempty s.classes
+IsItem (rule r) = Unit {0}
 
 -- program = item* net
 pub record Program : Type 0 where
@@ -138,18 +194,31 @@ pub record Program : Type 0 where
 
 -- its signs in the order of the text
 abbrev pub spelling : Program → List Marked
-spelling p = flat_map spell_item p.items ++ spell_net p.net
+spelling p = spell_items none_yet p.items ++ spell_net p.net
 
 -- the types that an item declares
 abbrev pub types_in : Item → List Name
 types_in (types names) = names
 types_in (symbol s) = []
+types_in (rule r) = []
 
 -- the symbol that an item declares
 abbrev pub symbols_in : Item → List SourceSymbol
 symbols_in (types names) = []
 symbols_in (symbol s) = s ∷ []
+symbols_in (rule r) = []
 
--- the tree, which gathers the types and the symbols, each in the order of the text
+-- the rule that an item is
+abbrev pub rules_in : Item → List SourceRule
+rules_in (types names) = []
+rules_in (symbol s) = []
+rules_in (rule r) = r ∷ []
+
+-- the tree, which gathers the types, the symbols and the rules, each in the order of the text
 abbrev pub source_of : Program → Source
-source_of p = record { types = flat_map types_in p.items; symbols = flat_map symbols_in p.items; net = p.net }
+source_of p = record {
+  types = flat_map types_in p.items;
+  symbols = flat_map symbols_in p.items;
+  rules = flat_map rules_in p.items;
+  net = p.net;
+}

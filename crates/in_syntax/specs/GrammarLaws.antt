@@ -1,8 +1,8 @@
 -- What is proved of the grammar over the definitions alone.
-use Rattle.std.specs.Prelude.{◌≡◌, List}
+use Rattle.std.specs.Prelude.{◌≡◌, ◌↔◌, ℕ, ◌≤◌, List, length, take}
 use Rattle.in_syntax.specs.declared.signs.Sign.{Sign}
 use Rattle.in_syntax.specs.Grammar.{Program, spelling, source_of}
-use Rattle.in_syntax.specs.Programs.{signs, Outcome, IsOutcome}
+use Rattle.in_syntax.specs.Programs.{signs, BeginsWithin, Outcome, tree, fault, IsOutcome}
 
 -- every list of signs has exactly one outcome: one tree, or one first fault
 abbrev pub OneOutcome : Type 0
@@ -11,3 +11,12 @@ OneOutcome = (s : List Sign) → (o : Outcome) × IsOutcome s o × ((p : Outcome
 -- two programs with the same signs have one tree, and pass the limits at the same signs
 abbrev pub OneTree : Type 0
 OneTree = (p q : Program) → signs (spelling p) ≡ signs (spelling q) → (source_of p ≡ source_of q) × (spelling p ≡ spelling q)
+
+-- how many signs stand before the first fault: all of them where there is none
+abbrev pub before_fault : List Sign → Outcome → ℕ
+before_fault s (tree source) = length s
+before_fault s (fault code i) = i
+
+-- a program begins, within the limits, with just those prefixes of the signs that end before the first fault
+abbrev pub PrefixesBegin : Type 0
+PrefixesBegin = (s : List Sign) (o : Outcome) → IsOutcome s o → (n : ℕ) → n ≤ length s → BeginsWithin (take n s) ↔ (n ≤ before_fault s o)

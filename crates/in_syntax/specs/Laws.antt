@@ -1,9 +1,11 @@
 -- Laws of the definitions, for every text.
-use Rattle.std.specs.Prelude.{◌≡◌, ℕ, ◌⊎◌, List}
+use Rattle.std.specs.Prelude.{◌≡◌, ℕ, ◌⊎◌, List, Result}
 use Rattle.std.specs.List.{AllByRecursion}
 use Rattle.in_syntax.specs.declared.words.Token.{Token}
 use Rattle.in_syntax.specs.declared.faults.Refusal.{Refusal}
+use Rattle.in_syntax.specs.declared.tree.Source.{Source}
 use Rattle.in_syntax.specs.Tokens.{IsTokensOf, IsTokenFault, StandsIn, StandInOrder}
+use Rattle.in_syntax.specs.Parsing.{IsAnswer}
 
 -- a text has at most one list of tokens
 abbrev pub TokensAreUnique : Type 0
@@ -28,3 +30,7 @@ TokensStandInTheirText = (text : List ℕ) (ts : List Token) → IsTokensOf text
 -- the tokens of a text stand in it one after another
 abbrev pub TokensStandInOrder : Type 0
 TokensStandInOrder = (text : List ℕ) (ts : List Token) → IsTokensOf text ts → StandInOrder 0 ts
+
+-- each text is exactly one of these: one tree, or one first fault
+abbrev pub OneAnswer : Type 0
+OneAnswer = (text : List ℕ) → (a : Result Source Refusal) × IsAnswer text a × ((b : Result Source Refusal) → IsAnswer text b → b ≡ a)

@@ -28,6 +28,11 @@ pub record IsGrammarFault (text : List ℕ) (r : Refusal) : Type 0 where
 abbrev pub IsTextFault : List ℕ → Refusal → Type 0
 IsTextFault text r = IsTokenFault text r ⊎ IsGrammarFault text r
 
+-- what a text is: a tree, or a first fault
+abbrev pub IsAnswer : List ℕ → Result Source Refusal → Type 0
+IsAnswer text (Ok source) = IsTreeOf text source
+IsAnswer text (Err r) = IsTextFault text r
+
 -- Ok with the tree, else the first fault
 abbrev pub Parses : List ℕ → Result Source Fault → Type 0
 Parses text (Ok source) = IsTreeOf text source

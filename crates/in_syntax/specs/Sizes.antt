@@ -6,6 +6,9 @@ use Rattle.in_syntax.specs.declared.tree.Term.TheFolds.{fold-Term}
 use Rattle.in_syntax.specs.declared.tree.Equation.{Equation}
 use Rattle.in_syntax.specs.declared.tree.Source.{Source}
 use Rattle.in_syntax.specs.declared.tree.SourceSymbol.{SourceSymbol}
+use Rattle.in_syntax.specs.declared.tree.SourceRule.{SourceRule}
+use Rattle.in_syntax.specs.declared.tree.Head.{Head}
+use Rattle.in_syntax.specs.Grammar.{max_types, max_symbols, max_rules, max_free, max_ports}
 
 abbrev pub total : List ℕ → ℕ
 total [] = 0
@@ -21,22 +24,30 @@ names_in_equation e = names_in e.left + names_in e.right
 abbrev pub names_in_equations : List Equation → ℕ
 names_in_equations es = total (map names_in_equation es)
 
+-- the names that stand in a head, its symbol's with them
+abbrev pub names_in_head : Head → ℕ
+names_in_head h = total (map names_in h.terms) + 1
+
+abbrev pub names_in_rule : SourceRule → ℕ
+names_in_rule r = names_in_head r.first + names_in_head r.second
+
+abbrev pub names_in_rules : List SourceRule → ℕ
+names_in_rules rs = total (map names_in_rule rs)
+
 -- at most so many bytes has a text, and no more names
 abbrev pub most_bytes : ℕ
 most_bytes = 1048576
 
--- at most so many auxiliary ports has a symbol
-abbrev pub most_ports : ℕ
-most_ports = 8
-
 pub record IsSizedSymbol (s : SourceSymbol) : Type 0 where
-  pub ports : length (flat_map (λ c. c) s.classes) ≤ most_ports
-  pub classes : length s.classes ≤ most_ports
+  pub ports : length (flat_map (λ c. c) s.classes) ≤ max_ports
+  pub classes : length s.classes ≤ max_ports
 
--- what is read from a text: no more names than bytes, and no more ports than the limit
+-- what is read from a text: no list is longer than its limit, and there are no more names than bytes
 pub record IsSized (s : Source) : Type 0 where
-  pub types : length s.types ≤ most_bytes
-  pub symbols : length s.symbols ≤ most_bytes
+  pub types : length s.types ≤ max_types
+  pub symbols : length s.symbols ≤ max_symbols
   pub ports : AllByRecursion IsSizedSymbol s.symbols
-  pub free : length s.net.free ≤ most_bytes
+  pub rules : length s.rules ≤ max_rules
+  pub free : length s.net.free ≤ max_free
   pub names : names_in_equations s.net.equations ≤ most_bytes
+  pub heads : names_in_rules s.rules ≤ most_bytes

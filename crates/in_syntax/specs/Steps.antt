@@ -12,74 +12,81 @@ use Rattle.in_syntax.specs.declared.signs.Sign.TheVariants.{Named, Tilde, Plain}
 use Rattle.in_syntax.specs.declared.tree.Name.{Name}
 use Rattle.in_syntax.specs.declared.tree.SourcePort.{SourcePort}
 use Rattle.in_syntax.specs.declared.tree.SourceSymbol.{SourceSymbol}
+use Rattle.in_syntax.specs.declared.counts.Counts.{Counts}
+use Rattle.in_syntax.specs.declared.tree.SourceRule.{SourceRule}
+use Rattle.in_syntax.specs.declared.tree.Head.{Head}
 use Rattle.in_syntax.specs.declared.tree.SourceFree.{SourceFree}
 use Rattle.in_syntax.specs.declared.tree.SourceNet.{SourceNet}
 use Rattle.in_syntax.specs.declared.tree.Source.{Source}
 use Rattle.in_syntax.specs.declared.tree.Term.{Term}
-use Rattle.in_syntax.specs.declared.spots.Spot.{Spot}
-use Rattle.in_syntax.specs.declared.spots.Spot.TheVariants as spot
-use Rattle.in_syntax.specs.declared.spots.PortOf.{PortOf}
-use Rattle.in_syntax.specs.declared.spots.PortOf.TheVariants.{Principal, Auxiliary, Free}
-use Rattle.in_syntax.specs.declared.spots.Side.{Side}
-use Rattle.in_syntax.specs.declared.spots.Side.TheVariants.{Left, Right}
-use Rattle.in_syntax.specs.declared.spots.Body.{Body}
+use Rattle.in_syntax.specs.declared.states.State.{State}
+use Rattle.in_syntax.specs.declared.states.State.TheVariants as state
+use Rattle.in_syntax.specs.declared.states.PortOf.{PortOf}
+use Rattle.in_syntax.specs.declared.states.PortOf.TheVariants.{Principal, Auxiliary, Free}
+use Rattle.in_syntax.specs.declared.states.HeadOf.{HeadOf}
+use Rattle.in_syntax.specs.declared.states.HeadOf.TheVariants.{First, Second}
+use Rattle.in_syntax.specs.declared.states.TermOf.{TermOf}
+use Rattle.in_syntax.specs.declared.states.TermOf.TheVariants.{Left, Right, Inside}
+use Rattle.in_syntax.specs.declared.states.Nest.{Nest}
 use Rattle.in_syntax.specs.declared.machine.Move.{Move}
 use Rattle.in_syntax.specs.declared.machine.Move.TheVariants as move
 use Rattle.in_syntax.specs.declared.reader.Reader.{Reader}
-use Rattle.in_syntax.specs.Grammar.{max_ports, max_depth}
-use Rattle.in_syntax.specs.Trees.{bare, with_argument, with_class, with_equation}
+use Rattle.in_syntax.specs.Grammar.{max_types, max_symbols, max_rules, max_free, max_ports, max_depth}
+use Rattle.in_syntax.specs.Trees.{bare, bare_head, with_argument, with_class, with_equation, with_term}
 use Rattle.in_syntax.specs.Programs.{signs_of, place_at}
 
 -- what a sign leads to, by the grammar alone
 pub data Step : Type 0 where
-  -- to another spot; and whether the sign passes a limit
-  goes : Bool → Spot → Step
+  -- to another state; and whether the sign passes a limit
+  goes : Bool → State → Step
   -- past a whole item
   adds_types : List Name → Step
   adds_symbol : SourceSymbol → Step
+  adds_rule : SourceRule → Step
   -- nowhere: no program goes on so
   stuck : Step
 
--- on to another spot, within the limits
-abbrev pub on : Spot → Step
+-- on to another state, within the limits
+abbrev pub on : State → Step
 on = goes false
 
-abbrev pub at_item : Sign → Step
-at_item (Plain kind.Type) = on (spot.TypeName [])
-at_item (Plain kind.Symbol) = on spot.SymbolName
-at_item (Plain kind.Net) = on spot.NetOpen
-at_item _ = stuck
+abbrev pub at_item : Counts → Sign → Step
+at_item c (Plain kind.Type) = on (state.TypeName [])
+at_item c (Plain kind.Symbol) = on state.SymbolName
+at_item c (Plain kind.Rule) = goes (nat_lt max_rules (c.rules + 1)) (state.HeadName First)
+at_item c (Plain kind.Net) = on state.NetOpen
+at_item c _ = stuck
 
-abbrev pub at_type_name : List Name → Sign → Step
-at_type_name names (Named n) = on (spot.TypeEnd (names ++ n ∷ []))
-at_type_name names _ = stuck
+abbrev pub at_type_name : Counts → List Name → Sign → Step
+at_type_name c names (Named n) = goes (nat_lt max_types ((c.types + 1) + length names)) (state.TypeEnd (names ++ n ∷ []))
+at_type_name c names _ = stuck
 
 abbrev pub at_type_end : List Name → Sign → Step
-at_type_end names (Plain kind.Comma) = on (spot.TypeName names)
+at_type_end names (Plain kind.Comma) = on (state.TypeName names)
 at_type_end names (Plain kind.Semicolon) = adds_types names
 at_type_end names _ = stuck
 
-abbrev pub at_symbol_name : Sign → Step
-at_symbol_name (Named n) = on (spot.SymbolColon n)
-at_symbol_name _ = stuck
+abbrev pub at_symbol_name : Counts → Sign → Step
+at_symbol_name c (Named n) = goes (nat_lt max_symbols (c.symbols + 1)) (state.SymbolColon n)
+at_symbol_name c _ = stuck
 
 abbrev pub at_symbol_colon : Name → Sign → Step
-at_symbol_colon n (Plain kind.Colon) = on (spot.PortKind (Principal n))
+at_symbol_colon n (Plain kind.Colon) = on (state.PortKind (Principal n))
 at_symbol_colon n _ = stuck
 
 abbrev pub kind_of : PortOf → Name → Step
-kind_of (Principal n) k = on (spot.PortSign (Principal n) k)
-kind_of (Auxiliary s c number) k = goes (nat_lt max_ports number) (spot.PortSign (Auxiliary s c (number + 1)) k)
-kind_of (Free fs n) k = on (spot.PortSign (Free fs n) k)
+kind_of (Principal n) k = on (state.PortSign (Principal n) k)
+kind_of (Auxiliary s c number) k = goes (nat_lt max_ports number) (state.PortSign (Auxiliary s c (number + 1)) k)
+kind_of (Free fs n) k = on (state.PortSign (Free fs n) k)
 
 abbrev pub at_port_kind : PortOf → Sign → Step
 at_port_kind o (Named k) = kind_of o k
 at_port_kind o _ = stuck
 
-abbrev pub after_port : PortOf → SourcePort → Spot
-after_port (Principal n) p = spot.SymbolEnd (record { name = n; port = p; classes = [] }) 1
-after_port (Auxiliary s c number) p = spot.ClassEnd s (c ++ p ∷ []) number
-after_port (Free fs n) p = spot.FreeEnd (fs ++ (record { name = n; port = p }) ∷ [])
+abbrev pub after_port : PortOf → SourcePort → State
+after_port (Principal n) p = state.SymbolEnd (record { name = n; port = p; classes = [] }) 1
+after_port (Auxiliary s c number) p = state.ClassEnd s (c ++ p ∷ []) number
+after_port (Free fs n) p = state.FreeEnd (fs ++ (record { name = n; port = p }) ∷ [])
 
 abbrev pub at_port_sign : PortOf → Name → Sign → Step
 at_port_sign o k (Plain kind.Plus) = on (after_port o (record { kind = k; output = true }))
@@ -87,95 +94,129 @@ at_port_sign o k (Plain kind.Minus) = on (after_port o (record { kind = k; outpu
 at_port_sign o k _ = stuck
 
 abbrev pub at_symbol_end : SourceSymbol → ℕ → Sign → Step
-at_symbol_end s number (Plain kind.OpenBrace) = on (spot.PortKind (Auxiliary s [] number))
+at_symbol_end s number (Plain kind.OpenBrace) = on (state.PortKind (Auxiliary s [] number))
 at_symbol_end s number (Plain kind.Semicolon) = adds_symbol s
 at_symbol_end s number _ = stuck
 
 abbrev pub at_class_end : SourceSymbol → List SourcePort → ℕ → Sign → Step
-at_class_end s c number (Plain kind.Comma) = on (spot.PortKind (Auxiliary s c number))
-at_class_end s c number (Plain kind.CloseBrace) = on (spot.SymbolEnd (with_class s c) number)
+at_class_end s c number (Plain kind.Comma) = on (state.PortKind (Auxiliary s c number))
+at_class_end s c number (Plain kind.CloseBrace) = on (state.SymbolEnd (with_class s c) number)
 at_class_end s c number _ = stuck
 
+abbrev pub at_head_name : HeadOf → Sign → Step
+at_head_name o (Named n) = on (state.HeadOpen o n)
+at_head_name o _ = stuck
+
+abbrev pub at_head_open : HeadOf → Name → Sign → Step
+at_head_open o n (Plain kind.OpenBracket) = on (state.HeadFirst o n)
+at_head_open o n _ = stuck
+
+abbrev pub at_head_first : HeadOf → Name → Sign → Step
+at_head_first o n (Named m) = on (state.TermOpen (record { of = Inside o (bare_head n); around = [] }) m)
+at_head_first o n (Plain kind.CloseBracket) = on (state.HeadEnd o (bare_head n))
+at_head_first o n _ = stuck
+
+abbrev pub at_head_end : HeadOf → Head → Sign → Step
+at_head_end First h (Plain kind.Meets) = on (state.HeadName (Second h))
+at_head_end (Second f) h (Plain kind.Semicolon) = adds_rule (record { first = f; second = h })
+at_head_end _ h _ = stuck
+
 abbrev pub at_net_open : Sign → Step
-at_net_open (Plain kind.OpenParenthesis) = on spot.FreeFirst
+at_net_open (Plain kind.OpenParenthesis) = on state.FreeFirst
 at_net_open _ = stuck
 
 abbrev pub at_free_first : Sign → Step
-at_free_first (Named n) = on (spot.FreeColon [] n)
-at_free_first (Plain kind.CloseParenthesis) = on (spot.BodyOpen [])
+at_free_first (Named n) = on (state.FreeColon [] n)
+at_free_first (Plain kind.CloseParenthesis) = on (state.BodyOpen [])
 at_free_first _ = stuck
 
 abbrev pub at_free_name : List SourceFree → Sign → Step
-at_free_name fs (Named n) = on (spot.FreeColon fs n)
+at_free_name fs (Named n) = goes (nat_lt max_free (1 + length fs)) (state.FreeColon fs n)
 at_free_name fs _ = stuck
 
 abbrev pub at_free_colon : List SourceFree → Name → Sign → Step
-at_free_colon fs n (Plain kind.Colon) = on (spot.PortKind (Free fs n))
+at_free_colon fs n (Plain kind.Colon) = on (state.PortKind (Free fs n))
 at_free_colon fs n _ = stuck
 
 abbrev pub at_free_end : List SourceFree → Sign → Step
-at_free_end fs (Plain kind.Comma) = on (spot.FreeName fs)
-at_free_end fs (Plain kind.CloseParenthesis) = on (spot.BodyOpen fs)
+at_free_end fs (Plain kind.Comma) = on (state.FreeName fs)
+at_free_end fs (Plain kind.CloseParenthesis) = on (state.BodyOpen fs)
 at_free_end fs _ = stuck
 
 abbrev pub at_body_open : List SourceFree → Sign → Step
-at_body_open fs (Plain kind.OpenBrace) = on (spot.Equation (record { free = fs; equations = [] }))
+at_body_open fs (Plain kind.OpenBrace) = on (state.Equation (record { free = fs; equations = [] }))
 at_body_open fs _ = stuck
 
 abbrev pub at_equation : SourceNet → Sign → Step
-at_equation n (Named m) = on (spot.TermOpen (record { net = n; side = Left; around = [] }) m)
-at_equation n (Plain kind.CloseBrace) = on (spot.Done n)
+at_equation n (Named m) = on (state.TermOpen (record { of = Left n; around = [] }) m)
+at_equation n (Plain kind.CloseBrace) = on (state.Done n)
 at_equation n _ = stuck
 
-abbrev pub at_term_name : Body → Sign → Step
-at_term_name b (Named n) = goes (nat_lt max_depth (length b.around + 1)) (spot.TermOpen b n)
+abbrev pub at_term_name : Nest → Sign → Step
+at_term_name b (Named n) = goes (nat_lt max_depth (length b.around + 1)) (state.TermOpen b n)
 at_term_name b _ = stuck
 
-abbrev pub after_argument : SourceNet → Side → List Term → Term → Term → Sign → Step
-after_argument n side around outer t (Plain kind.Comma) =
-    on (spot.TermName (record { net = n; side = side; around = with_argument outer t ∷ around }))
-after_argument n side around outer t (Plain kind.CloseParenthesis) =
-    on (spot.TermEnd (record { net = n; side = side; around = around }) (with_argument outer t))
-after_argument n side around outer t _ = stuck
+abbrev pub after_argument : TermOf → List Term → Term → Term → Sign → Step
+after_argument o around outer t (Plain kind.Comma) =
+    on (state.TermName (record { of = o; around = with_argument outer t ∷ around }))
+after_argument o around outer t (Plain kind.CloseParenthesis) =
+    on (state.TermEnd (record { of = o; around = around }) (with_argument outer t))
+after_argument o around outer t _ = stuck
 
-abbrev pub after_side : SourceNet → Side → Term → Sign → Step
-after_side n Left t (Tilde p) = on (spot.TermName (record { net = n; side = Right t p; around = [] }))
-after_side n (Right l p) t (Plain kind.Semicolon) =
-    on (spot.Equation (with_equation n (record { left = l; tilde = p; right = t })))
-after_side n _ t _ = stuck
+abbrev pub after_left : SourceNet → Term → Sign → Step
+after_left n t (Tilde p) = on (state.TermName (record { of = Right n t p; around = [] }))
+after_left n t _ = stuck
 
-abbrev pub after_term : SourceNet → Side → List Term → Term → Sign → Step
-after_term n side [] t x = after_side n side t x
-after_term n side (outer ∷ around) t x = after_argument n side around outer t x
+abbrev pub after_right : SourceNet → Term → Place → Term → Sign → Step
+after_right n l p t (Plain kind.Semicolon) = on (state.Equation (with_equation n (record { left = l; tilde = p; right = t })))
+after_right n l p t _ = stuck
 
-abbrev pub at_term_end : Body → Term → Sign → Step
-at_term_end b t x = after_term b.net b.side b.around t x
+abbrev pub after_head_term : HeadOf → Head → Term → Sign → Step
+after_head_term o h t (Plain kind.Comma) = on (state.TermName (record { of = Inside o (with_term h t); around = [] }))
+after_head_term o h t (Plain kind.CloseBracket) = on (state.HeadEnd o (with_term h t))
+after_head_term o h t _ = stuck
 
-abbrev pub at_term_open : Body → Name → Sign → Step
-at_term_open b n (Plain kind.OpenParenthesis) = on (spot.TermName (record { net = b.net; side = b.side; around = bare n ∷ b.around }))
+abbrev pub after_outermost : TermOf → Term → Sign → Step
+after_outermost (Left n) t x = after_left n t x
+after_outermost (Right n l p) t x = after_right n l p t x
+after_outermost (Inside o h) t x = after_head_term o h t x
+
+abbrev pub after_term : TermOf → List Term → Term → Sign → Step
+after_term o [] t x = after_outermost o t x
+after_term o (outer ∷ around) t x = after_argument o around outer t x
+
+abbrev pub at_term_end : Nest → Term → Sign → Step
+at_term_end b t x = after_term b.of b.around t x
+
+abbrev pub at_term_open : Nest → Name → Sign → Step
+at_term_open b n (Plain kind.OpenParenthesis) = on (state.TermName (record { of = b.of; around = bare n ∷ b.around }))
 at_term_open b n x = at_term_end b (bare n) x
 
-abbrev pub step : Spot → Sign → Step
-step spot.Item x = at_item x
-step (spot.TypeName names) x = at_type_name names x
-step (spot.TypeEnd names) x = at_type_end names x
-step spot.SymbolName x = at_symbol_name x
-step (spot.SymbolColon n) x = at_symbol_colon n x
-step (spot.PortKind o) x = at_port_kind o x
-step (spot.PortSign o k) x = at_port_sign o k x
-step (spot.SymbolEnd s number) x = at_symbol_end s number x
-step (spot.ClassEnd s c number) x = at_class_end s c number x
-step spot.NetOpen x = at_net_open x
-step spot.FreeFirst x = at_free_first x
-step (spot.FreeName fs) x = at_free_name fs x
-step (spot.FreeColon fs n) x = at_free_colon fs n x
-step (spot.FreeEnd fs) x = at_free_end fs x
-step (spot.BodyOpen fs) x = at_body_open fs x
-step (spot.Equation n) x = at_equation n x
-step (spot.TermName b) x = at_term_name b x
-step (spot.TermOpen b n) x = at_term_open b n x
-step (spot.TermEnd b t) x = at_term_end b t x
-step (spot.Done n) x = stuck
+abbrev pub step : Counts → State → Sign → Step
+step c state.Item x = at_item c x
+step c (state.TypeName names) x = at_type_name c names x
+step c (state.TypeEnd names) x = at_type_end names x
+step c state.SymbolName x = at_symbol_name c x
+step c (state.SymbolColon n) x = at_symbol_colon n x
+step c (state.PortKind o) x = at_port_kind o x
+step c (state.PortSign o k) x = at_port_sign o k x
+step c (state.SymbolEnd s number) x = at_symbol_end s number x
+step c (state.ClassEnd s k number) x = at_class_end s k number x
+step c (state.HeadName o) x = at_head_name o x
+step c (state.HeadOpen o n) x = at_head_open o n x
+step c (state.HeadFirst o n) x = at_head_first o n x
+step c (state.HeadEnd o h) x = at_head_end o h x
+step c state.NetOpen x = at_net_open x
+step c state.FreeFirst x = at_free_first x
+step c (state.FreeName fs) x = at_free_name fs x
+step c (state.FreeColon fs n) x = at_free_colon fs n x
+step c (state.FreeEnd fs) x = at_free_end fs x
+step c (state.BodyOpen fs) x = at_body_open fs x
+step c (state.Equation n) x = at_equation n x
+step c (state.TermName b) x = at_term_name b x
+step c (state.TermOpen b n) x = at_term_open b n x
+step c (state.TermEnd b t) x = at_term_end b t x
+step c (state.Done n) x = stuck
 
 -- the code's move, which refuses where a limit is passed
 abbrev pub move_of : Step → Move
@@ -183,40 +224,51 @@ move_of (goes false s) = move.Goes s
 move_of (goes true s) = move.Refuses E03
 move_of (adds_types names) = move.Types names
 move_of (adds_symbol s) = move.Symbol s
+move_of (adds_rule r) = move.Rule r
 move_of stuck = move.Refuses E02
 
 abbrev pub start : Reader
-start = record { types = []; symbols = []; spot = spot.Item }
+start = record { types = []; symbols = []; rules = []; state = state.Item }
 
 -- a tree, or a fault and the signs from it on
 pub data Answer : Type 0 where
   reads : Source → Answer
   refused : Code → List Sign → Answer
 
-abbrev pub net_of : Spot → Option SourceNet
-net_of (spot.Done n) = Some n
+abbrev pub net_of : State → Option SourceNet
+net_of (state.Done n) = Some n
 net_of _ = None
 
 abbrev pub whole : Reader → Option SourceNet → Answer
-whole r (Some n) = reads (record { types = r.types; symbols = r.symbols; net = n })
+whole r (Some n) = reads (record { types = r.types; symbols = r.symbols; rules = r.rules; net = n })
 whole r None = refused E02 []
 
-abbrev pub at_spot : Reader → Spot → Reader
-at_spot r s = record { types = r.types; symbols = r.symbols; spot = s }
+abbrev pub at_state : Reader → State → Reader
+at_state r s = record { types = r.types; symbols = r.symbols; rules = r.rules; state = s }
+
+abbrev pub between_items : List Name → List SourceSymbol → List SourceRule → Reader
+between_items types symbols rules = record { types = types; symbols = symbols; rules = rules; state = state.Item }
 
 abbrev pub with_types : Reader → List Name → Reader
-with_types r names = record { types = r.types ++ names; symbols = r.symbols; spot = spot.Item }
+with_types r names = between_items (r.types ++ names) r.symbols r.rules
 
 abbrev pub with_symbol : Reader → SourceSymbol → Reader
-with_symbol r s = record { types = r.types; symbols = r.symbols ++ s ∷ []; spot = spot.Item }
+with_symbol r s = between_items r.types (r.symbols ++ s ∷ []) r.rules
+
+abbrev pub with_rule : Reader → SourceRule → Reader
+with_rule r y = between_items r.types r.symbols (r.rules ++ y ∷ [])
+
+abbrev pub counts_of : Reader → Counts
+counts_of r = record { types = length r.types; symbols = length r.symbols; rules = length r.rules }
 
 -- on from a reader to the end of the signs
 abbrev pub run : Reader → List Sign → Answer
-run r [] = whole r (net_of r.spot)
-run r (x ∷ s) = elim (move_of (step r.spot x)) as (λ m. Answer) [
-  | move.Goes p ↦ run (at_spot r p) s
+run r [] = whole r (net_of r.state)
+run r (x ∷ s) = elim (move_of (step (counts_of r) r.state x)) as (λ m. Answer) [
+  | move.Goes p ↦ run (at_state r p) s
   | move.Types names ↦ run (with_types r names) s
   | move.Symbol y ↦ run (with_symbol r y) s
+  | move.Rule y ↦ run (with_rule r y) s
   | move.Refuses c ↦ refused c (x ∷ s)
 ]
 

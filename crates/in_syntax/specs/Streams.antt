@@ -1,5 +1,5 @@
 -- What one read or write moves, and when it has failed. This project's own choice.
-use Rattle.std.specs.Prelude.{◌≡◌, ℕ, zero, Bool, true, List, [], ◌∷◌, take, Option, Result, Ok, Err}
+use Rattle.std.specs.Prelude.{◌≡◌, ℕ, zero, Bool, true, List, ◌∷◌, take, Option, Result, Ok, Err}
 use Rattle.std.specs.Io.KnownBytes.{append_known}
 
 -- the front of the bytes that the answer names was moved, or nothing where the call failed

@@ -11,7 +11,7 @@ use Rattle.in_syntax.specs.declared.words.TokenKind.TheVariants as kind
 use Rattle.in_syntax.specs.declared.faults.Code.{Code}
 use Rattle.in_syntax.specs.declared.faults.Code.TheVariants.{E01, E03}
 use Rattle.in_syntax.specs.declared.faults.Refusal.{Refusal}
-use Rattle.in_syntax.specs.Characters.{line_feed, hash, is_plain, is_blank, begins_name, continues_name, stays_in_comment}
+use Rattle.in_syntax.specs.Characters.{line_feed, hash, is_blank, begins_name, continues_name, stays_in_comment}
 use Rattle.in_syntax.specs.Places.{start, past, past_all, place_between, place_at}
 
 -- the reserved words
@@ -80,8 +80,6 @@ pub data Reads : Spot → List ℕ → List Token → Type 0 where
 -- what stands at a spot is a fault, with a code and a spot of its own
 pub data Faults : Spot → List ℕ → Code → Spot → Type 0 where
   stray : {s : Spot} {c : ℕ} {cs : List ℕ} → IsFalse (is_blank c) → IsFalse (c == hash) → BeginsNoToken (c ∷ cs) → Faults s (c ∷ cs) E01 s
-  in_comment : {s : Spot} (body rest : List ℕ) (c : ℕ) → IsTrue (list_all stays_in_comment body) → IsFalse (is_plain c) →
-      Faults s (hash ∷ (body ++ (c ∷ rest))) E01 (past_all s (hash ∷ body))
   too_long : {s : Spot} {k : TokenKind} (w rest : List ℕ) → IsLongest w rest k → name_limit < length w → Faults s (w ++ rest) E03 s
 
 -- from a spot on, the first fault of the text has this code and this spot

@@ -5,6 +5,7 @@ use Rattle.in_syntax.specs.declared.tree.SourcePort.{SourcePort}
 use Rattle.in_syntax.specs.declared.tree.SourceSymbol.{SourceSymbol}
 use Rattle.in_syntax.specs.declared.tree.SourceNet.{SourceNet}
 use Rattle.in_syntax.specs.declared.tree.Equation.{Equation}
+use Rattle.in_syntax.specs.declared.tree.Head.{Head}
 use Rattle.in_syntax.specs.declared.tree.Term.{Term, out-Term, roll-Term}
 
 -- a bare name
@@ -14,6 +15,14 @@ bare n = roll-Term (record { name = n; args = [] })
 -- one more argument
 abbrev pub with_argument : Term → Term → Term
 with_argument t a = roll-Term (record { name = (out-Term t).name; args = (out-Term t).args ++ a ∷ [] })
+
+-- a head without terms
+abbrev pub bare_head : Name → Head
+bare_head n = record { name = n; terms = [] }
+
+-- one more term
+abbrev pub with_term : Head → Term → Head
+with_term h t = record { name = h.name; terms = h.terms ++ t ∷ [] }
 
 -- one more class
 abbrev pub with_class : SourceSymbol → List SourcePort → SourceSymbol

@@ -1,6 +1,6 @@
 ghost use Rattle.std.specs.Prelude.{◌≡◌, ◌+◌, ◌^◌, ◌<◌, [], ◌∷◌, MatchOption};
 ghost use Rattle.std.specs.Str.{chars};
-ghost use Rattle.in_syntax.specs.Characters.{is_plain, is_blank, begins_name, continues_name};
+ghost use Rattle.in_syntax.specs.Characters.{is_blank, begins_name, continues_name};
 ghost use Rattle.in_syntax.specs.Places.{past, place_between};
 ghost use Rattle.in_syntax.specs.Cursors.{BeginsWith};
 
@@ -68,13 +68,6 @@ pub fn first_char(text: &str) -> Option<(char, &str)>
     Some((c, chars.as_str()))
 }
 
-/// Whether the character is of one byte. For now no other stands in a program.
-pub fn is_plain(c: char) -> bool
-    ensures { result ≡ is_plain c }
-{
-    c < '\u{80}'
-}
-
 /// Whether the character parts tokens: space, tab, carriage return and line feed.
 pub fn is_blank(c: char) -> bool
     ensures { result ≡ is_blank c }
@@ -86,12 +79,12 @@ pub fn is_blank(c: char) -> bool
 pub fn begins_name(c: char) -> bool
     ensures { result ≡ begins_name c }
 {
-    is_plain(c) && (is_xid_start(c) || c == '_')
+    is_xid_start(c) || c == '_'
 }
 
 /// Whether a name may go on with the character.
 pub fn continues_name(c: char) -> bool
     ensures { result ≡ continues_name c }
 {
-    is_plain(c) && is_xid_continue(c)
+    is_xid_continue(c)
 }

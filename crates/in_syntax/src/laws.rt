@@ -1,6 +1,6 @@
 //! Laws of the definitions that contracts cite, each the contract of a function that does nothing.
-ghost use Rattle.in_syntax.specs.GrammarLaws.{OneOutcome, OneTree};
-ghost use Rattle.in_syntax.specs.Laws.{TokensAreUnique, TokenFaultsAreUnique, TextsHaveTokensOrFault, NoTextHasBoth, TokensStandInTheirText, TokensStandInOrder};
+ghost use Rattle.in_syntax.specs.GrammarLaws.{OneOutcome, OneTree, PrefixesBegin};
+ghost use Rattle.in_syntax.specs.Laws.{TokensAreUnique, TokenFaultsAreUnique, TextsHaveTokensOrFault, NoTextHasBoth, TokensStandInTheirText, TokensStandInOrder, OneAnswer};
 
 /// A text has at most one list of tokens.
 pub fn tokens_are_unique()
@@ -40,4 +40,14 @@ pub fn one_outcome()
 /// Two programs that are spelled alike are one tree, and pass the limits at the same tokens.
 pub fn one_tree()
     ensures { OneTree }
+{}
+
+/// A program begins, within the limits, with just those prefixes of a list of signs that end before its first fault.
+pub fn prefixes_begin()
+    ensures { PrefixesBegin }
+{}
+
+/// A text has one tree, or it has one first fault of its tokens and grammar; never both.
+pub fn one_answer()
+    ensures { OneAnswer }
 {}

@@ -6,7 +6,7 @@ ghost use Rattle.in_syntax.specs.Tokens.{beside, word_kind, signs, text_limit, w
 ghost use Rattle.std.specs.List.{AllByRecursion};
 ghost use Rattle.in_syntax.specs.Cursors.{FirstIs, BeginsSigns, IsWithin, IsRun, IsMove, RefusedBy, IsStopOf};
 
-use crate::characters::{START, Spot, begins_name, continues_name, first_char, is_blank, is_plain};
+use crate::characters::{START, Spot, begins_name, continues_name, first_char, is_blank};
 use crate::faults::{Code, Fault, Refusal};
 use crate::places::Place;
 use crate::words::{Token, TokenKind};
@@ -43,9 +43,6 @@ fn comment(spot: Spot, text: &str) -> Move<'_>
     while let Some((c, more)) = first_char(rest) {
         if c == '\n' {
             break;
-        }
-        if !is_plain(c) {
-            return Move::Wrong(Code::E01, end);
         }
         end = end.past(c);
         rest = more;
@@ -246,13 +243,14 @@ pub fn tokens_to_end(alloc: Global, text: &[u8]) -> Result<(Vec<Token>, Place), 
 /// The tokens of a program's text, in order.
 ///
 /// A text is of at most `MAX_TEXT_BYTES` bytes of UTF-8. Space, tab, carriage return and line feed part tokens, and
-/// so does a comment: from a `#` to the end of its line. A token is the longest one that begins at its place. All of
-/// this is this project's own choice.
+/// so does a comment: from a `#` to the end of its line. A token is the longest one that begins at its place. A name
+/// begins with a character of Unicode's XID_Start or `_`, and goes on with those of XID_Continue; nothing is
+/// normalized. All of this is this project's own choice.
 ///
 /// Refused, each with an empty place:
 /// - `E03` at the first character: the text is too long. This is looked at before all else.
-/// - `E01` at the first character, outside comments, with which no token begins, or at the first byte that is no part
-///   of well-formed UTF-8. For now this holds of each byte above 127, in comments too.
+/// - `E01` at the first character, outside comments, with which no token begins, or at the first byte, also in a
+///   comment, at which no well-formed character begins.
 /// - `E03` at the first character of a word of more than `MAX_NAME_CHARACTERS` characters.
 ///
 /// Of the last two the first in the text is answered. The other error is want of memory.

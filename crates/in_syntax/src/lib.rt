@@ -2,6 +2,7 @@
 #![tactic(auto)]
 
 mod characters;
+mod counts;
 mod faults;
 pub mod laws;
 mod lexer;
@@ -14,8 +15,8 @@ mod parsing;
 mod places;
 mod reader;
 mod signs;
-mod spots;
 mod stack;
+mod states;
 mod streams;
 mod text;
 mod tree;
@@ -23,14 +24,15 @@ mod words;
 
 pub use faults::{Code, Fault, Refusal};
 pub use lexer::{MAX_NAME_CHARACTERS, MAX_TEXT_BYTES, tokens};
-pub use machine::{MAX_DEPTH, MAX_PORTS};
+pub use machine::{MAX_DEPTH, MAX_FREE_NAMES, MAX_PORTS, MAX_RULES, MAX_SYMBOLS, MAX_TYPES};
 pub use memory::{MemoryIn, MemoryOut};
 pub use parsing::parse;
 pub use places::Place;
 pub use streams::{TextIn, TextOut};
 pub use text::Text;
 pub use tree::{
-    Equation, Equations, Name, Names, Source, SourceClass, SourceClasses, SourceFree, SourceFrees,
-    SourceNet, SourcePort, SourceSymbol, SourceSymbols, Term, Terms,
+    Equation, Equations, Head, Name, Names, Source, SourceClass, SourceClasses, SourceFree,
+    SourceFrees, SourceNet, SourcePort, SourceRule, SourceRules, SourceSymbol, SourceSymbols, Term,
+    Terms,
 };
 pub use words::{Token, TokenKind};

@@ -2,82 +2,112 @@ ghost use Rattle.std.specs.Prelude.{◌≡◌, [], IfOk};
 ghost use Rattle.in_syntax.specs.Steps as steps;
 ghost use Rattle.in_syntax.specs.Steps.{move_of};
 
+use crate::counts::Counts;
 use crate::faults::Code;
+use crate::places::Place;
 use crate::signs::Sign;
-use crate::spots::{Body, PortOf, Side, Spot};
 use crate::stack::Stack;
+use crate::states::{HeadOf, Nest, PortOf, State, TermOf};
 use crate::tree::{
-    Equation, Equations, Name, Names, SourceClass, SourceClasses, SourceFree, SourceFrees,
-    SourceNet, SourcePort, SourceSymbol, Term,
+    Equation, Equations, Head, Name, Names, SourceClass, SourceClasses, SourceFree, SourceFrees,
+    SourceNet, SourcePort, SourceRule, SourceSymbol, Term,
 };
 use crate::words::TokenKind;
 use std::alloc::{AllocError, Global};
 
-/// The greatest number of auxiliary ports of a symbol. This project's own choice.
+/// The greatest number of types. This project's own choice, as the other limits are.
+pub const MAX_TYPES: usize = 256;
+
+/// The greatest number of symbols.
+pub const MAX_SYMBOLS: usize = 512;
+
+/// The greatest number of rules.
+pub const MAX_RULES: usize = 4096;
+
+/// The greatest number of free names.
+pub const MAX_FREE_NAMES: usize = 256;
+
+/// The greatest number of auxiliary ports of a symbol.
 pub const MAX_PORTS: usize = 8;
 
-/// The greatest depth of a term. This project's own choice.
+/// The greatest depth of a term.
 pub const MAX_DEPTH: usize = 200;
 
 /// What a token leads to.
 #[derive(Drop)]
 pub enum Move {
     /// The next token stands there.
-    Goes(Spot),
+    Goes(State),
     /// A `type` item is whole.
     Types(Names),
     /// A `symbol` item is whole.
     Symbol(SourceSymbol),
+    /// A `rule` item is whole.
+    Rule(SourceRule),
     /// The token is the fault.
     Refuses(Code),
 }
 
-/// What this sign leads to from this spot. Its only error is want of memory.
-pub fn step(alloc: Global, spot: Spot, sign: Sign) -> Result<Move, AllocError>
-    ensures { IfOk result (λ m. m ≡ move_of (steps.step spot sign)) }
+/// What this sign leads to from this state, where so much is declared before the item. Its only error is want of memory.
+pub fn step(alloc: Global, counts: Counts, state: State, sign: Sign) -> Result<Move, AllocError>
+    ensures { IfOk result (λ m. m ≡ move_of (steps.step counts state sign)) }
 {
-    match spot {
-        Spot::Item => Ok(at_item(alloc, sign)),
-        Spot::TypeName(names) => at_type_name(names, sign),
-        Spot::TypeEnd(names) => Ok(at_type_end(names, sign)),
-        Spot::SymbolName => Ok(at_symbol_name(sign)),
-        Spot::SymbolColon(name) => Ok(at_symbol_colon(name, sign)),
-        Spot::PortKind(port_of) => Ok(at_port_kind(port_of, sign)),
-        Spot::PortSign(port_of, kind) => at_port_sign(alloc, port_of, kind, sign),
-        Spot::SymbolEnd(symbol, number) => Ok(at_symbol_end(alloc, symbol, number, sign)),
-        Spot::ClassEnd(symbol, class, number) => at_class_end(symbol, class, number, sign),
-        Spot::NetOpen => Ok(at_net_open(sign)),
-        Spot::FreeFirst => Ok(at_free_first(alloc, sign)),
-        Spot::FreeName(frees) => Ok(at_free_name(frees, sign)),
-        Spot::FreeColon(frees, name) => Ok(at_free_colon(frees, name, sign)),
-        Spot::FreeEnd(frees) => Ok(at_free_end(frees, sign)),
-        Spot::BodyOpen(frees) => Ok(at_body_open(alloc, frees, sign)),
-        Spot::Equation(net) => Ok(at_equation(alloc, net, sign)),
-        Spot::TermName(body) => Ok(at_term_name(body, sign)),
-        Spot::TermOpen(body, name) => at_term_open(alloc, body, name, sign),
-        Spot::TermEnd(body, term) => at_term_end(body, term, sign),
-        Spot::Done(_) => Ok(Move::Refuses(Code::E02)),
+    match state {
+        State::Item => Ok(at_item(alloc, counts, sign)),
+        State::TypeName(names) => at_type_name(counts, names, sign),
+        State::TypeEnd(names) => Ok(at_type_end(names, sign)),
+        State::SymbolName => Ok(at_symbol_name(counts, sign)),
+        State::SymbolColon(name) => Ok(at_symbol_colon(name, sign)),
+        State::PortKind(port_of) => Ok(at_port_kind(port_of, sign)),
+        State::PortSign(port_of, kind) => at_port_sign(alloc, port_of, kind, sign),
+        State::SymbolEnd(symbol, number) => Ok(at_symbol_end(alloc, symbol, number, sign)),
+        State::ClassEnd(symbol, class, number) => at_class_end(symbol, class, number, sign),
+        State::HeadName(head_of) => Ok(at_head_name(head_of, sign)),
+        State::HeadOpen(head_of, name) => Ok(at_head_open(head_of, name, sign)),
+        State::HeadFirst(head_of, name) => Ok(at_head_first(alloc, head_of, name, sign)),
+        State::HeadEnd(head_of, head) => Ok(at_head_end(head_of, head, sign)),
+        State::NetOpen => Ok(at_net_open(sign)),
+        State::FreeFirst => Ok(at_free_first(alloc, sign)),
+        State::FreeName(frees) => Ok(at_free_name(frees, sign)),
+        State::FreeColon(frees, name) => Ok(at_free_colon(frees, name, sign)),
+        State::FreeEnd(frees) => Ok(at_free_end(frees, sign)),
+        State::BodyOpen(frees) => Ok(at_body_open(alloc, frees, sign)),
+        State::Equation(net) => Ok(at_equation(alloc, net, sign)),
+        State::TermName(nest) => Ok(at_term_name(nest, sign)),
+        State::TermOpen(nest, name) => at_term_open(alloc, nest, name, sign),
+        State::TermEnd(nest, term) => at_term_end(nest, term, sign),
+        State::Done(_) => Ok(Move::Refuses(Code::E02)),
     }
 }
 
-fn at_item(alloc: Global, sign: Sign) -> Move
-    ensures { result ≡ move_of (steps.at_item sign) }
+fn at_item(alloc: Global, counts: Counts, sign: Sign) -> Move
+    ensures { result ≡ move_of (steps.at_item counts sign) }
 {
     match sign {
-        Sign::Plain(TokenKind::Type) => Move::Goes(Spot::TypeName(Names::new(alloc))),
-        Sign::Plain(TokenKind::Symbol) => Move::Goes(Spot::SymbolName),
-        Sign::Plain(TokenKind::Net) => Move::Goes(Spot::NetOpen),
+        Sign::Plain(TokenKind::Type) => Move::Goes(State::TypeName(Names::new(alloc))),
+        Sign::Plain(TokenKind::Symbol) => Move::Goes(State::SymbolName),
+        Sign::Plain(TokenKind::Rule) => {
+            if counts.rules >= MAX_RULES {
+                Move::Refuses(Code::E03)
+            } else {
+                Move::Goes(State::HeadName(HeadOf::First))
+            }
+        }
+        Sign::Plain(TokenKind::Net) => Move::Goes(State::NetOpen),
         _ => Move::Refuses(Code::E02),
     }
 }
 
-fn at_type_name(mut names: Names, sign: Sign) -> Result<Move, AllocError>
-    ensures { IfOk result (λ m. m ≡ move_of (steps.at_type_name names sign)) }
+fn at_type_name(counts: Counts, mut names: Names, sign: Sign) -> Result<Move, AllocError>
+    ensures { IfOk result (λ m. m ≡ move_of (steps.at_type_name counts names sign)) }
 {
     match sign {
         Sign::Named(name) => {
+            if names.len() >= MAX_TYPES.saturating_sub(counts.types) {
+                return Ok(Move::Refuses(Code::E03));
+            }
             names.push(name)?;
-            Ok(Move::Goes(Spot::TypeEnd(names)))
+            Ok(Move::Goes(State::TypeEnd(names)))
         }
         _ => Ok(Move::Refuses(Code::E02)),
     }
@@ -87,17 +117,23 @@ fn at_type_end(names: Names, sign: Sign) -> Move
     ensures { result ≡ move_of (steps.at_type_end names sign) }
 {
     match sign {
-        Sign::Plain(TokenKind::Comma) => Move::Goes(Spot::TypeName(names)),
+        Sign::Plain(TokenKind::Comma) => Move::Goes(State::TypeName(names)),
         Sign::Plain(TokenKind::Semicolon) => Move::Types(names),
         _ => Move::Refuses(Code::E02),
     }
 }
 
-fn at_symbol_name(sign: Sign) -> Move
-    ensures { result ≡ move_of (steps.at_symbol_name sign) }
+fn at_symbol_name(counts: Counts, sign: Sign) -> Move
+    ensures { result ≡ move_of (steps.at_symbol_name counts sign) }
 {
     match sign {
-        Sign::Named(name) => Move::Goes(Spot::SymbolColon(name)),
+        Sign::Named(name) => {
+            if counts.symbols >= MAX_SYMBOLS {
+                Move::Refuses(Code::E03)
+            } else {
+                Move::Goes(State::SymbolColon(name))
+            }
+        }
         _ => Move::Refuses(Code::E02),
     }
 }
@@ -106,7 +142,7 @@ fn at_symbol_colon(name: Name, sign: Sign) -> Move
     ensures { result ≡ move_of (steps.at_symbol_colon name sign) }
 {
     match sign {
-        Sign::Plain(TokenKind::Colon) => Move::Goes(Spot::PortKind(PortOf::Principal(name))),
+        Sign::Plain(TokenKind::Colon) => Move::Goes(State::PortKind(PortOf::Principal(name))),
         _ => Move::Refuses(Code::E02),
     }
 }
@@ -121,10 +157,10 @@ fn at_port_kind(port_of: PortOf, sign: Sign) -> Move
                     Move::Refuses(Code::E03)
                 } else {
                     let port_of = PortOf::Auxiliary(symbol, class, number + 1);
-                    Move::Goes(Spot::PortSign(port_of, kind))
+                    Move::Goes(State::PortSign(port_of, kind))
                 }
             }
-            port_of => Move::Goes(Spot::PortSign(port_of, kind)),
+            port_of => Move::Goes(State::PortSign(port_of, kind)),
         },
         _ => Move::Refuses(Code::E02),
     }
@@ -152,15 +188,15 @@ fn after_port(alloc: Global, port_of: PortOf, port: SourcePort) -> Result<Move, 
                 port,
                 classes,
             };
-            Ok(Move::Goes(Spot::SymbolEnd(symbol, 1)))
+            Ok(Move::Goes(State::SymbolEnd(symbol, 1)))
         }
         PortOf::Auxiliary(symbol, mut class, number) => {
             class.push(port)?;
-            Ok(Move::Goes(Spot::ClassEnd(symbol, class, number)))
+            Ok(Move::Goes(State::ClassEnd(symbol, class, number)))
         }
         PortOf::Free(mut frees, name) => {
             frees.push(SourceFree { name, port })?;
-            Ok(Move::Goes(Spot::FreeEnd(frees)))
+            Ok(Move::Goes(State::FreeEnd(frees)))
         }
     }
 }
@@ -169,7 +205,7 @@ fn at_symbol_end(alloc: Global, symbol: SourceSymbol, number: usize, sign: Sign)
     ensures { result ≡ move_of (steps.at_symbol_end symbol number sign) }
 {
     match sign {
-        Sign::Plain(TokenKind::OpenBrace) => Move::Goes(Spot::PortKind(PortOf::Auxiliary(
+        Sign::Plain(TokenKind::OpenBrace) => Move::Goes(State::PortKind(PortOf::Auxiliary(
             symbol,
             SourceClass::new(alloc),
             number,
@@ -188,13 +224,63 @@ fn at_class_end(
     ensures { IfOk result (λ m. m ≡ move_of (steps.at_class_end symbol class number sign)) }
 {
     match sign {
-        Sign::Plain(TokenKind::Comma) => Ok(Move::Goes(Spot::PortKind(PortOf::Auxiliary(
+        Sign::Plain(TokenKind::Comma) => Ok(Move::Goes(State::PortKind(PortOf::Auxiliary(
             symbol, class, number,
         )))),
         Sign::Plain(TokenKind::CloseBrace) => {
-            Ok(Move::Goes(Spot::SymbolEnd(symbol.with_class(class)?, number)))
+            Ok(Move::Goes(State::SymbolEnd(symbol.with_class(class)?, number)))
         }
         _ => Ok(Move::Refuses(Code::E02)),
+    }
+}
+
+fn at_head_name(head_of: HeadOf, sign: Sign) -> Move
+    ensures { result ≡ move_of (steps.at_head_name head_of sign) }
+{
+    match sign {
+        Sign::Named(name) => Move::Goes(State::HeadOpen(head_of, name)),
+        _ => Move::Refuses(Code::E02),
+    }
+}
+
+fn at_head_open(head_of: HeadOf, name: Name, sign: Sign) -> Move
+    ensures { result ≡ move_of (steps.at_head_open head_of name sign) }
+{
+    match sign {
+        Sign::Plain(TokenKind::OpenBracket) => Move::Goes(State::HeadFirst(head_of, name)),
+        _ => Move::Refuses(Code::E02),
+    }
+}
+
+fn at_head_first(alloc: Global, head_of: HeadOf, name: Name, sign: Sign) -> Move
+    ensures { result ≡ move_of (steps.at_head_first head_of name sign) }
+{
+    let head = Head::bare(alloc, name);
+    match sign {
+        Sign::Named(first) => {
+            let of = TermOf::Inside(head_of, head);
+            let around = Stack::new(alloc);
+            Move::Goes(State::TermOpen(Nest { of, around }, first))
+        }
+        Sign::Plain(TokenKind::CloseBracket) => Move::Goes(State::HeadEnd(head_of, head)),
+        _ => Move::Refuses(Code::E02),
+    }
+}
+
+fn at_head_end(head_of: HeadOf, head: Head, sign: Sign) -> Move
+    ensures { result ≡ move_of (steps.at_head_end head_of head sign) }
+{
+    match (head_of, sign) {
+        (HeadOf::First, Sign::Plain(TokenKind::Meets)) => {
+            Move::Goes(State::HeadName(HeadOf::Second(head)))
+        }
+        (HeadOf::Second(first), Sign::Plain(TokenKind::Semicolon)) => {
+            Move::Rule(SourceRule {
+                first,
+                second: head,
+            })
+        }
+        _ => Move::Refuses(Code::E02),
     }
 }
 
@@ -202,7 +288,7 @@ fn at_net_open(sign: Sign) -> Move
     ensures { result ≡ move_of (steps.at_net_open sign) }
 {
     match sign {
-        Sign::Plain(TokenKind::OpenParenthesis) => Move::Goes(Spot::FreeFirst),
+        Sign::Plain(TokenKind::OpenParenthesis) => Move::Goes(State::FreeFirst),
         _ => Move::Refuses(Code::E02),
     }
 }
@@ -211,9 +297,9 @@ fn at_free_first(alloc: Global, sign: Sign) -> Move
     ensures { result ≡ move_of (steps.at_free_first sign) }
 {
     match sign {
-        Sign::Named(name) => Move::Goes(Spot::FreeColon(SourceFrees::new(alloc), name)),
+        Sign::Named(name) => Move::Goes(State::FreeColon(SourceFrees::new(alloc), name)),
         Sign::Plain(TokenKind::CloseParenthesis) => {
-            Move::Goes(Spot::BodyOpen(SourceFrees::new(alloc)))
+            Move::Goes(State::BodyOpen(SourceFrees::new(alloc)))
         }
         _ => Move::Refuses(Code::E02),
     }
@@ -223,7 +309,13 @@ fn at_free_name(frees: SourceFrees, sign: Sign) -> Move
     ensures { result ≡ move_of (steps.at_free_name frees sign) }
 {
     match sign {
-        Sign::Named(name) => Move::Goes(Spot::FreeColon(frees, name)),
+        Sign::Named(name) => {
+            if frees.len() >= MAX_FREE_NAMES {
+                Move::Refuses(Code::E03)
+            } else {
+                Move::Goes(State::FreeColon(frees, name))
+            }
+        }
         _ => Move::Refuses(Code::E02),
     }
 }
@@ -232,7 +324,7 @@ fn at_free_colon(frees: SourceFrees, name: Name, sign: Sign) -> Move
     ensures { result ≡ move_of (steps.at_free_colon frees name sign) }
 {
     match sign {
-        Sign::Plain(TokenKind::Colon) => Move::Goes(Spot::PortKind(PortOf::Free(frees, name))),
+        Sign::Plain(TokenKind::Colon) => Move::Goes(State::PortKind(PortOf::Free(frees, name))),
         _ => Move::Refuses(Code::E02),
     }
 }
@@ -241,8 +333,8 @@ fn at_free_end(frees: SourceFrees, sign: Sign) -> Move
     ensures { result ≡ move_of (steps.at_free_end frees sign) }
 {
     match sign {
-        Sign::Plain(TokenKind::Comma) => Move::Goes(Spot::FreeName(frees)),
-        Sign::Plain(TokenKind::CloseParenthesis) => Move::Goes(Spot::BodyOpen(frees)),
+        Sign::Plain(TokenKind::Comma) => Move::Goes(State::FreeName(frees)),
+        Sign::Plain(TokenKind::CloseParenthesis) => Move::Goes(State::BodyOpen(frees)),
         _ => Move::Refuses(Code::E02),
     }
 }
@@ -253,7 +345,7 @@ fn at_body_open(alloc: Global, free: SourceFrees, sign: Sign) -> Move
     match sign {
         Sign::Plain(TokenKind::OpenBrace) => {
             let equations = Equations::new(alloc);
-            Move::Goes(Spot::Equation(SourceNet { free, equations }))
+            Move::Goes(State::Equation(SourceNet { free, equations }))
         }
         _ => Move::Refuses(Code::E02),
     }
@@ -264,107 +356,135 @@ fn at_equation(alloc: Global, net: SourceNet, sign: Sign) -> Move
 {
     match sign {
         Sign::Named(name) => {
+            let of = TermOf::Left(net);
             let around = Stack::new(alloc);
-            let side = Side::Left;
-            Move::Goes(Spot::TermOpen(Body { net, side, around }, name))
+            Move::Goes(State::TermOpen(Nest { of, around }, name))
         }
-        Sign::Plain(TokenKind::CloseBrace) => Move::Goes(Spot::Done(net)),
+        Sign::Plain(TokenKind::CloseBrace) => Move::Goes(State::Done(net)),
         _ => Move::Refuses(Code::E02),
     }
 }
 
-fn at_term_name(body: Body, sign: Sign) -> Move
-    ensures { result ≡ move_of (steps.at_term_name body sign) }
+fn at_term_name(nest: Nest, sign: Sign) -> Move
+    ensures { result ≡ move_of (steps.at_term_name nest sign) }
 {
     match sign {
         Sign::Named(name) => {
-            if body.around.len() >= MAX_DEPTH {
+            if nest.around.len() >= MAX_DEPTH {
                 Move::Refuses(Code::E03)
             } else {
-                Move::Goes(Spot::TermOpen(body, name))
+                Move::Goes(State::TermOpen(nest, name))
             }
         }
         _ => Move::Refuses(Code::E02),
     }
 }
 
-fn at_term_open(alloc: Global, body: Body, name: Name, sign: Sign) -> Result<Move, AllocError>
-    ensures { IfOk result (λ m. m ≡ move_of (steps.at_term_open body name sign)) }
+fn at_term_open(alloc: Global, nest: Nest, name: Name, sign: Sign) -> Result<Move, AllocError>
+    ensures { IfOk result (λ m. m ≡ move_of (steps.at_term_open nest name sign)) }
 {
     let term = Term::bare(alloc, name);
     match sign {
         Sign::Plain(TokenKind::OpenParenthesis) => {
-            let Body {
-                net,
-                side,
-                mut around,
-            } = body;
+            let Nest { of, mut around } = nest;
             around.push(term)?;
-            Ok(Move::Goes(Spot::TermName(Body { net, side, around })))
+            Ok(Move::Goes(State::TermName(Nest { of, around })))
         }
-        sign => at_term_end(body, term, sign),
+        sign => at_term_end(nest, term, sign),
     }
 }
 
-fn at_term_end(body: Body, term: Term, sign: Sign) -> Result<Move, AllocError>
-    ensures { IfOk result (λ m. m ≡ move_of (steps.at_term_end body term sign)) }
+fn at_term_end(nest: Nest, term: Term, sign: Sign) -> Result<Move, AllocError>
+    ensures { IfOk result (λ m. m ≡ move_of (steps.at_term_end nest term sign)) }
 {
-    let Body {
-        net,
-        side,
-        mut around,
-    } = body;
+    let Nest { of, mut around } = nest;
     match around.pop() {
-        Some(outer) => after_argument(net, side, around, outer, term, sign),
-        None => after_side(net, side, around, term, sign),
+        Some(outer) => after_argument(of, around, outer, term, sign),
+        None => after_outermost(of, around, term, sign),
     }
 }
 
 fn after_argument(
-    net: SourceNet,
-    side: Side,
+    of: TermOf,
     mut around: Stack,
     outer: Term,
     term: Term,
     sign: Sign,
 ) -> Result<Move, AllocError>
-    ensures { IfOk result (λ m. m ≡ move_of (steps.after_argument net side around outer term sign)) }
+    ensures { IfOk result (λ m. m ≡ move_of (steps.after_argument of around outer term sign)) }
 {
     match sign {
         Sign::Plain(TokenKind::Comma) => {
             around.push(outer.with_argument(term)?)?;
-            Ok(Move::Goes(Spot::TermName(Body { net, side, around })))
+            Ok(Move::Goes(State::TermName(Nest { of, around })))
         }
         Sign::Plain(TokenKind::CloseParenthesis) => {
             let outer = outer.with_argument(term)?;
-            Ok(Move::Goes(Spot::TermEnd(Body { net, side, around }, outer)))
+            Ok(Move::Goes(State::TermEnd(Nest { of, around }, outer)))
         }
         _ => Ok(Move::Refuses(Code::E02)),
     }
 }
 
-fn after_side(
+fn after_outermost(of: TermOf, around: Stack, term: Term, sign: Sign) -> Result<Move, AllocError>
+    requires { around ≡ [] }
+    ensures { IfOk result (λ m. m ≡ move_of (steps.after_outermost of term sign)) }
+{
+    match of {
+        TermOf::Left(net) => Ok(after_left(net, around, term, sign)),
+        TermOf::Right(net, left, tilde) => after_right(net, left, tilde, term, sign),
+        TermOf::Inside(head_of, head) => after_head_term(head_of, head, around, term, sign),
+    }
+}
+
+fn after_left(net: SourceNet, around: Stack, term: Term, sign: Sign) -> Move
+    requires { around ≡ [] }
+    ensures { result ≡ move_of (steps.after_left net term sign) }
+{
+    match sign {
+        Sign::Tilde(tilde) => {
+            let of = TermOf::Right(net, term, tilde);
+            Move::Goes(State::TermName(Nest { of, around }))
+        }
+        _ => Move::Refuses(Code::E02),
+    }
+}
+
+fn after_right(
     net: SourceNet,
-    side: Side,
+    left: Term,
+    tilde: Place,
+    right: Term,
+    sign: Sign,
+) -> Result<Move, AllocError>
+    ensures { IfOk result (λ m. m ≡ move_of (steps.after_right net left tilde right sign)) }
+{
+    match sign {
+        Sign::Plain(TokenKind::Semicolon) => {
+            let equation = Equation { left, tilde, right };
+            Ok(Move::Goes(State::Equation(net.with_equation(equation)?)))
+        }
+        _ => Ok(Move::Refuses(Code::E02)),
+    }
+}
+
+fn after_head_term(
+    head_of: HeadOf,
+    head: Head,
     around: Stack,
     term: Term,
     sign: Sign,
 ) -> Result<Move, AllocError>
     requires { around ≡ [] }
-    ensures { IfOk result (λ m. m ≡ move_of (steps.after_side net side term sign)) }
+    ensures { IfOk result (λ m. m ≡ move_of (steps.after_head_term head_of head term sign)) }
 {
-    match (side, sign) {
-        (Side::Left, Sign::Tilde(tilde)) => {
-            let side = Side::Right(term, tilde);
-            Ok(Move::Goes(Spot::TermName(Body { net, side, around })))
+    match sign {
+        Sign::Plain(TokenKind::Comma) => {
+            let of = TermOf::Inside(head_of, head.with_term(term)?);
+            Ok(Move::Goes(State::TermName(Nest { of, around })))
         }
-        (Side::Right(left, tilde), Sign::Plain(TokenKind::Semicolon)) => {
-            let equation = Equation {
-                left,
-                tilde,
-                right: term,
-            };
-            Ok(Move::Goes(Spot::Equation(net.with_equation(equation)?)))
+        Sign::Plain(TokenKind::CloseBracket) => {
+            Ok(Move::Goes(State::HeadEnd(head_of, head.with_term(term)?)))
         }
         _ => Ok(Move::Refuses(Code::E02)),
     }

@@ -13,10 +13,13 @@ use std::alloc::Global;
 /// The first fault is answered, the faults of the tokens before those of the grammar:
 /// - what `tokens` refuses, with its places;
 /// - E02, at the first token that no program continues with, or at the end of the text where a program only begins so;
-/// - E03, at the type's name of a symbol's ninth auxiliary port, or at the name of a term at depth 201.
+/// - E03, at the name of type `MAX_TYPES` + 1 or of symbol `MAX_SYMBOLS` + 1, at the word `rule` of rule `MAX_RULES` + 1,
+///   at the type's name of a symbol's auxiliary port `MAX_PORTS` + 1, counted over all its classes, at free name
+///   `MAX_FREE_NAMES` + 1, or at the first name of a term at depth `MAX_DEPTH` + 1. A term of an equation or of a head
+///   has depth 1, an argument one more than its agent. All limits are this project's own choice.
 ///
-/// Its other error is want of memory. The language is that of Lafont 1990, agents and equations between terms, in signs
-/// of this project's own choice.
+/// Its other error is want of memory. The language is that of Lafont 1990: types, symbols with partitions, rules of two
+/// heads, agents and equations between terms, in signs of this project's own choice.
 pub fn parse(alloc: Global, text: &[u8]) -> Result<Source, Fault>
     ensures tree { Parses text.now result }
     ensures sized { IfOk result IsSized }

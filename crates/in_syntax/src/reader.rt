@@ -3,12 +3,13 @@ ghost use Rattle.in_syntax.specs.Programs.{HasText, sign_of};
 ghost use Rattle.in_syntax.specs.Steps.{start, Takes, Ends};
 ghost use Rattle.in_syntax.specs.Steps as steps;
 
+use crate::counts::Counts;
 use crate::faults::{Code, Fault, Refusal};
 use crate::machine::{Move, step};
 use crate::places::Place;
 use crate::signs::{Sign, read_sign};
-use crate::spots::Spot;
-use crate::tree::{Names, Source, SourceNet, SourceSymbols};
+use crate::states::State;
+use crate::tree::{Names, Source, SourceNet, SourceRules, SourceSymbols};
 use crate::words::Token;
 use std::alloc::Global;
 
@@ -17,7 +18,8 @@ use std::alloc::Global;
 pub struct Reader {
     pub types: Names,
     pub symbols: SourceSymbols,
-    pub spot: Spot,
+    pub rules: SourceRules,
+    pub state: State,
 }
 
 impl Reader {
@@ -27,7 +29,8 @@ impl Reader {
         Reader {
             types: Names::new(alloc),
             symbols: SourceSymbols::new(alloc),
-            spot: Spot::Item,
+            rules: SourceRules::new(alloc),
+            state: State::Item,
         }
     }
 
@@ -39,7 +42,7 @@ impl Reader {
         match read_sign(alloc, text, token) {
             Ok(sign) => self.take_sign(alloc, sign, token.place),
             Err(error) => {
-                put_away(self.spot);
+                put_away(self.state);
                 Err(Fault::Memory(error))
             }
         }
@@ -52,29 +55,32 @@ impl Reader {
         let Reader {
             mut types,
             mut symbols,
-            spot,
+            mut rules,
+            state,
         } = self;
-        match step(alloc, spot, sign)? {
-            Move::Goes(spot) => Ok(Reader {
+        let counts = Counts {
+            types: types.len(),
+            symbols: symbols.len(),
+            rules: rules.len(),
+        };
+        match step(alloc, counts, state, sign)? {
+            Move::Goes(state) => Ok(Reader {
                 types,
                 symbols,
-                spot,
+                rules,
+                state,
             }),
             Move::Types(names) => {
                 types.append(names)?;
-                Ok(Reader {
-                    types,
-                    symbols,
-                    spot: Spot::Item,
-                })
+                Ok(between_items(types, symbols, rules))
             }
             Move::Symbol(symbol) => {
                 symbols.push(symbol)?;
-                Ok(Reader {
-                    types,
-                    symbols,
-                    spot: Spot::Item,
-                })
+                Ok(between_items(types, symbols, rules))
+            }
+            Move::Rule(rule) => {
+                rules.push(rule)?;
+                Ok(between_items(types, symbols, rules))
             }
             Move::Refuses(code) => Err(refused(code, place)),
         }
@@ -87,12 +93,14 @@ impl Reader {
         let Reader {
             types,
             symbols,
-            spot,
+            rules,
+            state,
         } = self;
-        match net_of(spot) {
+        match net_of(state) {
             Some(net) => Ok(Source {
                 types,
                 symbols,
+                rules,
                 net,
             }),
             None => Err(refused(Code::E02, end)),
@@ -100,11 +108,22 @@ impl Reader {
     }
 }
 
-fn net_of(spot: Spot) -> Option<SourceNet>
-    ensures { result ≡ steps.net_of spot }
+fn between_items(types: Names, symbols: SourceSymbols, rules: SourceRules) -> Reader
+    ensures { result ≡ steps.between_items types symbols rules }
 {
-    match spot {
-        Spot::Done(net) => Some(net),
+    Reader {
+        types,
+        symbols,
+        rules,
+        state: State::Item,
+    }
+}
+
+fn net_of(state: State) -> Option<SourceNet>
+    ensures { result ≡ steps.net_of state }
+{
+    match state {
+        State::Done(net) => Some(net),
         unfinished => {
             put_away(unfinished);
             None
@@ -112,8 +131,8 @@ fn net_of(spot: Spot) -> Option<SourceNet>
     }
 }
 
-// Drops a spot: a call, since the proof of each drop goes through all spots anew.
-fn put_away(_spot: Spot) {}
+// Drops a state: a call, since the proof of each drop goes through all states anew.
+fn put_away(_state: State) {}
 
 fn refused(code: Code, place: Place) -> Fault
     ensures { result ≡ steps.fault_at code place }

@@ -1,5 +1,5 @@
 ghost use Rattle.std.specs.Prelude.{◌≡◌, IfOk};
-ghost use Rattle.in_syntax.specs.Trees.{bare, with_argument, with_class, with_equation};
+ghost use Rattle.in_syntax.specs.Trees.{bare, bare_head, with_argument, with_class, with_equation, with_term};
 
 use crate::places::Place;
 use crate::text::Text;
@@ -14,6 +14,8 @@ pub type SourceClass = Items<SourcePort>;
 
 pub type SourceClasses = Items<SourceClass>;
 
+pub type SourceRules = Items<SourceRule>;
+
 pub type SourceFrees = Items<SourceFree>;
 
 pub type Equations = Items<Equation>;
@@ -25,6 +27,7 @@ pub type Terms = Items<Term>;
 pub struct Source {
     pub types: Names,
     pub symbols: SourceSymbols,
+    pub rules: SourceRules,
     pub net: SourceNet,
 }
 
@@ -66,6 +69,41 @@ impl SourceSymbol {
             port,
             classes,
         })
+    }
+}
+
+/// A rule as it is written: its two heads.
+#[derive(Drop)]
+pub struct SourceRule {
+    pub first: Head,
+    pub second: Head,
+}
+
+/// A head of a rule: a symbol's name, and a term for each of its auxiliary ports.
+#[derive(Drop)]
+pub struct Head {
+    pub name: Name,
+    pub terms: Terms,
+}
+
+impl Head {
+    /// A head without terms.
+    pub fn bare(alloc: Global, name: Name) -> Head
+        ensures { result ≡ bare_head name }
+    {
+        Head {
+            name,
+            terms: Terms::new(alloc),
+        }
+    }
+
+    /// The head with one more term, at the end. Its only error is want of memory.
+    pub fn with_term(self, term: Term) -> Result<Head, AllocError>
+        ensures { IfOk result (λ h. h ≡ with_term self term) }
+    {
+        let Head { name, mut terms } = self;
+        terms.push(term)?;
+        Ok(Head { name, terms })
     }
 }
 

@@ -70,8 +70,22 @@ fn places_tokens(rt: HostRuntime) -> Result<(), Fail> {
 }
 
 #[test]
+fn reads_names_of_any_letters(rt: HostRuntime) -> Result<(), Fail> {
+    // the last name has a combining mark, which is a character of its own
+    let text = "été _ж \u{3b1}\u{b7}1 e\u{301} # \u{feff}\u{2028} $ \0";
+    let mut places = Vec::new(rt.alloc());
+    for token in tokens(rt.alloc(), text.as_bytes())? {
+        assert!(rt; token.kind == TokenKind::Name);
+        places.push((token.place.from, token.place.to, token.place.col))?;
+    }
+    let expected = [(0, 5, 1), (6, 9, 5), (10, 15, 8), (16, 19, 12)];
+    assert_eq!(rt; places.as_slice(), expected.as_slice());
+    Ok(())
+}
+
+#[test]
 fn refuses_the_first_fault(rt: HostRuntime) -> Result<(), Fail> {
-    let cases: [(&[u8], usize, u32, u32); 20] = [
+    let cases: [(&[u8], usize, u32, u32); 25] = [
         (b"type type; .. $", 11, 1, 12),
         (b"a >", 2, 1, 3),
         (b"a > <", 2, 1, 3),
@@ -80,8 +94,8 @@ fn refuses_the_first_fault(rt: HostRuntime) -> Result<(), Fail> {
         (b"net 1", 4, 1, 5),
         (b"a\x0Bb", 1, 1, 2),
         (b"\xEF\xBB\xBFnet", 0, 1, 1),
-        (b"# \xEF\xBB\xBF", 2, 1, 3),
-        (b"#\n# caf\xC3\xA9", 7, 2, 6),
+        (b"# \xEF\xBB\xBF\n\xEF\xBB\xBF", 6, 2, 1),
+        (b"#\n# caf\xC3\xA9 \xC3", 10, 2, 8),
         (b"# a \xFF\na", 4, 1, 5),
         (b"a \xC0\xAF", 2, 1, 3),
         (b"a \xC1\xBF", 2, 1, 3),
@@ -92,6 +106,11 @@ fn refuses_the_first_fault(rt: HostRuntime) -> Result<(), Fail> {
         (b"a \xF5\x80\x80\x80", 2, 1, 3),
         (b"a \x80", 2, 1, 3),
         (b"a $ \xE2\x82", 2, 1, 3),
+        (b"\xC3\xA9 \xCC\x81", 3, 1, 3),
+        (b"a\xC2\xA0b", 1, 1, 2),
+        (b"a\xC2\x85b", 1, 1, 2),
+        (b"a\xE2\x80\xA8b", 1, 1, 2),
+        (b"a \xC2\xB2", 2, 1, 3),
     ];
     for (text, at, line, col) in cases {
         assert_eq!(rt;
@@ -112,6 +131,16 @@ fn limits_names_and_texts(rt: HostRuntime) -> Result<(), Fail> {
     text.extend_from_slice(b"\xC3\xA9 $")?;
     assert_eq!(rt;
         refusal(rt.alloc(), text.as_slice()),
+        empty_place(Code::E03, 0, 1, 1)
+    );
+    let mut letters = Vec::new(rt.alloc());
+    for _ in 0..64 {
+        letters.extend_from_slice(b"\xD0\xB6")?;
+    }
+    assert_eq!(rt; tokens(rt.alloc(), letters.as_slice())?.len(), 1);
+    letters.extend_from_slice(b"\xCC\x81")?;
+    assert_eq!(rt;
+        refusal(rt.alloc(), letters.as_slice()),
         empty_place(Code::E03, 0, 1, 1)
     );
     let mut long = Vec::new(rt.alloc());

@@ -1,22 +1,17 @@
-use Rattle.std.proofs.Common.{[], ◌∷◌, ◌++◌, sym, ◌∙◌, subst}
-use Rattle.std.proofs.lemmas.Bool.{and_from, not_from_false, ne_eqb}
+use Rattle.std.proofs.Common.{[], ◌∷◌, ◌++◌, sym, subst}
+use Rattle.std.proofs.lemmas.Bool.{not_from_false, ne_eqb}
 use Rattle.in_syntax.specs.Characters.{stays_in_comment}
 use Rattle.in_syntax.specs.Tokens.{EndsLine}
 use Rattle.in_syntax.specs.Cursors.{Runs}
 use Rattle.in_syntax.proofs.Cursors.{runs_more}
-use Rattle.in_syntax.proofs.Moves.{comment_goes, comment_wrong}
+use Rattle.in_syntax.proofs.Moves.{comment_goes}
 use Rattle.in_syntax.proofs.lexer.comment.Goals as goal
 use Rattle.in_syntax.proofs.lexer.comment.Goals.{in-Some+then-c-eq10, in_default}
-
-pub returns-then-not-is_plain : goal.returns-then-not-is_plain
-returns-then-not-is_plain c =
-    let i = c.loop-c.invariant in
-    comment_wrong c.args.spot c.loop-c.end c.args.text.now i.0 c.loop-c.rest.now c.in-Some.more.now c.in-Some.c c.requires.first i.1 c.in-Some.ensures (sym c.is_plain.ensures ∙ c.if-not-is_plain.true)
 
 pub loop-c-preserved : goal.loop-c-preserved
 loop-c-preserved c =
     let i = c.loop-c.invariant in
-    let stays = and_from _ _ (sym c.is_plain.ensures ∙ c.if-not-is_plain.false) (not_from_false _ (ne_eqb c.in-Some.c 10 c.if-c-eq10.false)) in
+    let stays = not_from_false _ (ne_eqb c.in-Some.c 10 c.if-c-eq10.false) in
     let more = runs_more stays_in_comment c.args.spot c.loop-c.end c.args.text.now i.0 c.loop-c.rest.now c.in-Some.more.now c.in-Some.c i.1 c.in-Some.ensures stays in
     (i.0 ++ c.in-Some.c ∷ [], subst (λ t. Runs stays_in_comment c.args.spot c.args.text.now (i.0 ++ c.in-Some.c ∷ []) t c.in-Some.more.now) (sym c.past-end.ensures) more)
 

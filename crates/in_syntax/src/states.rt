@@ -1,6 +1,6 @@
 use crate::places::Place;
 use crate::stack::Stack;
-use crate::tree::{Name, Names, SourceClass, SourceFrees, SourceNet, SourceSymbol, Term};
+use crate::tree::{Head, Name, Names, SourceClass, SourceFrees, SourceNet, SourceSymbol, Term};
 
 /// What a port's type is written for.
 #[derive(Drop)]
@@ -14,24 +14,35 @@ pub enum PortOf {
     Free(SourceFrees, Name),
 }
 
-/// On which side of an equation a term stands; on the right, after the left term and the `~`.
+/// Which head of a rule is written.
 #[derive(Drop)]
-pub enum Side {
-    Left,
-    Right(Term, Place),
+pub enum HeadOf {
+    First,
+    /// After the first head.
+    Second(Head),
 }
 
-/// The net so far, and the terms that are open in it.
+/// What a term is written for.
 #[derive(Drop)]
-pub struct Body {
-    pub net: SourceNet,
-    pub side: Side,
+pub enum TermOf {
+    /// The left side of an equation, after the net so far.
+    Left(SourceNet),
+    /// The right side of an equation, after the net so far, the left side and the `~`.
+    Right(SourceNet, Term, Place),
+    /// A head, after its terms so far.
+    Inside(HeadOf, Head),
+}
+
+/// Where a term stands: what it is a part of, and the terms that are open around it.
+#[derive(Drop)]
+pub struct Nest {
+    pub of: TermOf,
     pub around: Stack,
 }
 
 /// Where in a program its next token stands, with what was read of the item or net around it.
 #[derive(Drop)]
-pub enum Spot {
+pub enum State {
     /// An item or the net begins.
     Item,
     /// After `type`, or after a `,` in its list.
@@ -50,6 +61,14 @@ pub enum Spot {
     SymbolEnd(SourceSymbol, usize),
     /// After a port of a class, with the number of the next auxiliary port.
     ClassEnd(SourceSymbol, SourceClass, usize),
+    /// After `rule`, or after the `><` of a rule.
+    HeadName(HeadOf),
+    /// After a head's name.
+    HeadOpen(HeadOf, Name),
+    /// After a head's `[`.
+    HeadFirst(HeadOf, Name),
+    /// After a head's `]`.
+    HeadEnd(HeadOf, Head),
     /// After `net`.
     NetOpen,
     /// After the `(` of the free names.
@@ -65,11 +84,11 @@ pub enum Spot {
     /// An equation begins, or the net ends.
     Equation(SourceNet),
     /// A term comes.
-    TermName(Body),
+    TermName(Nest),
     /// After a term's name.
-    TermOpen(Body, Name),
+    TermOpen(Nest, Name),
     /// After a whole term.
-    TermEnd(Body, Term),
+    TermEnd(Nest, Term),
     /// After the net.
     Done(SourceNet),
 }
