@@ -24,6 +24,7 @@ fn the_word_check_is_an_action(rt: HostRuntime) -> Result<(), Fail> {
 #[test]
 fn other_words_are_wrong(rt: HostRuntime) {
     let alloc = rt.alloc();
+    assert!(rt; is_wrong(&action_of(alloc, &[])));
     assert!(rt; is_wrong(&action_of(alloc, &["inet"])));
     assert!(rt; is_wrong(&action_of(alloc, &["inet", "derive"])));
     assert!(rt; is_wrong(&action_of(alloc, &["inet", "run"])));
