@@ -11,9 +11,9 @@ use Rattle.in_net.specs.Built.{Builds}
 use Rattle.in_typing.specs.Typed.{Types}
 use Rattle.inet.specs.declared.checking.Counts.{Counts}
 
--- how many types and symbols the tables have, and how many agents the net
-abbrev pub counts_of : Tables → Parts → Counts
-counts_of t n = record { types = length t.types; symbols = length t.names; agents = count_by is_some n.cells }
+-- how many types and symbols the tables have, how many rules the tree, and how many agents the net
+abbrev pub counts_of : Source → Tables → Parts → Counts
+counts_of s t n = record { types = length t.types; symbols = length t.names; rules = length s.rules; agents = count_by is_some n.cells }
 
 -- the text has a tree, the tree tables and a net, each wire of the net fits, and so much is there
 pub record IsAccepted (text : List ℕ) (counts : Counts) : Type 0 where
@@ -24,7 +24,7 @@ pub record IsAccepted (text : List ℕ) (counts : Counts) : Type 0 where
   pub tabulates : Tabulates source (Ok tables)
   pub builds : Builds source tables (Ok net)
   pub fits : Types tables net (Ok tt)
-  pub counted : counts ≡ counts_of tables net
+  pub counted : counts ≡ counts_of source tables net
 
 -- the first of the passes that refuses: that of the tree, of the tables, of the net or of the types
 pub data IsRefused (text : List ℕ) (r : Refusal) : Type 0 where

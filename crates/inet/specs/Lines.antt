@@ -10,11 +10,11 @@ use Rattle.inet.specs.declared.checking.Counts.{Counts}
 abbrev pub line_end : List ℕ
 line_end = line_feed ∷ []
 
--- the line of an accepted program, which has no rules yet
+-- the line of an accepted program
 abbrev pub accepted_line : Counts → List ℕ
 accepted_line c =
     codes "accepted: " ++ (decimal c.types ++ (codes " types, " ++ (decimal c.symbols
-    ++ (codes " symbols, 0 rules, " ++ (decimal c.agents ++ (codes " agents" ++ line_end))))))
+    ++ (codes " symbols, " ++ (decimal c.rules ++ (codes " rules, " ++ (decimal c.agents ++ (codes " agents" ++ line_end))))))))
 
 abbrev pub code_name : Code → List ℕ
 code_name code.E01 = codes "E01"

@@ -5,17 +5,18 @@ use crate::checking::Counts;
 use in_syntax::{Code, Place, Refusal};
 use std::alloc::{AllocError, Global};
 
-/// The line of an accepted program. It has no rules yet.
+/// The line of an accepted program.
 pub fn accepted_line(alloc: Global, counts: Counts) -> Result<Vec<u8>, AllocError>
     ensures { IfOk result (λ line. line.items ≡ accepted_line counts) }
 {
     let Counts {
         types,
         symbols,
+        rules,
         agents,
     } = counts;
     let line = format!(in alloc;
-        "accepted: {types} types, {symbols} symbols, 0 rules, {agents} agents\n"
+        "accepted: {types} types, {symbols} symbols, {rules} rules, {agents} agents\n"
     )?;
     Ok(line.into_bytes())
 }

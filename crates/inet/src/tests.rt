@@ -42,7 +42,12 @@ fn nets_over_four_declarations_are_accepted_or_refused(rt: HostRuntime) -> Resul
             0,
         ),
         ("net () { $ }", "refused E01 at 5:10\n", 1),
-        ("rule Z[] >< Add[y, y];", "refused E02 at 5:1: rule\n", 1),
+        ("rule Z[] >< Add[y, y];", "refused E02 at 6:1\n", 1),
+        (
+            "rule Z[] >< Add[y, y];\nnet () { }",
+            "accepted: 1 types, 3 symbols, 1 rules, 0 agents\n",
+            0,
+        ),
         ("net () { S(Z) ~ S(Z); }", "refused E10 at 5:15: ~\n", 1),
         ("net () { x ~ x; }", "refused E09 at 1:1\n", 1),
     ];

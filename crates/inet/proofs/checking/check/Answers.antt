@@ -5,9 +5,9 @@ use Rattle.inet.specs.Checking.{no_types}
 use Rattle.inet.proofs.Checked.{at_tables, at_net}
 use Rattle.inet.proofs.checking.check.Goals as goal
 
-same_counts : (t s a t' s' a' : ℕ) → t ≡ t' → s ≡ s' → a ≡ a' →
-    let x : Counts = record { types = t; symbols = s; agents = a } in x ≡ record { types = t'; symbols = s'; agents = a' }
-same_counts t s a t' s' a' p q r = cc
+same_counts : (t s r a t' s' r' a' : ℕ) → t ≡ t' → s ≡ s' → r ≡ r' → a ≡ a' →
+    let x : Counts = record { types = t; symbols = s; rules = r; agents = a } in x ≡ record { types = t'; symbols = s'; rules = r'; agents = a' }
+same_counts t s r a t' s' r' a' p q o n = cc
 
 pub returns-in_err-symbols : goal.returns-in_err-symbols
 returns-in_err-symbols c =
@@ -28,7 +28,7 @@ returns-in-Ok c = record {
   tabulates = c.in_ok-symbols.ensures;
   builds = c.in_ok-net.ensures;
   fits = c.in-Ok.ensures;
-  counted = same_counts _ _ _ _ _ _ c.types.ensures c.symbols-in-Ok.ensures c.agents.ensures;
+  counted = same_counts _ _ _ _ _ _ _ _ c.types.ensures c.symbols-in-Ok.ensures c.len.ensures c.agents.ensures;
 }
 
 pub returns : goal.returns

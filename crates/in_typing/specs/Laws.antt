@@ -1,0 +1,24 @@
+-- Laws over the definitions of types.
+use Rattle.std.specs.Prelude.{◌≡◌, not, Some}
+use Rattle.in_symbols.specs.declared.symbols.SymbolNo.{SymbolNo}
+use Rattle.in_symbols.specs.Tables.{Tables, port_at, is_constructor}
+use Rattle.in_net.specs.declared.nets.AgentNo.{AgentNo}
+use Rattle.in_net.specs.declared.nets.Point.TheVariants.{Port}
+use Rattle.in_net.specs.Parts.{Parts, IsWhole, partner_in, symbol_in}
+use Rattle.in_typing.specs.Typed.{IsTyped}
+
+-- two agents whose principal ports are one wire: Lafont 1990 calls them an active pair
+abbrev pub IsActivePair : Parts → AgentNo → AgentNo → Type 0
+IsActivePair n x y = partner_in n (Port x 0) ≡ Some (Port y 0)
+
+-- the symbols of the two are a constructor and a destructor of one type
+pub record AreOpposite (t : Tables) (n : Parts) (x y : AgentNo) : Type 0 where
+  pub one : SymbolNo
+  pub other : SymbolNo
+  pub one_is : symbol_in n x.0 ≡ Some one
+  pub other_is : symbol_in n y.0 ≡ Some other
+  pub kind : (port_at t one.0 0).kind ≡ (port_at t other.0 0).kind
+  pub sign : is_constructor t one.0 ≡ not (is_constructor t other.0)
+
+abbrev pub TypedPairsMatch : Type 0
+TypedPairsMatch = (t : Tables) (n : Parts) (x y : AgentNo) → IsWhole n → IsTyped t n → IsActivePair n x y → AreOpposite t n x y
