@@ -1,4 +1,5 @@
 ghost use Rattle.std.specs.Prelude.{IfOk};
+ghost use Rattle.in_syntax.specs.Order.{IsWrittenInOrder};
 ghost use Rattle.in_syntax.specs.Parsing.{Parses};
 ghost use Rattle.in_syntax.specs.Sizes.{IsSized};
 
@@ -8,7 +9,7 @@ use crate::parser::program;
 use crate::tree::Source;
 use std::alloc::Global;
 
-/// The tree of a program's text.
+/// The tree of a program's text. It lists the names and the `~` of each rule and of the net in the order of the text.
 ///
 /// The first fault is answered, the faults of the tokens before those of the grammar:
 /// - what `tokens` refuses, with its places;
@@ -23,6 +24,7 @@ use std::alloc::Global;
 pub fn parse(alloc: Global, text: &[u8]) -> Result<Source, Fault>
     ensures tree { Parses text.now result }
     ensures sized { IfOk result IsSized }
+    ensures order { IfOk result IsWrittenInOrder }
 {
     let (tokens, end) = tokens_to_end(alloc, text)?;
     program(alloc, text, tokens.as_slice(), end)
