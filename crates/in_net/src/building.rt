@@ -1,6 +1,6 @@
 ghost use Rattle.std.specs.Prelude.{◌≡◌, ◌+◌, ◌<◌, ◌++◌, true, length, map, option_to_list, IfOk, OnOk};
 ghost use Rattle.in_syntax.specs.Sizes.{IsSized};
-ghost use Rattle.in_syntax.specs.Order.{IsInOrder};
+ghost use Rattle.in_syntax.specs.Order.{IsWrittenInOrder};
 ghost use Rattle.in_symbols.specs.Faults.{IsFaultless};
 ghost use Rattle.in_symbols.specs.Tables.{FreeKnown, IsTabled};
 ghost use Rattle.in_net.specs.Arities.{all_arities_fit};
@@ -232,7 +232,7 @@ fn join(alloc: Global, reading: &Reading) -> Result<Items<Link>, Fault>
 /// equations between terms, in which each variable stands twice; the codes are this project's own choice.
 pub fn build_net(alloc: Global, source: &Source, symbols: &Symbols) -> Result<Net, Fault>
     requires sized { IsSized source.now }
-    requires order { IsInOrder source.now.net }
+    requires order { IsWrittenInOrder source.now }
     requires tabled { IsTabled source.now symbols.now }
     requires faultless { IsFaultless source.now }
     ensures { Builds source.now symbols.now result }

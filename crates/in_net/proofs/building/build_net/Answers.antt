@@ -24,10 +24,10 @@ assemble-requires-clause-joined c =
     let is = c.in_ok-reading.ensures.reading in
     let twice = subst (λ r. all_twice (counted_from 0 r.spots (none_seen (length r.names))) ≡ true) is c.in_ok-links.ensures.twice in
     let joined =
-    read_joined c.args.source.now c.args.symbols.now c.requires.sized c.requires.tabled c.requires.faultless c.requires.order c.in_ok-reading.ensures.fit twice in
+    read_joined c.args.source.now c.args.symbols.now c.requires.sized c.requires.tabled c.requires.faultless c.requires.order.net c.in_ok-reading.ensures.fit twice in
     subst (IsJoined c.in_ok-reading.reading.spots) (sym (c.as_slice.ensures ∙ c.in_ok-links.ensures.links)) (subst (λ r. IsJoined r.spots (joining_of r).links) (sym is) joined)
 
 pub returns : goal.returns
 returns c =
-    is_text_net c.args.source.now c.args.symbols.now c.in_ok-reading.reading c.in_ok-links.links c.in_ok-net.net c.requires.sized c.requires.tabled c.requires.faultless c.requires.order c.in_ok-reading.ensures.fit
+    is_text_net c.args.source.now c.args.symbols.now c.in_ok-reading.reading c.in_ok-links.links c.in_ok-net.net c.requires.sized c.requires.tabled c.requires.faultless c.requires.order.net c.in_ok-reading.ensures.fit
     c.in_ok-links.ensures.twice c.in_ok-reading.ensures.reading c.in_ok-links.ensures.links (subst (λ l. Assembles c.args.source.now c.args.symbols.now c.in_ok-reading.reading l c.in_ok-net.net) c.as_slice.ensures c.in_ok-net.ensures)
