@@ -4,12 +4,12 @@ use Rattle.std.proofs.lemmas.List.{get_or-set_same, get_or-set_other}
 use Rattle.in_net.specs.declared.reading.Spot.{Spot}
 use Rattle.in_net.specs.declared.counting.Seen.{Seen}
 use Rattle.in_net.specs.declared.counting.Seen.TheVariants.{Never, Once, Twice, Often}
-use Rattle.in_net.specs.Counting.{name_of, seen_again, none_seen, count_name, counted, counted_from, all_twice}
-use Rattle.in_net.specs.Building.{nth_spot}
+use Rattle.in_net.specs.Counting.{name_of, seen_again, none_seen, count_name, counted, counted_from}
+use Rattle.in_net.specs.Building.{AreTwice, nth_spot}
 use Rattle.in_net.proofs.Linked.{same_or_not, below_or_not}
 use Rattle.in_net.proofs.Joins.{length-counted, length-none_seen}
 use Rattle.in_net.proofs.Ways.{nth_seen}
-use Rattle.in_net.proofs.Joined.{is_named_or_not, third_time, all_are_twice, length-counted_from, nth_none}
+use Rattle.in_net.proofs.Joined.{is_named_or_not, third_time, nth_none}
 
 -- a name that is seen once, and stands twice more
 second_named : (seen : List Seen) (at m a : ℕ) (o : Option ℕ) → m < length seen → nth_seen seen m ≡ Once a → o ≡ Some m → nth_seen (count_name seen at o) m ≡ Twice
@@ -65,12 +65,12 @@ three_more at (s ∷ ss) seen m (suc i) (suc j) (suc k) lt is less more in_ e f 
         two_more (at + 1) ss (counted seen at s) m at i j (omega (arith, lt, count)) (first_named seen at m (name_of s) lt is x) (omega (arith, less)) (omega (arith, more, in_)) e f
     by_name next (inr x) = next (other_named seen at m (name_of s) x ∙ is)
 
-module _ (spots : List Spot) (names : ℕ) (twice : all_twice (counted_from 0 spots (none_seen names)) ≡ true) where
+module _ (spots : List Spot) (names : ℕ) (twice : AreTwice spots (counted_from 0 spots (none_seen names))) where
   no_three : (m i j k : ℕ) → m < names → i < j → j < k → k < length spots → name_of (nth_spot spots i) ≡ Some m → name_of (nth_spot spots j) ≡ Some m → name_of (nth_spot spots k) ≡ Some m → ⊥
   no_three m i j k lt less more in_ e f g =
       let size = length-none_seen names in
       let often = three_more 0 spots (none_seen names) m i j k (omega (arith, lt, size)) (nth_none names m) less more in_ e f g in
-      let all = all_are_twice (counted_from 0 spots (none_seen names)) m twice (omega (arith, lt, size, length-counted_from 0 spots (none_seen names))) in
+      let all = twice k m in_ g in
       absurd (let wrong : Often ≡ Twice = sym often ∙ all in cc)
 
   -- two other spots of a name are one

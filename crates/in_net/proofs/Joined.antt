@@ -14,8 +14,8 @@ use Rattle.in_net.specs.declared.joining.Joining.{Joining}
 use Rattle.in_net.specs.declared.counting.Seen.{Seen}
 use Rattle.in_net.specs.declared.counting.Seen.TheVariants.{Never, Once, Twice, Often}
 use Rattle.in_net.specs.Counting as counting
-use Rattle.in_net.specs.Counting.{seen_again, none_seen, count_name, counted, counted_from, is_twice, all_twice}
-use Rattle.in_net.specs.Building.{nth_link, nth_spot, IsPointSpot, IsJoined}
+use Rattle.in_net.specs.Counting.{seen_again, none_seen, count_name, counted, counted_from}
+use Rattle.in_net.specs.Building.{AreTwice, nth_link, nth_spot, IsPointSpot, IsJoined}
 use Rattle.in_net.specs.Joining.{links_of, not_named, joins_named, joins, joins_from, joining_of}
 use Rattle.in_net.specs.TextNet.{Body, IsClosedWireOf}
 use Rattle.in_net.specs.TextNet as text
@@ -80,27 +80,6 @@ third_time at (s ∷ ss) seen m (suc i) lt is in_ e = by_name (λ x. third_time 
     by_name next (inl f) = let count = length-counted seen at s in often_stays (at + 1) ss (counted seen at s) m (omega (arith, lt, count)) (once_over seen at m (counting.name_of s) lt is f)
     by_name next (inr f) = next (not_over seen at m (counting.name_of s) is f)
 
-twice_is : (s : Seen) → is_twice s ≡ true → s ≡ Twice
-twice_is Never e = cc
-twice_is (Once a) e = cc
-twice_is Twice e = refl
-twice_is Often e = cc
-
-pub all_are_twice : (seen : List Seen) (m : ℕ) → all_twice seen ≡ true → m < length seen → nth_seen seen m ≡ Twice
-all_are_twice [] m e lt = absurd (omega (arith, lt))
-all_are_twice (s ∷ seen) zero e lt = twice_is s (both (is_twice s) (all_twice seen) e).0
-  where
-    both : (a b : Bool) → (a && b) ≡ true → (a ≡ true) × (b ≡ true)
-    both true true e = (refl, refl)
-    both true false e = cc
-    both false b e = cc
-all_are_twice (s ∷ seen) (suc m) e lt = all_are_twice seen m (both (is_twice s) (all_twice seen) e).1 (omega (arith, lt))
-  where
-    both : (a b : Bool) → (a && b) ≡ true → (a ≡ true) × (b ≡ true)
-    both true true e = (refl, refl)
-    both true false e = cc
-    both false b e = cc
-
 pub length-counted_from : (at : ℕ) (ss : List Spot) (seen : List Seen) → length (counted_from at ss seen) ≡ length seen
 length-counted_from at [] seen = refl
 length-counted_from at (s ∷ ss) seen = length-counted_from (at + 1) ss (counted seen at s) ∙ length-counted seen at s
@@ -116,7 +95,7 @@ seen_joined at (s ∷ ss) j = seen_joined (at + 1) ss (joins j at s) ∙ ap (cou
 
 module _ (t : Tables) (b : Body) (names : List (List ℕ)) (spots : List Spot) (of : AreOfText t b names spots) where
   last_here : (at : ℕ) (s : Spot) (ss : List Spot) (seen : List Seen) → length seen ≡ length names → at + length (s ∷ ss) ≡ length spots → ((i : ℕ) → i < length (s ∷ ss) → nth_spot (s ∷ ss) i ≡ nth_spot spots (at + i)) →
-      all_twice (counted_from at (s ∷ ss) seen) ≡ true → IsLast spots at seen
+      AreTwice spots (counted_from at (s ∷ ss) seen) → IsLast spots at seen
   last_here at s ss seen size count same twice m a name once i lt in_ again =
       let zero_on : at + 0 ≡ at = omega arith in
       let here : s ≡ nth_spot spots at = same 0 (omega arith) ∙ ap (nth_spot spots) zero_on in
@@ -131,11 +110,11 @@ module _ (t : Tables) (b : Body) (names : List (List ℕ)) (spots : List Spot) (
       ap (λ o. nth_seen (count_name seen at o) m) name_s ∙ get_or-set_same seen m (seen_again (nth_seen seen m) at) Never m_in ∙ ap (λ x. seen_again x at) once in
       let grown = length-counted seen at s in
       let often = third_time (at + 1) ss (counted seen at s) m k (omega (arith, m_in, grown)) now k_in name_k in
-      let all = all_are_twice (counted_from at (s ∷ ss) seen) m twice (omega (arith, m_in, length-counted_from at (s ∷ ss) seen)) in
+      let all = twice at m at_in name in
       absurd (let wrong : Often ≡ Twice = sym often ∙ all in cc)
 
   -- all spots from one on
-  pub all_on : (at : ℕ) (ss : List Spot) (j : Joining) → at + length ss ≡ length spots → ((i : ℕ) → i < length ss → nth_spot ss i ≡ nth_spot spots (at + i)) → all_twice (counted_from at ss j.seen) ≡ true →
+  pub all_on : (at : ℕ) (ss : List Spot) (j : Joining) → at + length ss ≡ length spots → ((i : ℕ) → i < length ss → nth_spot ss i ≡ nth_spot spots (at + i)) → AreTwice spots (counted_from at ss j.seen) →
       IsJoiningAt t b spots (length names) at j → IsJoiningAt t b spots (length names) (length spots) (joins_from at ss j)
   all_on at [] j count same twice h = subst (λ n. IsJoiningAt t b spots (length names) n j) (let e : at ≡ length spots = omega (arith, count) in e) h
   all_on at (s ∷ ss) j count same twice h =
@@ -144,7 +123,7 @@ module _ (t : Tables) (b : Body) (names : List (List ℕ)) (spots : List Spot) (
       let last = last_here at s ss j.seen h.count count same twice in
       let next : IsJoiningAt t b spots (length names) (at + 1) (joins j at s) = subst (λ s. IsJoiningAt t b spots (length names) (at + 1) (joins j at s)) (sym here) (step_on t b names spots of at j h (omega (arith, count)) last) in
       all_on (at + 1) ss (joins j at s) (omega (arith, count)) (λ i lt. let e : at + suc i ≡ at + 1 + i = omega arith in same (suc i) (omega (arith, lt)) ∙ ap (nth_spot spots) e)
-      (subst (λ z. all_twice (counted_from (at + 1) ss z) ≡ true) (sym (seen_named j at (counting.name_of s))) twice) next
+      (subst (λ z. AreTwice spots (counted_from (at + 1) ss z)) (sym (seen_named j at (counting.name_of s))) twice) next
 
 pub nth_none : (n m : ℕ) → nth_seen (none_seen n) m ≡ Never
 nth_none zero zero = refl
@@ -247,26 +226,24 @@ module _ (t : Tables) (b : Body) (free count : ℕ) (r : Reading) (net : IsNetRe
     closed = λ p e. cc;
   }
 
-  module _ (twice : all_twice (counted_from 0 spots (none_seen (length r.names))) ≡ true) where
+  module _ (twice : AreTwice r.spots (counted_from 0 r.spots (none_seen (length r.names)))) where
     pub joined_at : IsJoiningAt t b spots (length r.names) (length spots) (joining_of r)
     joined_at = all_on t b r.names spots of_text 0 spots (not_named (links_of r) (length r.names)) (omega arith) (λ i lt. let e : i ≡ 0 + i = omega arith in ap (nth_spot spots) e) twice begun
 
-    all_met : (m : ℕ) → m < length r.names → IsMet (nth_seen (joining_of r).seen m)
-    all_met m lt =
-        let is : nth_seen (joining_of r).seen m ≡ Twice =
-        ap (λ z. nth_seen z m) (seen_joined 0 spots (not_named (links_of r) (length r.names)))
-        ∙ all_are_twice (counted_from 0 spots (none_seen (length r.names))) m twice (omega (arith, lt, length-counted_from 0 spots (none_seen (length r.names)), length-none_seen (length r.names))) in
+    all_met : (i m : ℕ) → i < length spots → counting.name_of (nth_spot spots i) ≡ Some m → IsMet (nth_seen (joining_of r).seen m)
+    all_met i m lt e =
+        let is : nth_seen (joining_of r).seen m ≡ Twice = ap (λ z. nth_seen z m) (seen_joined 0 spots (not_named (links_of r) (length r.names))) ∙ twice i m lt e in
         subst IsMet (sym is) tt
 
     point_open : (i : ℕ) (s : Spot) → i < length spots → nth_spot spots i ≡ s → IsPointSpot s → IsOpen (joining_of r).seen s
     point_open i (Port a j p) lt is h = tt
-    point_open i (Free k m) lt is h = all_met m (of_text.numbers i m lt (ap counting.name_of is))
+    point_open i (Free k m) lt is h = all_met i m lt (ap counting.name_of is)
     point_open i (Occurrence m p) lt is h = absurd h
 
     no_point : (i : ℕ) (s : Spot) → i < length spots → nth_spot spots i ≡ s → (IsPointSpot s → ⊥) → (nth_link (joining_of r).links i).to ≡ i
     no_point i (Port a j p) lt is h = absurd (h tt)
     no_point i (Free k m) lt is h = absurd (h tt)
-    no_point i (Occurrence m p) lt is h = joined_at.used i m p lt is (all_met m (of_text.numbers i m lt (ap counting.name_of is)))
+    no_point i (Occurrence m p) lt is h = joined_at.used i m p lt is (all_met i m lt (ap counting.name_of is))
 
     pub are_joined : IsJoined spots (joining_of r).links
     are_joined = record {

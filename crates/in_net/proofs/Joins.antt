@@ -6,9 +6,10 @@ use Rattle.in_syntax.specs.declared.places.Place.{Place}
 use Rattle.in_net.specs.declared.joining.Link.{Link}
 use Rattle.in_net.specs.declared.joining.Joining.{Joining}
 use Rattle.in_net.specs.declared.reading.Spot.{Spot}
+use Rattle.in_net.specs.declared.counting.Counting.{Counting}
 use Rattle.in_net.specs.declared.counting.Seen.{Seen}
 use Rattle.in_net.specs.declared.counting.Seen.TheVariants.{Never, Once, Twice, Often}
-use Rattle.in_net.specs.Counting.{name_of, seen_again, none_seen, count_name, counted, IsNumberInside, IsNameInside, IsSeenInside, SeenInside}
+use Rattle.in_net.specs.Counting.{name_of, seen_again, none_seen, count_name, counted, counts_named, counts_spot, IsNumberInside, IsNameInside, IsSeenInside, SeenInside}
 use Rattle.in_net.specs.Joining.{no_link, with_link, apart, merged, met, later_of, joins_named, joins, LinksInside, IsJoiningInside}
 use Rattle.in_net.proofs.Links.{all_set, all_at, within_link, length-with_link}
 
@@ -101,3 +102,10 @@ pub one_unseen : (counter names : ℕ) (seen new all : List Seen) → counter < 
 one_unseen counter names seen new all lt pushed e =
     let size : names - counter ≡ suc (names - (counter + 1)) = omega arith in
     ap (λ z. z ++ none_seen (names - (counter + 1))) pushed ∙ append_assoc seen (Never ∷ []) (none_seen (names - (counter + 1))) ∙ ap (λ z. seen ++ z) (sym (ap none_seen size)) ∙ e
+
+pub length-counts_spot : (c : Counting) (at : ℕ) (s : Spot) → length (counts_spot c at s).seen ≡ length c.seen
+length-counts_spot c at s = by_name (name_of s)
+  where
+    by_name : (o : Option ℕ) → length (counts_named c at s o).seen ≡ length c.seen
+    by_name None = refl
+    by_name (Some m) = length-set c.seen m (seen_again (get_or c.seen m Never) at)

@@ -15,9 +15,9 @@ use Rattle.in_net.specs.declared.reading.Spot.TheVariants.{Port, Free, Occurrenc
 use Rattle.in_net.specs.declared.reading.Agent.{Agent}
 use Rattle.in_net.specs.declared.reading.Reading.{Reading}
 use Rattle.in_net.specs.Counting as counting
-use Rattle.in_net.specs.Counting.{none_seen, counted_from, all_twice}
+use Rattle.in_net.specs.Counting.{none_seen, counted_from}
 use Rattle.in_net.specs.Joining.{links_of}
-use Rattle.in_net.specs.Building.{nth_link, nth_spot, nth_agent}
+use Rattle.in_net.specs.Building.{AreTwice, nth_link, nth_spot, nth_agent}
 use Rattle.in_net.specs.TextNet as text
 use Rattle.in_net.specs.TextNet.{Body, body_of, IsTermOf, IsPartOf, IsAmong, IsVariable, PlacedJoint, NameJoint, IsOccurrence, Chain, Kind, placed, of_name, IsWireOf, name_of, place_of, spot_of}
 use Rattle.std.proofs.lemmas.Option.{slice_get_within}
@@ -38,7 +38,7 @@ pub record IsReadWhole (t : Tables) (n : SourceNet) (count : ℕ) (r : Reading) 
   pub heads : HeadsKnown t.names n.equations
   pub rises : Rises (root_places r.spots)
   pub apart : (m k : ℕ) → m < length r.names → k < length r.names → name_in m r.names ≡ name_in k r.names → m ≡ k
-  pub twice : all_twice (counted_from 0 r.spots (none_seen (length r.names))) ≡ true
+  pub twice : AreTwice r.spots (counted_from 0 r.spots (none_seen (length r.names)))
 
 heads_at : (names : List (List ℕ)) (es : List Equation) (e : Equation) → HeadsKnown names es → IsAmong e es → (heads_known names e.left ≡ true) × (heads_known names e.right ≡ true)
 heads_at names [] e h among = absurd among

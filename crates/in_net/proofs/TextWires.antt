@@ -19,10 +19,10 @@ use Rattle.in_net.specs.declared.nets.Point.{Point}
 use Rattle.in_net.specs.declared.nets.Point.TheVariants.{Port, Free}
 use Rattle.in_net.specs.declared.nets.Wire.{Wire}
 use Rattle.in_net.specs.Arities.{all_arities_fit}
-use Rattle.in_net.specs.Counting.{none_seen, counted_from, all_twice}
+use Rattle.in_net.specs.Counting.{none_seen, counted_from}
 use Rattle.in_net.specs.Joining.{joining_of}
 use Rattle.in_net.specs.Reading.{reading_of}
-use Rattle.in_net.specs.Building.{no_agent, nth_spot, nth_link, nth_agent, IsPointSpot, point_in, IsJoined, partner_of, cells_of, free_ends_from, wires_from}
+use Rattle.in_net.specs.Building.{AreTwice, no_agent, nth_spot, nth_link, nth_agent, IsPointSpot, point_in, IsJoined, partner_of, cells_of, free_ends_from, wires_from}
 use Rattle.in_net.specs.Built.{IsNumbered, AreListedOf, Assembles, IsOver, IsCellOver}
 use Rattle.in_net.specs.declared.nets.Cell.{Cell}
 use Rattle.in_net.specs.declared.nets.FreeEnd.{FreeEnd}
@@ -132,7 +132,7 @@ module _ (t : Tables) (b : Body) (fs : List SourceFree) (r : Reading) (links : L
 -- ---- what is read of a program
 
 module _ (source : Source) (t : Tables) (sized : IsSized source) (tabled : IsTabled source t) (faultless : IsFaultless source) (order : IsInOrder source.net) (fits : all_arities_fit t source.net ≡ true)
-    (twice : all_twice (counted_from 0 (reading_of t source.net).spots (none_seen (length (reading_of t source.net).names))) ≡ true) where
+    (twice : AreTwice (reading_of t source.net).spots (counted_from 0 (reading_of t source.net).spots (none_seen (length (reading_of t source.net).names)))) where
   pub read_joined : IsJoined (reading_of t source.net).spots (joining_of (reading_of t source.net)).links
   read_joined =
       are_joined t (body_of source.net) (length source.net.free) (names_in_equations source.net.equations) (reading_of t source.net) (read_from.net source t sized tabled fits) (free_differ source faultless)
@@ -159,11 +159,11 @@ module _ (source : Source) (t : Tables) (sized : IsSized source) (tabled : IsTab
 
 -- the net that is assembled is the text's
 pub is_text_net : (source : Source) (t : Tables) (r : Reading) (links : List Link) (n : Parts) → IsSized source → IsTabled source t → IsFaultless source → IsInOrder source.net → all_arities_fit t source.net ≡ true →
-    all_twice (counted_from 0 r.spots (none_seen (length r.names))) ≡ true → r ≡ reading_of t source.net → links ≡ (joining_of r).links → Assembles source t r links n → IsOver t n × IsNetOf t source.net n
+    AreTwice r.spots (counted_from 0 r.spots (none_seen (length r.names))) → r ≡ reading_of t source.net → links ≡ (joining_of r).links → Assembles source t r links n → IsOver t n × IsNetOf t source.net n
 is_text_net source t r links n sized tabled faultless order fits twice is_read is_joined made =
     let r0 : Reading = reading_of t source.net in
     let links0 : List Link = (joining_of (reading_of t source.net)).links in
-    let twice0 = subst (λ (r : Reading). all_twice (counted_from 0 r.spots (none_seen (length r.names))) ≡ true) is_read twice in
+    let twice0 = subst (λ (r : Reading). AreTwice r.spots (counted_from 0 r.spots (none_seen (length r.names)))) is_read twice in
     let same_links : links ≡ (joining_of (reading_of t source.net)).links = is_joined ∙ ap (λ r. (joining_of r).links) is_read in
     let P : Reading → List Link → Type 0 = λ r links. Assembles source t r links n in
     let at_read : Assembles source t (reading_of t source.net) (joining_of (reading_of t source.net)).links n = subst (P (reading_of t source.net)) same_links (subst (λ r. P r links) is_read made) in

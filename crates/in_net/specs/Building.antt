@@ -14,6 +14,9 @@ use Rattle.in_net.specs.declared.nets.Cell.{Cell}
 use Rattle.in_net.specs.declared.nets.FreeEnd.{FreeEnd}
 use Rattle.in_net.specs.declared.nets.Wire.{Wire}
 use Rattle.in_symbols.specs.Tables.{Tables, arity_of, port_of}
+use Rattle.in_net.specs.declared.counting.Seen.{Seen}
+use Rattle.in_net.specs.declared.counting.Seen.TheVariants.{Never, Twice}
+use Rattle.in_net.specs.Counting.{name_of}
 use Rattle.in_net.specs.Joining.{no_link}
 
 abbrev pub no_agent : Agent
@@ -31,6 +34,10 @@ nth_link links i = slice_index_or links i no_link
 
 abbrev pub nth_agent : List Agent → ℕ → Agent
 nth_agent agents a = slice_index_or agents a no_agent
+
+-- each name that a spot has is seen twice
+abbrev pub AreTwice : List Spot → List Seen → Type 0
+AreTwice spots seen = (i m : ℕ) → i < length spots → name_of (nth_spot spots i) ≡ Some m → slice_index_or seen m Never ≡ Twice
 
 -- the point that a spot is; an occurrence is none
 abbrev pub point_of : Spot → Option Point

@@ -17,6 +17,9 @@ use Rattle.in_net.specs.Parts.{Parts}
 use Rattle.in_symbols.specs.Tables.{Tables, arity_of}
 use Rattle.in_net.specs.Building.{nth_spot, nth_agent, IsPointSpot, AreSmallSpots, cells_of, free_ends_from, wires_from}
 use Rattle.in_net.specs.TextNet.{IsNetOf}
+use Rattle.in_net.specs.NetFaults.{IsFirstNetFault, IsNetFaultless}
+use Rattle.in_syntax.specs.declared.faults.Code.TheVariants.{E09}
+use Rattle.in_syntax.specs.declared.faults.Fault.TheVariants.{Refused, Memory}
 
 -- so many spots from one on are points
 abbrev pub ArePointsAt : List Spot → ℕ → ℕ → Type 0
@@ -71,7 +74,12 @@ IsCellOver t (Some c) = (c.symbol.0 < length t.names) × (length c.ends ≡ arit
 pub record IsOver (t : Tables) (n : Parts) : Type 0 where
   pub cells : AllByRecursion (IsCellOver t) n.cells
 
--- where it is Ok, the net is over the program's tables, and is the net of the text
+abbrev pub closed_at : Place → Fault
+closed_at p = Refused (record { code = E09; place = p; other = None })
+
+-- Ok exactly where the net has no fault, and then it is over the program's tables, and is the net of the text; else refused for the
+-- first fault
 abbrev pub Builds : Source → Tables → Result Parts Fault → Type 0
-Builds source t (Ok n) = IsOver t n × IsNetOf t source.net n
-Builds source t (Err e) = Unit {0}
+Builds source t (Ok n) = IsOver t n × IsNetOf t source.net n × IsNetFaultless t source.net
+Builds source t (Err (Refused r)) = IsFirstNetFault t source.net r.code r.place × (r.other ≡ None)
+Builds source t (Err (Memory e)) = Unit {0}

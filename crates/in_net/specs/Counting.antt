@@ -1,9 +1,12 @@
 -- How often each name of a net stands: no public contract names this.
-use Rattle.std.specs.Prelude.{◌≡◌, ℕ, zero, suc, ◌+◌, ◌<◌, Bool, true, false, List, [], ◌∷◌, length, Option, Some, None, slice_set, slice_index_or}
-use Rattle.std.specs.List.{AllByRecursion, list_all}
+use Rattle.std.specs.Prelude.{◌≡◌, ℕ, zero, suc, ◌+◌, ◌<◌, List, [], ◌∷◌, length, map, Option, Some, None, option_map, slice_get, slice_set, slice_index_or}
+use Rattle.std.specs.List.{AllByRecursion}
+use Rattle.in_syntax.specs.declared.tree.SourceFree.{SourceFree}
+use Rattle.in_symbols.specs.Searching.{earlier, earliest}
 use Rattle.in_syntax.specs.declared.places.Place.{Place}
 use Rattle.in_net.specs.declared.reading.Spot.{Spot}
 use Rattle.in_net.specs.declared.reading.Spot.TheVariants as spot
+use Rattle.in_net.specs.declared.counting.Counting.{Counting}
 use Rattle.in_net.specs.declared.counting.Seen.{Seen}
 use Rattle.in_net.specs.declared.counting.Seen.TheVariants.{Never, Once, Twice, Often}
 
@@ -35,14 +38,53 @@ abbrev pub counted_from : ℕ → List Spot → List Seen → List Seen
 counted_from at [] seen = seen
 counted_from at (s ∷ ss) seen = counted_from (at + 1) ss (counted seen at s)
 
-abbrev pub is_twice : Seen → Bool
-is_twice Never = false
-is_twice (Once one) = false
-is_twice Twice = true
-is_twice Often = false
+-- the spot is the third one of its name, which was seen so often before
+abbrev pub third_time : Seen → Spot → Option Place
+third_time Never s = None
+third_time (Once one) s = None
+third_time Twice (spot.Port a i p) = None
+third_time Twice (spot.Free k m) = None
+third_time Twice (spot.Occurrence m p) = Some p
+third_time Often s = None
 
-abbrev pub all_twice : List Seen → Bool
-all_twice = list_all is_twice
+abbrev pub nothing_counted : ℕ → Counting
+nothing_counted names = record { seen = none_seen names; third = None }
+
+abbrev pub counts_named : Counting → ℕ → Spot → Option ℕ → Counting
+counts_named c at s None = c
+counts_named c at s (Some m) =
+    let before = slice_index_or c.seen m Never in
+    record { seen = slice_set c.seen m (seen_again before at); third = earlier c.third (third_time before s) }
+
+abbrev pub counts_spot : Counting → ℕ → Spot → Counting
+counts_spot c at s = counts_named c at s (name_of s)
+
+-- these spots, of which the first has that number
+abbrev pub counts_from : ℕ → List Spot → Counting → Counting
+counts_from at [] c = c
+counts_from at (s ∷ ss) c = counts_from (at + 1) ss (counts_spot c at s)
+
+abbrev pub place_at : List SourceFree → Option Spot → Option Place
+place_at free None = None
+place_at free (Some (spot.Port a i p)) = None
+place_at free (Some (spot.Free k m)) = option_map (λ f. f.name.place) (slice_get free k)
+place_at free (Some (spot.Occurrence m p)) = Some p
+
+-- the only spot of a name, at its place
+abbrev pub lonely_place : List Spot → List SourceFree → Seen → Option Place
+lonely_place spots free Never = None
+lonely_place spots free (Once at) = place_at free (slice_get spots at)
+lonely_place spots free Twice = None
+lonely_place spots free Often = None
+
+abbrev pub lonely : List Spot → List SourceFree → List Seen → Option Place
+lonely spots free seen = earliest None (map (lonely_place spots free) seen)
+
+-- the first name that stands once or for the third time
+abbrev pub miscounted : ℕ → List Spot → List SourceFree → Option Place
+miscounted names spots free =
+    let c = counts_from 0 spots (nothing_counted names) in
+    earlier c.third (lonely spots free c.seen)
 
 -- ---- numbers are in range
 

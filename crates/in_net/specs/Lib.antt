@@ -4,7 +4,9 @@ pub mod Built
 pub mod Counting
 pub mod Joining
 pub mod Laws
+pub mod NetFaults
 pub mod Nets
 pub mod Parts
 pub mod Reading
+pub mod Searching
 pub mod TextNet

@@ -3,19 +3,15 @@ ghost use Rattle.in_syntax.specs.Sizes.{IsSized};
 ghost use Rattle.in_syntax.specs.Order.{IsWrittenInOrder};
 ghost use Rattle.in_symbols.specs.Faults.{IsFaultless};
 ghost use Rattle.in_symbols.specs.Tables.{FreeKnown, IsTabled};
-ghost use Rattle.in_net.specs.Arities.{all_arities_fit};
-ghost use Rattle.in_net.specs.Reading.{reading_of};
-ghost use Rattle.in_net.specs.Counting.{NamesInside, none_seen, counted_from, all_twice};
-ghost use Rattle.in_net.specs.Joining.{JointsInside, joining_of};
 ghost use Rattle.in_net.specs.Building.{point_of, IsSmall, AreSmallSpots, IsJoined, nth_spot, IsPointSpot, partner_of, ends_from, cells_of, free_ends_from, wire_of, wires_from};
-ghost use Rattle.in_net.specs.Built.{Builds, Assembles, IsReadFrom, ArePointsAt, AgentsOf, AreListedOf};
+ghost use Rattle.in_net.specs.Built.{closed_at, Builds, Assembles, IsReadFrom, ArePointsAt, AgentsOf, AreListedOf};
 
-use crate::counting::all_stand_twice;
+use crate::faults::first_fault;
 use crate::joining::{Joined, Link, join_all};
 use crate::nets::{AgentNo, Cell, FreeEnd, Net, Point, Wire};
-use crate::reading::{Agent, Reading, Spot, all_arities_fit, read_net};
-use in_symbols::{Symbols, refused_at_start};
-use in_syntax::{Code, Fault, Place, Source, SourceFree, Text};
+use crate::reading::{Agent, Reading, Spot, read_net};
+use in_symbols::Symbols;
+use in_syntax::{Code, Fault, Place, Refusal, Source, SourceFree, Text};
 use sqlite_items::Items;
 use std::alloc::{AllocError, Global};
 
@@ -193,43 +189,25 @@ fn assemble(
     Ok(Net::built(cells, free, wires, places))
 }
 
-/// What is read of the initial net, refused with E07 where a number of arguments isn't the arity.
-fn read(alloc: Global, source: &Source, symbols: &Symbols) -> Result<Reading, Fault>
-    requires sized { IsSized source.now }
-    requires tabled { IsTabled source.now symbols.now }
-    ensures fit { IfOk result (λ _. all_arities_fit symbols.now source.now.net ≡ true) }
-    ensures reading { IfOk result (λ r. r ≡ reading_of symbols.now source.now.net) }
+/// The refusal of a net with a closed wire.
+fn closed_at(place: Place) -> Fault
+    ensures { result ≡ closed_at place }
 {
-    if !all_arities_fit(symbols, &source.net) {
-        return Err(refused_at_start(Code::E07));
-    }
-    let reading = read_net(alloc, symbols, &source.net)?;
-    Ok(reading)
-}
-
-/// What the spots of the reading are joined to, refused with E08 where a name doesn't stand as often as it has to, and with
-/// E09 where a wire is closed.
-fn join(alloc: Global, reading: &Reading) -> Result<Items<Link>, Fault>
-    requires joints { JointsInside (length reading.now.spots) reading.now.joints }
-    requires names { NamesInside (length reading.now.names) reading.now.spots }
-    ensures twice { IfOk result (λ _. all_twice (counted_from 0 reading.now.spots (none_seen (length reading.now.names))) ≡ true) }
-    ensures links { IfOk result (λ links. links ≡ (joining_of reading.now).links) }
-{
-    if !all_stand_twice(alloc, reading.names.len(), reading.spots.as_slice())? {
-        return Err(refused_at_start(Code::E08));
-    }
-    let Joined { links, closed } = join_all(alloc, reading)?;
-    match closed {
-        Some(_) => Err(refused_at_start(Code::E09)),
-        None => Ok(links),
-    }
+    Fault::Refused(Refusal {
+        code: Code::E09,
+        place,
+        other: None,
+    })
 }
 
 /// The initial net of a program.
 ///
-/// Refused with the lowest code that stands: E07 for a number of arguments that isn't the symbol's arity, E08 for a variable
-/// that doesn't stand twice or a free name that doesn't stand once, E09 for a closed wire. Lafont 1990 writes a net as
-/// equations between terms, in which each variable stands twice; the codes are this project's own choice.
+/// Refused for the first fault in the order of the text, at one place the lower code: E03 at the name of the agent that is one
+/// more than `MAX_AGENTS`; E07 at an agent's name, where its number of arguments isn't its symbol's arity; E08 where a variable
+/// doesn't stand twice or a free name once: at a variable's only occurrence or its third one, at the declaration of a free name
+/// that doesn't stand, or its second occurrence in the body. Only where none of these stands, E09 for a closed wire, the first
+/// by the place of the wire. Or for want of memory. Lafont 1990 writes a net as equations between terms, in which each variable
+/// stands twice; the codes and their places are this project's own choice.
 pub fn build_net(alloc: Global, source: &Source, symbols: &Symbols) -> Result<Net, Fault>
     requires sized { IsSized source.now }
     requires order { IsWrittenInOrder source.now }
@@ -237,8 +215,14 @@ pub fn build_net(alloc: Global, source: &Source, symbols: &Symbols) -> Result<Ne
     requires faultless { IsFaultless source.now }
     ensures { Builds source.now symbols.now result }
 {
-    let reading = read(alloc, source, symbols)?;
-    let links = join(alloc, &reading)?;
+    let reading = read_net(alloc, symbols, &source.net)?;
+    if let Some(refusal) = first_fault(alloc, symbols, &source.net, &reading)? {
+        return Err(Fault::Refused(refusal));
+    }
+    let Joined { links, closed } = join_all(alloc, &reading)?;
+    if let Some(place) = closed {
+        return Err(closed_at(place));
+    }
     let net = assemble(alloc, source, symbols, &reading, links.as_slice())?;
     Ok(net)
 }

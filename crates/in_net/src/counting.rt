@@ -1,7 +1,9 @@
 ghost use Rattle.std.specs.Prelude.{◌≡◌, length, IfOk};
-ghost use Rattle.in_net.specs.Counting.{name_of, seen_again, none_seen, counted, counted_from, all_twice, IsNameInside, NamesInside};
+ghost use Rattle.in_net.specs.Counting.{name_of, seen_again, none_seen, third_time, counts_spot, counts_from, nothing_counted, lonely_place, lonely, miscounted, IsNameInside, NamesInside};
 
 use crate::reading::Spot;
+use in_symbols::earlier;
+use in_syntax::{Place, SourceFree};
 use sqlite_items::Items;
 use std::alloc::{AllocError, Global};
 
@@ -47,42 +49,89 @@ pub(crate) fn unseen(alloc: Global, names: usize) -> Result<Items<Seen>, AllocEr
     Ok(seen)
 }
 
+/// What is counted so far: how often each name stands, and where the first one stands for the third time.
+#[derive(Drop)]
+struct Counting {
+    seen: Items<Seen>,
+    third: Option<Place>,
+}
+
+/// Where the spot stands as the third one of its name, where its name was seen so often before.
+fn third_time(seen: Seen, spot: Spot) -> Option<Place>
+    ensures { result ≡ third_time seen spot }
+{
+    match (seen, spot) {
+        (Seen::Twice, Spot::Occurrence(_, place)) => Some(place),
+        _ => None,
+    }
+}
+
 /// Counts a spot at its name.
-fn count(seen: &mut Items<Seen>, at: usize, spot: Spot)
-    requires { IsNameInside (length seen.old) spot }
-    ensures { seen.new ≡ counted seen.old at spot }
+fn count(counting: &mut Counting, at: usize, spot: Spot)
+    requires { IsNameInside (length counting.old.seen) spot }
+    ensures { counting.new ≡ counts_spot counting.old at spot }
 {
     if let Some(name) = name_of(spot) {
-        let before = seen.as_slice()[name];
-        seen.set(name, once_more(before, at));
+        let before = counting.seen.as_slice()[name];
+        counting.seen.set(name, once_more(before, at));
+        counting.third = earlier(counting.third, third_time(before, spot));
     }
 }
 
 /// How often each name stands.
-fn counts(alloc: Global, names: usize, spots: &[Spot]) -> Result<Items<Seen>, AllocError>
+fn counts(alloc: Global, names: usize, spots: &[Spot]) -> Result<Counting, AllocError>
     requires { NamesInside names spots.now }
-    ensures { IfOk result (λ seen. seen ≡ counted_from 0 spots.now (none_seen names)) }
+    ensures { IfOk result (λ counting. counting ≡ counts_from 0 spots.now (nothing_counted names)) }
 {
-    let mut seen = unseen(alloc, names)?;
+    let mut counting = Counting {
+        seen: unseen(alloc, names)?,
+        third: None,
+    };
     for (at, spot) in spots.iter().enumerate() {
-        count(&mut seen, at, *spot);
+        count(&mut counting, at, *spot);
     }
-    Ok(seen)
+    Ok(counting)
 }
 
-/// Whether each name stands twice, as a variable does, or a free name at its free end and in the body.
-pub(crate) fn all_stand_twice(
+/// Where the only spot of a name stands, if it is seen once: a variable's occurrence, or the declaration of a free name.
+fn lonely_place(seen: Seen, spots: &[Spot], free: &[SourceFree]) -> Option<Place>
+    ensures { result ≡ lonely_place spots.now free.now seen }
+{
+    let Seen::Once(at) = seen else {
+        return None;
+    };
+    match spots.get(at) {
+        Some(Spot::Occurrence(_, place)) => Some(*place),
+        Some(Spot::Free(number, _)) => match free.get(*number) {
+            Some(end) => Some(end.name.place),
+            None => None,
+        },
+        _ => None,
+    }
+}
+
+/// The first of these places.
+fn lonely(seen: &[Seen], spots: &[Spot], free: &[SourceFree]) -> Option<Place>
+    ensures { result ≡ lonely spots.now free.now seen.now }
+{
+    let mut found = None;
+    for seen in seen {
+        found = earlier(found, lonely_place(*seen, spots, free));
+    }
+    found
+}
+
+/// Where the first name stands that doesn't stand twice, as a variable does in the body, and a free name at its declaration and
+/// in the body: at its only spot, or at its third one.
+pub(crate) fn miscounted(
     alloc: Global,
     names: usize,
     spots: &[Spot],
-) -> Result<bool, AllocError>
+    free: &[SourceFree],
+) -> Result<Option<Place>, AllocError>
     requires { NamesInside names spots.now }
-    ensures { IfOk result (λ all. all ≡ all_twice (counted_from 0 spots.now (none_seen names))) }
+    ensures { IfOk result (λ place. place ≡ miscounted names spots.now free.now) }
 {
-    let seen = counts(alloc, names, spots)?;
-    Ok(
-        seen.as_slice()
-            .iter()
-            .all(|seen| matches!(seen, Seen::Twice)),
-    )
+    let Counting { seen, third } = counts(alloc, names, spots)?;
+    Ok(earlier(third, lonely(seen.as_slice(), spots, free)))
 }

@@ -3,10 +3,12 @@
 
 mod building;
 mod counting;
+mod faults;
 mod joining;
 pub mod laws;
 mod nets;
 mod reading;
 
 pub use building::build_net;
+pub use faults::MAX_AGENTS;
 pub use nets::{AgentNo, Net, Point};

@@ -1,7 +1,6 @@
 ghost use Rattle.std.specs.Prelude.{◌≡◌, length, IfOk, unwrap_or};
 ghost use Rattle.in_symbols.specs.Names.{number_in};
 ghost use Rattle.in_net.specs.Reading.{with_name, with_agent, with_occurrence, reader_of, reads_equation, reads_free, reading_of};
-ghost use Rattle.in_net.specs.Arities.{arities_fit, all_arities_fit};
 
 use in_symbols::{Names, SymbolNo, Symbols};
 use in_syntax::{Equation, Name, Place, SourceFree, SourceNet, Term};
@@ -172,26 +171,4 @@ pub(crate) fn read_net(
         read_equation(alloc, symbols, equation, &mut reading)?;
     }
     Ok(reading)
-}
-
-/// Whether each agent of the term has as many arguments as its symbol has auxiliary ports.
-pub(crate) fn arities_fit(symbols: &Symbols, term: &Term) -> bool
-    ensures { result ≡ arities_fit symbols.now term.now }
-{
-    let mut fit = match symbols.number_of(term.name.text.as_str()) {
-        Some(symbol) => term.args.len() == symbols.arity(symbol) as usize,
-        None => true,
-    };
-    for argument in term.args.as_slice() {
-        fit = arities_fit(symbols, argument) && fit;
-    }
-    fit
-}
-
-/// Whether all agents of a net do.
-pub(crate) fn all_arities_fit(symbols: &Symbols, net: &SourceNet) -> bool
-    ensures { result ≡ all_arities_fit symbols.now net.now }
-{
-    net.equations.as_slice().iter().all(|equation| arities_fit(symbols, &equation.left)
-        && arities_fit(symbols, &equation.right))
 }

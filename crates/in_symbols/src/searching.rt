@@ -8,7 +8,7 @@ use in_syntax::{Code, Equation, Place, Refusal, Source, SourcePort, SourceSymbol
 use std::alloc::{AllocError, Global};
 
 /// The earlier of two places; the first, where both begin at one byte.
-pub(crate) fn earlier(first: Option<Place>, second: Option<Place>) -> Option<Place>
+pub fn earlier(first: Option<Place>, second: Option<Place>) -> Option<Place>
     ensures { result ≡ earlier first second }
 {
     match (first, second) {
@@ -107,7 +107,7 @@ fn unknown_in_equations(symbols: &Names, source: &Source) -> Option<Place>
 }
 
 /// The refusal of this code at the place, if there is one.
-fn refused(code: Code, place: Option<Place>) -> Option<Refusal>
+pub fn refused(code: Code, place: Option<Place>) -> Option<Refusal>
     ensures { result ≡ refused code place }
 {
     match place {
@@ -121,7 +121,7 @@ fn refused(code: Code, place: Option<Place>) -> Option<Refusal>
 }
 
 /// The refusal at the earlier place; the first, where both begin at one byte.
-fn earlier_refusal(first: Option<Refusal>, second: Option<Refusal>) -> Option<Refusal>
+pub fn earlier_refusal(first: Option<Refusal>, second: Option<Refusal>) -> Option<Refusal>
     ensures { result ≡ earlier_refusal first second }
 {
     match (first, second) {

@@ -1,13 +1,14 @@
-use Rattle.std.proofs.Common.{◌≡◌, ◌∙◌, ◌+◌, sym, ap, subst, length, drop}
-use Rattle.in_net.specs.Counting.{NamesInside, IsNameInside, counted, counted_from}
+use Rattle.std.proofs.Common.{◌≡◌, ◌∙◌, ◌+◌, sym, ap, subst, length, drop, None}
+use Rattle.in_net.specs.declared.counting.Counting.{Counting}
+use Rattle.in_net.specs.Counting.{NamesInside, IsNameInside, counts_spot, counts_from}
 use Rattle.in_net.specs.Building.{no_spot, nth_spot}
 use Rattle.in_net.proofs.Links.{from_place, all_here, all_rest}
-use Rattle.in_net.proofs.Joins.{length-none_seen, length-counted}
+use Rattle.in_net.proofs.Joins.{length-none_seen, length-counts_spot}
 use Rattle.in_net.proofs.counting.counts.Goals as goal
 
 pub loop-at-init : goal.loop-at-init
 loop-at-init c = record {
-  counted = ap (counted_from 0 c.args.spots.now) c.in_ok-seen.ensures;
+  counted = ap (λ seen. counts_from 0 c.args.spots.now (record { seen = seen; third = None })) c.in_ok-seen.ensures;
   count = ap length c.in_ok-seen.ensures ∙ length-none_seen c.args.names;
   names = c.requires;
 }
@@ -17,7 +18,7 @@ loop-at-preserved c =
     let spots = c.args.spots.now in
     let i = c.loop-at.at in
     record {
-      counted = ap (counted_from (i + 1) (drop (i + 1) spots)) c.count.ensures ∙ sym (ap (λ z. counted_from i z c.loop-at.seen) (from_place spots i no_spot c.loop-at-test.true)) ∙ c.loop-at.invariant.counted;
-      count = ap length c.count.ensures ∙ length-counted c.loop-at.seen i (nth_spot spots i) ∙ c.loop-at.invariant.count;
+      counted = ap (counts_from (i + 1) (drop (i + 1) spots)) c.count.ensures ∙ sym (ap (λ z. counts_from i z c.loop-at.counting) (from_place spots i no_spot c.loop-at-test.true)) ∙ c.loop-at.invariant.counted;
+      count = ap (λ z. length z.seen) c.count.ensures ∙ length-counts_spot c.loop-at.counting i (nth_spot spots i) ∙ c.loop-at.invariant.count;
       names = all_rest (IsNameInside c.args.names) spots i no_spot c.loop-at-test.true c.loop-at.invariant.names;
     }

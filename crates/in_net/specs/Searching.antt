@@ -1,0 +1,37 @@
+-- How the code searches for the first fault of a net's agents and names: no public contract names this.
+use Rattle.std.specs.Prelude.{ℕ, ◌==◌, Bool, cond, List, length, map, Option, Some, None, option_map, slice_get}
+use Rattle.in_syntax.specs.declared.faults.Code.TheVariants.{E03, E07, E08}
+use Rattle.in_syntax.specs.declared.faults.Refusal.{Refusal}
+use Rattle.in_syntax.specs.declared.places.Place.{Place}
+use Rattle.in_syntax.specs.declared.tree.Equation.{Equation}
+use Rattle.in_syntax.specs.declared.tree.SourceNet.{SourceNet}
+use Rattle.in_syntax.specs.declared.tree.Term.{Term}
+use Rattle.in_syntax.specs.declared.tree.Term.TheFolds.{fold-Term}
+use Rattle.in_symbols.specs.Names.{number_in}
+use Rattle.in_symbols.specs.Searching.{earlier, earliest, refused, earlier_refusal}
+use Rattle.in_symbols.specs.Tables.{Tables, arity_of}
+use Rattle.in_net.specs.declared.reading.Agent.{Agent}
+use Rattle.in_net.specs.declared.reading.Reading.{Reading}
+use Rattle.in_net.specs.Counting.{miscounted}
+use Rattle.in_net.specs.NetFaults.{max_agents}
+
+abbrev pub too_many : List Agent → Option Place
+too_many agents = option_map (λ a. a.place) (slice_get agents max_agents)
+
+-- an agent of that symbol with so many arguments, at the place
+abbrev pub misfit_here : Tables → Option ℕ → ℕ → Place → Option Place
+misfit_here t None n p = None
+misfit_here t (Some s) n p = cond (n == arity_of t s) None (Some p)
+
+abbrev pub misfit : Tables → Term → Option Place
+misfit t = fold-Term (Option Place) (λ f. earliest (misfit_here t (number_in f.name.text t.names) (length f.args) f.name.place) f.args)
+
+abbrev pub misfit_in_equation : Tables → Equation → Option Place
+misfit_in_equation t e = earlier (misfit t e.left) (misfit t e.right)
+
+abbrev pub misfit_in_net : Tables → List Equation → Option Place
+misfit_in_net t es = earliest None (map (misfit_in_equation t) es)
+
+abbrev pub first_fault : Tables → SourceNet → Reading → Option Refusal
+first_fault t n r =
+    earlier_refusal (earlier_refusal (refused E03 (too_many r.agents)) (refused E07 (misfit_in_net t n.equations))) (refused E08 (miscounted (length r.names) r.spots n.free))
