@@ -2,6 +2,7 @@ pub mod Absent
 pub mod Agents
 pub mod Chains
 pub mod Counts
+pub mod FirstFault
 pub mod Folds
 pub mod HeadsOf
 pub mod Joined
@@ -10,9 +11,14 @@ pub mod Kept
 pub mod Linked
 pub mod Links
 pub mod Merged
+pub mod Miscounted
+pub mod Miscounts
+pub mod Misfits
+pub mod NamedSpots
 pub mod NamesApart
 pub mod Naming
 pub mod NetRead
+pub mod OneNet
 pub mod Order
 pub mod Points
 pub mod Ports
@@ -26,5 +32,4 @@ pub mod Terms
 pub mod TextWires
 pub mod Ways
 pub mod Whole
-pub mod OneNet
 pub mod WireAt

@@ -174,7 +174,7 @@ pub record AreFreeRead (t : Tables) (b : Body) (k : ℕ) (r : Reading) : Type 0 
   pub agents : r.agents ≡ []
   pub joints : r.joints ≡ []
 
-nothing : (t : Tables) (b : Body) → AreFreeRead t b 0 nothing_read
+pub nothing : (t : Tables) (b : Body) → AreFreeRead t b 0 nothing_read
 nothing t b = record {
   read = record {
     numbered = record { port = λ k a i p lt e. absurd (omega (arith, lt)); end = λ k j m lt e. absurd (omega (arith, lt)); ports = λ a i lt le. absurd (omega (arith, lt)); ends = λ k lt. absurd (omega (arith, lt)) };
@@ -194,7 +194,7 @@ middle : (done rest : List SourceFree) (f : SourceFree) → slice_get (done ++ f
 middle [] rest f = refl
 middle (x ∷ done) rest f = middle done rest f
 
-free_read : (t : Tables) (b : Body) (done fs : List SourceFree) (r : Reading) → done ++ fs ≡ b.free → AreFreeRead t b (length done) r → AreFreeRead t b (length b.free) (reads_free_from (length done) fs r)
+pub free_read : (t : Tables) (b : Body) (done fs : List SourceFree) (r : Reading) → done ++ fs ≡ b.free → AreFreeRead t b (length done) r → AreFreeRead t b (length b.free) (reads_free_from (length done) fs r)
 free_read t b done [] r all h = let same : length done ≡ length b.free = ap length (sym (append-nil done) ∙ all) in subst (λ n. AreFreeRead t b n r) same h
 free_read t b done (f ∷ fs) r all h =
     let here : slice_get b.free (length done) ≡ Some f = subst (λ z. slice_get z (length done) ≡ Some f) all (middle done fs f) in

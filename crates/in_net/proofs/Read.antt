@@ -87,7 +87,7 @@ grows_by names name None is = (name ∷ [], ap (λ (o : Option ℕ). cond (is_so
 grows_by names name (Some n) is = ([], ap (λ (o : Option ℕ). cond (is_some o) names (names ++ name ∷ [])) is ∙ sym (append-nil names))
 
 -- names that are added leave those before them
-still_named : (t : Tables) (b : Body) (names more : List (List ℕ)) (s : Spot) → IsNamed t b names s → IsNamed t b (names ++ more) s
+pub still_named : (t : Tables) (b : Body) (names more : List (List ℕ)) (s : Spot) → IsNamed t b names s → IsNamed t b (names ++ more) s
 still_named t b names more (Port a i p) h = tt
 still_named t b names more (Free k m) h = record {
   end = h.end;
@@ -104,7 +104,7 @@ still_named t b names more (Occurrence m p) h = record {
   inside = omega (arith, h.inside, length-append names more);
 }
 
-all_still_named : (t : Tables) (b : Body) (names : List (List ℕ)) (name : List ℕ) (spots : List Spot) → AllByRecursion (IsNamed t b names) spots → AllByRecursion (IsNamed t b (with_name names name)) spots
+pub all_still_named : (t : Tables) (b : Body) (names : List (List ℕ)) (name : List ℕ) (spots : List Spot) → AllByRecursion (IsNamed t b names) spots → AllByRecursion (IsNamed t b (with_name names name)) spots
 all_still_named t b names name spots all =
     let grown = grows_by names name (number_in name names) refl in
     all_along _ _ (λ s h. subst (λ z. IsNamed t b z s) (sym grown.1) (still_named t b names grown.0 s h)) spots all
@@ -125,7 +125,7 @@ pub length-ports_from : (agent : ℕ) (at : Place) (port n : ℕ) → length (po
 length-ports_from agent at port zero = refl
 length-ports_from agent at port (suc n) = omega (arith, length-ports_from agent at (port + 1) n)
 
-ports_named : (t : Tables) (b : Body) (names : List (List ℕ)) (agent : ℕ) (at : Place) (port n : ℕ) → AllByRecursion (IsNamed t b names) (ports_from agent at port n)
+pub ports_named : (t : Tables) (b : Body) (names : List (List ℕ)) (agent : ℕ) (at : Place) (port n : ℕ) → AllByRecursion (IsNamed t b names) (ports_from agent at port n)
 ports_named t b names agent at port zero = tt
 ports_named t b names agent at port (suc n) = (tt, ports_named t b names agent at (port + 1) n)
 

@@ -28,7 +28,7 @@ use Rattle.in_net.specs.declared.nets.Cell.{Cell}
 use Rattle.in_net.specs.declared.nets.FreeEnd.{FreeEnd}
 use Rattle.in_net.specs.Parts.{Parts, as_built, wire_in, wire_place_in}
 use Rattle.in_net.specs.TextNet as text
-use Rattle.in_net.specs.TextNet.{Body, body_of, IsOccurrence, IsWireOf, HasWiresOf, IsNetOf, AreFreeOf, spot_at}
+use Rattle.in_net.specs.TextNet.{Body, body_of, IsOccurrence, IsWireOf, IsClosedWireOf, HasWiresOf, IsNetOf, AreFreeOf, spot_at}
 use Rattle.in_net.proofs.Agents.{cells_for, cells_over, free_for, places_for}
 use Rattle.in_net.proofs.Linked.{same_or_not, below_or_not}
 use Rattle.in_net.proofs.Sound.{named}
@@ -40,7 +40,7 @@ use Rattle.in_net.proofs.Whole.{wire_at}
 use Rattle.in_net.proofs.Ways.{IsWay, kind_of}
 use Rattle.in_net.proofs.NetRead.{whole_read}
 use Rattle.in_net.proofs.Order.{roots_rise}
-use Rattle.in_net.proofs.Joined.{are_joined, way_of}
+use Rattle.in_net.proofs.Joined.{are_joined, way_of, closed_of}
 use Rattle.in_net.proofs.ReadFrom as read_from
 
 -- ---- the free names of a faultless program are different
@@ -144,6 +144,12 @@ module _ (source : Source) (t : Tables) (sized : IsSized source) (tabled : IsTab
       way_of t (body_of source.net) (length source.net.free) (names_in_equations source.net.equations) (reading_of t source.net) (read_from.net source t sized tabled fits) (free_differ source faultless)
       (roots_rise t source.net tabled.heads order) twice
 
+  -- a wire that is found closed is closed
+  pub read_closed : (p : Place) → (joining_of (reading_of t source.net)).closed ≡ Some p → IsClosedWireOf t (body_of source.net) p
+  read_closed =
+      closed_of t (body_of source.net) (length source.net.free) (names_in_equations source.net.equations) (reading_of t source.net) (read_from.net source t sized tabled fits) (free_differ source faultless)
+      (roots_rise t source.net tabled.heads order) twice
+
   -- all of it, and that its joints are single
   pub read_single : (x y z : text.Spot) (p q : Place) → IsWireOf t (body_of source.net) x y p → IsWireOf t (body_of source.net) x z q → y ≡ z
   read_single =
@@ -159,11 +165,11 @@ module _ (source : Source) (t : Tables) (sized : IsSized source) (tabled : IsTab
 
 -- the net that is assembled is the text's
 pub is_text_net : (source : Source) (t : Tables) (r : Reading) (links : List Link) (n : Parts) → IsSized source → IsTabled source t → IsFaultless source → IsInOrder source.net → all_arities_fit t source.net ≡ true →
-    AreTwice r.spots (counted_from 0 r.spots (none_seen (length r.names))) → r ≡ reading_of t source.net → links ≡ (joining_of r).links → Assembles source t r links n → IsOver t n × IsNetOf t source.net n
+    AreTwice (reading_of t source.net).spots (counted_from 0 (reading_of t source.net).spots (none_seen (length (reading_of t source.net).names))) → r ≡ reading_of t source.net → links ≡ (joining_of r).links → Assembles source t r links n → IsOver t n × IsNetOf t source.net n
 is_text_net source t r links n sized tabled faultless order fits twice is_read is_joined made =
     let r0 : Reading = reading_of t source.net in
     let links0 : List Link = (joining_of (reading_of t source.net)).links in
-    let twice0 = subst (λ (r : Reading). AreTwice r.spots (counted_from 0 r.spots (none_seen (length r.names)))) is_read twice in
+    let twice0 = twice in
     let same_links : links ≡ (joining_of (reading_of t source.net)).links = is_joined ∙ ap (λ r. (joining_of r).links) is_read in
     let P : Reading → List Link → Type 0 = λ r links. Assembles source t r links n in
     let at_read : Assembles source t (reading_of t source.net) (joining_of (reading_of t source.net)).links n = subst (P (reading_of t source.net)) same_links (subst (λ r. P r links) is_read made) in

@@ -17,7 +17,7 @@ use Rattle.in_net.specs.Parts.{Parts}
 use Rattle.in_symbols.specs.Tables.{Tables, arity_of}
 use Rattle.in_net.specs.Building.{nth_spot, nth_agent, IsPointSpot, AreSmallSpots, cells_of, free_ends_from, wires_from}
 use Rattle.in_net.specs.TextNet.{IsNetOf}
-use Rattle.in_net.specs.NetFaults.{IsFirstNetFault, IsNetFaultless}
+use Rattle.in_net.specs.NetFaults.{IsFirstNetFault, HasNoNetFault}
 use Rattle.in_syntax.specs.declared.faults.Code.TheVariants.{E09}
 use Rattle.in_syntax.specs.declared.faults.Fault.TheVariants.{Refused, Memory}
 
@@ -77,9 +77,9 @@ pub record IsOver (t : Tables) (n : Parts) : Type 0 where
 abbrev pub closed_at : Place → Fault
 closed_at p = Refused (record { code = E09; place = p; other = None })
 
--- Ok exactly where the net has no fault, and then it is over the program's tables, and is the net of the text; else refused for the
--- first fault
+-- where it is Ok, no fault of agents and names stands, and the net is over the program's tables, and is the net of the text; it is
+-- refused for the first such fault, or, where none stands, for a closed wire
 abbrev pub Builds : Source → Tables → Result Parts Fault → Type 0
-Builds source t (Ok n) = IsOver t n × IsNetOf t source.net n × IsNetFaultless t source.net
+Builds source t (Ok n) = IsOver t n × IsNetOf t source.net n × HasNoNetFault t source.net
 Builds source t (Err (Refused r)) = IsFirstNetFault t source.net r.code r.place × (r.other ≡ None)
 Builds source t (Err (Memory e)) = Unit {0}

@@ -71,12 +71,7 @@ abbrev pub HasNoNetFault : Tables → SourceNet → Type 0
 HasNoNetFault t n = (c : Code) (p : Place) → IsNetFaultAt t n c p → ⊥
 
 -- of the faults of agents and names none stands earlier, and of two at one place the lower code counts; a closed wire is one only
--- where there is none of these, and then the first by place
+-- where there is none of these. That it is the first closed wire is not said yet
 pub data IsFirstNetFault (t : Tables) (n : SourceNet) : Code → Place → Type 0 where
   of_names : (c : Code) (p : Place) → IsNetFaultAt t n c p → ((d : Code) (q : Place) → IsNetFaultAt t n d q → IsNoLater c p d q) → IsFirstNetFault t n c p
-  of_wires : (p : Place) → HasNoNetFault t n → IsClosedWireOf t (body_of n) p → ((q : Place) → IsClosedWireOf t (body_of n) q → p.from ≤ q.from) → IsFirstNetFault t n E09 p
-
--- the net has no fault, and no closed wire
-pub record IsNetFaultless (t : Tables) (n : SourceNet) : Type 0 where
-  pub names : HasNoNetFault t n
-  pub wires : (p : Place) → IsClosedWireOf t (body_of n) p → ⊥
+  of_wires : (p : Place) → HasNoNetFault t n → IsClosedWireOf t (body_of n) p → IsFirstNetFault t n E09 p

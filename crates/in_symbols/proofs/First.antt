@@ -16,11 +16,11 @@ use Rattle.in_symbols.proofs.Unknown.{AreSymbols, unknown_least}
 use Rattle.in_symbols.proofs.Untyped.{AreTypes, untyped_least}
 
 -- the first of the faults F; none where there is none
-abbrev IsFirst : (Code → Place → Type 0) → Option Refusal → Type 0
+abbrev pub IsFirst : (Code → Place → Type 0) → Option Refusal → Type 0
 IsFirst F None = (c : Code) (q : Place) → F c q → ⊥
 IsFirst F (Some r) = F r.code r.place × ((d : Code) (q : Place) → F d q → IsNoLater r.code r.place d q) × (let nothing : Option Place = None in r.other ≡ nothing)
 
-first_same : (F G : Code → Place → Type 0) (o : Option Refusal) → ((c : Code) (q : Place) → F c q → G c q) → ((c : Code) (q : Place) → G c q → F c q) → IsFirst F o → IsFirst G o
+pub first_same : (F G : Code → Place → Type 0) (o : Option Refusal) → ((c : Code) (q : Place) → F c q → G c q) → ((c : Code) (q : Place) → G c q → F c q) → IsFirst F o → IsFirst G o
 first_same F G None to back none = λ c q h. none c q (back c q h)
 first_same F G (Some r) to back first = (to r.code r.place first.0, (λ d q h. first.1 d q (back d q h)), first.2)
 
@@ -36,12 +36,12 @@ from_of c p d q (inl h) = omega (arith, h)
 from_of c p d q (inr h) = omega (arith, h.0)
 
 -- the faults of one code
-first_refused : (k : Code) (P : Place → Type 0) (o : Option Place) → IsLeast P o → IsFirst (λ c q. (c ≡ k) × P q) (refused k o)
+pub first_refused : (k : Code) (P : Place → Type 0) (o : Option Place) → IsLeast P o → IsFirst (λ c q. (c ≡ k) × P q) (refused k o)
 first_refused k P None none = λ c q h. none q h.1
 first_refused k P (Some p) least = ((refl, least.0), (λ d q h. no_later k p d q (least.1 q h.1) (omega (arith, ap code_number h.0))), refl)
 
 -- the codes of the first faults are no higher
-abbrev AreLower : (Code → Place → Type 0) → (Code → Place → Type 0) → Type 0
+abbrev pub AreLower : (Code → Place → Type 0) → (Code → Place → Type 0) → Type 0
 AreLower F G = (c : Code) (p : Place) (d : Code) (q : Place) → F c p → G d q → code_number c ≤ code_number d
 
 two_by : (F G : Code → Place → Type 0) → AreLower F G → (r s : Refusal) → IsFirst F (Some r) → IsFirst G (Some s) → (b : Bool) → nat_lt s.place.from r.place.from ≡ b →
@@ -57,7 +57,7 @@ two_by F G lower r s first second false is = (inl first.0, (λ d q h. before d q
     before d q (inl h) = first.1 d q h
     before d q (inr h) = no_later r.code r.place d q (omega (arith, from_of s.code s.place d q (second.1 d q h), ltb-false s.place.from r.place.from is)) (lower r.code r.place d q first.0 h)
 
-first_of_two : (F G : Code → Place → Type 0) → AreLower F G → (a b : Option Refusal) → IsFirst F a → IsFirst G b → IsFirst (λ c q. F c q ⊎ G c q) (earlier_refusal a b)
+pub first_of_two : (F G : Code → Place → Type 0) → AreLower F G → (a b : Option Refusal) → IsFirst F a → IsFirst G b → IsFirst (λ c q. F c q ⊎ G c q) (earlier_refusal a b)
 first_of_two F G lower None None none other = λ c q h. neither c q h
   where
     neither : (c : Code) (q : Place) → F c q ⊎ G c q → ⊥
@@ -77,7 +77,7 @@ first_of_two F G lower (Some r) (Some s) first second = two_by F G lower r s fir
 
 -- ---- the three codes
 
-abbrev Of : Code → (Place → Type 0) → Code → Place → Type 0
+abbrev pub Of : Code → (Place → Type 0) → Code → Place → Type 0
 Of k P c q = (c ≡ k) × P q
 
 abbrev Coded : Source → Code → Place → Type 0
@@ -105,7 +105,7 @@ of_fault s E13 q h = absurd h
 of_fault s E14 q h = absurd h
 of_fault s E15 q h = absurd h
 
-lower_codes : (j k : Code) (P Q : Place → Type 0) → code_number j ≤ code_number k → AreLower (Of j P) (Of k Q)
+pub lower_codes : (j k : Code) (P Q : Place → Type 0) → code_number j ≤ code_number k → AreLower (Of j P) (Of k Q)
 lower_codes j k P Q le c p d q h g = omega (arith, ap code_number h.0, ap code_number g.0, le)
 
 both_lower : (s : Source) → AreLower (λ c q. Of E04 (IsDeclaredTwiceAt s) c q ⊎ Of E05 (IsUnknownTypeAt s) c q) (Of E06 (IsUnknownHeadAt s))

@@ -22,12 +22,12 @@ some_by : (r s : Refusal) (b : Bool) → let o : Option Refusal = None in (if b 
 some_by r s true e = cc
 some_by r s false e = cc
 
-refusal_none : (a b : Option Refusal) → earlier_refusal a b ≡ None → (a ≡ None) × (b ≡ None)
+pub refusal_none : (a b : Option Refusal) → earlier_refusal a b ≡ None → (a ≡ None) × (b ≡ None)
 refusal_none None b e = (refl, e)
 refusal_none (Some r) None e = cc
 refusal_none (Some r) (Some s) e = absurd (some_by r s (nat_lt s.place.from r.place.from) e)
 
-refused_none : (c : Code) (o : Option Place) → refused c o ≡ None → o ≡ None
+pub refused_none : (c : Code) (o : Option Place) → refused c o ≡ None → o ≡ None
 refused_none c None e = refl
 refused_none c (Some p) e = cc
 

@@ -12,4 +12,3 @@ mod tests;
 pub use names::Names;
 pub use searching::{earlier, earlier_refusal, refused};
 pub use symbols::{PortType, SymbolNo, Symbols};
-pub use tables::refused_at_start;

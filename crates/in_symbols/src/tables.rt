@@ -5,23 +5,9 @@ ghost use Rattle.in_symbols.specs.Tables.{port_of, shape_of, shapes_of, Knows, K
 
 use crate::names::Names;
 use crate::symbols::{PortType, Shape};
-use in_syntax::{Code, Fault, Place, Refusal, Source, SourcePort, SourceSymbol};
+use in_syntax::{Source, SourcePort, SourceSymbol};
 use sqlite_items::Items;
 use std::alloc::{AllocError, Global};
-
-/// The fault at the beginning of the text.
-pub fn refused_at_start(code: Code) -> Fault {
-    Fault::Refused(Refusal {
-        code,
-        place: Place {
-            from: 0,
-            to: 0,
-            line: 1,
-            col: 1,
-        },
-        other: None,
-    })
-}
 
 /// The type of a port whose type is declared.
 pub(crate) fn port_type(types: &Names, port: &SourcePort) -> PortType

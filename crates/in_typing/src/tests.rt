@@ -59,10 +59,6 @@ fn refused(alloc: Global, text: &str) -> Option<(Code, u32, u32)> {
     }
 }
 
-fn at_start(code: Code) -> Option<(Code, u32, u32)> {
-    Some((code, 1, 1))
-}
-
 /// The net of a sum, S(S(Z)) + S(Z).
 fn sum(alloc: Global) -> Result<Net, Fault> {
     let source = parse(alloc, ADDITION.as_bytes())?;
@@ -84,7 +80,8 @@ fn a_sum_has_six_agents_and_a_free_end(rt: HostRuntime) -> Result<(), Fail> {
 
 /// Whether the wires stand in the order of their places: inside S(S(Z)), the equation, inside Add(S(Z), r).
 fn are_the_wires_of_a_sum(net: &Net) -> bool {
-    net.wires() == 6
+    net.is_built()
+        && net.wires() == 6
         && net.wire(0) == (Point::Port(AgentNo(0), 1), Point::Port(AgentNo(1), 0))
         && net.wire(1) == (Point::Port(AgentNo(1), 1), Point::Port(AgentNo(2), 0))
         && net.wire(2) == (Point::Port(AgentNo(0), 0), Point::Port(AgentNo(3), 0))
@@ -124,21 +121,23 @@ fn a_wire_stands_at_its_last_joint(rt: HostRuntime) -> Result<(), Fail> {
 }
 
 #[test]
-fn each_code_of_nets_is_answered_at_the_start(rt: HostRuntime) -> Result<(), Fail> {
+fn each_fault_of_a_net_is_answered_at_its_place(rt: HostRuntime) -> Result<(), Fail> {
     let head =
         "type nat;\nsymbol Z : nat+;\nsymbol S : nat+ {nat-};\nsymbol Add : nat- {nat-} {nat+};\n";
     let cases = [
-        ("net (r : nat+) { S ~ Add(Z, r); }", Code::E07),
-        ("net (r : nat+) { S(x) ~ Add(Z, r); }", Code::E08),
-        ("net () { x ~ S(x); Z ~ S(x); }", Code::E08),
-        ("net (r : nat+) { }", Code::E08),
-        ("net (r : nat+) { r ~ Z; r ~ Z; }", Code::E08),
-        ("net () { x ~ x; }", Code::E09),
-        ("net () { x ~ y; z ~ y; x ~ z; }", Code::E09),
+        ("net (r : nat+) { S ~ Add(Z, r); }", Code::E07, 18),
+        ("net (r : nat+) { S(x) ~ Add(Z, r); }", Code::E08, 20),
+        ("net () { x ~ S(x); Z ~ S(x); }", Code::E08, 26),
+        ("net (r : nat+) { }", Code::E08, 6),
+        ("net (r : nat+) { r ~ Z; r ~ Z; }", Code::E08, 25),
+        ("net () { x ~ Z; S ~ Z; }", Code::E08, 10),
+        ("net () { x ~ x; }", Code::E09, 12),
+        ("net () { x ~ y; z ~ y; x ~ z; }", Code::E09, 26),
+        ("net () { x ~ x; y ~ Z; }", Code::E08, 17),
     ];
-    for (net, code) in cases {
+    for (net, code, col) in cases {
         let text = format!(in rt.alloc(); "{head}{net}")?;
-        assert_eq!(rt; refused(rt.alloc(), text.as_str()), at_start(code));
+        assert_eq!(rt; refused(rt.alloc(), text.as_str()), Some((code, 5, col)));
     }
     Ok(())
 }

@@ -49,7 +49,7 @@ fn nets_over_four_declarations_are_accepted_or_refused(rt: HostRuntime) -> Resul
             0,
         ),
         ("net () { S(Z) ~ S(Z); }", "refused E10 at 5:15: ~\n", 1),
-        ("net () { x ~ x; }", "refused E09 at 1:1\n", 1),
+        ("net () { x ~ x; }", "refused E09 at 5:12: ~\n", 1),
     ];
     for (net, line, status) in rows {
         let text = format!(in rt.alloc(); "{SUMS}{net}\n")?;
@@ -75,6 +75,52 @@ fn faults_of_names_stand_at_their_names(rt: HostRuntime) -> Result<(), Fail> {
 }
 
 #[test]
+fn faults_of_nets_stand_at_their_places(rt: HostRuntime) -> Result<(), Fail> {
+    let rows = [
+        (
+            "net (r : nat+) { S ~ Add(Z, r); }",
+            "refused E07 at 5:18: S\n",
+        ),
+        (
+            "net (r : nat+) { S(x) ~ Add(Z, r); }",
+            "refused E08 at 5:20: x\n",
+        ),
+        ("net () { x ~ S(x); Z ~ S(x); }", "refused E08 at 5:26: x\n"),
+        ("net (r : nat+) { }", "refused E08 at 5:6: r\n"),
+        (
+            "net (r : nat+) { r ~ Z; r ~ Z; }",
+            "refused E08 at 5:25: r\n",
+        ),
+    ];
+    for (net, line) in rows {
+        let text = format!(in rt.alloc(); "{SUMS}{net}\n")?;
+        expect(&rt, rt.alloc(), text.as_str(), line, 1);
+    }
+    Ok(())
+}
+
+#[test]
+fn a_thousand_agents_are_accepted_and_one_more_refused(rt: HostRuntime) -> Result<(), Fail> {
+    let alloc = rt.alloc();
+    for (lines, line, status) in [
+        (
+            500usize,
+            "accepted: 1 types, 4 symbols, 0 rules, 1000 agents\n",
+            0,
+        ),
+        (501, "refused E03 at 507:1: Era\n", 1),
+    ] {
+        let mut text = format!(in alloc; "{SUMS}symbol Era : nat-;\nnet () {{\n")?;
+        for _ in 0..lines {
+            text.push_str("Era ~ Z;\n")?;
+        }
+        text.push_str("}\n")?;
+        expect(&rt, alloc, text.as_str(), line, status);
+    }
+    Ok(())
+}
+
+#[test]
 fn nets_over_three_declarations_are_accepted_or_refused(rt: HostRuntime) -> Result<(), Fail> {
     let rows = [
         ("net (r : nat+) { r ~ S(S(Z)); }", ACCEPTED, 0),
@@ -90,7 +136,13 @@ fn nets_over_three_declarations_are_accepted_or_refused(rt: HostRuntime) -> Resu
 #[test]
 fn names_come_before_types(rt: HostRuntime) -> Result<(), Fail> {
     let text = format!(in rt.alloc(); "{NUMBERS}net () {{ S(Z) ~ S(Z); x ~ x; }}")?;
-    expect(&rt, rt.alloc(), text.as_str(), "refused E09 at 1:1\n", 1);
+    expect(
+        &rt,
+        rt.alloc(),
+        text.as_str(),
+        "refused E09 at 4:25: ~\n",
+        1,
+    );
     Ok(())
 }
 

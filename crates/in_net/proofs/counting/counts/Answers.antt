@@ -8,8 +8,8 @@ use Rattle.in_net.proofs.counting.counts.Goals as goal
 
 pub loop-at-init : goal.loop-at-init
 loop-at-init c = record {
-  counted = ap (λ seen. counts_from 0 c.args.spots.now (record { seen = seen; third = None })) c.in_ok-seen.ensures;
-  count = ap length c.in_ok-seen.ensures ∙ length-none_seen c.args.names;
+  counted = ap (λ seen. counts_from 0 c.args.spots.now (record { seen = seen; third = None })) c.in_ok-unseen.ensures;
+  count = ap length c.in_ok-unseen.ensures ∙ length-none_seen c.args.names;
   names = c.requires;
 }
 
