@@ -1,0 +1,13 @@
+pub mod Balance
+pub mod Both
+pub mod Derives
+pub mod EachSplits
+pub mod Forest
+pub mod Grow
+pub mod Links
+pub mod Make
+pub mod NoCircle
+pub mod Search
+pub mod Sound
+pub mod Tests
+pub mod Whole

@@ -1,0 +1,6 @@
+pub mod Constructions
+pub mod Derivations
+pub mod Laws
+pub mod OpenNets
+pub mod Splitting
+pub mod Stuck
