@@ -1,5 +1,6 @@
 pub mod Balance
 pub mod Both
+pub mod Counted
 pub mod Derives
 pub mod EachSplits
 pub mod Forest

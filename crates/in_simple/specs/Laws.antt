@@ -1,8 +1,13 @@
 -- The laws of open nets, over the definitions alone.
 use Rattle.std.specs.Prelude.{◌≡◌, ◌⊎◌, ◌↔◌, ℕ, Bool, List}
+use Rattle.in_syntax.specs.declared.tree.SourceNet.{SourceNet}
+use Rattle.in_symbols.specs.Tables.{Tables}
+use Rattle.in_net.specs.Parts.{Parts}
+use Rattle.in_net.specs.TextNet.{IsNetOf}
 use Rattle.in_net.specs.Graphs.{CrossingCircle}
 use Rattle.in_simple.specs.OpenNets.{OpenNet, IsOpenNet, IsDerivable, NetSplits, open_graph}
 use Rattle.in_simple.specs.Derivations.{Step, IsDerivation}
+use Rattle.in_simple.specs.Opening.{AreAllThere}
 use Rattle.in_simple.specs.Stuck.{IsFirstStuck}
 
 -- an open net splits exactly where it is derivable
@@ -26,3 +31,7 @@ HasOneFirstStuck o = (t : ℕ → Bool) × IsFirstStuck o t × ((u : ℕ → Boo
 
 abbrev pub SplitsOrFirstStuck : Type 0
 SplitsOrFirstStuck = (o : OpenNet) → IsOpenNet o → (NetSplits o × HasNoFirstStuck o) ⊎ ((NetSplits o → ⊥) × HasOneFirstStuck o)
+
+-- the net of a text has an agent at each of its numbers, which is what its open net asks for
+abbrev pub TextNetsAreAllThere : Type 0
+TextNetsAreAllThere = (t : Tables) (text : SourceNet) (n : Parts) → IsNetOf t text n → AreAllThere n

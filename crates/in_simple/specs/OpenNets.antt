@@ -1,8 +1,10 @@
 -- Open nets: nodes in order, wires by number, free ends. An agent of a net is a node of it, and so is each class of a rule's
 -- heads: Lafont 1990 has a right member simple for the classes of its left symbols; the class nodes are this project's own way to
 -- say it.
-use Rattle.std.specs.Prelude.{◌≡◌, ◌≢◌, ◌⊎◌, ◌↔◌, ℕ, ◌<◌, ◌≤◌, Bool, List, length, slice_get, get_or, Option, Some, None, IsSomeAnd}
+use Rattle.std.specs.Prelude.{◌≡◌, ◌≢◌, ◌⊎◌, ◌↔◌, ℕ, ◌<◌, ◌≤◌, Bool, List, length, slice_get, get_or, Option, Some, None, IsSomeAnd, option_map}
+use Rattle.in_syntax.specs.declared.places.Place.{Place}
 use Rattle.in_net.specs.Graphs.{Graph}
+use Rattle.in_simple.specs.declared.open_nets.Node.{Node}
 use Rattle.in_simple.specs.declared.open_nets.Node.TheVariants.{AgentNode, ClassNode}
 use Rattle.in_simple.specs.declared.open_nets.OpenNode.{OpenNode}
 use Rattle.in_simple.specs.declared.open_nets.Point.{Point}
@@ -71,3 +73,11 @@ IsDerivable o = (s : ℕ → Bool) × ((n : ℕ) → IsIn n s ↔ IsNode o n) ×
 -- some node splits it, and with the first one taken out each component splits
 abbrev pub NetSplits : OpenNet → Type 0
 NetSplits o = (s : ℕ → Bool) × ((n : ℕ) → IsIn n s ↔ IsNode o n) × Splits (open_graph o) (λ m n. m < n) s
+
+-- ---- what the looking calls read
+
+abbrev pub node_in : OpenNet → ℕ → Option Node
+node_in o n = option_map (λ m. m.node) (slice_get o.nodes n)
+
+abbrev pub node_place_in : OpenNet → ℕ → Option Place
+node_place_in o n = option_map (λ m. m.place) (slice_get o.nodes n)

@@ -1,6 +1,6 @@
 //! Laws over the definitions of open nets, for whoever reasons above them. No function here does anything.
 
-ghost use Rattle.in_simple.specs.Laws.{SplitsWhereDerivable, DerivableHasNoCircle, DerivationWhereDerivable, SplitsOrFirstStuck};
+ghost use Rattle.in_simple.specs.Laws.{SplitsWhereDerivable, DerivableHasNoCircle, DerivationWhereDerivable, SplitsOrFirstStuck, TextNetsAreAllThere};
 
 /// An open net splits exactly where it is derivable. Derivable is Lafont 1990's semi-simple; to decide it by splitting is this
 /// project's own choice.
@@ -22,4 +22,9 @@ pub fn derivation_where_derivable()
 /// An open net splits, or it has exactly one first stuck sub-net; never both.
 pub fn splits_or_first_stuck()
     ensures { SplitsOrFirstStuck }
+{}
+
+/// The net of a text has an agent at each of its numbers, which is what `open_net` asks for.
+pub fn text_nets_are_all_there()
+    ensures { TextNetsAreAllThere }
 {}

@@ -3,5 +3,10 @@
 
 pub mod laws;
 mod open_nets;
+mod opening;
 
-pub use open_nets::{Node, Point};
+pub use open_nets::{Node, OpenNet, Point};
+pub use opening::open_net;
+
+#[cfg(test)]
+mod tests;
