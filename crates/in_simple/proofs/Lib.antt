@@ -8,6 +8,7 @@ pub mod Grow
 pub mod Links
 pub mod Make
 pub mod NoCircle
+pub mod Opened
 pub mod Search
 pub mod Sound
 pub mod Tests

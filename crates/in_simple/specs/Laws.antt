@@ -2,12 +2,13 @@
 use Rattle.std.specs.Prelude.{◌≡◌, ◌⊎◌, ◌↔◌, ℕ, Bool, List}
 use Rattle.in_syntax.specs.declared.tree.SourceNet.{SourceNet}
 use Rattle.in_symbols.specs.Tables.{Tables}
-use Rattle.in_net.specs.Parts.{Parts}
+use Rattle.in_net.specs.Built.{IsOver}
+use Rattle.in_net.specs.Parts.{Parts, IsWhole}
 use Rattle.in_net.specs.TextNet.{IsNetOf}
 use Rattle.in_net.specs.Graphs.{CrossingCircle}
 use Rattle.in_simple.specs.OpenNets.{OpenNet, IsOpenNet, IsDerivable, NetSplits, open_graph}
 use Rattle.in_simple.specs.Derivations.{Step, IsDerivation}
-use Rattle.in_simple.specs.Opening.{AreAllThere}
+use Rattle.in_simple.specs.Opening.{AreAllThere, AreNumbered, Opens}
 use Rattle.in_simple.specs.Stuck.{IsFirstStuck}
 
 -- an open net splits exactly where it is derivable
@@ -35,3 +36,7 @@ SplitsOrFirstStuck = (o : OpenNet) → IsOpenNet o → (NetSplits o × HasNoFirs
 -- the net of a text has an agent at each of its numbers, which is what its open net asks for
 abbrev pub TextNetsAreAllThere : Type 0
 TextNetsAreAllThere = (t : Tables) (text : SourceNet) (n : Parts) → IsNetOf t text n → AreAllThere n
+
+-- the open net of a whole net over tables is one: each point is in exactly one wire
+abbrev pub OpenNetsAreOpen : Type 0
+OpenNetsAreOpen = (t : Tables) (n : Parts) (o : OpenNet) → AreNumbered t → IsWhole n → IsOver t n → Opens t n o → IsOpenNet o

@@ -1,6 +1,6 @@
 //! Laws over the definitions of open nets, for whoever reasons above them. No function here does anything.
 
-ghost use Rattle.in_simple.specs.Laws.{SplitsWhereDerivable, DerivableHasNoCircle, DerivationWhereDerivable, SplitsOrFirstStuck, TextNetsAreAllThere};
+ghost use Rattle.in_simple.specs.Laws.{SplitsWhereDerivable, DerivableHasNoCircle, DerivationWhereDerivable, SplitsOrFirstStuck, TextNetsAreAllThere, OpenNetsAreOpen};
 
 /// An open net splits exactly where it is derivable. Derivable is Lafont 1990's semi-simple; to decide it by splitting is this
 /// project's own choice.
@@ -27,4 +27,10 @@ pub fn splits_or_first_stuck()
 /// The net of a text has an agent at each of its numbers, which is what `open_net` asks for.
 pub fn text_nets_are_all_there()
     ensures { TextNetsAreAllThere }
+{}
+
+/// The open net of a net is one, where the tables number classes from 1 and the principal port is the one place of class 0: each
+/// point is in exactly one wire.
+pub fn open_nets_are_open()
+    ensures { OpenNetsAreOpen }
 {}
