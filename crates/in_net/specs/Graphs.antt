@@ -1,6 +1,6 @@
--- Nodes with ports in classes, and the circles among them. Lafont 1990: a net with a vicious circle can't be reduced to its end,
--- since no principal port in it ever meets another. Crossing circles are this project's own: what simplicity excludes.
-use Rattle.std.specs.Prelude.{◌≡◌, ◌≢◌, ℕ, suc, List, [], ◌∷◌, Option, Some, None}
+-- Nodes with ports in classes, and the circles among them. Lafont 1990: in a vicious circle each agent waits for the next one, so
+-- that none ever interacts. The crossing circle, which classes exclude, is this project's own choice.
+use Rattle.std.specs.Prelude.{◌≡◌, ◌≢◌, ℕ, List, [], ◌∷◌, Option, Some, None}
 use Rattle.std.specs.List.{AllByRecursion}
 use Rattle.in_net.specs.Nets.{Port, Signature, Net}
 

@@ -12,7 +12,7 @@ use Rattle.in_simple.proofs.NoCircle.{no_circle}
 use Rattle.in_simple.specs.OpenNets.{OpenNet, IsOpenNet, IsAgent, IsNode, IsPointOf, IsDerivable, NetSplits, open_graph}
 use Rattle.in_simple.specs.Laws.{HasNoFirstStuck, HasOneFirstStuck}
 use Rattle.in_simple.specs.Stuck.{FirstStuck, whole, within, IsFirstStuck}
-use Rattle.in_simple.proofs.Tests.{same_test, some_of}
+use Rattle.in_simple.proofs.Sums.{same_test, some_of}
 use Rattle.in_simple.proofs.Balance.{wire_turn}
 use Rattle.in_simple.proofs.Search.{Found, search, count, not_both_ways, one_stuck, smaller}
 use Rattle.in_simple.proofs.Grow.{built_constructions, splits_built}

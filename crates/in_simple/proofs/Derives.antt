@@ -6,7 +6,7 @@ use Rattle.in_simple.specs.declared.open_nets.Point.TheVariants.{Port, Free}
 use Rattle.in_simple.specs.Constructions.{IsIn}
 use Rattle.in_simple.specs.OpenNets.{OpenNet, IsNode, IsPointOf, IsWire, IsOpenNet, IsDerivable}
 use Rattle.in_simple.specs.Derivations.{Step, is_free, Builds, IsDerivation}
-use Rattle.in_simple.proofs.Tests.{or_cases, or_left, or_right, not_both, not_true, some_same, some_of, port_yes, one_other}
+use Rattle.in_simple.proofs.Sums.{or_cases, or_left, or_right, not_both, not_true, some_same, some_of, port_yes, one_other}
 use Rattle.in_simple.proofs.Balance.{wire_turn}
 use Rattle.in_simple.proofs.Sound.{wire_points}
 use Rattle.in_simple.proofs.Links.{Decided, same_nat}

@@ -3,7 +3,7 @@ use Rattle.std.proofs.Common.{◌≡◌, ◌⊎◌, ◌<◌, ◌≤◌, ◌+◌,
 use Rattle.in_simple.specs.Constructions.{IsIn}
 use Rattle.in_simple.specs.OpenNets.{OpenNet}
 use Rattle.in_simple.specs.Derivations.{Step, Part, named, own_nodes, own_links, is_among, nodes_of, links_of, ShareNothing, AreDifferent, AreEarlier, Joins, Builds, times, times_in}
-use Rattle.in_simple.proofs.Tests.{or_cases, or_left, or_right, not_both, not_true, some_same, one_same, one_other}
+use Rattle.in_simple.proofs.Sums.{or_cases, or_left, or_right, not_both, not_true, some_same, one_same, one_other}
 use Rattle.in_simple.proofs.Links.{same_nat, at_most}
 use Rattle.in_simple.proofs.Whole.{times_among}
 

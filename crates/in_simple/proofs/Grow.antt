@@ -9,7 +9,7 @@ use Rattle.in_simple.specs.Splitting.{Linked, alone, onward, Without, SplitsAt, 
 use Rattle.in_simple.specs.declared.open_nets.OpenNode.{OpenNode}
 use Rattle.in_simple.specs.OpenNets.{OpenNet, IsAgentNode, IsClassNode, IsAgent, IsClass, class_at, class_in, classes_of, IsWire, IsOpenNet, open_graph}
 use Rattle.in_simple.specs.Stuck.{ports_of}
-use Rattle.in_simple.proofs.Tests.{or_cases, or_left, or_right, true_or_false, not_both, same_test, got}
+use Rattle.in_simple.proofs.Sums.{or_cases, or_left, or_right, true_or_false, not_both, same_test, got}
 use Rattle.in_simple.proofs.Sound.{port_place, class_no_agent}
 use Rattle.in_simple.proofs.Links.{Decided, same_nat, both_decided, least, AreNext, are_next, link_join, link_back, link_first}
 use Rattle.in_simple.proofs.Search.{is_in, test, test_yes, test_is, in_ports, wired, without, linked, component, is_component}

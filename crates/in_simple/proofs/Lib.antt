@@ -1,5 +1,6 @@
 pub mod Balance
 pub mod Both
+pub mod Classes
 pub mod Counted
 pub mod Derives
 pub mod EachSplits
@@ -11,5 +12,5 @@ pub mod NoCircle
 pub mod Opened
 pub mod Search
 pub mod Sound
-pub mod Tests
+pub mod Sums
 pub mod Whole

@@ -8,7 +8,7 @@ use Rattle.in_simple.specs.Constructions.{IsIn, AreParts, numbered, IsGraft}
 use Rattle.in_simple.specs.OpenNets.{OpenNet, IsAgent, IsClass, class_in, classes_of, IsWire, IsOpenNet, open_graph}
 use Rattle.in_simple.specs.Derivations.{Step, Empty, Link, Given, Graft, Cut, Mix, Part, named, own_nodes, own_links, one_if, is_port_in, is_principal, is_auxiliary, is_among, nodes_of, links_of, ends_of, IsGrafted, Joins, times}
 use Rattle.in_simple.specs.Stuck.{ports_of}
-use Rattle.in_simple.proofs.Tests.{or_cases, or_left, or_right, true_or_false, not_both, not_true, same_test, got, some_same, port_yes, port_no, port_none, port_same, port_or, port_own, other_port, auxiliary_port, principal_one, one_same, one_other, of_nodes, in_nodes_of}
+use Rattle.in_simple.proofs.Sums.{or_cases, or_left, or_right, true_or_false, not_both, not_true, same_test, got, some_same, port_yes, port_no, port_none, port_same, port_or, port_own, other_port, auxiliary_port, principal_one, one_same, one_other, of_nodes, in_nodes_of}
 use Rattle.in_simple.proofs.Balance.{wire_turn}
 use Rattle.in_simple.proofs.Sound.{wire_points, port_place}
 use Rattle.in_simple.proofs.Links.{Decided, same_nat, both_decided, at_most, least}

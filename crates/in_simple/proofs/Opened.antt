@@ -22,7 +22,7 @@ use Rattle.in_simple.specs.declared.open_nets.Point.TheVariants.{Port, Free}
 use Rattle.in_simple.specs.OpenNets as nets
 use Rattle.in_simple.specs.OpenNets.{OpenNet, IsWire, IsOpenNet, IsAgentNode, IsAgent, class_in}
 use Rattle.in_simple.specs.Opening.{IsNodeOf, AreNumbered, Opens, open_point, open_wire}
-use Rattle.in_simple.proofs.Tests.{some_of, some_same, got}
+use Rattle.in_simple.proofs.Sums.{some_of, some_same, got}
 
 -- the point of the net that a point of the open net is
 abbrev net_point : Point → points.Point
@@ -37,6 +37,9 @@ open_of_net : (p : Point) → open_point (net_point p) ≡ p
 open_of_net (Port x i) = refl
 open_of_net (Free k) = refl
 
+same_wire : (r s u v : points.Point) → r ≡ u → s ≡ v → ◌≡◌ {A = Option (points.Point × points.Point)} (Some (r, s)) (Some (u, v))
+same_wire r s u v e f = cc
+
 module _ (t : Tables) (n : Parts) (o : OpenNet) (numbered : AreNumbered t) (whole : IsWhole n) (over : IsOver t n) (opens : Opens t n o) where
   wire_of_net : (w : ℕ) (p q : Point) → slice_get o.wires w ≡ Some (p, q) → wire_in n w ≡ Some (net_point p, net_point q)
   wire_of_net w p q e = go (wire_in n w) (opens.wires.1 w (p, q) e)
@@ -47,7 +50,7 @@ module _ (t : Tables) (n : Parts) (o : OpenNet) (numbered : AreNumbered t) (whol
           let f : (open_point r, open_point s) ≡ (p, q) = some_same (Some (open_point r, open_point s)) (open_point r, open_point s) (p, q) refl h in
           let g : r ≡ net_point p = sym (net_of_open r) ∙ ap net_point (ap (λ z. z.0) f) in
           let k : s ≡ net_point q = sym (net_of_open s) ∙ ap net_point (ap (λ z. z.1) f) in
-          cc
+          same_wire r s (net_point p) (net_point q) g k
 
   wire_listed : (w : ℕ) (r s : points.Point) → wire_in n w ≡ Some (r, s) → slice_get o.wires w ≡ Some (open_point r, open_point s)
   wire_listed w r s e =

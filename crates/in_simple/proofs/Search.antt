@@ -11,7 +11,7 @@ use Rattle.in_simple.specs.Splitting.{Linked, alone, Without, SplitsAt, IsFirstS
 use Rattle.in_simple.specs.declared.open_nets.OpenNode.{OpenNode}
 use Rattle.in_simple.specs.OpenNets.{OpenNet, class_in, IsWire, IsOpenNet, open_graph}
 use Rattle.in_simple.specs.Stuck.{Touches, ports_of, turn, ComesAt, FirstStuck, whole, within}
-use Rattle.in_simple.proofs.Tests.{true_or_false, not_both, not_true, same_test}
+use Rattle.in_simple.proofs.Sums.{true_or_false, not_both, not_true, same_test}
 use Rattle.in_simple.proofs.Sound.{port_place}
 use Rattle.in_simple.proofs.Links.{Decided, same_nat, both_decided, either_decided, at_most, least, link_join, link_back, link_first, are_linked}
 

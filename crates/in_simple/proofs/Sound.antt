@@ -10,7 +10,7 @@ use Rattle.in_simple.specs.declared.open_nets.Node.TheVariants.{AgentNode, Class
 use Rattle.in_simple.specs.declared.open_nets.OpenNode.{OpenNode}
 use Rattle.in_simple.specs.OpenNets.{OpenNet, IsAgentNode, IsClassNode, IsAgent, IsClass, class_in, IsWire, IsOpenNet, open_graph}
 use Rattle.in_simple.specs.Derivations.{Step, Empty, Link, Given, Graft, Cut, Mix, Part, named, own_nodes, one_if, is_port_in, is_principal, is_auxiliary, is_among, nodes_of, ends_of, ShareNothing, AreEarlier, IsCut, IsGrafted, Joins}
-use Rattle.in_simple.proofs.Tests.{or_cases, or_left, or_right, true_or_false, not_both, not_true, same_test, got, some_same, port_yes, port_no, port_own, other_port, auxiliary_most, principal_one, one_same, one_other, in_nodes_of, of_nodes, ends_most, ends_two, parts_apart}
+use Rattle.in_simple.proofs.Sums.{or_cases, or_left, or_right, true_or_false, not_both, not_true, same_test, got, some_same, port_yes, port_no, port_own, other_port, auxiliary_most, principal_one, one_same, one_other, in_nodes_of, of_nodes, ends_most, ends_two, parts_apart}
 use Rattle.in_simple.proofs.Balance.{wire_turn, IsBalanced, AllBalanced, all_nodes}
 
 pub class_no_agent : (m : Option OpenNode) → IsSomeAnd m IsClassNode → IsSomeAnd m IsAgentNode → ⊥

@@ -1,7 +1,8 @@
 -- The laws of open nets, over the definitions alone.
 use Rattle.std.specs.Prelude.{◌≡◌, ◌⊎◌, ◌↔◌, ℕ, Bool, List}
+use Rattle.in_syntax.specs.declared.tree.Source.{Source}
 use Rattle.in_syntax.specs.declared.tree.SourceNet.{SourceNet}
-use Rattle.in_symbols.specs.Tables.{Tables}
+use Rattle.in_symbols.specs.Tables.{Tables, IsTabled}
 use Rattle.in_net.specs.Built.{IsOver}
 use Rattle.in_net.specs.Parts.{Parts, IsWhole}
 use Rattle.in_net.specs.TextNet.{IsNetOf}
@@ -40,3 +41,7 @@ TextNetsAreAllThere = (t : Tables) (text : SourceNet) (n : Parts) → IsNetOf t 
 -- the open net of a whole net over tables is one: each point is in exactly one wire
 abbrev pub OpenNetsAreOpen : Type 0
 OpenNetsAreOpen = (t : Tables) (n : Parts) (o : OpenNet) → AreNumbered t → IsWhole n → IsOver t n → Opens t n o → IsOpenNet o
+
+-- the tables of a program number classes as its open nets ask
+abbrev pub TablesAreNumbered : Type 0
+TablesAreNumbered = (source : Source) (t : Tables) → IsTabled source t → AreNumbered t

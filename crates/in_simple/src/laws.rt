@@ -1,6 +1,6 @@
 //! Laws over the definitions of open nets, for whoever reasons above them. No function here does anything.
 
-ghost use Rattle.in_simple.specs.Laws.{SplitsWhereDerivable, DerivableHasNoCircle, DerivationWhereDerivable, SplitsOrFirstStuck, TextNetsAreAllThere, OpenNetsAreOpen};
+ghost use Rattle.in_simple.specs.Laws.{SplitsWhereDerivable, DerivableHasNoCircle, DerivationWhereDerivable, SplitsOrFirstStuck, TextNetsAreAllThere, OpenNetsAreOpen, TablesAreNumbered};
 
 /// An open net splits exactly where it is derivable. Derivable is Lafont 1990's semi-simple; to decide it by splitting is this
 /// project's own choice.
@@ -33,4 +33,9 @@ pub fn text_nets_are_all_there()
 /// point is in exactly one wire.
 pub fn open_nets_are_open()
     ensures { OpenNetsAreOpen }
+{}
+
+/// The tables of a program number the classes of a symbol from 1, and the principal port is the one place of class 0.
+pub fn tables_are_numbered()
+    ensures { TablesAreNumbered }
 {}

@@ -7,6 +7,3 @@ mod opening;
 
 pub use open_nets::{Node, OpenNet, Point};
 pub use opening::open_net;
-
-#[cfg(test)]
-mod tests;
