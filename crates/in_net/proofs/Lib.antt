@@ -1,6 +1,7 @@
 pub mod Absent
 pub mod Agents
 pub mod Chains
+pub mod Circuits
 pub mod Counts
 pub mod FirstFault
 pub mod Folds

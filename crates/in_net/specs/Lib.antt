@@ -3,6 +3,7 @@ pub mod Building
 pub mod Built
 pub mod Counting
 pub mod Joining
+pub mod Graphs
 pub mod Laws
 pub mod NetFaults
 pub mod Nets

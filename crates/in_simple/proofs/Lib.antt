@@ -1,0 +1,16 @@
+pub mod Balance
+pub mod Both
+pub mod Classes
+pub mod Counted
+pub mod Derives
+pub mod EachSplits
+pub mod Forest
+pub mod Grow
+pub mod Links
+pub mod Make
+pub mod NoCircle
+pub mod Opened
+pub mod Search
+pub mod Sound
+pub mod Sums
+pub mod Whole

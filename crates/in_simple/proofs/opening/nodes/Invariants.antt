@@ -1,0 +1,9 @@
+use Rattle.std.proofs.Common.{◌≡◌, length}
+use Rattle.in_simple.specs.Opening.{Each, IsNodeOf}
+use Rattle.in_simple.proofs.opening.nodes.Given as goal
+
+abbrev pub invariant-loop-agent : goal.invariant-loop-agent
+invariant-loop-agent l = record {
+  count : length l.nodes ≡ l.agent;
+  each : Each (IsNodeOf l.symbols l.net) l.nodes;
+}

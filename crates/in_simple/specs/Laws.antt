@@ -1,0 +1,47 @@
+-- The laws of open nets, over the definitions alone.
+use Rattle.std.specs.Prelude.{◌≡◌, ◌⊎◌, ◌↔◌, ℕ, Bool, List}
+use Rattle.in_syntax.specs.declared.tree.Source.{Source}
+use Rattle.in_syntax.specs.declared.tree.SourceNet.{SourceNet}
+use Rattle.in_symbols.specs.Tables.{Tables, IsTabled}
+use Rattle.in_net.specs.Built.{IsOver}
+use Rattle.in_net.specs.Parts.{Parts, IsWhole}
+use Rattle.in_net.specs.TextNet.{IsNetOf}
+use Rattle.in_net.specs.Graphs.{CrossingCircle}
+use Rattle.in_simple.specs.OpenNets.{OpenNet, IsOpenNet, IsDerivable, NetSplits, open_graph}
+use Rattle.in_simple.specs.Derivations.{Step, IsDerivation}
+use Rattle.in_simple.specs.Opening.{AreAllThere, AreNumbered, Opens}
+use Rattle.in_simple.specs.Stuck.{IsFirstStuck}
+
+-- an open net splits exactly where it is derivable
+abbrev pub SplitsWhereDerivable : Type 0
+SplitsWhereDerivable = (o : OpenNet) → IsOpenNet o → NetSplits o ↔ IsDerivable o
+
+-- what is derivable has no crossing circle
+abbrev pub DerivableHasNoCircle : Type 0
+DerivableHasNoCircle = (o : OpenNet) → IsOpenNet o → IsDerivable o → CrossingCircle (open_graph o) → ⊥
+
+-- there are steps that build it exactly where it is derivable
+abbrev pub DerivationWhereDerivable : Type 0
+DerivationWhereDerivable = (o : OpenNet) → IsOpenNet o → ((steps : List Step) × IsDerivation o steps) ↔ IsDerivable o
+
+-- it splits and no sub-net is the first stuck one, or it doesn't split and exactly one is
+abbrev pub HasNoFirstStuck : OpenNet → Type 0
+HasNoFirstStuck o = (t : ℕ → Bool) → IsFirstStuck o t → ⊥
+
+abbrev pub HasOneFirstStuck : OpenNet → Type 0
+HasOneFirstStuck o = (t : ℕ → Bool) × IsFirstStuck o t × ((u : ℕ → Bool) → IsFirstStuck o u → t ≡ u)
+
+abbrev pub SplitsOrFirstStuck : Type 0
+SplitsOrFirstStuck = (o : OpenNet) → IsOpenNet o → (NetSplits o × HasNoFirstStuck o) ⊎ ((NetSplits o → ⊥) × HasOneFirstStuck o)
+
+-- the net of a text has an agent at each of its numbers, which is what its open net asks for
+abbrev pub TextNetsAreAllThere : Type 0
+TextNetsAreAllThere = (t : Tables) (text : SourceNet) (n : Parts) → IsNetOf t text n → AreAllThere n
+
+-- the open net of a whole net over tables is one: each point is in exactly one wire
+abbrev pub OpenNetsAreOpen : Type 0
+OpenNetsAreOpen = (t : Tables) (n : Parts) (o : OpenNet) → AreNumbered t → IsWhole n → IsOver t n → Opens t n o → IsOpenNet o
+
+-- the tables of a program number classes as its open nets ask
+abbrev pub TablesAreNumbered : Type 0
+TablesAreNumbered = (source : Source) (t : Tables) → IsTabled source t → AreNumbered t

@@ -1,0 +1,34 @@
+-- The first stuck sub-net. This project's own choice: the one that stops a procedure which takes the first splitting node out, and
+-- goes on with each component that remains.
+use Rattle.std.specs.Prelude.{◌≡◌, ◌⊎◌, ◌↔◌, ℕ, suc, ◌+◌, ◌<◌, ◌≤◌, Bool, cond, nat_eq, length, slice_get, Some, None}
+use Rattle.in_simple.specs.declared.open_nets.Node.TheVariants.{AgentNode, ClassNode}
+use Rattle.in_simple.specs.declared.open_nets.Point.TheVariants.{Port}
+use Rattle.in_simple.specs.Constructions.{IsIn}
+use Rattle.in_simple.specs.Splitting.{Without, IsComponent, IsFirstSplitting, Splits, IsStuck}
+use Rattle.in_simple.specs.OpenNets.{OpenNet, IsNode, IsWire, open_graph}
+
+-- port i of n is wired to a node of c
+abbrev pub Touches : OpenNet → ℕ → (ℕ → Bool) → ℕ → Type 0
+Touches o n c i = (w : ℕ) × (l : ℕ) × (k : ℕ) × IsWire o w (Port n i) (Port l k) × IsIn l c
+
+abbrev pub ports_of : OpenNet → ℕ → ℕ
+ports_of o n = elim (slice_get o.nodes n) [ None ↦ 0 | Some m ↦ length m.class_of ]
+
+-- a node's ports have their turns by place, but an agent's principal port comes last
+abbrev pub turn : OpenNet → ℕ → ℕ → ℕ
+turn o n i = elim (slice_get o.nodes n) [ None ↦ i | Some m ↦ elim m.node [ AgentNode y ↦ cond (nat_eq i 0) (length m.class_of) i | ClassNode y c ↦ i ] ]
+
+-- the turn of a component: that of the first port of n that touches it; after these come those that n doesn't touch, by their first nodes
+abbrev pub ComesAt : OpenNet → ℕ → (ℕ → Bool) → ℕ → Type 0
+ComesAt o n c k = ((i : ℕ) × Touches o n c i × (turn o n i ≡ k) × ((j : ℕ) → Touches o n c j → k ≤ turn o n j))
+    ⊎ (((i : ℕ) → Touches o n c i → ⊥) × ((m : ℕ) × IsIn m c × (suc (ports_of o n) + m ≡ k) × ((l : ℕ) → IsIn l c → m ≤ l)))
+
+-- t is the first stuck sub-net of s: s, where it has nodes and none splits it; else that of the first component, with the first
+-- splitting node taken out, that doesn't split
+pub data FirstStuck (o : OpenNet) : (ℕ → Bool) → (ℕ → Bool) → Type 0 where
+  whole : (s : ℕ → Bool) → IsStuck (open_graph o) s → FirstStuck o s s
+  within : (s : ℕ → Bool) (n : ℕ) (c : ℕ → Bool) (k : ℕ) (t : ℕ → Bool) → IsFirstSplitting (open_graph o) (λ m n. m < n) n s → IsComponent (open_graph o) (Without n s) c → ComesAt o n c k → ((d : ℕ → Bool) (l : ℕ) → IsComponent (open_graph o) (Without n s) d → ComesAt o n d l → l < k → Splits (open_graph o) (λ m n. m < n) d) → FirstStuck o c t → FirstStuck o s t
+
+-- .. of the whole open net
+abbrev pub IsFirstStuck : OpenNet → (ℕ → Bool) → Type 0
+IsFirstStuck o t = (s : ℕ → Bool) × ((n : ℕ) → IsIn n s ↔ IsNode o n) × FirstStuck o s t

@@ -1,0 +1,41 @@
+//! Laws over the definitions of open nets, for whoever reasons above them. No function here does anything.
+
+ghost use Rattle.in_simple.specs.Laws.{SplitsWhereDerivable, DerivableHasNoCircle, DerivationWhereDerivable, SplitsOrFirstStuck, TextNetsAreAllThere, OpenNetsAreOpen, TablesAreNumbered};
+
+/// An open net splits exactly where it is derivable. Derivable is Lafont 1990's semi-simple; to decide it by splitting is this
+/// project's own choice.
+pub fn splits_where_derivable()
+    ensures { SplitsWhereDerivable }
+{}
+
+/// A derivable open net has no ring of one or more different nodes, each entered and left by ports of different classes.
+/// Lafont 1990 has semi-simple nets without vicious circles, which are such rings.
+pub fn derivable_has_no_circle()
+    ensures { DerivableHasNoCircle }
+{}
+
+/// There is a list of steps that builds an open net exactly where it is derivable.
+pub fn derivation_where_derivable()
+    ensures { DerivationWhereDerivable }
+{}
+
+/// An open net splits, or it has exactly one first stuck sub-net; never both.
+pub fn splits_or_first_stuck()
+    ensures { SplitsOrFirstStuck }
+{}
+
+/// The net of a text has an agent at each of its numbers, which is what `open_net` asks for.
+pub fn text_nets_are_all_there()
+    ensures { TextNetsAreAllThere }
+{}
+
+/// The open net of a net is one, where the tables number classes from 1 and the principal port is the one place of class 0: each
+/// point is in exactly one wire.
+pub fn open_nets_are_open()
+    ensures { OpenNetsAreOpen }
+{}
+
+/// The tables of a program number the classes of a symbol from 1, and the principal port is the one place of class 0.
+pub fn tables_are_numbered()
+    ensures { TablesAreNumbered }
+{}
