@@ -54,6 +54,30 @@ same_names t (f ∷ fs) (e ∷ es) [] k a b = absurd b
 same_names t (f ∷ fs) (e ∷ es) (d ∷ ds) zero a b = ap Some (a.0.0 ∙ sym b.0.0)
 same_names t (f ∷ fs) (e ∷ es) (d ∷ ds) (suc k) a b = same_names t fs es ds k a.1 b.1
 
+same_ends : (t : Tables) (ws : List Written) (cs ds : List (Option Cell)) (x i : ℕ) → AreCellsFor t ws cs → AreCellsFor t ws ds →
+    IsSomeAnd (option_and_then (λ c. c) (slice_get cs x)) (λ c. i < length c.ends) → IsSomeAnd (option_and_then (λ c. c) (slice_get ds x)) (λ c. i < length c.ends)
+same_ends t [] [] [] x i h k there = there
+same_ends t [] [] (d ∷ ds) x i h k there = absurd k
+same_ends t [] (c ∷ cs) ds x i h k there = absurd h
+same_ends t (w ∷ ws) [] ds x i h k there = absurd h
+same_ends t (w ∷ ws) (None ∷ cs) ds x i h k there = absurd h
+same_ends t (w ∷ ws) (Some c ∷ cs) [] x i h k there = absurd k
+same_ends t (w ∷ ws) (Some c ∷ cs) (None ∷ ds) x i h k there = absurd k
+same_ends t (w ∷ ws) (Some c ∷ cs) (Some d ∷ ds) zero i h k there = let a = h.0.ends in let b = k.0.ends in omega (arith, there, a, b)
+same_ends t (w ∷ ws) (Some c ∷ cs) (Some d ∷ ds) (suc x) i h k there = same_ends t ws cs ds x i h.1 k.1 there
+
+same_count : (t : Tables) (fs : List SourceFree) (es ds : List FreeEnd) → AreFreeOf t fs es → AreFreeOf t fs ds → length es ≡ length ds
+same_count t [] [] [] a b = refl
+same_count t [] [] (d ∷ ds) a b = absurd b
+same_count t [] (e ∷ es) ds a b = absurd a
+same_count t (f ∷ fs) [] ds a b = absurd a
+same_count t (f ∷ fs) (e ∷ es) [] a b = absurd b
+same_count t (f ∷ fs) (e ∷ es) (d ∷ ds) a b = ap suc (same_count t fs es ds a.1 b.1)
+
+same_point : (t : Tables) (text : SourceNet) (n m : Parts) → IsNetOf t text n → IsNetOf t text m → (p : coded.Point) → IsPointOf n p → IsPointOf m p
+same_point t text n m h k (code.Port x i) there = same_ends t _ n.cells m.cells x.0 i h.points.agents k.points.agents there
+same_point t text n m h k (code.Free j) there = omega (arith, there, same_count t text.free n.free m.free h.points.free k.points.free)
+
 same_spot : (n m : Parts) (p : coded.Point) → n.places ≡ m.places → spot_at n p ≡ spot_at m p
 same_spot n m (code.Port x i) e = ap (λ places. spot_at (record m { places = places }) (code.Port x i)) e
 same_spot n m (code.Free k) e = refl
@@ -62,6 +86,7 @@ pub one_net : (t : Tables) (text : SourceNet) (n m : Parts) → IsNetOf t text n
 one_net t text n m h k =
     let places : n.places ≡ m.places = h.points.places ∙ sym k.points.places in
     record {
+      points = same_point t text n m h k;
       symbols = λ x. same_symbols t _ n.cells m.cells x h.points.agents k.points.agents;
       places = places;
       types = λ j. same_types t text.free n.free m.free j h.points.free k.points.free;

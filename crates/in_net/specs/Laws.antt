@@ -5,7 +5,7 @@ use Rattle.in_net.specs.declared.nets.Point.{Point}
 use Rattle.in_symbols.specs.Tables.{Tables}
 use Rattle.in_net.specs.Built.{IsOver}
 use Rattle.in_net.specs.Nets.{IsNet, net_of, signature_of}
-use Rattle.in_net.specs.Parts.{Parts, IsWhole, partner_in, symbol_in, free_type_in, free_name_in}
+use Rattle.in_net.specs.Parts.{Parts, IsWhole, IsPointOf, partner_in, symbol_in, free_type_in, free_name_in}
 use Rattle.in_net.specs.TextNet.{IsNetOf, spot_at}
 
 -- the partner of a point's partner is the point, and no point is its own partner
@@ -16,8 +16,9 @@ PartnersLeadBack = (n : Parts) (p q : Point) → IsWhole n → partner_in n p �
 abbrev pub WholePartsAreNets : Type 0
 WholePartsAreNets = (t : Tables) (n : Parts) → IsWhole n → IsOver t n → IsNet (signature_of t) (net_of n)
 
--- two nets of one text have the same agents, places and free ends, and a point of both leads to the same spot of the text
+-- two nets of one text have the same agents, points, places and free ends, and a point leads to the same spot of the text in both
 pub record AreOneNet (n m : Parts) : Type 0 where
+  pub points : (p : Point) → IsPointOf n p → IsPointOf m p
   pub symbols : (x : ℕ) → symbol_in n x ≡ symbol_in m x
   pub places : n.places ≡ m.places
   pub types : (k : ℕ) → free_type_in n k ≡ free_type_in m k

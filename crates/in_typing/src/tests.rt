@@ -134,6 +134,8 @@ fn each_fault_of_a_net_is_answered_at_its_place(rt: HostRuntime) -> Result<(), F
         ("net () { x ~ x; }", Code::E09, 12),
         ("net () { x ~ y; z ~ y; x ~ z; }", Code::E09, 26),
         ("net () { x ~ x; y ~ Z; }", Code::E08, 17),
+        ("net () { x ~ x; y ~ y; }", Code::E09, 12),
+        ("net () { x ~ y; z ~ z; x ~ y; }", Code::E09, 19),
     ];
     for (net, code, col) in cases {
         let text = format!(in rt.alloc(); "{head}{net}")?;
