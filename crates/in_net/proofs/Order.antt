@@ -11,7 +11,7 @@ use Rattle.in_syntax.specs.Sizes.{total, names_in}
 use Rattle.in_syntax.specs.Order.{Rises, term_places, equation_places, IsInOrder}
 use Rattle.in_symbols.specs.declared.symbols.SymbolNo.{SymbolNo}
 use Rattle.in_net.specs.declared.reading.Spot.{Spot}
-use Rattle.in_net.specs.declared.reading.Spot.TheVariants.{Port, Free, Occurrence}
+use Rattle.in_net.specs.declared.reading.Spot.TheVariants.{Port, Free, End, Occurrence}
 use Rattle.in_net.specs.declared.reading.Reading.{Reading}
 use Rattle.in_symbols.specs.Names.{number_in}
 use Rattle.in_symbols.specs.Tables.{Tables, arity_of, is_none, all_true, heads_known, HeadsKnown}
@@ -25,6 +25,7 @@ abbrev pub root_place : Spot → List Place
 root_place (Port a zero p) = p ∷ []
 root_place (Port a (suc i) p) = []
 root_place (Free k m) = []
+root_place (End k) = []
 root_place (Occurrence m p) = p ∷ []
 
 abbrev pub root_places : List Spot → List Place

@@ -4,7 +4,7 @@ use Rattle.in_syntax.specs.declared.places.Place.{Place}
 use Rattle.in_net.specs.declared.joining.Link.{Link}
 use Rattle.in_net.specs.declared.reading.Joint.{Joint}
 use Rattle.in_net.specs.declared.reading.Spot.{Spot}
-use Rattle.in_net.specs.declared.reading.Spot.TheVariants.{Port, Free, Occurrence}
+use Rattle.in_net.specs.declared.reading.Spot.TheVariants.{Port, Free, End, Occurrence}
 use Rattle.in_net.specs.declared.reading.Reading.{Reading}
 use Rattle.in_symbols.specs.Tables.{Tables}
 use Rattle.in_net.specs.Building.{nth_link, nth_spot, no_spot}
@@ -18,6 +18,7 @@ use Rattle.in_net.proofs.Linked.{same_or_not, front_or_back, at_front, at_first,
 abbrev pub named : Spot → text.Spot
 named (Port a i p) = text.port_at p i
 named (Free k m) = text.free_end k
+named (End k) = text.free_end k
 named (Occurrence m p) = text.occurrence p
 
 abbrev pub joined : List Spot → List Joint → List Link
