@@ -9,5 +9,6 @@ pub mod NetFaults
 pub mod Nets
 pub mod Parts
 pub mod Reading
+pub mod Rules
 pub mod Searching
 pub mod TextNet

@@ -1,0 +1,65 @@
+ghost use Rattle.std.specs.Prelude.{◌≡◌, ◌<◌};
+ghost use Rattle.in_net.specs.Rules.{place_of_head};
+
+use crate::nets::Net;
+use in_symbols::SymbolNo;
+use in_syntax::Place;
+use std::marker::Model;
+
+/// A rule. Lafont 1990: its left member is an active pair, so two symbols; its right member is a net, whose free ends are the
+/// auxiliary places of the two symbols, each declared with that place's type: the places of the first of the `heads`, and then
+/// those of the second.
+#[derive(Drop)]
+pub struct Rule {
+    pub(crate) written: (SymbolNo, SymbolNo),
+    pub(crate) heads: (SymbolNo, SymbolNo),
+    pub(crate) head_places: (Place, Place),
+    pub(crate) member: Net,
+}
+
+// Contracts see all that a looking call reads.
+impl Model for Rule {
+    ghost use Rattle.in_net.specs.Rules.{RuleParts};
+    ghost use Rattle.std.specs.Prelude.{Unit};
+
+    ghost Value = { RuleParts };
+
+    ghost view = { λ r. record { written = r.written; heads = r.heads; head_places = r.head_places; member = r.member } };
+
+    ghost invariant = { λ r. Unit };
+}
+
+impl Rule {
+    /// The two symbols in the order of the text.
+    pub fn written(&self) -> (SymbolNo, SymbolNo)
+        ensures { result ≡ self.now.written }
+    {
+        self.written
+    }
+
+    /// The two symbols, the constructor first; in the order of the text where their principal types aren't opposite.
+    pub fn heads(&self) -> (SymbolNo, SymbolNo)
+        ensures { result ≡ self.now.heads }
+    {
+        self.heads
+    }
+
+    /// Where the name of a head stands: of the first one in the text, which is number 0, or of the second one.
+    pub fn head_place(&self, number: u8) -> Place
+        requires { number < 2 }
+        ensures { result ≡ place_of_head self.now number }
+    {
+        if number == 0 {
+            self.head_places.0
+        } else {
+            self.head_places.1
+        }
+    }
+
+    /// The right member.
+    pub fn member(&self) -> &Net
+        ensures { result.now ≡ self.now.member }
+    {
+        &self.member
+    }
+}
