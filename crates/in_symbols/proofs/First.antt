@@ -8,11 +8,12 @@ use Rattle.in_syntax.specs.declared.tree.Name.{Name}
 use Rattle.in_syntax.specs.declared.tree.Source.{Source}
 use Rattle.in_symbols.specs.declared.declaring.Declared.{Declared}
 use Rattle.in_symbols.specs.Faults.{AnyByRecursion, IsTypeName, IsSymbolName, IsRepeatedAt, IsDeclaredTwiceAt, type_twice, symbol_twice, free_twice, free_symbol, IsUnknownTypeAt, IsUnknownHeadAt, IsFaultAt, code_number, IsNoLater, IsFirstFault, IsFaultless}
-use Rattle.in_symbols.specs.Searching.{earlier, undeclared, declares_all, declares_all_free, untyped_in_symbols, untyped_in_free, unknown_in_equations, refused, earlier_refusal, first_fault}
+use Rattle.in_symbols.specs.Searching.{earlier, undeclared, declares_all, declares_all_free, untyped_in_symbols, untyped_in_free, unknown_in_rules, unknown_in_equations, refused, earlier_refusal, first_fault}
 use Rattle.in_symbols.proofs.Least.{IsLeast, least_same, least_earlier}
 use Rattle.in_symbols.proofs.Named.{IsIn, any_of, any_mapped, any_to_map}
 use Rattle.in_symbols.proofs.Repeated.{all_names, repeats_least, free_least}
-use Rattle.in_symbols.proofs.Unknown.{AreSymbols, unknown_least}
+use Rattle.in_symbols.proofs.Unknown.{AreSymbols}
+use Rattle.in_symbols.proofs.UnknownInRules.{unknown_least}
 use Rattle.in_symbols.proofs.Untyped.{AreTypes, untyped_least}
 
 -- the first of the faults F; none where there is none
@@ -179,7 +180,7 @@ found_first s =
     let symbols = declares_all undeclared (map (λ d. d.name) s.symbols) in
     first_of s (earlier (earlier types.repeat symbols.repeat) (declares_all_free symbols.names undeclared (map (λ f. f.name) s.net.free)).repeat)
     (earlier (untyped_in_symbols types.names s.symbols) (untyped_in_free types.names s.net.free))
-    (unknown_in_equations symbols.names s.net.equations)
+    (earlier (unknown_in_rules symbols.names s.rules) (unknown_in_equations symbols.names s.net.equations))
     (twice_least s symbols.names (are_symbols s)) (untyped_least s types.names (are_types s)) (unknown_least s symbols.names (are_symbols s))
 
 first_as : (s : Source) (o : Option Refusal) (r : Refusal) → IsFirst (IsFaultAt s) o → o ≡ Some r → IsFirstFault s r.code r.place × (let nothing : Option Place = None in r.other ≡ nothing)

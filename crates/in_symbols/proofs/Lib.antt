@@ -8,4 +8,5 @@ pub mod Repeated
 pub mod Shapes
 pub mod Tabled
 pub mod Unknown
+pub mod UnknownInRules
 pub mod Untyped

@@ -10,12 +10,13 @@ use Rattle.in_syntax.specs.declared.tree.Source.{Source}
 use Rattle.in_symbols.specs.declared.declaring.Declared.{Declared}
 use Rattle.in_symbols.specs.declared.symbols.Shape.{Shape}
 use Rattle.in_symbols.specs.Faults.{IsFaultless}
-use Rattle.in_symbols.specs.Searching.{earlier, undeclared, declares_all, declares_all_free, untyped_in_symbols, untyped_in_free, unknown_in_equations, refused, earlier_refusal, first_fault}
+use Rattle.in_symbols.specs.Searching.{earlier, undeclared, declares_all, declares_all_free, untyped_in_symbols, untyped_in_free, unknown_in_rules, unknown_in_equations, refused, earlier_refusal, first_fault}
 use Rattle.in_symbols.specs.Tables.{Tables, IsTabled, KnowsAll, type_names, symbol_names, shapes_of}
 use Rattle.in_symbols.proofs.First.{is_faultless}
 use Rattle.in_symbols.proofs.Least.{earlier_none}
 use Rattle.in_symbols.proofs.Repeated.{all_kept}
 use Rattle.in_symbols.proofs.Unknown.{equations_known}
+use Rattle.in_symbols.proofs.UnknownInRules.{rules_known}
 use Rattle.in_symbols.proofs.Untyped.{symbols_known, free_known}
 
 some_by : (r s : Refusal) (b : Bool) → let o : Option Refusal = None in (if b then Some s else Some r) ≡ o → ⊥
@@ -37,6 +38,7 @@ pub record IsClear (s : Source) (types symbols : Declared) : Type 0 where
   pub symbols_once : symbols.repeat ≡ None
   pub ports : untyped_in_symbols types.names s.symbols ≡ None
   pub free : untyped_in_free types.names s.net.free ≡ None
+  pub rules : unknown_in_rules symbols.names s.rules ≡ None
   pub heads : unknown_in_equations symbols.names s.net.equations ≡ None
 
 pub is_clear : (s : Source) (types symbols : Declared) → None ≡ first_fault s types symbols → IsClear s types symbols
@@ -44,13 +46,14 @@ is_clear s types symbols is =
     let free = declares_all_free symbols.names undeclared (map (λ f. f.name) s.net.free) in
     let twice = earlier (earlier types.repeat symbols.repeat) free.repeat in
     let untyped = earlier (untyped_in_symbols types.names s.symbols) (untyped_in_free types.names s.net.free) in
-    let unknown = unknown_in_equations symbols.names s.net.equations in
+    let unknown = earlier (unknown_in_rules symbols.names s.rules) (unknown_in_equations symbols.names s.net.equations) in
     let all = refusal_none (earlier_refusal (refused E04 twice) (refused E05 untyped)) (refused E06 unknown) (sym is) in
     let two = refusal_none (refused E04 twice) (refused E05 untyped) all.0 in
     let names = earlier_none (earlier types.repeat symbols.repeat) free.repeat (refused_none E04 twice two.0) in
     let declared = earlier_none types.repeat symbols.repeat names.0 in
+    let known = earlier_none (unknown_in_rules symbols.names s.rules) (unknown_in_equations symbols.names s.net.equations) (refused_none E06 unknown all.1) in
     let kinds = earlier_none (untyped_in_symbols types.names s.symbols) (untyped_in_free types.names s.net.free) (refused_none E05 untyped two.1) in
-    record { types_once = declared.0; symbols_once = declared.1; ports = kinds.0; free = kinds.1; heads = refused_none E06 unknown all.1 }
+    record { types_once = declared.0; symbols_once = declared.1; ports = kinds.0; free = kinds.1; rules = known.0; heads = known.1 }
 
 kept : (ns : List Name) (d : Declared) → d ≡ declares_all undeclared ns → d.repeat ≡ None → d.names ≡ map (λ n. n.text) ns
 kept ns d is e = ap (λ (x : Declared). x.names) is ∙ (all_kept ns undeclared (sym (ap (λ (x : Declared). x.repeat) is) ∙ e)).1
@@ -84,6 +87,7 @@ is_tabled s types symbols shapes a b is made =
         tables = tables_are s types.names symbols.names shapes (types_kept s types symbols a clear) (symbols_kept s types symbols b clear) made;
         heads = equations_known symbols.names s.net.equations clear.heads;
         free = free_known types.names s.net.free clear.free;
+        rules = rules_known symbols.names s.rules clear.rules;
       },
       is_faultless s (ap (λ (d : Declared). first_fault s d (declares_all undeclared (map (λ k. k.name) s.symbols))) (sym a) ∙ ap (λ (d : Declared). first_fault s types d) (sym b) ∙ sym is),
     )

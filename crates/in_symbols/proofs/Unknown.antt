@@ -1,4 +1,4 @@
--- The first place of a name before ( that is no symbol's.
+-- The first place of a name before ( in a term that is no symbol's.
 use Rattle.std.proofs.Common.{◌≡◌, ◌⊎◌, ℕ, zero, suc, ◌≤◌, Bool, true, false, ◌||◌, ◌&&◌, List, [], ◌∷◌, map, Option, Some, None, is_some, if◌then◌else◌, refl, sym, ◌∙◌, subst, inl, inr, ap, arith}
 use Rattle.std.specs.List.{AllByRecursion}
 use Rattle.in_syntax.specs.Sizes.{total, names_in}
@@ -6,7 +6,7 @@ use Rattle.in_syntax.specs.declared.places.Place.{Place}
 use Rattle.in_syntax.specs.declared.tree.Equation.{Equation}
 use Rattle.in_syntax.specs.declared.tree.Source.{Source}
 use Rattle.in_syntax.specs.declared.tree.Term.{Term, out-Term}
-use Rattle.in_symbols.specs.Faults.{AnyByRecursion, IsSymbolName, HasPart, itself, argument, IsUnknownHead, IsUnknownHeadAt}
+use Rattle.in_symbols.specs.Faults.{AnyByRecursion, IsSymbolName, HasPart, itself, argument, IsUnknownHead}
 use Rattle.in_symbols.specs.Names.{number_in}
 use Rattle.in_symbols.specs.Searching.{earlier, earliest, is_empty, unknown_here, unknown_in_term, unknown_in_equation, unknown_in_equations}
 use Rattle.in_symbols.specs.Tables.{is_none, all_true, heads_known, HeadsKnown}
@@ -97,7 +97,7 @@ terms_least s names are (suc h) t short =
     (earliest (unknown_here names (is_empty (out-Term t).args) (out-Term t).name) (map (unknown_in_term names) (out-Term t).args))
     (λ q k. as_part (IsUnknownHead s q) t k) (λ q k. part_of (IsUnknownHead s q) t k) all)
 
-term_least : (s : Source) (names : List (List ℕ)) → AreSymbols s names → (t : Term) → IsLeast (λ q. HasPart (IsUnknownHead s q) t) (unknown_in_term names t)
+pub term_least : (s : Source) (names : List (List ℕ)) → AreSymbols s names → (t : Term) → IsLeast (λ q. HasPart (IsUnknownHead s q) t) (unknown_in_term names t)
 term_least s names are t = terms_least s names are (names_in t) t (omega arith)
 
 equation_least : (s : Source) (names : List (List ℕ)) → AreSymbols s names → (e : Equation) →
@@ -106,8 +106,11 @@ equation_least s names are e =
     least_earlier (λ q. HasPart (IsUnknownHead s q) e.left) (λ q. HasPart (IsUnknownHead s q) e.right) (unknown_in_term names e.left) (unknown_in_term names e.right)
     (term_least s names are e.left) (term_least s names are e.right)
 
-pub unknown_least : (s : Source) (names : List (List ℕ)) → AreSymbols s names → IsLeast (IsUnknownHeadAt s) (unknown_in_equations names s.net.equations)
-unknown_least s names are =
+abbrev pub IsUnknownInNet : Source → Place → Type 0
+IsUnknownInNet s q = AnyByRecursion (λ e. HasPart (IsUnknownHead s q) e.left ⊎ HasPart (IsUnknownHead s q) e.right) s.net.equations
+
+pub equations_least : (s : Source) (names : List (List ℕ)) → AreSymbols s names → IsLeast (IsUnknownInNet s) (unknown_in_equations names s.net.equations)
+equations_least s names are =
     least_of_all (unknown_in_equation names) (λ e q. HasPart (IsUnknownHead s q) e.left ⊎ HasPart (IsUnknownHead s q) e.right) (equation_least s names are) s.net.equations
 
 -- ---- where none is unknown, each is a symbol's
@@ -149,10 +152,13 @@ terms_known names (suc h) t short e =
     (ap (λ b. b || is_some (number_in (out-Term t).name.text names)) (none_empty (heads_known names) (unknown_in_term names) (out-Term t).args) ∙ here)
     (all_known names (out-Term t).args all.1)
 
+pub term_known : (names : List (List ℕ)) (t : Term) → unknown_in_term names t ≡ None → heads_known names t ≡ true
+term_known names t e = terms_known names (names_in t) t (omega arith) e
+
 equation_known : (names : List (List ℕ)) (e : Equation) → unknown_in_equation names e ≡ None → (heads_known names e.left ≡ true) × (heads_known names e.right ≡ true)
 equation_known names e is =
     let both = earlier_none (unknown_in_term names e.left) (unknown_in_term names e.right) is in
-    (terms_known names (names_in e.left) e.left (omega arith) both.0, terms_known names (names_in e.right) e.right (omega arith) both.1)
+    (term_known names e.left both.0, term_known names e.right both.1)
 
 pub equations_known : (names : List (List ℕ)) (es : List Equation) → unknown_in_equations names es ≡ None → HeadsKnown names es
 equations_known names es is = (earliest_none (unknown_in_equation names) (λ e. (heads_known names e.left ≡ true) × (heads_known names e.right ≡ true)) (equation_known names) None es is).1

@@ -5,9 +5,11 @@ use Rattle.std.specs.Prelude.{◌≡◌, ◌⊎◌, ℕ, ◌<◌, ◌≤◌, Lis
 use Rattle.in_syntax.specs.declared.faults.Code.{Code}
 use Rattle.in_syntax.specs.declared.faults.Code.TheVariants.{E01, E02, E03, E04, E05, E06, E07, E08, E09, E10, E11, E12, E13, E14, E15}
 use Rattle.in_syntax.specs.declared.places.Place.{Place}
+use Rattle.in_syntax.specs.declared.tree.Head.{Head}
 use Rattle.in_syntax.specs.declared.tree.Name.{Name}
 use Rattle.in_syntax.specs.declared.tree.Source.{Source}
 use Rattle.in_syntax.specs.declared.tree.SourcePort.{SourcePort}
+use Rattle.in_syntax.specs.declared.tree.SourceRule.{SourceRule}
 use Rattle.in_syntax.specs.declared.tree.Term.{Term, out-Term}
 
 -- it holds of one of the list
@@ -47,7 +49,7 @@ pub data IsUnknownTypeAt (s : Source) (p : Place) : Type 0 where
   of_auxiliary : AnyByRecursion (λ d. AnyByRecursion (AnyByRecursion (IsUntypedAt s p)) d.classes) s.symbols → IsUnknownTypeAt s p
   of_free : AnyByRecursion (λ f. IsUntypedAt s p f.port) s.net.free → IsUnknownTypeAt s p
 
--- ---- names before (
+-- ---- names before ( and [
 
 -- it holds of the term, or of a term within it
 pub data HasPart (P : Term → Type 0) : Term → Type 0 where
@@ -60,9 +62,15 @@ pub record IsUnknownHead (s : Source) (p : Place) (t : Term) : Type 0 where
   pub arguments : (out-Term t).args ≡ [] → ⊥
   pub place : (out-Term t).name.place ≡ p
 
--- at the place stands a name before ( that is no symbol's
-abbrev pub IsUnknownHeadAt : Source → Place → Type 0
-IsUnknownHeadAt s p = AnyByRecursion (λ e. HasPart (IsUnknownHead s p) e.left ⊎ HasPart (IsUnknownHead s p) e.right) s.net.equations
+-- it holds of one of the rule's two heads
+abbrev pub OfAHead : (Head → Type 0) → SourceRule → Type 0
+OfAHead P r = P r.first ⊎ P r.second
+
+-- at the place stands a name before ( in the net, before [ in a rule, or before ( in a rule, that is no symbol's
+pub data IsUnknownHeadAt (s : Source) (p : Place) : Type 0 where
+  in_equation : AnyByRecursion (λ e. HasPart (IsUnknownHead s p) e.left ⊎ HasPart (IsUnknownHead s p) e.right) s.net.equations → IsUnknownHeadAt s p
+  of_head : AnyByRecursion (OfAHead (λ h. (IsSymbolName s h.name.text → ⊥) × (h.name.place ≡ p))) s.rules → IsUnknownHeadAt s p
+  in_head : AnyByRecursion (OfAHead (λ h. AnyByRecursion (HasPart (IsUnknownHead s p)) h.terms)) s.rules → IsUnknownHeadAt s p
 
 -- ---- the first fault
 

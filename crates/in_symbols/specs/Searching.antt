@@ -5,10 +5,12 @@ use Rattle.in_syntax.specs.declared.faults.Code.TheVariants.{E04, E05, E06}
 use Rattle.in_syntax.specs.declared.faults.Refusal.{Refusal}
 use Rattle.in_syntax.specs.declared.places.Place.{Place}
 use Rattle.in_syntax.specs.declared.tree.Equation.{Equation}
+use Rattle.in_syntax.specs.declared.tree.Head.{Head}
 use Rattle.in_syntax.specs.declared.tree.Name.{Name}
 use Rattle.in_syntax.specs.declared.tree.Source.{Source}
 use Rattle.in_syntax.specs.declared.tree.SourceFree.{SourceFree}
 use Rattle.in_syntax.specs.declared.tree.SourcePort.{SourcePort}
+use Rattle.in_syntax.specs.declared.tree.SourceRule.{SourceRule}
 use Rattle.in_syntax.specs.declared.tree.SourceSymbol.{SourceSymbol}
 use Rattle.in_syntax.specs.declared.tree.Term.{Term}
 use Rattle.in_syntax.specs.declared.tree.Term.TheFolds.{fold-Term}
@@ -67,14 +69,17 @@ untyped_in_symbols types ds = earliest None (map (untyped_in_symbol types) ds)
 abbrev pub untyped_in_free : List (List ℕ) → List SourceFree → Option Place
 untyped_in_free types fs = earliest None (map (λ f. untyped types f.port) fs)
 
--- ---- names before (
+-- ---- names before ( and [
 
 abbrev pub is_empty : {X : Type 0} → List X → Bool
 is_empty [] = true
 is_empty (x ∷ xs) = false
 
+abbrev pub unknown_name : List (List ℕ) → Name → Option Place
+unknown_name names n = if is_some (number_in n.text names) then None else Some n.place
+
 abbrev pub unknown_here : List (List ℕ) → Bool → Name → Option Place
-unknown_here names bare n = if bare then None else (if is_some (number_in n.text names) then None else Some n.place)
+unknown_here names bare n = if bare then None else unknown_name names n
 
 abbrev pub unknown_in_term : List (List ℕ) → Term → Option Place
 unknown_in_term names = fold-Term (Option Place) (λ f. earliest (unknown_here names (is_empty f.args) f.name) f.args)
@@ -84,6 +89,15 @@ unknown_in_equation names e = earlier (unknown_in_term names e.left) (unknown_in
 
 abbrev pub unknown_in_equations : List (List ℕ) → List Equation → Option Place
 unknown_in_equations names es = earliest None (map (unknown_in_equation names) es)
+
+abbrev pub unknown_in_head : List (List ℕ) → Head → Option Place
+unknown_in_head names h = earliest (unknown_name names h.name) (map (unknown_in_term names) h.terms)
+
+abbrev pub unknown_in_rule : List (List ℕ) → SourceRule → Option Place
+unknown_in_rule names r = earlier (unknown_in_head names r.first) (unknown_in_head names r.second)
+
+abbrev pub unknown_in_rules : List (List ℕ) → List SourceRule → Option Place
+unknown_in_rules names rs = earliest None (map (unknown_in_rule names) rs)
 
 -- ---- the first fault
 
@@ -103,5 +117,5 @@ first_fault s types symbols =
     let free = declares_all_free symbols.names undeclared (map (λ f. f.name) s.net.free) in
     let twice = earlier (earlier types.repeat symbols.repeat) free.repeat in
     let untyped = earlier (untyped_in_symbols types.names s.symbols) (untyped_in_free types.names s.net.free) in
-    let unknown = unknown_in_equations symbols.names s.net.equations in
+    let unknown = earlier (unknown_in_rules symbols.names s.rules) (unknown_in_equations symbols.names s.net.equations) in
     earlier_refusal (earlier_refusal (refused E04 twice) (refused E05 untyped)) (refused E06 unknown)

@@ -1,16 +1,18 @@
 -- The tables of a program: what is declared of its types and symbols. Lafont 1990: a symbol has a principal port and auxiliary
 -- ports, each with a type and a sign, and its auxiliary ports fall into classes.
-use Rattle.std.specs.Prelude.{◌≡◌, ℕ, zero, suc, ◌+◌, ◌-◌, ◌<◌, ◌≤◌, Bool, true, false, ◌||◌, ◌&&◌, List, [], ◌∷◌, ◌++◌, length, map, unwrap_or, slice_index_or, slice_get, Option, Some, None, IsSome, is_some, Result, Ok, Err, option_map}
+use Rattle.std.specs.Prelude.{◌≡◌, ℕ, zero, suc, ◌+◌, ◌-◌, ◌<◌, ◌≤◌, Bool, true, false, not, nat_eq, ◌||◌, ◌&&◌, List, [], ◌∷◌, ◌++◌, length, map, unwrap_or, slice_index_or, slice_get, Option, Some, None, IsSome, is_some, Result, Ok, Err, option_map}
 use Rattle.std.proofs.Math.ListN.{replicate}
 use Rattle.in_syntax.specs.declared.faults.Fault.{Fault}
 use Rattle.in_syntax.specs.declared.tree.Term.{Term}
 use Rattle.in_syntax.specs.declared.tree.Term.TheFolds.{fold-Term}
 use Rattle.in_syntax.specs.declared.tree.Equation.{Equation}
+use Rattle.in_syntax.specs.declared.tree.Head.{Head}
 use Rattle.std.specs.List.{flat_map, AllByRecursion}
 use Rattle.in_syntax.specs.declared.places.Place.{Place}
 use Rattle.in_syntax.specs.declared.tree.Source.{Source}
 use Rattle.in_syntax.specs.declared.tree.SourceFree.{SourceFree}
 use Rattle.in_syntax.specs.declared.tree.SourcePort.{SourcePort}
+use Rattle.in_syntax.specs.declared.tree.SourceRule.{SourceRule}
 use Rattle.in_syntax.specs.declared.tree.SourceSymbol.{SourceSymbol}
 use Rattle.in_symbols.specs.declared.symbols.PortType.{PortType}
 use Rattle.in_symbols.specs.declared.symbols.Shape.{Shape}
@@ -124,10 +126,19 @@ classes_of t s = classes_in (slice_get t.shapes s)
 abbrev pub is_constructor : Tables → ℕ → Bool
 is_constructor t s = (port_at t s 0).output
 
+-- one of the two is a constructor, the other a destructor
+abbrev pub are_opposite : Bool → Bool → Bool
+are_opposite true other = not other
+are_opposite false other = other
+
+-- Lafont 1990: two symbols match where one is a constructor, the other a destructor, and their principal types have one name
+abbrev pub matching : Tables → ℕ → ℕ → Bool
+matching t c d = nat_eq (port_at t c 0).kind (port_at t d 0).kind && are_opposite (is_constructor t c) (is_constructor t d)
+
 abbrev pub symbol_numbered : Tables → List ℕ → Option SymbolNo
 symbol_numbered t name = option_map (λ n. record { 0 = n }) (number_in name t.names)
 
--- ---- names before ( are symbols
+-- ---- names before ( and [ are symbols
 
 abbrev pub all_true : List Bool → Bool
 all_true [] = true
@@ -144,6 +155,13 @@ heads_known names = fold-Term Bool (λ f. (is_none f.args || is_some (number_in 
 abbrev pub HeadsKnown : List (List ℕ) → List Equation → Type 0
 HeadsKnown names = AllByRecursion (λ e. (heads_known names e.left ≡ true) × (heads_known names e.right ≡ true))
 
+-- the head's name is a symbol's, and so is each name of its terms that has arguments
+abbrev pub IsHeadKnown : List (List ℕ) → Head → Type 0
+IsHeadKnown names h = IsSome (number_in h.name.text names) × AllByRecursion (λ u. heads_known names u ≡ true) h.terms
+
+abbrev pub IsRuleKnown : List (List ℕ) → SourceRule → Type 0
+IsRuleKnown names r = IsHeadKnown names r.first × IsHeadKnown names r.second
+
 -- the types of the free ends are declared
 abbrev pub FreeKnown : List (List ℕ) → List SourceFree → Type 0
 FreeKnown types = AllByRecursion (λ f. Knows types f.port)
@@ -153,6 +171,7 @@ pub record IsTabled (source : Source) (t : Tables) : Type 0 where
   pub tables : t ≡ tables_of source
   pub heads : HeadsKnown t.names source.net.equations
   pub free : FreeKnown t.types source.net.free
+  pub rules : AllByRecursion (IsRuleKnown t.names) source.rules
 
 -- Ok exactly where the program has no fault of names, and then the tables are its declarations; else refused for the first fault
 abbrev pub Tabulates : Source → Result Tables Fault → Type 0

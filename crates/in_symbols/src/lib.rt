@@ -2,6 +2,7 @@
 #![tactic(auto)]
 
 mod declaring;
+pub mod laws;
 mod names;
 mod searching;
 mod symbols;

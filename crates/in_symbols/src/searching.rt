@@ -1,10 +1,12 @@
 ghost use Rattle.std.specs.Prelude.{◌≡◌, IfOk};
 ghost use Rattle.in_syntax.specs.declared.tree.Term.{out-Term};
-ghost use Rattle.in_symbols.specs.Searching.{earlier, earlier_refusal, refused, untyped, untyped_in_class, untyped_in_symbol, untyped_in_symbols, untyped_in_free, unknown_here, unknown_in_term, unknown_in_equations, first_fault, is_empty};
+ghost use Rattle.in_symbols.specs.Searching.{earlier, earlier_refusal, refused, untyped, untyped_in_class, untyped_in_symbol, untyped_in_symbols, untyped_in_free, unknown_name, unknown_here, unknown_in_term, unknown_in_equations, unknown_in_head, unknown_in_rule, unknown_in_rules, first_fault, is_empty};
 
 use crate::declaring::{Declared, free_names_of};
 use crate::names::Names;
-use in_syntax::{Code, Equation, Place, Refusal, Source, SourcePort, SourceSymbol, Term};
+use in_syntax::{
+    Code, Equation, Head, Name, Place, Refusal, Source, SourcePort, SourceRule, SourceSymbol, Term,
+};
 use std::alloc::{AllocError, Global};
 
 /// The earlier of two places; the first, where both begin at one byte.
@@ -69,14 +71,25 @@ fn untyped_in_free(types: &Names, source: &Source) -> Option<Place>
     found
 }
 
+/// Where the name stands, if it is no symbol's.
+fn unknown_name(symbols: &Names, name: &Name) -> Option<Place>
+    ensures { result ≡ unknown_name symbols.now name.now }
+{
+    if symbols.number_of(name.text.as_str()).is_some() {
+        None
+    } else {
+        Some(name.place)
+    }
+}
+
 /// Where the term's own name stands, if it has arguments and is no symbol's.
 fn unknown_here(symbols: &Names, term: &Term) -> Option<Place>
     ensures { result ≡ unknown_here symbols.now (is_empty (out-Term term.now).args) (out-Term term.now).name }
 {
-    if term.args.is_empty() || symbols.number_of(term.name.text.as_str()).is_some() {
+    if term.args.is_empty() {
         None
     } else {
-        Some(term.name.place)
+        unknown_name(symbols, &term.name)
     }
 }
 
@@ -102,6 +115,36 @@ fn unknown_in_equations(symbols: &Names, source: &Source) -> Option<Place>
             unknown_in_term(symbols, right),
         );
         found = earlier(found, place);
+    }
+    found
+}
+
+/// Where the first name in the head stands that has to be a symbol's and isn't: the head's own, or one that has arguments.
+fn unknown_in_head(symbols: &Names, head: &Head) -> Option<Place>
+    ensures { result ≡ unknown_in_head symbols.now head.now }
+{
+    let mut found = unknown_name(symbols, &head.name);
+    for term in head.terms.as_slice() {
+        found = earlier(found, unknown_in_term(symbols, term));
+    }
+    found
+}
+
+fn unknown_in_rule(symbols: &Names, rule: &SourceRule) -> Option<Place>
+    ensures { result ≡ unknown_in_rule symbols.now rule.now }
+{
+    earlier(
+        unknown_in_head(symbols, &rule.first),
+        unknown_in_head(symbols, &rule.second),
+    )
+}
+
+fn unknown_in_rules(symbols: &Names, source: &Source) -> Option<Place>
+    ensures { result ≡ unknown_in_rules symbols.now source.now.rules }
+{
+    let mut found = None;
+    for rule in source.rules.as_slice() {
+        found = earlier(found, unknown_in_rule(symbols, rule));
     }
     found
 }
@@ -146,7 +189,10 @@ pub(crate) fn first_fault(
         untyped_in_symbols(&types.names, source),
         untyped_in_free(&types.names, source),
     );
-    let unknown = unknown_in_equations(&symbols.names, source);
+    let unknown = earlier(
+        unknown_in_rules(&symbols.names, source),
+        unknown_in_equations(&symbols.names, source),
+    );
     let fault = earlier_refusal(refused(Code::E04, twice), refused(Code::E05, untyped));
     Ok(earlier_refusal(fault, refused(Code::E06, unknown)))
 }

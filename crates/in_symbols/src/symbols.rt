@@ -1,7 +1,7 @@
 ghost use Rattle.std.specs.Prelude.{◌≡◌, ◌≤◌, length, Some};
 ghost use Rattle.in_syntax.specs.Sizes.{IsSized};
 ghost use Rattle.in_symbols.specs.Names.{name_in};
-ghost use Rattle.in_symbols.specs.Tables.{place_of, IsSymbol, arity_of, port_at, class_at, classes_of, is_constructor, symbol_numbered, Knows, port_of, Tabulates};
+ghost use Rattle.in_symbols.specs.Tables.{place_of, IsSymbol, arity_of, port_at, class_at, classes_of, is_constructor, matching, symbol_numbered, Knows, port_of, Tabulates};
 
 use crate::names::Names;
 use crate::searching::first_fault;
@@ -57,7 +57,7 @@ impl Symbols {
     ///
     /// Refused for the first fault of the names in the order of the text: E04 at the name of a type, symbol or free name that
     /// is declared twice in its space, at the later one, and at a free name that is a symbol's; E05 at an unknown type of a
-    /// port or a free name; E06 at a name before `(` that is no symbol's. Or for want of memory. Lafont 1990 has the types of
+    /// port or a free name; E06 at a name before `(` or `[` that is no symbol's. Or for want of memory. Lafont 1990 has the types of
     /// ports and the symbols of agents; the spaces of names, the codes and the places are this project's own choice.
     pub fn build(alloc: Global, source: &Source) -> Result<Symbols, Fault>
         requires { IsSized source.now }
@@ -150,6 +150,18 @@ impl Symbols {
         ensures { result ≡ is_constructor self.now symbol.0 }
     {
         self.port(symbol, 0).output
+    }
+
+    /// Whether the two symbols match: one is a constructor, the other a destructor, and their principal types have one name
+    /// (Lafont 1990). It doesn't matter which of them is the first.
+    pub fn matching(&self, first: SymbolNo, second: SymbolNo) -> bool
+        requires first { IsSymbol self.now first.0 }
+        requires second { IsSymbol self.now second.0 }
+        ensures { result ≡ matching self.now first.0 second.0 }
+    {
+        let one = self.port(first, 0);
+        let other = self.port(second, 0);
+        one.kind == other.kind && one.output != other.output
     }
 
     /// The symbol of that name, if there is one.

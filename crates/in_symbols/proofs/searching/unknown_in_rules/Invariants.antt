@@ -1,0 +1,6 @@
+use Rattle.std.proofs.Common.{◌≡◌, drop, map}
+use Rattle.in_symbols.specs.Searching.{earliest, unknown_in_rule, unknown_in_rules}
+use Rattle.in_symbols.proofs.searching.unknown_in_rules.Given as goal
+
+abbrev pub invariant-loop-rule : goal.invariant-loop-rule
+invariant-loop-rule l = earliest l.found (map (unknown_in_rule l.symbols) (drop l.rule-index l.source.rules)) ≡ unknown_in_rules l.symbols l.source.rules
