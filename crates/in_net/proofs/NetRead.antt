@@ -1,8 +1,7 @@
 -- A whole net or rule is read: its free ends are joined to nothing yet, all else is.
-use Rattle.std.proofs.Common.{◌≡◌, ◌≢◌, ◌⊎◌, inl, inr, ℕ, zero, suc, ◌+◌, ◌*◌, ◌<◌, ◌≤◌, Bool, true, false, ◌&&◌, List, [], ◌∷◌, ◌++◌, length, map, Some, refl, sym, ◌∙◌, ap, subst, arith, get_or, slice_get, length-append, append_assoc, append-nil}
+use Rattle.std.proofs.Common.{◌≡◌, ◌≢◌, ◌⊎◌, inl, inr, ℕ, zero, suc, ◌+◌, ◌<◌, ◌≤◌, true, ◌&&◌, List, [], ◌∷◌, ◌++◌, length, map, Some, refl, sym, ◌∙◌, ap, subst, arith, slice_get, length-append, append_assoc, append-nil}
 use Rattle.std.specs.List.{list_all}
-use Rattle.in_syntax.specs.declared.places.Place.{Place}
-use Rattle.in_syntax.specs.declared.tree.Term.{Term, out-Term}
+use Rattle.in_syntax.specs.declared.tree.Term.{Term}
 use Rattle.in_syntax.specs.declared.tree.Equation.{Equation}
 use Rattle.in_syntax.specs.declared.tree.SourceFree.{SourceFree}
 use Rattle.in_syntax.specs.Sizes.{total, names_in, names_in_equation, names_in_equations}
@@ -13,14 +12,13 @@ use Rattle.in_net.specs.declared.reading.Reading.{Reading}
 use Rattle.in_symbols.specs.Tables.{Tables, heads_known}
 use Rattle.in_symbols.specs.Names.{number_in}
 use Rattle.in_net.specs.Arities.{fits_arity, arities_fit, equation_fits, head_fits, all_arities_fit}
-use Rattle.in_net.specs.Reading.{with_joint, with_name, with_ends, boundary_spots, number_with, reader_of, reads_arguments, reads_equation, reads_equations, reads_heads, reads_free_end, reads_free_from, reads_free, nothing_read, head_arity, ends_of, reading_of}
+use Rattle.in_net.specs.Reading.{with_joint, with_ends, boundary_spots, number_with, reader_of, reads_arguments, reads_equation, reads_equations, reads_heads, reads_free_end, reads_free_from, reads_free, nothing_read, ends_of, reading_of}
 use Rattle.in_net.specs.Joining.{links_of, self_link, self_links, with_joints}
 use Rattle.in_net.specs.Building.{no_spot, nth_spot, nth_link}
 use Rattle.in_net.specs.TextNet as text
 use Rattle.in_net.specs.TextNet.{Body, LeftHead, IsTermOf, IsPartOf, IsAmong, PlacedJoint, spot_of, place_of}
-use Rattle.in_net.proofs.Linked.{nth_self, same_or_not, below_or_not, front_or_back, at_front, at_back, at_first, at_second, at_third, stays, added, links_joint, length-links_of}
-use Rattle.in_net.proofs.Links.{all_append}
-use Rattle.in_net.proofs.Sound.{named, linked_more}
+use Rattle.in_net.proofs.Linked.{nth_self, same_or_not, below_or_not, at_front, at_first, at_second, at_third, links_joint, length-links_of}
+use Rattle.in_net.proofs.Sound.{named}
 use Rattle.in_net.specs.Built.{IsEnd}
 use Rattle.in_net.proofs.Folds.{place_read}
 use Rattle.in_net.proofs.Read.{IsRead, with_joint_read, more_names, free_end_read, boundary_end_read}
@@ -353,7 +351,7 @@ places_read t b free count rest small h among done (v ∷ vs) all port at r fits
     let then_ : ℕ → Type 0 = Waits h.first (port + 1) (length vs) rest in
     let one =
     place_joined t b free count (Waits h.first port (suc (length vs)) rest) (Waits h.first (port + 1) (length vs) rest) small v r h.first port (λ u part. IsTermOf.in_head h v among in_head part) both.0 joint
-    (inl (0, (omega arith, omega arith))) later
+    (inl (0, omega arith, omega arith)) later
     (λ w. not_again size w) sooner net in
     let more = places_read t b free (count + names_in v) rest small h among (done ++ v ∷ []) vs (append_assoc done (v ∷ []) vs ∙ all) (port + 1) (omega (arith, at, length-append done (v ∷ []))) _ both.1 differ one.net in
     record {
@@ -376,16 +374,16 @@ places_read t b free count rest small h among done (v ∷ vs) all port at r fits
     after = reads_arguments h.first (map (reader_of t) vs) (port + 1) (with_joint ((reader_of t v).reads r).0 h.first port ((reader_of t v).reads r).1 (reader_of t v).place)
 
     later : (i : ℕ) → Waits h.first (port + 1) (length vs) rest i → Waits h.first port (suc (length vs)) rest i
-    later i (inl (j, (lt, e))) = inl (suc j, (omega (arith, lt), omega (arith, e)))
+    later i (inl (j, lt, e)) = inl (suc j, omega (arith, lt), omega (arith, e))
     later i (inr w) = inr w
 
     not_again : length h.head.terms ≡ length done + suc (length vs) → Waits h.first (port + 1) (length vs) rest (h.first + port) → ⊥
-    not_again size (inl (j, (lt, e))) = absurd (omega (arith, e))
+    not_again size (inl (j, lt, e)) = absurd (omega (arith, e))
     not_again size (inr w) = differ (h.first + port) port w (omega (arith, at, size)) refl
 
     sooner : (i : ℕ) → Waits h.first port (suc (length vs)) rest i → (i ≡ h.first + port) ⊎ Waits h.first (port + 1) (length vs) rest i
-    sooner i (inl (zero, (lt, e))) = inl (omega (arith, e))
-    sooner i (inl (suc j, (lt, e))) = inr (inl (j, (omega (arith, lt), omega (arith, e))))
+    sooner i (inl (zero, lt, e)) = inl (omega (arith, e))
+    sooner i (inl (suc j, lt, e)) = inr (inl (j, omega (arith, lt), omega (arith, e)))
     sooner i (inr w) = inr (inr w)
 
     settled_by : (j : ℕ) (u : Term) → slice_get (v ∷ vs) j ≡ Some u → IsSettled q (text.free_end (h.first + port)) (spot_of t v) (place_of v) → Keeps q after →
@@ -459,11 +457,11 @@ heads_read t b free count rest small (h ∷ hs) among r fits apart net =
     q = reads_arguments h.first (map (reader_of t) h.head.terms) 0 r
 
     to : (i : ℕ) → Waits h.first 0 (length h.head.terms) (AtHeads hs rest) i → AtHeads (h ∷ hs) rest i
-    to i (inl (j, (lt, e))) = inl (j, (lt, omega (arith, e)))
+    to i (inl (j, lt, e)) = inl (j, lt, omega (arith, e))
     to i (inr w) = inr w
 
     back : (i : ℕ) → AtHeads (h ∷ hs) rest i → Waits h.first 0 (length h.head.terms) (AtHeads hs rest) i
-    back i (inl (j, (lt, e))) = inl (j, (lt, omega (arith, e)))
+    back i (inl (j, lt, e)) = inl (j, lt, omega (arith, e))
     back i (inr w) = inr w
 
     held_by : (g : LeftHead) → IsAmong g (h ∷ hs) → ((j : ℕ) (v : Term) → slice_get h.head.terms j ≡ Some v → IsSettled q (text.free_end (h.first + (0 + j))) (spot_of t v) (place_of v)) →
@@ -540,6 +538,12 @@ ends_read t b k (suc n) r h =
     subst (λ z. AreFreeRead t b (k + suc n) (record r { spots = z })) (sym (ends_apart k n r.spots))
     (subst (λ m. AreFreeRead t b m (record r { spots = (r.spots ++ End k ∷ []) ++ boundary_spots (k + 1) n })) e (ends_read t b (k + 1) n (record r { spots = r.spots ++ End k ∷ [] }) one))
 
+with_ends_read : (t : Tables) (b : Body) (n : ℕ) (r : Reading) → AreFreeRead t b (length b.free) r → AreFreeRead t b (length b.free + n) (with_ends r n)
+with_ends_read t b zero r h = let e : length b.free + 0 ≡ length b.free = omega arith in subst (λ k. AreFreeRead t b k r) (sym e) h
+with_ends_read t b (suc n) r h =
+    let sized : length r.spots ≡ length b.free = h.size in
+    subst (λ k. AreFreeRead t b (length b.free + suc n) (record r { spots = r.spots ++ boundary_spots k (suc n) })) (sym sized) (ends_read t b (length b.free) (suc n) r h)
+
 -- each free name waits for its name
 abbrev pub AtFree : Body → ℕ → Type 0
 AtFree b i = i < length b.free
@@ -579,9 +583,7 @@ pub body_read : (t : Tables) (b : Body) → AreSmall t → AreHeadsOf t b → al
 body_read t b small ends fits =
     let both = fits_both (list_all (head_fits t) b.heads) (list_all (equation_fits t) b.equations) fits in
     let free = free_read t b [] b.free nothing_read refl (nothing t b) in
-    let sized : length (reads_free b.free).spots ≡ length b.free = free.size in
-    let start : AreFreeRead t b (ends_in t b) (with_ends (reads_free b.free) (ends_of t b.heads)) =
-    subst (λ k. AreFreeRead t b (ends_in t b) (record (reads_free b.free) { spots = (reads_free b.free).spots ++ boundary_spots k (ends_of t b.heads) })) (sym sized) (ends_read t b (length b.free) (ends_of t b.heads) (reads_free b.free) free) in
+    let start : AreFreeRead t b (ends_in t b) (with_ends (reads_free b.free) (ends_of t b.heads)) = with_ends_read t b (ends_of t b.heads) (reads_free b.free) free in
     let heads = heads_read t b (ends_in t b) 0 (AtFree b) small b.heads (λ h x. x) (with_ends (reads_free b.free) (ends_of t b.heads)) both.0 ends.apart (begun t b (with_ends (reads_free b.free) (ends_of t b.heads)) ends start) in
     let all = equations_read t b (ends_in t b) (0 + names_in_heads b.heads) (AtFree b) small b.equations (reads_heads t b.heads (with_ends (reads_free b.free) (ends_of t b.heads))) (λ e x. x) both.1 heads.net in
     let count : 0 + names_in_heads b.heads + names_in_equations b.equations ≡ names_in_body b = omega arith in

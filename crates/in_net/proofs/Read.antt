@@ -1,34 +1,27 @@
 -- What is read of a net: its spots, agents and joints are those of the text.
-use Rattle.std.proofs.Common.{◌≡◌, ◌≢◌, ◌⊎◌, inl, inr, ℕ, zero, suc, ◌+◌, ◌*◌, ◌<◌, ◌≤◌, Bool, true, false, ◌&&◌, List, [], ◌∷◌, ◌++◌, length, map, Option, Some, None, IsSome, refl, sym, ◌∙◌, ap, subst, arith, get_or, slice_get, length-append, is_some, cond, unwrap_or, append_assoc, append-nil}
-use Rattle.std.specs.List.{AllByRecursion, list_all}
+use Rattle.std.proofs.Common.{◌≡◌, ◌≢◌, ◌⊎◌, inl, inr, ℕ, zero, suc, ◌+◌, ◌*◌, ◌<◌, ◌≤◌, List, [], ◌∷◌, ◌++◌, length, Option, Some, None, refl, sym, ◌∙◌, ap, subst, arith, get_or, slice_get, length-append, is_some, cond, unwrap_or, append-nil}
+use Rattle.std.specs.List.{AllByRecursion}
 use Rattle.std.specs.Str.{bytes_eq}
 use Rattle.std.proofs.lemmas.List.Quantifiers.{position-Some}
 use Rattle.std.proofs.lemmas.Slice.Eq.{bytes_eq-Decides}
 use Rattle.in_syntax.specs.declared.places.Place.{Place}
-use Rattle.in_syntax.specs.declared.tree.Name.{Name}
 use Rattle.in_syntax.specs.declared.tree.Term.{Term, out-Term}
-use Rattle.in_syntax.specs.declared.tree.Equation.{Equation}
 use Rattle.in_syntax.specs.declared.tree.SourceFree.{SourceFree}
-use Rattle.in_syntax.specs.Sizes.{total, names_in, names_in_equation, names_in_equations}
 use Rattle.in_symbols.specs.declared.symbols.SymbolNo.{SymbolNo}
-use Rattle.in_net.specs.declared.joining.Link.{Link}
 use Rattle.in_net.specs.declared.reading.Spot.{Spot}
 use Rattle.in_net.specs.declared.reading.Spot.TheVariants.{Port, Free, End, Occurrence}
 use Rattle.in_net.specs.declared.reading.Agent.{Agent}
 use Rattle.in_net.specs.declared.reading.Reading.{Reading}
 use Rattle.in_symbols.specs.Names.{number_in, name_in}
-use Rattle.in_symbols.specs.Tables.{Tables, arity_of, all_true}
-use Rattle.in_net.specs.Arities.{arities_fit, all_arities_fit}
-use Rattle.in_net.specs.Reading.{with_agent, with_occurrence, with_joint, with_name, number_with, ports_from, reader_of, reads_arguments, reads_equation, reads_equations, reads_free_end, reads_free_from, reads_free, nothing_read, reading_of}
-use Rattle.in_net.specs.Counting.{NamesInside, IsNameInside}
-use Rattle.in_net.specs.Joining.{JointsInside, links_of, with_link}
+use Rattle.in_symbols.specs.Tables.{Tables, arity_of}
+use Rattle.in_net.specs.Reading.{with_agent, with_occurrence, with_joint, with_name, number_with, ports_from, reads_free_end}
+use Rattle.in_net.specs.Counting.{IsNameInside}
+use Rattle.in_net.specs.Joining.{JointsInside, links_of}
 use Rattle.in_net.specs.Building.{no_agent, no_spot, nth_spot, nth_link, nth_agent}
 use Rattle.in_net.specs.Built.{IsPortOf, IsEnd, IsNumbered}
-use Rattle.in_net.specs.TextNet as text
-use Rattle.in_net.specs.TextNet.{Body, IsTermOf, IsPartOf, IsAmong, IsVariable, PlacedJoint, name_of, place_of, spot_of, spot_by}
-use Rattle.in_net.proofs.Folds.{names_out, fits_agent, read_agent, read_occurrence, place_read}
-use Rattle.in_net.proofs.Links.{all_along, all_append, length-with_link}
-use Rattle.in_net.proofs.Linked.{front_or_back, at_front, at_back, at_first, at_second, at_third, stays, added, links_joint, length-links_of}
+use Rattle.in_net.specs.TextNet.{Body, IsTermOf, IsVariable, PlacedJoint, name_of, place_of}
+use Rattle.in_net.proofs.Links.{all_along, all_append}
+use Rattle.in_net.proofs.Linked.{front_or_back, at_front, at_back, links_joint, length-links_of}
 use Rattle.in_net.proofs.Sound.{named, IsLinked, linked_more, linked_joint}
 
 -- the name of that number is the term's, which is no symbol's

@@ -1,18 +1,15 @@
 -- The wires of a text that are joined so far, as the spots of a reading lead to each other.
-use Rattle.std.proofs.Common.{◌≡◌, ◌≢◌, ◌⊎◌, inl, inr, ℕ, zero, suc, ◌+◌, ◌<◌, ◌≤◌, Bool, true, false, cond, nat_lt, List, [], ◌∷◌, ◌++◌, length, Option, Some, None, slice_get, refl, sym, ◌∙◌, ap, subst, arith, get_or, ltb-true}
-use Rattle.std.specs.List.{AllByRecursion}
+use Rattle.std.proofs.Common.{◌≡◌, ◌≢◌, ◌⊎◌, inl, inr, ℕ, ◌<◌, Bool, true, false, cond, nat_lt, List, ◌++◌, length, Some, refl, sym, ◌∙◌, ap, subst, arith, get_or, ltb-true}
 use Rattle.in_syntax.specs.declared.places.Place.{Place}
-use Rattle.in_syntax.specs.declared.tree.Term.{Term}
 use Rattle.in_symbols.specs.Tables.{Tables}
 use Rattle.in_net.specs.declared.reading.Spot.{Spot}
 use Rattle.in_net.specs.declared.reading.Spot.TheVariants.{Port, Free, End, Occurrence}
-use Rattle.in_net.specs.declared.joining.Link.{Link}
 use Rattle.in_net.specs.declared.joining.Joining.{Joining}
 use Rattle.in_net.specs.declared.counting.Seen.{Seen}
 use Rattle.in_net.specs.declared.counting.Seen.TheVariants.{Never, Once, Twice, Often}
 use Rattle.in_net.specs.Counting as counting
 use Rattle.in_net.specs.Building.{nth_link, nth_spot}
-use Rattle.in_net.specs.Joining.{self_link, start_place, later_of}
+use Rattle.in_net.specs.Joining.{self_link, later_of}
 use Rattle.in_net.specs.TextNet as text
 use Rattle.in_net.specs.TextNet.{Body, Kind, placed, of_name, NameJoint, IsOccurrence, Chain, IsLastOf, IsClosedWireOf, name_of, place_of}
 use Rattle.in_net.proofs.Sound.{named}

@@ -1,7 +1,7 @@
 -- Faults of a net or a rule: what is wrong with its agents, its names and its wires, and which of its faults is the first one. Lafont
 -- 1990 gives each symbol a number of auxiliary ports, and has each variable of a net or a rule occur twice. The limits on agents, the
 -- codes, and where a fault stands are this project's own choice.
-use Rattle.std.specs.Prelude.{◌≡◌, ◌≢◌, ◌⊎◌, ℕ, ◌<◌, ◌≤◌, List, length, Some, slice_get}
+use Rattle.std.specs.Prelude.{◌≡◌, ◌≢◌, ◌⊎◌, ℕ, ◌<◌, List, length, Some, slice_get}
 use Rattle.in_syntax.specs.declared.faults.Code.{Code}
 use Rattle.in_syntax.specs.declared.faults.Code.TheVariants.{E01, E02, E03, E04, E05, E06, E07, E08, E09, E10, E11, E12, E13, E14, E15}
 use Rattle.in_syntax.specs.declared.places.Place.{Place}

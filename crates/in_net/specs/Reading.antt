@@ -1,8 +1,8 @@
 -- How a net is read from its text, term by term: no public contract names this.
-use Rattle.std.specs.Prelude.{◌≡◌, ℕ, zero, suc, ◌+◌, List, [], ◌∷◌, ◌++◌, length, map, Option, Some, None, unwrap_or, cond, is_some}
+use Rattle.std.specs.Prelude.{ℕ, zero, suc, ◌+◌, List, [], ◌∷◌, ◌++◌, length, map, Option, Some, None, unwrap_or, cond, is_some}
 use Rattle.in_syntax.specs.declared.places.Place.{Place}
 use Rattle.in_syntax.specs.declared.tree.Name.{Name}
-use Rattle.in_syntax.specs.declared.tree.Term.{Term, out-Term}
+use Rattle.in_syntax.specs.declared.tree.Term.{Term}
 use Rattle.in_syntax.specs.declared.tree.Term.TheOpen.{Term-F}
 use Rattle.in_syntax.specs.declared.tree.Term.TheFolds.{fold-Term}
 use Rattle.in_syntax.specs.declared.tree.Equation.{Equation}
@@ -10,8 +10,6 @@ use Rattle.in_syntax.specs.declared.tree.SourceFree.{SourceFree}
 use Rattle.in_symbols.specs.declared.symbols.SymbolNo.{SymbolNo}
 use Rattle.in_net.specs.declared.reading.Spot.{Spot}
 use Rattle.in_net.specs.declared.reading.Spot.TheVariants.{Port, Free, End, Occurrence}
-use Rattle.in_net.specs.declared.reading.Agent.{Agent}
-use Rattle.in_net.specs.declared.reading.Joint.{Joint}
 use Rattle.in_net.specs.declared.reading.Reading.{Reading}
 use Rattle.in_symbols.specs.Names.{number_in}
 use Rattle.in_symbols.specs.Tables.{Tables, arity_of}
@@ -101,7 +99,8 @@ boundary_spots k zero = []
 boundary_spots k (suc n) = End k ∷ boundary_spots (k + 1) n
 
 abbrev pub with_ends : Reading → ℕ → Reading
-with_ends r n = record r { spots = r.spots ++ boundary_spots (length r.spots) n }
+with_ends r zero = r
+with_ends r (suc n) = record r { spots = r.spots ++ boundary_spots (length r.spots) (suc n) }
 
 -- the terms of each head in turn: each is joined to a boundary end, at its first token
 abbrev pub reads_heads : Tables → List LeftHead → Reading → Reading

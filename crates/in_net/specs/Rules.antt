@@ -1,7 +1,7 @@
 -- Rules. Lafont 1990: the left member of a rule is an active pair, written as its two symbols, each with a term for each of its
 -- auxiliary ports; these terms are the right member, a net whose free ends are the auxiliary ports of the two symbols. How boundary
 -- ends are numbered, the codes and the places are this project's own choice.
-use Rattle.std.specs.Prelude.{◌≡◌, ℕ, zero, suc, ◌+◌, ◌<◌, Bool, true, false, ◌&&◌, not, cond, List, [], ◌∷◌, ◌++◌, map, length, Option, Some, None, unwrap_or, slice_get, Result, Ok, Err}
+use Rattle.std.specs.Prelude.{◌≡◌, ℕ, zero, suc, ◌+◌, ◌≤◌, Bool, true, ◌&&◌, not, cond, List, [], ◌∷◌, ◌++◌, map, Some, None, unwrap_or, slice_get, Result, Ok, Err}
 use Rattle.in_syntax.specs.declared.faults.Fault.{Fault}
 use Rattle.in_syntax.specs.declared.faults.Fault.TheVariants.{Refused, Memory}
 use Rattle.in_syntax.specs.declared.places.Place.{Place}
@@ -12,7 +12,9 @@ use Rattle.in_symbols.specs.declared.symbols.SymbolNo.{SymbolNo}
 use Rattle.in_symbols.specs.Names.{number_in}
 use Rattle.std.specs.List.{AllByRecursion}
 use Rattle.in_symbols.specs.declared.symbols.PortType.{PortType}
-use Rattle.in_symbols.specs.Tables.{Tables, IsSymbol, arity_of, port_at, is_constructor, matching}
+use Rattle.in_syntax.specs.Order.{IsRuleInOrder}
+use Rattle.in_syntax.specs.Sizes.{names_in_rule, most_bytes}
+use Rattle.in_symbols.specs.Tables.{Tables, IsSymbol, IsRuleKnown, arity_of, port_at, is_constructor, matching}
 use Rattle.in_net.specs.Built.{IsOver}
 use Rattle.in_net.specs.NetFaults.{max_member_agents, HasNoNetFault, IsFirstNameFault}
 use Rattle.in_net.specs.Parts.{Parts}
@@ -101,3 +103,11 @@ BuildsRuleOf t r (Err (Memory e)) = Unit {0}
 -- the same of the rule of that number
 abbrev pub BuildsRule : Source → Tables → ℕ → Result RuleParts Fault → Type 0
 BuildsRule source t index answer = (r : SourceRule) × (slice_get source.rules index ≡ Some r) × BuildsRuleOf t r answer
+
+-- what a rule of a parsed and tabled program is: its names are known and stand in order, they are no more than its text has bytes,
+-- and each symbol has few places
+pub record IsReadable (t : Tables) (r : SourceRule) : Type 0 where
+  pub known : IsRuleKnown t.names r
+  pub order : IsRuleInOrder r
+  pub few : names_in_rule r ≤ most_bytes
+  pub small : (s : ℕ) → arity_of t s ≤ 8

@@ -1,5 +1,5 @@
 -- How the code searches for the first fault of a net's agents and names: no public contract names this.
-use Rattle.std.specs.Prelude.{ℕ, ◌==◌, Bool, cond, List, length, map, Option, Some, None, option_map, slice_get}
+use Rattle.std.specs.Prelude.{ℕ, ◌==◌, cond, List, length, map, Option, Some, None, option_map, slice_get}
 use Rattle.in_syntax.specs.declared.faults.Code.TheVariants.{E03, E07, E08}
 use Rattle.in_syntax.specs.declared.faults.Refusal.{Refusal}
 use Rattle.in_syntax.specs.declared.places.Place.{Place}

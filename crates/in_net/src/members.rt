@@ -1,15 +1,15 @@
-ghost use Rattle.std.specs.Prelude.{◌≡◌, ◌+◌, ◌<◌, ◌++◌, length, IfOk, OnOk};
+ghost use Rattle.std.specs.Prelude.{◌≡◌, ◌+◌, ◌<◌, ◌++◌, cond, length, IfOk, OnOk};
 ghost use Rattle.in_syntax.specs.Sizes.{IsSized};
 ghost use Rattle.in_syntax.specs.Order.{IsWrittenInOrder};
 ghost use Rattle.in_symbols.specs.Tables.{IsSymbol, IsTabled, IsHeadKnown, IsRuleKnown, arity_of};
 ghost use Rattle.in_net.specs.Building.{AreSmallSpots, IsJoined, boundary_of};
 ghost use Rattle.in_net.specs.Built.{ArePointsAt};
-ghost use Rattle.in_net.specs.Rules.{symbol_of, written_of, is_turned, body_of_rule, BuildsRule};
+ghost use Rattle.in_net.specs.Rules.{symbol_of, is_turned, body_of_rule, IsReadable, BuildsRuleOf, BuildsRule};
 ghost use Rattle.in_net.specs.Reading.{reading_of};
 
 use crate::building::{assemble, partner};
 use crate::faults::first_rule_fault;
-use crate::joining::{Link, join_all};
+use crate::joining::{Joined, Link, join_all};
 use crate::nets::FreeEnd;
 use crate::reading::{Reading, Spot, read_rule};
 use crate::rules::Rule;
@@ -37,6 +37,17 @@ fn is_turned(symbols: &Symbols, first: SymbolNo, second: SymbolNo) -> bool
     ensures { result ≡ is_turned symbols.now first.0 second.0 }
 {
     symbols.matching(first, second) && !symbols.is_constructor(first)
+}
+
+/// The two symbols, turned or as written.
+fn ordered(written: (SymbolNo, SymbolNo), turned: bool) -> (SymbolNo, SymbolNo)
+    ensures { result ≡ cond turned (written.1, written.0) written }
+{
+    if turned {
+        (written.1, written.0)
+    } else {
+        written
+    }
 }
 
 /// What is read of a rule with these symbols as written: the boundary ends of the constructor come first.
@@ -108,6 +119,34 @@ fn boundary(
     Ok(ends)
 }
 
+/// The rule that is written so.
+fn rule_of(alloc: Global, symbols: &Symbols, rule: &SourceRule) -> Result<Rule, Fault>
+    requires { IsReadable symbols.now rule.now }
+    ensures { BuildsRuleOf symbols.now rule.now result }
+{
+    let written = (
+        symbol_of(symbols, &rule.first),
+        symbol_of(symbols, &rule.second),
+    );
+    let turned = is_turned(symbols, written.0, written.1);
+    let reading = read(alloc, symbols, rule, written, turned)?;
+    if let Some(refusal) = first_rule_fault(alloc, symbols, rule, &reading)? {
+        return Err(Fault::Refused(refusal));
+    }
+    let Joined { links, .. } = join_all(alloc, &reading)?;
+    let heads = ordered(written, turned);
+    let spots = reading.spots.as_slice();
+    let links = links.as_slice();
+    let free = boundary(alloc, symbols, spots, links, heads)?;
+    let member = assemble(alloc, symbols, &reading, links, free)?;
+    Ok(Rule {
+        written,
+        heads,
+        head_places: (rule.first.name.place, rule.second.name.place),
+        member,
+    })
+}
+
 /// A rule of a program, by its number in the order of the text from 0.
 ///
 /// Refused for the first fault in the order of the text, at one place the lower code: E03 at the name of the agent that is one
@@ -127,29 +166,5 @@ pub fn build_rule(
     requires tabled { IsTabled source.now symbols.now }
     ensures { BuildsRule source.now symbols.now index result }
 {
-    let rule = &source.rules.as_slice()[index as usize];
-    let written = (
-        symbol_of(symbols, &rule.first),
-        symbol_of(symbols, &rule.second),
-    );
-    let turned = is_turned(symbols, written.0, written.1);
-    let reading = read(alloc, symbols, rule, written, turned)?;
-    if let Some(refusal) = first_rule_fault(alloc, symbols, rule, &reading)? {
-        return Err(Fault::Refused(refusal));
-    }
-    let joined = join_all(alloc, &reading)?;
-    let heads = if turned {
-        (written.1, written.0)
-    } else {
-        written
-    };
-    let spots = reading.spots.as_slice();
-    let links = joined.links.as_slice();
-    let free = boundary(alloc, symbols, spots, links, heads)?;
-    Ok(Rule {
-        written,
-        heads,
-        head_places: (rule.first.name.place, rule.second.name.place),
-        member: assemble(alloc, symbols, &reading, links, free)?,
-    })
+    rule_of(alloc, symbols, &source.rules.as_slice()[index as usize])
 }
