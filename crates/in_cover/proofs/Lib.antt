@@ -1,0 +1,3 @@
+pub mod Completed
+pub mod Numbered
+pub mod Written

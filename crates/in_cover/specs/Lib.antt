@@ -1,0 +1,3 @@
+pub mod Cover
+pub mod Covering
+pub mod Table
