@@ -3,6 +3,7 @@
 #![tactic(auto)]
 
 mod covering;
+pub mod laws;
 mod table;
 
 pub use covering::cover;
