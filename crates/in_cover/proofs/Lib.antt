@@ -1,0 +1,4 @@
+pub mod Completed
+pub mod FirstFault
+pub mod Numbered
+pub mod Written

@@ -1,0 +1,15 @@
+-- Laws over the definition of what `cover` answers.
+use Rattle.std.specs.Prelude.{◌≡◌, List, Err}
+use Rattle.in_syntax.specs.declared.faults.Fault.TheVariants.{Refused}
+use Rattle.in_syntax.specs.declared.faults.Refusal.{Refusal}
+use Rattle.in_symbols.specs.Tables.{Tables}
+use Rattle.in_net.specs.Rules.{RuleParts}
+use Rattle.in_cover.specs.Cover.{IsComplete, Covers}
+
+-- rules that are refused aren't complete
+abbrev pub RefusedRulesAreIncomplete : Type 0
+RefusedRulesAreIncomplete = (t : Tables) (rules : List RuleParts) (r : Refusal) → Covers t rules (Err (Refused r)) → IsComplete t rules → ⊥
+
+-- they are refused in one way
+abbrev pub OneRefusal : Type 0
+OneRefusal = (t : Tables) (rules : List RuleParts) (r s : Refusal) → Covers t rules (Err (Refused r)) → Covers t rules (Err (Refused s)) → r ≡ s

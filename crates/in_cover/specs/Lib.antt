@@ -1,0 +1,4 @@
+pub mod Cover
+pub mod Covering
+pub mod Laws
+pub mod Table

@@ -1,0 +1,13 @@
+//! Laws over the definition of what `cover` answers, for whoever reasons above it. No function here does anything.
+
+ghost use Rattle.in_cover.specs.Laws.{RefusedRulesAreIncomplete, OneRefusal};
+
+/// Rules that are refused aren't complete: some pair has two rules or none.
+pub fn refused_rules_are_incomplete()
+    ensures { RefusedRulesAreIncomplete }
+{}
+
+/// Rules have at most one first fault.
+pub fn one_refusal()
+    ensures { OneRefusal }
+{}
