@@ -28,6 +28,7 @@ pub mod Points
 pub mod Ports
 pub mod Read
 pub mod ReadFrom
+pub mod RightMembers
 pub mod Single
 pub mod Small
 pub mod Sound

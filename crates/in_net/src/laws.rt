@@ -1,6 +1,6 @@
 //! Laws over the definitions of a net, for whoever reasons above them. No function here does anything.
 
-ghost use Rattle.in_net.specs.Laws.{PartnersLeadBack, TextNetsAreOne, WholePartsAreNets};
+ghost use Rattle.in_net.specs.Laws.{MembersHoldNoPair, PartnersLeadBack, RulesHoldNoClosedWire, TextNetsAreOne, WholePartsAreNets};
 
 /// In a net, the partner of a point's partner is the point, and no point is its own partner.
 pub fn partners_lead_back()
@@ -15,4 +15,14 @@ pub fn whole_parts_are_nets()
 /// A text has one net: two nets of one text have the same agents and free ends, and partners at the same spots of the text.
 pub fn text_nets_are_one()
     ensures { TextNetsAreOne }
+{}
+
+/// A right member, as rules are written, holds no active pair.
+pub fn members_hold_no_pair()
+    ensures { MembersHoldNoPair }
+{}
+
+/// No wire of a rule's text is closed.
+pub fn rules_hold_no_closed_wire()
+    ensures { RulesHoldNoClosedWire }
 {}

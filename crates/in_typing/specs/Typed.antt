@@ -1,11 +1,12 @@
 -- When a net is typed. Lafont 1990: a wire joins an output to an input of one type.
-use Rattle.std.specs.Prelude.{◌≡◌, ℕ, ◌<◌, Bool, not, List, length, Option, Some, None, Result, Ok, Err, option_map}
+use Rattle.std.specs.Prelude.{◌≡◌, ℕ, ◌<◌, Bool, true, false, not, List, length, Option, Some, None, Result, Ok, Err, option_map}
 use Rattle.in_syntax.specs.declared.faults.Refusal.{Refusal}
-use Rattle.in_syntax.specs.declared.faults.Code.TheVariants.{E10}
+use Rattle.in_syntax.specs.declared.faults.Code.TheVariants.{E10, E11}
 use Rattle.in_symbols.specs.declared.symbols.PortType.{PortType}
 use Rattle.in_net.specs.declared.nets.Point.{Point}
 use Rattle.in_net.specs.declared.nets.Point.TheVariants.{Port, Free}
-use Rattle.in_symbols.specs.Tables.{Tables, port_at}
+use Rattle.in_symbols.specs.Tables.{Tables, port_at, matching}
+use Rattle.in_net.specs.Rules.{RuleParts, place_of_head}
 use Rattle.in_net.specs.Parts.{Parts, symbol_in, free_type_in, wire_in, wire_place_in}
 
 abbrev pub opposite : PortType → PortType
@@ -42,3 +43,20 @@ pub record IsMistyped (t : Tables) (n : Parts) (r : Refusal) : Type 0 where
 abbrev pub Types : Tables → Parts → Result (Unit {0}) Refusal → Type 0
 Types t n (Ok u) = IsTyped t n
 Types t n (Err r) = IsMistyped t n r
+
+-- ---- rules
+
+-- one of the rule's two symbols is a constructor, the other a destructor of its type. Lafont 1990: the left member is a pair that can
+-- stand in a typed net
+abbrev pub HeadsMatch : Tables → RuleParts → Type 0
+HeadsMatch t r = matching t r.heads.0.0 r.heads.1.0 ≡ true
+
+-- refused at the second head's name where they don't, else for the first wire of the right member that doesn't fit
+pub data IsRuleMistyped (t : Tables) (p : RuleParts) (r : Refusal) : Type 0 where
+  of_heads : (HeadsMatch t p → ⊥) → r ≡ record { code = E11; place = place_of_head p 1; other = None } → IsRuleMistyped t p r
+  of_wire : HeadsMatch t p → IsMistyped t p.member r → IsRuleMistyped t p r
+
+-- Ok exactly where the heads' principal types are opposite, and each wire of the right member fits
+abbrev pub TypesRule : Tables → RuleParts → Result (Unit {0}) Refusal → Type 0
+TypesRule t p (Ok u) = HeadsMatch t p × IsTyped t p.member
+TypesRule t p (Err r) = IsRuleMistyped t p r

@@ -4,7 +4,7 @@
 pub mod laws;
 mod typing;
 
-pub use typing::type_net;
+pub use typing::{type_net, type_rule};
 
 #[cfg(test)]
 mod tests;

@@ -1,9 +1,10 @@
 ghost use Rattle.std.specs.Prelude.{◌≡◌, ◌↔◌, Some, IsTrue};
 ghost use Rattle.in_net.specs.Built.{IsOver};
 ghost use Rattle.in_net.specs.Parts.{IsPointOf};
-ghost use Rattle.in_typing.specs.Typed.{opposite, type_at, WireFits, Types};
+ghost use Rattle.in_net.specs.Rules.{IsRuleOver};
+ghost use Rattle.in_typing.specs.Typed.{opposite, type_at, WireFits, Types, TypesRule};
 
-use in_net::{Net, Point};
+use in_net::{Net, Point, Rule};
 use in_symbols::{PortType, Symbols};
 use in_syntax::{Code, Refusal};
 
@@ -62,4 +63,25 @@ pub fn type_net(symbols: &Symbols, net: &Net) -> Result<(), Refusal>
         }
     }
     Ok(())
+}
+
+/// Whether the two heads of a rule are a constructor and a destructor of one type, and each wire of its right member joins an
+/// output to an input of one type; a boundary end counts with the opposite of the type of its place. Lafont 1990: the right member
+/// has, at each end, the type of the port that it replaces.
+///
+/// Refused with E11 at the name of the second head in the text, where the heads' principal types aren't opposite; else with E10
+/// at the place of the first wire, in the order of their places, whose two types aren't opposite.
+pub fn type_rule(symbols: &Symbols, rule: &Rule) -> Result<(), Refusal>
+    requires { IsRuleOver symbols.now rule.now }
+    ensures { TypesRule symbols.now rule.now result }
+{
+    let (first, second) = rule.heads();
+    if !symbols.matching(first, second) {
+        return Err(Refusal {
+            code: Code::E11,
+            place: rule.head_place(1),
+            other: None,
+        });
+    }
+    type_net(symbols, rule.member())
 }

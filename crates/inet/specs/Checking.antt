@@ -1,5 +1,7 @@
--- What checking a text answers: its tree, its tables, its net and the types of the net's wires, one after another.
-use Rattle.std.specs.Prelude.{◌≡◌, ℕ, List, length, count_by, is_some, Result, Ok, Err}
+-- What checking a text answers: its tree, its tables, its rules and its net, their types, and one rule for each pair, one after
+-- another.
+use Rattle.std.specs.Prelude.{◌≡◌, ◌⊎◌, ℕ, ◌<◌, List, length, slice_get, Some, count_by, is_some, Result, Ok, Err}
+use Rattle.std.specs.List.{AllByRecursion}
 use Rattle.in_syntax.specs.declared.faults.Refusal.{Refusal}
 use Rattle.in_syntax.specs.declared.faults.Fault.{Fault}
 use Rattle.in_syntax.specs.declared.faults.Fault.TheVariants.{Refused, Memory}
@@ -8,31 +10,85 @@ use Rattle.in_syntax.specs.Parsing.{Parses}
 use Rattle.in_symbols.specs.Tables.{Tables, Tabulates}
 use Rattle.in_net.specs.Parts.{Parts}
 use Rattle.in_net.specs.Built.{Builds}
-use Rattle.in_typing.specs.Typed.{Types}
+use Rattle.in_net.specs.Rules.{RuleParts, BuildsRule}
+use Rattle.in_typing.specs.Typed.{Types, TypesRule}
+use Rattle.in_cover.specs.Table.{Cells}
+use Rattle.in_cover.specs.Cover.{Covers}
 use Rattle.inet.specs.declared.checking.Counts.{Counts}
 
--- how many types and symbols the tables have, how many rules the tree, and how many agents the net
-abbrev pub counts_of : Source → Tables → Parts → Counts
-counts_of s t n = record { types = length t.types; symbols = length t.names; rules = length s.rules; agents = count_by is_some n.cells }
+-- how many types and symbols the tables have, how many rules there are, and how many agents the net has
+abbrev pub counts_of : Tables → List RuleParts → Parts → Counts
+counts_of t rules n = record { types = length t.types; symbols = length t.names; rules = length rules; agents = count_by is_some n.cells }
 
--- the text has a tree, the tree tables and a net, each wire of the net fits, and so much is there
+-- ---- rule by rule
+
+-- the rules are those of the text
+pub record AreRulesOf (s : Source) (t : Tables) (rules : List RuleParts) : Type 0 where
+  pub count : length rules ≡ length s.rules
+  pub each : (i : ℕ) (p : RuleParts) → slice_get rules i ≡ Some p → BuildsRule s t i (Ok p)
+
+-- a rule is refused, and none before it
+pub record IsRuleRefused (s : Source) (t : Tables) (r : Refusal) : Type 0 where
+  pub number : ℕ
+  pub stands : BuildsRule s t number (Err (Refused r))
+  pub first : (i : ℕ) → i < number → (p : RuleParts) × BuildsRule s t i (Ok p)
+
+abbrev pub BuildsRules : Source → Tables → Result (List RuleParts) Fault → Type 0
+BuildsRules s t (Ok rules) = AreRulesOf s t rules
+BuildsRules s t (Err (Refused r)) = IsRuleRefused s t r
+BuildsRules s t (Err (Memory e)) = Unit {0}
+
+-- the types of a rule are refused, and of none before it
+pub record IsRuleUntyped (t : Tables) (rules : List RuleParts) (r : Refusal) : Type 0 where
+  pub number : ℕ
+  pub rule : RuleParts
+  pub stands : slice_get rules number ≡ Some rule
+  pub refused : TypesRule t rule (Err r)
+  pub first : (i : ℕ) (p : RuleParts) → i < number → slice_get rules i ≡ Some p → TypesRule t p (Ok tt)
+
+abbrev pub TypesRules : Tables → List RuleParts → Result (Unit {0}) Refusal → Type 0
+TypesRules t rules (Ok u) = AllByRecursion (λ p. TypesRule t p (Ok tt)) rules
+TypesRules t rules (Err r) = IsRuleUntyped t rules r
+
+-- rule by rule, and then the net
+abbrev pub TypesAll : Tables → List RuleParts → Parts → Result (Unit {0}) Refusal → Type 0
+TypesAll t rules n (Ok u) = TypesRules t rules (Ok tt) × Types t n (Ok tt)
+TypesAll t rules n (Err r) = TypesRules t rules (Err r) ⊎ (TypesRules t rules (Ok tt) × Types t n (Err r))
+
+-- the same as an answer of a pass, which takes no memory
+abbrev pub TypePasses : Tables → List RuleParts → Parts → Result (Unit {0}) Fault → Type 0
+TypePasses t rules n (Ok u) = TypesAll t rules n (Ok u)
+TypePasses t rules n (Err (Refused r)) = TypesAll t rules n (Err r)
+TypePasses t rules n (Err (Memory e)) = ⊥
+
+-- ---- pass by pass
+
+-- the text has a tree, the tree tables, rules and a net, each wire fits, each pair has its rule, and so much is there
 pub record IsAccepted (text : List ℕ) (counts : Counts) : Type 0 where
   pub source : Source
   pub tables : Tables
+  pub rules : List RuleParts
   pub net : Parts
+  pub table : Cells
   pub parses : Parses text (Ok source)
   pub tabulates : Tabulates source (Ok tables)
+  pub builds_rules : BuildsRules source tables (Ok rules)
   pub builds : Builds source tables (Ok net)
-  pub fits : Types tables net (Ok tt)
-  pub counted : counts ≡ counts_of source tables net
+  pub fits : TypesAll tables rules net (Ok tt)
+  pub covers : Covers tables rules (Ok table)
+  pub counted : counts ≡ counts_of tables rules net
 
--- the first of the passes that refuses: that of the tree, of the tables, of the net or of the types
+-- the first of the passes that refuses: that of the tree, of the tables, of the rules and the net, of the types, or of the rules' pairs
 pub data IsRefused (text : List ℕ) (r : Refusal) : Type 0 where
   no_tree : Parses text (Err (Refused r)) → IsRefused text r
   no_tables : (s : Source) → Parses text (Ok s) → Tabulates s (Err (Refused r)) → IsRefused text r
-  no_net : (s : Source) (t : Tables) → Parses text (Ok s) → Tabulates s (Ok t) → Builds s t (Err (Refused r)) → IsRefused text r
-  no_types : (s : Source) (t : Tables) (n : Parts) → Parses text (Ok s) → Tabulates s (Ok t) → Builds s t (Ok n) → Types t n (Err r) →
+  no_rules : (s : Source) (t : Tables) → Parses text (Ok s) → Tabulates s (Ok t) → BuildsRules s t (Err (Refused r)) → IsRefused text r
+  no_net : (s : Source) (t : Tables) (rules : List RuleParts) → Parses text (Ok s) → Tabulates s (Ok t) → BuildsRules s t (Ok rules) → Builds s t (Err (Refused r)) →
       IsRefused text r
+  no_types : (s : Source) (t : Tables) (rules : List RuleParts) (n : Parts) → Parses text (Ok s) → Tabulates s (Ok t) → BuildsRules s t (Ok rules) → Builds s t (Ok n) →
+      TypesAll t rules n (Err r) → IsRefused text r
+  no_cover : (s : Source) (t : Tables) (rules : List RuleParts) (n : Parts) → Parses text (Ok s) → Tabulates s (Ok t) → BuildsRules s t (Ok rules) → Builds s t (Ok n) →
+      TypesAll t rules n (Ok tt) → Covers t rules (Err (Refused r)) → IsRefused text r
 
 -- accepted by all passes, or refused by the first that refuses
 abbrev pub IsChecked : List ℕ → Result Counts Fault → Type 0

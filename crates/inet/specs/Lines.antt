@@ -1,5 +1,5 @@
 -- The lines that the program writes. They are this project's own choice.
-use Rattle.std.specs.Prelude.{ℕ, ◌==◌, List, [], ◌∷◌, ◌++◌, codes, decimal, if◌then◌else◌, slice_range}
+use Rattle.std.specs.Prelude.{ℕ, ◌==◌, List, [], ◌∷◌, ◌++◌, codes, decimal, if◌then◌else◌, slice_range, Option, Some, None}
 use Rattle.in_syntax.specs.Characters.{line_feed}
 use Rattle.in_syntax.specs.declared.places.Place.{Place}
 use Rattle.in_syntax.specs.declared.faults.Code.{Code}
@@ -37,11 +37,16 @@ code_name code.E15 = codes "E15"
 abbrev pub text_at : List ℕ → Place → List ℕ
 text_at text p = if p.from == p.to then [] else (codes ": " ++ slice_range text p.from p.to)
 
--- the code, the line and the column, and the text at the place
+-- a comma and the text at the other place, if there is one
+abbrev pub other_at : List ℕ → Option Place → List ℕ
+other_at text None = []
+other_at text (Some p) = codes ", " ++ slice_range text p.from p.to
+
+-- the code, the line and the column, and the text at the place, and at the other place
 abbrev pub refused_line : List ℕ → Refusal → List ℕ
 refused_line text r =
     codes "refused " ++ (code_name r.code ++ (codes " at " ++ (decimal r.place.line ++ (codes ":" ++ (decimal r.place.col
-    ++ (text_at text r.place ++ line_end))))))
+    ++ (text_at text r.place ++ (other_at text r.other ++ line_end)))))))
 
 abbrev pub memory_line : List ℕ
 memory_line = codes "memory" ++ line_end

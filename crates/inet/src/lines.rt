@@ -1,5 +1,5 @@
-ghost use Rattle.std.specs.Prelude.{◌≡◌, IfOk, slice_range};
-ghost use Rattle.inet.specs.Lines.{accepted_line, code_name, refused_line};
+ghost use Rattle.std.specs.Prelude.{◌≡◌, ◌++◌, IfOk, OnOk, slice_range};
+ghost use Rattle.inet.specs.Lines.{accepted_line, code_name, text_at, other_at, refused_line};
 
 use crate::checking::Counts;
 use in_syntax::{Code, Place, Refusal};
@@ -51,18 +51,39 @@ fn part(text: &[u8], place: Place) -> &[u8]
     &text[place.from.min(to)..to]
 }
 
-/// The line of a refused text: the code, the line and the column, and what stands at the place, if the place isn't empty.
-pub fn refused_line(alloc: Global, text: &[u8], refusal: Refusal) -> Result<Vec<u8>, AllocError>
-    ensures { IfOk result (λ line. line.items ≡ refused_line text.now refusal) }
+/// Adds a colon and what stands at the place, if the place isn't empty.
+fn add_text(bytes: &mut Vec<u8>, text: &[u8], place: Place) -> Result<(), AllocError>
+    ensures { OnOk result (bytes.new.items ≡ bytes.old.items ++ text_at text.now place) }
 {
-    let place = refusal.place;
-    let Place { line, col, .. } = place;
-    let name = code_name(refusal.code);
-    let mut bytes = format!(in alloc; "refused {name} at {line}:{col}")?.into_bytes();
     if place.from != place.to {
         bytes.extend_from_slice(b": ")?;
         bytes.extend_from_slice(part(text, place))?;
     }
+    Ok(())
+}
+
+/// Adds a comma and what stands at the other place, if there is one.
+fn add_other(bytes: &mut Vec<u8>, text: &[u8], other: Option<Place>) -> Result<(), AllocError>
+    ensures { OnOk result (bytes.new.items ≡ bytes.old.items ++ other_at text.now other) }
+{
+    if let Some(place) = other {
+        bytes.extend_from_slice(b", ")?;
+        bytes.extend_from_slice(part(text, place))?;
+    }
+    Ok(())
+}
+
+/// The line of a refused text: the code, the line and the column, what stands at the place, if the place isn't empty, and at the
+/// other place, if there is one.
+pub fn refused_line(alloc: Global, text: &[u8], refusal: Refusal) -> Result<Vec<u8>, AllocError>
+    ensures { IfOk result (λ line. line.items ≡ refused_line text.now refusal) }
+{
+    let Refusal { code, place, other } = refusal;
+    let Place { line, col, .. } = place;
+    let name = code_name(code);
+    let mut bytes = format!(in alloc; "refused {name} at {line}:{col}")?.into_bytes();
+    add_text(&mut bytes, text, place)?;
+    add_other(&mut bytes, text, other)?;
     bytes.push(b'\n')?;
     Ok(bytes)
 }
