@@ -1,5 +1,5 @@
 -- A name without a number is not there.
-use Rattle.std.proofs.Common.{◌≡◌, ℕ, Bool, true, false, cond, List, [], ◌∷◌, ◌++◌, Option, Some, None, Ok, sym, ◌∙◌, ap, is_some}
+use Rattle.std.proofs.Common.{◌≡◌, ℕ, Bool, true, false, cond, List, [], ◌∷◌, ◌++◌, Option, None, Ok, sym, ◌∙◌, ap, is_some}
 use Rattle.in_symbols.specs.Names.{number_in, has_name, Declares}
 use Rattle.in_symbols.proofs.Absent.{absent}
 use Rattle.in_net.specs.Reading.{with_name}

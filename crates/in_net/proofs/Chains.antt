@@ -1,10 +1,9 @@
 -- Chains that are put together at a name.
-use Rattle.std.proofs.Common.{◌≡◌, ◌≢◌, ◌⊎◌, inl, inr, ℕ, zero, suc, ◌+◌, ◌<◌, ◌≤◌, Bool, true, false, cond, nat_lt, List, [], ◌∷◌, ◌++◌, length, refl, sym, ◌∙◌, ap, subst, arith, ltb-false, ltb-true, append-nil}
-use Rattle.std.specs.List.{AllByRecursion}
+use Rattle.std.proofs.Common.{◌≡◌, inl, inr, Bool, true, false, cond, nat_lt, List, [], ◌∷◌, ◌++◌, refl, arith, ltb-false, ltb-true}
 use Rattle.in_syntax.specs.declared.places.Place.{Place}
 use Rattle.in_symbols.specs.Tables.{Tables}
 use Rattle.in_net.specs.Joining.{later_of}
-use Rattle.in_net.specs.TextNet.{Body, Spot, Kind, placed, of_name, PlacedJoint, NameJoint, IsOccurrence, Chain, IsAmong, IsLastOf}
+use Rattle.in_net.specs.TextNet.{Body, Spot, Kind, placed, of_name, NameJoint, IsOccurrence, Chain, IsAmong, IsLastOf}
 use Rattle.in_net.proofs.Links.{all_along, all_append}
 
 -- on through a name

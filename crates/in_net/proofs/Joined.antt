@@ -1,18 +1,16 @@
 -- When all names are joined, each point is joined to another by a wire of the text.
-use Rattle.std.proofs.Common.{◌≡◌, ◌≢◌, ◌⊎◌, inl, inr, ℕ, zero, suc, ◌+◌, ◌-◌, ◌<◌, ◌≤◌, Bool, true, false, ◌&&◌, List, [], ◌∷◌, ◌++◌, length, Option, Some, None, slice_get, refl, sym, ◌∙◌, ap, subst, arith, get_or, set}
-use Rattle.std.specs.List.{AllByRecursion, list_all}
-use Rattle.std.proofs.lemmas.List.{length-set, get_or-set_same, get_or-set_other}
+use Rattle.std.proofs.Common.{◌≡◌, ◌≢◌, ◌⊎◌, inl, inr, ℕ, zero, suc, ◌+◌, ◌-◌, ◌<◌, ◌≤◌, List, [], ◌∷◌, length, Option, Some, None, refl, sym, ◌∙◌, ap, subst, arith, set}
+use Rattle.std.proofs.lemmas.List.{get_or-set_same, get_or-set_other}
 use Rattle.in_syntax.specs.declared.places.Place.{Place}
-use Rattle.in_syntax.specs.declared.tree.SourceFree.{SourceFree}
 use Rattle.in_syntax.specs.Order.{Rises}
 use Rattle.in_symbols.specs.Tables.{Tables}
 use Rattle.in_net.specs.declared.reading.Spot.{Spot}
-use Rattle.in_net.specs.declared.reading.Spot.TheVariants.{Port, Free, Occurrence}
+use Rattle.in_net.specs.declared.reading.Spot.TheVariants.{Port, Free, End, Occurrence}
 use Rattle.in_net.specs.declared.reading.Reading.{Reading}
 use Rattle.in_net.specs.declared.joining.Link.{Link}
 use Rattle.in_net.specs.declared.joining.Joining.{Joining}
 use Rattle.in_net.specs.declared.counting.Seen.{Seen}
-use Rattle.in_net.specs.declared.counting.Seen.TheVariants.{Never, Once, Twice, Often}
+use Rattle.in_net.specs.declared.counting.Seen.TheVariants.{Never, Twice, Often}
 use Rattle.in_net.specs.Counting as counting
 use Rattle.in_net.specs.Counting.{seen_again, none_seen, count_name, counted, counted_from}
 use Rattle.in_net.specs.Building.{AreTwice, nth_link, nth_spot, IsPointSpot, IsJoined}
@@ -23,7 +21,9 @@ use Rattle.in_net.proofs.Links.{all_at}
 use Rattle.in_net.proofs.Linked.{same_or_not, below_or_not, length-links_of}
 use Rattle.in_net.proofs.Joins.{length-none_seen, length-counted}
 use Rattle.in_net.proofs.Sound.{named}
-use Rattle.in_net.proofs.Read.{IsNamed, name_inside}
+use Rattle.in_net.proofs.Read.{IsNamed}
+use Rattle.in_net.proofs.Known.{AreDifferent}
+use Rattle.in_net.proofs.NamedSpots.{AreNamesRead}
 use Rattle.in_net.proofs.NetRead.{IsNetRead}
 use Rattle.in_net.proofs.Order.{root_places, root_before}
 use Rattle.in_net.proofs.Ways.{nth_seen, IsMet, kind_of, IsOpen, IsWay, IsSeenAt, IsJoiningAt}
@@ -131,12 +131,7 @@ nth_none zero (suc m) = refl
 nth_none (suc n) zero = refl
 nth_none (suc n) (suc m) = nth_none n m
 
--- the free names of a net are different
-pub AreDifferent : Body → Type 0
-AreDifferent b = (k l : ℕ) (f g : SourceFree) → slice_get b.free k ≡ Some f → slice_get b.free l ≡ Some g → f.name.text ≡ g.name.text → k ≡ l
-
-module _ (t : Tables) (b : Body) (free count : ℕ) (r : Reading) (net : IsNetRead t b free count r) (differ : (k l : ℕ) (f g : SourceFree) → slice_get b.free k ≡ Some f → slice_get b.free l ≡ Some g → f.name.text ≡ g.name.text → k ≡ l)
-    (up : Rises (root_places r.spots)) where
+module _ (t : Tables) (b : Body) (free count : ℕ) (r : Reading) (net : IsNetRead t b free count r) (names : AreNamesRead t b r) (differ : AreDifferent b) (up : Rises (root_places r.spots)) where
   abbrev spots : List Spot
   spots = r.spots
 
@@ -145,13 +140,14 @@ module _ (t : Tables) (b : Body) (free count : ℕ) (r : Reading) (net : IsNetRe
 
   number_of : (s : Spot) (m : ℕ) → IsNamed t b r.names s → counting.name_of s ≡ Some m → m < length r.names
   number_of (Port a i p) m h e = cc
+  number_of (End k) m h e = cc
   number_of (Free k n) m h e = let same : n ≡ m = cc in omega (arith, same, h.inside)
   number_of (Occurrence n p) m h e = let same : n ≡ m = cc in omega (arith, same, h.inside)
 
   before_frees : (i j k m n : ℕ) (p : Place) → i < j → j < length spots → nth_spot spots i ≡ Occurrence n p → nth_spot spots j ≢ Free k m
   before_frees i j k m n p lt in_ is e =
-      let end = net.read.numbered.end j k m in_ e in
-      let there = net.read.numbered.ends i (omega (arith, lt, end.0, end.1)) in
+      let end = names.end j k m in_ e in
+      let there = names.ends i (omega (arith, lt, end.0, end.1)) in
       absurd (let wrong : Occurrence n p ≡ Free i there.1.0 = sym is ∙ there.1.1 in cc)
 
   pub of_text : AreOfText t b r.names spots
@@ -163,40 +159,42 @@ module _ (t : Tables) (b : Body) (free count : ℕ) (r : Reading) (net : IsNetRe
         let f : IsNamed t b r.names (Free k m) = subst (IsNamed t b r.names) is_i (fact i i_in) in
         let g : IsNamed t b r.names (Free l m) = subst (IsNamed t b r.names) is_j (fact j j_in) in
         let same = differ k l f.end g.end f.declared g.declared (sym f.name ∙ g.name) in
-        omega (arith, same, (net.read.numbered.end i k m i_in is_i).0, (net.read.numbered.end j l m j_in is_j).0);
+        omega (arith, same, (names.end i k m i_in is_i).0, (names.end j l m j_in is_j).0);
     places_differ = λ i j m n p q lt in_ is_i is_j e. absurd (let less = root_before spots i j m n p q up lt in_ is_i is_j in let same = ap (λ (x : Place). x.from) e in omega (arith, less, same));
   }
 
   -- a spot that isn't a free end is joined
-  beyond : (i : ℕ) → i < length spots → ((k m : ℕ) → nth_spot spots i ≢ Free k m) → free ≤ i
-  beyond i lt other = part (below_or_not i free)
+  beyond : (i : ℕ) → i < length spots → ((k m : ℕ) → nth_spot spots i ≢ Free k m) → length b.free ≤ i
+  beyond i lt other = part (below_or_not i (length b.free))
     where
-      part : (i < free) ⊎ (free ≤ i) → free ≤ i
-      part (inl x) = absurd (let there = net.read.numbered.ends i x in other i there.1.0 there.1.1)
+      part : (i < length b.free) ⊎ (length b.free ≤ i) → length b.free ≤ i
+      part (inl x) = absurd (let there = names.ends i x in other i there.1.0 there.1.1)
       part (inr x) = x
 
-  start_open : (i : ℕ) → i < length spots → (s : Spot) → nth_spot spots i ≡ s → IsOpen (none_seen (length r.names)) s → free ≤ i
+  start_open : (i : ℕ) → i < length spots → (s : Spot) → nth_spot spots i ≡ s → IsOpen (none_seen (length r.names)) s → length b.free ≤ i
   start_open i lt (Port a j p) is o = beyond i lt (λ k m e. let wrong : Port a j p ≡ Free k m = sym is ∙ e in cc)
+  start_open i lt (End j) is o = beyond i lt (λ k m e. let wrong : End j ≡ Free k m = sym is ∙ e in cc)
   start_open i lt (Free k m) is o = absurd (subst IsMet (nth_none (length r.names) m) o)
   start_open i lt (Occurrence m p) is o = beyond i lt (λ k n e. let wrong : Occurrence m p ≡ Free k n = sym is ∙ e in cc)
 
   -- and so is what it is joined to
-  to_beyond : (i : ℕ) → i < length spots → free ≤ i → free ≤ (nth_link (links_of r) i).to
-  to_beyond i lt from = part (below_or_not (nth_link (links_of r) i).to free)
+  to_beyond : (i : ℕ) → i < length spots → length b.free ≤ i → length b.free ≤ (nth_link (links_of r) i).to
+  to_beyond i lt from = part (below_or_not (nth_link (links_of r) i).to (length b.free))
     where
-      part : ((nth_link (links_of r) i).to < free) ⊎ (free ≤ (nth_link (links_of r) i).to) → free ≤ (nth_link (links_of r) i).to
+      part : ((nth_link (links_of r) i).to < length b.free) ⊎ (length b.free ≤ (nth_link (links_of r) i).to) → length b.free ≤ (nth_link (links_of r) i).to
       part (inl x) =
           let self = ap (λ (l : Link). l.to) (net.alone (nth_link (links_of r) i).to x) in
           let back = ap (λ (l : Link). l.to) (net.read.linked.back i lt) in
           absurd (omega (arith, self, back, x, from))
       part (inr x) = x
 
-  placed_kind : (i : ℕ) (s : Spot) → i < length spots → nth_spot spots i ≡ s → free ≤ i → kind_of s ≡ text.placed
+  placed_kind : (i : ℕ) (s : Spot) → i < length spots → nth_spot spots i ≡ s → length b.free ≤ i → kind_of s ≡ text.placed
   placed_kind i (Port a j p) lt is from = refl
-  placed_kind i (Free k m) lt is from = absurd (let end = net.read.numbered.end i k m lt is in omega (arith, end.0, end.1, from))
+  placed_kind i (End k) lt is from = refl
+  placed_kind i (Free k m) lt is from = absurd (let end = names.end i k m lt is in omega (arith, end.0, end.1, from))
   placed_kind i (Occurrence m p) lt is from = refl
 
-  start_way : (i : ℕ) → i < length spots → free ≤ i → IsWay t b (nth_spot spots i) (nth_spot spots (nth_link (links_of r) i).to) (nth_link (links_of r) i).place
+  start_way : (i : ℕ) → i < length spots → length b.free ≤ i → IsWay t b (nth_spot spots i) (nth_spot spots (nth_link (links_of r) i).to) (nth_link (links_of r) i).place
   start_way i lt from =
       let l : Link = nth_link (links_of r) i in
       let to_in = net.read.linked.inside i lt in
@@ -221,7 +219,7 @@ module _ (t : Tables) (b : Body) (free count : ℕ) (r : Reading) (net : IsNetRe
     apart = λ i lt o. net.joined i (start_open i lt (nth_spot spots i) refl o) lt;
     way = λ i lt o. start_way i lt (start_open i lt (nth_spot spots i) refl o);
     used = λ i m p lt is met. absurd (subst IsMet (nth_none (length r.names) m) met);
-    fresh = λ i k m lt is unmet. let end = net.read.numbered.end i k m lt is in net.alone i (omega (arith, end.0, end.1));
+    fresh = λ i k m lt is unmet. let end = names.end i k m lt is in net.alone i end.1;
     seen = λ m lt. subst (IsSeenAt spots 0 m) (sym (nth_none (length r.names) m)) (λ i x. absurd (omega (arith, x)));
     closed = λ p e. cc;
   }
@@ -237,12 +235,14 @@ module _ (t : Tables) (b : Body) (free count : ℕ) (r : Reading) (net : IsNetRe
 
     point_open : (i : ℕ) (s : Spot) → i < length spots → nth_spot spots i ≡ s → IsPointSpot s → IsOpen (joining_of r).seen s
     point_open i (Port a j p) lt is h = tt
+    point_open i (End k) lt is h = tt
     point_open i (Free k m) lt is h = all_met i m lt (ap counting.name_of is)
     point_open i (Occurrence m p) lt is h = absurd h
 
     no_point : (i : ℕ) (s : Spot) → i < length spots → nth_spot spots i ≡ s → (IsPointSpot s → ⊥) → (nth_link (joining_of r).links i).to ≡ i
     no_point i (Port a j p) lt is h = absurd (h tt)
     no_point i (Free k m) lt is h = absurd (h tt)
+    no_point i (End k) lt is h = absurd (h tt)
     no_point i (Occurrence m p) lt is h = joined_at.used i m p lt is (all_met i m lt (ap counting.name_of is))
 
     pub are_joined : IsJoined spots (joining_of r).links

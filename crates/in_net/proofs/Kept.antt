@@ -1,14 +1,14 @@
 -- What is read stays read: joints and variables of a text that stand among the spots.
-use Rattle.std.proofs.Common.{◌≡◌, ◌≢◌, ◌⊎◌, inl, inr, ℕ, zero, suc, ◌+◌, ◌<◌, ◌≤◌, List, [], ◌∷◌, ◌++◌, length, length-append, refl, sym, ◌∙◌, ap, subst, arith, get_or}
+use Rattle.std.proofs.Common.{◌≡◌, ◌≢◌, ℕ, ◌+◌, ◌<◌, List, [], ◌++◌, length, length-append, refl, sym, ◌∙◌, ap, subst, arith}
 use Rattle.in_syntax.specs.declared.places.Place.{Place}
 use Rattle.in_syntax.specs.declared.tree.Term.{Term}
 use Rattle.in_symbols.specs.Names.{name_in}
 use Rattle.in_net.specs.declared.joining.Link.{Link}
 use Rattle.in_net.specs.declared.reading.Spot.{Spot}
-use Rattle.in_net.specs.declared.reading.Spot.TheVariants.{Port, Free, Occurrence}
+use Rattle.in_net.specs.declared.reading.Spot.TheVariants.{Occurrence}
 use Rattle.in_net.specs.declared.reading.Reading.{Reading}
 use Rattle.in_net.specs.Building.{nth_link, nth_spot, no_spot}
-use Rattle.in_net.specs.Joining.{links_of, with_link}
+use Rattle.in_net.specs.Joining.{links_of}
 use Rattle.in_net.specs.Reading.{with_joint}
 use Rattle.in_net.specs.TextNet as text
 use Rattle.in_net.specs.TextNet.{name_of, place_of}

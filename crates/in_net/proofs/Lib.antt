@@ -1,14 +1,17 @@
 pub mod Absent
 pub mod Agents
+pub mod Bodies
 pub mod Chains
 pub mod Circuits
 pub mod Counts
 pub mod FirstFault
 pub mod Folds
+pub mod Frees
 pub mod HeadsOf
 pub mod Joined
 pub mod Joins
 pub mod Kept
+pub mod Known
 pub mod Linked
 pub mod Links
 pub mod Merged

@@ -6,7 +6,7 @@ use Rattle.in_syntax.specs.declared.places.Place.{Place}
 use Rattle.in_net.specs.declared.joining.Link.{Link}
 use Rattle.in_net.specs.Building.{nth_link}
 use Rattle.in_net.specs.Joining.{no_link, with_link, apart, merged, later_of}
-use Rattle.in_net.proofs.Linked.{same_or_not, at_first, at_second, at_third}
+use Rattle.in_net.proofs.Linked.{at_first, at_second, at_third}
 use Rattle.in_net.proofs.Joins.{length-apart}
 
 module _ (links : List Link) (a b : ℕ) (a_in : a < length links) (b_in : b < length links) (differ : a ≢ b) where

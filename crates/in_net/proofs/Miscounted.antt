@@ -1,23 +1,21 @@
 -- What is miscounted among the spots is what is miscounted in the text.
-use Rattle.std.proofs.Common.{◌≡◌, ◌≢◌, ◌⊎◌, inl, inr, ℕ, zero, suc, ◌+◌, ◌<◌, ◌≤◌, List, [], ◌∷◌, length, map, Option, Some, None, option_map, slice_get, refl, sym, ◌∙◌, ap, subst, arith, get_or}
-use Rattle.std.specs.List.{AllByRecursion}
+use Rattle.std.proofs.Common.{◌≡◌, ◌≢◌, ◌⊎◌, inl, inr, ℕ, zero, suc, ◌<◌, ◌≤◌, List, [], ◌∷◌, length, Some, None, option_map, slice_get, refl, sym, ◌∙◌, ap, subst, arith}
 use Rattle.std.proofs.lemmas.Option.{slice_get-get_or, slice_get_within}
 use Rattle.in_syntax.specs.declared.places.Place.{Place}
 use Rattle.in_syntax.specs.declared.tree.Term.{Term}
 use Rattle.in_syntax.specs.declared.tree.SourceFree.{SourceFree}
-use Rattle.in_syntax.specs.declared.tree.SourceNet.{SourceNet}
 use Rattle.in_syntax.specs.Order.{Rises}
-use Rattle.in_symbols.specs.Names.{number_in, name_in}
+use Rattle.in_symbols.specs.Names.{name_in}
 use Rattle.in_symbols.specs.Tables.{Tables}
 use Rattle.in_symbols.proofs.Least.{IsLeast, least_same}
 use Rattle.in_net.specs.declared.reading.Spot.{Spot}
-use Rattle.in_net.specs.declared.reading.Spot.TheVariants.{Port, Free, Occurrence}
+use Rattle.in_net.specs.declared.reading.Spot.TheVariants.{Port, Free, End, Occurrence}
 use Rattle.in_net.specs.declared.reading.Reading.{Reading}
 use Rattle.in_net.specs.Counting as counting
 use Rattle.in_net.specs.Counting.{none_seen, counted_from, nothing_counted, counts_from, place_at, miscounted}
 use Rattle.in_net.specs.Building.{AreTwice, no_spot, nth_spot}
 use Rattle.in_net.specs.NetFaults.{Occurs, IsFreeName, IsBefore, IsMiscountedAt}
-use Rattle.in_net.specs.TextNet.{Body, body_of, IsTermOf, IsAmong, IsVariable, name_of, place_of}
+use Rattle.in_net.specs.TextNet.{Body, IsAmong, IsVariable, name_of, place_of}
 use Rattle.in_net.proofs.Kept.{IsHeldAt}
 use Rattle.in_net.proofs.Linked.{same_or_not, below_or_not}
 use Rattle.in_net.proofs.Links.{all_at}
@@ -39,51 +37,52 @@ at_among [] k f e = absurd (let wrong : None ≡ Some f = e in cc)
 at_among (x ∷ fs) zero f e = inl (let same : x ≡ f = cc in same)
 at_among (x ∷ fs) (suc k) f e = inr (at_among fs k f e)
 
-module _ (t : Tables) (n : SourceNet) (r : Reading) (names : AreNamesRead t n r) (up : Rises (root_places r.spots))
+module _ (t : Tables) (body : Body) (r : Reading) (names : AreNamesRead t body r) (up : Rises (root_places r.spots))
     (apart : (m k : ℕ) → m < length r.names → k < length r.names → name_in m r.names ≡ name_in k r.names → m ≡ k)
-    (differ : (k l : ℕ) (f g : SourceFree) → slice_get n.free k ≡ Some f → slice_get n.free l ≡ Some g → f.name.text ≡ g.name.text → k ≡ l) where
+    (differ : (k l : ℕ) (f g : SourceFree) → slice_get body.free k ≡ Some f → slice_get body.free l ≡ Some g → f.name.text ≡ g.name.text → k ≡ l) where
   abbrev spots : List Spot
   spots = r.spots
 
-  fact : (i : ℕ) → i < length r.spots → IsNamed t (body_of n) r.names (nth_spot r.spots i)
-  fact i lt = all_at (IsNamed t (body_of n) r.names) r.spots i no_spot names.named_as lt
+  fact : (i : ℕ) → i < length r.spots → IsNamed t body r.names (nth_spot r.spots i)
+  fact i lt = all_at (IsNamed t body r.names) r.spots i no_spot names.named_as lt
 
   pub inside : (i m : ℕ) → i < length r.spots → Has r.spots m i → m < length r.names
-  inside i m lt e = by_spot (nth_spot r.spots i) (name_inside t (body_of n) r.names (nth_spot r.spots i) (fact i lt)) e
+  inside i m lt e = by_spot (nth_spot r.spots i) (name_inside t body r.names (nth_spot r.spots i) (fact i lt)) e
     where
       by_spot : (s : Spot) → counting.IsNameInside (length r.names) s → counting.name_of s ≡ Some m → m < length r.names
       by_spot (Port a j p) h e = cc
+      by_spot (End k) h e = cc
       by_spot (Free k l) h e = let same : l ≡ m = cc in omega (arith, h, same)
       by_spot (Occurrence l p) h e = let same : l ≡ m = cc in omega (arith, h, same)
 
   -- the variable at a spot
-  variable_at : (i m : ℕ) (p : Place) → i < length r.spots → nth_spot r.spots i ≡ Occurrence m p → IsVariableAt t (body_of n) r.names m p
-  variable_at i m p lt is = subst (IsNamed t (body_of n) r.names) is (fact i lt)
+  variable_at : (i m : ℕ) (p : Place) → i < length r.spots → nth_spot r.spots i ≡ Occurrence m p → IsVariableAt t body r.names m p
+  variable_at i m p lt is = subst (IsNamed t body r.names) is (fact i lt)
 
-  occurs : (i m : ℕ) (p : Place) (name : List ℕ) (lt : i < length r.spots) (is : nth_spot r.spots i ≡ Occurrence m p) → name_in m r.names ≡ name → Occurs t n name (variable_at i m p lt is).term
+  occurs : (i m : ℕ) (p : Place) (name : List ℕ) (lt : i < length r.spots) (is : nth_spot r.spots i ≡ Occurrence m p) → name_in m r.names ≡ name → Occurs t body name (variable_at i m p lt is).term
   occurs i m p name lt is e = let v = variable_at i m p lt is in (v.there, v.variable, sym v.name ∙ e)
 
   -- the spot of a variable has its name's number
-  held_at : (u : Term) (name : List ℕ) → Occurs t n name u → IsHeldAt r u
+  held_at : (u : Term) (name : List ℕ) → Occurs t body name u → IsHeldAt r u
   held_at u name o = names.held u o.0 o.1
 
-  number_is : (u : Term) (m : ℕ) → m < length r.names → (o : Occurs t n (name_in m r.names) u) → (held_at u (name_in m r.names) o).number ≡ m
+  number_is : (u : Term) (m : ℕ) → m < length r.names → (o : Occurs t body (name_in m r.names) u) → (held_at u (name_in m r.names) o).number ≡ m
   number_is u m lt o = let h = held_at u (name_in m r.names) o in apart h.number m h.known lt (h.name ∙ o.2)
 
-  has_held : (u : Term) (m : ℕ) → m < length r.names → (o : Occurs t n (name_in m r.names) u) → Has r.spots m (held_at u (name_in m r.names) o).spot
+  has_held : (u : Term) (m : ℕ) → m < length r.names → (o : Occurs t body (name_in m r.names) u) → Has r.spots m (held_at u (name_in m r.names) o).spot
   has_held u m lt o = ap counting.name_of (held_at u (name_in m r.names) o).is ∙ ap Some (number_is u m lt o)
 
   -- a spot of a name that is a free name's: the free end, or an occurrence
-  free_number : (f : SourceFree) (k : ℕ) → slice_get n.free k ≡ Some f → (m : ℕ) × (nth_spot r.spots k ≡ Free k m) × (name_in m r.names ≡ f.name.text) × (k < length r.spots) × (m < length r.names)
+  free_number : (f : SourceFree) (k : ℕ) → slice_get body.free k ≡ Some f → (m : ℕ) × (nth_spot r.spots k ≡ Free k m) × (name_in m r.names ≡ f.name.text) × (k < length r.spots) × (m < length r.names)
   free_number f k is =
-      let lt = slice_get_within n.free k f is in
+      let lt = slice_get_within body.free k f is in
       let end = names.ends k lt in
-      let at : IsFreeAt (body_of n) r.names k end.1.0 = subst (IsNamed t (body_of n) r.names) end.1.1 (fact k end.0) in
+      let at : IsFreeAt body r.names k end.1.0 = subst (IsNamed t body r.names) end.1.1 (fact k end.0) in
       let same : at.end ≡ f = let e : Some at.end ≡ Some f = sym at.declared ∙ is in cc in
       (end.1.0, end.1.1, at.name ∙ ap (λ (f : SourceFree). f.name.text) same, end.0, at.inside)
 
-  free_end : (i k m : ℕ) → i < length r.spots → nth_spot r.spots i ≡ Free k m → (f : SourceFree) × (slice_get n.free k ≡ Some f) × (name_in m r.names ≡ f.name.text) × (m < length r.names)
-  free_end i k m lt is = let at : IsFreeAt (body_of n) r.names k m = subst (IsNamed t (body_of n) r.names) is (fact i lt) in (at.end, at.declared, at.name, at.inside)
+  free_end : (i k m : ℕ) → i < length r.spots → nth_spot r.spots i ≡ Free k m → (f : SourceFree) × (slice_get body.free k ≡ Some f) × (name_in m r.names ≡ f.name.text) × (m < length r.names)
+  free_end i k m lt is = let at : IsFreeAt body r.names k m = subst (IsNamed t body r.names) is (fact i lt) in (at.end, at.declared, at.name, at.inside)
 
   -- occurrences in the order of their places
   before_place : (i j m l : ℕ) (p q : Place) → i < length r.spots → j < length r.spots → nth_spot r.spots i ≡ Occurrence m p → nth_spot r.spots j ≡ Occurrence l q → p.from < q.from → i < j
@@ -127,47 +126,47 @@ module _ (t : Tables) (n : SourceNet) (r : Reading) (names : AreNamesRead t n r)
   some_same p q e = cc
 
   -- the name of an occurrence that is a free name's has its free end among the spots
-  free_of : (m : ℕ) → m < length r.names → IsFreeName n (name_in m r.names) → (k : ℕ) × (k < length r.spots) × (nth_spot r.spots k ≡ Free k m)
+  free_of : (m : ℕ) → m < length r.names → IsFreeName body (name_in m r.names) → (k : ℕ) × (k < length r.spots) × (nth_spot r.spots k ≡ Free k m)
   free_of m lt h =
-      let at = among_at n.free h.0 h.1 in
+      let at = among_at body.free h.0 h.1 in
       let end = free_number h.0 at.0 at.1 in
       (at.0, end.3, end.1 ∙ ap (Free at.0) (apart end.0 m end.4 lt (end.2 ∙ h.2)))
 
   -- ---- from the spots to the text
 
-  only_text : (q : Place) → IsOnlyAt r.spots n.free q → IsMiscountedAt t n q
+  only_text : (q : Place) → IsOnlyAt r.spots body.free q → IsMiscountedAt t body q
   only_text q h = by_spot (spot_named (nth_spot r.spots h.one) h.name h.has)
     where
-      by_spot : ((p : Place) × (nth_spot r.spots h.one ≡ Occurrence h.name p)) ⊎ ((k : ℕ) × (nth_spot r.spots h.one ≡ Free k h.name)) → IsMiscountedAt t n q
+      by_spot : ((p : Place) × (nth_spot r.spots h.one ≡ Occurrence h.name p)) ⊎ ((k : ℕ) × (nth_spot r.spots h.one ≡ Free k h.name)) → IsMiscountedAt t body q
       by_spot (inl (p, is)) =
           let v = variable_at h.one h.name p h.inside is in
-          let place : p ≡ q = some_same p q (sym (ap (place_at n.free) (slice_spot h.one h.inside ∙ ap Some is)) ∙ h.stands) in
-          let lonely : (w : Term) → Occurs t n (name_of v.term) w → place_of w ≡ place_of v.term =
+          let place : p ≡ q = some_same p q (sym (ap (place_at body.free) (slice_spot h.one h.inside ∙ ap Some is)) ∙ h.stands) in
+          let lonely : (w : Term) → Occurs t body (name_of v.term) w → place_of w ≡ place_of v.term =
           λ w o.
-          (let ow : Occurs t n (name_in h.name r.names) w = (o.0, o.1, o.2 ∙ sym v.name) in
+          (let ow : Occurs t body (name_in h.name r.names) w = (o.0, o.1, o.2 ∙ sym v.name) in
           let g = held_at w (name_in h.name r.names) ow in
           let one = h.only g.spot g.inside (has_held w h.name v.inside ow) in
           let same : Occurrence g.number (place_of w) ≡ Occurrence h.name p = sym g.is ∙ ap (nth_spot r.spots) one ∙ is in
           let at : place_of w ≡ p = cc in at ∙ sym v.place) in
-          let unfree : IsFreeName n (name_of v.term) → ⊥ =
+          let unfree : IsFreeName body (name_of v.term) → ⊥ =
           λ f.
           (let end = free_of h.name v.inside (f.0, f.1, f.2 ∙ sym v.name) in
           let one = h.only end.0 end.1 (ap counting.name_of end.2) in
           let wrong : Free end.0 h.name ≡ Occurrence h.name p = sym end.2 ∙ ap (nth_spot r.spots) one ∙ is in cc) in
-          subst (IsMiscountedAt t n) (v.place ∙ place) (IsMiscountedAt.only v.term (v.there, v.variable, refl) unfree lonely)
+          subst (IsMiscountedAt t body) (v.place ∙ place) (IsMiscountedAt.only v.term (v.there, v.variable, refl) unfree lonely)
       by_spot (inr (k, is)) =
           let end = free_end h.one k h.name h.inside is in
-          let place : end.0.name.place ≡ q = some_same end.0.name.place q (sym (ap (option_map {T = SourceFree} {U = Place} (λ f. f.name.place)) end.1) ∙ sym (ap (place_at n.free) (slice_spot h.one h.inside ∙ ap Some is)) ∙ h.stands) in
-          let none : (u : Term) → Occurs t n end.0.name.text u → ⊥ =
+          let place : end.0.name.place ≡ q = some_same end.0.name.place q (sym (ap (option_map {T = SourceFree} {U = Place} (λ f. f.name.place)) end.1) ∙ sym (ap (place_at body.free) (slice_spot h.one h.inside ∙ ap Some is)) ∙ h.stands) in
+          let none : (u : Term) → Occurs t body end.0.name.text u → ⊥ =
           λ u o.
-          (let ou : Occurs t n (name_in h.name r.names) u = (o.0, o.1, o.2 ∙ sym end.2) in
+          (let ou : Occurs t body (name_in h.name r.names) u = (o.0, o.1, o.2 ∙ sym end.2) in
           let g = held_at u (name_in h.name r.names) ou in
           let one = h.only g.spot g.inside (has_held u h.name end.3 ou) in
           let wrong : Occurrence g.number (place_of u) ≡ Free k h.name = sym g.is ∙ ap (nth_spot r.spots) one ∙ is in cc) in
-          subst (IsMiscountedAt t n) place (IsMiscountedAt.missing end.0 (at_among n.free k end.0 end.1) none)
+          subst (IsMiscountedAt t body) place (IsMiscountedAt.missing end.0 (at_among body.free k end.0 end.1) none)
 
   -- an occurrence before the third spot is one of the first two
-  third_text : (q : Place) → IsThirdAt r.spots (length r.spots) q → IsMiscountedAt t n q
+  third_text : (q : Place) → IsThirdAt r.spots (length r.spots) q → IsMiscountedAt t body q
   third_text q h = by_spots (spot_named (nth_spot r.spots h.one) h.name h.has_one) (spot_named (nth_spot r.spots h.two) h.name h.has_two)
     where
       one_in : h.one < length r.spots
@@ -176,19 +175,19 @@ module _ (t : Tables) (n : SourceNet) (r : Reading) (names : AreNamesRead t n r)
       two_in : h.two < length r.spots
       two_in = let b = h.next in let c = h.inside in omega (arith, b, c)
 
-      w : IsVariableAt t (body_of n) r.names h.name q
+      w : IsVariableAt t body r.names h.name q
       w = variable_at h.three h.name q h.inside h.stands
 
       -- where an occurrence of the name before the third one stands
-      earlier_one : (x : Term) → Occurs t n (name_of w.term) x → IsBefore x w.term → (g : IsHeldAt r x) × (((g.spot ≡ h.one) ⊎ (g.spot ≡ h.two)))
+      earlier_one : (x : Term) → Occurs t body (name_of w.term) x → IsBefore x w.term → (g : IsHeldAt r x) × (((g.spot ≡ h.one) ⊎ (g.spot ≡ h.two)))
       earlier_one x o less =
-          let ox : Occurs t n (name_in h.name r.names) x = (o.0, o.1, o.2 ∙ sym w.name) in
+          let ox : Occurs t body (name_in h.name r.names) x = (o.0, o.1, o.2 ∙ sym w.name) in
           let g = held_at x (name_in h.name r.names) ox in
           let before = before_place g.spot h.three g.number h.name (place_of x) q g.inside h.inside g.is h.stands (omega (arith, less, ap (λ (p : Place). p.from) w.place)) in
           (g, h.only g.spot before (has_held x h.name w.inside ox))
 
       by_spots : ((p : Place) × (nth_spot r.spots h.one ≡ Occurrence h.name p)) ⊎ ((k : ℕ) × (nth_spot r.spots h.one ≡ Free k h.name)) → ((p : Place) × (nth_spot r.spots h.two ≡ Occurrence h.name p)) ⊎ ((k : ℕ) × (nth_spot r.spots h.two ≡ Free k h.name)) →
-          IsMiscountedAt t n q
+          IsMiscountedAt t body q
       by_spots (inl (p, is_one)) (inr (k, is_two)) = absurd (let less = free_before h.two h.one k h.name h.name p two_in one_in is_two is_one in let a = h.first in omega (arith, less, a))
       by_spots (inr (k, is_one)) (inr (l, is_two)) = absurd (let same = one_free h.one h.two k l h.name one_in two_in is_one is_two in let a = h.first in omega (arith, same, a))
       by_spots (inl (p, is_one)) (inl (p2, is_two)) =
@@ -196,11 +195,11 @@ module _ (t : Tables) (n : SourceNet) (r : Reading) (names : AreNamesRead t n r)
           let v = variable_at h.two h.name p2 two_in is_two in
           let first = root_before r.spots h.one h.two h.name h.name p p2 up h.first two_in is_one is_two in
           let next = root_before r.spots h.two h.three h.name h.name p2 q up h.next h.inside is_two h.stands in
-          let unfree : IsFreeName n (name_of w.term) → ⊥ =
+          let unfree : IsFreeName body (name_of w.term) → ⊥ =
           λ f.
           (let end = free_of h.name w.inside (f.0, f.1, f.2 ∙ sym w.name) in
           not_free end.0 end.1 end.2 p p2 is_one is_two) in
-          subst (IsMiscountedAt t n) w.place
+          subst (IsMiscountedAt t body) w.place
           (IsMiscountedAt.third u.term v.term w.term (u.there, u.variable, sym u.name ∙ w.name) (v.there, v.variable, sym v.name ∙ w.name) (w.there, w.variable, refl) unfree
           (omega (arith, first, ap (λ (p : Place). p.from) u.place, ap (λ (p : Place). p.from) v.place)) (omega (arith, next, ap (λ (p : Place). p.from) v.place, ap (λ (p : Place). p.from) w.place))
           (λ x o less. placed u.term v.term x (earlier_one x o less) p p2 is_one is_two u.place v.place))
@@ -220,8 +219,8 @@ module _ (t : Tables) (n : SourceNet) (r : Reading) (names : AreNamesRead t n r)
           let end = free_end h.one k h.name one_in is_one in
           let v = variable_at h.two h.name p2 two_in is_two in
           let next = root_before r.spots h.two h.three h.name h.name p2 q up h.next h.inside is_two h.stands in
-          subst (IsMiscountedAt t n) w.place
-          (IsMiscountedAt.second end.0 v.term w.term (at_among n.free k end.0 end.1) (v.there, v.variable, sym v.name ∙ end.2) (w.there, w.variable, sym w.name ∙ end.2)
+          subst (IsMiscountedAt t body) w.place
+          (IsMiscountedAt.second end.0 v.term w.term (at_among body.free k end.0 end.1) (v.there, v.variable, sym v.name ∙ end.2) (w.there, w.variable, sym w.name ∙ end.2)
           (omega (arith, next, ap (λ (p : Place). p.from) v.place, ap (λ (p : Place). p.from) w.place))
           (λ x o less. placed v.term x (earlier_one x (o.0, o.1, o.2 ∙ sym end.2 ∙ w.name) less) v.place))
         where
@@ -232,25 +231,25 @@ module _ (t : Tables) (n : SourceNet) (r : Reading) (names : AreNamesRead t n r)
   -- ---- from the text to the spots
 
   abbrev Miscounts : Place → Type 0
-  Miscounts q = IsThirdAt r.spots (length r.spots) q ⊎ IsOnlyAt r.spots n.free q
+  Miscounts q = IsThirdAt r.spots (length r.spots) q ⊎ IsOnlyAt r.spots body.free q
 
   -- a spot of the name of a term: an occurrence of it, or its free end
   spot_of_name : (j : ℕ) (u : Term) (g : IsHeldAt r u) → IsVariable t u → j < length r.spots → Has r.spots g.number j →
-      ((v : Term) × Occurs t n (name_of u) v × (nth_spot r.spots j ≡ Occurrence g.number (place_of v))) ⊎ (IsFreeName n (name_of u) × ((k : ℕ) × (nth_spot r.spots j ≡ Free k g.number)))
+      ((v : Term) × Occurs t body (name_of u) v × (nth_spot r.spots j ≡ Occurrence g.number (place_of v))) ⊎ (IsFreeName body (name_of u) × ((k : ℕ) × (nth_spot r.spots j ≡ Free k g.number)))
   spot_of_name j u g variable lt has = by_spot (spot_named (nth_spot r.spots j) g.number has)
     where
       by_spot : ((p : Place) × (nth_spot r.spots j ≡ Occurrence g.number p)) ⊎ ((k : ℕ) × (nth_spot r.spots j ≡ Free k g.number)) →
-          ((v : Term) × Occurs t n (name_of u) v × (nth_spot r.spots j ≡ Occurrence g.number (place_of v))) ⊎ (IsFreeName n (name_of u) × ((k : ℕ) × (nth_spot r.spots j ≡ Free k g.number)))
+          ((v : Term) × Occurs t body (name_of u) v × (nth_spot r.spots j ≡ Occurrence g.number (place_of v))) ⊎ (IsFreeName body (name_of u) × ((k : ℕ) × (nth_spot r.spots j ≡ Free k g.number)))
       by_spot (inl (p, is)) = let v = variable_at j g.number p lt is in inl (v.term, (v.there, v.variable, sym v.name ∙ g.name), is ∙ ap (Occurrence g.number) (sym v.place))
-      by_spot (inr (k, is)) = let end = free_end j k g.number lt is in inr ((end.0, at_among n.free k end.0 end.1, sym end.2 ∙ g.name), (k, is))
+      by_spot (inr (k, is)) = let end = free_end j k g.number lt is in inr ((end.0, at_among body.free k end.0 end.1, sym end.2 ∙ g.name), (k, is))
 
   number_same : (u v : Term) (g : IsHeldAt r u) (h : IsHeldAt r v) → name_of u ≡ name_of v → g.number ≡ h.number
   number_same u v g h e = apart g.number h.number g.known h.known (g.name ∙ e ∙ sym h.name)
 
-  stands_at : (i : ℕ) (m : ℕ) (p : Place) → i < length r.spots → nth_spot r.spots i ≡ Occurrence m p → place_at n.free (slice_get r.spots i) ≡ Some p
-  stands_at i m p lt is = ap (place_at n.free) (slice_spot i lt ∙ ap Some is)
+  stands_at : (i : ℕ) (m : ℕ) (p : Place) → i < length r.spots → nth_spot r.spots i ≡ Occurrence m p → place_at body.free (slice_get r.spots i) ≡ Some p
+  stands_at i m p lt is = ap (place_at body.free) (slice_spot i lt ∙ ap Some is)
 
-  of_only : (u : Term) → Occurs t n (name_of u) u → (IsFreeName n (name_of u) → ⊥) → ((v : Term) → Occurs t n (name_of u) v → place_of v ≡ place_of u) → IsOnlyAt r.spots n.free (place_of u)
+  of_only : (u : Term) → Occurs t body (name_of u) u → (IsFreeName body (name_of u) → ⊥) → ((v : Term) → Occurs t body (name_of u) v → place_of v ≡ place_of u) → IsOnlyAt r.spots body.free (place_of u)
   of_only u o unfree lonely =
       let g = names.held u o.0 o.1 in
       record {
@@ -262,12 +261,12 @@ module _ (t : Tables) (n : SourceNet) (r : Reading) (names : AreNamesRead t n r)
         stands = stands_at g.spot g.number (place_of u) g.inside g.is;
       }
     where
-      by_spot : (j : ℕ) → j < length r.spots → (g : IsHeldAt r u) → ((v : Term) × Occurs t n (name_of u) v × (nth_spot r.spots j ≡ Occurrence g.number (place_of v))) ⊎ (IsFreeName n (name_of u) × ((k : ℕ) × (nth_spot r.spots j ≡ Free k g.number))) → j ≡ g.spot
+      by_spot : (j : ℕ) → j < length r.spots → (g : IsHeldAt r u) → ((v : Term) × Occurs t body (name_of u) v × (nth_spot r.spots j ≡ Occurrence g.number (place_of v))) ⊎ (IsFreeName body (name_of u) × ((k : ℕ) × (nth_spot r.spots j ≡ Free k g.number))) → j ≡ g.spot
       by_spot j lt g (inl (v, ov, is)) = same_place j g.spot g.number g.number (place_of v) (place_of u) lt g.inside is g.is (lonely v ov)
       by_spot j lt g (inr (f, k)) = absurd (unfree f)
 
-  of_third : (u v w : Term) → Occurs t n (name_of w) u → Occurs t n (name_of w) v → Occurs t n (name_of w) w → (IsFreeName n (name_of w) → ⊥) → IsBefore u v → IsBefore v w →
-      ((x : Term) → Occurs t n (name_of w) x → IsBefore x w → (place_of x ≡ place_of u) ⊎ (place_of x ≡ place_of v)) → IsThirdAt r.spots (length r.spots) (place_of w)
+  of_third : (u v w : Term) → Occurs t body (name_of w) u → Occurs t body (name_of w) v → Occurs t body (name_of w) w → (IsFreeName body (name_of w) → ⊥) → IsBefore u v → IsBefore v w →
+      ((x : Term) → Occurs t body (name_of w) x → IsBefore x w → (place_of x ≡ place_of u) ⊎ (place_of x ≡ place_of v)) → IsThirdAt r.spots (length r.spots) (place_of w)
   of_third u v w ou ov ow unfree first next only =
       let a = names.held u ou.0 ou.1 in
       let b = names.held v ov.0 ov.1 in
@@ -292,16 +291,16 @@ module _ (t : Tables) (n : SourceNet) (r : Reading) (names : AreNamesRead t n r)
       by_place j x a b c lt is (inl e) = inl (same_place j a.spot c.number a.number (place_of x) (place_of u) lt a.inside is a.is e)
       by_place j x a b c lt is (inr e) = inr (same_place j b.spot c.number b.number (place_of x) (place_of v) lt b.inside is b.is e)
 
-      by_spot : (j : ℕ) (a : IsHeldAt r u) (b : IsHeldAt r v) (c : IsHeldAt r w) → j < c.spot → ((x : Term) × Occurs t n (name_of w) x × (nth_spot r.spots j ≡ Occurrence c.number (place_of x))) ⊎ (IsFreeName n (name_of w) × ((k : ℕ) × (nth_spot r.spots j ≡ Free k c.number))) →
+      by_spot : (j : ℕ) (a : IsHeldAt r u) (b : IsHeldAt r v) (c : IsHeldAt r w) → j < c.spot → ((x : Term) × Occurs t body (name_of w) x × (nth_spot r.spots j ≡ Occurrence c.number (place_of x))) ⊎ (IsFreeName body (name_of w) × ((k : ℕ) × (nth_spot r.spots j ≡ Free k c.number))) →
           (j ≡ a.spot) ⊎ (j ≡ b.spot)
       by_spot j a b c lt (inl (x, ox, is)) =
           let j_in : j < length r.spots = let l = c.inside in omega (arith, lt, l) in
           by_place j x a b c j_in is (only x ox (root_before r.spots j c.spot c.number c.number (place_of x) (place_of w) up lt c.inside is c.is))
       by_spot j a b c lt (inr (f, k)) = absurd (unfree f)
 
-  of_missing : (f : SourceFree) → IsAmong f n.free → ((u : Term) → Occurs t n f.name.text u → ⊥) → IsOnlyAt r.spots n.free f.name.place
+  of_missing : (f : SourceFree) → IsAmong f body.free → ((u : Term) → Occurs t body f.name.text u → ⊥) → IsOnlyAt r.spots body.free f.name.place
   of_missing f among none =
-      let at = among_at n.free f among in
+      let at = among_at body.free f among in
       let end = free_number f at.0 at.1 in
       record {
         name = end.0;
@@ -309,17 +308,17 @@ module _ (t : Tables) (n : SourceNet) (r : Reading) (names : AreNamesRead t n r)
         inside = end.3;
         has = ap counting.name_of end.1;
         only = λ j lt has. by_spot j lt end.0 at.0 end.1 end.2 end.3 (spot_named (nth_spot r.spots j) end.0 has);
-        stands = ap (place_at n.free) (slice_spot at.0 end.3 ∙ ap Some end.1) ∙ ap (option_map {T = SourceFree} {U = Place} (λ f. f.name.place)) at.1;
+        stands = ap (place_at body.free) (slice_spot at.0 end.3 ∙ ap Some end.1) ∙ ap (option_map {T = SourceFree} {U = Place} (λ f. f.name.place)) at.1;
       }
     where
       by_spot : (j : ℕ) → j < length r.spots → (m k : ℕ) → nth_spot r.spots k ≡ Free k m → name_in m r.names ≡ f.name.text → k < length r.spots → ((p : Place) × (nth_spot r.spots j ≡ Occurrence m p)) ⊎ ((l : ℕ) × (nth_spot r.spots j ≡ Free l m)) → j ≡ k
       by_spot j lt m k is_k name k_in (inl (p, is)) = absurd (none (variable_at j m p lt is).term (occurs j m p f.name.text lt is name))
       by_spot j lt m k is_k name k_in (inr (l, is)) = one_free j k l k m lt k_in is is_k
 
-  of_second : (f : SourceFree) (u v : Term) → IsAmong f n.free → Occurs t n f.name.text u → Occurs t n f.name.text v → IsBefore u v → ((x : Term) → Occurs t n f.name.text x → IsBefore x v → place_of x ≡ place_of u) →
+  of_second : (f : SourceFree) (u v : Term) → IsAmong f body.free → Occurs t body f.name.text u → Occurs t body f.name.text v → IsBefore u v → ((x : Term) → Occurs t body f.name.text x → IsBefore x v → place_of x ≡ place_of u) →
       IsThirdAt r.spots (length r.spots) (place_of v)
   of_second f u v among ou ov first only =
-      let at = among_at n.free f among in
+      let at = among_at body.free f among in
       let end = free_number f at.0 at.1 in
       let a = names.held u ou.0 ou.1 in
       let b = names.held v ov.0 ov.1 in
@@ -341,39 +340,39 @@ module _ (t : Tables) (n : SourceNet) (r : Reading) (names : AreNamesRead t n r)
       }
     where
       by_spot : (j : ℕ) (a : IsHeldAt r u) (b : IsHeldAt r v) (k : ℕ) → k < length r.spots → nth_spot r.spots k ≡ Free k b.number → j < b.spot →
-          ((x : Term) × Occurs t n (name_of v) x × (nth_spot r.spots j ≡ Occurrence b.number (place_of x))) ⊎ (IsFreeName n (name_of v) × ((l : ℕ) × (nth_spot r.spots j ≡ Free l b.number))) → (j ≡ k) ⊎ (j ≡ a.spot)
+          ((x : Term) × Occurs t body (name_of v) x × (nth_spot r.spots j ≡ Occurrence b.number (place_of x))) ⊎ (IsFreeName body (name_of v) × ((l : ℕ) × (nth_spot r.spots j ≡ Free l b.number))) → (j ≡ k) ⊎ (j ≡ a.spot)
       by_spot j a b k k_in is_k lt (inl (x, ox, is)) =
           let j_in : j < length r.spots = let l = b.inside in omega (arith, lt, l) in
           inr (same_place j a.spot b.number a.number (place_of x) (place_of u) j_in a.inside is a.is (only x (ox.0, ox.1, ox.2 ∙ ov.2) (root_before r.spots j b.spot b.number b.number (place_of x) (place_of v) up lt b.inside is b.is)))
       by_spot j a b k k_in is_k lt (inr (f_, (l, is))) = inl (one_free j k l k b.number (let l_ = b.inside in omega (arith, lt, l_)) k_in is is_k)
 
-  to_text : (q : Place) → Miscounts q → IsMiscountedAt t n q
+  to_text : (q : Place) → Miscounts q → IsMiscountedAt t body q
   to_text q (inl h) = third_text q h
   to_text q (inr h) = only_text q h
 
-  of_text : (q : Place) → IsMiscountedAt t n q → Miscounts q
+  of_text : (q : Place) → IsMiscountedAt t body q → Miscounts q
   of_text _ (IsMiscountedAt.only u o unfree lonely) = inr (of_only u o unfree lonely)
   of_text _ (IsMiscountedAt.third u v w a b c unfree first next only) = inl (of_third u v w a b c unfree first next only)
   of_text _ (IsMiscountedAt.missing f among none) = inr (of_missing f among none)
   of_text _ (IsMiscountedAt.second f u v among a b first only) = inl (of_second f u v among a b first only)
 
   -- the first name of the text that stands once or too often
-  pub names_least : IsLeast (IsMiscountedAt t n) (miscounted (length r.names) r.spots n.free)
-  names_least = least_same Miscounts (IsMiscountedAt t n) (miscounted (length r.names) r.spots n.free) to_text of_text (miscounted_least r.spots (length r.names) n.free inside)
+  pub names_least : IsLeast (IsMiscountedAt t body) (miscounted (length r.names) r.spots body.free)
+  names_least = least_same Miscounts (IsMiscountedAt t body) (miscounted (length r.names) r.spots body.free) to_text of_text (miscounted_least r.spots (length r.names) body.free inside)
 
   -- ---- where none is miscounted, each name stands twice
 
-  lonely_none : miscounted (length r.names) r.spots n.free ≡ None → (q : Place) → Miscounts q → ⊥
-  lonely_none none q h = (subst (IsLeast Miscounts) none (miscounted_least r.spots (length r.names) n.free inside)) q h
+  lonely_none : miscounted (length r.names) r.spots body.free ≡ None → (q : Place) → Miscounts q → ⊥
+  lonely_none none q h = (subst (IsLeast Miscounts) none (miscounted_least r.spots (length r.names) body.free inside)) q h
 
-  place_there : (i m : ℕ) → i < length r.spots → Has r.spots m i → (q : Place) × (place_at n.free (slice_get r.spots i) ≡ Some q)
+  place_there : (i m : ℕ) → i < length r.spots → Has r.spots m i → (q : Place) × (place_at body.free (slice_get r.spots i) ≡ Some q)
   place_there i m lt has = by_spot (spot_named (nth_spot r.spots i) m has)
     where
-      by_spot : ((p : Place) × (nth_spot r.spots i ≡ Occurrence m p)) ⊎ ((k : ℕ) × (nth_spot r.spots i ≡ Free k m)) → (q : Place) × (place_at n.free (slice_get r.spots i) ≡ Some q)
+      by_spot : ((p : Place) × (nth_spot r.spots i ≡ Occurrence m p)) ⊎ ((k : ℕ) × (nth_spot r.spots i ≡ Free k m)) → (q : Place) × (place_at body.free (slice_get r.spots i) ≡ Some q)
       by_spot (inl (p, is)) = (p, stands_at i m p lt is)
       by_spot (inr (k, is)) =
           let end = free_end i k m lt is in
-          (end.0.name.place, ap (place_at n.free) (slice_spot i lt ∙ ap Some is) ∙ ap (option_map {T = SourceFree} {U = Place} (λ f. f.name.place)) end.1)
+          (end.0.name.place, ap (place_at body.free) (slice_spot i lt ∙ ap Some is) ∙ ap (option_map {T = SourceFree} {U = Place} (λ f. f.name.place)) end.1)
 
   third_there : (m a b c : ℕ) → a < b → b < c → c < length r.spots → Has r.spots m a → Has r.spots m b → Has r.spots m c → ((i : ℕ) → i < c → Has r.spots m i → (i ≡ a) ⊎ (i ≡ b)) → (q : Place) × IsThirdAt r.spots (length r.spots) q
   third_there m a b c less next lt e f g only = by_spot (spot_named (nth_spot r.spots c) m g) (spot_named (nth_spot r.spots a) m e)
@@ -383,7 +382,7 @@ module _ (t : Tables) (n : SourceNet) (r : Reading) (names : AreNamesRead t n r)
       by_spot (inr (k, is)) (inl (p, is_a)) = absurd (let x = free_before c a k m m p lt (omega (arith, less, next, lt)) is is_a in omega (arith, x, less, next))
       by_spot (inr (k, is)) (inr (l, is_a)) = absurd (let x = one_free c a k l m lt (omega (arith, less, next, lt)) is is_a in omega (arith, x, less, next))
 
-  stands_twice : (m i : ℕ) (s : Seen) → IsStanding r.spots (length r.spots) m s → i < length r.spots → Has r.spots m i → miscounted (length r.names) r.spots n.free ≡ None → s ≡ Twice
+  stands_twice : (m i : ℕ) (s : Seen) → IsStanding r.spots (length r.spots) m s → i < length r.spots → Has r.spots m i → miscounted (length r.names) r.spots body.free ≡ None → s ≡ Twice
   stands_twice m i Never h lt has none = absurd (h i lt has)
   stands_twice m i (Once a) h lt has none =
       let at = place_there a m h.0 h.1 in
@@ -391,7 +390,7 @@ module _ (t : Tables) (n : SourceNet) (r : Reading) (names : AreNamesRead t n r)
   stands_twice m i Twice h lt has none = refl
   stands_twice m i Often (a, b, c, less, next, in_, e, f, g, only) lt has none = let third = third_there m a b c less next in_ e f g only in absurd (lonely_none none third.0 (inl third.1))
 
-  pub all_stand_twice : miscounted (length r.names) r.spots n.free ≡ None → AreTwice r.spots (counted_from 0 r.spots (none_seen (length r.names)))
+  pub all_stand_twice : miscounted (length r.names) r.spots body.free ≡ None → AreTwice r.spots (counted_from 0 r.spots (none_seen (length r.names)))
   all_stand_twice none i m lt has =
       ap (λ z. nth_seen z m) (sym (same_seen 0 r.spots (nothing_counted (length r.names))))
-      ∙ stands_twice m i (nth_seen (counts_from 0 r.spots (nothing_counted (length r.names))).seen m) ((done r.spots (length r.names) n.free inside).seen m (inside i m lt has)) lt has none
+      ∙ stands_twice m i (nth_seen (counts_from 0 r.spots (nothing_counted (length r.names))).seen m) ((done r.spots (length r.names) body.free inside).seen m (inside i m lt has)) lt has none

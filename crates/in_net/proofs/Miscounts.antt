@@ -1,5 +1,5 @@
 -- The first spot of a name that stands once or for the third time.
-use Rattle.std.proofs.Common.{◌≡◌, ◌≢◌, ◌⊎◌, inl, inr, ℕ, zero, suc, ◌+◌, ◌<◌, ◌≤◌, Bool, true, false, List, [], ◌∷◌, length, map, Option, Some, None, option_map, slice_get, refl, sym, ◌∙◌, ap, subst, arith, get_or, set}
+use Rattle.std.proofs.Common.{◌≡◌, ◌≢◌, ◌⊎◌, inl, inr, ℕ, zero, suc, ◌+◌, ◌<◌, ◌≤◌, List, [], ◌∷◌, length, Option, Some, None, slice_get, refl, sym, ◌∙◌, ap, subst, arith, set}
 use Rattle.std.proofs.lemmas.List.{length-set, get_or-set_same, get_or-set_other}
 use Rattle.in_syntax.specs.declared.places.Place.{Place}
 use Rattle.in_syntax.specs.declared.tree.SourceFree.{SourceFree}
@@ -7,15 +7,15 @@ use Rattle.in_symbols.specs.Faults.{AnyByRecursion}
 use Rattle.in_symbols.specs.Searching.{earlier}
 use Rattle.in_symbols.proofs.Least.{IsLeast, least_same, least_earlier, least_of_all}
 use Rattle.in_net.specs.declared.reading.Spot.{Spot}
-use Rattle.in_net.specs.declared.reading.Spot.TheVariants.{Port, Free, Occurrence}
+use Rattle.in_net.specs.declared.reading.Spot.TheVariants.{Port, Free, End, Occurrence}
 use Rattle.in_net.specs.declared.counting.Seen.{Seen}
 use Rattle.in_net.specs.declared.counting.Seen.TheVariants.{Never, Once, Twice, Often}
 use Rattle.in_net.specs.declared.counting.Counting.{Counting}
-use Rattle.in_net.specs.Counting.{name_of, seen_again, none_seen, count_name, counted_from, third_time, nothing_counted, counts_named, counts_spot, counts_from, place_at, lonely_place, lonely, miscounted}
+use Rattle.in_net.specs.Counting.{name_of, seen_again, count_name, counted_from, third_time, nothing_counted, counts_named, counts_spot, counts_from, place_at, lonely_place, lonely, miscounted}
 use Rattle.in_net.specs.Building.{nth_spot}
 use Rattle.in_net.proofs.Linked.{same_or_not, below_or_not}
 use Rattle.in_net.proofs.Joins.{length-none_seen}
-use Rattle.in_net.proofs.Ways.{nth_seen, spot_named}
+use Rattle.in_net.proofs.Ways.{nth_seen}
 use Rattle.in_net.proofs.Joined.{nth_none}
 
 -- the spot of that number has the name
@@ -140,6 +140,7 @@ third_least : (spots : List Spot) (at m : ℕ) (s : Seen) (u : Spot) → nth_spo
 third_least spots at m Never u is e = λ q h. absurd (let wrong : Never ≡ Twice = h.0 in cc)
 third_least spots at m (Once a) u is e = λ q h. absurd (let wrong : Once a ≡ Twice = h.0 in cc)
 third_least spots at m Twice (Port a i p) is e = λ q h. absurd (let wrong : Port a i p ≡ Occurrence m q = sym is ∙ h.1 in cc)
+third_least spots at m Twice (End k) is e = λ q h. absurd (let wrong : End k ≡ Occurrence m q = sym is ∙ h.1 in cc)
 third_least spots at m Twice (Free k n) is e = λ q h. absurd (let wrong : Free k n ≡ Occurrence m q = sym is ∙ h.1 in cc)
 third_least spots at m Twice (Occurrence n p) is e =
     let same : m ≡ n = occurrence_name spots at m n p is e in (

@@ -1,29 +1,26 @@
 -- The first agent of a net with another number of arguments than auxiliary ports, and the first one too many.
-use Rattle.std.proofs.Common.{◌≡◌, ◌≢◌, ◌⊎◌, inl, inr, ℕ, zero, suc, ◌+◌, ◌≤◌, ◌==◌, Bool, true, false, ◌&&◌, cond, List, [], ◌∷◌, length, map, Option, Some, None, option_map, slice_get, refl, sym, ◌∙◌, ap, subst, arith}
+use Rattle.std.proofs.Common.{◌≡◌, ◌≢◌, ◌⊎◌, inl, inr, ℕ, zero, suc, ◌≤◌, ◌==◌, Bool, true, false, ◌&&◌, cond, List, [], ◌∷◌, length, map, Option, Some, None, option_map, slice_get, refl, sym, ◌∙◌, ap, subst, arith}
 use Rattle.std.specs.List.{AllByRecursion, list_all}
 use Rattle.std.proofs.lemmas.Bool.{eqb-true, eqb-false}
-use Rattle.std.proofs.lemmas.Option.{slice_get-map}
 use Rattle.std.proofs.lemmas.List.{length-map}
 use Rattle.in_syntax.specs.declared.places.Place.{Place}
 use Rattle.in_syntax.specs.declared.tree.Equation.{Equation}
-use Rattle.in_syntax.specs.declared.tree.SourceNet.{SourceNet}
 use Rattle.in_syntax.specs.declared.tree.Term.{Term, out-Term}
 use Rattle.in_syntax.specs.declared.tree.Term.TheFolds.{fold_out-Term}
 use Rattle.in_syntax.specs.Sizes.{total, names_in}
-use Rattle.in_symbols.specs.declared.symbols.SymbolNo.{SymbolNo}
 use Rattle.in_symbols.specs.Faults.{AnyByRecursion}
 use Rattle.in_symbols.specs.Names.{number_in}
 use Rattle.in_symbols.specs.Searching.{earlier, earliest}
-use Rattle.in_symbols.specs.Tables.{Tables, arity_of, all_true, HeadsKnown}
+use Rattle.in_symbols.specs.Tables.{Tables, arity_of, all_true}
 use Rattle.in_symbols.proofs.Least.{IsLeast, least_same, least_earlier, least_of_all, earlier_none, earliest_none}
 use Rattle.in_net.specs.declared.reading.Agent.{Agent}
-use Rattle.in_net.specs.declared.reading.Reading.{Reading}
-use Rattle.in_net.specs.Arities.{fits_arity, arities_fit, all_arities_fit}
-use Rattle.in_net.specs.NetFaults.{max_agents, IsTooManyAt, IsMisfitAt}
+use Rattle.in_net.specs.Arities.{fits_arity, arities_fit, head_fits, equation_fits, all_arities_fit}
+use Rattle.in_net.specs.NetFaults.{IsTooManyAt, IsMisfitAt}
 use Rattle.in_net.specs.Reading.{reading_of}
-use Rattle.in_net.specs.Searching.{too_many, misfit_here, misfit, misfit_in_equation, misfit_in_net}
-use Rattle.in_net.specs.TextNet.{body_of, IsTermOf, IsPartOf, IsAmong, IsAgent, place_of, Written, agents_of_net}
-use Rattle.in_net.proofs.Agents.{as_written, net_agents}
+use Rattle.in_net.specs.Searching.{too_many, misfit_here, misfit, misfit_in_equation, misfit_in_equations, misfit_in_head, misfit_in_heads, misfit_in_body}
+use Rattle.in_net.specs.TextNet.{Body, LeftHead, IsTermOf, IsPartOf, IsAmong, IsAgent, place_of, Written, agents_of_body}
+use Rattle.in_net.proofs.Agents.{as_written, body_agents}
+use Rattle.in_net.proofs.Known.{IsBodyKnown}
 use Rattle.in_net.proofs.Folds.{names_out, fits_out}
 
 -- ---- too many agents
@@ -31,19 +28,19 @@ use Rattle.in_net.proofs.Folds.{names_out, fits_out}
 written_place : Written → Place
 written_place w = w.place
 
-too_many_by : (t : Tables) (n : SourceNet) (o : Option Written) → slice_get (agents_of_net t n) max_agents ≡ o → IsLeast (IsTooManyAt t n) (option_map (λ w. w.place) o)
-too_many_by t n None is = λ q h. absurd (let wrong : None ≡ Some h.0 = sym is ∙ h.1 in cc)
-too_many_by t n (Some w) is = ((w, is, refl), λ q h. let same : Some w ≡ Some h.0 = sym is ∙ h.1 in let one : w ≡ h.0 = cc in omega (arith, ap (λ (w : Written). w.place.from) one, ap (λ (p : Place). p.from) h.2))
+too_many_by : (most : ℕ) (t : Tables) (b : Body) (o : Option Written) → slice_get (agents_of_body t b) most ≡ o → IsLeast (IsTooManyAt most t b) (option_map (λ w. w.place) o)
+too_many_by most t b None is = λ q h. absurd (let wrong : None ≡ Some h.0 = sym is ∙ h.1 in cc)
+too_many_by most t b (Some w) is = ((w, is, refl), λ q h. let same : Some w ≡ Some h.0 = sym is ∙ h.1 in let one : w ≡ h.0 = cc in omega (arith, ap (λ (w : Written). w.place.from) one, ap (λ (p : Place). p.from) h.2))
 
 places_same : (as_ : List Agent) (k : ℕ) → option_map (λ (a : Agent). a.place) (slice_get as_ k) ≡ option_map (λ (w : Written). w.place) (slice_get (as_written as_) k)
 places_same [] k = refl
 places_same (a ∷ as_) zero = refl
 places_same (a ∷ as_) (suc k) = places_same as_ k
 
-pub agents_least : (t : Tables) (n : SourceNet) → HeadsKnown t.names n.equations → IsLeast (IsTooManyAt t n) (too_many (reading_of t n).agents)
-agents_least t n heads =
-    subst (IsLeast (IsTooManyAt t n)) (sym (places_same (reading_of t n).agents max_agents ∙ ap (λ ws. option_map (λ (w : Written). w.place) (slice_get ws max_agents)) (net_agents t n heads)))
-    (too_many_by t n (slice_get (agents_of_net t n) max_agents) refl)
+pub agents_least : (most : ℕ) (t : Tables) (b : Body) → IsBodyKnown t b → IsLeast (IsTooManyAt most t b) (too_many most (reading_of t b).agents)
+agents_least most t b known =
+    subst (IsLeast (IsTooManyAt most t b)) (sym (places_same (reading_of t b).agents most ∙ ap (λ ws. option_map (λ (w : Written). w.place) (slice_get ws most)) (body_agents t b known)))
+    (too_many_by most t b (slice_get (agents_of_body t b) most) refl)
 
 -- ---- numbers of arguments
 
@@ -118,35 +115,75 @@ terms_least t (suc h) u short =
 equation_least : (t : Tables) (e : Equation) → IsLeast (λ q. HasMisfit t e.left q ⊎ HasMisfit t e.right q) (misfit_in_equation t e)
 equation_least t e = least_earlier (HasMisfit t e.left) (HasMisfit t e.right) (misfit t e.left) (misfit t e.right) (terms_least t (names_in e.left) e.left (omega arith)) (terms_least t (names_in e.right) e.right (omega arith))
 
-any_among : (P : Equation → Type 0) (es : List Equation) → AnyByRecursion P es → (e : Equation) × IsAmong e es × P e
+any_among : {X : Type 0} (P : X → Type 0) (xs : List X) → AnyByRecursion P xs → (x : X) × IsAmong x xs × P x
 any_among P [] h = absurd h
-any_among P (e ∷ es) (inl h) = (e, inl refl, h)
-any_among P (e ∷ es) (inr h) = let there = any_among P es h in (there.0, inr there.1, there.2)
+any_among P (x ∷ xs) (inl h) = (x, inl refl, h)
+any_among P (x ∷ xs) (inr h) = let there = any_among P xs h in (there.0, inr there.1, there.2)
 
-among_any : (P : Equation → Type 0) (es : List Equation) (e : Equation) → IsAmong e es → P e → AnyByRecursion P es
-among_any P [] e among h = absurd among
-among_any P (x ∷ es) e (inl same) h = inl (subst P (sym same) h)
-among_any P (x ∷ es) e (inr among) h = inr (among_any P es e among h)
+among_any : {X : Type 0} (P : X → Type 0) (xs : List X) (x : X) → IsAmong x xs → P x → AnyByRecursion P xs
+among_any P [] x among h = absurd among
+among_any P (y ∷ xs) x (inl same) h = inl (subst P (sym same) h)
+among_any P (y ∷ xs) x (inr among) h = inr (among_any P xs x among h)
 
-pub arities_least : (t : Tables) (n : SourceNet) → IsLeast (IsMisfitAt t n) (misfit_in_net t n.equations)
-arities_least t n =
-    least_same (λ q. AnyByRecursion (λ e. HasMisfit t e.left q ⊎ HasMisfit t e.right q) n.equations) (IsMisfitAt t n) (misfit_in_net t n.equations) to back
-    (least_of_all (misfit_in_equation t) (λ e q. HasMisfit t e.left q ⊎ HasMisfit t e.right q) (equation_least t) n.equations)
+-- the head itself
+pub record IsHeadMisfit (t : Tables) (q : Place) (h : LeftHead) : Type 0 where
+  pub symbol : ℕ
+  pub named : number_in h.head.name.text t.names ≡ Some symbol
+  pub apart : length h.head.terms ≢ arity_of t symbol
+  pub place : h.head.name.place ≡ q
+
+head_by : (t : Tables) (h : LeftHead) (o : Option ℕ) → number_in h.head.name.text t.names ≡ o → IsLeast (λ q. IsHeadMisfit t q h) (misfit_here t o (length h.head.terms) h.head.name.place)
+head_by t h None is = λ q x. absurd (let wrong : None ≡ Some x.symbol = sym is ∙ x.named in cc)
+head_by t h (Some s) is = by_test (length h.head.terms == arity_of t s) refl
   where
-    of_side : (q : Place) (e : Equation) → IsAmong e n.equations → HasMisfit t e.left q ⊎ HasMisfit t e.right q → IsMisfitAt t n q
-    of_side q e among (inl (v, part, x)) = record { term = v; there = IsTermOf.in_left e among part; symbol = x.symbol; agent = x.agent; apart = x.apart; place = x.place }
-    of_side q e among (inr (v, part, x)) = record { term = v; there = IsTermOf.in_right e among part; symbol = x.symbol; agent = x.agent; apart = x.apart; place = x.place }
+    symbol_is : {q : Place} (x : IsHeadMisfit t q h) → s ≡ x.symbol
+    symbol_is x = let same : Some s ≡ Some x.symbol = sym is ∙ x.named in cc
 
-    to : (q : Place) → AnyByRecursion (λ e. HasMisfit t e.left q ⊎ HasMisfit t e.right q) n.equations → IsMisfitAt t n q
-    to q h = let at = any_among (λ e. HasMisfit t e.left q ⊎ HasMisfit t e.right q) n.equations h in of_side q at.0 at.1 at.2
+    by_test : (b : Bool) → (length h.head.terms == arity_of t s) ≡ b → IsLeast (λ q. IsHeadMisfit t q h) (cond b None (Some h.head.name.place))
+    by_test true fits = λ q x. x.apart (eqb-true _ _ fits ∙ ap (arity_of t) (symbol_is x))
+    by_test false fits = (record { symbol = s; named = is; apart = eqb-false _ _ fits; place = refl }, λ q x. omega (arith, ap (λ (p : Place). p.from) x.place))
 
-    by_term : (q : Place) (v : Term) → IsTermOf (body_of n) v → IsMisfit t q v → AnyByRecursion (λ e. HasMisfit t e.left q ⊎ HasMisfit t e.right q) n.equations
-    by_term q v (IsTermOf.in_left e among part) x = among_any (λ e. HasMisfit t e.left q ⊎ HasMisfit t e.right q) n.equations e among (inl (v, part, x))
-    by_term q v (IsTermOf.in_right e among part) x = among_any (λ e. HasMisfit t e.left q ⊎ HasMisfit t e.right q) n.equations e among (inr (v, part, x))
-    by_term q v (IsTermOf.at_end k w among part) x = absurd among
+abbrev InHead : Tables → LeftHead → Place → Type 0
+InHead t h q = IsHeadMisfit t q h ⊎ AnyMisfit t h.head.terms q
 
-    back : (q : Place) → IsMisfitAt t n q → AnyByRecursion (λ e. HasMisfit t e.left q ⊎ HasMisfit t e.right q) n.equations
-    back q h = by_term q h.term h.there (record { symbol = h.symbol; agent = h.agent; apart = h.apart; place = h.place })
+head_least : (t : Tables) (h : LeftHead) → IsLeast (InHead t h) (misfit_in_head t h.head)
+head_least t h =
+    arguments_least t (total (map names_in h.head.terms)) (terms_least t (total (map names_in h.head.terms))) (λ q. IsHeadMisfit t q h) (misfit_here t (number_in h.head.name.text t.names) (length h.head.terms) h.head.name.place)
+    (head_by t h (number_in h.head.name.text t.names) refl) h.head.terms (omega arith)
+
+abbrev InEquation : Tables → Equation → Place → Type 0
+InEquation t e q = HasMisfit t e.left q ⊎ HasMisfit t e.right q
+
+pub arities_least : (t : Tables) (b : Body) → IsLeast (IsMisfitAt t b) (misfit_in_body t b)
+arities_least t b =
+    least_same (λ q. AnyByRecursion (λ h. InHead t h q) b.heads ⊎ AnyByRecursion (λ e. InEquation t e q) b.equations) (IsMisfitAt t b) (misfit_in_body t b) to back
+    (least_earlier (λ q. AnyByRecursion (λ h. InHead t h q) b.heads) (λ q. AnyByRecursion (λ e. InEquation t e q) b.equations) (misfit_in_heads t b.heads) (misfit_in_equations t b.equations)
+    (least_of_all (λ h. misfit_in_head t h.head) (InHead t) (head_least t) b.heads)
+    (least_of_all (misfit_in_equation t) (InEquation t) (equation_least t) b.equations))
+  where
+    agent : (q : Place) (v : Term) → IsTermOf b v → IsMisfit t q v → IsMisfitAt t b q
+    agent q v there x = inl (record { term = v; there = there; symbol = x.symbol; agent = x.agent; apart = x.apart; place = x.place })
+
+    of_side : (q : Place) (e : Equation) → IsAmong e b.equations → InEquation t e q → IsMisfitAt t b q
+    of_side q e among (inl (v, part, x)) = agent q v (IsTermOf.in_left e among part) x
+    of_side q e among (inr (v, part, x)) = agent q v (IsTermOf.in_right e among part) x
+
+    of_head : (q : Place) (h : LeftHead) → IsAmong h b.heads → InHead t h q → IsMisfitAt t b q
+    of_head q h among (inl x) = inr (record { left = h; there = among; symbol = x.symbol; named = x.named; apart = x.apart; place = x.place })
+    of_head q h among (inr (u, inside, (v, part, x))) = agent q v (IsTermOf.in_head h u among inside part) x
+
+    to : (q : Place) → AnyByRecursion (λ h. InHead t h q) b.heads ⊎ AnyByRecursion (λ e. InEquation t e q) b.equations → IsMisfitAt t b q
+    to q (inl x) = let at = any_among (λ h. InHead t h q) b.heads x in of_head q at.0 at.1 at.2
+    to q (inr x) = let at = any_among (λ e. InEquation t e q) b.equations x in of_side q at.0 at.1 at.2
+
+    by_term : (q : Place) (v : Term) → IsTermOf b v → IsMisfit t q v → AnyByRecursion (λ h. InHead t h q) b.heads ⊎ AnyByRecursion (λ e. InEquation t e q) b.equations
+    by_term q v (IsTermOf.in_left e among part) x = inr (among_any (λ e. InEquation t e q) b.equations e among (inl (v, part, x)))
+    by_term q v (IsTermOf.in_right e among part) x = inr (among_any (λ e. InEquation t e q) b.equations e among (inr (v, part, x)))
+    by_term q v (IsTermOf.in_head h w among inside part) x = inl (among_any (λ h. InHead t h q) b.heads h among (inr (w, inside, (v, part, x))))
+
+    back : (q : Place) → IsMisfitAt t b q → AnyByRecursion (λ h. InHead t h q) b.heads ⊎ AnyByRecursion (λ e. InEquation t e q) b.equations
+    back q (inl h) = by_term q h.term h.there (record { symbol = h.symbol; agent = h.agent; apart = h.apart; place = h.place })
+    back q (inr h) = inl (among_any (λ h. InHead t h q) b.heads h.left h.there (inl (record { symbol = h.symbol; named = h.named; apart = h.apart; place = h.place })))
 
 -- ---- where there is no misfit, all fit
 
@@ -184,14 +221,24 @@ terms_fit t (suc h) u short e =
     ∙ and_true (fits_arity t (number_in (out-Term u).name.text t.names) (length (map (arities_fit t) (out-Term u).args))) (all_true (map (arities_fit t) (out-Term u).args))
     (ap (fits_arity t (number_in (out-Term u).name.text t.names)) (length-map (out-Term u).args (arities_fit t) ∙ sym (length-map (out-Term u).args (misfit t))) ∙ here) (all_fit t (out-Term u).args all.1)
 
-equation_fits : (t : Tables) (e : Equation) → misfit_in_equation t e ≡ None → (arities_fit t e.left && arities_fit t e.right) ≡ true
-equation_fits t e is =
+equation_fit : (t : Tables) (e : Equation) → misfit_in_equation t e ≡ None → equation_fits t e ≡ true
+equation_fit t e is =
     let both = earlier_none (misfit t e.left) (misfit t e.right) is in
     and_true (arities_fit t e.left) (arities_fit t e.right) (terms_fit t (names_in e.left) e.left (omega arith) both.0) (terms_fit t (names_in e.right) e.right (omega arith) both.1)
 
-all_equations : (t : Tables) (es : List Equation) → AllByRecursion (λ e. (arities_fit t e.left && arities_fit t e.right) ≡ true) es → list_all (λ e. arities_fit t e.left && arities_fit t e.right) es ≡ true
-all_equations t [] h = refl
-all_equations t (e ∷ es) h = and_true (arities_fit t e.left && arities_fit t e.right) (list_all (λ e. arities_fit t e.left && arities_fit t e.right) es) h.0 (all_equations t es h.1)
+all_of : {X : Type 0} (f : X → Bool) (xs : List X) → AllByRecursion (λ x. f x ≡ true) xs → list_all f xs ≡ true
+all_of f [] h = refl
+all_of f (x ∷ xs) h = and_true (f x) (list_all f xs) h.0 (all_of f xs h.1)
 
-pub net_fits : (t : Tables) (n : SourceNet) → misfit_in_net t n.equations ≡ None → all_arities_fit t n ≡ true
-net_fits t n e = all_equations t n.equations (earliest_none (misfit_in_equation t) (λ e. (arities_fit t e.left && arities_fit t e.right) ≡ true) (equation_fits t) None n.equations e).1
+head_fit : (t : Tables) (h : LeftHead) → misfit_in_head t h.head ≡ None → head_fits t h ≡ true
+head_fit t h e =
+    let all = arguments_fit t (total (map names_in h.head.terms)) (terms_fit t (total (map names_in h.head.terms))) (misfit_here t (number_in h.head.name.text t.names) (length h.head.terms) h.head.name.place) h.head.terms (omega arith) e in
+    and_true (fits_arity t (number_in h.head.name.text t.names) (length h.head.terms)) (list_all (arities_fit t) h.head.terms)
+    (here_fits t (number_in h.head.name.text t.names) (length h.head.terms) h.head.name.place all.0) (all_of (arities_fit t) h.head.terms all.1)
+
+pub body_fits : (t : Tables) (b : Body) → misfit_in_body t b ≡ None → all_arities_fit t b ≡ true
+body_fits t b e =
+    let both = earlier_none (misfit_in_heads t b.heads) (misfit_in_equations t b.equations) e in
+    and_true (list_all (head_fits t) b.heads) (list_all (equation_fits t) b.equations)
+    (all_of (head_fits t) b.heads (earliest_none (λ (h : LeftHead). misfit_in_head t h.head) (λ h. head_fits t h ≡ true) (head_fit t) None b.heads both.0).1)
+    (all_of (equation_fits t) b.equations (earliest_none (misfit_in_equation t) (λ e. equation_fits t e ≡ true) (equation_fit t) None b.equations both.1).1)

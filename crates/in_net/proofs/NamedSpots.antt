@@ -1,34 +1,45 @@
 -- The spots of names are those of the text's variables and free names, whatever the numbers of arguments.
-use Rattle.std.proofs.Common.{◌≡◌, ◌≢◌, ◌⊎◌, inl, inr, ℕ, zero, suc, ◌+◌, ◌<◌, ◌≤◌, Bool, true, List, [], ◌∷◌, ◌++◌, length, length-append, map, Option, Some, None, IsSome, slice_get, refl, sym, ◌∙◌, ap, subst, arith, get_or, append_assoc, append-nil}
+use Rattle.std.proofs.Common.{◌≡◌, ◌⊎◌, inl, inr, ℕ, zero, suc, ◌+◌, ◌<◌, ◌≤◌, true, List, [], ◌∷◌, ◌++◌, length, length-append, map, Option, Some, None, refl, sym, ◌∙◌, ap, subst, arith, append_assoc, append-nil}
 use Rattle.std.specs.List.{AllByRecursion}
 use Rattle.in_syntax.specs.declared.places.Place.{Place}
 use Rattle.in_syntax.specs.declared.tree.Term.{Term, out-Term}
 use Rattle.in_syntax.specs.declared.tree.Equation.{Equation}
 use Rattle.in_syntax.specs.declared.tree.SourceFree.{SourceFree}
-use Rattle.in_syntax.specs.declared.tree.SourceNet.{SourceNet}
 use Rattle.in_syntax.specs.Sizes.{total, names_in}
 use Rattle.in_symbols.specs.declared.symbols.SymbolNo.{SymbolNo}
 use Rattle.in_symbols.specs.Names.{number_in, name_in}
 use Rattle.in_symbols.specs.Tables.{Tables, arity_of, all_true, heads_known, HeadsKnown}
 use Rattle.in_net.specs.declared.reading.Spot.{Spot}
-use Rattle.in_net.specs.declared.reading.Spot.TheVariants.{Port, Free, Occurrence}
+use Rattle.in_net.specs.declared.reading.Spot.TheVariants.{Port, Free, End, Occurrence}
 use Rattle.in_net.specs.declared.reading.Reading.{Reading}
-use Rattle.in_net.specs.Reading.{with_agent, with_joint, with_occurrence, number_with, ports_from, reader_of, reads_arguments, reads_equation, reads_equations, reads_free, reads_free_from, reads_free_end, nothing_read, reading_of}
+use Rattle.in_net.specs.Reading.{with_agent, with_joint, with_occurrence, number_with, ports_from, reader_of, reads_arguments, reads_equation, reads_equations, reads_heads, with_ends, boundary_spots, ends_of, reads_free, reads_free_from, reads_free_end, nothing_read, reading_of}
 use Rattle.in_net.specs.Building.{no_spot, nth_spot}
-use Rattle.in_net.specs.Counting.{NamesInside}
-use Rattle.in_net.specs.TextNet.{Body, body_of, IsTermOf, IsPartOf, IsAmong, IsVariable, name_of, place_of}
+use Rattle.in_net.specs.Built.{IsEnd}
+use Rattle.in_net.specs.TextNet.{Body, LeftHead, IsTermOf, IsPartOf, IsAmong, IsVariable}
+use Rattle.in_net.proofs.Known.{AreHeadsKnown, IsBodyKnown, all_known}
 use Rattle.in_net.proofs.Folds.{names_out, read_agent, read_occurrence}
 use Rattle.in_net.proofs.HeadsOf.{two, arguments_known, no_arguments}
 use Rattle.in_net.proofs.Kept.{IsHeldAt}
 use Rattle.in_net.proofs.Linked.{front_or_back, at_front, at_back}
-use Rattle.in_net.proofs.Links.{all_along, all_append, all_at}
+use Rattle.in_net.proofs.Links.{all_append, all_at}
 use Rattle.in_net.proofs.NetRead.{nothing, free_read}
-use Rattle.in_net.proofs.Read.{IsNamed, name_there, grows_by, all_still_named, still_named, ports_named, name_inside}
+use Rattle.in_net.proofs.Read.{IsNamed, name_there, grows_by, all_still_named, ports_named}
 
 abbrev pub IsBound : Spot → Type 0
 IsBound (Port a i p) = Unit {0}
 IsBound (Free k m) = ⊥
+IsBound (End k) = Unit {0}
 IsBound (Occurrence m p) = Unit {0}
+
+abbrev IsFreeSpot : Spot → Type 0
+IsFreeSpot (Port a i p) = ⊥
+IsFreeSpot (Free k m) = Unit {0}
+IsFreeSpot (End k) = ⊥
+IsFreeSpot (Occurrence m p) = ⊥
+
+free_spots : (k : ℕ) (fs : List SourceFree) (r : Reading) → AllByRecursion IsFreeSpot r.spots → AllByRecursion IsFreeSpot (reads_free_from k fs r).spots
+free_spots k [] r all = all
+free_spots k (f ∷ fs) r all = free_spots (k + 1) fs (reads_free_end k f r) (all_append IsFreeSpot r.spots (Free k (number_with r.names f.name.text) ∷ []) all (tt, tt))
 
 -- what reading on adds
 pub record Adds (t : Tables) (b : Body) (before after : Reading) : Type 0 where
@@ -204,41 +215,99 @@ equations_add t b (e ∷ es) r among =
     by_place x v (inl same) (inr part) variable heads left on right adds others = held_on t b (reads_equation t e r) after v adds (joined v (right heads.0.1 v (subst (λ x. IsPartOf v x.right) (sym same) part) variable))
     by_place x v (inr h) part variable heads left on right adds others = others heads.1 x v h part variable
 
--- the names that are read of a net: each variable stands at a spot, and the free ends are the first spots
-pub record AreNamesRead (t : Tables) (n : SourceNet) (r : Reading) : Type 0 where
-  pub named_as : AllByRecursion (IsNamed t (body_of n) r.names) r.spots
-  pub held : (u : Term) → IsTermOf (body_of n) u → IsVariable t u → IsHeldAt r u
-  pub ends : (k : ℕ) → k < length n.free → (k < length r.spots) × ((m : ℕ) × (nth_spot r.spots k ≡ Free k m))
-  pub end : (i k m : ℕ) → i < length r.spots → nth_spot r.spots i ≡ Free k m → (k ≡ i) × (i < length n.free)
+-- heads, and boundary ends
+pub record HeadsAdd (t : Tables) (b : Body) (hs : List LeftHead) (before after : Reading) : Type 0 where
+  pub adds : Adds t b before after
+  pub held : AreHeadsKnown t hs → (h : LeftHead) (u v : Term) → IsAmong h hs → IsAmong u h.head.terms → IsPartOf v u → IsVariable t v → IsHeldAt after v
 
-pub names_read : (t : Tables) (n : SourceNet) → HeadsKnown t.names n.equations → AreNamesRead t n (reading_of t n)
-names_read t n heads =
-    let b : Body = body_of n in
-    let free = free_read t (body_of n) [] n.free nothing_read refl (nothing t (body_of n)) in
-    let all = equations_add t (body_of n) n.equations (reads_free n.free) (λ e h. h) in
+heads_add : (t : Tables) (b : Body) (hs : List LeftHead) (r : Reading) → ((h : LeftHead) → IsAmong h hs → IsAmong h b.heads) → HeadsAdd t b hs r (reads_heads t hs r)
+heads_add t b [] r among = record { adds = adds_nothing t b r; held = λ known h u v x. absurd x }
+heads_add t b (h ∷ hs) r among =
+    let one = arguments_add t b (total (map names_in h.head.terms)) (terms_add t b (total (map names_in h.head.terms))) h.head.terms h.first 0 r (omega arith) (λ u v x part. IsTermOf.in_head h u (among h (inl refl)) x part) in
+    let more = heads_add t b hs (reads_arguments h.first (map (reader_of t) h.head.terms) 0 r) (λ g x. among g (inr x)) in
     record {
-      named_as = all.adds.named_as free.read.named_as;
-      held = λ u there variable. by_term u there variable (all.held heads);
-      ends = λ k lt.
-          let old = free.read.numbered.ends k lt in (
-            let e = ap length all.adds.spots in let f = length-append (reads_free n.free).spots all.adds.more in omega (arith, e, f, old.0),
-            (old.1.0, ap (λ z. nth_spot z k) all.adds.spots ∙ at_front (reads_free n.free).spots all.adds.more k no_spot old.0 ∙ old.1.1),
-          );
-      end = λ i k m lt is. by_side i k m lt is all.adds.more all.adds.spots all.adds.bound (free.read.numbered.end) free.size (front_or_back (length (reads_free n.free).spots) i);
+      adds = adds_both t b r _ _ one.adds more.adds;
+      held = λ known g u v x inside part variable. by_place known g u v x inside part variable one.held more.adds more.held;
     }
   where
-    by_term : (u : Term) → IsTermOf (body_of n) u → IsVariable t u → ((e : Equation) (v : Term) → IsAmong e n.equations → IsPartOf v e.left ⊎ IsPartOf v e.right → IsVariable t v → IsHeldAt (reading_of t n) v) → IsHeldAt (reading_of t n) u
-    by_term u (IsTermOf.in_left e among part) variable held = held e u among (inl part) variable
-    by_term u (IsTermOf.in_right e among part) variable held = held e u among (inr part) variable
-    by_term u (IsTermOf.at_end k v among part) variable held = absurd among
+    q : Reading
+    q = reads_arguments h.first (map (reader_of t) h.head.terms) 0 r
 
-    by_side : (i k m : ℕ) → i < length (reading_of t n).spots → nth_spot (reading_of t n).spots i ≡ Free k m → (more : List Spot) → (reading_of t n).spots ≡ (reads_free n.free).spots ++ more → AllByRecursion IsBound more →
-        ((i k m : ℕ) → i < length (reads_free n.free).spots → nth_spot (reads_free n.free).spots i ≡ Free k m → (k ≡ i) × (k < length n.free)) → length (reads_free n.free).spots ≡ length n.free →
-        (i < length (reads_free n.free).spots) ⊎ ((j : ℕ) × (i ≡ length (reads_free n.free).spots + j)) → (k ≡ i) × (i < length n.free)
+    by_place : AreHeadsKnown t (h ∷ hs) → (g : LeftHead) (u v : Term) → IsAmong g (h ∷ hs) → IsAmong u g.head.terms → IsPartOf v u → IsVariable t v →
+        (all_true (map (heads_known t.names) h.head.terms) ≡ true → (u v : Term) → IsAmong u h.head.terms → IsPartOf v u → IsVariable t v → IsHeldAt q v) → Adds t b q (reads_heads t hs q) →
+        (AreHeadsKnown t hs → (g : LeftHead) (u v : Term) → IsAmong g hs → IsAmong u g.head.terms → IsPartOf v u → IsVariable t v → IsHeldAt (reads_heads t hs q) v) → IsHeldAt (reads_heads t hs q) v
+    by_place known g u v (inl e) inside part variable here adds others =
+        held_on t b q (reads_heads t hs q) v adds (here (all_known t h.head.terms known.0) u v (subst (λ g. IsAmong u g.head.terms) (sym e) inside) part variable)
+    by_place known g u v (inr x) inside part variable here adds others = others known.1 g u v x inside part variable
+
+ends_bound : (k n : ℕ) → AllByRecursion IsBound (boundary_spots k n)
+ends_bound k zero = tt
+ends_bound k (suc n) = (tt, ends_bound (k + 1) n)
+
+ends_named : (t : Tables) (b : Body) (names : List (List ℕ)) (k n : ℕ) → AllByRecursion (IsNamed t b names) (boundary_spots k n)
+ends_named t b names k zero = tt
+ends_named t b names k (suc n) = (tt, ends_named t b names (k + 1) n)
+
+adds_ends : (t : Tables) (b : Body) (r : Reading) (n : ℕ) → Adds t b r (with_ends r n)
+adds_ends t b r zero = adds_nothing t b r
+adds_ends t b r (suc n) = record {
+  more = boundary_spots (length r.spots) (suc n);
+  spots = refl;
+  more_names = [];
+  names_on = sym (append-nil r.names);
+  bound = ends_bound (length r.spots) (suc n);
+  named_as = λ h. all_append _ r.spots (boundary_spots (length r.spots) (suc n)) h (ends_named t b r.names (length r.spots) (suc n));
+}
+
+-- the names that are read of a body: each variable stands at a spot, and the free ends are the first spots
+pub record AreNamesRead (t : Tables) (b : Body) (r : Reading) : Type 0 where
+  pub named_as : AllByRecursion (IsNamed t b r.names) r.spots
+  pub held : (u : Term) → IsTermOf b u → IsVariable t u → IsHeldAt r u
+  pub ends : (k : ℕ) → k < length b.free → (k < length r.spots) × ((m : ℕ) × (nth_spot r.spots k ≡ Free k m))
+  pub end : (i k m : ℕ) → i < length r.spots → nth_spot r.spots i ≡ Free k m → (k ≡ i) × (i < length b.free)
+
+free_spot : (t : Tables) (b : Body) (names : List (List ℕ)) (s : Spot) (k : ℕ) → IsEnd s k → IsFreeSpot s → (m : ℕ) × (s ≡ Free k m)
+free_spot t b names (Port a i p) k h f = absurd f
+free_spot t b names (Free j m) k h f = (m, ap (λ j. Free j m) h)
+free_spot t b names (End j) k h f = absurd f
+free_spot t b names (Occurrence m p) k h f = absurd f
+
+pub names_read : (t : Tables) (b : Body) → IsBodyKnown t b → AreNamesRead t b (reading_of t b)
+names_read t b known =
+    let free = free_read t b [] b.free nothing_read refl (nothing t b) in
+    let start : Reading = with_ends (reads_free b.free) (ends_of t b.heads) in
+    let heads = heads_add t b b.heads (with_ends (reads_free b.free) (ends_of t b.heads)) (λ h x. x) in
+    let equations = equations_add t b b.equations (reads_heads t b.heads (with_ends (reads_free b.free) (ends_of t b.heads))) (λ e h. h) in
+    let all = adds_both t b (reads_free b.free) (with_ends (reads_free b.free) (ends_of t b.heads)) (reading_of t b) (adds_ends t b (reads_free b.free) (ends_of t b.heads))
+    (adds_both t b (with_ends (reads_free b.free) (ends_of t b.heads)) (reads_heads t b.heads (with_ends (reads_free b.free) (ends_of t b.heads))) (reading_of t b) heads.adds equations.adds) in
+    let frees = free_spots 0 b.free nothing_read tt in
+    record {
+      named_as = all.named_as free.read.named_as;
+      held = λ u there variable. by_term u there variable (heads.held known.heads) equations.adds (equations.held known.equations);
+      ends = λ k lt.
+          let old = free.read.numbered.ends k lt in
+          let spot = free_spot t b (reads_free b.free).names (nth_spot (reads_free b.free).spots k) k old.1 (all_at IsFreeSpot (reads_free b.free).spots k no_spot frees old.0) in (
+            let e = ap length all.spots in let f = length-append (reads_free b.free).spots all.more in omega (arith, e, f, old.0),
+            (spot.0, ap (λ z. nth_spot z k) all.spots ∙ at_front (reads_free b.free).spots all.more k no_spot old.0 ∙ spot.1),
+          );
+      end = λ i k m lt is. by_side i k m lt is all.more all.spots all.bound (free.read.numbered.end) free.size (front_or_back (length (reads_free b.free).spots) i);
+    }
+  where
+    by_term : (u : Term) → IsTermOf b u → IsVariable t u →
+        ((h : LeftHead) (w v : Term) → IsAmong h b.heads → IsAmong w h.head.terms → IsPartOf v w → IsVariable t v → IsHeldAt (reads_heads t b.heads (with_ends (reads_free b.free) (ends_of t b.heads))) v) →
+        Adds t b (reads_heads t b.heads (with_ends (reads_free b.free) (ends_of t b.heads))) (reading_of t b) →
+        ((e : Equation) (v : Term) → IsAmong e b.equations → IsPartOf v e.left ⊎ IsPartOf v e.right → IsVariable t v → IsHeldAt (reading_of t b) v) → IsHeldAt (reading_of t b) u
+    by_term u (IsTermOf.in_left e among part) variable heads adds held = held e u among (inl part) variable
+    by_term u (IsTermOf.in_right e among part) variable heads adds held = held e u among (inr part) variable
+    by_term u (IsTermOf.in_head h v among inside part) variable heads adds held = held_on t b (reads_heads t b.heads (with_ends (reads_free b.free) (ends_of t b.heads))) (reading_of t b) u adds (heads h v u among inside part variable)
+
+    by_side : (i k m : ℕ) → i < length (reading_of t b).spots → nth_spot (reading_of t b).spots i ≡ Free k m → (more : List Spot) → (reading_of t b).spots ≡ (reads_free b.free).spots ++ more → AllByRecursion IsBound more →
+        ((i k : ℕ) → i < length (reads_free b.free).spots → IsEnd (nth_spot (reads_free b.free).spots i) k → (k ≡ i) × (k < length b.free)) → length (reads_free b.free).spots ≡ length b.free →
+        (i < length (reads_free b.free).spots) ⊎ ((j : ℕ) × (i ≡ length (reads_free b.free).spots + j)) → (k ≡ i) × (i < length b.free)
     by_side i k m lt is more grown bound old size (inl front) =
-        let here = old i k m front (sym (at_front (reads_free n.free).spots more i no_spot front) ∙ sym (ap (λ z. nth_spot z i) grown) ∙ is) in
+        let here = old i k front (subst (λ s. IsEnd s k) (sym (sym (at_front (reads_free b.free).spots more i no_spot front) ∙ sym (ap (λ z. nth_spot z i) grown) ∙ is)) refl) in
         (here.0, omega (arith, here.0, here.1))
     by_side i k m lt is more grown bound old size (inr (j, e)) =
-        let count = ap length grown ∙ length-append (reads_free n.free).spots more in
-        let there : nth_spot more j ≡ Free k m = sym (at_back (reads_free n.free).spots more j no_spot) ∙ sym (ap (nth_spot ((reads_free n.free).spots ++ more)) e) ∙ sym (ap (λ z. nth_spot z i) grown) ∙ is in
+        let count = ap length grown ∙ length-append (reads_free b.free).spots more in
+        let there : nth_spot more j ≡ Free k m = sym (at_back (reads_free b.free).spots more j no_spot) ∙ sym (ap (nth_spot ((reads_free b.free).spots ++ more)) e) ∙ sym (ap (λ z. nth_spot z i) grown) ∙ is in
         absurd (subst IsBound there (all_at IsBound more j no_spot bound (omega (arith, lt, e, count))))

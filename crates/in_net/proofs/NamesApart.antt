@@ -6,14 +6,13 @@ use Rattle.std.proofs.lemmas.Slice.Eq.{bytes_eq-Decides}
 use Rattle.in_syntax.specs.declared.tree.Term.{Term, out-Term}
 use Rattle.in_syntax.specs.declared.tree.Equation.{Equation}
 use Rattle.in_syntax.specs.declared.tree.SourceFree.{SourceFree}
-use Rattle.in_syntax.specs.declared.tree.SourceNet.{SourceNet}
 use Rattle.in_syntax.specs.Sizes.{total, names_in}
-use Rattle.in_symbols.specs.declared.symbols.SymbolNo.{SymbolNo}
 use Rattle.in_symbols.specs.Names.{number_in, name_in}
 use Rattle.in_symbols.specs.Tables.{Tables, arity_of}
 use Rattle.in_symbols.proofs.Absent.{absent}
 use Rattle.in_net.specs.declared.reading.Reading.{Reading}
-use Rattle.in_net.specs.Reading.{with_agent, with_joint, with_name, reader_of, reads_arguments, reads_equation, reads_equations, reads_free, reads_free_from, reads_free_end, nothing_read, reading_of}
+use Rattle.in_net.specs.Reading.{with_agent, with_joint, with_name, reader_of, reads_arguments, reads_equation, reads_equations, reads_heads, with_ends, ends_of, reads_free, reads_free_from, reads_free_end, nothing_read, reading_of}
+use Rattle.in_net.specs.TextNet.{Body, LeftHead}
 use Rattle.in_net.proofs.Folds.{names_out, read_agent, read_occurrence}
 use Rattle.in_net.proofs.Linked.{front_or_back, at_front, at_back}
 
@@ -86,5 +85,17 @@ free_apart : (k : ℕ) (fs : List SourceFree) (r : Reading) → AreApart r.names
 free_apart k [] r apart = apart
 free_apart k (f ∷ fs) r apart = free_apart (k + 1) fs (reads_free_end k f r) (with_name_apart r.names f.name.text apart)
 
-pub names_apart : (t : Tables) (n : SourceNet) → AreApart (reading_of t n).names
-names_apart t n = equations_apart t n.equations (reads_free n.free) (free_apart 0 n.free nothing_read (λ m n lt. absurd (omega (arith, lt))))
+heads_apart : (t : Tables) (hs : List LeftHead) (r : Reading) → AreApart r.names → AreApart (reads_heads t hs r).names
+heads_apart t [] r apart = apart
+heads_apart t (h ∷ hs) r apart =
+    heads_apart t hs (reads_arguments h.first (map (reader_of t) h.head.terms) 0 r)
+    (arguments_apart t (total (map names_in h.head.terms)) (terms_apart t (total (map names_in h.head.terms))) h.head.terms h.first 0 r (omega arith) apart)
+
+ends_apart : (r : Reading) (n : ℕ) → AreApart r.names → AreApart (with_ends r n).names
+ends_apart r zero apart = apart
+ends_apart r (suc n) apart = apart
+
+pub names_apart : (t : Tables) (b : Body) → AreApart (reading_of t b).names
+names_apart t b =
+    equations_apart t b.equations (reads_heads t b.heads (with_ends (reads_free b.free) (ends_of t b.heads)))
+    (heads_apart t b.heads (with_ends (reads_free b.free) (ends_of t b.heads)) (ends_apart (reads_free b.free) (ends_of t b.heads) (free_apart 0 b.free nothing_read (λ m n lt. absurd (omega (arith, lt))))))

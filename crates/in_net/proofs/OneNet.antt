@@ -1,20 +1,18 @@
 -- A text has one net, and whole parts are a net.
-use Rattle.std.proofs.Common.{◌≡◌, ◌≢◌, ◌⊎◌, inl, inr, ℕ, zero, suc, ◌+◌, ◌<◌, ◌≤◌, List, [], ◌∷◌, length, map, Option, Some, None, IsSome, IsSomeAnd, option_map, option_and_then, slice_get, refl, sym, ◌∙◌, ap, subst, arith}
+use Rattle.std.proofs.Common.{◌≡◌, ◌≢◌, ◌⊎◌, inl, inr, ℕ, zero, suc, ◌+◌, ◌<◌, ◌≤◌, List, [], ◌∷◌, length, Option, Some, None, IsSome, IsSomeAnd, option_map, option_and_then, slice_get, refl, sym, ◌∙◌, ap, subst, arith}
 use Rattle.std.specs.List.{AllByRecursion}
 use Rattle.in_syntax.specs.declared.tree.SourceFree.{SourceFree}
 use Rattle.in_syntax.specs.declared.tree.SourceNet.{SourceNet}
-use Rattle.in_symbols.specs.declared.symbols.PortType.{PortType}
 use Rattle.in_symbols.specs.declared.symbols.SymbolNo.{SymbolNo}
 use Rattle.in_symbols.specs.Tables.{Tables, arity_of}
-use Rattle.in_net.specs.declared.nets.AgentNo.{AgentNo}
 use Rattle.in_net.specs.declared.nets.Cell.{Cell}
 use Rattle.in_net.specs.declared.nets.FreeEnd.{FreeEnd}
 use Rattle.in_net.specs.declared.nets.Point as coded
 use Rattle.in_net.specs.declared.nets.Point.TheVariants as code
 use Rattle.in_net.specs.Built.{IsOver, IsCellOver}
 use Rattle.in_net.specs.Laws.{AreOneNet}
-use Rattle.in_net.specs.Nets.{Point, Port, Free, Net, IsPoint, IsNet, net_of, signature_of, point_of, coded_point}
-use Rattle.in_net.specs.Parts.{Parts, IsWhole, IsPointOf, cell_in, partner_in, symbol_in, free_type_in, free_name_in}
+use Rattle.in_net.specs.Nets.{Point, Port, Free, IsPoint, IsNet, net_of, signature_of, point_of, coded_point}
+use Rattle.in_net.specs.Parts.{Parts, IsWhole, IsPointOf, cell_in, partner_in}
 use Rattle.in_net.specs.TextNet.{Written, AreCellsFor, AreFreeOf, body_of, IsWireOf, IsNetOf, IsAmong, spot_at}
 use Rattle.std.proofs.lemmas.List.{length-map}
 use Rattle.in_net.proofs.Linked.{same_or_not}
@@ -75,8 +73,8 @@ same_count t (f ∷ fs) (e ∷ es) [] a b = absurd b
 same_count t (f ∷ fs) (e ∷ es) (d ∷ ds) a b = ap suc (same_count t fs es ds a.1 b.1)
 
 same_point : (t : Tables) (text : SourceNet) (n m : Parts) → IsNetOf t text n → IsNetOf t text m → (p : coded.Point) → IsPointOf n p → IsPointOf m p
-same_point t text n m h k (code.Port x i) there = same_ends t _ n.cells m.cells x.0 i h.points.agents k.points.agents there
-same_point t text n m h k (code.Free j) there = omega (arith, there, same_count t text.free n.free m.free h.points.free k.points.free)
+same_point t text n m h k (code.Port x i) there = same_ends t _ n.cells m.cells x.0 i h.agents.agents k.agents.agents there
+same_point t text n m h k (code.Free j) there = omega (arith, there, same_count t text.free n.free m.free h.free k.free)
 
 same_spot : (n m : Parts) (p : coded.Point) → n.places ≡ m.places → spot_at n p ≡ spot_at m p
 same_spot n m (code.Port x i) e = ap (λ places. spot_at (record m { places = places }) (code.Port x i)) e
@@ -84,13 +82,13 @@ same_spot n m (code.Free k) e = refl
 
 pub one_net : (t : Tables) (text : SourceNet) (n m : Parts) → IsNetOf t text n → IsNetOf t text m → AreOneNet n m
 one_net t text n m h k =
-    let places : n.places ≡ m.places = h.points.places ∙ sym k.points.places in
+    let places : n.places ≡ m.places = h.agents.places ∙ sym k.agents.places in
     record {
       points = same_point t text n m h k;
-      symbols = λ x. same_symbols t _ n.cells m.cells x h.points.agents k.points.agents;
+      symbols = λ x. same_symbols t _ n.cells m.cells x h.agents.agents k.agents.agents;
       places = places;
-      types = λ j. same_types t text.free n.free m.free j h.points.free k.points.free;
-      names = λ j. same_names t text.free n.free m.free j h.points.free k.points.free;
+      types = λ j. same_types t text.free n.free m.free j h.free k.free;
+      names = λ j. same_names t text.free n.free m.free j h.free k.free;
       partners = λ p x y e f.
           let wire = k.wires.partners p y f in
           sym (h.wires.only p x (spot_at m y) wire.0 e (subst (λ s. IsWireOf t (body_of text) s (spot_at m y) wire.0) (sym (same_spot n m p places)) wire.1));

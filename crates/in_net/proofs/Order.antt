@@ -1,30 +1,34 @@
 -- The spots of names stand in the order of the text.
-use Rattle.std.proofs.Common.{◌≡◌, ◌≢◌, ℕ, zero, suc, ◌+◌, ◌<◌, ◌≤◌, Bool, true, false, ◌&&◌, ◌||◌, List, [], ◌∷◌, ◌++◌, length, map, Option, Some, None, refl, sym, ◌∙◌, ap, subst, arith, append_assoc, append-nil, is_some, get_or}
+use Rattle.std.proofs.Common.{◌≡◌, ℕ, zero, suc, ◌+◌, ◌<◌, ◌≤◌, true, List, [], ◌∷◌, ◌++◌, length, map, Option, Some, None, refl, sym, ◌∙◌, ap, subst, arith, append_assoc, append-nil}
 use Rattle.std.specs.List.{AllByRecursion, flat_map}
 use Rattle.in_syntax.specs.declared.places.Place.{Place}
 use Rattle.in_syntax.specs.declared.tree.Term.{Term, out-Term}
 use Rattle.in_syntax.specs.declared.tree.Term.TheFolds.{fold_out-Term}
 use Rattle.in_syntax.specs.declared.tree.Equation.{Equation}
 use Rattle.in_syntax.specs.declared.tree.SourceFree.{SourceFree}
-use Rattle.in_syntax.specs.declared.tree.SourceNet.{SourceNet}
 use Rattle.in_syntax.specs.Sizes.{total, names_in}
-use Rattle.in_syntax.specs.Order.{Rises, term_places, equation_places, IsInOrder}
+use Rattle.in_syntax.specs.declared.tree.SourceRule.{SourceRule}
+use Rattle.in_syntax.specs.declared.tree.SourceNet.{SourceNet}
+use Rattle.in_syntax.specs.Order.{Rises, term_places, equation_places, IsInOrder, IsRuleInOrder}
 use Rattle.in_symbols.specs.declared.symbols.SymbolNo.{SymbolNo}
 use Rattle.in_net.specs.declared.reading.Spot.{Spot}
-use Rattle.in_net.specs.declared.reading.Spot.TheVariants.{Port, Free, Occurrence}
+use Rattle.in_net.specs.declared.reading.Spot.TheVariants.{Port, Free, End, Occurrence}
 use Rattle.in_net.specs.declared.reading.Reading.{Reading}
 use Rattle.in_symbols.specs.Names.{number_in}
-use Rattle.in_symbols.specs.Tables.{Tables, arity_of, is_none, all_true, heads_known, HeadsKnown}
+use Rattle.in_symbols.specs.Tables.{Tables, arity_of, all_true, heads_known, HeadsKnown}
 use Rattle.in_net.specs.Building.{nth_spot}
-use Rattle.in_net.specs.Reading.{with_agent, with_joint, number_with, ports_from, reader_of, reads_arguments, reads_equation, reads_equations, reads_free_from, reads_free, reads_free_end, nothing_read, reading_of}
-use Rattle.in_symbols.proofs.Heads.{heads_out}
+use Rattle.in_net.specs.Reading.{with_agent, with_joint, with_ends, boundary_spots, number_with, ports_from, reader_of, reads_arguments, reads_equation, reads_equations, reads_heads, reads_free_from, reads_free, reads_free_end, nothing_read, ends_of, reading_of}
+use Rattle.in_net.specs.TextNet.{Body, LeftHead, body_of, heads_at}
 use Rattle.in_net.proofs.Folds.{names_out, read_agent, read_occurrence}
+use Rattle.in_net.proofs.HeadsOf.{two, arguments_known, no_arguments}
+use Rattle.in_net.proofs.Known.{AreHeadsKnown, IsBodyKnown, all_known}
 
 -- the place of a name, at the spot of its occurrence or of its agent's principal port
 abbrev pub root_place : Spot → List Place
 root_place (Port a zero p) = p ∷ []
 root_place (Port a (suc i) p) = []
 root_place (Free k m) = []
+root_place (End k) = []
 root_place (Occurrence m p) = p ∷ []
 
 abbrev pub root_places : List Spot → List Place
@@ -48,19 +52,6 @@ one_root agent at n =
 places_out : (u : Term) → term_places u ≡ (out-Term u).name.place ∷ flat_map (λ ps. ps) (map term_places (out-Term u).args)
 places_out = fold_out-Term (List Place) (λ f. f.name.place ∷ flat_map (λ ps. ps) f.args)
 
-two : (a b : Bool) → (a && b) ≡ true → (a ≡ true) × (b ≡ true)
-two true true e = (refl, refl)
-two true false e = cc
-two false b e = cc
-
-or_false : (b : Bool) → (b || false) ≡ b
-or_false true = refl
-or_false false = refl
-
-no_arguments : (t : Tables) (us : List Term) → is_none (map (heads_known t.names) us) ≡ true → us ≡ []
-no_arguments t [] e = refl
-no_arguments t (u ∷ us) e = cc
-
 abbrev RootsRead : Tables → ℕ → Type 0
 RootsRead t h = (u : Term) (r : Reading) → names_in u ≤ h → heads_known t.names u ≡ true → root_places ((reader_of t u).reads r).0.spots ≡ root_places r.spots ++ term_places u
 
@@ -77,10 +68,7 @@ arguments_roots t h ih (u ∷ us) first port r short heads =
 term_roots : (t : Tables) (h : ℕ) → RootsRead t h → (u : Term) (r : Reading) → names_in u ≤ suc h → heads_known t.names u ≡ true → (o : Option ℕ) → number_in (out-Term u).name.text t.names ≡ o →
     root_places ((reader_of t u).reads r).0.spots ≡ root_places r.spots ++ term_places u
 term_roots t h ih u r short heads None is =
-    let both = two (is_none (map (heads_known t.names) (out-Term u).args) || is_some (number_in (out-Term u).name.text t.names)) (all_true (map (heads_known t.names) (out-Term u).args)) (sym (heads_out t.names u) ∙ heads) in
-    let alone : is_none (map (heads_known t.names) (out-Term u).args) ≡ true =
-    sym (or_false (is_none (map (heads_known t.names) (out-Term u).args))) ∙ ap (λ (o : Option ℕ). is_none (map (heads_known t.names) (out-Term u).args) || is_some o) (sym is) ∙ both.0 in
-    let none = no_arguments t (out-Term u).args alone in
+    let none = no_arguments t.names u heads is in
     let spot : Spot = Occurrence (number_with r.names (out-Term u).name.text) (out-Term u).name.place in
     ap (λ (p : Reading × ℕ). root_places p.0.spots) (read_occurrence t u r is) ∙ roots_append r.spots (spot ∷ [])
     ∙ ap (λ z. root_places r.spots ++ z) (sym (places_out u ∙ ap (λ us. (out-Term u).name.place ∷ flat_map (λ ps. ps) (map term_places us)) none))
@@ -89,9 +77,9 @@ term_roots t h ih u r short heads (Some s) is =
     let place : Place = (out-Term u).name.place in
     let ports : List Spot = ports_from (length r.agents) (out-Term u).name.place 0 (arity_of t s + 1) in
     let out = names_out u in
-    let both = two (is_none (map (heads_known t.names) (out-Term u).args) || is_some (number_in (out-Term u).name.text t.names)) (all_true (map (heads_known t.names) (out-Term u).args)) (sym (heads_out t.names u) ∙ heads) in
+    let known = arguments_known t.names u heads in
     ap (λ (p : Reading × ℕ). root_places p.0.spots) (read_agent t u r symbol is)
-    ∙ arguments_roots t h ih (out-Term u).args (length r.spots) 1 (with_agent r symbol (arity_of t s) place) (omega (arith, out, short)) both.1
+    ∙ arguments_roots t h ih (out-Term u).args (length r.spots) 1 (with_agent r symbol (arity_of t s) place) (omega (arith, out, short)) known
     ∙ ap (λ z. z ++ flat_map (λ ps. ps) (map term_places (out-Term u).args)) (roots_append r.spots ports ∙ ap (λ z. root_places r.spots ++ z) (one_root (length r.agents) place (arity_of t s)))
     ∙ append_assoc (root_places r.spots) (place ∷ []) (flat_map (λ ps. ps) (map term_places (out-Term u).args))
     ∙ ap (λ z. root_places r.spots ++ z) (sym (places_out u))
@@ -165,10 +153,50 @@ names_rise (e ∷ es) h =
     subst Rises (sym (append_assoc (term_places e.left) (term_places e.right) (name_places es)))
     (without_middle (term_places e.left) (term_places e.right ++ name_places es) e.tilde (subst Rises (append_assoc (term_places e.left) (e.tilde ∷ term_places e.right) (name_places es)) names))
 
--- what is read of a net stands in the order of its text
-pub roots_rise : (t : Tables) (n : SourceNet) → HeadsKnown t.names n.equations → IsInOrder n → Rises (root_places (reading_of t n).spots)
-roots_rise t n heads order =
-    subst Rises (sym (equations_roots t n.equations (reads_free n.free) heads ∙ ap (λ z. z ++ name_places n.equations) (free_roots 0 n.free nothing_read))) (names_rise n.equations order)
+-- without the heads' own names
+abbrev pub name_places_in : List LeftHead → List Place
+name_places_in = flat_map (λ h. flat_map term_places h.head.terms)
+
+all_places : (us : List Term) → flat_map (λ ps. ps) (map term_places us) ≡ flat_map term_places us
+all_places [] = refl
+all_places (u ∷ us) = ap (λ z. term_places u ++ z) (all_places us)
+
+heads_roots : (t : Tables) (hs : List LeftHead) (r : Reading) → AreHeadsKnown t hs → root_places (reads_heads t hs r).spots ≡ root_places r.spots ++ name_places_in hs
+heads_roots t [] r known = sym (append-nil (root_places r.spots))
+heads_roots t (h ∷ hs) r known =
+    heads_roots t hs (reads_arguments h.first (map (reader_of t) h.head.terms) 0 r) known.1
+    ∙ ap (λ z. z ++ name_places_in hs)
+    (arguments_roots t (total (map names_in h.head.terms)) (roots_read t (total (map names_in h.head.terms))) h.head.terms h.first 0 r (omega arith) (all_known t h.head.terms known.0) ∙ ap (λ z. root_places r.spots ++ z) (all_places h.head.terms))
+    ∙ append_assoc (root_places r.spots) (flat_map term_places h.head.terms) (name_places_in hs)
+
+ends_rootless : (k n : ℕ) → root_places (boundary_spots k n) ≡ []
+ends_rootless k zero = refl
+ends_rootless k (suc n) = ends_rootless (k + 1) n
+
+roots_ends : (r : Reading) (n : ℕ) → root_places (with_ends r n).spots ≡ root_places r.spots
+roots_ends r zero = refl
+roots_ends r (suc n) = roots_append r.spots (boundary_spots (length r.spots) (suc n)) ∙ ap (λ z. root_places r.spots ++ z) (ends_rootless (length r.spots) (suc n)) ∙ append-nil (root_places r.spots)
+
+-- the places of all names of a body but those of heads
+abbrev pub body_places : Body → List Place
+body_places b = name_places_in b.heads ++ name_places b.equations
+
+-- what is read of a body stands in the order of its text
+pub roots_rise : (t : Tables) (b : Body) → IsBodyKnown t b → Rises (body_places b) → Rises (root_places (reading_of t b).spots)
+roots_rise t b known order =
+    let ends : Reading = with_ends (reads_free b.free) (ends_of t b.heads) in
+    let none : root_places (with_ends (reads_free b.free) (ends_of t b.heads)).spots ≡ [] = roots_ends (reads_free b.free) (ends_of t b.heads) ∙ free_roots 0 b.free nothing_read in
+    subst Rises (sym (equations_roots t b.equations (reads_heads t b.heads ends) known.equations ∙ ap (λ z. z ++ name_places b.equations) (heads_roots t b.heads ends known.heads ∙ ap (λ z. z ++ name_places_in b.heads) none))) order
+
+pub net_rises : (n : SourceNet) → IsInOrder n → Rises (body_places (body_of n))
+net_rises n order = names_rise n.equations order
+
+pub rule_rises : (r : SourceRule) (first second : ℕ) → IsRuleInOrder r → Rises (body_places (record { free = []; heads = heads_at r first second; equations = [] }))
+rule_rises r first second order =
+    let xs : List Place = flat_map term_places r.first.terms in
+    let ys : List Place = flat_map term_places r.second.terms in
+    let all : Rises (flat_map term_places r.first.terms ++ flat_map term_places r.second.terms) = without_middle (flat_map term_places r.first.terms) (flat_map term_places r.second.terms) r.second.name.place order.1 in
+    subst Rises (ap (λ z. flat_map term_places r.first.terms ++ z) (sym (append-nil (flat_map term_places r.second.terms))) ∙ sym (append-nil _)) all
 
 -- ---- and so two occurrences have different places
 

@@ -1,7 +1,7 @@
 -- The points of the spots that are joined, and their partners.
-use Rattle.std.proofs.Common.{◌≡◌, ◌≢◌, ◌⊎◌, inl, inr, ℕ, zero, suc, ◌+◌, ◌<◌, ◌≤◌, Bool, true, false, List, [], ◌∷◌, ◌++◌, length, map, Option, Some, None, slice_get, option_map, option_and_then, refl, sym, ◌∙◌, ap, subst, arith, get_or}
+use Rattle.std.proofs.Common.{◌≡◌, ◌≢◌, ◌⊎◌, inl, inr, ℕ, zero, suc, ◌+◌, ◌<◌, ◌≤◌, List, [], ◌∷◌, length, Option, Some, None, slice_get, option_map, option_and_then, refl, sym, ◌∙◌, ap, subst, arith}
+use Rattle.std.proofs.lemmas.Option.{slice_get-map}
 use Rattle.in_syntax.specs.declared.places.Place.{Place}
-use Rattle.in_syntax.specs.declared.tree.SourceFree.{SourceFree}
 use Rattle.in_symbols.specs.Tables.{Tables, arity_of}
 use Rattle.in_net.specs.declared.reading.Spot.{Spot}
 use Rattle.in_net.specs.declared.reading.Spot.TheVariants as spot
@@ -14,10 +14,9 @@ use Rattle.in_net.specs.declared.nets.Point.TheVariants.{Port, Free}
 use Rattle.in_net.specs.declared.nets.Cell.{Cell}
 use Rattle.in_net.specs.declared.nets.FreeEnd.{FreeEnd}
 use Rattle.in_net.specs.declared.nets.Wire.{Wire}
-use Rattle.in_net.specs.Building.{nth_spot, nth_link, nth_agent, IsPointSpot, point_in, IsJoined, partner_of, ends_from, cell_of, cells_of, free_ends_from}
-use Rattle.in_net.specs.Built.{IsNumbered}
+use Rattle.in_net.specs.Building.{nth_spot, nth_link, nth_agent, IsPointSpot, point_in, IsJoined, partner_of, ends_from, cell_of, cells_of}
+use Rattle.in_net.specs.Built.{IsEnd, IsNumbered, AreJoinedTo}
 use Rattle.in_net.specs.Parts.{Parts, as_built, cell_in, partner_in}
-use Rattle.in_net.proofs.Linked.{below_or_not}
 
 -- the point stands at the spot of that number
 pub record Stands (spots : List Spot) (p : Point) (k : ℕ) : Type 0 where
@@ -28,6 +27,7 @@ pub record Stands (spots : List Spot) (p : Point) (k : ℕ) : Type 0 where
 is_point_or_not : (s : Spot) → IsPointSpot s ⊎ (IsPointSpot s → ⊥)
 is_point_or_not (spot.Port a i p) = inl tt
 is_point_or_not (spot.Free k m) = inl tt
+is_point_or_not (spot.End k) = inl tt
 is_point_or_not (spot.Occurrence m p) = inr (λ x. x)
 
 module _ (spots : List Spot) (links : List Link) (joined : IsJoined spots links) where
@@ -79,19 +79,15 @@ no_cell t spots links [] a c e = cc
 no_cell t spots links (x ∷ agents) zero c e = omega arith
 no_cell t spots links (x ∷ agents) (suc a) c e = let less = no_cell t spots links agents a c e in omega (arith, less)
 
-nth_free : (t : Tables) (spots : List Spot) (links : List Link) (from : ℕ) (fs : List SourceFree) (k : ℕ) → k < length fs → option_map (λ (f : FreeEnd). f.end) (slice_get (free_ends_from t spots links from fs) k) ≡ Some (partner_of spots links (from + k))
-nth_free t spots links from [] k lt = absurd (omega (arith, lt))
-nth_free t spots links from (f ∷ fs) zero lt = let e : from ≡ from + 0 = omega arith in ap (λ k. Some (partner_of spots links k)) e
-nth_free t spots links from (f ∷ fs) (suc k) lt = let e : from + 1 + k ≡ from + suc k = omega arith in nth_free t spots links (from + 1) fs k (omega (arith, lt)) ∙ ap (λ k. Some (partner_of spots links k)) e
+nth_free : (spots : List Spot) (links : List Link) (free : List FreeEnd) → AreJoinedTo spots links free → (k : ℕ) → k < length free → option_map (λ (f : FreeEnd). f.end) (slice_get free k) ≡ Some (partner_of spots links k)
+nth_free spots links free same k lt =
+    let zero_on : 0 + k ≡ k = omega arith in
+    sym (slice_get-map (λ (f : FreeEnd). f.end) free k) ∙ ap (λ z. slice_get z k) same ∙ nth_end spots links 0 (length free) k lt ∙ ap (λ k. Some (partner_of spots links k)) zero_on
 
-no_free : (t : Tables) (spots : List Spot) (links : List Link) (from : ℕ) (fs : List SourceFree) (k : ℕ) (q : Point) → option_map (λ (f : FreeEnd). f.end) (slice_get (free_ends_from t spots links from fs) k) ≡ Some q → k < length fs
-no_free t spots links from [] k q e = cc
-no_free t spots links from (f ∷ fs) zero q e = omega arith
-no_free t spots links from (f ∷ fs) (suc k) q e = let less = no_free t spots links (from + 1) fs k q e in omega (arith, less)
-
-pub length-free_ends : (t : Tables) (spots : List Spot) (links : List Link) (from : ℕ) (fs : List SourceFree) → length (free_ends_from t spots links from fs) ≡ length fs
-length-free_ends t spots links from [] = refl
-length-free_ends t spots links from (f ∷ fs) = ap suc (length-free_ends t spots links (from + 1) fs)
+no_free : (free : List FreeEnd) (k : ℕ) (q : Point) → option_map (λ (f : FreeEnd). f.end) (slice_get free k) ≡ Some q → k < length free
+no_free [] k q e = cc
+no_free (f ∷ fs) zero q e = omega arith
+no_free (f ∷ fs) (suc k) q e = let less = no_free fs k q e in omega (arith, less)
 
 abbrev agent_no : ℕ → AgentNo
 agent_no a = record { 0 = a }
@@ -100,9 +96,9 @@ some_same : {X : Type 0} (x y : X) → Some x ≡ Some y → x ≡ y
 some_same x y e = cc
 
 -- the net of what was read and joined
-module _ (t : Tables) (fs : List SourceFree) (r : Reading) (links : List Link) (numbered : IsNumbered t (length fs) r) (joined : IsJoined r.spots links) (wires : List Wire) (places : List Place) where
+module _ (t : Tables) (free : List FreeEnd) (r : Reading) (links : List Link) (numbered : IsNumbered t (length free) r) (joined : IsJoined r.spots links) (ends : AreJoinedTo r.spots links free) (wires : List Wire) (places : List Place) where
   abbrev net : Parts
-  net = as_built (cells_of t r.spots links r.agents) (free_ends_from t r.spots links 0 fs) wires places
+  net = as_built (cells_of t r.spots links r.agents) free wires places
 
   cell_here : (a : ℕ) → a < length r.agents → cell_in net a ≡ Some (cell_of t r.spots links (nth_agent r.agents a))
   cell_here a lt = ap (option_and_then {T = Option Cell} {U = Cell} (λ c. c)) (nth_cell t r.spots links r.agents a lt)
@@ -111,6 +107,9 @@ module _ (t : Tables) (fs : List SourceFree) (r : Reading) (links : List Link) (
   pub only_one : (p : Point) (k l : ℕ) → Stands r.spots p k → Stands r.spots p l → k ≡ l
   only_one p k l h g = by_spots (nth_spot r.spots k) (nth_spot r.spots l) refl refl h.point g.point (h.is ∙ sym g.is)
     where
+      one_end : (a c : ℕ) → IsEnd (nth_spot r.spots k) a → IsEnd (nth_spot r.spots l) c → a ≡ c → k ≡ l
+      one_end a c x y same = let one = numbered.end k a h.inside x in let other = numbered.end l c g.inside y in omega (arith, one.0, other.0, same)
+
       by_spots : (s u : Spot) → nth_spot r.spots k ≡ s → nth_spot r.spots l ≡ u → IsPointSpot s → IsPointSpot u → point_in s ≡ point_in u → k ≡ l
       by_spots (spot.Port a i x) (spot.Port c j y) e f m n same =
           let one = numbered.port k a i x h.inside e in
@@ -120,30 +119,33 @@ module _ (t : Tables) (fs : List SourceFree) (r : Reading) (links : List Link) (
           let place : i ≡ j = cc in
           sym one.number ∙ ap (λ z. (nth_agent r.agents z).first + i) agent ∙ ap (λ z. (nth_agent r.agents c).first + z) place ∙ other.number
       by_spots (spot.Port a i x) (spot.Free c j) e f m n same = cc
+      by_spots (spot.Port a i x) (spot.End c) e f m n same = cc
       by_spots (spot.Port a i x) (spot.Occurrence c y) e f m n same = absurd n
       by_spots (spot.Free a i) (spot.Port c j y) e f m n same = cc
-      by_spots (spot.Free a i) (spot.Free c j) e f m n same =
-          let one = numbered.end k a i h.inside e in
-          let other = numbered.end l c j g.inside f in
-          let number : a ≡ c = cc in
-          omega (arith, one.0, other.0, number)
+      by_spots (spot.Free a i) (spot.Free c j) e f m n same = let number : a ≡ c = cc in one_end a c (subst (λ s. IsEnd s a) (sym e) refl) (subst (λ s. IsEnd s c) (sym f) refl) number
+      by_spots (spot.Free a i) (spot.End c) e f m n same = let number : a ≡ c = cc in one_end a c (subst (λ s. IsEnd s a) (sym e) refl) (subst (λ s. IsEnd s c) (sym f) refl) number
       by_spots (spot.Free a i) (spot.Occurrence c y) e f m n same = absurd n
+      by_spots (spot.End a) (spot.Port c j y) e f m n same = cc
+      by_spots (spot.End a) (spot.Free c j) e f m n same = let number : a ≡ c = cc in one_end a c (subst (λ s. IsEnd s a) (sym e) refl) (subst (λ s. IsEnd s c) (sym f) refl) number
+      by_spots (spot.End a) (spot.End c) e f m n same = let number : a ≡ c = cc in one_end a c (subst (λ s. IsEnd s a) (sym e) refl) (subst (λ s. IsEnd s c) (sym f) refl) number
+      by_spots (spot.End a) (spot.Occurrence c y) e f m n same = absurd n
       by_spots (spot.Occurrence a x) u e f m n same = absurd m
 
   -- the partner of a point that stands there
   pub partner_at : (p : Point) (k : ℕ) → Stands r.spots p k → partner_in net p ≡ Some (partner_of r.spots links k)
   partner_at p k h = subst (λ p. partner_in net p ≡ Some (partner_of r.spots links k)) h.is (by_spot (nth_spot r.spots k) refl h.point)
     where
+      at_end : (j : ℕ) → IsEnd (nth_spot r.spots k) j → partner_in net (Free j) ≡ Some (partner_of r.spots links k)
+      at_end j e = let end = numbered.end k j h.inside e in nth_free r.spots links free ends j end.1 ∙ ap (λ z. Some (partner_of r.spots links z)) end.0
+
       by_spot : (s : Spot) → nth_spot r.spots k ≡ s → IsPointSpot s → partner_in net (point_in s) ≡ Some (partner_of r.spots links k)
       by_spot (spot.Port a i x) e m =
           let port = numbered.port k a i x h.inside e in
           ap (option_and_then {T = Cell} {U = Point} (λ c. slice_get c.ends i)) (cell_here a port.agent)
           ∙ nth_end r.spots links (nth_agent r.agents a).first (arity_of t (nth_agent r.agents a).symbol.0 + 1) i (let le = port.place in omega (arith, le))
           ∙ ap (λ z. Some (partner_of r.spots links z)) port.number
-      by_spot (spot.Free j m_) e m =
-          let end = numbered.end k j m_ h.inside e in
-          let at : 0 + j ≡ k = let e_ = end.0 in omega (arith, e_) in
-          nth_free t r.spots links 0 fs j end.1 ∙ ap (λ z. Some (partner_of r.spots links z)) at
+      by_spot (spot.Free j m_) e m = at_end j (subst (λ s. IsEnd s j) (sym e) refl)
+      by_spot (spot.End j) e m = at_end j (subst (λ s. IsEnd s j) (sym e) refl)
       by_spot (spot.Occurrence m_ x) e m = absurd m
 
   -- each point of the net stands somewhere
@@ -161,10 +163,16 @@ module _ (t : Tables) (fs : List SourceFree) (r : Reading) (links : List Link) (
       agent_in None is e = absurd (let wrong : None ≡ Some q = sym (ap (option_and_then {T = Cell} {U = Point} (λ c. slice_get c.ends i)) is) ∙ e in cc)
       agent_in (Some c) is e = no_cell t r.spots links r.agents a.0 c is
   stands_at (Free k) q e =
-      let lt = no_free t r.spots links 0 fs k q e in
+      let lt = no_free free k q e in
       let end = numbered.ends k lt in
-      let stands : Stands r.spots (Free k) k = record { inside = end.0; point = subst IsPointSpot (sym end.1.1) tt; is = ap point_in end.1.1 } in
+      let stands : Stands r.spots (Free k) k = by_end k (nth_spot r.spots k) end.0 refl end.1 in
       (k, stands, some_same q (partner_of r.spots links k) (sym e ∙ partner_at (Free k) k stands))
+    where
+      by_end : (k : ℕ) (s : Spot) → k < length r.spots → nth_spot r.spots k ≡ s → IsEnd s k → Stands r.spots (Free k) k
+      by_end k (spot.Port a i p) lt is h = absurd h
+      by_end k (spot.Free j m) lt is h = record { inside = lt; point = subst IsPointSpot (sym is) tt; is = ap point_in is ∙ ap Free h }
+      by_end k (spot.End j) lt is h = record { inside = lt; point = subst IsPointSpot (sym is) tt; is = ap point_in is ∙ ap Free h }
+      by_end k (spot.Occurrence m p) lt is h = absurd h
 
   pub leads_back : (p q : Point) → partner_in net p ≡ Some q → partner_in net q ≡ Some p
   leads_back p q e =

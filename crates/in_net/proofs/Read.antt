@@ -1,35 +1,27 @@
 -- What is read of a net: its spots, agents and joints are those of the text.
-use Rattle.std.proofs.Common.{◌≡◌, ◌≢◌, ◌⊎◌, inl, inr, ℕ, zero, suc, ◌+◌, ◌*◌, ◌<◌, ◌≤◌, Bool, true, false, ◌&&◌, List, [], ◌∷◌, ◌++◌, length, map, Option, Some, None, IsSome, refl, sym, ◌∙◌, ap, subst, arith, get_or, slice_get, length-append, is_some, cond, unwrap_or, append_assoc, append-nil}
-use Rattle.std.specs.List.{AllByRecursion, list_all}
+use Rattle.std.proofs.Common.{◌≡◌, ◌≢◌, ◌⊎◌, inl, inr, ℕ, zero, suc, ◌+◌, ◌*◌, ◌<◌, ◌≤◌, List, [], ◌∷◌, ◌++◌, length, Option, Some, None, refl, sym, ◌∙◌, ap, subst, arith, get_or, slice_get, length-append, is_some, cond, unwrap_or, append-nil}
+use Rattle.std.specs.List.{AllByRecursion}
 use Rattle.std.specs.Str.{bytes_eq}
 use Rattle.std.proofs.lemmas.List.Quantifiers.{position-Some}
 use Rattle.std.proofs.lemmas.Slice.Eq.{bytes_eq-Decides}
 use Rattle.in_syntax.specs.declared.places.Place.{Place}
-use Rattle.in_syntax.specs.declared.tree.Name.{Name}
 use Rattle.in_syntax.specs.declared.tree.Term.{Term, out-Term}
-use Rattle.in_syntax.specs.declared.tree.Equation.{Equation}
 use Rattle.in_syntax.specs.declared.tree.SourceFree.{SourceFree}
-use Rattle.in_syntax.specs.declared.tree.SourceNet.{SourceNet}
-use Rattle.in_syntax.specs.Sizes.{total, names_in, names_in_equation, names_in_equations}
 use Rattle.in_symbols.specs.declared.symbols.SymbolNo.{SymbolNo}
-use Rattle.in_net.specs.declared.joining.Link.{Link}
 use Rattle.in_net.specs.declared.reading.Spot.{Spot}
-use Rattle.in_net.specs.declared.reading.Spot.TheVariants.{Port, Free, Occurrence}
+use Rattle.in_net.specs.declared.reading.Spot.TheVariants.{Port, Free, End, Occurrence}
 use Rattle.in_net.specs.declared.reading.Agent.{Agent}
 use Rattle.in_net.specs.declared.reading.Reading.{Reading}
 use Rattle.in_symbols.specs.Names.{number_in, name_in}
-use Rattle.in_symbols.specs.Tables.{Tables, arity_of, all_true}
-use Rattle.in_net.specs.Arities.{arities_fit, all_arities_fit}
-use Rattle.in_net.specs.Reading.{with_agent, with_occurrence, with_joint, with_name, number_with, ports_from, reader_of, reads_arguments, reads_equation, reads_equations, reads_free_end, reads_free_from, reads_free, nothing_read, reading_of}
-use Rattle.in_net.specs.Counting.{NamesInside, IsNameInside}
-use Rattle.in_net.specs.Joining.{JointsInside, links_of, with_link}
+use Rattle.in_symbols.specs.Tables.{Tables, arity_of}
+use Rattle.in_net.specs.Reading.{with_agent, with_occurrence, with_joint, with_name, number_with, ports_from, reads_free_end}
+use Rattle.in_net.specs.Counting.{IsNameInside}
+use Rattle.in_net.specs.Joining.{JointsInside, links_of}
 use Rattle.in_net.specs.Building.{no_agent, no_spot, nth_spot, nth_link, nth_agent}
-use Rattle.in_net.specs.Built.{IsPortOf, IsNumbered}
-use Rattle.in_net.specs.TextNet as text
-use Rattle.in_net.specs.TextNet.{Body, IsTermOf, IsPartOf, IsAmong, IsVariable, PlacedJoint, name_of, place_of, spot_of, spot_by}
-use Rattle.in_net.proofs.Folds.{names_out, fits_agent, read_agent, read_occurrence, place_read}
-use Rattle.in_net.proofs.Links.{all_along, all_append, length-with_link}
-use Rattle.in_net.proofs.Linked.{front_or_back, at_front, at_back, at_first, at_second, at_third, stays, added, links_joint, length-links_of}
+use Rattle.in_net.specs.Built.{IsPortOf, IsEnd, IsNumbered}
+use Rattle.in_net.specs.TextNet.{Body, IsTermOf, IsVariable, PlacedJoint, name_of, place_of}
+use Rattle.in_net.proofs.Links.{all_along, all_append}
+use Rattle.in_net.proofs.Linked.{front_or_back, at_front, at_back, links_joint, length-links_of}
 use Rattle.in_net.proofs.Sound.{named, IsLinked, linked_more, linked_joint}
 
 -- the name of that number is the term's, which is no symbol's
@@ -52,6 +44,7 @@ pub record IsFreeAt (b : Body) (names : List (List ℕ)) (k m : ℕ) : Type 0 wh
 abbrev pub IsNamed : Tables → Body → List (List ℕ) → Spot → Type 0
 IsNamed t b names (Port a i p) = Unit {0}
 IsNamed t b names (Free k m) = IsFreeAt b names k m
+IsNamed t b names (End k) = Unit {0}
 IsNamed t b names (Occurrence m p) = IsVariableAt t b names m p
 
 -- what is read so far, with so many names at most
@@ -89,6 +82,7 @@ grows_by names name (Some n) is = ([], ap (λ (o : Option ℕ). cond (is_some o)
 -- names that are added leave those before them
 pub still_named : (t : Tables) (b : Body) (names more : List (List ℕ)) (s : Spot) → IsNamed t b names s → IsNamed t b (names ++ more) s
 still_named t b names more (Port a i p) h = tt
+still_named t b names more (End k) h = tt
 still_named t b names more (Free k m) h = record {
   end = h.end;
   declared = h.declared;
@@ -111,6 +105,7 @@ all_still_named t b names name spots all =
 
 pub name_inside : (t : Tables) (b : Body) (names : List (List ℕ)) (s : Spot) → IsNamed t b names s → IsNameInside (length names) s
 name_inside t b names (Port a i p) h = tt
+name_inside t b names (End k) h = tt
 name_inside t b names (Free k m) h = h.inside
 name_inside t b names (Occurrence m p) h = h.inside
 
@@ -189,11 +184,11 @@ module _ (t : Tables) (free : ℕ) (r : Reading) (numbered : IsNumbered t free r
       let le : j ≤ arity_of t s.0 = omega (arith, lt, e, count) in
       port_new k j a i p e le (sym (new_spot j le) ∙ sym (ap (nth_spot (r.spots ++ ports)) e) ∙ is)
 
-  end_by : (k j m : ℕ) → k < length (r.spots ++ ports) → nth_spot (r.spots ++ ports) k ≡ Free j m → (k < length r.spots) ⊎ ((i : ℕ) × (k ≡ length r.spots + i)) → (j ≡ k) × (j < free)
-  end_by k j m lt is (inl front) = numbered.end k j m front (sym (old_spot k front) ∙ is)
-  end_by k j m lt is (inr (i, e)) =
+  end_by : (k j : ℕ) → k < length (r.spots ++ ports) → IsEnd (nth_spot (r.spots ++ ports) k) j → (k < length r.spots) ⊎ ((i : ℕ) × (k ≡ length r.spots + i)) → (j ≡ k) × (j < free)
+  end_by k j lt is (inl front) = numbered.end k j front (subst (λ s. IsEnd s j) (old_spot k front) is)
+  end_by k j lt is (inr (i, e)) =
       let le : i ≤ arity_of t s.0 = omega (arith, lt, e, count) in
-      absurd (let wrong : Port (length r.agents) i place ≡ Free j m = sym (new_spot i le) ∙ sym (ap (nth_spot (r.spots ++ ports)) e) ∙ is in cc)
+      absurd (subst (λ s. IsEnd s j) (ap (nth_spot (r.spots ++ ports)) e ∙ new_spot i le) is)
 
   ports_by : (a i : ℕ) → a < length (r.agents ++ agent ∷ []) → i ≤ arity_of t (nth_agent (r.agents ++ agent ∷ []) a).symbol.0 → (a < length r.agents) ⊎ ((j : ℕ) × (a ≡ length r.agents + j)) →
       ((nth_agent (r.agents ++ agent ∷ []) a).first + i < length (r.spots ++ ports)) ×
@@ -213,9 +208,9 @@ module _ (t : Tables) (free : ℕ) (r : Reading) (numbered : IsNumbered t free r
   pub numbered_agent : IsNumbered t free then_
   numbered_agent = record {
     port = λ k a i p lt is. port_by k a i p lt is (front_or_back (length r.spots) k);
-    end = λ k j m lt is. end_by k j m lt is (front_or_back (length r.spots) k);
+    end = λ k j lt is. end_by k j lt is (front_or_back (length r.spots) k);
     ports = λ a i lt le. ports_by a i lt le (front_or_back (length r.agents) a);
-    ends = λ k lt. let old = numbered.ends k lt in (omega (arith, old.0, count), (old.1.0, old_spot k old.0 ∙ old.1.1));
+    ends = λ k lt. let old = numbered.ends k lt in (omega (arith, old.0, count), subst (λ s. IsEnd s k) (sym (old_spot k old.0)) old.1);
   }
 
   pub wider_agent : length (r.spots ++ ports) ≡ length r.spots + (arity_of t s.0 + 1)
@@ -260,17 +255,17 @@ module _ (t : Tables) (free : ℕ) (r : Reading) (numbered : IsNumbered t free r
   one_port k a i p never lt is (inl front) = numbered.port k a i p front (sym (before_it k front) ∙ is)
   one_port k a i p never lt is (inr (j, e)) = absurd (never a i p (sym (is_it k j lt e) ∙ is))
 
-  one_end : (k j m : ℕ) → ((j m : ℕ) → s ≡ Free j m → (j ≡ length r.spots) × (j < free)) → k < length (r.spots ++ s ∷ []) → nth_spot (r.spots ++ s ∷ []) k ≡ Free j m → (k < length r.spots) ⊎ ((j : ℕ) × (k ≡ length r.spots + j)) →
+  one_end : (k j : ℕ) → ((j : ℕ) → IsEnd s j → (j ≡ length r.spots) × (j < free)) → k < length (r.spots ++ s ∷ []) → IsEnd (nth_spot (r.spots ++ s ∷ []) k) j → (k < length r.spots) ⊎ ((j : ℕ) × (k ≡ length r.spots + j)) →
       (j ≡ k) × (j < free)
-  one_end k j m only lt is (inl front) = numbered.end k j m front (sym (before_it k front) ∙ is)
-  one_end k j m only lt is (inr (i, e)) = let here = only j m (sym (is_it k i lt e) ∙ is) in (omega (arith, here.0, lt, e, one_more), here.1)
+  one_end k j only lt is (inl front) = numbered.end k j front (subst (λ s. IsEnd s j) (before_it k front) is)
+  one_end k j only lt is (inr (i, e)) = let here = only j (subst (λ s. IsEnd s j) (is_it k i lt e) is) in (omega (arith, here.0, lt, e, one_more), here.1)
 
-  pub numbered_one : ((a i : ℕ) (p : Place) → s ≢ Port a i p) → ((j m : ℕ) → s ≡ Free j m → (j ≡ length r.spots) × (j < free)) → IsNumbered t free and_one
+  pub numbered_one : ((a i : ℕ) (p : Place) → s ≢ Port a i p) → ((j : ℕ) → IsEnd s j → (j ≡ length r.spots) × (j < free)) → IsNumbered t free and_one
   numbered_one never only = record {
     port = λ k a i p lt is. let old = one_port k a i p never lt is (front_or_back (length r.spots) k) in record { agent = old.agent; place = old.place; number = old.number; name = old.name };
-    end = λ k j m lt is. one_end k j m only lt is (front_or_back (length r.spots) k);
+    end = λ k j lt is. one_end k j only lt is (front_or_back (length r.spots) k);
     ports = λ a i lt le. let old = numbered.ports a i lt le in (omega (arith, old.0, one_more), before_it ((nth_agent r.agents a).first + i) old.0 ∙ old.1);
-    ends = λ k lt. let old = numbered.ends k lt in (omega (arith, old.0, one_more), (old.1.0, before_it k old.0 ∙ old.1.1));
+    ends = λ k lt. let old = numbered.ends k lt in (omega (arith, old.0, one_more), subst (λ s. IsEnd s k) (sym (before_it k old.0)) old.1);
   }
 
 pub with_occurrence_read : (t : Tables) (b : Body) (free names : ℕ) (r : Reading) (u : Term) → IsTermOf b u → IsVariable t u → IsRead t b free names r → IsRead t b free (names + 1) (with_occurrence r (out-Term u).name)
@@ -280,7 +275,7 @@ with_occurrence_read t b free names r u there variable read =
     let count : length (r.spots ++ Occurrence (number_with r.names (out-Term u).name.text) (out-Term u).name.place ∷ []) ≡ length r.spots + 1 = length-append r.spots (spot ∷ []) in
     let at = name_there r.names name (number_in name r.names) refl in
     record {
-      numbered = numbered_one t free r read.numbered spot (with_name r.names name) (λ a i p e. cc) (λ j m e. cc);
+      numbered = numbered_one t free r read.numbered spot (with_name r.names name) (λ a i p e. cc) (λ j e. absurd e);
       joints = wider_joints (length r.spots) _ r (omega (arith, count)) read.joints;
       linked = linked_more t b r.spots (spot ∷ []) r.joints read.joints read.linked;
       known = read.known;
@@ -317,58 +312,75 @@ more_names t b free names most r le read = record {
   few_spots = omega (arith, read.few_spots, le);
 }
 
--- ---- a free end
+-- ---- a free or boundary end
+
+-- where only ends are read so far, the next one is added
+module _ (t : Tables) (b : Body) (k : ℕ) (r : Reading) (count : length r.spots ≡ k) (no_agents : r.agents ≡ []) (no_joints : r.joints ≡ []) (read : IsRead t b k 0 r)
+    (s : Spot) (is_end : IsEnd s k) (names : List (List ℕ)) (all : AllByRecursion (IsNamed t b names) r.spots) (named_end : IsNamed t b names s) where
+  abbrev and_end : Reading
+  and_end = record r { spots = r.spots ++ s ∷ []; names = names }
+
+  grown : length (r.spots ++ s ∷ []) ≡ length r.spots + 1
+  grown = length-append r.spots (s ∷ [])
+
+  before : (j : ℕ) → j < length r.spots → nth_spot (r.spots ++ s ∷ []) j ≡ nth_spot r.spots j
+  before j lt = at_front r.spots (s ∷ []) j no_spot lt
+
+  it : (j i : ℕ) → j < length (r.spots ++ s ∷ []) → j ≡ length r.spots + i → nth_spot (r.spots ++ s ∷ []) j ≡ s
+  it j i lt e = is_it t k r read.numbered s names j i lt e
+
+  end_no_port : (u : Spot) (a i j : ℕ) (p : Place) → IsEnd u j → u ≢ Port a i p
+  end_no_port u a i j p h e = subst (λ u. IsEnd u j) e h
+
+  one_number : (u : Spot) (i j : ℕ) → IsEnd u i → IsEnd u j → i ≡ j
+  one_number (Port a x p) i j h g = absurd h
+  one_number (Free x m) i j h g = sym h ∙ g
+  one_number (End x) i j h g = sym h ∙ g
+  one_number (Occurrence m p) i j h g = absurd h
+
+  no_port : (j a i : ℕ) (p : Place) → j < length (r.spots ++ s ∷ []) → nth_spot (r.spots ++ s ∷ []) j ≡ Port a i p → (j < length r.spots) ⊎ ((i : ℕ) × (j ≡ length r.spots + i)) → ⊥
+  no_port j a i p lt e (inl front) =
+      let old = read.numbered.port j a i p front (sym (before j front) ∙ e) in
+      let none = ap length no_agents in
+      absurd (omega (arith, old.agent, none))
+  no_port j a i p lt e (inr (x, f)) = end_no_port s a i k p is_end (sym (it j x lt f) ∙ e)
+
+  end_at : (j i : ℕ) → j < length (r.spots ++ s ∷ []) → IsEnd (nth_spot (r.spots ++ s ∷ []) j) i → (j < length r.spots) ⊎ ((x : ℕ) × (j ≡ length r.spots + x)) → (i ≡ j) × (i < k + 1)
+  end_at j i lt e (inl front) = let old = read.numbered.end j i front (subst (λ u. IsEnd u i) (before j front) e) in (old.0, omega (arith, old.1))
+  end_at j i lt e (inr (x, f)) =
+      let same : k ≡ i = one_number s k i is_end (subst (λ u. IsEnd u i) (it j x lt f) e) in
+      (omega (arith, same, f, lt, grown, count), omega (arith, same))
+
+  ends_at : (j : ℕ) → j < k + 1 → (j < length r.spots) ⊎ ((x : ℕ) × (j ≡ length r.spots + x)) → (j < length (r.spots ++ s ∷ [])) × IsEnd (nth_spot (r.spots ++ s ∷ []) j) j
+  ends_at j lt (inl front) =
+      let old = read.numbered.ends j (omega (arith, front, count)) in
+      (omega (arith, front, grown), subst (λ u. IsEnd u j) (sym (before j front)) old.1)
+  ends_at j lt (inr (x, e)) =
+      let same : k ≡ j = omega (arith, lt, e, count) in
+      let there : j < length (r.spots ++ s ∷ []) = omega (arith, lt, grown, count) in
+      (omega (arith, lt, grown, count), subst (λ u. IsEnd u j) (sym (it j x there e)) (subst (IsEnd s) same is_end))
+
+  pub end_read : IsRead t b (k + 1) 0 and_end
+  end_read = record {
+    numbered = record {
+      port = λ j a i p lt e. absurd (no_port j a i p lt e (front_or_back (length r.spots) j));
+      end = λ j i lt e. end_at j i lt e (front_or_back (length r.spots) j);
+      ports = λ a i lt le. absurd (let none = ap length no_agents in omega (arith, lt, none));
+      ends = λ j lt. ends_at j lt (front_or_back (length r.spots) j);
+    };
+    joints = wider_joints (length r.spots) _ r (omega (arith, grown)) read.joints;
+    linked = linked_more t b r.spots (s ∷ []) r.joints read.joints read.linked;
+    known = read.known;
+    named_as = all_append _ r.spots (s ∷ []) all (named_end, tt);
+    few_agents = read.few_agents;
+    few_spots = omega (arith, grown, count);
+  }
 
 pub free_end_read : (t : Tables) (b : Body) (k : ℕ) (r : Reading) (f : SourceFree) → slice_get b.free k ≡ Some f → length r.spots ≡ k → r.agents ≡ [] → r.joints ≡ [] → IsRead t b k 0 r → IsRead t b (k + 1) 0 (reads_free_end k f r)
 free_end_read t b k r f is count no_agents no_joints read =
-    let spot : Spot = Free k (number_with r.names f.name.text) in
     let at = name_there r.names f.name.text (number_in f.name.text r.names) refl in
-    let grown : length (r.spots ++ spot ∷ []) ≡ length r.spots + 1 = length-append r.spots (spot ∷ []) in
-    let before : (j : ℕ) → j < length r.spots → nth_spot (r.spots ++ spot ∷ []) j ≡ nth_spot r.spots j = λ j lt. at_front r.spots (spot ∷ []) j no_spot lt in
-    let last : nth_spot (r.spots ++ spot ∷ []) k ≡ spot = let e : k ≡ length r.spots + 0 = omega (arith, count) in ap (nth_spot (r.spots ++ spot ∷ [])) e ∙ at_back r.spots (spot ∷ []) 0 no_spot in
-    record {
-      numbered = record {
-        port = λ j a i p lt e. absurd (no_port j a i p lt e (front_or_back (length r.spots) j));
-        end = λ j i m lt e. end_at j i m lt e (front_or_back (length r.spots) j);
-        ports = λ a i lt le. absurd (let none = ap length no_agents in omega (arith, lt, none));
-        ends = λ j lt. ends_at j lt (front_or_back (length r.spots) j) before last;
-      };
-      joints = wider_joints (length r.spots) _ r (omega (arith, grown)) read.joints;
-      linked = linked_more t b r.spots (spot ∷ []) r.joints read.joints read.linked;
-      known = read.known;
-      named_as = all_append _ r.spots (spot ∷ []) (all_still_named t b r.names f.name.text r.spots read.named_as) (record { end = f; declared = is; name = at.1; inside = at.0 }, tt);
-      few_agents = read.few_agents;
-      few_spots = omega (arith, grown, count);
-    }
-  where
-    spot : Spot
-    spot = Free k (number_with r.names f.name.text)
+    end_read t b k r count no_agents no_joints read (Free k (number_with r.names f.name.text)) refl (with_name r.names f.name.text) (all_still_named t b r.names f.name.text r.spots read.named_as)
+    (record { end = f; declared = is; name = at.1; inside = at.0 })
 
-    it : (j i : ℕ) → j < length (r.spots ++ spot ∷ []) → j ≡ length r.spots + i → nth_spot (r.spots ++ spot ∷ []) j ≡ spot
-    it j i lt e = is_it t k r read.numbered spot (with_name r.names f.name.text) j i lt e
-
-    no_port : (j a i : ℕ) (p : Place) → j < length (r.spots ++ spot ∷ []) → nth_spot (r.spots ++ spot ∷ []) j ≡ Port a i p → (j < length r.spots) ⊎ ((i : ℕ) × (j ≡ length r.spots + i)) → ⊥
-    no_port j a i p lt e (inl front) =
-        let old = read.numbered.port j a i p front (sym (at_front r.spots (spot ∷ []) j no_spot front) ∙ e) in
-        let none = ap length no_agents in
-        absurd (omega (arith, old.agent, none))
-    no_port j a i p lt e (inr (x, f_)) = let wrong : spot ≡ Port a i p = sym (it j x lt f_) ∙ e in cc
-
-    end_at : (j i m : ℕ) → j < length (r.spots ++ spot ∷ []) → nth_spot (r.spots ++ spot ∷ []) j ≡ Free i m → (j < length r.spots) ⊎ ((x : ℕ) × (j ≡ length r.spots + x)) → (i ≡ j) × (i < k + 1)
-    end_at j i m lt e (inl front) = let old = read.numbered.end j i m front (sym (at_front r.spots (spot ∷ []) j no_spot front) ∙ e) in (old.0, omega (arith, old.1))
-    end_at j i m lt e (inr (x, f_)) =
-        let here : spot ≡ Free i m = sym (it j x lt f_) ∙ e in
-        let same : k ≡ i = cc in
-        let grown : length (r.spots ++ spot ∷ []) ≡ length r.spots + 1 = length-append r.spots (spot ∷ []) in
-        (omega (arith, same, f_, lt, grown, count), omega (arith, same))
-
-    ends_at : (j : ℕ) → j < k + 1 → (j < length r.spots) ⊎ ((x : ℕ) × (j ≡ length r.spots + x)) → ((j : ℕ) → j < length r.spots → nth_spot (r.spots ++ spot ∷ []) j ≡ nth_spot r.spots j) → nth_spot (r.spots ++ spot ∷ []) k ≡ spot →
-        (j < length (r.spots ++ spot ∷ [])) × ((m : ℕ) × (nth_spot (r.spots ++ spot ∷ []) j ≡ Free j m))
-    ends_at j lt (inl front) before last =
-        let old = read.numbered.ends j (omega (arith, front, count)) in
-        let grown : length (r.spots ++ spot ∷ []) ≡ length r.spots + 1 = length-append r.spots (spot ∷ []) in
-        (omega (arith, front, grown), (old.1.0, before j front ∙ old.1.1))
-    ends_at j lt (inr (x, e)) before last =
-        let same : k ≡ j = omega (arith, lt, e, count) in
-        let grown : length (r.spots ++ spot ∷ []) ≡ length r.spots + 1 = length-append r.spots (spot ∷ []) in
-        (omega (arith, lt, grown, count), subst (λ j. (m : ℕ) × (nth_spot (r.spots ++ spot ∷ []) j ≡ Free j m)) same (number_with r.names f.name.text, last))
+pub boundary_end_read : (t : Tables) (b : Body) (k : ℕ) (r : Reading) → length r.spots ≡ k → r.agents ≡ [] → r.joints ≡ [] → IsRead t b k 0 r → IsRead t b (k + 1) 0 (record r { spots = r.spots ++ End k ∷ [] })
+boundary_end_read t b k r count no_agents no_joints read = end_read t b k r count no_agents no_joints read (End k) refl r.names read.named_as tt

@@ -1,10 +1,9 @@
 -- A program's symbols have at most eight auxiliary ports.
-use Rattle.std.proofs.Common.{◌≡◌, ℕ, zero, suc, ◌+◌, ◌-◌, ◌≤◌, List, [], ◌∷◌, length, arith, subst, sym, slice_get}
-use Rattle.std.specs.List.{AllByRecursion}
+use Rattle.std.proofs.Common.{ℕ, zero, suc, ◌≤◌, List, [], ◌∷◌, arith, subst, sym, slice_get}
 use Rattle.in_syntax.specs.declared.tree.Source.{Source}
 use Rattle.in_syntax.specs.Sizes.{IsSized}
 use Rattle.in_symbols.specs.declared.symbols.Shape.{Shape}
-use Rattle.in_symbols.specs.Tables.{Tables, IsShape, AreShapes, arity_in, arity_of, type_names, IsTabled}
+use Rattle.in_symbols.specs.Tables.{Tables, AreShapes, arity_in, arity_of, type_names, IsTabled}
 use Rattle.in_symbols.proofs.Shapes.{are_shapes}
 use Rattle.in_net.proofs.Terms.{AreSmall}
 

@@ -1,23 +1,22 @@
 -- What two spots of a reading are joined by is a joint of the text.
-use Rattle.std.proofs.Common.{◌≡◌, ◌≢◌, ◌⊎◌, inl, inr, ℕ, zero, suc, ◌+◌, ◌<◌, ◌≤◌, List, [], ◌∷◌, ◌++◌, length, length-append, refl, sym, ◌∙◌, ap, subst, arith, get_or}
+use Rattle.std.proofs.Common.{◌≡◌, ◌≢◌, ◌⊎◌, inl, inr, ℕ, ◌+◌, ◌<◌, ◌≤◌, List, ◌++◌, length, length-append, sym, ◌∙◌, ap, subst, arith}
 use Rattle.in_syntax.specs.declared.places.Place.{Place}
 use Rattle.in_net.specs.declared.joining.Link.{Link}
 use Rattle.in_net.specs.declared.reading.Joint.{Joint}
 use Rattle.in_net.specs.declared.reading.Spot.{Spot}
-use Rattle.in_net.specs.declared.reading.Spot.TheVariants.{Port, Free, Occurrence}
-use Rattle.in_net.specs.declared.reading.Reading.{Reading}
+use Rattle.in_net.specs.declared.reading.Spot.TheVariants.{Port, Free, End, Occurrence}
 use Rattle.in_symbols.specs.Tables.{Tables}
 use Rattle.in_net.specs.Building.{nth_link, nth_spot, no_spot}
-use Rattle.in_net.specs.Joining.{self_link, self_links, with_link, with_joints, links_of, JointsInside}
-use Rattle.in_net.specs.Reading.{with_joint}
+use Rattle.in_net.specs.Joining.{self_link, self_links, with_link, with_joints, JointsInside}
 use Rattle.in_net.specs.TextNet as text
 use Rattle.in_net.specs.TextNet.{Body, PlacedJoint}
-use Rattle.in_net.proofs.Linked.{same_or_not, front_or_back, at_front, at_first, at_second, at_third, length-links_of, links_joint, stays, added}
+use Rattle.in_net.proofs.Linked.{same_or_not, front_or_back, at_front, at_first, at_second, at_third, stays, added}
 
 -- the spot of the text
 abbrev pub named : Spot → text.Spot
 named (Port a i p) = text.port_at p i
 named (Free k m) = text.free_end k
+named (End k) = text.free_end k
 named (Occurrence m p) = text.occurrence p
 
 abbrev pub joined : List Spot → List Joint → List Link

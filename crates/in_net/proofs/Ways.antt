@@ -1,18 +1,15 @@
 -- The wires of a text that are joined so far, as the spots of a reading lead to each other.
-use Rattle.std.proofs.Common.{◌≡◌, ◌≢◌, ◌⊎◌, inl, inr, ℕ, zero, suc, ◌+◌, ◌<◌, ◌≤◌, Bool, true, false, cond, nat_lt, List, [], ◌∷◌, ◌++◌, length, Option, Some, None, slice_get, refl, sym, ◌∙◌, ap, subst, arith, get_or, ltb-true}
-use Rattle.std.specs.List.{AllByRecursion}
+use Rattle.std.proofs.Common.{◌≡◌, ◌≢◌, ◌⊎◌, inl, inr, ℕ, ◌<◌, Bool, true, false, cond, nat_lt, List, ◌++◌, length, Some, refl, sym, ◌∙◌, ap, subst, arith, get_or, ltb-true}
 use Rattle.in_syntax.specs.declared.places.Place.{Place}
-use Rattle.in_syntax.specs.declared.tree.Term.{Term}
 use Rattle.in_symbols.specs.Tables.{Tables}
 use Rattle.in_net.specs.declared.reading.Spot.{Spot}
-use Rattle.in_net.specs.declared.reading.Spot.TheVariants.{Port, Free, Occurrence}
-use Rattle.in_net.specs.declared.joining.Link.{Link}
+use Rattle.in_net.specs.declared.reading.Spot.TheVariants.{Port, Free, End, Occurrence}
 use Rattle.in_net.specs.declared.joining.Joining.{Joining}
 use Rattle.in_net.specs.declared.counting.Seen.{Seen}
 use Rattle.in_net.specs.declared.counting.Seen.TheVariants.{Never, Once, Twice, Often}
 use Rattle.in_net.specs.Counting as counting
 use Rattle.in_net.specs.Building.{nth_link, nth_spot}
-use Rattle.in_net.specs.Joining.{self_link, start_place, later_of}
+use Rattle.in_net.specs.Joining.{self_link, later_of}
 use Rattle.in_net.specs.TextNet as text
 use Rattle.in_net.specs.TextNet.{Body, Kind, placed, of_name, NameJoint, IsOccurrence, Chain, IsLastOf, IsClosedWireOf, name_of, place_of}
 use Rattle.in_net.proofs.Sound.{named}
@@ -32,12 +29,14 @@ IsMet Often = Unit {0}
 abbrev pub kind_of : Spot → Kind
 kind_of (Port a i p) = placed
 kind_of (Free k m) = of_name
+kind_of (End k) = placed
 kind_of (Occurrence m p) = placed
 
--- a spot is an end of what is joined so far: a port, a free end whose name was met, an occurrence whose name wasn't
+-- a spot is an end of what is joined so far: a port, a boundary end, a free end whose name was met, an occurrence whose name wasn't
 abbrev pub IsOpen : List Seen → Spot → Type 0
 IsOpen seen (Port a i p) = Unit {0}
 IsOpen seen (Free k m) = IsMet (nth_seen seen m)
+IsOpen seen (End k) = Unit {0}
 IsOpen seen (Occurrence m p) = IsMet (nth_seen seen m) → ⊥
 
 -- a chain of the text leads from one to the other, and stands at that place
@@ -69,6 +68,7 @@ pub record IsJoiningAt (t : Tables) (b : Body) (spots : List Spot) (names at : �
 -- a spot with a name is an occurrence or a free end
 pub spot_named : (s : Spot) (m : ℕ) → counting.name_of s ≡ Some m → ((p : Place) × (s ≡ Occurrence m p)) ⊎ ((k : ℕ) × (s ≡ Free k m))
 spot_named (Port a i p) m e = cc
+spot_named (End k) m e = cc
 spot_named (Free k n) m e = inr (k, (let same : n ≡ m = cc in ap (λ n. Free k n) same))
 spot_named (Occurrence n p) m e = inl (p, (let same : n ≡ m = cc in ap (λ n. Occurrence n p) same))
 

@@ -1,19 +1,16 @@
 -- The parts that were read and joined are whole: each point is in exactly one wire.
-use Rattle.std.proofs.Common.{◌≡◌, ◌≢◌, ◌⊎◌, inl, inr, ℕ, zero, suc, ◌+◌, ◌*◌, ◌<◌, ◌≤◌, Bool, true, false, ◌&&◌, ◌==◌, cond, nat_lt, List, [], ◌∷◌, ◌++◌, length, length-append, map, Option, Some, None, option_map, slice_get, refl, sym, ◌∙◌, ap, subst, arith, get_or, Contains, IsPermutation, ltb-true, ltb-false}
+use Rattle.std.proofs.Common.{◌≡◌, ◌≢◌, ◌⊎◌, inl, inr, ℕ, zero, suc, ◌+◌, ◌<◌, ◌≤◌, Bool, true, false, ◌&&◌, ◌==◌, cond, nat_lt, List, [], ◌∷◌, ◌++◌, length, length-append, map, Option, Some, None, option_map, slice_get, refl, sym, ◌∙◌, ap, subst, arith, get_or, Contains, ltb-true, ltb-false}
 use Rattle.std.specs.Prelude.{option_to_list}
 use Rattle.std.specs.List.{AllByRecursion, IsDistinct}
-use Rattle.std.proofs.lemmas.Bool.{eqb-true, eqb-false, true≢false}
+use Rattle.std.proofs.lemmas.Bool.{eqb-true, true≢false}
 use Rattle.std.proofs.lemmas.Bool.Decides.{Decides-eqb}
 use Rattle.std.specs.Bool.{one_answer, Decides}
 use Rattle.std.proofs.lemmas.List.{length-map}
 use Rattle.std.proofs.lemmas.List.Sorted.{All-permutation, Contains-permutation, length_permutation}
 use Rattle.std.proofs.lemmas.List.Elements.{recursion_from_All, All-from_recursion, Contains-append_left, Contains-append_right}
 use Rattle.std.proofs.lemmas.Map.Keys.{IsDistinct-IsPermutation}
-use Rattle.std.proofs.lemmas.Option.{slice_get-get_or, slice_get_within}
+use Rattle.std.proofs.lemmas.Option.{slice_get-get_or}
 use Rattle.in_syntax.specs.declared.places.Place.{Place}
-use Rattle.in_syntax.specs.declared.tree.Source.{Source}
-use Rattle.in_syntax.specs.declared.tree.SourceFree.{SourceFree}
-use Rattle.in_syntax.specs.Sizes.{IsSized, names_in_equations}
 use Rattle.in_symbols.specs.Tables.{Tables}
 use Rattle.in_net.specs.declared.reading.Spot.{Spot}
 use Rattle.in_net.specs.declared.reading.Reading.{Reading}
@@ -22,12 +19,13 @@ use Rattle.in_net.specs.declared.nets.AgentNo.{AgentNo}
 use Rattle.in_net.specs.declared.nets.Point.{Point}
 use Rattle.in_net.specs.declared.nets.Point.TheVariants.{Port, Free}
 use Rattle.in_net.specs.declared.nets.Wire.{Wire}
-use Rattle.in_net.specs.Building.{nth_spot, nth_link, IsPointSpot, point_in, IsJoined, partner_of, cell_of, cells_of, free_ends_from, wire_of, wires_from}
-use Rattle.in_net.specs.Built.{IsNumbered, IsReadFrom, AreListedOf}
+use Rattle.in_net.specs.Building.{nth_spot, nth_link, point_in, IsJoined, partner_of, cell_of, cells_of, wire_of, wires_from}
+use Rattle.in_net.specs.declared.nets.FreeEnd.{FreeEnd}
+use Rattle.in_net.specs.Built.{IsNumbered, IsReadFrom, AreJoinedTo, AreListedOf}
 use Rattle.in_net.specs.Parts.{Parts, IsWhole, IsWireBetween, as_built, partner_in, wire_in, wire_place_in}
 use Rattle.in_net.proofs.Linked.{same_or_not, below_or_not}
 use Rattle.in_net.proofs.Links.{all_append}
-use Rattle.in_net.proofs.Points.{Stands, to_of, point_here, point_to, partner_stands, partner_back, only_one, partner_at, stands_at, leads_back, never_itself, length-free_ends}
+use Rattle.in_net.proofs.Points.{Stands, to_of, point_here, partner_stands, partner_back, only_one, partner_at, stands_at, leads_back, never_itself}
 
 -- ---- the wires that are found, one for each spot that is joined to a later one
 
@@ -119,7 +117,7 @@ is_false : (b : Bool) → (b ≡ true → ⊥) → b ≡ false
 is_false true h = absurd (h refl)
 is_false false h = refl
 
-module _ (t : Tables) (fs : List SourceFree) (r : Reading) (links : List Link) (read : (p : Point) (k l : ℕ) → Stands r.spots p k → Stands r.spots p l → k ≡ l) (joined : IsJoined r.spots links) where
+module _ (t : Tables) (r : Reading) (links : List Link) (read : (p : Point) (k l : ℕ) → Stands r.spots p k → Stands r.spots p l → k ≡ l) (joined : IsJoined r.spots links) where
   -- the two points of a found wire, where they stand
   one_stands : (from k : ℕ) (w : Wire) → IsFoundAt r.spots links from k w → Stands r.spots w.one k
   one_stands from k w f = record {
@@ -187,16 +185,16 @@ some_pair {X} {Y} a c b d e = let same : ◌≡◌ {A = X × Y} (a, b) (c, d) = 
 no_pair : {Y : Type 0} (y : Y) → ◌≡◌ {A = Option Y} None (Some y) → ⊥
 no_pair y e = cc
 
-module _ (t : Tables) (fs : List SourceFree) (r : Reading) (links : List Link) (numbered : IsNumbered t (length fs) r) (joined : IsJoined r.spots links) (wires : List Wire) (places : List Place)
+module _ (t : Tables) (free : List FreeEnd) (r : Reading) (links : List Link) (numbered : IsNumbered t (length free) r) (joined : IsJoined r.spots links) (ends : AreJoinedTo r.spots links free) (wires : List Wire) (places : List Place)
     (listed : AreListedOf (wires_from r.spots links 0 (length r.spots)) wires) where
   abbrev found : List Wire
   found = wires_from r.spots links 0 (length r.spots)
 
   abbrev net : Parts
-  net = as_built (cells_of t r.spots links r.agents) (free_ends_from t r.spots links 0 fs) wires places
+  net = as_built (cells_of t r.spots links r.agents) free wires places
 
   only : (p : Point) (k l : ℕ) → Stands r.spots p k → Stands r.spots p l → k ≡ l
-  only = only_one t fs r links numbered joined wires places
+  only = only_one t free r links numbered joined ends wires places
 
   all_listed : AllByRecursion (IsFound r.spots links 0) wires
   all_listed =
@@ -204,7 +202,7 @@ module _ (t : Tables) (fs : List SourceFree) (r : Reading) (links : List Link) (
       (All-permutation (IsFound r.spots links 0) found wires listed.same (All-from_recursion (IsFound r.spots links 0) found (all_found r.spots links 0 (length r.spots) (omega arith))))
 
   distinct : IsDistinct same_one wires
-  distinct = IsDistinct-IsPermutation same_one (λ v w. turns v.one w.one) found wires listed.same (distinct_found t fs r links only joined 0 (length r.spots) (omega arith))
+  distinct = IsDistinct-IsPermutation same_one (λ v w. turns v.one w.one) found wires listed.same (distinct_found t r links only joined 0 (length r.spots) (omega arith))
 
   -- the wire of that number, and the spot where it was found
   pub record IsWireAt (w : ℕ) (p q : Point) : Type 0 where
@@ -236,8 +234,8 @@ module _ (t : Tables) (fs : List SourceFree) (r : Reading) (links : List Link) (
       record {
         inside = here.0;
         spot = here.2.3.0;
-        one = subst (λ x. Stands r.spots x here.2.3.0) here.2.1 (one_stands t fs r links only joined 0 k v f);
-        other = subst (λ x. Stands r.spots x (nth_link links here.2.3.0).to) here.2.2 (other_stands t fs r links only joined 0 k v f);
+        one = subst (λ x. Stands r.spots x here.2.3.0) here.2.1 (one_stands t r links only joined 0 k v f);
+        other = subst (λ x. Stands r.spots x (nth_link links here.2.3.0).to) here.2.2 (other_stands t r links only joined 0 k v f);
         later = f.later;
         partner = sym here.2.2 ∙ ap (λ (w : Wire). w.other) f.is;
         listed_one = here.1;
@@ -245,7 +243,7 @@ module _ (t : Tables) (fs : List SourceFree) (r : Reading) (links : List Link) (
       }
 
   partners_of : (w : ℕ) (p q : Point) → wire_in net w ≡ Some (p, q) → partner_in net p ≡ Some q
-  partners_of w p q e = let at = wire_at w p q e in partner_at t fs r links numbered joined wires places p at.spot at.one ∙ ap Some (sym at.partner)
+  partners_of w p q e = let at = wire_at w p q e in partner_at t free r links numbered joined ends wires places p at.spot at.one ∙ ap Some (sym at.partner)
 
   -- the number of a found wire
   number_of : (k : ℕ) → k < length r.spots → k < (nth_link links k).to → (w : ℕ) × (wire_in net w ≡ Some (point_in (nth_spot r.spots k), partner_of r.spots links k))
@@ -255,7 +253,7 @@ module _ (t : Tables) (fs : List SourceFree) (r : Reading) (links : List Link) (
 
   listed_of : (p q : Point) → partner_in net p ≡ Some q → (w : ℕ) × IsWireBetween net w p q
   listed_of p q e =
-      let at = stands_at t fs r links numbered joined wires places p q e in
+      let at = stands_at t free r links numbered joined ends wires places p q e in
       by_side at.0 at.1 at.2 (below_or_not at.0 (nth_link links at.0).to)
     where
       by_side : (k : ℕ) → Stands r.spots p k → q ≡ partner_of r.spots links k → (k < (nth_link links k).to) ⊎ ((nth_link links k).to ≤ k) → (w : ℕ) × IsWireBetween net w p q
@@ -304,19 +302,16 @@ module _ (t : Tables) (fs : List SourceFree) (r : Reading) (links : List Link) (
   once_of v w p q (inr a) (inl b) = absurd (not_turned v w q p a b)
   once_of v w p q (inr a) (inr b) = same_number v w q p a b
 
-  pub whole : (source : Source) → fs ≡ source.net.free → IsSized source → IsReadFrom source t r → places ≡ map (λ a. a.place) r.agents → IsWhole net
-  whole source is sized read at_places =
+  pub whole : IsReadFrom t (length free) r → places ≡ map (λ a. a.place) r.agents → IsWhole net
+  whole read at_places =
       let agents : length (cells_of t r.spots links r.agents) ≡ length r.agents = length-map r.agents (λ a. Some (cell_of t r.spots links a)) in
-      let ends = length-free_ends t r.spots links 0 fs in
-      let same = ap length is in
-      let s = sized.free in
-      let n = sized.names in
+      let few = few_found r.spots links 0 (length r.spots) in
       record {
-        agents = omega (arith, agents, read.few_agents, n);
-        ends = omega (arith, ends, same, s);
-        wires = omega (arith, length_permutation found wires listed.same, few_found r.spots links 0 (length r.spots), read.few_spots, s, n);
-        back = leads_back t fs r links numbered joined wires places;
-        apart = never_itself t fs r links numbered joined wires places;
+        agents = let n = read.few_agents in omega (arith, agents, n);
+        ends = let n = read.few_free in omega (arith, n);
+        wires = let n = read.few_spots in omega (arith, length_permutation found wires listed.same, few, n);
+        back = leads_back t free r links numbered joined ends wires places;
+        apart = never_itself t free r links numbered joined ends wires places;
         listed = listed_of;
         partners = partners_of;
         once = once_of;

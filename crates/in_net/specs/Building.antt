@@ -1,19 +1,17 @@
 -- The parts of a net out of what is read and joined: no public contract names this.
-use Rattle.std.specs.Prelude.{◌≡◌, ◌≢◌, ℕ, zero, suc, ◌+◌, ◌^◌, ◌<◌, ◌≤◌, cond, nat_lt, List, [], ◌∷◌, ◌++◌, length, map, Option, Some, None, option_to_list, slice_index_or}
+use Rattle.std.specs.Prelude.{◌≡◌, ◌≢◌, ℕ, zero, suc, ◌+◌, ◌^◌, ◌<◌, cond, nat_lt, List, [], ◌∷◌, ◌++◌, length, map, Option, Some, None, option_to_list, slice_index_or}
 use Rattle.std.specs.List.{AllByRecursion}
-use Rattle.in_syntax.specs.declared.places.Place.{Place}
 use Rattle.in_syntax.specs.declared.tree.SourceFree.{SourceFree}
 use Rattle.in_net.specs.declared.reading.Spot.{Spot}
 use Rattle.in_net.specs.declared.reading.Spot.TheVariants as spot
 use Rattle.in_net.specs.declared.reading.Agent.{Agent}
-use Rattle.in_net.specs.declared.reading.Reading.{Reading}
 use Rattle.in_net.specs.declared.joining.Link.{Link}
 use Rattle.in_net.specs.declared.nets.Point.{Point}
 use Rattle.in_net.specs.declared.nets.Point.TheVariants.{Port, Free}
 use Rattle.in_net.specs.declared.nets.Cell.{Cell}
 use Rattle.in_net.specs.declared.nets.FreeEnd.{FreeEnd}
 use Rattle.in_net.specs.declared.nets.Wire.{Wire}
-use Rattle.in_symbols.specs.Tables.{Tables, arity_of, port_of}
+use Rattle.in_symbols.specs.Tables.{Tables, arity_of, port_of, port_at}
 use Rattle.in_net.specs.declared.counting.Seen.{Seen}
 use Rattle.in_net.specs.declared.counting.Seen.TheVariants.{Never, Twice}
 use Rattle.in_net.specs.Counting.{name_of}
@@ -43,21 +41,25 @@ AreTwice spots seen = (i m : ℕ) → i < length spots → name_of (nth_spot spo
 abbrev pub point_of : Spot → Option Point
 point_of (spot.Port a i p) = Some (Port (record { 0 = a }) i)
 point_of (spot.Free k m) = Some (Free k)
+point_of (spot.End k) = Some (Free k)
 point_of (spot.Occurrence m p) = None
 
 abbrev pub IsPointSpot : Spot → Type 0
 IsPointSpot (spot.Port a i p) = Unit {0}
 IsPointSpot (spot.Free k m) = Unit {0}
+IsPointSpot (spot.End k) = Unit {0}
 IsPointSpot (spot.Occurrence m p) = ⊥
 
 abbrev pub point_in : Spot → Point
 point_in (spot.Port a i p) = Port (record { 0 = a }) i
 point_in (spot.Free k m) = Free k
+point_in (spot.End k) = Free k
 point_in (spot.Occurrence m p) = Free 0
 
 abbrev pub IsSmall : Spot → Type 0
 IsSmall (spot.Port a i p) = a < 2 ^ 32
 IsSmall (spot.Free k m) = k < 2 ^ 32
+IsSmall (spot.End k) = k < 2 ^ 32
 IsSmall (spot.Occurrence m p) = Unit {0}
 
 abbrev pub AreSmallSpots : List Spot → Type 0
@@ -100,3 +102,12 @@ wire_of spots links at =
 abbrev pub wires_from : List Spot → List Link → ℕ → ℕ → List Wire
 wires_from spots links at zero = []
 wires_from spots links at (suc n) = option_to_list (wire_of spots links at) ++ wires_from spots links (at + 1) n
+
+-- the boundary ends at the places of a symbol, from the place after so many on
+abbrev pub boundary_from : Tables → List Spot → List Link → ℕ → ℕ → ℕ → ℕ → List FreeEnd
+boundary_from t spots links s i k zero = []
+boundary_from t spots links s i k (suc n) = record { name = []; kind = port_at t s (i + 1); end = partner_of spots links k } ∷ boundary_from t spots links s (i + 1) (k + 1) n
+
+-- the boundary ends of a symbol, the first of which has that number
+abbrev pub boundary_of : Tables → List Spot → List Link → ℕ → ℕ → List FreeEnd
+boundary_of t spots links s k = boundary_from t spots links s 0 k (arity_of t s)

@@ -1,11 +1,12 @@
 -- What building a net answers.
-use Rattle.std.specs.Prelude.{◌≡◌, ℕ, suc, ◌+◌, ◌*◌, ◌<◌, ◌≤◌, Bool, true, List, length, map, Result, Ok, Err, Option, Some, None, IsPermutation}
+use Rattle.std.specs.Prelude.{◌≡◌, ℕ, ◌+◌, ◌*◌, ◌<◌, ◌≤◌, true, List, length, map, Result, Ok, Err, Option, Some, None, IsPermutation}
 use Rattle.std.specs.List.{AllByRecursion}
 use Rattle.std.specs.List.Sorted.{IsNonDecreasingBy}
 use Rattle.in_syntax.specs.declared.faults.Fault.{Fault}
 use Rattle.in_syntax.specs.declared.places.Place.{Place}
 use Rattle.in_syntax.specs.declared.tree.Source.{Source}
-use Rattle.in_syntax.specs.Sizes.{names_in_equations}
+use Rattle.in_syntax.specs.Grammar.{max_free}
+use Rattle.in_syntax.specs.Sizes.{most_bytes}
 use Rattle.in_net.specs.declared.reading.Reading.{Reading}
 use Rattle.in_net.specs.declared.reading.Agent.{Agent}
 use Rattle.in_net.specs.declared.reading.Spot.{Spot}
@@ -15,9 +16,10 @@ use Rattle.in_net.specs.declared.nets.Cell.{Cell}
 use Rattle.in_net.specs.declared.nets.Wire.{Wire}
 use Rattle.in_net.specs.Parts.{Parts}
 use Rattle.in_symbols.specs.Tables.{Tables, arity_of}
-use Rattle.in_net.specs.Building.{nth_spot, nth_agent, IsPointSpot, AreSmallSpots, cells_of, free_ends_from, wires_from}
-use Rattle.in_net.specs.TextNet.{IsNetOf}
-use Rattle.in_net.specs.NetFaults.{IsFirstNetFault, HasNoNetFault}
+use Rattle.in_net.specs.declared.nets.FreeEnd.{FreeEnd}
+use Rattle.in_net.specs.Building.{nth_spot, nth_agent, IsPointSpot, AreSmallSpots, ends_from, cells_of, wires_from}
+use Rattle.in_net.specs.TextNet.{body_of, IsNetOf}
+use Rattle.in_net.specs.NetFaults.{max_agents, IsFirstNetFault, HasNoNetFault}
 use Rattle.in_syntax.specs.declared.faults.Code.TheVariants.{E09}
 use Rattle.in_syntax.specs.declared.faults.Fault.TheVariants.{Refused, Memory}
 
@@ -36,32 +38,44 @@ pub record IsPortOf (t : Tables) (r : Reading) (k a i : ℕ) (p : Place) : Type 
   pub number : (nth_agent r.agents a).first + i ≡ k
   pub name : p ≡ (nth_agent r.agents a).place
 
+-- the spot is the free or boundary end of that number
+abbrev pub IsEnd : Spot → ℕ → Type 0
+IsEnd (spot.Port a i p) j = ⊥
+IsEnd (spot.Free k m) j = k ≡ j
+IsEnd (spot.End k) j = k ≡ j
+IsEnd (spot.Occurrence m p) j = ⊥
+
 -- which spots stand for which points
 pub record IsNumbered (t : Tables) (free : ℕ) (r : Reading) : Type 0 where
   pub port : (k a i : ℕ) (p : Place) → k < length r.spots → nth_spot r.spots k ≡ spot.Port a i p → IsPortOf t r k a i p
-  pub end : (k j m : ℕ) → k < length r.spots → nth_spot r.spots k ≡ spot.Free j m → (j ≡ k) × (j < free)
+  pub end : (k j : ℕ) → k < length r.spots → IsEnd (nth_spot r.spots k) j → (j ≡ k) × (j < free)
   pub ports : (a i : ℕ) → a < length r.agents → i ≤ arity_of t (nth_agent r.agents a).symbol.0 →
       ((nth_agent r.agents a).first + i < length r.spots) × (nth_spot r.spots ((nth_agent r.agents a).first + i) ≡ spot.Port a i (nth_agent r.agents a).place)
-  pub ends : (k : ℕ) → k < free → (k < length r.spots) × ((m : ℕ) × (nth_spot r.spots k ≡ spot.Free k m))
+  pub ends : (k : ℕ) → k < free → (k < length r.spots) × IsEnd (nth_spot r.spots k) k
 
--- what was read is in range, and not too much
-pub record IsReadFrom (source : Source) (t : Tables) (r : Reading) : Type 0 where
-  pub numbered : IsNumbered t (length source.net.free) r
+-- what was read, with so many free or boundary ends, is in range, and not too much
+pub record IsReadFrom (t : Tables) (free : ℕ) (r : Reading) : Type 0 where
+  pub numbered : IsNumbered t free r
   pub agents : AgentsOf t r.spots r.agents
-  pub free : ArePointsAt r.spots 0 (length source.net.free)
+  pub free_points : ArePointsAt r.spots 0 free
   pub small : AreSmallSpots r.spots
-  pub few_agents : length r.agents ≤ names_in_equations source.net.equations
-  pub few_spots : length r.spots ≤ length source.net.free + 9 * names_in_equations source.net.equations
+  pub few_agents : length r.agents ≤ most_bytes
+  pub few_spots : length r.spots ≤ max_free + 9 * most_bytes
+  pub few_free : free ≤ max_free
 
 -- the same wires, in the order of their places
 pub record AreListedOf (found listed : List Wire) : Type 0 where
   pub same : IsPermutation found listed
   pub by_place : IsNonDecreasingBy (λ w. w.place.from) listed
 
--- the net has the agents, free ends and wires that were read and joined
-pub record Assembles (source : Source) (t : Tables) (r : Reading) (links : List Link) (n : Parts) : Type 0 where
+-- the free ends are joined to what the first spots are joined to
+abbrev pub AreJoinedTo : List Spot → List Link → List FreeEnd → Type 0
+AreJoinedTo spots links free = map (λ f. f.end) free ≡ ends_from spots links 0 (length free)
+
+-- the net has the agents and wires that were read and joined, and these free ends
+pub record Assembles (t : Tables) (r : Reading) (links : List Link) (free : List FreeEnd) (n : Parts) : Type 0 where
   pub cells : n.cells ≡ cells_of t r.spots links r.agents
-  pub free : n.free ≡ free_ends_from t r.spots links 0 source.net.free
+  pub free_ends : n.free ≡ free
   pub wires : AreListedOf (wires_from r.spots links 0 (length r.spots)) n.wires
   pub places : n.places ≡ map (λ a. a.place) r.agents
   pub built : n.built ≡ true
@@ -80,6 +94,6 @@ closed_at p = Refused (record { code = E09; place = p; other = None })
 -- where it is Ok, no fault of agents and names stands, and the net is over the program's tables, and is the net of the text; it is
 -- refused for the first such fault, or, where none stands, for a closed wire
 abbrev pub Builds : Source → Tables → Result Parts Fault → Type 0
-Builds source t (Ok n) = IsOver t n × IsNetOf t source.net n × HasNoNetFault t source.net
+Builds source t (Ok n) = IsOver t n × IsNetOf t source.net n × HasNoNetFault max_agents t (body_of source.net)
 Builds source t (Err (Refused r)) = IsFirstNetFault t source.net r.code r.place × (r.other ≡ None)
 Builds source t (Err (Memory e)) = Unit {0}

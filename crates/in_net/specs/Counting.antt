@@ -1,5 +1,5 @@
 -- How often each name of a net stands: no public contract names this.
-use Rattle.std.specs.Prelude.{◌≡◌, ℕ, zero, suc, ◌+◌, ◌<◌, List, [], ◌∷◌, length, map, Option, Some, None, option_map, slice_get, slice_set, slice_index_or}
+use Rattle.std.specs.Prelude.{ℕ, zero, suc, ◌+◌, ◌<◌, List, [], ◌∷◌, map, Option, Some, None, option_map, slice_get, slice_set, slice_index_or}
 use Rattle.std.specs.List.{AllByRecursion}
 use Rattle.in_syntax.specs.declared.tree.SourceFree.{SourceFree}
 use Rattle.in_symbols.specs.Searching.{earlier, earliest}
@@ -14,6 +14,7 @@ use Rattle.in_net.specs.declared.counting.Seen.TheVariants.{Never, Once, Twice, 
 abbrev pub name_of : Spot → Option ℕ
 name_of (spot.Port a i p) = None
 name_of (spot.Free k m) = Some m
+name_of (spot.End k) = None
 name_of (spot.Occurrence m p) = Some m
 
 abbrev pub seen_again : Seen → ℕ → Seen
@@ -44,6 +45,7 @@ third_time Never s = None
 third_time (Once one) s = None
 third_time Twice (spot.Port a i p) = None
 third_time Twice (spot.Free k m) = None
+third_time Twice (spot.End k) = None
 third_time Twice (spot.Occurrence m p) = Some p
 third_time Often s = None
 
@@ -68,6 +70,7 @@ abbrev pub place_at : List SourceFree → Option Spot → Option Place
 place_at free None = None
 place_at free (Some (spot.Port a i p)) = None
 place_at free (Some (spot.Free k m)) = option_map (λ f. f.name.place) (slice_get free k)
+place_at free (Some (spot.End k)) = None
 place_at free (Some (spot.Occurrence m p)) = Some p
 
 -- the only spot of a name, at its place

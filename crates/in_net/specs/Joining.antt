@@ -1,5 +1,5 @@
 -- How the joints of a text become wires: no public contract names this.
-use Rattle.std.specs.Prelude.{◌≡◌, ℕ, zero, suc, Bool, true, false, cond, nat_lt, ◌==◌, ◌+◌, ◌<◌, ◌≤◌, List, [], ◌∷◌, length, slice_set, slice_index_or, Option, Some, None}
+use Rattle.std.specs.Prelude.{ℕ, zero, suc, cond, nat_lt, ◌==◌, ◌+◌, ◌<◌, List, [], ◌∷◌, length, slice_set, slice_index_or, Option, Some, None}
 use Rattle.std.specs.List.{AllByRecursion}
 use Rattle.in_syntax.specs.declared.places.Place.{Place}
 use Rattle.in_net.specs.declared.reading.Spot.{Spot}

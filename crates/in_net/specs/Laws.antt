@@ -1,5 +1,5 @@
 -- Laws over the definitions of a net.
-use Rattle.std.specs.Prelude.{◌≡◌, ◌≢◌, ℕ, List, map, Some}
+use Rattle.std.specs.Prelude.{◌≡◌, ◌≢◌, ℕ, Some}
 use Rattle.in_syntax.specs.declared.tree.SourceNet.{SourceNet}
 use Rattle.in_net.specs.declared.nets.Point.{Point}
 use Rattle.in_symbols.specs.Tables.{Tables}

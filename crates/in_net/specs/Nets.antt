@@ -1,5 +1,5 @@
 -- Nets over any names of agents. Lafont 1990: agents carry symbols, and each port and each free end is on exactly one wire.
-use Rattle.std.specs.Prelude.{◌≡◌, ◌≢◌, ℕ, suc, ◌<◌, ◌≤◌, List, length, map, Option, Some, None, IsSome, IsSomeAnd, option_map}
+use Rattle.std.specs.Prelude.{◌≡◌, ◌≢◌, ℕ, suc, ◌<◌, ◌≤◌, List, length, map, Option, Some, IsSome, IsSomeAnd, option_map}
 use Rattle.in_symbols.specs.declared.symbols.PortType.{PortType}
 use Rattle.in_net.specs.declared.nets.Point as points
 use Rattle.in_net.specs.declared.nets.Point.TheVariants as point

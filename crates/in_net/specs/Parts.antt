@@ -1,6 +1,5 @@
 -- What contracts see of a net: all that its looking calls read.
-use Rattle.std.specs.Prelude.{◌≡◌, ◌≢◌, ◌⊎◌, ℕ, ◌^◌, ◌<◌, Bool, true, List, length, Option, Some, None, IsSomeAnd, option_map, option_and_then, slice_get}
-use Rattle.std.specs.List.{AllByRecursion}
+use Rattle.std.specs.Prelude.{◌≡◌, ◌≢◌, ◌⊎◌, ℕ, ◌^◌, ◌<◌, Bool, true, List, length, Option, Some, IsSomeAnd, option_map, option_and_then, slice_get}
 use Rattle.in_syntax.specs.declared.places.Place.{Place}
 use Rattle.in_symbols.specs.declared.symbols.PortType.{PortType}
 use Rattle.in_symbols.specs.declared.symbols.SymbolNo.{SymbolNo}

@@ -1,21 +1,19 @@
 -- How a net is read from its text, term by term: no public contract names this.
-use Rattle.std.specs.Prelude.{◌≡◌, ℕ, zero, suc, ◌+◌, List, [], ◌∷◌, ◌++◌, length, map, Option, Some, None, unwrap_or, cond, is_some}
+use Rattle.std.specs.Prelude.{ℕ, zero, suc, ◌+◌, List, [], ◌∷◌, ◌++◌, length, map, Option, Some, None, unwrap_or, cond, is_some}
 use Rattle.in_syntax.specs.declared.places.Place.{Place}
 use Rattle.in_syntax.specs.declared.tree.Name.{Name}
-use Rattle.in_syntax.specs.declared.tree.Term.{Term, out-Term}
+use Rattle.in_syntax.specs.declared.tree.Term.{Term}
 use Rattle.in_syntax.specs.declared.tree.Term.TheOpen.{Term-F}
 use Rattle.in_syntax.specs.declared.tree.Term.TheFolds.{fold-Term}
 use Rattle.in_syntax.specs.declared.tree.Equation.{Equation}
 use Rattle.in_syntax.specs.declared.tree.SourceFree.{SourceFree}
-use Rattle.in_syntax.specs.declared.tree.SourceNet.{SourceNet}
 use Rattle.in_symbols.specs.declared.symbols.SymbolNo.{SymbolNo}
 use Rattle.in_net.specs.declared.reading.Spot.{Spot}
-use Rattle.in_net.specs.declared.reading.Spot.TheVariants.{Port, Free, Occurrence}
-use Rattle.in_net.specs.declared.reading.Agent.{Agent}
-use Rattle.in_net.specs.declared.reading.Joint.{Joint}
+use Rattle.in_net.specs.declared.reading.Spot.TheVariants.{Port, Free, End, Occurrence}
 use Rattle.in_net.specs.declared.reading.Reading.{Reading}
 use Rattle.in_symbols.specs.Names.{number_in}
 use Rattle.in_symbols.specs.Tables.{Tables, arity_of}
+use Rattle.in_net.specs.TextNet.{Body, LeftHead}
 
 abbrev pub nothing_read : Reading
 nothing_read = record { spots = []; agents = []; joints = []; names = [] }
@@ -95,6 +93,29 @@ reads_free_from k (f ∷ fs) r = reads_free_from (k + 1) fs (reads_free_end k f 
 abbrev pub reads_free : List SourceFree → Reading
 reads_free fs = reads_free_from 0 fs nothing_read
 
--- what is read of a net
-abbrev pub reading_of : Tables → SourceNet → Reading
-reading_of t n = reads_equations t n.equations (reads_free n.free)
+-- so many boundary ends from a number on
+abbrev pub boundary_spots : ℕ → ℕ → List Spot
+boundary_spots k zero = []
+boundary_spots k (suc n) = End k ∷ boundary_spots (k + 1) n
+
+abbrev pub with_ends : Reading → ℕ → Reading
+with_ends r zero = r
+with_ends r (suc n) = record r { spots = r.spots ++ boundary_spots (length r.spots) (suc n) }
+
+-- the terms of each head in turn: each is joined to a boundary end, at its first token
+abbrev pub reads_heads : Tables → List LeftHead → Reading → Reading
+reads_heads t [] r = r
+reads_heads t (h ∷ hs) r = reads_heads t hs (reads_arguments h.first (map (reader_of t) h.head.terms) 0 r)
+
+-- a head's symbol has so many auxiliary places
+abbrev pub head_arity : Tables → LeftHead → ℕ
+head_arity t h = arity_of t (unwrap_or (number_in h.head.name.text t.names) 0)
+
+-- the boundary ends of all heads
+abbrev pub ends_of : Tables → List LeftHead → ℕ
+ends_of t [] = 0
+ends_of t (h ∷ hs) = head_arity t h + ends_of t hs
+
+-- what is read of a body
+abbrev pub reading_of : Tables → Body → Reading
+reading_of t b = reads_equations t b.equations (reads_heads t b.heads (with_ends (reads_free b.free) (ends_of t b.heads)))

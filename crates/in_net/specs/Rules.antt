@@ -1,8 +1,26 @@
--- Rules: what contracts see of one.
-use Rattle.std.specs.Prelude.{ℕ, zero, suc}
+-- Rules. Lafont 1990: the left member of a rule is an active pair, written as its two symbols, each with a term for each of its
+-- auxiliary ports; these terms are the right member, a net whose free ends are the auxiliary ports of the two symbols. How boundary
+-- ends are numbered, the codes and the places are this project's own choice.
+use Rattle.std.specs.Prelude.{◌≡◌, ℕ, zero, suc, ◌+◌, ◌≤◌, Bool, true, ◌&&◌, not, cond, List, [], ◌∷◌, ◌++◌, map, Some, None, unwrap_or, slice_get, Result, Ok, Err}
+use Rattle.in_syntax.specs.declared.faults.Fault.{Fault}
+use Rattle.in_syntax.specs.declared.faults.Fault.TheVariants.{Refused, Memory}
 use Rattle.in_syntax.specs.declared.places.Place.{Place}
+use Rattle.in_syntax.specs.declared.tree.Head.{Head}
+use Rattle.in_syntax.specs.declared.tree.Source.{Source}
+use Rattle.in_syntax.specs.declared.tree.SourceRule.{SourceRule}
 use Rattle.in_symbols.specs.declared.symbols.SymbolNo.{SymbolNo}
+use Rattle.in_symbols.specs.Names.{number_in}
+use Rattle.std.specs.List.{AllByRecursion}
+use Rattle.in_symbols.specs.declared.symbols.PortType.{PortType}
+use Rattle.in_syntax.specs.Order.{IsRuleInOrder}
+use Rattle.in_syntax.specs.Sizes.{names_in_rule, most_bytes}
+use Rattle.in_symbols.specs.Tables.{Tables, IsSymbol, IsRuleKnown, arity_of, port_at, is_constructor, matching}
+use Rattle.in_net.specs.Built.{IsOver}
+use Rattle.in_net.specs.NetFaults.{max_member_agents, HasNoNetFault, IsFirstNameFault}
 use Rattle.in_net.specs.Parts.{Parts}
+use Rattle.in_net.specs.TextNet.{Body, heads_at, HasAgentsOf, HasWiresOf}
+
+-- ---- what contracts see of a rule
 
 -- the two symbols in the order of the text, the same with the constructor first, where the heads' names stand in the order of the
 -- text, and the right member
@@ -16,3 +34,80 @@ pub record RuleParts : Type 0 where
 abbrev pub place_of_head : RuleParts → ℕ → Place
 place_of_head r zero = r.head_places.0
 place_of_head r (suc n) = r.head_places.1
+
+-- ---- the rule of a text
+
+-- the symbol of a head's name
+abbrev pub symbol_of : Tables → Head → ℕ
+symbol_of t h = unwrap_or (number_in h.name.text t.names) 0
+
+abbrev pub written_of : Tables → SourceRule → SymbolNo × SymbolNo
+written_of t r = (record { 0 = symbol_of t r.first }, record { 0 = symbol_of t r.second })
+
+-- the constructor is written last
+abbrev pub is_turned : Tables → ℕ → ℕ → Bool
+is_turned t c d = matching t c d && not (is_constructor t c)
+
+-- the two symbols, the constructor first where they match, else as written
+abbrev pub heads_of : Tables → SourceRule → SymbolNo × SymbolNo
+heads_of t r = cond (is_turned t (symbol_of t r.first) (symbol_of t r.second)) ((written_of t r).1, (written_of t r).0) (written_of t r)
+
+-- a rule's body: its heads as they are written. Boundary ends are numbered from 0, first those of the first of the two symbols
+abbrev pub body_of_rule : Tables → SourceRule → Body
+body_of_rule t r =
+    let c = symbol_of t r.first in
+    let d = symbol_of t r.second in
+    record {
+      free = [];
+      heads = heads_at r (cond (is_turned t c d) (arity_of t d) 0) (cond (is_turned t c d) 0 (arity_of t c));
+      equations = [];
+    }
+
+-- the types at so many places from one on, and at all auxiliary places of a symbol
+abbrev pub types_from : Tables → ℕ → ℕ → ℕ → List PortType
+types_from t s i zero = []
+types_from t s i (suc n) = port_at t s i ∷ types_from t s (i + 1) n
+
+abbrev pub auxiliary_types : Tables → ℕ → List PortType
+auxiliary_types t s = types_from t s 1 (arity_of t s)
+
+-- the right member: the agents and wires of the rule's text, and as free ends the auxiliary places of the two symbols, each declared
+-- with that place's type and without a name. That each point is in exactly one of these wires, the net's own invariant says
+pub record IsMemberOf (t : Tables) (r : SourceRule) (m : Parts) : Type 0 where
+  pub agents : HasAgentsOf t (body_of_rule t r) m
+  pub types : map (λ f. f.kind) m.free ≡ auxiliary_types t (heads_of t r).0.0 ++ auxiliary_types t (heads_of t r).1.0
+  pub unnamed : AllByRecursion (λ f. f.name ≡ []) m.free
+  pub wires : HasWiresOf t (body_of_rule t r) m
+
+-- the rule of the text
+pub record IsRuleOf (t : Tables) (r : SourceRule) (p : RuleParts) : Type 0 where
+  pub written : p.written ≡ written_of t r
+  pub heads : p.heads ≡ heads_of t r
+  pub head_places : p.head_places ≡ (r.first.name.place, r.second.name.place)
+  pub member : IsMemberOf t r p.member
+
+-- the rule is over these tables: its symbols are declared, and the right member is a net over them, as built
+pub record IsRuleOver (t : Tables) (p : RuleParts) : Type 0 where
+  pub written : IsSymbol t p.written.0.0 × IsSymbol t p.written.1.0
+  pub heads : IsSymbol t p.heads.0.0 × IsSymbol t p.heads.1.0
+  pub member : IsOver t p.member
+  pub built : p.member.built ≡ true
+
+-- where it is Ok, no fault of agents and names stands, and the rule is over the program's tables, and is that of the text; else it is
+-- refused for the first such fault
+abbrev pub BuildsRuleOf : Tables → SourceRule → Result RuleParts Fault → Type 0
+BuildsRuleOf t r (Ok p) = IsRuleOver t p × IsRuleOf t r p × HasNoNetFault max_member_agents t (body_of_rule t r)
+BuildsRuleOf t r (Err (Refused f)) = IsFirstNameFault max_member_agents t (body_of_rule t r) f.code f.place × (f.other ≡ None)
+BuildsRuleOf t r (Err (Memory e)) = Unit {0}
+
+-- the same of the rule of that number
+abbrev pub BuildsRule : Source → Tables → ℕ → Result RuleParts Fault → Type 0
+BuildsRule source t index answer = (r : SourceRule) × (slice_get source.rules index ≡ Some r) × BuildsRuleOf t r answer
+
+-- what a rule of a parsed and tabled program is: its names are known and stand in order, they are no more than its text has bytes,
+-- and each symbol has few places
+pub record IsReadable (t : Tables) (r : SourceRule) : Type 0 where
+  pub known : IsRuleKnown t.names r
+  pub order : IsRuleInOrder r
+  pub few : names_in_rule r ≤ most_bytes
+  pub small : (s : ℕ) → arity_of t s ≤ 8

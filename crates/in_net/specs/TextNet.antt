@@ -1,14 +1,16 @@
 -- The net that a text has. Lafont 1990 writes a net as equations between terms: a term stands for a point, an agent's for its
 -- principal port, and two occurrences of one variable for one wire. Where a wire stands in the text is this project's own choice.
-use Rattle.std.specs.Prelude.{◌≡◌, ◌≢◌, ◌⊎◌, ◌↔◌, ℕ, suc, ◌+◌, ◌<◌, ◌≤◌, true, List, [], ◌∷◌, ◌++◌, length, map, Option, Some, None, IsSome, slice_get, slice_index_or}
+use Rattle.std.specs.Prelude.{◌≡◌, ◌≢◌, ◌⊎◌, ℕ, suc, ◌+◌, ◌≤◌, true, List, [], ◌∷◌, ◌++◌, length, map, Option, Some, None, IsSome, slice_get, slice_index_or}
 use Rattle.std.specs.List.{AllByRecursion, flat_map}
 use Rattle.std.specs.List.Sorted.{IsNonDecreasingBy}
 use Rattle.in_syntax.specs.declared.places.Place.{Place}
 use Rattle.in_syntax.specs.declared.tree.Term.{Term, out-Term}
 use Rattle.in_syntax.specs.declared.tree.Term.TheFolds.{fold-Term}
 use Rattle.in_syntax.specs.declared.tree.Equation.{Equation}
+use Rattle.in_syntax.specs.declared.tree.Head.{Head}
 use Rattle.in_syntax.specs.declared.tree.SourceFree.{SourceFree}
 use Rattle.in_syntax.specs.declared.tree.SourceNet.{SourceNet}
+use Rattle.in_syntax.specs.declared.tree.SourceRule.{SourceRule}
 use Rattle.in_net.specs.declared.nets.Point.{Point}
 use Rattle.in_net.specs.declared.nets.Point.TheVariants.{Port, Free}
 use Rattle.in_net.specs.declared.nets.Cell.{Cell}
@@ -27,21 +29,31 @@ pub data IsPartOf : Term → Term → Type 0 where
   itself : (u : Term) → IsPartOf u u
   deeper : (u v t : Term) → IsAmong v (out-Term t).args → IsPartOf u v → IsPartOf u t
 
--- what a net's text joins: its free names, its equations, and its boundary ends with the terms that stand there
+-- a head of a rule, and the number of its first boundary end: at each of its symbol's auxiliary places there is one, from left to
+-- right
+pub record LeftHead : Type 0 where
+  pub first : ℕ
+  pub head : Head
+
+-- what a text joins: the free names and the equations of a net, or the heads of a rule
 pub record Body : Type 0 where
   pub free : List SourceFree
+  pub heads : List LeftHead
   pub equations : List Equation
-  pub ends : List (ℕ × Term)
 
--- the initial net has no boundary ends
+-- the heads of a rule as they are written, whose first boundary ends have these numbers
+abbrev pub heads_at : SourceRule → ℕ → ℕ → List LeftHead
+heads_at r first second = record { first = first; head = r.first } ∷ record { first = second; head = r.second } ∷ []
+
+-- the initial net has no heads
 abbrev pub body_of : SourceNet → Body
-body_of n = record { free = n.free; equations = n.equations; ends = [] }
+body_of n = record { free = n.free; heads = []; equations = n.equations }
 
 -- a term of the body
 pub data IsTermOf (b : Body) (u : Term) : Type 0 where
   in_left : (e : Equation) → IsAmong e b.equations → IsPartOf u e.left → IsTermOf b u
   in_right : (e : Equation) → IsAmong e b.equations → IsPartOf u e.right → IsTermOf b u
-  at_end : (k : ℕ) (v : Term) → IsAmong (k, v) b.ends → IsPartOf u v → IsTermOf b u
+  in_head : (h : LeftHead) (v : Term) → IsAmong h b.heads → IsAmong v h.head.terms → IsPartOf u v → IsTermOf b u
 
 abbrev pub name_of : Term → List ℕ
 name_of u = (out-Term u).name.text
@@ -57,8 +69,8 @@ IsAgent t u s = number_in (name_of u) t.names ≡ Some s
 abbrev pub IsVariable : Tables → Term → Type 0
 IsVariable t u = number_in (name_of u) t.names ≡ None
 
--- what is joined in a text: a port of the agent whose name stands at a place, a free end by its number, the occurrence of a
--- variable or free name at a place
+-- what is joined in a text: a port of the agent whose name stands at a place, a free or boundary end by its number, the occurrence
+-- of a variable or free name at a place
 pub data Spot : Type 0 where
   port_at : Place → ℕ → Spot
   free_end : ℕ → Spot
@@ -78,7 +90,7 @@ pub data PlacedJoint (t : Tables) (b : Body) : Spot → Spot → Place → Type 
   of_equation : (e : Equation) → IsAmong e b.equations → PlacedJoint t b (spot_of t e.left) (spot_of t e.right) e.tilde
   of_argument : (u v : Term) (i : ℕ) → IsTermOf b u → IsSome (number_in (name_of u) t.names) → slice_get (out-Term u).args i ≡ Some v →
       PlacedJoint t b (port_at (place_of u) (suc i)) (spot_of t v) (place_of v)
-  of_end : (k : ℕ) (v : Term) → IsAmong (k, v) b.ends → PlacedJoint t b (free_end k) (spot_of t v) (place_of v)
+  of_head : (h : LeftHead) (v : Term) (i : ℕ) → IsAmong h b.heads → slice_get h.head.terms i ≡ Some v → PlacedJoint t b (free_end (h.first + i)) (spot_of t v) (place_of v)
   turned : (x y : Spot) (p : Place) → PlacedJoint t b x y p → PlacedJoint t b y x p
 
 -- the joints of names: of the two occurrences of a variable, of a free end and the occurrence of its name
@@ -148,9 +160,15 @@ written_by (Some s) place = record { symbol = s; place = place } ∷ []
 abbrev pub agents_of : Tables → Term → List Written
 agents_of t = fold-Term (List Written) (λ f. written_by (number_in f.name.text t.names) f.name.place ++ flat_map (λ a. a) f.args)
 
--- the agents of a net
-abbrev pub agents_of_net : Tables → SourceNet → List Written
-agents_of_net t n = flat_map (λ e. agents_of t e.left ++ agents_of t e.right) n.equations
+-- the agents of a body; the heads of a rule are none
+abbrev pub agents_of_heads : Tables → List LeftHead → List Written
+agents_of_heads t = flat_map (λ h. flat_map (agents_of t) h.head.terms)
+
+abbrev pub agents_of_equations : Tables → List Equation → List Written
+agents_of_equations t = flat_map (λ e. agents_of t e.left ++ agents_of t e.right)
+
+abbrev pub agents_of_body : Tables → Body → List Written
+agents_of_body t b = agents_of_heads t b.heads ++ agents_of_equations t b.equations
 
 -- a cell is a written agent: its symbol, and an end for each of its places
 pub record IsCellFor (t : Tables) (w : Written) (c : Cell) : Type 0 where
@@ -175,12 +193,11 @@ AreFreeOf t [] (e ∷ es) = ⊥
 AreFreeOf t (f ∷ fs) [] = ⊥
 AreFreeOf t (f ∷ fs) (e ∷ es) = IsFreeOf t f e × AreFreeOf t fs es
 
--- the net has the text's agents, numbered in the order of their names, with their places, and its free ends in order, with their declared types
-pub record HasPointsOf (t : Tables) (n : SourceNet) (m : Parts) : Type 0 where
+-- the net has the text's agents, numbered in the order of their names, with their places
+pub record HasAgentsOf (t : Tables) (b : Body) (m : Parts) : Type 0 where
   pub built : m.built ≡ true
-  pub agents : AreCellsFor t (agents_of_net t n) m.cells
-  pub places : m.places ≡ map (λ w. w.place) (agents_of_net t n)
-  pub free : AreFreeOf t n.free m.free
+  pub agents : AreCellsFor t (agents_of_body t b) m.cells
+  pub places : m.places ≡ map (λ w. w.place) (agents_of_body t b)
 
 -- the wires are those of the text: two points are partners by a wire of the text, which leads to no other spot, and the listed
 -- wires stand at the places of theirs, in the order of these places
@@ -190,8 +207,9 @@ pub record HasWiresOf (t : Tables) (b : Body) (m : Parts) : Type 0 where
   pub wires : (w : ℕ) (x y : Point) (p : Place) → wire_in m w ≡ Some (x, y) → wire_place_in m w ≡ Some p → IsWireOf t b (spot_at m x) (spot_at m y) p
   pub by_place : IsNonDecreasingBy (λ w. w.place.from) m.wires
 
--- the parts are the net of the text: its agents and free ends, and its wires. That each point is in exactly one of these wires, the
--- net's own invariant says
+-- the parts are the net of the text: its agents, its free ends in order, with their names and declared types, and its wires. That
+-- each point is in exactly one of these wires, the net's own invariant says
 pub record IsNetOf (t : Tables) (n : SourceNet) (m : Parts) : Type 0 where
-  pub points : HasPointsOf t n m
+  pub agents : HasAgentsOf t (body_of n) m
+  pub free : AreFreeOf t n.free m.free
   pub wires : HasWiresOf t (body_of n) m

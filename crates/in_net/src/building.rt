@@ -4,7 +4,7 @@ ghost use Rattle.in_syntax.specs.Order.{IsWrittenInOrder};
 ghost use Rattle.in_symbols.specs.Faults.{IsFaultless};
 ghost use Rattle.in_symbols.specs.Tables.{FreeKnown, IsTabled};
 ghost use Rattle.in_net.specs.Building.{point_of, IsSmall, AreSmallSpots, IsJoined, nth_spot, IsPointSpot, partner_of, ends_from, cells_of, free_ends_from, wire_of, wires_from};
-ghost use Rattle.in_net.specs.Built.{closed_at, Builds, Assembles, IsReadFrom, ArePointsAt, AgentsOf, AreListedOf};
+ghost use Rattle.in_net.specs.Built.{closed_at, Builds, Assembles, IsReadFrom, ArePointsAt, AgentsOf, AreJoinedTo, AreListedOf};
 
 use crate::faults::first_fault;
 use crate::joining::{Joined, Link, join_all};
@@ -23,12 +23,13 @@ fn point_of(spot: Spot) -> Option<Point>
     match spot {
         Spot::Port(agent, place, _) => Some(Point::Port(AgentNo(agent as u32), place)),
         Spot::Free(number, _) => Some(Point::Free(number as u32)),
+        Spot::End(number) => Some(Point::Free(number as u32)),
         Spot::Occurrence(..) => None,
     }
 }
 
 /// The point that a spot is joined to: once all is joined, no spot is joined to an occurrence.
-fn partner(spots: &[Spot], links: &[Link], at: usize) -> Point
+pub(crate) fn partner(spots: &[Spot], links: &[Link], at: usize) -> Point
     requires at { at < length spots.now }
     requires point { IsPointSpot (nth_spot spots.now at) }
     requires joined { IsJoined spots.now links.now }
@@ -166,24 +167,22 @@ fn places(alloc: Global, agents: &[Agent]) -> Result<Items<Place>, AllocError>
     Ok(places)
 }
 
-/// The net of what was read and joined.
-fn assemble(
+/// The net of what was read and joined, with these free ends.
+pub(crate) fn assemble(
     alloc: Global,
-    source: &Source,
     symbols: &Symbols,
     reading: &Reading,
     links: &[Link],
+    free: Items<FreeEnd>,
 ) -> Result<Net, AllocError>
-    requires sized { IsSized source.now }
-    requires tabled { IsTabled source.now symbols.now }
-    requires read { IsReadFrom source.now symbols.now reading.now }
+    requires read { IsReadFrom symbols.now (length free) reading.now }
     requires joined { IsJoined reading.now.spots links.now }
-    ensures { IfOk result (Assembles source.now symbols.now reading.now links.now) }
+    requires free { AreJoinedTo reading.now.spots links.now free }
+    ensures { IfOk result (Assembles symbols.now reading.now links.now free) }
 {
     let spots = reading.spots.as_slice();
     let agents = reading.agents.as_slice();
     let cells = cells(alloc, symbols, spots, links, agents)?;
-    let free = free_ends(alloc, symbols, spots, links, source.net.free.as_slice())?;
     let wires = wires(alloc, spots, links)?;
     let places = places(alloc, agents)?;
     Ok(Net::built(cells, free, wires, places))
@@ -223,6 +222,8 @@ pub fn build_net(alloc: Global, source: &Source, symbols: &Symbols) -> Result<Ne
     if let Some(place) = closed {
         return Err(closed_at(place));
     }
-    let net = assemble(alloc, source, symbols, &reading, links.as_slice())?;
-    Ok(net)
+    let spots = reading.spots.as_slice();
+    let links = links.as_slice();
+    let free = free_ends(alloc, symbols, spots, links, source.net.free.as_slice())?;
+    Ok(assemble(alloc, symbols, &reading, links, free)?)
 }

@@ -21,7 +21,7 @@ pub(crate) fn name_of(spot: Spot) -> Option<usize>
     ensures { result ≡ name_of spot }
 {
     match spot {
-        Spot::Port(..) => None,
+        Spot::Port(..) | Spot::End(_) => None,
         Spot::Free(_, name) => Some(name),
         Spot::Occurrence(name, _) => Some(name),
     }

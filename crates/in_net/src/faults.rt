@@ -2,22 +2,28 @@ ghost use Rattle.std.specs.Prelude.{◌≡◌, length, IfOk};
 ghost use Rattle.in_syntax.specs.declared.tree.Term.{out-Term};
 ghost use Rattle.in_symbols.specs.Names.{number_in};
 ghost use Rattle.in_net.specs.Counting.{NamesInside};
-ghost use Rattle.in_net.specs.Searching.{too_many, misfit_here, misfit, misfit_in_net, first_fault};
+ghost use Rattle.in_net.specs.NetFaults.{max_agents, max_member_agents};
+ghost use Rattle.in_net.specs.Rules.{body_of_rule};
+ghost use Rattle.in_net.specs.Searching.{too_many, misfit_here, misfit, misfit_in_head, misfit_in_equations, fault_of, first_fault};
+ghost use Rattle.in_net.specs.TextNet.{body_of};
 
 use crate::counting::miscounted;
 use crate::reading::{Agent, Reading};
 use in_symbols::{Symbols, earlier, earlier_refusal, refused};
-use in_syntax::{Code, Place, Refusal, SourceNet, Term};
+use in_syntax::{Code, Head, Place, Refusal, SourceFree, SourceNet, SourceRule, Term};
 use std::alloc::{AllocError, Global};
 
 /// The most agents that the initial net may have. This is this project's own choice.
 pub const MAX_AGENTS: usize = 1_000;
 
-/// Where the first agent stands that is one too many.
-fn too_many(agents: &[Agent]) -> Option<Place>
-    ensures { result ≡ too_many agents.now }
+/// The most agents that a right member may have. This is this project's own choice.
+pub const MAX_MEMBER_AGENTS: usize = 64;
+
+/// Where the first agent stands that is one more than so many.
+fn too_many(most: usize, agents: &[Agent]) -> Option<Place>
+    ensures { result ≡ too_many most agents.now }
 {
-    match agents.get(MAX_AGENTS) {
+    match agents.get(most) {
         Some(agent) => Some(agent.place),
         None => None,
     }
@@ -47,7 +53,7 @@ fn misfit(symbols: &Symbols, term: &Term) -> Option<Place>
 
 /// The same of a net.
 fn misfit_in_net(symbols: &Symbols, net: &SourceNet) -> Option<Place>
-    ensures { result ≡ misfit_in_net symbols.now net.now.equations }
+    ensures { result ≡ misfit_in_equations symbols.now net.now.equations }
 {
     let mut found = None;
     for equation in net.equations.as_slice() {
@@ -60,7 +66,52 @@ fn misfit_in_net(symbols: &Symbols, net: &SourceNet) -> Option<Place>
     found
 }
 
-/// The first fault of the net's agents and names, in the order of the text; at one place the lower code comes first.
+/// Where the head's own name stands, if it has another number of terms than its symbol has auxiliary ports.
+fn misfit_at_head(symbols: &Symbols, head: &Head) -> Option<Place>
+    ensures { result ≡ misfit_here symbols.now (number_in head.now.name.text symbols.now.names) (length head.now.terms) head.now.name.place }
+{
+    match symbols.number_of(head.name.text.as_str()) {
+        Some(symbol) if head.terms.len() != symbols.arity(symbol) as usize => Some(head.name.place),
+        _ => None,
+    }
+}
+
+/// Where the first name in the head stands, its own or an agent's in a term, that has another number of terms than auxiliary
+/// ports.
+fn misfit_in_head(symbols: &Symbols, head: &Head) -> Option<Place>
+    ensures { result ≡ misfit_in_head symbols.now head.now }
+{
+    let mut found = misfit_at_head(symbols, head);
+    for term in head.terms.as_slice() {
+        found = earlier(found, misfit(symbols, term));
+    }
+    found
+}
+
+/// The first fault of the agents and names of what was read, in the order of the text; at one place the lower code comes first.
+/// Allowed are so many agents, the first misfit stands there, and these are the free names.
+fn fault_of(
+    alloc: Global,
+    most: usize,
+    misfit: Option<Place>,
+    free: &[SourceFree],
+    reading: &Reading,
+) -> Result<Option<Refusal>, AllocError>
+    requires { NamesInside (length reading.now.names) reading.now.spots }
+    ensures { IfOk result (λ fault. fault ≡ fault_of most misfit free.now reading.now) }
+{
+    let agents = too_many(most, reading.agents.as_slice());
+    let names = miscounted(
+        alloc,
+        reading.names.len(),
+        reading.spots.as_slice(),
+        free,
+    )?;
+    let fault = earlier_refusal(refused(Code::E03, agents), refused(Code::E07, misfit));
+    Ok(earlier_refusal(fault, refused(Code::E08, names)))
+}
+
+/// The first fault of the net's agents and names.
 pub(crate) fn first_fault(
     alloc: Global,
     symbols: &Symbols,
@@ -68,16 +119,30 @@ pub(crate) fn first_fault(
     reading: &Reading,
 ) -> Result<Option<Refusal>, AllocError>
     requires { NamesInside (length reading.now.names) reading.now.spots }
-    ensures { IfOk result (λ fault. fault ≡ first_fault symbols.now net.now reading.now) }
+    ensures { IfOk result (λ fault. fault ≡ first_fault max_agents symbols.now (body_of net.now) reading.now) }
 {
-    let agents = too_many(reading.agents.as_slice());
-    let arities = misfit_in_net(symbols, net);
-    let names = miscounted(
+    fault_of(
         alloc,
-        reading.names.len(),
-        reading.spots.as_slice(),
+        MAX_AGENTS,
+        misfit_in_net(symbols, net),
         net.free.as_slice(),
-    )?;
-    let fault = earlier_refusal(refused(Code::E03, agents), refused(Code::E07, arities));
-    Ok(earlier_refusal(fault, refused(Code::E08, names)))
+        reading,
+    )
+}
+
+/// The first fault of the rule's agents and names.
+pub(crate) fn first_rule_fault(
+    alloc: Global,
+    symbols: &Symbols,
+    rule: &SourceRule,
+    reading: &Reading,
+) -> Result<Option<Refusal>, AllocError>
+    requires { NamesInside (length reading.now.names) reading.now.spots }
+    ensures { IfOk result (λ fault. fault ≡ first_fault max_member_agents symbols.now (body_of_rule symbols.now rule.now) reading.now) }
+{
+    let misfit = earlier(
+        misfit_in_head(symbols, &rule.first),
+        misfit_in_head(symbols, &rule.second),
+    );
+    fault_of(alloc, MAX_MEMBER_AGENTS, misfit, &[], reading)
 }

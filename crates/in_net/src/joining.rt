@@ -165,6 +165,7 @@ fn join_names(joining: &mut Joining, spots: &[Spot])
 }
 
 /// What all spots of a text are joined to, and the place of its first closed wire, if there is one.
+#[derive(Drop)]
 pub(crate) struct Joined {
     pub(crate) links: Items<Link>,
     pub(crate) closed: Option<Place>,

@@ -6,11 +6,13 @@ mod counting;
 mod faults;
 mod joining;
 pub mod laws;
+mod members;
 mod nets;
 mod reading;
 mod rules;
 
 pub use building::build_net;
-pub use faults::MAX_AGENTS;
+pub use faults::{MAX_AGENTS, MAX_MEMBER_AGENTS};
+pub use members::build_rule;
 pub use nets::{AgentNo, Net, Point};
 pub use rules::Rule;

@@ -1,18 +1,20 @@
-ghost use Rattle.std.specs.Prelude.{◌≡◌, length, IfOk, unwrap_or};
+ghost use Rattle.std.specs.Prelude.{◌≡◌, length, map, IfOk, unwrap_or};
 ghost use Rattle.in_symbols.specs.Names.{number_in};
-ghost use Rattle.in_net.specs.Reading.{with_name, with_agent, with_occurrence, reader_of, reads_equation, reads_free, reading_of};
+ghost use Rattle.in_net.specs.Reading.{nothing_read, with_name, with_agent, with_occurrence, with_ends, reader_of, reads_arguments, reads_equation, reads_heads, reads_free, reading_of};
+ghost use Rattle.in_net.specs.TextNet.{body_of, heads_at};
 
 use in_symbols::{Names, SymbolNo, Symbols};
-use in_syntax::{Equation, Name, Place, SourceFree, SourceNet, Term};
+use in_syntax::{Equation, Head, Name, Place, SourceFree, SourceNet, SourceRule, Term};
 use sqlite_items::Items;
 use std::alloc::{AllocError, Global};
 
 /// A spot of a text: a port of an agent, by its place, with the place in the text of the agent's name; a free end, with the
-/// number of its name; or the occurrence of the name of that number at a place.
+/// number of its name; a boundary end; or the occurrence of the name of that number at a place.
 #[derive(Clone, Copy)]
 pub(crate) enum Spot {
     Port(usize, u8, Place),
     Free(usize, usize),
+    End(usize),
     Occurrence(usize, Place),
 }
 
@@ -25,7 +27,8 @@ pub(crate) struct Agent {
 }
 
 /// Two spots that the text joins at a place: the terms of an equation at its `~`, an argument and the port of its agent at the
-/// argument's first token. The first of them stands so many spots after `one`: the agent's principal port, or the term's spot.
+/// argument's first token, a head's term and its boundary end at the term's first token. The first of them stands so many spots
+/// after `one`: the agent's principal port, the head's first boundary end, or the term's spot.
 #[derive(Clone, Copy)]
 pub(crate) struct Joint {
     pub(crate) one: usize,
@@ -34,7 +37,8 @@ pub(crate) struct Joint {
     pub(crate) place: Place,
 }
 
-/// What is read of a net so far. Spots and agents are in the order of the text; free ends are the first spots.
+/// What is read of a net or a rule so far. Spots and agents are in the order of the text; free or boundary ends are the first
+/// spots.
 #[derive(Drop)]
 pub(crate) struct Reading {
     pub(crate) spots: Items<Spot>,
@@ -164,11 +168,62 @@ pub(crate) fn read_net(
     symbols: &Symbols,
     net: &SourceNet,
 ) -> Result<Reading, AllocError>
-    ensures { IfOk result (λ r. r ≡ reading_of symbols.now net.now) }
+    ensures { IfOk result (λ r. r ≡ reading_of symbols.now (body_of net.now)) }
 {
     let mut reading = read_free(alloc, net.free.as_slice())?;
     for equation in net.equations.as_slice() {
         read_equation(alloc, symbols, equation, &mut reading)?;
     }
+    Ok(reading)
+}
+
+/// Reads so many boundary ends.
+fn read_ends(alloc: Global, count: usize) -> Result<Reading, AllocError>
+    ensures { IfOk result (λ r. r ≡ with_ends nothing_read count) }
+{
+    let mut reading = Reading::new(alloc);
+    for number in 0..count {
+        reading.spots.push(Spot::End(number))?;
+    }
+    Ok(reading)
+}
+
+/// Reads the terms of a head, the first boundary end of which has that number.
+fn read_head(
+    alloc: Global,
+    symbols: &Symbols,
+    head: &Head,
+    first: usize,
+    reading: &mut Reading,
+) -> Result<(), AllocError>
+    ensures { IfOk result (λ _. reading.new ≡ reads_arguments first (map (reader_of symbols.now) head.now.terms) 0 reading.old) }
+{
+    for (index, term) in head.terms.as_slice().iter().enumerate() {
+        let other = read_term(alloc, symbols, term, reading)?;
+        reading.joints.push(Joint {
+            one: first,
+            port: index,
+            other,
+            place: term.name.place,
+        })?;
+    }
+    Ok(())
+}
+
+/// Reads a rule, the boundary ends of whose heads begin at these numbers: so many boundary ends, and then the terms of each head
+/// in the order of the text.
+pub(crate) fn read_rule(
+    alloc: Global,
+    symbols: &Symbols,
+    rule: &SourceRule,
+    ends: usize,
+    first: usize,
+    second: usize,
+) -> Result<Reading, AllocError>
+    ensures { IfOk result (λ r. r ≡ reads_heads symbols.now (heads_at rule.now first second) (with_ends nothing_read ends)) }
+{
+    let mut reading = read_ends(alloc, ends)?;
+    read_head(alloc, symbols, &rule.first, first, &mut reading)?;
+    read_head(alloc, symbols, &rule.second, second, &mut reading)?;
     Ok(reading)
 }

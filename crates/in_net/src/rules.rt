@@ -20,13 +20,12 @@ pub struct Rule {
 // Contracts see all that a looking call reads.
 impl Model for Rule {
     ghost use Rattle.in_net.specs.Rules.{RuleParts};
-    ghost use Rattle.std.specs.Prelude.{Unit};
 
     ghost Value = { RuleParts };
 
     ghost view = { λ r. record { written = r.written; heads = r.heads; head_places = r.head_places; member = r.member } };
 
-    ghost invariant = { λ r. Unit };
+    ghost invariant = { λ r. Unit {0} };
 }
 
 impl Rule {

@@ -1,4 +1,4 @@
-use Rattle.std.proofs.Common.{◌≡◌, ◌∙◌, ◌+◌, ap, sym, length, get_or}
+use Rattle.std.proofs.Common.{get_or}
 use Rattle.in_net.specs.Building.{no_agent}
 use Rattle.in_net.proofs.Links.{all_rest}
 use Rattle.in_net.proofs.Steps.{one_cell, cell_is}

@@ -1,8 +1,7 @@
-use Rattle.std.proofs.Common.{◌≡◌, ◌∙◌, ◌+◌, sym, ap, subst, length, drop, None}
-use Rattle.in_net.specs.declared.counting.Counting.{Counting}
-use Rattle.in_net.specs.Counting.{NamesInside, IsNameInside, counts_spot, counts_from}
+use Rattle.std.proofs.Common.{◌∙◌, ◌+◌, sym, ap, length, drop, None}
+use Rattle.in_net.specs.Counting.{IsNameInside, counts_from}
 use Rattle.in_net.specs.Building.{no_spot, nth_spot}
-use Rattle.in_net.proofs.Links.{from_place, all_here, all_rest}
+use Rattle.in_net.proofs.Links.{from_place, all_rest}
 use Rattle.in_net.proofs.Joins.{length-none_seen, length-counts_spot}
 use Rattle.in_net.proofs.counting.counts.Goals as goal
 

@@ -1,20 +1,11 @@
-use Rattle.std.proofs.Common.{◌≡◌, ◌∙◌, ap, sym, length}
-use Rattle.in_syntax.specs.declared.faults.Code.TheVariants.{E03, E07, E08}
-use Rattle.in_symbols.specs.Searching.{earlier_refusal, refused}
-use Rattle.in_net.specs.Counting.{miscounted}
-use Rattle.in_net.specs.Searching.{too_many, misfit_in_net}
+use Rattle.std.proofs.Common.{◌≡◌, IfOk, subst}
+use Rattle.in_net.specs.NetFaults.{max_agents}
+use Rattle.in_net.specs.Searching.{misfit_in_equations, fault_of}
 use Rattle.in_net.proofs.faults.first_fault.Goals as goal
 
 pub returns : goal.returns
 returns c =
     let t = c.args.symbols.now in
     let n = c.args.net.now in
-    let r = c.args.reading.now in
-    let agents = c.refused.ensures ∙ ap (refused E03) (c.too_many-agents.ensures ∙ ap too_many c.as_slice.ensures) in
-    let arities = c.refused-2.ensures ∙ ap (refused E07) c.misfit_in_net-arities.ensures in
-    let counted = c.in_ok-names.ensures ∙ ap (λ k. miscounted k c.as_slice-2.result.now c.as_slice-3.result.now) c.len.ensures ∙ ap (λ z. miscounted (length r.names) z c.as_slice-3.result.now) c.as_slice-2.ensures
-    ∙ ap (miscounted (length r.names) r.spots) c.as_slice-3.ensures in
-    let names = c.refused-3.ensures ∙ ap (refused E08) counted in
-    c.earlier_refusal.ensures
-    ∙ ap (λ x. earlier_refusal x c.refused-3.result) (c.earlier_refusal-fault.ensures ∙ ap (λ x. earlier_refusal x c.refused-2.result) agents ∙ ap (earlier_refusal (refused E03 (too_many r.agents))) arities)
-    ∙ ap (earlier_refusal (earlier_refusal (refused E03 (too_many r.agents)) (refused E07 (misfit_in_net t n.equations)))) names
+    subst (λ free. IfOk c.fault_of.result (λ fault. fault ≡ fault_of max_agents (misfit_in_equations t n.equations) free c.args.reading.now)) c.as_slice.ensures
+    (subst (λ z. IfOk c.fault_of.result (λ fault. fault ≡ fault_of max_agents z c.as_slice.result.now c.args.reading.now)) c.misfit_in_net.ensures c.fault_of.ensures)

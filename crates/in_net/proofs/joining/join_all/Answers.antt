@@ -1,7 +1,7 @@
-use Rattle.std.proofs.Common.{◌≡◌, ◌∙◌, sym, ap, subst, length, arith, ◌<◌, ◌≤◌}
+use Rattle.std.proofs.Common.{◌≡◌, ◌∙◌, sym, ap, subst, length, arith, ◌<◌}
 use Rattle.std.specs.List.{AllByRecursion}
-use Rattle.in_net.specs.Counting.{NamesInside, none_seen, SeenInside}
-use Rattle.in_net.specs.Joining.{JointsInside, LinksInside, self_links, with_joints, not_named, links_of, IsJoiningInside}
+use Rattle.in_net.specs.Counting.{NamesInside}
+use Rattle.in_net.specs.Joining.{JointsInside, self_links, with_joints, IsJoiningInside}
 use Rattle.in_net.proofs.Links.{length-self_links, length-with_joints, within_self, within_joints}
 use Rattle.in_net.proofs.Joins.{length-none_seen, none_inside}
 use Rattle.in_net.proofs.joining.join_all.Goals as goal

@@ -1,4 +1,4 @@
-use Rattle.std.proofs.Common.{◌∙◌, ap, sym, subst, ◌≡◌, Some}
+use Rattle.std.proofs.Common.{sym, subst, ◌≡◌, Some}
 use Rattle.in_net.specs.Parts.{partner_in}
 use Rattle.in_net.proofs.laws.partners_lead_back.Goals as goal
 

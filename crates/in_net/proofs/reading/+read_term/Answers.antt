@@ -1,4 +1,4 @@
-use Rattle.std.proofs.Common.{◌∙◌, sym, ap}
+use Rattle.std.proofs.Common.{◌∙◌, ap}
 use Rattle.in_syntax.specs.declared.tree.Term.{out-Term}
 use Rattle.in_symbols.specs.Tables.{symbol_numbered}
 use Rattle.in_net.proofs.Folds.{numbered, read_whole}
