@@ -8,3 +8,6 @@ mod table;
 
 pub use covering::cover;
 pub use table::{RuleNo, RuleTable};
+
+#[cfg(test)]
+mod tests;
