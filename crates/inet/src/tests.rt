@@ -12,6 +12,13 @@ const NUMBERS: &str = "type nat;\nsymbol Z : nat+;\nsymbol S : nat+ {nat-};\n";
 const SUMS: &str =
     "type nat;\nsymbol Z : nat+;\nsymbol S : nat+ {nat-};\nsymbol Add : nat- {nat-} {nat+};\n";
 
+const RULES: &str = "rule S[Add(y, t)] >< Add[y, S(t)];\nrule Z[] >< Add[y, y];\n";
+
+const DUPLICATION: &str =
+    "symbol Dup : nat- {nat+, nat+};\nrule S[Dup(a, b)] >< Dup[S(a), S(b)];\nrule Z[] >< Dup[Z, Z];\n";
+
+const ERASURE: &str = "symbol Era : nat-;\nrule S[Era] >< Era[];\nrule Z[] >< Era[];\n";
+
 const ACCEPTED: &str = "accepted: 1 types, 2 symbols, 0 rules, 3 agents\n";
 
 /// Checks the line and the status on a text that comes from memory.
@@ -29,32 +36,166 @@ fn accepted_text(alloc: Global) -> Result<String, Fail> {
 }
 
 #[test]
-fn nets_over_four_declarations_are_accepted_or_refused(rt: HostRuntime) -> Result<(), Fail> {
+fn nets_over_four_declarations_are_refused(rt: HostRuntime) -> Result<(), Fail> {
+    let rows = [
+        ("net () { }", "refused E15 at 4:8: Add, Z\n"),
+        (
+            "net (r : nat+) { S(S(Z)) ~ Add(S(Z), r); }",
+            "refused E15 at 4:8: Add, Z\n",
+        ),
+        ("net () { $ }", "refused E01 at 5:10\n"),
+        ("rule Z[] >< Add[y, y];", "refused E02 at 6:1\n"),
+        (
+            "rule Z[] >< Add[y, y];\nnet () { }",
+            "refused E15 at 4:8: Add, S\n",
+        ),
+        ("net () { S(Z) ~ S(Z); }", "refused E10 at 5:15: ~\n"),
+        ("net () { x ~ x; }", "refused E09 at 5:12: ~\n"),
+    ];
+    for (net, line) in rows {
+        let text = format!(in rt.alloc(); "{SUMS}{net}\n")?;
+        expect(&rt, rt.alloc(), text.as_str(), line, 1);
+    }
+    Ok(())
+}
+
+#[test]
+fn programs_with_rules_are_accepted_or_refused(rt: HostRuntime) -> Result<(), Fail> {
     let rows = [
         (
             "net () { }",
-            "accepted: 1 types, 3 symbols, 0 rules, 0 agents\n",
+            "accepted: 1 types, 3 symbols, 2 rules, 0 agents\n",
             0,
         ),
         (
             "net (r : nat+) { S(S(Z)) ~ Add(S(Z), r); }",
-            "accepted: 1 types, 3 symbols, 0 rules, 6 agents\n",
+            "accepted: 1 types, 3 symbols, 2 rules, 6 agents\n",
             0,
         ),
-        ("net () { $ }", "refused E01 at 5:10\n", 1),
-        ("rule Z[] >< Add[y, y];", "refused E02 at 6:1\n", 1),
         (
-            "rule Z[] >< Add[y, y];\nnet () { }",
-            "accepted: 1 types, 3 symbols, 1 rules, 0 agents\n",
+            "net (a : nat+, b : nat-) { a ~ b; }",
+            "accepted: 1 types, 3 symbols, 2 rules, 0 agents\n",
             0,
         ),
-        ("net () { S(Z) ~ S(Z); }", "refused E10 at 5:15: ~\n", 1),
-        ("net () { x ~ x; }", "refused E09 at 5:12: ~\n", 1),
+        ("net () { x ~ x; }", "refused E09 at 7:12: ~\n", 1),
+        ("net () { S(Z) ~ S(Z); }", "refused E10 at 7:15: ~\n", 1),
+        ("symbol Z : nat+;\nnet () { }", "refused E04 at 7:8: Z\n", 1),
+        (
+            "symbol K : bit+;\nnet () { }",
+            "refused E05 at 7:12: bit\n",
+            1,
+        ),
+        ("net () { F(x) ~ x; }", "refused E06 at 7:10: F\n", 1),
+        (
+            "net (r : nat+) { S ~ Add(Z, r); }",
+            "refused E07 at 7:18: S\n",
+            1,
+        ),
+        (
+            "net (r : nat+) { S(x) ~ Add(Z, r); }",
+            "refused E08 at 7:20: x\n",
+            1,
+        ),
     ];
-    for (net, line, status) in rows {
-        let text = format!(in rt.alloc(); "{SUMS}{net}\n")?;
+    for (rest, line, status) in rows {
+        let text = format!(in rt.alloc(); "{SUMS}{RULES}{rest}\n")?;
         expect(&rt, rt.alloc(), text.as_str(), line, status);
     }
+    Ok(())
+}
+
+#[test]
+fn faults_of_rules_stand_at_their_places(rt: HostRuntime) -> Result<(), Fail> {
+    let rows = [
+        ("rule Z[] >< Add[y, y];", "refused E14 at 7:6: Z\n"),
+        ("rule Add[y, y] >< Z[];", "refused E14 at 7:6: Add\n"),
+        ("rule Z[] >< Z[];", "refused E11 at 7:13: Z\n"),
+        ("rule F[] >< Z[];", "refused E06 at 7:6: F\n"),
+        ("rule Z[] >< F[];", "refused E06 at 7:13: F\n"),
+        ("rule Z[] >< Add[F(y), y];", "refused E06 at 7:17: F\n"),
+        ("rule Z[y] >< Add[y, S];", "refused E07 at 7:6: Z\n"),
+        ("rule Z[] >< Add[y];", "refused E07 at 7:13: Add\n"),
+        ("rule Z[] >< Add[S, S(y)];", "refused E07 at 7:17: S\n"),
+        ("rule Z[] >< Add[y, x];", "refused E08 at 7:17: y\n"),
+        ("rule S[y] >< Add[y, y];", "refused E08 at 7:21: y\n"),
+        ("rule Z[] >< Add[S(y), y];", "refused E10 at 7:17: S\n"),
+        ("rule Z[] >< Add[y, Add(y, Z)];", "refused E10 at 7:20: Add\n"),
+        ("rule Z[] >< Z[y];", "refused E07 at 7:13: Z\n"),
+    ];
+    for (rule, line) in rows {
+        let text = format!(in rt.alloc(); "{SUMS}{RULES}{rule}\nnet () {{ }}\n")?;
+        expect(&rt, rt.alloc(), text.as_str(), line, 1);
+    }
+    Ok(())
+}
+
+#[test]
+fn passes_come_one_after_another(rt: HostRuntime) -> Result<(), Fail> {
+    let rows = [
+        // a rule's agents before the net's, its types after the net's agents
+        (
+            "rule Z[] >< Add[y, x];\nnet () { S ~ Z; }",
+            "refused E08 at 7:17: y\n",
+        ),
+        (
+            "rule Z[] >< Z[];\nnet () { S ~ Z; }",
+            "refused E07 at 8:10: S\n",
+        ),
+        (
+            "rule Z[] >< Z[];\nnet () { Z ~ Z; }",
+            "refused E11 at 7:13: Z\n",
+        ),
+        // types before pairs
+        (
+            "rule Z[] >< Add[y, y];\nnet () { Z ~ Z; }",
+            "refused E10 at 8:12: ~\n",
+        ),
+        // second rules before missing ones
+        (
+            "symbol K : nat-;\nrule Z[] >< Add[y, y];\nnet () { }",
+            "refused E14 at 8:6: Z\n",
+        ),
+        (
+            "symbol K : nat-;\nnet () { }",
+            "refused E15 at 7:8: K, Z\n",
+        ),
+    ];
+    for (rest, line) in rows {
+        let text = format!(in rt.alloc(); "{SUMS}{RULES}{rest}\n")?;
+        expect(&rt, rt.alloc(), text.as_str(), line, 1);
+    }
+    Ok(())
+}
+
+/// A program whose last rule has a right member of so many agents.
+fn text_of_agents(alloc: Global, agents: usize) -> Result<String, Fail> {
+    let mut text = format!(in alloc; "{NUMBERS}symbol L : nat- {{nat+}};\nrule S[L(y)] >< L[y];\nrule Z[] >< L[")?;
+    for _ in 1..agents {
+        text.push_str("S(")?;
+    }
+    text.push_str("Z")?;
+    for _ in 1..agents {
+        text.push_str(")")?;
+    }
+    text.push_str("];\nnet () { }\n")?;
+    Ok(text)
+}
+
+#[test]
+fn sixty_four_agents_are_a_right_member_and_one_more_too_many(
+    rt: HostRuntime,
+) -> Result<(), Fail> {
+    let alloc = rt.alloc();
+    let fits = text_of_agents(alloc, 64)?;
+    expect(
+        &rt,
+        alloc,
+        fits.as_str(),
+        "accepted: 1 types, 3 symbols, 2 rules, 0 agents\n",
+        0,
+    );
+    let more = text_of_agents(alloc, 65)?;
+    expect(&rt, alloc, more.as_str(), "refused E03 at 6:143: Z\n", 1);
     Ok(())
 }
 
@@ -105,12 +246,12 @@ fn a_thousand_agents_are_accepted_and_one_more_refused(rt: HostRuntime) -> Resul
     for (lines, line, status) in [
         (
             500usize,
-            "accepted: 1 types, 4 symbols, 0 rules, 1000 agents\n",
+            "accepted: 1 types, 4 symbols, 4 rules, 1000 agents\n",
             0,
         ),
-        (501, "refused E03 at 507:1: Era\n", 1),
+        (501, "refused E03 at 511:1: Era\n", 1),
     ] {
-        let mut text = format!(in alloc; "{SUMS}symbol Era : nat-;\nnet () {{\n")?;
+        let mut text = format!(in alloc; "{SUMS}{RULES}{ERASURE}net () {{\n")?;
         for _ in 0..lines {
             text.push_str("Era ~ Z;\n")?;
         }
