@@ -1,5 +1,5 @@
-use crate::type_net;
-use in_net::{AgentNo, Net, Point, build_net};
+use crate::{type_net, type_rule};
+use in_net::{AgentNo, Net, Point, Rule, build_net, build_rule};
 use in_symbols::{PortType, SymbolNo, Symbols};
 use in_syntax::{Code, Fault, Refusal, parse};
 use std::alloc::Global;
@@ -157,6 +157,114 @@ fn types_and_signs_are_compared(rt: HostRuntime) -> Result<(), Fail> {
     for (net, answer) in cases {
         let text = format!(in rt.alloc(); "{head}{net}")?;
         assert_eq!(rt; refused(rt.alloc(), text.as_str()), answer);
+    }
+    Ok(())
+}
+
+const NUMBERS: &str =
+    "type nat;\nsymbol Z : nat+;\nsymbol S : nat+ {nat-};\nsymbol Add : nat- {nat-} {nat+};\n";
+
+/// The first rule of a program, or its refusal; want of memory where there is none.
+fn first_rule(alloc: Global, text: &str) -> Result<Option<Rule>, Fault> {
+    let source = parse(alloc, text.as_bytes())?;
+    let symbols = Symbols::build(alloc, &source)?;
+    if source.rules.len() == 0 {
+        return Ok(None);
+    }
+    Ok(Some(build_rule(alloc, &source, &symbols, 0)?))
+}
+
+/// Whether the right member is that of the rule of S and Add, with its ends at S's place first.
+fn is_the_member(member: &Net) -> bool {
+    member.agents() == 2
+        && member.symbol(AgentNo(0)) == Some(SymbolNo(2))
+        && member.symbol(AgentNo(1)) == Some(SymbolNo(1))
+        && member.free_ends() == 3
+        && !member.free_type(0).output
+        && !member.free_type(1).output
+        && member.free_type(2).output
+        && member.free_name(0) == ""
+        && member.wires() == 4
+}
+
+/// Whether it has the wires of that rule.
+fn has_its_wires(member: &Net) -> bool {
+    member.agents() == 2
+        && member.free_ends() == 3
+        && member.wires() == 4
+        && member.wire(0) == (Point::Free(0), Point::Port(AgentNo(0), 0))
+        && member.wire(1) == (Point::Free(1), Point::Port(AgentNo(0), 1))
+        && member.wire(2) == (Point::Free(2), Point::Port(AgentNo(1), 0))
+        && member.wire(3) == (Point::Port(AgentNo(0), 2), Point::Port(AgentNo(1), 1))
+}
+
+#[test]
+fn a_rule_is_read_back(rt: HostRuntime) -> Result<(), Fail> {
+    let text = format!(in rt.alloc(); "{NUMBERS}rule S[Add(y, t)] >< Add[y, S(t)];\nnet () {{ }}")?;
+    let Some(rule) = first_rule(rt.alloc(), text.as_str())? else {
+        return Err(Fail::new("no rule"));
+    };
+    assert_eq!(rt; rule.written(), (SymbolNo(1), SymbolNo(2)));
+    assert_eq!(rt; rule.heads(), (SymbolNo(1), SymbolNo(2)));
+    assert_eq!(rt; rule.head_place(0).col, 6);
+    assert_eq!(rt; rule.head_place(1).col, 22);
+    assert!(rt; is_the_member(rule.member()));
+    assert!(rt; has_its_wires(rule.member()));
+    Ok(())
+}
+
+#[test]
+fn the_ends_of_the_constructor_come_first(rt: HostRuntime) -> Result<(), Fail> {
+    let text = format!(in rt.alloc(); "{NUMBERS}rule Add[y, S(t)] >< S[Add(y, t)];\nnet () {{ }}")?;
+    let Some(rule) = first_rule(rt.alloc(), text.as_str())? else {
+        return Err(Fail::new("no rule"));
+    };
+    assert_eq!(rt; rule.written(), (SymbolNo(2), SymbolNo(1)));
+    assert_eq!(rt; rule.heads(), (SymbolNo(1), SymbolNo(2)));
+    assert_eq!(rt; rule.head_place(0).col, 6);
+    assert_eq!(rt; rule.member().free_ends(), 3);
+    assert!(rt; rule.member().symbol(AgentNo(0)) == Some(SymbolNo(1)));
+    Ok(())
+}
+
+/// Where the types of a program's first rule are refused.
+fn rule_refused(alloc: Global, text: &str) -> Option<(Code, u32, u32)> {
+    let answer = match rule_typed(alloc, text) {
+        Err(Fault::Refused(refusal)) => refusal,
+        _ => return None,
+    };
+    Some((answer.code, answer.place.line, answer.place.col))
+}
+
+/// Reads a program's first rule and tests its types.
+fn rule_typed(alloc: Global, text: &str) -> Result<(), Fault> {
+    let source = parse(alloc, text.as_bytes())?;
+    let symbols = Symbols::build(alloc, &source)?;
+    if source.rules.len() == 0 {
+        return Ok(());
+    }
+    let rule = build_rule(alloc, &source, &symbols, 0)?;
+    match type_rule(&symbols, &rule) {
+        Ok(()) => Ok(()),
+        Err(refusal) => Err(Fault::Refused(refusal)),
+    }
+}
+
+#[test]
+fn rules_are_built_and_typed_or_refused(rt: HostRuntime) -> Result<(), Fail> {
+    let cases = [
+        ("rule Z[] >< Add[y, y];", None),
+        ("rule S[Add(y, t)] >< Add[y, S(t)];", None),
+        ("rule Z[] >< Z[];", Some((Code::E11, 5, 13))),
+        ("rule S[Z] >< S[Z];", Some((Code::E11, 5, 14))),
+        ("rule Z[] >< Add[Z, Z];", Some((Code::E10, 5, 17))),
+        ("rule Z[] >< Add[y];", Some((Code::E07, 5, 13))),
+        ("rule Z[] >< Add[y, x];", Some((Code::E08, 5, 17))),
+        ("rule S[y] >< Add[y, y];", Some((Code::E08, 5, 21))),
+    ];
+    for (rule, answer) in cases {
+        let text = format!(in rt.alloc(); "{NUMBERS}{rule}\nnet () {{ }}")?;
+        assert_eq!(rt; rule_refused(rt.alloc(), text.as_str()), answer);
     }
     Ok(())
 }
