@@ -20,8 +20,8 @@ use Rattle.in_simple.specs.declared.open_nets.OpenNode.{OpenNode}
 use Rattle.in_simple.specs.declared.open_nets.Point.{Point}
 use Rattle.in_simple.specs.declared.open_nets.Point.TheVariants.{Port, Free}
 use Rattle.in_simple.specs.OpenNets as nets
-use Rattle.in_simple.specs.OpenNets.{OpenNet, IsWire, IsOpenNet, IsAgentNode, IsAgent, class_in}
-use Rattle.in_simple.specs.Opening.{IsNodeOf, AreNumbered, Opens, open_point, open_wire}
+use Rattle.in_simple.specs.OpenNets.{OpenNet, IsWire, IsOpenNet, IsSmallOpenNet, ports_in, IsAgentNode, IsAgent, class_in}
+use Rattle.in_simple.specs.Opening.{Each, IsNodeOf, AreNumbered, Opens, open_point, open_wire}
 use Rattle.in_simple.proofs.Sums.{some_of, some_same, got}
 
 -- the point of the net that a point of the open net is
@@ -194,3 +194,15 @@ module _ (t : Tables) (n : Parts) (o : OpenNet) (numbered : AreNumbered t) (whol
         let f = c.3 in
         omega arith;
   }
+
+pub is_small : (t : Tables) (n : Parts) (o : OpenNet) → AreNumbered t → IsWhole n → IsOver t n → Opens t n o → Each (λ n node. length node.class_of ≤ 256) o.nodes → IsSmallOpenNet o
+is_small t n o numbered whole over opens few = record {
+  nodes = let a = whole.agents in let b = opens.nodes.0 in omega arith;
+  wires = let a = whole.wires in let b = opens.wires.0 in omega arith;
+  ports = λ x. at x (slice_get o.nodes x) refl;
+  net = is_open_net t n o numbered whole over opens;
+}
+  where
+    at : (x : ℕ) (m : Option OpenNode) → slice_get o.nodes x ≡ m → ports_in m ≤ 256
+    at x None e = omega arith
+    at x (Some m) e = few x m e

@@ -38,16 +38,15 @@ pub struct OpenNet {
     pub(crate) free: u32,
 }
 
-// Contracts see the open net as it is defined.
+// Contracts see the open net as it is defined, and each one is an open net.
 impl Model for OpenNet {
     ghost use Rattle.in_simple.specs.OpenNets as nets;
-    ghost use Rattle.std.specs.Prelude.{◌<◌, ◌^◌, length};
 
     ghost Value = { nets.OpenNet };
 
     ghost view = { λ o. record { nodes = o.nodes; wires = o.wires; free = o.free } };
 
-    ghost invariant = { λ o. length o.nodes < 2 ^ 32 };
+    ghost invariant = { λ o. nets.IsSmallOpenNet (record { nodes = o.nodes; wires = o.wires; free = o.free }) };
 }
 
 impl OpenNet {
