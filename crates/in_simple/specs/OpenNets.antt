@@ -66,12 +66,13 @@ abbrev pub ports_in : Option OpenNode → ℕ
 ports_in None = 0
 ports_in (Some m) = length m.class_of
 
--- it is an open net, and its numbers are as small as those of a net
-pub record IsSmallOpenNet (o : OpenNet) : Type 0 where
+-- it is an open net, its numbers are as small as those of a net, and an agent's classes stand in order
+pub record IsOrderly (o : OpenNet) : Type 0 where
   pub nodes : length o.nodes < 2 ^ 32
   pub wires : length o.wires < 2 ^ 32
   pub ports : (n : ℕ) → ports_in (slice_get o.nodes n) ≤ 256
   pub net : IsOpenNet o
+  pub ordered : (n i j : ℕ) → IsAgent o n → IsPointOf o (Port n j) → 0 < i → i ≤ j → class_in o n i ≤ class_in o n j
 
 -- the nodes, the classes of their ports, and the wires between them
 abbrev pub open_graph : OpenNet → Graph

@@ -46,7 +46,7 @@ impl Model for OpenNet {
 
     ghost view = { λ o. record { nodes = o.nodes; wires = o.wires; free = o.free } };
 
-    ghost invariant = { λ o. nets.IsSmallOpenNet (record { nodes = o.nodes; wires = o.wires; free = o.free }) };
+    ghost invariant = { λ o. nets.IsOrderly (record { nodes = o.nodes; wires = o.wires; free = o.free }) };
 }
 
 impl OpenNet {
