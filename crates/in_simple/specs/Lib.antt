@@ -3,5 +3,7 @@ pub mod Derivations
 pub mod Laws
 pub mod OpenNets
 pub mod Opening
+pub mod Outcomes
+pub mod Procedure
 pub mod Splitting
 pub mod Stuck
