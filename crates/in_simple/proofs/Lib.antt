@@ -18,4 +18,5 @@ pub mod Sound
 pub mod SplittingPorts
 pub mod Sums
 pub mod Whole
+pub mod WireNet
 pub mod Working

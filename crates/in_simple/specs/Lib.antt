@@ -1,3 +1,4 @@
+pub mod Checking
 pub mod Constructions
 pub mod Derivations
 pub mod Laws

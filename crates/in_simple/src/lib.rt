@@ -9,9 +9,13 @@ mod opening;
 mod plans;
 mod procedure;
 mod splitting;
+#[cfg(test)]
+mod tests;
+mod verifying;
 mod wired;
 
 pub use derivations::{Derivation, Step, StepNumbers, Stuck, Undone};
 pub use open_nets::{Node, OpenNet, Point};
 pub use opening::open_net;
 pub use procedure::derive;
+pub use verifying::verify;
