@@ -26,4 +26,4 @@ cells_there t (w ∷ ws) (None ∷ cs) h = absurd h
 cells_there t (w ∷ ws) (Some c ∷ cs) h = (refl, cells_there t ws cs h.1)
 
 pub text_net_there : (t : Tables) (n : SourceNet) (m : Parts) → IsNetOf t n m → AreAllThere m
-text_net_there t n m h = cells_there t _ m.cells h.points.agents
+text_net_there t n m h = cells_there t _ m.cells h.agents.agents

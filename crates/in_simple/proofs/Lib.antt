@@ -10,7 +10,13 @@ pub mod Links
 pub mod Make
 pub mod NoCircle
 pub mod Opened
+pub mod Planning
+pub mod Reaching
 pub mod Search
+pub mod Slots
 pub mod Sound
+pub mod SplittingPorts
 pub mod Sums
 pub mod Whole
+pub mod WireNet
+pub mod Working

@@ -20,8 +20,8 @@ use Rattle.in_simple.specs.declared.open_nets.OpenNode.{OpenNode}
 use Rattle.in_simple.specs.declared.open_nets.Point.{Point}
 use Rattle.in_simple.specs.declared.open_nets.Point.TheVariants.{Port, Free}
 use Rattle.in_simple.specs.OpenNets as nets
-use Rattle.in_simple.specs.OpenNets.{OpenNet, IsWire, IsOpenNet, IsAgentNode, IsAgent, class_in}
-use Rattle.in_simple.specs.Opening.{IsNodeOf, AreNumbered, Opens, open_point, open_wire}
+use Rattle.in_simple.specs.OpenNets.{OpenNet, IsWire, IsOpenNet, IsOrderly, ports_in, IsAgentNode, IsAgent, class_in}
+use Rattle.in_simple.specs.Opening.{Each, IsNodeOf, AreNumbered, Opens, open_point, open_wire}
 use Rattle.in_simple.proofs.Sums.{some_of, some_same, got}
 
 -- the point of the net that a point of the open net is
@@ -172,6 +172,33 @@ module _ (t : Tables) (n : Parts) (o : OpenNet) (numbered : AreNumbered t) (whol
       class_there : (xs : List ℕ) (i c : ℕ) → slice_get xs i ≡ Some c → get_or xs i 0 ≡ c
       class_there xs i c e = get_or_from_slice_get xs i c 0 e
 
+  -- classes of its places by its symbol's
+  class_same : (x i j : ℕ) → (a : IsAgent o x) → (h : nets.IsPointOf o (Port x i)) → (k : nets.IsPointOf o (Port x j)) → (class_is x i a h).0 ≡ (class_is x j a k).0
+  unfolding class_is
+  class_same x i j a h k = go (some_of (λ (m : OpenNode). i < length m.class_of) (slice_get o.nodes x) h) (some_of (λ (m : OpenNode). j < length m.class_of) (slice_get o.nodes x) k)
+    where
+      go : (u : (m : OpenNode) × (slice_get o.nodes x ≡ Some m) × (i < length m.class_of)) → (v : (m : OpenNode) × (slice_get o.nodes x ≡ Some m) × (j < length m.class_of)) → (opens.nodes.1 x u.0 u.1).symbol ≡ (opens.nodes.1 x v.0 v.1).symbol
+      go u v = some_same (symbol_in n x) (opens.nodes.1 x u.0 u.1).symbol (opens.nodes.1 x v.0 v.1).symbol (opens.nodes.1 x u.0 u.1).here (opens.nodes.1 x v.0 v.1).here
+
+  lower_point : (x i j : ℕ) → i ≤ j → nets.IsPointOf o (Port x j) → nets.IsPointOf o (Port x i)
+  lower_point x i j l h =
+      let m = some_of (λ (m : OpenNode). j < length m.class_of) (slice_get o.nodes x) h in
+      let k = m.2 in
+      subst (λ z. IsSomeAnd z (λ (m : OpenNode). i < length m.class_of)) (sym m.1) (omega arith)
+
+  pub in_order : (x i j : ℕ) → IsAgent o x → nets.IsPointOf o (Port x j) → 0 < i → i ≤ j → class_in o x i ≤ class_in o x j
+  in_order x i j a k z l =
+      let h = lower_point x i j l k in
+      let c = class_is x i a h in
+      let d = class_is x j a k in
+      let e : class_at t c.0.0 j ≡ class_at t d.0.0 j = ap (λ (s : SymbolNo). class_at t s.0 j) (class_same x i j a h k) in
+      let f : arity_of t c.0.0 ≡ arity_of t d.0.0 = ap (λ (s : SymbolNo). arity_of t s.0) (class_same x i j a h k) in
+      let b = d.1 in
+      let u = numbered.ordered c.0.0 i j z l (omega arith) in
+      let v = c.2 in
+      let w = d.2 in
+      omega arith
+
   pub is_open_net : IsOpenNet o
   is_open_net = record {
     points = λ w p q h. points_open p (has_partner n (net_point p) (net_point q) (partners w p q h));
@@ -185,12 +212,25 @@ module _ (t : Tables) (n : Parts) (o : OpenNet) (numbered : AreNumbered t) (whol
     apart = λ w p q h e. whole.apart (net_point p) (subst (λ z. partner_in n (net_point p) ≡ Some (net_point z)) (sym e) (partners w p q h));
     principal = λ x i agent h.
         let c = class_is x i agent h in
-        let k = (numbered c.0.0 i c.1).0 in
+        let k = numbered.principal c.0.0 i c.1 in
         ((λ e. k.0 (sym c.2 ∙ e)), λ e. c.2 ∙ k.1 e);
     classes = λ x i agent h.
         let c = class_is x i agent h in
-        let k = (numbered c.0.0 i c.1).1 in
+        let k = numbered.most c.0.0 i c.1 in
         let e = c.2 in
         let f = c.3 in
         omega arith;
   }
+
+pub is_orderly : (t : Tables) (n : Parts) (o : OpenNet) → AreNumbered t → IsWhole n → IsOver t n → Opens t n o → Each (λ n node. length node.class_of ≤ 256) o.nodes → IsOrderly o
+is_orderly t n o numbered whole over opens few = record {
+  nodes = let a = whole.agents in let b = opens.nodes.0 in omega arith;
+  wires = let a = whole.wires in let b = opens.wires.0 in omega arith;
+  ports = λ x. at x (slice_get o.nodes x) refl;
+  net = is_open_net t n o numbered whole over opens;
+  ordered = λ x i j a k z l. in_order t n o numbered whole over opens x i j a k z l;
+}
+  where
+    at : (x : ℕ) (m : Option OpenNode) → slice_get o.nodes x ≡ m → ports_in m ≤ 256
+    at x None e = omega arith
+    at x (Some m) e = few x m e

@@ -7,6 +7,7 @@ use Rattle.in_simple.specs.declared.open_nets.Point.TheVariants.{Port, Free}
 use Rattle.in_simple.specs.declared.open_nets.Node.{Node}
 use Rattle.in_simple.specs.declared.open_nets.Node.TheVariants.{AgentNode, ClassNode}
 use Rattle.in_simple.specs.Constructions.{IsIn}
+pub use Rattle.in_simple.specs.Constructions.{count}
 use Rattle.in_simple.specs.Splitting.{Linked, alone, Without, SplitsAt, IsFirstSplitting, IsComponent, Splits, none, first}
 use Rattle.in_simple.specs.declared.open_nets.OpenNode.{OpenNode}
 use Rattle.in_simple.specs.OpenNets.{OpenNet, class_in, IsWire, IsOpenNet, open_graph}
@@ -47,11 +48,6 @@ test_yes (inr a) x = absurd (a x)
 pub test_is : {A : Type 0} (d : Decided A) → test d ≡ true → A
 test_is (inl a) h = a
 test_is (inr a) h = cc
-
--- how many numbers below b are in s
-abbrev pub count : (ℕ → Bool) → ℕ → ℕ
-count s zero = 0
-count s (suc b) = cond (s b) 1 0 + count s b
 
 one_more : (b c : Bool) → (c ≡ true → b ≡ true) → cond c 1 0 ≤ cond b 1 0
 one_more true true f = omega arith
@@ -119,6 +115,12 @@ turn_one i j (Some m) h k e = go m.node e
 module _ (o : OpenNet) (net : IsOpenNet o) where
   pub in_ports : (w n i : ℕ) (q : Point) → IsWire o w (Port n i) q → i < ports_of o n
   in_ports w n i q h = ports_at i (slice_get o.nodes n) (net.points w (Port n i) q h)
+
+  pub turn_one_port : (n i j : ℕ) → i < ports_of o n → j < ports_of o n → turn o n i ≡ turn o n j → i ≡ j
+  turn_one_port n i j a b e = turn_one i j (slice_get o.nodes n) (at_ports i (slice_get o.nodes n) a) (at_ports j (slice_get o.nodes n) b) e
+
+  pub turn_one_port_most : (n i : ℕ) → i < ports_of o n → turn o n i ≤ ports_of o n
+  turn_one_port_most n i a = turn_at i (slice_get o.nodes n) (at_ports i (slice_get o.nodes n) a)
 
   pub partner : (n i : ℕ) → Decided ((w : ℕ) × (q : Point) × IsWire o w (Port n i) q)
   partner n i = elim (at_most (ports_of o n) i) [
@@ -220,7 +222,7 @@ module _ (o : OpenNet) (net : IsOpenNet o) where
     one_turn c k l (inr a) (inr b) = let x = a.1.3 b.1.0 b.1.1 in let y = b.1.3 a.1.0 a.1.1 in let u = a.1.2 in let v = b.1.2 in omega arith
 
     -- components of one turn are one
-    meet_same : (c d : ℕ → Bool) → IsComponent (open_graph o) (Without n s) c → IsComponent (open_graph o) (Without n s) d → (l : ℕ) → IsIn l c → IsIn l d → c ≡ d
+    pub meet_same : (c d : ℕ → Bool) → IsComponent (open_graph o) (Without n s) c → IsComponent (open_graph o) (Without n s) d → (l : ℕ) → IsIn l c → IsIn l d → c ≡ d
     meet_same c d a b l h g = fun_ext (λ k. same_test (c k) (d k) (over c d a b h g k) (over d c b a g h k))
       where
         over : (c d : ℕ → Bool) → (a : IsComponent (open_graph o) (Without n s) c) → (b : IsComponent (open_graph o) (Without n s) d) → IsIn l c → IsIn l d → (k : ℕ) → IsIn k c → IsIn k d

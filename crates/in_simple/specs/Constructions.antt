@@ -1,6 +1,6 @@
 -- Which sets of nodes the constructions build. Lafont 1990: a semi-simple net is built up by EMPTY, LINK, MIX, CUT and GRAFT. The
 -- leaf for a class node of an open right member is this project's own.
-use Rattle.std.specs.Prelude.{◌≡◌, ◌≢◌, ◌⊎◌, ◌↔◌, ℕ, ◌<◌, Bool, true, false, ◌&&◌, nat_eq}
+use Rattle.std.specs.Prelude.{◌≡◌, ◌≢◌, ◌⊎◌, ◌↔◌, ℕ, zero, suc, ◌+◌, ◌<◌, cond, Bool, true, false, ◌&&◌, nat_eq}
 use Rattle.in_net.specs.Graphs.{Graph}
 
 -- a set of nodes, by a test
@@ -9,6 +9,11 @@ Nodes g = g.Node → Bool
 
 abbrev pub IsIn : {V : Type 0} → V → (V → Bool) → Type 0
 IsIn n s = s n ≡ true
+
+-- how many numbers below b are in s
+abbrev pub count : (ℕ → Bool) → ℕ → ℕ
+count s zero = 0
+count s (suc b) = cond (s b) 1 0 + count s b
 
 -- each node of s is in just one of a and b
 abbrev pub AreParts : {V : Type 0} → (s a b : V → Bool) → Type 0

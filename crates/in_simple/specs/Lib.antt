@@ -1,7 +1,10 @@
+pub mod Checking
 pub mod Constructions
 pub mod Derivations
 pub mod Laws
 pub mod OpenNets
 pub mod Opening
+pub mod Outcomes
+pub mod Procedure
 pub mod Splitting
 pub mod Stuck

@@ -1,7 +1,7 @@
 -- Open nets: nodes in order, wires by number, free ends. An agent of a net is a node of it, and so is each class of a rule's
 -- heads: Lafont 1990 has a right member simple for the classes of its left symbols; the class nodes are this project's own way to
 -- say it.
-use Rattle.std.specs.Prelude.{◌≡◌, ◌≢◌, ◌⊎◌, ◌↔◌, ℕ, ◌<◌, ◌≤◌, Bool, List, length, slice_get, get_or, Option, Some, None, IsSomeAnd, option_map}
+use Rattle.std.specs.Prelude.{◌≡◌, ◌≢◌, ◌⊎◌, ◌↔◌, ℕ, ◌<◌, ◌≤◌, ◌^◌, Bool, List, length, slice_get, get_or, Option, Some, None, IsSomeAnd, option_map}
 use Rattle.in_syntax.specs.declared.places.Place.{Place}
 use Rattle.in_net.specs.Graphs.{Graph}
 use Rattle.in_simple.specs.declared.open_nets.Node.{Node}
@@ -61,6 +61,18 @@ pub record IsOpenNet (o : OpenNet) : Type 0 where
   pub apart : (w : ℕ) (p q : Point) → IsWire o w p q → p ≢ q
   pub principal : (n i : ℕ) → IsAgent o n → IsPointOf o (Port n i) → (class_in o n i ≡ 0) ↔ (i ≡ 0)
   pub classes : (n i : ℕ) → IsAgent o n → IsPointOf o (Port n i) → class_in o n i ≤ classes_of o n
+
+abbrev pub ports_in : Option OpenNode → ℕ
+ports_in None = 0
+ports_in (Some m) = length m.class_of
+
+-- it is an open net, its numbers are as small as those of a net, and an agent's classes stand in order
+pub record IsOrderly (o : OpenNet) : Type 0 where
+  pub nodes : length o.nodes < 2 ^ 32
+  pub wires : length o.wires < 2 ^ 32
+  pub ports : (n : ℕ) → ports_in (slice_get o.nodes n) ≤ 256
+  pub net : IsOpenNet o
+  pub ordered : (n i j : ℕ) → IsAgent o n → IsPointOf o (Port n j) → 0 < i → i ≤ j → class_in o n i ≤ class_in o n j
 
 -- the nodes, the classes of their ports, and the wires between them
 abbrev pub open_graph : OpenNet → Graph

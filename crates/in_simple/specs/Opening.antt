@@ -1,5 +1,5 @@
 -- The open net of an initial net: its agents in order are the nodes, its wires by number, and its free ends.
-use Rattle.std.specs.Prelude.{◌≡◌, ◌↔◌, ℕ, ◌+◌, ◌≤◌, List, length, slice_get, Option, Some, option_map, is_some, true}
+use Rattle.std.specs.Prelude.{◌≡◌, ◌↔◌, ℕ, ◌+◌, ◌<◌, ◌≤◌, List, length, slice_get, Option, Some, option_map, is_some, true}
 use Rattle.std.specs.List.{AllByRecursion}
 use Rattle.in_symbols.specs.declared.symbols.SymbolNo.{SymbolNo}
 use Rattle.in_symbols.specs.Tables.{Tables, arity_of, class_at, classes_of}
@@ -47,9 +47,11 @@ AreNodesOf t n nodes = (length nodes ≡ length n.cells) × Each (IsNodeOf t n) 
 abbrev pub AreWiresOf : Parts → List (Point × Point) → Type 0
 AreWiresOf n wires = (length wires ≡ length n.wires) × Each (λ w v. option_map open_wire (wire_in n w) ≡ Some v) wires
 
--- the principal port of a symbol is the one place of class 0, and classes count from 1 to their number
-abbrev pub AreNumbered : Tables → Type 0
-AreNumbered t = (s i : ℕ) → i ≤ arity_of t s → ((class_at t s i ≡ 0) ↔ (i ≡ 0)) × (class_at t s i ≤ classes_of t s)
+-- the principal port of a symbol is the one place of class 0, and classes count from 1 to their number, in the order of the places
+pub record AreNumbered (t : Tables) : Type 0 where
+  pub principal : (s i : ℕ) → i ≤ arity_of t s → (class_at t s i ≡ 0) ↔ (i ≡ 0)
+  pub most : (s i : ℕ) → i ≤ arity_of t s → class_at t s i ≤ classes_of t s
+  pub ordered : (s i j : ℕ) → 0 < i → i ≤ j → j ≤ arity_of t s → class_at t s i ≤ class_at t s j
 
 -- the open net of the net
 pub record Opens (t : Tables) (n : Parts) (o : OpenNet) : Type 0 where

@@ -1,9 +1,21 @@
 //! Which nets can be built up step by step: Lafont 1990's semi-simple nets, and the steps that build them.
 #![tactic(auto)]
 
+mod components;
+mod derivations;
 pub mod laws;
 mod open_nets;
 mod opening;
+mod plans;
+mod procedure;
+mod splitting;
+#[cfg(test)]
+mod tests;
+mod verifying;
+mod wired;
 
+pub use derivations::{Derivation, Step, StepNumbers, Stuck, Undone};
 pub use open_nets::{Node, OpenNet, Point};
 pub use opening::open_net;
+pub use procedure::derive;
+pub use verifying::verify;

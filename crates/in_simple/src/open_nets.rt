@@ -1,5 +1,6 @@
-ghost use Rattle.std.specs.Prelude.{◌≡◌, ◌<◌, ◌^◌, length, Some};
-ghost use Rattle.in_simple.specs.OpenNets.{node_in, node_place_in};
+ghost use Rattle.std.specs.Prelude.{◌≡◌, ◌<◌, ◌≤◌, ◌^◌, length, slice_get, Some, IsTrue, false};
+ghost use Rattle.in_simple.specs.OpenNets.{IsAgent, IsClass, IsOrderly, class_in, classes_of, node_in, node_place_in};
+ghost use Rattle.in_simple.specs.Stuck.{ports_of};
 
 use in_symbols::SymbolNo;
 use in_syntax::Place;
@@ -38,16 +39,15 @@ pub struct OpenNet {
     pub(crate) free: u32,
 }
 
-// Contracts see the open net as it is defined.
+// Contracts see the open net as it is defined, and each one is an open net.
 impl Model for OpenNet {
     ghost use Rattle.in_simple.specs.OpenNets as nets;
-    ghost use Rattle.std.specs.Prelude.{◌<◌, ◌^◌, length};
 
     ghost Value = { nets.OpenNet };
 
     ghost view = { λ o. record { nodes = o.nodes; wires = o.wires; free = o.free } };
 
-    ghost invariant = { λ o. length o.nodes < 2 ^ 32 };
+    ghost invariant = { λ o. nets.IsOrderly (record { nodes = o.nodes; wires = o.wires; free = o.free }) };
 }
 
 impl OpenNet {
@@ -72,5 +72,64 @@ impl OpenNet {
         ensures { Some result ≡ node_place_in self.now number }
     {
         self.nodes.as_slice()[number as usize].place
+    }
+
+    /// How many wires the open net has.
+    pub(crate) fn wires(&self) -> usize
+        ensures count { result ≡ length self.now.wires }
+        ensures few { result < 2 ^ 32 }
+        ensures net { IsOrderly self.now }
+    {
+        self.wires.len()
+    }
+
+    /// The two points of a wire.
+    pub(crate) fn wire(&self, number: usize) -> (Point, Point)
+        requires { number < length self.now.wires }
+        ensures { slice_get self.now.wires number ≡ Some result }
+    {
+        self.wires.as_slice()[number]
+    }
+
+    /// How many ports the node has.
+    pub(crate) fn ports(&self, node: usize) -> usize
+        requires { node < length self.now.nodes }
+        ensures ports { result ≡ ports_of self.now node }
+        ensures few { result ≤ 256 }
+    {
+        self.nodes.as_slice()[node].class_of.len()
+    }
+
+    /// The class of a node's port.
+    pub(crate) fn class(&self, node: usize, port: usize) -> usize
+        requires node { node < length self.now.nodes }
+        requires port { port < ports_of self.now node }
+        ensures { result ≡ class_in self.now node port }
+    {
+        let found = &self.nodes.as_slice()[node];
+        match found.node {
+            Node::AgentNode(_) => found.class_of.as_slice()[port] as usize,
+            Node::ClassNode(_, _) => port,
+        }
+    }
+
+    /// How many classes the node's auxiliary ports are in.
+    pub(crate) fn classes(&self, node: usize) -> usize
+        requires { node < length self.now.nodes }
+        ensures { result ≡ classes_of self.now node }
+    {
+        self.nodes.as_slice()[node].classes as usize
+    }
+
+    /// Whether the node is an agent; else it is a class node.
+    pub(crate) fn is_agent(&self, node: usize) -> bool
+        requires { node < length self.now.nodes }
+        ensures agent { IsTrue result → IsAgent self.now node }
+        ensures class { result ≡ false → IsClass self.now node }
+    {
+        match self.nodes.as_slice()[node].node {
+            Node::AgentNode(_) => true,
+            Node::ClassNode(_, _) => false,
+        }
     }
 }

@@ -1,8 +1,8 @@
 ghost use Rattle.std.specs.Prelude.{◌≡◌, ◌<◌, ◌≤◌, ◌^◌, length, IsTrue, Some, option_map, IfOk};
 ghost use Rattle.in_symbols.specs.Tables.{IsSymbol};
 ghost use Rattle.in_net.specs.Built.{IsOver};
-ghost use Rattle.in_net.specs.Parts.{wire_in};
-ghost use Rattle.in_simple.specs.Opening.{AreAllThere, AreClassesOf, IsNodeOf, open_point, open_wire, AreNodesOf, AreWiresOf, Opens};
+ghost use Rattle.in_net.specs.Parts.{IsWhole, wire_in};
+ghost use Rattle.in_simple.specs.Opening.{AreAllThere, AreClassesOf, Each, AreNumbered, IsNodeOf, open_point, open_wire, AreNodesOf, AreWiresOf, Opens};
 
 use crate::open_nets::{Node, OpenNet, OpenNode, Point};
 use in_net::{AgentNo, Net};
@@ -13,7 +13,8 @@ use std::alloc::{AllocError, Global};
 /// The classes of a symbol's places.
 fn classes(alloc: Global, symbols: &Symbols, symbol: SymbolNo) -> Result<Items<u8>, AllocError>
     requires { IsSymbol symbols.now symbol.0 }
-    ensures { IfOk result (AreClassesOf symbols.now symbol) }
+    ensures classes { IfOk result (AreClassesOf symbols.now symbol) }
+    ensures few { IfOk result (λ classes. length classes ≤ 256) }
 {
     let mut classes = Items::new(alloc);
     let arity = symbols.arity(symbol);
@@ -29,7 +30,8 @@ fn node(alloc: Global, symbols: &Symbols, net: &Net, agent: AgentNo) -> Result<O
     requires built { IsTrue net.now.built }
     requires there { AreAllThere net.now }
     requires agent { agent.0 < length net.now.cells }
-    ensures { IfOk result (IsNodeOf symbols.now net.now agent.0) }
+    ensures node { IfOk result (IsNodeOf symbols.now net.now agent.0) }
+    ensures few { IfOk result (λ node. length node.class_of ≤ 256) }
 {
     match net.symbol(agent) {
         Some(symbol) => Ok(OpenNode {
@@ -49,6 +51,7 @@ fn nodes(alloc: Global, symbols: &Symbols, net: &Net) -> Result<Items<OpenNode>,
     requires there { AreAllThere net.now }
     ensures nodes { IfOk result (AreNodesOf symbols.now net.now) }
     ensures small { IfOk result (λ nodes. length nodes < 2 ^ 32) }
+    ensures few { IfOk result (Each (λ n node. length node.class_of ≤ 256)) }
 {
     let mut nodes = Items::new(alloc);
     let count = net.agents();
@@ -90,12 +93,14 @@ fn wires(alloc: Global, net: &Net) -> Result<Items<(Point, Point)>, AllocError>
 }
 
 /// The open net of an initial net, as built: a node for each agent, in order and with the classes of its symbol, a wire for each
-/// wire, by number, and the free ends. Refused for want of memory alone. Lafont 1990 asks of a net that it is semi-simple; the open
-/// net has what is needed to say so.
+/// wire, by number, and the free ends. Refused for want of memory alone. The tables are to number classes from 1, which those of a
+/// program do. Lafont 1990 asks of a net that it is semi-simple; the open net has what is needed to say so.
 pub fn open_net(alloc: Global, symbols: &Symbols, net: &Net) -> Result<OpenNet, AllocError>
     requires over { IsOver symbols.now net.now }
     requires built { IsTrue net.now.built }
     requires there { AreAllThere net.now }
+    requires whole { IsWhole net.now }
+    requires numbered { AreNumbered symbols.now }
     ensures { IfOk result (Opens symbols.now net.now) }
 {
     Ok(OpenNet {

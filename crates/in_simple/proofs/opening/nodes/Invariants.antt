@@ -1,4 +1,4 @@
-use Rattle.std.proofs.Common.{◌≡◌, length}
+use Rattle.std.proofs.Common.{◌≡◌, ◌≤◌, length}
 use Rattle.in_simple.specs.Opening.{Each, IsNodeOf}
 use Rattle.in_simple.proofs.opening.nodes.Given as goal
 
@@ -6,4 +6,5 @@ abbrev pub invariant-loop-agent : goal.invariant-loop-agent
 invariant-loop-agent l = record {
   count : length l.nodes ≡ l.agent;
   each : Each (IsNodeOf l.symbols l.net) l.nodes;
+  few : Each (λ n node. length node.class_of ≤ 256) l.nodes;
 }

@@ -1,0 +1,5 @@
+use Rattle.in_simple.specs.Procedure.{Spreads}
+use Rattle.in_simple.proofs.components.spread.Given as goal
+
+abbrev pub invariant-loop-port : goal.invariant-loop-port
+invariant-loop-port l = Spreads l.wired l.within l.node l.port l.initial.reached l.initial.pending l.reached l.pending

@@ -1,0 +1,33 @@
+use Rattle.std.proofs.Common.{◌≡◌, ◌+◌, ◌-◌, ◌∙◌, suc, true, false, length, refl, sym, subst, ap, arith}
+use Rattle.in_simple.specs.Procedure.{GoesOn, IsPlan, Lists, IsRest}
+use Rattle.in_simple.specs.Stuck.{ports_of, turn}
+use Rattle.in_simple.proofs.Planning.{goes_make, goes_keep, goes_on, keeps_make, agent_start, class_last, turn_agent, turn_principal, turn_class, plan_start, plan_end, lists_part}
+use Rattle.in_simple.proofs.plans.Plan.agent.Goals as goal
+
+pub join-requires-clause-plan : goal.join-requires-clause-plan
+join-requires-clause-plan c =
+    let o = c.args.wired.now in
+    let n = c.args.node in
+    let p = c.args.self in
+    let a = c.if-ports-gt0.true in
+    let d = c.ports-ports.ensures.ports in
+    let g = goes_make o n (1 + (ports_of o n - 1)) p c.in_ok-classes.classes c.in_ok-plan.plan _ c.in_ok-classes.ensures c.in_ok-plan.ensures in
+    subst (λ z. IsPlan o n z c.in_ok-plan.plan) (let e : 1 + (ports_of o n - 1) ≡ ports_of o n = omega arith in e ∙ sym (turn_principal o n c.requires.agent)) g.0
+
+pub returns-in_ok-join : goal.returns-in_ok-join
+returns-in_ok-join c =
+    let o = c.args.wired.now in
+    let n = c.args.node in
+    let p = c.args.self in
+    let g = goes_make o n (1 + (ports_of o n - 1)) p c.in_ok-classes.classes c.in_ok-plan.plan _ c.in_ok-classes.ensures c.in_ok-plan.ensures in
+    goes_on o n (1 + (ports_of o n - 1)) (suc (ports_of o n)) p c.in_ok-plan.plan c.in_ok-join.field-0 g (subst (λ z. GoesOn o n (suc z) c.in_ok-plan.plan c.in_ok-join.field-0) (turn_principal o n c.requires.agent) c.in_ok-join.ensures)
+
+pub returns-else-ports-gt0 : goal.returns-else-ports-gt0
+returns-else-ports-gt0 c =
+    let o = c.args.wired.now in
+    let n = c.args.node in
+    let p = c.args.self in
+    let a = c.if-ports-gt0.false in
+    let d = c.ports-ports.ensures.ports in
+    let g = goes_make o n (1 + (ports_of o n - 1)) p c.in_ok-classes.classes c.in_ok-plan.plan _ c.in_ok-classes.ensures c.in_ok-plan.ensures in
+    subst (λ z. GoesOn o n z p c.in_ok-plan.plan) (let e : 1 + (ports_of o n - 1) ≡ suc (ports_of o n) = omega arith in e) g

@@ -1,0 +1,38 @@
+use Rattle.std.proofs.Common.{◌≡◌, ◌+◌, ◌-◌, ◌∙◌, suc, true, false, length, refl, sym, subst, ap, arith}
+use Rattle.in_simple.specs.Procedure.{GoesOn, IsPlan, Lists, IsRest}
+use Rattle.in_simple.specs.Stuck.{ports_of, turn}
+use Rattle.in_simple.proofs.Planning.{goes_make, goes_keep, goes_on, keeps_make, agent_start, class_last, turn_agent, turn_principal, turn_class, plan_start, plan_end, lists_part}
+use Rattle.in_simple.proofs.plans.Plan.class.Goals as goal
+
+pub loop-port-init : goal.loop-port-init
+loop-port-init c =
+    let o = c.args.wired.now in
+    let n = c.args.node in
+    let p = c.args.self in
+    goes_make o n 0 p p c.in_ok-plan.plan _ (c.requires.plan, refl) c.in_ok-plan.ensures
+
+pub join-requires-clause-plan : goal.join-requires-clause-plan
+join-requires-clause-plan c =
+    let o = c.args.wired.now in
+    let n = c.args.node in
+    let p = c.args.self in
+    subst (λ z. IsPlan o n z c.loop-port.plan) (sym (turn_class o n c.loop-port.port c.requires.class)) c.loop-port.invariant.0
+
+pub loop-port-preserved : goal.loop-port-preserved
+loop-port-preserved c =
+    let o = c.args.wired.now in
+    let n = c.args.node in
+    let i = c.loop-port.port in
+    let e = turn_class o n i c.requires.class in
+    let g = goes_on o n i (suc (turn o n i)) c.args.self c.loop-port.plan c.in_ok-plan-2.plan c.loop-port.invariant c.in_ok-plan-2.ensures in
+    subst (λ z. GoesOn o n z c.args.self c.in_ok-plan-2.plan) (let f : suc (turn o n i) ≡ i + 1 = omega arith in f) g
+
+pub returns : goal.returns
+returns c =
+    let o = c.args.wired.now in
+    let n = c.args.node in
+    let p = c.args.self in
+    let a = c.loop-port-test.false in
+    let b = c.loop-port.auto in
+    let d = c.ports-ports.ensures.ports in
+    class_last o c.ports-ports.ensures.net.net n p c.loop-port.plan c.requires.class (subst (λ z. GoesOn o n z p c.loop-port.plan) (let e : c.loop-port.port ≡ ports_of o n = omega arith in e) c.loop-port.invariant)

@@ -1,0 +1,5 @@
+use Rattle.in_simple.specs.Procedure.{GoesOn}
+use Rattle.in_simple.proofs.plans.Plan.class.Given as goal
+
+abbrev pub invariant-loop-port : goal.invariant-loop-port
+invariant-loop-port l = GoesOn l.wired l.node l.port l.fn.self l.plan

@@ -1,0 +1,39 @@
+use Rattle.std.proofs.Common.{◌≡◌, ◌+◌, ◌-◌, ◌∙◌, suc, true, false, length, refl, sym, subst, ap, arith}
+use Rattle.in_simple.specs.Procedure.{GoesOn, IsPlan, Lists, IsRest}
+use Rattle.in_simple.specs.Stuck.{ports_of, turn}
+use Rattle.in_simple.proofs.Planning.{goes_make, goes_keep, goes_on, keeps_make, agent_start, class_last, turn_agent, turn_principal, turn_class, plan_start, plan_end, lists_part}
+use Rattle.in_simple.proofs.plans.Plan.classes.Goals as goal
+
+pub loop-port-init : goal.loop-port-init
+loop-port-init c =
+    let o = c.args.wired.now in
+    let n = c.args.node in
+    let p = c.args.self in
+    record { goes = agent_start o c.ports-port-end.ensures.net.net n p c.requires.agent c.requires.plan; bound = omega arith }
+
+pub class_port-requires-clause-plan : goal.class_port-requires-clause-plan
+class_port-requires-clause-plan c =
+    let o = c.args.wired.now in
+    let n = c.args.node in
+    let p = c.args.self in
+    subst (λ z. IsPlan o n z c.loop-port.plan) (sym (turn_agent o n c.loop-port.port c.requires.agent (λ e. let a = c.loop-port.auto in omega arith))) c.loop-port.invariant.goes.0
+
+pub loop-port-preserved : goal.loop-port-preserved
+loop-port-preserved c =
+    let o = c.args.wired.now in
+    let n = c.args.node in
+    let i = c.loop-port.port in
+    let e = turn_agent o n i c.requires.agent (λ e. let a = c.loop-port.auto in omega arith) in
+    let g = goes_on o n i (suc (turn o n i)) c.args.self c.loop-port.plan c.in_ok-plan.field-0-0 c.loop-port.invariant.goes c.in_ok-plan.ensures in
+    let l = c.loop-port-test.true in
+    record { goes = subst (λ z. GoesOn o n z c.args.self c.in_ok-plan.field-0-0) (let f : suc (turn o n i) ≡ i + 1 = omega arith in f) g; bound = omega arith }
+
+pub returns : goal.returns
+returns c =
+    let o = c.args.wired.now in
+    let n = c.args.node in
+    let p = c.args.self in
+    let a = c.loop-port-test.false in
+    let b = c.loop-port.invariant.bound in
+    let d = c.ports-port-end.ensures.ports in
+    goes_keep o n (1 + (ports_of o n - 1)) p c.loop-port.plan c.in_ok-filled.filled (subst (λ z. GoesOn o n z p c.loop-port.plan) (let e : c.loop-port.port ≡ 1 + (ports_of o n - 1) = omega arith in e) c.loop-port.invariant.goes) c.in_ok-filled.ensures

@@ -1,0 +1,9 @@
+use Rattle.std.proofs.Common.{◌≤◌, ◌+◌, ◌-◌}
+use Rattle.in_simple.specs.Procedure.{GoesOn}
+use Rattle.in_simple.proofs.plans.Plan.classes.Given as goal
+
+abbrev pub invariant-loop-port : goal.invariant-loop-port
+invariant-loop-port l = record {
+  goes : GoesOn l.wired l.node l.port l.fn.self l.plan;
+  bound : l.port ≤ 1 + (l.port-end - 1);
+}

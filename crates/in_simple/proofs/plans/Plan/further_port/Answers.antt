@@ -1,0 +1,13 @@
+use Rattle.std.proofs.Common.{◌≡◌, ◌+◌, ◌-◌, ◌∙◌, suc, true, false, length, refl, sym, subst, ap, arith}
+use Rattle.in_simple.specs.Procedure.{GoesOn, IsPlan, Lists, IsRest}
+use Rattle.in_simple.specs.Stuck.{ports_of, turn}
+use Rattle.in_simple.proofs.Planning.{goes_make, goes_keep, goes_on, keeps_make, agent_start, class_last, turn_agent, turn_principal, turn_class, plan_start, plan_end, lists_part}
+use Rattle.in_simple.proofs.plans.Plan.further_port.Goals as goal
+
+pub returns-in_ok-make : goal.returns-in_ok-make
+returns-in_ok-make c =
+    let o = c.args.wired.now in
+    let n = c.args.node in
+    let p = c.args.self in
+    let t = suc (turn o n c.args.port) in
+    goes_make o n t p c.in_ok-plan.plan c.in_ok-make.field-0 _ c.in_ok-plan.ensures c.in_ok-make.ensures

@@ -1,0 +1,57 @@
+use Rattle.std.proofs.Common.{◌≡◌, ◌+◌, ◌∙◌, suc, true, false, refl, sym, subst, ap, arith}
+use Rattle.in_simple.specs.declared.open_nets.Point.TheVariants.{Port}
+use Rattle.in_simple.specs.OpenNets.{IsWire}
+use Rattle.in_simple.specs.Procedure.{GoesOn, IsPlan}
+use Rattle.in_simple.specs.Stuck.{ports_of, turn}
+use Rattle.in_simple.proofs.Planning.{port_free, port_out, port_done, port_derive, goes_make, goes_keep, goes_on, keeps_make, read_bit, node_out, node_done, node_derive, agent_start, class_last, turn_agent, turn_principal, turn_class, plan_start, plan_end, lists_part}
+use Rattle.in_simple.proofs.plans.Plan.join.Goals as goal
+
+pub returns-then-as_slice-near-2 : goal.returns-then-as_slice-near-2
+returns-then-as_slice-near-2 c =
+    let o = c.args.wired.now in
+    let n = c.args.node in
+    let i = c.args.port in
+    let p = c.args.self in
+    let net = c.partner.ensures.net.net in
+    let v = c.partner.result.0 in
+    let x = c.in_default-Port in
+    let wire = subst (λ z. IsWire o v (Port n i) z) x.is-1 c.partner.ensures.wire in
+    port_done o net n p i v x.near x.field-1-1 c.requires.port c.requires.plan wire (read_bit _ p.done x.near true c.as_slice-then-as_slice-near.ensures c.if-as_slice-near-2.true)
+
+pub returns-in_ok-make-in_default-Port : goal.returns-in_ok-make-in_default-Port
+returns-in_ok-make-in_default-Port c =
+    let o = c.args.wired.now in
+    let n = c.args.node in
+    let i = c.args.port in
+    let p = c.args.self in
+    let net = c.partner.ensures.net.net in
+    let v = c.partner.result.0 in
+    let x = c.in_default-Port in
+    let wire = subst (λ z. IsWire o v (Port n i) z) x.is-1 c.partner.ensures.wire in
+    let d = c.in_ok-derive-in_default-Port in
+    goes_make o n (suc (turn o n i)) p d.field-0 c.in_ok-make-in_default-Port.field-0 _
+    (port_derive o net n p d.field-0 i v x.near x.field-1-1 c.requires.plan wire (read_bit _ p.rest x.near true c.as_slice.ensures c.if-as_slice-near.true) (read_bit _ p.done x.near false c.as_slice-then-as_slice-near.ensures c.if-as_slice-near-2.false) d.ensures) c.in_ok-make-in_default-Port.ensures
+
+pub returns-else-as_slice-near : goal.returns-else-as_slice-near
+returns-else-as_slice-near c =
+    let o = c.args.wired.now in
+    let n = c.args.node in
+    let i = c.args.port in
+    let p = c.args.self in
+    let net = c.partner.ensures.net.net in
+    let v = c.partner.result.0 in
+    let x = c.in_default-Port in
+    let wire = subst (λ z. IsWire o v (Port n i) z) x.is-1 c.partner.ensures.wire in
+    port_out o net n p i v x.near x.field-1-1 c.requires.port c.requires.plan wire (read_bit _ p.rest x.near false c.as_slice.ensures c.if-as_slice-near.false)
+
+pub returns-in_default-Free : goal.returns-in_default-Free
+returns-in_default-Free c =
+    let o = c.args.wired.now in
+    let n = c.args.node in
+    let i = c.args.port in
+    let p = c.args.self in
+    let net = c.partner.ensures.net.net in
+    let v = c.partner.result.0 in
+    let x = c.in_default-Free in
+    let wire = subst (λ z. IsWire o v (Port n i) z) x.is-1 c.partner.ensures.wire in
+    port_free o net n p i v x.field-0-1 c.requires.port c.requires.plan wire

@@ -1,0 +1,36 @@
+use Rattle.std.proofs.Common.{◌≡◌, ◌+◌, ◌∙◌, suc, true, false, refl, sym, subst, ap, arith}
+use Rattle.in_simple.specs.declared.open_nets.Point.TheVariants.{Port}
+use Rattle.in_simple.specs.OpenNets.{IsWire}
+use Rattle.in_simple.specs.Procedure.{GoesOn, IsPlan}
+use Rattle.in_simple.specs.Stuck.{ports_of, turn}
+use Rattle.in_simple.proofs.Planning.{port_free, port_out, port_done, port_derive, goes_make, goes_keep, goes_on, keeps_make, read_bit, node_out, node_done, node_derive, agent_start, class_last, turn_agent, turn_principal, turn_class, plan_start, plan_end, lists_part}
+use Rattle.in_simple.proofs.plans.Plan.other.Goals as goal
+
+pub returns-then-as_slice-near-2 : goal.returns-then-as_slice-near-2
+returns-then-as_slice-near-2 c =
+    let o = c.args.wired.now in
+    let n = c.args.node in
+    let m = c.args.near in
+    let p = c.args.self in
+    let net = c.requires.net.net in
+    node_done o net n p m c.requires.plan (read_bit _ p.done m true c.as_slice-then-as_slice-near.ensures c.if-as_slice-near-2.true)
+
+pub returns-in_ok-make : goal.returns-in_ok-make
+returns-in_ok-make c =
+    let o = c.args.wired.now in
+    let n = c.args.node in
+    let m = c.args.near in
+    let p = c.args.self in
+    let net = c.requires.net.net in
+    let d = c.in_ok-derive in
+    goes_make o n (suc (suc (ports_of o n) + m)) p d.field-0 c.in_ok-make.field-0 _
+    (node_derive o net n p d.field-0 m c.requires.plan (read_bit _ p.rest m true c.as_slice.ensures c.if-as_slice-near.true) (read_bit _ p.done m false c.as_slice-then-as_slice-near.ensures c.if-as_slice-near-2.false) d.ensures) c.in_ok-make.ensures
+
+pub returns-else-as_slice-near : goal.returns-else-as_slice-near
+returns-else-as_slice-near c =
+    let o = c.args.wired.now in
+    let n = c.args.node in
+    let m = c.args.near in
+    let p = c.args.self in
+    let net = c.requires.net.net in
+    node_out o net n p m c.requires.plan (read_bit _ p.rest m false c.as_slice.ensures c.if-as_slice-near.false)

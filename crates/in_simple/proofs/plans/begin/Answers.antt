@@ -1,0 +1,14 @@
+use Rattle.std.proofs.Common.{◌≡◌, ◌+◌, ◌-◌, ◌∙◌, suc, true, false, length, refl, sym, subst, ap, arith}
+use Rattle.in_simple.specs.Procedure.{GoesOn, IsPlan, Lists, IsRest}
+use Rattle.in_simple.specs.Stuck.{ports_of, turn}
+use Rattle.in_simple.proofs.Planning.{goes_make, goes_keep, goes_on, keeps_make, agent_start, class_last, turn_agent, turn_principal, turn_class, plan_start, plan_end, lists_part}
+use Rattle.in_simple.proofs.plans.begin.Goals as goal
+
+pub returns-clause-plan : goal.returns-clause-plan
+returns-clause-plan c =
+    let o = c.args.wired.now in
+    let a = c.nodes.ensures.count in
+    let b = c.in_ok-done.ensures.count in
+    let d = c.in_ok-rest.ensures.size in
+    let e = c.requires.size in
+    plan_start o c.nodes.ensures.net.net c.args.node _ (omega arith) (omega arith) c.in_ok-rest.ensures.out c.in_ok-done.ensures.none c.new.ensures

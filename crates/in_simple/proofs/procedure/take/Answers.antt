@@ -1,0 +1,34 @@
+use Rattle.std.proofs.Common.{◌≡◌, ◌<◌, ◌++◌, ◌∷◌, reverse, length, sym, subst, arith}
+use Rattle.std.specs.Prelude.{MatchOption}
+use Rattle.in_simple.specs.declared.plans.Task.TheVariants.{Derive}
+use Rattle.in_simple.specs.Procedure.{IsWork, IsFirst, NoneSplits, AreFewer, nodes_in}
+use Rattle.in_simple.proofs.Working.{expand_work, expand_fewer, stuck_first, stuck_underivable}
+use Rattle.in_simple.proofs.procedure.take.Goals as goal
+
+pub stuck-requires : goal.stuck-requires
+stuck-requires c = let a = c.in_ok-node.ensures.net.nodes in let b = c.requires.sized.0 in omega arith
+
+pub returns-in_ok-expand-in-Some : goal.returns-in_ok-expand-in-Some
+returns-in_ok-expand-in-Some c =
+    let o = c.args.wired.now in
+    let part = c.args.part.now in
+    let ts = reverse c.args.work.now.tasks in
+    let n = c.in-Some.node in
+    let ps = c.in_ok-tasks-in-Some.tasks in
+    let net = c.in_ok-node.ensures.net.net in
+    let f = subst (λ z. MatchOption z (NoneSplits o part (length o.nodes)) (IsFirst o part)) c.in-Some.is c.in_ok-node.ensures.found in
+    let e = c.in_ok-expand-in-Some.ensures in
+    let t = c.in_ok-tasks-in-Some.ensures in (
+      subst (λ z. IsWork o z) (sym e) (expand_work o net part n ps ts c.requires f t.lists t.sized),
+      subst (λ z. AreFewer o (Derive part ∷ ts) z) (sym e) (expand_fewer o net part n ps ts c.requires f t.lists),
+    )
+
+pub returns-in_ok-stuck-in-None : goal.returns-in_ok-stuck-in-None
+returns-in_ok-stuck-in-None c =
+    let o = c.args.wired.now in
+    let part = c.args.part.now in
+    let ts = reverse c.args.work.now.tasks in
+    let net = c.in_ok-node.ensures.net.net in
+    let f = subst (λ z. MatchOption z (NoneSplits o part (length o.nodes)) (IsFirst o part)) c.in-None.is c.in_ok-node.ensures.found in
+    let s = stuck_first o net part ts c.requires f in
+    (stuck_underivable o net (nodes_in part) s, (nodes_in part, s, c.in_ok-stuck-in-None.ensures))

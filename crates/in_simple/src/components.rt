@@ -1,0 +1,100 @@
+ghost use Rattle.std.specs.Prelude.{◌≡◌, ◌<◌, ◌≤◌, length, slice_index_or, IfOk, OnOk, false, ℕ};
+ghost use Rattle.in_simple.specs.Constructions.{IsIn};
+ghost use Rattle.in_simple.specs.Procedure.{IsNeighbour, IsReached, Reaches, Spreads, nodes_in};
+ghost use Rattle.in_simple.specs.Stuck.{ports_of};
+
+use crate::open_nets::Point;
+use crate::wired::Wired;
+use sqlite_items::Items;
+use std::alloc::{AllocError, Global};
+
+/// No node.
+pub(crate) fn none(alloc: Global, count: usize) -> Result<Items<bool>, AllocError>
+    ensures count { IfOk result (λ nodes. length nodes ≡ count) }
+    ensures none { IfOk result (λ nodes. (n : ℕ) → nodes_in nodes n ≡ false) }
+{
+    let mut nodes = Items::new(alloc);
+    for node in 0..count {
+        nodes.push(false)?;
+    }
+    Ok(nodes)
+}
+
+/// The node at the other end of the wire at a port, where it is one of these.
+pub(crate) fn neighbour(
+    wired: &Wired,
+    within: &Items<bool>,
+    node: usize,
+    port: usize,
+) -> Option<u32>
+    requires size { length within.now ≡ length wired.now.nodes }
+    requires node { node < length wired.now.nodes }
+    requires port { port < ports_of wired.now node }
+    ensures { IsNeighbour wired.now within.now node port result }
+{
+    match wired.partner(node, port) {
+        (_, Point::Port(near, _)) => {
+            if within.as_slice()[near as usize] {
+                Some(near)
+            } else {
+                None
+            }
+        }
+        (_, Point::Free(_)) => None,
+    }
+}
+
+/// Reaches a node, if it isn't yet.
+fn reach(near: u32, reached: &mut Items<bool>, pending: &mut Items<u32>) -> Result<(), AllocError>
+    requires { near < length reached.old }
+    ensures { OnOk result (Reaches near reached.old pending.old reached.new pending.new) }
+{
+    if !reached.as_slice()[near as usize] {
+        reached.set(near as usize, true);
+        pending.push(near)?;
+    }
+    Ok(())
+}
+
+/// Reaches the neighbours of a node.
+fn spread(
+    wired: &Wired,
+    within: &Items<bool>,
+    node: usize,
+    reached: &mut Items<bool>,
+    pending: &mut Items<u32>,
+) -> Result<(), AllocError>
+    requires within { length within.now ≡ length wired.now.nodes }
+    requires node { node < length wired.now.nodes }
+    requires reached { length reached.old ≡ length wired.now.nodes }
+    ensures { OnOk result (Spreads wired.now within.now node (ports_of wired.now node) reached.old pending.old reached.new pending.new) }
+{
+    for port in 0..wired.ports(node) {
+        if let Some(near) = neighbour(wired, within, node, port) {
+            reach(near, reached, pending)?;
+        }
+    }
+    Ok(())
+}
+
+/// The component of a node, of the sub-net of these nodes.
+pub(crate) fn component(
+    alloc: Global,
+    wired: &Wired,
+    within: &Items<bool>,
+    from: u32,
+) -> Result<Items<bool>, AllocError>
+    requires within { length within.now ≡ length wired.now.nodes }
+    requires small { from < length wired.now.nodes }
+    requires from { IsIn from (nodes_in within.now) }
+    ensures size { IfOk result (λ c. length c ≡ length wired.now.nodes) }
+    ensures reached { IfOk result (IsReached wired.now within.now from) }
+{
+    let mut reached = none(alloc, wired.nodes())?;
+    let mut pending = Items::new(alloc);
+    reach(from, &mut reached, &mut pending)?;
+    while let Some(node) = pending.pop() {
+        spread(wired, within, node as usize, &mut reached, &mut pending)?;
+    }
+    Ok(reached)
+}

@@ -1,0 +1,353 @@
+ghost use Rattle.std.specs.Prelude.{◌≡◌, ◌<◌, ◌+◌, ◌-◌, ◌||◌, suc, length, IfOk, ℕ};
+ghost use Rattle.in_simple.specs.Constructions.{IsIn};
+ghost use Rattle.in_simple.specs.Procedure.{AreSized, Derives, GoesOn, IsPlan, IsRest, KeepsPlan, Lists, nodes_in, with_task};
+ghost use Rattle.in_simple.specs.OpenNets.{IsAgent, IsClass, IsOrderly};
+ghost use Rattle.in_simple.specs.Stuck.{ports_of, turn};
+ghost use Rattle.in_simple.specs.declared.plans.Task.TheVariants.{Make};
+
+use crate::components::{component, none};
+use crate::open_nets::Point;
+use crate::splitting::without;
+use crate::wired::Wired;
+use sqlite_items::Items;
+use std::alloc::{AllocError, Global};
+
+/// A step over those that came last.
+#[derive(Clone, Copy)]
+pub(crate) enum Joint {
+    Empty,
+    Link(u32),
+    Given(u32),
+    /// With as many classes.
+    Graft(u32, usize),
+    /// Along a wire.
+    Cut(u32),
+    Mix,
+}
+
+/// What remains to be done: a part that is to be derived, or a step.
+#[derive(Drop)]
+pub(crate) enum Task {
+    Derive(Items<bool>),
+    Make(Joint),
+}
+
+/// The tasks of a part of which one node is taken out, the nodes that are left, and those that the tasks derive.
+#[derive(Drop)]
+pub(crate) struct Plan {
+    pub(crate) tasks: Items<Task>,
+    pub(crate) rest: Items<bool>,
+    pub(crate) done: Items<bool>,
+}
+
+/// These nodes are derived too.
+fn add(done: &mut Items<bool>, more: &Items<bool>)
+    requires { length more.now ≡ length done.old }
+    ensures size { length done.new ≡ length done.old }
+    ensures both { (n : ℕ) → nodes_in done.new n ≡ (nodes_in done.old n || nodes_in more.now n) }
+{
+    for node in 0..more.len() {
+        if more.as_slice()[node] {
+            done.set(node, true);
+        }
+    }
+}
+
+impl Plan {
+    /// One more step.
+    fn make(mut self, joint: Joint) -> Result<Plan, AllocError>
+        ensures { IfOk result (λ plan. plan ≡ with_task self (Make joint)) }
+    {
+        self.tasks.push(Task::Make(joint))?;
+        Ok(self)
+    }
+
+    /// Derives the component of a node.
+    fn derive(mut self, alloc: Global, wired: &Wired, near: u32) -> Result<Plan, AllocError>
+        requires rest { length self.rest ≡ length wired.now.nodes }
+        requires done { length self.done ≡ length wired.now.nodes }
+        requires small { near < length wired.now.nodes }
+        requires near { IsIn near (nodes_in self.rest) }
+        ensures { IfOk result (Derives wired.now near self) }
+    {
+        let component = component(alloc, wired, &self.rest, near)?;
+        add(&mut self.done, &component);
+        self.tasks.push(Task::Derive(component))?;
+        Ok(self)
+    }
+
+    /// The component that a port touches, unless it is derived; else the port's wire, where it leads out of the part or to
+    /// a later port. Answers whether something came.
+    fn port(
+        self,
+        alloc: Global,
+        wired: &Wired,
+        node: usize,
+        port: usize,
+    ) -> Result<(Plan, bool), AllocError>
+        requires node { node < length wired.now.nodes }
+        requires port { port < ports_of wired.now node }
+        requires plan { IsPlan wired.now node (turn wired.now node port) self }
+        ensures { IfOk result (λ r. GoesOn wired.now node (suc (turn wired.now node port)) self r.0) }
+    {
+        match wired.partner(node, port) {
+            (wire, Point::Port(near, place)) => {
+                if self.rest.as_slice()[near as usize] {
+                    if self.done.as_slice()[near as usize] {
+                        Ok((self, false))
+                    } else {
+                        Ok((self.derive(alloc, wired, near)?, true))
+                    }
+                } else if near as usize == node && place as usize <= port {
+                    Ok((self, false))
+                } else {
+                    Ok((self.make(Joint::Link(wire))?, true))
+                }
+            }
+            (wire, Point::Free(_)) => Ok((self.make(Joint::Link(wire))?, true)),
+        }
+    }
+
+    /// The component that a port touches, unless it is derived, cut to what came so far.
+    fn join(
+        self,
+        alloc: Global,
+        wired: &Wired,
+        node: usize,
+        port: usize,
+    ) -> Result<Plan, AllocError>
+        requires node { node < length wired.now.nodes }
+        requires port { port < ports_of wired.now node }
+        requires plan { IsPlan wired.now node (turn wired.now node port) self }
+        ensures { IfOk result (GoesOn wired.now node (suc (turn wired.now node port)) self) }
+    {
+        match wired.partner(node, port) {
+            (wire, Point::Port(near, _)) => {
+                if self.rest.as_slice()[near as usize] {
+                    if self.done.as_slice()[near as usize] {
+                        Ok(self)
+                    } else {
+                        Ok(self.derive(alloc, wired, near)?.make(Joint::Cut(wire))?)
+                    }
+                } else {
+                    Ok(self)
+                }
+            }
+            (_, Point::Free(_)) => Ok(self),
+        }
+    }
+
+    /// The first port of a class; so many classes before it have no port.
+    fn first_port(
+        self,
+        alloc: Global,
+        wired: &Wired,
+        node: usize,
+        port: usize,
+        skipped: usize,
+    ) -> Result<Plan, AllocError>
+        requires node { node < length wired.now.nodes }
+        requires port { port < ports_of wired.now node }
+        requires plan { IsPlan wired.now node (turn wired.now node port) self }
+        ensures { IfOk result (GoesOn wired.now node (suc (turn wired.now node port)) self) }
+    {
+        let begun = skip(self, skipped)?;
+        let (plan, came) = begun.port(alloc, wired, node, port)?;
+        if came {
+            Ok(plan)
+        } else {
+            Ok(plan.make(Joint::Empty)?)
+        }
+    }
+
+    /// A further port of a class.
+    fn further_port(
+        self,
+        alloc: Global,
+        wired: &Wired,
+        node: usize,
+        port: usize,
+    ) -> Result<Plan, AllocError>
+        requires node { node < length wired.now.nodes }
+        requires port { port < ports_of wired.now node }
+        requires plan { IsPlan wired.now node (turn wired.now node port) self }
+        ensures { IfOk result (GoesOn wired.now node (suc (turn wired.now node port)) self) }
+    {
+        let (plan, came) = self.port(alloc, wired, node, port)?;
+        if came {
+            Ok(plan.make(Joint::Mix)?)
+        } else {
+            Ok(plan)
+        }
+    }
+
+    /// A port of a class, where so many classes are begun. Answers how many are begun now.
+    fn class_port(
+        self,
+        alloc: Global,
+        wired: &Wired,
+        node: usize,
+        port: usize,
+        begun: usize,
+    ) -> Result<(Plan, usize), AllocError>
+        requires node { node < length wired.now.nodes }
+        requires port { port < ports_of wired.now node }
+        requires plan { IsPlan wired.now node (turn wired.now node port) self }
+        ensures { IfOk result (λ r. GoesOn wired.now node (suc (turn wired.now node port)) self r.0) }
+    {
+        let class = wired.class(node, port);
+        if class > begun {
+            Ok((
+                self.first_port(alloc, wired, node, port, class - begun - 1)?,
+                class,
+            ))
+        } else {
+            Ok((self.further_port(alloc, wired, node, port)?, begun))
+        }
+    }
+
+    /// The nets of an agent's classes.
+    fn classes(self, alloc: Global, wired: &Wired, node: usize) -> Result<Plan, AllocError>
+        requires node { node < length wired.now.nodes }
+        requires agent { IsAgent wired.now node }
+        requires plan { IsPlan wired.now node 0 self }
+        ensures { IfOk result (GoesOn wired.now node (1 + (ports_of wired.now node - 1)) self) }
+    {
+        let mut plan = self;
+        let mut begun = 0;
+        for port in 1..wired.ports(node) {
+            (plan, begun) = plan.class_port(alloc, wired, node, port, begun)?;
+        }
+        let filled = skip(plan, wired.classes(node).saturating_sub(begun))?;
+        Ok(filled)
+    }
+
+    /// An agent: the nets of its classes, the graft, and the component at its principal port.
+    fn agent(self, alloc: Global, wired: &Wired, node: usize) -> Result<Plan, AllocError>
+        requires node { node < length wired.now.nodes }
+        requires agent { IsAgent wired.now node }
+        requires plan { IsPlan wired.now node 0 self }
+        ensures { IfOk result (GoesOn wired.now node (suc (ports_of wired.now node)) self) }
+    {
+        let ports = wired.ports(node);
+        let classes = self.classes(alloc, wired, node)?;
+        let plan = classes.make(Joint::Graft(node as u32, wired.classes(node)))?;
+        if ports > 0 {
+            Ok(plan.join(alloc, wired, node, 0)?)
+        } else {
+            Ok(plan)
+        }
+    }
+
+    /// A class node, and the components at its ports.
+    fn class(self, alloc: Global, wired: &Wired, node: usize) -> Result<Plan, AllocError>
+        requires node { node < length wired.now.nodes }
+        requires class { IsClass wired.now node }
+        requires plan { IsPlan wired.now node 0 self }
+        ensures { IfOk result (GoesOn wired.now node (suc (ports_of wired.now node)) self) }
+    {
+        let ports = wired.ports(node);
+        let mut plan = self.make(Joint::Given(node as u32))?;
+        for port in 0..ports {
+            plan = plan.join(alloc, wired, node, port)?;
+        }
+        Ok(plan)
+    }
+
+    /// The component of a node, unless it is derived, beside what came so far.
+    fn other(self, alloc: Global, wired: &Wired, node: usize, near: u32) -> Result<Plan, AllocError>
+        requires node { node < length wired.now.nodes }
+        requires near { near < length wired.now.nodes }
+        requires plan { IsPlan wired.now node (suc (ports_of wired.now node) + near) self }
+        requires net { IsOrderly wired.now }
+        ensures { IfOk result (GoesOn wired.now node (suc (suc (ports_of wired.now node) + near)) self) }
+    {
+        if self.rest.as_slice()[near as usize] {
+            if self.done.as_slice()[near as usize] {
+                Ok(self)
+            } else {
+                Ok(self.derive(alloc, wired, near)?.make(Joint::Mix)?)
+            }
+        } else {
+            Ok(self)
+        }
+    }
+
+    /// The components that the node doesn't touch.
+    fn others(self, alloc: Global, wired: &Wired, node: usize) -> Result<Plan, AllocError>
+        requires node { node < length wired.now.nodes }
+        requires plan { IsPlan wired.now node (suc (ports_of wired.now node)) self }
+        ensures { IfOk result (GoesOn wired.now node (suc (ports_of wired.now node) + length wired.now.nodes) self) }
+    {
+        let mut plan = self;
+        for near in 0..wired.nodes() {
+            plan = plan.other(alloc, wired, node, near as u32)?;
+        }
+        Ok(plan)
+    }
+}
+
+/// Nothing, for classes with no port.
+fn skip(plan: Plan, classes: usize) -> Result<Plan, AllocError>
+    ensures { IfOk result (KeepsPlan plan) }
+{
+    let mut skipped = plan;
+    for class in 0..classes {
+        skipped = skipped.make(Joint::Empty)?;
+    }
+    Ok(skipped)
+}
+
+/// A plan with no task yet.
+fn begin(alloc: Global, wired: &Wired, part: &Items<bool>, node: usize) -> Result<Plan, AllocError>
+    requires size { length part.now ≡ length wired.now.nodes }
+    requires node { node < length wired.now.nodes }
+    ensures plan { IfOk result (IsPlan wired.now node 0) }
+    ensures rest { IfOk result (λ plan. IsRest node part.now plan.rest) }
+    ensures net { IfOk result (λ plan. IsOrderly wired.now) }
+{
+    let rest = without(alloc, part, node)?;
+    let done = none(alloc, wired.nodes())?;
+    Ok(Plan {
+        tasks: Items::new(alloc),
+        rest,
+        done,
+    })
+}
+
+/// The components that the node touches.
+fn touched(plan: Plan, alloc: Global, wired: &Wired, node: usize) -> Result<Plan, AllocError>
+    requires node { node < length wired.now.nodes }
+    requires plan { IsPlan wired.now node 0 plan }
+    ensures { IfOk result (GoesOn wired.now node (suc (ports_of wired.now node)) plan) }
+{
+    if wired.is_agent(node) {
+        Ok(plan.agent(alloc, wired, node)?)
+    } else {
+        Ok(plan.class(alloc, wired, node)?)
+    }
+}
+
+/// The tasks of a part that the node splits.
+pub(crate) fn tasks_of(
+    alloc: Global,
+    wired: &Wired,
+    part: &Items<bool>,
+    node: usize,
+) -> Result<Items<Task>, AllocError>
+    requires size { length part.now ≡ length wired.now.nodes }
+    requires node { node < length wired.now.nodes }
+    ensures net { IfOk result (λ tasks. IsOrderly wired.now) }
+    ensures lists { IfOk result (Lists wired.now node (nodes_in part.now) 0) }
+    ensures sized { IfOk result (AreSized (length wired.now.nodes)) }
+{
+    let begun = begin(alloc, wired, part, node)?;
+    let touched = touched(begun, alloc, wired, node)?;
+    let whole = touched.others(alloc, wired, node)?;
+    let Plan {
+        tasks,
+        rest: _,
+        done: _,
+    } = whole;
+    Ok(tasks)
+}

@@ -1,0 +1,276 @@
+ghost use Rattle.std.specs.Prelude.{◌≡◌, ◌<◌, ◌^◌, ◌++◌, ◌∷◌, [], length, reverse, true, IfOk, OnOk, MatchOption, MatchResult, ℕ};
+ghost use Rattle.in_simple.specs.OpenNets.{IsDerivable, IsOrderly};
+ghost use Rattle.in_simple.specs.Procedure.{AreFewer, AreMakes, IsListed, IsStuckNet, IsUndone, IsWork, Passes, StartsWork, nodes_in};
+ghost use Rattle.in_simple.specs.Outcomes.{IsOutcome};
+ghost use Rattle.in_simple.specs.declared.plans.Task.TheVariants.{Derive};
+
+use crate::derivations::{Derivation, Step, StepNumbers, Stuck, Undone};
+use crate::open_nets::{OpenNet, Point};
+use crate::plans::{Joint, Task, tasks_of};
+use crate::splitting::first_splitting;
+use crate::wired::Wired;
+use sqlite_items::Items;
+use std::alloc::{AllocError, Global};
+
+/// The tasks that are left, the first one last, the steps so far, and those of them that no step names yet.
+#[derive(Drop)]
+pub(crate) struct Work {
+    pub(crate) tasks: Items<Task>,
+    pub(crate) steps: Items<Step>,
+    pub(crate) roots: Items<u32>,
+}
+
+/// The last of these, in their order.
+fn last_of(alloc: Global, roots: &Items<u32>, count: usize) -> Result<StepNumbers, AllocError> {
+    let mut last = StepNumbers::new(alloc);
+    let first = roots.len() - count.min(roots.len());
+    for root in first..roots.len() {
+        last.push(roots.as_slice()[root])?;
+    }
+    Ok(last)
+}
+
+impl Work {
+    /// The tasks come first.
+    fn expand(&mut self, tasks: Items<Task>) -> Result<(), AllocError>
+        ensures { OnOk result (reverse self.new.tasks ≡ tasks ++ reverse self.old.tasks) }
+    {
+        let mut left = tasks;
+        while let Some(task) = left.pop() {
+            self.tasks.push(task)?;
+        }
+        Ok(())
+    }
+
+    /// One more step. More than 4,294,967,296 of them are no memory.
+    fn push(&mut self, step: Step) -> Result<(), AllocError>
+        ensures { self.new.tasks ≡ self.old.tasks }
+    {
+        match u32::try_from(self.steps.len()) {
+            Ok(number) => {
+                self.steps.push(step)?;
+                self.roots.push(number)
+            }
+            Err(_) => Err(AllocError),
+        }
+    }
+
+    /// The last step that none names.
+    fn pop(&mut self) -> u32
+        ensures { self.new.tasks ≡ self.old.tasks }
+    {
+        self.roots.pop().unwrap_or(0)
+    }
+
+    /// Forgets the last steps that none names.
+    fn forget(&mut self, count: usize)
+        ensures { self.new.tasks ≡ self.old.tasks }
+    {
+        for root in 0..count {
+            self.pop();
+        }
+    }
+
+    /// A step over the last ones that none names.
+    fn make(&mut self, alloc: Global, joint: Joint) -> Result<(), AllocError>
+        ensures { self.new.tasks ≡ self.old.tasks }
+    {
+        match joint {
+            Joint::Empty => self.push(Step::Empty),
+            Joint::Link(wire) => self.push(Step::Link { wire }),
+            Joint::Given(node) => self.push(Step::Given { node }),
+            Joint::Graft(node, count) => {
+                let classes = last_of(alloc, &self.roots, count)?;
+                self.forget(count);
+                self.push(Step::Graft { node, classes })
+            }
+            Joint::Cut(wire) => {
+                let b = self.pop();
+                let a = self.pop();
+                self.push(Step::Cut { wire, a, b })
+            }
+            Joint::Mix => {
+                let b = self.pop();
+                let a = self.pop();
+                self.push(Step::Mix { a, b })
+            }
+        }
+    }
+
+    /// Makes steps until a part is to be derived.
+    fn next_part(&mut self, alloc: Global) -> Result<Option<Items<bool>>, AllocError>
+        ensures { IfOk result (λ next. MatchOption next
+            (Passes (reverse self.old.tasks) [])
+            (λ part. Passes (reverse self.old.tasks) (Derive part ∷ reverse self.new.tasks))) }
+    {
+        while let Some(task) = self.tasks.pop() {
+            match task {
+                Task::Derive(part) => return Ok(Some(part)),
+                Task::Make(joint) => self.make(alloc, joint)?,
+            }
+        }
+        Ok(None)
+    }
+}
+
+/// Whether the wire is between two free ends.
+fn is_loose(open: &OpenNet, wire: usize) -> bool
+    requires { wire < length open.now.wires }
+{
+    matches!(open.wire(wire), (Point::Free(_), Point::Free(_)))
+}
+
+/// A Link of each wire between free ends, beside what came so far; or the empty net, where nothing comes.
+fn loose(alloc: Global, open: &OpenNet, begun: bool) -> Result<Items<Task>, AllocError>
+    ensures { IfOk result AreMakes }
+{
+    let mut tasks = Items::new(alloc);
+    let mut some = begun;
+    for wire in 0..open.wires() {
+        if is_loose(open, wire) {
+            tasks.push(Task::Make(Joint::Link(wire as u32)))?;
+            if some {
+                tasks.push(Task::Make(Joint::Mix))?;
+            }
+            some = true;
+        }
+    }
+    if !some {
+        tasks.push(Task::Make(Joint::Empty))?;
+    }
+    Ok(tasks)
+}
+
+/// All nodes.
+fn all(alloc: Global, count: usize) -> Result<Items<bool>, AllocError>
+    ensures size { IfOk result (λ nodes. length nodes ≡ count) }
+    ensures all { IfOk result (λ nodes. (n : ℕ) → n < count → nodes_in nodes n ≡ true) }
+{
+    let mut nodes = Items::new(alloc);
+    for node in 0..count {
+        nodes.push(true)?;
+    }
+    Ok(nodes)
+}
+
+/// The tasks of the whole open net.
+fn start(alloc: Global, open: &OpenNet) -> Result<Items<Task>, AllocError>
+    ensures { IfOk result (StartsWork (length open.now.nodes)) }
+{
+    let count = open.nodes() as usize;
+    let links = loose(alloc, open, count > 0)?;
+    if count > 0 {
+        let mut tasks = Items::new(alloc);
+        tasks.push(Task::Derive(all(alloc, count)?))?;
+        tasks.append(links)?;
+        Ok(tasks)
+    } else {
+        Ok(links)
+    }
+}
+
+/// The nodes of a part, by number.
+fn stuck(alloc: Global, part: &Items<bool>) -> Result<Stuck, AllocError>
+    requires { length part.now < 2 ^ 32 }
+    ensures { IfOk result (λ stuck. IsListed (nodes_in part.now) stuck.nodes) }
+{
+    let mut nodes = Items::new(alloc);
+    for node in 0..part.len() {
+        if part.as_slice()[node] {
+            nodes.push(node as u32)?;
+        }
+    }
+    Ok(Stuck { nodes })
+}
+
+/// The tasks of the whole open net, and no step yet.
+fn begin(alloc: Global, open: &OpenNet) -> Result<Work, AllocError>
+    ensures { IfOk result (λ work. IsWork open.now (reverse work.tasks)) }
+{
+    let tasks = start(alloc, open)?;
+    let mut work = Work {
+        tasks: Items::new(alloc),
+        steps: Items::new(alloc),
+        roots: Items::new(alloc),
+    };
+    work.expand(tasks)?;
+    Ok(work)
+}
+
+/// Takes the first node that splits the part out of it; or answers the part, where there is none.
+fn take(
+    alloc: Global,
+    wired: &Wired,
+    work: &mut Work,
+    part: &Items<bool>,
+) -> Result<Option<Stuck>, AllocError>
+    requires { IsWork wired.now (Derive part.now ∷ reverse work.old.tasks) }
+    ensures { IfOk result (λ found. MatchOption found
+        (IsWork wired.now (reverse work.new.tasks) × AreFewer wired.now (Derive part.now ∷ reverse work.old.tasks) (reverse work.new.tasks))
+        (IsStuckNet wired.now)) }
+{
+    match first_splitting(alloc, wired, part)? {
+        Some(node) => {
+            let tasks = tasks_of(alloc, wired, part, node)?;
+            work.expand(tasks)?;
+            Ok(None)
+        }
+        None => {
+            let stuck = stuck(alloc, part)?;
+            Ok(Some(stuck))
+        }
+    }
+}
+
+/// Goes on until nothing is left, or a part is stuck.
+fn finish(alloc: Global, wired: &Wired, work: &mut Work) -> Result<Option<Stuck>, AllocError>
+    requires { IsWork wired.now (reverse work.old.tasks) }
+    ensures { IfOk result (λ found. MatchOption found (IsDerivable wired.now) (IsStuckNet wired.now)) }
+{
+    while let Some(part) = work.next_part(alloc)? {
+        if let Some(stuck) = take(alloc, wired, work, &part)? {
+            return Ok(Some(stuck));
+        }
+    }
+    let _count = wired.nodes();
+    Ok(None)
+}
+
+/// A derivation, or the first stuck sub-net.
+#[derive(Drop)]
+enum Outcome {
+    Derived(Derivation),
+    First(Stuck),
+}
+
+/// What the procedure comes to.
+fn attempt(alloc: Global, open: &OpenNet) -> Result<Outcome, AllocError>
+    ensures { IfOk result (IsOutcome open.now) }
+{
+    let wired = Wired::of(alloc, open)?;
+    let mut work = begin(alloc, open)?;
+    match finish(alloc, &wired, &mut work)? {
+        None => {
+            let Work {
+                tasks: _,
+                steps,
+                roots: _,
+            } = work;
+            Ok(Outcome::Derived(Derivation { steps }))
+        }
+        Some(stuck) => Ok(Outcome::First(stuck)),
+    }
+}
+
+/// The steps that build the open net: the first node in order that splits it is taken out, then each component that is left is
+/// derived, and they are joined. Refused with the first stuck sub-net in that order, or for want of memory. Lafont 1990 asks
+/// whether a net is semi-simple; the order is this project's own choice.
+pub fn derive(alloc: Global, open: &OpenNet) -> Result<Derivation, Undone>
+    ensures { MatchResult result (λ derivation. IsDerivable open.now) (IsUndone open.now) }
+{
+    match attempt(alloc, open) {
+        Ok(Outcome::Derived(derivation)) => Ok(derivation),
+        Ok(Outcome::First(stuck)) => Err(Undone::Stuck(stuck)),
+        Err(error) => Err(Undone::Memory(error)),
+    }
+}

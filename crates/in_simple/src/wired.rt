@@ -1,0 +1,141 @@
+ghost use Rattle.std.specs.Prelude.{◌≡◌, ◌<◌, ◌≤◌, ◌^◌, ◌*◌, ◌+◌, length, slice_index_or, Some, None, IsTrue, false, IfOk, OnOk, ℕ};
+ghost use Rattle.in_simple.specs.OpenNets.{IsAgent, IsClass, IsOrderly, IsPointOf, IsWire, class_in, classes_of};
+ghost use Rattle.in_simple.specs.Procedure.{led, HasSlot, IsWired};
+ghost use Rattle.in_simple.specs.Stuck.{ports_of};
+ghost use Rattle.in_simple.specs.declared.open_nets.Point.TheVariants.{Port};
+
+use crate::open_nets::{OpenNet, Point};
+use sqlite_items::Items;
+use std::alloc::{AllocError, Global};
+use std::marker::Model;
+
+/// An open net, with the wire at each port and its other point. A node has a slot for each place that a `u8` names.
+#[derive(Drop)]
+pub(crate) struct Wired<'a> {
+    open: &'a OpenNet,
+    slots: Items<Option<(u32, Point)>>,
+}
+
+// Contracts see the open net.
+impl<'a> Model for Wired<'a> {
+    ghost use Rattle.in_simple.specs.OpenNets as nets;
+    ghost use Rattle.in_simple.specs.Procedure as procedure;
+
+    ghost Value = { nets.OpenNet };
+
+    ghost view = { λ w. w.open.now };
+
+    ghost invariant = { λ w. nets.IsOrderly w.open.now × procedure.IsWired w.open.now w.slots };
+}
+
+/// So many empty slots.
+fn empty(alloc: Global, count: usize) -> Result<Items<Option<(u32, Point)>>, AllocError>
+    ensures count { IfOk result (λ slots. length slots ≡ count) }
+    ensures empty { IfOk result (λ slots. (i : ℕ) → slice_index_or slots i None ≡ None) }
+{
+    let mut slots = Items::new(alloc);
+    for slot in 0..count {
+        slots.push(None)?;
+    }
+    Ok(slots)
+}
+
+/// From this point the wire leads to that one.
+fn lead(slots: &mut Items<Option<(u32, Point)>>, wire: u32, from: Point, to: Point)
+    requires { HasSlot slots.old from }
+    ensures { slots.new ≡ led slots.old wire from to }
+{
+    match from {
+        Point::Port(node, place) => {
+            slots.set(node as usize * 256 + place as usize, Some((wire, to)));
+        }
+        Point::Free(_) => {}
+    }
+}
+
+/// The slots of the open net's ports.
+fn slots(alloc: Global, open: &OpenNet) -> Result<Items<Option<(u32, Point)>>, AllocError>
+    ensures { IfOk result (IsWired open.now) }
+{
+    let count = open.nodes() as usize;
+    let mut slots = empty(alloc, count * 256)?;
+    for wire in 0..open.wires() {
+        let (one, other) = open.wire(wire);
+        lead(&mut slots, wire as u32, one, other);
+        lead(&mut slots, wire as u32, other, one);
+    }
+    Ok(slots)
+}
+
+impl<'a> Wired<'a> {
+    /// The open net, with its wires by port.
+    pub(crate) fn of(alloc: Global, open: &'a OpenNet) -> Result<Wired<'a>, AllocError>
+        ensures { IfOk result (λ wired. wired ≡ open.now) }
+    {
+        let _ = &open.nodes;
+        Ok(Wired {
+            open,
+            slots: slots(alloc, open)?,
+        })
+    }
+
+    /// How many nodes there are.
+    pub(crate) fn nodes(&self) -> usize
+        ensures count { result ≡ length self.now.nodes }
+        ensures few { result < 2 ^ 32 }
+        ensures net { IsOrderly self.now }
+    {
+        let open = self.open;
+        open.nodes.len()
+    }
+
+    /// How many ports the node has.
+    pub(crate) fn ports(&self, node: usize) -> usize
+        requires { node < length self.now.nodes }
+        ensures ports { result ≡ ports_of self.now node }
+        ensures few { result ≤ 256 }
+        ensures net { IsOrderly self.now }
+    {
+        self.open.ports(node)
+    }
+
+    /// The class of a node's port.
+    pub(crate) fn class(&self, node: usize, port: usize) -> usize
+        requires node { node < length self.now.nodes }
+        requires port { port < ports_of self.now node }
+        ensures { result ≡ class_in self.now node port }
+    {
+        self.open.class(node, port)
+    }
+
+    /// How many classes the node's auxiliary ports are in.
+    pub(crate) fn classes(&self, node: usize) -> usize
+        requires { node < length self.now.nodes }
+        ensures { result ≡ classes_of self.now node }
+    {
+        self.open.classes(node)
+    }
+
+    /// Whether the node is an agent; else it is a class node.
+    pub(crate) fn is_agent(&self, node: usize) -> bool
+        requires { node < length self.now.nodes }
+        ensures agent { IsTrue result → IsAgent self.now node }
+        ensures class { result ≡ false → IsClass self.now node }
+    {
+        self.open.is_agent(node)
+    }
+
+    /// The wire at a port, and its other point.
+    pub(crate) fn partner(&self, node: usize, port: usize) -> (u32, Point)
+        requires node { node < length self.now.nodes }
+        requires port { port < ports_of self.now node }
+        ensures wire { IsWire self.now result.0 (Port node port) result.1 }
+        ensures point { IsPointOf self.now result.1 }
+        ensures net { IsOrderly self.now }
+    {
+        match self.slots.as_slice()[node * 256 + port] {
+            Some(found) => found,
+            None => unreachable!(),
+        }
+    }
+}
