@@ -8,6 +8,7 @@ pub mod Forest
 pub mod Grow
 pub mod Links
 pub mod Make
+pub mod Named
 pub mod NoCircle
 pub mod Opened
 pub mod Planning

@@ -1,18 +1,11 @@
 -- Derivations: lists of steps that build an open net.
 use Rattle.std.specs.Prelude.{◌≡◌, ℕ, suc, ◌+◌, ◌-◌, ◌<◌, Bool, false, cond, ◌||◌, nat_eq, List, [], ◌∷◌, length, slice_get, Some}
+pub use Rattle.in_simple.specs.declared.derivations.Step.{Step}
+pub use Rattle.in_simple.specs.declared.derivations.Step.TheVariants.{Empty, Link, Given, Graft, Cut, Mix}
 use Rattle.in_simple.specs.declared.open_nets.Point.{Point}
 use Rattle.in_simple.specs.declared.open_nets.Point.TheVariants.{Port, Free}
 use Rattle.in_simple.specs.Constructions.{IsIn}
 use Rattle.in_simple.specs.OpenNets.{OpenNet, IsAgent, IsClass, class_in, classes_of, IsWire}
-
--- Steps, wires and nodes are named by their numbers
-pub data Step : Type 0 where
-  Empty : Step
-  Link : ℕ → Step
-  Given : ℕ → Step
-  Graft : ℕ → List ℕ → Step
-  Cut : ℕ → ℕ → ℕ → Step
-  Mix : ℕ → ℕ → Step
 
 -- the steps that a step names, and the nodes and Link wires that it has itself
 abbrev pub named : Step → List ℕ

@@ -1,5 +1,6 @@
-ghost use Rattle.std.specs.Prelude.{◌≡◌, ◌<◌, ◌*◌, ◌^◌, length, IsTrue, IfOk};
-ghost use Rattle.in_simple.specs.Checking.{IsSized, OnSomeSized};
+ghost use Rattle.std.specs.Prelude.{◌≡◌, ◌<◌, ◌*◌, ◌^◌, ℕ, suc, [], ◌∷◌, length, IsTrue, IfOk};
+ghost use Rattle.in_simple.specs.Checking.{AreNamedOnce, IsSized, OnBuilt, OnSomeSized, OnTaken, Takes, left_at};
+ghost use Rattle.in_simple.specs.Derivations.{named};
 
 use crate::components::none;
 use crate::derivations::{Derivation, Step};
@@ -308,7 +309,7 @@ fn is_sized(open: &OpenNet, built: &Built) -> bool
 
 /// What an earlier step built, where no step named it before.
 fn taken(open: &OpenNet, parts: &mut Vec<Option<Built>>, step: u32) -> Option<Built>
-    ensures { OnSomeSized open.now result }
+    ensures { OnTaken open.now step parts.old.items parts.new.items result }
 {
     let number = step as usize;
     if number >= parts.len() {
@@ -337,12 +338,14 @@ fn graft_class(
 ) -> Result<bool, AllocError>
     requires built { IsSized open.now built.old }
     requires node { node < length open.now.nodes }
-    ensures { IsSized open.now built.new }
+    ensures sized { IsSized open.now built.new }
+    ensures takes { IfOk result (λ yes. IsTrue yes → Takes (step ∷ []) parts.old.items parts.new.items) }
 {
     match taken(open, parts, step) {
         Some(more) => {
             if has_class(open, &more, node, class) {
-                beside(open, built, &more)
+                let apart = beside(open, built, &more)?;
+                Ok(apart)
             } else {
                 Ok(false)
             }
@@ -361,7 +364,8 @@ fn graft_classes(
 ) -> Result<bool, AllocError>
     requires built { IsSized open.now built.old }
     requires node { node < length open.now.nodes }
-    ensures { IsSized open.now built.new }
+    ensures sized { IsSized open.now built.new }
+    ensures takes { IfOk result (λ yes. IsTrue yes → Takes steps.now parts.old.items parts.new.items) }
 {
     for class in 0..steps.len() {
         if !graft_class(open, parts, built, node, steps[class], class + 1)? {
@@ -378,7 +382,9 @@ fn graft(
     parts: &mut Vec<Option<Built>>,
     node: u32,
     steps: &[u32],
-) -> Result<Option<Built>, AllocError> {
+) -> Result<Option<Built>, AllocError>
+    ensures { IfOk result (OnBuilt steps.now parts.old.items parts.new.items) }
+{
     let number = node as usize;
     if node >= open.nodes() || !open.is_agent(number) || steps.len() != open.classes(number) {
         return Ok(None);
@@ -395,26 +401,61 @@ fn graft(
     }
 }
 
+/// Two steps joined along a wire.
+fn cut_of(
+    open: &OpenNet,
+    parts: &mut Vec<Option<Built>>,
+    wire: u32,
+    a: u32,
+    b: u32,
+) -> Result<Option<Built>, AllocError>
+    ensures { IfOk result (OnBuilt (a ∷ b ∷ []) parts.old.items parts.new.items) }
+{
+    match taken(open, parts, a) {
+        Some(first) => match taken(open, parts, b) {
+            Some(second) => Ok(cut(open, wire, first, second)?),
+            None => Ok(None),
+        },
+        None => Ok(None),
+    }
+}
+
+/// Two steps side by side.
+fn mix_of(
+    open: &OpenNet,
+    parts: &mut Vec<Option<Built>>,
+    a: u32,
+    b: u32,
+) -> Result<Option<Built>, AllocError>
+    ensures { IfOk result (OnBuilt (a ∷ b ∷ []) parts.old.items parts.new.items) }
+{
+    match taken(open, parts, a) {
+        Some(first) => match taken(open, parts, b) {
+            Some(second) => Ok(mix(open, first, second)?),
+            None => Ok(None),
+        },
+        None => Ok(None),
+    }
+}
+
 /// What a step builds out of the earlier ones; or that it builds nothing.
 fn built_by(
     alloc: Global,
     open: &OpenNet,
     parts: &mut Vec<Option<Built>>,
     step: &Step,
-) -> Result<Option<Built>, AllocError> {
+) -> Result<Option<Built>, AllocError>
+    ensures { IfOk result (OnBuilt (named step.now) parts.old.items parts.new.items) }
+{
     match step {
         Step::Empty => Ok(Some(nothing(alloc, open)?)),
-        Step::Link { wire } => link(alloc, open, *wire),
-        Step::Given { node } => given(alloc, open, *node),
-        Step::Graft { node, classes } => graft(alloc, open, parts, *node, classes.as_slice()),
-        Step::Cut { wire, a, b } => match (taken(open, parts, *a), taken(open, parts, *b)) {
-            (Some(first), Some(second)) => cut(open, *wire, first, second),
-            _ => Ok(None),
-        },
-        Step::Mix { a, b } => match (taken(open, parts, *a), taken(open, parts, *b)) {
-            (Some(first), Some(second)) => mix(open, first, second),
-            _ => Ok(None),
-        },
+        Step::Link { wire } => Ok(link(alloc, open, *wire)?),
+        Step::Given { node } => Ok(given(alloc, open, *node)?),
+        Step::Graft { node, classes } => {
+            Ok(graft(alloc, open, parts, *node, classes.as_slice())?)
+        }
+        Step::Cut { wire, a, b } => Ok(cut_of(open, parts, *wire, *a, *b)?),
+        Step::Mix { a, b } => Ok(mix_of(open, parts, *a, *b)?),
     }
 }
 
@@ -441,7 +482,10 @@ fn has_free_ends(open: &OpenNet, built: &Built) -> bool
 }
 
 /// Whether the last step built all of the open net, and all others are named.
-fn is_whole(open: &OpenNet, parts: &mut Vec<Option<Built>>) -> bool {
+fn is_whole(open: &OpenNet, parts: &mut Vec<Option<Built>>) -> bool
+    ensures some { IsTrue result → 0 < length parts.old.items }
+    ensures named { IsTrue result → (i : ℕ) → suc i < length parts.old.items → left_at parts.old.items i ≡ 0 }
+{
     match parts.pop() {
         Some(Some(last)) => {
             is_sized(open, &last)
@@ -456,7 +500,9 @@ fn is_whole(open: &OpenNet, parts: &mut Vec<Option<Built>>) -> bool {
 /// Whether the steps build this open net: each names earlier steps that fit it, each but the last is named once, each node stands
 /// in one step, and the last one's open ends are the free ends. Refused for want of memory alone. What a step builds is this
 /// project's own choice, over Lafont 1990's constructions.
-pub fn verify(alloc: Global, derivation: &Derivation, open: &OpenNet) -> Result<bool, AllocError> {
+pub fn verify(alloc: Global, derivation: &Derivation, open: &OpenNet) -> Result<bool, AllocError>
+    ensures { IfOk result (λ yes. IsTrue yes → AreNamedOnce derivation.now.steps) }
+{
     let mut parts: Vec<Option<Built>> = Vec::new(alloc);
     for step in derivation.steps.as_slice() {
         match built_by(alloc, open, &mut parts, step)? {
