@@ -14,6 +14,7 @@ pub mod Kept
 pub mod Known
 pub mod Linked
 pub mod Links
+pub mod Loops
 pub mod Merged
 pub mod Miscounted
 pub mod Miscounts
@@ -24,6 +25,7 @@ pub mod Naming
 pub mod NetRead
 pub mod OneNet
 pub mod Order
+pub mod Outs
 pub mod Points
 pub mod Ports
 pub mod Read
