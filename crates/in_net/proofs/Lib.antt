@@ -3,6 +3,7 @@ pub mod Agents
 pub mod Bodies
 pub mod Chains
 pub mod Circuits
+pub mod ClosedWires
 pub mod Counts
 pub mod FirstFault
 pub mod Folds

@@ -45,7 +45,7 @@ AreOut t b spots seen closed = (i n : ℕ) (x : Place) → i < length spots → 
 
 -- ---- the earlier of two places
 
-record IsNoLater (c : Option Place) (p : Place) : Type 0 where
+pub record IsNoLater (c : Option Place) (p : Place) : Type 0 where
   pub found : Place
   pub is : c ≡ Some found
   pub no_later : found.from ≤ p.from
