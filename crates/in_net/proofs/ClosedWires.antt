@@ -1,5 +1,5 @@
 -- When all names are joined, the first closed wire is found, if there is one.
-use Rattle.std.proofs.Common.{◌≡◌, ◌⊎◌, inl, inr, ℕ, suc, ◌+◌, ◌<◌, ◌≤◌, List, [], ◌∷◌, length, Some, None, refl, sym, ◌∙◌, ap, subst, arith}
+use Rattle.std.proofs.Common.{◌≡◌, ◌⊎◌, inl, inr, ℕ, suc, ◌+◌, ◌<◌, ◌≤◌, List, [], ◌∷◌, length, refl, sym, ◌∙◌, ap, subst, arith}
 use Rattle.std.specs.List.{AllByRecursion}
 use Rattle.in_syntax.specs.declared.places.Place.{Place}
 use Rattle.in_syntax.specs.Order.{Rises}
@@ -21,7 +21,7 @@ use Rattle.in_net.proofs.NamedSpots.{AreNamesRead}
 use Rattle.in_net.proofs.Naming.{AreOfText, step_on}
 use Rattle.in_net.proofs.NetRead.{IsNetRead}
 use Rattle.in_net.proofs.Order.{root_places}
-use Rattle.in_net.proofs.Outs.{IsNoLater, IsRound, AreOut, step_out}
+use Rattle.in_net.proofs.Outs.{IsFoundBy, IsRound, AreOut, step_out}
 use Rattle.in_net.proofs.Single.{IsReadWhole, settled_of}
 use Rattle.in_net.proofs.Sound.{named}
 use Rattle.in_net.proofs.Ways.{IsMet, kind_of, IsOpen, IsJoiningAt}
@@ -75,7 +75,7 @@ module _ (t : Tables) (b : Body) (free count : ℕ) (r : Reading) (net : IsNetRe
 
   -- the wire is followed to the spot of its name that was met last, and from there round the wire that was found
   no_later : (q : Place) (x : text.Spot) (k : ℕ) (along ps : List Place) → k < length spots → IsOccurrence x → Chain t b placed (kind_of (nth_spot spots k)) x (named (nth_spot spots k)) along → Chain t b placed of_name x x ps →
-      AllByRecursion (λ p. p.from ≤ q.from) ps → IsOpen (joining_of r).seen (nth_spot spots k) ⊎ IsRound t b (joining_of r).closed (named (nth_spot spots k)) → IsNoLater (joining_of r).closed q
+      AllByRecursion (λ p. p.from ≤ q.from) ps → IsOpen (joining_of r).seen (nth_spot spots k) ⊎ IsRound t b (joining_of r).closed (named (nth_spot spots k)) → IsFoundBy (joining_of r).closed q
   no_later q x k along ps lt at chain loop all (inl open_) = absurd (no_end (nth_spot spots k) refl (follow t b r whole placed (kind_of (nth_spot spots k)) x (named (nth_spot spots k)) along ps at chain loop).occurs)
     where
       no_end : (s : Spot) → nth_spot spots k ≡ s → IsOccurrence (named s) → ⊥
@@ -92,13 +92,13 @@ module _ (t : Tables) (b : Body) (free count : ℕ) (r : Reading) (net : IsNetRe
       record { found = round.found; is = round.closed_is; no_later = omega (arith, le, round.no_later) }
 
   -- what is found is no later than any closed wire
-  pub found_first : (q : Place) → IsClosedWireOf t b q → IsNoLater (joining_of r).closed q
+  pub found_first : (q : Place) → IsClosedWireOf t b q → IsFoundBy (joining_of r).closed q
   found_first q wire = by_spot (nth_spot spots at.spot) refl (subst IsOccurrence (sym at.is) wire.occurs)
     where
       at : IsBegunAt wire.through
       at = begun_at wire.through wire.through wire.places wire.chain
 
-      by_spot : (s : Spot) → nth_spot spots at.spot ≡ s → IsOccurrence (named (nth_spot spots at.spot)) → IsNoLater (joining_of r).closed q
+      by_spot : (s : Spot) → nth_spot spots at.spot ≡ s → IsOccurrence (named (nth_spot spots at.spot)) → IsFoundBy (joining_of r).closed q
       by_spot (Port a i p) is h = absurd (subst (λ s. IsOccurrence (named s)) is h)
       by_spot (Free l m) is h = absurd (subst (λ s. IsOccurrence (named s)) is h)
       by_spot (End l) is h = absurd (subst (λ s. IsOccurrence (named s)) is h)

@@ -1,7 +1,8 @@
 -- One spot more is joined at its name.
-use Rattle.std.proofs.Common.{◌≡◌, ◌≢◌, ◌⊎◌, inl, inr, ℕ, ◌+◌, ◌<◌, ◌≤◌, Bool, true, false, cond, nat_lt, List, length, Option, Some, None, refl, sym, ◌∙◌, ap, subst, arith, set}
+use Rattle.std.proofs.Common.{if◌then◌else◌, ◌≡◌, ◌≢◌, ◌⊎◌, inl, inr, ℕ, ◌+◌, ◌<◌, ◌≤◌, Bool, true, false, nat_lt, List, length, Option, Some, None, refl, sym, ◌∙◌, ap, subst, arith, set}
 use Rattle.std.proofs.lemmas.List.{length-set, get_or-set_same, get_or-set_other}
 use Rattle.in_syntax.specs.declared.places.Place.{Place}
+use Rattle.in_symbols.specs.Searching.{earlier}
 use Rattle.in_symbols.specs.Tables.{Tables}
 use Rattle.in_net.specs.declared.reading.Spot.{Spot}
 use Rattle.in_net.specs.declared.reading.Spot.TheVariants.{Port, Free, End, Occurrence}
@@ -11,7 +12,7 @@ use Rattle.in_net.specs.declared.counting.Seen.{Seen}
 use Rattle.in_net.specs.declared.counting.Seen.TheVariants.{Never, Once, Twice, Often}
 use Rattle.in_net.specs.Counting as counting
 use Rattle.in_net.specs.Building.{nth_link, nth_spot}
-use Rattle.in_net.specs.Joining.{self_link, later_of, earlier_of, merged, met, joins_named, joins}
+use Rattle.in_net.specs.Joining.{self_link, later_of, merged, met, joins_named, joins}
 use Rattle.in_net.specs.TextNet.{Body, NameJoint, IsClosedWireOf}
 use Rattle.in_net.proofs.Linked.{same_or_not, below_or_not}
 use Rattle.in_net.proofs.Sound.{named}
@@ -32,18 +33,18 @@ pub seen_other : (seen : List Seen) (m n : ℕ) (x : Seen) → n ≢ m → nth_s
 seen_other seen m n x differ = get_or-set_other seen m n x Never differ
 
 -- a spot of another name is an end as it was
-pub open_back : (seen : List Seen) (m : ℕ) (x : Seen) (s : Spot) → counting.name_of s ≢ Some m → IsOpen (set seen m x) s → IsOpen seen s
+open_back : (seen : List Seen) (m : ℕ) (x : Seen) (s : Spot) → counting.name_of s ≢ Some m → IsOpen (set seen m x) s → IsOpen seen s
 open_back seen m x (Port a i p) other h = tt
 open_back seen m x (End k) other h = tt
 open_back seen m x (Free k n) other h = subst IsMet (seen_other seen m n x (λ e. other (ap Some e))) h
 open_back seen m x (Occurrence n p) other h = λ met. h (subst IsMet (sym (seen_other seen m n x (λ e. other (ap Some e)))) met)
 
-earlier_is : (c d : Option Place) (p : Place) → earlier_of c d ≡ Some p → (c ≡ Some p) ⊎ (d ≡ Some p)
+earlier_is : (c d : Option Place) (p : Place) → earlier c d ≡ Some p → (c ≡ Some p) ⊎ (d ≡ Some p)
 earlier_is None d p e = inr e
 earlier_is (Some q) None p e = inl e
 earlier_is (Some q) (Some r) p e = by_test (nat_lt r.from q.from) e
   where
-    by_test : (x : Bool) → Some (cond x r q) ≡ Some p → (Some q ≡ Some p) ⊎ (Some r ≡ Some p)
+    by_test : (x : Bool) → (if x then Some r else Some q) ≡ Some p → (Some q ≡ Some p) ⊎ (Some r ≡ Some p)
     by_test true e = inr e
     by_test false e = inl e
 
@@ -105,7 +106,7 @@ module _ (t : Tables) (b : Body) (names : List (List ℕ)) (spots : List Spot) (
   pub met2 : IsMet (nth_seen seen2 m)
   met2 = subst IsMet (sym (get_or-set_same j.seen m Twice Never (omega (arith, m_in, h.count)))) tt
 
-  pub not_open2 : (i : ℕ) (p : Place) → nth_spot spots i ≡ Occurrence m p → IsOpen seen2 (nth_spot spots i) → ⊥
+  not_open2 : (i : ℕ) (p : Place) → nth_spot spots i ≡ Occurrence m p → IsOpen seen2 (nth_spot spots i) → ⊥
   not_open2 i p e x = subst (IsOpen seen2) e x met2
 
   -- a spot of that name is one of the two
@@ -117,7 +118,7 @@ module _ (t : Tables) (b : Body) (names : List (List ℕ)) (spots : List Spot) (
       part (inr z) (inl w) = only i w lt e
       part (inr z) (inr w) = y (omega (arith, z, w))
 
-  pub to_of : (i : ℕ) → i < length spots → (nth_link links (nth_link links i).to).to ≡ i
+  to_of : (i : ℕ) → i < length spots → (nth_link links (nth_link links i).to).to ≡ i
   to_of i lt = ap (λ (l : Link). l.to) (h.back i lt)
 
   abbrev pub p : ℕ
@@ -126,7 +127,7 @@ module _ (t : Tables) (b : Body) (names : List (List ℕ)) (spots : List Spot) (
   abbrev pub q : ℕ
   q = (nth_link links at).to
 
-  pub q_not_at : q ≢ at
+  q_not_at : q ≢ at
   q_not_at = h.apart at at_in open_at
 
   pub p_not_q : p ≢ q
@@ -158,7 +159,7 @@ module _ (t : Tables) (b : Body) (names : List (List ℕ)) (spots : List Spot) (
   -- ---- the wire is closed
   module _ (new : List Link) (closed : Option Place) (size : length new ≡ length spots) (shut : IsClosed links new a at closed) where
     abbrev pub after_closed : Joining
-    after_closed = record { links = new; seen = seen2; closed = earlier_of j.closed closed }
+    after_closed = record { links = new; seen = seen2; closed = earlier j.closed closed }
 
     -- where it is closed, the first spot is an occurrence too
     pub first_occurs : (x : Place) × (nth_spot spots a ≡ Occurrence m x)
@@ -230,7 +231,7 @@ module _ (t : Tables) (b : Body) (names : List (List ℕ)) (spots : List Spot) (
         same_name : Some n ≡ Some m → n ≡ m
         same_name e = cc
 
-    closed_then : (x : Place) → earlier_of j.closed closed ≡ Some x → IsClosedWireOf t b x
+    closed_then : (x : Place) → earlier j.closed closed ≡ Some x → IsClosedWireOf t b x
     closed_then x e = by_which (earlier_is j.closed closed x e)
       where
         by_which : (j.closed ≡ Some x) ⊎ (closed ≡ Some x) → IsClosedWireOf t b x
@@ -261,7 +262,7 @@ module _ (t : Tables) (b : Body) (names : List (List ℕ)) (spots : List Spot) (
   -- ---- the wire goes on
   module _ (new : List Link) (closed : Option Place) (size : length new ≡ length spots) (on : IsOpened links new a at p q closed) where
     abbrev pub after_opened : Joining
-    after_opened = record { links = new; seen = seen2; closed = earlier_of j.closed closed }
+    after_opened = record { links = new; seen = seen2; closed = earlier j.closed closed }
 
     p_in : p < length spots
     p_in = h.inside a a_in
@@ -430,7 +431,7 @@ module _ (t : Tables) (b : Body) (names : List (List ℕ)) (spots : List Spot) (
         same_name : Some n ≡ Some m → n ≡ m
         same_name e = cc
 
-    closed_4 : (x : Place) → earlier_of j.closed closed ≡ Some x → IsClosedWireOf t b x
+    closed_4 : (x : Place) → earlier j.closed closed ≡ Some x → IsClosedWireOf t b x
     closed_4 x e = by_which (earlier_is j.closed closed x e)
       where
         by_which : (j.closed ≡ Some x) ⊎ (closed ≡ Some x) → IsClosedWireOf t b x
@@ -452,49 +453,57 @@ module _ (t : Tables) (b : Body) (names : List (List ℕ)) (spots : List Spot) (
     }
 
   -- either way
-  pub merged_on : IsJoiningAt t b spots count (at + 1) (record { links = (merged links a at).0; seen = seen2; closed = earlier_of j.closed (merged links a at).1 })
+  pub merged_on : IsJoiningAt t b spots count (at + 1) (record { links = (merged links a at).0; seen = seen2; closed = earlier j.closed (merged links a at).1 })
   merged_on = by_outcome (merges links a at (omega (arith, a_in, h.size)) (omega (arith, at_in, h.size)) differ (omega (arith, h.inside a a_in, h.size)) (omega (arith, h.inside at at_in, h.size)) p_not_q q_not_a q_not_at)
     where
       by_outcome : IsClosed links (merged links a at).0 a at (merged links a at).1 ⊎ IsOpened links (merged links a at).0 a at p q (merged links a at).1 →
-          IsJoiningAt t b spots count (at + 1) (record { links = (merged links a at).0; seen = seen2; closed = earlier_of j.closed (merged links a at).1 })
+          IsJoiningAt t b spots count (at + 1) (record { links = (merged links a at).0; seen = seen2; closed = earlier j.closed (merged links a at).1 })
       by_outcome (inl x) = closed_on (merged links a at).0 (merged links a at).1 (length-merged links a at ∙ h.size) x
       by_outcome (inr x) = opened_on (merged links a at).0 (merged links a at).1 (length-merged links a at ∙ h.size) x
+
+-- a name's state that is put in the place of another, where it is met as that is
+module _ (seen : List Seen) (m : ℕ) (x : Seen) (there : nth_seen (set seen m x) m ≡ x) (same : IsMet x → IsMet (nth_seen seen m)) (still : IsMet (nth_seen seen m) → IsMet x) where
+  pub met_back : (n : ℕ) → IsMet (nth_seen (set seen m x) n) → IsMet (nth_seen seen n)
+  met_back n = by_name (same_or_not n m)
+    where
+      by_name : (n ≡ m) ⊎ (n ≢ m) → IsMet (nth_seen (set seen m x) n) → IsMet (nth_seen seen n)
+      by_name (inl e) met = subst (λ n. IsMet (nth_seen seen n)) (sym e) (same (subst IsMet (ap (nth_seen (set seen m x)) e ∙ there) met))
+      by_name (inr e) met = subst IsMet (seen_other seen m n x e) met
+
+  pub met_on : (n : ℕ) → IsMet (nth_seen seen n) → IsMet (nth_seen (set seen m x) n)
+  met_on n = by_name (same_or_not n m)
+    where
+      by_name : (n ≡ m) ⊎ (n ≢ m) → IsMet (nth_seen seen n) → IsMet (nth_seen (set seen m x) n)
+      by_name (inl e) met = subst IsMet (sym (ap (nth_seen (set seen m x)) e ∙ there)) (still (subst (λ n. IsMet (nth_seen seen n)) e met))
+      by_name (inr e) met = subst IsMet (sym (seen_other seen m n x e)) met
 
 -- the first spot of a name, or a third one, joins nothing
 module _ (t : Tables) (b : Body) (names : List (List ℕ)) (spots : List Spot) (count at m : ℕ) (j : Joining) (h : IsJoiningAt t b spots count at j) (m_in : m < count) (x : Seen)
     (name : counting.name_of (nth_spot spots at) ≡ Some m) (same : IsMet x → IsMet (nth_seen j.seen m)) (still : IsMet (nth_seen j.seen m) → IsMet x) (right : IsSeenAt spots (at + 1) m x) where
-  abbrev pub seen3 : List Seen
+  abbrev seen3 : List Seen
   seen3 = set j.seen m x
 
   there3 : nth_seen seen3 m ≡ x
   there3 = get_or-set_same j.seen m x Never (omega (arith, m_in, h.count))
 
-  pub met_back : (n : ℕ) → (n ≡ m) ⊎ (n ≢ m) → IsMet (nth_seen seen3 n) → IsMet (nth_seen j.seen n)
-  met_back n (inl e) met = subst (λ n. IsMet (nth_seen j.seen n)) (sym e) (same (subst IsMet (ap (nth_seen seen3) e ∙ there3) met))
-  met_back n (inr e) met = subst IsMet (seen_other j.seen m n x e) met
-
-  pub met_on : (n : ℕ) → (n ≡ m) ⊎ (n ≢ m) → IsMet (nth_seen j.seen n) → IsMet (nth_seen seen3 n)
-  met_on n (inl e) met = subst IsMet (sym (ap (nth_seen seen3) e ∙ there3)) (still (subst (λ n. IsMet (nth_seen j.seen n)) e met))
-  met_on n (inr e) met = subst IsMet (sym (seen_other j.seen m n x e)) met
-
   end_back : (s : Spot) → IsOpen seen3 s → IsOpen j.seen s
   end_back (Port a i p) o = tt
   end_back (End k) o = tt
-  end_back (Free k n) o = met_back n (same_or_not n m) o
-  end_back (Occurrence n p) o = λ met. o (met_on n (same_or_not n m) met)
+  end_back (Free k n) o = met_back j.seen m x there3 same still n o
+  end_back (Occurrence n p) o = λ met. o (met_on j.seen m x there3 same still n met)
 
   seen_3 : (n : ℕ) → n < count → (n ≡ m) ⊎ (n ≢ m) → IsSeenAt spots (at + 1) n (nth_seen seen3 n)
   seen_3 n lt (inl e) = subst (λ n. IsSeenAt spots (at + 1) n (nth_seen (set j.seen m x) n)) (sym e) (subst (IsSeenAt spots (at + 1) m) (sym there3) right)
   seen_3 n lt (inr e) = subst (IsSeenAt spots (at + 1) n) (sym (seen_other j.seen m n x e)) (seen_on spots at m n (nth_seen j.seen n) name e (h.seen n lt))
 
-  none_new : (p : Place) → earlier_of j.closed None ≡ Some p → IsClosedWireOf t b p
+  none_new : (p : Place) → earlier j.closed None ≡ Some p → IsClosedWireOf t b p
   none_new p e = by_which (earlier_is j.closed None p e)
     where
       by_which : (j.closed ≡ Some p) ⊎ (None ≡ Some p) → IsClosedWireOf t b p
       by_which (inl f) = h.closed p f
       by_which (inr f) = cc
 
-  pub counted_on : IsJoiningAt t b spots count (at + 1) (record { links = j.links; seen = seen3; closed = earlier_of j.closed None })
+  pub counted_on : IsJoiningAt t b spots count (at + 1) (record { links = j.links; seen = seen3; closed = earlier j.closed None })
   counted_on = record {
     size = h.size;
     count = length-set j.seen m x ∙ h.count;
@@ -502,8 +511,8 @@ module _ (t : Tables) (b : Body) (names : List (List ℕ)) (spots : List Spot) (
     back = h.back;
     apart = λ i lt o. h.apart i lt (end_back (nth_spot spots i) o);
     way = λ i lt o. h.way i lt (end_back (nth_spot spots i) o);
-    used = λ i n p lt is met. h.used i n p lt is (met_back n (same_or_not n m) met);
-    fresh = λ i k n lt is unmet. h.fresh i k n lt is (λ met. unmet (met_on n (same_or_not n m) met));
+    used = λ i n p lt is met. h.used i n p lt is (met_back j.seen m x there3 same still n met);
+    fresh = λ i k n lt is unmet. h.fresh i k n lt is (λ met. unmet (met_on j.seen m x there3 same still n met));
     seen = λ n lt. seen_3 n lt (same_or_not n m);
     closed = none_new;
   }
@@ -546,7 +555,7 @@ IsLast spots at seen = (m a : ℕ) → counting.name_of (nth_spot spots at) ≡ 
 
 module _ (t : Tables) (b : Body) (names : List (List ℕ)) (spots : List Spot) (of : AreOfText t b names spots) (at : ℕ) (j : Joining) (h : IsJoiningAt t b spots (length names) at j) (at_in : at < length spots) (last : IsLast spots at j.seen) where
   named_on : (m : ℕ) (s : Seen) → counting.name_of (nth_spot spots at) ≡ Some m → nth_seen j.seen m ≡ s →
-      IsJoiningAt t b spots (length names) (at + 1) (record { links = (met j.links s at).0; seen = set j.seen m (counting.seen_again s at); closed = earlier_of j.closed (met j.links s at).1 })
+      IsJoiningAt t b spots (length names) (at + 1) (record { links = (met j.links s at).0; seen = set j.seen m (counting.seen_again s at); closed = earlier j.closed (met j.links s at).1 })
   named_on m Never name is =
       let m_in = of.numbers at m at_in name in
       counted_on t b names spots (length names) at m j h m_in (Once at) name (λ x. absurd x) (λ x. absurd (subst IsMet is x))

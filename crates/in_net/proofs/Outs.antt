@@ -1,7 +1,8 @@
 -- Where a chain leads from each occurrence whose name is joined: to an end of what is joined so far, or round a closed wire.
-use Rattle.std.proofs.Common.{◌≡◌, ◌≢◌, ◌⊎◌, inl, inr, ℕ, ◌<◌, ◌≤◌, ◌+◌, Bool, true, false, cond, nat_lt, ltb-true, ltb-false, List, ◌++◌, length, Option, Some, None, refl, sym, ◌∙◌, ap, subst, arith, set}
+use Rattle.std.proofs.Common.{if◌then◌else◌, ◌≡◌, ◌≢◌, ◌⊎◌, inl, inr, ℕ, ◌<◌, ◌≤◌, Bool, true, false, nat_lt, ltb-true, ltb-false, List, ◌++◌, length, Option, Some, None, refl, sym, ◌∙◌, ap, subst, arith, set}
 use Rattle.std.proofs.lemmas.List.{get_or-set_same}
 use Rattle.in_syntax.specs.declared.places.Place.{Place}
+use Rattle.in_symbols.specs.Searching.{earlier}
 use Rattle.in_symbols.specs.Tables.{Tables}
 use Rattle.in_net.specs.declared.reading.Spot.{Spot}
 use Rattle.in_net.specs.declared.reading.Spot.TheVariants.{Port, Free, End, Occurrence}
@@ -11,16 +12,17 @@ use Rattle.in_net.specs.declared.counting.Seen.{Seen}
 use Rattle.in_net.specs.declared.counting.Seen.TheVariants.{Never, Once, Twice, Often}
 use Rattle.in_net.specs.Counting as counting
 use Rattle.in_net.specs.Building.{nth_link, nth_spot}
-use Rattle.in_net.specs.Joining.{earlier_of, merged, met, joins_named, joins}
+use Rattle.in_net.specs.Joining.{merged, met, joins_named, joins}
 use Rattle.in_net.specs.TextNet as text
 use Rattle.in_net.specs.TextNet.{Body, Kind, placed, of_name, NameJoint, IsOccurrence, Chain, IsLastOf}
 use Rattle.in_net.proofs.Chains.{through, to_name}
+use Rattle.in_net.proofs.Joins.{length-merged}
 use Rattle.in_net.proofs.Linked.{same_or_not}
 use Rattle.in_net.proofs.Sound.{named}
 use Rattle.in_net.proofs.Merged.{IsClosed, IsOpened, merges}
-use Rattle.in_net.proofs.Ways.{nth_seen, IsMet, kind_of, IsOpen, IsWay, IsSeenAt, IsJoiningAt, spot_named}
+use Rattle.in_net.proofs.Ways.{nth_seen, IsMet, kind_of, IsOpen, IsWay, IsJoiningAt, spot_named}
 use Rattle.in_net.proofs.Naming as naming
-use Rattle.in_net.proofs.Naming.{AreOfText, IsLast, seen_other, open_back}
+use Rattle.in_net.proofs.Naming.{AreOfText, IsLast, seen_other, met_back, met_on}
 
 -- a closed wire goes through the spot, and the first one that is known stands no later
 pub record IsRound (t : Tables) (b : Body) (closed : Option Place) (s : text.Spot) : Type 0 where
@@ -45,12 +47,13 @@ AreOut t b spots seen closed = (i n : ℕ) (x : Place) → i < length spots → 
 
 -- ---- the earlier of two places
 
-pub record IsNoLater (c : Option Place) (p : Place) : Type 0 where
+-- a place is found, and is no later
+pub record IsFoundBy (c : Option Place) (p : Place) : Type 0 where
   pub found : Place
   pub is : c ≡ Some found
   pub no_later : found.from ≤ p.from
 
-earlier_left : (c d : Option Place) (p : Place) → c ≡ Some p → IsNoLater (earlier_of c d) p
+earlier_left : (c d : Option Place) (p : Place) → c ≡ Some p → IsFoundBy (earlier c d) p
 earlier_left None d p e = cc
 earlier_left (Some q) None p e = record { found = p; is = e; no_later = omega arith }
 earlier_left (Some q) (Some r) p e = by_test (nat_lt r.from q.from) refl
@@ -58,11 +61,11 @@ earlier_left (Some q) (Some r) p e = by_test (nat_lt r.from q.from) refl
     place : q ≡ p
     place = cc
 
-    by_test : (x : Bool) → nat_lt r.from q.from ≡ x → IsNoLater (Some (cond x r q)) p
+    by_test : (x : Bool) → nat_lt r.from q.from ≡ x → IsFoundBy (if x then Some r else Some q) p
     by_test true is = record { found = r; is = refl; no_later = let less = ltb-true r.from q.from is in let same = ap (λ (x : Place). x.from) place in omega (arith, less, same) }
     by_test false is = record { found = q; is = refl; no_later = let same = ap (λ (x : Place). x.from) place in omega (arith, same) }
 
-earlier_right : (c d : Option Place) (p : Place) → d ≡ Some p → IsNoLater (earlier_of c d) p
+earlier_right : (c d : Option Place) (p : Place) → d ≡ Some p → IsFoundBy (earlier c d) p
 earlier_right None d p e = record { found = p; is = e; no_later = omega arith }
 earlier_right (Some q) None p e = cc
 earlier_right (Some q) (Some r) p e = by_test (nat_lt r.from q.from) refl
@@ -70,11 +73,11 @@ earlier_right (Some q) (Some r) p e = by_test (nat_lt r.from q.from) refl
     place : r ≡ p
     place = cc
 
-    by_test : (x : Bool) → nat_lt r.from q.from ≡ x → IsNoLater (Some (cond x r q)) p
+    by_test : (x : Bool) → nat_lt r.from q.from ≡ x → IsFoundBy (if x then Some r else Some q) p
     by_test true is = record { found = r; is = refl; no_later = let same = ap (λ (x : Place). x.from) place in omega (arith, same) }
     by_test false is = record { found = q; is = refl; no_later = let le = ltb-false r.from q.from is in let same = ap (λ (x : Place). x.from) place in omega (arith, le, same) }
 
-round_on : (t : Tables) (b : Body) (c d : Option Place) (s : text.Spot) → IsRound t b c s → IsRound t b (earlier_of c d) s
+round_on : (t : Tables) (b : Body) (c d : Option Place) (s : text.Spot) → IsRound t b c s → IsRound t b (earlier c d) s
 round_on t b c d s h =
     let early = earlier_left c d h.found h.closed_is in
     record { places = h.places; loop = h.loop; last = h.last; last_is = h.last_is; found = early.found; closed_is = early.is; no_later = let le = early.no_later in omega (arith, h.no_later, le) }
@@ -104,7 +107,7 @@ module _ (t : Tables) (b : Body) where
       subst (λ z. Chain t b placed z s (named y) ps) (sym kind) (to_name t b placed s (named x) (named y) ps (subst (λ z. Chain t b placed z s (named x) ps) h.kind chain) h.occurs joint)
 
   -- round a closed wire
-  round_of : (c d : Option Place) (x y : Spot) (place : Place) → IsHeld x → IsHeld y → NameJoint t b (named x) (named y) → IsWay t b y x place → d ≡ Some place → IsRound t b (earlier_of c d) (named x)
+  round_of : (c d : Option Place) (x y : Spot) (place : Place) → IsHeld x → IsHeld y → NameJoint t b (named x) (named y) → IsWay t b y x place → d ≡ Some place → IsRound t b (earlier c d) (named x)
   round_of c d x y place h k joint w is =
       let early = earlier_right c d place is in
       record {
@@ -198,7 +201,7 @@ module _ (t : Tables) (b : Body) (names : List (List ℕ)) (spots : List Spot) (
   -- where chains lead on from the two, that came to them or begin there
   module _ (closed : Option Place) where
     abbrev Out2 : text.Spot → Type 0
-    Out2 s = IsOut t b spots seen2 (earlier_of j.closed closed) s
+    Out2 s = IsOut t b spots seen2 (earlier j.closed closed) s
 
     abbrev LeadsOn : ℕ → Type 0
     LeadsOn k = (s : text.Spot) (ps : List Place) → Chain t b placed (kind_of (nth_spot spots k)) s (named (nth_spot spots k)) ps → IsOpen j.seen (nth_spot spots k) → Out2 s
@@ -206,7 +209,7 @@ module _ (t : Tables) (b : Body) (names : List (List ℕ)) (spots : List Spot) (
     abbrev Begins : ℕ → Type 0
     Begins k = (n : ℕ) (x : Place) → nth_spot spots k ≡ Occurrence n x → Out2 (named (nth_spot spots k))
 
-    all_out : LeadsOn a → LeadsOn at → Begins a → Begins at → AreOut t b spots seen2 (earlier_of j.closed closed)
+    all_out : LeadsOn a → LeadsOn at → Begins a → Begins at → AreOut t b spots seen2 (earlier j.closed closed)
     all_out on_a on_at new_a new_at i n x lt is met = by_spot (same_or_not i a) (same_or_not i at)
       where
         old_out : IsOut t b spots j.seen j.closed (named (nth_spot spots i)) → Out2 (named (nth_spot spots i))
@@ -231,7 +234,7 @@ module _ (t : Tables) (b : Body) (names : List (List ℕ)) (spots : List Spot) (
             old_out (outs i n x lt is (subst IsMet (seen_other j.seen m n Twice other) met))
 
   -- the wire is closed
-  closed_out : (new : List Link) (closed : Option Place) → IsClosed links new a at closed → (x : Place) × (nth_spot spots a ≡ Occurrence m x) → AreOut t b spots seen2 (earlier_of j.closed closed)
+  closed_out : (new : List Link) (closed : Option Place) → IsClosed links new a at closed → (x : Place) × (nth_spot spots a ≡ Occurrence m x) → AreOut t b spots seen2 (earlier j.closed closed)
   closed_out new closed shut first_occurs =
       all_out closed (λ s ps chain open_. stays_a s ps chain) (λ s ps chain open_. stays_at s ps chain)
       (λ n x is. stays_at (named (nth_spot spots a)) way_a.places (begin t b (nth_spot spots a) (nth_spot spots at) (nth_link links a).place held_a way_a))
@@ -268,7 +271,7 @@ module _ (t : Tables) (b : Body) (names : List (List ℕ)) (spots : List Spot) (
       }
 
   -- the wire goes on
-  opened_out : (closed : Option Place) → p ≢ at → AreOut t b spots seen2 (earlier_of j.closed closed)
+  opened_out : (closed : Option Place) → p ≢ at → AreOut t b spots seen2 (earlier j.closed closed)
   opened_out closed on = by_first (spot_named (nth_spot spots a) m first.1)
     where
       way_at : IsWay t b (nth_spot spots at) (nth_spot spots q) (nth_link links at).place
@@ -283,7 +286,7 @@ module _ (t : Tables) (b : Body) (names : List (List ℕ)) (spots : List Spot) (
       from_at : Begins closed at
       from_at n x is = to_q (named (nth_spot spots at)) way_at.places (begin t b (nth_spot spots at) (nth_spot spots q) (nth_link links at).place held_at way_at)
 
-      by_first : ((x : Place) × (nth_spot spots a ≡ Occurrence m x)) ⊎ ((k : ℕ) × (nth_spot spots a ≡ Free k m)) → AreOut t b spots seen2 (earlier_of j.closed closed)
+      by_first : ((x : Place) × (nth_spot spots a ≡ Occurrence m x)) ⊎ ((k : ℕ) × (nth_spot spots a ≡ Free k m)) → AreOut t b spots seen2 (earlier j.closed closed)
       by_first (inl (x, e)) =
           all_out closed (λ s ps chain open_. to_q s (ps ++ way_at.places) (onward t b s (nth_spot spots a) (nth_spot spots at) (nth_spot spots q) (nth_link links at).place ps held_a held_at joint chain way_at))
           (λ s ps chain open_. to_p s (ps ++ way_a.places) (onward t b s (nth_spot spots at) (nth_spot spots a) (nth_spot spots p) (nth_link links a).place ps held_at held_a joint_back chain way_a))
@@ -314,25 +317,20 @@ module _ (t : Tables) (b : Body) (names : List (List ℕ)) (spots : List Spot) (
           } in o)
           (λ n y is. absurd (let wrong : Occurrence n y ≡ Free k m = sym is ∙ e in cc)) from_at
 
-  merged_out : AreOut t b spots seen2 (earlier_of j.closed (merged links a at).1)
+  merged_out : AreOut t b spots seen2 (earlier j.closed (merged links a at).1)
   merged_out =
       by_outcome (merges links a at (omega (arith, a_in, h.size)) (omega (arith, at_in, h.size)) (naming.differ t b names spots of count at m a j h at_in m_in name seen_is only) (omega (arith, h.inside a a_in, h.size))
       (omega (arith, h.inside at at_in, h.size)) (naming.p_not_q t b names spots of count at m a j h at_in m_in name seen_is only) (naming.q_not_a t b names spots of count at m a j h at_in m_in name seen_is only) (h.apart at at_in open_at))
     where
-      by_outcome : IsClosed links (merged links a at).0 a at (merged links a at).1 ⊎ IsOpened links (merged links a at).0 a at p q (merged links a at).1 → AreOut t b spots seen2 (earlier_of j.closed (merged links a at).1)
-      by_outcome (inl x) = closed_out (merged links a at).0 (merged links a at).1 x (first_occurs x)
-        where
-          first_occurs : IsClosed links (merged links a at).0 a at (merged links a at).1 → (x : Place) × (nth_spot spots a ≡ Occurrence m x)
-          first_occurs shut = by_spot (spot_named (nth_spot spots a) m first.1)
-            where
-              by_spot : ((p : Place) × (nth_spot spots a ≡ Occurrence m p)) ⊎ ((k : ℕ) × (nth_spot spots a ≡ Free k m)) → (x : Place) × (nth_spot spots a ≡ Occurrence m x)
-              by_spot (inl x) = x
-              by_spot (inr (k, e)) = absurd (naming.differ t b names spots of count at m a j h at_in m_in name seen_is only (sym (ap (λ (l : Link). l.to) (h.fresh a k m a_in e unmet)) ∙ shut.round))
+      by_outcome : IsClosed links (merged links a at).0 a at (merged links a at).1 ⊎ IsOpened links (merged links a at).0 a at p q (merged links a at).1 → AreOut t b spots seen2 (earlier j.closed (merged links a at).1)
+      by_outcome (inl x) =
+          closed_out (merged links a at).0 (merged links a at).1 x
+          (naming.first_occurs t b names spots of count at m a j h at_in m_in name seen_is only (merged links a at).0 (merged links a at).1 (length-merged links a at ∙ h.size) x)
       by_outcome (inr x) = opened_out (merged links a at).1 x.on
 
 -- the first spot of a name, or a third one, joins nothing
 counted_out : (t : Tables) (b : Body) (spots : List Spot) (seen seen3 : List Seen) (closed : Option Place) → ((n : ℕ) → IsMet (nth_seen seen3 n) → IsMet (nth_seen seen n)) → ((n : ℕ) → IsMet (nth_seen seen n) → IsMet (nth_seen seen3 n)) →
-    AreOut t b spots seen closed → AreOut t b spots seen3 (earlier_of closed None)
+    AreOut t b spots seen closed → AreOut t b spots seen3 (earlier closed None)
 counted_out t b spots seen seen3 closed back on outs i n x lt is met = still (outs i n x lt is (back n met))
   where
     open_still : (s : Spot) → IsOpen seen s → IsOpen seen3 s
@@ -341,37 +339,21 @@ counted_out t b spots seen seen3 closed back on outs i n x lt is met = still (ou
     open_still (Free l m) o = on m o
     open_still (Occurrence m p) o = λ met. o (back m met)
 
-    still : IsOut t b spots seen closed (named (nth_spot spots i)) → IsOut t b spots seen3 (earlier_of closed None) (named (nth_spot spots i))
+    still : IsOut t b spots seen closed (named (nth_spot spots i)) → IsOut t b spots seen3 (earlier closed None) (named (nth_spot spots i))
     still o = record { spot = o.spot; inside = o.inside; places = o.places; chain = o.chain; end = by_end o.end }
       where
-        by_end : IsOpen seen (nth_spot spots o.spot) ⊎ IsRound t b closed (named (nth_spot spots o.spot)) → IsOpen seen3 (nth_spot spots o.spot) ⊎ IsRound t b (earlier_of closed None) (named (nth_spot spots o.spot))
+        by_end : IsOpen seen (nth_spot spots o.spot) ⊎ IsRound t b closed (named (nth_spot spots o.spot)) → IsOpen seen3 (nth_spot spots o.spot) ⊎ IsRound t b (earlier closed None) (named (nth_spot spots o.spot))
         by_end (inl open_) = inl (open_still (nth_spot spots o.spot) open_)
         by_end (inr round) = inr (round_on t b closed None (named (nth_spot spots o.spot)) round)
 
--- a name's state that is put in the place of another, where it is met as that is
-module _ (seen : List Seen) (m : ℕ) (x : Seen) (there : nth_seen (set seen m x) m ≡ x) (same : IsMet x → IsMet (nth_seen seen m)) (still : IsMet (nth_seen seen m) → IsMet x) where
-  met_back : (n : ℕ) → IsMet (nth_seen (set seen m x) n) → IsMet (nth_seen seen n)
-  met_back n = by_name (same_or_not n m)
-    where
-      by_name : (n ≡ m) ⊎ (n ≢ m) → IsMet (nth_seen (set seen m x) n) → IsMet (nth_seen seen n)
-      by_name (inl e) met = subst (λ n. IsMet (nth_seen seen n)) (sym e) (same (subst IsMet (ap (nth_seen (set seen m x)) e ∙ there) met))
-      by_name (inr e) met = subst IsMet (seen_other seen m n x e) met
-
-  met_on : (n : ℕ) → IsMet (nth_seen seen n) → IsMet (nth_seen (set seen m x) n)
-  met_on n = by_name (same_or_not n m)
-    where
-      by_name : (n ≡ m) ⊎ (n ≢ m) → IsMet (nth_seen seen n) → IsMet (nth_seen (set seen m x) n)
-      by_name (inl e) met = subst IsMet (sym (ap (nth_seen (set seen m x)) e ∙ there)) (still (subst (λ n. IsMet (nth_seen seen n)) e met))
-      by_name (inr e) met = subst IsMet (sym (seen_other seen m n x e)) met
-
 module _ (t : Tables) (b : Body) (names : List (List ℕ)) (spots : List Spot) (of : AreOfText t b names spots) (at : ℕ) (j : Joining) (h : IsJoiningAt t b spots (length names) at j) (at_in : at < length spots) (last : IsLast spots at j.seen)
     (outs : AreOut t b spots j.seen j.closed) where
-  nothing_out : (m : ℕ) (x : Seen) → counting.name_of (nth_spot spots at) ≡ Some m → (IsMet x → IsMet (nth_seen j.seen m)) → (IsMet (nth_seen j.seen m) → IsMet x) → AreOut t b spots (set j.seen m x) (earlier_of j.closed None)
+  nothing_out : (m : ℕ) (x : Seen) → counting.name_of (nth_spot spots at) ≡ Some m → (IsMet x → IsMet (nth_seen j.seen m)) → (IsMet (nth_seen j.seen m) → IsMet x) → AreOut t b spots (set j.seen m x) (earlier j.closed None)
   nothing_out m x name same still =
       let there : nth_seen (set j.seen m x) m ≡ x = get_or-set_same j.seen m x Never (omega (arith, of.numbers at m at_in name, h.count)) in
       counted_out t b spots j.seen (set j.seen m x) j.closed (met_back j.seen m x there same still) (met_on j.seen m x there same still) outs
 
-  named_out : (m : ℕ) (s : Seen) → counting.name_of (nth_spot spots at) ≡ Some m → nth_seen j.seen m ≡ s → AreOut t b spots (set j.seen m (counting.seen_again s at)) (earlier_of j.closed (met j.links s at).1)
+  named_out : (m : ℕ) (s : Seen) → counting.name_of (nth_spot spots at) ≡ Some m → nth_seen j.seen m ≡ s → AreOut t b spots (set j.seen m (counting.seen_again s at)) (earlier j.closed (met j.links s at).1)
   named_out m Never name is = nothing_out m (Once at) name (λ x. absurd x) (λ x. absurd (subst IsMet is x))
   named_out m (Once a) name is = merged_out t b names spots of (length names) at m a j h at_in (of.numbers at m at_in name) name is (last m a name is) outs
   named_out m Twice name is = nothing_out m Often name (λ x. subst IsMet (sym is) tt) (λ x. tt)

@@ -2,6 +2,7 @@
 use Rattle.std.specs.Prelude.{ℕ, zero, suc, cond, nat_lt, ◌==◌, ◌+◌, ◌<◌, List, [], ◌∷◌, length, slice_set, slice_index_or, Option, Some, None}
 use Rattle.std.specs.List.{AllByRecursion}
 use Rattle.in_syntax.specs.declared.places.Place.{Place}
+use Rattle.in_symbols.specs.Searching.{earlier}
 use Rattle.in_net.specs.declared.reading.Spot.{Spot}
 use Rattle.in_net.specs.declared.reading.Joint.{Joint}
 use Rattle.in_net.specs.declared.reading.Reading.{Reading}
@@ -37,11 +38,6 @@ with_joints links (j ∷ js) = with_joints (with_link links (j.one + j.port) j.o
 abbrev pub later_of : Place → Place → Place
 later_of one other = cond (nat_lt other.from one.from) one other
 
-abbrev pub earlier_of : Option Place → Option Place → Option Place
-earlier_of None other = other
-earlier_of (Some p) None = Some p
-earlier_of (Some p) (Some q) = Some (cond (nat_lt q.from p.from) q p)
-
 abbrev pub apart : List Link → ℕ → ℕ → List Link
 apart links one other =
     slice_set (slice_set links one (record { to = one; place = (slice_index_or links one no_link).place })) other (record { to = other; place = (slice_index_or links other no_link).place })
@@ -68,7 +64,7 @@ joins_named j at None = j
 joins_named j at (Some m) =
     let seen = slice_index_or j.seen m Never in
     let there = met j.links seen at in
-    record { links = there.0; seen = slice_set j.seen m (seen_again seen at); closed = earlier_of j.closed there.1 }
+    record { links = there.0; seen = slice_set j.seen m (seen_again seen at); closed = earlier j.closed there.1 }
 
 abbrev pub joins : Joining → ℕ → Spot → Joining
 joins j at s = joins_named j at (name_of s)

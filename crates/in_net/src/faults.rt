@@ -101,12 +101,7 @@ fn fault_of(
     ensures { IfOk result (λ fault. fault ≡ fault_of most misfit free.now reading.now) }
 {
     let agents = too_many(most, reading.agents.as_slice());
-    let names = miscounted(
-        alloc,
-        reading.names.len(),
-        reading.spots.as_slice(),
-        free,
-    )?;
+    let names = miscounted(alloc, reading.names.len(), reading.spots.as_slice(), free)?;
     let fault = earlier_refusal(refused(Code::E03, agents), refused(Code::E07, misfit));
     Ok(earlier_refusal(fault, refused(Code::E08, names)))
 }

@@ -1,9 +1,10 @@
 ghost use Rattle.std.specs.Prelude.{◌≡◌, ◌<◌, ◌^◌, length, IfOk};
 ghost use Rattle.in_net.specs.Counting.{IsNameInside, NamesInside, IsSeenInside};
-ghost use Rattle.in_net.specs.Joining.{self_links, with_link, with_joints, merged, met, later_of, earlier_of, not_named, joins, joins_from, joined_spots, JointsInside, LinksInside, IsJoiningInside};
+ghost use Rattle.in_net.specs.Joining.{self_links, with_link, with_joints, merged, met, later_of, not_named, joins, joins_from, joined_spots, JointsInside, LinksInside, IsJoiningInside};
 
 use crate::counting::{Seen, name_of, once_more, unseen};
 use crate::reading::{Joint, Reading, Spot};
+use in_symbols::earlier;
 use in_syntax::Place;
 use sqlite_items::Items;
 use std::alloc::{AllocError, Global};
@@ -61,17 +62,6 @@ fn later(one: Place, other: Place) -> Place
     ensures { result ≡ later_of one other }
 {
     if other.from < one.from { one } else { other }
-}
-
-/// The earlier of two places in the text, if there are any.
-fn earlier(one: Option<Place>, other: Option<Place>) -> Option<Place>
-    ensures { result ≡ earlier_of one other }
-{
-    match (one, other) {
-        (Some(one), Some(other)) => Some(if other.from < one.from { other } else { one }),
-        (Some(one), None) => Some(one),
-        (None, other) => other,
-    }
 }
 
 /// Joins what two spots of one name are joined to, so that the wire goes on through them; answers the wire's place where they

@@ -67,7 +67,7 @@ returns-in-Some-closed c =
     let found : (joining_of (reading_of t (body_of source.net))).closed ≡ Some c.in-Some-closed.place = sym (ap (λ r. (joining_of r).closed) is) ∙ closed in
     subst (λ f. Builds source t (Err f)) (sym c.closed_at.ensures) (
       of_wires c.in-Some-closed.place (no_fault max_agents t (body_of source.net) c.in_ok-reading.reading ready is clear) (read_closed t (body_of source.net) g c.in-Some-closed.place found)
-      (λ q wire. read_first t (body_of source.net) g c.in-Some-closed.place q found wire),
+          (λ q wire. read_first t (body_of source.net) g c.in-Some-closed.place q found wire),
       refl,
     )
 
