@@ -25,7 +25,7 @@ fn classes(alloc: Global, symbols: &Symbols, symbol: SymbolNo) -> Result<Items<u
 }
 
 /// The node of an agent.
-fn node(alloc: Global, symbols: &Symbols, net: &Net, agent: AgentNo) -> Result<OpenNode, AllocError>
+pub(crate) fn node(alloc: Global, symbols: &Symbols, net: &Net, agent: AgentNo) -> Result<OpenNode, AllocError>
     requires over { IsOver symbols.now net.now }
     requires built { IsTrue net.now.built }
     requires there { AreAllThere net.now }
