@@ -84,7 +84,7 @@ pub length-counted_from : (at : ℕ) (ss : List Spot) (seen : List Seen) → len
 length-counted_from at [] seen = refl
 length-counted_from at (s ∷ ss) seen = length-counted_from (at + 1) ss (counted seen at s) ∙ length-counted seen at s
 
-seen_named : (j : Joining) (at : ℕ) (o : Option ℕ) → (joins_named j at o).seen ≡ count_name j.seen at o
+pub seen_named : (j : Joining) (at : ℕ) (o : Option ℕ) → (joins_named j at o).seen ≡ count_name j.seen at o
 seen_named j at None = refl
 seen_named j at (Some m) = refl
 
@@ -94,7 +94,7 @@ seen_joined at [] j = refl
 seen_joined at (s ∷ ss) j = seen_joined (at + 1) ss (joins j at s) ∙ ap (counted_from (at + 1) ss) (seen_named j at (counting.name_of s))
 
 module _ (t : Tables) (b : Body) (names : List (List ℕ)) (spots : List Spot) (of : AreOfText t b names spots) where
-  last_here : (at : ℕ) (s : Spot) (ss : List Spot) (seen : List Seen) → length seen ≡ length names → at + length (s ∷ ss) ≡ length spots → ((i : ℕ) → i < length (s ∷ ss) → nth_spot (s ∷ ss) i ≡ nth_spot spots (at + i)) →
+  pub last_here : (at : ℕ) (s : Spot) (ss : List Spot) (seen : List Seen) → length seen ≡ length names → at + length (s ∷ ss) ≡ length spots → ((i : ℕ) → i < length (s ∷ ss) → nth_spot (s ∷ ss) i ≡ nth_spot spots (at + i)) →
       AreTwice spots (counted_from at (s ∷ ss) seen) → IsLast spots at seen
   last_here at s ss seen size count same twice m a name once i lt in_ again =
       let zero_on : at + 0 ≡ at = omega arith in
@@ -228,7 +228,7 @@ module _ (t : Tables) (b : Body) (free count : ℕ) (r : Reading) (net : IsNetRe
     pub joined_at : IsJoiningAt t b spots (length r.names) (length spots) (joining_of r)
     joined_at = all_on t b r.names spots of_text 0 spots (not_named (links_of r) (length r.names)) (omega arith) (λ i lt. let e : i ≡ 0 + i = omega arith in ap (nth_spot spots) e) twice begun
 
-    all_met : (i m : ℕ) → i < length spots → counting.name_of (nth_spot spots i) ≡ Some m → IsMet (nth_seen (joining_of r).seen m)
+    pub all_met : (i m : ℕ) → i < length spots → counting.name_of (nth_spot spots i) ≡ Some m → IsMet (nth_seen (joining_of r).seen m)
     all_met i m lt e =
         let is : nth_seen (joining_of r).seen m ≡ Twice = ap (λ z. nth_seen z m) (seen_joined 0 spots (not_named (links_of r) (length r.names))) ∙ twice i m lt e in
         subst IsMet (sym is) tt

@@ -3,6 +3,7 @@ pub mod Agents
 pub mod Bodies
 pub mod Chains
 pub mod Circuits
+pub mod ClosedWires
 pub mod Counts
 pub mod FirstFault
 pub mod Folds
@@ -14,6 +15,7 @@ pub mod Kept
 pub mod Known
 pub mod Linked
 pub mod Links
+pub mod Loops
 pub mod Merged
 pub mod Miscounted
 pub mod Miscounts
@@ -24,6 +26,7 @@ pub mod Naming
 pub mod NetRead
 pub mod OneNet
 pub mod Order
+pub mod Outs
 pub mod Points
 pub mod Ports
 pub mod Read

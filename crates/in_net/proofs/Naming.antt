@@ -28,11 +28,11 @@ pub record AreOfText (t : Tables) (b : Body) (names : List (List ℕ)) (spots : 
   pub free_differ : (i j k l m : ℕ) → i < length spots → j < length spots → nth_spot spots i ≡ Free k m → nth_spot spots j ≡ Free l m → i ≡ j
   pub places_differ : (i j m n : ℕ) (p q : Place) → i < j → j < length spots → nth_spot spots i ≡ Occurrence m p → nth_spot spots j ≡ Occurrence n q → p ≢ q
 
-seen_other : (seen : List Seen) (m n : ℕ) (x : Seen) → n ≢ m → nth_seen (set seen m x) n ≡ nth_seen seen n
+pub seen_other : (seen : List Seen) (m n : ℕ) (x : Seen) → n ≢ m → nth_seen (set seen m x) n ≡ nth_seen seen n
 seen_other seen m n x differ = get_or-set_other seen m n x Never differ
 
 -- a spot of another name is an end as it was
-open_back : (seen : List Seen) (m : ℕ) (x : Seen) (s : Spot) → counting.name_of s ≢ Some m → IsOpen (set seen m x) s → IsOpen seen s
+pub open_back : (seen : List Seen) (m : ℕ) (x : Seen) (s : Spot) → counting.name_of s ≢ Some m → IsOpen (set seen m x) s → IsOpen seen s
 open_back seen m x (Port a i p) other h = tt
 open_back seen m x (End k) other h = tt
 open_back seen m x (Free k n) other h = subst IsMet (seen_other seen m n x (λ e. other (ap Some e))) h
@@ -72,19 +72,19 @@ seen_on spots at m n Often name differ h = tt
 module _ (t : Tables) (b : Body) (names : List (List ℕ)) (spots : List Spot) (of : AreOfText t b names spots) (count at m a : ℕ) (j : Joining) (h : IsJoiningAt t b spots count at j)
     (at_in : at < length spots) (m_in : m < count) (name : counting.name_of (nth_spot spots at) ≡ Some m) (seen_is : nth_seen j.seen m ≡ Once a)
     (only : (i : ℕ) → at < i → i < length spots → counting.name_of (nth_spot spots i) ≢ Some m) where
-  abbrev links : List Link
+  abbrev pub links : List Link
   links = j.links
 
-  abbrev seen2 : List Seen
+  abbrev pub seen2 : List Seen
   seen2 = set j.seen m Twice
 
-  first : (a < at) × (counting.name_of (nth_spot spots a) ≡ Some m) × ((i : ℕ) → i < at → counting.name_of (nth_spot spots i) ≡ Some m → i ≡ a)
+  pub first : (a < at) × (counting.name_of (nth_spot spots a) ≡ Some m) × ((i : ℕ) → i < at → counting.name_of (nth_spot spots i) ≡ Some m → i ≡ a)
   first = subst (IsSeenAt spots at m) seen_is (h.seen m m_in)
 
-  a_in : a < length spots
+  pub a_in : a < length spots
   a_in = let lt = first.0 in omega (arith, lt, at_in)
 
-  differ : a ≢ at
+  pub differ : a ≢ at
   differ e = let lt = first.0 in absurd (omega (arith, e, lt))
 
   -- the second one is an occurrence
@@ -93,23 +93,23 @@ module _ (t : Tables) (b : Body) (names : List (List ℕ)) (spots : List Spot) (
   second_by (inr (k, e)) (inl (p, f)) = absurd (of.free_first a at k m m p first.0 at_in f e)
   second_by (inr (k, e)) (inr (l, f)) = absurd (differ (of.free_differ a at l k m a_in at_in f e))
 
-  second : (p : Place) × (nth_spot spots at ≡ Occurrence m p)
+  pub second : (p : Place) × (nth_spot spots at ≡ Occurrence m p)
   second = second_by (spot_named (nth_spot spots at) m name) (spot_named (nth_spot spots a) m first.1)
 
-  unmet : IsMet (nth_seen j.seen m) → ⊥
+  pub unmet : IsMet (nth_seen j.seen m) → ⊥
   unmet x = subst IsMet seen_is x
 
-  open_at : IsOpen j.seen (nth_spot spots at)
+  pub open_at : IsOpen j.seen (nth_spot spots at)
   open_at = subst (IsOpen j.seen) (sym second.1) unmet
 
-  met2 : IsMet (nth_seen seen2 m)
+  pub met2 : IsMet (nth_seen seen2 m)
   met2 = subst IsMet (sym (get_or-set_same j.seen m Twice Never (omega (arith, m_in, h.count)))) tt
 
-  not_open2 : (i : ℕ) (p : Place) → nth_spot spots i ≡ Occurrence m p → IsOpen seen2 (nth_spot spots i) → ⊥
+  pub not_open2 : (i : ℕ) (p : Place) → nth_spot spots i ≡ Occurrence m p → IsOpen seen2 (nth_spot spots i) → ⊥
   not_open2 i p e x = subst (IsOpen seen2) e x met2
 
   -- a spot of that name is one of the two
-  is_one_of : (i : ℕ) → i < length spots → i ≢ a → i ≢ at → counting.name_of (nth_spot spots i) ≢ Some m
+  pub is_one_of : (i : ℕ) → i < length spots → i ≢ a → i ≢ at → counting.name_of (nth_spot spots i) ≢ Some m
   is_one_of i lt x y e = part (below_or_not i at) (below_or_not at i)
     where
       part : (i < at) ⊎ (at ≤ i) → (at < i) ⊎ (i ≤ at) → ⊥
@@ -117,22 +117,22 @@ module _ (t : Tables) (b : Body) (names : List (List ℕ)) (spots : List Spot) (
       part (inr z) (inl w) = only i w lt e
       part (inr z) (inr w) = y (omega (arith, z, w))
 
-  to_of : (i : ℕ) → i < length spots → (nth_link links (nth_link links i).to).to ≡ i
+  pub to_of : (i : ℕ) → i < length spots → (nth_link links (nth_link links i).to).to ≡ i
   to_of i lt = ap (λ (l : Link). l.to) (h.back i lt)
 
-  abbrev p : ℕ
+  abbrev pub p : ℕ
   p = (nth_link links a).to
 
-  abbrev q : ℕ
+  abbrev pub q : ℕ
   q = (nth_link links at).to
 
-  q_not_at : q ≢ at
+  pub q_not_at : q ≢ at
   q_not_at = h.apart at at_in open_at
 
-  p_not_q : p ≢ q
+  pub p_not_q : p ≢ q
   p_not_q e = differ (sym (to_of a a_in) ∙ ap (λ k. (nth_link links k).to) e ∙ to_of at at_in)
 
-  q_not_a : p ≢ at → q ≢ a
+  pub q_not_a : p ≢ at → q ≢ a
   q_not_a x e = x (sym (ap (λ k. (nth_link links k).to) e) ∙ to_of at at_in)
 
   joint_by : ((p : Place) × (nth_spot spots a ≡ Occurrence m p)) ⊎ ((k : ℕ) × (nth_spot spots a ≡ Free k m)) → NameJoint t b (named (nth_spot spots a)) (named (nth_spot spots at))
@@ -145,7 +145,7 @@ module _ (t : Tables) (b : Body) (names : List (List ℕ)) (spots : List Spot) (
       (subst (λ s. NameJoint t b (named (Free k m)) (named s)) (sym second.1)
       (free_joint t b names k m second.0 (subst (IsNamed t b names) e (of.facts a a_in)) (subst (IsNamed t b names) second.1 (of.facts at at_in))))
 
-  joint : NameJoint t b (named (nth_spot spots a)) (named (nth_spot spots at))
+  pub joint : NameJoint t b (named (nth_spot spots a)) (named (nth_spot spots at))
   joint = joint_by (spot_named (nth_spot spots a) m first.1)
 
   seen_then : (n : ℕ) → n < count → (n ≡ m) ⊎ (n ≢ m) → IsSeenAt spots (at + 1) n (nth_seen seen2 n)
@@ -161,7 +161,7 @@ module _ (t : Tables) (b : Body) (names : List (List ℕ)) (spots : List Spot) (
     after_closed = record { links = new; seen = seen2; closed = earlier_of j.closed closed }
 
     -- where it is closed, the first spot is an occurrence too
-    first_occurs : (x : Place) × (nth_spot spots a ≡ Occurrence m x)
+    pub first_occurs : (x : Place) × (nth_spot spots a ≡ Occurrence m x)
     first_occurs = by_spot (spot_named (nth_spot spots a) m first.1)
       where
         by_spot : ((p : Place) × (nth_spot spots a ≡ Occurrence m p)) ⊎ ((k : ℕ) × (nth_spot spots a ≡ Free k m)) → (x : Place) × (nth_spot spots a ≡ Occurrence m x)
@@ -463,17 +463,17 @@ module _ (t : Tables) (b : Body) (names : List (List ℕ)) (spots : List Spot) (
 -- the first spot of a name, or a third one, joins nothing
 module _ (t : Tables) (b : Body) (names : List (List ℕ)) (spots : List Spot) (count at m : ℕ) (j : Joining) (h : IsJoiningAt t b spots count at j) (m_in : m < count) (x : Seen)
     (name : counting.name_of (nth_spot spots at) ≡ Some m) (same : IsMet x → IsMet (nth_seen j.seen m)) (still : IsMet (nth_seen j.seen m) → IsMet x) (right : IsSeenAt spots (at + 1) m x) where
-  abbrev seen3 : List Seen
+  abbrev pub seen3 : List Seen
   seen3 = set j.seen m x
 
   there3 : nth_seen seen3 m ≡ x
   there3 = get_or-set_same j.seen m x Never (omega (arith, m_in, h.count))
 
-  met_back : (n : ℕ) → (n ≡ m) ⊎ (n ≢ m) → IsMet (nth_seen seen3 n) → IsMet (nth_seen j.seen n)
+  pub met_back : (n : ℕ) → (n ≡ m) ⊎ (n ≢ m) → IsMet (nth_seen seen3 n) → IsMet (nth_seen j.seen n)
   met_back n (inl e) met = subst (λ n. IsMet (nth_seen j.seen n)) (sym e) (same (subst IsMet (ap (nth_seen seen3) e ∙ there3) met))
   met_back n (inr e) met = subst IsMet (seen_other j.seen m n x e) met
 
-  met_on : (n : ℕ) → (n ≡ m) ⊎ (n ≢ m) → IsMet (nth_seen j.seen n) → IsMet (nth_seen seen3 n)
+  pub met_on : (n : ℕ) → (n ≡ m) ⊎ (n ≢ m) → IsMet (nth_seen j.seen n) → IsMet (nth_seen seen3 n)
   met_on n (inl e) met = subst IsMet (sym (ap (nth_seen seen3) e ∙ there3)) (still (subst (λ n. IsMet (nth_seen j.seen n)) e met))
   met_on n (inr e) met = subst IsMet (sym (seen_other j.seen m n x e)) met
 

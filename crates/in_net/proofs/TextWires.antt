@@ -1,5 +1,5 @@
 -- The wires of the net are those of its text.
-use Rattle.std.proofs.Common.{◌≡◌, ℕ, zero, suc, ◌<◌, Bool, List, [], ◌∷◌, length, map, Option, Some, true, refl, sym, ◌∙◌, ap, subst, arith, get_or}
+use Rattle.std.proofs.Common.{◌≡◌, ℕ, zero, suc, ◌<◌, ◌≤◌, Bool, List, [], ◌∷◌, length, map, Option, Some, None, true, refl, sym, ◌∙◌, ap, subst, arith, get_or}
 use Rattle.std.specs.List.{AllByRecursion}
 use Rattle.in_syntax.specs.declared.places.Place.{Place}
 use Rattle.in_syntax.specs.Order.{Rises}
@@ -24,6 +24,7 @@ use Rattle.in_net.specs.Parts.{Parts, as_built}
 use Rattle.in_net.specs.TextNet as text
 use Rattle.in_net.specs.TextNet.{Body, IsOccurrence, IsWireOf, IsClosedWireOf, HasAgentsOf, HasWiresOf, spot_at}
 use Rattle.in_net.proofs.Agents.{cells_for, cells_over, places_for}
+use Rattle.in_net.proofs.ClosedWires.{found_first}
 use Rattle.in_net.proofs.FirstFault.{IsReady}
 use Rattle.in_net.proofs.Sound.{named}
 use Rattle.in_net.proofs.Points.{Stands, stands_at, partner_stands}
@@ -136,6 +137,25 @@ module _ (t : Tables) (b : Body) (good : IsGood t b) where
   -- all of it, and that its joints are single
   pub read_whole : IsReadWhole t b (reading_of t b)
   read_whole = record { body = read; names = names; known = good.ready.known; rises = rises; apart = names_apart t b; twice = good.twice }
+
+  -- and it is the first closed wire
+  pub read_first : (p q : Place) → (joining_of (reading_of t b)).closed ≡ Some p → IsClosedWireOf t b q → p.from ≤ q.from
+  read_first p q found wire =
+      let early = found_first t b (ends_in t b) (names_in_body b) (reading_of t b) read.net names good.ready.differ rises good.twice read_whole q wire in
+      let same : p ≡ early.found = some_same p early.found (sym found ∙ early.is) in
+      let from = ap (λ (x : Place). x.from) same in
+      let le = early.no_later in
+      omega (arith, from, le)
+    where
+      some_same : (x y : Place) → Some x ≡ Some y → x ≡ y
+      some_same x y e = cc
+
+  -- where none is found, there is none
+  pub read_none : (joining_of (reading_of t b)).closed ≡ None → (q : Place) → IsClosedWireOf t b q → ⊥
+  read_none none q wire =
+      let early = found_first t b (ends_in t b) (names_in_body b) (reading_of t b) read.net names good.ready.differ rises good.twice read_whole q wire in
+      let wrong : None ≡ Some early.found = sym none ∙ early.is in
+      cc
 
   pub read_single : (x y z : text.Spot) (p q : Place) → IsWireOf t b x y p → IsWireOf t b x z q → y ≡ z
   read_single = one_wire t b (reading_of t b) read_whole

@@ -18,7 +18,7 @@ use Rattle.in_net.specs.Parts.{Parts}
 use Rattle.in_symbols.specs.Tables.{Tables, arity_of}
 use Rattle.in_net.specs.declared.nets.FreeEnd.{FreeEnd}
 use Rattle.in_net.specs.Building.{nth_spot, nth_agent, IsPointSpot, AreSmallSpots, ends_from, cells_of, wires_from}
-use Rattle.in_net.specs.TextNet.{body_of, IsNetOf}
+use Rattle.in_net.specs.TextNet.{body_of, IsNetOf, IsClosedWireOf}
 use Rattle.in_net.specs.NetFaults.{max_agents, IsFirstNetFault, HasNoNetFault}
 use Rattle.in_syntax.specs.declared.faults.Code.TheVariants.{E09}
 use Rattle.in_syntax.specs.declared.faults.Fault.TheVariants.{Refused, Memory}
@@ -91,9 +91,9 @@ pub record IsOver (t : Tables) (n : Parts) : Type 0 where
 abbrev pub closed_at : Place → Fault
 closed_at p = Refused (record { code = E09; place = p; other = None })
 
--- where it is Ok, no fault of agents and names stands, and the net is over the program's tables, and is the net of the text; it is
--- refused for the first such fault, or, where none stands, for a closed wire
+-- where it is Ok, no fault of agents and names and no closed wire stands, and the net is over the program's tables, and is the net
+-- of the text; it is refused for the first such fault, or, where none stands, for the first closed wire
 abbrev pub Builds : Source → Tables → Result Parts Fault → Type 0
-Builds source t (Ok n) = IsOver t n × IsNetOf t source.net n × HasNoNetFault max_agents t (body_of source.net)
+Builds source t (Ok n) = IsOver t n × IsNetOf t source.net n × HasNoNetFault max_agents t (body_of source.net) × ((q : Place) → IsClosedWireOf t (body_of source.net) q → ⊥)
 Builds source t (Err (Refused r)) = IsFirstNetFault t source.net r.code r.place × (r.other ≡ None)
 Builds source t (Err (Memory e)) = Unit {0}

@@ -1,7 +1,7 @@
 -- Faults of a net or a rule: what is wrong with its agents, its names and its wires, and which of its faults is the first one. Lafont
 -- 1990 gives each symbol a number of auxiliary ports, and has each variable of a net or a rule occur twice. The limits on agents, the
 -- codes, and where a fault stands are this project's own choice.
-use Rattle.std.specs.Prelude.{◌≡◌, ◌≢◌, ◌⊎◌, ℕ, ◌<◌, List, length, Some, slice_get}
+use Rattle.std.specs.Prelude.{◌≡◌, ◌≢◌, ◌⊎◌, ℕ, ◌<◌, ◌≤◌, List, length, Some, slice_get}
 use Rattle.in_syntax.specs.declared.faults.Code.{Code}
 use Rattle.in_syntax.specs.declared.faults.Code.TheVariants.{E01, E02, E03, E04, E05, E06, E07, E08, E09, E10, E11, E12, E13, E14, E15}
 use Rattle.in_syntax.specs.declared.places.Place.{Place}
@@ -92,8 +92,7 @@ pub record IsFirstNameFault (most : ℕ) (t : Tables) (b : Body) (c : Code) (p :
   pub stands : IsNetFaultAt most t b c p
   pub first : (d : Code) (q : Place) → IsNetFaultAt most t b d q → IsNoLater c p d q
 
--- of a net's faults: the first one of agents and names; a closed wire is one only where there is none of these. That it is the first
--- closed wire is not said yet
+-- of a net's faults: the first one of agents and names; where there is none of these, the first closed wire
 pub data IsFirstNetFault (t : Tables) (n : SourceNet) : Code → Place → Type 0 where
   of_names : (c : Code) (p : Place) → IsFirstNameFault max_agents t (body_of n) c p → IsFirstNetFault t n c p
-  of_wires : (p : Place) → HasNoNetFault max_agents t (body_of n) → IsClosedWireOf t (body_of n) p → IsFirstNetFault t n E09 p
+  of_wires : (p : Place) → HasNoNetFault max_agents t (body_of n) → IsClosedWireOf t (body_of n) p → ((q : Place) → IsClosedWireOf t (body_of n) q → p.from ≤ q.from) → IsFirstNetFault t n E09 p

@@ -1,21 +1,20 @@
 -- A plan lists the components that a node leaves, by their turns.
-use Rattle.std.proofs.Common.{◌≡◌, ◌≢◌, ◌⊎◌, ◌↔◌, ◌<◌, ◌≤◌, ◌+◌, ℕ, zero, suc, Bool, true, false, cond, ◌||◌, nat_eq, Option, Some, None, IsSomeAnd, List, [], ◌∷◌, ◌++◌, length, slice_get, get_or, append_assoc, refl, sym, subst, ap, inl, inr, ◌∙◌, eq-eqb, ne_eqb, arith}
+use Rattle.std.proofs.Common.{◌≡◌, ◌≢◌, ◌<◌, ◌≤◌, ◌+◌, ℕ, suc, Bool, false, cond, ◌||◌, nat_eq, Option, Some, None, IsSomeAnd, List, [], ◌∷◌, ◌++◌, length, slice_get, get_or, append_assoc, refl, sym, subst, ap, inl, inr, ◌∙◌, ne_eqb, arith}
 use Rattle.in_simple.specs.declared.open_nets.Node.{Node}
 use Rattle.in_simple.specs.declared.open_nets.Node.TheVariants.{AgentNode, ClassNode}
 use Rattle.in_simple.specs.declared.open_nets.OpenNode.{OpenNode}
-use Rattle.in_simple.specs.declared.open_nets.Point.{Point}
 use Rattle.in_simple.specs.declared.open_nets.Point.TheVariants.{Port, Free}
 use Rattle.in_simple.specs.declared.plans.Joint.{Joint}
 use Rattle.in_simple.specs.declared.plans.Plan.{Plan}
 use Rattle.in_simple.specs.declared.plans.Task.{Task}
 use Rattle.in_simple.specs.declared.plans.Task.TheVariants.{Derive, Make}
 use Rattle.in_simple.specs.Constructions.{IsIn}
-use Rattle.in_simple.specs.Splitting.{Linked, alone, onward, Without, IsComponent}
-use Rattle.in_simple.specs.OpenNets.{OpenNet, IsWire, IsOpenNet, IsAgentNode, IsClassNode, IsAgent, IsClass, open_graph}
-use Rattle.in_simple.specs.Stuck.{Touches, ports_of, turn, ComesAt}
-use Rattle.in_simple.specs.Procedure.{nodes_in, IsReached, IsRest, IsPart, HasNone, Lists, AreSized, AreBefore, IsPlan, HasTurn, GoesOn, KeepsPlan, Derives, with_task}
-use Rattle.in_simple.proofs.Sums.{or_cases, or_left, or_right, not_both, true_or_false}
-use Rattle.in_simple.proofs.Links.{same_nat, at_most, link_join, link_back, link_first}
+use Rattle.in_simple.specs.Splitting.{alone, Without}
+use Rattle.in_simple.specs.OpenNets.{OpenNet, IsWire, IsOpenNet, IsAgentNode, IsClassNode, IsAgent, IsClass}
+use Rattle.in_simple.specs.Stuck.{ports_of, turn, ComesAt}
+use Rattle.in_simple.specs.Procedure.{nodes_in, IsReached, IsRest, IsPart, Lists, AreSized, IsPlan, HasTurn, GoesOn, KeepsPlan, Derives, with_task}
+use Rattle.in_simple.proofs.Sums.{or_cases, or_left, or_right, not_both}
+use Rattle.in_simple.proofs.Links.{same_nat, at_most, link_back, link_first}
 use Rattle.in_simple.proofs.Reaching.{in_length}
 use Rattle.in_simple.proofs.Search.{in_ports, one_turn, turn_same, meet_same, comes_at, turn_one_port, turn_one_port_most, without}
 use Rattle.in_simple.proofs.Sound.{port_place}

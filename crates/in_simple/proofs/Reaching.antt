@@ -1,5 +1,5 @@
 -- A search from a node reaches its component.
-use Rattle.std.proofs.Common.{◌≡◌, ◌≢◌, ◌⊎◌, ◌↔◌, ◌<◌, ◌≤◌, ◌+◌, ◌*◌, ℕ, zero, suc, Bool, true, false, cond, Option, Some, None, List, [], ◌∷◌, ◌++◌, length, length-append, get_or, refl, sym, subst, ap, inl, inr, ◌∙◌, arith}
+use Rattle.std.proofs.Common.{◌≡◌, ◌⊎◌, ◌<◌, ◌+◌, ℕ, zero, suc, Bool, true, false, Some, None, List, [], ◌∷◌, ◌++◌, length, length-append, refl, sym, subst, inl, inr, ◌∙◌, arith}
 use Rattle.std.proofs.Math.ListN.{set}
 use Rattle.std.proofs.lemmas.List.{length-set, get_or-set_same, get_or-set_other}
 use Rattle.in_simple.specs.declared.open_nets.Point.TheVariants.{Port}
@@ -8,7 +8,7 @@ use Rattle.in_simple.specs.Splitting.{Linked, alone, onward}
 use Rattle.in_simple.specs.OpenNets.{OpenNet, IsWire, IsOpenNet, open_graph}
 use Rattle.in_simple.specs.Procedure.{nodes_in, IsNeighbour, Among, missing, Reaches, Spreads, IsSearch, IsReached}
 use Rattle.in_simple.specs.Stuck.{ports_of}
-use Rattle.in_simple.proofs.Sums.{not_both, true_or_false}
+use Rattle.in_simple.proofs.Sums.{not_both}
 use Rattle.in_simple.proofs.Links.{same_nat}
 use Rattle.in_simple.proofs.Search.{in_ports}
 use Rattle.in_simple.proofs.Sound.{port_place}

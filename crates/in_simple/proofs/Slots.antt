@@ -1,17 +1,15 @@
 -- The slots of an open net's ports have their wires.
-use Rattle.std.proofs.Common.{◌≡◌, ◌≢◌, ◌⊎◌, ◌<◌, ◌≤◌, ◌+◌, ◌*◌, ℕ, zero, suc, Bool, true, false, Option, Some, None, IsSomeAnd, List, [], ◌∷◌, ◌++◌, length, slice_get, get_or, refl, sym, subst, ap, inl, inr, ◌∙◌, arith}
+use Rattle.std.proofs.Common.{◌≡◌, ◌⊎◌, ◌<◌, ◌≤◌, ◌+◌, ◌*◌, ℕ, zero, suc, Bool, true, false, Option, Some, None, IsSomeAnd, List, [], ◌∷◌, ◌++◌, length, slice_get, get_or, refl, sym, subst, inl, inr, ◌∙◌, arith}
 use Rattle.std.proofs.Math.ListN.{set}
 use Rattle.std.proofs.lemmas.List.{length-set, get_or-set_same, get_or-set_other}
 use Rattle.std.proofs.lemmas.Option.{slice_get_within}
 use Rattle.in_simple.specs.declared.open_nets.OpenNode.{OpenNode}
 use Rattle.in_simple.specs.declared.open_nets.Point.{Point}
 use Rattle.in_simple.specs.declared.open_nets.Point.TheVariants.{Port, Free}
-use Rattle.in_simple.specs.Constructions.{IsIn}
-use Rattle.in_simple.specs.OpenNets.{OpenNet, IsWire, IsPointOf, IsOpenNet, IsOrderly, ports_in}
+use Rattle.in_simple.specs.OpenNets.{OpenNet, IsWire, IsPointOf, IsOrderly, ports_in}
 use Rattle.in_simple.specs.Procedure.{Slot, slot_at, led, HasSlot, AreLed, IsWired, nodes_in, IsNeighbour}
 use Rattle.in_simple.specs.Stuck.{ports_of}
 use Rattle.in_simple.proofs.Sums.{some_of, some_same, not_both}
-use Rattle.in_simple.proofs.Balance.{wire_turn}
 use Rattle.in_simple.proofs.Links.{same_nat}
 use Rattle.in_simple.proofs.Sound.{wire_points, port_place}
 

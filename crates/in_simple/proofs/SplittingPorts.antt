@@ -1,16 +1,14 @@
 -- Whether a node splits a part is decided port by port.
-use Rattle.std.proofs.Common.{◌≡◌, ◌≢◌, ◌⊎◌, ◌↔◌, ◌<◌, ◌≤◌, ◌+◌, ℕ, zero, suc, Bool, true, false, List, length, get_or, IsTrue, refl, sym, subst, ap, inl, inr, ◌∙◌, arith}
+use Rattle.std.proofs.Common.{◌≡◌, ◌≢◌, ◌<◌, ◌+◌, ℕ, Bool, false, List, length, sym, subst, ap, inl, inr, ◌∙◌, arith}
 use Rattle.std.proofs.Math.ListN.{set}
 use Rattle.std.proofs.lemmas.List.{get_or-set_same, get_or-set_other}
-use Rattle.in_simple.specs.declared.open_nets.Point.{Point}
 use Rattle.in_simple.specs.declared.open_nets.Point.TheVariants.{Port, Free}
 use Rattle.in_simple.specs.Constructions.{IsIn}
 use Rattle.in_simple.specs.Splitting.{Linked, alone, onward, Without, SplitsAt}
 use Rattle.in_simple.specs.OpenNets.{OpenNet, IsWire, IsOpenNet, class_in, open_graph}
 use Rattle.in_simple.specs.Stuck.{ports_of}
-use Rattle.in_simple.specs.Procedure.{nodes_in, IsReached, IsRest, IsOfClass, AreOfClass, PortSplits, SplitsPorts, SplitsIt, NoneSplits, IsFirst}
+use Rattle.in_simple.specs.Procedure.{nodes_in, IsReached, IsRest, AreOfClass, PortSplits, SplitsPorts, SplitsIt, NoneSplits, IsFirst}
 use Rattle.in_simple.proofs.Sums.{not_both}
-use Rattle.in_simple.proofs.Balance.{wire_turn}
 use Rattle.in_simple.proofs.Links.{same_nat}
 use Rattle.in_simple.proofs.Search.{in_ports}
 use Rattle.in_simple.proofs.Sound.{port_place}

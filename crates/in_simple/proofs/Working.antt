@@ -1,17 +1,17 @@
 -- The procedure's tasks decide whether the open net is derivable, and grow fewer.
-use Rattle.std.proofs.Common.{◌≡◌, ◌≢◌, ◌⊎◌, ◌↔◌, ◌<◌, ◌≤◌, ◌+◌, ℕ, zero, suc, Bool, true, false, cond, ◌||◌, Option, Some, None, List, [], ◌∷◌, ◌++◌, length, reverse, get_or, refl, sym, subst, ap, inl, inr, ◌∙◌, arith}
+use Rattle.std.proofs.Common.{◌≡◌, ◌⊎◌, ◌<◌, ◌≤◌, ℕ, suc, Bool, true, false, ◌||◌, List, [], ◌∷◌, ◌++◌, length, reverse, refl, sym, subst, ap, inl, inr, ◌∙◌, arith}
 use Rattle.std.proofs.lemmas.List.{reverse-append}
 use Rattle.in_simple.specs.declared.plans.Joint.{Joint}
 use Rattle.in_simple.specs.declared.plans.Task.{Task}
 use Rattle.in_simple.specs.declared.plans.Task.TheVariants.{Derive, Make}
 use Rattle.in_simple.specs.Constructions.{IsIn}
-use Rattle.in_simple.specs.Splitting.{Linked, alone, Without, IsFirstSplitting, Splits, none, first}
+use Rattle.in_simple.specs.Splitting.{alone, Without, IsFirstSplitting, none, first}
 use Rattle.in_simple.specs.OpenNets.{OpenNet, IsOpenNet, IsDerivable, open_graph}
 use Rattle.in_simple.specs.Stuck.{ComesAt, FirstStuck, whole, within, IsFirstStuck}
-use Rattle.in_simple.specs.Procedure.{nodes_in, AllSplit, IsPart, HasNone, IsFirst, NoneSplits, Lists, AreSized, AreMakes, StuckIn, AllSplitIn, pending_in, AreApart, IsWork, StartsWork, Passes, Among, Rises, IsListed}
+use Rattle.in_simple.specs.Procedure.{nodes_in, AllSplit, IsPart, HasNone, IsFirst, NoneSplits, Lists, AreSized, AreMakes, StuckIn, AllSplitIn, pending_in, AreApart, IsWork, StartsWork, Passes, Among, Rises}
 use Rattle.in_simple.proofs.Sums.{or_cases, or_left, or_right, or_false, not_both, not_true}
 use Rattle.in_simple.proofs.Links.{same_nat, at_most, link_first, link_back}
-use Rattle.in_simple.proofs.Reaching.{in_length, among_left, among_last, among_cases}
+use Rattle.in_simple.proofs.Reaching.{in_length}
 use Rattle.in_simple.proofs.Search.{count, count_less, comes_at, one_turn, turn_same, meet_same, without}
 use Rattle.in_simple.proofs.Both.{derivable_splits, splits_derivable, one_first_stuck}
 use Rattle.in_simple.proofs.Planning.{sized_more}

@@ -1,5 +1,5 @@
 -- The open net of an initial net: its agents in order are the nodes, its wires by number, and its free ends.
-use Rattle.std.specs.Prelude.{◌≡◌, ◌↔◌, ℕ, ◌+◌, ◌<◌, ◌≤◌, List, length, slice_get, Option, Some, option_map, is_some, true}
+use Rattle.std.specs.Prelude.{◌≡◌, ◌↔◌, ℕ, ◌+◌, ◌<◌, ◌≤◌, List, length, slice_get, Some, option_map, is_some, true}
 use Rattle.std.specs.List.{AllByRecursion}
 use Rattle.in_symbols.specs.declared.symbols.SymbolNo.{SymbolNo}
 use Rattle.in_symbols.specs.Tables.{Tables, arity_of, class_at, classes_of}

@@ -1,5 +1,5 @@
 -- What the procedure that looks for a derivation keeps true. Sets of nodes are lists of tests, node by node.
-use Rattle.std.specs.Prelude.{◌≡◌, ◌⊎◌, ◌↔◌, ℕ, suc, ◌+◌, ◌*◌, ◌<◌, ◌≤◌, Bool, true, false, cond, ◌||◌, List, [], ◌∷◌, ◌++◌, length, slice_get, slice_set, slice_index_or, Option, Some, None, MatchOption}
+use Rattle.std.specs.Prelude.{◌≡◌, ◌⊎◌, ◌↔◌, ℕ, suc, ◌+◌, ◌*◌, ◌<◌, ◌≤◌, Bool, true, false, cond, ◌||◌, List, [], ◌∷◌, ◌++◌, length, slice_set, slice_index_or, Option, Some, None, MatchOption}
 use Rattle.in_simple.specs.declared.derivations.Stuck.{Stuck as StuckNet}
 use Rattle.in_simple.specs.declared.derivations.Undone.{Undone}
 use Rattle.in_simple.specs.declared.derivations.Undone.TheVariants.{Stuck, Memory}
@@ -11,7 +11,7 @@ use Rattle.in_simple.specs.declared.plans.Task.TheVariants.{Derive, Make}
 use Rattle.in_simple.specs.Constructions.{IsIn, count}
 use Rattle.in_simple.specs.Splitting.{Linked, Without, SplitsAt, IsFirstSplitting, IsComponent, Splits}
 use Rattle.in_simple.specs.OpenNets.{OpenNet, IsWire, class_in, open_graph, IsDerivable}
-use Rattle.in_simple.specs.Stuck.{ports_of, ComesAt, FirstStuck, IsFirstStuck}
+use Rattle.in_simple.specs.Stuck.{ComesAt, FirstStuck, IsFirstStuck}
 
 abbrev pub nodes_in : List Bool → ℕ → Bool
 nodes_in bits n = slice_index_or bits n false

@@ -115,7 +115,7 @@ impl Work {
 
 /// Whether the wire is between two free ends.
 fn is_loose(open: &OpenNet, wire: usize) -> bool
-    requires { wire < length open.now.wires }
+    requires { wire < length «open».now.wires }
 {
     matches!(open.wire(wire), (Point::Free(_), Point::Free(_)))
 }
@@ -155,7 +155,7 @@ fn all(alloc: Global, count: usize) -> Result<Items<bool>, AllocError>
 
 /// The tasks of the whole open net.
 fn start(alloc: Global, open: &OpenNet) -> Result<Items<Task>, AllocError>
-    ensures { IfOk result (StartsWork (length open.now.nodes)) }
+    ensures { IfOk result (StartsWork (length «open».now.nodes)) }
 {
     let count = open.nodes() as usize;
     let links = loose(alloc, open, count > 0)?;
@@ -185,7 +185,7 @@ fn stuck(alloc: Global, part: &Items<bool>) -> Result<Stuck, AllocError>
 
 /// The tasks of the whole open net, and no step yet.
 fn begin(alloc: Global, open: &OpenNet) -> Result<Work, AllocError>
-    ensures { IfOk result (λ work. IsWork open.now (reverse work.tasks)) }
+    ensures { IfOk result (λ work. IsWork «open».now (reverse work.tasks)) }
 {
     let tasks = start(alloc, open)?;
     let mut work = Work {
@@ -245,7 +245,7 @@ enum Outcome {
 
 /// What the procedure comes to.
 fn attempt(alloc: Global, open: &OpenNet) -> Result<Outcome, AllocError>
-    ensures { IfOk result (IsOutcome open.now) }
+    ensures { IfOk result (IsOutcome «open».now) }
 {
     let wired = Wired::of(alloc, open)?;
     let mut work = begin(alloc, open)?;
@@ -266,7 +266,7 @@ fn attempt(alloc: Global, open: &OpenNet) -> Result<Outcome, AllocError>
 /// derived, and they are joined. Refused with the first stuck sub-net in that order, or for want of memory. Lafont 1990 asks
 /// whether a net is semi-simple; the order is this project's own choice.
 pub fn derive(alloc: Global, open: &OpenNet) -> Result<Derivation, Undone>
-    ensures { MatchResult result (λ derivation. IsDerivable open.now) (IsUndone open.now) }
+    ensures { MatchResult result (λ derivation. IsDerivable «open».now) (IsUndone «open».now) }
 {
     match attempt(alloc, open) {
         Ok(Outcome::Derived(derivation)) => Ok(derivation),

@@ -29,7 +29,7 @@ fn no_ends(alloc: Global, count: usize) -> Result<Items<u32>, AllocError>
 
 /// Nothing.
 fn nothing(alloc: Global, open: &OpenNet) -> Result<Built, AllocError>
-    ensures { IfOk result (IsSized open.now) }
+    ensures { IfOk result (IsSized «open».now) }
 {
     let wires = open.wires();
     Ok(Built {
@@ -71,9 +71,9 @@ fn add_ends(ends: &mut Items<u32>, more: &Items<u32>) -> Result<(), AllocError>
 
 /// Puts two side by side; or answers that they share a node or a Link.
 fn beside(open: &OpenNet, built: &mut Built, more: &Built) -> Result<bool, AllocError>
-    requires built { IsSized open.now built.old }
-    requires more { IsSized open.now more.now }
-    ensures { IsSized open.now built.new }
+    requires built { IsSized «open».now built.old }
+    requires more { IsSized «open».now more.now }
+    ensures { IsSized «open».now built.new }
 {
     if unite(&mut built.nodes, &more.nodes) && unite(&mut built.links, &more.links) {
         add_ends(&mut built.ends, &more.ends)?;
@@ -103,7 +103,7 @@ fn is_auxiliary(point: Point, node: u32) -> bool {
 
 /// A wire by itself.
 fn link(alloc: Global, open: &OpenNet, wire: u32) -> Result<Option<Built>, AllocError>
-    ensures { IfOk result (OnSomeSized open.now) }
+    ensures { IfOk result (OnSomeSized «open».now) }
 {
     let number = wire as usize;
     if number < open.wires() {
@@ -119,8 +119,8 @@ fn link(alloc: Global, open: &OpenNet, wire: u32) -> Result<Option<Built>, Alloc
 
 /// An end for each far point of a wire at one of these nodes.
 fn lead(open: &OpenNet, built: &mut Built)
-    requires { IsSized open.now built.old }
-    ensures { IsSized open.now built.new }
+    requires { IsSized «open».now built.old }
+    ensures { IsSized «open».now built.new }
 {
     for wire in 0..open.wires() {
         let (one, other) = open.wire(wire);
@@ -135,7 +135,7 @@ fn lead(open: &OpenNet, built: &mut Built)
 
 /// A class node.
 fn given(alloc: Global, open: &OpenNet, node: u32) -> Result<Option<Built>, AllocError>
-    ensures { IfOk result (OnSomeSized open.now) }
+    ensures { IfOk result (OnSomeSized «open».now) }
 {
     let number = node as usize;
     if node < open.nodes() && !open.is_agent(number) {
@@ -176,10 +176,10 @@ fn add_end(ends: &mut Items<u32>, end: usize) -> Result<(), AllocError>
 
 /// Whether one has the port at an end of the wire, and each an end for the other's point.
 fn is_joint(open: &OpenNet, wire: usize, a: &Built, b: &Built) -> bool
-    requires wire { wire < length open.now.wires }
-    requires small { length open.now.wires < 2 ^ 32 }
-    requires a { IsSized open.now a.now }
-    requires b { IsSized open.now b.now }
+    requires wire { wire < length «open».now.wires }
+    requires small { length «open».now.wires < 2 ^ 32 }
+    requires a { IsSized «open».now a.now }
+    requires b { IsSized «open».now b.now }
 {
     let (one, other) = open.wire(wire);
     let low = 2 * wire;
@@ -194,9 +194,9 @@ fn is_joint(open: &OpenNet, wire: usize, a: &Built, b: &Built) -> bool
 
 /// Two joined along a wire.
 fn cut(open: &OpenNet, wire: u32, a: Built, b: Built) -> Result<Option<Built>, AllocError>
-    requires a { IsSized open.now a }
-    requires b { IsSized open.now b }
-    ensures { IfOk result (OnSomeSized open.now) }
+    requires a { IsSized «open».now a }
+    requires b { IsSized «open».now b }
+    ensures { IfOk result (OnSomeSized «open».now) }
 {
     let number = wire as usize;
     if number >= open.wires() || !is_joint(open, number, &a, &b) {
@@ -215,9 +215,9 @@ fn cut(open: &OpenNet, wire: u32, a: Built, b: Built) -> Result<Option<Built>, A
 
 /// Two side by side.
 fn mix(open: &OpenNet, a: Built, b: Built) -> Result<Option<Built>, AllocError>
-    requires a { IsSized open.now a }
-    requires b { IsSized open.now b }
-    ensures { IfOk result (OnSomeSized open.now) }
+    requires a { IsSized «open».now a }
+    requires b { IsSized «open».now b }
+    ensures { IfOk result (OnSomeSized «open».now) }
 {
     let mut built = a;
     if beside(open, &mut built, &b)? {
@@ -229,7 +229,7 @@ fn mix(open: &OpenNet, a: Built, b: Built) -> Result<Option<Built>, AllocError>
 
 /// Whether a label is a port of the node in this class.
 fn is_in_class(open: &OpenNet, point: Point, node: u32, class: usize) -> bool
-    requires { node < length open.now.nodes }
+    requires { node < length «open».now.nodes }
 {
     match point {
         Point::Port(owner, place) => {
@@ -243,8 +243,8 @@ fn is_in_class(open: &OpenNet, point: Point, node: u32, class: usize) -> bool
 
 /// Whether there is an end for each port of the node in this class.
 fn has_class(open: &OpenNet, built: &Built, node: u32, class: usize) -> bool
-    requires built { IsSized open.now built.now }
-    requires node { node < length open.now.nodes }
+    requires built { IsSized «open».now built.now }
+    requires node { node < length «open».now.nodes }
 {
     for wire in 0..open.wires() {
         let (one, other) = open.wire(wire);
@@ -282,8 +282,8 @@ fn graft_end(
 
 /// The node's auxiliary ports are joined to the ends for them, and its principal port is open.
 fn graft_ends(open: &OpenNet, built: &mut Built, node: u32) -> Result<bool, AllocError>
-    requires { IsSized open.now built.old }
-    ensures { IsSized open.now built.new }
+    requires { IsSized «open».now built.old }
+    ensures { IsSized «open».now built.new }
 {
     for wire in 0..open.wires() {
         let (one, other) = open.wire(wire);
@@ -300,7 +300,7 @@ fn graft_ends(open: &OpenNet, built: &mut Built, node: u32) -> Result<bool, Allo
 
 /// Whether it has a place for each node and each wire.
 fn is_sized(open: &OpenNet, built: &Built) -> bool
-    ensures { IsTrue result → IsSized open.now built.now }
+    ensures { IsTrue result → IsSized «open».now built.now }
 {
     built.nodes.len() == open.nodes() as usize
         && built.links.len() == open.wires()
@@ -309,7 +309,7 @@ fn is_sized(open: &OpenNet, built: &Built) -> bool
 
 /// What an earlier step built, where no step named it before.
 fn taken(open: &OpenNet, parts: &mut Vec<Option<Built>>, step: u32) -> Option<Built>
-    ensures { OnTaken open.now step parts.old.items parts.new.items result }
+    ensures { OnTaken «open».now step parts.old.items parts.new.items result }
 {
     let number = step as usize;
     if number >= parts.len() {
@@ -336,9 +336,9 @@ fn graft_class(
     step: u32,
     class: usize,
 ) -> Result<bool, AllocError>
-    requires built { IsSized open.now built.old }
-    requires node { node < length open.now.nodes }
-    ensures sized { IsSized open.now built.new }
+    requires built { IsSized «open».now built.old }
+    requires node { node < length «open».now.nodes }
+    ensures sized { IsSized «open».now built.new }
     ensures takes { IfOk result (λ yes. IsTrue yes → Takes (step ∷ []) parts.old.items parts.new.items) }
 {
     match taken(open, parts, step) {
@@ -362,9 +362,9 @@ fn graft_classes(
     node: u32,
     steps: &[u32],
 ) -> Result<bool, AllocError>
-    requires built { IsSized open.now built.old }
-    requires node { node < length open.now.nodes }
-    ensures sized { IsSized open.now built.new }
+    requires built { IsSized «open».now built.old }
+    requires node { node < length «open».now.nodes }
+    ensures sized { IsSized «open».now built.new }
     ensures takes { IfOk result (λ yes. IsTrue yes → Takes steps.now parts.old.items parts.new.items) }
 {
     for class in 0..steps.len() {
@@ -469,7 +469,7 @@ fn is_end(label: Point, count: u32) -> bool {
 
 /// Whether the open ends are the free ends.
 fn has_free_ends(open: &OpenNet, built: &Built) -> bool
-    requires { IsSized open.now built.now }
+    requires { IsSized «open».now built.now }
 {
     for wire in 0..open.wires() {
         let (one, other) = open.wire(wire);

@@ -23,9 +23,9 @@ impl<'a> Model for Wired<'a> {
 
     ghost Value = { nets.OpenNet };
 
-    ghost view = { λ w. w.open.now };
+    ghost view = { λ w. w.«open».now };
 
-    ghost invariant = { λ w. nets.IsOrderly w.open.now × procedure.IsWired w.open.now w.slots };
+    ghost invariant = { λ w. nets.IsOrderly w.«open».now × procedure.IsWired w.«open».now w.slots };
 }
 
 /// So many empty slots.
@@ -55,7 +55,7 @@ fn lead(slots: &mut Items<Option<(u32, Point)>>, wire: u32, from: Point, to: Poi
 
 /// The slots of the open net's ports.
 fn slots(alloc: Global, open: &OpenNet) -> Result<Items<Option<(u32, Point)>>, AllocError>
-    ensures { IfOk result (IsWired open.now) }
+    ensures { IfOk result (IsWired «open».now) }
 {
     let count = open.nodes() as usize;
     let mut slots = empty(alloc, count * 256)?;
@@ -70,7 +70,7 @@ fn slots(alloc: Global, open: &OpenNet) -> Result<Items<Option<(u32, Point)>>, A
 impl<'a> Wired<'a> {
     /// The open net, with its wires by port.
     pub(crate) fn of(alloc: Global, open: &'a OpenNet) -> Result<Wired<'a>, AllocError>
-        ensures { IfOk result (λ wired. wired ≡ open.now) }
+        ensures { IfOk result (λ wired. wired ≡ «open».now) }
     {
         let _ = &open.nodes;
         Ok(Wired {

@@ -119,7 +119,10 @@ fn faults_of_rules_stand_at_their_places(rt: HostRuntime) -> Result<(), Fail> {
         ("rule Z[] >< Add[y, x];", "refused E08 at 7:17: y\n"),
         ("rule S[y] >< Add[y, y];", "refused E08 at 7:21: y\n"),
         ("rule Z[] >< Add[S(y), y];", "refused E10 at 7:17: S\n"),
-        ("rule Z[] >< Add[y, Add(y, Z)];", "refused E10 at 7:20: Add\n"),
+        (
+            "rule Z[] >< Add[y, Add(y, Z)];",
+            "refused E10 at 7:20: Add\n",
+        ),
         ("rule Z[] >< Z[y];", "refused E07 at 7:13: Z\n"),
     ];
     for (rule, line) in rows {
@@ -155,10 +158,7 @@ fn passes_come_one_after_another(rt: HostRuntime) -> Result<(), Fail> {
             "symbol K : nat-;\nrule Z[] >< Add[y, y];\nnet () { }",
             "refused E14 at 8:6: Z\n",
         ),
-        (
-            "symbol K : nat-;\nnet () { }",
-            "refused E15 at 7:8: K, Z\n",
-        ),
+        ("symbol K : nat-;\nnet () { }", "refused E15 at 7:8: K, Z\n"),
     ];
     for (rest, line) in rows {
         let text = format!(in rt.alloc(); "{SUMS}{RULES}{rest}\n")?;
@@ -169,7 +169,9 @@ fn passes_come_one_after_another(rt: HostRuntime) -> Result<(), Fail> {
 
 /// A program whose last rule has a right member of so many agents.
 fn text_of_agents(alloc: Global, agents: usize) -> Result<String, Fail> {
-    let mut text = format!(in alloc; "{NUMBERS}symbol L : nat- {{nat+}};\nrule S[L(y)] >< L[y];\nrule Z[] >< L[")?;
+    let mut text = format!(in alloc;
+        "{NUMBERS}symbol L : nat- {{nat+}};\nrule S[L(y)] >< L[y];\nrule Z[] >< L["
+    )?;
     for _ in 1..agents {
         text.push_str("S(")?;
     }
@@ -182,9 +184,7 @@ fn text_of_agents(alloc: Global, agents: usize) -> Result<String, Fail> {
 }
 
 #[test]
-fn sixty_four_agents_are_a_right_member_and_one_more_too_many(
-    rt: HostRuntime,
-) -> Result<(), Fail> {
+fn sixty_four_agents_are_a_right_member_and_one_more_too_many(rt: HostRuntime) -> Result<(), Fail> {
     let alloc = rt.alloc();
     let fits = text_of_agents(alloc, 64)?;
     expect(
@@ -384,6 +384,47 @@ fn what_is_said_of_words_may_find_no_writer(rt: HostRuntime) -> Result<(), Fail>
         let mut errors = Paper::narrow(alloc, 2, 1, Stop::Fails);
         let answer = tell_usage(usage, &mut writer, &mut errors);
         assert!(rt; answer == Status(status), "{status}");
+    }
+    Ok(())
+}
+
+#[test]
+fn the_examples_of_the_language_are_refused(rt: HostRuntime) -> Result<(), Fail> {
+    let rows = [
+        ("net () { $ }", "refused E01 at 1:10\n"),
+        ("net () { Z() ~ Z; }", "refused E02 at 1:12: )\n"),
+        ("net () {", "refused E02 at 1:9\n"),
+        ("type a, a; net () { }", "refused E04 at 1:9: a\n"),
+        ("net (r : nat+) { r ~ x; }", "refused E05 at 1:10: nat\n"),
+        ("net () { F(x) ~ x; }", "refused E06 at 1:10: F\n"),
+        (
+            "type nat; symbol Z : nat+; net () { Z(x) ~ x; }",
+            "refused E07 at 1:37: Z\n",
+        ),
+        (
+            "type nat; symbol Z : nat+; net () { x ~ Z; }",
+            "refused E08 at 1:37: x\n",
+        ),
+        ("net () { x ~ x; }", "refused E09 at 1:12: ~\n"),
+        (
+            "type nat; symbol Z : nat+; net () { Z ~ Z; }",
+            "refused E10 at 1:39: ~\n",
+        ),
+        (
+            "type nat; symbol Z : nat+; rule Z[] >< Z[]; net () { }",
+            "refused E11 at 1:40: Z\n",
+        ),
+        (
+            "type nat; symbol Z : nat+; symbol Era : nat-; rule Z[] >< Era[]; rule Era[] >< Z[]; net () { }",
+            "refused E14 at 1:71: Era\n",
+        ),
+        (
+            "type nat; symbol Z : nat+; symbol Era : nat-; net () { }",
+            "refused E15 at 1:35: Era, Z\n",
+        ),
+    ];
+    for (text, line) in rows {
+        expect(&rt, rt.alloc(), text, line, 1);
     }
     Ok(())
 }

@@ -21,7 +21,7 @@ use Rattle.in_net.proofs.Known.{net_known}
 use Rattle.in_net.proofs.FirstFault.{is_first, no_fault, none_misfit, none_miscounted, names_inside}
 use Rattle.in_net.proofs.ReadFrom as read_from
 use Rattle.in_net.proofs.Small.{are_small}
-use Rattle.in_net.proofs.TextWires.{IsGood, read, read_joined, read_closed, is_text_net}
+use Rattle.in_net.proofs.TextWires.{IsGood, read, read_joined, read_closed, read_first, read_none, is_text_net}
 use Rattle.in_net.proofs.building.build_net.Goals as goal
 
 good : (source : Source) (t : Tables) (r : Reading) → IsSized source → IsWrittenInOrder source → IsTabled source t → IsFaultless source → r ≡ reading_of t (body_of source.net) → None ≡ first_fault max_agents t (body_of source.net) r → IsGood t (body_of source.net)
@@ -64,8 +64,10 @@ returns-in-Some-closed c =
     let ready = net_ready source t c.requires.tabled c.requires.faultless c.requires.order in
     let g = good source t c.in_ok-reading.reading c.requires.sized c.requires.order c.requires.tabled c.requires.faultless is clear in
     let closed : (joining_of c.in_ok-reading.reading).closed ≡ Some c.in-Some-closed.place = sym (ap (λ j. j.closed) c.in_ok-links.ensures) ∙ c.in-Some-closed.is in
+    let found : (joining_of (reading_of t (body_of source.net))).closed ≡ Some c.in-Some-closed.place = sym (ap (λ r. (joining_of r).closed) is) ∙ closed in
     subst (λ f. Builds source t (Err f)) (sym c.closed_at.ensures) (
-      of_wires c.in-Some-closed.place (no_fault max_agents t (body_of source.net) c.in_ok-reading.reading ready is clear) (read_closed t (body_of source.net) g c.in-Some-closed.place (sym (ap (λ r. (joining_of r).closed) is) ∙ closed)),
+      of_wires c.in-Some-closed.place (no_fault max_agents t (body_of source.net) c.in_ok-reading.reading ready is clear) (read_closed t (body_of source.net) g c.in-Some-closed.place found)
+      (λ q wire. read_first t (body_of source.net) g c.in-Some-closed.place q found wire),
       refl,
     )
 
@@ -137,6 +139,7 @@ returns c =
     let count : length c.in_ok-free.free ≡ ends_in t (body_of source.net) =
     sym (ap length fs) ∙ length-free t c.in_ok-reading.reading.spots c.as_slice-links.result.now 0 source.net.free ∙ (let e : length source.net.free ≡ ends_in t (body_of source.net) = omega arith in e) in
     let made = c.in_ok-assemble.ensures in
+    let none : (joining_of (reading_of t (body_of source.net))).closed ≡ None = sym (ap (λ r. (joining_of r).closed) is) ∙ sym (ap (λ j. j.closed) c.in_ok-links.ensures) ∙ c.in_default-closed.is in
     let net = is_text_net t (body_of source.net) c.in_ok-free.free r c.as_slice-links.result.now c.in_ok-assemble.field-0 g is links count ends made in (
       net.0,
       record {
@@ -145,4 +148,5 @@ returns c =
         wires = net.2;
       },
       no_fault max_agents t (body_of source.net) r ready is clear,
+      read_none t (body_of source.net) g none,
     )

@@ -1,4 +1,4 @@
-use Rattle.std.proofs.Common.{[], arith, sym, subst}
+use Rattle.std.proofs.Common.{arith, sym, subst}
 use Rattle.in_simple.specs.Procedure.{Among, IsSearch, Reaches}
 use Rattle.in_simple.proofs.Reaching.{among_last, search_start, search_step, search_end}
 use Rattle.in_simple.proofs.components.component.Goals as goal

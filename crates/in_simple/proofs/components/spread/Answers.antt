@@ -1,4 +1,4 @@
-use Rattle.std.proofs.Common.{◌+◌, arith, sym, subst}
+use Rattle.std.proofs.Common.{◌+◌, sym, subst}
 use Rattle.in_simple.specs.Procedure.{Spreads}
 use Rattle.in_simple.proofs.Reaching.{spread_past, spread_more}
 use Rattle.in_simple.proofs.components.spread.Goals as goal

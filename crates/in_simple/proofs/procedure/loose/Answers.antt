@@ -1,7 +1,6 @@
-use Rattle.std.proofs.Common.{◌≡◌, ◌∙◌, ap, sym, subst, ◌++◌, ◌∷◌, []}
+use Rattle.std.proofs.Common.{◌∙◌, sym, subst}
 use Rattle.in_simple.specs.Procedure.{AreMakes}
 use Rattle.in_simple.specs.declared.plans.Joint.TheVariants.{Empty, Link, Mix}
-use Rattle.in_simple.specs.declared.plans.Task.TheVariants.{Make}
 use Rattle.in_simple.proofs.Working.{makes_more}
 use Rattle.in_simple.proofs.procedure.loose.Goals as goal
 use Rattle.in_simple.proofs.procedure.loose.Goals.{then-is_loose+in_ok-push+then-some+in_ok-push-2, then-is_loose+in_ok-push+else-some, else-is_loose, then-not-some+in_ok-push-3, else-not-some}

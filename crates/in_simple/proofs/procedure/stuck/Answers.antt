@@ -1,4 +1,4 @@
-use Rattle.std.proofs.Common.{◌≡◌, ◌⊎◌, ◌↔◌, ◌<◌, ◌+◌, ◌∙◌, ℕ, Bool, true, false, ap, sym, subst, inl, inr, ◌++◌, ◌∷◌, [], List, arith}
+use Rattle.std.proofs.Common.{◌≡◌, ◌↔◌, ◌<◌, ◌+◌, ◌∙◌, ℕ, Bool, true, false, sym, subst, inl, inr, ◌++◌, ◌∷◌, [], List, arith}
 use Rattle.in_simple.specs.Constructions.{IsIn}
 use Rattle.in_simple.specs.Procedure.{Among, Rises, nodes_in}
 use Rattle.in_simple.proofs.Sums.{not_both}

@@ -1,4 +1,4 @@
-use Rattle.std.proofs.Common.{◌≡◌, ◌<◌, ◌++◌, ◌∷◌, reverse, length, sym, subst, arith}
+use Rattle.std.proofs.Common.{◌∷◌, reverse, length, sym, subst, arith}
 use Rattle.std.specs.Prelude.{MatchOption}
 use Rattle.in_simple.specs.declared.plans.Task.TheVariants.{Derive}
 use Rattle.in_simple.specs.Procedure.{IsWork, IsFirst, NoneSplits, AreFewer, nodes_in}

@@ -1,5 +1,5 @@
-use Rattle.std.proofs.Common.{◌≡◌, false, true, refl, sym, subst, arith}
-use Rattle.in_simple.specs.Procedure.{AreOfClass, IsOfClass}
+use Rattle.std.proofs.Common.{false, refl, arith}
+use Rattle.in_simple.specs.Procedure.{IsOfClass}
 use Rattle.in_simple.proofs.Sums.{not_both}
 use Rattle.in_simple.proofs.SplittingPorts.{more}
 use Rattle.in_simple.proofs.splitting.are_of_class.Goals as goal

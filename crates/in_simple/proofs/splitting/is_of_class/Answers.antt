@@ -1,5 +1,4 @@
 use Rattle.std.proofs.Common.{refl, sym, ◌∙◌, eq-eqb, eqb-true}
-use Rattle.in_simple.proofs.Sound.{port_place}
 use Rattle.in_simple.proofs.splitting.is_of_class.Goals as goal
 
 pub returns-in-Some : goal.returns-in-Some

@@ -1,4 +1,4 @@
-use Rattle.std.proofs.Common.{◌≡◌, ◌∙◌, ap, false, true, get_or, refl, sym, subst, eq-eqb, eqb-true, arith}
+use Rattle.std.proofs.Common.{◌∙◌, ap, false, get_or, refl, sym, subst, eq-eqb, eqb-true}
 use Rattle.in_simple.specs.declared.open_nets.Point.TheVariants.{Port}
 use Rattle.in_simple.specs.OpenNets.{IsWire}
 use Rattle.in_simple.specs.Procedure.{AreOfClass}

@@ -1,5 +1,4 @@
 use Rattle.std.proofs.Common.{◌≡◌, ◌+◌, ◌∙◌, length, ap, sym, subst, inl, inr, arith}
-use Rattle.in_simple.specs.OpenNets.{IsWire}
 use Rattle.in_simple.specs.Procedure.{AreLed, HasSlot, led}
 use Rattle.in_simple.proofs.Slots.{has_slot, length_led, led_nothing, led_more, wire_read}
 use Rattle.in_simple.proofs.wired.slots.Goals as goal

@@ -1,7 +1,7 @@
-use Rattle.std.proofs.Common.{◌≡◌, ◌+◌, ◌-◌, ◌∙◌, suc, true, false, length, refl, sym, subst, ap, arith}
-use Rattle.in_simple.specs.Procedure.{GoesOn, IsPlan, Lists, IsRest}
+use Rattle.std.proofs.Common.{◌≡◌, ◌+◌, suc, refl, sym, subst, arith}
+use Rattle.in_simple.specs.Procedure.{GoesOn, IsPlan}
 use Rattle.in_simple.specs.Stuck.{ports_of, turn}
-use Rattle.in_simple.proofs.Planning.{goes_make, goes_keep, goes_on, keeps_make, agent_start, class_last, turn_agent, turn_principal, turn_class, plan_start, plan_end, lists_part}
+use Rattle.in_simple.proofs.Planning.{goes_make, goes_on, class_last, turn_class}
 use Rattle.in_simple.proofs.plans.Plan.class.Goals as goal
 
 pub loop-port-init : goal.loop-port-init

@@ -1,7 +1,6 @@
-use Rattle.std.proofs.Common.{◌≡◌, ◌+◌, ◌-◌, ◌∙◌, suc, true, false, length, refl, sym, subst, ap, arith}
-use Rattle.in_simple.specs.Procedure.{GoesOn, IsPlan, Lists, IsRest}
-use Rattle.in_simple.specs.Stuck.{ports_of, turn}
-use Rattle.in_simple.proofs.Planning.{goes_make, goes_keep, goes_on, keeps_make, agent_start, class_last, turn_agent, turn_principal, turn_class, plan_start, plan_end, lists_part}
+use Rattle.std.proofs.Common.{suc}
+use Rattle.in_simple.specs.Stuck.{turn}
+use Rattle.in_simple.proofs.Planning.{goes_make}
 use Rattle.in_simple.proofs.plans.Plan.further_port.Goals as goal
 
 pub returns-in_ok-make : goal.returns-in_ok-make

@@ -1,9 +1,8 @@
-use Rattle.std.proofs.Common.{◌≡◌, ◌+◌, ◌∙◌, suc, true, false, refl, sym, subst, ap, arith}
+use Rattle.std.proofs.Common.{suc, true, false, subst}
 use Rattle.in_simple.specs.declared.open_nets.Point.TheVariants.{Port}
 use Rattle.in_simple.specs.OpenNets.{IsWire}
-use Rattle.in_simple.specs.Procedure.{GoesOn, IsPlan}
-use Rattle.in_simple.specs.Stuck.{ports_of, turn}
-use Rattle.in_simple.proofs.Planning.{port_free, port_out, port_done, port_derive, goes_make, goes_keep, goes_on, keeps_make, read_bit, node_out, node_done, node_derive, agent_start, class_last, turn_agent, turn_principal, turn_class, plan_start, plan_end, lists_part}
+use Rattle.in_simple.specs.Stuck.{turn}
+use Rattle.in_simple.proofs.Planning.{port_free, port_out, port_done, port_derive, goes_make, read_bit}
 use Rattle.in_simple.proofs.plans.Plan.join.Goals as goal
 
 pub returns-then-as_slice-near-2 : goal.returns-then-as_slice-near-2

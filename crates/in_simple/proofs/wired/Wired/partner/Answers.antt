@@ -1,5 +1,5 @@
-use Rattle.std.proofs.Common.{sym, subst, ◌∙◌, ap, arith, get_or, None, ◌+◌, ◌*◌}
-use Rattle.in_simple.specs.OpenNets.{IsOrderly, IsPointOf}
+use Rattle.std.proofs.Common.{sym, subst, ◌∙◌, ap, get_or, None, ◌+◌, ◌*◌}
+use Rattle.in_simple.specs.OpenNets.{IsOrderly}
 use Rattle.in_simple.specs.declared.open_nets.Point.TheVariants.{Port}
 use Rattle.in_simple.specs.Procedure.{IsWired}
 use Rattle.in_simple.proofs.Balance.{wire_turn}
