@@ -84,7 +84,8 @@ impl Net {
 
     /// How many agents the net has.
     pub fn agents(&self) -> u32
-        ensures { result ≡ count_by is_some self.now.cells }
+        ensures count { result ≡ count_by is_some self.now.cells }
+        ensures whole { IsWhole self.now }
     {
         self.cells
             .as_slice()

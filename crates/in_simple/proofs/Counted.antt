@@ -18,7 +18,7 @@ filter_all {X} (None ∷ xs) all = let f : is_some {T = X} None ≡ true = all.0
 pub count_all : {X : Type 0} (xs : List (Option X)) → AllByRecursion (λ x. is_some x ≡ true) xs → count_by is_some xs ≡ length xs
 count_all xs all = sym (length-filter is_some xs) ∙ filter_all xs all
 
-cells_there : (t : Tables) (ws : List Written) (cells : List (Option Cell)) → AreCellsFor t ws cells → AllByRecursion (λ c. is_some c ≡ true) cells
+pub cells_there : (t : Tables) (ws : List Written) (cells : List (Option Cell)) → AreCellsFor t ws cells → AllByRecursion (λ c. is_some c ≡ true) cells
 cells_there t [] [] h = tt
 cells_there t [] (c ∷ cs) h = absurd h
 cells_there t (w ∷ ws) [] h = absurd h

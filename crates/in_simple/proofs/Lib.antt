@@ -11,13 +11,17 @@ pub mod Make
 pub mod Named
 pub mod NoCircle
 pub mod Opened
+pub mod OpenedRules
 pub mod Planning
 pub mod Reaching
+pub mod RuleNodes
+pub mod RulePoints
 pub mod Search
 pub mod Slots
 pub mod Sound
 pub mod SplittingPorts
 pub mod Sums
+pub mod TextRules
 pub mod Whole
 pub mod WireNet
 pub mod Working

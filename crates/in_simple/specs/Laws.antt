@@ -1,15 +1,18 @@
 -- The laws of open nets, over the definitions alone.
-use Rattle.std.specs.Prelude.{◌≡◌, ◌⊎◌, ◌↔◌, ℕ, Bool, List}
+use Rattle.std.specs.Prelude.{◌≡◌, ◌⊎◌, ◌↔◌, ℕ, Bool, List, Ok}
 use Rattle.in_syntax.specs.declared.tree.Source.{Source}
 use Rattle.in_syntax.specs.declared.tree.SourceNet.{SourceNet}
+use Rattle.in_syntax.specs.declared.tree.SourceRule.{SourceRule}
 use Rattle.in_symbols.specs.Tables.{Tables, IsTabled}
 use Rattle.in_net.specs.Built.{IsOver}
 use Rattle.in_net.specs.Parts.{Parts, IsWhole}
+use Rattle.in_net.specs.Rules.{RuleParts, BuildsRuleOf}
 use Rattle.in_net.specs.TextNet.{IsNetOf}
 use Rattle.in_net.specs.Graphs.{CrossingCircle}
 use Rattle.in_simple.specs.OpenNets.{OpenNet, IsOpenNet, IsDerivable, NetSplits, open_graph}
 use Rattle.in_simple.specs.Derivations.{Step, IsDerivation}
 use Rattle.in_simple.specs.Opening.{AreAllThere, AreNumbered, Opens}
+use Rattle.in_simple.specs.OpeningRules.{IsRuleWhole}
 use Rattle.in_simple.specs.Stuck.{IsFirstStuck}
 
 -- an open net splits exactly where it is derivable
@@ -37,6 +40,10 @@ SplitsOrFirstStuck = (o : OpenNet) → IsOpenNet o → (NetSplits o × HasNoFirs
 -- the net of a text has an agent at each of its numbers, which is what its open net asks for
 abbrev pub TextNetsAreAllThere : Type 0
 TextNetsAreAllThere = (t : Tables) (text : SourceNet) (n : Parts) → IsNetOf t text n → AreAllThere n
+
+-- the rule of a text is whole, which is what its open net asks for
+abbrev pub TextRulesAreWhole : Type 0
+TextRulesAreWhole = (t : Tables) (text : SourceRule) (p : RuleParts) → BuildsRuleOf t text (Ok p) → IsRuleWhole t p
 
 -- the open net of a whole net over tables is one: each point is in exactly one wire
 abbrev pub OpenNetsAreOpen : Type 0

@@ -4,6 +4,7 @@ pub mod Derivations
 pub mod Laws
 pub mod OpenNets
 pub mod Opening
+pub mod OpeningRules
 pub mod Outcomes
 pub mod Procedure
 pub mod Splitting

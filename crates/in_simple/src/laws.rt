@@ -1,6 +1,6 @@
 //! Laws over the definitions of open nets, for whoever reasons above them. No function here does anything.
 
-ghost use Rattle.in_simple.specs.Laws.{SplitsWhereDerivable, DerivableHasNoCircle, DerivationWhereDerivable, SplitsOrFirstStuck, TextNetsAreAllThere, OpenNetsAreOpen, TablesAreNumbered};
+ghost use Rattle.in_simple.specs.Laws.{SplitsWhereDerivable, DerivableHasNoCircle, DerivationWhereDerivable, SplitsOrFirstStuck, TextNetsAreAllThere, TextRulesAreWhole, OpenNetsAreOpen, TablesAreNumbered};
 
 /// An open net splits exactly where it is derivable. Derivable is Lafont 1990's semi-simple; to decide it by splitting is this
 /// project's own choice.
@@ -27,6 +27,11 @@ pub fn splits_or_first_stuck()
 /// The net of a text has an agent at each of its numbers, which is what `open_net` asks for.
 pub fn text_nets_are_all_there()
     ensures { TextNetsAreAllThere }
+{}
+
+/// The rule of a text is whole, which is what `open_rule` asks for.
+pub fn text_rules_are_whole()
+    ensures { TextRulesAreWhole }
 {}
 
 /// The open net of a net is one, where the tables number classes from 1 and the principal port is the one place of class 0: each

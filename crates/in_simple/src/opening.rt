@@ -25,7 +25,12 @@ fn classes(alloc: Global, symbols: &Symbols, symbol: SymbolNo) -> Result<Items<u
 }
 
 /// The node of an agent.
-fn node(alloc: Global, symbols: &Symbols, net: &Net, agent: AgentNo) -> Result<OpenNode, AllocError>
+pub(crate) fn node(
+    alloc: Global,
+    symbols: &Symbols,
+    net: &Net,
+    agent: AgentNo,
+) -> Result<OpenNode, AllocError>
     requires over { IsOver symbols.now net.now }
     requires built { IsTrue net.now.built }
     requires there { AreAllThere net.now }
@@ -52,6 +57,7 @@ fn nodes(alloc: Global, symbols: &Symbols, net: &Net) -> Result<Items<OpenNode>,
     ensures nodes { IfOk result (AreNodesOf symbols.now net.now) }
     ensures small { IfOk result (λ nodes. length nodes < 2 ^ 32) }
     ensures few { IfOk result (Each (λ n node. length node.class_of ≤ 256)) }
+    ensures whole { IsWhole net.now }
 {
     let mut nodes = Items::new(alloc);
     let count = net.agents();
@@ -99,7 +105,6 @@ pub fn open_net(alloc: Global, symbols: &Symbols, net: &Net) -> Result<OpenNet, 
     requires over { IsOver symbols.now net.now }
     requires built { IsTrue net.now.built }
     requires there { AreAllThere net.now }
-    requires whole { IsWhole net.now }
     requires numbered { AreNumbered symbols.now }
     ensures { IfOk result (Opens symbols.now net.now) }
 {
