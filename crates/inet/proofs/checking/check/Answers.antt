@@ -66,5 +66,5 @@ returns c = record {
   builds = c.in_ok-net.ensures;
   fits = subst (λ rules. TypesAll c.in_ok-symbols.symbols rules c.in_ok-net.net (Ok tt)) c.as_slice.ensures c.in_ok-type_pass.ensures;
   covers = subst (λ rules. Covers c.in_ok-symbols.symbols rules (Ok c.in_ok-cover.field-0)) c.as_slice-2.ensures c.in_ok-cover.ensures;
-  counted = same_counts _ _ _ _ _ _ _ _ c.types.ensures c.symbols-2.ensures c.len.ensures c.agents.ensures;
+  counted = same_counts _ _ _ _ _ _ _ _ c.types.ensures c.symbols-2.ensures c.len.ensures c.agents.ensures.count;
 }
