@@ -19,7 +19,7 @@ use Rattle.in_net.proofs.Known.{net_known, rule_known, free_differ}
 use Rattle.in_net.proofs.NetRead.{AreHeadsOf}
 use Rattle.in_net.proofs.Order.{net_rises, rule_rises}
 use Rattle.in_net.proofs.ReadFrom.{IsFew}
-use Rattle.in_net.proofs.Terms.{fits_both}
+use Rattle.in_net.proofs.HeadsOf.{two}
 
 -- ---- a net
 
@@ -59,13 +59,13 @@ module _ (t : Tables) (r : SourceRule) (known : IsRuleKnown t.names r) (fits : a
 
   one_fits : length r.first.terms ≡ arity_of t (symbol_of t r.first)
   one_fits =
-      let both = fits_both _ _ (fits_both _ _ fits).0 in
-      terms_fit t (number_in r.first.name.text t.names) (length r.first.terms) known.0.0 (fits_both _ _ both.0).0
+      let both = two _ _ (two _ _ fits).0 in
+      terms_fit t (number_in r.first.name.text t.names) (length r.first.terms) known.0.0 (two _ _ both.0).0
 
   other_fits : length r.second.terms ≡ arity_of t (symbol_of t r.second)
   other_fits =
-      let both = fits_both _ _ (fits_both _ _ (fits_both _ _ fits).0).1 in
-      terms_fit t (number_in r.second.name.text t.names) (length r.second.terms) known.1.0 (fits_both _ _ both.0).0
+      let both = two _ _ (two _ _ (two _ _ fits).0).1 in
+      terms_fit t (number_in r.second.name.text t.names) (length r.second.terms) known.1.0 (two _ _ both.0).0
 
   -- whichever of the heads has the first ends
   ends_by : (turned : Bool) → AreHeadsOf t (record { free = []; heads = heads_at r (cond turned (arity_of t d) 0) (cond turned 0 (arity_of t c)); equations = [] })

@@ -10,6 +10,9 @@ two true true e = (refl, refl)
 two true false e = cc
 two false b e = cc
 
+pub both_are : (a b : Bool) → a ≡ true → b ≡ true → (a && b) ≡ true
+both_are a b e f = cc
+
 or_false : (b : Bool) → (b || false) ≡ b
 or_false true = refl
 or_false false = refl

@@ -1,5 +1,5 @@
 -- Where each name before ( and [ is a symbol's, in a whole body.
-use Rattle.std.proofs.Common.{◌≡◌, ◌≢◌, ◌⊎◌, inl, inr, ℕ, zero, suc, ◌<◌, ◌≤◌, Bool, true, ◌&&◌, List, [], ◌∷◌, map, Some, None, slice_get, refl, sym, ◌∙◌, ap, subst, arith}
+use Rattle.std.proofs.Common.{◌≡◌, ◌≢◌, ◌⊎◌, inl, inr, ℕ, zero, suc, ◌<◌, ◌≤◌, true, List, [], ◌∷◌, map, Some, None, slice_get, refl, sym, ◌∙◌, ap, subst, arith}
 use Rattle.std.specs.List.{AllByRecursion}
 use Rattle.in_syntax.specs.declared.tree.Term.{Term}
 use Rattle.in_syntax.specs.declared.tree.Equation.{Equation}
@@ -11,6 +11,7 @@ use Rattle.in_syntax.specs.declared.tree.SourceRule.{SourceRule}
 use Rattle.in_symbols.specs.Faults.{AnyByRecursion, IsRepeatedAt, IsDeclaredTwiceAt, IsFaultless}
 use Rattle.in_symbols.specs.Tables.{Tables, all_true, heads_known, HeadsKnown, IsRuleKnown, IsTabled}
 use Rattle.in_net.specs.TextNet.{Body, LeftHead, IsAmong, body_of, heads_at}
+use Rattle.in_net.proofs.HeadsOf.{both_are}
 use Rattle.in_net.proofs.Linked.{same_or_not, below_or_not}
 
 abbrev pub AreHeadsKnown : Tables → List LeftHead → Type 0
@@ -20,12 +21,9 @@ pub record IsBodyKnown (t : Tables) (b : Body) : Type 0 where
   pub heads : AreHeadsKnown t b.heads
   pub equations : HeadsKnown t.names b.equations
 
-both : (a b : Bool) → a ≡ true → b ≡ true → (a && b) ≡ true
-both a b e f = cc
-
 pub all_known : (t : Tables) (us : List Term) → AllByRecursion (λ u. heads_known t.names u ≡ true) us → all_true (map (heads_known t.names) us) ≡ true
 all_known t [] h = refl
-all_known t (u ∷ us) h = both (heads_known t.names u) (all_true (map (heads_known t.names) us)) h.0 (all_known t us h.1)
+all_known t (u ∷ us) h = both_are (heads_known t.names u) (all_true (map (heads_known t.names) us)) h.0 (all_known t us h.1)
 
 pub one_known : (t : Tables) (us : List Term) (u : Term) → AllByRecursion (λ u. heads_known t.names u ≡ true) us → IsAmong u us → heads_known t.names u ≡ true
 one_known t [] u h among = absurd among

@@ -23,7 +23,8 @@ use Rattle.in_net.specs.Built.{IsEnd}
 use Rattle.in_net.proofs.Folds.{place_read}
 use Rattle.in_net.proofs.Read.{IsRead, with_joint_read, more_names, free_end_read, boundary_end_read}
 use Rattle.in_net.proofs.Kept.{IsSettled, Keeps, keeps_both, keeps_itself, keeps_joint, settled_joint}
-use Rattle.in_net.proofs.Terms.{AreSmall, IsHeldIn, IsReadOn, held_stays, reads_on, fits_both}
+use Rattle.in_net.proofs.HeadsOf.{two}
+use Rattle.in_net.proofs.Terms.{AreSmall, IsHeldIn, IsReadOn, held_stays, reads_on, among_middle, middle}
 
 -- what is read but for some spots, which wait to be joined and are free or boundary ends: they are joined to nothing, and each other
 -- spot is joined
@@ -166,8 +167,8 @@ equations_read t b free count waits small [] r among fits net = record {
   held = λ e h. absurd h;
 }
 equations_read t b free count waits small (e ∷ es) r among fits net =
-    let both = fits_both (arities_fit t e.left && arities_fit t e.right) (list_all (equation_fits t) es) fits in
-    let here = fits_both (arities_fit t e.left) (arities_fit t e.right) both.0 in
+    let both = two (arities_fit t e.left && arities_fit t e.right) (list_all (equation_fits t) es) fits in
+    let here = two (arities_fit t e.left) (arities_fit t e.right) both.0 in
     let one = equation_read t b free count waits small e r (among e (inl refl)) here.0 here.1 net in
     let all = equations_read t b free (count + names_in_equation e) waits small es (reads_equation t e r) (λ x h. among x (inr h)) both.1 one.net in
     record {
@@ -309,14 +310,6 @@ pub record ArePlacesRead (t : Tables) (b : Body) (free count : ℕ) (waits : ℕ
 abbrev Waits : (first port n : ℕ) → (ℕ → Type 0) → ℕ → Type 0
 Waits first port n rest i = ((j : ℕ) × (j < n) × (i ≡ first + (port + j))) ⊎ rest i
 
-among_middle : (done rest : List Term) (v : Term) → IsAmong v (done ++ v ∷ rest)
-among_middle [] rest v = inl refl
-among_middle (x ∷ done) rest v = inr (among_middle done rest v)
-
-middle_term : (done rest : List Term) (v : Term) → slice_get (done ++ v ∷ rest) (length done) ≡ Some v
-middle_term [] rest v = refl
-middle_term (x ∷ done) rest v = middle_term done rest v
-
 but_same : (t : Tables) (b : Body) (free count : ℕ) (W V : ℕ → Type 0) (r : Reading) → ((i : ℕ) → V i → W i) → ((i : ℕ) → W i → V i) → IsReadBut t b free count W r → IsReadBut t b free count V r
 but_same t b free count W V r to back h = record {
   read = h.read;
@@ -342,8 +335,8 @@ places_read t b free count rest small h among done [] all port at r fits differ 
     no_element : (j : ℕ) (v : Term) → slice_get {X = Term} [] j ≡ Some v → ⊥
     no_element j v e = cc
 places_read t b free count rest small h among done (v ∷ vs) all port at r fits differ net =
-    let both = fits_both (arities_fit t v) (list_all (arities_fit t) vs) fits in
-    let there : slice_get h.head.terms (length done) ≡ Some v = subst (λ z. slice_get z (length done) ≡ Some v) all (middle_term done vs v) in
+    let both = two (arities_fit t v) (list_all (arities_fit t) vs) fits in
+    let there : slice_get h.head.terms (length done) ≡ Some v = subst (λ z. slice_get z (length done) ≡ Some v) all (middle done vs v) in
     let in_head : IsAmong v h.head.terms = subst (IsAmong v) all (among_middle done vs v) in
     let size : length h.head.terms ≡ length done + suc (length vs) = sym (ap length all) ∙ length-append done (v ∷ vs) in
     let joint : PlacedJoint t b (text.free_end (h.first + port)) (spot_of t v) (place_of v) =
@@ -435,8 +428,8 @@ heads_read t b free count rest small [] among r fits apart net = record {
   held = λ h x. absurd x;
 }
 heads_read t b free count rest small (h ∷ hs) among r fits apart net =
-    let both = fits_both (head_fits t h) (list_all (head_fits t) hs) fits in
-    let here = fits_both (fits_arity t (number_in h.head.name.text t.names) (length h.head.terms)) (list_all (arities_fit t) h.head.terms) both.0 in
+    let both = two (head_fits t h) (list_all (head_fits t) hs) fits in
+    let here = two (fits_arity t (number_in h.head.name.text t.names) (length h.head.terms)) (list_all (arities_fit t) h.head.terms) both.0 in
     let W : ℕ → Type 0 = Waits h.first 0 (length h.head.terms) (AtHeads hs rest) in
     let ready = but_same t b free count (AtHeads (h ∷ hs) rest) (Waits h.first 0 (length h.head.terms) (AtHeads hs rest)) r to back net in
     let one = places_read t b free count (AtHeads hs rest) small h (among h (inl refl)) [] h.head.terms refl 0 refl r here.1 apart.0 ready in
@@ -498,10 +491,6 @@ nothing t b = record {
   agents = refl;
   joints = refl;
 }
-
-middle : (done rest : List SourceFree) (f : SourceFree) → slice_get (done ++ f ∷ rest) (length done) ≡ Some f
-middle [] rest f = refl
-middle (x ∷ done) rest f = middle done rest f
 
 pub free_read : (t : Tables) (b : Body) (done fs : List SourceFree) (r : Reading) → done ++ fs ≡ b.free → AreFreeRead t b (length done) r → AreFreeRead t b (length b.free) (reads_free_from (length done) fs r)
 free_read t b done [] r all h = let same : length done ≡ length b.free = ap length (sym (append-nil done) ∙ all) in subst (λ n. AreFreeRead t b n r) same h
@@ -581,7 +570,7 @@ pub record IsBodyRead (t : Tables) (b : Body) (r : Reading) : Type 0 where
 
 pub body_read : (t : Tables) (b : Body) → AreSmall t → AreHeadsOf t b → all_arities_fit t b ≡ true → IsBodyRead t b (reading_of t b)
 body_read t b small ends fits =
-    let both = fits_both (list_all (head_fits t) b.heads) (list_all (equation_fits t) b.equations) fits in
+    let both = two (list_all (head_fits t) b.heads) (list_all (equation_fits t) b.equations) fits in
     let free = free_read t b [] b.free nothing_read refl (nothing t b) in
     let start : AreFreeRead t b (ends_in t b) (with_ends (reads_free b.free) (ends_of t b.heads)) = with_ends_read t b (ends_of t b.heads) (reads_free b.free) free in
     let heads = heads_read t b (ends_in t b) 0 (AtFree b) small b.heads (λ h x. x) (with_ends (reads_free b.free) (ends_of t b.heads)) both.0 ends.apart (begun t b (with_ends (reads_free b.free) (ends_of t b.heads)) ends start) in

@@ -1,5 +1,5 @@
 -- A term is read: what is added is joined, but for the term's own spot.
-use Rattle.std.proofs.Common.{◌≡◌, ◌≢◌, ◌⊎◌, inl, inr, ℕ, zero, suc, ◌+◌, ◌<◌, ◌≤◌, Bool, true, false, ◌&&◌, List, [], ◌∷◌, ◌++◌, length, map, Option, Some, None, IsSome, refl, sym, ◌∙◌, ap, subst, arith, slice_get, length-append, append_assoc, append-nil}
+use Rattle.std.proofs.Common.{◌≡◌, ◌≢◌, ◌⊎◌, inl, inr, ℕ, zero, suc, ◌+◌, ◌<◌, ◌≤◌, true, List, [], ◌∷◌, ◌++◌, length, map, Option, Some, None, IsSome, refl, sym, ◌∙◌, ap, subst, arith, slice_get, length-append, append_assoc, append-nil}
 use Rattle.std.specs.Str.{bytes_eq}
 use Rattle.std.proofs.lemmas.List.Quantifiers.{position-Some}
 use Rattle.in_syntax.specs.declared.tree.Term.{Term, out-Term}
@@ -77,18 +77,13 @@ ReadsOn t b free h =
     (u : Term) (count : ℕ) (r : Reading) → names_in u ≤ h → arities_fit t u ≡ true → ((v : Term) → IsPartOf v u → IsTermOf b v) → IsRead t b free count r →
     IsReadOn t b free (count + names_in u) u r ((reader_of t u).reads r).0 ((reader_of t u).reads r).1
 
-among_middle : (done rest : List Term) (v : Term) → IsAmong v (done ++ v ∷ rest)
+pub among_middle : {X : Type 0} (done rest : List X) (v : X) → IsAmong v (done ++ v ∷ rest)
 among_middle [] rest v = inl refl
 among_middle (x ∷ done) rest v = inr (among_middle done rest v)
 
-middle : (done rest : List Term) (v : Term) → slice_get (done ++ v ∷ rest) (length done) ≡ Some v
+pub middle : {X : Type 0} (done rest : List X) (v : X) → slice_get (done ++ v ∷ rest) (length done) ≡ Some v
 middle [] rest v = refl
 middle (x ∷ done) rest v = middle done rest v
-
-pub fits_both : (a b : Bool) → (a && b) ≡ true → (a ≡ true) × (b ≡ true)
-fits_both true true e = (refl, refl)
-fits_both true false e = cc
-fits_both false b e = cc
 
 -- one argument: q is before it, q1 after it, and then it is joined
 module _ (t : Tables) (b : Body) (free count first arity port agent : ℕ) (u v : Term) (done rest : List Term) (q q1 : Reading) (other : ℕ)
@@ -218,7 +213,7 @@ reads_all t b free h ih u done [] first arity port agent count q short fits symb
     no_element : (j : ℕ) (w : Term) → slice_get {X = Term} [] j ≡ Some w → ⊥
     no_element j w e = cc
 reads_all t b free h ih u done (v ∷ args) first arity port agent count q short fits symbol terms all at rest room ports past read =
-    let both = fits_both (arities_fit t v) (all_true (map (arities_fit t) args)) fits in
+    let both = two (arities_fit t v) (all_true (map (arities_fit t) args)) fits in
     let q1 : Reading = ((reader_of t v).reads q).0 in
     let other : ℕ = ((reader_of t v).reads q).1 in
     let among : IsAmong v (out-Term u).args = subst (IsAmong v) all (among_middle done args v) in

@@ -23,6 +23,7 @@ use Rattle.in_net.specs.Building.{nth_spot, nth_link, point_in, IsJoined, partne
 use Rattle.in_net.specs.declared.nets.FreeEnd.{FreeEnd}
 use Rattle.in_net.specs.Built.{IsNumbered, IsReadFrom, AreJoinedTo, AreListedOf}
 use Rattle.in_net.specs.Parts.{Parts, IsWhole, IsWireBetween, as_built, partner_in, wire_in, wire_place_in}
+use Rattle.in_net.proofs.HeadsOf.{two, both_are}
 use Rattle.in_net.proofs.Linked.{same_or_not, below_or_not}
 use Rattle.in_net.proofs.Links.{all_append}
 use Rattle.in_net.proofs.Points.{Stands, to_of, point_here, partner_stands, partner_back, only_one, partner_at, stands_at, leads_back, never_itself}
@@ -69,20 +70,10 @@ eq_point (Port a i) (Free l) = false
 eq_point (Free k) (Port c j) = false
 eq_point (Free k) (Free l) = k == l
 
-both_true : (a b : Bool) → (a && b) ≡ true → (a ≡ true) × (b ≡ true)
-both_true true true e = (refl, refl)
-both_true true false e = cc
-both_true false b e = cc
-
-both_are : (a b : Bool) → a ≡ true → b ≡ true → (a && b) ≡ true
-both_are true true e f = refl
-both_are true false e f = f
-both_are false b e f = e
-
 eq_point-Decides : (p q : Point) → Decides (eq_point p q) (p ≡ q)
 eq_point-Decides (Port a i) (Port c j) = (
   (λ e.
-      let parts = both_true (a.0 == c.0) (i == j) e in
+      let parts = two (a.0 == c.0) (i == j) e in
       let agent : a.0 ≡ c.0 = eqb-true a.0 c.0 parts.0 in
       ap (λ n. let x : AgentNo = record { 0 = n } in Port x i) agent ∙ ap (Port c) (eqb-true i j parts.1)),
   (λ e.
