@@ -39,6 +39,10 @@ module _ (o : OpenNet) (net : IsOpenNet o) where
       let r = stuck_inside c t (λ n h. f n (e.0 n h).0) stuck in
       (r.0, λ n h. (e.0 n (r.1 n h)).0)
 
+  -- it has nodes, and all of them are nodes of the open net
+  pub stuck_nodes : (t : ℕ → Bool) → IsFirstStuck o t → ((n : ℕ) × IsIn n t) × ((n : ℕ) → IsIn n t → IsNode o n)
+  stuck_nodes t h = let r = stuck_inside h.0 t (λ n i. (h.1 n).0 i) h.2 in (r.0.0, λ n i. (h.1 n).0 (r.1 n i))
+
   pub derivable_splits : IsDerivable o → NetSplits o
   derivable_splits d = go (found d.0 d.1)
     where

@@ -20,6 +20,7 @@ pub mod Search
 pub mod Slots
 pub mod Sound
 pub mod SplittingPorts
+pub mod StuckNodes
 pub mod Sums
 pub mod TextRules
 pub mod Whole

@@ -1,5 +1,5 @@
 -- The open net of a rule is one.
-use Rattle.std.proofs.Common.{◌≡◌, ◌⊎◌, ◌<◌, ◌≤◌, ◌+◌, ◌-◌, ◌^◌, ℕ, zero, suc, Bool, true, false, cond, nat_lt, Option, Some, None, IsSomeAnd, List, [], ◌∷◌, length, slice_get, get_or, refl, sym, subst, ap, inl, inr, ◌∙◌, arith}
+use Rattle.std.proofs.Common.{◌≡◌, ◌<◌, ◌≤◌, ◌+◌, ◌-◌, ◌^◌, ℕ, zero, suc, Bool, true, false, cond, nat_lt, Option, Some, None, IsSomeAnd, List, [], ◌∷◌, length, slice_get, get_or, refl, sym, subst, ap, inl, inr, ◌∙◌, arith}
 use Rattle.std.specs.Prelude.{option_map, option_and_then}
 use Rattle.std.specs.List.{AllByRecursion}
 use Rattle.std.proofs.lemmas.Bool.Decides.{leb_tells}
@@ -15,7 +15,7 @@ use Rattle.in_net.specs.declared.nets.FreeEnd.{FreeEnd}
 use Rattle.in_net.specs.declared.nets.Wire.{Wire}
 use Rattle.in_net.proofs.WireAt.{has_partner}
 use Rattle.in_net.specs.Built.{IsOver, IsCellOver}
-use Rattle.in_net.specs.Parts.{Parts, IsWhole, IsPointOf, IsWireBetween, cell_in, symbol_in, partner_in, wire_in}
+use Rattle.in_net.specs.Parts.{Parts, IsWhole, IsPointOf, IsWireBetween, cell_in, partner_in, wire_in}
 use Rattle.in_net.specs.Rules.{RuleParts}
 use Rattle.in_simple.specs.declared.open_nets.Node.{Node}
 use Rattle.in_simple.specs.declared.open_nets.Node.TheVariants.{AgentNode, ClassNode}
@@ -25,7 +25,7 @@ use Rattle.in_simple.specs.declared.open_nets.Point.TheVariants.{Port, Free}
 use Rattle.in_simple.specs.OpenNets as nets
 use Rattle.in_simple.specs.OpenNets.{OpenNet, IsWire, IsOpenNet, IsOrderly, ports_in, IsAgentNode, IsAgent, class_in}
 use Rattle.in_simple.specs.Opening.{Each, IsNodeOf, AreNumbered}
-use Rattle.in_simple.specs.OpeningRules.{places_in, agents_before, agent_node, second_node, class_port, boundary_port, is_turned, rule_point, rule_wire, rule_nodes, IsClassNodeOf, IsRuleNode, IsRuleWhole, OpensRule}
+use Rattle.in_simple.specs.OpeningRules.{places_in, agents_before, agent_node, second_node, class_port, boundary_port, is_turned, rule_point, rule_wire, IsRuleWhole, OpensRule}
 use Rattle.in_simple.proofs.Sums.{some_of, some_same, got}
 use Rattle.in_simple.proofs.RulePoints.{lt_tells, place_there, place_within, same_place, not_first, not_second, same_agent, agent_within, NodeKind, of_first, of_second, of_agent, kind_of}
 

@@ -1,13 +1,9 @@
 -- The points of a rule's right member and those of its open net: each of these is one of those, and of one alone.
-use Rattle.std.proofs.Common.{◌≡◌, ◌≢◌, ◌⊎◌, ◌<◌, ◌≤◌, ◌+◌, ◌-◌, ℕ, zero, suc, Bool, true, false, cond, nat_eq, nat_lt, Option, Some, None, IsSomeAnd, List, length, slice_get, refl, sym, subst, ap, inl, inr, ◌∙◌, arith}
+use Rattle.std.proofs.Common.{◌≡◌, ◌≢◌, ◌⊎◌, ◌<◌, ◌≤◌, ◌+◌, ◌-◌, ℕ, zero, suc, true, false, cond, nat_eq, nat_lt, length, refl, ap, inl, inr, arith}
 use Rattle.std.proofs.lemmas.Bool.Decides.{leb_tells, eqb_tells}
-use Rattle.in_symbols.specs.declared.symbols.SymbolNo.{SymbolNo}
-use Rattle.in_symbols.specs.Tables.{Tables, arity_of, class_at, classes_of}
+use Rattle.in_symbols.specs.Tables.{Tables, class_at, classes_of}
 use Rattle.in_net.specs.Rules.{RuleParts}
-use Rattle.in_simple.specs.declared.open_nets.Point.{Point}
-use Rattle.in_simple.specs.declared.open_nets.Point.TheVariants.{Port, Free}
-use Rattle.in_simple.specs.Opening.{AreNumbered}
-use Rattle.in_simple.specs.OpeningRules.{places_in, agents_before, agent_node, second_node, class_port, boundary_port, rule_nodes, IsRuleWhole}
+use Rattle.in_simple.specs.OpeningRules.{places_in, agents_before, agent_node, second_node, rule_nodes}
 
 pub lt_tells : (a b : ℕ) → ((nat_lt a b ≡ true) × (a < b)) ⊎ ((nat_lt a b ≡ false) × (b ≤ a))
 lt_tells a b = elim (leb_tells (suc a) b) [ inl h ↦ inl (h.0, omega (arith, h.1)) | inr h ↦ inr (h.0, omega (arith, h.1)) ]

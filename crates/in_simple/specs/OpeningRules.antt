@@ -1,13 +1,13 @@
 -- The open net of a rule: its right member with a node for each class of its two heads, whose ports are the boundary ends of the class.
 -- Lafont 1990 has a right member simple for the classes of its left symbols; the class nodes, and that each of their ports is a class
 -- by itself, are this project's own way to say it.
-use Rattle.std.specs.Prelude.{◌≡◌, ℕ, zero, suc, ◌+◌, ◌-◌, ◌<◌, ◌≤◌, nat_lt, nat_eq, cond, not, Bool, List, length, slice_get, count_by, option_map, Some}
+use Rattle.std.specs.Prelude.{◌≡◌, ℕ, zero, suc, ◌+◌, ◌-◌, ◌<◌, ◌≤◌, nat_lt, nat_eq, cond, not, Bool, List, length, count_by, option_map, Some}
 use Rattle.in_syntax.specs.declared.places.Place.{Place}
 use Rattle.in_symbols.specs.declared.symbols.SymbolNo.{SymbolNo}
 use Rattle.in_symbols.specs.Tables.{Tables, arity_of, class_at, classes_of}
 use Rattle.in_net.specs.declared.nets.Point as points
 use Rattle.in_net.specs.declared.nets.Point.TheVariants as point
-use Rattle.in_net.specs.Parts.{Parts, wire_in}
+use Rattle.in_net.specs.Parts.{wire_in}
 use Rattle.in_net.specs.NetFaults.{max_member_agents}
 use Rattle.in_net.specs.Rules.{RuleParts}
 use Rattle.in_simple.specs.declared.open_nets.Node.TheVariants.{ClassNode}

@@ -1,11 +1,12 @@
 -- The first stuck sub-net. This project's own choice: the one that stops a procedure which takes the first splitting node out, and
 -- goes on with each component that remains.
 use Rattle.std.specs.Prelude.{◌≡◌, ◌⊎◌, ◌↔◌, ℕ, suc, ◌+◌, ◌<◌, ◌≤◌, Bool, cond, nat_eq, length, slice_get, Some, None}
+use Rattle.in_syntax.specs.declared.places.Place.{Place}
 use Rattle.in_simple.specs.declared.open_nets.Node.TheVariants.{AgentNode, ClassNode}
 use Rattle.in_simple.specs.declared.open_nets.Point.TheVariants.{Port}
 use Rattle.in_simple.specs.Constructions.{IsIn}
 use Rattle.in_simple.specs.Splitting.{Without, IsComponent, IsFirstSplitting, Splits, IsStuck}
-use Rattle.in_simple.specs.OpenNets.{OpenNet, IsNode, IsWire, open_graph}
+use Rattle.in_simple.specs.OpenNets.{OpenNet, IsNode, IsWire, node_place_in, open_graph}
 
 -- port i of n is wired to a node of c
 abbrev pub Touches : OpenNet → ℕ → (ℕ → Bool) → ℕ → Type 0
@@ -32,3 +33,12 @@ pub data FirstStuck (o : OpenNet) : (ℕ → Bool) → (ℕ → Bool) → Type 0
 -- .. of the whole open net
 abbrev pub IsFirstStuck : OpenNet → (ℕ → Bool) → Type 0
 IsFirstStuck o t = (s : ℕ → Bool) × ((n : ℕ) → IsIn n s ↔ IsNode o n) × FirstStuck o s t
+
+-- this is the place of the first node of the first stuck sub-net
+pub record IsStuckAt (o : OpenNet) (p : Place) : Type 0 where
+  pub stuck : ℕ → Bool
+  pub is_first : IsFirstStuck o stuck
+  pub node : ℕ
+  pub here : IsIn node stuck
+  pub least : (m : ℕ) → IsIn m stuck → node ≤ m
+  pub place : node_place_in o node ≡ Some p

@@ -10,6 +10,7 @@ mod opening_rules;
 mod plans;
 mod procedure;
 mod splitting;
+mod stuck;
 #[cfg(test)]
 mod tests;
 mod verifying;

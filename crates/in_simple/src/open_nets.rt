@@ -75,7 +75,7 @@ impl OpenNet {
     }
 
     /// How many wires the open net has.
-    pub(crate) fn wires(&self) -> usize
+    pub fn wires(&self) -> usize
         ensures count { result ≡ length self.now.wires }
         ensures few { result < 2 ^ 32 }
         ensures net { IsOrderly self.now }
@@ -83,8 +83,8 @@ impl OpenNet {
         self.wires.len()
     }
 
-    /// The two points of a wire.
-    pub(crate) fn wire(&self, number: usize) -> (Point, Point)
+    /// The two points of the wire of that number. Wires are numbered from 0, as those of the net or the right member.
+    pub fn wire(&self, number: usize) -> (Point, Point)
         requires { number < length self.now.wires }
         ensures { slice_get self.now.wires number ≡ Some result }
     {

@@ -8,6 +8,8 @@ use thiserror::Error;
 pub enum Action {
     /// Says whether a program's text is accepted.
     Check,
+    /// Says by which steps the rules and the net of an accepted program are built.
+    Derive,
 }
 
 /// Why the words name no action.
@@ -34,10 +36,14 @@ fn command<'a>(alloc: Global) -> Result<Command<'a>, AllocError> {
     let check = Command::new(alloc, "check").about(
         "Says whether the program on standard input is accepted",
     );
+    let derive = Command::new(alloc, "derive").about(
+        "Prints the steps that build the rules and the net of the program on standard input",
+    );
     Command::new(alloc, "inet")
         .about("Checks programs of interaction nets")
         .subcommand_required(true)
-        .subcommand(check)
+        .subcommand(check)?
+        .subcommand(derive)
 }
 
 fn usage_of(alloc: Global, error: clap::Error) -> Usage {
@@ -71,6 +77,7 @@ pub fn action_of(alloc: Global, words: &[&str]) -> Result<Action, Usage> {
     };
     match matches.subcommand() {
         Some(("check", _)) => Ok(Action::Check),
+        Some(("derive", _)) => Ok(Action::Derive),
         _ => Err(wrong(alloc)),
     }
 }

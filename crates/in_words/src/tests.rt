@@ -16,8 +16,9 @@ fn is_help(answer: &Result<Action, Usage>) -> bool {
 }
 
 #[test]
-fn the_word_check_is_an_action(rt: HostRuntime) -> Result<(), Fail> {
+fn the_words_check_and_derive_are_actions(rt: HostRuntime) -> Result<(), Fail> {
     assert!(rt; action_of(rt.alloc(), &["inet", "check"])? == Action::Check);
+    assert!(rt; action_of(rt.alloc(), &["inet", "derive"])? == Action::Derive);
     Ok(())
 }
 
@@ -26,11 +27,12 @@ fn other_words_are_wrong(rt: HostRuntime) {
     let alloc = rt.alloc();
     assert!(rt; is_wrong(&action_of(alloc, &[])));
     assert!(rt; is_wrong(&action_of(alloc, &["inet"])));
-    assert!(rt; is_wrong(&action_of(alloc, &["inet", "derive"])));
     assert!(rt; is_wrong(&action_of(alloc, &["inet", "run"])));
     assert!(rt; is_wrong(&action_of(alloc, &["inet", "check", "check"])));
     assert!(rt; is_wrong(&action_of(alloc, &["inet", "check", "--limit", "1"])));
+    assert!(rt; is_wrong(&action_of(alloc, &["inet", "derive", "check"])));
     assert!(rt; is_wrong(&action_of(alloc, &["inet", "Check"])));
+    assert!(rt; is_wrong(&action_of(alloc, &["inet", "Derive"])));
 }
 
 #[test]

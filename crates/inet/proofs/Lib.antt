@@ -1,3 +1,3 @@
-pub mod Checked
 pub mod Known
 pub mod Told
+pub mod Written

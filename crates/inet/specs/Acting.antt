@@ -1,13 +1,16 @@
--- What the program does: the line that it writes on the text that it reads, and its status.
+-- What the program does: the lines that it writes on the text that it reads, and its status.
 use Rattle.std.specs.Prelude.{◌≡◌, ◌⊎◌, ℕ, Bool, List, string_bytes}
 use Rattle.in_syntax.specs.declared.faults.Refusal.{Refusal}
+use Rattle.in_words.specs.declared.action.Action.{Action}
+use Rattle.in_words.specs.declared.action.Action.TheVariants.{Check, Derive}
 use Rattle.in_words.specs.declared.action.Usage.{Usage}
 use Rattle.in_words.specs.declared.action.Usage.TheVariants.{Wrong, Help, Memory}
 use Rattle.inet.specs.declared.acting.Status.{Status}
-use Rattle.inet.specs.declared.checking.Counts.{Counts}
-use Rattle.inet.specs.Checking.{IsAccepted, IsRefused}
+use Rattle.in_check.specs.Checking.{IsAccepted, IsRefused}
+use Rattle.in_check.specs.Programs.{Program, counts_of}
 use Rattle.inet.specs.Devices.{Device, Moves, Breaks, BreaksWithin, IsEnough}
 use Rattle.inet.specs.Lines.{accepted_line, refused_line, memory_line}
+use Rattle.inet.specs.Steps.{derivation_lines}
 
 abbrev pub status : ℕ → Status
 status n = record { 0 = n }
@@ -18,42 +21,47 @@ fault_status = status 6
 
 -- what the program says of a text
 pub data Report : Type 0 where
-  accepted : Counts → Report
+  accepted : Program → Report
   refused : Refusal → Report
 
 -- what it says is so
 abbrev pub IsReport : List ℕ → Report → Type 0
-IsReport text (accepted counts) = IsAccepted text counts
+IsReport text (accepted p) = IsAccepted text p
 IsReport text (refused r) = IsRefused text r
 
-abbrev pub line_of : List ℕ → Report → List ℕ
-line_of text (accepted counts) = accepted_line counts
-line_of text (refused r) = refused_line text r
+-- one line that counts what an accepted program has, or its derivations
+abbrev pub accepted_lines : Action → Program → List ℕ
+accepted_lines Check p = accepted_line (counts_of p)
+accepted_lines Derive p = derivation_lines p
+
+abbrev pub lines_of : Action → List ℕ → Report → List ℕ
+lines_of a text (accepted p) = accepted_lines a p
+lines_of a text (refused r) = refused_line text r
 
 abbrev pub status_of : Report → Status
-status_of (accepted counts) = status 0
+status_of (accepted p) = status 0
 status_of (refused r) = status 1
 
--- the line and the status are those of what is said of the text
-pub record IsReply (text line : List ℕ) (s : Status) : Type 0 where
+-- the lines and the status are those of what is said of the text
+pub record IsReply (a : Action) (text lines : List ℕ) (s : Status) : Type 0 where
   pub report : Report
   pub so : IsReport text report
-  pub line_is : line ≡ line_of text report
+  pub lines_are : lines ≡ lines_of a text report
   pub status_is : s ≡ status_of report
 
 -- what may be said once these bytes are read: what is so of them, if they are enough, or that memory is wanted
-abbrev pub Says : Bool → List ℕ → List ℕ → Status → Type 0
-Says ended text line s = (IsEnough ended text × IsReply text line s) ⊎ ((line ≡ memory_line) × (s ≡ status 5))
+abbrev pub Says : Action → Bool → List ℕ → List ℕ → Status → Type 0
+Says a ended text lines s = (IsEnough ended text × IsReply a text lines s) ⊎ ((lines ≡ memory_line) × (s ≡ status 5))
 
--- what a call did, from a reader r and a writer w to what they are after it, and whether the reader has ended then
-pub data Acts (r r' : Device) (ended : Bool) (w w' : Device) (s : Status) : Type 0 where
-  -- bytes were read, and a line on them written
-  told : (text line : List ℕ) → Moves r r' text → Says ended text line s → Moves w w' line → Acts r r' ended w w' s
+-- what a call for this action did, from a reader r and a writer w to what they are after it, and whether the reader has ended then
+pub data Acts (a : Action) (r r' : Device) (ended : Bool) (w w' : Device) (s : Status) : Type 0 where
+  -- bytes were read, and the lines on them written
+  told : (text lines : List ℕ) → Moves r r' text → Says a ended text lines s → Moves w w' lines → Acts a r r' ended w w' s
   -- a read failed, and nothing was written
-  unread : (text : List ℕ) → Breaks r r' text → w' ≡ w → s ≡ fault_status → Acts r r' ended w w' s
-  -- bytes were read, and a write failed within the line on them
-  unwritten : (text line : List ℕ) (t : Status) → Moves r r' text → Says ended text line t → BreaksWithin w w' line → s ≡ fault_status →
-      Acts r r' ended w w' s
+  unread : (text : List ℕ) → Breaks r r' text → w' ≡ w → s ≡ fault_status → Acts a r r' ended w w' s
+  -- bytes were read, and a write failed within the lines on them
+  unwritten : (text lines : List ℕ) (t : Status) → Moves r r' text → Says a ended text lines t → BreaksWithin w w' lines → s ≡ fault_status →
+      Acts a r r' ended w w' s
 
 -- a line is written, and the status is this one; or a write failed within the line
 abbrev pub Tells : Device → Device → List ℕ → Status → Status → Type 0

@@ -1,4 +1,4 @@
 pub mod Acting
-pub mod Checking
 pub mod Devices
 pub mod Lines
+pub mod Steps

@@ -5,7 +5,7 @@ use Rattle.in_syntax.specs.declared.places.Place.{Place}
 use Rattle.in_syntax.specs.declared.faults.Code.{Code}
 use Rattle.in_syntax.specs.declared.faults.Code.TheVariants as code
 use Rattle.in_syntax.specs.declared.faults.Refusal.{Refusal}
-use Rattle.inet.specs.declared.checking.Counts.{Counts}
+use Rattle.in_check.specs.declared.checked.Counts.{Counts}
 
 abbrev pub line_end : List ℕ
 line_end = line_feed ∷ []

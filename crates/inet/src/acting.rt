@@ -1,11 +1,12 @@
 ghost use Rattle.std.specs.Prelude.{◌≡◌, ◌-◌, ◌^◌, ◌<◌, IfOk};
-ghost use Rattle.inet.specs.Acting.{Acts, IsReply, Tells, TellsUsage};
+ghost use Rattle.inet.specs.Acting.{Acts, IsReply, accepted_lines, Tells, TellsUsage};
 ghost use Rattle.inet.specs.Devices.{device};
 
-use crate::checking::check;
 use crate::lines::{accepted_line, refused_line};
 use crate::reading::{Input, read_text};
+use crate::steps::derivation_lines;
 use crate::writing::write_all;
+use in_check::{Checked, check};
 use in_syntax::{Fault, TextIn, TextOut};
 use in_words::{Action, Usage};
 use std::alloc::{AllocError, Global};
@@ -27,23 +28,34 @@ const FAULT: Status = Status(6);
 
 const MEMORY_LINE: &[u8] = b"memory\n";
 
-/// The line that answers a text, and the status.
+/// The lines that answer a text, and the status.
 #[derive(Drop)]
 struct Reply {
-    line: Vec<u8>,
+    lines: Vec<u8>,
     status: Status,
 }
 
-fn reply_to(alloc: Global, text: &[u8]) -> Result<Reply, AllocError>
-    ensures { IfOk result (λ reply. IsReply text.now reply.line.items reply.status) }
+/// The lines on an accepted program.
+fn accepted_lines(alloc: Global, action: &Action, checked: &Checked) -> Result<Vec<u8>, AllocError>
+    ensures { IfOk result (λ lines. lines.items ≡ accepted_lines action.now checked.now) }
+{
+    match action {
+        Action::Check => accepted_line(alloc, checked.counts()),
+        Action::Derive => derivation_lines(alloc, checked),
+    }
+}
+
+/// The answer to a text.
+fn reply_to(alloc: Global, action: &Action, text: &[u8]) -> Result<Reply, AllocError>
+    ensures { IfOk result (λ reply. IsReply action.now text.now reply.lines.items reply.status) }
 {
     match check(alloc, text) {
-        Ok(counts) => Ok(Reply {
-            line: accepted_line(alloc, counts)?,
+        Ok(checked) => Ok(Reply {
+            lines: accepted_lines(alloc, action, &checked)?,
             status: ACCEPTED,
         }),
         Err(Fault::Refused(refusal)) => Ok(Reply {
-            line: refused_line(alloc, text, refusal)?,
+            lines: refused_line(alloc, text, refusal)?,
             status: REFUSED,
         }),
         Err(Fault::Memory(error)) => Err(error),
@@ -61,7 +73,9 @@ fn tell<W: TextOut>(writer: &mut W, text: &[u8], status: Status) -> Status
     }
 }
 
-/// Does what the words ask for: reads a program's text, writes one line on it, and answers the status.
+/// Does what the words ask for: reads a program's text, writes the lines on it, and answers the status. For `check` of an accepted
+/// program they are one line that counts what it has, for `derive` the steps that build its rules and its net; of a refused one they
+/// are the line of the refusal. Where memory is wanted they are the line `memory` alone.
 pub fn act<R: TextIn, W: TextOut>(
     alloc: Global,
     action: &Action,
@@ -70,17 +84,15 @@ pub fn act<R: TextIn, W: TextOut>(
 ) -> Status
     requires reader { R.failures reader.old < 2 ^ 64 - 1 }
     requires writer { W.failures writer.old < 2 ^ 64 - 1 }
-    ensures { Acts (device (R.given reader.old) (R.failures reader.old)) (device (R.given reader.new) (R.failures reader.new)) (R.ended reader.new) (device (W.taken writer.old) (W.failures writer.old)) (device (W.taken writer.new) (W.failures writer.new)) result }
+    ensures { Acts action.now (device (R.given reader.old) (R.failures reader.old)) (device (R.given reader.new) (R.failures reader.new)) (R.ended reader.new) (device (W.taken writer.old) (W.failures writer.old)) (device (W.taken writer.new) (W.failures writer.new)) result }
 {
-    match action {
-        Action::Check => match read_text(alloc, reader) {
-            Input::Text(text) => match reply_to(alloc, text.as_slice()) {
-                Ok(reply) => tell(writer, reply.line.as_slice(), reply.status),
-                Err(_) => tell(writer, MEMORY_LINE, MEMORY),
-            },
-            Input::Memory => tell(writer, MEMORY_LINE, MEMORY),
-            Input::Failed => FAULT,
+    match read_text(alloc, reader) {
+        Input::Text(text) => match reply_to(alloc, action, text.as_slice()) {
+            Ok(reply) => tell(writer, reply.lines.as_slice(), reply.status),
+            Err(_) => tell(writer, MEMORY_LINE, MEMORY),
         },
+        Input::Memory => tell(writer, MEMORY_LINE, MEMORY),
+        Input::Failed => FAULT,
     }
 }
 

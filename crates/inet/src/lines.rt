@@ -1,7 +1,7 @@
 ghost use Rattle.std.specs.Prelude.{◌≡◌, ◌++◌, IfOk, OnOk, slice_range};
 ghost use Rattle.inet.specs.Lines.{accepted_line, code_name, text_at, other_at, refused_line};
 
-use crate::checking::Counts;
+use in_check::Counts;
 use in_syntax::{Code, Place, Refusal};
 use std::alloc::{AllocError, Global};
 

@@ -1,11 +1,11 @@
 //! The program `inet`: checks a program of interaction nets (Lafont 1990) that comes on standard input, and writes one line on
-//! what it found.
+//! what it found, or the steps that build its rules and its net.
 #![tactic(auto)]
 
 mod acting;
-mod checking;
 mod lines;
 mod reading;
+mod steps;
 mod streams;
 #[cfg(test)]
 mod tests;

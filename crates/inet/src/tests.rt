@@ -21,13 +21,25 @@ const ERASURE: &str = "symbol Era : nat-;\nrule S[Era] >< Era[];\nrule Z[] >< Er
 
 const ACCEPTED: &str = "accepted: 1 types, 2 symbols, 0 rules, 3 agents\n";
 
-/// Checks the line and the status on a text that comes from memory.
-fn expect(rt: &impl Abort, alloc: Global, text: &str, line: &str, status: u8) {
+/// Checks the lines and the status on a text that comes from memory.
+fn expect_of(
+    rt: &impl Abort,
+    alloc: Global,
+    action: Action,
+    text: &str,
+    lines: &str,
+    status: u8,
+) {
     let mut reader = Tape::new(text.as_bytes());
     let mut writer = Paper::new(alloc);
-    let answer = act(alloc, &Action::Check, &mut reader, &mut writer);
-    assert!(rt; writer.has(line.as_bytes()), "{line}");
-    assert!(rt; answer == Status(status), "{line}");
+    let answer = act(alloc, &action, &mut reader, &mut writer);
+    assert!(rt; writer.has(lines.as_bytes()), "{lines}");
+    assert!(rt; answer == Status(status), "{lines}");
+}
+
+/// Checks the line and the status of `check`.
+fn expect(rt: &impl Abort, alloc: Global, text: &str, line: &str, status: u8) {
+    expect_of(rt, alloc, Action::Check, text, line, status);
 }
 
 /// The text of a program of three agents, as it is accepted.
@@ -415,6 +427,14 @@ fn the_examples_of_the_language_are_refused(rt: HostRuntime) -> Result<(), Fail>
             "refused E11 at 1:40: Z\n",
         ),
         (
+            "type nat; symbol Z : nat+; symbol W : nat- {nat-} {nat+}; rule Z[] >< W[x, x]; net (y : nat-) { x ~ W(y, x); }",
+            "refused E13 at 1:101: W\n",
+        ),
+        (
+            "type nat; symbol Z : nat+; symbol W : nat- {nat-, nat+}; rule Z[] >< W[x, x]; net () { }",
+            "refused E12 at 1:70: W\n",
+        ),
+        (
             "type nat; symbol Z : nat+; symbol Era : nat-; rule Z[] >< Era[]; rule Era[] >< Z[]; net () { }",
             "refused E14 at 1:71: Era\n",
         ),
@@ -426,5 +446,92 @@ fn the_examples_of_the_language_are_refused(rt: HostRuntime) -> Result<(), Fail>
     for (text, line) in rows {
         expect(&rt, rt.alloc(), text, line, 1);
     }
+    Ok(())
+}
+
+#[test]
+fn rules_and_nets_that_are_not_built_by_steps_are_refused(rt: HostRuntime) -> Result<(), Fail> {
+    let one_class = "type nat;\nsymbol Z : nat+;\nsymbol S : nat+ {nat-};\nsymbol Add : nat- {nat-, nat+};\n";
+    let two_classes = "symbol Dup : nat- {nat+} {nat+};\nrule S[Dup(a, b)] >< Dup[S(a), S(b)];\nrule Z[] >< Dup[Z, Z];\n";
+    let alloc = rt.alloc();
+    for action in [Action::Check, Action::Derive] {
+        let net = format!(in alloc; "{SUMS}{RULES}net (y : nat-) {{ x ~ Add(y, x); }}\n")?;
+        expect_of(
+            &rt,
+            alloc,
+            action,
+            net.as_str(),
+            "refused E13 at 7:22: Add\n",
+            1,
+        );
+        let rule = format!(in alloc; "{one_class}{RULES}net () {{ }}\n")?;
+        expect_of(
+            &rt,
+            alloc,
+            action,
+            rule.as_str(),
+            "refused E12 at 6:13: Add\n",
+            1,
+        );
+        let typed = format!(in alloc; "{one_class}{RULES}net () {{ S(Z) ~ S(Z); }}\n")?;
+        expect_of(
+            &rt,
+            alloc,
+            action,
+            typed.as_str(),
+            "refused E10 at 7:15: ~\n",
+            1,
+        );
+        let parted = format!(in alloc;
+            "{SUMS}{RULES}{two_classes}net (r : nat+) {{ Dup(u, v) ~ S(Z); Add(v, r) ~ u; }}\n"
+        )?;
+        expect_of(
+            &rt,
+            alloc,
+            action,
+            parted.as_str(),
+            "refused E13 at 10:18: Dup\n",
+            1,
+        );
+    }
+    Ok(())
+}
+
+const SUM_STEPS: &str =
+    "rule S Add\n0 given S 1\n1 given Add 1\n2 given Add 2\n3 link\n4 graft S 3\n5 cut 2 4\n6 graft Add 1 5\n7 cut 0 6\nrule Z Add\n0 given Add 1\n1 given Add 2\n2 cut 0 1\n";
+
+#[test]
+fn derivations_are_printed_step_by_step(rt: HostRuntime) -> Result<(), Fail> {
+    let alloc = rt.alloc();
+    let text = format!(in alloc; "{SUMS}{RULES}net () {{ }}\n")?;
+    let lines = format!(in alloc; "{SUM_STEPS}net\n0 empty\n")?;
+    expect_of(&rt, alloc, Action::Derive, text.as_str(), lines.as_str(), 0);
+    expect(
+        &rt,
+        alloc,
+        text.as_str(),
+        "accepted: 1 types, 3 symbols, 2 rules, 0 agents\n",
+        0,
+    );
+    Ok(())
+}
+
+#[test]
+fn ports_of_one_class_are_grafted_to_one_step(rt: HostRuntime) -> Result<(), Fail> {
+    let alloc = rt.alloc();
+    let text = format!(in alloc;
+        "{SUMS}{RULES}{DUPLICATION}net (r : nat+) {{ Dup(u, v) ~ S(Z); Add(v, r) ~ u; }}\n"
+    )?;
+    let lines = format!(in alloc;
+        "{SUM_STEPS}rule S Dup\n0 given S 1\n1 given Dup 1\n2 link\n3 graft S 2\n4 cut 1 3\n5 link\n6 graft S 5\n7 cut 4 6\n8 graft Dup 7\n9 cut 0 8\nrule Z Dup\n0 given Dup 1\n1 graft Z\n2 cut 0 1\n3 graft Z\n4 cut 2 3\nnet\n0 link\n1 link\n2 graft Add 0 1\n3 graft Dup 2\n4 graft Z\n5 graft S 4\n6 cut 3 5\n"
+    )?;
+    expect_of(&rt, alloc, Action::Derive, text.as_str(), lines.as_str(), 0);
+    expect(
+        &rt,
+        alloc,
+        text.as_str(),
+        "accepted: 1 types, 4 symbols, 4 rules, 4 agents\n",
+        0,
+    );
     Ok(())
 }

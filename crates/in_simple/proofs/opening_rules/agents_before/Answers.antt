@@ -1,4 +1,4 @@
-use Rattle.std.proofs.Common.{nat_lt, ◌≡◌, ap, subst, sym, ◌∙◌, arith}
+use Rattle.std.proofs.Common.{nat_lt, ◌≡◌, ap, subst, ◌∙◌, arith}
 use Rattle.std.specs.Prelude.{count_by, is_some}
 use Rattle.in_net.specs.Parts.{Parts, IsWhole}
 use Rattle.in_simple.proofs.Counted.{count_all}

@@ -1,0 +1,49 @@
+-- What the passes give for the steps of rules.
+use Rattle.std.proofs.Common.{◌≡◌, ◌⊎◌, inl, inr, List, [], ◌∷◌, ◌++◌, length, ℕ, zero, suc, ◌<◌, Some, slice_get, Ok, Err, refl, sym, ◌∙◌, ap, subst, arith}
+use Rattle.std.specs.List.{AllByRecursion}
+use Rattle.in_syntax.specs.declared.faults.Fault.{Fault}
+use Rattle.in_syntax.specs.declared.faults.Fault.TheVariants.{Refused, Memory}
+use Rattle.in_syntax.specs.declared.tree.Source.{Source}
+use Rattle.in_symbols.specs.Tables.{Tables}
+use Rattle.in_net.specs.Rules.{RuleParts}
+use Rattle.in_simple.specs.OpeningRules.{IsRuleWhole}
+use Rattle.in_simple.proofs.TextRules.{rule_whole}
+use Rattle.in_check.specs.declared.checked.Certificate.{Certificate}
+use Rattle.in_check.specs.Certificates.{CertifiesRule, CertifiesRules}
+use Rattle.in_check.specs.Checking.{BuildsRules}
+use Rattle.in_check.proofs.Passes.{all_of, last_or_before}
+
+-- ---- rule by rule
+
+pub rules_whole : (s : Source) (t : Tables) (rules : List RuleParts) → BuildsRules s t (Ok rules) → AllByRecursion (IsRuleWhole t) rules
+rules_whole s t rules h = all_of (IsRuleWhole t) rules (λ i p e. let b = h.each i p e in rule_whole t b.0 p b.2)
+
+-- the first rule that is refused
+pub at_stuck_rule : (t : Tables) (rules : List RuleParts) (cs : List Certificate) (i : ℕ) (p : RuleParts) (e : Fault) → slice_get rules i ≡ Some p → length cs ≡ i →
+    ((j : ℕ) (q : RuleParts) (c : Certificate) → slice_get rules j ≡ Some q → slice_get cs j ≡ Some c → CertifiesRule t q (Ok c)) → CertifiesRule t p (Err e) → CertifiesRules t rules (Err e)
+at_stuck_rule t rules cs i p (Memory e) at count each refuses = tt
+at_stuck_rule t rules cs i p (Refused r) at count each refuses = record {
+  number = i;
+  rule = p;
+  stands = at;
+  refused = refuses;
+  first = λ j q less e. let c = there cs j (omega (arith, less, count)) in (c.0, each j q c.0 e c.1);
+}
+  where
+    there : (xs : List Certificate) (j : ℕ) → j < length xs → (x : Certificate) × (slice_get xs j ≡ Some x)
+    there [] j lt = absurd (omega (arith, lt))
+    there (x ∷ xs) zero lt = (x, refl)
+    there (x ∷ xs) (suc j) lt = there xs j (omega (arith, lt))
+
+same_rule : (p q : RuleParts) → Some p ≡ Some q → p ≡ q
+same_rule p q e = cc
+
+-- one more rule is certified
+pub one_more_certified : (t : Tables) (rules : List RuleParts) (cs more : List Certificate) (p : RuleParts) (c : Certificate) → more ≡ cs ++ c ∷ [] → slice_get rules (length cs) ≡ Some p →
+    ((j : ℕ) (q : RuleParts) (d : Certificate) → slice_get rules j ≡ Some q → slice_get cs j ≡ Some d → CertifiesRule t q (Ok d)) → CertifiesRule t p (Ok c) →
+    (j : ℕ) (q : RuleParts) (d : Certificate) → slice_get rules j ≡ Some q → slice_get more j ≡ Some d → CertifiesRule t q (Ok d)
+one_more_certified t rules cs more p c grown at each made j q d e f = by_side (last_or_before cs c d j (ap (λ z. slice_get z j) (sym grown) ∙ f))
+  where
+    by_side : (slice_get cs j ≡ Some d) ⊎ ((j ≡ length cs) × (c ≡ d)) → CertifiesRule t q (Ok d)
+    by_side (inl h) = each j q d e h
+    by_side (inr h) = subst (λ z. CertifiesRule t q (Ok z)) h.1 (subst (λ z. CertifiesRule t z (Ok c)) (same_rule p q (sym at ∙ ap (slice_get rules) (sym h.0) ∙ e)) made)

@@ -1,0 +1,108 @@
+-- What checking a text answers: its tree, its tables, its rules and its net, their types, one rule for each pair, and the steps that
+-- build its rules and its net, one after another.
+use Rattle.std.specs.Prelude.{◌≡◌, ◌⊎◌, ℕ, ◌<◌, List, length, slice_get, Some, Result, Ok, Err}
+use Rattle.std.specs.List.{AllByRecursion}
+use Rattle.in_syntax.specs.declared.faults.Refusal.{Refusal}
+use Rattle.in_syntax.specs.declared.faults.Fault.{Fault}
+use Rattle.in_syntax.specs.declared.faults.Fault.TheVariants.{Refused, Memory}
+use Rattle.in_syntax.specs.declared.tree.Source.{Source}
+use Rattle.in_syntax.specs.Parsing.{Parses}
+use Rattle.in_symbols.specs.Tables.{Tables, Tabulates}
+use Rattle.in_net.specs.Parts.{Parts}
+use Rattle.in_net.specs.Built.{Builds}
+use Rattle.in_net.specs.Rules.{RuleParts, BuildsRule}
+use Rattle.in_typing.specs.Typed.{Types, TypesRule}
+use Rattle.in_cover.specs.Table.{Cells}
+use Rattle.in_cover.specs.Cover.{Covers}
+use Rattle.in_check.specs.declared.checked.Certificate.{Certificate}
+use Rattle.in_check.specs.Certificates.{CertifiesRules, CertifiesNet}
+use Rattle.in_check.specs.Programs.{Program}
+
+-- ---- rule by rule
+
+-- the rules are those of the text
+pub record AreRulesOf (s : Source) (t : Tables) (rules : List RuleParts) : Type 0 where
+  pub count : length rules ≡ length s.rules
+  pub each : (i : ℕ) (p : RuleParts) → slice_get rules i ≡ Some p → BuildsRule s t i (Ok p)
+
+-- a rule is refused, and none before it
+pub record IsRuleRefused (s : Source) (t : Tables) (r : Refusal) : Type 0 where
+  pub number : ℕ
+  pub stands : BuildsRule s t number (Err (Refused r))
+  pub first : (i : ℕ) → i < number → (p : RuleParts) × BuildsRule s t i (Ok p)
+
+abbrev pub BuildsRules : Source → Tables → Result (List RuleParts) Fault → Type 0
+BuildsRules s t (Ok rules) = AreRulesOf s t rules
+BuildsRules s t (Err (Refused r)) = IsRuleRefused s t r
+BuildsRules s t (Err (Memory e)) = Unit {0}
+
+-- the types of a rule are refused, and of none before it
+pub record IsRuleUntyped (t : Tables) (rules : List RuleParts) (r : Refusal) : Type 0 where
+  pub number : ℕ
+  pub rule : RuleParts
+  pub stands : slice_get rules number ≡ Some rule
+  pub refused : TypesRule t rule (Err r)
+  pub first : (i : ℕ) (p : RuleParts) → i < number → slice_get rules i ≡ Some p → TypesRule t p (Ok tt)
+
+abbrev pub TypesRules : Tables → List RuleParts → Result (Unit {0}) Refusal → Type 0
+TypesRules t rules (Ok u) = AllByRecursion (λ p. TypesRule t p (Ok tt)) rules
+TypesRules t rules (Err r) = IsRuleUntyped t rules r
+
+-- rule by rule, and then the net
+abbrev pub TypesAll : Tables → List RuleParts → Parts → Result (Unit {0}) Refusal → Type 0
+TypesAll t rules n (Ok u) = TypesRules t rules (Ok tt) × Types t n (Ok tt)
+TypesAll t rules n (Err r) = TypesRules t rules (Err r) ⊎ (TypesRules t rules (Ok tt) × Types t n (Err r))
+
+-- the same as an answer of a pass, which takes no memory
+abbrev pub TypePasses : Tables → List RuleParts → Parts → Result (Unit {0}) Fault → Type 0
+TypePasses t rules n (Ok u) = TypesAll t rules n (Ok u)
+TypePasses t rules n (Err (Refused r)) = TypesAll t rules n (Err r)
+TypePasses t rules n (Err (Memory e)) = ⊥
+
+-- ---- pass by pass
+
+-- the text has a tree, the tree tables, rules and a net, each wire fits, each pair has its rule, and each rule and the net are built by
+-- their steps
+pub record IsAccepted (text : List ℕ) (p : Program) : Type 0 where
+  pub source : Source
+  pub parses : Parses text (Ok source)
+  pub tabulates : Tabulates source (Ok p.tables)
+  pub builds_rules : BuildsRules source p.tables (Ok p.rules)
+  pub builds : Builds source p.tables (Ok p.net)
+  pub fits : TypesAll p.tables p.rules p.net (Ok tt)
+  pub covers : Covers p.tables p.rules (Ok p.numbers)
+  pub simple_rules : CertifiesRules p.tables p.rules (Ok p.rule_certificates)
+  pub simple_net : CertifiesNet p.tables p.net (Ok p.net_certificate)
+
+-- the rules and the net of the text, that fit and are covered
+pub record IsCovered (text : List ℕ) (t : Tables) (rules : List RuleParts) (n : Parts) : Type 0 where
+  pub source : Source
+  pub numbers : Cells
+  pub parses : Parses text (Ok source)
+  pub tabulates : Tabulates source (Ok t)
+  pub builds_rules : BuildsRules source t (Ok rules)
+  pub builds : Builds source t (Ok n)
+  pub fits : TypesAll t rules n (Ok tt)
+  pub covers : Covers t rules (Ok numbers)
+
+-- the first of the passes that refuses: that of the tree, of the tables, of the rules and the net, of the types, of the rules' pairs,
+-- of the rules' and of the net's steps
+pub data IsRefused (text : List ℕ) (r : Refusal) : Type 0 where
+  no_tree : Parses text (Err (Refused r)) → IsRefused text r
+  no_tables : (s : Source) → Parses text (Ok s) → Tabulates s (Err (Refused r)) → IsRefused text r
+  no_rules : (s : Source) (t : Tables) → Parses text (Ok s) → Tabulates s (Ok t) → BuildsRules s t (Err (Refused r)) → IsRefused text r
+  no_net : (s : Source) (t : Tables) (rules : List RuleParts) → Parses text (Ok s) → Tabulates s (Ok t) → BuildsRules s t (Ok rules) → Builds s t (Err (Refused r)) →
+      IsRefused text r
+  no_types : (s : Source) (t : Tables) (rules : List RuleParts) (n : Parts) → Parses text (Ok s) → Tabulates s (Ok t) → BuildsRules s t (Ok rules) → Builds s t (Ok n) →
+      TypesAll t rules n (Err r) → IsRefused text r
+  no_cover : (s : Source) (t : Tables) (rules : List RuleParts) (n : Parts) → Parses text (Ok s) → Tabulates s (Ok t) → BuildsRules s t (Ok rules) → Builds s t (Ok n) →
+      TypesAll t rules n (Ok tt) → Covers t rules (Err (Refused r)) → IsRefused text r
+  no_simple_rules : (t : Tables) (rules : List RuleParts) (n : Parts) → IsCovered text t rules n → CertifiesRules t rules (Err (Refused r)) → IsRefused text r
+  no_simple_net : (t : Tables) (rules : List RuleParts) (n : Parts) (cs : List Certificate) → IsCovered text t rules n → CertifiesRules t rules (Ok cs) →
+      CertifiesNet t n (Err (Refused r)) → IsRefused text r
+
+-- accepted by all passes, or refused by the first that refuses
+abbrev pub IsChecked : List ℕ → Result Program Fault → Type 0
+IsChecked text (Ok p) = IsAccepted text p
+IsChecked text (Err (Refused r)) = IsRefused text r
+IsChecked text (Err (Memory e)) = Unit {0}

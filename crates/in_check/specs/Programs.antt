@@ -1,0 +1,33 @@
+-- What is kept of a program that is accepted.
+use Rattle.std.specs.Prelude.{◌<◌, List, length, slice_get, Option, Some, is_some, count_by}
+use Rattle.in_symbols.specs.Tables.{Tables}
+use Rattle.in_net.specs.Parts.{Parts}
+use Rattle.in_net.specs.Rules.{RuleParts}
+use Rattle.in_cover.specs.Table.{Cells}
+use Rattle.in_check.specs.declared.checked.Certificate.{Certificate}
+use Rattle.in_check.specs.declared.checked.Counts.{Counts}
+use Rattle.in_check.specs.declared.checked.Item.{Item}
+use Rattle.in_check.specs.declared.checked.Item.TheVariants.{RuleItem, NetItem}
+
+-- its tables, its rules and its net, the numbers of the rules by their symbols, and an open net with its steps for each rule and for
+-- the net
+pub record Program : Type 0 where
+  pub tables : Tables
+  pub rules : List RuleParts
+  pub net : Parts
+  pub numbers : Cells
+  pub rule_certificates : List Certificate
+  pub net_certificate : Certificate
+
+-- a rule's number is one of the rules
+abbrev pub IsItem : Program → Item → Type 0
+IsItem p (RuleItem k) = k.0 < length p.rules
+IsItem p NetItem = Unit {0}
+
+abbrev pub certificate_of : Program → Item → Option Certificate
+certificate_of p (RuleItem k) = slice_get p.rule_certificates k.0
+certificate_of p NetItem = Some p.net_certificate
+
+-- how many types and symbols the tables have, how many rules there are, and how many agents the net has
+abbrev pub counts_of : Program → Counts
+counts_of p = record { types = length p.tables.types; symbols = length p.tables.names; rules = length p.rules; agents = count_by is_some p.net.cells }

@@ -1,0 +1,72 @@
+ghost use Rattle.std.specs.Prelude.{IsTrue, length};
+ghost use Rattle.std.specs.List.{AllByRecursion};
+ghost use Rattle.in_net.specs.Built.{IsOver};
+ghost use Rattle.in_net.specs.Rules.{IsRuleOver};
+ghost use Rattle.in_simple.specs.Opening.{AreAllThere, AreNumbered};
+ghost use Rattle.in_simple.specs.OpeningRules.{IsRuleWhole};
+ghost use Rattle.in_check.specs.Certificates.{Certifies, CertifiesNet, CertifiesRule, CertifiesRules};
+
+use crate::checked::Certificate;
+use in_net::{Net, Rule};
+use in_simple::{OpenNet, Undone, derive, open_net, open_rule};
+use in_symbols::Symbols;
+use in_syntax::{Code, Fault, Refusal};
+use sqlite_items::Items;
+use std::alloc::Global;
+
+/// An open net with the steps that build it; or its refusal, with this code.
+fn certify(alloc: Global, shape: OpenNet, code: Code) -> Result<Certificate, Fault>
+    ensures { Certifies shape code result }
+{
+    match derive(alloc, &shape) {
+        Ok(derivation) => Ok(Certificate { shape, derivation }),
+        Err(Undone::Stuck(stuck)) => Err(Fault::Refused(Refusal {
+            code,
+            place: stuck.place(&shape),
+            other: None,
+        })),
+        Err(Undone::Memory(error)) => Err(Fault::Memory(error)),
+    }
+}
+
+/// A rule's open net with the steps that build it; or its refusal.
+fn certify_rule(alloc: Global, symbols: &Symbols, rule: &Rule) -> Result<Certificate, Fault>
+    requires over { IsRuleOver symbols.now rule.now }
+    requires whole { IsRuleWhole symbols.now rule.now }
+    requires numbered { AreNumbered symbols.now }
+    ensures { CertifiesRule symbols.now rule.now result }
+{
+    let shape = open_rule(alloc, symbols, rule)?;
+    certify(alloc, shape, Code::E12)
+}
+
+/// The open nets of the rules with their steps; refused for the first rule that is stuck.
+pub(crate) fn certify_rules(
+    alloc: Global,
+    symbols: &Symbols,
+    rules: &[Rule],
+) -> Result<Items<Certificate>, Fault>
+    requires over { AllByRecursion (IsRuleOver symbols.now) rules.now }
+    requires whole { AllByRecursion (IsRuleWhole symbols.now) rules.now }
+    requires numbered { AreNumbered symbols.now }
+    ensures { CertifiesRules symbols.now rules.now result }
+{
+    let mut certificates = Items::new(alloc);
+    for rule in rules {
+        let certificate = certify_rule(alloc, symbols, rule)?;
+        certificates.push(certificate)?;
+    }
+    Ok(certificates)
+}
+
+/// The net's open net with the steps that build it; or its refusal.
+pub(crate) fn certify_net(alloc: Global, symbols: &Symbols, net: &Net) -> Result<Certificate, Fault>
+    requires over { IsOver symbols.now net.now }
+    requires built { IsTrue net.now.built }
+    requires there { AreAllThere net.now }
+    requires numbered { AreNumbered symbols.now }
+    ensures { CertifiesNet symbols.now net.now result }
+{
+    let shape = open_net(alloc, symbols, net)?;
+    certify(alloc, shape, Code::E13)
+}

@@ -1,0 +1,132 @@
+ghost use Rattle.std.specs.Prelude.{◌≡◌, ◌<◌, length, slice_get, option_map, Some};
+ghost use Rattle.in_check.specs.Programs.{IsItem, certificate_of, counts_of};
+
+use in_cover::{RuleNo, RuleTable};
+use in_net::{Net, Rule};
+use in_simple::{Derivation, OpenNet};
+use in_symbols::Symbols;
+use sqlite_items::Items;
+use std::marker::Model;
+
+/// How much an accepted program has: types, symbols, rules, and agents of its initial net.
+#[derive(Clone, Copy, Debug, PartialEq, Eq)]
+pub struct Counts {
+    pub types: u32,
+    pub symbols: u32,
+    pub rules: u32,
+    pub agents: u32,
+}
+
+/// A part of a program that is built by steps: a rule, by its number from 0 in the order of the text, or the initial net.
+#[derive(Clone, Copy, Debug, PartialEq, Eq)]
+pub enum Item {
+    RuleItem(RuleNo),
+    NetItem,
+}
+
+/// An open net and the steps that build it.
+#[derive(Drop)]
+pub struct Certificate {
+    pub shape: OpenNet,
+    pub derivation: Derivation,
+}
+
+/// A program that is accepted: its tables, its rules and its net, and for each rule and the net the steps that build it.
+#[derive(Drop)]
+pub struct Checked {
+    pub(crate) symbols: Symbols,
+    pub(crate) rules: Items<Rule>,
+    pub(crate) net: Net,
+    pub(crate) numbers: RuleTable,
+    pub(crate) rule_certificates: Items<Certificate>,
+    pub(crate) net_certificate: Certificate,
+}
+
+// Contracts see the program.
+impl Model for Checked {
+    ghost use Rattle.in_check.specs.Programs as programs;
+    ghost use Rattle.std.specs.Prelude.{◌≡◌, ◌^◌, ◌<◌, length};
+
+    ghost Value = { programs.Program };
+
+    ghost view = { λ c. record {
+      tables = c.symbols;
+      rules = c.rules;
+      net = c.net;
+      numbers = c.numbers;
+      rule_certificates = c.rule_certificates;
+      net_certificate = c.net_certificate;
+    } };
+
+    ghost invariant = { λ c. (length c.rules < 2 ^ 32) × (length c.rule_certificates ≡ length c.rules) };
+}
+
+impl Checked {
+    /// The tables of the program's names.
+    pub fn symbols(&self) -> &Symbols
+        ensures { result.now ≡ self.now.tables }
+    {
+        &self.symbols
+    }
+
+    /// How many rules there are.
+    pub fn rules(&self) -> u32
+        ensures { result ≡ length self.now.rules }
+    {
+        self.rules.len() as u32
+    }
+
+    /// The rule of that number, from 0 in the order of the text.
+    pub fn rule(&self, number: RuleNo) -> &Rule
+        requires { number.0 < length self.now.rules }
+        ensures { slice_get self.now.rules number.0 ≡ Some result.now }
+    {
+        &self.rules.as_slice()[number.0 as usize]
+    }
+
+    /// The initial net.
+    pub fn net(&self) -> &Net
+        ensures { result.now ≡ self.now.net }
+    {
+        &self.net
+    }
+
+    /// The open net of a rule or of the net, with its steps.
+    fn certified(&self, item: Item) -> &Certificate
+        requires { IsItem self.now item }
+        ensures { certificate_of self.now item ≡ Some result.now }
+    {
+        match item {
+            Item::RuleItem(number) => &self.rule_certificates.as_slice()[number.0 as usize],
+            Item::NetItem => &self.net_certificate,
+        }
+    }
+
+    /// The open net of a rule or of the net.
+    pub fn shape(&self, item: Item) -> &OpenNet
+        requires { IsItem self.now item }
+        ensures { option_map (λ c. c.shape) (certificate_of self.now item) ≡ Some result.now }
+    {
+        &self.certified(item).shape
+    }
+
+    /// The steps that build the open net of a rule or of the net.
+    pub fn certificate(&self, item: Item) -> &Derivation
+        requires { IsItem self.now item }
+        ensures { option_map (λ c. c.derivation) (certificate_of self.now item) ≡ Some result.now }
+    {
+        &self.certified(item).derivation
+    }
+
+    /// How much the program has.
+    pub fn counts(&self) -> Counts
+        ensures { result ≡ counts_of self.now }
+    {
+        Counts {
+            types: self.symbols.types(),
+            symbols: self.symbols.symbols(),
+            rules: self.rules(),
+            agents: self.net.agents(),
+        }
+    }
+}

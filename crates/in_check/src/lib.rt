@@ -1,0 +1,12 @@
+//! The one door to a program: its text is checked by all passes, one after another, and what is accepted is kept, with the steps
+//! that build its rules and its net.
+#![tactic(auto)]
+
+mod certifying;
+mod checked;
+mod checking;
+#[cfg(test)]
+mod tests;
+
+pub use checked::{Certificate, Checked, Counts, Item};
+pub use checking::check;
