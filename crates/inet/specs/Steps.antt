@@ -1,12 +1,13 @@
 -- The lines of derivations: for each rule its heads' names and its steps, and at last the net's steps. They are this project's own
 -- choice.
-use Rattle.std.specs.Prelude.{ℕ, zero, suc, List, [], ◌∷◌, ◌++◌, codes, decimal, Option, Some, None}
+use Rattle.std.specs.Prelude.{ℕ, suc, List, [], ◌∷◌, ◌++◌, codes, decimal, Option, Some, None}
 use Rattle.in_symbols.specs.Names.{name_in}
 use Rattle.in_symbols.specs.Tables.{Tables}
 use Rattle.in_net.specs.Rules.{RuleParts}
 use Rattle.in_simple.specs.declared.open_nets.Node.{Node}
 use Rattle.in_simple.specs.declared.open_nets.Node.TheVariants.{AgentNode, ClassNode}
-use Rattle.in_simple.specs.Derivations.{Step, Empty, Link, Given, Graft, Cut, Mix}
+use Rattle.in_simple.specs.declared.derivations.Step.{Step}
+use Rattle.in_simple.specs.declared.derivations.Step.TheVariants.{Empty, Link, Given, Graft, Cut, Mix}
 use Rattle.in_simple.specs.OpenNets.{OpenNet, node_in}
 use Rattle.in_check.specs.declared.checked.Certificate.{Certificate}
 use Rattle.in_check.specs.Programs.{Program}
@@ -39,9 +40,12 @@ lines_from t o k (s ∷ ss) = decimal k ++ (codes " " ++ (step_text t o s ++ (li
 abbrev pub certificate_lines : Tables → Certificate → List ℕ
 certificate_lines t c = lines_from t c.shape 0 c.derivation.steps
 
--- the names of a rule's heads as they are written, and its steps
+-- the names of a rule's heads as they are written
+abbrev pub heads_line : Tables → RuleParts → List ℕ
+heads_line t p = codes "rule " ++ (name_in p.written.0.0 t.names ++ (codes " " ++ (name_in p.written.1.0 t.names ++ line_end)))
+
 abbrev pub rule_lines : Tables → RuleParts → Certificate → List ℕ
-rule_lines t p c = codes "rule " ++ (name_in p.written.0.0 t.names ++ (codes " " ++ (name_in p.written.1.0 t.names ++ (line_end ++ certificate_lines t c))))
+rule_lines t p c = heads_line t p ++ certificate_lines t c
 
 abbrev pub rules_lines : Tables → List RuleParts → List Certificate → List ℕ
 rules_lines t [] cs = []

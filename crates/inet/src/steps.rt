@@ -1,11 +1,12 @@
-ghost use Rattle.std.specs.Prelude.{◌≡◌, ◌<◌, ◌∷◌, ◌++◌, [], codes, decimal, length, drop, IfOk, OnOk};
+ghost use Rattle.std.specs.Prelude.{◌≡◌, ◌<◌, ◌+◌, ◌∷◌, ◌++◌, [], codes, decimal, length, drop, IfOk, OnOk};
 ghost use Rattle.in_symbols.specs.Names.{name_in};
 ghost use Rattle.in_simple.specs.OpenNets.{node_in};
 ghost use Rattle.inet.specs.Lines.{line_end};
-ghost use Rattle.inet.specs.Steps.{derivation_lines, lines_from, node_text, numbers_text, rules_lines, step_text};
+ghost use Rattle.inet.specs.Steps.{derivation_lines, heads_line, lines_from, node_text, numbers_text, rules_lines, step_text};
 
 use in_check::{Checked, Item};
 use in_cover::RuleNo;
+use in_net::Rule;
 use in_simple::{Derivation, Node, OpenNet, Step};
 use in_symbols::{SymbolNo, Symbols};
 use std::alloc::{AllocError, Global};
@@ -129,7 +130,20 @@ fn add_lines(
     Ok(())
 }
 
-/// Adds the lines of a rule: the names of its heads as they are written, and its steps.
+/// Adds the names of a rule's heads, as they are written.
+fn add_heads(bytes: &mut Vec<u8>, symbols: &Symbols, rule: &Rule) -> Result<(), AllocError>
+    ensures { OnOk result (bytes.new.items ≡ bytes.old.items ++ heads_line symbols.now rule.now) }
+{
+    let (first, second) = rule.written();
+    bytes.extend_from_slice(b"rule ")?;
+    add_name(bytes, symbols, first)?;
+    bytes.push(b' ')?;
+    add_name(bytes, symbols, second)?;
+    bytes.push(b'\n')?;
+    Ok(())
+}
+
+/// Adds the lines of a rule: the names of its heads, and its steps.
 fn add_rule(
     bytes: &mut Vec<u8>,
     alloc: Global,
@@ -141,20 +155,16 @@ fn add_rule(
         ≡ bytes.old.items ++ rules_lines checked.now.tables (drop number checked.now.rules) (drop number checked.now.rule_certificates)) }
 {
     let symbols = checked.symbols();
-    let (first, second) = checked.rule(RuleNo(number)).written();
     let item = Item::RuleItem(RuleNo(number));
-    bytes.extend_from_slice(b"rule ")?;
-    add_name(bytes, symbols, first)?;
-    bytes.push(b' ')?;
-    add_name(bytes, symbols, second)?;
-    bytes.push(b'\n')?;
+    add_heads(bytes, symbols, checked.rule(RuleNo(number)))?;
     add_lines(
         bytes,
         alloc,
         symbols,
         checked.shape(item),
         checked.certificate(item),
-    )
+    )?;
+    Ok(())
 }
 
 /// Adds the lines of the rules.

@@ -22,14 +22,7 @@ const ERASURE: &str = "symbol Era : nat-;\nrule S[Era] >< Era[];\nrule Z[] >< Er
 const ACCEPTED: &str = "accepted: 1 types, 2 symbols, 0 rules, 3 agents\n";
 
 /// Checks the lines and the status on a text that comes from memory.
-fn expect_of(
-    rt: &impl Abort,
-    alloc: Global,
-    action: Action,
-    text: &str,
-    lines: &str,
-    status: u8,
-) {
+fn expect_of(rt: &impl Abort, alloc: Global, action: Action, text: &str, lines: &str, status: u8) {
     let mut reader = Tape::new(text.as_bytes());
     let mut writer = Paper::new(alloc);
     let answer = act(alloc, &action, &mut reader, &mut writer);
@@ -451,8 +444,10 @@ fn the_examples_of_the_language_are_refused(rt: HostRuntime) -> Result<(), Fail>
 
 #[test]
 fn rules_and_nets_that_are_not_built_by_steps_are_refused(rt: HostRuntime) -> Result<(), Fail> {
-    let one_class = "type nat;\nsymbol Z : nat+;\nsymbol S : nat+ {nat-};\nsymbol Add : nat- {nat-, nat+};\n";
-    let two_classes = "symbol Dup : nat- {nat+} {nat+};\nrule S[Dup(a, b)] >< Dup[S(a), S(b)];\nrule Z[] >< Dup[Z, Z];\n";
+    let one_class =
+        "type nat;\nsymbol Z : nat+;\nsymbol S : nat+ {nat-};\nsymbol Add : nat- {nat-, nat+};\n";
+    let two_classes =
+        "symbol Dup : nat- {nat+} {nat+};\nrule S[Dup(a, b)] >< Dup[S(a), S(b)];\nrule Z[] >< Dup[Z, Z];\n";
     let alloc = rt.alloc();
     for action in [Action::Check, Action::Derive] {
         let net = format!(in alloc; "{SUMS}{RULES}net (y : nat-) {{ x ~ Add(y, x); }}\n")?;
