@@ -8,6 +8,7 @@ pub mod Forest
 pub mod Grow
 pub mod Links
 pub mod Make
+pub mod MeetingNodes
 pub mod Named
 pub mod NoCircle
 pub mod Opened

@@ -7,7 +7,9 @@ use Rattle.in_simple.specs.Constructions.{IsIn}
 use Rattle.in_simple.specs.Splitting.{Linked, alone, onward, Without, SplitsAt}
 use Rattle.in_simple.specs.OpenNets.{OpenNet, IsWire, IsOpenNet, class_in, open_graph}
 use Rattle.in_simple.specs.Stuck.{ports_of}
-use Rattle.in_simple.specs.Procedure.{nodes_in, IsReached, IsRest, AreOfClass, PortSplits, SplitsPorts, SplitsIt, NoneSplits, IsFirst}
+use Rattle.in_simple.specs.Meeting.{MeetsAlone}
+use Rattle.in_simple.specs.Procedure.{nodes_in, IsRest, PortSplits, SplitsPorts, SplitsIt, NoneSplits, IsFirst}
+use Rattle.in_simple.proofs.Balance.{wire_turn}
 use Rattle.in_simple.proofs.Sums.{not_both}
 use Rattle.in_simple.proofs.Links.{same_nat}
 use Rattle.in_simple.proofs.Search.{in_ports}
@@ -60,16 +62,16 @@ module _ (o : OpenNet) (net : IsOpenNet o) where
     pub own_port_class : (w k : ℕ) → IsWire o w (Port n i) (Port n k) → PortSplits o rest n i → class_in o n k ≡ class_in o n i
     own_port_class w k h s = sym (s.own k w h)
 
-    pub port_in : (w l k : ℕ) (c : List Bool) → IsWire o w (Port n i) (Port l k) → l ≢ n → IsReached o rest l c → AreOfClass o c n (class_in o n i) (ports_of o n) → PortSplits o rest n i
-    port_in w l k c h d r all = record {
+    pub port_in : (w l k : ℕ) → IsWire o w (Port n i) (Port l k) → l ≢ n → MeetsAlone o rest l n (class_in o n i) → PortSplits o rest n i
+    port_in w l k h d all = record {
       own = λ j v g. absurd (d (port_place l n k j (net.once w v (Port n i) (Port l k) (Port n j) h g).1).0);
       touched = λ j v u l' m k' h' g g' link.
           let e = (port_place l l' k k' (net.once w v (Port n i) (Port l k) (Port l' k') h g).1).0 in
-          sym (all j (in_ports o net u n j (Port m h') g') u m h' g' ((r m).1 (subst (λ z. Linked (open_graph o) (λ m. IsIn m (nodes_in rest)) z m) (sym e) link)));
+          sym (all m (subst (λ z. Linked (open_graph o) (λ m. IsIn m (nodes_in rest)) z m) (sym e) link) h' u j (wire_turn o u (Port n j) (Port m h') g'));
     }
 
-    pub touched_class : (w l k : ℕ) (c : List Bool) → IsWire o w (Port n i) (Port l k) → IsReached o rest l c → PortSplits o rest n i → AreOfClass o c n (class_in o n i) (ports_of o n)
-    touched_class w l k c h r s j b u m h' g m_in = sym (s.touched j w u l m k h' h g ((r m).0 m_in))
+    pub touched_class : (w l k : ℕ) → IsWire o w (Port n i) (Port l k) → PortSplits o rest n i → MeetsAlone o rest l n (class_in o n i)
+    touched_class w l k h s m link h' u j g = sym (s.touched j w u l m k h' h (wire_turn o u (Port m h') (Port n j) g) link)
 
   pub splits_all : (part rest : List Bool) (n : ℕ) → IsRest n part rest → SplitsAt (open_graph o) n (nodes_in part) → SplitsPorts o rest n (ports_of o n)
   splits_all part rest n r s i b = record {

@@ -2,6 +2,7 @@ pub mod Checking
 pub mod Constructions
 pub mod Derivations
 pub mod Laws
+pub mod Meeting
 pub mod OpenNets
 pub mod Opening
 pub mod OpeningRules

@@ -13,11 +13,9 @@ pub(crate) fn none(alloc: Global, count: usize) -> Result<Items<bool>, AllocErro
     ensures count { IfOk result (λ nodes. length nodes ≡ count) }
     ensures none { IfOk result (λ nodes. (n : ℕ) → nodes_in nodes n ≡ false) }
 {
-    let mut nodes = Items::new(alloc);
-    for node in 0..count {
-        nodes.push(false)?;
-    }
-    Ok(nodes)
+    let mut nodes = Vec::new(alloc);
+    nodes.resize(count, false)?;
+    Ok(Items::from_vec(nodes))
 }
 
 /// The node at the other end of the wire at a port, where it is one of these.
@@ -45,7 +43,11 @@ pub(crate) fn neighbour(
 }
 
 /// Reaches a node, if it isn't yet.
-fn reach(near: u32, reached: &mut Items<bool>, pending: &mut Items<u32>) -> Result<(), AllocError>
+pub(crate) fn reach(
+    near: u32,
+    reached: &mut Items<bool>,
+    pending: &mut Items<u32>,
+) -> Result<(), AllocError>
     requires { near < length reached.old }
     ensures { OnOk result (Reaches near reached.old pending.old reached.new pending.new) }
 {
@@ -57,7 +59,7 @@ fn reach(near: u32, reached: &mut Items<bool>, pending: &mut Items<u32>) -> Resu
 }
 
 /// Reaches the neighbours of a node.
-fn spread(
+pub(crate) fn spread(
     wired: &Wired,
     within: &Items<bool>,
     node: usize,

@@ -4,6 +4,7 @@
 mod components;
 mod derivations;
 pub mod laws;
+mod meeting;
 mod open_nets;
 mod opening;
 mod opening_rules;

@@ -1,9 +1,9 @@
 ghost use Rattle.std.specs.Prelude.{◌≡◌, ◌<◌, ◌↔◌, length, false, IfOk, IsTrue, MatchOption};
 ghost use Rattle.in_simple.specs.OpenNets.{IsOrderly};
-ghost use Rattle.in_simple.specs.Procedure.{AreOfClass, IsFirst, IsOfClass, IsRest, NoneSplits, PortSplits, SplitsIt, SplitsPorts, nodes_in};
+ghost use Rattle.in_simple.specs.Procedure.{IsFirst, IsRest, NoneSplits, PortSplits, SplitsIt, SplitsPorts, nodes_in};
 ghost use Rattle.in_simple.specs.Stuck.{ports_of};
 
-use crate::components::{component, neighbour};
+use crate::meeting::meets_alone;
 use crate::open_nets::Point;
 use crate::wired::Wired;
 use sqlite_items::Items;
@@ -23,33 +23,6 @@ pub(crate) fn without(
     let mut rest = Items::from_slice(alloc, part.as_slice())?;
     rest.set(node, false);
     Ok(rest)
-}
-
-/// Whether the port is of this class, if it leads to these nodes.
-fn is_of_class(wired: &Wired, set: &Items<bool>, node: usize, class: usize, port: usize) -> bool
-    requires size { length set.now ≡ length wired.now.nodes }
-    requires node { node < length wired.now.nodes }
-    requires port { port < ports_of wired.now node }
-    ensures { IsTrue result ↔ IsOfClass wired.now set.now node class port }
-{
-    match neighbour(wired, set, node, port) {
-        Some(_) => wired.class(node, port) == class,
-        None => true,
-    }
-}
-
-/// Whether all ports of a node that lead to these nodes are of this class.
-fn are_of_class(wired: &Wired, set: &Items<bool>, node: usize, class: usize) -> bool
-    requires size { length set.now ≡ length wired.now.nodes }
-    requires node { node < length wired.now.nodes }
-    ensures { IsTrue result ↔ AreOfClass wired.now set.now node class (ports_of wired.now node) }
-{
-    for port in 0..wired.ports(node) {
-        if !is_of_class(wired, set, node, class, port) {
-            return false;
-        }
-    }
-    true
 }
 
 /// Whether each port that meets this one, by a wire or in a component, is of its class.
@@ -72,8 +45,8 @@ fn port_splits(
             if near as usize == node {
                 Ok(wired.class(node, place as usize) == class)
             } else if rest.as_slice()[near as usize] {
-                let component = component(alloc, wired, rest, near)?;
-                Ok(are_of_class(wired, &component, node, class))
+                let alone = meets_alone(alloc, wired, rest, near, node, class)?;
+                Ok(alone)
             } else {
                 Ok(true)
             }

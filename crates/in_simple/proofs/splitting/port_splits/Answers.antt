@@ -1,8 +1,7 @@
 use Rattle.std.proofs.Common.{◌∙◌, ap, false, get_or, refl, sym, subst, eq-eqb, eqb-true}
 use Rattle.in_simple.specs.declared.open_nets.Point.TheVariants.{Port}
 use Rattle.in_simple.specs.OpenNets.{IsWire}
-use Rattle.in_simple.specs.Procedure.{AreOfClass}
-use Rattle.in_simple.specs.Stuck.{ports_of}
+use Rattle.in_simple.specs.Meeting.{MeetsAlone}
 use Rattle.in_simple.proofs.SplittingPorts.{port_free, port_out, port_own, own_port_class, port_in, touched_class}
 use Rattle.in_simple.proofs.splitting.port_splits.Goals as goal
 
@@ -19,18 +18,17 @@ returns-then-near-node c =
       λ s. eq-eqb c.class.result c.class-class.result (e ∙ own_port_class o c.partner.ensures.net.net c.args.rest.now n c.args.port c.requires.out c.partner.result.0 x.place w s ∙ sym f),
     )
 
-pub returns-in_ok-component-in_default-Port : goal.returns-in_ok-component-in_default-Port
-returns-in_ok-component-in_default-Port c =
+pub returns-in_ok-alone-in_default-Port : goal.returns-in_ok-alone-in_default-Port
+returns-in_ok-alone-in_default-Port c =
     let o = c.args.wired.now in
     let n = c.args.node in
     let p = Port n c.args.port in
     let x = c.in_default-Port in
     let w = subst (λ z. IsWire o c.partner.result.0 p z) x.is-1 c.partner.ensures.wire in
-    let k = c.in_ok-component-in_default-Port in
-    let f = c.class-class.ensures in
-    let a = c.are_of_class.ensures in (
-      (λ t. port_in o c.partner.ensures.net.net c.args.rest.now n c.args.port c.requires.out c.partner.result.0 x.near x.place k.component w c.if-near-node.false k.ensures.reached (subst (λ z. AreOfClass o k.component n z (ports_of o n)) f (a.0 t))),
-      λ s. a.1 (subst (λ z. AreOfClass o k.component n z (ports_of o n)) (sym f) (touched_class o c.partner.ensures.net.net c.args.rest.now n c.args.port c.requires.out c.partner.result.0 x.near x.place k.component w k.ensures.reached s)),
+    let k = c.in_ok-alone-in_default-Port in
+    let f = c.class-class.ensures in (
+      (λ t. port_in o c.partner.ensures.net.net c.args.rest.now n c.args.port c.requires.out c.partner.result.0 x.near x.place w c.if-near-node.false (subst (MeetsAlone o c.args.rest.now x.near n) f (k.ensures.0 t))),
+      λ s. k.ensures.1 (subst (MeetsAlone o c.args.rest.now x.near n) (sym f) (touched_class o c.partner.ensures.net.net c.args.rest.now n c.args.port c.requires.out c.partner.result.0 x.near x.place w s)),
     )
 
 pub returns-else-as_slice-near : goal.returns-else-as_slice-near
