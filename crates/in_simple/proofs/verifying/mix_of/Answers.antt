@@ -1,0 +1,12 @@
+use Rattle.std.proofs.Common.{refl}
+use Rattle.in_simple.specs.Derivations.{Mix}
+use Rattle.in_simple.proofs.VerifyRun.{step_pair, first_refused}
+use Rattle.in_simple.proofs.verifying.mix_of.Goals as goal
+
+pub returns-in_ok-mix-in-Some-taken : goal.returns-in_ok-mix-in-Some-taken
+returns-in_ok-mix-in-Some-taken c =
+    step_pair c.args.open.now Mix (λ i j. refl) (λ i j. refl) c.args.a c.args.b c.args.parts.now.items c.taken.new.parts.items c.taken-in-Some.new.parts.items c.in-Some-taken.first c.in-Some.second _ c.in-Some.ensures c.in-Some-taken.ensures c.in_ok-mix-in-Some-taken.ensures
+
+pub returns-in-None-taken : goal.returns-in-None-taken
+returns-in-None-taken c =
+    first_refused c.args.open.now Mix (λ i j. refl) (λ i j. refl) c.args.a c.args.b c.args.parts.now.items c.taken.new.parts.items c.taken-in-Some.new.parts.items c.in-Some.second c.in-Some.ensures c.in-None-taken.ensures
