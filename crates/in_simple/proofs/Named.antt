@@ -39,16 +39,6 @@ take_one parts k b l h = record {
 pub take_none : (parts : List (Option Built)) → Takes [] parts parts
 take_none parts = record { size = refl; each = λ i. omega arith }
 
-times_more : (i : ℕ) (xs ys : List ℕ) → times i (xs ++ ys) ≡ times i xs + times i ys
-times_more i [] ys = omega arith
-times_more i (x ∷ xs) ys = let r = times_more i xs ys in omega arith
-
-pub take_two : (ns ms : List ℕ) (a b c : List (Option Built)) → Takes ns a b → Takes ms b c → Takes (ns ++ ms) a c
-take_two ns ms a b c h k = record {
-  size = k.size ∙ h.size;
-  each = λ i. let t = times_more i ns ms in let x = h.each i in let y = k.each i in omega arith;
-}
-
 pub take_more : {X : Type 0} (xs : List X) (k : ℕ) (x : X) → slice_get xs k ≡ Some x → take (suc k) xs ≡ take k xs ++ x ∷ []
 take_more [] k x h = cc
 take_more (y ∷ xs) zero x h = ap (λ z. z ∷ []) (some_same (Some y) y x refl h)
@@ -63,7 +53,7 @@ take_whole [] (suc k) h = refl
 take_whole (x ∷ xs) zero h = absurd (omega arith)
 take_whole (x ∷ xs) (suc k) h = ap (λ z. x ∷ z) (take_whole xs k (omega arith))
 
-pub times_in_more : (i : ℕ) (xs ys : List Step) → times_in named i (xs ++ ys) ≡ times_in named i xs + times_in named i ys
+times_in_more : (i : ℕ) (xs ys : List Step) → times_in named i (xs ++ ys) ≡ times_in named i xs + times_in named i ys
 times_in_more i [] ys = omega arith
 times_in_more i (x ∷ xs) ys = let r = times_in_more i xs ys in omega arith
 

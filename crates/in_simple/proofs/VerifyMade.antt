@@ -9,7 +9,7 @@ use Rattle.in_simple.specs.declared.open_nets.Point.TheVariants.{Port, Free}
 use Rattle.in_simple.specs.declared.verifying.Built.{Built}
 use Rattle.in_simple.specs.OpenNets.{OpenNet, IsWire, IsOpenNet, IsClass}
 use Rattle.in_simple.specs.Derivations.{Empty, Link, Given, Cut, Mix, Part, one_if, is_port_in, nodes_of, links_of, ends_of, ShareNothing, IsCut}
-use Rattle.in_simple.specs.Checking.{ends_at, has_node, has_link, first_ends, second_ends, IsSized, Holds, Gathers, IsNothing, AreBeside, ShareOne, IsLed, IsJoint, Makes, OnAlone, OnPair, in_one}
+use Rattle.in_simple.specs.Checking.{ends_at, has_node, has_link, first_ends, second_ends, IsSized, Holds, Gathers, IsNothing, AreBeside, ShareOne, IsLed, IsFrom, IsJoint, Makes, OnAlone, OnPair, in_one}
 use Rattle.in_simple.specs.Procedure.{nodes_in}
 use Rattle.in_simple.proofs.Links.{same_nat}
 use Rattle.in_simple.proofs.Sums.{some_same, got, or_left, or_right, port_same, one_same, one_other}
@@ -471,3 +471,8 @@ module _ (o : OpenNet) where
         (λ i k y z x f g. made_cut v i k d c y z (joint_cut v a b y z f g j) (gathers_more a b d y (z ∷ []) h f (gathers_one b z g)) less x),
         beside_counted a b d h,
       )
+
+  pub joint_at : (w : ℕ) (a b : Built) (v : Point × Point) → slice_get o.wires w ≡ Some v → IsJoint o w a b → IsFrom a.nodes v.0 (second_ends a w) (first_ends b w) ⊎ IsFrom a.nodes v.1 (first_ends a w) (second_ends b w)
+  joint_at w a b v h (p, q, e, j) =
+      let s : ◌≡◌ {A = Point × Point} (p, q) v = some_same (slice_get o.wires w) (p, q) v e h in
+      subst (λ z. IsFrom a.nodes z.0 (second_ends a w) (first_ends b w) ⊎ IsFrom a.nodes z.1 (first_ends a w) (second_ends b w)) s j

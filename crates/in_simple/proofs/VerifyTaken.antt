@@ -20,9 +20,6 @@ left_most parts i = go (slice_get parts i)
     go (Some None) = omega arith
     go (Some (Some b)) = omega arith
 
-pub left_one : (parts : List (Option Built)) (i : ℕ) (b : Built) → slice_get parts i ≡ Some (Some b) → left_at parts i ≡ 1
-left_one parts i b h = ap left_of h
-
 pub taken_takes : (i : ℕ) (old new : List (Option Built)) (b : Built) → IsTaken i old new b → Takes (i ∷ []) old new
 taken_takes i old new b h = subst (λ z. Takes (i ∷ []) old z) (sym h.1) (take_one old i b (slice_get_within old i (Some b) h.0) h.0)
 

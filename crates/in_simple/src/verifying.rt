@@ -350,9 +350,10 @@ fn graft_ends(open: &OpenNet, ends: &mut Items<(u32, u32)>, node: u32) -> Result
 {
     for wire in 0..open.wires() {
         let (one, other) = open.wire(wire);
-        match graft_wire(ends.as_slice()[wire], one, other, node)? {
-            Some(left) => ends.set(wire, left),
-            None => return Ok(false),
+        if let Some(left) = graft_wire(ends.as_slice()[wire], one, other, node)? {
+            ends.set(wire, left);
+        } else {
+            return Ok(false);
         }
     }
     Ok(true)

@@ -2,7 +2,7 @@ use Rattle.std.proofs.Common.{◌∙◌, true, false, get_or, length, refl, ap, 
 use Rattle.std.proofs.lemmas.List.{length-set}
 use Rattle.in_simple.specs.Checking.{AreGathered, AreRefused}
 use Rattle.in_simple.proofs.Sums.{not_both}
-use Rattle.in_simple.proofs.VerifyGraft.{graft_made, none_grafts, classes_none, ends_lack}
+use Rattle.in_simple.proofs.VerifyGraft.{graft_made, node_again, none_grafts, classes_none, ends_lack}
 use Rattle.in_simple.proofs.VerifyMade.{set_node}
 use Rattle.in_simple.proofs.verifying.graft.Goals as goal
 
@@ -17,6 +17,13 @@ returns-then-not-branch c =
     let is = c.args.steps.now in
     classes_none o c.args.node is c.args.parts.now.items c.graft_classes.new.parts.items
     (subst (λ z. AreRefused o c.args.node 0 z c.args.parts.now.items) c.as_slice-classes.ensures (c.in_ok-graft_classes.ensures.answer.1 c.if-not-branch.true))
+
+pub returns-then-as_slice-number : goal.returns-then-as_slice-number
+returns-then-as_slice-number c =
+    let o = c.args.open.now in
+    let built = c.graft_classes.new.built in
+    let g = subst (λ z. AreGathered o c.args.node 0 z c.args.parts.now.items c.graft_classes.new.parts.items built) c.as_slice-classes.ensures (c.in_ok-graft_classes.ensures.answer.0 c.if-not-branch.false) in
+    node_again o c.args.node c.args.steps.now c.args.parts.now.items c.graft_classes.new.parts.items built g (ap (λ z. get_or z c.args.node false) (sym c.as_slice.ensures) ∙ c.if-as_slice-number.true)
 
 pub returns-then-branch : goal.returns-then-branch
 returns-then-branch c =

@@ -2,8 +2,11 @@ use Rattle.std.proofs.Common.{◌≡◌, ◌+◌, ◌∙◌, length, get_or, fal
 use Rattle.std.proofs.lemmas.Option.{slice_get_read}
 use Rattle.in_simple.specs.Checking.{OnStep}
 use Rattle.in_simple.proofs.Sums.{not_both}
-use Rattle.in_simple.proofs.VerifyRun.{AreBuilt, built_more, built_refused, built_whole, whole_built}
+use Rattle.in_simple.proofs.VerifyRun.{AreBuilt, built_start, built_more, built_refused, built_whole, whole_built}
 use Rattle.in_simple.proofs.verifying.verify.Goals as goal
+
+pub loop-step-init : goal.loop-step-init
+loop-step-init c = built_start c.args.open.now c.args.derivation.now.steps c.new-parts.result.items c.new-parts.ensures.items
 
 pub returns-in-None : goal.returns-in-None
 returns-in-None c =
