@@ -11,17 +11,17 @@ length_app : {X : Type 0} (xs ys : List X) → length (xs ++ ys) ≡ length xs +
 length_app [] ys = omega arith
 length_app (x ∷ xs) ys = let r = length_app xs ys in omega arith
 
-get_app : {X : Type 0} (xs ys : List X) (i : ℕ) (x : X) → slice_get xs i ≡ Some x → slice_get (xs ++ ys) i ≡ Some x
+pub get_app : {X : Type 0} (xs ys : List X) (i : ℕ) (x : X) → slice_get xs i ≡ Some x → slice_get (xs ++ ys) i ≡ Some x
 get_app [] ys i x h = cc
 get_app (y ∷ xs) ys zero x h = h
 get_app (y ∷ xs) ys (suc i) x h = get_app xs ys i x h
 
-get_past : {X : Type 0} (xs ys : List X) (i j : ℕ) (x : X) → j ≡ length xs + i → slice_get ys i ≡ Some x → slice_get (xs ++ ys) j ≡ Some x
+pub get_past : {X : Type 0} (xs ys : List X) (i j : ℕ) (x : X) → j ≡ length xs + i → slice_get ys i ≡ Some x → slice_get (xs ++ ys) j ≡ Some x
 get_past [] ys i j x e h = let f : j ≡ i = omega arith in subst (λ z. slice_get ys z ≡ Some x) (sym f) h
 get_past (y ∷ xs) ys i zero x e h = absurd (omega arith)
 get_past (y ∷ xs) ys i (suc j) x e h = get_past xs ys i j x (omega arith) h
 
-get_cases : {X : Type 0} (xs ys : List X) (j : ℕ) (x : X) → slice_get (xs ++ ys) j ≡ Some x → (slice_get xs j ≡ Some x) ⊎ ((i : ℕ) × (j ≡ length xs + i) × (slice_get ys i ≡ Some x))
+pub get_cases : {X : Type 0} (xs ys : List X) (j : ℕ) (x : X) → slice_get (xs ++ ys) j ≡ Some x → (slice_get xs j ≡ Some x) ⊎ ((i : ℕ) × (j ≡ length xs + i) × (slice_get ys i ≡ Some x))
 get_cases [] ys j x h = inr (j, omega arith, h)
 get_cases (y ∷ xs) ys zero x h = inl h
 get_cases (y ∷ xs) ys (suc j) x h = elim (get_cases xs ys j x h) [ inl e ↦ inl e | inr r ↦ let e = r.1 in inr (r.0, omega arith, r.2) ]
@@ -30,7 +30,7 @@ times_app : (n : ℕ) (xs ys : List ℕ) → times n (xs ++ ys) ≡ times n xs +
 times_app n [] ys = omega arith
 times_app n (x ∷ xs) ys = let r = times_app n xs ys in omega arith
 
-times_in_app : (f : Step → List ℕ) (n : ℕ) (xs ys : List Step) → times_in f n (xs ++ ys) ≡ times_in f n xs + times_in f n ys
+pub times_in_app : (f : Step → List ℕ) (n : ℕ) (xs ys : List Step) → times_in f n (xs ++ ys) ≡ times_in f n xs + times_in f n ys
 times_in_app f n [] ys = omega arith
 times_in_app f n (x ∷ xs) ys = let r = times_in_app f n xs ys in omega arith
 
@@ -70,7 +70,7 @@ share_app (x ∷ xs) ys s t f g = (
   share_app xs ys s.2 t (λ n h k. f n (or_right (x.nodes n) (nodes_of xs n) h) k) (λ w h k. g w (or_right (x.links w) (links_of xs w) h) k),
 )
 
-different_of : (ns : List ℕ) → ((j : ℕ) → times j ns ≤ 1) → AreDifferent ns
+pub different_of : (ns : List ℕ) → ((j : ℕ) → times j ns ≤ 1) → AreDifferent ns
 different_of [] h = tt
 different_of (n ∷ ns) h = (
   not_true (is_among n ns) (λ a. let t = times_among n ns a in let u = h n in let v = one_same n n refl in omega arith),

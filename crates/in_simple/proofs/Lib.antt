@@ -24,6 +24,11 @@ pub mod SplittingPorts
 pub mod StuckNodes
 pub mod Sums
 pub mod TextRules
+pub mod VerifyGraft
+pub mod VerifyMade
+pub mod VerifyRun
+pub mod VerifySets
+pub mod VerifyTaken
 pub mod Whole
 pub mod WireNet
 pub mod Working

@@ -4,16 +4,16 @@ use Rattle.std.proofs.Math.ListN.{set}
 use Rattle.std.proofs.lemmas.List.{length-set}
 use Rattle.in_simple.specs.declared.verifying.Built.{Built}
 use Rattle.in_simple.specs.Derivations.{Step, named, one_if, times, times_in}
-use Rattle.in_simple.specs.Checking.{left_of, left_at, Takes, AreNamedOnce}
+use Rattle.in_simple.specs.Checking.{left_of, left_at, Takes}
 use Rattle.in_simple.proofs.Sums.{some_same, one_same, one_other}
 use Rattle.in_simple.proofs.Links.{same_nat}
 
-get_set_same : {X : Type 0} (xs : List X) (i : ℕ) (y : X) → i < length xs → slice_get (set xs i y) i ≡ Some y
+pub get_set_same : {X : Type 0} (xs : List X) (i : ℕ) (y : X) → i < length xs → slice_get (set xs i y) i ≡ Some y
 get_set_same [] i y l = absurd (omega arith)
 get_set_same (x ∷ xs) zero y l = refl
 get_set_same (x ∷ xs) (suc i) y l = get_set_same xs i y (omega arith)
 
-get_set_other : {X : Type 0} (xs : List X) (i j : ℕ) (y : X) → j ≢ i → slice_get (set xs i y) j ≡ slice_get xs j
+pub get_set_other : {X : Type 0} (xs : List X) (i j : ℕ) (y : X) → j ≢ i → slice_get (set xs i y) j ≡ slice_get xs j
 get_set_other [] i j y d = refl
 get_set_other (x ∷ xs) zero zero y d = absurd (d refl)
 get_set_other (x ∷ xs) zero (suc j) y d = refl
@@ -39,16 +39,6 @@ take_one parts k b l h = record {
 pub take_none : (parts : List (Option Built)) → Takes [] parts parts
 take_none parts = record { size = refl; each = λ i. omega arith }
 
-times_more : (i : ℕ) (xs ys : List ℕ) → times i (xs ++ ys) ≡ times i xs + times i ys
-times_more i [] ys = omega arith
-times_more i (x ∷ xs) ys = let r = times_more i xs ys in omega arith
-
-pub take_two : (ns ms : List ℕ) (a b c : List (Option Built)) → Takes ns a b → Takes ms b c → Takes (ns ++ ms) a c
-take_two ns ms a b c h k = record {
-  size = k.size ∙ h.size;
-  each = λ i. let t = times_more i ns ms in let x = h.each i in let y = k.each i in omega arith;
-}
-
 pub take_more : {X : Type 0} (xs : List X) (k : ℕ) (x : X) → slice_get xs k ≡ Some x → take (suc k) xs ≡ take k xs ++ x ∷ []
 take_more [] k x h = cc
 take_more (y ∷ xs) zero x h = ap (λ z. z ∷ []) (some_same (Some y) y x refl h)
@@ -57,7 +47,7 @@ take_more (y ∷ xs) (suc k) x h = ap (λ z. y ∷ z) (take_more xs k x h)
 pub take_next : {X : Type 0} (xs : List X) (k : ℕ) (x : X) → slice_get xs k ≡ Some x → take (k + 1) xs ≡ take k xs ++ x ∷ []
 take_next xs k x h = let e : suc k ≡ k + 1 = omega arith in subst (λ z. take z xs ≡ take k xs ++ x ∷ []) e (take_more xs k x h)
 
-take_whole : {X : Type 0} (xs : List X) (k : ℕ) → length xs ≤ k → take k xs ≡ xs
+pub take_whole : {X : Type 0} (xs : List X) (k : ℕ) → length xs ≤ k → take k xs ≡ xs
 take_whole [] zero h = refl
 take_whole [] (suc k) h = refl
 take_whole (x ∷ xs) zero h = absurd (omega arith)
@@ -67,7 +57,7 @@ times_in_more : (i : ℕ) (xs ys : List Step) → times_in named i (xs ++ ys) �
 times_in_more i [] ys = omega arith
 times_in_more i (x ∷ xs) ys = let r = times_in_more i xs ys in omega arith
 
-left_app : (parts : List (Option Built)) (b : Built) (i : ℕ) → left_at (parts ++ Some b ∷ []) i ≡ left_at parts i + one_if i (length parts)
+pub left_app : (parts : List (Option Built)) (b : Built) (i : ℕ) → left_at (parts ++ Some b ∷ []) i ≡ left_at parts i + one_if i (length parts)
 left_app [] b zero = refl
 left_app [] b (suc i) = let o = one_other (suc i) 0 (λ e. omega arith) in omega arith
 left_app (x ∷ xs) b zero = let o = one_other 0 (suc (length xs)) (λ e. omega arith) in omega arith
@@ -104,14 +94,3 @@ left_more steps k parts parts' step b h e t = record {
         let d = times_in_more i (take k steps) (step ∷ []) in
         let g = t.each i in
         omega arith
-
-pub left_end : (steps : List Step) (k : ℕ) (parts : List (Option Built)) → AreLeft steps k parts → length steps ≤ k → k ≤ length steps → 0 < length parts → ((i : ℕ) → suc i < length parts → left_at parts i ≡ 0) → AreNamedOnce steps
-left_end steps k parts h l m some none = record {
-  some = let a = h.size in omega arith;
-  named_once = λ i b.
-      let a = h.size in
-      let x = h.below i (omega arith) in
-      let y = none i (omega arith) in
-      let z : times_in named i (take k steps) ≡ times_in named i steps = ap (times_in named i) (take_whole steps k l) in
-      omega arith;
-}

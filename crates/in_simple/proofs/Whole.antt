@@ -53,6 +53,22 @@ times_some f n (y ∷ ys) h = elim (true_or_false (is_among n (f y))) [
       (suc r.0, r.1, r.2, r.3)
 ]
 
+module _ (o : OpenNet) where
+  -- the nodes that are a step's own stand in one step
+  pub is_node : (step : Step) (n : ℕ) (xs : List Part) (x : Part) → Joins o step xs x → is_among n (own_nodes step) ≡ true → IsNode o n
+  is_node Empty n xs x j h = cc
+  is_node (Link l) n xs x j h = cc
+  is_node (Given m) n xs x j h = elim (or_cases (nat_eq n m) false h) [
+    | inl e ↦ let k = some_of IsClassNode (slice_get o.nodes m) j.0 in subst (λ z. z < length o.nodes) (sym (eqb-true n m e)) (slice_get_within o.nodes m k.0 k.1)
+    | inr e ↦ cc
+  ]
+  is_node (Graft m is) n xs x j h = elim (or_cases (nat_eq n m) false h) [
+    | inl e ↦ let k = some_of IsAgentNode (slice_get o.nodes m) j.0.agent in subst (λ z. z < length o.nodes) (sym (eqb-true n m e)) (slice_get_within o.nodes m k.0 k.1)
+    | inr e ↦ cc
+  ]
+  is_node (Cut l a b) n xs x j h = cc
+  is_node (Mix a b) n xs x j h = cc
+
 module _ (o : OpenNet) (net : IsOpenNet o) (steps : List Step) (d : IsDerivation o steps) where
   -- a node of a part stands in a step up to it
   stands : (b k : ℕ) → k < b → (step : Step) → slice_get steps k ≡ Some step → (x : Part) → slice_get d.parts k ≡ Some x → (m : ℕ) → IsIn m x.nodes → (j : ℕ) × (j ≤ k) × (y : Step) × (slice_get steps j ≡ Some y) × (is_among m (own_nodes y) ≡ true)
@@ -81,21 +97,6 @@ module _ (o : OpenNet) (net : IsOpenNet o) (steps : List Step) (d : IsDerivation
   all_good k (i ∷ is) [] e f = absurd e
   all_good k (i ∷ is) (x ∷ xs) e f = (f i x e.0 e.1, all_good k is xs e.2 f)
 
-  -- the nodes that are a step's own stand in one step
-  is_node : (step : Step) (n : ℕ) (xs : List Part) (x : Part) → Joins o step xs x → is_among n (own_nodes step) ≡ true → IsNode o n
-  is_node Empty n xs x j h = cc
-  is_node (Link l) n xs x j h = cc
-  is_node (Given m) n xs x j h = elim (or_cases (nat_eq n m) false h) [
-    | inl e ↦ let k = some_of IsClassNode (slice_get o.nodes m) j.0 in subst (λ z. z < length o.nodes) (sym (eqb-true n m e)) (slice_get_within o.nodes m k.0 k.1)
-    | inr e ↦ cc
-  ]
-  is_node (Graft m is) n xs x j h = elim (or_cases (nat_eq n m) false h) [
-    | inl e ↦ let k = some_of IsAgentNode (slice_get o.nodes m) j.0.agent in subst (λ z. z < length o.nodes) (sym (eqb-true n m e)) (slice_get_within o.nodes m k.0 k.1)
-    | inr e ↦ cc
-  ]
-  is_node (Cut l a b) n xs x j h = cc
-  is_node (Mix a b) n xs x j h = cc
-
   good_below : (b k : ℕ) → k < b → (step : Step) → slice_get steps k ≡ Some step → (x : Part) → slice_get d.parts k ≡ Some x → IsGood o net x
   good_below zero k l step e x g = absurd (omega arith)
   good_below (suc b) k l step e x g =
@@ -111,7 +112,7 @@ module _ (o : OpenNet) (net : IsOpenNet o) (steps : List Step) (d : IsDerivation
       let j = stands (suc i.0) i.0 (omega arith) s.0 s.1 f.1 i.2 n f.3 in
       let jl = j.1 in
       let two = times_two own_nodes n steps j.0 k j.2 step (omega arith) j.3 e j.4 a in
-      let one = d.node_once n (is_node step n build.from r.0 build.joins a) in
+      let one = d.node_once n (is_node o step n build.from r.0 build.joins a) in
       omega arith) in
       subst (IsGood o net) (some_same (slice_get d.parts k) r.0 x r.1 g) (
         step_balanced o d.parts k step build.from r.0 build.earlier build.apart (all_balanced o net build.from good) build.joins fresh build.nodes,
@@ -148,7 +149,7 @@ module _ (o : OpenNet) (net : IsOpenNet o) (steps : List Step) (d : IsDerivation
           (λ h.
               let t = stands (length steps) (length steps - 1) (omega arith) s.0 s.1 r.0 r.1 n h in
               let u = d.each t.0 t.2 t.3 in
-              is_node t.2 n u.2.from u.0 u.2.joins t.4),
+              is_node o t.2 n u.2.from u.0 u.2.joins t.4),
           λ h.
               let once = d.node_once n h in
               let t = times_some own_nodes n steps (omega arith) in

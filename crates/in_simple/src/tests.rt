@@ -70,3 +70,26 @@ fn other_steps_do_not_build_a_wire(rt: HostRuntime) -> Result<(), Fail> {
     assert!(rt; !is_derivation(alloc, grafted)?);
     Ok(())
 }
+
+#[test]
+fn steps_that_do_not_fit_build_no_wire(rt: HostRuntime) -> Result<(), Fail> {
+    let alloc = rt.alloc();
+    let mut cut = Items::new(alloc);
+    cut.push(Step::Link { wire: 0 })?;
+    cut.push(Step::Empty)?;
+    cut.push(Step::Cut {
+        wire: 0,
+        a: 0,
+        b: 1,
+    })?;
+    assert!(rt; !is_derivation(alloc, cut)?);
+    let mut shared = Items::new(alloc);
+    shared.push(Step::Link { wire: 0 })?;
+    shared.push(Step::Link { wire: 0 })?;
+    shared.push(Step::Mix { a: 0, b: 1 })?;
+    assert!(rt; !is_derivation(alloc, shared)?);
+    let mut given = Items::new(alloc);
+    given.push(Step::Given { node: 0 })?;
+    assert!(rt; !is_derivation(alloc, given)?);
+    Ok(())
+}

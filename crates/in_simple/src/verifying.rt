@@ -1,116 +1,170 @@
-ghost use Rattle.std.specs.Prelude.{◌≡◌, ◌<◌, ◌*◌, ◌^◌, ℕ, suc, [], ◌∷◌, length, IsTrue, IfOk};
-ghost use Rattle.in_simple.specs.Checking.{AreNamedOnce, IsSized, OnBuilt, OnSomeSized, OnTaken, Takes, left_at};
-ghost use Rattle.in_simple.specs.Derivations.{named};
+ghost use Rattle.std.specs.Prelude.{◌≡◌, ◌↔◌, ◌+◌, ◌<◌, ◌^◌, ℕ, length, slice_get, Some, IsTrue, IfOk, OnOk, OnErr};
+ghost use Rattle.in_simple.specs.Checking.{AreAll, AreBeside, AreGathered, AreRefused, AreSized, HasClass, HasFreeEnds, IsClassRefused, IsClassTaken, IsFrom, IsGraftedTo, IsInClass, IsJoint, IsLast, IsLed, IsNothing, IsOpenAt, IsSized, IsSum, IsUnion, IsWhole, LacksSome, OnAlone, OnGraftEnd, OnGraftWire, OnPair, OnStep, OnTaken, ShareOne, Shares, Tells, ends_at, left_at};
+ghost use Rattle.in_simple.specs.Derivations.{Cut, Given, Graft, Link, Mix, is_auxiliary, is_free, is_port_in, is_principal, IsDerivation};
+ghost use Rattle.in_simple.specs.OpenNets.{IsAgent, IsClass, IsOrderly, IsPointOf, classes_of};
+ghost use Rattle.in_simple.specs.Procedure.{nodes_in};
 
 use crate::components::none;
-use crate::derivations::{Derivation, Step};
+use crate::derivations::{Derivation, Step, StepNumbers};
 use crate::open_nets::{OpenNet, Point};
 use sqlite_items::Items;
 use std::alloc::{AllocError, Global};
 
-/// What a step builds: its nodes, the wires of its Links, and how many open ends it has for each point of a wire, two a wire.
+/// What a step builds: its nodes, the wires of its Links, and for each wire how many open ends it has for the two points.
 #[derive(Drop)]
 pub(crate) struct Built {
     pub(crate) nodes: Items<bool>,
     pub(crate) links: Items<bool>,
-    pub(crate) ends: Items<u32>,
+    pub(crate) ends: Items<(u32, u32)>,
 }
 
 /// No end.
-fn no_ends(alloc: Global, count: usize) -> Result<Items<u32>, AllocError>
-    ensures { IfOk result (λ ends. length ends ≡ count) }
+fn no_ends(alloc: Global, count: usize) -> Result<Items<(u32, u32)>, AllocError>
+    ensures count { IfOk result (λ ends. length ends ≡ count) }
+    ensures none { IfOk result (λ ends. (w : ℕ) → ends_at ends w ≡ (0, 0)) }
 {
     let mut ends = Items::new(alloc);
-    for end in 0..count {
-        ends.push(0)?;
+    for wire in 0..count {
+        ends.push((0, 0))?;
     }
     Ok(ends)
 }
 
 /// Nothing.
 fn nothing(alloc: Global, open: &OpenNet) -> Result<Built, AllocError>
-    ensures { IfOk result (IsSized «open».now) }
+    ensures { IfOk result (IsNothing «open».now) }
 {
     let wires = open.wires();
     Ok(Built {
         nodes: none(alloc, open.nodes() as usize)?,
         links: none(alloc, wires)?,
-        ends: no_ends(alloc, 2 * wires)?,
+        ends: no_ends(alloc, wires)?,
     })
 }
 
-/// Adds to one set the members of another of the same size; or answers that they share one.
-fn unite(set: &mut Items<bool>, more: &Items<bool>) -> bool
-    requires { length more.now ≡ length set.old }
-    ensures { length set.new ≡ length set.old }
+/// Whether two sets share a member.
+fn share(one: &Items<bool>, other: &Items<bool>) -> bool
+    requires { length one.now ≡ length other.now }
+    ensures { IsTrue result ↔ Shares one.now other.now }
 {
-    for member in 0..more.len() {
-        if more.as_slice()[member] {
-            if set.as_slice()[member] {
-                return false;
-            }
-            set.set(member, true);
+    for member in 0..one.len() {
+        if one.as_slice()[member] && other.as_slice()[member] {
+            return true;
         }
     }
-    true
+    false
 }
 
-/// Adds the numbers of ends. Too many to be counted are no memory.
-fn add_ends(ends: &mut Items<u32>, more: &Items<u32>) -> Result<(), AllocError>
-    requires { length more.now ≡ length ends.old }
-    ensures { length ends.new ≡ length ends.old }
+/// Adds to one set the members of another of the same size.
+fn unite(more: &Items<bool>, set: &mut Items<bool>)
+    requires { length more.now ≡ length set.old }
+    ensures size { length set.new ≡ length set.old }
+    ensures union { IsUnion more.now set.old set.new }
 {
-    for end in 0..more.len() {
-        match ends.as_slice()[end].checked_add(more.as_slice()[end]) {
-            Some(sum) => ends.set(end, sum),
-            None => return Err(AllocError),
-        }
+    for member in 0..more.len() {
+        let is_in = more.as_slice()[member] || set.as_slice()[member];
+        set.set(member, is_in);
+    }
+}
+
+/// The sum of two numbers of ends. Too many to be counted are no memory.
+fn sum_of(one: u32, other: u32) -> Result<u32, AllocError>
+    ensures { IfOk result (λ sum. sum ≡ one + other) }
+{
+    match one.checked_add(other) {
+        Some(sum) => Ok(sum),
+        None => Err(AllocError),
+    }
+}
+
+/// Adds the numbers of ends.
+fn add_ends(more: &Items<(u32, u32)>, ends: &mut Items<(u32, u32)>) -> Result<(), AllocError>
+    requires { length more.now ≡ length ends.old }
+    ensures size { length ends.new ≡ length ends.old }
+    ensures sum { OnOk result (IsSum more.now ends.old ends.new) }
+{
+    for wire in 0..more.len() {
+        let (more_first, more_second) = more.as_slice()[wire];
+        let (first, second) = ends.as_slice()[wire];
+        ends.set(
+            wire,
+            (sum_of(more_first, first)?, sum_of(more_second, second)?),
+        );
     }
     Ok(())
 }
 
-/// Puts two side by side; or answers that they share a node or a Link.
-fn beside(open: &OpenNet, built: &mut Built, more: &Built) -> Result<bool, AllocError>
-    requires built { IsSized «open».now built.old }
+/// Puts one beside another; or answers that they share a node or a Link.
+fn beside(open: &OpenNet, more: &Built, built: &mut Built) -> Result<bool, AllocError>
     requires more { IsSized «open».now more.now }
-    ensures { IsSized «open».now built.new }
+    requires built { IsSized «open».now built.old }
+    ensures sized { IsSized «open».now built.new }
+    ensures beside { IfOk result (λ yes. Tells yes (AreBeside more.now built.old built.new) (ShareOne more.now built.old)) }
 {
-    if unite(&mut built.nodes, &more.nodes) && unite(&mut built.links, &more.links) {
-        add_ends(&mut built.ends, &more.ends)?;
-        Ok(true)
-    } else {
-        Ok(false)
+    if share(&more.nodes, &built.nodes) {
+        return Ok(false);
     }
+    if share(&more.links, &built.links) {
+        return Ok(false);
+    }
+    unite(&more.nodes, &mut built.nodes);
+    unite(&more.links, &mut built.links);
+    add_ends(&more.ends, &mut built.ends)?;
+    Ok(true)
 }
 
-/// Whether the point is a port of one of these nodes.
-fn is_port_of(point: Point, nodes: &Items<bool>) -> bool {
+/// 1 for a port of one of these nodes.
+fn port_in(nodes: &Items<bool>, point: Point) -> u32
+    ensures { result ≡ is_port_in (nodes_in nodes.now) point }
+{
     match point {
-        Point::Port(node, _) => nodes.get(node as usize).is_some_and(|is_in| *is_in),
-        Point::Free(_) => false,
+        Point::Port(node, _) => match nodes.get(node as usize) {
+            Some(is_in) => u32::from(*is_in),
+            None => 0,
+        },
+        Point::Free(_) => 0,
     }
 }
 
-/// Whether the point is the node's principal port.
-fn is_principal(point: Point, node: u32) -> bool {
-    matches!(point, Point::Port(owner, place) if owner == node && place == 0)
+/// 1 for the node's principal port.
+fn principal(node: u32, point: Point) -> u32
+    ensures { result ≡ is_principal node point }
+{
+    match point {
+        Point::Port(owner, place) => { if place == 0 && node == owner { 1 } else { 0 } }
+        Point::Free(_) => 0,
+    }
 }
 
-/// Whether the point is another port of the node.
-fn is_auxiliary(point: Point, node: u32) -> bool {
-    matches!(point, Point::Port(owner, place) if owner == node && place > 0)
+/// 1 for another port of the node.
+fn auxiliary(node: u32, point: Point) -> u32
+    ensures { result ≡ is_auxiliary node point }
+{
+    match point {
+        Point::Port(owner, place) => { if place != 0 && node == owner { 1 } else { 0 } }
+        Point::Free(_) => 0,
+    }
+}
+
+/// 1 for a free end.
+fn free(point: Point) -> u32
+    ensures { result ≡ is_free point }
+{
+    match point {
+        Point::Port(_, _) => 0,
+        Point::Free(_) => 1,
+    }
 }
 
 /// A wire by itself.
 fn link(alloc: Global, open: &OpenNet, wire: u32) -> Result<Option<Built>, AllocError>
-    ensures { IfOk result (OnSomeSized «open».now) }
+    ensures { IfOk result (OnAlone «open».now (Link wire)) }
 {
     let number = wire as usize;
     if number < open.wires() {
         let mut built = nothing(alloc, open)?;
         built.links.set(number, true);
-        built.ends.set(2 * number, 1);
-        built.ends.set(2 * number + 1, 1);
+        built.ends.set(number, (1, 1));
         Ok(Some(built))
     } else {
         Ok(None)
@@ -118,95 +172,76 @@ fn link(alloc: Global, open: &OpenNet, wire: u32) -> Result<Option<Built>, Alloc
 }
 
 /// An end for each far point of a wire at one of these nodes.
-fn lead(open: &OpenNet, built: &mut Built)
-    requires { IsSized «open».now built.old }
-    ensures { IsSized «open».now built.new }
+fn lead(open: &OpenNet, nodes: &Items<bool>, ends: &mut Items<(u32, u32)>)
+    requires { length ends.old ≡ length «open».now.wires }
+    ensures size { length ends.new ≡ length ends.old }
+    ensures led { IsLed «open».now (nodes_in nodes.now) ends.new (length «open».now.wires) }
 {
     for wire in 0..open.wires() {
         let (one, other) = open.wire(wire);
-        if is_port_of(other, &built.nodes) {
-            built.ends.set(2 * wire, 1);
-        }
-        if is_port_of(one, &built.nodes) {
-            built.ends.set(2 * wire + 1, 1);
-        }
+        ends.set(wire, (port_in(nodes, other), port_in(nodes, one)));
     }
+}
+
+/// Whether there is a class node of that number.
+fn is_class_node(open: &OpenNet, node: u32) -> bool
+    ensures within { IsTrue result → node < length «open».now.nodes }
+    ensures class { IsTrue result ↔ IsClass «open».now node }
+{
+    node < open.nodes() && !open.is_agent(node as usize)
 }
 
 /// A class node.
 fn given(alloc: Global, open: &OpenNet, node: u32) -> Result<Option<Built>, AllocError>
-    ensures { IfOk result (OnSomeSized «open».now) }
+    ensures { IfOk result (OnAlone «open».now (Given node)) }
 {
-    let number = node as usize;
-    if node < open.nodes() && !open.is_agent(number) {
+    if is_class_node(open, node) {
         let mut built = nothing(alloc, open)?;
-        built.nodes.set(number, true);
-        lead(open, &mut built);
+        built.nodes.set(node as usize, true);
+        lead(open, &built.nodes, &mut built.ends);
         Ok(Some(built))
     } else {
         Ok(None)
     }
 }
 
-/// One end less; or answers that there is none.
-fn remove_end(ends: &mut Items<u32>, end: usize) -> bool
-    requires { end < length ends.old }
-    ensures { length ends.new ≡ length ends.old }
+/// Whether a point is a port of these nodes, and there are ends for the far point and for it.
+fn is_from(nodes: &Items<bool>, point: Point, far: u32, near: u32) -> bool
+    ensures { IsTrue result ↔ IsFrom nodes.now point far near }
 {
-    let count = ends.as_slice()[end];
-    if count > 0 {
-        ends.set(end, count - 1);
-        true
-    } else {
-        false
-    }
-}
-
-/// One end more. Too many to be counted are no memory.
-fn add_end(ends: &mut Items<u32>, end: usize) -> Result<(), AllocError>
-    requires { end < length ends.old }
-    ensures { length ends.new ≡ length ends.old }
-{
-    match ends.as_slice()[end].checked_add(1) {
-        Some(sum) => ends.set(end, sum),
-        None => return Err(AllocError),
-    }
-    Ok(())
+    port_in(nodes, point) == 1 && far > 0 && near > 0
 }
 
 /// Whether one has the port at an end of the wire, and each an end for the other's point.
 fn is_joint(open: &OpenNet, wire: usize, a: &Built, b: &Built) -> bool
     requires wire { wire < length «open».now.wires }
-    requires small { length «open».now.wires < 2 ^ 32 }
     requires a { IsSized «open».now a.now }
     requires b { IsSized «open».now b.now }
+    ensures { IsTrue result ↔ IsJoint «open».now wire a.now b.now }
 {
     let (one, other) = open.wire(wire);
-    let low = 2 * wire;
-    let from_one = is_port_of(one, &a.nodes)
-        && a.ends.as_slice()[low + 1] > 0
-        && b.ends.as_slice()[low] > 0;
-    let from_other = is_port_of(other, &a.nodes)
-        && a.ends.as_slice()[low] > 0
-        && b.ends.as_slice()[low + 1] > 0;
-    from_one || from_other
+    let (a_first, a_second) = a.ends.as_slice()[wire];
+    let (b_first, b_second) = b.ends.as_slice()[wire];
+    is_from(&a.nodes, one, a_second, b_first) || is_from(&a.nodes, other, a_first, b_second)
 }
 
 /// Two joined along a wire.
 fn cut(open: &OpenNet, wire: u32, a: Built, b: Built) -> Result<Option<Built>, AllocError>
     requires a { IsSized «open».now a }
     requires b { IsSized «open».now b }
-    ensures { IfOk result (OnSomeSized «open».now) }
+    ensures { IfOk result (OnPair «open».now (Cut wire) a b) }
 {
     let number = wire as usize;
-    if number >= open.wires() || !is_joint(open, number, &a, &b) {
+    if number >= open.wires() {
         return Ok(None);
     }
-    let mut built = a;
-    if beside(open, &mut built, &b)?
-        && remove_end(&mut built.ends, 2 * number)
-        && remove_end(&mut built.ends, 2 * number + 1)
-    {
+    if !is_joint(open, number, &a, &b) {
+        return Ok(None);
+    }
+    let mut built = b;
+    if beside(open, &a, &mut built)? {
+        let (first, second) = built.ends.as_slice()[number];
+        built.ends.set(number, (first - 1, second - 1));
         Ok(Some(built))
     } else {
         Ok(None)
@@ -217,117 +252,126 @@ fn cut(open: &OpenNet, wire: u32, a: Built, b: Built) -> Result<Option<Built>, A
 fn mix(open: &OpenNet, a: Built, b: Built) -> Result<Option<Built>, AllocError>
     requires a { IsSized «open».now a }
     requires b { IsSized «open».now b }
-    ensures { IfOk result (OnSomeSized «open».now) }
+    ensures { IfOk result (OnPair «open».now Mix a b) }
 {
-    let mut built = a;
-    if beside(open, &mut built, &b)? {
+    let mut built = b;
+    if beside(open, &a, &mut built)? {
         Ok(Some(built))
     } else {
         Ok(None)
     }
 }
 
-/// Whether a label is a port of the node in this class.
+/// Whether a point is a port of the node in this class.
 fn is_in_class(open: &OpenNet, point: Point, node: u32, class: usize) -> bool
-    requires { node < length «open».now.nodes }
+    requires node { node < length «open».now.nodes }
+    requires point { IsPointOf «open».now point }
+    ensures { IsTrue result ↔ IsInClass «open».now node class point }
 {
     match point {
         Point::Port(owner, place) => {
-            owner == node
-                && (place as usize) < open.ports(node as usize)
-                && open.class(node as usize, place as usize) == class
+            owner == node && open.class(node as usize, place as usize) == class
         }
         Point::Free(_) => false,
     }
+}
+
+/// Whether there is an end for the point, if it is a port of the node in this class.
+fn is_open_for(open: &OpenNet, point: Point, count: u32, node: u32, class: usize) -> bool
+    requires node { node < length «open».now.nodes }
+    requires point { IsPointOf «open».now point }
+    ensures { IsTrue result ↔ (IsInClass «open».now node class point → 0 < count) }
+{
+    count > 0 || !is_in_class(open, point, node, class)
+}
+
+/// The same for both points of a wire.
+fn is_open_at(open: &OpenNet, wire: usize, ends: (u32, u32), node: u32, class: usize) -> bool
+    requires net { IsOrderly «open».now }
+    requires wire { wire < length «open».now.wires }
+    requires node { node < length «open».now.nodes }
+    ensures { IsTrue result ↔ IsOpenAt «open».now node class wire ends }
+{
+    let (one, other) = open.wire(wire);
+    is_open_for(open, one, ends.0, node, class) && is_open_for(open, other, ends.1, node, class)
 }
 
 /// Whether there is an end for each port of the node in this class.
 fn has_class(open: &OpenNet, built: &Built, node: u32, class: usize) -> bool
     requires built { IsSized «open».now built.now }
     requires node { node < length «open».now.nodes }
+    ensures { IsTrue result ↔ HasClass «open».now node class built.now }
 {
     for wire in 0..open.wires() {
-        let (one, other) = open.wire(wire);
-        let low = 2 * wire;
-        if is_in_class(open, one, node, class) && built.ends.as_slice()[low] == 0 {
-            return false;
-        }
-        if is_in_class(open, other, node, class) && built.ends.as_slice()[low + 1] == 0 {
+        if !is_open_at(open, wire, built.ends.as_slice()[wire], node, class) {
             return false;
         }
     }
     true
 }
 
-/// The end for one point of a wire, of which the other point may be the node's principal port, after a graft.
-fn graft_end(
-    ends: &mut Items<u32>,
-    end: usize,
-    label: Point,
-    far: Point,
-    node: u32,
-) -> Result<bool, AllocError>
-    requires { end < length ends.old }
-    ensures { length ends.new ≡ length ends.old }
+/// How many ends for a point are left when the node is joined to one for its auxiliary port, and its principal port at the
+/// far point is open; none, if there is no end to be joined to.
+fn graft_end(count: u32, point: Point, far: Point, node: u32) -> Result<Option<u32>, AllocError>
+    ensures { IfOk result (OnGraftEnd node point far count) }
 {
-    if is_principal(far, node) {
-        add_end(ends, end)?;
-    }
-    if is_auxiliary(label, node) {
-        Ok(remove_end(ends, end))
+    let sum = sum_of(count, principal(node, far))?;
+    let less = auxiliary(node, point);
+    if less <= sum {
+        Ok(Some(sum - less))
     } else {
-        Ok(true)
+        Ok(None)
+    }
+}
+
+/// The same for both points of a wire.
+fn graft_wire(
+    ends: (u32, u32),
+    one: Point,
+    other: Point,
+    node: u32,
+) -> Result<Option<(u32, u32)>, AllocError>
+    ensures { IfOk result (OnGraftWire node one other ends) }
+{
+    match graft_end(ends.0, one, other, node)? {
+        Some(first) => match graft_end(ends.1, other, one, node)? {
+            Some(second) => Ok(Some((first, second))),
+            None => Ok(None),
+        },
+        None => Ok(None),
     }
 }
 
 /// The node's auxiliary ports are joined to the ends for them, and its principal port is open.
-fn graft_ends(open: &OpenNet, built: &mut Built, node: u32) -> Result<bool, AllocError>
-    requires { IsSized «open».now built.old }
-    ensures { IsSized «open».now built.new }
+fn graft_ends(open: &OpenNet, ends: &mut Items<(u32, u32)>, node: u32) -> Result<bool, AllocError>
+    requires { length ends.old ≡ length «open».now.wires }
+    ensures size { length ends.new ≡ length ends.old }
+    ensures grafted { IfOk result (λ yes. Tells yes (IsGraftedTo «open».now node ends.old ends.new (length «open».now.wires)) (LacksSome «open».now node ends.old)) }
 {
     for wire in 0..open.wires() {
         let (one, other) = open.wire(wire);
-        let low = 2 * wire;
-        if !graft_end(&mut built.ends, low, one, other, node)? {
-            return Ok(false);
-        }
-        if !graft_end(&mut built.ends, low + 1, other, one, node)? {
+        if let Some(left) = graft_wire(ends.as_slice()[wire], one, other, node)? {
+            ends.set(wire, left);
+        } else {
             return Ok(false);
         }
     }
     Ok(true)
 }
 
-/// Whether it has a place for each node and each wire.
-fn is_sized(open: &OpenNet, built: &Built) -> bool
-    ensures { IsTrue result → IsSized «open».now built.now }
-{
-    built.nodes.len() == open.nodes() as usize
-        && built.links.len() == open.wires()
-        && built.ends.len() == 2 * open.wires()
-}
-
 /// What an earlier step built, where no step named it before.
-fn taken(open: &OpenNet, parts: &mut Vec<Option<Built>>, step: u32) -> Option<Built>
-    ensures { OnTaken «open».now step parts.old.items parts.new.items result }
+fn taken(parts: &mut Vec<Option<Built>>, step: u32) -> Option<Built>
+    ensures { OnTaken step parts.old.items parts.new.items result }
 {
     let number = step as usize;
-    if number >= parts.len() {
-        return None;
-    }
-    match parts[number].take() {
-        Some(built) => {
-            if is_sized(open, &built) {
-                Some(built)
-            } else {
-                None
-            }
-        }
-        None => None,
+    if number < parts.len() {
+        parts[number].take()
+    } else {
+        None
     }
 }
 
-/// The next class of a graft, beside those before it.
+/// One more class of a graft, beside those after it.
 fn graft_class(
     open: &OpenNet,
     parts: &mut Vec<Option<Built>>,
@@ -336,15 +380,16 @@ fn graft_class(
     step: u32,
     class: usize,
 ) -> Result<bool, AllocError>
+    requires parts { AreSized «open».now parts.old.items }
     requires built { IsSized «open».now built.old }
     requires node { node < length «open».now.nodes }
     ensures sized { IsSized «open».now built.new }
-    ensures takes { IfOk result (λ yes. IsTrue yes → Takes (step ∷ []) parts.old.items parts.new.items) }
+    ensures answer { IfOk result (λ yes. Tells yes (IsClassTaken «open».now node class step parts.old.items parts.new.items built.old built.new) (IsClassRefused «open».now node class step parts.old.items built.old)) }
 {
-    match taken(open, parts, step) {
+    match taken(parts, step) {
         Some(more) => {
             if has_class(open, &more, node, class) {
-                let apart = beside(open, built, &more)?;
+                let apart = beside(open, &more, built)?;
                 Ok(apart)
             } else {
                 Ok(false)
@@ -354,7 +399,7 @@ fn graft_class(
     }
 }
 
-/// The classes of a graft side by side.
+/// The classes of a graft side by side, the last one first.
 fn graft_classes(
     open: &OpenNet,
     parts: &mut Vec<Option<Built>>,
@@ -362,17 +407,28 @@ fn graft_classes(
     node: u32,
     steps: &[u32],
 ) -> Result<bool, AllocError>
-    requires built { IsSized «open».now built.old }
+    requires parts { AreSized «open».now parts.old.items }
+    requires built { IsNothing «open».now built.old }
     requires node { node < length «open».now.nodes }
     ensures sized { IsSized «open».now built.new }
-    ensures takes { IfOk result (λ yes. IsTrue yes → Takes steps.now parts.old.items parts.new.items) }
+    ensures answer { IfOk result (λ yes. Tells yes (AreGathered «open».now node 0 steps.now parts.old.items parts.new.items built.new) (AreRefused «open».now node 0 steps.now parts.old.items)) }
 {
-    for class in 0..steps.len() {
-        if !graft_class(open, parts, built, node, steps[class], class + 1)? {
+    let mut class = steps.len();
+    while class > 0 {
+        if !graft_class(open, parts, built, node, steps[class - 1], class)? {
             return Ok(false);
         }
+        class -= 1;
     }
     Ok(true)
+}
+
+/// Whether there is an agent of that number, with so many classes of auxiliary ports.
+fn is_agent_with(open: &OpenNet, node: u32, classes: usize) -> bool
+    ensures within { IsTrue result → node < length «open».now.nodes }
+    ensures agent { IsTrue result ↔ (IsAgent «open».now node × (classes ≡ classes_of «open».now node)) }
+{
+    node < open.nodes() && open.is_agent(node as usize) && classes == open.classes(node as usize)
 }
 
 /// An agent, joined to the steps of its classes.
@@ -381,20 +437,25 @@ fn graft(
     open: &OpenNet,
     parts: &mut Vec<Option<Built>>,
     node: u32,
-    steps: &[u32],
+    steps: &StepNumbers,
 ) -> Result<Option<Built>, AllocError>
-    ensures { IfOk result (OnBuilt steps.now parts.old.items parts.new.items) }
+    requires { AreSized «open».now parts.old.items }
+    ensures { IfOk result (OnStep «open».now (Graft node steps.now) parts.old.items parts.new.items) }
 {
     let number = node as usize;
-    if node >= open.nodes() || !open.is_agent(number) || steps.len() != open.classes(number) {
+    let classes = steps.as_slice();
+    if !is_agent_with(open, node, classes.len()) {
         return Ok(None);
     }
     let mut built = nothing(alloc, open)?;
-    if !graft_classes(open, parts, &mut built, node, steps)? || built.nodes.as_slice()[number] {
+    if !graft_classes(open, parts, &mut built, node, classes)? {
+        return Ok(None);
+    }
+    if built.nodes.as_slice()[number] {
         return Ok(None);
     }
     built.nodes.set(number, true);
-    if graft_ends(open, &mut built, node)? {
+    if graft_ends(open, &mut built.ends, node)? {
         Ok(Some(built))
     } else {
         Ok(None)
@@ -409,11 +470,12 @@ fn cut_of(
     a: u32,
     b: u32,
 ) -> Result<Option<Built>, AllocError>
-    ensures { IfOk result (OnBuilt (a ∷ b ∷ []) parts.old.items parts.new.items) }
+    requires { AreSized «open».now parts.old.items }
+    ensures { IfOk result (OnStep «open».now (Cut wire a b) parts.old.items parts.new.items) }
 {
-    match taken(open, parts, a) {
-        Some(first) => match taken(open, parts, b) {
-            Some(second) => Ok(cut(open, wire, first, second)?),
+    match taken(parts, b) {
+        Some(second) => match taken(parts, a) {
+            Some(first) => Ok(cut(open, wire, first, second)?),
             None => Ok(None),
         },
         None => Ok(None),
@@ -427,11 +489,12 @@ fn mix_of(
     a: u32,
     b: u32,
 ) -> Result<Option<Built>, AllocError>
-    ensures { IfOk result (OnBuilt (a ∷ b ∷ []) parts.old.items parts.new.items) }
+    requires { AreSized «open».now parts.old.items }
+    ensures { IfOk result (OnStep «open».now (Mix a b) parts.old.items parts.new.items) }
 {
-    match taken(open, parts, a) {
-        Some(first) => match taken(open, parts, b) {
-            Some(second) => Ok(mix(open, first, second)?),
+    match taken(parts, b) {
+        Some(second) => match taken(parts, a) {
+            Some(first) => Ok(mix(open, first, second)?),
             None => Ok(None),
         },
         None => Ok(None),
@@ -445,54 +508,75 @@ fn built_by(
     parts: &mut Vec<Option<Built>>,
     step: &Step,
 ) -> Result<Option<Built>, AllocError>
-    ensures { IfOk result (OnBuilt (named step.now) parts.old.items parts.new.items) }
+    requires { AreSized «open».now parts.old.items }
+    ensures { IfOk result (OnStep «open».now step.now parts.old.items parts.new.items) }
 {
     match step {
         Step::Empty => Ok(Some(nothing(alloc, open)?)),
         Step::Link { wire } => Ok(link(alloc, open, *wire)?),
         Step::Given { node } => Ok(given(alloc, open, *node)?),
-        Step::Graft { node, classes } => {
-            Ok(graft(alloc, open, parts, *node, classes.as_slice())?)
-        }
+        Step::Graft { node, classes } => Ok(graft(alloc, open, parts, *node, classes)?),
         Step::Cut { wire, a, b } => Ok(cut_of(open, parts, *wire, *a, *b)?),
         Step::Mix { a, b } => Ok(mix_of(open, parts, *a, *b)?),
-    }
-}
-
-/// Whether the end's number is right for the whole open net: one for a free end, and none for a port.
-fn is_end(label: Point, count: u32) -> bool {
-    match label {
-        Point::Port(_, _) => count == 0,
-        Point::Free(_) => count == 1,
     }
 }
 
 /// Whether the open ends are the free ends.
 fn has_free_ends(open: &OpenNet, built: &Built) -> bool
     requires { IsSized «open».now built.now }
+    ensures { IsTrue result ↔ HasFreeEnds «open».now built.now (length «open».now.wires) }
 {
     for wire in 0..open.wires() {
         let (one, other) = open.wire(wire);
-        let ends = built.ends.as_slice();
-        if !is_end(one, ends[2 * wire]) || !is_end(other, ends[2 * wire + 1]) {
+        let (first, second) = built.ends.as_slice()[wire];
+        if first != free(one) || second != free(other) {
             return false;
         }
     }
     true
 }
 
+/// Whether all are in the set.
+fn are_all(set: &Items<bool>) -> bool
+    ensures { IsTrue result ↔ AreAll set.now (length set.now) }
+{
+    for member in 0..set.len() {
+        if !set.as_slice()[member] {
+            return false;
+        }
+    }
+    true
+}
+
+/// Whether no step is left.
+fn is_none_left(parts: &Vec<Option<Built>>) -> bool
+    ensures { IsTrue result ↔ ((i : ℕ) → left_at parts.now.items i ≡ 0) }
+{
+    for part in parts {
+        if part.is_some() {
+            return false;
+        }
+    }
+    true
+}
+
+/// Whether the last step built all of the open net, and no other is left.
+fn is_last(open: &OpenNet, last: &Built, others: &Vec<Option<Built>>) -> bool
+    requires { IsSized «open».now last.now }
+    ensures { IsTrue result ↔ IsLast «open».now last.now others.now.items }
+{
+    has_free_ends(open, last) && are_all(&last.nodes) && is_none_left(others)
+}
+
 /// Whether the last step built all of the open net, and all others are named.
 fn is_whole(open: &OpenNet, parts: &mut Vec<Option<Built>>) -> bool
-    ensures some { IsTrue result → 0 < length parts.old.items }
-    ensures named { IsTrue result → (i : ℕ) → suc i < length parts.old.items → left_at parts.old.items i ≡ 0 }
+    requires { AreSized «open».now parts.old.items }
+    ensures whole { IsTrue result ↔ IsWhole «open».now parts.old.items }
+    ensures net { IsOrderly «open».now }
 {
+    let wires = open.wires();
     match parts.pop() {
-        Some(Some(last)) => {
-            is_sized(open, &last)
-                && has_free_ends(open, &last)
-                && last.nodes.as_slice().iter().all(|is_in| *is_in)
-                && parts.iter().all(|part| part.is_none())
-        }
+        Some(Some(last)) => is_last(open, &last, parts),
         _ => false,
     }
 }
@@ -501,7 +585,7 @@ fn is_whole(open: &OpenNet, parts: &mut Vec<Option<Built>>) -> bool
 /// in one step, and the last one's open ends are the free ends. Refused for want of memory alone. What a step builds is this
 /// project's own choice, over Lafont 1990's constructions.
 pub fn verify(alloc: Global, derivation: &Derivation, open: &OpenNet) -> Result<bool, AllocError>
-    ensures { IfOk result (λ yes. IsTrue yes → AreNamedOnce derivation.now.steps) }
+    ensures { IfOk result (λ yes. IsTrue yes ↔ IsDerivation «open».now derivation.now.steps) }
 {
     let mut parts: Vec<Option<Built>> = Vec::new(alloc);
     for step in derivation.steps.as_slice() {

@@ -1,5 +1,5 @@
-use Rattle.std.proofs.Common.{◌≡◌, length}
+use Rattle.in_simple.proofs.VerifySets.{IsAddedTo}
 use Rattle.in_simple.proofs.verifying.add_ends.Given as goal
 
-abbrev pub invariant-loop-end : goal.invariant-loop-end
-invariant-loop-end l = length l.ends ≡ length l.initial.ends
+abbrev pub invariant-loop-wire : goal.invariant-loop-wire
+invariant-loop-wire l = IsAddedTo l.more l.initial.ends l.ends l.wire

@@ -1,16 +1,32 @@
-use Rattle.std.proofs.Common.{[], ◌∷◌, take, get_or, sym, subst, arith}
-use Rattle.std.proofs.lemmas.Option.{slice_get-get_or}
-use Rattle.in_simple.specs.Checking.{Takes}
-use Rattle.in_simple.proofs.Named.{take_two, take_next}
+use Rattle.std.proofs.Common.{false, refl, arith}
+use Rattle.in_simple.proofs.Sums.{not_both}
+use Rattle.in_simple.proofs.VerifyGraft.{classes_start, classes_more, classes_refused}
+use Rattle.in_simple.proofs.VerifyTaken.{taken_sized}
 use Rattle.in_simple.proofs.verifying.graft_classes.Goals as goal
+
+pub loop-class-init : goal.loop-class-init
+loop-class-init c = record {
+  within = omega arith;
+  parts = c.requires.parts;
+  sized = c.requires.built.sized;
+  gathered = classes_start c.args.open.now c.args.node c.args.steps.now c.args.parts.now.items c.args.built.now c.requires.built;
+}
+
+pub returns-then-not-branch-clause-answer : goal.returns-then-not-branch-clause-answer
+returns-then-not-branch-clause-answer c = (
+  (λ e. absurd (not_both false e refl)),
+  λ e. classes_refused c.args.open.now c.args.node c.args.steps.now c.args.parts.now.items c.loop-class.parts.items c.loop-class.built c.loop-class.class c.loop-class-test.true c.loop-class.invariant.within c.loop-class.invariant.gathered
+      (c.in_ok-graft_class.ensures.answer.1 c.if-not-branch.true),
+)
 
 pub loop-class-preserved : goal.loop-class-preserved
 loop-class-preserved c =
-    let xs = c.args.steps.now in
-    let k = c.loop-class.class in
-    let e = take_next xs k (get_or xs k 0) (slice_get-get_or xs k 0 (let a = c.loop-class-test.true in omega arith)) in
+    let o = c.args.open.now in
+    let t = c.in_ok-graft_class.ensures.answer.0 c.if-not-branch.false in
+    let w = c.loop-class.invariant.within in
     record {
+      within = omega arith;
+      parts = taken_sized o _ c.loop-class.parts.items c.graft_class.new.parts.items t.0 t.1 c.loop-class.invariant.parts;
       sized = c.graft_class.ensures.sized;
-      takes = subst (λ z. Takes z c.args.parts.now.items c.graft_class.new.parts.items) (sym e)
-          (take_two (take k xs) (get_or xs k 0 ∷ []) c.args.parts.now.items c.loop-class.parts.items c.graft_class.new.parts.items c.loop-class.invariant.takes (c.in_ok-graft_class.ensures.takes c.if-not-branch.false));
+      gathered = classes_more o c.args.node c.args.steps.now c.args.parts.now.items c.loop-class.parts.items c.graft_class.new.parts.items c.loop-class.built c.graft_class.new.built c.loop-class.class c.loop-class-test.true w c.loop-class.invariant.gathered t;
     }

@@ -1,5 +1,5 @@
-use Rattle.std.proofs.Common.{◌≡◌, length}
+use Rattle.in_simple.proofs.VerifySets.{IsUnitedTo}
 use Rattle.in_simple.proofs.verifying.unite.Given as goal
 
 abbrev pub invariant-loop-member : goal.invariant-loop-member
-invariant-loop-member l = length l.set ≡ length l.initial.set
+invariant-loop-member l = IsUnitedTo l.more l.initial.set l.set l.member
