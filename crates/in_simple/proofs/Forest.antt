@@ -7,30 +7,30 @@ use Rattle.in_simple.proofs.Sums.{or_cases, or_left, or_right, not_both, not_tru
 use Rattle.in_simple.proofs.Links.{same_nat, at_most}
 use Rattle.in_simple.proofs.Whole.{times_among}
 
-length_app : {X : Type 0} (xs ys : List X) → length (xs ++ ys) ≡ length xs + length ys
+pub length_app : {X : Type 0} (xs ys : List X) → length (xs ++ ys) ≡ length xs + length ys
 length_app [] ys = omega arith
 length_app (x ∷ xs) ys = let r = length_app xs ys in omega arith
 
-get_app : {X : Type 0} (xs ys : List X) (i : ℕ) (x : X) → slice_get xs i ≡ Some x → slice_get (xs ++ ys) i ≡ Some x
+pub get_app : {X : Type 0} (xs ys : List X) (i : ℕ) (x : X) → slice_get xs i ≡ Some x → slice_get (xs ++ ys) i ≡ Some x
 get_app [] ys i x h = cc
 get_app (y ∷ xs) ys zero x h = h
 get_app (y ∷ xs) ys (suc i) x h = get_app xs ys i x h
 
-get_past : {X : Type 0} (xs ys : List X) (i j : ℕ) (x : X) → j ≡ length xs + i → slice_get ys i ≡ Some x → slice_get (xs ++ ys) j ≡ Some x
+pub get_past : {X : Type 0} (xs ys : List X) (i j : ℕ) (x : X) → j ≡ length xs + i → slice_get ys i ≡ Some x → slice_get (xs ++ ys) j ≡ Some x
 get_past [] ys i j x e h = let f : j ≡ i = omega arith in subst (λ z. slice_get ys z ≡ Some x) (sym f) h
 get_past (y ∷ xs) ys i zero x e h = absurd (omega arith)
 get_past (y ∷ xs) ys i (suc j) x e h = get_past xs ys i j x (omega arith) h
 
-get_cases : {X : Type 0} (xs ys : List X) (j : ℕ) (x : X) → slice_get (xs ++ ys) j ≡ Some x → (slice_get xs j ≡ Some x) ⊎ ((i : ℕ) × (j ≡ length xs + i) × (slice_get ys i ≡ Some x))
+pub get_cases : {X : Type 0} (xs ys : List X) (j : ℕ) (x : X) → slice_get (xs ++ ys) j ≡ Some x → (slice_get xs j ≡ Some x) ⊎ ((i : ℕ) × (j ≡ length xs + i) × (slice_get ys i ≡ Some x))
 get_cases [] ys j x h = inr (j, omega arith, h)
 get_cases (y ∷ xs) ys zero x h = inl h
 get_cases (y ∷ xs) ys (suc j) x h = elim (get_cases xs ys j x h) [ inl e ↦ inl e | inr r ↦ let e = r.1 in inr (r.0, omega arith, r.2) ]
 
-times_app : (n : ℕ) (xs ys : List ℕ) → times n (xs ++ ys) ≡ times n xs + times n ys
+pub times_app : (n : ℕ) (xs ys : List ℕ) → times n (xs ++ ys) ≡ times n xs + times n ys
 times_app n [] ys = omega arith
 times_app n (x ∷ xs) ys = let r = times_app n xs ys in omega arith
 
-times_in_app : (f : Step → List ℕ) (n : ℕ) (xs ys : List Step) → times_in f n (xs ++ ys) ≡ times_in f n xs + times_in f n ys
+pub times_in_app : (f : Step → List ℕ) (n : ℕ) (xs ys : List Step) → times_in f n (xs ++ ys) ≡ times_in f n xs + times_in f n ys
 times_in_app f n [] ys = omega arith
 times_in_app f n (x ∷ xs) ys = let r = times_in_app f n xs ys in omega arith
 
@@ -56,7 +56,7 @@ earlier_more parts k l h [] (x ∷ xs) e = e
 earlier_more parts k l h (i ∷ is) [] e = e
 earlier_more parts k l h (i ∷ is) (x ∷ xs) e = let a = e.0 in (omega arith, e.1, earlier_more parts k l h is xs e.2)
 
-earlier_app : (parts : List Part) (k : ℕ) (is : List ℕ) (xs : List Part) (js : List ℕ) (ys : List Part) → AreEarlier parts k is xs → AreEarlier parts k js ys → AreEarlier parts k (is ++ js) (xs ++ ys)
+pub earlier_app : (parts : List Part) (k : ℕ) (is : List ℕ) (xs : List Part) (js : List ℕ) (ys : List Part) → AreEarlier parts k is xs → AreEarlier parts k js ys → AreEarlier parts k (is ++ js) (xs ++ ys)
 earlier_app parts k [] [] js ys e f = f
 earlier_app parts k [] (x ∷ xs) js ys e f = absurd e
 earlier_app parts k (i ∷ is) [] js ys e f = absurd e
@@ -70,7 +70,7 @@ share_app (x ∷ xs) ys s t f g = (
   share_app xs ys s.2 t (λ n h k. f n (or_right (x.nodes n) (nodes_of xs n) h) k) (λ w h k. g w (or_right (x.links w) (links_of xs w) h) k),
 )
 
-different_of : (ns : List ℕ) → ((j : ℕ) → times j ns ≤ 1) → AreDifferent ns
+pub different_of : (ns : List ℕ) → ((j : ℕ) → times j ns ≤ 1) → AreDifferent ns
 different_of [] h = tt
 different_of (n ∷ ns) h = (
   not_true (is_among n ns) (λ a. let t = times_among n ns a in let u = h n in let v = one_same n n refl in omega arith),

@@ -6,6 +6,7 @@ pub mod Derives
 pub mod EachSplits
 pub mod Forest
 pub mod Grow
+pub mod Joining
 pub mod Links
 pub mod Make
 pub mod Named
@@ -20,6 +21,7 @@ pub mod Search
 pub mod Slots
 pub mod Sound
 pub mod SplittingPorts
+pub mod Stacking
 pub mod Sums
 pub mod TextRules
 pub mod Whole

@@ -8,4 +8,5 @@ pub mod OpeningRules
 pub mod Outcomes
 pub mod Procedure
 pub mod Splitting
+pub mod Stacks
 pub mod Stuck
