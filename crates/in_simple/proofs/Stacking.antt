@@ -1,12 +1,13 @@
 -- A joint turns one stack of nets into another.
-use Rattle.std.proofs.Common.{◌≡◌, ◌≤◌, ◌+◌, ℕ, zero, suc, Bool, cond, Some, List, [], ◌∷◌, ◌++◌, length, slice_get, refl, sym, subst, ap, inl, inr, ◌∙◌, arith}
+use Rattle.std.proofs.Common.{◌≡◌, ◌⊎◌, ◌-◌, drop, Result, Ok, Err, OnOk, ◌≤◌, ◌+◌, ℕ, zero, suc, Bool, cond, Some, List, [], ◌∷◌, ◌++◌, length, slice_get, refl, sym, subst, ap, inl, inr, ◌∙◌, append_assoc, arith}
 use Rattle.in_simple.specs.declared.plans.Joint.{Joint}
+use Rattle.in_simple.specs.declared.plans.Joint.TheVariants as joint
 use Rattle.in_simple.specs.declared.plans.Task.{Task}
 use Rattle.in_simple.specs.declared.plans.Task.TheVariants.{Derive, Make}
 use Rattle.in_simple.specs.OpenNets.{OpenNet}
-use Rattle.in_simple.specs.Derivations.{Step, Part, named, own_nodes, is_among, nodes_of, ShareNothing, AreDifferent, AreEarlier, Builds, times}
+use Rattle.in_simple.specs.Derivations.{Step, Part, named, own_nodes, is_among, nodes_of, ShareNothing, AreDifferent, AreEarlier, Builds, times, Graft, Cut, Mix}
 use Rattle.in_simple.specs.Procedure.{nodes_in}
-use Rattle.in_simple.specs.Stacks.{Shape, shape, no_wires, HasShape, HaveShapes, times_node, IsStack, step_of, Makes, BuildsOver, Fits, Runs}
+use Rattle.in_simple.specs.Stacks.{Shape, shape, no_wires, HasShape, HaveShapes, times_node, IsStack, step_of, over_two, IsLast, AreLast, Makes, BuildsOver, Fits, Runs, IsUnderWay}
 use Rattle.in_simple.proofs.Sums.{some_same, one_same, one_other}
 use Rattle.in_simple.proofs.Links.{same_nat, at_most}
 use Rattle.in_simple.proofs.Forest.{length_app, get_app, get_past, get_cases, times_app, times_in_app, earlier_app, different_of, or_sum}
@@ -227,3 +228,78 @@ module _ (o : OpenNet) where
 
   pub runs_derive : (ts : List Task) (c : List Bool) (a b : List Shape) → Runs o ts a b → Runs o (ts ++ Derive c ∷ []) a (b ++ shape (nodes_in c) no_wires ∷ [])
   runs_derive ts c a b r = runs_app ts (Derive c ∷ []) a b (b ++ shape (nodes_in c) no_wires ∷ []) r refl
+
+-- ---- what a step takes
+
+pub drop_past : {X : Type 0} (xs ys : List X) (k : ℕ) → k ≡ length xs → drop k (xs ++ ys) ≡ ys
+drop_past [] ys k e = ap (λ z. drop z ys) e
+drop_past (x ∷ xs) ys zero e = absurd (omega arith)
+drop_past (x ∷ xs) ys (suc k) e = drop_past xs ys k (omega arith)
+
+abbrev Made : (List ℕ → Step) → List Step → List ℕ → List Step → List ℕ → List ℕ → List ℕ → Type 0
+Made f s r s' r' below names = (s' ≡ s ++ f names ∷ []) × (r' ≡ below ++ length s ∷ [])
+
+take_two : (f : ℕ → ℕ → Step) (s : List Step) (r r1 r2 : List ℕ) (s' : List Step) (r' : List ℕ) (a b : ℕ) → IsLast b r r1 → IsLast a r1 r2 → s' ≡ s ++ f a b ∷ [] → r' ≡ r2 ++ length s ∷ [] → (below names : List ℕ) → r ≡ below ++ names → length names ≡ 2 → Made (over_two f) s r s' r' below names
+take_two f s r r1 r2 s' r' a b p q h k below [] e l = absurd (omega arith)
+take_two f s r r1 r2 s' r' a b p q h k below (x ∷ []) e l = absurd (omega arith)
+take_two f s r r1 r2 s' r' a b p q h k below (x ∷ y ∷ z ∷ zs) e l = absurd (omega arith)
+take_two f s r r1 r2 s' r' a b (inr p) q h k below (x ∷ y ∷ []) e l = let u = ap length (sym p.0 ∙ e) in let v = length_app below (x ∷ y ∷ []) in absurd (omega arith)
+take_two f s r r1 r2 s' r' a b (inl p) (inr q) h k below (x ∷ y ∷ []) e l =
+    let u = ap length (sym p ∙ e) in
+    let v = length_app below (x ∷ y ∷ []) in
+    let w = length_app r1 (b ∷ []) in
+    let t = ap length q.0 in
+    absurd (omega arith)
+take_two f s r r1 r2 s' r' a b (inl p) (inl q) h k below (x ∷ y ∷ []) e l =
+    let one = app_same r1 (below ++ x ∷ []) (b ∷ []) (y ∷ []) (sym p ∙ e ∙ sym (append_assoc below (x ∷ []) (y ∷ []))) refl in
+    let two = app_same r2 below (a ∷ []) (x ∷ []) (sym q ∙ one.0) refl in
+    let eb : b ≡ y = some_same (slice_get (b ∷ []) 0) b y refl (ap (λ z. slice_get z 0) one.1) in
+    let ea : a ≡ x = some_same (slice_get (a ∷ []) 0) a x refl (ap (λ z. slice_get z 0) two.1) in
+    (h ∙ ap (λ z. s ++ f z b ∷ []) ea ∙ ap (λ z. s ++ f x z ∷ []) eb, k ∙ ap (λ z. z ++ length s ∷ []) two.0)
+
+take_many : (n count : ℕ) (s : List Step) (r r2 last : List ℕ) (s' : List Step) (r' : List ℕ) → last ≡ drop (length r - count) r → AreLast count r r2 → s' ≡ s ++ Graft n last ∷ [] → r' ≡ r2 ++ length s ∷ [] → (below names : List ℕ) → r ≡ below ++ names → length names ≡ count → Made (λ z. Graft n z) s r s' r' below names
+take_many n count s r r2 last s' r' d g h k below names e l =
+    (h ∙ ap (λ z. s ++ Graft n z ∷ []) same, k ∙ ap (λ z. z ++ length s ∷ []) (front g.2))
+  where
+    sizes : length r ≡ length below + length names
+    sizes = ap length e ∙ length_app below names
+
+    same : last ≡ names
+    same = let u = sizes in d ∙ ap (λ z. drop (length r - count) z) e ∙ drop_past below names (length r - count) (omega arith)
+
+    front : (length g.0 ≡ count) ⊎ ((r2 ≡ []) × (length g.0 ≤ count)) → r2 ≡ below
+    front (inl m) = (app_same r2 below g.0 names (sym g.1 ∙ e) (m ∙ sym l)).0
+    front (inr m) =
+        let u = sizes in
+        let v = ap length g.1 in
+        let w = length_app r2 g.0 in
+        let x = ap length m.0 in
+        m.0 ∙ sym (empty below (omega arith))
+      where
+        empty : (xs : List ℕ) → length xs ≡ 0 → xs ≡ []
+        empty [] z = refl
+        empty (y ∷ ys) z = absurd (omega arith)
+
+pub makes_graft : (j : Joint) (n count : ℕ) (s : List Step) (r r2 last : List ℕ) (s' : List Step) (r' : List ℕ) → j ≡ joint.Graft n count → last ≡ drop (length r - count) r → AreLast count r r2 → s' ≡ s ++ Graft n last ∷ [] → r' ≡ r2 ++ length s ∷ [] → Makes j s r s' r'
+makes_graft j n count s r r2 last s' r' e d g h k = subst (λ z. Makes z s r s' r') (sym e) (λ below names. take_many n count s r r2 last s' r' d g h k below names)
+
+pub makes_cut : (j : Joint) (w : ℕ) (s : List Step) (r r1 r2 : List ℕ) (s' : List Step) (r' : List ℕ) (a b : ℕ) → j ≡ joint.Cut w → IsLast b r r1 → IsLast a r1 r2 → s' ≡ s ++ Cut w a b ∷ [] → r' ≡ r2 ++ length s ∷ [] → Makes j s r s' r'
+makes_cut j w s r r1 r2 s' r' a b e p q h k = subst (λ z. Makes z s r s' r') (sym e) (λ below names. take_two (Cut w) s r r1 r2 s' r' a b p q h k below names)
+
+pub makes_mix : (j : Joint) (s : List Step) (r r1 r2 : List ℕ) (s' : List Step) (r' : List ℕ) (a b : ℕ) → j ≡ joint.Mix → IsLast b r r1 → IsLast a r1 r2 → s' ≡ s ++ Mix a b ∷ [] → r' ≡ r2 ++ length s ∷ [] → Makes j s r s' r'
+makes_mix j s r r1 r2 s' r' a b e p q h k = subst (λ z. Makes z s r s' r') (sym e) (λ below names. take_two Mix s r r1 r2 s' r' a b p q h k below names)
+
+pub on_both : {A B : Type 0} (r : Result A B) (P Q R : Type 0) → (P → Q → R) → OnOk r P → OnOk r Q → OnOk r R
+on_both (Ok a) P Q R f p q = f p q
+on_both (Err e) P Q R f p q = tt
+
+-- ---- under way
+
+pub under_make : (o : OpenNet) (j : Joint) (ts : List Task) (s : List Step) (r : List ℕ) (s' : List Step) (r' : List ℕ) → Makes j s r s' r' → IsUnderWay o (Make j ∷ ts) s r → IsUnderWay o ts s' r'
+under_make o j ts s r s' r' m u = record {
+  whole = u.whole;
+  all = u.all;
+  shapes = u.runs.0 ++ u.runs.2 ∷ [];
+  stack = stack_make o j s r s' r' u.runs.0 u.runs.1 u.runs.2 (subst (λ z. IsStack o s r z) u.runs.3 u.stack) u.runs.4 m;
+  runs = u.runs.5;
+}

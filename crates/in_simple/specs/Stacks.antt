@@ -83,6 +83,14 @@ step_of (joint.Graft n count) names = Graft n names
 step_of (joint.Cut w) names = over_two (Cut w) names
 step_of joint.Mix names = over_two Mix names
 
+-- the last of these, and what is left of them; 0 where there is none
+abbrev pub IsLast : ℕ → List ℕ → List ℕ → Type 0
+IsLast n old new = (old ≡ new ++ n ∷ []) ⊎ ((old ≡ []) × (new ≡ []))
+
+-- so many of the last of these are gone, or all
+abbrev pub AreLast : ℕ → List ℕ → List ℕ → Type 0
+AreLast count old new = (gone : List ℕ) × (old ≡ new ++ gone) × ((length gone ≡ count) ⊎ ((new ≡ []) × (length gone ≤ count)))
+
 -- one more step, over the last ones that none names
 abbrev pub Makes : Joint → List Step → List ℕ → List Step → List ℕ → Type 0
 Makes j steps roots steps' roots' = (below names : List ℕ) → roots ≡ below ++ names → length names ≡ count_of j → (steps' ≡ steps ++ step_of j names ∷ []) × (roots' ≡ below ++ length steps ∷ [])

@@ -1,7 +1,8 @@
-ghost use Rattle.std.specs.Prelude.{◌≡◌, ◌<◌, ◌^◌, ◌++◌, ◌∷◌, [], length, reverse, true, IfOk, OnOk, MatchOption, MatchResult, ℕ};
+ghost use Rattle.std.specs.Prelude.{◌≡◌, ◌<◌, ◌-◌, ◌^◌, ◌++◌, ◌∷◌, [], drop, length, reverse, true, IfOk, OnOk, MatchOption, MatchResult, ℕ};
 ghost use Rattle.in_simple.specs.OpenNets.{IsDerivable, IsOrderly};
 ghost use Rattle.in_simple.specs.Procedure.{AreFewer, AreMakes, IsListed, IsStuckNet, IsUndone, IsWork, Passes, StartsWork, nodes_in};
 ghost use Rattle.in_simple.specs.Outcomes.{IsOutcome};
+ghost use Rattle.in_simple.specs.Stacks.{Advances, AreLast, IsLast, Makes};
 ghost use Rattle.in_simple.specs.declared.plans.Task.TheVariants.{Derive};
 
 use crate::derivations::{Derivation, Step, StepNumbers, Stuck, Undone};
@@ -21,7 +22,9 @@ pub(crate) struct Work {
 }
 
 /// The last of these, in their order.
-fn last_of(alloc: Global, roots: &Items<u32>, count: usize) -> Result<StepNumbers, AllocError> {
+fn last_of(alloc: Global, roots: &Items<u32>, count: usize) -> Result<StepNumbers, AllocError>
+    ensures { IfOk result (λ last. last ≡ drop (length roots.now - count) roots.now) }
+{
     let mut last = StepNumbers::new(alloc);
     let first = roots.len() - count.min(roots.len());
     for root in first..roots.len() {
@@ -33,7 +36,9 @@ fn last_of(alloc: Global, roots: &Items<u32>, count: usize) -> Result<StepNumber
 impl Work {
     /// The tasks come first.
     fn expand(&mut self, tasks: Items<Task>) -> Result<(), AllocError>
-        ensures { OnOk result (reverse self.new.tasks ≡ tasks ++ reverse self.old.tasks) }
+        ensures tasks { OnOk result (reverse self.new.tasks ≡ tasks ++ reverse self.old.tasks) }
+        ensures steps { self.new.steps ≡ self.old.steps }
+        ensures roots { self.new.roots ≡ self.old.roots }
     {
         let mut left = tasks;
         while let Some(task) = left.pop() {
@@ -44,7 +49,9 @@ impl Work {
 
     /// One more step. More than 4,294,967,296 of them are no memory.
     fn push(&mut self, step: Step) -> Result<(), AllocError>
-        ensures { self.new.tasks ≡ self.old.tasks }
+        ensures tasks { self.new.tasks ≡ self.old.tasks }
+        ensures steps { OnOk result (self.new.steps ≡ self.old.steps ++ step ∷ []) }
+        ensures roots { OnOk result (self.new.roots ≡ self.old.roots ++ length self.old.steps ∷ []) }
     {
         match u32::try_from(self.steps.len()) {
             Ok(number) => {
@@ -57,14 +64,18 @@ impl Work {
 
     /// The last step that none names.
     fn pop(&mut self) -> u32
-        ensures { self.new.tasks ≡ self.old.tasks }
+        ensures tasks { self.new.tasks ≡ self.old.tasks }
+        ensures steps { self.new.steps ≡ self.old.steps }
+        ensures roots { IsLast result self.old.roots self.new.roots }
     {
         self.roots.pop().unwrap_or(0)
     }
 
     /// Forgets the last steps that none names.
     fn forget(&mut self, count: usize)
-        ensures { self.new.tasks ≡ self.old.tasks }
+        ensures tasks { self.new.tasks ≡ self.old.tasks }
+        ensures steps { self.new.steps ≡ self.old.steps }
+        ensures roots { AreLast count self.old.roots self.new.roots }
     {
         for root in 0..count {
             self.pop();
@@ -73,7 +84,8 @@ impl Work {
 
     /// A step over the last ones that none names.
     fn make(&mut self, alloc: Global, joint: Joint) -> Result<(), AllocError>
-        ensures { self.new.tasks ≡ self.old.tasks }
+        ensures tasks { self.new.tasks ≡ self.old.tasks }
+        ensures made { OnOk result (Makes joint self.old.steps self.old.roots self.new.steps self.new.roots) }
     {
         match joint {
             Joint::Empty => self.push(Step::Empty),
@@ -99,9 +111,12 @@ impl Work {
 
     /// Makes steps until a part is to be derived.
     fn next_part(&mut self, alloc: Global) -> Result<Option<Items<bool>>, AllocError>
-        ensures { IfOk result (λ next. MatchOption next
+        ensures tasks { IfOk result (λ next. MatchOption next
             (Passes (reverse self.old.tasks) [])
             (λ part. Passes (reverse self.old.tasks) (Derive part ∷ reverse self.new.tasks))) }
+        ensures steps { IfOk result (λ next. MatchOption next
+            (Advances (reverse self.old.tasks) self.old.steps self.old.roots [] self.new.steps self.new.roots)
+            (λ part. Advances (reverse self.old.tasks) self.old.steps self.old.roots (Derive part ∷ reverse self.new.tasks) self.new.steps self.new.roots)) }
     {
         while let Some(task) = self.tasks.pop() {
             match task {

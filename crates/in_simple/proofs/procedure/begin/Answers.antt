@@ -11,5 +11,5 @@ none_more (t ∷ ts) = ap (λ z. t ∷ z) (none_more ts)
 pub returns : goal.returns
 returns c =
     let o = c.args.open.now in
-    let e = c.in_ok-expand.ensures ∙ ap (λ z. c.in_ok-tasks.tasks ++ reverse z) c.new.ensures ∙ none_more c.in_ok-tasks.tasks in
+    let e = c.in_ok-expand.ensures.tasks ∙ ap (λ z. c.in_ok-tasks.tasks ++ reverse z) c.new.ensures ∙ none_more c.in_ok-tasks.tasks in
     subst (λ z. IsWork o z) (sym e) (start_work o c.in_ok-tasks.tasks c.in_ok-tasks.ensures)

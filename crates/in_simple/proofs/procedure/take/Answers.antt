@@ -17,7 +17,7 @@ returns-in_ok-expand-in-Some c =
     let ps = c.in_ok-tasks-in-Some.tasks in
     let net = c.in_ok-node.ensures.net.net in
     let f = subst (λ z. MatchOption z (NoneSplits o part (length o.nodes)) (IsFirst o part)) c.in-Some.is c.in_ok-node.ensures.found in
-    let e = c.in_ok-expand-in-Some.ensures in
+    let e = c.in_ok-expand-in-Some.ensures.tasks in
     let t = c.in_ok-tasks-in-Some.ensures in (
       subst (λ z. IsWork o z) (sym e) (expand_work o net part n ps ts c.requires f t.lists t.sized),
       subst (λ z. AreFewer o (Derive part ∷ ts) z) (sym e) (expand_fewer o net part n ps ts c.requires f t.lists),
