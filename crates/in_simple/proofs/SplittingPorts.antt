@@ -71,11 +71,15 @@ module _ (o : OpenNet) (net : IsOpenNet o) where
     pub touched_class : (w l k : ℕ) (c : List Bool) → IsWire o w (Port n i) (Port l k) → IsReached o rest l c → PortSplits o rest n i → AreOfClass o c n (class_in o n i) (ports_of o n)
     touched_class w l k c h r s j b u m h' g m_in = sym (s.touched j w u l m k h' h g ((r m).0 m_in))
 
-  pub splits_all : (part rest : List Bool) (n : ℕ) → IsRest n part rest → SplitsAt (open_graph o) n (nodes_in part) → SplitsPorts o rest n (ports_of o n)
-  splits_all part rest n r s i b = record {
+  -- a port with no wire splits too
+  pub each_split : (part rest : List Bool) (n : ℕ) → IsRest n part rest → SplitsAt (open_graph o) n (nodes_in part) → (i : ℕ) → PortSplits o rest n i
+  each_split part rest n r s i = record {
     own = λ j w h. s.own i j (w, h);
     touched = λ j w v l m k h g g' link. s.touched i j l m k h (w, g) (v, g') (link_to (λ m. IsIn m (nodes_in rest)) (Without n (nodes_in part)) (λ k h. (r k).0 h) l m link);
   }
+
+  pub splits_all : (part rest : List Bool) (n : ℕ) → IsRest n part rest → SplitsAt (open_graph o) n (nodes_in part) → SplitsPorts o rest n (ports_of o n)
+  splits_all part rest n r s i b = each_split part rest n r s i
 
   pub all_split : (part rest : List Bool) (n : ℕ) → IsRest n part rest → SplitsPorts o rest n (ports_of o n) → SplitsAt (open_graph o) n (nodes_in part)
   all_split part rest n r all = record {

@@ -7,7 +7,7 @@ use Rattle.in_simple.specs.declared.plans.Task.TheVariants.{Derive, Make}
 use Rattle.in_simple.specs.OpenNets.{OpenNet}
 use Rattle.in_simple.specs.Derivations.{Step, Part, named, own_nodes, is_among, nodes_of, ShareNothing, AreDifferent, AreEarlier, Builds, times, Graft, Cut, Mix}
 use Rattle.in_simple.specs.Procedure.{nodes_in}
-use Rattle.in_simple.specs.Stacks.{Shape, shape, no_wires, HasShape, HaveShapes, times_node, IsStack, step_of, over_two, IsLast, AreLast, Makes, BuildsOver, Fits, Runs, IsUnderWay}
+use Rattle.in_simple.specs.Stacks.{Shape, shape, no_wires, HasShape, HaveShapes, times_node, IsStack, step_of, over_two, IsLast, AreLast, Makes, BuildsOver, Fits, Runs, Puts, loose_in, IsUnderWay}
 use Rattle.in_simple.proofs.Sums.{some_same, one_same, one_other}
 use Rattle.in_simple.proofs.Links.{same_nat, at_most}
 use Rattle.in_simple.proofs.Forest.{length_app, get_app, get_past, get_cases, times_app, times_in_app, earlier_app, different_of, or_sum}
@@ -302,4 +302,13 @@ under_make o j ts s r s' r' m u = record {
   shapes = u.runs.0 ++ u.runs.2 ∷ [];
   stack = stack_make o j s r s' r' u.runs.0 u.runs.1 u.runs.2 (subst (λ z. IsStack o s r z) u.runs.3 u.stack) u.runs.4 m;
   runs = u.runs.5;
+}
+
+pub under_derive : (o : OpenNet) (c : List Bool) (ps ts : List Task) (s : List Step) (r : List ℕ) → Puts o ps (shape (nodes_in c) no_wires ∷ []) → IsUnderWay o (Derive c ∷ ts) s r → IsUnderWay o (ps ++ ts) s r
+under_derive o c ps ts s r p u = record {
+  whole = u.whole;
+  all = u.all;
+  shapes = u.shapes;
+  stack = u.stack;
+  runs = runs_app o ps ts u.shapes (u.shapes ++ shape (nodes_in c) no_wires ∷ []) (shape u.whole (loose_in o) ∷ []) (p u.shapes) u.runs;
 }

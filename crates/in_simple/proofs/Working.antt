@@ -13,7 +13,7 @@ use Rattle.in_simple.proofs.Sums.{or_cases, or_left, or_right, or_false, not_bot
 use Rattle.in_simple.proofs.Links.{same_nat, at_most, link_first, link_back}
 use Rattle.in_simple.proofs.Reaching.{in_length}
 use Rattle.in_simple.proofs.Search.{count, count_less, comes_at, one_turn, turn_same, meet_same, without}
-use Rattle.in_simple.proofs.Both.{derivable_splits, splits_derivable, one_first_stuck}
+use Rattle.in_simple.proofs.Both.{derivable_splits, one_first_stuck}
 use Rattle.in_simple.proofs.Planning.{sized_more}
 
 -- ---- steps alone
@@ -185,9 +185,6 @@ module _ (o : OpenNet) (net : IsOpenNet o) where
 
   pub stuck_underivable : (t : ℕ → Bool) → IsFirstStuck o t → IsDerivable o → ⊥
   stuck_underivable t h d = (one_first_stuck o net t h).0 (derivable_splits o net d)
-
-  pub done_derivable : IsWork o [] → IsDerivable o
-  done_derivable w = splits_derivable o net (w.whole, w.nodes, w.splits tt)
 
 -- ---- lists of nodes
 

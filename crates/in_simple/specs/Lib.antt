@@ -6,6 +6,7 @@ pub mod OpenNets
 pub mod Opening
 pub mod OpeningRules
 pub mod Outcomes
+pub mod Planned
 pub mod Procedure
 pub mod Splitting
 pub mod Stacks

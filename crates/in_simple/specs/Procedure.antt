@@ -156,6 +156,7 @@ pub record IsPlan (o : OpenNet) (n : ℕ) (turn : ℕ) (p : Plan) : Type 0 where
   pub done : AreBefore o n (nodes_in p.rest) turn p.done
   pub sized : AreSized (length o.nodes) p.tasks
   pub lists : (more : List Task) → Lists o n (nodes_in p.rest) turn more → Lists o n (nodes_in p.rest) 0 (p.tasks ++ more)
+  pub splits : (i : ℕ) → PortSplits o p.rest n i
 
 -- .. and is for the same rest
 abbrev pub GoesOn : OpenNet → ℕ → ℕ → Plan → Plan → Type 0

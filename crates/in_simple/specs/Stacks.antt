@@ -1,6 +1,6 @@
 -- What the steps so far have built, and what the tasks that are left make of it. A net on the way is known by its nodes and by the
 -- wires of its Links that are open at both ends.
-use Rattle.std.specs.Prelude.{◌≡◌, ◌≢◌, ◌⊎◌, ◌↔◌, ℕ, ◌+◌, ◌-◌, ◌<◌, ◌≤◌, Bool, true, false, cond, ◌||◌, List, [], ◌∷◌, ◌++◌, length, slice_get, Option, Some, None}
+use Rattle.std.specs.Prelude.{◌≡◌, ◌≢◌, ◌⊎◌, ◌↔◌, ℕ, ◌+◌, ◌-◌, ◌<◌, ◌≤◌, Bool, true, false, cond, ◌||◌, ◌&&◌, nat_lt, List, [], ◌∷◌, ◌++◌, length, slice_get, Option, Some, None}
 use Rattle.in_simple.specs.declared.open_nets.Point.{Point}
 use Rattle.in_simple.specs.declared.open_nets.Point.TheVariants.{Port, Free}
 use Rattle.in_simple.specs.declared.plans.Joint.{Joint}
@@ -127,6 +127,31 @@ are_free (Some (Port n i, q)) = false
 
 abbrev pub loose_in : OpenNet → ℕ → Bool
 loose_in o w = are_free (slice_get o.wires w)
+
+-- .. and below a number
+abbrev pub loose_below : OpenNet → ℕ → ℕ → Bool
+loose_below o b w = nat_lt w b && loose_in o w
+
+-- what the Links are set beside: the net of all nodes, where it is begun
+abbrev pub begun_with : Bool → (ℕ → Bool) → List Shape
+begun_with true whole = shape whole no_wires ∷ []
+begun_with false whole = []
+
+abbrev pub NoneWhere : Bool → (ℕ → Bool) → Type 0
+NoneWhere begun whole = begun ≡ false → (n : ℕ) → whole n ≡ false
+
+-- the tasks set a Link of each loose wire below b beside what is begun; some says whether anything came yet
+abbrev pub SetsBeside : OpenNet → Bool → ℕ → Bool → List Task → Type 0
+SetsBeside o begun b true tasks = (whole : ℕ → Bool) → NoneWhere begun whole → Runs o tasks (begun_with begun whole) (shape whole (loose_below o b) ∷ [])
+SetsBeside o begun b false tasks = (begun ≡ false) × (tasks ≡ []) × ((w : ℕ) → w < b → loose_in o w ≡ false)
+
+-- the tasks make the net of all nodes from what is begun
+abbrev pub Ends : OpenNet → Bool → List Task → Type 0
+Ends o begun tasks = (whole : ℕ → Bool) → NoneWhere begun whole → Runs o tasks (begun_with begun whole) (shape whole (loose_in o) ∷ [])
+
+-- the tasks put nets of these shapes on any stack
+abbrev pub Puts : OpenNet → List Task → List Shape → Type 0
+Puts o tasks xs = (below : List Shape) → Runs o tasks below (below ++ xs)
 
 -- with these steps behind, the tasks come to a net of all nodes, with a Link of each wire between free ends
 pub record IsUnderWay (o : OpenNet) (tasks : List Task) (steps : List Step) (roots : List ℕ) : Type 0 where

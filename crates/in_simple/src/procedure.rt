@@ -1,8 +1,9 @@
 ghost use Rattle.std.specs.Prelude.{◌≡◌, ◌<◌, ◌-◌, ◌^◌, ◌++◌, ◌∷◌, [], drop, length, reverse, true, IfOk, OnOk, MatchOption, MatchResult, ℕ};
-ghost use Rattle.in_simple.specs.OpenNets.{IsDerivable, IsOrderly};
+ghost use Rattle.in_simple.specs.OpenNets.{IsOrderly};
+ghost use Rattle.in_simple.specs.Derivations.{IsDerivation};
 ghost use Rattle.in_simple.specs.Procedure.{AreFewer, AreMakes, IsListed, IsStuckNet, IsUndone, IsWork, Passes, StartsWork, nodes_in};
 ghost use Rattle.in_simple.specs.Outcomes.{IsOutcome};
-ghost use Rattle.in_simple.specs.Stacks.{Advances, AreLast, IsLast, Makes};
+ghost use Rattle.in_simple.specs.Stacks.{Advances, AreLast, Ends, IsLast, IsUnderWay, Makes, loose_in};
 ghost use Rattle.in_simple.specs.declared.plans.Task.TheVariants.{Derive};
 
 use crate::derivations::{Derivation, Step, StepNumbers, Stuck, Undone};
@@ -131,13 +132,15 @@ impl Work {
 /// Whether the wire is between two free ends.
 fn is_loose(open: &OpenNet, wire: usize) -> bool
     requires { wire < length «open».now.wires }
+    ensures { result ≡ loose_in «open».now wire }
 {
     matches!(open.wire(wire), (Point::Free(_), Point::Free(_)))
 }
 
 /// A Link of each wire between free ends, beside what came so far; or the empty net, where nothing comes.
 fn loose(alloc: Global, open: &OpenNet, begun: bool) -> Result<Items<Task>, AllocError>
-    ensures { IfOk result AreMakes }
+    ensures makes { IfOk result AreMakes }
+    ensures steps { IfOk result (Ends «open».now begun) }
 {
     let mut tasks = Items::new(alloc);
     let mut some = begun;
@@ -170,7 +173,8 @@ fn all(alloc: Global, count: usize) -> Result<Items<bool>, AllocError>
 
 /// The tasks of the whole open net.
 fn start(alloc: Global, open: &OpenNet) -> Result<Items<Task>, AllocError>
-    ensures { IfOk result (StartsWork (length «open».now.nodes)) }
+    ensures work { IfOk result (StartsWork (length «open».now.nodes)) }
+    ensures steps { IfOk result (λ tasks. IsUnderWay «open».now tasks [] []) }
 {
     let count = open.nodes() as usize;
     let links = loose(alloc, open, count > 0)?;
@@ -200,7 +204,8 @@ fn stuck(alloc: Global, part: &Items<bool>) -> Result<Stuck, AllocError>
 
 /// The tasks of the whole open net, and no step yet.
 fn begin(alloc: Global, open: &OpenNet) -> Result<Work, AllocError>
-    ensures { IfOk result (λ work. IsWork «open».now (reverse work.tasks)) }
+    ensures work { IfOk result (λ work. IsWork «open».now (reverse work.tasks)) }
+    ensures steps { IfOk result (λ work. IsUnderWay «open».now (reverse work.tasks) work.steps work.roots) }
 {
     let tasks = start(alloc, open)?;
     let mut work = Work {
@@ -219,9 +224,10 @@ fn take(
     work: &mut Work,
     part: &Items<bool>,
 ) -> Result<Option<Stuck>, AllocError>
-    requires { IsWork wired.now (Derive part.now ∷ reverse work.old.tasks) }
+    requires work { IsWork wired.now (Derive part.now ∷ reverse work.old.tasks) }
+    requires steps { IsUnderWay wired.now (Derive part.now ∷ reverse work.old.tasks) work.old.steps work.old.roots }
     ensures { IfOk result (λ found. MatchOption found
-        (IsWork wired.now (reverse work.new.tasks) × AreFewer wired.now (Derive part.now ∷ reverse work.old.tasks) (reverse work.new.tasks))
+        (IsWork wired.now (reverse work.new.tasks) × AreFewer wired.now (Derive part.now ∷ reverse work.old.tasks) (reverse work.new.tasks) × IsUnderWay wired.now (reverse work.new.tasks) work.new.steps work.new.roots)
         (IsStuckNet wired.now)) }
 {
     match first_splitting(alloc, wired, part)? {
@@ -239,8 +245,9 @@ fn take(
 
 /// Goes on until nothing is left, or a part is stuck.
 fn finish(alloc: Global, wired: &Wired, work: &mut Work) -> Result<Option<Stuck>, AllocError>
-    requires { IsWork wired.now (reverse work.old.tasks) }
-    ensures { IfOk result (λ found. MatchOption found (IsDerivable wired.now) (IsStuckNet wired.now)) }
+    requires work { IsWork wired.now (reverse work.old.tasks) }
+    requires steps { IsUnderWay wired.now (reverse work.old.tasks) work.old.steps work.old.roots }
+    ensures { IfOk result (λ found. MatchOption found (IsDerivation wired.now work.new.steps) (IsStuckNet wired.now)) }
 {
     while let Some(part) = work.next_part(alloc)? {
         if let Some(stuck) = take(alloc, wired, work, &part)? {
@@ -281,7 +288,7 @@ fn attempt(alloc: Global, open: &OpenNet) -> Result<Outcome, AllocError>
 /// derived, and they are joined. Refused with the first stuck sub-net in that order, or for want of memory. Lafont 1990 asks
 /// whether a net is semi-simple; the order is this project's own choice.
 pub fn derive(alloc: Global, open: &OpenNet) -> Result<Derivation, Undone>
-    ensures { MatchResult result (λ derivation. IsDerivable «open».now) (IsUndone «open».now) }
+    ensures { MatchResult result (λ derivation. IsDerivation «open».now derivation.steps) (IsUndone «open».now) }
 {
     match attempt(alloc, open) {
         Ok(Outcome::Derived(derivation)) => Ok(derivation),

@@ -1,7 +1,7 @@
 use Rattle.std.proofs.Common.{◌≡◌, ◌∷◌, ◌∙◌, reverse, ap, sym, subst}
 use Rattle.in_simple.specs.declared.plans.Task.TheVariants.{Make}
 use Rattle.in_simple.specs.Procedure.{Passes}
-use Rattle.in_simple.specs.Stacks.{Advances, IsUnderWay}
+use Rattle.in_simple.specs.Stacks.{IsUnderWay}
 use Rattle.in_simple.proofs.Stacking.{under_make}
 use Rattle.in_simple.proofs.Working.{pass_make, reverse_more}
 use Rattle.in_simple.proofs.procedure.Work.next_part.Goals as goal
