@@ -268,7 +268,7 @@ module _ (o : OpenNet) (net : IsOpenNet o) (n : ℕ) where
 
       -- a further port of a class
       module _ (same : class_in o n b ≡ begun) (some : 0 < begun) where
-        record Ends : Type 0 where
+        record Topmost : Type 0 where
           front : List Shape
           top : Shape
           shapes_are : f.shapes ≡ front ++ top ∷ []
@@ -276,8 +276,8 @@ module _ (o : OpenNet) (net : IsOpenNet o) (n : ℕ) where
           lower : AreClassShapes o p.rest n b 1 front
           class : IsClassShape o p.rest n b (class_in o n b) top
 
-        ends : Ends
-        ends =
+        topmost : Topmost
+        topmost =
             let k = f.many in
             let r = last_shape f.shapes (omega arith) in
             let l = ap length r.2 ∙ length_app r.0 (r.1 ∷ []) in
@@ -285,7 +285,7 @@ module _ (o : OpenNet) (net : IsOpenNet o) (n : ℕ) where
             let e : 1 + length r.0 ≡ class_in o n b = omega arith in
             record { front = r.0; top = r.1; shapes_are = r.2; size = omega arith; lower = u.0; class = subst (λ z. IsClassShape o p.rest n b z r.1) e u.1 }
 
-        grown : (g : Ends) (us : List Task) (done : List Bool) (x : Shape) → Puts o us (g.front ++ x ∷ []) → IsClassShape o p.rest n (suc b) (class_in o n b) x → ((m : ℕ) → IsIn m (nodes_in done) ↔ ((i : ℕ) × IsBelow (suc b) i × Meets o p.rest n i m)) → PutsClasses o p.rest n (suc b) (class_in o n b) us done
+        grown : (g : Topmost) (us : List Task) (done : List Bool) (x : Shape) → Puts o us (g.front ++ x ∷ []) → IsClassShape o p.rest n (suc b) (class_in o n b) x → ((m : ℕ) → IsIn m (nodes_in done) ↔ ((i : ℕ) × IsBelow (suc b) i × Meets o p.rest n i m)) → PutsClasses o p.rest n (suc b) (class_in o n b) us done
         grown g us done x more new is = record {
           shapes = g.front ++ x ∷ [];
           puts = more;
@@ -299,27 +299,27 @@ module _ (o : OpenNet) (net : IsOpenNet o) (n : ℕ) where
         }
 
         pub further_nothing : (q : Plan) → AddsNothing o n b p q → PutsClasses o p.rest n (suc b) (class_in o n b) ts p.done
-        further_nothing q a = grown ends ts p.done ends.top (subst (λ z. Puts o ts z) ends.shapes_are f.puts) new (done_same q a)
+        further_nothing q a = grown topmost ts p.done topmost.top (subst (λ z. Puts o ts z) topmost.shapes_are f.puts) new (done_same q a)
           where
-            new : IsClassShape o p.rest n (suc b) (class_in o n b) ends.top
+            new : IsClassShape o p.rest n (suc b) (class_in o n b) topmost.top
             new = record {
               nodes = λ m. (
-                (λ g. let y = (ends.class.nodes m).0 g in (y.0, below_next b y.0 y.1, y.2, y.3)),
+                (λ g. let y = (topmost.class.nodes m).0 g in (y.0, below_next b y.0 y.1, y.2, y.3)),
                 λ y. elim (below_cases b y.0 y.1) [
                   | inl e ↦
                       let g = (f.done_is m).0 (a.met m (subst (λ z. Meets o p.rest n z m) e y.3)) in
-                      (ends.class.nodes m).1 (g.0, g.1, meets_class g.0 y.0 m g.2 y.3 ∙ y.2, g.2)
-                  | inr l ↦ (ends.class.nodes m).1 (y.0, l, y.2, y.3)
+                      (topmost.class.nodes m).1 (g.0, g.1, meets_class g.0 y.0 m g.2 y.3 ∙ y.2, g.2)
+                  | inr l ↦ (topmost.class.nodes m).1 (y.0, l, y.2, y.3)
                 ],
               );
               links = λ w. (
-                (λ g. let y = (ends.class.links w).0 g in (y.0, below_next b y.0 y.1, y.2, y.3)),
+                (λ g. let y = (topmost.class.links w).0 g in (y.0, below_next b y.0 y.1, y.2, y.3)),
                 λ y. elim (below_cases b y.0 y.1) [
                   | inl e ↦
                       let g = a.past w (subst (λ z. LeadsOff o p.rest n z w) e y.3) in
                       let k = past_class w g.0 (omega arith) g.1 g.2 in
-                      (ends.class.links w).1 (g.0, k.0, k.1, (Port n b, wire_turn o w (Port n b) (Port n g.0) g.2, root_out))
-                  | inr l ↦ (ends.class.links w).1 (y.0, l, y.2, y.3)
+                      (topmost.class.links w).1 (g.0, k.0, k.1, (Port n b, wire_turn o w (Port n b) (Port n g.0) g.2, root_out))
+                  | inr l ↦ (topmost.class.links w).1 (y.0, l, y.2, y.3)
                 ],
               );
             }
@@ -329,28 +329,28 @@ module _ (o : OpenNet) (net : IsOpenNet o) (n : ℕ) where
 
         module _ (q : Plan) (x : Shape) (a : Adds o n b p q x) where
           abbrev mixed : Shape
-          mixed = shape (λ m. ends.top.nodes m || x.nodes m) (λ w. ends.top.links w || x.links w)
+          mixed = shape (λ m. topmost.top.nodes m || x.nodes m) (λ w. topmost.top.links w || x.links w)
 
-          top_meets : (m : ℕ) → IsIn m ends.top.nodes → (i : ℕ) × IsBelow b i × (class_in o n i ≡ class_in o n b) × Meets o p.rest n i m
-          top_meets m g = (ends.class.nodes m).0 g
+          top_meets : (m : ℕ) → IsIn m topmost.top.nodes → (i : ℕ) × IsBelow b i × (class_in o n i ≡ class_in o n b) × Meets o p.rest n i m
+          top_meets m g = (topmost.class.nodes m).0 g
 
-          top_in : (m : ℕ) → IsIn m ends.top.nodes → IsIn m (nodes_in p.rest)
+          top_in : (m : ℕ) → IsIn m topmost.top.nodes → IsIn m (nodes_in p.rest)
           top_in m g = let y = top_meets m g in meets_in y.0 m y.3
 
           new_in : (m : ℕ) → IsIn m x.nodes → IsIn m (nodes_in p.rest)
           new_in m g = meets_in b m ((a.nodes m).0 g)
 
-          apart : (m : ℕ) → IsIn m ends.top.nodes → IsIn m x.nodes → ⊥
+          apart : (m : ℕ) → IsIn m topmost.top.nodes → IsIn m x.nodes → ⊥
           apart m g k = let y = top_meets m g in a.fresh m k ((f.done_is m).1 (y.0, y.1, y.3))
 
-          off : (l i m j w : ℕ) → IsWire o w (Port l i) (Port m j) → IsIn l ends.top.nodes → IsIn m x.nodes → ⊥
+          off : (l i m j w : ℕ) → IsWire o w (Port l i) (Port m j) → IsIn l topmost.top.nodes → IsIn m x.nodes → ⊥
           off l i m j w wire g k =
               let y = top_meets l g in
               a.fresh m k ((f.done_is m).1 (y.0, y.1, meets_on y.0 l m y.3 (joined_near o net n p.rest w l i m j wire (top_in l g) (new_in m k))))
 
-          parts : AreParts (λ m. ends.top.nodes m || x.nodes m) ends.top.nodes x.nodes
+          parts : AreParts (λ m. topmost.top.nodes m || x.nodes m) topmost.top.nodes x.nodes
           parts m = (
-            ((λ g. or_cases (ends.top.nodes m) (x.nodes m) g), λ g. elim g [ inl u ↦ or_left (ends.top.nodes m) (x.nodes m) u | inr u ↦ or_right (ends.top.nodes m) (x.nodes m) u ]),
+            ((λ g. or_cases (topmost.top.nodes m) (x.nodes m) g), λ g. elim g [ inl u ↦ or_left (topmost.top.nodes m) (x.nodes m) u | inr u ↦ or_right (topmost.top.nodes m) (x.nodes m) u ]),
             apart m,
           )
 
@@ -363,9 +363,9 @@ module _ (o : OpenNet) (net : IsOpenNet o) (n : ℕ) where
                 omega arith
           ]
 
-          cross : (w : ℕ) → IsLinkOf o ends.top w → IsLinkOf o x w → ⊥
+          cross : (w : ℕ) → IsLinkOf o topmost.top w → IsLinkOf o x w → ⊥
           cross w (inl u) (inl v) =
-              let y = (ends.class.links w).0 u in
+              let y = (topmost.class.links w).0 u in
               let z = (a.links w).0 v in
               let l = y.1.1 in
               elim (wire_points o w (Port n y.0) y.3.0 (Port n b) z.0 y.3.1 z.1) [
@@ -374,33 +374,33 @@ module _ (o : OpenNet) (net : IsOpenNet o) (n : ℕ) where
                     let g = a.first w y.0 v (wire_turn o w (Port n y.0) (Port n b) (subst (λ q. IsWire o w (Port n y.0) q) (sym e.0) y.3.1)) in
                     omega arith
               ]
-          cross w (inl u) (inr v) = let y = (ends.class.links w).0 u in own_link w y.0 v.0 v.1 y.3.0 v.2 y.3.1 y.3.2 v.3 (new_in v.0 v.4)
+          cross w (inl u) (inr v) = let y = (topmost.class.links w).0 u in own_link w y.0 v.0 v.1 y.3.0 v.2 y.3.1 y.3.2 v.3 (new_in v.0 v.4)
           cross w (inr u) (inl v) = let z = (a.links w).0 v in own_link w b u.0 u.1 z.0 u.2 z.1 z.2 u.3 (top_in u.0 u.4)
           cross w (inr u) (inr v) = elim (wire_points o w (Port u.0 u.1) u.2 (Port v.0 v.1) v.2 u.3 v.3) [
-            | inl e ↦ apart v.0 (subst (λ z. IsIn z ends.top.nodes) (sym (port_place v.0 u.0 v.1 u.1 e.0).0) u.4) v.4
+            | inl e ↦ apart v.0 (subst (λ z. IsIn z topmost.top.nodes) (sym (port_place v.0 u.0 v.1 u.1 e.0).0) u.4) v.4
             | inr e ↦ off u.0 u.1 v.0 v.1 w (subst (λ z. IsWire o w (Port u.0 u.1) z) (sym e.0) u.3) u.4 v.4
           ]
 
           new_class : IsClassShape o p.rest n (suc b) (class_in o n b) mixed
           new_class = record {
             nodes = λ m. (
-              (λ g. elim (or_cases (ends.top.nodes m) (x.nodes m) g) [
-                | inl u ↦ let y = (ends.class.nodes m).0 u in (y.0, below_next b y.0 y.1, y.2, y.3)
+              (λ g. elim (or_cases (topmost.top.nodes m) (x.nodes m) g) [
+                | inl u ↦ let y = (topmost.class.nodes m).0 u in (y.0, below_next b y.0 y.1, y.2, y.3)
                 | inr u ↦ (b, (aux, omega arith), refl, (a.nodes m).0 u)
               ]),
               λ y. elim (below_cases b y.0 y.1) [
-                | inl e ↦ or_right (ends.top.nodes m) (x.nodes m) ((a.nodes m).1 (subst (λ z. Meets o p.rest n z m) e y.3))
-                | inr l ↦ or_left (ends.top.nodes m) (x.nodes m) ((ends.class.nodes m).1 (y.0, l, y.2, y.3))
+                | inl e ↦ or_right (topmost.top.nodes m) (x.nodes m) ((a.nodes m).1 (subst (λ z. Meets o p.rest n z m) e y.3))
+                | inr l ↦ or_left (topmost.top.nodes m) (x.nodes m) ((topmost.class.nodes m).1 (y.0, l, y.2, y.3))
               ],
             );
             links = λ w. (
-              (λ g. elim (or_cases (ends.top.links w) (x.links w) g) [
-                | inl u ↦ let y = (ends.class.links w).0 u in (y.0, below_next b y.0 y.1, y.2, y.3)
+              (λ g. elim (or_cases (topmost.top.links w) (x.links w) g) [
+                | inl u ↦ let y = (topmost.class.links w).0 u in (y.0, below_next b y.0 y.1, y.2, y.3)
                 | inr u ↦ (b, (aux, omega arith), refl, (a.links w).0 u)
               ]),
               λ y. elim (below_cases b y.0 y.1) [
-                | inl e ↦ or_right (ends.top.links w) (x.links w) ((a.links w).1 (subst (λ z. LeadsOff o p.rest n z w) e y.3))
-                | inr l ↦ or_left (ends.top.links w) (x.links w) ((ends.class.links w).1 (y.0, l, y.2, y.3))
+                | inl e ↦ or_right (topmost.top.links w) (x.links w) ((a.links w).1 (subst (λ z. LeadsOff o p.rest n z w) e y.3))
+                | inr l ↦ or_left (topmost.top.links w) (x.links w) ((topmost.class.links w).1 (y.0, l, y.2, y.3))
               ],
             );
           }
@@ -408,10 +408,10 @@ module _ (o : OpenNet) (net : IsOpenNet o) (n : ℕ) where
           pub further_adds : (vs us : List Task) → Puts o vs (f.shapes ++ x ∷ []) → us ≡ vs ++ Make joint.Mix ∷ [] → PutsClasses o p.rest n (suc b) (class_in o n b) us q.done
           further_adds vs us more e =
               subst (λ z. PutsClasses o p.rest n (suc b) (class_in o n b) z q.done) (sym e)
-              (grown ends (vs ++ Make joint.Mix ∷ []) q.done mixed
-              (puts_make o vs joint.Mix ends.front (ends.top ∷ x ∷ []) mixed
-              (subst (λ z. Puts o vs z) (ap (λ z. z ++ x ∷ []) ends.shapes_are ∙ append_assoc ends.front (ends.top ∷ []) (x ∷ [])) more)
-              (fits_mix o net mixed.nodes ends.top.nodes x.nodes ends.top.links x.links parts off cross))
+              (grown topmost (vs ++ Make joint.Mix ∷ []) q.done mixed
+              (puts_make o vs joint.Mix topmost.front (topmost.top ∷ x ∷ []) mixed
+              (subst (λ z. Puts o vs z) (ap (λ z. z ++ x ∷ []) topmost.shapes_are ∙ append_assoc topmost.front (topmost.top ∷ []) (x ∷ [])) more)
+              (fits_mix o net mixed.nodes topmost.top.nodes x.nodes topmost.top.links x.links parts off cross))
               new_class (done_adds q x a))
 
   -- ---- the graft

@@ -15,10 +15,10 @@ shape_same x s d f g = ap (λ z. shape z x.links) (fun_ext f) ∙ ap (λ z. shap
 
 module _ (o : OpenNet) (net : IsOpenNet o) where
   -- a step over these parts builds a net of this shape
-  abbrev pub Built_over : Shape → Step → List ℕ → List Part → Type 0
-  Built_over x step names from = (y : Part) × HasShape o x y × BuildsOver o step names from y
+  abbrev pub BuiltOver : Shape → Step → List ℕ → List Part → Type 0
+  BuiltOver x step names from = (y : Part) × HasShape o x y × BuildsOver o step names from y
 
-  pub built_over : (s d : ℕ → Bool) (step : Step) (names : List ℕ) (from : List Part) → Fit o net s d step from → named step ≡ names → Built_over (shape s d) step names from
+  pub built_over : (s d : ℕ → Bool) (step : Step) (names : List ℕ) (from : List Part) → Fit o net s d step from → named step ≡ names → BuiltOver (shape s d) step names from
   built_over s d step names from fit e = (
     part_of o net s d step from,
     record { nodes = λ n. refl; ends = λ w p q h. ends_wire o net s d w p q h; links = fit.links },
@@ -34,13 +34,13 @@ module _ (o : OpenNet) (net : IsOpenNet o) where
   )
 
   -- over no part
-  over_none : (x : Shape) (step : List ℕ → Step) → Built_over x (step []) [] [] → (names : List ℕ) (from : List Part) → length names ≡ 0 → HaveShapes o [] from → Built_over x (step names) names from
+  over_none : (x : Shape) (step : List ℕ → Step) → BuiltOver x (step []) [] [] → (names : List ℕ) (from : List Part) → length names ≡ 0 → HaveShapes o [] from → BuiltOver x (step names) names from
   over_none x step f [] [] l h = f
   over_none x step f [] (y ∷ ys) l h = absurd h
   over_none x step f (i ∷ is) from l h = absurd (omega arith)
 
   -- over two
-  over_both : (x a b : Shape) (step : List ℕ → Step) → ((i j : ℕ) (y z : Part) → HasShape o a y → HasShape o b z → Built_over x (step (i ∷ j ∷ [])) (i ∷ j ∷ []) (y ∷ z ∷ [])) → (names : List ℕ) (from : List Part) → length names ≡ 2 → HaveShapes o (a ∷ b ∷ []) from → Built_over x (step names) names from
+  over_both : (x a b : Shape) (step : List ℕ → Step) → ((i j : ℕ) (y z : Part) → HasShape o a y → HasShape o b z → BuiltOver x (step (i ∷ j ∷ [])) (i ∷ j ∷ []) (y ∷ z ∷ [])) → (names : List ℕ) (from : List Part) → length names ≡ 2 → HaveShapes o (a ∷ b ∷ []) from → BuiltOver x (step names) names from
   over_both x a b step f [] from l h = absurd (omega arith)
   over_both x a b step f (i ∷ []) from l h = absurd (omega arith)
   over_both x a b step f (i ∷ j ∷ k ∷ is) from l h = absurd (omega arith)

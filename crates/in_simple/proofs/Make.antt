@@ -1,5 +1,5 @@
 -- A derivation for each of the constructions.
-use Rattle.std.proofs.Common.{◌≡◌, ◌≢◌, ◌⊎◌, ◌↔◌, ◌<◌, ◌≤◌, ◌+◌, ◌-◌, ℕ, zero, suc, Bool, true, false, cond, ◌&&◌, ◌||◌, nat_eq, Some, List, [], ◌∷◌, ◌++◌, length, slice_get, refl, sym, subst, ap, inl, inr, ◌∙◌, eq-eqb, eqb-true, ne_eqb, arith}
+use Rattle.std.proofs.Common.{◌≡◌, ◌≢◌, ◌⊎◌, ◌↔◌, ◌<◌, ◌≤◌, ◌+◌, ℕ, zero, suc, Bool, true, false, cond, ◌&&◌, ◌||◌, nat_eq, Some, List, [], ◌∷◌, ◌++◌, length, slice_get, refl, sym, subst, ap, inl, inr, ◌∙◌, eq-eqb, eqb-true, ne_eqb, arith}
 use mathlib.Core.Path.{fun_ext}
 use Rattle.std.proofs.lemmas.Option.{slice_get_within}
 use Rattle.in_simple.specs.declared.open_nets.Point.{Point}
@@ -8,7 +8,7 @@ use Rattle.in_simple.specs.Constructions.{IsIn, AreParts, numbered, IsGraft}
 use Rattle.in_simple.specs.OpenNets.{OpenNet, IsAgent, IsClass, class_in, classes_of, IsWire, IsOpenNet, open_graph}
 use Rattle.in_simple.specs.Derivations.{Step, Empty, Link, Given, Graft, Cut, Mix, Part, named, own_nodes, own_links, one_if, is_port_in, is_principal, is_auxiliary, is_among, nodes_of, links_of, ends_of, ShareNothing, IsGrafted, Joins, times}
 use Rattle.in_simple.specs.Stuck.{ports_of}
-use Rattle.in_simple.specs.Stacks.{shape, HasShape}
+use Rattle.in_simple.specs.Stacks.{shape, no_wires, leads_out, IsLinkOf, HasShape}
 use Rattle.in_simple.proofs.Sums.{or_cases, or_left, or_right, true_or_false, not_both, not_true, same_test, got, some_same, port_yes, port_no, port_none, port_same, port_or, port_own, other_port, auxiliary_port, principal_one, one_same, one_other, of_nodes, in_nodes_of}
 use Rattle.in_simple.proofs.Balance.{wire_turn}
 use Rattle.in_simple.proofs.Sound.{wire_points, port_place}
@@ -69,9 +69,6 @@ sum_one (x ∷ xs) q (suc k) y h f =
     let b = sum_one xs q k y h (λ i z d g. f (suc i) z (λ u. d (omega arith)) g) in
     omega arith
 
-abbrev pub no_links : ℕ → Bool
-no_links w = false
-
 abbrev OwnOnce : ℕ → Step → Type 0
 OwnOnce n step = times n (own_nodes step) ≡ cond (is_among n (own_nodes step)) 1 0
 
@@ -87,7 +84,7 @@ module _ (o : OpenNet) (net : IsOpenNet o) where
   if_in d w = cond (d w) 1 0
 
   abbrev pub lead : (ℕ → Bool) → Point → Point → ℕ
-  lead s p q = is_port_in s p - is_port_in s q
+  lead = leads_out
 
   -- the ends of the net of s with the wires of d
   pub ends_at : (ℕ → Bool) → (ℕ → Bool) → Point → ℕ
@@ -105,9 +102,8 @@ module _ (o : OpenNet) (net : IsOpenNet o) where
           omega arith
       go (inr r) = absurd (r (w, p, wire_turn o w p q h))
 
-  -- a Link of the net: one that is open at both ends, or one at an agent's auxiliary port
   abbrev pub LinkOf : (ℕ → Bool) → (ℕ → Bool) → ℕ → Type 0
-  LinkOf s d w = IsIn w d ⊎ ((l : ℕ) × (i : ℕ) × (q : Point) × IsWire o w (Port l i) q × IsIn l s × IsAgent o l × (i ≢ 0))
+  LinkOf s d w = IsLinkOf o (shape s d) w
 
   pub record Made (s d : ℕ → Bool) (k : ℕ) : Type 0 where
     pub steps : List Step
@@ -155,18 +151,18 @@ module _ (o : OpenNet) (net : IsOpenNet o) where
     links = fit.links;
   }
 
-  pub fit_empty : (s : ℕ → Bool) → ((n : ℕ) → s n ≡ false) → Fit s no_links Empty []
+  pub fit_empty : (s : ℕ → Bool) → ((n : ℕ) → s n ≡ false) → Fit s no_wires Empty []
   fit_empty s off = record {
     apart = tt;
     once = λ n. refl;
     fresh = λ n h. absurd (not_both false h refl);
     nodes = off;
     links = λ w h. absurd (not_both false h refl);
-    joins = λ w p q h. let e = ends_wire s no_links w p q h in let z = port_none s p off in omega arith;
+    joins = λ w p q h. let e = ends_wire s no_wires w p q h in let z = port_none s p off in omega arith;
   }
 
-  make_empty : (s : ℕ → Bool) → ((n : ℕ) → s n ≡ false) → (k : ℕ) → Made s no_links k
-  make_empty s off k = finish s no_links k [] [] [] [] Empty (nothing o k) refl (fit_empty s off)
+  make_empty : (s : ℕ → Bool) → ((n : ℕ) → s n ≡ false) → (k : ℕ) → Made s no_wires k
+  make_empty s off k = finish s no_wires k [] [] [] [] Empty (nothing o k) refl (fit_empty s off)
 
   pub fit_link : (v : ℕ) (p q : Point) → IsWire o v p q → Fit (λ n. false) (λ w. nat_eq w v) (Link v) []
   fit_link v p q h = record {
@@ -188,7 +184,7 @@ module _ (o : OpenNet) (net : IsOpenNet o) where
       go true = refl
       go false = refl
 
-  pub fit_given : (n : ℕ) (s : ℕ → Bool) → IsClass o n → ((m : ℕ) → IsIn m s ↔ (m ≡ n)) → ((i j w : ℕ) → IsWire o w (Port n i) (Port n j) → ⊥) → Fit s no_links (Given n) []
+  pub fit_given : (n : ℕ) (s : ℕ → Bool) → IsClass o n → ((m : ℕ) → IsIn m s ↔ (m ≡ n)) → ((i j w : ℕ) → IsWire o w (Port n i) (Port n j) → ⊥) → Fit s no_wires (Given n) []
   fit_given n s c all self = record {
     apart = tt;
     once = λ m. once_given n m;
@@ -200,7 +196,7 @@ module _ (o : OpenNet) (net : IsOpenNet o) where
     joins = (
       c,
       λ w p q h.
-          let e = ends_wire s no_links w p q h in
+          let e = ends_wire s no_wires w p q h in
           let f = port_same s (λ m. nat_eq m n) p (λ m. same_test (s m) (nat_eq m n) (λ h. eq-eqb m n ((all m).0 h)) (λ h. (all m).1 (eqb-true m n h))) in
           let g = not_two s s p q (λ l i m j a b x y.
           let la = (all l).0 x in
@@ -211,8 +207,8 @@ module _ (o : OpenNet) (net : IsOpenNet o) where
     );
   }
 
-  make_given : (n : ℕ) (s : ℕ → Bool) → IsClass o n → ((m : ℕ) → IsIn m s ↔ (m ≡ n)) → ((i j w : ℕ) → IsWire o w (Port n i) (Port n j) → ⊥) → (k : ℕ) → Made s no_links k
-  make_given n s c all self k = finish s no_links k [] [] [] [] (Given n) (nothing o k) refl (fit_given n s c all self)
+  make_given : (n : ℕ) (s : ℕ → Bool) → IsClass o n → ((m : ℕ) → IsIn m s ↔ (m ≡ n)) → ((i j w : ℕ) → IsWire o w (Port n i) (Port n j) → ⊥) → (k : ℕ) → Made s no_wires k
+  make_given n s c all self k = finish s no_wires k [] [] [] [] (Given n) (nothing o k) refl (fit_given n s c all self)
 
   two_nodes : (s a b : ℕ → Bool) → AreParts s a b → (x y : Part) → ((n : ℕ) → x.nodes n ≡ a n) → ((n : ℕ) → y.nodes n ≡ b n) → (n : ℕ) → s n ≡ (x.nodes n || (y.nodes n || false))
   two_nodes s a b parts x y f g n = same_test (s n) (x.nodes n || (y.nodes n || false))
@@ -270,9 +266,9 @@ module _ (o : OpenNet) (net : IsOpenNet o) where
   abbrev pub OnlyWire : (ℕ → Bool) → (ℕ → Bool) → ℕ → ℕ → ℕ → ℕ → Type 0
   OnlyWire a b l i m j = (l' i' m' j' w : ℕ) → IsWire o w (Port l' i') (Port m' j') → IsIn l' a → IsIn m' b → ((l' ≡ l) × (i' ≡ i)) × ((m' ≡ m) × (j' ≡ j))
 
-  pub fit_cut : (s a b : ℕ → Bool) (l i m j v : ℕ) → AreParts s a b → IsWire o v (Port l i) (Port m j) → (IsAgent o l → i ≡ 0) → IsIn l a → IsIn m b → OnlyWire a b l i m j → (x y : Part) → TopOf a no_links x → TopOf b no_links y → (g h : ℕ) → Fit s no_links (Cut v g h) (x ∷ y ∷ [])
+  pub fit_cut : (s a b : ℕ → Bool) (l i m j v : ℕ) → AreParts s a b → IsWire o v (Port l i) (Port m j) → (IsAgent o l → i ≡ 0) → IsIn l a → IsIn m b → OnlyWire a b l i m j → (x y : Part) → TopOf a no_wires x → TopOf b no_wires y → (g h : ℕ) → Fit s no_wires (Cut v g h) (x ∷ y ∷ [])
   fit_cut s a b l i m j v parts wire firm la mb only x y tx ty g h = record {
-    apart = two_apart a b no_links no_links (λ n h g. (parts n).1 h g) cross x y tx ty;
+    apart = two_apart a b no_wires no_wires (λ n h g. (parts n).1 h g) cross x y tx ty;
     once = λ n. refl;
     fresh = λ n h g. not_both false h refl;
     nodes = λ n. two_nodes s a b parts x y tx.nodes ty.nodes n;
@@ -290,7 +286,7 @@ module _ (o : OpenNet) (net : IsOpenNet o) where
         second = (let u = ty.ends v (Port m j) (Port l i) (wire_turn o v (Port l i) (Port m j) wire) in let f = port_yes b m j mb in let g = port_no b l i (not_true (b l) (λ z. (parts l).1 la z)) in omega arith);
       },
       λ w p q h.
-          let r = ends_wire s no_links w p q h in
+          let r = ends_wire s no_wires w p q h in
           let u = tx.ends w p q h in
           let z = ty.ends w p q h in
           let pp = port_parts s a b parts p in
@@ -327,7 +323,7 @@ module _ (o : OpenNet) (net : IsOpenNet o) where
           let h' : IsWire o w (Port l i) (Port m' j') = subst (λ z. IsWire o w (Port z i) (Port m' j')) e.0.0 (subst (λ z. IsWire o w (Port l' z) (Port m' j')) e.0.1 h) in
           (net.once w v (Port l i) (Port m' j') (Port m j) h' wire).0
 
-      cross : (w : ℕ) → LinkOf a no_links w → LinkOf b no_links w → ⊥
+      cross : (w : ℕ) → LinkOf a no_wires w → LinkOf b no_wires w → ⊥
       cross w (inl u) z = not_both false u refl
       cross w (inr u) (inl z) = not_both false z refl
       cross w (inr u) (inr z) = elim (wire_points o w (Port u.0 u.1) u.2 (Port z.0 z.1) z.2 u.3 z.3) [
@@ -338,12 +334,12 @@ module _ (o : OpenNet) (net : IsOpenNet o) where
             u.6 (f.0.1 ∙ firm (subst (λ t. IsAgent o t) f.0.0 u.5))
       ]
 
-  make_cut : (s a b : ℕ → Bool) (l i m j v : ℕ) → AreParts s a b → IsWire o v (Port l i) (Port m j) → (IsAgent o l → i ≡ 0) → IsIn l a → IsIn m b → OnlyWire a b l i m j → (k : ℕ) → Made a no_links k → ((k : ℕ) → Made b no_links k) → Made s no_links k
+  make_cut : (s a b : ℕ → Bool) (l i m j v : ℕ) → AreParts s a b → IsWire o v (Port l i) (Port m j) → (IsAgent o l → i ≡ 0) → IsIn l a → IsIn m b → OnlyWire a b l i m j → (k : ℕ) → Made a no_wires k → ((k : ℕ) → Made b no_wires k) → Made s no_wires k
   make_cut s a b l i m j v parts wire firm la mb only k x next = go (next (k + length x.steps))
     where
-      go : Made b no_links (k + length x.steps) → Made s no_links k
-      go y = over_both s a b no_links no_links no_links k x y (Cut v x.root y.root) refl
-          (fit_cut s a b l i m j v parts wire firm la mb only x.top y.top (top_of a no_links k x) (top_of b no_links (k + length x.steps) y) x.root y.root)
+      go : Made b no_wires (k + length x.steps) → Made s no_wires k
+      go y = over_both s a b no_wires no_wires no_wires k x y (Cut v x.root y.root) refl
+          (fit_cut s a b l i m j v parts wire firm la mb only x.top y.top (top_of a no_wires k x) (top_of b no_wires (k + length x.steps) y) x.root y.root)
 
   pub same_links : (s d e : ℕ → Bool) (k : ℕ) → ((w : ℕ) → d w ≡ e w) → Made s d k → Made s e k
   same_links s d e k f x = subst (λ z. Made s z k) (fun_ext f) x
@@ -410,7 +406,7 @@ module _ (o : OpenNet) (net : IsOpenNet o) where
     ]
 
     abbrev Nets : Type 0
-    Nets = (c : ℕ) → 0 < c → (k : ℕ) → Made (numbered s part c) no_links k
+    Nets = (c : ℕ) → 0 < c → (k : ℕ) → Made (numbered s part c) no_wires k
 
     class_net : Nets → (c : ℕ) → 0 < c → (b k : ℕ) → Made (of_class c) (hanging c b) k
     class_net nets c l zero k = nets c l k
@@ -838,14 +834,14 @@ module _ (o : OpenNet) (net : IsOpenNet o) where
             ];
       }
 
-      pub fit_graft : (roots : List ℕ) → Fit s no_links (Graft n roots) tops
+      pub fit_graft : (roots : List ℕ) → Fit s no_wires (Graft n roots) tops
       fit_graft roots = record {
         apart = share_classes 1 (omega arith) tops at;
         once = λ m. once_given n m;
         fresh = fresh;
         nodes = nodes;
         links = links;
-        joins = (grafted, λ w p q h. let e = ends_wire s no_links w p q h in let f = equation w p q h (where_is p) (where_is q) in omega arith);
+        joins = (grafted, λ w p q h. let e = ends_wire s no_wires w p q h in let f = equation w p q h (where_is p) (where_is q) in omega arith);
       }
         where
           fresh : (m : ℕ) → is_among m (own_nodes (Graft n roots)) ≡ true → IsIn m (nodes_of tops) → ⊥
@@ -867,7 +863,7 @@ module _ (o : OpenNet) (net : IsOpenNet o) where
                 | inr e ↦ let x = of_nodes tops m e in class_in_s (1 + x.0) m (sym ((at x.0 x.1 x.2).nodes m) ∙ x.3)
               ])
 
-          links : (w : ℕ) → IsIn w (links_of tops) → LinkOf s no_links w
+          links : (w : ℕ) → IsIn w (links_of tops) → LinkOf s no_wires w
           links w h =
               let x = of_links tops w h in
               elim ((at x.0 x.1 x.2).links w x.3) [
@@ -877,14 +873,14 @@ module _ (o : OpenNet) (net : IsOpenNet o) where
                 | inr u ↦ inr (u.0, u.1, u.2, u.3, class_in_s (1 + x.0) u.0 u.4, u.5, u.6)
               ]
 
-    make_graft : Nets → (k : ℕ) → Made s no_links k
+    make_graft : Nets → (k : ℕ) → Made s no_wires k
     make_graft nets k = go (class_nets nets (classes_of o n) 1 k (omega arith))
       where
-        go : Tops 1 (classes_of o n) k → Made s no_links k
-        go t = finish s no_links k t.steps t.parts t.roots t.tops (Graft n t.roots) t.forest refl (fit_graft t.tops t.few t.at t.roots)
+        go : Tops 1 (classes_of o n) k → Made s no_wires k
+        go t = finish s no_wires k t.steps t.parts t.roots t.tops (Graft n t.roots) t.forest refl (fit_graft t.tops t.few t.at t.roots)
 
   -- Links at agents of nets that no wire joins are of different wires
-  pub agents_apart : (s a b : ℕ → Bool) → AreParts s a b → ((l i m j w : ℕ) → IsWire o w (Port l i) (Port m j) → IsIn l a → IsIn m b → ⊥) → (w : ℕ) → LinkOf a no_links w → LinkOf b no_links w → ⊥
+  pub agents_apart : (s a b : ℕ → Bool) → AreParts s a b → ((l i m j w : ℕ) → IsWire o w (Port l i) (Port m j) → IsIn l a → IsIn m b → ⊥) → (w : ℕ) → LinkOf a no_wires w → LinkOf b no_wires w → ⊥
   agents_apart s a b parts off w (inl u) z = not_both false u refl
   agents_apart s a b parts off w (inr u) (inl z) = not_both false z refl
   agents_apart s a b parts off w (inr u) (inr z) = elim (wire_points o w (Port u.0 u.1) u.2 (Port z.0 z.1) z.2 u.3 z.3) [
@@ -892,11 +888,11 @@ module _ (o : OpenNet) (net : IsOpenNet o) where
     | inr e ↦ off u.0 u.1 z.0 z.1 w (subst (λ t. IsWire o w (Port u.0 u.1) t) (sym e.0) u.3) u.4 z.4
   ]
 
-  pub constructions : Constructions o (λ s. (k : ℕ) → Made s no_links k)
+  pub constructions : Constructions o (λ s. (k : ℕ) → Made s no_wires k)
   constructions = record {
     empty = λ s h k. make_empty s h k;
     given = λ n s c all self k. make_given n s c all self k;
-    mix = λ s a b parts off x y k. make_mix s a b no_links no_links parts off (agents_apart s a b parts off) k (x k) y;
+    mix = λ s a b parts off x y k. make_mix s a b no_wires no_wires parts off (agents_apart s a b parts off) k (x k) y;
     cut = λ s a b l i m j v parts wire firm la mb only x y k. make_cut s a b l i m j v parts wire firm la mb only k (x k) y;
     graft = λ n s part agent z most r nets k. make_graft n s part agent z most r nets k;
   }

@@ -236,10 +236,10 @@ drop_past [] ys k e = ap (λ z. drop z ys) e
 drop_past (x ∷ xs) ys zero e = absurd (omega arith)
 drop_past (x ∷ xs) ys (suc k) e = drop_past xs ys k (omega arith)
 
-abbrev Made : (List ℕ → Step) → List Step → List ℕ → List Step → List ℕ → List ℕ → List ℕ → Type 0
-Made f s r s' r' below names = (s' ≡ s ++ f names ∷ []) × (r' ≡ below ++ length s ∷ [])
+abbrev IsMade : (List ℕ → Step) → List Step → List ℕ → List Step → List ℕ → List ℕ → List ℕ → Type 0
+IsMade f s r s' r' below names = (s' ≡ s ++ f names ∷ []) × (r' ≡ below ++ length s ∷ [])
 
-take_two : (f : ℕ → ℕ → Step) (s : List Step) (r r1 r2 : List ℕ) (s' : List Step) (r' : List ℕ) (a b : ℕ) → IsLast b r r1 → IsLast a r1 r2 → s' ≡ s ++ f a b ∷ [] → r' ≡ r2 ++ length s ∷ [] → (below names : List ℕ) → r ≡ below ++ names → length names ≡ 2 → Made (over_two f) s r s' r' below names
+take_two : (f : ℕ → ℕ → Step) (s : List Step) (r r1 r2 : List ℕ) (s' : List Step) (r' : List ℕ) (a b : ℕ) → IsLast b r r1 → IsLast a r1 r2 → s' ≡ s ++ f a b ∷ [] → r' ≡ r2 ++ length s ∷ [] → (below names : List ℕ) → r ≡ below ++ names → length names ≡ 2 → IsMade (over_two f) s r s' r' below names
 take_two f s r r1 r2 s' r' a b p q h k below [] e l = absurd (omega arith)
 take_two f s r r1 r2 s' r' a b p q h k below (x ∷ []) e l = absurd (omega arith)
 take_two f s r r1 r2 s' r' a b p q h k below (x ∷ y ∷ z ∷ zs) e l = absurd (omega arith)
@@ -257,7 +257,7 @@ take_two f s r r1 r2 s' r' a b (inl p) (inl q) h k below (x ∷ y ∷ []) e l =
     let ea : a ≡ x = some_same (slice_get (a ∷ []) 0) a x refl (ap (λ z. slice_get z 0) two.1) in
     (h ∙ ap (λ z. s ++ f z b ∷ []) ea ∙ ap (λ z. s ++ f x z ∷ []) eb, k ∙ ap (λ z. z ++ length s ∷ []) two.0)
 
-take_many : (n count : ℕ) (s : List Step) (r r2 last : List ℕ) (s' : List Step) (r' : List ℕ) → last ≡ drop (length r - count) r → AreLast count r r2 → s' ≡ s ++ Graft n last ∷ [] → r' ≡ r2 ++ length s ∷ [] → (below names : List ℕ) → r ≡ below ++ names → length names ≡ count → Made (λ z. Graft n z) s r s' r' below names
+take_many : (n count : ℕ) (s : List Step) (r r2 last : List ℕ) (s' : List Step) (r' : List ℕ) → last ≡ drop (length r - count) r → AreLast count r r2 → s' ≡ s ++ Graft n last ∷ [] → r' ≡ r2 ++ length s ∷ [] → (below names : List ℕ) → r ≡ below ++ names → length names ≡ count → IsMade (λ z. Graft n z) s r s' r' below names
 take_many n count s r r2 last s' r' d g h k below names e l =
     (h ∙ ap (λ z. s ++ Graft n z ∷ []) same, k ∙ ap (λ z. z ++ length s ∷ []) (front g.2))
   where

@@ -196,12 +196,6 @@ StuckIn o [] t = ⊥
 StuckIn o (Derive c ∷ ts) t = FirstStuck o (nodes_in c) t ⊎ (AllSplit o (nodes_in c) × StuckIn o ts t)
 StuckIn o (Make x ∷ ts) t = StuckIn o ts t
 
--- all parts of the tasks split
-abbrev pub AllSplitIn : OpenNet → List Task → Type 0
-AllSplitIn o [] = Unit {0}
-AllSplitIn o (Derive c ∷ ts) = AllSplit o (nodes_in c) × AllSplitIn o ts
-AllSplitIn o (Make x ∷ ts) = AllSplitIn o ts
-
 -- the nodes of the tasks' parts
 abbrev pub pending_in : List Task → ℕ → Bool
 pending_in [] m = false
@@ -214,14 +208,13 @@ AreApart [] = Unit {0}
 AreApart (Derive c ∷ ts) = ((m : ℕ) → IsIn m (nodes_in c) → IsIn m (pending_in ts) → ⊥) × AreApart ts
 AreApart (Make x ∷ ts) = AreApart ts
 
--- what is left to do decides what the open net is
+-- the first of the parts that doesn't split decides which sub-net is the first stuck one
 pub record IsWork (o : OpenNet) (tasks : List Task) : Type 0 where
   pub sized : AreSized (length o.nodes) tasks
   pub apart : AreApart tasks
   pub whole : ℕ → Bool
   pub nodes : (n : ℕ) → IsIn n whole ↔ (n < length o.nodes)
   pub stuck : (t : ℕ → Bool) → StuckIn o tasks t → FirstStuck o whole t
-  pub splits : AllSplitIn o tasks → AllSplit o whole
 
 -- steps are taken from the tasks
 abbrev pub Passes : List Task → List Task → Type 0
