@@ -9,6 +9,7 @@ use Rattle.in_syntax.specs.declared.faults.Refusal.{Refusal}
 use Rattle.in_symbols.specs.Tables.{Tables}
 use Rattle.in_net.specs.Parts.{Parts}
 use Rattle.in_net.specs.Rules.{RuleParts}
+use Rattle.in_simple.specs.Derivations.{IsDerivation}
 use Rattle.in_simple.specs.OpenNets.{OpenNet, IsDerivable}
 use Rattle.in_simple.specs.Opening.{Opens}
 use Rattle.in_simple.specs.OpeningRules.{OpensRule}
@@ -19,7 +20,7 @@ use Rattle.in_check.specs.declared.checked.Certificate.{Certificate}
 
 -- the open net is built by the steps
 abbrev pub IsCertificate : Certificate → Type 0
-IsCertificate c = IsDerivable c.shape
+IsCertificate c = IsDerivation c.shape c.derivation.steps
 
 -- there are no steps that build it, and so it is refused there with this code
 pub record IsRefusedAt (o : OpenNet) (code : Code) (r : Refusal) : Type 0 where

@@ -6,6 +6,7 @@ use Rattle.in_simple.specs.declared.open_nets.Point.TheVariants.{Port, Free}
 use Rattle.in_simple.specs.Constructions.{IsIn}
 use Rattle.in_simple.specs.OpenNets.{OpenNet, IsNode, IsPointOf, IsWire, IsOpenNet, IsDerivable}
 use Rattle.in_simple.specs.Derivations.{Step, is_free, Builds, IsDerivation}
+use Rattle.in_simple.specs.Stacks.{no_wires}
 use Rattle.in_simple.proofs.Sums.{or_cases, or_left, or_right, not_both, not_true, some_same, some_of, port_yes, one_other}
 use Rattle.in_simple.proofs.Balance.{wire_turn}
 use Rattle.in_simple.proofs.Sound.{wire_points}
@@ -13,7 +14,7 @@ use Rattle.in_simple.proofs.Links.{Decided, same_nat}
 use Rattle.in_simple.proofs.Search.{test, test_yes, test_is}
 use Rattle.in_simple.proofs.Grow.{and_both, and_left, and_right, splits_built}
 use Rattle.in_simple.proofs.Forest.{Agrees}
-use Rattle.in_simple.proofs.Make.{port_most, no_links, Made, LinkOf, if_in, lead, make_link, make_mix, same_links, constructions}
+use Rattle.in_simple.proofs.Make.{port_most, Made, LinkOf, if_in, lead, make_link, make_mix, same_links, constructions}
 use Rattle.in_simple.proofs.Both.{derivable_splits}
 
 module _ (o : OpenNet) (net : IsOpenNet o) where
@@ -54,7 +55,7 @@ module _ (o : OpenNet) (net : IsOpenNet o) where
   ]
 
   -- with a Link of each wire between free ends
-  with_loose : (s : ℕ → Bool) → Made o net s no_links 0 → (b : ℕ) → Made o net s (loose_below b) 0
+  with_loose : (s : ℕ → Bool) → Made o net s no_wires 0 → (b : ℕ) → Made o net s (loose_below b) 0
   with_loose s x zero = x
   with_loose s x (suc b) = go (loose b) (with_loose s x b)
     where
@@ -140,5 +141,5 @@ module _ (o : OpenNet) (net : IsOpenNet o) where
   pub derivable_has_derivation : IsDerivable o → (steps : List Step) × IsDerivation o steps
   derivable_has_derivation d =
       let r = derivable_splits o net d in
-      let x = with_loose r.0 (splits_built o net (λ s. (k : ℕ) → Made o net s no_links k) (constructions o net) r.0 (λ n h. (r.1 n).0 h) r.2 0) (length o.wires) in
+      let x = with_loose r.0 (splits_built o net (λ s. (k : ℕ) → Made o net s no_wires k) (constructions o net) r.0 (λ n h. (r.1 n).0 h) r.2 0) (length o.wires) in
       (x.steps, is_derivation r.0 r.1 x)

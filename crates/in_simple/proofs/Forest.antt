@@ -7,7 +7,7 @@ use Rattle.in_simple.proofs.Sums.{or_cases, or_left, or_right, not_both, not_tru
 use Rattle.in_simple.proofs.Links.{same_nat, at_most}
 use Rattle.in_simple.proofs.Whole.{times_among}
 
-length_app : {X : Type 0} (xs ys : List X) → length (xs ++ ys) ≡ length xs + length ys
+pub length_app : {X : Type 0} (xs ys : List X) → length (xs ++ ys) ≡ length xs + length ys
 length_app [] ys = omega arith
 length_app (x ∷ xs) ys = let r = length_app xs ys in omega arith
 
@@ -26,7 +26,7 @@ get_cases [] ys j x h = inr (j, omega arith, h)
 get_cases (y ∷ xs) ys zero x h = inl h
 get_cases (y ∷ xs) ys (suc j) x h = elim (get_cases xs ys j x h) [ inl e ↦ inl e | inr r ↦ let e = r.1 in inr (r.0, omega arith, r.2) ]
 
-times_app : (n : ℕ) (xs ys : List ℕ) → times n (xs ++ ys) ≡ times n xs + times n ys
+pub times_app : (n : ℕ) (xs ys : List ℕ) → times n (xs ++ ys) ≡ times n xs + times n ys
 times_app n [] ys = omega arith
 times_app n (x ∷ xs) ys = let r = times_app n xs ys in omega arith
 
@@ -56,7 +56,7 @@ earlier_more parts k l h [] (x ∷ xs) e = e
 earlier_more parts k l h (i ∷ is) [] e = e
 earlier_more parts k l h (i ∷ is) (x ∷ xs) e = let a = e.0 in (omega arith, e.1, earlier_more parts k l h is xs e.2)
 
-earlier_app : (parts : List Part) (k : ℕ) (is : List ℕ) (xs : List Part) (js : List ℕ) (ys : List Part) → AreEarlier parts k is xs → AreEarlier parts k js ys → AreEarlier parts k (is ++ js) (xs ++ ys)
+pub earlier_app : (parts : List Part) (k : ℕ) (is : List ℕ) (xs : List Part) (js : List ℕ) (ys : List Part) → AreEarlier parts k is xs → AreEarlier parts k js ys → AreEarlier parts k (is ++ js) (xs ++ ys)
 earlier_app parts k [] [] js ys e f = f
 earlier_app parts k [] (x ∷ xs) js ys e f = absurd e
 earlier_app parts k (i ∷ is) [] js ys e f = absurd e

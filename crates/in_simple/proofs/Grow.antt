@@ -29,7 +29,7 @@ and_right false c h = cc
 pub pair_same : (r s : ℕ × ℕ) → r.0 ≡ s.0 → r.1 ≡ s.1 → r ≡ s
 pair_same (a, b) (c, d) e f = cc
 
-class_is_place : (i : ℕ) (m : Option OpenNode) → IsSomeAnd m IsClassNode → class_at m i ≡ i
+pub class_is_place : (i : ℕ) (m : Option OpenNode) → IsSomeAnd m IsClassNode → class_at m i ≡ i
 class_is_place i None h = absurd h
 class_is_place i (Some m) h = go m.node h
   where
@@ -37,7 +37,7 @@ class_is_place i (Some m) h = go m.node h
     go (AgentNode y) h = absurd h
     go (ClassNode y c) h = refl
 
-agent_or_class : (m : Option OpenNode) → (x : OpenNode) → m ≡ Some x → IsSomeAnd m IsAgentNode ⊎ IsSomeAnd m IsClassNode
+pub agent_or_class : (m : Option OpenNode) → (x : OpenNode) → m ≡ Some x → IsSomeAnd m IsAgentNode ⊎ IsSomeAnd m IsClassNode
 agent_or_class None x e = cc
 agent_or_class (Some m) x e = go m.node
   where

@@ -1,15 +1,19 @@
 pub mod Balance
 pub mod Both
+pub mod ClassNets
 pub mod Classes
 pub mod Counted
 pub mod Derives
 pub mod EachSplits
+pub mod Finishing
 pub mod Forest
 pub mod Grow
+pub mod Joining
 pub mod Links
 pub mod Make
 pub mod MeetingNodes
 pub mod Named
+pub mod Nets
 pub mod NoCircle
 pub mod Opened
 pub mod OpenedRules
@@ -21,6 +25,7 @@ pub mod Search
 pub mod Slots
 pub mod Sound
 pub mod SplittingPorts
+pub mod Stacking
 pub mod StuckNodes
 pub mod Sums
 pub mod TextRules

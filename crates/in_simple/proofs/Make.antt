@@ -1,13 +1,14 @@
 -- A derivation for each of the constructions.
-use Rattle.std.proofs.Common.{◌≡◌, ◌≢◌, ◌⊎◌, ◌↔◌, ◌<◌, ◌≤◌, ◌+◌, ◌-◌, ℕ, zero, suc, Bool, true, false, cond, ◌&&◌, ◌||◌, nat_eq, Some, List, [], ◌∷◌, ◌++◌, length, slice_get, refl, sym, subst, ap, inl, inr, ◌∙◌, eq-eqb, eqb-true, ne_eqb, arith}
+use Rattle.std.proofs.Common.{◌≡◌, ◌≢◌, ◌⊎◌, ◌↔◌, ◌<◌, ◌≤◌, ◌+◌, ℕ, zero, suc, Bool, true, false, cond, ◌&&◌, ◌||◌, nat_eq, Some, List, [], ◌∷◌, ◌++◌, length, slice_get, refl, sym, subst, ap, inl, inr, ◌∙◌, eq-eqb, eqb-true, ne_eqb, arith}
 use mathlib.Core.Path.{fun_ext}
 use Rattle.std.proofs.lemmas.Option.{slice_get_within}
 use Rattle.in_simple.specs.declared.open_nets.Point.{Point}
 use Rattle.in_simple.specs.declared.open_nets.Point.TheVariants.{Port, Free}
 use Rattle.in_simple.specs.Constructions.{IsIn, AreParts, numbered, IsGraft}
 use Rattle.in_simple.specs.OpenNets.{OpenNet, IsAgent, IsClass, class_in, classes_of, IsWire, IsOpenNet, open_graph}
-use Rattle.in_simple.specs.Derivations.{Step, Empty, Link, Given, Graft, Cut, Mix, Part, named, own_nodes, own_links, one_if, is_port_in, is_principal, is_auxiliary, is_among, nodes_of, links_of, ends_of, IsGrafted, Joins, times}
+use Rattle.in_simple.specs.Derivations.{Step, Empty, Link, Given, Graft, Cut, Mix, Part, named, own_nodes, own_links, one_if, is_port_in, is_principal, is_auxiliary, is_among, nodes_of, links_of, ends_of, ShareNothing, IsGrafted, Joins, times}
 use Rattle.in_simple.specs.Stuck.{ports_of}
+use Rattle.in_simple.specs.Stacks.{shape, no_wires, leads_out, IsLinkOf, HasShape}
 use Rattle.in_simple.proofs.Sums.{or_cases, or_left, or_right, true_or_false, not_both, not_true, same_test, got, some_same, port_yes, port_no, port_none, port_same, port_or, port_own, other_port, auxiliary_port, principal_one, one_same, one_other, of_nodes, in_nodes_of}
 use Rattle.in_simple.proofs.Balance.{wire_turn}
 use Rattle.in_simple.proofs.Sound.{wire_points, port_place}
@@ -68,9 +69,6 @@ sum_one (x ∷ xs) q (suc k) y h f =
     let b = sum_one xs q k y h (λ i z d g. f (suc i) z (λ u. d (omega arith)) g) in
     omega arith
 
-abbrev pub no_links : ℕ → Bool
-no_links w = false
-
 abbrev OwnOnce : ℕ → Step → Type 0
 OwnOnce n step = times n (own_nodes step) ≡ cond (is_among n (own_nodes step)) 1 0
 
@@ -86,13 +84,13 @@ module _ (o : OpenNet) (net : IsOpenNet o) where
   if_in d w = cond (d w) 1 0
 
   abbrev pub lead : (ℕ → Bool) → Point → Point → ℕ
-  lead s p q = is_port_in s p - is_port_in s q
+  lead = leads_out
 
   -- the ends of the net of s with the wires of d
-  ends_at : (ℕ → Bool) → (ℕ → Bool) → Point → ℕ
+  pub ends_at : (ℕ → Bool) → (ℕ → Bool) → Point → ℕ
   ends_at s d q = elim (partner_of q) [ inl r ↦ lead s r.1 q + if_in d r.0 | inr r ↦ 0 ]
 
-  ends_wire : (s d : ℕ → Bool) (w : ℕ) (p q : Point) → IsWire o w p q → ends_at s d q ≡ lead s p q + if_in d w
+  pub ends_wire : (s d : ℕ → Bool) (w : ℕ) (p q : Point) → IsWire o w p q → ends_at s d q ≡ lead s p q + if_in d w
   unfolding ends_at
   ends_wire s d w p q h = go (partner_of q)
     where
@@ -104,9 +102,8 @@ module _ (o : OpenNet) (net : IsOpenNet o) where
           omega arith
       go (inr r) = absurd (r (w, p, wire_turn o w p q h))
 
-  -- a Link of the net: one that is open at both ends, or one at an agent's auxiliary port
   abbrev pub LinkOf : (ℕ → Bool) → (ℕ → Bool) → ℕ → Type 0
-  LinkOf s d w = IsIn w d ⊎ ((l : ℕ) × (i : ℕ) × (q : Point) × IsWire o w (Port l i) q × IsIn l s × IsAgent o l × (i ≢ 0))
+  LinkOf s d w = IsLinkOf o (shape s d) w
 
   pub record Made (s d : ℕ → Bool) (k : ℕ) : Type 0 where
     pub steps : List Step
@@ -119,167 +116,236 @@ module _ (o : OpenNet) (net : IsOpenNet o) where
     pub ends : (w : ℕ) (p q : Point) → IsWire o w p q → top.ends q ≡ lead s p q + if_in d w
     pub links : (w : ℕ) → IsIn w top.links → LinkOf s d w
 
-  abbrev part_of : (ℕ → Bool) → (ℕ → Bool) → Step → List Part → Part
+  abbrev pub part_of : (ℕ → Bool) → (ℕ → Bool) → Step → List Part → Part
   part_of s d step tops = record { nodes = s; links = λ w. is_among w (own_links step) || links_of tops w; ends = ends_at s d }
 
   length_end : (xs : List Step) (x : Step) → length (xs ++ x ∷ []) ≡ suc (length xs)
   length_end [] x = refl
   length_end (y ∷ xs) x = let r = length_end xs x in omega arith
 
-  finish : (s d : ℕ → Bool) (k : ℕ) (steps : List Step) (parts : List Part) (roots : List ℕ) (tops : List Part) (step : Step) → Forest o k steps parts roots tops → named step ≡ roots → ((n : ℕ) → OwnOnce n step) → ((n : ℕ) → is_among n (own_nodes step) ≡ true → IsIn n (nodes_of tops) → ⊥) → ((n : ℕ) → s n ≡ (is_among n (own_nodes step) || nodes_of tops n)) → ((w : ℕ) → IsIn w (part_of s d step tops).links → LinkOf s d w) → Joins o step tops (part_of s d step tops) → Made s d k
-  finish s d k steps parts roots tops step f names one fresh nodes links joins = record {
+  -- what a step over these nets builds: the net of s, with Links of the wires of d
+  abbrev pub TopOf : (ℕ → Bool) → (ℕ → Bool) → Part → Type 0
+  TopOf s d y = HasShape o (shape s d) y
+
+  pub record Fit (s d : ℕ → Bool) (step : Step) (tops : List Part) : Type 0 where
+    pub apart : ShareNothing tops
+    pub once : (n : ℕ) → OwnOnce n step
+    pub fresh : (n : ℕ) → is_among n (own_nodes step) ≡ true → IsIn n (nodes_of tops) → ⊥
+    pub nodes : (n : ℕ) → s n ≡ (is_among n (own_nodes step) || nodes_of tops n)
+    pub links : (w : ℕ) → IsIn w (part_of s d step tops).links → LinkOf s d w
+    pub joins : Joins o step tops (part_of s d step tops)
+
+  top_of : (s d : ℕ → Bool) (k : ℕ) (x : Made s d k) → TopOf s d x.top
+  top_of s d k x = record { nodes = x.nodes; ends = x.ends; links = x.links }
+
+  finish : (s d : ℕ → Bool) (k : ℕ) (steps : List Step) (parts : List Part) (roots : List ℕ) (tops : List Part) (step : Step) → Forest o k steps parts roots tops → named step ≡ roots → Fit s d step tops → Made s d k
+  finish s d k steps parts roots tops step f names fit = record {
     steps = steps ++ step ∷ [];
     parts = parts ++ part_of s d step tops ∷ [];
     root = k + length steps;
     top = part_of s d step tops;
-    forest = close o k steps parts roots tops step (part_of s d step tops) f names one fresh nodes (λ w. refl) joins;
+    forest = close o k steps parts roots tops step (part_of s d step tops) f names fit.once fit.fresh fit.nodes (λ w. refl) fit.joins;
     last = let e = length_end steps step in omega arith;
     nodes = λ n. refl;
     ends = λ w p q h. ends_wire s d w p q h;
-    links = links;
+    links = fit.links;
   }
 
-  make_empty : (s : ℕ → Bool) → ((n : ℕ) → s n ≡ false) → (k : ℕ) → Made s no_links k
-  make_empty s none k = finish s no_links k [] [] [] [] Empty (nothing o k) refl (λ n. refl) (λ n h. absurd (not_both false h refl)) none (λ w h. absurd (not_both false h refl))
-      (λ w p q h. let e = ends_wire s no_links w p q h in let z = port_none s p none in omega arith)
+  pub fit_empty : (s : ℕ → Bool) → ((n : ℕ) → s n ≡ false) → Fit s no_wires Empty []
+  fit_empty s off = record {
+    apart = tt;
+    once = λ n. refl;
+    fresh = λ n h. absurd (not_both false h refl);
+    nodes = off;
+    links = λ w h. absurd (not_both false h refl);
+    joins = λ w p q h. let e = ends_wire s no_wires w p q h in let z = port_none s p off in omega arith;
+  }
+
+  make_empty : (s : ℕ → Bool) → ((n : ℕ) → s n ≡ false) → (k : ℕ) → Made s no_wires k
+  make_empty s off k = finish s no_wires k [] [] [] [] Empty (nothing o k) refl (fit_empty s off)
+
+  pub fit_link : (v : ℕ) (p q : Point) → IsWire o v p q → Fit (λ n. false) (λ w. nat_eq w v) (Link v) []
+  fit_link v p q h = record {
+    apart = tt;
+    once = λ n. refl;
+    fresh = λ n h. absurd (not_both false h refl);
+    nodes = λ n. refl;
+    links = λ w h. inl (elim (or_cases (nat_eq w v || false) false h) [ inl a ↦ elim (or_cases (nat_eq w v) false a) [ inl b ↦ b | inr b ↦ absurd (not_both false b refl) ] | inr a ↦ absurd (not_both false a refl) ]);
+    joins = ((p, q, h), λ w p q h. let e = ends_wire (λ n. false) (λ w. nat_eq w v) w p q h in let z = port_none (λ n. false) p (λ n. refl) in omega arith);
+  }
 
   pub make_link : (v : ℕ) (p q : Point) → IsWire o v p q → (k : ℕ) → Made (λ n. false) (λ w. nat_eq w v) k
-  make_link v p q h k = finish (λ n. false) (λ w. nat_eq w v) k [] [] [] [] (Link v) (nothing o k) refl (λ n. refl) (λ n h. absurd (not_both false h refl)) (λ n. refl)
-      (λ w h. inl (elim (or_cases (nat_eq w v || false) false h) [ inl a ↦ elim (or_cases (nat_eq w v) false a) [ inl b ↦ b | inr b ↦ absurd (not_both false b refl) ] | inr a ↦ absurd (not_both false a refl) ]))
-      ((p, q, h), λ w p q h. let e = ends_wire (λ n. false) (λ w. nat_eq w v) w p q h in let z = port_none (λ n. false) p (λ n. refl) in omega arith)
+  make_link v p q h k = finish (λ n. false) (λ w. nat_eq w v) k [] [] [] [] (Link v) (nothing o k) refl (fit_link v p q h)
 
-  make_given : (n : ℕ) (s : ℕ → Bool) → IsClass o n → ((m : ℕ) → IsIn m s ↔ (m ≡ n)) → ((i j w : ℕ) → IsWire o w (Port n i) (Port n j) → ⊥) → (k : ℕ) → Made s no_links k
-  make_given n s c all self k = finish s no_links k [] [] [] [] (Given n) (nothing o k) refl (λ m. once m) (λ m h g. not_both false g refl) (λ m. same_test (s m) ((nat_eq m n || false) || false)
-      (λ h. or_left (nat_eq m n || false) false (or_left (nat_eq m n) false (eq-eqb m n ((all m).0 h))))
-      (λ h. (all m).1 (elim (or_cases (nat_eq m n || false) false h) [ inl a ↦ elim (or_cases (nat_eq m n) false a) [ inl b ↦ eqb-true m n b | inr b ↦ absurd (not_both false b refl) ] | inr a ↦ absurd (not_both false a refl) ])))
-      (λ w h. absurd (not_both false h refl)) (
-        c,
-        λ w p q h.
-            let e = ends_wire s no_links w p q h in
-            let f = port_same s (λ m. nat_eq m n) p (λ m. same_test (s m) (nat_eq m n) (λ h. eq-eqb m n ((all m).0 h)) (λ h. (all m).1 (eqb-true m n h))) in
-            let g = not_two s s p q (λ l i m j a b x y.
-            let la = (all l).0 x in
-            let mb = (all m).0 y in
-            self i j w (subst (λ z. IsWire o w (Port n i) (Port z j)) mb (subst (λ z. IsWire o w (Port z i) (Port m j)) la (subst (λ z. IsWire o w (Port l i) z) b (subst (λ z. IsWire o w z q) a h))))) in
-            let u = port_most s p in
-            omega arith,
-      )
+  once_given : (n m : ℕ) → OwnOnce m (Given n)
+  once_given n m = go (nat_eq m n)
     where
-      once : (m : ℕ) → OwnOnce m (Given n)
-      once m = go (nat_eq m n)
-        where
-          go : (b : Bool) → cond b 1 0 + 0 ≡ cond (b || false) 1 0
-          go true = refl
-          go false = refl
+      go : (b : Bool) → cond b 1 0 + 0 ≡ cond (b || false) 1 0
+      go true = refl
+      go false = refl
+
+  pub fit_given : (n : ℕ) (s : ℕ → Bool) → IsClass o n → ((m : ℕ) → IsIn m s ↔ (m ≡ n)) → ((i j w : ℕ) → IsWire o w (Port n i) (Port n j) → ⊥) → Fit s no_wires (Given n) []
+  fit_given n s c all self = record {
+    apart = tt;
+    once = λ m. once_given n m;
+    fresh = λ m h g. not_both false g refl;
+    nodes = λ m. same_test (s m) ((nat_eq m n || false) || false)
+        (λ h. or_left (nat_eq m n || false) false (or_left (nat_eq m n) false (eq-eqb m n ((all m).0 h))))
+        (λ h. (all m).1 (elim (or_cases (nat_eq m n || false) false h) [ inl a ↦ elim (or_cases (nat_eq m n) false a) [ inl b ↦ eqb-true m n b | inr b ↦ absurd (not_both false b refl) ] | inr a ↦ absurd (not_both false a refl) ]));
+    links = λ w h. absurd (not_both false h refl);
+    joins = (
+      c,
+      λ w p q h.
+          let e = ends_wire s no_wires w p q h in
+          let f = port_same s (λ m. nat_eq m n) p (λ m. same_test (s m) (nat_eq m n) (λ h. eq-eqb m n ((all m).0 h)) (λ h. (all m).1 (eqb-true m n h))) in
+          let g = not_two s s p q (λ l i m j a b x y.
+          let la = (all l).0 x in
+          let mb = (all m).0 y in
+          self i j w (subst (λ z. IsWire o w (Port n i) (Port z j)) mb (subst (λ z. IsWire o w (Port z i) (Port m j)) la (subst (λ z. IsWire o w (Port l i) z) b (subst (λ z. IsWire o w z q) a h))))) in
+          let u = port_most s p in
+          omega arith,
+    );
+  }
+
+  make_given : (n : ℕ) (s : ℕ → Bool) → IsClass o n → ((m : ℕ) → IsIn m s ↔ (m ≡ n)) → ((i j w : ℕ) → IsWire o w (Port n i) (Port n j) → ⊥) → (k : ℕ) → Made s no_wires k
+  make_given n s c all self k = finish s no_wires k [] [] [] [] (Given n) (nothing o k) refl (fit_given n s c all self)
 
   two_nodes : (s a b : ℕ → Bool) → AreParts s a b → (x y : Part) → ((n : ℕ) → x.nodes n ≡ a n) → ((n : ℕ) → y.nodes n ≡ b n) → (n : ℕ) → s n ≡ (x.nodes n || (y.nodes n || false))
   two_nodes s a b parts x y f g n = same_test (s n) (x.nodes n || (y.nodes n || false))
       (λ h. elim ((parts n).0.0 h) [ inl u ↦ or_left (x.nodes n) (y.nodes n || false) (f n ∙ u) | inr u ↦ or_right (x.nodes n) (y.nodes n || false) (or_left (y.nodes n) false (g n ∙ u)) ])
       (λ h. (parts n).0.1 (elim (or_cases (x.nodes n) (y.nodes n || false) h) [ inl u ↦ inl (sym (f n) ∙ u) | inr u ↦ inr (sym (g n) ∙ one_node y n u) ]))
 
+  two_apart : (a b d e : ℕ → Bool) → ((n : ℕ) → IsIn n a → IsIn n b → ⊥) → ((w : ℕ) → LinkOf a d w → LinkOf b e w → ⊥) → (x y : Part) → TopOf a d x → TopOf b e y → ShareNothing (x ∷ y ∷ [])
+  two_apart a b d e apart cross x y tx ty = (
+    (λ n h g. apart n (sym (tx.nodes n) ∙ h) (sym (ty.nodes n) ∙ one_node y n g)),
+    (λ w h g. cross w (tx.links w h) (ty.links w (one_link y w g))),
+    ((λ n h g. not_both false g refl), (λ w h g. not_both false g refl), tt),
+  )
+
+  -- two runs, one after the other, and a step over both
+  over_both : (s a b d e f : ℕ → Bool) (k : ℕ) (x : Made a d k) (y : Made b e (k + length x.steps)) (step : Step) → named step ≡ x.root ∷ y.root ∷ [] → Fit s f step (x.top ∷ y.top ∷ []) → Made s f k
+  over_both s a b d e f k x y step names fit = finish s f k (x.steps ++ y.steps) (x.parts ++ y.parts) (x.root ∷ y.root ∷ []) (x.top ∷ y.top ∷ []) step
+      (beside o k x.steps x.parts (x.root ∷ []) (x.top ∷ []) y.steps y.parts (y.root ∷ []) (y.top ∷ []) x.forest y.forest
+      (λ n h g. fit.apart.0 n (one_node x.top n h) g)
+      (λ w h g. fit.apart.1 w (one_link x.top w h) g))
+      names fit
+
   -- two nets side by side
+  pub fit_mix : (s a b d e : ℕ → Bool) → AreParts s a b → ((l i m j w : ℕ) → IsWire o w (Port l i) (Port m j) → IsIn l a → IsIn m b → ⊥) → ((w : ℕ) → LinkOf a d w → LinkOf b e w → ⊥) → (x y : Part) → TopOf a d x → TopOf b e y → (i j : ℕ) → Fit s (λ w. d w || e w) (Mix i j) (x ∷ y ∷ [])
+  fit_mix s a b d e parts off cross x y tx ty i j = record {
+    apart = two_apart a b d e (λ n h g. (parts n).1 h g) cross x y tx ty;
+    once = λ n. refl;
+    fresh = λ n h g. not_both false h refl;
+    nodes = λ n. two_nodes s a b parts x y tx.nodes ty.nodes n;
+    links = λ w h. elim (or_cases (x.links w) (y.links w || false) h) [
+      | inl u ↦ elim (tx.links w u) [ inl v ↦ inl (or_left (d w) (e w) v) | inr v ↦ inr (v.0, v.1, v.2, v.3, (parts v.0).0.1 (inl v.4), v.5, v.6) ]
+      | inr u ↦ elim (ty.links w (one_link y w u)) [ inl v ↦ inl (or_right (d w) (e w) v) | inr v ↦ inr (v.0, v.1, v.2, v.3, (parts v.0).0.1 (inr v.4), v.5, v.6) ]
+    ];
+    joins = λ w p q h.
+        let r = ends_wire s (λ w. d w || e w) w p q h in
+        let u = tx.ends w p q h in
+        let v = ty.ends w p q h in
+        let f = or_sum (d w) (e w) (λ z z'. cross w (inl z) (inl z')) in
+        let pp = port_parts s a b parts p in
+        let qq = port_parts s a b parts q in
+        let m1 = not_two a b p q (λ l i m j g g' z z'. off l i m j w (subst (λ z. IsWire o w (Port l i) z) g' (subst (λ z. IsWire o w z q) g h)) z z') in
+        let m2 = not_two a b q p (λ l i m j g g' z z'. off l i m j w (subst (λ z. IsWire o w (Port l i) z) g' (subst (λ z. IsWire o w z p) g (wire_turn o w p q h))) z z') in
+        let n1 = not_two a b p p (λ l i m j g g' z z'. (parts m).1 (subst (λ z. IsIn z a) (port_place l m i j (sym g ∙ g')).0 z) z') in
+        let n2 = not_two a b q q (λ l i m j g g' z z'. (parts m).1 (subst (λ z. IsIn z a) (port_place l m i j (sym g ∙ g')).0 z) z') in
+        omega arith;
+  }
+
   pub make_mix : (s a b d e : ℕ → Bool) → AreParts s a b → ((l i m j w : ℕ) → IsWire o w (Port l i) (Port m j) → IsIn l a → IsIn m b → ⊥) → ((w : ℕ) → LinkOf a d w → LinkOf b e w → ⊥) → (k : ℕ) → Made a d k → ((k : ℕ) → Made b e k) → Made s (λ w. d w || e w) k
   make_mix s a b d e parts off cross k x next = go (next (k + length x.steps))
     where
       go : Made b e (k + length x.steps) → Made s (λ w. d w || e w) k
-      go y = finish s (λ w. d w || e w) k (x.steps ++ y.steps) (x.parts ++ y.parts) (x.root ∷ y.root ∷ []) (x.top ∷ y.top ∷ []) (Mix x.root y.root)
-          (beside o k x.steps x.parts (x.root ∷ []) (x.top ∷ []) y.steps y.parts (y.root ∷ []) (y.top ∷ []) x.forest y.forest
-          (λ n h g. (parts n).1 (sym (x.nodes n) ∙ one_node x.top n h) (sym (y.nodes n) ∙ one_node y.top n g))
-          (λ w h g. cross w (x.links w (one_link x.top w h)) (y.links w (one_link y.top w g))))
-          refl (λ n. refl) (λ n h g. not_both false h refl)
-          (λ n. two_nodes s a b parts x.top y.top x.nodes y.nodes n)
-          (λ w h. elim (or_cases (x.top.links w) (y.top.links w || false) h) [
-            | inl u ↦ elim (x.links w u) [ inl v ↦ inl (or_left (d w) (e w) v) | inr v ↦ inr (v.0, v.1, v.2, v.3, (parts v.0).0.1 (inl v.4), v.5, v.6) ]
-            | inr u ↦ elim (y.links w (one_link y.top w u)) [ inl v ↦ inl (or_right (d w) (e w) v) | inr v ↦ inr (v.0, v.1, v.2, v.3, (parts v.0).0.1 (inr v.4), v.5, v.6) ]
-          ])
-          (λ w p q h.
-          let r = ends_wire s (λ w. d w || e w) w p q h in
-          let u = x.ends w p q h in
-          let v = y.ends w p q h in
-          let f = or_sum (d w) (e w) (λ z z'. cross w (inl z) (inl z')) in
+      go y = over_both s a b d e (λ w. d w || e w) k x y (Mix x.root y.root) refl
+          (fit_mix s a b d e parts off cross x.top y.top (top_of a d k x) (top_of b e (k + length x.steps) y) x.root y.root)
+
+  -- two nets joined along the one wire between them, which is at a class node or an agent's principal port
+  abbrev pub OnlyWire : (ℕ → Bool) → (ℕ → Bool) → ℕ → ℕ → ℕ → ℕ → Type 0
+  OnlyWire a b l i m j = (l' i' m' j' w : ℕ) → IsWire o w (Port l' i') (Port m' j') → IsIn l' a → IsIn m' b → ((l' ≡ l) × (i' ≡ i)) × ((m' ≡ m) × (j' ≡ j))
+
+  pub fit_cut : (s a b : ℕ → Bool) (l i m j v : ℕ) → AreParts s a b → IsWire o v (Port l i) (Port m j) → (IsAgent o l → i ≡ 0) → IsIn l a → IsIn m b → OnlyWire a b l i m j → (x y : Part) → TopOf a no_wires x → TopOf b no_wires y → (g h : ℕ) → Fit s no_wires (Cut v g h) (x ∷ y ∷ [])
+  fit_cut s a b l i m j v parts wire firm la mb only x y tx ty g h = record {
+    apart = two_apart a b no_wires no_wires (λ n h g. (parts n).1 h g) cross x y tx ty;
+    once = λ n. refl;
+    fresh = λ n h g. not_both false h refl;
+    nodes = λ n. two_nodes s a b parts x y tx.nodes ty.nodes n;
+    links = λ w h. elim (or_cases (x.links w) (y.links w || false) h) [
+      | inl u ↦ elim (tx.links w u) [ inl v ↦ inl v | inr v ↦ inr (v.0, v.1, v.2, v.3, (parts v.0).0.1 (inl v.4), v.5, v.6) ]
+      | inr u ↦ elim (ty.links w (one_link y w u)) [ inl v ↦ inl v | inr v ↦ inr (v.0, v.1, v.2, v.3, (parts v.0).0.1 (inr v.4), v.5, v.6) ]
+    ];
+    joins = (
+      record {
+        p = Port l i;
+        q = Port m j;
+        wire = wire;
+        own = port_yes x.nodes l i (tx.nodes l ∙ la);
+        first = (let u = tx.ends v (Port l i) (Port m j) wire in let f = port_yes a l i la in let g = port_no a m j (not_true (a m) (λ z. (parts m).1 z mb)) in omega arith);
+        second = (let u = ty.ends v (Port m j) (Port l i) (wire_turn o v (Port l i) (Port m j) wire) in let f = port_yes b m j mb in let g = port_no b l i (not_true (b l) (λ z. (parts l).1 la z)) in omega arith);
+      },
+      λ w p q h.
+          let r = ends_wire s no_wires w p q h in
+          let u = tx.ends w p q h in
+          let z = ty.ends w p q h in
           let pp = port_parts s a b parts p in
           let qq = port_parts s a b parts q in
-          let m1 = not_two a b p q (λ l i m j g g' z z'. off l i m j w (subst (λ z. IsWire o w (Port l i) z) g' (subst (λ z. IsWire o w z q) g h)) z z') in
-          let m2 = not_two a b q p (λ l i m j g g' z z'. off l i m j w (subst (λ z. IsWire o w (Port l i) z) g' (subst (λ z. IsWire o w z p) g (wire_turn o w p q h))) z z') in
           let n1 = not_two a b p p (λ l i m j g g' z z'. (parts m).1 (subst (λ z. IsIn z a) (port_place l m i j (sym g ∙ g')).0 z) z') in
           let n2 = not_two a b q q (λ l i m j g g' z z'. (parts m).1 (subst (λ z. IsIn z a) (port_place l m i j (sym g ∙ g')).0 z) z') in
-          omega arith)
+          let al = port_yes a l i la in
+          let bm = port_yes b m j mb in
+          elim (same_nat w v) [
+            | inl e ↦
+                let one = one_same w v e in
+                elim (wire_points o v (Port l i) (Port m j) p q wire (subst (λ z. IsWire o z p q) e h)) [
+                  | inl f ↦
+                      let fp : is_port_in a p ≡ 1 = subst (λ z. is_port_in a z ≡ 1) (sym f.0) al in
+                      let fq : is_port_in b q ≡ 1 = subst (λ z. is_port_in b z ≡ 1) (sym f.1) bm in
+                      omega arith
+                  | inr f ↦
+                      let fp : is_port_in b p ≡ 1 = subst (λ z. is_port_in b z ≡ 1) (sym f.0) bm in
+                      let fq : is_port_in a q ≡ 1 = subst (λ z. is_port_in a z ≡ 1) (sym f.1) al in
+                      omega arith
+                ]
+            | inr e ↦
+                let one = one_other w v e in
+                let m1 = not_two a b p q (λ l' i' m' j' g g' z z'. e (here l' i' m' j' w (subst (λ z. IsWire o w (Port l' i') z) g' (subst (λ z. IsWire o w z q) g h)) z z')) in
+                let m2 = not_two a b q p (λ l' i' m' j' g g' z z'. e (here l' i' m' j' w (subst (λ z. IsWire o w (Port l' i') z) g' (subst (λ z. IsWire o w z p) g (wire_turn o w p q h))) z z')) in
+                omega arith
+          ],
+    );
+  }
+    where
+      here : (l' i' m' j' w : ℕ) → IsWire o w (Port l' i') (Port m' j') → IsIn l' a → IsIn m' b → w ≡ v
+      here l' i' m' j' w h z z' =
+          let e = only l' i' m' j' w h z z' in
+          let h' : IsWire o w (Port l i) (Port m' j') = subst (λ z. IsWire o w (Port z i) (Port m' j')) e.0.0 (subst (λ z. IsWire o w (Port l' z) (Port m' j')) e.0.1 h) in
+          (net.once w v (Port l i) (Port m' j') (Port m j) h' wire).0
 
-  make_cut : (s a b : ℕ → Bool) (l i m j v : ℕ) → AreParts s a b → IsWire o v (Port l i) (Port m j) → (IsAgent o l → i ≡ 0) → IsIn l a → IsIn m b → ((l' i' m' j' w : ℕ) → IsWire o w (Port l' i') (Port m' j') → IsIn l' a → IsIn m' b → ((l' ≡ l) × (i' ≡ i)) × ((m' ≡ m) × (j' ≡ j))) → (k : ℕ) → Made a no_links k → ((k : ℕ) → Made b no_links k) → Made s no_links k
+      cross : (w : ℕ) → LinkOf a no_wires w → LinkOf b no_wires w → ⊥
+      cross w (inl u) z = not_both false u refl
+      cross w (inr u) (inl z) = not_both false z refl
+      cross w (inr u) (inr z) = elim (wire_points o w (Port u.0 u.1) u.2 (Port z.0 z.1) z.2 u.3 z.3) [
+        | inl e ↦ (parts z.0).1 (subst (λ t. IsIn t a) (sym (port_place z.0 u.0 z.1 u.1 e.0).0) u.4) z.4
+        | inr e ↦
+            let h : IsWire o w (Port u.0 u.1) (Port z.0 z.1) = subst (λ t. IsWire o w (Port u.0 u.1) t) (sym e.0) u.3 in
+            let f = only u.0 u.1 z.0 z.1 w h u.4 z.4 in
+            u.6 (f.0.1 ∙ firm (subst (λ t. IsAgent o t) f.0.0 u.5))
+      ]
+
+  make_cut : (s a b : ℕ → Bool) (l i m j v : ℕ) → AreParts s a b → IsWire o v (Port l i) (Port m j) → (IsAgent o l → i ≡ 0) → IsIn l a → IsIn m b → OnlyWire a b l i m j → (k : ℕ) → Made a no_wires k → ((k : ℕ) → Made b no_wires k) → Made s no_wires k
   make_cut s a b l i m j v parts wire firm la mb only k x next = go (next (k + length x.steps))
     where
-      go : Made b no_links (k + length x.steps) → Made s no_links k
-      go y = finish s no_links k (x.steps ++ y.steps) (x.parts ++ y.parts) (x.root ∷ y.root ∷ []) (x.top ∷ y.top ∷ []) (Cut v x.root y.root)
-          (beside o k x.steps x.parts (x.root ∷ []) (x.top ∷ []) y.steps y.parts (y.root ∷ []) (y.top ∷ []) x.forest y.forest
-          (λ n h g. (parts n).1 (sym (x.nodes n) ∙ one_node x.top n h) (sym (y.nodes n) ∙ one_node y.top n g))
-          (λ w h g. cross w (x.links w (one_link x.top w h)) (y.links w (one_link y.top w g))))
-          refl (λ n. refl) (λ n h g. not_both false h refl)
-          (λ n. two_nodes s a b parts x.top y.top x.nodes y.nodes n)
-          (λ w h. elim (or_cases (x.top.links w) (y.top.links w || false) h) [
-            | inl u ↦ elim (x.links w u) [ inl v ↦ inl v | inr v ↦ inr (v.0, v.1, v.2, v.3, (parts v.0).0.1 (inl v.4), v.5, v.6) ]
-            | inr u ↦ elim (y.links w (one_link y.top w u)) [ inl v ↦ inl v | inr v ↦ inr (v.0, v.1, v.2, v.3, (parts v.0).0.1 (inr v.4), v.5, v.6) ]
-          ]) (
-            record {
-              p = Port l i;
-              q = Port m j;
-              wire = wire;
-              own = port_yes x.top.nodes l i (x.nodes l ∙ la);
-              first = (let u = x.ends v (Port l i) (Port m j) wire in let f = port_yes a l i la in let g = port_no a m j (not_true (a m) (λ z. (parts m).1 z mb)) in omega arith);
-              second = (let u = y.ends v (Port m j) (Port l i) (wire_turn o v (Port l i) (Port m j) wire) in let f = port_yes b m j mb in let g = port_no b l i (not_true (b l) (λ z. (parts l).1 la z)) in omega arith);
-            },
-            λ w p q h.
-                let r = ends_wire s no_links w p q h in
-                let u = x.ends w p q h in
-                let z = y.ends w p q h in
-                let pp = port_parts s a b parts p in
-                let qq = port_parts s a b parts q in
-                let n1 = not_two a b p p (λ l i m j g g' z z'. (parts m).1 (subst (λ z. IsIn z a) (port_place l m i j (sym g ∙ g')).0 z) z') in
-                let n2 = not_two a b q q (λ l i m j g g' z z'. (parts m).1 (subst (λ z. IsIn z a) (port_place l m i j (sym g ∙ g')).0 z) z') in
-                let al = port_yes a l i la in
-                let bm = port_yes b m j mb in
-                elim (same_nat w v) [
-                  | inl e ↦
-                      let one = one_same w v e in
-                      elim (wire_points o v (Port l i) (Port m j) p q wire (subst (λ z. IsWire o z p q) e h)) [
-                        | inl f ↦
-                            let fp : is_port_in a p ≡ 1 = subst (λ z. is_port_in a z ≡ 1) (sym f.0) al in
-                            let fq : is_port_in b q ≡ 1 = subst (λ z. is_port_in b z ≡ 1) (sym f.1) bm in
-                            omega arith
-                        | inr f ↦
-                            let fp : is_port_in b p ≡ 1 = subst (λ z. is_port_in b z ≡ 1) (sym f.0) bm in
-                            let fq : is_port_in a q ≡ 1 = subst (λ z. is_port_in a z ≡ 1) (sym f.1) al in
-                            omega arith
-                      ]
-                  | inr e ↦
-                      let one = one_other w v e in
-                      let m1 = not_two a b p q (λ l' i' m' j' g g' z z'. e (here l' i' m' j' w (subst (λ z. IsWire o w (Port l' i') z) g' (subst (λ z. IsWire o w z q) g h)) z z')) in
-                      let m2 = not_two a b q p (λ l' i' m' j' g g' z z'. e (here l' i' m' j' w (subst (λ z. IsWire o w (Port l' i') z) g' (subst (λ z. IsWire o w z p) g (wire_turn o w p q h))) z z')) in
-                      omega arith
-                ],
-          )
-        where
-          here : (l' i' m' j' w : ℕ) → IsWire o w (Port l' i') (Port m' j') → IsIn l' a → IsIn m' b → w ≡ v
-          here l' i' m' j' w h z z' =
-              let e = only l' i' m' j' w h z z' in
-              let h' : IsWire o w (Port l i) (Port m' j') = subst (λ z. IsWire o w (Port z i) (Port m' j')) e.0.0 (subst (λ z. IsWire o w (Port l' z) (Port m' j')) e.0.1 h) in
-              (net.once w v (Port l i) (Port m' j') (Port m j) h' wire).0
-
-          cross : (w : ℕ) → LinkOf a no_links w → LinkOf b no_links w → ⊥
-          cross w (inl u) z = not_both false u refl
-          cross w (inr u) (inl z) = not_both false z refl
-          cross w (inr u) (inr z) = elim (wire_points o w (Port u.0 u.1) u.2 (Port z.0 z.1) z.2 u.3 z.3) [
-            | inl e ↦ (parts z.0).1 (subst (λ t. IsIn t a) (sym (port_place z.0 u.0 z.1 u.1 e.0).0) u.4) z.4
-            | inr e ↦
-                let h : IsWire o w (Port u.0 u.1) (Port z.0 z.1) = subst (λ t. IsWire o w (Port u.0 u.1) t) (sym e.0) u.3 in
-                let f = only u.0 u.1 z.0 z.1 w h u.4 z.4 in
-                u.6 (f.0.1 ∙ firm (subst (λ t. IsAgent o t) f.0.0 u.5))
-          ]
+      go : Made b no_wires (k + length x.steps) → Made s no_wires k
+      go y = over_both s a b no_wires no_wires no_wires k x y (Cut v x.root y.root) refl
+          (fit_cut s a b l i m j v parts wire firm la mb only x.top y.top (top_of a no_wires k x) (top_of b no_wires (k + length x.steps) y) x.root y.root)
 
   pub same_links : (s d e : ℕ → Bool) (k : ℕ) → ((w : ℕ) → d w ≡ e w) → Made s d k → Made s e k
   same_links s d e k f x = subst (λ z. Made s z k) (fun_ext f) x
 
-  module _ (n : ℕ) (s : ℕ → Bool) (part : ℕ → ℕ) (agent : IsAgent o n) (zero_root : part n ≡ 0) (most : (m : ℕ) → IsIn m s → part m ≤ classes_of o n) (r : IsGraft (open_graph o) n s part) (nets : (c : ℕ) → 0 < c → (k : ℕ) → Made (numbered s part c) no_links k) where
-    abbrev of_class : ℕ → ℕ → Bool
+  module _ (n : ℕ) (s : ℕ → Bool) (part : ℕ → ℕ) (agent : IsAgent o n) (zero_root : part n ≡ 0) (most : (m : ℕ) → IsIn m s → part m ≤ classes_of o n) (r : IsGraft (open_graph o) n s part) where
+    abbrev pub of_class : ℕ → ℕ → Bool
     of_class c m = s m && nat_eq (part m) c
 
     class_in_s : (c m : ℕ) → IsIn m (of_class c) → IsIn m s
@@ -295,10 +361,10 @@ module _ (o : OpenNet) (net : IsOpenNet o) where
     not_root c m l h e = let u = class_is c m h in let v : part m ≡ part n = ap part e in omega arith
 
     -- wire w is at a port of class c of n, and leads to no node of the class's net
-    abbrev Dangles : ℕ → ℕ → Type 0
+    abbrev pub Dangles : ℕ → ℕ → Type 0
     Dangles c w = (i : ℕ) × (class_in o n i ≡ c) × ((q : Point) × IsWire o w (Port n i) q × (is_port_in (of_class c) q ≡ 0))
 
-    dangles : (c w : ℕ) → Decided (Dangles c w)
+    pub dangles : (c w : ℕ) → Decided (Dangles c w)
     dangles c w = go (least At at (λ i. 0) (ports_of o n))
       where
         At : ℕ → Type 0
@@ -319,11 +385,11 @@ module _ (o : OpenNet) (net : IsOpenNet o) where
         go (inr t) = inl (t.0, t.2.0, t.2.1)
 
     -- those of the wires below b
-    abbrev hanging : ℕ → ℕ → ℕ → Bool
+    abbrev pub hanging : ℕ → ℕ → ℕ → Bool
     hanging c zero w = false
     hanging c (suc b) w = (nat_eq w b && test (dangles c b)) || hanging c b w
 
-    hanging_is : (c b w : ℕ) → IsIn w (hanging c b) → (w < b) × Dangles c w
+    pub hanging_is : (c b w : ℕ) → IsIn w (hanging c b) → (w < b) × Dangles c w
     hanging_is c zero w h = absurd (not_both false h refl)
     hanging_is c (suc b) w h = elim (or_cases (nat_eq w b && test (dangles c b)) (hanging c b w) h) [
       | inl e ↦
@@ -332,16 +398,19 @@ module _ (o : OpenNet) (net : IsOpenNet o) where
       | inr e ↦ let f = hanging_is c b w e in let l = f.0 in (omega arith, f.1)
     ]
 
-    hanging_yes : (c b w : ℕ) → w < b → Dangles c w → IsIn w (hanging c b)
+    pub hanging_yes : (c b w : ℕ) → w < b → Dangles c w → IsIn w (hanging c b)
     hanging_yes c zero w l h = absurd (omega arith)
     hanging_yes c (suc b) w l h = elim (same_nat w b) [
       | inl e ↦ or_left (nat_eq w b && test (dangles c b)) (hanging c b w) (and_both (nat_eq w b) (test (dangles c b)) (eq-eqb w b e) (test_yes (dangles c b) (subst (Dangles c) e h)))
       | inr e ↦ or_right (nat_eq w b && test (dangles c b)) (hanging c b w) (hanging_yes c b w (omega arith) h)
     ]
 
-    class_net : (c : ℕ) → 0 < c → (b k : ℕ) → Made (of_class c) (hanging c b) k
-    class_net c l zero k = nets c l k
-    class_net c l (suc b) k = go (dangles c b) (class_net c l b k)
+    abbrev Nets : Type 0
+    Nets = (c : ℕ) → 0 < c → (k : ℕ) → Made (numbered s part c) no_wires k
+
+    class_net : Nets → (c : ℕ) → 0 < c → (b k : ℕ) → Made (of_class c) (hanging c b) k
+    class_net nets c l zero k = nets c l k
+    class_net nets c l (suc b) k = go (dangles c b) (class_net nets c l b k)
       where
         go : (d : Decided (Dangles c b)) → Made (of_class c) (hanging c b) k → Made (of_class c) (λ w. (nat_eq w b && test d) || hanging c b w) k
         go (inr u) x = same_links (of_class c) (hanging c b) (λ w. (nat_eq w b && false) || hanging c b w) k (λ w. drop (nat_eq w b) (hanging c b w)) x
@@ -378,10 +447,8 @@ module _ (o : OpenNet) (net : IsOpenNet o) where
     all = length o.wires
 
     -- what the step of class c builds
-    record TopOf (c : ℕ) (y : Part) : Type 0 where
-      nodes : (m : ℕ) → y.nodes m ≡ of_class c m
-      ends : (w : ℕ) (p q : Point) → IsWire o w p q → y.ends q ≡ lead (of_class c) p q + if_in (hanging c (length o.wires)) w
-      links : (w : ℕ) → IsIn w y.links → LinkOf (of_class c) (hanging c (length o.wires)) w
+    abbrev pub ClassTop : ℕ → Part → Type 0
+    ClassTop c y = TopOf (of_class c) (hanging c (length o.wires)) y
 
     record Tops (c many k : ℕ) : Type 0 where
       steps : List Step
@@ -390,7 +457,7 @@ module _ (o : OpenNet) (net : IsOpenNet o) where
       tops : List Part
       forest : Forest o k steps parts roots tops
       few : length tops ≡ many
-      at : (i : ℕ) (y : Part) → slice_get tops i ≡ Some y → TopOf (c + i) y
+      at : (i : ℕ) (y : Part) → slice_get tops i ≡ Some y → ClassTop (c + i) y
 
     -- no Link of two classes
     apart : (c d w : ℕ) → 0 < c → 0 < d → c ≢ d → LinkOf (of_class c) (hanging c (length o.wires)) w → LinkOf (of_class d) (hanging d (length o.wires)) w → ⊥
@@ -419,9 +486,29 @@ module _ (o : OpenNet) (net : IsOpenNet o) where
       | inr e ↦ differ (sym (class_is c u.0 u.4) ∙ r.among u.0 v.0 u.1 v.1 (class_in_s c u.0 u.4) (class_in_s d v.0 v.4) (not_root c u.0 lc u.4) (not_root d v.0 ld v.4) (w, subst (λ t. IsWire o w (Port u.0 u.1) t) (sym e.0) u.3) ∙ class_is d v.0 v.4)
     ]
 
-    class_nets : (many c k : ℕ) → 0 < c → Tops c many k
-    class_nets zero c k l = record { steps = []; parts = []; roots = []; tops = []; forest = nothing o k; few = refl; at = λ i y h. cc }
-    class_nets (suc many) c k l = go (class_net c l (length o.wires) k) (λ j. class_nets many (suc c) j (omega arith))
+    share_classes : (c : ℕ) → 0 < c → (ys : List Part) → ((i : ℕ) (y : Part) → slice_get ys i ≡ Some y → ClassTop (c + i) y) → ShareNothing ys
+    share_classes c l [] at = tt
+    share_classes c l (y ∷ ys) at = (
+      (λ m h g.
+          let t = of_nodes ys m g in
+          let u = class_is c m (sym (here.nodes m) ∙ h) in
+          let v = class_is (suc c + t.0) m (sym ((next t.0 t.1 t.2).nodes m) ∙ t.3) in
+          omega arith),
+      (λ w h g.
+          let t = of_links ys w g in
+          apart c (suc c + t.0) w l (omega arith) (λ e. omega arith) (here.links w h) ((next t.0 t.1 t.2).links w t.3)),
+      share_classes (suc c) (omega arith) ys next,
+    )
+      where
+        here : ClassTop c y
+        here = let e : c + 0 ≡ c = omega arith in subst (λ u. ClassTop u y) e (at 0 y refl)
+
+        next : (i : ℕ) (z : Part) → slice_get ys i ≡ Some z → ClassTop (suc c + i) z
+        next i z h = let e : c + suc i ≡ suc c + i = omega arith in subst (λ u. ClassTop u z) e (at (suc i) z h)
+
+    class_nets : Nets → (many c k : ℕ) → 0 < c → Tops c many k
+    class_nets nets zero c k l = record { steps = []; parts = []; roots = []; tops = []; forest = nothing o k; few = refl; at = λ i y h. cc }
+    class_nets nets (suc many) c k l = go (class_net nets c l (length o.wires) k) (λ j. class_nets nets many (suc c) j (omega arith))
       where
         go : Made (of_class c) (hanging c (length o.wires)) k → ((j : ℕ) → Tops (suc c) many j) → Tops c (suc many) k
         go x next = with_rest (next (k + length x.steps))
@@ -433,42 +520,39 @@ module _ (o : OpenNet) (net : IsOpenNet o) where
               roots = x.root ∷ y.roots;
               tops = x.top ∷ y.tops;
               forest = beside o k x.steps x.parts (x.root ∷ []) (x.top ∷ []) y.steps y.parts y.roots y.tops x.forest y.forest
-                  (λ m h g.
-                  let t = of_nodes y.tops m g in
-                  let a = class_is c m (sym (x.nodes m) ∙ one_node x.top m h) in
-                  let b = class_is (suc c + t.0) m (sym ((y.at t.0 t.1 t.2).nodes m) ∙ t.3) in
-                  omega arith)
-                  (λ w h g.
-                  let t = of_links y.tops w g in
-                  apart c (suc c + t.0) w l (omega arith) (λ e. omega arith) (x.links w (one_link x.top w h)) ((y.at t.0 t.1 t.2).links w t.3));
+                  (λ m h g. shared.0 m (one_node x.top m h) g)
+                  (λ w h g. shared.1 w (one_link x.top w h) g);
               few = let e = y.few in omega arith;
               at = at;
             }
               where
-                at : (i : ℕ) (z : Part) → slice_get (x.top ∷ y.tops) i ≡ Some z → TopOf (c + i) z
+                at : (i : ℕ) (z : Part) → slice_get (x.top ∷ y.tops) i ≡ Some z → ClassTop (c + i) z
                 at zero z h =
                     let e : c ≡ c + 0 = omega arith in
-                    subst (λ u. TopOf u z) e (subst (TopOf c) (some_same (Some x.top) x.top z refl h) (record { nodes = x.nodes; ends = x.ends; links = x.links }))
-                at (suc i) z h = let e : suc c + i ≡ c + suc i = omega arith in subst (λ u. TopOf u z) e (y.at i z h)
+                    subst (λ u. ClassTop u z) e (subst (ClassTop c) (some_same (Some x.top) x.top z refl h) (top_of (of_class c) (hanging c (length o.wires)) k x))
+                at (suc i) z h = let e : suc c + i ≡ c + suc i = omega arith in subst (λ u. ClassTop u z) e (y.at i z h)
 
-    module _ (k : ℕ) (t : Tops 1 (classes_of o n) k) where
-      top : (c : ℕ) → 0 < c → c ≤ classes_of o n → (i : ℕ) × (c ≡ 1 + i) × (y : Part) × (slice_get t.tops i ≡ Some y) × TopOf c y
+                shared : ShareNothing (x.top ∷ y.tops)
+                shared = share_classes c l (x.top ∷ y.tops) at
+
+    module _ (tops : List Part) (few : length tops ≡ classes_of o n) (at : (i : ℕ) (y : Part) → slice_get tops i ≡ Some y → ClassTop (1 + i) y) where
+      top : (c : ℕ) → 0 < c → c ≤ classes_of o n → (i : ℕ) × (c ≡ 1 + i) × (y : Part) × (slice_get tops i ≡ Some y) × ClassTop c y
       top zero l h = absurd (omega arith)
       top (suc c) l h =
-          let f = t.few in
-          let y = got t.tops c (omega arith) in
+          let f = few in
+          let y = got tops c (omega arith) in
           let e : 1 + c ≡ suc c = omega arith in
-          (c, omega arith, y.0, y.1, subst (λ z. TopOf z y.0) e (t.at c y.0 y.1))
+          (c, omega arith, y.0, y.1, subst (λ z. ClassTop z y.0) e (at c y.0 y.1))
 
       -- the ends of all classes' nets for q, where only class c has any
-      sum_class : (w : ℕ) (p q : Point) → IsWire o w p q → (c : ℕ) → 0 < c → c ≤ classes_of o n → ((d : ℕ) → 0 < d → d ≢ c → lead (of_class d) p q + if_in (hanging d (length o.wires)) w ≡ 0) → ends_of t.tops q ≡ lead (of_class c) p q + if_in (hanging c (length o.wires)) w
+      sum_class : (w : ℕ) (p q : Point) → IsWire o w p q → (c : ℕ) → 0 < c → c ≤ classes_of o n → ((d : ℕ) → 0 < d → d ≢ c → lead (of_class d) p q + if_in (hanging d (length o.wires)) w ≡ 0) → ends_of tops q ≡ lead (of_class c) p q + if_in (hanging c (length o.wires)) w
       sum_class w p q h c l m f =
           let y = top c l m in
           let e = y.1 in
-          sum_one t.tops q y.0 y.2 y.3 (λ i z d g. (t.at i z g).ends w p q h ∙ f (1 + i) (omega arith) (λ u. d (omega arith))) ∙ y.4.ends w p q h
+          sum_one tops q y.0 y.2 y.3 (λ i z d g. (at i z g).ends w p q h ∙ f (1 + i) (omega arith) (λ u. d (omega arith))) ∙ y.4.ends w p q h
 
-      sum_none : (w : ℕ) (p q : Point) → IsWire o w p q → ((d : ℕ) → 0 < d → lead (of_class d) p q + if_in (hanging d (length o.wires)) w ≡ 0) → ends_of t.tops q ≡ 0
-      sum_none w p q h f = sum_zero t.tops q (λ i z g. (t.at i z g).ends w p q h ∙ f (1 + i) (omega arith))
+      sum_none : (w : ℕ) (p q : Point) → IsWire o w p q → ((d : ℕ) → 0 < d → lead (of_class d) p q + if_in (hanging d (length o.wires)) w ≡ 0) → ends_of tops q ≡ 0
+      sum_none w p q h f = sum_zero tops q (λ i z g. (at i z g).ends w p q h ∙ f (1 + i) (omega arith))
 
       -- where a point stands
       abbrev Where : Point → Type 0
@@ -546,7 +630,7 @@ module _ (o : OpenNet) (net : IsOpenNet o) where
           ]
 
       abbrev Equation : Point → Point → Type 0
-      Equation p q = lead s p q + is_auxiliary n q ≡ ends_of t.tops q + is_principal n p
+      Equation p q = lead s p q + is_auxiliary n q ≡ ends_of tops q + is_principal n p
 
       root_root : (w i j : ℕ) → IsWire o w (Port n i) (Port n j) → Equation (Port n i) (Port n j)
       root_root w i j h =
@@ -735,12 +819,12 @@ module _ (o : OpenNet) (net : IsOpenNet o) where
       equation w p q h (inr (inr a)) (inr (inl b)) = outer_any w p q h a.0 a.1 (λ i e. b.4 (port_place b.0 n b.1 i (sym b.2 ∙ e)).0) (subst (λ z. is_auxiliary n z ≡ 0) (sym b.2) (other_port n b.0 b.1 b.4))
       equation w p q h (inr (inr a)) (inr (inr b)) = outer_any w p q h a.0 a.1 b.1 (outer_no q b.1).1
 
-      grafted : IsGrafted o n t.tops
+      grafted : IsGrafted o n tops
       grafted = record {
         agent = agent;
-        many = t.few;
+        many = few;
         each = λ w i c q x h e g.
-            let y = t.at c x g in
+            let y = at c x g in
             let back = wire_turn o w (Port n i) q h in
             let en = y.ends w q (Port n i) back in
             let z = root_out (1 + c) i (omega arith) in
@@ -750,59 +834,65 @@ module _ (o : OpenNet) (net : IsOpenNet o) where
             ];
       }
 
-      make_graft : Made s no_links k
-      make_graft = finish s no_links k t.steps t.parts t.roots t.tops (Graft n t.roots) t.forest refl one fresh nodes links
-          (grafted, λ w p q h. let e = ends_wire s no_links w p q h in let f = equation w p q h (where_is p) (where_is q) in omega arith)
+      pub fit_graft : (roots : List ℕ) → Fit s no_wires (Graft n roots) tops
+      fit_graft roots = record {
+        apart = share_classes 1 (omega arith) tops at;
+        once = λ m. once_given n m;
+        fresh = fresh;
+        nodes = nodes;
+        links = links;
+        joins = (grafted, λ w p q h. let e = ends_wire s no_wires w p q h in let f = equation w p q h (where_is p) (where_is q) in omega arith);
+      }
         where
-          one : (m : ℕ) → OwnOnce m (Graft n t.roots)
-          one m = go (nat_eq m n)
-            where
-              go : (b : Bool) → cond b 1 0 + 0 ≡ cond (b || false) 1 0
-              go true = refl
-              go false = refl
-
-          fresh : (m : ℕ) → is_among m (own_nodes (Graft n t.roots)) ≡ true → IsIn m (nodes_of t.tops) → ⊥
+          fresh : (m : ℕ) → is_among m (own_nodes (Graft n roots)) ≡ true → IsIn m (nodes_of tops) → ⊥
           fresh m h g =
-              let x = of_nodes t.tops m g in
-              not_root (1 + x.0) m (omega arith) (sym ((t.at x.0 x.1 x.2).nodes m) ∙ x.3)
+              let x = of_nodes tops m g in
+              not_root (1 + x.0) m (omega arith) (sym ((at x.0 x.1 x.2).nodes m) ∙ x.3)
               (elim (or_cases (nat_eq m n) false h) [ inl e ↦ eqb-true m n e | inr e ↦ absurd (not_both false e refl) ])
 
-          nodes : (m : ℕ) → s m ≡ ((nat_eq m n || false) || nodes_of t.tops m)
-          nodes m = same_test (s m) ((nat_eq m n || false) || nodes_of t.tops m)
+          nodes : (m : ℕ) → s m ≡ ((nat_eq m n || false) || nodes_of tops m)
+          nodes m = same_test (s m) ((nat_eq m n || false) || nodes_of tops m)
               (λ h. elim (same_nat m n) [
-                | inl e ↦ or_left (nat_eq m n || false) (nodes_of t.tops m) (or_left (nat_eq m n) false (eq-eqb m n e))
+                | inl e ↦ or_left (nat_eq m n || false) (nodes_of tops m) (or_left (nat_eq m n) false (eq-eqb m n e))
                 | inr d ↦
                     let y = top (part m) (r.others m h d) (most m h) in
-                    or_right (nat_eq m n || false) (nodes_of t.tops m) (in_nodes_of t.tops y.0 y.2 m y.3 (y.4.nodes m ∙ in_class (part m) m h refl))
+                    or_right (nat_eq m n || false) (nodes_of tops m) (in_nodes_of tops y.0 y.2 m y.3 (y.4.nodes m ∙ in_class (part m) m h refl))
               ])
-              (λ h. elim (or_cases (nat_eq m n || false) (nodes_of t.tops m) h) [
+              (λ h. elim (or_cases (nat_eq m n || false) (nodes_of tops m) h) [
                 | inl e ↦ elim (or_cases (nat_eq m n) false e) [ inl f ↦ subst (λ z. IsIn z s) (sym (eqb-true m n f)) r.root | inr f ↦ absurd (not_both false f refl) ]
-                | inr e ↦ let x = of_nodes t.tops m e in class_in_s (1 + x.0) m (sym ((t.at x.0 x.1 x.2).nodes m) ∙ x.3)
+                | inr e ↦ let x = of_nodes tops m e in class_in_s (1 + x.0) m (sym ((at x.0 x.1 x.2).nodes m) ∙ x.3)
               ])
 
-          links : (w : ℕ) → IsIn w (links_of t.tops) → LinkOf s no_links w
+          links : (w : ℕ) → IsIn w (links_of tops) → LinkOf s no_wires w
           links w h =
-              let x = of_links t.tops w h in
-              elim ((t.at x.0 x.1 x.2).links w x.3) [
+              let x = of_links tops w h in
+              elim ((at x.0 x.1 x.2).links w x.3) [
                 | inl u ↦
                     let y = (hanging_is (1 + x.0) (length o.wires) w u).1 in
                     inr (n, y.0, y.2.0, y.2.1, r.root, agent, λ e. let z = (net.principal n y.0 agent (net.points w (Port n y.0) y.2.0 y.2.1)).1 e in let v = y.1 in omega arith)
                 | inr u ↦ inr (u.0, u.1, u.2, u.3, class_in_s (1 + x.0) u.0 u.4, u.5, u.6)
               ]
 
-  pub constructions : Constructions o (λ s. (k : ℕ) → Made s no_links k)
+    make_graft : Nets → (k : ℕ) → Made s no_wires k
+    make_graft nets k = go (class_nets nets (classes_of o n) 1 k (omega arith))
+      where
+        go : Tops 1 (classes_of o n) k → Made s no_wires k
+        go t = finish s no_wires k t.steps t.parts t.roots t.tops (Graft n t.roots) t.forest refl (fit_graft t.tops t.few t.at t.roots)
+
+  -- Links at agents of nets that no wire joins are of different wires
+  pub agents_apart : (s a b : ℕ → Bool) → AreParts s a b → ((l i m j w : ℕ) → IsWire o w (Port l i) (Port m j) → IsIn l a → IsIn m b → ⊥) → (w : ℕ) → LinkOf a no_wires w → LinkOf b no_wires w → ⊥
+  agents_apart s a b parts off w (inl u) z = not_both false u refl
+  agents_apart s a b parts off w (inr u) (inl z) = not_both false z refl
+  agents_apart s a b parts off w (inr u) (inr z) = elim (wire_points o w (Port u.0 u.1) u.2 (Port z.0 z.1) z.2 u.3 z.3) [
+    | inl e ↦ (parts z.0).1 (subst (λ t. IsIn t a) (sym (port_place z.0 u.0 z.1 u.1 e.0).0) u.4) z.4
+    | inr e ↦ off u.0 u.1 z.0 z.1 w (subst (λ t. IsWire o w (Port u.0 u.1) t) (sym e.0) u.3) u.4 z.4
+  ]
+
+  pub constructions : Constructions o (λ s. (k : ℕ) → Made s no_wires k)
   constructions = record {
     empty = λ s h k. make_empty s h k;
     given = λ n s c all self k. make_given n s c all self k;
-    mix = λ s a b parts off x y k. make_mix s a b no_links no_links parts off (cross s a b parts off) k (x k) y;
+    mix = λ s a b parts off x y k. make_mix s a b no_wires no_wires parts off (agents_apart s a b parts off) k (x k) y;
     cut = λ s a b l i m j v parts wire firm la mb only x y k. make_cut s a b l i m j v parts wire firm la mb only k (x k) y;
-    graft = λ n s part agent z most r nets k. make_graft n s part agent z most r nets k (class_nets n s part agent z most r nets (classes_of o n) 1 k (omega arith));
+    graft = λ n s part agent z most r nets k. make_graft n s part agent z most r nets k;
   }
-    where
-      cross : (s a b : ℕ → Bool) → AreParts s a b → ((l i m j w : ℕ) → IsWire o w (Port l i) (Port m j) → IsIn l a → IsIn m b → ⊥) → (w : ℕ) → LinkOf a no_links w → LinkOf b no_links w → ⊥
-      cross s a b parts off w (inl u) z = not_both false u refl
-      cross s a b parts off w (inr u) (inl z) = not_both false z refl
-      cross s a b parts off w (inr u) (inr z) = elim (wire_points o w (Port u.0 u.1) u.2 (Port z.0 z.1) z.2 u.3 z.3) [
-        | inl e ↦ (parts z.0).1 (subst (λ t. IsIn t a) (sym (port_place z.0 u.0 z.1 u.1 e.0).0) u.4) z.4
-        | inr e ↦ off u.0 u.1 z.0 z.1 w (subst (λ t. IsWire o w (Port u.0 u.1) t) (sym e.0) u.3) u.4 z.4
-      ]

@@ -12,7 +12,7 @@ use Rattle.in_simple.specs.Constructions.{IsIn}
 use Rattle.in_simple.specs.Splitting.{alone, Without}
 use Rattle.in_simple.specs.OpenNets.{OpenNet, IsWire, IsOpenNet, IsAgentNode, IsClassNode, IsAgent, IsClass}
 use Rattle.in_simple.specs.Stuck.{ports_of, turn, ComesAt}
-use Rattle.in_simple.specs.Procedure.{nodes_in, IsReached, IsRest, IsPart, Lists, AreSized, IsPlan, HasTurn, GoesOn, KeepsPlan, Derives, with_task}
+use Rattle.in_simple.specs.Procedure.{nodes_in, IsReached, IsRest, IsPart, Lists, AreSized, PortSplits, IsPlan, HasTurn, GoesOn, KeepsPlan, Derives, with_task}
 use Rattle.in_simple.proofs.Sums.{or_cases, or_left, or_right, not_both}
 use Rattle.in_simple.proofs.Links.{same_nat, at_most, link_back, link_first}
 use Rattle.in_simple.proofs.Reaching.{in_length}
@@ -67,6 +67,7 @@ plan_make o n t p j h = record {
   done = h.done;
   sized = sized_more (length o.nodes) p.tasks (Make j ∷ []) h.sized tt;
   lists = λ more k. subst (λ z. Lists o n (nodes_in p.rest) 0 z) (sym (append_assoc p.tasks (Make j ∷ []) more)) (h.lists (Make j ∷ more) k);
+  splits = h.splits;
 }
 
 pub keeps_make : (old p q : Plan) (j : Joint) → KeepsPlan old p → q ≡ with_task p (Make j) → KeepsPlan old q
@@ -109,14 +110,15 @@ module _ (o : OpenNet) (net : IsOpenNet o) (n : ℕ) where
   )
   lists_down s t none (Make x ∷ ts) h = lists_down s t none ts h
 
-  pub plan_start : (p : Plan) → length p.rest ≡ length o.nodes → length p.done ≡ length o.nodes → nodes_in p.rest n ≡ false → ((m : ℕ) → nodes_in p.done m ≡ false) → p.tasks ≡ [] → IsPlan o n 0 p
-  plan_start p a b out off e = record {
+  pub plan_start : (p : Plan) → length p.rest ≡ length o.nodes → length p.done ≡ length o.nodes → nodes_in p.rest n ≡ false → ((m : ℕ) → nodes_in p.done m ≡ false) → p.tasks ≡ [] → ((i : ℕ) → PortSplits o p.rest n i) → IsPlan o n 0 p
+  plan_start p a b out off e splits = record {
     rest_size = a;
     done_size = b;
     out = out;
     done = λ m. ((λ h. absurd (not_both (nodes_in p.done m) h (off m))), λ h. absurd (let l = h.4 in omega arith));
     sized = subst (λ z. AreSized (length o.nodes) z) (sym e) tt;
     lists = λ more h. subst (λ z. Lists o n (nodes_in p.rest) 0 (z ++ more)) (sym e) h;
+    splits = splits;
   }
 
   pub plan_skip : (t : ℕ) (p : Plan) → IsPlan o n t p → NoneAt (nodes_in p.rest) t → IsPlan o n (suc t) p
@@ -133,9 +135,10 @@ module _ (o : OpenNet) (net : IsOpenNet o) (n : ℕ) where
     );
     sized = h.sized;
     lists = λ more k. h.lists more (lists_down (nodes_in p.rest) t none more k);
+    splits = h.splits;
   }
 
-  in_net : (t : ℕ) (p : Plan) → IsPlan o n t p → (m : ℕ) → IsIn m (nodes_in p.rest) → m < length o.nodes
+  pub in_net : (t : ℕ) (p : Plan) → IsPlan o n t p → (m : ℕ) → IsIn m (nodes_in p.rest) → m < length o.nodes
   in_net t p h m k = let a = in_length p.rest m k in let b = h.rest_size in omega arith
 
   pub plan_derive : (t : ℕ) (p : Plan) (c d : List Bool) → IsPlan o n t p → length c ≡ length o.nodes → length d ≡ length o.nodes → ((m : ℕ) → nodes_in d m ≡ (nodes_in p.done m || nodes_in c m)) → IsPart o n (nodes_in p.rest) (nodes_in c) → ComesAt o n (nodes_in c) t → IsPlan o n (suc t) (record { tasks = p.tasks ++ Derive c ∷ []; rest = p.rest; done = d })
@@ -157,6 +160,7 @@ module _ (o : OpenNet) (net : IsOpenNet o) (n : ℕ) where
     );
     sized = sized_more (length o.nodes) p.tasks (Derive c ∷ []) h.sized (size, (part.0, (part.2 part.0).1 (alone part.0 part.1)), tt);
     lists = λ more k. subst (λ z. Lists o n (nodes_in p.rest) 0 z) (sym (append_assoc p.tasks (Derive c ∷ []) more)) (h.lists (Derive c ∷ more) (t, omega arith, part, comes, (λ d l q u a b. absurd (omega arith)), k));
+    splits = h.splits;
   }
 
   -- what a search reaches is a component
@@ -185,7 +189,7 @@ module _ (o : OpenNet) (net : IsOpenNet o) (n : ℕ) where
       plan_same p q ts e f = ap (λ z. record { tasks = z; rest = p.rest; done = q.done }) (sym e) ∙ ap (λ z. record { tasks = q.tasks; rest = z; done = q.done }) (sym f)
 
   -- each node of a component is one of the rest
-  part_inside : (s : ℕ → Bool) → ((m : ℕ) → IsIn m s → m < length o.nodes) → (d : ℕ → Bool) → IsPart o n s d → (m : ℕ) → IsIn m d → Without n s m
+  pub part_inside : (s : ℕ → Bool) → ((m : ℕ) → IsIn m s → m < length o.nodes) → (d : ℕ → Bool) → IsPart o n s d → (m : ℕ) → IsIn m d → Without n s m
   part_inside s inside d part m h = link_first o (Without n s) (without o net s inside n) m part.0 (link_back o (Without n s) (without o net s inside n) part.0 m ((part.2 m).0 h))
 
   -- a component with a done node has an earlier turn

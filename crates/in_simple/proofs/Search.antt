@@ -76,7 +76,7 @@ ports_at : (i : ℕ) (m : Option OpenNode) → IsSomeAnd m (λ m. i < length m.c
 ports_at i None h = absurd h
 ports_at i (Some m) h = h
 
-at_ports : (i : ℕ) (m : Option OpenNode) → i < elim m [ None ↦ 0 | Some m ↦ length m.class_of ] → IsSomeAnd m (λ m. i < length m.class_of)
+pub at_ports : (i : ℕ) (m : Option OpenNode) → i < elim m [ None ↦ 0 | Some m ↦ length m.class_of ] → IsSomeAnd m (λ m. i < length m.class_of)
 at_ports i None h = absurd (omega arith)
 at_ports i (Some m) h = h
 

@@ -73,11 +73,15 @@ module _ (o : OpenNet) (net : IsOpenNet o) where
     pub touched_class : (w l k : ℕ) → IsWire o w (Port n i) (Port l k) → PortSplits o rest n i → MeetsAlone o rest l n (class_in o n i)
     touched_class w l k h s m link h' u j g = sym (s.touched j w u l m k h' h (wire_turn o u (Port m h') (Port n j) g) link)
 
-  pub splits_all : (part rest : List Bool) (n : ℕ) → IsRest n part rest → SplitsAt (open_graph o) n (nodes_in part) → SplitsPorts o rest n (ports_of o n)
-  splits_all part rest n r s i b = record {
+  -- a port with no wire splits too
+  pub each_split : (part rest : List Bool) (n : ℕ) → IsRest n part rest → SplitsAt (open_graph o) n (nodes_in part) → (i : ℕ) → PortSplits o rest n i
+  each_split part rest n r s i = record {
     own = λ j w h. s.own i j (w, h);
     touched = λ j w v l m k h g g' link. s.touched i j l m k h (w, g) (v, g') (link_to (λ m. IsIn m (nodes_in rest)) (Without n (nodes_in part)) (λ k h. (r k).0 h) l m link);
   }
+
+  pub splits_all : (part rest : List Bool) (n : ℕ) → IsRest n part rest → SplitsAt (open_graph o) n (nodes_in part) → SplitsPorts o rest n (ports_of o n)
+  splits_all part rest n r s i b = each_split part rest n r s i
 
   pub all_split : (part rest : List Bool) (n : ℕ) → IsRest n part rest → SplitsPorts o rest n (ports_of o n) → SplitsAt (open_graph o) n (nodes_in part)
   all_split part rest n r all = record {

@@ -1,19 +1,19 @@
--- The procedure's tasks decide whether the open net is derivable, and grow fewer.
+-- The procedure's tasks decide which sub-net is the first stuck one, and grow fewer.
 use Rattle.std.proofs.Common.{◌≡◌, ◌⊎◌, ◌<◌, ◌≤◌, ℕ, suc, Bool, true, false, ◌||◌, List, [], ◌∷◌, ◌++◌, length, reverse, refl, sym, subst, ap, inl, inr, ◌∙◌, arith}
 use Rattle.std.proofs.lemmas.List.{reverse-append}
 use Rattle.in_simple.specs.declared.plans.Joint.{Joint}
 use Rattle.in_simple.specs.declared.plans.Task.{Task}
 use Rattle.in_simple.specs.declared.plans.Task.TheVariants.{Derive, Make}
 use Rattle.in_simple.specs.Constructions.{IsIn}
-use Rattle.in_simple.specs.Splitting.{alone, Without, IsFirstSplitting, none, first}
+use Rattle.in_simple.specs.Splitting.{alone, Without, IsFirstSplitting, first}
 use Rattle.in_simple.specs.OpenNets.{OpenNet, IsOpenNet, IsDerivable, open_graph}
 use Rattle.in_simple.specs.Stuck.{ComesAt, FirstStuck, whole, within, IsFirstStuck}
-use Rattle.in_simple.specs.Procedure.{nodes_in, AllSplit, IsPart, HasNone, IsFirst, NoneSplits, Lists, AreSized, AreMakes, StuckIn, AllSplitIn, pending_in, AreApart, IsWork, StartsWork, Passes, Among, Rises}
+use Rattle.in_simple.specs.Procedure.{nodes_in, AllSplit, IsPart, HasNone, IsFirst, NoneSplits, Lists, AreSized, AreMakes, StuckIn, pending_in, AreApart, IsWork, StartsWork, Passes, Among, Rises}
 use Rattle.in_simple.proofs.Sums.{or_cases, or_left, or_right, or_false, not_both, not_true}
 use Rattle.in_simple.proofs.Links.{same_nat, at_most, link_first, link_back}
 use Rattle.in_simple.proofs.Reaching.{in_length}
 use Rattle.in_simple.proofs.Search.{count, count_less, comes_at, one_turn, turn_same, meet_same, without}
-use Rattle.in_simple.proofs.Both.{derivable_splits, splits_derivable, one_first_stuck}
+use Rattle.in_simple.proofs.Both.{derivable_splits, one_first_stuck}
 use Rattle.in_simple.proofs.Planning.{sized_more}
 
 -- ---- steps alone
@@ -22,11 +22,6 @@ pub makes_more : (ts : List Task) (x : Joint) → AreMakes ts → AreMakes (ts +
 makes_more [] x h = tt
 makes_more (Derive c ∷ ts) x h = h
 makes_more (Make y ∷ ts) x h = makes_more ts x h
-
-makes_split : (o : OpenNet) (ts : List Task) → AreMakes ts → AllSplitIn o ts
-makes_split o [] h = tt
-makes_split o (Derive c ∷ ts) h = absurd h
-makes_split o (Make y ∷ ts) h = makes_split o ts h
 
 makes_stuck : (o : OpenNet) (ts : List Task) (t : ℕ → Bool) → AreMakes ts → StuckIn o ts t → ⊥
 makes_stuck o [] t h s = s
@@ -55,7 +50,6 @@ empty_work o ts e h = record {
   whole = λ m. false;
   nodes = λ n. ((λ k. absurd (not_both false k refl)), λ k. absurd (omega arith));
   stuck = λ t s. absurd (makes_stuck o ts t h s);
-  splits = λ s. none (λ m. false) (λ m. refl);
 }
 
 pub start_work : (o : OpenNet) (ts : List Task) → StartsWork (length o.nodes) ts → IsWork o ts
@@ -67,7 +61,6 @@ start_work o (Derive c ∷ ts) h = record {
   whole = nodes_in c;
   nodes = λ n. ((λ k. let a = in_length c n k in let b = h.0 in omega arith), h.2 n);
   stuck = λ t s. elim s [ inl f ↦ f | inr f ↦ absurd (makes_stuck o ts t h.3 f.1) ];
-  splits = λ s. s.0;
 }
 
 pub pass_same : (a : List Task) → Passes a a
@@ -77,7 +70,7 @@ pub pass_make : (a b : List Task) (x : Joint) → Passes a (Make x ∷ b) → Pa
 pass_make a b x h = ((λ o w. go o (h.0 o w)), h.1)
   where
     go : (o : OpenNet) → IsWork o (Make x ∷ b) → IsWork o b
-    go o w = record { sized = w.sized; apart = w.apart; whole = w.whole; nodes = w.nodes; stuck = w.stuck; splits = w.splits }
+    go o w = record { sized = w.sized; apart = w.apart; whole = w.whole; nodes = w.nodes; stuck = w.stuck }
 
 pub reverse_more : {X : Type 0} (xs : List X) (x : X) → reverse (xs ++ x ∷ []) ≡ x ∷ reverse xs
 reverse_more xs x = reverse-append xs (x ∷ [])
@@ -146,11 +139,6 @@ module _ (o : OpenNet) (net : IsOpenNet o) where
       stuck_more low (Derive c ∷ ps) ts before h t (inr g) =
           stuck_more (suc h.0) ps ts (before_more low c h.0 before h.2 h.3 h.4 g.0) h.5 t g.1
 
-      splits_more : (low : ℕ) (ps ts : List Task) → SplitBefore low → Lists o n s low ps → AllSplitIn o (ps ++ ts) → AllSplit o s × AllSplitIn o ts
-      splits_more low [] ts before h g = (all_parts low before h, g)
-      splits_more low (Make x ∷ ps) ts before h g = splits_more low ps ts before h g
-      splits_more low (Derive c ∷ ps) ts before h g = splits_more (suc h.0) ps ts (before_more low c h.0 before h.2 h.3 h.4 g.0) h.5 g.1
-
   part_in_net : (part : List Bool) (ts : List Task) → IsWork o (Derive part ∷ ts) → (m : ℕ) → IsIn m (nodes_in part) → m < length o.nodes
   part_in_net part ts w m h = let a = in_length part m h in let b = w.sized.0 in omega arith
 
@@ -161,7 +149,6 @@ module _ (o : OpenNet) (net : IsOpenNet o) where
     whole = w.whole;
     nodes = w.nodes;
     stuck = λ t s. w.stuck t (stuck_more n (nodes_in part) (part_in_net part ts w) f 0 ps ts (λ d l p c e. absurd (omega arith)) h t s);
-    splits = λ s. w.splits (splits_more n (nodes_in part) (part_in_net part ts w) f 0 ps ts (λ d l p c e. absurd (omega arith)) h s);
   }
 
   pub expand_fewer : (part : List Bool) (n : ℕ) (ps ts : List Task) → IsWork o (Derive part ∷ ts) → IsFirst o part n → Lists o n (nodes_in part) 0 ps → count (pending_in (ps ++ ts)) (length o.nodes) < count (pending_in (Derive part ∷ ts)) (length o.nodes)
@@ -185,9 +172,6 @@ module _ (o : OpenNet) (net : IsOpenNet o) where
 
   pub stuck_underivable : (t : ℕ → Bool) → IsFirstStuck o t → IsDerivable o → ⊥
   stuck_underivable t h d = (one_first_stuck o net t h).0 (derivable_splits o net d)
-
-  pub done_derivable : IsWork o [] → IsDerivable o
-  done_derivable w = splits_derivable o net (w.whole, w.nodes, w.splits tt)
 
 -- ---- lists of nodes
 

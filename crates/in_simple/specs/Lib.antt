@@ -7,6 +7,8 @@ pub mod OpenNets
 pub mod Opening
 pub mod OpeningRules
 pub mod Outcomes
+pub mod Planned
 pub mod Procedure
 pub mod Splitting
+pub mod Stacks
 pub mod Stuck

@@ -1,9 +1,10 @@
 -- What the procedure comes to.
 use Rattle.in_simple.specs.declared.procedure.Outcome.{Outcome}
 use Rattle.in_simple.specs.declared.procedure.Outcome.TheVariants.{Derived, First}
-use Rattle.in_simple.specs.OpenNets.{OpenNet, IsDerivable}
+use Rattle.in_simple.specs.OpenNets.{OpenNet}
+use Rattle.in_simple.specs.Derivations.{IsDerivation}
 use Rattle.in_simple.specs.Procedure.{IsStuckNet}
 
 abbrev pub IsOutcome : OpenNet → Outcome → Type 0
-IsOutcome o (Derived d) = IsDerivable o
+IsOutcome o (Derived d) = IsDerivation o d.steps
 IsOutcome o (First s) = IsStuckNet o s

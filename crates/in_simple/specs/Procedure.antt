@@ -95,14 +95,6 @@ IsReached o within from c = (k : ℕ) → IsIn k (nodes_in c) ↔ Linked (open_g
 abbrev pub IsRest : ℕ → List Bool → List Bool → Type 0
 IsRest n part rest = (m : ℕ) → IsIn m (nodes_in rest) ↔ Without n (nodes_in part) m
 
--- if port i of n leads to the set, it is of this class
-abbrev pub IsOfClass : OpenNet → List Bool → ℕ → ℕ → ℕ → Type 0
-IsOfClass o set n class i = (w l j : ℕ) → IsWire o w (Port n i) (Port l j) → IsIn l (nodes_in set) → class_in o n i ≡ class
-
--- .. and so are all those below b
-abbrev pub AreOfClass : OpenNet → List Bool → ℕ → ℕ → ℕ → Type 0
-AreOfClass o set n class b = (i : ℕ) → i < b → IsOfClass o set n class i
-
 -- ports that meet port i are of its class
 pub record PortSplits (o : OpenNet) (rest : List Bool) (n i : ℕ) : Type 0 where
   pub own : (j w : ℕ) → IsWire o w (Port n i) (Port n j) → class_in o n i ≡ class_in o n j
@@ -156,6 +148,7 @@ pub record IsPlan (o : OpenNet) (n : ℕ) (turn : ℕ) (p : Plan) : Type 0 where
   pub done : AreBefore o n (nodes_in p.rest) turn p.done
   pub sized : AreSized (length o.nodes) p.tasks
   pub lists : (more : List Task) → Lists o n (nodes_in p.rest) turn more → Lists o n (nodes_in p.rest) 0 (p.tasks ++ more)
+  pub splits : (i : ℕ) → PortSplits o p.rest n i
 
 -- .. and is for the same rest
 abbrev pub GoesOn : OpenNet → ℕ → ℕ → Plan → Plan → Type 0
@@ -195,12 +188,6 @@ StuckIn o [] t = ⊥
 StuckIn o (Derive c ∷ ts) t = FirstStuck o (nodes_in c) t ⊎ (AllSplit o (nodes_in c) × StuckIn o ts t)
 StuckIn o (Make x ∷ ts) t = StuckIn o ts t
 
--- all parts of the tasks split
-abbrev pub AllSplitIn : OpenNet → List Task → Type 0
-AllSplitIn o [] = Unit {0}
-AllSplitIn o (Derive c ∷ ts) = AllSplit o (nodes_in c) × AllSplitIn o ts
-AllSplitIn o (Make x ∷ ts) = AllSplitIn o ts
-
 -- the nodes of the tasks' parts
 abbrev pub pending_in : List Task → ℕ → Bool
 pending_in [] m = false
@@ -213,14 +200,13 @@ AreApart [] = Unit {0}
 AreApart (Derive c ∷ ts) = ((m : ℕ) → IsIn m (nodes_in c) → IsIn m (pending_in ts) → ⊥) × AreApart ts
 AreApart (Make x ∷ ts) = AreApart ts
 
--- what is left to do decides what the open net is
+-- the first of the parts that doesn't split decides which sub-net is the first stuck one
 pub record IsWork (o : OpenNet) (tasks : List Task) : Type 0 where
   pub sized : AreSized (length o.nodes) tasks
   pub apart : AreApart tasks
   pub whole : ℕ → Bool
   pub nodes : (n : ℕ) → IsIn n whole ↔ (n < length o.nodes)
   pub stuck : (t : ℕ → Bool) → StuckIn o tasks t → FirstStuck o whole t
-  pub splits : AllSplitIn o tasks → AllSplit o whole
 
 -- steps are taken from the tasks
 abbrev pub Passes : List Task → List Task → Type 0

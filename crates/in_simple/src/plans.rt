@@ -1,7 +1,10 @@
-ghost use Rattle.std.specs.Prelude.{◌≡◌, ◌<◌, ◌+◌, ◌-◌, ◌||◌, suc, length, IfOk, ℕ};
+ghost use Rattle.std.specs.Prelude.{[], ◌∷◌, ◌≡◌, ◌<◌, ◌+◌, ◌-◌, ◌||◌, suc, length, IfOk, ℕ};
 ghost use Rattle.in_simple.specs.Constructions.{IsIn};
 ghost use Rattle.in_simple.specs.Procedure.{AreSized, Derives, GoesOn, IsPlan, IsRest, KeepsPlan, Lists, nodes_in, with_task};
-ghost use Rattle.in_simple.specs.OpenNets.{IsAgent, IsClass, IsOrderly};
+ghost use Rattle.in_simple.specs.OpenNets.{IsAgent, IsClass, IsOrderly, class_in, classes_of, open_graph};
+ghost use Rattle.in_simple.specs.Planned.{HasClasses, IsBegun, PutsNet, Skipping, Skips, WhatPort};
+ghost use Rattle.in_simple.specs.Splitting.{SplitsAt};
+ghost use Rattle.in_simple.specs.Stacks.{Puts, no_wires, shape};
 ghost use Rattle.in_simple.specs.Stuck.{ports_of, turn};
 ghost use Rattle.in_simple.specs.declared.plans.Task.TheVariants.{Make};
 
@@ -88,7 +91,8 @@ impl Plan {
         requires node { node < length wired.now.nodes }
         requires port { port < ports_of wired.now node }
         requires plan { IsPlan wired.now node (turn wired.now node port) self }
-        ensures { IfOk result (λ r. GoesOn wired.now node (suc (turn wired.now node port)) self r.0) }
+        ensures plan { IfOk result (λ r. GoesOn wired.now node (suc (turn wired.now node port)) self r.0) }
+        ensures adds { IfOk result (λ r. WhatPort wired.now node port self r.0 r.1) }
     {
         match wired.partner(node, port) {
             (wire, Point::Port(near, place)) => {
@@ -119,7 +123,10 @@ impl Plan {
         requires node { node < length wired.now.nodes }
         requires port { port < ports_of wired.now node }
         requires plan { IsPlan wired.now node (turn wired.now node port) self }
-        ensures { IfOk result (GoesOn wired.now node (suc (turn wired.now node port)) self) }
+        requires principal { IsAgent wired.now node → port ≡ 0 }
+        requires net { PutsNet wired.now node self }
+        ensures plan { IfOk result (GoesOn wired.now node (suc (turn wired.now node port)) self) }
+        ensures net { IfOk result (PutsNet wired.now node) }
     {
         match wired.partner(node, port) {
             (wire, Point::Port(near, _)) => {
@@ -149,7 +156,12 @@ impl Plan {
         requires node { node < length wired.now.nodes }
         requires port { port < ports_of wired.now node }
         requires plan { IsPlan wired.now node (turn wired.now node port) self }
-        ensures { IfOk result (GoesOn wired.now node (suc (turn wired.now node port)) self) }
+        requires orderly { IsOrderly wired.now }
+        requires agent { IsAgent wired.now node }
+        requires auxiliary { 0 < port }
+        requires classes { Skipping wired.now node port skipped self }
+        ensures plan { IfOk result (GoesOn wired.now node (suc (turn wired.now node port)) self) }
+        ensures classes { IfOk result (HasClasses wired.now node (suc port) (class_in wired.now node port)) }
     {
         let begun = skip(self, skipped)?;
         let (plan, came) = begun.port(alloc, wired, node, port)?;
@@ -171,7 +183,12 @@ impl Plan {
         requires node { node < length wired.now.nodes }
         requires port { port < ports_of wired.now node }
         requires plan { IsPlan wired.now node (turn wired.now node port) self }
-        ensures { IfOk result (GoesOn wired.now node (suc (turn wired.now node port)) self) }
+        requires orderly { IsOrderly wired.now }
+        requires agent { IsAgent wired.now node }
+        requires auxiliary { 0 < port }
+        requires classes { HasClasses wired.now node port (class_in wired.now node port) self }
+        ensures plan { IfOk result (GoesOn wired.now node (suc (turn wired.now node port)) self) }
+        ensures classes { IfOk result (HasClasses wired.now node (suc port) (class_in wired.now node port)) }
     {
         let (plan, came) = self.port(alloc, wired, node, port)?;
         if came {
@@ -193,7 +210,14 @@ impl Plan {
         requires node { node < length wired.now.nodes }
         requires port { port < ports_of wired.now node }
         requires plan { IsPlan wired.now node (turn wired.now node port) self }
-        ensures { IfOk result (λ r. GoesOn wired.now node (suc (turn wired.now node port)) self r.0) }
+        requires orderly { IsOrderly wired.now }
+        requires agent { IsAgent wired.now node }
+        requires auxiliary { 0 < port }
+        requires classes { HasClasses wired.now node port begun self }
+        requires begun { IsBegun wired.now node port begun }
+        ensures plan { IfOk result (λ r. GoesOn wired.now node (suc (turn wired.now node port)) self r.0) }
+        ensures classes { IfOk result (λ r. HasClasses wired.now node (suc port) r.1 r.0) }
+        ensures begun { IfOk result (λ r. IsBegun wired.now node (suc port) r.1) }
     {
         let class = wired.class(node, port);
         if class > begun {
@@ -211,7 +235,9 @@ impl Plan {
         requires node { node < length wired.now.nodes }
         requires agent { IsAgent wired.now node }
         requires plan { IsPlan wired.now node 0 self }
-        ensures { IfOk result (GoesOn wired.now node (1 + (ports_of wired.now node - 1)) self) }
+        requires start { self.tasks ≡ [] }
+        ensures plan { IfOk result (GoesOn wired.now node (1 + (ports_of wired.now node - 1)) self) }
+        ensures classes { IfOk result (HasClasses wired.now node (1 + (ports_of wired.now node - 1)) (classes_of wired.now node)) }
     {
         let mut plan = self;
         let mut begun = 0;
@@ -227,7 +253,9 @@ impl Plan {
         requires node { node < length wired.now.nodes }
         requires agent { IsAgent wired.now node }
         requires plan { IsPlan wired.now node 0 self }
-        ensures { IfOk result (GoesOn wired.now node (suc (ports_of wired.now node)) self) }
+        requires start { self.tasks ≡ [] }
+        ensures plan { IfOk result (GoesOn wired.now node (suc (ports_of wired.now node)) self) }
+        ensures net { IfOk result (PutsNet wired.now node) }
     {
         let ports = wired.ports(node);
         let classes = self.classes(alloc, wired, node)?;
@@ -244,7 +272,9 @@ impl Plan {
         requires node { node < length wired.now.nodes }
         requires class { IsClass wired.now node }
         requires plan { IsPlan wired.now node 0 self }
-        ensures { IfOk result (GoesOn wired.now node (suc (ports_of wired.now node)) self) }
+        requires start { self.tasks ≡ [] }
+        ensures plan { IfOk result (GoesOn wired.now node (suc (ports_of wired.now node)) self) }
+        ensures net { IfOk result (PutsNet wired.now node) }
     {
         let ports = wired.ports(node);
         let mut plan = self.make(Joint::Given(node as u32))?;
@@ -259,8 +289,10 @@ impl Plan {
         requires node { node < length wired.now.nodes }
         requires near { near < length wired.now.nodes }
         requires plan { IsPlan wired.now node (suc (ports_of wired.now node) + near) self }
-        requires net { IsOrderly wired.now }
-        ensures { IfOk result (GoesOn wired.now node (suc (suc (ports_of wired.now node) + near)) self) }
+        requires orderly { IsOrderly wired.now }
+        requires net { PutsNet wired.now node self }
+        ensures plan { IfOk result (GoesOn wired.now node (suc (suc (ports_of wired.now node) + near)) self) }
+        ensures net { IfOk result (PutsNet wired.now node) }
     {
         if self.rest.as_slice()[near as usize] {
             if self.done.as_slice()[near as usize] {
@@ -277,7 +309,9 @@ impl Plan {
     fn others(self, alloc: Global, wired: &Wired, node: usize) -> Result<Plan, AllocError>
         requires node { node < length wired.now.nodes }
         requires plan { IsPlan wired.now node (suc (ports_of wired.now node)) self }
-        ensures { IfOk result (GoesOn wired.now node (suc (ports_of wired.now node) + length wired.now.nodes) self) }
+        requires net { PutsNet wired.now node self }
+        ensures plan { IfOk result (GoesOn wired.now node (suc (ports_of wired.now node) + length wired.now.nodes) self) }
+        ensures net { IfOk result (PutsNet wired.now node) }
     {
         let mut plan = self;
         for near in 0..wired.nodes() {
@@ -289,7 +323,8 @@ impl Plan {
 
 /// Nothing, for classes with no port.
 fn skip(plan: Plan, classes: usize) -> Result<Plan, AllocError>
-    ensures { IfOk result (KeepsPlan plan) }
+    ensures plan { IfOk result (KeepsPlan plan) }
+    ensures skips { IfOk result (Skips classes plan) }
 {
     let mut skipped = plan;
     for class in 0..classes {
@@ -302,7 +337,9 @@ fn skip(plan: Plan, classes: usize) -> Result<Plan, AllocError>
 fn begin(alloc: Global, wired: &Wired, part: &Items<bool>, node: usize) -> Result<Plan, AllocError>
     requires size { length part.now ≡ length wired.now.nodes }
     requires node { node < length wired.now.nodes }
+    requires splits { SplitsAt (open_graph wired.now) node (nodes_in part.now) }
     ensures plan { IfOk result (IsPlan wired.now node 0) }
+    ensures start { IfOk result (λ plan. plan.tasks ≡ []) }
     ensures rest { IfOk result (λ plan. IsRest node part.now plan.rest) }
     ensures net { IfOk result (λ plan. IsOrderly wired.now) }
 {
@@ -319,7 +356,9 @@ fn begin(alloc: Global, wired: &Wired, part: &Items<bool>, node: usize) -> Resul
 fn touched(plan: Plan, alloc: Global, wired: &Wired, node: usize) -> Result<Plan, AllocError>
     requires node { node < length wired.now.nodes }
     requires plan { IsPlan wired.now node 0 plan }
-    ensures { IfOk result (GoesOn wired.now node (suc (ports_of wired.now node)) plan) }
+    requires start { plan.tasks ≡ [] }
+    ensures plan { IfOk result (GoesOn wired.now node (suc (ports_of wired.now node)) plan) }
+    ensures net { IfOk result (PutsNet wired.now node) }
 {
     if wired.is_agent(node) {
         Ok(plan.agent(alloc, wired, node)?)
@@ -336,7 +375,9 @@ pub(crate) fn tasks_of(
     node: usize,
 ) -> Result<Items<Task>, AllocError>
     requires size { length part.now ≡ length wired.now.nodes }
-    requires node { node < length wired.now.nodes }
+    requires here { IsIn node (nodes_in part.now) }
+    requires splits { SplitsAt (open_graph wired.now) node (nodes_in part.now) }
+    ensures steps { IfOk result (λ tasks. Puts wired.now tasks (shape (nodes_in part.now) no_wires ∷ [])) }
     ensures net { IfOk result (λ tasks. IsOrderly wired.now) }
     ensures lists { IfOk result (Lists wired.now node (nodes_in part.now) 0) }
     ensures sized { IfOk result (AreSized (length wired.now.nodes)) }

@@ -1,7 +1,9 @@
-ghost use Rattle.std.specs.Prelude.{◌≡◌, ◌<◌, ◌^◌, ◌++◌, ◌∷◌, [], length, reverse, true, IfOk, OnOk, MatchOption, MatchResult, ℕ};
-ghost use Rattle.in_simple.specs.OpenNets.{IsDerivable, IsOrderly};
+ghost use Rattle.std.specs.Prelude.{◌≡◌, ◌<◌, ◌-◌, ◌^◌, ◌++◌, ◌∷◌, [], drop, length, reverse, true, IfOk, OnOk, MatchOption, MatchResult, ℕ};
+ghost use Rattle.in_simple.specs.OpenNets.{IsOrderly};
+ghost use Rattle.in_simple.specs.Derivations.{IsDerivation};
 ghost use Rattle.in_simple.specs.Procedure.{AreFewer, AreMakes, IsListed, IsStuckNet, IsUndone, IsWork, Passes, StartsWork, nodes_in};
 ghost use Rattle.in_simple.specs.Outcomes.{IsOutcome};
+ghost use Rattle.in_simple.specs.Stacks.{Advances, AreLast, Ends, IsLast, IsUnderWay, Makes, loose_in};
 ghost use Rattle.in_simple.specs.declared.plans.Task.TheVariants.{Derive};
 
 use crate::derivations::{Derivation, Step, StepNumbers, Stuck, Undone};
@@ -21,7 +23,9 @@ pub(crate) struct Work {
 }
 
 /// The last of these, in their order.
-fn last_of(alloc: Global, roots: &Items<u32>, count: usize) -> Result<StepNumbers, AllocError> {
+fn last_of(alloc: Global, roots: &Items<u32>, count: usize) -> Result<StepNumbers, AllocError>
+    ensures { IfOk result (λ last. last ≡ drop (length roots.now - count) roots.now) }
+{
     let mut last = StepNumbers::new(alloc);
     let first = roots.len() - count.min(roots.len());
     for root in first..roots.len() {
@@ -33,7 +37,9 @@ fn last_of(alloc: Global, roots: &Items<u32>, count: usize) -> Result<StepNumber
 impl Work {
     /// The tasks come first.
     fn expand(&mut self, tasks: Items<Task>) -> Result<(), AllocError>
-        ensures { OnOk result (reverse self.new.tasks ≡ tasks ++ reverse self.old.tasks) }
+        ensures tasks { OnOk result (reverse self.new.tasks ≡ tasks ++ reverse self.old.tasks) }
+        ensures steps { self.new.steps ≡ self.old.steps }
+        ensures roots { self.new.roots ≡ self.old.roots }
     {
         let mut left = tasks;
         while let Some(task) = left.pop() {
@@ -44,7 +50,9 @@ impl Work {
 
     /// One more step. More than 4,294,967,296 of them are no memory.
     fn push(&mut self, step: Step) -> Result<(), AllocError>
-        ensures { self.new.tasks ≡ self.old.tasks }
+        ensures tasks { self.new.tasks ≡ self.old.tasks }
+        ensures steps { OnOk result (self.new.steps ≡ self.old.steps ++ step ∷ []) }
+        ensures roots { OnOk result (self.new.roots ≡ self.old.roots ++ length self.old.steps ∷ []) }
     {
         match u32::try_from(self.steps.len()) {
             Ok(number) => {
@@ -57,14 +65,18 @@ impl Work {
 
     /// The last step that none names.
     fn pop(&mut self) -> u32
-        ensures { self.new.tasks ≡ self.old.tasks }
+        ensures tasks { self.new.tasks ≡ self.old.tasks }
+        ensures steps { self.new.steps ≡ self.old.steps }
+        ensures roots { IsLast result self.old.roots self.new.roots }
     {
         self.roots.pop().unwrap_or(0)
     }
 
     /// Forgets the last steps that none names.
     fn forget(&mut self, count: usize)
-        ensures { self.new.tasks ≡ self.old.tasks }
+        ensures tasks { self.new.tasks ≡ self.old.tasks }
+        ensures steps { self.new.steps ≡ self.old.steps }
+        ensures roots { AreLast count self.old.roots self.new.roots }
     {
         for root in 0..count {
             self.pop();
@@ -73,7 +85,8 @@ impl Work {
 
     /// A step over the last ones that none names.
     fn make(&mut self, alloc: Global, joint: Joint) -> Result<(), AllocError>
-        ensures { self.new.tasks ≡ self.old.tasks }
+        ensures tasks { self.new.tasks ≡ self.old.tasks }
+        ensures made { OnOk result (Makes joint self.old.steps self.old.roots self.new.steps self.new.roots) }
     {
         match joint {
             Joint::Empty => self.push(Step::Empty),
@@ -99,9 +112,12 @@ impl Work {
 
     /// Makes steps until a part is to be derived.
     fn next_part(&mut self, alloc: Global) -> Result<Option<Items<bool>>, AllocError>
-        ensures { IfOk result (λ next. MatchOption next
+        ensures tasks { IfOk result (λ next. MatchOption next
             (Passes (reverse self.old.tasks) [])
             (λ part. Passes (reverse self.old.tasks) (Derive part ∷ reverse self.new.tasks))) }
+        ensures steps { IfOk result (λ next. MatchOption next
+            (Advances (reverse self.old.tasks) self.old.steps self.old.roots [] self.new.steps self.new.roots)
+            (λ part. Advances (reverse self.old.tasks) self.old.steps self.old.roots (Derive part ∷ reverse self.new.tasks) self.new.steps self.new.roots)) }
     {
         while let Some(task) = self.tasks.pop() {
             match task {
@@ -116,13 +132,15 @@ impl Work {
 /// Whether the wire is between two free ends.
 fn is_loose(open: &OpenNet, wire: usize) -> bool
     requires { wire < length «open».now.wires }
+    ensures { result ≡ loose_in «open».now wire }
 {
     matches!(open.wire(wire), (Point::Free(_), Point::Free(_)))
 }
 
 /// A Link of each wire between free ends, beside what came so far; or the empty net, where nothing comes.
 fn loose(alloc: Global, open: &OpenNet, begun: bool) -> Result<Items<Task>, AllocError>
-    ensures { IfOk result AreMakes }
+    ensures makes { IfOk result AreMakes }
+    ensures steps { IfOk result (Ends «open».now begun) }
 {
     let mut tasks = Items::new(alloc);
     let mut some = begun;
@@ -155,7 +173,8 @@ fn all(alloc: Global, count: usize) -> Result<Items<bool>, AllocError>
 
 /// The tasks of the whole open net.
 fn start(alloc: Global, open: &OpenNet) -> Result<Items<Task>, AllocError>
-    ensures { IfOk result (StartsWork (length «open».now.nodes)) }
+    ensures work { IfOk result (StartsWork (length «open».now.nodes)) }
+    ensures steps { IfOk result (λ tasks. IsUnderWay «open».now tasks [] []) }
 {
     let count = open.nodes() as usize;
     let links = loose(alloc, open, count > 0)?;
@@ -185,7 +204,8 @@ fn stuck(alloc: Global, part: &Items<bool>) -> Result<Stuck, AllocError>
 
 /// The tasks of the whole open net, and no step yet.
 fn begin(alloc: Global, open: &OpenNet) -> Result<Work, AllocError>
-    ensures { IfOk result (λ work. IsWork «open».now (reverse work.tasks)) }
+    ensures work { IfOk result (λ work. IsWork «open».now (reverse work.tasks)) }
+    ensures steps { IfOk result (λ work. IsUnderWay «open».now (reverse work.tasks) work.steps work.roots) }
 {
     let tasks = start(alloc, open)?;
     let mut work = Work {
@@ -204,9 +224,10 @@ fn take(
     work: &mut Work,
     part: &Items<bool>,
 ) -> Result<Option<Stuck>, AllocError>
-    requires { IsWork wired.now (Derive part.now ∷ reverse work.old.tasks) }
+    requires work { IsWork wired.now (Derive part.now ∷ reverse work.old.tasks) }
+    requires steps { IsUnderWay wired.now (Derive part.now ∷ reverse work.old.tasks) work.old.steps work.old.roots }
     ensures { IfOk result (λ found. MatchOption found
-        (IsWork wired.now (reverse work.new.tasks) × AreFewer wired.now (Derive part.now ∷ reverse work.old.tasks) (reverse work.new.tasks))
+        (IsWork wired.now (reverse work.new.tasks) × AreFewer wired.now (Derive part.now ∷ reverse work.old.tasks) (reverse work.new.tasks) × IsUnderWay wired.now (reverse work.new.tasks) work.new.steps work.new.roots)
         (IsStuckNet wired.now)) }
 {
     match first_splitting(alloc, wired, part)? {
@@ -224,8 +245,9 @@ fn take(
 
 /// Goes on until nothing is left, or a part is stuck.
 fn finish(alloc: Global, wired: &Wired, work: &mut Work) -> Result<Option<Stuck>, AllocError>
-    requires { IsWork wired.now (reverse work.old.tasks) }
-    ensures { IfOk result (λ found. MatchOption found (IsDerivable wired.now) (IsStuckNet wired.now)) }
+    requires work { IsWork wired.now (reverse work.old.tasks) }
+    requires steps { IsUnderWay wired.now (reverse work.old.tasks) work.old.steps work.old.roots }
+    ensures { IfOk result (λ found. MatchOption found (IsDerivation wired.now work.new.steps) (IsStuckNet wired.now)) }
 {
     while let Some(part) = work.next_part(alloc)? {
         if let Some(stuck) = take(alloc, wired, work, &part)? {
@@ -266,7 +288,7 @@ fn attempt(alloc: Global, open: &OpenNet) -> Result<Outcome, AllocError>
 /// derived, and they are joined. Refused with the first stuck sub-net in that order, or for want of memory. Lafont 1990 asks
 /// whether a net is semi-simple; the order is this project's own choice.
 pub fn derive(alloc: Global, open: &OpenNet) -> Result<Derivation, Undone>
-    ensures { MatchResult result (λ derivation. IsDerivable «open».now) (IsUndone «open».now) }
+    ensures { MatchResult result (λ derivation. IsDerivation «open».now derivation.steps) (IsUndone «open».now) }
 {
     match attempt(alloc, open) {
         Ok(Outcome::Derived(derivation)) => Ok(derivation),

@@ -1,5 +1,9 @@
+use Rattle.in_simple.specs.Planned.{Skips}
 use Rattle.in_simple.specs.Procedure.{KeepsPlan}
 use Rattle.in_simple.proofs.plans.skip.Given as goal
 
 abbrev pub invariant-loop-class : goal.invariant-loop-class
-invariant-loop-class l = KeepsPlan l.fn.plan l.skipped
+invariant-loop-class l = record {
+  plan : KeepsPlan l.fn.plan l.skipped;
+  skips : Skips l.class l.fn.plan l.skipped;
+}

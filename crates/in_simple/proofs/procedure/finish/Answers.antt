@@ -1,13 +1,15 @@
 use Rattle.std.proofs.Common.{[], ◌∷◌, reverse, subst}
 use Rattle.std.specs.Prelude.{MatchOption}
 use Rattle.in_simple.specs.declared.plans.Task.TheVariants.{Derive}
-use Rattle.in_simple.specs.Procedure.{Passes}
-use Rattle.in_simple.proofs.Working.{done_derivable}
+use Rattle.in_simple.specs.Stacks.{Advances}
+use Rattle.in_simple.proofs.Finishing.{derivation_done}
 use Rattle.in_simple.proofs.procedure.finish.Goals as goal
 
 pub returns : goal.returns
 returns c =
     let o = c.args.wired.now in
     let old = reverse c.loop-part.work.tasks in
-    let p = subst (λ z. MatchOption z (Passes old []) (λ part. Passes old (Derive part ∷ reverse c.next_part.new.self.tasks))) c.in_default.is c.in_ok-part.ensures in
-    done_derivable o c.nodes-count.ensures.net.net (p.0 o c.loop-part.invariant)
+    let l = c.loop-part.work in
+    let x = c.next_part.new.self in
+    let p = subst (λ z. MatchOption z (Advances old l.steps l.roots [] x.steps x.roots) (λ part. Advances old l.steps l.roots (Derive part ∷ reverse x.tasks) x.steps x.roots)) c.in_default.is c.in_ok-part.ensures.steps in
+    derivation_done o c.nodes-count.ensures.net.net x.steps x.roots (p o c.loop-part.invariant.steps)

@@ -1,6 +1,8 @@
-use Rattle.std.proofs.Common.{◌≡◌, ◌+◌, suc, refl, sym, subst, arith}
+use Rattle.std.proofs.Common.{◌≡◌, ◌+◌, suc, slice_get, refl, sym, subst, arith}
 use Rattle.in_simple.specs.Procedure.{GoesOn, IsPlan}
 use Rattle.in_simple.specs.Stuck.{ports_of, turn}
+use Rattle.in_simple.proofs.Sound.{class_no_agent}
+use Rattle.in_simple.proofs.Nets.{net_given}
 use Rattle.in_simple.proofs.Planning.{goes_make, goes_on, class_last, turn_class}
 use Rattle.in_simple.proofs.plans.Plan.class.Goals as goal
 
@@ -9,14 +11,17 @@ loop-port-init c =
     let o = c.args.wired.now in
     let n = c.args.node in
     let p = c.args.self in
-    goes_make o n 0 p p c.in_ok-plan.plan _ (c.requires.plan, refl) c.in_ok-plan.ensures
+    record {
+      plan = goes_make o n 0 p p c.in_ok-plan.plan _ (c.requires.plan, refl) c.in_ok-plan.ensures;
+      net = net_given o c.ports-ports.ensures.net.net n p c.in_ok-plan.plan c.requires.plan c.requires.start c.requires.class c.in_ok-plan.ensures;
+    }
 
 pub join-requires-clause-plan : goal.join-requires-clause-plan
 join-requires-clause-plan c =
     let o = c.args.wired.now in
     let n = c.args.node in
     let p = c.args.self in
-    subst (λ z. IsPlan o n z c.loop-port.plan) (sym (turn_class o n c.loop-port.port c.requires.class)) c.loop-port.invariant.0
+    subst (λ z. IsPlan o n z c.loop-port.plan) (sym (turn_class o n c.loop-port.port c.requires.class)) c.loop-port.invariant.plan.0
 
 pub loop-port-preserved : goal.loop-port-preserved
 loop-port-preserved c =
@@ -24,8 +29,8 @@ loop-port-preserved c =
     let n = c.args.node in
     let i = c.loop-port.port in
     let e = turn_class o n i c.requires.class in
-    let g = goes_on o n i (suc (turn o n i)) c.args.self c.loop-port.plan c.in_ok-plan-2.plan c.loop-port.invariant c.in_ok-plan-2.ensures in
-    subst (λ z. GoesOn o n z c.args.self c.in_ok-plan-2.plan) (let f : suc (turn o n i) ≡ i + 1 = omega arith in f) g
+    let g = goes_on o n i (suc (turn o n i)) c.args.self c.loop-port.plan c.in_ok-plan-2.plan c.loop-port.invariant.plan c.in_ok-plan-2.ensures.plan in
+    record { plan = subst (λ z. GoesOn o n z c.args.self c.in_ok-plan-2.plan) (let f : suc (turn o n i) ≡ i + 1 = omega arith in f) g; net = c.in_ok-plan-2.ensures.net }
 
 pub returns : goal.returns
 returns c =
@@ -35,4 +40,10 @@ returns c =
     let a = c.loop-port-test.false in
     let b = c.loop-port.auto in
     let d = c.ports-ports.ensures.ports in
-    class_last o c.ports-ports.ensures.net.net n p c.loop-port.plan c.requires.class (subst (λ z. GoesOn o n z p c.loop-port.plan) (let e : c.loop-port.port ≡ ports_of o n = omega arith in e) c.loop-port.invariant)
+    record {
+      plan = class_last o c.ports-ports.ensures.net.net n p c.loop-port.plan c.requires.class (subst (λ z. GoesOn o n z p c.loop-port.plan) (let e : c.loop-port.port ≡ ports_of o n = omega arith in e) c.loop-port.invariant.plan);
+      net = c.loop-port.invariant.net;
+    }
+
+pub join-requires-clause-principal : goal.join-requires-clause-principal
+join-requires-clause-principal c = λ agent. absurd (class_no_agent (slice_get c.args.wired.now.nodes c.args.node) c.requires.class agent)

@@ -1,4 +1,5 @@
 use Rattle.std.proofs.Common.{◌≤◌, ◌+◌, ◌-◌}
+use Rattle.in_simple.specs.Planned.{HasClasses, IsBegun}
 use Rattle.in_simple.specs.Procedure.{GoesOn}
 use Rattle.in_simple.proofs.plans.Plan.classes.Given as goal
 
@@ -6,4 +7,6 @@ abbrev pub invariant-loop-port : goal.invariant-loop-port
 invariant-loop-port l = record {
   goes : GoesOn l.wired l.node l.port l.fn.self l.plan;
   bound : l.port ≤ 1 + (l.port-end - 1);
+  classes : HasClasses l.wired l.node l.port l.begun l.plan;
+  begun : IsBegun l.wired l.node l.port l.begun;
 }

@@ -1,5 +1,7 @@
-use Rattle.std.proofs.Common.{suc}
+use Rattle.std.proofs.Common.{◌+◌, suc, subst}
+use Rattle.in_simple.specs.Planned.{WhatPort}
 use Rattle.in_simple.specs.Stuck.{turn}
+use Rattle.in_simple.proofs.ClassNets.{skip_has, first_came, first_none}
 use Rattle.in_simple.proofs.Planning.{goes_make, goes_on}
 use Rattle.in_simple.proofs.plans.Plan.first_port.Goals as goal
 
@@ -7,21 +9,40 @@ pub port-requires-clause-plan : goal.port-requires-clause-plan
 port-requires-clause-plan c =
     let o = c.args.wired.now in
     let n = c.args.node in
-    let p = c.args.self in
-    (c.in_ok-begun.ensures o n (turn o n c.args.port) c.requires.plan).0
+    (c.in_ok-begun.ensures.plan o n (turn o n c.args.port) c.requires.plan).0
 
 pub returns-then-came : goal.returns-then-came
 returns-then-came c =
     let o = c.args.wired.now in
     let n = c.args.node in
+    let i = c.args.port in
     let p = c.args.self in
-    let t = suc (turn o n c.args.port) in
-    goes_on o n (turn o n c.args.port) t p c.in_ok-begun.begun c.in_ok-plan.plan (c.in_ok-begun.ensures o n (turn o n c.args.port) c.requires.plan) c.in_ok-plan.ensures
+    let q = c.in_ok-begun.begun in
+    let r = c.in_ok-plan.plan in
+    let g = c.in_ok-begun.ensures.plan o n (turn o n i) c.requires.plan in
+    let s = c.requires.classes in
+    let net = c.requires.orderly.net in
+    record {
+      plan = goes_on o n (turn o n i) (suc (turn o n i)) p q r g c.in_ok-plan.ensures.plan;
+      classes = first_came o net n c.requires.agent (turn o n i) q g.0 i c.requires.auxiliary (s.0 + c.args.skipped)
+          (skip_has o net n i s.0 c.args.skipped p q s.1 c.in_ok-begun.ensures.skips) s.2 r c.in_ok-plan.ensures.plan.1
+          (subst (λ z. WhatPort o n i q r z) c.if-came.true c.in_ok-plan.ensures.adds);
+    }
 
 pub returns-in_ok-make : goal.returns-in_ok-make
 returns-in_ok-make c =
     let o = c.args.wired.now in
     let n = c.args.node in
+    let i = c.args.port in
     let p = c.args.self in
-    let t = suc (turn o n c.args.port) in
-    goes_make o n t p c.in_ok-plan.plan c.in_ok-make.field-0 _ (goes_on o n (turn o n c.args.port) t p c.in_ok-begun.begun c.in_ok-plan.plan (c.in_ok-begun.ensures o n (turn o n c.args.port) c.requires.plan) c.in_ok-plan.ensures) c.in_ok-make.ensures
+    let q = c.in_ok-begun.begun in
+    let r = c.in_ok-plan.plan in
+    let g = c.in_ok-begun.ensures.plan o n (turn o n i) c.requires.plan in
+    let s = c.requires.classes in
+    let net = c.requires.orderly.net in
+    record {
+      plan = goes_make o n (suc (turn o n i)) p r c.in_ok-make.field-0 _ (goes_on o n (turn o n i) (suc (turn o n i)) p q r g c.in_ok-plan.ensures.plan) c.in_ok-make.ensures;
+      classes = first_none o net n c.requires.agent (turn o n i) q g.0 i c.requires.auxiliary (s.0 + c.args.skipped)
+          (skip_has o net n i s.0 c.args.skipped p q s.1 c.in_ok-begun.ensures.skips) s.2 r c.in_ok-make.field-0
+          (subst (λ z. WhatPort o n i q r z) c.if-came.false c.in_ok-plan.ensures.adds) c.in_ok-make.ensures;
+    }

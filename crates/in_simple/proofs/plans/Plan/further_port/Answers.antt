@@ -1,5 +1,7 @@
-use Rattle.std.proofs.Common.{suc}
+use Rattle.std.proofs.Common.{suc, subst}
+use Rattle.in_simple.specs.Planned.{WhatPort}
 use Rattle.in_simple.specs.Stuck.{turn}
+use Rattle.in_simple.proofs.ClassNets.{some_class, further_came, further_none}
 use Rattle.in_simple.proofs.Planning.{goes_make}
 use Rattle.in_simple.proofs.plans.Plan.further_port.Goals as goal
 
@@ -7,6 +9,26 @@ pub returns-in_ok-make : goal.returns-in_ok-make
 returns-in_ok-make c =
     let o = c.args.wired.now in
     let n = c.args.node in
+    let i = c.args.port in
     let p = c.args.self in
-    let t = suc (turn o n c.args.port) in
-    goes_make o n t p c.in_ok-plan.plan c.in_ok-make.field-0 _ c.in_ok-plan.ensures c.in_ok-make.ensures
+    let r = c.in_ok-plan.plan in
+    let net = c.requires.orderly.net in
+    record {
+      plan = goes_make o n (suc (turn o n i)) p r c.in_ok-make.field-0 _ c.in_ok-plan.ensures.plan c.in_ok-make.ensures;
+      classes = further_came o net n c.requires.agent (turn o n i) p c.requires.plan i c.requires.auxiliary c.requires.classes (some_class o net n i c.requires.agent c.requires.auxiliary c.requires.port)
+          r c.in_ok-make.field-0 c.in_ok-plan.ensures.plan.1 (subst (λ z. WhatPort o n i p r z) c.if-came.true c.in_ok-plan.ensures.adds) c.in_ok-make.ensures;
+    }
+
+pub returns-else-came : goal.returns-else-came
+returns-else-came c =
+    let o = c.args.wired.now in
+    let n = c.args.node in
+    let i = c.args.port in
+    let p = c.args.self in
+    let r = c.in_ok-plan.plan in
+    let net = c.requires.orderly.net in
+    record {
+      plan = c.in_ok-plan.ensures.plan;
+      classes = further_none o net n c.requires.agent (turn o n i) p c.requires.plan i c.requires.auxiliary c.requires.classes (some_class o net n i c.requires.agent c.requires.auxiliary c.requires.port)
+          r (subst (λ z. WhatPort o n i p r z) c.if-came.false c.in_ok-plan.ensures.adds);
+    }

@@ -2,6 +2,7 @@ use Rattle.std.proofs.Common.{suc, true, false, subst}
 use Rattle.in_simple.specs.declared.open_nets.Point.TheVariants.{Port}
 use Rattle.in_simple.specs.OpenNets.{IsWire}
 use Rattle.in_simple.specs.Stuck.{turn}
+use Rattle.in_simple.proofs.Nets.{net_join, one_port}
 use Rattle.in_simple.proofs.Planning.{port_free, port_out, port_done, port_derive, goes_make, read_bit}
 use Rattle.in_simple.proofs.plans.Plan.join.Goals as goal
 
@@ -15,7 +16,10 @@ returns-then-as_slice-near-2 c =
     let v = c.partner.result.0 in
     let x = c.in_default-Port in
     let wire = subst (λ z. IsWire o v (Port n i) z) x.is-1 c.partner.ensures.wire in
-    port_done o net n p i v x.near x.field-1-1 c.requires.port c.requires.plan wire (read_bit _ p.done x.near true c.as_slice-then-as_slice-near.ensures c.if-as_slice-near-2.true)
+    record {
+      plan = port_done o net n p i v x.near x.field-1-1 c.requires.port c.requires.plan wire (read_bit _ p.done x.near true c.as_slice-then-as_slice-near.ensures c.if-as_slice-near-2.true);
+      net = c.requires.net;
+    }
 
 pub returns-in_ok-make-in_default-Port : goal.returns-in_ok-make-in_default-Port
 returns-in_ok-make-in_default-Port c =
@@ -28,8 +32,10 @@ returns-in_ok-make-in_default-Port c =
     let x = c.in_default-Port in
     let wire = subst (λ z. IsWire o v (Port n i) z) x.is-1 c.partner.ensures.wire in
     let d = c.in_ok-derive-in_default-Port in
-    goes_make o n (suc (turn o n i)) p d.field-0 c.in_ok-make-in_default-Port.field-0 _
-    (port_derive o net n p d.field-0 i v x.near x.field-1-1 c.requires.plan wire (read_bit _ p.rest x.near true c.as_slice.ensures c.if-as_slice-near.true) (read_bit _ p.done x.near false c.as_slice-then-as_slice-near.ensures c.if-as_slice-near-2.false) d.ensures) c.in_ok-make-in_default-Port.ensures
+    record {
+      plan = goes_make o n (suc (turn o n i)) p d.field-0 c.in_ok-make-in_default-Port.field-0 _ (port_derive o net n p d.field-0 i v x.near x.field-1-1 c.requires.plan wire (read_bit _ p.rest x.near true c.as_slice.ensures c.if-as_slice-near.true) (read_bit _ p.done x.near false c.as_slice-then-as_slice-near.ensures c.if-as_slice-near-2.false) d.ensures) c.in_ok-make-in_default-Port.ensures;
+      net = net_join o net n (turn o n i) p c.requires.plan x.near d.field-0 (read_bit _ p.rest x.near true c.as_slice.ensures c.if-as_slice-near.true) (read_bit _ p.done x.near false c.as_slice-then-as_slice-near.ensures c.if-as_slice-near-2.false) d.ensures c.in_ok-make-in_default-Port.field-0 i v x.field-1-1 c.requires.net wire c.requires.principal (one_port o net n i v (Port x.near x.field-1-1) c.requires.node wire c.requires.principal) c.in_ok-make-in_default-Port.ensures;
+    }
 
 pub returns-else-as_slice-near : goal.returns-else-as_slice-near
 returns-else-as_slice-near c =
@@ -41,7 +47,10 @@ returns-else-as_slice-near c =
     let v = c.partner.result.0 in
     let x = c.in_default-Port in
     let wire = subst (λ z. IsWire o v (Port n i) z) x.is-1 c.partner.ensures.wire in
-    port_out o net n p i v x.near x.field-1-1 c.requires.port c.requires.plan wire (read_bit _ p.rest x.near false c.as_slice.ensures c.if-as_slice-near.false)
+    record {
+      plan = port_out o net n p i v x.near x.field-1-1 c.requires.port c.requires.plan wire (read_bit _ p.rest x.near false c.as_slice.ensures c.if-as_slice-near.false);
+      net = c.requires.net;
+    }
 
 pub returns-in_default-Free : goal.returns-in_default-Free
 returns-in_default-Free c =
@@ -53,4 +62,7 @@ returns-in_default-Free c =
     let v = c.partner.result.0 in
     let x = c.in_default-Free in
     let wire = subst (λ z. IsWire o v (Port n i) z) x.is-1 c.partner.ensures.wire in
-    port_free o net n p i v x.field-0-1 c.requires.port c.requires.plan wire
+    record {
+      plan = port_free o net n p i v x.field-0-1 c.requires.port c.requires.plan wire;
+      net = c.requires.net;
+    }

@@ -1,5 +1,6 @@
 use Rattle.std.proofs.Common.{◌+◌, suc, true, false}
 use Rattle.in_simple.specs.Stuck.{ports_of}
+use Rattle.in_simple.proofs.Nets.{net_other}
 use Rattle.in_simple.proofs.Planning.{goes_make, read_bit, node_out, node_done, node_derive}
 use Rattle.in_simple.proofs.plans.Plan.other.Goals as goal
 
@@ -9,8 +10,11 @@ returns-then-as_slice-near-2 c =
     let n = c.args.node in
     let m = c.args.near in
     let p = c.args.self in
-    let net = c.requires.net.net in
-    node_done o net n p m c.requires.plan (read_bit _ p.done m true c.as_slice-then-as_slice-near.ensures c.if-as_slice-near-2.true)
+    let net = c.requires.orderly.net in
+    record {
+      plan = node_done o net n p m c.requires.plan (read_bit _ p.done m true c.as_slice-then-as_slice-near.ensures c.if-as_slice-near-2.true);
+      net = c.requires.net;
+    }
 
 pub returns-in_ok-make : goal.returns-in_ok-make
 returns-in_ok-make c =
@@ -18,10 +22,12 @@ returns-in_ok-make c =
     let n = c.args.node in
     let m = c.args.near in
     let p = c.args.self in
-    let net = c.requires.net.net in
+    let net = c.requires.orderly.net in
     let d = c.in_ok-derive in
-    goes_make o n (suc (suc (ports_of o n) + m)) p d.field-0 c.in_ok-make.field-0 _
-    (node_derive o net n p d.field-0 m c.requires.plan (read_bit _ p.rest m true c.as_slice.ensures c.if-as_slice-near.true) (read_bit _ p.done m false c.as_slice-then-as_slice-near.ensures c.if-as_slice-near-2.false) d.ensures) c.in_ok-make.ensures
+    record {
+      plan = goes_make o n (suc (suc (ports_of o n) + m)) p d.field-0 c.in_ok-make.field-0 _ (node_derive o net n p d.field-0 m c.requires.plan (read_bit _ p.rest m true c.as_slice.ensures c.if-as_slice-near.true) (read_bit _ p.done m false c.as_slice-then-as_slice-near.ensures c.if-as_slice-near-2.false) d.ensures) c.in_ok-make.ensures;
+      net = net_other o net n p m c.requires.plan d.field-0 c.in_ok-make.field-0 (read_bit _ p.rest m true c.as_slice.ensures c.if-as_slice-near.true) (read_bit _ p.done m false c.as_slice-then-as_slice-near.ensures c.if-as_slice-near-2.false) d.ensures c.requires.net c.in_ok-make.ensures;
+    }
 
 pub returns-else-as_slice-near : goal.returns-else-as_slice-near
 returns-else-as_slice-near c =
@@ -29,5 +35,8 @@ returns-else-as_slice-near c =
     let n = c.args.node in
     let m = c.args.near in
     let p = c.args.self in
-    let net = c.requires.net.net in
-    node_out o net n p m c.requires.plan (read_bit _ p.rest m false c.as_slice.ensures c.if-as_slice-near.false)
+    let net = c.requires.orderly.net in
+    record {
+      plan = node_out o net n p m c.requires.plan (read_bit _ p.rest m false c.as_slice.ensures c.if-as_slice-near.false);
+      net = c.requires.net;
+    }

@@ -1,9 +1,16 @@
-use Rattle.std.proofs.Common.{suc, true, false, subst}
-use Rattle.in_simple.specs.declared.open_nets.Point.TheVariants.{Port}
+use Rattle.std.proofs.Common.{◌≡◌, suc, true, false, nat_eq, refl, subst, arith}
+use Rattle.in_simple.specs.declared.open_nets.Point.{Point}
+use Rattle.in_simple.specs.declared.open_nets.Point.TheVariants.{Port, Free}
 use Rattle.in_simple.specs.OpenNets.{IsWire}
 use Rattle.in_simple.specs.Stuck.{turn}
+use Rattle.in_simple.specs.Procedure.{nodes_in}
+use Rattle.in_simple.specs.Stacks.{shape, no_wires}
+use Rattle.in_simple.proofs.Sums.{port_no}
+use Rattle.in_simple.proofs.Sound.{port_place}
+use Rattle.in_simple.proofs.ClassNets.{nothing_done, nothing_own, adds_component, adds_link}
 use Rattle.in_simple.proofs.Planning.{port_free, port_out, port_done, port_derive, goes_make, read_bit}
 use Rattle.in_simple.proofs.plans.Plan.port.Goals as goal
+use Rattle.in_simple.proofs.plans.Plan.port.Goals.{else-near-node-via-then-near-node+else-place-port, else-near-node-via-else-near-node}
 
 pub returns-then-as_slice-near-2 : goal.returns-then-as_slice-near-2
 returns-then-as_slice-near-2 c =
@@ -15,7 +22,10 @@ returns-then-as_slice-near-2 c =
     let v = c.partner.result.0 in
     let x = c.in_default-Port in
     let wire = subst (λ z. IsWire o v (Port n i) z) x.is-1 c.partner.ensures.wire in
-    port_done o net n p i v x.near x.place c.requires.port c.requires.plan wire (read_bit _ p.done x.near true c.as_slice-then-as_slice-near.ensures c.if-as_slice-near-2.true)
+    record {
+      plan = port_done o net n p i v x.near x.place c.requires.port c.requires.plan wire (read_bit _ p.done x.near true c.as_slice-then-as_slice-near.ensures c.if-as_slice-near-2.true);
+      adds = nothing_done o net n (turn o n i) p c.requires.plan i v x.near x.place wire (read_bit _ p.rest x.near true c.as_slice.ensures c.if-as_slice-near.true) (read_bit _ p.done x.near true c.as_slice-then-as_slice-near.ensures c.if-as_slice-near-2.true);
+    }
 
 pub returns-in_ok-derive-in_default-Port : goal.returns-in_ok-derive-in_default-Port
 returns-in_ok-derive-in_default-Port c =
@@ -28,7 +38,10 @@ returns-in_ok-derive-in_default-Port c =
     let x = c.in_default-Port in
     let wire = subst (λ z. IsWire o v (Port n i) z) x.is-1 c.partner.ensures.wire in
     let d = c.in_ok-derive-in_default-Port in
-    port_derive o net n p d.field-0 i v x.near x.place c.requires.plan wire (read_bit _ p.rest x.near true c.as_slice.ensures c.if-as_slice-near.true) (read_bit _ p.done x.near false c.as_slice-then-as_slice-near.ensures c.if-as_slice-near-2.false) d.ensures
+    record {
+      plan = port_derive o net n p d.field-0 i v x.near x.place c.requires.plan wire (read_bit _ p.rest x.near true c.as_slice.ensures c.if-as_slice-near.true) (read_bit _ p.done x.near false c.as_slice-then-as_slice-near.ensures c.if-as_slice-near-2.false) d.ensures;
+      adds = (shape (nodes_in d.ensures.component) no_wires, adds_component o net n (turn o n i) p c.requires.plan i v x.near x.place d.field-0 wire (read_bit _ p.rest x.near true c.as_slice.ensures c.if-as_slice-near.true) (read_bit _ p.done x.near false c.as_slice-then-as_slice-near.ensures c.if-as_slice-near-2.false) d.ensures);
+    }
 
 pub returns-then-place-port : goal.returns-then-place-port
 returns-then-place-port c =
@@ -40,7 +53,10 @@ returns-then-place-port c =
     let v = c.partner.result.0 in
     let x = c.in_default-Port in
     let wire = subst (λ z. IsWire o v (Port n i) z) x.is-1 c.partner.ensures.wire in
-    port_out o net n p i v x.near x.place c.requires.port c.requires.plan wire (read_bit _ p.rest x.near false c.as_slice.ensures c.if-as_slice-near.false)
+    record {
+      plan = port_out o net n p i v x.near x.place c.requires.port c.requires.plan wire (read_bit _ p.rest x.near false c.as_slice.ensures c.if-as_slice-near.false);
+      adds = nothing_own o net n (turn o n i) p c.requires.plan i v x.near x.place wire (read_bit _ p.rest x.near false c.as_slice.ensures c.if-as_slice-near.false) c.if-near-node.true c.if-place-port.true;
+    }
 
 pub returns-in_ok-make-in_default-Port : goal.returns-in_ok-make-in_default-Port
 returns-in_ok-make-in_default-Port c =
@@ -52,8 +68,20 @@ returns-in_ok-make-in_default-Port c =
     let v = c.partner.result.0 in
     let x = c.in_default-Port in
     let wire = subst (λ z. IsWire o v (Port n i) z) x.is-1 c.partner.ensures.wire in
-    goes_make o n (suc (turn o n i)) p p c.in_ok-make-in_default-Port.field-0 _
-    (port_out o net n p i v x.near x.place c.requires.port c.requires.plan wire (read_bit _ p.rest x.near false c.as_slice.ensures c.if-as_slice-near.false)) c.in_ok-make-in_default-Port.ensures
+    record {
+      plan = goes_make o n (suc (turn o n i)) p p c.in_ok-make-in_default-Port.field-0 _ (port_out o net n p i v x.near x.place c.requires.port c.requires.plan wire (read_bit _ p.rest x.near false c.as_slice.ensures c.if-as_slice-near.false)) c.in_ok-make-in_default-Port.ensures;
+      adds = (
+        shape (λ m. false) (λ w. nat_eq w v),
+        adds_link o net n (turn o n i) p c.requires.plan i v (Port x.near x.place) c.in_ok-make-in_default-Port.field-0 wire (port_no (nodes_in p.rest) x.near x.place (read_bit _ p.rest x.near false c.as_slice.ensures c.if-as_slice-near.false))
+            (λ j e.
+            let s = port_place x.near n x.place j e in
+            elim c.else-near-node.branch [
+              | else-near-node-via-then-near-node+else-place-port w ↦ let l = w.if-place-port.false in let k = s.1 in omega arith
+              | else-near-node-via-else-near-node w ↦ absurd (w.if-near-node.false s.0)
+            ])
+            c.in_ok-make-in_default-Port.ensures,
+      );
+    }
 
 pub returns-in_ok-make-in_default-Free : goal.returns-in_ok-make-in_default-Free
 returns-in_ok-make-in_default-Free c =
@@ -65,5 +93,7 @@ returns-in_ok-make-in_default-Free c =
     let v = c.partner.result.0 in
     let x = c.in_default-Free in
     let wire = subst (λ z. IsWire o v (Port n i) z) x.is-1 c.partner.ensures.wire in
-    goes_make o n (suc (turn o n i)) p p c.in_ok-make-in_default-Free.field-0 _
-    (port_free o net n p i v x.field-0-1 c.requires.port c.requires.plan wire) c.in_ok-make-in_default-Free.ensures
+    record {
+      plan = goes_make o n (suc (turn o n i)) p p c.in_ok-make-in_default-Free.field-0 _ (port_free o net n p i v x.field-0-1 c.requires.port c.requires.plan wire) c.in_ok-make-in_default-Free.ensures;
+      adds = (shape (λ m. false) (λ w. nat_eq w v), adds_link o net n (turn o n i) p c.requires.plan i v (Free x.field-0-1) c.in_ok-make-in_default-Free.field-0 wire refl (λ j e. let f : ◌≡◌ {A = Point} (Free x.field-0-1) (Port n j) = e in cc) c.in_ok-make-in_default-Free.ensures);
+    }

@@ -1,0 +1,93 @@
+-- Which nets the tasks of a plan put on a stack.
+use Rattle.std.specs.Prelude.{◌≡◌, ◌⊎◌, ◌↔◌, ℕ, zero, suc, ◌+◌, ◌<◌, ◌≤◌, Bool, true, false, ◌||◌, nat_eq, List, [], ◌∷◌, ◌++◌, length}
+use Rattle.in_simple.specs.declared.open_nets.Point.{Point}
+use Rattle.in_simple.specs.declared.open_nets.Point.TheVariants.{Port}
+use Rattle.in_simple.specs.declared.plans.Plan.{Plan}
+use Rattle.in_simple.specs.declared.plans.Task.{Task}
+use Rattle.in_simple.specs.Constructions.{IsIn}
+use Rattle.in_simple.specs.Splitting.{Linked}
+use Rattle.in_simple.specs.OpenNets.{OpenNet, IsWire, IsOpenNet, class_in, open_graph}
+use Rattle.in_simple.specs.Derivations.{is_port_in}
+use Rattle.in_simple.specs.Stuck.{ports_of}
+use Rattle.in_simple.specs.Procedure.{nodes_in}
+use Rattle.in_simple.specs.Stacks.{Shape, shape, no_wires, Puts}
+
+-- the tasks put the net of n and of the nodes that are derived
+abbrev pub net_of : ℕ → List Bool → Shape
+net_of n done = shape (λ m. nat_eq m n || nodes_in done m) no_wires
+
+abbrev pub PutsNet : OpenNet → ℕ → Plan → Type 0
+PutsNet o n p = Puts o p.tasks (net_of n p.done ∷ [])
+
+-- ---- the nets of an agent's classes
+
+-- port i of n leads into the rest, to the component of m there
+abbrev pub Meets : OpenNet → List Bool → ℕ → ℕ → ℕ → Type 0
+Meets o rest n i m = (w : ℕ) × (l : ℕ) × (k : ℕ) × IsWire o w (Port n i) (Port l k) × Linked (open_graph o) (λ m. IsIn m (nodes_in rest)) l m
+
+-- wire w is at port i of n, and leads to no node of the rest
+abbrev pub LeadsOff : OpenNet → List Bool → ℕ → ℕ → ℕ → Type 0
+LeadsOff o rest n i w = (q : Point) × IsWire o w (Port n i) q × (is_port_in (nodes_in rest) q ≡ 0)
+
+-- i is an auxiliary port below b
+abbrev pub IsBelow : ℕ → ℕ → Type 0
+IsBelow b i = (0 < i) × (i < b)
+
+-- what class c's ports below b meet, with a Link of each wire that leads off
+pub record IsClassShape (o : OpenNet) (rest : List Bool) (n b c : ℕ) (x : Shape) : Type 0 where
+  pub nodes : (m : ℕ) → IsIn m x.nodes ↔ ((i : ℕ) × IsBelow b i × (class_in o n i ≡ c) × Meets o rest n i m)
+  pub links : (w : ℕ) → IsIn w x.links ↔ ((i : ℕ) × IsBelow b i × (class_in o n i ≡ c) × LeadsOff o rest n i w)
+
+-- .. for the classes from c on
+abbrev pub AreClassShapes : OpenNet → List Bool → ℕ → ℕ → ℕ → List Shape → Type 0
+AreClassShapes o rest n b c [] = Unit {0}
+AreClassShapes o rest n b c (x ∷ xs) = IsClassShape o rest n b c x × AreClassShapes o rest n b (suc c) xs
+
+-- the tasks put the nets of the first classes, as far as their ports below b go
+pub record PutsClasses (o : OpenNet) (rest : List Bool) (n b begun : ℕ) (tasks : List Task) (done : List Bool) : Type 0 where
+  pub shapes : List Shape
+  pub puts : Puts o tasks shapes
+  pub many : length shapes ≡ begun
+  pub each : AreClassShapes o rest n b 1 shapes
+  pub most : (i : ℕ) → IsBelow b i → i < ports_of o n → class_in o n i ≤ begun
+  pub done_is : (m : ℕ) → IsIn m (nodes_in done) ↔ ((i : ℕ) × IsBelow b i × Meets o rest n i m)
+
+abbrev pub HasClasses : OpenNet → ℕ → ℕ → ℕ → Plan → Type 0
+HasClasses o n b begun p = PutsClasses o p.rest n b begun p.tasks p.done
+
+-- a port below b is of the last of these classes, where there are some
+abbrev pub IsBegun : OpenNet → ℕ → ℕ → ℕ → Type 0
+IsBegun o n b begun = (begun ≡ 0) ⊎ ((i : ℕ) × IsBelow b i × (i < ports_of o n) × (class_in o n i ≡ begun))
+
+-- the port's class is the next one after some that are skipped
+abbrev pub Skipping : OpenNet → ℕ → ℕ → ℕ → Plan → Type 0
+Skipping o n i skipped p = (begun : ℕ) × HasClasses o n i begun p × (class_in o n i ≡ suc (begun + skipped))
+
+-- what a port adds: the component that it meets, which is not derived yet, or the Link of a wire that leads off
+pub record Adds (o : OpenNet) (n i : ℕ) (old new : Plan) (x : Shape) : Type 0 where
+  pub puts : (xs : List Shape) → Puts o old.tasks xs → Puts o new.tasks (xs ++ x ∷ [])
+  pub nodes : (m : ℕ) → IsIn m x.nodes ↔ Meets o old.rest n i m
+  pub links : (w : ℕ) → IsIn w x.links ↔ LeadsOff o old.rest n i w
+  pub fresh : (m : ℕ) → IsIn m x.nodes → IsIn m (nodes_in old.done) → ⊥
+  pub first : (w j : ℕ) → IsIn w x.links → IsWire o w (Port n i) (Port n j) → i < j
+  pub done : (m : ℕ) → IsIn m (nodes_in new.done) ↔ (IsIn m (nodes_in old.done) ⊎ IsIn m x.nodes)
+
+-- .. or nothing, where all that it meets is derived, and its wire is of an earlier port
+pub record AddsNothing (o : OpenNet) (n i : ℕ) (old new : Plan) : Type 0 where
+  pub same : new ≡ old
+  pub met : (m : ℕ) → Meets o old.rest n i m → IsIn m (nodes_in old.done)
+  pub past : (w : ℕ) → LeadsOff o old.rest n i w → (j : ℕ) × (j < i) × IsWire o w (Port n i) (Port n j)
+
+abbrev pub WhatPort : OpenNet → ℕ → ℕ → Plan → Plan → Bool → Type 0
+WhatPort o n i old new true = (x : Shape) × Adds o n i old new x
+WhatPort o n i old new false = AddsNothing o n i old new
+
+-- with so many empty nets
+abbrev pub with_empty : ℕ → List Shape → List Shape
+with_empty zero xs = xs
+with_empty (suc k) xs = with_empty k xs ++ shape (λ n. false) no_wires ∷ []
+
+pub record Skips (count : ℕ) (old new : Plan) : Type 0 where
+  pub rest : new.rest ≡ old.rest
+  pub done : new.done ≡ old.done
+  pub puts : (o : OpenNet) → IsOpenNet o → (xs : List Shape) → Puts o old.tasks xs → Puts o new.tasks (with_empty count xs)
