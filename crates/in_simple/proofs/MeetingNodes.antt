@@ -3,9 +3,9 @@ use Rattle.std.proofs.Common.{◌≡◌, ◌<◌, ℕ, Bool, false, List, [], �
 use Rattle.in_simple.specs.declared.open_nets.Point.TheVariants.{Port, Free}
 use Rattle.in_simple.specs.Constructions.{IsIn}
 use Rattle.in_simple.specs.OpenNets.{OpenNet, IsWire, IsOpenNet, class_in}
-use Rattle.in_simple.specs.Procedure.{nodes_in, Among, Reaches, Spreads, IsSearch}
+use Rattle.in_simple.specs.Procedure.{nodes_in, Reaches, Spreads, IsSearch}
 use Rattle.in_simple.specs.Meeting.{PortMeetsBy, MeetsBy, MeetsAlone, IsMeeting}
-use Rattle.in_simple.specs.Stuck.{ports_of}
+use Rattle.in_simple.specs.Stuck.{Among, ports_of}
 use Rattle.in_simple.proofs.Sums.{not_both}
 use Rattle.in_simple.proofs.Search.{in_ports}
 use Rattle.in_simple.proofs.Sound.{port_place}

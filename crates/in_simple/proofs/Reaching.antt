@@ -6,8 +6,8 @@ use Rattle.in_simple.specs.declared.open_nets.Point.TheVariants.{Port}
 use Rattle.in_simple.specs.Constructions.{IsIn}
 use Rattle.in_simple.specs.Splitting.{Linked, alone, onward}
 use Rattle.in_simple.specs.OpenNets.{OpenNet, IsWire, IsOpenNet, open_graph}
-use Rattle.in_simple.specs.Procedure.{nodes_in, IsNeighbour, Among, missing, Reaches, Spreads, IsSearch, IsReached}
-use Rattle.in_simple.specs.Stuck.{ports_of}
+use Rattle.in_simple.specs.Procedure.{nodes_in, IsNeighbour, missing, Reaches, Spreads, IsSearch, IsReached}
+use Rattle.in_simple.specs.Stuck.{Among, ports_of}
 use Rattle.in_simple.proofs.Sums.{not_both}
 use Rattle.in_simple.proofs.Links.{same_nat}
 use Rattle.in_simple.proofs.Search.{in_ports}

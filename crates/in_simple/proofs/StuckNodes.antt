@@ -6,8 +6,7 @@ use Rattle.in_simple.specs.declared.derivations.Stuck.{Stuck as StuckNet}
 use Rattle.in_simple.specs.declared.open_nets.OpenNode.{OpenNode}
 use Rattle.in_simple.specs.Constructions.{IsIn}
 use Rattle.in_simple.specs.OpenNets.{OpenNet, IsOpenNet, node_place_in}
-use Rattle.in_simple.specs.Procedure.{Among, Rises, IsListed, IsStuckNet}
-use Rattle.in_simple.specs.Stuck.{IsStuckAt}
+use Rattle.in_simple.specs.Stuck.{Among, IsListed, IsStuckAt, IsStuckNet, Rises}
 use Rattle.in_simple.proofs.Both.{stuck_nodes}
 
 least_of : (low : ℕ) (ns : List ℕ) → Rises low ns → (m : ℕ) → Among m ns → low ≤ m

@@ -4,7 +4,8 @@ use Rattle.in_simple.specs.declared.open_nets.Point.TheVariants.{Port}
 use Rattle.in_simple.specs.Constructions.{IsIn}
 use Rattle.in_simple.specs.Splitting.{Linked}
 use Rattle.in_simple.specs.OpenNets.{OpenNet, IsWire, class_in, open_graph}
-use Rattle.in_simple.specs.Procedure.{nodes_in, Among, IsSearch}
+use Rattle.in_simple.specs.Stuck.{Among}
+use Rattle.in_simple.specs.Procedure.{nodes_in, IsSearch}
 
 -- the wire at port i of k, where it leads to n, ends at a port of this class
 abbrev pub PortMeetsBy : OpenNet → ℕ → ℕ → ℕ → ℕ → Type 0

@@ -3,7 +3,7 @@ use Rattle.in_simple.specs.declared.procedure.Outcome.{Outcome}
 use Rattle.in_simple.specs.declared.procedure.Outcome.TheVariants.{Derived, First}
 use Rattle.in_simple.specs.OpenNets.{OpenNet}
 use Rattle.in_simple.specs.Derivations.{IsDerivation}
-use Rattle.in_simple.specs.Procedure.{IsStuckNet}
+use Rattle.in_simple.specs.Stuck.{IsStuckNet}
 
 abbrev pub IsOutcome : OpenNet → Outcome → Type 0
 IsOutcome o (Derived d) = IsDerivation o d.steps

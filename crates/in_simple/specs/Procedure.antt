@@ -1,8 +1,5 @@
 -- What the procedure that looks for a derivation keeps true. Sets of nodes are lists of tests, node by node.
 use Rattle.std.specs.Prelude.{◌≡◌, ◌⊎◌, ◌↔◌, ℕ, suc, ◌+◌, ◌*◌, ◌<◌, ◌≤◌, Bool, true, false, cond, ◌||◌, List, [], ◌∷◌, ◌++◌, length, slice_set, slice_index_or, Option, Some, None, MatchOption}
-use Rattle.in_simple.specs.declared.derivations.Stuck.{Stuck as StuckNet}
-use Rattle.in_simple.specs.declared.derivations.Undone.{Undone}
-use Rattle.in_simple.specs.declared.derivations.Undone.TheVariants.{Stuck, Memory}
 use Rattle.in_simple.specs.declared.open_nets.Point.{Point}
 use Rattle.in_simple.specs.declared.open_nets.Point.TheVariants.{Port, Free}
 use Rattle.in_simple.specs.declared.plans.Plan.{Plan}
@@ -10,8 +7,8 @@ use Rattle.in_simple.specs.declared.plans.Task.{Task}
 use Rattle.in_simple.specs.declared.plans.Task.TheVariants.{Derive, Make}
 use Rattle.in_simple.specs.Constructions.{IsIn, count}
 use Rattle.in_simple.specs.Splitting.{Linked, Without, SplitsAt, IsFirstSplitting, IsComponent, Splits}
-use Rattle.in_simple.specs.OpenNets.{OpenNet, IsWire, class_in, open_graph, IsDerivable}
-use Rattle.in_simple.specs.Stuck.{ComesAt, FirstStuck, IsFirstStuck}
+use Rattle.in_simple.specs.OpenNets.{OpenNet, IsWire, class_in, open_graph}
+use Rattle.in_simple.specs.Stuck.{Among, ComesAt, FirstStuck}
 
 abbrev pub nodes_in : List Bool → ℕ → Bool
 nodes_in bits n = slice_index_or bits n false
@@ -51,10 +48,6 @@ abbrev pub IsNeighbour : OpenNet → List Bool → ℕ → ℕ → Option ℕ �
 IsNeighbour o within n i near = MatchOption near
     ((w l j : ℕ) → IsWire o w (Port n i) (Port l j) → IsIn l (nodes_in within) → ⊥)
     (λ l. (w : ℕ) × (j : ℕ) × IsWire o w (Port n i) (Port l j) × IsIn l (nodes_in within) × (l < length o.nodes))
-
-abbrev pub Among : ℕ → List ℕ → Type 0
-Among n [] = ⊥
-Among n (m ∷ ms) = (n ≡ m) ⊎ Among n ms
 
 -- how many nodes are not in the set
 abbrev pub missing : List Bool → ℕ
@@ -217,25 +210,6 @@ abbrev pub StartsWork : ℕ → List Task → Type 0
 StartsWork b [] = b ≡ 0
 StartsWork b (Derive c ∷ ts) = (length c ≡ b) × (0 < b) × ((n : ℕ) → n < b → IsIn n (nodes_in c)) × AreMakes ts
 StartsWork b (Make x ∷ ts) = (b ≡ 0) × AreMakes ts
-
--- ---- the answer
-
--- the numbers rise, and are those of the set
-abbrev pub Rises : ℕ → List ℕ → Type 0
-Rises low [] = Unit {0}
-Rises low (n ∷ ns) = (low ≤ n) × Rises (suc n) ns
-
-pub record IsListed (set : ℕ → Bool) (ns : List ℕ) : Type 0 where
-  pub rises : Rises 0 ns
-  pub all : (n : ℕ) → IsIn n set ↔ Among n ns
-
--- there is no derivation, and the nodes are those of the first stuck sub-net
-abbrev pub IsStuckNet : OpenNet → StuckNet → Type 0
-IsStuckNet o s = (IsDerivable o → ⊥) × ((t : ℕ → Bool) × IsFirstStuck o t × IsListed t s.nodes)
-
-abbrev pub IsUndone : OpenNet → Undone → Type 0
-IsUndone o (Stuck s) = IsStuckNet o s
-IsUndone o (Memory e) = Unit {0}
 
 -- fewer nodes are left to derive
 abbrev pub AreFewer : OpenNet → List Task → List Task → Type 0

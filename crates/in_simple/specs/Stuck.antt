@@ -1,12 +1,15 @@
 -- The first stuck sub-net. This project's own choice: the one that stops a procedure which takes the first splitting node out, and
 -- goes on with each component that remains.
-use Rattle.std.specs.Prelude.{◌≡◌, ◌⊎◌, ◌↔◌, ℕ, suc, ◌+◌, ◌<◌, ◌≤◌, Bool, cond, nat_eq, length, slice_get, Some, None}
+use Rattle.std.specs.Prelude.{◌≡◌, ◌⊎◌, ◌↔◌, ℕ, suc, ◌+◌, ◌<◌, ◌≤◌, Bool, cond, nat_eq, List, [], ◌∷◌, length, slice_get, Some, None}
 use Rattle.in_syntax.specs.declared.places.Place.{Place}
+use Rattle.in_simple.specs.declared.derivations.Stuck.{Stuck as StuckNet}
+use Rattle.in_simple.specs.declared.derivations.Undone.{Undone}
+use Rattle.in_simple.specs.declared.derivations.Undone.TheVariants.{Stuck, Memory}
 use Rattle.in_simple.specs.declared.open_nets.Node.TheVariants.{AgentNode, ClassNode}
 use Rattle.in_simple.specs.declared.open_nets.Point.TheVariants.{Port}
 use Rattle.in_simple.specs.Constructions.{IsIn}
 use Rattle.in_simple.specs.Splitting.{Without, IsComponent, IsFirstSplitting, Splits, IsStuck}
-use Rattle.in_simple.specs.OpenNets.{OpenNet, IsNode, IsWire, node_place_in, open_graph}
+use Rattle.in_simple.specs.OpenNets.{OpenNet, IsDerivable, IsNode, IsWire, node_place_in, open_graph}
 
 -- port i of n is wired to a node of c
 abbrev pub Touches : OpenNet → ℕ → (ℕ → Bool) → ℕ → Type 0
@@ -33,6 +36,30 @@ pub data FirstStuck (o : OpenNet) : (ℕ → Bool) → (ℕ → Bool) → Type 0
 -- .. of the whole open net
 abbrev pub IsFirstStuck : OpenNet → (ℕ → Bool) → Type 0
 IsFirstStuck o t = (s : ℕ → Bool) × ((n : ℕ) → IsIn n s ↔ IsNode o n) × FirstStuck o s t
+
+-- ---- the answer
+
+-- n is one of them
+abbrev pub Among : ℕ → List ℕ → Type 0
+Among n [] = ⊥
+Among n (m ∷ ms) = (n ≡ m) ⊎ Among n ms
+
+-- the numbers rise, and are those of the set
+abbrev pub Rises : ℕ → List ℕ → Type 0
+Rises low [] = Unit {0}
+Rises low (n ∷ ns) = (low ≤ n) × Rises (suc n) ns
+
+pub record IsListed (set : ℕ → Bool) (ns : List ℕ) : Type 0 where
+  pub rises : Rises 0 ns
+  pub all : (n : ℕ) → IsIn n set ↔ Among n ns
+
+-- there is no derivation, and the nodes are those of the first stuck sub-net
+abbrev pub IsStuckNet : OpenNet → StuckNet → Type 0
+IsStuckNet o s = (IsDerivable o → ⊥) × ((t : ℕ → Bool) × IsFirstStuck o t × IsListed t s.nodes)
+
+abbrev pub IsUndone : OpenNet → Undone → Type 0
+IsUndone o (Stuck s) = IsStuckNet o s
+IsUndone o (Memory e) = Unit {0}
 
 -- this is the place of the first node of the first stuck sub-net
 pub record IsStuckAt (o : OpenNet) (p : Place) : Type 0 where

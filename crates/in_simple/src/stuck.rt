@@ -1,5 +1,4 @@
-ghost use Rattle.in_simple.specs.Procedure.{IsStuckNet};
-ghost use Rattle.in_simple.specs.Stuck.{IsStuckAt};
+ghost use Rattle.in_simple.specs.Stuck.{IsStuckAt, IsStuckNet};
 
 use crate::derivations::Stuck;
 use crate::open_nets::OpenNet;

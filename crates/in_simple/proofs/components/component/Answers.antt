@@ -1,5 +1,6 @@
 use Rattle.std.proofs.Common.{arith, sym, subst}
-use Rattle.in_simple.specs.Procedure.{Among, IsSearch, Reaches}
+use Rattle.in_simple.specs.Stuck.{Among}
+use Rattle.in_simple.specs.Procedure.{IsSearch, Reaches}
 use Rattle.in_simple.proofs.Reaching.{among_last, search_start, search_step, search_end}
 use Rattle.in_simple.proofs.components.component.Goals as goal
 

@@ -1,6 +1,7 @@
 use Rattle.std.proofs.Common.{◌≡◌, ◌↔◌, ◌<◌, ◌+◌, ◌∙◌, ℕ, Bool, true, false, sym, subst, inl, inr, ◌++◌, ◌∷◌, [], List, arith}
 use Rattle.in_simple.specs.Constructions.{IsIn}
-use Rattle.in_simple.specs.Procedure.{Among, Rises, nodes_in}
+use Rattle.in_simple.specs.Stuck.{Among, Rises}
+use Rattle.in_simple.specs.Procedure.{nodes_in}
 use Rattle.in_simple.proofs.Sums.{not_both}
 use Rattle.in_simple.proofs.Links.{same_nat}
 use Rattle.in_simple.proofs.Planning.{read_bit}

@@ -1,6 +1,7 @@
 use Rattle.std.proofs.Common.{◌↔◌, ◌<◌, ℕ}
 use Rattle.in_simple.specs.Constructions.{IsIn}
-use Rattle.in_simple.specs.Procedure.{Among, Rises, nodes_in}
+use Rattle.in_simple.specs.Stuck.{Among, Rises}
+use Rattle.in_simple.specs.Procedure.{nodes_in}
 use Rattle.in_simple.proofs.procedure.stuck.Given as goal
 
 abbrev pub invariant-loop-node : goal.invariant-loop-node
