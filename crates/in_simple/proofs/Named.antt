@@ -3,7 +3,7 @@ use Rattle.std.proofs.Common.{◌≡◌, ◌≢◌, ◌<◌, ◌≤◌, ◌+◌,
 use Rattle.std.proofs.Math.ListN.{set}
 use Rattle.std.proofs.lemmas.List.{length-set}
 use Rattle.in_simple.specs.declared.verifying.Built.{Built}
-use Rattle.in_simple.specs.Derivations.{Step, named, one_if, times, times_in}
+use Rattle.in_simple.specs.Derivations.{Step, named, one_if, times_in}
 use Rattle.in_simple.specs.Checking.{left_of, left_at, Takes}
 use Rattle.in_simple.proofs.Sums.{some_same, one_same, one_other}
 use Rattle.in_simple.proofs.Links.{same_nat}

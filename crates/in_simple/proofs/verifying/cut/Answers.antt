@@ -1,4 +1,4 @@
-use Rattle.std.proofs.Common.{◌≡◌, ◌-◌, ◌<◌, ◌≤◌, length, set, ap, sym, subst, arith}
+use Rattle.std.proofs.Common.{◌≡◌, ◌-◌, ◌≤◌, length, set, ap, sym, subst, arith}
 use Rattle.in_simple.specs.Checking.{ends_at}
 use Rattle.in_simple.proofs.Sums.{not_both}
 use Rattle.in_simple.proofs.VerifyMade.{cut_pair, cut_past, cut_refused, joint_ends, joint_refused}
