@@ -1,6 +1,6 @@
-ghost use Rattle.std.specs.Prelude.{◌≡◌, ◌↔◌, ◌+◌, ◌<◌, ◌^◌, ℕ, length, slice_get, Some, IsTrue, IfOk, OnOk, OnErr};
+ghost use Rattle.std.specs.Prelude.{◌≡◌, ◌↔◌, ◌+◌, ◌<◌, ℕ, length, IsTrue, IfOk, OnOk};
 ghost use Rattle.in_simple.specs.Checking.{AreAll, AreBeside, AreGathered, AreRefused, AreSized, HasClass, HasFreeEnds, IsClassRefused, IsClassTaken, IsFrom, IsGraftedTo, IsInClass, IsJoint, IsLast, IsLed, IsNothing, IsOpenAt, IsSized, IsSum, IsUnion, IsWhole, LacksSome, OnAlone, OnGraftEnd, OnGraftWire, OnPair, OnStep, OnTaken, ShareOne, Shares, Tells, ends_at, left_at};
-ghost use Rattle.in_simple.specs.Derivations.{Cut, Given, Graft, Link, Mix, is_auxiliary, is_free, is_port_in, is_principal, IsDerivation};
+ghost use Rattle.in_simple.specs.Derivations.{Cut, Given, Graft, IsDerivation, Link, Mix, is_auxiliary, is_free, is_port_in, is_principal};
 ghost use Rattle.in_simple.specs.OpenNets.{IsAgent, IsClass, IsOrderly, IsPointOf, classes_of};
 ghost use Rattle.in_simple.specs.Procedure.{nodes_in};
 
@@ -524,7 +524,8 @@ fn built_by(
 /// Whether the open ends are the free ends.
 fn has_free_ends(open: &OpenNet, built: &Built) -> bool
     requires { IsSized «open».now built.now }
-    ensures { IsTrue result ↔ HasFreeEnds «open».now built.now (length «open».now.wires) }
+    ensures free { IsTrue result ↔ HasFreeEnds «open».now built.now (length «open».now.wires) }
+    ensures net { IsOrderly «open».now }
 {
     for wire in 0..open.wires() {
         let (one, other) = open.wire(wire);
@@ -563,7 +564,8 @@ fn is_none_left(parts: &Vec<Option<Built>>) -> bool
 /// Whether the last step built all of the open net, and no other is left.
 fn is_last(open: &OpenNet, last: &Built, others: &Vec<Option<Built>>) -> bool
     requires { IsSized «open».now last.now }
-    ensures { IsTrue result ↔ IsLast «open».now last.now others.now.items }
+    ensures last { IsTrue result ↔ IsLast «open».now last.now others.now.items }
+    ensures net { IsOrderly «open».now }
 {
     has_free_ends(open, last) && are_all(&last.nodes) && is_none_left(others)
 }
@@ -572,9 +574,8 @@ fn is_last(open: &OpenNet, last: &Built, others: &Vec<Option<Built>>) -> bool
 fn is_whole(open: &OpenNet, parts: &mut Vec<Option<Built>>) -> bool
     requires { AreSized «open».now parts.old.items }
     ensures whole { IsTrue result ↔ IsWhole «open».now parts.old.items }
-    ensures net { IsOrderly «open».now }
+    ensures net { IsTrue result → IsOrderly «open».now }
 {
-    let wires = open.wires();
     match parts.pop() {
         Some(Some(last)) => is_last(open, &last, parts),
         _ => false,

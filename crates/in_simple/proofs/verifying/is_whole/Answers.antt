@@ -9,6 +9,6 @@ returns-in-Some-Some-clause-whole c =
     let others = c.pop.new.self.items in
     let b = c.in-Some-Some.last in
     let e : parts ≡ others ++ Some b ∷ [] = subst (λ z. parts ≡ others ++ z ∷ []) c.in-Some-Some.field-0-is c.in-Some-Some.ensures.items in (
-      (λ t. (others, b, e, c.is_last.ensures.0 t)),
-      λ w. c.is_last.ensures.1 (whole_last o parts others b e w),
+      (λ t. (others, b, e, c.is_last.ensures.last.0 t)),
+      λ w. c.is_last.ensures.last.1 (whole_last o parts others b e w),
     )

@@ -41,6 +41,6 @@ returns c =
     let b = c.loop-step.auto in
     let e : c.loop-step.step-index ≡ length steps = omega arith in
     let h = subst (λ z. AreBuilt o steps z c.loop-step.parts.items) e c.loop-step.invariant in (
-      (λ t. built_whole o steps c.loop-step.parts.items c.is_whole.ensures.net.net h (c.is_whole.ensures.whole.0 t)),
+      (λ t. built_whole o steps c.loop-step.parts.items (c.is_whole.ensures.net t).net h (c.is_whole.ensures.whole.0 t)),
       λ d. c.is_whole.ensures.whole.1 (whole_built o steps c.loop-step.parts.items h d),
     )
