@@ -23,9 +23,9 @@ const ADD: SymbolNo = SymbolNo(2);
 
 const DUP: SymbolNo = SymbolNo(3);
 
-/// The program of numbers with this net.
-fn numbers(alloc: Global, net: &str) -> Result<Checked, Fault> {
-    let text = format!(in alloc; "{NUMBERS}{ADDITION}{DUPLICATION}{net}\n")?;
+/// The program of numbers, with these rules of addition and this net.
+fn numbers(alloc: Global, addition: &str, net: &str) -> Result<Checked, Fault> {
+    let text = format!(in alloc; "{NUMBERS}{addition}{DUPLICATION}{net}\n")?;
     check(alloc, text.as_bytes())
 }
 
@@ -62,27 +62,107 @@ fn has_wires(shape: &OpenNet, wires: &[(Point, Point)]) -> bool {
     true
 }
 
+/// Whether an open net has these nodes and wires, and the steps build it.
+fn is_built(
+    alloc: Global,
+    shape: &OpenNet,
+    steps: &Derivation,
+    nodes: &[(Node, u32, u32)],
+    wires: &[(Point, Point)],
+) -> Result<bool, Fail> {
+    let builds = verify(alloc, steps, shape)?;
+    Ok(builds && has_nodes(shape, nodes) && has_wires(shape, wires))
+}
+
 /// Whether the open net of that rule has these nodes and wires, and its steps build it.
 fn has_rule(
     alloc: Global,
-    checked: &Checked,
+    addition: &str,
     number: u32,
     nodes: &[(Node, u32, u32)],
     wires: &[(Point, Point)],
 ) -> Result<bool, Fail> {
+    let checked = numbers(alloc, addition, "net () { }")?;
     if number >= checked.rules() {
         return Ok(false);
     }
     let item = Item::RuleItem(RuleNo(number));
-    let shape = checked.shape(item);
-    let builds = verify(alloc, checked.certificate(item), shape)?;
-    Ok(builds && has_nodes(shape, nodes) && has_wires(shape, wires))
+    is_built(
+        alloc,
+        checked.shape(item),
+        checked.certificate(item),
+        nodes,
+        wires,
+    )
+}
+
+/// Whether the open net of the net has these nodes and wires, and its steps build it.
+fn has_net(
+    alloc: Global,
+    net: &str,
+    nodes: &[(Node, u32, u32)],
+    wires: &[(Point, Point)],
+) -> Result<bool, Fail> {
+    let checked = numbers(alloc, ADDITION, net)?;
+    is_built(
+        alloc,
+        checked.shape(Item::NetItem),
+        checked.certificate(Item::NetItem),
+        nodes,
+        wires,
+    )
+}
+
+/// Whether the program of this net has so much, and the second rule is of these symbols.
+fn keeps(
+    alloc: Global,
+    net: &str,
+    counts: Counts,
+    heads: (SymbolNo, SymbolNo),
+) -> Result<bool, Fail> {
+    let checked = numbers(alloc, ADDITION, net)?;
+    Ok(
+        checked.counts() == counts
+            && checked.symbols().symbols() == counts.symbols
+            && checked.net().agents() == counts.agents
+            && checked.rules() > 1
+            && checked.rule(RuleNo(1)).written() == heads,
+    )
+}
+
+/// The two class nodes of the addition to zero, joined by nothing.
+fn side_by_side(alloc: Global) -> Result<Derivation, Fail> {
+    let mut steps = Items::new(alloc);
+    steps.push(Step::Given { node: 0 })?;
+    steps.push(Step::Given { node: 1 })?;
+    steps.push(Step::Mix { a: 0, b: 1 })?;
+    Ok(Derivation { steps })
+}
+
+/// Whether steps build the open net of the addition to zero.
+fn build_the_sum_of_zero(alloc: Global, steps: &Derivation) -> Result<bool, Fail> {
+    let checked = numbers(alloc, ADDITION, "net () { }")?;
+    if checked.rules() < 2 {
+        return Ok(false);
+    }
+    Ok(verify(alloc, steps, checked.shape(Item::RuleItem(RuleNo(1))))?)
+}
+
+/// Whether the program of this net is refused so.
+fn is_refused(alloc: Global, net: &str, code: Code, line: u32, col: u32) -> bool {
+    match numbers(alloc, ADDITION, net) {
+        Err(Fault::Refused(refusal)) => {
+            refusal.code == code
+                && refusal.place.line == line
+                && refusal.place.col == col
+                && refusal.other.is_none()
+        }
+        _ => false,
+    }
 }
 
 #[test]
 fn a_class_of_a_head_is_a_node(rt: HostRuntime) -> Result<(), Fail> {
-    let alloc = rt.alloc();
-    let checked = numbers(alloc, "net () { }")?;
     let nodes = [
         (Node::ClassNode(S, 1), 6, 6),
         (Node::AgentNode(ADD), 6, 8),
@@ -96,27 +176,23 @@ fn a_class_of_a_head_is_a_node(rt: HostRuntime) -> Result<(), Fail> {
         (Point::Port(3, 0), Point::Port(4, 0)),
         (Point::Port(1, 2), Point::Port(4, 1)),
     ];
-    assert!(rt; has_rule(alloc, &checked, 0, &nodes, &wires)?);
+    assert!(rt; has_rule(rt.alloc(), ADDITION, 0, &nodes, &wires)?);
     Ok(())
 }
 
 #[test]
 fn a_rule_without_agents_has_class_nodes(rt: HostRuntime) -> Result<(), Fail> {
-    let alloc = rt.alloc();
-    let checked = numbers(alloc, "net () { }")?;
     let nodes = [
         (Node::ClassNode(ADD, 1), 7, 13),
         (Node::ClassNode(ADD, 2), 7, 13),
     ];
     let wires = [(Point::Port(0, 0), Point::Port(1, 0))];
-    assert!(rt; has_rule(alloc, &checked, 1, &nodes, &wires)?);
+    assert!(rt; has_rule(rt.alloc(), ADDITION, 1, &nodes, &wires)?);
     Ok(())
 }
 
 #[test]
 fn places_of_one_class_are_ports_of_one_node(rt: HostRuntime) -> Result<(), Fail> {
-    let alloc = rt.alloc();
-    let checked = numbers(alloc, "net () { }")?;
     let nodes = [
         (Node::ClassNode(S, 1), 8, 6),
         (Node::AgentNode(DUP), 8, 8),
@@ -131,14 +207,12 @@ fn places_of_one_class_are_ports_of_one_node(rt: HostRuntime) -> Result<(), Fail
         (Point::Port(2, 1), Point::Port(4, 0)),
         (Point::Port(1, 2), Point::Port(4, 1)),
     ];
-    assert!(rt; has_rule(alloc, &checked, 2, &nodes, &wires)?);
+    assert!(rt; has_rule(rt.alloc(), ADDITION, 2, &nodes, &wires)?);
     Ok(())
 }
 
 #[test]
 fn a_symbol_without_places_has_no_class_node(rt: HostRuntime) -> Result<(), Fail> {
-    let alloc = rt.alloc();
-    let checked = numbers(alloc, "net () { }")?;
     let nodes = [
         (Node::ClassNode(DUP, 1), 9, 13),
         (Node::AgentNode(Z), 9, 17),
@@ -148,17 +222,14 @@ fn a_symbol_without_places_has_no_class_node(rt: HostRuntime) -> Result<(), Fail
         (Point::Port(0, 0), Point::Port(1, 0)),
         (Point::Port(0, 1), Point::Port(2, 0)),
     ];
-    assert!(rt; has_rule(alloc, &checked, 3, &nodes, &wires)?);
+    assert!(rt; has_rule(rt.alloc(), ADDITION, 3, &nodes, &wires)?);
     Ok(())
 }
 
+const TURNED: &str = "rule Add[y, S(t)] >< S[Add(y, t)];\nrule Z[] >< Add[y, y];\n";
+
 #[test]
 fn the_first_head_of_the_text_comes_first(rt: HostRuntime) -> Result<(), Fail> {
-    let alloc = rt.alloc();
-    let text = format!(in alloc;
-        "{NUMBERS}rule Add[y, S(t)] >< S[Add(y, t)];\nrule Z[] >< Add[y, y];\n{DUPLICATION}net () {{ }}\n"
-    )?;
-    let checked = check(alloc, text.as_bytes())?;
     let nodes = [
         (Node::ClassNode(ADD, 1), 6, 6),
         (Node::ClassNode(ADD, 2), 6, 6),
@@ -172,29 +243,14 @@ fn the_first_head_of_the_text_comes_first(rt: HostRuntime) -> Result<(), Fail> {
         (Point::Port(0, 0), Point::Port(4, 1)),
         (Point::Port(2, 1), Point::Port(4, 2)),
     ];
-    assert!(rt; has_rule(alloc, &checked, 0, &nodes, &wires)?);
+    assert!(rt; has_rule(rt.alloc(), TURNED, 0, &nodes, &wires)?);
     Ok(())
 }
 
+const SUM: &str = "net (r : nat+) { Add(Z, r) ~ Z; }";
+
 #[test]
 fn the_net_is_kept_with_its_open_net(rt: HostRuntime) -> Result<(), Fail> {
-    let alloc = rt.alloc();
-    let checked = numbers(alloc, "net (r : nat+) { Add(Z, r) ~ Z; }")?;
-    let counts = Counts {
-        types: 1,
-        symbols: 4,
-        rules: 4,
-        agents: 3,
-    };
-    assert!(rt; checked.counts() == counts);
-    assert_eq!(rt; checked.symbols().symbols(), 4);
-    assert_eq!(rt; checked.net().agents(), 3);
-    if checked.rules() > 1 {
-        assert!(rt; checked.rule(RuleNo(1)).written() == (Z, ADD));
-    } else {
-        assert!(rt; false);
-    }
-    let shape = checked.shape(Item::NetItem);
     let nodes = [
         (Node::AgentNode(ADD), 10, 18),
         (Node::AgentNode(Z), 10, 22),
@@ -205,40 +261,32 @@ fn the_net_is_kept_with_its_open_net(rt: HostRuntime) -> Result<(), Fail> {
         (Point::Free(0), Point::Port(0, 2)),
         (Point::Port(0, 0), Point::Port(2, 0)),
     ];
-    assert!(rt; has_nodes(shape, &nodes));
-    assert!(rt; has_wires(shape, &wires));
-    assert!(rt; verify(alloc, checked.certificate(Item::NetItem), shape)?);
+    assert!(rt; has_net(rt.alloc(), SUM, &nodes, &wires)?);
     Ok(())
 }
 
 #[test]
-fn nodes_beside_each_other_do_not_join_them(rt: HostRuntime) -> Result<(), Fail> {
+fn the_tables_rules_and_net_are_kept(rt: HostRuntime) -> Result<(), Fail> {
+    let counts = Counts {
+        types: 1,
+        symbols: 4,
+        rules: 4,
+        agents: 3,
+    };
+    assert!(rt; keeps(rt.alloc(), SUM, counts, (Z, ADD))?);
+    Ok(())
+}
+
+#[test]
+fn nodes_beside_each_other_are_not_joined(rt: HostRuntime) -> Result<(), Fail> {
     let alloc = rt.alloc();
-    let checked = numbers(alloc, "net () { }")?;
-    let mut steps = Items::new(alloc);
-    steps.push(Step::Given { node: 0 })?;
-    steps.push(Step::Given { node: 1 })?;
-    steps.push(Step::Mix { a: 0, b: 1 })?;
-    if checked.rules() > 1 {
-        let item = Item::RuleItem(RuleNo(1));
-        assert!(rt; !verify(alloc, &Derivation { steps }, checked.shape(item))?);
-        assert!(rt; verify(alloc, checked.certificate(item), checked.shape(item))?);
-    } else {
-        assert!(rt; false);
-    }
+    let steps = side_by_side(alloc)?;
+    assert!(rt; !build_the_sum_of_zero(alloc, &steps)?);
     Ok(())
 }
 
 #[test]
-fn a_stuck_net_is_refused_at_its_first_node(rt: HostRuntime) -> Result<(), Fail> {
-    match numbers(rt.alloc(), "net (y : nat-) { x ~ Add(y, x); }") {
-        Err(Fault::Refused(refusal)) => {
-            assert!(rt; refusal.code == Code::E13);
-            assert_eq!(rt; refusal.place.line, 10);
-            assert_eq!(rt; refusal.place.col, 22);
-            assert!(rt; refusal.other.is_none());
-        }
-        _ => assert!(rt; false),
-    }
-    Ok(())
+fn a_stuck_net_is_refused_at_its_first_node(rt: HostRuntime) {
+    let net = "net (y : nat-) { x ~ Add(y, x); }";
+    assert!(rt; is_refused(rt.alloc(), net, Code::E13, 10, 22));
 }
