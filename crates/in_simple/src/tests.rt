@@ -2,9 +2,10 @@ ghost use Rattle.std.specs.Prelude.{◌<◌, length};
 ghost use Rattle.in_syntax.specs.Order.{IsWrittenInOrder};
 ghost use Rattle.in_syntax.specs.Sizes.{IsSized};
 ghost use Rattle.in_symbols.specs.Tables.{IsTabled};
+ghost use Rattle.in_symbols.specs.Faults.{IsFaultless};
 
-use crate::{Derivation, OpenNet, Point, Step, StepNumbers, derive, open_rule, verify};
-use in_net::build_rule;
+use crate::{Derivation, OpenNet, Point, Step, StepNumbers, derive, open_net, open_rule, verify};
+use in_net::{build_net, build_rule};
 use in_symbols::Symbols;
 use in_syntax::{Fault, Source, parse};
 use sqlite_items::Items;
@@ -162,6 +163,39 @@ fn rules_are_derived_as_they_are_printed(rt: HostRuntime) -> Result<(), Fail> {
     assert_eq!(rt;
         text.as_str(),
         "given 0;given 2;given 3;link;graft 4 3;cut 2 4;graft 1 1 5;cut 0 6;\ngiven 0;given 1;cut 0 1;\n"
+    );
+    Ok(())
+}
+
+const DOUBLING: &str =
+    "type nat;\nsymbol Z : nat+;\nsymbol S : nat+ {nat-};\nsymbol Add : nat- {nat-} {nat+};\nsymbol Dup : nat- {nat+, nat+};\nnet (r : nat+) { Dup(x, y) ~ S(Z); x ~ Add(y, r); }\n";
+
+/// The open net of a program's net.
+fn net_opened(alloc: Global, source: &Source, symbols: &Symbols) -> Result<OpenNet, Fault>
+    requires sized { IsSized source.now }
+    requires order { IsWrittenInOrder source.now }
+    requires tabled { IsTabled source.now symbols.now }
+    requires faultless { IsFaultless source.now }
+{
+    let net = build_net(alloc, source, symbols)?;
+    Ok(open_net(alloc, symbols, &net)?)
+}
+
+/// The open net of the net of a text.
+fn open_text(alloc: Global, text: &str) -> Result<OpenNet, Fault> {
+    let source = parse(alloc, text.as_bytes())?;
+    let symbols = Symbols::build(alloc, &source)?;
+    net_opened(alloc, &source, &symbols)
+}
+
+#[test]
+fn a_net_is_derived_as_it_is_printed(rt: HostRuntime) -> Result<(), Fail> {
+    let alloc = rt.alloc();
+    let open = open_text(alloc, DOUBLING)?;
+    let text = derived(alloc, &open)?;
+    assert_eq!(rt;
+        text.as_str(),
+        "link;link;graft 3 0 1;graft 0 2;graft 2;graft 1 4;cut 3 5;"
     );
     Ok(())
 }
