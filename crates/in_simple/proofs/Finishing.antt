@@ -38,7 +38,7 @@ loose_yes o w k l (inl h) = ap are_free h
 loose_yes o w k l (inr h) = ap are_free h
 
 -- a port is at no loose wire
-loose_no_port : (o : OpenNet) (w n i : ℕ) (q : Point) → loose_in o w ≡ true → IsWire o w (Port n i) q → ⊥
+pub loose_no_port : (o : OpenNet) (w n i : ℕ) (q : Point) → loose_in o w ≡ true → IsWire o w (Port n i) q → ⊥
 loose_no_port o w n i q h wire =
     let y = loose_points o w h in
     elim (wire_points o w (Free y.0) (Free y.1) (Port n i) q (inl y.2) wire) [
@@ -46,16 +46,16 @@ loose_no_port o w n i q h wire =
       | inr e ↦ let f : ◌≡◌ {A = Point} (Port n i) (Free y.1) = e.0 in cc
     ]
 
-below_small : (o : OpenNet) (b w : ℕ) → IsIn w (loose_below o b) → (w < b) × IsIn w (loose_in o)
+pub below_small : (o : OpenNet) (b w : ℕ) → IsIn w (loose_below o b) → (w < b) × IsIn w (loose_in o)
 below_small o b w h = (ltb-true w b (and_left (nat_lt w b) (loose_in o w) h), and_right (nat_lt w b) (loose_in o w) h)
 
 below_in : (o : OpenNet) (b w : ℕ) → w < b → IsIn w (loose_in o) → IsIn w (loose_below o b)
 below_in o b w l h = and_both (nat_lt w b) (loose_in o w) (lt-ltb w b l) h
 
-below_none : (o : OpenNet) (w : ℕ) → loose_below o 0 w ≡ false
+pub below_none : (o : OpenNet) (w : ℕ) → loose_below o 0 w ≡ false
 below_none o w = not_true (loose_below o 0 w) (λ h. let l = (below_small o 0 w h).0 in omega arith)
 
-below_past : (o : OpenNet) (b : ℕ) → loose_in o b ≡ false → (w : ℕ) → loose_below o b w ≡ loose_below o (b + 1) w
+pub below_past : (o : OpenNet) (b : ℕ) → loose_in o b ≡ false → (w : ℕ) → loose_below o b w ≡ loose_below o (b + 1) w
 below_past o b off w = same_test (loose_below o b w) (loose_below o (b + 1) w)
     (λ h. let x = below_small o b w h in let l = x.0 in below_in o (b + 1) w (omega arith) x.1)
     (λ h.
@@ -63,7 +63,7 @@ below_past o b off w = same_test (loose_below o b w) (loose_below o (b + 1) w)
     let l = x.0 in
     elim (same_nat w b) [ inl e ↦ absurd (not_both (loose_in o w) x.1 (ap (loose_in o) e ∙ off)) | inr d ↦ below_in o b w (omega arith) x.1 ])
 
-below_more : (o : OpenNet) (b : ℕ) → loose_in o b ≡ true → (w : ℕ) → (loose_below o b w || nat_eq w b) ≡ loose_below o (b + 1) w
+pub below_more : (o : OpenNet) (b : ℕ) → loose_in o b ≡ true → (w : ℕ) → (loose_below o b w || nat_eq w b) ≡ loose_below o (b + 1) w
 below_more o b on w = same_test (loose_below o b w || nat_eq w b) (loose_below o (b + 1) w)
     (λ h. elim (or_cases (loose_below o b w) (nat_eq w b) h) [
       | inl g ↦ let x = below_small o b w g in let l = x.0 in below_in o (b + 1) w (omega arith) x.1
@@ -74,7 +74,7 @@ below_more o b on w = same_test (loose_below o b w || nat_eq w b) (loose_below o
     let l = x.0 in
     elim (same_nat w b) [ inl e ↦ or_right (loose_below o b w) (nat_eq w b) (eq-eqb w b e) | inr d ↦ or_left (loose_below o b w) (nat_eq w b) (below_in o b w (omega arith) x.1) ])
 
-below_all : (o : OpenNet) (w : ℕ) → loose_below o (length o.wires) w ≡ loose_in o w
+pub below_all : (o : OpenNet) (w : ℕ) → loose_below o (length o.wires) w ≡ loose_in o w
 below_all o w = same_test (loose_below o (length o.wires) w) (loose_in o w) (λ h. (below_small o (length o.wires) w h).1)
     (λ h. let y = loose_points o w h in below_in o (length o.wires) w (slice_get_within o.wires w (Free y.0, Free y.1) y.2) h)
 
@@ -161,7 +161,7 @@ module _ (o : OpenNet) (net : IsOpenNet o) where
 
   -- ---- the end
 
-  last_ends : (whole : ℕ → Bool) → ((n : ℕ) → IsIn n whole ↔ IsNode o n) → (w : ℕ) (p q : Point) → IsWire o w p q → leads_out whole p q + cond (loose_in o w) 1 0 ≡ is_free q
+  pub last_ends : (whole : ℕ → Bool) → ((n : ℕ) → IsIn n whole ↔ IsNode o n) → (w : ℕ) (p q : Point) → IsWire o w p q → leads_out whole p q + cond (loose_in o w) 1 0 ≡ is_free q
   last_ends whole all w p (Port m j) h =
       let a = port_yes whole m j ((all m).1 (node_of m j (net.points w (Port m j) p (wire_turn o w p (Port m j) h)))) in
       let b = port_most whole p in

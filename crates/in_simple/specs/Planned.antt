@@ -87,6 +87,7 @@ abbrev pub with_empty : ℕ → List Shape → List Shape
 with_empty zero xs = xs
 with_empty (suc k) xs = with_empty k xs ++ shape (λ n. false) no_wires ∷ []
 
+-- .. which come on top of what the tasks put, and nothing else changes
 pub record Skips (count : ℕ) (old new : Plan) : Type 0 where
   pub rest : new.rest ≡ old.rest
   pub done : new.done ≡ old.done
