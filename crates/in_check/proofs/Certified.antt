@@ -1,15 +1,19 @@
 -- What the passes give for the steps of rules.
-use Rattle.std.proofs.Common.{◌≡◌, ◌⊎◌, inl, inr, List, [], ◌∷◌, ◌++◌, length, ℕ, zero, suc, ◌<◌, Some, slice_get, Ok, Err, refl, sym, ◌∙◌, ap, subst, arith}
+use Rattle.std.proofs.Common.{◌≡◌, ◌⊎◌, inl, inr, List, [], ◌∷◌, ◌++◌, length, ℕ, zero, suc, ◌<◌, Some, slice_get, Result, Ok, Err, refl, sym, ◌∙◌, ap, subst, arith}
 use Rattle.std.specs.List.{AllByRecursion}
+use Rattle.in_syntax.specs.declared.faults.Code.TheVariants.{E12, E13}
 use Rattle.in_syntax.specs.declared.faults.Fault.{Fault}
 use Rattle.in_syntax.specs.declared.faults.Fault.TheVariants.{Refused, Memory}
 use Rattle.in_syntax.specs.declared.tree.Source.{Source}
 use Rattle.in_symbols.specs.Tables.{Tables}
+use Rattle.in_net.specs.Parts.{Parts}
 use Rattle.in_net.specs.Rules.{RuleParts}
-use Rattle.in_simple.specs.OpeningRules.{IsRuleWhole}
+use Rattle.in_simple.specs.OpenNets.{OpenNet}
+use Rattle.in_simple.specs.Opening.{Opens}
+use Rattle.in_simple.specs.OpeningRules.{IsRuleWhole, OpensRule}
 use Rattle.in_simple.proofs.TextRules.{rule_whole}
 use Rattle.in_check.specs.declared.checked.Certificate.{Certificate}
-use Rattle.in_check.specs.Certificates.{CertifiesRule, CertifiesRules}
+use Rattle.in_check.specs.Certificates.{Certifies, CertifiesNet, CertifiesRule, CertifiesRules}
 use Rattle.in_check.specs.Checking.{BuildsRules}
 use Rattle.in_check.proofs.Passes.{all_of, last_or_before}
 
@@ -47,3 +51,15 @@ one_more_certified t rules cs more p c grown at each made j q d e f = by_side (l
     by_side : (slice_get cs j ≡ Some d) ⊎ ((j ≡ length cs) × (c ≡ d)) → CertifiesRule t q (Ok d)
     by_side (inl h) = each j q d e h
     by_side (inr h) = subst (λ z. CertifiesRule t q (Ok z)) h.1 (subst (λ z. CertifiesRule t z (Ok c)) (same_rule p q (sym at ∙ ap (slice_get rules) (sym h.0) ∙ e)) made)
+
+-- ---- a rule, and the net
+
+pub rule_certified : (t : Tables) (p : RuleParts) (o : OpenNet) (r : Result Certificate Fault) → OpensRule t p o → Certifies o E12 r → CertifiesRule t p r
+rule_certified t p o (Ok c) opens h = (subst (OpensRule t p) (sym h.0) opens, h.1)
+rule_certified t p o (Err (Refused r)) opens h = (o, opens, h)
+rule_certified t p o (Err (Memory e)) opens h = tt
+
+pub net_certified : (t : Tables) (n : Parts) (o : OpenNet) (r : Result Certificate Fault) → Opens t n o → Certifies o E13 r → CertifiesNet t n r
+net_certified t n o (Ok c) opens h = (subst (Opens t n) (sym h.0) opens, h.1)
+net_certified t n o (Err (Refused r)) opens h = (o, opens, h)
+net_certified t n o (Err (Memory e)) opens h = tt
