@@ -74,6 +74,8 @@ fn type_pass(symbols: &Symbols, rules: &[Rule], net: &Net) -> Result<(), Fault>
 /// The first fault of the first pass that finds one is answered: E01 to E03, E04 to E06, E03 and E07 to E09, E10 and E11, E14 and
 /// E15, E12, E13; or want of memory. Lafont 1990 asks for types that fit, for one rule for each pair and for semi-simple nets; the
 /// order of the passes is this project's own choice.
+// Each goal is answered by name: a search through the passes would take long where one of them is wrong.
+#[tactic(none)]
 pub fn check(alloc: Global, text: &[u8]) -> Result<Checked, Fault>
     ensures { IsChecked text.now result }
 {

@@ -1,4 +1,4 @@
-use Rattle.std.proofs.Common.{sym, subst, Ok, Err}
+use Rattle.std.proofs.Common.{rules, sym, subst, Ok, Err}
 use Rattle.std.specs.List.{AllByRecursion}
 use Rattle.std.proofs.lemmas.Result.{err_from_is_err_and}
 use Rattle.in_net.specs.Rules.{IsRuleOver}
@@ -103,3 +103,63 @@ returns c = record {
   simple_rules = subst (λ rules. CertifiesRules c.in_ok-symbols.symbols rules (Ok c.in_ok-rule_certificates.rule_certificates)) c.as_slice-3.ensures c.in_ok-rule_certificates.ensures;
   simple_net = c.in_ok-net_certificate.ensures;
 }
+
+pub build-requires : goal.build-requires
+build-requires c = search rules
+
+pub build_net-requires-clause-faultless : goal.build_net-requires-clause-faultless
+build_net-requires-clause-faultless c = search rules
+
+pub build_net-requires-clause-order : goal.build_net-requires-clause-order
+build_net-requires-clause-order c = search rules
+
+pub build_net-requires-clause-sized : goal.build_net-requires-clause-sized
+build_net-requires-clause-sized c = search rules
+
+pub build_net-requires-clause-tabled : goal.build_net-requires-clause-tabled
+build_net-requires-clause-tabled c = search rules
+
+pub build_rules-requires-clause-order : goal.build_rules-requires-clause-order
+build_rules-requires-clause-order c = search rules
+
+pub build_rules-requires-clause-sized : goal.build_rules-requires-clause-sized
+build_rules-requires-clause-sized c = search rules
+
+pub build_rules-requires-clause-tabled : goal.build_rules-requires-clause-tabled
+build_rules-requires-clause-tabled c = search rules
+
+pub certify_net-requires-clause-built : goal.certify_net-requires-clause-built
+certify_net-requires-clause-built c = search rules
+
+pub certify_net-requires-clause-over : goal.certify_net-requires-clause-over
+certify_net-requires-clause-over c = search rules
+
+pub cover-requires-clause-few : goal.cover-requires-clause-few
+cover-requires-clause-few c = search rules
+
+pub invariant_of-result : goal.invariant_of-result
+invariant_of-result c = search rules
+
+pub returns-in_err-source : goal.returns-in_err-source
+returns-in_err-source c = search rules
+
+pub same-net : goal.same-net
+same-net c = search rules
+
+pub same-numbers : goal.same-numbers
+same-numbers c = search rules
+
+pub same-rule_certificates : goal.same-rule_certificates
+same-rule_certificates c = search rules
+
+pub same-rules : goal.same-rules
+same-rules c = search rules
+
+pub same-symbols : goal.same-symbols
+same-symbols c = search rules
+
+pub type_pass-requires-clause-built : goal.type_pass-requires-clause-built
+type_pass-requires-clause-built c = search rules
+
+pub type_pass-requires-clause-net : goal.type_pass-requires-clause-net
+type_pass-requires-clause-net c = search rules
