@@ -1,5 +1,5 @@
 -- What the passes give for the steps of rules.
-use Rattle.std.proofs.Common.{◌≡◌, ◌⊎◌, inl, inr, List, [], ◌∷◌, ◌++◌, length, ℕ, zero, suc, ◌<◌, Some, slice_get, Result, Ok, Err, refl, sym, ◌∙◌, ap, subst, arith}
+use Rattle.std.proofs.Common.{◌≡◌, ◌⊎◌, inl, inr, List, [], ◌∷◌, ◌++◌, length, ℕ, Some, slice_get, Result, Ok, Err, sym, ◌∙◌, ap, subst, arith}
 use Rattle.std.specs.List.{AllByRecursion}
 use Rattle.in_syntax.specs.declared.faults.Code.TheVariants.{E12, E13}
 use Rattle.in_syntax.specs.declared.faults.Fault.{Fault}
@@ -11,6 +11,7 @@ use Rattle.in_net.specs.Rules.{RuleParts}
 use Rattle.in_simple.specs.OpenNets.{OpenNet}
 use Rattle.in_simple.specs.Opening.{Opens}
 use Rattle.in_simple.specs.OpeningRules.{IsRuleWhole, OpensRule}
+use Rattle.in_simple.proofs.Sums.{got}
 use Rattle.in_simple.proofs.TextRules.{rule_whole}
 use Rattle.in_check.specs.declared.checked.Certificate.{Certificate}
 use Rattle.in_check.specs.Certificates.{Certifies, CertifiesNet, CertifiesRule, CertifiesRules}
@@ -31,13 +32,8 @@ at_stuck_rule t rules cs i p (Refused r) at count each refuses = record {
   rule = p;
   stands = at;
   refused = refuses;
-  first = λ j q less e. let c = there cs j (omega (arith, less, count)) in (c.0, each j q c.0 e c.1);
+  first = λ j q less e. let c = got cs j (omega (arith, less, count)) in (c.0, each j q c.0 e c.1);
 }
-  where
-    there : (xs : List Certificate) (j : ℕ) → j < length xs → (x : Certificate) × (slice_get xs j ≡ Some x)
-    there [] j lt = absurd (omega (arith, lt))
-    there (x ∷ xs) zero lt = (x, refl)
-    there (x ∷ xs) (suc j) lt = there xs j (omega (arith, lt))
 
 same_rule : (p q : RuleParts) → Some p ≡ Some q → p ≡ q
 same_rule p q e = cc

@@ -11,6 +11,7 @@ use Rattle.in_net.specs.Built.{Builds}
 use Rattle.in_net.specs.Parts.{Parts}
 use Rattle.in_net.specs.Rules.{RuleParts, BuildsRule, IsRuleOver}
 use Rattle.in_typing.specs.Typed.{TypesRule}
+use Rattle.in_simple.proofs.Sums.{got}
 use Rattle.in_cover.specs.Cover.{Covers, IsOfPair}
 use Rattle.in_cover.specs.Table.{Cells}
 use Rattle.in_check.specs.declared.checked.Certificate.{Certificate}
@@ -72,13 +73,8 @@ at_rule s t rules i (Memory e) count each refuses = tt
 at_rule s t rules i (Refused r) count each refuses = record {
   number = i;
   stands = refuses;
-  first = λ j lt. let here = there rules j (omega (arith, lt, count)) in (here.0, each j here.0 here.1);
+  first = λ j lt. let here = got rules j (omega (arith, lt, count)) in (here.0, each j here.0 here.1);
 }
-  where
-    there : (xs : List RuleParts) (j : ℕ) → j < length xs → (p : RuleParts) × (slice_get xs j ≡ Some p)
-    there [] j lt = absurd (omega (arith, lt))
-    there (x ∷ xs) zero lt = (x, refl)
-    there (x ∷ xs) (suc j) lt = there xs j (omega (arith, lt))
 
 -- one more rule is built
 pub last_or_before : {X : Type 0} (rules : List X) (rule p : X) (j : ℕ) → slice_get (rules ++ rule ∷ []) j ≡ Some p → (slice_get rules j ≡ Some p) ⊎ ((j ≡ length rules) × (rule ≡ p))
