@@ -5,8 +5,6 @@
 mod certifying;
 mod checked;
 mod checking;
-#[cfg(test)]
-mod tests;
 
 pub use checked::{Certificate, Checked, Counts, Item};
 pub use checking::check;

@@ -9,5 +9,3 @@ mod table;
 pub use covering::cover;
 pub use table::{RuleNo, RuleTable};
 
-#[cfg(test)]
-mod tests;

@@ -6,5 +6,3 @@ mod typing;
 
 pub use typing::{type_net, type_rule};
 
-#[cfg(test)]
-mod tests;
