@@ -2,7 +2,7 @@
 use Rattle.std.specs.Prelude.{◌≡◌, ◌↔◌, ℕ, true, not}
 use Rattle.in_syntax.specs.declared.tree.Source.{Source}
 use Rattle.in_syntax.specs.Answers.{IsOne}
-use Rattle.in_syntax.specs.Order.{BeginApart, source_places}
+use Rattle.in_syntax.specs.Parsing.{IsOfText}
 use Rattle.in_symbols.specs.Tables.{Tables, Tabulates, port_at, is_constructor, matching}
 
 abbrev pub MatchingIsSymmetric : Type 0
@@ -12,6 +12,6 @@ MatchingIsSymmetric = (t : Tables) (c d : ℕ) → matching t c d ≡ matching t
 abbrev pub MatchingTypesAreOpposite : Type 0
 MatchingTypesAreOpposite = (t : Tables) (c d : ℕ) → (matching t c d ≡ true) ↔ (((port_at t c 0).kind ≡ (port_at t d 0).kind) × (is_constructor t c ≡ not (is_constructor t d)))
 
--- all that building the tables of a program may answer agrees
+-- all that building the tables of a text's program may answer agrees
 abbrev pub TablesAreOnce : Type 0
-TablesAreOnce = (s : Source) → BeginApart (source_places s) → IsOne (Tabulates s)
+TablesAreOnce = (s : Source) → IsOfText s → IsOne (Tabulates s)

@@ -12,7 +12,7 @@ pub fn matching_types_are_opposite()
     ensures { MatchingTypesAreOpposite }
 {}
 
-/// What building the tables of a program answers is one, where what begins at one byte is one name or one `~`, as in each text.
+/// What building the tables of a text's program answers is one.
 pub fn tables_are_once()
     ensures { TablesAreOnce }
 {}
