@@ -24,7 +24,7 @@ use Rattle.in_net.proofs.HeadsOf.{two}
 -- ---- a net
 
 pub net_ready : (source : Source) (t : Tables) → IsTabled source t → IsFaultless source → IsWrittenInOrder source → IsReady t (body_of source.net)
-net_ready source t tabled faultless order = record { known = net_known source t tabled; rises = net_rises source.net order.net; differ = free_differ source faultless }
+net_ready source t tabled faultless order = record { known = net_known source t tabled; rises = net_rises source.net order.net; order = order.net; differ = free_differ source faultless }
 
 pub net_few : (source : Source) (t : Tables) → IsSized source → IsFew t (body_of source.net)
 net_few source t sized = (let f = sized.free in omega (arith, f), let n = sized.names in omega (arith, n))
@@ -40,7 +40,7 @@ rule_ready t r known order =
     let d = symbol_of t r.second in
     let first : ℕ = cond (is_turned t (symbol_of t r.first) (symbol_of t r.second)) (arity_of t (symbol_of t r.second)) 0 in
     let second : ℕ = cond (is_turned t (symbol_of t r.first) (symbol_of t r.second)) 0 (arity_of t (symbol_of t r.first)) in
-    record { known = rule_known t r first second known; rises = rule_rises r first second order; differ = λ k l f g is_f is_g e. absurd (let wrong : None ≡ Some f = is_f in cc) }
+    record { known = rule_known t r first second known; rises = rule_rises r first second order; order = rule_rises r first second order; differ = λ k l f g is_f is_g e. absurd (let wrong : None ≡ Some f = is_f in cc) }
 
 terms_fit : (t : Tables) (o : Option ℕ) (n : ℕ) → IsSome o → fits_arity t o n ≡ true → n ≡ arity_of t (unwrap_or o 0)
 terms_fit t None n some fits = cc

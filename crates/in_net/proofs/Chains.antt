@@ -3,7 +3,8 @@ use Rattle.std.proofs.Common.{◌≡◌, inl, inr, Bool, true, false, cond, nat_
 use Rattle.in_syntax.specs.declared.places.Place.{Place}
 use Rattle.in_symbols.specs.Tables.{Tables}
 use Rattle.in_net.specs.Joining.{later_of}
-use Rattle.in_net.specs.TextNet.{Body, Spot, Kind, placed, of_name, NameJoint, IsOccurrence, Chain, IsAmong, IsLastOf}
+use Rattle.in_syntax.specs.Lists.{IsAmong}
+use Rattle.in_net.specs.TextNet.{Body, Spot, Kind, placed, of_name, NameJoint, IsOccurrence, Chain, IsLastOf}
 use Rattle.in_net.proofs.Links.{all_along, all_append}
 
 -- on through a name

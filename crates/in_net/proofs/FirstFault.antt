@@ -26,6 +26,7 @@ use Rattle.in_net.proofs.Misfits.{agents_least, arities_least, body_fits}
 use Rattle.in_net.proofs.NamedSpots.{names_read}
 use Rattle.in_net.proofs.NamesApart.{names_apart}
 use Rattle.in_net.proofs.Order.{roots_rise, body_places}
+use Rattle.in_net.proofs.TextPlaces.{text_places}
 
 abbrev Coded : ℕ → Tables → Body → Code → Place → Type 0
 Coded most t b c q = (Of E03 (IsTooManyAt most t b) c q ⊎ Of E07 (IsMisfitAt t b) c q) ⊎ Of E08 (IsMiscountedAt t b) c q
@@ -70,6 +71,7 @@ first_of most t b agents arities names a c d =
 pub record IsReady (t : Tables) (b : Body) : Type 0 where
   pub known : IsBodyKnown t b
   pub rises : Rises (body_places b)
+  pub order : Rises (text_places b)
   pub differ : AreDifferent b
 
 -- what the code finds is the first fault

@@ -10,7 +10,8 @@ use Rattle.in_syntax.specs.declared.tree.SourceFree.{SourceFree}
 use Rattle.in_syntax.specs.declared.tree.SourceRule.{SourceRule}
 use Rattle.in_symbols.specs.Faults.{AnyByRecursion, IsRepeatedAt, IsDeclaredTwiceAt, IsFaultless}
 use Rattle.in_symbols.specs.Tables.{Tables, all_true, heads_known, HeadsKnown, IsRuleKnown, IsTabled}
-use Rattle.in_net.specs.TextNet.{Body, LeftHead, IsAmong, body_of, heads_at}
+use Rattle.in_syntax.specs.Lists.{IsAmong}
+use Rattle.in_net.specs.TextNet.{Body, LeftHead, body_of, heads_at}
 use Rattle.in_net.proofs.HeadsOf.{both_are}
 use Rattle.in_net.proofs.Linked.{same_or_not, below_or_not}
 

@@ -18,7 +18,8 @@ use Rattle.in_net.specs.Arities.{fits_arity, arities_fit, head_fits, equation_fi
 use Rattle.in_net.specs.NetFaults.{IsTooManyAt, IsMisfitAt}
 use Rattle.in_net.specs.Reading.{reading_of}
 use Rattle.in_net.specs.Searching.{too_many, misfit_here, misfit, misfit_in_equation, misfit_in_equations, misfit_in_head, misfit_in_heads, misfit_in_body}
-use Rattle.in_net.specs.TextNet.{Body, LeftHead, IsTermOf, IsPartOf, IsAmong, IsAgent, place_of, Written, agents_of_body}
+use Rattle.in_syntax.specs.Lists.{IsAmong}
+use Rattle.in_net.specs.TextNet.{Body, LeftHead, IsTermOf, IsPartOf, IsAgent, place_of, Written, agents_of_body}
 use Rattle.in_net.proofs.Agents.{as_written, body_agents}
 use Rattle.in_net.proofs.HeadsOf.{both_are}
 use Rattle.in_net.proofs.Known.{IsBodyKnown}

@@ -15,7 +15,8 @@ use Rattle.in_net.specs.declared.reading.Reading.{Reading}
 use Rattle.in_net.specs.Reading.{with_agent, with_joint, with_occurrence, number_with, ports_from, reader_of, reads_arguments, reads_equation, reads_equations, reads_heads, with_ends, boundary_spots, ends_of, reads_free, reads_free_from, reads_free_end, nothing_read, reading_of}
 use Rattle.in_net.specs.Building.{no_spot, nth_spot}
 use Rattle.in_net.specs.Built.{IsEnd}
-use Rattle.in_net.specs.TextNet.{Body, LeftHead, IsTermOf, IsPartOf, IsAmong, IsVariable}
+use Rattle.in_syntax.specs.Lists.{IsAmong}
+use Rattle.in_net.specs.TextNet.{Body, LeftHead, IsTermOf, IsPartOf, IsVariable}
 use Rattle.in_net.proofs.Known.{AreHeadsKnown, IsBodyKnown, all_known}
 use Rattle.in_net.proofs.Folds.{names_out, read_agent, read_occurrence}
 use Rattle.in_net.proofs.HeadsOf.{two, arguments_known, no_arguments}

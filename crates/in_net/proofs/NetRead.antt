@@ -16,7 +16,8 @@ use Rattle.in_net.specs.Reading.{with_joint, with_ends, boundary_spots, number_w
 use Rattle.in_net.specs.Joining.{links_of, self_link, self_links, with_joints}
 use Rattle.in_net.specs.Building.{no_spot, nth_spot, nth_link}
 use Rattle.in_net.specs.TextNet as text
-use Rattle.in_net.specs.TextNet.{Body, LeftHead, IsTermOf, IsPartOf, IsAmong, PlacedJoint, spot_of, place_of}
+use Rattle.in_syntax.specs.Lists.{IsAmong}
+use Rattle.in_net.specs.TextNet.{Body, LeftHead, IsTermOf, IsPartOf, PlacedJoint, spot_of, place_of}
 use Rattle.in_net.proofs.Linked.{nth_self, same_or_not, below_or_not, at_front, at_first, at_second, at_third, links_joint, length-links_of}
 use Rattle.in_net.proofs.Sound.{named}
 use Rattle.in_net.specs.Built.{IsEnd}
@@ -479,7 +480,7 @@ pub record AreFreeRead (t : Tables) (b : Body) (k : ℕ) (r : Reading) : Type 0 
 pub nothing : (t : Tables) (b : Body) → AreFreeRead t b 0 nothing_read
 nothing t b = record {
   read = record {
-    numbered = record { port = λ k a i p lt e. absurd (omega (arith, lt)); end = λ k j lt e. absurd (omega (arith, lt)); ports = λ a i lt le. absurd (omega (arith, lt)); ends = λ k lt. absurd (omega (arith, lt)) };
+    numbered = record { port = λ k a i p lt e. absurd (omega (arith, lt)); end = λ k j lt e. absurd (omega (arith, lt)); ports = λ a i lt le. absurd (omega (arith, lt)); ends = λ k lt. absurd (omega (arith, lt)); rise = λ a c less lt. absurd (omega (arith, lt)) };
     joints = tt;
     linked = record { inside = λ i lt. absurd (omega (arith, lt)); back = λ i lt. absurd (omega (arith, lt)); sound = λ i lt apart. absurd (omega (arith, lt)) };
     known = tt;

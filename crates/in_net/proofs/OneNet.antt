@@ -13,7 +13,8 @@ use Rattle.in_net.specs.Built.{IsOver, IsCellOver}
 use Rattle.in_net.specs.Laws.{AreOneNet}
 use Rattle.in_net.specs.Nets.{Point, Port, Free, IsPoint, IsNet, net_of, signature_of, point_of, coded_point}
 use Rattle.in_net.specs.Parts.{Parts, IsWhole, IsPointOf, cell_in, partner_in}
-use Rattle.in_net.specs.TextNet.{Written, AreCellsFor, AreFreeOf, body_of, IsWireOf, IsNetOf, IsAmong, spot_at}
+use Rattle.in_syntax.specs.Lists.{IsAmong}
+use Rattle.in_net.specs.TextNet.{Written, AreCellsFor, AreFreeOf, body_of, IsWireOf, IsNetOf, spot_at}
 use Rattle.std.proofs.lemmas.List.{length-map}
 use Rattle.in_net.proofs.Linked.{same_or_not}
 use Rattle.in_net.proofs.WireAt.{has_partner}

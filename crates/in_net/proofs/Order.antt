@@ -3,12 +3,12 @@ use Rattle.std.proofs.Common.{◌≡◌, ℕ, zero, suc, ◌+◌, ◌<◌, ◌�
 use Rattle.std.specs.List.{AllByRecursion, flat_map}
 use Rattle.in_syntax.specs.declared.places.Place.{Place}
 use Rattle.in_syntax.specs.declared.tree.Term.{Term, out-Term}
-use Rattle.in_syntax.specs.declared.tree.Term.TheFolds.{fold_out-Term}
 use Rattle.in_syntax.specs.declared.tree.Equation.{Equation}
 use Rattle.in_syntax.specs.declared.tree.SourceFree.{SourceFree}
 use Rattle.in_syntax.specs.Sizes.{total, names_in}
 use Rattle.in_syntax.specs.declared.tree.SourceRule.{SourceRule}
 use Rattle.in_syntax.specs.declared.tree.SourceNet.{SourceNet}
+use Rattle.in_syntax.proofs.Ordered.{places_out}
 use Rattle.in_syntax.specs.Order.{Rises, term_places, equation_places, IsInOrder, IsRuleInOrder}
 use Rattle.in_symbols.specs.declared.symbols.SymbolNo.{SymbolNo}
 use Rattle.in_net.specs.declared.reading.Spot.{Spot}
@@ -48,9 +48,6 @@ one_root : (agent : ℕ) (at : Place) (n : ℕ) → root_places (ports_from agen
 one_root agent at n =
     let e : n + 1 ≡ suc n = omega arith in
     ap (λ k. root_places (ports_from agent at 0 k)) e ∙ ap (λ z. at ∷ z) (no_roots agent at 0 n)
-
-places_out : (u : Term) → term_places u ≡ (out-Term u).name.place ∷ flat_map (λ ps. ps) (map term_places (out-Term u).args)
-places_out = fold_out-Term (List Place) (λ f. f.name.place ∷ flat_map (λ ps. ps) f.args)
 
 abbrev RootsRead : Tables → ℕ → Type 0
 RootsRead t h = (u : Term) (r : Reading) → names_in u ≤ h → heads_known t.names u ≡ true → root_places ((reader_of t u).reads r).0.spots ≡ root_places r.spots ++ term_places u

@@ -205,12 +205,27 @@ module _ (t : Tables) (free : ℕ) (r : Reading) (numbered : IsNumbered t free r
       subst (λ (x : Agent). (x.first + i < length (r.spots ++ ports)) × (nth_spot (r.spots ++ ports) (x.first + i) ≡ Port a i x.place)) (sym here)
       (omega (arith, fits, count), new_spot i fits ∙ ap (λ n. Port n i place) at)
 
+  rise_by : (a c : ℕ) → c < a → a < length (r.agents ++ agent ∷ []) → (a < length r.agents) ⊎ ((j : ℕ) × (a ≡ length r.agents + j)) → (nth_agent (r.agents ++ agent ∷ []) c).first < (nth_agent (r.agents ++ agent ∷ []) a).first
+  rise_by a c lt in_ (inl front) =
+      let one = ap (λ (x : Agent). x.first) (same_agent c (omega (arith, lt, front))) in
+      let other = ap (λ (x : Agent). x.first) (same_agent a front) in
+      let old = numbered.rise a c lt front in
+      omega (arith, one, other, old)
+  rise_by a c lt in_ (inr (j, e)) =
+      let last : length r.agents ≡ a = omega (arith, in_, e, agents) in
+      let front : c < length r.agents = omega (arith, lt, last) in
+      let one = ap (λ (x : Agent). x.first) (same_agent c front) in
+      let other : (nth_agent (r.agents ++ agent ∷ []) a).first ≡ length r.spots = subst (λ n. (nth_agent (r.agents ++ agent ∷ []) n).first ≡ length r.spots) last (ap (λ (x : Agent). x.first) new_agent) in
+      let old = (numbered.ports c 0 front (omega arith)).0 in
+      omega (arith, one, other, old)
+
   pub numbered_agent : IsNumbered t free then_
   numbered_agent = record {
     port = λ k a i p lt is. port_by k a i p lt is (front_or_back (length r.spots) k);
     end = λ k j lt is. end_by k j lt is (front_or_back (length r.spots) k);
     ports = λ a i lt le. ports_by a i lt le (front_or_back (length r.agents) a);
     ends = λ k lt. let old = numbered.ends k lt in (omega (arith, old.0, count), subst (λ s. IsEnd s k) (sym (old_spot k old.0)) old.1);
+    rise = λ a c lt in_. rise_by a c lt in_ (front_or_back (length r.agents) a);
   }
 
   pub wider_agent : length (r.spots ++ ports) ≡ length r.spots + (arity_of t s.0 + 1)
@@ -266,6 +281,7 @@ module _ (t : Tables) (free : ℕ) (r : Reading) (numbered : IsNumbered t free r
     end = λ k j lt is. one_end k j only lt is (front_or_back (length r.spots) k);
     ports = λ a i lt le. let old = numbered.ports a i lt le in (omega (arith, old.0, one_more), before_it ((nth_agent r.agents a).first + i) old.0 ∙ old.1);
     ends = λ k lt. let old = numbered.ends k lt in (omega (arith, old.0, one_more), subst (λ s. IsEnd s k) (sym (before_it k old.0)) old.1);
+    rise = numbered.rise;
   }
 
 pub with_occurrence_read : (t : Tables) (b : Body) (free names : ℕ) (r : Reading) (u : Term) → IsTermOf b u → IsVariable t u → IsRead t b free names r → IsRead t b free (names + 1) (with_occurrence r (out-Term u).name)
@@ -291,7 +307,7 @@ pub with_joint_read : (t : Tables) (b : Body) (free names : ℕ) (r : Reading) (
     (nth_link (links_of r) (one + port)).to ≡ one + port → (nth_link (links_of r) other).to ≡ other → PlacedJoint t b (named (nth_spot r.spots (one + port))) (named (nth_spot r.spots other)) place →
     IsRead t b free names (with_joint r one port other place)
 with_joint_read t b free names r one port other place read a c apart one_alone other_alone joint = record {
-  numbered = record { port = λ k a i p lt is. let old = read.numbered.port k a i p lt is in record { agent = old.agent; place = old.place; number = old.number; name = old.name }; end = read.numbered.end; ports = read.numbered.ports; ends = read.numbered.ends };
+  numbered = record { port = λ k a i p lt is. let old = read.numbered.port k a i p lt is in record { agent = old.agent; place = old.place; number = old.number; name = old.name }; end = read.numbered.end; ports = read.numbered.ports; ends = read.numbered.ends; rise = read.numbered.rise };
   joints = all_append _ r.joints (record { one = one; port = port; other = other; place = place } ∷ []) read.joints ((a, c), tt);
   linked =
       subst (IsLinked t b r.spots) (sym (links_joint r one port other place)) (linked_joint t b r.spots (links_of r) (length-links_of r) read.linked (one + port) other place a c apart one_alone other_alone joint);
@@ -367,6 +383,7 @@ module _ (t : Tables) (b : Body) (k : ℕ) (r : Reading) (count : length r.spots
       end = λ j i lt e. end_at j i lt e (front_or_back (length r.spots) j);
       ports = λ a i lt le. absurd (let none = ap length no_agents in omega (arith, lt, none));
       ends = λ j lt. ends_at j lt (front_or_back (length r.spots) j);
+      rise = λ a c less lt. absurd (let none = ap length no_agents in omega (arith, lt, none));
     };
     joints = wider_joints (length r.spots) _ r (omega (arith, grown)) read.joints;
     linked = linked_more t b r.spots (s ∷ []) r.joints read.joints read.linked;

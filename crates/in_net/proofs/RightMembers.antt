@@ -4,6 +4,7 @@ use Rattle.std.proofs.Common.{◌≡◌, ℕ, zero, suc, List, [], Option, Some,
 use Rattle.in_syntax.specs.declared.places.Place.{Place}
 use Rattle.in_syntax.specs.declared.tree.SourceRule.{SourceRule}
 use Rattle.in_symbols.specs.Tables.{Tables}
+use Rattle.in_syntax.specs.Lists.{IsAmong}
 use Rattle.in_net.specs.declared.nets.AgentNo.{AgentNo}
 use Rattle.in_net.specs.declared.nets.Point.TheVariants.{Port}
 use Rattle.in_net.specs.Parts.{Parts, partner_in}
@@ -25,7 +26,7 @@ root_by (Some s) p = tt
 module _ (t : Tables) (b : Body) (none : b.equations ≡ []) where
   -- one of the two is no term's
   not_both : (x y : Spot) (p : Place) → PlacedJoint t b x y p → IsRoot x → IsRoot y → ⊥
-  not_both _ _ _ (PlacedJoint.of_equation e among) h g = subst (text.IsAmong e) none among
+  not_both _ _ _ (PlacedJoint.of_equation e among) h g = subst (IsAmong e) none among
   not_both _ _ _ (PlacedJoint.of_argument u v i there symbol is) h g = h
   not_both _ _ _ (PlacedJoint.of_head l v i among is) h g = h
   not_both _ _ _ (PlacedJoint.turned x y p joint) h g = not_both x y p joint g h

@@ -15,7 +15,7 @@ use Rattle.in_net.specs.Counting.{none_seen, counted_from}
 use Rattle.in_net.specs.Joining.{links_of}
 use Rattle.in_net.specs.Building.{AreTwice, nth_link, nth_spot, nth_agent}
 use Rattle.in_net.specs.TextNet as text
-use Rattle.in_net.specs.TextNet.{Body, IsTermOf, IsPartOf, IsAmong, IsVariable, PlacedJoint, NameJoint, IsOccurrence, Chain, Kind, placed, of_name, IsWireOf, name_of, place_of, spot_of}
+use Rattle.in_net.specs.TextNet.{Body, IsTermOf, IsPartOf, IsVariable, PlacedJoint, NameJoint, IsOccurrence, Chain, Kind, placed, of_name, IsWireOf, name_of, place_of, spot_of}
 use Rattle.std.proofs.lemmas.Option.{slice_get_within}
 use Rattle.in_net.proofs.Links.{all_at}
 use Rattle.in_net.proofs.Linked.{same_or_not, below_or_not}
@@ -323,3 +323,10 @@ module _ (t : Tables) (b : Body) (r : Reading) (h : IsReadWhole t b r) where
       let chain : Chain t b (kind_from x) v.last x y v.places = subst (λ k. Chain t b k v.last x y v.places) (first_kind v.first v.last x y v.places v.one v.chain) v.chain in
       let other : Chain t b (kind_from x) w.last x z w.places = subst (λ k. Chain t b k w.last x z w.places) (first_kind w.first w.last x z w.places w.one w.chain) w.chain in
       (one_chain (kind_from x) v.last w.last x y z v.places w.places v.other w.other chain other).0
+
+  -- .. by joints at the same places
+  pub one_way : (x y z : text.Spot) (p q : Place) (v : IsWireOf t b x y p) (w : IsWireOf t b x z q) → (y ≡ z) × (v.places ≡ w.places)
+  one_way x y z p q v w =
+      let chain : Chain t b (kind_from x) v.last x y v.places = subst (λ k. Chain t b k v.last x y v.places) (first_kind v.first v.last x y v.places v.one v.chain) v.chain in
+      let other : Chain t b (kind_from x) w.last x z w.places = subst (λ k. Chain t b k w.last x z w.places) (first_kind w.first w.last x z w.places w.one w.chain) w.chain in
+      one_chain (kind_from x) v.last w.last x y z v.places w.places v.other w.other chain other

@@ -16,7 +16,8 @@ use Rattle.in_net.specs.Reading.{with_agent, with_occurrence, with_joint, number
 use Rattle.in_net.specs.Joining.{links_of}
 use Rattle.in_net.specs.Building.{no_spot, nth_spot, nth_link}
 use Rattle.in_net.specs.TextNet as text
-use Rattle.in_net.specs.TextNet.{Body, IsTermOf, IsPartOf, IsAmong, IsVariable, PlacedJoint, name_of, place_of, spot_of, spot_by}
+use Rattle.in_syntax.specs.Lists.{IsAmong}
+use Rattle.in_net.specs.TextNet.{Body, IsTermOf, IsPartOf, IsVariable, PlacedJoint, name_of, place_of, spot_of, spot_by}
 use Rattle.in_net.proofs.Folds.{names_out, fits_agent, read_agent, read_occurrence, place_read}
 use Rattle.in_net.proofs.Linked.{same_or_not, below_or_not, at_front, at_back, at_first, at_second, at_third, stays, added, links_joint, length-links_of}
 use Rattle.in_net.proofs.Sound.{named}

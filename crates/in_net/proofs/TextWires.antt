@@ -1,5 +1,5 @@
 -- The wires of the net are those of its text.
-use Rattle.std.proofs.Common.{◌≡◌, ℕ, zero, suc, ◌<◌, ◌≤◌, Bool, List, [], ◌∷◌, length, map, Option, Some, None, true, refl, sym, ◌∙◌, ap, subst, arith, get_or}
+use Rattle.std.proofs.Common.{◌≡◌, ◌≢◌, ◌⊎◌, inl, inr, option_map, ◌+◌, ℕ, zero, suc, ◌<◌, ◌≤◌, Bool, List, [], ◌∷◌, length, map, Option, Some, None, true, refl, sym, ◌∙◌, ap, subst, arith, get_or}
 use Rattle.std.specs.List.{AllByRecursion}
 use Rattle.in_syntax.specs.declared.places.Place.{Place}
 use Rattle.in_syntax.specs.Order.{Rises}
@@ -14,29 +14,33 @@ use Rattle.in_net.specs.declared.nets.Point.TheVariants.{Port, Free}
 use Rattle.in_net.specs.declared.nets.Wire.{Wire}
 use Rattle.in_net.specs.Arities.{all_arities_fit}
 use Rattle.in_net.specs.Counting.{none_seen, counted_from}
-use Rattle.in_net.specs.Joining.{joining_of}
+use Rattle.in_net.specs.Joining.{links_of, not_named, joining_of}
 use Rattle.in_net.specs.Reading.{reading_of}
 use Rattle.in_net.specs.Building.{AreTwice, nth_spot, nth_link, nth_agent, IsPointSpot, point_in, IsJoined, partner_of, cells_of, wires_from}
 use Rattle.in_net.specs.Built.{IsNumbered, AreJoinedTo, AreListedOf, Assembles, IsOver, IsCellOver}
 use Rattle.in_net.specs.declared.nets.Cell.{Cell}
 use Rattle.in_net.specs.declared.nets.FreeEnd.{FreeEnd}
-use Rattle.in_net.specs.Parts.{Parts, as_built}
+use Rattle.in_net.specs.Parts.{Parts, IsWireBetween, as_built, wire_in}
 use Rattle.in_net.specs.TextNet as text
 use Rattle.in_net.specs.TextNet.{Body, IsOccurrence, IsWireOf, IsClosedWireOf, HasAgentsOf, HasWiresOf, spot_at}
 use Rattle.in_net.proofs.Agents.{cells_for, cells_over, places_for}
 use Rattle.in_net.proofs.ClosedWires.{found_first}
 use Rattle.in_net.proofs.FirstFault.{IsReady}
 use Rattle.in_net.proofs.Sound.{named}
-use Rattle.in_net.proofs.Points.{Stands, stands_at, partner_stands}
+use Rattle.std.proofs.lemmas.Option.{slice_get-get_or}
+use Rattle.in_net.proofs.OneJoint.{links_apart}
+use Rattle.in_net.proofs.PlacesApart.{AreApart, all_apart, rising_places}
+use Rattle.in_net.proofs.Turned.{comes_before}
+use Rattle.in_net.proofs.Points.{Stands, stands_at, partner_stands, to_of}
 use Rattle.in_net.proofs.Single.{IsReadWhole, one_wire}
 use Rattle.in_net.proofs.NamesApart.{names_apart}
 use Rattle.in_net.proofs.NamedSpots.{AreNamesRead, names_read}
 use Rattle.in_net.proofs.Terms.{AreSmall}
-use Rattle.in_net.proofs.Whole.{wire_at}
+use Rattle.in_net.proofs.Whole.{once_of, wire_at}
 use Rattle.in_net.proofs.Ways.{IsWay, kind_of}
 use Rattle.in_net.proofs.NetRead.{AreHeadsOf, IsBodyRead, ends_in, names_in_body, body_read}
 use Rattle.in_net.proofs.Order.{root_places, roots_rise}
-use Rattle.in_net.proofs.Joined.{are_joined, way_of, closed_of}
+use Rattle.in_net.proofs.Joined.{are_joined, begun, of_text, way_of, closed_of}
 
 -- ---- each listed wire is a wire of the text
 
@@ -88,8 +92,39 @@ module _ (t : Tables) (b : Body) (free : List FreeEnd) (r : Reading) (links : Li
         place = way.last;
       }
 
-  pub text_wires : ((x y z : text.Spot) (p q : Place) → IsWireOf t b x y p → IsWireOf t b x z q → y ≡ z) → HasWiresOf t b net
-  text_wires single = record {
+  -- two wires stand at two places
+  places_apart : AreApart (length r.spots) links → (v w : ℕ) (d : Wire) → v < w → w < length wires → (get_or wires v d).place.from ≢ (get_or wires w d).place.from
+  places_apart apart v w d lt in_ same =
+      let one : wire_in net v ≡ Some ((get_or wires v d).one, (get_or wires v d).other) = ap (option_map {T = Wire} {U = Point × Point} (λ u. (u.one, u.other))) (slice_get-get_or wires v d (omega (arith, lt, in_))) in
+      let other : wire_in net w ≡ Some ((get_or wires w d).one, (get_or wires w d).other) = ap (option_map {T = Wire} {U = Point × Point} (λ u. (u.one, u.other))) (slice_get-get_or wires w d in_) in
+      let f = wire_at t free r links numbered joined ends wires (map (λ a. a.place) r.agents) listed v (get_or wires v d).one (get_or wires v d).other one in
+      let g = wire_at t free r links numbered joined ends wires (map (λ a. a.place) r.agents) listed w (get_or wires w d).one (get_or wires w d).other other in
+      let at_f : (nth_link links f.spot).place ≡ (get_or wires v d).place = some_same (nth_link links f.spot).place (get_or wires v d).place (sym f.place ∙ ap (option_map (λ (u : Wire). u.place)) (slice_get-get_or wires v d (omega (arith, lt, in_)))) in
+      let at_g : (nth_link links g.spot).place ≡ (get_or wires w d).place = some_same (nth_link links g.spot).place (get_or wires w d).place (sym g.place ∙ ap (option_map (λ (u : Wire). u.place)) (slice_get-get_or wires w d in_)) in
+      let after_f = f.later in
+      let after_g = g.later in
+      by_spot f.spot g.spot f.one g.one f.other g.other after_f after_g
+      (apart f.spot g.spot f.one.inside g.one.inside (λ e. absurd (omega (arith, after_f, e))) (λ e. absurd (omega (arith, after_g, e))) (ap (λ (p : Place). p.from) at_f ∙ same ∙ ap (λ (p : Place). p.from) (sym at_g)))
+    where
+      whole : (v w : ℕ) (p q : Point) → IsWireBetween net v p q → IsWireBetween net w p q → v ≡ w
+      whole = once_of t free r links numbered joined ends wires (map (λ a. a.place) r.agents) listed
+
+      by_spot : (k l : ℕ) → Stands r.spots (get_or wires v d).one k → Stands r.spots (get_or wires w d).one l → Stands r.spots (get_or wires v d).other (nth_link links k).to → Stands r.spots (get_or wires w d).other (nth_link links l).to →
+          k < (nth_link links k).to → l < (nth_link links l).to → (k ≡ l) ⊎ ((nth_link links k).to ≡ l) → ⊥
+      by_spot k l a c e f x y (inl same) =
+          let one : (get_or wires v d).one ≡ (get_or wires w d).one = sym a.is ∙ ap (λ i. point_in (nth_spot r.spots i)) same ∙ c.is in
+          let other : (get_or wires v d).other ≡ (get_or wires w d).other = sym e.is ∙ ap (λ i. point_in (nth_spot r.spots (nth_link links i).to)) same ∙ f.is in
+          let number = whole v w (get_or wires w d).one (get_or wires w d).other
+          (inl (ap (option_map {T = Wire} {U = Point × Point} (λ u. (u.one, u.other))) (slice_get-get_or wires v d (omega (arith, lt, in_))) ∙ ap (λ x. Some (x, (get_or wires v d).other)) one ∙ ap (λ x. Some ((get_or wires w d).one, x)) other))
+          (inl (ap (option_map {T = Wire} {U = Point × Point} (λ u. (u.one, u.other))) (slice_get-get_or wires w d in_))) in
+          absurd (omega (arith, number, lt))
+      by_spot k l a c e f x y (inr same) =
+          let back = to_of r.spots links joined k a.inside in
+          let turn : (nth_link links l).to ≡ k = ap (λ i. (nth_link links i).to) (sym same) ∙ back in
+          absurd (omega (arith, x, y, same, turn))
+
+  pub text_wires : ((x y z : text.Spot) (p q : Place) → IsWireOf t b x y p → IsWireOf t b x z q → y ≡ z) → AreApart (length r.spots) links → HasWiresOf t b net
+  text_wires single apart = record {
     partners = λ x y e.
         let at = stands_at t free r links numbered joined ends wires (map (λ a. a.place) r.agents) x y e in
         ((nth_link links at.0).place, subst (λ y. IsWireOf t b (spot_at net x) (spot_at net y) (nth_link links at.0).place) (sym at.2) (wire_from x at.0 at.1));
@@ -100,7 +135,10 @@ module _ (t : Tables) (b : Body) (free : List FreeEnd) (r : Reading) (links : Li
         let found = wire_at t free r links numbered joined ends wires (map (λ a. a.place) r.agents) listed w x y is in
         let place : (nth_link links found.spot).place ≡ p = some_same (nth_link links found.spot).place p (sym found.place ∙ at) in
         subst (IsWireOf t b (spot_at net x) (spot_at net y)) place (subst (λ y. IsWireOf t b (spot_at net x) (spot_at net y) (nth_link links found.spot).place) (sym found.partner) (wire_from x found.spot found.one));
-    by_place = listed.by_place;
+    by_place = rising_places wires listed.by_place (places_apart apart);
+    turned = λ w x y is.
+        let found = wire_at t free r links numbered joined ends wires (map (λ a. a.place) r.agents) listed w x y is in
+        comes_before t (length free) r numbered x y found.spot (nth_link links found.spot).to found.one found.other found.later;
   }
 
 -- ---- what is read of a body
@@ -157,6 +195,15 @@ module _ (t : Tables) (b : Body) (good : IsGood t b) where
       let wrong : None ≡ Some early.found = sym none ∙ early.is in
       cc
 
+  -- no two of its joints, and so no two of its wires, stand at one place
+  pub read_apart : AreApart (length (reading_of t b).spots) (joining_of (reading_of t b)).links
+  read_apart =
+      let r : Reading = reading_of t b in
+      let spots : List Spot = r.spots in
+      let of = of_text t b (ends_in t b) (names_in_body b) (reading_of t b) read.net names good.ready.differ rises in
+      all_apart t b r.names (reading_of t b).spots of 0 (reading_of t b).spots (not_named (links_of r) (length r.names)) (omega arith) (λ i lt. let e : i ≡ 0 + i = omega arith in ap (nth_spot spots) e) good.twice
+      (begun t b (ends_in t b) (names_in_body b) (reading_of t b) read.net names good.ready.differ rises) (links_apart t b (reading_of t b) read_whole good.ready.order)
+
   pub read_single : (x y z : text.Spot) (p q : Place) → IsWireOf t b x y p → IsWireOf t b x z q → y ≡ z
   read_single = one_wire t b (reading_of t b) read_whole
 
@@ -172,7 +219,7 @@ is_text_net t b free r links n good is_read is_joined count ends made =
     let at_read : Assembles t (reading_of t b) (joining_of (reading_of t b)).links free n = subst (P (reading_of t b)) same_links (subst (λ r. P r links) is_read made) in
     let ends0 : AreJoinedTo (reading_of t b).spots (joining_of (reading_of t b)).links free = subst (E (reading_of t b)) same_links (subst (λ r. E r links) is_read ends) in
     let numbered = (read t b good).net.read.numbered in
-    let wires = text_wires t b free r0 links0 (subst (λ k. IsNumbered t k (reading_of t b)) (sym count) numbered) (read_joined t b good) ends0 (read_ways t b good) n.wires at_read.wires (read_single t b good) in
+    let wires = text_wires t b free r0 links0 (subst (λ k. IsNumbered t k (reading_of t b)) (sym count) numbered) (read_joined t b good) ends0 (read_ways t b good) n.wires at_read.wires (read_single t b good) (read_apart t b good) in
     let parts : as_built (cells_of t (reading_of t b).spots (joining_of (reading_of t b)).links (reading_of t b).agents) free n.wires (map (λ a. a.place) (reading_of t b).agents) ≡ n =
     parts_are n _ _ _ at_read.cells at_read.free_ends at_read.places at_read.built in (
       record { cells = subst (AllByRecursion (IsCellOver t)) (sym at_read.cells) (cells_over t r0.spots links0 r0.agents (read t b good).net.read.known) },

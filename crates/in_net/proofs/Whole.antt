@@ -287,7 +287,7 @@ module _ (t : Tables) (free : List FreeEnd) (r : Reading) (links : List Link) (n
       by_order (inr e) (inl s) = absurd (ordered v w f g s)
       by_order (inr e) (inr s) = absurd (ordered w v g f (omega (arith, e, s)))
 
-  once_of : (v w : ℕ) (p q : Point) → IsWireBetween net v p q → IsWireBetween net w p q → v ≡ w
+  pub once_of : (v w : ℕ) (p q : Point) → IsWireBetween net v p q → IsWireBetween net w p q → v ≡ w
   once_of v w p q (inl a) (inl b) = same_number v w p q a b
   once_of v w p q (inl a) (inr b) = absurd (not_turned v w p q a b)
   once_of v w p q (inr a) (inl b) = absurd (not_turned v w q p a b)

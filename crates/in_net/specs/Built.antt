@@ -14,7 +14,7 @@ use Rattle.in_net.specs.declared.reading.Spot.TheVariants as spot
 use Rattle.in_net.specs.declared.joining.Link.{Link}
 use Rattle.in_net.specs.declared.nets.Cell.{Cell}
 use Rattle.in_net.specs.declared.nets.Wire.{Wire}
-use Rattle.in_net.specs.Parts.{Parts}
+use Rattle.in_net.specs.Parts.{Parts, IsWhole}
 use Rattle.in_symbols.specs.Tables.{Tables, arity_of}
 use Rattle.in_net.specs.declared.nets.FreeEnd.{FreeEnd}
 use Rattle.in_net.specs.Building.{nth_spot, nth_agent, IsPointSpot, AreSmallSpots, ends_from, cells_of, wires_from}
@@ -52,6 +52,7 @@ pub record IsNumbered (t : Tables) (free : ℕ) (r : Reading) : Type 0 where
   pub ports : (a i : ℕ) → a < length r.agents → i ≤ arity_of t (nth_agent r.agents a).symbol.0 →
       ((nth_agent r.agents a).first + i < length r.spots) × (nth_spot r.spots ((nth_agent r.agents a).first + i) ≡ spot.Port a i (nth_agent r.agents a).place)
   pub ends : (k : ℕ) → k < free → (k < length r.spots) × IsEnd (nth_spot r.spots k) k
+  pub rise : (a c : ℕ) → c < a → a < length r.agents → (nth_agent r.agents c).first < (nth_agent r.agents a).first
 
 -- what was read, with so many free or boundary ends, is in range, and not too much
 pub record IsReadFrom (t : Tables) (free : ℕ) (r : Reading) : Type 0 where
@@ -79,6 +80,7 @@ pub record Assembles (t : Tables) (r : Reading) (links : List Link) (free : List
   pub wires : AreListedOf (wires_from r.spots links 0 (length r.spots)) n.wires
   pub places : n.places ≡ map (λ a. a.place) r.agents
   pub built : n.built ≡ true
+  pub whole : IsWhole n
 
 abbrev pub IsCellOver : Tables → Option Cell → Type 0
 IsCellOver t None = Unit {0}

@@ -1,14 +1,17 @@
 -- Laws over the definitions of a net.
-use Rattle.std.specs.Prelude.{◌≡◌, ◌≢◌, ℕ, Some}
+use Rattle.std.specs.Prelude.{◌≡◌, ◌≢◌, ℕ, Some, Ok}
+use Rattle.in_syntax.specs.declared.tree.Source.{Source}
+use Rattle.in_syntax.specs.Parsing.{IsOfText}
 use Rattle.in_syntax.specs.declared.places.Place.{Place}
 use Rattle.in_syntax.specs.declared.tree.SourceNet.{SourceNet}
 use Rattle.in_syntax.specs.declared.tree.SourceRule.{SourceRule}
 use Rattle.in_net.specs.declared.nets.AgentNo.{AgentNo}
 use Rattle.in_net.specs.declared.nets.Point.{Point}
 use Rattle.in_net.specs.declared.nets.Point.TheVariants.{Port}
-use Rattle.in_net.specs.Rules.{IsMemberOf, body_of_rule}
-use Rattle.in_symbols.specs.Tables.{Tables}
-use Rattle.in_net.specs.Built.{IsOver}
+use Rattle.in_net.specs.Rules.{BuildsRule, IsMemberOf, body_of_rule}
+use Rattle.in_symbols.specs.Tables.{Tables, Tabulates}
+use Rattle.in_syntax.specs.Answers.{IsOne}
+use Rattle.in_net.specs.Built.{IsOver, Builds}
 use Rattle.in_net.specs.Nets.{IsNet, net_of, signature_of}
 use Rattle.in_net.specs.Parts.{Parts, IsWhole, IsPointOf, partner_in, symbol_in, free_type_in, free_name_in}
 use Rattle.in_net.specs.TextNet.{IsNetOf, IsClosedWireOf, spot_at}
@@ -39,3 +42,13 @@ MembersHoldNoPair = (t : Tables) (r : SourceRule) (m : Parts) (x y : AgentNo) �
 
 abbrev pub RulesHoldNoClosedWire : Type 0
 RulesHoldNoClosedWire = (t : Tables) (r : SourceRule) (p : Place) → IsClosedWireOf t (body_of_rule t r) p → ⊥
+
+-- ---- one answer
+
+-- all that building the net of a text's program may answer agrees: nets are equal, the numbers and places of their wires included
+abbrev pub NetsAreBuiltOnce : Type 0
+NetsAreBuiltOnce = (s : Source) (t : Tables) → IsOfText s → Tabulates s (Ok t) → IsOne (Builds s t)
+
+-- .. and a rule of it
+abbrev pub RulesAreBuiltOnce : Type 0
+RulesAreBuiltOnce = (s : Source) (t : Tables) (i : ℕ) → IsOfText s → Tabulates s (Ok t) → IsOne (BuildsRule s t i)

@@ -17,7 +17,7 @@ use Rattle.in_syntax.specs.Sizes.{names_in_rule, most_bytes}
 use Rattle.in_symbols.specs.Tables.{Tables, IsSymbol, IsRuleKnown, arity_of, port_at, is_constructor, matching}
 use Rattle.in_net.specs.Built.{IsOver}
 use Rattle.in_net.specs.NetFaults.{max_member_agents, HasNoNetFault, IsFirstNameFault}
-use Rattle.in_net.specs.Parts.{Parts}
+use Rattle.in_net.specs.Parts.{Parts, IsWhole}
 use Rattle.in_net.specs.TextNet.{Body, heads_at, HasAgentsOf, HasWiresOf}
 
 -- ---- what contracts see of a rule
@@ -72,12 +72,13 @@ abbrev pub auxiliary_types : Tables → ℕ → List PortType
 auxiliary_types t s = types_from t s 1 (arity_of t s)
 
 -- the right member: the agents and wires of the rule's text, and as free ends the auxiliary places of the two symbols, each declared
--- with that place's type and without a name. That each point is in exactly one of these wires, the net's own invariant says
+-- with that place's type and without a name; each point is in exactly one of these wires
 pub record IsMemberOf (t : Tables) (r : SourceRule) (m : Parts) : Type 0 where
   pub agents : HasAgentsOf t (body_of_rule t r) m
   pub types : map (λ f. f.kind) m.free ≡ auxiliary_types t (heads_of t r).0.0 ++ auxiliary_types t (heads_of t r).1.0
   pub unnamed : AllByRecursion (λ f. f.name ≡ []) m.free
   pub wires : HasWiresOf t (body_of_rule t r) m
+  pub whole : IsWhole m
 
 -- the rule of the text
 pub record IsRuleOf (t : Tables) (r : SourceRule) (p : RuleParts) : Type 0 where

@@ -1,8 +1,9 @@
 -- The net that a text has. Lafont 1990 writes a net as equations between terms: a term stands for a point, an agent's for its
 -- principal port, and two occurrences of one variable for one wire. Where a wire stands in the text is this project's own choice.
-use Rattle.std.specs.Prelude.{◌≡◌, ◌≢◌, ◌⊎◌, ℕ, suc, ◌+◌, ◌≤◌, true, List, [], ◌∷◌, ◌++◌, length, map, Option, Some, None, IsSome, slice_get, slice_index_or}
+use Rattle.std.specs.Prelude.{◌≡◌, ◌≢◌, ◌⊎◌, ℕ, suc, ◌+◌, ◌≤◌, true, List, [], ◌∷◌, ◌++◌, length, map, Option, Some, None, IsSome, slice_get, slice_index_or, ◌<◌}
 use Rattle.std.specs.List.{AllByRecursion, flat_map}
-use Rattle.std.specs.List.Sorted.{IsNonDecreasingBy}
+use Rattle.in_syntax.specs.Lists.{IsAmong}
+use Rattle.in_syntax.specs.Order.{Rises}
 use Rattle.in_syntax.specs.declared.places.Place.{Place}
 use Rattle.in_syntax.specs.declared.tree.Term.{Term, out-Term}
 use Rattle.in_syntax.specs.declared.tree.Term.TheFolds.{fold-Term}
@@ -16,13 +17,8 @@ use Rattle.in_net.specs.declared.nets.Point.TheVariants.{Port, Free}
 use Rattle.in_net.specs.declared.nets.Cell.{Cell}
 use Rattle.in_symbols.specs.Names.{number_in}
 use Rattle.in_symbols.specs.Tables.{Tables, arity_of, port_of}
-use Rattle.in_net.specs.Parts.{Parts, partner_in, wire_in, wire_place_in}
+use Rattle.in_net.specs.Parts.{Parts, IsWhole, partner_in, wire_in, wire_place_in}
 use Rattle.in_net.specs.declared.nets.FreeEnd.{FreeEnd}
-
--- x is one of the list
-abbrev pub IsAmong : {X : Type 0} → X → List X → Type 0
-IsAmong x [] = ⊥
-IsAmong x (y ∷ ys) = (y ≡ x) ⊎ IsAmong x ys
 
 -- the first term stands in the second: it is that term, or stands in an argument of it
 pub data IsPartOf : Term → Term → Type 0 where
@@ -199,17 +195,26 @@ pub record HasAgentsOf (t : Tables) (b : Body) (m : Parts) : Type 0 where
   pub agents : AreCellsFor t (agents_of_body t b) m.cells
   pub places : m.places ≡ map (λ w. w.place) (agents_of_body t b)
 
+-- free ends come first, by number, then the ports of each agent in turn, by place
+abbrev pub ComesBefore : Point → Point → Type 0
+ComesBefore (Free k) (Free l) = k < l
+ComesBefore (Free k) (Port y j) = Unit {0}
+ComesBefore (Port x i) (Free l) = ⊥
+ComesBefore (Port x i) (Port y j) = (x.0 < y.0) ⊎ ((x.0 ≡ y.0) × (i < j))
+
 -- the wires are those of the text: two points are partners by a wire of the text, which leads to no other spot, and the listed
--- wires stand at the places of theirs, in the order of these places
+-- wires stand at the places of theirs, no two at one, in the order of these places, each with the point first that comes first
 pub record HasWiresOf (t : Tables) (b : Body) (m : Parts) : Type 0 where
   pub partners : (x y : Point) → partner_in m x ≡ Some y → (p : Place) × IsWireOf t b (spot_at m x) (spot_at m y) p
   pub only : (x y : Point) (s : Spot) (p : Place) → partner_in m x ≡ Some y → IsWireOf t b (spot_at m x) s p → s ≡ spot_at m y
   pub wires : (w : ℕ) (x y : Point) (p : Place) → wire_in m w ≡ Some (x, y) → wire_place_in m w ≡ Some p → IsWireOf t b (spot_at m x) (spot_at m y) p
-  pub by_place : IsNonDecreasingBy (λ w. w.place.from) m.wires
+  pub by_place : Rises (map (λ w. w.place) m.wires)
+  pub turned : (w : ℕ) (x y : Point) → wire_in m w ≡ Some (x, y) → ComesBefore x y
 
--- the parts are the net of the text: its agents, its free ends in order, with their names and declared types, and its wires. That
--- each point is in exactly one of these wires, the net's own invariant says
+-- the parts are the net of the text: its agents, its free ends in order, with their names and declared types, and its wires, and each
+-- point is in exactly one of these
 pub record IsNetOf (t : Tables) (n : SourceNet) (m : Parts) : Type 0 where
   pub agents : HasAgentsOf t (body_of n) m
   pub free : AreFreeOf t n.free m.free
   pub wires : HasWiresOf t (body_of n) m
+  pub whole : IsWhole m

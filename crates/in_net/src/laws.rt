@@ -1,6 +1,6 @@
 //! Laws over the definitions of a net, for whoever reasons above them. No function here does anything.
 
-ghost use Rattle.in_net.specs.Laws.{MembersHoldNoPair, PartnersLeadBack, RulesHoldNoClosedWire, TextNetsAreOne, WholePartsAreNets};
+ghost use Rattle.in_net.specs.Laws.{MembersHoldNoPair, NetsAreBuiltOnce, RulesAreBuiltOnce, PartnersLeadBack, RulesHoldNoClosedWire, TextNetsAreOne, WholePartsAreNets};
 
 /// In a net, the partner of a point's partner is the point, and no point is its own partner.
 pub fn partners_lead_back()
@@ -25,4 +25,14 @@ pub fn members_hold_no_pair()
 /// No wire of a rule's text is closed.
 pub fn rules_hold_no_closed_wire()
     ensures { RulesHoldNoClosedWire }
+{}
+
+/// What building the net of a text's program answers is one: two nets are equal, the numbers and places of their wires included.
+pub fn nets_are_built_once()
+    ensures { NetsAreBuiltOnce }
+{}
+
+/// What building a rule of a text's program answers is one.
+pub fn rules_are_built_once()
+    ensures { RulesAreBuiltOnce }
 {}

@@ -125,7 +125,8 @@ impl Net {
         self.wires.len() as u32
     }
 
-    /// The two points of a wire. As built, wires are numbered from 0 by their places.
+    /// The two points of a wire. As built, wires are numbered from 0 by their places, no two of which are one, and the first of the
+    /// two points comes first: free ends by number, then the ports of each agent in turn, by place.
     pub fn wire(&self, number: u32) -> (Point, Point)
         requires { number < length self.now.wires }
         ensures wire { Some result ≡ wire_in self.now number }

@@ -4,6 +4,7 @@ pub mod Heads
 pub mod Least
 pub mod Maps
 pub mod Named
+pub mod OneTables
 pub mod Repeated
 pub mod Shapes
 pub mod Tabled

@@ -1,6 +1,6 @@
-//! Laws over the definition of matching symbols, for whoever reasons above it. No function here does anything.
+//! Laws over the definitions of tables and of matching symbols, for whoever reasons above them. No function here does anything.
 
-ghost use Rattle.in_symbols.specs.Laws.{MatchingIsSymmetric, MatchingTypesAreOpposite};
+ghost use Rattle.in_symbols.specs.Laws.{MatchingIsSymmetric, MatchingTypesAreOpposite, TablesAreOnce};
 
 /// Of two symbols, the first matches the second exactly where the second matches the first.
 pub fn matching_is_symmetric()
@@ -10,4 +10,9 @@ pub fn matching_is_symmetric()
 /// Two symbols match exactly where their principal types have one name and opposite signs.
 pub fn matching_types_are_opposite()
     ensures { MatchingTypesAreOpposite }
+{}
+
+/// What building the tables of a text's program answers is one.
+pub fn tables_are_once()
+    ensures { TablesAreOnce }
 {}

@@ -1,5 +1,5 @@
 ghost use Rattle.std.specs.Prelude.{◌≡◌, ◌≤◌, length, Some};
-ghost use Rattle.in_syntax.specs.Sizes.{IsSized};
+ghost use Rattle.in_syntax.specs.Parsing.{IsOfText};
 ghost use Rattle.in_symbols.specs.Names.{name_in};
 ghost use Rattle.in_symbols.specs.Tables.{place_of, IsSymbol, arity_of, port_at, class_at, classes_of, is_constructor, matching, symbol_numbered, Knows, port_of, Tabulates};
 
@@ -53,14 +53,14 @@ impl Model for Symbols {
 }
 
 impl Symbols {
-    /// The tables of a program.
+    /// The tables of a program that `parse` answers for some text.
     ///
     /// Refused for the first fault of the names in the order of the text: E04 at the name of a type, symbol or free name that
     /// is declared twice in its space, at the later one, and at a free name that is a symbol's; E05 at an unknown type of a
     /// port or a free name; E06 at a name before `(` or `[` that is no symbol's. Or for want of memory. Lafont 1990 has the types of
     /// ports and the symbols of agents; the spaces of names, the codes and the places are this project's own choice.
     pub fn build(alloc: Global, source: &Source) -> Result<Symbols, Fault>
-        requires { IsSized source.now }
+        requires { IsOfText source.now }
         ensures { Tabulates source.now result }
     {
         let types = declaring::types_of(alloc, source)?;

@@ -73,13 +73,13 @@ arguments_placed h ih d (u ∷ us) short =
     places_closed (spell_term u d ++ rest) kind.CloseParenthesis
     ∙ both_places (spell_term u d) rest (term_places u) (all_places us) (ih u d (omega (arith, short))) (commas_placed h ih d us (omega (arith, short)))
 
-names_out : (u : Term) → names_in u ≡ total (map names_in (out-Term u).args) + 1
+pub names_out : (u : Term) → names_in u ≡ total (map names_in (out-Term u).args) + 1
 names_out = fold_out-Term ℕ (λ f. total f.args + 1)
 
-spell_out : (u : Term) → spell_term u ≡ spell_level (record { name = (out-Term u).name; args = map spell_term (out-Term u).args })
+pub spell_out : (u : Term) → spell_term u ≡ spell_level (record { name = (out-Term u).name; args = map spell_term (out-Term u).args })
 spell_out = fold_out-Term (ℕ → List Marked) spell_level
 
-places_out : (u : Term) → term_places u ≡ (out-Term u).name.place ∷ all_places (out-Term u).args
+pub places_out : (u : Term) → term_places u ≡ (out-Term u).name.place ∷ all_places (out-Term u).args
 places_out = fold_out-Term (List Place) (λ f. f.name.place ∷ flat_map (λ ps. ps) f.args)
 
 placed : (h : ℕ) → Placed h

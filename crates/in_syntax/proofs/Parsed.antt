@@ -1,5 +1,5 @@
 -- What reading the tokens of a text and then their grammar gives.
-use Rattle.std.proofs.Common.{◌≡◌, ℕ, List, [], ◌∷◌, drop, Result, Ok, Err, inr, arith, subst}
+use Rattle.std.proofs.Common.{◌≡◌, ℕ, List, [], ◌∷◌, drop, Result, Ok, Err, inr, arith, subst, IfOk}
 use Rattle.std.specs.List.{AllByRecursion}
 use Rattle.in_syntax.specs.declared.faults.Fault.{Fault}
 use Rattle.in_syntax.specs.declared.faults.Fault.TheVariants.{Refused, Memory}
@@ -11,7 +11,7 @@ use Rattle.in_syntax.specs.declared.places.Place.{Place}
 use Rattle.in_syntax.specs.Places.{end_place}
 use Rattle.in_syntax.specs.Tokens.{IsTokensOf, StandsIn}
 use Rattle.in_syntax.specs.Programs.{IsTextAt, HasText, HasTexts, IsParsing, place_at}
-use Rattle.in_syntax.specs.Parsing.{Parses}
+use Rattle.in_syntax.specs.Parsing.{IsOfText, Parses}
 
 has_text : (text : List ℕ) (t : Token) (k : TokenKind) → StandsIn text t → HasText text k t.place
 has_text text t k h = go k
@@ -32,3 +32,7 @@ parsed text ts end (Ok source) read last p = record { tokens = ts; read = read; 
 parsed text ts end (Err (Refused r)) read last p =
     inr (record { tokens = ts; read = read; at = p.0; first = p.1; place = subst (λ e. r.place ≡ place_at (drop p.0 ts) e) last p.2; other = p.3 })
 parsed text ts end (Err (Memory e)) read last p = tt
+
+pub of_text_when : (text : List ℕ) (r : Result Source Fault) → Parses text r → IfOk r IsOfText
+of_text_when text (Ok source) p = record { text = text; tree = p }
+of_text_when text (Err e) p = tt

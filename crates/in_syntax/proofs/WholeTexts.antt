@@ -1,5 +1,6 @@
 -- Each text has one tree or one first fault.
 use Rattle.std.proofs.Common.{◌≡◌, ◌⊎◌, inl, inr, ℕ, List, drop, None, Result, Ok, Err, refl, sym, ◌∙◌, ap, subst}
+use Rattle.in_syntax.specs.declared.faults.Fault.TheVariants.{Refused, Memory}
 use Rattle.in_syntax.specs.declared.faults.Refusal.{Refusal}
 use Rattle.in_syntax.specs.declared.tree.Source.{Source}
 use Rattle.in_syntax.specs.declared.words.Token.{Token}
@@ -7,7 +8,8 @@ use Rattle.in_syntax.specs.declared.signs.Sign.{Sign}
 use Rattle.in_syntax.specs.Places.{end_place}
 use Rattle.in_syntax.specs.Tokens.{IsTokensOf, IsTokenFault}
 use Rattle.in_syntax.specs.Programs.{signs_of, Outcome, tree, fault, IsOutcome, place_at}
-use Rattle.in_syntax.specs.Parsing.{IsTreeOf, IsGrammarFault, IsTextFault, IsAnswer}
+use Rattle.in_syntax.specs.Parsing.{IsTreeOf, IsGrammarFault, IsTextFault, IsAnswer, Parses}
+use Rattle.in_syntax.specs.Answers.{IsOne}
 use Rattle.in_syntax.specs.Laws.{OneAnswer}
 use Rattle.in_syntax.proofs.TextLaws.{tokens_unique, fault_unique, not_both, tokens_or_fault}
 use Rattle.in_syntax.proofs.Outcomes.{one_outcome}
@@ -35,7 +37,7 @@ tree_and_fault text a r x (inr g) =
 same_place : (text : List ℕ) (q r : Refusal) (ts us : List Token) (i j : ℕ) → ts ≡ us → i ≡ j → q.place ≡ place_at (drop i ts) (end_place text) → r.place ≡ place_at (drop j us) (end_place text) → q.place ≡ r.place
 same_place text q r ts us i j e f x y = x ∙ ap (λ z. place_at (drop i z) (end_place text)) e ∙ ap (λ k. place_at (drop k us) (end_place text)) f ∙ sym y
 
-same_refusal : (q r : Refusal) → q.code ≡ r.code → q.place ≡ r.place → q.other ≡ r.other → q ≡ r
+pub same_refusal : (q r : Refusal) → q.code ≡ r.code → q.place ≡ r.place → q.other ≡ r.other → q ≡ r
 same_refusal q r e f g =
     ap (λ c. record { code = c; place = q.place; other = q.other }) e
     ∙ ap (λ p. record { code = r.code; place = p; other = q.other }) f
@@ -81,3 +83,12 @@ pub one_answer : OneAnswer
 one_answer text =
     let h = some_answer text (tokens_or_fault text) in
     (h.0, h.1, λ b is. answers text b h.0 is h.1)
+
+pub parsed_once : (text : List ℕ) → IsOne (Parses text)
+parsed_once text (Ok a) (Ok b) x y = two_trees text a b x y
+parsed_once text (Ok a) (Err (Refused r)) x y = tree_and_fault text a r x y
+parsed_once text (Ok a) (Err (Memory e)) x y = tt
+parsed_once text (Err (Refused q)) (Ok b) x y = tree_and_fault text b q y x
+parsed_once text (Err (Refused q)) (Err (Refused r)) x y = two_faults text q r x y
+parsed_once text (Err (Refused q)) (Err (Memory e)) x y = tt
+parsed_once text (Err (Memory e)) b x y = tt

@@ -5,7 +5,9 @@ use Rattle.in_syntax.specs.declared.words.Token.{Token}
 use Rattle.in_syntax.specs.declared.faults.Refusal.{Refusal}
 use Rattle.in_syntax.specs.declared.tree.Source.{Source}
 use Rattle.in_syntax.specs.Tokens.{IsTokensOf, IsTokenFault, StandsIn, StandInOrder}
-use Rattle.in_syntax.specs.Parsing.{IsAnswer}
+use Rattle.in_syntax.specs.Answers.{IsOne}
+use Rattle.in_syntax.specs.Order.{BeginApart, source_places}
+use Rattle.in_syntax.specs.Parsing.{IsAnswer, IsTreeOf, Parses}
 
 -- a text has at most one list of tokens
 abbrev pub TokensAreUnique : Type 0
@@ -34,3 +36,11 @@ TokensStandInOrder = (text : List ℕ) (ts : List Token) → IsTokensOf text ts 
 -- each text is exactly one of these: one tree, or one first fault
 abbrev pub OneAnswer : Type 0
 OneAnswer = (text : List ℕ) → (a : Result Source Refusal) × IsAnswer text a × ((b : Result Source Refusal) → IsAnswer text b → b ≡ a)
+
+-- all that parsing may answer for a text agrees
+abbrev pub TextsAreParsedOnce : Type 0
+TextsAreParsedOnce = (text : List ℕ) → IsOne (Parses text)
+
+-- the names and the ~ of a text's program that begin at one byte have one place
+abbrev pub TextsBeginApart : Type 0
+TextsBeginApart = (text : List ℕ) (s : Source) → IsTreeOf text s → BeginApart (source_places s)

@@ -1,5 +1,5 @@
 -- The order in which the names and the ~ of rules and nets stand in their text.
-use Rattle.std.specs.Prelude.{◌<◌, List, [], ◌∷◌, ◌++◌}
+use Rattle.std.specs.Prelude.{◌≡◌, ◌<◌, List, [], ◌∷◌, ◌++◌, map}
 use Rattle.std.specs.List.{AllByRecursion, flat_map}
 use Rattle.in_syntax.specs.declared.places.Place.{Place}
 use Rattle.in_syntax.specs.declared.tree.Term.{Term}
@@ -7,8 +7,11 @@ use Rattle.in_syntax.specs.declared.tree.Term.TheFolds.{fold-Term}
 use Rattle.in_syntax.specs.declared.tree.Equation.{Equation}
 use Rattle.in_syntax.specs.declared.tree.Head.{Head}
 use Rattle.in_syntax.specs.declared.tree.Source.{Source}
+use Rattle.in_syntax.specs.declared.tree.SourceFree.{SourceFree}
 use Rattle.in_syntax.specs.declared.tree.SourceNet.{SourceNet}
 use Rattle.in_syntax.specs.declared.tree.SourceRule.{SourceRule}
+use Rattle.in_syntax.specs.declared.tree.SourceSymbol.{SourceSymbol}
+use Rattle.in_syntax.specs.Lists.{IsAmong}
 
 -- each place stands before those after it
 abbrev pub Rises : List Place → Type 0
@@ -39,3 +42,25 @@ IsRuleInOrder r = Rises (head_places r.first ++ head_places r.second)
 pub record IsWrittenInOrder (s : Source) : Type 0 where
   pub rules : AllByRecursion IsRuleInOrder s.rules
   pub net : IsInOrder s.net
+
+-- ---- all that stands in a program
+
+-- of these places, two that begin at one byte are one
+abbrev pub BeginApart : List Place → Type 0
+BeginApart ps = (p q : Place) → IsAmong p ps → IsAmong q ps → p.from ≡ q.from → p ≡ q
+
+-- a declared symbol's name, and the names of its ports' types
+abbrev pub symbol_places : SourceSymbol → List Place
+symbol_places d = d.name.place ∷ d.port.kind.place ∷ flat_map (λ c. map (λ q. q.kind.place) c) d.classes
+
+-- the names of a rule
+abbrev pub rule_places : SourceRule → List Place
+rule_places r = head_places r.first ++ head_places r.second
+
+-- a free name, and its type's name
+abbrev pub free_places : SourceFree → List Place
+free_places f = f.name.place ∷ f.port.kind.place ∷ []
+
+-- where each name and each ~ of a program stands
+abbrev pub source_places : Source → List Place
+source_places s = map (λ n. n.place) s.types ++ (flat_map symbol_places s.symbols ++ (flat_map rule_places s.rules ++ (flat_map free_places s.net.free ++ flat_map equation_places s.net.equations)))

@@ -15,6 +15,11 @@ pub record IsTreeOf (text : List ℕ) (source : Source) : Type 0 where
   pub read : IsTokensOf text tokens
   pub tree : IsTree (signs_of text tokens) source
 
+-- the tree of some text
+pub record IsOfText (source : Source) : Type 0 where
+  pub text : List ℕ
+  pub tree : IsTreeOf text source
+
 -- the text has tokens, and this is the first fault of the grammar in them
 pub record IsGrammarFault (text : List ℕ) (r : Refusal) : Type 0 where
   pub tokens : List Token

@@ -1,6 +1,6 @@
 //! Laws of the definitions that contracts cite, each the contract of a function that does nothing.
 ghost use Rattle.in_syntax.specs.GrammarLaws.{OneOutcome, OneTree, PrefixesBegin};
-ghost use Rattle.in_syntax.specs.Laws.{TokensAreUnique, TokenFaultsAreUnique, TextsHaveTokensOrFault, NoTextHasBoth, TokensStandInTheirText, TokensStandInOrder, OneAnswer};
+ghost use Rattle.in_syntax.specs.Laws.{TokensAreUnique, TokenFaultsAreUnique, TextsHaveTokensOrFault, NoTextHasBoth, TokensStandInTheirText, TokensStandInOrder, OneAnswer, TextsAreParsedOnce, TextsBeginApart};
 
 /// A text has at most one list of tokens.
 pub fn tokens_are_unique()
@@ -50,4 +50,14 @@ pub fn prefixes_begin()
 /// A text has one tree, or it has one first fault of its tokens and grammar; never both.
 pub fn one_answer()
     ensures { OneAnswer }
+{}
+
+/// What parsing a text answers is one: two trees are equal, two refusals are equal, and there is never one of each.
+pub fn texts_are_parsed_once()
+    ensures { TextsAreParsedOnce }
+{}
+
+/// What stands at one byte of a text is one name or one `~`.
+pub fn texts_begin_apart()
+    ensures { TextsBeginApart }
 {}

@@ -1,6 +1,6 @@
 ghost use Rattle.std.specs.Prelude.{IfOk};
 ghost use Rattle.in_syntax.specs.Order.{IsWrittenInOrder};
-ghost use Rattle.in_syntax.specs.Parsing.{Parses};
+ghost use Rattle.in_syntax.specs.Parsing.{IsOfText, Parses};
 ghost use Rattle.in_syntax.specs.Sizes.{IsSized};
 
 use crate::faults::Fault;
@@ -23,6 +23,7 @@ use std::alloc::Global;
 /// heads, agents and equations between terms, in signs of this project's own choice.
 pub fn parse(alloc: Global, text: &[u8]) -> Result<Source, Fault>
     ensures tree { Parses text.now result }
+    ensures of_text { IfOk result IsOfText }
     ensures sized { IfOk result IsSized }
     ensures order { IfOk result IsWrittenInOrder }
 {

@@ -146,6 +146,7 @@ returns c =
         agents = net.1;
         free = subst (AreFreeOf t source.net.free) (fs ∙ sym made.free_ends) (free_for t c.in_ok-reading.reading.spots c.as_slice-links.result.now 0 source.net.free);
         wires = net.2;
+        whole = made.whole;
       },
       no_fault max_agents t (body_of source.net) r ready is clear,
       read_none t (body_of source.net) g none,

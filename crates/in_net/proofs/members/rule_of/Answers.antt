@@ -191,6 +191,7 @@ returns c =
           types = types ∙ ap (λ (h : SymbolNo × SymbolNo). auxiliary_types t h.0.0 ++ auxiliary_types t h.1.0) same_heads;
           unnamed = subst (AllByRecursion (λ (f : FreeEnd). f.name ≡ [])) (sym frees) (boundary_unnamed t spots links heads.0.0 heads.1.0);
           wires = net.2;
+          whole = c.in_ok-member.ensures.whole;
         };
       },
       no_fault max_member_agents t (body_of_rule t r) q ready is clear,

@@ -1,0 +1,5 @@
+use Rattle.in_syntax.proofs.SourcePlaces as laws
+use Rattle.in_syntax.proofs.laws.texts_begin_apart.Goals as goal
+
+pub returns : goal.returns
+returns c = laws.texts_begin_apart
