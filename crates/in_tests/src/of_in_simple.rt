@@ -15,9 +15,15 @@ fn wire(alloc: Global) -> Result<Checked, Fault> {
 }
 
 /// Whether the steps build the wire.
-fn is_derivation(alloc: Global, steps: Items<Step>) -> Result<bool, Fail> {
+fn builds_the_wire(alloc: Global, steps: &Derivation) -> Result<bool, Fail> {
     let program = wire(alloc)?;
-    Ok(verify(alloc, &Derivation { steps }, program.shape(Item::NetItem))?)
+    Ok(verify(alloc, steps, program.shape(Item::NetItem))?)
+}
+
+/// Whether the steps build the wire.
+fn is_derivation<const N: usize>(alloc: Global, steps: [Step; N]) -> Result<bool, Fail> {
+    let steps = Items::from_vec(Vec::from_array(alloc, steps)?);
+    builds_the_wire(alloc, &Derivation { steps })
 }
 
 /// Whether the one step is the Link of the wire 0.
@@ -36,56 +42,61 @@ fn a_wire_is_a_link(rt: HostRuntime) -> Result<(), Fail> {
 #[test]
 fn other_steps_do_not_build_a_wire(rt: HostRuntime) -> Result<(), Fail> {
     let alloc = rt.alloc();
-    assert!(rt; !is_derivation(alloc, Items::new(alloc))?);
-    let mut empty = Items::new(alloc);
-    empty.push(Step::Empty)?;
-    assert!(rt; !is_derivation(alloc, empty)?);
-    let mut another = Items::new(alloc);
-    another.push(Step::Link { wire: 1 })?;
-    assert!(rt; !is_derivation(alloc, another)?);
-    let mut mixed = Items::new(alloc);
-    mixed.push(Step::Link { wire: 0 })?;
-    mixed.push(Step::Empty)?;
-    mixed.push(Step::Mix { a: 0, b: 1 })?;
+    assert!(rt; !is_derivation(alloc, [])?);
+    assert!(rt; !is_derivation(alloc, [Step::Empty])?);
+    assert!(rt; !is_derivation(alloc, [Step::Link { wire: 1 }])?);
+    assert!(rt; !is_derivation(alloc, [Step::Given { node: 0 }])?);
+    Ok(())
+}
+
+#[test]
+fn each_step_but_the_last_is_named_once(rt: HostRuntime) -> Result<(), Fail> {
+    let alloc = rt.alloc();
+    let mixed = [
+        Step::Link { wire: 0 },
+        Step::Empty,
+        Step::Mix { a: 0, b: 1 },
+    ];
     assert!(rt; is_derivation(alloc, mixed)?);
-    let mut unnamed = Items::new(alloc);
-    unnamed.push(Step::Empty)?;
-    unnamed.push(Step::Link { wire: 0 })?;
-    assert!(rt; !is_derivation(alloc, unnamed)?);
-    let mut twice = Items::new(alloc);
-    twice.push(Step::Link { wire: 0 })?;
-    twice.push(Step::Mix { a: 0, b: 0 })?;
+    assert!(rt; !is_derivation(alloc, [Step::Empty, Step::Link { wire: 0 }])?);
+    let twice = [Step::Link { wire: 0 }, Step::Mix { a: 0, b: 0 }];
     assert!(rt; !is_derivation(alloc, twice)?);
-    let mut grafted = Items::new(alloc);
-    grafted.push(Step::Link { wire: 0 })?;
+    Ok(())
+}
+
+/// A graft of one class, after a Link.
+fn grafted(alloc: Global) -> Result<[Step; 2], AllocError> {
     let mut classes = StepNumbers::new(alloc);
     classes.push(0)?;
-    assert_eq!(rt; classes.as_slice().len(), 1);
-    grafted.push(Step::Graft { node: 0, classes })?;
-    assert!(rt; !is_derivation(alloc, grafted)?);
+    Ok([Step::Link { wire: 0 }, Step::Graft { node: 0, classes }])
+}
+
+#[test]
+fn a_graft_builds_no_wire(rt: HostRuntime) -> Result<(), Fail> {
+    let steps = grafted(rt.alloc())?;
+    assert!(rt; !is_derivation(rt.alloc(), steps)?);
     Ok(())
 }
 
 #[test]
 fn steps_that_do_not_fit_build_no_wire(rt: HostRuntime) -> Result<(), Fail> {
     let alloc = rt.alloc();
-    let mut cut = Items::new(alloc);
-    cut.push(Step::Link { wire: 0 })?;
-    cut.push(Step::Empty)?;
-    cut.push(Step::Cut {
-        wire: 0,
-        a: 0,
-        b: 1,
-    })?;
+    let cut = [
+        Step::Link { wire: 0 },
+        Step::Empty,
+        Step::Cut {
+            wire: 0,
+            a: 0,
+            b: 1,
+        },
+    ];
     assert!(rt; !is_derivation(alloc, cut)?);
-    let mut shared = Items::new(alloc);
-    shared.push(Step::Link { wire: 0 })?;
-    shared.push(Step::Link { wire: 0 })?;
-    shared.push(Step::Mix { a: 0, b: 1 })?;
+    let shared = [
+        Step::Link { wire: 0 },
+        Step::Link { wire: 0 },
+        Step::Mix { a: 0, b: 1 },
+    ];
     assert!(rt; !is_derivation(alloc, shared)?);
-    let mut given = Items::new(alloc);
-    given.push(Step::Given { node: 0 })?;
-    assert!(rt; !is_derivation(alloc, given)?);
     Ok(())
 }
 
@@ -127,14 +138,19 @@ fn steps_of(alloc: Global, program: &Checked, item: Item) -> Result<String, Allo
 }
 
 /// The steps of each rule of a program, a line each.
-fn rules_derived(alloc: Global, text: &str) -> Result<String, Fault> {
-    let program = check(alloc, text.as_bytes())?;
+fn steps_of_rules(alloc: Global, program: &Checked) -> Result<String, AllocError> {
     let mut lines = String::new(alloc);
     for number in 0..program.rules() {
-        let more = steps_of(alloc, &program, Item::RuleItem(RuleNo(number)))?;
+        let more = steps_of(alloc, program, Item::RuleItem(RuleNo(number)))?;
         lines = format!(in alloc; "{lines}{more}\n")?;
     }
     Ok(lines)
+}
+
+/// The steps of each rule of a text.
+fn rules_derived(alloc: Global, text: &str) -> Result<String, Fault> {
+    let program = check(alloc, text.as_bytes())?;
+    Ok(steps_of_rules(alloc, &program)?)
 }
 
 /// The steps of a program's net.

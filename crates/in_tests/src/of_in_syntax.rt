@@ -117,30 +117,31 @@ fn expect_fault(rt: &impl Abort, alloc: Global, text: &str, code: Code, at: usiz
 }
 
 #[test]
-fn refusals(rt: HostRuntime) -> Result<(), Fail> {
-    let alloc = rt.alloc();
-    expect_fault(&rt, alloc, "type ;", Code::E02, 1);
-    expect_fault(&rt, alloc, "type nat ;", Code::E02, 2);
-    expect_fault(&rt, alloc, "symbol x : nat + { } ;", Code::E02, 6);
-    expect_fault(&rt, alloc, "net ( ) { } net", Code::E02, 5);
-    expect_fault(&rt, alloc, "net ( r : nat + , ) { }", Code::E02, 7);
-    expect_fault(&rt, alloc, "net ( ) { Z ( ) ~ x ; }", Code::E02, 6);
-    expect_fault(&rt, alloc, "net ( ) { x ~ y }", Code::E02, 7);
-    expect_fault(&rt, alloc, "net ( ) { x ~ y ~ z ; }", Code::E02, 7);
-    expect_fault(&rt, alloc, "rule S >< Z [ ] ;", Code::E02, 2);
-    expect_fault(&rt, alloc, "rule S ( ) >< Z [ ] ;", Code::E02, 2);
-    expect_fault(&rt, alloc, "rule S [ ] ~ Z [ ] ;", Code::E02, 4);
-    expect_fault(&rt, alloc, "rule S [ ] ;", Code::E02, 4);
-    expect_fault(&rt, alloc, "rule S [ ] >< Z [ ] >< Z [ ] ;", Code::E02, 8);
-    expect_fault(&rt, alloc, "rule S [ x , ] >< Z [ ] ;", Code::E02, 5);
-    expect_fault(&rt, alloc, "rule S [ x ) >< Z [ ] ;", Code::E02, 4);
-    expect_fault(&rt, alloc, "rule S [ F ( x ] >< Z [ ] ;", Code::E02, 6);
-    expect_fault(&rt, alloc, "rule S [ x ~ y ] >< Z [ ] ;", Code::E02, 4);
-    expect_fault(&rt, alloc, "rule S [ ] >< Z [ ] net", Code::E02, 8);
-    expect_fault(&rt, alloc, "rule S [", Code::E02, 2);
-    let nine = "symbol x : t + { t + , t + , t + , t + } { t + , t + , t + , t + , t + } ;";
-    expect_fault(&rt, alloc, nine, Code::E03, 31);
-    Ok(())
+fn refusals(rt: HostRuntime) {
+    let rows = [
+        ("type ;", 1),
+        ("type nat ;", 2),
+        ("symbol x : nat + { } ;", 6),
+        ("net ( ) { } net", 5),
+        ("net ( r : nat + , ) { }", 7),
+        ("net ( ) { Z ( ) ~ x ; }", 6),
+        ("net ( ) { x ~ y }", 7),
+        ("net ( ) { x ~ y ~ z ; }", 7),
+        ("rule S >< Z [ ] ;", 2),
+        ("rule S ( ) >< Z [ ] ;", 2),
+        ("rule S [ ] ~ Z [ ] ;", 4),
+        ("rule S [ ] ;", 4),
+        ("rule S [ ] >< Z [ ] >< Z [ ] ;", 8),
+        ("rule S [ x , ] >< Z [ ] ;", 5),
+        ("rule S [ x ) >< Z [ ] ;", 4),
+        ("rule S [ F ( x ] >< Z [ ] ;", 6),
+        ("rule S [ x ~ y ] >< Z [ ] ;", 4),
+        ("rule S [ ] >< Z [ ] net", 8),
+        ("rule S [", 2),
+    ];
+    for (text, at) in rows {
+        expect_fault(&rt, rt.alloc(), text, Code::E02, at);
+    }
 }
 
 /// A name at this depth, between two texts
@@ -167,45 +168,86 @@ fn often(alloc: Global, count: usize, word: &str, between: [&str; 2]) -> Result<
     Ok(text)
 }
 
+/// How many types, symbols, rules, free names and equations a program has.
+fn lengths(alloc: Global, text: &str) -> Result<[usize; 5], Fault> {
+    let source = parse(alloc, text.as_bytes())?;
+    Ok([
+        source.types.len(),
+        source.symbols.len(),
+        source.rules.len(),
+        source.net.free.len(),
+        source.net.equations.len(),
+    ])
+}
+
 #[test]
-fn limits_of_lists(rt: HostRuntime) -> Result<(), Fail> {
+fn limits_of_types(rt: HostRuntime) -> Result<(), Fail> {
     let alloc = rt.alloc();
     let types = ["type a , b ; type c", " ; net ( ) { }"];
     let text = often(alloc, 253, " , t", types)?;
-    assert_eq!(rt; parse(alloc, text.as_bytes())?.types.len(), 256);
+    assert_eq!(rt; lengths(alloc, text.as_str())?, [256, 0, 0, 0, 0]);
     let text = often(alloc, 254, " , t", types)?;
     expect_fault(&rt, alloc, text.as_str(), Code::E03, 514);
+    Ok(())
+}
+
+#[test]
+fn limits_of_symbols(rt: HostRuntime) -> Result<(), Fail> {
+    let alloc = rt.alloc();
     let symbols = ["type t ;", " net ( ) { }"];
     let text = often(alloc, 512, " symbol s : t + ;", symbols)?;
-    assert_eq!(rt; parse(alloc, text.as_bytes())?.symbols.len(), 512);
+    assert_eq!(rt; lengths(alloc, text.as_str())?, [1, 512, 0, 0, 0]);
     let text = often(alloc, 513, " symbol s : t + ;", symbols)?;
     expect_fault(&rt, alloc, text.as_str(), Code::E03, 3076);
-    let text = often(alloc, 4096, " rule s [ ] >< t [ ] ;", symbols)?;
-    assert_eq!(rt; parse(alloc, text.as_bytes())?.rules.len(), 4096);
-    let text = often(alloc, 4097, " rule s [ ] >< t [ ] ;", symbols)?;
+    Ok(())
+}
+
+#[test]
+fn limits_of_rules(rt: HostRuntime) -> Result<(), Fail> {
+    let alloc = rt.alloc();
+    let rules = ["type t ;", " net ( ) { }"];
+    let text = often(alloc, 4096, " rule s [ ] >< t [ ] ;", rules)?;
+    assert_eq!(rt; lengths(alloc, text.as_str())?, [1, 0, 4096, 0, 0]);
+    let text = often(alloc, 4097, " rule s [ ] >< t [ ] ;", rules)?;
     expect_fault(&rt, alloc, text.as_str(), Code::E03, 36867);
+    Ok(())
+}
+
+#[test]
+fn limits_of_free_names(rt: HostRuntime) -> Result<(), Fail> {
+    let alloc = rt.alloc();
     let free = ["net ( f : t +", " ) { }"];
     let text = often(alloc, 255, " , f : t +", free)?;
-    assert_eq!(rt; parse(alloc, text.as_bytes())?.net.free.len(), 256);
+    assert_eq!(rt; lengths(alloc, text.as_str())?, [0, 0, 0, 256, 0]);
     let text = often(alloc, 256, " , f : t +", free)?;
     expect_fault(&rt, alloc, text.as_str(), Code::E03, 1282);
     Ok(())
 }
 
 #[test]
-fn limits(rt: HostRuntime) -> Result<(), Fail> {
-    let alloc = rt.alloc();
+fn limits_of_ports(rt: HostRuntime) -> Result<(), Fail> {
     let eight = "symbol x : t + { t + , t + , t + , t + } { t + , t + , t + , t + } ; net ( ) { }";
-    let source = parse(alloc, eight.as_bytes())?;
-    assert_eq!(rt; source.symbols.len(), 1);
+    assert_eq!(rt; lengths(rt.alloc(), eight)?, [0, 1, 0, 0, 0]);
+    let nine = "symbol x : t + { t + , t + , t + , t + } { t + , t + , t + , t + , t + } ;";
+    expect_fault(&rt, rt.alloc(), nine, Code::E03, 31);
+    Ok(())
+}
+
+#[test]
+fn limits_of_depth_in_equations(rt: HostRuntime) -> Result<(), Fail> {
+    let alloc = rt.alloc();
     let text = deep(alloc, 200, "net ( ) { x ~", " ; }")?;
-    let source = parse(alloc, text.as_bytes())?;
-    assert_eq!(rt; source.net.equations.len(), 1);
+    assert_eq!(rt; lengths(alloc, text.as_str())?, [0, 0, 0, 0, 1]);
     let text = deep(alloc, 201, "net ( ) { x ~", " ; }")?;
     expect_fault(&rt, alloc, text.as_str(), Code::E03, 406);
+    Ok(())
+}
+
+#[test]
+fn limits_of_depth_in_heads(rt: HostRuntime) -> Result<(), Fail> {
+    let alloc = rt.alloc();
     let text = deep(alloc, 200, "rule s [ x ,", " ] >< t [ ] ; net ( ) { }")?;
-    let source = parse(alloc, text.as_bytes())?;
-    assert_eq!(rt; source.rules.len(), 1);
+    assert_eq!(rt; lengths(alloc, text.as_str())?, [0, 0, 1, 0, 0]);
     let text = deep(alloc, 201, "rule s [ x ,", " ] >< t [ ] ; net ( ) { }")?;
     expect_fault(&rt, alloc, text.as_str(), Code::E03, 405);
     Ok(())
