@@ -1,4 +1,5 @@
 pub mod Completed
 pub mod FirstFault
 pub mod Numbered
+pub mod OneTable
 pub mod Written

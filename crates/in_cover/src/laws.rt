@@ -1,6 +1,6 @@
 //! Laws over the definition of what `cover` answers, for whoever reasons above it. No function here does anything.
 
-ghost use Rattle.in_cover.specs.Laws.{RefusedRulesAreIncomplete, OneRefusal};
+ghost use Rattle.in_cover.specs.Laws.{RefusedRulesAreIncomplete, OneRefusal, RulesAreCoveredOnce};
 
 /// Rules that are refused aren't complete: some pair has two rules or none.
 pub fn refused_rules_are_incomplete()
@@ -10,4 +10,10 @@ pub fn refused_rules_are_incomplete()
 /// Rules have at most one first fault.
 pub fn one_refusal()
     ensures { OneRefusal }
+{}
+
+/// What covering the rules answers is one: two tables have the same rule for each two symbols, two refusals are equal, and there is
+/// never one of each.
+pub fn rules_are_covered_once()
+    ensures { RulesAreCoveredOnce }
 {}

@@ -9,7 +9,7 @@ use Rattle.in_simple.specs.Constructions.{IsIn, Built}
 use Rattle.in_simple.specs.Splitting.{IsStuck}
 use Rattle.in_simple.proofs.EachSplits.{each_part_splits}
 use Rattle.in_simple.proofs.NoCircle.{no_circle}
-use Rattle.in_simple.specs.OpenNets.{OpenNet, IsOpenNet, IsAgent, IsNode, IsPointOf, IsDerivable, NetSplits, open_graph}
+use Rattle.in_simple.specs.OpenNets.{OpenNet, IsOpenNet, IsAgent, IsNode, IsPointOf, classes_of, IsDerivable, NetSplits, open_graph}
 use Rattle.in_simple.specs.Laws.{HasNoFirstStuck, HasOneFirstStuck}
 use Rattle.in_simple.specs.Stuck.{FirstStuck, whole, within, IsFirstStuck}
 use Rattle.in_simple.proofs.Sums.{same_test, some_of}
@@ -54,7 +54,7 @@ module _ (o : OpenNet) (net : IsOpenNet o) where
           absurd (e.0.1 n.0 n.1 n.2)
 
   pub splits_derivable : NetSplits o → IsDerivable o
-  splits_derivable r = (r.0, r.1, splits_built o net (Built (open_graph o) (IsAgent o)) (built_constructions o) r.0 (λ n h. (r.1 n).0 h) r.2)
+  splits_derivable r = (r.0, r.1, splits_built o net (Built (open_graph o) (IsAgent o) (classes_of o)) (built_constructions o) r.0 (λ n h. (r.1 n).0 h) r.2)
 
   pub splits_or_stuck : NetSplits o ⊎ ((t : ℕ → Bool) × IsFirstStuck o t)
   splits_or_stuck = go (found all all_nodes)
@@ -77,7 +77,7 @@ module _ (o : OpenNet) (net : IsOpenNet o) where
       go (inr r) = let e = one_first_stuck r.0 r.1 in inr (e.0, (r.0, r.1, e.1))
 
   pub derivable_no_circle : IsDerivable o → CrossingCircle (open_graph o) → ⊥
-  derivable_no_circle d circle = no_circle (open_graph o) ℕ_discrete (IsAgent o) d.0
+  derivable_no_circle d circle = no_circle (open_graph o) ℕ_discrete (IsAgent o) (classes_of o) d.0
       (λ u v w. (w.0, wire_turn o w.0 (Port u.0 u.1) (Port v.0 v.1) w.1))
       (λ u v w. (d.1 v.0).1 (point_node v.0 v.1 (net.points w.0 (Port v.0 v.1) (Port u.0 u.1) (wire_turn o w.0 (Port u.0 u.1) (Port v.0 v.1) w.1))))
       d.2 circle

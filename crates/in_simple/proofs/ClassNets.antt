@@ -500,10 +500,11 @@ module _ (o : OpenNet) (net : IsOpenNet o) (n : ℕ) where
             let w = x.2 in
             omega arith
 
-    is_graft : IsGraft (open_graph o) n whole part
+    is_graft : IsGraft (open_graph o) n (classes_of o n) whole part
     is_graft = record {
       root = or_left (nat_eq n n) (nodes_in p.done n) (eq-eqb n n refl);
       others = λ m g d. let x = other m g d in let u = part_of m x.0 x.1 x.2 in let a = u.0 in let c = u.1 in omega arith;
+      most = λ m g d. part_most m;
       own = λ i j w. (h.splits i).own j w.0 w.1;
       to = λ i j m g d w.
           let x = other m g d in

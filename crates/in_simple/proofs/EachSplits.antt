@@ -1,5 +1,5 @@
 -- In a derivable open net every set of nodes has a node that splits it.
-use Rattle.std.proofs.Common.{◌≡◌, ◌≢◌, ◌⊎◌, ◌<◌, ℕ, Bool, true, false, ◌&&◌, nat_eq, refl, sym, subst, ap, inl, inr, ◌∙◌, eq-eqb, eqb-true}
+use Rattle.std.proofs.Common.{◌≤◌, ◌≡◌, ◌≢◌, ◌⊎◌, ◌<◌, ℕ, Bool, true, false, ◌&&◌, nat_eq, refl, sym, subst, ap, inl, inr, ◌∙◌, eq-eqb, eqb-true}
 use Rattle.in_net.specs.Graphs.{Graph}
 use Rattle.in_simple.specs.Constructions.{IsIn, AreParts, numbered, IsGraft, Built, empty, given, mix, cut, graft}
 use Rattle.in_simple.specs.Splitting.{Linked, alone, onward, Without, SplitsAt}
@@ -117,8 +117,8 @@ module _ (g : Graph) (wire_back : (u v : g.Node × ℕ) → g.Wire u v → g.Wir
           (r.0, and_left (t r.0) (b r.0) r.1, lift_over s b a (swap_parts s a b parts) q p back t in_s r.0 (and_left (t r.0) (b r.0) r.1) (and_right (t r.0) (b r.0) r.1) r.2)
 
   -- the agent of a graft splits each set of its nodes that it is in
-  root_splits : (n : g.Node) (s : g.Node → Bool) (part : g.Node → ℕ) → IsGraft g n s part → (t : g.Node → Bool) → ((k : g.Node) → IsIn k t → IsIn k s) → SplitsAt g n t
-  root_splits n s part r t in_s = record {
+  root_splits : (n : g.Node) (s : g.Node → Bool) (part : g.Node → ℕ) → (many : ℕ) → IsGraft g n many s part → (t : g.Node → Bool) → ((k : g.Node) → IsIn k t → IsIn k s) → SplitsAt g n t
+  root_splits n s part many r t in_s = record {
     own = r.own;
     touched = λ i j l m k h w v link.
         let a = link_first (Without n t) l m link in
@@ -127,7 +127,7 @@ module _ (g : Graph) (wire_back : (u v : g.Node × ℕ) → g.Wire u v → g.Wir
         sym (r.to i k l (in_s l a.0) a.1 w) ∙ same.1 ∙ r.to j h m (in_s m b.0) b.1 v;
   }
 
-  pub each_part_splits : {IsAgent : g.Node → Type 0} → {s : g.Node → Bool} → Built g IsAgent s → EachPartSplits s
+  pub each_part_splits : {IsAgent : g.Node → Type 0} → {classes : g.Node → ℕ} → {s : g.Node → Bool} → Built g IsAgent classes s → EachPartSplits s
   each_part_splits (empty s none) t in_s m here = absurd (not_both (s m) (in_s m here) (none m))
     where
       not_both : (b : Bool) → b ≡ true → b ≡ false → ⊥
@@ -146,13 +146,13 @@ module _ (g : Graph) (wire_back : (u v : g.Node × ℕ) → g.Wire u v → g.Wir
       in_two s a b parts (m, 0) (m, 0) (λ u v w ua vb. absurd (apart u v w ua vb)) (each_part_splits x) (each_part_splits y) t in_s m here
   each_part_splits (cut s a b p q parts joined pa qb only x y) t in_s m here =
       in_two s a b parts p q only (each_part_splits x) (each_part_splits y) t in_s m here
-  each_part_splits (graft n s part _ r nets) t in_s m here = go (t n) refl (λ z. each_part_splits (nets (part m) z))
+  each_part_splits {classes = classes} (graft n s part _ r nets) t in_s m here = go (t n) refl (λ z le. each_part_splits (nets (part m) z le))
     where
-      go : (b : Bool) → t n ≡ b → (0 < part m → EachPartSplits (numbered s part (part m))) → (n : g.Node) × IsIn n t × SplitsAt g n t
-      go true h net = (n, h, root_splits n s part r t in_s)
+      go : (b : Bool) → t n ≡ b → (0 < part m → part m ≤ classes n → EachPartSplits (numbered s part (part m))) → (n : g.Node) × IsIn n t × SplitsAt g n t
+      go true h net = (n, h, root_splits n s part (classes n) r t in_s)
       go false h net =
           let other : (k : g.Node) → IsIn k t → k ≢ n = λ k kt e. let u : t n ≡ true = sym (ap t e) ∙ kt in cc in
-          let c = net (r.others m (in_s m here) (other m here)) (λ k. t k && nat_eq (part k) (part m))
+          let c = net (r.others m (in_s m here) (other m here)) (r.most m (in_s m here) (other m here)) (λ k. t k && nat_eq (part k) (part m))
           (λ k x. and_both (s k) (nat_eq (part k) (part m)) (in_s k (and_left (t k) (nat_eq (part k) (part m)) x)) (and_right (t k) (nat_eq (part k) (part m)) x))
           m (and_both (t m) (nat_eq (part m) (part m)) here (eq-eqb (part m) (part m) refl)) in
           let in_t = and_left (t c.0) (nat_eq (part c.0) (part m)) c.1 in (

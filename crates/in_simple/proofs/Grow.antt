@@ -51,16 +51,16 @@ pub record Constructions (o : OpenNet) (B : (ℕ → Bool) → Type 0) : Type 0 
   pub given : (n : ℕ) (s : ℕ → Bool) → IsClass o n → ((m : ℕ) → IsIn m s ↔ (m ≡ n)) → ((i j w : ℕ) → IsWire o w (Port n i) (Port n j) → ⊥) → B s
   pub mix : (s a b : ℕ → Bool) → AreParts s a b → ((l i m j w : ℕ) → IsWire o w (Port l i) (Port m j) → IsIn l a → IsIn m b → ⊥) → B a → B b → B s
   pub cut : (s a b : ℕ → Bool) (l i m j v : ℕ) → AreParts s a b → IsWire o v (Port l i) (Port m j) → (IsAgent o l → i ≡ 0) → IsIn l a → IsIn m b → ((l' i' m' j' w : ℕ) → IsWire o w (Port l' i') (Port m' j') → IsIn l' a → IsIn m' b → ((l' ≡ l) × (i' ≡ i)) × ((m' ≡ m) × (j' ≡ j))) → B a → B b → B s
-  pub graft : (n : ℕ) (s : ℕ → Bool) (part : ℕ → ℕ) → IsAgent o n → part n ≡ 0 → ((m : ℕ) → IsIn m s → part m ≤ classes_of o n) → IsGraft (open_graph o) n s part → ((c : ℕ) → 0 < c → B (numbered s part c)) → B s
+  pub graft : (n : ℕ) (s : ℕ → Bool) (part : ℕ → ℕ) → IsAgent o n → part n ≡ 0 → ((m : ℕ) → IsIn m s → part m ≤ classes_of o n) → IsGraft (open_graph o) n (classes_of o n) s part → ((c : ℕ) → 0 < c → B (numbered s part c)) → B s
 
-pub built_constructions : (o : OpenNet) → Constructions o (Built (open_graph o) (IsAgent o))
+pub built_constructions : (o : OpenNet) → Constructions o (Built (open_graph o) (IsAgent o) (classes_of o))
 built_constructions o = record {
   empty = λ s h. empty s h;
   given = λ n s c all self. given n s (class_no_agent (slice_get o.nodes n) c) all (λ i j w. self i j w.0 w.1);
   mix = λ s a b parts off x y. mix s a b parts (λ u v w h k. off u.0 u.1 v.0 v.1 w.0 w.1 h k) x y;
   cut = λ s a b l i m j v parts w firm la mb only x y. cut s a b (l, i) (m, j) parts (v, w) la mb
       (λ r t u h k. let e = only r.0 r.1 t.0 t.1 u.0 u.1 h k in (pair_same r (l, i) e.0.0 e.0.1, pair_same t (m, j) e.1.0 e.1.1)) x y;
-  graft = λ n s part agent z most r nets. graft n s part agent r nets;
+  graft = λ n s part agent z most r nets. graft n s part agent r (λ c some le. nets c some);
 }
 
 module _ (o : OpenNet) (net : IsOpenNet o) (BuiltSet : (ℕ → Bool) → Type 0) (make : Constructions o BuiltSet) where
@@ -393,10 +393,19 @@ module _ (o : OpenNet) (net : IsOpenNet o) (BuiltSet : (ℕ → Bool) → Type 0
             | inr e ↦ absurd (e.1 (class_linked (ports_of o n) l m (near w l i m j h e.0 (class_inside 0 m b)) ∙ class_number 0 m b))
           ]
 
-          is_graft : IsGraft (open_graph o) n joined part
+          part_most : (m c : ℕ) → part m ≡ c → part m ≤ classes_of o n
+          part_most m zero e = omega arith
+          part_most m (suc c) e =
+              let t = touched_class (ports_of o n) m c e in
+              let u = net.classes n t.0 agent (net.points t.2.0 (Port n t.0) (Port t.2.1 t.2.2) t.2.3) in
+              let v = t.3 in
+              omega arith
+
+          is_graft : IsGraft (open_graph o) n (classes_of o n) joined part
           is_graft = record {
             root = at_root n refl;
             others = λ m h d. let e = (other m h d).1 in omega arith;
+            most = λ m h d. part_most m (part m) refl;
             own = splits.own;
             to = λ i j m h d w. part_touched i m (w.0, m, j, w.1, alone m (other m h d).0);
             among = λ l m i j h k d e w. class_linked (ports_of o n) l m (near w.0 l i m j w.1 (other l h d).0 (other m k e).0);
@@ -409,14 +418,6 @@ module _ (o : OpenNet) (net : IsOpenNet o) (BuiltSet : (ℕ → Bool) → Type 0
           root_zero : (k : ℕ) → part n ≡ k → part n ≡ 0
           root_zero zero e = e
           root_zero (suc k) e = absurd (root_number (suc k) n (omega arith) refl e)
-
-          part_most : (m c : ℕ) → part m ≡ c → part m ≤ classes_of o n
-          part_most m zero e = omega arith
-          part_most m (suc c) e =
-              let t = touched_class (ports_of o n) m c e in
-              let u = net.classes n t.0 agent (net.points t.2.0 (Port n t.0) (Port t.2.1 t.2.2) t.2.3) in
-              let v = t.3 in
-              omega arith
 
           class_nets : (c : ℕ) → 0 < c → BuiltSet (numbered joined part c)
           class_nets c l = built_same (of_class c) (numbered joined part c) (λ m. same_test (of_class c m) (numbered joined part c m)

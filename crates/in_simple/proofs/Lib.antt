@@ -15,6 +15,8 @@ pub mod MeetingNodes
 pub mod Named
 pub mod Nets
 pub mod NoCircle
+pub mod OneAnswer
+pub mod OneOpening
 pub mod Opened
 pub mod OpenedRules
 pub mod Planning

@@ -344,7 +344,7 @@ module _ (o : OpenNet) (net : IsOpenNet o) where
   pub same_links : (s d e : ℕ → Bool) (k : ℕ) → ((w : ℕ) → d w ≡ e w) → Made s d k → Made s e k
   same_links s d e k f x = subst (λ z. Made s z k) (fun_ext f) x
 
-  module _ (n : ℕ) (s : ℕ → Bool) (part : ℕ → ℕ) (agent : IsAgent o n) (zero_root : part n ≡ 0) (most : (m : ℕ) → IsIn m s → part m ≤ classes_of o n) (r : IsGraft (open_graph o) n s part) where
+  module _ (n : ℕ) (s : ℕ → Bool) (part : ℕ → ℕ) (agent : IsAgent o n) (zero_root : part n ≡ 0) (most : (m : ℕ) → IsIn m s → part m ≤ classes_of o n) (r : IsGraft (open_graph o) n (classes_of o n) s part) where
     abbrev pub of_class : ℕ → ℕ → Bool
     of_class c m = s m && nat_eq (part m) c
 

@@ -10,8 +10,8 @@ use Rattle.in_simple.specs.declared.plans.Task.TheVariants.{Derive, Make}
 use Rattle.in_simple.specs.Constructions.{IsIn, AreParts}
 use Rattle.in_simple.specs.Splitting.{Linked, alone, onward, Without}
 use Rattle.in_simple.specs.OpenNets.{OpenNet, IsAgent, IsClass, IsWire, IsOpenNet, class_in, open_graph}
-use Rattle.in_simple.specs.Stuck.{ports_of, ComesAt}
-use Rattle.in_simple.specs.Procedure.{nodes_in, IsRest, IsPart, IsPlan, HasTurn, Derives, with_task}
+use Rattle.in_simple.specs.Stuck.{IsPart, ports_of, ComesAt}
+use Rattle.in_simple.specs.Procedure.{nodes_in, IsRest, IsPlan, HasTurn, Derives, with_task}
 use Rattle.in_simple.specs.Stacks.{Shape, shape, no_wires, Fits, Runs, Puts}
 use Rattle.in_simple.specs.Planned.{net_of, PutsNet, with_empty, Skips}
 use Rattle.in_simple.proofs.Sums.{or_cases, or_left, or_right, not_both, same_test, got}

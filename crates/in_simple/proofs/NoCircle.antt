@@ -1,5 +1,5 @@
 -- A derivable open net has no crossing circle.
-use Rattle.std.proofs.Common.{◌≡◌, ◌≢◌, ◌⊎◌, ◌<◌, ℕ, Bool, true, false, nat_eq, List, [], ◌∷◌, ◌++◌, refl, sym, subst, inl, inr, ◌∙◌, eq-eqb}
+use Rattle.std.proofs.Common.{◌≤◌, ◌≡◌, ◌≢◌, ◌⊎◌, ◌<◌, ℕ, Bool, true, false, nat_eq, List, [], ◌∷◌, ◌++◌, refl, sym, subst, inl, inr, ◌∙◌, eq-eqb}
 use mathlib.Core.HLevel.{Discrete}
 use Rattle.std.specs.List.{AllByRecursion}
 use Rattle.in_net.specs.Graphs.{Graph, Passage, entered, left, Leads, CrossingCircle}
@@ -63,7 +63,7 @@ module _ (g : Graph) (same : Discrete g.Node) (E L : g.Node × ℕ → Type 0) (
           | inr xb ↦ absurd (both q (subst E (only from (entered x) w.0 hf xb).1 w.1) (come_back (left x) to xs w.3 xb w.2 h.1 ht))
         ]
 
-  module _ (n : g.Node) (s : g.Node → Bool) (part : g.Node → ℕ) (r : IsGraft g n s part) (wire_back : (u v : g.Node × ℕ) → g.Wire u v → g.Wire v u) where
+  module _ (n : g.Node) (s : g.Node → Bool) (part : g.Node → ℕ) (many : ℕ) (r : IsGraft g n many s part) (wire_back : (u v : g.Node × ℕ) → g.Wire u v → g.Wire v u) where
     -- from the net of one class a walk comes back to n by that class
     within : (m : g.Node) (k j : ℕ) (i : ℕ) (ps : List (Passage g.Node)) → Walk g E L (m, k) ps (n, i) → IsIn m s → m ≢ n → part m ≡ g.class n j → AreIn s ps → L (n, j) → E (n, i) → ⊥
     within m k j i [] w hm other e h l f = separate n i j f l (sym (r.to i k m hm other (wire_back (m, k) (n, i) w)) ∙ e)
@@ -91,8 +91,8 @@ module _ (g : Graph) (same : Discrete g.Node) (E L : g.Node × ℕ → Type 0) (
   swap_parts s a b parts n = ((λ h. elim ((parts n).0.0 h) [ inl x ↦ inr x | inr y ↦ inl y ], λ h. (parts n).0.1 (elim h [ inl x ↦ inr x | inr y ↦ inl y ])), λ x y. (parts n).1 y x)
 
   -- a walk in s that avoids n stays within the net of one class
-  avoid : (n : g.Node) (s : g.Node → Bool) (part : g.Node → ℕ) → IsGraft g n s part → (p : Passage g.Node) (ps : List (Passage g.Node)) (to : g.Node × ℕ) → Walk g E L (left p) ps to → AreIn s (p ∷ ps) → AllByRecursion (λ q. n ≢ q.node) (p ∷ ps) → AreIn (numbered s part (part p.node)) (p ∷ ps)
-  avoid n s part r p ps to w h other =
+  avoid : (n : g.Node) (s : g.Node → Bool) (part : g.Node → ℕ) (many : ℕ) → IsGraft g n many s part → (p : Passage g.Node) (ps : List (Passage g.Node)) (to : g.Node × ℕ) → Walk g E L (left p) ps to → AreIn s (p ∷ ps) → AllByRecursion (λ q. n ≢ q.node) (p ∷ ps) → AreIn (numbered s part (part p.node)) (p ∷ ps)
+  avoid n s part many r p ps to w h other =
       let S : g.Node → Type 0 = λ m. IsIn m s × (n ≢ m) in
       let X : g.Node → Type 0 = λ m. IsIn m s × (n ≢ m) × (part m ≡ part p.node) in
       let xs : AllByRecursion (λ q. X q.node) ps = stay S X
@@ -103,9 +103,9 @@ module _ (g : Graph) (same : Discrete g.Node) (E L : g.Node × ℕ → Type 0) (
       )
 
   -- no closed walk begins at n
-  not_from : (n : g.Node) (s : g.Node → Bool) (part : g.Node → ℕ) → IsGraft g n s part → ((u v : g.Node × ℕ) → g.Wire u v → g.Wire v u) → (c : Circuit g E L) → AreIn s (c.first ∷ c.rest) → n ≡ c.first.node → ⊥
-  not_from n s part r wire_back c h e =
-      through c.first.node s part (subst (λ v. IsGraft g v s part) e r) wire_back c.first.enter c.first.leave c.rest c.closed h.1 c.leaves c.enters
+  not_from : (n : g.Node) (s : g.Node → Bool) (part : g.Node → ℕ) (many : ℕ) → IsGraft g n many s part → ((u v : g.Node × ℕ) → g.Wire u v → g.Wire v u) → (c : Circuit g E L) → AreIn s (c.first ∷ c.rest) → n ≡ c.first.node → ⊥
+  not_from n s part many r wire_back c h e =
+      through c.first.node s part many (subst (λ v. IsGraft g v many s part) e r) wire_back c.first.enter c.first.leave c.rest c.closed h.1 c.leaves c.enters
 
   -- a closed walk in a, or in b, where at most one wire joins the two
   in_parts : (s a b : g.Node → Bool) → AreParts s a b → ((u v : g.Node × ℕ) → g.Wire u v → g.Wire v u) → (p q : g.Node × ℕ) → g.Wire p q → ((u v : g.Node × ℕ) → g.Wire u v → IsIn u.0 a → IsIn v.0 b → (u ≡ p) × (v ≡ q)) → (c : Circuit g E L) → AreIn s (c.first ∷ c.rest) → AreIn a (c.first ∷ c.rest) ⊎ AreIn b (c.first ∷ c.rest)
@@ -117,7 +117,7 @@ module _ (g : Graph) (same : Discrete g.Node) (E L : g.Node × ℕ → Type 0) (
         | inr x ↦ inr (x, keep s b a (swap_parts s a b parts) q p (wire_back p q joined) only_back only (left c.first) (entered c.first) c.rest c.closed x h.1 x)
       ]
 
-  pub no_circuit : {IsAgent : g.Node → Type 0} → ((u v : g.Node × ℕ) → g.Wire u v → g.Wire v u) → {s : g.Node → Bool} → Built g IsAgent s → (c : Circuit g E L) → AreIn s (c.first ∷ c.rest) → ⊥
+  pub no_circuit : {IsAgent : g.Node → Type 0} → {classes : g.Node → ℕ} → ((u v : g.Node × ℕ) → g.Wire u v → g.Wire v u) → {s : g.Node → Bool} → Built g IsAgent classes s → (c : Circuit g E L) → AreIn s (c.first ∷ c.rest) → ⊥
   no_circuit wire_back (empty s none) c h = not_both (s c.first.node) h.0 (none c.first.node)
   no_circuit wire_back (given n s _ all self) c h = one c.rest c.closed h.1
     where
@@ -139,19 +139,19 @@ module _ (g : Graph) (same : Discrete g.Node) (E L : g.Node × ℕ → Type 0) (
         | inl k ↦ no_circuit wire_back x c k
         | inr k ↦ no_circuit wire_back y c k
       ]
-  no_circuit wire_back (graft n s part _ r nets) c h =
-      go (same n c.first.node) (find same n c.rest) (λ z k. no_circuit wire_back (nets (part c.first.node) z) c k)
+  no_circuit {classes = classes} wire_back (graft n s part _ r nets) c h =
+      go (same n c.first.node) (find same n c.rest) (λ z le k. no_circuit wire_back (nets (part c.first.node) z le) c k)
     where
-      go : Dec (n ≡ c.first.node) → Found n c.rest ⊎ AllByRecursion (λ q. n ≢ q.node) c.rest → (0 < part c.first.node → AreIn (numbered s part (part c.first.node)) (c.first ∷ c.rest) → ⊥) → ⊥
-      go (yes e) f net = not_from n s part r wire_back c h e
+      go : Dec (n ≡ c.first.node) → Found n c.rest ⊎ AllByRecursion (λ q. n ≢ q.node) c.rest → (0 < part c.first.node → part c.first.node ≤ classes n → AreIn (numbered s part (part c.first.node)) (c.first ∷ c.rest) → ⊥) → ⊥
+      go (yes e) f net = not_from n s part (classes n) r wire_back c h e
       go (no e) (inl f) net =
           let P : Passage g.Node → Type 0 = λ q. IsIn q.node s in
           let c' = rotate g E L c.first f.before f.here f.after c.enters c.leaves (subst (λ ps. Walk g E L (left c.first) ps (entered c.first)) f.whole c.closed) in
           let k : AllByRecursion P (f.before ++ f.here ∷ f.after) = subst (AllByRecursion P) f.whole h.1 in
           let after = all_after P f.before (f.here ∷ f.after) k in
-          not_from n s part r wire_back c' (after.0, all_join P f.after (c.first ∷ f.before) after.1 (h.0, all_before P f.before (f.here ∷ f.after) k)) f.same
+          not_from n s part (classes n) r wire_back c' (after.0, all_join P f.after (c.first ∷ f.before) after.1 (h.0, all_before P f.before (f.here ∷ f.after) k)) f.same
       go (no e) (inr f) net =
-          net (r.others c.first.node h.0 (λ i. e (sym i))) (avoid n s part r c.first c.rest (entered c.first) c.closed h (e, f))
+          net (r.others c.first.node h.0 (λ i. e (sym i))) (r.most c.first.node h.0 (λ i. e (sym i))) (avoid n s part (classes n) r c.first c.rest (entered c.first) c.closed h (e, f))
 
 -- the nodes of a walk and the one where it ends are where each wire ends
 leads_in : (g : Graph) (s : g.Node → Bool) → ((u v : g.Node × ℕ) → g.Wire u v → IsIn v.0 s) → (from to : g.Node × ℕ) (ps : List (Passage g.Node)) → Leads g from ps to → AllByRecursion (λ q. IsIn q.node s) ps × IsIn to.0 s
@@ -160,8 +160,8 @@ leads_in g s all from to (p ∷ ps) w =
     let r = leads_in g s all (left p) to ps w.1 in
     ((all from (entered p) w.0, r.0), r.1)
 
-pub no_circle : (g : Graph) (same : Discrete g.Node) (IsAgent : g.Node → Type 0) (s : g.Node → Bool) → ((u v : g.Node × ℕ) → g.Wire u v → g.Wire v u) → ((u v : g.Node × ℕ) → g.Wire u v → IsIn v.0 s) → Built g IsAgent s → CrossingCircle g → ⊥
-no_circle g same IsAgent s back all built r =
+pub no_circle : (g : Graph) (same : Discrete g.Node) (IsAgent : g.Node → Type 0) (classes : g.Node → ℕ) (s : g.Node → Bool) → ((u v : g.Node × ℕ) → g.Wire u v → g.Wire v u) → ((u v : g.Node × ℕ) → g.Wire u v → IsIn v.0 s) → Built g IsAgent classes s → CrossingCircle g → ⊥
+no_circle g same IsAgent classes s back all built r =
     let ps = r.first ∷ r.rest in
     let h = leads_in g s all (left r.first) (entered r.first) r.rest r.closed in
     no_circuit g same (IsEntered ps) (IsLeft ps) (crossings_separate g ps r.crossing r.apart) back built (circuit_of g r) (h.1, h.0)

@@ -11,8 +11,8 @@ use Rattle.in_simple.specs.declared.plans.Task.TheVariants.{Derive, Make}
 use Rattle.in_simple.specs.Constructions.{IsIn}
 use Rattle.in_simple.specs.Splitting.{alone, Without}
 use Rattle.in_simple.specs.OpenNets.{OpenNet, IsWire, IsOpenNet, IsAgentNode, IsClassNode, IsAgent, IsClass}
-use Rattle.in_simple.specs.Stuck.{ports_of, turn, ComesAt}
-use Rattle.in_simple.specs.Procedure.{nodes_in, IsReached, IsRest, IsPart, Lists, AreSized, PortSplits, IsPlan, HasTurn, GoesOn, KeepsPlan, Derives, with_task}
+use Rattle.in_simple.specs.Stuck.{IsPart, ports_of, turn, ComesAt}
+use Rattle.in_simple.specs.Procedure.{nodes_in, IsReached, IsRest, Lists, AreSized, PortSplits, IsPlan, HasTurn, GoesOn, KeepsPlan, Derives, with_task}
 use Rattle.in_simple.proofs.Sums.{or_cases, or_left, or_right, not_both}
 use Rattle.in_simple.proofs.Links.{same_nat, at_most, link_back, link_first}
 use Rattle.in_simple.proofs.Reaching.{in_length}

@@ -4,11 +4,12 @@ use mathlib.Core.Path.{fun_ext}
 use Rattle.std.proofs.lemmas.Bool.Decides.{eqb_tells}
 use Rattle.in_simple.specs.declared.open_nets.Point.{Point}
 use Rattle.in_simple.specs.declared.open_nets.Point.TheVariants.{Port, Free}
+use Rattle.std.proofs.lemmas.Option.{slice_get_within}
 use Rattle.in_simple.specs.Constructions.{IsIn, AreParts, numbered, IsGraft, Built, empty, given, mix, cut, graft}
 use Rattle.in_simple.specs.declared.open_nets.Node.{Node}
 use Rattle.in_simple.specs.declared.open_nets.Node.TheVariants.{AgentNode, ClassNode}
 use Rattle.in_simple.specs.declared.open_nets.OpenNode.{OpenNode}
-use Rattle.in_simple.specs.OpenNets.{OpenNet, IsAgentNode, IsClassNode, IsAgent, IsClass, class_in, IsWire, IsOpenNet, open_graph}
+use Rattle.in_simple.specs.OpenNets.{classes_of, OpenNet, IsAgentNode, IsClassNode, IsAgent, IsClass, class_in, IsWire, IsOpenNet, open_graph}
 use Rattle.in_simple.specs.Derivations.{Step, Empty, Link, Given, Graft, Cut, Mix, Part, named, own_nodes, one_if, is_port_in, is_principal, is_auxiliary, is_among, nodes_of, ends_of, ShareNothing, AreEarlier, IsCut, IsGrafted, Joins}
 use Rattle.in_simple.proofs.Sums.{or_cases, or_left, or_right, true_or_false, not_both, not_true, same_test, got, some_same, port_yes, port_no, port_own, other_port, auxiliary_most, principal_one, one_same, one_other, in_nodes_of, of_nodes, ends_most, ends_two, parts_apart}
 use Rattle.in_simple.proofs.Balance.{wire_turn, IsBalanced, AllBalanced, all_nodes}
@@ -67,7 +68,7 @@ module _ (o : OpenNet) (net : IsOpenNet o) where
   IsClean x = (w l i m j : ℕ) → IsWire o w (Port l i) (Port m j) → IsIn l x.nodes → IsIn m x.nodes → x.ends (Port m j) ≡ 0
 
   abbrev pub IsGood : Part → Type 0
-  IsGood x = IsBalanced o x.ends x.nodes × (IsClean x → Built (open_graph o) (IsAgent o) x.nodes)
+  IsGood x = IsBalanced o x.ends x.nodes × (IsClean x → Built (open_graph o) (IsAgent o) (classes_of o) x.nodes)
 
   abbrev pub AllGood : List Part → Type 0
   AllGood [] = Unit {0}
@@ -110,7 +111,7 @@ module _ (o : OpenNet) (net : IsOpenNet o) where
     not_y : (n : ℕ) → IsIn n z.nodes → y.nodes n ≡ false
     not_y n h = not_true (y.nodes n) (λ k. (parts n).1 k h)
 
-    mix_good : ((w : ℕ) (p q : Point) → IsWire o w p q → x.ends q ≡ ends_of (y ∷ z ∷ []) q) → IsClean x → Built (open_graph o) (IsAgent o) x.nodes
+    mix_good : ((w : ℕ) (p q : Point) → IsWire o w p q → x.ends q ≡ ends_of (y ∷ z ∷ []) q) → IsClean x → Built (open_graph o) (IsAgent o) (classes_of o) x.nodes
     mix_good join clean = mix x.nodes y.nodes z.nodes parts
         (λ u v w ha hb.
         let e = clean w.0 u.0 u.1 v.0 v.1 w.1 ((parts u.0).0.1 (inl ha)) ((parts v.0).0.1 (inr hb)) in
@@ -175,10 +176,10 @@ module _ (o : OpenNet) (net : IsOpenNet o) where
             | inr t ↦ let k = one_other w v t.1 in omega arith
           ]
 
-      cut_good : Built (open_graph o) (IsAgent o) x.nodes
+      cut_good : Built (open_graph o) (IsAgent o) (classes_of o) x.nodes
       cut_good = go (find_port z.nodes c.q)
         where
-          go : ((m : ℕ) × (j : ℕ) × (c.q ≡ Port m j) × IsIn m z.nodes) ⊎ ((m j : ℕ) → c.q ≡ Port m j → IsIn m z.nodes → ⊥) → Built (open_graph o) (IsAgent o) x.nodes
+          go : ((m : ℕ) × (j : ℕ) × (c.q ≡ Port m j) × IsIn m z.nodes) ⊎ ((m j : ℕ) → c.q ≡ Port m j → IsIn m z.nodes → ⊥) → Built (open_graph o) (IsAgent o) (classes_of o) x.nodes
           go (inl f) =
               let l = port_own y.nodes c.p c.own in
               let w : IsWire o v (Port l.0 l.1) (Port f.0 f.1) = subst (λ k. IsWire o v k (Port f.0 f.1)) l.2 (subst (λ k. IsWire o v c.p k) f.2 c.wire) in
@@ -324,10 +325,11 @@ module _ (o : OpenNet) (net : IsOpenNet o) where
     part_at : (m c : ℕ) (y : Part) → slice_get xs c ≡ Some y → IsIn m y.nodes → part m ≡ suc c
     part_at m c y g h = part_in 1 xs c y m s g h ∙ omega arith
 
-    is_graft : IsGraft (open_graph o) n x.nodes part
+    is_graft : IsGraft (open_graph o) n (classes_of o n) x.nodes part
     is_graft = record {
       root = root;
       others = λ m h d. let f = of_nodes xs m (other m h d) in let e = part_at m f.0 f.1 f.2 f.3 in omega arith;
+      most = λ m h d. let f = of_nodes xs m (other m h d) in let e = part_at m f.0 f.1 f.2 f.3 in let lt = slice_get_within xs f.0 f.1 f.2 in let many = r.many in omega arith;
       own = λ i j w. own_class w.0 i j w.1;
       to = λ i j m h d w. let f = of_nodes xs m (other m h d) in part_at m f.0 f.1 f.2 f.3 ∙ sym (to_class w.0 i m j f.0 f.1 w.1 f.2 f.3);
       among = λ l m i j h k d e w.
@@ -358,22 +360,22 @@ module _ (o : OpenNet) (net : IsOpenNet o) where
         let k : f.0 ≡ c = let u = part_at m f.0 f.1 f.2 f.3 in omega arith in
         (f.1, subst (λ z. slice_get xs z ≡ Some f.1) k f.2, f.3)
 
-    nets : (c : ℕ) → 0 < c → Built (open_graph o) (IsAgent o) (numbered x.nodes part c)
+    nets : (c : ℕ) → 0 < c → Built (open_graph o) (IsAgent o) (classes_of o) (numbered x.nodes part c)
     nets zero h = absurd (omega arith)
     nets (suc c) h = go (slice_get xs c) refl
       where
-        go : (y : Option Part) → slice_get xs c ≡ y → Built (open_graph o) (IsAgent o) (numbered x.nodes part (suc c))
+        go : (y : Option Part) → slice_get xs c ≡ y → Built (open_graph o) (IsAgent o) (classes_of o) (numbered x.nodes part (suc c))
         go None e = empty (numbered x.nodes part (suc c)) (λ m. not_true (numbered x.nodes part (suc c) m) (λ k. let f = is_numbered c m k in let g : slice_get xs c ≡ Some f.0 = f.1 in cc))
         go (Some y) e =
             let same : y.nodes ≡ numbered x.nodes part (suc c) = fun_ext (λ m. same_test (y.nodes m) (numbered x.nodes part (suc c) m)
             (λ k. and_both (x.nodes m) (nat_eq (part m) (suc c)) (inner m (in_nodes_of xs c y m e k)) (eq-eqb (part m) (suc c) (part_at m c y e k)))
             (λ k. let f = is_numbered c m k in subst (λ z. IsIn m z.nodes) (some_same (slice_get xs c) f.0 y f.1 e) f.2)) in
-            subst (Built (open_graph o) (IsAgent o)) same ((good_at xs c y good e).1 (clean_part c y e))
+            subst (Built (open_graph o) (IsAgent o) (classes_of o)) same ((good_at xs c y good e).1 (clean_part c y e))
 
-    graft_good : Built (open_graph o) (IsAgent o) x.nodes
-    graft_good = graft n x.nodes part r.agent is_graft nets
+    graft_good : Built (open_graph o) (IsAgent o) (classes_of o) x.nodes
+    graft_good = graft n x.nodes part r.agent is_graft (λ c some le. nets c some)
 
-  given_good : (n : ℕ) (x : Part) → IsClass o n → ((m : ℕ) → x.nodes m ≡ ((nat_eq m n || false) || false)) → ((w : ℕ) (p q : Point) → IsWire o w p q → x.ends q ≡ is_port_in (λ m. nat_eq m n) p) → IsClean x → Built (open_graph o) (IsAgent o) x.nodes
+  given_good : (n : ℕ) (x : Part) → IsClass o n → ((m : ℕ) → x.nodes m ≡ ((nat_eq m n || false) || false)) → ((w : ℕ) (p q : Point) → IsWire o w p q → x.ends q ≡ is_port_in (λ m. nat_eq m n) p) → IsClean x → Built (open_graph o) (IsAgent o) (classes_of o) x.nodes
   given_good n x c nodes join clean = given n x.nodes (class_no_agent (slice_get o.nodes n) c) (λ m. (is_n m, λ e. here m (eq-eqb m n e)))
       (λ i j w.
       let e = clean w.0 n i n j w.1 (here n (eq-eqb n n refl)) (here n (eq-eqb n n refl)) in
@@ -391,7 +393,7 @@ module _ (o : OpenNet) (net : IsOpenNet o) where
       ]
 
   -- a step's part is good where those that it names are
-  pub step_good : (ps : List Part) (k : ℕ) (step : Step) (xs : List Part) (x : Part) → AreEarlier ps k (named step) xs → ShareNothing xs → AllGood xs → Joins o step xs x → ((n : ℕ) → is_among n (own_nodes step) ≡ true → nodes_of xs n ≡ false) → ((n : ℕ) → x.nodes n ≡ all_nodes o step xs n) → IsClean x → Built (open_graph o) (IsAgent o) x.nodes
+  pub step_good : (ps : List Part) (k : ℕ) (step : Step) (xs : List Part) (x : Part) → AreEarlier ps k (named step) xs → ShareNothing xs → AllGood xs → Joins o step xs x → ((n : ℕ) → is_among n (own_nodes step) ≡ true → nodes_of xs n ≡ false) → ((n : ℕ) → x.nodes n ≡ all_nodes o step xs n) → IsClean x → Built (open_graph o) (IsAgent o) (classes_of o) x.nodes
   step_good ps k Empty [] x e s b j fresh nodes clean = empty x.nodes nodes
   step_good ps k Empty (y ∷ ys) x e s b j fresh nodes clean = absurd e
   step_good ps k (Link l) [] x e s b j fresh nodes clean = empty x.nodes nodes

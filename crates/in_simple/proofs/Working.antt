@@ -7,8 +7,8 @@ use Rattle.in_simple.specs.declared.plans.Task.TheVariants.{Derive, Make}
 use Rattle.in_simple.specs.Constructions.{IsIn}
 use Rattle.in_simple.specs.Splitting.{alone, Without, IsFirstSplitting, first}
 use Rattle.in_simple.specs.OpenNets.{OpenNet, IsOpenNet, IsDerivable, open_graph}
-use Rattle.in_simple.specs.Stuck.{Among, ComesAt, FirstStuck, IsFirstStuck, Rises, whole, within}
-use Rattle.in_simple.specs.Procedure.{nodes_in, AllSplit, IsPart, HasNone, IsFirst, NoneSplits, Lists, AreSized, AreMakes, StuckIn, pending_in, AreApart, IsWork, StartsWork, Passes}
+use Rattle.in_simple.specs.Stuck.{IsPart, Among, ComesAt, FirstStuck, IsFirstStuck, Rises, whole, within}
+use Rattle.in_simple.specs.Procedure.{nodes_in, AllSplit, HasNone, IsFirst, NoneSplits, Lists, AreSized, AreMakes, StuckIn, pending_in, AreApart, IsWork, StartsWork, Passes}
 use Rattle.in_simple.proofs.Sums.{or_cases, or_left, or_right, or_false, not_both, not_true}
 use Rattle.in_simple.proofs.Links.{same_nat, at_most, link_first, link_back}
 use Rattle.in_simple.proofs.Reaching.{in_length}

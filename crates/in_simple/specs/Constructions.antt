@@ -1,6 +1,6 @@
 -- Which sets of nodes the constructions build. Lafont 1990: a semi-simple net is built up by EMPTY, LINK, MIX, CUT and GRAFT. The
 -- leaf for a class node of an open right member is this project's own.
-use Rattle.std.specs.Prelude.{◌≡◌, ◌≢◌, ◌⊎◌, ◌↔◌, ℕ, zero, suc, ◌+◌, ◌<◌, cond, Bool, true, false, ◌&&◌, nat_eq}
+use Rattle.std.specs.Prelude.{◌≡◌, ◌≢◌, ◌⊎◌, ◌↔◌, ℕ, zero, suc, ◌+◌, ◌<◌, ◌≤◌, cond, Bool, true, false, ◌&&◌, nat_eq}
 use Rattle.in_net.specs.Graphs.{Graph}
 
 -- a set of nodes, by a test
@@ -27,22 +27,25 @@ numbered s part c n = s n && nat_eq (part n) c
 abbrev pub AreUnjoined : (g : Graph) → (a b : Nodes g) → Type 0
 AreUnjoined g a b = (u v : g.Node × ℕ) → g.Wire u v → IsIn u.0 a → IsIn v.0 b → ⊥
 
--- the agent n joins the nets of its classes: every other node of s is numbered by a class of n, a wire between two of
--- them is within one class, and one at n leads to the net of its port's class
-pub record IsGraft (g : Graph) (n : g.Node) (s : Nodes g) (part : g.Node → ℕ) : Type 0 where
+-- the agent n joins the nets of its classes, of which there are so many: every other node of s is numbered by one of them, a wire
+-- between two of these is within one class, and one at n leads to the net of its port's class
+pub record IsGraft (g : Graph) (n : g.Node) (classes : ℕ) (s : Nodes g) (part : g.Node → ℕ) : Type 0 where
   pub root : IsIn n s
   pub others : (m : g.Node) → IsIn m s → m ≢ n → 0 < part m
+  pub most : (m : g.Node) → IsIn m s → m ≢ n → part m ≤ classes
   pub own : (i j : ℕ) → g.Wire (n, i) (n, j) → g.class n i ≡ g.class n j
   pub to : (i j : ℕ) (m : g.Node) → IsIn m s → m ≢ n → g.Wire (n, i) (m, j) → part m ≡ g.class n i
   pub among : (l m : g.Node) (i j : ℕ) → IsIn l s → IsIn m s → l ≢ n → m ≢ n → g.Wire (l, i) (m, j) → part l ≡ part m
 
--- the sub-net of these nodes, with all wires at them, is built by the constructions. A wire that leads out of it is an open end
-pub data Built (g : Graph) (IsAgent : g.Node → Type 0) : (g.Node → Bool) → Type 0 where
-  -- EMPTY, and LINK: no node
-  empty : (s : g.Node → Bool) → ((n : g.Node) → s n ≡ false) → Built g IsAgent s
+-- the sub-net of these nodes, with all wires at them, is built by the constructions, where an agent has so many classes of auxiliary
+-- ports. A wire that leads out of it is an open end
+pub data Built (g : Graph) (IsAgent : g.Node → Type 0) (classes : g.Node → ℕ) : (g.Node → Bool) → Type 0 where
+  -- EMPTY; and LINK, a wire between two open ends, which has no node. Which wires are LINKs, a derivation says
+  empty : (s : g.Node → Bool) → ((n : g.Node) → s n ≡ false) → Built g IsAgent classes s
   -- a class node, no two of whose ports are joined
-  given : (n : g.Node) (s : g.Node → Bool) → (IsAgent n → ⊥) → ((m : g.Node) → IsIn m s ↔ (m ≡ n)) → ((i j : ℕ) → g.Wire (n, i) (n, j) → ⊥) → Built g IsAgent s
-  mix : (s a b : g.Node → Bool) → AreParts s a b → AreUnjoined g a b → Built g IsAgent a → Built g IsAgent b → Built g IsAgent s
+  given : (n : g.Node) (s : g.Node → Bool) → (IsAgent n → ⊥) → ((m : g.Node) → IsIn m s ↔ (m ≡ n)) → ((i j : ℕ) → g.Wire (n, i) (n, j) → ⊥) → Built g IsAgent classes s
+  mix : (s a b : g.Node → Bool) → AreParts s a b → AreUnjoined g a b → Built g IsAgent classes a → Built g IsAgent classes b → Built g IsAgent classes s
   -- p and q are the one wire between a and b
-  cut : (s a b : g.Node → Bool) (p q : g.Node × ℕ) → AreParts s a b → g.Wire p q → IsIn p.0 a → IsIn q.0 b → ((u v : g.Node × ℕ) → g.Wire u v → IsIn u.0 a → IsIn v.0 b → (u ≡ p) × (v ≡ q)) → Built g IsAgent a → Built g IsAgent b → Built g IsAgent s
-  graft : (n : g.Node) (s : g.Node → Bool) (part : g.Node → ℕ) → IsAgent n → IsGraft g n s part → ((c : ℕ) → 0 < c → Built g IsAgent (numbered s part c)) → Built g IsAgent s
+  cut : (s a b : g.Node → Bool) (p q : g.Node × ℕ) → AreParts s a b → g.Wire p q → IsIn p.0 a → IsIn q.0 b → ((u v : g.Node × ℕ) → g.Wire u v → IsIn u.0 a → IsIn v.0 b → (u ≡ p) × (v ≡ q)) → Built g IsAgent classes a → Built g IsAgent classes b → Built g IsAgent classes s
+  -- one net for each class of the agent
+  graft : (n : g.Node) (s : g.Node → Bool) (part : g.Node → ℕ) → IsAgent n → IsGraft g n (classes n) s part → ((c : ℕ) → 0 < c → c ≤ classes n → Built g IsAgent classes (numbered s part c)) → Built g IsAgent classes s

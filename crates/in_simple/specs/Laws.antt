@@ -1,19 +1,23 @@
 -- The laws of open nets, over the definitions alone.
-use Rattle.std.specs.Prelude.{◌≡◌, ◌⊎◌, ◌↔◌, ℕ, Bool, List, Ok}
+use Rattle.std.specs.Prelude.{◌≡◌, ◌⊎◌, ◌↔◌, ℕ, Bool, List, Result, Ok, Err}
+use Rattle.in_syntax.specs.declared.places.Place.{Place}
 use Rattle.in_syntax.specs.declared.tree.Source.{Source}
 use Rattle.in_syntax.specs.declared.tree.SourceNet.{SourceNet}
 use Rattle.in_syntax.specs.declared.tree.SourceRule.{SourceRule}
 use Rattle.in_symbols.specs.Tables.{Tables, IsTabled}
 use Rattle.in_net.specs.Built.{IsOver}
 use Rattle.in_net.specs.Parts.{Parts, IsWhole}
-use Rattle.in_net.specs.Rules.{RuleParts, BuildsRuleOf}
+use Rattle.in_net.specs.Rules.{RuleParts, BuildsRuleOf, IsRuleOver}
 use Rattle.in_net.specs.TextNet.{IsNetOf}
 use Rattle.in_net.specs.Graphs.{CrossingCircle}
 use Rattle.in_simple.specs.OpenNets.{OpenNet, IsOpenNet, IsDerivable, NetSplits, open_graph}
 use Rattle.in_simple.specs.Derivations.{Step, IsDerivation}
 use Rattle.in_simple.specs.Opening.{AreAllThere, AreNumbered, Opens}
-use Rattle.in_simple.specs.OpeningRules.{IsRuleWhole}
-use Rattle.in_simple.specs.Stuck.{IsFirstStuck}
+use Rattle.in_simple.specs.OpeningRules.{IsRuleWhole, OpensRule}
+use Rattle.in_simple.specs.declared.derivations.Derivation.{Derivation}
+use Rattle.in_simple.specs.declared.derivations.Undone.{Undone}
+use Rattle.in_simple.specs.declared.derivations.Undone.TheVariants.{Stuck, Memory}
+use Rattle.in_simple.specs.Stuck.{IsFirstStuck, IsUndone, IsStuckAt}
 
 -- an open net splits exactly where it is derivable
 abbrev pub SplitsWhereDerivable : Type 0
@@ -52,3 +56,44 @@ OpenNetsAreOpen = (t : Tables) (n : Parts) (o : OpenNet) → AreNumbered t → I
 -- the tables of a program number classes as its open nets ask
 abbrev pub TablesAreNumbered : Type 0
 TablesAreNumbered = (source : Source) (t : Tables) → IsTabled source t → AreNumbered t
+
+-- the open net of a whole rule over tables is one
+abbrev pub OpenRulesAreOpen : Type 0
+OpenRulesAreOpen = (t : Tables) (p : RuleParts) (o : OpenNet) → AreNumbered t → IsRuleWhole t p → IsWhole p.member → IsRuleOver t p → OpensRule t p o → IsOpenNet o
+
+-- and where it is derivable, it has no crossing circle
+abbrev pub DerivableRulesHaveNoCircle : Type 0
+DerivableRulesHaveNoCircle = (t : Tables) (p : RuleParts) (o : OpenNet) → AreNumbered t → IsRuleWhole t p → IsWhole p.member → IsRuleOver t p → OpensRule t p o → IsDerivable o → CrossingCircle (open_graph o) → ⊥
+
+-- ---- one answer
+
+-- a net has one open net
+abbrev pub NetsAreOpenedOnce : Type 0
+NetsAreOpenedOnce = (t : Tables) (n : Parts) (o u : OpenNet) → Opens t n o → Opens t n u → o ≡ u
+
+-- a whole rule has one open net
+abbrev pub RulesAreOpenedOnce : Type 0
+RulesAreOpenedOnce = (t : Tables) (p : RuleParts) (o u : OpenNet) → IsWhole p.member → IsRuleOver t p → OpensRule t p o → OpensRule t p u → o ≡ u
+
+-- what deriving may answer
+abbrev pub Derives : OpenNet → Result Derivation Undone → Type 0
+Derives o (Ok d) = IsDerivation o d.steps
+Derives o (Err u) = IsUndone o u
+
+-- both are Ok, or both are stuck at the same nodes; nothing is said where memory was wanted, nor of the steps
+abbrev pub AgreeOnDeriving : Result Derivation Undone → Result Derivation Undone → Type 0
+AgreeOnDeriving (Ok d) (Ok e) = Unit {0}
+AgreeOnDeriving (Ok d) (Err (Stuck s)) = ⊥
+AgreeOnDeriving (Ok d) (Err (Memory e)) = Unit {0}
+AgreeOnDeriving (Err (Stuck s)) (Ok d) = ⊥
+AgreeOnDeriving (Err (Stuck s)) (Err (Stuck r)) = s.nodes ≡ r.nodes
+AgreeOnDeriving (Err (Stuck s)) (Err (Memory e)) = Unit {0}
+AgreeOnDeriving (Err (Memory e)) b = Unit {0}
+
+-- all that deriving may answer for an open net agrees
+abbrev pub NetsAreDerivedOnce : Type 0
+NetsAreDerivedOnce = (o : OpenNet) (a b : Result Derivation Undone) → IsOpenNet o → Derives o a → Derives o b → AgreeOnDeriving a b
+
+-- a stuck open net is refused at one place
+abbrev pub OneStuckPlace : Type 0
+OneStuckPlace = (o : OpenNet) (p q : Place) → IsOpenNet o → IsStuckAt o p → IsStuckAt o q → p ≡ q

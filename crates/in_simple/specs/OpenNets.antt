@@ -80,7 +80,7 @@ open_graph o = record { Node = ℕ; class = class_in o; Wire = λ u v. (w : ℕ)
 
 -- all its nodes together are built by the constructions, each once
 abbrev pub IsDerivable : OpenNet → Type 0
-IsDerivable o = (s : ℕ → Bool) × ((n : ℕ) → IsIn n s ↔ IsNode o n) × Built (open_graph o) (IsAgent o) s
+IsDerivable o = (s : ℕ → Bool) × ((n : ℕ) → IsIn n s ↔ IsNode o n) × Built (open_graph o) (IsAgent o) (classes_of o) s
 
 -- some node splits it, and with the first one taken out each component splits
 abbrev pub NetSplits : OpenNet → Type 0

@@ -23,12 +23,13 @@ abbrev pub places_in : Tables → ℕ → ℕ → ℕ → ℕ
 places_in t s c zero = 0
 places_in t s c (suc n) = places_in t s c n + cond (nat_eq (class_at t s (suc n)) c) 1 0
 
--- the node of a class of a head: as many ports as the symbol has places in the class, and each of them a class by itself
+-- the node of a class of a head: as many ports as the symbol has places in the class, and each of them a class by itself, of its number
 pub record IsClassNodeOf (t : Tables) (s : SymbolNo) (place : Place) (c : ℕ) (m : OpenNode) : Type 0 where
   pub node : m.node ≡ ClassNode s c
   pub place_is : m.place ≡ place
   pub ports : length m.class_of ≡ places_in t s.0 c (arity_of t s.0)
   pub classes : m.classes ≡ places_in t s.0 c (arity_of t s.0)
+  pub numbers : Each (λ i k. k ≡ i) m.class_of
 
 -- how many agents stand before the second head
 abbrev pub agents_before : RuleParts → ℕ

@@ -8,7 +8,7 @@ use Rattle.in_simple.specs.declared.plans.Task.TheVariants.{Derive, Make}
 use Rattle.in_simple.specs.Constructions.{IsIn, count}
 use Rattle.in_simple.specs.Splitting.{Linked, Without, SplitsAt, IsFirstSplitting, IsComponent, Splits}
 use Rattle.in_simple.specs.OpenNets.{OpenNet, IsWire, class_in, open_graph}
-use Rattle.in_simple.specs.Stuck.{Among, ComesAt, FirstStuck}
+use Rattle.in_simple.specs.Stuck.{IsPart, Among, ComesAt, FirstStuck}
 
 abbrev pub nodes_in : List Bool → ℕ → Bool
 nodes_in bits n = slice_index_or bits n false
@@ -109,9 +109,6 @@ NoneSplits o part b = (m : ℕ) → m < b → SplitsIt o part m → ⊥
 
 abbrev pub AllSplit : OpenNet → (ℕ → Bool) → Type 0
 AllSplit o s = Splits (open_graph o) (λ m n. m < n) s
-
-abbrev pub IsPart : OpenNet → ℕ → (ℕ → Bool) → (ℕ → Bool) → Type 0
-IsPart o n s c = IsComponent (open_graph o) (Without n s) c
 
 -- no component has a turn from low on and below k
 abbrev pub HasNone : OpenNet → ℕ → (ℕ → Bool) → ℕ → ℕ → Type 0

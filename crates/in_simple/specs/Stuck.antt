@@ -27,11 +27,23 @@ abbrev pub ComesAt : OpenNet → ℕ → (ℕ → Bool) → ℕ → Type 0
 ComesAt o n c k = ((i : ℕ) × Touches o n c i × (turn o n i ≡ k) × ((j : ℕ) → Touches o n c j → k ≤ turn o n j))
     ⊎ (((i : ℕ) → Touches o n c i → ⊥) × ((m : ℕ) × IsIn m c × (suc (ports_of o n) + m ≡ k) × ((l : ℕ) → IsIn l c → m ≤ l)))
 
+-- n is the first node of s, by number, that splits it
+abbrev pub IsFirstToSplit : OpenNet → ℕ → (ℕ → Bool) → Type 0
+IsFirstToSplit o n s = IsFirstSplitting (open_graph o) (λ m n. m < n) n s
+
+-- c is a component of s with n taken out
+abbrev pub IsPart : OpenNet → ℕ → (ℕ → Bool) → (ℕ → Bool) → Type 0
+IsPart o n s c = IsComponent (open_graph o) (Without n s) c
+
+-- with n taken out of s, the components whose turns come before k split
+abbrev pub EarlierSplit : OpenNet → ℕ → (ℕ → Bool) → ℕ → Type 0
+EarlierSplit o n s k = (d : ℕ → Bool) (l : ℕ) → IsPart o n s d → ComesAt o n d l → l < k → Splits (open_graph o) (λ m n. m < n) d
+
 -- t is the first stuck sub-net of s: s, where it has nodes and none splits it; else that of the first component, with the first
 -- splitting node taken out, that doesn't split
 pub data FirstStuck (o : OpenNet) : (ℕ → Bool) → (ℕ → Bool) → Type 0 where
   whole : (s : ℕ → Bool) → IsStuck (open_graph o) s → FirstStuck o s s
-  within : (s : ℕ → Bool) (n : ℕ) (c : ℕ → Bool) (k : ℕ) (t : ℕ → Bool) → IsFirstSplitting (open_graph o) (λ m n. m < n) n s → IsComponent (open_graph o) (Without n s) c → ComesAt o n c k → ((d : ℕ → Bool) (l : ℕ) → IsComponent (open_graph o) (Without n s) d → ComesAt o n d l → l < k → Splits (open_graph o) (λ m n. m < n) d) → FirstStuck o c t → FirstStuck o s t
+  within : (s : ℕ → Bool) (n : ℕ) (c : ℕ → Bool) (k : ℕ) (t : ℕ → Bool) → IsFirstToSplit o n s → IsPart o n s c → ComesAt o n c k → EarlierSplit o n s k → FirstStuck o c t → FirstStuck o s t
 
 -- .. of the whole open net
 abbrev pub IsFirstStuck : OpenNet → (ℕ → Bool) → Type 0

@@ -1,6 +1,6 @@
 //! Laws over the definitions of open nets, for whoever reasons above them. No function here does anything.
 
-ghost use Rattle.in_simple.specs.Laws.{SplitsWhereDerivable, DerivableHasNoCircle, DerivationWhereDerivable, SplitsOrFirstStuck, TextNetsAreAllThere, TextRulesAreWhole, OpenNetsAreOpen, TablesAreNumbered};
+ghost use Rattle.in_simple.specs.Laws.{DerivableHasNoCircle, DerivableRulesHaveNoCircle, DerivationWhereDerivable, NetsAreDerivedOnce, NetsAreOpenedOnce, OneStuckPlace, OpenNetsAreOpen, OpenRulesAreOpen, RulesAreOpenedOnce, SplitsOrFirstStuck, SplitsWhereDerivable, TablesAreNumbered, TextNetsAreAllThere, TextRulesAreWhole};
 
 /// An open net splits exactly where it is derivable. Derivable is Lafont 1990's semi-simple; to decide it by splitting is this
 /// project's own choice.
@@ -43,4 +43,35 @@ pub fn open_nets_are_open()
 /// The tables of a program number the classes of a symbol from 1, and the principal port is the one place of class 0.
 pub fn tables_are_numbered()
     ensures { TablesAreNumbered }
+{}
+
+/// The open net of a whole rule is one, where the tables number classes from 1 and the principal port is the one place of class 0:
+/// each point is in exactly one wire.
+pub fn open_rules_are_open()
+    ensures { OpenRulesAreOpen }
+{}
+
+/// A rule whose open net is derivable has no crossing circle in it.
+pub fn derivable_rules_have_no_circle()
+    ensures { DerivableRulesHaveNoCircle }
+{}
+
+/// A net has one open net.
+pub fn nets_are_opened_once()
+    ensures { NetsAreOpenedOnce }
+{}
+
+/// A whole rule has one open net.
+pub fn rules_are_opened_once()
+    ensures { RulesAreOpenedOnce }
+{}
+
+/// What deriving an open net answers is one, but for the order of the steps: there are steps, or one sub-net is stuck, never both.
+pub fn nets_are_derived_once()
+    ensures { NetsAreDerivedOnce }
+{}
+
+/// A stuck open net is refused at one place.
+pub fn one_stuck_place()
+    ensures { OneStuckPlace }
 {}

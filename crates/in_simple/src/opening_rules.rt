@@ -42,7 +42,8 @@ fn places_in(symbols: &Symbols, symbol: SymbolNo, class: u8, last: u8) -> u8
 
 /// A port for each of so many places.
 fn ports(alloc: Global, count: u8) -> Result<Items<u8>, AllocError>
-    ensures { IfOk result (λ ports. length ports ≡ count) }
+    ensures size { IfOk result (λ ports. length ports ≡ count) }
+    ensures numbers { IfOk result (Each (λ i k. k ≡ i)) }
 {
     let mut ports = Items::new(alloc);
     for port in 0..count {

@@ -1,5 +1,5 @@
 -- The agents of a typed net's active pair.
-use Rattle.std.proofs.Common.{◌≡◌, ◌⊎◌, inl, inr, ℕ, Bool, true, false, not, Option, Some, None, option_map, option_and_then, slice_get, refl, sym, ◌∙◌, ap, subst}
+use Rattle.std.proofs.Common.{◌≡◌, inl, inr, ℕ, Bool, true, false, not, Option, Some, None, option_map, option_and_then, slice_get, refl, sym, ◌∙◌, ap}
 use Rattle.in_symbols.specs.declared.symbols.PortType.{PortType}
 use Rattle.in_symbols.specs.declared.symbols.SymbolNo.{SymbolNo}
 use Rattle.in_symbols.specs.Tables.{Tables, port_at}
@@ -7,7 +7,7 @@ use Rattle.in_net.specs.declared.nets.AgentNo.{AgentNo}
 use Rattle.in_net.specs.declared.nets.Cell.{Cell}
 use Rattle.in_net.specs.declared.nets.Point.{Point}
 use Rattle.in_net.specs.declared.nets.Point.TheVariants.{Port}
-use Rattle.in_net.specs.Parts.{Parts, IsWhole, IsWireBetween, cell_in, partner_in, symbol_in}
+use Rattle.in_net.specs.Parts.{Parts, IsWhole, IsWireBetween, cell_in, symbol_in}
 use Rattle.in_typing.specs.Typed.{opposite, type_at, IsTyped}
 use Rattle.in_typing.specs.Laws.{IsActivePair, AreOpposite}
 

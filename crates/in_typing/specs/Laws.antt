@@ -1,11 +1,13 @@
 -- Laws over the definitions of types.
-use Rattle.std.specs.Prelude.{◌≡◌, not, Some}
+use Rattle.std.specs.Prelude.{◌≡◌, not, Some, Result}
+use Rattle.in_syntax.specs.declared.faults.Refusal.{Refusal}
 use Rattle.in_symbols.specs.declared.symbols.SymbolNo.{SymbolNo}
 use Rattle.in_symbols.specs.Tables.{Tables, port_at, is_constructor}
 use Rattle.in_net.specs.declared.nets.AgentNo.{AgentNo}
 use Rattle.in_net.specs.declared.nets.Point.TheVariants.{Port}
 use Rattle.in_net.specs.Parts.{Parts, IsWhole, partner_in, symbol_in}
-use Rattle.in_typing.specs.Typed.{IsTyped}
+use Rattle.in_net.specs.Rules.{RuleParts}
+use Rattle.in_typing.specs.Typed.{IsTyped, Types, TypesRule}
 
 -- two agents whose principal ports are one wire: Lafont 1990 calls them an active pair
 abbrev pub IsActivePair : Parts → AgentNo → AgentNo → Type 0
@@ -22,3 +24,10 @@ pub record AreOpposite (t : Tables) (n : Parts) (x y : AgentNo) : Type 0 where
 
 abbrev pub TypedPairsMatch : Type 0
 TypedPairsMatch = (t : Tables) (n : Parts) (x y : AgentNo) → IsWhole n → IsTyped t n → IsActivePair n x y → AreOpposite t n x y
+
+-- what typing a net may answer is one, and what typing a rule may
+abbrev pub NetsAreTypedOnce : Type 0
+NetsAreTypedOnce = (t : Tables) (n : Parts) (a b : Result (Unit {0}) Refusal) → Types t n a → Types t n b → a ≡ b
+
+abbrev pub RulesAreTypedOnce : Type 0
+RulesAreTypedOnce = (t : Tables) (r : RuleParts) (a b : Result (Unit {0}) Refusal) → TypesRule t r a → TypesRule t r b → a ≡ b

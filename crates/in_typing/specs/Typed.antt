@@ -1,5 +1,5 @@
 -- When a net is typed. Lafont 1990: a wire joins an output to an input of one type.
-use Rattle.std.specs.Prelude.{◌≡◌, ℕ, ◌<◌, Bool, true, false, not, List, length, Option, Some, None, Result, Ok, Err, option_map}
+use Rattle.std.specs.Prelude.{◌≡◌, ℕ, ◌<◌, true, not, length, Option, Some, None, Result, Ok, Err, option_map}
 use Rattle.in_syntax.specs.declared.faults.Refusal.{Refusal}
 use Rattle.in_syntax.specs.declared.faults.Code.TheVariants.{E10, E11}
 use Rattle.in_symbols.specs.declared.symbols.PortType.{PortType}

@@ -1,8 +1,18 @@
 //! Laws over the definitions of types, for whoever reasons above them. No function here does anything.
 
-ghost use Rattle.in_typing.specs.Laws.{TypedPairsMatch};
+ghost use Rattle.in_typing.specs.Laws.{NetsAreTypedOnce, RulesAreTypedOnce, TypedPairsMatch};
 
 /// In a typed net, the two agents of an active pair are a constructor and a destructor of one type.
 pub fn typed_pairs_match()
     ensures { TypedPairsMatch }
+{}
+
+/// What typing a net answers is one: it is typed, or it has one first wire that doesn't fit.
+pub fn nets_are_typed_once()
+    ensures { NetsAreTypedOnce }
+{}
+
+/// What typing a rule answers is one.
+pub fn rules_are_typed_once()
+    ensures { RulesAreTypedOnce }
 {}
