@@ -36,16 +36,19 @@ Certifies o code (Err (Memory e)) = Unit {0}
 
 -- ---- a rule, and the net
 
--- its open net is built by the steps; or it is refused
-abbrev pub CertifiesRule : Tables → RuleParts → Result Certificate Fault → Type 0
-CertifiesRule t p (Ok c) = OpensRule t p c.shape × IsCertificate c
-CertifiesRule t p (Err (Refused r)) = (o : OpenNet) × OpensRule t p o × IsRefusedAt o E12 r
-CertifiesRule t p (Err (Memory e)) = Unit {0}
+-- an open net of which this holds is built by the steps; or one is refused
+abbrev pub CertifiesSome : (OpenNet → Type 0) → Code → Result Certificate Fault → Type 0
+CertifiesSome P code (Ok c) = P c.shape × IsCertificate c
+CertifiesSome P code (Err (Refused r)) = (o : OpenNet) × P o × IsRefusedAt o code r
+CertifiesSome P code (Err (Memory e)) = Unit {0}
 
+-- the rule's open net
+abbrev pub CertifiesRule : Tables → RuleParts → Result Certificate Fault → Type 0
+CertifiesRule t p = CertifiesSome (OpensRule t p) E12
+
+-- the net's
 abbrev pub CertifiesNet : Tables → Parts → Result Certificate Fault → Type 0
-CertifiesNet t n (Ok c) = Opens t n c.shape × IsCertificate c
-CertifiesNet t n (Err (Refused r)) = (o : OpenNet) × Opens t n o × IsRefusedAt o E13 r
-CertifiesNet t n (Err (Memory e)) = Unit {0}
+CertifiesNet t n = CertifiesSome (Opens t n) E13
 
 -- ---- rule by rule
 

@@ -5,6 +5,7 @@
 mod certifying;
 mod checked;
 mod checking;
+pub mod laws;
 
 pub use checked::{Certificate, Checked, Counts, Item};
 pub use checking::check;
