@@ -2,6 +2,7 @@
 #![tactic(auto)]
 
 mod acting;
+pub mod laws;
 mod lines;
 mod reading;
 mod steps;
