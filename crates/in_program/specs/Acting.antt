@@ -8,7 +8,7 @@ use Rattle.in_words.specs.declared.action.Usage.TheVariants.{Wrong, Help, Memory
 use Rattle.in_program.specs.declared.acting.Status.{Status}
 use Rattle.in_check.specs.Checking.{IsAccepted, IsRefused}
 use Rattle.in_check.specs.Programs.{Program, counts_of}
-use Rattle.in_program.specs.Devices.{Device, Moves, Breaks, BreaksWithin, IsEnough}
+use Rattle.in_program.specs.Devices.{Device, Reader, Gives, Fails, Moves, BreaksWithin, IsEnough}
 use Rattle.in_program.specs.Lines.{accepted_line, refused_line, memory_line}
 use Rattle.in_program.specs.Steps.{derivation_lines}
 
@@ -53,15 +53,15 @@ pub record IsReply (a : Action) (text lines : List ℕ) (s : Status) : Type 0 wh
 abbrev pub Says : Action → Bool → List ℕ → List ℕ → Status → Type 0
 Says a ended text lines s = (IsEnough ended text × IsReply a text lines s) ⊎ ((lines ≡ memory_line) × (s ≡ status 5))
 
--- what a call for this action did, from a reader r and a writer w to what they are after it, and whether the reader has ended then
-pub data Acts (a : Action) (r r' : Device) (ended : Bool) (w w' : Device) (s : Status) : Type 0 where
+-- what a call for this action did, from a reader r and a writer w to what they are after it
+pub data Acts (a : Action) (r r' : Reader) (w w' : Device) (s : Status) : Type 0 where
   -- bytes were read, and the lines on them written
-  told : (text lines : List ℕ) → Moves r r' text → Says a ended text lines s → Moves w w' lines → Acts a r r' ended w w' s
+  told : (text lines : List ℕ) → Gives r r' text → Says a r'.ended text lines s → Moves w w' lines → Acts a r r' w w' s
   -- a read failed, and nothing was written
-  unread : (text : List ℕ) → Breaks r r' text → w' ≡ w → s ≡ fault_status → Acts a r r' ended w w' s
+  unread : (text : List ℕ) → Fails r r' text → w' ≡ w → s ≡ fault_status → Acts a r r' w w' s
   -- bytes were read, and a write failed within the lines on them
-  unwritten : (text lines : List ℕ) (t : Status) → Moves r r' text → Says a ended text lines t → BreaksWithin w w' lines → s ≡ fault_status →
-      Acts a r r' ended w w' s
+  unwritten : (text lines : List ℕ) (t : Status) → Gives r r' text → Says a r'.ended text lines t → BreaksWithin w w' lines → s ≡ fault_status →
+      Acts a r r' w w' s
 
 -- a line is written, and the status is this one; or a write failed within the line
 abbrev pub Tells : Device → Device → List ℕ → Status → Status → Type 0

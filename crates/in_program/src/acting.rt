@@ -1,6 +1,6 @@
-ghost use Rattle.std.specs.Prelude.{◌≡◌, ◌-◌, ◌^◌, ◌<◌, IfOk};
+ghost use Rattle.std.specs.Prelude.{◌≡◌, ◌+◌, ◌-◌, ◌^◌, ◌<◌, IfOk};
 ghost use Rattle.in_program.specs.Acting.{Acts, IsReply, accepted_lines, Tells, TellsUsage};
-ghost use Rattle.in_program.specs.Devices.{device};
+ghost use Rattle.in_program.specs.Devices.{device, most_reads, reader_of};
 
 use crate::lines::{accepted_line, refused_line};
 use crate::reading::{Input, read_text};
@@ -75,7 +75,8 @@ fn tell<W: TextOut>(writer: &mut W, text: &[u8], status: Status) -> Status
 
 /// Does what the words ask for: reads a program's text, writes the lines on it, and answers the status. For `check` of an accepted
 /// program they are one line that counts what it has, for `derive` the steps that build its rules and its net; of a refused one they
-/// are the line of the refusal. Where memory is wanted they are the line `memory` alone.
+/// are the line of the refusal. Where memory is wanted they are the line `memory` alone. It makes at most 1,048,577 reads, each of
+/// which but the last brings a byte at least.
 pub fn act<R: TextIn, W: TextOut>(
     alloc: Global,
     action: &Action,
@@ -83,8 +84,9 @@ pub fn act<R: TextIn, W: TextOut>(
     writer: &mut W,
 ) -> Status
     requires reader { R.failures reader.old < 2 ^ 64 - 1 }
+    requires reads { R.reads reader.old + most_reads < 2 ^ 64 }
     requires writer { W.failures writer.old < 2 ^ 64 - 1 }
-    ensures { Acts action.now (device (R.given reader.old) (R.failures reader.old)) (device (R.given reader.new) (R.failures reader.new)) (R.ended reader.new) (device (W.taken writer.old) (W.failures writer.old)) (device (W.taken writer.new) (W.failures writer.new)) result }
+    ensures { Acts action.now (reader_of (R.given reader.old) (R.failures reader.old) (R.reads reader.old) (R.ended reader.old)) (reader_of (R.given reader.new) (R.failures reader.new) (R.reads reader.new) (R.ended reader.new)) (device (W.taken writer.old) (W.failures writer.old)) (device (W.taken writer.new) (W.failures writer.new)) result }
 {
     match read_text(alloc, reader) {
         Input::Text(text) => match reply_to(alloc, action, text.as_slice()) {

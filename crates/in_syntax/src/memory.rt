@@ -10,6 +10,7 @@ pub struct MemoryIn<'a> {
     text: &'a [u8],
     at: usize,
     ended: bool,
+    reads: u64,
     ghost within: { at ≤ length text.now },
     ghost whole: { ended ≡ true → at ≡ length text.now },
 }
@@ -18,12 +19,13 @@ impl<'a> MemoryIn<'a> {
     /// The reader of a text, which it gives from its beginning.
     pub fn new(text: &'a [u8]) -> MemoryIn<'a>
         ensures text { result.text.now ≡ text.now }
-        ensures begins { (result.at ≡ 0) × (result.ended ≡ false) }
+        ensures begins { (result.at ≡ 0) × (result.ended ≡ false) × (result.reads ≡ 0) }
     {
         MemoryIn {
             text,
             at: 0,
             ended: false,
+            reads: 0,
         }
     }
 }
@@ -35,7 +37,10 @@ impl TextIn for MemoryIn<'_> {
 
     ghost failures = { λ s. 0 };
 
+    ghost reads = { λ s. s.reads };
+
     fn read(&mut self, into: &mut [u8]) -> Result<usize, ()> {
+        self.reads += 1;
         let left = self.text.len() - self.at;
         let n = left.min(into.len());
         if n == 0 && !into.is_empty() {

@@ -8,8 +8,8 @@ use std::alloc::Global;
 pub struct Tape<'a> {
     text: &'a [u8],
     step: usize,
-    failing: usize,
-    reads: usize,
+    failing: u64,
+    reads: u64,
     ended: bool,
     failures: u64,
 }
@@ -17,7 +17,7 @@ pub struct Tape<'a> {
 impl<'a> Tape<'a> {
     /// As many bytes a read as are asked for, and no read that fails.
     pub fn new(text: &'a [u8]) -> Tape<'a>
-        ensures { result.failures ≡ 0 }
+        ensures { (result.failures ≡ 0) × (result.reads ≡ 0) }
     {
         Tape {
             text,
@@ -30,8 +30,8 @@ impl<'a> Tape<'a> {
     }
 
     /// One byte a read.
-    pub fn dripping(text: &'a [u8], failing: usize) -> Tape<'a>
-        ensures { result.failures ≡ 0 }
+    pub fn dripping(text: &'a [u8], failing: u64) -> Tape<'a>
+        ensures { (result.failures ≡ 0) × (result.reads ≡ 0) }
     {
         Tape {
             text,
@@ -51,8 +51,10 @@ impl TextIn for Tape<'_> {
 
     ghost failures = { λ s. s.failures };
 
+    ghost reads = { λ s. s.reads };
+
     fn read(&mut self, into: &mut [u8]) -> Result<usize, ()> {
-        self.reads = self.reads.saturating_add(1);
+        self.reads += 1;
         if self.reads == self.failing {
             self.failures += 1;
             return Err(());

@@ -283,3 +283,15 @@ fn a_stuck_net_is_refused_at_its_first_node(rt: HostRuntime) {
     let net = "net (y : nat-) { x ~ Add(y, x); }";
     assert!(rt; is_refused(rt.alloc(), net, Code::E13, 10, 22));
 }
+
+#[test]
+fn a_wire_between_two_outputs_is_refused(rt: HostRuntime) {
+    let text = b"type nat;\nnet (a : nat+, b : nat+) { a ~ b; }\n";
+    match check(rt.alloc(), text) {
+        Err(Fault::Refused(refusal)) => {
+            assert!(rt; refusal.code == Code::E10);
+            assert_eq!(rt; (refusal.place.line, refusal.place.col), (2, 30));
+        }
+        _ => assert!(rt; false),
+    }
+}

@@ -1,17 +1,11 @@
-ghost use Rattle.std.specs.Prelude.{◌≡◌, ℕ, ◌<◌, ◌^◌, length, true, IfOk, IsSome};
-ghost use Rattle.std.specs.List.{AllByRecursion};
-ghost use Rattle.in_syntax.specs.Order.{IsWrittenInOrder};
-ghost use Rattle.in_syntax.specs.Sizes.{IsSized};
-ghost use Rattle.in_symbols.specs.Tables.{IsTabled};
-ghost use Rattle.in_cover.specs.Cover.{IsPair, IsOfPair};
-ghost use Rattle.in_cover.specs.Table.{rule_at};
+ghost use Rattle.std.specs.Prelude.{◌≡◌, true};
+ghost use Rattle.in_cover.specs.Cover.{IsPair};
 
 use crate::programs::SUMS;
-use in_cover::{RuleNo, RuleTable, cover};
-use in_net::{Rule, build_rule};
+use in_check::{Checked, check};
+use in_cover::RuleNo;
 use in_symbols::{SymbolNo, Symbols};
-use in_syntax::{Code, Fault, Place, Refusal, Source, parse};
-use sqlite_items::Items;
+use in_syntax::{Code, Fault, Place, Refusal};
 use std::alloc::Global;
 use std::test::Fail;
 
@@ -23,34 +17,23 @@ fn is_pair(symbols: &Symbols, c: SymbolNo, d: SymbolNo) -> bool
     c.0 < count && d.0 < count && symbols.matching(c, d)
 }
 
-/// The program's rules, but those whose heads don't match.
-fn rules_of(alloc: Global, source: &Source, symbols: &Symbols) -> Result<Items<Rule>, Fault>
-    requires sized { IsSized source.now }
-    requires order { IsWrittenInOrder source.now }
-    requires tabled { IsTabled source.now symbols.now }
-    ensures few { IfOk result (λ rules. length rules < 2 ^ 32) }
-    ensures pairs { IfOk result (AllByRecursion (IsOfPair symbols.now)) }
-{
-    let mut rules = Items::new(alloc);
-    for index in 0..source.rules.len() as u32 {
-        let rule = build_rule(alloc, source, symbols, index)?;
-        let (c, d) = rule.heads();
-        if is_pair(symbols, c, d) {
-            rules.push(rule)?;
-        }
-    }
-    Ok(rules)
-}
-
 /// The number of the rule for two symbols, if they match.
-fn rule_for(symbols: &Symbols, table: &RuleTable, c: SymbolNo, d: SymbolNo) -> Option<RuleNo>
-    requires { (c d : ℕ) → IsPair symbols.now c d → IsSome (rule_at table.now c d) }
-{
-    if is_pair(symbols, c, d) {
-        Some(table.rule(c, d))
+fn rule_for(program: &Checked, c: SymbolNo, d: SymbolNo) -> Option<RuleNo> {
+    if is_pair(program.symbols(), c, d) {
+        Some(program.rule_of(c, d))
     } else {
         None
     }
+}
+
+/// Whether these are the numbers of the rules for two symbols.
+fn has_rules(program: &Checked, rows: &[(u32, u32, Option<RuleNo>)]) -> bool {
+    for (c, d, wanted) in rows {
+        if rule_for(program, SymbolNo(*c), SymbolNo(*d)) != *wanted {
+            return false;
+        }
+    }
+    true
 }
 
 #[test]
@@ -59,11 +42,7 @@ fn each_pair_has_the_number_of_its_rule(rt: HostRuntime) -> Result<(), Fail> {
     let text = format!(in alloc;
         "{SUMS}rule S[Add(y, t)] >< Add[y, S(t)];\nrule Add[y, y] >< Z[];\nnet () {{ }}\n"
     )?;
-    let source = parse(alloc, text.as_bytes())?;
-    let symbols = Symbols::build(alloc, &source)?;
-    let rules = rules_of(alloc, &source, &symbols)?;
-    assert_eq!(rt; rules.len(), 2);
-    let table = cover(alloc, &symbols, rules.as_slice())?;
+    let program = check(alloc, text.as_bytes())?;
     let rows = [
         (0, 2, Some(RuleNo(1))),
         (2, 0, Some(RuleNo(1))),
@@ -72,12 +51,7 @@ fn each_pair_has_the_number_of_its_rule(rt: HostRuntime) -> Result<(), Fail> {
         (0, 1, None),
         (2, 2, None),
     ];
-    for (c, d, wanted) in rows {
-        assert_eq!(rt;
-            rule_for(&symbols, &table, SymbolNo(c), SymbolNo(d)),
-            wanted
-        );
-    }
+    assert!(rt; has_rules(&program, &rows));
     Ok(())
 }
 
@@ -87,23 +61,16 @@ fn at(place: Place) -> (u32, u32) {
 }
 
 /// The refusal's code and place, and the other place.
-fn refused(
-    alloc: Global,
-    text: &str,
-) -> Result<Option<(Code, (u32, u32), Option<(u32, u32)>)>, Fault> {
-    let source = parse(alloc, text.as_bytes())?;
-    let symbols = Symbols::build(alloc, &source)?;
-    let rules = rules_of(alloc, &source, &symbols)?;
-    match cover(alloc, &symbols, rules.as_slice()) {
+fn refused(alloc: Global, text: &str) -> Option<(Code, (u32, u32), Option<(u32, u32)>)> {
+    match check(alloc, text.as_bytes()) {
         Err(Fault::Refused(Refusal { code, place, other })) => {
             let other = match other {
                 Some(place) => Some(at(place)),
                 None => None,
             };
-            Ok(Some((code, at(place), other)))
+            Some((code, at(place), other))
         }
-        Err(fault) => Err(fault),
-        Ok(_) => Ok(None),
+        _ => None,
     }
 }
 
@@ -113,14 +80,14 @@ fn the_first_second_rule_is_refused(rt: HostRuntime) -> Result<(), Fail> {
         ("rule Z[] >< Add[y, y];\nrule Z[] >< Add[y, y];", (6, 6)),
         ("rule Z[] >< Add[y, y];\nrule Add[y, y] >< Z[];", (6, 6)),
         (
-            "rule Add[y, y] >< Z[];\nrule S[Add(y, t)] >< Add[y, S(t)];\nrule Z[] >< Add[y, y];\nrule S[y] >< Add[y, Z];",
+            "rule Add[y, y] >< Z[];\nrule S[Add(y, t)] >< Add[y, S(t)];\nrule Z[] >< Add[y, y];\nrule S[Add(y, t)] >< Add[y, S(t)];",
             (7, 6),
         ),
     ];
     for (rules, place) in rows {
         let text = format!(in rt.alloc(); "{SUMS}{rules}\nnet () {{ }}\n")?;
         assert_eq!(rt;
-            refused(rt.alloc(), text.as_str())?,
+            refused(rt.alloc(), text.as_str()),
             Some((Code::E14, place, None))
         );
     }
@@ -155,7 +122,7 @@ fn the_first_pair_without_a_rule_is_refused(rt: HostRuntime) -> Result<(), Fail>
     for (symbols, rules, place, other) in rows {
         let text = format!(in rt.alloc(); "{symbols}{rules}\nnet () {{ }}\n")?;
         assert_eq!(rt;
-            refused(rt.alloc(), text.as_str())?,
+            refused(rt.alloc(), text.as_str()),
             Some((Code::E15, place, Some(other)))
         );
     }
@@ -165,6 +132,6 @@ fn the_first_pair_without_a_rule_is_refused(rt: HostRuntime) -> Result<(), Fail>
 #[test]
 fn no_pairs_need_no_rule(rt: HostRuntime) -> Result<(), Fail> {
     let text = "type nat, bit;\nsymbol Z : nat+;\nsymbol Not : bit-;\nnet () { }\n";
-    assert_eq!(rt; refused(rt.alloc(), text)?, None);
+    assert_eq!(rt; check(rt.alloc(), text.as_bytes())?.rules(), 0);
     Ok(())
 }

@@ -1,20 +1,35 @@
 use crate::devices::{Paper, Stop, Tape};
 use crate::programs::{ADDITION, DUPLICATION, ERASURE, NUMBERS, SUMS};
 use in_program::{Status, act, tell_usage};
+use in_syntax::{MemoryIn, MemoryOut};
 use in_words::{Action, Usage};
-use std::alloc::Global;
+use std::alloc::{AllocError, Global};
 use std::process::Abort;
 use std::test::Fail;
 
 const ACCEPTED: &str = "accepted: 1 types, 2 symbols, 0 rules, 3 agents\n";
 
+/// What is written on a text that comes from memory, and the status.
+fn answer_to(
+    alloc: Global,
+    action: Action,
+    text: &[u8],
+) -> Result<(MemoryOut, Status), AllocError> {
+    let mut reader = MemoryIn::new(text);
+    let mut writer = MemoryOut::new(alloc, 4096)?;
+    let status = act(alloc, &action, &mut reader, &mut writer);
+    Ok((writer, status))
+}
+
 /// Checks the lines and the status on a text that comes from memory.
 fn expect_of(rt: &impl Abort, alloc: Global, action: Action, text: &str, lines: &str, status: u8) {
-    let mut reader = Tape::new(text.as_bytes());
-    let mut writer = Paper::new(alloc);
-    let answer = act(alloc, &action, &mut reader, &mut writer);
-    assert!(rt; writer.has(lines.as_bytes()), "{lines}");
-    assert!(rt; answer == Status(status), "{lines}");
+    match answer_to(alloc, action, text.as_bytes()) {
+        Ok((written, answer)) => {
+            assert!(rt; written.text() == lines.as_bytes(), "{lines}");
+            assert!(rt; answer == Status(status), "{lines}");
+        }
+        Err(_) => assert!(rt; false, "memory for {lines}"),
+    }
 }
 
 /// Checks the line and the status of `check`.
@@ -291,10 +306,8 @@ fn a_text_may_fill_the_limit_and_not_pass_it(rt: HostRuntime) -> Result<(), Fail
         for (place, byte) in text.iter_mut().zip(program.as_bytes()) {
             *place = *byte;
         }
-        let mut reader = Tape::new(text.as_slice());
-        let mut writer = Paper::new(alloc);
-        let answer = act(alloc, &Action::Check, &mut reader, &mut writer);
-        assert!(rt; writer.has(line.as_bytes()), "{length}");
+        let (written, answer) = answer_to(alloc, Action::Check, text.as_slice())?;
+        assert!(rt; written.text() == line.as_bytes(), "{length}");
         assert!(rt; answer == Status(status), "{length}");
     }
     Ok(())
@@ -304,7 +317,7 @@ fn a_text_may_fill_the_limit_and_not_pass_it(rt: HostRuntime) -> Result<(), Fail
 fn a_text_comes_byte_by_byte_until_a_read_fails(rt: HostRuntime) -> Result<(), Fail> {
     let alloc = rt.alloc();
     let text = accepted_text(alloc)?;
-    let reads = text.len().saturating_add(1);
+    let reads = (text.len() as u64).saturating_add(1);
     for failing in 1..reads.saturating_add(2) {
         let mut reader = Tape::dripping(text.as_bytes(), failing);
         let mut writer = Paper::new(alloc);
@@ -516,4 +529,10 @@ fn ports_of_one_class_are_grafted_to_one_step(rt: HostRuntime) -> Result<(), Fai
         0,
     );
     Ok(())
+}
+
+#[test]
+fn a_wire_between_free_ends_is_a_link(rt: HostRuntime) {
+    let text = "type nat;\nnet (a : nat+, b : nat-) { a ~ b; }\n";
+    expect_of(&rt, rt.alloc(), Action::Derive, text, "net\n0 link\n", 0);
 }
