@@ -1,5 +1,5 @@
 -- The first tasks, and the steps that stand where no task is left.
-use Rattle.std.proofs.Common.{◌≡◌, ◌↔◌, ◌<◌, ◌+◌, ◌-◌, ℕ, suc, Bool, true, false, cond, ◌||◌, nat_eq, nat_lt, Option, Some, None, List, [], ◌∷◌, ◌++◌, length, slice_get, refl, sym, subst, ap, inl, inr, ◌∙◌, eq-eqb, eqb-true, ltb-true, lt-ltb, arith}
+use Rattle.std.proofs.Common.{◌≡◌, ◌↔◌, ◌<◌, ◌+◌, ◌-◌, ℕ, suc, Bool, true, false, cond, ◌||◌, nat_eq, nat_lt, Option, Some, None, List, [], ◌∷◌, ◌++◌, length, map, slice_get, refl, sym, subst, ap, inl, inr, ◌∙◌, eq-eqb, eqb-true, ltb-true, lt-ltb, arith}
 use Rattle.std.proofs.lemmas.Option.{slice_get_within}
 use Rattle.in_simple.specs.declared.open_nets.Point.{Point}
 use Rattle.in_simple.specs.declared.open_nets.Point.TheVariants.{Port, Free}
@@ -20,6 +20,8 @@ use Rattle.in_simple.proofs.Whole.{times_some}
 use Rattle.in_simple.proofs.Grow.{and_both, and_left, and_right}
 use Rattle.in_simple.proofs.Make.{port_most}
 use Rattle.in_simple.proofs.Joining.{shape_same, fits_empty, fits_link, fits_mix}
+use Rattle.in_simple.specs.TakenOrder.{AreJointsOf, AreTaken, Yields, done, links_from, with_nodes, without}
+use Rattle.in_simple.proofs.Taking.{yields_makes, yields_part}
 use Rattle.in_simple.proofs.Stacking.{none_more, stack_none, runs_make}
 
 -- ---- loose wires
@@ -89,22 +91,26 @@ beside_past o begun b false ts off h = (h.0, h.1, λ w l. elim (same_nat w b) [ 
 -- ---- the first tasks
 
 -- all nodes are derived, and the loose wires' Links come beside them
-pub under_all : (o : OpenNet) (c : List Bool) (links : List Task) → length c ≡ length o.nodes → ((n : ℕ) → n < length o.nodes → nodes_in c n ≡ true) → Ends o true links → IsUnderWay o (Derive c ∷ links) [] []
-under_all o c links size all h = record {
+pub under_all : (o : OpenNet) (c : List Bool) (links : List Task) → length c ≡ length o.nodes → 0 < length o.nodes → ((n : ℕ) → n < length o.nodes → nodes_in c n ≡ true) → Ends o true links → links ≡ map Make (links_from o true 0 (length o.wires)) → IsUnderWay o (Derive c ∷ links) [] []
+under_all o c links size some all h made = record {
   whole = nodes_in c;
   all = λ n. ((λ g. let l = in_length c n g in omega arith), all n);
   shapes = [];
   stack = stack_none o;
   runs = h (nodes_in c) (λ e. absurd (not_both true refl e));
+  order = λ js y.
+      let x = yields_part o c (links_from o true 0 (length o.wires)) js (subst (λ z. Yields o (Derive c ∷ z) js) made y) in
+      (js, subst (AreJointsOf o) (sym x.2) (with_nodes (nodes_in c) x.0 some (λ n. ((λ g. let l = in_length c n g in omega arith), all n)) x.1), refl);
 }
 
-pub under_none : (o : OpenNet) (links : List Task) → length o.nodes ≡ 0 → Ends o false links → IsUnderWay o links [] []
-under_none o links size h = record {
+pub under_none : (o : OpenNet) (links : List Task) → length o.nodes ≡ 0 → Ends o false links → links ≡ map Make (links_from o false 0 (length o.wires)) → IsUnderWay o links [] []
+under_none o links size h made = record {
   whole = λ n. false;
   all = λ n. ((λ g. absurd (not_both false g refl)), λ l. absurd (omega arith));
   shapes = [];
   stack = stack_none o;
   runs = h (λ n. false) (λ e n. refl);
+  order = λ js y. (js, subst (AreJointsOf o) (sym (yields_makes o (links_from o false 0 (length o.wires)) js (subst (λ z. Yields o z js) made y))) (without size), refl);
 }
 
 -- ---- Links beside what is begun
@@ -234,6 +240,9 @@ module _ (o : OpenNet) (net : IsOpenNet o) where
               let m = slice_get_within steps s.0 s.1 s.2 in
               absurd (omega arith)
         ]
+
+  pub order_done : (steps : List Step) (roots : List ℕ) → IsUnderWay o [] steps roots → AreTaken o steps
+  order_done steps roots u = u.order [] done
 
   pub derivation_done : (steps : List Step) (roots : List ℕ) → IsUnderWay o [] steps roots → IsDerivation o steps
   derivation_done steps roots u =

@@ -17,6 +17,7 @@ pub mod Nets
 pub mod NoCircle
 pub mod OneAnswer
 pub mod OneOpening
+pub mod OneOrder
 pub mod Opened
 pub mod OpenedRules
 pub mod Planning
@@ -30,6 +31,7 @@ pub mod SplittingPorts
 pub mod Stacking
 pub mod StuckNodes
 pub mod Sums
+pub mod Taking
 pub mod TextRules
 pub mod VerifyGraft
 pub mod VerifyMade

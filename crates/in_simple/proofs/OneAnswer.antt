@@ -11,6 +11,7 @@ use Rattle.in_simple.specs.OpenNets.{OpenNet, IsOpenNet, node_place_in}
 use Rattle.in_simple.specs.Stuck.{Among, Rises, IsListed, IsStuckNet, IsFirstStuck}
 use Rattle.in_simple.proofs.Both.{one_first_stuck, derivable_no_circle}
 use Rattle.in_simple.proofs.OneOpening.{one_open_rule}
+use Rattle.in_simple.proofs.OneOrder.{one_list}
 use Rattle.in_simple.proofs.OpenedRules.{is_open_net}
 use Rattle.in_simple.proofs.Whole.{derivation_builds}
 
@@ -66,10 +67,10 @@ one_stuck_place o p q net h k =
 -- ---- deriving
 
 no_steps : (o : OpenNet) (d : Derivation) (s : StuckNet) → IsOpenNet o → Derives o (Ok d) → IsStuckNet o s → ⊥
-no_steps o d s net h k = k.0 (derivation_builds o net d.steps h)
+no_steps o d s net h k = k.0 (derivation_builds o net d.steps h.0)
 
 pub derived_once : NetsAreDerivedOnce
-derived_once o (Ok d) (Ok e) net h k = tt
+derived_once o (Ok d) (Ok e) net h k = one_list o net d.steps e.steps h.1 k.1
 derived_once o (Ok d) (Err (Stuck s)) net h k = no_steps o d s net h k
 derived_once o (Ok d) (Err (Memory e)) net h k = tt
 derived_once o (Err (Stuck s)) (Ok d) net h k = no_steps o d s net k h

@@ -86,7 +86,7 @@ turn_in m i = elim m [ None ↦ i | Some m ↦ elim m.node [ AgentNode y ↦ con
 abbrev name_turn : ℕ → Node → ℕ → ℕ
 name_turn a c i = elim c [ AgentNode y ↦ cond (nat_eq i 0) a i | ClassNode y c ↦ i ]
 
-turn_cases : (i a : ℕ) → ((i ≡ 0) × (cond (nat_eq i 0) a i ≡ a)) ⊎ ((i ≢ 0) × (cond (nat_eq i 0) a i ≡ i))
+pub turn_cases : (i a : ℕ) → ((i ≡ 0) × (cond (nat_eq i 0) a i ≡ a)) ⊎ ((i ≢ 0) × (cond (nat_eq i 0) a i ≡ i))
 turn_cases i a = elim (eqb_tells i 0) [
   | inl h ↦ let e : nat_eq i 0 ≡ true = h.0 in inl (h.1, rw e refl)
   | inr h ↦ let e : nat_eq i 0 ≡ false = h.0 in inr (h.1, rw e refl)
@@ -101,7 +101,7 @@ turn_at i (Some m) h = go m.node
     go (AgentNode y) = elim (turn_cases i (length m.class_of)) [ inl e ↦ let f = e.1 in omega arith | inr e ↦ let f = e.1 in omega arith ]
     go (ClassNode y c) = omega arith
 
-turn_one : (i j : ℕ) (m : Option OpenNode) → IsSomeAnd m (λ m. i < length m.class_of) → IsSomeAnd m (λ m. j < length m.class_of) → turn_in m i ≡ turn_in m j → i ≡ j
+pub turn_one : (i j : ℕ) (m : Option OpenNode) → IsSomeAnd m (λ m. i < length m.class_of) → IsSomeAnd m (λ m. j < length m.class_of) → turn_in m i ≡ turn_in m j → i ≡ j
 turn_one i j None h k e = absurd h
 turn_one i j (Some m) h k e = go m.node e
   where
@@ -244,7 +244,7 @@ module _ (o : OpenNet) (net : IsOpenNet o) where
   abbrev IsFirst : ℕ → (ℕ → Bool) → Type 0
   IsFirst n s = IsFirstSplitting (open_graph o) (λ m n. m < n) n s
 
-  one_first : (s : ℕ → Bool) (n m : ℕ) → IsFirst n s → IsFirst m s → n ≡ m
+  pub one_first : (s : ℕ → Bool) (n m : ℕ) → IsFirst n s → IsFirst m s → n ≡ m
   one_first s n m a b = elim (same_nat n m) [
     | inl e ↦ e
     | inr d ↦ elim (at_most n m) [ inl l ↦ absurd (b.first n a.here (omega arith) a.splits) | inr l ↦ absurd (a.first m b.here (omega arith) b.splits) ]

@@ -1,5 +1,5 @@
 -- A joint turns one stack of nets into another.
-use Rattle.std.proofs.Common.{◌≡◌, ◌⊎◌, ◌-◌, drop, Result, Ok, Err, OnOk, ◌≤◌, ◌+◌, ℕ, zero, suc, Bool, cond, Some, List, [], ◌∷◌, ◌++◌, length, slice_get, refl, sym, subst, ap, inl, inr, ◌∙◌, append_assoc, arith}
+use Rattle.std.proofs.Common.{◌≡◌, ◌⊎◌, ◌-◌, drop, Result, Ok, Err, OnOk, ◌≤◌, ◌+◌, ℕ, zero, suc, Bool, cond, Some, List, [], ◌∷◌, ◌++◌, length, slice_get, refl, sym, subst, ap, inl, inr, ◌∙◌, append_assoc, arith, take}
 use Rattle.in_simple.specs.declared.plans.Joint.{Joint}
 use Rattle.in_simple.specs.declared.plans.Joint.TheVariants as joint
 use Rattle.in_simple.specs.declared.plans.Task.{Task}
@@ -7,7 +7,11 @@ use Rattle.in_simple.specs.declared.plans.Task.TheVariants.{Derive, Make}
 use Rattle.in_simple.specs.OpenNets.{OpenNet}
 use Rattle.in_simple.specs.Derivations.{Step, Part, named, own_nodes, is_among, nodes_of, ShareNothing, AreDifferent, AreEarlier, Builds, times, Graft, Cut, Mix}
 use Rattle.in_simple.specs.Procedure.{nodes_in}
-use Rattle.in_simple.specs.Stacks.{Shape, shape, no_wires, HasShape, HaveShapes, times_node, IsStack, step_of, over_two, IsLast, AreLast, Makes, BuildsOver, Fits, Runs, Puts, loose_in, IsUnderWay}
+use Rattle.in_simple.specs.Planned.{TakesPart}
+use Rattle.in_simple.specs.TakenOrder as yields
+use Rattle.in_simple.specs.TakenOrder.{AreTaken, Yields, steps_from}
+use Rattle.in_simple.proofs.OneOrder.{split}
+use Rattle.in_simple.specs.Stacks.{count_of, Shape, shape, no_wires, HasShape, HaveShapes, times_node, IsStack, step_of, over_two, IsLast, AreLast, Makes, BuildsOver, Fits, Runs, Puts, loose_in, IsUnderWay}
 use Rattle.in_simple.proofs.Sums.{some_same, one_same, one_other}
 use Rattle.in_simple.proofs.Links.{same_nat, at_most}
 use Rattle.in_simple.proofs.Forest.{length_app, get_app, get_past, get_cases, times_app, times_in_app, earlier_app, different_of, or_sum}
@@ -293,6 +297,17 @@ pub on_both : {A B : Type 0} (r : Result A B) (P Q R : Type 0) → (P → Q → 
 on_both (Ok a) P Q R f p q = f p q
 on_both (Err e) P Q R f p q = tt
 
+-- what a joint takes of the last steps, and what it leaves
+taken_at : (r below names : List ℕ) (count : ℕ) → r ≡ below ++ names → length names ≡ count → (take (length r - count) r ≡ below) × (drop (length r - count) r ≡ names)
+taken_at r below names count e many =
+    let size = ap length e ∙ length_app below names in
+    let at : length r - count ≡ length below = omega (arith, size, many) in
+    (ap (λ k. take k r) at ∙ ap (take (length below)) e ∙ take_front below names, ap (λ k. drop k r) at ∙ ap (drop (length below)) e ∙ drop_past below names (length below) refl)
+  where
+    take_front : (xs ys : List ℕ) → take (length xs) (xs ++ ys) ≡ xs
+    take_front [] ys = refl
+    take_front (x ∷ xs) ys = ap (λ z. x ∷ z) (take_front xs ys)
+
 -- ---- under way
 
 pub under_make : (o : OpenNet) (j : Joint) (ts : List Task) (s : List Step) (r : List ℕ) (s' : List Step) (r' : List ℕ) → Makes j s r s' r' → IsUnderWay o (Make j ∷ ts) s r → IsUnderWay o ts s' r'
@@ -302,13 +317,23 @@ under_make o j ts s r s' r' m u = record {
   shapes = u.runs.0 ++ u.runs.2 ∷ [];
   stack = stack_make o j s r s' r' u.runs.0 u.runs.1 u.runs.2 (subst (λ z. IsStack o s r z) u.runs.3 u.stack) u.runs.4 m;
   runs = u.runs.5;
+  order = λ js y.
+      let p = part_at o u.stack.parts (length s) r u.stack.tops u.runs.0 u.runs.1 u.stack.roots_are (subst (λ z. HaveShapes o z u.stack.tops) u.runs.3 u.stack.shaped) in
+      let many = p.many ∙ u.runs.4.many in
+      let made = m p.below p.names p.roots_is many in
+      let at = taken_at r p.below p.names (count_of j) p.roots_is many in
+      subst (λ z. AreTaken o (steps_from js s' z)) (ap (λ z. z ++ length s ∷ []) at.0 ∙ sym made.1)
+      (subst (λ z. AreTaken o (steps_from js z (take (length r - count_of j) r ++ length s ∷ []))) (ap (λ z. s ++ step_of j z ∷ []) at.1 ∙ sym made.0) (u.order (j ∷ js) (yields.made j ts js y)));
 }
 
-pub under_derive : (o : OpenNet) (c : List Bool) (ps ts : List Task) (s : List Step) (r : List ℕ) → Puts o ps (shape (nodes_in c) no_wires ∷ []) → IsUnderWay o (Derive c ∷ ts) s r → IsUnderWay o (ps ++ ts) s r
-under_derive o c ps ts s r p u = record {
+pub under_derive : (o : OpenNet) (c : List Bool) (ps ts : List Task) (s : List Step) (r : List ℕ) → Puts o ps (shape (nodes_in c) no_wires ∷ []) → TakesPart o (nodes_in c) ps → IsUnderWay o (Derive c ∷ ts) s r → IsUnderWay o (ps ++ ts) s r
+under_derive o c ps ts s r p takes u = record {
   whole = u.whole;
   all = u.all;
   shapes = u.shapes;
   stack = u.stack;
   runs = runs_app o ps ts u.shapes (u.shapes ++ shape (nodes_in c) no_wires ∷ []) (shape u.whole (loose_in o) ∷ []) (p u.shapes) u.runs;
+  order = λ js y.
+      let x = split o ps ts js y in
+      u.order js (subst (Yields o (Derive c ∷ ts)) x.whole (yields.derived c ts x.one x.other (takes x.one x.first) x.second));
 }

@@ -15,6 +15,7 @@ use Rattle.in_simple.specs.Derivations.{Step, IsDerivation}
 use Rattle.in_simple.specs.Opening.{AreAllThere, AreNumbered, Opens}
 use Rattle.in_simple.specs.OpeningRules.{IsRuleWhole, OpensRule}
 use Rattle.in_simple.specs.declared.derivations.Derivation.{Derivation}
+use Rattle.in_simple.specs.TakenOrder.{AreTaken}
 use Rattle.in_simple.specs.declared.derivations.Undone.{Undone}
 use Rattle.in_simple.specs.declared.derivations.Undone.TheVariants.{Stuck, Memory}
 use Rattle.in_simple.specs.Stuck.{IsFirstStuck, IsUndone, IsStuckAt}
@@ -77,12 +78,12 @@ RulesAreOpenedOnce = (t : Tables) (p : RuleParts) (o u : OpenNet) → IsWhole p.
 
 -- what deriving may answer
 abbrev pub Derives : OpenNet → Result Derivation Undone → Type 0
-Derives o (Ok d) = IsDerivation o d.steps
+Derives o (Ok d) = IsDerivation o d.steps × AreTaken o d.steps
 Derives o (Err u) = IsUndone o u
 
--- both are Ok, or both are stuck at the same nodes; nothing is said where memory was wanted, nor of the steps
+-- both are Ok with the same steps, or both are stuck at the same nodes; nothing is said where memory was wanted
 abbrev pub AgreeOnDeriving : Result Derivation Undone → Result Derivation Undone → Type 0
-AgreeOnDeriving (Ok d) (Ok e) = Unit {0}
+AgreeOnDeriving (Ok d) (Ok e) = d.steps ≡ e.steps
 AgreeOnDeriving (Ok d) (Err (Stuck s)) = ⊥
 AgreeOnDeriving (Ok d) (Err (Memory e)) = Unit {0}
 AgreeOnDeriving (Err (Stuck s)) (Ok d) = ⊥

@@ -1,6 +1,7 @@
 pub mod Checking
 pub mod Constructions
 pub mod Derivations
+pub mod Joints
 pub mod Laws
 pub mod Meeting
 pub mod OpenNets
@@ -12,3 +13,4 @@ pub mod Procedure
 pub mod Splitting
 pub mod Stacks
 pub mod Stuck
+pub mod TakenOrder

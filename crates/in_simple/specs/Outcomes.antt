@@ -4,7 +4,8 @@ use Rattle.in_simple.specs.declared.procedure.Outcome.TheVariants.{Derived, Firs
 use Rattle.in_simple.specs.OpenNets.{OpenNet}
 use Rattle.in_simple.specs.Derivations.{IsDerivation}
 use Rattle.in_simple.specs.Stuck.{IsStuckNet}
+use Rattle.in_simple.specs.TakenOrder.{AreTaken}
 
 abbrev pub IsOutcome : OpenNet → Outcome → Type 0
-IsOutcome o (Derived d) = IsDerivation o d.steps
+IsOutcome o (Derived d) = IsDerivation o d.steps × AreTaken o d.steps
 IsOutcome o (First s) = IsStuckNet o s

@@ -1,14 +1,18 @@
 -- Which nets the tasks of a plan put on a stack.
-use Rattle.std.specs.Prelude.{◌≡◌, ◌⊎◌, ◌↔◌, ℕ, zero, suc, ◌+◌, ◌<◌, ◌≤◌, Bool, true, false, ◌||◌, nat_eq, List, [], ◌∷◌, ◌++◌, length}
+use Rattle.std.specs.Prelude.{◌≡◌, ◌⊎◌, ◌↔◌, ℕ, zero, suc, ◌+◌, ◌<◌, ◌≤◌, Bool, true, false, ◌||◌, nat_eq, List, [], ◌∷◌, ◌++◌, length, map}
 use Rattle.in_simple.specs.declared.open_nets.Point.{Point}
 use Rattle.in_simple.specs.declared.open_nets.Point.TheVariants.{Port}
+use Rattle.in_simple.specs.declared.plans.Joint.{Joint}
+use Rattle.in_simple.specs.declared.plans.Joint.TheVariants.{Link}
 use Rattle.in_simple.specs.declared.plans.Plan.{Plan}
 use Rattle.in_simple.specs.declared.plans.Task.{Task}
+use Rattle.in_simple.specs.declared.plans.Task.TheVariants.{Derive, Make}
 use Rattle.in_simple.specs.Constructions.{IsIn}
 use Rattle.in_simple.specs.Splitting.{Linked}
 use Rattle.in_simple.specs.OpenNets.{OpenNet, IsWire, IsOpenNet, class_in, open_graph}
 use Rattle.in_simple.specs.Derivations.{is_port_in}
-use Rattle.in_simple.specs.Stuck.{ports_of}
+use Rattle.in_simple.specs.Stuck.{ComesAt, IsPart, ports_of}
+use Rattle.in_simple.specs.TakenOrder.{Comes, LinksAt, NothingAt, Yields, empties, part, turns}
 use Rattle.in_simple.specs.Procedure.{nodes_in}
 use Rattle.in_simple.specs.Stacks.{Shape, shape, no_wires, Puts}
 
@@ -92,3 +96,27 @@ pub record Skips (count : ℕ) (old new : Plan) : Type 0 where
   pub rest : new.rest ≡ old.rest
   pub done : new.done ≡ old.done
   pub puts : (o : OpenNet) → IsOpenNet o → (xs : List Shape) → Puts o old.tasks xs → Puts o new.tasks (with_empty count xs)
+
+-- ---- the order of the tasks
+
+-- the tasks come to the joints at the turns below k, and then to these
+abbrev pub Takes : OpenNet → ℕ → ℕ → List Joint → Plan → Type 0
+Takes o n k more p = (js : List Joint) → Yields o p.tasks js → (is : List Joint) × Comes o (turns (nodes_in p.rest) n k) is × (js ≡ is ++ more)
+
+-- the component that comes at the turn k, or the Link of a wire there that leads away
+pub data Brings (o : OpenNet) (t : ℕ → Bool) (n k : ℕ) : Task → Type 0 where
+  a_component : (c : List Bool) → IsPart o n t (nodes_in c) → ComesAt o n (nodes_in c) k → Brings o t n k (Derive c)
+  a_link : (w : ℕ) → LinksAt o t n k w → Brings o t n k (Make (Link w))
+
+-- one more task for what comes at a turn, or none, where nothing comes
+abbrev pub WhatComes : OpenNet → ℕ → ℕ → Plan → Plan → Bool → Type 0
+WhatComes o n k old new true = (task : Task) × (new.tasks ≡ old.tasks ++ task ∷ []) × Brings o (nodes_in old.rest) n k task
+WhatComes o n k old new false = (new.tasks ≡ old.tasks) × NothingAt o (nodes_in old.rest) n k
+
+-- so many Empties more
+abbrev pub WithEmpties : ℕ → Plan → Plan → Type 0
+WithEmpties count old new = new.tasks ≡ old.tasks ++ map Make (empties count)
+
+-- the tasks come to the joints of a part
+abbrev pub TakesPart : OpenNet → (ℕ → Bool) → List Task → Type 0
+TakesPart o s tasks = (js : List Joint) → Yields o tasks js → Comes o (part s) js

@@ -6,7 +6,7 @@ use Rattle.in_simple.specs.declared.plans.Plan.{Plan}
 use Rattle.in_simple.specs.declared.plans.Task.{Task}
 use Rattle.in_simple.specs.declared.plans.Task.TheVariants.{Derive, Make}
 use Rattle.in_simple.specs.Constructions.{IsIn, count}
-use Rattle.in_simple.specs.Splitting.{Linked, Without, SplitsAt, IsFirstSplitting, IsComponent, Splits}
+use Rattle.in_simple.specs.Splitting.{Linked, Without, SplitsAt, IsFirstSplitting, Splits}
 use Rattle.in_simple.specs.OpenNets.{OpenNet, IsWire, class_in, open_graph}
 use Rattle.in_simple.specs.Stuck.{IsPart, Among, ComesAt, FirstStuck}
 

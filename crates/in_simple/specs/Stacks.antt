@@ -1,16 +1,17 @@
 -- What the steps so far have built, and what the tasks that are left make of it. A net on the way is known by its nodes and by the
 -- wires of its Links that are open at both ends.
-use Rattle.std.specs.Prelude.{◌≡◌, ◌≢◌, ◌⊎◌, ◌↔◌, ℕ, ◌+◌, ◌-◌, ◌<◌, ◌≤◌, Bool, true, false, cond, ◌||◌, ◌&&◌, nat_lt, List, [], ◌∷◌, ◌++◌, length, slice_get, Option, Some, None}
+use Rattle.std.specs.Prelude.{◌≡◌, ◌≢◌, ◌⊎◌, ◌↔◌, ℕ, ◌+◌, ◌-◌, ◌<◌, ◌≤◌, Bool, true, false, cond, ◌||◌, ◌&&◌, nat_lt, List, [], ◌∷◌, ◌++◌, length, slice_get, Some}
 use Rattle.in_simple.specs.declared.open_nets.Point.{Point}
-use Rattle.in_simple.specs.declared.open_nets.Point.TheVariants.{Port, Free}
+use Rattle.in_simple.specs.declared.open_nets.Point.TheVariants.{Port}
 use Rattle.in_simple.specs.declared.plans.Joint.{Joint}
-use Rattle.in_simple.specs.declared.plans.Joint.TheVariants as joint
 use Rattle.in_simple.specs.declared.plans.Task.{Task}
 use Rattle.in_simple.specs.declared.plans.Task.TheVariants.{Derive, Make}
 use Rattle.in_simple.specs.Constructions.{IsIn}
 use Rattle.in_simple.specs.OpenNets.{OpenNet, IsNode, IsAgent, IsWire}
-use Rattle.in_simple.specs.Derivations.{Step, Empty, Link, Given, Graft, Cut, Mix, Part, named, own_nodes, own_links, is_port_in, is_among, nodes_of, links_of, ShareNothing, AreEarlier, Joins, Builds, times, times_in}
+use Rattle.in_simple.specs.Derivations.{Step, Part, named, own_nodes, own_links, is_port_in, is_among, nodes_of, links_of, ShareNothing, AreEarlier, Joins, Builds, times, times_in}
+pub use Rattle.in_simple.specs.Joints.{count_of, over_two, step_of, are_free, loose_in}
 use Rattle.in_simple.specs.Procedure.{nodes_in}
+use Rattle.in_simple.specs.TakenOrder.{AreTaken, Yields, steps_from}
 
 pub record Shape : Type 0 where
   pub nodes : ℕ → Bool
@@ -61,28 +62,6 @@ pub record IsStack (o : OpenNet) (steps : List Step) (roots : List ℕ) (shapes 
 
 -- ---- steps
 
--- how many of the last steps that none names a joint takes, and the step that it makes of them
-abbrev pub count_of : Joint → ℕ
-count_of joint.Empty = 0
-count_of (joint.Link w) = 0
-count_of (joint.Given n) = 0
-count_of (joint.Graft n count) = count
-count_of (joint.Cut w) = 2
-count_of joint.Mix = 2
-
-abbrev pub over_two : (ℕ → ℕ → Step) → List ℕ → Step
-over_two f [] = Empty
-over_two f (a ∷ []) = Empty
-over_two f (a ∷ b ∷ more) = f a b
-
-abbrev pub step_of : Joint → List ℕ → Step
-step_of joint.Empty names = Empty
-step_of (joint.Link w) names = Link w
-step_of (joint.Given n) names = Given n
-step_of (joint.Graft n count) names = Graft n names
-step_of (joint.Cut w) names = over_two (Cut w) names
-step_of joint.Mix names = over_two Mix names
-
 -- the last of these, and what is left of them; 0 where there is none
 abbrev pub IsLast : ℕ → List ℕ → List ℕ → Type 0
 IsLast n old new = (old ≡ new ++ n ∷ []) ⊎ ((old ≡ []) × (new ≡ []))
@@ -118,17 +97,7 @@ Runs o [] old new = old ≡ new
 Runs o (Derive c ∷ ts) old new = Runs o ts (old ++ shape (nodes_in c) no_wires ∷ []) new
 Runs o (Make j ∷ ts) old new = (below : List Shape) × (xs : List Shape) × (x : Shape) × (old ≡ below ++ xs) × Fits o j xs x × Runs o ts (below ++ x ∷ []) new
 
--- a wire between two free ends
-abbrev pub are_free : Option (Point × Point) → Bool
-are_free None = false
-are_free (Some (Free k, Free l)) = true
-are_free (Some (Free k, Port n i)) = false
-are_free (Some (Port n i, q)) = false
-
-abbrev pub loose_in : OpenNet → ℕ → Bool
-loose_in o w = are_free (slice_get o.wires w)
-
--- .. and below a number
+-- a wire between two free ends, below a number
 abbrev pub loose_below : OpenNet → ℕ → ℕ → Bool
 loose_below o b w = nat_lt w b && loose_in o w
 
@@ -153,13 +122,14 @@ Ends o begun tasks = (whole : ℕ → Bool) → NoneWhere begun whole → Runs o
 abbrev pub Puts : OpenNet → List Task → List Shape → Type 0
 Puts o tasks xs = (below : List Shape) → Runs o tasks below (below ++ xs)
 
--- with these steps behind, the tasks come to a net of all nodes, with a Link of each wire between free ends
+-- with these steps behind, the tasks come to a net of all nodes, with a Link of each wire between free ends, by steps in their order
 pub record IsUnderWay (o : OpenNet) (tasks : List Task) (steps : List Step) (roots : List ℕ) : Type 0 where
   pub whole : ℕ → Bool
   pub all : (n : ℕ) → IsIn n whole ↔ IsNode o n
   pub shapes : List Shape
   pub stack : IsStack o steps roots shapes
   pub runs : Runs o tasks shapes (shape whole (loose_in o) ∷ [])
+  pub order : (js : List Joint) → Yields o tasks js → AreTaken o (steps_from js steps roots)
 
 -- what is under way stays so
 abbrev pub Advances : List Task → List Step → List ℕ → List Task → List Step → List ℕ → Type 0

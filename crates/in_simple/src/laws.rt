@@ -66,7 +66,7 @@ pub fn rules_are_opened_once()
     ensures { RulesAreOpenedOnce }
 {}
 
-/// What deriving an open net answers is one, but for the order of the steps: there are steps, or one sub-net is stuck, never both.
+/// What deriving an open net answers is one: there are steps, in their order, or one sub-net is stuck; never both.
 pub fn nets_are_derived_once()
     ensures { NetsAreDerivedOnce }
 {}

@@ -1,8 +1,9 @@
 ghost use Rattle.std.specs.Prelude.{[], ◌∷◌, ◌≡◌, ◌<◌, ◌+◌, ◌-◌, ◌||◌, suc, length, IfOk, ℕ};
 ghost use Rattle.in_simple.specs.Constructions.{IsIn};
-ghost use Rattle.in_simple.specs.Procedure.{AreSized, Derives, GoesOn, IsPlan, IsRest, KeepsPlan, Lists, nodes_in, with_task};
+ghost use Rattle.in_simple.specs.Procedure.{AreSized, Derives, GoesOn, IsFirst, IsPlan, IsRest, KeepsPlan, Lists, nodes_in, with_task};
 ghost use Rattle.in_simple.specs.OpenNets.{IsAgent, IsClass, IsOrderly, class_in, classes_of, open_graph};
-ghost use Rattle.in_simple.specs.Planned.{HasClasses, IsBegun, PutsNet, Skipping, Skips, WhatPort};
+ghost use Rattle.in_simple.specs.Planned.{HasClasses, IsBegun, PutsNet, Skipping, Skips, Takes, TakesPart, WhatComes, WhatPort, WithEmpties};
+ghost use Rattle.in_simple.specs.TakenOrder.{before, empties};
 ghost use Rattle.in_simple.specs.Splitting.{SplitsAt};
 ghost use Rattle.in_simple.specs.Stacks.{Puts, no_wires, shape};
 ghost use Rattle.in_simple.specs.Stuck.{ports_of, turn};
@@ -91,8 +92,11 @@ impl Plan {
         requires node { node < length wired.now.nodes }
         requires port { port < ports_of wired.now node }
         requires plan { IsPlan wired.now node (turn wired.now node port) self }
+        requires agent { IsAgent wired.now node }
+        requires auxiliary { 0 < port }
         ensures plan { IfOk result (λ r. GoesOn wired.now node (suc (turn wired.now node port)) self r.0) }
         ensures adds { IfOk result (λ r. WhatPort wired.now node port self r.0 r.1) }
+        ensures comes { IfOk result (λ r. WhatComes wired.now node port self r.0 r.1) }
     {
         match wired.partner(node, port) {
             (wire, Point::Port(near, place)) => {
@@ -125,8 +129,10 @@ impl Plan {
         requires plan { IsPlan wired.now node (turn wired.now node port) self }
         requires principal { IsAgent wired.now node → port ≡ 0 }
         requires net { PutsNet wired.now node self }
+        requires takes { Takes wired.now node (turn wired.now node port) (before wired.now node (turn wired.now node port)) self }
         ensures plan { IfOk result (GoesOn wired.now node (suc (turn wired.now node port)) self) }
         ensures net { IfOk result (PutsNet wired.now node) }
+        ensures takes { IfOk result (Takes wired.now node (suc (turn wired.now node port)) []) }
     {
         match wired.partner(node, port) {
             (wire, Point::Port(near, _)) => {
@@ -160,8 +166,11 @@ impl Plan {
         requires agent { IsAgent wired.now node }
         requires auxiliary { 0 < port }
         requires classes { Skipping wired.now node port skipped self }
+        requires takes { Takes wired.now node port [] self }
+        requires skipped { class_in wired.now node port ≡ suc (class_in wired.now node (port - 1) + skipped) }
         ensures plan { IfOk result (GoesOn wired.now node (suc (turn wired.now node port)) self) }
         ensures classes { IfOk result (HasClasses wired.now node (suc port) (class_in wired.now node port)) }
+        ensures takes { IfOk result (Takes wired.now node (suc port) []) }
     {
         let begun = skip(self, skipped)?;
         let (plan, came) = begun.port(alloc, wired, node, port)?;
@@ -187,8 +196,11 @@ impl Plan {
         requires agent { IsAgent wired.now node }
         requires auxiliary { 0 < port }
         requires classes { HasClasses wired.now node port (class_in wired.now node port) self }
+        requires takes { Takes wired.now node port [] self }
+        requires last { class_in wired.now node port ≡ class_in wired.now node (port - 1) }
         ensures plan { IfOk result (GoesOn wired.now node (suc (turn wired.now node port)) self) }
         ensures classes { IfOk result (HasClasses wired.now node (suc port) (class_in wired.now node port)) }
+        ensures takes { IfOk result (Takes wired.now node (suc port) []) }
     {
         let (plan, came) = self.port(alloc, wired, node, port)?;
         if came {
@@ -215,9 +227,13 @@ impl Plan {
         requires auxiliary { 0 < port }
         requires classes { HasClasses wired.now node port begun self }
         requires begun { IsBegun wired.now node port begun }
+        requires takes { Takes wired.now node port [] self }
+        requires last { begun ≡ class_in wired.now node (port - 1) }
         ensures plan { IfOk result (λ r. GoesOn wired.now node (suc (turn wired.now node port)) self r.0) }
         ensures classes { IfOk result (λ r. HasClasses wired.now node (suc port) r.1 r.0) }
         ensures begun { IfOk result (λ r. IsBegun wired.now node (suc port) r.1) }
+        ensures takes { IfOk result (λ r. Takes wired.now node (suc port) [] r.0) }
+        ensures last { IfOk result (λ r. r.1 ≡ class_in wired.now node port) }
     {
         let class = wired.class(node, port);
         if class > begun {
@@ -238,6 +254,7 @@ impl Plan {
         requires start { self.tasks ≡ [] }
         ensures plan { IfOk result (GoesOn wired.now node (1 + (ports_of wired.now node - 1)) self) }
         ensures classes { IfOk result (HasClasses wired.now node (1 + (ports_of wired.now node - 1)) (classes_of wired.now node)) }
+        ensures takes { IfOk result (Takes wired.now node (ports_of wired.now node) (empties (classes_of wired.now node - class_in wired.now node (ports_of wired.now node - 1)))) }
     {
         let mut plan = self;
         let mut begun = 0;
@@ -256,6 +273,7 @@ impl Plan {
         requires start { self.tasks ≡ [] }
         ensures plan { IfOk result (GoesOn wired.now node (suc (ports_of wired.now node)) self) }
         ensures net { IfOk result (PutsNet wired.now node) }
+        ensures takes { IfOk result (Takes wired.now node (suc (ports_of wired.now node)) []) }
     {
         let ports = wired.ports(node);
         let classes = self.classes(alloc, wired, node)?;
@@ -275,6 +293,7 @@ impl Plan {
         requires start { self.tasks ≡ [] }
         ensures plan { IfOk result (GoesOn wired.now node (suc (ports_of wired.now node)) self) }
         ensures net { IfOk result (PutsNet wired.now node) }
+        ensures takes { IfOk result (Takes wired.now node (suc (ports_of wired.now node)) []) }
     {
         let ports = wired.ports(node);
         let mut plan = self.make(Joint::Given(node as u32))?;
@@ -291,8 +310,10 @@ impl Plan {
         requires plan { IsPlan wired.now node (suc (ports_of wired.now node) + near) self }
         requires orderly { IsOrderly wired.now }
         requires net { PutsNet wired.now node self }
+        requires takes { Takes wired.now node (suc (ports_of wired.now node) + near) [] self }
         ensures plan { IfOk result (GoesOn wired.now node (suc (suc (ports_of wired.now node) + near)) self) }
         ensures net { IfOk result (PutsNet wired.now node) }
+        ensures takes { IfOk result (Takes wired.now node (suc (suc (ports_of wired.now node) + near)) []) }
     {
         if self.rest.as_slice()[near as usize] {
             if self.done.as_slice()[near as usize] {
@@ -310,8 +331,10 @@ impl Plan {
         requires node { node < length wired.now.nodes }
         requires plan { IsPlan wired.now node (suc (ports_of wired.now node)) self }
         requires net { PutsNet wired.now node self }
+        requires takes { Takes wired.now node (suc (ports_of wired.now node)) [] self }
         ensures plan { IfOk result (GoesOn wired.now node (suc (ports_of wired.now node) + length wired.now.nodes) self) }
         ensures net { IfOk result (PutsNet wired.now node) }
+        ensures takes { IfOk result (Takes wired.now node (suc (ports_of wired.now node) + length wired.now.nodes) []) }
     {
         let mut plan = self;
         for near in 0..wired.nodes() {
@@ -325,6 +348,7 @@ impl Plan {
 fn skip(plan: Plan, classes: usize) -> Result<Plan, AllocError>
     ensures plan { IfOk result (KeepsPlan plan) }
     ensures skips { IfOk result (Skips classes plan) }
+    ensures tasks { IfOk result (WithEmpties classes plan) }
 {
     let mut skipped = plan;
     for class in 0..classes {
@@ -359,6 +383,7 @@ fn touched(plan: Plan, alloc: Global, wired: &Wired, node: usize) -> Result<Plan
     requires start { plan.tasks ≡ [] }
     ensures plan { IfOk result (GoesOn wired.now node (suc (ports_of wired.now node)) plan) }
     ensures net { IfOk result (PutsNet wired.now node) }
+    ensures takes { IfOk result (Takes wired.now node (suc (ports_of wired.now node)) []) }
 {
     if wired.is_agent(node) {
         Ok(plan.agent(alloc, wired, node)?)
@@ -377,7 +402,9 @@ pub(crate) fn tasks_of(
     requires size { length part.now ≡ length wired.now.nodes }
     requires here { IsIn node (nodes_in part.now) }
     requires splits { SplitsAt (open_graph wired.now) node (nodes_in part.now) }
+    requires first { IsFirst wired.now part.now node }
     ensures steps { IfOk result (λ tasks. Puts wired.now tasks (shape (nodes_in part.now) no_wires ∷ [])) }
+    ensures takes { IfOk result (TakesPart wired.now (nodes_in part.now)) }
     ensures net { IfOk result (λ tasks. IsOrderly wired.now) }
     ensures lists { IfOk result (Lists wired.now node (nodes_in part.now) 0) }
     ensures sized { IfOk result (AreSized (length wired.now.nodes)) }

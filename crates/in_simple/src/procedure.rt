@@ -1,11 +1,12 @@
-ghost use Rattle.std.specs.Prelude.{◌≡◌, ◌<◌, ◌-◌, ◌^◌, ◌++◌, ◌∷◌, [], drop, length, reverse, true, IfOk, OnOk, MatchOption, MatchResult, ℕ};
+ghost use Rattle.std.specs.Prelude.{◌≡◌, ◌<◌, ◌-◌, ◌^◌, ◌++◌, ◌∷◌, [], drop, length, map, reverse, true, IfOk, OnOk, MatchOption, MatchResult, ℕ};
 ghost use Rattle.in_simple.specs.OpenNets.{IsOrderly};
 ghost use Rattle.in_simple.specs.Derivations.{IsDerivation};
 ghost use Rattle.in_simple.specs.Stuck.{IsListed, IsStuckNet, IsUndone};
 ghost use Rattle.in_simple.specs.Procedure.{AreFewer, AreMakes, IsWork, Passes, StartsWork, nodes_in};
 ghost use Rattle.in_simple.specs.Outcomes.{IsOutcome};
 ghost use Rattle.in_simple.specs.Stacks.{Advances, AreLast, Ends, IsLast, IsUnderWay, Makes, loose_in};
-ghost use Rattle.in_simple.specs.declared.plans.Task.TheVariants.{Derive};
+ghost use Rattle.in_simple.specs.TakenOrder.{AreTaken, links_from};
+ghost use Rattle.in_simple.specs.declared.plans.Task.TheVariants.{Derive, Make};
 
 use crate::derivations::{Derivation, Step, StepNumbers, Stuck, Undone};
 use crate::open_nets::{OpenNet, Point};
@@ -142,6 +143,7 @@ fn is_loose(open: &OpenNet, wire: usize) -> bool
 fn loose(alloc: Global, open: &OpenNet, begun: bool) -> Result<Items<Task>, AllocError>
     ensures makes { IfOk result AreMakes }
     ensures steps { IfOk result (Ends «open».now begun) }
+    ensures order { IfOk result (λ tasks. tasks ≡ map Make (links_from «open».now begun 0 (length «open».now.wires))) }
 {
     let mut tasks = Items::new(alloc);
     let mut some = begun;
@@ -248,7 +250,7 @@ fn take(
 fn finish(alloc: Global, wired: &Wired, work: &mut Work) -> Result<Option<Stuck>, AllocError>
     requires work { IsWork wired.now (reverse work.old.tasks) }
     requires steps { IsUnderWay wired.now (reverse work.old.tasks) work.old.steps work.old.roots }
-    ensures { IfOk result (λ found. MatchOption found (IsDerivation wired.now work.new.steps) (IsStuckNet wired.now)) }
+    ensures { IfOk result (λ found. MatchOption found (IsDerivation wired.now work.new.steps × AreTaken wired.now work.new.steps) (IsStuckNet wired.now)) }
 {
     while let Some(part) = work.next_part(alloc)? {
         if let Some(stuck) = take(alloc, wired, work, &part)? {
@@ -286,10 +288,11 @@ fn attempt(alloc: Global, open: &OpenNet) -> Result<Outcome, AllocError>
 }
 
 /// The steps that build the open net: the first node in order that splits it is taken out, then each component that is left is
-/// derived, and they are joined. Refused with the first stuck sub-net in that order, or for want of memory. Lafont 1990 asks
+/// derived, and they are joined, in one order, which determines the steps. Refused with the first stuck sub-net in that order, or for want of memory. Lafont 1990 asks
 /// whether a net is semi-simple; the order is this project's own choice.
 pub fn derive(alloc: Global, open: &OpenNet) -> Result<Derivation, Undone>
-    ensures { MatchResult result (λ derivation. IsDerivation «open».now derivation.steps) (IsUndone «open».now) }
+    ensures steps { MatchResult result (λ derivation. IsDerivation «open».now derivation.steps) (IsUndone «open».now) }
+    ensures order { IfOk result (λ derivation. AreTaken «open».now derivation.steps) }
 {
     match attempt(alloc, open) {
         Ok(Outcome::Derived(derivation)) => Ok(derivation),

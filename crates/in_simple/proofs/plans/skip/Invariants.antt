@@ -1,4 +1,4 @@
-use Rattle.in_simple.specs.Planned.{Skips}
+use Rattle.in_simple.specs.Planned.{Skips, WithEmpties}
 use Rattle.in_simple.specs.Procedure.{KeepsPlan}
 use Rattle.in_simple.proofs.plans.skip.Given as goal
 
@@ -6,4 +6,5 @@ abbrev pub invariant-loop-class : goal.invariant-loop-class
 invariant-loop-class l = record {
   plan : KeepsPlan l.fn.plan l.skipped;
   skips : Skips l.class l.fn.plan l.skipped;
+  tasks : WithEmpties l.class l.fn.plan l.skipped;
 }

@@ -2,7 +2,7 @@ use Rattle.std.proofs.Common.{[], ◌∷◌, reverse, subst}
 use Rattle.std.specs.Prelude.{MatchOption}
 use Rattle.in_simple.specs.declared.plans.Task.TheVariants.{Derive}
 use Rattle.in_simple.specs.Stacks.{Advances}
-use Rattle.in_simple.proofs.Finishing.{derivation_done}
+use Rattle.in_simple.proofs.Finishing.{derivation_done, order_done}
 use Rattle.in_simple.proofs.procedure.finish.Goals as goal
 
 pub returns : goal.returns
@@ -12,4 +12,5 @@ returns c =
     let l = c.loop-part.work in
     let x = c.next_part.new.self in
     let p = subst (λ z. MatchOption z (Advances old l.steps l.roots [] x.steps x.roots) (λ part. Advances old l.steps l.roots (Derive part ∷ reverse x.tasks) x.steps x.roots)) c.in_default.is c.in_ok-part.ensures.steps in
-    derivation_done o c.nodes-count.ensures.net.net x.steps x.roots (p o c.loop-part.invariant.steps)
+    let done = p o c.loop-part.invariant.steps in
+    (derivation_done o c.nodes-count.ensures.net.net x.steps x.roots done, order_done o c.nodes-count.ensures.net.net x.steps x.roots done)

@@ -26,7 +26,7 @@ returns-in_ok-expand-in-Some c =
       subst (λ z. IsWork o z) (sym e) (expand_work o net part n ps ts c.requires.work f t.lists t.sized),
       subst (λ z. AreFewer o (Derive part ∷ ts) z) (sym e) (expand_fewer o net part n ps ts c.requires.work f t.lists),
       subst (λ z. IsUnderWay o (reverse x.tasks) x.steps z) (sym c.in_ok-expand-in-Some.ensures.roots)
-          (subst (λ z. IsUnderWay o (reverse x.tasks) z old.roots) (sym c.in_ok-expand-in-Some.ensures.steps) (subst (λ z. IsUnderWay o z old.steps old.roots) (sym e) (under_derive o part ps ts old.steps old.roots t.steps c.requires.steps))),
+          (subst (λ z. IsUnderWay o (reverse x.tasks) z old.roots) (sym c.in_ok-expand-in-Some.ensures.steps) (subst (λ z. IsUnderWay o z old.steps old.roots) (sym e) (under_derive o part ps ts old.steps old.roots t.steps t.takes c.requires.steps))),
     )
 
 pub returns-in_ok-stuck-in-None : goal.returns-in_ok-stuck-in-None
@@ -48,3 +48,6 @@ pub tasks_of-requires-clause-splits : goal.tasks_of-requires-clause-splits
 tasks_of-requires-clause-splits c =
     let f = subst (λ z. MatchOption z (NoneSplits c.args.wired.now c.args.part.now (length c.args.wired.now.nodes)) (IsFirst c.args.wired.now c.args.part.now)) c.in-Some.is c.in_ok-node.ensures.found in
     f.splits
+
+pub tasks_of-requires-clause-first : goal.tasks_of-requires-clause-first
+tasks_of-requires-clause-first c = subst (λ z. MatchOption z (NoneSplits c.args.wired.now c.args.part.now (length c.args.wired.now.nodes)) (IsFirst c.args.wired.now c.args.part.now)) c.in-Some.is c.in_ok-node.ensures.found

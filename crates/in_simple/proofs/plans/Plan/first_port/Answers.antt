@@ -1,8 +1,9 @@
-use Rattle.std.proofs.Common.{◌+◌, suc, subst}
-use Rattle.in_simple.specs.Planned.{WhatPort}
+use Rattle.std.proofs.Common.{◌+◌, suc, subst, arith}
+use Rattle.in_simple.specs.Planned.{WhatComes, WhatPort}
 use Rattle.in_simple.specs.Stuck.{turn}
 use Rattle.in_simple.proofs.ClassNets.{skip_has, first_came, first_none}
 use Rattle.in_simple.proofs.Planning.{goes_make, goes_on}
+use Rattle.in_simple.proofs.Taking.{first_takes, first_brings}
 use Rattle.in_simple.proofs.plans.Plan.first_port.Goals as goal
 
 pub port-requires-clause-plan : goal.port-requires-clause-plan
@@ -27,6 +28,7 @@ returns-then-came c =
       classes = first_came o net n c.requires.agent (turn o n i) q g.0 i c.requires.auxiliary (s.0 + c.args.skipped)
           (skip_has o net n i s.0 c.args.skipped p q s.1 c.in_ok-begun.ensures.skips) s.2 r c.in_ok-plan.ensures.plan.1
           (subst (λ z. WhatPort o n i q r z) c.if-came.true c.in_ok-plan.ensures.adds);
+      takes = first_takes o net n p q r i c.args.skipped c.requires.agent c.requires.port c.requires.skipped c.requires.takes g.1 c.in_ok-begun.ensures.tasks c.in_ok-plan.ensures.plan.1 (subst (λ z. WhatComes o n i q r z) c.if-came.true c.in_ok-plan.ensures.comes);
     }
 
 pub returns-in_ok-make : goal.returns-in_ok-make
@@ -45,4 +47,6 @@ returns-in_ok-make c =
       classes = first_none o net n c.requires.agent (turn o n i) q g.0 i c.requires.auxiliary (s.0 + c.args.skipped)
           (skip_has o net n i s.0 c.args.skipped p q s.1 c.in_ok-begun.ensures.skips) s.2 r c.in_ok-make.field-0
           (subst (λ z. WhatPort o n i q r z) c.if-came.false c.in_ok-plan.ensures.adds) c.in_ok-make.ensures;
+      takes = absurd (first_brings o net n q r i (s.0 + c.args.skipped) c.requires.agent c.requires.auxiliary c.requires.port g.0 (skip_has o net n i s.0 c.args.skipped p q s.1 c.in_ok-begun.ensures.skips) (let e = s.2 in omega arith)
+          (subst (λ z. WhatPort o n i q r z) c.if-came.false c.in_ok-plan.ensures.adds));
     }

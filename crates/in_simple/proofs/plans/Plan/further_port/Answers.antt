@@ -1,8 +1,9 @@
 use Rattle.std.proofs.Common.{suc, subst}
-use Rattle.in_simple.specs.Planned.{WhatPort}
+use Rattle.in_simple.specs.Planned.{WhatComes, WhatPort}
 use Rattle.in_simple.specs.Stuck.{turn}
 use Rattle.in_simple.proofs.ClassNets.{some_class, further_came, further_none}
 use Rattle.in_simple.proofs.Planning.{goes_make}
+use Rattle.in_simple.proofs.Taking.{further_takes, further_nothing}
 use Rattle.in_simple.proofs.plans.Plan.further_port.Goals as goal
 
 pub returns-in_ok-make : goal.returns-in_ok-make
@@ -17,6 +18,7 @@ returns-in_ok-make c =
       plan = goes_make o n (suc (turn o n i)) p r c.in_ok-make.field-0 _ c.in_ok-plan.ensures.plan c.in_ok-make.ensures;
       classes = further_came o net n c.requires.agent (turn o n i) p c.requires.plan i c.requires.auxiliary c.requires.classes (some_class o net n i c.requires.agent c.requires.auxiliary c.requires.port)
           r c.in_ok-make.field-0 c.in_ok-plan.ensures.plan.1 (subst (λ z. WhatPort o n i p r z) c.if-came.true c.in_ok-plan.ensures.adds) c.in_ok-make.ensures;
+      takes = further_takes o net n p r c.in_ok-make.field-0 i c.requires.agent c.requires.port c.requires.last c.requires.takes c.in_ok-plan.ensures.plan.1 (subst (λ z. WhatComes o n i p r z) c.if-came.true c.in_ok-plan.ensures.comes) c.in_ok-make.ensures;
     }
 
 pub returns-else-came : goal.returns-else-came
@@ -31,4 +33,5 @@ returns-else-came c =
       plan = c.in_ok-plan.ensures.plan;
       classes = further_none o net n c.requires.agent (turn o n i) p c.requires.plan i c.requires.auxiliary c.requires.classes (some_class o net n i c.requires.agent c.requires.auxiliary c.requires.port)
           r (subst (λ z. WhatPort o n i p r z) c.if-came.false c.in_ok-plan.ensures.adds);
+      takes = further_nothing o net n p r i c.requires.agent c.requires.port c.requires.last c.requires.takes c.in_ok-plan.ensures.plan.1 (subst (λ z. WhatComes o n i p r z) c.if-came.false c.in_ok-plan.ensures.comes);
     }

@@ -1,5 +1,11 @@
-use Rattle.std.proofs.Common.{suc, true, false, subst}
-use Rattle.in_simple.specs.declared.open_nets.Point.TheVariants.{Port}
+use Rattle.std.proofs.Common.{◌≡◌, suc, true, false, subst}
+use Rattle.in_simple.specs.declared.open_nets.Point.{Point}
+use Rattle.in_simple.specs.declared.open_nets.Point.TheVariants.{Port, Free}
+use Rattle.in_simple.specs.Constructions.{IsIn}
+use Rattle.in_simple.specs.Procedure.{nodes_in}
+use Rattle.in_simple.proofs.Sound.{port_place}
+use Rattle.in_simple.proofs.Sums.{not_both}
+use Rattle.in_simple.proofs.Taking.{join_nothing, join_takes}
 use Rattle.in_simple.specs.OpenNets.{IsWire}
 use Rattle.in_simple.specs.Stuck.{turn}
 use Rattle.in_simple.proofs.Nets.{net_join, one_port}
@@ -19,6 +25,7 @@ returns-then-as_slice-near-2 c =
     record {
       plan = port_done o net n p i v x.near x.field-1-1 c.requires.port c.requires.plan wire (read_bit _ p.done x.near true c.as_slice-then-as_slice-near.ensures c.if-as_slice-near-2.true);
       net = c.requires.net;
+      takes = join_nothing o net n p i c.requires.port c.requires.principal c.requires.plan (λ w l j g m. let e = (port_place x.near l x.field-1-1 j (net.once v w (Port n i) (Port x.near x.field-1-1) (Port l j) wire g).1).0 in subst (λ z. IsIn z (nodes_in p.done)) e (read_bit _ p.done x.near true c.as_slice-then-as_slice-near.ensures c.if-as_slice-near-2.true)) c.requires.takes;
     }
 
 pub returns-in_ok-make-in_default-Port : goal.returns-in_ok-make-in_default-Port
@@ -35,6 +42,7 @@ returns-in_ok-make-in_default-Port c =
     record {
       plan = goes_make o n (suc (turn o n i)) p d.field-0 c.in_ok-make-in_default-Port.field-0 _ (port_derive o net n p d.field-0 i v x.near x.field-1-1 c.requires.plan wire (read_bit _ p.rest x.near true c.as_slice.ensures c.if-as_slice-near.true) (read_bit _ p.done x.near false c.as_slice-then-as_slice-near.ensures c.if-as_slice-near-2.false) d.ensures) c.in_ok-make-in_default-Port.ensures;
       net = net_join o net n (turn o n i) p c.requires.plan x.near d.field-0 (read_bit _ p.rest x.near true c.as_slice.ensures c.if-as_slice-near.true) (read_bit _ p.done x.near false c.as_slice-then-as_slice-near.ensures c.if-as_slice-near-2.false) d.ensures c.in_ok-make-in_default-Port.field-0 i v x.field-1-1 c.requires.net wire c.requires.principal (one_port o net n i v (Port x.near x.field-1-1) c.requires.node wire c.requires.principal) c.in_ok-make-in_default-Port.ensures;
+      takes = join_takes o net n p d.field-0 c.in_ok-make-in_default-Port.field-0 i v x.near x.field-1-1 c.requires.port c.requires.principal c.requires.plan wire (read_bit _ p.rest x.near true c.as_slice.ensures c.if-as_slice-near.true) (read_bit _ p.done x.near false c.as_slice-then-as_slice-near.ensures c.if-as_slice-near-2.false) d.ensures c.in_ok-make-in_default-Port.ensures c.requires.takes;
     }
 
 pub returns-else-as_slice-near : goal.returns-else-as_slice-near
@@ -50,6 +58,7 @@ returns-else-as_slice-near c =
     record {
       plan = port_out o net n p i v x.near x.field-1-1 c.requires.port c.requires.plan wire (read_bit _ p.rest x.near false c.as_slice.ensures c.if-as_slice-near.false);
       net = c.requires.net;
+      takes = join_nothing o net n p i c.requires.port c.requires.principal c.requires.plan (λ w l j g m. let e = (port_place x.near l x.field-1-1 j (net.once v w (Port n i) (Port x.near x.field-1-1) (Port l j) wire g).1).0 in absurd (not_both (nodes_in p.rest l) m (subst (λ z. nodes_in p.rest z ≡ false) e (read_bit _ p.rest x.near false c.as_slice.ensures c.if-as_slice-near.false)))) c.requires.takes;
     }
 
 pub returns-in_default-Free : goal.returns-in_default-Free
@@ -65,4 +74,5 @@ returns-in_default-Free c =
     record {
       plan = port_free o net n p i v x.field-0-1 c.requires.port c.requires.plan wire;
       net = c.requires.net;
+      takes = join_nothing o net n p i c.requires.port c.requires.principal c.requires.plan (λ w l j g m. let e : ◌≡◌ {A = Point} (Free x.field-0-1) (Port l j) = (net.once v w (Port n i) (Free x.field-0-1) (Port l j) wire g).1 in cc) c.requires.takes;
     }

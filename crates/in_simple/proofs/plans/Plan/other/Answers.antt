@@ -2,6 +2,9 @@ use Rattle.std.proofs.Common.{◌+◌, suc, true, false}
 use Rattle.in_simple.specs.Stuck.{ports_of}
 use Rattle.in_simple.proofs.Nets.{net_other}
 use Rattle.in_simple.proofs.Planning.{goes_make, read_bit, node_out, node_done, node_derive}
+use Rattle.in_simple.specs.Procedure.{nodes_in}
+use Rattle.in_simple.proofs.Sums.{not_both}
+use Rattle.in_simple.proofs.Taking.{other_nothing, other_takes}
 use Rattle.in_simple.proofs.plans.Plan.other.Goals as goal
 
 pub returns-then-as_slice-near-2 : goal.returns-then-as_slice-near-2
@@ -14,6 +17,7 @@ returns-then-as_slice-near-2 c =
     record {
       plan = node_done o net n p m c.requires.plan (read_bit _ p.done m true c.as_slice-then-as_slice-near.ensures c.if-as_slice-near-2.true);
       net = c.requires.net;
+      takes = other_nothing o net n p m c.requires.plan (λ g. read_bit _ p.done m true c.as_slice-then-as_slice-near.ensures c.if-as_slice-near-2.true) c.requires.takes;
     }
 
 pub returns-in_ok-make : goal.returns-in_ok-make
@@ -27,6 +31,7 @@ returns-in_ok-make c =
     record {
       plan = goes_make o n (suc (suc (ports_of o n) + m)) p d.field-0 c.in_ok-make.field-0 _ (node_derive o net n p d.field-0 m c.requires.plan (read_bit _ p.rest m true c.as_slice.ensures c.if-as_slice-near.true) (read_bit _ p.done m false c.as_slice-then-as_slice-near.ensures c.if-as_slice-near-2.false) d.ensures) c.in_ok-make.ensures;
       net = net_other o net n p m c.requires.plan d.field-0 c.in_ok-make.field-0 (read_bit _ p.rest m true c.as_slice.ensures c.if-as_slice-near.true) (read_bit _ p.done m false c.as_slice-then-as_slice-near.ensures c.if-as_slice-near-2.false) d.ensures c.requires.net c.in_ok-make.ensures;
+      takes = other_takes o net n p d.field-0 c.in_ok-make.field-0 m c.requires.plan (read_bit _ p.rest m true c.as_slice.ensures c.if-as_slice-near.true) (read_bit _ p.done m false c.as_slice-then-as_slice-near.ensures c.if-as_slice-near-2.false) d.ensures c.in_ok-make.ensures c.requires.takes;
     }
 
 pub returns-else-as_slice-near : goal.returns-else-as_slice-near
@@ -39,4 +44,5 @@ returns-else-as_slice-near c =
     record {
       plan = node_out o net n p m c.requires.plan (read_bit _ p.rest m false c.as_slice.ensures c.if-as_slice-near.false);
       net = c.requires.net;
+      takes = other_nothing o net n p m c.requires.plan (λ g. absurd (not_both (nodes_in p.rest m) g (read_bit _ p.rest m false c.as_slice.ensures c.if-as_slice-near.false))) c.requires.takes;
     }

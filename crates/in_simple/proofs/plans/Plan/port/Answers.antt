@@ -5,7 +5,8 @@ use Rattle.in_simple.specs.OpenNets.{IsWire}
 use Rattle.in_simple.specs.Stuck.{turn}
 use Rattle.in_simple.specs.Procedure.{nodes_in}
 use Rattle.in_simple.specs.Stacks.{shape, no_wires}
-use Rattle.in_simple.proofs.Sums.{port_no}
+use Rattle.in_simple.proofs.Sums.{not_both, port_no}
+use Rattle.in_simple.proofs.Taking.{comes_done, comes_own, comes_component, comes_link}
 use Rattle.in_simple.proofs.Sound.{port_place}
 use Rattle.in_simple.proofs.ClassNets.{nothing_done, nothing_own, adds_component, adds_link}
 use Rattle.in_simple.proofs.Planning.{port_free, port_out, port_done, port_derive, goes_make, read_bit}
@@ -25,6 +26,7 @@ returns-then-as_slice-near-2 c =
     record {
       plan = port_done o net n p i v x.near x.place c.requires.port c.requires.plan wire (read_bit _ p.done x.near true c.as_slice-then-as_slice-near.ensures c.if-as_slice-near-2.true);
       adds = nothing_done o net n (turn o n i) p c.requires.plan i v x.near x.place wire (read_bit _ p.rest x.near true c.as_slice.ensures c.if-as_slice-near.true) (read_bit _ p.done x.near true c.as_slice-then-as_slice-near.ensures c.if-as_slice-near-2.true);
+      comes = comes_done o net n p i v c.requires.agent c.requires.auxiliary c.requires.port c.requires.plan x.near x.place wire (read_bit _ p.rest x.near true c.as_slice.ensures c.if-as_slice-near.true) (read_bit _ p.done x.near true c.as_slice-then-as_slice-near.ensures c.if-as_slice-near-2.true);
     }
 
 pub returns-in_ok-derive-in_default-Port : goal.returns-in_ok-derive-in_default-Port
@@ -41,6 +43,7 @@ returns-in_ok-derive-in_default-Port c =
     record {
       plan = port_derive o net n p d.field-0 i v x.near x.place c.requires.plan wire (read_bit _ p.rest x.near true c.as_slice.ensures c.if-as_slice-near.true) (read_bit _ p.done x.near false c.as_slice-then-as_slice-near.ensures c.if-as_slice-near-2.false) d.ensures;
       adds = (shape (nodes_in d.ensures.component) no_wires, adds_component o net n (turn o n i) p c.requires.plan i v x.near x.place d.field-0 wire (read_bit _ p.rest x.near true c.as_slice.ensures c.if-as_slice-near.true) (read_bit _ p.done x.near false c.as_slice-then-as_slice-near.ensures c.if-as_slice-near-2.false) d.ensures);
+      comes = comes_component o net n p i v c.requires.agent c.requires.auxiliary c.requires.port c.requires.plan d.field-0 x.near x.place wire (read_bit _ p.rest x.near true c.as_slice.ensures c.if-as_slice-near.true) (read_bit _ p.done x.near false c.as_slice-then-as_slice-near.ensures c.if-as_slice-near-2.false) d.ensures;
     }
 
 pub returns-then-place-port : goal.returns-then-place-port
@@ -56,6 +59,7 @@ returns-then-place-port c =
     record {
       plan = port_out o net n p i v x.near x.place c.requires.port c.requires.plan wire (read_bit _ p.rest x.near false c.as_slice.ensures c.if-as_slice-near.false);
       adds = nothing_own o net n (turn o n i) p c.requires.plan i v x.near x.place wire (read_bit _ p.rest x.near false c.as_slice.ensures c.if-as_slice-near.false) c.if-near-node.true c.if-place-port.true;
+      comes = comes_own o net n p i v c.requires.agent c.requires.auxiliary c.requires.port c.requires.plan x.near x.place wire (read_bit _ p.rest x.near false c.as_slice.ensures c.if-as_slice-near.false) c.if-near-node.true c.if-place-port.true;
     }
 
 pub returns-in_ok-make-in_default-Port : goal.returns-in_ok-make-in_default-Port
@@ -81,6 +85,10 @@ returns-in_ok-make-in_default-Port c =
             ])
             c.in_ok-make-in_default-Port.ensures,
       );
+      comes = comes_link o net n p i v c.requires.agent c.requires.auxiliary c.requires.port c.requires.plan c.in_ok-make-in_default-Port.field-0 (Port x.near x.place) wire (
+        (λ h. absurd (not_both (nodes_in p.rest x.near) h (read_bit _ p.rest x.near false c.as_slice.ensures c.if-as_slice-near.false))),
+        λ e. elim c.else-near-node.branch [ else-near-node-via-then-near-node+else-place-port w ↦ let l = w.if-place-port.false in omega arith | else-near-node-via-else-near-node w ↦ absurd (w.if-near-node.false e) ],
+      ) c.in_ok-make-in_default-Port.ensures;
     }
 
 pub returns-in_ok-make-in_default-Free : goal.returns-in_ok-make-in_default-Free
@@ -96,4 +104,5 @@ returns-in_ok-make-in_default-Free c =
     record {
       plan = goes_make o n (suc (turn o n i)) p p c.in_ok-make-in_default-Free.field-0 _ (port_free o net n p i v x.field-0-1 c.requires.port c.requires.plan wire) c.in_ok-make-in_default-Free.ensures;
       adds = (shape (λ m. false) (λ w. nat_eq w v), adds_link o net n (turn o n i) p c.requires.plan i v (Free x.field-0-1) c.in_ok-make-in_default-Free.field-0 wire refl (λ j e. let f : ◌≡◌ {A = Point} (Free x.field-0-1) (Port n j) = e in cc) c.in_ok-make-in_default-Free.ensures);
+      comes = comes_link o net n p i v c.requires.agent c.requires.auxiliary c.requires.port c.requires.plan c.in_ok-make-in_default-Free.field-0 (Free x.field-0-1) wire tt c.in_ok-make-in_default-Free.ensures;
     }
