@@ -1,5 +1,5 @@
 -- A text has one answer.
-use Rattle.std.proofs.Common.{◌≡◌, ℕ, List, map, Result, Ok, Err, refl, sym, subst}
+use Rattle.std.proofs.Common.{◌≡◌, ℕ, List, Result, Ok, Err, refl, sym, subst}
 use Rattle.in_syntax.specs.declared.faults.Fault.{Fault}
 use Rattle.in_syntax.specs.declared.faults.Fault.TheVariants.{Refused, Memory}
 use Rattle.in_syntax.specs.declared.tree.Source.{Source}
@@ -32,17 +32,16 @@ use Rattle.in_check.specs.Certificates.{CertifiesRules, CertifiesNet}
 use Rattle.in_check.specs.Checking.{BuildsRules, ChecksNames, ChecksNet, ChecksNetSteps, ChecksPairs, ChecksRules, ChecksRuleSteps, ChecksTypes, IsChecked, Keeps, TypePasses}
 use Rattle.in_check.specs.Laws.{AreOneProgram, TextsAreCheckedOnce}
 use Rattle.in_check.specs.Programs.{Program}
-use Rattle.in_check.proofs.OnePass.{AllOne, HaveOneShape, HaveOneShapes, one_certified, one_rules, one_rules_steps, one_types}
+use Rattle.in_check.proofs.OnePass.{AllOne, one_certified, one_rules, one_rules_steps, one_types}
 
-kept : (t : Tables) (rules : List RuleParts) (n : Parts) (a b : Cells) (cs ds : List Certificate) (c d : Certificate) → AreOneTable a b → HaveOneShapes cs ds → HaveOneShape c d →
-    (x y : Result Program Fault) → Keeps t rules n a cs c x → Keeps t rules n b ds d y → AgreeBy AreOneProgram x y
-kept t rules n a b cs ds c d e f g (Ok p) (Ok q) h k =
+kept : (t : Tables) (rules : List RuleParts) (n : Parts) (a b : Cells) (cs : List Certificate) (c : Certificate) → AreOneTable a b → (x y : Result Program Fault) → Keeps t rules n a cs c x → Keeps t rules n b cs c y → AgreeBy AreOneProgram x y
+kept t rules n a b cs c e (Ok p) (Ok q) h k =
     subst (λ p. AreOneProgram p q) (sym h) (subst (AreOneProgram (record { tables = t; rules = rules; net = n; numbers = a; rule_certificates = cs; net_certificate = c })) (sym k)
-    (record { tables = refl; rules = refl; net = refl; numbers = e; rule_shapes = f; net_shape = g }))
-kept t rules n a b cs ds c d e f g (Ok p) (Err (Refused r)) h k = k
-kept t rules n a b cs ds c d e f g (Ok p) (Err (Memory m)) h k = tt
-kept t rules n a b cs ds c d e f g (Err (Refused q)) y h k = absurd h
-kept t rules n a b cs ds c d e f g (Err (Memory m)) y h k = tt
+    (record { tables = refl; rules = refl; net = refl; numbers = e; rule_certificates = refl; net_certificate = refl }))
+kept t rules n a b cs c e (Ok p) (Err (Refused r)) h k = k
+kept t rules n a b cs c e (Ok p) (Err (Memory m)) h k = tt
+kept t rules n a b cs c e (Err (Refused q)) y h k = absurd h
+kept t rules n a b cs c e (Err (Memory m)) y h k = tt
 
 -- ---- the open nets of a text are open nets, and each has one
 
@@ -62,9 +61,13 @@ module _ (s : Source) (t : Tables) (of_text : IsOfText s) (tabled : Tabulates s 
   steps_once : (rules : List RuleParts) (n : Parts) (a b : Cells) → BuildsRules s t (Ok rules) → Builds s t (Ok n) → AreOneTable a b → (x y : Result Program Fault) → ChecksRuleSteps t rules n a x → ChecksRuleSteps t rules n b y →
       AgreeBy AreOneProgram x y
   steps_once rules n a b rs net e =
-      then_two HaveOneShapes AreOneProgram (CertifiesRules t rules) (ChecksNetSteps t rules n a) (ChecksNetSteps t rules n b) (one_rules_steps t rules (all_one rules rs))
-      (λ cs ds f h k. then_two HaveOneShape AreOneProgram (CertifiesNet t n) (Keeps t rules n a cs) (Keeps t rules n b ds)
-          (one_certified (Opens t n) E13 (λ o opens. net_opens s t n o tabled net opens) (λ o u l r. one_open_net t n o u l r)) (λ c d g l r. kept t rules n a b cs ds c d e f g))
+      then_two (λ cs ds. cs ≡ ds) AreOneProgram (CertifiesRules t rules) (ChecksNetSteps t rules n a) (ChecksNetSteps t rules n b) (one_rules_steps t rules (all_one rules rs))
+      (λ cs ds f h k x y l r. net_steps cs x y l (subst (λ ds. ChecksNetSteps t rules n b ds y) (sym f) r))
+    where
+      net_steps : (cs : List Certificate) (x y : Result Program Fault) → ChecksNetSteps t rules n a cs x → ChecksNetSteps t rules n b cs y → AgreeBy AreOneProgram x y
+      net_steps cs =
+          then_two (λ c d. c ≡ d) AreOneProgram (CertifiesNet t n) (Keeps t rules n a cs) (Keeps t rules n b cs) (one_certified (Opens t n) E13 (λ o opens. net_opens s t n o tabled net opens) (λ o u l r. one_open_net t n o u l r))
+          (λ c d g h k x y l r. kept t rules n a b cs c e x y l (subst (λ d. Keeps t rules n b cs d y) (sym g) r))
 
   pub rules_and_net_once : IsOneBy AreOneProgram (ChecksRules s t)
   rules_and_net_once =

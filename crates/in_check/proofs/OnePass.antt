@@ -1,5 +1,5 @@
 -- Each pass that goes rule by rule has one answer, and so have the steps.
-use Rattle.std.proofs.Common.{◌≡◌, ◌⊎◌, inl, inr, ℕ, suc, ◌<◌, List, [], ◌∷◌, length, map, Some, slice_get, Result, Ok, Err, refl, sym, ◌∙◌, ap, subst, arith}
+use Rattle.std.proofs.Common.{◌≡◌, ◌⊎◌, inl, inr, ℕ, suc, ◌<◌, List, [], ◌∷◌, length, Some, slice_get, Result, Ok, Err, refl, sym, ◌∙◌, ap, subst, arith}
 use Rattle.std.proofs.lemmas.Bool.{cases_order}
 use Rattle.std.proofs.lemmas.Option.{slice_get_within}
 use Rattle.in_syntax.specs.declared.faults.Code.{Code}
@@ -14,7 +14,9 @@ use Rattle.in_net.specs.Rules.{RuleParts, BuildsRule}
 use Rattle.in_typing.specs.Typed.{TypesRule, IsRuleMistyped}
 use Rattle.in_typing.proofs.OneFault.{one_mistyped, one_rule_mistyped, rule_not_both}
 use Rattle.in_simple.specs.OpenNets.{OpenNet, IsOpenNet}
-use Rattle.in_simple.proofs.OneAnswer.{one_stuck_place}
+use Rattle.in_simple.specs.Derivations.{IsDerivation}
+use Rattle.in_simple.specs.TakenOrder.{AreTaken}
+use Rattle.in_simple.proofs.OneAnswer.{derived_once, one_stuck_place}
 use Rattle.in_simple.proofs.OneOpening.{by_elements}
 use Rattle.in_simple.proofs.Sums.{got}
 use Rattle.in_simple.proofs.Whole.{derivation_builds}
@@ -78,23 +80,23 @@ one_types t rules n (Err (Memory e)) b h k = tt
 
 -- ---- steps
 
-abbrev pub HaveOneShape : Certificate → Certificate → Type 0
-HaveOneShape c d = c.shape ≡ d.shape
-
-abbrev pub HaveOneShapes : List Certificate → List Certificate → Type 0
-HaveOneShapes cs ds = map (λ c. c.shape) cs ≡ map (λ c. c.shape) ds
-
 one_refused : (o u : OpenNet) (c : Code) (q r : Refusal) → IsOpenNet u → o ≡ u → IsRefusedAt o c q → IsRefusedAt u c r → q ≡ r
 one_refused o u c q r net e h k =
     let g : IsRefusedAt u c q = subst (λ o. IsRefusedAt o c q) e h in
     same_refusal q r (g.code_is ∙ sym k.code_is) (one_stuck_place u q.place r.place net g.at k.at) (g.other ∙ sym k.other)
 
 not_refused : (o : OpenNet) (c : Code) (d : Certificate) (r : Refusal) → IsOpenNet d.shape → o ≡ d.shape → IsCertificate d → IsRefusedAt o c r → ⊥
-not_refused o c d r net e built refused = (subst (λ o. IsRefusedAt o c r) e refused).underivable (derivation_builds d.shape net d.derivation.steps built)
+not_refused o c d r net e built refused = (subst (λ o. IsRefusedAt o c r) e refused).underivable (derivation_builds d.shape net d.derivation.steps built.0)
+
+one_certificate : (c d : Certificate) → IsOpenNet d.shape → c.shape ≡ d.shape → IsCertificate c → IsCertificate d → c ≡ d
+one_certificate c d net e h k =
+    let steps : c.derivation.steps ≡ d.derivation.steps = derived_once d.shape (Ok c.derivation) (Ok d.derivation) net (subst (λ o. IsDerivation o c.derivation.steps × AreTaken o c.derivation.steps) e h) k in
+    ap (λ z. let x : Certificate = record { shape = z; derivation = c.derivation } in x) e
+    ∙ ap (λ z. let x : Certificate = record { shape = d.shape; derivation = record { steps = z } } in x) steps
 
 -- where at most one open net is meant, and it is one
-pub one_certified : (P : OpenNet → Type 0) (code : Code) → ((o : OpenNet) → P o → IsOpenNet o) → ((o u : OpenNet) → P o → P u → o ≡ u) → IsOneBy HaveOneShape (CertifiesSome P code)
-one_certified P code net one (Ok c) (Ok d) h k = one c.shape d.shape h.0 k.0
+pub one_certified : (P : OpenNet → Type 0) (code : Code) → ((o : OpenNet) → P o → IsOpenNet o) → ((o u : OpenNet) → P o → P u → o ≡ u) → IsOne (CertifiesSome P code)
+one_certified P code net one (Ok c) (Ok d) h k = one_certificate c d (net d.shape k.0) (one c.shape d.shape h.0 k.0) h.1 k.1
 one_certified P code net one (Ok c) (Err (Refused r)) h k = not_refused k.0 code c r (net c.shape h.0) (one k.0 c.shape k.1 h.0) h.1 k.2
 one_certified P code net one (Ok c) (Err (Memory e)) h k = tt
 one_certified P code net one (Err (Refused q)) (Ok d) h k = not_refused h.0 code d q (net d.shape k.0) (one h.0 d.shape h.1 k.0) k.1 h.2
@@ -102,22 +104,13 @@ one_certified P code net one (Err (Refused q)) (Err (Refused r)) h k = one_refus
 one_certified P code net one (Err (Refused q)) (Err (Memory e)) h k = tt
 one_certified P code net one (Err (Memory e)) b h k = tt
 
-shapes_by : (cs ds : List Certificate) → length cs ≡ length ds → ((i : ℕ) (c d : Certificate) → slice_get cs i ≡ Some c → slice_get ds i ≡ Some d → HaveOneShape c d) → HaveOneShapes cs ds
-shapes_by [] [] e h = refl
-shapes_by [] (d ∷ ds) e h = absurd (omega (arith, e))
-shapes_by (c ∷ cs) [] e h = absurd (omega (arith, e))
-shapes_by (c ∷ cs) (d ∷ ds) e h =
-    let one : c.shape ≡ d.shape = h 0 c d refl refl in
-    let rest : HaveOneShapes cs ds = shapes_by cs ds (omega (arith, e)) (λ i a b is at. h (suc i) a b is at) in
-    cc
-
 abbrev pub AllOne : Tables → List RuleParts → Type 0
-AllOne t rules = (i : ℕ) (p : RuleParts) → slice_get rules i ≡ Some p → IsOneBy HaveOneShape (CertifiesRule t p)
+AllOne t rules = (i : ℕ) (p : RuleParts) → slice_get rules i ≡ Some p → IsOne (CertifiesRule t p)
 
-pub one_rules_steps : (t : Tables) (rules : List RuleParts) → AllOne t rules → IsOneBy HaveOneShapes (CertifiesRules t rules)
-one_rules_steps t rules one (Ok cs) (Ok ds) h k = shapes_by cs ds (h.count ∙ sym k.count) (λ i c d is at. at_rule i c d is at)
+pub one_rules_steps : (t : Tables) (rules : List RuleParts) → AllOne t rules → IsOne (CertifiesRules t rules)
+one_rules_steps t rules one (Ok cs) (Ok ds) h k = by_elements cs ds (h.count ∙ sym k.count) (λ i c d is at. at_rule i c d is at)
   where
-    at_rule : (i : ℕ) (c d : Certificate) → slice_get cs i ≡ Some c → slice_get ds i ≡ Some d → HaveOneShape c d
+    at_rule : (i : ℕ) (c d : Certificate) → slice_get cs i ≡ Some c → slice_get ds i ≡ Some d → c ≡ d
     at_rule i c d is at =
         let lt = slice_get_within cs i c is in
         let p = got rules i (let e = h.count in omega (arith, lt, e)) in

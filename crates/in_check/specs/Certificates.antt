@@ -14,13 +14,14 @@ use Rattle.in_simple.specs.OpenNets.{OpenNet, IsDerivable}
 use Rattle.in_simple.specs.Opening.{Opens}
 use Rattle.in_simple.specs.OpeningRules.{OpensRule}
 use Rattle.in_simple.specs.Stuck.{IsStuckAt}
+use Rattle.in_simple.specs.TakenOrder.{AreTaken}
 use Rattle.in_check.specs.declared.checked.Certificate.{Certificate}
 
 -- ---- an open net
 
--- the open net is built by the steps
+-- the open net is built by the steps, which come in their order
 abbrev pub IsCertificate : Certificate → Type 0
-IsCertificate c = IsDerivation c.shape c.derivation.steps
+IsCertificate c = IsDerivation c.shape c.derivation.steps × AreTaken c.shape c.derivation.steps
 
 -- there are no steps that build it, and so it is refused there with this code
 pub record IsRefusedAt (o : OpenNet) (code : Code) (r : Refusal) : Type 0 where

@@ -3,7 +3,7 @@
 ghost use Rattle.in_check.specs.Laws.{TextsAreCheckedOnce};
 
 /// A text has one answer: it is accepted or refused, never both; two refusals are equal, and two accepted programs have equal tables,
-/// rules, nets, numbers of rules and open nets. Nothing is said where memory was wanted, nor of the steps.
+/// rules, nets, numbers of rules, open nets and steps. Nothing is said where memory was wanted.
 pub fn texts_are_checked_once()
     ensures { TextsAreCheckedOnce }
 {}
