@@ -5,8 +5,7 @@ use Rattle.in_program.proofs.reading.read_text.Goals as goal
 
 pub returns-then-is_err : goal.returns-then-is_err
 returns-then-is_err g c =
-    let more = length-append c.loop-turn.text.items (take c.in-Ok.n c.read.new.into) in
-    (
+    let more = length-append c.loop-turn.text.items (take c.in-Ok.n c.read.new.into) in (
       c.loop-turn.text.items ++ take c.in-Ok.n c.read.new.into,
       record {
         moves = record {
