@@ -8,7 +8,7 @@ use Rattle.in_syntax.specs.Parsing.{IsOfText}
 use Rattle.in_syntax.proofs.Sized.{tree_sized}
 use Rattle.in_symbols.specs.Tables.{Tables}
 use Rattle.in_net.specs.Rules.{RuleParts}
-use Rattle.in_check.specs.Checking.{BuildsRules, IsAccepted, IsProgramOf}
+use Rattle.in_check.specs.Checking.{BuildsRules, ChecksTree, IsAccepted, IsChecked, IsProgramOf}
 use Rattle.in_check.specs.Programs.{Program}
 
 pub then_refused : {A B : Type 0} (P : Result A Fault → Type 0) (Q : A → Result B Fault → Type 0) (e : Fault) → P (Err e) → Then P Q (Err e)
@@ -22,6 +22,7 @@ then_rest P Q a (Err (Memory e)) p h = tt
 
 -- what all passes say of an accepted program
 pub program_of : (text : List ℕ) (p : Program) → IsAccepted text p → IsProgramOf text p
+unfolding IsChecked
 program_of text p (s, parses, (t, tabulates, (rules, builds_rules, (n, builds, (u, fits, (numbers, covers, (cs, simple_rules, (c, simple_net, e)))))))) =
     subst (IsProgramOf text) (sym e) (record {
       source = s;
@@ -34,6 +35,11 @@ program_of text p (s, parses, (t, tabulates, (rules, builds_rules, (n, builds, (
       simple_rules = simple_rules;
       simple_net = simple_net;
     })
+
+-- the whole chain
+pub chain_of : (text : List ℕ) (x : Result Program Fault) → ChecksTree text x → IsChecked text x
+unfolding IsChecked
+chain_of text x h = h
 
 -- the rules of a text are few
 pub few_rules : (s : Source) (t : Tables) (rules : List RuleParts) → IsOfText s → BuildsRules s t (Ok rules) → length rules < 2 ^ 32

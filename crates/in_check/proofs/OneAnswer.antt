@@ -77,6 +77,7 @@ module _ (s : Source) (t : Tables) (of_text : IsOfText s) (tabled : Tabulates s 
                   then_two AreOneTable AreOneProgram (Covers t rules) (ChecksRuleSteps t rules n) (ChecksRuleSteps t rules n) (covered_once t rules) (λ a b e l r. steps_once rules n a b rs net e))))
 
 pub checked_once : TextsAreCheckedOnce
+unfolding IsChecked
 checked_once text =
     then_same AreOneProgram (Parses text) ChecksNames (parsed_once text) (λ s tree.
         let of_text : IsOfText s = record { text = text; tree = tree } in

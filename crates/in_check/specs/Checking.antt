@@ -96,9 +96,13 @@ ChecksRules s t = Then (BuildsRules s t) (ChecksNet s t)
 abbrev pub ChecksNames : Source → Result Program Fault → Type 0
 ChecksNames s = Then (Tabulates s) (ChecksRules s)
 
--- the tree, and the rest: the program that all passes accept, or the refusal of the first that refuses
-abbrev pub IsChecked : List ℕ → Result Program Fault → Type 0
-IsChecked text = Then (Parses text) ChecksNames
+-- the tree, and the rest
+abbrev pub ChecksTree : List ℕ → Result Program Fault → Type 0
+ChecksTree text = Then (Parses text) ChecksNames
+
+-- the program that all passes accept, or the refusal of the first that refuses. (Who only holds a program need not look inside.)
+unfoldable pub IsChecked : List ℕ → Result Program Fault → Type 0
+IsChecked text = ChecksTree text
 
 -- the program of a text that all passes accept
 abbrev pub IsAccepted : List ℕ → Program → Type 0

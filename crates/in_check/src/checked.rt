@@ -73,13 +73,13 @@ pub struct Checked {
 impl Model for Checked {
     ghost use Rattle.in_check.specs.Programs as programs;
     ghost use Rattle.in_check.specs.Checking as checking;
-    ghost use Rattle.std.specs.Prelude.{List, ℕ};
+    ghost use Rattle.std.specs.Prelude.{◌≡◌, ◌^◌, ◌<◌, List, ℕ, length};
 
     ghost Value = { programs.Program };
 
     ghost view = { λ c. c.passed };
 
-    ghost invariant = { λ c. (text : List ℕ) × checking.IsAccepted text c.passed };
+    ghost invariant = { λ c. (length c.passed.rules < 2 ^ 32) × (length c.passed.rule_certificates ≡ length c.passed.rules) × ((text : List ℕ) × checking.IsAccepted text c.passed) };
 }
 
 impl Checked {

@@ -1,0 +1,7 @@
+use Rattle.in_check.proofs.Chain.{certified_each, few_rules_of}
+use Rattle.in_check.proofs.checking.check.Goals as goal
+
+pub invariant_of-result : goal.invariant_of-result
+invariant_of-result c =
+    let accepted = c.in_ok-passed.ensures in
+    (few_rules_of c.args.text.now c.in_ok-passed.passed accepted, certified_each c.args.text.now c.in_ok-passed.passed accepted, (c.args.text.now, accepted))
