@@ -20,7 +20,8 @@ use Rattle.in_simple.proofs.Whole.{times_some}
 use Rattle.in_simple.proofs.Grow.{and_both, and_left, and_right}
 use Rattle.in_simple.proofs.Make.{port_most}
 use Rattle.in_simple.proofs.Joining.{shape_same, fits_empty, fits_link, fits_mix}
-use Rattle.in_simple.specs.TakenOrder.{AreJointsOf, AreTaken, Yields, done, links_from, with_nodes, without}
+use Rattle.in_simple.specs.TakenOrder.{AreJointsOf, AreTaken, links_from, with_nodes, without}
+use Rattle.in_simple.specs.Stacks.{Yields, done}
 use Rattle.in_simple.proofs.Taking.{yields_makes, yields_part}
 use Rattle.in_simple.proofs.Stacking.{none_more, stack_none, runs_make}
 

@@ -14,7 +14,8 @@ use Rattle.in_simple.specs.declared.plans.Task.{Task}
 use Rattle.in_simple.specs.declared.plans.Task.TheVariants.{Derive, Make}
 use Rattle.std.proofs.Common.{append_assoc}
 use Rattle.in_simple.specs.Stuck.{ComesAt, IsPart, ports_of}
-use Rattle.in_simple.specs.TakenOrder.{IsLeft, Manner, begins, beside, cut, manner, IsWireAt, IsJoined, LeadsAway, LinksAt, Stage, part, turns, at, Comes, taken, start, next, component, link, nothing, AreJointsOf, with_nodes, without, AreTaken, before, links_from, steps_from, Yields, done, made, derived}
+use Rattle.in_simple.specs.TakenOrder.{IsLeft, Manner, begins, beside, cut, manner, IsWireAt, IsJoined, LeadsAway, LinksAt, Stage, part, turns, at, Comes, taken, start, next, component, link, nothing, AreJointsOf, with_nodes, without, AreTaken, before, links_from, steps_from}
+use Rattle.in_simple.specs.Stacks.{Yields, done, made, derived}
 use Rattle.in_simple.proofs.Planning.{part_inside}
 use Rattle.in_simple.proofs.Search.{one_first, turn_same, turn_one, turn_cases}
 use Rattle.in_simple.proofs.Sums.{same_test}

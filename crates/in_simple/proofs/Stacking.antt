@@ -8,8 +8,9 @@ use Rattle.in_simple.specs.OpenNets.{OpenNet}
 use Rattle.in_simple.specs.Derivations.{Step, Part, named, own_nodes, is_among, nodes_of, ShareNothing, AreDifferent, AreEarlier, Builds, times, Graft, Cut, Mix}
 use Rattle.in_simple.specs.Procedure.{nodes_in}
 use Rattle.in_simple.specs.Planned.{TakesPart}
-use Rattle.in_simple.specs.TakenOrder as yields
-use Rattle.in_simple.specs.TakenOrder.{AreTaken, Yields, steps_from}
+use Rattle.in_simple.specs.Stacks as yields
+use Rattle.in_simple.specs.TakenOrder.{AreTaken, steps_from}
+use Rattle.in_simple.specs.Stacks.{Yields}
 use Rattle.in_simple.proofs.OneOrder.{split}
 use Rattle.in_simple.specs.Stacks.{count_of, Shape, shape, no_wires, HasShape, HaveShapes, times_node, IsStack, step_of, over_two, IsLast, AreLast, Makes, BuildsOver, Fits, Runs, Puts, loose_in, IsUnderWay}
 use Rattle.in_simple.proofs.Sums.{some_same, one_same, one_other}

@@ -17,7 +17,8 @@ use Rattle.in_simple.specs.Planned.{AddsNothing, Brings, HasClasses, Takes, Take
 use Rattle.in_simple.specs.Procedure.{Derives, IsFirst, IsPlan, IsRest, nodes_in, with_task}
 use Rattle.in_simple.specs.Splitting.{alone}
 use Rattle.in_simple.specs.Stuck.{ComesAt, IsPart, ports_of, turn}
-use Rattle.in_simple.specs.TakenOrder.{Comes, IsJoined, LeadsAway, LinksAt, Manner, NothingAt, Yields, at, before, begins, beside, component, cut, derived, done, empties, first_joint, link, links_from, made, manner, next, nothing, part, start, taken, turns}
+use Rattle.in_simple.specs.TakenOrder.{Comes, IsJoined, LeadsAway, LinksAt, Manner, NothingAt, at, before, begins, beside, component, cut, empties, first_joint, link, links_from, manner, next, nothing, part, start, taken, turns}
+use Rattle.in_simple.specs.Stacks.{Yields, derived, done, made}
 use Rattle.in_simple.proofs.Links.{at_most}
 use Rattle.in_simple.proofs.OneOrder.{split}
 use Rattle.in_simple.proofs.Planning.{agent_none, class_none, node_none, node_turn, port_none, port_turn, reached_part, turn_agent, turn_class, turn_principal}

@@ -12,7 +12,8 @@ use Rattle.in_simple.specs.Splitting.{Linked}
 use Rattle.in_simple.specs.OpenNets.{OpenNet, IsWire, IsOpenNet, class_in, open_graph}
 use Rattle.in_simple.specs.Derivations.{is_port_in}
 use Rattle.in_simple.specs.Stuck.{ComesAt, IsPart, ports_of}
-use Rattle.in_simple.specs.TakenOrder.{Comes, LinksAt, NothingAt, Yields, empties, part, turns}
+use Rattle.in_simple.specs.TakenOrder.{Comes, LinksAt, NothingAt, empties, part, turns}
+use Rattle.in_simple.specs.Stacks.{Yields}
 use Rattle.in_simple.specs.Procedure.{nodes_in}
 use Rattle.in_simple.specs.Stacks.{Shape, shape, no_wires, Puts}
 

@@ -11,7 +11,7 @@ use Rattle.in_simple.specs.OpenNets.{OpenNet, IsNode, IsAgent, IsWire}
 use Rattle.in_simple.specs.Derivations.{Step, Part, named, own_nodes, own_links, is_port_in, is_among, nodes_of, links_of, ShareNothing, AreEarlier, Joins, Builds, times, times_in}
 pub use Rattle.in_simple.specs.Joints.{count_of, over_two, step_of, are_free, loose_in}
 use Rattle.in_simple.specs.Procedure.{nodes_in}
-use Rattle.in_simple.specs.TakenOrder.{AreTaken, Yields, steps_from}
+use Rattle.in_simple.specs.TakenOrder.{AreTaken, Comes, part, steps_from}
 
 pub record Shape : Type 0 where
   pub nodes : ℕ → Bool
@@ -90,6 +90,12 @@ pub record Fits (o : OpenNet) (j : Joint) (xs : List Shape) (x : Shape) : Type 0
   pub builds : (names : List ℕ) (from : List Part) → length names ≡ count_of j → HaveShapes o xs from → (y : Part) × HasShape o x y × BuildsOver o (step_of j names) names from y
 
 -- ---- tasks
+
+-- the joints that the tasks come to
+pub data Yields (o : OpenNet) : List Task → List Joint → Type 0 where
+  done : Yields o [] []
+  made : (j : Joint) (ts : List Task) (js : List Joint) → Yields o ts js → Yields o (Make j ∷ ts) (j ∷ js)
+  derived : (c : List Bool) (ts : List Task) (is js : List Joint) → Comes o (part (nodes_in c)) is → Yields o ts js → Yields o (Derive c ∷ ts) (is ++ js)
 
 -- the tasks turn one stack into the other, where each part that is to be derived comes with no open Link
 abbrev pub Runs : OpenNet → List Task → List Shape → List Shape → Type 0

@@ -1,4 +1,10 @@
--- In which order derive's steps come. This project's own choice.
+-- The order in which the steps of a derivation come. This project's own choice. A joint is a step over the last ones that none names.
+-- The first node that splits a sub-net is taken out, and its turns come one after another, as for the first stuck sub-net. At a turn comes
+-- the component that has it, or the Link of the wire at an agent's auxiliary port that leads to no other node and to no earlier port, or
+-- nothing. What comes at an agent's auxiliary port begins its class or is set beside what came for it; what comes at its principal port or
+-- at a class node's port is cut; what the node doesn't touch is set beside. A class node stands before its first turn, and an agent before
+-- the turn of its principal port, with an Empty for each of its classes without ports. At the end come the Links of wires between two free
+-- ends, by number, each beside the rest; and Empty where nothing came.
 use Rattle.std.specs.Prelude.{◌≡◌, ◌↔◌, ℕ, zero, suc, ◌+◌, ◌-◌, ◌<◌, Bool, true, false, cond, nat_eq, nat_lt, List, [], ◌∷◌, ◌++◌, length, take, drop, slice_get, Some, None}
 use Rattle.in_simple.specs.declared.open_nets.Node.TheVariants.{AgentNode, ClassNode}
 use Rattle.in_simple.specs.declared.open_nets.Point.{Point}
@@ -8,15 +14,13 @@ use Rattle.in_simple.specs.declared.plans.Joint.TheVariants.{Empty, Link, Given,
 use Rattle.in_simple.specs.Constructions.{IsIn}
 use Rattle.in_simple.specs.Derivations.{Step}
 use Rattle.in_simple.specs.OpenNets.{OpenNet, IsAgent, IsNode, IsWire, class_in, classes_of}
-use Rattle.in_simple.specs.declared.plans.Task.{Task}
-use Rattle.in_simple.specs.declared.plans.Task.TheVariants.{Derive, Make}
 use Rattle.in_simple.specs.Joints.{count_of, step_of, loose_in}
-use Rattle.in_simple.specs.Procedure.{nodes_in}
 use Rattle.in_simple.specs.Splitting.{Without}
 use Rattle.in_simple.specs.Stuck.{ComesAt, IsFirstToSplit, IsPart, ports_of, turn}
 
 -- ---- the joints at a node, turn by turn: what comes at a turn, what before it, and what joins it to that which came so far
 
+-- so many Empties
 abbrev pub empties : ℕ → List Joint
 empties zero = []
 empties (suc k) = Empty ∷ empties k
@@ -57,6 +61,7 @@ manner o n k = elim (slice_get o.nodes n) [
 abbrev pub IsWireAt : OpenNet → ℕ → ℕ → ℕ → Type 0
 IsWireAt o n k w = (i : ℕ) × (q : Point) × IsWire o w (Port n i) q × (turn o n i ≡ k)
 
+-- these joints, none or one, join in that manner what comes
 abbrev pub IsJoined : OpenNet → ℕ → ℕ → Manner → List Joint → Type 0
 IsJoined o n k begins js = js ≡ []
 IsJoined o n k beside js = js ≡ Mix ∷ []
@@ -80,6 +85,7 @@ pub record LinksAt (o : OpenNet) (t : ℕ → Bool) (n k w : ℕ) : Type 0 where
   pub wire : IsWire o w (Port n k) point
   pub away : LeadsAway t n k point
 
+-- no component comes at the turn, and no such Link
 abbrev pub NothingAt : OpenNet → (ℕ → Bool) → ℕ → ℕ → Type 0
 NothingAt o t n k = ((c : ℕ → Bool) → IsPart o n t c → ComesAt o n c k → ⊥) × ((w : ℕ) → LinksAt o t n k w → ⊥)
 
@@ -121,11 +127,3 @@ steps_from (j ∷ js) steps roots = steps_from js (steps ++ step_of j (drop (len
 -- the steps that derive answers
 abbrev pub AreTaken : OpenNet → List Step → Type 0
 AreTaken o steps = (js : List Joint) × AreJointsOf o js × (steps ≡ steps_from js [] [])
-
--- ---- what the stack of tasks stands for
-
--- the joints that the tasks come to
-pub data Yields (o : OpenNet) : List Task → List Joint → Type 0 where
-  done : Yields o [] []
-  made : (j : Joint) (ts : List Task) (js : List Joint) → Yields o ts js → Yields o (Make j ∷ ts) (j ∷ js)
-  derived : (c : List Bool) (ts : List Task) (is js : List Joint) → Comes o (part (nodes_in c)) is → Yields o ts js → Yields o (Derive c ∷ ts) (is ++ js)
