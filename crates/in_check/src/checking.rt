@@ -127,7 +127,8 @@ fn check_types(alloc: Global, declared: Declared) -> Result<Passed, Fault>
     requires { AreOfText declared.symbols declared.rules declared.net }
     ensures { ChecksTypes declared.symbols declared.rules declared.net result }
 {
-    type_pass(&declared.symbols, declared.rules.as_slice(), &declared.net)?;
+    let rules = declared.rules.as_slice();
+    type_pass(&declared.symbols, rules, &declared.net)?;
     check_pairs(alloc, declared)
 }
 
