@@ -72,13 +72,13 @@ module _ (s : Source) (t : Tables) (of_text : IsOfText s) (tabled : Tabulates s 
   pub rules_and_net_once : IsOneBy AreOneProgram (ChecksRules s t)
   rules_and_net_once =
       then_same AreOneProgram (BuildsRules s t) (ChecksNet s t) (one_rules s t (λ i. rules_once s t i of_text tabled)) (λ rules rs.
-          then_same AreOneProgram (Builds s t) (ChecksTypes t rules) (nets_once s t of_text tabled) (λ n net.
-              then_two (λ u v. Unit {0}) AreOneProgram (TypePasses t rules n) (λ u. ChecksPairs t rules n) (λ u. ChecksPairs t rules n) (one_types t rules n) (λ u v w h k.
-                  then_two AreOneTable AreOneProgram (Covers t rules) (ChecksRuleSteps t rules n) (ChecksRuleSteps t rules n) (covered_once t rules) (λ a b e l r. steps_once rules n a b rs net e))))
+      then_same AreOneProgram (Builds s t) (ChecksTypes t rules) (nets_once s t of_text tabled) (λ n net.
+      then_two (λ u v. Unit {0}) AreOneProgram (TypePasses t rules n) (λ u. ChecksPairs t rules n) (λ u. ChecksPairs t rules n) (one_types t rules n) (λ u v w h k.
+      then_two AreOneTable AreOneProgram (Covers t rules) (ChecksRuleSteps t rules n) (ChecksRuleSteps t rules n) (covered_once t rules) (λ a b e l r. steps_once rules n a b rs net e))))
 
 pub checked_once : TextsAreCheckedOnce
 unfolding IsChecked
 checked_once text =
     then_same AreOneProgram (Parses text) ChecksNames (parsed_once text) (λ s tree.
-        let of_text : IsOfText s = record { text = text; tree = tree } in
-        then_same AreOneProgram (Tabulates s) (ChecksRules s) (one_tables s (texts_begin_apart text s tree)) (λ t tabled. rules_and_net_once s t of_text tabled))
+    let of_text : IsOfText s = record { text = text; tree = tree } in
+    then_same AreOneProgram (Tabulates s) (ChecksRules s) (one_tables s (texts_begin_apart text s tree)) (λ t tabled. rules_and_net_once s t of_text tabled))

@@ -48,7 +48,6 @@ one_rules s t one (Err (Refused q)) (Err (Refused r)) h k = by_order (cases_orde
 one_rules s t one (Err (Refused q)) (Err (Memory e)) h k = tt
 one_rules s t one (Err (Memory e)) b h k = tt
 
-
 -- ---- types
 
 rules_not_both : (t : Tables) (rules : List RuleParts) (r : Refusal) → TypesRules t rules (Ok tt) → TypesRules t rules (Err r) → ⊥

@@ -17,4 +17,3 @@ pub record AreOneProgram (p q : Program) : Type 0 where
 -- all that checking may answer a text agrees
 abbrev pub TextsAreCheckedOnce : Type 0
 TextsAreCheckedOnce = (text : List ℕ) → IsOneBy AreOneProgram (IsChecked text)
-

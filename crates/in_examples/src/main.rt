@@ -62,8 +62,10 @@ fn is_as_written(rt: &HostRuntime, name: &str) -> Result<bool> {
         return Ok(false);
     }
     let check = format!(in alloc; "{name}.check")?;
-    Ok(is_written(rt, Action::Check, text.as_str(), check.as_str())?
-        && is_built(alloc, text.as_bytes())?)
+    Ok(
+        is_written(rt, Action::Check, text.as_str(), check.as_str())?
+            && is_built(alloc, text.as_bytes())?,
+    )
 }
 
 /// The names of the programs in this folder, in alphabetical order.
