@@ -5,7 +5,8 @@ use Rattle.std.specs.Prelude.{◌≡◌, ◌≢◌, ◌⊎◌, ◌↔◌, ℕ, s
 use mathlib.Core.Logic.{inl, inr}
 use Rattle.in_symbols.specs.declared.symbols.PortType.{PortType}
 use Rattle.in_net.specs.Graphs.{Graph, class_of_symbol}
-use Rattle.in_net.specs.Nets.{Point, Port, Free, Signature, Net}
+use Rattle.in_net.specs.Nets.{Point, Port, Free, Signature, Net, net_of}
+use Rattle.in_net.specs.Rules.{RuleParts}
 
 -- an active pair with its symbols, and the right member of their rule
 pub record Redex (A B : Type 0) : Type 0 where
@@ -14,6 +15,10 @@ pub record Redex (A B : Type 0) : Type 0 where
   pub first : ℕ
   pub second : ℕ
   pub member : Net B
+
+-- two agents with the symbols of the rule's heads, and its right member
+abbrev pub redex_at : {A : Type 0} → RuleParts → A → A → Redex A ℕ
+redex_at r a b = record { one = a; two = b; first = r.heads.0.0; second = r.heads.1.0; member = net_of r.member }
 
 -- the free ends are numbered the first agent's places first: the agent, symbol and place of one
 abbrev pub of_first : {A B : Type 0} → Signature → Redex A B → ℕ → Bool
