@@ -9,6 +9,7 @@ pub mod FirstFault
 pub mod Folds
 pub mod Frees
 pub mod HeadsOf
+pub mod Interactions
 pub mod Joined
 pub mod Joins
 pub mod Kept

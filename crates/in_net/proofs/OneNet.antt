@@ -118,7 +118,8 @@ pub round_code : (p : coded.Point) → coded_point (point_of p) ≡ p
 round_code (code.Port x i) = refl
 round_code (code.Free k) = refl
 
-map_is : (o : Option coded.Point) (q : Point ℕ) → option_map point_of o ≡ Some q → o ≡ Some (coded_point q)
+-- a point that the net leads to is that of the code
+pub map_is : (o : Option coded.Point) (q : Point ℕ) → option_map point_of o ≡ Some q → o ≡ Some (coded_point q)
 map_is None q e = cc
 map_is (Some p) q e = let same : point_of p ≡ q = cc in ap Some (sym (round_code p) ∙ ap coded_point same)
 

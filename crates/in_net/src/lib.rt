@@ -4,6 +4,7 @@
 mod building;
 mod counting;
 mod faults;
+pub mod interaction_laws;
 mod joining;
 pub mod laws;
 mod members;

@@ -11,10 +11,13 @@ pub mod Grow
 pub mod Joining
 pub mod Links
 pub mod Make
+pub mod Mapped
 pub mod MeetingNodes
 pub mod Named
 pub mod Nets
 pub mod NoCircle
+pub mod OfNets
+pub mod OfRules
 pub mod OneAnswer
 pub mod OneOpening
 pub mod OneOrder

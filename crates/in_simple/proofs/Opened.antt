@@ -72,7 +72,7 @@ module _ (t : Tables) (n : Parts) (o : OpenNet) (numbered : AreNumbered t) (whol
   between w p q (inl h) = inl (wire_of_net w p q h)
   between w p q (inr h) = inr (wire_of_net w q p h)
 
-  listed : (w : ℕ) (r s : points.Point) → IsWireBetween n w r s → IsWire o w (open_point r) (open_point s)
+  pub listed : (w : ℕ) (r s : points.Point) → IsWireBetween n w r s → IsWire o w (open_point r) (open_point s)
   listed w r s (inl h) = inl (wire_listed w r s h)
   listed w r s (inr h) = inr (wire_listed w s r h)
 

@@ -58,19 +58,19 @@ same_class_port t s u f i j e g =
     let k : i - 1 ≡ j = omega arith in
     ap (λ (z : SymbolNo). class_port t z.0 f i) e ∙ ap (λ z. Port (f + (class_at t u.0 z - 1)) (places_in t u.0 (class_at t u.0 z) (i - 1))) g ∙ ap (λ z. Port (f + (class_at t u.0 (suc j) - 1)) (places_in t u.0 (class_at t u.0 (suc j)) z)) k
 
-class_low : (t : Tables) → AreNumbered t → (s i : ℕ) → suc i ≤ arity_of t s → (1 ≤ class_at t s (suc i)) × (class_at t s (suc i) ≤ classes_of t s)
+pub class_low : (t : Tables) → AreNumbered t → (s i : ℕ) → suc i ≤ arity_of t s → (1 ≤ class_at t s (suc i)) × (class_at t s (suc i) ≤ classes_of t s)
 class_low t numbered s i h = (elim (leb_tells 1 (class_at t s (suc i))) [ inl l ↦ l.1 | inr l ↦ let k = l.1 in let z = (numbered.principal s (suc i) h).0 (omega arith) in absurd (omega arith) ], numbered.most s (suc i) h)
 
 -- ---- the ends of a rule's boundary: those of the head that is written first, and those of the other
 
 module _ (t : Tables) (p : RuleParts) where
-  abbrev first_end : Bool → ℕ → ℕ
+  abbrev pub first_end : Bool → ℕ → ℕ
   first_end turned i = cond turned (arity_of t p.written.1.0 + i) i
 
-  abbrev second_end : Bool → ℕ → ℕ
+  abbrev pub second_end : Bool → ℕ → ℕ
   second_end turned i = cond turned i (arity_of t p.written.0.0 + i)
 
-  data IsEnd (turned : Bool) (k : ℕ) : Type 0 where
+  pub data IsEnd (turned : Bool) (k : ℕ) : Type 0 where
     in_first : (i : ℕ) → suc i ≤ arity_of t p.written.0.0 → k ≡ first_end turned i → IsEnd turned k
     in_second : (i : ℕ) → suc i ≤ arity_of t p.written.1.0 → k ≡ second_end turned i → IsEnd turned k
 
@@ -81,7 +81,7 @@ module _ (t : Tables) (p : RuleParts) where
   arities true e = (ap (λ (z : SymbolNo × SymbolNo). arity_of t z.0.0) e, ap (λ (z : SymbolNo × SymbolNo). arity_of t z.1.0) e)
   arities false e = (ap (λ (z : SymbolNo × SymbolNo). arity_of t z.0.0) e, ap (λ (z : SymbolNo × SymbolNo). arity_of t z.1.0) e)
 
-  is_end : (turned : Bool) → Heads turned → (k : ℕ) → k < arity_of t p.heads.0.0 + arity_of t p.heads.1.0 → IsEnd turned k
+  pub is_end : (turned : Bool) → Heads turned → (k : ℕ) → k < arity_of t p.heads.0.0 + arity_of t p.heads.1.0 → IsEnd turned k
   is_end true e k h = let a = arities true e in let b = a.0 in let d = a.1 in elim (lt_tells k (arity_of t p.written.1.0)) [
     | inl l ↦ let m = l.1 in in_second k (omega arith) refl
     | inr l ↦ let m = l.1 in in_first (k - arity_of t p.written.1.0) (omega arith) (omega arith)
@@ -99,7 +99,7 @@ module _ (t : Tables) (p : RuleParts) where
   second_within true e i h = let a = arities true e in let b = a.0 in let d = a.1 in omega arith
   second_within false e i h = let a = arities false e in let b = a.0 in let d = a.1 in omega arith
 
-  first_port : (turned : Bool) → Heads turned → (i : ℕ) → suc i ≤ arity_of t p.written.0.0 → boundary_port t p turned (first_end turned i) ≡ Port (class_at t p.written.0.0 (suc i) - 1) (places_in t p.written.0.0 (class_at t p.written.0.0 (suc i)) i)
+  pub first_port : (turned : Bool) → Heads turned → (i : ℕ) → suc i ≤ arity_of t p.written.0.0 → boundary_port t p turned (first_end turned i) ≡ Port (class_at t p.written.0.0 (suc i) - 1) (places_in t p.written.0.0 (class_at t p.written.0.0 (suc i)) i)
   first_port true e i h =
       let a = (arities true e).0 in
       pick_other _ _ _ (lt_other (arity_of t p.written.1.0 + i) (arity_of t p.heads.0.0) (omega arith))
@@ -111,7 +111,7 @@ module _ (t : Tables) (p : RuleParts) where
       ∙ same_class_port t p.heads.0 p.written.0 0 (i + 1) i (ap (λ (z : SymbolNo × SymbolNo). z.0) e) (omega arith)
       ∙ same_port _ _ _ _ (omega arith) refl
 
-  second_port : (turned : Bool) → Heads turned → (i : ℕ) → suc i ≤ arity_of t p.written.1.0 → boundary_port t p turned (second_end turned i) ≡ Port (second_node t p + (class_at t p.written.1.0 (suc i) - 1)) (places_in t p.written.1.0 (class_at t p.written.1.0 (suc i)) i)
+  pub second_port : (turned : Bool) → Heads turned → (i : ℕ) → suc i ≤ arity_of t p.written.1.0 → boundary_port t p turned (second_end turned i) ≡ Port (second_node t p + (class_at t p.written.1.0 (suc i) - 1)) (places_in t p.written.1.0 (class_at t p.written.1.0 (suc i)) i)
   second_port true e i h =
       let a = (arities true e).0 in
       pick_yes _ _ _ (lt_yes i (arity_of t p.heads.0.0) (omega arith))
@@ -188,7 +188,7 @@ module _ (t : Tables) (p : RuleParts) (o : OpenNet) (numbered : AreNumbered t) (
   second_ports n c m e h g = ((opens.nodes.1 n m e).second c h g).ports
 
   -- a point of the right member is one of the open net
-  points_open : (r : points.Point) → IsPointOf p.member r → nets.IsPointOf o (f r)
+  pub points_open : (r : points.Point) → IsPointOf p.member r → nets.IsPointOf o (f r)
   points_open (point.Port x i) h =
       let c = some_of (λ (c : Cell). i < length c.ends) (cell_in p.member x.0) h in
       let l = slice_get_within p.member.cells x.0 (Some c.0) (cell_listed p.member x.0 c.0 c.1) in
@@ -263,7 +263,7 @@ module _ (t : Tables) (p : RuleParts) (o : OpenNet) (numbered : AreNumbered t) (
       go : (m : OpenNode) × (slice_get o.nodes n ≡ Some m) × (i < length m.class_of) → (r : points.Point) × IsPointOf p.member r × (f r ≡ Port n i)
       go m = by m.0 m.1 m.2 (kind n m.0 m.1)
 
-  agent_not_end : (x : ℕ) (i k : ℕ) → k < length p.member.free → Port (agent_node t p x) i ≡ boundary_port t p (is_turned p) k → ⊥
+  pub agent_not_end : (x : ℕ) (i k : ℕ) → k < length p.member.free → Port (agent_node t p x) i ≡ boundary_port t p (is_turned p) k → ⊥
   agent_not_end x i k h e = go (is_end t p (is_turned p) whole.heads k (omega (arith, whole.ends, h)))
     where
       go : IsEnd t p (is_turned p) k → ⊥
@@ -288,7 +288,7 @@ module _ (t : Tables) (p : RuleParts) (o : OpenNet) (numbered : AreNumbered t) (
       let u = port_node _ _ _ _ (sym (first_port t p (is_turned p) whole.heads i l) ∙ e ∙ second_port t p (is_turned p) whole.heads j m) in
       omega arith
 
-  same_end : (k n : ℕ) → k < length p.member.free → n < length p.member.free → boundary_port t p (is_turned p) k ≡ boundary_port t p (is_turned p) n → k ≡ n
+  pub same_end : (k n : ℕ) → k < length p.member.free → n < length p.member.free → boundary_port t p (is_turned p) k ≡ boundary_port t p (is_turned p) n → k ≡ n
   same_end k n h g e = go (is_end t p (is_turned p) whole.heads k (omega (arith, whole.ends, h))) (is_end t p (is_turned p) whole.heads n (omega (arith, whole.ends, g)))
     where
       go : IsEnd t p (is_turned p) k → IsEnd t p (is_turned p) n → k ≡ n
@@ -364,7 +364,7 @@ module _ (t : Tables) (p : RuleParts) (o : OpenNet) (numbered : AreNumbered t) (
       wire_within None g h = cc
       wire_within (Some x) g h = slice_get_within p.member.wires w x g
 
-  listed : (w : ℕ) (r s : points.Point) → IsWireBetween p.member w r s → IsWire o w (f r) (f s)
+  pub listed : (w : ℕ) (r s : points.Point) → IsWireBetween p.member w r s → IsWire o w (f r) (f s)
   listed w r s (inl h) = inl (wire_listed w r s h)
   listed w r s (inr h) = inr (wire_listed w s r h)
 

@@ -9,7 +9,9 @@ use Rattle.in_net.specs.Built.{IsOver}
 use Rattle.in_net.specs.Parts.{Parts, IsWhole}
 use Rattle.in_net.specs.Rules.{RuleParts, BuildsRuleOf, IsRuleOver}
 use Rattle.in_net.specs.TextNet.{IsNetOf}
-use Rattle.in_net.specs.Graphs.{CrossingCircle}
+use Rattle.in_net.specs.Graphs.{CrossingCircle, graph_of}
+use Rattle.in_net.specs.Interactions.{redex_at, open_member}
+use Rattle.in_net.specs.Nets.{net_of, signature_of}
 use Rattle.in_simple.specs.OpenNets.{OpenNet, IsOpenNet, IsDerivable, NetSplits, open_graph}
 use Rattle.in_simple.specs.Derivations.{Step, IsDerivation}
 use Rattle.in_simple.specs.Opening.{AreAllThere, AreNumbered, Opens}
@@ -65,6 +67,17 @@ OpenRulesAreOpen = (t : Tables) (p : RuleParts) (o : OpenNet) → AreNumbered t 
 -- and where it is derivable, it has no crossing circle
 abbrev pub DerivableRulesHaveNoCircle : Type 0
 DerivableRulesHaveNoCircle = (t : Tables) (p : RuleParts) (o : OpenNet) → AreNumbered t → IsRuleWhole t p → IsWhole p.member → IsRuleOver t p → OpensRule t p o → IsDerivable o → CrossingCircle (open_graph o) → ⊥
+
+-- ---- circles
+
+-- a crossing circle of a net is one of its open net
+abbrev pub NetCirclesAreOpen : Type 0
+NetCirclesAreOpen = (t : Tables) (n : Parts) (o : OpenNet) → AreNumbered t → IsWhole n → IsOver t n → Opens t n o → CrossingCircle (graph_of (signature_of t) (net_of n)) → CrossingCircle (open_graph o)
+
+-- a crossing circle of a right member with its class nodes, at whatever active pair, is one of the rule's open net
+abbrev pub RuleCirclesAreOpen : Type 0
+RuleCirclesAreOpen = (t : Tables) (p : RuleParts) (o : OpenNet) (a b : ℕ) → AreNumbered t → IsRuleWhole t p → IsWhole p.member → IsRuleOver t p → OpensRule t p o →
+    CrossingCircle (open_member (signature_of t) (redex_at p a b)) → CrossingCircle (open_graph o)
 
 -- ---- one answer
 

@@ -3,6 +3,7 @@ pub mod Constructions
 pub mod Derivations
 pub mod Joints
 pub mod Laws
+pub mod Maps
 pub mod Meeting
 pub mod OpenNets
 pub mod Opening

@@ -1,6 +1,6 @@
 //! Laws over the definitions of open nets, for whoever reasons above them. No function here does anything.
 
-ghost use Rattle.in_simple.specs.Laws.{DerivableHasNoCircle, DerivableRulesHaveNoCircle, DerivationWhereDerivable, NetsAreDerivedOnce, NetsAreOpenedOnce, OneStuckPlace, OpenNetsAreOpen, OpenRulesAreOpen, RulesAreOpenedOnce, SplitsOrFirstStuck, SplitsWhereDerivable, TablesAreNumbered, TextNetsAreAllThere, TextRulesAreWhole};
+ghost use Rattle.in_simple.specs.Laws.{DerivableHasNoCircle, DerivableRulesHaveNoCircle, DerivationWhereDerivable, NetCirclesAreOpen, NetsAreDerivedOnce, NetsAreOpenedOnce, OneStuckPlace, OpenNetsAreOpen, OpenRulesAreOpen, RuleCirclesAreOpen, RulesAreOpenedOnce, SplitsOrFirstStuck, SplitsWhereDerivable, TablesAreNumbered, TextNetsAreAllThere, TextRulesAreWhole};
 
 /// An open net splits exactly where it is derivable. Derivable is Lafont 1990's semi-simple; to decide it by splitting is this
 /// project's own choice.
@@ -54,6 +54,16 @@ pub fn open_rules_are_open()
 /// A rule whose open net is derivable has no crossing circle in it.
 pub fn derivable_rules_have_no_circle()
     ensures { DerivableRulesHaveNoCircle }
+{}
+
+/// A crossing circle of a net is one of its open net.
+pub fn net_circles_are_open()
+    ensures { NetCirclesAreOpen }
+{}
+
+/// A crossing circle of a right member with a node for each class of its two heads is one of the open net of the rule.
+pub fn rule_circles_are_open()
+    ensures { RuleCirclesAreOpen }
 {}
 
 /// A net has one open net.

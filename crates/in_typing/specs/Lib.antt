@@ -1,2 +1,3 @@
 pub mod Laws
 pub mod Typed
+pub mod TypedNets

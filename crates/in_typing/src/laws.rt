@@ -1,6 +1,6 @@
 //! Laws over the definitions of types, for whoever reasons above them. No function here does anything.
 
-ghost use Rattle.in_typing.specs.Laws.{NetsAreTypedOnce, RulesAreTypedOnce, TypedPairsMatch};
+ghost use Rattle.in_typing.specs.Laws.{NetsAreTypedOnce, RulesAreTypedOnce, TypedAlongPaths, TypedPairsMatch, TypedPartsAreTypedNets};
 
 /// In a typed net, the two agents of an active pair are a constructor and a destructor of one type.
 pub fn typed_pairs_match()
@@ -15,4 +15,15 @@ pub fn nets_are_typed_once()
 /// What typing a rule answers is one.
 pub fn rules_are_typed_once()
     ensures { RulesAreTypedOnce }
+{}
+
+/// Parts that are typed are a typed net over their signature.
+pub fn typed_parts_are_typed_nets()
+    ensures { TypedPartsAreTypedNets }
+{}
+
+/// An interaction keeps a net typed: types agree along an alternating path, whose boundary ends have the types of the auxiliary ports
+/// that they replace.
+pub fn typed_along_paths()
+    ensures { TypedAlongPaths }
 {}

@@ -1,0 +1,111 @@
+-- A closed walk of the net after an interaction, wire by wire.
+use Rattle.std.proofs.Common.{◌≡◌, ◌⊎◌, ℕ, List, [], ◌∷◌, ◌++◌, refl, sym, subst, inl, inr}
+use Rattle.in_net.specs.Graphs.{Graph, Passage, entered, left}
+use Rattle.in_net.specs.Interactions.{Side, other}
+use Rattle.in_net.specs.InteractionPlaces.{Place, Old, New, Boundary, Loose, Path, Stays, side_of, IsJoined}
+use Rattle.in_net.proofs.Interactions.Paths.{AreWires, other_twice}
+use Rattle.in_net.proofs.Circuits.{Walk, Circuit}
+use Rattle.in_net.specs.Tours.{Stop, At_old, At_new, Through, enters, leaves, Tour}
+use Rattle.in_net.proofs.Interactions.Stops.{Reaches, Entered, Left, tour_join, ClosedTour}
+
+-- the port's place
+abbrev pub place : {A B : Type 0} → (A ⊎ B) × ℕ → Place A B
+place v = elim v.0 [ inl x ↦ Old x v.1 | inr y ↦ New y v.1 ]
+
+-- what holds of a port, of its place
+abbrev pub at_place : {A B : Type 0} → ((A ⊎ B) × ℕ → Type 0) → Place A B → Type 0
+at_place P (Old x i) = P (inl x, i)
+at_place P (New y i) = P (inr y, i)
+at_place P (Boundary e) = ⊥
+at_place P (Loose k) = ⊥
+
+abbrev pub stop_of : {A B : Type 0} → Passage (A ⊎ B) → Stop A B
+stop_of p = elim p.node [ inl x ↦ At_old x p.enter p.leave | inr y ↦ At_new y p.enter p.leave ]
+
+-- the agents after the interaction, and the wires between them
+abbrev pub after : {A B : Type 0} → (Side → Place A B → Place A B → Type 0) → (A ⊎ B → ℕ → ℕ) → Graph
+after {A} {B} wire class = record { Node = A ⊎ B; class = class; Wire = λ u v. IsJoined wire (place u) (place v) }
+
+module _ {A B : Type 0} (wire : Side → Place A B → Place A B → Type 0) (wires : AreWires wire) (class : A ⊎ B → ℕ → ℕ) (E L : (A ⊎ B) × ℕ → Type 0) where
+  abbrev spot : (A ⊎ B) × ℕ → Side × Place A B
+  spot v = (side_of (place v), place v)
+
+  abbrev pub throughs : Side → List ℕ → List (Stop A B)
+  throughs s [] = []
+  throughs s (e ∷ es) = Through s e ∷ throughs (other s) es
+
+  onward : (s : Side) (p : Place A B) (es : List ℕ) (q : Place A B) → at_place E q → Stays q → Path wire s p es q → ((e : ℕ) → wire s p (Boundary e) → Reaches wire (at_place E) (at_place L) (at_place L) s e) → Tour wire (Entered wire (at_place E) (at_place L)) (Left wire (at_place E) (at_place L)) (s, p) (throughs s es) (side_of q, q)
+  onward s p [] q eq hq w back = (wires.side s p q hq w, w)
+  onward s p (e ∷ es) q eq hq w back =
+      let b = back e w.0 in (
+        (refl, w.0),
+        b,
+        (q, es, eq, hq, w.1),
+        onward (other s) (Boundary e) es q eq hq w.1
+            (λ f u. (b.0, e ∷ b.1, b.2, b.3, (wires.back (other s) (Boundary e) (Boundary f) u, subst (λ t. Path wire t (Boundary e) b.1 b.0) (sym (other_twice s)) b.4))),
+      )
+
+  -- what stands at a port stands at its place
+  at : (P : (A ⊎ B) × ℕ → Type 0) (n : A ⊎ B) (i : ℕ) → P (n, i) → at_place P (place (n, i))
+  at P (inl x) i h = h
+  at P (inr y) i h = h
+
+  stays : (n : A ⊎ B) (i : ℕ) → Stays (place {A = A} {B = B} (n, i))
+  stays (inl x) i = tt
+  stays (inr y) i = tt
+
+  -- a wire of the net after is a walk through boundary ends
+  wire_tour : (u v : (A ⊎ B) × ℕ) → L u → E v → IsJoined wire (place u) (place v) → (ss : List (Stop A B)) × Tour wire (Entered wire (at_place E) (at_place L)) (Left wire (at_place E) (at_place L)) (spot u) ss (spot v)
+  wire_tour u v l e j = (
+    throughs (side_of (place u)) j.2.0,
+    onward (side_of (place u)) (place u) j.2.0 (place v) (at E v.0 v.1 e) j.1 j.2.1
+        (λ f w. (place u, [], at L u.0 u.1 l, j.0, wires.back (side_of (place u)) (place u) (Boundary f) w)),
+  )
+
+  -- the stop of a passage
+  enters_stop : (n : A ⊎ B) (i j : ℕ) → enters (stop_of (record { node = n; enter = i; leave = j })) ≡ spot (n, i)
+  enters_stop (inl x) i j = refl
+  enters_stop (inr y) i j = refl
+
+  leaves_stop : (n : A ⊎ B) (i j : ℕ) → leaves (stop_of (record { node = n; enter = i; leave = j })) ≡ spot (n, j)
+  leaves_stop (inl x) i j = refl
+  leaves_stop (inr y) i j = refl
+
+  entered_stop : (p : Passage (A ⊎ B)) → E (entered p) → Entered wire (at_place E) (at_place L) (enters (stop_of p)).0 (enters (stop_of p)).1
+  entered_stop p e = go p.node e
+    where
+      go : (n : A ⊎ B) → E (n, p.enter) → Entered wire (at_place E) (at_place L) (enters (stop_of (record { node = n; enter = p.enter; leave = p.leave }))).0 (enters (stop_of (record { node = n; enter = p.enter; leave = p.leave }))).1
+      go (inl x) e = e
+      go (inr y) e = e
+
+  left_stop : (p : Passage (A ⊎ B)) → L (left p) → Left wire (at_place E) (at_place L) (leaves (stop_of p)).0 (leaves (stop_of p)).1
+  left_stop p l = go p.node l
+    where
+      go : (n : A ⊎ B) → L (n, p.leave) → Left wire (at_place E) (at_place L) (leaves (stop_of (record { node = n; enter = p.enter; leave = p.leave }))).0 (leaves (stop_of (record { node = n; enter = p.enter; leave = p.leave }))).1
+      go (inl x) l = l
+      go (inr y) l = l
+
+  walk_tour : (u v : (A ⊎ B) × ℕ) (ps : List (Passage (A ⊎ B))) → L u → E v → Walk (after wire class) E L u ps v → (ss : List (Stop A B)) × Tour wire (Entered wire (at_place E) (at_place L)) (Left wire (at_place E) (at_place L)) (spot u) ss (spot v)
+  walk_tour u v [] l e w = wire_tour u v l e w
+  walk_tour u v (p ∷ ps) l e w =
+      let first = wire_tour u (entered p) l w.1 w.0 in
+      let rest = walk_tour (left p) v ps w.2 e w.3 in (
+        first.0 ++ stop_of p ∷ rest.0,
+        tour_join wire (Entered wire (at_place E) (at_place L)) (Left wire (at_place E) (at_place L)) (spot u) (spot v) first.0 (stop_of p) rest.0
+            (subst (λ t. Tour wire (Entered wire (at_place E) (at_place L)) (Left wire (at_place E) (at_place L)) (spot u) first.0 t) (sym (enters_stop p.node p.enter p.leave)) first.1)
+            (entered_stop p w.1) (left_stop p w.2)
+            (subst (λ t. Tour wire (Entered wire (at_place E) (at_place L)) (Left wire (at_place E) (at_place L)) t rest.0 (spot v)) (sym (leaves_stop p.node p.enter p.leave)) rest.1),
+      )
+
+  -- a closed walk of the net after, with what it passes on the way
+  pub closed_tour : Circuit (after wire class) E L → ClosedTour wire (Entered wire (at_place E) (at_place L)) (Left wire (at_place E) (at_place L))
+  closed_tour c =
+      let t = walk_tour (left c.first) (entered c.first) c.rest c.leaves c.enters c.closed in
+      record {
+        first = stop_of c.first;
+        rest = t.0;
+        enter = entered_stop c.first c.enters;
+        leave = left_stop c.first c.leaves;
+        closed = subst (λ u. Tour wire (Entered wire (at_place E) (at_place L)) (Left wire (at_place E) (at_place L)) u t.0 (enters (stop_of c.first))) (sym (leaves_stop c.first.node c.first.enter c.first.leave))
+            (subst (λ v. Tour wire (Entered wire (at_place E) (at_place L)) (Left wire (at_place E) (at_place L)) (spot (left c.first)) t.0 v) (sym (enters_stop c.first.node c.first.enter c.first.leave)) t.1);
+      }

@@ -1,0 +1,120 @@
+-- What an interaction makes of a net. Lafont 1990: two agents whose principal ports are joined by a wire are an active pair. Only active
+-- pairs interact: both agents go, and the rule's right member takes their place on the same boundary ends. That agents which stay keep
+-- their names, and new ones have any names that the net doesn't have, is this project's own choice.
+use Rattle.std.specs.Prelude.{◌≡◌, ◌≢◌, ◌⊎◌, ◌↔◌, ℕ, suc, ◌+◌, ◌-◌, nat_lt, Bool, cond, List, [], ◌∷◌, length, slice_get, Some, None}
+use mathlib.Core.Logic.{inl, inr}
+use Rattle.in_symbols.specs.declared.symbols.PortType.{PortType}
+use Rattle.in_net.specs.Graphs.{Graph, class_of_symbol}
+use Rattle.in_net.specs.Nets.{Point, Port, Free, Signature, Net, net_of}
+use Rattle.in_net.specs.Rules.{RuleParts}
+
+-- an active pair with its symbols, and the right member of their rule
+pub record Redex (A B : Type 0) : Type 0 where
+  pub one : A
+  pub two : A
+  pub first : ℕ
+  pub second : ℕ
+  pub member : Net B
+
+-- two agents with the symbols of the rule's heads, and its right member
+abbrev pub redex_at : {A : Type 0} → RuleParts → A → A → Redex A ℕ
+redex_at r a b = record { one = a; two = b; first = r.heads.0.0; second = r.heads.1.0; member = net_of r.member }
+
+-- the free ends are numbered the first agent's places first: the agent, symbol and place of one
+abbrev pub of_first : {A B : Type 0} → Signature → Redex A B → ℕ → Bool
+of_first sig x e = nat_lt e (sig.arity x.first)
+
+abbrev pub end_agent : {A B : Type 0} → Signature → Redex A B → ℕ → A
+end_agent sig x e = cond (of_first sig x e) x.one x.two
+
+abbrev pub end_symbol : {A B : Type 0} → Signature → Redex A B → ℕ → ℕ
+end_symbol sig x e = cond (of_first sig x e) x.first x.second
+
+abbrev pub end_place : {A B : Type 0} → Signature → Redex A B → ℕ → ℕ
+end_place sig x e = cond (of_first sig x e) (suc e) (suc (e - sig.arity x.first))
+
+-- the two agents are an active pair of the net, and the free ends of the right member are their auxiliary places, declared with their types
+pub record IsRedex {A B : Type 0} (sig : Signature) (n : Net A) (x : Redex A B) : Type 0 where
+  pub one : n.symbol x.one ≡ Some x.first
+  pub two : n.symbol x.two ≡ Some x.second
+  pub differ : x.one ≢ x.two
+  pub active : n.partner (Port x.one 0) ≡ Some (Port x.two 0)
+  pub ends : length x.member.free ≡ sig.arity x.first + sig.arity x.second
+  pub declared : (e : ℕ) (t : PortType) → slice_get x.member.free e ≡ Some t → t ≡ sig.type_of (end_symbol sig x e) (end_place sig x e)
+
+-- the net round the active pair, and the right member of its rule
+pub data Side : Type 0 where
+  Outer : Side
+  Inner : Side
+
+abbrev pub other : Side → Side
+other Outer = Inner
+other Inner = Outer
+
+-- a wire, or wires that change sides at each of these ends in turn
+abbrev pub Alternates : {P : Type 0} → (Side → P → P → Type 0) → (P → Type 0) → Side → P → List P → P → Type 0
+Alternates wire IsEnd side u [] v = wire side u v
+Alternates wire IsEnd side u (e ∷ es) v = wire side u e × IsEnd e × Alternates wire IsEnd (other side) e es v
+
+-- the point of the net that a point of the right member stands for: a new agent's port, or an auxiliary port of the pair
+abbrev pub stands_for : {A B : Type 0} → Signature → Redex A B → (B → A) → Point B → Point A
+stands_for sig x name (Port k i) = Port (name k) i
+stands_for sig x name (Free e) = Port (end_agent sig x e) (end_place sig x e)
+
+-- a wire of the right member
+abbrev pub InnerWire : {A B : Type 0} → Signature → Redex A B → (B → A) → Point A → Point A → Type 0
+InnerWire {A} {B} sig x name u v = (p q : Point B) × (stands_for sig x name p ≡ u) × (stands_for sig x name q ≡ v) × (x.member.partner p ≡ Some q)
+
+-- the wires of the net before, and those of the right member
+abbrev pub wire_of : {A B : Type 0} → Signature → Net A → Redex A B → (B → A) → Side → Point A → Point A → Type 0
+wire_of sig n x name Outer u v = n.partner u ≡ Some v
+wire_of sig n x name Inner u v = InnerWire sig x name u v
+
+-- a port of the active pair
+abbrev pub IsOfPair : {A B : Type 0} → Redex A B → Point A → Type 0
+IsOfPair x (Port y i) = (y ≡ x.one) ⊎ (y ≡ x.two)
+IsOfPair x (Free k) = ⊥
+
+-- joined by an alternating path that goes through ports of the pair
+abbrev pub AreJoined : {A B : Type 0} → Signature → Net A → Redex A B → (B → A) → Point A → Point A → Type 0
+AreJoined {A} {B} sig n x name u v = (IsOfPair x u → ⊥) × (IsOfPair x v → ⊥) × ((side : Side) × (es : List (Point A)) × Alternates (wire_of sig n x name) (IsOfPair x) side u es v)
+
+-- the new agents have different names, which the net doesn't have
+pub record IsNaming {A B : Type 0} (before : Net A) (x : Redex A B) (name : B → A) : Type 0 where
+  pub fresh : (k : B) (s : ℕ) → x.member.symbol k ≡ Some s → before.symbol (name k) ≡ None
+  pub apart : (k l : B) (s t : ℕ) → x.member.symbol k ≡ Some s → x.member.symbol l ≡ Some t → name k ≡ name l → k ≡ l
+
+-- the net after the interaction: without the pair and with the right member's agents, its wires the alternating paths between points
+-- that stay. A single wire is such a path
+pub record IsStep {A B : Type 0} (sig : Signature) (before : Net A) (x : Redex A B) (name : B → A) (after : Net A) : Type 0 where
+  pub naming : IsNaming before x name
+  pub agents : (y : A) (s : ℕ) → (after.symbol y ≡ Some s) ↔ (((y ≢ x.one) × (y ≢ x.two) × (before.symbol y ≡ Some s)) ⊎ ((k : B) × (name k ≡ y) × (x.member.symbol k ≡ Some s)))
+  pub wires : (u v : Point A) → (after.partner u ≡ Some v) ↔ AreJoined sig before x name u v
+  pub free : after.free ≡ before.free
+
+-- the right member with a node for each class of the two symbols, each of whose ports is a class by itself: this project's own condition
+-- on rules speaks of it
+abbrev pub class_node : {A B : Type 0} → Signature → Redex A B → ℕ → Bool × ℕ
+class_node sig x e = (of_first sig x e, sig.class_of (end_symbol sig x e) (end_place sig x e))
+
+abbrev pub open_port : {A B : Type 0} → Signature → Redex A B → Point B → (B ⊎ (Bool × ℕ)) × ℕ
+open_port sig x (Port y i) = (inl y, i)
+open_port sig x (Free e) = (inr (class_node sig x e), e)
+
+abbrev pub open_member : {A B : Type 0} → Signature → Redex A B → Graph
+open_member {A} {B} sig x = record {
+  Node = B ⊎ (Bool × ℕ);
+  class = λ m i. elim m [ inl y ↦ class_of_symbol sig (x.member.symbol y) i | inr c ↦ i ];
+  Wire = λ u v. (p q : Point B) × (open_port sig x p ≡ u) × (open_port sig x q ≡ v) × (x.member.partner p ≡ Some q);
+}
+
+-- the boundary ends, each with an outer port 0 and an inner port 1, and the wires of either side between them. A closed
+-- alternating path is a crossing circle here
+abbrev pub ends_graph : {A B : Type 0} → Signature → Net A → Redex A B → Graph
+ends_graph {A} {B} sig n x = record {
+  Node = ℕ;
+  class = λ e i. i;
+  Wire = λ u v.
+      ((u.1 ≡ 0) × (v.1 ≡ 0) × (n.partner (Port (end_agent sig x u.0) (end_place sig x u.0)) ≡ Some (Port (end_agent sig x v.0) (end_place sig x v.0))))
+      ⊎ ((u.1 ≡ 1) × (v.1 ≡ 1) × (x.member.partner (Free u.0) ≡ Some (Free v.0)));
+}
