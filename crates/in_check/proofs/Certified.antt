@@ -1,20 +1,18 @@
 -- What the passes give for the steps of rules.
 use Rattle.std.proofs.Common.{◌≡◌, ◌⊎◌, inl, inr, List, [], ◌∷◌, ◌++◌, length, ℕ, Some, slice_get, Result, Ok, Err, sym, ◌∙◌, ap, subst, arith}
 use Rattle.std.specs.List.{AllByRecursion}
-use Rattle.in_syntax.specs.declared.faults.Code.TheVariants.{E12, E13}
+use Rattle.in_syntax.specs.declared.faults.Code.{Code}
 use Rattle.in_syntax.specs.declared.faults.Fault.{Fault}
 use Rattle.in_syntax.specs.declared.faults.Fault.TheVariants.{Refused, Memory}
 use Rattle.in_syntax.specs.declared.tree.Source.{Source}
 use Rattle.in_symbols.specs.Tables.{Tables}
-use Rattle.in_net.specs.Parts.{Parts}
 use Rattle.in_net.specs.Rules.{RuleParts}
 use Rattle.in_simple.specs.OpenNets.{OpenNet}
-use Rattle.in_simple.specs.Opening.{Opens}
-use Rattle.in_simple.specs.OpeningRules.{IsRuleWhole, OpensRule}
+use Rattle.in_simple.specs.OpeningRules.{IsRuleWhole}
 use Rattle.in_simple.proofs.Sums.{got}
 use Rattle.in_simple.proofs.TextRules.{rule_whole}
 use Rattle.in_check.specs.declared.checked.Certificate.{Certificate}
-use Rattle.in_check.specs.Certificates.{Certifies, CertifiesNet, CertifiesRule, CertifiesRules}
+use Rattle.in_check.specs.Certificates.{Certifies, CertifiesRule, CertifiesRules, CertifiesSome}
 use Rattle.in_check.specs.Checking.{BuildsRules}
 use Rattle.in_check.proofs.Passes.{all_of, last_or_before}
 
@@ -35,7 +33,7 @@ at_stuck_rule t rules cs i p (Refused r) at count each refuses = record {
   first = λ j q less e. let c = got cs j (omega (arith, less, count)) in (c.0, each j q c.0 e c.1);
 }
 
-same_rule : (p q : RuleParts) → Some p ≡ Some q → p ≡ q
+pub same_rule : (p q : RuleParts) → Some p ≡ Some q → p ≡ q
 same_rule p q e = cc
 
 -- one more rule is certified
@@ -50,12 +48,7 @@ one_more_certified t rules cs more p c grown at each made j q d e f = by_side (l
 
 -- ---- a rule, and the net
 
-pub rule_certified : (t : Tables) (p : RuleParts) (o : OpenNet) (r : Result Certificate Fault) → OpensRule t p o → Certifies o E12 r → CertifiesRule t p r
-rule_certified t p o (Ok c) opens h = (subst (OpensRule t p) (sym h.0) opens, h.1)
-rule_certified t p o (Err (Refused r)) opens h = (o, opens, h)
-rule_certified t p o (Err (Memory e)) opens h = tt
-
-pub net_certified : (t : Tables) (n : Parts) (o : OpenNet) (r : Result Certificate Fault) → Opens t n o → Certifies o E13 r → CertifiesNet t n r
-net_certified t n o (Ok c) opens h = (subst (Opens t n) (sym h.0) opens, h.1)
-net_certified t n o (Err (Refused r)) opens h = (o, opens, h)
-net_certified t n o (Err (Memory e)) opens h = tt
+pub certified : (P : OpenNet → Type 0) (code : Code) (o : OpenNet) (r : Result Certificate Fault) → P o → Certifies o code r → CertifiesSome P code r
+certified P code o (Ok c) opens h = (subst P (sym h.0) opens, h.1)
+certified P code o (Err (Refused r)) opens h = (o, opens, h)
+certified P code o (Err (Memory e)) opens h = tt

@@ -1,2 +1,5 @@
 pub mod Certified
+pub mod Chain
+pub mod OneAnswer
+pub mod OnePass
 pub mod Passes

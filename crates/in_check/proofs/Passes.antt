@@ -1,69 +1,16 @@
--- A pass that refuses is the answer, and want of memory is allowed.
+-- What the passes say of rules, one after another.
 use Rattle.std.proofs.Common.{◌≡◌, ◌⊎◌, inl, inr, List, [], ◌∷◌, ◌++◌, length, ℕ, zero, suc, ◌<◌, Option, Some, None, slice_get, Ok, Err, refl, sym, ◌∙◌, ap, subst, arith}
 use Rattle.std.specs.List.{AllByRecursion}
 use Rattle.std.proofs.lemmas.Option.{slice_get_within}
 use Rattle.in_syntax.specs.declared.faults.Fault.{Fault}
 use Rattle.in_syntax.specs.declared.faults.Fault.TheVariants.{Refused, Memory}
 use Rattle.in_syntax.specs.declared.tree.Source.{Source}
-use Rattle.in_syntax.specs.Parsing.{Parses}
-use Rattle.in_symbols.specs.Tables.{Tables, Tabulates}
-use Rattle.in_net.specs.Built.{Builds}
-use Rattle.in_net.specs.Parts.{Parts}
+use Rattle.in_symbols.specs.Tables.{Tables}
 use Rattle.in_net.specs.Rules.{RuleParts, BuildsRule, IsRuleOver}
 use Rattle.in_typing.specs.Typed.{TypesRule}
 use Rattle.in_simple.proofs.Sums.{got}
-use Rattle.in_cover.specs.Cover.{Covers, IsOfPair}
-use Rattle.in_cover.specs.Table.{Cells}
-use Rattle.in_check.specs.declared.checked.Certificate.{Certificate}
-use Rattle.in_check.specs.Certificates.{CertifiesRules, CertifiesNet}
-use Rattle.in_check.specs.Checking.{IsChecked, IsCovered, BuildsRules, TypesRules, TypesAll, TypePasses, no_tree, no_tables, no_rules, no_net, no_types, no_cover, no_simple_rules, no_simple_net}
-
-pub at_tree : (text : List ℕ) (e : Fault) → Parses text (Err e) → IsChecked text (Err e)
-at_tree text (Refused r) refuses = no_tree refuses
-at_tree text (Memory e) refuses = tt
-
-pub at_tables : (text : List ℕ) (s : Source) (e : Fault) → Parses text (Ok s) → Tabulates s (Err e) → IsChecked text (Err e)
-at_tables text s (Refused r) parses refuses = no_tables s parses refuses
-at_tables text s (Memory e) parses refuses = tt
-
-pub at_rules : (text : List ℕ) (s : Source) (t : Tables) (e : Fault) → Parses text (Ok s) → Tabulates s (Ok t) → BuildsRules s t (Err e) → IsChecked text (Err e)
-at_rules text s t (Refused r) parses tabulates refuses = no_rules s t parses tabulates refuses
-at_rules text s t (Memory e) parses tabulates refuses = tt
-
-pub at_net : (text : List ℕ) (s : Source) (t : Tables) (rules : List RuleParts) (e : Fault) → Parses text (Ok s) → Tabulates s (Ok t) → BuildsRules s t (Ok rules) → Builds s t (Err e) → IsChecked text (Err e)
-at_net text s t rules (Refused r) parses tabulates builds refuses = no_net s t rules parses tabulates builds refuses
-at_net text s t rules (Memory e) parses tabulates builds refuses = tt
-
-pub at_types : (text : List ℕ) (s : Source) (t : Tables) (rules : List RuleParts) (n : Parts) (e : Fault) → Parses text (Ok s) → Tabulates s (Ok t) → BuildsRules s t (Ok rules) → Builds s t (Ok n) → TypePasses t rules n (Err e) → IsChecked text (Err e)
-at_types text s t rules n (Refused r) parses tabulates builds net refuses = no_types s t rules n parses tabulates builds net refuses
-at_types text s t rules n (Memory e) parses tabulates builds net refuses = absurd refuses
-
-pub at_cover : (text : List ℕ) (s : Source) (t : Tables) (rules : List RuleParts) (n : Parts) (e : Fault) → Parses text (Ok s) → Tabulates s (Ok t) → BuildsRules s t (Ok rules) → Builds s t (Ok n) → TypesAll t rules n (Ok tt) →
-    Covers t rules (Err e) → IsChecked text (Err e)
-at_cover text s t rules n (Refused r) parses tabulates builds net types refuses = no_cover s t rules n parses tabulates builds net types refuses
-at_cover text s t rules n (Memory e) parses tabulates builds net types refuses = tt
-
--- the text's rules and net, that fit and are covered
-pub covered : (text : List ℕ) (s : Source) (t : Tables) (rules : List RuleParts) (n : Parts) (numbers : Cells) → Parses text (Ok s) → Tabulates s (Ok t) → BuildsRules s t (Ok rules) → Builds s t (Ok n) → TypesAll t rules n (Ok tt) →
-    Covers t rules (Ok numbers) → IsCovered text t rules n
-covered text s t rules n numbers parses tabulates builds net types covers = record {
-  source = s;
-  numbers = numbers;
-  parses = parses;
-  tabulates = tabulates;
-  builds_rules = builds;
-  builds = net;
-  fits = types;
-  covers = covers;
-}
-
-pub at_simple_rules : (text : List ℕ) (t : Tables) (rules : List RuleParts) (n : Parts) (e : Fault) → IsCovered text t rules n → CertifiesRules t rules (Err e) → IsChecked text (Err e)
-at_simple_rules text t rules n (Refused r) covered refuses = no_simple_rules t rules n covered refuses
-at_simple_rules text t rules n (Memory e) covered refuses = tt
-
-pub at_simple_net : (text : List ℕ) (t : Tables) (rules : List RuleParts) (n : Parts) (cs : List Certificate) (e : Fault) → IsCovered text t rules n → CertifiesRules t rules (Ok cs) → CertifiesNet t n (Err e) → IsChecked text (Err e)
-at_simple_net text t rules n cs (Refused r) covered certified refuses = no_simple_net t rules n cs covered certified refuses
-at_simple_net text t rules n cs (Memory e) covered certified refuses = tt
+use Rattle.in_cover.specs.Cover.{IsOfPair}
+use Rattle.in_check.specs.Checking.{BuildsRules, TypesRules}
 
 -- ---- rules
 

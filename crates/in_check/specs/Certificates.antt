@@ -14,13 +14,14 @@ use Rattle.in_simple.specs.OpenNets.{OpenNet, IsDerivable}
 use Rattle.in_simple.specs.Opening.{Opens}
 use Rattle.in_simple.specs.OpeningRules.{OpensRule}
 use Rattle.in_simple.specs.Stuck.{IsStuckAt}
+use Rattle.in_simple.specs.TakenOrder.{AreTaken}
 use Rattle.in_check.specs.declared.checked.Certificate.{Certificate}
 
 -- ---- an open net
 
--- the open net is built by the steps
+-- the open net is built by the steps, which come in their order
 abbrev pub IsCertificate : Certificate → Type 0
-IsCertificate c = IsDerivation c.shape c.derivation.steps
+IsCertificate c = IsDerivation c.shape c.derivation.steps × AreTaken c.shape c.derivation.steps
 
 -- there are no steps that build it, and so it is refused there with this code
 pub record IsRefusedAt (o : OpenNet) (code : Code) (r : Refusal) : Type 0 where
@@ -36,16 +37,19 @@ Certifies o code (Err (Memory e)) = Unit {0}
 
 -- ---- a rule, and the net
 
--- its open net is built by the steps; or it is refused
-abbrev pub CertifiesRule : Tables → RuleParts → Result Certificate Fault → Type 0
-CertifiesRule t p (Ok c) = OpensRule t p c.shape × IsCertificate c
-CertifiesRule t p (Err (Refused r)) = (o : OpenNet) × OpensRule t p o × IsRefusedAt o E12 r
-CertifiesRule t p (Err (Memory e)) = Unit {0}
+-- an open net of which this holds is built by the steps; or one is refused
+abbrev pub CertifiesSome : (OpenNet → Type 0) → Code → Result Certificate Fault → Type 0
+CertifiesSome P code (Ok c) = P c.shape × IsCertificate c
+CertifiesSome P code (Err (Refused r)) = (o : OpenNet) × P o × IsRefusedAt o code r
+CertifiesSome P code (Err (Memory e)) = Unit {0}
 
+-- the rule's open net
+abbrev pub CertifiesRule : Tables → RuleParts → Result Certificate Fault → Type 0
+CertifiesRule t p = CertifiesSome (OpensRule t p) E12
+
+-- the net's
 abbrev pub CertifiesNet : Tables → Parts → Result Certificate Fault → Type 0
-CertifiesNet t n (Ok c) = Opens t n c.shape × IsCertificate c
-CertifiesNet t n (Err (Refused r)) = (o : OpenNet) × Opens t n o × IsRefusedAt o E13 r
-CertifiesNet t n (Err (Memory e)) = Unit {0}
+CertifiesNet t n = CertifiesSome (Opens t n) E13
 
 -- ---- rule by rule
 

@@ -6,7 +6,8 @@ use Rattle.in_syntax.specs.declared.faults.Refusal.{Refusal}
 use Rattle.in_syntax.specs.declared.faults.Fault.{Fault}
 use Rattle.in_syntax.specs.declared.faults.Fault.TheVariants.{Refused, Memory}
 use Rattle.in_syntax.specs.declared.tree.Source.{Source}
-use Rattle.in_syntax.specs.Parsing.{Parses}
+use Rattle.in_syntax.specs.Answers.{Then}
+use Rattle.in_syntax.specs.Parsing.{IsOfText, Parses}
 use Rattle.in_symbols.specs.Tables.{Tables, Tabulates}
 use Rattle.in_net.specs.Parts.{Parts}
 use Rattle.in_net.specs.Built.{Builds}
@@ -59,11 +60,63 @@ TypePasses t rules n (Ok u) = TypesAll t rules n (Ok u)
 TypePasses t rules n (Err (Refused r)) = TypesAll t rules n (Err r)
 TypePasses t rules n (Err (Memory e)) = ⊥
 
--- ---- pass by pass
+-- ---- pass by pass: each answers, and, where it is Ok, the rest of them do
+
+-- what the passes answered is kept
+abbrev pub Keeps : Tables → List RuleParts → Parts → Cells → List Certificate → Certificate → Result Program Fault → Type 0
+Keeps t rules n numbers cs c (Ok p) = p ≡ record { tables = t; rules = rules; net = n; numbers = numbers; rule_certificates = cs; net_certificate = c }
+Keeps t rules n numbers cs c (Err (Refused r)) = ⊥
+Keeps t rules n numbers cs c (Err (Memory e)) = Unit {0}
+
+-- the steps of the net
+abbrev pub ChecksNetSteps : Tables → List RuleParts → Parts → Cells → List Certificate → Result Program Fault → Type 0
+ChecksNetSteps t rules n numbers cs = Then (CertifiesNet t n) (Keeps t rules n numbers cs)
+
+-- the steps of the rules, and the rest
+abbrev pub ChecksRuleSteps : Tables → List RuleParts → Parts → Cells → Result Program Fault → Type 0
+ChecksRuleSteps t rules n numbers = Then (CertifiesRules t rules) (ChecksNetSteps t rules n numbers)
+
+-- one rule for each pair, and the rest
+abbrev pub ChecksPairs : Tables → List RuleParts → Parts → Result Program Fault → Type 0
+ChecksPairs t rules n = Then (Covers t rules) (ChecksRuleSteps t rules n)
+
+-- the types, and the rest
+abbrev pub ChecksTypes : Tables → List RuleParts → Parts → Result Program Fault → Type 0
+ChecksTypes t rules n = Then (TypePasses t rules n) (λ u. ChecksPairs t rules n)
+
+-- the net, and the rest
+abbrev pub ChecksNet : Source → Tables → List RuleParts → Result Program Fault → Type 0
+ChecksNet s t rules = Then (Builds s t) (ChecksTypes t rules)
+
+-- the rules, and the rest
+abbrev pub ChecksRules : Source → Tables → Result Program Fault → Type 0
+ChecksRules s t = Then (BuildsRules s t) (ChecksNet s t)
+
+-- the names, and the rest
+abbrev pub ChecksNames : Source → Result Program Fault → Type 0
+ChecksNames s = Then (Tabulates s) (ChecksRules s)
+
+-- the tree, and the rest
+abbrev pub ChecksTree : List ℕ → Result Program Fault → Type 0
+ChecksTree text = Then (Parses text) ChecksNames
+
+-- the program that all passes accept, or the refusal of the first that refuses. (Who only holds a program need not look inside.)
+unfoldable pub IsChecked : List ℕ → Result Program Fault → Type 0
+IsChecked text = ChecksTree text
+
+-- the program of a text that all passes accept
+abbrev pub IsAccepted : List ℕ → Program → Type 0
+IsAccepted text p = IsChecked text (Ok p)
+
+-- the first pass that refuses a text refuses it so
+abbrev pub IsRefused : List ℕ → Refusal → Type 0
+IsRefused text r = IsChecked text (Err (Refused r))
+
+-- ---- what the passes say of an accepted program, each in a field
 
 -- the text has a tree, the tree tables, rules and a net, each wire fits, each pair has its rule, and each rule and the net are built by
 -- their steps
-pub record IsAccepted (text : List ℕ) (p : Program) : Type 0 where
+pub record IsProgramOf (text : List ℕ) (p : Program) : Type 0 where
   pub source : Source
   pub parses : Parses text (Ok source)
   pub tabulates : Tabulates source (Ok p.tables)
@@ -74,35 +127,10 @@ pub record IsAccepted (text : List ℕ) (p : Program) : Type 0 where
   pub simple_rules : CertifiesRules p.tables p.rules (Ok p.rule_certificates)
   pub simple_net : CertifiesNet p.tables p.net (Ok p.net_certificate)
 
--- the rules and the net of the text, that fit and are covered
-pub record IsCovered (text : List ℕ) (t : Tables) (rules : List RuleParts) (n : Parts) : Type 0 where
+-- the tables, the rules and the net are those of one tree
+pub record AreOfText (t : Tables) (rules : List RuleParts) (n : Parts) : Type 0 where
   pub source : Source
-  pub numbers : Cells
-  pub parses : Parses text (Ok source)
+  pub tree : IsOfText source
   pub tabulates : Tabulates source (Ok t)
   pub builds_rules : BuildsRules source t (Ok rules)
   pub builds : Builds source t (Ok n)
-  pub fits : TypesAll t rules n (Ok tt)
-  pub covers : Covers t rules (Ok numbers)
-
--- the first of the passes that refuses: that of the tree, of the tables, of the rules and the net, of the types, of the rules' pairs,
--- of the rules' and of the net's steps
-pub data IsRefused (text : List ℕ) (r : Refusal) : Type 0 where
-  no_tree : Parses text (Err (Refused r)) → IsRefused text r
-  no_tables : (s : Source) → Parses text (Ok s) → Tabulates s (Err (Refused r)) → IsRefused text r
-  no_rules : (s : Source) (t : Tables) → Parses text (Ok s) → Tabulates s (Ok t) → BuildsRules s t (Err (Refused r)) → IsRefused text r
-  no_net : (s : Source) (t : Tables) (rules : List RuleParts) → Parses text (Ok s) → Tabulates s (Ok t) → BuildsRules s t (Ok rules) → Builds s t (Err (Refused r)) →
-      IsRefused text r
-  no_types : (s : Source) (t : Tables) (rules : List RuleParts) (n : Parts) → Parses text (Ok s) → Tabulates s (Ok t) → BuildsRules s t (Ok rules) → Builds s t (Ok n) →
-      TypesAll t rules n (Err r) → IsRefused text r
-  no_cover : (s : Source) (t : Tables) (rules : List RuleParts) (n : Parts) → Parses text (Ok s) → Tabulates s (Ok t) → BuildsRules s t (Ok rules) → Builds s t (Ok n) →
-      TypesAll t rules n (Ok tt) → Covers t rules (Err (Refused r)) → IsRefused text r
-  no_simple_rules : (t : Tables) (rules : List RuleParts) (n : Parts) → IsCovered text t rules n → CertifiesRules t rules (Err (Refused r)) → IsRefused text r
-  no_simple_net : (t : Tables) (rules : List RuleParts) (n : Parts) (cs : List Certificate) → IsCovered text t rules n → CertifiesRules t rules (Ok cs) →
-      CertifiesNet t n (Err (Refused r)) → IsRefused text r
-
--- accepted by all passes, or refused by the first that refuses
-abbrev pub IsChecked : List ℕ → Result Program Fault → Type 0
-IsChecked text (Ok p) = IsAccepted text p
-IsChecked text (Err (Refused r)) = IsRefused text r
-IsChecked text (Err (Memory e)) = Unit {0}

@@ -1,3 +1,4 @@
 pub mod Certificates
 pub mod Checking
+pub mod Laws
 pub mod Programs

@@ -1,10 +1,11 @@
 ghost use Rattle.std.specs.Prelude.{◌≡◌, ◌<◌, length, slice_get, option_map, Some};
+ghost use Rattle.in_cover.specs.Cover.{IsPair, IsRuleFor};
 ghost use Rattle.in_check.specs.Programs.{IsItem, certificate_of, counts_of};
 
 use in_cover::{RuleNo, RuleTable};
 use in_net::{Net, Rule};
 use in_simple::{Derivation, OpenNet};
-use in_symbols::Symbols;
+use in_symbols::{SymbolNo, Symbols};
 use sqlite_items::Items;
 use std::marker::Model;
 
@@ -31,9 +32,10 @@ pub struct Certificate {
     pub derivation: Derivation,
 }
 
-/// A program that is accepted: its tables, its rules and its net, and for each rule and the net the steps that build it.
+/// What the passes answered of a text: its tables, its rules and its net, the number of the rule of each two matching symbols, and
+/// for each rule and the net the steps that build it.
 #[derive(Drop)]
-pub struct Checked {
+pub(crate) struct Passed {
     pub(crate) symbols: Symbols,
     pub(crate) rules: Items<Rule>,
     pub(crate) net: Net,
@@ -43,7 +45,7 @@ pub struct Checked {
 }
 
 // Contracts see the program.
-impl Model for Checked {
+impl Model for Passed {
     ghost use Rattle.in_check.specs.Programs as programs;
     ghost use Rattle.std.specs.Prelude.{◌≡◌, ◌^◌, ◌<◌, length};
 
@@ -58,7 +60,26 @@ impl Model for Checked {
       net_certificate = c.net_certificate;
     } };
 
-    ghost invariant = { λ c. (length c.rules < 2 ^ 32) × (length c.rule_certificates ≡ length c.rules) };
+    ghost invariant = { λ c. Unit {0} };
+}
+
+/// A program that is accepted: its tables, its rules and its net, and for each rule and the net the steps that build it.
+#[derive(Drop)]
+pub struct Checked {
+    pub(crate) passed: Passed,
+}
+
+// Contracts see the program, which is that of some text.
+impl Model for Checked {
+    ghost use Rattle.in_check.specs.Programs as programs;
+    ghost use Rattle.in_check.specs.Checking as checking;
+    ghost use Rattle.std.specs.Prelude.{◌≡◌, ◌^◌, ◌<◌, List, ℕ, length};
+
+    ghost Value = { programs.Program };
+
+    ghost view = { λ c. c.passed };
+
+    ghost invariant = { λ c. (length c.passed.rules < 2 ^ 32) × (length c.passed.rule_certificates ≡ length c.passed.rules) × ((text : List ℕ) × checking.IsAccepted text c.passed) };
 }
 
 impl Checked {
@@ -66,14 +87,14 @@ impl Checked {
     pub fn symbols(&self) -> &Symbols
         ensures { result.now ≡ self.now.tables }
     {
-        &self.symbols
+        &self.passed.symbols
     }
 
     /// How many rules there are.
     pub fn rules(&self) -> u32
         ensures { result ≡ length self.now.rules }
     {
-        self.rules.len() as u32
+        self.passed.rules.len() as u32
     }
 
     /// The rule of that number, from 0 in the order of the text.
@@ -81,14 +102,23 @@ impl Checked {
         requires { number.0 < length self.now.rules }
         ensures { slice_get self.now.rules number.0 ≡ Some result.now }
     {
-        &self.rules.as_slice()[number.0 as usize]
+        &self.passed.rules.as_slice()[number.0 as usize]
+    }
+
+    /// The number of the one rule of two symbols, whichever is named first. The two have to match: one of them is a constructor,
+    /// the other a destructor, of one type.
+    pub fn rule_of(&self, one: SymbolNo, other: SymbolNo) -> RuleNo
+        requires { IsPair self.now.tables one.0 other.0 }
+        ensures { IsRuleFor self.now.rules result.0 one.0 other.0 }
+    {
+        self.passed.numbers.rule(one, other)
     }
 
     /// The initial net.
     pub fn net(&self) -> &Net
         ensures { result.now ≡ self.now.net }
     {
-        &self.net
+        &self.passed.net
     }
 
     /// The open net of a rule or of the net, with its steps.
@@ -97,8 +127,8 @@ impl Checked {
         ensures { certificate_of self.now item ≡ Some result.now }
     {
         match item {
-            Item::RuleItem(number) => &self.rule_certificates.as_slice()[number.0 as usize],
-            Item::NetItem => &self.net_certificate,
+            Item::RuleItem(number) => &self.passed.rule_certificates.as_slice()[number.0 as usize],
+            Item::NetItem => &self.passed.net_certificate,
         }
     }
 
@@ -123,10 +153,10 @@ impl Checked {
         ensures { result ≡ counts_of self.now }
     {
         Counts {
-            types: self.symbols.types(),
-            symbols: self.symbols.symbols(),
+            types: self.passed.symbols.types(),
+            symbols: self.passed.symbols.symbols(),
             rules: self.rules(),
-            agents: self.net.agents(),
+            agents: self.passed.net.agents(),
         }
     }
 }

@@ -1,21 +1,31 @@
-ghost use Rattle.std.specs.Prelude.{◌^◌, ◌<◌, IsTrue, length};
+ghost use Rattle.std.specs.Prelude.{IsTrue, Ok};
 ghost use Rattle.std.specs.List.{AllByRecursion};
 ghost use Rattle.in_syntax.specs.Order.{IsWrittenInOrder};
+ghost use Rattle.in_syntax.specs.Parsing.{IsOfText};
 ghost use Rattle.in_syntax.specs.Sizes.{IsSized};
-ghost use Rattle.in_symbols.specs.Tables.{IsTabled};
+ghost use Rattle.in_symbols.specs.Tables.{IsTabled, Tabulates};
 ghost use Rattle.in_net.specs.Built.{IsOver};
 ghost use Rattle.in_net.specs.Rules.{IsRuleOver};
-ghost use Rattle.in_check.specs.Checking.{BuildsRules, IsChecked, TypePasses, TypesAll, TypesRules};
+ghost use Rattle.in_cover.specs.Cover.{IsOfPair};
+ghost use Rattle.in_check.specs.Checking.{AreOfText, BuildsRules, ChecksNames, ChecksNet, ChecksNetSteps, ChecksPairs, ChecksRules, ChecksRuleSteps, ChecksTypes, IsChecked, TypePasses, TypesAll, TypesRules};
 
 use crate::certifying::{certify_net, certify_rules};
-use crate::checked::Checked;
-use in_cover::cover;
+use crate::checked::{Certificate, Checked, Passed};
+use in_cover::{RuleTable, cover};
 use in_net::{Net, Rule, build_net, build_rule};
 use in_symbols::Symbols;
 use in_syntax::{Fault, Refusal, Source, parse};
 use in_typing::{type_net, type_rule};
 use sqlite_items::Items;
 use std::alloc::Global;
+
+/// What a text declares: its tables, its rules and its net.
+#[derive(Drop)]
+struct Declared {
+    symbols: Symbols,
+    rules: Items<Rule>,
+    net: Net,
+}
 
 /// The rules of a program in the order of the text; refused for the first fault of the first rule that has one.
 fn build_rules(alloc: Global, source: &Source, symbols: &Symbols) -> Result<Items<Rule>, Fault>
@@ -67,27 +77,23 @@ fn type_pass(symbols: &Symbols, rules: &[Rule], net: &Net) -> Result<(), Fault>
     }
 }
 
-/// Checks a program's text: its tokens and its tree, then its names, then rule by rule and the net at last its agents, variables
-/// and wires, then in the same order the types of wires, then that each two matching symbols have one rule, then rule by rule and
-/// the net at last whether it is semi-simple. What is accepted is kept.
-///
-/// The first fault of the first pass that finds one is answered: E01 to E03, E04 to E06, E03 and E07 to E09, E10 and E11, E14 and
-/// E15, E12, E13; or want of memory. Lafont 1990 asks for types that fit, for one rule for each pair and for semi-simple nets; the
-/// order of the passes is this project's own choice.
-// Each goal is answered by name: a search through the passes would take long where one of them is wrong.
-#[tactic(none)]
-pub fn check(alloc: Global, text: &[u8]) -> Result<Checked, Fault>
-    ensures { IsChecked text.now result }
+/// What the passes answered is kept, once the steps of the net are found.
+fn check_net_steps(
+    alloc: Global,
+    declared: Declared,
+    numbers: RuleTable,
+    rule_certificates: Items<Certificate>,
+) -> Result<Passed, Fault>
+    requires { AreOfText declared.symbols declared.rules declared.net }
+    ensures { ChecksNetSteps declared.symbols declared.rules declared.net numbers rule_certificates result }
 {
-    let source = parse(alloc, text)?;
-    let symbols = Symbols::build(alloc, &source)?;
-    let rules = build_rules(alloc, &source, &symbols)?;
-    let net = build_net(alloc, &source, &symbols)?;
-    type_pass(&symbols, rules.as_slice(), &net)?;
-    let numbers = cover(alloc, &symbols, rules.as_slice())?;
-    let rule_certificates = certify_rules(alloc, &symbols, rules.as_slice())?;
-    let net_certificate = certify_net(alloc, &symbols, &net)?;
-    Ok(Checked {
+    let net_certificate = certify_net(alloc, &declared.symbols, &declared.net)?;
+    let Declared {
+        symbols,
+        rules,
+        net,
+    } = declared;
+    Ok(Passed {
         symbols,
         rules,
         net,
@@ -95,4 +101,97 @@ pub fn check(alloc: Global, text: &[u8]) -> Result<Checked, Fault>
         rule_certificates,
         net_certificate,
     })
+}
+
+/// The steps of the rules, and then those of the net.
+fn check_rule_steps(alloc: Global, declared: Declared, numbers: RuleTable) -> Result<Passed, Fault>
+    requires { AreOfText declared.symbols declared.rules declared.net }
+    ensures { ChecksRuleSteps declared.symbols declared.rules declared.net numbers result }
+{
+    let certificates = certify_rules(alloc, &declared.symbols, declared.rules.as_slice())?;
+    check_net_steps(alloc, declared, numbers, certificates)
+}
+
+/// One rule for each pair, and then the steps.
+fn check_pairs(alloc: Global, declared: Declared) -> Result<Passed, Fault>
+    requires text { AreOfText declared.symbols declared.rules declared.net }
+    requires pairs { AllByRecursion (IsOfPair declared.symbols) declared.rules }
+    ensures { ChecksPairs declared.symbols declared.rules declared.net result }
+{
+    let numbers = cover(alloc, &declared.symbols, declared.rules.as_slice())?;
+    check_rule_steps(alloc, declared, numbers)
+}
+
+/// The types, and then one rule for each pair and the steps.
+fn check_types(alloc: Global, declared: Declared) -> Result<Passed, Fault>
+    requires { AreOfText declared.symbols declared.rules declared.net }
+    ensures { ChecksTypes declared.symbols declared.rules declared.net result }
+{
+    let rules = declared.rules.as_slice();
+    type_pass(&declared.symbols, rules, &declared.net)?;
+    check_pairs(alloc, declared)
+}
+
+/// The net, and then the passes over all that is declared.
+fn check_net(
+    alloc: Global,
+    source: &Source,
+    symbols: Symbols,
+    rules: Items<Rule>,
+) -> Result<Passed, Fault>
+    requires tree { IsOfText source.now }
+    requires tables { Tabulates source.now (Ok symbols) }
+    requires rules { BuildsRules source.now symbols (Ok rules) }
+    ensures { ChecksNet source.now symbols rules result }
+{
+    let net = build_net(alloc, source, &symbols)?;
+    check_types(
+        alloc,
+        Declared {
+            symbols,
+            rules,
+            net,
+        },
+    )
+}
+
+/// The rules, and then the net and the rest.
+fn check_rules(alloc: Global, source: &Source, symbols: Symbols) -> Result<Passed, Fault>
+    requires tree { IsOfText source.now }
+    requires tables { Tabulates source.now (Ok symbols) }
+    ensures { ChecksRules source.now symbols result }
+{
+    let rules = build_rules(alloc, source, &symbols)?;
+    check_net(alloc, source, symbols, rules)
+}
+
+/// The names, and then the rules, the net and the rest.
+fn check_names(alloc: Global, source: &Source) -> Result<Passed, Fault>
+    requires { IsOfText source.now }
+    ensures { ChecksNames source.now result }
+{
+    let symbols = Symbols::build(alloc, source)?;
+    check_rules(alloc, source, symbols)
+}
+
+/// The tree, and then the names and the rest.
+fn check_tree(alloc: Global, text: &[u8]) -> Result<Passed, Fault>
+    ensures { IsChecked text.now result }
+{
+    let source = parse(alloc, text)?;
+    check_names(alloc, &source)
+}
+
+/// Checks a program's text: its tokens and its tree, then its names, then rule by rule and the net at last its agents, variables
+/// and wires, then in the same order the types of wires, then that each two matching symbols have one rule, then rule by rule and
+/// the net at last whether it is semi-simple. What is accepted is kept.
+///
+/// The first fault of the first pass that finds one is answered: E01 to E03, E04 to E06, E03 and E07 to E09, E10 and E11, E14 and
+/// E15, E12, E13; or want of memory. Lafont 1990 asks for types that fit, for one rule for each pair and for semi-simple nets; the
+/// order of the passes is this project's own choice.
+pub fn check(alloc: Global, text: &[u8]) -> Result<Checked, Fault>
+    ensures { IsChecked text.now result }
+{
+    let passed = check_tree(alloc, text)?;
+    Ok(Checked { passed })
 }

@@ -5,8 +5,7 @@
 mod certifying;
 mod checked;
 mod checking;
-#[cfg(test)]
-mod tests;
+pub mod laws;
 
 pub use checked::{Certificate, Checked, Counts, Item};
 pub use checking::check;

@@ -8,6 +8,3 @@ mod table;
 
 pub use covering::cover;
 pub use table::{RuleNo, RuleTable};
-
-#[cfg(test)]
-mod tests;

@@ -1,89 +1,97 @@
-//! Reads each program of `examples/`, and says of each what its passes answer.
+//! Runs `inet check` and `inet derive` on each program NAME.inet of `examples/`: what they write has to be NAME.check and, where
+//! that file is there, NAME.derive; and the steps of each accepted program have to build its rules and its net.
 #![tactic(auto)]
 
-ghost use Rattle.std.specs.Prelude.{◌≡◌, length, IfOk};
-ghost use Rattle.std.specs.List.{AllByRecursion};
-ghost use Rattle.in_syntax.specs.Order.{IsWrittenInOrder};
-ghost use Rattle.in_syntax.specs.Sizes.{IsSized};
-ghost use Rattle.in_symbols.specs.Tables.{IsTabled};
-ghost use Rattle.in_cover.specs.Cover.{IsOfPair};
-
 use anyhow::Result;
-use in_cover::cover;
-use in_net::{Rule, build_net, build_rule};
-use in_symbols::Symbols;
-use in_syntax::{Fault, Source, parse};
-use in_typing::{type_net, type_rule};
-use sqlite_items::Items;
-use std::alloc::Global;
+use in_check::{Checked, Item, check};
+use in_cover::RuleNo;
+use in_program::act;
+use in_simple::verify;
+use in_syntax::{MemoryIn, MemoryOut};
+use in_words::Action;
+use std::alloc::{AllocError, Global};
 use std::fs;
+use std::rt::Files;
 
-const EXAMPLES: [&str; 4] = ["double.inet", "list.inet", "queue.inet", "sum.inet"];
+/// Room for the lines on a program, in bytes.
+const ROOM: usize = 65_536;
 
-/// How much a program has.
-struct Counts {
-    symbols: u32,
-    rules: usize,
-    agents: u32,
-    wires: u32,
-    free: u32,
+/// The lines that a command writes on a text.
+fn lines_on(alloc: Global, action: Action, text: &[u8]) -> Result<MemoryOut, AllocError> {
+    let mut reader = MemoryIn::new(text);
+    let mut writer = MemoryOut::new(alloc, ROOM)?;
+    let _ = act(alloc, &action, &mut reader, &mut writer);
+    Ok(writer)
 }
 
-/// The rules of a program, each typed, or the first refusal of one.
-fn rules(alloc: Global, source: &Source, symbols: &Symbols) -> Result<Items<Rule>, Fault>
-    requires sized { IsSized source.now }
-    requires order { IsWrittenInOrder source.now }
-    requires tabled { IsTabled source.now symbols.now }
-    ensures { IfOk result (λ rules. (length rules ≡ length source.now.rules) × AllByRecursion (IsOfPair symbols.now) rules) }
-{
-    let mut rules = Items::new(alloc);
-    for index in 0..source.rules.len() as u32 {
-        let rule = build_rule(alloc, source, symbols, index)?;
-        if let Err(refusal) = type_rule(symbols, &rule) {
-            return Err(Fault::Refused(refusal));
+/// Whether the steps of each rule and of the net build it.
+fn builds(alloc: Global, program: &Checked) -> Result<bool, AllocError> {
+    for number in 0..program.rules() {
+        let item = Item::RuleItem(RuleNo(number));
+        if !verify(alloc, program.certificate(item), program.shape(item))? {
+            return Ok(false);
         }
-        rules.push(rule)?;
     }
-    Ok(rules)
+    let net = Item::NetItem;
+    verify(alloc, program.certificate(net), program.shape(net))
 }
 
-/// How much the program has, or its refusal.
-fn passes(alloc: Global, text: &str) -> Result<Counts, Fault> {
-    let source = parse(alloc, text.as_bytes())?;
-    let symbols = Symbols::build(alloc, &source)?;
-    let rules = rules(alloc, &source, &symbols)?;
-    let net = build_net(alloc, &source, &symbols)?;
-    if let Err(refusal) = type_net(&symbols, &net) {
-        return Err(Fault::Refused(refusal));
+/// Whether a program that is accepted is built by its steps.
+fn is_built(alloc: Global, text: &[u8]) -> Result<bool, AllocError> {
+    match check(alloc, text) {
+        Ok(program) => builds(alloc, &program),
+        Err(_) => Ok(true),
     }
-    cover(alloc, &symbols, rules.as_slice())?;
-    Ok(Counts {
-        symbols: symbols.symbols(),
-        rules: rules.len(),
-        agents: net.agents(),
-        wires: net.wires(),
-        free: net.free_ends(),
-    })
+}
+
+/// Whether what a command writes on a program is the text of a file beside it.
+fn is_written(rt: &HostRuntime, action: Action, text: &str, file: &str) -> Result<bool> {
+    let wanted = fs::read(rt, file)?;
+    let lines = lines_on(rt.alloc(), action, text.as_bytes())?;
+    Ok(lines.text() == wanted.as_slice())
+}
+
+/// Whether a program's answers are as they stand beside it.
+fn is_as_written(rt: &HostRuntime, name: &str) -> Result<bool> {
+    let alloc = rt.alloc();
+    let text = fs::read_to_string(rt, format!(in alloc; "{name}.inet")?)?;
+    let steps = format!(in alloc; "{name}.derive")?;
+    if fs::exists(rt, steps.as_str())?
+        && !is_written(rt, Action::Derive, text.as_str(), steps.as_str())?
+    {
+        return Ok(false);
+    }
+    let check = format!(in alloc; "{name}.check")?;
+    Ok(
+        is_written(rt, Action::Check, text.as_str(), check.as_str())?
+            && is_built(alloc, text.as_bytes())?,
+    )
+}
+
+/// The names of the programs in this folder, in alphabetical order.
+fn programs(rt: &HostRuntime) -> Result<Vec<String>> {
+    let mut names = Vec::new(rt.alloc());
+    for entry in fs::read_dir(rt, ".")? {
+        let entry = entry?;
+        if let Some(name) = entry.file_name().strip_suffix(".inet") {
+            names.push(String::from_str(rt.alloc(), name)?)?;
+        }
+    }
+    names.sort()?;
+    Ok(names)
 }
 
 fn main(rt: HostRuntime) -> Result<()> {
-    for name in EXAMPLES {
-        let text = fs::read_to_string(&rt, name)?;
-        match passes(rt.alloc(), text.as_str()) {
-            Ok(counts) => {
-                let Counts {
-                    symbols,
-                    rules,
-                    agents,
-                    wires,
-                    free,
-                } = counts;
-                println!(rt;
-                    "{name}: {symbols} symbols, {rules} rules, {agents} agents, {wires} wires, {free} free ends"
-                )?
-            }
-            Err(fault) => println!(rt; "{name}: {fault:?}")?,
+    let names = programs(&rt)?;
+    let mut wrong = names.is_empty();
+    for name in names.as_slice() {
+        if !is_as_written(&rt, name.as_str())? {
+            wrong = true;
+            println!(rt; "{name}: what is written on it is not what stands beside it")?;
         }
+    }
+    if !wrong {
+        println!(rt; "each example is answered as is written beside it")?;
     }
     Ok(())
 }

@@ -39,5 +39,4 @@ pub mod VerifyRun
 pub mod VerifySets
 pub mod VerifyTaken
 pub mod Whole
-pub mod WireNet
 pub mod Working

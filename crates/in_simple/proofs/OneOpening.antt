@@ -13,7 +13,7 @@ use Rattle.in_simple.specs.OpeningRules.{IsClassNodeOf, IsRuleNode, OpensRule, a
 use Rattle.in_simple.proofs.RulePoints.{NodeKind, of_first, of_second, of_agent, kind_of}
 use Rattle.std.proofs.lemmas.Option.{same_Some, slice_get_within}
 
-by_elements : {X : Type 0} (xs ys : List X) → length xs ≡ length ys → ((i : ℕ) (x y : X) → slice_get xs i ≡ Some x → slice_get ys i ≡ Some y → x ≡ y) → xs ≡ ys
+pub by_elements : {X : Type 0} (xs ys : List X) → length xs ≡ length ys → ((i : ℕ) (x y : X) → slice_get xs i ≡ Some x → slice_get ys i ≡ Some y → x ≡ y) → xs ≡ ys
 by_elements [] [] e h = refl
 by_elements [] (y ∷ ys) e h = absurd (omega (arith, e))
 by_elements (x ∷ xs) [] e h = absurd (omega (arith, e))

@@ -21,7 +21,8 @@ impl Model for StepNumbers {
 }
 
 impl StepNumbers {
-    pub(crate) fn new(alloc: Global) -> StepNumbers
+    /// No numbers yet.
+    pub fn new(alloc: Global) -> StepNumbers
         ensures { result ≡ [] }
     {
         StepNumbers {
@@ -29,7 +30,8 @@ impl StepNumbers {
         }
     }
 
-    pub(crate) fn push(&mut self, step: u32) -> Result<(), AllocError>
+    /// One number more, at the end; refused for want of memory, and then nothing changes.
+    pub fn push(&mut self, step: u32) -> Result<(), AllocError>
         ensures ok { OnOk result (self.new ≡ self.old ++ step ∷ []) }
         ensures err { OnErr result (self.new ≡ self.old) }
     {

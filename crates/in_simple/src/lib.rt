@@ -12,8 +12,6 @@ mod plans;
 mod procedure;
 mod splitting;
 mod stuck;
-#[cfg(test)]
-mod tests;
 mod verifying;
 mod wired;
 

@@ -7,8 +7,6 @@ mod names;
 mod searching;
 mod symbols;
 mod tables;
-#[cfg(test)]
-mod tests;
 
 pub use names::Names;
 pub use searching::{earlier, earlier_refusal, refused};

@@ -13,9 +13,6 @@ use crate::words::{Token, TokenKind};
 use std::alloc::{AllocError, Global};
 use std::str;
 
-#[cfg(test)]
-mod tests;
-
 /// The longest text that is read, in bytes. This project's own choice.
 pub const MAX_TEXT_BYTES: usize = 1_048_576;
 

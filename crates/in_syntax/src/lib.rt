@@ -9,8 +9,6 @@ mod lexer;
 mod machine;
 mod memory;
 mod parser;
-#[cfg(test)]
-mod parser_tests;
 mod parsing;
 mod places;
 mod reader;

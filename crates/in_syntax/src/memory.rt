@@ -1,26 +1,31 @@
-ghost use Rattle.std.specs.Prelude.{◌≡◌, ◌≤◌, false, true, [], Some, take, length};
+ghost use Rattle.std.specs.Prelude.{◌≡◌, ◌+◌, ◌-◌, ◌^◌, ◌<◌, ◌≤◌, min, false, true, Some, Ok, take, length, IfOk};
+ghost use Rattle.in_syntax.specs.Streams.{Moves, fails_write};
 
 use crate::streams::{TextIn, TextOut};
-use std::alloc::Global;
+use std::alloc::{AllocError, Global};
 
-/// A reader that gives a text from memory.
+/// A reader that gives a text from memory, as many bytes at a time as it is asked for. No read of it fails.
+#[derive(Drop)]
 pub struct MemoryIn<'a> {
     text: &'a [u8],
     at: usize,
     ended: bool,
+    reads: u64,
     ghost within: { at ≤ length text.now },
     ghost whole: { ended ≡ true → at ≡ length text.now },
 }
 
 impl<'a> MemoryIn<'a> {
+    /// The reader of a text, which it gives from its beginning.
     pub fn new(text: &'a [u8]) -> MemoryIn<'a>
         ensures text { result.text.now ≡ text.now }
-        ensures begins { (result.at ≡ 0) × (result.ended ≡ false) }
+        ensures begins { (result.at ≡ 0) × (result.ended ≡ false) × (result.reads ≡ 0) }
     {
         MemoryIn {
             text,
             at: 0,
             ended: false,
+            reads: 0,
         }
     }
 }
@@ -32,7 +37,10 @@ impl TextIn for MemoryIn<'_> {
 
     ghost failures = { λ s. 0 };
 
+    ghost reads = { λ s. s.reads };
+
     fn read(&mut self, into: &mut [u8]) -> Result<usize, ()> {
+        self.reads += 1;
         let left = self.text.len() - self.at;
         let n = left.min(into.len());
         if n == 0 && !into.is_empty() {
@@ -44,43 +52,56 @@ impl TextIn for MemoryIn<'_> {
     }
 }
 
-/// A writer that keeps what it takes. A write for which there is no memory fails.
+/// A writer that keeps what it takes. Its room is taken once, when it is made, so that no write wants memory: a write takes as much
+/// as there is room for, and fails where it has some bytes and there is no room at all.
 #[derive(Drop)]
 pub struct MemoryOut {
-    text: Vec<u8>,
+    room: Vec<u8>,
+    taken: usize,
     failures: u64,
+    ghost within: { taken ≤ length room.items },
 }
 
 impl MemoryOut {
-    pub fn new(alloc: Global) -> MemoryOut
-        ensures { (result.text.items ≡ []) × (result.failures ≡ 0) }
+    /// A writer with room for so many bytes, which took none yet; or want of memory.
+    pub fn new(alloc: Global, room: usize) -> Result<MemoryOut, AllocError>
+        ensures { IfOk result (λ w. (length w.room.items ≡ room) × (w.taken ≡ 0) × (w.failures ≡ 0)) }
     {
-        MemoryOut {
-            text: Vec::new(alloc),
+        Ok(MemoryOut {
+            room: vec![in alloc; 0; room]?,
+            taken: 0,
             failures: 0,
-        }
+        })
     }
 
     /// What was taken so far.
     pub fn text(&self) -> &[u8]
-        ensures { result.now ≡ self.now.text.items }
+        ensures { result.now ≡ take self.now.taken self.now.room.items }
     {
-        self.text.as_slice()
+        &self.room.as_slice()[..self.taken]
     }
 }
 
 impl TextOut for MemoryOut {
-    ghost taken = { λ s. Some s.text.items };
+    ghost taken = { λ s. Some (take s.taken s.room.items) };
 
     ghost failures = { λ s. s.failures };
 
-    fn write(&mut self, bytes: &[u8]) -> Result<usize, ()> {
-        match self.text.extend_from_slice(bytes) {
-            Ok(()) => Ok(bytes.len()),
-            Err(_) => {
-                self.failures += 1;
-                Err(())
-            }
+    fn write(&mut self, bytes: &[u8]) -> Result<usize, ()>
+        requires { self.old.failures < 2 ^ 64 - 1 }
+        ensures within { IfOk result (λ n. n ≤ length bytes.now) }
+        ensures taken { Moves (Some (take self.old.taken self.old.room.items)) (Some (take self.new.taken self.new.room.items)) result bytes.now }
+        ensures failures { self.new.failures ≡ self.old.failures + fails_write result bytes.now }
+        ensures fits { result ≡ Ok (min (length bytes.now) (length self.old.room.items - self.old.taken)) }
+        ensures room { length self.new.room.items ≡ length self.old.room.items }
+    {
+        let n = bytes.len().min(self.room.len() - self.taken);
+        if n == 0 && !bytes.is_empty() {
+            self.failures += 1;
+            return Ok(0);
         }
+        self.room.as_mut_slice()[self.taken..self.taken + n].copy_from_slice(&bytes[..n]);
+        self.taken += n;
+        Ok(n)
     }
 }

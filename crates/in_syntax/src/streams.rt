@@ -12,13 +12,18 @@ pub trait TextIn {
     /// How many reads failed.
     ghost failures: { Self → ℕ };
 
+    /// How many reads there were.
+    ghost reads: { Self → ℕ };
+
     /// Reads up to as many bytes as are lent, and says how many. 0 bytes for a slice that isn't empty is the end.
     fn read(&mut self, into: &mut [u8]) -> Result<usize, ()>
-        requires { failures self.old < 2 ^ 64 - 1 }
+        requires failures { failures self.old < 2 ^ 64 - 1 }
+        requires reads { reads self.old < 2 ^ 64 - 1 }
         ensures within { IfOk result (λ n. n ≤ length into.new) }
         ensures given { Moves (given self.old) (given self.new) result into.new }
         ensures ended { ended self.new ≡ ended_after (ended self.old) result into.new }
-        ensures failures { failures self.new ≡ failures self.old + fails_read result };
+        ensures failures { failures self.new ≡ failures self.old + fails_read result }
+        ensures reads { reads self.new ≡ reads self.old + 1 };
 }
 
 /// Where a text goes.

@@ -55,7 +55,7 @@ pub struct SourceSymbol {
 
 impl SourceSymbol {
     /// The symbol with one more class, at the end. Its only error is want of memory.
-    pub fn with_class(self, class: SourceClass) -> Result<SourceSymbol, AllocError>
+    pub(crate) fn with_class(self, class: SourceClass) -> Result<SourceSymbol, AllocError>
         ensures { IfOk result (λ t. t ≡ with_class self class) }
     {
         let SourceSymbol {
@@ -98,7 +98,7 @@ impl Head {
     }
 
     /// The head with one more term, at the end. Its only error is want of memory.
-    pub fn with_term(self, term: Term) -> Result<Head, AllocError>
+    pub(crate) fn with_term(self, term: Term) -> Result<Head, AllocError>
         ensures { IfOk result (λ h. h ≡ with_term self term) }
     {
         let Head { name, mut terms } = self;
@@ -126,7 +126,7 @@ impl Term {
     }
 
     /// The term with one more argument, at the end. Its only error is want of memory.
-    pub fn with_argument(self, argument: Term) -> Result<Term, AllocError>
+    pub(crate) fn with_argument(self, argument: Term) -> Result<Term, AllocError>
         ensures { IfOk result (λ t. t ≡ with_argument self argument) }
     {
         let Term { name, mut args } = self;
@@ -159,7 +159,7 @@ pub struct SourceNet {
 
 impl SourceNet {
     /// The net with one more equation, at the end. Its only error is want of memory.
-    pub fn with_equation(self, equation: Equation) -> Result<SourceNet, AllocError>
+    pub(crate) fn with_equation(self, equation: Equation) -> Result<SourceNet, AllocError>
         ensures { IfOk result (λ t. t ≡ with_equation self equation) }
     {
         let SourceNet {

@@ -5,6 +5,3 @@ pub mod laws;
 mod typing;
 
 pub use typing::{type_net, type_rule};
-
-#[cfg(test)]
-mod tests;

@@ -2,7 +2,5 @@
 #![tactic(auto)]
 
 mod action;
-#[cfg(test)]
-mod tests;
 
 pub use action::{Action, Usage, action_of};

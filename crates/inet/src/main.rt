@@ -2,17 +2,10 @@
 //! what it found, or the steps that build its rules and its net.
 #![tactic(auto)]
 
-mod acting;
-mod lines;
-mod reading;
-mod steps;
 mod streams;
-#[cfg(test)]
-mod tests;
-mod writing;
 
-use crate::acting::{act, tell_usage};
 use crate::streams::{StreamIn, StreamOut};
+use in_program::{act, tell_usage};
 use in_words::{Action, Usage, action_of};
 use std::alloc::Global;
 use std::env::Args;

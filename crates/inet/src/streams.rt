@@ -9,17 +9,19 @@ pub struct StreamIn<R> {
     reader: R,
     ended: bool,
     failures: u64,
+    reads: u64,
 }
 
 impl<R> StreamIn<R> {
-    /// The stream, which hasn't failed yet.
+    /// The stream, which was not read yet.
     pub fn new(reader: R) -> StreamIn<R>
-        ensures { result.failures ≡ 0 }
+        ensures { (result.failures ≡ 0) × (result.reads ≡ 0) }
     {
         StreamIn {
             reader,
             ended: false,
             failures: 0,
+            reads: 0,
         }
     }
 }
@@ -31,7 +33,10 @@ impl<R: Read> TextIn for StreamIn<R> {
 
     ghost failures = { λ s. s.failures };
 
+    ghost reads = { λ s. s.reads };
+
     fn read(&mut self, into: &mut [u8]) -> Result<usize, ()> {
+        self.reads += 1;
         match self.reader.read(into) {
             Ok(n) => {
                 if n == 0 && !into.is_empty() {

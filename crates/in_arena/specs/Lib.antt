@@ -1,0 +1,10 @@
+pub mod Arenas
+pub mod Contents
+pub mod Filling
+pub mod Inside
+pub mod Leases
+pub mod Lends
+pub mod Ownership
+pub mod Places
+pub mod Regions
+pub mod States

@@ -1,0 +1,78 @@
+// The owner of one cell.
+ghost use Rattle.std.specs.Prelude.{◌≡◌, ◌<◌, length};
+ghost use Rattle.in_arena.specs.States.{Live, places, with_end};
+ghost use Rattle.in_arena.specs.Arenas.{Holds, written};
+
+use crate::content::{CellClass, CellNo, End};
+use crate::region::Held;
+use std::marker::Model;
+
+/// Owns one cell of an arena, which no other part of the program reads or writes meanwhile; it may be moved to another thread. To be
+/// spent by `Arena::settle` or `Arena::give_back`: an arena with a cell on lease can't be dropped. Contracts see its class and number,
+/// of which memory it is, and what is written in it.
+#[derive(Drop)]
+pub struct Lease {
+    pub(crate) number: u32,
+    pub(crate) held: HeldCell,
+}
+
+// The cell of a lease, by its class.
+#[derive(Drop)]
+pub enum HeldCell {
+    Small(Held<3>),
+    Large(Held<9>),
+}
+
+impl Model for Lease {
+    ghost use Rattle.in_arena.specs.Arenas.{LeaseView};
+
+    ghost Value = { LeaseView };
+
+    ghost use Rattle.in_arena.specs.Leases.{lease_view, IsLease};
+
+    ghost view = { lease_view };
+
+    ghost invariant = { IsLease };
+}
+
+impl Lease {
+    /// The number of its cell.
+    pub fn cell(&self) -> CellNo
+        ensures { result.0 ≡ self.now.number }
+    {
+        CellNo(self.number)
+    }
+
+    /// The class of its cell.
+    pub fn class(&self) -> CellClass
+        ensures { result ≡ self.now.class }
+    {
+        match &self.held {
+            HeldCell::Small(_) => CellClass::Small,
+            HeldCell::Large(_) => CellClass::Large,
+        }
+    }
+
+    /// Writes the symbol word and the ends at its places, the principal port first: one to three for a small cell, four to nine for a
+    /// large one.
+    pub fn write(&mut self, symbol: u32, ends: &[End])
+        requires { Holds self.old.class (length ends.now) }
+        ensures { self.new ≡ written self.old (Live symbol ends.now) }
+    {
+        match &mut self.held {
+            HeldCell::Small(held) => held.write(symbol, ends),
+            HeldCell::Large(held) => held.write(symbol, ends),
+        }
+    }
+
+    /// Writes the end at a place of a cell that is written.
+    pub fn set(&mut self, place: u8, end: End)
+        requires { place < places self.old.state }
+        ensures { self.new ≡ written self.old (with_end self.old.state place end) }
+    {
+        match &mut self.held {
+            HeldCell::Small(held) => held.set(place, end),
+            HeldCell::Large(held) => held.set(place, end),
+        }
+    }
+}

@@ -1,0 +1,207 @@
+// A region of cells of one width: free ones, leased ones and live ones.
+ghost use Rattle.std.specs.Prelude.{◌≡◌, ◌<◌, ◌≤◌, ◌^◌, length, map, replicate, Some, None, IfOk};
+ghost use Rattle.in_arena.specs.States.{Live, Vacant, IsLive, word_of, end_at, places, with_end};
+ghost use Rattle.in_arena.specs.Regions.{IsRegion, IsHeld, IsOf, Becomes, IsLeasedTo, IsSameCell, IsWhole, state, states, state_at, vacancies};
+ghost use Rattle.in_arena.specs.Filling.{Fills};
+
+use crate::cells::{Base, Cells, Deed, allocate, deallocate};
+use crate::content::{Content, End, Stored};
+use std::alloc::{AllocError, Global};
+use std_alloc::room::may_hold;
+
+// Cells of one width in one block. The free ones are a list through them.
+pub struct Region<const WIDTH: usize> {
+    base: Base<Content<WIDTH>>,
+    cells: Cells<Content<WIDTH>>,
+    deed: Deed<Content<WIDTH>, Global>,
+    alloc: Global,
+    size: u32,
+    next: u32,
+    free: u32,
+}
+
+// The owner of one cell of a region.
+#[derive(Drop)]
+pub struct Held<const WIDTH: usize> {
+    index: u32,
+    base: Base<Content<WIDTH>>,
+    cells: Cells<Content<WIDTH>>,
+}
+
+// Writes the ends to the first places.
+fn fill<const WIDTH: usize>(places: &mut [Stored; WIDTH], ends: &[End])
+    requires { length ends.now ≤ WIDTH }
+    ensures { Fills places.new ends.now }
+{
+    for (place, end) in ends.iter().enumerate() {
+        places[place] = Stored::of(*end);
+    }
+}
+
+impl<const WIDTH: usize> Region<WIDTH> {
+    // So many cells, all free.
+    pub fn new(alloc: Global, size: u32) -> Result<Region<WIDTH>, AllocError>
+        requires size { size < 2 ^ 31 }
+        requires width { WIDTH < 2 ^ 32 }
+        ensures { IfOk result (λ r. IsRegion r × (states r ≡ replicate size Vacant)) }
+    {
+        if !may_hold::<Content<WIDTH>>(size as usize) {
+            return Err(AllocError);
+        }
+        let (base, mut cells, deed) = allocate(&alloc, size as usize)?;
+        for index in 0..size {
+            cells.write(base, index as usize, Content::free(index + 1));
+        }
+        Ok(Region {
+            base,
+            cells,
+            deed,
+            alloc,
+            size,
+            next: 0,
+            free: size,
+        })
+    }
+
+    // Gives the block back.
+    pub fn close(self)
+        requires { IsRegion self × IsWhole self }
+    {
+        let Region {
+            base,
+            cells,
+            deed,
+            alloc,
+            size,
+            next: _,
+            free: _,
+        } = self;
+        deallocate(&alloc, base, size as usize, cells, deed);
+    }
+
+    // How many cells are free.
+    pub fn free_count(&self) -> u32
+        requires { IsRegion self.now }
+        ensures { result ≡ vacancies self.now.cells.slots }
+    {
+        self.free
+    }
+
+    // A free cell, where there is one.
+    pub fn lease(&mut self) -> Option<Held<WIDTH>>
+        requires { IsRegion self.old }
+        ensures { IsLeasedTo self.old self.new result }
+    {
+        if self.next == self.size {
+            return None;
+        }
+        let index = self.next;
+        self.next = self.cells.get(self.base, index as usize).word;
+        self.free -= 1;
+        let cells = self.cells.part(index as usize);
+        Some(Held {
+            index,
+            base: self.base,
+            cells,
+        })
+    }
+
+    // The cell is live from now on.
+    pub fn settle(&mut self, held: Held<WIDTH>)
+        requires { IsRegion self.old × IsOf held self.old × IsLive (state held) }
+        ensures { Becomes self.old self.new held.entry.index (state held.entry) }
+    {
+        let Held {
+            index: _,
+            base: _,
+            cells,
+        } = held;
+        self.cells.join(cells);
+    }
+
+    // The cell is free again.
+    pub fn give_back(&mut self, held: Held<WIDTH>)
+        requires { IsRegion self.old × IsOf held self.old }
+        ensures { Becomes self.old self.new held.entry.index Vacant }
+    {
+        let Held {
+            index,
+            base,
+            mut cells,
+        } = held;
+        let free = Content::free(self.next);
+        *cells.get_mut(base, index as usize) = free;
+        self.cells.join(cells);
+        self.next = index;
+        self.free += 1;
+    }
+
+    // The symbol word of a live cell.
+    pub fn symbol(&self, index: u32) -> u32
+        requires { IsRegion self.now × IsLive (state_at self.now index) }
+        ensures { word_of (state_at self.now index) ≡ Some result }
+    {
+        self.cells.get(self.base, index as usize).word
+    }
+
+    // What stands at a place of a live cell.
+    pub fn port(&self, index: u32, place: u8) -> End
+        requires { IsRegion self.now × (place < places (state_at self.now index)) }
+        ensures { end_at (state_at self.now index) place ≡ Some result }
+    {
+        self.cells.get(self.base, index as usize).ends[place as usize].end()
+    }
+
+    // Writes the end at a place of a live cell.
+    pub fn set_port(&mut self, index: u32, place: u8, end: End)
+        requires { IsRegion self.old × (place < places (state_at self.old index)) }
+        ensures { Becomes self.old self.new index (with_end (state_at self.old index) place end) }
+    {
+        let base = self.base;
+        let stored = Stored::of(end);
+        self.cells.get_mut(base, index as usize).ends[place as usize] = stored;
+    }
+
+    // The live cell is free from now on.
+    pub fn retire(&mut self, index: u32)
+        requires { IsRegion self.old × IsLive (state_at self.old index) }
+        ensures { Becomes self.old self.new index Vacant }
+    {
+        let base = self.base;
+        let free = Content::free(self.next);
+        *self.cells.get_mut(base, index as usize) = free;
+        self.next = index;
+        self.free += 1;
+    }
+}
+
+impl<const WIDTH: usize> Held<WIDTH> {
+    // Which cell of its region it is.
+    pub fn index(&self) -> u32
+        ensures { result ≡ self.now.index }
+    {
+        self.index
+    }
+
+    // Writes a symbol word, and the ends to the first places.
+    pub fn write(&mut self, word: u32, ends: &[End])
+        requires { IsHeld self.old × (0 < length ends.now) × (length ends.now ≤ WIDTH) }
+        ensures { IsHeld self.new × IsSameCell self.old self.new × (state self.new ≡ Live word ends.now) }
+    {
+        let base = self.base;
+        let content = self.cells.get_mut(base, self.index as usize);
+        content.word = word;
+        content.count = ends.len() as u32;
+        fill(&mut content.ends, ends);
+    }
+
+    // Writes the end at a place of the cell, which is written.
+    pub fn set(&mut self, place: u8, end: End)
+        requires { IsHeld self.old × (place < places (state self.old)) }
+        ensures { IsHeld self.new × IsSameCell self.old self.new × (state self.new ≡ with_end (state self.old) place end) }
+    {
+        let base = self.base;
+        let stored = Stored::of(end);
+        self.cells.get_mut(base, self.index as usize).ends[place as usize] = stored;
+    }
+}

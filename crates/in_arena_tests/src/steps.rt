@@ -1,0 +1,135 @@
+// Arenas as a test takes them.
+ghost use Rattle.std.specs.Prelude.{◌≡◌, ◌<◌, ◌≤◌, length, slice_set, IfOk};
+ghost use Rattle.in_arena.specs.States.{Live};
+ghost use Rattle.in_arena.specs.Arenas.{NoneLeased, Holds, state_at, written};
+
+use in_arena::{Arena, CellClass, CellNo, End, Lease};
+use std::alloc::{AllocError, Global};
+use std::process::Abort;
+use std::thread;
+use std::thread::Threads;
+
+// An arena of which no cell is on lease.
+pub fn fresh(alloc: Global, cells: u32) -> Result<Arena, AllocError>
+    requires { cells ≤ 1048576 }
+    ensures { IfOk result (λ a. NoneLeased a) }
+{
+    Arena::new(alloc, cells)
+}
+
+// Leases all free cells of a class, which are so many, while so many of the other are free, and gives them back.
+pub fn lease_all(
+    rt: &impl Abort,
+    arena: &mut Arena,
+    class: CellClass,
+    count: u32,
+    others: (CellClass, u32),
+)
+    ensures { arena.new ≡ arena.old }
+{
+    assert_eq!(rt; arena.free_count(class), count);
+    match arena.lease(class) {
+        Some(lease) => {
+            assert_eq!(rt; lease.class(), class);
+            assert!(rt; count > 0);
+            lease_all(rt, arena, class, count - 1, others);
+            arena.give_back(lease);
+        }
+        None => {
+            assert_eq!(rt; count, 0);
+            assert_eq!(rt; arena.free_count(others.0), others.1);
+        }
+    }
+}
+
+// The cell that a lease gives, which goes back.
+pub fn next_cell(rt: &impl Abort, arena: &mut Arena, class: CellClass) -> CellNo
+    ensures { arena.new ≡ arena.old }
+{
+    let lease = arena.lease(class).expect(rt, "a free cell");
+    let cell = lease.cell();
+    arena.give_back(lease);
+    cell
+}
+
+// Each arena has a cell on lease, and takes its own back.
+pub fn two_leases(rt: &impl Abort, one: &mut Arena, other: &mut Arena, class: CellClass)
+    ensures { (one.new ≡ one.old) × (other.new ≡ other.old) }
+{
+    let first = one.lease(class).expect(rt, "a free cell");
+    let second = other.lease(class).expect(rt, "a free cell");
+    one.give_back(first);
+    other.give_back(second);
+}
+
+// A live cell.
+pub fn make(
+    rt: &impl Abort,
+    arena: &mut Arena,
+    class: CellClass,
+    symbol: u32,
+    ends: &[End],
+) -> CellNo
+    requires { NoneLeased arena.old × Holds class (length ends.now) }
+    ensures { NoneLeased arena.new × (state_at arena.new result.0 ≡ Live symbol ends.now) }
+{
+    let mut lease = arena.lease(class).expect(rt, "a free cell");
+    let cell = lease.cell();
+    lease.write(symbol, ends);
+    arena.settle(lease);
+    cell
+}
+
+// A live cell of which one end was written again before it was settled.
+pub fn make_with(
+    rt: &impl Abort,
+    arena: &mut Arena,
+    class: CellClass,
+    symbol: u32,
+    ends: &[End],
+    place: u8,
+    end: End,
+) -> CellNo
+    requires { NoneLeased arena.old × Holds class (length ends.now) × (place < length ends.now) }
+    ensures { NoneLeased arena.new × (state_at arena.new result.0 ≡ Live symbol (slice_set ends.now place end)) }
+{
+    let mut lease = arena.lease(class).expect(rt, "a free cell");
+    let cell = lease.cell();
+    lease.write(symbol, ends);
+    lease.set(place, end);
+    arena.settle(lease);
+    cell
+}
+
+fn filled(mut lease: Lease, symbol: u32, ends: &[End]) -> Lease
+    requires { Holds lease.class (length ends.now) }
+    ensures { result ≡ written lease (Live symbol ends.now) }
+{
+    lease.write(symbol, ends);
+    lease
+}
+
+// A live cell that another thread wrote.
+pub fn make_elsewhere(
+    rt: &(impl Abort + Threads + Sync),
+    arena: &mut Arena,
+    class: CellClass,
+    symbol: u32,
+    ends: &[End],
+) -> CellNo
+    requires { NoneLeased arena.old × Holds class (length ends.now) }
+    ensures { NoneLeased arena.new × (state_at arena.new result.0 ≡ Live symbol ends.now) }
+{
+    let lease = arena.lease(class).expect(rt, "a free cell");
+    let cell = lease.cell();
+    let (lease, ()) = thread::join(
+        rt,
+        move || -> Lease
+            requires { Holds lease.class (length ends.now) }
+            ensures { result ≡ written lease (Live symbol ends.entry.now) }
+        { filled(lease, symbol, ends) },
+        || (),
+    );
+    arena.settle(lease);
+    cell
+}

@@ -1,0 +1,53 @@
+-- A chain of passes: the first one refuses, or the rest answers.
+use Rattle.std.proofs.Common.{◌≡◌, inl, inr, List, length, ℕ, ◌<◌, ◌^◌, Result, Ok, Err, sym, subst, arith}
+use Rattle.in_syntax.specs.declared.faults.Fault.{Fault}
+use Rattle.in_syntax.specs.declared.faults.Fault.TheVariants.{Refused, Memory}
+use Rattle.in_syntax.specs.Answers.{Then}
+use Rattle.in_syntax.specs.declared.tree.Source.{Source}
+use Rattle.in_syntax.specs.Parsing.{IsOfText}
+use Rattle.in_syntax.proofs.Sized.{tree_sized}
+use Rattle.in_symbols.specs.Tables.{Tables}
+use Rattle.in_net.specs.Rules.{RuleParts}
+use Rattle.in_check.specs.Checking.{BuildsRules, ChecksTree, IsAccepted, IsChecked, IsProgramOf}
+use Rattle.in_check.specs.Programs.{Program}
+
+pub then_refused : {A B : Type 0} (P : Result A Fault → Type 0) (Q : A → Result B Fault → Type 0) (e : Fault) → P (Err e) → Then P Q (Err e)
+then_refused P Q (Refused r) h = inl h
+then_refused P Q (Memory e) h = tt
+
+pub then_rest : {A B : Type 0} (P : Result A Fault → Type 0) (Q : A → Result B Fault → Type 0) (a : A) (x : Result B Fault) → P (Ok a) → Q a x → Then P Q x
+then_rest P Q a (Ok b) p h = (a, p, h)
+then_rest P Q a (Err (Refused r)) p h = inr (a, p, h)
+then_rest P Q a (Err (Memory e)) p h = tt
+
+-- what all passes say of an accepted program
+pub program_of : (text : List ℕ) (p : Program) → IsAccepted text p → IsProgramOf text p
+unfolding IsChecked
+program_of text p (s, parses, (t, tabulates, (rules, builds_rules, (n, builds, (u, fits, (numbers, covers, (cs, simple_rules, (c, simple_net, e)))))))) =
+    subst (IsProgramOf text) (sym e) (record {
+      source = s;
+      parses = parses;
+      tabulates = tabulates;
+      builds_rules = builds_rules;
+      builds = builds;
+      fits = fits;
+      covers = covers;
+      simple_rules = simple_rules;
+      simple_net = simple_net;
+    })
+
+-- the whole chain
+pub chain_of : (text : List ℕ) (x : Result Program Fault) → ChecksTree text x → IsChecked text x
+unfolding IsChecked
+chain_of text x h = h
+
+-- the rules of a text are few
+pub few_rules : (s : Source) (t : Tables) (rules : List RuleParts) → IsOfText s → BuildsRules s t (Ok rules) → length rules < 2 ^ 32
+few_rules s t rules tree builds = let sized = tree_sized tree.text s tree.tree in omega (arith, builds.count, sized.rules)
+
+-- .. and so of a program that is accepted, with a certificate for each
+pub few_rules_of : (text : List ℕ) (p : Program) → IsAccepted text p → length p.rules < 2 ^ 32
+few_rules_of text p h = let a = program_of text p h in few_rules a.source p.tables p.rules (record { text = text; tree = a.parses }) a.builds_rules
+
+pub certified_each : (text : List ℕ) (p : Program) → IsAccepted text p → length p.rule_certificates ≡ length p.rules
+certified_each text p h = (program_of text p h).simple_rules.count

@@ -1,0 +1,84 @@
+-- A text has one answer.
+use Rattle.std.proofs.Common.{◌≡◌, ℕ, List, Result, Ok, Err, refl, sym, subst}
+use Rattle.in_syntax.specs.declared.faults.Fault.{Fault}
+use Rattle.in_syntax.specs.declared.faults.Fault.TheVariants.{Refused, Memory}
+use Rattle.in_syntax.specs.declared.tree.Source.{Source}
+use Rattle.in_syntax.specs.Answers.{AgreeBy, IsOne, IsOneBy, Then}
+use Rattle.in_syntax.specs.Parsing.{IsOfText, Parses}
+use Rattle.in_syntax.proofs.ThenOne.{then_same, then_two}
+use Rattle.in_syntax.proofs.SourcePlaces.{texts_begin_apart}
+use Rattle.in_syntax.proofs.WholeTexts.{parsed_once}
+use Rattle.in_symbols.specs.Tables.{Tables, Tabulates}
+use Rattle.in_symbols.proofs.OneTables.{one_tables}
+use Rattle.in_net.specs.Parts.{Parts}
+use Rattle.in_net.specs.Built.{Builds}
+use Rattle.in_net.specs.Rules.{RuleParts, BuildsRule}
+use Rattle.in_net.proofs.OneText.{nets_once, rules_once}
+use Rattle.in_simple.specs.OpenNets.{OpenNet, IsOpenNet}
+use Rattle.in_simple.specs.Opening.{Opens}
+use Rattle.in_simple.specs.OpeningRules.{OpensRule}
+use Rattle.in_simple.proofs.Classes.{tables_numbered}
+use Rattle.in_simple.proofs.OneAnswer.{opened_once, rules_open}
+use Rattle.in_simple.proofs.OneOpening.{one_open_net}
+use Rattle.in_simple.proofs.Opened.{is_open_net}
+use Rattle.in_simple.proofs.TextRules.{rule_whole}
+use Rattle.in_cover.specs.Table.{Cells}
+use Rattle.in_cover.specs.Cover.{Covers}
+use Rattle.in_cover.specs.Laws.{AreOneTable}
+use Rattle.in_cover.proofs.OneTable.{covered_once}
+use Rattle.in_syntax.specs.declared.faults.Code.TheVariants.{E12, E13}
+use Rattle.in_check.specs.declared.checked.Certificate.{Certificate}
+use Rattle.in_check.specs.Certificates.{CertifiesRules, CertifiesNet}
+use Rattle.in_check.specs.Checking.{BuildsRules, ChecksNames, ChecksNet, ChecksNetSteps, ChecksPairs, ChecksRules, ChecksRuleSteps, ChecksTypes, IsChecked, Keeps, TypePasses}
+use Rattle.in_check.specs.Laws.{AreOneProgram, TextsAreCheckedOnce}
+use Rattle.in_check.specs.Programs.{Program}
+use Rattle.in_check.proofs.OnePass.{AllOne, one_certified, one_rules, one_rules_steps, one_types}
+
+kept : (t : Tables) (rules : List RuleParts) (n : Parts) (a b : Cells) (cs : List Certificate) (c : Certificate) → AreOneTable a b → (x y : Result Program Fault) → Keeps t rules n a cs c x → Keeps t rules n b cs c y → AgreeBy AreOneProgram x y
+kept t rules n a b cs c e (Ok p) (Ok q) h k =
+    subst (λ p. AreOneProgram p q) (sym h) (subst (AreOneProgram (record { tables = t; rules = rules; net = n; numbers = a; rule_certificates = cs; net_certificate = c })) (sym k)
+    (record { tables = refl; rules = refl; net = refl; numbers = e; rule_certificates = refl; net_certificate = refl }))
+kept t rules n a b cs c e (Ok p) (Err (Refused r)) h k = k
+kept t rules n a b cs c e (Ok p) (Err (Memory m)) h k = tt
+kept t rules n a b cs c e (Err (Refused q)) y h k = absurd h
+kept t rules n a b cs c e (Err (Memory m)) y h k = tt
+
+-- ---- the open nets of a text are open nets, and each has one
+
+net_opens : (s : Source) (t : Tables) (n : Parts) (o : OpenNet) → Tabulates s (Ok t) → Builds s t (Ok n) → Opens t n o → IsOpenNet o
+net_opens s t n o tabled builds opens = is_open_net t n o (tables_numbered s t tabled.0) builds.1.whole builds.0 opens
+
+rule_opens : (s : Source) (t : Tables) (i : ℕ) (p : RuleParts) (o : OpenNet) → Tabulates s (Ok t) → BuildsRule s t i (Ok p) → OpensRule t p o → IsOpenNet o
+rule_opens s t i p o tabled builds opens = rules_open t p o (tables_numbered s t tabled.0) (rule_whole t builds.0 p builds.2) builds.2.1.member.whole builds.2.0 opens
+
+-- ---- each pass up to the net has one answer, and then the rest
+
+module _ (s : Source) (t : Tables) (of_text : IsOfText s) (tabled : Tabulates s (Ok t)) where
+  all_one : (rules : List RuleParts) → BuildsRules s t (Ok rules) → AllOne t rules
+  all_one rules builds i p is =
+      one_certified (OpensRule t p) E12 (λ o opens. rule_opens s t i p o tabled (builds.each i p is) opens) (λ o u g h. opened_once t p o u (builds.each i p is).2.1.member.whole (builds.each i p is).2.0 g h)
+
+  steps_once : (rules : List RuleParts) (n : Parts) (a b : Cells) → BuildsRules s t (Ok rules) → Builds s t (Ok n) → AreOneTable a b → (x y : Result Program Fault) → ChecksRuleSteps t rules n a x → ChecksRuleSteps t rules n b y →
+      AgreeBy AreOneProgram x y
+  steps_once rules n a b rs net e =
+      then_two (λ cs ds. cs ≡ ds) AreOneProgram (CertifiesRules t rules) (ChecksNetSteps t rules n a) (ChecksNetSteps t rules n b) (one_rules_steps t rules (all_one rules rs))
+      (λ cs ds f h k x y l r. net_steps cs x y l (subst (λ ds. ChecksNetSteps t rules n b ds y) (sym f) r))
+    where
+      net_steps : (cs : List Certificate) (x y : Result Program Fault) → ChecksNetSteps t rules n a cs x → ChecksNetSteps t rules n b cs y → AgreeBy AreOneProgram x y
+      net_steps cs =
+          then_two (λ c d. c ≡ d) AreOneProgram (CertifiesNet t n) (Keeps t rules n a cs) (Keeps t rules n b cs) (one_certified (Opens t n) E13 (λ o opens. net_opens s t n o tabled net opens) (λ o u l r. one_open_net t n o u l r))
+          (λ c d g h k x y l r. kept t rules n a b cs c e x y l (subst (λ d. Keeps t rules n b cs d y) (sym g) r))
+
+  pub rules_and_net_once : IsOneBy AreOneProgram (ChecksRules s t)
+  rules_and_net_once =
+      then_same AreOneProgram (BuildsRules s t) (ChecksNet s t) (one_rules s t (λ i. rules_once s t i of_text tabled)) (λ rules rs.
+      then_same AreOneProgram (Builds s t) (ChecksTypes t rules) (nets_once s t of_text tabled) (λ n net.
+      then_two (λ u v. Unit {0}) AreOneProgram (TypePasses t rules n) (λ u. ChecksPairs t rules n) (λ u. ChecksPairs t rules n) (one_types t rules n) (λ u v w h k.
+      then_two AreOneTable AreOneProgram (Covers t rules) (ChecksRuleSteps t rules n) (ChecksRuleSteps t rules n) (covered_once t rules) (λ a b e l r. steps_once rules n a b rs net e))))
+
+pub checked_once : TextsAreCheckedOnce
+unfolding IsChecked
+checked_once text =
+    then_same AreOneProgram (Parses text) ChecksNames (parsed_once text) (λ s tree.
+    let of_text : IsOfText s = record { text = text; tree = tree } in
+    then_same AreOneProgram (Tabulates s) (ChecksRules s) (one_tables s (texts_begin_apart text s tree)) (λ t tabled. rules_and_net_once s t of_text tabled))

@@ -1,0 +1,16 @@
+use Rattle.std.proofs.Common.{sym, subst, Ok}
+use Rattle.std.specs.List.{AllByRecursion}
+use Rattle.in_net.specs.Rules.{IsRuleOver}
+use Rattle.in_check.specs.Checking.{TypesAll}
+use Rattle.in_check.proofs.Passes.{rules_over, rules_paired}
+use Rattle.in_check.proofs.checking.check_types.Goals as goal
+
+pub type_pass-requires-clause-rules : goal.type_pass-requires-clause-rules
+type_pass-requires-clause-rules c =
+    subst (AllByRecursion (IsRuleOver c.args.declared.symbols)) (sym c.as_slice-rules.ensures) (rules_over c.requires.source c.args.declared.symbols c.args.declared.rules c.requires.builds_rules)
+
+pub check_pairs-requires-clause-pairs : goal.check_pairs-requires-clause-pairs
+check_pairs-requires-clause-pairs c =
+    let over = rules_over c.requires.source c.args.declared.symbols c.args.declared.rules c.requires.builds_rules in
+    let typed = subst (λ rules. TypesAll c.args.declared.symbols rules c.args.declared.net (Ok tt)) c.as_slice-rules.ensures c.in_ok-type_pass.ensures in
+    rules_paired c.args.declared.symbols c.args.declared.rules over typed.0

@@ -1,0 +1,19 @@
+-- Laws over what checking a text answers.
+use Rattle.std.specs.Prelude.{◌≡◌, ℕ, List}
+use Rattle.in_syntax.specs.Answers.{IsOneBy}
+use Rattle.in_cover.specs.Laws.{AreOneTable}
+use Rattle.in_check.specs.Checking.{IsChecked}
+use Rattle.in_check.specs.Programs.{Program}
+
+-- two programs of one text: all that a looking call reads is equal
+pub record AreOneProgram (p q : Program) : Type 0 where
+  pub tables : p.tables ≡ q.tables
+  pub rules : p.rules ≡ q.rules
+  pub net : p.net ≡ q.net
+  pub numbers : AreOneTable p.numbers q.numbers
+  pub rule_certificates : p.rule_certificates ≡ q.rule_certificates
+  pub net_certificate : p.net_certificate ≡ q.net_certificate
+
+-- all that checking may answer a text agrees
+abbrev pub TextsAreCheckedOnce : Type 0
+TextsAreCheckedOnce = (text : List ℕ) → IsOneBy AreOneProgram (IsChecked text)

@@ -1,0 +1,4 @@
+pub mod Known
+pub mod OneReply
+pub mod Told
+pub mod Written

@@ -1,0 +1,7 @@
+use Rattle.std.proofs.Common.{◌≡◌, ◌++◌, drop}
+use Rattle.in_program.specs.Steps.{rules_lines}
+use Rattle.in_program.proofs.steps.add_rules.Given as goal
+
+abbrev pub invariant-loop-number : goal.invariant-loop-number
+invariant-loop-number l =
+    l.bytes.items ++ rules_lines l.checked.tables (drop l.number l.checked.rules) (drop l.number l.checked.rule_certificates) ≡ l.fn.bytes.items ++ rules_lines l.checked.tables l.checked.rules l.checked.rule_certificates

@@ -1,0 +1,77 @@
+-- What a call did to a reader or a writer.
+use Rattle.std.specs.Prelude.{◌≡◌, ◌⊎◌, ℕ, ◌+◌, ◌<◌, ◌≤◌, Bool, IsTrue, List, length, take, Option, Result, Ok, Err}
+use Rattle.std.specs.Io.KnownBytes.{append_known}
+use Rattle.in_syntax.specs.Tokens.{text_limit}
+use Rattle.in_program.specs.declared.reading.Input.{Input}
+use Rattle.in_program.specs.declared.reading.Input.TheVariants as input
+
+-- a reader or a writer: the bytes that it moved so far, or nothing where it doesn't tell them, and how many of its calls failed
+pub record Device : Type 0 where
+  pub bytes : Option (List ℕ)
+  pub failures : ℕ
+
+abbrev pub device : Option (List ℕ) → ℕ → Device
+device bytes failures = record { bytes = bytes; failures = failures }
+
+-- these bytes were moved, and no call failed
+pub record Moves (old new : Device) (bytes : List ℕ) : Type 0 where
+  pub moved : new.bytes ≡ append_known old.bytes bytes
+  pub sound : new.failures ≡ old.failures
+
+-- these bytes were moved, and then a call failed
+pub record Breaks (old new : Device) (bytes : List ℕ) : Type 0 where
+  pub moved : new.bytes ≡ append_known old.bytes bytes
+  pub failed : new.failures ≡ old.failures + 1
+
+-- ---- a reader
+
+-- what it gave and how often it failed, how many reads there were, and whether one gave none of some bytes, so that the text has ended
+pub record Reader : Type 0 where
+  pub device : Device
+  pub reads : ℕ
+  pub ended : Bool
+
+abbrev pub reader_of : Option (List ℕ) → ℕ → ℕ → Bool → Reader
+reader_of bytes failures reads ended = record { device = device bytes failures; reads = reads; ended = ended }
+
+-- as many reads are enough for a text: one for each of its bytes, and one that finds its end
+abbrev pub most_reads : ℕ
+most_reads = text_limit + 1
+
+-- each read but the last gave one of these bytes at least, and there were no more than a text needs
+pub record AreFewReads (old new : Reader) (bytes : List ℕ) : Type 0 where
+  pub each : new.reads ≤ old.reads + length bytes + 1
+  pub most : new.reads ≤ old.reads + most_reads
+
+-- it gave these bytes, and no read failed
+pub record Gives (old new : Reader) (bytes : List ℕ) : Type 0 where
+  pub moves : Moves old.device new.device bytes
+  pub few : AreFewReads old new bytes
+
+-- it gave these bytes, and then a read failed
+pub record Fails (old new : Reader) (bytes : List ℕ) : Type 0 where
+  pub breaks : Breaks old.device new.device bytes
+  pub few : AreFewReads old new bytes
+
+-- ---- reading and writing
+
+-- a front of the bytes was moved, but not all, and then a call failed
+pub record BreaksWithin (old new : Device) (bytes : List ℕ) : Type 0 where
+  pub count : ℕ
+  pub short : count < length bytes
+  pub breaks : Breaks old new (take count bytes)
+
+-- the bytes are the text up to its end, or more of it than a text may have
+abbrev pub IsEnough : Bool → List ℕ → Type 0
+IsEnough ended bytes = IsTrue ended ⊎ (text_limit < length bytes)
+
+-- how reading a text ended
+abbrev pub IsInput : Reader → Reader → Input → Type 0
+IsInput old new (input.Text text) = Gives old new text.items × IsEnough new.ended text.items
+IsInput old new input.Failed = (bytes : List ℕ) × Fails old new bytes
+IsInput old new input.Memory = (bytes : List ℕ) × Gives old new bytes
+
+-- all is written, or a front of it up to a failure
+abbrev pub WritesAll : Device → Device → List ℕ → Result (Unit {0}) (Unit {0}) → Type 0
+WritesAll old new bytes (Ok u) = Moves old new bytes
+WritesAll old new bytes (Err e) = BreaksWithin old new bytes

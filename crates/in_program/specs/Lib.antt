@@ -1,0 +1,5 @@
+pub mod Acting
+pub mod Devices
+pub mod Laws
+pub mod Lines
+pub mod Steps

@@ -1,0 +1,11 @@
+//! What the program `inet` does, over any reader and any writer: it reads a text, and writes the lines on it.
+#![tactic(auto)]
+
+mod acting;
+pub mod laws;
+mod lines;
+mod reading;
+mod steps;
+mod writing;
+
+pub use acting::{Status, act, tell_usage};

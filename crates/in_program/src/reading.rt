@@ -1,0 +1,42 @@
+ghost use Rattle.std.specs.Prelude.{◌+◌, ◌-◌, ◌^◌, ◌<◌};
+ghost use Rattle.in_program.specs.Devices.{most_reads, reader_of, IsInput};
+
+use in_syntax::{MAX_TEXT_BYTES, TextIn};
+use std::alloc::Global;
+
+/// How reading ended.
+#[derive(Drop)]
+pub enum Input {
+    /// The bytes up to the end, or the first of them, of which there are more than a text has.
+    Text(Vec<u8>),
+    /// A read failed.
+    Failed,
+    /// There is no memory for the bytes.
+    Memory,
+}
+
+/// Reads to the end, or until more bytes came than a text has.
+pub fn read_text<R: TextIn>(alloc: Global, reader: &mut R) -> Input
+    requires failures { R.failures reader.old < 2 ^ 64 - 1 }
+    requires reads { R.reads reader.old + most_reads < 2 ^ 64 }
+    ensures { IsInput (reader_of (R.given reader.old) (R.failures reader.old) (R.reads reader.old) (R.ended reader.old)) (reader_of (R.given reader.new) (R.failures reader.new) (R.reads reader.new) (R.ended reader.new)) result }
+{
+    let mut text = Vec::new(alloc);
+    let mut buffer = [0u8; 4096];
+    // Each turn but the last brings a byte or more.
+    for _turn in 0..MAX_TEXT_BYTES + 1 {
+        match reader.read(&mut buffer) {
+            Err(()) => return Input::Failed,
+            Ok(0) => return Input::Text(text),
+            Ok(n) => {
+                if text.extend_from_slice(&buffer[..n]).is_err() {
+                    return Input::Memory;
+                }
+                if text.len() > MAX_TEXT_BYTES {
+                    return Input::Text(text);
+                }
+            }
+        }
+    }
+    unreachable!()
+}

@@ -1,0 +1,4 @@
+pub mod Apart
+pub mod Keeping
+pub mod Seated
+pub mod Sums

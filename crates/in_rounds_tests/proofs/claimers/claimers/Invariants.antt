@@ -1,0 +1,8 @@
+use Rattle.std.proofs.Common.{◌≡◌, false, All, vec_len}
+use Rattle.in_rounds_tests.proofs.claimers.claimers.Given as goal
+
+abbrev pub invariant-loop-seat : goal.invariant-loop-seat
+invariant-loop-seat l = All (λ s. (s.board ≡ l.board) × (s.done ≡ false)) l.seats.items
+
+abbrev pub decreases-loop-seat : goal.decreases-loop-seat
+decreases-loop-seat l = vec_len l.seats

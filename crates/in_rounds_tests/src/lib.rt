@@ -1,0 +1,7 @@
+//! Tests of `in_rounds`: what no contract says, and each public call once.
+#![tactic(auto)]
+
+#[cfg(test)]
+mod claimers;
+#[cfg(test)]
+mod tests;

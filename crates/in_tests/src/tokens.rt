@@ -1,0 +1,160 @@
+//! The tests of `in_syntax::tokens`.
+
+use in_syntax::{Code, Fault, Place, Refusal, TokenKind, tokens};
+use std::alloc::Global;
+use std::test::Fail;
+
+fn refusal(alloc: Global, text: &[u8]) -> Option<Refusal> {
+    match tokens(alloc, text) {
+        Err(Fault::Refused(refusal)) => Some(refusal),
+        _ => None,
+    }
+}
+
+fn empty_place(code: Code, at: usize, line: u32, col: u32) -> Option<Refusal> {
+    Some(Refusal {
+        code,
+        place: Place {
+            from: at,
+            to: at,
+            line,
+            col,
+        },
+        other: None,
+    })
+}
+
+#[test]
+fn reads_each_kind(rt: HostRuntime) -> Result<(), Fail> {
+    let text = b"type symbol rule net name types _ , ; : + - { } ( ) [ ] ~ ><";
+    let mut kinds = Vec::new(rt.alloc());
+    for token in tokens(rt.alloc(), text)? {
+        kinds.push(token.kind)?;
+    }
+    let expected = [
+        TokenKind::Type,
+        TokenKind::Symbol,
+        TokenKind::Rule,
+        TokenKind::Net,
+        TokenKind::Name,
+        TokenKind::Name,
+        TokenKind::Name,
+        TokenKind::Comma,
+        TokenKind::Semicolon,
+        TokenKind::Colon,
+        TokenKind::Plus,
+        TokenKind::Minus,
+        TokenKind::OpenBrace,
+        TokenKind::CloseBrace,
+        TokenKind::OpenParenthesis,
+        TokenKind::CloseParenthesis,
+        TokenKind::OpenBracket,
+        TokenKind::CloseBracket,
+        TokenKind::Tilde,
+        TokenKind::Meets,
+    ];
+    assert_eq!(rt; kinds.as_slice(), expected.as_slice());
+    assert_eq!(rt; tokens(rt.alloc(), b"net () { }")?.len(), 5);
+    assert_eq!(rt; tokens(rt.alloc(), b"")?.len(), 0);
+    Ok(())
+}
+
+#[test]
+fn places_tokens(rt: HostRuntime) -> Result<(), Fail> {
+    let text = b"\t\ta1\r\n# a $ comment\n ><b#c\n\n_9";
+    let mut places = Vec::new(rt.alloc());
+    for token in tokens(rt.alloc(), text)? {
+        let place = token.place;
+        places.push((place.from, place.to, place.line, place.col))?;
+    }
+    let expected = [(2, 4, 1, 3), (21, 23, 3, 2), (23, 24, 3, 4), (28, 30, 5, 1)];
+    assert_eq!(rt; places.as_slice(), expected.as_slice());
+    Ok(())
+}
+
+#[test]
+fn reads_names_of_any_letters(rt: HostRuntime) -> Result<(), Fail> {
+    // the last name has a combining mark, which is a character of its own
+    let text = "été _ж \u{3b1}\u{b7}1 e\u{301} # \u{feff}\u{2028} $ \0";
+    let mut places = Vec::new(rt.alloc());
+    for token in tokens(rt.alloc(), text.as_bytes())? {
+        assert!(rt; token.kind == TokenKind::Name);
+        places.push((token.place.from, token.place.to, token.place.col))?;
+    }
+    let expected = [(0, 5, 1), (6, 9, 5), (10, 15, 8), (16, 19, 12)];
+    assert_eq!(rt; places.as_slice(), expected.as_slice());
+    Ok(())
+}
+
+#[test]
+fn refuses_the_first_fault(rt: HostRuntime) -> Result<(), Fail> {
+    let cases: [(&[u8], usize, u32, u32); 25] = [
+        (b"type type; .. $", 11, 1, 12),
+        (b"a >", 2, 1, 3),
+        (b"a > <", 2, 1, 3),
+        (b"a\n < b", 3, 2, 2),
+        (b">\xFF", 0, 1, 1),
+        (b"net 1", 4, 1, 5),
+        (b"a\x0Bb", 1, 1, 2),
+        (b"\xEF\xBB\xBFnet", 0, 1, 1),
+        (b"# \xEF\xBB\xBF\n\xEF\xBB\xBF", 6, 2, 1),
+        (b"#\n# caf\xC3\xA9 \xC3", 10, 2, 8),
+        (b"# a \xFF\na", 4, 1, 5),
+        (b"a \xC0\xAF", 2, 1, 3),
+        (b"a \xC1\xBF", 2, 1, 3),
+        (b"a \xE0\x9F\xBF", 2, 1, 3),
+        (b"a \xED\xA0\x80", 2, 1, 3),
+        (b"a \xF0\x8F\xBF\xBF", 2, 1, 3),
+        (b"a \xF4\x90\x80\x80", 2, 1, 3),
+        (b"a \xF5\x80\x80\x80", 2, 1, 3),
+        (b"a \x80", 2, 1, 3),
+        (b"a $ \xE2\x82", 2, 1, 3),
+        (b"\xC3\xA9 \xCC\x81", 3, 1, 3),
+        (b"a\xC2\xA0b", 1, 1, 2),
+        (b"a\xC2\x85b", 1, 1, 2),
+        (b"a\xE2\x80\xA8b", 1, 1, 2),
+        (b"a \xC2\xB2", 2, 1, 3),
+    ];
+    for (text, at, line, col) in cases {
+        assert_eq!(rt;
+            refusal(rt.alloc(), text),
+            empty_place(Code::E01, at, line, col),
+            "at {text:?}"
+        );
+    }
+    Ok(())
+}
+
+#[test]
+fn limits_names_and_texts(rt: HostRuntime) -> Result<(), Fail> {
+    let word = [b'w'; 65];
+    assert_eq!(rt; tokens(rt.alloc(), &word[1..])?.len(), 1);
+    assert_eq!(rt; refusal(rt.alloc(), &word), empty_place(Code::E03, 0, 1, 1));
+    let mut text = word.to_vec(rt.alloc())?;
+    text.extend_from_slice(b"\xC3\xA9 $")?;
+    assert_eq!(rt;
+        refusal(rt.alloc(), text.as_slice()),
+        empty_place(Code::E03, 0, 1, 1)
+    );
+    let mut letters = Vec::new(rt.alloc());
+    for _ in 0..64 {
+        letters.extend_from_slice(b"\xD0\xB6")?;
+    }
+    assert_eq!(rt; tokens(rt.alloc(), letters.as_slice())?.len(), 1);
+    letters.extend_from_slice(b"\xCC\x81")?;
+    assert_eq!(rt;
+        refusal(rt.alloc(), letters.as_slice()),
+        empty_place(Code::E03, 0, 1, 1)
+    );
+    let mut long = Vec::new(rt.alloc());
+    for _ in 0..524_288 {
+        long.extend_from_slice(b"a ")?;
+    }
+    assert_eq!(rt; tokens(rt.alloc(), long.as_slice())?.len(), 524_288);
+    long.push(b'$')?;
+    assert_eq!(rt;
+        refusal(rt.alloc(), long.as_slice()),
+        empty_place(Code::E03, 0, 1, 1)
+    );
+    Ok(())
+}

@@ -1,6 +1,0 @@
-use Rattle.std.proofs.Common.{◌≡◌, ◌++◌, drop}
-use Rattle.inet.specs.Steps.{numbers_text}
-use Rattle.inet.proofs.steps.add_numbers.Given as goal
-
-abbrev pub invariant-loop-index : goal.invariant-loop-index
-invariant-loop-index l = l.bytes.items ++ numbers_text (drop l.index l.numbers) ≡ l.fn.bytes.items ++ numbers_text l.numbers

@@ -1,4 +1,0 @@
-pub mod Acting
-pub mod Devices
-pub mod Lines
-pub mod Steps
