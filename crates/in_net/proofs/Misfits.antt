@@ -12,6 +12,7 @@ use Rattle.in_symbols.specs.Faults.{AnyByRecursion}
 use Rattle.in_symbols.specs.Names.{number_in}
 use Rattle.in_symbols.specs.Searching.{earlier, earliest}
 use Rattle.in_symbols.specs.Tables.{Tables, arity_of, all_true}
+use Rattle.in_symbols.proofs.OneTables.{any_among}
 use Rattle.in_symbols.proofs.Least.{IsLeast, least_same, least_earlier, least_of_all, earlier_none, earliest_none}
 use Rattle.in_net.specs.declared.reading.Agent.{Agent}
 use Rattle.in_net.specs.Arities.{fits_arity, arities_fit, head_fits, equation_fits, all_arities_fit}
@@ -116,11 +117,6 @@ terms_least t (suc h) u short =
 
 equation_least : (t : Tables) (e : Equation) → IsLeast (λ q. HasMisfit t e.left q ⊎ HasMisfit t e.right q) (misfit_in_equation t e)
 equation_least t e = least_earlier (HasMisfit t e.left) (HasMisfit t e.right) (misfit t e.left) (misfit t e.right) (terms_least t (names_in e.left) e.left (omega arith)) (terms_least t (names_in e.right) e.right (omega arith))
-
-any_among : {X : Type 0} (P : X → Type 0) (xs : List X) → AnyByRecursion P xs → (x : X) × IsAmong x xs × P x
-any_among P [] h = absurd h
-any_among P (x ∷ xs) (inl h) = (x, inl refl, h)
-any_among P (x ∷ xs) (inr h) = let there = any_among P xs h in (there.0, inr there.1, there.2)
 
 among_any : {X : Type 0} (P : X → Type 0) (xs : List X) (x : X) → IsAmong x xs → P x → AnyByRecursion P xs
 among_any P [] x among h = absurd among

@@ -1,12 +1,13 @@
 -- At each place of a text stands one joint.
 use Rattle.std.proofs.Common.{◌≡◌, ◌≢◌, ◌⊎◌, inl, inr, ℕ, ◌<◌, ◌≤◌, List, [], ◌∷◌, ◌++◌, length, Option, Some, None, refl, sym, ◌∙◌, ap, subst, arith}
-use Rattle.std.specs.List.{AllByRecursion, flat_map}
+use Rattle.std.specs.List.{flat_map}
 use Rattle.in_syntax.specs.declared.places.Place.{Place}
 use Rattle.in_syntax.specs.declared.tree.Equation.{Equation}
 use Rattle.in_syntax.specs.declared.tree.Term.{Term, out-Term}
 use Rattle.in_syntax.specs.Lists.{IsAmong}
 use Rattle.in_syntax.specs.Order.{Rises, term_places, equation_places}
 use Rattle.in_syntax.proofs.Among.{among_left, among_right, among_at, among_all, in_flat}
+use Rattle.in_syntax.proofs.Ordered.{front_rises, back_rises}
 use Rattle.in_symbols.specs.Names.{number_in}
 use Rattle.in_symbols.specs.Tables.{Tables}
 use Rattle.in_net.specs.declared.reading.Reading.{Reading}
@@ -29,18 +30,6 @@ rises_between : (xs ys : List Place) (p q : Place) → Rises (xs ++ ys) → IsAm
 rises_between [] ys p q up h k = absurd h
 rises_between (x ∷ xs) ys p q up (inl e) k = subst (λ p. p.from < q.from) e (among_all (λ q. x.from < q.from) (xs ++ ys) q up.0 (among_right q xs ys k))
 rises_between (x ∷ xs) ys p q up (inr h) k = rises_between xs ys p q up.1 h k
-
-front_rises : (xs ys : List Place) → Rises (xs ++ ys) → Rises xs
-front_rises [] ys up = tt
-front_rises (x ∷ xs) ys up = (all_front xs ys up.0, front_rises xs ys up.1)
-  where
-    all_front : (xs ys : List Place) → AllByRecursion (λ q. x.from < q.from) (xs ++ ys) → AllByRecursion (λ q. x.from < q.from) xs
-    all_front [] ys h = tt
-    all_front (z ∷ xs) ys h = (h.0, all_front xs ys h.1)
-
-back_rises : (xs ys : List Place) → Rises (xs ++ ys) → Rises ys
-back_rises [] ys up = up
-back_rises (x ∷ xs) ys up = back_rises xs ys up.1
 
 -- ---- the ~
 

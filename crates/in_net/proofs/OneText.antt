@@ -1,6 +1,7 @@
 -- What building answers is one.
 use Rattle.std.proofs.Common.{◌≡◌, ◌⊎◌, inl, inr, ℕ, zero, suc, ◌+◌, ◌<◌, ◌≤◌, List, [], ◌∷◌, ◌++◌, length, map, Option, Some, None, slice_get, Ok, Err, refl, sym, ◌∙◌, ap, subst, arith}
 use Rattle.std.specs.List.{flat_map}
+use Rattle.std.proofs.lemmas.Option.{same_Some}
 use Rattle.in_syntax.specs.declared.faults.Code.{Code}
 use Rattle.in_syntax.specs.declared.faults.Code.TheVariants.{E01, E02, E03, E04, E05, E06, E07, E08, E09, E10, E11, E12, E13, E14, E15}
 use Rattle.in_syntax.specs.declared.faults.Fault.TheVariants.{Refused, Memory}
@@ -46,9 +47,6 @@ use Rattle.in_net.proofs.Sound.{named}
 use Rattle.in_net.proofs.TextPlaces.{all_places, text_places, equation_place, term_place, chain_place}
 use Rattle.in_net.proofs.TextWires.{IsGood, read, read_whole}
 
-some_is : {X : Type 0} (x y : X) → Some x ≡ Some y → x ≡ y
-some_is x y e = cc
-
 -- places that rise begin apart
 pub rising_apart : (ps : List Place) → Rises ps → BeginApart ps
 rising_apart [] up p q h k e = absurd h
@@ -81,7 +79,7 @@ single_wires t b good apart x y z p q v w =
 
 nth_of : (as_ : List Agent) (i : ℕ) (p : Place) → slice_get (map (λ (a : Agent). a.place) as_) i ≡ Some p → (i < length as_) × ((nth_agent as_ i).place ≡ p)
 nth_of [] i p e = cc
-nth_of (a ∷ as_) zero p e = (omega arith, some_is a.place p e)
+nth_of (a ∷ as_) zero p e = (omega arith, same_Some a.place p e)
 nth_of (a ∷ as_) (suc i) p e = let r = nth_of as_ i p e in (omega (arith, r.0), r.1)
 
 agents_apart : (t : Tables) (b : Body) → IsGood t b → StandApart (map (λ w. w.place) (agents_of_body t b))
@@ -304,7 +302,7 @@ one_rule_of t r ready (Err (Memory e)) b h k = tt
 
 pub one_rule_built : (s : Source) (t : Tables) (i : ℕ) → IsSized s → IsWrittenInOrder s → Tabulates s (Ok t) → IsOne (BuildsRule s t i)
 one_rule_built s t i sized order tabled a b h k =
-    let same : h.0 ≡ k.0 = some_is h.0 k.0 (sym h.1 ∙ k.1) in
+    let same : h.0 ≡ k.0 = same_Some h.0 k.0 (sym h.1 ∙ k.1) in
     one_rule_of t k.0 (readable s t k.0 i sized order tabled.0 k.1) a b (subst (λ r. BuildsRuleOf t r a) same h.2) k.2
 
 -- ---- of the program of a text

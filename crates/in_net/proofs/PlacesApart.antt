@@ -1,5 +1,5 @@
 -- No two wires of a net stand at one place.
-use Rattle.std.proofs.Common.{◌≡◌, ◌≢◌, ◌⊎◌, inl, inr, ℕ, suc, ◌+◌, ◌<◌, Bool, true, false, cond, nat_lt, List, [], ◌∷◌, length, map, Option, Some, None, refl, sym, ◌∙◌, ap, subst, arith, get_or, ltb-true}
+use Rattle.std.proofs.Common.{◌≡◌, ◌≢◌, ◌⊎◌, inl, inr, ℕ, suc, ◌+◌, ◌<◌, Bool, true, false, cond, nat_lt, List, [], ◌∷◌, length, map, Option, Some, None, refl, sym, ◌∙◌, ap, subst, arith, get_or}
 use Rattle.std.specs.List.{AllByRecursion}
 use Rattle.std.specs.List.Sorted.{IsNonDecreasingBy}
 use Rattle.in_syntax.specs.declared.places.Place.{Place}
@@ -22,7 +22,7 @@ use Rattle.in_net.proofs.Linked.{same_or_not}
 use Rattle.in_net.proofs.Merged.{IsClosed, IsOpened, merges}
 use Rattle.in_net.proofs.Naming as naming
 use Rattle.in_net.proofs.Naming.{AreOfText, IsLast, step_on}
-use Rattle.in_net.proofs.Ways.{nth_seen, IsMet, IsOpen, IsJoiningAt, spot_named}
+use Rattle.in_net.proofs.Ways.{nth_seen, IsMet, IsOpen, IsJoiningAt, no_place_before, spot_named}
 
 -- of these spots, two that are joined at one place are joined to each other, or are one
 abbrev pub AreApart : ℕ → List Link → Type 0
@@ -34,13 +34,6 @@ later_is p q = by_test (nat_lt q.from p.from)
     by_test : (c : Bool) → (cond c p q ≡ p) ⊎ (cond c p q ≡ q)
     by_test true = inl refl
     by_test false = inr refl
-
-later_none : (p q : Place) → p.from ≡ 0 → later_of p q ≡ q
-later_none p q none = by_test (nat_lt q.from p.from) refl
-  where
-    by_test : (c : Bool) → nat_lt q.from p.from ≡ c → cond c p q ≡ q
-    by_test true is = absurd (omega (arith, ltb-true q.from p.from is, none))
-    by_test false is = refl
 
 -- ---- two spots of a name are joined
 
@@ -104,7 +97,7 @@ module _ (n a b : ℕ) (links new : List Link) (closed : Option Place) (a_in : a
             by_one (inr e) = z (sym e)
 
         by_place : (later_of pa pb ≡ pa) ⊎ (later_of pa pb ≡ pb) → (p ≡ a) ⊎ (p ≢ a) → ⊥
-        by_place k (inl self) = at_b (ap (λ (p : Place). p.from) (sym (later_none pa pb (alone self))) ∙ same)
+        by_place k (inl self) = at_b (ap (λ (p : Place). p.from) (sym (no_place_before pa pb (alone self))) ∙ same)
         by_place (inl k) (inr other) = at_a other (ap (λ (p : Place). p.from) (sym k) ∙ same)
         by_place (inr k) (inr other) = at_b (ap (λ (p : Place). p.from) (sym k) ∙ same)
 

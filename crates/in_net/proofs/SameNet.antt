@@ -16,7 +16,7 @@ use Rattle.in_net.specs.declared.nets.Point.TheVariants.{Port, Free}
 use Rattle.in_net.specs.Parts.{Parts, IsWhole, IsPointOf, IsWireBetween, cell_in, partner_in, wire_in}
 use Rattle.in_net.specs.Rules.{IsMemberOf, body_of_rule}
 use Rattle.in_net.specs.TextNet.{Body, Spot, Written, AreCellsFor, AreFreeOf, agents_of_body, body_of, ComesBefore, HasAgentsOf, HasWiresOf, IsNetOf, IsWireOf, port_at, free_end, spot_at}
-use Rattle.std.proofs.lemmas.Option.{slice_get_within}
+use Rattle.std.proofs.lemmas.Option.{same_Some, slice_get_within}
 use Rattle.in_net.proofs.WireAt.{has_partner}
 
 -- a wire of the text from a spot is one wire: it leads to one spot, and stands at one place
@@ -56,9 +56,6 @@ after_all f p (z ∷ ys) (suc i) y all is = after_all f p ys i y all.1 is
 abbrev place_at : Wire → Place
 place_at w = w.place
 
-some_is : {X : Type 0} (x y : X) → Some x ≡ Some y → x ≡ y
-some_is x y e = cc
-
 pub one_rising : (xs ys : List Wire) → Rises (map place_at xs) → Rises (map place_at ys) → ((x : Wire) → Holds xs x → Holds ys x) → ((y : Wire) → Holds ys y → Holds xs y) → xs ≡ ys
 one_rising [] [] up vp to from = refl
 one_rising [] (y ∷ ys) up vp to from = let bad = from y (0, refl) in let wrong : None ≡ Some y = bad.1 in cc
@@ -69,8 +66,8 @@ one_rising (x ∷ xs) (y ∷ ys) up vp to from =
     cc
   where
     heads : Holds (y ∷ ys) x → Holds (x ∷ xs) y → x ≡ y
-    heads (zero, is) k = sym (some_is y x is)
-    heads (suc i, is) (zero, at) = some_is x y at
+    heads (zero, is) k = sym (same_Some y x is)
+    heads (suc i, is) (zero, at) = same_Some x y at
     heads (suc i, is) (suc j, at) = absurd (let a = after_all place_at y.place ys i x vp.0 is in let b = after_all place_at x.place xs j y up.0 at in omega (arith, a, b))
 
     tail_to : x ≡ y → (z : Wire) → Holds xs z → Holds ys z
@@ -79,7 +76,7 @@ one_rising (x ∷ xs) (y ∷ ys) up vp to from =
         by_index : Holds (y ∷ ys) z → Holds ys z
         by_index (zero, at) =
             let up_z = after_all place_at x.place xs i z up.0 is in
-            let eq : y.place.from ≡ z.place.from = ap (λ (w : Wire). w.place.from) (some_is y z at) in
+            let eq : y.place.from ≡ z.place.from = ap (λ (w : Wire). w.place.from) (same_Some y z at) in
             let eq_x : x.place.from ≡ y.place.from = ap (λ (w : Wire). w.place.from) same in
             absurd (omega (arith, up_z, eq, eq_x))
         by_index (suc j, at) = (j, at)
@@ -90,7 +87,7 @@ one_rising (x ∷ xs) (y ∷ ys) up vp to from =
         by_index : Holds (x ∷ xs) z → Holds xs z
         by_index (zero, at) =
             let up_z = after_all place_at y.place ys i z vp.0 is in
-            let eq : x.place.from ≡ z.place.from = ap (λ (w : Wire). w.place.from) (some_is x z at) in
+            let eq : x.place.from ≡ z.place.from = ap (λ (w : Wire). w.place.from) (same_Some x z at) in
             let eq_x : x.place.from ≡ y.place.from = ap (λ (w : Wire). w.place.from) same in
             absurd (omega (arith, up_z, eq, eq_x))
         by_index (suc j, at) = (j, at)
@@ -277,7 +274,7 @@ module _ (t : Tables) (b : Body) (n m : Parts) (single : AreSingle t b) (apart :
       by_wire : (v : ℕ) (o : Option Wire) → slice_get m.wires v ≡ o → wire_in n i ≡ Some (w.one, w.other) → option_map {U = Point × Point} (λ (v : Wire). (v.one, v.other)) o ≡ Some (w.one, w.other) → slice_get m.wires v ≡ Some w
       by_wire v None at two e = absurd (no_pair (w.one, w.other) e)
       by_wire v (Some u) at two e =
-          let pairs : (u.one, u.other) ≡ (w.one, w.other) = some_is (u.one, u.other) (w.one, w.other) e in
+          let pairs : (u.one, u.other) ≡ (w.one, w.other) = same_Some (u.one, u.other) (w.one, w.other) e in
           let one : u.one ≡ w.one = ap (λ (z : Point × Point). z.0) pairs in
           let other : u.other ≡ w.other = ap (λ (z : Point × Point). z.1) pairs in
           let a : IsWireOf t b (spot_at m w.one) (spot_at m w.other) w.place =
@@ -356,7 +353,7 @@ equal_parts t b n m single apart h =
         by_frees (Some c) (Some d) a e same =
             let to : partner_in m (Free k) ≡ Some c.end = partner_same t b n m single apart h (Free k) c.end (ap (option_map (λ (f : FreeEnd). f.end)) a) in
             let back : partner_in m (Free k) ≡ Some d.end = ap (option_map (λ (f : FreeEnd). f.end)) e in
-            let end : c.end ≡ d.end = some_is c.end d.end (sym to ∙ back) in
+            let end : c.end ≡ d.end = same_Some c.end d.end (sym to ∙ back) in
             a ∙ ap (λ (z : FreeEnd). Some z) (free_is c d same.0 same.1 end) ∙ sym e
           where
             free_is : (c d : FreeEnd) → c.name ≡ d.name → c.kind ≡ d.kind → c.end ≡ d.end → c ≡ d

@@ -72,7 +72,7 @@ spot_named (End k) m e = cc
 spot_named (Free k n) m e = inr (k, (let same : n ≡ m = cc in ap (λ n. Free k n) same))
 spot_named (Occurrence n p) m e = inl (p, (let same : n ≡ m = cc in ap (λ n. Occurrence n p) same))
 
-no_place_before : (p q : Place) → p.from ≡ 0 → later_of p q ≡ q
+pub no_place_before : (p q : Place) → p.from ≡ 0 → later_of p q ≡ q
 no_place_before p q zero_on = by_test (nat_lt q.from p.from) refl
   where
     by_test : (c : Bool) → nat_lt q.from p.from ≡ c → cond c p q ≡ q

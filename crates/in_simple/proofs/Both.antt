@@ -25,7 +25,7 @@ module _ (o : OpenNet) (net : IsOpenNet o) where
   unfolding all
   all_nodes n = ((λ h. ltb-true n (length o.nodes) h), λ h. lt-ltb n (length o.nodes) h)
 
-  all_one : (s t : ℕ → Bool) → ((n : ℕ) → IsIn n s ↔ IsNode o n) → ((n : ℕ) → IsIn n t ↔ IsNode o n) → s ≡ t
+  pub all_one : (s t : ℕ → Bool) → ((n : ℕ) → IsIn n s ↔ IsNode o n) → ((n : ℕ) → IsIn n t ↔ IsNode o n) → s ≡ t
   all_one s t f g = fun_ext (λ n. same_test (s n) (t n) (λ h. (g n).1 ((f n).0 h)) (λ h. (f n).1 ((g n).0 h)))
 
   found : (s : ℕ → Bool) → ((n : ℕ) → IsIn n s ↔ IsNode o n) → Found o net s

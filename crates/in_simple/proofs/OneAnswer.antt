@@ -1,6 +1,7 @@
 -- What deriving an open net answers is one, and so is what opening a rule does.
-use Rattle.std.proofs.Common.{◌≡◌, ◌⊎◌, inl, inr, ℕ, suc, ◌≤◌, Bool, nat_lt, List, [], ◌∷◌, Some, Ok, Err, refl, sym, ◌∙◌, ap, subst, arith}
+use Rattle.std.proofs.Common.{◌≡◌, ◌⊎◌, inl, inr, ℕ, suc, ◌≤◌, Bool, nat_lt, List, [], ◌∷◌, Ok, Err, refl, sym, ◌∙◌, ap, subst, arith}
 use Rattle.std.proofs.lemmas.List.Sums.{count_by-le-length}
+use Rattle.std.proofs.lemmas.Option.{same_Some}
 use Rattle.in_syntax.specs.declared.places.Place.{Place}
 use Rattle.in_simple.specs.declared.derivations.Derivation.{Derivation}
 use Rattle.in_simple.specs.declared.derivations.Stuck.{Stuck as StuckNet}
@@ -59,10 +60,7 @@ one_stuck_place o p q net h k =
     let a = k.least h.node (subst (IsIn h.node) same h.here) in
     let b = h.least k.node (subst (IsIn k.node) (sym same) k.here) in
     let node : h.node ≡ k.node = omega (arith, a, b) in
-    some_is (sym h.place ∙ ap (node_place_in o) node ∙ k.place)
-  where
-    some_is : Some p ≡ Some q → p ≡ q
-    some_is e = cc
+    same_Some p q (sym h.place ∙ ap (node_place_in o) node ∙ k.place)
 
 -- ---- deriving
 

@@ -11,10 +11,7 @@ use Rattle.in_simple.specs.OpenNets.{OpenNet}
 use Rattle.in_simple.specs.Opening.{IsNodeOf, Opens}
 use Rattle.in_simple.specs.OpeningRules.{IsClassNodeOf, IsRuleNode, OpensRule, agents_before}
 use Rattle.in_simple.proofs.RulePoints.{NodeKind, of_first, of_second, of_agent, kind_of}
-use Rattle.std.proofs.lemmas.Option.{slice_get_within}
-
-some_is : {X : Type 0} (x y : X) → Some x ≡ Some y → x ≡ y
-some_is x y e = cc
+use Rattle.std.proofs.lemmas.Option.{same_Some, slice_get_within}
 
 pub by_elements : {X : Type 0} (xs ys : List X) → length xs ≡ length ys → ((i : ℕ) (x y : X) → slice_get xs i ≡ Some x → slice_get ys i ≡ Some y → x ≡ y) → xs ≡ ys
 by_elements [] [] e h = refl
@@ -34,8 +31,8 @@ node_is m k a b c d =
 
 one_node : (t : Tables) (n : Parts) (x : ℕ) (m k : OpenNode) → IsNodeOf t n x m → IsNodeOf t n x k → m ≡ k
 one_node t n x m k g h =
-    let symbol : g.symbol ≡ h.symbol = some_is g.symbol h.symbol (sym g.here ∙ h.here) in
-    node_is m k (g.node ∙ ap AgentNode symbol ∙ sym h.node) (some_is m.place k.place (sym g.place ∙ h.place)) (g.classes ∙ ap (λ (s : SymbolNo). classes_of t s.0) symbol ∙ sym h.classes)
+    let symbol : g.symbol ≡ h.symbol = same_Some g.symbol h.symbol (sym g.here ∙ h.here) in
+    node_is m k (g.node ∙ ap AgentNode symbol ∙ sym h.node) (same_Some m.place k.place (sym g.place ∙ h.place)) (g.classes ∙ ap (λ (s : SymbolNo). classes_of t s.0) symbol ∙ sym h.classes)
     (by_elements m.class_of k.class_of (g.ports.0 ∙ ap (λ (s : SymbolNo). arity_of t s.0 + 1) symbol ∙ sym h.ports.0)
     (λ i c d is at. g.ports.1 i c is ∙ ap (λ (s : SymbolNo). class_at t s.0 i) symbol ∙ sym (h.ports.1 i d at)))
 
@@ -51,7 +48,7 @@ open_is o u a b c =
 pub one_open_net : (t : Tables) (n : Parts) (o u : OpenNet) → Opens t n o → Opens t n u → o ≡ u
 one_open_net t n o u g h =
     open_is o u (by_elements o.nodes u.nodes (g.nodes.0 ∙ sym h.nodes.0) (λ i m k is at. one_node t n i m k (g.nodes.1 i m is) (h.nodes.1 i k at)))
-    (by_elements o.wires u.wires (g.wires.0 ∙ sym h.wires.0) (λ i v w is at. some_is v w (sym (g.wires.1 i v is) ∙ h.wires.1 i w at))) (g.free ∙ sym h.free)
+    (by_elements o.wires u.wires (g.wires.0 ∙ sym h.wires.0) (λ i v w is at. same_Some v w (sym (g.wires.1 i v is) ∙ h.wires.1 i w at))) (g.free ∙ sym h.free)
 
 one_rule_node : (t : Tables) (p : RuleParts) (n : ℕ) (m k : OpenNode) → NodeKind t p n → IsRuleNode t p n m → IsRuleNode t p n k → m ≡ k
 one_rule_node t p n m k (of_first lt) g h = one_class t p.written.0 p.head_places.0 (n + 1) m k (g.first lt) (h.first lt)
@@ -63,4 +60,4 @@ one_open_rule t p o u few g h =
     open_is o u
     (by_elements o.nodes u.nodes (g.nodes.0 ∙ sym h.nodes.0)
     (λ i m k is at. let lt = slice_get_within o.nodes i m is in let e = g.nodes.0 in one_rule_node t p i m k (kind_of t p i few (omega (arith, lt, e))) (g.nodes.1 i m is) (h.nodes.1 i k at)))
-    (by_elements o.wires u.wires (g.wires.0 ∙ sym h.wires.0) (λ i v w is at. some_is v w (sym (g.wires.1 i v is) ∙ h.wires.1 i w at))) (g.free ∙ sym h.free)
+    (by_elements o.wires u.wires (g.wires.0 ∙ sym h.wires.0) (λ i v w is at. same_Some v w (sym (g.wires.1 i v is) ∙ h.wires.1 i w at))) (g.free ∙ sym h.free)

@@ -1,5 +1,5 @@
 -- The order of steps determines them.
-use Rattle.std.proofs.Common.{◌≡◌, inl, inr, ◌↔◌, ℕ, suc, ◌+◌, ◌<◌, Bool, true, cond, nat_eq, List, [], ◌∷◌, ◌++◌, length, Option, Some, None, IsSomeAnd, slice_get, refl, sym, ◌∙◌, ap, subst, arith}
+use Rattle.std.proofs.Common.{◌≡◌, inl, inr, ℕ, suc, ◌+◌, ◌<◌, Bool, true, cond, nat_eq, List, [], ◌∷◌, ◌++◌, length, Option, Some, None, IsSomeAnd, slice_get, refl, sym, ◌∙◌, ap, subst, arith}
 use mathlib.Core.Path.{fun_ext}
 use Rattle.in_simple.specs.declared.open_nets.Node.{Node}
 use Rattle.in_simple.specs.declared.open_nets.Node.TheVariants.{AgentNode, ClassNode}
@@ -9,7 +9,7 @@ use Rattle.in_simple.specs.declared.plans.Joint.{Joint}
 use Rattle.in_simple.specs.declared.plans.Joint.TheVariants.{Link, Cut}
 use Rattle.in_simple.specs.Constructions.{IsIn}
 use Rattle.in_simple.specs.Derivations.{Step}
-use Rattle.in_simple.specs.OpenNets.{OpenNet, IsOpenNet, IsAgentNode, IsNode, IsWire}
+use Rattle.in_simple.specs.OpenNets.{OpenNet, IsOpenNet, IsAgentNode, IsWire}
 use Rattle.in_simple.specs.declared.plans.Task.{Task}
 use Rattle.in_simple.specs.declared.plans.Task.TheVariants.{Derive, Make}
 use Rattle.std.proofs.Common.{append_assoc}
@@ -18,6 +18,7 @@ use Rattle.in_simple.specs.TakenOrder.{IsLeft, Manner, begins, beside, cut, mann
 use Rattle.in_simple.specs.Stacks.{Yields, done, made, derived}
 use Rattle.in_simple.proofs.Planning.{part_inside}
 use Rattle.in_simple.proofs.Search.{one_first, turn_same, turn_one, turn_cases}
+use Rattle.in_simple.proofs.Both.{all_one}
 use Rattle.in_simple.proofs.Sums.{same_test}
 
 -- the nodes are the open net's
@@ -82,12 +83,9 @@ module _ (o : OpenNet) (net : IsOpenNet o) where
   one _ _ _ inside (nothing s n k none) (link _ _ _ v is1 l1 j1) = absurd (none.1 v l1)
   one _ _ _ inside (nothing s n k none) (nothing _ _ _ none1) = refl
 
-  one_whole : (s t : ℕ → Bool) → ((n : ℕ) → IsIn n s ↔ IsNode o n) → ((n : ℕ) → IsIn n t ↔ IsNode o n) → s ≡ t
-  one_whole s t f g = fun_ext (λ n. same_test (s n) (t n) (λ h. (g n).1 ((f n).0 h)) (λ h. (f n).1 ((g n).0 h)))
-
   one_joints : (js is : List Joint) → AreJointsOf o js → AreJointsOf o is → js ≡ is
   one_joints _ _ (with_nodes s js some all h) (with_nodes t is some1 all1 k) =
-      ap (λ z. z ++ links_from o true 0 (length o.wires)) (one (part s) js is (λ m z. (all m).0 z) h (subst (λ z. Comes o (part z) is) (sym (one_whole s t all all1)) k))
+      ap (λ z. z ++ links_from o true 0 (length o.wires)) (one (part s) js is (λ m z. (all m).0 z) h (subst (λ z. Comes o (part z) is) (sym (all_one o net s t all all1)) k))
   one_joints _ _ (with_nodes s js some all h) (without none) = absurd (omega (arith, some, none))
   one_joints _ _ (without none) (with_nodes t is some1 all1 k) = absurd (omega (arith, some1, none))
   one_joints _ _ (without none) (without none1) = refl

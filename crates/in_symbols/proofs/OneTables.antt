@@ -23,20 +23,20 @@ use Rattle.in_syntax.proofs.Among.{among_left, among_right, in_flat, in_map, of_
 use Rattle.in_syntax.proofs.Ordered.{places_out}
 use Rattle.in_syntax.proofs.WholeTexts.{same_refusal}
 
-any_of : {X : Type 0} (P : X → Type 0) (xs : List X) → AnyByRecursion P xs → (x : X) × IsAmong x xs × P x
-any_of P [] h = absurd h
-any_of P (x ∷ xs) (inl h) = (x, inl refl, h)
-any_of P (x ∷ xs) (inr h) = let r = any_of P xs h in (r.0, inr r.1, r.2)
+pub any_among : {X : Type 0} (P : X → Type 0) (xs : List X) → AnyByRecursion P xs → (x : X) × IsAmong x xs × P x
+any_among P [] h = absurd h
+any_among P (x ∷ xs) (inl h) = (x, inl refl, h)
+any_among P (x ∷ xs) (inr h) = let r = any_among P xs h in (r.0, inr r.1, r.2)
 
 repeated : (ns : List Name) (p : Place) → IsRepeatedAt ns p → (n : Name) × IsAmong n ns × (n.place ≡ p)
 repeated [] p h = absurd h
-repeated (n ∷ ns) p (inl h) = let r = any_of (λ (m : Name). (m.text ≡ n.text) × (m.place ≡ p)) ns h in (r.0, inr r.1, r.2.1)
+repeated (n ∷ ns) p (inl h) = let r = any_among (λ (m : Name). (m.text ≡ n.text) × (m.place ≡ p)) ns h in (r.0, inr r.1, r.2.1)
 repeated (n ∷ ns) p (inr h) = let r = repeated ns p h in (r.0, inr r.1, r.2)
 
 in_term : (s : Source) (p : Place) (t : Term) → HasPart (IsUnknownHead s p) t → IsAmong p (term_places t)
 in_term s p _ (itself t h) = subst (IsAmong p) (sym (places_out t)) (inl h.place)
 in_term s p _ (argument t a among h) =
-    let at = any_of (λ (b : Term). b ≡ a) (out-Term t).args among in
+    let at = any_among (λ (b : Term). b ≡ a) (out-Term t).args among in
     let there : IsAmong (term_places a) (map term_places (out-Term t).args) = in_map term_places (out-Term t).args a (subst (λ z. IsAmong z (out-Term t).args) at.2 at.1) in
     subst (IsAmong p) (sym (places_out t)) (inr (in_flat (λ (ps : List Place). ps) (map term_places (out-Term t).args) (term_places a) p there (in_term s p a h)))
 
@@ -89,17 +89,17 @@ module _ (s : Source) where
       let n = repeated (map (λ (f : SourceFree). f.name) s.net.free) p h in
       let f = of_map (λ (f : SourceFree). f.name) s.net.free n.0 n.1 in
       at_free f.0 p f.1 (inl (ap (λ (n : Name). n.place) f.2 ∙ n.2))
-  twice p (free_symbol h) = let f = any_of (λ (f : SourceFree). IsSymbolName s f.name.text × (f.name.place ≡ p)) s.net.free h in at_free f.0 p f.1 (inl f.2.1)
+  twice p (free_symbol h) = let f = any_among (λ (f : SourceFree). IsSymbolName s f.name.text × (f.name.place ≡ p)) s.net.free h in at_free f.0 p f.1 (inl f.2.1)
 
   untyped : (p : Place) → IsUnknownTypeAt s p → IsAmong p (source_places s)
-  untyped p (of_principal h) = let d = any_of (λ (d : SourceSymbol). IsUntypedAt s p d.port) s.symbols h in at_symbol d.0 p d.1 (inr (inl d.2.1))
+  untyped p (of_principal h) = let d = any_among (λ (d : SourceSymbol). IsUntypedAt s p d.port) s.symbols h in at_symbol d.0 p d.1 (inr (inl d.2.1))
   untyped p (of_auxiliary h) =
-      let d = any_of (λ (d : SourceSymbol). AnyByRecursion (AnyByRecursion (IsUntypedAt s p)) d.classes) s.symbols h in
-      let c = any_of (AnyByRecursion (IsUntypedAt s p)) d.0.classes d.2 in
-      let q = any_of (IsUntypedAt s p) c.0 c.2 in
+      let d = any_among (λ (d : SourceSymbol). AnyByRecursion (AnyByRecursion (IsUntypedAt s p)) d.classes) s.symbols h in
+      let c = any_among (AnyByRecursion (IsUntypedAt s p)) d.0.classes d.2 in
+      let q = any_among (IsUntypedAt s p) c.0 c.2 in
       at_symbol d.0 p d.1 (inr (inr (in_flat (λ (c : List SourcePort). map (λ (q : SourcePort). q.kind.place) c) d.0.classes c.0 p c.1
       (subst (λ p. IsAmong p (map (λ (q : SourcePort). q.kind.place) c.0)) q.2.1 (in_map (λ (q : SourcePort). q.kind.place) c.0 q.0 q.1)))))
-  untyped p (of_free h) = let f = any_of (λ (f : SourceFree). IsUntypedAt s p f.port) s.net.free h in at_free f.0 p f.1 (inr (inl f.2.1))
+  untyped p (of_free h) = let f = any_among (λ (f : SourceFree). IsUntypedAt s p f.port) s.net.free h in at_free f.0 p f.1 (inr (inl f.2.1))
 
   either : (e : Equation) (p : Place) → HasPart (IsUnknownHead s p) e.left ⊎ HasPart (IsUnknownHead s p) e.right → IsAmong p (equation_places e)
   either e p (inl h) = among_left p (term_places e.left) (e.tilde ∷ term_places e.right) (in_term s p e.left h)
@@ -107,14 +107,14 @@ module _ (s : Source) where
 
   headless : (p : Place) → IsUnknownHeadAt s p → IsAmong p (source_places s)
   headless p (in_equation h) =
-      let e = any_of (λ (e : Equation). HasPart (IsUnknownHead s p) e.left ⊎ HasPart (IsUnknownHead s p) e.right) s.net.equations h in
+      let e = any_among (λ (e : Equation). HasPart (IsUnknownHead s p) e.left ⊎ HasPart (IsUnknownHead s p) e.right) s.net.equations h in
       at_equations p (in_flat equation_places s.net.equations e.0 p e.1 (either e.0 p e.2))
   headless p (of_head h) =
-      let r = any_of (OfAHead (λ (h : Head). (IsSymbolName s h.name.text → ⊥) × (h.name.place ≡ p))) s.rules h in
+      let r = any_among (OfAHead (λ (h : Head). (IsSymbolName s h.name.text → ⊥) × (h.name.place ≡ p))) s.rules h in
       head_at r.0 (λ (h : Head). (IsSymbolName s h.name.text → ⊥) × (h.name.place ≡ p)) p r.1 (λ h k. inl k.1) r.2
   headless p (in_head h) =
-      let r = any_of (OfAHead (λ (h : Head). AnyByRecursion (HasPart (IsUnknownHead s p)) h.terms)) s.rules h in
-      head_at r.0 (λ (h : Head). AnyByRecursion (HasPart (IsUnknownHead s p)) h.terms) p r.1 (λ h k. let t = any_of (HasPart (IsUnknownHead s p)) h.terms k in inr (in_flat term_places h.terms t.0 p t.1 (in_term s p t.0 t.2))) r.2
+      let r = any_among (OfAHead (λ (h : Head). AnyByRecursion (HasPart (IsUnknownHead s p)) h.terms)) s.rules h in
+      head_at r.0 (λ (h : Head). AnyByRecursion (HasPart (IsUnknownHead s p)) h.terms) p r.1 (λ h k. let t = any_among (HasPart (IsUnknownHead s p)) h.terms k in inr (in_flat term_places h.terms t.0 p t.1 (in_term s p t.0 t.2))) r.2
 
   abbrev IsTabled : Code → Type 0
   IsTabled c = (c ≡ E04) ⊎ ((c ≡ E05) ⊎ (c ≡ E06))

@@ -1,6 +1,7 @@
 -- What stands in joined and mapped lists.
 use Rattle.std.proofs.Common.{◌≡◌, ◌⊎◌, inl, inr, ℕ, zero, suc, List, [], ◌∷◌, ◌++◌, map, Some, slice_get, refl, sym, ap, subst}
 use Rattle.std.specs.List.{AllByRecursion, flat_map}
+use Rattle.std.proofs.lemmas.Option.{same_Some}
 use Rattle.in_syntax.specs.Lists.{IsAmong}
 
 pub among_left : {X : Type 0} (x : X) (xs ys : List X) → IsAmong x xs → IsAmong x (xs ++ ys)
@@ -36,12 +37,9 @@ of_map f [] y h = absurd h
 of_map f (z ∷ xs) y (inl e) = (z, inl refl, e)
 of_map f (z ∷ xs) y (inr h) = let r = of_map f xs y h in (r.0, inr r.1, r.2)
 
-some_is : {X : Type 0} (x y : X) → Some x ≡ Some y → x ≡ y
-some_is x y e = cc
-
 pub among_at : {X : Type 0} (xs : List X) (i : ℕ) (x : X) → slice_get xs i ≡ Some x → IsAmong x xs
 among_at [] i x e = cc
-among_at (z ∷ xs) zero x e = inl (some_is z x e)
+among_at (z ∷ xs) zero x e = inl (same_Some z x e)
 among_at (z ∷ xs) (suc i) x e = inr (among_at xs i x e)
 
 pub among_all : {X : Type 0} (P : X → Type 0) (xs : List X) (x : X) → AllByRecursion P xs → IsAmong x xs → P x

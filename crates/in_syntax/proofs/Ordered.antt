@@ -125,11 +125,11 @@ all_front : {X : Type 0} (P : X → Type 0) (a b : List X) → AllByRecursion P 
 all_front P [] b all = tt
 all_front P (x ∷ a) b all = (all.0, all_front P a b all.1)
 
-front_rises : (a b : List Place) → Rises (a ++ b) → Rises a
+pub front_rises : (a b : List Place) → Rises (a ++ b) → Rises a
 front_rises [] b up = tt
 front_rises (p ∷ a) b up = (all_front (λ q. p.from < q.from) a b up.0, front_rises a b up.1)
 
-back_rises : (a b : List Place) → Rises (a ++ b) → Rises b
+pub back_rises : (a b : List Place) → Rises (a ++ b) → Rises b
 back_rises [] b up = up
 back_rises (p ∷ a) b up = back_rises a b up.1
 

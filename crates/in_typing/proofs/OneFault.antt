@@ -1,8 +1,8 @@
 -- What typing answers is one.
-use Rattle.std.proofs.Common.{◌≡◌, ◌⊎◌, inl, inr, ◌<◌, Some, Ok, Err, refl, sym, ◌∙◌, ap}
+use Rattle.std.proofs.Common.{◌≡◌, ◌⊎◌, inl, inr, ◌<◌, Ok, Err, refl, sym, ◌∙◌, ap}
 use Rattle.std.proofs.lemmas.Bool.{cases_order}
+use Rattle.std.proofs.lemmas.Option.{same_Some}
 use Rattle.in_syntax.specs.declared.faults.Refusal.{Refusal}
-use Rattle.in_syntax.specs.declared.places.Place.{Place}
 use Rattle.in_syntax.proofs.WholeTexts.{same_refusal}
 use Rattle.in_symbols.specs.Tables.{Tables}
 use Rattle.in_net.specs.Parts.{Parts, wire_place_in}
@@ -10,14 +10,11 @@ use Rattle.in_net.specs.Rules.{RuleParts}
 use Rattle.in_typing.specs.Laws.{NetsAreTypedOnce, RulesAreTypedOnce}
 use Rattle.in_typing.specs.Typed.{TypesRule, IsMistyped, IsRuleMistyped, of_heads, of_wire}
 
-some_is : (p q : Place) → Some p ≡ Some q → p ≡ q
-some_is p q e = cc
-
 pub one_mistyped : (t : Tables) (n : Parts) (q r : Refusal) → IsMistyped t n q → IsMistyped t n r → q ≡ r
 one_mistyped t n q r h k = by_order (cases_order h.wire k.wire)
   where
     by_order : (h.wire ≡ k.wire) ⊎ ((h.wire < k.wire) ⊎ (k.wire < h.wire)) → q ≡ r
-    by_order (inl e) = same_refusal q r (h.code ∙ sym k.code) (some_is q.place r.place (sym h.place ∙ ap (wire_place_in n) e ∙ k.place)) (h.other ∙ sym k.other)
+    by_order (inl e) = same_refusal q r (h.code ∙ sym k.code) (same_Some q.place r.place (sym h.place ∙ ap (wire_place_in n) e ∙ k.place)) (h.other ∙ sym k.other)
     by_order (inr (inl lt)) = absurd (h.mistyped (k.first h.wire lt))
     by_order (inr (inr lt)) = absurd (k.mistyped (h.first k.wire lt))
 
