@@ -3,7 +3,7 @@ use Rattle.std.proofs.Common.{◌≡◌, ℕ, List, Result, Ok, Err, refl, sym, 
 use Rattle.in_syntax.specs.declared.faults.Fault.{Fault}
 use Rattle.in_syntax.specs.declared.faults.Fault.TheVariants.{Refused, Memory}
 use Rattle.in_syntax.specs.declared.tree.Source.{Source}
-use Rattle.in_syntax.specs.Answers.{AgreeBy, IsOne, IsOneBy, Then}
+use Rattle.in_syntax.specs.Answers.{AgreeBy, IsOneBy}
 use Rattle.in_syntax.specs.Parsing.{IsOfText, Parses}
 use Rattle.in_syntax.proofs.ThenOne.{then_same, then_two}
 use Rattle.in_syntax.proofs.SourcePlaces.{texts_begin_apart}
