@@ -17,3 +17,4 @@ pub mod Rounds
 pub mod StaysNet
 pub mod StepExists
 pub mod Stops
+pub mod Vicious

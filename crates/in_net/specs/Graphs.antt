@@ -1,5 +1,6 @@
--- Nodes with ports in classes, and the circles among them. Lafont 1990: in a vicious circle each agent waits for the next one, so
--- that none ever interacts. The crossing circle, which classes exclude, is this project's own choice.
+-- Nodes with ports in classes, and the circles among them. Lafont 1990: a vicious circle is a circular list of agents in which each
+-- one's principal port is wired to an auxiliary port of the next, so that each waits for the next one and none ever interacts. The
+-- crossing circle, which classes exclude, is this project's own choice.
 use Rattle.std.specs.Prelude.{◌≡◌, ◌≢◌, ℕ, List, [], ◌∷◌, Option, Some, None}
 use Rattle.std.specs.List.{AllByRecursion}
 use Rattle.in_net.specs.Nets.{Port, Signature, Net}
@@ -49,9 +50,13 @@ pub record CrossingCircle (g : Graph) : Type 0 where
 abbrev pub IsFromPrincipal : {V : Type 0} → Passage V → Type 0
 IsFromPrincipal p = (p.leave ≡ 0) × (p.enter ≢ 0)
 
--- a crossing circle each of whose nodes is left by its principal port
-abbrev pub ViciousCircle : Graph → Type 0
-ViciousCircle g = (c : CrossingCircle g) × AllByRecursion IsFromPrincipal (c.first ∷ c.rest)
+-- one or more different nodes in a ring, each left by its principal port, which is wired to an auxiliary port of the next
+pub record ViciousCircle (g : Graph) : Type 0 where
+  pub first : Passage g.Node
+  pub rest : List (Passage g.Node)
+  pub closed : Leads g (left first) rest (entered first)
+  pub principal : AllByRecursion IsFromPrincipal (first ∷ rest)
+  pub apart : AreApart (first ∷ rest)
 
 -- ---- the graph of a net
 

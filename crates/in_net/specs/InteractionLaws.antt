@@ -2,7 +2,7 @@
 use Rattle.std.specs.Prelude.{◌≡◌, ◌≢◌, ◌⊎◌, ℕ, List, IsSome}
 use Rattle.in_net.specs.Ahead.{MeetsPair, WaitsAt}
 use Rattle.in_net.specs.Graphs.{Passage, CrossingCircle, ViciousCircle, graph_of}
-use Rattle.in_net.specs.Interactions.{Redex, IsRedex, IsNaming, IsStep, class_node, open_member, ends_graph}
+use Rattle.in_net.specs.Interactions.{Redex, IsRedex, IsNaming, IsStep, ClosedPath, class_node, open_member}
 use Rattle.in_net.specs.Nets.{Signature, AreClasses, Net, IsNet}
 use Rattle.in_net.specs.Pieces.{IsOuterPiece, ClosedWalk}
 use Rattle.in_net.specs.Tours.{LaidOut}
@@ -33,14 +33,14 @@ NoNewCircle = (sig : Signature) (n : Net ℕ) (x : Redex ℕ ℕ) (name : ℕ �
     AreClasses sig → IsNet sig n → IsNet sig x.member → IsRedex sig n x → IsStep sig n x name after →
     (CrossingCircle (graph_of sig n) → ⊥) → (CrossingCircle (open_member sig x) → ⊥) → CrossingCircle (graph_of sig after) → ⊥
 
--- .. and leaves no closed alternating path
+-- .. and leaves no closed alternating path, which would be a wire that ends nowhere
 abbrev pub NoClosedPath : Type 0
 NoClosedPath = (sig : Signature) (n : Net ℕ) (x : Redex ℕ ℕ) → AreClasses sig → IsNet sig n → IsNet sig x.member → IsRedex sig n x →
-    (CrossingCircle (graph_of sig n) → ⊥) → (CrossingCircle (open_member sig x) → ⊥) → CrossingCircle (ends_graph sig n x) → ⊥
+    (CrossingCircle (graph_of sig n) → ⊥) → (CrossingCircle (open_member sig x) → ⊥) → ClosedPath sig n x → ⊥
 
 -- a net without crossing circle has no vicious one
 abbrev pub NoViciousCircle : Type 0
-NoViciousCircle = (sig : Signature) (n : Net ℕ) → (CrossingCircle (graph_of sig n) → ⊥) → ViciousCircle (graph_of sig n) → ⊥
+NoViciousCircle = (sig : Signature) (n : Net ℕ) → AreClasses sig → IsNet sig n → (CrossingCircle (graph_of sig n) → ⊥) → ViciousCircle (graph_of sig n) → ⊥
 
 -- without a crossing circle, the walk from each agent by principal ports ends
 abbrev pub EachLeadsOn : Type 0

@@ -108,13 +108,20 @@ open_member {A} {B} sig x = record {
   Wire = λ u v. (p q : Point B) × (open_port sig x p ≡ u) × (open_port sig x q ≡ v) × (x.member.partner p ≡ Some q);
 }
 
--- the boundary ends, each with an outer port 0 and an inner port 1, and the wires of either side between them. A closed
--- alternating path is a crossing circle here
-abbrev pub ends_graph : {A B : Type 0} → Signature → Net A → Redex A B → Graph
-ends_graph {A} {B} sig n x = record {
-  Node = ℕ;
-  class = λ e i. i;
-  Wire = λ u v.
-      ((u.1 ≡ 0) × (v.1 ≡ 0) × (n.partner (Port (end_agent sig x u.0) (end_place sig x u.0)) ≡ Some (Port (end_agent sig x v.0) (end_place sig x v.0))))
-      ⊎ ((u.1 ≡ 1) × (v.1 ≡ 1) × (x.member.partner (Free u.0) ≡ Some (Free v.0)));
-}
+-- the wires of the net before, and those of the right member, between boundary ends
+abbrev pub EndWire : {A B : Type 0} → Signature → Net A → Redex A B → Side → ℕ → ℕ → Type 0
+EndWire sig n x Outer e f = n.partner (Port (end_agent sig x e) (end_place sig x e)) ≡ Some (Port (end_agent sig x f) (end_place sig x f))
+EndWire sig n x Inner e f = x.member.partner (Free e) ≡ Some (Free f)
+
+-- a wire, or wires that change sides at each of these boundary ends in turn: the first one is left on this side, the last one entered
+-- on that
+abbrev pub EndPath : (Side → ℕ → ℕ → Type 0) → Side → ℕ → List ℕ → Side → ℕ → Type 0
+EndPath wire s e [] t f = (s ≡ t) × wire s e f
+EndPath wire s e (g ∷ gs) t f = wire s e g × EndPath wire (other s) g gs t f
+
+-- boundary ends that wires of alternate sides join in a ring
+pub record ClosedPath {A B : Type 0} (sig : Signature) (n : Net A) (x : Redex A B) : Type 0 where
+  pub side : Side
+  pub first : ℕ
+  pub rest : List ℕ
+  pub closed : EndPath (EndWire sig n x) side first rest (other side) first

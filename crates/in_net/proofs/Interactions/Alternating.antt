@@ -1,9 +1,10 @@
 -- Alternating paths are deterministic and symmetric, at points.
 use Rattle.std.proofs.Common.{◌≡◌, ◌≢◌, ◌≤◌, ℕ, Option, Some, None, IsSomeAnd, List, [], ◌∷◌, refl, sym, subst, ap, inl, inr, ◌∙◌}
+use Rattle.std.proofs.lemmas.Option.{same_Some}
 use Rattle.in_net.specs.Nets.{Point, Port, Free, Signature, Net, IsPoint, IsNet}
 use Rattle.in_net.specs.Interactions.{Redex, IsRedex, Side, Outer, Inner, other, Alternates, stands_for, InnerWire, wire_of, IsOfPair, AreJoined, IsNaming, of_first, end_agent, end_place}
 use Rattle.in_net.proofs.Interactions.Paths.{other_twice}
-use Rattle.in_net.proofs.Interactions.AtNets.{some_same, port_agent, port_place, end_same, cond_cases}
+use Rattle.in_net.proofs.Interactions.AtNets.{port_agent, port_place, end_same, cond_cases}
 
 module _ {P : Type 0} (wire : Side → P → P → Type 0) (End : P → Type 0) where
   one_path : ((s : Side) (p q r : P) → wire s p q → wire s p r → q ≡ r) → (s : Side) (u : P) (es fs : List P) (v w : P) → (End v → ⊥) → (End w → ⊥) → Alternates wire End s u es v → Alternates wire End s u fs w → v ≡ w
@@ -64,10 +65,10 @@ module _ {A B : Type 0} (sig : Signature) (n : Net A) (x : Redex A B) (name : B 
         ap (λ e. Free e) (end_same sig n x net inside redex e f (port_agent (end_agent sig x e) (end_agent sig x f) (end_place sig x e) (end_place sig x f) w) (port_place (end_agent sig x e) (end_agent sig x f) (end_place sig x e) (end_place sig x f) w))
 
     pub one_wire : (s : Side) (u v w : Point A) → wire_of sig n x name s u v → wire_of sig n x name s u w → v ≡ w
-    one_wire Outer u v w a b = some_same v w (sym a ∙ b)
+    one_wire Outer u v w a b = same_Some v w (sym a ∙ b)
     one_wire Inner u v w a b =
         let near : a.0 ≡ b.0 = stands_one a.0 b.0 (inside.points a.0 a.1 a.4) (inside.points b.0 b.1 b.4) (a.2 ∙ sym b.2) in
-        let far : a.1 ≡ b.1 = some_same a.1 b.1 (sym a.4 ∙ ap x.member.partner near ∙ b.4) in
+        let far : a.1 ≡ b.1 = same_Some a.1 b.1 (sym a.4 ∙ ap x.member.partner near ∙ b.4) in
         sym a.3 ∙ ap (stands_for sig x name) far ∙ b.3
 
     -- only ports of the pair have a wire on both sides

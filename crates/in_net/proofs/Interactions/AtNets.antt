@@ -1,5 +1,6 @@
 -- The two sides of an interaction, at nets.
 use Rattle.std.proofs.Common.{◌≡◌, ◌≢◌, ◌⊎◌, ◌-◌, ◌≤◌, Bool, true, false, cond, Some, ℕ, suc, refl, sym, subst, ap, inl, inr, ◌∙◌, arith, ltb-false}
+use Rattle.std.proofs.lemmas.Option.{same_Some}
 use Rattle.in_net.specs.Nets.{Point, Port, Free, Signature, AreClasses, Net, IsNet}
 use Rattle.in_net.specs.Graphs.{class_of_symbol}
 use Rattle.in_net.specs.Interactions.{Side, Outer, Inner}
@@ -8,9 +9,6 @@ use Rattle.in_net.specs.Interactions.{Redex, IsRedex, of_first, end_agent, end_s
 use Rattle.in_net.specs.InteractionPlaces.{IsBefore, IsInside, wires}
 use Rattle.in_net.proofs.Interactions.Paths.{AreWires}
 use Rattle.in_net.proofs.Interactions.Compress.{Sides, AreSides, outer_port, inner_port, IsOn}
-
-pub some_same : {X : Type 0} (x y : X) → Some x ≡ Some y → x ≡ y
-some_same x y h = cc
 
 pub port_agent : {A : Type 0} (x y : A) (i j : ℕ) → Port x i ≡ Port y j → x ≡ y
 port_agent x y i j h = cc
@@ -101,11 +99,11 @@ module _ {A B : Type 0} (sig : Signature) (n : Net A) (x : Redex A B) (net : IsN
   one_wire : (s : Side) (p q r : Place A B) → wires sig n x s p q → wires sig n x s p r → q ≡ r
   one_wire Outer p q r w v =
       let same = before_one p w.0 v.0 w.2 v.2 in
-      let far : w.1 ≡ v.1 = some_same w.1 v.1 (sym w.4 ∙ ap n.partner same ∙ v.4) in
+      let far : w.1 ≡ v.1 = same_Some w.1 v.1 (sym w.4 ∙ ap n.partner same ∙ v.4) in
       before_same q r v.1 (subst (IsBefore sig x q) far w.3) v.3
   one_wire Inner p q r w v =
       let same = inside_one p w.0 v.0 w.2 v.2 in
-      let far : w.1 ≡ v.1 = some_same w.1 v.1 (sym w.4 ∙ ap x.member.partner same ∙ v.4) in
+      let far : w.1 ≡ v.1 = same_Some w.1 v.1 (sym w.4 ∙ ap x.member.partner same ∙ v.4) in
       inside_same q r v.1 (subst (IsInside q) far w.3) v.3
 
   wire_back : (s : Side) (p q : Place A B) → wires sig n x s p q → wires sig n x s q p

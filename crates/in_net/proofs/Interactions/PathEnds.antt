@@ -2,12 +2,13 @@
 use Rattle.std.proofs.Common.{◌≡◌, ◌≢◌, ◌⊎◌, ◌+◌, ◌*◌, ◌-◌, ◌≤◌, ◌<◌, ℕ, zero, suc, Bool, true, false, cond, Option, Some, None, IsSome, IsSomeAnd, List, [], ◌∷◌, length, refl, sym, subst, ap, inl, inr, ◌∙◌, arith, lt-ltb, ltb-true, ltb-false, le-ltb}
 use mathlib.Core.HLevel.{Discrete}
 use Rattle.std.specs.List.{AllByRecursion}
+use Rattle.std.proofs.lemmas.Option.{same_Some}
 use Rattle.in_net.specs.Graphs.{Passage, AreApart}
 use Rattle.in_net.specs.Nets.{Point, Port, Free, Signature, Net, IsPoint, IsNet}
 use Rattle.in_syntax.specs.Lists.{IsAmong}
 use Rattle.in_net.specs.Interactions.{Redex, IsRedex, Side, Outer, Inner, other, Alternates, wire_of, IsOfPair, AreJoined, IsNaming, of_first, end_agent, end_place}
 use Rattle.in_net.proofs.Interactions.Paths.{other_twice}
-use Rattle.in_net.proofs.Interactions.AtNets.{some_same, end_has}
+use Rattle.in_net.proofs.Interactions.AtNets.{end_has}
 use Rattle.in_net.proofs.Interactions.Alternating.{wire_back, one_wire, end_of_pair, not_pair, stands_one}
 use Rattle.in_net.proofs.Interactions.Ahead.{few}
 
@@ -67,13 +68,13 @@ module _ {A B : Type 0} (sig : Signature) (n : Net A) (x : Redex A B) (name : B 
       go : Dec (y ≡ x.one) → Dec (y ≡ x.two) → (i : ℕ) → n.partner u ≡ Some (Port y i) → IsPoint sig n (Port y i) → (IsOfPair x (Port y i) → ⊥) ⊎ ((d : ℕ) × (d < sig.arity x.first + sig.arity x.second) × (Port y i ≡ pt d))
       go (yes e) k zero w h =
           let back : Some u ≡ Some (Port x.two 0) = sym (net.back u (Port y 0) w) ∙ ap (λ y. n.partner (Port y 0)) e ∙ redex.active in
-          absurd (two (some_same u (Port x.two 0) back))
+          absurd (two (same_Some u (Port x.two 0) back))
       go (yes e) k (suc j) w h =
           let r : suc j ≤ sig.arity x.first = room (n.symbol y) x.first (suc j) (ap n.symbol e ∙ redex.one) h in
           inr (j, omega arith, ap (λ y. Port y (suc j)) e ∙ pt_first j r)
       go (no d) (yes e) zero w h =
           let back : Some u ≡ Some (Port x.one 0) = sym (net.back u (Port y 0) w) ∙ ap (λ y. n.partner (Port y 0)) e ∙ net.back (Port x.one 0) (Port x.two 0) redex.active in
-          absurd (one (some_same u (Port x.one 0) back))
+          absurd (one (same_Some u (Port x.one 0) back))
       go (no d) (yes e) (suc j) w h =
           let r : suc j ≤ sig.arity x.second = room (n.symbol y) x.second (suc j) (ap n.symbol e ∙ redex.two) h in
           inr (sig.arity x.first + j, omega arith, ap (λ y. Port y (suc j)) e ∙ pt_second j)
