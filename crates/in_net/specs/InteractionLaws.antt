@@ -1,11 +1,11 @@
 -- The laws of interactions, over the definitions alone.
-use Rattle.std.specs.Prelude.{◌≡◌, ◌≢◌, ◌⊎◌, ℕ, List, IsSome}
+use Rattle.std.specs.Prelude.{◌≡◌, ◌≢◌, ◌⊎◌, ℕ, List, ◌∷◌, map, IsSome}
 use Rattle.in_net.specs.Ahead.{MeetsPair, WaitsAt}
 use Rattle.in_net.specs.Graphs.{Passage, CrossingCircle, ViciousCircle, graph_of}
 use Rattle.in_net.specs.Interactions.{Redex, IsRedex, IsNaming, IsStep, ClosedPath, class_node, open_member}
 use Rattle.in_net.specs.Nets.{Signature, AreClasses, Net, IsNet}
 use Rattle.in_net.specs.Pieces.{IsOuterPiece, ClosedWalk}
-use Rattle.in_net.specs.Tours.{LaidOut}
+use Rattle.in_net.specs.Tours.{LaidOut, agents_of, name_after, renamed}
 
 -- an interaction has a result, and it is a net
 abbrev pub StepExists : Type 0
@@ -13,10 +13,10 @@ StepExists = (sig : Signature) (n : Net ℕ) (x : Redex ℕ ℕ) (name : ℕ →
     (after : Net ℕ) × IsStep sig n x name after × IsNet sig after
 
 -- a crossing circle after an interaction falls into pieces: laid out wire by wire, it goes by the net before and by the right member,
--- from one to the other at boundary ends alone
+-- from one to the other at boundary ends alone. The agents on it are those of the circle, each once
 abbrev pub CirclesFallApart : Type 0
 CirclesFallApart = (sig : Signature) (n : Net ℕ) (x : Redex ℕ ℕ) (name : ℕ → ℕ) (after : Net ℕ) → AreClasses sig → IsNet sig n → IsNet sig x.member → IsRedex sig n x → IsStep sig n x name after →
-    CrossingCircle (graph_of sig after) → LaidOut sig n x
+    (circle : CrossingCircle (graph_of sig after)) → (laid : LaidOut sig n x) × (map (renamed (name_after name)) (agents_of (laid.first ∷ laid.rest)) ≡ circle.first ∷ circle.rest)
 
 -- where the net before has no crossing circle, a walk round the pair joins two boundary ends of one class node
 abbrev pub OuterPiecesArePassages : Type 0

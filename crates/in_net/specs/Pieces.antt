@@ -1,10 +1,11 @@
--- What a ring after an interaction is made of: walks round the pair, and walks within the right member. This project's own.
+-- What a ring after an interaction is made of: walks round the pair, and what they leave of it in the right member with its class
+-- nodes. This project's own.
 use Rattle.std.specs.Prelude.{◌≢◌, ◌⊎◌, ℕ, Bool, List, [], ◌∷◌}
 use Rattle.std.specs.List.{AllByRecursion}
 use mathlib.Core.Logic.{inl, inr}
 use Rattle.in_net.specs.Graphs.{Passage, entered, left, Leads, IsCrossing, AreApart, graph_of}
 use Rattle.in_net.specs.Nets.{Signature, Net}
-use Rattle.in_net.specs.Interactions.{Redex, end_agent, end_place, class_node, open_member}
+use Rattle.in_net.specs.Interactions.{Redex, end_agent, end_place, open_member}
 
 -- the port of the pair that is a boundary end
 abbrev pub end_port : {A B : Type 0} → Signature → Redex A B → ℕ → A × ℕ
@@ -16,17 +17,6 @@ pub record IsOuterPiece {A B : Type 0} (sig : Signature) (n : Net A) (x : Redex 
   pub crossing : AllByRecursion (IsCrossing (graph_of sig n)) ps
   pub apart : AreApart ps
   pub stays : AllByRecursion (λ p. (p.node ≢ x.one) × (p.node ≢ x.two)) ps
-
--- a walk of the right member, by its agents
-abbrev pub inside : {B : Type 0} → Passage B → Passage (B ⊎ (Bool × ℕ))
-inside p = record { node = inl p.node; enter = p.enter; leave = p.leave }
-
--- .. from a boundary end to one, through different new agents
-pub record IsInnerPiece {A B : Type 0} (sig : Signature) (x : Redex A B) (e f : ℕ) (ps : List (Passage (B ⊎ (Bool × ℕ)))) : Type 0 where
-  pub leads : Leads (open_member sig x) (inr (class_node sig x e), e) ps (inr (class_node sig x f), f)
-  pub crossing : AllByRecursion (IsCrossing (open_member sig x)) ps
-  pub apart : AreApart ps
-  pub agents : AllByRecursion (λ p. elim p.node [ inl y ↦ Unit {0} | inr c ↦ ⊥ ]) ps
 
 -- the ports by which these passages enter and leave
 abbrev pub ports_of : {V : Type 0} → List (Passage V) → List (V × ℕ)

@@ -1,7 +1,8 @@
 -- Rings that are laid out wire by wire, over both sides of an interaction: what is passed on the way. This project's own.
-use Rattle.std.specs.Prelude.{◌≡◌, ◌≢◌, ℕ, List, [], ◌∷◌}
+use Rattle.std.specs.Prelude.{◌≡◌, ◌≢◌, ◌⊎◌, ℕ, List, [], ◌∷◌}
+use mathlib.Core.Logic.{inl, inr}
 use Rattle.std.specs.List.{AllByRecursion}
-use Rattle.in_net.specs.Graphs.{class_of_symbol}
+use Rattle.in_net.specs.Graphs.{Passage, class_of_symbol}
 use Rattle.in_net.specs.Nets.{Signature, Net}
 use Rattle.in_net.specs.Interactions.{Redex, Side, Outer, Inner, other}
 use Rattle.in_net.specs.InteractionPlaces.{Place, Old, New, Boundary, wires}
@@ -22,6 +23,20 @@ abbrev pub leaves : {A B : Type 0} → Stop A B → Side × Place A B
 leaves (At_old x i j) = (Outer, Old x j)
 leaves (At_new y i j) = (Inner, New y j)
 leaves (Through s e) = (other s, Boundary e)
+
+-- the agents among them, in order, by the ports of their passages
+abbrev pub agents_of : {A B : Type 0} → List (Stop A B) → List (Passage (A ⊎ B))
+agents_of [] = []
+agents_of (At_old x i j ∷ ss) = record { node = inl x; enter = i; leave = j } ∷ agents_of ss
+agents_of (At_new y i j ∷ ss) = record { node = inr y; enter = i; leave = j } ∷ agents_of ss
+agents_of (Through s e ∷ ss) = agents_of ss
+
+-- .. under their names after the interaction
+abbrev pub name_after : {A B : Type 0} → (B → A) → A ⊎ B → A
+name_after name m = elim m [ inl y ↦ y | inr k ↦ name k ]
+
+abbrev pub renamed : {V C : Type 0} → (V → C) → Passage V → Passage C
+renamed name p = record { node = name p.node; enter = p.enter; leave = p.leave }
 
 -- walks each of whose places is entered as En says, and left as Le says
 module _ {A B : Type 0} (wire : Side → Place A B → Place A B → Type 0) (En Le : Side → Place A B → Type 0) where

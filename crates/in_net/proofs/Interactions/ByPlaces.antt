@@ -3,16 +3,13 @@ use Rattle.std.proofs.Common.{◌≡◌, ◌⊎◌, ℕ, Some, None, List, [], �
 use Rattle.in_net.specs.Nets.{Point, Port, Free, Signature, Net, IsPoint, IsNet}
 use Rattle.in_net.specs.Interactions.{Redex, IsRedex, Side, Outer, Inner, Alternates, stands_for, wire_of, IsOfPair, AreJoined, IsNaming, IsStep}
 use Rattle.in_net.specs.InteractionPlaces.{Place, Old, New, Boundary, Loose, Path, Stays, IsJoined, IsBefore, IsInside, wires, HasSymbol, IsAfter, IsByPlaces}
+use Rattle.in_net.specs.Tours.{name_after}
 use Rattle.in_net.proofs.Interactions.Alternating.{not_pair, end_of_pair}
-
--- agents that stay keep their names
-abbrev pub names : {A B : Type 0} → (B → A) → A ⊎ B → A
-names name m = elim m [ inl y ↦ y | inr k ↦ name k ]
 
 module _ {A B : Type 0} (sig : Signature) (n : Net A) (x : Redex A B) (name : B → A) (net : IsNet sig n) (inside : IsNet sig x.member) (redex : IsRedex sig n x) (naming : IsNaming n x name) where
   -- where a path of places ends
   abbrev Ends : Point A → Place A B → Type 0
-  Ends v q = IsAfter (names name) q v × Stays q
+  Ends v q = IsAfter (name_after name) q v × Stays q
 
   abbrev From : Side → Place A B → Point A → Type 0
   From s p v = (fs : List ℕ) × (q : Place A B) × Path (wires sig n x) s p fs q × Ends v q
@@ -76,37 +73,37 @@ module _ {A B : Type 0} (sig : Signature) (n : Net A) (x : Redex A B) (name : B 
       let i = w.0 in
       (i.0, i.2, inside.points i.0 i.1 i.4, inner_step e v i.0 i.1 i.4 i.3 w.1 (λ f at. r (Boundary f) at))
 
-  outer_joined : (u v : Point A) (p : Place A B) → IsBefore sig x p u → Ends u p → From Outer p v → (p q : Place A B) × IsAfter (names name) p u × IsAfter (names name) q v × IsJoined (wires sig n x) p q
+  outer_joined : (u v : Point A) (p : Place A B) → IsBefore sig x p u → Ends u p → From Outer p v → (p q : Place A B) × IsAfter (name_after name) p u × IsAfter (name_after name) q v × IsJoined (wires sig n x) p q
   outer_joined u v (Old y i) at ends r = (Old y i, r.1, ends.0, r.3.0, (tt, r.3.1, (r.0, r.2)))
   outer_joined u v (New y i) at ends r = absurd at
   outer_joined u v (Boundary e) at ends r = absurd ends.1
   outer_joined u v (Loose k) at ends r = (Loose k, r.1, ends.0, r.3.0, (tt, r.3.1, (r.0, r.2)))
 
-  inner_joined : (u v : Point A) (a : Point B) → stands_for sig x name a ≡ u → (IsOfPair x u → ⊥) → From Inner (inner_place a) v → (p q : Place A B) × IsAfter (names name) p u × IsAfter (names name) q v × IsJoined (wires sig n x) p q
+  inner_joined : (u v : Point A) (a : Point B) → stands_for sig x name a ≡ u → (IsOfPair x u → ⊥) → From Inner (inner_place a) v → (p q : Place A B) × IsAfter (name_after name) p u × IsAfter (name_after name) q v × IsJoined (wires sig n x) p q
   inner_joined u v (Port k i) same h r = (New k i, r.1, sym same, r.3.0, (tt, r.3.1, (r.0, r.2)))
   inner_joined u v (Free e) same h r = absurd (h (subst (IsOfPair x) same (end_of_pair sig n x name net inside redex naming e)))
 
-  pub joined_places : (u v : Point A) → AreJoined sig n x name u v → (p q : Place A B) × IsAfter (names name) p u × IsAfter (names name) q v × IsJoined (wires sig n x) p q
+  pub joined_places : (u v : Point A) → AreJoined sig n x name u v → (p q : Place A B) × IsAfter (name_after name) p u × IsAfter (name_after name) q v × IsJoined (wires sig n x) p q
   joined_places u v j = go j.2.0 j.2.2
     where
-      go : (s : Side) → Alternates (wire_of sig n x name) (IsOfPair x) s u j.2.1 v → (p q : Place A B) × IsAfter (names name) p u × IsAfter (names name) q v × IsJoined (wires sig n x) p q
+      go : (s : Side) → Alternates (wire_of sig n x name) (IsOfPair x) s u j.2.1 v → (p q : Place A B) × IsAfter (name_after name) p u × IsAfter (name_after name) q v × IsJoined (wires sig n x) p q
       go Outer w = let o = old_place u j.0 in outer_joined u v o.0 o.1 o.2 (placed Outer u j.2.1 v j.1 w o.0 o.1)
       go Inner w = let r = placed Inner u j.2.1 v j.1 w in inner_joined u v r.0 r.1 j.0 r.3
 
   -- agents that are there have names of their own
-  apart_names : (l m : A ⊎ B) (s t : ℕ) → HasSymbol n x l s → HasSymbol n x m t → names name l ≡ names name m → l ≡ m
+  apart_names : (l m : A ⊎ B) (s t : ℕ) → HasSymbol n x l s → HasSymbol n x m t → name_after name l ≡ name_after name m → l ≡ m
   apart_names (inl y) (inl z) s t h k e = ap (λ y. inl y) e
   apart_names (inr y) (inr z) s t h k e = ap (λ y. inr y) (naming.apart y z s t h k e)
   apart_names (inl y) (inr z) s t h k e = let u : n.symbol y ≡ None = ap n.symbol e ∙ naming.fresh z t k in let v : n.symbol y ≡ Some s = h.2 in cc
   apart_names (inr y) (inl z) s t h k e = let u : n.symbol z ≡ None = ap n.symbol (sym e) ∙ naming.fresh y s h in let v : n.symbol z ≡ Some t = k.2 in cc
 
-  pub by_places : (after : Net A) → IsStep sig n x name after → IsByPlaces sig n x (names name) after
+  pub by_places : (after : Net A) → IsStep sig n x name after → IsByPlaces sig n x (name_after name) after
   by_places after step = record {
     apart = apart_names;
     kept = λ m s h. kept_symbol m s h;
     wired = λ u v e. joined_places u v ((step.wires u v).0 e);
   }
     where
-      kept_symbol : (m : A ⊎ B) (s : ℕ) → HasSymbol n x m s → after.symbol (names name m) ≡ Some s
+      kept_symbol : (m : A ⊎ B) (s : ℕ) → HasSymbol n x m s → after.symbol (name_after name m) ≡ Some s
       kept_symbol (inl y) s h = (step.agents y s).1 (inl h)
       kept_symbol (inr k) s h = (step.agents (name k) s).1 (inr (k, refl, h))

@@ -1,11 +1,11 @@
 -- A closed walk of the net after an interaction, wire by wire.
-use Rattle.std.proofs.Common.{◌≡◌, ◌⊎◌, ℕ, List, [], ◌∷◌, ◌++◌, refl, sym, subst, inl, inr}
+use Rattle.std.proofs.Common.{◌≡◌, ◌⊎◌, ℕ, List, [], ◌∷◌, ◌++◌, refl, sym, subst, inl, inr, ◌∙◌, ap}
 use Rattle.in_net.specs.Graphs.{Graph, Passage, entered, left}
 use Rattle.in_net.specs.Interactions.{Side, other}
 use Rattle.in_net.specs.InteractionPlaces.{Place, Old, New, Boundary, Loose, Path, Stays, side_of, IsJoined}
 use Rattle.in_net.proofs.Interactions.Paths.{AreWires, other_twice}
 use Rattle.in_net.proofs.Circuits.{Walk, Circuit}
-use Rattle.in_net.specs.Tours.{Stop, At_old, At_new, Through, enters, leaves, Tour}
+use Rattle.in_net.specs.Tours.{Stop, At_old, At_new, Through, enters, leaves, Tour, agents_of}
 use Rattle.in_net.proofs.Interactions.Stops.{Reaches, Entered, Left, tour_join, ClosedTour}
 
 -- the port's place
@@ -109,3 +109,31 @@ module _ {A B : Type 0} (wire : Side → Place A B → Place A B → Type 0) (wi
         closed = subst (λ u. Tour wire (Entered wire (at_place E) (at_place L)) (Left wire (at_place E) (at_place L)) u t.0 (enters (stop_of c.first))) (sym (leaves_stop c.first.node c.first.enter c.first.leave))
             (subst (λ v. Tour wire (Entered wire (at_place E) (at_place L)) (Left wire (at_place E) (at_place L)) (spot (left c.first)) t.0 v) (sym (enters_stop c.first.node c.first.enter c.first.leave)) t.1);
       }
+
+  -- ---- the agents on the way are those of the walk
+
+  no_agents : (s : Side) (es : List ℕ) → agents_of (throughs s es) ≡ []
+  no_agents s [] = refl
+  no_agents s (e ∷ es) = no_agents (other s) es
+
+  past : (s : Side) (es : List ℕ) (ss : List (Stop A B)) → agents_of (throughs s es ++ ss) ≡ agents_of ss
+  past s [] ss = refl
+  past s (e ∷ es) ss = past (other s) es ss
+
+  agent_first : (n : A ⊎ B) (i j : ℕ) (ss : List (Stop A B)) → agents_of (stop_of (record { node = n; enter = i; leave = j }) ∷ ss) ≡ record { node = n; enter = i; leave = j } ∷ agents_of ss
+  agent_first (inl x) i j ss = refl
+  agent_first (inr y) i j ss = refl
+
+  walk_agents : (u v : (A ⊎ B) × ℕ) (ps : List (Passage (A ⊎ B))) (l : L u) (e : E v) (w : Walk (after wire class) E L u ps v) → agents_of (walk_tour u v ps l e w).0 ≡ ps
+  unfolding walk_tour wire_tour
+  walk_agents u v [] l e w = no_agents (side_of (place u)) w.2.0
+  walk_agents u v (p ∷ ps) l e w =
+      past (side_of (place u)) w.0.2.0 (stop_of p ∷ (walk_tour (left p) v ps w.2 e w.3).0)
+      ∙ agent_first p.node p.enter p.leave (walk_tour (left p) v ps w.2 e w.3).0
+      ∙ ap (λ qs. p ∷ qs) (walk_agents (left p) v ps w.2 e w.3)
+
+  pub tour_agents : (c : Circuit (after wire class) E L) → agents_of ((closed_tour c).first ∷ (closed_tour c).rest) ≡ c.first ∷ c.rest
+  unfolding closed_tour
+  tour_agents c =
+      agent_first c.first.node c.first.enter c.first.leave (walk_tour (left c.first) (entered c.first) c.rest c.leaves c.enters c.closed).0
+      ∙ ap (λ qs. c.first ∷ qs) (walk_agents (left c.first) (entered c.first) c.rest c.leaves c.enters c.closed)

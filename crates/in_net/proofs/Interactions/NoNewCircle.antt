@@ -1,5 +1,5 @@
 -- An interaction makes no crossing circle, at nets.
-use Rattle.std.proofs.Common.{◌≡◌, ◌⊎◌, ◌≤◌, Bool, Option, Some, None, IsSomeAnd, ℕ, List, [], ◌∷◌, refl, sym, subst, ap, inl, inr, ◌∙◌}
+use Rattle.std.proofs.Common.{◌≡◌, ◌⊎◌, ◌≤◌, Bool, Option, Some, None, IsSomeAnd, ℕ, List, [], ◌∷◌, map, refl, sym, subst, ap, inl, inr, ◌∙◌}
 use mathlib.Core.HLevel.{Discrete}
 use Rattle.in_net.specs.Graphs.{Graph, Passage, entered, left, CrossingCircle, class_of_symbol, graph_of}
 use Rattle.in_net.specs.Nets.{Port, Free, Signature, AreClasses, Net, IsPoint, IsNet}
@@ -10,9 +10,9 @@ use Rattle.in_net.specs.InteractionPlaces.{wires, HasSymbol, IsAfter, IsByPlaces
 use Rattle.in_net.proofs.Interactions.Paths.{joined_back}
 use Rattle.in_net.proofs.Circuits.{Walk, AreSeparate, Circuit, IsEntered, IsLeft, circuit_of, crossings_separate}
 use Rattle.std.specs.List.{AllByRecursion}
-use Rattle.in_net.specs.Tours.{Stop, At_old, At_new, Through, enters, leaves, Tour, IsCrossingStop, AnyPlace, LaidOut}
+use Rattle.in_net.specs.Tours.{Stop, At_old, At_new, Through, enters, leaves, Tour, IsCrossingStop, AnyPlace, LaidOut, agents_of, renamed}
 use Rattle.in_net.proofs.Interactions.Stops.{Entered, Left}
-use Rattle.in_net.proofs.Interactions.Expand.{place, after, at_place, closed_tour}
+use Rattle.in_net.proofs.Interactions.Expand.{place, after, at_place, closed_tour, tour_agents}
 use Rattle.in_net.proofs.Interactions.Preserved.{classes, no_new_walk}
 use Rattle.in_net.proofs.Interactions.AtNets.{are_wires, sides, are_sides, port_agent, port_place}
 
@@ -74,10 +74,10 @@ module _ {A B C : Type 0} (sig : Signature) (classed : AreClasses sig) (n : Net 
     abbrev Result : Graph
     Result = after (wires sig n x) (classes (sides sig n x))
 
-    pull : (m : A ⊎ B) (j : ℕ) (ps : List (Passage C)) (c : C) (i : ℕ) → ((s : ℕ) × HasSymbol n x m s) → Walk (graph_of sig result) E L (name m, j) ps (c, i) → (l : A ⊎ B) × (qs : List (Passage (A ⊎ B))) × ((s : ℕ) × HasSymbol n x l s) × (name l ≡ c) × Walk Result E_in L_in (m, j) qs (l, i)
+    pull : (m : A ⊎ B) (j : ℕ) (ps : List (Passage C)) (c : C) (i : ℕ) → ((s : ℕ) × HasSymbol n x m s) → Walk (graph_of sig result) E L (name m, j) ps (c, i) → (l : A ⊎ B) × (qs : List (Passage (A ⊎ B))) × ((s : ℕ) × HasSymbol n x l s) × (name l ≡ c) × Walk Result E_in L_in (m, j) qs (l, i) × (map (renamed name) qs ≡ ps)
     pull m j [] c i there w =
         let r = pull_wire m j c i there w in
-        (r.0, [], r.1, r.2, r.3)
+        (r.0, [], r.1, r.2, r.3, refl)
     pull m j (p ∷ ps) c i there w =
         let r = pull_wire m j p.node p.enter there w.0 in
         let k = pull r.0 p.leave ps c i r.1 (subst (λ v. Walk (graph_of sig result) E L (v, p.leave) ps (c, i)) (sym r.2) w.3) in (
@@ -86,6 +86,7 @@ module _ {A B C : Type 0} (sig : Signature) (classed : AreClasses sig) (n : Net 
           k.2,
           k.3,
           (r.3, (r.1, subst (λ v. E (v, p.enter)) (sym r.2) w.1), (r.1, subst (λ v. L (v, p.leave)) (sym r.2) w.2), k.4),
+          ap (λ v. record { node = v; enter = p.enter; leave = p.leave } ∷ map (renamed name) k.1) r.2 ∙ ap (λ qs. p ∷ qs) k.5,
         )
 
     -- the agents keep their classes
@@ -107,18 +108,20 @@ module _ {A B C : Type 0} (sig : Signature) (classed : AreClasses sig) (n : Net 
         let a = named r.0 r.1 from.0 from.1 r.2 r.4 in
         (a.0, a.1, a.2)
 
-    pull_circuit : Circuit (graph_of sig result) E L → Circuit Result E_in L_in
+    pull_circuit : (c : Circuit (graph_of sig result) E L) → (d : Circuit Result E_in L_in) × (map (renamed name) (d.first ∷ d.rest) ≡ c.first ∷ c.rest)
     pull_circuit c =
         let m = start (left c.first) (entered c.first) c.rest c.closed in
         let k = pull m.0 c.first.leave c.rest c.first.node c.first.enter m.1 (subst (λ v. Walk (graph_of sig result) E L (v, c.first.leave) c.rest (entered c.first)) (sym m.2) c.closed) in
-        let same : k.0 ≡ m.0 = one_agent k.0 m.0 k.2 m.1 (k.3 ∙ sym m.2) in
-        record {
-          first = record { node = m.0; enter = c.first.enter; leave = c.first.leave };
-          rest = k.1;
-          enters = (m.1, subst (λ v. E (v, c.first.enter)) (sym m.2) c.enters);
-          leaves = (m.1, subst (λ v. L (v, c.first.leave)) (sym m.2) c.leaves);
-          closed = subst (λ l. Walk Result E_in L_in (m.0, c.first.leave) k.1 (l, c.first.enter)) same k.4;
-        }
+        let same : k.0 ≡ m.0 = one_agent k.0 m.0 k.2 m.1 (k.3 ∙ sym m.2) in (
+          record {
+            first = record { node = m.0; enter = c.first.enter; leave = c.first.leave };
+            rest = k.1;
+            enters = (m.1, subst (λ v. E (v, c.first.enter)) (sym m.2) c.enters);
+            leaves = (m.1, subst (λ v. L (v, c.first.leave)) (sym m.2) c.leaves);
+            closed = subst (λ l. Walk Result E_in L_in (m.0, c.first.leave) k.1 (l, c.first.enter)) same k.4;
+          },
+          ap (λ v. record { node = v; enter = c.first.enter; leave = c.first.leave } ∷ map (renamed name) k.1) m.2 ∙ ap (λ qs. c.first ∷ qs) k.5,
+        )
 
   -- a crossing circle after an interaction stood in the net before or in the open right member
   pub no_new_circle : Discrete A → Discrete B → Discrete (Bool × ℕ) → CrossingCircle (graph_of sig result) → CrossingCircle (graph_of sig n) ⊎ CrossingCircle (open_member sig x)
@@ -127,7 +130,7 @@ module _ {A B C : Type 0} (sig : Signature) (classed : AreClasses sig) (n : Net 
       let E : C × ℕ → Type 0 = IsEntered ps in
       let L : C × ℕ → Type 0 = IsLeft ps in
       no_new_walk (sides sig n x) sameA sameB sameC (wires sig n x) (are_wires sig n x net inside redex) (are_sides sig n x net inside redex classed)
-      (E_in E L) (L_in E L) (separate_in E L (crossings_separate (graph_of sig result) ps r.crossing r.apart)) (pull_circuit E L (circuit_of (graph_of sig result) r))
+      (E_in E L) (L_in E L) (separate_in E L (crossings_separate (graph_of sig result) ps r.crossing r.apart)) (pull_circuit E L (circuit_of (graph_of sig result) r)).0
 
   module _ (E L : C × ℕ → Type 0) (separate : AreSeparate (graph_of sig result) E L) where
     abbrev En : Side → Place A B → Type 0
@@ -145,12 +148,16 @@ module _ {A B C : Type 0} (sig : Signature) (classed : AreClasses sig) (n : Net 
     plain u v [] w = (w, tt)
     plain u v (q ∷ ss) w = let r = plain (leaves q) v ss w.3 in ((w.0, tt, tt, r.0), (crossing_stop q w.1 w.2, r.1))
 
-    laid : Circuit (graph_of sig result) E L → LaidOut sig n x
+    laid : (c : Circuit (graph_of sig result) E L) → (l : LaidOut sig n x) × (map (renamed name) (agents_of (l.first ∷ l.rest)) ≡ c.first ∷ c.rest)
     laid c =
-        let t = closed_tour (wires sig n x) (are_wires sig n x net inside redex) (classes (sides sig n x)) (E_in E L) (L_in E L) (pull_circuit E L c) in
-        let r = plain (leaves t.first) (enters t.first) t.rest t.closed in
-        record { first = t.first; rest = t.rest; closed = r.0; crossing = (crossing_stop t.first t.enter t.leave, r.1) }
+        let d = pull_circuit E L c in
+        let t = closed_tour (wires sig n x) (are_wires sig n x net inside redex) (classes (sides sig n x)) (E_in E L) (L_in E L) d.0 in
+        let r = plain (leaves t.first) (enters t.first) t.rest t.closed in (
+          record { first = t.first; rest = t.rest; closed = r.0; crossing = (crossing_stop t.first t.enter t.leave, r.1) },
+          ap (map (renamed name)) (tour_agents (wires sig n x) (are_wires sig n x net inside redex) (classes (sides sig n x)) (E_in E L) (L_in E L) d.0) ∙ d.1,
+        )
 
   -- a crossing circle after an interaction, laid out wire by wire
-  pub laid_out : CrossingCircle (graph_of sig result) → LaidOut sig n x
-  laid_out r = laid (IsEntered (r.first ∷ r.rest)) (IsLeft (r.first ∷ r.rest)) (crossings_separate (graph_of sig result) (r.first ∷ r.rest) r.crossing r.apart) (circuit_of (graph_of sig result) r)
+  pub laid_out : (r : CrossingCircle (graph_of sig result)) → (l : LaidOut sig n x) × (map (renamed name) (agents_of (l.first ∷ l.rest)) ≡ r.first ∷ r.rest)
+  laid_out r =
+      laid (IsEntered (r.first ∷ r.rest)) (IsLeft (r.first ∷ r.rest)) (crossings_separate (graph_of sig result) (r.first ∷ r.rest) r.crossing r.apart) (circuit_of (graph_of sig result) r)
