@@ -129,8 +129,9 @@ impl<const WIDTH: usize> Region<WIDTH> {
             base,
             mut cells,
         } = held;
-        let free = Content::free(self.next);
-        *cells.get_mut(base, index as usize) = free;
+        let content = cells.get_mut(base, index as usize);
+        content.word = self.next;
+        content.count = 0;
         self.cells.join(cells);
         self.next = index;
         self.free += 1;
@@ -168,8 +169,10 @@ impl<const WIDTH: usize> Region<WIDTH> {
         ensures { Becomes self.old self.new index Vacant }
     {
         let base = self.base;
-        let free = Content::free(self.next);
-        *self.cells.get_mut(base, index as usize) = free;
+        let next = self.next;
+        let cell = self.cells.get_mut(base, index as usize);
+        cell.word = next;
+        cell.count = 0;
         self.next = index;
         self.free += 1;
     }

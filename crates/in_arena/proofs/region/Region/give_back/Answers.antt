@@ -1,5 +1,6 @@
-use Rattle.std.proofs.Common.{◌∙◌, ap, arith}
+use Rattle.std.proofs.Common.{◌∙◌, refl, ap, arith}
 use Rattle.in_arena.specs.Regions.{vacancy}
+use Rattle.in_arena.specs.declared.content.Content.{Content}
 use Rattle.in_arena.proofs.Regions.{freed, free_small, back, written}
 use Rattle.in_arena.proofs.region.Region.give_back.Goals as goal
 
@@ -8,5 +9,6 @@ overflow_add-self g c = record { fits = free_small c.args.self.now c.requires.0 
 
 pub returns : goal.returns
 returns g c =
-    let r = c.args.self.now in let l = c.args.held in let o = c.requires.1 in let v = c.free-free in
-    freed r c.join.new.self l.index v.result c.requires.0 c.join.ensures.0 (c.join.ensures.1 ∙ back r l o v.result _ (written l v.result o.held)) (omega (arith, o.held.index.0, o.size)) (ap vacancy o.out) v.ensures.1 v.ensures.0
+    let r = c.args.self.now in let l = c.args.held in let o = c.requires.1 in
+    let new : Content g.row.WIDTH = record { word = r.next; count = 0; ends = c.get_mut-content.result.now.ends } in
+    freed r c.join.new.self l.index new c.requires.0 c.join.ensures.0 (c.join.ensures.1 ∙ back r l o new _ (written l new o.held)) (omega (arith, o.held.index.0, o.size)) (ap vacancy o.out) refl refl
