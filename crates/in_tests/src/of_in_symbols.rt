@@ -1,4 +1,4 @@
-use crate::programs::SUMS;
+use in_test_texts::SUMS;
 use in_symbols::{PortType, SymbolNo, Symbols};
 use in_syntax::{Code, Fault, Refusal, parse};
 use std::alloc::Global;

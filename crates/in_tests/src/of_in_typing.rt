@@ -1,4 +1,4 @@
-use crate::programs::SUMS;
+use in_test_texts::SUMS;
 use in_net::{build_net, build_rule};
 use in_symbols::Symbols;
 use in_syntax::{Code, Fault, Refusal, parse};

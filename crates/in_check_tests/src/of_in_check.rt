@@ -1,4 +1,4 @@
-use crate::programs::{ADDITION, DUPLICATION, SUMS};
+use in_test_texts::{ADDITION, DUPLICATION, SUMS};
 use in_check::{Checked, Counts, Item, check};
 use in_cover::RuleNo;
 use in_simple::{Derivation, Node, OpenNet, Point, Step, verify};

@@ -1,5 +1,5 @@
 use crate::devices::{Paper, Stop, Tape};
-use crate::programs::{ADDITION, DUPLICATION, ERASURE, NUMBERS, SUMS};
+use in_test_texts::{ADDITION, DUPLICATION, ERASURE, NUMBERS, SUMS};
 use in_program::{Status, act, tell_usage};
 use in_syntax::{MemoryIn, MemoryOut};
 use in_words::{Action, Usage};

@@ -1,7 +1,7 @@
 ghost use Rattle.std.specs.Prelude.{◌≡◌, true};
 ghost use Rattle.in_cover.specs.Cover.{IsPair};
 
-use crate::programs::SUMS;
+use in_test_texts::SUMS;
 use in_check::{Checked, check};
 use in_cover::RuleNo;
 use in_symbols::{SymbolNo, Symbols};

@@ -1,6 +1,6 @@
 ghost use Rattle.in_check.specs.Programs.{IsItem};
 
-use crate::programs::{ADDITION, DUPLICATION, SUMS};
+use in_test_texts::{ADDITION, DUPLICATION, SUMS};
 use in_check::{Checked, Item, check};
 use in_cover::RuleNo;
 use in_simple::{Derivation, OpenNet, Step, StepNumbers, verify};
