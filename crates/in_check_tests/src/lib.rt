@@ -3,6 +3,8 @@
 #![tactic(auto)]
 
 #[cfg(test)]
+mod of_definitions;
+#[cfg(test)]
 mod of_in_check;
 #[cfg(test)]
 mod of_in_cover;

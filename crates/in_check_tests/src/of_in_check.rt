@@ -1,9 +1,9 @@
-use in_test_texts::{ADDITION, DUPLICATION, SUMS};
 use in_check::{Checked, Counts, Item, check};
 use in_cover::RuleNo;
 use in_simple::{Derivation, Node, OpenNet, Point, Step, verify};
 use in_symbols::SymbolNo;
 use in_syntax::{Code, Fault};
+use in_test_texts::{ADDITION, DUPLICATION, SUMS};
 use sqlite_items::Items;
 use std::alloc::Global;
 use std::test::Fail;

@@ -1,11 +1,11 @@
 ghost use Rattle.std.specs.Prelude.{◌≡◌, true};
 ghost use Rattle.in_cover.specs.Cover.{IsPair};
 
-use in_test_texts::SUMS;
 use in_check::{Checked, check};
 use in_cover::RuleNo;
 use in_symbols::{SymbolNo, Symbols};
 use in_syntax::{Code, Fault, Place, Refusal};
+use in_test_texts::SUMS;
 use std::alloc::Global;
 use std::test::Fail;
 

@@ -1,10 +1,10 @@
 ghost use Rattle.in_check.specs.Programs.{IsItem};
 
-use in_test_texts::{ADDITION, DUPLICATION, SUMS};
 use in_check::{Checked, Item, check};
 use in_cover::RuleNo;
 use in_simple::{Derivation, OpenNet, Step, StepNumbers, verify};
 use in_syntax::Fault;
+use in_test_texts::{ADDITION, DUPLICATION, SUMS};
 use sqlite_items::Items;
 use std::alloc::{AllocError, Global};
 use std::test::Fail;

@@ -1,8 +1,9 @@
 -- Known bytes that grow twice, and writes of fronts.
-use Rattle.std.proofs.Common.{◌≡◌, ℕ, zero, suc, ◌<◌, ◌+◌, ◌-◌, List, ◌++◌, take, drop, length, Option, Some, None, Ok, refl, sym, ◌∙◌, ap, append_assoc, arith, take-append-drop}
+use Rattle.std.proofs.Common.{◌≡◌, ℕ, zero, suc, ◌<◌, ◌≤◌, ◌+◌, ◌-◌, ◌^◌, List, ◌++◌, take, drop, length, Option, Some, None, Ok, refl, sym, subst, ◌∙◌, ap, append_assoc, arith, take-append-drop}
 use Rattle.std.proofs.lemmas.List.{take-take, drop-take, take_rest}
+use Rattle.std.proofs.Math.Nat.{min-le_left}
 use Rattle.std.specs.Io.KnownBytes.{append_known}
-use Rattle.in_syntax.specs.Streams.{fails_write}
+use Rattle.in_syntax.specs.Streams.{fails_write, one_more}
 
 pub append_known-twice : (known : Option (List ℕ)) (a b : List ℕ) → append_known (append_known known a) b ≡ append_known known (a ++ b)
 append_known-twice None a b = refl
@@ -22,3 +23,7 @@ written i n bytes = ap (λ z. take i bytes ++ take n z) (take_rest bytes i) ∙ 
 pub takes_some : (n : ℕ) (bytes : List ℕ) → 0 < n → fails_write (Ok n) bytes ≡ 0
 takes_some zero bytes lt = absurd (omega arith)
 takes_some (suc n) bytes lt = refl
+
+-- a count is one more at most
+pub counted : (old new : ℕ) → new ≡ one_more old → new ≤ old + 1
+counted old new e = subst (λ z. z ≤ old + 1) (sym e) (min-le_left (old + 1) (2 ^ 64 - 1))

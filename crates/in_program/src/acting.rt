@@ -1,6 +1,6 @@
-ghost use Rattle.std.specs.Prelude.{◌≡◌, ◌+◌, ◌-◌, ◌^◌, ◌<◌, IfOk};
+ghost use Rattle.std.specs.Prelude.{◌≡◌, ◌-◌, ◌^◌, ◌<◌, IfOk};
 ghost use Rattle.in_program.specs.Acting.{Acts, IsReply, accepted_lines, Tells, TellsUsage};
-ghost use Rattle.in_program.specs.Devices.{device, most_reads, reader_of};
+ghost use Rattle.in_program.specs.Devices.{device, reader_of};
 
 use crate::lines::{accepted_line, refused_line};
 use crate::reading::{Input, read_text};
@@ -84,7 +84,6 @@ pub fn act<R: TextIn, W: TextOut>(
     writer: &mut W,
 ) -> Status
     requires reader { R.failures reader.old < 2 ^ 64 - 1 }
-    requires reads { R.reads reader.old + most_reads < 2 ^ 64 }
     requires writer { W.failures writer.old < 2 ^ 64 - 1 }
     ensures { Acts action.now (reader_of (R.given reader.old) (R.failures reader.old) (R.reads reader.old) (R.ended reader.old)) (reader_of (R.given reader.new) (R.failures reader.new) (R.reads reader.new) (R.ended reader.new)) (device (W.taken writer.old) (W.failures writer.old)) (device (W.taken writer.new) (W.failures writer.new)) result }
 {

@@ -54,7 +54,7 @@ impl TextIn for Tape<'_> {
     ghost reads = { λ s. s.reads };
 
     fn read(&mut self, into: &mut [u8]) -> Result<usize, ()> {
-        self.reads += 1;
+        self.reads = self.reads.saturating_add(1);
         if self.reads == self.failing {
             self.failures += 1;
             return Err(());

@@ -1,5 +1,5 @@
 -- What one read or write moves, and when it has failed. This project's own choice.
-use Rattle.std.specs.Prelude.{◌≡◌, ℕ, zero, Bool, true, List, ◌∷◌, take, Option, Result, Ok, Err}
+use Rattle.std.specs.Prelude.{◌≡◌, ℕ, zero, ◌+◌, ◌-◌, ◌^◌, min, Bool, true, List, ◌∷◌, take, Option, Result, Ok, Err}
 use Rattle.std.specs.Io.KnownBytes.{append_known}
 
 -- the front of the bytes that the answer names was moved, or nothing where the call failed
@@ -23,3 +23,7 @@ abbrev pub fails_write : Result ℕ (Unit {0}) → List ℕ → ℕ
 fails_write (Ok zero) (b ∷ bytes) = 1
 fails_write (Ok n) bytes = 0
 fails_write (Err e) bytes = 1
+
+-- one more call, in a count of 64 bits that stays at its greatest value
+abbrev pub one_more : ℕ → ℕ
+one_more n = min (n + 1) (2 ^ 64 - 1)

@@ -40,7 +40,7 @@ impl TextIn for MemoryIn<'_> {
     ghost reads = { λ s. s.reads };
 
     fn read(&mut self, into: &mut [u8]) -> Result<usize, ()> {
-        self.reads += 1;
+        self.reads = self.reads.saturating_add(1);
         let left = self.text.len() - self.at;
         let n = left.min(into.len());
         if n == 0 && !into.is_empty() {

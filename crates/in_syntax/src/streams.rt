@@ -1,5 +1,5 @@
 ghost use Rattle.std.specs.Prelude.{◌≡◌, ℕ, ◌+◌, ◌-◌, ◌^◌, ◌<◌, ◌≤◌, Bool, List, Option, length, IfOk};
-ghost use Rattle.in_syntax.specs.Streams.{Moves, ended_after, fails_read, fails_write};
+ghost use Rattle.in_syntax.specs.Streams.{Moves, ended_after, fails_read, fails_write, one_more};
 
 /// Where a text comes from.
 pub trait TextIn {
@@ -12,18 +12,17 @@ pub trait TextIn {
     /// How many reads failed.
     ghost failures: { Self → ℕ };
 
-    /// How many reads there were.
+    /// How many reads there were, as a number of 64 bits that stays at its greatest value.
     ghost reads: { Self → ℕ };
 
     /// Reads up to as many bytes as are lent, and says how many. 0 bytes for a slice that isn't empty is the end.
     fn read(&mut self, into: &mut [u8]) -> Result<usize, ()>
-        requires failures { failures self.old < 2 ^ 64 - 1 }
-        requires reads { reads self.old < 2 ^ 64 - 1 }
+        requires { failures self.old < 2 ^ 64 - 1 }
         ensures within { IfOk result (λ n. n ≤ length into.new) }
         ensures given { Moves (given self.old) (given self.new) result into.new }
         ensures ended { ended self.new ≡ ended_after (ended self.old) result into.new }
         ensures failures { failures self.new ≡ failures self.old + fails_read result }
-        ensures reads { reads self.new ≡ reads self.old + 1 };
+        ensures reads { reads self.new ≡ one_more (reads self.old) };
 }
 
 /// Where a text goes.

@@ -55,20 +55,11 @@ pub struct SourceSymbol {
 
 impl SourceSymbol {
     /// The symbol with one more class, at the end. Its only error is want of memory.
-    pub(crate) fn with_class(self, class: SourceClass) -> Result<SourceSymbol, AllocError>
+    pub(crate) fn with_class(mut self, class: SourceClass) -> Result<SourceSymbol, AllocError>
         ensures { IfOk result (λ t. t ≡ with_class self class) }
     {
-        let SourceSymbol {
-            name,
-            port,
-            mut classes,
-        } = self;
-        classes.push(class)?;
-        Ok(SourceSymbol {
-            name,
-            port,
-            classes,
-        })
+        self.classes.push(class)?;
+        Ok(self)
     }
 }
 
@@ -98,12 +89,11 @@ impl Head {
     }
 
     /// The head with one more term, at the end. Its only error is want of memory.
-    pub(crate) fn with_term(self, term: Term) -> Result<Head, AllocError>
+    pub(crate) fn with_term(mut self, term: Term) -> Result<Head, AllocError>
         ensures { IfOk result (λ h. h ≡ with_term self term) }
     {
-        let Head { name, mut terms } = self;
-        terms.push(term)?;
-        Ok(Head { name, terms })
+        self.terms.push(term)?;
+        Ok(self)
     }
 }
 
@@ -126,12 +116,11 @@ impl Term {
     }
 
     /// The term with one more argument, at the end. Its only error is want of memory.
-    pub(crate) fn with_argument(self, argument: Term) -> Result<Term, AllocError>
+    pub(crate) fn with_argument(mut self, argument: Term) -> Result<Term, AllocError>
         ensures { IfOk result (λ t. t ≡ with_argument self argument) }
     {
-        let Term { name, mut args } = self;
-        args.push(argument)?;
-        Ok(Term { name, args })
+        self.args.push(argument)?;
+        Ok(self)
     }
 }
 
@@ -159,14 +148,10 @@ pub struct SourceNet {
 
 impl SourceNet {
     /// The net with one more equation, at the end. Its only error is want of memory.
-    pub(crate) fn with_equation(self, equation: Equation) -> Result<SourceNet, AllocError>
+    pub(crate) fn with_equation(mut self, equation: Equation) -> Result<SourceNet, AllocError>
         ensures { IfOk result (λ t. t ≡ with_equation self equation) }
     {
-        let SourceNet {
-            free,
-            mut equations,
-        } = self;
-        equations.push(equation)?;
-        Ok(SourceNet { free, equations })
+        self.equations.push(equation)?;
+        Ok(self)
     }
 }

@@ -36,7 +36,7 @@ impl<R: Read> TextIn for StreamIn<R> {
     ghost reads = { λ s. s.reads };
 
     fn read(&mut self, into: &mut [u8]) -> Result<usize, ()> {
-        self.reads += 1;
+        self.reads = self.reads.saturating_add(1);
         match self.reader.read(into) {
             Ok(n) => {
                 if n == 0 && !into.is_empty() {

@@ -1,11 +1,12 @@
 use Rattle.std.proofs.Common.{◌++◌, take, length-append, ap, ◌∙◌, arith}
 use Rattle.std.specs.Io.KnownBytes.{append_known}
-use Rattle.in_program.proofs.Known.{append_known-twice}
+use Rattle.in_program.proofs.Known.{append_known-twice, counted}
 use Rattle.in_program.proofs.reading.read_text.Goals as goal
 
 pub returns-then-is_err : goal.returns-then-is_err
 returns-then-is_err g c =
-    let more = length-append c.loop-turn.text.items (take c.in-Ok.n c.read.new.into) in (
+    let more = length-append c.loop-turn.text.items (take c.in-Ok.n c.read.new.into) in
+    let one = counted _ _ c.in-Ok.ensures.reads in (
       c.loop-turn.text.items ++ take c.in-Ok.n c.read.new.into,
       record {
         moves = record {
@@ -14,8 +15,8 @@ returns-then-is_err g c =
           sound = omega (arith, c.in-Ok.ensures.failures, c.loop-turn.invariant.moves.sound);
         };
         few = record {
-          each = omega (arith, more, c.in-Ok.ensures.reads, c.loop-turn.invariant.reads, c.loop-turn.invariant.grows);
-          most = omega (arith, c.in-Ok.ensures.reads, c.loop-turn.invariant.reads);
+          each = omega (arith, more, one, c.loop-turn.invariant.reads, c.loop-turn.invariant.grows);
+          most = omega (arith, one, c.loop-turn.invariant.reads);
         };
       },
     )

@@ -6,7 +6,7 @@ use Rattle.in_program.proofs.reading.read_text.Given as goal
 abbrev pub invariant-loop-turn : goal.invariant-loop-turn
 invariant-loop-turn g l = record {
   moves : Moves (device (g.R.TextIn.given l.fn.reader) (g.R.TextIn.failures l.fn.reader)) (device (g.R.TextIn.given l.reader) (g.R.TextIn.failures l.reader)) l.text.items;
-  reads : g.R.TextIn.reads l.reader ≡ g.R.TextIn.reads l.fn.reader + l._turn;
+  reads : g.R.TextIn.reads l.reader ≤ g.R.TextIn.reads l.fn.reader + l._turn;
   grows : l._turn ≤ length l.text.items;
   within : length l.text.items ≤ text_limit;
 }

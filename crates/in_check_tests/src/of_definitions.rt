@@ -1,0 +1,87 @@
+//! Tests of the definitions by which a text is accepted or refused: where a call below answers a value, no other answer is allowed by
+//! them, whatever the code does.
+ghost use Rattle.std.specs.Prelude.{◌≡◌, ¬, IfSome};
+ghost use Rattle.in_syntax.specs.declared.faults.Refusal.{Refusal};
+ghost use Rattle.in_check.specs.Checking.{IsAccepted, IsRefused};
+ghost use Rattle.in_check.specs.Laws.{AreOneProgram};
+ghost use Rattle.in_check.specs.Programs.{Program};
+
+use in_check::laws::texts_are_checked_once;
+use in_check::{Checked, Item, check};
+use in_simple::Step;
+use in_syntax::{Code, Fault, Refusal};
+use std::alloc::Global;
+use std::test::Fail;
+
+/// The refusal of a text, which is the only one, and then no program of the text is accepted.
+fn only_refusal(alloc: Global, text: &[u8]) -> Option<Refusal>
+    ensures alone { IfSome result (λ r. (s : Refusal) → IsRefused text.now s → r ≡ s) }
+    ensures never { IfSome result (λ r. (p : Program) → IsAccepted text.now p → ⊥) }
+{
+    texts_are_checked_once();
+    match check(alloc, text) {
+        Err(Fault::Refused(refusal)) => Some(refusal),
+        _ => None,
+    }
+}
+
+/// The accepted program of a text, which is the only one, and then the text has no refusal.
+fn only_program(alloc: Global, text: &[u8]) -> Option<Checked>
+    ensures alone { IfSome result (λ p. (q : Program) → IsAccepted text.now q → AreOneProgram p q) }
+    ensures never { IfSome result (λ p. (r : Refusal) → IsRefused text.now r → ⊥) }
+{
+    texts_are_checked_once();
+    match check(alloc, text) {
+        Ok(checked) => Some(checked),
+        Err(_) => None,
+    }
+}
+
+/// Where the text is refused, and by which code.
+fn refused(alloc: Global, text: &str) -> Option<(Code, u32, u32)> {
+    let refusal = only_refusal(alloc, text.as_bytes())?;
+    Some((refusal.code, refusal.place.line, refusal.place.col))
+}
+
+/// Whether the net of the text is built by its first wire alone, and the definitions allow no other steps.
+fn is_one_wire(alloc: Global, text: &str) -> Option<bool> {
+    let checked = only_program(alloc, text.as_bytes())?;
+    match checked.certificate(Item::NetItem).steps.as_slice() {
+        [Step::Link { wire: 0 }] => Some(true),
+        _ => Some(false),
+    }
+}
+
+#[test]
+fn two_outputs_are_never_joined(rt: HostRuntime) -> Result<(), Fail> {
+    let text = "type nat;\nnet (a : nat+, b : nat+) {\n  a ~ b;\n}\n";
+    assert_eq!(rt; refused(rt.alloc(), text), Some((Code::E10, 3, 5)));
+    Ok(())
+}
+
+#[test]
+fn the_first_wire_that_does_not_fit_is_refused(rt: HostRuntime) -> Result<(), Fail> {
+    let text = "type nat;\nnet (a : nat+, b : nat-, c : nat-, d : nat-) {\n  a ~ b;\n  c ~ d;\n}\n";
+    assert_eq!(rt; refused(rt.alloc(), text), Some((Code::E10, 4, 5)));
+    let text = "type nat;\nnet (a : nat-, b : nat-, c : nat-, d : nat-) {\n  a ~ b;\n  c ~ d;\n}\n";
+    assert_eq!(rt; refused(rt.alloc(), text), Some((Code::E10, 3, 5)));
+    Ok(())
+}
+
+#[test]
+fn types_come_before_simplicity(rt: HostRuntime) -> Result<(), Fail> {
+    let alloc = rt.alloc();
+    let stuck = "type nat; symbol Z : nat+; symbol W : nat- {nat-, nat+}; rule Z[] >< W[x, x];\n";
+    let text = format!(in alloc; "{stuck}net (a : nat+, b : nat+) {{ a ~ b; }}\n")?;
+    assert_eq!(rt; refused(alloc, text.as_str()), Some((Code::E10, 2, 30)));
+    let text = format!(in alloc; "{stuck}net (a : nat+, b : nat-) {{ a ~ b; }}\n")?;
+    assert_eq!(rt; refused(alloc, text.as_str()), Some((Code::E12, 1, 70)));
+    Ok(())
+}
+
+#[test]
+fn a_wire_is_built_by_one_step(rt: HostRuntime) -> Result<(), Fail> {
+    let text = "type nat;\nnet (a : nat+, b : nat-) { a ~ b; }\n";
+    assert_eq!(rt; is_one_wire(rt.alloc(), text), Some(true));
+    Ok(())
+}
