@@ -9,12 +9,12 @@ use Rattle.in_symbols.specs.Tables.{Tables}
 use Rattle.in_net.specs.Rules.{RuleParts}
 use Rattle.in_simple.specs.OpenNets.{OpenNet}
 use Rattle.in_simple.specs.OpeningRules.{IsRuleWhole}
-use Rattle.in_simple.proofs.Sums.{got}
 use Rattle.in_simple.proofs.TextRules.{rule_whole}
 use Rattle.in_check.specs.declared.checked.Certificate.{Certificate}
 use Rattle.in_check.specs.Certificates.{Certifies, CertifiesRule, CertifiesRules, CertifiesSome}
 use Rattle.in_check.specs.Checking.{BuildsRules}
 use Rattle.in_check.proofs.Passes.{all_of, last_or_before}
+use Rattle.in_base.proofs.Each.{at_index}
 
 -- ---- rule by rule
 
@@ -30,7 +30,7 @@ at_stuck_rule t rules cs i p (Refused r) at count each refuses = record {
   rule = p;
   stands = at;
   refused = refuses;
-  first = λ j q less e. let c = got cs j (omega (arith, less, count)) in (c.0, each j q c.0 e c.1);
+  first = λ j q less e. let c = at_index cs j (omega (arith, less, count)) in (c.0, each j q c.0 e c.1);
 }
 
 pub same_rule : (p q : RuleParts) → Some p ≡ Some q → p ≡ q

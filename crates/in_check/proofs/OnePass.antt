@@ -18,13 +18,12 @@ use Rattle.in_simple.specs.Derivations.{IsDerivation}
 use Rattle.in_simple.specs.TakenOrder.{AreTaken}
 use Rattle.in_simple.proofs.OneAnswer.{derived_once, one_stuck_place}
 use Rattle.in_simple.proofs.OneOpening.{by_elements}
-use Rattle.in_simple.proofs.Sums.{got}
 use Rattle.in_simple.proofs.Whole.{derivation_builds}
-use Rattle.in_cover.proofs.Numbered.{all_at}
 use Rattle.in_check.specs.declared.checked.Certificate.{Certificate}
 use Rattle.in_check.specs.Certificates.{IsCertificate, IsRefusedAt, CertifiesRule, CertifiesRules, CertifiesSome}
 use Rattle.in_check.specs.Checking.{BuildsRules, TypesRules, TypePasses}
 use Rattle.in_check.proofs.Certified.{same_rule}
+use Rattle.in_base.proofs.Each.{at_index, all_at}
 
 -- ---- the rules of a text
 
@@ -32,12 +31,12 @@ pub one_rules : (s : Source) (t : Tables) → ((i : ℕ) → IsOne (BuildsRule s
 one_rules s t one (Ok xs) (Ok ys) h k = by_elements xs ys (h.count ∙ sym k.count) (λ i x y is at. one i (Ok x) (Ok y) (h.each i x is) (k.each i y at))
 one_rules s t one (Ok xs) (Err (Refused r)) h k =
     let there : k.number < length s.rules = slice_get_within s.rules k.number k.stands.0 k.stands.1 in
-    let x = got xs k.number (let e = h.count in omega (arith, there, e)) in
+    let x = at_index xs k.number (let e = h.count in omega (arith, there, e)) in
     one k.number (Ok x.0) (Err (Refused r)) (h.each k.number x.0 x.1) k.stands
 one_rules s t one (Ok xs) (Err (Memory e)) h k = tt
 one_rules s t one (Err (Refused q)) (Ok ys) h k =
     let there : h.number < length s.rules = slice_get_within s.rules h.number h.stands.0 h.stands.1 in
-    let y = got ys h.number (let e = k.count in omega (arith, there, e)) in
+    let y = at_index ys h.number (let e = k.count in omega (arith, there, e)) in
     one h.number (Err (Refused q)) (Ok y.0) h.stands (k.each h.number y.0 y.1)
 one_rules s t one (Err (Refused q)) (Err (Refused r)) h k = by_order (cases_order h.number k.number)
   where
@@ -112,16 +111,16 @@ one_rules_steps t rules one (Ok cs) (Ok ds) h k = by_elements cs ds (h.count ∙
     at_rule : (i : ℕ) (c d : Certificate) → slice_get cs i ≡ Some c → slice_get ds i ≡ Some d → c ≡ d
     at_rule i c d is at =
         let lt = slice_get_within cs i c is in
-        let p = got rules i (let e = h.count in omega (arith, lt, e)) in
+        let p = at_index rules i (let e = h.count in omega (arith, lt, e)) in
         one i p.0 p.1 (Ok c) (Ok d) (h.each i p.0 c p.1 is) (k.each i p.0 d p.1 at)
 one_rules_steps t rules one (Ok cs) (Err (Refused r)) h k =
     let lt = slice_get_within rules k.number k.rule k.stands in
-    let c = got cs k.number (let e = h.count in omega (arith, lt, e)) in
+    let c = at_index cs k.number (let e = h.count in omega (arith, lt, e)) in
     one k.number k.rule k.stands (Ok c.0) (Err (Refused r)) (h.each k.number k.rule c.0 k.stands c.1) k.refused
 one_rules_steps t rules one (Ok cs) (Err (Memory e)) h k = tt
 one_rules_steps t rules one (Err (Refused q)) (Ok ds) h k =
     let lt = slice_get_within rules h.number h.rule h.stands in
-    let d = got ds h.number (let e = k.count in omega (arith, lt, e)) in
+    let d = at_index ds h.number (let e = k.count in omega (arith, lt, e)) in
     one h.number h.rule h.stands (Err (Refused q)) (Ok d.0) h.refused (k.each h.number h.rule d.0 h.stands d.1)
 one_rules_steps t rules one (Err (Refused q)) (Err (Refused r)) h k = by_order (cases_order h.number k.number)
   where

@@ -8,9 +8,9 @@ use Rattle.in_syntax.specs.declared.tree.Source.{Source}
 use Rattle.in_symbols.specs.Tables.{Tables}
 use Rattle.in_net.specs.Rules.{RuleParts, BuildsRule, IsRuleOver}
 use Rattle.in_typing.specs.Typed.{TypesRule}
-use Rattle.in_simple.proofs.Sums.{got}
 use Rattle.in_cover.specs.Cover.{IsOfPair}
 use Rattle.in_check.specs.Checking.{BuildsRules, TypesRules}
+use Rattle.in_base.proofs.Each.{at_index}
 
 -- ---- rules
 
@@ -20,7 +20,7 @@ at_rule s t rules i (Memory e) count each refuses = tt
 at_rule s t rules i (Refused r) count each refuses = record {
   number = i;
   stands = refuses;
-  first = λ j lt. let here = got rules j (omega (arith, lt, count)) in (here.0, each j here.0 here.1);
+  first = λ j lt. let here = at_index rules j (omega (arith, lt, count)) in (here.0, each j here.0 here.1);
 }
 
 -- one more rule is built

@@ -1,7 +1,7 @@
 -- Where the table holds all rules and has no gap, the rules are complete; else the first gap is the first pair without a rule.
 use Rattle.std.proofs.Common.{◌≡◌, ◌⊎◌, ◌↔◌, ℕ, ◌<◌, ◌≤◌, Bool, true, false, nat_eq, ◌&&◌, List, length, Option, Some, None, IsSome, refl, sym, ◌∙◌, ap, subst, inl, inr, arith}
 use Rattle.std.specs.List.{AllByRecursion}
-use Rattle.std.proofs.lemmas.Bool.{cases_lt, cases_order}
+use Rattle.std.proofs.lemmas.Bool.{cases_lt, cases_order, and_parts}
 use Rattle.std.proofs.lemmas.Bool.Decides.{nat_tests}
 use Rattle.std.proofs.lemmas.Option.{none-some, same_Some, slice_get_within}
 use Rattle.in_syntax.specs.declared.faults.Refusal.{Refusal}
@@ -11,7 +11,8 @@ use Rattle.in_cover.specs.declared.table.RuleNo.{RuleNo}
 use Rattle.in_cover.specs.Cover.{IsPair, IsOfPair, IsFor, IsRuleFor, IsComplete, IsTableOf, IsMissing, IsMissingAt, IsFirstMissing}
 use Rattle.in_cover.specs.Covering.{HoldsBelow, IsGap, HasNoGapBelow, HasNoGapIn}
 use Rattle.in_cover.specs.Table.{Cells, rule_at}
-use Rattle.in_cover.proofs.Numbered.{all_at, turn_rule}
+use Rattle.in_cover.proofs.Numbered.{turn_rule}
+use Rattle.in_base.proofs.Each.{all_at}
 
 -- ---- matching symbols
 
@@ -24,11 +25,6 @@ opposite_turned false false = refl
 not_itself : (a : Bool) → are_opposite a a ≡ true → ⊥
 not_itself true e = cc
 not_itself false e = cc
-
-both_true : (a b : Bool) → (a && b) ≡ true → (a ≡ true) × (b ≡ true)
-both_true true true e = (refl, refl)
-both_true true false e = cc
-both_true false b e = cc
 
 equal_turned : (m n : ℕ) → nat_eq m n ≡ nat_eq n m
 equal_turned m n = grind (arith, nat_tests)
@@ -43,7 +39,7 @@ turn_pair t c d h = record { first = h.second; second = h.first; matched = match
 
 no_pair : (t : Tables) (c d : ℕ) → c ≡ d → IsPair t c d → ⊥
 no_pair t c d same h =
-    not_itself (is_constructor t d) (both_true (nat_eq (port_at t d 0).kind (port_at t d 0).kind) (are_opposite (is_constructor t d) (is_constructor t d)) (subst (λ x. matching t x d ≡ true) same h.matched)).1
+    not_itself (is_constructor t d) (and_parts (nat_eq (port_at t d 0).kind (port_at t d 0).kind) (are_opposite (is_constructor t d) (is_constructor t d)) (subst (λ x. matching t x d ≡ true) same h.matched)).1
 
 -- ---- the whole table
 

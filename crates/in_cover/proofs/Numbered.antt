@@ -8,11 +8,7 @@ use Rattle.in_cover.specs.declared.table.RuleNo.{RuleNo}
 use Rattle.in_cover.specs.Cover.{IsFor, IsRuleFor, IsSecond, HasNoSecond}
 use Rattle.in_cover.specs.Covering.{HasNoRule, SetsBoth, HoldsBelow}
 use Rattle.in_cover.specs.Table.{Cells, rule_at}
-
-pub all_at : {X : Type 0} (P : X → Type 0) (xs : List X) (i : ℕ) (x : X) → AllByRecursion P xs → slice_get xs i ≡ Some x → P x
-all_at P [] i x h e = absurd (none-some x e)
-all_at P (y ∷ ys) zero x h e = subst P (same_Some y x e) h.0
-all_at P (y ∷ ys) (suc i) x h e = all_at P ys i x h.1 e
+use Rattle.in_base.proofs.Each.{all_at}
 
 -- ---- two symbols in either order
 

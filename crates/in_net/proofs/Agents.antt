@@ -20,9 +20,11 @@ use Rattle.in_net.specs.Reading.{with_agent, with_joint, with_ends, reader_of, r
 use Rattle.in_net.specs.Building.{ends_from, cells_of, free_ends_from}
 use Rattle.in_net.specs.Built.{IsCellOver}
 use Rattle.in_net.specs.TextNet.{Body, LeftHead, Written, written_by, agents_of, agents_of_heads, agents_of_equations, agents_of_body, AreCellsFor, AreFreeOf}
-use Rattle.in_net.proofs.Folds.{names_out, read_agent, read_occurrence}
+use Rattle.in_net.proofs.Folds.{read_agent, read_occurrence}
 use Rattle.in_net.proofs.Known.{AreHeadsKnown, IsBodyKnown, all_known}
-use Rattle.in_net.proofs.HeadsOf.{two, arguments_known, no_arguments}
+use Rattle.in_net.proofs.HeadsOf.{arguments_known, no_arguments}
+use Rattle.std.proofs.lemmas.Bool.{and_parts}
+use Rattle.in_syntax.proofs.Terms.{names_out}
 
 length-ends : (spots : List Spot) (links : List Link) (first n : ℕ) → length (ends_from spots links first n) ≡ n
 length-ends spots links first zero = refl
@@ -42,7 +44,7 @@ arguments_read : (t : Tables) (h : ℕ) → AgentsRead t h → (us : List Term) 
 arguments_read t h ih [] first port r short heads = sym (append-nil (as_written r.agents))
 arguments_read t h ih (u ∷ us) first port r short heads =
     let there : Reading × ℕ = (reader_of t u).reads r in
-    let both = two (heads_known t.names u) (all_true (map (heads_known t.names) us)) heads in
+    let both = and_parts (heads_known t.names u) (all_true (map (heads_known t.names) us)) heads in
     arguments_read t h ih us first (port + 1) (with_joint there.0 first port there.1 (reader_of t u).place) (omega (arith, short)) both.1
     ∙ ap (λ z. z ++ flat_map (λ a. a) (map (agents_of t) us)) (ih u r (omega (arith, short)) both.0)
     ∙ append_assoc (as_written r.agents) (agents_of t u) (flat_map (λ a. a) (map (agents_of t) us))

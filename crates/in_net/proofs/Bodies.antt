@@ -1,6 +1,6 @@
 -- The bodies of a net and of a rule are ready to be read.
 use Rattle.std.proofs.Common.{◌≡◌, ◌≢◌, ◌⊎◌, inl, inr, ℕ, zero, suc, ◌+◌, ◌-◌, ◌<◌, ◌≤◌, Bool, true, false, cond, List, [], ◌∷◌, length, Option, Some, None, IsSome, slice_get, unwrap_or, subst, arith}
-use Rattle.std.proofs.lemmas.Bool.{eqb-true}
+use Rattle.std.proofs.lemmas.Bool.{eqb-true, and_parts}
 use Rattle.std.specs.List.{AllByRecursion}
 use Rattle.in_syntax.specs.declared.tree.Source.{Source}
 use Rattle.in_syntax.specs.declared.tree.SourceRule.{SourceRule}
@@ -19,7 +19,7 @@ use Rattle.in_net.proofs.Known.{net_known, rule_known, free_differ}
 use Rattle.in_net.proofs.NetRead.{AreHeadsOf}
 use Rattle.in_net.proofs.Order.{net_rises, rule_rises}
 use Rattle.in_net.proofs.ReadFrom.{IsFew}
-use Rattle.in_net.proofs.HeadsOf.{two}
+use Rattle.in_base.proofs.Each.{all_at}
 
 -- ---- a net
 
@@ -59,13 +59,13 @@ module _ (t : Tables) (r : SourceRule) (known : IsRuleKnown t.names r) (fits : a
 
   one_fits : length r.first.terms ≡ arity_of t (symbol_of t r.first)
   one_fits =
-      let both = two _ _ (two _ _ fits).0 in
-      terms_fit t (number_in r.first.name.text t.names) (length r.first.terms) known.0.0 (two _ _ both.0).0
+      let both = and_parts _ _ (and_parts _ _ fits).0 in
+      terms_fit t (number_in r.first.name.text t.names) (length r.first.terms) known.0.0 (and_parts _ _ both.0).0
 
   other_fits : length r.second.terms ≡ arity_of t (symbol_of t r.second)
   other_fits =
-      let both = two _ _ (two _ _ (two _ _ fits).0).1 in
-      terms_fit t (number_in r.second.name.text t.names) (length r.second.terms) known.1.0 (two _ _ both.0).0
+      let both = and_parts _ _ (and_parts _ _ (and_parts _ _ fits).0).1 in
+      terms_fit t (number_in r.second.name.text t.names) (length r.second.terms) known.1.0 (and_parts _ _ both.0).0
 
   -- whichever of the heads has the first ends
   ends_by : (turned : Bool) → AreHeadsOf t (record { free = []; heads = heads_at r (cond turned (arity_of t d) 0) (cond turned 0 (arity_of t c)); equations = [] })
@@ -128,16 +128,11 @@ rule_few t r read =
     let few = read.few in
     (omega (arith, a, b), omega (arith, few))
 
-pub of_each : {X : Type 0} (P : X → Type 0) (xs : List X) (i : ℕ) (x : X) → AllByRecursion P xs → slice_get xs i ≡ Some x → P x
-of_each P [] i x all e = absurd (let wrong : None ≡ Some x = e in cc)
-of_each P (y ∷ xs) zero x all e = let same : y ≡ x = cc in subst P same all.0
-of_each P (y ∷ xs) (suc i) x all e = of_each P xs i x all.1 e
-
 -- a rule of a program is readable
 pub readable : (source : Source) (t : Tables) (r : SourceRule) (i : ℕ) → IsSized source → IsWrittenInOrder source → IsTabled source t → slice_get source.rules i ≡ Some r → IsReadable t r
 readable source t r i sized order tabled is = record {
-  known = of_each (IsRuleKnown t.names) source.rules i r tabled.rules is;
-  order = of_each IsRuleInOrder source.rules i r order.rules is;
+  known = all_at (IsRuleKnown t.names) source.rules i r tabled.rules is;
+  order = all_at IsRuleInOrder source.rules i r order.rules is;
   few = let less = rule_names source.rules r i is in let few = sized.heads in omega (arith, less, few);
   small = are_small source t sized tabled;
 }

@@ -3,9 +3,9 @@ use Rattle.std.proofs.Common.{◌≡◌, inl, inr, Bool, true, false, cond, nat_
 use Rattle.in_syntax.specs.declared.places.Place.{Place}
 use Rattle.in_symbols.specs.Tables.{Tables}
 use Rattle.in_net.specs.Joining.{later_of}
-use Rattle.in_syntax.specs.Lists.{IsAmong}
+use Rattle.in_base.specs.Lists.{IsAmong}
 use Rattle.in_net.specs.TextNet.{Body, Spot, Kind, placed, of_name, NameJoint, IsOccurrence, Chain, IsLastOf}
-use Rattle.in_net.proofs.Links.{all_along, all_append}
+use Rattle.in_base.proofs.Each.{all_map, all_append}
 
 -- on through a name
 pub through : (t : Tables) (b : Body) (k l : Kind) (x o u y : Spot) (ps qs : List Place) → Chain t b k placed x o ps → IsOccurrence o → NameJoint t b o u → IsOccurrence u → Chain t b placed l u y qs → Chain t b k l x y (ps ++ qs)
@@ -33,10 +33,10 @@ among_right p (x ∷ ps) qs h = inr (among_right p ps qs h)
 later_by : (p q : Place) (ps qs : List Place) (b : Bool) → nat_lt q.from p.from ≡ b → IsLastOf p ps → IsLastOf q qs → IsLastOf (cond b p q) (ps ++ qs)
 later_by p q ps qs true is h k =
     let less = ltb-true q.from p.from is in
-    (among_left p ps qs h.0, all_append _ ps qs h.1 (all_along _ _ (λ x le. omega (arith, le, less)) qs k.1))
+    (among_left p ps qs h.0, all_append _ ps qs h.1 (all_map _ _ (λ x le. omega (arith, le, less)) qs k.1))
 later_by p q ps qs false is h k =
     let less = ltb-false q.from p.from is in
-    (among_right q ps qs k.0, all_append _ ps qs (all_along _ _ (λ x le. omega (arith, le, less)) ps h.1) k.1)
+    (among_right q ps qs k.0, all_append _ ps qs (all_map _ _ (λ x le. omega (arith, le, less)) ps h.1) k.1)
 
 -- the later of two last places is the last of all
 pub later_last : (p q : Place) (ps qs : List Place) → IsLastOf p ps → IsLastOf q qs → IsLastOf (later_of p q) (ps ++ qs)
@@ -49,7 +49,7 @@ later_first p q ps qs h k = first_by (nat_lt q.from p.from) refl
     first_by : (b : Bool) → nat_lt q.from p.from ≡ b → IsLastOf (cond b p q) (qs ++ ps)
     first_by true is =
         let less = ltb-true q.from p.from is in
-        (among_right p qs ps h.0, all_append _ qs ps (all_along _ _ (λ x le. omega (arith, le, less)) qs k.1) h.1)
+        (among_right p qs ps h.0, all_append _ qs ps (all_map _ _ (λ x le. omega (arith, le, less)) qs k.1) h.1)
     first_by false is =
         let less = ltb-false q.from p.from is in
-        (among_left q qs ps k.0, all_append _ qs ps k.1 (all_along _ _ (λ x le. omega (arith, le, less)) ps h.1))
+        (among_left q qs ps k.0, all_append _ qs ps k.1 (all_map _ _ (λ x le. omega (arith, le, less)) ps h.1))

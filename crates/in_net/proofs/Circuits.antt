@@ -3,6 +3,8 @@ use Rattle.std.proofs.Common.{◌≡◌, ◌≢◌, ◌⊎◌, ℕ, List, [], �
 use mathlib.Core.HLevel.{Discrete}
 use Rattle.std.specs.List.{AllByRecursion}
 use Rattle.in_net.specs.Graphs.{Graph, Passage, entered, left, Leads, IsCrossing, AreApart, CrossingCircle}
+use Rattle.in_base.specs.Lists.{AnyByRecursion}
+use Rattle.in_base.proofs.Each.{all_left, all_map}
 
 -- wires through these nodes in turn, each entered by a port of E and left by a port of L
 abbrev pub Walk : (g : Graph) (E L : g.Node × ℕ → Type 0) → g.Node × ℕ → List (Passage g.Node) → g.Node × ℕ → Type 0
@@ -39,34 +41,21 @@ find same n (p ∷ ps) = go (same n p.node) (find same n ps)
     go (no e) (inl f) = inl (record { before = p ∷ f.before; here = f.here; after = f.after; whole = ap (λ r. p ∷ r) f.whole; same = f.same; none_before = (e, f.none_before) })
     go (no e) (inr f) = inr (e, f)
 
-pub all_before : {X : Type 0} (P : X → Type 0) (xs ys : List X) → AllByRecursion P (xs ++ ys) → AllByRecursion P xs
-all_before P [] ys h = tt
-all_before P (x ∷ xs) ys h = (h.0, all_before P xs ys h.1)
-
 pub apart_before : {V : Type 0} (xs ys : List (Passage V)) → AreApart (xs ++ ys) → AreApart xs
 apart_before [] ys h = tt
-apart_before (x ∷ xs) ys h = (all_before (λ q. x.node ≢ q.node) xs ys h.0, apart_before xs ys h.1)
-
-pub all_map : {X : Type 0} (P Q : X → Type 0) → ((x : X) → P x → Q x) → (xs : List X) → AllByRecursion P xs → AllByRecursion Q xs
-all_map P Q f [] h = tt
-all_map P Q f (x ∷ xs) h = (f x h.0, all_map P Q f xs h.1)
-
--- it holds of an element
-abbrev pub AnyOf : {X : Type 0} → (X → Type 0) → List X → Type 0
-AnyOf P [] = ⊥
-AnyOf P (x ∷ xs) = P x ⊎ AnyOf P xs
+apart_before (x ∷ xs) ys h = (all_left (λ q. x.node ≢ q.node) xs ys h.0, apart_before xs ys h.1)
 
 -- what holds of two elements that are one holds of each element and some one
-pub each_any : {X : Type 0} (P : X → X → Type 0) → ((x : X) → P x x) → (xs : List X) → AllByRecursion (λ x. AnyOf (P x) xs) xs
+pub each_any : {X : Type 0} (P : X → X → Type 0) → ((x : X) → P x x) → (xs : List X) → AllByRecursion (λ x. AnyByRecursion (P x) xs) xs
 each_any P r [] = tt
-each_any P r (x ∷ xs) = (inl (r x), all_map (λ y. AnyOf (P y) xs) (λ y. AnyOf (P y) (x ∷ xs)) (λ y h. inr h) xs (each_any P r xs))
+each_any P r (x ∷ xs) = (inl (r x), all_map (λ y. AnyByRecursion (P y) xs) (λ y. AnyByRecursion (P y) (x ∷ xs)) (λ y h. inr h) xs (each_any P r xs))
 
 -- a port by which some passage enters, or leaves
 abbrev pub IsEntered : {V : Type 0} → List (Passage V) → V × ℕ → Type 0
-IsEntered ps v = AnyOf (λ p. entered p ≡ v) ps
+IsEntered ps v = AnyByRecursion (λ p. entered p ≡ v) ps
 
 abbrev pub IsLeft : {V : Type 0} → List (Passage V) → V × ℕ → Type 0
-IsLeft ps v = AnyOf (λ p. left p ≡ v) ps
+IsLeft ps v = AnyByRecursion (λ p. left p ≡ v) ps
 
 pub not_entered : {V : Type 0} (m : V) (v : V × ℕ) (ps : List (Passage V)) → AllByRecursion (λ q. m ≢ q.node) ps → IsEntered ps v → m ≡ v.0 → ⊥
 not_entered m v [] h e i = e

@@ -13,7 +13,7 @@ use Rattle.in_net.specs.Counting.{none_seen, counted_from}
 use Rattle.in_net.specs.Building.{AreTwice, nth_spot}
 use Rattle.in_net.specs.Joining.{links_of, not_named, joins, joins_from, joining_of}
 use Rattle.in_net.specs.TextNet as text
-use Rattle.in_syntax.specs.Lists.{IsAmong}
+use Rattle.in_base.specs.Lists.{IsAmong}
 use Rattle.in_net.specs.TextNet.{Body, Kind, placed, of_name, IsOccurrence, Chain, IsClosedWireOf}
 use Rattle.in_net.proofs.Joined.{last_here, seen_named, nth_none, of_text, begun, all_met}
 use Rattle.in_net.proofs.Known.{AreDifferent}

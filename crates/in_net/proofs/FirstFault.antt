@@ -18,7 +18,6 @@ use Rattle.in_net.specs.NetFaults.{IsTooManyAt, IsMisfitAt, IsMiscountedAt, IsNe
 use Rattle.in_net.specs.Reading.{reading_of}
 use Rattle.in_net.specs.Searching.{too_many, misfit_in_body, first_fault}
 use Rattle.in_net.proofs.Miscounted.{names_least, all_stand_twice}
-use Rattle.in_net.proofs.Links.{all_along}
 use Rattle.in_net.proofs.Read.{name_inside}
 use Rattle.in_net.specs.TextNet.{Body}
 use Rattle.in_net.proofs.Known.{IsBodyKnown, AreDifferent}
@@ -27,6 +26,7 @@ use Rattle.in_net.proofs.NamedSpots.{names_read}
 use Rattle.in_net.proofs.NamesApart.{names_apart}
 use Rattle.in_net.proofs.Order.{roots_rise, body_places}
 use Rattle.in_net.proofs.TextPlaces.{text_places}
+use Rattle.in_base.proofs.Each.{all_map}
 
 abbrev Coded : ℕ → Tables → Body → Code → Place → Type 0
 Coded most t b c q = (Of E03 (IsTooManyAt most t b) c q ⊎ Of E07 (IsMisfitAt t b) c q) ⊎ Of E08 (IsMiscountedAt t b) c q
@@ -115,4 +115,4 @@ none_miscounted most t b ready is =
 
 -- the names that are read are in range, whatever the numbers of arguments
 pub names_inside : (t : Tables) (b : Body) → IsBodyKnown t b → NamesInside (length (reading_of t b).names) (reading_of t b).spots
-names_inside t b known = all_along _ _ (λ s h. name_inside t b (reading_of t b).names s h) (reading_of t b).spots (names_read t b known).named_as
+names_inside t b known = all_map _ _ (λ s h. name_inside t b (reading_of t b).names s h) (reading_of t b).spots (names_read t b known).named_as

@@ -1,6 +1,6 @@
 -- What is said of a term by a fold, at one term.
 use Rattle.std.proofs.Common.{◌≡◌, ℕ, ◌+◌, ◌≤◌, Bool, true, ◌&&◌, List, [], length, map, drop, Option, Some, None, refl, sym, ◌∙◌, ap, subst, option_map}
-use Rattle.std.proofs.lemmas.Bool.{eqb-true}
+use Rattle.std.proofs.lemmas.Bool.{eqb-true, and_parts}
 use Rattle.std.proofs.lemmas.List.{length-map, drop_all}
 use Rattle.in_syntax.specs.declared.tree.Term.{Term, out-Term}
 use Rattle.in_syntax.specs.declared.tree.Term.TheFolds.{fold_out-Term}
@@ -8,13 +8,10 @@ use Rattle.in_syntax.specs.Sizes.{total, names_in}
 use Rattle.in_symbols.specs.declared.symbols.SymbolNo.{SymbolNo}
 use Rattle.in_symbols.specs.Names.{number_in}
 use Rattle.in_symbols.specs.Tables.{Tables, arity_of, all_true, symbol_numbered}
-use Rattle.in_net.proofs.HeadsOf.{two}
 use Rattle.in_net.specs.Arities.{fits_arity, arities_fit}
 use Rattle.in_net.specs.declared.reading.Reading.{Reading}
 use Rattle.in_net.specs.Reading.{Reader, reader_step, reads_name, reads_arguments, with_agent, with_occurrence, reader_of}
-
-pub names_out : (u : Term) → names_in u ≡ total (map names_in (out-Term u).args) + 1
-names_out = fold_out-Term ℕ (λ f. total f.args + 1)
+use Rattle.in_syntax.proofs.Terms.{names_out}
 
 pub fits_out : (t : Tables) (u : Term) →
     arities_fit t u ≡ (fits_arity t (number_in (out-Term u).name.text t.names) (length (map (arities_fit t) (out-Term u).args)) && all_true (map (arities_fit t) (out-Term u).args))
@@ -41,7 +38,7 @@ unnumbered t name e = none_by (number_in name t.names) e
 pub fits_agent : (t : Tables) (u : Term) (s : SymbolNo) → number_in (out-Term u).name.text t.names ≡ Some s.0 → arities_fit t u ≡ true →
     (length (out-Term u).args ≡ arity_of t s.0) × (all_true (map (arities_fit t) (out-Term u).args) ≡ true)
 fits_agent t u s is fit =
-    let parts = two (fits_arity t (number_in (out-Term u).name.text t.names) (length (map (arities_fit t) (out-Term u).args))) (all_true (map (arities_fit t) (out-Term u).args)) (sym (fits_out t u) ∙ fit) in
+    let parts = and_parts (fits_arity t (number_in (out-Term u).name.text t.names) (length (map (arities_fit t) (out-Term u).args))) (all_true (map (arities_fit t) (out-Term u).args)) (sym (fits_out t u) ∙ fit) in
     let here : fits_arity t (Some s.0) (length (map (arities_fit t) (out-Term u).args)) ≡ true = subst (λ o. fits_arity t o (length (map (arities_fit t) (out-Term u).args)) ≡ true) is parts.0 in
     (sym (length-map (out-Term u).args (arities_fit t)) ∙ eqb-true _ _ here, parts.1)
 

@@ -11,7 +11,7 @@ use Rattle.in_net.specs.declared.nets.Point.{Point}
 use Rattle.in_net.specs.Building.{partner_of, ends_from, free_ends_from, boundary_from, boundary_of}
 use Rattle.in_net.specs.Built.{AreJoinedTo}
 use Rattle.in_net.specs.Rules.{types_from, auxiliary_types}
-use Rattle.in_net.proofs.Links.{all_append}
+use Rattle.in_base.proofs.Each.{all_append}
 
 end_of : FreeEnd → Point
 end_of f = f.end

@@ -4,14 +4,7 @@ use Rattle.in_syntax.specs.declared.tree.Term.{Term, out-Term}
 use Rattle.in_symbols.specs.Names.{number_in}
 use Rattle.in_symbols.specs.Tables.{is_none, all_true, heads_known}
 use Rattle.in_symbols.proofs.Heads.{heads_out}
-
-pub two : (a b : Bool) → (a && b) ≡ true → (a ≡ true) × (b ≡ true)
-two true true e = (refl, refl)
-two true false e = cc
-two false b e = cc
-
-pub both_are : (a b : Bool) → a ≡ true → b ≡ true → (a && b) ≡ true
-both_are a b e f = cc
+use Rattle.std.proofs.lemmas.Bool.{and_from, and_parts}
 
 or_false : (b : Bool) → (b || false) ≡ b
 or_false true = refl
@@ -23,7 +16,7 @@ none_there names (u ∷ us) e = cc
 
 parts : (names : List (List ℕ)) (u : Term) → heads_known names u ≡ true →
     ((is_none (map (heads_known names) (out-Term u).args) || is_some (number_in (out-Term u).name.text names)) ≡ true) × (all_true (map (heads_known names) (out-Term u).args) ≡ true)
-parts names u heads = two (is_none (map (heads_known names) (out-Term u).args) || is_some (number_in (out-Term u).name.text names)) (all_true (map (heads_known names) (out-Term u).args)) (sym (heads_out names u) ∙ heads)
+parts names u heads = and_parts (is_none (map (heads_known names) (out-Term u).args) || is_some (number_in (out-Term u).name.text names)) (all_true (map (heads_known names) (out-Term u).args)) (sym (heads_out names u) ∙ heads)
 
 pub arguments_known : (names : List (List ℕ)) (u : Term) → heads_known names u ≡ true → all_true (map (heads_known names) (out-Term u).args) ≡ true
 arguments_known names u heads = (parts names u heads).1

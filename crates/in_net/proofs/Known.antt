@@ -8,12 +8,13 @@ use Rattle.in_syntax.specs.declared.faults.Code.TheVariants.{E04}
 use Rattle.in_syntax.specs.declared.tree.Name.{Name}
 use Rattle.in_syntax.specs.declared.tree.SourceFree.{SourceFree}
 use Rattle.in_syntax.specs.declared.tree.SourceRule.{SourceRule}
-use Rattle.in_symbols.specs.Faults.{AnyByRecursion, IsRepeatedAt, IsDeclaredTwiceAt, IsFaultless}
+use Rattle.in_base.specs.Lists.{AnyByRecursion}
+use Rattle.in_symbols.specs.Faults.{IsRepeatedAt, IsDeclaredTwiceAt, IsFaultless}
 use Rattle.in_symbols.specs.Tables.{Tables, all_true, heads_known, HeadsKnown, IsRuleKnown, IsTabled}
-use Rattle.in_syntax.specs.Lists.{IsAmong}
+use Rattle.in_base.specs.Lists.{IsAmong}
 use Rattle.in_net.specs.TextNet.{Body, LeftHead, body_of, heads_at}
-use Rattle.in_net.proofs.HeadsOf.{both_are}
 use Rattle.in_net.proofs.Linked.{same_or_not, below_or_not}
+use Rattle.std.proofs.lemmas.Bool.{and_from}
 
 abbrev pub AreHeadsKnown : Tables → List LeftHead → Type 0
 AreHeadsKnown t = AllByRecursion (λ h. AllByRecursion (λ u. heads_known t.names u ≡ true) h.head.terms)
@@ -24,7 +25,7 @@ pub record IsBodyKnown (t : Tables) (b : Body) : Type 0 where
 
 pub all_known : (t : Tables) (us : List Term) → AllByRecursion (λ u. heads_known t.names u ≡ true) us → all_true (map (heads_known t.names) us) ≡ true
 all_known t [] h = refl
-all_known t (u ∷ us) h = both_are (heads_known t.names u) (all_true (map (heads_known t.names) us)) h.0 (all_known t us h.1)
+all_known t (u ∷ us) h = and_from (heads_known t.names u) (all_true (map (heads_known t.names) us)) h.0 (all_known t us h.1)
 
 pub one_known : (t : Tables) (us : List Term) (u : Term) → AllByRecursion (λ u. heads_known t.names u ≡ true) us → IsAmong u us → heads_known t.names u ≡ true
 one_known t [] u h among = absurd among

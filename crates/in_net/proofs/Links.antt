@@ -6,6 +6,7 @@ use Rattle.in_syntax.specs.declared.places.Place.{Place}
 use Rattle.in_net.specs.declared.joining.Link.{Link}
 use Rattle.in_net.specs.declared.reading.Joint.{Joint}
 use Rattle.in_net.specs.Joining.{self_link, self_links, with_link, with_joints, JointsInside}
+use Rattle.in_base.proofs.Each.{all_map, all_append}
 
 -- one spot more
 pub one_more : (to count : ℕ) (links new all : List Link) → to < count → new ≡ links ++ self_link to ∷ [] → links ++ self_links to (count - to) ≡ all → new ++ self_links (to + 1) (count - (to + 1)) ≡ all
@@ -46,14 +47,6 @@ pub all_at : {X : Type 0} (P : X → Type 0) (xs : List X) (i : ℕ) (d : X) →
 all_at P [] i d all lt = absurd (omega arith)
 all_at P (y ∷ ys) zero d all lt = all.0
 all_at P (y ∷ ys) (suc i) d all lt = all_at P ys i d all.1 (omega arith)
-
-pub all_along : {X : Type 0} (P Q : X → Type 0) → ((x : X) → P x → Q x) → (xs : List X) → AllByRecursion P xs → AllByRecursion Q xs
-all_along P Q h [] all = tt
-all_along P Q h (x ∷ xs) all = (h x all.0, all_along P Q h xs all.1)
-
-pub all_append : {X : Type 0} (P : X → Type 0) (xs ys : List X) → AllByRecursion P xs → AllByRecursion P ys → AllByRecursion P (xs ++ ys)
-all_append P [] ys all more = more
-all_append P (x ∷ xs) ys all more = (all.0, all_append P xs ys all.1 more)
 
 pub within_link : (n : ℕ) (links : List Link) (one other : ℕ) (place : Place) → AllByRecursion (λ l. l.to < n) links → one < n → other < n → AllByRecursion (λ l. l.to < n) (with_link links one other place)
 within_link n links one other place all h k =

@@ -3,7 +3,7 @@ use Rattle.std.proofs.Common.{◌≡◌, ◌⊎◌, inl, inr, List, [], ◌∷�
 use Rattle.in_syntax.specs.declared.places.Place.{Place}
 use Rattle.in_symbols.specs.Tables.{Tables}
 use Rattle.in_net.specs.declared.reading.Reading.{Reading}
-use Rattle.in_syntax.specs.Lists.{IsAmong}
+use Rattle.in_base.specs.Lists.{IsAmong}
 use Rattle.in_net.specs.TextNet.{Body, Spot, Kind, placed, of_name, PlacedJoint, NameJoint, IsOccurrence, Chain}
 use Rattle.in_net.proofs.Chains.{to_name}
 use Rattle.in_net.proofs.Single.{IsReadWhole, one_placed_joint, one_name_joint}

@@ -15,7 +15,7 @@ use Rattle.in_net.specs.Counting as counting
 use Rattle.in_net.specs.Counting.{none_seen, counted_from, nothing_counted, counts_from, place_at, miscounted}
 use Rattle.in_net.specs.Building.{AreTwice, no_spot, nth_spot}
 use Rattle.in_net.specs.NetFaults.{Occurs, IsFreeName, IsBefore, IsMiscountedAt}
-use Rattle.in_syntax.specs.Lists.{IsAmong}
+use Rattle.in_base.specs.Lists.{IsAmong}
 use Rattle.in_net.specs.TextNet.{Body, IsVariable, name_of, place_of}
 use Rattle.in_net.proofs.Kept.{IsHeldAt}
 use Rattle.in_net.proofs.Linked.{same_or_not, below_or_not}

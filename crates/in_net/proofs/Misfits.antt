@@ -1,14 +1,14 @@
 -- The first agent of a net with another number of arguments than auxiliary ports, and the first one too many.
 use Rattle.std.proofs.Common.{◌≡◌, ◌≢◌, ◌⊎◌, inl, inr, ℕ, zero, suc, ◌≤◌, ◌==◌, Bool, true, false, cond, List, [], ◌∷◌, length, map, Option, Some, None, option_map, slice_get, refl, sym, ◌∙◌, ap, subst, arith}
 use Rattle.std.specs.List.{AllByRecursion, list_all}
-use Rattle.std.proofs.lemmas.Bool.{eqb-true, eqb-false}
+use Rattle.std.proofs.lemmas.Bool.{eqb-true, eqb-false, and_from}
 use Rattle.std.proofs.lemmas.List.{length-map}
 use Rattle.in_syntax.specs.declared.places.Place.{Place}
 use Rattle.in_syntax.specs.declared.tree.Equation.{Equation}
 use Rattle.in_syntax.specs.declared.tree.Term.{Term, out-Term}
 use Rattle.in_syntax.specs.declared.tree.Term.TheFolds.{fold_out-Term}
 use Rattle.in_syntax.specs.Sizes.{total, names_in}
-use Rattle.in_symbols.specs.Faults.{AnyByRecursion}
+use Rattle.in_base.specs.Lists.{AnyByRecursion}
 use Rattle.in_symbols.specs.Names.{number_in}
 use Rattle.in_symbols.specs.Searching.{earlier, earliest}
 use Rattle.in_symbols.specs.Tables.{Tables, arity_of, all_true}
@@ -19,12 +19,12 @@ use Rattle.in_net.specs.Arities.{fits_arity, arities_fit, head_fits, equation_fi
 use Rattle.in_net.specs.NetFaults.{IsTooManyAt, IsMisfitAt}
 use Rattle.in_net.specs.Reading.{reading_of}
 use Rattle.in_net.specs.Searching.{too_many, misfit_here, misfit, misfit_in_equation, misfit_in_equations, misfit_in_head, misfit_in_heads, misfit_in_body}
-use Rattle.in_syntax.specs.Lists.{IsAmong}
+use Rattle.in_base.specs.Lists.{IsAmong}
 use Rattle.in_net.specs.TextNet.{Body, LeftHead, IsTermOf, IsPartOf, IsAgent, place_of, Written, agents_of_body}
 use Rattle.in_net.proofs.Agents.{as_written, body_agents}
-use Rattle.in_net.proofs.HeadsOf.{both_are}
 use Rattle.in_net.proofs.Known.{IsBodyKnown}
-use Rattle.in_net.proofs.Folds.{names_out, fits_out}
+use Rattle.in_net.proofs.Folds.{fits_out}
+use Rattle.in_syntax.proofs.Terms.{names_out}
 
 -- ---- too many agents
 
@@ -195,7 +195,7 @@ here_fits t (Some s) k p e = by_test (k == arity_of t s) refl e
 
 all_fit : (t : Tables) (us : List Term) → AllByRecursion (λ u. arities_fit t u ≡ true) us → all_true (map (arities_fit t) us) ≡ true
 all_fit t [] h = refl
-all_fit t (u ∷ us) h = both_are (arities_fit t u) (all_true (map (arities_fit t) us)) h.0 (all_fit t us h.1)
+all_fit t (u ∷ us) h = and_from (arities_fit t u) (all_true (map (arities_fit t) us)) h.0 (all_fit t us h.1)
 
 abbrev TermsFit : Tables → ℕ → Type 0
 TermsFit t h = (u : Term) → names_in u ≤ h → misfit t u ≡ None → arities_fit t u ≡ true
@@ -213,27 +213,27 @@ terms_fit t (suc h) u short e =
     let all = arguments_fit t h (terms_fit t h) (misfit_here t (number_in (out-Term u).name.text t.names) (length (map (misfit t) (out-Term u).args)) (out-Term u).name.place) (out-Term u).args (omega (arith, names_out u, short)) (sym (misfit_out t u) ∙ e) in
     let here = here_fits t (number_in (out-Term u).name.text t.names) (length (map (misfit t) (out-Term u).args)) (out-Term u).name.place all.0 in
     fits_out t u
-    ∙ both_are (fits_arity t (number_in (out-Term u).name.text t.names) (length (map (arities_fit t) (out-Term u).args))) (all_true (map (arities_fit t) (out-Term u).args))
+    ∙ and_from (fits_arity t (number_in (out-Term u).name.text t.names) (length (map (arities_fit t) (out-Term u).args))) (all_true (map (arities_fit t) (out-Term u).args))
     (ap (fits_arity t (number_in (out-Term u).name.text t.names)) (length-map (out-Term u).args (arities_fit t) ∙ sym (length-map (out-Term u).args (misfit t))) ∙ here) (all_fit t (out-Term u).args all.1)
 
 equation_fit : (t : Tables) (e : Equation) → misfit_in_equation t e ≡ None → equation_fits t e ≡ true
 equation_fit t e is =
     let both = earlier_none (misfit t e.left) (misfit t e.right) is in
-    both_are (arities_fit t e.left) (arities_fit t e.right) (terms_fit t (names_in e.left) e.left (omega arith) both.0) (terms_fit t (names_in e.right) e.right (omega arith) both.1)
+    and_from (arities_fit t e.left) (arities_fit t e.right) (terms_fit t (names_in e.left) e.left (omega arith) both.0) (terms_fit t (names_in e.right) e.right (omega arith) both.1)
 
 all_of : {X : Type 0} (f : X → Bool) (xs : List X) → AllByRecursion (λ x. f x ≡ true) xs → list_all f xs ≡ true
 all_of f [] h = refl
-all_of f (x ∷ xs) h = both_are (f x) (list_all f xs) h.0 (all_of f xs h.1)
+all_of f (x ∷ xs) h = and_from (f x) (list_all f xs) h.0 (all_of f xs h.1)
 
 head_fit : (t : Tables) (h : LeftHead) → misfit_in_head t h.head ≡ None → head_fits t h ≡ true
 head_fit t h e =
     let all = arguments_fit t (total (map names_in h.head.terms)) (terms_fit t (total (map names_in h.head.terms))) (misfit_here t (number_in h.head.name.text t.names) (length h.head.terms) h.head.name.place) h.head.terms (omega arith) e in
-    both_are (fits_arity t (number_in h.head.name.text t.names) (length h.head.terms)) (list_all (arities_fit t) h.head.terms)
+    and_from (fits_arity t (number_in h.head.name.text t.names) (length h.head.terms)) (list_all (arities_fit t) h.head.terms)
     (here_fits t (number_in h.head.name.text t.names) (length h.head.terms) h.head.name.place all.0) (all_of (arities_fit t) h.head.terms all.1)
 
 pub body_fits : (t : Tables) (b : Body) → misfit_in_body t b ≡ None → all_arities_fit t b ≡ true
 body_fits t b e =
     let both = earlier_none (misfit_in_heads t b.heads) (misfit_in_equations t b.equations) e in
-    both_are (list_all (head_fits t) b.heads) (list_all (equation_fits t) b.equations)
+    and_from (list_all (head_fits t) b.heads) (list_all (equation_fits t) b.equations)
     (all_of (head_fits t) b.heads (earliest_none (λ (h : LeftHead). misfit_in_head t h.head) (λ h. head_fits t h ≡ true) (head_fit t) None b.heads both.0).1)
     (all_of (equation_fits t) b.equations (earliest_none (misfit_in_equation t) (λ e. equation_fits t e ≡ true) (equation_fit t) None b.equations both.1).1)

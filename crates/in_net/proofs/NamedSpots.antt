@@ -15,16 +15,19 @@ use Rattle.in_net.specs.declared.reading.Reading.{Reading}
 use Rattle.in_net.specs.Reading.{with_agent, with_joint, with_occurrence, number_with, ports_from, reader_of, reads_arguments, reads_equation, reads_equations, reads_heads, with_ends, boundary_spots, ends_of, reads_free, reads_free_from, reads_free_end, nothing_read, reading_of}
 use Rattle.in_net.specs.Building.{no_spot, nth_spot}
 use Rattle.in_net.specs.Built.{IsEnd}
-use Rattle.in_syntax.specs.Lists.{IsAmong}
+use Rattle.in_base.specs.Lists.{IsAmong}
 use Rattle.in_net.specs.TextNet.{Body, LeftHead, IsTermOf, IsPartOf, IsVariable}
 use Rattle.in_net.proofs.Known.{AreHeadsKnown, IsBodyKnown, all_known}
-use Rattle.in_net.proofs.Folds.{names_out, read_agent, read_occurrence}
-use Rattle.in_net.proofs.HeadsOf.{two, arguments_known, no_arguments}
+use Rattle.in_net.proofs.Folds.{read_agent, read_occurrence}
+use Rattle.in_net.proofs.HeadsOf.{arguments_known, no_arguments}
 use Rattle.in_net.proofs.Kept.{IsHeldAt}
 use Rattle.in_net.proofs.Linked.{front_or_back, at_front, at_back}
-use Rattle.in_net.proofs.Links.{all_append, all_at}
+use Rattle.in_net.proofs.Links.{all_at}
 use Rattle.in_net.proofs.NetRead.{nothing, free_read}
 use Rattle.in_net.proofs.Read.{IsNamed, name_there, grows_by, all_still_named, ports_named}
+use Rattle.std.proofs.lemmas.Bool.{and_parts}
+use Rattle.in_base.proofs.Each.{all_append}
+use Rattle.in_syntax.proofs.Terms.{names_out}
 
 abbrev pub IsBound : Spot → Type 0
 IsBound (Port a i p) = Unit {0}
@@ -124,9 +127,9 @@ arguments_add t b h ih (u ∷ us) first port r short terms =
     by_place : (x v : Term) → IsAmong x (u ∷ us) → IsPartOf v x → IsVariable t v → all_true (map (heads_known t.names) (u ∷ us)) ≡ true → (heads_known t.names u ≡ true → (v : Term) → IsPartOf v u → IsVariable t v → IsHeldAt ((reader_of t u).reads r).0 v) →
         Adds t b joined after → (all_true (map (heads_known t.names) us) ≡ true → (u v : Term) → IsAmong u us → IsPartOf v u → IsVariable t v → IsHeldAt after v) → IsHeldAt after v
     by_place x v (inl e) part variable heads here adds others =
-        let at = here (two (heads_known t.names u) (all_true (map (heads_known t.names) us)) heads).0 v (subst (IsPartOf v) (sym e) part) variable in
+        let at = here (and_parts (heads_known t.names u) (all_true (map (heads_known t.names) us)) heads).0 v (subst (IsPartOf v) (sym e) part) variable in
         held_on t b joined after v adds (record { spot = at.spot; number = at.number; inside = at.inside; is = at.is; known = at.known; name = at.name })
-    by_place x v (inr among) part variable heads here adds others = others (two (heads_known t.names u) (all_true (map (heads_known t.names) us)) heads).1 x v among part variable
+    by_place x v (inr among) part variable heads here adds others = others (and_parts (heads_known t.names u) (all_true (map (heads_known t.names) us)) heads).1 x v among part variable
 
 term_adds : (t : Tables) (b : Body) (h : ℕ) → TermsAdd t b h → (u : Term) (r : Reading) → names_in u ≤ suc h → ((v : Term) → IsPartOf v u → IsTermOf b v) → (o : Option ℕ) → number_in (out-Term u).name.text t.names ≡ o →
     TermAdds t b u r ((reader_of t u).reads r).0

@@ -13,22 +13,20 @@ use Rattle.in_symbols.proofs.Absent.{absent}
 use Rattle.in_net.specs.declared.reading.Reading.{Reading}
 use Rattle.in_net.specs.Reading.{with_agent, with_joint, with_name, reader_of, reads_arguments, reads_equation, reads_equations, reads_heads, with_ends, ends_of, reads_free, reads_free_from, reads_free_end, nothing_read, reading_of}
 use Rattle.in_net.specs.TextNet.{Body, LeftHead}
-use Rattle.in_net.proofs.Folds.{names_out, read_agent, read_occurrence}
+use Rattle.in_net.proofs.Folds.{read_agent, read_occurrence}
 use Rattle.in_net.proofs.Linked.{front_or_back, at_front, at_back}
+use Rattle.std.proofs.lemmas.Bool.{or_parts}
+use Rattle.in_syntax.proofs.Terms.{names_out}
 
 abbrev pub AreApart : List (List ℕ) → Type 0
 AreApart names = (m n : ℕ) → m < length names → n < length names → name_in m names ≡ name_in n names → m ≡ n
-
-either_false : (a b : Bool) → (a || b) ≡ false → (a ≡ false) × (b ≡ false)
-either_false true b e = cc
-either_false false b e = (refl, e)
 
 not_there : (name : List ℕ) (names : List (List ℕ)) (m : ℕ) → list_any (bytes_eq name) names ≡ false → m < length names → name_in m names ≢ name
 not_there name [] m none lt e = absurd (omega (arith, lt))
 not_there name (x ∷ names) zero none lt e =
     let same : bytes_eq name x ≡ true = (bytes_eq-Decides name x).1 (sym e) in
-    absurd (let wrong : true ≡ false = sym same ∙ (either_false (bytes_eq name x) (list_any (bytes_eq name) names) none).0 in cc)
-not_there name (x ∷ names) (suc m) none lt e = not_there name names m (either_false (bytes_eq name x) (list_any (bytes_eq name) names) none).1 (omega (arith, lt)) e
+    absurd (let wrong : true ≡ false = sym same ∙ (or_parts (bytes_eq name x) (list_any (bytes_eq name) names) none).0 in cc)
+not_there name (x ∷ names) (suc m) none lt e = not_there name names m (or_parts (bytes_eq name x) (list_any (bytes_eq name) names) none).1 (omega (arith, lt)) e
 
 one_apart : (names : List (List ℕ)) (name : List ℕ) → AreApart names → list_any (bytes_eq name) names ≡ false → AreApart (names ++ name ∷ [])
 one_apart names name apart none m n m_in n_in e = by_side (front_or_back (length names) m) (front_or_back (length names) n)

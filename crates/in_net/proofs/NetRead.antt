@@ -16,7 +16,7 @@ use Rattle.in_net.specs.Reading.{with_joint, with_ends, boundary_spots, number_w
 use Rattle.in_net.specs.Joining.{links_of, self_link, self_links, with_joints}
 use Rattle.in_net.specs.Building.{no_spot, nth_spot, nth_link}
 use Rattle.in_net.specs.TextNet as text
-use Rattle.in_syntax.specs.Lists.{IsAmong}
+use Rattle.in_base.specs.Lists.{IsAmong}
 use Rattle.in_net.specs.TextNet.{Body, LeftHead, IsTermOf, IsPartOf, PlacedJoint, spot_of, place_of}
 use Rattle.in_net.proofs.Linked.{nth_self, same_or_not, below_or_not, at_front, at_first, at_second, at_third, links_joint, length-links_of}
 use Rattle.in_net.proofs.Sound.{named}
@@ -24,8 +24,8 @@ use Rattle.in_net.specs.Built.{IsEnd}
 use Rattle.in_net.proofs.Folds.{place_read}
 use Rattle.in_net.proofs.Read.{IsRead, with_joint_read, more_names, free_end_read, boundary_end_read}
 use Rattle.in_net.proofs.Kept.{IsSettled, Keeps, keeps_both, keeps_itself, keeps_joint, settled_joint}
-use Rattle.in_net.proofs.HeadsOf.{two}
 use Rattle.in_net.proofs.Terms.{AreSmall, IsHeldIn, IsReadOn, held_stays, reads_on, among_middle, middle}
+use Rattle.std.proofs.lemmas.Bool.{and_parts}
 
 -- what is read but for some spots, which wait to be joined and are free or boundary ends: they are joined to nothing, and each other
 -- spot is joined
@@ -168,8 +168,8 @@ equations_read t b free count waits small [] r among fits net = record {
   held = λ e h. absurd h;
 }
 equations_read t b free count waits small (e ∷ es) r among fits net =
-    let both = two (arities_fit t e.left && arities_fit t e.right) (list_all (equation_fits t) es) fits in
-    let here = two (arities_fit t e.left) (arities_fit t e.right) both.0 in
+    let both = and_parts (arities_fit t e.left && arities_fit t e.right) (list_all (equation_fits t) es) fits in
+    let here = and_parts (arities_fit t e.left) (arities_fit t e.right) both.0 in
     let one = equation_read t b free count waits small e r (among e (inl refl)) here.0 here.1 net in
     let all = equations_read t b free (count + names_in_equation e) waits small es (reads_equation t e r) (λ x h. among x (inr h)) both.1 one.net in
     record {
@@ -336,7 +336,7 @@ places_read t b free count rest small h among done [] all port at r fits differ 
     no_element : (j : ℕ) (v : Term) → slice_get {X = Term} [] j ≡ Some v → ⊥
     no_element j v e = cc
 places_read t b free count rest small h among done (v ∷ vs) all port at r fits differ net =
-    let both = two (arities_fit t v) (list_all (arities_fit t) vs) fits in
+    let both = and_parts (arities_fit t v) (list_all (arities_fit t) vs) fits in
     let there : slice_get h.head.terms (length done) ≡ Some v = subst (λ z. slice_get z (length done) ≡ Some v) all (middle done vs v) in
     let in_head : IsAmong v h.head.terms = subst (IsAmong v) all (among_middle done vs v) in
     let size : length h.head.terms ≡ length done + suc (length vs) = sym (ap length all) ∙ length-append done (v ∷ vs) in
@@ -407,7 +407,7 @@ abbrev pub AtHeads : List LeftHead → (ℕ → Type 0) → ℕ → Type 0
 AtHeads [] rest i = rest i
 AtHeads (h ∷ hs) rest i = ((j : ℕ) × (j < length h.head.terms) × (i ≡ h.first + j)) ⊎ AtHeads hs rest i
 
--- no two heads share an end, nor a head one with others
+-- no and_parts heads share an end, nor a head one with others
 abbrev pub AreHeadsApart : List LeftHead → (ℕ → Type 0) → Type 0
 AreHeadsApart [] rest = Unit {0}
 AreHeadsApart (h ∷ hs) rest = ((i j : ℕ) → AtHeads hs rest i → j < length h.head.terms → i ≢ h.first + j) × AreHeadsApart hs rest
@@ -429,8 +429,8 @@ heads_read t b free count rest small [] among r fits apart net = record {
   held = λ h x. absurd x;
 }
 heads_read t b free count rest small (h ∷ hs) among r fits apart net =
-    let both = two (head_fits t h) (list_all (head_fits t) hs) fits in
-    let here = two (fits_arity t (number_in h.head.name.text t.names) (length h.head.terms)) (list_all (arities_fit t) h.head.terms) both.0 in
+    let both = and_parts (head_fits t h) (list_all (head_fits t) hs) fits in
+    let here = and_parts (fits_arity t (number_in h.head.name.text t.names) (length h.head.terms)) (list_all (arities_fit t) h.head.terms) both.0 in
     let W : ℕ → Type 0 = Waits h.first 0 (length h.head.terms) (AtHeads hs rest) in
     let ready = but_same t b free count (AtHeads (h ∷ hs) rest) (Waits h.first 0 (length h.head.terms) (AtHeads hs rest)) r to back net in
     let one = places_read t b free count (AtHeads hs rest) small h (among h (inl refl)) [] h.head.terms refl 0 refl r here.1 apart.0 ready in
@@ -571,7 +571,7 @@ pub record IsBodyRead (t : Tables) (b : Body) (r : Reading) : Type 0 where
 
 pub body_read : (t : Tables) (b : Body) → AreSmall t → AreHeadsOf t b → all_arities_fit t b ≡ true → IsBodyRead t b (reading_of t b)
 body_read t b small ends fits =
-    let both = two (list_all (head_fits t) b.heads) (list_all (equation_fits t) b.equations) fits in
+    let both = and_parts (list_all (head_fits t) b.heads) (list_all (equation_fits t) b.equations) fits in
     let free = free_read t b [] b.free nothing_read refl (nothing t b) in
     let start : AreFreeRead t b (ends_in t b) (with_ends (reads_free b.free) (ends_of t b.heads)) = with_ends_read t b (ends_of t b.heads) (reads_free b.free) free in
     let heads = heads_read t b (ends_in t b) 0 (AtFree b) small b.heads (λ h x. x) (with_ends (reads_free b.free) (ends_of t b.heads)) both.0 ends.apart (begun t b (with_ends (reads_free b.free) (ends_of t b.heads)) ends start) in

@@ -4,9 +4,9 @@ use Rattle.std.specs.List.{flat_map}
 use Rattle.in_syntax.specs.declared.places.Place.{Place}
 use Rattle.in_syntax.specs.declared.tree.Equation.{Equation}
 use Rattle.in_syntax.specs.declared.tree.Term.{Term, out-Term}
-use Rattle.in_syntax.specs.Lists.{IsAmong}
+use Rattle.in_base.specs.Lists.{IsAmong}
 use Rattle.in_syntax.specs.Order.{Rises, term_places, equation_places}
-use Rattle.in_syntax.proofs.Among.{among_left, among_right, among_at, among_all, in_flat}
+use Rattle.in_base.proofs.Among.{among_left, among_right, among_at, among_all, in_flat}
 use Rattle.in_syntax.proofs.Ordered.{front_rises, back_rises}
 use Rattle.in_symbols.specs.Names.{number_in}
 use Rattle.in_symbols.specs.Tables.{Tables}

@@ -13,8 +13,8 @@ use Rattle.in_syntax.specs.declared.tree.SourceFree.{SourceFree}
 use Rattle.in_syntax.specs.declared.tree.SourceRule.{SourceRule}
 use Rattle.in_syntax.specs.declared.tree.Term.{Term, out-Term}
 use Rattle.in_syntax.specs.declared.tree.Term.TheFolds.{fold_out-Term}
-use Rattle.in_syntax.proofs.Among.{among_left, among_right, among_either, in_flat, of_flat, in_map, of_map, among_at, among_all}
-use Rattle.in_syntax.proofs.Ordered.{names_out, places_out, tree_in_order}
+use Rattle.in_base.proofs.Among.{among_left, among_right, among_either, in_flat, of_flat, in_map, of_map, among_at, among_all}
+use Rattle.in_syntax.proofs.Ordered.{places_out, tree_in_order}
 use Rattle.in_syntax.proofs.Sized.{tree_sized}
 use Rattle.in_syntax.proofs.SourcePlaces.{part_small, texts_begin_apart}
 use Rattle.in_syntax.proofs.WholeTexts.{same_refusal}
@@ -35,7 +35,7 @@ use Rattle.in_net.specs.Reading.{reading_of}
 use Rattle.in_net.specs.Rules.{RuleParts, BuildsRule, BuildsRuleOf, body_of_rule, IsReadable, IsRuleOf}
 use Rattle.in_net.specs.Searching.{first_fault}
 use Rattle.in_net.specs.TextNet as text
-use Rattle.in_syntax.specs.Lists.{IsAmong}
+use Rattle.in_base.specs.Lists.{IsAmong}
 use Rattle.in_net.specs.TextNet.{Body, LeftHead, IsPartOf, itself, deeper, IsTermOf, in_left, in_right, in_head, PlacedJoint, of_equation, of_argument, of_head, turned, Chain, one_placed, one_name, then_name, then_placed, Kind, IsLastOf, IsWireOf, IsClosedWireOf, Written, written_by, agents_of, agents_of_body, agents_of_heads, agents_of_equations, body_of, name_of, place_of}
 use Rattle.in_net.proofs.Agents.{places_for}
 use Rattle.in_net.proofs.Bodies.{net_ready, net_heads, rule_ready, rule_heads, readable}
@@ -46,6 +46,7 @@ use Rattle.in_net.proofs.Small.{are_small}
 use Rattle.in_net.proofs.Sound.{named}
 use Rattle.in_net.proofs.TextPlaces.{all_places, text_places, equation_place, term_place, chain_place}
 use Rattle.in_net.proofs.TextWires.{IsGood, read, read_whole}
+use Rattle.in_syntax.proofs.Terms.{names_out}
 
 -- places that rise begin apart
 pub rising_apart : (ps : List Place) → Rises ps → BeginApart ps

@@ -8,7 +8,7 @@ use Rattle.in_syntax.specs.declared.tree.SourceFree.{SourceFree}
 use Rattle.in_syntax.specs.Sizes.{total, names_in}
 use Rattle.in_syntax.specs.declared.tree.SourceRule.{SourceRule}
 use Rattle.in_syntax.specs.declared.tree.SourceNet.{SourceNet}
-use Rattle.in_syntax.proofs.Ordered.{places_out}
+use Rattle.in_syntax.proofs.Ordered.{places_out, front_rises, back_rises}
 use Rattle.in_syntax.specs.Order.{Rises, term_places, equation_places, IsInOrder, IsRuleInOrder}
 use Rattle.in_symbols.specs.declared.symbols.SymbolNo.{SymbolNo}
 use Rattle.in_net.specs.declared.reading.Spot.{Spot}
@@ -19,9 +19,12 @@ use Rattle.in_symbols.specs.Tables.{Tables, arity_of, all_true, heads_known, Hea
 use Rattle.in_net.specs.Building.{nth_spot}
 use Rattle.in_net.specs.Reading.{with_agent, with_joint, with_ends, boundary_spots, number_with, ports_from, reader_of, reads_arguments, reads_equation, reads_equations, reads_heads, reads_free_from, reads_free, reads_free_end, nothing_read, ends_of, reading_of}
 use Rattle.in_net.specs.TextNet.{Body, LeftHead, body_of, heads_at}
-use Rattle.in_net.proofs.Folds.{names_out, read_agent, read_occurrence}
-use Rattle.in_net.proofs.HeadsOf.{two, arguments_known, no_arguments}
+use Rattle.in_net.proofs.Folds.{read_agent, read_occurrence}
+use Rattle.in_net.proofs.HeadsOf.{arguments_known, no_arguments}
 use Rattle.in_net.proofs.Known.{AreHeadsKnown, IsBodyKnown, all_known}
+use Rattle.std.proofs.lemmas.Bool.{and_parts}
+use Rattle.in_base.proofs.Each.{all_left, all_right, all_append}
+use Rattle.in_syntax.proofs.Terms.{names_out}
 
 -- the place of a name, at the spot of its occurrence or of its agent's principal port
 abbrev pub root_place : Spot → List Place
@@ -57,7 +60,7 @@ arguments_roots : (t : Tables) (h : ℕ) → RootsRead t h → (us : List Term) 
 arguments_roots t h ih [] first port r short heads = sym (append-nil (root_places r.spots))
 arguments_roots t h ih (u ∷ us) first port r short heads =
     let there : Reading × ℕ = (reader_of t u).reads r in
-    let both = two (heads_known t.names u) (all_true (map (heads_known t.names) us)) heads in
+    let both = and_parts (heads_known t.names u) (all_true (map (heads_known t.names) us)) heads in
     arguments_roots t h ih us first (port + 1) (with_joint there.0 first port there.1 (reader_of t u).place) (omega (arith, short)) both.1
     ∙ ap (λ z. z ++ flat_map (λ ps. ps) (map term_places us)) (ih u r (omega (arith, short)) both.0)
     ∙ append_assoc (root_places r.spots) (term_places u) (flat_map (λ ps. ps) (map term_places us))
@@ -104,48 +107,28 @@ free_roots k (f ∷ fs) r = free_roots (k + 1) fs (reads_free_end k f r) ∙ roo
 
 -- ---- what rises still rises without some of it
 
-all_left : (P : Place → Type 0) (xs ys : List Place) → AllByRecursion P (xs ++ ys) → AllByRecursion P xs
-all_left P [] ys h = tt
-all_left P (x ∷ xs) ys h = (h.0, all_left P xs ys h.1)
-
-all_right : (P : Place → Type 0) (xs ys : List Place) → AllByRecursion P (xs ++ ys) → AllByRecursion P ys
-all_right P [] ys h = h
-all_right P (x ∷ xs) ys h = all_right P xs ys h.1
-
-all_both : (P : Place → Type 0) (xs ys : List Place) → AllByRecursion P xs → AllByRecursion P ys → AllByRecursion P (xs ++ ys)
-all_both P [] ys h k = k
-all_both P (x ∷ xs) ys h k = (h.0, all_both P xs ys h.1 k)
-
 without_middle : (xs ys : List Place) (y : Place) → Rises (xs ++ y ∷ ys) → Rises (xs ++ ys)
 without_middle [] ys y h = h.1
-without_middle (x ∷ xs) ys y h = (all_both (λ q. x.from < q.from) xs ys (all_left (λ q. x.from < q.from) xs (y ∷ ys) h.0) (all_right (λ q. x.from < q.from) xs (y ∷ ys) h.0).1, without_middle xs ys y h.1)
+without_middle (x ∷ xs) ys y h = (all_append (λ q. x.from < q.from) xs ys (all_left (λ q. x.from < q.from) xs (y ∷ ys) h.0) (all_right (λ q. x.from < q.from) xs (y ∷ ys) h.0).1, without_middle xs ys y h.1)
 
 all_names : (P : Place → Type 0) (es : List Equation) → AllByRecursion P (flat_map equation_places es) → AllByRecursion P (name_places es)
 all_names P [] h = tt
 all_names P (e ∷ es) h =
     let here = all_left P (equation_places e) (flat_map equation_places es) h in
-    all_both P (term_places e.left ++ term_places e.right) (name_places es)
-    (all_both P (term_places e.left) (term_places e.right) (all_left P (term_places e.left) (e.tilde ∷ term_places e.right) here) (all_right P (term_places e.left) (e.tilde ∷ term_places e.right) here).1)
+    all_append P (term_places e.left ++ term_places e.right) (name_places es)
+    (all_append P (term_places e.left) (term_places e.right) (all_left P (term_places e.left) (e.tilde ∷ term_places e.right) here) (all_right P (term_places e.left) (e.tilde ∷ term_places e.right) here).1)
     (all_names P es (all_right P (equation_places e) (flat_map equation_places es) h))
-
-rises_left : (xs ys : List Place) → Rises (xs ++ ys) → Rises xs
-rises_left [] ys h = tt
-rises_left (x ∷ xs) ys h = (all_left (λ q. x.from < q.from) xs ys h.0, rises_left xs ys h.1)
-
-rises_right : (xs ys : List Place) → Rises (xs ++ ys) → Rises ys
-rises_right [] ys h = h
-rises_right (x ∷ xs) ys h = rises_right xs ys h.1
 
 -- the first list is the same, and the second one's places are among those that came after it
 rises_on : (xs ys zs : List Place) → ((P : Place → Type 0) → AllByRecursion P ys → AllByRecursion P zs) → Rises zs → Rises (xs ++ ys) → Rises (xs ++ zs)
 rises_on [] ys zs less up h = up
 rises_on (x ∷ xs) ys zs less up h =
-    (all_both (λ q. x.from < q.from) xs zs (all_left (λ q. x.from < q.from) xs ys h.0) (less (λ q. x.from < q.from) (all_right (λ q. x.from < q.from) xs ys h.0)), rises_on xs ys zs less up h.1)
+    (all_append (λ q. x.from < q.from) xs zs (all_left (λ q. x.from < q.from) xs ys h.0) (less (λ q. x.from < q.from) (all_right (λ q. x.from < q.from) xs ys h.0)), rises_on xs ys zs less up h.1)
 
 names_rise : (es : List Equation) → Rises (flat_map equation_places es) → Rises (name_places es)
 names_rise [] h = tt
 names_rise (e ∷ es) h =
-    let rest = names_rise es (rises_right (equation_places e) (flat_map equation_places es) h) in
+    let rest = names_rise es (back_rises (equation_places e) (flat_map equation_places es) h) in
     let names : Rises (equation_places e ++ name_places es) = rises_on (equation_places e) (flat_map equation_places es) (name_places es) (λ P k. all_names P es k) rest h in
     subst Rises (sym (append_assoc (term_places e.left) (term_places e.right) (name_places es)))
     (without_middle (term_places e.left) (term_places e.right ++ name_places es) e.tilde (subst Rises (append_assoc (term_places e.left) (e.tilde ∷ term_places e.right) (name_places es)) names))
@@ -195,7 +178,7 @@ rule_rises r first second order =
     let all : Rises (flat_map term_places r.first.terms ++ flat_map term_places r.second.terms) = without_middle (flat_map term_places r.first.terms) (flat_map term_places r.second.terms) r.second.name.place order.1 in
     subst Rises (ap (λ z. flat_map term_places r.first.terms ++ z) (sym (append-nil (flat_map term_places r.second.terms))) ∙ sym (append-nil _)) all
 
--- ---- and so two occurrences have different places
+-- ---- and so and_parts occurrences have different places
 
 later_root : (P : Place → Type 0) (spots : List Spot) (j m : ℕ) (q : Place) → AllByRecursion P (root_places spots) → j < length spots → nth_spot spots j ≡ Occurrence m q → P q
 later_root P [] j m q all lt is = absurd (omega (arith, lt))
@@ -211,9 +194,9 @@ root_before (s ∷ spots) zero (suc j) m n p q up lt in_ is at =
     let first : Rises (root_place (Occurrence m p) ++ root_places spots) = subst (λ s. Rises (root_place s ++ root_places spots)) is up in
     later_root (λ q. p.from < q.from) spots j n q first.0 (omega (arith, in_)) at
 root_before (s ∷ spots) (suc i) zero m n p q up lt in_ is at = absurd (omega (arith, lt))
-root_before (s ∷ spots) (suc i) (suc j) m n p q up lt in_ is at = root_before spots i j m n p q (rises_right (root_place s) (root_places spots) up) (omega (arith, lt)) (omega (arith, in_)) is at
+root_before (s ∷ spots) (suc i) (suc j) m n p q up lt in_ is at = root_before spots i j m n p q (back_rises (root_place s) (root_places spots) up) (omega (arith, lt)) (omega (arith, in_)) is at
 
--- the same at any two names
+-- the same at any and_parts names
 later_place : (P : Place → Type 0) (spots : List Spot) (j : ℕ) (q : Place) → AllByRecursion P (root_places spots) → j < length spots → root_place (nth_spot spots j) ≡ q ∷ [] → P q
 later_place P [] j q all lt is = absurd (omega (arith, lt))
 later_place P (s ∷ spots) zero q all lt is =
@@ -228,4 +211,4 @@ place_before (s ∷ spots) zero (suc j) p q up lt in_ is at =
     let first : Rises ((p ∷ []) ++ root_places spots) = subst (λ z. Rises (z ++ root_places spots)) is up in
     later_place (λ q. p.from < q.from) spots j q first.0 (omega (arith, in_)) at
 place_before (s ∷ spots) (suc i) zero p q up lt in_ is at = absurd (omega (arith, lt))
-place_before (s ∷ spots) (suc i) (suc j) p q up lt in_ is at = place_before spots i j p q (rises_right (root_place s) (root_places spots) up) (omega (arith, lt)) (omega (arith, in_)) is at
+place_before (s ∷ spots) (suc i) (suc j) p q up lt in_ is at = place_before spots i j p q (back_rises (root_place s) (root_places spots) up) (omega (arith, lt)) (omega (arith, in_)) is at

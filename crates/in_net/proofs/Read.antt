@@ -20,9 +20,9 @@ use Rattle.in_net.specs.Joining.{JointsInside, links_of}
 use Rattle.in_net.specs.Building.{no_agent, no_spot, nth_spot, nth_link, nth_agent}
 use Rattle.in_net.specs.Built.{IsPortOf, IsEnd, IsNumbered}
 use Rattle.in_net.specs.TextNet.{Body, IsTermOf, IsVariable, PlacedJoint, name_of, place_of}
-use Rattle.in_net.proofs.Links.{all_along, all_append}
 use Rattle.in_net.proofs.Linked.{front_or_back, at_front, at_back, links_joint, length-links_of}
 use Rattle.in_net.proofs.Sound.{named, IsLinked, linked_more, linked_joint}
+use Rattle.in_base.proofs.Each.{all_map, all_append}
 
 -- the name of that number is the term's, which is no symbol's
 pub record IsVariableAt (t : Tables) (b : Body) (names : List (List ℕ)) (m : ℕ) (p : Place) : Type 0 where
@@ -101,7 +101,7 @@ still_named t b names more (Occurrence m p) h = record {
 pub all_still_named : (t : Tables) (b : Body) (names : List (List ℕ)) (name : List ℕ) (spots : List Spot) → AllByRecursion (IsNamed t b names) spots → AllByRecursion (IsNamed t b (with_name names name)) spots
 all_still_named t b names name spots all =
     let grown = grows_by names name (number_in name names) refl in
-    all_along _ _ (λ s h. subst (λ z. IsNamed t b z s) (sym grown.1) (still_named t b names grown.0 s h)) spots all
+    all_map _ _ (λ s h. subst (λ z. IsNamed t b z s) (sym grown.1) (still_named t b names grown.0 s h)) spots all
 
 pub name_inside : (t : Tables) (b : Body) (names : List (List ℕ)) (s : Spot) → IsNamed t b names s → IsNameInside (length names) s
 name_inside t b names (Port a i p) h = tt
@@ -232,7 +232,7 @@ module _ (t : Tables) (free : ℕ) (r : Reading) (numbered : IsNumbered t free r
   wider_agent = count
 
 wider_joints : (n m : ℕ) (r : Reading) → n ≤ m → JointsInside n r.joints → JointsInside m r.joints
-wider_joints n m r le all = all_along _ _ (λ j h. (omega (arith, h.0, le), omega (arith, h.1, le))) r.joints all
+wider_joints n m r le all = all_map _ _ (λ j h. (omega (arith, h.0, le), omega (arith, h.1, le))) r.joints all
 
 pub with_agent_read : (t : Tables) (b : Body) (free names : ℕ) (r : Reading) (s : SymbolNo) (place : Place) → IsRead t b free names r → s.0 < length t.names → arity_of t s.0 ≤ 8 →
     IsRead t b free (names + 1) (with_agent r s (arity_of t s.0) place)

@@ -18,6 +18,7 @@ use Rattle.in_net.specs.Rules.{IsMemberOf, body_of_rule}
 use Rattle.in_net.specs.TextNet.{Body, Spot, Written, AreCellsFor, AreFreeOf, agents_of_body, body_of, ComesBefore, HasAgentsOf, HasWiresOf, IsNetOf, IsWireOf, port_at, free_end, spot_at}
 use Rattle.std.proofs.lemmas.Option.{same_Some, slice_get_within}
 use Rattle.in_net.proofs.WireAt.{has_partner}
+use Rattle.in_base.proofs.Each.{at_index}
 
 -- a wire of the text from a spot is one wire: it leads to one spot, and stands at one place
 abbrev pub AreSingle : Tables → Body → Type 0
@@ -37,11 +38,6 @@ all_same (x ∷ xs) (y ∷ ys) h =
     let one : Some x ≡ Some y = h 0 in
     let rest : xs ≡ ys = all_same xs ys (λ i. h (suc i)) in
     cc
-
-pub at_index : {X : Type 0} (xs : List X) (i : ℕ) → i < length xs → (x : X) × (slice_get xs i ≡ Some x)
-at_index [] i lt = absurd (omega (arith, lt))
-at_index (x ∷ xs) zero lt = (x, refl)
-at_index (x ∷ xs) (suc i) lt = at_index xs i (omega (arith, lt))
 
 -- ---- rising lists with the same elements are equal
 

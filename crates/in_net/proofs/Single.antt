@@ -16,7 +16,7 @@ use Rattle.in_net.specs.Joining.{links_of}
 use Rattle.in_net.specs.Building.{AreTwice, nth_link, nth_spot, nth_agent}
 use Rattle.in_net.specs.TextNet as text
 use Rattle.in_net.specs.TextNet.{Body, IsTermOf, IsPartOf, IsVariable, PlacedJoint, NameJoint, IsOccurrence, Chain, Kind, placed, of_name, IsWireOf, name_of, place_of, spot_of}
-use Rattle.std.proofs.lemmas.Option.{slice_get_within}
+use Rattle.std.proofs.lemmas.Option.{slice_get_within, same_Some}
 use Rattle.in_net.proofs.Links.{all_at}
 use Rattle.in_net.proofs.Linked.{same_or_not, below_or_not}
 use Rattle.in_net.proofs.Sound.{named}
@@ -219,13 +219,10 @@ module _ (t : Tables) (b : Body) (r : Reading) (h : IsReadWhole t b r) where
       let s = twin_of x y j in
       let u = twin_of x z k in
       let same : s.one ≡ u.one = one_spot s.one u.one s.one_in u.one_in (s.one_is ∙ sym u.one_is) in
-      let number : s.number ≡ u.number = some_number s.number u.number (sym s.one_named ∙ ap (λ i. counting.name_of (nth_spot r.spots i)) same ∙ u.one_named) in
+      let number : s.number ≡ u.number = same_Some s.number u.number (sym s.one_named ∙ ap (λ i. counting.name_of (nth_spot r.spots i)) same ∙ u.one_named) in
       let other : s.other ≡ u.other = other_is_one r.spots (length r.names) h.twice s.number s.one s.other u.other (name_known s.one s.number s.one_in s.one_named) s.one_in s.other_in u.other_in s.one_named s.other_named (u.other_named ∙ ap Some (sym number))
       s.apart (λ e. u.apart (sym same ∙ e)) in
       sym s.other_is ∙ ap (λ i. named (nth_spot r.spots i)) other ∙ u.other_is
-    where
-      some_number : (m k : ℕ) → Some m ≡ Some k → m ≡ k
-      some_number m k e = cc
 
   -- ---- chains
 

@@ -16,14 +16,16 @@ use Rattle.in_net.specs.Reading.{with_agent, with_occurrence, with_joint, number
 use Rattle.in_net.specs.Joining.{links_of}
 use Rattle.in_net.specs.Building.{no_spot, nth_spot, nth_link}
 use Rattle.in_net.specs.TextNet as text
-use Rattle.in_syntax.specs.Lists.{IsAmong}
+use Rattle.in_base.specs.Lists.{IsAmong}
 use Rattle.in_net.specs.TextNet.{Body, IsTermOf, IsPartOf, IsVariable, PlacedJoint, name_of, place_of, spot_of, spot_by}
-use Rattle.in_net.proofs.Folds.{names_out, fits_agent, read_agent, read_occurrence, place_read}
+use Rattle.in_net.proofs.Folds.{fits_agent, read_agent, read_occurrence, place_read}
 use Rattle.in_net.proofs.Linked.{same_or_not, below_or_not, at_front, at_back, at_first, at_second, at_third, stays, added, links_joint, length-links_of}
 use Rattle.in_net.proofs.Sound.{named}
-use Rattle.in_net.proofs.HeadsOf.{two, arguments_known, no_arguments}
+use Rattle.in_net.proofs.HeadsOf.{arguments_known, no_arguments}
 use Rattle.in_net.proofs.Kept.{IsSettled, IsHeldAt, Keeps, keeps_both, keeps_itself, keeps_more, keeps_joint, settled_joint}
 use Rattle.in_net.proofs.Read.{name_there, grows_by, IsRead, with_agent_read, with_occurrence_read, with_joint_read, more_names, new_spot, wider_agent}
+use Rattle.std.proofs.lemmas.Bool.{and_parts}
+use Rattle.in_syntax.proofs.Terms.{names_out}
 
 -- the joints of a term's arguments and its variables stand among the spots
 pub record IsHeldIn (t : Tables) (u : Term) (r : Reading) : Type 0 where
@@ -214,7 +216,7 @@ reads_all t b free h ih u done [] first arity port agent count q short fits symb
     no_element : (j : ℕ) (w : Term) → slice_get {X = Term} [] j ≡ Some w → ⊥
     no_element j w e = cc
 reads_all t b free h ih u done (v ∷ args) first arity port agent count q short fits symbol terms all at rest room ports past read =
-    let both = two (arities_fit t v) (all_true (map (arities_fit t) args)) fits in
+    let both = and_parts (arities_fit t v) (all_true (map (arities_fit t) args)) fits in
     let q1 : Reading = ((reader_of t v).reads q).0 in
     let other : ℕ = ((reader_of t v).reads q).1 in
     let among : IsAmong v (out-Term u).args = subst (IsAmong v) all (among_middle done args v) in
@@ -252,8 +254,8 @@ reads_all t b free h ih u done (v ∷ args) first arity port agent count q short
 
     held_by : all_true (map (heads_known t.names) (v ∷ args)) ≡ true → (w : Term) → IsAmong w (v ∷ args) → (heads_known t.names v ≡ true → IsHeldIn t v ((reader_of t v).reads q).0) → Keeps ((reader_of t v).reads q).0 after →
         (all_true (map (heads_known t.names) args) ≡ true → (w : Term) → IsAmong w args → IsHeldIn t w after) → IsHeldIn t w after
-    held_by heads w (inl e) here keeps others = subst (λ w. IsHeldIn t w after) e (held_stays t v ((reader_of t v).reads q).0 after keeps (here (two (heads_known t.names v) (all_true (map (heads_known t.names) args)) heads).0))
-    held_by heads w (inr h) here keeps others = others (two (heads_known t.names v) (all_true (map (heads_known t.names) args)) heads).1 w h
+    held_by heads w (inl e) here keeps others = subst (λ w. IsHeldIn t w after) e (held_stays t v ((reader_of t v).reads q).0 after keeps (here (and_parts (heads_known t.names v) (all_true (map (heads_known t.names) args)) heads).0))
+    held_by heads w (inr h) here keeps others = others (and_parts (heads_known t.names v) (all_true (map (heads_known t.names) args)) heads).1 w h
 
     settled_by : (j : ℕ) (w : Term) → slice_get (v ∷ args) j ≡ Some w → IsSettled (with_joint ((reader_of t v).reads q).0 first port ((reader_of t v).reads q).1 (reader_of t v).place) (text.port_at (place_of u) port) (spot_of t v) (place_of v) →
         Keeps (with_joint ((reader_of t v).reads q).0 first port ((reader_of t v).reads q).1 (reader_of t v).place) after →

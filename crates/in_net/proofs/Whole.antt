@@ -2,7 +2,7 @@
 use Rattle.std.proofs.Common.{◌≡◌, ◌≢◌, ◌⊎◌, inl, inr, ℕ, zero, suc, ◌+◌, ◌<◌, ◌≤◌, Bool, true, false, ◌&&◌, ◌==◌, cond, nat_lt, List, [], ◌∷◌, ◌++◌, length, length-append, map, Option, Some, None, option_map, slice_get, refl, sym, ◌∙◌, ap, subst, arith, get_or, Contains, ltb-true, ltb-false}
 use Rattle.std.specs.Prelude.{option_to_list}
 use Rattle.std.specs.List.{AllByRecursion, IsDistinct}
-use Rattle.std.proofs.lemmas.Bool.{eqb-true, true≢false}
+use Rattle.std.proofs.lemmas.Bool.{eqb-true, true≢false, and_from, and_parts, false_from_ne_true}
 use Rattle.std.proofs.lemmas.Bool.Decides.{Decides-eqb}
 use Rattle.std.specs.Bool.{one_answer, Decides}
 use Rattle.std.proofs.lemmas.List.{length-map}
@@ -23,10 +23,9 @@ use Rattle.in_net.specs.Building.{nth_spot, nth_link, point_in, IsJoined, partne
 use Rattle.in_net.specs.declared.nets.FreeEnd.{FreeEnd}
 use Rattle.in_net.specs.Built.{IsNumbered, IsReadFrom, AreJoinedTo, AreListedOf}
 use Rattle.in_net.specs.Parts.{Parts, IsWhole, IsWireBetween, as_built, partner_in, wire_in, wire_place_in}
-use Rattle.in_net.proofs.HeadsOf.{two, both_are}
 use Rattle.in_net.proofs.Linked.{same_or_not, below_or_not}
-use Rattle.in_net.proofs.Links.{all_append}
 use Rattle.in_net.proofs.Points.{Stands, to_of, point_here, partner_stands, partner_back, only_one, partner_at, stands_at, leads_back, never_itself}
+use Rattle.in_base.proofs.Each.{all_append}
 
 -- ---- the wires that are found, one for each spot that is joined to a later one
 
@@ -73,13 +72,13 @@ eq_point (Free k) (Free l) = k == l
 eq_point-Decides : (p q : Point) → Decides (eq_point p q) (p ≡ q)
 eq_point-Decides (Port a i) (Port c j) = (
   (λ e.
-      let parts = two (a.0 == c.0) (i == j) e in
+      let parts = and_parts (a.0 == c.0) (i == j) e in
       let agent : a.0 ≡ c.0 = eqb-true a.0 c.0 parts.0 in
       ap (λ n. let x : AgentNo = record { 0 = n } in Port x i) agent ∙ ap (Port c) (eqb-true i j parts.1)),
   (λ e.
       let agent : a ≡ c = cc in
       let place : i ≡ j = cc in
-      both_are (a.0 == c.0) (i == j) ((Decides-eqb a.0 c.0).1 (ap (λ (n : AgentNo). n.0) agent)) ((Decides-eqb i j).1 place)),
+      and_from (a.0 == c.0) (i == j) ((Decides-eqb a.0 c.0).1 (ap (λ (n : AgentNo). n.0) agent)) ((Decides-eqb i j).1 place)),
 )
 eq_point-Decides (Port a i) (Free l) = ((λ e. cc), (λ e. cc))
 eq_point-Decides (Free k) (Port c j) = ((λ e. cc), (λ e. cc))
@@ -104,12 +103,8 @@ distinct_at (w ∷ ws) zero (suc j) d lt in_ h = later ws j (omega (arith, in_))
 distinct_at (w ∷ ws) (suc i) zero d lt in_ h = absurd (omega (arith, lt))
 distinct_at (w ∷ ws) (suc i) (suc j) d lt in_ h = distinct_at ws i j d (omega (arith, lt)) (omega (arith, in_)) h.1
 
-is_false : (b : Bool) → (b ≡ true → ⊥) → b ≡ false
-is_false true h = absurd (h refl)
-is_false false h = refl
-
 module _ (t : Tables) (r : Reading) (links : List Link) (read : (p : Point) (k l : ℕ) → Stands r.spots p k → Stands r.spots p l → k ≡ l) (joined : IsJoined r.spots links) where
-  -- the two points of a found wire, where they stand
+  -- the and_parts points of a found wire, where they stand
   one_stands : (from k : ℕ) (w : Wire) → IsFoundAt r.spots links from k w → Stands r.spots w.one k
   one_stands from k w f = record {
     inside = f.inside;
@@ -135,7 +130,7 @@ module _ (t : Tables) (r : Reading) (links : List Link) (read : (p : Point) (k l
           let k = read v.one from h.0.0 one (one_stands (from + 1) h.0.0 v h.0.1) in
           let after = h.0.1.after in
           absurd (omega (arith, after, k))) in
-          (is_false (same_one w v) other, apart w f ws h.1)
+          (false_from_ne_true (same_one w v) other, apart w f ws h.1)
 
       by_test : (b : Bool) → nat_lt from (nth_link links from).to ≡ b → IsDistinct same_one (wires_from r.spots links (from + 1) n) → IsDistinct same_one (option_to_list (cond b (Some (found_wire r.spots links from)) None) ++ wires_from r.spots links (from + 1) n)
       by_test true is h =

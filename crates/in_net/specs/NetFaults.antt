@@ -11,7 +11,7 @@ use Rattle.in_syntax.specs.declared.tree.Term.{Term, out-Term}
 use Rattle.in_symbols.specs.Faults.{IsNoLater}
 use Rattle.in_symbols.specs.Tables.{Tables, arity_of}
 use Rattle.in_symbols.specs.Names.{number_in}
-use Rattle.in_syntax.specs.Lists.{IsAmong}
+use Rattle.in_base.specs.Lists.{IsAmong}
 use Rattle.in_net.specs.TextNet.{Body, LeftHead, body_of, IsTermOf, IsAgent, IsVariable, name_of, place_of, Written, agents_of_body, IsClosedWireOf}
 
 -- the most agents that the initial net may have, and the most that a right member may have

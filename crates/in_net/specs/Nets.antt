@@ -5,7 +5,7 @@ use Rattle.in_net.specs.declared.nets.Point as points
 use Rattle.in_net.specs.declared.nets.Point.TheVariants as point
 use Rattle.in_symbols.specs.Tables.{Tables, arity_of, port_at, class_at}
 use Rattle.in_net.specs.Parts.{Parts, symbol_in, partner_in}
-use Rattle.in_syntax.specs.Lists.{IsAmong}
+use Rattle.in_base.specs.Lists.{IsAmong}
 
 -- a port of an agent, by its place, or a free end
 pub data Point (A : Type 0) : Type 0 where

@@ -1,5 +1,5 @@
 -- Known bytes that grow twice, and writes of fronts.
-use Rattle.std.proofs.Common.{◌≡◌, ℕ, zero, suc, ◌<◌, ◌≤◌, ◌+◌, ◌-◌, ◌^◌, List, ◌++◌, take, drop, length, Option, Some, None, Ok, refl, sym, subst, ◌∙◌, ap, append_assoc, arith, take-append-drop}
+use Rattle.std.proofs.Common.{◌≡◌, ℕ, zero, suc, ◌<◌, ◌≤◌, ◌+◌, ◌-◌, ◌^◌, List, ◌++◌, take, drop, length, Option, Some, None, Ok, refl, sym, subst, ◌∙◌, ap, append_assoc, arith, take-append-drop, take-add}
 use Rattle.std.proofs.lemmas.List.{take-take, drop-take, take_rest}
 use Rattle.std.proofs.Math.Nat.{min-le_left}
 use Rattle.std.specs.Io.KnownBytes.{append_known}
@@ -9,15 +9,9 @@ pub append_known-twice : (known : Option (List ℕ)) (a b : List ℕ) → append
 append_known-twice None a b = refl
 append_known-twice (Some xs) a b = ap Some (append_assoc xs a b)
 
-pub take_sum : (i j : ℕ) (xs : List ℕ) → take (i + j) xs ≡ take i xs ++ take j (drop i xs)
-take_sum i j xs =
-    sym (take-append-drop i (take (i + j) xs))
-    ∙ ap (λ z. z ++ drop i (take (i + j) xs)) (take-take i (i + j) xs (omega arith))
-    ∙ ap (λ z. take i xs ++ z) (drop-take i j xs)
-
 -- a write of a front of what is left
 pub written : (i n : ℕ) (bytes : List ℕ) → take i bytes ++ take n (take (length bytes - i) (drop i bytes)) ≡ take (i + n) bytes
-written i n bytes = ap (λ z. take i bytes ++ take n z) (take_rest bytes i) ∙ sym (take_sum i n bytes)
+written i n bytes = ap (λ z. take i bytes ++ take n z) (take_rest bytes i) ∙ sym (take-add i n bytes)
 
 -- a write that takes some bytes is no failure
 pub takes_some : (n : ℕ) (bytes : List ℕ) → 0 < n → fails_write (Ok n) bytes ≡ 0

@@ -4,7 +4,8 @@ use Rattle.in_simple.specs.declared.open_nets.Point.{Point}
 use Rattle.in_simple.specs.Constructions.{IsIn}
 use Rattle.in_simple.specs.OpenNets.{OpenNet, IsWire}
 use Rattle.in_simple.specs.Derivations.{Step, Empty, Link, Given, Graft, Cut, Mix, Part, named, AreEarlier, own_nodes, is_port_in, is_among, nodes_of, ends_of, ShareNothing, Joins}
-use Rattle.in_simple.proofs.Sums.{not_both, or_left, port_none, port_same, port_or, own_port}
+use Rattle.in_simple.proofs.Sums.{not_both, port_none, port_same, port_or, own_port}
+use Rattle.std.proofs.lemmas.Bool.{or_left}
 
 pub wire_turn : (o : OpenNet) (w : ℕ) (p q : Point) → IsWire o w p q → IsWire o w q p
 wire_turn o w p q (inl h) = inr h

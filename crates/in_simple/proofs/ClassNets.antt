@@ -15,17 +15,17 @@ use Rattle.in_simple.specs.Stuck.{ports_of}
 use Rattle.in_simple.specs.Procedure.{nodes_in, IsPlan, Derives, with_task}
 use Rattle.in_simple.specs.Stacks.{Shape, shape, no_wires, HasShape, HaveShapes, IsLinkOf, Fits, Puts}
 use Rattle.in_simple.specs.Planned.{net_of, Meets, LeadsOff, IsBelow, IsClassShape, AreClassShapes, PutsClasses, HasClasses, IsBegun, Adds, AddsNothing, WhatPort, with_empty, Skips}
-use Rattle.in_simple.proofs.Sums.{or_cases, or_left, or_right, not_both, same_test, some_same, port_yes, port_own}
+use Rattle.in_simple.proofs.Sums.{not_both, same_test, some_same, port_yes, port_own, both_right}
 use Rattle.in_simple.proofs.Balance.{wire_turn}
 use Rattle.in_simple.proofs.Sound.{wire_points, port_place}
 use Rattle.in_simple.proofs.Links.{same_nat, at_most}
 use Rattle.in_simple.proofs.Search.{at_ports, in_ports}
-use Rattle.in_simple.proofs.Grow.{and_both, and_right}
 use Rattle.in_simple.proofs.Forest.{length_app}
 use Rattle.in_simple.proofs.Make.{port_most, hanging, hanging_is, hanging_yes, fit_graft}
 use Rattle.in_simple.proofs.Joining.{shape_same, built_over, fits_empty, fits_link, fits_mix}
 use Rattle.in_simple.proofs.Stacking.{none_more}
 use Rattle.in_simple.proofs.Nets.{Joined, joined_on, joined_back, joined_first, joined_last, joined_near, not_root, done_on, in_both, component_new, puts_none, puts_make, puts_derive}
+use Rattle.std.proofs.lemmas.Bool.{and_from, or_cases, or_left, or_right}
 
 module _ (o : OpenNet) (net : IsOpenNet o) (n : ℕ) where
   -- ---- what a port adds
@@ -524,7 +524,7 @@ module _ (o : OpenNet) (net : IsOpenNet o) (n : ℕ) where
     class_links c w = hanging o net n whole part agent zero_root (λ m g. part_most m) is_graft c (length o.wires) w
 
     class_rest : (c m : ℕ) → 0 < c → IsIn m (class_nodes c) → IsIn m (nodes_in p.rest)
-    class_rest c m l g = let x = part_is m c l (eqb-true (part m) c (and_right (whole m) (nat_eq (part m) c) g)) in meets_rest x.0 m x.3
+    class_rest c m l g = let x = part_is m c l (eqb-true (part m) c (both_right (whole m) (nat_eq (part m) c) g)) in meets_rest x.0 m x.3
 
     -- the shape of a class is that of its net
     class_shape : (c : ℕ) (x : Shape) → 0 < c → IsClassShape o p.rest n b c x → x ≡ shape (class_nodes c) (class_links c)
@@ -532,8 +532,8 @@ module _ (o : OpenNet) (net : IsOpenNet o) (n : ℕ) where
       where
         nodes : (m : ℕ) → x.nodes m ≡ class_nodes c m
         nodes m = same_test (x.nodes m) (class_nodes c m)
-            (λ g. let y = (k.nodes m).0 g in and_both (whole m) (nat_eq (part m) c) (in_whole m y.0 y.1 y.3) (eq-eqb (part m) c ((part_of m y.0 y.1 y.3).0 ∙ y.2)))
-            (λ g. (k.nodes m).1 (part_is m c l (eqb-true (part m) c (and_right (whole m) (nat_eq (part m) c) g))))
+            (λ g. let y = (k.nodes m).0 g in and_from (whole m) (nat_eq (part m) c) (in_whole m y.0 y.1 y.3) (eq-eqb (part m) c ((part_of m y.0 y.1 y.3).0 ∙ y.2)))
+            (λ g. (k.nodes m).1 (part_is m c l (eqb-true (part m) c (both_right (whole m) (nat_eq (part m) c) g))))
 
         wire_small : (w : ℕ) (p q : Point) → IsWire o w p q → w < length o.wires
         wire_small w p q (inl g) = slice_get_within o.wires w (p, q) g
@@ -555,7 +555,7 @@ module _ (o : OpenNet) (net : IsOpenNet o) (n : ℕ) where
               let v = port_most (nodes_in p.rest) q in
               let y = port_own (nodes_in p.rest) q (omega arith) in
               let x : Meets o p.rest n i y.0 = (w, y.0, y.1, subst (λ z. IsWire o w (Port n i) z) y.2 wire, alone y.0 y.3) in
-              let one : is_port_in (class_nodes c) q ≡ 1 = subst (λ z. is_port_in (class_nodes c) z ≡ 1) (sym y.2) (port_yes (class_nodes c) y.0 y.1 (and_both (whole y.0) (nat_eq (part y.0) c) (in_whole y.0 i bl x) (eq-eqb (part y.0) c ((part_of y.0 i bl x).0 ∙ e)))) in
+              let one : is_port_in (class_nodes c) q ≡ 1 = subst (λ z. is_port_in (class_nodes c) z ≡ 1) (sym y.2) (port_yes (class_nodes c) y.0 y.1 (and_from (whole y.0) (nat_eq (part y.0) c) (in_whole y.0 i bl x) (eq-eqb (part y.0) c ((part_of y.0 i bl x).0 ∙ e)))) in
               absurd (omega arith)
           | inr u ↦ omega arith
         ]

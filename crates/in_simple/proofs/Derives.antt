@@ -5,12 +5,13 @@ use Rattle.in_simple.specs.Constructions.{IsIn}
 use Rattle.in_simple.specs.OpenNets.{OpenNet, IsNode, IsOpenNet, IsDerivable}
 use Rattle.in_simple.specs.Derivations.{Step, is_free, Builds, IsDerivation}
 use Rattle.in_simple.specs.Stacks.{no_wires, loose_in, loose_below}
-use Rattle.in_simple.proofs.Sums.{or_left, not_both, some_same, one_other}
+use Rattle.in_simple.proofs.Sums.{not_both, some_same, one_other}
 use Rattle.in_simple.proofs.Grow.{splits_built}
 use Rattle.in_simple.proofs.Forest.{Agrees}
 use Rattle.in_simple.proofs.Make.{Made, LinkOf, make_link, make_mix, same_links, constructions}
 use Rattle.in_simple.proofs.Both.{derivable_splits}
 use Rattle.in_simple.proofs.Finishing.{loose_points, loose_no_port, below_small, below_none, below_past, below_more, below_all, last_ends}
+use Rattle.std.proofs.lemmas.Bool.{or_left}
 
 module _ (o : OpenNet) (net : IsOpenNet o) where
   -- with a Link of each wire between free ends

@@ -3,18 +3,8 @@ use Rattle.std.proofs.Common.{◌≤◌, ◌≡◌, ◌≢◌, ◌⊎◌, ◌<�
 use Rattle.in_net.specs.Graphs.{Graph}
 use Rattle.in_simple.specs.Constructions.{IsIn, AreParts, numbered, IsGraft, Built, empty, given, mix, cut, graft}
 use Rattle.in_simple.specs.Splitting.{Linked, alone, onward, Without, SplitsAt}
-
-and_left : (b c : Bool) → (b && c) ≡ true → b ≡ true
-and_left true c h = refl
-and_left false c h = h
-
-and_right : (b c : Bool) → (b && c) ≡ true → c ≡ true
-and_right true c h = h
-and_right false c h = cc
-
-and_both : (b c : Bool) → b ≡ true → c ≡ true → (b && c) ≡ true
-and_both true c h k = k
-and_both false c h k = cc
+use Rattle.std.proofs.lemmas.Bool.{and_from}
+use Rattle.in_simple.proofs.Sums.{both_left, both_right, not_both}
 
 module _ (g : Graph) (wire_back : (u v : g.Node × ℕ) → g.Wire u v → g.Wire v u) where
   link_first : (P : g.Node → Type 0) (u v : g.Node) → Linked g P u v → P u
@@ -88,7 +78,7 @@ module _ (g : Graph) (wire_back : (u v : g.Node × ℕ) → g.Wire u v → g.Wir
 
         over : (i j : ℕ) (l m : g.Node) (k h : ℕ) → g.Wire (n, i) (l, k) → g.Wire (n, j) (m, h) → Linked g (Without n t) l m → IsIn l a ⊎ IsIn l b → IsIn m a ⊎ IsIn m b → g.class n i ≡ g.class n j
         over i j l m k h w v link (inl la) (inl ma) =
-            split.touched i j l m k h w v (link_map (λ z. Without n t z × IsIn z a) (Without n (λ z. t z && a z)) (λ z x. (and_both (t z) (a z) x.0.0 x.1, x.0.1)) l m
+            split.touched i j l m k h w v (link_map (λ z. Without n t z × IsIn z a) (Without n (λ z. t z && a z)) (λ z x. (and_from (t z) (a z) x.0.0 x.1, x.0.1)) l m
             ((link_back (Without n t) (λ z x. in_s z x.0) l m ma link).0 la))
         over i j l m k h w v link (inr lb) (inl ma) =
             let x = link_first (λ z. Without n t z × IsIn z a) p.0 m ((link_back (Without n t) (λ z x. in_s z x.0) l m ma link).1 lb) in
@@ -110,11 +100,11 @@ module _ (g : Graph) (wire_back : (u v : g.Node × ℕ) → g.Wire u v → g.Wir
 
       go : IsIn m a ⊎ IsIn m b → (n : g.Node) × IsIn n t × SplitsAt g n t
       go (inl ma) =
-          let r = x (λ k. t k && a k) (λ k h. and_right (t k) (a k) h) m (and_both (t m) (a m) here ma) in
-          (r.0, and_left (t r.0) (a r.0) r.1, lift_over s a b parts p q only t in_s r.0 (and_left (t r.0) (a r.0) r.1) (and_right (t r.0) (a r.0) r.1) r.2)
+          let r = x (λ k. t k && a k) (λ k h. both_right (t k) (a k) h) m (and_from (t m) (a m) here ma) in
+          (r.0, both_left (t r.0) (a r.0) r.1, lift_over s a b parts p q only t in_s r.0 (both_left (t r.0) (a r.0) r.1) (both_right (t r.0) (a r.0) r.1) r.2)
       go (inr mb) =
-          let r = y (λ k. t k && b k) (λ k h. and_right (t k) (b k) h) m (and_both (t m) (b m) here mb) in
-          (r.0, and_left (t r.0) (b r.0) r.1, lift_over s b a (swap_parts s a b parts) q p back t in_s r.0 (and_left (t r.0) (b r.0) r.1) (and_right (t r.0) (b r.0) r.1) r.2)
+          let r = y (λ k. t k && b k) (λ k h. both_right (t k) (b k) h) m (and_from (t m) (b m) here mb) in
+          (r.0, both_left (t r.0) (b r.0) r.1, lift_over s b a (swap_parts s a b parts) q p back t in_s r.0 (both_left (t r.0) (b r.0) r.1) (both_right (t r.0) (b r.0) r.1) r.2)
 
   -- the agent of a graft splits each set of its nodes that it is in
   root_splits : (n : g.Node) (s : g.Node → Bool) (part : g.Node → ℕ) → (many : ℕ) → IsGraft g n many s part → (t : g.Node → Bool) → ((k : g.Node) → IsIn k t → IsIn k s) → SplitsAt g n t
@@ -129,9 +119,6 @@ module _ (g : Graph) (wire_back : (u v : g.Node × ℕ) → g.Wire u v → g.Wir
 
   pub each_part_splits : {IsAgent : g.Node → Type 0} → {classes : g.Node → ℕ} → {s : g.Node → Bool} → Built g IsAgent classes s → EachPartSplits s
   each_part_splits (empty s none) t in_s m here = absurd (not_both (s m) (in_s m here) (none m))
-    where
-      not_both : (b : Bool) → b ≡ true → b ≡ false → ⊥
-      not_both b h k = cc
   each_part_splits (given n s _ all self) t in_s m here = (
     m,
     here,
@@ -153,13 +140,13 @@ module _ (g : Graph) (wire_back : (u v : g.Node × ℕ) → g.Wire u v → g.Wir
       go false h net =
           let other : (k : g.Node) → IsIn k t → k ≢ n = λ k kt e. let u : t n ≡ true = sym (ap t e) ∙ kt in cc in
           let c = net (r.others m (in_s m here) (other m here)) (r.most m (in_s m here) (other m here)) (λ k. t k && nat_eq (part k) (part m))
-          (λ k x. and_both (s k) (nat_eq (part k) (part m)) (in_s k (and_left (t k) (nat_eq (part k) (part m)) x)) (and_right (t k) (nat_eq (part k) (part m)) x))
-          m (and_both (t m) (nat_eq (part m) (part m)) here (eq-eqb (part m) (part m) refl)) in
-          let in_t = and_left (t c.0) (nat_eq (part c.0) (part m)) c.1 in (
+          (λ k x. and_from (s k) (nat_eq (part k) (part m)) (in_s k (both_left (t k) (nat_eq (part k) (part m)) x)) (both_right (t k) (nat_eq (part k) (part m)) x))
+          m (and_from (t m) (nat_eq (part m) (part m)) here (eq-eqb (part m) (part m) refl)) in
+          let in_t = both_left (t c.0) (nat_eq (part c.0) (part m)) c.1 in (
             c.0,
             in_t,
             lift t (λ k. t k && nat_eq (part k) (part m)) (λ k. part k ≡ part m)
-                (λ k x y. and_both (t k) (nat_eq (part k) (part m)) x (eq-eqb (part k) (part m) y))
+                (λ k x y. and_from (t k) (nat_eq (part k) (part m)) x (eq-eqb (part k) (part m) y))
                 (λ l k i j w x y e. sym (r.among l k i j (in_s l x) (in_s k y) (other l x) (other k y) w) ∙ e)
-                c.0 in_t (eqb-true (part c.0) (part m) (and_right (t c.0) (nat_eq (part c.0) (part m)) c.1)) c.2,
+                c.0 in_t (eqb-true (part c.0) (part m) (both_right (t c.0) (nat_eq (part c.0) (part m)) c.1)) c.2,
           )

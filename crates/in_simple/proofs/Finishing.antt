@@ -11,19 +11,19 @@ use Rattle.in_simple.specs.OpenNets.{OpenNet, IsNode, IsWire, IsOpenNet, IsPoint
 use Rattle.in_simple.specs.Derivations.{Step, Part, named, times, is_free, AreEarlier, IsDerivation}
 use Rattle.in_simple.specs.Procedure.{nodes_in}
 use Rattle.in_simple.specs.Stacks.{Shape, shape, no_wires, leads_out, HasShape, HaveShapes, times_node, IsLinkOf, IsStack, Runs, are_free, loose_in, loose_below, begun_with, SetsBeside, Ends, IsUnderWay}
-use Rattle.in_simple.proofs.Sums.{or_cases, or_left, or_right, not_both, not_true, same_test, some_same, some_of, port_yes, one_other, earlier_of}
+use Rattle.in_simple.proofs.Sums.{not_both, same_test, some_same, some_of, port_yes, one_other, earlier_of, both_left, both_right}
 use Rattle.in_simple.proofs.Balance.{wire_turn}
 use Rattle.in_simple.proofs.Sound.{wire_points}
 use Rattle.in_simple.proofs.Links.{same_nat}
 use Rattle.in_simple.proofs.Reaching.{in_length}
 use Rattle.in_simple.proofs.Whole.{times_some}
-use Rattle.in_simple.proofs.Grow.{and_both, and_left, and_right}
 use Rattle.in_simple.proofs.Make.{port_most}
 use Rattle.in_simple.proofs.Joining.{shape_same, fits_empty, fits_link, fits_mix}
 use Rattle.in_simple.specs.TakenOrder.{AreJointsOf, AreTaken, links_from, with_nodes, without}
 use Rattle.in_simple.specs.Stacks.{Yields, done}
 use Rattle.in_simple.proofs.Taking.{yields_makes, yields_part}
 use Rattle.in_simple.proofs.Stacking.{none_more, stack_none, runs_make}
+use Rattle.std.proofs.lemmas.Bool.{and_from, or_cases, or_left, or_right, false_from_ne_true}
 
 -- ---- loose wires
 
@@ -50,13 +50,13 @@ loose_no_port o w n i q h wire =
     ]
 
 pub below_small : (o : OpenNet) (b w : ℕ) → IsIn w (loose_below o b) → (w < b) × IsIn w (loose_in o)
-below_small o b w h = (ltb-true w b (and_left (nat_lt w b) (loose_in o w) h), and_right (nat_lt w b) (loose_in o w) h)
+below_small o b w h = (ltb-true w b (both_left (nat_lt w b) (loose_in o w) h), both_right (nat_lt w b) (loose_in o w) h)
 
 below_in : (o : OpenNet) (b w : ℕ) → w < b → IsIn w (loose_in o) → IsIn w (loose_below o b)
-below_in o b w l h = and_both (nat_lt w b) (loose_in o w) (lt-ltb w b l) h
+below_in o b w l h = and_from (nat_lt w b) (loose_in o w) (lt-ltb w b l) h
 
 pub below_none : (o : OpenNet) (w : ℕ) → loose_below o 0 w ≡ false
-below_none o w = not_true (loose_below o 0 w) (λ h. let l = (below_small o 0 w h).0 in omega arith)
+below_none o w = false_from_ne_true (loose_below o 0 w) (λ h. let l = (below_small o 0 w h).0 in omega arith)
 
 pub below_past : (o : OpenNet) (b : ℕ) → loose_in o b ≡ false → (w : ℕ) → loose_below o b w ≡ loose_below o (b + 1) w
 below_past o b off w = same_test (loose_below o b w) (loose_below o (b + 1) w)
@@ -164,7 +164,7 @@ module _ (o : OpenNet) (net : IsOpenNet o) where
       (runs_make o [] joint.Empty [] [] [] (shape (λ n. false) no_wires) refl (fits_empty o net))))
     where
       none : (w : ℕ) → loose_in o w ≡ false
-      none w = not_true (loose_in o w) (λ g. let y = loose_points o w g in not_both (loose_in o w) g (h.2 w (slice_get_within o.wires w (Free y.0, Free y.1) y.2)))
+      none w = false_from_ne_true (loose_in o w) (λ g. let y = loose_points o w g in not_both (loose_in o w) g (h.2 w (slice_get_within o.wires w (Free y.0, Free y.1) y.2)))
 
   -- ---- the end
 
@@ -172,14 +172,14 @@ module _ (o : OpenNet) (net : IsOpenNet o) where
   last_ends whole all w p (Port m j) h =
       let a = port_yes whole m j ((all m).1 (node_of m j (net.points w (Port m j) p (wire_turn o w p (Port m j) h)))) in
       let b = port_most whole p in
-      let c : cond {A = ℕ} (loose_in o w) 1 0 ≡ 0 = ap (λ z. cond z 1 0) (not_true (loose_in o w) (λ g. loose_no_port o w m j p g (wire_turn o w p (Port m j) h))) in
+      let c : cond {A = ℕ} (loose_in o w) 1 0 ≡ 0 = ap (λ z. cond z 1 0) (false_from_ne_true (loose_in o w) (λ g. loose_no_port o w m j p g (wire_turn o w p (Port m j) h))) in
       omega arith
     where
       node_of : (n i : ℕ) → IsPointOf o (Port n i) → IsNode o n
       node_of n i h = let y = some_of (λ m. i < length m.class_of) (slice_get o.nodes n) h in slice_get_within o.nodes n y.0 y.1
   last_ends whole all w (Port m j) (Free k) h =
       let a = port_yes whole m j ((all m).1 (node_of m j (net.points w (Port m j) (Free k) h))) in
-      let c : cond {A = ℕ} (loose_in o w) 1 0 ≡ 0 = ap (λ z. cond z 1 0) (not_true (loose_in o w) (λ g. loose_no_port o w m j (Free k) g h)) in
+      let c : cond {A = ℕ} (loose_in o w) 1 0 ≡ 0 = ap (λ z. cond z 1 0) (false_from_ne_true (loose_in o w) (λ g. loose_no_port o w m j (Free k) g h)) in
       omega arith
     where
       node_of : (n i : ℕ) → IsPointOf o (Port n i) → IsNode o n

@@ -3,9 +3,10 @@ use Rattle.std.proofs.Common.{◌≡◌, ◌⊎◌, ◌<◌, ◌≤◌, ◌+◌,
 use Rattle.in_simple.specs.Constructions.{IsIn}
 use Rattle.in_simple.specs.OpenNets.{OpenNet}
 use Rattle.in_simple.specs.Derivations.{Step, Part, named, own_nodes, own_links, is_among, nodes_of, links_of, ShareNothing, AreDifferent, AreEarlier, Joins, Builds, times, times_in}
-use Rattle.in_simple.proofs.Sums.{or_cases, or_left, or_right, not_both, not_true, some_same, one_same, one_other}
+use Rattle.in_simple.proofs.Sums.{not_both, some_same, one_same, one_other}
 use Rattle.in_simple.proofs.Links.{same_nat, at_most}
 use Rattle.in_simple.proofs.Whole.{times_among}
+use Rattle.std.proofs.lemmas.Bool.{or_cases, or_left, or_right, false_from_ne_true}
 
 pub length_app : {X : Type 0} (xs ys : List X) → length (xs ++ ys) ≡ length xs + length ys
 length_app [] ys = omega arith
@@ -73,7 +74,7 @@ share_app (x ∷ xs) ys s t f g = (
 pub different_of : (ns : List ℕ) → ((j : ℕ) → times j ns ≤ 1) → AreDifferent ns
 different_of [] h = tt
 different_of (n ∷ ns) h = (
-  not_true (is_among n ns) (λ a. let t = times_among n ns a in let u = h n in let v = one_same n n refl in omega arith),
+  false_from_ne_true (is_among n ns) (λ a. let t = times_among n ns a in let u = h n in let v = one_same n n refl in omega arith),
   different_of ns (λ j. let u = h j in omega arith),
 )
 

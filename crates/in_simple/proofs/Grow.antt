@@ -9,22 +9,12 @@ use Rattle.in_simple.specs.Splitting.{Linked, alone, onward, Without, SplitsAt, 
 use Rattle.in_simple.specs.declared.open_nets.OpenNode.{OpenNode}
 use Rattle.in_simple.specs.OpenNets.{OpenNet, IsAgentNode, IsClassNode, IsAgent, IsClass, class_at, class_in, classes_of, IsWire, IsOpenNet, open_graph}
 use Rattle.in_simple.specs.Stuck.{ports_of}
-use Rattle.in_simple.proofs.Sums.{or_cases, or_left, or_right, true_or_false, not_both, same_test, got}
+use Rattle.in_simple.proofs.Sums.{not_both, same_test, both_left, both_right}
 use Rattle.in_simple.proofs.Sound.{port_place, class_no_agent}
 use Rattle.in_simple.proofs.Links.{Decided, same_nat, both_decided, least, AreNext, are_next, link_join, link_back, link_first}
 use Rattle.in_simple.proofs.Search.{is_in, test, test_yes, test_is, in_ports, wired, without, linked, component, is_component}
-
-pub and_both : (b c : Bool) → b ≡ true → c ≡ true → (b && c) ≡ true
-and_both true c h k = k
-and_both false c h k = cc
-
-pub and_left : (b c : Bool) → (b && c) ≡ true → b ≡ true
-and_left true c h = refl
-and_left false c h = h
-
-pub and_right : (b c : Bool) → (b && c) ≡ true → c ≡ true
-and_right true c h = h
-and_right false c h = cc
+use Rattle.std.proofs.lemmas.Bool.{and_from, or_cases, or_left, or_right, cases_Bool}
+use Rattle.in_base.proofs.Each.{at_index}
 
 pub pair_same : (r s : ℕ × ℕ) → r.0 ≡ s.0 → r.1 ≡ s.1 → r ≡ s
 pair_same (a, b) (c, d) e f = cc
@@ -118,7 +108,7 @@ module _ (o : OpenNet) (net : IsOpenNet o) (BuiltSet : (ℕ → Bool) → Type 0
 
       upto_cases : (b j : ℕ) → IsIn j (upto b) → IsIn j a ⊎ (IsIn j t × IsIn j (below b))
       unfolding upto
-      upto_cases b j h = elim (or_cases (a j) (t j && below b j) h) [ inl e ↦ inl e | inr e ↦ inr (and_left (t j) (below b j) e, and_right (t j) (below b j) e) ]
+      upto_cases b j h = elim (or_cases (a j) (t j && below b j) h) [ inl e ↦ inl e | inr e ↦ inr (both_left (t j) (below b j) e, both_right (t j) (below b j) e) ]
 
       upto_old : (b j : ℕ) → IsIn j a → IsIn j (upto b)
       unfolding upto
@@ -126,7 +116,7 @@ module _ (o : OpenNet) (net : IsOpenNet o) (BuiltSet : (ℕ → Bool) → Type 0
 
       upto_new : (b j : ℕ) → IsIn j t → IsIn j (below b) → IsIn j (upto b)
       unfolding upto
-      upto_new b j h k = or_right (a j) (t j && below b j) (and_both (t j) (below b j) h k)
+      upto_new b j h k = or_right (a j) (t j && below b j) (and_from (t j) (below b j) h k)
 
       same : (b : ℕ) → ((j : ℕ) → IsIn j t → Link b j → IsIn j (below b)) → (j : ℕ) → upto b j ≡ upto (suc b) j
       same b f j = same_test (upto b j) (upto (suc b) j)
@@ -196,7 +186,7 @@ module _ (o : OpenNet) (net : IsOpenNet o) (BuiltSet : (ℕ → Bool) → Type 0
 
       grown : (b : ℕ) → BuiltSet (upto b)
       grown zero = built_same a (upto zero) (λ j. same_test (a j) (upto zero j) (upto_old zero j) (λ h. elim (upto_cases zero j h) [ inl e ↦ e | inr e ↦ let z : ◌≡◌ {A = Bool} false true = e.1 in cc ])) built
-      grown (suc b) = go (is_in b t) (true_or_false (below b b)) (grown b)
+      grown (suc b) = go (is_in b t) (cases_Bool (below b b)) (grown b)
         where
           go : Decided (IsIn b t) → (below b b ≡ true) ⊎ (below b b ≡ false) → BuiltSet (upto b) → BuiltSet (upto (suc b))
           go (inr off) f x = built_same (upto b) (upto (suc b)) (same b (λ j h k. absurd (off (closed j b h (back b j k))))) x
@@ -303,13 +293,13 @@ module _ (o : OpenNet) (net : IsOpenNet o) (BuiltSet : (ℕ → Bool) → Type 0
       of_class c m = test (without o net s in_net n m) && nat_eq (part m) c
 
       class_inside : (c m : ℕ) → IsIn m (of_class c) → Without n s m
-      class_inside c m h = test_is (without o net s in_net n m) (and_left (test (without o net s in_net n m)) (nat_eq (part m) c) h)
+      class_inside c m h = test_is (without o net s in_net n m) (both_left (test (without o net s in_net n m)) (nat_eq (part m) c) h)
 
       class_number : (c m : ℕ) → IsIn m (of_class c) → part m ≡ c
-      class_number c m h = eqb-true (part m) c (and_right (test (without o net s in_net n m)) (nat_eq (part m) c) h)
+      class_number c m h = eqb-true (part m) c (both_right (test (without o net s in_net n m)) (nat_eq (part m) c) h)
 
       in_class : (c m : ℕ) → Without n s m → part m ≡ c → IsIn m (of_class c)
-      in_class c m h e = and_both (test (without o net s in_net n m)) (nat_eq (part m) c) (test_yes (without o net s in_net n m) h) (eq-eqb (part m) c e)
+      in_class c m h e = and_from (test (without o net s in_net n m)) (nat_eq (part m) c) (test_yes (without o net s in_net n m) h) (eq-eqb (part m) c e)
 
       class_closed : (c l m : ℕ) → IsIn l (of_class c) → Link l m → IsIn m (of_class c)
       class_closed c l m h k = in_class c m (ends l m k) (sym (class_linked (ports_of o n) l m k) ∙ class_number c l h)
@@ -364,7 +354,7 @@ module _ (o : OpenNet) (net : IsOpenNet o) (BuiltSet : (ℕ → Bool) → Type 0
           joined_cases : (m : ℕ) → IsIn m joined → (m ≡ n) ⊎ (Without n s m × (part m ≢ 0))
           joined_cases m h = elim (or_cases (nat_eq m n) (test (without o net s in_net n m) && not (nat_eq (part m) 0)) h) [
             | inl e ↦ inl (eqb-true m n e)
-            | inr e ↦ inr (test_is (without o net s in_net n m) (and_left (test (without o net s in_net n m)) (not (nat_eq (part m) 0)) e), not_yes (part m) (and_right (test (without o net s in_net n m)) (not (nat_eq (part m) 0)) e))
+            | inr e ↦ inr (test_is (without o net s in_net n m) (both_left (test (without o net s in_net n m)) (not (nat_eq (part m) 0)) e), not_yes (part m) (both_right (test (without o net s in_net n m)) (not (nat_eq (part m) 0)) e))
           ]
 
           at_root : (m : ℕ) → m ≡ n → IsIn m joined
@@ -372,7 +362,7 @@ module _ (o : OpenNet) (net : IsOpenNet o) (BuiltSet : (ℕ → Bool) → Type 0
 
           at_other : (m : ℕ) → Without n s m → part m ≢ 0 → IsIn m joined
           at_other m h z = or_right (nat_eq m n) (test (without o net s in_net n m) && not (nat_eq (part m) 0))
-              (and_both (test (without o net s in_net n m)) (not (nat_eq (part m) 0)) (test_yes (without o net s in_net n m) h) (not_zero (part m) z))
+              (and_from (test (without o net s in_net n m)) (not (nat_eq (part m) 0)) (test_yes (without o net s in_net n m) h) (not_zero (part m) z))
 
           joined_in : (m : ℕ) → IsIn m joined → IsIn m s
           joined_in m h = elim (joined_cases m h) [ inl e ↦ subst (λ z. IsIn z s) (sym e) here | inr e ↦ e.0.0 ]
@@ -421,10 +411,10 @@ module _ (o : OpenNet) (net : IsOpenNet o) (BuiltSet : (ℕ → Bool) → Type 0
 
           class_nets : (c : ℕ) → 0 < c → BuiltSet (numbered joined part c)
           class_nets c l = built_same (of_class c) (numbered joined part c) (λ m. same_test (of_class c m) (numbered joined part c m)
-              (λ h. and_both (joined m) (nat_eq (part m) c) (at_other m (class_inside c m h) (λ z. let e = class_number c m h in omega arith)) (eq-eqb (part m) c (class_number c m h)))
+              (λ h. and_from (joined m) (nat_eq (part m) c) (at_other m (class_inside c m h) (λ z. let e = class_number c m h in omega arith)) (eq-eqb (part m) c (class_number c m h)))
               (λ h.
-              let e = eqb-true (part m) c (and_right (joined m) (nat_eq (part m) c) h) in
-              elim (joined_cases m (and_left (joined m) (nat_eq (part m) c) h)) [
+              let e = eqb-true (part m) c (both_right (joined m) (nat_eq (part m) c) h) in
+              elim (joined_cases m (both_left (joined m) (nat_eq (part m) c) h)) [
                 | inl r ↦ absurd (root_number c m l r e)
                 | inr r ↦ in_class c m r.0 e
               ])) (class_net c)
@@ -436,7 +426,7 @@ module _ (o : OpenNet) (net : IsOpenNet o) (BuiltSet : (ℕ → Bool) → Type 0
     where
       built_at : (s : ℕ → Bool) (in_net : (m : ℕ) → IsIn m s → m < length o.nodes) (n : ℕ) → IsFirstSplitting (open_graph o) (λ m n. m < n) n s → ((m : ℕ) → Without n s m → BuiltSet (component o net s in_net n m)) → BuiltSet s
       built_at s in_net n f nets =
-          let x = got o.nodes n (in_net n f.here) in
+          let x = at_index o.nodes n (in_net n f.here) in
           elim (agent_or_class (slice_get o.nodes n) x.0 x.1) [
             | inl h ↦ agent_built s in_net n f.here f.splits nets h
             | inr h ↦ class_built s in_net n f.here f.splits nets h

@@ -9,13 +9,15 @@ use Rattle.in_simple.specs.OpenNets.{OpenNet, IsAgent, IsClass, class_in, classe
 use Rattle.in_simple.specs.Derivations.{Step, Empty, Link, Given, Graft, Cut, Mix, Part, named, own_nodes, own_links, one_if, is_port_in, is_principal, is_auxiliary, is_among, nodes_of, links_of, ends_of, ShareNothing, IsGrafted, Joins, times}
 use Rattle.in_simple.specs.Stuck.{ports_of}
 use Rattle.in_simple.specs.Stacks.{shape, no_wires, leads_out, IsLinkOf, HasShape}
-use Rattle.in_simple.proofs.Sums.{or_cases, or_left, or_right, true_or_false, not_both, not_true, same_test, got, some_same, port_yes, port_no, port_none, port_same, port_or, port_own, other_port, auxiliary_port, principal_one, one_same, one_other, of_nodes, in_nodes_of}
+use Rattle.in_simple.proofs.Sums.{not_both, same_test, some_same, port_yes, port_no, port_none, port_same, port_or, port_own, other_port, auxiliary_port, principal_one, one_same, one_other, of_nodes, in_nodes_of, both_left, both_right}
 use Rattle.in_simple.proofs.Balance.{wire_turn}
 use Rattle.in_simple.proofs.Sound.{wire_points, port_place}
 use Rattle.in_simple.proofs.Links.{Decided, same_nat, both_decided, at_most, least}
 use Rattle.in_simple.proofs.Search.{test, test_yes, test_is, partner, in_ports}
-use Rattle.in_simple.proofs.Grow.{Constructions, and_both, and_left, and_right}
+use Rattle.in_simple.proofs.Grow.{Constructions}
 use Rattle.in_simple.proofs.Forest.{Forest, nothing, beside, close, or_sum}
+use Rattle.std.proofs.lemmas.Bool.{and_from, or_cases, or_left, or_right, cases_Bool, false_from_ne_true}
+use Rattle.in_base.proofs.Each.{at_index}
 
 pub port_most : (s : ℕ → Bool) (p : Point) → is_port_in s p ≤ 1
 port_most s (Port n i) = go (s n)
@@ -282,8 +284,8 @@ module _ (o : OpenNet) (net : IsOpenNet o) where
         q = Port m j;
         wire = wire;
         own = port_yes x.nodes l i (tx.nodes l ∙ la);
-        first = (let u = tx.ends v (Port l i) (Port m j) wire in let f = port_yes a l i la in let g = port_no a m j (not_true (a m) (λ z. (parts m).1 z mb)) in omega arith);
-        second = (let u = ty.ends v (Port m j) (Port l i) (wire_turn o v (Port l i) (Port m j) wire) in let f = port_yes b m j mb in let g = port_no b l i (not_true (b l) (λ z. (parts l).1 la z)) in omega arith);
+        first = (let u = tx.ends v (Port l i) (Port m j) wire in let f = port_yes a l i la in let g = port_no a m j (false_from_ne_true (a m) (λ z. (parts m).1 z mb)) in omega arith);
+        second = (let u = ty.ends v (Port m j) (Port l i) (wire_turn o v (Port l i) (Port m j) wire) in let f = port_yes b m j mb in let g = port_no b l i (false_from_ne_true (b l) (λ z. (parts l).1 la z)) in omega arith);
       },
       λ w p q h.
           let r = ends_wire s no_wires w p q h in
@@ -349,13 +351,13 @@ module _ (o : OpenNet) (net : IsOpenNet o) where
     of_class c m = s m && nat_eq (part m) c
 
     class_in_s : (c m : ℕ) → IsIn m (of_class c) → IsIn m s
-    class_in_s c m h = and_left (s m) (nat_eq (part m) c) h
+    class_in_s c m h = both_left (s m) (nat_eq (part m) c) h
 
     class_is : (c m : ℕ) → IsIn m (of_class c) → part m ≡ c
-    class_is c m h = eqb-true (part m) c (and_right (s m) (nat_eq (part m) c) h)
+    class_is c m h = eqb-true (part m) c (both_right (s m) (nat_eq (part m) c) h)
 
     in_class : (c m : ℕ) → IsIn m s → part m ≡ c → IsIn m (of_class c)
-    in_class c m h e = and_both (s m) (nat_eq (part m) c) h (eq-eqb (part m) c e)
+    in_class c m h e = and_from (s m) (nat_eq (part m) c) h (eq-eqb (part m) c e)
 
     not_root : (c m : ℕ) → 0 < c → IsIn m (of_class c) → m ≢ n
     not_root c m l h e = let u = class_is c m h in let v : part m ≡ part n = ap part e in omega arith
@@ -393,15 +395,15 @@ module _ (o : OpenNet) (net : IsOpenNet o) where
     hanging_is c zero w h = absurd (not_both false h refl)
     hanging_is c (suc b) w h = elim (or_cases (nat_eq w b && test (dangles c b)) (hanging c b w) h) [
       | inl e ↦
-          let f = eqb-true w b (and_left (nat_eq w b) (test (dangles c b)) e) in
-          (omega arith, subst (Dangles c) (sym f) (test_is (dangles c b) (and_right (nat_eq w b) (test (dangles c b)) e)))
+          let f = eqb-true w b (both_left (nat_eq w b) (test (dangles c b)) e) in
+          (omega arith, subst (Dangles c) (sym f) (test_is (dangles c b) (both_right (nat_eq w b) (test (dangles c b)) e)))
       | inr e ↦ let f = hanging_is c b w e in let l = f.0 in (omega arith, f.1)
     ]
 
     pub hanging_yes : (c b w : ℕ) → w < b → Dangles c w → IsIn w (hanging c b)
     hanging_yes c zero w l h = absurd (omega arith)
     hanging_yes c (suc b) w l h = elim (same_nat w b) [
-      | inl e ↦ or_left (nat_eq w b && test (dangles c b)) (hanging c b w) (and_both (nat_eq w b) (test (dangles c b)) (eq-eqb w b e) (test_yes (dangles c b) (subst (Dangles c) e h)))
+      | inl e ↦ or_left (nat_eq w b && test (dangles c b)) (hanging c b w) (and_from (nat_eq w b) (test (dangles c b)) (eq-eqb w b e) (test_yes (dangles c b) (subst (Dangles c) e h)))
       | inr e ↦ or_right (nat_eq w b && test (dangles c b)) (hanging c b w) (hanging_yes c b w (omega arith) h)
     ]
 
@@ -540,7 +542,7 @@ module _ (o : OpenNet) (net : IsOpenNet o) where
       top zero l h = absurd (omega arith)
       top (suc c) l h =
           let f = few in
-          let y = got tops c (omega arith) in
+          let y = at_index tops c (omega arith) in
           let e : 1 + c ≡ suc c = omega arith in
           (c, omega arith, y.0, y.1, subst (λ z. ClassTop z y.0) e (at c y.0 y.1))
 
@@ -561,15 +563,15 @@ module _ (o : OpenNet) (net : IsOpenNet o) where
       where_is : (p : Point) → Where p
       where_is (Port m j) = elim (same_nat m n) [
         | inl e ↦ inl (j, ap (λ z. Port z j) e)
-        | inr e ↦ elim (true_or_false (s m)) [ inl h ↦ inr (inl (m, j, refl, h, e)) | inr h ↦ inr (inr (port_no s m j h, λ i g. e (port_place m n j i g).0)) ]
+        | inr e ↦ elim (cases_Bool (s m)) [ inl h ↦ inr (inl (m, j, refl, h, e)) | inr h ↦ inr (inr (port_no s m j h, λ i g. e (port_place m n j i g).0)) ]
       ]
       where_is (Free e) = inr (inr (refl, λ i g. let g' : ◌≡◌ {A = Point} (Free e) (Port n i) = g in cc))
 
       root_out : (c i : ℕ) → 0 < c → is_port_in (of_class c) (Port n i) ≡ 0
-      root_out c i l = port_no (of_class c) n i (not_true (of_class c n) (λ h. not_root c n l h refl))
+      root_out c i l = port_no (of_class c) n i (false_from_ne_true (of_class c n) (λ h. not_root c n l h refl))
 
       class_out : (c m j : ℕ) → part m ≢ c → is_port_in (of_class c) (Port m j) ≡ 0
-      class_out c m j d = port_no (of_class c) m j (not_true (of_class c m) (λ h. d (class_is c m h)))
+      class_out c m j d = port_no (of_class c) m j (false_from_ne_true (of_class c m) (λ h. d (class_is c m h)))
 
       outer_out : (c : ℕ) (p : Point) → is_port_in s p ≡ 0 → is_port_in (of_class c) p ≡ 0
       outer_out c p h = elim (at_most 1 (is_port_in (of_class c) p)) [
@@ -582,7 +584,7 @@ module _ (o : OpenNet) (net : IsOpenNet o) where
       ]
 
       hang_none : (c w : ℕ) → (Dangles c w → ⊥) → if_in (hanging c (length o.wires)) w ≡ 0
-      hang_none c w f = let e : hanging c (length o.wires) w ≡ false = not_true (hanging c (length o.wires) w) (λ h. f (hanging_is c (length o.wires) w h).1) in ap (λ b. cond b 1 0) e
+      hang_none c w f = let e : hanging c (length o.wires) w ≡ false = false_from_ne_true (hanging c (length o.wires) w) (λ h. f (hanging_is c (length o.wires) w h).1) in ap (λ b. cond b 1 0) e
 
       hang_one : (c w : ℕ) (p q : Point) → IsWire o w p q → Dangles c w → if_in (hanging c (length o.wires)) w ≡ 1
       hang_one c w p q h f = ap (λ b. cond b 1 0) (hanging_yes c (length o.wires) w (number w p q h) f)

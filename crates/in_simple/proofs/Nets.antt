@@ -14,7 +14,7 @@ use Rattle.in_simple.specs.Stuck.{IsPart, ports_of, ComesAt}
 use Rattle.in_simple.specs.Procedure.{nodes_in, IsRest, IsPlan, HasTurn, Derives, with_task}
 use Rattle.in_simple.specs.Stacks.{Shape, shape, no_wires, Fits, Runs, Puts}
 use Rattle.in_simple.specs.Planned.{net_of, PutsNet, with_empty, Skips}
-use Rattle.in_simple.proofs.Sums.{or_cases, or_left, or_right, not_both, same_test, got}
+use Rattle.in_simple.proofs.Sums.{not_both, same_test}
 use Rattle.in_simple.proofs.Sound.{port_place}
 use Rattle.in_simple.proofs.Links.{same_nat, link_join, link_back, link_first}
 use Rattle.in_simple.proofs.Search.{is_in, in_ports, turn_one_port_most, without, linked, component, is_component, comes_at, test_yes}
@@ -24,6 +24,8 @@ use Rattle.in_simple.proofs.Make.{OnlyWire, agents_apart}
 use Rattle.in_simple.proofs.Joining.{shape_same, fits_empty, fits_given, fits_cut, fits_mix}
 use Rattle.in_simple.proofs.Stacking.{none_more, runs_make, runs_derive}
 use Rattle.in_simple.proofs.Planning.{in_net, part_inside, reached_part, node_turn}
+use Rattle.std.proofs.lemmas.Bool.{or_cases, or_left, or_right}
+use Rattle.in_base.proofs.Each.{at_index}
 
 -- ---- more tasks
 
@@ -208,7 +210,7 @@ module _ (o : OpenNet) (net : IsOpenNet o) (n : ℕ) where
   -- one port of n leads to a component: of an agent the principal one, and each port of a class node is a class
   pub one_port : (i w : ℕ) (q : Point) → n < length o.nodes → IsWire o w (Port n i) q → (IsAgent o n → i ≡ 0) → (j : ℕ) → class_in o n i ≡ class_in o n j → (v : ℕ) (r : Point) → IsWire o v (Port n j) r → i ≡ j
   one_port i w q small wire firm j e v r wire' =
-      let x = got o.nodes n small in
+      let x = at_index o.nodes n small in
       elim (agent_or_class (slice_get o.nodes n) x.0 x.1) [
         | inl agent ↦
             let z = firm agent in

@@ -4,25 +4,12 @@ use mathlib.Core.HLevel.{Discrete}
 use Rattle.std.specs.List.{AllByRecursion}
 use Rattle.in_net.specs.Graphs.{Graph, Passage, entered, left, Leads, CrossingCircle}
 use Rattle.in_simple.specs.Constructions.{IsIn, AreParts, numbered, IsGraft, Built, empty, given, mix, cut, graft}
-use Rattle.in_net.proofs.Circuits.{Walk, AreSeparate, Circuit, Found, find, rotate, all_before, IsEntered, IsLeft, crossings_separate, circuit_of}
-
-not_both : (b : Bool) → b ≡ true → b ≡ false → ⊥
-not_both b t f = cc
+use Rattle.in_net.proofs.Circuits.{Walk, AreSeparate, Circuit, Found, find, rotate, IsEntered, IsLeft, crossings_separate, circuit_of}
+use Rattle.in_simple.proofs.Sums.{not_both}
+use Rattle.in_base.proofs.Each.{all_left, all_append, all_right, all_map}
 
 numbered_in : {V : Type 0} (s : V → Bool) (part : V → ℕ) (c : ℕ) (n : V) → IsIn n s → part n ≡ c → IsIn n (numbered s part c)
 numbered_in s part c n h e = let t : nat_eq (part n) c ≡ true = eq-eqb (part n) c e in rw h t
-
-all_join : {X : Type 0} (P : X → Type 0) (xs ys : List X) → AllByRecursion P xs → AllByRecursion P ys → AllByRecursion P (xs ++ ys)
-all_join P [] ys h k = k
-all_join P (x ∷ xs) ys h k = (h.0, all_join P xs ys h.1 k)
-
-all_after : {X : Type 0} (P : X → Type 0) (xs ys : List X) → AllByRecursion P (xs ++ ys) → AllByRecursion P ys
-all_after P [] ys h = h
-all_after P (x ∷ xs) ys h = all_after P xs ys h.1
-
-all_map : {X : Type 0} (P Q : X → Type 0) → ((x : X) → P x → Q x) → (xs : List X) → AllByRecursion P xs → AllByRecursion Q xs
-all_map P Q f [] h = tt
-all_map P Q f (x ∷ xs) h = (f x h.0, all_map P Q f xs h.1)
 
 all_both : {X : Type 0} (P Q : X → Type 0) (xs : List X) → AllByRecursion P xs → AllByRecursion Q xs → AllByRecursion (λ x. P x × Q x) xs
 all_both P Q [] h k = tt
@@ -148,8 +135,8 @@ module _ (g : Graph) (same : Discrete g.Node) (E L : g.Node × ℕ → Type 0) (
           let P : Passage g.Node → Type 0 = λ q. IsIn q.node s in
           let c' = rotate g E L c.first f.before f.here f.after c.enters c.leaves (subst (λ ps. Walk g E L (left c.first) ps (entered c.first)) f.whole c.closed) in
           let k : AllByRecursion P (f.before ++ f.here ∷ f.after) = subst (AllByRecursion P) f.whole h.1 in
-          let after = all_after P f.before (f.here ∷ f.after) k in
-          not_from n s part (classes n) r wire_back c' (after.0, all_join P f.after (c.first ∷ f.before) after.1 (h.0, all_before P f.before (f.here ∷ f.after) k)) f.same
+          let after = all_right P f.before (f.here ∷ f.after) k in
+          not_from n s part (classes n) r wire_back c' (after.0, all_append P f.after (c.first ∷ f.before) after.1 (h.0, all_left P f.before (f.here ∷ f.after) k)) f.same
       go (no e) (inr f) net =
           net (r.others c.first.node h.0 (λ i. e (sym i))) (r.most c.first.node h.0 (λ i. e (sym i))) (avoid n s part (classes n) r c.first c.rest (entered c.first) c.closed h (e, f))
 

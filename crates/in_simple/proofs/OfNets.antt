@@ -18,8 +18,9 @@ use Rattle.in_simple.specs.OpenNets as nets
 use Rattle.in_simple.specs.OpenNets.{OpenNet, class_in, open_graph}
 use Rattle.in_simple.specs.Opening.{IsNodeOf, AreNumbered, Opens}
 use Rattle.in_simple.proofs.Opened.{listed}
-use Rattle.in_simple.proofs.Sums.{got, some_same}
+use Rattle.in_simple.proofs.Sums.{some_same}
 use Rattle.in_simple.proofs.Mapped.{circle_mapped}
+use Rattle.in_base.proofs.Each.{at_index}
 
 pub symbol_within : (n : Parts) (x : ℕ) (s : SymbolNo) → symbol_in n x ≡ Some s → x < length n.cells
 symbol_within n x s e = go (slice_get n.cells x) refl e
@@ -41,7 +42,7 @@ pub class_of_node : (t : Tables) (n : Parts) (o : OpenNet) (y x i : ℕ) (m : Op
 class_of_node t n o y x i m s e is here h =
     let same : is.symbol ≡ s = some_same (symbol_in n x) is.symbol s is.here here in
     let arity : arity_of t is.symbol.0 ≡ arity_of t s.0 = ap (λ (z : SymbolNo). arity_of t z.0) same in
-    let c = got m.class_of i (omega (arith, h, arity, is.ports.0)) in
+    let c = at_index m.class_of i (omega (arith, h, arity, is.ports.0)) in
     let by_node : nets.class_at (Some m) i ≡ get_or m.class_of i 0 = ap (λ (z : Node). elim z [ AgentNode y ↦ get_or m.class_of i 0 | ClassNode y c ↦ i ]) is.node in
     let class : class_at t s.0 i ≡ class_of_symbol (signature_of t) ((net_of n).symbol x) i = ap (λ (z : Option SymbolNo). class_of_symbol (signature_of t) (option_map (λ (s : SymbolNo). s.0) z) i) (sym here) in
     ap (λ z. nets.class_at z i) e ∙ by_node ∙ get_or_from_slice_get m.class_of i c.0 0 c.1 ∙ is.ports.1 i c.0 c.1 ∙ ap (λ (z : SymbolNo). class_at t z.0 i) same ∙ class
@@ -54,7 +55,7 @@ module _ (t : Tables) (n : Parts) (o : OpenNet) (numbered : AreNumbered t) (whol
   class_there u h =
       let s = symbol_at t n u.0 u.1 h in
       let l = symbol_within n u.0 s.0 s.1 in
-      let m = got o.nodes u.0 (omega (arith, l, opens.nodes.0)) in
+      let m = at_index o.nodes u.0 (omega (arith, l, opens.nodes.0)) in
       class_of_node t n o u.0 u.0 u.1 m.0 s.0 m.1 (opens.nodes.1 u.0 m.0 m.1) s.1 s.2
 
   -- a crossing circle of the net is one of its open net

@@ -23,10 +23,11 @@ use Rattle.in_simple.specs.Opening.{AreNumbered}
 use Rattle.in_simple.specs.OpeningRules.{agent_node, second_node, class_port, boundary_port, is_turned, rule_point, IsRuleWhole, OpensRule}
 use Rattle.in_simple.proofs.RulePoints.{lt_tells, same_agent, agent_within}
 use Rattle.in_simple.proofs.OpenedRules.{listed, points_open, agent_not_end, same_end, is_end, IsEnd, in_first, in_second, first_port, second_port, class_low}
-use Rattle.in_simple.proofs.Sums.{got, some_of}
+use Rattle.in_simple.proofs.Sums.{some_of}
 use Rattle.in_net.specs.Interactions.{Redex, redex_at, open_member, open_port, class_node}
 use Rattle.in_simple.proofs.Mapped.{circle_mapped}
 use Rattle.in_simple.proofs.OfNets.{symbol_at, symbol_within, class_of_node}
+use Rattle.in_base.proofs.Each.{at_index}
 
 abbrev pair_of : opened.Point → ℕ × ℕ
 pair_of (open_p.Port n i) = (n, i)
@@ -202,7 +203,7 @@ module _ (t : Tables) (p : RuleParts) (o : OpenNet) (numbered : AreNumbered t) (
   agent_class y i h =
       let s = symbol_at t p.member y i h in
       let l = symbol_within p.member y s.0 s.1 in
-      let m = got o.nodes (agent_node t p y) (omega (arith, agent_within t p y l, opens.nodes.0)) in
+      let m = at_index o.nodes (agent_node t p y) (omega (arith, agent_within t p y l, opens.nodes.0)) in
       class_of_node t p.member o (agent_node t p y) y i m.0 s.0 m.1 ((opens.nodes.1 (agent_node t p y) m.0 m.1).agent y l refl) s.1 s.2
 
   -- each port of a class node is a class by itself

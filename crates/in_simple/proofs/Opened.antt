@@ -21,7 +21,8 @@ use Rattle.in_simple.specs.declared.open_nets.Point.TheVariants.{Port, Free}
 use Rattle.in_simple.specs.OpenNets as nets
 use Rattle.in_simple.specs.OpenNets.{OpenNet, IsWire, IsOpenNet, IsOrderly, ports_in, IsAgentNode, IsAgent, class_in}
 use Rattle.in_simple.specs.Opening.{Each, IsNodeOf, AreNumbered, Opens, open_point, open_wire}
-use Rattle.in_simple.proofs.Sums.{some_of, some_same, got}
+use Rattle.in_simple.proofs.Sums.{some_of, some_same}
+use Rattle.in_base.proofs.Each.{at_index}
 
 -- the point of the net that a point of the open net is
 abbrev net_point : Point → points.Point
@@ -53,7 +54,7 @@ module _ (t : Tables) (n : Parts) (o : OpenNet) (numbered : AreNumbered t) (whol
 
   wire_listed : (w : ℕ) (r s : points.Point) → wire_in n w ≡ Some (r, s) → slice_get o.wires w ≡ Some (open_point r, open_point s)
   wire_listed w r s e =
-      let x = got o.wires w (omega (arith, opens.wires.0, wire_within w (r, s) e)) in
+      let x = at_index o.wires w (omega (arith, opens.wires.0, wire_within w (r, s) e)) in
       let h : Some (open_point r, open_point s) ≡ Some x.0 = ap (option_map open_wire) (sym e) ∙ opens.wires.1 w x.0 x.1 in
       x.1 ∙ sym h
     where
@@ -121,7 +122,7 @@ module _ (t : Tables) (n : Parts) (o : OpenNet) (numbered : AreNumbered t) (whol
   points_open (Free k) h = let e = opens.free in omega arith
   points_open (Port x i) h =
       let c = some_of (λ (c : Cell). i < length c.ends) (cell_in n x) h in
-      let m = got o.nodes x (omega (arith, opens.nodes.0, cell_within x c.0 c.1)) in
+      let m = at_index o.nodes x (omega (arith, opens.nodes.0, cell_within x c.0 c.1)) in
       let b = both_at x m.0 m.1 in
       let s : b.cell ≡ c.0 = some_same (cell_in n x) b.cell c.0 b.here c.1 in
       let l : length b.cell.ends ≡ length c.0.ends = ap (λ (z : Cell). length z.ends) s in
@@ -138,7 +139,7 @@ module _ (t : Tables) (n : Parts) (o : OpenNet) (numbered : AreNumbered t) (whol
 
   partner_at : (p : Point) → nets.IsPointOf o p → (r : points.Point) × (partner_in n (net_point p) ≡ Some r)
   partner_at (Free k) h =
-      let f = got n.free k (omega (arith, opens.free, h)) in
+      let f = at_index n.free k (omega (arith, opens.free, h)) in
       (f.0.end, ap (option_map (λ (z : FreeEnd). z.end)) f.1)
   partner_at (Port x i) h =
       let m = some_of (λ (m : OpenNode). i < length m.class_of) (slice_get o.nodes x) h in
@@ -147,7 +148,7 @@ module _ (t : Tables) (n : Parts) (o : OpenNet) (numbered : AreNumbered t) (whol
       let l : length b.node.class_of ≡ length m.0.class_of = ap (λ (z : OpenNode). length z.class_of) s in
       let k = m.2 in
       let r = b.ports in
-      let y = got b.cell.ends i (omega arith) in
+      let y = at_index b.cell.ends i (omega arith) in
       (y.0, ap (option_and_then (λ (c : Cell). slice_get c.ends i)) b.here ∙ y.1)
 
   -- the class of an agent's place is that of its symbol's
@@ -155,7 +156,7 @@ module _ (t : Tables) (n : Parts) (o : OpenNet) (numbered : AreNumbered t) (whol
   class_is x i agent h =
       let m = some_of (λ (m : OpenNode). i < length m.class_of) (slice_get o.nodes x) h in
       let is = opens.nodes.1 x m.0 m.1 in
-      let c = got m.0.class_of i m.2 in
+      let c = at_index m.0.class_of i m.2 in
       let k = m.2 in
       let l = is.ports.0 in
       let at : nets.class_at (Some m.0) i ≡ c.0 = by_node m.0 is.node ∙ class_there m.0.class_of i c.0 c.1 in (

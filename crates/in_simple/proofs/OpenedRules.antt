@@ -26,8 +26,9 @@ use Rattle.in_simple.specs.OpenNets as nets
 use Rattle.in_simple.specs.OpenNets.{OpenNet, IsWire, IsOpenNet, IsOrderly, ports_in, IsAgentNode, IsAgent, class_in}
 use Rattle.in_simple.specs.Opening.{Each, IsNodeOf, AreNumbered}
 use Rattle.in_simple.specs.OpeningRules.{places_in, agents_before, agent_node, second_node, class_port, boundary_port, is_turned, rule_point, rule_wire, IsRuleWhole, OpensRule}
-use Rattle.in_simple.proofs.Sums.{some_of, some_same, got}
+use Rattle.in_simple.proofs.Sums.{some_of, some_same}
 use Rattle.in_simple.proofs.RulePoints.{lt_tells, place_there, place_within, same_place, not_first, not_second, same_agent, agent_within, NodeKind, of_first, of_second, of_agent, kind_of}
+use Rattle.in_base.proofs.Each.{at_index}
 
 same_wire : (r s u v : points.Point) → r ≡ u → s ≡ v → ◌≡◌ {A = Option (points.Point × points.Point)} (Some (r, s)) (Some (u, v))
 same_wire r s u v e f = cc
@@ -194,7 +195,7 @@ module _ (t : Tables) (p : RuleParts) (o : OpenNet) (numbered : AreNumbered t) (
       let l = slice_get_within p.member.cells x.0 (Some c.0) (cell_listed p.member x.0 c.0 c.1) in
       let w = agent_within t p x.0 l in
       let q = opens.nodes.0 in
-      let m = got o.nodes (agent_node t p x.0) (omega arith) in
+      let m = at_index o.nodes (agent_node t p x.0) (omega arith) in
       let d = cell_of t p.member over x.0 m.0 ((opens.nodes.1 (agent_node t p x.0) m.0 m.1).agent x.0 l refl) in
       let s : length d.0.ends ≡ length c.0.ends = ap (λ (z : Cell). length z.ends) (some_same (cell_in p.member x.0) d.0 c.0 d.1 c.1) in
       let u = c.2 in
@@ -208,7 +209,7 @@ module _ (t : Tables) (p : RuleParts) (o : OpenNet) (numbered : AreNumbered t) (
           let a = c.0 in
           let b = c.1 in
           let q = opens.nodes.0 in
-          let m = got o.nodes (class_at t p.written.0.0 (suc i) - 1) (omega arith) in
+          let m = at_index o.nodes (class_at t p.written.0.0 (suc i) - 1) (omega arith) in
           let u = first_ports (class_at t p.written.0.0 (suc i) - 1) m.0 m.1 (omega arith) in
           let s : class_at t p.written.0.0 (suc i) - 1 + 1 ≡ class_at t p.written.0.0 (suc i) = omega arith in
           let v : length m.0.class_of ≡ places_in t p.written.0.0 (class_at t p.written.0.0 (suc i)) (arity_of t p.written.0.0) = u ∙ ap (λ z. places_in t p.written.0.0 z (arity_of t p.written.0.0)) s in
@@ -221,7 +222,7 @@ module _ (t : Tables) (p : RuleParts) (o : OpenNet) (numbered : AreNumbered t) (
           let b = c.1 in
           let q = opens.nodes.0 in
           let y = before_within in
-          let m = got o.nodes (second_node t p + (class_at t p.written.1.0 (suc i) - 1)) (omega arith) in
+          let m = at_index o.nodes (second_node t p + (class_at t p.written.1.0 (suc i) - 1)) (omega arith) in
           let u = second_ports (second_node t p + (class_at t p.written.1.0 (suc i) - 1)) (class_at t p.written.1.0 (suc i) - 1) m.0 m.1 (omega arith) refl in
           let s : class_at t p.written.1.0 (suc i) - 1 + 1 ≡ class_at t p.written.1.0 (suc i) = omega arith in
           let v : length m.0.class_of ≡ places_in t p.written.1.0 (class_at t p.written.1.0 (suc i)) (arity_of t p.written.1.0) = u ∙ ap (λ z. places_in t p.written.1.0 z (arity_of t p.written.1.0)) s in
@@ -356,7 +357,7 @@ module _ (t : Tables) (p : RuleParts) (o : OpenNet) (numbered : AreNumbered t) (
 
   wire_listed : (w : ℕ) (r s : points.Point) → wire_in p.member w ≡ Some (r, s) → slice_get o.wires w ≡ Some (f r, f s)
   wire_listed w r s e =
-      let x = got o.wires w (omega (arith, opens.wires.0, wire_within (slice_get p.member.wires w) refl e)) in
+      let x = at_index o.wires w (omega (arith, opens.wires.0, wire_within (slice_get p.member.wires w) refl e)) in
       let h : Some (rule_wire t p (is_turned p) (r, s)) ≡ Some x.0 = ap (option_map (rule_wire t p (is_turned p))) (sym e) ∙ opens.wires.1 w x.0 x.1 in
       x.1 ∙ sym h
     where
@@ -370,11 +371,11 @@ module _ (t : Tables) (p : RuleParts) (o : OpenNet) (numbered : AreNumbered t) (
 
   partner_at : (r : points.Point) → IsPointOf p.member r → (s : points.Point) × (partner_in p.member r ≡ Some s)
   partner_at (point.Free k) h =
-      let x = got p.member.free k h in
+      let x = at_index p.member.free k h in
       (x.0.end, ap (option_map (λ (z : FreeEnd). z.end)) x.1)
   partner_at (point.Port x i) h =
       let c = some_of (λ (c : Cell). i < length c.ends) (cell_in p.member x.0) h in
-      let y = got c.0.ends i c.2 in
+      let y = at_index c.0.ends i c.2 in
       (y.0, ap (option_and_then (λ (c : Cell). slice_get c.ends i)) c.1 ∙ y.1)
 
   joined : (a : Point) → nets.IsPointOf o a → (w : ℕ) × (b : Point) × IsWire o w a b
@@ -423,7 +424,7 @@ module _ (t : Tables) (p : RuleParts) (o : OpenNet) (numbered : AreNumbered t) (
       let s : length k.0.class_of ≡ length m.class_of = ap (λ (z : OpenNode). length z.class_of) (some_same (slice_get o.nodes n) k.0 m k.1 e) in
       let l = k.2 in
       let a = is.ports.0 in
-      let c = got m.class_of i (omega arith) in
+      let c = at_index m.class_of i (omega arith) in
       (omega arith, ap (λ z. nets.class_at z i) e ∙ class_by_node m i is.node ∙ get_or_from_slice_get m.class_of i c.0 0 c.1 ∙ is.ports.1 i c.0 c.1)
 
   lower_point : (n i j : ℕ) → i ≤ j → nets.IsPointOf o (Port n j) → nets.IsPointOf o (Port n i)

@@ -13,12 +13,13 @@ use Rattle.in_simple.specs.Splitting.{alone, Without}
 use Rattle.in_simple.specs.OpenNets.{OpenNet, IsWire, IsOpenNet, IsAgentNode, IsClassNode, IsAgent, IsClass}
 use Rattle.in_simple.specs.Stuck.{IsPart, ports_of, turn, ComesAt}
 use Rattle.in_simple.specs.Procedure.{nodes_in, IsReached, IsRest, Lists, AreSized, PortSplits, IsPlan, HasTurn, GoesOn, KeepsPlan, Derives, with_task}
-use Rattle.in_simple.proofs.Sums.{or_cases, or_left, or_right, not_both}
+use Rattle.in_simple.proofs.Sums.{not_both}
 use Rattle.in_simple.proofs.Links.{same_nat, at_most, link_back, link_first}
 use Rattle.in_simple.proofs.Reaching.{in_length}
 use Rattle.in_simple.proofs.Search.{in_ports, one_turn, turn_same, meet_same, comes_at, turn_one_port, turn_one_port_most, without}
 use Rattle.in_simple.proofs.Sound.{port_place}
 use Rattle.in_simple.proofs.SplittingPorts.{link_to}
+use Rattle.std.proofs.lemmas.Bool.{or_cases, or_left, or_right}
 
 pub sized_more : (b : ℕ) (ts : List Task) (us : List Task) → AreSized b ts → AreSized b us → AreSized b (ts ++ us)
 sized_more b [] us h k = k

@@ -12,9 +12,10 @@ use Rattle.in_simple.specs.Splitting.{Linked, alone, Without, SplitsAt, IsFirstS
 use Rattle.in_simple.specs.declared.open_nets.OpenNode.{OpenNode}
 use Rattle.in_simple.specs.OpenNets.{OpenNet, class_in, IsWire, IsOpenNet, open_graph}
 use Rattle.in_simple.specs.Stuck.{Touches, ports_of, turn, ComesAt, FirstStuck, whole, within}
-use Rattle.in_simple.proofs.Sums.{true_or_false, not_both, not_true, same_test}
+use Rattle.in_simple.proofs.Sums.{not_both, same_test}
 use Rattle.in_simple.proofs.Sound.{port_place}
 use Rattle.in_simple.proofs.Links.{Decided, same_nat, both_decided, either_decided, at_most, least, link_join, link_back, link_first, are_linked}
+use Rattle.std.proofs.lemmas.Bool.{cases_Bool, false_from_ne_true}
 
 pub each_below : (P : ℕ → Type 0) → ((i : ℕ) → Decided (P i)) → (b : ℕ) → Decided ((i : ℕ) → i < b → P i)
 each_below P dec zero = inl (λ i l. absurd (omega arith))
@@ -35,7 +36,7 @@ denied (inl a) = inr (λ f. f a)
 denied (inr a) = inl a
 
 pub is_in : (n : ℕ) (s : ℕ → Bool) → Decided (IsIn n s)
-is_in n s = elim (true_or_false (s n)) [ inl h ↦ inl h | inr h ↦ inr (λ k. not_both (s n) k h) ]
+is_in n s = elim (cases_Bool (s n)) [ inl h ↦ inl h | inr h ↦ inr (λ k. not_both (s n) k h) ]
 
 abbrev pub test : {A : Type 0} → Decided A → Bool
 test (inl a) = true
@@ -332,7 +333,7 @@ module _ (o : OpenNet) (net : IsOpenNet o) where
 
   -- components are smaller
   pub smaller : (s : ℕ → Bool) → ((m : ℕ) → IsIn m s → m < length o.nodes) → (n : ℕ) → IsIn n s → (c : ℕ → Bool) → IsComponent (open_graph o) (Without n s) c → ((m : ℕ) → IsIn m c → Without n s m) × (count c (length o.nodes) < count s (length o.nodes))
-  smaller s in_net n h c r = (inside, count_less s c (λ m k. (inside m k).0) n h (not_true (c n) (λ k. (inside n k).1 refl)) (length o.nodes) (in_net n h))
+  smaller s in_net n h c r = (inside, count_less s c (λ m k. (inside m k).0) n h (false_from_ne_true (c n) (λ k. (inside n k).1 refl)) (length o.nodes) (in_net n h))
     where
       inside : (m : ℕ) → IsIn m c → Without n s m
       inside m k = link_first o (Without n s) (without s in_net n) m r.0 (link_back o (Without n s) (without s in_net n) r.0 m ((r.2 m).0 k))
@@ -341,7 +342,7 @@ module _ (o : OpenNet) (net : IsOpenNet o) where
   SplitsIt s n = IsIn n s × SplitsAt (open_graph o) n s
 
   pub search : (b : ℕ) (s : ℕ → Bool) → ((m : ℕ) → IsIn m s → m < length o.nodes) → count s (length o.nodes) ≤ b → Found s
-  search zero s in_net few = inl (none s (λ n. not_true (s n) (λ h. let e = count_less s (λ m. false) (λ m k. cc) n h refl (length o.nodes) (in_net n h) in omega arith)))
+  search zero s in_net few = inl (none s (λ n. false_from_ne_true (s n) (λ h. let e = count_less s (λ m. false) (λ m k. cc) n h refl (length o.nodes) (in_net n h) in omega arith)))
   search (suc b) s in_net few = go (least (λ m. IsIn m s) (λ m. is_in m s) (λ m. m) (length o.nodes)) (least (SplitsIt s) (λ n. both_decided (is_in n s) (splits_at s in_net n)) (λ n. n) (length o.nodes)) (λ n h c r.
       let e = smaller s in_net n h c r in
       let l = e.1 in
@@ -350,7 +351,7 @@ module _ (o : OpenNet) (net : IsOpenNet o) where
       go : ((m : ℕ) → m < length o.nodes → IsIn m s → ⊥) ⊎ ((m : ℕ) × (m < length o.nodes) × IsIn m s × ((j : ℕ) → j < length o.nodes → IsIn j s → m ≤ j))
           → ((m : ℕ) → m < length o.nodes → SplitsIt s m → ⊥) ⊎ ((m : ℕ) × (m < length o.nodes) × SplitsIt s m × ((j : ℕ) → j < length o.nodes → SplitsIt s j → m ≤ j))
           → ((n : ℕ) → IsIn n s → (c : ℕ → Bool) → IsComponent (open_graph o) (Without n s) c → Found c) → Found s
-      go (inl off) q found = inl (none s (λ n. not_true (s n) (λ h. off n (in_net n h) h)))
+      go (inl off) q found = inl (none s (λ n. false_from_ne_true (s n) (λ h. off n (in_net n h) h)))
       go (inr r) (inl stuck) found = inr (s, whole s ((r.0, r.2), λ n h k. stuck n (in_net n h) (h, k)))
       go (inr r) (inr q) found = among s in_net q.0 (record { here = q.2.0; splits = q.2.1; first = λ m h l k. let e = q.3 m (in_net m h) (h, k) in omega arith }) (found q.0 q.2.0)
 

@@ -11,8 +11,10 @@ use Rattle.in_simple.specs.declared.open_nets.Node.TheVariants.{AgentNode, Class
 use Rattle.in_simple.specs.declared.open_nets.OpenNode.{OpenNode}
 use Rattle.in_simple.specs.OpenNets.{classes_of, OpenNet, IsAgentNode, IsClassNode, IsAgent, IsClass, class_in, IsWire, IsOpenNet, open_graph}
 use Rattle.in_simple.specs.Derivations.{Step, Empty, Link, Given, Graft, Cut, Mix, Part, named, own_nodes, one_if, is_port_in, is_principal, is_auxiliary, is_among, nodes_of, ends_of, ShareNothing, AreEarlier, IsCut, IsGrafted, Joins}
-use Rattle.in_simple.proofs.Sums.{or_cases, or_left, or_right, true_or_false, not_both, not_true, same_test, got, some_same, port_yes, port_no, port_own, other_port, auxiliary_most, principal_one, one_same, one_other, in_nodes_of, of_nodes, ends_most, ends_two, parts_apart}
+use Rattle.in_simple.proofs.Sums.{not_both, same_test, some_same, port_yes, port_no, port_own, other_port, auxiliary_most, principal_one, one_same, one_other, in_nodes_of, of_nodes, ends_most, ends_two, parts_apart, both_left, both_right}
 use Rattle.in_simple.proofs.Balance.{wire_turn, IsBalanced, AllBalanced, all_nodes}
+use Rattle.std.proofs.lemmas.Bool.{or_cases, or_left, or_right, cases_Bool, false_from_ne_true, or_parts, and_from}
+use Rattle.in_base.proofs.Each.{at_index}
 
 pub class_no_agent : (m : Option OpenNode) → IsSomeAnd m IsClassNode → IsSomeAnd m IsAgentNode → ⊥
 class_no_agent None h k = h
@@ -34,7 +36,7 @@ port_place n m i j e = let a : n ≡ m = cc in let b : i ≡ j = cc in (a, b)
 
 -- whether a point is a port in s
 find_port : (s : ℕ → Bool) (q : Point) → ((m : ℕ) × (j : ℕ) × (q ≡ Port m j) × IsIn m s) ⊎ ((m j : ℕ) → q ≡ Port m j → IsIn m s → ⊥)
-find_port s (Port m j) = elim (true_or_false (s m)) [ inl h ↦ inl (m, j, refl, h) | inr h ↦ inr (λ n i e k. not_both (s m) (subst (λ z. IsIn z s) (sym (port_place m n j i e).0) k) h) ]
+find_port s (Port m j) = elim (cases_Bool (s m)) [ inl h ↦ inl (m, j, refl, h) | inr h ↦ inr (λ n i e k. not_both (s m) (subst (λ z. IsIn z s) (sym (port_place m n j i e).0) k) h) ]
 find_port s (Free k) = inr (λ n i e h. let e' : ◌≡◌ {A = Point} (Free k) (Port n i) = e in cc)
 
 -- the number of the first part with the node, counted from c on; else 0
@@ -46,18 +48,14 @@ part_in : (c : ℕ) (xs : List Part) (i : ℕ) (x : Part) (m : ℕ) → ShareNot
 part_in c [] i x m s h k = cc
 part_in c (y ∷ ys) zero x m s h k = let e : y.nodes m ≡ true = subst (λ z. IsIn m z.nodes) (sym (some_same (Some y) y x refl h)) k in rw e (omega arith)
 part_in c (y ∷ ys) (suc i) x m s h k =
-    let e : y.nodes m ≡ false = not_true (y.nodes m) (λ t. s.0 m t (in_nodes_of ys i x m h k)) in
+    let e : y.nodes m ≡ false = false_from_ne_true (y.nodes m) (λ t. s.0 m t (in_nodes_of ys i x m h k)) in
     let r = part_in (suc c) ys i x m s.2 h k in
     rw e (r ∙ omega arith)
-
-or_ends : (b c : Bool) → (b || c) ≡ false → (b ≡ false) × (c ≡ false)
-or_ends true c h = let e : ◌≡◌ {A = Bool} true false = h in cc
-or_ends false c h = (refl, h)
 
 part_none : (c : ℕ) (xs : List Part) (m : ℕ) → nodes_of xs m ≡ false → part_from c xs m ≡ 0
 part_none c [] m h = refl
 part_none c (x ∷ xs) m h =
-    let e = or_ends (x.nodes m) (nodes_of xs m) h in
+    let e = or_parts (x.nodes m) (nodes_of xs m) h in
     let r = part_none (suc c) xs m e.1 in
     let e0 : x.nodes m ≡ false = e.0 in
     rw e0 r
@@ -106,10 +104,10 @@ module _ (o : OpenNet) (net : IsOpenNet o) where
     parts = two_parts x y z s nodes
 
     not_z : (n : ℕ) → IsIn n y.nodes → z.nodes n ≡ false
-    not_z n h = not_true (z.nodes n) (λ k. (parts n).1 h k)
+    not_z n h = false_from_ne_true (z.nodes n) (λ k. (parts n).1 h k)
 
     not_y : (n : ℕ) → IsIn n z.nodes → y.nodes n ≡ false
-    not_y n h = not_true (y.nodes n) (λ k. (parts n).1 k h)
+    not_y n h = false_from_ne_true (y.nodes n) (λ k. (parts n).1 k h)
 
     mix_good : ((w : ℕ) (p q : Point) → IsWire o w p q → x.ends q ≡ ends_of (y ∷ z ∷ []) q) → IsClean x → Built (open_graph o) (IsAgent o) (classes_of o) x.nodes
     mix_good join clean = mix x.nodes y.nodes z.nodes parts
@@ -215,14 +213,14 @@ module _ (o : OpenNet) (net : IsOpenNet o) where
     not_root i m y h k e = not_both (nodes_of xs n) (subst (λ z. IsIn z (nodes_of xs)) e (in_nodes_of xs i y m h k)) fresh
 
     no_root : (i : ℕ) (y : Part) → slice_get xs i ≡ Some y → y.nodes n ≡ false
-    no_root i y h = not_true (y.nodes n) (λ k. not_root i n y h k refl)
+    no_root i y h = false_from_ne_true (y.nodes n) (λ k. not_root i n y h k refl)
 
     -- the part of a port's class has an end for it
     has_end : (w i c : ℕ) (q : Point) → IsWire o w (Port n i) q → class_in o n i ≡ suc c → (y : Part) × (slice_get xs c ≡ Some y) × (0 < y.ends (Port n i))
     has_end w i c q h e =
         let most = net.classes n i r.agent (net.points w (Port n i) q h) in
         let many = r.many in
-        let y = got xs c (omega arith) in
+        let y = at_index xs c (omega arith) in
         (y.0, y.1, r.each w i c q y.0 h e y.1)
 
     -- a class of n, or its principal port
@@ -261,7 +259,7 @@ module _ (o : OpenNet) (net : IsOpenNet o) where
     within w l i m j c d y z h g a k b = elim (eqb_tells c d) [
       | inl t ↦ t.1
       | inr t ↦
-          let none = not_true (y.nodes m) (λ u. t.1 (parts_apart xs s c d y z m g k u b)) in
+          let none = false_from_ne_true (y.nodes m) (λ u. t.1 (parts_apart xs s c d y z m g k u b)) in
           let out = leads_out y (good_at xs c y good g).0 w l i m j h a none in
           let most = ends_most xs c y (Port m j) g in
           let e = clean w l i m j h (inner l (in_nodes_of xs c y l g a)) (inner m (in_nodes_of xs d z m k b)) in
@@ -338,23 +336,11 @@ module _ (o : OpenNet) (net : IsOpenNet o) where
           part_at l f.0 f.1 f.2 f.3 ∙ ap suc (within w.0 l i m j f.0 g.0 f.1 g.1 w.1 f.2 f.3 g.2 g.3) ∙ sym (part_at m g.0 g.1 g.2 g.3);
     }
 
-    and_both : (b c : Bool) → b ≡ true → c ≡ true → (b && c) ≡ true
-    and_both true c h k = k
-    and_both false c h k = cc
-
-    and_left : (b c : Bool) → (b && c) ≡ true → b ≡ true
-    and_left true c h = refl
-    and_left false c h = h
-
-    and_right : (b c : Bool) → (b && c) ≡ true → c ≡ true
-    and_right true c h = h
-    and_right false c h = cc
-
     -- the nodes numbered c are those of the part before c
     is_numbered : (c m : ℕ) → IsIn m (numbered x.nodes part (suc c)) → (y : Part) × (slice_get xs c ≡ Some y) × IsIn m y.nodes
     is_numbered c m h =
-        let e = eqb-true (part m) (suc c) (and_right (x.nodes m) (nat_eq (part m) (suc c)) h) in
-        let inside = and_left (x.nodes m) (nat_eq (part m) (suc c)) h in
+        let e = eqb-true (part m) (suc c) (both_right (x.nodes m) (nat_eq (part m) (suc c)) h) in
+        let inside = both_left (x.nodes m) (nat_eq (part m) (suc c)) h in
         let there = other m inside (λ k. let z : part m ≡ 0 = part_none 1 xs m (subst (λ z. nodes_of xs z ≡ false) (sym k) fresh) in omega arith) in
         let f = of_nodes xs m there in
         let k : f.0 ≡ c = let u = part_at m f.0 f.1 f.2 f.3 in omega arith in
@@ -365,10 +351,10 @@ module _ (o : OpenNet) (net : IsOpenNet o) where
     nets (suc c) h = go (slice_get xs c) refl
       where
         go : (y : Option Part) → slice_get xs c ≡ y → Built (open_graph o) (IsAgent o) (classes_of o) (numbered x.nodes part (suc c))
-        go None e = empty (numbered x.nodes part (suc c)) (λ m. not_true (numbered x.nodes part (suc c) m) (λ k. let f = is_numbered c m k in let g : slice_get xs c ≡ Some f.0 = f.1 in cc))
+        go None e = empty (numbered x.nodes part (suc c)) (λ m. false_from_ne_true (numbered x.nodes part (suc c) m) (λ k. let f = is_numbered c m k in let g : slice_get xs c ≡ Some f.0 = f.1 in cc))
         go (Some y) e =
             let same : y.nodes ≡ numbered x.nodes part (suc c) = fun_ext (λ m. same_test (y.nodes m) (numbered x.nodes part (suc c) m)
-            (λ k. and_both (x.nodes m) (nat_eq (part m) (suc c)) (inner m (in_nodes_of xs c y m e k)) (eq-eqb (part m) (suc c) (part_at m c y e k)))
+            (λ k. and_from (x.nodes m) (nat_eq (part m) (suc c)) (inner m (in_nodes_of xs c y m e k)) (eq-eqb (part m) (suc c) (part_at m c y e k)))
             (λ k. let f = is_numbered c m k in subst (λ z. IsIn m z.nodes) (some_same (slice_get xs c) f.0 y f.1 e) f.2)) in
             subst (Built (open_graph o) (IsAgent o) (classes_of o)) same ((good_at xs c y good e).1 (clean_part c y e))
 

@@ -1,6 +1,6 @@
 -- The nodes of a stuck sub-net are nodes of its open net, and the first one that is listed is the least.
 use Rattle.std.proofs.Common.{◌≡◌, inl, inr, List, [], ◌∷◌, length, ℕ, suc, ◌<◌, ◌≤◌, Some, slice_get, get_or, option_map, sym, subst, ap, ◌∙◌, arith}
-use Rattle.std.proofs.lemmas.Option.{slice_get-get_or}
+use Rattle.std.proofs.lemmas.Option.{slice_get-get_or, same_Some}
 use Rattle.in_syntax.specs.declared.places.Place.{Place}
 use Rattle.in_simple.specs.declared.derivations.Stuck.{Stuck as StuckNet}
 use Rattle.in_simple.specs.declared.open_nets.OpenNode.{OpenNode}
@@ -18,9 +18,6 @@ first_least : (low : ℕ) (n : ℕ) (ns : List ℕ) → Rises low (n ∷ ns) →
 first_least low n ns h m (inl e) = omega (arith, e)
 first_least low n ns h m (inr a) = let r = least_of (suc n) ns h.1 m a in omega (arith, r)
 
-same_number : (n m : ℕ) → Some n ≡ Some m → n ≡ m
-same_number n m e = cc
-
 module _ (o : OpenNet) (net : IsOpenNet o) (s : StuckNet) (h : IsStuckNet o s) where
   pub some_stuck : 0 < length s.nodes
   some_stuck = let e = stuck_nodes o net h.1.0 h.1.1 in among e.0.0 s.nodes ((h.1.2.all e.0.0).0 e.0.1)
@@ -32,7 +29,7 @@ module _ (o : OpenNet) (net : IsOpenNet o) (s : StuckNet) (h : IsStuckNet o s) w
   first_listed : (n : ℕ) (ns : List ℕ) → IsListed h.1.0 ns → slice_get ns 0 ≡ Some n → IsIn n h.1.0 × ((m : ℕ) → IsIn m h.1.0 → n ≤ m)
   first_listed n [] l e = cc
   first_listed n (k ∷ ks) l e =
-      let same = same_number k n e in
+      let same = same_Some k n e in
       ((l.all n).1 (inl (sym same)), λ m i. subst (λ z. z ≤ m) same (first_least 0 k ks l.rises m ((l.all m).0 i)))
 
   pub stuck_node : (n : ℕ) → slice_get s.nodes 0 ≡ Some n → n < length o.nodes

@@ -1,49 +1,30 @@
 -- Tests, ports and sums over parts.
-use Rattle.std.proofs.Common.{◌≡◌, ◌≢◌, ◌⊎◌, ◌<◌, ◌≤◌, ◌+◌, ℕ, zero, suc, Bool, true, false, cond, ◌||◌, nat_eq, Option, Some, None, IsSomeAnd, List, [], ◌∷◌, length, slice_get, refl, sym, subst, ap, inl, inr, ◌∙◌, eq-eqb, eqb-true, ne_eqb, arith}
+use Rattle.std.proofs.Common.{◌≡◌, ◌≢◌, ◌⊎◌, ◌<◌, ◌≤◌, ◌+◌, ℕ, zero, suc, Bool, true, false, cond, ◌||◌, ◌&&◌, nat_eq, Option, Some, None, IsSomeAnd, List, [], ◌∷◌, length, slice_get, refl, sym, subst, ap, inl, inr, ◌∙◌, eq-eqb, eqb-true, ne_eqb, arith}
 use Rattle.std.proofs.lemmas.Bool.Decides.{eqb_tells}
 use Rattle.std.proofs.lemmas.Option.{slice_get_cases}
 use Rattle.in_simple.specs.declared.open_nets.Point.{Point}
 use Rattle.in_simple.specs.declared.open_nets.Point.TheVariants.{Port, Free}
 use Rattle.in_simple.specs.Constructions.{IsIn}
 use Rattle.in_simple.specs.Derivations.{Part, one_if, is_port_in, is_principal, is_auxiliary, is_among, nodes_of, ends_of, ShareNothing, AreEarlier}
+use Rattle.std.proofs.lemmas.Bool.{and_parts, or_cases, or_left, or_right, or_from, cases_Bool, false_from_ne_true}
+use Rattle.in_base.proofs.Each.{at_index}
 
-pub or_cases : (b c : Bool) → (b || c) ≡ true → (b ≡ true) ⊎ (c ≡ true)
-or_cases true c h = inl refl
-or_cases false c h = inr h
+pub both_left : (b c : Bool) → (b && c) ≡ true → b ≡ true
+both_left b c h = (and_parts b c h).0
 
-pub or_left : (b c : Bool) → b ≡ true → (b || c) ≡ true
-or_left true c h = refl
-or_left false c h = cc
-
-pub or_right : (b c : Bool) → c ≡ true → (b || c) ≡ true
-or_right true c h = refl
-or_right false c h = h
-
-pub or_false : (b c : Bool) → b ≡ false → c ≡ false → (b || c) ≡ false
-or_false true c h k = cc
-or_false false c h k = k
-
-pub true_or_false : (b : Bool) → (b ≡ true) ⊎ (b ≡ false)
-true_or_false true = inl refl
-true_or_false false = inr refl
+pub both_right : (b c : Bool) → (b && c) ≡ true → c ≡ true
+both_right b c h = (and_parts b c h).1
 
 pub not_both : (b : Bool) → b ≡ true → b ≡ false → ⊥
 not_both b h k = cc
 
-pub not_true : (b : Bool) → (b ≡ true → ⊥) → b ≡ false
-not_true true h = absurd (h refl)
-not_true false h = refl
-
 pub same_test : (b c : Bool) → (b ≡ true → c ≡ true) → (c ≡ true → b ≡ true) → b ≡ c
 same_test true c f g = sym (f refl)
-same_test false c f g = go (true_or_false c)
+same_test false c f g = go (cases_Bool c)
   where
     go : (c ≡ true) ⊎ (c ≡ false) → false ≡ c
     go (inl h) = let k = g h in cc
     go (inr h) = sym h
-
-pub got : {X : Type 0} (xs : List X) (i : ℕ) → i < length xs → (x : X) × (slice_get xs i ≡ Some x)
-got xs i h = elim (slice_get_cases xs i).1 [ inl r ↦ (r.0, r.2) | inr r ↦ let k : length xs ≤ i = r.0 in absurd (omega arith) ]
 
 pub some_same : {X : Type 0} (o : Option X) (x y : X) → o ≡ Some x → o ≡ Some y → x ≡ y
 some_same o x y h k = cc

@@ -14,7 +14,7 @@ use Rattle.in_net.specs.Rules as rules_of
 use Rattle.in_net.specs.TextNet.{Body, Written, AreCellsFor, agents_of_body}
 use Rattle.in_simple.specs.OpeningRules.{is_turned, IsRuleWhole}
 use Rattle.in_simple.proofs.Counted.{cells_there}
-use Rattle.in_simple.proofs.Sums.{got}
+use Rattle.in_base.proofs.Each.{at_index}
 
 types_as_many : (t : Tables) (s i n : ℕ) → length (types_from t s i n) ≡ n
 types_as_many t s i zero = refl
@@ -53,7 +53,7 @@ pick heads written b e = elim (eqb_tells heads.0.0 written.0.0) [
 few_agents : (t : Tables) (b : Body) → HasNoNetFault max_member_agents t b → length (agents_of_body t b) ≤ max_member_agents
 few_agents t b sound = elim (leb_tells (length (agents_of_body t b)) max_member_agents) [
   | inl h ↦ h.1
-  | inr h ↦ let w = got (agents_of_body t b) max_member_agents h.1 in absurd (sound E03 w.0.place (w.0, w.1, refl))
+  | inr h ↦ let w = at_index (agents_of_body t b) max_member_agents h.1 in absurd (sound E03 w.0.place (w.0, w.1, refl))
 ]
 
 pub rule_whole : (t : Tables) (r : SourceRule) (p : RuleParts) → BuildsRuleOf t r (Ok p) → IsRuleWhole t p

@@ -11,10 +11,11 @@ use Rattle.in_simple.specs.Derivations.{Graft, Part, is_principal, is_auxiliary,
 use Rattle.in_simple.specs.Checking.{ends_at, has_node, has_link, in_one, IsSized, Holds, AllHold, Gathers, IsNothing, Took, Makes, IsMade, AreOpen, IsInClass, IsOpenAt, IsOpen, HasClass, AreGrafted, OnStep, IsClassTaken, IsClassRefused, AreGathered, AreRefused, IsGraftedTo, LacksSome}
 use Rattle.in_simple.specs.Procedure.{nodes_in}
 use Rattle.in_simple.proofs.Links.{same_nat}
-use Rattle.in_simple.proofs.Sums.{some_same, or_left, or_right, one_same, one_other}
+use Rattle.in_simple.proofs.Sums.{some_same, one_same, one_other}
 use Rattle.in_simple.proofs.VerifyMade.{AtWires, beside_counted, at_points, at_wires, gathers_none, gathers_more, share_none}
 use Rattle.in_simple.proofs.VerifySets.{at_set, at_other, drop_end, drop_here}
 use Rattle.in_simple.proofs.VerifyTaken.{taken_counted, took_hold, took_kept, again_left, earlier_length}
+use Rattle.std.proofs.lemmas.Bool.{or_left, or_right}
 
 all_length : (o : OpenNet) (bs : List Built) (xs : List Part) → AllHold o bs xs → length bs ≡ length xs
 all_length o [] [] h = refl

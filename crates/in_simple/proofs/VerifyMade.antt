@@ -12,8 +12,10 @@ use Rattle.in_simple.specs.Derivations.{Empty, Link, Given, Cut, Mix, Part, one_
 use Rattle.in_simple.specs.Checking.{ends_at, has_node, has_link, first_ends, second_ends, IsSized, Holds, Gathers, IsNothing, AreBeside, ShareOne, IsLed, IsFrom, IsJoint, Makes, OnAlone, OnPair, in_one}
 use Rattle.in_simple.specs.Procedure.{nodes_in}
 use Rattle.in_simple.proofs.Links.{same_nat}
-use Rattle.in_simple.proofs.Sums.{some_same, got, or_left, or_right, port_same, one_same, one_other}
+use Rattle.in_simple.proofs.Sums.{some_same, port_same, one_same, one_other}
 use Rattle.in_simple.proofs.VerifySets.{at_set, at_other}
+use Rattle.std.proofs.lemmas.Bool.{or_left, or_right}
+use Rattle.in_base.proofs.Each.{at_index}
 
 -- ---- a part of what is built
 
@@ -350,7 +352,7 @@ module _ (o : OpenNet) where
   pub link_alone : (v : ℕ) (b : Built) (ls : List Bool) (es : List (ℕ × ℕ)) → IsNothing o b → v < length o.wires → ls ≡ set b.links v true → es ≡ set b.ends v (1, 1) → OnAlone o (Link v) (Some (record { nodes = b.nodes; links = ls; ends = es }))
   link_alone v b ls es h l e f =
       let c : Built = record { nodes = b.nodes; links = ls; ends = es } in
-      let w = got o.wires v l in
+      let w = at_index o.wires v l in
       let is : IsLink v c = record {
         nodes = h.nodes;
         links = λ w. ap (λ z. nodes_in z w) e ∙ elim (same_nat w v) [

@@ -8,10 +8,11 @@ use Rattle.in_simple.specs.Checking.{AreSized, AreHeld, AllHold, Again, Holds, I
 use Rattle.in_simple.proofs.Named.{AreLeft, left_start, left_more, left_app, take_next, take_whole}
 use Rattle.in_simple.proofs.Forest.{get_app, get_past, get_cases, times_in_app}
 use Rattle.in_simple.proofs.Links.{same_nat, at_most}
-use Rattle.in_simple.proofs.Sums.{some_same, or_left, or_right, true_or_false, one_same, one_other, earlier_of}
+use Rattle.in_simple.proofs.Sums.{some_same, one_same, one_other, earlier_of}
 use Rattle.in_simple.proofs.Whole.{times_among, is_node}
 use Rattle.in_simple.proofs.VerifyMade.{at_points, part_of, holds_part}
 use Rattle.in_simple.proofs.VerifyTaken.{left_most, taken_counted, took_takes, took_kept, took_sized, took_different, took_hold, took_from, again_left}
+use Rattle.std.proofs.lemmas.Bool.{or_left, or_right, cases_Bool}
 
 -- the first k steps build these parts
 abbrev pub IsPrefix : OpenNet → List Step → ℕ → List Part → Type 0
@@ -337,7 +338,7 @@ module _ (o : OpenNet) (steps : List Step) where
                   let u : times_left n parts ≡ times_left n (front ++ Some b ∷ []) = ap (times_left n) e in
                   let f = times_left_app n front b in
                   let g = left_all n front none in
-                  elim (true_or_false (has_node b n)) [
+                  elim (cases_Bool (has_node b n)) [
                     | inl t ↦ t
                     | inr t ↦ let j : in_one b n ≡ 0 = ap (λ z. cond z 1 0) t in absurd (omega arith)
                   ]),

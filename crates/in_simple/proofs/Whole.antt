@@ -6,9 +6,11 @@ use Rattle.in_simple.specs.declared.open_nets.Point.TheVariants.{Port}
 use Rattle.in_simple.specs.Constructions.{IsIn}
 use Rattle.in_simple.specs.OpenNets.{OpenNet, IsAgentNode, IsClassNode, IsNode, IsOpenNet, IsDerivable}
 use Rattle.in_simple.specs.Derivations.{Step, Empty, Link, Given, Graft, Cut, Mix, Part, named, own_nodes, is_among, nodes_of, AreEarlier, Joins, times, times_in, IsDerivation}
-use Rattle.in_simple.proofs.Sums.{or_cases, or_left, or_right, true_or_false, not_both, not_true, got, some_same, some_of, one_same, one_other, in_nodes_of, of_nodes, earlier_at, earlier_of}
+use Rattle.in_simple.proofs.Sums.{not_both, some_same, some_of, one_same, one_other, in_nodes_of, of_nodes, earlier_at, earlier_of}
 use Rattle.in_simple.proofs.Balance.{step_balanced}
 use Rattle.in_simple.proofs.Sound.{IsGood, AllGood, all_balanced, step_good}
+use Rattle.std.proofs.lemmas.Bool.{or_cases, or_left, or_right, cases_Bool, false_from_ne_true}
+use Rattle.in_base.proofs.Each.{at_index}
 
 pub times_among : (n : ℕ) (ns : List ℕ) → is_among n ns ≡ true → 1 ≤ times n ns
 times_among n [] h = cc
@@ -45,7 +47,7 @@ times_two f n (z ∷ zs) (suc i) (suc j) x y l h g a b = let r = times_two f n z
 
 pub times_some : (f : Step → List ℕ) (n : ℕ) (steps : List Step) → 1 ≤ times_in f n steps → (j : ℕ) × (x : Step) × (slice_get steps j ≡ Some x) × (is_among n (f x) ≡ true)
 times_some f n [] h = absurd (omega arith)
-times_some f n (y ∷ ys) h = elim (true_or_false (is_among n (f y))) [
+times_some f n (y ∷ ys) h = elim (cases_Bool (is_among n (f y))) [
   | inl e ↦ (0, y, refl, e)
   | inr e ↦
       let k : times n (f y) < 1 = elim (leb_tells 1 (times n (f y))) [ inl u ↦ absurd (not_both (is_among n (f y)) (among_times n (f y) u) e) | inr u ↦ u ] in
@@ -85,7 +87,7 @@ module _ (o : OpenNet) (net : IsOpenNet o) (steps : List Step) (d : IsDerivation
             let i = earlier_at d.parts k (named step) build.from build.earlier f.0 f.1 f.2 in
             let il = i.1 in
             let kl = slice_get_within steps k step e in
-            let s = got steps i.0 (omega arith) in
+            let s = at_index steps i.0 (omega arith) in
             let t = stands b i.0 (omega arith) s.0 s.1 f.1 i.2 m f.3 in
             let tl = t.1 in
             (t.0, omega arith, t.2, t.3, t.4)
@@ -103,12 +105,12 @@ module _ (o : OpenNet) (net : IsOpenNet o) (steps : List Step) (d : IsDerivation
       let r = d.each k step e in
       let build = r.2 in
       let kl = slice_get_within steps k step e in
-      let good = all_good k (named step) build.from build.earlier (λ i y il ig. let s = got steps i (omega arith) in good_below b i (omega arith) s.0 s.1 y ig) in
-      let fresh : (n : ℕ) → is_among n (own_nodes step) ≡ true → nodes_of build.from n ≡ false = λ n a. not_true (nodes_of build.from n) (λ t.
+      let good = all_good k (named step) build.from build.earlier (λ i y il ig. let s = at_index steps i (omega arith) in good_below b i (omega arith) s.0 s.1 y ig) in
+      let fresh : (n : ℕ) → is_among n (own_nodes step) ≡ true → nodes_of build.from n ≡ false = λ n a. false_from_ne_true (nodes_of build.from n) (λ t.
       let f = of_nodes build.from n t in
       let i = earlier_at d.parts k (named step) build.from build.earlier f.0 f.1 f.2 in
       let il = i.1 in
-      let s = got steps i.0 (omega arith) in
+      let s = at_index steps i.0 (omega arith) in
       let j = stands (suc i.0) i.0 (omega arith) s.0 s.1 f.1 i.2 n f.3 in
       let jl = j.1 in
       let two = times_two own_nodes n steps j.0 k j.2 step (omega arith) j.3 e j.4 a in
@@ -141,7 +143,7 @@ module _ (o : OpenNet) (net : IsOpenNet o) (steps : List Step) (d : IsDerivation
   pub derivation_builds : IsDerivable o
   derivation_builds =
       let some = d.some in
-      let s = got steps (length steps - 1) (omega arith) in
+      let s = at_index steps (length steps - 1) (omega arith) in
       let r = d.each (length steps - 1) s.0 s.1 in
       let good = good_below (length steps) (length steps - 1) (omega arith) s.0 s.1 r.0 r.1 in (
         r.0.nodes,

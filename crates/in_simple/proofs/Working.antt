@@ -9,12 +9,13 @@ use Rattle.in_simple.specs.Splitting.{alone, Without, IsFirstSplitting, first}
 use Rattle.in_simple.specs.OpenNets.{OpenNet, IsOpenNet, IsDerivable, open_graph}
 use Rattle.in_simple.specs.Stuck.{IsPart, Among, ComesAt, FirstStuck, IsFirstStuck, Rises, whole, within}
 use Rattle.in_simple.specs.Procedure.{nodes_in, AllSplit, HasNone, IsFirst, NoneSplits, Lists, AreSized, AreMakes, StuckIn, pending_in, AreApart, IsWork, StartsWork, Passes}
-use Rattle.in_simple.proofs.Sums.{or_cases, or_left, or_right, or_false, not_both, not_true}
+use Rattle.in_simple.proofs.Sums.{not_both}
 use Rattle.in_simple.proofs.Links.{same_nat, at_most, link_first, link_back}
 use Rattle.in_simple.proofs.Reaching.{in_length}
 use Rattle.in_simple.proofs.Search.{count, count_less, comes_at, one_turn, turn_same, meet_same, without}
 use Rattle.in_simple.proofs.Both.{derivable_splits, one_first_stuck}
 use Rattle.in_simple.proofs.Planning.{sized_more}
+use Rattle.std.proofs.lemmas.Bool.{or_cases, or_left, or_right, or_from, false_from_ne_true}
 
 -- ---- steps alone
 
@@ -163,9 +164,9 @@ module _ (o : OpenNet) (net : IsOpenNet o) where
       ]
 
       gone : pending_in (ps ++ ts) n ≡ false
-      gone = pending_app ps ts n ∙ or_false (pending_in ps n) (pending_in ts n)
-          (not_true (pending_in ps n) (λ u. let x = pending_part n (nodes_in part) (part_in_net part ts w) 0 ps h n u in (inside n (nodes_in part) (part_in_net part ts w) x.0 x.2 n x.5).1 refl))
-          (not_true (pending_in ts n) (λ u. w.apart.0 n f.here u))
+      gone = pending_app ps ts n ∙ or_from (pending_in ps n) (pending_in ts n)
+          (false_from_ne_true (pending_in ps n) (λ u. let x = pending_part n (nodes_in part) (part_in_net part ts w) 0 ps h n u in (inside n (nodes_in part) (part_in_net part ts w) x.0 x.2 n x.5).1 refl))
+          (false_from_ne_true (pending_in ts n) (λ u. w.apart.0 n f.here u))
 
   pub stuck_first : (part : List Bool) (ts : List Task) → IsWork o (Derive part ∷ ts) → NoneSplits o part (length o.nodes) → IsFirstStuck o (nodes_in part)
   stuck_first part ts w h = (w.whole, w.nodes, w.stuck (nodes_in part) (inl (whole (nodes_in part) (w.sized.1, λ n k g. h n (part_in_net part ts w n k) (k, g)))))

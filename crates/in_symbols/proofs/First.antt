@@ -7,14 +7,16 @@ use Rattle.in_syntax.specs.declared.places.Place.{Place}
 use Rattle.in_syntax.specs.declared.tree.Name.{Name}
 use Rattle.in_syntax.specs.declared.tree.Source.{Source}
 use Rattle.in_symbols.specs.declared.declaring.Declared.{Declared}
-use Rattle.in_symbols.specs.Faults.{AnyByRecursion, IsTypeName, IsSymbolName, IsRepeatedAt, IsDeclaredTwiceAt, type_twice, symbol_twice, free_twice, free_symbol, IsUnknownTypeAt, IsUnknownHeadAt, IsFaultAt, code_number, IsNoLater, IsFirstFault, IsFaultless}
+use Rattle.in_base.specs.Lists.{AnyByRecursion}
+use Rattle.in_symbols.specs.Faults.{IsTypeName, IsSymbolName, IsRepeatedAt, IsDeclaredTwiceAt, type_twice, symbol_twice, free_twice, free_symbol, IsUnknownTypeAt, IsUnknownHeadAt, IsFaultAt, code_number, IsNoLater, IsFirstFault, IsFaultless}
 use Rattle.in_symbols.specs.Searching.{earlier, undeclared, declares_all, declares_all_free, untyped_in_symbols, untyped_in_free, unknown_in_rules, unknown_in_equations, refused, earlier_refusal, first_fault}
 use Rattle.in_symbols.proofs.Least.{IsLeast, least_same, least_earlier}
-use Rattle.in_symbols.proofs.Named.{IsIn, any_of, any_mapped, any_to_map}
+use Rattle.in_symbols.proofs.Named.{IsIn}
 use Rattle.in_symbols.proofs.Repeated.{all_names, repeats_least, free_least}
 use Rattle.in_symbols.proofs.Unknown.{AreSymbols}
 use Rattle.in_symbols.proofs.UnknownInRules.{unknown_least}
 use Rattle.in_symbols.proofs.Untyped.{AreTypes, untyped_least}
+use Rattle.in_base.proofs.Each.{any_of, any_mapped, any_to_map}
 
 -- the first of the faults F; none where there is none
 abbrev pub IsFirst : (Code → Place → Type 0) → Option Refusal → Type 0

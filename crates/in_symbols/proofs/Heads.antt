@@ -1,6 +1,5 @@
 -- What is said of a term by a fold, at one term.
-use Rattle.std.proofs.Common.{◌≡◌, ℕ, ◌+◌, Bool, ◌||◌, ◌&&◌, List, map, Option, is_some}
-use Rattle.in_syntax.specs.Sizes.{total, names_in}
+use Rattle.std.proofs.Common.{◌≡◌, ℕ, Bool, ◌||◌, ◌&&◌, List, map, Option, is_some}
 use Rattle.in_syntax.specs.declared.places.Place.{Place}
 use Rattle.in_syntax.specs.declared.tree.Term.{Term, out-Term}
 use Rattle.in_syntax.specs.declared.tree.Term.TheFolds.{fold_out-Term}
@@ -15,6 +14,3 @@ heads_out names = fold_out-Term Bool (λ f. (is_none f.args || is_some (number_i
 pub unknown_out : (names : List (List ℕ)) (t : Term) →
     unknown_in_term names t ≡ earliest (unknown_here names (is_empty (map (unknown_in_term names) (out-Term t).args)) (out-Term t).name) (map (unknown_in_term names) (out-Term t).args)
 unknown_out names = fold_out-Term (Option Place) (λ f. earliest (unknown_here names (is_empty f.args) f.name) f.args)
-
-pub names_out : (t : Term) → names_in t ≡ total (map names_in (out-Term t).args) + 1
-names_out = fold_out-Term ℕ (λ f. total f.args + 1)

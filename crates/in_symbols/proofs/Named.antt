@@ -1,51 +1,15 @@
 -- Which names are there, and names of lists.
-use Rattle.std.proofs.Common.{◌≡◌, ◌⊎◌, ℕ, ◌+◌, ◌<◌, Bool, true, false, not, cond, ◌||◌, nat_lt, List, [], ◌∷◌, ◌++◌, length, map, Some, None, is_some, refl, sym, ◌∙◌, ap, inl, inr, arith, ltb-true}
+use Rattle.std.proofs.Common.{◌≡◌, ℕ, ◌+◌, ◌<◌, Bool, true, false, not, cond, ◌||◌, nat_lt, List, [], ◌∷◌, length, Some, None, is_some, refl, sym, ◌∙◌, ap, inl, inr, arith, ltb-true}
 use Rattle.std.specs.List.{list_any, position_or_len}
 use Rattle.std.specs.Str.{bytes_eq}
 use Rattle.std.proofs.lemmas.Bool.Decides.{same_from_decides, Decides-ltb}
 use Rattle.std.proofs.lemmas.Slice.Eq.{bytes_eq-Decides}
-use Rattle.in_symbols.specs.Faults.{AnyByRecursion}
+use Rattle.in_base.specs.Lists.{AnyByRecursion}
 use Rattle.in_symbols.specs.Names.{number_in, has_name}
 
 -- the name is one of these
 abbrev pub IsIn : List (List ℕ) → List ℕ → Type 0
 IsIn names name = AnyByRecursion (λ n. n ≡ name) names
-
-pub any_of : {X : Type 0} (P Q : X → Type 0) → ((x : X) → P x → Q x) → (xs : List X) → AnyByRecursion P xs → AnyByRecursion Q xs
-any_of P Q to [] h = h
-any_of P Q to (x ∷ xs) (inl h) = inl (to x h)
-any_of P Q to (x ∷ xs) (inr h) = inr (any_of P Q to xs h)
-
-pub any_either : {X : Type 0} (P Q : X → Type 0) (xs : List X) → AnyByRecursion (λ x. P x ⊎ Q x) xs → AnyByRecursion P xs ⊎ AnyByRecursion Q xs
-any_either P Q [] h = absurd h
-any_either P Q (x ∷ xs) (inl (inl h)) = inl (inl h)
-any_either P Q (x ∷ xs) (inl (inr h)) = inr (inl h)
-any_either P Q (x ∷ xs) (inr h) = elim (any_either P Q xs h) [ inl a ↦ inl (inr a) | inr b ↦ inr (inr b) ]
-
-pub any_mapped : {X Y : Type 0} (f : X → Y) (P : Y → Type 0) (xs : List X) → AnyByRecursion P (map f xs) → AnyByRecursion (λ x. P (f x)) xs
-any_mapped f P [] h = h
-any_mapped f P (x ∷ xs) (inl h) = inl h
-any_mapped f P (x ∷ xs) (inr h) = inr (any_mapped f P xs h)
-
-pub any_to_map : {X Y : Type 0} (f : X → Y) (P : Y → Type 0) (xs : List X) → AnyByRecursion (λ x. P (f x)) xs → AnyByRecursion P (map f xs)
-any_to_map f P [] h = h
-any_to_map f P (x ∷ xs) (inl h) = inl h
-any_to_map f P (x ∷ xs) (inr h) = inr (any_to_map f P xs h)
-
-pub any_in_end : {X : Type 0} (P : X → Type 0) (xs : List X) (y : X) → P y → AnyByRecursion P (xs ++ y ∷ [])
-any_in_end P [] y h = inl h
-any_in_end P (x ∷ xs) y h = inr (any_in_end P xs y h)
-
-pub any_in_front : {X : Type 0} (P : X → Type 0) (xs : List X) (y : X) → AnyByRecursion P xs → AnyByRecursion P (xs ++ y ∷ [])
-any_in_front P [] y h = absurd h
-any_in_front P (x ∷ xs) y (inl h) = inl h
-any_in_front P (x ∷ xs) y (inr h) = inr (any_in_front P xs y h)
-
-pub any_before_end : {X : Type 0} (P : X → Type 0) (xs : List X) (y : X) → AnyByRecursion P (xs ++ y ∷ []) → AnyByRecursion P xs ⊎ P y
-any_before_end P [] y (inl h) = inr h
-any_before_end P [] y (inr h) = absurd h
-any_before_end P (x ∷ xs) y (inl h) = inl (inl h)
-any_before_end P (x ∷ xs) y (inr h) = elim (any_before_end P xs y h) [ inl a ↦ inl (inr a) | inr b ↦ inr b ]
 
 -- ---- the tests of names
 

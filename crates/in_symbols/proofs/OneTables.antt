@@ -15,11 +15,12 @@ use Rattle.in_syntax.specs.declared.tree.SourceRule.{SourceRule}
 use Rattle.in_syntax.specs.declared.tree.SourceSymbol.{SourceSymbol}
 use Rattle.in_syntax.specs.declared.tree.Term.{Term, out-Term}
 use Rattle.in_syntax.specs.Order.{BeginApart, term_places, equation_places, head_places, symbol_places, rule_places, free_places, source_places}
-use Rattle.in_symbols.specs.Faults.{AnyByRecursion, IsSymbolName, IsRepeatedAt, IsDeclaredTwiceAt, type_twice, symbol_twice, free_twice, free_symbol, IsUntypedAt, IsUnknownTypeAt, of_principal, of_auxiliary, of_free, HasPart, itself, argument, IsUnknownHead, OfAHead, IsUnknownHeadAt, in_equation, of_head, in_head, IsFaultAt, IsNoLater, code_number}
+use Rattle.in_base.specs.Lists.{AnyByRecursion}
+use Rattle.in_symbols.specs.Faults.{IsSymbolName, IsRepeatedAt, IsDeclaredTwiceAt, type_twice, symbol_twice, free_twice, free_symbol, IsUntypedAt, IsUnknownTypeAt, of_principal, of_auxiliary, of_free, HasPart, itself, argument, IsUnknownHead, OfAHead, IsUnknownHeadAt, in_equation, of_head, in_head, IsFaultAt, IsNoLater, code_number}
 use Rattle.in_symbols.specs.Tables.{Tabulates}
 use Rattle.in_syntax.specs.Answers.{IsOne}
-use Rattle.in_syntax.specs.Lists.{IsAmong}
-use Rattle.in_syntax.proofs.Among.{among_left, among_right, in_flat, in_map, of_map}
+use Rattle.in_base.specs.Lists.{IsAmong}
+use Rattle.in_base.proofs.Among.{among_left, among_right, in_flat, in_map, of_map}
 use Rattle.in_syntax.proofs.Ordered.{places_out}
 use Rattle.in_syntax.proofs.WholeTexts.{same_refusal}
 

@@ -1,18 +1,22 @@
 -- The first place of a name before ( in a term that is no symbol's.
-use Rattle.std.proofs.Common.{◌≡◌, ◌⊎◌, ℕ, zero, suc, ◌≤◌, Bool, true, false, ◌||◌, ◌&&◌, List, [], ◌∷◌, map, Option, Some, None, is_some, if◌then◌else◌, refl, sym, ◌∙◌, subst, inl, inr, ap, arith}
+use Rattle.std.proofs.Common.{◌≡◌, ◌⊎◌, ℕ, zero, suc, ◌≤◌, Bool, true, false, ◌||◌, List, [], ◌∷◌, map, Option, Some, None, is_some, if◌then◌else◌, refl, sym, ◌∙◌, subst, inl, inr, ap, arith}
 use Rattle.std.specs.List.{AllByRecursion}
 use Rattle.in_syntax.specs.Sizes.{total, names_in}
 use Rattle.in_syntax.specs.declared.places.Place.{Place}
 use Rattle.in_syntax.specs.declared.tree.Equation.{Equation}
 use Rattle.in_syntax.specs.declared.tree.Source.{Source}
 use Rattle.in_syntax.specs.declared.tree.Term.{Term, out-Term}
-use Rattle.in_symbols.specs.Faults.{AnyByRecursion, IsSymbolName, HasPart, itself, argument, IsUnknownHead}
+use Rattle.in_base.specs.Lists.{AnyByRecursion}
+use Rattle.in_symbols.specs.Faults.{IsSymbolName, HasPart, itself, argument, IsUnknownHead}
 use Rattle.in_symbols.specs.Names.{number_in}
 use Rattle.in_symbols.specs.Searching.{earlier, earliest, is_empty, unknown_here, unknown_in_term, unknown_in_equation, unknown_in_equations}
 use Rattle.in_symbols.specs.Tables.{is_none, all_true, heads_known, HeadsKnown}
-use Rattle.in_symbols.proofs.Heads.{heads_out, names_out, unknown_out}
+use Rattle.in_symbols.proofs.Heads.{heads_out, unknown_out}
 use Rattle.in_symbols.proofs.Least.{IsLeast, least_same, least_earlier, least_of_all, earlier_none, earliest_none}
-use Rattle.in_symbols.proofs.Named.{IsIn, any_of, has_number, no_number}
+use Rattle.in_symbols.proofs.Named.{IsIn, has_number, no_number}
+use Rattle.in_base.proofs.Each.{any_of}
+use Rattle.std.proofs.lemmas.Bool.{and_from}
+use Rattle.in_syntax.proofs.Terms.{names_out}
 
 -- these names are those of the declared symbols
 abbrev pub AreSymbols : Source → List (List ℕ) → Type 0
@@ -124,12 +128,9 @@ none_empty : {X Y : Type 0} (f : X → Bool) (g : X → Y) (xs : List X) → is_
 none_empty f g [] = refl
 none_empty f g (x ∷ xs) = refl
 
-and_true : (a b : Bool) → a ≡ true → b ≡ true → (a && b) ≡ true
-and_true a b e f = cc
-
 all_known : (names : List (List ℕ)) (ts : List Term) → AllByRecursion (λ t. heads_known names t ≡ true) ts → all_true (map (heads_known names) ts) ≡ true
 all_known names [] h = refl
-all_known names (t ∷ ts) h = and_true (heads_known names t) (all_true (map (heads_known names) ts)) h.0 (all_known names ts h.1)
+all_known names (t ∷ ts) h = and_from (heads_known names t) (all_true (map (heads_known names) ts)) h.0 (all_known names ts h.1)
 
 abbrev TermsKnown : List (List ℕ) → ℕ → Type 0
 TermsKnown names h = (t : Term) → names_in t ≤ h → unknown_in_term names t ≡ None → heads_known names t ≡ true
@@ -148,7 +149,7 @@ terms_known names (suc h) t short e =
     let all = arguments_known names h (terms_known names h) (unknown_here names (is_empty (map (unknown_in_term names) (out-Term t).args)) (out-Term t).name) (out-Term t).args (omega (arith, names_out t, short)) (sym (unknown_out names t) ∙ e) in
     let here = here_known (is_empty (map (unknown_in_term names) (out-Term t).args)) (is_some (number_in (out-Term t).name.text names)) (out-Term t).name.place all.0 in
     heads_out names t
-    ∙ and_true (is_none (map (heads_known names) (out-Term t).args) || is_some (number_in (out-Term t).name.text names)) (all_true (map (heads_known names) (out-Term t).args))
+    ∙ and_from (is_none (map (heads_known names) (out-Term t).args) || is_some (number_in (out-Term t).name.text names)) (all_true (map (heads_known names) (out-Term t).args))
     (ap (λ b. b || is_some (number_in (out-Term t).name.text names)) (none_empty (heads_known names) (unknown_in_term names) (out-Term t).args) ∙ here)
     (all_known names (out-Term t).args all.1)
 

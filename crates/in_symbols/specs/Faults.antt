@@ -2,6 +2,7 @@
 -- Lafont 1990 declares the type and sign of each port of a symbol, and lets an agent be of a declared symbol. That types and
 -- symbols are two spaces of names, the codes, and where a fault stands are this project's own choice.
 use Rattle.std.specs.Prelude.{◌≡◌, ◌⊎◌, ℕ, ◌<◌, ◌≤◌, List, [], ◌∷◌, map}
+use Rattle.in_base.specs.Lists.{AnyByRecursion, IsAmong}
 use Rattle.in_syntax.specs.declared.faults.Code.{Code}
 use Rattle.in_syntax.specs.declared.faults.Code.TheVariants.{E01, E02, E03, E04, E05, E06, E07, E08, E09, E10, E11, E12, E13, E14, E15}
 use Rattle.in_syntax.specs.declared.places.Place.{Place}
@@ -11,11 +12,6 @@ use Rattle.in_syntax.specs.declared.tree.Source.{Source}
 use Rattle.in_syntax.specs.declared.tree.SourcePort.{SourcePort}
 use Rattle.in_syntax.specs.declared.tree.SourceRule.{SourceRule}
 use Rattle.in_syntax.specs.declared.tree.Term.{Term, out-Term}
-
--- it holds of one of the list
-abbrev pub AnyByRecursion : {X : Type 0} → (X → Type 0) → List X → Type 0
-AnyByRecursion P [] = ⊥
-AnyByRecursion P (x ∷ xs) = P x ⊎ AnyByRecursion P xs
 
 abbrev pub IsTypeName : Source → List ℕ → Type 0
 IsTypeName s name = AnyByRecursion (λ t. t.text ≡ name) s.types
@@ -54,7 +50,7 @@ pub data IsUnknownTypeAt (s : Source) (p : Place) : Type 0 where
 -- it holds of the term, or of a term within it
 pub data HasPart (P : Term → Type 0) : Term → Type 0 where
   itself : (t : Term) → P t → HasPart P t
-  argument : (t a : Term) → AnyByRecursion (λ b. b ≡ a) (out-Term t).args → HasPart P a → HasPart P t
+  argument : (t a : Term) → IsAmong a (out-Term t).args → HasPart P a → HasPart P t
 
 -- at the place stands the term's name, before its arguments, and is no symbol's
 pub record IsUnknownHead (s : Source) (p : Place) (t : Term) : Type 0 where

@@ -1,6 +1,6 @@
 -- What is spelled is read.
 use Rattle.std.proofs.Common.{◌≡◌, ℕ, zero, suc, ◌+◌, ◌≤◌, max, Bool, true, false, cond, nat_lt, List, [], ◌∷◌, ◌++◌, length, map, refl, sym, ◌∙◌, ap, subst, append_assoc, append-nil, length-append, arith}
-use Rattle.std.specs.List.{flat_map}
+use Rattle.std.specs.List.{flat_map, AllByRecursion}
 use Rattle.in_syntax.specs.declared.words.TokenKind.TheVariants as kind
 use Rattle.in_syntax.specs.declared.signs.Sign.{Sign}
 use Rattle.in_syntax.specs.declared.signs.Sign.TheVariants.{Named, Tilde, Plain}
@@ -27,15 +27,12 @@ use Rattle.in_syntax.specs.declared.states.HeadOf.{HeadOf}
 use Rattle.in_syntax.specs.declared.states.HeadOf.TheVariants.{First, Second}
 use Rattle.in_syntax.specs.declared.states.TermOf.TheVariants.{Left, Right, Inside}
 use Rattle.in_syntax.specs.declared.states.Nest.{Nest}
-use Rattle.in_syntax.specs.Grammar.{Marked, marked, within, plain, separated, numbered, spell_auxiliary, spell_class, spell_classes, spell_symbol, spell_type, spell_types, spell_arguments, spell_term, spell_outermost, spell_head, spell_rule, spell_equation, spell_free, spell_net, max_types, max_depth, IsNonempty, Each, Item, types, symbol, rule, none_yet, counted, spell_items, IsItem, types_in, symbols_in, rules_in, Program, spelling}
+use Rattle.in_syntax.specs.Grammar.{Marked, marked, within, plain, separated, numbered, spell_auxiliary, spell_class, spell_classes, spell_symbol, spell_type, spell_types, spell_arguments, spell_term, spell_outermost, spell_head, spell_rule, spell_equation, spell_free, spell_net, max_types, max_depth, IsNonempty, Item, types, symbol, rule, none_yet, counted, spell_items, IsItem, types_in, symbols_in, rules_in, Program, spelling}
 use Rattle.in_syntax.specs.Steps.{at_term_open, at_term_end, after_port, step, at_state, with_types, with_symbol, with_rule, counts_of, start}
 use Rattle.in_syntax.specs.Trees.{bare, bare_head, with_argument, with_class, with_equation, with_term}
-use Rattle.in_syntax.proofs.Separated.{ports_after}
+use Rattle.in_syntax.proofs.Separated.{ports_after, after}
 use Rattle.in_syntax.proofs.Paths.{turns, turn_of, turn, Path, join}
 use Rattle.in_syntax.proofs.Sound.{arguments_at, spell_out, counts_types, counts_symbol, counts_rule}
-
-abbrev after : List (List Marked) → List Marked
-after = flat_map (λ b. plain kind.Comma ∷ b)
 
 -- a path to a state that is another way to write the same
 to_state : (a r : Reader) (m : List Marked) (p q : State) → p ≡ q → Path a m (at_state r p) → Path a m (at_state r q)
@@ -125,7 +122,7 @@ path_class r s (p ∷ more) number full =
 abbrev with_classes : SourceSymbol → List (List SourcePort) → SourceSymbol
 with_classes s cs = record { name = s.name; port = s.port; classes = s.classes ++ cs }
 
-path_classes : (r : Reader) (cs : List (List SourcePort)) (s : SourceSymbol) (number : ℕ) → Each IsNonempty cs →
+path_classes : (r : Reader) (cs : List (List SourcePort)) (s : SourceSymbol) (number : ℕ) → AllByRecursion IsNonempty cs →
     Path (at_state r (state.SymbolEnd s number)) (spell_classes number cs) (at_state r (state.SymbolEnd (with_classes s cs) (ports_after number cs)))
 path_classes r [] s number each = ap (λ z. at_state r (state.SymbolEnd (record { name = s.name; port = s.port; classes = z }) number)) (sym (append-nil s.classes))
 path_classes r (c ∷ cs) s number each =
@@ -140,7 +137,7 @@ path_classes r (c ∷ cs) s number each =
 abbrev no_classes : SourceSymbol → SourceSymbol
 no_classes s = record { name = s.name; port = s.port; classes = [] }
 
-path_symbol : (r : Reader) (s : SourceSymbol) → Each IsNonempty s.classes → Path (at_state r state.Item) (spell_symbol (length r.symbols + 1) s) (with_symbol r s)
+path_symbol : (r : Reader) (s : SourceSymbol) → AllByRecursion IsNonempty s.classes → Path (at_state r state.Item) (spell_symbol (length r.symbols + 1) s) (with_symbol r s)
 path_symbol r s each = (
   at_state r state.SymbolName,
   refl,
@@ -348,7 +345,7 @@ with_items r items = record {
 abbrev at_items : List Name → List SourceSymbol → List SourceRule → Reader
 at_items ts ss ys = record { types = ts; symbols = ss; rules = ys; state = state.Item }
 
-path_items : (items : List Item) (r : Reader) → Each IsItem items → Path (at_state r state.Item) (spell_items (counts_of r) items) (with_items r items)
+path_items : (items : List Item) (r : Reader) → AllByRecursion IsItem items → Path (at_state r state.Item) (spell_items (counts_of r) items) (with_items r items)
 path_items [] r each =
     ap (λ z. at_items z r.symbols r.rules) (sym (append-nil r.types))
     ∙ ap (λ z. at_items (r.types ++ []) z r.rules) (sym (append-nil r.symbols))

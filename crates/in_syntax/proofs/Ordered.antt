@@ -16,13 +16,16 @@ use Rattle.in_syntax.specs.declared.words.TokenKind.{TokenKind}
 use Rattle.in_syntax.specs.declared.words.TokenKind.TheVariants as kind
 use Rattle.in_syntax.specs.declared.signs.Sign.{Sign}
 use Rattle.in_syntax.specs.declared.signs.Sign.TheVariants.{Named, Tilde, Plain}
-use Rattle.in_syntax.specs.Grammar.{Marked, within, plain, separated, numbered, spell_level, spell_arguments, spell_term, spell_outermost, spell_head, spell_rule, spell_equation, spell_free, spell_net, Item, types, symbol, rule, none_yet, counted, spell_item, spell_items, Program, spelling, rules_in, source_of}
+use Rattle.in_syntax.specs.Grammar.{Marked, within, plain, separated, numbered, spell_arguments, spell_term, spell_outermost, spell_head, spell_rule, spell_equation, spell_free, spell_net, Item, types, symbol, rule, none_yet, counted, spell_item, spell_items, Program, spelling, rules_in, source_of}
 use Rattle.in_syntax.specs.Programs.{sign_at, signs_of, unmarked}
 use Rattle.in_syntax.specs.Parsing.{IsTreeOf, Parses}
 use Rattle.in_syntax.specs.Sizes.{total, names_in}
 use Rattle.in_syntax.specs.Order.{Rises, term_places, equation_places, IsInOrder, head_places, IsRuleInOrder, IsWrittenInOrder}
 use Rattle.in_syntax.specs.Tokens.{StandsIn, StandInOrder}
 use Rattle.in_syntax.proofs.Standing.{tokens_stand, tokens_in_order}
+use Rattle.in_base.proofs.Each.{all_left}
+use Rattle.in_syntax.proofs.Terms.{names_out, spell_out}
+use Rattle.in_syntax.proofs.Separated.{after}
 
 -- ---- the places of signs
 
@@ -54,30 +57,21 @@ both_places a b p q e f = places_append a b ∙ ap (λ z. z ++ places_of b) e �
 abbrev Placed : ℕ → Type 0
 Placed h = (u : Term) (depth : ℕ) → names_in u ≤ h → places_of (spell_term u depth) ≡ term_places u
 
-abbrev after_commas : List (List Marked) → List Marked
-after_commas = flat_map (λ b. plain kind.Comma ∷ b)
-
 abbrev all_places : List Term → List Place
 all_places us = flat_map (λ ps. ps) (map term_places us)
 
-commas_placed : (h : ℕ) → Placed h → (d : ℕ) (us : List Term) → total (map names_in us) ≤ h → places_of (after_commas (map (λ a. a d) (map spell_term us))) ≡ all_places us
+commas_placed : (h : ℕ) → Placed h → (d : ℕ) (us : List Term) → total (map names_in us) ≤ h → places_of (after (map (λ a. a d) (map spell_term us))) ≡ all_places us
 commas_placed h ih d [] short = refl
 commas_placed h ih d (u ∷ us) short =
-    both_places (spell_term u d) (after_commas (map (λ a. a d) (map spell_term us))) (term_places u) (all_places us)
+    both_places (spell_term u d) (after (map (λ a. a d) (map spell_term us))) (term_places u) (all_places us)
     (ih u d (omega (arith, short))) (commas_placed h ih d us (omega (arith, short)))
 
 arguments_placed : (h : ℕ) → Placed h → (d : ℕ) (us : List Term) → total (map names_in us) ≤ h → places_of (spell_arguments (map (λ a. a d) (map spell_term us))) ≡ all_places us
 arguments_placed h ih d [] short = refl
 arguments_placed h ih d (u ∷ us) short =
-    let rest : List Marked = after_commas (map (λ a. a d) (map spell_term us)) in
+    let rest : List Marked = after (map (λ a. a d) (map spell_term us)) in
     places_closed (spell_term u d ++ rest) kind.CloseParenthesis
     ∙ both_places (spell_term u d) rest (term_places u) (all_places us) (ih u d (omega (arith, short))) (commas_placed h ih d us (omega (arith, short)))
-
-pub names_out : (u : Term) → names_in u ≡ total (map names_in (out-Term u).args) + 1
-names_out = fold_out-Term ℕ (λ f. total f.args + 1)
-
-pub spell_out : (u : Term) → spell_term u ≡ spell_level (record { name = (out-Term u).name; args = map spell_term (out-Term u).args })
-spell_out = fold_out-Term (ℕ → List Marked) spell_level
 
 pub places_out : (u : Term) → term_places u ≡ (out-Term u).name.place ∷ all_places (out-Term u).args
 places_out = fold_out-Term (List Place) (λ f. f.name.place ∷ flat_map (λ ps. ps) f.args)
@@ -103,13 +97,13 @@ equations_placed : (es : List Equation) → places_of (flat_map spell_equation e
 equations_placed [] = refl
 equations_placed (e ∷ es) = both_places (spell_equation e) (flat_map spell_equation es) (equation_places e) (flat_map equation_places es) (equation_placed e) (equations_placed es)
 
-outermost_after : (ts : List Term) → places_of (after_commas (map spell_outermost ts)) ≡ flat_map term_places ts
+outermost_after : (ts : List Term) → places_of (after (map spell_outermost ts)) ≡ flat_map term_places ts
 outermost_after [] = refl
-outermost_after (t ∷ ts) = both_places (spell_term t 1) (after_commas (map spell_outermost ts)) (term_places t) (flat_map term_places ts) (term_placed t 1) (outermost_after ts)
+outermost_after (t ∷ ts) = both_places (spell_term t 1) (after (map spell_outermost ts)) (term_places t) (flat_map term_places ts) (term_placed t 1) (outermost_after ts)
 
 outermost_placed : (ts : List Term) → places_of (separated (map spell_outermost ts)) ≡ flat_map term_places ts
 outermost_placed [] = refl
-outermost_placed (t ∷ ts) = both_places (spell_term t 1) (after_commas (map spell_outermost ts)) (term_places t) (flat_map term_places ts) (term_placed t 1) (outermost_after ts)
+outermost_placed (t ∷ ts) = both_places (spell_term t 1) (after (map spell_outermost ts)) (term_places t) (flat_map term_places ts) (term_placed t 1) (outermost_after ts)
 
 head_placed : (h : Head) → places_of (spell_head h) ≡ head_places h
 head_placed h = ap (λ z. h.name.place ∷ z) (places_closed (separated (map spell_outermost h.terms)) kind.CloseBracket ∙ outermost_placed h.terms)
@@ -121,13 +115,9 @@ rule_placed number y =
 
 -- ---- parts of lists that rise
 
-all_front : {X : Type 0} (P : X → Type 0) (a b : List X) → AllByRecursion P (a ++ b) → AllByRecursion P a
-all_front P [] b all = tt
-all_front P (x ∷ a) b all = (all.0, all_front P a b all.1)
-
 pub front_rises : (a b : List Place) → Rises (a ++ b) → Rises a
 front_rises [] b up = tt
-front_rises (p ∷ a) b up = (all_front (λ q. p.from < q.from) a b up.0, front_rises a b up.1)
+front_rises (p ∷ a) b up = (all_left (λ q. p.from < q.from) a b up.0, front_rises a b up.1)
 
 pub back_rises : (a b : List Place) → Rises (a ++ b) → Rises b
 back_rises [] b up = up

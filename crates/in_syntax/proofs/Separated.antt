@@ -4,7 +4,7 @@ use Rattle.std.specs.List.{flat_map}
 use Rattle.in_syntax.specs.declared.counts.Counts.{Counts}
 use Rattle.in_syntax.specs.declared.tree.SourcePort.{SourcePort}
 use Rattle.in_syntax.specs.declared.words.TokenKind.TheVariants as kind
-use Rattle.in_syntax.specs.Grammar.{Marked, plain, separated, numbered, spell_class, spell_classes, IsNonempty, Each, Item, counted, spell_item, spell_items}
+use Rattle.in_syntax.specs.Grammar.{Marked, plain, separated, numbered, spell_class, spell_classes, IsNonempty, Item, counted, spell_item, spell_items}
 
 abbrev pub comma : Marked
 comma = plain kind.Comma
@@ -14,7 +14,7 @@ abbrev pub before : List (List Marked) → List Marked
 before [] = []
 before (a ∷ more) = (a ++ comma ∷ []) ++ before more
 
-abbrev after : List (List Marked) → List Marked
+abbrev pub after : List (List Marked) → List Marked
 after = flat_map (λ b. plain kind.Comma ∷ b)
 
 after_snoc : (l : List (List Marked)) (a : List Marked) → after (l ++ a ∷ []) ≡ comma ∷ (before l ++ a)
@@ -40,10 +40,6 @@ nonempty_snoc (b ∷ l) a = tt
 pub nonempty_map : {A B : Type 0} (f : A → B) (l : List A) → IsNonempty l → IsNonempty (map f l)
 nonempty_map f [] full = absurd full
 nonempty_map f (a ∷ l) full = tt
-
-pub each_append : {A : Type 0} (P : A → Type 0) (l k : List A) → Each P l → Each P k → Each P (l ++ k)
-each_append P [] k p q = q
-each_append P (a ∷ l) k p q = (p.0, each_append P l k p.1 q)
 
 pub map_snoc : {A B : Type 0} (f : A → B) (l : List A) (a : A) → map f (l ++ a ∷ []) ≡ map f l ++ f a ∷ []
 map_snoc f [] a = refl

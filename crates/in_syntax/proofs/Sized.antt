@@ -3,7 +3,6 @@ use Rattle.std.proofs.Common.{◌≡◌, ℕ, zero, suc, ◌+◌, ◌≤◌, fal
 use Rattle.std.proofs.lemmas.List.{length-map}
 use Rattle.std.specs.List.{AllByRecursion, flat_map}
 use Rattle.in_syntax.specs.declared.tree.Term.{Term, out-Term}
-use Rattle.in_syntax.specs.declared.tree.Term.TheFolds.{fold_out-Term}
 use Rattle.in_syntax.specs.declared.tree.Equation.{Equation}
 use Rattle.in_syntax.specs.declared.tree.Source.{Source}
 use Rattle.in_syntax.specs.declared.tree.SourcePort.{SourcePort}
@@ -17,13 +16,14 @@ use Rattle.in_syntax.specs.declared.words.Token.{Token}
 use Rattle.in_syntax.specs.declared.words.TokenKind.TheVariants as kind
 use Rattle.in_syntax.specs.declared.signs.Sign.{Sign}
 use Rattle.in_syntax.specs.declared.signs.Sign.TheVariants.{Tilde}
-use Rattle.in_syntax.specs.Grammar.{Marked, within, plain, max_types, max_symbols, max_rules, max_free, max_ports, separated, numbered, spell_port, spell_auxiliary, spell_class, spell_classes, spell_symbol, spell_type, spell_arguments, spell_level, spell_term, spell_outermost, spell_head, spell_rule, spell_equation, spell_free, spell_net, Item, types, symbol, rule, none_yet, counted, spell_item, spell_items, IsNonempty, Each, IsItem, Program, spelling, types_in, symbols_in, rules_in, source_of}
+use Rattle.in_syntax.specs.Grammar.{Marked, within, plain, max_types, max_symbols, max_rules, max_free, max_ports, separated, numbered, spell_port, spell_auxiliary, spell_class, spell_classes, spell_symbol, spell_type, spell_arguments, spell_term, spell_outermost, spell_head, spell_rule, spell_equation, spell_free, spell_net, Item, types, symbol, rule, none_yet, counted, spell_item, spell_items, IsNonempty, IsItem, Program, spelling, types_in, symbols_in, rules_in, source_of}
 use Rattle.in_syntax.specs.Programs.{sign_of, signs_of, unmarked}
 use Rattle.in_syntax.specs.Parsing.{IsTreeOf, Parses}
 use Rattle.in_syntax.specs.Sizes.{total, names_in, names_in_equation, names_in_equations, names_in_head, names_in_rule, names_in_rules, IsSizedSymbol, IsSized}
 use Rattle.in_syntax.specs.Tokens.{StandsIn, StandInOrder}
 use Rattle.in_syntax.proofs.Separated.{counted_all}
 use Rattle.in_syntax.proofs.Standing.{tokens_stand, tokens_in_order}
+use Rattle.in_syntax.proofs.Terms.{names_out, spell_out}
 
 -- tokens that stand one after another are no more than the bytes
 fits_text : (text : List ℕ) (n : ℕ) (ts : List Token) → n ≤ length text → StandInOrder n ts → AllByRecursion (StandsIn text) ts → n + length ts ≤ length text
@@ -55,12 +55,6 @@ arguments_sum h ih d (u ∷ us) short =
       length-append (spell_term u d) (flat_map (λ b. plain kind.Comma ∷ b) (map (λ a. a d) (map spell_term us))),
       length-append (spell_term u d ++ flat_map (λ b. plain kind.Comma ∷ b) (map (λ a. a d) (map spell_term us))) (plain kind.CloseParenthesis ∷ []),
     )
-
-names_out : (u : Term) → names_in u ≡ total (map names_in (out-Term u).args) + 1
-names_out = fold_out-Term ℕ (λ f. total f.args + 1)
-
-spell_out : (u : Term) → spell_term u ≡ spell_level (record { name = (out-Term u).name; args = map spell_term (out-Term u).args })
-spell_out = fold_out-Term (ℕ → List Marked) spell_level
 
 spells : (h : ℕ) → Spells h
 spells zero u depth short = absurd (omega (arith, names_out u))
@@ -164,7 +158,7 @@ type_within number n all = ltb-false max_types number all.0
 free_within : Within max_free spell_free
 free_within number f all = ltb-false max_free number all.0
 
-classes_within : (number : ℕ) (cs : List (List SourcePort)) → number ≤ 9 → Each IsNonempty cs → Unmarked (spell_classes number cs) → (number + length (flat_map (λ c. c) cs) ≤ 9) × (number + length cs ≤ 9)
+classes_within : (number : ℕ) (cs : List (List SourcePort)) → number ≤ 9 → AllByRecursion IsNonempty cs → Unmarked (spell_classes number cs) → (number + length (flat_map (λ c. c) cs) ≤ 9) × (number + length cs ≤ 9)
 classes_within number [] le some all = (omega (arith, le), omega (arith, le))
 classes_within number ([] ∷ cs) le some all = absurd some.0
 classes_within number ((p ∷ c) ∷ cs) le some all =
@@ -174,7 +168,7 @@ classes_within number ((p ∷ c) ∷ cs) le some all =
     let rest = classes_within (number + length (p ∷ c)) cs here some.1 (back_all (spell_class number (p ∷ c)) (spell_classes (number + length (p ∷ c)) cs) all) in
     (omega (arith, rest.0, length-append (p ∷ c) (flat_map (λ c. c) cs)), omega (arith, rest.1))
 
-symbol_sized : (number : ℕ) (s : SourceSymbol) → Each IsNonempty s.classes → Unmarked (spell_symbol number s) → IsSizedSymbol s
+symbol_sized : (number : ℕ) (s : SourceSymbol) → AllByRecursion IsNonempty s.classes → Unmarked (spell_symbol number s) → IsSizedSymbol s
 symbol_sized number s some all =
     let ports : List Marked = spell_port false s.port in
     let tail = front_all (spell_port false s.port ++ spell_classes 1 s.classes) (plain kind.Semicolon ∷ []) all.1.1.1 in
@@ -183,7 +177,7 @@ symbol_sized number s some all =
     let b = both.1 in
     record { ports = omega (arith, a); classes = omega (arith, b) }
 
-symbols_sized : (is : List Item) (c : Counts) → Each IsItem is → Unmarked (spell_items c is) → AllByRecursion IsSizedSymbol (flat_map symbols_in is)
+symbols_sized : (is : List Item) (c : Counts) → AllByRecursion IsItem is → Unmarked (spell_items c is) → AllByRecursion IsSizedSymbol (flat_map symbols_in is)
 symbols_sized [] c each all = tt
 symbols_sized (types names ∷ is) c each all = symbols_sized is (counted c (types names)) each.1 (back_all (spell_item c (types names)) (spell_items (counted c (types names)) is) all)
 symbols_sized (symbol s ∷ is) c each all = (

@@ -1,6 +1,6 @@
 -- What was read before a reader is spelled so.
 use Rattle.std.proofs.Common.{◌≡◌, ℕ, ◌+◌, Bool, true, false, nat_lt, List, [], ◌∷◌, ◌++◌, length, map, refl, sym, ◌∙◌, ap, subst, append_assoc, append-nil, length-append, arith}
-use Rattle.std.specs.List.{flat_map}
+use Rattle.std.specs.List.{flat_map, AllByRecursion}
 use Rattle.in_syntax.specs.declared.words.TokenKind.TheVariants as kind
 use Rattle.in_syntax.specs.declared.signs.Sign.{Sign}
 use Rattle.in_syntax.specs.declared.signs.Sign.TheVariants.{Named, Tilde, Plain}
@@ -27,11 +27,12 @@ use Rattle.in_syntax.specs.declared.states.HeadOf.TheVariants.{First, Second}
 use Rattle.in_syntax.specs.declared.states.TermOf.{TermOf}
 use Rattle.in_syntax.specs.declared.states.TermOf.TheVariants.{Left, Right, Inside}
 use Rattle.in_syntax.specs.declared.states.Nest.{Nest}
-use Rattle.in_syntax.specs.Grammar.{Marked, marked, within, named, plain, separated, numbered, spell_port, spell_auxiliary, spell_classes, spell_symbol, spell_type, spell_types, spell_arguments, spell_level, spell_term, spell_outermost, spell_head, spell_rule, spell_equation, spell_free, spell_net, max_symbols, max_rules, max_free, max_ports, max_depth, IsNonempty, Each, Item, types, symbol, rule, none_yet, counted, spell_item, spell_items, IsItem, types_in, symbols_in, rules_in}
+use Rattle.in_syntax.specs.Grammar.{Marked, marked, within, named, plain, separated, numbered, spell_port, spell_auxiliary, spell_classes, spell_symbol, spell_type, spell_types, spell_arguments, spell_level, spell_term, spell_outermost, spell_head, spell_rule, spell_equation, spell_free, spell_net, max_symbols, max_rules, max_free, max_ports, max_depth, IsNonempty, Item, types, symbol, rule, none_yet, counted, spell_item, spell_items, IsItem, types_in, symbols_in, rules_in}
 use Rattle.in_syntax.specs.Steps.{Step, goes, adds_types, adds_symbol, adds_rule, stuck, at_item, at_type_name, at_type_end, at_symbol_name, at_symbol_colon, at_port_kind, after_port, at_port_sign, at_symbol_end, at_class_end, at_head_name, at_head_open, at_head_first, at_head_end, at_net_open, at_free_first, at_free_name, at_free_colon, at_free_end, at_body_open, at_equation, at_term_name, after_argument, after_left, after_right, after_head_term, after_outermost, after_term, at_term_end, at_term_open, step, at_state, with_types, with_symbol, with_rule, counts_of, start}
 use Rattle.in_syntax.specs.Trees.{bare, bare_head, with_argument}
-use Rattle.in_syntax.proofs.Separated.{comma, before, separated_snoc, before_is, nonempty_snoc, each_append, map_snoc, flat_snoc, numbered_snoc, nonempty_numbered, ports_after, ports_after_snoc, classes_snoc, counted_all, counted_snoc, items_snoc}
+use Rattle.in_syntax.proofs.Separated.{comma, before, separated_snoc, before_is, nonempty_snoc, map_snoc, flat_snoc, numbered_snoc, nonempty_numbered, ports_after, ports_after_snoc, classes_snoc, counted_all, counted_snoc, items_snoc}
 use Rattle.in_syntax.proofs.Paths.{turns, turn_of, Path}
+use Rattle.in_base.proofs.Each.{all_append}
 
 -- ---- what of an item or the net is read before a state
 
@@ -130,20 +131,20 @@ spelled k (state.Done n) = spell_net n
 -- lists that have an element, and the numbers of ports
 abbrev pub IsFullPort : PortOf → Type 0
 IsFullPort (Principal n) = Unit {0}
-IsFullPort (Auxiliary s c number) = Each IsNonempty s.classes × (number ≡ next_port s c)
+IsFullPort (Auxiliary s c number) = AllByRecursion IsNonempty s.classes × (number ≡ next_port s c)
 IsFullPort (Free fs n) = Unit {0}
 
 abbrev pub IsFullSign : PortOf → Type 0
 IsFullSign (Principal n) = Unit {0}
-IsFullSign (Auxiliary s c number) = Each IsNonempty s.classes × (number ≡ next_port s c + 1)
+IsFullSign (Auxiliary s c number) = AllByRecursion IsNonempty s.classes × (number ≡ next_port s c + 1)
 IsFullSign (Free fs n) = Unit {0}
 
 abbrev pub IsFull : State → Type 0
 IsFull (state.TypeEnd names) = IsNonempty names
 IsFull (state.PortKind o) = IsFullPort o
 IsFull (state.PortSign o k) = IsFullSign o
-IsFull (state.SymbolEnd s number) = Each IsNonempty s.classes × (number ≡ ports_after 1 s.classes)
-IsFull (state.ClassEnd s c number) = Each IsNonempty s.classes × IsNonempty c × (number ≡ next_port s c)
+IsFull (state.SymbolEnd s number) = AllByRecursion IsNonempty s.classes × (number ≡ ports_after 1 s.classes)
+IsFull (state.ClassEnd s c number) = AllByRecursion IsNonempty s.classes × IsNonempty c × (number ≡ next_port s c)
 IsFull (state.FreeEnd fs) = IsNonempty fs
 IsFull _ = Unit {0}
 
@@ -151,7 +152,7 @@ IsFull _ = Unit {0}
 abbrev pub KeepsAll : Counts → List Marked → Sign → Step → Type 0
 KeepsAll k l x (goes past q) = IsFull q × (spelled k q ≡ l ++ marked past x ∷ [])
 KeepsAll k l x (adds_types names) = IsNonempty names × (spell_types (k.types + 1) names ≡ l ++ within x ∷ [])
-KeepsAll k l x (adds_symbol s) = Each IsNonempty s.classes × (spell_symbol (k.symbols + 1) s ≡ l ++ within x ∷ [])
+KeepsAll k l x (adds_symbol s) = AllByRecursion IsNonempty s.classes × (spell_symbol (k.symbols + 1) s ≡ l ++ within x ∷ [])
 KeepsAll k l x (adds_rule y) = spell_rule (k.rules + 1) y ≡ l ++ within x ∷ []
 KeepsAll k l x stuck = Unit {0}
 
@@ -244,7 +245,7 @@ keeps_class_end k s c number (Plain kind.Comma) full = (
       ∙ simp append_assoc,
 )
 keeps_class_end k s c number (Plain kind.CloseBrace) full = (
-  (each_append IsNonempty s.classes (c ∷ []) full.0 (full.1, tt), full.2 ∙ sym (ports_after_snoc 1 s.classes c)),
+  (all_append IsNonempty s.classes (c ∷ []) full.0 (full.1, tt), full.2 ∙ sym (ports_after_snoc 1 s.classes c)),
   ap (λ z. plain kind.Symbol ∷ marked (nat_lt max_symbols (k.symbols + 1)) (Named s.name) ∷ plain kind.Colon ∷ spell_port false s.port ++ z) (classes_snoc 1 s.classes c)
       ∙ simp append_assoc,
 )
@@ -490,7 +491,7 @@ counts_rule r y = ap (λ z. record { types = length r.types; symbols = length r.
 
 pub record HasRead (r : Reader) (m : List Marked) : Type 0 where
   pub items : List Item
-  pub each : Each IsItem items
+  pub each : AllByRecursion IsItem items
   pub types : r.types ≡ flat_map types_in items
   pub symbols : r.symbols ≡ flat_map symbols_in items
   pub rules : r.rules ≡ flat_map rules_in items
@@ -541,7 +542,7 @@ reads_step r next m x past (adds_types names) h k e =
     let same : false ≡ past = cc in
     subst (λ z. HasRead z (m ++ marked past x ∷ [])) is (subst (λ z. HasRead (with_types r names) (m ++ marked z x ∷ [])) same (record {
       items = h.items ++ types names ∷ [];
-      each = each_append IsItem h.items (types names ∷ []) h.each (k.0, tt);
+      each = all_append IsItem h.items (types names ∷ []) h.each (k.0, tt);
       types = some_more types_in r.types names h.items (types names) h.types refl;
       symbols = none_more symbols_in r.symbols h.items (types names) h.symbols refl;
       rules = none_more rules_in r.rules h.items (types names) h.rules refl;
@@ -554,7 +555,7 @@ reads_step r next m x past (adds_symbol s) h k e =
     let same : false ≡ past = cc in
     subst (λ z. HasRead z (m ++ marked past x ∷ [])) is (subst (λ z. HasRead (with_symbol r s) (m ++ marked z x ∷ [])) same (record {
       items = h.items ++ symbol s ∷ [];
-      each = each_append IsItem h.items (symbol s ∷ []) h.each (k.0, tt);
+      each = all_append IsItem h.items (symbol s ∷ []) h.each (k.0, tt);
       types = none_more types_in r.types h.items (symbol s) h.types refl;
       symbols = some_more symbols_in r.symbols (s ∷ []) h.items (symbol s) h.symbols refl;
       rules = none_more rules_in r.rules h.items (symbol s) h.rules refl;
@@ -567,7 +568,7 @@ reads_step r next m x past (adds_rule y) h k e =
     let same : false ≡ past = cc in
     subst (λ z. HasRead z (m ++ marked past x ∷ [])) is (subst (λ z. HasRead (with_rule r y) (m ++ marked z x ∷ [])) same (record {
       items = h.items ++ rule y ∷ [];
-      each = each_append IsItem h.items (rule y ∷ []) h.each (tt, tt);
+      each = all_append IsItem h.items (rule y ∷ []) h.each (tt, tt);
       types = none_more types_in r.types h.items (rule y) h.types refl;
       symbols = none_more symbols_in r.symbols h.items (rule y) h.symbols refl;
       rules = some_more rules_in r.rules (y ∷ []) h.items (rule y) h.rules refl;

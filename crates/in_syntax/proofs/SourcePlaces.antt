@@ -25,9 +25,11 @@ use Rattle.in_syntax.specs.Programs.{sign_at, sign_of, signs_of, unmarked}
 use Rattle.in_syntax.specs.Sizes.{names_in, total}
 use Rattle.in_syntax.specs.Tokens.{StandsIn, StandInOrder}
 use Rattle.in_syntax.proofs.Standing.{tokens_stand, tokens_in_order}
-use Rattle.in_syntax.specs.Lists.{IsAmong}
-use Rattle.in_syntax.proofs.Among.{among_left, among_right, among_either, in_map, of_flat, of_map}
-use Rattle.in_syntax.proofs.Ordered.{names_out, places_out, spell_out}
+use Rattle.in_base.specs.Lists.{IsAmong}
+use Rattle.in_base.proofs.Among.{among_left, among_right, among_either, in_map, of_flat, of_map}
+use Rattle.in_syntax.proofs.Ordered.{places_out}
+use Rattle.in_syntax.proofs.Terms.{names_out, spell_out}
+use Rattle.in_syntax.proofs.Separated.{after}
 
 abbrev kept : Sign → List Place
 kept (Named n) = n.place ∷ []
@@ -52,18 +54,15 @@ on m b p h = record { one = h.one; among = inr h.among; keeps = h.keeps }
 here : (m : Marked) (b : List Marked) (p : Place) → IsAmong p (kept m.sign) → Spells (m ∷ b) p
 here m b p h = record { one = m; among = inl refl; keeps = h }
 
-abbrev commas : List (List Marked) → List Marked
-commas = flat_map (λ b. plain kind.Comma ∷ b)
-
-in_commas : (bs : List (List Marked)) (b : List Marked) (p : Place) → IsAmong b bs → Spells b p → Spells (commas bs) p
+in_commas : (bs : List (List Marked)) (b : List Marked) (p : Place) → IsAmong b bs → Spells b p → Spells (after bs) p
 in_commas [] b p h k = absurd h
-in_commas (c ∷ bs) b p (inl e) k = on (plain kind.Comma) (c ++ commas bs) p (on_left c (commas bs) p (subst (λ b. Spells b p) (sym e) k))
-in_commas (c ∷ bs) b p (inr h) k = on (plain kind.Comma) (c ++ commas bs) p (on_right c (commas bs) p (in_commas bs b p h k))
+in_commas (c ∷ bs) b p (inl e) k = on (plain kind.Comma) (c ++ after bs) p (on_left c (after bs) p (subst (λ b. Spells b p) (sym e) k))
+in_commas (c ∷ bs) b p (inr h) k = on (plain kind.Comma) (c ++ after bs) p (on_right c (after bs) p (in_commas bs b p h k))
 
 in_separated : (bs : List (List Marked)) (b : List Marked) (p : Place) → IsAmong b bs → Spells b p → Spells (separated bs) p
 in_separated [] b p h k = absurd h
-in_separated (c ∷ bs) b p (inl e) k = on_left c (commas bs) p (subst (λ b. Spells b p) (sym e) k)
-in_separated (c ∷ bs) b p (inr h) k = on_right c (commas bs) p (in_commas bs b p h k)
+in_separated (c ∷ bs) b p (inl e) k = on_left c (after bs) p (subst (λ b. Spells b p) (sym e) k)
+in_separated (c ∷ bs) b p (inr h) k = on_right c (after bs) p (in_commas bs b p h k)
 
 in_numbered : {A : Type 0} (f : ℕ → A → List Marked) (k : ℕ) (xs : List A) (x : A) → IsAmong x xs → (j : ℕ) × IsAmong (f j x) (numbered f k xs)
 in_numbered f k [] x h = absurd h

@@ -13,10 +13,7 @@ use Rattle.in_syntax.specs.Places.{past_all, place_between}
 use Rattle.in_syntax.specs.Tokens.{kind_of, Passes, blank, comment, token, Reads, ends, goes_on, IsTokensOf, StandsIn, StandInOrder}
 use Rattle.in_syntax.proofs.PastCharacters.{past_all-at}
 use Rattle.in_syntax.proofs.Moves.{scalars-front, scalars-rest}
-
-all-append : {X : Type 0} (P : X → Type 0) (xs ys : List X) → AllByRecursion P xs → AllByRecursion P ys → AllByRecursion P (xs ++ ys)
-all-append P [] ys h g = g
-all-append P (x ∷ xs) ys h g = (h.0, all-append P xs ys h.1 g)
+use Rattle.in_base.proofs.Each.{all_append}
 
 -- a spot of a text: so many bytes stand before it
 record IsSpotOf (text front cs : List ℕ) (s : Spot) : Type 0 where
@@ -73,7 +70,7 @@ reads_stand text front ends h = tt
 reads_stand text front (goes_on {s = s} {t = t} {cs = cs} {rest = rest} vs ws p r) h =
     let one = passed text front cs s t rest vs h p in
     let next = spot_on text front one.front rest s (subst (λ z. IsSpotOf text front z s) one.split h) in
-    all-append (StandsIn text) vs ws one.stand (reads_stand text (front ++ one.front) r (subst (IsSpotOf text (front ++ one.front) rest) (sym one.end) next))
+    all_append (StandsIn text) vs ws one.stand (reads_stand text (front ++ one.front) r (subst (IsSpotOf text (front ++ one.front) rest) (sym one.end) next))
 
 pub tokens_stand : (text : List ℕ) (ts : List Token) → IsTokensOf text ts → AllByRecursion (StandsIn text) ts
 tokens_stand text ts h = reads_stand text [] h.reads (record { bytes = sym (encodes-chars text h.utf8); at = refl; scalars = scalars-chars text h.utf8 })

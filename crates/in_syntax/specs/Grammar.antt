@@ -1,6 +1,6 @@
 -- The grammar of programs, as the spelling of their trees: Lafont's language (1990), in signs and with limits of this project's own choice.
 use Rattle.std.specs.Prelude.{ℕ, ◌+◌, Bool, false, cond, nat_lt, List, [], ◌∷◌, ◌++◌, length, map}
-use Rattle.std.specs.List.{flat_map}
+use Rattle.std.specs.List.{flat_map, AllByRecursion}
 use Rattle.in_syntax.specs.declared.counts.Counts.{Counts}
 use Rattle.in_syntax.specs.declared.tree.Name.{Name}
 use Rattle.in_syntax.specs.declared.tree.SourcePort.{SourcePort}
@@ -175,21 +175,16 @@ abbrev pub IsNonempty : {A : Type 0} → List A → Type 0
 IsNonempty [] = ⊥
 IsNonempty (x ∷ xs) = Unit {0}
 
--- each element is so
-abbrev pub Each : {A : Type 0} → (A → Type 0) → List A → Type 0
-Each P [] = Unit {0}
-Each P (x ∷ xs) = P x × Each P xs
-
 -- a list that the grammar writes with one element at least has one
 abbrev pub IsItem : Item → Type 0
 IsItem (types names) = IsNonempty names
-IsItem (symbol s) = Each IsNonempty s.classes
+IsItem (symbol s) = AllByRecursion IsNonempty s.classes
 IsItem (rule r) = Unit {0}
 
 -- program = item* net
 pub record Program : Type 0 where
   pub items : List Item
-  pub each : Each IsItem items
+  pub each : AllByRecursion IsItem items
   pub net : SourceNet
 
 -- its signs in the order of the text

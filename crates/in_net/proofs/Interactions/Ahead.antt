@@ -4,7 +4,7 @@ use mathlib.Core.HLevel.{Discrete}
 use Rattle.std.specs.List.{AllByRecursion}
 use Rattle.in_net.specs.Graphs.{Passage, AreApart, CrossingCircle, class_of_symbol, graph_of}
 use Rattle.in_net.specs.Nets.{Point, Port, Free, Signature, AreClasses, Net, IsPoint, IsNet}
-use Rattle.in_syntax.specs.Lists.{IsAmong}
+use Rattle.in_base.specs.Lists.{IsAmong}
 use Rattle.in_net.specs.Ahead.{MeetsPair, pair, pair_later, WaitsAt, free, free_later}
 use Rattle.in_net.proofs.Circuits.{Walk, AreSeparate, scan}
 

@@ -5,10 +5,11 @@ use mathlib.Core.HLevel.{Discrete}
 use native.Mathlib.Decide.{ℕ_discrete}
 use Rattle.in_net.specs.Graphs.{Graph, Passage, entered, left, Leads, IsCrossing, AreApart, CrossingCircle, class_of_symbol, graph_of}
 use Rattle.in_net.specs.Nets.{Point, Port, Signature, AreClasses, Net, IsNet}
-use Rattle.in_net.proofs.Circuits.{Walk, IsEntered, IsLeft, all_map, each_any, not_entered, not_left, crossings_separate, leads_walk}
+use Rattle.in_net.proofs.Circuits.{Walk, IsEntered, IsLeft, each_any, not_entered, not_left, crossings_separate, leads_walk}
 use Rattle.in_net.specs.Interactions.{Redex, IsRedex, of_first, class_node}
 use Rattle.in_net.specs.Pieces.{end_port}
 use Rattle.in_net.proofs.Interactions.Pieces.{close_one, close_two}
+use Rattle.in_base.proofs.Each.{all_map}
 
 -- the last wire of a walk
 last_wire : (g : Graph) (P : Passage g.Node → Type 0) (p : Passage g.Node) (qs : List (Passage g.Node)) (to : g.Node × ℕ) → P p → AllByRecursion P qs → Leads g (left p) qs to → (r : Passage g.Node) × P r × g.Wire (left r) to

@@ -2,7 +2,7 @@
 use Rattle.std.proofs.Common.{◌≡◌, ◌≤◌, ◌<◌, ℕ, zero, suc, Option, Some, None, IsSome, IsSomeAnd, List, [], ◌∷◌, ◌++◌, map, length, refl, sym, subst, ap, inl, inr, ◌∙◌, arith}
 use mathlib.Core.HLevel.{Discrete}
 use Rattle.in_net.specs.Nets.{Point, Port, Free, Signature, Net, IsPoint, IsNet}
-use Rattle.in_syntax.specs.Lists.{IsAmong}
+use Rattle.in_base.specs.Lists.{IsAmong}
 use Rattle.in_net.specs.Interactions.{Redex, IsRedex, Side, Outer, Inner, other, Alternates, stands_for, wire_of, IsOfPair, AreJoined, IsStep}
 use Rattle.in_net.proofs.Interactions.Paths.{other_twice}
 use Rattle.in_net.proofs.Interactions.Alternating.{symbol_of, wire_back, one_wire, stands_one, both_sides, first_wire, joined_back, end_of_pair}
