@@ -20,11 +20,7 @@ fn certify(alloc: Global, shape: OpenNet, code: Code) -> Result<Certificate, Fau
 {
     match derive(alloc, &shape) {
         Ok(derivation) => Ok(Certificate { shape, derivation }),
-        Err(Undone::Stuck(stuck)) => Err(Fault::Refused(Refusal {
-            code,
-            place: stuck.place(&shape),
-            other: None,
-        })),
+        Err(Undone::Stuck(stuck)) => Err(Fault::Refused(Refusal::at(code, stuck.place(&shape)))),
         Err(Undone::Memory(error)) => Err(Fault::Memory(error)),
     }
 }

@@ -1,6 +1,7 @@
 -- One rule for each pair. Lafont 1990: there is one rule for each constructor and destructor of one type, and at most one rule for
 -- two symbols, whichever of them is written first. The codes, the places and which fault is the first are this project's own choice.
 use Rattle.std.specs.Prelude.{◌≡◌, ◌⊎◌, ◌↔◌, ℕ, ◌<◌, ◌≤◌, true, List, Some, None, IsSome, Result, Ok, Err, slice_get}
+use Rattle.in_syntax.specs.Refusals.{refusal_of}
 use Rattle.in_syntax.specs.declared.faults.Code.TheVariants.{E14, E15}
 use Rattle.in_syntax.specs.declared.faults.Fault.{Fault}
 use Rattle.in_syntax.specs.declared.faults.Fault.TheVariants.{Refused, Memory}
@@ -57,7 +58,7 @@ HasNoSecond rules = (k : ℕ) → IsSecond rules k → ⊥
 
 -- at the name of the rule's first head
 abbrev pub second_at : RuleParts → Refusal
-second_at r = record { code = E14; place = place_of_head r 0; other = None }
+second_at r = refusal_of E14 (place_of_head r 0)
 
 -- the first rule that is a second one
 pub record IsFirstSecond (rules : List RuleParts) (refusal : Refusal) : Type 0 where

@@ -29,11 +29,7 @@ fn add(table: &mut RuleTable, number: RuleNo, rule: &Rule) -> bool
 fn second(rule: &Rule) -> Refusal
     ensures { result ≡ second_at rule.now }
 {
-    Refusal {
-        code: Code::E14,
-        place: rule.head_place(0),
-        other: None,
-    }
+    Refusal::at(Code::E14, rule.head_place(0))
 }
 
 /// The numbers of the rules; refused for the first rule that is the second one for its two symbols.

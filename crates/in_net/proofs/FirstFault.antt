@@ -1,22 +1,24 @@
 -- The first fault of a net's agents and names, and what holds where there is none.
 use Rattle.std.proofs.Common.{◌≡◌, ◌⊎◌, inl, inr, ℕ, length, Option, Some, None, true, refl, sym, ◌∙◌, ap, subst, arith}
 use Rattle.in_syntax.specs.declared.faults.Code.{Code}
-use Rattle.in_syntax.specs.declared.faults.Code.TheVariants.{E01, E02, E03, E04, E05, E06, E07, E08, E09, E10, E11, E12, E13, E14, E15}
+use Rattle.in_syntax.specs.declared.faults.Code.TheVariants.{E03, E07, E08}
 use Rattle.in_syntax.specs.declared.faults.Refusal.{Refusal}
 use Rattle.in_syntax.specs.declared.places.Place.{Place}
 use Rattle.in_syntax.specs.Order.{Rises}
-use Rattle.in_symbols.specs.Searching.{earlier_refusal, refused}
+use Rattle.in_syntax.specs.Refusals.{earlier_refusal, refused}
 use Rattle.in_symbols.specs.Tables.{Tables}
-use Rattle.in_symbols.proofs.First.{IsFirst, AreLower, Of, first_same, first_refused, first_of_two, lower_codes}
-use Rattle.in_symbols.proofs.Least.{IsLeast}
+use Rattle.in_syntax.proofs.FirstFault.{IsFirst, Of, first_same, first_of_three, first_as}
+use Rattle.in_syntax.proofs.Least.{IsLeast}
 use Rattle.in_symbols.proofs.Tabled.{refusal_none, refused_none}
 use Rattle.in_net.specs.declared.reading.Reading.{Reading}
 use Rattle.in_net.specs.Arities.{all_arities_fit}
 use Rattle.in_net.specs.Building.{AreTwice}
-use Rattle.in_net.specs.Counting.{NamesInside, none_seen, counted_from, miscounted}
-use Rattle.in_net.specs.NetFaults.{IsTooManyAt, IsMisfitAt, IsMiscountedAt, IsNetFaultAt, HasNoNetFault, IsFirstNameFault}
+use Rattle.in_net.specs.Counting.{NamesInside, none_seen, counted_from}
+use Rattle.in_net.specs.Counting as counting
+use Rattle.in_net.specs.NetFaults.{IsTooManyAt, IsMisfitAt, IsMiscountedAt, IsNetFaultAt, too_many, misfit, miscounted, HasNoNetFault, IsFirstNameFault}
 use Rattle.in_net.specs.Reading.{reading_of}
-use Rattle.in_net.specs.Searching.{too_many, misfit_in_body, first_fault}
+use Rattle.in_net.specs.Searching.{misfit_in_body, first_fault}
+use Rattle.in_net.specs.Searching as searching
 use Rattle.in_net.proofs.Miscounted.{names_least, all_stand_twice}
 use Rattle.in_net.proofs.Read.{name_inside}
 use Rattle.in_net.specs.TextNet.{Body}
@@ -32,40 +34,20 @@ abbrev Coded : ℕ → Tables → Body → Code → Place → Type 0
 Coded most t b c q = (Of E03 (IsTooManyAt most t b) c q ⊎ Of E07 (IsMisfitAt t b) c q) ⊎ Of E08 (IsMiscountedAt t b) c q
 
 as_fault : (most : ℕ) (t : Tables) (b : Body) (c : Code) (q : Place) → Coded most t b c q → IsNetFaultAt most t b c q
-as_fault most t b c q (inl (inl h)) = subst (λ k. IsNetFaultAt most t b k q) (sym h.0) h.1
-as_fault most t b c q (inl (inr h)) = subst (λ k. IsNetFaultAt most t b k q) (sym h.0) h.1
-as_fault most t b c q (inr h) = subst (λ k. IsNetFaultAt most t b k q) (sym h.0) h.1
+as_fault most t b c q (inl (inl h)) = subst (λ k. IsNetFaultAt most t b k q) (sym h.0) (too_many q h.1)
+as_fault most t b c q (inl (inr h)) = subst (λ k. IsNetFaultAt most t b k q) (sym h.0) (misfit q h.1)
+as_fault most t b c q (inr h) = subst (λ k. IsNetFaultAt most t b k q) (sym h.0) (miscounted q h.1)
 
 of_fault : (most : ℕ) (t : Tables) (b : Body) (c : Code) (q : Place) → IsNetFaultAt most t b c q → Coded most t b c q
-of_fault most t b E01 q h = absurd h
-of_fault most t b E02 q h = absurd h
-of_fault most t b E03 q h = inl (inl (refl, h))
-of_fault most t b E04 q h = absurd h
-of_fault most t b E05 q h = absurd h
-of_fault most t b E06 q h = absurd h
-of_fault most t b E07 q h = inl (inr (refl, h))
-of_fault most t b E08 q h = inr (refl, h)
-of_fault most t b E09 q h = absurd h
-of_fault most t b E10 q h = absurd h
-of_fault most t b E11 q h = absurd h
-of_fault most t b E12 q h = absurd h
-of_fault most t b E13 q h = absurd h
-of_fault most t b E14 q h = absurd h
-of_fault most t b E15 q h = absurd h
-
-both_lower : (most : ℕ) (t : Tables) (b : Body) → AreLower (λ c q. Of E03 (IsTooManyAt most t b) c q ⊎ Of E07 (IsMisfitAt t b) c q) (Of E08 (IsMiscountedAt t b))
-both_lower most t b c p d q (inl h) g = lower_codes E03 E08 (IsTooManyAt most t b) (IsMiscountedAt t b) (omega arith) c p d q h g
-both_lower most t b c p d q (inr h) g = lower_codes E07 E08 (IsMisfitAt t b) (IsMiscountedAt t b) (omega arith) c p d q h g
+of_fault most t b _ _ (too_many q h) = inl (inl (refl, h))
+of_fault most t b _ _ (misfit q h) = inl (inr (refl, h))
+of_fault most t b _ _ (miscounted q h) = inr (refl, h)
 
 first_of : (most : ℕ) (t : Tables) (b : Body) (agents arities names : Option Place) → IsLeast (IsTooManyAt most t b) agents → IsLeast (IsMisfitAt t b) arities → IsLeast (IsMiscountedAt t b) names →
     IsFirst (IsNetFaultAt most t b) (earlier_refusal (earlier_refusal (refused E03 agents) (refused E07 arities)) (refused E08 names))
 first_of most t b agents arities names a c d =
-    first_same (Coded most t b) (IsNetFaultAt most t b) (earlier_refusal (earlier_refusal (refused E03 agents) (refused E07 arities)) (refused E08 names)) (as_fault most t b) (of_fault most t b)
-    (first_of_two (λ c q. Of E03 (IsTooManyAt most t b) c q ⊎ Of E07 (IsMisfitAt t b) c q) (Of E08 (IsMiscountedAt t b)) (both_lower most t b)
-    (earlier_refusal (refused E03 agents) (refused E07 arities)) (refused E08 names)
-    (first_of_two (Of E03 (IsTooManyAt most t b)) (Of E07 (IsMisfitAt t b)) (lower_codes E03 E07 (IsTooManyAt most t b) (IsMisfitAt t b) (omega arith)) (refused E03 agents) (refused E07 arities)
-    (first_refused E03 (IsTooManyAt most t b) agents a) (first_refused E07 (IsMisfitAt t b) arities c))
-    (first_refused E08 (IsMiscountedAt t b) names d))
+    first_same (Coded most t b) (IsNetFaultAt most t b) _ (as_fault most t b) (of_fault most t b)
+    (first_of_three E03 E07 E08 (IsTooManyAt most t b) (IsMisfitAt t b) (IsMiscountedAt t b) (omega arith) (omega arith) agents arities names a c d)
 
 -- what is known of a body before it is read: its heads are symbols', its names stand in order, its free names are different
 pub record IsReady (t : Tables) (b : Body) : Type 0 where
@@ -78,20 +60,15 @@ pub record IsReady (t : Tables) (b : Body) : Type 0 where
 pub found_first : (most : ℕ) (t : Tables) (b : Body) → IsReady t b → IsFirst (IsNetFaultAt most t b) (first_fault most t b (reading_of t b))
 found_first most t b ready =
     let r : Reading = reading_of t b in
-    first_of most t b (too_many most r.agents) (misfit_in_body t b) (miscounted (length r.names) r.spots b.free)
+    first_of most t b (searching.too_many most r.agents) (misfit_in_body t b) (counting.miscounted (length r.names) r.spots b.free)
     (agents_least most t b ready.known) (arities_least t b)
     (names_least t b r (names_read t b ready.known) (roots_rise t b ready.known ready.rises) (names_apart t b) ready.differ)
-
-first_as : (most : ℕ) (t : Tables) (b : Body) (o : Option Refusal) (r : Refusal) → IsFirst (IsNetFaultAt most t b) o → o ≡ Some r → IsFirstNameFault most t b r.code r.place × (let nothing : Option Place = None in r.other ≡ nothing)
-first_as most t b o r first is =
-    let there = subst (IsFirst (IsNetFaultAt most t b)) is first in
-    (record { stands = there.0; first = there.1 }, there.2)
 
 -- a fault that is found is the first one
 pub is_first : (most : ℕ) (t : Tables) (b : Body) (reading : Reading) (r : Refusal) → IsReady t b → reading ≡ reading_of t b → Some r ≡ first_fault most t b reading →
     IsFirstNameFault most t b r.code r.place × (let nothing : Option Place = None in r.other ≡ nothing)
 is_first most t b reading r ready read is =
-    first_as most t b (first_fault most t b (reading_of t b)) r (found_first most t b ready) (ap (first_fault most t b) (sym read) ∙ sym is)
+    first_as (IsNetFaultAt most t b) (first_fault most t b (reading_of t b)) r (found_first most t b ready) (ap (first_fault most t b) (sym read) ∙ sym is)
 
 -- where none is found, there is none
 pub no_fault : (most : ℕ) (t : Tables) (b : Body) (reading : Reading) → IsReady t b → reading ≡ reading_of t b → None ≡ first_fault most t b reading → HasNoNetFault most t b
@@ -100,8 +77,8 @@ no_fault most t b reading ready read is = subst (IsFirst (IsNetFaultAt most t b)
 -- then the numbers of arguments fit
 pub none_misfit : (most : ℕ) (t : Tables) (b : Body) (reading : Reading) → None ≡ first_fault most t b reading → all_arities_fit t b ≡ true
 none_misfit most t b reading is =
-    let all = refusal_none (earlier_refusal (refused E03 (too_many most reading.agents)) (refused E07 (misfit_in_body t b))) (refused E08 (miscounted (length reading.names) reading.spots b.free)) (sym is) in
-    let two = refusal_none (refused E03 (too_many most reading.agents)) (refused E07 (misfit_in_body t b)) all.0 in
+    let all = refusal_none (earlier_refusal (refused E03 (searching.too_many most reading.agents)) (refused E07 (misfit_in_body t b))) (refused E08 (counting.miscounted (length reading.names) reading.spots b.free)) (sym is) in
+    let two = refusal_none (refused E03 (searching.too_many most reading.agents)) (refused E07 (misfit_in_body t b)) all.0 in
     body_fits t b (refused_none E07 (misfit_in_body t b) two.1)
 
 -- and each name stands twice
@@ -109,9 +86,9 @@ pub none_miscounted : (most : ℕ) (t : Tables) (b : Body) → IsReady t b → N
     AreTwice (reading_of t b).spots (counted_from 0 (reading_of t b).spots (none_seen (length (reading_of t b).names)))
 none_miscounted most t b ready is =
     let r : Reading = reading_of t b in
-    let all = refusal_none (earlier_refusal (refused E03 (too_many most r.agents)) (refused E07 (misfit_in_body t b))) (refused E08 (miscounted (length r.names) r.spots b.free)) (sym is) in
+    let all = refusal_none (earlier_refusal (refused E03 (searching.too_many most r.agents)) (refused E07 (misfit_in_body t b))) (refused E08 (counting.miscounted (length r.names) r.spots b.free)) (sym is) in
     all_stand_twice t b r (names_read t b ready.known) (roots_rise t b ready.known ready.rises) (names_apart t b) ready.differ
-    (refused_none E08 (miscounted (length r.names) r.spots b.free) all.1)
+    (refused_none E08 (counting.miscounted (length r.names) r.spots b.free) all.1)
 
 -- the names that are read are in range, whatever the numbers of arguments
 pub names_inside : (t : Tables) (b : Body) → IsBodyKnown t b → NamesInside (length (reading_of t b).names) (reading_of t b).spots

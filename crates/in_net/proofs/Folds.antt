@@ -4,14 +4,12 @@ use Rattle.std.proofs.lemmas.Bool.{eqb-true, and_parts}
 use Rattle.std.proofs.lemmas.List.{length-map, drop_all}
 use Rattle.in_syntax.specs.declared.tree.Term.{Term, out-Term}
 use Rattle.in_syntax.specs.declared.tree.Term.TheFolds.{fold_out-Term}
-use Rattle.in_syntax.specs.Sizes.{total, names_in}
 use Rattle.in_symbols.specs.declared.symbols.SymbolNo.{SymbolNo}
 use Rattle.in_symbols.specs.Names.{number_in}
 use Rattle.in_symbols.specs.Tables.{Tables, arity_of, all_true, symbol_numbered}
 use Rattle.in_net.specs.Arities.{fits_arity, arities_fit}
 use Rattle.in_net.specs.declared.reading.Reading.{Reading}
 use Rattle.in_net.specs.Reading.{Reader, reader_step, reads_name, reads_arguments, with_agent, with_occurrence, reader_of}
-use Rattle.in_syntax.proofs.Terms.{names_out}
 
 pub fits_out : (t : Tables) (u : Term) →
     arities_fit t u ≡ (fits_arity t (number_in (out-Term u).name.text t.names) (length (map (arities_fit t) (out-Term u).args)) && all_true (map (arities_fit t) (out-Term u).args))

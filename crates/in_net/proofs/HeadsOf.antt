@@ -1,10 +1,10 @@
 -- Where each name before ( is a symbol's: a variable has no arguments, and the same holds of an agent's.
-use Rattle.std.proofs.Common.{◌≡◌, ℕ, Bool, true, false, ◌&&◌, ◌||◌, List, [], ◌∷◌, map, Option, None, refl, sym, ◌∙◌, ap, is_some}
+use Rattle.std.proofs.Common.{◌≡◌, ℕ, Bool, true, false, ◌||◌, List, [], ◌∷◌, map, Option, None, refl, sym, ◌∙◌, ap, is_some}
 use Rattle.in_syntax.specs.declared.tree.Term.{Term, out-Term}
 use Rattle.in_symbols.specs.Names.{number_in}
 use Rattle.in_symbols.specs.Tables.{is_none, all_true, heads_known}
 use Rattle.in_symbols.proofs.Heads.{heads_out}
-use Rattle.std.proofs.lemmas.Bool.{and_from, and_parts}
+use Rattle.std.proofs.lemmas.Bool.{and_parts}
 
 or_false : (b : Bool) → (b || false) ≡ b
 or_false true = refl

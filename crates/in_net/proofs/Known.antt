@@ -9,7 +9,7 @@ use Rattle.in_syntax.specs.declared.tree.Name.{Name}
 use Rattle.in_syntax.specs.declared.tree.SourceFree.{SourceFree}
 use Rattle.in_syntax.specs.declared.tree.SourceRule.{SourceRule}
 use Rattle.in_base.specs.Lists.{AnyByRecursion}
-use Rattle.in_symbols.specs.Faults.{IsRepeatedAt, IsDeclaredTwiceAt, IsFaultless}
+use Rattle.in_symbols.specs.Faults.{IsRepeatedAt, IsDeclaredTwiceAt, declared_twice, IsFaultless}
 use Rattle.in_symbols.specs.Tables.{Tables, all_true, heads_known, HeadsKnown, IsRuleKnown, IsTabled}
 use Rattle.in_base.specs.Lists.{IsAmong}
 use Rattle.in_net.specs.TextNet.{Body, LeftHead, body_of, heads_at}
@@ -70,5 +70,5 @@ free_differ source faultless k l f g is_f is_g e = by_order (same_or_not k l) (b
   where
     by_order : (k ≡ l) ⊎ (k ≢ l) → (k < l) ⊎ (l ≤ k) → k ≡ l
     by_order (inl x) y = x
-    by_order (inr x) (inl y) = absurd (faultless E04 g.name.place (IsDeclaredTwiceAt.free_twice (repeated source.net.free k l f g y is_f is_g e)))
-    by_order (inr x) (inr y) = absurd (faultless E04 f.name.place (IsDeclaredTwiceAt.free_twice (repeated source.net.free l k g f (omega (arith, x, y)) is_g is_f (sym e))))
+    by_order (inr x) (inl y) = absurd (faultless E04 g.name.place (declared_twice g.name.place (IsDeclaredTwiceAt.free_twice (repeated source.net.free k l f g y is_f is_g e))))
+    by_order (inr x) (inr y) = absurd (faultless E04 f.name.place (declared_twice f.name.place (IsDeclaredTwiceAt.free_twice (repeated source.net.free l k g f (omega (arith, x, y)) is_g is_f (sym e)))))

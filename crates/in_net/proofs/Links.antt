@@ -6,7 +6,6 @@ use Rattle.in_syntax.specs.declared.places.Place.{Place}
 use Rattle.in_net.specs.declared.joining.Link.{Link}
 use Rattle.in_net.specs.declared.reading.Joint.{Joint}
 use Rattle.in_net.specs.Joining.{self_link, self_links, with_link, with_joints, JointsInside}
-use Rattle.in_base.proofs.Each.{all_map, all_append}
 
 -- one spot more
 pub one_more : (to count : ℕ) (links new all : List Link) → to < count → new ≡ links ++ self_link to ∷ [] → links ++ self_links to (count - to) ≡ all → new ++ self_links (to + 1) (count - (to + 1)) ≡ all

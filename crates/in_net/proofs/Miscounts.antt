@@ -4,8 +4,8 @@ use Rattle.std.proofs.lemmas.List.{length-set, get_or-set_same, get_or-set_other
 use Rattle.in_syntax.specs.declared.places.Place.{Place}
 use Rattle.in_syntax.specs.declared.tree.SourceFree.{SourceFree}
 use Rattle.in_base.specs.Lists.{AnyByRecursion}
-use Rattle.in_symbols.specs.Searching.{earlier}
-use Rattle.in_symbols.proofs.Least.{IsLeast, least_same, least_earlier, least_of_all}
+use Rattle.in_syntax.specs.Refusals.{earlier}
+use Rattle.in_syntax.proofs.Least.{IsLeast, least_same, least_earlier, least_of_all}
 use Rattle.in_net.specs.declared.reading.Spot.{Spot}
 use Rattle.in_net.specs.declared.reading.Spot.TheVariants.{Port, Free, End, Occurrence}
 use Rattle.in_net.specs.declared.counting.Seen.{Seen}

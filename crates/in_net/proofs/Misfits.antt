@@ -10,10 +10,10 @@ use Rattle.in_syntax.specs.declared.tree.Term.TheFolds.{fold_out-Term}
 use Rattle.in_syntax.specs.Sizes.{total, names_in}
 use Rattle.in_base.specs.Lists.{AnyByRecursion}
 use Rattle.in_symbols.specs.Names.{number_in}
-use Rattle.in_symbols.specs.Searching.{earlier, earliest}
+use Rattle.in_syntax.specs.Refusals.{earlier, earliest}
 use Rattle.in_symbols.specs.Tables.{Tables, arity_of, all_true}
 use Rattle.in_symbols.proofs.OneTables.{any_among}
-use Rattle.in_symbols.proofs.Least.{IsLeast, least_same, least_earlier, least_of_all, earlier_none, earliest_none}
+use Rattle.in_syntax.proofs.Least.{IsLeast, least_same, least_earlier, least_of_all, earlier_none, earliest_none}
 use Rattle.in_net.specs.declared.reading.Agent.{Agent}
 use Rattle.in_net.specs.Arities.{fits_arity, arities_fit, head_fits, equation_fits, all_arities_fit}
 use Rattle.in_net.specs.NetFaults.{IsTooManyAt, IsMisfitAt}

@@ -3,7 +3,7 @@ use Rattle.std.proofs.Common.{◌≡◌, ◌⊎◌, inl, inr, ℕ, zero, suc, �
 use Rattle.std.specs.List.{flat_map}
 use Rattle.std.proofs.lemmas.Option.{same_Some}
 use Rattle.in_syntax.specs.declared.faults.Code.{Code}
-use Rattle.in_syntax.specs.declared.faults.Code.TheVariants.{E01, E02, E03, E04, E05, E06, E07, E08, E09, E10, E11, E12, E13, E14, E15}
+use Rattle.in_syntax.specs.declared.faults.Code.TheVariants.{E03, E07, E08}
 use Rattle.in_syntax.specs.declared.faults.Fault.TheVariants.{Refused, Memory}
 use Rattle.in_syntax.specs.declared.faults.Refusal.{Refusal}
 use Rattle.in_syntax.specs.declared.places.Place.{Place}
@@ -18,11 +18,11 @@ use Rattle.in_syntax.proofs.Ordered.{places_out, tree_in_order}
 use Rattle.in_syntax.proofs.Sized.{tree_sized}
 use Rattle.in_syntax.proofs.SourcePlaces.{part_small, texts_begin_apart}
 use Rattle.in_syntax.proofs.WholeTexts.{same_refusal}
-use Rattle.in_symbols.proofs.OneTables.{both_first, at_free, at_equations}
+use Rattle.in_symbols.proofs.OneTables.{at_free, at_equations}
 use Rattle.in_net.specs.Laws.{NetsAreBuiltOnce, RulesAreBuiltOnce}
 use Rattle.in_syntax.specs.Order.{BeginApart, source_places, Rises, IsWrittenInOrder, IsRuleInOrder, term_places, equation_places, head_places}
 use Rattle.in_syntax.specs.Sizes.{IsSized, names_in}
-use Rattle.in_symbols.specs.Faults.{code_number}
+use Rattle.in_syntax.proofs.FirstFault.{both_first, IsOneOf, code_is}
 use Rattle.in_symbols.specs.Names.{number_in}
 use Rattle.in_symbols.specs.Tables.{Tables, Tabulates}
 use Rattle.in_net.specs.declared.reading.Agent.{Agent}
@@ -30,7 +30,7 @@ use Rattle.in_net.specs.declared.reading.Spot.TheVariants as spot
 use Rattle.in_syntax.specs.Answers.{IsOne}
 use Rattle.in_net.specs.Built.{Builds}
 use Rattle.in_net.specs.Building.{nth_agent, nth_spot}
-use Rattle.in_net.specs.NetFaults.{max_agents, max_member_agents, IsNetFaultAt, HasNoNetFault, IsFirstNameFault, IsFirstNetFault, of_names, of_wires, IsMiscountedAt, only, third, missing, second, IsAgentMisfitAt, IsHeadMisfitAt}
+use Rattle.in_net.specs.NetFaults.{max_agents, max_member_agents, IsNetFaultAt, too_many, misfit, miscounted, HasNoNetFault, IsFirstNameFault, IsFirstNetFault, of_names, of_wires, IsMiscountedAt, only, third, missing, second, IsAgentMisfitAt, IsHeadMisfitAt}
 use Rattle.in_net.specs.Reading.{reading_of}
 use Rattle.in_net.specs.Rules.{RuleParts, BuildsRule, BuildsRuleOf, body_of_rule, IsReadable, IsRuleOf}
 use Rattle.in_net.specs.Searching.{first_fault}
@@ -162,43 +162,20 @@ misfit_place t b p (inr h) =
     (among_left h.left.head.name.place (map (λ (h : LeftHead). h.head.name.place) b.heads) (text_places b) (in_map (λ (h : LeftHead). h.head.name.place) b.heads h.left h.there)))
 
 -- the codes of faults of names, and where they stand
-abbrev IsNamed : ℕ → Body → Code → Place → Type 0
-IsNamed most b c p = ((c ≡ E03) ⊎ ((c ≡ E07) ⊎ (c ≡ E08))) × IsAmong p (all_places b)
+abbrev IsNamed : Body → Code → Place → Type 0
+IsNamed b c p = IsOneOf E03 E07 E08 c × IsAmong p (all_places b)
 
-name_fault : (most : ℕ) (t : Tables) (b : Body) (c : Code) (p : Place) → IsNetFaultAt most t b c p → IsNamed most b c p
-name_fault most t b E01 p h = absurd h
-name_fault most t b E02 p h = absurd h
-name_fault most t b E03 p h = (inl refl, subst (λ p. IsAmong p (all_places b)) h.2 (in_text b h.0.place (body_agent t b h.0 (among_at (agents_of_body t b) most h.0 h.1))))
-name_fault most t b E04 p h = absurd h
-name_fault most t b E05 p h = absurd h
-name_fault most t b E06 p h = absurd h
-name_fault most t b E07 p h = (inr (inl refl), misfit_place t b p h)
-name_fault most t b E08 p h = (inr (inr refl), misplaced t b p h)
-name_fault most t b E09 p h = absurd h
-name_fault most t b E10 p h = absurd h
-name_fault most t b E11 p h = absurd h
-name_fault most t b E12 p h = absurd h
-name_fault most t b E13 p h = absurd h
-name_fault most t b E14 p h = absurd h
-name_fault most t b E15 p h = absurd h
-
-code_is : (c d : Code) → ((c ≡ E03) ⊎ ((c ≡ E07) ⊎ (c ≡ E08))) → ((d ≡ E03) ⊎ ((d ≡ E07) ⊎ (d ≡ E08))) → code_number c ≡ code_number d → c ≡ d
-code_is c d (inl a) (inl e) n = a ∙ sym e
-code_is c d (inl a) (inr (inl e)) n = let x = ap code_number a in let y = ap code_number e in absurd (omega (arith, x, y, n))
-code_is c d (inl a) (inr (inr e)) n = let x = ap code_number a in let y = ap code_number e in absurd (omega (arith, x, y, n))
-code_is c d (inr (inl a)) (inl e) n = let x = ap code_number a in let y = ap code_number e in absurd (omega (arith, x, y, n))
-code_is c d (inr (inl a)) (inr (inl e)) n = a ∙ sym e
-code_is c d (inr (inl a)) (inr (inr e)) n = let x = ap code_number a in let y = ap code_number e in absurd (omega (arith, x, y, n))
-code_is c d (inr (inr a)) (inl e) n = let x = ap code_number a in let y = ap code_number e in absurd (omega (arith, x, y, n))
-code_is c d (inr (inr a)) (inr (inl e)) n = let x = ap code_number a in let y = ap code_number e in absurd (omega (arith, x, y, n))
-code_is c d (inr (inr a)) (inr (inr e)) n = a ∙ sym e
+name_fault : (most : ℕ) (t : Tables) (b : Body) (c : Code) (p : Place) → IsNetFaultAt most t b c p → IsNamed b c p
+name_fault most t b _ _ (too_many p h) = (inl refl, subst (λ p. IsAmong p (all_places b)) h.2 (in_text b h.0.place (body_agent t b h.0 (among_at (agents_of_body t b) most h.0 h.1))))
+name_fault most t b _ _ (misfit p h) = (inr (inl refl), misfit_place t b p h)
+name_fault most t b _ _ (miscounted p h) = (inr (inr refl), misplaced t b p h)
 
 one_name_fault : (most : ℕ) (t : Tables) (b : Body) (c d : Code) (p q : Place) → BeginApart (all_places b) → IsFirstNameFault most t b c p → IsFirstNameFault most t b d q → (c ≡ d) × (p ≡ q)
 one_name_fault most t b c d p q apart h k =
     let a = name_fault most t b c p h.stands in
     let e = name_fault most t b d q k.stands in
     let both = both_first c d p q (h.first d q k.stands) (k.first c p h.stands) in
-    (code_is c d a.0 e.0 both.1, apart p q a.1 e.1 both.0)
+    (code_is E03 E07 E08 (omega arith) (omega arith) c d a.0 e.0 both.1, apart p q a.1 e.1 both.0)
 
 -- ---- where no fault stands, all is good
 

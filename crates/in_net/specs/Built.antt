@@ -2,6 +2,7 @@
 use Rattle.std.specs.Prelude.{◌≡◌, ℕ, ◌+◌, ◌*◌, ◌<◌, ◌≤◌, true, List, length, map, Result, Ok, Err, Option, Some, None, IsPermutation}
 use Rattle.std.specs.List.{AllByRecursion}
 use Rattle.std.specs.List.Sorted.{IsNonDecreasingBy}
+use Rattle.in_syntax.specs.Refusals.{refusal_of}
 use Rattle.in_syntax.specs.declared.faults.Fault.{Fault}
 use Rattle.in_syntax.specs.declared.places.Place.{Place}
 use Rattle.in_syntax.specs.declared.tree.Source.{Source}
@@ -91,7 +92,7 @@ pub record IsOver (t : Tables) (n : Parts) : Type 0 where
   pub cells : AllByRecursion (IsCellOver t) n.cells
 
 abbrev pub closed_at : Place → Fault
-closed_at p = Refused (record { code = E09; place = p; other = None })
+closed_at p = Refused (refusal_of E09 p)
 
 -- where it is Ok, no fault of agents and names and no closed wire stands, and the net is over the program's tables, and is the net
 -- of the text; it is refused for the first such fault, or, where none stands, for the first closed wire

@@ -2,7 +2,7 @@
 use Rattle.std.specs.Prelude.{ℕ, zero, suc, cond, nat_lt, ◌==◌, ◌+◌, ◌<◌, List, [], ◌∷◌, length, slice_set, slice_index_or, Option, Some, None}
 use Rattle.std.specs.List.{AllByRecursion}
 use Rattle.in_syntax.specs.declared.places.Place.{Place}
-use Rattle.in_symbols.specs.Searching.{earlier}
+use Rattle.in_syntax.specs.Refusals.{earlier}
 use Rattle.in_net.specs.declared.reading.Spot.{Spot}
 use Rattle.in_net.specs.declared.reading.Joint.{Joint}
 use Rattle.in_net.specs.declared.reading.Reading.{Reading}

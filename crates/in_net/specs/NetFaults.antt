@@ -3,12 +3,12 @@
 -- codes, and where a fault stands are this project's own choice.
 use Rattle.std.specs.Prelude.{◌≡◌, ◌≢◌, ◌⊎◌, ℕ, ◌<◌, ◌≤◌, List, length, Some, slice_get}
 use Rattle.in_syntax.specs.declared.faults.Code.{Code}
-use Rattle.in_syntax.specs.declared.faults.Code.TheVariants.{E01, E02, E03, E04, E05, E06, E07, E08, E09, E10, E11, E12, E13, E14, E15}
+use Rattle.in_syntax.specs.declared.faults.Code.TheVariants.{E03, E07, E08, E09}
 use Rattle.in_syntax.specs.declared.places.Place.{Place}
 use Rattle.in_syntax.specs.declared.tree.SourceFree.{SourceFree}
 use Rattle.in_syntax.specs.declared.tree.SourceNet.{SourceNet}
 use Rattle.in_syntax.specs.declared.tree.Term.{Term, out-Term}
-use Rattle.in_symbols.specs.Faults.{IsNoLater}
+use Rattle.in_syntax.specs.Refusals.{IsFirstOf, HasNone}
 use Rattle.in_symbols.specs.Tables.{Tables, arity_of}
 use Rattle.in_symbols.specs.Names.{number_in}
 use Rattle.in_base.specs.Lists.{IsAmong}
@@ -68,30 +68,17 @@ pub data IsMiscountedAt (t : Tables) (b : Body) : Place → Type 0 where
   second : (f : SourceFree) (u v : Term) → IsAmong f b.free → Occurs t b f.name.text u → Occurs t b f.name.text v → IsBefore u v → ((x : Term) → Occurs t b f.name.text x → IsBefore x v → place_of x ≡ place_of u) → IsMiscountedAt t b (place_of v)
 
 -- a fault of the agents or names of this code stands at the place
-abbrev pub IsNetFaultAt : ℕ → Tables → Body → Code → Place → Type 0
-IsNetFaultAt most t b E01 p = ⊥
-IsNetFaultAt most t b E02 p = ⊥
-IsNetFaultAt most t b E03 p = IsTooManyAt most t b p
-IsNetFaultAt most t b E04 p = ⊥
-IsNetFaultAt most t b E05 p = ⊥
-IsNetFaultAt most t b E06 p = ⊥
-IsNetFaultAt most t b E07 p = IsMisfitAt t b p
-IsNetFaultAt most t b E08 p = IsMiscountedAt t b p
-IsNetFaultAt most t b E09 p = ⊥
-IsNetFaultAt most t b E10 p = ⊥
-IsNetFaultAt most t b E11 p = ⊥
-IsNetFaultAt most t b E12 p = ⊥
-IsNetFaultAt most t b E13 p = ⊥
-IsNetFaultAt most t b E14 p = ⊥
-IsNetFaultAt most t b E15 p = ⊥
+pub data IsNetFaultAt (most : ℕ) (t : Tables) (b : Body) : Code → Place → Type 0 where
+  too_many : (p : Place) → IsTooManyAt most t b p → IsNetFaultAt most t b E03 p
+  misfit : (p : Place) → IsMisfitAt t b p → IsNetFaultAt most t b E07 p
+  miscounted : (p : Place) → IsMiscountedAt t b p → IsNetFaultAt most t b E08 p
 
 abbrev pub HasNoNetFault : ℕ → Tables → Body → Type 0
-HasNoNetFault most t b = (c : Code) (p : Place) → IsNetFaultAt most t b c p → ⊥
+HasNoNetFault most t b = HasNone (IsNetFaultAt most t b)
 
 -- a fault of agents or names stands there, and none of these stands earlier; of two at one place the lower code counts
-pub record IsFirstNameFault (most : ℕ) (t : Tables) (b : Body) (c : Code) (p : Place) : Type 0 where
-  pub stands : IsNetFaultAt most t b c p
-  pub first : (d : Code) (q : Place) → IsNetFaultAt most t b d q → IsNoLater c p d q
+abbrev pub IsFirstNameFault : ℕ → Tables → Body → Code → Place → Type 0
+IsFirstNameFault most t b = IsFirstOf (IsNetFaultAt most t b)
 
 -- of a net's faults: the first one of agents and names; where there is none of these, the first closed wire
 pub data IsFirstNetFault (t : Tables) (n : SourceNet) : Code → Place → Type 0 where

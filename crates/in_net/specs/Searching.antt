@@ -9,7 +9,7 @@ use Rattle.in_syntax.specs.declared.tree.SourceFree.{SourceFree}
 use Rattle.in_syntax.specs.declared.tree.Term.{Term}
 use Rattle.in_syntax.specs.declared.tree.Term.TheFolds.{fold-Term}
 use Rattle.in_symbols.specs.Names.{number_in}
-use Rattle.in_symbols.specs.Searching.{earlier, earliest, refused, earlier_refusal}
+use Rattle.in_syntax.specs.Refusals.{earlier, earliest, refused, earlier_refusal}
 use Rattle.in_symbols.specs.Tables.{Tables, arity_of}
 use Rattle.in_net.specs.declared.reading.Agent.{Agent}
 use Rattle.in_net.specs.declared.reading.Reading.{Reading}

@@ -192,11 +192,7 @@ pub(crate) fn assemble(
 fn closed_at(place: Place) -> Fault
     ensures { result ≡ closed_at place }
 {
-    Fault::Refused(Refusal {
-        code: Code::E09,
-        place,
-        other: None,
-    })
+    Fault::Refused(Refusal::at(Code::E09, place))
 }
 
 /// The initial net of a program.

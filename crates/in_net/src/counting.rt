@@ -2,7 +2,6 @@ ghost use Rattle.std.specs.Prelude.{◌≡◌, length, IfOk};
 ghost use Rattle.in_net.specs.Counting.{name_of, seen_again, none_seen, third_time, counts_spot, counts_from, nothing_counted, lonely_place, lonely, miscounted, IsNameInside, NamesInside};
 
 use crate::reading::Spot;
-use in_symbols::earlier;
 use in_syntax::{Place, SourceFree};
 use sqlite_items::Items;
 use std::alloc::{AllocError, Global};
@@ -74,7 +73,7 @@ fn count(counting: &mut Counting, at: usize, spot: Spot)
     if let Some(name) = name_of(spot) {
         let before = counting.seen.as_slice()[name];
         counting.seen.set(name, once_more(before, at));
-        counting.third = earlier(counting.third, third_time(before, spot));
+        counting.third = Place::earlier(counting.third, third_time(before, spot));
     }
 }
 
@@ -116,7 +115,7 @@ fn lonely(seen: &[Seen], spots: &[Spot], free: &[SourceFree]) -> Option<Place>
 {
     let mut found = None;
     for seen in seen {
-        found = earlier(found, lonely_place(*seen, spots, free));
+        found = Place::earlier(found, lonely_place(*seen, spots, free));
     }
     found
 }
@@ -133,5 +132,5 @@ pub(crate) fn miscounted(
     ensures { IfOk result (λ place. place ≡ miscounted names spots.now free.now) }
 {
     let Counting { seen, third } = counts(alloc, names, spots)?;
-    Ok(earlier(third, lonely(seen.as_slice(), spots, free)))
+    Ok(Place::earlier(third, lonely(seen.as_slice(), spots, free)))
 }

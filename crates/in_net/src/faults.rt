@@ -9,7 +9,7 @@ ghost use Rattle.in_net.specs.TextNet.{body_of};
 
 use crate::counting::miscounted;
 use crate::reading::{Agent, Reading};
-use in_symbols::{Symbols, earlier, earlier_refusal, refused};
+use in_symbols::Symbols;
 use in_syntax::{Code, Head, Place, Refusal, SourceFree, SourceNet, SourceRule, Term};
 use std::alloc::{AllocError, Global};
 
@@ -46,7 +46,7 @@ fn misfit(symbols: &Symbols, term: &Term) -> Option<Place>
 {
     let mut found = misfit_here(symbols, term);
     for argument in term.args.as_slice() {
-        found = earlier(found, misfit(symbols, argument));
+        found = Place::earlier(found, misfit(symbols, argument));
     }
     found
 }
@@ -57,11 +57,11 @@ fn misfit_in_net(symbols: &Symbols, net: &SourceNet) -> Option<Place>
 {
     let mut found = None;
     for equation in net.equations.as_slice() {
-        let place = earlier(
+        let place = Place::earlier(
             misfit(symbols, &equation.left),
             misfit(symbols, &equation.right),
         );
-        found = earlier(found, place);
+        found = Place::earlier(found, place);
     }
     found
 }
@@ -83,7 +83,7 @@ fn misfit_in_head(symbols: &Symbols, head: &Head) -> Option<Place>
 {
     let mut found = misfit_at_head(symbols, head);
     for term in head.terms.as_slice() {
-        found = earlier(found, misfit(symbols, term));
+        found = Place::earlier(found, misfit(symbols, term));
     }
     found
 }
@@ -102,8 +102,11 @@ fn fault_of(
 {
     let agents = too_many(most, reading.agents.as_slice());
     let names = miscounted(alloc, reading.names.len(), reading.spots.as_slice(), free)?;
-    let fault = earlier_refusal(refused(Code::E03, agents), refused(Code::E07, misfit));
-    Ok(earlier_refusal(fault, refused(Code::E08, names)))
+    let fault = Refusal::earlier(
+        Refusal::found(Code::E03, agents),
+        Refusal::found(Code::E07, misfit),
+    );
+    Ok(Refusal::earlier(fault, Refusal::found(Code::E08, names)))
 }
 
 /// The first fault of the net's agents and names.
@@ -135,7 +138,7 @@ pub(crate) fn first_rule_fault(
     requires { NamesInside (length reading.now.names) reading.now.spots }
     ensures { IfOk result (λ fault. fault ≡ first_fault max_member_agents symbols.now (body_of_rule symbols.now rule.now) reading.now) }
 {
-    let misfit = earlier(
+    let misfit = Place::earlier(
         misfit_in_head(symbols, &rule.first),
         misfit_in_head(symbols, &rule.second),
     );

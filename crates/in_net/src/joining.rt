@@ -4,7 +4,6 @@ ghost use Rattle.in_net.specs.Joining.{self_links, with_link, with_joints, merge
 
 use crate::counting::{Seen, name_of, once_more, unseen};
 use crate::reading::{Joint, Reading, Spot};
-use in_symbols::earlier;
 use in_syntax::Place;
 use sqlite_items::Items;
 use std::alloc::{AllocError, Global};
@@ -138,7 +137,7 @@ fn step(joining: &mut Joining, at: usize, spot: Spot)
         let seen = joining.seen.as_slice()[name];
         let closed = meet(&mut joining.links, seen, at);
         joining.seen.set(name, once_more(seen, at));
-        joining.closed = earlier(joining.closed, closed);
+        joining.closed = Place::earlier(joining.closed, closed);
     }
 }
 

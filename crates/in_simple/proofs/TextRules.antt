@@ -8,7 +8,7 @@ use Rattle.in_symbols.specs.declared.symbols.SymbolNo.{SymbolNo}
 use Rattle.in_symbols.specs.Tables.{Tables, arity_of}
 use Rattle.in_net.specs.declared.nets.Cell.{Cell}
 use Rattle.in_net.specs.declared.nets.FreeEnd.{FreeEnd}
-use Rattle.in_net.specs.NetFaults.{max_member_agents, HasNoNetFault}
+use Rattle.in_net.specs.NetFaults.{max_member_agents, too_many, HasNoNetFault}
 use Rattle.in_net.specs.Rules.{RuleParts, IsRuleOf, BuildsRuleOf, types_from, auxiliary_types, body_of_rule, heads_of, written_of}
 use Rattle.in_net.specs.Rules as rules_of
 use Rattle.in_net.specs.TextNet.{Body, Written, AreCellsFor, agents_of_body}
@@ -53,7 +53,7 @@ pick heads written b e = elim (eqb_tells heads.0.0 written.0.0) [
 few_agents : (t : Tables) (b : Body) → HasNoNetFault max_member_agents t b → length (agents_of_body t b) ≤ max_member_agents
 few_agents t b sound = elim (leb_tells (length (agents_of_body t b)) max_member_agents) [
   | inl h ↦ h.1
-  | inr h ↦ let w = at_index (agents_of_body t b) max_member_agents h.1 in absurd (sound E03 w.0.place (w.0, w.1, refl))
+  | inr h ↦ let w = at_index (agents_of_body t b) max_member_agents h.1 in absurd (sound E03 w.0.place (too_many w.0.place (w.0, w.1, refl)))
 ]
 
 pub rule_whole : (t : Tables) (r : SourceRule) (p : RuleParts) → BuildsRuleOf t r (Ok p) → IsRuleWhole t p

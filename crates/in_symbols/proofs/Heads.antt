@@ -4,7 +4,8 @@ use Rattle.in_syntax.specs.declared.places.Place.{Place}
 use Rattle.in_syntax.specs.declared.tree.Term.{Term, out-Term}
 use Rattle.in_syntax.specs.declared.tree.Term.TheFolds.{fold_out-Term}
 use Rattle.in_symbols.specs.Names.{number_in}
-use Rattle.in_symbols.specs.Searching.{earliest, is_empty, unknown_here, unknown_in_term}
+use Rattle.in_syntax.specs.Refusals.{earliest}
+use Rattle.in_symbols.specs.Searching.{is_empty, unknown_here, unknown_in_term}
 use Rattle.in_symbols.specs.Tables.{is_none, all_true, heads_known}
 
 pub heads_out : (names : List (List ℕ)) (t : Term) →

@@ -1,7 +1,6 @@
 pub mod Absent
 pub mod First
 pub mod Heads
-pub mod Least
 pub mod Maps
 pub mod Named
 pub mod OneTables

@@ -2,7 +2,7 @@
 use Rattle.std.proofs.Common.{◌≡◌, ◌⊎◌, inl, inr, List, [], ◌∷◌, ◌++◌, map, Ok, Err, refl, sym, ◌∙◌, ap, subst, arith}
 use Rattle.std.specs.List.{flat_map}
 use Rattle.in_syntax.specs.declared.faults.Code.{Code}
-use Rattle.in_syntax.specs.declared.faults.Code.TheVariants.{E01, E02, E03, E04, E05, E06, E07, E08, E09, E10, E11, E12, E13, E14, E15}
+use Rattle.in_syntax.specs.declared.faults.Code.TheVariants.{E04, E05, E06}
 use Rattle.in_syntax.specs.declared.faults.Fault.TheVariants.{Refused, Memory}
 use Rattle.in_syntax.specs.declared.places.Place.{Place}
 use Rattle.in_syntax.specs.declared.tree.Equation.{Equation}
@@ -16,7 +16,8 @@ use Rattle.in_syntax.specs.declared.tree.SourceSymbol.{SourceSymbol}
 use Rattle.in_syntax.specs.declared.tree.Term.{Term, out-Term}
 use Rattle.in_syntax.specs.Order.{BeginApart, term_places, equation_places, head_places, symbol_places, rule_places, free_places, source_places}
 use Rattle.in_base.specs.Lists.{AnyByRecursion}
-use Rattle.in_symbols.specs.Faults.{IsSymbolName, IsRepeatedAt, IsDeclaredTwiceAt, type_twice, symbol_twice, free_twice, free_symbol, IsUntypedAt, IsUnknownTypeAt, of_principal, of_auxiliary, of_free, HasPart, itself, argument, IsUnknownHead, OfAHead, IsUnknownHeadAt, in_equation, of_head, in_head, IsFaultAt, IsNoLater, code_number}
+use Rattle.in_syntax.proofs.FirstFault.{both_first, IsOneOf, code_is}
+use Rattle.in_symbols.specs.Faults.{IsSymbolName, IsRepeatedAt, IsDeclaredTwiceAt, type_twice, symbol_twice, free_twice, free_symbol, IsUntypedAt, IsUnknownTypeAt, of_principal, of_auxiliary, of_free, HasPart, itself, argument, IsUnknownHead, OfAHead, IsUnknownHeadAt, in_equation, of_head, in_head, IsFaultAt, declared_twice, unknown_type, unknown_symbol}
 use Rattle.in_symbols.specs.Tables.{Tabulates}
 use Rattle.in_syntax.specs.Answers.{IsOne}
 use Rattle.in_base.specs.Lists.{IsAmong}
@@ -40,13 +41,6 @@ in_term s p _ (argument t a among h) =
     let at = any_among (λ (b : Term). b ≡ a) (out-Term t).args among in
     let there : IsAmong (term_places a) (map term_places (out-Term t).args) = in_map term_places (out-Term t).args a (subst (λ z. IsAmong z (out-Term t).args) at.2 at.1) in
     subst (IsAmong p) (sym (places_out t)) (inr (in_flat (λ (ps : List Place). ps) (map term_places (out-Term t).args) (term_places a) p there (in_term s p a h)))
-
--- two first faults stand at one byte, and have one code
-pub both_first : (c d : Code) (p q : Place) → IsNoLater c p d q → IsNoLater d q c p → (p.from ≡ q.from) × (code_number c ≡ code_number d)
-both_first c d p q (inl a) (inl e) = absurd (omega (arith, a, e))
-both_first c d p q (inl a) (inr e) = let x = e.0 in absurd (omega (arith, a, x))
-both_first c d p q (inr a) (inl e) = let x = a.0 in absurd (omega (arith, e, x))
-both_first c d p q (inr a) (inr e) = (a.0, let x = a.1 in let y = e.1 in omega (arith, x, y))
 
 module _ (s : Source) where
   abbrev in_nets : List Place
@@ -117,36 +111,10 @@ module _ (s : Source) where
       let r = any_among (OfAHead (λ (h : Head). AnyByRecursion (HasPart (IsUnknownHead s p)) h.terms)) s.rules h in
       head_at r.0 (λ (h : Head). AnyByRecursion (HasPart (IsUnknownHead s p)) h.terms) p r.1 (λ h k. let t = any_among (HasPart (IsUnknownHead s p)) h.terms k in inr (in_flat term_places h.terms t.0 p t.1 (in_term s p t.0 t.2))) r.2
 
-  abbrev IsTabled : Code → Type 0
-  IsTabled c = (c ≡ E04) ⊎ ((c ≡ E05) ⊎ (c ≡ E06))
-
-  table_fault : (c : Code) (p : Place) → IsFaultAt s c p → IsTabled c × IsAmong p (source_places s)
-  table_fault E01 p h = absurd h
-  table_fault E02 p h = absurd h
-  table_fault E03 p h = absurd h
-  table_fault E04 p h = (inl refl, twice p h)
-  table_fault E05 p h = (inr (inl refl), untyped p h)
-  table_fault E06 p h = (inr (inr refl), headless p h)
-  table_fault E07 p h = absurd h
-  table_fault E08 p h = absurd h
-  table_fault E09 p h = absurd h
-  table_fault E10 p h = absurd h
-  table_fault E11 p h = absurd h
-  table_fault E12 p h = absurd h
-  table_fault E13 p h = absurd h
-  table_fault E14 p h = absurd h
-  table_fault E15 p h = absurd h
-
-  code_is : (c d : Code) → IsTabled c → IsTabled d → code_number c ≡ code_number d → c ≡ d
-  code_is c d (inl a) (inl e) n = a ∙ sym e
-  code_is c d (inl a) (inr (inl e)) n = let x = ap code_number a in let y = ap code_number e in absurd (omega (arith, x, y, n))
-  code_is c d (inl a) (inr (inr e)) n = let x = ap code_number a in let y = ap code_number e in absurd (omega (arith, x, y, n))
-  code_is c d (inr (inl a)) (inl e) n = let x = ap code_number a in let y = ap code_number e in absurd (omega (arith, x, y, n))
-  code_is c d (inr (inl a)) (inr (inl e)) n = a ∙ sym e
-  code_is c d (inr (inl a)) (inr (inr e)) n = let x = ap code_number a in let y = ap code_number e in absurd (omega (arith, x, y, n))
-  code_is c d (inr (inr a)) (inl e) n = let x = ap code_number a in let y = ap code_number e in absurd (omega (arith, x, y, n))
-  code_is c d (inr (inr a)) (inr (inl e)) n = let x = ap code_number a in let y = ap code_number e in absurd (omega (arith, x, y, n))
-  code_is c d (inr (inr a)) (inr (inr e)) n = a ∙ sym e
+  table_fault : (c : Code) (p : Place) → IsFaultAt s c p → IsOneOf E04 E05 E06 c × IsAmong p (source_places s)
+  table_fault _ _ (declared_twice p h) = (inl refl, twice p h)
+  table_fault _ _ (unknown_type p h) = (inr (inl refl), untyped p h)
+  table_fault _ _ (unknown_symbol p h) = (inr (inr refl), headless p h)
 
   pub one_tables : BeginApart (source_places s) → IsOne (Tabulates s)
   one_tables apart (Ok t) (Ok u) h k = h.0.tables ∙ sym k.0.tables
@@ -157,6 +125,6 @@ module _ (s : Source) where
       let a = table_fault q.code q.place h.0.stands in
       let e = table_fault r.code r.place k.0.stands in
       let both = both_first q.code r.code q.place r.place (h.0.first r.code r.place k.0.stands) (k.0.first q.code q.place h.0.stands) in
-      same_refusal q r (code_is q.code r.code a.0 e.0 both.1) (apart q.place r.place a.1 e.1 both.0) (h.1 ∙ sym k.1)
+      same_refusal q r (code_is E04 E05 E06 (omega arith) (omega arith) q.code r.code a.0 e.0 both.1) (apart q.place r.place a.1 e.1 both.0) (h.1 ∙ sym k.1)
   one_tables apart (Err (Refused q)) (Err (Memory e)) h k = tt
   one_tables apart (Err (Memory e)) b h k = tt

@@ -9,10 +9,11 @@ use Rattle.in_syntax.specs.declared.tree.Term.{Term, out-Term}
 use Rattle.in_base.specs.Lists.{AnyByRecursion}
 use Rattle.in_symbols.specs.Faults.{IsSymbolName, HasPart, itself, argument, IsUnknownHead}
 use Rattle.in_symbols.specs.Names.{number_in}
-use Rattle.in_symbols.specs.Searching.{earlier, earliest, is_empty, unknown_here, unknown_in_term, unknown_in_equation, unknown_in_equations}
+use Rattle.in_syntax.specs.Refusals.{earlier, earliest}
+use Rattle.in_symbols.specs.Searching.{is_empty, unknown_here, unknown_in_term, unknown_in_equation, unknown_in_equations}
 use Rattle.in_symbols.specs.Tables.{is_none, all_true, heads_known, HeadsKnown}
 use Rattle.in_symbols.proofs.Heads.{heads_out, unknown_out}
-use Rattle.in_symbols.proofs.Least.{IsLeast, least_same, least_earlier, least_of_all, earlier_none, earliest_none}
+use Rattle.in_syntax.proofs.Least.{IsLeast, least_same, least_earlier, least_of_all, earlier_none, earliest_none}
 use Rattle.in_symbols.proofs.Named.{IsIn, has_number, no_number}
 use Rattle.in_base.proofs.Each.{any_of}
 use Rattle.std.proofs.lemmas.Bool.{and_from}

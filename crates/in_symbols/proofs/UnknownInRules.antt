@@ -8,9 +8,10 @@ use Rattle.in_syntax.specs.declared.tree.SourceRule.{SourceRule}
 use Rattle.in_base.specs.Lists.{AnyByRecursion}
 use Rattle.in_symbols.specs.Faults.{IsSymbolName, HasPart, IsUnknownHead, OfAHead, IsUnknownHeadAt, in_equation, of_head, in_head}
 use Rattle.in_symbols.specs.Names.{number_in}
-use Rattle.in_symbols.specs.Searching.{earlier, unknown_name, unknown_in_term, unknown_in_equations, unknown_in_head, unknown_in_rule, unknown_in_rules}
+use Rattle.in_syntax.specs.Refusals.{earlier}
+use Rattle.in_symbols.specs.Searching.{unknown_name, unknown_in_term, unknown_in_equations, unknown_in_head, unknown_in_rule, unknown_in_rules}
 use Rattle.in_symbols.specs.Tables.{heads_known, IsHeadKnown, IsRuleKnown}
-use Rattle.in_symbols.proofs.Least.{IsLeast, least_same, least_earlier, least_earliest, least_of_all, earlier_none, earliest_none}
+use Rattle.in_syntax.proofs.Least.{IsLeast, least_same, least_earlier, least_earliest, least_of_all, earlier_none, earliest_none}
 use Rattle.in_symbols.proofs.Named.{has_number, no_number}
 use Rattle.in_symbols.proofs.Unknown.{AreSymbols, IsUnknownInNet, term_least, equations_least, term_known}
 use Rattle.in_base.proofs.Each.{any_of, any_either}

@@ -9,9 +9,10 @@ use Rattle.in_syntax.specs.declared.tree.SourceSymbol.{SourceSymbol}
 use Rattle.in_base.specs.Lists.{AnyByRecursion}
 use Rattle.in_symbols.specs.Faults.{IsTypeName, IsUntypedAt, IsUnknownTypeAt, of_principal, of_auxiliary, of_free}
 use Rattle.in_symbols.specs.Names.{number_in}
-use Rattle.in_symbols.specs.Searching.{earlier, untyped, untyped_in_class, untyped_in_symbol, untyped_in_symbols, untyped_in_free}
+use Rattle.in_syntax.specs.Refusals.{earlier}
+use Rattle.in_symbols.specs.Searching.{untyped, untyped_in_class, untyped_in_symbol, untyped_in_symbols, untyped_in_free}
 use Rattle.in_symbols.specs.Tables.{Knows, KnowsAll, FreeKnown}
-use Rattle.in_symbols.proofs.Least.{IsLeast, least_same, least_earlier, least_earliest, least_of_all, earliest_none}
+use Rattle.in_syntax.proofs.Least.{IsLeast, least_same, least_earlier, least_earliest, least_of_all, earliest_none}
 use Rattle.in_symbols.proofs.Named.{IsIn, has_number, no_number}
 use Rattle.in_base.proofs.Each.{any_of, any_either}
 

@@ -1,10 +1,11 @@
 -- Faults of names: what is wrong with the types, symbols and free names of a program, and which of its faults is the first one.
 -- Lafont 1990 declares the type and sign of each port of a symbol, and lets an agent be of a declared symbol. That types and
 -- symbols are two spaces of names, the codes, and where a fault stands are this project's own choice.
-use Rattle.std.specs.Prelude.{◌≡◌, ◌⊎◌, ℕ, ◌<◌, ◌≤◌, List, [], ◌∷◌, map}
+use Rattle.std.specs.Prelude.{◌≡◌, ◌⊎◌, ℕ, List, [], ◌∷◌, map}
 use Rattle.in_base.specs.Lists.{AnyByRecursion, IsAmong}
 use Rattle.in_syntax.specs.declared.faults.Code.{Code}
-use Rattle.in_syntax.specs.declared.faults.Code.TheVariants.{E01, E02, E03, E04, E05, E06, E07, E08, E09, E10, E11, E12, E13, E14, E15}
+use Rattle.in_syntax.specs.declared.faults.Code.TheVariants.{E04, E05, E06}
+use Rattle.in_syntax.specs.Refusals.{IsFirstOf, HasNone}
 use Rattle.in_syntax.specs.declared.places.Place.{Place}
 use Rattle.in_syntax.specs.declared.tree.Head.{Head}
 use Rattle.in_syntax.specs.declared.tree.Name.{Name}
@@ -71,48 +72,14 @@ pub data IsUnknownHeadAt (s : Source) (p : Place) : Type 0 where
 -- ---- the first fault
 
 -- a fault of this code stands at the place
-abbrev pub IsFaultAt : Source → Code → Place → Type 0
-IsFaultAt s E01 p = ⊥
-IsFaultAt s E02 p = ⊥
-IsFaultAt s E03 p = ⊥
-IsFaultAt s E04 p = IsDeclaredTwiceAt s p
-IsFaultAt s E05 p = IsUnknownTypeAt s p
-IsFaultAt s E06 p = IsUnknownHeadAt s p
-IsFaultAt s E07 p = ⊥
-IsFaultAt s E08 p = ⊥
-IsFaultAt s E09 p = ⊥
-IsFaultAt s E10 p = ⊥
-IsFaultAt s E11 p = ⊥
-IsFaultAt s E12 p = ⊥
-IsFaultAt s E13 p = ⊥
-IsFaultAt s E14 p = ⊥
-IsFaultAt s E15 p = ⊥
+pub data IsFaultAt (s : Source) : Code → Place → Type 0 where
+  declared_twice : (p : Place) → IsDeclaredTwiceAt s p → IsFaultAt s E04 p
+  unknown_type : (p : Place) → IsUnknownTypeAt s p → IsFaultAt s E05 p
+  unknown_symbol : (p : Place) → IsUnknownHeadAt s p → IsFaultAt s E06 p
 
-abbrev pub code_number : Code → ℕ
-code_number E01 = 1
-code_number E02 = 2
-code_number E03 = 3
-code_number E04 = 4
-code_number E05 = 5
-code_number E06 = 6
-code_number E07 = 7
-code_number E08 = 8
-code_number E09 = 9
-code_number E10 = 10
-code_number E11 = 11
-code_number E12 = 12
-code_number E13 = 13
-code_number E14 = 14
-code_number E15 = 15
-
--- the first place is before the second one, or is there with no higher code
-abbrev pub IsNoLater : Code → Place → Code → Place → Type 0
-IsNoLater c p d q = (p.from < q.from) ⊎ ((p.from ≡ q.from) × (code_number c ≤ code_number d))
-
--- of the faults, none stands earlier; of two at one place the lower code counts
-pub record IsFirstFault (s : Source) (c : Code) (p : Place) : Type 0 where
-  pub stands : IsFaultAt s c p
-  pub first : (d : Code) (q : Place) → IsFaultAt s d q → IsNoLater c p d q
+-- none of them stands earlier; of two at one place the lower code counts
+abbrev pub IsFirstFault : Source → Code → Place → Type 0
+IsFirstFault s = IsFirstOf (IsFaultAt s)
 
 abbrev pub IsFaultless : Source → Type 0
-IsFaultless s = (c : Code) (p : Place) → IsFaultAt s c p → ⊥
+IsFaultless s = HasNone (IsFaultAt s)

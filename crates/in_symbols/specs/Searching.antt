@@ -1,6 +1,5 @@
 -- How the code searches for the first fault: what it has found after each name, port and term.
-use Rattle.std.specs.Prelude.{ℕ, Bool, true, false, List, [], ◌∷◌, ◌++◌, map, Option, Some, None, is_some, if◌then◌else◌, nat_lt, option_map}
-use Rattle.in_syntax.specs.declared.faults.Code.{Code}
+use Rattle.std.specs.Prelude.{ℕ, Bool, true, false, List, [], ◌∷◌, ◌++◌, map, Option, Some, None, is_some, if◌then◌else◌}
 use Rattle.in_syntax.specs.declared.faults.Code.TheVariants.{E04, E05, E06}
 use Rattle.in_syntax.specs.declared.faults.Refusal.{Refusal}
 use Rattle.in_syntax.specs.declared.places.Place.{Place}
@@ -15,18 +14,8 @@ use Rattle.in_syntax.specs.declared.tree.SourceSymbol.{SourceSymbol}
 use Rattle.in_syntax.specs.declared.tree.Term.{Term}
 use Rattle.in_syntax.specs.declared.tree.Term.TheFolds.{fold-Term}
 use Rattle.in_symbols.specs.declared.declaring.Declared.{Declared}
+use Rattle.in_syntax.specs.Refusals.{earlier, earliest, refused, earlier_refusal}
 use Rattle.in_symbols.specs.Names.{number_in, has_name}
-
--- the earlier of two places; the first, where both begin at one byte
-abbrev pub earlier : Option Place → Option Place → Option Place
-earlier None q = q
-earlier (Some p) None = Some p
-earlier (Some p) (Some q) = if nat_lt q.from p.from then Some q else Some p
-
--- the earliest of some places, where one is found already
-abbrev pub earliest : Option Place → List (Option Place) → Option Place
-earliest found [] = found
-earliest found (p ∷ ps) = earliest (earlier found p) ps
 
 -- ---- declared twice
 
@@ -100,16 +89,6 @@ abbrev pub unknown_in_rules : List (List ℕ) → List SourceRule → Option Pla
 unknown_in_rules names rs = earliest None (map (unknown_in_rule names) rs)
 
 -- ---- the first fault
-
--- the refusal of this code at the place, if there is one
-abbrev pub refused : Code → Option Place → Option Refusal
-refused c = option_map (λ p. record { code = c; place = p; other = None })
-
--- the refusal at the earlier place; the first, where both begin at one byte
-abbrev pub earlier_refusal : Option Refusal → Option Refusal → Option Refusal
-earlier_refusal None s = s
-earlier_refusal (Some r) None = Some r
-earlier_refusal (Some r) (Some s) = if nat_lt s.place.from r.place.from then Some s else Some r
 
 -- the first fault, where these types and symbols were declared
 abbrev pub first_fault : Source → Declared → Declared → Option Refusal

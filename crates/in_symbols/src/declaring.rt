@@ -2,7 +2,6 @@ ghost use Rattle.std.specs.Prelude.{◌≡◌, map, IfOk};
 ghost use Rattle.in_symbols.specs.Searching.{undeclared, declares, declares_all, declares_all_free, repeats};
 
 use crate::names::Names;
-use crate::searching::earlier;
 use in_syntax::{Name, Place, Source};
 use std::alloc::{AllocError, Global};
 
@@ -27,7 +26,7 @@ impl Declared {
     fn refuse(&mut self, name: &Name)
         ensures { self.new ≡ repeats self.old name.now }
     {
-        self.repeat = earlier(self.repeat, Some(name.place));
+        self.repeat = Place::earlier(self.repeat, Some(name.place));
     }
 
     fn declare(&mut self, alloc: Global, name: &Name) -> Result<(), AllocError>

@@ -9,5 +9,4 @@ mod symbols;
 mod tables;
 
 pub use names::Names;
-pub use searching::{earlier, earlier_refusal, refused};
 pub use symbols::{PortType, SymbolNo, Symbols};

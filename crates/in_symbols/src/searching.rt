@@ -1,6 +1,7 @@
 ghost use Rattle.std.specs.Prelude.{◌≡◌, IfOk};
 ghost use Rattle.in_syntax.specs.declared.tree.Term.{out-Term};
-ghost use Rattle.in_symbols.specs.Searching.{earlier, earlier_refusal, refused, untyped, untyped_in_class, untyped_in_symbol, untyped_in_symbols, untyped_in_free, unknown_name, unknown_here, unknown_in_term, unknown_in_equations, unknown_in_head, unknown_in_rule, unknown_in_rules, first_fault, is_empty};
+ghost use Rattle.in_syntax.specs.Refusals.{earlier, earlier_refusal, refused};
+ghost use Rattle.in_symbols.specs.Searching.{untyped, untyped_in_class, untyped_in_symbol, untyped_in_symbols, untyped_in_free, unknown_name, unknown_here, unknown_in_term, unknown_in_equations, unknown_in_head, unknown_in_rule, unknown_in_rules, first_fault, is_empty};
 
 use crate::declaring::{Declared, free_names_of};
 use crate::names::Names;
@@ -8,17 +9,6 @@ use in_syntax::{
     Code, Equation, Head, Name, Place, Refusal, Source, SourcePort, SourceRule, SourceSymbol, Term,
 };
 use std::alloc::{AllocError, Global};
-
-/// The earlier of two places; the first, where both begin at one byte.
-pub fn earlier(first: Option<Place>, second: Option<Place>) -> Option<Place>
-    ensures { result ≡ earlier first second }
-{
-    match (first, second) {
-        (Some(p), Some(q)) => Some(if q.from < p.from { q } else { p }),
-        (Some(p), None) => Some(p),
-        (None, found) => found,
-    }
-}
 
 /// Where the port's type stands, if it isn't declared.
 fn untyped(types: &Names, port: &SourcePort) -> Option<Place>
@@ -36,7 +26,7 @@ fn untyped_in_class(types: &Names, ports: &[SourcePort]) -> Option<Place>
 {
     let mut found = None;
     for port in ports {
-        found = earlier(found, untyped(types, port));
+        found = Place::earlier(found, untyped(types, port));
     }
     found
 }
@@ -46,7 +36,7 @@ fn untyped_in_symbol(types: &Names, symbol: &SourceSymbol) -> Option<Place>
 {
     let mut found = untyped(types, &symbol.port);
     for class in symbol.classes.as_slice() {
-        found = earlier(found, untyped_in_class(types, class.as_slice()));
+        found = Place::earlier(found, untyped_in_class(types, class.as_slice()));
     }
     found
 }
@@ -56,7 +46,7 @@ fn untyped_in_symbols(types: &Names, source: &Source) -> Option<Place>
 {
     let mut found = None;
     for symbol in source.symbols.as_slice() {
-        found = earlier(found, untyped_in_symbol(types, symbol));
+        found = Place::earlier(found, untyped_in_symbol(types, symbol));
     }
     found
 }
@@ -66,7 +56,7 @@ fn untyped_in_free(types: &Names, source: &Source) -> Option<Place>
 {
     let mut found = None;
     for free in source.net.free.as_slice() {
-        found = earlier(found, untyped(types, &free.port));
+        found = Place::earlier(found, untyped(types, &free.port));
     }
     found
 }
@@ -99,7 +89,7 @@ fn unknown_in_term(symbols: &Names, term: &Term) -> Option<Place>
 {
     let mut found = unknown_here(symbols, term);
     for argument in term.args.as_slice() {
-        found = earlier(found, unknown_in_term(symbols, argument));
+        found = Place::earlier(found, unknown_in_term(symbols, argument));
     }
     found
 }
@@ -110,11 +100,11 @@ fn unknown_in_equations(symbols: &Names, source: &Source) -> Option<Place>
     let mut found = None;
     for equation in source.net.equations.as_slice() {
         let Equation { left, right, .. } = equation;
-        let place = earlier(
+        let place = Place::earlier(
             unknown_in_term(symbols, left),
             unknown_in_term(symbols, right),
         );
-        found = earlier(found, place);
+        found = Place::earlier(found, place);
     }
     found
 }
@@ -125,7 +115,7 @@ fn unknown_in_head(symbols: &Names, head: &Head) -> Option<Place>
 {
     let mut found = unknown_name(symbols, &head.name);
     for term in head.terms.as_slice() {
-        found = earlier(found, unknown_in_term(symbols, term));
+        found = Place::earlier(found, unknown_in_term(symbols, term));
     }
     found
 }
@@ -133,7 +123,7 @@ fn unknown_in_head(symbols: &Names, head: &Head) -> Option<Place>
 fn unknown_in_rule(symbols: &Names, rule: &SourceRule) -> Option<Place>
     ensures { result ≡ unknown_in_rule symbols.now rule.now }
 {
-    earlier(
+    Place::earlier(
         unknown_in_head(symbols, &rule.first),
         unknown_in_head(symbols, &rule.second),
     )
@@ -144,34 +134,9 @@ fn unknown_in_rules(symbols: &Names, source: &Source) -> Option<Place>
 {
     let mut found = None;
     for rule in source.rules.as_slice() {
-        found = earlier(found, unknown_in_rule(symbols, rule));
+        found = Place::earlier(found, unknown_in_rule(symbols, rule));
     }
     found
-}
-
-/// The refusal of this code at the place, if there is one.
-pub fn refused(code: Code, place: Option<Place>) -> Option<Refusal>
-    ensures { result ≡ refused code place }
-{
-    match place {
-        Some(place) => Some(Refusal {
-            code,
-            place,
-            other: None,
-        }),
-        None => None,
-    }
-}
-
-/// The refusal at the earlier place; the first, where both begin at one byte.
-pub fn earlier_refusal(first: Option<Refusal>, second: Option<Refusal>) -> Option<Refusal>
-    ensures { result ≡ earlier_refusal first second }
-{
-    match (first, second) {
-        (Some(r), Some(s)) => Some(if s.place.from < r.place.from { s } else { r }),
-        (Some(r), None) => Some(r),
-        (None, found) => found,
-    }
 }
 
 /// The first fault of the names in the order of the text. At one place the lower code comes first.
@@ -184,15 +149,18 @@ pub(crate) fn first_fault(
     ensures { IfOk result (λ fault. fault ≡ first_fault source.now types.now symbols.now) }
 {
     let free = free_names_of(alloc, source, &symbols.names)?;
-    let twice = earlier(earlier(types.repeat, symbols.repeat), free.repeat);
-    let untyped = earlier(
+    let twice = Place::earlier(Place::earlier(types.repeat, symbols.repeat), free.repeat);
+    let untyped = Place::earlier(
         untyped_in_symbols(&types.names, source),
         untyped_in_free(&types.names, source),
     );
-    let unknown = earlier(
+    let unknown = Place::earlier(
         unknown_in_rules(&symbols.names, source),
         unknown_in_equations(&symbols.names, source),
     );
-    let fault = earlier_refusal(refused(Code::E04, twice), refused(Code::E05, untyped));
-    Ok(earlier_refusal(fault, refused(Code::E06, unknown)))
+    let fault = Refusal::earlier(
+        Refusal::found(Code::E04, twice),
+        Refusal::found(Code::E05, untyped),
+    );
+    Ok(Refusal::earlier(fault, Refusal::found(Code::E06, unknown)))
 }

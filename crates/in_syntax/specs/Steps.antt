@@ -1,5 +1,6 @@
 -- How a program is read from the left, one sign at a time: what the code does. No public contract speaks of it.
 use Rattle.std.specs.Prelude.{◌≡◌, ℕ, ◌+◌, ◌≤◌, Bool, true, false, nat_lt, List, [], ◌∷◌, ◌++◌, length, drop, Option, Some, None, Result, Ok, Err}
+use Rattle.in_syntax.specs.Refusals.{refusal_of}
 use Rattle.in_syntax.specs.declared.places.Place.{Place}
 use Rattle.in_syntax.specs.declared.faults.Code.{Code}
 use Rattle.in_syntax.specs.declared.faults.Code.TheVariants.{E02, E03}
@@ -273,7 +274,7 @@ run r (x ∷ s) = elim (move_of (step (counts_of r) r.state x)) as (λ m. Answer
 ]
 
 abbrev pub fault_at : Code → Place → Fault
-fault_at c place = Refused (record { code = c; place = place; other = None })
+fault_at c place = Refused (refusal_of c place)
 
 -- what one sign, that of a token at a place, makes of a reader
 abbrev pub Takes : Reader → Sign → Place → Result Reader Fault → Type 0

@@ -4,6 +4,7 @@ use Rattle.std.specs.Prelude.{◌≡◌, ℕ, ◌<◌, ◌≤◌, Bool, false, �
 use Rattle.std.specs.List.{list_all}
 use Rattle.std.specs.Str.{chars, IsUtf8, bytes_eq}
 use Rattle.std.specs.Str.Lossy.{utf8_valid_len}
+use Rattle.in_syntax.specs.Refusals.{refusal_of}
 use Rattle.in_syntax.specs.declared.characters.Spot.{Spot}
 use Rattle.in_syntax.specs.declared.words.Token.{Token}
 use Rattle.in_syntax.specs.declared.words.TokenKind.{TokenKind}
@@ -99,7 +100,7 @@ well_formed text = take (utf8_valid_len text) text
 
 -- a refusal with the empty place at a spot
 abbrev pub refusal_at : Code → Spot → Refusal
-refusal_at code at = record { code = code; place = place_at at; other = None }
+refusal_at code at = refusal_of code (place_at at)
 
 -- the first fault of a text's tokens
 pub data IsTokenFault : List ℕ → Refusal → Type 0 where

@@ -1,4 +1,5 @@
 ghost use Rattle.std.specs.Prelude.{◌≡◌};
+ghost use Rattle.in_syntax.specs.Refusals.{refusal_of, refused, earlier_refusal};
 
 use crate::places::Place;
 use std::alloc::AllocError;
@@ -45,6 +46,40 @@ pub struct Refusal {
     pub place: Place,
     /// The earlier declared symbol of a pair without a rule; nothing for all other codes.
     pub other: Option<Place>,
+}
+
+impl Refusal {
+    /// The refusal of this code at the place, without another place.
+    pub fn at(code: Code, place: Place) -> Refusal
+        ensures { result ≡ refusal_of code place }
+    {
+        Refusal {
+            code,
+            place,
+            other: None,
+        }
+    }
+
+    /// The refusal of this code at the place, if there is one.
+    pub fn found(code: Code, place: Option<Place>) -> Option<Refusal>
+        ensures { result ≡ refused code place }
+    {
+        match place {
+            Some(place) => Some(Refusal::at(code, place)),
+            None => None,
+        }
+    }
+
+    /// The refusal at the earlier place; the first, where both begin at one byte.
+    pub fn earlier(first: Option<Refusal>, second: Option<Refusal>) -> Option<Refusal>
+        ensures { result ≡ earlier_refusal first second }
+    {
+        match (first, second) {
+            (Some(r), Some(s)) => Some(if s.place.from < r.place.from { s } else { r }),
+            (Some(r), None) => Some(r),
+            (None, found) => found,
+        }
+    }
 }
 
 /// A refusal, or want of memory.

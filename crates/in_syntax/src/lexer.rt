@@ -165,11 +165,7 @@ fn next(spot: Spot, text: &str) -> Move<'_>
 fn refused(code: Code, spot: Spot) -> Fault
     ensures { result ≡ Fault.Refused (refusal_at code spot) }
 {
-    Fault::Refused(Refusal {
-        code,
-        place: spot.place_to(spot),
-        other: None,
-    })
+    Fault::Refused(Refusal::at(code, spot.place_to(spot)))
 }
 
 fn keep(tokens: &mut Vec<Token>, token: Option<Token>) -> Result<(), AllocError>

@@ -1,3 +1,6 @@
+ghost use Rattle.std.specs.Prelude.{◌≡◌};
+ghost use Rattle.in_syntax.specs.Refusals.{earlier};
+
 /// Where something stands in a text.
 ///
 /// `from` and `to` are offsets in bytes, the first byte and the one after the last; where they are equal, the place is
@@ -9,4 +12,17 @@ pub struct Place {
     pub to: usize,
     pub line: u32,
     pub col: u32,
+}
+
+impl Place {
+    /// The earlier of two places; the first, where both begin at one byte.
+    pub fn earlier(first: Option<Place>, second: Option<Place>) -> Option<Place>
+        ensures { result ≡ earlier first second }
+    {
+        match (first, second) {
+            (Some(p), Some(q)) => Some(if q.from < p.from { q } else { p }),
+            (Some(p), None) => Some(p),
+            (None, found) => found,
+        }
+    }
 }

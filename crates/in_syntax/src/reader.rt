@@ -137,9 +137,5 @@ fn put_away(_state: State) {}
 fn refused(code: Code, place: Place) -> Fault
     ensures { result ≡ steps.fault_at code place }
 {
-    Fault::Refused(Refusal {
-        code,
-        place,
-        other: None,
-    })
+    Fault::Refused(Refusal::at(code, place))
 }

@@ -55,11 +55,7 @@ pub fn type_net(symbols: &Symbols, net: &Net) -> Result<(), Refusal>
     for number in 0..net.wires() {
         let (one, other) = net.wire(number);
         if !fits(symbols, net, one, other) {
-            return Err(Refusal {
-                code: Code::E10,
-                place: net.wire_place(number),
-                other: None,
-            });
+            return Err(Refusal::at(Code::E10, net.wire_place(number)));
         }
     }
     Ok(())
@@ -77,11 +73,7 @@ pub fn type_rule(symbols: &Symbols, rule: &Rule) -> Result<(), Refusal>
 {
     let (first, second) = rule.heads();
     if !symbols.matching(first, second) {
-        return Err(Refusal {
-            code: Code::E11,
-            place: rule.head_place(1),
-            other: None,
-        });
+        return Err(Refusal::at(Code::E11, rule.head_place(1)));
     }
     type_net(symbols, rule.member())
 }

@@ -1,5 +1,5 @@
 use Rattle.std.proofs.Common.{◌≡◌, drop, map}
-use Rattle.in_symbols.specs.Searching.{earliest}
+use Rattle.in_syntax.specs.Refusals.{earliest}
 use Rattle.in_net.specs.Searching.{misfit_in_equation, misfit_in_equations}
 use Rattle.in_net.proofs.faults.misfit_in_net.Given as goal
 

@@ -1,5 +1,6 @@
 use Rattle.std.proofs.Common.{◌≡◌, drop, map}
-use Rattle.in_symbols.specs.Searching.{earliest, unknown_in_term}
+use Rattle.in_syntax.specs.Refusals.{earliest}
+use Rattle.in_symbols.specs.Searching.{unknown_in_term}
 use Rattle.in_symbols.proofs.searching.+unknown_in_term.Given as goal
 
 abbrev pub decreases-unknown_in_term : goal.decreases-unknown_in_term

@@ -1,5 +1,6 @@
 use Rattle.std.proofs.Common.{◌≡◌, drop, map}
-use Rattle.in_symbols.specs.Searching.{earliest, unknown_in_equation, unknown_in_equations}
+use Rattle.in_syntax.specs.Refusals.{earliest}
+use Rattle.in_symbols.specs.Searching.{unknown_in_equation, unknown_in_equations}
 use Rattle.in_symbols.proofs.searching.unknown_in_equations.Given as goal
 
 abbrev pub invariant-loop-equation : goal.invariant-loop-equation

@@ -1,5 +1,6 @@
 use Rattle.std.proofs.Common.{◌≡◌, drop, map}
-use Rattle.in_symbols.specs.Searching.{earliest, unknown_in_term, unknown_in_head}
+use Rattle.in_syntax.specs.Refusals.{earliest}
+use Rattle.in_symbols.specs.Searching.{unknown_in_term, unknown_in_head}
 use Rattle.in_symbols.proofs.searching.unknown_in_head.Given as goal
 
 abbrev pub invariant-loop-term : goal.invariant-loop-term

@@ -1,5 +1,6 @@
 use Rattle.std.proofs.Common.{◌≡◌, drop, map}
-use Rattle.in_symbols.specs.Searching.{earliest, unknown_in_rule, unknown_in_rules}
+use Rattle.in_syntax.specs.Refusals.{earliest}
+use Rattle.in_symbols.specs.Searching.{unknown_in_rule, unknown_in_rules}
 use Rattle.in_symbols.proofs.searching.unknown_in_rules.Given as goal
 
 abbrev pub invariant-loop-rule : goal.invariant-loop-rule

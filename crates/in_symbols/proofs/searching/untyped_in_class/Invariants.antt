@@ -1,5 +1,6 @@
 use Rattle.std.proofs.Common.{◌≡◌, drop, map}
-use Rattle.in_symbols.specs.Searching.{earliest, untyped, untyped_in_class}
+use Rattle.in_syntax.specs.Refusals.{earliest}
+use Rattle.in_symbols.specs.Searching.{untyped, untyped_in_class}
 use Rattle.in_symbols.proofs.searching.untyped_in_class.Given as goal
 
 abbrev pub invariant-loop-port : goal.invariant-loop-port

@@ -1,5 +1,6 @@
 use Rattle.std.proofs.Common.{◌≡◌, drop, map}
-use Rattle.in_symbols.specs.Searching.{earliest, untyped, untyped_in_free}
+use Rattle.in_syntax.specs.Refusals.{earliest}
+use Rattle.in_symbols.specs.Searching.{untyped, untyped_in_free}
 use Rattle.in_symbols.proofs.searching.untyped_in_free.Given as goal
 
 abbrev pub invariant-loop-free : goal.invariant-loop-free

@@ -3,7 +3,7 @@ use Rattle.std.proofs.Common.{◌≡◌, ◌⊎◌, ℕ, ◌≤◌, Bool, true, 
 use Rattle.std.specs.List.{AllByRecursion}
 use Rattle.in_syntax.specs.declared.places.Place.{Place}
 use Rattle.in_base.specs.Lists.{AnyByRecursion}
-use Rattle.in_symbols.specs.Searching.{earlier, earliest}
+use Rattle.in_syntax.specs.Refusals.{earlier, earliest}
 
 -- one of the earliest places at which it stands; none where it stands nowhere
 abbrev pub IsLeast : (Place → Type 0) → Option Place → Type 0
