@@ -2,6 +2,7 @@
 use Rattle.std.proofs.Common.{◌≡◌, ◌≢◌, ◌⊎◌, ℕ, List, [], ◌∷◌, ◌++◌, refl, sym, subst, ap, inl, inr, ◌∙◌}
 use mathlib.Core.HLevel.{Discrete}
 use Rattle.std.specs.List.{AllByRecursion}
+use Rattle.in_net.proofs.Links.{all_along}
 use Rattle.in_net.specs.Graphs.{Graph, Passage, entered, left, Leads, IsCrossing, AreApart, CrossingCircle}
 
 -- wires through these nodes in turn, each entered by a port of E and left by a port of L
@@ -47,10 +48,6 @@ pub apart_before : {V : Type 0} (xs ys : List (Passage V)) → AreApart (xs ++ y
 apart_before [] ys h = tt
 apart_before (x ∷ xs) ys h = (all_before (λ q. x.node ≢ q.node) xs ys h.0, apart_before xs ys h.1)
 
-pub all_map : {X : Type 0} (P Q : X → Type 0) → ((x : X) → P x → Q x) → (xs : List X) → AllByRecursion P xs → AllByRecursion Q xs
-all_map P Q f [] h = tt
-all_map P Q f (x ∷ xs) h = (f x h.0, all_map P Q f xs h.1)
-
 -- it holds of an element
 abbrev pub AnyOf : {X : Type 0} → (X → Type 0) → List X → Type 0
 AnyOf P [] = ⊥
@@ -59,7 +56,7 @@ AnyOf P (x ∷ xs) = P x ⊎ AnyOf P xs
 -- what holds of two elements that are one holds of each element and some one
 pub each_any : {X : Type 0} (P : X → X → Type 0) → ((x : X) → P x x) → (xs : List X) → AllByRecursion (λ x. AnyOf (P x) xs) xs
 each_any P r [] = tt
-each_any P r (x ∷ xs) = (inl (r x), all_map (λ y. AnyOf (P y) xs) (λ y. AnyOf (P y) (x ∷ xs)) (λ y h. inr h) xs (each_any P r xs))
+each_any P r (x ∷ xs) = (inl (r x), all_along (λ y. AnyOf (P y) xs) (λ y. AnyOf (P y) (x ∷ xs)) (λ y h. inr h) xs (each_any P r xs))
 
 -- a port by which some passage enters, or leaves
 abbrev pub IsEntered : {V : Type 0} → List (Passage V) → V × ℕ → Type 0

@@ -5,6 +5,7 @@ use Rattle.in_syntax.specs.declared.tree.SourceFree.{SourceFree}
 use Rattle.in_syntax.specs.declared.tree.SourceNet.{SourceNet}
 use Rattle.in_symbols.specs.declared.symbols.SymbolNo.{SymbolNo}
 use Rattle.in_symbols.specs.Tables.{Tables, arity_of}
+use Rattle.in_net.proofs.SameNet.{at_index}
 use Rattle.in_net.specs.declared.nets.Cell.{Cell}
 use Rattle.in_net.specs.declared.nets.FreeEnd.{FreeEnd}
 use Rattle.in_net.specs.declared.nets.Point as coded
@@ -132,11 +133,6 @@ cell_over t (None ∷ cs) zero c all e = cc
 cell_over t (Some d ∷ cs) zero c all e = let same : d ≡ c = cc in (omega arith, subst (λ c. length c.ends ≡ arity_of t c.symbol.0 + 1) same all.0.1)
 cell_over t (d ∷ cs) (suc x) c all e = let rest = cell_over t cs x c all.1 e in (omega (arith, rest.0), rest.1)
 
-within : {X : Type 0} (xs : List X) (i : ℕ) → i < length xs → (x : X) × (slice_get xs i ≡ Some x)
-within [] i lt = absurd (omega (arith, lt))
-within (x ∷ xs) zero lt = (x, refl)
-within (x ∷ xs) (suc i) lt = within xs i (omega (arith, lt))
-
 module _ (t : Tables) (n : Parts) (whole : IsWhole n) (over : IsOver t n) where
   all_agents : (x : ℕ) → IsSome ((net_of n).symbol x) → IsAmong x (numbers 0 (length n.cells))
   all_agents x h = by_cell (cell_in n x) refl h
@@ -152,10 +148,10 @@ module _ (t : Tables) (n : Parts) (whole : IsWhole n) (over : IsOver t n) where
       by_cell None is h = absurd h
       by_cell (Some c) is h =
           let there = cell_over t n.cells x c over.cells is in
-          let end = within c.ends i (omega (arith, h, there.1)) in
+          let end = at_index c.ends i (omega (arith, h, there.1)) in
           subst (λ o. IsSome (option_map point_of o)) (sym end.1) refl
   joined_point (Free k) h =
-      let end = within n.free k (omega (arith, h, length-map n.free (λ (f : FreeEnd). f.kind))) in
+      let end = at_index n.free k (omega (arith, h, length-map n.free (λ (f : FreeEnd). f.kind))) in
       subst (λ o. IsSome (option_map point_of (option_map (λ (f : FreeEnd). f.end) o))) (sym end.1) refl
 
   point_there : (p : Point ℕ) → IsPointOf n (coded_point p) → IsPoint (signature_of t) (net_of n) p

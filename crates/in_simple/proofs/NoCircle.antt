@@ -4,6 +4,8 @@ use mathlib.Core.HLevel.{Discrete}
 use Rattle.std.specs.List.{AllByRecursion}
 use Rattle.in_net.specs.Graphs.{Graph, Passage, entered, left, Leads, CrossingCircle}
 use Rattle.in_simple.specs.Constructions.{IsIn, AreParts, numbered, IsGraft, Built, empty, given, mix, cut, graft}
+use Rattle.in_net.proofs.Links.{all_along, all_append}
+use Rattle.in_net.proofs.Interactions.Rings.{all_after}
 use Rattle.in_net.proofs.Circuits.{Walk, AreSeparate, Circuit, Found, find, rotate, all_before, IsEntered, IsLeft, crossings_separate, circuit_of}
 
 not_both : (b : Bool) → b ≡ true → b ≡ false → ⊥
@@ -11,18 +13,6 @@ not_both b t f = cc
 
 numbered_in : {V : Type 0} (s : V → Bool) (part : V → ℕ) (c : ℕ) (n : V) → IsIn n s → part n ≡ c → IsIn n (numbered s part c)
 numbered_in s part c n h e = let t : nat_eq (part n) c ≡ true = eq-eqb (part n) c e in rw h t
-
-all_join : {X : Type 0} (P : X → Type 0) (xs ys : List X) → AllByRecursion P xs → AllByRecursion P ys → AllByRecursion P (xs ++ ys)
-all_join P [] ys h k = k
-all_join P (x ∷ xs) ys h k = (h.0, all_join P xs ys h.1 k)
-
-all_after : {X : Type 0} (P : X → Type 0) (xs ys : List X) → AllByRecursion P (xs ++ ys) → AllByRecursion P ys
-all_after P [] ys h = h
-all_after P (x ∷ xs) ys h = all_after P xs ys h.1
-
-all_map : {X : Type 0} (P Q : X → Type 0) → ((x : X) → P x → Q x) → (xs : List X) → AllByRecursion P xs → AllByRecursion Q xs
-all_map P Q f [] h = tt
-all_map P Q f (x ∷ xs) h = (f x h.0, all_map P Q f xs h.1)
 
 all_both : {X : Type 0} (P Q : X → Type 0) (xs : List X) → AllByRecursion P xs → AllByRecursion Q xs → AllByRecursion (λ x. P x × Q x) xs
 all_both P Q [] h k = tt
@@ -99,7 +89,7 @@ module _ (g : Graph) (same : Discrete g.Node) (E L : g.Node × ℕ → Type 0) (
       (λ u v wire x k. (k.0, k.1, sym (r.among u.0 v.0 u.1 v.1 x.0 k.0 (λ e. x.1 (sym e)) (λ e. k.1 (sym e)) wire) ∙ x.2))
       (left p) to ps w (h.0, other.0, refl) (all_both (λ q. IsIn q.node s) (λ q. n ≢ q.node) ps h.1 other.1) in (
         numbered_in s part (part p.node) p.node h.0 refl,
-        all_map (λ q. X q.node) (λ q. IsIn q.node (numbered s part (part p.node))) (λ q x. numbered_in s part (part p.node) q.node x.0 x.2) ps xs,
+        all_along (λ q. X q.node) (λ q. IsIn q.node (numbered s part (part p.node))) (λ q x. numbered_in s part (part p.node) q.node x.0 x.2) ps xs,
       )
 
   -- no closed walk begins at n
@@ -149,7 +139,7 @@ module _ (g : Graph) (same : Discrete g.Node) (E L : g.Node × ℕ → Type 0) (
           let c' = rotate g E L c.first f.before f.here f.after c.enters c.leaves (subst (λ ps. Walk g E L (left c.first) ps (entered c.first)) f.whole c.closed) in
           let k : AllByRecursion P (f.before ++ f.here ∷ f.after) = subst (AllByRecursion P) f.whole h.1 in
           let after = all_after P f.before (f.here ∷ f.after) k in
-          not_from n s part (classes n) r wire_back c' (after.0, all_join P f.after (c.first ∷ f.before) after.1 (h.0, all_before P f.before (f.here ∷ f.after) k)) f.same
+          not_from n s part (classes n) r wire_back c' (after.0, all_append P f.after (c.first ∷ f.before) after.1 (h.0, all_before P f.before (f.here ∷ f.after) k)) f.same
       go (no e) (inr f) net =
           net (r.others c.first.node h.0 (λ i. e (sym i))) (r.most c.first.node h.0 (λ i. e (sym i))) (avoid n s part (classes n) r c.first c.rest (entered c.first) c.closed h (e, f))
 

@@ -3,11 +3,12 @@ use Rattle.std.proofs.Common.{◌≡◌, ◌≢◌, ℕ, suc, ◌-◌, Bool, tru
 use Rattle.std.specs.List.{AllByRecursion}
 use mathlib.Core.HLevel.{Discrete}
 use native.Mathlib.Decide.{ℕ_discrete}
+use Rattle.in_net.proofs.Links.{all_along}
 use Rattle.in_net.specs.Graphs.{Graph, Passage, entered, left, Leads, IsCrossing, AreApart, CrossingCircle, class_of_symbol, graph_of}
 use Rattle.in_net.specs.Nets.{Point, Port, Signature, AreClasses, Net, IsNet}
-use Rattle.in_net.proofs.Circuits.{Walk, IsEntered, IsLeft, all_map, each_any, not_entered, not_left, crossings_separate, leads_walk}
+use Rattle.in_net.proofs.Circuits.{Walk, IsEntered, IsLeft, each_any, not_entered, not_left, crossings_separate, leads_walk}
 use Rattle.in_net.specs.Interactions.{Redex, IsRedex, of_first, class_node}
-use Rattle.in_net.specs.Pieces.{end_port}
+use Rattle.in_net.specs.Pieces.{IsOuterPiece, end_port}
 use Rattle.in_net.proofs.Interactions.Pieces.{close_one, close_two}
 
 -- the last wire of a walk
@@ -29,10 +30,10 @@ module _ {A B : Type 0} (sig : Signature) (n : Net A) (x : Redex A B) (classed :
   walk u v w = leads_walk g (IsEntered ps) (IsLeft ps) u v ps w (each_any (λ p q. entered q ≡ entered p) (λ p. refl) ps) (each_any (λ p q. left q ≡ left p) (λ p. refl) ps)
 
   not_one : AllByRecursion (λ p. x.one ≢ p.node) ps
-  not_one = all_map (λ p. (p.node ≢ x.one) × (p.node ≢ x.two)) (λ p. x.one ≢ p.node) (λ p h e. h.0 (sym e)) ps stays
+  not_one = all_along (λ p. (p.node ≢ x.one) × (p.node ≢ x.two)) (λ p. x.one ≢ p.node) (λ p h e. h.0 (sym e)) ps stays
 
   not_two : AllByRecursion (λ p. x.two ≢ p.node) ps
-  not_two = all_map (λ p. (p.node ≢ x.one) × (p.node ≢ x.two)) (λ p. x.two ≢ p.node) (λ p h e. h.1 (sym e)) ps stays
+  not_two = all_along (λ p. (p.node ≢ x.one) × (p.node ≢ x.two)) (λ p. x.two ≢ p.node) (λ p h e. h.1 (sym e)) ps stays
 
   class_at : (y : A) (s i : ℕ) → n.symbol y ≡ Some s → g.class y i ≡ sig.class_of s i
   class_at y s i e = ap (λ o. class_of_symbol sig o i) e
@@ -69,7 +70,7 @@ module _ {A B : Type 0} (sig : Signature) (n : Net A) (x : Redex A B) (classed :
       (λ v h. ((λ e. not_entered x.two v ps not_two h (sym e)), (λ e. not_entered x.one v ps not_one h (sym e))))
       (λ v h. ((λ e. not_left x.two v ps not_two h (sym e)), (λ e. not_left x.one v ps not_one h (sym e)))) ps (walk (x.two, suc j) (x.one, suc i) w))
 
-  pub one_node : (e f : ℕ) → Leads g (end_port sig x e) ps (end_port sig x f) → class_node sig x e ≡ class_node sig x f
+  one_node : (e f : ℕ) → Leads g (end_port sig x e) ps (end_port sig x f) → class_node sig x e ≡ class_node sig x f
   one_node e f w = go (of_first sig x e) (of_first sig x f) w
     where
       place : Bool → ℕ → ℕ
@@ -83,7 +84,7 @@ module _ {A B : Type 0} (sig : Signature) (n : Net A) (x : Redex A B) (classed :
       go false false w = ap (λ (z : ℕ). (false, z)) (at_two (suc (f - sig.arity x.first)) (suc (e - sig.arity x.first)) w)
 
   -- a walk doesn't come back by the port by which it left
-  pub other_port : (u v : A × ℕ) → u ≡ v → Leads g u ps v → ⊥
+  other_port : (u v : A × ℕ) → u ≡ v → Leads g u ps v → ⊥
   other_port u v e w = go ps crossing apart (subst (λ z. Leads g u ps z) (sym e) w)
     where
       pair : (a b : A) (i j : ℕ) → ◌≡◌ {A = Point A} (Port a i) (Port b j) → ◌≡◌ {A = A × ℕ} (a, i) (b, j)
@@ -95,8 +96,15 @@ module _ {A B : Type 0} (sig : Signature) (n : Net A) (x : Redex A B) (classed :
       go : (ps : List (Passage A)) → AllByRecursion (IsCrossing g) ps → AreApart ps → Leads g u ps u → ⊥
       go [] c a w = net.apart (Port u.0 u.1) w
       go (p ∷ qs) c a w =
-          let r = last_wire g (λ r. p.node ≡ r.node → left r ≡ left p) p qs u (λ h. refl) (all_map (λ q. p.node ≢ q.node) (λ r. p.node ≡ r.node → left r ≡ left p) (λ q d h. absurd (d h)) qs a.0) w.1 in
+          let r = last_wire g (λ r. p.node ≡ r.node → left r ≡ left p) p qs u (λ h. refl) (all_along (λ q. p.node ≢ q.node) (λ r. p.node ≡ r.node → left r ≡ left p) (λ q d h. absurd (d h)) qs a.0) w.1 in
           let back : n.partner (Port u.0 u.1) ≡ Some (Port r.0.node r.0.leave) = net.back (Port r.0.node r.0.leave) (Port u.0 u.1) r.2 in
           let here : entered p ≡ left r.0 = pair p.node r.0.node p.enter r.0.leave (one (Port p.node p.enter) (Port r.0.node r.0.leave) w.0 back) in
           let twice : entered p ≡ left p = here ∙ r.1 (ap (λ z. z.0) here) in
           c.0 (ap (λ z. g.class z.0 z.1) twice)
+
+-- both, of an outer piece
+pub is_passage : {A B : Type 0} (sig : Signature) (n : Net A) (x : Redex A B) → AreClasses sig → IsNet sig n → IsRedex sig n x → Discrete A → (CrossingCircle (graph_of sig n) → ⊥) → (e f : ℕ) (ps : List (Passage A)) → IsOuterPiece sig n x e f ps → (class_node sig x e ≡ class_node sig x f) × (e ≢ f)
+is_passage sig n x classed net redex same none e f ps p = (
+  one_node sig n x classed net redex same none ps p.crossing p.apart p.stays e f p.leads,
+  λ h. other_port sig n x classed net redex same none ps p.crossing p.apart p.stays (end_port sig x e) (end_port sig x f) (ap (end_port sig x) h) p.leads,
+)
