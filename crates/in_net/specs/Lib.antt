@@ -5,7 +5,6 @@ pub mod Built
 pub mod Counting
 pub mod Graphs
 pub mod InteractionLaws
-pub mod InteractionPlaces
 pub mod Interactions
 pub mod Joining
 pub mod Laws
@@ -17,4 +16,3 @@ pub mod Reading
 pub mod Rules
 pub mod Searching
 pub mod TextNet
-pub mod Tours

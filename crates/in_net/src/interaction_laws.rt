@@ -1,14 +1,14 @@
 //! Laws of interactions, over the definitions alone, in the order of the argument. No function here does anything.
 
-ghost use Rattle.in_net.specs.InteractionLaws.{StepExists, CirclesFallApart, OuterPiecesArePassages, ClosedWalksShorten, NoNewCircle, NoClosedPath, NoViciousCircle, EachLeadsOn};
+ghost use Rattle.in_net.specs.InteractionLaws.{StepExists, CirclesFallApart, OuterPiecesArePassages, RingsLeaveWalks, ClosedWalksShorten, NoNewCircle, NoClosedPath, NoViciousCircle, EachLeadsOn};
 
 /// An interaction has a result, and it is a net.
 pub fn step_exists()
     ensures { StepExists }
 {}
 
-/// A crossing circle after an interaction goes by wires of the net before and of the right member, and changes from one to the other
-/// at boundary ends alone.
+/// A crossing circle after an interaction stood in the net before or in the right member, or it falls into pieces outside and inside,
+/// cut at its boundary ends, whose agents are the circle's, each once.
 pub fn circles_fall_apart()
     ensures { CirclesFallApart }
 {}
@@ -17,6 +17,11 @@ pub fn circles_fall_apart()
 /// class node, by two different ports.
 pub fn outer_pieces_are_passages()
     ensures { OuterPiecesArePassages }
+{}
+
+/// Where each outer piece of a ring is such a passage, what is left of the ring is a closed walk of the open right member.
+pub fn rings_leave_walks()
+    ensures { RingsLeaveWalks }
 {}
 
 /// A closed walk of the open right member that enters and leaves each node by different classes, and meets each agent and each port

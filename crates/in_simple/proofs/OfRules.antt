@@ -21,6 +21,7 @@ use Rattle.in_simple.specs.OpenNets as nets
 use Rattle.in_simple.specs.OpenNets.{OpenNet, IsWire, class_in, open_graph}
 use Rattle.in_simple.specs.Opening.{AreNumbered}
 use Rattle.in_simple.specs.OpeningRules.{agent_node, second_node, class_port, boundary_port, is_turned, rule_point, IsRuleWhole, OpensRule}
+use Rattle.in_simple.proofs.Grow.{pair_same}
 use Rattle.in_simple.proofs.RulePoints.{lt_tells, same_agent, agent_within}
 use Rattle.in_simple.proofs.OpenedRules.{listed, points_open, agent_not_end, same_end, is_end, IsEnd, in_first, in_second, first_port, second_port, class_low}
 use Rattle.in_simple.proofs.Sums.{some_of}
@@ -39,9 +40,6 @@ of_pair u = open_p.Port u.0 u.1
 pair_cond : (b : Bool) (n i m j : ℕ) → cond b (open_p.Port n i) (open_p.Port m j) ≡ of_pair (pair_of (cond b (open_p.Port n i) (open_p.Port m j)))
 pair_cond true n i m j = refl
 pair_cond false n i m j = refl
-
-same_pair : (u v : ℕ × ℕ) → u.0 ≡ v.0 → u.1 ≡ v.1 → u ≡ v
-same_pair u v e d = ap (λ (a : ℕ). (a, u.1)) e ∙ ap (λ (b : ℕ). (v.0, b)) d
 
 -- an agent's node and a class node
 NodeIs : Type 0
@@ -241,7 +239,7 @@ module _ (t : Tables) (p : RuleParts) (o : OpenNet) (numbered : AreNumbered t) (
   classes (Free e) (Free f) h k n same =
       let place : (end_at e).1 ≡ (end_at f).1 = sym (end_class e h) ∙ same ∙ end_class f k in
       let node : (end_at e).0 ≡ (end_at f).0 = onto (Free e) (Free f) n in
-      same_end t p o numbered whole net over built opens e f (within e h) (within f k) (end_is e ∙ ap of_pair (same_pair (end_at e) (end_at f) node place) ∙ sym (end_is f))
+      same_end t p o numbered whole net over built opens e f (within e h) (within f k) (end_is e ∙ ap of_pair (pair_same (end_at e) (end_at f) node place) ∙ sym (end_is f))
 
   pub rule_circle : CrossingCircle (open_member (signature_of t) redex) → CrossingCircle (open_graph o)
   rule_circle c =

@@ -1,16 +1,17 @@
 -- Laws over the definitions of types.
 use Rattle.std.specs.Prelude.{◌≡◌, ℕ, not, Some, Result}
 use Rattle.in_syntax.specs.declared.faults.Refusal.{Refusal}
+use Rattle.in_symbols.specs.declared.symbols.PortType.{PortType}
 use Rattle.in_symbols.specs.declared.symbols.SymbolNo.{SymbolNo}
 use Rattle.in_symbols.specs.Tables.{Tables, port_at, is_constructor}
 use Rattle.in_net.specs.declared.nets.AgentNo.{AgentNo}
 use Rattle.in_net.specs.declared.nets.Point.TheVariants.{Port}
-use Rattle.in_net.specs.Interactions.{Redex, IsRedex, IsStep}
-use Rattle.in_net.specs.Nets.{Net, IsNet, Signature, net_of, signature_of}
+use Rattle.in_net.specs.Interactions.{Redex, IsRedex, IsNaming, IsStep, AreJoined}
+use Rattle.in_net.specs.Nets.{Point, Net, IsNet, Signature, net_of, signature_of}
 use Rattle.in_net.specs.Parts.{Parts, IsWhole, partner_in, symbol_in}
 use Rattle.in_net.specs.Rules.{RuleParts}
-use Rattle.in_typing.specs.Typed.{IsTyped, Types, TypesRule}
-use Rattle.in_typing.specs.TypedNets.{IsTypedNet}
+use Rattle.in_typing.specs.Typed.{IsTyped, Types, TypesRule, opposite}
+use Rattle.in_typing.specs.TypedNets.{IsTypedNet, HasType}
 
 -- two agents whose principal ports are one wire: Lafont 1990 calls them an active pair
 abbrev pub IsActivePair : Parts → AgentNo → AgentNo → Type 0
@@ -41,8 +42,13 @@ RulesAreTypedOnce = (t : Tables) (r : RuleParts) (a b : Result (Unit {0}) Refusa
 abbrev pub TypedPartsAreTypedNets : Type 0
 TypedPartsAreTypedNets = (t : Tables) (n : Parts) → IsWhole n → IsTyped t n → IsTypedNet (signature_of t) (net_of n)
 
--- an interaction keeps a net typed. Lafont 1990: the right member of a rule has, at each boundary end, the type of the auxiliary port
--- that it replaces
+-- types agree along an alternating path: its two ends have types of one name and opposite signs. Lafont 1990: the right member of a rule
+-- has, at each boundary end, the type of the auxiliary port that it replaces
 abbrev pub TypedAlongPaths : Type 0
-TypedAlongPaths = (sig : Signature) (n : Net ℕ) (x : Redex ℕ ℕ) (name : ℕ → ℕ) (after : Net ℕ) → IsNet sig n → IsNet sig x.member → IsRedex sig n x → IsStep sig n x name after →
+TypedAlongPaths = (sig : Signature) (n : Net ℕ) (x : Redex ℕ ℕ) (name : ℕ → ℕ) → IsNet sig n → IsNet sig x.member → IsRedex sig n x → IsNaming n x name → IsTypedNet sig n → IsTypedNet sig x.member →
+    (u v : Point ℕ) (s t : PortType) → AreJoined sig n x name u v → HasType sig n x name u s → HasType sig n x name v t → t ≡ opposite s
+
+-- .. so that an interaction keeps a net typed
+abbrev pub StepsStayTyped : Type 0
+StepsStayTyped = (sig : Signature) (n : Net ℕ) (x : Redex ℕ ℕ) (name : ℕ → ℕ) (after : Net ℕ) → IsNet sig n → IsNet sig x.member → IsRedex sig n x → IsStep sig n x name after →
     IsTypedNet sig n → IsTypedNet sig x.member → IsTypedNet sig after

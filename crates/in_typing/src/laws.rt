@@ -1,6 +1,6 @@
 //! Laws over the definitions of types, for whoever reasons above them. No function here does anything.
 
-ghost use Rattle.in_typing.specs.Laws.{NetsAreTypedOnce, RulesAreTypedOnce, TypedAlongPaths, TypedPairsMatch, TypedPartsAreTypedNets};
+ghost use Rattle.in_typing.specs.Laws.{NetsAreTypedOnce, RulesAreTypedOnce, StepsStayTyped, TypedAlongPaths, TypedPairsMatch, TypedPartsAreTypedNets};
 
 /// In a typed net, the two agents of an active pair are a constructor and a destructor of one type.
 pub fn typed_pairs_match()
@@ -22,8 +22,13 @@ pub fn typed_parts_are_typed_nets()
     ensures { TypedPartsAreTypedNets }
 {}
 
-/// An interaction keeps a net typed: types agree along an alternating path, whose boundary ends have the types of the auxiliary ports
-/// that they replace.
+/// Types agree along an alternating path: its ends have types of one name and opposite signs, since its boundary ends have the types of
+/// the auxiliary ports that they replace.
 pub fn typed_along_paths()
     ensures { TypedAlongPaths }
+{}
+
+/// An interaction keeps a net typed.
+pub fn steps_stay_typed()
+    ensures { StepsStayTyped }
 {}

@@ -52,6 +52,11 @@ module _ {A B : Type 0} (sig : Signature) (n : Net A) (x : Redex A B) (name : B 
     pub end_of_pair : (e : ℕ) → IsOfPair x (stands_for sig x name (Free e))
     end_of_pair e = cond_cases (of_first sig x e) x.one x.two
 
+    -- a boundary end stands for a port of the pair, and nothing else does
+    pub end_of : (p : Point B) → IsPoint sig x.member p → IsOfPair x (stands_for sig x name p) → (e : ℕ) × (p ≡ Free e)
+    end_of (Port k i) h o = absurd (not_pair k i h o)
+    end_of (Free e) h o = (e, refl)
+
     pub stands_one : (p q : Point B) → IsPoint sig x.member p → IsPoint sig x.member q → stands_for sig x name p ≡ stands_for sig x name q → p ≡ q
     stands_one (Port k i) (Port l j) h g e =
         let a = symbol_of sig (x.member.symbol k) i h in

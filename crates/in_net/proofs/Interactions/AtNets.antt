@@ -4,9 +4,9 @@ use Rattle.std.proofs.lemmas.Option.{same_Some}
 use Rattle.in_net.specs.Nets.{Point, Port, Free, Signature, AreClasses, Net, IsNet}
 use Rattle.in_net.specs.Graphs.{class_of_symbol}
 use Rattle.in_net.specs.Interactions.{Side, Outer, Inner}
-use Rattle.in_net.specs.InteractionPlaces.{Place, Old, New, Boundary, Loose, Stays, side_of}
+use Rattle.in_net.proofs.Interactions.Places.{Place, Old, New, Boundary, Loose, Stays, side_of}
 use Rattle.in_net.specs.Interactions.{Redex, IsRedex, of_first, end_agent, end_symbol, end_place, class_node, open_port}
-use Rattle.in_net.specs.InteractionPlaces.{IsBefore, IsInside, wires}
+use Rattle.in_net.proofs.Interactions.Places.{IsBefore, IsInside, wires}
 use Rattle.in_net.proofs.Interactions.Paths.{AreWires}
 use Rattle.in_net.proofs.Interactions.Compress.{Sides, AreSides, outer_port, inner_port, IsOn}
 

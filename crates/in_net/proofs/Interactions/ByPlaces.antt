@@ -2,9 +2,9 @@
 use Rattle.std.proofs.Common.{◌≡◌, ◌⊎◌, ℕ, Some, None, List, [], ◌∷◌, refl, sym, subst, ap, inl, inr, ◌∙◌}
 use Rattle.in_net.specs.Nets.{Point, Port, Free, Signature, Net, IsPoint, IsNet}
 use Rattle.in_net.specs.Interactions.{Redex, IsRedex, Side, Outer, Inner, Alternates, stands_for, wire_of, IsOfPair, AreJoined, IsNaming, IsStep}
-use Rattle.in_net.specs.InteractionPlaces.{Place, Old, New, Boundary, Loose, Path, Stays, IsJoined, IsBefore, IsInside, wires, HasSymbol, IsAfter, IsByPlaces}
-use Rattle.in_net.specs.Tours.{name_after}
-use Rattle.in_net.proofs.Interactions.Alternating.{not_pair, end_of_pair}
+use Rattle.in_net.proofs.Interactions.Places.{Place, Old, New, Boundary, Loose, Path, Stays, IsJoined, IsBefore, IsInside, wires, HasSymbol, IsAfter, IsByPlaces}
+use Rattle.in_net.specs.Pieces.{name_after}
+use Rattle.in_net.proofs.Interactions.Alternating.{end_of_pair, end_of}
 
 module _ {A B : Type 0} (sig : Signature) (n : Net A) (x : Redex A B) (name : B → A) (net : IsNet sig n) (inside : IsNet sig x.member) (redex : IsRedex sig n x) (naming : IsNaming n x name) where
   -- where a path of places ends
@@ -18,11 +18,6 @@ module _ {A B : Type 0} (sig : Signature) (n : Net A) (x : Redex A B) (name : B 
   old_place : (v : Point A) → (IsOfPair x v → ⊥) → (q : Place A B) × IsBefore sig x q v × Ends v q
   old_place (Port y i) h = (Old y i, ((λ e. h (inl e)), (λ e. h (inr e)), refl), (refl, tt))
   old_place (Free k) h = (Loose k, refl, (refl, tt))
-
-  -- a port of the pair for which a point of the right member stands
-  end_of : (p : Point B) → IsPoint sig x.member p → IsOfPair x (stands_for sig x name p) → (e : ℕ) × (p ≡ Free e)
-  end_of (Port k i) h o = absurd (not_pair sig n x name net inside redex naming k i h o)
-  end_of (Free e) h o = (e, refl)
 
   -- the place of a point of the right member
   abbrev inner_place : Point B → Place A B
@@ -41,7 +36,7 @@ module _ {A B : Type 0} (sig : Signature) (n : Net A) (x : Redex A B) (name : B 
   inner_step : (e : Point A) (v : Point A) (a b : Point B) → x.member.partner a ≡ Some b → stands_for sig x name b ≡ e → IsOfPair x e → ((f : ℕ) → IsBefore sig x (Boundary f) e → From Outer (Boundary f) v) → From Inner (inner_place a) v
   inner_step e v a b w same pair on =
       let h : IsPoint sig x.member b = inside.points b a (inside.back a b w) in
-      let f = end_of b h (subst (IsOfPair x) (sym same) pair) in
+      let f = end_of sig n x name net inside redex naming b h (subst (IsOfPair x) (sym same) pair) in
       let r = on f.0 (sym same ∙ ap (stands_for sig x name) f.1) in
       (f.0 ∷ r.0, r.1, ((a, b, inside_at a, f.1, w), r.2), r.3)
 
@@ -65,7 +60,7 @@ module _ {A B : Type 0} (sig : Signature) (n : Net A) (x : Redex A B) (name : B 
   )
   placed Outer u (e ∷ es) v h w =
       let r = placed Inner e es v h w.2 in
-      let f = end_of r.0 r.2 (subst (IsOfPair x) (sym r.1) w.1) in
+      let f = end_of sig n x name net inside redex naming r.0 r.2 (subst (IsOfPair x) (sym r.1) w.1) in
       let k : From Inner (Boundary f.0) v = subst (λ a. From Inner (inner_place a) v) f.1 r.3 in
       λ p at. (f.0 ∷ k.0, k.1, ((u, e, at, sym r.1 ∙ ap (stands_for sig x name) f.1, w.0), k.2), k.3)
   placed Inner u (e ∷ es) v h w =

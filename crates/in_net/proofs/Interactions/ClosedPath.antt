@@ -5,16 +5,12 @@ use Rattle.std.proofs.lemmas.Option.{same_Some}
 use Rattle.in_net.specs.Graphs.{CrossingCircle, graph_of}
 use Rattle.in_net.specs.Nets.{Point, Port, Free, Signature, AreClasses, Net, IsNet}
 use Rattle.in_net.specs.Interactions.{Redex, IsRedex, Side, Outer, Inner, other, end_agent, end_place, EndWire, EndPath, ClosedPath, open_member}
-use Rattle.in_net.specs.InteractionPlaces.{Place, Old, New, Boundary, Loose, wires}
-use Rattle.in_net.specs.Tours.{Stop, Through, Tour}
-use Rattle.in_net.proofs.Interactions.Paths.{other_twice}
+use Rattle.in_net.proofs.Interactions.Places.{Place, Old, New, Boundary, Loose, wires}
+use Rattle.in_net.proofs.Interactions.Tours.{Stop, Through, Tour}
+use Rattle.in_net.proofs.Interactions.Paths.{other_twice, other_side}
 use Rattle.in_net.proofs.Interactions.Stops.{ClosedTour}
 use Rattle.in_net.proofs.Interactions.Compress.{AreOneWay, circle_of_tour}
 use Rattle.in_net.proofs.Interactions.AtNets.{sides, are_sides, end_same, port_agent, port_place}
-
-other_side : (s : Side) → other s ≡ s → ⊥
-other_side Outer e = cc
-other_side Inner e = cc
 
 -- wires between boundary ends: one from each end on a side, there and back, and none from an end to itself
 record AreEndWires (wire : Side → ℕ → ℕ → Type 0) : Type 0 where

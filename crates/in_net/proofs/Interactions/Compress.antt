@@ -5,13 +5,13 @@ use mathlib.Core.Sum as Sum
 use Rattle.std.specs.List.{AllByRecursion}
 use Rattle.in_net.specs.Graphs.{Graph, Passage, CrossingCircle}
 use Rattle.in_net.specs.Interactions.{Side, Outer, Inner}
-use Rattle.in_net.specs.InteractionPlaces.{Place, Old, New, Boundary, Loose}
+use Rattle.in_net.proofs.Interactions.Places.{Place, Old, New, Boundary, Loose}
 use Rattle.in_net.proofs.Circuits.{Walk, AreSeparate, shorten}
-use Rattle.in_net.specs.Tours.{Stop, At_old, At_new, Through, enters, leaves, Tour}
+use Rattle.in_net.proofs.Interactions.Tours.{Stop, At_old, At_new, Through, enters, leaves, Tour}
 use Rattle.in_net.proofs.Interactions.Stops.{tour_to, tour_join, ClosedTour}
 use Rattle.in_net.proofs.Interactions.Pieces.{close_one, close_two}
 
-outer_inner : Outer ≡ Inner → ⊥
+pub outer_inner : Outer ≡ Inner → ⊥
 outer_inner e = cc
 
 -- it is no free end

@@ -2,11 +2,11 @@
 use Rattle.std.proofs.Common.{◌≡◌, ◌⊎◌, ℕ, List, [], ◌∷◌, ◌++◌, refl, sym, subst, inl, inr, ◌∙◌, ap}
 use Rattle.in_net.specs.Graphs.{Graph, Passage, entered, left}
 use Rattle.in_net.specs.Interactions.{Side, other}
-use Rattle.in_net.specs.InteractionPlaces.{Place, Old, New, Boundary, Loose, Path, Stays, side_of, IsJoined}
-use Rattle.in_net.proofs.Interactions.Paths.{AreWires, other_twice}
+use Rattle.in_net.proofs.Interactions.Places.{Place, Old, New, Boundary, Loose, Path, Stays, side_of, IsJoined}
+use Rattle.in_net.proofs.Interactions.Paths.{AreWires}
 use Rattle.in_net.proofs.Circuits.{Walk, Circuit}
-use Rattle.in_net.specs.Tours.{Stop, At_old, At_new, Through, enters, leaves, Tour, agents_of}
-use Rattle.in_net.proofs.Interactions.Stops.{Reaches, Entered, Left, tour_join, ClosedTour}
+use Rattle.in_net.proofs.Interactions.Tours.{Stop, At_old, At_new, Through, enters, leaves, Tour, agents_of, boundary_of}
+use Rattle.in_net.proofs.Interactions.Stops.{AtPlace, tour_join, boundary_join, ClosedTour}
 
 -- the port's place
 abbrev pub place : {A B : Type 0} → (A ⊎ B) × ℕ → Place A B
@@ -34,33 +34,13 @@ module _ {A B : Type 0} (wire : Side → Place A B → Place A B → Type 0) (wi
   throughs s [] = []
   throughs s (e ∷ es) = Through s e ∷ throughs (other s) es
 
-  onward : (s : Side) (p : Place A B) (es : List ℕ) (q : Place A B) → at_place E q → Stays q → Path wire s p es q → ((e : ℕ) → wire s p (Boundary e) → Reaches wire (at_place E) (at_place L) (at_place L) s e) → Tour wire (Entered wire (at_place E) (at_place L)) (Left wire (at_place E) (at_place L)) (s, p) (throughs s es) (side_of q, q)
-  onward s p [] q eq hq w back = (wires.side s p q hq w, w)
-  onward s p (e ∷ es) q eq hq w back =
-      let b = back e w.0 in (
-        (refl, w.0),
-        b,
-        (q, es, eq, hq, w.1),
-        onward (other s) (Boundary e) es q eq hq w.1
-            (λ f u. (b.0, e ∷ b.1, b.2, b.3, (wires.back (other s) (Boundary e) (Boundary f) u, subst (λ t. Path wire t (Boundary e) b.1 b.0) (sym (other_twice s)) b.4))),
-      )
-
-  -- what stands at a port stands at its place
-  at : (P : (A ⊎ B) × ℕ → Type 0) (n : A ⊎ B) (i : ℕ) → P (n, i) → at_place P (place (n, i))
-  at P (inl x) i h = h
-  at P (inr y) i h = h
-
-  stays : (n : A ⊎ B) (i : ℕ) → Stays (place {A = A} {B = B} (n, i))
-  stays (inl x) i = tt
-  stays (inr y) i = tt
+  onward : (s : Side) (p : Place A B) (es : List ℕ) (q : Place A B) → Stays q → Path wire s p es q → Tour wire (AtPlace (at_place E)) (AtPlace (at_place L)) (s, p) (throughs s es) (side_of q, q)
+  onward s p [] q hq w = (wires.side s p q hq w, w)
+  onward s p (e ∷ es) q hq w = ((refl, w.0), tt, tt, onward (other s) (Boundary e) es q hq w.1)
 
   -- a wire of the net after is a walk through boundary ends
-  wire_tour : (u v : (A ⊎ B) × ℕ) → L u → E v → IsJoined wire (place u) (place v) → (ss : List (Stop A B)) × Tour wire (Entered wire (at_place E) (at_place L)) (Left wire (at_place E) (at_place L)) (spot u) ss (spot v)
-  wire_tour u v l e j = (
-    throughs (side_of (place u)) j.2.0,
-    onward (side_of (place u)) (place u) j.2.0 (place v) (at E v.0 v.1 e) j.1 j.2.1
-        (λ f w. (place u, [], at L u.0 u.1 l, j.0, wires.back (side_of (place u)) (place u) (Boundary f) w)),
-  )
+  wire_tour : (u v : (A ⊎ B) × ℕ) → IsJoined wire (place u) (place v) → (ss : List (Stop A B)) × Tour wire (AtPlace (at_place E)) (AtPlace (at_place L)) (spot u) ss (spot v)
+  wire_tour u v j = (throughs (side_of (place u)) j.2.0, onward (side_of (place u)) (place u) j.2.0 (place v) j.1 j.2.1)
 
   -- the stop of a passage
   enters_stop : (n : A ⊎ B) (i j : ℕ) → enters (stop_of (record { node = n; enter = i; leave = j })) ≡ spot (n, i)
@@ -71,34 +51,34 @@ module _ {A B : Type 0} (wire : Side → Place A B → Place A B → Type 0) (wi
   leaves_stop (inl x) i j = refl
   leaves_stop (inr y) i j = refl
 
-  entered_stop : (p : Passage (A ⊎ B)) → E (entered p) → Entered wire (at_place E) (at_place L) (enters (stop_of p)).0 (enters (stop_of p)).1
+  entered_stop : (p : Passage (A ⊎ B)) → E (entered p) → AtPlace (at_place E) (enters (stop_of p)).0 (enters (stop_of p)).1
   entered_stop p e = go p.node e
     where
-      go : (n : A ⊎ B) → E (n, p.enter) → Entered wire (at_place E) (at_place L) (enters (stop_of (record { node = n; enter = p.enter; leave = p.leave }))).0 (enters (stop_of (record { node = n; enter = p.enter; leave = p.leave }))).1
+      go : (n : A ⊎ B) → E (n, p.enter) → AtPlace (at_place E) (enters (stop_of (record { node = n; enter = p.enter; leave = p.leave }))).0 (enters (stop_of (record { node = n; enter = p.enter; leave = p.leave }))).1
       go (inl x) e = e
       go (inr y) e = e
 
-  left_stop : (p : Passage (A ⊎ B)) → L (left p) → Left wire (at_place E) (at_place L) (leaves (stop_of p)).0 (leaves (stop_of p)).1
+  left_stop : (p : Passage (A ⊎ B)) → L (left p) → AtPlace (at_place L) (leaves (stop_of p)).0 (leaves (stop_of p)).1
   left_stop p l = go p.node l
     where
-      go : (n : A ⊎ B) → L (n, p.leave) → Left wire (at_place E) (at_place L) (leaves (stop_of (record { node = n; enter = p.enter; leave = p.leave }))).0 (leaves (stop_of (record { node = n; enter = p.enter; leave = p.leave }))).1
+      go : (n : A ⊎ B) → L (n, p.leave) → AtPlace (at_place L) (leaves (stop_of (record { node = n; enter = p.enter; leave = p.leave }))).0 (leaves (stop_of (record { node = n; enter = p.enter; leave = p.leave }))).1
       go (inl x) l = l
       go (inr y) l = l
 
-  walk_tour : (u v : (A ⊎ B) × ℕ) (ps : List (Passage (A ⊎ B))) → L u → E v → Walk (after wire class) E L u ps v → (ss : List (Stop A B)) × Tour wire (Entered wire (at_place E) (at_place L)) (Left wire (at_place E) (at_place L)) (spot u) ss (spot v)
-  walk_tour u v [] l e w = wire_tour u v l e w
+  walk_tour : (u v : (A ⊎ B) × ℕ) (ps : List (Passage (A ⊎ B))) → L u → E v → Walk (after wire class) E L u ps v → (ss : List (Stop A B)) × Tour wire (AtPlace (at_place E)) (AtPlace (at_place L)) (spot u) ss (spot v)
+  walk_tour u v [] l e w = wire_tour u v w
   walk_tour u v (p ∷ ps) l e w =
-      let first = wire_tour u (entered p) l w.1 w.0 in
+      let first = wire_tour u (entered p) w.0 in
       let rest = walk_tour (left p) v ps w.2 e w.3 in (
         first.0 ++ stop_of p ∷ rest.0,
-        tour_join wire (Entered wire (at_place E) (at_place L)) (Left wire (at_place E) (at_place L)) (spot u) (spot v) first.0 (stop_of p) rest.0
-            (subst (λ t. Tour wire (Entered wire (at_place E) (at_place L)) (Left wire (at_place E) (at_place L)) (spot u) first.0 t) (sym (enters_stop p.node p.enter p.leave)) first.1)
+        tour_join wire (AtPlace (at_place E)) (AtPlace (at_place L)) (spot u) (spot v) first.0 (stop_of p) rest.0
+            (subst (λ t. Tour wire (AtPlace (at_place E)) (AtPlace (at_place L)) (spot u) first.0 t) (sym (enters_stop p.node p.enter p.leave)) first.1)
             (entered_stop p w.1) (left_stop p w.2)
-            (subst (λ t. Tour wire (Entered wire (at_place E) (at_place L)) (Left wire (at_place E) (at_place L)) t rest.0 (spot v)) (sym (leaves_stop p.node p.enter p.leave)) rest.1),
+            (subst (λ t. Tour wire (AtPlace (at_place E)) (AtPlace (at_place L)) t rest.0 (spot v)) (sym (leaves_stop p.node p.enter p.leave)) rest.1),
       )
 
   -- a closed walk of the net after, with what it passes on the way
-  pub closed_tour : Circuit (after wire class) E L → ClosedTour wire (Entered wire (at_place E) (at_place L)) (Left wire (at_place E) (at_place L))
+  pub closed_tour : Circuit (after wire class) E L → ClosedTour wire (AtPlace (at_place E)) (AtPlace (at_place L))
   closed_tour c =
       let t = walk_tour (left c.first) (entered c.first) c.rest c.leaves c.enters c.closed in
       record {
@@ -106,8 +86,8 @@ module _ {A B : Type 0} (wire : Side → Place A B → Place A B → Type 0) (wi
         rest = t.0;
         enter = entered_stop c.first c.enters;
         leave = left_stop c.first c.leaves;
-        closed = subst (λ u. Tour wire (Entered wire (at_place E) (at_place L)) (Left wire (at_place E) (at_place L)) u t.0 (enters (stop_of c.first))) (sym (leaves_stop c.first.node c.first.enter c.first.leave))
-            (subst (λ v. Tour wire (Entered wire (at_place E) (at_place L)) (Left wire (at_place E) (at_place L)) (spot (left c.first)) t.0 v) (sym (enters_stop c.first.node c.first.enter c.first.leave)) t.1);
+        closed = subst (λ u. Tour wire (AtPlace (at_place E)) (AtPlace (at_place L)) u t.0 (enters (stop_of c.first))) (sym (leaves_stop c.first.node c.first.enter c.first.leave))
+            (subst (λ v. Tour wire (AtPlace (at_place E)) (AtPlace (at_place L)) (spot (left c.first)) t.0 v) (sym (enters_stop c.first.node c.first.enter c.first.leave)) t.1);
       }
 
   -- ---- the agents on the way are those of the walk
@@ -137,3 +117,31 @@ module _ {A B : Type 0} (wire : Side → Place A B → Place A B → Type 0) (wi
   tour_agents c =
       agent_first c.first.node c.first.enter c.first.leave (walk_tour (left c.first) (entered c.first) c.rest c.leaves c.enters c.closed).0
       ∙ ap (λ qs. c.first ∷ qs) (walk_agents (left c.first) (entered c.first) c.rest c.leaves c.enters c.closed)
+
+  -- ---- and so are the boundary ends
+
+  abbrev pub bounds : (u v : (A ⊎ B) × ℕ) (ps : List (Passage (A ⊎ B))) → Walk (after wire class) E L u ps v → List ℕ
+  bounds u v [] w = w.2.0
+  bounds u v (p ∷ ps) w = w.0.2.0 ++ bounds (left p) v ps w.3
+
+  ends_on : (s : Side) (es : List ℕ) → boundary_of (throughs s es) ≡ es
+  ends_on s [] = refl
+  ends_on s (e ∷ es) = ap (λ fs. e ∷ fs) (ends_on (other s) es)
+
+  no_end : (n : A ⊎ B) (i j : ℕ) (ss : List (Stop A B)) → boundary_of (stop_of (record { node = n; enter = i; leave = j }) ∷ ss) ≡ boundary_of ss
+  no_end (inl x) i j ss = refl
+  no_end (inr y) i j ss = refl
+
+  walk_bounds : (u v : (A ⊎ B) × ℕ) (ps : List (Passage (A ⊎ B))) (l : L u) (e : E v) (w : Walk (after wire class) E L u ps v) → boundary_of (walk_tour u v ps l e w).0 ≡ bounds u v ps w
+  unfolding walk_tour wire_tour
+  walk_bounds u v [] l e w = ends_on (side_of (place u)) w.2.0
+  walk_bounds u v (p ∷ ps) l e w =
+      boundary_join (throughs (side_of (place u)) w.0.2.0) (stop_of p ∷ (walk_tour (left p) v ps w.2 e w.3).0)
+      ∙ ap (λ fs. fs ++ boundary_of (stop_of p ∷ (walk_tour (left p) v ps w.2 e w.3).0)) (ends_on (side_of (place u)) w.0.2.0)
+      ∙ ap (λ fs. w.0.2.0 ++ fs) (no_end p.node p.enter p.leave (walk_tour (left p) v ps w.2 e w.3).0 ∙ walk_bounds (left p) v ps w.2 e w.3)
+
+  pub tour_bounds : (c : Circuit (after wire class) E L) → boundary_of ((closed_tour c).first ∷ (closed_tour c).rest) ≡ bounds (left c.first) (entered c.first) c.rest c.closed
+  unfolding closed_tour
+  tour_bounds c =
+      no_end c.first.node c.first.enter c.first.leave (walk_tour (left c.first) (entered c.first) c.rest c.leaves c.enters c.closed).0
+      ∙ walk_bounds (left c.first) (entered c.first) c.rest c.leaves c.enters c.closed

@@ -1,163 +1,53 @@
--- An interaction makes no crossing circle, at nets.
-use Rattle.std.proofs.Common.{◌≡◌, ◌⊎◌, ◌≤◌, Bool, Option, Some, None, IsSomeAnd, ℕ, List, [], ◌∷◌, map, refl, sym, subst, ap, inl, inr, ◌∙◌}
-use mathlib.Core.HLevel.{Discrete}
-use Rattle.in_net.specs.Graphs.{Graph, Passage, entered, left, CrossingCircle, class_of_symbol, graph_of}
-use Rattle.in_net.specs.Nets.{Port, Free, Signature, AreClasses, Net, IsPoint, IsNet}
-use Rattle.in_net.specs.Interactions.{Side, Outer, Inner}
-use Rattle.in_net.specs.InteractionPlaces.{Place, Old, New, Boundary, Loose, Path, IsJoined}
-use Rattle.in_net.specs.Interactions.{Redex, IsRedex, open_member}
-use Rattle.in_net.specs.InteractionPlaces.{wires, HasSymbol, IsAfter, IsByPlaces}
-use Rattle.in_net.proofs.Interactions.Paths.{joined_back}
-use Rattle.in_net.proofs.Circuits.{Walk, AreSeparate, Circuit, IsEntered, IsLeft, circuit_of, crossings_separate}
+-- An interaction makes no crossing circle: one after it falls apart, and its pieces leave a closed walk inside, which shortens.
+use Rattle.std.proofs.Common.{◌≡◌, ◌⊎◌, ℕ, Bool, List, [], ◌∷◌, map, refl, inl}
 use Rattle.std.specs.List.{AllByRecursion}
-use Rattle.in_net.specs.Tours.{Stop, At_old, At_new, Through, enters, leaves, Tour, IsCrossingStop, AnyPlace, LaidOut, agents_of, renamed}
-use Rattle.in_net.proofs.Interactions.Stops.{Entered, Left}
-use Rattle.in_net.proofs.Interactions.Expand.{place, after, at_place, closed_tour, tour_agents}
-use Rattle.in_net.proofs.Interactions.Preserved.{classes, no_new_walk}
-use Rattle.in_net.proofs.Interactions.AtNets.{are_wires, sides, are_sides, port_agent, port_place}
+use mathlib.Core.HLevel.{Discrete}
+use Rattle.in_net.specs.Graphs.{Passage, Leads, CrossingCircle, graph_of}
+use Rattle.in_net.specs.Nets.{Port, Signature, AreClasses, Net, IsNet}
+use Rattle.in_net.specs.Interactions.{Redex, IsRedex, IsStep, open_member}
+use Rattle.in_net.specs.Pieces.{Piece, Outside, Inside, IsPiece, IsPassage, IsMadeOf, wholly_outside, wholly_inside, of_pieces, renamed, name_after}
+use Rattle.in_net.proofs.Interactions.ByPlaces.{by_places}
+use Rattle.in_net.proofs.Interactions.FallsApart.{falls_apart}
+use Rattle.in_net.proofs.Interactions.LaidOut.{laid_out}
+use Rattle.in_net.proofs.Interactions.OuterPieces.{is_passage}
+use Rattle.in_net.proofs.Interactions.RingWalks.{crossing_in, closed_walk}
+use Rattle.in_net.proofs.Interactions.Rings.{apart_named}
+use Rattle.in_net.proofs.Interactions.Rounds.{shortens}
 
-has_symbol : (o : Option ℕ) (i : ℕ) (sig : Signature) → IsSomeAnd o (λ s. i ≤ sig.arity s) → (s : ℕ) × (o ≡ Some s)
-has_symbol None i sig h = absurd h
-has_symbol (Some s) i sig h = (s, refl)
+-- a crossing circle of the right member is one of the open right member
+module _ {A B : Type 0} (sig : Signature) (x : Redex A B) where
+  leads_in : (y z : B) (i j : ℕ) (ps : List (Passage B)) → Leads (graph_of sig x.member) (y, i) ps (z, j) → Leads (open_member sig x) (inl y, i) (map (renamed (λ y. inl y)) ps) (inl z, j)
+  leads_in y z i j [] w = (Port y i, Port z j, refl, refl, w)
+  leads_in y z i j (p ∷ ps) w = ((Port y i, Port p.node p.enter, refl, refl, w.0), leads_in p.node z p.leave j ps w.1)
 
-module _ {A B C : Type 0} (sig : Signature) (classed : AreClasses sig) (n : Net A) (x : Redex A B) (net : IsNet sig n) (inside : IsNet sig x.member) (redex : IsRedex sig n x) (name : A ⊎ B → C) (result : Net C) (done : IsByPlaces sig n x name result) where
-  IsThere : A ⊎ B → Type 0
-  IsThere m = (s : ℕ) × HasSymbol n x m s
+  same_agent : (y z : B) → ◌≡◌ {A = B ⊎ (Bool × ℕ)} (inl y) (inl z) → y ≡ z
+  same_agent y z h = cc
 
-  -- an agent with a wire is there
-  old_there : (y : A) (i : ℕ) (q : Place A B) → wires sig n x Outer (Old y i) q → (s : ℕ) × HasSymbol n x (inl y) s
-  old_there y i q w =
-      let h : IsPoint sig n (Port y i) = subst (IsPoint sig n) w.2.2 (net.points w.0 w.1 w.4) in
-      let s = has_symbol (n.symbol y) i sig h in
-      (s.0, (w.2.0, w.2.1, s.1))
+  opened : CrossingCircle (graph_of sig x.member) → CrossingCircle (open_member sig x)
+  opened c = record {
+    first = renamed (λ y. inl y) c.first;
+    rest = map (renamed (λ y. inl y)) c.rest;
+    closed = leads_in c.first.node c.first.node c.first.leave c.first.enter c.rest c.closed;
+    crossing = crossing_in sig x (c.first ∷ c.rest) c.crossing;
+    apart = apart_named (λ (y : B). let m : B ⊎ (Bool × ℕ) = inl y in m) same_agent (c.first ∷ c.rest) c.apart;
+  }
 
-  new_there : (y : B) (i : ℕ) (q : Place A B) → wires sig n x Inner (New y i) q → (s : ℕ) × HasSymbol n x (inr y) s
-  new_there y i q w =
-      let h : IsPoint sig x.member (Port y i) = subst (IsPoint sig x.member) w.2 (inside.points w.0 w.1 w.4) in
-      has_symbol (x.member.symbol y) i sig h
+module _ {A B : Type 0} (sig : Signature) (classed : AreClasses sig) (n : Net A) (x : Redex A B) (net : IsNet sig n) (inside : IsNet sig x.member) (redex : IsRedex sig n x) (name : B → A) (after : Net A) (step : IsStep sig n x name after) where
+  pub made_of : (c : CrossingCircle (graph_of sig after)) → IsMadeOf sig n x name (c.first ∷ c.rest)
+  made_of c =
+      let l = laid_out sig classed n x net inside redex (name_after name) after (by_places sig n x name net inside redex step.naming after step) c in
+      falls_apart sig classed n x net inside redex name (c.first ∷ c.rest) l.0 l.1
 
-  first_wire : (s : Side) (p : Place A B) (es : List ℕ) (q : Place A B) → Path (wires sig n x) s p es q → (r : Place A B) × wires sig n x s p r
-  first_wire s p [] q w = (q, w)
-  first_wire s p (e ∷ es) q w = (Boundary e, w.0)
+  module _ (sameA : Discrete A) (sameB : Discrete B) (none : CrossingCircle (graph_of sig n) → ⊥) (none_inside : CrossingCircle (open_member sig x) → ⊥) where
+    passages : (ps : List (Piece A B)) → AllByRecursion (IsPiece sig n x) ps → AllByRecursion (IsPassage sig x) ps
+    passages [] h = tt
+    passages (Outside e os f ∷ ps) h = (is_passage sig n x classed net redex sameA none e f os h.0, passages ps h.1)
+    passages (Inside e is f ∷ ps) h = (tt, passages ps h.1)
 
-  -- the agent whose port stands at a place that is joined to another one
-  named : (p q : Place A B) (c : C) (i : ℕ) → IsAfter name p (Port c i) → IsJoined (wires sig n x) p q → (m : A ⊎ B) × ((s : ℕ) × HasSymbol n x m s) × (name m ≡ c) × (p ≡ place (m, i))
-  named (Old y k) q c i h j =
-      let w = first_wire Outer (Old y k) j.2.0 q j.2.1 in
-      (inl y, old_there y k w.0 w.1, sym (port_agent c (name (inl y)) i k h), ap (λ k. Old y k) (sym (port_place c (name (inl y)) i k h)))
-  named (New y k) q c i h j =
-      let w = first_wire Inner (New y k) j.2.0 q j.2.1 in
-      (inr y, new_there y k w.0 w.1, sym (port_agent c (name (inr y)) i k h), ap (λ k. New y k) (sym (port_place c (name (inr y)) i k h)))
-  named (Boundary e) q c i h j = absurd h
-  named (Loose k) q c i h j = let e : Port c i ≡ Free k = h in cc
-
-  one_agent : (l m : A ⊎ B) → ((s : ℕ) × HasSymbol n x l s) → ((s : ℕ) × HasSymbol n x m s) → name l ≡ name m → l ≡ m
-  one_agent l m h k e = done.apart l m h.0 k.0 h.1 k.1 e
-
-  module _ (E L : C × ℕ → Type 0) where
-    abbrev E_in : (A ⊎ B) × ℕ → Type 0
-    E_in v = ((s : ℕ) × HasSymbol n x v.0 s) × E (name v.0, v.1)
-
-    abbrev L_in : (A ⊎ B) × ℕ → Type 0
-    L_in v = ((s : ℕ) × HasSymbol n x v.0 s) × L (name v.0, v.1)
-
-    -- a wire from an agent's port
-    pull_wire : (m : A ⊎ B) (j : ℕ) (c : C) (i : ℕ) → ((s : ℕ) × HasSymbol n x m s) → result.partner (Port (name m) j) ≡ Some (Port c i) → (l : A ⊎ B) × ((s : ℕ) × HasSymbol n x l s) × (name l ≡ c) × IsJoined (wires sig n x) (place (m, j)) (place (l, i))
-    pull_wire m j c i there w =
-        let r = done.wired (Port (name m) j) (Port c i) w in
-        let a = named r.0 r.1 (name m) j r.2 r.4 in
-        let b = named r.1 r.0 c i r.3 (joined_back (wires sig n x) (are_wires sig n x net inside redex) r.0 r.1 r.4) in
-        let same : a.0 ≡ m = one_agent a.0 m a.1 there a.2 in
-        let at : r.0 ≡ place (m, j) = a.3 ∙ ap (λ l. place (l, j)) same in
-        (b.0, b.1, b.2, subst (λ p. IsJoined (wires sig n x) p (place (b.0, i))) at (subst (λ q. IsJoined (wires sig n x) r.0 q) b.3 r.4))
-
-    abbrev Result : Graph
-    Result = after (wires sig n x) (classes (sides sig n x))
-
-    pull : (m : A ⊎ B) (j : ℕ) (ps : List (Passage C)) (c : C) (i : ℕ) → ((s : ℕ) × HasSymbol n x m s) → Walk (graph_of sig result) E L (name m, j) ps (c, i) → (l : A ⊎ B) × (qs : List (Passage (A ⊎ B))) × ((s : ℕ) × HasSymbol n x l s) × (name l ≡ c) × Walk Result E_in L_in (m, j) qs (l, i) × (map (renamed name) qs ≡ ps)
-    pull m j [] c i there w =
-        let r = pull_wire m j c i there w in
-        (r.0, [], r.1, r.2, r.3, refl)
-    pull m j (p ∷ ps) c i there w =
-        let r = pull_wire m j p.node p.enter there w.0 in
-        let k = pull r.0 p.leave ps c i r.1 (subst (λ v. Walk (graph_of sig result) E L (v, p.leave) ps (c, i)) (sym r.2) w.3) in (
-          k.0,
-          record { node = r.0; enter = p.enter; leave = p.leave } ∷ k.1,
-          k.2,
-          k.3,
-          (r.3, (r.1, subst (λ v. E (v, p.enter)) (sym r.2) w.1), (r.1, subst (λ v. L (v, p.leave)) (sym r.2) w.2), k.4),
-          ap (λ v. record { node = v; enter = p.enter; leave = p.leave } ∷ map (renamed name) k.1) r.2 ∙ ap (λ qs. p ∷ qs) k.5,
-        )
-
-    -- the agents keep their classes
-    same_class : (m : A ⊎ B) (i : ℕ) → ((s : ℕ) × HasSymbol n x m s) → class_of_symbol sig (result.symbol (name m)) i ≡ classes (sides sig n x) m i
-    same_class (inl y) i h = ap (λ o. class_of_symbol sig o i) (done.kept (inl y) h.0 h.1 ∙ sym h.1.2)
-    same_class (inr y) i h = ap (λ o. class_of_symbol sig o i) (done.kept (inr y) h.0 h.1 ∙ sym h.1)
-
-    separate_in : AreSeparate (graph_of sig result) E L → AreSeparate Result E_in L_in
-    separate_in h m i j e l = λ same. h (name m) i j e.1 l.1 (same_class m i e.0 ∙ same ∙ sym (same_class m j l.0))
-
-    -- the agent of the first wire
-    start : (from to : C × ℕ) (ps : List (Passage C)) → Walk (graph_of sig result) E L from ps to → (m : A ⊎ B) × ((s : ℕ) × HasSymbol n x m s) × (name m ≡ from.0)
-    start from to [] w =
-        let r = done.wired (Port from.0 from.1) (Port to.0 to.1) w in
-        let a = named r.0 r.1 from.0 from.1 r.2 r.4 in
-        (a.0, a.1, a.2)
-    start from to (p ∷ ps) w =
-        let r = done.wired (Port from.0 from.1) (Port p.node p.enter) w.0 in
-        let a = named r.0 r.1 from.0 from.1 r.2 r.4 in
-        (a.0, a.1, a.2)
-
-    pull_circuit : (c : Circuit (graph_of sig result) E L) → (d : Circuit Result E_in L_in) × (map (renamed name) (d.first ∷ d.rest) ≡ c.first ∷ c.rest)
-    pull_circuit c =
-        let m = start (left c.first) (entered c.first) c.rest c.closed in
-        let k = pull m.0 c.first.leave c.rest c.first.node c.first.enter m.1 (subst (λ v. Walk (graph_of sig result) E L (v, c.first.leave) c.rest (entered c.first)) (sym m.2) c.closed) in
-        let same : k.0 ≡ m.0 = one_agent k.0 m.0 k.2 m.1 (k.3 ∙ sym m.2) in (
-          record {
-            first = record { node = m.0; enter = c.first.enter; leave = c.first.leave };
-            rest = k.1;
-            enters = (m.1, subst (λ v. E (v, c.first.enter)) (sym m.2) c.enters);
-            leaves = (m.1, subst (λ v. L (v, c.first.leave)) (sym m.2) c.leaves);
-            closed = subst (λ l. Walk Result E_in L_in (m.0, c.first.leave) k.1 (l, c.first.enter)) same k.4;
-          },
-          ap (λ v. record { node = v; enter = c.first.enter; leave = c.first.leave } ∷ map (renamed name) k.1) m.2 ∙ ap (λ qs. c.first ∷ qs) k.5,
-        )
-
-  -- a crossing circle after an interaction stood in the net before or in the open right member
-  pub no_new_circle : Discrete A → Discrete B → Discrete (Bool × ℕ) → CrossingCircle (graph_of sig result) → CrossingCircle (graph_of sig n) ⊎ CrossingCircle (open_member sig x)
-  no_new_circle sameA sameB sameC r =
-      let ps = r.first ∷ r.rest in
-      let E : C × ℕ → Type 0 = IsEntered ps in
-      let L : C × ℕ → Type 0 = IsLeft ps in
-      no_new_walk (sides sig n x) sameA sameB sameC (wires sig n x) (are_wires sig n x net inside redex) (are_sides sig n x net inside redex classed)
-      (E_in E L) (L_in E L) (separate_in E L (crossings_separate (graph_of sig result) ps r.crossing r.apart)) (pull_circuit E L (circuit_of (graph_of sig result) r)).0
-
-  module _ (E L : C × ℕ → Type 0) (separate : AreSeparate (graph_of sig result) E L) where
-    abbrev En : Side → Place A B → Type 0
-    En = Entered (wires sig n x) (at_place (E_in E L)) (at_place (L_in E L))
-
-    abbrev Le : Side → Place A B → Type 0
-    Le = Left (wires sig n x) (at_place (E_in E L)) (at_place (L_in E L))
-
-    crossing_stop : (q : Stop A B) → En (enters q).0 (enters q).1 → Le (leaves q).0 (leaves q).1 → IsCrossingStop sig n x q
-    crossing_stop (At_old y i j) e l = separate_in E L separate (inl y) i j e l
-    crossing_stop (At_new y i j) e l = separate_in E L separate (inr y) i j e l
-    crossing_stop (Through s e) a b = tt
-
-    plain : (u v : Side × Place A B) (ss : List (Stop A B)) → Tour (wires sig n x) En Le u ss v → Tour (wires sig n x) AnyPlace AnyPlace u ss v × AllByRecursion (IsCrossingStop sig n x) ss
-    plain u v [] w = (w, tt)
-    plain u v (q ∷ ss) w = let r = plain (leaves q) v ss w.3 in ((w.0, tt, tt, r.0), (crossing_stop q w.1 w.2, r.1))
-
-    laid : (c : Circuit (graph_of sig result) E L) → (l : LaidOut sig n x) × (map (renamed name) (agents_of (l.first ∷ l.rest)) ≡ c.first ∷ c.rest)
-    laid c =
-        let d = pull_circuit E L c in
-        let t = closed_tour (wires sig n x) (are_wires sig n x net inside redex) (classes (sides sig n x)) (E_in E L) (L_in E L) d.0 in
-        let r = plain (leaves t.first) (enters t.first) t.rest t.closed in (
-          record { first = t.first; rest = t.rest; closed = r.0; crossing = (crossing_stop t.first t.enter t.leave, r.1) },
-          ap (map (renamed name)) (tour_agents (wires sig n x) (are_wires sig n x net inside redex) (classes (sides sig n x)) (E_in E L) (L_in E L) d.0) ∙ d.1,
-        )
-
-  -- a crossing circle after an interaction, laid out wire by wire
-  pub laid_out : (r : CrossingCircle (graph_of sig result)) → (l : LaidOut sig n x) × (map (renamed name) (agents_of (l.first ∷ l.rest)) ≡ r.first ∷ r.rest)
-  laid_out r =
-      laid (IsEntered (r.first ∷ r.rest)) (IsLeft (r.first ∷ r.rest)) (crossings_separate (graph_of sig result) (r.first ∷ r.rest) r.crossing r.apart) (circuit_of (graph_of sig result) r)
+    pub no_new_circle : CrossingCircle (graph_of sig after) → ⊥
+    no_new_circle c = go (made_of c)
+      where
+        go : IsMadeOf sig n x name (c.first ∷ c.rest) → ⊥
+        go (wholly_outside r same) = none r
+        go (wholly_inside r same) = none_inside (opened sig x r)
+        go (of_pieces r turned) = none_inside (shortens sig x sameB (closed_walk sig n x r (passages (r.first ∷ r.rest) r.pieces)))

@@ -7,7 +7,7 @@ use Rattle.in_net.specs.Graphs.{Graph, Passage, entered, left, Leads, IsCrossing
 use Rattle.in_net.specs.Nets.{Point, Port, Signature, AreClasses, Net, IsNet}
 use Rattle.in_net.proofs.Circuits.{Walk, IsEntered, IsLeft, each_any, not_entered, not_left, crossings_separate, leads_walk}
 use Rattle.in_net.specs.Interactions.{Redex, IsRedex, of_first, class_node}
-use Rattle.in_net.specs.Pieces.{end_port}
+use Rattle.in_net.specs.Pieces.{IsOuterPiece, end_port}
 use Rattle.in_net.proofs.Interactions.Pieces.{close_one, close_two}
 use Rattle.in_base.proofs.Each.{all_map}
 
@@ -70,7 +70,7 @@ module _ {A B : Type 0} (sig : Signature) (n : Net A) (x : Redex A B) (classed :
       (λ v h. ((λ e. not_entered x.two v ps not_two h (sym e)), (λ e. not_entered x.one v ps not_one h (sym e))))
       (λ v h. ((λ e. not_left x.two v ps not_two h (sym e)), (λ e. not_left x.one v ps not_one h (sym e)))) ps (walk (x.two, suc j) (x.one, suc i) w))
 
-  pub one_node : (e f : ℕ) → Leads g (end_port sig x e) ps (end_port sig x f) → class_node sig x e ≡ class_node sig x f
+  one_node : (e f : ℕ) → Leads g (end_port sig x e) ps (end_port sig x f) → class_node sig x e ≡ class_node sig x f
   one_node e f w = go (of_first sig x e) (of_first sig x f) w
     where
       place : Bool → ℕ → ℕ
@@ -84,7 +84,7 @@ module _ {A B : Type 0} (sig : Signature) (n : Net A) (x : Redex A B) (classed :
       go false false w = ap (λ (z : ℕ). (false, z)) (at_two (suc (f - sig.arity x.first)) (suc (e - sig.arity x.first)) w)
 
   -- a walk doesn't come back by the port by which it left
-  pub other_port : (u v : A × ℕ) → u ≡ v → Leads g u ps v → ⊥
+  other_port : (u v : A × ℕ) → u ≡ v → Leads g u ps v → ⊥
   other_port u v e w = go ps crossing apart (subst (λ z. Leads g u ps z) (sym e) w)
     where
       pair : (a b : A) (i j : ℕ) → ◌≡◌ {A = Point A} (Port a i) (Port b j) → ◌≡◌ {A = A × ℕ} (a, i) (b, j)
@@ -101,3 +101,10 @@ module _ {A B : Type 0} (sig : Signature) (n : Net A) (x : Redex A B) (classed :
           let here : entered p ≡ left r.0 = pair p.node r.0.node p.enter r.0.leave (one (Port p.node p.enter) (Port r.0.node r.0.leave) w.0 back) in
           let twice : entered p ≡ left p = here ∙ r.1 (ap (λ z. z.0) here) in
           c.0 (ap (λ z. g.class z.0 z.1) twice)
+
+-- both, of an outer piece
+pub is_passage : {A B : Type 0} (sig : Signature) (n : Net A) (x : Redex A B) → AreClasses sig → IsNet sig n → IsRedex sig n x → Discrete A → (CrossingCircle (graph_of sig n) → ⊥) → (e f : ℕ) (ps : List (Passage A)) → IsOuterPiece sig n x e f ps → (class_node sig x e ≡ class_node sig x f) × (e ≢ f)
+is_passage sig n x classed net redex same none e f ps p = (
+  one_node sig n x classed net redex same none ps p.crossing p.apart p.stays e f p.leads,
+  λ h. other_port sig n x classed net redex same none ps p.crossing p.apart p.stays (end_port sig x e) (end_port sig x f) (ap (end_port sig x) h) p.leads,
+)

@@ -1,7 +1,7 @@
 -- Alternating paths are deterministic and symmetric.
 use Rattle.std.proofs.Common.{◌≡◌, ℕ, List, [], ◌∷◌, refl, sym, subst}
 use Rattle.in_net.specs.Interactions.{Side, Outer, Inner, other}
-use Rattle.in_net.specs.InteractionPlaces.{Place, Boundary, Path, Stays, side_of, IsJoined}
+use Rattle.in_net.proofs.Interactions.Places.{Place, Boundary, Path, Stays, side_of, IsJoined}
 
 -- each place has at most one wire on a side, and a wire has no direction
 pub record AreWires {A B : Type 0} (wire : Side → Place A B → Place A B → Type 0) : Type 0 where
@@ -13,6 +13,10 @@ pub record AreWires {A B : Type 0} (wire : Side → Place A B → Place A B → 
 pub other_twice : (s : Side) → other (other s) ≡ s
 other_twice Outer = refl
 other_twice Inner = refl
+
+pub other_side : (s : Side) → other s ≡ s → ⊥
+other_side Outer e = cc
+other_side Inner e = cc
 
 -- what stays is no boundary end
 not_boundary : {A B : Type 0} (p : Place A B) (e : ℕ) → Stays p → p ≡ Boundary e → ⊥

@@ -3,14 +3,11 @@ use Rattle.std.proofs.Common.{◌≡◌, ◌≤◌, ◌<◌, ℕ, zero, suc, Opt
 use mathlib.Core.HLevel.{Discrete}
 use Rattle.in_net.specs.Nets.{Point, Port, Free, Signature, Net, IsPoint, IsNet}
 use Rattle.in_base.specs.Lists.{IsAmong}
+use Rattle.in_base.proofs.Among.{among_left, among_right, in_map}
 use Rattle.in_net.specs.Interactions.{Redex, IsRedex, Side, Outer, Inner, other, Alternates, stands_for, wire_of, IsOfPair, AreJoined, IsStep}
-use Rattle.in_net.proofs.Interactions.Paths.{other_twice}
+use Rattle.in_net.proofs.Interactions.Paths.{other_twice, other_side}
 use Rattle.in_net.proofs.Interactions.Alternating.{symbol_of, wire_back, one_wire, stands_one, both_sides, first_wire, joined_back, end_of_pair}
 use Rattle.in_net.proofs.Interactions.EachJoined.{each_joined}
-
-other_not : (s : Side) → other s ≡ s → ⊥
-other_not Outer h = cc
-other_not Inner h = cc
 
 module _ {P : Type 0} (wire : Side → P → P → Type 0) (End : P → Type 0) where
   -- a path with the side of its last wire
@@ -44,27 +41,13 @@ module _ {P : Type 0} (wire : Side → P → P → Type 0) (End : P → Type 0) 
   -- no path leads from a point back to it by the side on which it began
   no_return : ((s : Side) (p q r : P) → wire s p q → wire s p r → q ≡ r) → ((s : Side) (p q : P) → wire s p q → wire s q p) → ((s : Side) (p : P) → wire s p p → ⊥) → (k : ℕ) (s : Side) (u : P) (es : List P) → length es ≤ k → Sided s u es s u → ⊥
   no_return one back apart k s u [] h w = apart s u w.1
-  no_return one back apart k s u (e ∷ []) h w = other_not s w.2.0
+  no_return one back apart k s u (e ∷ []) h w = other_side s w.2.0
   no_return one back apart zero s u (e ∷ f ∷ es) h w = omega arith
   no_return one back apart (suc k) s u (e ∷ f ∷ es) h w =
       let r = front_of (other s) e f es s u w.2 in
       let same : e ≡ r.point = one s u e r.point w.0 (back s r.point u r.last) in
       let less : length (f ∷ es) ≡ suc (length r.front) = r.shorter in
       no_return one back apart k (other s) e r.front (omega arith) (subst (λ z. Sided (other s) e r.front (other s) z) (sym same) r.path)
-
-among_left : {X : Type 0} (x : X) (xs ys : List X) → IsAmong x xs → IsAmong x (xs ++ ys)
-among_left x [] ys h = absurd h
-among_left x (z ∷ zs) ys (inl e) = inl e
-among_left x (z ∷ zs) ys (inr h) = inr (among_left x zs ys h)
-
-among_right : {X : Type 0} (x : X) (xs ys : List X) → IsAmong x ys → IsAmong x (xs ++ ys)
-among_right x [] ys h = h
-among_right x (z ∷ zs) ys h = inr (among_right x zs ys h)
-
-among_map : {X Y : Type 0} (f : X → Y) (x : X) (xs : List X) → IsAmong x xs → IsAmong (f x) (map f xs)
-among_map f x [] h = absurd h
-among_map f x (z ∷ zs) (inl e) = inl (ap f e)
-among_map f x (z ∷ zs) (inr h) = inr (among_map f x zs h)
 
 module _ {A B : Type 0} (sig : Signature) (n : Net A) (x : Redex A B) (name : B → A) (after : Net A) (net : IsNet sig n) (inside : IsNet sig x.member) (redex : IsRedex sig n x) (step : IsStep sig n x name after) (same : Discrete A) where
   wire_apart : (s : Side) (u : Point A) → wire_of sig n x name s u u → ⊥
@@ -125,13 +108,10 @@ module _ {A B : Type 0} (sig : Signature) (n : Net A) (x : Redex A B) (name : B 
     apart = λ u e. not_itself u ((step.wires u u).0 e);
   }
     where
-      is_some : (o : Option ℕ) (s : ℕ) → o ≡ Some s → IsSome o
-      is_some o s e = subst IsSome (sym e) refl
-
       listed : (y : A) (o : Option ℕ) → after.symbol y ≡ o → IsSome o → IsAmong y (net.agents ++ map name inside.agents)
       listed y None e h = cc
       listed y (Some s) e h =
           elim ((step.agents y s).0 e) [
-            | inl r ↦ among_left y net.agents (map name inside.agents) (net.all y (is_some (n.symbol y) s r.2))
-            | inr r ↦ among_right y net.agents (map name inside.agents) (subst (λ y. IsAmong y (map name inside.agents)) r.1 (among_map name r.0 inside.agents (inside.all r.0 (is_some (x.member.symbol r.0) s r.2))))
+            | inl r ↦ among_left y net.agents (map name inside.agents) (net.all y (subst IsSome (sym r.2) refl))
+            | inr r ↦ among_right y net.agents (map name inside.agents) (subst (λ y. IsAmong y (map name inside.agents)) r.1 (in_map name inside.agents r.0 (inside.all r.0 (subst IsSome (sym r.2) refl))))
           ]

@@ -20,9 +20,6 @@ module _ {A B : Type 0} (sig : Signature) (n : Net A) (x : Redex A B) (name : B 
   valued None = inr refl
   valued (Some s) = inl (s, refl)
 
-  is_some : (o : Option ℕ) (s : ℕ) → o ≡ Some s → IsSome o
-  is_some o s e = subst IsSome (sym e) refl
-
   search_new : (y : A) (ks : List B) → NewAt y ⊎ ((k : B) (s : ℕ) → IsAmong k ks → name k ≡ y → x.member.symbol k ≡ Some s → ⊥)
   search_new y [] = inr (λ k s h e t. h)
   search_new y (z ∷ zs) = go (search_new y zs) (same (name z) y) (valued (x.member.symbol z))
@@ -34,7 +31,7 @@ module _ {A B : Type 0} (sig : Signature) (n : Net A) (x : Redex A B) (name : B 
       go (inr f) (no d) v = inr (λ k s h a t. elim h [ inl i ↦ d (ap name i ∙ a) | inr j ↦ f k s j a t ])
 
   new_at : (y : A) → NewAt y ⊎ ((k : B) (s : ℕ) → name k ≡ y → x.member.symbol k ≡ Some s → ⊥)
-  new_at y = elim (search_new y inside.agents) [ inl r ↦ inl r | inr f ↦ inr (λ k s e t. f k s (inside.all k (is_some (x.member.symbol k) s t)) e t) ]
+  new_at y = elim (search_new y inside.agents) [ inl r ↦ inl r | inr f ↦ inr (λ k s e t. f k s (inside.all k (subst IsSome (sym t) refl)) e t) ]
 
   -- the agent's symbol after, if it has one
   symbol_after : (y : A) → (o : Option ℕ) × ((s : ℕ) → (o ≡ Some s) ↔ Has y s)

@@ -1,33 +1,27 @@
--- Closed walks over both sides of an interaction: what is passed on the way.
-use Rattle.std.proofs.Common.{ℕ, List, [], ◌∷◌, ◌++◌, subst}
+-- Closed walks over both sides of an interaction, joined and parted.
+use Rattle.std.proofs.Common.{◌≡◌, List, [], ◌∷◌, ◌++◌, refl, ap, inl, inr}
 use Rattle.in_net.specs.Interactions.{Side}
-use Rattle.in_net.specs.InteractionPlaces.{Place, Old, New, Boundary, Loose, Path, Stays}
-use Rattle.in_net.specs.Tours.{Stop, enters, leaves, Tour}
-use Rattle.in_net.proofs.Interactions.Paths.{AreWires, one_path}
+use Rattle.in_net.proofs.Interactions.Places.{Place, Old, New, Boundary, Loose}
+use Rattle.in_net.proofs.Interactions.Tours.{Stop, At_old, At_new, Through, enters, leaves, Tour, agents_of, boundary_of}
 
-module _ {A B : Type 0} (wire : Side → Place A B → Place A B → Type 0) (E L : Place A B → Type 0) where
-  -- going back, or on, from a boundary end by this side leads to a place of P
-  abbrev pub Reaches : (P : Place A B → Type 0) → Side → ℕ → Type 0
-  Reaches P s e = (p : Place A B) × (es : List ℕ) × P p × Stays p × Path wire s (Boundary e) es p
+-- a place where it holds of an agent's port, or a boundary end
+abbrev pub AtPlace : {A B : Type 0} → (Place A B → Type 0) → Side → Place A B → Type 0
+AtPlace P s (Old x i) = P (Old x i)
+AtPlace P s (New y i) = P (New y i)
+AtPlace P s (Boundary e) = Unit {0}
+AtPlace P s (Loose k) = ⊥
 
-  -- a place that is entered on this side: one of E, or a boundary end behind which one of L is
-  abbrev pub Entered : Side → Place A B → Type 0
-  Entered s (Old x i) = E (Old x i)
-  Entered s (New y i) = E (New y i)
-  Entered s (Boundary e) = Reaches L s e
-  Entered s (Loose k) = ⊥
+pub agents_join : {A B : Type 0} (xs ys : List (Stop A B)) → agents_of (xs ++ ys) ≡ agents_of xs ++ agents_of ys
+agents_join [] ys = refl
+agents_join (At_old x i j ∷ xs) ys = ap (λ ps. record { node = inl x; enter = i; leave = j } ∷ ps) (agents_join xs ys)
+agents_join (At_new y i j ∷ xs) ys = ap (λ ps. record { node = inr y; enter = i; leave = j } ∷ ps) (agents_join xs ys)
+agents_join (Through s e ∷ xs) ys = agents_join xs ys
 
-  abbrev pub Left : Side → Place A B → Type 0
-  Left s (Old x i) = L (Old x i)
-  Left s (New y i) = L (New y i)
-  Left s (Boundary e) = Reaches E s e
-  Left s (Loose k) = ⊥
-
-  -- a boundary end is not entered and left by one side, where no place is entered and left
-  pub one_way : AreWires wire → ((p : Place A B) → E p → L p → ⊥) → (s : Side) (e : ℕ) → Entered s (Boundary e) → Left s (Boundary e) → ⊥
-  one_way wires clash s e a b =
-      let same = (one_path wire wires s (Boundary e) a.1 b.1 a.0 b.0 a.3 b.3 a.4 b.4).1 in
-      clash b.0 b.2 (subst L same a.2)
+pub boundary_join : {A B : Type 0} (xs ys : List (Stop A B)) → boundary_of (xs ++ ys) ≡ boundary_of xs ++ boundary_of ys
+boundary_join [] ys = refl
+boundary_join (At_old x i j ∷ xs) ys = boundary_join xs ys
+boundary_join (At_new y i j ∷ xs) ys = boundary_join xs ys
+boundary_join (Through s e ∷ xs) ys = ap (λ es. e ∷ es) (boundary_join xs ys)
 
 -- walks each of whose places is entered as En says, and left as Le says
 module _ {A B : Type 0} (wire : Side → Place A B → Place A B → Type 0) (En Le : Side → Place A B → Type 0) where

@@ -1,4 +1,4 @@
--- An interaction by places: whose port a point is, in the net before or in the right member. This project's own.
+-- An interaction by places: whose port a point is, in the net before or in the right member.
 use Rattle.std.specs.Prelude.{◌≡◌, ◌≢◌, ◌⊎◌, ℕ, List, [], ◌∷◌, Some}
 use mathlib.Core.Logic.{inl, inr}
 use Rattle.in_net.specs.Nets.{Point, Port, Free, Signature, Net}

@@ -1,11 +1,12 @@
--- Rings that are laid out wire by wire, over both sides of an interaction: what is passed on the way. This project's own.
+-- Rings that are laid out wire by wire, over both sides of an interaction: what is passed on the way.
 use Rattle.std.specs.Prelude.{◌≡◌, ◌≢◌, ◌⊎◌, ℕ, List, [], ◌∷◌}
 use mathlib.Core.Logic.{inl, inr}
 use Rattle.std.specs.List.{AllByRecursion}
-use Rattle.in_net.specs.Graphs.{Passage, class_of_symbol}
+use Rattle.in_net.specs.Graphs.{Passage, AreApart, class_of_symbol}
 use Rattle.in_net.specs.Nets.{Signature, Net}
 use Rattle.in_net.specs.Interactions.{Redex, Side, Outer, Inner, other}
-use Rattle.in_net.specs.InteractionPlaces.{Place, Old, New, Boundary, wires}
+use Rattle.in_net.specs.Pieces.{AreDifferent}
+use Rattle.in_net.proofs.Interactions.Places.{Place, Old, New, Boundary, wires}
 
 -- an agent that stays, or a new one, with the place that is entered and the one that is left; or a boundary end,
 -- entered on this side and left on the other
@@ -31,12 +32,12 @@ agents_of (At_old x i j ∷ ss) = record { node = inl x; enter = i; leave = j } 
 agents_of (At_new y i j ∷ ss) = record { node = inr y; enter = i; leave = j } ∷ agents_of ss
 agents_of (Through s e ∷ ss) = agents_of ss
 
--- .. under their names after the interaction
-abbrev pub name_after : {A B : Type 0} → (B → A) → A ⊎ B → A
-name_after name m = elim m [ inl y ↦ y | inr k ↦ name k ]
-
-abbrev pub renamed : {V C : Type 0} → (V → C) → Passage V → Passage C
-renamed name p = record { node = name p.node; enter = p.enter; leave = p.leave }
+-- the boundary ends among them, in order
+abbrev pub boundary_of : {A B : Type 0} → List (Stop A B) → List ℕ
+boundary_of [] = []
+boundary_of (At_old x i j ∷ ss) = boundary_of ss
+boundary_of (At_new y i j ∷ ss) = boundary_of ss
+boundary_of (Through s e ∷ ss) = e ∷ boundary_of ss
 
 -- walks each of whose places is entered as En says, and left as Le says
 module _ {A B : Type 0} (wire : Side → Place A B → Place A B → Type 0) (En Le : Side → Place A B → Type 0) where
@@ -58,9 +59,11 @@ abbrev pub AnyPlace : {A B : Type 0} → Side → Place A B → Type 0
 AnyPlace s p = Unit {0}
 
 -- a ring of agents that stay, new agents and boundary ends: what stands between two boundary ends is joined by wires of the net
--- before alone, or by wires of the right member alone, and the side changes at each boundary end
+-- before alone, or by wires of the right member alone, and the side changes at each boundary end. No agent and no boundary end comes twice
 pub record LaidOut {A B : Type 0} (sig : Signature) (n : Net A) (x : Redex A B) : Type 0 where
   pub first : Stop A B
   pub rest : List (Stop A B)
   pub closed : Tour (wires sig n x) AnyPlace AnyPlace (leaves first) rest (enters first)
   pub crossing : AllByRecursion (IsCrossingStop sig n x) (first ∷ rest)
+  pub agents : AreApart (agents_of (first ∷ rest))
+  pub boundary : AreDifferent (boundary_of (first ∷ rest))
