@@ -3,7 +3,7 @@ use Rattle.std.proofs.Common.{◌≡◌, ◌≢◌, List, [], ◌∷◌, ◌++�
 use Rattle.std.specs.List.{AllByRecursion}
 use Rattle.in_net.specs.Graphs.{Passage, AreApart}
 use Rattle.in_net.specs.Pieces.{AreDifferent, renamed}
-use Rattle.in_base.proofs.Each.{all_append, all_right}
+use Rattle.in_base.proofs.Each.{all_append}
 
 -- any two of the list
 abbrev Pairs : {X : Type 0} → (X → X → Type 0) → List X → Type 0
