@@ -23,6 +23,7 @@ use Rattle.in_net.specs.TextNet.{Body, IsTermOf, IsVariable, PlacedJoint, name_o
 use Rattle.in_net.proofs.Linked.{front_or_back, at_front, at_back, links_joint, length-links_of}
 use Rattle.in_net.proofs.Sound.{named, IsLinked, linked_more, linked_joint}
 use Rattle.in_base.proofs.Each.{all_map, all_append}
+use Rattle.in_syntax.specs.Grammar.{max_ports}
 
 -- the name of that number is the term's, which is no symbol's
 pub record IsVariableAt (t : Tables) (b : Body) (names : List (List ℕ)) (m : ℕ) (p : Place) : Type 0 where
@@ -55,7 +56,7 @@ pub record IsRead (t : Tables) (b : Body) (free count : ℕ) (r : Reading) : Typ
   pub known : AllByRecursion (λ a. a.symbol.0 < length t.names) r.agents
   pub named_as : AllByRecursion (IsNamed t b r.names) r.spots
   pub few_agents : length r.agents ≤ count
-  pub few_spots : length r.spots ≤ free + 9 * count
+  pub few_spots : length r.spots ≤ free + (max_ports + 1) * count
 
 -- ---- names
 
@@ -234,7 +235,7 @@ module _ (t : Tables) (free : ℕ) (r : Reading) (numbered : IsNumbered t free r
 wider_joints : (n m : ℕ) (r : Reading) → n ≤ m → JointsInside n r.joints → JointsInside m r.joints
 wider_joints n m r le all = all_map _ _ (λ j h. (omega (arith, h.0, le), omega (arith, h.1, le))) r.joints all
 
-pub with_agent_read : (t : Tables) (b : Body) (free names : ℕ) (r : Reading) (s : SymbolNo) (place : Place) → IsRead t b free names r → s.0 < length t.names → arity_of t s.0 ≤ 8 →
+pub with_agent_read : (t : Tables) (b : Body) (free names : ℕ) (r : Reading) (s : SymbolNo) (place : Place) → IsRead t b free names r → s.0 < length t.names → arity_of t s.0 ≤ max_ports →
     IsRead t b free (names + 1) (with_agent r s (arity_of t s.0) place)
 with_agent_read t b free names r s place read known few =
     let count = wider_agent t free r read.numbered s place in

@@ -2,7 +2,6 @@
 use Rattle.std.proofs.Common.{◌≡◌, ℕ, suc, ◌+◌, ◌<◌, ◌≤◌, List, [], ◌∷◌, length, refl, sym, subst, arith, get_or}
 use Rattle.std.specs.List.{AllByRecursion}
 use Rattle.in_syntax.specs.Grammar.{max_free}
-use Rattle.in_syntax.specs.Sizes.{most_bytes}
 use Rattle.in_symbols.specs.Tables.{Tables, arity_of}
 use Rattle.in_net.specs.declared.reading.Spot.{Spot}
 use Rattle.in_net.specs.declared.reading.Spot.TheVariants.{Port, Free, End, Occurrence}
@@ -14,6 +13,7 @@ use Rattle.in_net.specs.Built.{ArePointsAt, IsEnd, IsReadFrom}
 use Rattle.in_net.specs.TextNet.{Body}
 use Rattle.in_net.proofs.Links.{all_at}
 use Rattle.in_net.proofs.NetRead.{IsBodyRead, ends_in, names_in_body}
+use Rattle.in_syntax.specs.Tokens.{text_limit}
 
 -- what holds of each element, one by one
 pub from_each : {X : Type 0} (P : X → Type 0) (xs : List X) (d : X) → ((i : ℕ) → i < length xs → P (get_or xs i d)) → AllByRecursion P xs
@@ -21,7 +21,7 @@ from_each P [] d h = tt
 from_each P (x ∷ xs) d h = (h 0 (omega arith), from_each P xs d (λ i lt. h (suc i) (omega (arith, lt))))
 
 abbrev pub IsFew : Tables → Body → Type 0
-IsFew t b = (ends_in t b ≤ max_free) × (names_in_body b ≤ most_bytes)
+IsFew t b = (ends_in t b ≤ max_free) × (names_in_body b ≤ text_limit)
 
 -- what was read of a body whose numbers of arguments fit
 module _ (t : Tables) (b : Body) (read : IsBodyRead t b (reading_of t b)) where

@@ -26,6 +26,7 @@ use Rattle.in_net.proofs.Kept.{IsSettled, IsHeldAt, Keeps, keeps_both, keeps_its
 use Rattle.in_net.proofs.Read.{name_there, grows_by, IsRead, with_agent_read, with_occurrence_read, with_joint_read, more_names, new_spot, wider_agent}
 use Rattle.std.proofs.lemmas.Bool.{and_parts}
 use Rattle.in_syntax.proofs.Terms.{names_out}
+use Rattle.in_syntax.specs.Grammar.{max_ports}
 
 -- the joints of a term's arguments and its variables stand among the spots
 pub record IsHeldIn (t : Tables) (u : Term) (r : Reading) : Type 0 where
@@ -71,9 +72,9 @@ pub record AreReadOn (t : Tables) (b : Body) (free count first port : ℕ) (u : 
   pub held : all_true (map (heads_known t.names) args) ≡ true → (w : Term) → IsAmong w args → IsHeldIn t w after
   pub settled : (j : ℕ) (w : Term) → slice_get args j ≡ Some w → IsSettled after (text.port_at (place_of u) (port + j)) (spot_of t w) (place_of w)
 
--- a symbol has at most eight auxiliary ports
+-- a symbol has few auxiliary ports
 abbrev pub AreSmall : Tables → Type 0
-AreSmall t = (s : ℕ) → arity_of t s ≤ 8
+AreSmall t = (s : ℕ) → arity_of t s ≤ max_ports
 
 abbrev ReadsOn : Tables → Body → ℕ → ℕ → Type 0
 ReadsOn t b free h =

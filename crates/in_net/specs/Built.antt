@@ -6,8 +6,7 @@ use Rattle.in_syntax.specs.Refusals.{refusal_of}
 use Rattle.in_syntax.specs.declared.faults.Fault.{Fault}
 use Rattle.in_syntax.specs.declared.places.Place.{Place}
 use Rattle.in_syntax.specs.declared.tree.Source.{Source}
-use Rattle.in_syntax.specs.Grammar.{max_free}
-use Rattle.in_syntax.specs.Sizes.{most_bytes}
+use Rattle.in_syntax.specs.Grammar.{max_free, max_ports}
 use Rattle.in_net.specs.declared.reading.Reading.{Reading}
 use Rattle.in_net.specs.declared.reading.Agent.{Agent}
 use Rattle.in_net.specs.declared.reading.Spot.{Spot}
@@ -23,6 +22,7 @@ use Rattle.in_net.specs.TextNet.{body_of, IsNetOf, IsClosedWireOf}
 use Rattle.in_net.specs.NetFaults.{max_agents, IsFirstNetFault, HasNoNetFault}
 use Rattle.in_syntax.specs.declared.faults.Code.TheVariants.{E09}
 use Rattle.in_syntax.specs.declared.faults.Fault.TheVariants.{Refused, Memory}
+use Rattle.in_syntax.specs.Tokens.{text_limit}
 
 -- so many spots from one on are points
 abbrev pub ArePointsAt : List Spot → ℕ → ℕ → Type 0
@@ -61,8 +61,8 @@ pub record IsReadFrom (t : Tables) (free : ℕ) (r : Reading) : Type 0 where
   pub agents : AgentsOf t r.spots r.agents
   pub free_points : ArePointsAt r.spots 0 free
   pub small : AreSmallSpots r.spots
-  pub few_agents : length r.agents ≤ most_bytes
-  pub few_spots : length r.spots ≤ max_free + 9 * most_bytes
+  pub few_agents : length r.agents ≤ text_limit
+  pub few_spots : length r.spots ≤ max_free + (max_ports + 1) * text_limit
   pub few_free : free ≤ max_free
 
 -- the same wires, in the order of their places

@@ -13,12 +13,14 @@ use Rattle.in_symbols.specs.Names.{number_in}
 use Rattle.std.specs.List.{AllByRecursion}
 use Rattle.in_symbols.specs.declared.symbols.PortType.{PortType}
 use Rattle.in_syntax.specs.Order.{IsRuleInOrder}
-use Rattle.in_syntax.specs.Sizes.{names_in_rule, most_bytes}
+use Rattle.in_syntax.specs.Sizes.{names_in_rule}
 use Rattle.in_symbols.specs.Tables.{Tables, IsSymbol, IsRuleKnown, arity_of, port_at, is_constructor, matching}
 use Rattle.in_net.specs.Built.{IsOver}
 use Rattle.in_net.specs.NetFaults.{max_member_agents, HasNoNetFault, IsFirstNameFault}
 use Rattle.in_net.specs.Parts.{Parts, IsWhole}
 use Rattle.in_net.specs.TextNet.{Body, heads_at, HasAgentsOf, HasWiresOf}
+use Rattle.in_syntax.specs.Tokens.{text_limit}
+use Rattle.in_syntax.specs.Grammar.{max_ports}
 
 -- ---- what contracts see of a rule
 
@@ -110,5 +112,5 @@ BuildsRule source t index answer = (r : SourceRule) × (slice_get source.rules i
 pub record IsReadable (t : Tables) (r : SourceRule) : Type 0 where
   pub known : IsRuleKnown t.names r
   pub order : IsRuleInOrder r
-  pub few : names_in_rule r ≤ most_bytes
-  pub small : (s : ℕ) → arity_of t s ≤ 8
+  pub few : names_in_rule r ≤ text_limit
+  pub small : (s : ℕ) → arity_of t s ≤ max_ports

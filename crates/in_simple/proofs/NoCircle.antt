@@ -1,5 +1,5 @@
 -- A derivable open net has no crossing circle.
-use Rattle.std.proofs.Common.{◌≤◌, ◌≡◌, ◌≢◌, ◌⊎◌, ◌<◌, ℕ, Bool, true, false, nat_eq, List, [], ◌∷◌, ◌++◌, refl, sym, subst, inl, inr, ◌∙◌, eq-eqb}
+use Rattle.std.proofs.Common.{◌≤◌, ◌≡◌, ◌≢◌, ◌⊎◌, ◌<◌, ℕ, Bool, true, nat_eq, List, [], ◌∷◌, ◌++◌, refl, sym, subst, inl, inr, ◌∙◌, eq-eqb}
 use mathlib.Core.HLevel.{Discrete}
 use Rattle.std.specs.List.{AllByRecursion}
 use Rattle.in_net.specs.Graphs.{Graph, Passage, entered, left, Leads, CrossingCircle}

@@ -23,6 +23,7 @@ use Rattle.in_simple.specs.OpenNets.{OpenNet, IsWire, IsOpenNet, IsOrderly, port
 use Rattle.in_simple.specs.Opening.{Each, IsNodeOf, AreNumbered, Opens, open_point, open_wire}
 use Rattle.in_simple.proofs.Sums.{some_of, some_same}
 use Rattle.in_base.proofs.Each.{at_index}
+use Rattle.in_syntax.specs.Grammar.{max_ports}
 
 -- the point of the net that a point of the open net is
 abbrev net_point : Point → points.Point
@@ -222,7 +223,7 @@ module _ (t : Tables) (n : Parts) (o : OpenNet) (numbered : AreNumbered t) (whol
         omega arith;
   }
 
-pub is_orderly : (t : Tables) (n : Parts) (o : OpenNet) → AreNumbered t → IsWhole n → IsOver t n → Opens t n o → Each (λ n node. length node.class_of ≤ 256) o.nodes → IsOrderly o
+pub is_orderly : (t : Tables) (n : Parts) (o : OpenNet) → AreNumbered t → IsWhole n → IsOver t n → Opens t n o → Each (λ n node. length node.class_of ≤ max_ports + 1) o.nodes → IsOrderly o
 is_orderly t n o numbered whole over opens few = record {
   nodes = let a = whole.agents in let b = opens.nodes.0 in omega arith;
   wires = let a = whole.wires in let b = opens.wires.0 in omega arith;
@@ -231,6 +232,6 @@ is_orderly t n o numbered whole over opens few = record {
   ordered = λ x i j a k z l. in_order t n o numbered whole over opens x i j a k z l;
 }
   where
-    at : (x : ℕ) (m : Option OpenNode) → slice_get o.nodes x ≡ m → ports_in m ≤ 256
+    at : (x : ℕ) (m : Option OpenNode) → slice_get o.nodes x ≡ m → ports_in m ≤ max_ports + 1
     at x None e = omega arith
     at x (Some m) e = few x m e

@@ -29,6 +29,7 @@ use Rattle.in_simple.specs.OpeningRules.{places_in, agents_before, agent_node, s
 use Rattle.in_simple.proofs.Sums.{some_of, some_same}
 use Rattle.in_simple.proofs.RulePoints.{lt_tells, place_there, place_within, same_place, not_first, not_second, same_agent, agent_within, NodeKind, of_first, of_second, of_agent, kind_of}
 use Rattle.in_base.proofs.Each.{at_index}
+use Rattle.in_syntax.specs.Grammar.{max_ports}
 
 same_wire : (r s u v : points.Point) → r ≡ u → s ≡ v → ◌≡◌ {A = Option (points.Point × points.Point)} (Some (r, s)) (Some (u, v))
 same_wire r s u v e f = cc
@@ -463,7 +464,7 @@ module _ (t : Tables) (p : RuleParts) (o : OpenNet) (numbered : AreNumbered t) (
         omega arith;
   }
 
-  pub is_orderly : length o.nodes < 2 ^ 32 → Each (λ n node. length node.class_of ≤ 256) o.nodes → IsOrderly o
+  pub is_orderly : length o.nodes < 2 ^ 32 → Each (λ n node. length node.class_of ≤ max_ports + 1) o.nodes → IsOrderly o
   is_orderly small few = record {
     nodes = small;
     wires = let a = net.wires in let b = opens.wires.0 in omega arith;
@@ -472,6 +473,6 @@ module _ (t : Tables) (p : RuleParts) (o : OpenNet) (numbered : AreNumbered t) (
     ordered = λ n i j a k z l. in_order n i j a k z l;
   }
     where
-      at : (n : ℕ) (m : Option OpenNode) → slice_get o.nodes n ≡ m → ports_in m ≤ 256
+      at : (n : ℕ) (m : Option OpenNode) → slice_get o.nodes n ≡ m → ports_in m ≤ max_ports + 1
       at n None e = omega arith
       at n (Some m) e = few n m e

@@ -12,6 +12,7 @@ use Rattle.in_simple.specs.Stuck.{ports_of}
 use Rattle.in_simple.proofs.Sums.{some_of, some_same, not_both}
 use Rattle.in_simple.proofs.Links.{same_nat}
 use Rattle.in_simple.proofs.Sound.{wire_points, port_place}
+use Rattle.in_syntax.specs.Grammar.{max_ports}
 
 -- more of the same
 pub push_same : {X : Type 0} (xs : List X) (d : X) → ((i : ℕ) → get_or xs i d ≡ d) → (i : ℕ) → get_or (xs ++ d ∷ []) i d ≡ d
@@ -31,34 +32,34 @@ pub wire_read : (o : OpenNet) (w : ℕ) (v : Point × Point) → slice_get o.wir
 wire_read o w (p, q) h = h
 
 module _ (o : OpenNet) (orderly : IsOrderly o) where
-  pub place : (n i : ℕ) → IsPointOf o (Port n i) → (n < length o.nodes) × (i < 256)
+  pub place : (n i : ℕ) → IsPointOf o (Port n i) → (n < length o.nodes) × (i < max_ports + 1)
   place n i h =
       let x = some_of (λ (m : OpenNode). i < length m.class_of) (slice_get o.nodes n) h in
-      let few : length x.0.class_of ≤ 256 = subst (λ z. ports_in z ≤ 256) x.1 (orderly.ports n) in
+      let few : length x.0.class_of ≤ max_ports + 1 = subst (λ z. ports_in z ≤ max_ports + 1) x.1 (orderly.ports n) in
       let l = x.2 in
       (slice_get_within o.nodes n x.0 x.1, omega arith)
 
-  pub has_slot : (slots : List Slot) (p : Point) → length slots ≡ length o.nodes * 256 → IsPointOf o p → HasSlot slots p
+  pub has_slot : (slots : List Slot) (p : Point) → length slots ≡ length o.nodes * (max_ports + 1) → IsPointOf o p → HasSlot slots p
   has_slot slots (Port n i) e h = let k = place n i h in let a = k.0 in let b = k.1 in omega arith
   has_slot slots (Free k) e h = tt
 
   pub length_led : (slots : List Slot) (w : ℕ) (p q : Point) → length (led slots w p q) ≡ length slots
-  length_led slots w (Port n i) q = length-set slots (n * 256 + i) (Some (w, q))
+  length_led slots w (Port n i) q = length-set slots (n * (max_ports + 1) + i) (Some (w, q))
   length_led slots w (Free k) q = refl
 
   -- what a slot has after a write
-  at_led : (slots : List Slot) (w : ℕ) (n i : ℕ) (q : Point) → n * 256 + i < length slots → i < 256 → (m j : ℕ) → j < 256
+  at_led : (slots : List Slot) (w : ℕ) (n i : ℕ) (q : Point) → n * (max_ports + 1) + i < length slots → i < max_ports + 1 → (m j : ℕ) → j < max_ports + 1
       → ((m ≡ n) × (j ≡ i) × (slot_at (led slots w (Port n i) q) m j ≡ Some (w, q))) ⊎ (slot_at (led slots w (Port n i) q) m j ≡ slot_at slots m j)
-  at_led slots w n i q l a m j b = elim (same_nat (m * 256 + j) (n * 256 + i)) [
+  at_led slots w n i q l a m j b = elim (same_nat (m * (max_ports + 1) + j) (n * (max_ports + 1) + i)) [
     | inl e ↦
         let f : m ≡ n = omega arith in
         let g : j ≡ i = omega arith in
-        inl (f, g, subst (λ z. get_or (set slots (n * 256 + i) (Some (w, q))) z None ≡ Some (w, q)) (sym e) (get_or-set_same slots (n * 256 + i) (Some (w, q)) None l))
-    | inr d ↦ inr (get_or-set_other slots (n * 256 + i) (m * 256 + j) (Some (w, q)) None d)
+        inl (f, g, subst (λ z. get_or (set slots (n * (max_ports + 1) + i) (Some (w, q))) z None ≡ Some (w, q)) (sym e) (get_or-set_same slots (n * (max_ports + 1) + i) (Some (w, q)) None l))
+    | inr d ↦ inr (get_or-set_other slots (n * (max_ports + 1) + i) (m * (max_ports + 1) + j) (Some (w, q)) None d)
   ]
 
   abbrev IsRight : List Slot → Type 0
-  IsRight slots = (n i w : ℕ) (q : Point) → n < length o.nodes → i < 256 → slot_at slots n i ≡ Some (w, q) → IsWire o w (Port n i) q
+  IsRight slots = (n i w : ℕ) (q : Point) → n < length o.nodes → i < max_ports + 1 → slot_at slots n i ≡ Some (w, q) → IsWire o w (Port n i) q
 
   led_right : (slots : List Slot) (w : ℕ) (p q : Point) → HasSlot slots p → IsPointOf o p → IsWire o w p q → IsRight slots → IsRight (led slots w p q)
   led_right slots w (Free k) q l c h r m j v t a b e = r m j v t a b e
@@ -70,7 +71,7 @@ module _ (o : OpenNet) (orderly : IsOrderly o) where
       same : {x : Slot} → x ≡ Some (w, q) → x ≡ Some (v, t) → ◌≡◌ {A = ℕ × Point} (w, q) (v, t)
       same {x} g k = some_same x (w, q) (v, t) g k
 
-  led_kept : (slots : List Slot) (w : ℕ) (p q : Point) → HasSlot slots p → IsPointOf o p → (m j : ℕ) → j < 256 → (slot_at slots m j ≡ None → ⊥) → slot_at (led slots w p q) m j ≡ None → ⊥
+  led_kept : (slots : List Slot) (w : ℕ) (p q : Point) → HasSlot slots p → IsPointOf o p → (m j : ℕ) → j < max_ports + 1 → (slot_at slots m j ≡ None → ⊥) → slot_at (led slots w p q) m j ≡ None → ⊥
   led_kept slots w (Free k) q l c m j b h e = h e
   led_kept slots w (Port n i) q l c m j b h e = elim (at_led slots w n i q l (place n i c).1 m j b) [
     | inl f ↦ let g = f.2 in cc
@@ -81,14 +82,14 @@ module _ (o : OpenNet) (orderly : IsOrderly o) where
   led_here slots w (Free k) q n i l e f = cc
   led_here slots w (Port m j) q n i l e f =
       let g = port_place m n j i e in
-      let a : m * 256 + j ≡ n * 256 + i = let x = g.0 in let y = g.1 in omega arith in
-      let h : get_or (set slots (m * 256 + j) (Some (w, q))) (n * 256 + i) None ≡ Some (w, q) = subst (λ z. get_or (set slots (m * 256 + j) (Some (w, q))) z None ≡ Some (w, q)) a (get_or-set_same slots (m * 256 + j) (Some (w, q)) None l) in
+      let a : m * (max_ports + 1) + j ≡ n * (max_ports + 1) + i = let x = g.0 in let y = g.1 in omega arith in
+      let h : get_or (set slots (m * (max_ports + 1) + j) (Some (w, q))) (n * (max_ports + 1) + i) None ≡ Some (w, q) = subst (λ z. get_or (set slots (m * (max_ports + 1) + j) (Some (w, q))) z None ≡ Some (w, q)) a (get_or-set_same slots (m * (max_ports + 1) + j) (Some (w, q)) None l) in
       cc
 
-  pub led_nothing : (slots : List Slot) → length slots ≡ length o.nodes * 256 → ((i : ℕ) → get_or slots i None ≡ None) → AreLed o 0 slots
+  pub led_nothing : (slots : List Slot) → length slots ≡ length o.nodes * (max_ports + 1) → ((i : ℕ) → get_or slots i None ≡ None) → AreLed o 0 slots
   led_nothing slots e h = record {
     all = e;
-    right = λ n i w q a b f. let g = h (n * 256 + i) in cc;
+    right = λ n i w q a b f. let g = h (n * (max_ports + 1) + i) in cc;
     some = λ n i w q l a b f g. omega arith;
   }
 

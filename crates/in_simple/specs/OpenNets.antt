@@ -1,7 +1,7 @@
 -- Open nets: nodes in order, wires by number, free ends. An agent of a net is a node of it, and so is each class of a rule's
 -- heads: Lafont 1990 has a right member simple for the classes of its left symbols; the class nodes are this project's own way to
 -- say it.
-use Rattle.std.specs.Prelude.{◌≡◌, ◌≢◌, ◌⊎◌, ◌↔◌, ℕ, ◌<◌, ◌≤◌, ◌^◌, Bool, List, length, slice_get, get_or, Option, Some, None, IsSomeAnd, option_map}
+use Rattle.std.specs.Prelude.{◌+◌, ◌≡◌, ◌≢◌, ◌⊎◌, ◌↔◌, ℕ, ◌<◌, ◌≤◌, ◌^◌, Bool, List, length, slice_get, get_or, Option, Some, None, IsSomeAnd, option_map}
 use Rattle.in_syntax.specs.declared.places.Place.{Place}
 use Rattle.in_net.specs.Graphs.{Graph}
 use Rattle.in_simple.specs.declared.open_nets.Node.{Node}
@@ -11,6 +11,7 @@ use Rattle.in_simple.specs.declared.open_nets.Point.{Point}
 use Rattle.in_simple.specs.declared.open_nets.Point.TheVariants.{Port, Free}
 use Rattle.in_simple.specs.Constructions.{IsIn, Built}
 use Rattle.in_simple.specs.Splitting.{Splits}
+use Rattle.in_syntax.specs.Grammar.{max_ports}
 
 -- the nodes in order, each wire by its two points, and the number of free ends. A node is known by its place in the list
 pub record OpenNet : Type 0 where
@@ -70,7 +71,7 @@ ports_in (Some m) = length m.class_of
 pub record IsOrderly (o : OpenNet) : Type 0 where
   pub nodes : length o.nodes < 2 ^ 32
   pub wires : length o.wires < 2 ^ 32
-  pub ports : (n : ℕ) → ports_in (slice_get o.nodes n) ≤ 256
+  pub ports : (n : ℕ) → ports_in (slice_get o.nodes n) ≤ max_ports + 1
   pub net : IsOpenNet o
   pub ordered : (n i j : ℕ) → IsAgent o n → IsPointOf o (Port n j) → 0 < i → i ≤ j → class_in o n i ≤ class_in o n j
 

@@ -1,7 +1,7 @@
 -- The open net of a rule: its right member with a node for each class of its two heads, whose ports are the boundary ends of the class.
 -- Lafont 1990 has a right member simple for the classes of its left symbols; the class nodes, and that each of their ports is a class
 -- by itself, are this project's own way to say it.
-use Rattle.std.specs.Prelude.{◌≡◌, ℕ, zero, suc, ◌+◌, ◌-◌, ◌<◌, ◌≤◌, nat_lt, nat_eq, cond, not, Bool, List, length, count_by, option_map, Some}
+use Rattle.std.specs.Prelude.{◌≡◌, ◌^◌, ℕ, zero, suc, ◌+◌, ◌-◌, ◌<◌, ◌≤◌, nat_lt, nat_eq, cond, not, Bool, List, length, count_by, option_map, Some}
 use Rattle.in_syntax.specs.declared.places.Place.{Place}
 use Rattle.in_symbols.specs.declared.symbols.SymbolNo.{SymbolNo}
 use Rattle.in_symbols.specs.Tables.{Tables, arity_of, class_at, classes_of}
@@ -100,4 +100,4 @@ pub record IsLayoutOf (t : Tables) (p : RuleParts) (l : Layout) : Type 0 where
   pub first : l.first ≡ classes_of t p.written.0.0
   pub before : l.before ≡ agents_before p
   pub second : l.second ≡ classes_of t p.written.1.0
-  pub few : (l.first ≤ 255) × (l.second ≤ 255) × (l.before ≤ length p.member.cells)
+  pub few : (l.first < 2 ^ 8) × (l.second < 2 ^ 8) × (l.before ≤ length p.member.cells)

@@ -9,34 +9,35 @@ use Rattle.in_simple.specs.Constructions.{IsIn, count}
 use Rattle.in_simple.specs.Splitting.{Linked, Without, SplitsAt, IsFirstSplitting, Splits}
 use Rattle.in_simple.specs.OpenNets.{OpenNet, IsWire, class_in, open_graph}
 use Rattle.in_simple.specs.Stuck.{IsPart, Among, ComesAt, FirstStuck}
+use Rattle.in_syntax.specs.Grammar.{max_ports}
 
 abbrev pub nodes_in : List Bool → ℕ → Bool
 nodes_in bits n = slice_index_or bits n false
 
 -- ---- wires by port
 
--- the wire at a port and its other point; a node has 256 slots
+-- the wire at a port and its other point; a node has a slot for each port that an agent may have
 abbrev pub Slot : Type 0
 Slot = Option (ℕ × Point)
 
 abbrev pub slot_at : List Slot → ℕ → ℕ → Slot
-slot_at slots n i = slice_index_or slots (n * 256 + i) None
+slot_at slots n i = slice_index_or slots (n * (max_ports + 1) + i) None
 
 -- a port has a slot
 abbrev pub HasSlot : List Slot → Point → Type 0
-HasSlot slots (Port n i) = n * 256 + i < length slots
+HasSlot slots (Port n i) = n * (max_ports + 1) + i < length slots
 HasSlot slots (Free k) = Unit {0}
 
 -- the slot of a port has this
 abbrev pub led : List Slot → ℕ → Point → Point → List Slot
-led slots w (Port n i) q = slice_set slots (n * 256 + i) (Some (w, q))
+led slots w (Port n i) q = slice_set slots (n * (max_ports + 1) + i) (Some (w, q))
 led slots w (Free k) q = slots
 
 -- the slots have wires of the open net, and all those below b
 pub record AreLed (o : OpenNet) (b : ℕ) (slots : List Slot) : Type 0 where
-  pub all : length slots ≡ length o.nodes * 256
-  pub right : (n i w : ℕ) (q : Point) → n < length o.nodes → i < 256 → slot_at slots n i ≡ Some (w, q) → IsWire o w (Port n i) q
-  pub some : (n i w : ℕ) (q : Point) → w < b → n < length o.nodes → i < 256 → IsWire o w (Port n i) q → slot_at slots n i ≡ None → ⊥
+  pub all : length slots ≡ length o.nodes * (max_ports + 1)
+  pub right : (n i w : ℕ) (q : Point) → n < length o.nodes → i < max_ports + 1 → slot_at slots n i ≡ Some (w, q) → IsWire o w (Port n i) q
+  pub some : (n i w : ℕ) (q : Point) → w < b → n < length o.nodes → i < max_ports + 1 → IsWire o w (Port n i) q → slot_at slots n i ≡ None → ⊥
 
 abbrev pub IsWired : OpenNet → List Slot → Type 0
 IsWired o slots = AreLed o (length o.wires) slots

@@ -1,4 +1,5 @@
-ghost use Rattle.std.specs.Prelude.{◌≡◌, ◌<◌, ◌≤◌, ◌^◌, length, slice_get, Some, IsTrue, false};
+ghost use Rattle.std.specs.Prelude.{◌≡◌, ◌+◌, ◌<◌, ◌≤◌, ◌^◌, length, slice_get, Some, IsTrue, false};
+ghost use Rattle.in_syntax.specs.Grammar.{max_ports};
 ghost use Rattle.in_simple.specs.OpenNets.{IsAgent, IsClass, IsOrderly, class_in, classes_of, node_in, node_place_in};
 ghost use Rattle.in_simple.specs.Stuck.{ports_of};
 
@@ -95,7 +96,7 @@ impl OpenNet {
     pub(crate) fn ports(&self, node: usize) -> usize
         requires { node < length self.now.nodes }
         ensures ports { result ≡ ports_of self.now node }
-        ensures few { result ≤ 256 }
+        ensures few { result ≤ max_ports + 1 }
     {
         self.nodes.as_slice()[node].class_of.len()
     }

@@ -1,4 +1,5 @@
-ghost use Rattle.std.specs.Prelude.{◌≡◌, ◌<◌, ◌≤◌, ◌^◌, length, IsTrue, Some, option_map, IfOk};
+ghost use Rattle.std.specs.Prelude.{◌≡◌, ◌+◌, ◌<◌, ◌≤◌, ◌^◌, length, IsTrue, Some, option_map, IfOk};
+ghost use Rattle.in_syntax.specs.Grammar.{max_ports};
 ghost use Rattle.in_symbols.specs.Tables.{IsSymbol};
 ghost use Rattle.in_net.specs.Built.{IsOver};
 ghost use Rattle.in_net.specs.Parts.{IsWhole, wire_in};
@@ -14,7 +15,7 @@ use std::alloc::{AllocError, Global};
 fn classes(alloc: Global, symbols: &Symbols, symbol: SymbolNo) -> Result<Items<u8>, AllocError>
     requires { IsSymbol symbols.now symbol.0 }
     ensures classes { IfOk result (AreClassesOf symbols.now symbol) }
-    ensures few { IfOk result (λ classes. length classes ≤ 256) }
+    ensures few { IfOk result (λ classes. length classes ≤ max_ports + 1) }
 {
     let mut classes = Items::new(alloc);
     let arity = symbols.arity(symbol);
@@ -36,7 +37,7 @@ pub(crate) fn node(
     requires there { AreAllThere net.now }
     requires agent { agent.0 < length net.now.cells }
     ensures node { IfOk result (IsNodeOf symbols.now net.now agent.0) }
-    ensures few { IfOk result (λ node. length node.class_of ≤ 256) }
+    ensures few { IfOk result (λ node. length node.class_of ≤ max_ports + 1) }
 {
     match net.symbol(agent) {
         Some(symbol) => Ok(OpenNode {
@@ -56,7 +57,7 @@ fn nodes(alloc: Global, symbols: &Symbols, net: &Net) -> Result<Items<OpenNode>,
     requires there { AreAllThere net.now }
     ensures nodes { IfOk result (AreNodesOf symbols.now net.now) }
     ensures small { IfOk result (λ nodes. length nodes < 2 ^ 32) }
-    ensures few { IfOk result (Each (λ n node. length node.class_of ≤ 256)) }
+    ensures few { IfOk result (Each (λ n node. length node.class_of ≤ max_ports + 1)) }
     ensures whole { IsWhole net.now }
 {
     let mut nodes = Items::new(alloc);

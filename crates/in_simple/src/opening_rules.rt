@@ -1,5 +1,7 @@
 ghost use Rattle.std.specs.Prelude.{◌≡◌, ◌+◌, ◌<◌, ◌≤◌, ◌^◌, cond, nat_eq, nat_lt, length, option_map, Some, IfOk, IsTrue};
+ghost use Rattle.in_syntax.specs.Grammar.{max_ports};
 ghost use Rattle.in_symbols.specs.Tables.{IsSymbol, arity_of, class_at};
+ghost use Rattle.in_net.specs.NetFaults.{max_member_agents};
 ghost use Rattle.in_net.specs.Parts.{IsPointOf, IsWhole, agent_place_in, wire_in};
 ghost use Rattle.in_net.specs.Rules.{IsRuleOver};
 ghost use Rattle.in_simple.specs.Opening.{AreAllThere, AreNumbered, Each};
@@ -31,7 +33,8 @@ fn one_in(symbols: &Symbols, symbol: SymbolNo, class: u8, place: u8) -> u8
 fn places_in(symbols: &Symbols, symbol: SymbolNo, class: u8, last: u8) -> u8
     requires symbol { IsSymbol symbols.now symbol.0 }
     requires last { last ≤ arity_of symbols.now symbol.0 }
-    ensures { result ≡ places_in symbols.now symbol.0 class last }
+    ensures count { result ≡ places_in symbols.now symbol.0 class last }
+    ensures few { result ≤ last }
 {
     let mut count = 0;
     for place in 0..last {
@@ -62,7 +65,7 @@ fn class_node(
 ) -> Result<OpenNode, AllocError>
     requires { IsSymbol symbols.now symbol.0 }
     ensures node { IfOk result (IsClassNodeOf symbols.now symbol place class) }
-    ensures few { IfOk result (λ node. length node.class_of ≤ 256) }
+    ensures few { IfOk result (λ node. length node.class_of ≤ max_ports + 1) }
 {
     let count = places_in(symbols, symbol, class, symbols.arity(symbol));
     Ok(OpenNode {
@@ -145,7 +148,7 @@ fn class_port(symbols: &Symbols, symbol: SymbolNo, first: u32, place: u8) -> Poi
     requires numbered { AreNumbered symbols.now }
     requires some { 0 < place }
     requires place { place ≤ arity_of symbols.now symbol.0 }
-    requires few { first < 1000 }
+    requires few { first < 2 ^ 31 }
     ensures { result ≡ class_port symbols.now symbol.0 first place }
 {
     let class = symbols.class_of(symbol, place);
@@ -155,10 +158,10 @@ fn class_port(symbols: &Symbols, symbol: SymbolNo, first: u32, place: u8) -> Poi
 
 /// The first class node of the head that is or is not written second.
 fn first_node(layout: Layout, second: bool) -> u32
-    requires first { layout.first ≤ 255 }
-    requires before { layout.before ≤ 64 }
+    requires first { layout.first < 2 ^ 8 }
+    requires before { layout.before ≤ max_member_agents }
     ensures node { result ≡ cond second (layout.first + layout.before) 0 }
-    ensures few { result < 1000 }
+    ensures few { result < 2 ^ 31 }
 {
     if second {
         layout.first + layout.before
@@ -218,7 +221,7 @@ fn rule_node(
     requires layout { IsLayoutOf symbols.now rule.now layout }
     requires number { number < rule_nodes symbols.now rule.now }
     ensures node { IfOk result (IsRuleNode symbols.now rule.now number) }
-    ensures few { IfOk result (λ node. length node.class_of ≤ 256) }
+    ensures few { IfOk result (λ node. length node.class_of ≤ max_ports + 1) }
 {
     let (first, second) = rule.written();
     if number < layout.first {
@@ -247,7 +250,7 @@ fn nodes(
     requires layout { IsLayoutOf symbols.now rule.now layout }
     ensures nodes { IfOk result (AreRuleNodes symbols.now rule.now) }
     ensures small { IfOk result (λ nodes. length nodes < 2 ^ 32) }
-    ensures few { IfOk result (Each (λ n node. length node.class_of ≤ 256)) }
+    ensures few { IfOk result (Each (λ n node. length node.class_of ≤ max_ports + 1)) }
     ensures member { IsWhole rule.now.member }
 {
     let mut nodes = Items::new(alloc);

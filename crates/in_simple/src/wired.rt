@@ -1,15 +1,20 @@
 ghost use Rattle.std.specs.Prelude.{◌≡◌, ◌<◌, ◌≤◌, ◌^◌, ◌*◌, ◌+◌, length, slice_index_or, Some, None, IsTrue, false, IfOk, OnOk, ℕ};
+ghost use Rattle.in_syntax.specs.Grammar.{max_ports};
 ghost use Rattle.in_simple.specs.OpenNets.{IsAgent, IsClass, IsOrderly, IsPointOf, IsWire, class_in, classes_of};
 ghost use Rattle.in_simple.specs.Procedure.{led, HasSlot, IsWired};
 ghost use Rattle.in_simple.specs.Stuck.{ports_of};
 ghost use Rattle.in_simple.specs.declared.open_nets.Point.TheVariants.{Port};
 
 use crate::open_nets::{OpenNet, Point};
+use in_syntax::MAX_PORTS;
 use sqlite_items::Items;
 use std::alloc::{AllocError, Global};
 use std::marker::Model;
 
-/// An open net, with the wire at each port and its other point. A node has a slot for each place that a `u8` names.
+/// The most ports of a node: an agent's principal port and its auxiliary ports.
+const MOST_PORTS: usize = MAX_PORTS + 1;
+
+/// An open net, with the wire at each port and its other point. A node has a slot for each port that an agent may have.
 #[derive(Drop)]
 pub(crate) struct Wired<'a> {
     open: &'a OpenNet,
@@ -47,7 +52,10 @@ fn lead(slots: &mut Items<Option<(u32, Point)>>, wire: u32, from: Point, to: Poi
 {
     match from {
         Point::Port(node, place) => {
-            slots.set(node as usize * 256 + place as usize, Some((wire, to)));
+            slots.set(
+                node as usize * MOST_PORTS + place as usize,
+                Some((wire, to)),
+            );
         }
         Point::Free(_) => {}
     }
@@ -58,7 +66,7 @@ fn slots(alloc: Global, open: &OpenNet) -> Result<Items<Option<(u32, Point)>>, A
     ensures { IfOk result (IsWired «open».now) }
 {
     let count = open.nodes() as usize;
-    let mut slots = empty(alloc, count * 256)?;
+    let mut slots = empty(alloc, count * MOST_PORTS)?;
     for wire in 0..open.wires() {
         let (one, other) = open.wire(wire);
         lead(&mut slots, wire as u32, one, other);
@@ -93,7 +101,7 @@ impl<'a> Wired<'a> {
     pub(crate) fn ports(&self, node: usize) -> usize
         requires { node < length self.now.nodes }
         ensures ports { result ≡ ports_of self.now node }
-        ensures few { result ≤ 256 }
+        ensures few { result ≤ max_ports + 1 }
         ensures net { IsOrderly self.now }
     {
         self.open.ports(node)
@@ -133,7 +141,7 @@ impl<'a> Wired<'a> {
         ensures point { IsPointOf self.now result.1 }
         ensures net { IsOrderly self.now }
     {
-        match self.slots.as_slice()[node * 256 + port] {
+        match self.slots.as_slice()[node * MOST_PORTS + port] {
             Some(found) => found,
             None => unreachable!(),
         }

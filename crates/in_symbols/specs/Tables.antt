@@ -20,6 +20,7 @@ use Rattle.in_symbols.specs.declared.symbols.SymbolNo.{SymbolNo}
 use Rattle.in_syntax.specs.declared.faults.Fault.TheVariants.{Refused, Memory}
 use Rattle.in_symbols.specs.Faults.{IsFaultless, IsFirstFault}
 use Rattle.in_symbols.specs.Names.{number_in}
+use Rattle.in_syntax.specs.Grammar.{max_ports}
 
 -- the names of the types, the names of the symbols, and what is declared of each symbol, in the order of declaration
 pub record Tables : Type 0 where
@@ -72,10 +73,10 @@ pub record AddsClass (types : List (List ℕ)) (number : ℕ) (class : List Sour
   pub classes : new.classes ≡ old.classes ++ replicate (length class) number
   pub others : (new.place ≡ old.place) × (new.class_count ≡ old.class_count)
 
--- a principal port, at most eight auxiliary ports, and a class for each
+-- a principal port, so many auxiliary ports at most, and a class for each
 pub record IsShape (s : Shape) : Type 0 where
   pub some : 1 ≤ length s.ports
-  pub few : length s.ports ≤ 9
+  pub few : length s.ports ≤ max_ports + 1
   pub classed : length s.classes ≡ length s.ports
 
 abbrev pub AreShapes : List Shape → Type 0

@@ -1,4 +1,5 @@
 ghost use Rattle.std.specs.Prelude.{◌≡◌, ◌≤◌, length, Some};
+ghost use Rattle.in_syntax.specs.Grammar.{max_ports};
 ghost use Rattle.in_syntax.specs.Parsing.{IsOfText};
 ghost use Rattle.in_symbols.specs.Names.{name_in};
 ghost use Rattle.in_symbols.specs.Tables.{place_of, IsSymbol, arity_of, port_at, class_at, classes_of, is_constructor, matching, symbol_numbered, Knows, port_of, Tabulates};
@@ -109,7 +110,8 @@ impl Symbols {
     /// How many auxiliary ports the symbol has.
     pub fn arity(&self, symbol: SymbolNo) -> u8
         requires { IsSymbol self.now symbol.0 }
-        ensures { result ≡ arity_of self.now symbol.0 }
+        ensures arity { result ≡ arity_of self.now symbol.0 }
+        ensures few { result ≤ max_ports }
     {
         let shape = &self.shapes.as_slice()[symbol.0 as usize];
         (shape.ports.len() - 1) as u8

@@ -158,12 +158,12 @@ type_within number n all = ltb-false max_types number all.0
 free_within : Within max_free spell_free
 free_within number f all = ltb-false max_free number all.0
 
-classes_within : (number : ℕ) (cs : List (List SourcePort)) → number ≤ 9 → AllByRecursion IsNonempty cs → Unmarked (spell_classes number cs) → (number + length (flat_map (λ c. c) cs) ≤ 9) × (number + length cs ≤ 9)
+classes_within : (number : ℕ) (cs : List (List SourcePort)) → number ≤ max_ports + 1 → AllByRecursion IsNonempty cs → Unmarked (spell_classes number cs) → (number + length (flat_map (λ c. c) cs) ≤ max_ports + 1) × (number + length cs ≤ max_ports + 1)
 classes_within number [] le some all = (omega (arith, le), omega (arith, le))
 classes_within number ([] ∷ cs) le some all = absurd some.0
 classes_within number ((p ∷ c) ∷ cs) le some all =
     let front = front_all (spell_class number (p ∷ c)) (spell_classes (number + length (p ∷ c)) cs) all in
-    let here : number + length (p ∷ c) ≤ 9 =
+    let here : number + length (p ∷ c) ≤ max_ports + 1 =
     separated_within max_ports spell_auxiliary auxiliary_within number (p ∷ c) le (front_all (separated (numbered spell_auxiliary number (p ∷ c))) (plain kind.CloseBrace ∷ []) front.1) in
     let rest = classes_within (number + length (p ∷ c)) cs here some.1 (back_all (spell_class number (p ∷ c)) (spell_classes (number + length (p ∷ c)) cs) all) in
     (omega (arith, rest.0, length-append (p ∷ c) (flat_map (λ c. c) cs)), omega (arith, rest.1))

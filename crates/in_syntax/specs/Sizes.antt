@@ -9,6 +9,7 @@ use Rattle.in_syntax.specs.declared.tree.SourceSymbol.{SourceSymbol}
 use Rattle.in_syntax.specs.declared.tree.SourceRule.{SourceRule}
 use Rattle.in_syntax.specs.declared.tree.Head.{Head}
 use Rattle.in_syntax.specs.Grammar.{max_types, max_symbols, max_rules, max_free, max_ports}
+use Rattle.in_syntax.specs.Tokens.{text_limit}
 
 abbrev pub total : List ℕ → ℕ
 total [] = 0
@@ -34,10 +35,6 @@ names_in_rule r = names_in_head r.first + names_in_head r.second
 abbrev pub names_in_rules : List SourceRule → ℕ
 names_in_rules rs = total (map names_in_rule rs)
 
--- at most so many bytes has a text, and no more names
-abbrev pub most_bytes : ℕ
-most_bytes = 1048576
-
 pub record IsSizedSymbol (s : SourceSymbol) : Type 0 where
   pub ports : length (flat_map (λ c. c) s.classes) ≤ max_ports
   pub classes : length s.classes ≤ max_ports
@@ -49,5 +46,5 @@ pub record IsSized (s : Source) : Type 0 where
   pub ports : AllByRecursion IsSizedSymbol s.symbols
   pub rules : length s.rules ≤ max_rules
   pub free : length s.net.free ≤ max_free
-  pub names : names_in_equations s.net.equations ≤ most_bytes
-  pub heads : names_in_rules s.rules ≤ most_bytes
+  pub names : names_in_equations s.net.equations ≤ text_limit
+  pub heads : names_in_rules s.rules ≤ text_limit

@@ -1,9 +1,10 @@
-use Rattle.std.proofs.Common.{◌≡◌, ◌≤◌, length, ap, arith}
+use Rattle.std.proofs.Common.{◌+◌, ◌≡◌, ◌≤◌, length, ap, arith}
 use Rattle.std.specs.Prelude.{count_by, is_some}
 use Rattle.in_simple.specs.OpeningRules.{IsRuleNode}
 use Rattle.in_simple.proofs.Counted.{count_all}
 use Rattle.in_simple.proofs.RuleNodes.{each_more, length_more}
 use Rattle.in_simple.proofs.opening_rules.nodes.Goals as goal
+use Rattle.in_syntax.specs.Grammar.{max_ports}
 
 pub loop-number-preserved : goal.loop-number-preserved
 loop-number-preserved c =
@@ -12,7 +13,7 @@ loop-number-preserved c =
     record {
       count = length_more _ _ _ _ c.in_ok-push.ensures.ok i.count;
       each = each_more (IsRuleNode c.args.symbols.now c.args.rule.now) _ _ _ _ c.in_ok-push.ensures.ok i.count i.each n.node;
-      few = each_more (λ n node. length node.class_of ≤ 256) _ _ _ _ c.in_ok-push.ensures.ok i.count i.few n.few;
+      few = each_more (λ n node. length node.class_of ≤ max_ports + 1) _ _ _ _ c.in_ok-push.ensures.ok i.count i.few n.few;
     }
 
 pub returns-clause-nodes : goal.returns-clause-nodes
