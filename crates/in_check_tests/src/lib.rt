@@ -10,3 +10,4 @@ mod of_in_check;
 mod of_in_cover;
 #[cfg(test)]
 mod of_in_simple;
+pub mod only;

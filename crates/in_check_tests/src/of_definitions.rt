@@ -1,41 +1,11 @@
-//! Tests of the definitions by which a text is accepted or refused: where a call below answers a value, no other answer is allowed by
-//! them, whatever the code does.
-ghost use Rattle.std.specs.Prelude.{◌≡◌, ¬, IfSome};
-ghost use Rattle.in_syntax.specs.declared.faults.Refusal.{Refusal};
-ghost use Rattle.in_check.specs.Checking.{IsAccepted, IsRefused};
-ghost use Rattle.in_check.specs.Laws.{AreOneProgram};
-ghost use Rattle.in_check.specs.Programs.{Program};
-
-use in_check::laws::texts_are_checked_once;
-use in_check::{Checked, Item, check};
+//! Tests of the definitions by which a text is accepted or refused: where `only_refusal` or `only_program` answers a value, the
+//! definitions allow no other answer.
+use crate::only::{only_program, only_refusal};
+use in_check::Item;
 use in_simple::Step;
-use in_syntax::{Code, Fault, Refusal};
+use in_syntax::Code;
 use std::alloc::Global;
 use std::test::Fail;
-
-/// The refusal of a text, which is the only one, and then no program of the text is accepted.
-fn only_refusal(alloc: Global, text: &[u8]) -> Option<Refusal>
-    ensures alone { IfSome result (λ r. (s : Refusal) → IsRefused text.now s → r ≡ s) }
-    ensures never { IfSome result (λ r. (p : Program) → IsAccepted text.now p → ⊥) }
-{
-    texts_are_checked_once();
-    match check(alloc, text) {
-        Err(Fault::Refused(refusal)) => Some(refusal),
-        _ => None,
-    }
-}
-
-/// The accepted program of a text, which is the only one, and then the text has no refusal.
-fn only_program(alloc: Global, text: &[u8]) -> Option<Checked>
-    ensures alone { IfSome result (λ p. (q : Program) → IsAccepted text.now q → AreOneProgram p q) }
-    ensures never { IfSome result (λ p. (r : Refusal) → IsRefused text.now r → ⊥) }
-{
-    texts_are_checked_once();
-    match check(alloc, text) {
-        Ok(checked) => Some(checked),
-        Err(_) => None,
-    }
-}
 
 /// Where the text is refused, and by which code.
 fn refused(alloc: Global, text: &str) -> Option<(Code, u32, u32)> {

@@ -1,6 +1,5 @@
 -- The table holds the first so many rules.
-use Rattle.std.proofs.Common.{◌≡◌, ◌⊎◌, ℕ, ◌+◌, ◌<◌, ◌≤◌, List, [], ◌∷◌, length, Option, Some, None, IsSome, slice_get, refl, sym, ◌∙◌, ap, subst, inl, inr, arith, zero, suc}
-use Rattle.std.specs.List.{AllByRecursion}
+use Rattle.std.proofs.Common.{◌≡◌, ◌⊎◌, ℕ, ◌+◌, ◌<◌, ◌≤◌, List, length, Option, Some, None, IsSome, slice_get, refl, sym, ◌∙◌, ap, subst, inl, inr, arith}
 use Rattle.std.proofs.lemmas.Bool.{cases_lt, cases_eq}
 use Rattle.std.proofs.lemmas.Option.{none-some, same_Some, slice_get_within}
 use Rattle.in_net.specs.Rules.{RuleParts}
@@ -8,7 +7,6 @@ use Rattle.in_cover.specs.declared.table.RuleNo.{RuleNo}
 use Rattle.in_cover.specs.Cover.{IsFor, IsRuleFor, IsSecond, HasNoSecond}
 use Rattle.in_cover.specs.Covering.{HasNoRule, SetsBoth, HoldsBelow}
 use Rattle.in_cover.specs.Table.{Cells, rule_at}
-use Rattle.in_base.proofs.Each.{all_at}
 
 -- ---- two symbols in either order
 

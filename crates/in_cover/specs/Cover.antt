@@ -1,6 +1,6 @@
 -- One rule for each pair. Lafont 1990: there is one rule for each constructor and destructor of one type, and at most one rule for
 -- two symbols, whichever of them is written first. The codes, the places and which fault is the first are this project's own choice.
-use Rattle.std.specs.Prelude.{◌≡◌, ◌⊎◌, ◌↔◌, ℕ, ◌<◌, ◌≤◌, true, List, Some, None, IsSome, Result, Ok, Err, slice_get}
+use Rattle.std.specs.Prelude.{◌≡◌, ◌⊎◌, ◌↔◌, ℕ, ◌<◌, ◌≤◌, true, List, Some, IsSome, Result, Ok, Err, slice_get}
 use Rattle.in_syntax.specs.Refusals.{refusal_of}
 use Rattle.in_syntax.specs.declared.faults.Code.TheVariants.{E14, E15}
 use Rattle.in_syntax.specs.declared.faults.Fault.{Fault}
