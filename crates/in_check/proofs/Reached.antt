@@ -5,6 +5,7 @@ pub mod HoldsEach
 pub mod Kept
 pub mod Numbers
 pub mod Others
+pub mod Plain
 pub mod Renaming
 pub mod SameText
 pub mod Unchanged

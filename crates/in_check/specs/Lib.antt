@@ -2,6 +2,7 @@ pub mod Certificates
 pub mod Checking
 pub mod Laws
 pub mod NetText
+pub mod Plain
 pub mod Programs
 pub mod Promises
 pub mod Runs

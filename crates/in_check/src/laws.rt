@@ -1,6 +1,7 @@
 //! Laws over what checking a text answers, for whoever reasons above it. No function here does anything.
 
 ghost use Rattle.in_check.specs.Laws.{TextsAreCheckedOnce};
+ghost use Rattle.in_check.specs.Plain.{PairsHaveTheirRule, PlainAsPromised, PlainStarts, PlainSteps};
 ghost use Rattle.in_check.specs.Promises.{AcceptedIsSound, RenamingChangesNothing, SoundReachesAsPromised, StepsReach};
 
 /// A text has one answer: it is accepted or refused, never both; two refusals are equal, and two accepted programs have equal tables,
@@ -29,4 +30,24 @@ pub fn steps_reach()
 /// written alike.
 pub fn renaming_changes_nothing()
     ensures { RenamingChangesNothing }
+{}
+
+/// The initial net of a program is reached by no interaction.
+pub fn plain_starts()
+    ensures { PlainStarts }
+{}
+
+/// A step at an active pair, by its rule, leads from a net that is reached to one that is reached by one more.
+pub fn plain_steps()
+    ensures { PlainSteps }
+{}
+
+/// Of an accepted program, the symbols of an active pair match, and each rule for them has them in the order constructor, destructor.
+pub fn pairs_have_their_rule()
+    ensures { PairsHaveTheirRule }
+{}
+
+/// Of an accepted program, a net that the slow reducer keeps is as promised.
+pub fn plain_as_promised()
+    ensures { PlainAsPromised }
 {}

@@ -103,7 +103,7 @@ matching_is t c d e =
       opposite_is (is_constructor t c) (is_constructor t d) both.1,
     )
 
-is_matching : (t : Tables) (c d : ℕ) → IsMatching (signature_of t) c d → matching t c d ≡ true
+pub is_matching : (t : Tables) (c d : ℕ) → IsMatching (signature_of t) c d → matching t c d ≡ true
 is_matching t c d h =
     ap (λ z. z && are_opposite (is_constructor t c) (is_constructor t d)) (eq-eqb (port_at t c 0).kind (port_at t d 0).kind h.2)
     ∙ ap (λ z. are_opposite z (is_constructor t d)) h.0 ∙ ap (λ z. not z) h.1

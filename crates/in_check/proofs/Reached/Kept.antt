@@ -12,7 +12,7 @@ use Rattle.in_net.proofs.Interactions.StaysNet.{is_net}
 use Rattle.in_net.proofs.Interactions.Vicious.{crossing_circle}
 use Rattle.in_typing.specs.Typed.{opposite}
 use Rattle.in_typing.proofs.TypedAlong.{port_type, typed_after}
-use Rattle.in_check.specs.Promises.{ReachesAsPromised}
+use Rattle.in_check.specs.Promises.{IsAsPromised, ReachesAsPromised}
 use Rattle.in_check.specs.Runs.{rule_of, IsRenamed, IsPairWithRule, IsInteraction, Reached, at_start, then_step, then_renamed}
 use Rattle.in_check.specs.Systems.{System, IsMatching, HasOneRule, IsSound, IsSoundSystem}
 use Rattle.in_check.proofs.Reached.HoldsEach.{holds_all}
@@ -76,9 +76,8 @@ one_rule p good c d hc hd e = go (p.symbols.type_of c 0).output refl
         let match : IsMatching p.symbols d c = (ap (λ t. t.output) e ∙ ap not h, h, ap (λ t. t.kind) e) in
         inr (match, good.covered d c hd hc match)
 
-pub as_promised : (p : System) → IsSoundSystem p → ReachesAsPromised p
-unfolding ReachesAsPromised
-as_promised p good k n r =
+pub each_promised : (p : System) → IsSoundSystem p → (k : ℕ) (n : Net ℕ) → Reached p k n → IsAsPromised p n
+each_promised p good k n r =
     let h = sound_reached p good ℕ_discrete k n r in
     let leads = each_leads_on p.symbols good.classes n h.net ℕ_discrete h.no_circle in
     record {
@@ -96,3 +95,7 @@ as_promised p good k n r =
       leads_on = leads;
       written_whole = λ words xs queue agents queued. holds_all p n h.net leads words xs agents queue queued;
     }
+
+pub as_promised : (p : System) → IsSoundSystem p → ReachesAsPromised p
+unfolding ReachesAsPromised
+as_promised p good k n r = each_promised p good k n r
