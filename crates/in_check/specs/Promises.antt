@@ -6,7 +6,7 @@ use Rattle.std.specs.List.{AllByRecursion}
 use Rattle.in_syntax.specs.Lists.{IsAmong}
 use Rattle.in_net.specs.Ahead.{MeetsPair, WaitsAt}
 use Rattle.in_net.specs.Graphs.{CrossingCircle, ViciousCircle, graph_of}
-use Rattle.in_net.specs.Interactions.{Redex, ClosedPath}
+use Rattle.in_net.specs.Interactions.{Redex, IsNaming, ClosedPath}
 use Rattle.in_net.specs.Nets.{Point, Port, Net, IsNet}
 use Rattle.in_typing.specs.TypedNets.{IsTypedNet}
 use Rattle.in_check.specs.NetText.{Words, Head, Variable, text, text_parts, AreAgents, numbers, numbered, StandsOnce, StandsTwice, IsQueue, IsAuxiliary, IsOfNet}
@@ -29,9 +29,10 @@ HasOneRuleEach p n = (a b c d : ℕ) → n.symbol a ≡ Some c → n.symbol b �
 abbrev pub HasNoCircle : System → Net ℕ → Type 0
 HasNoCircle p n = (CrossingCircle (graph_of p.symbols n) → ⊥) × (ViciousCircle (graph_of p.symbols n) → ⊥)
 
--- no interaction leaves a closed alternating path, which would be a wire that ends nowhere
-abbrev pub LeavesNoClosedPath : System → Net ℕ → Type 0
-LeavesNoClosedPath p n = (x : Redex ℕ ℕ) → IsPairWithRule p n x → ClosedPath p.symbols n x → ⊥
+-- each interaction ends: it leaves no closed alternating path, which would be a wire that ends nowhere, and under any new names for the
+-- new agents there is a net after it
+abbrev pub EndsEachInteraction : System → Net ℕ → Type 0
+EndsEachInteraction p n = (x : Redex ℕ ℕ) → IsPairWithRule p n x → (ClosedPath p.symbols n x → ⊥) × ((name : ℕ → ℕ) → IsNaming n x name → (after : Net ℕ) × IsInteraction p n x name after)
 
 -- from each agent, principal ports lead on to an active pair, or to a free end at which it waits
 abbrev pub LeadsOn : Net ℕ → Type 0
@@ -56,7 +57,7 @@ pub record IsAsPromised (p : System) (n : Net ℕ) : Type 0 where
   pub typed : IsTypedThroughout p n
   pub one_rule : HasOneRuleEach p n
   pub no_circle : HasNoCircle p n
-  pub no_closed_path : LeavesNoClosedPath p n
+  pub interactions_end : EndsEachInteraction p n
   pub leads_on : LeadsOn n
   pub written_whole : IsWrittenWhole p n
 

@@ -193,7 +193,7 @@ fn check_tree(alloc: Global, text: &[u8]) -> Result<Passed, Fault>
 /// order of the passes is this project's own choice.
 ///
 /// Every net that an accepted program reaches, by any number of interactions in any order, is typed; has exactly one rule for each
-/// active pair; has no crossing circle, and so no vicious one; lets each interaction end, since no closed alternating path is left;
+/// active pair; has no crossing circle, and so no vicious one; lets each interaction end, with no closed alternating path left;
 /// leads on from each agent to an active pair or to a free end at which it waits; and is written whole.
 pub fn check(alloc: Global, text: &[u8]) -> Result<Checked, Fault>
     ensures checked { IsChecked text.now result }

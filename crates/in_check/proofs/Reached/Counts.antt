@@ -6,22 +6,10 @@ use Rattle.in_syntax.proofs.Among.{among_all, in_map, of_map}
 use Rattle.in_net.specs.Nets.{Net}
 use Rattle.in_net.specs.Pieces.{AreDifferent}
 use Rattle.in_syntax.specs.Lists.{IsAmong}
+use Rattle.in_net.proofs.Interactions.Ahead.{remove}
 use Rattle.in_check.specs.Runs.{IsRenamed}
 use Rattle.in_check.specs.NetText.{AreAgents}
 use Rattle.in_check.proofs.Reached.Renaming.{some_of, is_some}
-
--- xs without one x
-pub record Rest {X : Type 0} (x : X) (xs : List X) : Type 0 where
-  pub rest : List X
-  pub shorter : length xs ≡ suc (length rest)
-  pub kept : (y : X) → IsAmong y xs → y ≢ x → IsAmong y rest
-
-pub remove : {X : Type 0} (x : X) (xs : List X) → IsAmong x xs → Rest x xs
-remove x [] h = absurd h
-remove x (z ∷ zs) (inl e) = record { rest = zs; shorter = refl; kept = λ y h differ. elim h [ inl k ↦ absurd (differ (sym k ∙ e)) | inr k ↦ k ] }
-remove x (z ∷ zs) (inr h) =
-    let r = remove x zs h in
-    record { rest = z ∷ r.rest; shorter = ap suc r.shorter; kept = λ y k differ. elim k [ inl e ↦ inl e | inr j ↦ inr (r.kept y j differ) ] }
 
 pub all_of : {X : Type 0} (P : X → Type 0) (xs : List X) → ((x : X) → IsAmong x xs → P x) → AllByRecursion P xs
 all_of P [] f = tt

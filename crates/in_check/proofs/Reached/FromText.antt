@@ -36,7 +36,7 @@ use Rattle.in_simple.proofs.OneAnswer.{rules_open, no_circle}
 use Rattle.in_simple.proofs.Opened as opened_nets
 use Rattle.in_simple.proofs.RulePoints.{lt_tells}
 use Rattle.in_simple.proofs.Sums.{got}
-use Rattle.in_simple.proofs.TextRules.{rule_whole}
+use Rattle.in_simple.proofs.TextRules.{rule_whole, types_as_many}
 use Rattle.in_simple.proofs.Whole.{derivation_builds}
 use Rattle.in_check.specs.Certificates.{CertifiesRule}
 use Rattle.in_check.specs.Checking.{IsAccepted, IsProgramOf}
@@ -69,7 +69,7 @@ class_some cs j = elim (at_most (length (classes_from 1 cs)) j) [
   | inr l ↦ let r = class_between 1 cs j l in r.0
 ]
 
-pub tables_classed : (source : Source) (t : Tables) → IsTabled source t → AreClasses (signature_of t)
+tables_classed : (source : Source) (t : Tables) → IsTabled source t → AreClasses (signature_of t)
 tables_classed source t h = subst (λ (t : Tables). AreClasses (signature_of t)) (sym h.tables) (λ s i. go s i (slice_get (tables_of source).shapes s) refl)
   where
     go : (s i : ℕ) (d : Option Shape) → slice_get (tables_of source).shapes s ≡ d → class_in d (suc i) ≢ class_in d 0
@@ -166,15 +166,11 @@ of_append [] ys i x e = let k : i - 0 ≡ i = omega arith in inr (omega arith, a
 of_append (z ∷ xs) ys zero x e = inl (omega arith, e)
 of_append (z ∷ xs) ys (suc i) x e = elim (of_append xs ys i x e) [ inl h ↦ inl (let k = h.0 in omega arith, h.1) | inr h ↦ inr (let k = h.0 in omega arith, (let k : suc i - suc (length xs) ≡ i - length xs = omega arith in ap (λ z. slice_get ys z) k) ∙ h.1) ]
 
-pub types_many : (t : Tables) (s i n : ℕ) → length (types_from t s i n) ≡ n
-types_many t s i zero = refl
-types_many t s i (suc n) = ap suc (types_many t s (i + 1) n)
-
-pub declared_at : (t : Tables) (p : RuleParts) → map (λ (f : FreeEnd). f.kind) p.member.free ≡ auxiliary_types t p.heads.0.0 ++ auxiliary_types t p.heads.1.0 → (e : ℕ) (y : PortType) →
+declared_at : (t : Tables) (p : RuleParts) → map (λ (f : FreeEnd). f.kind) p.member.free ≡ auxiliary_types t p.heads.0.0 ++ auxiliary_types t p.heads.1.0 → (e : ℕ) (y : PortType) →
     slice_get (map (λ (f : FreeEnd). f.kind) p.member.free) e ≡ Some y → y ≡ port_at t (end_symbol (signature_of t) (alone (rule_in p)) e) (end_place (signature_of t) (alone (rule_in p)) e)
 declared_at t p types e y h = elim (of_append (auxiliary_types t p.heads.0.0) (auxiliary_types t p.heads.1.0) e y (ap (λ z. slice_get z e) (sym types) ∙ h)) [
   | inl k ↦
-      let many = types_many t p.heads.0.0 1 (arity_of t p.heads.0.0) in
+      let many = types_as_many t p.heads.0.0 1 (arity_of t p.heads.0.0) in
       let r = types_at t p.heads.0.0 1 (arity_of t p.heads.0.0) e y k.1 in
       let less = k.0 in
       let place : 1 + e ≡ suc e = omega arith in
@@ -183,7 +179,7 @@ declared_at t p types e y h = elim (of_append (auxiliary_types t p.heads.0.0) (a
         | inr l ↦ let m = l.1 in absurd (omega arith)
       ]
   | inr k ↦
-      let many = types_many t p.heads.0.0 1 (arity_of t p.heads.0.0) in
+      let many = types_as_many t p.heads.0.0 1 (arity_of t p.heads.0.0) in
       let r = types_at t p.heads.1.0 1 (arity_of t p.heads.1.0) (e - length (auxiliary_types t p.heads.0.0)) y k.1 in
       let more = k.0 in
       let place : 1 + (e - length (auxiliary_types t p.heads.0.0)) ≡ suc (e - arity_of t p.heads.0.0) = omega arith in

@@ -2,13 +2,14 @@
 use Rattle.std.proofs.Common.{◌≡◌, ◌⊎◌, ◌<◌, ℕ, true, false, not, Bool, Some, refl, sym, ap, inl, inr, ◌∙◌}
 use mathlib.Core.HLevel.{Discrete}
 use native.Mathlib.Decide.{ℕ_discrete}
-use Rattle.in_net.specs.Interactions.{Redex, IsRedex}
+use Rattle.in_net.specs.Interactions.{Redex, IsRedex, IsNaming, ClosedPath}
 use Rattle.in_net.specs.Nets.{Port, Net, IsNet}
 use Rattle.in_net.proofs.Interactions.Ahead.{each_leads_on}
 use Rattle.in_net.proofs.Interactions.ClosedPath.{no_closed_path}
 use Rattle.in_net.proofs.Interactions.Names.{class_discrete}
 use Rattle.in_net.proofs.Interactions.NoNewCircle.{no_new_circle}
 use Rattle.in_net.proofs.Interactions.StaysNet.{is_net}
+use Rattle.in_net.proofs.Interactions.StepExists.{step_exists}
 use Rattle.in_net.proofs.Interactions.Vicious.{crossing_circle}
 use Rattle.in_typing.specs.Typed.{opposite}
 use Rattle.in_typing.proofs.TypedAlong.{port_type, typed_after}
@@ -76,6 +77,15 @@ one_rule p good c d hc hd e = go (p.symbols.type_of c 0).output refl
         let match : IsMatching p.symbols d c = (ap (λ t. t.output) e ∙ ap not h, h, ap (λ t. t.kind) e) in
         inr (match, good.covered d c hd hc match)
 
+-- an interaction leaves no closed path, and has a result
+ends : (p : System) → IsSoundSystem p → (n : Net ℕ) → IsSound p n → (x : Redex ℕ ℕ) → IsPairWithRule p n x → (ClosedPath p.symbols n x → ⊥) × ((name : ℕ → ℕ) → IsNaming n x name → (after : Net ℕ) × IsInteraction p n x name after)
+ends p good n h x at =
+    let rule = good.rule at.rule.0 (rule_of x) at.rule.1 in
+    let redex = redex_of p good n h.net x at in (
+      λ path. elim (no_closed_path p.symbols good.classes n x h.net rule.net redex ℕ_discrete ℕ_discrete class_discrete path) [ inl r ↦ h.no_circle r | inr r ↦ rule.no_circle r ],
+      λ name naming. let s = step_exists p.symbols n x name h.net rule.net redex naming ℕ_discrete in (s.0, record { at = at; step = s.1 }),
+    )
+
 pub each_promised : (p : System) → IsSoundSystem p → (k : ℕ) (n : Net ℕ) → Reached p k n → IsAsPromised p n
 each_promised p good k n r =
     let h = sound_reached p good ℕ_discrete k n r in
@@ -85,13 +95,7 @@ each_promised p good k n r =
       one_rule = λ a b c d ea eb active. one_rule p good c d (h.within a c ea) (h.within b d eb)
           (h.typed (Port a 0) (Port b 0) (p.symbols.type_of c 0) (p.symbols.type_of d 0) active (port_type p.symbols n a 0 c ea) (port_type p.symbols n b 0 d eb));
       no_circle = (h.no_circle, λ v. h.no_circle (crossing_circle p.symbols good.classes n h.net v));
-      no_closed_path = λ x at path. (
-          let rule = good.rule at.rule.0 (rule_of x) at.rule.1 in
-          elim (no_closed_path p.symbols good.classes n x h.net rule.net (redex_of p good n h.net x at) ℕ_discrete ℕ_discrete class_discrete path) [
-            | inl r ↦ h.no_circle r
-            | inr r ↦ rule.no_circle r
-          ]
-          );
+      interactions_end = λ x at. ends p good n h x at;
       leads_on = leads;
       written_whole = λ words xs queue agents queued. holds_all p n h.net leads words xs agents queue queued;
     }

@@ -12,6 +12,7 @@ use Rattle.in_net.specs.Nets.{Point, Port, Free, net_of, signature_of, point_of}
 use Rattle.in_net.specs.Parts.{symbol_in}
 use Rattle.in_net.specs.Rules.{RuleParts, auxiliary_types}
 use Rattle.in_cover.specs.Cover.{IsPair, IsFor}
+use Rattle.in_simple.proofs.TextRules.{same_symbol}
 use Rattle.in_check.specs.Checking.{IsAccepted, IsProgramOf}
 use Rattle.in_check.specs.Plain.{PlainParts, IsPlain, IsPairAt, IsRuleAt, PlainStarts, PlainSteps, PairsHaveTheirRule, PlainAsPromised}
 use Rattle.in_check.specs.Runs.{renamed, Reached, at_start, then_step}
@@ -73,9 +74,6 @@ module _ (text : List ℕ) (p : PlainParts) (a b : AgentNo) (accepted : IsAccept
     | inr r ↦ absurd (let z : true ≡ false = sym at.constructor ∙ r.0.1 in cc)
   ]
 
-  of_number : (s t : SymbolNo) → s.0 ≡ t.0 → s ≡ t
-  of_number s t e = ap (λ (z : ℕ). let x : SymbolNo = record { 0 = z } in x) e
-
   rule_at : (i : ℕ) (r : RuleParts) → slice_get p.program.rules i ≡ Some r → IsFor r at.first.0 at.second.0 → IsRuleAt p a b i r
   rule_at i r e for =
       let program : IsProgramOf text p.program = program_of text p.program accepted in
@@ -85,8 +83,8 @@ module _ (text : List ℕ) (p : PlainParts) (a b : AgentNo) (accepted : IsAccept
         stands = e;
         over = b.2.0;
         declared = b.2.1.member.types ∙ ap (λ (h : SymbolNo × SymbolNo). auxiliary_types p.program.tables h.0.0 ++ auxiliary_types p.program.tables h.1.0) (sym b.2.1.heads);
-        one = at.one ∙ ap Some (of_number at.first r.heads.0 (sym heads.0));
-        two = at.two ∙ ap Some (of_number at.second r.heads.1 (sym heads.1));
+        one = at.one ∙ ap Some (same_symbol at.first r.heads.0 (sym heads.0));
+        two = at.two ∙ ap Some (same_symbol at.second r.heads.1 (sym heads.1));
       }
     where
       in_order : IsFor r at.first.0 at.second.0 → (r.heads.0.0 ≡ at.first.0) × (r.heads.1.0 ≡ at.second.0)

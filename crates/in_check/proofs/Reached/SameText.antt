@@ -1,9 +1,10 @@
 -- The text of a net doesn't depend on how its agents are named.
-use Rattle.std.proofs.Common.{◌≡◌, ◌↔◌, ◌||◌, ◌&&◌, ℕ, zero, suc, Bool, true, false, cond, nat_eq, Option, Some, None, IsSome, List, [], ◌∷◌, ◌++◌, map, length, refl, sym, ap, ◌∙◌}
+use Rattle.std.proofs.Common.{◌≡◌, ◌↔◌, ◌||◌, ◌&&◌, ℕ, zero, suc, Bool, true, cond, nat_eq, Option, Some, None, IsSome, List, [], ◌∷◌, ◌++◌, map, length, refl, sym, ap, ◌∙◌}
 use Rattle.std.specs.List.{AllByRecursion}
 use Rattle.std.proofs.lemmas.List.{map-append, length-map}
 use Rattle.std.proofs.lemmas.Bool.{eq-eqb, eqb-true}
 use Rattle.in_net.specs.Nets.{Point, Port, Free, Signature, Net, IsPoint, IsNet}
+use Rattle.in_simple.proofs.Sums.{same_test}
 use Rattle.in_net.proofs.Links.{all_append}
 use Rattle.in_net.proofs.Interactions.AtNets.{port_agent, port_place}
 use Rattle.in_check.specs.Runs.{renamed, IsRenamed}
@@ -16,11 +17,6 @@ IsTest {A} same = (x y : A) → (same x y ≡ true) ↔ (x ≡ y)
 
 pub nat_test : IsTest nat_eq
 nat_test x y = ((λ e. eqb-true x y e), (λ e. eq-eqb x y e))
-
-bool_same : (a b : Bool) → (a ≡ true → b ≡ true) → (b ≡ true → a ≡ true) → a ≡ b
-bool_same true b f g = sym (f refl)
-bool_same false true f g = g refl
-bool_same false false f g = refl
 
 abbrev pub renamed_piece : {A B : Type 0} → (A → B) → TextPart A → TextPart B
 renamed_piece f (Bytes bs) = Bytes bs
@@ -194,7 +190,7 @@ module _ {A B : Type 0} (sig : Signature) (f : A → B) (n : Net A) (m : Net B) 
 
     module _ (s : A → A → Bool) (t : B → B → Bool) (is_s : IsTest s) (is_t : IsTest t) where
       agents_same : (x y : A) → IsSome (n.symbol x) → IsSome (n.symbol y) → t (f x) (f y) ≡ s x y
-      agents_same x y h g = bool_same (t (f x) (f y)) (s x y) (λ e. (is_s x y).1 (r.apart x y h g ((is_t (f x) (f y)).0 e))) (λ e. (is_t (f x) (f y)).1 (ap f ((is_s x y).0 e)))
+      agents_same x y h g = same_test (t (f x) (f y)) (s x y) (λ e. (is_s x y).1 (r.apart x y h g ((is_t (f x) (f y)).0 e))) (λ e. (is_t (f x) (f y)).1 (ap f ((is_s x y).0 e)))
 
       points_same : (p q : Point A) → IsLive n p → IsLive n q → same_point t (renamed f p) (renamed f q) ≡ same_point s p q
       points_same (Port x i) (Port y j) h g = ap (λ b. b && nat_eq i j) (agents_same x y h g)
