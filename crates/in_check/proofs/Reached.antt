@@ -3,6 +3,7 @@ pub mod FromText
 pub mod Holds
 pub mod HoldsEach
 pub mod Kept
+pub mod Listed
 pub mod Numbers
 pub mod Others
 pub mod Plain

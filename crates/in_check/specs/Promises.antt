@@ -9,7 +9,7 @@ use Rattle.in_net.specs.Graphs.{CrossingCircle, ViciousCircle, graph_of}
 use Rattle.in_net.specs.Interactions.{Redex, IsNaming, ClosedPath}
 use Rattle.in_net.specs.Nets.{Point, Port, Net, IsNet}
 use Rattle.in_typing.specs.TypedNets.{IsTypedNet}
-use Rattle.in_check.specs.NetText.{Words, Head, Variable, text, text_parts, AreAgents, numbers, numbered, StandsOnce, StandsTwice, IsQueue, IsAuxiliary, IsOfNet}
+use Rattle.in_check.specs.NetText.{Words, TextPart, Head, Variable, text, text_parts, AreAgents, numbers, numbered, StandsOnce, StandsTwice, IsQueue, IsAuxiliary, IsOfNet}
 use Rattle.in_check.specs.Runs.{IsRenamed, IsPairWithRule, IsInteraction, Reached, HasEnded}
 use Rattle.in_check.specs.Systems.{System, IsMatching, HasOneRule, IsSoundSystem, system_of}
 use Rattle.in_check.specs.Checking.{IsAccepted}
@@ -38,18 +38,21 @@ EndsEachInteraction p n = (x : Redex ℕ ℕ) → IsPairWithRule p n x → (Clos
 abbrev pub LeadsOn : Net ℕ → Type 0
 LeadsOn n = (x : ℕ) → IsSome (n.symbol x) → MeetsPair n x ⊎ ((k : ℕ) × WaitsAt n k x)
 
--- its text holds each agent once, each wire without principal ports at each of its two points once, and nothing else of the kind. Each
--- variable's number is written twice, at one wire
-pub record HoldsAll (p : System) (words : Words) (n : Net ℕ) (d : ℕ) (queue : List (ℕ × ℕ)) : Type 0 where
-  pub agents : (x : ℕ) → IsSome (n.symbol x) → StandsOnce (Head x) (text_parts p.symbols words n d queue)
-  pub variables : (u v : Point ℕ) → n.partner u ≡ Some v → IsAuxiliary u → IsAuxiliary v → StandsOnce (Variable u v) (text_parts p.symbols words n d queue)
-  pub others : AllByRecursion (IsOfNet n) (text_parts p.symbols words n d queue)
-  pub twice : (k : ℕ) → IsAmong k (numbers nat_eq [] (text_parts p.symbols words n d queue)) → StandsTwice k (numbers nat_eq [] (text_parts p.symbols words n d queue))
-  pub one_wire : (k : ℕ) (u v : Point ℕ) → IsAmong (k, u) (numbered (numbers nat_eq [] (text_parts p.symbols words n d queue)) (text_parts p.symbols words n d queue)) → IsAmong (k, v) (numbered (numbers nat_eq [] (text_parts p.symbols words n d queue)) (text_parts p.symbols words n d queue)) → (u ≡ v) ⊎ (n.partner u ≡ Some v)
+-- these parts of a text hold each agent once, each wire without principal ports at each of its two points once, and nothing else of the
+-- kind. Each variable's number is written twice, at one wire
+pub record HoldsAll (n : Net ℕ) (parts : List (TextPart ℕ)) : Type 0 where
+  pub agents : (x : ℕ) → IsSome (n.symbol x) → StandsOnce (Head x) parts
+  pub variables : (u v : Point ℕ) → n.partner u ≡ Some v → IsAuxiliary u → IsAuxiliary v → StandsOnce (Variable u v) parts
+  pub others : AllByRecursion (IsOfNet n) parts
+  pub twice : (k : ℕ) → IsAmong k (numbers nat_eq [] parts) → StandsTwice k (numbers nat_eq [] parts)
+  pub one_wire : (k : ℕ) (u v : Point ℕ) → IsAmong (k, u) (numbered (numbers nat_eq [] parts) parts) → IsAmong (k, v) (numbered (numbers nat_eq [] parts) parts) → (u ≡ v) ⊎ (n.partner u ≡ Some v)
 
--- .. whatever the names are, and in whatever order its active pairs are queued
-abbrev pub IsWrittenWhole : System → Net ℕ → Type 0
-IsWrittenWhole p n = (words : Words) (xs : List ℕ) (queue : List (ℕ × ℕ)) → AreAgents n xs → IsQueue n queue → HoldsAll p words n (length xs) queue
+-- its agents and its active pairs can be listed, each once; and its text holds all, whatever the names are, and in whatever order its
+-- active pairs are queued
+pub record IsWrittenWhole (p : System) (n : Net ℕ) : Type 0 where
+  pub agents : (xs : List ℕ) × AreAgents n xs
+  pub queue : (queue : List (ℕ × ℕ)) × IsQueue n queue
+  pub holds : (words : Words) (xs : List ℕ) (queue : List (ℕ × ℕ)) → AreAgents n xs → IsQueue n queue → HoldsAll n (text_parts p.symbols words n (length xs) queue)
 
 -- ---- all of them
 

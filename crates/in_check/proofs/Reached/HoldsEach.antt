@@ -72,7 +72,7 @@ module _ {A : Type 0} (sig : Signature) (n : Net A) (net : IsNet sig n) (leads :
           subst (λ o. StandsOnce (Head x) (term_at (agent_term sig n (term sig n d)) p o)) (sym back)
           (inl (refl, nowhere_below sig n net p ys tops point (Head x) bytes heads variables (term sig n d) x (λ i. nowhere sig n net p ys tops point (Head x) bytes heads variables d (Port x (suc i)) (λ l c. no_return n l p ys tops (x, i, c, e)))))
 
-pub holds_all : (p : System) (n : Net ℕ) → IsNet p.symbols n → LeadsOn n → (words : Words) (xs : List ℕ) → AreAgents n xs → (queue : List (ℕ × ℕ)) → IsQueue n queue → HoldsAll p words n (length xs) queue
+pub holds_all : (p : System) (n : Net ℕ) → IsNet p.symbols n → LeadsOn n → (words : Words) (xs : List ℕ) → AreAgents n xs → (queue : List (ℕ × ℕ)) → IsQueue n queue → HoldsAll n (text_parts p.symbols words n (length xs) queue)
 holds_all p n net leads words xs agents queue is_queue =
     let parts = text_parts p.symbols words n (length xs) queue in
     let of = pieces_of p.symbols n net words (length xs) queue is_queue in

@@ -17,6 +17,7 @@ use Rattle.in_check.specs.Promises.{IsAsPromised, ReachesAsPromised}
 use Rattle.in_check.specs.Runs.{rule_of, IsRenamed, IsPairWithRule, IsInteraction, Reached, at_start, then_step, then_renamed}
 use Rattle.in_check.specs.Systems.{System, IsMatching, HasOneRule, IsSound, IsSoundSystem}
 use Rattle.in_check.proofs.Reached.HoldsEach.{holds_all}
+use Rattle.in_check.proofs.Reached.Listed.{listed_agents, queued_pairs}
 use Rattle.in_check.proofs.Reached.Renaming.{net_renamed, below_renamed, typed_renamed, circle_renamed}
 
 module _ {A : Type 0} (p : System) (good : IsSoundSystem p) where
@@ -97,7 +98,11 @@ each_promised p good k n r =
       no_circle = (h.no_circle, λ v. h.no_circle (crossing_circle p.symbols good.classes n h.net v));
       interactions_end = λ x at. ends p good n h x at;
       leads_on = leads;
-      written_whole = λ words xs queue agents queued. holds_all p n h.net leads words xs agents queue queued;
+      written_whole = record {
+        agents = listed_agents p.symbols n h.net;
+        queue = queued_pairs p.symbols n h.net;
+        holds = λ words xs queue agents queued. holds_all p n h.net leads words xs agents queue queued;
+      };
     }
 
 pub as_promised : (p : System) → IsSoundSystem p → ReachesAsPromised p
