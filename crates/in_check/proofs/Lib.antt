@@ -3,3 +3,4 @@ pub mod Chain
 pub mod OneAnswer
 pub mod OnePass
 pub mod Passes
+pub mod Reached

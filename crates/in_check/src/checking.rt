@@ -1,4 +1,4 @@
-ghost use Rattle.std.specs.Prelude.{IsTrue, Ok};
+ghost use Rattle.std.specs.Prelude.{IfOk, IsTrue, Ok};
 ghost use Rattle.std.specs.List.{AllByRecursion};
 ghost use Rattle.in_syntax.specs.Order.{IsWrittenInOrder};
 ghost use Rattle.in_syntax.specs.Parsing.{IsOfText};
@@ -7,6 +7,8 @@ ghost use Rattle.in_symbols.specs.Tables.{IsTabled, Tabulates};
 ghost use Rattle.in_net.specs.Built.{IsOver};
 ghost use Rattle.in_net.specs.Rules.{IsRuleOver};
 ghost use Rattle.in_cover.specs.Cover.{IsOfPair};
+ghost use Rattle.in_check.specs.Promises.{ReachesAsPromised};
+ghost use Rattle.in_check.specs.Systems.{system_of};
 ghost use Rattle.in_check.specs.Checking.{AreOfText, BuildsRules, ChecksNames, ChecksNet, ChecksNetSteps, ChecksPairs, ChecksRules, ChecksRuleSteps, ChecksTypes, IsChecked, TypePasses, TypesAll, TypesRules};
 
 use crate::certifying::{certify_net, certify_rules};
@@ -189,8 +191,13 @@ fn check_tree(alloc: Global, text: &[u8]) -> Result<Passed, Fault>
 /// The first fault of the first pass that finds one is answered: E01 to E03, E04 to E06, E03 and E07 to E09, E10 and E11, E14 and
 /// E15, E12, E13; or want of memory. Lafont 1990 asks for types that fit, for one rule for each pair and for semi-simple nets; the
 /// order of the passes is this project's own choice.
+///
+/// Every net that an accepted program reaches, by any number of interactions in any order, is typed; has exactly one rule for each
+/// active pair; has no crossing circle, and so no vicious one; lets each interaction end, with no closed alternating path left;
+/// leads on from each agent to an active pair or to a free end at which it waits; and is written whole.
 pub fn check(alloc: Global, text: &[u8]) -> Result<Checked, Fault>
-    ensures { IsChecked text.now result }
+    ensures checked { IsChecked text.now result }
+    ensures promised { IfOk result (λ p. ReachesAsPromised (system_of p)) }
 {
     let passed = check_tree(alloc, text)?;
     Ok(Checked { passed })

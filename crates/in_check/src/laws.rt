@@ -1,9 +1,53 @@
 //! Laws over what checking a text answers, for whoever reasons above it. No function here does anything.
 
 ghost use Rattle.in_check.specs.Laws.{TextsAreCheckedOnce};
+ghost use Rattle.in_check.specs.Plain.{PairsHaveTheirRule, PlainAsPromised, PlainStarts, PlainSteps};
+ghost use Rattle.in_check.specs.Promises.{AcceptedIsSound, RenamingChangesNothing, SoundReachesAsPromised, StepsReach};
 
 /// A text has one answer: it is accepted or refused, never both; two refusals are equal, and two accepted programs have equal tables,
 /// rules, nets, numbers of rules, open nets and steps. Nothing is said where memory was wanted.
 pub fn texts_are_checked_once()
     ensures { TextsAreCheckedOnce }
+{}
+
+/// The program of an accepted text is a sound system: its tables, its initial net and each of its rules are as the laws ask.
+pub fn accepted_is_sound()
+    ensures { AcceptedIsSound }
+{}
+
+/// Each net that a sound system reaches is as promised: typed, with one rule for each active pair, without crossing circle or vicious
+/// one, with an end to each interaction, leading on from each agent, and written whole.
+pub fn sound_reaches_as_promised()
+    ensures { SoundReachesAsPromised }
+{}
+
+/// A net that is reached is reached, after one more interaction, by one more.
+pub fn steps_reach()
+    ensures { StepsReach }
+{}
+
+/// Under other names for its agents a net is reached by as many interactions, has as many agents, has ended where it has, and is
+/// written alike.
+pub fn renaming_changes_nothing()
+    ensures { RenamingChangesNothing }
+{}
+
+/// The initial net of a program is reached by no interaction.
+pub fn plain_starts()
+    ensures { PlainStarts }
+{}
+
+/// A step at an active pair, by its rule, leads from a net that is reached to one that is reached by one more.
+pub fn plain_steps()
+    ensures { PlainSteps }
+{}
+
+/// Of an accepted program, the symbols of an active pair match, and each rule for them has them in the order constructor, destructor.
+pub fn pairs_have_their_rule()
+    ensures { PairsHaveTheirRule }
+{}
+
+/// Of an accepted program, a net that the slow reducer keeps is as promised.
+pub fn plain_as_promised()
+    ensures { PlainAsPromised }
 {}

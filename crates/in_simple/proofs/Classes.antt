@@ -13,7 +13,7 @@ use Rattle.in_simple.specs.Opening.{AreNumbered}
 use Rattle.in_simple.proofs.Links.{at_most}
 
 -- the classes that are counted from k on
-class_between : (k : ℕ) (cs : List (List SourcePort)) (j : ℕ) → j < length (classes_from k cs) → (k ≤ get_or (classes_from k cs) j 1) × (get_or (classes_from k cs) j 1 < k + length cs)
+pub class_between : (k : ℕ) (cs : List (List SourcePort)) (j : ℕ) → j < length (classes_from k cs) → (k ≤ get_or (classes_from k cs) j 1) × (get_or (classes_from k cs) j 1 < k + length cs)
 class_between k [] j h = absurd (omega arith)
 class_between k (c ∷ cs) j h = elim (at_most (length c) j) [
   | inr l ↦
@@ -30,7 +30,7 @@ class_between k (c ∷ cs) j h = elim (at_most (length c) j) [
       (omega arith, omega arith)
 ]
 
-of_map : {X Y : Type 0} (f : X → Y) (xs : List X) (i : ℕ) (y : Y) → slice_get (map f xs) i ≡ Some y → (x : X) × (f x ≡ y)
+pub of_map : {X Y : Type 0} (f : X → Y) (xs : List X) (i : ℕ) (y : Y) → slice_get (map f xs) i ≡ Some y → (x : X) × (f x ≡ y)
 of_map f [] i y e = cc
 of_map {X} {Y} f (x ∷ xs) zero y e = (x, same (f x) y e)
   where

@@ -16,7 +16,7 @@ use Rattle.in_simple.specs.OpeningRules.{is_turned, IsRuleWhole}
 use Rattle.in_simple.proofs.Counted.{cells_there}
 use Rattle.in_base.proofs.Each.{at_index}
 
-types_as_many : (t : Tables) (s i n : ℕ) → length (types_from t s i n) ≡ n
+pub types_as_many : (t : Tables) (s i n : ℕ) → length (types_from t s i n) ≡ n
 types_as_many t s i zero = refl
 types_as_many t s i (suc n) = ap suc (types_as_many t s (i + 1) n)
 
@@ -27,7 +27,7 @@ cells_as_many t (w ∷ ws) [] h = absurd h
 cells_as_many t (w ∷ ws) (None ∷ cs) h = absurd h
 cells_as_many t (w ∷ ws) (Some c ∷ cs) h = ap suc (cells_as_many t ws cs h.1)
 
-same_symbol : (x y : SymbolNo) → x.0 ≡ y.0 → x ≡ y
+pub same_symbol : (x y : SymbolNo) → x.0 ≡ y.0 → x ≡ y
 same_symbol x y e = ap (λ (z : ℕ). record { 0 = z }) e
 
 same_pair : (x y u v : SymbolNo) → x ≡ u → y ≡ v → ◌≡◌ {A = SymbolNo × SymbolNo} (x, y) (u, v)

@@ -11,7 +11,7 @@ use Rattle.in_net.proofs.Interactions.Alternating.{symbol_of, end_of_pair, end_o
 use Rattle.in_base.proofs.Each.{at_index}
 
 -- the type of a port, by its agent's symbol, and the symbol that it comes from
-port_type : {A : Type 0} (sig : Signature) (n : Net A) (y : A) (i s : ℕ) → n.symbol y ≡ Some s → type_in sig n (Port y i) ≡ Some (sig.type_of s i)
+pub port_type : {A : Type 0} (sig : Signature) (n : Net A) (y : A) (i s : ℕ) → n.symbol y ≡ Some s → type_in sig n (Port y i) ≡ Some (sig.type_of s i)
 port_type sig n y i s h = ap (λ o. elim o [ None ↦ None | Some s ↦ Some (sig.type_of s i) ]) h
 
 typed_symbol : {A : Type 0} (sig : Signature) (n : Net A) (y : A) (i : ℕ) (t : PortType) → type_in sig n (Port y i) ≡ Some t → (s : ℕ) × (n.symbol y ≡ Some s)

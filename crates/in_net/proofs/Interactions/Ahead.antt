@@ -9,12 +9,12 @@ use Rattle.in_net.specs.Ahead.{MeetsPair, pair, pair_later, WaitsAt, free, free_
 use Rattle.in_net.proofs.Circuits.{Walk, AreSeparate, scan}
 
 -- xs without one x
-record Rest {X : Type 0} (x : X) (xs : List X) : Type 0 where
-  rest : List X
-  shorter : length xs ≡ suc (length rest)
-  kept : (y : X) → IsAmong y xs → y ≢ x → IsAmong y rest
+pub record Rest {X : Type 0} (x : X) (xs : List X) : Type 0 where
+  pub rest : List X
+  pub shorter : length xs ≡ suc (length rest)
+  pub kept : (y : X) → IsAmong y xs → y ≢ x → IsAmong y rest
 
-remove : {X : Type 0} (x : X) (xs : List X) → IsAmong x xs → Rest x xs
+pub remove : {X : Type 0} (x : X) (xs : List X) → IsAmong x xs → Rest x xs
 remove x [] h = absurd h
 remove x (z ∷ zs) (inl e) = record { rest = zs; shorter = refl; kept = λ y h differ. elim h [ inl k ↦ absurd (differ (sym k ∙ e)) | inr k ↦ k ] }
 remove x (z ∷ zs) (inr h) =

@@ -1,0 +1,12 @@
+pub mod Counts
+pub mod FromText
+pub mod Holds
+pub mod HoldsEach
+pub mod Kept
+pub mod Listed
+pub mod Numbers
+pub mod Others
+pub mod Plain
+pub mod Renaming
+pub mod SameText
+pub mod Unchanged

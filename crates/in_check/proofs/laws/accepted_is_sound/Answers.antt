@@ -1,0 +1,5 @@
+use Rattle.in_check.proofs.Reached.FromText.{is_sound}
+use Rattle.in_check.proofs.laws.accepted_is_sound.Goals as goal
+
+pub returns : goal.returns
+returns c = λ text p accepted. is_sound text p accepted

@@ -1,0 +1,78 @@
+-- A net on its way: what the slow reducer over plain nets keeps of its program, its net and its count, and what one step does. That its
+-- agents are numbers, and which numbers new agents get, is this project's own choice; the interaction is that of Lafont 1990.
+use Rattle.std.specs.Prelude.{◌≡◌, ◌++◌, ℕ, zero, suc, true, List, map, slice_get, Some}
+use Rattle.in_symbols.specs.declared.symbols.SymbolNo.{SymbolNo}
+use Rattle.in_symbols.specs.Tables.{is_constructor}
+use Rattle.in_net.specs.declared.nets.AgentNo.{AgentNo}
+use Rattle.in_net.specs.declared.nets.Point.TheVariants.{Port}
+use Rattle.in_net.specs.Built.{IsOver}
+use Rattle.in_net.specs.Interactions.{IsStep, redex_at}
+use Rattle.in_net.specs.Nets.{net_of, signature_of}
+use Rattle.in_net.specs.Parts.{Parts, symbol_in, partner_in}
+use Rattle.in_net.specs.Rules.{RuleParts, IsRuleOver, auxiliary_types}
+use Rattle.in_cover.specs.Cover.{IsPair, IsFor}
+use Rattle.in_check.specs.Checking.{IsAccepted}
+use Rattle.in_check.specs.Programs.{Program}
+use Rattle.in_check.specs.Promises.{IsAsPromised}
+use Rattle.in_check.specs.Runs.{Reached}
+use Rattle.in_check.specs.Systems.{system_of}
+
+-- the program, its net, and how many interactions led there
+pub record PlainParts : Type 0 where
+  pub program : Program
+  pub net : Parts
+  pub steps : ℕ
+
+-- the program reaches the net by so many interactions, and the net has the program's symbols and the names of its free ends
+pub record IsPlain (p : PlainParts) : Type 0 where
+  pub reached : Reached (system_of p.program) p.steps (net_of p.net)
+  pub over : IsOver p.program.tables p.net
+  pub names : map (λ f. f.name) p.net.free ≡ map (λ f. f.name) p.program.net.free
+
+-- the two agents are an active pair, and the first one's symbol is a constructor
+pub record IsPairAt (p : PlainParts) (a b : AgentNo) : Type 0 where
+  pub first : SymbolNo
+  pub second : SymbolNo
+  pub one : symbol_in p.net a.0 ≡ Some first
+  pub two : symbol_in p.net b.0 ≡ Some second
+  pub active : partner_in p.net (Port a 0) ≡ Some (Port b 0)
+  pub constructor : is_constructor p.program.tables first.0 ≡ true
+
+-- the rule of that number is for the symbols of the two agents in this order, and its right member fits them
+pub record IsRuleAt (p : PlainParts) (a b : AgentNo) (i : ℕ) (r : RuleParts) : Type 0 where
+  pub stands : slice_get p.program.rules i ≡ Some r
+  pub over : IsRuleOver p.program.tables r
+  pub declared : map (λ f. f.kind) r.member.free ≡ auxiliary_types p.program.tables r.heads.0.0 ++ auxiliary_types p.program.tables r.heads.1.0
+  pub one : symbol_in p.net a.0 ≡ Some r.heads.0
+  pub two : symbol_in p.net b.0 ≡ Some r.heads.1
+
+-- one interaction at the pair, by its rule: one more is counted, and the program and the names of free ends are kept
+pub record StepsTo (p : PlainParts) (a b : AgentNo) (q : PlainParts) : Type 0 where
+  pub number : ℕ
+  pub rule : RuleParts
+  pub is_rule : IsRuleAt p a b number rule
+  pub name : ℕ → ℕ
+  pub step : IsStep (signature_of p.program.tables) (net_of p.net) (redex_at rule a.0 b.0) name (net_of q.net)
+  pub over : IsOver p.program.tables q.net
+  pub names : map (λ f. f.name) q.net.free ≡ map (λ f. f.name) p.net.free
+  pub program : q.program ≡ p.program
+  pub steps : q.steps ≡ suc p.steps
+
+-- ---- laws
+
+-- the initial net is reached by no interaction
+abbrev pub PlainStarts : Type 0
+PlainStarts = (p : Program) → IsOver p.tables p.net → IsPlain (record { program = p; net = p.net; steps = zero })
+
+-- a step leads from a net that is reached to one
+abbrev pub PlainSteps : Type 0
+PlainSteps = (p q : PlainParts) (a b : AgentNo) → IsPlain p → IsPairAt p a b → StepsTo p a b q → IsPlain q
+
+-- of an accepted program, each active pair matches, and each rule that is for its symbols, in whichever order, is for them in this one
+abbrev pub PairsHaveTheirRule : Type 0
+PairsHaveTheirRule = (text : List ℕ) (p : PlainParts) (a b : AgentNo) → IsAccepted text p.program → IsPlain p → (at : IsPairAt p a b) →
+    IsPair p.program.tables at.first.0 at.second.0 × ((i : ℕ) (r : RuleParts) → slice_get p.program.rules i ≡ Some r → IsFor r at.first.0 at.second.0 → IsRuleAt p a b i r)
+
+-- .. and what is reached is as promised
+abbrev pub PlainAsPromised : Type 0
+PlainAsPromised = (text : List ℕ) (p : PlainParts) → IsAccepted text p.program → IsPlain p → IsAsPromised (system_of p.program) (net_of p.net)
