@@ -4,7 +4,7 @@ use Rattle.std.specs.Prelude.{◌≡◌, ◌↔◌, ◌⊎◌, ◌≢◌, ◌||�
 use Rattle.std.specs.List.{AllByRecursion}
 use Rattle.in_net.specs.Nets.{Point, Port, Free, Signature, Net}
 use Rattle.in_net.specs.Pieces.{AreDifferent}
-use Rattle.in_syntax.specs.Lists.{IsAmong}
+use Rattle.in_base.specs.Lists.{IsAmong}
 
 -- the symbols' names and the free ends'
 pub record Words : Type 0 where

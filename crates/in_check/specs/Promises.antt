@@ -3,7 +3,7 @@
 -- this project's own.
 use Rattle.std.specs.Prelude.{◌≡◌, ◌⊎◌, ◌↔◌, ℕ, suc, nat_eq, List, [], length, map, Some, IsSome}
 use Rattle.std.specs.List.{AllByRecursion}
-use Rattle.in_syntax.specs.Lists.{IsAmong}
+use Rattle.in_base.specs.Lists.{IsAmong}
 use Rattle.in_net.specs.Ahead.{MeetsPair, WaitsAt}
 use Rattle.in_net.specs.Graphs.{CrossingCircle, ViciousCircle, graph_of}
 use Rattle.in_net.specs.Interactions.{Redex, IsNaming, ClosedPath}

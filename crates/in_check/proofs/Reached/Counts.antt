@@ -2,10 +2,10 @@
 use Rattle.std.proofs.Common.{◌≡◌, ◌≢◌, ◌≤◌, suc, IsSome, List, [], ◌∷◌, map, length, refl, sym, subst, ap, inl, inr, ◌∙◌, arith}
 use Rattle.std.specs.List.{AllByRecursion}
 use Rattle.std.proofs.lemmas.List.{length-map}
-use Rattle.in_syntax.proofs.Among.{among_all, in_map, of_map}
+use Rattle.in_base.proofs.Among.{among_all, in_map, of_map}
 use Rattle.in_net.specs.Nets.{Net}
 use Rattle.in_net.specs.Pieces.{AreDifferent}
-use Rattle.in_syntax.specs.Lists.{IsAmong}
+use Rattle.in_base.specs.Lists.{IsAmong}
 use Rattle.in_net.proofs.Interactions.Ahead.{remove}
 use Rattle.in_check.specs.Runs.{IsRenamed}
 use Rattle.in_check.specs.NetText.{AreAgents}

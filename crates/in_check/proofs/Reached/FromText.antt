@@ -25,7 +25,6 @@ use Rattle.in_net.proofs.OneNet.{is_net}
 use Rattle.in_typing.specs.Typed.{TypesRule}
 use Rattle.in_typing.proofs.TypedParts.{net_typed}
 use Rattle.in_cover.specs.Cover.{IsComplete}
-use Rattle.in_cover.proofs.Numbered.{all_at}
 use Rattle.in_simple.specs.Opening.{AreNumbered}
 use Rattle.in_simple.proofs.Both.{derivable_no_circle}
 use Rattle.in_simple.proofs.Classes.{class_between, of_map, tables_numbered}
@@ -35,7 +34,6 @@ use Rattle.in_simple.proofs.OfRules.{rule_circle}
 use Rattle.in_simple.proofs.OneAnswer.{rules_open, no_circle}
 use Rattle.in_simple.proofs.Opened as opened_nets
 use Rattle.in_simple.proofs.RulePoints.{lt_tells}
-use Rattle.in_simple.proofs.Sums.{got}
 use Rattle.in_simple.proofs.TextRules.{rule_whole, types_as_many}
 use Rattle.in_simple.proofs.Whole.{derivation_builds}
 use Rattle.in_check.specs.Certificates.{CertifiesRule}
@@ -43,6 +41,7 @@ use Rattle.in_check.specs.Checking.{IsAccepted, IsProgramOf}
 use Rattle.in_check.specs.Programs.{Program}
 use Rattle.in_check.specs.Systems.{SystemRule, IsMatching, IsSoundRule, IsSound, HasOneRule, IsSoundSystem, alone, rule_in, system_of}
 use Rattle.in_check.proofs.Chain.{program_of}
+use Rattle.in_base.proofs.Each.{at_index, all_at}
 
 -- ---- lists
 
@@ -206,7 +205,7 @@ module _ (text : List ℕ) (p : Program) (accepted : IsAccepted text p) where
       let whole : IsWhole r.member = of.member.whole in
       let fits = all_at (λ r. TypesRule p.tables r (Ok tt)) p.rules i r a.fits.0 e in
       let complete = rule_whole p.tables b.0 r b.2 in
-      let c = got p.rule_certificates i (omega (arith, slice_get_within p.rules i r e, a.simple_rules.count)) in
+      let c = at_index p.rule_certificates i (omega (arith, slice_get_within p.rules i r e, a.simple_rules.count)) in
       let k : CertifiesRule p.tables r (Ok c.0) = a.simple_rules.each i r c.0 e c.1 in
       let open_net = rules_open p.tables r c.0.shape numbered complete whole over k.0 in
       let heads : written.heads_of p.tables b.0 ≡ r.heads = sym of.heads in

@@ -3,10 +3,10 @@ use Rattle.std.proofs.Common.{◌≡◌, ◌≢◌, ◌⊎◌, ◌≤◌, ◌<�
 use Rattle.std.specs.List.{AllByRecursion}
 use native.Mathlib.Decide.{ℕ_discrete}
 use Rattle.std.proofs.lemmas.Option.{same_Some}
-use Rattle.in_syntax.proofs.Among.{among_all}
+use Rattle.in_base.proofs.Among.{among_all}
 use Rattle.in_net.specs.Pieces.{AreDifferent}
 use Rattle.in_net.specs.Nets.{Point, Port, Free, Signature, Net, IsPoint, IsNet}
-use Rattle.in_syntax.specs.Lists.{IsAmong}
+use Rattle.in_base.specs.Lists.{IsAmong}
 use Rattle.in_net.specs.Ahead.{MeetsPair, pair, pair_later, WaitsAt, free, free_later}
 use Rattle.in_net.proofs.Interactions.AtNets.{port_agent, port_place}
 use Rattle.in_net.proofs.Interactions.Alternating.{symbol_of}

@@ -3,7 +3,7 @@ use Rattle.std.proofs.Common.{◌≡◌, ◌≢◌, ◌⊎◌, ℕ, zero, suc, O
 use Rattle.std.specs.List.{AllByRecursion}
 use Rattle.std.proofs.lemmas.Option.{same_Some}
 use native.Mathlib.Decide.{ℕ_discrete}
-use Rattle.in_syntax.specs.Lists.{IsAmong}
+use Rattle.in_base.specs.Lists.{IsAmong}
 use Rattle.in_net.specs.Nets.{Point, Port, Free, Signature, Net, IsNet}
 use Rattle.in_net.specs.Pieces.{AreDifferent}
 use Rattle.in_net.proofs.Interactions.Alternating.{symbol_of}

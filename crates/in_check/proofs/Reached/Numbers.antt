@@ -3,11 +3,10 @@ use Rattle.std.proofs.Common.{◌≡◌, ◌≢◌, ◌⊎◌, ◌≤◌, ◌<�
 use Rattle.std.specs.List.{AllByRecursion}
 use native.Mathlib.Decide.{ℕ_discrete}
 use Rattle.std.proofs.lemmas.Option.{same_Some}
-use Rattle.std.proofs.lemmas.Bool.{or_parts}
+use Rattle.std.proofs.lemmas.Bool.{or_parts, or_cases, cases_Bool}
 use Rattle.in_net.proofs.HeadsOf.{two}
-use Rattle.in_simple.proofs.Sums.{or_cases, true_or_false}
 use Rattle.in_net.specs.Nets.{Point, Port, Free, Signature, Net, IsNet}
-use Rattle.in_syntax.specs.Lists.{IsAmong}
+use Rattle.in_base.specs.Lists.{IsAmong}
 use Rattle.in_net.proofs.Interactions.AtNets.{port_agent, port_place}
 use Rattle.in_check.specs.NetText.{TextPart, Bytes, Head, Variable, same_point, number_of, numbers, numbered, StandsNowhere, StandsOnce, StandsTwice, IsAuxiliary, IsOfNet}
 use Rattle.in_check.proofs.Reached.SameText.{IsTest, nat_test}
@@ -98,7 +97,7 @@ module _ {A : Type 0} (s : A → A → Bool) (test : IsTest s) where
 
     met_number : (met : List (Point A)) (k : ℕ) (a b : Point A) → AreApart met → n.partner a ≡ Some b → At met k a → number_of s met b a ≡ Some k
     met_number [] k a b apart e h = absurd h
-    met_number (u ∷ us) k a b apart e h = go (true_or_false (same_point s u b || same_point s u a)) h (λ g. met_number us k a b apart.1 e g)
+    met_number (u ∷ us) k a b apart e h = go (cases_Bool (same_point s u b || same_point s u a)) h (λ g. met_number us k a b apart.1 e g)
       where
         go : ((same_point s u b || same_point s u a) ≡ true) ⊎ ((same_point s u b || same_point s u a) ≡ false) → ((k ≡ suc (length us)) × (u ≡ a)) ⊎ At us k a → (At us k a → number_of s us b a ≡ Some k) → number_of s (u ∷ us) b a ≡ Some k
         go (inl t) (inl g) again = ap (λ c. cond c (Some (suc (length us))) (number_of s us b a)) t ∙ ap (λ k. Some k) (sym g.0)

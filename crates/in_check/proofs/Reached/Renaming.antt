@@ -1,11 +1,11 @@
 -- A net and the same net under other names.
 use Rattle.std.proofs.Common.{◌≡◌, ◌≤◌, ◌<◌, ℕ, Option, Some, None, IsSome, IsSomeAnd, List, [], ◌∷◌, map, length, slice_get, refl, sym, subst, ap, ◌∙◌}
 use mathlib.Core.HLevel.{Discrete}
-use Rattle.in_syntax.proofs.Among.{in_map}
+use Rattle.in_base.proofs.Among.{in_map}
 use Rattle.in_typing.proofs.TypedAlong.{port_type}
 use Rattle.in_net.specs.Graphs.{Passage, entered, CrossingCircle, class_of_symbol, graph_of}
 use Rattle.in_net.specs.Nets.{Point, Port, Free, Signature, Net, IsPoint, IsNet}
-use Rattle.in_syntax.specs.Lists.{IsAmong}
+use Rattle.in_base.specs.Lists.{IsAmong}
 use Rattle.in_typing.specs.Typed.{opposite}
 use Rattle.in_typing.specs.TypedNets.{type_in, IsTypedNet}
 use Rattle.in_net.proofs.Interactions.Alternating.{symbol_of}

@@ -5,11 +5,11 @@ use Rattle.std.proofs.lemmas.List.{map-append, length-map}
 use Rattle.std.proofs.lemmas.Bool.{eq-eqb, eqb-true}
 use Rattle.in_net.specs.Nets.{Point, Port, Free, Signature, Net, IsPoint, IsNet}
 use Rattle.in_simple.proofs.Sums.{same_test}
-use Rattle.in_net.proofs.Links.{all_append}
 use Rattle.in_net.proofs.Interactions.AtNets.{port_agent, port_place}
 use Rattle.in_check.specs.Runs.{renamed, IsRenamed}
 use Rattle.in_check.specs.NetText.{Words, TextPart, Bytes, Head, Variable, listed, bracketed, arity_of, agent_term, term_at, term, free_lines, pair_lines, text_parts, same_point, number_of, symbol_name, variable_name, numbers, bytes_of, text}
 use Rattle.in_check.proofs.Reached.Renaming.{some_of, symbol_kept, wire_kept, live}
+use Rattle.in_base.proofs.Each.{all_append}
 
 -- a test of equality
 abbrev pub IsTest : {A : Type 0} → (A → A → Bool) → Type 0
