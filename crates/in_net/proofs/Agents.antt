@@ -24,7 +24,7 @@ use Rattle.in_net.proofs.Folds.{names_out, read_agent, read_occurrence}
 use Rattle.in_net.proofs.Known.{AreHeadsKnown, IsBodyKnown, all_known}
 use Rattle.in_net.proofs.HeadsOf.{two, arguments_known, no_arguments}
 
-length-ends : (spots : List Spot) (links : List Link) (first n : ℕ) → length (ends_from spots links first n) ≡ n
+pub length-ends : (spots : List Spot) (links : List Link) (first n : ℕ) → length (ends_from spots links first n) ≡ n
 length-ends spots links first zero = refl
 length-ends spots links first (suc n) = ap suc (length-ends spots links (first + 1) n)
 

@@ -5,7 +5,7 @@ use Rattle.std.specs.List.Sorted.{IsNonDecreasingBy}
 use Rattle.in_syntax.specs.declared.faults.Fault.{Fault}
 use Rattle.in_syntax.specs.declared.places.Place.{Place}
 use Rattle.in_syntax.specs.declared.tree.Source.{Source}
-use Rattle.in_syntax.specs.Grammar.{max_free}
+use Rattle.in_syntax.specs.Grammar.{max_free, max_ports}
 use Rattle.in_syntax.specs.Sizes.{most_bytes}
 use Rattle.in_net.specs.declared.reading.Reading.{Reading}
 use Rattle.in_net.specs.declared.reading.Agent.{Agent}
@@ -63,6 +63,7 @@ pub record IsReadFrom (t : Tables) (free : ℕ) (r : Reading) : Type 0 where
   pub few_agents : length r.agents ≤ most_bytes
   pub few_spots : length r.spots ≤ max_free + 9 * most_bytes
   pub few_free : free ≤ max_free
+  pub few_ports : (s : ℕ) → arity_of t s ≤ max_ports
 
 -- the same wires, in the order of their places
 pub record AreListedOf (found listed : List Wire) : Type 0 where

@@ -23,6 +23,8 @@ mod of_in_typing;
 #[cfg(test)]
 mod of_in_words;
 #[cfg(test)]
+mod of_interactions;
+#[cfg(test)]
 mod programs;
 #[cfg(test)]
 mod tokens;
