@@ -16,6 +16,7 @@ pub mod Laws
 pub mod Listing
 pub mod NetFaults
 pub mod Nets
+pub mod OutcomeLaws
 pub mod Parts
 pub mod Pieces
 pub mod Reading
