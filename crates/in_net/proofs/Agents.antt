@@ -26,7 +26,7 @@ use Rattle.in_net.proofs.HeadsOf.{arguments_known, no_arguments}
 use Rattle.std.proofs.lemmas.Bool.{and_parts}
 use Rattle.in_syntax.proofs.Terms.{names_out}
 
-length-ends : (spots : List Spot) (links : List Link) (first n : ℕ) → length (ends_from spots links first n) ≡ n
+pub length-ends : (spots : List Spot) (links : List Link) (first n : ℕ) → length (ends_from spots links first n) ≡ n
 length-ends spots links first zero = refl
 length-ends spots links first (suc n) = ap suc (length-ends spots links (first + 1) n)
 

@@ -127,7 +127,7 @@ map_is (Some p) q e = let same : point_of p ≡ q = cc in ap Some (sym (round_co
 some_map : (o : Option coded.Point) (p : coded.Point) → o ≡ Some p → option_map point_of o ≡ Some (point_of p)
 some_map o p e = ap (option_map point_of) e
 
-cell_over : (t : Tables) (cs : List (Option Cell)) (x : ℕ) (c : Cell) → AllByRecursion (IsCellOver t) cs → option_and_then (λ c. c) (slice_get cs x) ≡ Some c → (x < length cs) × (length c.ends ≡ arity_of t c.symbol.0 + 1)
+pub cell_over : (t : Tables) (cs : List (Option Cell)) (x : ℕ) (c : Cell) → AllByRecursion (IsCellOver t) cs → option_and_then (λ c. c) (slice_get cs x) ≡ Some c → (x < length cs) × (length c.ends ≡ arity_of t c.symbol.0 + 1)
 cell_over t [] x c all e = cc
 cell_over t (None ∷ cs) zero c all e = cc
 cell_over t (Some d ∷ cs) zero c all e = let same : d ≡ c = cc in (omega arith, subst (λ c. length c.ends ≡ arity_of t c.symbol.0 + 1) same all.0.1)

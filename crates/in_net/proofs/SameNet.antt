@@ -180,7 +180,7 @@ no_end p i k e = cc
 port_is : (x y : AgentNo) (i j : ℕ) → x.0 ≡ y.0 → i ≡ j → Port x i ≡ Port y j
 port_is x y i j e f = ap (λ k. Port (record { 0 = k }) i) e ∙ ap (Port y) f
 
-not_both : (x y : Point) → ComesBefore x y → ComesBefore y x → ⊥
+pub not_both : (x y : Point) → ComesBefore x y → ComesBefore y x → ⊥
 not_both (Free k) (Free l) a b = omega (arith, a, b)
 not_both (Free k) (Port y j) a b = b
 not_both (Port x i) (Free l) a b = a

@@ -1,5 +1,5 @@
 -- The parts that were read and joined are whole: each point is in exactly one wire.
-use Rattle.std.proofs.Common.{◌≡◌, ◌≢◌, ◌⊎◌, inl, inr, ℕ, zero, suc, ◌+◌, ◌<◌, ◌≤◌, Bool, true, false, ◌&&◌, ◌==◌, cond, nat_lt, List, [], ◌∷◌, ◌++◌, length, length-append, map, Option, Some, None, option_map, slice_get, refl, sym, ◌∙◌, ap, subst, arith, get_or, Contains, ltb-true, ltb-false}
+use Rattle.std.proofs.Common.{◌≡◌, ◌≢◌, ◌⊎◌, inl, inr, ℕ, zero, suc, ◌+◌, ◌<◌, ◌≤◌, Bool, true, false, ◌&&◌, ◌==◌, cond, nat_lt, List, [], ◌∷◌, ◌++◌, length, length-append, map, Option, Some, None, option_map, option_and_then, slice_get, refl, sym, ◌∙◌, ap, subst, arith, get_or, Contains, ltb-true, ltb-false}
 use Rattle.std.specs.Prelude.{option_to_list}
 use Rattle.std.specs.List.{AllByRecursion, IsDistinct}
 use Rattle.std.proofs.lemmas.Bool.{eqb-true, true≢false, and_from, and_parts, false_from_ne_true}
@@ -11,10 +11,13 @@ use Rattle.std.proofs.lemmas.List.Elements.{recursion_from_All, All-from_recursi
 use Rattle.std.proofs.lemmas.Map.Keys.{IsDistinct-IsPermutation}
 use Rattle.std.proofs.lemmas.Option.{slice_get-get_or}
 use Rattle.in_syntax.specs.declared.places.Place.{Place}
-use Rattle.in_symbols.specs.Tables.{Tables}
+use Rattle.in_syntax.specs.Grammar.{max_ports}
+use Rattle.in_symbols.specs.Tables.{Tables, arity_of}
 use Rattle.in_net.specs.declared.reading.Spot.{Spot}
 use Rattle.in_net.specs.declared.reading.Reading.{Reading}
 use Rattle.in_net.specs.declared.joining.Link.{Link}
+use Rattle.in_net.specs.declared.nets.Cell.{Cell}
+use Rattle.in_net.specs.declared.reading.Agent.{Agent}
 use Rattle.in_net.specs.declared.nets.AgentNo.{AgentNo}
 use Rattle.in_net.specs.declared.nets.Point.{Point}
 use Rattle.in_net.specs.declared.nets.Point.TheVariants.{Port, Free}
@@ -23,6 +26,7 @@ use Rattle.in_net.specs.Building.{nth_spot, nth_link, point_in, IsJoined, partne
 use Rattle.in_net.specs.declared.nets.FreeEnd.{FreeEnd}
 use Rattle.in_net.specs.Built.{IsNumbered, IsReadFrom, AreJoinedTo, AreListedOf}
 use Rattle.in_net.specs.Parts.{Parts, IsWhole, IsWireBetween, as_built, partner_in, wire_in, wire_place_in}
+use Rattle.in_net.proofs.Agents.{length-ends}
 use Rattle.in_net.proofs.Linked.{same_or_not, below_or_not}
 use Rattle.in_net.proofs.Points.{Stands, to_of, point_here, partner_stands, partner_back, only_one, partner_at, stands_at, leads_back, never_itself}
 use Rattle.in_base.proofs.Each.{all_append}
@@ -288,13 +292,22 @@ module _ (t : Tables) (free : List FreeEnd) (r : Reading) (links : List Link) (n
   once_of v w p q (inr a) (inl b) = absurd (not_turned v w q p a b)
   once_of v w p q (inr a) (inr b) = same_number v w q p a b
 
+  few_ports : (found : List Agent) (x : ℕ) (c : Cell) → ((s : ℕ) → arity_of t s ≤ max_ports) → option_and_then (λ c. c) (slice_get (cells_of t r.spots links found) x) ≡ Some c → length c.ends ≤ max_ports + 1
+  few_ports [] x c few e = cc
+  few_ports (a ∷ rest) zero c few e =
+      let same : cell_of t r.spots links a ≡ c = cc in
+      let n = few a.symbol.0 in
+      subst (λ (c : Cell). length c.ends ≤ max_ports + 1) same (omega (arith, length-ends r.spots links a.first (arity_of t a.symbol.0 + 1), n))
+  few_ports (a ∷ rest) (suc x) c few e = few_ports rest x c few e
+
   pub whole : IsReadFrom t (length free) r → places ≡ map (λ a. a.place) r.agents → IsWhole net
   whole read at_places =
       let agents : length (cells_of t r.spots links r.agents) ≡ length r.agents = length-map r.agents (λ a. Some (cell_of t r.spots links a)) in
       let few = few_found r.spots links 0 (length r.spots) in
       record {
         agents = let n = read.few_agents in omega (arith, agents, n);
-        ends = let n = read.few_free in omega (arith, n);
+        ports = λ x c e. few_ports r.agents x c read.few_ports e;
+        ends = read.few_free;
         wires = let n = read.few_spots in omega (arith, length_permutation found wires listed.same, few, n);
         back = leads_back t free r links numbered joined ends wires places;
         apart = never_itself t free r links numbered joined ends wires places;

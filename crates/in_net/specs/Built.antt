@@ -64,6 +64,7 @@ pub record IsReadFrom (t : Tables) (free : ℕ) (r : Reading) : Type 0 where
   pub few_agents : length r.agents ≤ text_limit
   pub few_spots : length r.spots ≤ max_free + (max_ports + 1) * text_limit
   pub few_free : free ≤ max_free
+  pub few_ports : (s : ℕ) → arity_of t s ≤ max_ports
 
 -- the same wires, in the order of their places
 pub record AreListedOf (found listed : List Wire) : Type 0 where

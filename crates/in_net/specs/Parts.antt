@@ -1,6 +1,7 @@
 -- What contracts see of a net: all that its looking calls read.
-use Rattle.std.specs.Prelude.{◌≡◌, ◌≢◌, ◌⊎◌, ℕ, ◌^◌, ◌<◌, Bool, true, List, length, Option, Some, IsSomeAnd, option_map, option_and_then, slice_get}
+use Rattle.std.specs.Prelude.{◌≡◌, ◌≢◌, ◌⊎◌, ℕ, ◌+◌, ◌^◌, ◌<◌, ◌≤◌, Bool, true, false, List, length, Option, Some, IsSomeAnd, option_map, option_and_then, slice_get}
 use Rattle.in_syntax.specs.declared.places.Place.{Place}
+use Rattle.in_syntax.specs.Grammar.{max_free, max_ports}
 use Rattle.in_symbols.specs.declared.symbols.PortType.{PortType}
 use Rattle.in_symbols.specs.declared.symbols.SymbolNo.{SymbolNo}
 use Rattle.in_net.specs.declared.nets.Point.{Point}
@@ -20,6 +21,10 @@ pub record Parts : Type 0 where
 -- a net as it is built from a text
 abbrev pub as_built : List (Option Cell) → List FreeEnd → List Wire → List Place → Parts
 as_built cells free wires places = record { cells = cells; free = free; wires = wires; places = places; built = true }
+
+-- .. and after an interaction
+abbrev pub as_changed : List (Option Cell) → List FreeEnd → List Wire → List Place → Parts
+as_changed cells free wires places = record { cells = cells; free = free; wires = wires; places = places; built = false }
 
 abbrev pub cell_in : Parts → ℕ → Option Cell
 cell_in n x = option_and_then (λ c. c) (slice_get n.cells x)
@@ -55,11 +60,13 @@ free_name_in n k = option_map (λ f. f.name) (slice_get n.free k)
 abbrev pub IsWireBetween : Parts → ℕ → Point → Point → Type 0
 IsWireBetween n w p q = (wire_in n w ≡ Some (p, q)) ⊎ (wire_in n w ≡ Some (q, p))
 
--- numbers fit, and each point is in exactly one wire: its partner's partner is the point, never itself, and just one listed wire
--- joins them; as built each agent has a place
+-- numbers fit: an agent has no more ends than a symbol may have ports, and there are no more free ends than a net may have. Each point is
+-- in exactly one wire: its partner's partner is the point, never itself, and just one listed wire joins them; as built each agent has a
+-- place
 pub record IsWhole (n : Parts) : Type 0 where
   pub agents : length n.cells < 2 ^ 32
-  pub ends : length n.free < 2 ^ 32
+  pub ports : (x : ℕ) (c : Cell) → cell_in n x ≡ Some c → length c.ends ≤ max_ports + 1
+  pub ends : length n.free ≤ max_free
   pub wires : length n.wires < 2 ^ 32
   pub back : (p q : Point) → partner_in n p ≡ Some q → partner_in n q ≡ Some p
   pub apart : (p : Point) → partner_in n p ≢ Some p

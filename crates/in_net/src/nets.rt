@@ -1,5 +1,5 @@
 ghost use Rattle.std.specs.Prelude.{◌≡◌, ◌<◌, length, count_by, is_some, IsTrue, slice_get};
-ghost use Rattle.in_net.specs.Parts.{IsWhole, as_built, IsPointOf, partner_in, symbol_in, wire_in, wire_place_in, agent_place_in, free_type_in, free_name_in};
+ghost use Rattle.in_net.specs.Parts.{IsWhole, as_built, as_changed, IsPointOf, partner_in, symbol_in, wire_in, wire_place_in, agent_place_in, free_type_in, free_name_in};
 
 use in_symbols::{PortType, SymbolNo};
 use in_syntax::{Place, Text};
@@ -44,11 +44,11 @@ pub(crate) struct Wire {
 /// end; each point is on exactly one wire.
 #[derive(Drop)]
 pub struct Net {
-    cells: Items<Option<Cell>>,
-    free: Items<FreeEnd>,
-    wires: Items<Wire>,
-    places: Items<Place>,
-    built: bool,
+    pub(crate) cells: Items<Option<Cell>>,
+    pub(crate) free: Items<FreeEnd>,
+    pub(crate) wires: Items<Wire>,
+    pub(crate) places: Items<Place>,
+    pub(crate) built: bool,
 }
 
 // Contracts see all that a looking call reads. Which net that is, `specs/Parts.antt` says.
@@ -80,6 +80,39 @@ impl Net {
             places,
             built: true,
         }
+    }
+
+    /// The net of these parts, after an interaction.
+    pub(crate) fn changed(
+        cells: Items<Option<Cell>>,
+        free: Items<FreeEnd>,
+        wires: Items<Wire>,
+        places: Items<Place>,
+    ) -> Net
+        requires { IsWhole (as_changed cells free wires places) }
+        ensures { result ≡ as_changed cells free wires places }
+    {
+        Net {
+            cells,
+            free,
+            wires,
+            places,
+            built: false,
+        }
+    }
+
+    /// The agents by number, with the partner of each of their places.
+    pub(crate) fn cells(&self) -> &[Option<Cell>]
+        ensures { result.now ≡ self.now.cells }
+    {
+        self.cells.as_slice()
+    }
+
+    /// The free ends by number.
+    pub(crate) fn free(&self) -> &[FreeEnd]
+        ensures { result.now ≡ self.now.free }
+    {
+        self.free.as_slice()
     }
 
     /// How many agents the net has.

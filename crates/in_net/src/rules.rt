@@ -17,15 +17,17 @@ pub struct Rule {
     pub(crate) member: Net,
 }
 
-// Contracts see all that a looking call reads.
+// Contracts see all that a looking call reads. A right member has few agents.
 impl Model for Rule {
+    ghost use Rattle.std.specs.Prelude.{◌≤◌, length};
+    ghost use Rattle.in_net.specs.NetFaults.{max_member_agents};
     ghost use Rattle.in_net.specs.Rules.{RuleParts};
 
     ghost Value = { RuleParts };
 
     ghost view = { λ r. record { written = r.written; heads = r.heads; head_places = r.head_places; member = r.member } };
 
-    ghost invariant = { λ r. Unit {0} };
+    ghost invariant = { λ r. length r.member.cells ≤ max_member_agents };
 }
 
 impl Rule {

@@ -11,4 +11,6 @@ mod of_in_syntax;
 #[cfg(test)]
 mod of_in_typing;
 #[cfg(test)]
+mod of_interactions;
+#[cfg(test)]
 mod tokens;

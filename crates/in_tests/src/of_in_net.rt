@@ -1,7 +1,7 @@
-use in_test_texts::SUMS;
 use in_net::{AgentNo, Net, Point, Rule, build_net, build_rule};
 use in_symbols::{SymbolNo, Symbols};
 use in_syntax::{Code, Fault, Refusal, parse};
+use in_test_texts::SUMS;
 use std::alloc::Global;
 use std::test::Fail;
 

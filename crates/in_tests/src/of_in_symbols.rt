@@ -1,6 +1,6 @@
-use in_test_texts::SUMS;
 use in_symbols::{PortType, SymbolNo, Symbols};
 use in_syntax::{Code, Fault, Refusal, parse};
+use in_test_texts::SUMS;
 use std::alloc::Global;
 use std::test::Fail;
 

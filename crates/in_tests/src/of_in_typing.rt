@@ -1,7 +1,7 @@
-use in_test_texts::SUMS;
 use in_net::{build_net, build_rule};
 use in_symbols::Symbols;
 use in_syntax::{Code, Fault, Refusal, parse};
+use in_test_texts::SUMS;
 use in_typing::{type_net, type_rule};
 use std::alloc::Global;
 use std::test::Fail;

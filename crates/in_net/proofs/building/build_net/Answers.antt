@@ -76,7 +76,7 @@ free_ends-requires-clause-free c =
     let source = c.args.source.now in
     let t = c.args.symbols.now in
     let g = good source t c.in_ok-reading.reading c.requires.sized c.requires.order c.requires.tabled c.requires.faultless c.in_ok-reading.ensures (sym c.in_default.is ∙ c.in_ok-refusal.ensures {u = tt}) in
-    let from = read_from.read_from t (body_of source.net) (read t (body_of source.net) g) (net_few source t c.requires.sized) in
+    let from = read_from.read_from t (body_of source.net) (read t (body_of source.net) g) g.small (net_few source t c.requires.sized) in
     let zero_on : ends_in t (body_of source.net) ≡ length source.net.free = omega arith in
     subst (λ spots. ArePointsAt spots 0 (length c.as_slice.result.now)) (sym (c.as_slice-spots.ensures ∙ ap (λ r. r.spots) c.in_ok-reading.ensures))
     (subst (ArePointsAt (reading_of t (body_of source.net)).spots 0) (zero_on ∙ sym (ap length c.as_slice.ensures)) from.free_points)
@@ -94,7 +94,7 @@ free_ends-requires-clause-small c =
     let source = c.args.source.now in
     let t = c.args.symbols.now in
     let g = good source t c.in_ok-reading.reading c.requires.sized c.requires.order c.requires.tabled c.requires.faultless c.in_ok-reading.ensures (sym c.in_default.is ∙ c.in_ok-refusal.ensures {u = tt}) in
-    let from = read_from.read_from t (body_of source.net) (read t (body_of source.net) g) (net_few source t c.requires.sized) in
+    let from = read_from.read_from t (body_of source.net) (read t (body_of source.net) g) g.small (net_few source t c.requires.sized) in
     subst AreSmallSpots (sym (c.as_slice-spots.ensures ∙ ap (λ r. r.spots) c.in_ok-reading.ensures)) from.small
 
 pub assemble-requires-clause-read : goal.assemble-requires-clause-read
@@ -102,7 +102,7 @@ assemble-requires-clause-read c =
     let source = c.args.source.now in
     let t = c.args.symbols.now in
     let g = good source t c.in_ok-reading.reading c.requires.sized c.requires.order c.requires.tabled c.requires.faultless c.in_ok-reading.ensures (sym c.in_default.is ∙ c.in_ok-refusal.ensures {u = tt}) in
-    let from = read_from.read_from t (body_of source.net) (read t (body_of source.net) g) (net_few source t c.requires.sized) in
+    let from = read_from.read_from t (body_of source.net) (read t (body_of source.net) g) g.small (net_few source t c.requires.sized) in
     let count : ends_in t (body_of source.net) ≡ length c.in_ok-free.free =
     (let e : ends_in t (body_of source.net) ≡ length source.net.free = omega arith in e)
     ∙ sym (ap length c.as_slice.ensures) ∙ sym (ap length c.in_ok-free.ensures ∙ length-free t c.as_slice-spots.result.now c.as_slice-links.result.now 0 c.as_slice.result.now) in

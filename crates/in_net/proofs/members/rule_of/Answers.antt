@@ -19,6 +19,7 @@ use Rattle.in_net.proofs.Frees.{length-boundary, boundary_joined, boundary_types
 use Rattle.in_net.proofs.NetRead.{ends_in}
 use Rattle.in_net.proofs.ReadFrom as read_from
 use Rattle.in_net.proofs.TextWires.{IsGood, read, read_joined, is_text_net}
+use Rattle.in_net.proofs.Stepping.FewAgents.{few_agents}
 use Rattle.in_net.proofs.members.rule_of.Goals as goal
 
 good : (t : Tables) (r : SourceRule) (q : Reading) → IsReadable t r → q ≡ reading_of t (body_of_rule t r) → None ≡ first_fault max_member_agents t (body_of_rule t r) q → IsGood t (body_of_rule t r)
@@ -34,7 +35,7 @@ good t r q readable is clear =
     }
 
 from : (t : Tables) (r : SourceRule) (readable : IsReadable t r) → IsGood t (body_of_rule t r) → IsReadFrom t (ends_in t (body_of_rule t r)) (reading_of t (body_of_rule t r))
-from t r readable g = read_from.read_from t (body_of_rule t r) (read t (body_of_rule t r) g) (rule_few t r readable)
+from t r readable g = read_from.read_from t (body_of_rule t r) (read t (body_of_rule t r) g) readable.small (rule_few t r readable)
 
 -- the boundary ends are as many, whichever symbol is the first
 abbrev pair_by : SymbolNo → SymbolNo → Bool → SymbolNo × SymbolNo
@@ -148,6 +149,29 @@ assemble-requires-clause-free c =
     let links = c.as_slice-links.result.now in
     subst (AreJoinedTo c.in_ok-reading.reading.spots links) (sym (c.in_ok-free.ensures ∙ ap (λ z. boundary_of t z links heads.0.0 0 ++ boundary_of t z links heads.1.0 (arity_of t heads.0.0)) c.as_slice-spots.ensures))
     (boundary_joined t c.in_ok-reading.reading.spots links heads.0.0 heads.1.0)
+
+pub invariant_of-result : goal.invariant_of-result
+invariant_of-result c =
+    let t = c.args.symbols.now in
+    let r = c.args.rule.now in
+    let q = c.in_ok-reading.reading in
+    let is = c.in_ok-reading.ensures in
+    let heads = c.ordered-heads.result in
+    let links = c.as_slice-links.result.now in
+    let clear = sym c.in_default.is ∙ c.in_ok-refusal.ensures {u = tt} in
+    let g = good t r c.in_ok-reading.reading c.requires is clear in
+    let ready = rule_ready t r c.requires.known c.requires.order in
+    let n = count t r c.symbol_of.result c.symbol_of-2.result c.is_turned-turned.result c.ordered-heads.result c.symbol_of.ensures.symbol c.symbol_of-2.ensures.symbol c.is_turned-turned.ensures c.ordered-heads.ensures in
+    let spots = c.in_ok-reading.reading.spots in
+    let ends : c.in_ok-free.free ≡ boundary_of t c.in_ok-reading.reading.spots links heads.0.0 0 ++ boundary_of t c.in_ok-reading.reading.spots links heads.1.0 (arity_of t heads.0.0) =
+    c.in_ok-free.ensures ∙ ap (λ z. boundary_of t z links heads.0.0 0 ++ boundary_of t z links heads.1.0 (arity_of t heads.0.0)) c.as_slice-spots.ensures in
+    let made : length c.in_ok-free.free ≡ ends_in t (body_of_rule t r) =
+    ap length ends ∙ length-append (boundary_of t spots links heads.0.0 0) (boundary_of t spots links heads.1.0 (arity_of t heads.0.0))
+    ∙ ap (λ n. n + length (boundary_of t spots links heads.1.0 (arity_of t heads.0.0))) (length-boundary t spots links heads.0.0 0) ∙ ap (λ n. arity_of t heads.0.0 + n) (length-boundary t spots links heads.1.0 (arity_of t heads.0.0))
+    ∙ sym n in
+    let joined = subst (AreJoinedTo c.in_ok-reading.reading.spots links) (sym ends) (boundary_joined t c.in_ok-reading.reading.spots links heads.0.0 heads.1.0) in
+    let net = is_text_net t (body_of_rule t r) c.in_ok-free.free q links c.in_ok-member.member g is (c.as_slice-links.ensures ∙ ap (λ j. j.links) c.in_ok-links.ensures) made joined c.in_ok-member.ensures in
+    few_agents max_member_agents t (body_of_rule t r) c.in_ok-member.member.cells (no_fault max_member_agents t (body_of_rule t r) q ready is clear) net.1.agents
 
 pub returns : goal.returns
 returns c =

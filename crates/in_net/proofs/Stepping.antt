@@ -1,0 +1,12 @@
+pub mod Cells
+pub mod FewAgents
+pub mod Landing
+pub mod Lists
+pub mod OneOutcome
+pub mod Outcome
+pub mod Pairs
+pub mod Partners
+pub mod Sites
+pub mod Turns
+pub mod Unused
+pub mod Wires

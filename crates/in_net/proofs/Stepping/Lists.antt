@@ -1,0 +1,48 @@
+-- What stands in a list with one more element.
+use Rattle.std.proofs.Common.{◌≡◌, ◌⊎◌, inl, inr, ◌<◌, ℕ, zero, suc, true, false, Option, Some, None, is_some, List, [], ◌∷◌, ◌++◌, length, slice_get, get_or, refl, sym, ◌∙◌, ap, arith}
+use Rattle.std.specs.Prelude.{option_and_then}
+use Rattle.std.proofs.lemmas.Option.{slice_get-get_or, get_or_from_slice_get}
+
+pub last_at : {X : Type 0} (xs : List X) (x : X) → slice_get (xs ++ x ∷ []) (length xs) ≡ Some x
+last_at [] x = refl
+last_at (y ∷ xs) x = last_at xs x
+
+pub kept_at : {X : Type 0} (xs ys : List X) (k : ℕ) (y : X) → slice_get xs k ≡ Some y → slice_get (xs ++ ys) k ≡ Some y
+kept_at [] ys k y e = cc
+kept_at (x ∷ xs) ys zero y e = e
+kept_at (x ∷ xs) ys (suc k) y e = kept_at xs ys k y e
+
+-- what stands there stood there before, or is the new one
+pub more_at : {X : Type 0} (xs : List X) (x y : X) (k : ℕ) → slice_get (xs ++ x ∷ []) k ≡ Some y → (slice_get xs k ≡ Some y) ⊎ ((k ≡ length xs) × (x ≡ y))
+more_at {X} [] x y zero e = inr (refl, same x y e)
+  where
+    same : (a b : X) → ◌≡◌ (Some a) (Some b) → a ≡ b
+    same a b e = cc
+more_at [] x y (suc k) e = cc
+more_at (z ∷ xs) x y zero e = inl e
+more_at (z ∷ xs) x y (suc k) e = elim (more_at xs x y k e) [ inl h ↦ inl h | inr h ↦ inr (ap suc h.0, h.1) ]
+
+pub within : {X : Type 0} (xs : List X) (k : ℕ) → k < length xs → (x : X) × (slice_get xs k ≡ Some x)
+within [] k h = absurd (omega arith)
+within (x ∷ xs) zero h = (x, refl)
+within (x ∷ xs) (suc k) h = within xs k (omega arith)
+
+-- what was read at an index
+pub read_at : {X : Type 0} (xs : List X) (i : ℕ) (x : X) → i < length xs → x ≡ get_or xs i x → slice_get xs i ≡ Some x
+read_at xs i x h e = slice_get-get_or xs i x h ∙ ap Some (sym e)
+
+pub none_read : {X : Type 0} (xs : List (Option X)) (i : ℕ) (o : Option X) → i < length xs → o ≡ get_or xs i o → is_some o ≡ false → slice_get xs i ≡ Some None
+none_read xs i None h e is = read_at xs i None h e
+none_read xs i (Some x) h e is = cc
+
+pub some_read : {X : Type 0} (xs : List (Option X)) (i : ℕ) (o : Option X) → i < length xs → o ≡ get_or xs i o → is_some o ≡ true → (x : X) × (slice_get xs i ≡ Some (Some x))
+some_read xs i None h e is = cc
+some_read xs i (Some x) h e is = (x, read_at xs i (Some x) h e)
+
+-- what was read where there is something
+pub there_read : {X : Type 0} (xs : List (Option X)) (i : ℕ) (o : Option X) (x : X) → option_and_then (λ (o : Option X). o) (slice_get xs i) ≡ Some x → o ≡ get_or xs i o → o ≡ Some x
+there_read {X} xs i o x e is = go (slice_get xs i) refl e
+  where
+    go : (p : Option (Option X)) → slice_get xs i ≡ p → option_and_then (λ (o : Option X). o) p ≡ Some x → o ≡ Some x
+    go None f e = cc
+    go (Some p) f e = is ∙ get_or_from_slice_get xs i p o f ∙ e

@@ -1,0 +1,53 @@
+ghost use Rattle.std.specs.Prelude.{◌≡◌, IfOk};
+
+use crate::nets::{Cell, FreeEnd, Net};
+use in_syntax::Text;
+use sqlite_items::Items;
+use std::alloc::{AllocError, Global};
+
+/// The same agents.
+fn cells(alloc: Global, cells: &[Option<Cell>]) -> Result<Items<Option<Cell>>, AllocError>
+    ensures { IfOk result (λ copy. copy ≡ cells.now) }
+{
+    let mut copy = Items::new(alloc);
+    for cell in cells {
+        match cell {
+            Some(cell) => copy.push(Some(Cell {
+                symbol: cell.symbol,
+                ends: Items::from_slice(alloc, cell.ends.as_slice())?,
+            }))?,
+            None => copy.push(None)?,
+        }
+    }
+    Ok(copy)
+}
+
+/// The same free ends.
+fn free_ends(alloc: Global, free: &[FreeEnd]) -> Result<Items<FreeEnd>, AllocError>
+    ensures { IfOk result (λ copy. copy ≡ free.now) }
+{
+    let mut copy = Items::new(alloc);
+    for end in free {
+        copy.push(FreeEnd {
+            name: Text::from_str(alloc, end.name.as_str())?,
+            kind: end.kind,
+            end: end.end,
+        })?;
+    }
+    Ok(copy)
+}
+
+impl Net {
+    /// A copy of the net: an equal one, with the same numbers, names and places.
+    pub fn copy(&self, alloc: Global) -> Result<Net, AllocError>
+        ensures { IfOk result (λ copy. copy ≡ self.now) }
+    {
+        Ok(Net {
+            cells: cells(alloc, self.cells.as_slice())?,
+            free: free_ends(alloc, self.free.as_slice())?,
+            wires: Items::from_slice(alloc, self.wires.as_slice())?,
+            places: Items::from_slice(alloc, self.places.as_slice())?,
+            built: self.built,
+        })
+    }
+}

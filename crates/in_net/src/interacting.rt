@@ -1,0 +1,219 @@
+ghost use Rattle.std.specs.Prelude.{◌≡◌, ◌≢◌, ℕ, ◌+◌, ◌^◌, ◌<◌, length, count_by, is_some, IfOk, OnOk, OnErr, MatchOption};
+ghost use Rattle.in_net.specs.After.{AreEmptyNumbers, AreUnused, StaysAt, IsAgentAfter, IsCellAfter, AreCellsAfter, AreFreeAfter};
+ghost use Rattle.in_net.specs.Interacting.{unused, numbers_after, MayInteract, Interacts};
+ghost use Rattle.in_net.specs.Parts.{cell_in};
+ghost use Rattle.in_net.specs.declared.nets.Cell.{Cell};
+
+use crate::following::Site;
+use crate::listing::wires;
+use crate::nets::{AgentNo, Cell, FreeEnd, Net, Point};
+use crate::rules::Rule;
+use in_syntax::Text;
+use sqlite_items::Items;
+use std::alloc::{AllocError, Global};
+
+/// The numbers below the number of cells that have no agent, in order, but no more than so many.
+fn empty_numbers(
+    alloc: Global,
+    cells: &[Option<Cell>],
+    count: usize,
+) -> Result<Vec<AgentNo>, AllocError>
+    requires { length cells.now < 2 ^ 32 }
+    ensures { IfOk result (λ names. AreEmptyNumbers cells.now count names.items) }
+{
+    let mut names = Vec::new(alloc);
+    for (number, cell) in cells.iter().enumerate() {
+        if cell.is_none() && names.len() < count {
+            names.push(AgentNo(number as u32))?;
+        }
+    }
+    Ok(names)
+}
+
+/// The least numbers without an agent, so many.
+fn unused(alloc: Global, cells: &[Option<Cell>], count: usize) -> Result<Vec<AgentNo>, AllocError>
+    requires cells { length cells.now < 2 ^ 32 }
+    requires few { count_by is_some cells.now + count < 2 ^ 32 }
+    ensures { IfOk result (λ names. AreUnused cells.now count names.items) }
+{
+    let mut names = empty_numbers(alloc, cells, count)?;
+    let found = names.len();
+    for more in 0..count - found {
+        names.push(AgentNo((cells.len() + more) as u32))?;
+    }
+    Ok(names)
+}
+
+impl<'a> Site<'a> {
+    /// An agent that stays, with its partners after the interaction.
+    fn kept(&self, alloc: Global, agent: AgentNo, cell: &Cell) -> Result<Cell, AllocError>
+        requires { StaysAt self.now agent.0 cell.now }
+        ensures { IfOk result (IsAgentAfter self.now agent.0 cell.now) }
+    {
+        let _ = &self.first;
+        let mut ends = Items::new(alloc);
+        for place in 0..cell.ends.len() {
+            ends.push(self.outer(Point::Port(agent, place as u8)))?;
+        }
+        Ok(Cell {
+            symbol: cell.symbol,
+            ends,
+        })
+    }
+
+    /// A new agent, which the right member has under this number.
+    fn fresh(&self, alloc: Global, agent: AgentNo, cell: &Cell) -> Result<Cell, AllocError>
+        requires { cell_in self.now.rule.member agent.0 ≡ Some cell.now }
+        ensures { IfOk result (IsAgentAfter self.now (unused self.now.net.cells agent.0) cell.now) }
+    {
+        let _ = &self.first;
+        let mut ends = Items::new(alloc);
+        for place in 0..cell.ends.len() {
+            ends.push(self.inner(agent, place as u8))?;
+        }
+        Ok(Cell {
+            symbol: cell.symbol,
+            ends,
+        })
+    }
+
+    /// The agent of the right member that gets this number.
+    fn named(&self, number: AgentNo) -> Option<AgentNo>
+        ensures { MatchOption result ((k : ℕ) → k < length self.now.names → unused self.now.net.cells k ≢ number.0) (λ k. (k.0 < length self.now.names) × (unused self.now.net.cells k.0 ≡ number.0)) }
+    {
+        for (agent, name) in self.names.iter().enumerate() {
+            if name.0 == number.0 {
+                return Some(AgentNo(agent as u32));
+            }
+        }
+        None
+    }
+
+    /// The new agent of this number, if there is one.
+    fn new_at(&self, alloc: Global, number: AgentNo) -> Result<Option<Cell>, AllocError>
+        requires { cell_in self.now.net number.0 ≡ None }
+        ensures { IfOk result (IsCellAfter self.now number.0) }
+    {
+        let _ = &self.first;
+        match self.named(number) {
+            Some(agent) => match &self.rule.member().cells()[agent.0 as usize] {
+                Some(cell) => Ok(Some(self.fresh(alloc, agent, cell)?)),
+                None => Ok(None),
+            },
+            None => Ok(None),
+        }
+    }
+
+    /// The agent of this number after the interaction, if there is one.
+    fn cell(&self, alloc: Global, number: AgentNo) -> Result<Option<Cell>, AllocError>
+        ensures { IfOk result (IsCellAfter self.now number.0) }
+    {
+        match self.net.cells().get(number.0 as usize) {
+            Some(Some(cell)) => {
+                if number.0 == self.one.0 || number.0 == self.two.0 {
+                    Ok(None)
+                } else {
+                    Ok(Some(self.kept(alloc, number, cell)?))
+                }
+            }
+            _ => self.new_at(alloc, number),
+        }
+    }
+
+    /// How many numbers there are after the interaction.
+    fn numbers(&self) -> usize
+        ensures { result ≡ numbers_after self.now.net.cells (length self.now.rule.member.cells) }
+    {
+        let old = self.net.cells().len();
+        match self.names.last() {
+            Some(name) if old <= name.0 as usize => name.0 as usize + 1,
+            _ => old,
+        }
+    }
+
+    /// The agents after the interaction.
+    fn cells(&self, alloc: Global) -> Result<Items<Option<Cell>>, AllocError>
+        ensures { IfOk result (λ cells. (length cells ≡ numbers_after self.now.net.cells (length self.now.rule.member.cells)) × AreCellsAfter self.now cells) }
+    {
+        let _ = &self.first;
+        let mut cells = Items::new(alloc);
+        for number in 0..self.numbers() {
+            cells.push(self.cell(alloc, AgentNo(number as u32))?)?;
+        }
+        Ok(cells)
+    }
+
+    /// The free ends after the interaction.
+    fn free_ends(&self, alloc: Global) -> Result<Items<FreeEnd>, AllocError>
+        ensures { IfOk result (AreFreeAfter self.now) }
+    {
+        let mut free = Items::new(alloc);
+        for (number, end) in self.net.free().iter().enumerate() {
+            free.push(FreeEnd {
+                name: Text::from_str(alloc, end.name.as_str())?,
+                kind: end.kind,
+                end: self.outer(Point::Free(number as u32)),
+            })?;
+        }
+        Ok(free)
+    }
+
+    /// The net after the interaction.
+    fn after(&self, alloc: Global) -> Result<Net, AllocError>
+        ensures { IfOk result (Interacts self.now.net self.now.rule self.now.one self.now.two) }
+    {
+        let _ = &self.first;
+        let cells = self.cells(alloc)?;
+        let free = self.free_ends(alloc)?;
+        let wires = wires(alloc, cells.as_slice(), free.as_slice())?;
+        Ok(Net::changed(cells, free, wires, Items::new(alloc)))
+    }
+}
+
+/// How many auxiliary places an agent has.
+fn arity(net: &Net, agent: AgentNo) -> u32
+    requires { (c : Cell) × (cell_in net.now agent.0 ≡ Some c) × (0 < length c.ends) }
+    ensures { (c : Cell) → cell_in net.now agent.0 ≡ Some c → length c.ends ≡ result + 1 }
+{
+    let _ = &net.cells;
+    match &net.cells()[agent.0 as usize] {
+        Some(cell) => cell.ends.len() as u32 - 1,
+        None => unreachable!(),
+    }
+}
+
+/// Replaces an active pair by the right member of the rule of its two symbols.
+///
+/// Lafont 1990: both agents go, and the right member takes their place on the same boundary ends. Each new wire is a path that goes in
+/// turn by wires outside the pair and by wires of the right member. The agents of the right member get the least numbers that the net
+/// doesn't have, in their order; all others keep theirs. The net is then no longer as built: its agents and wires have no places, and
+/// its wires are numbered anew, by the first of their two points. It keeps its free ends with their names and types. Refused for
+/// want of memory alone, and then it is unchanged. Numbers, and the order of wires, are this project's own choice.
+pub fn interact(
+    alloc: Global,
+    net: &mut Net,
+    rule: &Rule,
+    a: AgentNo,
+    b: AgentNo,
+) -> Result<(), AllocError>
+    requires { MayInteract net.old rule.now a b }
+    ensures ok { OnOk result (Interacts net.old rule.now a b net.new) }
+    ensures err { OnErr result (net.new ≡ net.old) }
+{
+    let _ = &net.cells;
+    let _ = &rule.member;
+    let right = rule.member();
+    let _ = &right.cells;
+    let names = unused(alloc, net.cells(), right.cells().len())?;
+    let site = Site {
+        net,
+        rule,
+        one: a,
+        two: b,
+        first: arity(net, a),
+        names: names.as_slice(),
+    };
+    let after = site.after(alloc)?;
+    *net = after;
+    Ok(())
+}

@@ -1,0 +1,66 @@
+ghost use Rattle.std.specs.Prelude.{◌≡◌, ◌<◌, IfOk, MatchOption};
+ghost use Rattle.in_net.specs.ActivePairs.{AreActive, IsActivePair, IsOrdered, lower_of, ArePairsOf};
+ghost use Rattle.in_symbols.specs.Tables.{IsSymbol};
+ghost use Rattle.in_net.specs.Built.{IsOver};
+ghost use Rattle.in_net.specs.declared.nets.AgentNo.{AgentNo};
+
+use crate::nets::{AgentNo, Net, Point};
+use in_symbols::{SymbolNo, Symbols};
+use std::alloc::{AllocError, Global};
+
+/// Two agents that are an active pair, the first one with the lower number, in their order.
+fn in_order(
+    symbols: &Symbols,
+    one: (AgentNo, SymbolNo),
+    other: (AgentNo, SymbolNo),
+) -> (AgentNo, AgentNo)
+    requires one { IsSymbol symbols.now one.1.0 }
+    requires other { IsSymbol symbols.now other.1.0 }
+    requires lower { one.0.0 < other.0.0 }
+    ensures { IsOrdered symbols.now one other result }
+{
+    if symbols.is_constructor(other.1) && !symbols.is_constructor(one.1) {
+        (other.0, one.0)
+    } else {
+        (one.0, other.0)
+    }
+}
+
+impl Net {
+    /// The active pair whose lower number this is, if there is one.
+    fn pair_at(&self, symbols: &Symbols, agent: AgentNo) -> Option<(AgentNo, AgentNo)>
+        requires { IsOver symbols.now self.now }
+        ensures { MatchOption result ((b : AgentNo) → AreActive self.now agent b → b.0 < agent.0) (λ q. IsActivePair symbols.now self.now q × (lower_of q ≡ agent.0)) }
+    {
+        let _ = &self.cells;
+        let first = self.symbol(agent)?;
+        match self.partner(Point::Port(agent, 0)) {
+            Point::Port(other, 0) if agent.0 < other.0 => {
+                let second = self.symbol(other)?;
+                Some(in_order(symbols, (agent, first), (other, second)))
+            }
+            _ => None,
+        }
+    }
+
+    /// The active pairs, each once: two agents whose principal ports are joined (Lafont 1990). The constructor stands first, and of two
+    /// constructors or two destructors the one with the lower number. The pairs are in the order of their lower numbers, which is this
+    /// project's own choice.
+    pub fn active_pairs(
+        &self,
+        alloc: Global,
+        symbols: &Symbols,
+    ) -> Result<Vec<(AgentNo, AgentNo)>, AllocError>
+        requires { IsOver symbols.now self.now }
+        ensures { IfOk result (λ pairs. ArePairsOf symbols.now self.now pairs.items) }
+    {
+        let _ = &self.cells;
+        let mut pairs = Vec::new(alloc);
+        for number in 0..self.cells().len() {
+            if let Some(pair) = self.pair_at(symbols, AgentNo(number as u32)) {
+                pairs.push(pair)?;
+            }
+        }
+        Ok(pairs)
+    }
+}
