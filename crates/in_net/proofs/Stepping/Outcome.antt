@@ -25,11 +25,11 @@ use Rattle.in_net.proofs.SameNet.{not_both}
 use Rattle.in_net.proofs.Interactions.Alternating.{first_wire, joined_once, end_of_pair}
 use Rattle.in_net.proofs.Interactions.StaysNet as stays_net
 use Rattle.in_net.proofs.Stepping.Cells.{numbers_fit}
-use Rattle.in_net.proofs.Stepping.Lists.{within}
 use Rattle.in_net.proofs.Stepping.Pairs.{symbol_known}
 use Rattle.in_net.proofs.Stepping.Partners.{cell_within, net_wire}
 use Rattle.in_net.proofs.Stepping.Sites.{net, inside, redex, naming}
 use Rattle.in_net.proofs.Stepping.Unused.{counted}
+use Rattle.in_base.proofs.Each.{at_index}
 
 -- ---- lists
 
@@ -168,7 +168,7 @@ module _ (s : SiteParts) (site : IsSite s) (cells : List (Option Cell)) (free : 
         go None is e = cc
         go (Some g) is e =
             let many = frees.many in
-            let f = within s.net.free k (let l = slice_within free k g is in omega (arith, l, many)) in
+            let f = at_index s.net.free k (let l = slice_within free k g is in omega (arith, l, many)) in
             let end : g.end ≡ coded_point v = cc in
             subst (Joined (Free k)) (ap point_of end ∙ round_point v) ((frees.each k f.0 g f.1 is).end t can)
           where
@@ -181,7 +181,7 @@ module _ (s : SiteParts) (site : IsSite s) (cells : List (Option Cell)) (free : 
     ends_there : (y i : ℕ) (c : Cell) → i < length c.ends → (d : Cell) × (cell_at cells y ≡ Some d) × IsAgentAfter s y c d → (w : Point ℕ) × ((net_of m).partner (Port y i) ≡ Some w)
     ends_there y i c lt r =
         let many = r.2.many in
-        let q = within r.0.ends i (omega (arith, lt, many)) in
+        let q = at_index r.0.ends i (omega (arith, lt, many)) in
         (point_of q.0, ap (λ (o : Option Cell). option_map point_of (option_and_then (λ (c : Cell). slice_get c.ends i) o)) r.1 ∙ ap (option_map point_of) q.1)
 
     port_cell : (n : Parts) (y i : ℕ) (w : Point ℕ) → (net_of n).partner (Port y i) ≡ Some w → (c : Cell) × (cell_in n y ≡ Some c) × (i < length c.ends)
@@ -211,7 +211,7 @@ module _ (s : SiteParts) (site : IsSite s) (cells : List (Option Cell)) (free : 
         go None is e = cc
         go (Some f) is e =
             let many = frees.many in
-            let g = within free k (let l = slice_within s.net.free k f is in omega (arith, l, many)) in
+            let g = at_index free k (let l = slice_within s.net.free k f is in omega (arith, l, many)) in
             (point_of g.0.end, ap (λ (o : Option FreeEnd). option_map point_of (option_map (λ (f : FreeEnd). f.end) o)) g.1)
 
     inner_there : (u w : Point ℕ) → (IsOfPair (redex_at s.rule s.one.0 s.two.0) u → ⊥) → InnerWire (signature_of t) (redex_at s.rule s.one.0 s.two.0) (unused s.net.cells) u w → (v : Point ℕ) × ((net_of m).partner u ≡ Some v)
