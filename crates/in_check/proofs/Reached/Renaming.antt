@@ -182,29 +182,3 @@ module _ {A B : Type 0} (sig : Signature) (f : A → B) (n : Net A) (m : Net B) 
       let kept : m.symbol (f a) ≡ n.symbol a = symbol_kept a s.0 s.1 ∙ sym s.1 in
       crossings_separate (graph_of sig m) ps c.crossing c.apart (f a) i j e.0 l (ap (λ o. class_of_symbol sig o i) kept ∙ h ∙ ap (λ o. class_of_symbol sig o j) (sym kept))
       )) (lift_circuit E L (circuit_of (graph_of sig m) c))
-
-twice : {A B C : Type 0} (g : A → B) (f : B → C) (p : Point A) → renamed f (renamed g p) ≡ renamed (λ x. f (g x)) p
-twice g f (Port x i) = refl
-twice g f (Free k) = refl
-
--- names of names are names
-pub composed : {A B C : Type 0} (g : A → B) (f : B → C) (l : Net A) (n : Net B) (m : Net C) → IsRenamed g l n → IsRenamed f n m → IsRenamed (λ x. f (g x)) l m
-composed {A} {B} {C} g f l n m r t = record {
-  apart = λ x y h k e. r.apart x y h k (t.apart (g x) (g y) (kept x h) (kept y k) e);
-  agents = λ y s. (
-    (λ e. (let b = (t.agents y s).0 e in let a = (r.agents b.0 s).0 b.2 in (a.0, ap f a.1 ∙ b.1, a.2))),
-    (λ h. (t.agents y s).1 (g h.0, h.1, (r.agents (g h.0) s).1 (h.0, refl, h.2))),
-  );
-  wires = λ u v. (
-    (λ e. (
-        let b = (t.wires u v).0 e in
-        let a = (r.wires b.0 b.1).0 b.4 in
-        (a.0, a.1, sym (twice g f a.0) ∙ ap (renamed f) a.2 ∙ b.2, sym (twice g f a.1) ∙ ap (renamed f) a.3 ∙ b.3, a.4)
-        )),
-    (λ h. (t.wires u v).1 (renamed g h.0, renamed g h.1, twice g f h.0 ∙ h.2, twice g f h.1 ∙ h.3, (r.wires (renamed g h.0) (renamed g h.1)).1 (h.0, h.1, refl, refl, h.4))),
-  );
-  free = t.free ∙ r.free;
-}
-  where
-    kept : (x : A) → IsSome (l.symbol x) → IsSome (n.symbol (g x))
-    kept x h = let s = some_of (l.symbol x) h in is_some (n.symbol (g x)) s.0 ((r.agents (g x) s.0).1 (x, refl, s.1))

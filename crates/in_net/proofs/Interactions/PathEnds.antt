@@ -107,10 +107,6 @@ module _ {A B : Type 0} (sig : Signature) (n : Net A) (x : Redex A B) (name : B 
       go true = λ e. cc
       go false = λ e. cc
 
-  -- from a boundary end, left by this side, to the next one
-  StepTo : ℕ × Side → ℕ × Side → Type 0
-  StepTo u v = wire_of sig n x name u.1 (pt u.0) (pt v.0) × (v.1 ≡ other u.1)
-
   -- the boundary ends that a path from a point that stays goes through, the last one first
   abbrev Trail : List (Passage (ℕ × Side)) → Type 0
   Trail [] = ⊥
