@@ -7,9 +7,10 @@ use Rattle.in_net.specs.Nets.{Net}
 use Rattle.in_net.specs.Pieces.{AreDifferent}
 use Rattle.in_base.specs.Lists.{IsAmong}
 use Rattle.in_net.proofs.Interactions.Ahead.{remove}
+use Rattle.in_net.proofs.Interactions.Alternating.{has_value}
 use Rattle.in_check.specs.Runs.{IsRenamed}
 use Rattle.in_check.specs.NetText.{AreAgents}
-use Rattle.in_check.proofs.Reached.Renaming.{some_of, is_some}
+use Rattle.in_check.proofs.Reached.Renaming.{is_some}
 
 pub all_of : {X : Type 0} (P : X → Type 0) (xs : List X) → ((x : X) → IsAmong x xs → P x) → AllByRecursion P xs
 all_of P [] f = tt
@@ -33,7 +34,7 @@ module _ {A B : Type 0} (f : A → B) (n : Net A) (m : Net B) (r : IsRenamed f n
   lift : (ys : List B) → AllByRecursion (λ y. IsSome (m.symbol y)) ys → (xs : List A) × (map f xs ≡ ys) × AllByRecursion (λ x. IsSome (n.symbol x)) xs
   lift [] h = ([], refl, tt)
   lift (y ∷ ys) h =
-      let s = some_of (m.symbol y) h.0 in
+      let s = has_value (m.symbol y) h.0 in
       let x = (r.agents y s.0).0 s.1 in
       let rest = lift ys h.1 in
       (x.0 ∷ rest.0, ap (λ z. z ∷ map f rest.0) x.1 ∙ ap (λ zs. y ∷ zs) rest.1, (is_some (n.symbol x.0) s.0 x.2, rest.2))
@@ -46,7 +47,7 @@ module _ {A B : Type 0} (f : A → B) (n : Net A) (m : Net B) (r : IsRenamed f n
         record {
           all = λ x. (
             (λ there. (
-                let s = some_of (n.symbol x) there in
+                let s = has_value (n.symbol x) there in
                 let in_m : IsSome (m.symbol (f x)) = is_some (m.symbol (f x)) s.0 ((r.agents (f x) s.0).1 (x, refl, s.1)) in
                 let z = of_map f l.0 (f x) (subst (λ ys. IsAmong (f x) ys) (sym l.1) ((h.all (f x)).0 in_m)) in
                 let same : z.0 ≡ x = r.apart z.0 x (among_all (λ x. IsSome (n.symbol x)) l.0 z.0 l.2 z.1) there z.2 in

@@ -3,10 +3,10 @@ use Rattle.std.proofs.Common.{◌≡◌, ◌≢◌, ◌⊎◌, ◌≤◌, ℕ, n
 use Rattle.in_net.specs.Nets.{Point, Port, Free, Signature, Net, IsPoint, IsNet}
 use Rattle.in_net.specs.Ahead.{MeetsPair, WaitsAt}
 use Rattle.std.proofs.lemmas.Option.{same_Some}
+use Rattle.in_net.proofs.Interactions.Alternating.{has_value}
 use Rattle.in_check.specs.Systems.{System}
 use Rattle.in_check.specs.NetText.{Words, TextPart, Bytes, Head, Variable, agent_term, term_at, term, text_parts, AreAgents, StandsOnce, IsQueue, IsAuxiliary}
 use Rattle.in_check.specs.Promises.{HoldsAll, LeadsOn}
-use Rattle.in_check.proofs.Reached.Renaming.{some_of}
 use Rattle.in_check.proofs.Reached.Counts.{few}
 use Rattle.in_check.proofs.Reached.SameText.{nat_test}
 use Rattle.in_check.proofs.Reached.Others.{pieces_of}
@@ -49,9 +49,9 @@ module _ {A : Type 0} (sig : Signature) (n : Net A) (net : IsNet sig n) (leads :
 
   pub agent_once : (x : A) → IsSome (n.symbol x) → StandsOnce (Head x) (text_parts sig words n (length xs) queue)
   agent_once x there =
-      let s = some_of (n.symbol x) there in
+      let s = has_value (n.symbol x) there in
       let point : IsPoint sig n (Port x 0) = subst (λ o. IsSomeAnd o (λ s. 0 ≤ sig.arity s)) (sym s.1) (omega arith) in
-      let p = some_of (n.partner (Port x 0)) (net.joined (Port x 0) point) in
+      let p = has_value (n.partner (Port x 0)) (net.joined (Port x 0) point) in
       let back : n.partner p.0 ≡ Some (Port x 0) = net.back (Port x 0) p.0 p.1 in
       let point_p = net.points p.0 (Port x 0) back in
       let t = tops_of p.0 point_p in

@@ -8,15 +8,11 @@ use Rattle.in_net.specs.Nets.{Point, Port, Free, Signature, Net, IsPoint, IsNet}
 use Rattle.in_base.specs.Lists.{IsAmong}
 use Rattle.in_typing.specs.Typed.{opposite}
 use Rattle.in_typing.specs.TypedNets.{type_in, IsTypedNet}
-use Rattle.in_net.proofs.Interactions.Alternating.{symbol_of}
+use Rattle.in_net.proofs.Interactions.Alternating.{has_value, symbol_of}
 use Rattle.in_net.proofs.Interactions.AtNets.{port_agent, port_place}
 use Rattle.in_net.proofs.Circuits.{Walk, Circuit, IsEntered, IsLeft, crossings_separate, circuit_of, shorten}
 use Rattle.in_check.specs.Systems.{HasSymbolsBelow}
 use Rattle.in_check.specs.Runs.{renamed, IsRenamed}
-
-pub some_of : {X : Type 0} (o : Option X) → IsSome o → (s : X) × (o ≡ Some s)
-some_of None h = cc
-some_of (Some s) h = (s, refl)
 
 pub is_some : {X : Type 0} (o : Option X) (s : X) → o ≡ Some s → IsSome o
 is_some o s e = subst IsSome (sym e) refl
@@ -69,13 +65,13 @@ module _ {A B : Type 0} (sig : Signature) (f : A → B) (n : Net A) (m : Net B) 
   net_renamed = record {
     agents = map f net.agents;
     all = λ y h. (
-        let s = some_of (m.symbol y) h in
+        let s = has_value (m.symbol y) h in
         let x = (r.agents y s.0).0 s.1 in
         subst (λ y. IsAmong y (map f net.agents)) x.1 (in_map f net.agents x.0 (net.all x.0 (is_some (n.symbol x.0) s.0 x.2)))
         );
     joined = λ u h. (
         let p = point_of u h in
-        let q = some_of (n.partner p.0) (net.joined p.0 p.2) in
+        let q = has_value (n.partner p.0) (net.joined p.0 p.2) in
         is_some (m.partner u) (renamed f q.0) (ap m.partner (sym p.1) ∙ wire_kept p.0 q.0 q.1)
         );
     points = λ u v e. (
@@ -159,7 +155,7 @@ module _ {A B : Type 0} (sig : Signature) (f : A → B) (n : Net A) (m : Net B) 
     lift_circuit : Circuit (graph_of sig m) E L → Circuit (graph_of sig n) E' L'
     lift_circuit c =
         let p = c.first in
-        let s = some_of (m.symbol p.node) (first_node p.node p.leave c.rest (entered p) c.closed) in
+        let s = has_value (m.symbol p.node) (first_node p.node p.leave c.rest (entered p) c.closed) in
         let a = (r.agents p.node s.0).0 s.1 in
         let h = is_some (n.symbol a.0) s.0 a.2 in
         let w = lift a.0 p.leave c.rest (entered p) h (subst (λ y. Walk (graph_of sig m) E L (y, p.leave) c.rest (entered p)) (sym a.1) c.closed) in
@@ -178,33 +174,7 @@ module _ {A B : Type 0} (sig : Signature) (f : A → B) (n : Net A) (m : Net B) 
       let E : B × ℕ → Type 0 = IsEntered ps in
       let L : B × ℕ → Type 0 = IsLeft ps in
       shorten (graph_of sig n) (E' E L) (L' E L) same (λ a i j e l h. (
-      let s = some_of (n.symbol a) e.1 in
+      let s = has_value (n.symbol a) e.1 in
       let kept : m.symbol (f a) ≡ n.symbol a = symbol_kept a s.0 s.1 ∙ sym s.1 in
       crossings_separate (graph_of sig m) ps c.crossing c.apart (f a) i j e.0 l (ap (λ o. class_of_symbol sig o i) kept ∙ h ∙ ap (λ o. class_of_symbol sig o j) (sym kept))
       )) (lift_circuit E L (circuit_of (graph_of sig m) c))
-
-twice : {A B C : Type 0} (g : A → B) (f : B → C) (p : Point A) → renamed f (renamed g p) ≡ renamed (λ x. f (g x)) p
-twice g f (Port x i) = refl
-twice g f (Free k) = refl
-
--- names of names are names
-pub composed : {A B C : Type 0} (g : A → B) (f : B → C) (l : Net A) (n : Net B) (m : Net C) → IsRenamed g l n → IsRenamed f n m → IsRenamed (λ x. f (g x)) l m
-composed {A} {B} {C} g f l n m r t = record {
-  apart = λ x y h k e. r.apart x y h k (t.apart (g x) (g y) (kept x h) (kept y k) e);
-  agents = λ y s. (
-    (λ e. (let b = (t.agents y s).0 e in let a = (r.agents b.0 s).0 b.2 in (a.0, ap f a.1 ∙ b.1, a.2))),
-    (λ h. (t.agents y s).1 (g h.0, h.1, (r.agents (g h.0) s).1 (h.0, refl, h.2))),
-  );
-  wires = λ u v. (
-    (λ e. (
-        let b = (t.wires u v).0 e in
-        let a = (r.wires b.0 b.1).0 b.4 in
-        (a.0, a.1, sym (twice g f a.0) ∙ ap (renamed f) a.2 ∙ b.2, sym (twice g f a.1) ∙ ap (renamed f) a.3 ∙ b.3, a.4)
-        )),
-    (λ h. (t.wires u v).1 (renamed g h.0, renamed g h.1, twice g f h.0 ∙ h.2, twice g f h.1 ∙ h.3, (r.wires (renamed g h.0) (renamed g h.1)).1 (h.0, h.1, refl, refl, h.4))),
-  );
-  free = t.free ∙ r.free;
-}
-  where
-    kept : (x : A) → IsSome (l.symbol x) → IsSome (n.symbol (g x))
-    kept x h = let s = some_of (l.symbol x) h in is_some (n.symbol (g x)) s.0 ((r.agents (g x) s.0).1 (x, refl, s.1))

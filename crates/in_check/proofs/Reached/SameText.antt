@@ -6,9 +6,10 @@ use Rattle.std.proofs.lemmas.Bool.{eq-eqb, eqb-true}
 use Rattle.in_net.specs.Nets.{Point, Port, Free, Signature, Net, IsPoint, IsNet}
 use Rattle.in_simple.proofs.Sums.{same_test}
 use Rattle.in_net.proofs.Interactions.AtNets.{port_agent, port_place}
+use Rattle.in_net.proofs.Interactions.Alternating.{has_value}
 use Rattle.in_check.specs.Runs.{renamed, IsRenamed}
 use Rattle.in_check.specs.NetText.{Words, TextPart, Bytes, Head, Variable, listed, bracketed, arity_of, agent_term, term_at, term, free_lines, pair_lines, text_parts, same_point, number_of, symbol_name, variable_name, numbers, bytes_of, text}
-use Rattle.in_check.proofs.Reached.Renaming.{some_of, symbol_kept, wire_kept, live}
+use Rattle.in_check.proofs.Reached.Renaming.{symbol_kept, wire_kept, live}
 use Rattle.in_base.proofs.Each.{all_append}
 
 -- a test of equality
@@ -61,7 +62,7 @@ listed_live n s y h i (suc (suc k)) = all_append (IsLivePiece n) (s (Port y i)) 
 
 module _ {A B : Type 0} (sig : Signature) (f : A → B) (n : Net A) (m : Net B) (net : IsNet sig n) (r : IsRenamed f n m) where
   symbol_same : (y : A) → IsSome (n.symbol y) → m.symbol (f y) ≡ n.symbol y
-  symbol_same y h = let s = some_of (n.symbol y) h in symbol_kept sig f n m net r y s.0 s.1 ∙ sym s.1
+  symbol_same y h = let s = has_value (n.symbol y) h in symbol_kept sig f n m net r y s.0 s.1 ∙ sym s.1
 
   live_of : (p : Point A) → IsPoint sig n p → IsLive n p
   live_of (Port x i) h = live sig f n m net r x i h

@@ -1,5 +1,5 @@
 -- Alternating paths are deterministic and symmetric, at points.
-use Rattle.std.proofs.Common.{◌≡◌, ◌≢◌, ◌≤◌, ℕ, Option, Some, None, IsSomeAnd, List, [], ◌∷◌, refl, sym, subst, ap, inl, inr, ◌∙◌}
+use Rattle.std.proofs.Common.{◌≡◌, ◌≢◌, ◌≤◌, ℕ, Option, Some, None, IsSome, IsSomeAnd, List, [], ◌∷◌, refl, sym, subst, ap, inl, inr, ◌∙◌}
 use Rattle.std.proofs.lemmas.Option.{same_Some}
 use Rattle.in_net.specs.Nets.{Point, Port, Free, Signature, Net, IsPoint, IsNet}
 use Rattle.in_net.specs.Interactions.{Redex, IsRedex, Side, Outer, Inner, other, Alternates, stands_for, InnerWire, wire_of, IsOfPair, AreJoined, IsNaming, of_first, end_agent, end_place}
@@ -24,6 +24,10 @@ module _ {P : Type 0} (wire : Side → P → P → Type 0) (End : P → Type 0) 
   path_back back s u [] v w = (s, [], back s u v w)
   path_back back s u (e ∷ es) v w =
       turn back (other s) e es v w.1 w.2 [] u (subst (λ t. wire t e u) (sym (other_twice s)) (back s u e w.0))
+
+pub has_value : {X : Type 0} (o : Option X) → IsSome o → (y : X) × (o ≡ Some y)
+has_value None h = cc
+has_value (Some y) h = (y, refl)
 
 pub symbol_of : (sig : Signature) (o : Option ℕ) (i : ℕ) → IsSomeAnd o (λ s. i ≤ sig.arity s) → (s : ℕ) × (o ≡ Some s)
 symbol_of sig None i h = absurd h

@@ -24,9 +24,6 @@ abbrev classes : {A B C : Type 0} → Sides A B C → A ⊎ B → ℕ → ℕ
 classes s n i = elim n [ inl x ↦ s.class x i | inr y ↦ s.new_class y i ]
 
 module _ {A B C : Type 0} (sig : Signature) (classed : AreClasses sig) (n : Net A) (x : Redex A B) (net : IsNet sig n) (inside : IsNet sig x.member) (redex : IsRedex sig n x) (name : A ⊎ B → C) (result : Net C) (done : IsByPlaces sig n x name result) where
-  IsThere : A ⊎ B → Type 0
-  IsThere m = (s : ℕ) × HasSymbol n x m s
-
   -- an agent with a wire is there
   old_there : (y : A) (i : ℕ) (q : Place A B) → wires sig n x Outer (Old y i) q → (s : ℕ) × HasSymbol n x (inl y) s
   old_there y i q w =

@@ -1,5 +1,5 @@
 -- Each point that stays is joined to one.
-use Rattle.std.proofs.Common.{◌≡◌, ◌≢◌, ◌⊎◌, ◌+◌, ◌*◌, ◌-◌, ◌≤◌, ◌<◌, ℕ, zero, suc, Bool, true, false, cond, Option, Some, None, IsSome, IsSomeAnd, List, [], ◌∷◌, length, refl, sym, subst, ap, inl, inr, ◌∙◌, arith, lt-ltb, ltb-true, ltb-false, le-ltb}
+use Rattle.std.proofs.Common.{◌≡◌, ◌≢◌, ◌⊎◌, ◌+◌, ◌*◌, ◌-◌, ◌≤◌, ◌<◌, ℕ, zero, suc, Bool, true, false, cond, Option, Some, IsSomeAnd, List, [], ◌∷◌, length, refl, sym, subst, ap, inl, inr, ◌∙◌, arith, lt-ltb, ltb-true, ltb-false, le-ltb}
 use mathlib.Core.HLevel.{Discrete}
 use Rattle.std.specs.List.{AllByRecursion}
 use Rattle.std.proofs.lemmas.Option.{same_Some}
@@ -9,7 +9,7 @@ use Rattle.in_base.specs.Lists.{IsAmong}
 use Rattle.in_net.specs.Interactions.{Redex, IsRedex, Side, Outer, Inner, other, Alternates, wire_of, IsOfPair, AreJoined, IsNaming, of_first, end_agent, end_place}
 use Rattle.in_net.proofs.Interactions.Paths.{other_twice}
 use Rattle.in_net.proofs.Interactions.AtNets.{end_has}
-use Rattle.in_net.proofs.Interactions.Alternating.{wire_back, one_wire, end_of_pair, not_pair, stands_one}
+use Rattle.in_net.proofs.Interactions.Alternating.{has_value, wire_back, one_wire, end_of_pair, not_pair, stands_one}
 use Rattle.in_net.proofs.Interactions.Ahead.{few}
 
 -- the boundary ends below m, each with both sides
@@ -81,10 +81,6 @@ module _ {A B : Type 0} (sig : Signature) (n : Net A) (x : Redex A B) (name : B 
       go (no d) (no e) i w h = inl (λ k. elim k [ inl a ↦ d a | inr b ↦ e b ])
 
   -- a boundary end has a wire on each side
-  pub has_value : {X : Type 0} (o : Option X) → IsSome o → (y : X) × (o ≡ Some y)
-  has_value None h = cc
-  has_value (Some y) h = (y, refl)
-
   end_point : (c : ℕ) → c < sig.arity x.first + sig.arity x.second → IsPoint sig n (pt c)
   end_point c h =
       subst (λ o. IsSomeAnd o (λ s. end_place sig x c ≤ sig.arity s)) (sym (end_has sig n x net inside redex c))
@@ -106,10 +102,6 @@ module _ {A B : Type 0} (sig : Signature) (n : Net A) (x : Redex A B) (name : B 
       go : (b : Bool) → Port (end_agent sig x c) (cond b (suc c) (suc (c - sig.arity x.first))) ≢ Port y 0
       go true = λ e. cc
       go false = λ e. cc
-
-  -- from a boundary end, left by this side, to the next one
-  StepTo : ℕ × Side → ℕ × Side → Type 0
-  StepTo u v = wire_of sig n x name u.1 (pt u.0) (pt v.0) × (v.1 ≡ other u.1)
 
   -- the boundary ends that a path from a point that stays goes through, the last one first
   abbrev Trail : List (Passage (ℕ × Side)) → Type 0
