@@ -1,5 +1,5 @@
 ghost use Rattle.std.specs.Prelude.{◌≡◌, ◌≢◌, ℕ, ◌+◌, ◌^◌, ◌<◌, length, count_by, is_some, IfOk, OnOk, OnErr, MatchOption};
-ghost use Rattle.in_net.specs.After.{AreEmptyNumbers, AreUnused, StaysAt, IsAgentAfter, IsCellAfter, AreCellsAfter, AreFreeAfter};
+ghost use Rattle.in_net.specs.After.{AreEmptyNumbers, AreUnused, StaysAt, IsAgentAfter, IsCellAfter, AreCellsAfter, AreOuterEnds, Rejoins};
 ghost use Rattle.in_net.specs.Interacting.{unused, numbers_after, MayInteract, Interacts};
 ghost use Rattle.in_net.specs.Parts.{cell_in};
 ghost use Rattle.in_net.specs.declared.nets.Cell.{Cell};
@@ -8,7 +8,6 @@ use crate::following::Site;
 use crate::listing::wires;
 use crate::nets::{AgentNo, Cell, FreeEnd, Net, Point};
 use crate::rules::Rule;
-use in_syntax::Text;
 use sqlite_items::Items;
 use std::alloc::{AllocError, Global};
 
@@ -143,30 +142,26 @@ impl<'a> Site<'a> {
         Ok(cells)
     }
 
-    /// The free ends after the interaction.
-    fn free_ends(&self, alloc: Global) -> Result<Items<FreeEnd>, AllocError>
-        ensures { IfOk result (AreFreeAfter self.now) }
-    {
-        let mut free = Items::new(alloc);
-        for (number, end) in self.net.free().iter().enumerate() {
-            free.push(FreeEnd {
-                name: Text::from_str(alloc, end.name.as_str())?,
-                kind: end.kind,
-                end: self.outer(Point::Free(number as u32)),
-            })?;
-        }
-        Ok(free)
-    }
-
-    /// The net after the interaction.
-    fn after(&self, alloc: Global) -> Result<Net, AllocError>
-        ensures { IfOk result (Interacts self.now.net self.now.rule self.now.one self.now.two) }
+    /// The partners of the free ends after the interaction.
+    fn free_ends(&self, alloc: Global) -> Result<Items<Point>, AllocError>
+        ensures { IfOk result (AreOuterEnds self.now) }
     {
         let _ = &self.first;
-        let cells = self.cells(alloc)?;
-        let free = self.free_ends(alloc)?;
-        let wires = wires(alloc, cells.as_slice(), free.as_slice())?;
-        Ok(Net::changed(cells, free, wires, Items::new(alloc)))
+        let mut ends = Items::new(alloc);
+        for number in 0..self.net.free().len() {
+            ends.push(self.outer(Point::Free(number as u32)))?;
+        }
+        Ok(ends)
+    }
+}
+
+/// Gives each free end its partner.
+fn rejoin(free: &mut Vec<FreeEnd>, ends: &[Point])
+    requires { length ends.now ≡ length free.old.items }
+    ensures { Rejoins ends.now free.old.items free.new.items }
+{
+    for number in 0..ends.len() {
+        free[number].end = ends[number];
     }
 }
 
@@ -213,7 +208,13 @@ pub fn interact(
         first: arity(net, a),
         names: names.as_slice(),
     };
-    let after = site.after(alloc)?;
-    *net = after;
+    let cells = site.cells(alloc)?;
+    let ends = site.free_ends(alloc)?;
+    let wires = wires(alloc, cells.as_slice(), ends.as_slice())?;
+    net.cells = cells;
+    rejoin(&mut net.free, ends.as_slice());
+    net.wires = wires;
+    net.places = Items::new(alloc);
+    net.built = false;
     Ok(())
 }

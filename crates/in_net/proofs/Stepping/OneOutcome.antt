@@ -1,16 +1,15 @@
 -- The net after an interaction is one, and so is the list of active pairs.
-use Rattle.std.proofs.Common.{◌≡◌, ◌⊎◌, inl, inr, ◌+◌, ◌<◌, ◌≤◌, ℕ, zero, suc, Bool, Option, Some, None, List, [], ◌∷◌, map, length, slice_get, refl, sym, ap, subst, ◌∙◌, arith}
+use Rattle.std.proofs.Common.{◌≡◌, inl, inr, ◌<◌, ℕ, zero, suc, Bool, Option, Some, None, List, [], ◌∷◌, map, length, slice_get, refl, sym, ap, subst, ◌∙◌, arith}
 use Rattle.std.specs.Prelude.{option_map, option_and_then}
 use Rattle.in_syntax.specs.declared.places.Place.{Place}
-use Rattle.in_symbols.specs.Tables.{Tables, arity_of}
+use Rattle.in_symbols.specs.Tables.{Tables}
 use Rattle.in_symbols.specs.declared.symbols.PortType.{PortType}
 use Rattle.in_symbols.specs.declared.symbols.SymbolNo.{SymbolNo}
 use Rattle.in_net.specs.ActivePairs.{ArePairsOf, lower_of}
 use Rattle.in_net.specs.After.{cell_at}
-use Rattle.in_net.specs.Interacting.{unused, MayInteract, CanInteract, Interacts}
-use Rattle.in_net.specs.Interactions.{AreJoined, redex_at}
-use Rattle.in_net.specs.Nets.{Point, Port, Free, net_of, signature_of, point_of, coded_point}
-use Rattle.in_net.specs.Parts.{Parts, IsWhole, IsWireBetween, cell_in, symbol_in, partner_in, wire_in}
+use Rattle.in_net.specs.Interacting.{MayInteract, CanInteract, Interacts}
+use Rattle.in_net.specs.Nets.{Point, net_of, point_of, coded_point}
+use Rattle.in_net.specs.Parts.{Parts, IsWhole, IsWireBetween, cell_in, partner_in, wire_in}
 use Rattle.in_net.specs.Rules.{RuleParts}
 use Rattle.in_net.specs.TextNet.{ComesBefore}
 use Rattle.in_net.specs.declared.nets.AgentNo.{AgentNo}
@@ -19,7 +18,7 @@ use Rattle.in_net.specs.declared.nets.FreeEnd.{FreeEnd}
 use Rattle.in_net.specs.declared.nets.Point as coded
 use Rattle.in_net.specs.declared.nets.Point.TheVariants as code
 use Rattle.in_net.specs.declared.nets.Wire.{Wire}
-use Rattle.in_net.proofs.OneNet.{round_code, map_is, cell_over}
+use Rattle.in_net.proofs.OneNet.{round_code, map_is}
 use Rattle.in_net.proofs.SameNet.{not_both}
 use Rattle.in_net.proofs.Stepping.Partners.{net_wire}
 use Rattle.in_net.proofs.Stepping.Wires.{both_ends}
