@@ -132,7 +132,7 @@ cell_over t (None ∷ cs) zero c all e = cc
 cell_over t (Some d ∷ cs) zero c all e = let same : d ≡ c = cc in (omega arith, subst (λ c. length c.ends ≡ arity_of t c.symbol.0 + 1) same all.0.1)
 cell_over t (d ∷ cs) (suc x) c all e = let rest = cell_over t cs x c all.1 e in (omega (arith, rest.0), rest.1)
 
-within : {X : Type 0} (xs : List X) (i : ℕ) → i < length xs → (x : X) × (slice_get xs i ≡ Some x)
+pub within : {X : Type 0} (xs : List X) (i : ℕ) → i < length xs → (x : X) × (slice_get xs i ≡ Some x)
 within [] i lt = absurd (omega (arith, lt))
 within (x ∷ xs) zero lt = (x, refl)
 within (x ∷ xs) (suc i) lt = within xs i (omega (arith, lt))

@@ -12,7 +12,8 @@ use Rattle.in_net.specs.Parts.{cell_in}
 use Rattle.in_net.specs.declared.nets.Cell.{Cell}
 use Rattle.in_net.specs.declared.nets.FreeEnd.{FreeEnd}
 use Rattle.in_net.specs.declared.nets.Point.{Point}
-use Rattle.in_net.proofs.Stepping.Lists.{more_at, last_at, within, read_at}
+use Rattle.in_net.proofs.OneNet.{within}
+use Rattle.in_net.proofs.Stepping.Lists.{more_at, last_at, read_at}
 use Rattle.in_net.proofs.Stepping.Partners.{cell_within}
 use Rattle.in_net.proofs.Stepping.Turns.{some_same}
 use Rattle.in_net.proofs.Stepping.Unused.{few_unused, unused_rises, unused_free, unused_apart}

@@ -5,8 +5,8 @@ use Rattle.in_symbols.specs.Tables.{Tables}
 use Rattle.in_net.specs.NetFaults.{HasNoNetFault}
 use Rattle.in_net.specs.TextNet.{Body, Written, AreCellsFor, agents_of_body}
 use Rattle.in_net.specs.declared.nets.Cell.{Cell}
+use Rattle.in_net.proofs.OneNet.{within}
 use Rattle.in_net.proofs.Linked.{below_or_not}
-use Rattle.in_net.proofs.Stepping.Lists.{within}
 
 as_many : (t : Tables) (ws : List Written) (cs : List (Option Cell)) → AreCellsFor t ws cs → length cs ≡ length ws
 as_many t [] [] h = refl

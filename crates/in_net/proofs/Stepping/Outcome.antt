@@ -20,12 +20,11 @@ use Rattle.in_net.specs.declared.nets.FreeEnd.{FreeEnd}
 use Rattle.in_net.specs.declared.nets.Point as coded
 use Rattle.in_net.specs.declared.nets.Point.TheVariants as code
 use Rattle.in_net.specs.declared.nets.Wire.{Wire}
-use Rattle.in_net.proofs.OneNet.{round_point, round_code, map_is, cell_over}
+use Rattle.in_net.proofs.OneNet.{round_point, round_code, map_is, cell_over, within}
 use Rattle.in_net.proofs.SameNet.{not_both}
 use Rattle.in_net.proofs.Interactions.Alternating.{first_wire, joined_once, end_of_pair}
 use Rattle.in_net.proofs.Interactions.StaysNet as stays_net
 use Rattle.in_net.proofs.Stepping.Cells.{numbers_fit}
-use Rattle.in_net.proofs.Stepping.Lists.{within}
 use Rattle.in_net.proofs.Stepping.Pairs.{symbol_known}
 use Rattle.in_net.proofs.Stepping.Partners.{cell_within, net_wire}
 use Rattle.in_net.proofs.Stepping.Sites.{net, inside, redex, naming}
@@ -43,6 +42,10 @@ all_over : (t : Tables) (cs : List (Option Cell)) → ((x : ℕ) (c : Cell) → 
 all_over t [] h = tt
 all_over t (None ∷ cs) h = (tt, all_over t cs (λ x c e. h (suc x) c e))
 all_over t (Some c ∷ cs) h = (h 0 c refl, all_over t cs (λ x c e. h (suc x) c e))
+
+at_most : (d : Option Cell) → cond (is_some d) 1 0 ≤ 1
+at_most None = omega arith
+at_most (Some d) = omega arith
 
 -- agents that have a number of the old ones or one of so many unused ones are few
 few_agents : (cs ds : List (Option Cell)) (count : ℕ) → ((x : ℕ) (d : Cell) → cell_at ds x ≡ Some d → ((c : Cell) × (cell_at cs x ≡ Some c)) ⊎ ((k : ℕ) × (k < count) × (unused cs k ≡ x))) → count_by is_some ds ≤ count_by is_some cs + count
@@ -62,10 +65,6 @@ few_agents (Some c ∷ cs) (d ∷ ds) count h =
     let m = counted (Some c) cs in
     let o = at_most d in
     omega (arith, r, n, m, o)
-  where
-    at_most : (d : Option Cell) → cond (is_some d) 1 0 ≤ 1
-    at_most None = omega arith
-    at_most (Some d) = omega arith
 few_agents (None ∷ cs) (None ∷ ds) zero h =
     let r = few_agents cs ds zero (λ x d e. elim (h (suc x) d e) [ inl c ↦ inl c | inr k ↦ (let a = k.1 in absurd (omega (arith, a))) ]) in
     let n = counted None ds in
@@ -79,10 +78,6 @@ few_agents (None ∷ cs) (d ∷ ds) (suc count) h =
     let o = at_most d in
     omega (arith, r, n, m, o)
   where
-    at_most : (d : Option Cell) → cond (is_some d) 1 0 ≤ 1
-    at_most None = omega arith
-    at_most (Some d) = omega arith
-
     earlier : (x k : ℕ) → k < suc count → unused (None ∷ cs) k ≡ suc x → ((c : Cell) × (cell_at cs x ≡ Some c)) ⊎ ((k : ℕ) × (k < count) × (unused cs k ≡ x))
     earlier x zero lt e = absurd (let z : zero ≡ suc x = e in omega (arith, z))
     earlier x (suc k) lt e = inr (k, omega (arith, lt), (let z : suc (unused cs k) ≡ suc x = e in omega (arith, z)))
