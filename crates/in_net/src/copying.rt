@@ -38,7 +38,7 @@ fn free_ends(alloc: Global, free: &[FreeEnd]) -> Result<Vec<FreeEnd>, AllocError
 }
 
 impl Net {
-    /// A copy of the net: an equal one, with the same numbers, names and places.
+    /// A copy of the net: an equal one, with the same numbers, names and places. Refused for want of memory alone.
     pub fn copy(&self, alloc: Global) -> Result<Net, AllocError>
         ensures { IfOk result (λ copy. copy ≡ self.now) }
     {

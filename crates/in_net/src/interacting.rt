@@ -11,6 +11,10 @@ use crate::rules::Rule;
 use sqlite_items::Items;
 use std::alloc::{AllocError, Global};
 
+/// The most agents that a net may have in which two are to interact: then numbers of agents and of wires fit. This is this project's own
+/// choice.
+pub const MOST_AGENTS: u32 = 400_000_000;
+
 /// The numbers below the number of cells that have no agent, in order, but no more than so many.
 fn empty_numbers(
     alloc: Global,
@@ -179,11 +183,14 @@ fn arity(net: &Net, agent: AgentNo) -> u32
 
 /// Replaces an active pair by the right member of the rule of its two symbols.
 ///
-/// Lafont 1990: both agents go, and the right member takes their place on the same boundary ends. Each new wire is a path that goes in
-/// turn by wires outside the pair and by wires of the right member. The agents of the right member get the least numbers that the net
-/// doesn't have, in their order; all others keep theirs. The net is then no longer as built: its agents and wires have no places, and
-/// its wires are numbered anew, by the first of their two points. It keeps its free ends with their names and types. Refused for
-/// want of memory alone, and then it is unchanged. Numbers, and the order of wires, are this project's own choice.
+/// Lafont 1990: both agents go, and the right member takes their place on the same boundary ends. A wire of the net after is a path that
+/// goes in turn by wires outside the pair and by wires of the right member. The right member's agents get the least numbers that the
+/// net before doesn't have, in their order; all others keep theirs. The net is then no longer as built: its agents and wires have no
+/// places, and its wires are numbered anew, by the first of their two points. It keeps its free ends with their names and types. Numbers,
+/// and the order of wires, are this project's own choice.
+///
+/// Net and rule are over one `Symbols`; `a` and `b` have the symbols of the rule's heads, in this order, and their principal ports are
+/// joined; the net has at most `MOST_AGENTS` agents. Refused for want of memory alone, and then the net is unchanged.
 pub fn interact(
     alloc: Global,
     net: &mut Net,
