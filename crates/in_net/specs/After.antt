@@ -44,7 +44,19 @@ cell_at cs y = option_and_then (λ c. c) (slice_get cs y)
 abbrev pub AreCellsAfter : SiteParts → List (Option Cell) → Type 0
 AreCellsAfter s cs = (y : ℕ) → IsCellAfter s y (cell_at cs y)
 
--- a free end after keeps its name and type
+-- ---- free ends
+
+-- these are the partners of the free ends after
+pub record AreOuterEnds (s : SiteParts) (ends : List Point) : Type 0 where
+  pub many : length ends ≡ length s.net.free
+  pub each : (k : ℕ) (q : Point) → slice_get ends k ≡ Some q → IsPartnerAfter s (nets.Free k) q
+
+-- each free end gets its partner, and keeps its name and type
+pub record Rejoins (ends : List Point) (old new : List FreeEnd) : Type 0 where
+  pub many : length new ≡ length old
+  pub each : (k : ℕ) (f : FreeEnd) (q : Point) → slice_get old k ≡ Some f → slice_get ends k ≡ Some q → slice_get new k ≡ Some (record { name = f.name; kind = f.kind; end = q })
+
+-- a free end keeps its name and type, and leads to where its path lands
 pub record IsFreeAfter (s : SiteParts) (k : ℕ) (f g : FreeEnd) : Type 0 where
   pub name : g.name ≡ f.name
   pub kind : g.kind ≡ f.kind

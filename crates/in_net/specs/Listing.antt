@@ -14,6 +14,10 @@ use Rattle.in_net.specs.TextNet.{ComesBefore}
 abbrev pub unlisted : List (Option Cell) → List FreeEnd → Parts
 unlisted cells free = record { cells = cells; free = free; wires = []; places = []; built = false }
 
+-- these are the partners of the free ends
+abbrev pub AreEndsOf : List Point → List FreeEnd → Type 0
+AreEndsOf ends free = map (λ f. f.end) free ≡ ends
+
 -- the wire of two points, which stands nowhere
 abbrev pub wire_between : Point → Point → Wire
 wire_between p q = record { one = p; other = q; place = record { from = 0; to = 0; line = 0; col = 0 } }

@@ -93,14 +93,14 @@ fn free_ends(
     spots: &[Spot],
     links: &[Link],
     free: &[SourceFree],
-) -> Result<Items<FreeEnd>, AllocError>
+) -> Result<Vec<FreeEnd>, AllocError>
     requires free { ArePointsAt spots.now 0 (length free.now) }
     requires known { FreeKnown symbols.now.types free.now }
     requires joined { IsJoined spots.now links.now }
     requires small { AreSmallSpots spots.now }
-    ensures { IfOk result (λ ends. ends ≡ free_ends_from symbols.now spots.now links.now 0 free.now) }
+    ensures { IfOk result (λ ends. ends.items ≡ free_ends_from symbols.now spots.now links.now 0 free.now) }
 {
-    let mut ends = Items::new(alloc);
+    let mut ends = Vec::new(alloc);
     for (number, end) in free.iter().enumerate() {
         ends.push(FreeEnd {
             name: Text::from_str(alloc, end.name.text.as_str())?,
@@ -173,12 +173,12 @@ pub(crate) fn assemble(
     symbols: &Symbols,
     reading: &Reading,
     links: &[Link],
-    free: Items<FreeEnd>,
+    free: Vec<FreeEnd>,
 ) -> Result<Net, AllocError>
-    requires read { IsReadFrom symbols.now (length free) reading.now }
+    requires read { IsReadFrom symbols.now (length free.items) reading.now }
     requires joined { IsJoined reading.now.spots links.now }
-    requires free { AreJoinedTo reading.now.spots links.now free }
-    ensures { IfOk result (Assembles symbols.now reading.now links.now free) }
+    requires free { AreJoinedTo reading.now.spots links.now free.items }
+    ensures { IfOk result (Assembles symbols.now reading.now links.now free.items) }
 {
     let spots = reading.spots.as_slice();
     let agents = reading.agents.as_slice();

@@ -23,10 +23,10 @@ fn cells(alloc: Global, cells: &[Option<Cell>]) -> Result<Items<Option<Cell>>, A
 }
 
 /// The same free ends.
-fn free_ends(alloc: Global, free: &[FreeEnd]) -> Result<Items<FreeEnd>, AllocError>
-    ensures { IfOk result (λ copy. copy ≡ free.now) }
+fn free_ends(alloc: Global, free: &[FreeEnd]) -> Result<Vec<FreeEnd>, AllocError>
+    ensures { IfOk result (λ copy. copy.items ≡ free.now) }
 {
-    let mut copy = Items::new(alloc);
+    let mut copy = Vec::new(alloc);
     for end in free {
         copy.push(FreeEnd {
             name: Text::from_str(alloc, end.name.as_str())?,
@@ -38,7 +38,7 @@ fn free_ends(alloc: Global, free: &[FreeEnd]) -> Result<Items<FreeEnd>, AllocErr
 }
 
 impl Net {
-    /// A copy of the net: an equal one, with the same numbers, names and places.
+    /// A copy of the net: an equal one, with the same numbers, names and places. Refused for want of memory alone.
     pub fn copy(&self, alloc: Global) -> Result<Net, AllocError>
         ensures { IfOk result (λ copy. copy ≡ self.now) }
     {

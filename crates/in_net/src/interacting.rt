@@ -1,5 +1,5 @@
 ghost use Rattle.std.specs.Prelude.{◌≡◌, ◌≢◌, ℕ, ◌+◌, ◌^◌, ◌<◌, length, count_by, is_some, IfOk, OnOk, OnErr, MatchOption};
-ghost use Rattle.in_net.specs.After.{AreEmptyNumbers, AreUnused, StaysAt, IsAgentAfter, IsCellAfter, AreCellsAfter, AreFreeAfter};
+ghost use Rattle.in_net.specs.After.{AreEmptyNumbers, AreUnused, StaysAt, IsAgentAfter, IsCellAfter, AreCellsAfter, AreOuterEnds, Rejoins};
 ghost use Rattle.in_net.specs.Interacting.{unused, numbers_after, MayInteract, Interacts};
 ghost use Rattle.in_net.specs.Parts.{cell_in};
 ghost use Rattle.in_net.specs.declared.nets.Cell.{Cell};
@@ -8,9 +8,12 @@ use crate::following::Site;
 use crate::listing::wires;
 use crate::nets::{AgentNo, Cell, FreeEnd, Net, Point};
 use crate::rules::Rule;
-use in_syntax::Text;
 use sqlite_items::Items;
 use std::alloc::{AllocError, Global};
+
+/// The most agents that a net may have in which two are to interact: then numbers of agents and of wires fit. This is this project's own
+/// choice.
+pub const MOST_AGENTS: u32 = 400_000_000;
 
 /// The numbers below the number of cells that have no agent, in order, but no more than so many.
 fn empty_numbers(
@@ -143,30 +146,26 @@ impl<'a> Site<'a> {
         Ok(cells)
     }
 
-    /// The free ends after the interaction.
-    fn free_ends(&self, alloc: Global) -> Result<Items<FreeEnd>, AllocError>
-        ensures { IfOk result (AreFreeAfter self.now) }
-    {
-        let mut free = Items::new(alloc);
-        for (number, end) in self.net.free().iter().enumerate() {
-            free.push(FreeEnd {
-                name: Text::from_str(alloc, end.name.as_str())?,
-                kind: end.kind,
-                end: self.outer(Point::Free(number as u32)),
-            })?;
-        }
-        Ok(free)
-    }
-
-    /// The net after the interaction.
-    fn after(&self, alloc: Global) -> Result<Net, AllocError>
-        ensures { IfOk result (Interacts self.now.net self.now.rule self.now.one self.now.two) }
+    /// The partners of the free ends after the interaction.
+    fn free_ends(&self, alloc: Global) -> Result<Items<Point>, AllocError>
+        ensures { IfOk result (AreOuterEnds self.now) }
     {
         let _ = &self.first;
-        let cells = self.cells(alloc)?;
-        let free = self.free_ends(alloc)?;
-        let wires = wires(alloc, cells.as_slice(), free.as_slice())?;
-        Ok(Net::changed(cells, free, wires, Items::new(alloc)))
+        let mut ends = Items::new(alloc);
+        for number in 0..self.net.free().len() {
+            ends.push(self.outer(Point::Free(number as u32)))?;
+        }
+        Ok(ends)
+    }
+}
+
+/// Gives each free end its partner.
+fn rejoin(free: &mut Vec<FreeEnd>, ends: &[Point])
+    requires { length ends.now ≡ length free.old.items }
+    ensures { Rejoins ends.now free.old.items free.new.items }
+{
+    for number in 0..ends.len() {
+        free[number].end = ends[number];
     }
 }
 
@@ -184,11 +183,14 @@ fn arity(net: &Net, agent: AgentNo) -> u32
 
 /// Replaces an active pair by the right member of the rule of its two symbols.
 ///
-/// Lafont 1990: both agents go, and the right member takes their place on the same boundary ends. Each new wire is a path that goes in
-/// turn by wires outside the pair and by wires of the right member. The agents of the right member get the least numbers that the net
-/// doesn't have, in their order; all others keep theirs. The net is then no longer as built: its agents and wires have no places, and
-/// its wires are numbered anew, by the first of their two points. It keeps its free ends with their names and types. Refused for
-/// want of memory alone, and then it is unchanged. Numbers, and the order of wires, are this project's own choice.
+/// Lafont 1990: both agents go, and the right member takes their place on the same boundary ends. A wire of the net after is a path that
+/// goes in turn by wires outside the pair and by wires of the right member. The right member's agents get the least numbers that the
+/// net before doesn't have, in their order; all others keep theirs. The net is then no longer as built: its agents and wires have no
+/// places, and its wires are numbered anew, by the first of their two points. It keeps its free ends with their names and types. Numbers,
+/// and the order of wires, are this project's own choice.
+///
+/// Net and rule are over one `Symbols`; `a` and `b` have the symbols of the rule's heads, in this order, and their principal ports are
+/// joined; the net has at most `MOST_AGENTS` agents. Refused for want of memory alone, and then the net is unchanged.
 pub fn interact(
     alloc: Global,
     net: &mut Net,
@@ -213,7 +215,13 @@ pub fn interact(
         first: arity(net, a),
         names: names.as_slice(),
     };
-    let after = site.after(alloc)?;
-    *net = after;
+    let cells = site.cells(alloc)?;
+    let ends = site.free_ends(alloc)?;
+    let wires = wires(alloc, cells.as_slice(), ends.as_slice())?;
+    net.cells = cells;
+    rejoin(&mut net.free, ends.as_slice());
+    net.wires = wires;
+    net.places = Items::new(alloc);
+    net.built = false;
     Ok(())
 }

@@ -19,7 +19,7 @@ mod rules;
 
 pub use building::build_net;
 pub use faults::{MAX_AGENTS, MAX_MEMBER_AGENTS};
-pub use interacting::interact;
+pub use interacting::{MOST_AGENTS, interact};
 pub use members::build_rule;
 pub use nets::{AgentNo, Net, Point};
 pub use rules::Rule;

@@ -1,11 +1,13 @@
-ghost use Rattle.std.specs.Prelude.{◌≡◌, ◌+◌, ◌*◌, ◌^◌, ◌<◌, ◌≤◌, ◌↔◌, List, Option, length, count_by, is_some, IsTrue, IfOk, OnOk};
+ghost use Rattle.std.specs.Prelude.{◌≡◌, ◌+◌, ◌*◌, ◌^◌, ◌<◌, ◌≤◌, ◌↔◌, List, length, count_by, is_some, IsTrue, IfOk, OnOk};
 ghost use Rattle.in_syntax.specs.Grammar.{max_free, max_ports};
-ghost use Rattle.in_net.specs.Listing.{unlisted, AddsWire, AddsWires, AreListed, HaveFewEnds};
+ghost use Rattle.in_net.specs.Listing.{unlisted, AddsWire, AddsWires, AreListed, AreEndsOf, HaveFewEnds};
+ghost use Rattle.in_net.specs.Parts.{Parts};
 ghost use Rattle.in_net.specs.TextNet.{ComesBefore};
 ghost use Rattle.in_net.specs.declared.nets.Cell.{Cell};
+ghost use Rattle.in_net.specs.declared.nets.FreeEnd.{FreeEnd};
 ghost use Rattle.in_net.specs.declared.nets.Point.TheVariants.{Free};
 
-use crate::nets::{AgentNo, Cell, FreeEnd, Point, Wire};
+use crate::nets::{AgentNo, Cell, Point, Wire};
 use in_syntax::Place;
 use sqlite_items::Items;
 use std::alloc::{AllocError, Global};
@@ -44,15 +46,15 @@ fn add_wire(wires: &mut Items<Wire>, one: Point, other: Point) -> Result<(), All
     Ok(())
 }
 
-/// The wires that begin at free ends.
-fn wires_of_free(alloc: Global, free: &[FreeEnd]) -> Result<Items<Wire>, AllocError>
-    requires { length free.now ≤ max_free }
-    ensures few { IfOk result (λ ws. length ws ≤ length free.now) }
-    ensures listed { IfOk result (λ ws. (cells : List (Option Cell)) → AreListed (unlisted cells free.now) (λ p. ComesBefore p (Free (length free.now))) ws) }
+/// The wires that begin at free ends with these partners.
+fn wires_of_free(alloc: Global, ends: &[Point]) -> Result<Items<Wire>, AllocError>
+    requires { length ends.now ≤ max_free }
+    ensures few { IfOk result (λ ws. length ws ≤ length ends.now) }
+    ensures listed { IfOk result (λ ws. (n : Parts) → AreEndsOf ends.now n.free → AreListed n (λ p. ComesBefore p (Free (length ends.now))) ws) }
 {
     let mut wires = Items::new(alloc);
-    for (number, end) in free.iter().enumerate() {
-        add_wire(&mut wires, Point::Free(number as u32), end.end)?;
+    for (number, end) in ends.iter().enumerate() {
+        add_wire(&mut wires, Point::Free(number as u32), *end)?;
     }
     Ok(wires)
 }
@@ -69,19 +71,19 @@ fn add_wires(wires: &mut Items<Wire>, agent: AgentNo, ends: &[Point]) -> Result<
     Ok(())
 }
 
-/// The wires between these agents and free ends, by the first of their two points.
+/// The wires between these agents and free ends with these partners, by the first of their two points.
 pub(crate) fn wires(
     alloc: Global,
     cells: &[Option<Cell>],
-    free: &[FreeEnd],
+    ends: &[Point],
 ) -> Result<Items<Wire>, AllocError>
-    requires free { length free.now ≤ max_free }
+    requires ends { length ends.now ≤ max_free }
     requires cells { length cells.now < 2 ^ 32 }
     requires ports { HaveFewEnds cells.now }
-    ensures few { IfOk result (λ ws. length ws ≤ length free.now + (max_ports + 1) * count_by is_some cells.now) }
-    ensures listed { IfOk result (AreListed (unlisted cells.now free.now) (λ p. Unit {0})) }
+    ensures few { IfOk result (λ ws. length ws ≤ length ends.now + (max_ports + 1) * count_by is_some cells.now) }
+    ensures listed { IfOk result (λ ws. (free : List FreeEnd) → AreEndsOf ends.now free → AreListed (unlisted cells.now free) (λ p. Unit {0}) ws) }
 {
-    let mut wires = wires_of_free(alloc, free)?;
+    let mut wires = wires_of_free(alloc, ends)?;
     for (number, cell) in cells.iter().enumerate() {
         if let Some(cell) = cell {
             add_wires(&mut wires, AgentNo(number as u32), cell.ends.as_slice())?;

@@ -15,7 +15,6 @@ use crate::reading::{Reading, Spot, read_rule};
 use crate::rules::Rule;
 use in_symbols::{SymbolNo, Symbols};
 use in_syntax::{Fault, Head, Source, SourceRule, Text};
-use sqlite_items::Items;
 use std::alloc::{AllocError, Global};
 
 /// The symbol of a head's name.
@@ -78,13 +77,13 @@ fn add_boundary(
     spots: &[Spot],
     links: &[Link],
     symbol: SymbolNo,
-    ends: &mut Items<FreeEnd>,
+    ends: &mut Vec<FreeEnd>,
 ) -> Result<(), AllocError>
     requires symbol { IsSymbol symbols.now symbol.0 }
-    requires points { ArePointsAt spots.now (length ends.old) (arity_of symbols.now symbol.0) }
+    requires points { ArePointsAt spots.now (length ends.old.items) (arity_of symbols.now symbol.0) }
     requires joined { IsJoined spots.now links.now }
     requires small { AreSmallSpots spots.now }
-    ensures { OnOk result (ends.new ≡ ends.old ++ boundary_of symbols.now spots.now links.now symbol.0 (length ends.old)) }
+    ensures { OnOk result (ends.new.items ≡ ends.old.items ++ boundary_of symbols.now spots.now links.now symbol.0 (length ends.old.items)) }
 {
     let arity = symbols.arity(symbol);
     for place in 0..arity {
@@ -105,15 +104,15 @@ fn boundary(
     spots: &[Spot],
     links: &[Link],
     heads: (SymbolNo, SymbolNo),
-) -> Result<Items<FreeEnd>, AllocError>
+) -> Result<Vec<FreeEnd>, AllocError>
     requires first { IsSymbol symbols.now heads.0.0 }
     requires second { IsSymbol symbols.now heads.1.0 }
     requires points { ArePointsAt spots.now 0 (arity_of symbols.now heads.0.0 + arity_of symbols.now heads.1.0) }
     requires joined { IsJoined spots.now links.now }
     requires small { AreSmallSpots spots.now }
-    ensures { IfOk result (λ ends. ends ≡ boundary_of symbols.now spots.now links.now heads.0.0 0 ++ boundary_of symbols.now spots.now links.now heads.1.0 (arity_of symbols.now heads.0.0)) }
+    ensures { IfOk result (λ ends. ends.items ≡ boundary_of symbols.now spots.now links.now heads.0.0 0 ++ boundary_of symbols.now spots.now links.now heads.1.0 (arity_of symbols.now heads.0.0)) }
 {
-    let mut ends = Items::new(alloc);
+    let mut ends = Vec::new(alloc);
     add_boundary(alloc, symbols, spots, links, heads.0, &mut ends)?;
     add_boundary(alloc, symbols, spots, links, heads.1, &mut ends)?;
     Ok(ends)

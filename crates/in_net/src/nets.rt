@@ -1,5 +1,5 @@
 ghost use Rattle.std.specs.Prelude.{◌≡◌, ◌<◌, length, count_by, is_some, IsTrue, slice_get};
-ghost use Rattle.in_net.specs.Parts.{IsWhole, as_built, as_changed, IsPointOf, partner_in, symbol_in, wire_in, wire_place_in, agent_place_in, free_type_in, free_name_in};
+ghost use Rattle.in_net.specs.Parts.{IsWhole, as_built, IsPointOf, partner_in, symbol_in, wire_in, wire_place_in, agent_place_in, free_type_in, free_name_in};
 
 use in_symbols::{PortType, SymbolNo};
 use in_syntax::{Place, Text};
@@ -45,7 +45,7 @@ pub(crate) struct Wire {
 #[derive(Drop)]
 pub struct Net {
     pub(crate) cells: Items<Option<Cell>>,
-    pub(crate) free: Items<FreeEnd>,
+    pub(crate) free: Vec<FreeEnd>,
     pub(crate) wires: Items<Wire>,
     pub(crate) places: Items<Place>,
     pub(crate) built: bool,
@@ -57,21 +57,21 @@ impl Model for Net {
 
     ghost Value = { Parts };
 
-    ghost view = { λ n. record { cells = n.cells; free = n.free; wires = n.wires; places = n.places; built = n.built } };
+    ghost view = { λ n. record { cells = n.cells; free = n.free.items; wires = n.wires; places = n.places; built = n.built } };
 
-    ghost invariant = { λ n. IsWhole (record { cells = n.cells; free = n.free; wires = n.wires; places = n.places; built = n.built }) };
+    ghost invariant = { λ n. IsWhole (record { cells = n.cells; free = n.free.items; wires = n.wires; places = n.places; built = n.built }) };
 }
 
 impl Net {
     /// The net of these parts, with an agent at each cell.
     pub(crate) fn built(
         cells: Items<Option<Cell>>,
-        free: Items<FreeEnd>,
+        free: Vec<FreeEnd>,
         wires: Items<Wire>,
         places: Items<Place>,
     ) -> Net
-        requires { IsWhole (as_built cells free wires places) }
-        ensures { result ≡ as_built cells free wires places }
+        requires { IsWhole (as_built cells free.items wires places) }
+        ensures { result ≡ as_built cells free.items wires places }
     {
         Net {
             cells,
@@ -79,25 +79,6 @@ impl Net {
             wires,
             places,
             built: true,
-        }
-    }
-
-    /// The net of these parts, after an interaction.
-    pub(crate) fn changed(
-        cells: Items<Option<Cell>>,
-        free: Items<FreeEnd>,
-        wires: Items<Wire>,
-        places: Items<Place>,
-    ) -> Net
-        requires { IsWhole (as_changed cells free wires places) }
-        ensures { result ≡ as_changed cells free wires places }
-    {
-        Net {
-            cells,
-            free,
-            wires,
-            places,
-            built: false,
         }
     }
 

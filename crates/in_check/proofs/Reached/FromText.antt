@@ -20,7 +20,6 @@ use Rattle.in_net.specs.Nets.{AreClasses, net_of, signature_of}
 use Rattle.in_net.specs.Parts.{IsWhole}
 use Rattle.in_net.specs.Rules as written
 use Rattle.in_net.specs.Rules.{RuleParts, IsRuleOf, IsRuleOver, types_from, auxiliary_types}
-use Rattle.in_net.proofs.HeadsOf.{two}
 use Rattle.in_net.proofs.OneNet.{is_net}
 use Rattle.in_typing.specs.Typed.{TypesRule}
 use Rattle.in_typing.proofs.TypedParts.{net_typed}
@@ -42,6 +41,7 @@ use Rattle.in_check.specs.Programs.{Program}
 use Rattle.in_check.specs.Systems.{SystemRule, IsMatching, IsSoundRule, IsSound, HasOneRule, IsSoundSystem, alone, rule_in, system_of}
 use Rattle.in_check.proofs.Chain.{program_of}
 use Rattle.in_base.proofs.Each.{at_index, all_at}
+use Rattle.std.proofs.lemmas.Bool.{and_parts}
 
 -- ---- lists
 
@@ -97,7 +97,7 @@ opposite_is false false e = cc
 
 matching_is : (t : Tables) (c d : ℕ) → matching t c d ≡ true → ((port_at t c 0).kind ≡ (port_at t d 0).kind) × (is_constructor t c ≡ not (is_constructor t d))
 matching_is t c d e =
-    let both = two (nat_eq (port_at t c 0).kind (port_at t d 0).kind) (are_opposite (is_constructor t c) (is_constructor t d)) e in (
+    let both = and_parts (nat_eq (port_at t c 0).kind (port_at t d 0).kind) (are_opposite (is_constructor t c) (is_constructor t d)) e in (
       elim (eqb_tells (port_at t c 0).kind (port_at t d 0).kind) [ inl h ↦ h.1 | inr h ↦ absurd (let f = both.0 in let g = h.0 in (let z : true ≡ false = sym f ∙ g in cc)) ],
       opposite_is (is_constructor t c) (is_constructor t d) both.1,
     )
@@ -107,7 +107,7 @@ is_matching t c d h =
     ap (λ z. z && are_opposite (is_constructor t c) (is_constructor t d)) (eq-eqb (port_at t c 0).kind (port_at t d 0).kind h.2)
     ∙ ap (λ z. are_opposite z (is_constructor t d)) h.0 ∙ ap (λ z. not z) h.1
 
--- the first of a rule's two symbols is the constructor
+-- the first of a rule's and_parts symbols is the constructor
 heads_match : (t : Tables) (r : SourceRule) (p : RuleParts) → p.heads ≡ written.heads_of t r → matching t p.heads.0.0 p.heads.1.0 ≡ true → IsMatching (signature_of t) p.heads.0.0 p.heads.1.0
 heads_match t r p e m = subst (λ (h : SymbolNo × SymbolNo). IsMatching (signature_of t) h.0.0 h.1.0) (sym e) (go (is_constructor t (written.symbol_of t r.first)) refl (matching t (written.symbol_of t r.first) (written.symbol_of t r.second)) refl (subst (λ (h : SymbolNo × SymbolNo). matching t h.0.0 h.1.0 ≡ true) e m))
   where
@@ -234,7 +234,7 @@ module _ (text : List ℕ) (p : Program) (accepted : IsAccepted text p) where
             (net_circle p.tables p.net p.net_certificate.shape numbered whole over k.0 circle);
       }
 
-  -- one rule for two symbols, the constructor first
+  -- one rule for and_parts symbols, the constructor first
   covered : (c d : ℕ) → c < length p.tables.names → d < length p.tables.names → IsMatching (signature_of p.tables) c d → HasOneRule (system_of p) c d
   covered c d hc hd m =
       let complete : IsComplete p.tables p.rules = a.covers.0 in

@@ -3,8 +3,7 @@ use Rattle.std.proofs.Common.{◌≡◌, ◌≢◌, ◌⊎◌, ◌≤◌, ◌<�
 use Rattle.std.specs.List.{AllByRecursion}
 use native.Mathlib.Decide.{ℕ_discrete}
 use Rattle.std.proofs.lemmas.Option.{same_Some}
-use Rattle.std.proofs.lemmas.Bool.{or_parts, or_cases, cases_Bool}
-use Rattle.in_net.proofs.HeadsOf.{two}
+use Rattle.std.proofs.lemmas.Bool.{or_parts, or_cases, cases_Bool, and_parts}
 use Rattle.in_net.specs.Nets.{Point, Port, Free, Signature, Net, IsNet}
 use Rattle.in_base.specs.Lists.{IsAmong}
 use Rattle.in_net.proofs.Interactions.AtNets.{port_agent, port_place}
@@ -40,7 +39,7 @@ module _ {A : Type 0} (s : A → A → Bool) (test : IsTest s) where
   point_test : IsTest (same_point s)
   point_test (Port x i) (Port y j) = (
     (λ h. (
-        let b = two (s x y) (nat_eq i j) h in
+        let b = and_parts (s x y) (nat_eq i j) h in
         let a : x ≡ y = (test x y).0 b.0 in
         let c : i ≡ j = (nat_test i j).0 b.1 in
         cc
@@ -58,7 +57,7 @@ module _ {A : Type 0} (s : A → A → Bool) (test : IsTest s) where
   no_point : (p q : Point A) → same_point s p q ≡ false → p ≢ q
   no_point p q h e = let g : same_point s p q ≡ true = (point_test p q).1 e in cc
 
-  -- neither of the two points is among those met
+  -- neither of the and_parts points is among those met
   abbrev Unmet : List (Point A) → Point A → Point A → Type 0
   Unmet met p q = (w : Point A) → IsAmong w met → (w ≢ p) × (w ≢ q)
 

@@ -1,18 +1,23 @@
 -- The cells after an interaction, number by number.
-use Rattle.std.proofs.Common.{◌≡◌, ◌≢◌, ◌⊎◌, inl, inr, ◌+◌, ◌^◌, ◌<◌, ◌≤◌, ℕ, zero, suc, max, Option, Some, None, List, [], ◌∷◌, ◌++◌, length, slice_get, refl, sym, ap, subst, ◌∙◌, arith}
+use Rattle.std.proofs.Common.{◌≡◌, ◌≢◌, ◌⊎◌, inl, inr, ◌+◌, ◌^◌, ◌<◌, ◌≤◌, ℕ, zero, suc, max, Option, Some, None, List, [], ◌∷◌, ◌++◌, map, length, slice_get, get_or, refl, sym, ap, subst, ◌∙◌, arith}
+use Rattle.std.proofs.Math.ListN.{set, length-set}
 use Rattle.std.specs.Prelude.{option_and_then}
-use Rattle.in_net.specs.After.{AreEndsAfter, IsAgentAfter, StaysAt, IsNewAt, IsCellAfter, AreCellsAfter, cell_at, IsFreeAfter}
+use Rattle.std.proofs.lemmas.Option.{slice_get_within, get_or_from_slice_get}
+use Rattle.in_net.specs.After.{AreEndsAfter, IsAgentAfter, StaysAt, IsNewAt, IsCellAfter, AreCellsAfter, cell_at, IsFreeAfter, AreOuterEnds, Rejoins, AreFreeAfter}
 use Rattle.in_net.specs.Following.{SiteParts, IsSite, IsPartnerAfter}
 use Rattle.in_net.specs.Interacting.{unused, numbers_after}
+use Rattle.in_net.specs.Listing.{AreEndsOf}
+use Rattle.in_net.specs.NetFaults.{max_member_agents}
 use Rattle.in_net.specs.Nets as nets
 use Rattle.in_net.specs.Parts.{cell_in}
 use Rattle.in_net.specs.declared.nets.Cell.{Cell}
 use Rattle.in_net.specs.declared.nets.FreeEnd.{FreeEnd}
 use Rattle.in_net.specs.declared.nets.Point.{Point}
-use Rattle.in_net.proofs.Stepping.Lists.{more_at, last_at}
+use Rattle.in_net.proofs.Stepping.Lists.{more_at, last_at, read_at}
 use Rattle.in_net.proofs.Stepping.Partners.{cell_within}
 use Rattle.in_net.proofs.Stepping.Turns.{some_same}
 use Rattle.in_net.proofs.Stepping.Unused.{few_unused, unused_rises, unused_free, unused_apart}
+use Rattle.in_base.proofs.Each.{at_index}
 
 -- ---- ends
 
@@ -54,10 +59,10 @@ module _ (s : SiteParts) where
   }
 
   pub after_new : (y k : ℕ) (c d : Cell) → cell_in s.net y ≡ None → k < length s.names → unused s.net.cells k ≡ y → cell_in s.rule.member k ≡ Some c → IsAgentAfter s (unused s.net.cells k) c d → IsCellAfter s y (Some d)
-  after_new y k c d none within name there a = record {
+  after_new y k c d none at_index name there a = record {
     stays = λ e h. absurd (absent (cell_in s.net y) e none h.there);
     fresh = λ e h. (d, refl, subst (λ (z : Cell). IsAgentAfter s y z d) (same_new e h) here);
-    only = λ e h. (c, inr (record { agent = k; within = within; name = name; there = there }), subst (IsAgentAfter s y c) (same_cell d e h) here);
+    only = λ e h. (c, inr (record { agent = k; at_index = at_index; name = name; there = there }), subst (IsAgentAfter s y c) (same_cell d e h) here);
   }
     where
       here : IsAgentAfter s y c d
@@ -97,7 +102,7 @@ old_below cs (suc n) = omega arith
 pub numbers_fit : (s : SiteParts) → IsSite s → numbers_after s.net.cells (length s.rule.member.cells) < 2 ^ 32
 numbers_fit s site = go (length s.rule.member.cells) site.few
   where
-    go : (k : ℕ) → k ≤ 64 → numbers_after s.net.cells k < 2 ^ 32
+    go : (k : ℕ) → k ≤ max_member_agents → numbers_after s.net.cells k < 2 ^ 32
     go zero h = site.whole.agents
     go (suc k) h = let few = few_unused s.net.cells k in let room = site.room in let all = site.whole.agents in omega (arith, few, room, all, h)
 
@@ -143,12 +148,88 @@ all_cells s site cells many h y = by_last (let o : (y < length cells) ⊎ (lengt
 
 -- ---- free ends
 
-pub more_free : (s : SiteParts) (free : List FreeEnd) (f g : FreeEnd) → ((k : ℕ) (e h : FreeEnd) → slice_get s.net.free k ≡ Some e → slice_get free k ≡ Some h → IsFreeAfter s k e h) → slice_get s.net.free (length free) ≡ Some f →
-    IsFreeAfter s (length free) f g → (k : ℕ) (e h : FreeEnd) → slice_get s.net.free k ≡ Some e → slice_get (free ++ g ∷ []) k ≡ Some h → IsFreeAfter s k e h
-more_free s free f g each there here k e h at got = go (more_at free g h k got)
+pub more_outer : (s : SiteParts) (ends : List Point) (q : Point) → ((k : ℕ) (p : Point) → slice_get ends k ≡ Some p → IsPartnerAfter s (nets.Free k) p) → IsPartnerAfter s (nets.Free (length ends)) q →
+    (k : ℕ) (p : Point) → slice_get (ends ++ q ∷ []) k ≡ Some p → IsPartnerAfter s (nets.Free k) p
+more_outer s ends q each here k p got = go (more_at ends q p k got)
   where
-    go : (slice_get free k ≡ Some h) ⊎ ((k ≡ length free) × (g ≡ h)) → IsFreeAfter s k e h
-    go (inl old) = each k e h at old
-    go (inr new) =
-        let same : f ≡ e = some_same (slice_get s.net.free (length free)) f e there (ap (slice_get s.net.free) (sym new.0) ∙ at) in
-        subst (λ (z : ℕ). IsFreeAfter s z e h) (sym new.0) (subst (λ (z : FreeEnd). IsFreeAfter s (length free) z h) same (subst (IsFreeAfter s (length free) f) new.1 here))
+    go : (slice_get ends k ≡ Some p) ⊎ ((k ≡ length ends) × (q ≡ p)) → IsPartnerAfter s (nets.Free k) p
+    go (inl old) = each k p old
+    go (inr new) = subst (λ (z : Point). IsPartnerAfter s (nets.Free k) z) new.1 (subst (λ (j : ℕ). IsPartnerAfter s (nets.Free j) q) (sym new.0) here)
+
+-- free ends that get their partners
+pub all_rejoined : (s : SiteParts) (ends : List Point) (free : List FreeEnd) → AreOuterEnds s ends → Rejoins ends s.net.free free → AreFreeAfter s free
+all_rejoined s ends free outer new = record { many = new.many; each = each }
+  where
+    each : (k : ℕ) (f g : FreeEnd) → slice_get s.net.free k ≡ Some f → slice_get free k ≡ Some g → IsFreeAfter s k f g
+    each k f g there got =
+        let lt = slice_get_within s.net.free k f there in
+        let many = outer.many in
+        let q = at_index ends k (omega (arith, lt, many)) in
+        let made : FreeEnd = record { name = f.name; kind = f.kind; end = q.0 } in
+        let same : made ≡ g = some_same (slice_get free k) made g (new.each k f q.0 there q.1) got in
+        subst (IsFreeAfter s k f) same (record { name = refl; kind = refl; end = outer.each k q.0 q.1 })
+
+pub ends_rejoined : (ends : List Point) (old free : List FreeEnd) → length ends ≡ length old → Rejoins ends old free → AreEndsOf ends free
+ends_rejoined ends old free many new = go free ends (new.many ∙ sym many) (λ k g q got at. one k g q got at)
+  where
+    one : (k : ℕ) (g : FreeEnd) (q : Point) → slice_get free k ≡ Some g → slice_get ends k ≡ Some q → g.end ≡ q
+    one k g q got at =
+        let lt = slice_get_within ends k q at in
+        let f = at_index old k (omega (arith, lt, many)) in
+        let made : FreeEnd = record { name = f.0.name; kind = f.0.kind; end = q } in
+        ap (λ (z : FreeEnd). z.end) (some_same (slice_get free k) g made got (new.each k f.0 q f.1 at))
+
+    go : (gs : List FreeEnd) (qs : List Point) → length gs ≡ length qs → ((k : ℕ) (g : FreeEnd) (q : Point) → slice_get gs k ≡ Some g → slice_get qs k ≡ Some q → g.end ≡ q) → map (λ (f : FreeEnd). f.end) gs ≡ qs
+    go [] [] e h = refl
+    go [] (q ∷ qs) e h = absurd (omega (arith, e))
+    go (g ∷ gs) [] e h = absurd (omega (arith, e))
+    go (g ∷ gs) (q ∷ qs) e h = ap (λ (z : Point). z ∷ map (λ (f : FreeEnd). f.end) gs) (h 0 g q refl refl) ∙ ap (λ (zs : List Point). q ∷ zs) (go gs qs (omega (arith, e)) (λ k x y a b. h (suc k) x y a b))
+
+-- one free end more has its partner
+pub record AreRejoinedTo (ends : List Point) (old new : List FreeEnd) (count : ℕ) : Type 0 where
+  pub many : length new ≡ length old
+  pub each : (k : ℕ) (f : FreeEnd) (q : Point) → k < count → slice_get old k ≡ Some f → slice_get ends k ≡ Some q → slice_get new k ≡ Some (record { name = f.name; kind = f.kind; end = q })
+  pub rest : (k : ℕ) (f : FreeEnd) → count ≤ k → slice_get old k ≡ Some f → slice_get new k ≡ Some f
+
+set_here : (xs : List FreeEnd) (k : ℕ) (x : FreeEnd) → k < length xs → slice_get (set xs k x) k ≡ Some x
+set_here [] k x h = absurd (omega (arith, h))
+set_here (y ∷ ys) zero x h = refl
+set_here (y ∷ ys) (suc k) x h = set_here ys k x (omega (arith, h))
+
+set_there : (xs : List FreeEnd) (k j : ℕ) (x : FreeEnd) → k ≢ j → slice_get (set xs k x) j ≡ slice_get xs j
+set_there [] k j x h = refl
+set_there (y ∷ ys) zero zero x h = absurd (h refl)
+set_there (y ∷ ys) zero (suc j) x h = refl
+set_there (y ∷ ys) (suc k) zero x h = refl
+set_there (y ∷ ys) (suc k) (suc j) x h = set_there ys k j x (λ e. h (ap suc e))
+
+pub one_rejoined : (ends : List Point) (old new : List FreeEnd) (k : ℕ) (got : FreeEnd) (d : Point) → AreRejoinedTo ends old new k → k < length ends → length ends ≡ length old → got ≡ get_or new k got →
+    AreRejoinedTo ends old (set new k (record { name = got.name; kind = got.kind; end = get_or ends k d })) (k + 1)
+one_rejoined ends old new k got d h lt many is = record {
+  many = length-set new k made ∙ h.many;
+  each = λ j f q less at end. each j f q at end (by_last j less);
+  rest = λ j f le at. set_there new k j made (λ e. absurd (omega (arith, le, e))) ∙ h.rest j f (omega (arith, le)) at;
+}
+  where
+    made : FreeEnd
+    made = record { name = got.name; kind = got.kind; end = get_or ends k d }
+
+    within_new : k < length new
+    within_new = let n = h.many in omega (arith, n, many, lt)
+
+    by_last : (j : ℕ) → j < k + 1 → (j < k) ⊎ (j ≡ k)
+    by_last j l = grind arith
+
+    each : (j : ℕ) (f : FreeEnd) (q : Point) → slice_get old j ≡ Some f → slice_get ends j ≡ Some q → (j < k) ⊎ (j ≡ k) → slice_get (set new k made) j ≡ Some (record { name = f.name; kind = f.kind; end = q })
+    each j f q at end (inl l) = set_there new k j made (λ e. absurd (omega (arith, l, e))) ∙ h.each j f q l at end
+    each j f q at end (inr e) =
+        let old_one : got ≡ f = some_same (slice_get new k) got f (read_at new k got within_new is) (h.rest k f (omega arith) (ap (slice_get old) (sym e) ∙ at)) in
+        let partner : get_or ends k d ≡ q = get_or_from_slice_get ends k q d (ap (slice_get ends) (sym e) ∙ end) in
+        ap (slice_get (set new k made)) e ∙ set_here new k made within_new ∙ ap (λ (g : FreeEnd). let u : FreeEnd = record { name = g.name; kind = g.kind; end = get_or ends k d } in Some u) old_one
+        ∙ ap (λ (p : Point). let u : FreeEnd = record { name = f.name; kind = f.kind; end = p } in Some u) partner
+
+pub none_rejoined : (ends : List Point) (old : List FreeEnd) → AreRejoinedTo ends old old 0
+none_rejoined ends old = record { many = refl; each = λ k f q lt at end. absurd (omega (arith, lt)); rest = λ k f le at. at }
+
+pub rejoins : (ends : List Point) (old new : List FreeEnd) (k : ℕ) → AreRejoinedTo ends old new k → length ends ≤ k → Rejoins ends old new
+rejoins ends old new k h le = record { many = h.many; each = λ j f q at end. h.each j f q (let l = slice_get_within ends j q end in omega (arith, l, le)) at end }

@@ -19,7 +19,7 @@ use Rattle.in_net.specs.declared.nets.Point as coded
 use Rattle.in_net.specs.declared.nets.Point.TheVariants as code
 use Rattle.in_net.specs.declared.nets.Wire.{Wire}
 use Rattle.in_net.proofs.OneNet.{round_code, map_is}
-use Rattle.in_net.proofs.SameNet.{not_both}
+use Rattle.in_net.proofs.SameNet.{all_same, not_both}
 use Rattle.in_net.proofs.Stepping.Partners.{net_wire}
 use Rattle.in_net.proofs.Stepping.Wires.{both_ends}
 
@@ -78,15 +78,6 @@ same_option : {X : Type 0} (o p : Option X) → ((x : X) → o ≡ Some x → p 
 same_option None None h g = refl
 same_option None (Some x) h g = g x refl
 same_option (Some x) p h g = sym (h x refl)
-
-same_items : {X : Type 0} (xs ys : List X) → ((i : ℕ) → slice_get xs i ≡ slice_get ys i) → xs ≡ ys
-same_items [] [] h = refl
-same_items [] (y ∷ ys) h = let e = h 0 in cc
-same_items (x ∷ xs) [] h = let e = h 0 in cc
-same_items {X} (x ∷ xs) (y ∷ ys) h = ap (λ (z : X). z ∷ xs) (same x y (h 0)) ∙ ap (λ (zs : List X). y ∷ zs) (same_items xs ys (λ i. h (suc i)))
-  where
-    same : (a b : X) → ◌≡◌ {A = Option X} (Some a) (Some b) → a ≡ b
-    same a b e = cc
 
 same_cells : (cs ds : List (Option Cell)) → length cs ≡ length ds → ((x : ℕ) → cell_at cs x ≡ cell_at ds x) → cs ≡ ds
 same_cells [] [] e h = refl
@@ -201,7 +192,7 @@ one_outcome n r a b m k may whole other h g = same_parts m k cells free wires (h
         ap (λ (o : Option Cell). option_map (λ (s : SymbolNo). s.0) (option_map (λ (c : Cell). c.symbol) o)) (sym e) ∙ symbols x ∙ ap (λ (o : Option Cell). option_map (λ (s : SymbolNo). s.0) (option_map (λ (c : Cell). c.symbol) o)) f in
         let number : c.symbol.0 ≡ d.symbol.0 = cc in
         let symbol : c.symbol ≡ d.symbol = ap (λ (z : ℕ). let y : SymbolNo = record { 0 = z } in y) number in
-        let ends : c.ends ≡ d.ends = same_items c.ends d.ends (λ i. ap (option_and_then (λ (c : Cell). slice_get c.ends i)) (sym e) ∙ partners (code.Port (record { 0 = x }) i) ∙ ap (option_and_then (λ (c : Cell). slice_get c.ends i)) f) in
+        let ends : c.ends ≡ d.ends = all_same c.ends d.ends (λ i. ap (option_and_then (λ (c : Cell). slice_get c.ends i)) (sym e) ∙ partners (code.Port (record { 0 = x }) i) ∙ ap (option_and_then (λ (c : Cell). slice_get c.ends i)) f) in
         ap (λ (z : SymbolNo). let y : Cell = record { symbol = z; ends = c.ends } in Some y) symbol ∙ ap (λ (z : List coded.Point). let y : Cell = record { symbol = d.symbol; ends = z } in Some y) ends
 
     cells : m.cells ≡ k.cells

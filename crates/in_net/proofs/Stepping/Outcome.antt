@@ -44,6 +44,10 @@ all_over t [] h = tt
 all_over t (None ∷ cs) h = (tt, all_over t cs (λ x c e. h (suc x) c e))
 all_over t (Some c ∷ cs) h = (h 0 c refl, all_over t cs (λ x c e. h (suc x) c e))
 
+at_most : (d : Option Cell) → cond (is_some d) 1 0 ≤ 1
+at_most None = omega arith
+at_most (Some d) = omega arith
+
 -- agents that have a number of the old ones or one of so many unused ones are few
 few_agents : (cs ds : List (Option Cell)) (count : ℕ) → ((x : ℕ) (d : Cell) → cell_at ds x ≡ Some d → ((c : Cell) × (cell_at cs x ≡ Some c)) ⊎ ((k : ℕ) × (k < count) × (unused cs k ≡ x))) → count_by is_some ds ≤ count_by is_some cs + count
 few_agents cs [] count h = omega arith
@@ -62,10 +66,6 @@ few_agents (Some c ∷ cs) (d ∷ ds) count h =
     let m = counted (Some c) cs in
     let o = at_most d in
     omega (arith, r, n, m, o)
-  where
-    at_most : (d : Option Cell) → cond (is_some d) 1 0 ≤ 1
-    at_most None = omega arith
-    at_most (Some d) = omega arith
 few_agents (None ∷ cs) (None ∷ ds) zero h =
     let r = few_agents cs ds zero (λ x d e. elim (h (suc x) d e) [ inl c ↦ inl c | inr k ↦ (let a = k.1 in absurd (omega (arith, a))) ]) in
     let n = counted None ds in
@@ -79,10 +79,6 @@ few_agents (None ∷ cs) (d ∷ ds) (suc count) h =
     let o = at_most d in
     omega (arith, r, n, m, o)
   where
-    at_most : (d : Option Cell) → cond (is_some d) 1 0 ≤ 1
-    at_most None = omega arith
-    at_most (Some d) = omega arith
-
     earlier : (x k : ℕ) → k < suc count → unused (None ∷ cs) k ≡ suc x → ((c : Cell) × (cell_at cs x ≡ Some c)) ⊎ ((k : ℕ) × (k < count) × (unused cs k ≡ x))
     earlier x zero lt e = absurd (let z : zero ≡ suc x = e in omega (arith, z))
     earlier x (suc k) lt e = inr (k, omega (arith, lt), (let z : suc (unused cs k) ≡ suc x = e in omega (arith, z)))
@@ -145,7 +141,7 @@ module _ (s : SiteParts) (site : IsSite s) (cells : List (Option Cell)) (free : 
         go (Some c) is e = (c, is, cc)
 
     new_at : (k : ℕ) (c : Cell) → cell_in s.rule.member k ≡ Some c → IsNewAt s (unused s.net.cells k) c
-    new_at k c e = record { agent = k; within = (let l = cell_within s.rule.member.cells k c e in let n = site.many in omega (arith, l, n)); name = refl; there = e }
+    new_at k c e = record { agent = k; at_index = (let l = cell_within s.rule.member.cells k c e in let n = site.many in omega (arith, l, n)); name = refl; there = e }
 
     shown : (y i : ℕ) (c : Cell) → c.symbol.0 ≡ i → (d : Cell) × (cell_at cells y ≡ Some d) × IsAgentAfter s y c d → (net_of m).symbol y ≡ Some i
     shown y i c e r = ap (λ (o : Option Cell). option_map (λ (s : SymbolNo). s.0) (option_map (λ (c : Cell). c.symbol) o)) r.1 ∙ ap (λ (s : SymbolNo). Some s.0) r.2.symbol ∙ ap (λ (z : ℕ). Some z) e

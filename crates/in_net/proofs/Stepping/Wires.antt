@@ -1,14 +1,16 @@
 -- Wires listed by their first points, point by point.
 use Rattle.std.proofs.Common.{◌≡◌, ◌⊎◌, inl, inr, ◌+◌, ◌<◌, ◌≤◌, ℕ, zero, suc, Option, Some, None, List, [], ◌∷◌, ◌++◌, map, length, length-append, slice_get, get_or, take, count_by, is_some, refl, sym, ap, subst, ◌∙◌, arith}
 use Rattle.std.specs.Prelude.{option_and_then}
+use Rattle.std.proofs.lemmas.List.{length-map}
 use Rattle.std.proofs.lemmas.List.Sums.{count_by_more_yes, count_by_more_no}
-use Rattle.std.proofs.lemmas.Option.{slice_get_within, slice_get-get_or}
+use Rattle.std.proofs.lemmas.Option.{slice_get_within, slice_get-get_or, slice_get-map}
 use Rattle.in_syntax.specs.declared.places.Place.{Place}
-use Rattle.in_net.specs.Listing.{wire_between, AddsWire, wire_at, AreListed}
+use Rattle.in_net.specs.Listing.{AddsWire, AreEndsOf, AreListed, wire_at, wire_between}
 use Rattle.in_net.specs.Parts.{Parts, cell_in, partner_in}
 use Rattle.in_net.specs.TextNet.{ComesBefore}
 use Rattle.in_net.specs.declared.nets.AgentNo.{AgentNo}
 use Rattle.in_net.specs.declared.nets.Cell.{Cell}
+use Rattle.in_net.specs.declared.nets.FreeEnd.{FreeEnd}
 use Rattle.in_net.specs.declared.nets.Point.{Point}
 use Rattle.in_net.specs.declared.nets.Point.TheVariants.{Port, Free}
 use Rattle.in_net.specs.declared.nets.Wire.{Wire}
@@ -201,6 +203,13 @@ pub at_most_one : (p q : Point) (ws new : List Wire) → AddsWire p q ws new →
 at_most_one p q ws new (inl a) = let n : length new ≡ length (ws ++ wire_between p q ∷ []) = ap length a.1 in omega (arith, n, length-append ws (wire_between p q ∷ []))
 at_most_one p q ws new (inr a) = let n : length new ≡ length ws = ap length a.1 in omega (arith, n)
 
+-- the next free end
+pub one_free : (n : Parts) (k : ℕ) (ends : List Point) (d : Point) (ws new : List Wire) → AreEndsOf ends n.free → k < length ends → AddsWire (Free k) (get_or ends k d) ws new → AreListed n (λ x. ComesBefore x (Free k)) ws →
+    AreListed n (λ x. ComesBefore x (Free (k + 1))) new
+one_free n k ends d ws new is lt add h =
+    let here : partner_in n (Free k) ≡ Some (get_or ends k d) = sym (slice_get-map (λ (f : FreeEnd). f.end) n.free k) ∙ ap (λ (es : List Point). slice_get es k) is ∙ slice_get-get_or ends k d lt in
+    next_free n k (get_or ends k d) ws new h here add
+
 -- the next end of an agent
 pub one_port : (n : Parts) (c : Cell) (a : AgentNo) (i : ℕ) (ends : List Point) (d : Point) (ws new : List Wire) → cell_in n a.0 ≡ Some c → c.ends ≡ ends → i < length ends → AddsWire (Port a i) (get_or ends i d) ws new →
     AreListed n (λ x. ComesBefore x (Port a i)) ws → AreListed n (λ x. ComesBefore x (Port a (i + 1))) new
@@ -227,3 +236,6 @@ all_taken cs i h = ap (count_by is_some) (taken cs i h)
 
 pub none_at : (cs : List (Option Cell)) (x : ℕ) (d : Cell) → slice_get cs x ≡ Some None → option_and_then (λ (c : Option Cell). c) (slice_get cs x) ≡ Some d → length d.ends ≤ 0
 none_at cs x d e h = let z : ◌≡◌ {A = Option Cell} None (Some d) = sym (ap (option_and_then (λ (c : Option Cell). c)) e) ∙ h in cc
+
+pub is_many : (ends : List Point) (free : List FreeEnd) → AreEndsOf ends free → length free ≡ length ends
+is_many ends free is = sym (length-map free (λ (f : FreeEnd). f.end)) ∙ ap length is

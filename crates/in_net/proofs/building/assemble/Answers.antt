@@ -9,7 +9,7 @@ pub built-requires : goal.built-requires
 built-requires c =
     let t = c.args.symbols.now in
     let r = c.args.reading.now in
-    let free = c.args.free in
+    let free = c.args.free.items in
     let links = c.args.links.now in
     let spots = c.as_slice-spots.ensures in
     let agents = c.as_slice-agents.ensures in

@@ -103,10 +103,10 @@ assemble-requires-clause-read c =
     let t = c.args.symbols.now in
     let g = good source t c.in_ok-reading.reading c.requires.sized c.requires.order c.requires.tabled c.requires.faultless c.in_ok-reading.ensures (sym c.in_default.is ∙ c.in_ok-refusal.ensures {u = tt}) in
     let from = read_from.read_from t (body_of source.net) (read t (body_of source.net) g) g.small (net_few source t c.requires.sized) in
-    let count : ends_in t (body_of source.net) ≡ length c.in_ok-free.free =
+    let count : ends_in t (body_of source.net) ≡ length c.in_ok-free.free.items =
     (let e : ends_in t (body_of source.net) ≡ length source.net.free = omega arith in e)
     ∙ sym (ap length c.as_slice.ensures) ∙ sym (ap length c.in_ok-free.ensures ∙ length-free t c.as_slice-spots.result.now c.as_slice-links.result.now 0 c.as_slice.result.now) in
-    subst (IsReadFrom t (length c.in_ok-free.free)) (sym c.in_ok-reading.ensures) (subst (λ k. IsReadFrom t k (reading_of t (body_of source.net))) count from)
+    subst (IsReadFrom t (length c.in_ok-free.free.items)) (sym c.in_ok-reading.ensures) (subst (λ k. IsReadFrom t k (reading_of t (body_of source.net))) count from)
 
 pub assemble-requires-clause-joined : goal.assemble-requires-clause-joined
 assemble-requires-clause-joined c =
@@ -133,14 +133,14 @@ returns c =
     let ready = net_ready source t c.requires.tabled c.requires.faultless c.requires.order in
     let g = good source t r c.requires.sized c.requires.order c.requires.tabled c.requires.faultless is clear in
     let links = c.as_slice-links.ensures ∙ ap (λ j. j.links) c.in_ok-links.ensures in
-    let fs : free_ends_from t c.in_ok-reading.reading.spots c.as_slice-links.result.now 0 source.net.free ≡ c.in_ok-free.free =
+    let fs : free_ends_from t c.in_ok-reading.reading.spots c.as_slice-links.result.now 0 source.net.free ≡ c.in_ok-free.free.items =
     sym (c.in_ok-free.ensures ∙ ap (λ z. free_ends_from t z c.as_slice-links.result.now 0 c.as_slice.result.now) c.as_slice-spots.ensures ∙ ap (free_ends_from t c.in_ok-reading.reading.spots c.as_slice-links.result.now 0) c.as_slice.ensures) in
     let ends = subst (AreJoinedTo c.in_ok-reading.reading.spots c.as_slice-links.result.now) fs (free_joined t c.in_ok-reading.reading.spots c.as_slice-links.result.now source.net.free) in
-    let count : length c.in_ok-free.free ≡ ends_in t (body_of source.net) =
+    let count : length c.in_ok-free.free.items ≡ ends_in t (body_of source.net) =
     sym (ap length fs) ∙ length-free t c.in_ok-reading.reading.spots c.as_slice-links.result.now 0 source.net.free ∙ (let e : length source.net.free ≡ ends_in t (body_of source.net) = omega arith in e) in
     let made = c.in_ok-assemble.ensures in
     let none : (joining_of (reading_of t (body_of source.net))).closed ≡ None = sym (ap (λ r. (joining_of r).closed) is) ∙ sym (ap (λ j. j.closed) c.in_ok-links.ensures) ∙ c.in_default-closed.is in
-    let net = is_text_net t (body_of source.net) c.in_ok-free.free r c.as_slice-links.result.now c.in_ok-assemble.field-0 g is links count ends made in (
+    let net = is_text_net t (body_of source.net) c.in_ok-free.free.items r c.as_slice-links.result.now c.in_ok-assemble.field-0 g is links count ends made in (
       net.0,
       record {
         agents = net.1;

@@ -129,10 +129,10 @@ assemble-requires-clause-read c =
     let links = c.as_slice-links.result.now in
     let g = good t r c.in_ok-reading.reading c.requires c.in_ok-reading.ensures (sym c.in_default.is ∙ c.in_ok-refusal.ensures {u = tt}) in
     let n = count t r c.symbol_of.result c.symbol_of-2.result c.is_turned-turned.result c.ordered-heads.result c.symbol_of.ensures.symbol c.symbol_of-2.ensures.symbol c.is_turned-turned.ensures c.ordered-heads.ensures in
-    let made : length c.in_ok-free.free ≡ arity_of t c.ordered-heads.result.0.0 + arity_of t c.ordered-heads.result.1.0 =
+    let made : length c.in_ok-free.free.items ≡ arity_of t c.ordered-heads.result.0.0 + arity_of t c.ordered-heads.result.1.0 =
     ap length c.in_ok-free.ensures ∙ length-append (boundary_of t spots links heads.0.0 0) (boundary_of t spots links heads.1.0 (arity_of t heads.0.0))
     ∙ ap (λ n. n + length (boundary_of t spots links heads.1.0 (arity_of t heads.0.0))) (length-boundary t spots links heads.0.0 0) ∙ ap (λ n. arity_of t heads.0.0 + n) (length-boundary t spots links heads.1.0 (arity_of t heads.0.0)) in
-    subst (IsReadFrom t (length c.in_ok-free.free)) (sym c.in_ok-reading.ensures) (subst (λ k. IsReadFrom t k (reading_of t (body_of_rule t r))) (n ∙ sym made) (from t r c.requires g))
+    subst (IsReadFrom t (length c.in_ok-free.free.items)) (sym c.in_ok-reading.ensures) (subst (λ k. IsReadFrom t k (reading_of t (body_of_rule t r))) (n ∙ sym made) (from t r c.requires g))
 
 pub assemble-requires-clause-joined : goal.assemble-requires-clause-joined
 assemble-requires-clause-joined c =
@@ -163,14 +163,14 @@ invariant_of-result c =
     let ready = rule_ready t r c.requires.known c.requires.order in
     let n = count t r c.symbol_of.result c.symbol_of-2.result c.is_turned-turned.result c.ordered-heads.result c.symbol_of.ensures.symbol c.symbol_of-2.ensures.symbol c.is_turned-turned.ensures c.ordered-heads.ensures in
     let spots = c.in_ok-reading.reading.spots in
-    let ends : c.in_ok-free.free ≡ boundary_of t c.in_ok-reading.reading.spots links heads.0.0 0 ++ boundary_of t c.in_ok-reading.reading.spots links heads.1.0 (arity_of t heads.0.0) =
+    let ends : c.in_ok-free.free.items ≡ boundary_of t c.in_ok-reading.reading.spots links heads.0.0 0 ++ boundary_of t c.in_ok-reading.reading.spots links heads.1.0 (arity_of t heads.0.0) =
     c.in_ok-free.ensures ∙ ap (λ z. boundary_of t z links heads.0.0 0 ++ boundary_of t z links heads.1.0 (arity_of t heads.0.0)) c.as_slice-spots.ensures in
-    let made : length c.in_ok-free.free ≡ ends_in t (body_of_rule t r) =
+    let made : length c.in_ok-free.free.items ≡ ends_in t (body_of_rule t r) =
     ap length ends ∙ length-append (boundary_of t spots links heads.0.0 0) (boundary_of t spots links heads.1.0 (arity_of t heads.0.0))
     ∙ ap (λ n. n + length (boundary_of t spots links heads.1.0 (arity_of t heads.0.0))) (length-boundary t spots links heads.0.0 0) ∙ ap (λ n. arity_of t heads.0.0 + n) (length-boundary t spots links heads.1.0 (arity_of t heads.0.0))
     ∙ sym n in
     let joined = subst (AreJoinedTo c.in_ok-reading.reading.spots links) (sym ends) (boundary_joined t c.in_ok-reading.reading.spots links heads.0.0 heads.1.0) in
-    let net = is_text_net t (body_of_rule t r) c.in_ok-free.free q links c.in_ok-member.member g is (c.as_slice-links.ensures ∙ ap (λ j. j.links) c.in_ok-links.ensures) made joined c.in_ok-member.ensures in
+    let net = is_text_net t (body_of_rule t r) c.in_ok-free.free.items q links c.in_ok-member.member g is (c.as_slice-links.ensures ∙ ap (λ j. j.links) c.in_ok-links.ensures) made joined c.in_ok-member.ensures in
     few_agents max_member_agents t (body_of_rule t r) c.in_ok-member.member.cells (no_fault max_member_agents t (body_of_rule t r) q ready is clear) net.1.agents
 
 pub returns : goal.returns
@@ -188,14 +188,14 @@ returns c =
     let same_heads = are_heads t r c.symbol_of.result c.symbol_of-2.result c.is_turned-turned.result c.ordered-heads.result c.symbol_of.ensures.symbol c.symbol_of-2.ensures.symbol c.is_turned-turned.ensures c.ordered-heads.ensures in
     let written = are_written t r c.symbol_of.result c.symbol_of-2.result c.is_turned-turned.result c.ordered-heads.result c.symbol_of.ensures.symbol c.symbol_of-2.ensures.symbol c.is_turned-turned.ensures c.ordered-heads.ensures in
     let spots = c.in_ok-reading.reading.spots in
-    let ends : c.in_ok-free.free ≡ boundary_of t c.in_ok-reading.reading.spots links heads.0.0 0 ++ boundary_of t c.in_ok-reading.reading.spots links heads.1.0 (arity_of t heads.0.0) =
+    let ends : c.in_ok-free.free.items ≡ boundary_of t c.in_ok-reading.reading.spots links heads.0.0 0 ++ boundary_of t c.in_ok-reading.reading.spots links heads.1.0 (arity_of t heads.0.0) =
     c.in_ok-free.ensures ∙ ap (λ z. boundary_of t z links heads.0.0 0 ++ boundary_of t z links heads.1.0 (arity_of t heads.0.0)) c.as_slice-spots.ensures in
-    let made : length c.in_ok-free.free ≡ ends_in t (body_of_rule t r) =
+    let made : length c.in_ok-free.free.items ≡ ends_in t (body_of_rule t r) =
     ap length ends ∙ length-append (boundary_of t spots links heads.0.0 0) (boundary_of t spots links heads.1.0 (arity_of t heads.0.0))
     ∙ ap (λ n. n + length (boundary_of t spots links heads.1.0 (arity_of t heads.0.0))) (length-boundary t spots links heads.0.0 0) ∙ ap (λ n. arity_of t heads.0.0 + n) (length-boundary t spots links heads.1.0 (arity_of t heads.0.0))
     ∙ sym n in
     let joined = subst (AreJoinedTo c.in_ok-reading.reading.spots links) (sym ends) (boundary_joined t c.in_ok-reading.reading.spots links heads.0.0 heads.1.0) in
-    let net = is_text_net t (body_of_rule t r) c.in_ok-free.free q links c.in_ok-member.member g is (c.as_slice-links.ensures ∙ ap (λ j. j.links) c.in_ok-links.ensures) made joined c.in_ok-member.ensures in
+    let net = is_text_net t (body_of_rule t r) c.in_ok-free.free.items q links c.in_ok-member.member g is (c.as_slice-links.ensures ∙ ap (λ j. j.links) c.in_ok-links.ensures) made joined c.in_ok-member.ensures in
     let frees : c.in_ok-member.member.free ≡ boundary_of t c.in_ok-reading.reading.spots links heads.0.0 0 ++ boundary_of t c.in_ok-reading.reading.spots links heads.1.0 (arity_of t heads.0.0) = c.in_ok-member.ensures.free_ends ∙ ends in
     let types : map (λ (f : FreeEnd). f.kind) c.in_ok-member.member.free ≡ auxiliary_types t heads.0.0 ++ auxiliary_types t heads.1.0 =
     ap (map (λ (f : FreeEnd). f.kind)) frees ∙ boundary_types t spots links heads.0.0 heads.1.0 in (
