@@ -62,7 +62,7 @@ module _ (s : SiteParts) where
   after_new y k c d none at_index name there a = record {
     stays = λ e h. absurd (absent (cell_in s.net y) e none h.there);
     fresh = λ e h. (d, refl, subst (λ (z : Cell). IsAgentAfter s y z d) (same_new e h) here);
-    only = λ e h. (c, inr (record { agent = k; at_index = at_index; name = name; there = there }), subst (IsAgentAfter s y c) (same_cell d e h) here);
+    only = λ e h. (c, inr (record { agent = k; within = at_index; name = name; there = there }), subst (IsAgentAfter s y c) (same_cell d e h) here);
   }
     where
       here : IsAgentAfter s y c d

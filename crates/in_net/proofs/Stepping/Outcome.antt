@@ -141,7 +141,7 @@ module _ (s : SiteParts) (site : IsSite s) (cells : List (Option Cell)) (free : 
         go (Some c) is e = (c, is, cc)
 
     new_at : (k : ℕ) (c : Cell) → cell_in s.rule.member k ≡ Some c → IsNewAt s (unused s.net.cells k) c
-    new_at k c e = record { agent = k; at_index = (let l = cell_within s.rule.member.cells k c e in let n = site.many in omega (arith, l, n)); name = refl; there = e }
+    new_at k c e = record { agent = k; within = (let l = cell_within s.rule.member.cells k c e in let n = site.many in omega (arith, l, n)); name = refl; there = e }
 
     shown : (y i : ℕ) (c : Cell) → c.symbol.0 ≡ i → (d : Cell) × (cell_at cells y ≡ Some d) × IsAgentAfter s y c d → (net_of m).symbol y ≡ Some i
     shown y i c e r = ap (λ (o : Option Cell). option_map (λ (s : SymbolNo). s.0) (option_map (λ (c : Cell). c.symbol) o)) r.1 ∙ ap (λ (s : SymbolNo). Some s.0) r.2.symbol ∙ ap (λ (z : ℕ). Some z) e
