@@ -9,4 +9,5 @@ pub mod Others
 pub mod Plain
 pub mod Renaming
 pub mod SameText
+pub mod Stepped
 pub mod Unchanged

@@ -17,15 +17,18 @@ use Rattle.in_check.specs.Promises.{IsAsPromised}
 use Rattle.in_check.specs.Runs.{Reached}
 use Rattle.in_check.specs.Systems.{system_of}
 
--- the program, its net, and how many interactions led there
+-- the program and its net
 pub record PlainParts : Type 0 where
   pub program : Program
   pub net : Parts
-  pub steps : ℕ
 
--- the program reaches the net by so many interactions, and the net has the program's symbols and the names of its free ends
+-- the program reaches the net by so many interactions
+abbrev pub IsReachedBy : PlainParts → ℕ → Type 0
+IsReachedBy p k = Reached (system_of p.program) k (net_of p.net)
+
+-- the program reaches the net, and the net has the program's symbols and the names of its free ends
 pub record IsPlain (p : PlainParts) : Type 0 where
-  pub reached : Reached (system_of p.program) p.steps (net_of p.net)
+  pub reached : (k : ℕ) × IsReachedBy p k
   pub over : IsOver p.program.tables p.net
   pub names : map (λ f. f.name) p.net.free ≡ map (λ f. f.name) p.program.net.free
 
@@ -46,7 +49,7 @@ pub record IsRuleAt (p : PlainParts) (a b : AgentNo) (i : ℕ) (r : RuleParts) :
   pub one : symbol_in p.net a.0 ≡ Some r.heads.0
   pub two : symbol_in p.net b.0 ≡ Some r.heads.1
 
--- one interaction at the pair, by its rule: one more is counted, and the program and the names of free ends are kept
+-- one interaction at the pair, by its rule: the program and the names of free ends are kept
 pub record StepsTo (p : PlainParts) (a b : AgentNo) (q : PlainParts) : Type 0 where
   pub number : ℕ
   pub rule : RuleParts
@@ -56,17 +59,16 @@ pub record StepsTo (p : PlainParts) (a b : AgentNo) (q : PlainParts) : Type 0 wh
   pub over : IsOver p.program.tables q.net
   pub names : map (λ f. f.name) q.net.free ≡ map (λ f. f.name) p.net.free
   pub program : q.program ≡ p.program
-  pub steps : q.steps ≡ suc p.steps
 
 -- ---- laws
 
 -- the initial net is reached by no interaction
 abbrev pub PlainStarts : Type 0
-PlainStarts = (p : Program) → IsOver p.tables p.net → IsPlain (record { program = p; net = p.net; steps = zero })
+PlainStarts = (p : Program) → IsOver p.tables p.net → IsPlain (record { program = p; net = p.net }) × IsReachedBy (record { program = p; net = p.net }) zero
 
--- a step leads from a net that is reached to one
+-- a step leads from a net that is reached to one, which is reached by one interaction more
 abbrev pub PlainSteps : Type 0
-PlainSteps = (p q : PlainParts) (a b : AgentNo) → IsPlain p → IsPairAt p a b → StepsTo p a b q → IsPlain q
+PlainSteps = (p q : PlainParts) (a b : AgentNo) → IsPlain p → IsPairAt p a b → StepsTo p a b q → IsPlain q × ((k : ℕ) → IsReachedBy p k → IsReachedBy q (suc k))
 
 -- of an accepted program, each active pair matches, and each rule that is for its symbols, in whichever order, is for them in this one
 abbrev pub PairsHaveTheirRule : Type 0

@@ -1,4 +1,5 @@
-ghost use Rattle.std.specs.Prelude.{◌≡◌, ◌<◌, length, slice_get, option_map, Some};
+ghost use Rattle.std.specs.Prelude.{◌≡◌, ◌<◌, ℕ, List, length, slice_get, option_map, Some};
+ghost use Rattle.in_check.specs.Checking.{IsAccepted};
 ghost use Rattle.in_cover.specs.Cover.{IsPair, IsRuleFor};
 ghost use Rattle.in_check.specs.Programs.{IsItem, certificate_of, counts_of};
 
@@ -83,6 +84,13 @@ impl Model for Checked {
 }
 
 impl Checked {
+    /// The program is the accepted one of some text.
+    pub(crate) fn is_accepted(&self)
+        ensures { (text : List ℕ) × IsAccepted text self.now }
+    {
+        let _ = &self.passed;
+    }
+
     /// The tables of the program's names.
     pub fn symbols(&self) -> &Symbols
         ensures { result.now ≡ self.now.tables }

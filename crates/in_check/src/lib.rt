@@ -6,6 +6,8 @@ mod certifying;
 mod checked;
 mod checking;
 pub mod laws;
+mod plain;
 
 pub use checked::{Certificate, Checked, Counts, Item};
 pub use checking::check;
+pub use plain::Plain;

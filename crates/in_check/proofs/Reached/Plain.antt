@@ -1,5 +1,5 @@
 -- What the slow reducer keeps: it starts at a net that is reached, a step leads to one, and its active pairs have their rule.
-use Rattle.std.proofs.Common.{◌≡◌, ◌++◌, ℕ, suc, ◌<◌, true, false, List, length, map, Option, Some, slice_get, refl, sym, subst, ap, inl, inr, ◌∙◌}
+use Rattle.std.proofs.Common.{◌≡◌, ◌++◌, ℕ, zero, suc, ◌<◌, true, false, List, length, map, Option, Some, slice_get, refl, sym, subst, ap, inl, inr, ◌∙◌}
 use Rattle.std.specs.Prelude.{option_map}
 use native.Mathlib.Decide.{ℕ_discrete}
 use Rattle.in_symbols.specs.declared.symbols.SymbolNo.{SymbolNo}
@@ -14,7 +14,8 @@ use Rattle.in_net.specs.Rules.{RuleParts, auxiliary_types}
 use Rattle.in_cover.specs.Cover.{IsPair, IsFor}
 use Rattle.in_simple.proofs.TextRules.{same_symbol}
 use Rattle.in_check.specs.Checking.{IsAccepted, IsProgramOf}
-use Rattle.in_check.specs.Plain.{PlainParts, IsPlain, IsPairAt, IsRuleAt, PlainStarts, PlainSteps, PairsHaveTheirRule, PlainAsPromised}
+use Rattle.in_check.specs.Programs.{Program}
+use Rattle.in_check.specs.Plain.{PlainParts, IsReachedBy, IsPlain, StepsTo, IsPairAt, IsRuleAt, PlainStarts, PlainSteps, PairsHaveTheirRule, PlainAsPromised}
 use Rattle.in_check.specs.Runs.{renamed, Reached, at_start, then_step}
 use Rattle.in_check.specs.Systems.{IsMatching, IsSoundSystem, rule_in, system_of}
 use Rattle.in_check.proofs.Chain.{program_of}
@@ -25,20 +26,20 @@ same_points : (p : Point ℕ) → renamed (λ x. x) p ≡ p
 same_points (Port x i) = refl
 same_points (Free k) = refl
 
+starts_reached : (p : Program) → IsReachedBy (record { program = p; net = p.net }) zero
+starts_reached p =
+    at_start (λ x. x) (net_of p.net) (record {
+      apart = λ x y h k e. e;
+      agents = λ y s. ((λ e. (y, refl, e)), (λ h. ap (net_of p.net).symbol (sym h.1) ∙ h.2));
+      wires = λ u v. (
+        (λ e. (u, v, same_points u, same_points v, e)),
+        (λ h. (let a : h.0 ≡ u = sym (same_points h.0) ∙ h.2 in let b : h.1 ≡ v = sym (same_points h.1) ∙ h.3 in ap (net_of p.net).partner (sym a) ∙ h.4 ∙ ap (λ (z : Point ℕ). Some z) b)),
+      );
+      free = refl;
+    })
+
 pub starts : PlainStarts
-starts p over = record {
-  reached = at_start (λ x. x) (net_of p.net) (record {
-    apart = λ x y h k e. e;
-    agents = λ y s. ((λ e. (y, refl, e)), (λ h. ap (net_of p.net).symbol (sym h.1) ∙ h.2));
-    wires = λ u v. (
-      (λ e. (u, v, same_points u, same_points v, e)),
-      (λ h. (let a : h.0 ≡ u = sym (same_points h.0) ∙ h.2 in let b : h.1 ≡ v = sym (same_points h.1) ∙ h.3 in ap (net_of p.net).partner (sym a) ∙ h.4 ∙ ap (λ (z : Point ℕ). Some z) b)),
-    );
-    free = refl;
-  });
-  over = over;
-  names = refl;
-}
+starts p over = (record { reached = (zero, starts_reached p); over = over; names = refl }, starts_reached p)
 
 -- symbols and wires as numbers
 symbol_is : (p : PlainParts) (x : ℕ) (s : SymbolNo) → symbol_in p.net x ≡ Some s → (net_of p.net).symbol x ≡ Some s.0
@@ -47,9 +48,9 @@ symbol_is p x s e = ap (λ (o : Option SymbolNo). option_map (λ (s : SymbolNo).
 active_is : (p : PlainParts) (a b : AgentNo) → IsPairAt p a b → (net_of p.net).partner (Port a.0 0) ≡ Some (Port b.0 0)
 active_is p a b at = ap (λ (o : Option coded.Point). option_map point_of o) at.active
 
-pub steps : PlainSteps
-steps p q a b h at to =
-    let now : Reached (system_of p.program) (suc p.steps) (net_of q.net) = then_step p.steps (net_of p.net) (redex_at to.rule a.0 b.0) to.name (net_of q.net) h.reached (record {
+one_more : (p q : PlainParts) (a b : AgentNo) → IsPairAt p a b → StepsTo p a b q → (k : ℕ) → IsReachedBy p k → IsReachedBy q (suc k)
+one_more p q a b at to k h =
+    let now : Reached (system_of p.program) (suc k) (net_of q.net) = then_step k (net_of p.net) (redex_at to.rule a.0 b.0) to.name (net_of q.net) h (record {
       at = record {
         one = symbol_is p a.0 to.rule.heads.0 to.is_rule.one;
         two = symbol_is p b.0 to.rule.heads.1 to.is_rule.two;
@@ -58,18 +59,24 @@ steps p q a b h at to =
       };
       step = to.step;
     }) in
-    record {
-      reached = subst (λ z. Reached (system_of z) q.steps (net_of q.net)) (sym to.program) (subst (λ k. Reached (system_of p.program) k (net_of q.net)) (sym to.steps) now);
-      over = subst (λ z. IsOver z.tables q.net) (sym to.program) to.over;
-      names = to.names ∙ h.names ∙ ap (λ z. map (λ f. f.name) z.net.free) (sym to.program);
-    }
+    subst (λ z. Reached (system_of z) (suc k) (net_of q.net)) (sym to.program) now
+
+pub steps : PlainSteps
+steps p q a b h at to = (
+  record {
+    reached = (suc h.reached.0, one_more p q a b at to h.reached.0 h.reached.1);
+    over = subst (λ z. IsOver z.tables q.net) (sym to.program) to.over;
+    names = to.names ∙ h.names ∙ ap (λ z. map (λ f. f.name) z.net.free) (sym to.program);
+  },
+  one_more p q a b at to,
+)
 
 module _ (text : List ℕ) (p : PlainParts) (a b : AgentNo) (accepted : IsAccepted text p.program) (h : IsPlain p) (at : IsPairAt p a b) where
   good : IsSoundSystem (system_of p.program)
   good = is_sound text p.program accepted
 
   matches : IsMatching (signature_of p.program.tables) at.first.0 at.second.0
-  matches = elim ((each_promised (system_of p.program) good p.steps (net_of p.net) h.reached).one_rule a.0 b.0 at.first.0 at.second.0 (symbol_is p a.0 at.first at.one) (symbol_is p b.0 at.second at.two) (active_is p a b at)) [
+  matches = elim ((each_promised (system_of p.program) good h.reached.0 (net_of p.net) h.reached.1).one_rule a.0 b.0 at.first.0 at.second.0 (symbol_is p a.0 at.first at.one) (symbol_is p b.0 at.second at.two) (active_is p a b at)) [
     | inl r ↦ r.0
     | inr r ↦ absurd (let z : true ≡ false = sym at.constructor ∙ r.0.1 in cc)
   ]
@@ -94,7 +101,7 @@ module _ (text : List ℕ) (p : PlainParts) (a b : AgentNo) (accepted : IsAccept
           absurd (let z : true ≡ false = sym m.0 ∙ ap (λ z. (port_at p.program.tables z 0).output) f.0 ∙ matches.1 in cc)
 
   below : (x : ℕ) (s : SymbolNo) → symbol_in p.net x ≡ Some s → s.0 < length p.program.tables.names
-  below x s e = (sound_reached (system_of p.program) good ℕ_discrete p.steps (net_of p.net) h.reached).within x s.0 (symbol_is p x s e)
+  below x s e = (sound_reached (system_of p.program) good ℕ_discrete h.reached.0 (net_of p.net) h.reached.1).within x s.0 (symbol_is p x s e)
 
   is_pair : IsPair p.program.tables at.first.0 at.second.0
   is_pair = record { first = below a.0 at.first at.one; second = below b.0 at.second at.two; matched = is_matching p.program.tables at.first.0 at.second.0 matches }
@@ -103,4 +110,4 @@ pub have_their_rule : PairsHaveTheirRule
 have_their_rule text p a b accepted h at = (is_pair text p a b accepted h at, λ i r e for. rule_at text p a b accepted h at i r e for)
 
 pub promised : PlainAsPromised
-promised text p accepted h = each_promised (system_of p.program) (is_sound text p.program accepted) p.steps (net_of p.net) h.reached
+promised text p accepted h = each_promised (system_of p.program) (is_sound text p.program accepted) h.reached.0 (net_of p.net) h.reached.1
