@@ -10,4 +10,7 @@ mod of_in_check;
 mod of_in_cover;
 #[cfg(test)]
 mod of_in_simple;
+#[cfg(test)]
+mod of_plain;
 pub mod only;
+pub mod reducing;

@@ -1,7 +1,7 @@
 use crate::devices::{Paper, Stop, Tape};
-use in_test_texts::{ADDITION, DUPLICATION, ERASURE, NUMBERS, SUMS};
 use in_program::{Status, act, tell_usage};
 use in_syntax::{MemoryIn, MemoryOut};
+use in_test_texts::{ADDITION, DUPLICATION, ERASURE, NUMBERS, SUMS};
 use in_words::{Action, Usage};
 use std::alloc::{AllocError, Global};
 use std::process::Abort;
