@@ -1,14 +1,14 @@
 -- A net on its way: what the slow reducer over plain nets keeps of its program, its net and its count, and what one step does. That its
 -- agents are numbers, and which numbers new agents get, is this project's own choice; the interaction is that of Lafont 1990.
-use Rattle.std.specs.Prelude.{◌≡◌, ◌++◌, ℕ, zero, suc, true, List, map, slice_get, Some}
+use Rattle.std.specs.Prelude.{◌≡◌, ◌≤◌, count_by, is_some, ◌++◌, ℕ, zero, suc, true, List, map, slice_get, Some}
 use Rattle.in_symbols.specs.declared.symbols.SymbolNo.{SymbolNo}
 use Rattle.in_symbols.specs.Tables.{is_constructor}
 use Rattle.in_net.specs.declared.nets.AgentNo.{AgentNo}
 use Rattle.in_net.specs.declared.nets.Point.TheVariants.{Port}
 use Rattle.in_net.specs.Built.{IsOver}
-use Rattle.in_net.specs.Interactions.{IsStep, redex_at}
-use Rattle.in_net.specs.Nets.{net_of, signature_of}
-use Rattle.in_net.specs.Parts.{Parts, symbol_in, partner_in}
+use Rattle.in_net.specs.Interacting.{most_agents, Interacts}
+use Rattle.in_net.specs.Nets.{net_of}
+use Rattle.in_net.specs.Parts.{Parts, IsWhole, symbol_in, partner_in}
 use Rattle.in_net.specs.Rules.{RuleParts, IsRuleOver, auxiliary_types}
 use Rattle.in_cover.specs.Cover.{IsPair, IsFor}
 use Rattle.in_check.specs.Checking.{IsAccepted}
@@ -49,15 +49,12 @@ pub record IsRuleAt (p : PlainParts) (a b : AgentNo) (i : ℕ) (r : RuleParts) :
   pub one : symbol_in p.net a.0 ≡ Some r.heads.0
   pub two : symbol_in p.net b.0 ≡ Some r.heads.1
 
--- one interaction at the pair, by its rule: the program and the names of free ends are kept
+-- one interaction at the pair, by its rule, as `interact` does it: so the net after is determined. The program is kept
 pub record StepsTo (p : PlainParts) (a b : AgentNo) (q : PlainParts) : Type 0 where
   pub number : ℕ
   pub rule : RuleParts
   pub is_rule : IsRuleAt p a b number rule
-  pub name : ℕ → ℕ
-  pub step : IsStep (signature_of p.program.tables) (net_of p.net) (redex_at rule a.0 b.0) name (net_of q.net)
-  pub over : IsOver p.program.tables q.net
-  pub names : map (λ f. f.name) q.net.free ≡ map (λ f. f.name) p.net.free
+  pub acts : Interacts p.net rule a b q.net
   pub program : q.program ≡ p.program
 
 -- ---- laws
@@ -69,6 +66,11 @@ PlainStarts = (p : Program) → IsOver p.tables p.net → IsPlain (record { prog
 -- a step leads from a net that is reached to one, which is reached by one interaction more
 abbrev pub PlainSteps : Type 0
 PlainSteps = (p q : PlainParts) (a b : AgentNo) → IsPlain p → IsPairAt p a b → StepsTo p a b q → IsPlain q × ((k : ℕ) → IsReachedBy p k → IsReachedBy q (suc k))
+
+-- .. and of an accepted program what a step leads to is one: its net with its numbers, its wires in their order, and its free ends
+abbrev pub PlainStepsAreOne : Type 0
+PlainStepsAreOne = (text : List ℕ) (p q r : PlainParts) (a b : AgentNo) → IsAccepted text p.program → IsPlain p → IsPairAt p a b → count_by is_some p.net.cells ≤ most_agents →
+    IsWhole q.net → IsWhole r.net → StepsTo p a b q → StepsTo p a b r → q ≡ r
 
 -- of an accepted program, each active pair matches, and each rule that is for its symbols, in whichever order, is for them in this one
 abbrev pub PairsHaveTheirRule : Type 0

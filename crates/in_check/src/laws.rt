@@ -1,7 +1,7 @@
 //! Laws over what checking a text answers, for whoever reasons above it. No function here does anything.
 
 ghost use Rattle.in_check.specs.Laws.{TextsAreCheckedOnce};
-ghost use Rattle.in_check.specs.Plain.{PairsHaveTheirRule, PlainAsPromised, PlainStarts, PlainSteps};
+ghost use Rattle.in_check.specs.Plain.{PairsHaveTheirRule, PlainAsPromised, PlainStarts, PlainSteps, PlainStepsAreOne};
 ghost use Rattle.in_check.specs.Promises.{AcceptedIsSound, RenamingChangesNothing, SoundReachesAsPromised, StepsReach};
 
 /// A text has one answer: it is accepted or refused, never both; two refusals are equal, and two accepted programs have equal tables,
@@ -40,6 +40,11 @@ pub fn plain_starts()
 /// A step at an active pair, by its rule, leads from a net that is reached to one that is reached by one more.
 pub fn plain_steps()
     ensures { PlainSteps }
+{}
+
+/// Of an accepted program, what a step at an active pair leads to is one.
+pub fn plain_steps_are_one()
+    ensures { PlainStepsAreOne }
 {}
 
 /// Of an accepted program, the symbols of an active pair match, and each rule for them has them in the order constructor, destructor.
