@@ -3,11 +3,11 @@ ghost use Rattle.std.specs.Prelude.{◌≡◌, replicate};
 ghost use Rattle.in_arena.specs.Contents.{end_of};
 
 /// The number of a cell in its arena.
-#[derive(Clone, Copy, Debug, PartialEq, Eq)]
+#[derive(Clone, Copy, Debug, PartialEq, Eq, Hash)]
 pub struct CellNo(pub u32);
 
 /// What a place of a cell leads to: a place of a cell, the principal one being 0, or a free end.
-#[derive(Clone, Copy, Debug, PartialEq, Eq)]
+#[derive(Clone, Copy, Debug, PartialEq, Eq, Hash)]
 pub enum End {
     Cell(CellNo, u8),
     Free(u32),

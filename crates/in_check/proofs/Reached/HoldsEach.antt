@@ -13,8 +13,9 @@ use Rattle.in_check.proofs.Reached.Others.{pieces_of}
 use Rattle.in_check.proofs.Reached.Numbers.{number_twice, positive, one_wire}
 use Rattle.in_check.proofs.Reached.Holds.{Tops, at_free, at_pair, higher, pair_tops, free_tops, tops_different, tops_live, no_return, nowhere, nowhere_below, holds}
 
-module _ {A : Type 0} (sig : Signature) (n : Net A) (net : IsNet sig n) (leads : (x : A) → IsSome (n.symbol x) → MeetsPair n x ⊎ ((k : ℕ) × WaitsAt n k x)) (words : Words) (xs : List A) (agents : AreAgents n xs) (queue : List (A × A)) (is_queue : IsQueue n queue) where
-  tops_of : (p : Point A) → IsPoint sig n p → (ys : List A) × Tops n p ys
+-- the agents above a point, which are different ones
+module _ {A : Type 0} (sig : Signature) (n : Net A) (net : IsNet sig n) (leads : (x : A) → IsSome (n.symbol x) → MeetsPair n x ⊎ ((k : ℕ) × WaitsAt n k x)) where
+  pub tops_of : (p : Point A) → IsPoint sig n p → (ys : List A) × Tops n p ys
   tops_of (Free k) h = ([], at_free k)
   tops_of (Port y zero) h = ([], at_pair y)
   tops_of (Port y (suc i)) h = elim (leads y (live (n.symbol y) h)) [
@@ -26,10 +27,14 @@ module _ {A : Type 0} (sig : Signature) (n : Net A) (net : IsNet sig n) (leads :
       live None h = absurd h
       live (Some s) h = refl
 
+pub few_tops : {A : Type 0} (sig : Signature) (n : Net A) → IsNet sig n → (xs : List A) → AreAgents n xs → (p : Point A) (ys : List A) → Tops n p ys → length ys ≤ length xs
+few_tops sig n net xs agents p ys tops = few ys xs (tops_different n p ys tops) (λ y a. (agents.all y).0 (tops_live sig n net p ys tops y a))
+
+module _ {A : Type 0} (sig : Signature) (n : Net A) (net : IsNet sig n) (leads : (x : A) → IsSome (n.symbol x) → MeetsPair n x ⊎ ((k : ℕ) × WaitsAt n k x)) (words : Words) (xs : List A) (agents : AreAgents n xs) (queue : List (A × A)) (is_queue : IsQueue n queue) where
   pub variable_once : (u v : Point A) → n.partner u ≡ Some v → IsAuxiliary u → IsAuxiliary v → StandsOnce (Variable u v) (text_parts sig words n (length xs) queue)
   variable_once u v e aux_u aux_v =
-      let t = tops_of u (net.points u v e) in
-      let few_above : length t.0 ≤ length xs = few t.0 xs (tops_different n u t.0 t.1) (λ y a. (agents.all y).0 (tops_live sig n net u t.0 t.1 y a)) in
+      let t = tops_of sig n net leads u (net.points u v e) in
+      let few_above : length t.0 ≤ length xs = few_tops sig n net xs agents u t.0 t.1 in
       holds sig n net u t.0 t.1 (net.points u v e) (Variable u v) (λ bs w. cc) (λ y q w f. cc) (λ q w f. (let g : Variable q w ≡ Variable u v = f in cc)) 0
       (λ d h. shown d v e aux_v) words (length xs) (omega arith) queue is_queue (λ z f. absurd (subst IsAuxiliary f aux_u))
     where
@@ -54,9 +59,9 @@ module _ {A : Type 0} (sig : Signature) (n : Net A) (net : IsNet sig n) (leads :
       let p = has_value (n.partner (Port x 0)) (net.joined (Port x 0) point) in
       let back : n.partner p.0 ≡ Some (Port x 0) = net.back (Port x 0) p.0 p.1 in
       let point_p = net.points p.0 (Port x 0) back in
-      let t = tops_of p.0 point_p in
+      let t = tops_of sig n net leads p.0 point_p in
       let whole : Tops n (Port x 1) (x ∷ t.0) = higher x 0 p.0 t.0 p.1 t.1 in
-      let few_above : length (x ∷ t.0) ≤ length xs = few (x ∷ t.0) xs (tops_different n (Port x 1) (x ∷ t.0) whole) (λ y a. (agents.all y).0 (tops_live sig n net (Port x 1) (x ∷ t.0) whole y a)) in
+      let few_above : length (x ∷ t.0) ≤ length xs = few_tops sig n net xs agents (Port x 1) (x ∷ t.0) whole in
       let bytes : (bs : List ℕ) → Bytes bs ≢ Head x = λ bs w. cc in
       let heads : (y : A) (q : Point A) → n.partner q ≡ Some (Port y 0) → Head y ≡ Head x → q ≡ p.0 = λ y q e w. (
       let same : y ≡ x = cc in

@@ -1,0 +1,4 @@
+mod Depths
+mod Numbering
+mod Remaining
+mod Texts
