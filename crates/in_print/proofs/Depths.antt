@@ -1,8 +1,18 @@
 -- No more agents hang on each other than the net has.
-use Rattle.std.proofs.Common.{◌≡◌, ◌⊎◌, ℕ, zero, suc, ◌+◌, ◌<◌, ◌≤◌, List, [], ◌∷◌, length, Some, None, IsSome, refl, sym, subst, ap, ◌∙◌, arith}
+use Rattle.std.proofs.Common.{◌≡◌, ◌⊎◌, ℕ, zero, suc, ◌+◌, ◌<◌, ◌≤◌, List, [], ◌∷◌, length, Option, Some, None, IsSome, is_some, option_map, option_and_then, true≢false, count_by, slice_get, inl, inr, refl, sym, subst, arith}
 use Rattle.in_net.specs.Ahead.{MeetsPair, WaitsAt}
 use Rattle.in_net.specs.Nets.{Point, Port, IsPoint, IsNet}
 use Rattle.in_check.specs.NetText.{AreAgents}
+use Rattle.std.proofs.lemmas.Option.{same_Some}
+use Rattle.in_base.specs.Lists.{IsAmong}
+use Rattle.in_net.specs.declared.nets.Cell.{Cell}
+use Rattle.in_net.proofs.Stepping.Unused.{counted}
+use Rattle.in_arena.specs.declared.content.End.{End}
+use Rattle.in_run.specs.Machines.{MachineParts, IsMachine}
+use Rattle.in_print.specs.Points.{point_at}
+use Rattle.in_print.specs.Texts.{setting_of, IsPointAt}
+use Rattle.in_print.proofs.Looking.{as_promised, net}
+use Rattle.in_check.proofs.Reached.Counts.{few}
 use Rattle.in_check.proofs.Reached.Holds.{Tops, higher}
 use Rattle.in_check.proofs.Reached.HoldsEach.{tops_of, few_tops}
 use Rattle.in_print.specs.declared.terms.Frame.{Frame}
@@ -26,8 +36,55 @@ pub shallow : (s : Setting) → IsNet s.symbols s.net → ((x : ℕ) → IsSome 
 shallow s net leads xs agents d le p point fs h =
     let t = tops_of s.symbols s.net net leads p point in
     let r = above s net p fs t.0 h t.1 in
-    let all = few_tops s.symbols s.net net xs agents (last_point p fs) r.0 r.1 in
-    (omega (arith, le, all, r.2), λ y e. (
-      let more = few_tops s.symbols s.net net xs agents (Port y 1) (y ∷ r.0) (higher y 0 (last_point p fs) r.0 (net.back (last_point p fs) (Port y 0) e) r.1) in
-      omega (arith, le, more, r.2)
-    ))
+    let all = few_tops s.symbols s.net net xs agents (last_point p fs) r.0 r.1 in (
+      omega (arith, le, all, r.2),
+      λ y e. (
+          let more = few_tops s.symbols s.net net xs agents (Port y 1) (y ∷ r.0) (higher y 0 (last_point p fs) r.0 (net.back (last_point p fs) (Port y 0) e) r.1) in
+          omega (arith, le, more, r.2)
+          ),
+    )
+
+-- ---- a machine's agents
+
+-- the numbers of the cells with an agent, the first cell having this one
+abbrev filled : ℕ → List (Option Cell) → List ℕ
+filled k [] = []
+filled k (None ∷ cs) = filled (suc k) cs
+filled k (Some c ∷ cs) = k ∷ filled (suc k) cs
+
+filled_many : (k : ℕ) (cs : List (Option Cell)) → length (filled k cs) ≡ count_by is_some cs
+filled_many k [] = refl
+filled_many k (None ∷ cs) = let h = filled_many (suc k) cs in omega (arith, h, counted None cs)
+filled_many k (Some c ∷ cs) = let h = filled_many (suc k) cs in omega (arith, h, counted (Some c) cs)
+
+filled_there : (k : ℕ) (cs : List (Option Cell)) (j : ℕ) (c : Cell) → slice_get cs j ≡ Some (Some c) → IsAmong (k + j) (filled k cs)
+filled_there k [] j c h = cc
+filled_there k (None ∷ cs) zero c h = (let e : None ≡ Some c = same_Some None (Some c) h in cc)
+filled_there k (None ∷ cs) (suc j) c h = subst (λ n. IsAmong n (filled (suc k) cs)) (omega arith) (filled_there (suc k) cs j c h)
+filled_there k (Some d ∷ cs) zero c h = inl (omega arith)
+filled_there k (Some d ∷ cs) (suc j) c h = inr (subst (λ n. IsAmong n (filled (suc k) cs)) (omega arith) (filled_there (suc k) cs j c h))
+
+cell_there : (m : MachineParts) (x : ℕ) → IsSome ((setting_of m).net.symbol x) → (c : Cell) × (slice_get m.agents x ≡ Some (Some c))
+cell_there m x h = by (slice_get m.agents x) refl h
+  where
+    shown : Option (Option Cell) → Option ℕ
+    shown o = option_map (λ s. s.0) (option_map (λ c. c.symbol) (option_and_then (λ c. c) o))
+
+    by : (o : Option (Option Cell)) → slice_get m.agents x ≡ o → IsSome (shown (slice_get m.agents x)) → (c : Cell) × (slice_get m.agents x ≡ Some (Some c))
+    by None e h = absurd (none (subst (λ o. IsSome (shown o)) e h))
+      where
+        none : IsSome (shown None) → ⊥
+        none h = true≢false (sym h)
+    by (Some None) e h = absurd (none (subst (λ o. IsSome (shown o)) e h))
+      where
+        none : IsSome (shown (Some None)) → ⊥
+        none h = true≢false (sym h)
+    by (Some (Some c)) e h = (c, e)
+
+-- no more agents hang on each other at a point than the machine has
+pub deep_enough : (m : MachineParts) → IsMachine m → (e : End) → IsPointAt m e → (d : ℕ) → count_by is_some m.agents ≤ d → IsShallow (setting_of m) d (point_at e)
+deep_enough m machine e point d le =
+    let promise = as_promised m machine in
+    let agents = promise.written_whole.agents in
+    let few_agents : length agents.0 ≤ length (filled 0 m.agents) = few agents.0 (filled 0 m.agents) agents.1.once (λ x a. (let c = cell_there m x ((agents.1.all x).1 a) in subst (λ n. IsAmong n (filled 0 m.agents)) (omega arith) (filled_there 0 m.agents x c.0 c.1))) in
+    shallow (setting_of m) (net m machine) promise.leads_on agents.0 agents.1 d (omega (arith, few_agents, filled_many 0 m.agents, le)) (point_at e) point

@@ -1,4 +1,6 @@
 mod Depths
+mod LineByLine
+mod Looking
 mod Numbering
 mod Remaining
 mod Texts

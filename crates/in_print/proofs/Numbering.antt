@@ -1,21 +1,20 @@
 -- The number of a wire among those that were met is that of the later one of its two ends among the ends that were kept.
-use Rattle.std.proofs.Common.{◌≡◌, ◌&&◌, ◌||◌, ◌++◌, ◌<◌, ◌+◌, ℕ, zero, suc, nat_eq, nat_cmp, Bool, true, false, cond, List, [], ◌∷◌, length, map, reverse, position, Option, Some, None, option_map, refl, sym, ap, ◌∙◌, subst, unwrap_or, IfSome, IsSome, nat_lt, Less, Equal, Greater, arith, length-append, true≢false, if◌then◌else◌}
+use Rattle.std.proofs.Common.{◌≡◌, ◌&&◌, ◌||◌, ◌++◌, ◌+◌, ℕ, suc, nat_eq, nat_cmp, Bool, true, false, cond, List, [], ◌∷◌, length, map, reverse, position, Option, Some, None, option_map, refl, sym, ap, ◌∙◌, subst, unwrap_or, IsSome, nat_lt, Less, Equal, Greater, arith, length-append, true≢false, if◌then◌else◌}
 use Rattle.std.proofs.lemmas.Bool.{and_parts}
 use Rattle.std.proofs.lemmas.Bool.Decides.{nat_tests}
 use Rattle.std.proofs.lemmas.Grind.{common_steps}
 use Rattle.indexmap.specs.IndexSet.{insert_key}
-use Rattle.std.specs.List.{list_any, AllByRecursion, IsDistinct, position_or_len}
+use Rattle.std.specs.List.{list_any, AllByRecursion, IsDistinct}
 use Rattle.std.specs.Ordering.{ord_max, is_lt}
 use Rattle.std.specs.Option.{option_cmp}
 use Rattle.std.proofs.lemmas.List.{reverse-append, map-append, length-reverse, length-map}
 use Rattle.in_arena.specs.declared.content.End.{End}
 use Rattle.in_arena.specs.declared.content.End.TheVariants as end
 use Rattle.in_arena.specs.contracts.content.EndPartialEq.TheImpl.{eq-value}
-use Rattle.in_net.specs.Nets.{Point, Port, Free}
+use Rattle.in_net.specs.Nets.{Point}
 use Rattle.in_check.specs.NetText.{same_point, number_of}
 use Rattle.in_print.specs.Points.{point_at}
 use Rattle.in_print.specs.Writings.{number_at, met_after}
-use Rattle.std.proofs.lemmas.Option.{same_Some}
 
 turned : (i j : ℕ) → nat_eq i j ≡ nat_eq j i
 turned i j = grind (arith, nat_tests)
@@ -185,11 +184,10 @@ module _ (e f : End) (ks : List End) (distinct : IsDistinct eq-value.it ks) wher
 
   pub new_number : later (position (eq-value.it e) ks) (position (eq-value.it f) ks) ≡ None → (length ks + 1 ≡ number_at met (point_at e) (point_at f)) × (reverse (map point_at (ks ++ e ∷ [])) ≡ met_after met (point_at e) (point_at f))
   new_number k =
-      let new = is_number None k in
-      (
+      let new = is_number None k in (
         omega (arith, length-reverse (map point_at ks), length-map ks point_at) ∙ ap (λ o. unwrap_or o (suc (length met))) (sym new),
         ap reverse (map-append point_at ks (e ∷ [])) ∙ reverse-append (map point_at ks) (point_at e ∷ [])
-        ∙ ap (λ o. elim o as (λ x. List (Point ℕ)) [ None ↦ point_at e ∷ met | Some k ↦ met ]) (sym new),
+            ∙ ap (λ o. elim o as (λ x. List (Point ℕ)) [ None ↦ point_at e ∷ met | Some k ↦ met ]) (sym new),
       )
 
 lacks : (t : End → Bool) (ks : List End) → position t ks ≡ None → list_any t ks ≡ false

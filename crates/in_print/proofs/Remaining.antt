@@ -1,7 +1,7 @@
 -- What is still to be written, step by step.
-use Rattle.std.proofs.Common.{◌≡◌, ℕ, zero, suc, ◌+◌, ◌-◌, ◌<◌, ◌≤◌, List, [], ◌∷◌, ◌++◌, length, Option, Some, None, refl, sym, ap, ◌∙◌, subst, arith, length-append, append_assoc}
-use Rattle.in_net.specs.Nets.{Point, Port, Free}
-use Rattle.in_check.specs.NetText.{TextPart, Bytes, Head, Variable, arity_of, listed, bracketed, agent_term, term_at, term, IsAuxiliary}
+use Rattle.std.proofs.Common.{◌≡◌, ℕ, zero, suc, ◌+◌, ◌-◌, ◌<◌, ◌≤◌, List, [], ◌∷◌, ◌++◌, length, Option, Some, None, IsSomeAnd, refl, sym, ap, ◌∙◌, subst, arith, length-append, append_assoc}
+use Rattle.in_net.specs.Nets.{Point, Port, Free, IsPoint, IsNet}
+use Rattle.in_check.specs.NetText.{TextPart, Bytes, Head, Variable, arity_of, listed, bracketed, agent_term, term_at, IsAuxiliary}
 use Rattle.in_arena.specs.declared.content.CellNo.{CellNo}
 use Rattle.in_print.specs.declared.terms.Frame.{Frame}
 use Rattle.in_print.specs.Writings.{Setting, Written, with_parts}
@@ -27,7 +27,7 @@ closed_term : (s : Setting) (d y : ℕ) → arity_at s y ≡ 0 → agent_term s.
 closed_term s d y e = ap (λ k. Head y ∷ bracketed k (listed (term_in s d) y 1 k)) e
 
 -- the term at a point whose partner is a principal port
-agent_at : (s : Setting) (d : ℕ) (p : Point ℕ) (y : ℕ) → s.net.partner p ≡ Some (Port y 0) → term_in s (suc d) p ≡ agent_term s.symbols s.net (term_in s d) y
+pub agent_at : (s : Setting) (d : ℕ) (p : Point ℕ) (y : ℕ) → s.net.partner p ≡ Some (Port y 0) → term_in s (suc d) p ≡ agent_term s.symbols s.net (term_in s d) y
 agent_at s d p y e = ap (term_at (agent_term s.symbols s.net (term_in s d)) p) e
 
 -- a term that is one part
@@ -135,3 +135,14 @@ writes_comma s d p w fs y i shallow h lt =
     let old = leads_pop s p fs (frame y i) h in
     step s d p w (fs ++ frame y i ∷ []) (fs ++ frame y (i + 1) ∷ []) None (Some (Port y.0 (i + 1))) (Bytes (44 ∷ 32 ∷ []) ∷ []) (omega arith)
     (followed s d fs y i (deeper s d p fs (frame y i) shallow h) lt) (leads_push s p fs (frame y (i + 1)) old.0 old.1 (omega arith) (omega (arith, lt))) (sym (last_push p fs (frame y (i + 1))))
+
+-- ---- points of the net
+
+-- the point in hand is one
+pub last_there : (s : Setting) → IsNet s.symbols s.net → (p : Point ℕ) (fs : List Frame) (q : Point ℕ) → IsPoint s.symbols s.net p → Leads s p fs → q ≡ last_point p fs → IsPoint s.symbols s.net q
+last_there s net p [] q h leads e = subst (IsPoint s.symbols s.net) (sym e) h
+last_there s net p (f ∷ fs) q h leads e = last_there s net (Port f.cell.0 f.place) fs q (there (s.net.symbol f.cell.0) (net.points (Port f.cell.0 0) p (net.back p (Port f.cell.0 0) leads.0)) leads.2) leads.3 e
+  where
+    there : (o : Option ℕ) → IsSomeAnd o (λ t. 0 ≤ s.symbols.arity t) → f.place ≤ arity_of s.symbols o → IsSomeAnd o (λ t. f.place ≤ s.symbols.arity t)
+    there None k le = absurd k
+    there (Some t) k le = le

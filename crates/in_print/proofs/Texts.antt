@@ -1,8 +1,7 @@
 -- What is written part by part is the text of the definitions.
-use Rattle.std.proofs.Common.{◌≡◌, ℕ, suc, nat_eq, List, [], ◌∷◌, ◌++◌, length, Option, Some, None, unwrap_or, refl, sym, ap, ◌∙◌, subst, append_assoc, append-nil}
-use Rattle.in_net.specs.Nets.{Point, Net}
-use Rattle.in_check.specs.NetText.{Words, TextPart, Bytes, Head, Variable, number_of, symbol_name, variable_name, numbers, bytes_of}
-use Rattle.in_print.specs.Writings.{Setting, Written, number_at, met_after, with_bytes, with_part, with_parts}
+use Rattle.std.proofs.Common.{◌≡◌, ℕ, suc, nat_eq, List, [], ◌∷◌, ◌++◌, length, Option, Some, None, unwrap_or, refl, sym, ◌∙◌, append_assoc, append-nil}
+use Rattle.in_check.specs.NetText.{TextPart, Bytes, Head, Variable, number_of, symbol_name, variable_name, numbers, bytes_of}
+use Rattle.in_print.specs.Writings.{Setting, Written, with_bytes, with_part, with_parts}
 
 -- two lists of parts, one after the other
 pub with_parts_join : (s : Setting) (w : Written) (xs ys : List (TextPart ℕ)) → with_parts s w (xs ++ ys) ≡ with_parts s (with_parts s w xs) ys

@@ -2,7 +2,7 @@
 -- inner contracts.
 use Rattle.std.specs.Prelude.{◌≡◌, ℕ, zero, suc, ◌-◌, ◌<◌, ◌≤◌, List, [], ◌∷◌, ◌++◌, length, Option, Some, None}
 use Rattle.in_net.specs.Nets.{Point, Port}
-use Rattle.in_check.specs.NetText.{TextPart, Bytes, arity_of, term, AreAgents}
+use Rattle.in_check.specs.NetText.{TextPart, Bytes, arity_of, term}
 use Rattle.in_print.specs.Writings.{Setting, Written, with_parts}
 use Rattle.in_print.specs.declared.terms.Frame.{Frame}
 

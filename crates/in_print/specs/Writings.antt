@@ -1,6 +1,6 @@
 -- A text while it is written: its bytes so far, and the wires that were met, each by the point at which it was. Words of the inner
 -- contracts; what the whole text is stands in `in_check`'s definitions of a net's text.
-use Rattle.std.specs.Prelude.{ℕ, suc, List, [], ◌∷◌, ◌++◌, length, Option, Some, None, unwrap_or, nat_eq}
+use Rattle.std.specs.Prelude.{ℕ, suc, List, [], ◌∷◌, ◌++◌, length, Some, None, unwrap_or, nat_eq}
 use Rattle.in_net.specs.Nets.{Point, Signature, Net}
 use Rattle.in_check.specs.NetText.{Words, TextPart, Bytes, Head, Variable, number_of, symbol_name, variable_name}
 
@@ -28,11 +28,14 @@ met_after met p q = elim (number_of nat_eq met p q) [ None ↦ p ∷ met | Some 
 abbrev pub with_bytes : Written → List ℕ → Written
 with_bytes w bs = record { bytes = w.bytes ++ bs; met = w.met }
 
+abbrev pub with_variable : Written → Point ℕ → Point ℕ → Written
+with_variable w p q = record { bytes = w.bytes ++ variable_name (number_at w.met p q); met = met_after w.met p q }
+
 -- after one part more
 abbrev pub with_part : Setting → Written → TextPart ℕ → Written
 with_part s w (Bytes bs) = with_bytes w bs
 with_part s w (Head y) = with_bytes w (symbol_name s.words (s.net.symbol y))
-with_part s w (Variable p q) = record { bytes = w.bytes ++ variable_name (number_at w.met p q); met = met_after w.met p q }
+with_part s w (Variable p q) = with_variable w p q
 
 -- .. and after these parts
 abbrev pub with_parts : Setting → Written → List (TextPart ℕ) → Written

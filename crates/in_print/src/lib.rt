@@ -1,5 +1,7 @@
 //! The text of a machine's net, as it is printed.
 #![tactic(auto)]
 
+mod lines;
 mod numbers;
-pub mod terms;
+mod sheet;
+mod terms;

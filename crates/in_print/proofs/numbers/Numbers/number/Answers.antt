@@ -1,7 +1,4 @@
-use Rattle.std.proofs.Common.{◌≡◌, ℕ, ◌+◌, None, Some, Option, cond, List, ◌∷◌, [], ◌++◌, length, map, reverse, sym, ap, ◌∙◌, subst}
-use Rattle.std.specs.Ordering.{ord_max}
-use Rattle.std.specs.Option.{option_cmp}
-use Rattle.in_net.specs.Nets.{Point}
+use Rattle.std.proofs.Common.{◌+◌, map, reverse, sym, ap, ◌∙◌}
 use Rattle.in_print.specs.Points.{point_at}
 use Rattle.in_print.specs.Writings.{number_at, met_after}
 use Rattle.in_print.proofs.Numbering.{later, known_number, new_number, later_none, unlisted}
