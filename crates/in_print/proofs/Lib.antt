@@ -1,4 +1,5 @@
 mod Depths
+pub mod Fronts
 mod LineByLine
 mod Looking
 mod Numbering

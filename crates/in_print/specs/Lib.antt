@@ -1,3 +1,4 @@
+pub mod Devices
 pub mod Points
 pub mod Texts
 pub mod Terms

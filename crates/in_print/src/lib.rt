@@ -5,3 +5,6 @@ mod lines;
 mod numbers;
 mod sheet;
 mod terms;
+mod writing;
+
+pub use writing::{PrintFault, write_all, write_net};

@@ -1,6 +1,6 @@
 use Rattle.std.proofs.Common.{◌≤◌, ◌-◌, length, take}
-use Rattle.in_program.specs.Devices.{device, Moves}
-use Rattle.in_program.proofs.writing.write_all.Given as goal
+use Rattle.in_print.specs.Devices.{device, Moves}
+use Rattle.in_print.proofs.writing.write_all.Given as goal
 
 abbrev pub invariant-loop-done : goal.invariant-loop-done
 invariant-loop-done g l = record {

@@ -1,7 +1,7 @@
 use Rattle.std.proofs.Common.{◌≤◌, ◌-◌, take, drop, ap, ◌∙◌, arith, length, length-take, length-drop}
 use Rattle.std.specs.Io.KnownBytes.{append_known}
-use Rattle.in_program.proofs.Known.{append_known-twice, written, takes_some}
-use Rattle.in_program.proofs.writing.write_all.Goals as goal
+use Rattle.in_print.proofs.Fronts.{append_known-twice, written, takes_some}
+use Rattle.in_print.proofs.writing.write_all.Goals as goal
 
 pub loop-done-preserved : goal.loop-done-preserved
 loop-done-preserved g c =
