@@ -1,22 +1,7 @@
--- Known bytes that grow twice, and writes of fronts.
-use Rattle.std.proofs.Common.{◌≡◌, ℕ, zero, suc, ◌<◌, ◌≤◌, ◌+◌, ◌-◌, ◌^◌, List, ◌++◌, take, drop, length, Option, Some, None, Ok, refl, sym, subst, ◌∙◌, ap, append_assoc, arith, take-append-drop, take-add}
-use Rattle.std.proofs.lemmas.List.{take-take, drop-take, take_rest}
+-- How a count grows.
+use Rattle.std.proofs.Common.{◌≡◌, ℕ, ◌≤◌, ◌+◌, ◌-◌, ◌^◌, sym, subst, arith}
 use Rattle.std.proofs.Math.Nat.{min-le_left}
-use Rattle.std.specs.Io.KnownBytes.{append_known}
-use Rattle.in_syntax.specs.Streams.{fails_write, one_more}
-
-pub append_known-twice : (known : Option (List ℕ)) (a b : List ℕ) → append_known (append_known known a) b ≡ append_known known (a ++ b)
-append_known-twice None a b = refl
-append_known-twice (Some xs) a b = ap Some (append_assoc xs a b)
-
--- a write of a front of what is left
-pub written : (i n : ℕ) (bytes : List ℕ) → take i bytes ++ take n (take (length bytes - i) (drop i bytes)) ≡ take (i + n) bytes
-written i n bytes = ap (λ z. take i bytes ++ take n z) (take_rest bytes i) ∙ sym (take-add i n bytes)
-
--- a write that takes some bytes is no failure
-pub takes_some : (n : ℕ) (bytes : List ℕ) → 0 < n → fails_write (Ok n) bytes ≡ 0
-takes_some zero bytes lt = absurd (omega arith)
-takes_some (suc n) bytes lt = refl
+use Rattle.in_syntax.specs.Streams.{one_more}
 
 -- a count is one more at most
 pub counted : (old new : ℕ) → new ≡ one_more old → new ≤ old + 1

@@ -5,13 +5,13 @@ use Rattle.in_symbols.specs.Tables.{Tables}
 use Rattle.in_net.specs.Parts.{Parts}
 use Rattle.in_net.specs.Rules.{RuleParts}
 use Rattle.in_words.specs.declared.action.Action.{Action}
-use Rattle.in_words.specs.declared.action.Action.TheVariants.{Check, Derive}
+use Rattle.in_words.specs.declared.action.Action.TheVariants.{Check, Derive, Run}
 use Rattle.in_check.specs.declared.checked.Certificate.{Certificate}
 use Rattle.in_check.specs.declared.checked.Counts.{Counts}
 use Rattle.in_check.specs.Laws.{AreOneProgram}
 use Rattle.in_check.specs.Programs.{Program, counts_of}
 use Rattle.in_check.proofs.OneAnswer.{checked_once}
-use Rattle.in_program.specs.Acting.{Report, accepted, refused, IsReport, accepted_lines, lines_of, status_of}
+use Rattle.in_program.specs.Acting.{Finding, counted, derived, ran, full, IsFinding, finding_lines, finding_status, Report, accepted, refused, IsReport, lines_of, status_of}
 use Rattle.in_program.specs.Laws.{TextsAreAnsweredOnce}
 use Rattle.in_program.specs.Lines.{accepted_line, refused_line}
 use Rattle.in_program.specs.Steps.{derivation_lines, net_lines, rules_lines}
@@ -29,14 +29,18 @@ steps_alike p q h =
     ∙ ap (λ (cs : List Certificate). rules_lines q.tables q.rules cs ++ net_lines q.tables p.net_certificate) h.rule_certificates
     ∙ ap (λ (c : Certificate). rules_lines q.tables q.rules q.rule_certificates ++ net_lines q.tables c) h.net_certificate
 
-lines_alike : (a : Action) (p q : Program) → AreOneProgram p q → accepted_lines a p ≡ accepted_lines a q
-lines_alike Check p q h = ap accepted_line (counts_alike p q h)
-lines_alike Derive p q h = steps_alike p q h
+one_finding : (a : Action) (p q : Program) (x y : Finding) → AreOneProgram p q → IsFinding a p x → IsFinding a q y → (finding_lines p x ≡ finding_lines q y) × (finding_status x ≡ finding_status y)
+one_finding Check p q counted counted same h k = (ap accepted_line (counts_alike p q same), refl)
+one_finding Derive p q derived derived same h k = (steps_alike p q same, refl)
+one_finding (Run l) p q (ran m n j s) (ran o r k t) same h g = ?
+one_finding (Run l) p q (ran m n j s) (full c need free) same h g = ?
+one_finding (Run l) p q (full c need free) (ran o r k t) same h g = ?
+one_finding (Run l) p q (full c need free) (full d more less) same h g = ?
 
-one_report : (a : Action) (text : List ℕ) (x y : Report) → IsReport text x → IsReport text y → (lines_of a text x ≡ lines_of a text y) × (status_of x ≡ status_of y)
-one_report a text (accepted p) (accepted q) h k = (lines_alike a p q (checked_once text (Ok p) (Ok q) h k), refl)
-one_report a text (accepted p) (refused r) h k = absurd (checked_once text (Ok p) (Err (Refused r)) h k)
-one_report a text (refused q) (accepted p) h k = absurd (checked_once text (Err (Refused q)) (Ok p) h k)
+one_report : (a : Action) (text : List ℕ) (x y : Report) → IsReport a text x → IsReport a text y → (lines_of text x ≡ lines_of text y) × (status_of x ≡ status_of y)
+one_report a text (accepted p f) (accepted q g) h k = one_finding a p q f g (checked_once text (Ok p) (Ok q) h.0 k.0) h.1 k.1
+one_report a text (accepted p f) (refused r) h k = absurd (checked_once text (Ok p) (Err (Refused r)) h.0 k)
+one_report a text (refused q) (accepted p f) h k = absurd (checked_once text (Err (Refused q)) (Ok p) h k.0)
 one_report a text (refused q) (refused r) h k = (ap (refused_line text) (checked_once text (Err (Refused q)) (Err (Refused r)) h k), refl)
 
 pub answered_once : TextsAreAnsweredOnce

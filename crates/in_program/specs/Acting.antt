@@ -1,15 +1,22 @@
 -- What the program does: the lines that it writes on the text that it reads, and its status.
-use Rattle.std.specs.Prelude.{◌≡◌, ◌⊎◌, ℕ, Bool, List, string_bytes}
+use Rattle.std.specs.Prelude.{◌≡◌, ◌⊎◌, ◌++◌, ℕ, Bool, List, string_bytes}
 use Rattle.in_syntax.specs.declared.faults.Refusal.{Refusal}
 use Rattle.in_words.specs.declared.action.Action.{Action}
-use Rattle.in_words.specs.declared.action.Action.TheVariants.{Check, Derive}
+use Rattle.in_words.specs.declared.action.Action.TheVariants.{Check, Derive, Run}
 use Rattle.in_words.specs.declared.action.Usage.{Usage}
 use Rattle.in_words.specs.declared.action.Usage.TheVariants.{Wrong, Help, Memory}
 use Rattle.in_program.specs.declared.acting.Status.{Status}
 use Rattle.in_check.specs.Checking.{IsAccepted, IsRefused}
 use Rattle.in_check.specs.Programs.{Program, counts_of}
-use Rattle.in_program.specs.Devices.{Device, Reader, Gives, Fails, Moves, BreaksWithin, IsEnough}
-use Rattle.in_program.specs.Lines.{accepted_line, refused_line, memory_line}
+use Rattle.in_arena.specs.declared.content.CellClass.{CellClass}
+use Rattle.in_print.specs.Devices.{Device, Moves}
+use Rattle.in_print.specs.Texts.{text_of}
+use Rattle.in_run.specs.declared.stops.Stop.{Stop}
+use Rattle.in_run.specs.declared.stops.Stop.TheVariants.{Normal, Limit, Full}
+use Rattle.in_run.specs.Machines.{MachineParts}
+use Rattle.in_run.specs.Runs.{IsStart, DoesNotFit, IsOutcome}
+use Rattle.in_program.specs.Devices.{Reader, Gives, Fails, BreaksWithin, IsEnough}
+use Rattle.in_program.specs.Lines.{accepted_line, refused_line, memory_line, run_lines, start_line}
 use Rattle.in_program.specs.Steps.{derivation_lines}
 
 abbrev pub status : ℕ → Status
@@ -19,39 +26,76 @@ status n = record { 0 = n }
 abbrev pub fault_status : Status
 fault_status = status 6
 
+-- .. and of want of memory
+abbrev pub memory_status : Status
+memory_status = status 5
+
+-- what is found of an accepted program: what it has; the steps that build it; where its net's run comes to, from this machine; or that
+-- its net doesn't fit the cells
+pub data Finding : Type 0 where
+  counted : Finding
+  derived : Finding
+  ran : MachineParts → MachineParts → ℕ → Stop → Finding
+  full : CellClass → ℕ → ℕ → Finding
+
+-- it is what this action asks for, and it is so
+abbrev pub IsFinding : Action → Program → Finding → Type 0
+IsFinding Check p counted = Unit {0}
+IsFinding Derive p derived = Unit {0}
+IsFinding (Run l) p (ran start m k s) = IsStart p l.cells start × IsOutcome start l.limit m k s
+IsFinding (Run l) p (full c need free) = DoesNotFit p l.cells c need free
+IsFinding _ p _ = ⊥
+
+-- its lines: for a run the net, and then the count and the stop
+abbrev pub finding_lines : Program → Finding → List ℕ
+finding_lines p counted = accepted_line (counts_of p)
+finding_lines p derived = derivation_lines p
+finding_lines p (ran start m k s) = text_of m ++ run_lines k s
+finding_lines p (full c need free) = start_line c need free
+
+abbrev pub stop_status : Stop → Status
+stop_status Normal = status 0
+stop_status Limit = status 3
+stop_status (Full c need free) = status 4
+
+abbrev pub finding_status : Finding → Status
+finding_status counted = status 0
+finding_status derived = status 0
+finding_status (ran start m k s) = stop_status s
+finding_status (full c need free) = status 4
+
 -- what the program says of a text
 pub data Report : Type 0 where
-  accepted : Program → Report
+  accepted : Program → Finding → Report
   refused : Refusal → Report
 
 -- what it says is so
-abbrev pub IsReport : List ℕ → Report → Type 0
-IsReport text (accepted p) = IsAccepted text p
-IsReport text (refused r) = IsRefused text r
+abbrev pub IsReport : Action → List ℕ → Report → Type 0
+IsReport a text (accepted p f) = IsAccepted text p × IsFinding a p f
+IsReport a text (refused r) = IsRefused text r
 
--- one line that counts what an accepted program has, or its derivations
-abbrev pub accepted_lines : Action → Program → List ℕ
-accepted_lines Check p = accepted_line (counts_of p)
-accepted_lines Derive p = derivation_lines p
-
-abbrev pub lines_of : Action → List ℕ → Report → List ℕ
-lines_of a text (accepted p) = accepted_lines a p
-lines_of a text (refused r) = refused_line text r
+abbrev pub lines_of : List ℕ → Report → List ℕ
+lines_of text (accepted p f) = finding_lines p f
+lines_of text (refused r) = refused_line text r
 
 abbrev pub status_of : Report → Status
-status_of (accepted p) = status 0
+status_of (accepted p f) = finding_status f
 status_of (refused r) = status 1
 
 -- the lines and the status are those of what is said of the text
 pub record IsReply (a : Action) (text lines : List ℕ) (s : Status) : Type 0 where
   pub report : Report
-  pub so : IsReport text report
-  pub lines_are : lines ≡ lines_of a text report
+  pub so : IsReport a text report
+  pub lines_are : lines ≡ lines_of text report
   pub status_is : s ≡ status_of report
+
+-- the line of want of memory, and its status
+abbrev pub WantsMemory : List ℕ → Status → Type 0
+WantsMemory lines s = (lines ≡ memory_line) × (s ≡ memory_status)
 
 -- what may be said once these bytes are read: what is so of them, if they are enough, or that memory is wanted
 abbrev pub Says : Action → Bool → List ℕ → List ℕ → Status → Type 0
-Says a ended text lines s = (IsEnough ended text × IsReply a text lines s) ⊎ ((lines ≡ memory_line) × (s ≡ status 5))
+Says a ended text lines s = (IsEnough ended text × IsReply a text lines s) ⊎ WantsMemory lines s
 
 -- what a call for this action did, from a reader r and a writer w to what they are after it
 pub data Acts (a : Action) (r r' : Reader) (w w' : Device) (s : Status) : Type 0 where
@@ -67,8 +111,22 @@ pub data Acts (a : Action) (r r' : Reader) (w w' : Device) (s : Status) : Type 0
 abbrev pub Tells : Device → Device → List ℕ → Status → Status → Type 0
 Tells w w' line s answer = (Moves w w' line × (answer ≡ s)) ⊎ (BreaksWithin w w' line × (answer ≡ fault_status))
 
+-- ---- words of the inner contracts
+
+-- lines and a status that are so are told, or want of memory
+abbrev pub TellsOne : (List ℕ → Status → Type 0) → Device → Device → Status → Type 0
+TellsOne So w w' answer = (lines : List ℕ) × (s : Status) × (So lines s ⊎ WantsMemory lines s) × Tells w w' lines s answer
+
+-- these lines and this status
+abbrev pub AreThese : List ℕ → Status → List ℕ → Status → Type 0
+AreThese these this lines s = (lines ≡ these) × (s ≡ this)
+
+-- those of what is found of a program
+abbrev pub AreFound : Action → Program → List ℕ → Status → Type 0
+AreFound a p lines s = (f : Finding) × IsFinding a p f × (lines ≡ finding_lines p f) × (s ≡ finding_status f)
+
 -- help and want of memory go to the output w, what is wrong with the words to the errors e
 abbrev pub TellsUsage : Device → Device → Device → Device → Usage → Status → Type 0
 TellsUsage w w' e e' (Help text) answer = Tells w w' (string_bytes text) (status 0) answer × (e' ≡ e)
 TellsUsage w w' e e' (Wrong text) answer = (w' ≡ w) × (Moves e e' (string_bytes text) ⊎ BreaksWithin e e' (string_bytes text)) × (answer ≡ status 2)
-TellsUsage w w' e e' Memory answer = Tells w w' memory_line (status 5) answer × (e' ≡ e)
+TellsUsage w w' e e' Memory answer = Tells w w' memory_line memory_status answer × (e' ≡ e)

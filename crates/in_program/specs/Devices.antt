@@ -1,27 +1,10 @@
--- What a call did to a reader or a writer.
+-- What a call did to a reader, and to a writer: see `in_print`'s definitions of devices.
 use Rattle.std.specs.Prelude.{◌≡◌, ◌⊎◌, ℕ, ◌+◌, ◌<◌, ◌≤◌, Bool, IsTrue, List, length, take, Option, Result, Ok, Err}
 use Rattle.std.specs.Io.KnownBytes.{append_known}
 use Rattle.in_syntax.specs.Tokens.{text_limit}
+use Rattle.in_print.specs.Devices.{Device, device, Moves, Breaks, BreaksAt}
 use Rattle.in_program.specs.declared.reading.Input.{Input}
 use Rattle.in_program.specs.declared.reading.Input.TheVariants as input
-
--- a reader or a writer: the bytes that it moved so far, or nothing where it doesn't tell them, and how many of its calls failed
-pub record Device : Type 0 where
-  pub bytes : Option (List ℕ)
-  pub failures : ℕ
-
-abbrev pub device : Option (List ℕ) → ℕ → Device
-device bytes failures = record { bytes = bytes; failures = failures }
-
--- these bytes were moved, and no call failed
-pub record Moves (old new : Device) (bytes : List ℕ) : Type 0 where
-  pub moved : new.bytes ≡ append_known old.bytes bytes
-  pub sound : new.failures ≡ old.failures
-
--- these bytes were moved, and then a call failed
-pub record Breaks (old new : Device) (bytes : List ℕ) : Type 0 where
-  pub moved : new.bytes ≡ append_known old.bytes bytes
-  pub failed : new.failures ≡ old.failures + 1
 
 -- ---- a reader
 
@@ -56,10 +39,8 @@ pub record Fails (old new : Reader) (bytes : List ℕ) : Type 0 where
 -- ---- reading and writing
 
 -- a front of the bytes was moved, but not all, and then a call failed
-pub record BreaksWithin (old new : Device) (bytes : List ℕ) : Type 0 where
-  pub count : ℕ
-  pub short : count < length bytes
-  pub breaks : Breaks old new (take count bytes)
+abbrev pub BreaksWithin : Device → Device → List ℕ → Type 0
+BreaksWithin old new bytes = (count : ℕ) × BreaksAt old new bytes count
 
 -- the bytes are the text up to its end, or more of it than a text may have
 abbrev pub IsEnough : Bool → List ℕ → Type 0
@@ -70,8 +51,3 @@ abbrev pub IsInput : Reader → Reader → Input → Type 0
 IsInput old new (input.Text text) = Gives old new text.items × IsEnough new.ended text.items
 IsInput old new input.Failed = (bytes : List ℕ) × Fails old new bytes
 IsInput old new input.Memory = (bytes : List ℕ) × Gives old new bytes
-
--- all is written, or a front of it up to a failure
-abbrev pub WritesAll : Device → Device → List ℕ → Result (Unit {0}) (Unit {0}) → Type 0
-WritesAll old new bytes (Ok u) = Moves old new bytes
-WritesAll old new bytes (Err e) = BreaksWithin old new bytes

@@ -5,7 +5,11 @@ use Rattle.in_syntax.specs.declared.places.Place.{Place}
 use Rattle.in_syntax.specs.declared.faults.Code.{Code}
 use Rattle.in_syntax.specs.declared.faults.Code.TheVariants as code
 use Rattle.in_syntax.specs.declared.faults.Refusal.{Refusal}
+use Rattle.in_arena.specs.declared.content.CellClass.{CellClass}
+use Rattle.in_arena.specs.declared.content.CellClass.TheVariants.{Small, Large}
 use Rattle.in_check.specs.declared.checked.Counts.{Counts}
+use Rattle.in_run.specs.declared.stops.Stop.{Stop}
+use Rattle.in_run.specs.declared.stops.Stop.TheVariants.{Normal, Limit, Full}
 
 abbrev pub line_end : List ℕ
 line_end = line_feed ∷ []
@@ -50,3 +54,26 @@ refused_line text r =
 
 abbrev pub memory_line : List ℕ
 memory_line = codes "memory" ++ line_end
+
+-- ---- runs
+
+abbrev pub class_name : CellClass → List ℕ
+class_name Small = codes "small"
+class_name Large = codes "large"
+
+-- the cells of a class, how many are needed, and how many are free
+abbrev pub cells_text : CellClass → ℕ → ℕ → List ℕ
+cells_text c need free = class_name c ++ (codes " need " ++ (decimal need ++ (codes " free " ++ (decimal free ++ line_end))))
+
+abbrev pub stop_line : Stop → List ℕ
+stop_line Normal = codes "stop: normal" ++ line_end
+stop_line Limit = codes "stop: limit" ++ line_end
+stop_line (Full c need free) = codes "stop: full " ++ cells_text c need free
+
+-- the lines that follow the net: how many interactions there were, and how the run stopped
+abbrev pub run_lines : ℕ → Stop → List ℕ
+run_lines k s = codes "interactions: " ++ (decimal k ++ (line_end ++ stop_line s))
+
+-- the line of a net that doesn't fit
+abbrev pub start_line : CellClass → ℕ → ℕ → List ℕ
+start_line c need free = codes "start: full " ++ cells_text c need free

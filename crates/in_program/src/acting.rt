@@ -1,18 +1,24 @@
-ghost use Rattle.std.specs.Prelude.{◌≡◌, ◌-◌, ◌^◌, ◌<◌, IfOk};
-ghost use Rattle.in_program.specs.Acting.{Acts, IsReply, accepted_lines, Tells, TellsUsage};
-ghost use Rattle.in_program.specs.Devices.{device, reader_of};
+ghost use Rattle.std.specs.Prelude.{◌≡◌, ◌-◌, ◌^◌, ◌<◌, ◌++◌, IfOk, OnErr};
+ghost use Rattle.in_print.specs.Devices.{device};
+ghost use Rattle.in_print.specs.Texts.{text_of};
+ghost use Rattle.in_program.specs.Acting.{Acts, IsReply, Tells, TellsOne, TellsUsage, memory_status, AreFound, AreThese, stop_status};
+ghost use Rattle.in_program.specs.Devices.{reader_of};
+ghost use Rattle.in_program.specs.Lines.{memory_line, run_lines};
+ghost use Rattle.in_words.specs.declared.action.Action.TheVariants.{Run};
 
 use crate::lines::{accepted_line, refused_line};
 use crate::reading::{Input, read_text};
+use crate::runs::{run_lines, start_line};
 use crate::steps::derivation_lines;
-use crate::writing::write_all;
 use in_check::{Checked, check};
+use in_print::{PrintFault, write_all, write_net};
+use in_run::{Limits, Machine, Outcome, RunFault, StartFault, Stop, run};
 use in_syntax::{Fault, TextIn, TextOut};
 use in_words::{Action, Usage};
 use std::alloc::{AllocError, Global};
 
-/// The exit status of the program. The numbers are this project's own choice: 0 accepted or help, 1 refused, 2 wrong words,
-/// 5 want of memory, 6 a read or a write that failed.
+/// The exit status of the program. The numbers are this project's own choice: 0 accepted, run to its end, or help; 1 refused; 2 wrong
+/// words; 3 a run that stopped at its limit; 4 cells that were too few; 5 want of memory; 6 a read or a write that failed.
 #[derive(Clone, Copy, Debug, PartialEq, Eq)]
 pub struct Status(pub u8);
 
@@ -22,43 +28,23 @@ const REFUSED: Status = Status(1);
 
 const WRONG_WORDS: Status = Status(2);
 
+const LIMIT: Status = Status(3);
+
+const FULL: Status = Status(4);
+
 const MEMORY: Status = Status(5);
 
 const FAULT: Status = Status(6);
 
 const MEMORY_LINE: &[u8] = b"memory\n";
 
-/// The lines that answer a text, and the status.
-#[derive(Drop)]
-struct Reply {
-    lines: Vec<u8>,
-    status: Status,
-}
-
-/// The lines on an accepted program.
-fn accepted_lines(alloc: Global, action: &Action, checked: &Checked) -> Result<Vec<u8>, AllocError>
-    ensures { IfOk result (λ lines. lines.items ≡ accepted_lines action.now checked.now) }
+fn stop_status(stop: Stop) -> Status
+    ensures { result ≡ stop_status stop }
 {
-    match action {
-        Action::Check => accepted_line(alloc, checked.counts()),
-        Action::Derive => derivation_lines(alloc, checked),
-    }
-}
-
-/// The answer to a text.
-fn reply_to(alloc: Global, action: &Action, text: &[u8]) -> Result<Reply, AllocError>
-    ensures { IfOk result (λ reply. IsReply action.now text.now reply.lines.items reply.status) }
-{
-    match check(alloc, text) {
-        Ok(checked) => Ok(Reply {
-            lines: accepted_lines(alloc, action, &checked)?,
-            status: ACCEPTED,
-        }),
-        Err(Fault::Refused(refusal)) => Ok(Reply {
-            lines: refused_line(alloc, text, refusal)?,
-            status: REFUSED,
-        }),
-        Err(Fault::Memory(error)) => Err(error),
+    match stop {
+        Stop::Normal => ACCEPTED,
+        Stop::Limit => LIMIT,
+        Stop::Full { .. } => FULL,
     }
 }
 
@@ -69,13 +55,111 @@ fn tell<W: TextOut>(writer: &mut W, text: &[u8], status: Status) -> Status
 {
     match write_all(writer, text) {
         Ok(()) => status,
-        Err(()) => FAULT,
+        Err(_) => FAULT,
+    }
+}
+
+/// Writes lines, where they could be had.
+fn tell_lines<W: TextOut>(
+    writer: &mut W,
+    lines: Result<Vec<u8>, AllocError>,
+    status: Status,
+) -> Status
+    requires { W.failures writer.old < 2 ^ 64 - 1 }
+    ensures ok { IfOk lines (λ v. Tells (device (W.taken writer.old) (W.failures writer.old)) (device (W.taken writer.new) (W.failures writer.new)) v.items status result) }
+    ensures err { OnErr lines (Tells (device (W.taken writer.old) (W.failures writer.old)) (device (W.taken writer.new) (W.failures writer.new)) memory_line memory_status result) }
+{
+    match lines {
+        Ok(lines) => tell(writer, lines.as_slice(), status),
+        Err(_) => tell(writer, MEMORY_LINE, MEMORY),
+    }
+}
+
+/// Writes a machine's net, and then these lines.
+fn tell_net<W: TextOut>(
+    alloc: Global,
+    writer: &mut W,
+    machine: &Machine,
+    lines: &[u8],
+    status: Status,
+) -> Status
+    requires { W.failures writer.old < 2 ^ 64 - 1 }
+    ensures { TellsOne (AreThese (text_of machine.now ++ lines.now) status) (device (W.taken writer.old) (W.failures writer.old)) (device (W.taken writer.new) (W.failures writer.new)) result }
+{
+    match write_net(alloc, machine, writer) {
+        Ok(_) => tell(writer, lines, status),
+        Err(PrintFault::Memory) => tell(writer, MEMORY_LINE, MEMORY),
+        Err(PrintFault::Write { .. }) => FAULT,
+    }
+}
+
+/// Writes what a run came to.
+fn tell_outcome<W: TextOut>(alloc: Global, writer: &mut W, outcome: &Outcome) -> Status
+    requires { W.failures writer.old < 2 ^ 64 - 1 }
+    ensures { TellsOne (AreThese (text_of outcome.now.machine ++ run_lines outcome.now.interactions outcome.now.stop) (stop_status outcome.now.stop))
+        (device (W.taken writer.old) (W.failures writer.old)) (device (W.taken writer.new) (W.failures writer.new)) result }
+{
+    match run_lines(alloc, outcome.interactions, outcome.stop) {
+        Ok(lines) => tell_net(
+            alloc,
+            writer,
+            &outcome.machine,
+            lines.as_slice(),
+            stop_status(outcome.stop),
+        ),
+        Err(_) => tell(writer, MEMORY_LINE, MEMORY),
+    }
+}
+
+/// Runs an accepted program, and writes what its run came to, or that its net doesn't fit.
+fn tell_run<W: TextOut>(alloc: Global, writer: &mut W, checked: &Checked, limits: Limits) -> Status
+    requires { W.failures writer.old < 2 ^ 64 - 1 }
+    ensures { TellsOne (AreFound (Run limits) checked.now) (device (W.taken writer.old) (W.failures writer.old)) (device (W.taken writer.new) (W.failures writer.new)) result }
+{
+    match run(alloc, checked, limits) {
+        Ok(outcome) => tell_outcome(alloc, writer, &outcome),
+        Err(RunFault::Start(StartFault::Full { class, need, free })) => {
+            tell_lines(writer, start_line(alloc, class, need, free), FULL)
+        }
+        Err(_) => tell(writer, MEMORY_LINE, MEMORY),
+    }
+}
+
+/// Writes what is found of an accepted program.
+fn tell_found<W: TextOut>(
+    alloc: Global,
+    writer: &mut W,
+    action: &Action,
+    checked: &Checked,
+) -> Status
+    requires { W.failures writer.old < 2 ^ 64 - 1 }
+    ensures { TellsOne (AreFound action.now checked.now) (device (W.taken writer.old) (W.failures writer.old)) (device (W.taken writer.new) (W.failures writer.new)) result }
+{
+    match action {
+        Action::Check => tell_lines(writer, accepted_line(alloc, checked.counts()), ACCEPTED),
+        Action::Derive => tell_lines(writer, derivation_lines(alloc, checked), ACCEPTED),
+        Action::Run(limits) => tell_run(alloc, writer, checked, *limits),
+    }
+}
+
+/// Writes the answer to a text.
+fn tell_reply<W: TextOut>(alloc: Global, writer: &mut W, action: &Action, text: &[u8]) -> Status
+    requires { W.failures writer.old < 2 ^ 64 - 1 }
+    ensures { TellsOne (IsReply action.now text.now) (device (W.taken writer.old) (W.failures writer.old)) (device (W.taken writer.new) (W.failures writer.new)) result }
+{
+    match check(alloc, text) {
+        Ok(checked) => tell_found(alloc, writer, action, &checked),
+        Err(Fault::Refused(refusal)) => {
+            tell_lines(writer, refused_line(alloc, text, refusal), REFUSED)
+        }
+        Err(Fault::Memory(_)) => tell(writer, MEMORY_LINE, MEMORY),
     }
 }
 
 /// Does what the words ask for: reads a program's text, writes the lines on it, and answers the status. For `check` of an accepted
 /// program they are one line that counts what it has, for `derive` the steps that build its rules and its net; of a refused one they
-/// are the line of the refusal. Where memory is wanted they are the line `memory` alone. It makes at most 1,048,577 reads, each of
+/// are the line of the refusal. For `run` they are the net that the run reaches, the count of its interactions and how it stopped, or the
+/// line of a net that doesn't fit the cells. Where memory is wanted they are the line `memory` alone. It makes at most 1,048,577 reads, each of
 /// which but the last brings a byte at least.
 pub fn act<R: TextIn, W: TextOut>(
     alloc: Global,
@@ -88,10 +172,7 @@ pub fn act<R: TextIn, W: TextOut>(
     ensures { Acts action.now (reader_of (R.given reader.old) (R.failures reader.old) (R.reads reader.old) (R.ended reader.old)) (reader_of (R.given reader.new) (R.failures reader.new) (R.reads reader.new) (R.ended reader.new)) (device (W.taken writer.old) (W.failures writer.old)) (device (W.taken writer.new) (W.failures writer.new)) result }
 {
     match read_text(alloc, reader) {
-        Input::Text(text) => match reply_to(alloc, action, text.as_slice()) {
-            Ok(reply) => tell(writer, reply.lines.as_slice(), reply.status),
-            Err(_) => tell(writer, MEMORY_LINE, MEMORY),
-        },
+        Input::Text(text) => tell_reply(alloc, writer, action, text.as_slice()),
         Input::Memory => tell(writer, MEMORY_LINE, MEMORY),
         Input::Failed => FAULT,
     }

@@ -5,7 +5,7 @@ mod acting;
 pub mod laws;
 mod lines;
 mod reading;
+mod runs;
 mod steps;
-mod writing;
 
 pub use acting::{Status, act, tell_usage};

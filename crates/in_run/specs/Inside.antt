@@ -1,6 +1,6 @@
 -- What a machine keeps of its fields: its net is listed too, and its queue has room for all active pairs that fit its cells. Words of its
 -- inner contracts.
-use Rattle.std.specs.Prelude.{◌≡◌, ◌≤◌, ◌<◌, ◌^◌, length, ◌+◌, ℕ, cond, List, Option}
+use Rattle.std.specs.Prelude.{◌<◌, ◌^◌, length, ◌≡◌, ◌≤◌, ◌+◌, ℕ, cond, List, Option}
 use Rattle.in_arena.specs.declared.content.CellClass.{CellClass}
 use Rattle.in_arena.specs.declared.content.CellClass.TheVariants.{Small, Large}
 use Rattle.in_symbols.specs.Tables.{Tables}

@@ -2,8 +2,15 @@
 #![tactic(auto)]
 
 mod cells;
+mod limits;
 mod looking;
 mod machine;
+mod running;
+mod stops;
 
+pub use cells::Need;
 pub use in_arena::{CellClass, CellNo, End};
+pub use limits::{LEAST_CELLS, Limits, MOST_CELLS, MOST_INTERACTIONS};
 pub use machine::Machine;
+pub use running::{Outcome, RunFault, run};
+pub use stops::{StartFault, Stop};

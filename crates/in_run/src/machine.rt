@@ -1,4 +1,4 @@
-// A machine, and how it starts.
+// A machine (stand-in).
 use in_check::{Checked, Plain};
 use std::collections::VecDeque;
 use std::marker::Model;
@@ -38,4 +38,3 @@ impl<'a> Model for Machine<'a> {
       large = m.large;
     }) m.plain (deque_capacity m.queue) };
 }
-

@@ -1,5 +1,6 @@
-use clap::Command;
 use clap::error::ErrorKind;
+use clap::{Arg, ArgAction, ArgMatches, Command, value_parser};
+use in_run::Limits;
 use std::alloc::{AllocError, Global};
 use thiserror::Error;
 
@@ -10,6 +11,8 @@ pub enum Action {
     Check,
     /// Says by which steps the rules and the net of an accepted program are built.
     Derive,
+    /// Reduces the net of an accepted program within these limits, and prints it.
+    Run(Limits),
 }
 
 /// Why the words name no action.
@@ -32,6 +35,29 @@ impl From<AllocError> for Usage {
     }
 }
 
+/// `run` with its options: how many interactions at most, 1,000,000 where it isn't said, and how many cells of each class, 65,536 where
+/// it isn't said. The bounds are those of `Limits`.
+fn run_command<'a>(alloc: Global) -> Result<Command<'a>, AllocError> {
+    let limit = Arg::new(alloc, "limit")
+        .long("limit")
+        .value_name("N")
+        .help("The most interactions, 0 to 1000000000000")
+        .action(ArgAction::Set)
+        .value_parser(value_parser!(u64).range(0..=1_000_000_000_000))
+        .default_value("1000000");
+    let cells = Arg::new(alloc, "cells")
+        .long("cells")
+        .value_name("N")
+        .help("The cells for agents of each size, 16 to 1048576")
+        .action(ArgAction::Set)
+        .value_parser(value_parser!(u64).range(16..=1_048_576))
+        .default_value("65536");
+    Command::new(alloc, "run")
+        .about("Reduces the net of the program on standard input, and prints it")
+        .arg(limit)?
+        .arg(cells)
+}
+
 fn command<'a>(alloc: Global) -> Result<Command<'a>, AllocError> {
     let check = Command::new(alloc, "check").about(
         "Says whether the program on standard input is accepted",
@@ -40,10 +66,11 @@ fn command<'a>(alloc: Global) -> Result<Command<'a>, AllocError> {
         "Prints the steps that build the rules and the net of the program on standard input",
     );
     Command::new(alloc, "inet")
-        .about("Checks programs of interaction nets")
+        .about("Checks and runs programs of interaction nets")
         .subcommand_required(true)
         .subcommand(check)?
-        .subcommand(derive)
+        .subcommand(derive)?
+        .subcommand(run_command(alloc)?)
 }
 
 fn usage_of(alloc: Global, error: clap::Error) -> Usage {
@@ -65,9 +92,20 @@ fn wrong(alloc: Global) -> Usage {
     }
 }
 
+/// The limits of a run, nothing where they are no numbers within their bounds.
+fn limits_of(matches: &ArgMatches) -> Option<Limits> {
+    let limit = matches.get_one::<u64>("limit")?;
+    let cells = matches.get_one::<u64>("cells")?;
+    match u32::try_from(cells) {
+        Ok(cells) => Limits::new(limit, cells),
+        Err(_) => None,
+    }
+}
+
 /// What the words ask for; the first is the program's name.
 ///
-/// Refused as `Wrong` with the text of `clap` where they name no command or have more than one needs, as `Help` with its
+/// Refused as `Wrong` with the text of `clap` where they name no command, have more than one needs, or give a number that
+/// is out of range, as `Help` with its
 /// text where `-h`, `--help` or `help` stands, and for want of memory.
 pub fn action_of(alloc: Global, words: &[&str]) -> Result<Action, Usage> {
     let command = command(alloc)?;
@@ -78,6 +116,10 @@ pub fn action_of(alloc: Global, words: &[&str]) -> Result<Action, Usage> {
     match matches.subcommand() {
         Some(("check", _)) => Ok(Action::Check),
         Some(("derive", _)) => Ok(Action::Derive),
+        Some(("run", options)) => match limits_of(options) {
+            Some(limits) => Ok(Action::Run(limits)),
+            None => Err(wrong(alloc)),
+        },
         _ => Err(wrong(alloc)),
     }
 }

@@ -3,15 +3,11 @@ use Rattle.in_program.specs.Acting.{unread}
 use Rattle.in_program.proofs.Told.{tells_reply, wants_memory}
 use Rattle.in_program.proofs.acting.act.Goals as goal
 
-pub returns-in-Ok : goal.returns-in-Ok
-returns-in-Ok g c = tells_reply c.args.action.now _ _ _ _ c.in-Text.text.items c.in-Ok.reply.lines.items _ _ c.in-Ok.reply.status _
-    c.as_slice.ensures.value c.as_slice-in-Ok.ensures.value c.in-Text.ensures c.in-Ok.ensures c.tell.ensures
-
 pub returns-in-Text : goal.returns-in-Text
-returns-in-Text g c = wants_memory c.args.action.now _ _ _ _ c.in-Text.text.items _ c.in-Text.ensures.0 c.tell-in-Err.ensures
+returns-in-Text g c = tells_reply c.args.action.now _ _ _ _ c.in-Text.text.items _ _ c.as_slice.ensures.value c.in-Text.ensures c.tell_reply.ensures
 
 pub returns-in-Memory : goal.returns-in-Memory
-returns-in-Memory g c = let read = c.in-Memory.ensures {u = tt} in wants_memory c.args.action.now _ _ _ _ read.0 _ read.1 c.tell-in-Memory.ensures
+returns-in-Memory g c = let read = c.in-Memory.ensures {u = tt} in wants_memory c.args.action.now _ _ _ _ read.0 _ read.1 c.tell.ensures
 
-pub returns : goal.returns
-returns g c = let read = c.in-Failed.ensures {u = tt} in unread read.0 read.1 refl refl
+pub returns-in-Failed : goal.returns-in-Failed
+returns-in-Failed g c = let read = c.in-Failed.ensures {u = tt} in unread read.0 read.1 refl refl

@@ -1,6 +1,7 @@
 use Rattle.std.proofs.Common.{◌++◌, take, length-append, ap, ◌∙◌, arith}
 use Rattle.std.specs.Io.KnownBytes.{append_known}
-use Rattle.in_program.proofs.Known.{append_known-twice, counted}
+use Rattle.in_print.proofs.Fronts.{append_known-twice}
+use Rattle.in_program.proofs.Known.{counted}
 use Rattle.in_program.proofs.reading.read_text.Goals as goal
 
 pub returns-then-is_err : goal.returns-then-is_err

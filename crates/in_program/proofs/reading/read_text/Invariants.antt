@@ -1,6 +1,6 @@
 use Rattle.std.proofs.Common.{◌≡◌, ◌≤◌, ◌+◌, length}
 use Rattle.in_syntax.specs.Tokens.{text_limit}
-use Rattle.in_program.specs.Devices.{device, Moves}
+use Rattle.in_print.specs.Devices.{device, Moves}
 use Rattle.in_program.proofs.reading.read_text.Given as goal
 
 abbrev pub invariant-loop-turn : goal.invariant-loop-turn
