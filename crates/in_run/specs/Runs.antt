@@ -1,0 +1,112 @@
+-- One interaction of a machine, runs of them, first in, first out, and how a run stops. Lafont 1990: an interaction replaces an active pair
+-- by the right member of its rule. Which pair comes first, cells and stops are this project's own choice.
+use Rattle.std.specs.Prelude.{◌≡◌, ◌≢◌, ◌<◌, ◌≤◌, ◌+◌, ℕ, zero, suc, List, [], ◌++◌, length, map, Some, slice_get, remove, Result, Ok, Err}
+use Rattle.in_arena.specs.declared.content.CellClass.{CellClass}
+use Rattle.in_arena.specs.declared.content.CellClass.TheVariants.{Small, Large}
+use Rattle.in_net.specs.declared.nets.AgentNo.{AgentNo}
+use Rattle.in_net.specs.declared.nets.Point.TheVariants.{Port}
+use Rattle.in_net.specs.Parts.{Parts, IsWireBetween}
+use Rattle.in_net.specs.Rules.{RuleParts}
+use Rattle.in_check.specs.Plain.{IsRuleAt, StepsTo}
+use Rattle.in_check.specs.Programs.{Program}
+use Rattle.in_run.specs.declared.cells.Need.{Need}
+use Rattle.in_run.specs.declared.stops.Stop.{Stop}
+use Rattle.in_run.specs.declared.stops.Stop.TheVariants.{Normal, Limit, Full}
+use Rattle.in_run.specs.declared.stops.StartFault.{StartFault}
+use Rattle.in_run.specs.declared.stops.StartFault.TheVariants as start
+use Rattle.in_run.specs.Inside.{IsNeedOf}
+use Rattle.in_run.specs.Machines.{MachineParts, parts_of, plain_of, agents_at, numbers_of, agents_of, free_of, HasCells, IsQueueOf}
+use Rattle.in_run.specs.Made.{AreMade}
+
+-- ---- one interaction
+
+-- the interaction of the pair of that number, as `Plain` has it: the pair leaves the queue, and the new pairs come last, by the lowest
+-- boundary ends on their paths. Of each class there are as many cells after as before
+pub record StepsAt (m : MachineParts) (i : ℕ) (after : MachineParts) : Type 0 where
+  pub pair : ℕ × ℕ
+  pub stands : slice_get m.queue i ≡ Some pair
+  pub step : StepsTo (plain_of m) (agents_at pair).0 (agents_at pair).1 (plain_of after)
+  pub made : List (AgentNo × AgentNo)
+  pub new : AreMade m.program.tables (parts_of m) step.rule (agents_at pair).0 (agents_at pair).1 made
+  pub queue : after.queue ≡ remove m.queue i ++ map numbers_of made
+  pub cells : (c : CellClass) → free_of after c + agents_of m.program.tables c after.agents ≡ free_of m c + agents_of m.program.tables c m.agents
+
+-- ---- what the next interaction needs
+
+-- the agents of each class in the right member of the rule of that pair, which have to be free while the pair still stands
+pub record NeedsAt (m : MachineParts) (i : ℕ) (need : Need) : Type 0 where
+  pub pair : ℕ × ℕ
+  pub stands : slice_get m.queue i ≡ Some pair
+  pub number : ℕ
+  pub rule : RuleParts
+  pub is_rule : IsRuleAt (plain_of m) (agents_at pair).0 (agents_at pair).1 number rule
+  pub is_need : IsNeedOf m.program.tables rule.member.cells need
+
+-- what that pair needs is free
+abbrev pub HasRoomAt : MachineParts → ℕ → Type 0
+HasRoomAt m i = (need : Need) × NeedsAt m i need × (need.small ≤ m.small) × (need.large ≤ m.large)
+
+-- that pair needs more cells of a class than are free; of large ones only where the small ones suffice
+abbrev pub IsShortAt : MachineParts → ℕ → CellClass → ℕ → ℕ → Type 0
+IsShortAt m i Small need free = (n : Need) × NeedsAt m i n × (need ≡ n.small) × (free ≡ m.small) × (free < need)
+IsShortAt m i Large need free = (n : Need) × NeedsAt m i n × (need ≡ n.large) × (free ≡ m.large) × (free < need) × (n.small ≤ m.small)
+
+-- ---- a start
+
+-- the wire of that number joins the principal ports of the two
+abbrev pub JoinsPair : Parts → ℕ → ℕ × ℕ → Type 0
+JoinsPair n w q = IsWireBetween n w (Port (agents_at q).0 0) (Port (agents_at q).1 0)
+
+-- the wire of that number joins the principal ports of no two agents
+abbrev pub IsNoPair : Parts → ℕ → Type 0
+IsNoPair n w = (q : ℕ × ℕ) → JoinsPair n w q → ⊥
+
+-- these pairs stand in the order of their wires. (The wires of a net as built stand in the order of their places.)
+abbrev pub AreInOrder : Parts → List (ℕ × ℕ) → Type 0
+AreInOrder n queue = (j k v w : ℕ) (p q : ℕ × ℕ) → j < k → slice_get queue j ≡ Some p → slice_get queue k ≡ Some q → JoinsPair n v p → JoinsPair n w q → v < w
+
+-- a machine with so many cells of each class that shows the program's net, its active pairs in the order of their wires
+pub record IsStart (p : Program) (cells : ℕ) (m : MachineParts) : Type 0 where
+  pub program : m.program ≡ p
+  pub agents : m.agents ≡ p.net.cells
+  pub free : m.free ≡ p.net.free
+  pub queue : IsQueueOf p.tables (parts_of m) m.queue
+  pub order : AreInOrder p.net m.queue
+  pub counted : HasCells cells m
+
+-- the program's net has more agents of a class than cells; of large ones only where the small ones fit
+abbrev pub DoesNotFit : Program → ℕ → CellClass → ℕ → ℕ → Type 0
+DoesNotFit p cells Small need free = (need ≡ agents_of p.tables Small p.net.cells) × (free ≡ cells) × (free < need)
+DoesNotFit p cells Large need free = (need ≡ agents_of p.tables Large p.net.cells) × (free ≡ cells) × (free < need) × (agents_of p.tables Small p.net.cells ≤ cells)
+
+abbrev pub IsNoStart : Program → ℕ → StartFault → Type 0
+IsNoStart p cells (start.Full c need free) = DoesNotFit p cells c need free
+IsNoStart p cells (start.Memory e) = Unit {0}
+
+abbrev pub Starts : Program → ℕ → Result MachineParts StartFault → Type 0
+Starts p cells (Ok m) = IsStart p cells m
+Starts p cells (Err f) = IsNoStart p cells f
+
+-- ---- runs
+
+-- so many interactions, each at the first pair: first in, first out
+pub data Runs : MachineParts → ℕ → MachineParts → Type 0 where
+  at_start : (m : MachineParts) → Runs m zero m
+  then_step : (m n o : MachineParts) (k : ℕ) → Runs m k n → StepsAt n 0 o → Runs m (suc k) o
+
+-- no pair is left; or as many interactions were done as are allowed; or the first pair needs more cells than are free. Where one of them
+-- stands, no earlier one does
+abbrev pub IsStop : ℕ → MachineParts → ℕ → Stop → Type 0
+IsStop limit m k Normal = m.queue ≡ []
+IsStop limit m k Limit = (m.queue ≢ []) × (k ≡ limit)
+IsStop limit m k (Full c need free) = (m.queue ≢ []) × (k < limit) × IsShortAt m 0 c need free
+
+-- none of them stands
+abbrev pub GoesOn : ℕ → MachineParts → ℕ → Type 0
+GoesOn limit m k = (0 < length m.queue) × (k < limit) × HasRoomAt m 0
+
+-- what a run from this machine within so many interactions comes to
+pub record IsOutcome (start : MachineParts) (limit : ℕ) (m : MachineParts) (k : ℕ) (s : Stop) : Type 0 where
+  pub run : Runs start k m
+  pub within : k ≤ limit
+  pub stop : IsStop limit m k s

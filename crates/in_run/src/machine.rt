@@ -1,0 +1,134 @@
+// A machine, and how it starts.
+ghost use Rattle.std.specs.Prelude.{◌≡◌, ◌<◌, ◌≤◌, length, IfOk, MatchOption};
+ghost use Rattle.std.specs.VecDeque.{deque_capacity};
+ghost use Rattle.in_net.specs.ActivePairs.{IsActivePair};
+ghost use Rattle.in_run.specs.Limiting.{least_cells, most_cells};
+ghost use Rattle.in_run.specs.Machines.{agents_at, IsQueueOf};
+ghost use Rattle.in_run.specs.Runs.{AreInOrder, IsNoPair, JoinsPair, Starts};
+
+use crate::cells::agents_of;
+use crate::making::is_accepted;
+use crate::stops::StartFault;
+use in_arena::CellClass;
+use in_check::{Checked, Plain};
+use in_net::Point;
+use std::alloc::{AllocError, Global};
+use std::collections::VecDeque;
+use std::marker::Model;
+
+/// A net on its way over a number of cells: its active pairs are in a queue, and for each class of agents so many cells are free.
+#[derive(Drop)]
+pub struct Machine<'a> {
+    pub(crate) checked: &'a Checked,
+    pub(crate) plain: Plain<'a>,
+    pub(crate) queue: VecDeque<(u32, u32)>,
+    pub(crate) small: u32,
+    pub(crate) large: u32,
+}
+
+impl<'a> Model for Machine<'a> {
+    ghost use Rattle.std.specs.VecDeque.{deque_capacity};
+    ghost use Rattle.in_run.specs.Machines.{MachineParts};
+    ghost use Rattle.in_run.specs.Inside.{IsKept};
+
+    ghost Value = { MachineParts };
+
+    ghost view = { λ m. record {
+      program = m.checked.now;
+      agents = m.plain.net.cells;
+      free = m.plain.net.free;
+      queue = m.queue.items;
+      small = m.small;
+      large = m.large;
+    } };
+
+    ghost invariant = { λ m. IsKept (record {
+      program = m.checked.now;
+      agents = m.plain.net.cells;
+      free = m.plain.net.free;
+      queue = m.queue.items;
+      small = m.small;
+      large = m.large;
+    }) m.plain (deque_capacity m.queue) };
+}
+
+/// The two agents of a wire that is an active pair of the program's net, the constructor first.
+fn pair_of(checked: &Checked, wire: u32) -> Option<(u32, u32)>
+    requires { wire < length checked.now.net.wires }
+    ensures { MatchOption result (IsNoPair checked.now.net wire) (λ q. IsActivePair checked.now.tables checked.now.net (agents_at q) × JoinsPair checked.now.net wire q) }
+{
+    is_accepted(checked);
+    let net = checked.net();
+    let (Point::Port(a, 0), Point::Port(b, 0)) = net.wire(wire) else {
+        return None;
+    };
+    let (Some(first), Some(_)) = (net.symbol(a), net.symbol(b)) else {
+        unreachable!()
+    };
+    if checked.symbols().is_constructor(first) {
+        Some((a.0, b.0))
+    } else {
+        Some((b.0, a.0))
+    }
+}
+
+/// The active pairs of the program's net, in the order of their wires, in a queue with at least this much room.
+fn first_queue(
+    alloc: Global,
+    checked: &Checked,
+    room: usize,
+) -> Result<VecDeque<(u32, u32)>, AllocError>
+    ensures room { IfOk result (λ q. room ≤ deque_capacity q) }
+    ensures pairs { IfOk result (λ q. IsQueueOf checked.now.tables checked.now.net q.items) }
+    ensures order { IfOk result (λ q. AreInOrder checked.now.net q.items) }
+{
+    checked.net().agents();
+    let mut pairs = Vec::with_capacity(alloc, room)?;
+    for wire in 0..checked.net().wires() {
+        if let Some(pair) = pair_of(checked, wire) {
+            pairs.push(pair)?;
+        }
+    }
+    Ok(VecDeque::from_vec(pairs))
+}
+
+impl<'a> Machine<'a> {
+    /// A machine with so many cells of each class, at the program's net. Its pairs are queued in the order of the places of their wires,
+    /// which is this project's own choice, as are the sizes of cells.
+    ///
+    /// Refused `Full` where the net has more agents of a class than cells, small ones tested first, or for want of memory. No other call
+    /// but `step` takes memory.
+    pub fn new(alloc: Global, checked: &'a Checked, cells: u32) -> Result<Machine<'a>, StartFault>
+        requires least { least_cells ≤ cells }
+        requires most { cells ≤ most_cells }
+        ensures { Starts checked.now cells result }
+    {
+        is_accepted(checked);
+        let (symbols, net) = (checked.symbols(), checked.net());
+        let small = agents_of(symbols, net, CellClass::Small);
+        if cells < small {
+            return Err(StartFault::Full {
+                class: CellClass::Small,
+                need: small,
+                free: cells,
+            });
+        }
+        let large = agents_of(symbols, net, CellClass::Large);
+        if cells < large {
+            return Err(StartFault::Full {
+                class: CellClass::Large,
+                need: large,
+                free: cells,
+            });
+        }
+        let queue = first_queue(alloc, checked, cells as usize)?;
+        let plain = Plain::new(alloc, checked)?;
+        Ok(Machine {
+            checked,
+            plain,
+            queue,
+            small: cells - small,
+            large: cells - large,
+        })
+    }
+}

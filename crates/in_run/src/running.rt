@@ -1,0 +1,96 @@
+// A run: first in, first out.
+ghost use Rattle.in_run.specs.Outcomes.{RunsTo};
+
+use crate::limits::Limits;
+use crate::machine::Machine;
+use crate::stops::{StartFault, Stop};
+use in_arena::CellClass;
+use in_check::Checked;
+use std::alloc::Global;
+
+/// What a run came to: its machine, how many interactions it did, and how it stopped.
+#[derive(Drop)]
+pub struct Outcome<'a> {
+    pub machine: Machine<'a>,
+    pub interactions: u64,
+    pub stop: Stop,
+}
+
+/// Why a run has no outcome: there is no machine, or memory was wanted after so many interactions, and then the machine stands there.
+#[derive(Drop)]
+pub enum RunFault<'a> {
+    Start(StartFault),
+    Memory {
+        machine: Machine<'a>,
+        interactions: u64,
+    },
+}
+
+impl<'a> Machine<'a> {
+    ghost use Rattle.std.specs.Prelude.{◌<◌, ◌≤◌, length, MatchOption};
+    ghost use Rattle.in_run.specs.Runs.{HasRoomAt, IsStop, GoesOn};
+
+    /// Why no interaction of the first pair is next, after so many interactions.
+    fn stop(&self, limit: u64, interactions: u64) -> Option<Stop>
+        requires { interactions ≤ limit }
+        ensures { MatchOption result (GoesOn limit self.now interactions) (IsStop limit self.now interactions) }
+    {
+        if self.pairs() == 0 {
+            return Some(Stop::Normal);
+        }
+        if interactions == limit {
+            return Some(Stop::Limit);
+        }
+        let need = self.need_of(0);
+        if self.free(CellClass::Small) < need.small {
+            return Some(Stop::Full {
+                class: CellClass::Small,
+                need: need.small,
+                free: self.free(CellClass::Small),
+            });
+        }
+        if self.free(CellClass::Large) < need.large {
+            return Some(Stop::Full {
+                class: CellClass::Large,
+                need: need.large,
+                free: self.free(CellClass::Large),
+            });
+        }
+        None
+    }
+}
+
+/// Runs a program, first in, first out: each interaction is at the first pair of the queue, and its new pairs come last.
+///
+/// Before each interaction, in this order: where no pair is left the run stops as `Normal`; where it did as many interactions as are
+/// allowed, as `Limit`; where the first pair needs more cells of a class than are free, small ones tested first, as `Full`. Refused where no
+/// machine starts, and for want of memory, and then the machine stands at the interactions counted so far.
+pub fn run<'a>(
+    alloc: Global,
+    checked: &'a Checked,
+    limits: Limits,
+) -> Result<Outcome<'a>, RunFault<'a>>
+    ensures { RunsTo checked.now limits result }
+{
+    let mut machine = match Machine::new(alloc, checked, limits.cells()) {
+        Ok(machine) => machine,
+        Err(fault) => return Err(RunFault::Start(fault)),
+    };
+    let mut interactions = 0;
+    loop {
+        if let Some(stop) = machine.stop(limits.limit(), interactions) {
+            return Ok(Outcome {
+                machine,
+                interactions,
+                stop,
+            });
+        }
+        if machine.step(alloc, 0).is_err() {
+            return Err(RunFault::Memory {
+                machine,
+                interactions,
+            });
+        }
+        interactions += 1;
+    }
+}
