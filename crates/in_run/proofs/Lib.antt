@@ -1,0 +1,6 @@
+pub mod Accepted
+pub mod Apart
+pub mod Counting
+pub mod FirstQueue
+pub mod Ordered
+pub mod Unlisted

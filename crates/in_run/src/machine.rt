@@ -1,6 +1,8 @@
 // A machine, and how it starts.
-ghost use Rattle.std.specs.Prelude.{◌≡◌, ◌<◌, ◌≤◌, length, IfOk, MatchOption};
+ghost use Rattle.std.specs.Prelude.{◌≡◌, ◌≢◌, ◌<◌, ◌≤◌, length, IfOk, MatchOption};
 ghost use Rattle.std.specs.VecDeque.{deque_capacity};
+ghost use Rattle.in_net.specs.declared.nets.AgentNo.{AgentNo};
+ghost use Rattle.in_net.specs.declared.nets.Point.TheVariants.{Port};
 ghost use Rattle.in_net.specs.ActivePairs.{IsActivePair};
 ghost use Rattle.in_run.specs.Limiting.{least_cells, most_cells};
 ghost use Rattle.in_run.specs.Machines.{agents_at, IsQueueOf};
@@ -11,7 +13,7 @@ use crate::making::is_accepted;
 use crate::stops::StartFault;
 use in_arena::CellClass;
 use in_check::{Checked, Plain};
-use in_net::Point;
+use in_net::{AgentNo, Point};
 use std::alloc::{AllocError, Global};
 use std::collections::VecDeque;
 use std::marker::Model;
@@ -52,6 +54,22 @@ impl<'a> Model for Machine<'a> {
     }) m.plain (deque_capacity m.queue) };
 }
 
+/// The agent whose principal port this is.
+fn principal(point: Point) -> Option<AgentNo>
+    ensures { MatchOption result ((x : AgentNo) → point ≢ Port x 0) (λ x. point ≡ Port x 0) }
+{
+    match point {
+        Point::Port(agent, place) => {
+            if place == 0 {
+                Some(agent)
+            } else {
+                None
+            }
+        }
+        Point::Free(_) => None,
+    }
+}
+
 /// The two agents of a wire that is an active pair of the program's net, the constructor first.
 fn pair_of(checked: &Checked, wire: u32) -> Option<(u32, u32)>
     requires { wire < length checked.now.net.wires }
@@ -59,7 +77,8 @@ fn pair_of(checked: &Checked, wire: u32) -> Option<(u32, u32)>
 {
     is_accepted(checked);
     let net = checked.net();
-    let (Point::Port(a, 0), Point::Port(b, 0)) = net.wire(wire) else {
+    let (one, other) = net.wire(wire);
+    let (Some(a), Some(b)) = (principal(one), principal(other)) else {
         return None;
     };
     let (Some(first), Some(_)) = (net.symbol(a), net.symbol(b)) else {

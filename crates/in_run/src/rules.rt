@@ -29,7 +29,8 @@ pub(crate) fn need_of(checked: &Checked, rule: &Rule) -> Need
     ensures { IsNeedOf checked.now.tables rule.now.member.cells result }
 {
     is_accepted(checked);
-    let (symbols, member) = (checked.symbols(), rule.member());
+    let symbols = checked.symbols();
+    let member = rule.member();
     Need {
         small: agents_of(symbols, member, CellClass::Small),
         large: agents_of(symbols, member, CellClass::Large),
@@ -48,5 +49,6 @@ pub(crate) fn free_after(checked: &Checked, rule: &Rule, class: CellClass, free:
     let (first, second) = rule.heads();
     let one = is_of(symbols, class, first) as u32;
     let two = is_of(symbols, class, second) as u32;
-    free + one + two - agents_of(symbols, rule.member(), class)
+    let member = rule.member();
+    free + one + two - agents_of(symbols, member, class)
 }
