@@ -39,6 +39,12 @@ module _ (text : List ℕ) (p : Program) (accepted : IsAccepted text p) where
   pub net_whole : IsWhole p.net
   net_whole = of.builds.1.whole
 
+  pub net_over_at : (t : Tables) (n : Parts) → t ≡ p.tables → n ≡ p.net → IsOver t n
+  net_over_at t n e f = subst (λ (t : Tables). IsOver t n) (sym e) (subst (λ (n : Parts). IsOver p.tables n) (sym f) net_over)
+
+  pub net_there_at : (n : Parts) → n ≡ p.net → AreAllThere n
+  net_there_at n f = subst (λ (n : Parts). AreAllThere n) (sym f) net_there
+
   pub net_promised : IsAsPromised (system_of p) (net_of p.net)
   net_promised = promised text (record { program = p; net = p.net }) accepted (starts p net_over).0
 

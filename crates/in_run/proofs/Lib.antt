@@ -3,4 +3,5 @@ pub mod Apart
 pub mod Counting
 pub mod FirstQueue
 pub mod Ordered
+pub mod Started
 pub mod Unlisted

@@ -101,7 +101,7 @@ fn first_queue(
     ensures pairs { IfOk result (λ q. IsQueueOf checked.now.tables checked.now.net q.items) }
     ensures order { IfOk result (λ q. AreInOrder checked.now.net q.items) }
 {
-    checked.net().agents();
+    is_accepted(checked);
     let mut pairs = Vec::with_capacity(alloc, room)?;
     for wire in 0..checked.net().wires() {
         if let Some(pair) = pair_of(checked, wire) {
@@ -123,7 +123,8 @@ impl<'a> Machine<'a> {
         ensures { Starts checked.now cells result }
     {
         is_accepted(checked);
-        let (symbols, net) = (checked.symbols(), checked.net());
+        let symbols = checked.symbols();
+        let net = checked.net();
         let small = agents_of(symbols, net, CellClass::Small);
         if cells < small {
             return Err(StartFault::Full {

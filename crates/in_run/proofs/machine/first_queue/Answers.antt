@@ -1,6 +1,7 @@
 use Rattle.std.proofs.Common.{◌≡◌, ◌≤◌, ◌+◌, length, vec_capacity, sym, ap, subst, ◌∙◌, arith}
-use Rattle.in_net.specs.Parts.{Parts, IsWhole}
+use Rattle.in_net.specs.Parts.{Parts}
 use Rattle.in_run.specs.Machines.{IsQueueOf}
+use Rattle.in_run.proofs.Accepted.{net_whole}
 use Rattle.in_run.proofs.FirstQueue.{AreFirst, not_here, one_here, is_queue}
 use Rattle.in_run.proofs.machine.first_queue.Goals as goal
 use Rattle.in_run.proofs.machine.first_queue.Goals.{in-Some+in_ok-push, in_default}
@@ -9,7 +10,7 @@ pub loop-wire-preserved : goal.loop-wire-preserved
 loop-wire-preserved c =
     let t = c.args.checked.now.tables in
     let n = c.args.checked.now.net in
-    let whole = subst IsWhole c.net.ensures c.agents.ensures.whole in
+    let whole = net_whole c.is_accepted.ensures.0 c.args.checked.now c.is_accepted.ensures.1 in
     let w = c.loop-wire.wire in
     elim c.match-pair_of.branch [
       | in-Some+in_ok-push b ↦ record {
@@ -32,6 +33,6 @@ pub returns-clause-pairs : goal.returns-clause-pairs
 returns-clause-pairs c =
     let t = c.args.checked.now.tables in
     let n = c.args.checked.now.net in
-    let whole = subst IsWhole c.net.ensures c.agents.ensures.whole in
-    let last : c.loop-wire.wire ≡ length n.wires = (let e : c.loop-wire.wire ≡ c.wires-wire-end.result = omega (arith, c.loop-wire-test.false, c.loop-wire.auto.wire-end) in e) ∙ c.wires-wire-end.ensures ∙ ap (λ (m : Parts). length m.wires) c.net-2.ensures in
+    let whole = net_whole c.is_accepted.ensures.0 c.args.checked.now c.is_accepted.ensures.1 in
+    let last : c.loop-wire.wire ≡ length n.wires = (let e : c.loop-wire.wire ≡ c.wires-wire-end.result = omega (arith, c.loop-wire-test.false, c.loop-wire.auto.wire-end) in e) ∙ c.wires-wire-end.ensures ∙ ap (λ (m : Parts). length m.wires) c.net.ensures in
     subst (IsQueueOf t n) (sym c.from_vec.ensures.items) (is_queue t n whole c.loop-wire.pairs.items (subst (λ w. AreFirst t n w c.loop-wire.pairs.items) last c.loop-wire.invariant.pairs))
