@@ -3,5 +3,6 @@ pub mod Apart
 pub mod Counting
 pub mod FirstQueue
 pub mod Ordered
+pub mod Queues
 pub mod Started
 pub mod Unlisted
