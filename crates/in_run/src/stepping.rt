@@ -21,8 +21,8 @@ fn requeue(queue: &mut VecDeque<(u32, u32)>, place: usize, made: &[(AgentNo, Age
     ensures room { deque_capacity queue.new ≡ deque_capacity queue.old }
 {
     queue.remove(place);
-    for (a, b) in made {
-        queue.push_back_reserved((a.0, b.0));
+    for pair in made {
+        queue.push_back_reserved((pair.0.0, pair.1.0));
     }
 }
 
