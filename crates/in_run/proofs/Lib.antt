@@ -1,8 +1,11 @@
 pub mod Accepted
 pub mod Apart
 pub mod Counting
+pub mod MadeLaws
 pub mod FirstQueue
 pub mod Ordered
 pub mod Queues
+pub mod Replaced
+pub mod Requeued
 pub mod Started
 pub mod Unlisted

@@ -4,5 +4,6 @@ pub mod Laws
 pub mod Limiting
 pub mod Machines
 pub mod Made
+pub mod MadeLaws
 pub mod Outcomes
 pub mod Runs
