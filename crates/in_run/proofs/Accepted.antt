@@ -64,6 +64,9 @@ module _ (text : List ℕ) (p : Program) (accepted : IsAccepted text p) where
     pub member_there : AreAllThere r.member
     member_there = (rule_whole p.tables written.0 r written.2).there
 
+    pub member_whole : IsWhole r.member
+    member_whole = written.2.1.member.whole
+
     pub no_pair : (x y : AgentNo) → AreActive r.member x y → ⊥
     no_pair x y e = no_active_pair p.tables written.0 r.member x y written.2.1.member e
 

@@ -8,4 +8,5 @@ pub mod Queues
 pub mod Replaced
 pub mod Requeued
 pub mod Started
+pub mod Stepped
 pub mod Unlisted

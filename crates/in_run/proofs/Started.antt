@@ -22,6 +22,13 @@ queue_bare t n qs h = record {
   once = h.once;
 }
 
+pub queue_full : (t : Tables) (n : Parts) (qs : List (ℕ × ℕ)) → IsQueueOf t (bare n) qs → IsQueueOf t n qs
+queue_full t n qs h = record {
+  pairs = λ k q e. pair_full t n (agents_at q) (h.pairs k q e);
+  all = λ q a. h.all q (pair_bare t n q a);
+  once = h.once;
+}
+
 abbrev pub machine_at : Program → Parts → List (ℕ × ℕ) → ℕ → ℕ → MachineParts
 machine_at p n queue small large = record { program = p; agents = n.cells; free = n.free; queue = queue; small = small; large = large }
 
