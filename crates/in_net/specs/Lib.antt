@@ -14,6 +14,7 @@ pub mod Joining
 pub mod Laws
 pub mod Listing
 pub mod Made
+pub mod Making
 pub mod NetFaults
 pub mod Nets
 pub mod OutcomeLaws
