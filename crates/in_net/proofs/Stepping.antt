@@ -2,6 +2,7 @@ pub mod Cells
 pub mod FewAgents
 pub mod Landing
 pub mod Lists
+pub mod Making
 pub mod OneOutcome
 pub mod Outcome
 pub mod Pairs
