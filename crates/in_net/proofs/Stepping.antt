@@ -1,5 +1,6 @@
 pub mod Cells
 pub mod FewAgents
+pub mod KeptOrMade
 pub mod Landing
 pub mod Lists
 pub mod Making

@@ -74,16 +74,16 @@ module _ (t : Tables) (n : Parts) (r : RuleParts) (a b : AgentNo) (whole : IsWho
   Way = Alternates (wire_of (signature_of t) (net_of n) (redex_at r a.0 b.0) (unused n.cells)) (IsOfPair (redex_at r a.0 b.0))
 
   -- the premises of the lemmas on paths
-  abbrev net : IsNet (signature_of t) (net_of n)
+  abbrev pub net : IsNet (signature_of t) (net_of n)
   net = sites.net t n r a b whole small can
 
-  abbrev inside : IsNet (signature_of t) (net_of r.member)
+  abbrev pub inside : IsNet (signature_of t) (net_of r.member)
   inside = sites.inside t n r a b whole small can
 
-  abbrev redex : IsRedex (signature_of t) (net_of n) (redex_at r a.0 b.0)
+  abbrev pub redex : IsRedex (signature_of t) (net_of n) (redex_at r a.0 b.0)
   redex = sites.redex t n r a b whole small can
 
-  abbrev naming : IsNaming (net_of n) (redex_at r a.0 b.0) (unused n.cells)
+  abbrev pub naming : IsNaming (net_of n) (redex_at r a.0 b.0) (unused n.cells)
   naming = sites.naming t n r a b whole small can
 
   abbrev pub Stays : Point ℕ → Type 0

@@ -35,7 +35,7 @@ module _ (t : Tables) (n : Parts) where
   pub one_partner : (a b d : AgentNo) → AreActive n a b → AreActive n a d → b ≡ d
   one_partner a b d h k = same_agent b d 0 0 (some_same (partner_in n (Port a 0)) (Port b 0) (Port d 0) h k)
 
-  flipped : (a b : AgentNo) → IsActivePair t n (a, b) → IsActivePair t n (b, a) → ⊥
+  pub flipped : (a b : AgentNo) → IsActivePair t n (a, b) → IsActivePair t n (b, a) → ⊥
   flipped a b h k =
       let one : h.first ≡ k.second = some_same (symbol_in n a.0) h.first k.second h.one k.two in
       let two : h.second ≡ k.first = some_same (symbol_in n b.0) h.second k.first h.two k.one in

@@ -1,8 +1,5 @@
-use Rattle.std.proofs.Common.{rules, ◌≡◌, ℕ, ◌+◌, ◌-◌, ◌*◌, ◌<◌, ◌≤◌, length, ◌/◌, ◌%◌, Bool, true, false, nat_eq, nat_lt, List, [], ◌∷◌, ◌++◌, slice_index_or, slice_set, bit_and, bit_or, Fits, w8, w32, w64, Bor, MutBor}
-use Rattle.in_net.specs.Laws.{MembersHoldNoPair, NetsAreBuiltOnce, RulesAreBuiltOnce, PartnersLeadBack, RulesHoldNoClosedWire, TextNetsAreOne, WholePartsAreNets}
-use Rattle.in_net.specs.OutcomeLaws.{InteractionsAreOne, PairsAreListedOnce, MadePairsAreListedOnce, PairsAreKeptOrMade, PairsAreApart}
+use Rattle.in_net.proofs.Stepping.KeptOrMade.{kept_or_made}
 use Rattle.in_net.proofs.laws.pairs_are_kept_or_made.Goals as goal
 
--- src/laws.rt:57:1
 pub returns : goal.returns
-returns c = ?
+returns c = kept_or_made
