@@ -8,6 +8,7 @@ pub mod OneOutcome
 pub mod Outcome
 pub mod Pairs
 pub mod Partners
+pub mod Reaching
 pub mod Sites
 pub mod Turns
 pub mod Unused

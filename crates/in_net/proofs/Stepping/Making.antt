@@ -220,6 +220,13 @@ module _ (t : Tables) (n : Parts) (r : RuleParts) (a b : AgentNo) (whole : IsWho
             | inr k ↦ elim k [ inl i ↦ low_h l i | inr i ↦ low_g l i ]
           ]
 
+  pub end_within : (e : ℕ) → e < arity_of t r.heads.0.0 + arity_of t r.heads.1.0 → e < length r.member.free
+  end_within e lt =
+      let many = length-map r.member.free (λ (f : FreeEnd). f.kind) in
+      let ends = sites.redex t n r a b whole small can in
+      let all = ends.ends in
+      omega (arith, lt, many, all)
+
   -- a lowest end of a pair is a boundary end
   pub made_within : (e : ℕ) (q : AgentNo × AgentNo) → IsMade t n r a b e q → e < length r.member.free
   made_within e q h =
