@@ -89,6 +89,7 @@ impl<'a> Site<'a> {
         requires { end < length self.now.rule.member.free }
         ensures { MatchOption result (LandsNowhere self.now (side_of side) end) (LandsAt self.now (side_of side) end) }
     {
+        let _ = &self.first;
         let mut by = side;
         let mut at = end;
         for wire in 0..MOST_WIRES {
@@ -112,6 +113,7 @@ impl<'a> Site<'a> {
         requires two { agent ≢ self.now.two }
         ensures { MatchOption result ((s : SymbolNo) → HasSymbolAfter self.now.net self.now.rule self.now.one self.now.two agent s → ⊥) (HasSymbolAfter self.now.net self.now.rule self.now.one self.now.two agent) }
     {
+        let _ = &self.first;
         match self.net.symbol(agent) {
             Some(symbol) => Some(symbol),
             None => self.rule.member().symbol(self.named(agent)?),
@@ -124,6 +126,7 @@ impl<'a> Site<'a> {
         requires end { end < length self.now.rule.member.free }
         ensures { MatchOption result ((q : AgentNo × AgentNo) → IsMade symbols.now self.now.net self.now.rule self.now.one self.now.two end q → ⊥) (λ p. IsMade symbols.now self.now.net self.now.rule self.now.one self.now.two end p × ((q : AgentNo × AgentNo) → IsMade symbols.now self.now.net self.now.rule self.now.one self.now.two end q → q ≡ p)) }
     {
+        let _ = &self.first;
         let one = principal(self.landing(Side::Outer, end)?)?;
         let other = principal(self.landing(Side::Inner, end)?)?;
         let first = self.symbol_after(one)?;

@@ -2,6 +2,7 @@
 use Rattle.std.proofs.Common.{◌≡◌, ◌≢◌, ◌⊎◌, inl, inr, ◌+◌, ◌*◌, ◌<◌, ◌≤◌, ℕ, zero, suc, Option, Some, None, List, [], ◌∷◌, length, slice_get, get_or, refl, sym, ap, subst, ◌∙◌, arith}
 use native.Mathlib.Decide.{ℕ_discrete}
 use Rattle.std.proofs.lemmas.Option.{get_or_from_slice_get, slice_get_within}
+use Rattle.std.proofs.lemmas.List.{length-map}
 use Rattle.in_base.specs.Lists.{IsAmong}
 use Rattle.in_symbols.specs.Tables.{Tables}
 use Rattle.in_net.specs.Following.{SiteParts, IsSite, end_of, port_of}
@@ -9,14 +10,15 @@ use Rattle.in_net.specs.Interacting.{unused, CanInteract}
 use Rattle.in_net.specs.Interactions.{Side, Outer, Inner, other, IsOfPair}
 use Rattle.in_net.specs.Making.{SiteWire, Leaves, LandsAt, LandsNowhere, NoneLower, IsOnWay, end_point, redex_of, most_wires}
 use Rattle.in_net.specs.Nets.{Point, Port, Free, IsPoint, net_of, signature_of, point_of, coded_point}
-use Rattle.in_net.specs.Parts.{partner_in}
+use Rattle.in_net.specs.Parts.{IsPointOf, partner_in}
 use Rattle.in_net.specs.declared.nets.AgentNo.{AgentNo}
+use Rattle.in_net.specs.declared.nets.FreeEnd.{FreeEnd}
 use Rattle.in_net.specs.declared.nets.Point as coded
 use Rattle.in_net.specs.declared.nets.Point.TheVariants as code
 use Rattle.in_net.proofs.Interactions.Alternating.{not_pair, end_of_pair}
-use Rattle.in_net.proofs.Interactions.PathEnds.{outer_next, not_principal}
+use Rattle.in_net.proofs.Interactions.PathEnds.{outer_next, outer_at, not_principal}
 use Rattle.in_net.proofs.Interactions.Through as through
-use Rattle.in_net.proofs.OneNet.{round_code}
+use Rattle.in_net.proofs.OneNet.{round_code, map_is}
 use Rattle.in_net.proofs.Stepping.Landing as landing
 use Rattle.in_net.proofs.Stepping.Making as making
 use Rattle.in_net.proofs.Stepping.Partners.{net_wire, named}
@@ -128,6 +130,18 @@ module _ (s : SiteParts) (site : IsSite s) where
     pub low_more : (e f : ℕ) (fs : List (Point ℕ)) → e ≤ f → NoneLower t s e fs → NoneLower t s e (end_point t s f ∷ fs)
     low_more e f fs le low d (inl same) = let k = end_same f d same in omega (arith, k, le)
     low_more e f fs le low d (inr i) = low d i
+
+  -- a boundary end is a port that is there
+  pub port_is_point : (e : ℕ) → e < length s.rule.member.free → IsPointOf s.net (port_of s.one s.two s.first e)
+  port_is_point e lt =
+      let t = site.over.0 in
+      let can = site.over.1 in
+      let x = redex t s.net s.rule s.one s.two site.whole site.member can in
+      let many = length-map s.rule.member.free (λ (f : FreeEnd). f.kind) in
+      let all = x.ends in
+      let r = outer_at (signature_of t) (net_of s.net) (redex_of s) (unused s.net.cells) (net t s.net s.rule s.one s.two site.whole site.member can) (inside t s.net s.rule s.one s.two site.whole site.member can) x
+      (naming t s.net s.rule s.one s.two site.whole site.member can) ℕ_discrete e (omega (arith, lt, many, all)) in
+      subst (IsPointOf s.net) (sym (port_there t can e)) (has_partner s.net (coded_point (end_point t s e)) (coded_point r.0) (map_is (partner_in s.net (coded_point (end_point t s e))) r.0 r.1))
 
   -- ---- wire by wire
 

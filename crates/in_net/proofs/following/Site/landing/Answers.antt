@@ -1,33 +1,30 @@
-use Rattle.std.proofs.Common.{rules, ◌≡◌, ◌≢◌, ◌<◌, ℕ, length, IfOk, MatchOption, ◌+◌, ◌-◌, ◌*◌, ◌≤◌, ◌/◌, ◌%◌, Bool, true, false, nat_eq, nat_lt, List, [], ◌∷◌, ◌++◌, slice_index_or, slice_set, bit_and, bit_or, Fits, w8, w32, w64, Bor, MutBor}
+use Rattle.std.proofs.Common.{◌+◌, sym, subst}
 use Rattle.in_net.specs.Following.{IsSite}
-use Rattle.in_net.specs.Interacting.{MayInteract, CanInteract}
-use Rattle.in_net.specs.Interactions.{other}
-use Rattle.in_net.specs.Made.{HasSymbolAfter, IsMade, AreMade}
-use Rattle.in_net.specs.Making.{side_of, LeadsTo, LandsAt, LandsNowhere, principal_of}
-use Rattle.in_net.specs.declared.nets.AgentNo.{AgentNo}
-use Rattle.in_symbols.specs.declared.symbols.SymbolNo.{SymbolNo}
+use Rattle.in_net.specs.Interactions.{Side}
+use Rattle.in_net.specs.Making.{IsOnWay, side_of}
+use Rattle.in_net.proofs.Stepping.Reaching.{starts, next_turn, has_landed, too_low, too_long}
 use Rattle.in_net.proofs.following.Site.landing.Goals as goal
 
--- src/making.rt:94:9
 pub loop-wire-init : goal.loop-wire-init
-loop-wire-init c = ?
+loop-wire-init c = starts c.args.self.now (subst IsSite c.self.view_is c.self.invariant) (side_of c.args.side) c.args.end c.requires
 
--- src/making.rt:95:19
 pub reached-requires : goal.reached-requires
-reached-requires c = ?
+reached-requires c = c.loop-wire.invariant.within
 
--- src/making.rt:96:44
 pub returns-in-Staying : goal.returns-in-Staying
-returns-in-Staying c = ?
+returns-in-Staying c =
+    has_landed c.args.self.now (subst IsSite c.self.view_is c.self.invariant) (side_of c.args.side) (side_of c.loop-wire.by) c.args.end c.loop-wire.at c.loop-wire.wire c.in-Staying.point c.loop-wire.invariant (c.in-Staying.ensures {u = tt})
 
--- src/making.rt:99:25
 pub returns-then-next-end : goal.returns-then-next-end
-returns-then-next-end c = ?
+returns-then-next-end c =
+    too_low c.args.self.now (subst IsSite c.self.view_is c.self.invariant) (side_of c.args.side) (side_of c.loop-wire.by) c.args.end c.loop-wire.at c.loop-wire.wire c.in-End.next c.loop-wire.invariant (c.in-End.ensures {u = tt}) c.if-next-end.true
 
--- src/making.rt:94:9
 pub loop-wire-preserved : goal.loop-wire-preserved
-loop-wire-preserved c = ?
+loop-wire-preserved c =
+    let s = c.args.self.now in
+    subst (λ (z : Side). IsOnWay s (side_of c.args.side) c.args.end z c.in-End.next (c.loop-wire.wire + 1)) (sym c.other-by.ensures)
+    (next_turn s (subst IsSite c.self.view_is c.self.invariant) (side_of c.args.side) (side_of c.loop-wire.by) c.args.end c.loop-wire.at c.loop-wire.wire c.in-End.next c.loop-wire.invariant (c.in-End.ensures {u = tt}) c.if-next-end.false)
 
--- src/making.rt:88:5
 pub returns : goal.returns
-returns c = ?
+returns c =
+    too_long c.args.self.now (subst IsSite c.self.view_is c.self.invariant) (side_of c.args.side) (side_of c.loop-wire.by) c.args.end c.loop-wire.at c.loop-wire.wire c.loop-wire.invariant c.loop-wire-test.false
