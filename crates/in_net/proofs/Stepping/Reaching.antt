@@ -1,17 +1,22 @@
 -- Where the wires of a boundary end lead, and the path that goes on from there.
 use Rattle.std.proofs.Common.{◌≡◌, ◌≢◌, ◌⊎◌, inl, inr, ◌+◌, ◌*◌, ◌<◌, ◌≤◌, ℕ, zero, suc, Option, Some, None, List, [], ◌∷◌, length, slice_get, get_or, refl, sym, ap, subst, ◌∙◌, arith}
+use Rattle.std.specs.Prelude.{MatchOption, option_map}
 use native.Mathlib.Decide.{ℕ_discrete}
 use Rattle.std.proofs.lemmas.Option.{get_or_from_slice_get, slice_get_within}
 use Rattle.std.proofs.lemmas.List.{length-map}
 use Rattle.in_base.specs.Lists.{IsAmong}
 use Rattle.in_symbols.specs.Tables.{Tables}
+use Rattle.in_symbols.specs.declared.symbols.SymbolNo.{SymbolNo}
+use Rattle.in_net.specs.ActivePairs.{IsOrdered}
 use Rattle.in_net.specs.Following.{SiteParts, IsSite, end_of, port_of}
 use Rattle.in_net.specs.Interacting.{unused, CanInteract}
 use Rattle.in_net.specs.Interactions.{Side, Outer, Inner, other, IsOfPair}
-use Rattle.in_net.specs.Making.{SiteWire, Leaves, LandsAt, LandsNowhere, NoneLower, IsOnWay, end_point, redex_of, most_wires}
+use Rattle.in_net.specs.Made.{HasSymbolAfter, IsMade}
+use Rattle.in_net.specs.Making.{SiteWire, Leaves, LandsAt, LandsNowhere, NoneLower, IsOnWay, end_point, redex_of, most_wires, principal_of}
 use Rattle.in_net.specs.Nets.{Point, Port, Free, IsPoint, net_of, signature_of, point_of, coded_point}
-use Rattle.in_net.specs.Parts.{IsPointOf, partner_in}
+use Rattle.in_net.specs.Parts.{IsPointOf, cell_in, symbol_in, partner_in}
 use Rattle.in_net.specs.declared.nets.AgentNo.{AgentNo}
+use Rattle.in_net.specs.declared.nets.Cell.{Cell}
 use Rattle.in_net.specs.declared.nets.FreeEnd.{FreeEnd}
 use Rattle.in_net.specs.declared.nets.Point as coded
 use Rattle.in_net.specs.declared.nets.Point.TheVariants as code
@@ -21,12 +26,22 @@ use Rattle.in_net.proofs.Interactions.Through as through
 use Rattle.in_net.proofs.OneNet.{round_code, map_is}
 use Rattle.in_net.proofs.Stepping.Landing as landing
 use Rattle.in_net.proofs.Stepping.Making as making
-use Rattle.in_net.proofs.Stepping.Partners.{net_wire, named}
+use Rattle.in_net.proofs.Stepping.Partners.{cell_within, net_wire, named}
 use Rattle.in_net.proofs.Stepping.Sites.{net, inside, redex, naming, first_is}
+use Rattle.in_net.proofs.Stepping.Unused.{unused_apart}
 use Rattle.in_net.proofs.WireAt.{has_partner}
 
 not_both : (o : Option ℕ) (k : ℕ) → o ≡ None → o ≡ Some k → ⊥
 not_both o k h g = cc
+
+no_symbol : (o : Option SymbolNo) (z : SymbolNo) → o ≡ None → o ≡ Some z → ⊥
+no_symbol o z h g = cc
+
+no_agent : (o : Option AgentNo) (z : AgentNo) → o ≡ None → o ≡ Some z → ⊥
+no_agent o z h g = cc
+
+port_agent_of : (x y : AgentNo) (i j : ℕ) → ◌≡◌ {A = coded.Point} (code.Port x i) (code.Port y j) → x ≡ y
+port_agent_of x y i j e = cc
 
 one_value : (o : Option ℕ) (k l : ℕ) → o ≡ Some k → o ≡ Some l → k ≡ l
 one_value o k l h g = cc
@@ -183,3 +198,103 @@ module _ (s : SiteParts) (site : IsSite s) where
   -- .. or is too long
   pub too_long : (side by : Side) (e at count : ℕ) → IsOnWay s side e by at count → most_wires ≤ count → LandsNowhere s side e
   too_long side by e at count on le = λ t can es v h few. (let g = on.ahead t can es v h in let l = g.2 in absurd (omega (arith, l, le, few)))
+
+  -- ---- symbols after
+
+  pub new_symbol : (y : AgentNo) (k : ℕ) (o : Option SymbolNo) → symbol_in s.net y.0 ≡ None → unused s.net.cells k ≡ y.0 → o ≡ symbol_in s.rule.member k →
+      MatchOption o ((z : SymbolNo) → HasSymbolAfter s.net s.rule s.one s.two y z → ⊥) (HasSymbolAfter s.net s.rule s.one s.two y)
+  new_symbol y k None old named is = λ z h. elim h [
+    | inl g ↦ no_symbol (symbol_in s.net y.0) z old g.2
+    | inr g ↦ no_symbol (symbol_in s.rule.member k) z (sym is) (ap (symbol_in s.rule.member) (unused_apart s.net.cells k g.0 (named ∙ sym g.1)) ∙ g.2)
+  ]
+  new_symbol y k (Some z) old named is = inr (k, named, sym is)
+
+  pub no_name : (y : AgentNo) → symbol_in s.net y.0 ≡ None → ((k : ℕ) → k < length s.names → unused s.net.cells k ≢ y.0) → (z : SymbolNo) → HasSymbolAfter s.net s.rule s.one s.two y z → ⊥
+  no_name y old unnamed z (inl g) = no_symbol (symbol_in s.net y.0) z old g.2
+  no_name y old unnamed z (inr g) = go (cell_in s.rule.member g.0) refl g.2
+    where
+      go : (o : Option Cell) → cell_in s.rule.member g.0 ≡ o → option_map (λ (c : Cell). c.symbol) o ≡ Some z → ⊥
+      go None e f = cc
+      go (Some c) e f = let l = cell_within s.rule.member.cells g.0 c e in let m = site.many in unnamed g.0 (omega (arith, l, m)) g.1
+
+  -- ---- the pair of a boundary end
+
+  module _ (t : Tables) (can : CanInteract t s.net s.rule s.one s.two) where
+    abbrev Made : ℕ → AgentNo × AgentNo → Type 0
+    Made = IsMade t s.net s.rule s.one s.two
+
+    abbrev Half : Side → ℕ → AgentNo → Type 0
+    Half = making.Half t s.net s.rule s.one s.two site.whole site.member can
+
+    half_of : (side : Side) (e : ℕ) (q : AgentNo × AgentNo) → Made e q → (z : AgentNo) × Half side e z
+    half_of Outer e q h = let r = making.halves t s.net s.rule s.one s.two site.whole site.member can e q h in (r.one, r.outer)
+    half_of Inner e q h = let r = making.halves t s.net s.rule s.one s.two site.whole site.member can e q h in (r.two, r.inner)
+
+    stays : (y : AgentNo) (z : SymbolNo) → HasSymbolAfter s.net s.rule s.one s.two y z → IsOfPair (redex_of s) (Port y.0 0) → ⊥
+    stays = making.stays_after t s.net s.rule s.one s.two site.whole site.member can
+
+    pub nowhere : (side : Side) (e : ℕ) → LandsNowhere s side e → (q : AgentNo × AgentNo) → Made e q → ⊥
+    nowhere side e lost q h =
+        let r = half_of side e q h in
+        let l = lost t can r.1.ends (Port r.0.0 0) (r.1.way, stays r.0 r.1.symbol r.1.has) r.1.few in
+        let lt = l.1 in
+        let le = r.1.low l.0 l.2 in
+        absurd (omega (arith, lt, le))
+
+    landed : (side : Side) (e : ℕ) (p : coded.Point) → LandsAt s side e p → (z : AgentNo) → Half side e z → p ≡ code.Port z 0
+    landed side e p at z h =
+        let l = at t can in
+        let one = (making.one_from t s.net s.rule s.one s.two site.whole site.member can side e (point_of p) (Port z.0 0) l.0 h.ends l.1.1 (stays z h.symbol h.has) l.1.0 h.way).1 in
+        sym (round_code p) ∙ ap coded_point one
+
+    pub not_principal_port : (side : Side) (e : ℕ) (p : coded.Point) → LandsAt s side e p → principal_of p ≡ None → (q : AgentNo × AgentNo) → Made e q → ⊥
+    not_principal_port side e p at none q h =
+        let r = half_of side e q h in
+        no_agent (principal_of p) r.0 none (ap principal_of (landed side e p at r.0 r.1))
+
+    pub no_symbol_there : (side : Side) (e : ℕ) (x : AgentNo) → LandsAt s side e (code.Port x 0) → ((z : SymbolNo) → HasSymbolAfter s.net s.rule s.one s.two x z → ⊥) → (q : AgentNo × AgentNo) → Made e q → ⊥
+    no_symbol_there side e x at none q h =
+        let r = half_of side e q h in
+        let same = port_agent_of x r.0 0 0 (landed side e (code.Port x 0) at r.0 r.1) in
+        none r.1.symbol (subst (λ (y : AgentNo). HasSymbolAfter s.net s.rule s.one s.two y r.1.symbol) (sym same) r.1.has)
+
+    pub not_of_pair : (side : Side) (e : ℕ) (x : AgentNo) → LandsAt s side e (code.Port x 0) → (x ≢ s.one) × (x ≢ s.two)
+    not_of_pair side e x at = let l = at t can in ((λ h. l.1.1 (inl (ap (λ (z : AgentNo). z.0) h))), (λ h. l.1.1 (inr (ap (λ (z : AgentNo). z.0) h))))
+
+    pub differ : (e : ℕ) (x y : AgentNo) → LandsAt s Outer e (code.Port x 0) → LandsAt s Inner e (code.Port y 0) → x ≢ y
+    differ e x y outer inner =
+        let o = outer t can in
+        let i = inner t can in
+        let j = through.join_at (signature_of t) (net_of s.net) (redex_of s) (unused s.net.cells) (net t s.net s.rule s.one s.two site.whole site.member can) (inside t s.net s.rule s.one s.two site.whole site.member can)
+        (redex t s.net s.rule s.one s.two site.whole site.member can) (naming t s.net s.rule s.one s.two site.whole site.member can) Outer (end_point t s e) o.0 (Port x.0 0) (is_pair_end t can e) o.1.0 i.0 (Port y.0 0) i.1.0 in
+        making.agents_differ t s.net s.rule s.one s.two site.whole site.member can x y (o.1.1, i.1.1, (j.side, j.ends, j.path))
+
+    pub pair_there : (e : ℕ) (x y : AgentNo) (c d : SymbolNo) (q : AgentNo × AgentNo) → LandsAt s Outer e (code.Port x 0) → LandsAt s Inner e (code.Port y 0) → HasSymbolAfter s.net s.rule s.one s.two x c → HasSymbolAfter s.net s.rule s.one s.two y d →
+        IsOrdered t (x, c) (y, d) q → Made e q × ((p : AgentNo × AgentNo) → Made e p → p ≡ q)
+    pair_there e x y c d q outer inner one two order = (here order, (λ p h. making.pair_once t s.net s.rule s.one s.two site.whole site.member can e p q h (here order)))
+      where
+        here : IsOrdered t (x, c) (y, d) q → Made e q
+        here (inl h) =
+            let o = outer t can in
+            let i = inner t can in
+            subst (Made e) (sym h.0) (making.is_made t s.net s.rule s.one s.two site.whole site.member can Outer e x y c d o.0 i.0 o.1.0 o.2 i.1.0 i.2 one two h.1)
+        here (inr h) =
+            let o = outer t can in
+            let i = inner t can in
+            subst (Made e) (sym h.0) (making.is_made t s.net s.rule s.one s.two site.whole site.member can Inner e y x d c i.0 o.0 i.1.0 i.2 o.1.0 o.2 two one h.1)
+
+pub principal_is : (p : coded.Point) (o : Option AgentNo) (x : AgentNo) → o ≡ principal_of p → o ≡ Some x → p ≡ code.Port x 0
+principal_is (code.Port y zero) o x is e = let same : y ≡ x = cc in ap (λ (z : AgentNo). code.Port z 0) same
+principal_is (code.Port y (suc i)) o x is e = cc
+principal_is (code.Free k) o x is e = cc
+
+-- ---- what is answered at a boundary end
+
+abbrev pub IsAnswer : Tables → SiteParts → ℕ → Option (AgentNo × AgentNo) → Type 0
+IsAnswer t s e o = MatchOption o ((q : AgentNo × AgentNo) → IsMade t s.net s.rule s.one s.two e q → ⊥) (λ p. IsMade t s.net s.rule s.one s.two e p × ((q : AgentNo × AgentNo) → IsMade t s.net s.rule s.one s.two e q → q ≡ p))
+
+pub no_pair : (t : Tables) (s : SiteParts) (e : ℕ) (o : Option (AgentNo × AgentNo)) → o ≡ None → ((q : AgentNo × AgentNo) → IsMade t s.net s.rule s.one s.two e q → ⊥) → IsAnswer t s e o
+no_pair t s e o is h = subst (IsAnswer t s e) (sym is) h
+
+pub lands_there : (s : SiteParts) (side : Side) (e : ℕ) (p : coded.Point) (o : Option AgentNo) (x : AgentNo) → LandsAt s side e p → o ≡ principal_of p → o ≡ Some x → LandsAt s side e (code.Port x 0)
+lands_there s side e p o x at is found = subst (LandsAt s side e) (principal_is p o x is found) at
