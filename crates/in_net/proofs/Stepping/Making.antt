@@ -1,8 +1,9 @@
 -- The pairs that an interaction makes: one for each lowest boundary end, found by the two halves of its path.
-use Rattle.std.proofs.Common.{◌≡◌, ◌≢◌, ◌⊎◌, inl, inr, ◌+◌, ◌*◌, ◌<◌, ◌≤◌, ℕ, zero, suc, Option, Some, None, List, [], ◌∷◌, length, slice_get, refl, sym, ap, subst, ◌∙◌, arith}
+use Rattle.std.proofs.Common.{◌≡◌, ◌≢◌, ◌⊎◌, inl, inr, ◌+◌, ◌*◌, ◌<◌, ◌≤◌, ℕ, zero, suc, Option, Some, None, List, [], ◌∷◌, ◌++◌, length, slice_get, refl, sym, ap, subst, ◌∙◌, arith}
 use Rattle.std.specs.Prelude.{option_map, IsSomeAnd}
 use native.Mathlib.Decide.{ℕ_discrete}
 use Rattle.std.proofs.lemmas.List.{length-map}
+use Rattle.std.proofs.lemmas.Option.{slice_get_within}
 use Rattle.in_base.specs.Lists.{IsAmong}
 use Rattle.in_syntax.specs.Grammar.{max_ports}
 use Rattle.in_symbols.specs.Tables.{Tables, arity_of, IsSymbol}
@@ -12,7 +13,7 @@ use Rattle.in_net.specs.Following.{SiteParts, IsSite}
 use Rattle.in_net.specs.Interacting.{unused, CanInteract}
 use Rattle.in_net.specs.Interactions.{Redex, IsRedex, IsNaming, Side, Outer, Inner, other, Alternates, wire_of, IsOfPair, AreJoined, end_agent, end_place, redex_at}
 use Rattle.in_net.specs.Made.{PassesEnd, IsLowestEnd, HasSymbolAfter, IsMade, AreMade}
-use Rattle.in_net.specs.Making.{LandsAt, LandsNowhere, most_wires, principal_of}
+use Rattle.in_net.specs.Making.{AreMadeBelow, most_wires}
 use Rattle.in_net.specs.Nets.{Point, Port, Free, IsPoint, Signature, Net, IsNet, net_of, signature_of, point_of, coded_point}
 use Rattle.in_net.specs.Parts.{Parts, IsWhole, symbol_in}
 use Rattle.in_net.specs.Rules.{RuleParts}
@@ -26,6 +27,7 @@ use Rattle.in_net.proofs.Interactions.StaysNet as stays_net
 use Rattle.in_net.proofs.Interactions.StepExists.{step_exists}
 use Rattle.in_net.proofs.Interactions.Through as through
 use Rattle.in_net.proofs.OneNet.{round_code}
+use Rattle.in_net.proofs.Stepping.Lists.{last_at, kept_at, more_at}
 use Rattle.in_net.proofs.Stepping.Pairs.{no_both, symbol_known}
 use Rattle.in_net.proofs.Stepping.Sites as sites
 use Rattle.in_net.proofs.Stepping.Turns.{some_same}
@@ -242,3 +244,59 @@ module _ (t : Tables) (n : Parts) (r : RuleParts) (a b : AgentNo) (whole : IsWho
       let after = step_exists (signature_of t) (net_of n) (redex_at r a.0 b.0) (unused n.cells) net inside redex naming ℕ_discrete in
       let is_net = stays_net.is_net (signature_of t) (net_of n) (redex_at r a.0 b.0) (unused n.cells) after.0 net inside redex after.1 ℕ_discrete in
       is_net.apart (Port x.0 0) ((after.1.wires (Port x.0 0) (Port x.0 0)).1 (subst (λ (z : AgentNo). AreJoined (signature_of t) (net_of n) (redex_at r a.0 b.0) (unused n.cells) (Port x.0 0) (Port z.0 0)) (sym same) j))
+
+-- ---- end by end
+
+below_or : (m x : ℕ) → m < x + 1 → (m < x) ⊎ (m ≡ x)
+below_or m x h = grind arith
+
+module _ (t : Tables) (s : SiteParts) where
+  abbrev Made : ℕ → AgentNo × AgentNo → Type 0
+  Made = IsMade t s.net s.rule s.one s.two
+
+  pub none_below : AreMadeBelow t s 0 []
+  none_below = record { each = λ k q e. cc; all = λ e q lt h. absurd (omega (arith, lt)); rising = λ j k d e p q lt f g h i. cc }
+
+  pub none_more : (e : ℕ) (qs : List (AgentNo × AgentNo)) → AreMadeBelow t s e qs → ((q : AgentNo × AgentNo) → IsMade t s.net s.rule s.one s.two e q → ⊥) → AreMadeBelow t s (e + 1) qs
+  none_more e qs h none = record {
+    each = λ k q f. (let r = h.each k q f in (r.0, (let l = r.1 in omega (arith, l)), r.2));
+    all = λ d q lt m. all d q m (below_or d e lt);
+    rising = h.rising;
+  }
+    where
+      all : (d : ℕ) (q : AgentNo × AgentNo) → Made d q → (d < e) ⊎ (d ≡ e) → (k : ℕ) × (slice_get qs k ≡ Some q)
+      all d q m (inl lt) = h.all d q lt m
+      all d q m (inr same) = absurd (none q (subst (λ (z : ℕ). Made z q) same m))
+
+  pub one_more : (e : ℕ) (qs : List (AgentNo × AgentNo)) (p : AgentNo × AgentNo) → AreMadeBelow t s e qs → IsMade t s.net s.rule s.one s.two e p → ((q : AgentNo × AgentNo) → IsMade t s.net s.rule s.one s.two e q → q ≡ p) → AreMadeBelow t s (e + 1) (qs ++ p ∷ [])
+  one_more e qs p h made once = record {
+    each = λ k q f. each k q (more_at qs p q k f);
+    all = λ d q lt m. all d q m (below_or d e lt);
+    rising = λ j k d c x y lt f g m i. rising j k d c x y lt m i (more_at qs p x j f) (more_at qs p y k g);
+  }
+    where
+      each : (k : ℕ) (q : AgentNo × AgentNo) → (slice_get qs k ≡ Some q) ⊎ ((k ≡ length qs) × (p ≡ q)) → (d : ℕ) × (d < e + 1) × Made d q
+      each k q (inl f) = let r = h.each k q f in (r.0, (let l = r.1 in omega (arith, l)), r.2)
+      each k q (inr f) = (e, omega arith, subst (Made e) f.1 made)
+
+      all : (d : ℕ) (q : AgentNo × AgentNo) → Made d q → (d < e) ⊎ (d ≡ e) → (k : ℕ) × (slice_get (qs ++ p ∷ []) k ≡ Some q)
+      all d q m (inl lt) = let r = h.all d q lt m in (r.0, kept_at qs (p ∷ []) r.0 q r.1)
+      all d q m (inr same) = (length qs, last_at qs p ∙ ap (λ (z : AgentNo × AgentNo). Some z) (sym (once q (subst (λ (z : ℕ). Made z q) same m))))
+
+      rising : (j k d c : ℕ) (x y : AgentNo × AgentNo) → j < k → Made d x → Made c y → (slice_get qs j ≡ Some x) ⊎ ((j ≡ length qs) × (p ≡ x)) → (slice_get qs k ≡ Some y) ⊎ ((k ≡ length qs) × (p ≡ y)) → d < c
+      rising j k d c x y lt m i (inl f) (inl g) = h.rising j k d c x y lt f g m i
+      rising j k d c x y lt m i (inl f) (inr g) =
+          let r = h.each j x f in
+          let less = r.1 in
+          let one = end_once t s.net s.rule s.one s.two d r.0 x m r.2 in
+          let two = end_once t s.net s.rule s.one s.two c e y i (subst (Made e) g.1 made) in
+          omega (arith, less, one, two)
+      rising j k d c x y lt m i (inr f) (inl g) = let l = slice_get_within qs k y g in let n = f.0 in absurd (omega (arith, l, n, lt))
+      rising j k d c x y lt m i (inr f) (inr g) = let l = g.0 in let n = f.0 in absurd (omega (arith, l, n, lt))
+
+  pub all_ends : (e : ℕ) (qs : List (AgentNo × AgentNo)) → IsWhole s.net → IsWhole s.rule.member → CanInteract t s.net s.rule s.one s.two → AreMadeBelow t s e qs → length s.rule.member.free ≤ e → AreMade t s.net s.rule s.one s.two qs
+  all_ends e qs whole small can h le = record {
+    each = λ k q f. (let r = h.each k q f in (r.0, r.2));
+    all = λ d q m. h.all d q (let l = made_within t s.net s.rule s.one s.two whole small can d q m in omega (arith, l, le)) m;
+    rising = h.rising;
+  }
