@@ -34,7 +34,11 @@ fn empty_numbers(
 }
 
 /// The least numbers without an agent, so many.
-pub(crate) fn unused(alloc: Global, cells: &[Option<Cell>], count: usize) -> Result<Vec<AgentNo>, AllocError>
+pub(crate) fn unused(
+    alloc: Global,
+    cells: &[Option<Cell>],
+    count: usize,
+) -> Result<Vec<AgentNo>, AllocError>
     requires cells { length cells.now < 2 ^ 32 }
     requires few { count_by is_some cells.now + count < 2 ^ 32 }
     ensures { IfOk result (λ names. AreUnused cells.now count names.items) }

@@ -1,12 +1,12 @@
 -- Alternating paths through a boundary end: such a path falls into two halves there, two halves make a path, and a path is one.
-use Rattle.std.proofs.Common.{◌≡◌, ◌≢◌, ◌⊎◌, ◌+◌, ◌*◌, ◌≤◌, ◌<◌, ℕ, zero, suc, Some, List, [], ◌∷◌, length, refl, sym, subst, ap, inl, inr, ◌∙◌, arith}
+use Rattle.std.proofs.Common.{◌≡◌, ◌⊎◌, ◌+◌, ◌*◌, ◌≤◌, ◌<◌, ℕ, List, [], ◌∷◌, length, refl, sym, subst, ap, inl, inr, ◌∙◌, arith}
 use mathlib.Core.HLevel.{Discrete}
 use Rattle.in_base.specs.Lists.{IsAmong}
-use Rattle.in_net.specs.Nets.{Point, Port, Free, Signature, Net, IsPoint, IsNet}
-use Rattle.in_net.specs.Interactions.{Redex, IsRedex, Side, Outer, Inner, other, Alternates, stands_for, InnerWire, wire_of, IsOfPair, AreJoined, IsNaming, end_agent, end_place}
-use Rattle.in_net.proofs.Interactions.Alternating.{wire_back, one_wire, both_sides, first_wire, end_of, end_of_pair}
+use Rattle.in_net.specs.Nets.{Point, Port, Signature, Net, IsPoint, IsNet}
+use Rattle.in_net.specs.Interactions.{Redex, IsRedex, Side, Outer, Inner, other, Alternates, stands_for, InnerWire, wire_of, IsOfPair, IsNaming, end_agent, end_place}
+use Rattle.in_net.proofs.Interactions.Alternating.{wire_back, one_wire, both_sides, first_wire, end_of}
 use Rattle.in_net.proofs.Interactions.AtNets.{port_agent, port_place, end_same}
-use Rattle.in_net.proofs.Interactions.PathEnds.{Ended, ends}
+use Rattle.in_net.proofs.Interactions.PathEnds.{ends}
 use Rattle.in_net.proofs.Interactions.Paths.{other_twice}
 
 module _ {P : Type 0} (wire : Side → P → P → Type 0) (End : P → Type 0) where

@@ -1,5 +1,5 @@
 -- The active pairs after an interaction: those of other agents, and those that it makes. An agent is in one alone.
-use Rattle.std.proofs.Common.{◌≡◌, ◌≢◌, ◌⊎◌, ◌↔◌, inl, inr, ◌<◌, ◌≤◌, ℕ, suc, Option, Some, None, List, [], ◌∷◌, length, slice_get, refl, sym, ap, subst, ◌∙◌}
+use Rattle.std.proofs.Common.{◌≡◌, ◌≢◌, ◌⊎◌, ◌↔◌, inl, inr, ◌≤◌, ℕ, Option, Some, None, List, [], slice_get, sym, ap, subst, ◌∙◌}
 use Rattle.std.specs.Prelude.{option_map}
 use Rattle.in_base.specs.Lists.{IsAmong}
 use Rattle.in_symbols.specs.Tables.{Tables}
@@ -7,19 +7,18 @@ use Rattle.in_symbols.specs.declared.symbols.SymbolNo.{SymbolNo}
 use Rattle.in_net.specs.ActivePairs.{AreActive, IsActivePair}
 use Rattle.in_net.specs.Interacting.{unused, CanInteract, Interacts}
 use Rattle.in_net.specs.Interactions.{Side, Outer, Inner, stands_for, InnerWire, IsOfPair, AreJoined, IsStep, redex_at}
-use Rattle.in_net.specs.Made.{PassesEnd, HasSymbolAfter, IsMade, AreMade}
-use Rattle.in_net.specs.Nets.{Point, Port, Free, net_of, signature_of, point_of, coded_point}
+use Rattle.in_net.specs.Made.{PassesEnd, HasSymbolAfter, AreMade}
+use Rattle.in_net.specs.Nets.{Point, Port, Free, net_of, signature_of, coded_point}
 use Rattle.in_net.specs.OutcomeLaws.{HoldsNoPair, IsOtherPair}
 use Rattle.in_net.specs.Parts.{Parts, IsWhole, symbol_in, partner_in}
 use Rattle.in_net.specs.Rules.{RuleParts}
 use Rattle.in_net.specs.declared.nets.AgentNo.{AgentNo}
-use Rattle.in_net.specs.declared.nets.Point as coded
 use Rattle.in_net.specs.declared.nets.Point.TheVariants as code
 use Rattle.in_net.proofs.Interactions.Alternating.{symbol_of, end_of_pair}
-use Rattle.in_net.proofs.Interactions.AtNets.{port_agent, port_place}
+use Rattle.in_net.proofs.Interactions.AtNets.{port_place}
 use Rattle.in_net.proofs.Interactions.Through as through
 use Rattle.in_net.proofs.OneNet.{map_is}
-use Rattle.in_net.proofs.Stepping.Making.{fresh_symbol, stays_after, net, inside, redex, naming, pt, Way}
+use Rattle.in_net.proofs.Stepping.Making.{agent_same, fresh_symbol, stays_after, net, inside, redex, naming, pt, Way}
 use Rattle.in_net.proofs.Stepping.Pairs.{one_partner, flipped}
 use Rattle.in_net.proofs.Stepping.Partners.{net_wire}
 
@@ -56,9 +55,6 @@ symbol_is (Some z) s e = let same : z.0 ≡ s.0 = cc in ap (λ (k : ℕ). let y 
 
 symbol_number : (o : Option SymbolNo) (s : SymbolNo) → o ≡ Some s → option_map (λ (s : SymbolNo). s.0) o ≡ Some s.0
 symbol_number o s e = ap (option_map (λ (s : SymbolNo). s.0)) e
-
-agent_same : (x y : AgentNo) → x.0 ≡ y.0 → x ≡ y
-agent_same x y e = ap (λ (z : ℕ). let w : AgentNo = record { 0 = z } in w) e
 
 not_there : (o : Option ℕ) (s : ℕ) → o ≡ None → o ≡ Some s → ⊥
 not_there o s h k = cc

@@ -1,5 +1,5 @@
 -- The pairs that an interaction makes: one for each lowest boundary end, found by the two halves of its path.
-use Rattle.std.proofs.Common.{◌≡◌, ◌≢◌, ◌⊎◌, inl, inr, ◌+◌, ◌*◌, ◌<◌, ◌≤◌, ℕ, zero, suc, Option, Some, None, List, [], ◌∷◌, ◌++◌, length, slice_get, refl, sym, ap, subst, ◌∙◌, arith}
+use Rattle.std.proofs.Common.{◌≡◌, ◌≢◌, ◌⊎◌, inl, inr, ◌+◌, ◌*◌, ◌<◌, ◌≤◌, ℕ, Option, Some, None, List, [], ◌∷◌, ◌++◌, length, slice_get, refl, sym, ap, subst, ◌∙◌, arith}
 use Rattle.std.specs.Prelude.{option_map, IsSomeAnd}
 use native.Mathlib.Decide.{ℕ_discrete}
 use Rattle.std.proofs.lemmas.List.{length-map}
@@ -8,32 +8,29 @@ use Rattle.in_base.specs.Lists.{IsAmong}
 use Rattle.in_syntax.specs.Grammar.{max_ports}
 use Rattle.in_symbols.specs.Tables.{Tables, arity_of, IsSymbol}
 use Rattle.in_symbols.specs.declared.symbols.SymbolNo.{SymbolNo}
-use Rattle.in_net.specs.ActivePairs.{StandsFirst, IsOrdered}
-use Rattle.in_net.specs.Following.{SiteParts, IsSite}
+use Rattle.in_net.specs.ActivePairs.{StandsFirst}
+use Rattle.in_net.specs.Following.{SiteParts}
 use Rattle.in_net.specs.Interacting.{unused, CanInteract}
 use Rattle.in_net.specs.Interactions.{Redex, IsRedex, IsNaming, Side, Outer, Inner, other, Alternates, wire_of, IsOfPair, AreJoined, end_agent, end_place, redex_at}
-use Rattle.in_net.specs.Made.{PassesEnd, IsLowestEnd, HasSymbolAfter, IsMade, AreMade}
+use Rattle.in_net.specs.Made.{PassesEnd, HasSymbolAfter, IsMade, AreMade}
 use Rattle.in_net.specs.Making.{AreMadeBelow, most_wires}
-use Rattle.in_net.specs.Nets.{Point, Port, Free, IsPoint, Signature, Net, IsNet, net_of, signature_of, point_of, coded_point}
+use Rattle.in_net.specs.Nets.{Point, Port, IsPoint, IsNet, net_of, signature_of}
 use Rattle.in_net.specs.Parts.{Parts, IsWhole, symbol_in}
 use Rattle.in_net.specs.Rules.{RuleParts}
 use Rattle.in_net.specs.declared.nets.AgentNo.{AgentNo}
 use Rattle.in_net.specs.declared.nets.Cell.{Cell}
 use Rattle.in_net.specs.declared.nets.FreeEnd.{FreeEnd}
-use Rattle.in_net.specs.declared.nets.Point as coded
-use Rattle.in_net.specs.declared.nets.Point.TheVariants as code
 use Rattle.in_net.proofs.Interactions.Alternating.{end_of_pair, not_pair}
 use Rattle.in_net.proofs.Interactions.StaysNet as stays_net
 use Rattle.in_net.proofs.Interactions.StepExists.{step_exists}
 use Rattle.in_net.proofs.Interactions.Through as through
-use Rattle.in_net.proofs.OneNet.{round_code}
 use Rattle.in_net.proofs.Stepping.Lists.{last_at, kept_at, more_at}
 use Rattle.in_net.proofs.Stepping.Pairs.{no_both, symbol_known}
 use Rattle.in_net.proofs.Stepping.Sites as sites
 use Rattle.in_net.proofs.Stepping.Turns.{some_same}
 use Rattle.in_net.proofs.Stepping.Unused.{unused_free, unused_apart}
 
-agent_same : (x y : AgentNo) → x.0 ≡ y.0 → x ≡ y
+pub agent_same : (x y : AgentNo) → x.0 ≡ y.0 → x ≡ y
 agent_same x y e = ap (λ (z : ℕ). let w : AgentNo = record { 0 = z } in w) e
 
 port_same : (x y : ℕ) (i j : ℕ) → ◌≡◌ {A = Point ℕ} (Port x i) (Port y j) → x ≡ y

@@ -1,8 +1,7 @@
 -- Where the wires of a boundary end lead, and the path that goes on from there.
-use Rattle.std.proofs.Common.{◌≡◌, ◌≢◌, ◌⊎◌, inl, inr, ◌+◌, ◌*◌, ◌<◌, ◌≤◌, ℕ, zero, suc, Option, Some, None, List, [], ◌∷◌, length, slice_get, get_or, refl, sym, ap, subst, ◌∙◌, arith}
-use Rattle.std.specs.Prelude.{MatchOption, option_map}
+use Rattle.std.proofs.Common.{◌≡◌, ◌≢◌, ◌⊎◌, inl, inr, ◌+◌, ◌<◌, ◌≤◌, ℕ, zero, suc, Option, Some, None, List, [], ◌∷◌, length, slice_get, refl, sym, ap, subst, ◌∙◌, arith}
+use Rattle.std.specs.Prelude.{MatchOption}
 use native.Mathlib.Decide.{ℕ_discrete}
-use Rattle.std.proofs.lemmas.Option.{get_or_from_slice_get, slice_get_within}
 use Rattle.std.proofs.lemmas.List.{length-map}
 use Rattle.in_base.specs.Lists.{IsAmong}
 use Rattle.in_symbols.specs.Tables.{Tables}
@@ -14,9 +13,8 @@ use Rattle.in_net.specs.Interactions.{Side, Outer, Inner, other, IsOfPair}
 use Rattle.in_net.specs.Made.{HasSymbolAfter, IsMade}
 use Rattle.in_net.specs.Making.{SiteWire, Leaves, LandsAt, LandsNowhere, NoneLower, IsOnWay, end_point, redex_of, most_wires, principal_of}
 use Rattle.in_net.specs.Nets.{Point, Port, Free, IsPoint, net_of, signature_of, point_of, coded_point}
-use Rattle.in_net.specs.Parts.{IsPointOf, cell_in, symbol_in, partner_in}
+use Rattle.in_net.specs.Parts.{IsPointOf, symbol_in, partner_in}
 use Rattle.in_net.specs.declared.nets.AgentNo.{AgentNo}
-use Rattle.in_net.specs.declared.nets.Cell.{Cell}
 use Rattle.in_net.specs.declared.nets.FreeEnd.{FreeEnd}
 use Rattle.in_net.specs.declared.nets.Point as coded
 use Rattle.in_net.specs.declared.nets.Point.TheVariants as code
@@ -26,7 +24,7 @@ use Rattle.in_net.proofs.Interactions.Through as through
 use Rattle.in_net.proofs.OneNet.{round_code, map_is}
 use Rattle.in_net.proofs.Stepping.Landing as landing
 use Rattle.in_net.proofs.Stepping.Making as making
-use Rattle.in_net.proofs.Stepping.Partners.{cell_within, net_wire, named}
+use Rattle.in_net.proofs.Stepping.Partners.{net_wire, named}
 use Rattle.in_net.proofs.Stepping.Sites.{net, inside, redex, naming, first_is}
 use Rattle.in_net.proofs.Stepping.Unused.{unused_apart}
 use Rattle.in_net.proofs.WireAt.{has_partner}
@@ -190,10 +188,10 @@ module _ (s : SiteParts) (site : IsSite s) where
   -- .. to a lower end
   pub too_low : (side by : Side) (e at count f : ℕ) → IsOnWay s side e by at count → (f < length s.rule.member.free) × ((t : Tables) → CanInteract t s.net s.rule s.one s.two → SiteWire t s by (end_point t s at) (end_point t s f)) → f < e → LandsNowhere s side e
   too_low side by e at count f on to lt = λ t can es v h few. (
-    let g = on.ahead t can es v h in
-    let r = goes_on t can by at f g.0 v (to.1 t can) g.1 in
-    (f, lt, g.3 (end_point t s f) (subst (IsAmong (end_point t s f)) (sym r.1) (inl refl)))
-    )
+      let g = on.ahead t can es v h in
+      let r = goes_on t can by at f g.0 v (to.1 t can) g.1 in
+      (f, lt, g.3 (end_point t s f) (subst (IsAmong (end_point t s f)) (sym r.1) (inl refl)))
+      )
 
   -- .. or is too long
   pub too_long : (side by : Side) (e at count : ℕ) → IsOnWay s side e by at count → most_wires ≤ count → LandsNowhere s side e
@@ -208,14 +206,6 @@ module _ (s : SiteParts) (site : IsSite s) where
     | inr g ↦ no_symbol (symbol_in s.rule.member k) z (sym is) (ap (symbol_in s.rule.member) (unused_apart s.net.cells k g.0 (named ∙ sym g.1)) ∙ g.2)
   ]
   new_symbol y k (Some z) old named is = inr (k, named, sym is)
-
-  pub no_name : (y : AgentNo) → symbol_in s.net y.0 ≡ None → ((k : ℕ) → k < length s.names → unused s.net.cells k ≢ y.0) → (z : SymbolNo) → HasSymbolAfter s.net s.rule s.one s.two y z → ⊥
-  no_name y old unnamed z (inl g) = no_symbol (symbol_in s.net y.0) z old g.2
-  no_name y old unnamed z (inr g) = go (cell_in s.rule.member g.0) refl g.2
-    where
-      go : (o : Option Cell) → cell_in s.rule.member g.0 ≡ o → option_map (λ (c : Cell). c.symbol) o ≡ Some z → ⊥
-      go None e f = cc
-      go (Some c) e f = let l = cell_within s.rule.member.cells g.0 c e in let m = site.many in unnamed g.0 (omega (arith, l, m)) g.1
 
   -- ---- the pair of a boundary end
 
@@ -257,9 +247,6 @@ module _ (s : SiteParts) (site : IsSite s) where
         let r = half_of side e q h in
         let same = port_agent_of x r.0 0 0 (landed side e (code.Port x 0) at r.0 r.1) in
         none r.1.symbol (subst (λ (y : AgentNo). HasSymbolAfter s.net s.rule s.one s.two y r.1.symbol) (sym same) r.1.has)
-
-    pub not_of_pair : (side : Side) (e : ℕ) (x : AgentNo) → LandsAt s side e (code.Port x 0) → (x ≢ s.one) × (x ≢ s.two)
-    not_of_pair side e x at = let l = at t can in ((λ h. l.1.1 (inl (ap (λ (z : AgentNo). z.0) h))), (λ h. l.1.1 (inr (ap (λ (z : AgentNo). z.0) h))))
 
     pub differ : (e : ℕ) (x y : AgentNo) → LandsAt s Outer e (code.Port x 0) → LandsAt s Inner e (code.Port y 0) → x ≢ y
     differ e x y outer inner =

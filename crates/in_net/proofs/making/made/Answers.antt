@@ -1,4 +1,4 @@
-use Rattle.std.proofs.Common.{◌≡◌, ◌≤◌, ◌+◌, List, length, sym, subst, ap, ◌∙◌}
+use Rattle.std.proofs.Common.{◌≤◌, ◌+◌, length, sym, subst, ◌∙◌}
 use Rattle.in_net.specs.Following.{SiteParts}
 use Rattle.in_net.specs.Making.{AreMadeBelow}
 use Rattle.in_net.specs.Parts.{Parts, IsWhole}

@@ -2,7 +2,7 @@ use Rattle.std.proofs.Common.{sym, subst, ◌∙◌}
 use Rattle.in_net.specs.Following.{IsSite}
 use Rattle.in_net.specs.Interactions.{Outer, Inner}
 use Rattle.in_net.proofs.Stepping.Making.{symbol_after_known}
-use Rattle.in_net.proofs.Stepping.Reaching.{nowhere, not_principal_port, no_symbol_there, not_of_pair, differ, pair_there, no_pair, lands_there}
+use Rattle.in_net.proofs.Stepping.Reaching.{nowhere, not_principal_port, no_symbol_there, differ, pair_there, no_pair, lands_there}
 use Rattle.in_net.proofs.following.Site.pair_through.Goals as goal
 
 pub returns-in_err-landing : goal.returns-in_err-landing

@@ -1,6 +1,6 @@
-use Rattle.std.proofs.Common.{◌≡◌, ◌<◌, List, Some, None, length, slice_get, slice_index_or, sym, subst, ap, ◌∙◌}
+use Rattle.std.proofs.Common.{◌≡◌, ◌<◌, List, Some, length, slice_get, slice_index_or, sym, subst, ap, ◌∙◌}
 use Rattle.std.proofs.lemmas.Option.{slice_get_within, get_or_from_slice_get}
-use Rattle.in_net.specs.Following.{SiteParts, IsSite, end_of, port_of}
+use Rattle.in_net.specs.Following.{SiteParts, IsSite}
 use Rattle.in_net.specs.Interacting.{unused}
 use Rattle.in_net.specs.Interactions.{Outer}
 use Rattle.in_net.specs.Making.{LeadsTo, side_of}
@@ -8,7 +8,6 @@ use Rattle.in_net.specs.Parts.{Parts, IsPointOf, partner_in}
 use Rattle.in_net.specs.declared.making.Reached.TheVariants.{End, Staying}
 use Rattle.in_net.specs.declared.making.Side.{Side}
 use Rattle.in_net.specs.declared.nets.AgentNo.{AgentNo}
-use Rattle.in_net.specs.declared.nets.Point.{Point}
 use Rattle.in_net.specs.declared.nets.Point.TheVariants.{Port, Free}
 use Rattle.in_net.proofs.WireAt.{has_partner}
 use Rattle.in_net.proofs.Stepping.Reaching.{port_is_point, outer_end, end_wire, outer_stays, inner_end, inner_named, inner_stays}
