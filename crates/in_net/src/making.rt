@@ -50,8 +50,8 @@ fn principal(point: Point) -> Option<AgentNo>
     ensures { result ≡ principal_of point }
 {
     match point {
-        Point::Port(agent, place) => { if place == 0 { Some(agent) } else { None } }
-        Point::Free(_) => None,
+        Point::Port(agent, 0) => Some(agent),
+        _ => None,
     }
 }
 
