@@ -1,7 +1,6 @@
 pub mod Accepted
 pub mod Apart
 pub mod Counting
-pub mod MadeLaws
 pub mod FirstQueue
 pub mod Ordered
 pub mod Queues

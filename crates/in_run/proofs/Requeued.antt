@@ -20,10 +20,10 @@ use Rattle.in_net.proofs.Interactions.AtNets.{port_agent, port_place}
 use Rattle.in_net.proofs.Stepping.Lists.{kept_at}
 use Rattle.in_check.proofs.Reached.FromText.{to_mapped}
 use Rattle.in_run.specs.Machines.{agents_at, numbers_of, IsQueueOf}
-use Rattle.in_run.specs.Made.{IsMade, AreMade}
-use Rattle.in_run.specs.MadeLaws.{HoldsNoPair, IsOtherPair}
+use Rattle.in_net.specs.Made.{IsMade, AreMade}
+use Rattle.in_net.specs.OutcomeLaws.{HoldsNoPair, IsOtherPair}
 use Rattle.in_run.proofs.Apart.{apart}
-use Rattle.in_run.proofs.MadeLaws.{kept_or_made}
+use Rattle.in_net.proofs.Stepping.KeptOrMade.{kept_or_made}
 
 -- ---- lists
 

@@ -16,7 +16,7 @@ use Rattle.in_check.proofs.Reached.Plain.{fits, steps}
 use Rattle.in_run.specs.Inside.{IsKept, heads_taking}
 use Rattle.in_run.specs.Limiting.{most_cells}
 use Rattle.in_run.specs.Machines.{MachineParts, IsMachine, IsQueueOf, HasCells, agents_at, agents_of, free_of, numbers_of, plain_of}
-use Rattle.in_run.specs.Made.{IsMade, AreMade}
+use Rattle.in_net.specs.Made.{IsMade, AreMade}
 use Rattle.in_run.specs.Runs.{NeedsAt, HasRoomAt, StepsAt}
 use Rattle.in_run.proofs.Accepted.{member_whole, no_pair, one_rule}
 use Rattle.in_run.proofs.Queues.{few_agents, short_queue}

@@ -3,7 +3,5 @@ pub mod Inside
 pub mod Laws
 pub mod Limiting
 pub mod Machines
-pub mod Made
-pub mod MadeLaws
 pub mod Outcomes
 pub mod Runs

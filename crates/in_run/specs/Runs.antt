@@ -16,7 +16,7 @@ use Rattle.in_run.specs.declared.stops.StartFault.{StartFault}
 use Rattle.in_run.specs.declared.stops.StartFault.TheVariants as start
 use Rattle.in_run.specs.Inside.{IsNeedOf}
 use Rattle.in_run.specs.Machines.{MachineParts, parts_of, plain_of, agents_at, numbers_of, agents_of, free_of, HasCells, IsQueueOf}
-use Rattle.in_run.specs.Made.{AreMade}
+use Rattle.in_net.specs.Made.{AreMade}
 
 -- ---- one interaction
 

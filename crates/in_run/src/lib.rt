@@ -6,7 +6,7 @@ pub mod laws;
 mod limits;
 mod looking;
 mod machine;
-mod making;
+mod accepting;
 mod rules;
 mod running;
 mod stepping;

@@ -9,7 +9,7 @@ ghost use Rattle.in_run.specs.Machines.{agents_at, IsQueueOf};
 ghost use Rattle.in_run.specs.Runs.{AreInOrder, IsNoPair, JoinsPair, Starts};
 
 use crate::cells::agents_of;
-use crate::making::is_accepted;
+use crate::accepting::is_accepted;
 use crate::stops::StartFault;
 use in_arena::CellClass;
 use in_check::{Checked, Plain};

@@ -6,7 +6,7 @@ ghost use Rattle.in_run.specs.Limiting.{most_cells};
 ghost use Rattle.in_run.specs.Machines.{agents_of};
 
 use crate::cells::{Need, agents_of, is_of};
-use crate::making::is_accepted;
+use crate::accepting::is_accepted;
 use in_arena::CellClass;
 use in_check::Checked;
 use in_net::{AgentNo, Net, Rule};

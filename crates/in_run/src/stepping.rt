@@ -6,10 +6,10 @@ ghost use Rattle.in_run.specs.Machines.{plain_of, numbers_of};
 ghost use Rattle.in_run.specs.Runs.{StepsAt, HasRoomAt};
 
 use crate::machine::Machine;
-use crate::making::made;
+
 use crate::rules::{free_after, rule_of};
 use in_arena::CellClass;
-use in_net::AgentNo;
+use in_net::{AgentNo, made};
 use std::alloc::{AllocError, Global};
 use std::collections::VecDeque;
 
@@ -44,10 +44,10 @@ impl<'a> Machine<'a> {
         let rule = rule_of(checked, self.plain.net(), a, b);
         let small = free_after(checked, rule, CellClass::Small, self.small);
         let large = free_after(checked, rule, CellClass::Large, self.large);
-        let made = made(alloc, checked.symbols(), self.plain.net(), rule, a, b)?;
+        let pairs = made(alloc, checked.symbols(), self.plain.net(), rule, a, b)?;
         self.plain.step(alloc, a, b)?;
         self.plain.net().agents();
-        requeue(&mut self.queue, number as usize, made.as_slice());
+        requeue(&mut self.queue, number as usize, pairs.as_slice());
         self.small = small;
         self.large = large;
         Ok(())
