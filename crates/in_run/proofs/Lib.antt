@@ -2,6 +2,7 @@ pub mod Accepted
 pub mod Apart
 pub mod Counting
 pub mod FirstQueue
+pub mod OnItsWay
 pub mod Ordered
 pub mod Queues
 pub mod Replaced
