@@ -3,6 +3,7 @@ pub mod Apart
 pub mod Counting
 pub mod FirstQueue
 pub mod OnItsWay
+pub mod OneOutcome
 pub mod Ordered
 pub mod Queues
 pub mod Replaced

@@ -75,10 +75,12 @@ module _ (text : List ℕ) (p : Program) (accepted : IsAccepted text p) (n m : P
     cells_kept Small = let e = counted p.tables n r a b m whole.apart can act Small in omega (arith, e, one)
     cells_kept Large = let e = counted p.tables n r a b m whole.apart can act Large in omega (arith, e, two)
 
-    pub is_step : StepsAt (machine_at p n qs small large) i after
-    is_step = record {
+    pub is_step : HasRoomAt (machine_at p n qs small large) i → StepsAt (machine_at p n qs small large) i after
+    is_step free = record {
       pair = (a.0, b.0);
       stands = stands;
+      active = at;
+      room = free;
       step = record { number = k; rule = r; is_rule = rule_bare p n a b k r is; acts = acts_bare n m r a b act; program = refl };
       made = made;
       new = made_bare p.tables n r a b made are_made;
@@ -188,11 +190,11 @@ module _ (p : Program) (plain : PlainParts) (qs : List (ℕ × ℕ)) (small larg
               fits = subst (λ z. z ≤ room) (sym (same_cells h.machine.accepted.0 p accepted plain.net after.net qs small large i q.0 q.1 h.machine h.whole stands_here at_here k r is steps_to made are_made s l one two)) h.fits;
             }))
 
-        pub step_after : StepsAt now i (machine_at p after.net rest s l)
-        step_after =
+        pub step_after : HasRoomAt now i → StepsAt now i (machine_at p after.net rest s l)
+        step_after free =
             subst (λ (m : MachineParts). StepsAt m i (machine_at p after.net rest s l)) view
             (subst (λ (z : List (ℕ × ℕ)). StepsAt (machine_at p plain.net qs small large) i (machine_at p after.net z s l)) (sym queued)
-            (is_step h.machine.accepted.0 p accepted plain.net after.net qs small large i q.0 q.1 h.machine h.whole stands_here at_here k r is steps_to made are_made s l one two))
+            (is_step h.machine.accepted.0 p accepted plain.net after.net qs small large i q.0 q.1 h.machine h.whole stands_here at_here k r is steps_to made are_made s l one two (subst (λ (m : MachineParts). HasRoomAt m i) (sym view) free)))
 
         pub counted_one : (j : ℕ) → IsReachedBy (plain_of now) j → IsReachedBy (plain_of (machine_at p after.net rest s l)) (suc j)
         counted_one j reached =

@@ -79,7 +79,7 @@ returns-clause-ok c =
     step_after s.checked.now s.plain s.queue.items s.small s.large _ c.args.number c.self.invariant _ c.self.view_is c.agents_at.result c.agents_at.ensures.stands c.agents_at.ensures.pair
     c.rule_of-rule.ensures.0 c.rule_of-rule.result.now c.net.result.now c.net.ensures.net c.rule_of-rule.ensures.1 c.step.new.self (c.in_ok-step.ensures {u = tt}).ok c.in_ok-pairs.pairs.items c.symbols.result.now c.net-2.result.now
     c.symbols.ensures c.net-2.ensures.net (c.in_ok-pairs.ensures {u = tt}) c.free_after-small.result c.free_after-large.result c.free_after-small.ensures c.free_after-large.ensures
-    c.requeue.new.queue.items (c.requeue.ensures.items ∙ ap (λ (made : List (AgentNo × AgentNo)). remove s.queue.items c.args.number ++ map numbers_of made) c.as_slice.ensures)
+    c.requeue.new.queue.items (c.requeue.ensures.items ∙ ap (λ (made : List (AgentNo × AgentNo)). remove s.queue.items c.args.number ++ map numbers_of made) c.as_slice.ensures) c.requires.room
 
 pub returns-clause-counted : goal.returns-clause-counted
 returns-clause-counted c =
