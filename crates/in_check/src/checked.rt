@@ -84,8 +84,8 @@ impl Model for Checked {
 }
 
 impl Checked {
-    /// The program is the accepted one of some text.
-    pub(crate) fn is_accepted(&self)
+    /// The program is the accepted one of some text: what its proof rests on. The call does nothing.
+    pub fn is_accepted(&self)
         ensures { (text : List ℕ) × IsAccepted text self.now }
     {
         let _ = &self.passed;

@@ -22,5 +22,6 @@ pub mod Rounds
 pub mod StaysNet
 pub mod StepExists
 pub mod Stops
+pub mod Through
 pub mod Tours
 pub mod Vicious

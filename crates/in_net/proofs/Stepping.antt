@@ -1,11 +1,14 @@
 pub mod Cells
 pub mod FewAgents
+pub mod KeptOrMade
 pub mod Landing
 pub mod Lists
+pub mod Making
 pub mod OneOutcome
 pub mod Outcome
 pub mod Pairs
 pub mod Partners
+pub mod Reaching
 pub mod Sites
 pub mod Turns
 pub mod Unused

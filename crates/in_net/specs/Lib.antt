@@ -13,6 +13,8 @@ pub mod Interactions
 pub mod Joining
 pub mod Laws
 pub mod Listing
+pub mod Made
+pub mod Making
 pub mod NetFaults
 pub mod Nets
 pub mod OutcomeLaws

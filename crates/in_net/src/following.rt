@@ -37,7 +37,7 @@ impl<'a> Model for Site<'a> {
 
 impl<'a> Site<'a> {
     /// The boundary end that a port of the pair is; other points are none.
-    fn end_of(&self, point: Point) -> Option<u32>
+    pub(crate) fn end_of(&self, point: Point) -> Option<u32>
         ensures { result ≡ end_of self.now.one self.now.two self.now.first point }
     {
         match point {
@@ -57,7 +57,7 @@ impl<'a> Site<'a> {
     }
 
     /// The port of the pair that is this boundary end.
-    fn port_of(&self, end: u32) -> Point
+    pub(crate) fn port_of(&self, end: u32) -> Point
         requires { end < length self.now.rule.member.free }
         ensures { result ≡ port_of self.now.one self.now.two self.now.first end }
     {

@@ -34,7 +34,11 @@ fn empty_numbers(
 }
 
 /// The least numbers without an agent, so many.
-fn unused(alloc: Global, cells: &[Option<Cell>], count: usize) -> Result<Vec<AgentNo>, AllocError>
+pub(crate) fn unused(
+    alloc: Global,
+    cells: &[Option<Cell>],
+    count: usize,
+) -> Result<Vec<AgentNo>, AllocError>
     requires cells { length cells.now < 2 ^ 32 }
     requires few { count_by is_some cells.now + count < 2 ^ 32 }
     ensures { IfOk result (λ names. AreUnused cells.now count names.items) }
@@ -81,7 +85,7 @@ impl<'a> Site<'a> {
     }
 
     /// The agent of the right member that gets this number.
-    fn named(&self, number: AgentNo) -> Option<AgentNo>
+    pub(crate) fn named(&self, number: AgentNo) -> Option<AgentNo>
         ensures { MatchOption result ((k : ℕ) → k < length self.now.names → unused self.now.net.cells k ≢ number.0) (λ k. (k.0 < length self.now.names) × (unused self.now.net.cells k.0 ≡ number.0)) }
     {
         for (agent, name) in self.names.iter().enumerate() {
@@ -170,7 +174,7 @@ fn rejoin(free: &mut Vec<FreeEnd>, ends: &[Point])
 }
 
 /// How many auxiliary places an agent has.
-fn arity(net: &Net, agent: AgentNo) -> u32
+pub(crate) fn arity(net: &Net, agent: AgentNo) -> u32
     requires { (c : Cell) × (cell_in net.now agent.0 ≡ Some c) × (0 < length c.ends) }
     ensures { (c : Cell) → cell_in net.now agent.0 ≡ Some c → length c.ends ≡ result + 1 }
 {

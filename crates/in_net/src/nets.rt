@@ -7,7 +7,7 @@ use sqlite_items::Items;
 use std::marker::Model;
 
 /// The number of an agent. As built, agents are numbered from 0 by the places of their names.
-#[derive(Clone, Copy, Debug, PartialEq, Eq)]
+#[derive(Clone, Copy, Debug, Default, PartialEq, Eq)]
 pub struct AgentNo(pub u32);
 
 /// A port of an agent, by its place (0 is the principal port), or a free end by its number.

@@ -1,4 +1,4 @@
-ghost use Rattle.std.specs.Prelude.{◌≡◌, ◌<◌, IfOk, MatchOption};
+ghost use Rattle.std.specs.Prelude.{◌≡◌, ◌≢◌, ◌<◌, IfOk, MatchOption};
 ghost use Rattle.in_net.specs.ActivePairs.{AreActive, IsActivePair, IsOrdered, lower_of, ArePairsOf};
 ghost use Rattle.in_symbols.specs.Tables.{IsSymbol};
 ghost use Rattle.in_net.specs.Built.{IsOver};
@@ -8,21 +8,23 @@ use crate::nets::{AgentNo, Net, Point};
 use in_symbols::{SymbolNo, Symbols};
 use std::alloc::{AllocError, Global};
 
-/// Two agents that are an active pair, the first one with the lower number, in their order.
-fn in_order(
+/// Two agents that are an active pair, in their order.
+pub(crate) fn in_order(
     symbols: &Symbols,
     one: (AgentNo, SymbolNo),
     other: (AgentNo, SymbolNo),
 ) -> (AgentNo, AgentNo)
     requires one { IsSymbol symbols.now one.1.0 }
     requires other { IsSymbol symbols.now other.1.0 }
-    requires lower { one.0.0 < other.0.0 }
+    requires differ { one.0 ≢ other.0 }
     ensures { IsOrdered symbols.now one other result }
 {
-    if symbols.is_constructor(other.1) && !symbols.is_constructor(one.1) {
-        (other.0, one.0)
-    } else {
+    let first = symbols.is_constructor(one.1);
+    let second = symbols.is_constructor(other.1);
+    if first && !second || first == second && one.0.0 < other.0.0 {
         (one.0, other.0)
+    } else {
+        (other.0, one.0)
     }
 }
 

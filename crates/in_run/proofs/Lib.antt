@@ -1,1 +1,13 @@
-mod Counting
+pub mod Accepted
+pub mod Apart
+pub mod Counting
+pub mod FirstQueue
+pub mod OnItsWay
+pub mod OneOutcome
+pub mod Ordered
+pub mod Queues
+pub mod Replaced
+pub mod Requeued
+pub mod Started
+pub mod Stepped
+pub mod Unlisted

@@ -1,6 +1,6 @@
 -- What a machine keeps of its fields: its net is listed too, and its queue has room for all active pairs that fit its cells. Words of its
 -- inner contracts.
-use Rattle.std.specs.Prelude.{◌<◌, ◌^◌, length, ◌≡◌, ◌≤◌, ◌+◌, ℕ, cond, List, Option}
+use Rattle.std.specs.Prelude.{◌≡◌, ◌≤◌, ◌+◌, ℕ, cond, List, Option}
 use Rattle.in_arena.specs.declared.content.CellClass.{CellClass}
 use Rattle.in_arena.specs.declared.content.CellClass.TheVariants.{Small, Large}
 use Rattle.in_symbols.specs.Tables.{Tables}
@@ -17,7 +17,6 @@ pub record IsKept (m : MachineParts) (p : PlainParts) (room : ℕ) : Type 0 wher
   pub program : p.program ≡ m.program
   pub whole : IsWhole p.net
   pub fits : machine.cells.0 ≤ room
-  pub few : length m.queue < 2 ^ 32
 
 -- a program's net and two of its agents that are an active pair
 abbrev pub IsPairOf : PlainParts → AgentNo → AgentNo → Type 0

@@ -1,7 +1,7 @@
 pub mod AllowedLimits
 pub mod Inside
+pub mod Laws
 pub mod Limiting
 pub mod Machines
-pub mod Made
 pub mod Outcomes
 pub mod Runs

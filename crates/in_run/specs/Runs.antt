@@ -7,7 +7,7 @@ use Rattle.in_net.specs.declared.nets.AgentNo.{AgentNo}
 use Rattle.in_net.specs.declared.nets.Point.TheVariants.{Port}
 use Rattle.in_net.specs.Parts.{Parts, IsWireBetween}
 use Rattle.in_net.specs.Rules.{RuleParts}
-use Rattle.in_check.specs.Plain.{IsRuleAt, StepsTo}
+use Rattle.in_check.specs.Plain.{IsPairAt, IsRuleAt, StepsTo}
 use Rattle.in_check.specs.Programs.{Program}
 use Rattle.in_run.specs.declared.cells.Need.{Need}
 use Rattle.in_run.specs.declared.stops.Stop.{Stop}
@@ -16,22 +16,9 @@ use Rattle.in_run.specs.declared.stops.StartFault.{StartFault}
 use Rattle.in_run.specs.declared.stops.StartFault.TheVariants as start
 use Rattle.in_run.specs.Inside.{IsNeedOf}
 use Rattle.in_run.specs.Machines.{MachineParts, parts_of, plain_of, agents_at, numbers_of, agents_of, free_of, HasCells, IsQueueOf}
-use Rattle.in_run.specs.Made.{AreMade}
+use Rattle.in_net.specs.Made.{AreMade}
 
--- ---- one interaction
-
--- the interaction of the pair of that number, as `Plain` has it: the pair leaves the queue, and the new pairs come last, by the lowest
--- boundary ends on their paths. Of each class there are as many cells after as before
-pub record StepsAt (m : MachineParts) (i : ℕ) (after : MachineParts) : Type 0 where
-  pub pair : ℕ × ℕ
-  pub stands : slice_get m.queue i ≡ Some pair
-  pub step : StepsTo (plain_of m) (agents_at pair).0 (agents_at pair).1 (plain_of after)
-  pub made : List (AgentNo × AgentNo)
-  pub new : AreMade m.program.tables (parts_of m) step.rule (agents_at pair).0 (agents_at pair).1 made
-  pub queue : after.queue ≡ remove m.queue i ++ map numbers_of made
-  pub cells : (c : CellClass) → free_of after c + agents_of m.program.tables c after.agents ≡ free_of m c + agents_of m.program.tables c m.agents
-
--- ---- what the next interaction needs
+-- ---- what an interaction needs
 
 -- the agents of each class in the right member of the rule of that pair, which have to be free while the pair still stands
 pub record NeedsAt (m : MachineParts) (i : ℕ) (need : Need) : Type 0 where
@@ -50,6 +37,21 @@ HasRoomAt m i = (need : Need) × NeedsAt m i need × (need.small ≤ m.small) ×
 abbrev pub IsShortAt : MachineParts → ℕ → CellClass → ℕ → ℕ → Type 0
 IsShortAt m i Small need free = (n : Need) × NeedsAt m i n × (need ≡ n.small) × (free ≡ m.small) × (free < need)
 IsShortAt m i Large need free = (n : Need) × NeedsAt m i n × (need ≡ n.large) × (free ≡ m.large) × (free < need) × (n.small ≤ m.small)
+
+-- ---- one interaction
+
+-- the interaction of the active pair of that number, as `Plain` has it, where its cells are free: the pair leaves the queue, and the new
+-- pairs come last, by the lowest boundary ends on their paths. Of each class there are as many cells after as before
+pub record StepsAt (m : MachineParts) (i : ℕ) (after : MachineParts) : Type 0 where
+  pub pair : ℕ × ℕ
+  pub stands : slice_get m.queue i ≡ Some pair
+  pub active : IsPairAt (plain_of m) (agents_at pair).0 (agents_at pair).1
+  pub room : HasRoomAt m i
+  pub step : StepsTo (plain_of m) (agents_at pair).0 (agents_at pair).1 (plain_of after)
+  pub made : List (AgentNo × AgentNo)
+  pub new : AreMade m.program.tables (parts_of m) step.rule (agents_at pair).0 (agents_at pair).1 made
+  pub queue : after.queue ≡ remove m.queue i ++ map numbers_of made
+  pub cells : (c : CellClass) → free_of after c + agents_of m.program.tables c after.agents ≡ free_of m c + agents_of m.program.tables c m.agents
 
 -- ---- a start
 

@@ -2,15 +2,18 @@
 #![tactic(auto)]
 
 mod cells;
+pub mod laws;
 mod limits;
 mod looking;
 mod machine;
+mod rules;
 mod running;
+mod stepping;
 mod stops;
 
 pub use cells::Need;
 pub use in_arena::{CellClass, CellNo, End};
-pub use limits::{LEAST_CELLS, Limits, MOST_CELLS, MOST_INTERACTIONS};
+pub use limits::Limits;
 pub use machine::Machine;
 pub use running::{Outcome, RunFault, run};
 pub use stops::{StartFault, Stop};

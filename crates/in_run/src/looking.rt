@@ -5,8 +5,11 @@ ghost use Rattle.in_symbols.specs.Tables.{arity_of};
 ghost use Rattle.in_net.specs.Parts.{IsPointOf, symbol_in, partner_in, free_name_in};
 ghost use Rattle.in_check.specs.Plain.{IsPairAt};
 ghost use Rattle.in_run.specs.Machines.{IsMachine, parts_of, plain_of, point_at, free_of};
+ghost use Rattle.in_run.specs.Runs.{NeedsAt};
 
+use crate::cells::Need;
 use crate::machine::Machine;
+use crate::rules::{need_of, rule_of};
 use in_arena::{CellClass, CellNo, End};
 use in_net::{AgentNo, Point};
 use in_symbols::SymbolNo;
@@ -114,5 +117,26 @@ impl<'a> Machine<'a> {
         ensures { Some result.now ≡ free_name_in (parts_of self.now) number }
     {
         self.plain.net().free_name(number)
+    }
+
+    /// The agents of the active pair of that number.
+    pub(crate) fn agents_at(&self, number: u32) -> (AgentNo, AgentNo)
+        requires { number < length self.now.queue }
+        ensures stands { slice_get self.now.queue number ≡ Some (result.0.0, result.1.0) }
+        ensures pair { IsPairAt (plain_of self.now) result.0 result.1 }
+    {
+        let (a, b) = self.queue[number as usize];
+        (AgentNo(a), AgentNo(b))
+    }
+
+    /// How many cells of each class the interaction of the pair of that number needs: the agents of its rule's right member. They have to
+    /// be free while the pair still stands.
+    pub fn need_of(&self, number: u32) -> Need
+        requires { number < length self.now.queue }
+        ensures { NeedsAt self.now number result }
+    {
+        let (a, b) = self.agents_at(number);
+        let rule = rule_of(self.checked, self.plain.net(), a, b);
+        need_of(self.checked, rule)
     }
 }

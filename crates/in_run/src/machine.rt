@@ -1,5 +1,19 @@
-// A machine (stand-in).
+// A machine, and how it starts.
+ghost use Rattle.std.specs.Prelude.{◌≡◌, ◌≢◌, ◌<◌, ◌≤◌, length, IfOk, MatchOption};
+ghost use Rattle.std.specs.VecDeque.{deque_capacity};
+ghost use Rattle.in_net.specs.declared.nets.AgentNo.{AgentNo};
+ghost use Rattle.in_net.specs.declared.nets.Point.TheVariants.{Port};
+ghost use Rattle.in_net.specs.ActivePairs.{IsActivePair};
+ghost use Rattle.in_run.specs.Limiting.{least_cells, most_cells};
+ghost use Rattle.in_run.specs.Machines.{agents_at, IsQueueOf};
+ghost use Rattle.in_run.specs.Runs.{AreInOrder, IsNoPair, JoinsPair, Starts};
+
+use crate::cells::agents_of;
+use crate::stops::StartFault;
+use in_arena::CellClass;
 use in_check::{Checked, Plain};
+use in_net::{AgentNo, Point};
+use std::alloc::{AllocError, Global};
 use std::collections::VecDeque;
 use std::marker::Model;
 
@@ -37,4 +51,103 @@ impl<'a> Model for Machine<'a> {
       small = m.small;
       large = m.large;
     }) m.plain (deque_capacity m.queue) };
+}
+
+/// The agent whose principal port this is.
+fn principal(point: Point) -> Option<AgentNo>
+    ensures { MatchOption result ((x : AgentNo) → point ≢ Port x 0) (λ x. point ≡ Port x 0) }
+{
+    match point {
+        Point::Port(agent, place) => {
+            if place == 0 {
+                Some(agent)
+            } else {
+                None
+            }
+        }
+        Point::Free(_) => None,
+    }
+}
+
+/// The two agents of a wire that is an active pair of the program's net, the constructor first.
+fn pair_of(checked: &Checked, wire: u32) -> Option<(u32, u32)>
+    requires { wire < length checked.now.net.wires }
+    ensures { MatchOption result (IsNoPair checked.now.net wire) (λ q. IsActivePair checked.now.tables checked.now.net (agents_at q) × JoinsPair checked.now.net wire q) }
+{
+    checked.is_accepted();
+    let net = checked.net();
+    let (one, other) = net.wire(wire);
+    let (Some(a), Some(b)) = (principal(one), principal(other)) else {
+        return None;
+    };
+    let (Some(first), Some(_)) = (net.symbol(a), net.symbol(b)) else {
+        unreachable!()
+    };
+    if checked.symbols().is_constructor(first) {
+        Some((a.0, b.0))
+    } else {
+        Some((b.0, a.0))
+    }
+}
+
+/// The active pairs of the program's net, in the order of their wires, in a queue with at least this much room.
+fn first_queue(
+    alloc: Global,
+    checked: &Checked,
+    room: usize,
+) -> Result<VecDeque<(u32, u32)>, AllocError>
+    ensures room { IfOk result (λ q. room ≤ deque_capacity q) }
+    ensures pairs { IfOk result (λ q. IsQueueOf checked.now.tables checked.now.net q.items) }
+    ensures order { IfOk result (λ q. AreInOrder checked.now.net q.items) }
+{
+    checked.is_accepted();
+    let mut pairs = Vec::with_capacity(alloc, room)?;
+    for wire in 0..checked.net().wires() {
+        if let Some(pair) = pair_of(checked, wire) {
+            pairs.push(pair)?;
+        }
+    }
+    Ok(VecDeque::from_vec(pairs))
+}
+
+impl<'a> Machine<'a> {
+    /// A machine with so many cells of each class, at the program's net. Its pairs are queued in the order of the places of their wires,
+    /// which is this project's own choice, as are the sizes of cells.
+    ///
+    /// Refused `Full` where the net has more agents of a class than cells, small ones tested first, or for want of memory. No other call
+    /// but `step` takes memory.
+    pub fn new(alloc: Global, checked: &'a Checked, cells: u32) -> Result<Machine<'a>, StartFault>
+        requires least { least_cells ≤ cells }
+        requires most { cells ≤ most_cells }
+        ensures { Starts checked.now cells result }
+    {
+        checked.is_accepted();
+        let symbols = checked.symbols();
+        let net = checked.net();
+        let small = agents_of(symbols, net, CellClass::Small);
+        if cells < small {
+            return Err(StartFault::Full {
+                class: CellClass::Small,
+                need: small,
+                free: cells,
+            });
+        }
+        let large = agents_of(symbols, net, CellClass::Large);
+        if cells < large {
+            return Err(StartFault::Full {
+                class: CellClass::Large,
+                need: large,
+                free: cells,
+            });
+        }
+        let queue = first_queue(alloc, checked, cells as usize)?;
+        let plain = Plain::new(alloc, checked)?;
+        Ok(Machine {
+            checked,
+            plain,
+            queue,
+            small: cells - small,
+            large: cells - large,
+        })
+    }
 }

@@ -4,8 +4,9 @@ ghost use Rattle.in_run.specs.Outcomes.{RunsTo};
 use crate::limits::Limits;
 use crate::machine::Machine;
 use crate::stops::{StartFault, Stop};
+use in_arena::CellClass;
 use in_check::Checked;
-use std::alloc::{AllocError, Global};
+use std::alloc::Global;
 
 /// What a run came to: its machine, how many interactions it did, and how it stopped.
 #[derive(Drop)]
@@ -25,6 +26,40 @@ pub enum RunFault<'a> {
     },
 }
 
+impl<'a> Machine<'a> {
+    ghost use Rattle.std.specs.Prelude.{◌<◌, ◌≤◌, length, MatchOption};
+    ghost use Rattle.in_run.specs.Runs.{HasRoomAt, IsStop, GoesOn};
+
+    /// Why no interaction of the first pair is next, after so many interactions.
+    fn stop(&self, limit: u64, interactions: u64) -> Option<Stop>
+        requires { interactions ≤ limit }
+        ensures { MatchOption result (GoesOn limit self.now interactions) (IsStop limit self.now interactions) }
+    {
+        if self.pairs() == 0 {
+            return Some(Stop::Normal);
+        }
+        if interactions == limit {
+            return Some(Stop::Limit);
+        }
+        let need = self.need_of(0);
+        if self.free(CellClass::Small) < need.small {
+            return Some(Stop::Full {
+                class: CellClass::Small,
+                need: need.small,
+                free: self.free(CellClass::Small),
+            });
+        }
+        if self.free(CellClass::Large) < need.large {
+            return Some(Stop::Full {
+                class: CellClass::Large,
+                need: need.large,
+                free: self.free(CellClass::Large),
+            });
+        }
+        None
+    }
+}
+
 /// Runs a program, first in, first out: each interaction is at the first pair of the queue, and its new pairs come last.
 ///
 /// Before each interaction, in this order: where no pair is left the run stops as `Normal`; where it did as many interactions as are
@@ -37,8 +72,25 @@ pub fn run<'a>(
 ) -> Result<Outcome<'a>, RunFault<'a>>
     ensures { RunsTo checked.now limits result }
 {
-    let _ = alloc;
-    let _ = checked;
-    let _ = limits;
-    Err(RunFault::Start(StartFault::Memory(AllocError)))
+    let mut machine = match Machine::new(alloc, checked, limits.cells()) {
+        Ok(machine) => machine,
+        Err(fault) => return Err(RunFault::Start(fault)),
+    };
+    let mut interactions = 0;
+    loop {
+        if let Some(stop) = machine.stop(limits.limit(), interactions) {
+            return Ok(Outcome {
+                machine,
+                interactions,
+                stop,
+            });
+        }
+        if machine.step(alloc, 0).is_err() {
+            return Err(RunFault::Memory {
+                machine,
+                interactions,
+            });
+        }
+        interactions += 1;
+    }
 }

@@ -1,8 +1,13 @@
-use in_net::{AgentNo, Net, Point, Rule, build_net, build_rule};
+ghost use Rattle.std.specs.Prelude.{◌≡◌, ◌++◌, map};
+ghost use Rattle.in_net.specs.ActivePairs.{AreActive};
+ghost use Rattle.in_net.specs.Built.{IsOver};
+ghost use Rattle.in_net.specs.Rules.{IsRuleOver, auxiliary_types};
+
+use in_net::{AgentNo, MOST_AGENTS, Net, Point, Rule, build_net, build_rule, made};
 use in_symbols::{SymbolNo, Symbols};
 use in_syntax::{Code, Fault, Refusal, parse};
-use in_test_texts::SUMS;
-use std::alloc::Global;
+use in_test_texts::{ADDITION, DUPLICATION, SUMS};
+use std::alloc::{AllocError, Global};
 use std::test::Fail;
 
 /// The net of a program, or its refusal.
@@ -150,5 +155,120 @@ fn the_ends_of_the_constructor_come_first(rt: HostRuntime) -> Result<(), Fail> {
     assert_eq!(rt; rule.head_place(0).col, 6);
     assert_eq!(rt; rule.member().free_ends(), 3);
     assert!(rt; rule.member().symbol(AgentNo(0)) == Some(SymbolNo(1)));
+    Ok(())
+}
+
+/// Whether `made` answers these pairs, where the rule is the one for this active pair.
+fn makes_at(
+    alloc: Global,
+    symbols: &Symbols,
+    net: &Net,
+    rule: &Rule,
+    pair: (AgentNo, AgentNo),
+    expected: &[(u32, u32)],
+) -> Result<bool, AllocError>
+    requires over { IsOver symbols.now net.now }
+    requires rule { IsRuleOver symbols.now rule.now }
+    requires declared { map (λ f. f.kind) rule.now.member.free ≡ auxiliary_types symbols.now rule.now.heads.0.0 ++ auxiliary_types symbols.now rule.now.heads.1.0 }
+    requires active { AreActive net.now pair.0 pair.1 }
+{
+    let (first, second) = rule.heads();
+    if net.agents() > MOST_AGENTS {
+        return Ok(false);
+    }
+    match (net.symbol(pair.0), net.symbol(pair.1)) {
+        (Some(one), Some(two)) if one.0 == first.0 && two.0 == second.0 => {
+            let pairs = made(alloc, symbols, net, rule, pair.0, pair.1)?;
+            Ok(are_the_pairs(pairs.as_slice(), expected))
+        }
+        _ => Ok(false),
+    }
+}
+
+/// Whether these are the pairs of these numbers.
+fn are_the_pairs(pairs: &[(AgentNo, AgentNo)], expected: &[(u32, u32)]) -> bool {
+    if pairs.len() != expected.len() {
+        return false;
+    }
+    for index in 0..pairs.len() {
+        let (one, other) = pairs[index];
+        if (one.0, other.0) != expected[index] {
+            return false;
+        }
+    }
+    true
+}
+
+/// The same of the first rule of a program and the first active pair of its net.
+fn makes(alloc: Global, text: &str, expected: &[(u32, u32)]) -> Result<bool, Fault> {
+    let source = parse(alloc, text.as_bytes())?;
+    let symbols = Symbols::build(alloc, &source)?;
+    let net = build_net(alloc, &source, &symbols)?;
+    if source.rules.len() == 0 {
+        return Ok(false);
+    }
+    let rule = build_rule(alloc, &source, &symbols, 0)?;
+    let pairs = net.active_pairs(alloc, &symbols)?;
+    if pairs.len() == 0 {
+        return Ok(false);
+    }
+    Ok(makes_at(alloc, &symbols, &net, &rule, pairs[0], expected)?)
+}
+
+#[test]
+fn a_sum_makes_one_pair(rt: HostRuntime) -> Result<(), Fail> {
+    let text = format!(in rt.alloc();
+        "{SUMS}{ADDITION}net (r : nat+) {{ S(S(Z)) ~ Add(S(Z), r); }}\n"
+    )?;
+    assert!(rt; makes(rt.alloc(), text.as_str(), &[(1, 6)])?);
+    Ok(())
+}
+
+const TWO_PAIRS: &str =
+    "net (r : nat+, s : nat+) { Add(x, r) ~ S(Z); Add(S(Z), x) ~ S(Z); s ~ Z; }\n";
+
+#[test]
+fn a_pair_beside_another_on_one_path_makes_its_own_alone(rt: HostRuntime) -> Result<(), Fail> {
+    let text = format!(in rt.alloc(); "{SUMS}{ADDITION}{TWO_PAIRS}")?;
+    assert!(rt; makes(rt.alloc(), text.as_str(), &[(2, 9)])?);
+    Ok(())
+}
+
+/// Symbols and the rule of an agent whose two auxiliary ports can be wired to one another.
+const TURN: &str = "symbol Era : nat-;\nsymbol W : nat- {nat-, nat+};\nrule Z[] >< W[Era, Z];\n";
+
+#[test]
+fn a_path_within_the_pair_joins_two_new_agents(rt: HostRuntime) -> Result<(), Fail> {
+    let text = format!(in rt.alloc(); "{SUMS}{TURN}net () {{ W(x, x) ~ Z; }}\n")?;
+    assert!(rt; makes(rt.alloc(), text.as_str(), &[(3, 2)])?);
+    Ok(())
+}
+
+/// Symbols and the rule of an agent whose right member joins auxiliary ports.
+const LOOPS: &str =
+    "symbol Era : nat-;\nsymbol L : nat- {nat-, nat+, nat-, nat+};\nrule Z[] >< L[x, x, y, y];\n";
+
+#[test]
+fn a_path_goes_through_both_sides_several_times(rt: HostRuntime) -> Result<(), Fail> {
+    let text = format!(in rt.alloc(); "{SUMS}{LOOPS}net () {{ L(Z, x, x, y) ~ Z; y ~ Era; }}\n")?;
+    assert!(rt; makes(rt.alloc(), text.as_str(), &[(1, 3)])?);
+    Ok(())
+}
+
+#[test]
+fn the_pairs_stand_in_the_order_of_their_ends(rt: HostRuntime) -> Result<(), Fail> {
+    let text = format!(in rt.alloc();
+        "{SUMS}{DUPLICATION}net (r : nat+, s : nat+) {{ Dup(x, y) ~ S(Z); y ~ Add(Z, r); x ~ Add(Z, s); }}\n"
+    )?;
+    assert!(rt; makes(rt.alloc(), text.as_str(), &[(2, 7), (8, 5), (9, 3)])?);
+    Ok(())
+}
+
+#[test]
+fn a_free_end_makes_no_pair(rt: HostRuntime) -> Result<(), Fail> {
+    let text = format!(in rt.alloc();
+        "{SUMS}{DUPLICATION}net (r : nat+, s : nat+) {{ Dup(r, s) ~ S(Z); }}\n"
+    )?;
+    assert!(rt; makes(rt.alloc(), text.as_str(), &[(2, 3)])?);
     Ok(())
 }

@@ -90,7 +90,7 @@ module _ {A B : Type 0} (sig : Signature) (n : Net A) (x : Redex A B) (name : B 
       go true t f = t refl
       go false t f = let k : sig.arity x.first ≤ c = f refl in omega arith
 
-  outer_at : (c : ℕ) → c < sig.arity x.first + sig.arity x.second → (f : Point A) × (n.partner (pt c) ≡ Some f)
+  pub outer_at : (c : ℕ) → c < sig.arity x.first + sig.arity x.second → (f : Point A) × (n.partner (pt c) ≡ Some f)
   outer_at c h = has_value (n.partner (pt c)) (net.joined (pt c) (end_point c h))
 
   inner_at : (c : ℕ) → c < sig.arity x.first + sig.arity x.second → (q : Point B) × (x.member.partner (Free c) ≡ Some q)

@@ -51,7 +51,7 @@ module _ (sig : Signature) (n : Parts) (rule : RuleParts) (one two : ℕ) (names
     same_no : (a b : ℕ) → a ≢ b → nat_eq a b ≡ false
     same_no a b h = elim (eqb_tells a b) [ inl l ↦ absurd (h l.1) | inr l ↦ l.0 ]
 
-    end_at : (e : ℕ) → end_code (coded_point (pt e)) ≡ Some e
+    pub end_at : (e : ℕ) → end_code (coded_point (pt e)) ≡ Some e
     end_at e = elim (lt_tells e (sig.arity c)) [
       | inl l ↦ ap (λ (b : Bool). end_by (agent_no one) (agent_no two) (sig.arity c) (agent_no (cond b one two)) (cond b (suc e) (suc (e - sig.arity c)))) l.0
           ∙ ap (λ (z : Bool). cond z (Some e) (cond (nat_eq one two) (Some (sig.arity c + e)) None)) (same_yes one)
@@ -63,7 +63,7 @@ module _ (sig : Signature) (n : Parts) (rule : RuleParts) (one two : ℕ) (names
           ∙ ap (λ (z : Bool). cond z (Some (sig.arity c + (e - sig.arity c))) None) (same_yes two) ∙ ap (λ (z : ℕ). Some z) place
     ]
 
-    end_none : (v : Point ℕ) → (IsOfPair at v → ⊥) → end_code (coded_point v) ≡ None
+    pub end_none : (v : Point ℕ) → (IsOfPair at v → ⊥) → end_code (coded_point v) ≡ None
     end_none (Port y zero) h = refl
     end_none (Port y (suc i)) h =
         ap (λ (z : Bool). cond z (Some i) (cond (nat_eq y two) (Some (sig.arity c + i)) None)) (same_no y one (λ e. h (inl e)))

@@ -1,4 +1,4 @@
--- The net after an interaction is one, and so is the list of active pairs.
+-- The net after an interaction is one, and so are the lists of active pairs and of those that it makes.
 use Rattle.std.proofs.Common.{◌≡◌, inl, inr, ◌<◌, ℕ, zero, suc, Bool, Option, Some, None, List, [], ◌∷◌, map, length, slice_get, refl, sym, ap, subst, ◌∙◌, arith}
 use Rattle.std.specs.Prelude.{option_map, option_and_then}
 use Rattle.in_syntax.specs.declared.places.Place.{Place}
@@ -8,6 +8,7 @@ use Rattle.in_symbols.specs.declared.symbols.SymbolNo.{SymbolNo}
 use Rattle.in_net.specs.ActivePairs.{ArePairsOf, lower_of}
 use Rattle.in_net.specs.After.{cell_at}
 use Rattle.in_net.specs.Interacting.{MayInteract, CanInteract, Interacts}
+use Rattle.in_net.specs.Made.{IsMade, AreMade}
 use Rattle.in_net.specs.Nets.{Point, net_of, point_of, coded_point}
 use Rattle.in_net.specs.Parts.{Parts, IsWhole, IsWireBetween, cell_in, partner_in, wire_in}
 use Rattle.in_net.specs.Rules.{RuleParts}
@@ -20,6 +21,7 @@ use Rattle.in_net.specs.declared.nets.Point.TheVariants as code
 use Rattle.in_net.specs.declared.nets.Wire.{Wire}
 use Rattle.in_net.proofs.OneNet.{round_code, map_is}
 use Rattle.in_net.proofs.SameNet.{all_same, not_both}
+use Rattle.in_net.proofs.Stepping.Making.{end_once}
 use Rattle.in_net.proofs.Stepping.Partners.{net_wire}
 use Rattle.in_net.proofs.Stepping.Wires.{both_ends}
 
@@ -71,6 +73,27 @@ module _ {X : Type 0} (Less : X → X → Type 0) (less_once : (x y : X) → Les
 pub one_list : (t : Tables) (n : Parts) (ps qs : List (AgentNo × AgentNo)) → ArePairsOf t n ps → ArePairsOf t n qs → ps ≡ qs
 one_list t n ps qs h g =
     same_sorted (λ p q. lower_of p < lower_of q) (λ p q a b. omega (arith, a, b)) ps qs h.rising g.rising (λ k q e. g.all q (h.pairs k q e)) (λ k q e. h.all q (g.pairs k q e))
+
+pub one_made_list : (t : Tables) (n : Parts) (r : RuleParts) (a b : AgentNo) (ps qs : List (AgentNo × AgentNo)) → AreMade t n r a b ps → AreMade t n r a b qs → ps ≡ qs
+one_made_list t n r a b ps qs h g =
+    same_sorted Lower lower_once ps qs (rises ps h) (rises qs g) (λ k q e. let m = h.each k q e in g.all m.0 q m.1) (λ k q e. let m = g.each k q e in h.all m.0 q m.1)
+  where
+    Lower : AgentNo × AgentNo → AgentNo × AgentNo → Type 0
+    Lower p q = (d e : ℕ) × IsMade t n r a b d p × IsMade t n r a b e q × (d < e)
+
+    lower_once : (p q : AgentNo × AgentNo) → Lower p q → Lower q p → ⊥
+    lower_once p q x y =
+        let one = end_once t n r a b x.0 y.1 p x.2 y.3 in
+        let two = end_once t n r a b x.1 y.0 q x.3 y.2 in
+        let l = x.4 in
+        let m = y.4 in
+        omega (arith, one, two, l, m)
+
+    rises : (xs : List (AgentNo × AgentNo)) → AreMade t n r a b xs → Rises Lower lower_once xs
+    rises xs m j k p q lt e f =
+        let x = m.each j p e in
+        let y = m.each k q f in
+        (x.0, y.0, x.1, y.1, m.rising j k x.0 y.0 p q lt e f x.1 y.1)
 
 -- ---- parts of nets
 

@@ -21,21 +21,25 @@ use Rattle.in_net.proofs.WireAt.{has_partner}
 same_agent : (a b : AgentNo) (i j : ℕ) → ◌≡◌ {A = Point} (Port a i) (Port b j) → a ≡ b
 same_agent a b i j e = cc
 
-no_both : (x y : Bool) (a b : ℕ) → (((x ≡ true) × (y ≡ false)) ⊎ ((x ≡ y) × (a < b))) → (((y ≡ true) × (x ≡ false)) ⊎ ((y ≡ x) × (b < a))) → ⊥
-no_both x y a b (inl h) (inl k) = let e : true ≡ false = sym h.0 ∙ k.1 in cc
-no_both x y a b (inl h) (inr k) = let e : true ≡ false = sym h.0 ∙ sym k.0 ∙ h.1 in cc
-no_both x y a b (inr h) (inl k) = let e : true ≡ false = sym k.0 ∙ sym h.0 ∙ k.1 in cc
-no_both x y a b (inr h) (inr k) = let l = h.1 in let m = k.1 in omega (arith, l, m)
+not_both_orders : (x y : Bool) (a b : ℕ) → (((x ≡ true) × (y ≡ false)) ⊎ ((x ≡ y) × (a < b))) → (((y ≡ true) × (x ≡ false)) ⊎ ((y ≡ x) × (b < a))) → ⊥
+not_both_orders x y a b (inl h) (inl k) = let e : true ≡ false = sym h.0 ∙ k.1 in cc
+not_both_orders x y a b (inl h) (inr k) = let e : true ≡ false = sym h.0 ∙ sym k.0 ∙ h.1 in cc
+not_both_orders x y a b (inr h) (inl k) = let e : true ≡ false = sym k.0 ∙ sym h.0 ∙ k.1 in cc
+not_both_orders x y a b (inr h) (inr k) = let l = h.1 in let m = k.1 in omega (arith, l, m)
+
+-- two agents stand in one order
+pub no_both : (t : Tables) (a b : AgentNo) (c d : SymbolNo) → StandsFirst t c d a b → StandsFirst t d c b a → ⊥
+no_both t a b c d h k = not_both_orders (is_constructor t c.0) (is_constructor t d.0) a.0 b.0 h k
 
 module _ (t : Tables) (n : Parts) where
   pub one_partner : (a b d : AgentNo) → AreActive n a b → AreActive n a d → b ≡ d
   one_partner a b d h k = same_agent b d 0 0 (some_same (partner_in n (Port a 0)) (Port b 0) (Port d 0) h k)
 
-  flipped : (a b : AgentNo) → IsActivePair t n (a, b) → IsActivePair t n (b, a) → ⊥
+  pub flipped : (a b : AgentNo) → IsActivePair t n (a, b) → IsActivePair t n (b, a) → ⊥
   flipped a b h k =
       let one : h.first ≡ k.second = some_same (symbol_in n a.0) h.first k.second h.one k.two in
       let two : h.second ≡ k.first = some_same (symbol_in n b.0) h.second k.first h.two k.one in
-      no_both (is_constructor t h.first.0) (is_constructor t h.second.0) a.0 b.0 h.order
+      no_both t a b h.first h.second h.order
       (subst (λ (s : SymbolNo). StandsFirst t h.second s b a) (sym one) (subst (λ (s : SymbolNo). StandsFirst t s k.second b a) (sym two) k.order))
 
   -- the pairs whose lower numbers are below one

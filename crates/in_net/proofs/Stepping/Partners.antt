@@ -35,7 +35,7 @@ module _ (s : SiteParts) (site : IsSite s) where
   abbrev name : ℕ → ℕ
   name = unused s.net.cells
 
-  named : (t : Tables) (k i : ℕ) → IsPoint (signature_of t) (net_of s.rule.member) (Port k i) → slice_get s.names k ≡ Some (record { 0 = unused s.net.cells k })
+  pub named : (t : Tables) (k i : ℕ) → IsPoint (signature_of t) (net_of s.rule.member) (Port k i) → slice_get s.names k ≡ Some (record { 0 = unused s.net.cells k })
   named t k i h = go (cell_in s.rule.member k) refl h
     where
       go : (o : Option Cell) → cell_in s.rule.member k ≡ o → IsSomeAnd (option_map (λ (s : SymbolNo). s.0) (option_map (λ (c : Cell). c.symbol) o)) (λ s. i ≤ arity_of t s) → slice_get s.names k ≡ Some (record { 0 = unused s.net.cells k })

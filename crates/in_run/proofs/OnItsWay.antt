@@ -1,0 +1,29 @@
+-- A run, step by step.
+use Rattle.std.proofs.Common.{◌≡◌, ◌<◌, ◌≤◌, ◌+◌, ℕ, zero, suc, false, Result, Ok, Err, subst, arith}
+use Rattle.std.specs.Prelude.{OnOk, is_err}
+use Rattle.in_check.specs.Plain.{IsReachedBy}
+use Rattle.in_check.specs.Programs.{Program}
+use Rattle.in_run.specs.Machines.{MachineParts, plain_of}
+use Rattle.in_run.specs.Runs.{IsStart, Runs, at_start, then_step, StepsAt}
+
+-- so many steps of a run from a start, within a limit
+pub record IsOnItsWay (p : Program) (cells limit k : ℕ) (m : MachineParts) : Type 0 where
+  pub start : MachineParts
+  pub starts : IsStart p cells start
+  pub run : Runs start k m
+  pub within : k ≤ limit
+
+pub begins : (p : Program) (cells limit : ℕ) (m : MachineParts) → IsStart p cells m → IsOnItsWay p cells limit 0 m
+begins p cells limit m h = record { start = m; starts = h; run = at_start m; within = omega arith }
+
+pub goes_on : (p : Program) (cells limit k : ℕ) (m n : MachineParts) → IsOnItsWay p cells limit k m → StepsAt m 0 n → k < limit → IsOnItsWay p cells limit (k + 1) n
+goes_on p cells limit k m n h s l = record {
+  start = h.start;
+  starts = h.starts;
+  run = subst (λ j. Runs h.start j n) (let z : suc k ≡ k + 1 = omega arith in z) (then_step h.start m n k h.run s);
+  within = omega (arith, l);
+}
+
+pub not_err : {A E : Type 0} {P : Type 0} (r : Result A E) → false ≡ is_err r → OnOk r P → P
+not_err (Ok x) e h = h
+not_err (Err x) e h = cc

@@ -1,0 +1,59 @@
+-- A machine at its program's net.
+use Rattle.std.proofs.Common.{◌≡◌, ◌≤◌, ◌-◌, ◌+◌, ℕ, List, slice_get, refl, sym, subst, arith}
+use Rattle.in_arena.specs.declared.content.CellClass.{CellClass}
+use Rattle.in_arena.specs.declared.content.CellClass.TheVariants.{Small, Large}
+use Rattle.in_symbols.specs.Tables.{Tables}
+use Rattle.in_net.specs.Parts.{Parts}
+use Rattle.in_check.specs.Checking.{IsAccepted}
+use Rattle.in_check.specs.Plain.{PlainParts}
+use Rattle.in_check.specs.Programs.{Program}
+use Rattle.in_check.proofs.Reached.Plain.{starts}
+use Rattle.in_run.specs.Inside.{IsKept}
+use Rattle.in_run.specs.Limiting.{most_cells}
+use Rattle.in_run.specs.Machines.{MachineParts, IsMachine, IsQueueOf, HasCells, agents_at, agents_of}
+use Rattle.in_run.specs.Runs.{AreInOrder, IsStart}
+use Rattle.in_run.proofs.Accepted.{net_over, net_whole}
+use Rattle.in_run.proofs.Unlisted.{bare, pair_bare, pair_full, plain_bare}
+
+pub queue_bare : (t : Tables) (n : Parts) (qs : List (ℕ × ℕ)) → IsQueueOf t n qs → IsQueueOf t (bare n) qs
+queue_bare t n qs h = record {
+  pairs = λ k q e. pair_bare t n (agents_at q) (h.pairs k q e);
+  all = λ q a. h.all q (pair_full t n q a);
+  once = h.once;
+}
+
+pub queue_full : (t : Tables) (n : Parts) (qs : List (ℕ × ℕ)) → IsQueueOf t (bare n) qs → IsQueueOf t n qs
+queue_full t n qs h = record {
+  pairs = λ k q e. pair_full t n (agents_at q) (h.pairs k q e);
+  all = λ q a. h.all q (pair_bare t n q a);
+  once = h.once;
+}
+
+abbrev pub machine_at : Program → Parts → List (ℕ × ℕ) → ℕ → ℕ → MachineParts
+machine_at p n queue small large = record { program = p; agents = n.cells; free = n.free; queue = queue; small = small; large = large }
+
+module _ (text : List ℕ) (p : Program) (accepted : IsAccepted text p) (cells small large room : ℕ) (queue : List (ℕ × ℕ)) (few : cells ≤ most_cells) (reserved : cells ≤ room) (pairs : IsQueueOf p.tables p.net queue) (order : AreInOrder p.net queue)
+    (one : small ≡ agents_of p.tables Small p.net.cells) (two : large ≡ agents_of p.tables Large p.net.cells) (fits : small ≤ cells) (fits_too : large ≤ cells) where
+  counted : HasCells cells (machine_at p p.net queue (cells - small) (cells - large))
+  counted Small = omega (arith, one, fits)
+  counted Large = omega (arith, two, fits_too)
+
+  is_machine : IsMachine (machine_at p p.net queue (cells - small) (cells - large))
+  is_machine = record {
+    accepted = (text, accepted);
+    plain = plain_bare p p.net (starts p (net_over text p accepted)).0;
+    queue = queue_bare p.tables p.net queue pairs;
+    cells = (cells, few, counted);
+  }
+
+  module _ (plain : PlainParts) (program : plain.program ≡ p) (net : plain.net ≡ p.net) where
+    pub is_kept : IsKept (machine_at p plain.net queue (cells - small) (cells - large)) plain room
+    unfolding is_machine
+    is_kept =
+        subst (λ (n : Parts). IsKept (machine_at p n queue (cells - small) (cells - large)) (record { program = plain.program; net = n }) room) (sym net)
+        (record { machine = is_machine; program = program; whole = net_whole text p accepted; fits = reserved })
+
+    pub is_start : IsStart p cells (machine_at p plain.net queue (cells - small) (cells - large))
+    is_start =
+        subst (λ (n : Parts). IsStart p cells (machine_at p n queue (cells - small) (cells - large))) (sym net)
+        (record { program = refl; agents = refl; free = refl; queue = queue_bare p.tables p.net queue pairs; order = order; counted = counted })

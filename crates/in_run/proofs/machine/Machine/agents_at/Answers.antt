@@ -1,0 +1,15 @@
+use Rattle.std.proofs.Common.{◌<◌, length, subst, sym, arith}
+use Rattle.in_net.proofs.Stepping.Lists.{read_at}
+use Rattle.in_check.specs.Plain.{IsPairAt}
+use Rattle.in_run.specs.Machines.{MachineParts, agents_at, parts_of, plain_of}
+use Rattle.in_run.proofs.Ordered.{pair_at}
+use Rattle.in_run.proofs.Queues.{machine_promised}
+use Rattle.in_run.proofs.machine.Machine.agents_at.Goals as goal
+
+pub returns-clause-pair : goal.returns-clause-pair
+returns-clause-pair c =
+    let h = c.self.invariant.machine in
+    let q = c.index.result.now in
+    let within : c.args.number < length c.self.inside.queue.items = subst (λ (m : MachineParts). c.args.number < length m.queue) (sym c.self.view_is) c.requires in
+    subst (λ (m : MachineParts). IsPairAt (plain_of m) (agents_at q).0 (agents_at q).1) c.self.view_is
+    (pair_at _ _ (machine_promised _ h) (agents_at q) (h.queue.pairs c.args.number q (read_at c.self.inside.queue.items c.args.number q within c.index.ensures)))

@@ -1,0 +1,9 @@
+use Rattle.std.proofs.Common.{◌-◌}
+use Rattle.in_run.proofs.OnItsWay.{IsOnItsWay}
+use Rattle.in_run.proofs.running.run.Given as goal
+
+abbrev pub invariant-loop-stop : goal.invariant-loop-stop
+invariant-loop-stop l = IsOnItsWay l.checked l.limits.cells l.limits.limit l.interactions l.machine
+
+abbrev pub decreases-loop-stop : goal.decreases-loop-stop
+decreases-loop-stop l = l.limits.limit - l.interactions
