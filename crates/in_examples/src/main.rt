@@ -1,11 +1,12 @@
-//! Runs `inet check` and `inet derive` on each program NAME.inet of `examples/`: what they write has to be NAME.check and, where
-//! that file is there, NAME.derive; and the steps of each accepted program have to build its rules and its net.
+//! Runs `inet check`, `inet derive` and `inet run` on each program NAME.inet of `examples/`: what they write has to be NAME.check and,
+//! where these files are there, NAME.derive and NAME.run; and the steps of each accepted program have to build its rules and its net.
 #![tactic(auto)]
 
 use anyhow::Result;
 use in_check::{Checked, Item, check};
 use in_cover::RuleNo;
 use in_program::act;
+use in_run::Limits;
 use in_simple::verify;
 use in_syntax::{MemoryIn, MemoryOut};
 use in_words::Action;
@@ -51,13 +52,27 @@ fn is_written(rt: &HostRuntime, action: Action, text: &str, file: &str) -> Resul
     Ok(lines.text() == wanted.as_slice())
 }
 
+/// Whether what a command writes on a program is the text of a file beside it, where there is one.
+fn is_written_if_there(rt: &HostRuntime, action: Action, text: &str, file: &str) -> Result<bool> {
+    Ok(!fs::exists(rt, file)? || is_written(rt, action, text, file)?)
+}
+
+/// `run` with the limits that it has where none are given.
+fn running() -> Option<Action> {
+    Some(Action::Run(Limits::new(1_000_000, 65_536)?))
+}
+
 /// Whether a program's answers are as they stand beside it.
 fn is_as_written(rt: &HostRuntime, name: &str) -> Result<bool> {
     let alloc = rt.alloc();
     let text = fs::read_to_string(rt, format!(in alloc; "{name}.inet")?)?;
     let steps = format!(in alloc; "{name}.derive")?;
-    if fs::exists(rt, steps.as_str())?
-        && !is_written(rt, Action::Derive, text.as_str(), steps.as_str())?
+    let net = format!(in alloc; "{name}.run")?;
+    let Some(running) = running() else {
+        return Ok(false);
+    };
+    if !is_written_if_there(rt, Action::Derive, text.as_str(), steps.as_str())?
+        || !is_written_if_there(rt, running, text.as_str(), net.as_str())?
     {
         return Ok(false);
     }

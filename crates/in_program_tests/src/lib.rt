@@ -7,3 +7,5 @@ mod devices;
 mod of_in_program;
 #[cfg(test)]
 mod of_in_words;
+#[cfg(test)]
+mod of_runs;

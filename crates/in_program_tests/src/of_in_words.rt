@@ -22,12 +22,37 @@ fn the_words_check_and_derive_are_actions(rt: HostRuntime) -> Result<(), Fail> {
     Ok(())
 }
 
+/// Whether the words ask for a run within so many interactions and so many cells.
+fn is_run(answer: &Result<Action, Usage>, limit: u64, cells: u32) -> bool {
+    match answer {
+        Ok(Action::Run(limits)) => limits.limit() == limit && limits.cells() == cells,
+        _ => false,
+    }
+}
+
+#[test]
+fn run_takes_its_limits_or_the_usual_ones(rt: HostRuntime) {
+    let alloc = rt.alloc();
+    assert!(rt; is_run(&action_of(alloc, &["inet", "run"]), 1_000_000, 65_536));
+    assert!(rt; is_run(&action_of(alloc, &["inet", "run", "--limit", "0", "--cells", "16"]), 0, 16));
+    assert!(rt; is_run(&action_of(alloc, &["inet", "run", "--cells", "1048576"]), 1_000_000, 1_048_576));
+    assert!(rt; is_run(&action_of(alloc, &["inet", "run", "--limit", "1000000000000"]), 1_000_000_000_000, 65_536));
+}
+
+#[test]
+fn numbers_out_of_range_are_wrong(rt: HostRuntime) {
+    let alloc = rt.alloc();
+    assert!(rt; is_wrong(&action_of(alloc, &["inet", "run", "--limit", "1000000000001"])));
+    assert!(rt; is_wrong(&action_of(alloc, &["inet", "run", "--cells", "15"])));
+    assert!(rt; is_wrong(&action_of(alloc, &["inet", "run", "--cells", "1048577"])));
+    assert!(rt; is_wrong(&action_of(alloc, &["inet", "run", "--workers", "1"])));
+}
+
 #[test]
 fn other_words_are_wrong(rt: HostRuntime) {
     let alloc = rt.alloc();
     assert!(rt; is_wrong(&action_of(alloc, &[])));
     assert!(rt; is_wrong(&action_of(alloc, &["inet"])));
-    assert!(rt; is_wrong(&action_of(alloc, &["inet", "run"])));
     assert!(rt; is_wrong(&action_of(alloc, &["inet", "check", "check"])));
     assert!(rt; is_wrong(&action_of(alloc, &["inet", "check", "--limit", "1"])));
     assert!(rt; is_wrong(&action_of(alloc, &["inet", "derive", "check"])));
