@@ -1,12 +1,12 @@
 //! A machine that runs a program: its net, its active pairs in a queue, and a number of cells for its agents.
 #![tactic(auto)]
 
+mod accepting;
 mod cells;
 pub mod laws;
 mod limits;
 mod looking;
 mod machine;
-mod accepting;
 mod rules;
 mod running;
 mod stepping;

@@ -8,8 +8,8 @@ ghost use Rattle.in_run.specs.Limiting.{least_cells, most_cells};
 ghost use Rattle.in_run.specs.Machines.{agents_at, IsQueueOf};
 ghost use Rattle.in_run.specs.Runs.{AreInOrder, IsNoPair, JoinsPair, Starts};
 
-use crate::cells::agents_of;
 use crate::accepting::is_accepted;
+use crate::cells::agents_of;
 use crate::stops::StartFault;
 use in_arena::CellClass;
 use in_check::{Checked, Plain};
@@ -59,13 +59,7 @@ fn principal(point: Point) -> Option<AgentNo>
     ensures { MatchOption result ((x : AgentNo) → point ≢ Port x 0) (λ x. point ≡ Port x 0) }
 {
     match point {
-        Point::Port(agent, place) => {
-            if place == 0 {
-                Some(agent)
-            } else {
-                None
-            }
-        }
+        Point::Port(agent, place) => { if place == 0 { Some(agent) } else { None } }
         Point::Free(_) => None,
     }
 }

@@ -5,8 +5,8 @@ ghost use Rattle.in_run.specs.Inside.{IsPairOf, IsNeedOf, heads_taking};
 ghost use Rattle.in_run.specs.Limiting.{most_cells};
 ghost use Rattle.in_run.specs.Machines.{agents_of};
 
-use crate::cells::{Need, agents_of, is_of};
 use crate::accepting::is_accepted;
+use crate::cells::{Need, agents_of, is_of};
 use in_arena::CellClass;
 use in_check::Checked;
 use in_net::{AgentNo, Net, Rule};
