@@ -4,6 +4,7 @@ pub mod Counting
 pub mod FirstQueue
 pub mod OnItsWay
 pub mod OneOutcome
+pub mod OneStart
 pub mod Ordered
 pub mod Queues
 pub mod Replaced

@@ -1,6 +1,7 @@
 -- Laws over machines and their runs.
-use Rattle.std.specs.Prelude.{◌≡◌, ◌+◌, ℕ}
+use Rattle.std.specs.Prelude.{◌≡◌, ◌+◌, ℕ, List}
 use Rattle.in_net.specs.Nets.{net_of}
+use Rattle.in_check.specs.Checking.{IsAccepted}
 use Rattle.in_check.specs.NetText.{IsQueue}
 use Rattle.in_check.specs.Plain.{IsReachedBy}
 use Rattle.in_check.specs.Programs.{Program}
@@ -22,9 +23,9 @@ QueuesAreQueues = (m : MachineParts) → IsMachine m → IsQueue (net_of (parts_
 abbrev pub RunsReach : Type 0
 RunsReach = (m n : MachineParts) (j k : ℕ) → IsMachine m → IsReachedBy (plain_of m) j → Runs m k n → IsReachedBy (plain_of n) (k + j)
 
--- a program and a number of cells have one machine to start with
+-- an accepted program and a number of cells have one machine to start with
 abbrev pub StartsAreOne : Type 0
-StartsAreOne = (p : Program) (cells : ℕ) (m n : MachineParts) → IsMachine m → IsMachine n → IsStart p cells m → IsStart p cells n → m ≡ n
+StartsAreOne = (text : List ℕ) (p : Program) (cells : ℕ) (m n : MachineParts) → IsAccepted text p → IsStart p cells m → IsStart p cells n → m ≡ n
 
 -- a machine and a limit have one outcome
 abbrev pub OutcomesAreOne : Type 0

@@ -18,7 +18,7 @@ pub fn runs_reach()
     ensures { RunsReach }
 {}
 
-/// A program and a number of cells have one machine to start with.
+/// An accepted program and a number of cells have one machine to start with.
 pub fn starts_are_one()
     ensures { StartsAreOne }
 {}

@@ -46,10 +46,11 @@ impl<'a> Machine<'a> {
     /// The active pair of that number in the queue, the constructor first.
     pub fn pair(&self, number: u32) -> (CellNo, CellNo)
         requires { number < length self.now.queue }
-        ensures { slice_get self.now.queue number ≡ Some (result.0.0, result.1.0) }
+        ensures pair { slice_get self.now.queue number ≡ Some (result.0.0, result.1.0) }
+        ensures agents { IsSome (symbol_in (parts_of self.now) result.0.0) × IsSome (symbol_in (parts_of self.now) result.1.0) }
     {
-        let (a, b) = self.queue[number as usize];
-        (CellNo(a), CellNo(b))
+        let (a, b) = self.agents_at(number);
+        (CellNo(a.0), CellNo(b.0))
     }
 
     /// How many cells of this class are free.

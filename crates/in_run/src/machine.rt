@@ -58,13 +58,7 @@ fn principal(point: Point) -> Option<AgentNo>
     ensures { MatchOption result ((x : AgentNo) → point ≢ Port x 0) (λ x. point ≡ Port x 0) }
 {
     match point {
-        Point::Port(agent, place) => {
-            if place == 0 {
-                Some(agent)
-            } else {
-                None
-            }
-        }
+        Point::Port(agent, place) => { if place == 0 { Some(agent) } else { None } }
         Point::Free(_) => None,
     }
 }

@@ -6,7 +6,6 @@ ghost use Rattle.in_run.specs.Machines.{plain_of, numbers_of};
 ghost use Rattle.in_run.specs.Runs.{StepsAt, HasRoomAt};
 
 use crate::machine::Machine;
-
 use crate::rules::{free_after, rule_of};
 use in_arena::CellClass;
 use in_net::{AgentNo, made};

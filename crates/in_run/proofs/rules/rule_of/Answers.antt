@@ -15,9 +15,8 @@ rule-requires c = slice_get_within _ _ _ c.rule_of.ensures.stands
 
 pub returns : goal.returns
 returns c =
-    let p : PlainParts = record { program = c.args.checked.now; net = c.args.net.now } in
-    (
+    let p : PlainParts = record { program = c.args.checked.now; net = c.args.net.now } in (
       c.rule_of.result.0,
       rule_is c.is_accepted.ensures.0 p c.args.a c.args.b c.is_accepted.ensures.1 c.requires.0 c.requires.1 c.in-Some-Some.one c.in-Some-Some.two
-      (sym c.symbol.ensures ∙ c.in-Some-Some.is-0) (sym c.symbol-2.ensures ∙ c.in-Some-Some.is-1) c.rule_of.result.0 _ c.rule_of.ensures c.rule.ensures,
+          (sym c.symbol.ensures ∙ c.in-Some-Some.is-0) (sym c.symbol-2.ensures ∙ c.in-Some-Some.is-1) c.rule_of.result.0 _ c.rule_of.ensures c.rule.ensures,
     )

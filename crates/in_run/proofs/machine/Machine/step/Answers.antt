@@ -44,7 +44,7 @@ made-requires-clause-may c =
       (
         c.symbols.result.now,
         can_at s.checked.now s.plain s.queue.items s.small s.large _ c.args.number c.self.invariant _ c.self.view_is c.agents_at.result c.agents_at.ensures.stands c.agents_at.ensures.pair
-        c.rule_of-rule.ensures.0 c.rule_of-rule.result.now c.net.result.now c.net.ensures.net c.rule_of-rule.ensures.1 c.symbols.result.now c.net-2.result.now c.symbols.ensures c.net-2.ensures.net,
+            c.rule_of-rule.ensures.0 c.rule_of-rule.result.now c.net.result.now c.net.ensures.net c.rule_of-rule.ensures.1 c.symbols.result.now c.net-2.result.now c.symbols.ensures c.net-2.ensures.net,
       ),
       few_at s.checked.now s.plain s.queue.items s.small s.large _ c.args.number c.self.invariant _ c.self.view_is c.agents_at.result c.agents_at.ensures.stands c.agents_at.ensures.pair c.net-2.result.now c.net-2.ensures.net,
     )
