@@ -1,5 +1,5 @@
 -- How a count grows.
-use Rattle.std.proofs.Common.{◌≡◌, ℕ, ◌≤◌, ◌+◌, ◌-◌, ◌^◌, sym, subst, arith}
+use Rattle.std.proofs.Common.{◌≡◌, ℕ, ◌≤◌, ◌+◌, ◌-◌, ◌^◌, sym, subst}
 use Rattle.std.proofs.Math.Nat.{min-le_left}
 use Rattle.in_syntax.specs.Streams.{one_more}
 

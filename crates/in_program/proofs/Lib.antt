@@ -1,4 +1,5 @@
 pub mod Known
 pub mod OneReply
+mod OneRun
 pub mod Told
 pub mod Written

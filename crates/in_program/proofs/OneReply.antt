@@ -1,5 +1,5 @@
 -- The program has one reply to a text.
-use Rattle.std.proofs.Common.{◌≡◌, ℕ, List, ◌++◌, length, count_by, is_some, Ok, Err, refl, sym, ◌∙◌, ap}
+use Rattle.std.proofs.Common.{◌≡◌, ℕ, List, ◌++◌, length, count_by, is_some, Ok, Err, refl, sym, ◌∙◌, ap, arith}
 use Rattle.in_syntax.specs.declared.faults.Fault.TheVariants.{Refused}
 use Rattle.in_symbols.specs.Tables.{Tables}
 use Rattle.in_net.specs.Parts.{Parts}
@@ -11,9 +11,12 @@ use Rattle.in_check.specs.declared.checked.Counts.{Counts}
 use Rattle.in_check.specs.Laws.{AreOneProgram}
 use Rattle.in_check.specs.Programs.{Program, counts_of}
 use Rattle.in_check.proofs.OneAnswer.{checked_once}
-use Rattle.in_program.specs.Acting.{Finding, counted, derived, ran, full, IsFinding, finding_lines, finding_status, Report, accepted, refused, IsReport, lines_of, status_of}
+use Rattle.in_program.specs.Acting.{Finding, counted, derived, ran, full, IsFinding, finding_lines, finding_status, stop_status, Report, accepted, refused, IsReport, lines_of, status_of}
 use Rattle.in_program.specs.Laws.{TextsAreAnsweredOnce}
-use Rattle.in_program.specs.Lines.{accepted_line, refused_line}
+use Rattle.in_arena.specs.declared.content.CellClass.TheVariants.{Small, Large}
+use Rattle.in_check.specs.Checking.{IsAccepted}
+use Rattle.in_program.specs.Lines.{accepted_line, refused_line, run_lines, start_line}
+use Rattle.in_program.proofs.OneRun.{one_run, starts_or_not, same_agents}
 use Rattle.in_program.specs.Steps.{derivation_lines, net_lines, rules_lines}
 
 counts_alike : (p q : Program) → AreOneProgram p q → counts_of p ≡ counts_of q
@@ -29,16 +32,44 @@ steps_alike p q h =
     ∙ ap (λ (cs : List Certificate). rules_lines q.tables q.rules cs ++ net_lines q.tables p.net_certificate) h.rule_certificates
     ∙ ap (λ (c : Certificate). rules_lines q.tables q.rules q.rule_certificates ++ net_lines q.tables c) h.net_certificate
 
-one_finding : (a : Action) (p q : Program) (x y : Finding) → AreOneProgram p q → IsFinding a p x → IsFinding a q y → (finding_lines p x ≡ finding_lines q y) × (finding_status x ≡ finding_status y)
-one_finding Check p q counted counted same h k = (ap accepted_line (counts_alike p q same), refl)
-one_finding Derive p q derived derived same h k = (steps_alike p q same, refl)
-one_finding (Run l) p q (ran m n j s) (ran o r k t) same h g = ?
-one_finding (Run l) p q (ran m n j s) (full c need free) same h g = ?
-one_finding (Run l) p q (full c need free) (ran o r k t) same h g = ?
-one_finding (Run l) p q (full c need free) (full d more less) same h g = ?
+turned : (p q : Program) → AreOneProgram p q → AreOneProgram q p
+turned p q h = record { tables = sym h.tables; rules = sym h.rules; net = sym h.net; numbers = λ c d. sym (h.numbers c d); rule_certificates = sym h.rule_certificates; net_certificate = sym h.net_certificate }
+
+one_finding : (text : List ℕ) (a : Action) (p q : Program) (x y : Finding) → AreOneProgram p q → IsAccepted text q → IsFinding a p x → IsFinding a q y → (finding_lines p x ≡ finding_lines q y) × (finding_status x ≡ finding_status y)
+one_finding text Check p q counted counted same valid h k = (ap accepted_line (counts_alike p q same), refl)
+one_finding text Derive p q derived derived same valid h k = (steps_alike p q same, refl)
+one_finding text (Run l) p q (ran m n j s) (ran o r k t) same valid h g =
+    let one = one_run text p q l m n o r j k s t same valid h.0 h.1 g.0 g.1 in
+    ((λ i. one.0 i ++ run_lines (one.1 i) (one.2 i)), ap stop_status one.2)
+one_finding text (Run l) p q (ran m n j s) (full c need free) same valid h g = absurd (starts_or_not p q same l.cells m c need free h.0 g)
+one_finding text (Run l) p q (full c need free) (ran o r k t) same valid h g = absurd (starts_or_not q p (turned p q same) l.cells o c need free g.0 h)
+one_finding text (Run l) p q (full Small need free) (full Small more less) same valid h g =
+    ((λ i. start_line Small ((h.0 ∙ same_agents p q same Small ∙ sym g.0) i) ((h.1 ∙ sym g.1) i)), refl)
+one_finding text (Run l) p q (full Large need free) (full Large more less) same valid h g =
+    ((λ i. start_line Large ((h.0 ∙ same_agents p q same Large ∙ sym g.0) i) ((h.1 ∙ sym g.1) i)), refl)
+one_finding text (Run l) p q (full Small need free) (full Large more less) same valid h g = (let a = same_agents p q same Small in absurd (omega (arith, a, h.0, h.1, h.2, g.3)))
+one_finding text (Run l) p q (full Large need free) (full Small more less) same valid h g = (let a = same_agents p q same Small in absurd (omega (arith, a, h.3, g.0, g.1, g.2)))
+one_finding text Check p q counted derived same valid h k = elim k [ ]
+one_finding text Check p q counted (ran o r _ t) same valid h k = elim k [ ]
+one_finding text Check p q counted (full c need free) same valid h k = elim k [ ]
+one_finding text Check p q derived y same valid h k = elim h [ ]
+one_finding text Check p q (ran m n j s) y same valid h k = elim h [ ]
+one_finding text Check p q (full c need free) y same valid h k = elim h [ ]
+one_finding text Derive p q counted y same valid h k = elim h [ ]
+one_finding text Derive p q derived counted same valid h k = elim k [ ]
+one_finding text Derive p q derived (ran o r _ t) same valid h k = elim k [ ]
+one_finding text Derive p q derived (full c need free) same valid h k = elim k [ ]
+one_finding text Derive p q (ran m n j s) y same valid h k = elim h [ ]
+one_finding text Derive p q (full c need free) y same valid h k = elim h [ ]
+one_finding text (Run l) p q counted y same valid h g = elim h [ ]
+one_finding text (Run l) p q derived y same valid h g = elim h [ ]
+one_finding text (Run l) p q (ran m n j s) counted same valid h g = elim g [ ]
+one_finding text (Run l) p q (ran m n j s) derived same valid h g = elim g [ ]
+one_finding text (Run l) p q (full c need free) counted same valid h g = elim g [ ]
+one_finding text (Run l) p q (full c need free) derived same valid h g = elim g [ ]
 
 one_report : (a : Action) (text : List ℕ) (x y : Report) → IsReport a text x → IsReport a text y → (lines_of text x ≡ lines_of text y) × (status_of x ≡ status_of y)
-one_report a text (accepted p f) (accepted q g) h k = one_finding a p q f g (checked_once text (Ok p) (Ok q) h.0 k.0) h.1 k.1
+one_report a text (accepted p f) (accepted q g) h k = one_finding text a p q f g (checked_once text (Ok p) (Ok q) h.0 k.0) k.0 h.1 k.1
 one_report a text (accepted p f) (refused r) h k = absurd (checked_once text (Ok p) (Err (Refused r)) h.0 k)
 one_report a text (refused q) (accepted p f) h k = absurd (checked_once text (Err (Refused q)) (Ok p) h k.0)
 one_report a text (refused q) (refused r) h k = (ap (refused_line text) (checked_once text (Err (Refused q)) (Err (Refused r)) h k), refl)

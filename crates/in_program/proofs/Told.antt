@@ -7,7 +7,7 @@ use Rattle.in_program.specs.declared.acting.Status.{Status}
 use Rattle.in_print.specs.Devices.{Device, Moves, BreaksAt}
 use Rattle.in_program.specs.Devices.{Reader, Gives, IsEnough}
 use Rattle.in_program.specs.Lines.{memory_line}
-use Rattle.in_program.specs.Acting.{Acts, told, unwritten, memory_status, fault_status, IsReply, Says, Tells, TellsOne, AreThese}
+use Rattle.in_program.specs.Acting.{Acts, told, unwritten, memory_status, fault_status, IsReply, Says, Tells, TellsOne}
 
 -- the lines are written, or a write fails within them
 pub tells : (a : Action) (r r' : Reader) (w w' : Device) (text line : List ℕ) (s answer : Status) →

@@ -1,6 +1,5 @@
 -- What a call did to a reader, and to a writer: see `in_print`'s definitions of devices.
-use Rattle.std.specs.Prelude.{◌≡◌, ◌⊎◌, ℕ, ◌+◌, ◌<◌, ◌≤◌, Bool, IsTrue, List, length, take, Option, Result, Ok, Err}
-use Rattle.std.specs.Io.KnownBytes.{append_known}
+use Rattle.std.specs.Prelude.{◌⊎◌, ℕ, ◌+◌, ◌<◌, ◌≤◌, Bool, IsTrue, List, length, Option}
 use Rattle.in_syntax.specs.Tokens.{text_limit}
 use Rattle.in_print.specs.Devices.{Device, device, Moves, Breaks, BreaksAt}
 use Rattle.in_program.specs.declared.reading.Input.{Input}

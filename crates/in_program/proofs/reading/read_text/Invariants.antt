@@ -1,4 +1,4 @@
-use Rattle.std.proofs.Common.{◌≡◌, ◌≤◌, ◌+◌, length}
+use Rattle.std.proofs.Common.{◌≤◌, ◌+◌, length}
 use Rattle.in_syntax.specs.Tokens.{text_limit}
 use Rattle.in_print.specs.Devices.{device, Moves}
 use Rattle.in_program.proofs.reading.read_text.Given as goal

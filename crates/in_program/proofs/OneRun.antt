@@ -1,0 +1,122 @@
+-- A program's run comes to one end: two accepted programs of one text differ at most in the table of their rules, of which a run says nothing.
+use Rattle.std.proofs.Common.{◌≡◌, ◌≤◌, ℕ, zero, suc, List, sym, ap, ◌∙◌, subst, arith}
+use Rattle.in_arena.specs.declared.content.CellClass.{CellClass}
+use Rattle.in_arena.specs.declared.content.CellClass.TheVariants.{Small, Large}
+use Rattle.in_cover.specs.Table.{Cells}
+use Rattle.in_net.specs.declared.nets.AgentNo.{AgentNo}
+use Rattle.in_net.specs.Parts.{Parts}
+use Rattle.in_net.specs.Listing.{unlisted}
+use Rattle.in_net.specs.Rules.{RuleParts}
+use Rattle.in_symbols.specs.Tables.{Tables}
+use Rattle.in_check.specs.Checking.{IsAccepted}
+use Rattle.in_check.specs.Laws.{AreOneProgram}
+use Rattle.in_check.specs.Plain.{IsPlain, IsPairAt, IsRuleAt}
+use Rattle.in_check.specs.Programs.{Program}
+use Rattle.in_check.proofs.Reached.Plain.{starts}
+use Rattle.in_run.specs.declared.cells.Need.{Need}
+use Rattle.in_run.specs.declared.limits.Limits.{Limits}
+use Rattle.in_run.specs.declared.stops.Stop.{Stop}
+use Rattle.in_run.specs.declared.stops.Stop.TheVariants.{Normal, Limit, Full}
+use Rattle.in_run.specs.Limiting.{most_cells}
+use Rattle.in_run.specs.Machines.{MachineParts, IsMachine, IsQueueOf, parts_of, plain_of, agents_of}
+use Rattle.in_run.specs.Runs.{StepsAt, NeedsAt, Runs, at_start, then_step, IsStop, IsOutcome, AreInOrder, IsStart, DoesNotFit}
+use Rattle.in_run.proofs.Accepted.{net_over}
+use Rattle.in_run.proofs.OneOutcome.{one_outcome}
+use Rattle.in_run.proofs.OneStart.{one_start}
+use Rattle.in_run.proofs.Unlisted.{plain_bare}
+use Rattle.in_print.specs.Texts.{text_of}
+
+-- ---- another table of rules
+
+module _ (ns : Cells) where
+  abbrev numbered : Program → Program
+  numbered p = record { tables = p.tables; rules = p.rules; net = p.net; numbers = ns; rule_certificates = p.rule_certificates; net_certificate = p.net_certificate }
+
+  abbrev renumbered : MachineParts → MachineParts
+  renumbered m = record { program = numbered m.program; agents = m.agents; free = m.free; queue = m.queue; small = m.small; large = m.large }
+
+  rule_kept : (m : MachineParts) (a b : AgentNo) (k : ℕ) (r : RuleParts) → IsRuleAt (plain_of m) a b k r → IsRuleAt (plain_of (renumbered m)) a b k r
+  rule_kept m a b k r h = record { stands = h.stands; over = h.over; declared = h.declared; one = h.one; two = h.two }
+
+  pair_kept : (m : MachineParts) (a b : AgentNo) → IsPairAt (plain_of m) a b → IsPairAt (plain_of (renumbered m)) a b
+  pair_kept m a b h = record { first = h.first; second = h.second; one = h.one; two = h.two; active = h.active; constructor = h.constructor }
+
+  need_kept : (m : MachineParts) (i : ℕ) (x : Need) → NeedsAt m i x → NeedsAt (renumbered m) i x
+  need_kept m i x h = record { pair = h.pair; stands = h.stands; number = h.number; rule = h.rule; is_rule = rule_kept m _ _ h.number h.rule h.is_rule; is_need = h.is_need }
+
+  step_kept : (m o : MachineParts) (i : ℕ) → StepsAt m i o → StepsAt (renumbered m) i (renumbered o)
+  step_kept m o i s = record {
+    pair = s.pair;
+    stands = s.stands;
+    active = pair_kept m _ _ s.active;
+    room = (s.room.0, need_kept m i s.room.0 s.room.1, s.room.2, s.room.3);
+    step = record {
+      number = s.step.number;
+      rule = s.step.rule;
+      is_rule = rule_kept m _ _ s.step.number s.step.rule s.step.is_rule;
+      acts = s.step.acts;
+      program = ap numbered s.step.program;
+    };
+    made = s.made;
+    new = s.new;
+    queue = s.queue;
+    cells = s.cells;
+  }
+
+  runs_kept : (m n : MachineParts) (k : ℕ) → Runs m k n → Runs (renumbered m) k (renumbered n)
+  runs_kept m _ zero (at_start _) = at_start (renumbered m)
+  runs_kept m o (suc k) (then_step _ n _ _ before s) = then_step (renumbered m) (renumbered n) (renumbered o) k (runs_kept m n k before) (step_kept n o 0 s)
+
+  stop_kept : (limit : ℕ) (m : MachineParts) (k : ℕ) (s : Stop) → IsStop limit m k s → IsStop limit (renumbered m) k s
+  stop_kept limit m k Normal h = h
+  stop_kept limit m k Limit h = h
+  stop_kept limit m k (Full Small need free) h = (h.0, h.1, (h.2.0, need_kept m 0 h.2.0 h.2.1, h.2.2, h.2.3, h.2.4))
+  stop_kept limit m k (Full Large need free) h = (h.0, h.1, (h.2.0, need_kept m 0 h.2.0 h.2.1, h.2.2, h.2.3, h.2.4, h.2.5))
+
+  outcome_kept : (start : MachineParts) (limit : ℕ) (m : MachineParts) (k : ℕ) (s : Stop) → IsOutcome start limit m k s → IsOutcome (renumbered start) limit (renumbered m) k s
+  outcome_kept start limit m k s h = record { run = runs_kept start m k h.run; within = h.within; stop = stop_kept limit m k s h.stop }
+
+-- ---- two programs of one text
+
+module _ (p q : Program) (same : AreOneProgram p q) where
+  start_kept : (cells : ℕ) (m : MachineParts) → IsStart p cells m → IsStart q cells (renumbered q.numbers m)
+  start_kept cells m h = record {
+    program = ap (numbered q.numbers) h.program
+        ∙ (λ i. record { tables = same.tables i; rules = same.rules i; net = same.net i; numbers = q.numbers; rule_certificates = same.rule_certificates i; net_certificate = same.net_certificate i });
+    agents = h.agents ∙ ap (λ (n : Parts). n.cells) same.net;
+    free = h.free ∙ ap (λ (n : Parts). n.free) same.net;
+    queue = subst (λ (t : Tables). IsQueueOf t (parts_of m) m.queue) same.tables h.queue;
+    order = subst (λ (n : Parts). AreInOrder n m.queue) same.net h.order;
+    counted = h.counted;
+  }
+
+  pub same_agents : (c : CellClass) → agents_of p.tables c p.net.cells ≡ agents_of q.tables c q.net.cells
+  same_agents c = (λ i. agents_of (same.tables i) c (same.net i).cells)
+
+-- a start is a machine
+is_machine : (text : List ℕ) (p : Program) (cells : ℕ) (m : MachineParts) → IsAccepted text p → cells ≤ most_cells → IsStart p cells m → IsMachine m
+is_machine text p cells m accepted few h = record {
+  accepted = (text, subst (IsAccepted text) (sym h.program) accepted);
+  plain = subst IsPlain (λ i. record { program = sym h.program i; net = unlisted (sym h.agents i) (sym h.free i) }) (plain_bare p p.net (starts p (net_over text p accepted)).0);
+  queue = subst (λ (z : Program). IsQueueOf z.tables (parts_of m) m.queue) (sym h.program) h.queue;
+  cells = (cells, few, h.counted);
+}
+
+fits : (p : Program) (cells : ℕ) (m : MachineParts) (c : CellClass) → IsStart p cells m → agents_of p.tables c p.net.cells ≤ cells
+fits p cells m c h =
+    let same : agents_of m.program.tables c m.agents ≡ agents_of p.tables c p.net.cells = (λ i. agents_of (h.program i).tables c (h.agents i)) in
+    let count = h.counted c in
+    omega (arith, same, count)
+
+pub starts_or_not : (p q : Program) → AreOneProgram p q → (cells : ℕ) (m : MachineParts) (c : CellClass) (need free : ℕ) → IsStart p cells m → DoesNotFit q cells c need free → ⊥
+starts_or_not p q same cells m Small need free h (is, all, less) = let f = fits p cells m Small h in let a = same_agents p q same Small in omega (arith, is, all, less, f, a)
+starts_or_not p q same cells m Large need free h (is, all, less, small) = let f = fits p cells m Large h in let a = same_agents p q same Large in omega (arith, is, all, less, f, a)
+
+pub one_run : (text : List ℕ) (p q : Program) (l : Limits) (m n o r : MachineParts) (j k : ℕ) (s t : Stop) → AreOneProgram p q → IsAccepted text q → IsStart p l.cells m → IsOutcome m l.limit n j s → IsStart q l.cells o → IsOutcome o l.limit r k t
+    → (text_of n ≡ text_of r) × (j ≡ k) × (s ≡ t)
+one_run text p q l m n o r j k s t same accepted start run other end =
+    let first = start_kept p q same l.cells m start in
+    let is = one_start text q l.cells (renumbered q.numbers m) o accepted first other in
+    let whole = subst (λ z. IsOutcome z l.limit (renumbered q.numbers n) j s) is (outcome_kept q.numbers m l.limit n j s run) in
+    let one = one_outcome o (is_machine text q l.cells o accepted l.most other) l.limit (renumbered q.numbers n) r j k s t whole end in
+    (ap text_of one.0, one.1, one.2)
