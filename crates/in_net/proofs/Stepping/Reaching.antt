@@ -1,6 +1,5 @@
 -- Where the wires of a boundary end lead, and the path that goes on from there.
 use Rattle.std.proofs.Common.{◌≡◌, ◌≢◌, ◌⊎◌, inl, inr, ◌+◌, ◌<◌, ◌≤◌, ℕ, zero, suc, Option, Some, None, List, [], ◌∷◌, length, slice_get, refl, sym, ap, subst, ◌∙◌, arith}
-use Rattle.std.specs.Prelude.{MatchOption}
 use native.Mathlib.Decide.{ℕ_discrete}
 use Rattle.std.proofs.lemmas.List.{length-map}
 use Rattle.std.proofs.lemmas.Option.{none-some}
@@ -12,7 +11,7 @@ use Rattle.in_net.specs.Following.{SiteParts, IsSite, end_of, port_of}
 use Rattle.in_net.specs.Interacting.{unused, CanInteract}
 use Rattle.in_net.specs.Interactions.{Side, Outer, Inner, other, IsOfPair}
 use Rattle.in_net.specs.Made.{HasSymbolAfter, IsMade}
-use Rattle.in_net.specs.Making.{SiteWire, Leaves, LandsAt, LandsNowhere, NoneLower, IsOnWay, end_point, redex_of, most_wires, principal_of}
+use Rattle.in_net.specs.Making.{IsSymbolAfter, IsPairAt, SiteWire, Leaves, LandsAt, LandsNowhere, NoneLower, IsOnWay, end_point, redex_of, most_wires, principal_of}
 use Rattle.in_net.specs.Nets.{Point, Port, Free, IsPoint, net_of, signature_of, point_of, coded_point}
 use Rattle.in_net.specs.Parts.{IsPointOf, symbol_in, partner_in}
 use Rattle.in_net.specs.declared.nets.AgentNo.{AgentNo}
@@ -190,7 +189,7 @@ module _ (s : SiteParts) (site : IsSite s) where
   -- ---- symbols after
 
   pub new_symbol : (y : AgentNo) (k : ℕ) (o : Option SymbolNo) → symbol_in s.net y.0 ≡ None → unused s.net.cells k ≡ y.0 → o ≡ symbol_in s.rule.member k →
-      MatchOption o ((z : SymbolNo) → HasSymbolAfter s.net s.rule s.one s.two y z → ⊥) (HasSymbolAfter s.net s.rule s.one s.two y)
+      IsSymbolAfter s y o
   new_symbol y k None old named is = λ z h. elim h [
     | inl g ↦ none-some z (sym old ∙ g.2)
     | inr g ↦ none-some z (is ∙ ap (symbol_in s.rule.member) (unused_apart s.net.cells k g.0 (named ∙ sym g.1)) ∙ g.2)
@@ -267,11 +266,8 @@ principal_is (code.Free k) o x is e = cc
 
 -- ---- what is answered at a boundary end
 
-abbrev pub IsAnswer : Tables → SiteParts → ℕ → Option (AgentNo × AgentNo) → Type 0
-IsAnswer t s e o = MatchOption o ((q : AgentNo × AgentNo) → IsMade t s.net s.rule s.one s.two e q → ⊥) (λ p. IsMade t s.net s.rule s.one s.two e p × ((q : AgentNo × AgentNo) → IsMade t s.net s.rule s.one s.two e q → q ≡ p))
-
-pub no_pair : (t : Tables) (s : SiteParts) (e : ℕ) (o : Option (AgentNo × AgentNo)) → o ≡ None → ((q : AgentNo × AgentNo) → IsMade t s.net s.rule s.one s.two e q → ⊥) → IsAnswer t s e o
-no_pair t s e o is h = subst (IsAnswer t s e) (sym is) h
+pub no_pair : (t : Tables) (s : SiteParts) (e : ℕ) (o : Option (AgentNo × AgentNo)) → o ≡ None → ((q : AgentNo × AgentNo) → IsMade t s.net s.rule s.one s.two e q → ⊥) → IsPairAt t s e o
+no_pair t s e o is h = subst (IsPairAt t s e) (sym is) h
 
 pub lands_there : (s : SiteParts) (side : Side) (e : ℕ) (p : coded.Point) (o : Option AgentNo) (x : AgentNo) → LandsAt s side e p → o ≡ principal_of p → o ≡ Some x → LandsAt s side e (code.Port x 0)
 lands_there s side e p o x at is found = subst (LandsAt s side e) (principal_is p o x is found) at
