@@ -1,6 +1,7 @@
 pub mod Accepted
 pub mod Apart
 pub mod Counting
+pub mod Ended
 pub mod FirstQueue
 pub mod OnItsWay
 pub mod OneOutcome

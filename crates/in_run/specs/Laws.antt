@@ -1,5 +1,5 @@
 -- Laws over machines and their runs.
-use Rattle.std.specs.Prelude.{◌≡◌, ◌+◌, ℕ, List}
+use Rattle.std.specs.Prelude.{◌≡◌, ◌≤◌, ◌+◌, ℕ, List, Ok}
 use Rattle.in_net.specs.Nets.{net_of}
 use Rattle.in_check.specs.Checking.{IsAccepted}
 use Rattle.in_check.specs.NetText.{IsQueue}
@@ -7,8 +7,12 @@ use Rattle.in_check.specs.Plain.{IsReachedBy}
 use Rattle.in_check.specs.Programs.{Program}
 use Rattle.in_check.specs.Promises.{IsAsPromised}
 use Rattle.in_check.specs.Systems.{system_of}
+use Rattle.in_run.specs.declared.limits.Limits.{Limits}
+use Rattle.in_run.specs.declared.running.Outcome.{Outcome}
 use Rattle.in_run.specs.declared.stops.Stop.{Stop}
+use Rattle.in_run.specs.Limiting.{most_cells}
 use Rattle.in_run.specs.Machines.{MachineParts, IsMachine, parts_of, plain_of}
+use Rattle.in_run.specs.Outcomes.{RunsTo}
 use Rattle.in_run.specs.Runs.{IsStart, Runs, IsOutcome}
 
 -- what a machine shows is as promised
@@ -29,4 +33,18 @@ StartsAreOne = (text : List ℕ) (p : Program) (cells : ℕ) (m n : MachineParts
 
 -- a machine and a limit have one outcome
 abbrev pub OutcomesAreOne : Type 0
-OutcomesAreOne = (start : MachineParts) (limit : ℕ) (m n : MachineParts) (j k : ℕ) (s t : Stop) → IsMachine start → IsOutcome start limit m j s → IsOutcome start limit n k t → (m ≡ n) × (j ≡ k) × (s ≡ t)
+OutcomesAreOne = (start : MachineParts) (limit : ℕ) (m n : MachineParts) (j k : ℕ) (s t : Stop) → IsMachine start →
+    IsOutcome start limit m j s → IsOutcome start limit n k t → (m ≡ n) × (j ≡ k) × (s ≡ t)
+
+-- a start of an accepted program is a machine
+abbrev pub StartsAreMachines : Type 0
+StartsAreMachines = (text : List ℕ) (p : Program) (cells : ℕ) (m : MachineParts) → IsAccepted text p → cells ≤ most_cells → IsStart p cells m → IsMachine m
+
+-- the net of a run's outcome is reached by exactly as many interactions as were counted
+abbrev pub OutcomesAreReached : Type 0
+OutcomesAreReached = (text : List ℕ) (p : Program) (l : Limits) (o : Outcome) → IsAccepted text p → RunsTo p l (Ok o) → IsReachedBy (plain_of o.machine) o.interactions
+
+-- an accepted program and limits have one outcome
+abbrev pub ProgramsEndOnce : Type 0
+ProgramsEndOnce = (text : List ℕ) (p : Program) (l : Limits) (o u : Outcome) → IsAccepted text p → RunsTo p l (Ok o) → RunsTo p l (Ok u) →
+    (o.machine ≡ u.machine) × (o.interactions ≡ u.interactions) × (o.stop ≡ u.stop)

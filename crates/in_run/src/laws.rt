@@ -1,6 +1,6 @@
 //! Laws over machines and their runs, for whoever reasons above them. No function here does anything.
 
-ghost use Rattle.in_run.specs.Laws.{MachinesAsPromised, OutcomesAreOne, QueuesAreQueues, RunsReach, StartsAreOne};
+ghost use Rattle.in_run.specs.Laws.{MachinesAsPromised, OutcomesAreOne, OutcomesAreReached, ProgramsEndOnce, QueuesAreQueues, RunsReach, StartsAreMachines, StartsAreOne};
 
 /// What a machine shows is as promised: typed, with one rule for each active pair, without crossing circle or vicious one, with an end
 /// to each interaction, leading on from each agent, and written whole.
@@ -26,4 +26,19 @@ pub fn starts_are_one()
 /// A machine and a limit have one outcome.
 pub fn outcomes_are_one()
     ensures { OutcomesAreOne }
+{}
+
+/// A start of an accepted program is a machine: what is said of machines holds of it.
+pub fn starts_are_machines()
+    ensures { StartsAreMachines }
+{}
+
+/// The net of a run's outcome is reached by exactly as many interactions as were counted.
+pub fn outcomes_are_reached()
+    ensures { OutcomesAreReached }
+{}
+
+/// An accepted program and limits have one outcome.
+pub fn programs_end_once()
+    ensures { ProgramsEndOnce }
 {}
