@@ -1,16 +1,10 @@
-//! The tests of the passes, over their public calls: a crate with tests is proved twice, so the passes have none. Each module is
-//! named after the crate whose calls it tests.
+//! The tests of tokens, trees and tables, over public calls: a crate with tests is proved twice, so the passes have none. Each module
+//! is named after the crate whose calls it tests.
 #![tactic(auto)]
 
-#[cfg(test)]
-mod of_in_net;
 #[cfg(test)]
 mod of_in_symbols;
 #[cfg(test)]
 mod of_in_syntax;
-#[cfg(test)]
-mod of_in_typing;
-#[cfg(test)]
-mod of_interactions;
 #[cfg(test)]
 mod tokens;

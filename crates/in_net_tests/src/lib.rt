@@ -1,0 +1,9 @@
+//! The tests of nets, rules and interactions, and of their types, over public calls. Each module is named after what it tests.
+#![tactic(auto)]
+
+#[cfg(test)]
+mod of_in_net;
+#[cfg(test)]
+mod of_in_typing;
+#[cfg(test)]
+mod of_interactions;
