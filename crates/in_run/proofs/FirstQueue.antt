@@ -12,7 +12,7 @@ use Rattle.in_net.specs.Parts.{Parts, IsWhole, wire_in}
 use Rattle.in_net.proofs.Stepping.Lists.{last_at, kept_at, more_at}
 use Rattle.in_run.specs.Machines.{agents_at, numbers_of, IsQueueOf}
 use Rattle.in_run.specs.Runs.{JoinsPair, IsNoPair, AreInOrder}
-use Rattle.in_run.proofs.Apart.{apart}
+use Rattle.in_run.proofs.Apart.{apart, same_numbers}
 
 module _ (t : Tables) (n : Parts) where
   -- the pairs on the wires below one
@@ -36,9 +36,6 @@ module _ (t : Tables) (n : Parts) where
       go v q a j (inr e) = absurd (none q (subst (λ z. JoinsPair n z q) e j))
 
   module _ (whole : IsWhole n) where
-    same_numbers : (p q : ℕ × ℕ) → agents_at p ≡ agents_at q → p ≡ q
-    same_numbers p q e = ap numbers_of e
-
     agent_there : (a b x y : AgentNo) → ◌≡◌ {A = Point × Point} (Port a 0, Port b 0) (Port x 0, Port y 0) → a ≡ x
     agent_there a b x y e = let f : ◌≡◌ {A = Point} (Port a 0) (Port x 0) = ap (λ (u : Point × Point). u.0) e in cc
 

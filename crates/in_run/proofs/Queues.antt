@@ -27,7 +27,7 @@ use Rattle.in_check.proofs.Reached.Counts.{few}
 use Rattle.in_check.proofs.Reached.Plain.{promised}
 use Rattle.in_run.specs.Machines as machines
 use Rattle.in_run.specs.Machines.{MachineParts, IsMachine, IsQueueOf, HasCells, agents_at, numbers_of, takes, parts_of, plain_of}
-use Rattle.in_run.proofs.Apart.{apart}
+use Rattle.in_run.proofs.Apart.{apart, same_numbers}
 use Rattle.in_run.proofs.Ordered.{stands, stands_other}
 
 -- ---- the agents of a net, by number
@@ -93,9 +93,6 @@ module _ (t : Tables) (n : Parts) (back : (p q : coded.Point) → partner_in n p
 
   differ : (q : ℕ × ℕ) → IsActivePair t n (agents_at q) → q.0 ≢ q.1
   differ q h e = alone (code.Port (agents_at q).0 0) (h.active ∙ ap (λ (z : AgentNo). Some (code.Port z 0)) (sym (numbers_apart q.0 q.1 e)))
-
-  same_numbers : (p q : ℕ × ℕ) → agents_at p ≡ agents_at q → p ≡ q
-  same_numbers p q e = ap numbers_of e
 
   -- an agent of one pair stands in no other of them
   elsewhere : (q : ℕ × ℕ) (x : ℕ) → IsActivePair t n (agents_at q) → (x ≡ q.0) ⊎ (x ≡ q.1) → (qs : List (ℕ × ℕ)) → AreActivePairs qs → ((k : ℕ) → slice_get qs k ≡ Some q → ⊥) → AllByRecursion (λ y. x ≢ y) (agents_of qs)

@@ -1,6 +1,7 @@
 -- One interaction of a machine: what it leaves is a machine again.
 use Rattle.std.proofs.Common.{◌≡◌, ◌<◌, ◌≤◌, ◌+◌, ℕ, zero, suc, List, [], ◌∷◌, ◌++◌, length, length-append, map, remove, count_by, is_some, Some, slice_get, refl, sym, ap, subst, ◌∙◌, arith}
 use Rattle.std.proofs.lemmas.List.{length-map}
+use Rattle.std.proofs.lemmas.List.Edits.{length-remove}
 use Rattle.std.proofs.lemmas.Option.{same_Some, slice_get_within}
 use Rattle.in_arena.specs.declared.content.CellClass.{CellClass}
 use Rattle.in_arena.specs.declared.content.CellClass.TheVariants.{Small, Large}
@@ -113,11 +114,6 @@ module _ (text : List ℕ) (p : Program) (accepted : IsAccepted text p) (n m : P
     unfolding is_machine_after
     fits_room = short_queue after is_machine_after
 
-shorter : {X : Type 0} (xs : List X) (i : ℕ) → i < length xs → length (remove xs i) + 1 ≡ length xs
-shorter [] i h = absurd (omega (arith, h))
-shorter (x ∷ xs) zero h = omega arith
-shorter (x ∷ xs) (suc i) h = let e = shorter xs i (omega (arith, h)) in omega (arith, e)
-
 -- ---- what the code of a step owes, from what its calls say
 
 module _ (p : Program) (plain : PlainParts) (qs : List (ℕ × ℕ)) (small large room i : ℕ) (h : IsKept (machine_at p plain.net qs small large) plain room) (now : MachineParts) (view : machine_at p plain.net qs small large ≡ now)
@@ -175,7 +171,7 @@ module _ (p : Program) (plain : PlainParts) (qs : List (ℕ × ℕ)) (small larg
           let fit = fits_room h.machine.accepted.0 p accepted plain.net after.net qs small large i q.0 q.1 h.machine h.whole stands_here at_here k r is steps_to made are_made s l one two in
           let a = length-append (remove qs i) (map numbers_of made) in
           let b = length-map made numbers_of in
-          let d = shorter qs i (slice_get_within qs i _ stands_here) in
+          let d = length-remove qs i (slice_get_within qs i _ stands_here) in
           let g = h.fits in
           omega (arith, fit, a, b, d, g)
 

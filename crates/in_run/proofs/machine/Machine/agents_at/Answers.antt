@@ -1,7 +1,7 @@
-use Rattle.std.proofs.Common.{◌<◌, length, subst, sym, arith}
+use Rattle.std.proofs.Common.{◌<◌, length, subst, sym}
 use Rattle.in_net.proofs.Stepping.Lists.{read_at}
 use Rattle.in_check.specs.Plain.{IsPairAt}
-use Rattle.in_run.specs.Machines.{MachineParts, agents_at, parts_of, plain_of}
+use Rattle.in_run.specs.Machines.{MachineParts, agents_at, plain_of}
 use Rattle.in_run.proofs.Ordered.{pair_at}
 use Rattle.in_run.proofs.Queues.{machine_promised}
 use Rattle.in_run.proofs.machine.Machine.agents_at.Goals as goal

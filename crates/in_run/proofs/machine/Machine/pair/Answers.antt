@@ -1,4 +1,4 @@
-use Rattle.std.proofs.Common.{◌≡◌, IsSome, Option, Some, refl, ap, subst}
+use Rattle.std.proofs.Common.{◌≡◌, IsSome, Option, Some, ap}
 use Rattle.std.specs.Prelude.{is_some}
 use Rattle.in_symbols.specs.declared.symbols.SymbolNo.{SymbolNo}
 use Rattle.in_run.proofs.machine.Machine.pair.Goals as goal

@@ -1,4 +1,4 @@
-use Rattle.std.proofs.Common.{◌≤◌, length, arith}
+use Rattle.std.proofs.Common.{arith}
 use Rattle.in_run.proofs.Queues.{short_queue}
 use Rattle.in_run.proofs.machine.Machine.pairs.Goals as goal
 
