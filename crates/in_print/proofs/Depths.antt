@@ -1,18 +1,22 @@
 -- No more agents hang on each other than the net has.
-use Rattle.std.proofs.Common.{◌≡◌, ◌⊎◌, ℕ, zero, suc, ◌+◌, ◌<◌, ◌≤◌, List, [], ◌∷◌, length, Option, Some, None, IsSome, is_some, option_map, option_and_then, true≢false, count_by, slice_get, inl, inr, refl, sym, subst, arith}
+use Rattle.std.proofs.Common.{◌≡◌, ◌≢◌, ◌⊎◌, ℕ, zero, suc, ◌+◌, ◌<◌, ◌≤◌, List, [], ◌∷◌, length, Option, Some, None, IsSome, is_some, option_map, option_and_then, true≢false, count_by, slice_get, inl, inr, refl, sym, ap, ◌∙◌, subst, arith}
 use Rattle.in_net.specs.Ahead.{MeetsPair, WaitsAt}
-use Rattle.in_net.specs.Nets.{Point, Port, IsPoint, IsNet}
-use Rattle.in_check.specs.NetText.{AreAgents}
+use Rattle.in_net.specs.Nets.{Point, Port, IsPoint, IsNet, net_of}
+use Rattle.in_check.specs.NetText.{AreAgents, text_parts}
 use Rattle.std.proofs.lemmas.Option.{same_Some}
 use Rattle.in_base.specs.Lists.{IsAmong}
+use Rattle.in_net.specs.Pieces.{AreDifferent}
+use Rattle.in_check.specs.Promises.{HoldsAll}
+use Rattle.in_print.specs.Laws.{parts_of_text}
+use Rattle.in_run.proofs.Queues.{machine_queue}
 use Rattle.in_net.specs.declared.nets.Cell.{Cell}
 use Rattle.in_net.proofs.Stepping.Unused.{counted}
 use Rattle.in_arena.specs.declared.content.End.{End}
-use Rattle.in_run.specs.Machines.{MachineParts, IsMachine}
+use Rattle.in_run.specs.Machines.{MachineParts, IsMachine, parts_of}
 use Rattle.in_print.specs.Points.{point_at}
-use Rattle.in_print.specs.Texts.{setting_of, IsPointAt}
+use Rattle.in_print.specs.Texts.{words_of, setting_of, IsPointAt}
 use Rattle.in_print.proofs.Looking.{as_promised, net}
-use Rattle.in_check.proofs.Reached.Counts.{few}
+use Rattle.in_check.proofs.Reached.Counts.{few, all_of}
 use Rattle.in_check.proofs.Reached.Holds.{Tops, higher}
 use Rattle.in_check.proofs.Reached.HoldsEach.{tops_of, few_tops}
 use Rattle.in_print.specs.declared.terms.Frame.{Frame}
@@ -88,3 +92,36 @@ deep_enough m machine e point d le =
     let agents = promise.written_whole.agents in
     let few_agents : length agents.0 ≤ length (filled 0 m.agents) = few agents.0 (filled 0 m.agents) agents.1.once (λ x a. (let c = cell_there m x ((agents.1.all x).1 a) in subst (λ n. IsAmong n (filled 0 m.agents)) (omega arith) (filled_there 0 m.agents x c.0 c.1))) in
     shallow (setting_of m) (net m machine) promise.leads_on agents.0 agents.1 d (omega (arith, few_agents, filled_many 0 m.agents, le)) (point_at e) point
+
+-- ---- the agents of a machine, each once
+
+filled_only : (k : ℕ) (cs : List (Option Cell)) (x : ℕ) → IsAmong x (filled k cs) → (j : ℕ) × (c : Cell) × (x ≡ k + j) × (slice_get cs j ≡ Some (Some c))
+filled_only k [] x h = absurd h
+filled_only k (None ∷ cs) x h = let r = filled_only (suc k) cs x h in (suc r.0, r.1, omega (arith, r.2), r.3)
+filled_only k (Some c ∷ cs) x (inl e) = (0, c, omega (arith, e), refl)
+filled_only k (Some c ∷ cs) x (inr h) = let r = filled_only (suc k) cs x h in (suc r.0, r.1, omega (arith, r.2), r.3)
+
+filled_different : (k : ℕ) (cs : List (Option Cell)) → AreDifferent (filled k cs)
+filled_different k [] = tt
+filled_different k (None ∷ cs) = filled_different (suc k) cs
+filled_different k (Some c ∷ cs) =
+    (all_of (λ y. k ≢ y) (filled (suc k) cs) (λ y h e. (let r = filled_only (suc k) cs y h in omega (arith, e, r.2))), filled_different (suc k) cs)
+
+agent_shown : (m : MachineParts) (x : ℕ) (c : Cell) → slice_get m.agents x ≡ Some (Some c) → IsSome ((setting_of m).net.symbol x)
+agent_shown m x c e = ap (λ o. is_some (option_map (λ s. s.0) (option_map (λ (c : Cell). c.symbol) (option_and_then (λ c. c) o)))) e
+
+pub agents_listed : (m : MachineParts) → AreAgents (setting_of m).net (filled 0 m.agents)
+agents_listed m = record {
+  all = λ x. (
+    (λ h. (let c = cell_there m x h in subst (λ n. IsAmong n (filled 0 m.agents)) (omega arith) (filled_there 0 m.agents x c.0 c.1))),
+    (λ h. (let r = filled_only 0 m.agents x h in agent_shown m x r.1 (ap (slice_get m.agents) (omega (arith, r.2)) ∙ r.3))),
+  );
+  once = filled_different 0 m.agents;
+}
+
+-- the text of a machine's net holds each agent once, and each variable twice
+pub holds_each : (m : MachineParts) → IsMachine m → HoldsAll (net_of (parts_of m)) (parts_of_text m)
+holds_each m machine =
+    let promise = as_promised m machine in
+    subst (λ d. HoldsAll (net_of (parts_of m)) (text_parts (setting_of m).symbols (words_of m) (net_of (parts_of m)) d m.queue)) (filled_many 0 m.agents)
+    (promise.written_whole.holds (words_of m) (filled 0 m.agents) m.queue (agents_listed m) (machine_queue m machine))

@@ -1,4 +1,5 @@
 pub mod Devices
+pub mod Laws
 pub mod Points
 pub mod Texts
 pub mod Terms

@@ -1,6 +1,7 @@
 //! The text of a machine's net, as it is printed.
 #![tactic(auto)]
 
+pub mod laws;
 mod lines;
 mod numbers;
 mod sheet;

@@ -21,6 +21,7 @@ use Rattle.in_run.specs.Limiting.{most_cells}
 use Rattle.in_run.specs.Machines.{MachineParts, IsMachine, IsQueueOf, parts_of, plain_of, agents_of}
 use Rattle.in_run.specs.Runs.{StepsAt, NeedsAt, Runs, at_start, then_step, IsStop, IsOutcome, AreInOrder, IsStart, DoesNotFit}
 use Rattle.in_run.proofs.Accepted.{net_over}
+use Rattle.in_run.proofs.Ended.{is_machine}
 use Rattle.in_run.proofs.OneOutcome.{one_outcome}
 use Rattle.in_run.proofs.OneStart.{one_start}
 use Rattle.in_run.proofs.Unlisted.{plain_bare}
@@ -93,15 +94,6 @@ module _ (p q : Program) (same : AreOneProgram p q) where
   pub same_agents : (c : CellClass) → agents_of p.tables c p.net.cells ≡ agents_of q.tables c q.net.cells
   same_agents c = (λ i. agents_of (same.tables i) c (same.net i).cells)
 
--- a start is a machine
-is_machine : (text : List ℕ) (p : Program) (cells : ℕ) (m : MachineParts) → IsAccepted text p → cells ≤ most_cells → IsStart p cells m → IsMachine m
-is_machine text p cells m accepted few h = record {
-  accepted = (text, subst (IsAccepted text) (sym h.program) accepted);
-  plain = subst IsPlain (λ i. record { program = sym h.program i; net = unlisted (sym h.agents i) (sym h.free i) }) (plain_bare p p.net (starts p (net_over text p accepted)).0);
-  queue = subst (λ (z : Program). IsQueueOf z.tables (parts_of m) m.queue) (sym h.program) h.queue;
-  cells = (cells, few, h.counted);
-}
-
 fits : (p : Program) (cells : ℕ) (m : MachineParts) (c : CellClass) → IsStart p cells m → agents_of p.tables c p.net.cells ≤ cells
 fits p cells m c h =
     let same : agents_of m.program.tables c m.agents ≡ agents_of p.tables c p.net.cells = (λ i. agents_of (h.program i).tables c (h.agents i)) in
@@ -118,5 +110,5 @@ one_run text p q l m n o r j k s t same accepted start run other end =
     let first = start_kept p q same l.cells m start in
     let is = one_start text q l.cells (renumbered q.numbers m) o accepted first other in
     let whole = subst (λ z. IsOutcome z l.limit (renumbered q.numbers n) j s) is (outcome_kept q.numbers m l.limit n j s run) in
-    let one = one_outcome o (is_machine text q l.cells o accepted l.most other) l.limit (renumbered q.numbers n) r j k s t whole end in
+    let one = one_outcome o (is_machine text q accepted l.cells o other l.most) l.limit (renumbered q.numbers n) r j k s t whole end in
     (ap text_of one.0, one.1, one.2)

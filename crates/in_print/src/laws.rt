@@ -1,0 +1,9 @@
+//! A law over the text of a machine's net. No function here does anything.
+
+ghost use Rattle.in_print.specs.Laws.{TextsHoldAll};
+
+/// The text of a machine's net holds each agent once and each variable twice, and nothing else of the kind: so it is as deep as its
+/// terms need.
+pub fn texts_hold_all()
+    ensures { TextsHoldAll }
+{}
