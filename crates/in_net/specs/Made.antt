@@ -16,7 +16,8 @@ use Rattle.in_net.specs.Rules.{RuleParts}
 -- an alternating path leads from one point to the other and passes the boundary end of this number
 abbrev pub PassesEnd : {A B : Type 0} → Signature → Net A → Redex A B → (B → A) → ℕ → Point A → Point A → Type 0
 PassesEnd {A} sig n x name e u v =
-    (side : Side) × (es : List (Point A)) × Alternates (wire_of sig n x name) (IsOfPair x) side u es v × IsAmong (Port (end_agent sig x e) (end_place sig x e)) es
+    (side : Side) × (es : List (Point A)) × Alternates (wire_of sig n x name) (IsOfPair x) side u es v
+    × IsAmong (Port (end_agent sig x e) (end_place sig x e)) es
 
 -- .. and no lower one
 pub record IsLowestEnd {A B : Type 0} (sig : Signature) (n : Net A) (x : Redex A B) (name : B → A) (e : ℕ) (u v : Point A) : Type 0 where
@@ -28,8 +29,8 @@ abbrev pub HasSymbolAfter : Parts → RuleParts → AgentNo → AgentNo → Agen
 HasSymbolAfter n r a b y s =
     ((y ≢ a) × (y ≢ b) × (symbol_in n y.0 ≡ Some s)) ⊎ ((k : ℕ) × (unused n.cells k ≡ y.0) × (symbol_in r.member k ≡ Some s))
 
--- the path between the principal ports of these two agents passes no boundary end that is lower than this one: then they are an active
--- pair after the interaction of a and b, in this order
+-- the path between the principal ports of these two agents passes this boundary end and no lower one: then they are an active pair after
+-- the interaction of a and b, in this order
 pub record IsMade (t : Tables) (n : Parts) (r : RuleParts) (a b : AgentNo) (e : ℕ) (q : AgentNo × AgentNo) : Type 0 where
   pub first : SymbolNo
   pub second : SymbolNo
@@ -42,4 +43,5 @@ pub record IsMade (t : Tables) (n : Parts) (r : RuleParts) (a b : AgentNo) (e : 
 pub record AreMade (t : Tables) (n : Parts) (r : RuleParts) (a b : AgentNo) (qs : List (AgentNo × AgentNo)) : Type 0 where
   pub each : (k : ℕ) (q : AgentNo × AgentNo) → slice_get qs k ≡ Some q → (e : ℕ) × IsMade t n r a b e q
   pub all : (e : ℕ) (q : AgentNo × AgentNo) → IsMade t n r a b e q → (k : ℕ) × (slice_get qs k ≡ Some q)
-  pub rising : (j k d e : ℕ) (p q : AgentNo × AgentNo) → j < k → slice_get qs j ≡ Some p → slice_get qs k ≡ Some q → IsMade t n r a b d p → IsMade t n r a b e q → d < e
+  pub rising : (j k d e : ℕ) (p q : AgentNo × AgentNo) → j < k → slice_get qs j ≡ Some p → slice_get qs k ≡ Some q →
+      IsMade t n r a b d p → IsMade t n r a b e q → d < e

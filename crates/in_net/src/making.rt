@@ -1,11 +1,8 @@
-ghost use Rattle.std.specs.Prelude.{◌≡◌, ◌≢◌, ◌<◌, ℕ, length, IfOk, MatchOption};
-ghost use Rattle.in_net.specs.Following.{IsSite};
+ghost use Rattle.std.specs.Prelude.{◌≡◌, ◌≢◌, ◌<◌, length, IfOk};
 ghost use Rattle.in_net.specs.Interacting.{MayInteract, CanInteract};
 ghost use Rattle.in_net.specs.Interactions.{other};
-ghost use Rattle.in_net.specs.Made.{HasSymbolAfter, IsMade, AreMade};
-ghost use Rattle.in_net.specs.Making.{side_of, LeadsTo, LandsAt, LandsNowhere, principal_of};
-ghost use Rattle.in_net.specs.declared.nets.AgentNo.{AgentNo};
-ghost use Rattle.in_symbols.specs.declared.symbols.SymbolNo.{SymbolNo};
+ghost use Rattle.in_net.specs.Made.{AreMade};
+ghost use Rattle.in_net.specs.Making.{side_of, Over, LeadsTo, IsLanding, principal_of, IsSymbolAfter, IsPairAt};
 
 use crate::following::Site;
 use crate::interacting::{arity, unused};
@@ -81,7 +78,7 @@ impl<'a> Site<'a> {
     /// Where the path ends that leaves a boundary end by this side, if it goes through no lower one.
     fn landing(&self, side: Side, end: u32) -> Option<Point>
         requires { end < length self.now.rule.member.free }
-        ensures { MatchOption result (LandsNowhere self.now (side_of side) end) (LandsAt self.now (side_of side) end) }
+        ensures { IsLanding self.now (side_of side) end result }
     {
         let _ = &self.first;
         let mut by = side;
@@ -105,7 +102,7 @@ impl<'a> Site<'a> {
     fn symbol_after(&self, agent: AgentNo) -> Option<SymbolNo>
         requires one { agent ≢ self.now.one }
         requires two { agent ≢ self.now.two }
-        ensures { MatchOption result ((s : SymbolNo) → HasSymbolAfter self.now.net self.now.rule self.now.one self.now.two agent s → ⊥) (HasSymbolAfter self.now.net self.now.rule self.now.one self.now.two agent) }
+        ensures { IsSymbolAfter self.now agent result }
     {
         let _ = &self.first;
         match self.net.symbol(agent) {
@@ -116,9 +113,9 @@ impl<'a> Site<'a> {
 
     /// The pair whose principal ports are joined by the path through this boundary end, if it goes through no lower one.
     fn pair_through(&self, symbols: &Symbols, end: u32) -> Option<(AgentNo, AgentNo)>
-        requires over { CanInteract symbols.now self.now.net self.now.rule self.now.one self.now.two }
+        requires over { Over self.now symbols.now }
         requires end { end < length self.now.rule.member.free }
-        ensures { MatchOption result ((q : AgentNo × AgentNo) → IsMade symbols.now self.now.net self.now.rule self.now.one self.now.two end q → ⊥) (λ p. IsMade symbols.now self.now.net self.now.rule self.now.one self.now.two end p × ((q : AgentNo × AgentNo) → IsMade symbols.now self.now.net self.now.rule self.now.one self.now.two end q → q ≡ p)) }
+        ensures { IsPairAt symbols.now self.now end result }
     {
         let _ = &self.first;
         let one = principal(self.landing(Side::Outer, end)?)?;

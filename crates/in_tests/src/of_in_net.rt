@@ -1,11 +1,14 @@
-ghost use Rattle.std.specs.Prelude.{◌≡◌, ◌++◌, map};
+ghost use Rattle.std.specs.Prelude.{◌≡◌, ◌++◌, map, IfOk, IfSome};
+ghost use Rattle.in_syntax.specs.Order.{IsWrittenInOrder};
+ghost use Rattle.in_syntax.specs.Sizes.{IsSized};
+ghost use Rattle.in_symbols.specs.Tables.{IsTabled};
 ghost use Rattle.in_net.specs.ActivePairs.{AreActive};
 ghost use Rattle.in_net.specs.Built.{IsOver};
 ghost use Rattle.in_net.specs.Rules.{IsRuleOver, auxiliary_types};
 
 use in_net::{AgentNo, MOST_AGENTS, Net, Point, Rule, build_net, build_rule, made};
 use in_symbols::{SymbolNo, Symbols};
-use in_syntax::{Code, Fault, Refusal, parse};
+use in_syntax::{Code, Fault, Refusal, Source, parse};
 use in_test_texts::{ADDITION, DUPLICATION, SUMS};
 use std::alloc::{AllocError, Global};
 use std::test::Fail;
@@ -199,20 +202,53 @@ fn are_the_pairs(pairs: &[(AgentNo, AgentNo)], expected: &[(u32, u32)]) -> bool 
     true
 }
 
+/// The first active pair, if there is one.
+fn first_pair(
+    alloc: Global,
+    symbols: &Symbols,
+    net: &Net,
+) -> Result<Option<(AgentNo, AgentNo)>, AllocError>
+    requires { IsOver symbols.now net.now }
+    ensures { IfOk result (λ found. IfSome found (λ pair. AreActive net.now pair.0 pair.1)) }
+{
+    let pairs = net.active_pairs(alloc, symbols)?;
+    if pairs.len() == 0 {
+        return Ok(None);
+    }
+    Ok(Some(pairs[0]))
+}
+
 /// The same of the first rule of a program and the first active pair of its net.
+fn makes_first(
+    alloc: Global,
+    source: &Source,
+    symbols: &Symbols,
+    net: &Net,
+    expected: &[(u32, u32)],
+) -> Result<bool, Fault>
+    requires over { IsOver symbols.now net.now }
+    requires sized { IsSized source.now }
+    requires order { IsWrittenInOrder source.now }
+    requires tabled { IsTabled source.now symbols.now }
+{
+    if source.rules.len() == 0 {
+        return Ok(false);
+    }
+    match first_pair(alloc, symbols, net)? {
+        Some(pair) => {
+            let rule = build_rule(alloc, source, symbols, 0)?;
+            Ok(makes_at(alloc, symbols, net, &rule, pair, expected)?)
+        }
+        None => Ok(false),
+    }
+}
+
+/// The same of the text of the program.
 fn makes(alloc: Global, text: &str, expected: &[(u32, u32)]) -> Result<bool, Fault> {
     let source = parse(alloc, text.as_bytes())?;
     let symbols = Symbols::build(alloc, &source)?;
     let net = build_net(alloc, &source, &symbols)?;
-    if source.rules.len() == 0 {
-        return Ok(false);
-    }
-    let rule = build_rule(alloc, &source, &symbols, 0)?;
-    let pairs = net.active_pairs(alloc, &symbols)?;
-    if pairs.len() == 0 {
-        return Ok(false);
-    }
-    Ok(makes_at(alloc, &symbols, &net, &rule, pairs[0], expected)?)
+    makes_first(alloc, &source, &symbols, &net, expected)
 }
 
 #[test]

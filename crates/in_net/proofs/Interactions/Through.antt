@@ -85,9 +85,6 @@ module _ {A B : Type 0} (sig : Signature) (n : Net A) (x : Redex A B) (name : B 
   pt_same e f w =
       end_same sig n x net inside redex e f (port_agent (end_agent sig x e) (end_agent sig x f) (end_place sig x e) (end_place sig x f) w) (port_place (end_agent sig x e) (end_agent sig x f) (end_place sig x e) (end_place sig x f) w)
 
-  pub one_wire_at : (s : Side) (u v w : Point A) → wire_of sig n x name s u v → wire_of sig n x name s u w → v ≡ w
-  one_wire_at = one_wire sig n x name net inside redex naming
-
   -- from a point that stays one path goes
   pub one_way : (s t : Side) (u v w : Point A) (es fs : List (Point A)) → (IsOfPair x u → ⊥) → (IsOfPair x v → ⊥) → (IsOfPair x w → ⊥) → Way s u es v → Way t u fs w → (es ≡ fs) × (v ≡ w)
   one_way Outer Outer u v w es fs hu hv hw a b = same_path (wire_of sig n x name) (IsOfPair x) (one_wire sig n x name net inside redex naming) Outer u es fs v w hv hw a b

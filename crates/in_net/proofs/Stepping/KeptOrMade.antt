@@ -1,6 +1,7 @@
 -- The active pairs after an interaction: those of other agents, and those that it makes. An agent is in one alone.
 use Rattle.std.proofs.Common.{◌≡◌, ◌≢◌, ◌⊎◌, ◌↔◌, inl, inr, ◌≤◌, ℕ, Option, Some, None, List, [], slice_get, sym, ap, subst, ◌∙◌}
 use Rattle.std.specs.Prelude.{option_map}
+use Rattle.std.proofs.lemmas.Option.{none-some}
 use Rattle.in_base.specs.Lists.{IsAmong}
 use Rattle.in_symbols.specs.Tables.{Tables}
 use Rattle.in_symbols.specs.declared.symbols.SymbolNo.{SymbolNo}
@@ -56,9 +57,6 @@ symbol_is (Some z) s e = let same : z.0 ≡ s.0 = cc in ap (λ (k : ℕ). let y 
 symbol_number : (o : Option SymbolNo) (s : SymbolNo) → o ≡ Some s → option_map (λ (s : SymbolNo). s.0) o ≡ Some s.0
 symbol_number o s e = ap (option_map (λ (s : SymbolNo). s.0)) e
 
-not_there : (o : Option ℕ) (s : ℕ) → o ≡ None → o ≡ Some s → ⊥
-not_there o s h k = cc
-
 module _ (t : Tables) (n : Parts) (r : RuleParts) (a b : AgentNo) (m : Parts) (whole : IsWhole n) (small : IsWhole r.member) (can : CanInteract t n r a b) (h : Interacts n r a b m) where
   abbrev Joined : Point ℕ → Point ℕ → Type 0
   Joined = AreJoined (signature_of t) (net_of n) (redex_at r a.0 b.0) (unused n.cells)
@@ -86,7 +84,7 @@ module _ (t : Tables) (n : Parts) (r : RuleParts) (a b : AgentNo) (m : Parts) (w
   old_symbol x y s act (inr k) =
       let p = symbol_of (signature_of t) ((net_of n).symbol x.0) 0 ((net t n r a b whole small can).points (Port x.0 0) (Port y.0 0) (net_wire n (code.Port x 0) (code.Port y 0) act)) in
       let none : (net_of n).symbol x.0 ≡ None = ap (option_map (λ (s : SymbolNo). s.0)) (ap (symbol_in n) (sym k.1) ∙ fresh_symbol n k.0) in
-      absurd (not_there ((net_of n).symbol x.0) p.0 none p.1)
+      absurd (none-some p.0 (sym none ∙ p.1))
 
   module _ (none : HoldsNoPair r.member) (made : List (AgentNo × AgentNo)) (are : AreMade t n r a b made) where
     abbrev IsThere : AgentNo × AgentNo → Type 0

@@ -3,7 +3,7 @@ use Rattle.std.proofs.Common.{◌≡◌, ◌≢◌, ◌⊎◌, inl, inr, ◌+◌
 use Rattle.std.specs.Prelude.{option_map, IsSomeAnd}
 use native.Mathlib.Decide.{ℕ_discrete}
 use Rattle.std.proofs.lemmas.List.{length-map}
-use Rattle.std.proofs.lemmas.Option.{slice_get_within}
+use Rattle.std.proofs.lemmas.Option.{none-some, slice_get_within}
 use Rattle.in_base.specs.Lists.{IsAmong}
 use Rattle.in_syntax.specs.Grammar.{max_ports}
 use Rattle.in_symbols.specs.Tables.{Tables, arity_of, IsSymbol}
@@ -20,12 +20,12 @@ use Rattle.in_net.specs.Rules.{RuleParts}
 use Rattle.in_net.specs.declared.nets.AgentNo.{AgentNo}
 use Rattle.in_net.specs.declared.nets.Cell.{Cell}
 use Rattle.in_net.specs.declared.nets.FreeEnd.{FreeEnd}
-use Rattle.in_net.proofs.Interactions.Alternating.{end_of_pair, not_pair}
+use Rattle.in_net.proofs.Interactions.Alternating.{end_of_pair, not_pair, one_wire}
 use Rattle.in_net.proofs.Interactions.StaysNet as stays_net
 use Rattle.in_net.proofs.Interactions.StepExists.{step_exists}
 use Rattle.in_net.proofs.Interactions.Through as through
 use Rattle.in_net.proofs.Stepping.Lists.{last_at, kept_at, more_at}
-use Rattle.in_net.proofs.Stepping.Pairs.{no_both, symbol_known}
+use Rattle.in_net.proofs.Stepping.Pairs.{below_or, no_both, symbol_known}
 use Rattle.in_net.proofs.Stepping.Sites as sites
 use Rattle.in_net.proofs.Stepping.Turns.{some_same}
 use Rattle.in_net.proofs.Stepping.Unused.{unused_free, unused_apart}
@@ -35,9 +35,6 @@ agent_same x y e = ap (λ (z : ℕ). let w : AgentNo = record { 0 = z } in w) e
 
 port_same : (x y : ℕ) (i j : ℕ) → ◌≡◌ {A = Point ℕ} (Port x i) (Port y j) → x ≡ y
 port_same x y i j e = cc
-
-not_there : (o : Option SymbolNo) (s : SymbolNo) → o ≡ None → o ≡ Some s → ⊥
-not_there o s h k = cc
 
 -- a pair has one lowest boundary end
 pub end_once : (t : Tables) (n : Parts) (r : RuleParts) (a b : AgentNo) (d e : ℕ) (q : AgentNo × AgentNo) → IsMade t n r a b d q → IsMade t n r a b e q → d ≡ e
@@ -49,8 +46,8 @@ fresh_symbol n k = ap (option_map (λ (c : Cell). c.symbol)) (unused_free n.cell
 
 pub symbol_once : (n : Parts) (r : RuleParts) (a b y : AgentNo) (s z : SymbolNo) → HasSymbolAfter n r a b y s → HasSymbolAfter n r a b y z → s ≡ z
 symbol_once n r a b y s z (inl h) (inl k) = some_same (symbol_in n y.0) s z h.2 k.2
-symbol_once n r a b y s z (inl h) (inr k) = absurd (not_there (symbol_in n y.0) s (ap (symbol_in n) (sym k.1) ∙ fresh_symbol n k.0) h.2)
-symbol_once n r a b y s z (inr h) (inl k) = absurd (not_there (symbol_in n y.0) z (ap (symbol_in n) (sym h.1) ∙ fresh_symbol n h.0) k.2)
+symbol_once n r a b y s z (inl h) (inr k) = absurd (none-some s (sym (ap (symbol_in n) (sym k.1) ∙ fresh_symbol n k.0) ∙ h.2))
+symbol_once n r a b y s z (inr h) (inl k) = absurd (none-some z (sym (ap (symbol_in n) (sym h.1) ∙ fresh_symbol n h.0) ∙ k.2))
 symbol_once n r a b y s z (inr h) (inr k) =
     let same : h.0 ≡ k.0 = unused_apart n.cells h.0 k.0 (h.1 ∙ sym k.1) in
     some_same (symbol_in r.member h.0) s z h.2 (ap (symbol_in r.member) same ∙ k.2)
@@ -156,7 +153,7 @@ module _ (t : Tables) (n : Parts) (r : RuleParts) (a b : AgentNo) (whole : IsWho
   -- from a boundary end by one side one path goes to a point that stays
   pub one_from : (s : Side) (e : ℕ) (u v : Point ℕ) (es fs : List (Point ℕ)) → Stays u → Stays v → Way s (pt e) es u → Way s (pt e) fs v → (es ≡ fs) × (u ≡ v)
   one_from s e u v es fs hu hv x y =
-      through.same_path (wire_of (signature_of t) (net_of n) (redex_at r a.0 b.0) (unused n.cells)) (IsOfPair (redex_at r a.0 b.0)) (through.one_wire_at (signature_of t) (net_of n) (redex_at r a.0 b.0) (unused n.cells) net inside redex naming) s (pt e) es fs u v hu hv x y
+      through.same_path (wire_of (signature_of t) (net_of n) (redex_at r a.0 b.0) (unused n.cells)) (IsOfPair (redex_at r a.0 b.0)) (one_wire (signature_of t) (net_of n) (redex_at r a.0 b.0) (unused n.cells) net inside redex naming) s (pt e) es fs u v hu hv x y
 
   half_once : (s : Side) (e : ℕ) (z w : AgentNo) → Half s e z → Half s e w → z ≡ w
   half_once s e z w h g = agent_same z w (port_same z.0 w.0 0 0 (one_from s e (Port z.0 0) (Port w.0 0) h.ends g.ends (stays_after z h.symbol h.has) (stays_after w g.symbol g.has) h.way g.way).1)
@@ -243,9 +240,6 @@ module _ (t : Tables) (n : Parts) (r : RuleParts) (a b : AgentNo) (whole : IsWho
       is_net.apart (Port x.0 0) ((after.1.wires (Port x.0 0) (Port x.0 0)).1 (subst (λ (z : AgentNo). AreJoined (signature_of t) (net_of n) (redex_at r a.0 b.0) (unused n.cells) (Port x.0 0) (Port z.0 0)) (sym same) j))
 
 -- ---- end by end
-
-below_or : (m x : ℕ) → m < x + 1 → (m < x) ⊎ (m ≡ x)
-below_or m x h = grind arith
 
 module _ (t : Tables) (s : SiteParts) where
   abbrev Made : ℕ → AgentNo × AgentNo → Type 0

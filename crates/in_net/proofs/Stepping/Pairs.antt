@@ -27,6 +27,9 @@ not_both_orders x y a b (inl h) (inr k) = let e : true ≡ false = sym h.0 ∙ s
 not_both_orders x y a b (inr h) (inl k) = let e : true ≡ false = sym k.0 ∙ sym h.0 ∙ k.1 in cc
 not_both_orders x y a b (inr h) (inr k) = let l = h.1 in let m = k.1 in omega (arith, l, m)
 
+pub below_or : (m x : ℕ) → m < x + 1 → (m < x) ⊎ (m ≡ x)
+below_or m x h = grind arith
+
 -- two agents stand in one order
 pub no_both : (t : Tables) (a b : AgentNo) (c d : SymbolNo) → StandsFirst t c d a b → StandsFirst t d c b a → ⊥
 no_both t a b c d h k = not_both_orders (is_constructor t c.0) (is_constructor t d.0) a.0 b.0 h k
@@ -109,9 +112,6 @@ module _ (t : Tables) (n : Parts) where
 
     pub none_yet : AreFirstPairs 0 []
     none_yet = record { pairs = λ k q e. cc; all = λ q h lt. absurd (omega (arith, lt)); rising = λ j k p q lt e f. cc }
-
-    below_or : (m x : ℕ) → m < x + 1 → (m < x) ⊎ (m ≡ x)
-    below_or m x h = grind arith
 
     pub none_here : (x : ℕ) (qs : List (AgentNo × AgentNo)) → AreFirstPairs x qs → ((b : AgentNo) → AreActive n (record { 0 = x }) b → b.0 < x) → AreFirstPairs (x + 1) qs
     none_here x qs h none = record {

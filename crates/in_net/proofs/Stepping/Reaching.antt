@@ -1,8 +1,8 @@
 -- Where the wires of a boundary end lead, and the path that goes on from there.
 use Rattle.std.proofs.Common.{◌≡◌, ◌≢◌, ◌⊎◌, inl, inr, ◌+◌, ◌<◌, ◌≤◌, ℕ, zero, suc, Option, Some, None, List, [], ◌∷◌, length, slice_get, refl, sym, ap, subst, ◌∙◌, arith}
-use Rattle.std.specs.Prelude.{MatchOption}
 use native.Mathlib.Decide.{ℕ_discrete}
 use Rattle.std.proofs.lemmas.List.{length-map}
+use Rattle.std.proofs.lemmas.Option.{none-some}
 use Rattle.in_base.specs.Lists.{IsAmong}
 use Rattle.in_symbols.specs.Tables.{Tables}
 use Rattle.in_symbols.specs.declared.symbols.SymbolNo.{SymbolNo}
@@ -11,14 +11,14 @@ use Rattle.in_net.specs.Following.{SiteParts, IsSite, end_of, port_of}
 use Rattle.in_net.specs.Interacting.{unused, CanInteract}
 use Rattle.in_net.specs.Interactions.{Side, Outer, Inner, other, IsOfPair}
 use Rattle.in_net.specs.Made.{HasSymbolAfter, IsMade}
-use Rattle.in_net.specs.Making.{SiteWire, Leaves, LandsAt, LandsNowhere, NoneLower, IsOnWay, end_point, redex_of, most_wires, principal_of}
+use Rattle.in_net.specs.Making.{IsSymbolAfter, IsPairAt, SiteWire, Leaves, LandsAt, LandsNowhere, NoneLower, IsOnWay, end_point, redex_of, most_wires, principal_of}
 use Rattle.in_net.specs.Nets.{Point, Port, Free, IsPoint, net_of, signature_of, point_of, coded_point}
 use Rattle.in_net.specs.Parts.{IsPointOf, symbol_in, partner_in}
 use Rattle.in_net.specs.declared.nets.AgentNo.{AgentNo}
 use Rattle.in_net.specs.declared.nets.FreeEnd.{FreeEnd}
 use Rattle.in_net.specs.declared.nets.Point as coded
 use Rattle.in_net.specs.declared.nets.Point.TheVariants as code
-use Rattle.in_net.proofs.Interactions.Alternating.{not_pair, end_of_pair}
+use Rattle.in_net.proofs.Interactions.Alternating.{not_pair, end_of_pair, one_wire}
 use Rattle.in_net.proofs.Interactions.PathEnds.{outer_next, outer_at, not_principal}
 use Rattle.in_net.proofs.Interactions.Through as through
 use Rattle.in_net.proofs.OneNet.{round_code, map_is}
@@ -26,23 +26,12 @@ use Rattle.in_net.proofs.Stepping.Landing as landing
 use Rattle.in_net.proofs.Stepping.Making as making
 use Rattle.in_net.proofs.Stepping.Partners.{net_wire, named}
 use Rattle.in_net.proofs.Stepping.Sites.{net, inside, redex, naming, first_is}
+use Rattle.in_net.proofs.Stepping.Turns.{some_same}
 use Rattle.in_net.proofs.Stepping.Unused.{unused_apart}
 use Rattle.in_net.proofs.WireAt.{has_partner}
 
-not_both : (o : Option ℕ) (k : ℕ) → o ≡ None → o ≡ Some k → ⊥
-not_both o k h g = cc
-
-no_symbol : (o : Option SymbolNo) (z : SymbolNo) → o ≡ None → o ≡ Some z → ⊥
-no_symbol o z h g = cc
-
-no_agent : (o : Option AgentNo) (z : AgentNo) → o ≡ None → o ≡ Some z → ⊥
-no_agent o z h g = cc
-
 port_agent_of : (x y : AgentNo) (i j : ℕ) → ◌≡◌ {A = coded.Point} (code.Port x i) (code.Port y j) → x ≡ y
 port_agent_of x y i j e = cc
-
-one_value : (o : Option ℕ) (k l : ℕ) → o ≡ Some k → o ≡ Some l → k ≡ l
-one_value o k l h g = cc
 
 module _ (s : SiteParts) (site : IsSite s) where
   module _ (t : Tables) (can : CanInteract t s.net s.rule s.one s.two) where
@@ -88,16 +77,16 @@ module _ (s : SiteParts) (site : IsSite s) where
         here = ap (end_of s.one s.two s.first) (round_code p) ∙ is
 
         go : (IsOfPair (redex_of s) (point_of p) → ⊥) ⊎ ((d : ℕ) × (d < length s.rule.member.free) × (point_of p ≡ end_point t s d)) → (f < length s.rule.member.free) × SiteWire t s Outer (end_point t s e) (end_point t s f)
-        go (inl h) = absurd (not_both (end_of s.one s.two s.first (coded_point (point_of p))) f (no_end (point_of p) h) here)
+        go (inl h) = absurd (none-some f (sym (no_end (point_of p) h) ∙ here))
         go (inr d) =
-            let same : d.0 ≡ f = one_value (end_of s.one s.two s.first (coded_point (point_of p))) d.0 f (ap (λ (z : Point ℕ). end_of s.one s.two s.first (coded_point z)) d.2 ∙ end_there d.0) here in
+            let same : d.0 ≡ f = some_same (end_of s.one s.two s.first (coded_point (point_of p))) d.0 f (ap (λ (z : Point ℕ). end_of s.one s.two s.first (coded_point z)) d.2 ∙ end_there d.0) here in
             let l = d.1 in
             (omega (arith, l, same), subst (SiteWire t s Outer (end_point t s e)) (d.2 ∙ ap (end_point t s) same) (end_wire e p w))
 
     pub outer_stays : (e : ℕ) (p : coded.Point) → partner_in s.net (port_of s.one s.two s.first e) ≡ Some p → end_of s.one s.two s.first p ≡ None → IsOfPair (redex_of s) (point_of p) → ⊥
     outer_stays e p w is = elim (next_outer e p w) [
       | inl h ↦ h
-      | inr d ↦ absurd (not_both (end_of s.one s.two s.first p) d.0 is (ap (end_of s.one s.two s.first) (sym (round_code p)) ∙ ap (λ (z : Point ℕ). end_of s.one s.two s.first (coded_point z)) d.2 ∙ end_there d.0))
+      | inr d ↦ absurd (none-some d.0 (sym is ∙ ap (end_of s.one s.two s.first) (sym (round_code p)) ∙ ap (λ (z : Point ℕ). end_of s.one s.two s.first (coded_point z)) d.2 ∙ end_there d.0))
     ]
 
     pub inner_end : (e f : ℕ) → partner_in s.rule.member (code.Free e) ≡ Some (code.Free f) → SiteWire t s Inner (end_point t s e) (end_point t s f)
@@ -125,7 +114,7 @@ module _ (s : SiteParts) (site : IsSite s) where
 
     one_wire_at : (side : Side) (u v w : Point ℕ) → SiteWire t s side u v → SiteWire t s side u w → v ≡ w
     one_wire_at =
-        through.one_wire_at (signature_of t) (net_of s.net) (redex_of s) (unused s.net.cells) (net t s.net s.rule s.one s.two site.whole site.member can) (inside t s.net s.rule s.one s.two site.whole site.member can)
+        one_wire (signature_of t) (net_of s.net) (redex_of s) (unused s.net.cells) (net t s.net s.rule s.one s.two site.whole site.member can) (inside t s.net s.rule s.one s.two site.whole site.member can)
         (redex t s.net s.rule s.one s.two site.whole site.member can) (naming t s.net s.rule s.one s.two site.whole site.member can)
 
     -- a path from a boundary end whose wire leads to another goes on from there
@@ -200,10 +189,10 @@ module _ (s : SiteParts) (site : IsSite s) where
   -- ---- symbols after
 
   pub new_symbol : (y : AgentNo) (k : ℕ) (o : Option SymbolNo) → symbol_in s.net y.0 ≡ None → unused s.net.cells k ≡ y.0 → o ≡ symbol_in s.rule.member k →
-      MatchOption o ((z : SymbolNo) → HasSymbolAfter s.net s.rule s.one s.two y z → ⊥) (HasSymbolAfter s.net s.rule s.one s.two y)
+      IsSymbolAfter s y o
   new_symbol y k None old named is = λ z h. elim h [
-    | inl g ↦ no_symbol (symbol_in s.net y.0) z old g.2
-    | inr g ↦ no_symbol (symbol_in s.rule.member k) z (sym is) (ap (symbol_in s.rule.member) (unused_apart s.net.cells k g.0 (named ∙ sym g.1)) ∙ g.2)
+    | inl g ↦ none-some z (sym old ∙ g.2)
+    | inr g ↦ none-some z (is ∙ ap (symbol_in s.rule.member) (unused_apart s.net.cells k g.0 (named ∙ sym g.1)) ∙ g.2)
   ]
   new_symbol y k (Some z) old named is = inr (k, named, sym is)
 
@@ -240,7 +229,7 @@ module _ (s : SiteParts) (site : IsSite s) where
     pub not_principal_port : (side : Side) (e : ℕ) (p : coded.Point) → LandsAt s side e p → principal_of p ≡ None → (q : AgentNo × AgentNo) → Made e q → ⊥
     not_principal_port side e p at none q h =
         let r = half_of side e q h in
-        no_agent (principal_of p) r.0 none (ap principal_of (landed side e p at r.0 r.1))
+        none-some r.0 (sym none ∙ ap principal_of (landed side e p at r.0 r.1))
 
     pub no_symbol_there : (side : Side) (e : ℕ) (x : AgentNo) → LandsAt s side e (code.Port x 0) → ((z : SymbolNo) → HasSymbolAfter s.net s.rule s.one s.two x z → ⊥) → (q : AgentNo × AgentNo) → Made e q → ⊥
     no_symbol_there side e x at none q h =
@@ -277,11 +266,8 @@ principal_is (code.Free k) o x is e = cc
 
 -- ---- what is answered at a boundary end
 
-abbrev pub IsAnswer : Tables → SiteParts → ℕ → Option (AgentNo × AgentNo) → Type 0
-IsAnswer t s e o = MatchOption o ((q : AgentNo × AgentNo) → IsMade t s.net s.rule s.one s.two e q → ⊥) (λ p. IsMade t s.net s.rule s.one s.two e p × ((q : AgentNo × AgentNo) → IsMade t s.net s.rule s.one s.two e q → q ≡ p))
-
-pub no_pair : (t : Tables) (s : SiteParts) (e : ℕ) (o : Option (AgentNo × AgentNo)) → o ≡ None → ((q : AgentNo × AgentNo) → IsMade t s.net s.rule s.one s.two e q → ⊥) → IsAnswer t s e o
-no_pair t s e o is h = subst (IsAnswer t s e) (sym is) h
+pub no_pair : (t : Tables) (s : SiteParts) (e : ℕ) (o : Option (AgentNo × AgentNo)) → o ≡ None → ((q : AgentNo × AgentNo) → IsMade t s.net s.rule s.one s.two e q → ⊥) → IsPairAt t s e o
+no_pair t s e o is h = subst (IsPairAt t s e) (sym is) h
 
 pub lands_there : (s : SiteParts) (side : Side) (e : ℕ) (p : coded.Point) (o : Option AgentNo) (x : AgentNo) → LandsAt s side e p → o ≡ principal_of p → o ≡ Some x → LandsAt s side e (code.Port x 0)
 lands_there s side e p o x at is found = subst (LandsAt s side e) (principal_is p o x is found) at
