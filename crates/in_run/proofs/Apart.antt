@@ -1,13 +1,11 @@
 -- Active pairs of a net that have an agent in common are one.
-use Rattle.std.proofs.Common.{◌≡◌, ◌⊎◌, inl, inr, ◌<◌, ℕ, Bool, true, false, Some, sym, ap, subst, ◌∙◌, arith}
-use Rattle.std.proofs.lemmas.Option.{same_Some}
-use Rattle.in_symbols.specs.Tables.{Tables, is_constructor}
-use Rattle.in_symbols.specs.declared.symbols.SymbolNo.{SymbolNo}
+use Rattle.std.proofs.Common.{◌≡◌, ◌⊎◌, inl, inr, ℕ, Some, sym, ap, subst, ◌∙◌}
+use Rattle.in_symbols.specs.Tables.{Tables}
 use Rattle.in_net.specs.declared.nets.AgentNo.{AgentNo}
 use Rattle.in_net.specs.declared.nets.Point.{Point}
 use Rattle.in_net.specs.declared.nets.Point.TheVariants.{Port}
-use Rattle.in_net.specs.ActivePairs.{AreActive, StandsFirst, IsActivePair}
-use Rattle.in_net.specs.Parts.{Parts, symbol_in, partner_in}
+use Rattle.in_net.specs.ActivePairs.{AreActive, IsActivePair}
+use Rattle.in_net.specs.Parts.{Parts, partner_in}
 use Rattle.in_net.proofs.Stepping.Pairs.{flipped, one_partner}
 use Rattle.in_run.specs.Machines.{agents_at, numbers_of}
 

@@ -1,5 +1,5 @@
 -- What a run of an accepted program comes to: it is one, and its net is reached by as many interactions.
-use Rattle.std.proofs.Common.{◌≡◌, ◌≤◌, ◌+◌, ℕ, zero, List, Option, Ok, sym, subst, arith}
+use Rattle.std.proofs.Common.{◌≡◌, ◌≤◌, ◌+◌, ℕ, List, Option, Ok, sym, subst, arith}
 use Rattle.in_net.specs.declared.nets.Cell.{Cell}
 use Rattle.in_net.specs.declared.nets.FreeEnd.{FreeEnd}
 use Rattle.in_net.specs.Listing.{unlisted}
@@ -16,7 +16,7 @@ use Rattle.in_run.specs.Runs.{IsStart, IsOutcome}
 use Rattle.in_run.proofs.Accepted.{net_over}
 use Rattle.in_run.proofs.OneOutcome.{run_keeps, one_outcome}
 use Rattle.in_run.proofs.OneStart.{one_start}
-use Rattle.in_run.proofs.Unlisted.{bare, with_net, plain_bare}
+use Rattle.in_run.proofs.Unlisted.{with_net, plain_bare}
 
 module _ (text : List ℕ) (p : Program) (accepted : IsAccepted text p) where
   module _ (cells : ℕ) (m : MachineParts) (h : IsStart p cells m) where

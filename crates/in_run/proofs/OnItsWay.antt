@@ -1,9 +1,8 @@
 -- A run, step by step.
-use Rattle.std.proofs.Common.{◌≡◌, ◌<◌, ◌≤◌, ◌+◌, ℕ, zero, suc, false, Result, Ok, Err, subst, arith}
+use Rattle.std.proofs.Common.{◌≡◌, ◌<◌, ◌≤◌, ◌+◌, ℕ, suc, false, Result, Ok, Err, subst, arith}
 use Rattle.std.specs.Prelude.{OnOk, is_err}
-use Rattle.in_check.specs.Plain.{IsReachedBy}
 use Rattle.in_check.specs.Programs.{Program}
-use Rattle.in_run.specs.Machines.{MachineParts, plain_of}
+use Rattle.in_run.specs.Machines.{MachineParts}
 use Rattle.in_run.specs.Runs.{IsStart, Runs, at_start, then_step, StepsAt}
 
 -- so many steps of a run from a start, within a limit

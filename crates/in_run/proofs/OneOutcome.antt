@@ -1,5 +1,5 @@
 -- A machine and a limit have one outcome.
-use Rattle.std.proofs.Common.{◌≡◌, ◌≢◌, ◌⊎◌, inl, inr, ◌<◌, ◌≤◌, ◌+◌, ℕ, zero, suc, Option, Some, None, List, [], ◌∷◌, ◌++◌, length, map, remove, slice_get, refl, sym, ap, subst, ◌∙◌, arith}
+use Rattle.std.proofs.Common.{◌≡◌, ◌⊎◌, inl, inr, ◌<◌, ◌+◌, ℕ, zero, suc, Option, Some, None, List, [], ◌∷◌, ◌++◌, length, map, remove, slice_get, refl, sym, ap, subst, ◌∙◌, arith}
 use Rattle.std.specs.Prelude.{option_map, option_and_then}
 use Rattle.std.proofs.lemmas.Option.{same_Some}
 use Rattle.in_arena.specs.declared.content.CellClass.{CellClass}
@@ -15,13 +15,12 @@ use Rattle.in_net.specs.declared.nets.Point.TheVariants as code
 use Rattle.in_net.specs.After.{cell_at}
 use Rattle.in_net.specs.Interacting.{CanInteract, Interacts}
 use Rattle.in_net.specs.Made.{AreMade}
-use Rattle.in_net.specs.Nets.{net_of}
 use Rattle.in_net.specs.Parts.{Parts, cell_in, partner_in}
 use Rattle.in_net.specs.Rules.{RuleParts}
 use Rattle.in_net.proofs.SameNet.{all_same}
 use Rattle.in_net.proofs.Stepping.OneOutcome.{one_made_list, partner_there}
 use Rattle.in_check.specs.Checking.{IsAccepted}
-use Rattle.in_check.specs.Plain.{PlainParts, IsPlain, IsPairAt, IsReachedBy, IsRuleAt, StepsTo}
+use Rattle.in_check.specs.Plain.{IsPlain, IsPairAt, IsReachedBy, IsRuleAt}
 use Rattle.in_check.specs.Programs.{Program}
 use Rattle.in_check.proofs.Reached.Plain.{fits, steps}
 use Rattle.in_run.specs.declared.cells.Need.{Need}

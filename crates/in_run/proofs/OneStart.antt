@@ -1,21 +1,18 @@
 -- A program and a number of cells have one machine to start with.
-use Rattle.std.proofs.Common.{◌≡◌, ◌<◌, ◌≤◌, ◌+◌, ℕ, Some, List, slice_get, sym, ap, subst, ◌∙◌, arith}
+use Rattle.std.proofs.Common.{◌≡◌, ◌<◌, ◌+◌, ℕ, Some, List, slice_get, sym, ap, subst, ◌∙◌, arith}
 use Rattle.in_arena.specs.declared.content.CellClass.{CellClass}
 use Rattle.in_arena.specs.declared.content.CellClass.TheVariants.{Small, Large}
-use Rattle.in_net.specs.declared.nets.Cell.{Cell}
 use Rattle.in_net.specs.declared.nets.FreeEnd.{FreeEnd}
 use Rattle.in_net.specs.declared.nets.Point.TheVariants.{Port}
-use Rattle.in_net.specs.ActivePairs.{IsActivePair}
 use Rattle.in_net.specs.Listing.{unlisted}
-use Rattle.in_net.specs.Parts.{Parts, IsWhole}
+use Rattle.in_net.specs.Parts.{IsWhole}
 use Rattle.in_net.proofs.Stepping.OneOutcome.{same_sorted}
 use Rattle.in_check.specs.Checking.{IsAccepted}
 use Rattle.in_check.specs.Programs.{Program}
-use Rattle.in_run.specs.Machines.{MachineParts, IsQueueOf, agents_at, agents_of, free_of, parts_of}
+use Rattle.in_run.specs.Machines.{MachineParts, IsQueueOf, agents_at, agents_of, free_of}
 use Rattle.in_run.specs.Runs.{AreInOrder, IsStart, JoinsPair}
 use Rattle.in_run.proofs.Accepted.{net_whole}
 use Rattle.in_run.proofs.Started.{queue_full}
-use Rattle.in_run.proofs.Unlisted.{bare}
 
 module _ (p : Program) (whole : IsWhole p.net) where
   -- the wire of the one is before that of the other

@@ -1,20 +1,17 @@
 -- The queue after an interaction is one of the net after it.
-use Rattle.std.proofs.Common.{◌≡◌, ◌≢◌, ◌⊎◌, inl, inr, ◌<◌, ◌≤◌, ◌+◌, ℕ, zero, suc, Bool, true, false, cond, Option, Some, None, List, [], ◌∷◌, ◌++◌, length, map, remove, slice_get, refl, sym, ap, subst, ◌∙◌, arith}
+use Rattle.std.proofs.Common.{◌≡◌, ◌≢◌, ◌⊎◌, inl, inr, ◌<◌, ◌+◌, ℕ, zero, suc, Bool, true, false, cond, Option, Some, None, List, [], ◌∷◌, ◌++◌, length, map, remove, slice_get, refl, sym, ap, subst, ◌∙◌, arith}
 use Rattle.std.specs.Prelude.{option_map, option_and_then}
-use Rattle.std.proofs.lemmas.Option.{same_Some, slice_get_within}
-use native.Mathlib.Decide.{ℕ_discrete}
+use Rattle.std.proofs.lemmas.Option.{same_Some}
 use Rattle.in_base.specs.Lists.{IsAmong}
 use Rattle.in_symbols.specs.Tables.{Tables}
 use Rattle.in_symbols.specs.declared.symbols.SymbolNo.{SymbolNo}
 use Rattle.in_net.specs.declared.nets.AgentNo.{AgentNo}
 use Rattle.in_net.specs.declared.nets.Cell.{Cell}
-use Rattle.in_net.specs.declared.nets.Point as coded
-use Rattle.in_net.specs.declared.nets.Point.TheVariants as code
 use Rattle.in_net.specs.ActivePairs.{IsActivePair}
 use Rattle.in_net.specs.Interacting.{unused, CanInteract, Interacts}
 use Rattle.in_net.specs.Interactions.{Side, Outer, Inner, Alternates, IsNaming, IsOfPair, wire_of, stands_for, redex_at, of_first, end_agent, end_place}
-use Rattle.in_net.specs.Nets.{Point, Port, Free, net_of, point_of, coded_point, signature_of}
-use Rattle.in_net.specs.Parts.{Parts, IsWhole, symbol_in, partner_in, cell_in}
+use Rattle.in_net.specs.Nets.{Point, Port, Free, net_of, point_of, signature_of}
+use Rattle.in_net.specs.Parts.{Parts, IsWhole, cell_in}
 use Rattle.in_net.specs.Rules.{RuleParts}
 use Rattle.in_net.proofs.Interactions.AtNets.{port_agent, port_place}
 use Rattle.in_net.proofs.Stepping.Lists.{kept_at}

@@ -1,5 +1,5 @@
 -- One interaction of a machine: what it leaves is a machine again.
-use Rattle.std.proofs.Common.{◌≡◌, ◌<◌, ◌≤◌, ◌+◌, ℕ, zero, suc, List, [], ◌∷◌, ◌++◌, length, length-append, map, remove, count_by, is_some, Some, slice_get, refl, sym, ap, subst, ◌∙◌, arith}
+use Rattle.std.proofs.Common.{◌≡◌, ◌≤◌, ◌+◌, ℕ, suc, List, ◌++◌, length, length-append, map, remove, count_by, is_some, Some, slice_get, refl, sym, ap, subst, ◌∙◌, arith}
 use Rattle.std.proofs.lemmas.List.{length-map}
 use Rattle.std.proofs.lemmas.List.Edits.{length-remove}
 use Rattle.std.proofs.lemmas.Option.{same_Some, slice_get_within}
@@ -18,7 +18,7 @@ use Rattle.in_run.specs.Inside.{IsKept, heads_taking}
 use Rattle.in_run.specs.Limiting.{most_cells}
 use Rattle.in_run.specs.Machines.{MachineParts, IsMachine, IsQueueOf, HasCells, agents_at, agents_of, free_of, numbers_of, plain_of}
 use Rattle.in_net.specs.Made.{IsMade, AreMade}
-use Rattle.in_run.specs.Runs.{NeedsAt, HasRoomAt, StepsAt}
+use Rattle.in_run.specs.Runs.{HasRoomAt, StepsAt}
 use Rattle.in_run.proofs.Accepted.{member_whole, no_pair, one_rule}
 use Rattle.in_run.proofs.Queues.{few_agents, short_queue}
 use Rattle.in_run.proofs.Replaced.{counted}

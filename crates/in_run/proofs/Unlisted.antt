@@ -1,5 +1,5 @@
 -- A net and the same without its list of wires: what is said of one holds of the other.
-use Rattle.std.proofs.Common.{◌≡◌, ℕ, refl}
+use Rattle.std.proofs.Common.{ℕ, refl}
 use Rattle.in_symbols.specs.Tables.{Tables}
 use Rattle.in_net.specs.declared.nets.AgentNo.{AgentNo}
 use Rattle.in_net.specs.ActivePairs.{IsActivePair}

@@ -1,6 +1,6 @@
 -- What contracts see of a machine, and what each machine keeps. Lafont 1990 reduces a net by interactions of its active pairs, in any order;
 -- the queue of pairs, and that an agent takes a cell of one of two sizes, is this project's own choice.
-use Rattle.std.specs.Prelude.{◌≡◌, ◌<◌, ◌≤◌, ◌+◌, ℕ, nat_lt, Bool, false, not, List, length, Option, Some, None, count_by, slice_get}
+use Rattle.std.specs.Prelude.{◌≡◌, ◌≤◌, ◌+◌, ℕ, nat_lt, Bool, false, not, List, Option, Some, None, count_by, slice_get}
 use Rattle.in_arena.specs.declared.content.CellClass.{CellClass}
 use Rattle.in_arena.specs.declared.content.CellClass.TheVariants.{Small, Large}
 use Rattle.in_arena.specs.declared.content.End.{End}

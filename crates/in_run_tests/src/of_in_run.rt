@@ -1,5 +1,4 @@
-use crate::stopping::{ended, first_free, first_pair, started, step, too_large};
-use in_check::check;
+use crate::stopping::{comes_first, ended, first_free, shown, too_large};
 use in_run::{CellClass, CellNo, End, Limits, Stop};
 use in_test_texts::{ADDITION, SUMS};
 use std::test::Fail;
@@ -7,16 +6,28 @@ use std::test::Fail;
 /// The sum of 2 and 1.
 const SUM: &str = "net (r : nat+) { S(S(Z)) ~ Add(S(Z), r); }\n";
 
+/// The sum of 6 and 6, with 15 agents.
+const LARGE_SUM: &str = "net (r : nat+) { S(S(S(S(S(S(Z)))))) ~ Add(S(S(S(S(S(S(Z)))))), r); }\n";
+
 #[test]
 fn two_and_one_is_three(rt: HostRuntime) -> Result<(), Fail> {
     let alloc = rt.alloc();
     let text = format!(in alloc; "{SUMS}{ADDITION}{SUM}")?;
-    let checked = check(alloc, text.as_bytes())?;
     assert_eq!(rt;
-        ended(alloc, &checked, 1_000_000, 65_536),
+        ended(alloc, text.as_str(), 1_000_000, 65_536),
         Some((3, Stop::Normal, 4))
     );
-    assert_eq!(rt; ended(alloc, &checked, 3, 16), Some((3, Stop::Normal, 4)));
+    Ok(())
+}
+
+#[test]
+fn a_run_as_long_as_its_limit_is_normal(rt: HostRuntime) -> Result<(), Fail> {
+    let alloc = rt.alloc();
+    let text = format!(in alloc; "{SUMS}{ADDITION}{SUM}")?;
+    assert_eq!(rt;
+        ended(alloc, text.as_str(), 3, 16),
+        Some((3, Stop::Normal, 4))
+    );
     Ok(())
 }
 
@@ -24,33 +35,36 @@ fn two_and_one_is_three(rt: HostRuntime) -> Result<(), Fail> {
 fn a_run_stops_at_its_limit(rt: HostRuntime) -> Result<(), Fail> {
     let alloc = rt.alloc();
     let text = format!(in alloc; "{SUMS}{ADDITION}{SUM}")?;
-    let checked = check(alloc, text.as_bytes())?;
-    assert_eq!(rt; ended(alloc, &checked, 2, 16), Some((2, Stop::Limit, 6)));
-    assert_eq!(rt; ended(alloc, &checked, 0, 16), Some((0, Stop::Limit, 6)));
+    assert_eq!(rt;
+        ended(alloc, text.as_str(), 2, 16),
+        Some((2, Stop::Limit, 6))
+    );
+    assert_eq!(rt;
+        ended(alloc, text.as_str(), 0, 16),
+        Some((0, Stop::Limit, 6))
+    );
     Ok(())
 }
 
 #[test]
 fn a_run_stops_where_cells_are_short(rt: HostRuntime) -> Result<(), Fail> {
     let alloc = rt.alloc();
-    let text = format!(in alloc;
-        "{SUMS}{ADDITION}net (r : nat+) {{ S(S(S(S(S(S(Z)))))) ~ Add(S(S(S(S(S(S(Z)))))), r); }}\n"
-    )?;
-    let checked = check(alloc, text.as_bytes())?;
+    let text = format!(in alloc; "{SUMS}{ADDITION}{LARGE_SUM}")?;
+    let stop = Stop::Full {
+        class: CellClass::Small,
+        need: 2,
+        free: 1,
+    };
+    assert_eq!(rt; ended(alloc, text.as_str(), 100, 16), Some((0, stop, 15)));
+    Ok(())
+}
+
+#[test]
+fn a_run_with_enough_cells_ends(rt: HostRuntime) -> Result<(), Fail> {
+    let alloc = rt.alloc();
+    let text = format!(in alloc; "{SUMS}{ADDITION}{LARGE_SUM}")?;
     assert_eq!(rt;
-        ended(alloc, &checked, 100, 16),
-        Some((
-            0,
-            Stop::Full {
-                class: CellClass::Small,
-                need: 2,
-                free: 1
-            },
-            15
-        ))
-    );
-    assert_eq!(rt;
-        ended(alloc, &checked, 100, 17),
+        ended(alloc, text.as_str(), 100, 17),
         Some((7, Stop::Normal, 13))
     );
     Ok(())
@@ -62,16 +76,11 @@ fn a_net_has_to_fit(rt: HostRuntime) -> Result<(), Fail> {
     let text = format!(in alloc;
         "{SUMS}{ADDITION}net (r : nat+) {{ S(S(S(S(S(S(S(S(Z)))))))) ~ Add(S(S(S(S(S(S(Z)))))), r); }}\n"
     )?;
-    let checked = check(alloc, text.as_bytes())?;
-    let (Some(few), Some(enough)) = (Limits::new(9, 16), Limits::new(9, 17)) else {
-        return Ok(());
-    };
     assert_eq!(rt;
-        too_large(alloc, &checked, few),
+        too_large(alloc, text.as_str(), 16),
         Some((CellClass::Small, 17, 16))
     );
-    assert_eq!(rt; too_large(alloc, &checked, enough), None);
-    assert_eq!(rt; ended(alloc, &checked, 9, 16), None);
+    assert_eq!(rt; too_large(alloc, text.as_str(), 17), None);
     Ok(())
 }
 
@@ -79,22 +88,10 @@ fn a_net_has_to_fit(rt: HostRuntime) -> Result<(), Fail> {
 fn a_machine_shows_its_net(rt: HostRuntime) -> Result<(), Fail> {
     let alloc = rt.alloc();
     let text = format!(in alloc; "{SUMS}{ADDITION}{SUM}")?;
-    let checked = check(alloc, text.as_bytes())?;
-    let Some(limits) = Limits::new(9, 16) else {
-        return Ok(());
-    };
-    let Some(machine) = started(alloc, &checked, limits) else {
-        return Ok(());
-    };
-    assert_eq!(rt; machine.pairs(), 1);
-    assert_eq!(rt; first_pair(&machine), Some(("S", "Add", 2)));
-    assert_eq!(rt; first_free(&machine), Some(("r", End::Cell(CellNo(3), 2))));
+    assert_eq!(rt; shown(alloc, text.as_str(), 16, 0), Some((1, 6, 10)));
     assert_eq!(rt;
-        (
-            machine.free(CellClass::Small),
-            machine.free(CellClass::Large)
-        ),
-        (10, 16)
+        first_free(alloc, text.as_str(), "r"),
+        Some(End::Cell(CellNo(3), 2))
     );
     Ok(())
 }
@@ -103,24 +100,8 @@ fn a_machine_shows_its_net(rt: HostRuntime) -> Result<(), Fail> {
 fn a_step_changes_pairs_and_cells(rt: HostRuntime) -> Result<(), Fail> {
     let alloc = rt.alloc();
     let text = format!(in alloc; "{SUMS}{ADDITION}net (r : nat+) {{ Z ~ Add(S(Z), r); }}\n")?;
-    let checked = check(alloc, text.as_bytes())?;
-    let Some(limits) = Limits::new(9, 16) else {
-        return Ok(());
-    };
-    let Some(mut machine) = started(alloc, &checked, limits) else {
-        return Ok(());
-    };
-    assert_eq!(rt; machine.free(CellClass::Small), 12);
-    assert!(rt; step(alloc, &mut machine)?);
-    assert_eq!(rt;
-        (
-            machine.pairs(),
-            machine.agents(),
-            machine.free(CellClass::Small)
-        ),
-        (0, 2, 14)
-    );
-    assert!(rt; !step(alloc, &mut machine)?);
+    assert_eq!(rt; shown(alloc, text.as_str(), 16, 0), Some((1, 4, 12)));
+    assert_eq!(rt; shown(alloc, text.as_str(), 16, 2), Some((0, 2, 14)));
     Ok(())
 }
 
@@ -130,18 +111,13 @@ fn pairs_are_queued_by_their_wires(rt: HostRuntime) -> Result<(), Fail> {
     let text = format!(in alloc;
         "{SUMS}{ADDITION}net (r : nat+, s : nat+) {{ S(Z) ~ Add(Z, s); Z ~ Add(S(Z), r); }}\n"
     )?;
-    let checked = check(alloc, text.as_bytes())?;
-    let Some(limits) = Limits::new(9, 16) else {
-        return Ok(());
-    };
-    let Some(mut machine) = started(alloc, &checked, limits) else {
-        return Ok(());
-    };
-    assert_eq!(rt; first_pair(&machine), Some(("S", "Add", 2)));
-    assert!(rt; step(alloc, &mut machine)?);
     assert_eq!(rt;
-        (machine.pairs(), first_pair(&machine)),
-        (2, Some(("Z", "Add", 2)))
+        comes_first(alloc, text.as_str(), 0, "S", "Add"),
+        Some(true)
+    );
+    assert_eq!(rt;
+        comes_first(alloc, text.as_str(), 1, "Z", "Add"),
+        Some(true)
     );
     Ok(())
 }

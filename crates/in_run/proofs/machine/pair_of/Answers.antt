@@ -1,4 +1,4 @@
-use Rattle.std.proofs.Common.{◌≡◌, ◌<◌, length, Some, sym, ap, subst, ◌∙◌}
+use Rattle.std.proofs.Common.{sym, ap, subst, ◌∙◌}
 use Rattle.in_symbols.specs.Tables.{Tables, IsSymbol, is_constructor}
 use Rattle.in_net.specs.Parts.{Parts, symbol_in, wire_in}
 use Rattle.in_run.proofs.Accepted.{known_in_net}

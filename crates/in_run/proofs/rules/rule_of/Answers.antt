@@ -1,4 +1,4 @@
-use Rattle.std.proofs.Common.{◌<◌, length, Some, sym, ◌∙◌}
+use Rattle.std.proofs.Common.{sym, ◌∙◌}
 use Rattle.std.proofs.lemmas.Option.{slice_get_within}
 use Rattle.in_check.specs.Plain.{PlainParts}
 use Rattle.in_check.proofs.Reached.Stepped.{pair_of, rule_is}
