@@ -34,9 +34,27 @@ fn is_run(answer: &Result<Action, Usage>, limit: u64, cells: u32) -> bool {
 fn run_takes_its_limits_or_the_usual_ones(rt: HostRuntime) {
     let alloc = rt.alloc();
     assert!(rt; is_run(&action_of(alloc, &["inet", "run"]), 1_000_000, 65_536));
-    assert!(rt; is_run(&action_of(alloc, &["inet", "run", "--limit", "0", "--cells", "16"]), 0, 16));
-    assert!(rt; is_run(&action_of(alloc, &["inet", "run", "--cells", "1048576"]), 1_000_000, 1_048_576));
-    assert!(rt; is_run(&action_of(alloc, &["inet", "run", "--limit", "1000000000000"]), 1_000_000_000_000, 65_536));
+    assert!(rt;
+        is_run(
+            &action_of(alloc, &["inet", "run", "--limit", "0", "--cells", "16"]),
+            0,
+            16
+        )
+    );
+    assert!(rt;
+        is_run(
+            &action_of(alloc, &["inet", "run", "--cells", "1048576"]),
+            1_000_000,
+            1_048_576
+        )
+    );
+    assert!(rt;
+        is_run(
+            &action_of(alloc, &["inet", "run", "--limit", "1000000000000"]),
+            1_000_000_000_000,
+            65_536
+        )
+    );
 }
 
 #[test]
