@@ -1,4 +1,4 @@
-use crate::stopping::{comes_first, ended, first_free, shown, too_large};
+use crate::stopping::{comes_first, ends, is_too_large, leads_to, shows};
 use in_run::{CellClass, CellNo, End, Limits, Stop};
 use in_test_texts::{ADDITION, SUMS};
 use std::test::Fail;
@@ -13,21 +13,15 @@ const LARGE_SUM: &str = "net (r : nat+) { S(S(S(S(S(S(Z)))))) ~ Add(S(S(S(S(S(S(
 fn two_and_one_is_three(rt: HostRuntime) -> Result<(), Fail> {
     let alloc = rt.alloc();
     let text = format!(in alloc; "{SUMS}{ADDITION}{SUM}")?;
-    assert_eq!(rt;
-        ended(alloc, text.as_str(), 1_000_000, 65_536),
-        Some((3, Stop::Normal, 4))
+    assert!(rt;
+        ends(
+            alloc,
+            text.as_str(),
+            (1_000_000, 65_536),
+            (3, Stop::Normal, 4)
+        ) == Some(true)
     );
-    Ok(())
-}
-
-#[test]
-fn a_run_as_long_as_its_limit_is_normal(rt: HostRuntime) -> Result<(), Fail> {
-    let alloc = rt.alloc();
-    let text = format!(in alloc; "{SUMS}{ADDITION}{SUM}")?;
-    assert_eq!(rt;
-        ended(alloc, text.as_str(), 3, 16),
-        Some((3, Stop::Normal, 4))
-    );
+    assert!(rt; ends(alloc, text.as_str(), (3, 16), (3, Stop::Normal, 4)) == Some(true));
     Ok(())
 }
 
@@ -35,14 +29,8 @@ fn a_run_as_long_as_its_limit_is_normal(rt: HostRuntime) -> Result<(), Fail> {
 fn a_run_stops_at_its_limit(rt: HostRuntime) -> Result<(), Fail> {
     let alloc = rt.alloc();
     let text = format!(in alloc; "{SUMS}{ADDITION}{SUM}")?;
-    assert_eq!(rt;
-        ended(alloc, text.as_str(), 2, 16),
-        Some((2, Stop::Limit, 6))
-    );
-    assert_eq!(rt;
-        ended(alloc, text.as_str(), 0, 16),
-        Some((0, Stop::Limit, 6))
-    );
+    assert!(rt; ends(alloc, text.as_str(), (2, 16), (2, Stop::Limit, 6)) == Some(true));
+    assert!(rt; ends(alloc, text.as_str(), (0, 16), (0, Stop::Limit, 6)) == Some(true));
     Ok(())
 }
 
@@ -55,18 +43,8 @@ fn a_run_stops_where_cells_are_short(rt: HostRuntime) -> Result<(), Fail> {
         need: 2,
         free: 1,
     };
-    assert_eq!(rt; ended(alloc, text.as_str(), 100, 16), Some((0, stop, 15)));
-    Ok(())
-}
-
-#[test]
-fn a_run_with_enough_cells_ends(rt: HostRuntime) -> Result<(), Fail> {
-    let alloc = rt.alloc();
-    let text = format!(in alloc; "{SUMS}{ADDITION}{LARGE_SUM}")?;
-    assert_eq!(rt;
-        ended(alloc, text.as_str(), 100, 17),
-        Some((7, Stop::Normal, 13))
-    );
+    assert!(rt; ends(alloc, text.as_str(), (100, 16), (0, stop, 15)) == Some(true));
+    assert!(rt; ends(alloc, text.as_str(), (100, 17), (7, Stop::Normal, 13)) == Some(true));
     Ok(())
 }
 
@@ -76,11 +54,8 @@ fn a_net_has_to_fit(rt: HostRuntime) -> Result<(), Fail> {
     let text = format!(in alloc;
         "{SUMS}{ADDITION}net (r : nat+) {{ S(S(S(S(S(S(S(S(Z)))))))) ~ Add(S(S(S(S(S(S(Z)))))), r); }}\n"
     )?;
-    assert_eq!(rt;
-        too_large(alloc, text.as_str(), 16),
-        Some((CellClass::Small, 17, 16))
-    );
-    assert_eq!(rt; too_large(alloc, text.as_str(), 17), None);
+    assert!(rt; is_too_large(alloc, text.as_str(), 16, 17) == Some(true));
+    assert!(rt; is_too_large(alloc, text.as_str(), 17, 17) == Some(false));
     Ok(())
 }
 
@@ -88,11 +63,8 @@ fn a_net_has_to_fit(rt: HostRuntime) -> Result<(), Fail> {
 fn a_machine_shows_its_net(rt: HostRuntime) -> Result<(), Fail> {
     let alloc = rt.alloc();
     let text = format!(in alloc; "{SUMS}{ADDITION}{SUM}")?;
-    assert_eq!(rt; shown(alloc, text.as_str(), 16, 0), Some((1, 6, 10)));
-    assert_eq!(rt;
-        first_free(alloc, text.as_str(), "r"),
-        Some(End::Cell(CellNo(3), 2))
-    );
+    assert!(rt; shows(alloc, text.as_str(), 0, (1, 6, 10)) == Some(true));
+    assert!(rt; leads_to(alloc, text.as_str(), "r", End::Cell(CellNo(3), 2)) == Some(true));
     Ok(())
 }
 
@@ -100,8 +72,8 @@ fn a_machine_shows_its_net(rt: HostRuntime) -> Result<(), Fail> {
 fn a_step_changes_pairs_and_cells(rt: HostRuntime) -> Result<(), Fail> {
     let alloc = rt.alloc();
     let text = format!(in alloc; "{SUMS}{ADDITION}net (r : nat+) {{ Z ~ Add(S(Z), r); }}\n")?;
-    assert_eq!(rt; shown(alloc, text.as_str(), 16, 0), Some((1, 4, 12)));
-    assert_eq!(rt; shown(alloc, text.as_str(), 16, 2), Some((0, 2, 14)));
+    assert!(rt; shows(alloc, text.as_str(), 0, (1, 4, 12)) == Some(true));
+    assert!(rt; shows(alloc, text.as_str(), 2, (0, 2, 14)) == Some(true));
     Ok(())
 }
 
@@ -111,14 +83,8 @@ fn pairs_are_queued_by_their_wires(rt: HostRuntime) -> Result<(), Fail> {
     let text = format!(in alloc;
         "{SUMS}{ADDITION}net (r : nat+, s : nat+) {{ S(Z) ~ Add(Z, s); Z ~ Add(S(Z), r); }}\n"
     )?;
-    assert_eq!(rt;
-        comes_first(alloc, text.as_str(), 0, "S", "Add"),
-        Some(true)
-    );
-    assert_eq!(rt;
-        comes_first(alloc, text.as_str(), 1, "Z", "Add"),
-        Some(true)
-    );
+    assert!(rt; comes_first(alloc, text.as_str(), 0, "S", "Add") == Some(true));
+    assert!(rt; comes_first(alloc, text.as_str(), 1, "Z", "Add") == Some(true));
     Ok(())
 }
 

@@ -3,21 +3,29 @@ use in_check::{Checked, check};
 use in_run::{CellClass, End, Limits, Machine, StartFault, Stop, run};
 use std::alloc::{AllocError, Global};
 
-/// The interactions of the run of a text, how it stopped, and the agents that are left.
-pub fn ended(alloc: Global, text: &str, limit: u64, cells: u32) -> Option<(u64, Stop, u32)> {
-    let limits = Limits::new(limit, cells)?;
+/// Whether the run of a text does so many interactions, stops so, and leaves so many agents.
+pub fn ends(alloc: Global, text: &str, limits: (u64, u32), end: (u64, Stop, u32)) -> Option<bool> {
+    let limits = Limits::new(limits.0, limits.1)?;
     let checked = check(alloc, text.as_bytes()).ok()?;
     let outcome = run(alloc, &checked, limits).ok()?;
-    Some((outcome.interactions, outcome.stop, outcome.machine.agents()))
+    Some(
+        outcome.interactions == end.0 && outcome.stop == end.1 && outcome.machine.agents() == end.2,
+    )
 }
 
-/// The class, need and free cells of a text's net that doesn't fit.
-pub fn too_large(alloc: Global, text: &str, cells: u32) -> Option<(CellClass, u32, u32)> {
+/// Whether a text's net doesn't fit, with this class, need and free cells.
+pub fn is_too_large(alloc: Global, text: &str, cells: u32, need: u32) -> Option<bool> {
     let limits = Limits::new(0, cells)?;
     let checked = check(alloc, text.as_bytes()).ok()?;
     match Machine::new(alloc, &checked, limits.cells()) {
-        Err(StartFault::Full { class, need, free }) => Some((class, need, free)),
-        _ => None,
+        Err(
+            StartFault::Full {
+                class: CellClass::Small,
+                need: small,
+                free,
+            },
+        ) => Some(small == need && free == cells),
+        _ => Some(false),
     }
 }
 
@@ -40,18 +48,18 @@ fn step(alloc: Global, machine: &mut Machine) -> Result<bool, AllocError> {
     Ok(true)
 }
 
-/// The pairs, agents and free small cells of a text's machine after so many steps of the first pair.
-pub fn shown(alloc: Global, text: &str, cells: u32, steps: u32) -> Option<(u32, u32, u32)> {
+/// Whether a text's machine has so many pairs, agents and free small cells after so many steps of the first pair.
+pub fn shows(alloc: Global, text: &str, steps: u32, end: (u32, u32, u32)) -> Option<bool> {
     let checked = check(alloc, text.as_bytes()).ok()?;
-    let mut machine = started(alloc, &checked, cells)?;
+    let mut machine = started(alloc, &checked, 16)?;
     for _ in 0..steps {
         step(alloc, &mut machine).ok()?;
     }
-    Some((
-        machine.pairs(),
-        machine.agents(),
-        machine.free(CellClass::Small),
-    ))
+    Some(
+        machine.pairs() == end.0
+            && machine.agents() == end.1
+            && machine.free(CellClass::Small) == end.2,
+    )
 }
 
 /// Whether the first pair's agents have these symbols, the second one of this arity.
@@ -76,12 +84,12 @@ pub fn comes_first(alloc: Global, text: &str, steps: u32, one: &str, other: &str
     Some(is_first(&machine, one, other, 2))
 }
 
-/// What the first free end of a text's net leads to, if this is its name.
-pub fn first_free(alloc: Global, text: &str, name: &str) -> Option<End> {
+/// Whether the first free end of a text's net has this name and leads there.
+pub fn leads_to(alloc: Global, text: &str, name: &str, end: End) -> Option<bool> {
     let checked = check(alloc, text.as_bytes()).ok()?;
     let machine = started(alloc, &checked, 16)?;
-    if machine.free_ends() == 0 || machine.free_name(0) != name {
-        return None;
+    if machine.free_ends() == 0 {
+        return Some(false);
     }
-    Some(machine.partner(End::Free(0)))
+    Some(machine.free_name(0) == name && machine.partner(End::Free(0)) == end)
 }
