@@ -1,9 +1,10 @@
 -- Which names are there, and names of lists.
-use Rattle.std.proofs.Common.{◌≡◌, ℕ, ◌+◌, ◌<◌, Bool, true, false, not, cond, ◌||◌, nat_lt, List, [], ◌∷◌, length, Some, None, is_some, refl, sym, ◌∙◌, ap, inl, inr, arith, ltb-true}
+use Rattle.std.proofs.Common.{◌≡◌, ℕ, ◌+◌, ◌<◌, Bool, true, false, not, cond, ◌||◌, nat_lt, List, [], ◌∷◌, length, Option, Some, None, is_some, if◌then◌else◌, refl, sym, ◌∙◌, ap, inl, inr, arith, ltb-true}
 use Rattle.std.specs.List.{list_any, position_or_len}
 use Rattle.std.specs.Str.{bytes_eq}
 use Rattle.std.proofs.lemmas.Bool.Decides.{same_from_decides, Decides-ltb}
 use Rattle.std.proofs.lemmas.Slice.Eq.{bytes_eq-Decides}
+use Rattle.in_syntax.specs.declared.places.Place.{Place}
 use Rattle.in_base.specs.Lists.{AnyByRecursion}
 use Rattle.in_symbols.specs.Names.{number_in, has_name}
 
@@ -70,3 +71,8 @@ no_number names name e h = false_true (is_some (number_in name names)) e (number
 
 pub not_there : (names : List (List ℕ)) (name : List ℕ) → has_name name names ≡ false → IsIn names name → ⊥
 not_there names name e h = false_true (has_name name names) e (is_there names name h)
+
+-- where the place of an unknown name is none, the name is known
+pub known_by : (b : Bool) (p : Place) → let o : Option Place = None in (if b then None else Some p) ≡ o → b ≡ true
+known_by true p e = refl
+known_by false p e = cc

@@ -13,7 +13,7 @@ use Rattle.in_syntax.specs.Refusals.{earlier, earliest}
 use Rattle.in_symbols.specs.Searching.{is_empty, unknown_here, unknown_in_term, unknown_in_equation, unknown_in_equations}
 use Rattle.in_symbols.specs.Tables.{is_none, all_true, heads_known, HeadsKnown}
 use Rattle.in_symbols.proofs.Heads.{heads_out, unknown_out}
-use Rattle.in_syntax.proofs.Least.{IsLeast, least_same, least_earlier, least_of_all, earlier_none, earliest_none}
+use Rattle.in_syntax.proofs.Least.{IsLeast, left, shift, shift_back, least_same, least_earlier, least_of_all, earlier_none, earliest_none}
 use Rattle.in_symbols.proofs.Named.{IsIn, has_number, no_number}
 use Rattle.in_base.proofs.Each.{any_of}
 use Rattle.std.proofs.lemmas.Bool.{and_from}
@@ -70,27 +70,13 @@ TermsLeast s names h = (t : Term) → names_in t ≤ h → IsLeast (λ q. HasPar
 arguments_least : (s : Source) (names : List (List ℕ)) (h : ℕ) → TermsLeast s names h → (Q : Place → Type 0) (found : Option Place) → IsLeast Q found →
     (ts : List Term) → total (map names_in ts) ≤ h → IsLeast (λ q. Q q ⊎ AnyByRecursion (HasPart (IsUnknownHead s q)) ts) (earliest found (map (unknown_in_term names) ts))
 arguments_least s names h ih Q found least [] short = least_same Q (λ q. Q q ⊎ ⊥) found (λ q k. inl k) (λ q k. left (Q q) k) least
-  where
-    left : (A : Type 0) → A ⊎ ⊥ → A
-    left A (inl a) = a
-    left A (inr k) = absurd k
 arguments_least s names h ih Q found least (t ∷ ts) short =
     least_same (λ q. (Q q ⊎ HasPart (IsUnknownHead s q) t) ⊎ AnyByRecursion (HasPart (IsUnknownHead s q)) ts) (λ q. Q q ⊎ AnyByRecursion (HasPart (IsUnknownHead s q)) (t ∷ ts))
     (earliest (earlier found (unknown_in_term names t)) (map (unknown_in_term names) ts))
-    (λ q k. to (Q q) (HasPart (IsUnknownHead s q) t) (AnyByRecursion (HasPart (IsUnknownHead s q)) ts) k)
-    (λ q k. back (Q q) (HasPart (IsUnknownHead s q) t) (AnyByRecursion (HasPart (IsUnknownHead s q)) ts) k)
+    (λ q k. shift (Q q) (HasPart (IsUnknownHead s q) t) (AnyByRecursion (HasPart (IsUnknownHead s q)) ts) k)
+    (λ q k. shift_back (Q q) (HasPart (IsUnknownHead s q) t) (AnyByRecursion (HasPart (IsUnknownHead s q)) ts) k)
     (arguments_least s names h ih (λ q. Q q ⊎ HasPart (IsUnknownHead s q) t) (earlier found (unknown_in_term names t))
     (least_earlier Q (λ q. HasPart (IsUnknownHead s q) t) found (unknown_in_term names t) least (ih t (omega (arith, short)))) ts (omega (arith, short)))
-  where
-    to : (A B C : Type 0) → (A ⊎ B) ⊎ C → A ⊎ (B ⊎ C)
-    to A B C (inl (inl a)) = inl a
-    to A B C (inl (inr b)) = inr (inl b)
-    to A B C (inr c) = inr (inr c)
-
-    back : (A B C : Type 0) → A ⊎ (B ⊎ C) → (A ⊎ B) ⊎ C
-    back A B C (inl a) = inl (inl a)
-    back A B C (inr (inl b)) = inl (inr b)
-    back A B C (inr (inr c)) = inr c
 
 terms_least : (s : Source) (names : List (List ℕ)) → AreSymbols s names → (h : ℕ) → TermsLeast s names h
 terms_least s names are zero t short = absurd (omega (arith, names_out t, short))

@@ -12,7 +12,7 @@ use Rattle.in_syntax.specs.Refusals.{earlier}
 use Rattle.in_symbols.specs.Searching.{unknown_name, unknown_in_term, unknown_in_equations, unknown_in_head, unknown_in_rule, unknown_in_rules}
 use Rattle.in_symbols.specs.Tables.{heads_known, IsHeadKnown, IsRuleKnown}
 use Rattle.in_syntax.proofs.Least.{IsLeast, least_same, least_earlier, least_earliest, least_of_all, earlier_none, earliest_none}
-use Rattle.in_symbols.proofs.Named.{has_number, no_number}
+use Rattle.in_symbols.proofs.Named.{has_number, no_number, known_by}
 use Rattle.in_symbols.proofs.Unknown.{AreSymbols, IsUnknownInNet, term_least, equations_least, term_known}
 use Rattle.in_base.proofs.Each.{any_of, any_either}
 
@@ -78,10 +78,6 @@ unknown_least s names are =
     (equations_least s names are))
 
 -- ---- where none is unknown, each is a symbol's
-
-known_by : (b : Bool) (p : Place) → let o : Option Place = None in (if b then None else Some p) ≡ o → b ≡ true
-known_by true p e = refl
-known_by false p e = cc
 
 head_known : (names : List (List ℕ)) (h : Head) → unknown_in_head names h ≡ None → IsHeadKnown names h
 head_known names h e =

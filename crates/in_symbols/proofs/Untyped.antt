@@ -13,7 +13,7 @@ use Rattle.in_syntax.specs.Refusals.{earlier}
 use Rattle.in_symbols.specs.Searching.{untyped, untyped_in_class, untyped_in_symbol, untyped_in_symbols, untyped_in_free}
 use Rattle.in_symbols.specs.Tables.{Knows, KnowsAll, FreeKnown}
 use Rattle.in_syntax.proofs.Least.{IsLeast, least_same, least_earlier, least_earliest, least_of_all, earliest_none}
-use Rattle.in_symbols.proofs.Named.{IsIn, has_number, no_number}
+use Rattle.in_symbols.proofs.Named.{IsIn, has_number, no_number, known_by}
 use Rattle.in_base.proofs.Each.{any_of, any_either}
 
 -- these names are those of the declared types
@@ -62,10 +62,6 @@ untyped_least s types are =
     (least_of_all (λ f. untyped types f.port) (λ f q. IsUntypedAt s q f.port) (λ f. port_least s types are f.port) s.net.free))
 
 -- ---- where none is unknown, each is declared
-
-known_by : (b : Bool) (p : Place) → let o : Option Place = None in (if b then None else Some p) ≡ o → b ≡ true
-known_by true p e = refl
-known_by false p e = cc
 
 known : (types : List (List ℕ)) (port : SourcePort) → untyped types port ≡ None → Knows types port
 known types port e = known_by (is_some (number_in port.kind.text types)) port.kind.place e

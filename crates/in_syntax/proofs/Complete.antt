@@ -28,7 +28,7 @@ use Rattle.in_syntax.specs.declared.states.HeadOf.TheVariants.{First, Second}
 use Rattle.in_syntax.specs.declared.states.TermOf.TheVariants.{Left, Right, Inside}
 use Rattle.in_syntax.specs.declared.states.Nest.{Nest}
 use Rattle.in_syntax.specs.Grammar.{Marked, marked, within, plain, separated, numbered, spell_auxiliary, spell_class, spell_classes, spell_symbol, spell_type, spell_types, spell_arguments, spell_term, spell_outermost, spell_head, spell_rule, spell_equation, spell_free, spell_net, max_types, max_depth, IsNonempty, Item, types, symbol, rule, none_yet, counted, spell_items, IsItem, types_in, symbols_in, rules_in, Program, spelling}
-use Rattle.in_syntax.specs.Steps.{at_term_open, at_term_end, after_port, step, at_state, with_types, with_symbol, with_rule, counts_of, start}
+use Rattle.in_syntax.specs.Steps.{at_term_open, at_term_end, after_port, step, at_state, with_types, with_symbol, with_rule, counts_of, between_items, start}
 use Rattle.in_syntax.specs.Trees.{bare, bare_head, with_argument, with_class, with_equation, with_term}
 use Rattle.in_syntax.proofs.Separated.{ports_after, after}
 use Rattle.in_syntax.proofs.Paths.{turns, turn_of, turn, Path, join}
@@ -342,31 +342,28 @@ with_items r items = record {
   state = state.Item;
 }
 
-abbrev at_items : List Name → List SourceSymbol → List SourceRule → Reader
-at_items ts ss ys = record { types = ts; symbols = ss; rules = ys; state = state.Item }
-
 path_items : (items : List Item) (r : Reader) → AllByRecursion IsItem items → Path (at_state r state.Item) (spell_items (counts_of r) items) (with_items r items)
 path_items [] r each =
-    ap (λ z. at_items z r.symbols r.rules) (sym (append-nil r.types))
-    ∙ ap (λ z. at_items (r.types ++ []) z r.rules) (sym (append-nil r.symbols))
-    ∙ ap (λ z. at_items (r.types ++ []) (r.symbols ++ []) z) (sym (append-nil r.rules))
+    ap (λ z. between_items z r.symbols r.rules) (sym (append-nil r.types))
+    ∙ ap (λ z. between_items (r.types ++ []) z r.rules) (sym (append-nil r.symbols))
+    ∙ ap (λ z. between_items (r.types ++ []) (r.symbols ++ []) z) (sym (append-nil r.rules))
 path_items (types names ∷ items) r each =
     join (spell_types (length r.types + 1) names) (spell_items (counted (counts_of r) (types names)) items) (at_state r state.Item) (with_types r names) (with_items r (types names ∷ items))
     (path_types r names each.0)
     (subst (λ c. Path (with_types r names) (spell_items c items) (with_items r (types names ∷ items))) (counts_types r names)
-    (subst (λ z. Path (with_types r names) (spell_items (counts_of (with_types r names)) items) (at_items z (r.symbols ++ flat_map symbols_in items) (r.rules ++ flat_map rules_in items)))
+    (subst (λ z. Path (with_types r names) (spell_items (counts_of (with_types r names)) items) (between_items z (r.symbols ++ flat_map symbols_in items) (r.rules ++ flat_map rules_in items)))
     (append_assoc r.types names (flat_map types_in items)) (path_items items (with_types r names) each.1)))
 path_items (symbol s ∷ items) r each =
     join (spell_symbol (length r.symbols + 1) s) (spell_items (counted (counts_of r) (symbol s)) items) (at_state r state.Item) (with_symbol r s) (with_items r (symbol s ∷ items))
     (path_symbol r s each.0)
     (subst (λ c. Path (with_symbol r s) (spell_items c items) (with_items r (symbol s ∷ items))) (counts_symbol r s)
-    (subst (λ z. Path (with_symbol r s) (spell_items (counts_of (with_symbol r s)) items) (at_items (r.types ++ flat_map types_in items) z (r.rules ++ flat_map rules_in items)))
+    (subst (λ z. Path (with_symbol r s) (spell_items (counts_of (with_symbol r s)) items) (between_items (r.types ++ flat_map types_in items) z (r.rules ++ flat_map rules_in items)))
     (append_assoc r.symbols (s ∷ []) (flat_map symbols_in items)) (path_items items (with_symbol r s) each.1)))
 path_items (rule y ∷ items) r each =
     join (spell_rule (length r.rules + 1) y) (spell_items (counted (counts_of r) (rule y)) items) (at_state r state.Item) (with_rule r y) (with_items r (rule y ∷ items))
     (path_rule r y)
     (subst (λ c. Path (with_rule r y) (spell_items c items) (with_items r (rule y ∷ items))) (counts_rule r y)
-    (subst (λ z. Path (with_rule r y) (spell_items (counts_of (with_rule r y)) items) (at_items (r.types ++ flat_map types_in items) (r.symbols ++ flat_map symbols_in items) z))
+    (subst (λ z. Path (with_rule r y) (spell_items (counts_of (with_rule r y)) items) (between_items (r.types ++ flat_map types_in items) (r.symbols ++ flat_map symbols_in items) z))
     (append_assoc r.rules (y ∷ []) (flat_map rules_in items)) (path_items items (with_rule r y) each.1)))
 
 -- ---- the net

@@ -35,18 +35,20 @@ first_refused k P (Some p) least = ((refl, least.0), (λ d q h. no_later k p d q
 abbrev pub AreLower : (Code → Place → Type 0) → (Code → Place → Type 0) → Type 0
 AreLower F G = (c : Code) (p : Place) (d : Code) (q : Place) → F c p → G d q → code_number c ≤ code_number d
 
+-- no later than the faults of either kind
+of_either : (F G : Code → Place → Type 0) (r : Refusal) → ((d : Code) (q : Place) → F d q → IsNoLater r.code r.place d q) → ((d : Code) (q : Place) → G d q → IsNoLater r.code r.place d q) →
+    (d : Code) (q : Place) → F d q ⊎ G d q → IsNoLater r.code r.place d q
+of_either F G r one other d q (inl h) = one d q h
+of_either F G r one other d q (inr h) = other d q h
+
 two_by : (F G : Code → Place → Type 0) → AreLower F G → (r s : Refusal) → IsFirst F (Some r) → IsFirst G (Some s) → (b : Bool) → nat_lt s.place.from r.place.from ≡ b →
     IsFirst (λ c q. F c q ⊎ G c q) (if b then Some s else Some r)
-two_by F G lower r s first second true is = (inr second.0, (λ d q h. before d q h), second.2)
-  where
-    before : (d : Code) (q : Place) → F d q ⊎ G d q → IsNoLater s.code s.place d q
-    before d q (inl h) = inl (omega (arith, from_of r.code r.place d q (first.1 d q h), ltb-true s.place.from r.place.from is))
-    before d q (inr h) = second.1 d q h
-two_by F G lower r s first second false is = (inl first.0, (λ d q h. before d q h), first.2)
-  where
-    before : (d : Code) (q : Place) → F d q ⊎ G d q → IsNoLater r.code r.place d q
-    before d q (inl h) = first.1 d q h
-    before d q (inr h) = no_later r.code r.place d q (omega (arith, from_of s.code s.place d q (second.1 d q h), ltb-false s.place.from r.place.from is)) (lower r.code r.place d q first.0 h)
+two_by F G lower r s first second true is = (inr second.0, of_either F G s (λ d q h. inl (omega (arith, from_of r.code r.place d q (first.1 d q h), ltb-true s.place.from r.place.from is))) second.1, second.2)
+two_by F G lower r s first second false is = (
+  inl first.0,
+  of_either F G r first.1 (λ d q h. no_later r.code r.place d q (omega (arith, from_of s.code s.place d q (second.1 d q h), ltb-false s.place.from r.place.from is)) (lower r.code r.place d q first.0 h)),
+  first.2,
+)
 
 pub first_of_two : (F G : Code → Place → Type 0) → AreLower F G → (a b : Option Refusal) → IsFirst F a → IsFirst G b → IsFirst (λ c q. F c q ⊎ G c q) (earlier_refusal a b)
 first_of_two F G lower None None none other = λ c q h. neither c q h
@@ -54,16 +56,8 @@ first_of_two F G lower None None none other = λ c q h. neither c q h
     neither : (c : Code) (q : Place) → F c q ⊎ G c q → ⊥
     neither c q (inl h) = none c q h
     neither c q (inr h) = other c q h
-first_of_two F G lower None (Some s) none second = (inr second.0, (λ d q h. before d q h), second.2)
-  where
-    before : (d : Code) (q : Place) → F d q ⊎ G d q → IsNoLater s.code s.place d q
-    before d q (inl h) = absurd (none d q h)
-    before d q (inr h) = second.1 d q h
-first_of_two F G lower (Some r) None first none = (inl first.0, (λ d q h. before d q h), first.2)
-  where
-    before : (d : Code) (q : Place) → F d q ⊎ G d q → IsNoLater r.code r.place d q
-    before d q (inl h) = first.1 d q h
-    before d q (inr h) = absurd (none d q h)
+first_of_two F G lower None (Some s) none second = (inr second.0, of_either F G s (λ d q h. absurd (none d q h)) second.1, second.2)
+first_of_two F G lower (Some r) None first none = (inl first.0, of_either F G r first.1 (λ d q h. absurd (none d q h)), first.2)
 first_of_two F G lower (Some r) (Some s) first second = two_by F G lower r s first second (nat_lt s.place.from r.place.from) refl
 
 -- ---- three codes

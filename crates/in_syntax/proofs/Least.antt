@@ -40,17 +40,17 @@ least_earlier P Q None (Some r) nothing other = (inr other.0, second_only P Q r 
 least_earlier P Q (Some p) None least nothing = (inl least.0, first_only P Q p least nothing)
 least_earlier P Q (Some p) (Some r) least other = least_by P Q p r least other (nat_lt r.from p.from) refl
 
-shift : (A B C : Type 0) → (A ⊎ B) ⊎ C → A ⊎ (B ⊎ C)
+pub shift : (A B C : Type 0) → (A ⊎ B) ⊎ C → A ⊎ (B ⊎ C)
 shift A B C (inl (inl a)) = inl a
 shift A B C (inl (inr b)) = inr (inl b)
 shift A B C (inr c) = inr (inr c)
 
-shift_back : (A B C : Type 0) → A ⊎ (B ⊎ C) → (A ⊎ B) ⊎ C
+pub shift_back : (A B C : Type 0) → A ⊎ (B ⊎ C) → (A ⊎ B) ⊎ C
 shift_back A B C (inl a) = inl (inl a)
 shift_back A B C (inr (inl b)) = inl (inr b)
 shift_back A B C (inr (inr c)) = inr c
 
-left : (A : Type 0) → A ⊎ ⊥ → A
+pub left : (A : Type 0) → A ⊎ ⊥ → A
 left A (inl a) = a
 left A (inr h) = absurd h
 

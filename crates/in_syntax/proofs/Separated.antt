@@ -41,10 +41,6 @@ pub nonempty_map : {A B : Type 0} (f : A → B) (l : List A) → IsNonempty l �
 nonempty_map f [] full = absurd full
 nonempty_map f (a ∷ l) full = tt
 
-pub map_snoc : {A B : Type 0} (f : A → B) (l : List A) (a : A) → map f (l ++ a ∷ []) ≡ map f l ++ f a ∷ []
-map_snoc f [] a = refl
-map_snoc f (b ∷ l) a = ap (λ z. f b ∷ z) (map_snoc f l a)
-
 pub flat_snoc : {A B : Type 0} (f : A → List B) (l : List A) (a : A) → flat_map f (l ++ a ∷ []) ≡ flat_map f l ++ f a
 flat_snoc f [] a = append-nil (f a)
 flat_snoc f (b ∷ l) a = ap (λ z. f b ++ z) (flat_snoc f l a) ∙ sym (append_assoc (f b) (flat_map f l) (f a))

@@ -1,6 +1,7 @@
 -- What was read before a reader is spelled so.
 use Rattle.std.proofs.Common.{◌≡◌, ℕ, ◌+◌, Bool, true, false, nat_lt, List, [], ◌∷◌, ◌++◌, length, map, refl, sym, ◌∙◌, ap, subst, append_assoc, append-nil, length-append, arith}
 use Rattle.std.specs.List.{flat_map, AllByRecursion}
+use Rattle.std.proofs.lemmas.List.{map_push}
 use Rattle.in_syntax.specs.declared.words.TokenKind.TheVariants as kind
 use Rattle.in_syntax.specs.declared.signs.Sign.{Sign}
 use Rattle.in_syntax.specs.declared.signs.Sign.TheVariants.{Named, Tilde, Plain}
@@ -30,7 +31,7 @@ use Rattle.in_syntax.specs.declared.states.Nest.{Nest}
 use Rattle.in_syntax.specs.Grammar.{Marked, marked, within, named, plain, separated, numbered, spell_port, spell_auxiliary, spell_classes, spell_symbol, spell_type, spell_types, spell_arguments, spell_level, spell_term, spell_outermost, spell_head, spell_rule, spell_equation, spell_free, spell_net, max_symbols, max_rules, max_free, max_ports, max_depth, IsNonempty, Item, types, symbol, rule, none_yet, counted, spell_item, spell_items, IsItem, types_in, symbols_in, rules_in}
 use Rattle.in_syntax.specs.Steps.{Step, goes, adds_types, adds_symbol, adds_rule, stuck, at_item, at_type_name, at_type_end, at_symbol_name, at_symbol_colon, at_port_kind, after_port, at_port_sign, at_symbol_end, at_class_end, at_head_name, at_head_open, at_head_first, at_head_end, at_net_open, at_free_first, at_free_name, at_free_colon, at_free_end, at_body_open, at_equation, at_term_name, after_argument, after_left, after_right, after_head_term, after_outermost, after_term, at_term_end, at_term_open, step, at_state, with_types, with_symbol, with_rule, counts_of, start}
 use Rattle.in_syntax.specs.Trees.{bare, bare_head, with_argument}
-use Rattle.in_syntax.proofs.Separated.{comma, before, separated_snoc, before_is, nonempty_snoc, map_snoc, flat_snoc, numbered_snoc, nonempty_numbered, ports_after, ports_after_snoc, classes_snoc, counted_all, counted_snoc, items_snoc}
+use Rattle.in_syntax.proofs.Separated.{comma, before, separated_snoc, before_is, nonempty_snoc, flat_snoc, numbered_snoc, nonempty_numbered, ports_after, ports_after_snoc, classes_snoc, counted_all, counted_snoc, items_snoc}
 use Rattle.in_syntax.proofs.Paths.{turns, turn_of, Path}
 use Rattle.in_base.proofs.Each.{all_append}
 
@@ -417,13 +418,13 @@ keeps_after_head_term : (k : Counts) (o : HeadOf) (h : Head) (t : Term) (x : Sig
 keeps_after_head_term k o h t (Plain kind.Comma) = (
   tt,
   ap (λ z. (head_of_front k o ++ named h.name ∷ plain kind.OpenBracket ∷ z) ++ [])
-      (ap before (map_snoc spell_outermost h.terms t) ∙ before_snoc (map spell_outermost h.terms) (spell_term t 1))
+      (ap before (map_push spell_outermost h.terms t) ∙ before_snoc (map spell_outermost h.terms) (spell_term t 1))
       ∙ regroup_term (head_of_front k o) (named h.name ∷ plain kind.OpenBracket ∷ []) (before (map spell_outermost h.terms)) (spell_term t 1) (comma ∷ []),
 )
 keeps_after_head_term k o h t (Plain kind.CloseBracket) = (
   tt,
   ap (λ z. head_of_front k o ++ (named h.name ∷ plain kind.OpenBracket ∷ z ++ plain kind.CloseBracket ∷ []))
-      (ap separated (map_snoc spell_outermost h.terms t) ∙ separated_snoc (map spell_outermost h.terms) (spell_term t 1))
+      (ap separated (map_push spell_outermost h.terms t) ∙ separated_snoc (map spell_outermost h.terms) (spell_term t 1))
       ∙ regroup_head (head_of_front k o) (named h.name ∷ plain kind.OpenBracket ∷ []) (before (map spell_outermost h.terms)) (spell_term t 1) (plain kind.CloseBracket ∷ []),
 )
 keeps_after_head_term k o h t _ = tt
