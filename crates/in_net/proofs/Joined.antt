@@ -21,7 +21,7 @@ use Rattle.in_net.proofs.Links.{all_at}
 use Rattle.in_net.proofs.Linked.{same_or_not, below_or_not, length-links_of}
 use Rattle.in_net.proofs.Joins.{length-none_seen, length-counted}
 use Rattle.in_net.proofs.Sound.{named}
-use Rattle.in_net.proofs.Read.{IsNamed}
+use Rattle.in_net.proofs.Read.{IsNamed, name_known}
 use Rattle.in_net.proofs.Known.{AreDifferent}
 use Rattle.in_net.proofs.NamedSpots.{AreNamesRead}
 use Rattle.in_net.proofs.NetRead.{IsNetRead}
@@ -138,23 +138,14 @@ module _ (t : Tables) (b : Body) (free count : ℕ) (r : Reading) (net : IsNetRe
   fact : (i : ℕ) → i < length spots → IsNamed t b r.names (nth_spot spots i)
   fact i lt = all_at (IsNamed t b r.names) spots i _ net.read.named_as lt
 
-  number_of : (s : Spot) (m : ℕ) → IsNamed t b r.names s → counting.name_of s ≡ Some m → m < length r.names
-  number_of (Port a i p) m h e = cc
-  number_of (End k) m h e = cc
-  number_of (Free k n) m h e = let same : n ≡ m = cc in omega (arith, same, h.inside)
-  number_of (Occurrence n p) m h e = let same : n ≡ m = cc in omega (arith, same, h.inside)
-
-  before_frees : (i j k m n : ℕ) (p : Place) → i < j → j < length spots → nth_spot spots i ≡ Occurrence n p → nth_spot spots j ≢ Free k m
-  before_frees i j k m n p lt in_ is e =
-      let end = names.end j k m in_ e in
-      let there = names.ends i (omega (arith, lt, end.0, end.1)) in
-      absurd (let wrong : Occurrence n p ≡ Free i there.1.0 = sym is ∙ there.1.1 in cc)
-
   pub of_text : AreOfText t b r.names spots
   of_text = record {
     facts = fact;
-    numbers = λ i m lt e. number_of (nth_spot spots i) m (fact i lt) e;
-    free_first = before_frees;
+    numbers = λ i m lt e. name_known t b r.names (nth_spot spots i) m (fact i lt) e;
+    free_first = λ i j k m n p lt in_ is e.
+        let end = names.end j k m in_ e in
+        let there = names.ends i (omega (arith, lt, end.0, end.1)) in
+        absurd (let wrong : Occurrence n p ≡ Free i there.1.0 = sym is ∙ there.1.1 in cc);
     free_differ = λ i j k l m i_in j_in is_i is_j.
         let f : IsNamed t b r.names (Free k m) = subst (IsNamed t b r.names) is_i (fact i i_in) in
         let g : IsNamed t b r.names (Free l m) = subst (IsNamed t b r.names) is_j (fact j j_in) in

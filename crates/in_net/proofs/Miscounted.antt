@@ -1,6 +1,6 @@
 -- What is miscounted among the spots is what is miscounted in the text.
 use Rattle.std.proofs.Common.{◌≡◌, ◌≢◌, ◌⊎◌, inl, inr, ℕ, zero, suc, ◌<◌, ◌≤◌, List, [], ◌∷◌, length, Some, None, option_map, slice_get, refl, sym, ◌∙◌, ap, subst, arith}
-use Rattle.std.proofs.lemmas.Option.{slice_get-get_or, slice_get_within}
+use Rattle.std.proofs.lemmas.Option.{slice_get-get_or, slice_get_within, same_Some}
 use Rattle.in_syntax.specs.declared.places.Place.{Place}
 use Rattle.in_syntax.specs.declared.tree.Term.{Term}
 use Rattle.in_syntax.specs.declared.tree.SourceFree.{SourceFree}
@@ -9,7 +9,7 @@ use Rattle.in_symbols.specs.Names.{name_in}
 use Rattle.in_symbols.specs.Tables.{Tables}
 use Rattle.in_syntax.proofs.Least.{IsLeast, least_same}
 use Rattle.in_net.specs.declared.reading.Spot.{Spot}
-use Rattle.in_net.specs.declared.reading.Spot.TheVariants.{Port, Free, End, Occurrence}
+use Rattle.in_net.specs.declared.reading.Spot.TheVariants.{Free, Occurrence}
 use Rattle.in_net.specs.declared.reading.Reading.{Reading}
 use Rattle.in_net.specs.Counting as counting
 use Rattle.in_net.specs.Counting.{none_seen, counted_from, nothing_counted, counts_from, place_at, miscounted}
@@ -24,8 +24,8 @@ use Rattle.in_net.proofs.Miscounts.{Has, IsThirdAt, IsOnlyAt, IsStanding, done, 
 use Rattle.in_net.specs.declared.counting.Seen.{Seen}
 use Rattle.in_net.specs.declared.counting.Seen.TheVariants.{Never, Once, Twice, Often}
 use Rattle.in_net.proofs.NamedSpots.{AreNamesRead}
-use Rattle.in_net.proofs.Order.{root_places, root_before}
-use Rattle.in_net.proofs.Read.{IsNamed, IsVariableAt, IsFreeAt, name_inside}
+use Rattle.in_net.proofs.Order.{root_place, root_places, root_before, same_root}
+use Rattle.in_net.proofs.Read.{IsNamed, IsVariableAt, IsFreeAt, name_known}
 use Rattle.in_net.proofs.Ways.{nth_seen, spot_named}
 
 among_at : (fs : List SourceFree) (f : SourceFree) → IsAmong f fs → (k : ℕ) × (slice_get fs k ≡ Some f)
@@ -48,13 +48,7 @@ module _ (t : Tables) (body : Body) (r : Reading) (names : AreNamesRead t body r
   fact i lt = all_at (IsNamed t body r.names) r.spots i no_spot names.named_as lt
 
   pub inside : (i m : ℕ) → i < length r.spots → Has r.spots m i → m < length r.names
-  inside i m lt e = by_spot (nth_spot r.spots i) (name_inside t body r.names (nth_spot r.spots i) (fact i lt)) e
-    where
-      by_spot : (s : Spot) → counting.IsNameInside (length r.names) s → counting.name_of s ≡ Some m → m < length r.names
-      by_spot (Port a j p) h e = cc
-      by_spot (End k) h e = cc
-      by_spot (Free k l) h e = let same : l ≡ m = cc in omega (arith, h, same)
-      by_spot (Occurrence l p) h e = let same : l ≡ m = cc in omega (arith, h, same)
+  inside i m lt e = name_known t body r.names (nth_spot r.spots i) m (fact i lt) e
 
   -- the variable at a spot
   variable_at : (i m : ℕ) (p : Place) → i < length r.spots → nth_spot r.spots i ≡ Occurrence m p → IsVariableAt t body r.names m p
@@ -95,12 +89,7 @@ module _ (t : Tables) (body : Body) (r : Reading) (names : AreNamesRead t body r
       part (inr x) (inr y) = absurd (let back = root_before r.spots j i l m q p up (omega (arith, x, y)) i_in is_j is_i in omega (arith, less, back))
 
   same_place : (i j m l : ℕ) (p q : Place) → i < length r.spots → j < length r.spots → nth_spot r.spots i ≡ Occurrence m p → nth_spot r.spots j ≡ Occurrence l q → p ≡ q → i ≡ j
-  same_place i j m l p q i_in j_in is_i is_j e = part (same_or_not i j) (below_or_not i j)
-    where
-      part : (i ≡ j) ⊎ (i ≢ j) → (i < j) ⊎ (j ≤ i) → i ≡ j
-      part (inl x) y = x
-      part (inr x) (inl y) = absurd (let less = root_before r.spots i j m l p q up y j_in is_i is_j in omega (arith, less, ap (λ (x : Place). x.from) e))
-      part (inr x) (inr y) = absurd (let less = root_before r.spots j i l m q p up (omega (arith, x, y)) i_in is_j is_i in omega (arith, less, ap (λ (x : Place). x.from) e))
+  same_place i j m l p q i_in j_in is_i is_j e = same_root r.spots i j q up i_in j_in (ap root_place is_i ∙ ap (λ (x : Place). x ∷ []) e) (ap root_place is_j)
 
   -- free ends come before occurrences
   free_before : (i j k m l : ℕ) (p : Place) → i < length r.spots → j < length r.spots → nth_spot r.spots i ≡ Free k m → nth_spot r.spots j ≡ Occurrence l p → i < j
@@ -123,9 +112,6 @@ module _ (t : Tables) (body : Body) (r : Reading) (names : AreNamesRead t body r
   slice_spot : (i : ℕ) → i < length r.spots → slice_get r.spots i ≡ Some (nth_spot r.spots i)
   slice_spot i lt = slice_get-get_or r.spots i no_spot lt
 
-  some_same : (p q : Place) → Some p ≡ Some q → p ≡ q
-  some_same p q e = cc
-
   -- the name of an occurrence that is a free name's has its free end among the spots
   free_of : (m : ℕ) → m < length r.names → IsFreeName body (name_in m r.names) → (k : ℕ) × (k < length r.spots) × (nth_spot r.spots k ≡ Free k m)
   free_of m lt h =
@@ -141,7 +127,7 @@ module _ (t : Tables) (body : Body) (r : Reading) (names : AreNamesRead t body r
       by_spot : ((p : Place) × (nth_spot r.spots h.one ≡ Occurrence h.name p)) ⊎ ((k : ℕ) × (nth_spot r.spots h.one ≡ Free k h.name)) → IsMiscountedAt t body q
       by_spot (inl (p, is)) =
           let v = variable_at h.one h.name p h.inside is in
-          let place : p ≡ q = some_same p q (sym (ap (place_at body.free) (slice_spot h.one h.inside ∙ ap Some is)) ∙ h.stands) in
+          let place : p ≡ q = same_Some p q (sym (ap (place_at body.free) (slice_spot h.one h.inside ∙ ap Some is)) ∙ h.stands) in
           let lonely : (w : Term) → Occurs t body (name_of v.term) w → place_of w ≡ place_of v.term =
           λ w o.
           (let ow : Occurs t body (name_in h.name r.names) w = (o.0, o.1, o.2 ∙ sym v.name) in
@@ -157,7 +143,7 @@ module _ (t : Tables) (body : Body) (r : Reading) (names : AreNamesRead t body r
           subst (IsMiscountedAt t body) (v.place ∙ place) (IsMiscountedAt.only v.term (v.there, v.variable, refl) unfree lonely)
       by_spot (inr (k, is)) =
           let end = free_end h.one k h.name h.inside is in
-          let place : end.0.name.place ≡ q = some_same end.0.name.place q (sym (ap (option_map {T = SourceFree} {U = Place} (λ f. f.name.place)) end.1) ∙ sym (ap (place_at body.free) (slice_spot h.one h.inside ∙ ap Some is)) ∙ h.stands) in
+          let place : end.0.name.place ≡ q = same_Some end.0.name.place q (sym (ap (option_map {T = SourceFree} {U = Place} (λ f. f.name.place)) end.1) ∙ sym (ap (place_at body.free) (slice_spot h.one h.inside ∙ ap Some is)) ∙ h.stands) in
           let none : (u : Term) → Occurs t body end.0.name.text u → ⊥ =
           λ u o.
           (let ou : Occurs t body (name_in h.name r.names) u = (o.0, o.1, o.2 ∙ sym end.2) in

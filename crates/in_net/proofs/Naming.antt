@@ -1,6 +1,7 @@
 -- One spot more is joined at its name.
 use Rattle.std.proofs.Common.{if◌then◌else◌, ◌≡◌, ◌≢◌, ◌⊎◌, inl, inr, ℕ, ◌+◌, ◌<◌, ◌≤◌, Bool, true, false, nat_lt, List, length, Option, Some, None, refl, sym, ◌∙◌, ap, subst, arith, set}
 use Rattle.std.proofs.lemmas.List.{length-set, get_or-set_same, get_or-set_other}
+use Rattle.std.proofs.lemmas.Option.{none-some, same_Some}
 use Rattle.in_syntax.specs.declared.places.Place.{Place}
 use Rattle.in_syntax.specs.Refusals.{earlier}
 use Rattle.in_symbols.specs.Tables.{Tables}
@@ -39,6 +40,7 @@ open_back seen m x (End k) other h = tt
 open_back seen m x (Free k n) other h = subst IsMet (seen_other seen m n x (λ e. other (ap Some e))) h
 open_back seen m x (Occurrence n p) other h = λ met. h (subst IsMet (sym (seen_other seen m n x (λ e. other (ap Some e)))) met)
 
+-- of two places the earlier is one
 earlier_is : (c d : Option Place) (p : Place) → earlier c d ≡ Some p → (c ≡ Some p) ⊎ (d ≡ Some p)
 earlier_is None d p e = inr e
 earlier_is (Some q) None p e = inl e
@@ -54,22 +56,34 @@ seen_on spots at m n Never name differ h = λ i lt e. part i e lt (below_or_not 
   where
     part : (i : ℕ) → counting.name_of (nth_spot spots i) ≡ Some n → i < at + 1 → (i < at) ⊎ (at ≤ i) → ⊥
     part i e lt (inl a) = h i a e
-    part i e lt (inr a) = let same : i ≡ at = omega (arith, a, lt) in differ (some_is (sym e ∙ ap (λ k. counting.name_of (nth_spot spots k)) same ∙ name))
-      where
-        some_is : Some n ≡ Some m → n ≡ m
-        some_is e = cc
+    part i e lt (inr a) = let same : i ≡ at = omega (arith, a, lt) in differ (same_Some n m (sym e ∙ ap (λ k. counting.name_of (nth_spot spots k)) same ∙ name))
 seen_on spots at m n (Once x) name differ h = (omega (arith, h.0), h.1, λ i lt e. part i e (below_or_not i at) lt)
   where
     part : (i : ℕ) → counting.name_of (nth_spot spots i) ≡ Some n → (i < at) ⊎ (at ≤ i) → i < at + 1 → i ≡ x
     part i e (inl a) lt = h.2 i a e
-    part i e (inr a) lt = let same : i ≡ at = omega (arith, a, lt) in absurd (differ (some_is (sym e ∙ ap (λ k. counting.name_of (nth_spot spots k)) same ∙ name)))
-      where
-        some_is : Some n ≡ Some m → n ≡ m
-        some_is e = cc
+    part i e (inr a) lt = let same : i ≡ at = omega (arith, a, lt) in absurd (differ (same_Some n m (sym e ∙ ap (λ k. counting.name_of (nth_spot spots k)) same ∙ name)))
 seen_on spots at m n Twice name differ h = tt
 seen_on spots at m n Often name differ h = tt
 
--- the second spot of a name: a is the first
+-- what holds of both holds of the earlier
+earlier_by : {P : Place → Type 0} (c d : Option Place) → ((x : Place) → c ≡ Some x → P x) → ((x : Place) → d ≡ Some x → P x) → (x : Place) → earlier c d ≡ Some x → P x
+earlier_by c d one other x e = elim (earlier_is c d x e) [ inl f ↦ one x f | inr f ↦ other x f ]
+
+-- at is the second spot of a name that was met once, and a the first
+pub record IsSecond (t : Tables) (b : Body) (spots : List Spot) (j : Joining) (at m a : ℕ) : Type 0 where
+  pub first : (a < at) × (counting.name_of (nth_spot spots a) ≡ Some m) × ((i : ℕ) → i < at → counting.name_of (nth_spot spots i) ≡ Some m → i ≡ a)
+  pub a_in : a < length spots
+  pub differ : a ≢ at
+  pub second : (p : Place) × (nth_spot spots at ≡ Occurrence m p)
+  pub unmet : IsMet (nth_seen j.seen m) → ⊥
+  pub open_at : IsOpen j.seen (nth_spot spots at)
+  pub met2 : IsMet (nth_seen (set j.seen m Twice) m)
+  -- a spot of that name is one of the two
+  pub is_one_of : (i : ℕ) → i < length spots → i ≢ a → i ≢ at → counting.name_of (nth_spot spots i) ≢ Some m
+  pub p_not_q : (nth_link j.links a).to ≢ (nth_link j.links at).to
+  pub q_not_a : (nth_link j.links a).to ≢ at → (nth_link j.links at).to ≢ a
+  pub joint : NameJoint t b (named (nth_spot spots a)) (named (nth_spot spots at))
+
 module _ (t : Tables) (b : Body) (names : List (List ℕ)) (spots : List Spot) (of : AreOfText t b names spots) (count at m a : ℕ) (j : Joining) (h : IsJoiningAt t b spots count at j)
     (at_in : at < length spots) (m_in : m < count) (name : counting.name_of (nth_spot spots at) ≡ Some m) (seen_is : nth_seen j.seen m ≡ Once a)
     (only : (i : ℕ) → at < i → i < length spots → counting.name_of (nth_spot spots i) ≢ Some m) where
@@ -79,47 +93,53 @@ module _ (t : Tables) (b : Body) (names : List (List ℕ)) (spots : List Spot) (
   abbrev pub seen2 : List Seen
   seen2 = set j.seen m Twice
 
-  pub first : (a < at) × (counting.name_of (nth_spot spots a) ≡ Some m) × ((i : ℕ) → i < at → counting.name_of (nth_spot spots i) ≡ Some m → i ≡ a)
-  first = subst (IsSeenAt spots at m) seen_is (h.seen m m_in)
-
-  pub a_in : a < length spots
-  a_in = let lt = first.0 in omega (arith, lt, at_in)
-
-  pub differ : a ≢ at
-  differ e = let lt = first.0 in absurd (omega (arith, e, lt))
-
   -- the second one is an occurrence
-  second_by : ((p : Place) × (nth_spot spots at ≡ Occurrence m p)) ⊎ ((k : ℕ) × (nth_spot spots at ≡ Free k m)) → ((p : Place) × (nth_spot spots a ≡ Occurrence m p)) ⊎ ((k : ℕ) × (nth_spot spots a ≡ Free k m)) → (p : Place) × (nth_spot spots at ≡ Occurrence m p)
-  second_by (inl x) y = x
-  second_by (inr (k, e)) (inl (p, f)) = absurd (of.free_first a at k m m p first.0 at_in f e)
-  second_by (inr (k, e)) (inr (l, f)) = absurd (differ (of.free_differ a at l k m a_in at_in f e))
+  second_by : a < at → a < length spots → ((p : Place) × (nth_spot spots at ≡ Occurrence m p)) ⊎ ((k : ℕ) × (nth_spot spots at ≡ Free k m)) →
+      ((p : Place) × (nth_spot spots a ≡ Occurrence m p)) ⊎ ((k : ℕ) × (nth_spot spots a ≡ Free k m)) → (p : Place) × (nth_spot spots at ≡ Occurrence m p)
+  second_by less a_in (inl x) y = x
+  second_by less a_in (inr (k, e)) (inl (p, f)) = absurd (of.free_first a at k m m p less at_in f e)
+  second_by less a_in (inr (k, e)) (inr (l, f)) = let same = of.free_differ a at l k m a_in at_in f e in absurd (omega (arith, less, same))
 
-  pub second : (p : Place) × (nth_spot spots at ≡ Occurrence m p)
-  second = second_by (spot_named (nth_spot spots at) m name) (spot_named (nth_spot spots a) m first.1)
+  one_by : ((i : ℕ) → i < at → counting.name_of (nth_spot spots i) ≡ Some m → i ≡ a) → (i : ℕ) → i < length spots → i ≢ a → i ≢ at → counting.name_of (nth_spot spots i) ≡ Some m → (i < at) ⊎ (at ≤ i) → (at < i) ⊎ (i ≤ at) → ⊥
+  one_by first i lt x y e (inl z) w = x (first i z e)
+  one_by first i lt x y e (inr z) (inl w) = only i w lt e
+  one_by first i lt x y e (inr z) (inr w) = y (omega (arith, z, w))
 
-  pub unmet : IsMet (nth_seen j.seen m) → ⊥
-  unmet x = subst IsMet seen_is x
-
-  pub open_at : IsOpen j.seen (nth_spot spots at)
-  open_at = subst (IsOpen j.seen) (sym second.1) unmet
-
-  pub met2 : IsMet (nth_seen seen2 m)
-  met2 = subst IsMet (sym (get_or-set_same j.seen m Twice Never (omega (arith, m_in, h.count)))) tt
-
-  not_open2 : (i : ℕ) (p : Place) → nth_spot spots i ≡ Occurrence m p → IsOpen seen2 (nth_spot spots i) → ⊥
-  not_open2 i p e x = subst (IsOpen seen2) e x met2
-
-  -- a spot of that name is one of the two
-  pub is_one_of : (i : ℕ) → i < length spots → i ≢ a → i ≢ at → counting.name_of (nth_spot spots i) ≢ Some m
-  is_one_of i lt x y e = part (below_or_not i at) (below_or_not at i)
-    where
-      part : (i < at) ⊎ (at ≤ i) → (at < i) ⊎ (i ≤ at) → ⊥
-      part (inl z) w = x (first.2 i z e)
-      part (inr z) (inl w) = only i w lt e
-      part (inr z) (inr w) = y (omega (arith, z, w))
+  joint_by : a < at → a < length spots → (q : Place) → nth_spot spots at ≡ Occurrence m q → ((p : Place) × (nth_spot spots a ≡ Occurrence m p)) ⊎ ((k : ℕ) × (nth_spot spots a ≡ Free k m)) →
+      NameJoint t b (named (nth_spot spots a)) (named (nth_spot spots at))
+  joint_by less a_in q second (inl (x, e)) =
+      subst (λ s. NameJoint t b (named s) (named (nth_spot spots at))) (sym e)
+      (subst (λ s. NameJoint t b (named (Occurrence m x)) (named s)) (sym second)
+      (name_joint t b names m x q (subst (IsNamed t b names) e (of.facts a a_in)) (subst (IsNamed t b names) second (of.facts at at_in)) (of.places_differ a at m m x q less at_in e second)))
+  joint_by less a_in q second (inr (k, e)) =
+      subst (λ s. NameJoint t b (named s) (named (nth_spot spots at))) (sym e)
+      (subst (λ s. NameJoint t b (named (Free k m)) (named s)) (sym second)
+      (free_joint t b names k m q (subst (IsNamed t b names) e (of.facts a a_in)) (subst (IsNamed t b names) second (of.facts at at_in))))
 
   to_of : (i : ℕ) → i < length spots → (nth_link links (nth_link links i).to).to ≡ i
   to_of i lt = ap (λ (l : Link). l.to) (h.back i lt)
+
+  pub two : IsSecond t b spots j at m a
+  two =
+      let first = subst (IsSeenAt spots at m) seen_is (h.seen m m_in) in
+      let less = first.0 in
+      let a_in : a < length spots = omega (arith, less, at_in) in
+      let differ : a ≢ at = λ e. absurd (omega (arith, e, less)) in
+      let second = second_by less a_in (spot_named (nth_spot spots at) m name) (spot_named (nth_spot spots a) m first.1) in
+      let unmet : IsMet (nth_seen j.seen m) → ⊥ = λ x. subst IsMet seen_is x in
+      record {
+        first = first;
+        a_in = a_in;
+        differ = differ;
+        second = second;
+        unmet = unmet;
+        open_at = subst (IsOpen j.seen) (sym second.1) unmet;
+        met2 = subst IsMet (sym (get_or-set_same j.seen m Twice Never (omega (arith, m_in, h.count)))) tt;
+        is_one_of = λ i lt x y e. one_by first.2 i lt x y e (below_or_not i at) (below_or_not at i);
+        p_not_q = λ e. differ (sym (to_of a a_in) ∙ ap (λ k. (nth_link links k).to) e ∙ to_of at at_in);
+        q_not_a = λ x e. x (sym (ap (λ k. (nth_link links k).to) e) ∙ to_of at at_in);
+        joint = joint_by less a_in second.0 second.1 (spot_named (nth_spot spots a) m first.1);
+      }
 
   abbrev pub p : ℕ
   p = (nth_link links a).to
@@ -127,27 +147,11 @@ module _ (t : Tables) (b : Body) (names : List (List ℕ)) (spots : List Spot) (
   abbrev pub q : ℕ
   q = (nth_link links at).to
 
+  not_open2 : (i : ℕ) (p : Place) → nth_spot spots i ≡ Occurrence m p → IsOpen seen2 (nth_spot spots i) → ⊥
+  not_open2 i p e x = subst (IsOpen seen2) e x two.met2
+
   q_not_at : q ≢ at
-  q_not_at = h.apart at at_in open_at
-
-  pub p_not_q : p ≢ q
-  p_not_q e = differ (sym (to_of a a_in) ∙ ap (λ k. (nth_link links k).to) e ∙ to_of at at_in)
-
-  pub q_not_a : p ≢ at → q ≢ a
-  q_not_a x e = x (sym (ap (λ k. (nth_link links k).to) e) ∙ to_of at at_in)
-
-  joint_by : ((p : Place) × (nth_spot spots a ≡ Occurrence m p)) ⊎ ((k : ℕ) × (nth_spot spots a ≡ Free k m)) → NameJoint t b (named (nth_spot spots a)) (named (nth_spot spots at))
-  joint_by (inl (x, e)) =
-      subst (λ s. NameJoint t b (named s) (named (nth_spot spots at))) (sym e)
-      (subst (λ s. NameJoint t b (named (Occurrence m x)) (named s)) (sym second.1)
-      (name_joint t b names m x second.0 (subst (IsNamed t b names) e (of.facts a a_in)) (subst (IsNamed t b names) second.1 (of.facts at at_in)) (of.places_differ a at m m x second.0 first.0 at_in e second.1)))
-  joint_by (inr (k, e)) =
-      subst (λ s. NameJoint t b (named s) (named (nth_spot spots at))) (sym e)
-      (subst (λ s. NameJoint t b (named (Free k m)) (named s)) (sym second.1)
-      (free_joint t b names k m second.0 (subst (IsNamed t b names) e (of.facts a a_in)) (subst (IsNamed t b names) second.1 (of.facts at at_in))))
-
-  pub joint : NameJoint t b (named (nth_spot spots a)) (named (nth_spot spots at))
-  joint = joint_by (spot_named (nth_spot spots a) m first.1)
+  q_not_at = h.apart at at_in two.open_at
 
   seen_then : (n : ℕ) → n < count → (n ≡ m) ⊎ (n ≢ m) → IsSeenAt spots (at + 1) n (nth_seen seen2 n)
   seen_then n lt (inl e) = subst (IsSeenAt spots (at + 1) n) (sym (ap (nth_seen seen2) e ∙ get_or-set_same j.seen m Twice Never (omega (arith, m_in, h.count)))) tt
@@ -156,6 +160,35 @@ module _ (t : Tables) (b : Body) (names : List (List ℕ)) (spots : List Spot) (
   way_here : (i : ℕ) → i < length spots → IsOpen j.seen (nth_spot spots i) → IsWay t b (nth_spot spots i) (nth_spot spots (nth_link links i).to) (nth_link links i).place
   way_here i lt open_ = h.way i lt open_
 
+  abbrev Open2 : ℕ → Type 0
+  Open2 i = IsOpen seen2 (nth_spot spots i)
+
+  abbrev Back : List Link → ℕ → Type 0
+  Back new i = nth_link new (nth_link new i).to ≡ record { to = i; place = (nth_link new i).place }
+
+  self_back : (new : List Link) (i : ℕ) → (nth_link new i).to ≡ i → Back new i
+  self_back new i e = ap (nth_link new) e ∙ ap (λ k. let l : Link = record { to = k; place = (nth_link new i).place } in l) e
+
+  -- where the two are joined to nothing, and what was joined to nothing else is as it was
+  module _ (new : List Link) (one : (n : ℕ) (x : Place) → nth_spot spots a ≡ Occurrence n x → (nth_link new a).to ≡ a) (other : (nth_link new at).to ≡ at)
+      (rest : (i : ℕ) → i < length spots → i ≢ a → i ≢ at → (nth_link links i).to ≡ i → nth_link new i ≡ nth_link links i) where
+    used_by : (i n : ℕ) (x : Place) → i < length spots → nth_spot spots i ≡ Occurrence n x → IsMet (nth_seen seen2 n) → (i ≡ a) ⊎ (i ≢ a) → (i ≡ at) ⊎ (i ≢ at) → (nth_link new i).to ≡ i
+    used_by i n x lt is met (inl e) y = ap (λ k. (nth_link new k).to) e ∙ one n x (sym (ap (nth_spot spots) e) ∙ is) ∙ sym e
+    used_by i n x lt is met (inr e) (inl f) = ap (λ k. (nth_link new k).to) f ∙ other ∙ sym f
+    used_by i n x lt is met (inr e) (inr f) =
+        let another : n ≢ m = λ g. two.is_one_of i lt e f (ap counting.name_of is ∙ ap Some g) in
+        let self = h.used i n x lt is (subst IsMet (seen_other j.seen m n Twice another) met) in
+        ap (λ (l : Link). l.to) (rest i lt e f self) ∙ self
+
+    fresh_by : (i k n : ℕ) → i < length spots → nth_spot spots i ≡ Free k n → (IsMet (nth_seen seen2 n) → ⊥) → (n ≡ m) ⊎ (n ≢ m) → nth_link new i ≡ self_link i
+    fresh_by i k n lt is unmet_ (inl e) = absurd (unmet_ (subst (λ n. IsMet (nth_seen seen2 n)) (sym e) two.met2))
+    fresh_by i k n lt is unmet_ (inr e) =
+        let named_n : counting.name_of (nth_spot spots i) ≡ Some n = ap counting.name_of is in
+        let not_a : i ≢ a = λ f. e (same_Some n m (sym named_n ∙ ap (λ k. counting.name_of (nth_spot spots k)) f ∙ two.first.1)) in
+        let not_at : i ≢ at = λ f. e (same_Some n m (sym named_n ∙ ap (λ k. counting.name_of (nth_spot spots k)) f ∙ name)) in
+        let self = h.fresh i k n lt is (λ met. unmet_ (subst IsMet (sym (seen_other j.seen m n Twice e)) met)) in
+        rest i lt not_a not_at (ap (λ (l : Link). l.to) self) ∙ self
+
   -- ---- the wire is closed
   module _ (new : List Link) (closed : Option Place) (size : length new ≡ length spots) (shut : IsClosed links new a at closed) where
     abbrev pub after_closed : Joining
@@ -163,14 +196,14 @@ module _ (t : Tables) (b : Body) (names : List (List ℕ)) (spots : List Spot) (
 
     -- where it is closed, the first spot is an occurrence too
     pub first_occurs : (x : Place) × (nth_spot spots a ≡ Occurrence m x)
-    first_occurs = by_spot (spot_named (nth_spot spots a) m first.1)
+    first_occurs = by_spot (spot_named (nth_spot spots a) m two.first.1)
       where
         by_spot : ((p : Place) × (nth_spot spots a ≡ Occurrence m p)) ⊎ ((k : ℕ) × (nth_spot spots a ≡ Free k m)) → (x : Place) × (nth_spot spots a ≡ Occurrence m x)
         by_spot (inl x) = x
-        by_spot (inr (k, e)) = absurd (differ (sym (ap (λ (l : Link). l.to) (h.fresh a k m a_in e unmet)) ∙ shut.round))
+        by_spot (inr (k, e)) = absurd (two.differ (sym (ap (λ (l : Link). l.to) (h.fresh a k m two.a_in e two.unmet)) ∙ shut.round))
 
     round_back : q ≡ a
-    round_back = ap (λ k. (nth_link links k).to) (sym shut.round) ∙ to_of a a_in
+    round_back = ap (λ k. (nth_link links k).to) (sym shut.round) ∙ to_of a two.a_in
 
     -- what another spot is joined to is none of the two
     to_other : (i : ℕ) → i < length spots → i ≢ a → i ≢ at → ((nth_link links i).to ≢ a) × ((nth_link links i).to ≢ at)
@@ -178,72 +211,38 @@ module _ (t : Tables) (b : Body) (names : List (List ℕ)) (spots : List Spot) (
         ((λ e. y (sym (to_of i lt) ∙ ap (λ k. (nth_link links k).to) e ∙ shut.round)), (λ e. x (sym (to_of i lt) ∙ ap (λ k. (nth_link links k).to) e ∙ round_back)))
 
     inside_by : (i : ℕ) → i < length spots → (i ≡ a) ⊎ (i ≢ a) → (i ≡ at) ⊎ (i ≢ at) → (nth_link new i).to < length spots
-    inside_by i lt (inl e) y = subst (λ k. (nth_link new k).to < length spots) (sym e) (let s_ = shut.one in omega (arith, s_, a_in))
+    inside_by i lt (inl e) y = subst (λ k. (nth_link new k).to < length spots) (sym e) (let s_ = shut.one in omega (arith, s_, two.a_in))
     inside_by i lt (inr e) (inl f) = subst (λ k. (nth_link new k).to < length spots) (sym f) (let s_ = shut.other in omega (arith, s_, at_in))
     inside_by i lt (inr e) (inr f) = let s_ = ap (λ (l : Link). l.to) (shut.rest i e f) in omega (arith, s_, h.inside i lt)
 
-    abbrev Back : ℕ → Type 0
-    Back i = nth_link new (nth_link new i).to ≡ record { to = i; place = (nth_link new i).place }
-
-    self_back : (i : ℕ) → (nth_link new i).to ≡ i → Back i
-    self_back i e = ap (nth_link new) e ∙ ap (λ k. let l : Link = record { to = k; place = (nth_link new i).place } in l) e
-
-    back_by : (i : ℕ) → i < length spots → (i ≡ a) ⊎ (i ≢ a) → (i ≡ at) ⊎ (i ≢ at) → Back i
-    back_by i lt (inl e) y = subst Back (sym e) (self_back a shut.one)
-    back_by i lt (inr e) (inl f) = subst Back (sym f) (self_back at shut.other)
+    back_by : (i : ℕ) → i < length spots → (i ≡ a) ⊎ (i ≢ a) → (i ≡ at) ⊎ (i ≢ at) → Back new i
+    back_by i lt (inl e) y = subst (Back new) (sym e) (self_back new a shut.one)
+    back_by i lt (inr e) (inl f) = subst (Back new) (sym f) (self_back new at shut.other)
     back_by i lt (inr e) (inr f) =
         let there = to_other i lt e f in
         ap (λ (l : Link). nth_link new l.to) (shut.rest i e f) ∙ shut.rest (nth_link links i).to there.0 there.1 ∙ h.back i lt
         ∙ ap (λ (l : Link). let k : Link = record { to = i; place = l.place } in k) (sym (shut.rest i e f))
 
-    abbrev Open2 : ℕ → Type 0
-    Open2 i = IsOpen seen2 (nth_spot spots i)
-
     -- an end is none of the two
     end_other : (i : ℕ) → Open2 i → (i ≢ a) × (i ≢ at)
-    end_other i open_ = ((λ e. not_open2 a first_occurs.0 first_occurs.1 (subst Open2 e open_)), (λ e. not_open2 at second.0 second.1 (subst Open2 e open_)))
+    end_other i open_ = ((λ e. not_open2 a first_occurs.0 first_occurs.1 (subst Open2 e open_)), (λ e. not_open2 at two.second.0 two.second.1 (subst Open2 e open_)))
 
     apart_then : (i : ℕ) → i < length spots → Open2 i → (nth_link new i).to ≢ i
     apart_then i lt open_ e =
         let no_ = end_other i open_ in
-        h.apart i lt (open_back j.seen m Twice (nth_spot spots i) (is_one_of i lt no_.0 no_.1) open_) (sym (ap (λ (l : Link). l.to) (shut.rest i no_.0 no_.1)) ∙ e)
+        h.apart i lt (open_back j.seen m Twice (nth_spot spots i) (two.is_one_of i lt no_.0 no_.1) open_) (sym (ap (λ (l : Link). l.to) (shut.rest i no_.0 no_.1)) ∙ e)
 
     way_then : (i : ℕ) → i < length spots → Open2 i → IsWay t b (nth_spot spots i) (nth_spot spots (nth_link new i).to) (nth_link new i).place
     way_then i lt open_ =
         let no_ = end_other i open_ in
-        subst (λ (l : Link). IsWay t b (nth_spot spots i) (nth_spot spots l.to) l.place) (sym (shut.rest i no_.0 no_.1)) (h.way i lt (open_back j.seen m Twice (nth_spot spots i) (is_one_of i lt no_.0 no_.1) open_))
+        subst (λ (l : Link). IsWay t b (nth_spot spots i) (nth_spot spots l.to) l.place) (sym (shut.rest i no_.0 no_.1)) (h.way i lt (open_back j.seen m Twice (nth_spot spots i) (two.is_one_of i lt no_.0 no_.1) open_))
 
-    used_by : (i n : ℕ) (x : Place) → i < length spots → nth_spot spots i ≡ Occurrence n x → IsMet (nth_seen seen2 n) → (i ≡ a) ⊎ (i ≢ a) → (i ≡ at) ⊎ (i ≢ at) → (nth_link new i).to ≡ i
-    used_by i n x lt is met (inl e) y = ap (λ k. (nth_link new k).to) e ∙ shut.one ∙ sym e
-    used_by i n x lt is met (inr e) (inl f) = ap (λ k. (nth_link new k).to) f ∙ shut.other ∙ sym f
-    used_by i n x lt is met (inr e) (inr f) =
-        let other : n ≢ m = λ g. is_one_of i lt e f (ap counting.name_of is ∙ ap Some g) in
-        ap (λ (l : Link). l.to) (shut.rest i e f) ∙ h.used i n x lt is (subst IsMet (seen_other j.seen m n Twice other) met)
-
-    fresh_by : (i k n : ℕ) → i < length spots → nth_spot spots i ≡ Free k n → (IsMet (nth_seen seen2 n) → ⊥) → (n ≡ m) ⊎ (n ≢ m) → nth_link new i ≡ self_link i
-    fresh_by i k n lt is unmet_ (inl e) = absurd (unmet_ (subst (λ n. IsMet (nth_seen seen2 n)) (sym e) met2))
-    fresh_by i k n lt is unmet_ (inr e) =
-        let named_n : counting.name_of (nth_spot spots i) ≡ Some n = ap counting.name_of is in
-        let not_a : i ≢ a = λ f. e (same_name (sym named_n ∙ ap (λ k. counting.name_of (nth_spot spots k)) f ∙ first.1)) in
-        let not_at : i ≢ at = λ f. e (same_name (sym named_n ∙ ap (λ k. counting.name_of (nth_spot spots k)) f ∙ name)) in
-        shut.rest i not_a not_at ∙ h.fresh i k n lt is (λ met. unmet_ (subst IsMet (sym (seen_other j.seen m n Twice e)) met))
-      where
-        same_name : Some n ≡ Some m → n ≡ m
-        same_name e = cc
-
-    closed_then : (x : Place) → earlier j.closed closed ≡ Some x → IsClosedWireOf t b x
-    closed_then x e = by_which (earlier_is j.closed closed x e)
-      where
-        by_which : (j.closed ≡ Some x) ⊎ (closed ≡ Some x) → IsClosedWireOf t b x
-        by_which (inl f) = h.closed x f
-        by_which (inr f) =
-            let place : (nth_link links a).place ≡ x = some_is (sym shut.place ∙ f) in
-            let open_a : IsOpen j.seen (nth_spot spots a) = subst (IsOpen j.seen) (sym first_occurs.1) unmet in
-            let way : IsWay t b (nth_spot spots a) (nth_spot spots at) (nth_link links a).place = subst (λ k. IsWay t b (nth_spot spots a) (nth_spot spots k) (nth_link links a).place) shut.round (h.way a a_in open_a) in
-            subst (IsClosedWireOf t b) place (closes t b (nth_spot spots a) (nth_spot spots at) m first_occurs.0 second.0 (nth_link links a).place first_occurs.1 second.1 joint way)
-          where
-            some_is : Some (nth_link links a).place ≡ Some x → (nth_link links a).place ≡ x
-            some_is e = cc
+    closed_here : (x : Place) → closed ≡ Some x → IsClosedWireOf t b x
+    closed_here x e =
+        let place : (nth_link links a).place ≡ x = same_Some (nth_link links a).place x (sym shut.place ∙ e) in
+        let open_a : IsOpen j.seen (nth_spot spots a) = subst (IsOpen j.seen) (sym first_occurs.1) two.unmet in
+        let way : IsWay t b (nth_spot spots a) (nth_spot spots at) (nth_link links a).place = subst (λ k. IsWay t b (nth_spot spots a) (nth_spot spots k) (nth_link links a).place) shut.round (h.way a two.a_in open_a) in
+        subst (IsClosedWireOf t b) place (closes t b (nth_spot spots a) (nth_spot spots at) m first_occurs.0 two.second.0 (nth_link links a).place first_occurs.1 two.second.1 two.joint way)
 
     pub closed_on : IsJoiningAt t b spots count (at + 1) after_closed
     closed_on = record {
@@ -253,10 +252,10 @@ module _ (t : Tables) (b : Body) (names : List (List ℕ)) (spots : List Spot) (
       back = λ i lt. back_by i lt (same_or_not i a) (same_or_not i at);
       apart = apart_then;
       way = way_then;
-      used = λ i n x lt is met. used_by i n x lt is met (same_or_not i a) (same_or_not i at);
-      fresh = λ i k n lt is unmet_. fresh_by i k n lt is unmet_ (same_or_not n m);
+      used = λ i n x lt is met. used_by new (λ n x is. shut.one) shut.other (λ i lt x y self. shut.rest i x y) i n x lt is met (same_or_not i a) (same_or_not i at);
+      fresh = λ i k n lt is unmet_. fresh_by new (λ n x is. shut.one) shut.other (λ i lt x y self. shut.rest i x y) i k n lt is unmet_ (same_or_not n m);
       seen = λ n lt. seen_then n lt (same_or_not n m);
-      closed = closed_then;
+      closed = earlier_by {P = IsClosedWireOf t b} j.closed closed h.closed closed_here;
     }
 
   -- ---- the wire goes on
@@ -265,7 +264,7 @@ module _ (t : Tables) (b : Body) (names : List (List ℕ)) (spots : List Spot) (
     after_opened = record { links = new; seen = seen2; closed = earlier j.closed closed }
 
     p_in : p < length spots
-    p_in = h.inside a a_in
+    p_in = h.inside a two.a_in
 
     q_in : q < length spots
     q_in = h.inside at at_in
@@ -293,7 +292,7 @@ module _ (t : Tables) (b : Body) (names : List (List ℕ)) (spots : List Spot) (
     to_else i lt x y z w = (
       (λ e. z (sym (to_of i lt) ∙ ap (λ k. (nth_link links k).to) e)),
       (λ e. w (sym (to_of i lt) ∙ ap (λ k. (nth_link links k).to) e)),
-      (λ e. x (sym (to_of i lt) ∙ ap (λ k. (nth_link links k).to) e ∙ to_of a a_in)),
+      (λ e. x (sym (to_of i lt) ∙ ap (λ k. (nth_link links k).to) e ∙ to_of a two.a_in)),
       (λ e. y (sym (to_of i lt) ∙ ap (λ k. (nth_link links k).to) e ∙ to_of at at_in)),
     )
 
@@ -301,27 +300,18 @@ module _ (t : Tables) (b : Body) (names : List (List ℕ)) (spots : List Spot) (
     inside_4 i lt (is_q e) = subst (λ k. (nth_link new k).to < length spots) (sym e) (let s_ = ap (λ (l : Link). l.to) on.at_q in omega (arith, s_, p_in))
     inside_4 i lt (is_p e) = subst (λ k. (nth_link new k).to < length spots) (sym e) (let s_ = ap (λ (l : Link). l.to) on.at_p in omega (arith, s_, q_in))
     inside_4 i lt (is_at e) = subst (λ k. (nth_link new k).to < length spots) (sym e) (let s_ = on.other in omega (arith, s_, at_in))
-    inside_4 i lt (is_a e x) = subst (λ k. (nth_link new k).to < length spots) (sym e) (let s_ = on.one x in omega (arith, s_, a_in))
+    inside_4 i lt (is_a e x) = subst (λ k. (nth_link new k).to < length spots) (sym e) (let s_ = on.one x in omega (arith, s_, two.a_in))
     inside_4 i lt (is_else x y z w) = let s_ = ap (λ (l : Link). l.to) (on.rest i x y z w) in omega (arith, s_, h.inside i lt)
 
-    abbrev Back4 : ℕ → Type 0
-    Back4 i = nth_link new (nth_link new i).to ≡ record { to = i; place = (nth_link new i).place }
-
-    self_back4 : (i : ℕ) → (nth_link new i).to ≡ i → Back4 i
-    self_back4 i e = ap (nth_link new) e ∙ ap (λ k. let l : Link = record { to = k; place = (nth_link new i).place } in l) e
-
-    back_4 : (i : ℕ) → i < length spots → Which4 i → Back4 i
-    back_4 i lt (is_q e) = subst Back4 (sym e) (ap (λ (l : Link). nth_link new l.to) on.at_q ∙ on.at_p ∙ ap (λ (l : Link). let k : Link = record { to = q; place = l.place } in k) (sym on.at_q))
-    back_4 i lt (is_p e) = subst Back4 (sym e) (ap (λ (l : Link). nth_link new l.to) on.at_p ∙ on.at_q ∙ ap (λ (l : Link). let k : Link = record { to = p; place = l.place } in k) (sym on.at_p))
-    back_4 i lt (is_at e) = subst Back4 (sym e) (self_back4 at on.other)
-    back_4 i lt (is_a e x) = subst Back4 (sym e) (self_back4 a (on.one x))
+    back_4 : (i : ℕ) → i < length spots → Which4 i → Back new i
+    back_4 i lt (is_q e) = subst (Back new) (sym e) (ap (λ (l : Link). nth_link new l.to) on.at_q ∙ on.at_p ∙ ap (λ (l : Link). let k : Link = record { to = q; place = l.place } in k) (sym on.at_q))
+    back_4 i lt (is_p e) = subst (Back new) (sym e) (ap (λ (l : Link). nth_link new l.to) on.at_p ∙ on.at_q ∙ ap (λ (l : Link). let k : Link = record { to = p; place = l.place } in k) (sym on.at_p))
+    back_4 i lt (is_at e) = subst (Back new) (sym e) (self_back new at on.other)
+    back_4 i lt (is_a e x) = subst (Back new) (sym e) (self_back new a (on.one x))
     back_4 i lt (is_else x y z w) =
         let there = to_else i lt x y z w in
         ap (λ (l : Link). nth_link new l.to) (on.rest i x y z w) ∙ on.rest (nth_link links i).to there.0 there.1 there.2 there.3 ∙ h.back i lt
         ∙ ap (λ (l : Link). let k : Link = record { to = i; place = l.place } in k) (sym (on.rest i x y z w))
-
-    abbrev Open4 : ℕ → Type 0
-    Open4 i = IsOpen seen2 (nth_spot spots i)
 
     -- the first spot is an occurrence, or a free end that was joined to nothing
     data First : Type 0 where
@@ -329,32 +319,32 @@ module _ (t : Tables) (b : Body) (names : List (List ℕ)) (spots : List Spot) (
       is_free : (k : ℕ) → nth_spot spots a ≡ Free k m → p ≡ a → (nth_link links a).place.from ≡ 0 → First
 
     first_is : First
-    first_is = by_spot (spot_named (nth_spot spots a) m first.1)
+    first_is = by_spot (spot_named (nth_spot spots a) m two.first.1)
       where
         by_spot : ((p : Place) × (nth_spot spots a ≡ Occurrence m p)) ⊎ ((k : ℕ) × (nth_spot spots a ≡ Free k m)) → First
         by_spot (inl (x, e)) = occurs x e
         by_spot (inr (k, e)) =
-            let self = h.fresh a k m a_in e unmet in
+            let self = h.fresh a k m two.a_in e two.unmet in
             is_free k e (ap (λ (l : Link). l.to) self) (ap (λ (l : Link). l.place.from) self)
 
-    no_end_at : Open4 at → ⊥
-    no_end_at open_ = not_open2 at second.0 second.1 open_
+    no_end_at : Open2 at → ⊥
+    no_end_at open_ = not_open2 at two.second.0 two.second.1 open_
 
-    no_end_a : a ≢ p → Open4 a → ⊥
+    no_end_a : a ≢ p → Open2 a → ⊥
     no_end_a x open_ = by_first first_is
       where
         by_first : First → ⊥
         by_first (occurs y e) = not_open2 a y e open_
         by_first (is_free k e f g) = x (sym f)
 
-    old_end : (i : ℕ) → i < length spots → i ≢ a → i ≢ at → Open4 i → IsOpen j.seen (nth_spot spots i)
-    old_end i lt x y open_ = open_back j.seen m Twice (nth_spot spots i) (is_one_of i lt x y) open_
+    old_end : (i : ℕ) → i < length spots → i ≢ a → i ≢ at → Open2 i → IsOpen j.seen (nth_spot spots i)
+    old_end i lt x y open_ = open_back j.seen m Twice (nth_spot spots i) (two.is_one_of i lt x y) open_
 
-    apart_4 : (i : ℕ) → i < length spots → Open4 i → Which4 i → (nth_link new i).to ≢ i
-    apart_4 i lt open_ (is_q e) f = p_not_q (sym (ap (λ (l : Link). l.to) on.at_q) ∙ ap (λ k. (nth_link new k).to) (sym e) ∙ f ∙ e)
-    apart_4 i lt open_ (is_p e) f = p_not_q (sym (sym (ap (λ (l : Link). l.to) on.at_p) ∙ ap (λ k. (nth_link new k).to) (sym e) ∙ f ∙ e))
-    apart_4 i lt open_ (is_at e) f = absurd (no_end_at (subst Open4 e open_))
-    apart_4 i lt open_ (is_a e x) f = absurd (no_end_a x (subst Open4 e open_))
+    apart_4 : (i : ℕ) → i < length spots → Open2 i → Which4 i → (nth_link new i).to ≢ i
+    apart_4 i lt open_ (is_q e) f = two.p_not_q (sym (ap (λ (l : Link). l.to) on.at_q) ∙ ap (λ k. (nth_link new k).to) (sym e) ∙ f ∙ e)
+    apart_4 i lt open_ (is_p e) f = two.p_not_q (sym (sym (ap (λ (l : Link). l.to) on.at_p) ∙ ap (λ k. (nth_link new k).to) (sym e) ∙ f ∙ e))
+    apart_4 i lt open_ (is_at e) f = absurd (no_end_at (subst Open2 e open_))
+    apart_4 i lt open_ (is_a e x) f = absurd (no_end_a x (subst Open2 e open_))
     apart_4 i lt open_ (is_else x y z w) f = h.apart i lt (old_end i lt x y open_) (sym (ap (λ (l : Link). l.to) (on.rest i x y z w)) ∙ f)
 
     abbrev pa : Place
@@ -367,7 +357,7 @@ module _ (t : Tables) (b : Body) (names : List (List ℕ)) (spots : List Spot) (
     Way4 i l = IsWay t b (nth_spot spots i) (nth_spot spots l.to) l.place
 
     way_at : IsWay t b (nth_spot spots at) (nth_spot spots q) pb
-    way_at = h.way at at_in open_at
+    way_at = h.way at at_in two.open_at
 
     -- the spot that an end is joined to is an end, but for the two
     way_from : (i c : ℕ) → c < length spots → i ≡ (nth_link links c).to → IsOpen j.seen (nth_spot spots i) → IsWay t b (nth_spot spots i) (nth_spot spots c) (nth_link links c).place
@@ -375,68 +365,45 @@ module _ (t : Tables) (b : Body) (names : List (List ℕ)) (spots : List Spot) (
         let there : nth_link links i ≡ record { to = c; place = (nth_link links c).place } = ap (nth_link links) e ∙ h.back c lt in
         subst (Way4 i) there (h.way i (subst (λ k. k < length spots) (sym e) (h.inside c lt)) open_)
 
-    way_p : Open4 p → First → IsWay t b (nth_spot spots p) (nth_spot spots q) (later_of pa pb)
+    way_p : Open2 p → First → IsWay t b (nth_spot spots p) (nth_spot spots q) (later_of pa pb)
     way_p open_ (occurs x e) =
-        let open_a : IsOpen j.seen (nth_spot spots a) = subst (IsOpen j.seen) (sym e) unmet in
-        let p_not_a : p ≢ a = h.apart a a_in open_a in
-        on_through t b (nth_spot spots p) (nth_spot spots q) (nth_spot spots a) (nth_spot spots at) m second.0 pa pb second.1 x e joint (way_from p a a_in refl (old_end p p_in p_not_a on.on open_)) way_at
+        let open_a : IsOpen j.seen (nth_spot spots a) = subst (IsOpen j.seen) (sym e) two.unmet in
+        let p_not_a : p ≢ a = h.apart a two.a_in open_a in
+        on_through t b (nth_spot spots p) (nth_spot spots q) (nth_spot spots a) (nth_spot spots at) m two.second.0 pa pb two.second.1 x e two.joint (way_from p a two.a_in refl (old_end p p_in p_not_a on.on open_)) way_at
     way_p open_ (is_free k e f g) =
-        subst (λ i. IsWay t b (nth_spot spots i) (nth_spot spots q) (later_of pa pb)) (sym f) (from_free t b (nth_spot spots q) (nth_spot spots q) (nth_spot spots a) (nth_spot spots at) m second.0 pa pb second.1 k e joint g way_at)
+        subst (λ i. IsWay t b (nth_spot spots i) (nth_spot spots q) (later_of pa pb)) (sym f) (from_free t b (nth_spot spots q) (nth_spot spots q) (nth_spot spots a) (nth_spot spots at) m two.second.0 pa pb two.second.1 k e two.joint g way_at)
 
-    way_q : Open4 q → First → IsWay t b (nth_spot spots q) (nth_spot spots p) (later_of pa pb)
+    way_q : Open2 q → First → IsWay t b (nth_spot spots q) (nth_spot spots p) (later_of pa pb)
     way_q open_ (occurs x e) =
-        let open_a : IsOpen j.seen (nth_spot spots a) = subst (IsOpen j.seen) (sym e) unmet in
-        back_through t b (nth_spot spots p) (nth_spot spots q) (nth_spot spots a) (nth_spot spots at) m second.0 pa pb second.1 x e joint (h.way a a_in open_a) (way_from q at at_in refl (old_end q q_in (q_not_a on.on) q_not_at open_))
+        let open_a : IsOpen j.seen (nth_spot spots a) = subst (IsOpen j.seen) (sym e) two.unmet in
+        back_through t b (nth_spot spots p) (nth_spot spots q) (nth_spot spots a) (nth_spot spots at) m two.second.0 pa pb two.second.1 x e two.joint (h.way a two.a_in open_a) (way_from q at at_in refl (old_end q q_in (two.q_not_a on.on) q_not_at open_))
     way_q open_ (is_free k e f g) =
         subst (λ i. IsWay t b (nth_spot spots q) (nth_spot spots i) (later_of pa pb)) (sym f)
-        (to_free t b (nth_spot spots q) (nth_spot spots q) (nth_spot spots a) (nth_spot spots at) m second.0 pa pb second.1 k e joint g (way_from q at at_in refl (old_end q q_in (q_not_a on.on) q_not_at open_)))
+        (to_free t b (nth_spot spots q) (nth_spot spots q) (nth_spot spots a) (nth_spot spots at) m two.second.0 pa pb two.second.1 k e two.joint g (way_from q at at_in refl (old_end q q_in (two.q_not_a on.on) q_not_at open_)))
 
-    way_4 : (i : ℕ) → i < length spots → Open4 i → Which4 i → Way4 i (nth_link new i)
-    way_4 i lt open_ (is_q e) = subst (λ k. Way4 k (nth_link new k)) (sym e) (subst (Way4 q) (sym on.at_q) (way_q (subst Open4 e open_) first_is))
-    way_4 i lt open_ (is_p e) = subst (λ k. Way4 k (nth_link new k)) (sym e) (subst (Way4 p) (sym on.at_p) (way_p (subst Open4 e open_) first_is))
-    way_4 i lt open_ (is_at e) = absurd (no_end_at (subst Open4 e open_))
-    way_4 i lt open_ (is_a e x) = absurd (no_end_a x (subst Open4 e open_))
+    way_4 : (i : ℕ) → i < length spots → Open2 i → Which4 i → Way4 i (nth_link new i)
+    way_4 i lt open_ (is_q e) = subst (λ k. Way4 k (nth_link new k)) (sym e) (subst (Way4 q) (sym on.at_q) (way_q (subst Open2 e open_) first_is))
+    way_4 i lt open_ (is_p e) = subst (λ k. Way4 k (nth_link new k)) (sym e) (subst (Way4 p) (sym on.at_p) (way_p (subst Open2 e open_) first_is))
+    way_4 i lt open_ (is_at e) = absurd (no_end_at (subst Open2 e open_))
+    way_4 i lt open_ (is_a e x) = absurd (no_end_a x (subst Open2 e open_))
     way_4 i lt open_ (is_else x y z w) = subst (Way4 i) (sym (on.rest i x y z w)) (h.way i lt (old_end i lt x y open_))
 
     -- a spot that is joined to nothing, and isn't one of the two, is none of the four
     not_joined : (i : ℕ) → i < length spots → i ≢ a → i ≢ at → (nth_link links i).to ≡ i → (i ≢ p) × (i ≢ q)
     not_joined i lt x y self = (
-      (λ e. x (sym self ∙ ap (λ k. (nth_link links k).to) e ∙ to_of a a_in)),
+      (λ e. x (sym self ∙ ap (λ k. (nth_link links k).to) e ∙ to_of a two.a_in)),
       (λ e. y (sym self ∙ ap (λ k. (nth_link links k).to) e ∙ to_of at at_in)),
     )
 
-    used_4 : (i n : ℕ) (x : Place) → i < length spots → nth_spot spots i ≡ Occurrence n x → IsMet (nth_seen seen2 n) → (i ≡ a) ⊎ (i ≢ a) → (i ≡ at) ⊎ (i ≢ at) → (nth_link new i).to ≡ i
-    used_4 i n x lt is met (inl e) y = ap (λ k. (nth_link new k).to) e ∙ on.one (a_not_p first_is) ∙ sym e
+    occurrence_alone : (n : ℕ) (x : Place) → nth_spot spots a ≡ Occurrence n x → (nth_link new a).to ≡ a
+    occurrence_alone n x is = on.one (a_not_p first_is)
       where
         a_not_p : First → a ≢ p
-        a_not_p (occurs z f) = λ g. h.apart a a_in (subst (IsOpen j.seen) (sym f) unmet) (sym g)
-        a_not_p (is_free k f g z) = absurd (let wrong : Occurrence n x ≡ Free k m = sym is ∙ ap (nth_spot spots) e ∙ f in cc)
-    used_4 i n x lt is met (inr e) (inl f) = ap (λ k. (nth_link new k).to) f ∙ on.other ∙ sym f
-    used_4 i n x lt is met (inr e) (inr f) =
-        let other : n ≢ m = λ g. is_one_of i lt e f (ap counting.name_of is ∙ ap Some g) in
-        let self = h.used i n x lt is (subst IsMet (seen_other j.seen m n Twice other) met) in
-        let none = not_joined i lt e f self in
-        ap (λ (l : Link). l.to) (on.rest i e f none.0 none.1) ∙ self
+        a_not_p (occurs z f) = λ g. h.apart a two.a_in (subst (IsOpen j.seen) (sym f) two.unmet) (sym g)
+        a_not_p (is_free k f g z) = absurd (let wrong : Occurrence n x ≡ Free k m = sym is ∙ f in cc)
 
-    fresh_4 : (i k n : ℕ) → i < length spots → nth_spot spots i ≡ Free k n → (IsMet (nth_seen seen2 n) → ⊥) → (n ≡ m) ⊎ (n ≢ m) → nth_link new i ≡ self_link i
-    fresh_4 i k n lt is unmet_ (inl e) = absurd (unmet_ (subst (λ n. IsMet (nth_seen seen2 n)) (sym e) met2))
-    fresh_4 i k n lt is unmet_ (inr e) =
-        let named_n : counting.name_of (nth_spot spots i) ≡ Some n = ap counting.name_of is in
-        let not_a : i ≢ a = λ f. e (same_name (sym named_n ∙ ap (λ k. counting.name_of (nth_spot spots k)) f ∙ first.1)) in
-        let not_at : i ≢ at = λ f. e (same_name (sym named_n ∙ ap (λ k. counting.name_of (nth_spot spots k)) f ∙ name)) in
-        let self = h.fresh i k n lt is (λ met. unmet_ (subst IsMet (sym (seen_other j.seen m n Twice e)) met)) in
-        let none = not_joined i lt not_a not_at (ap (λ (l : Link). l.to) self) in
-        on.rest i not_a not_at none.0 none.1 ∙ self
-      where
-        same_name : Some n ≡ Some m → n ≡ m
-        same_name e = cc
-
-    closed_4 : (x : Place) → earlier j.closed closed ≡ Some x → IsClosedWireOf t b x
-    closed_4 x e = by_which (earlier_is j.closed closed x e)
-      where
-        by_which : (j.closed ≡ Some x) ⊎ (closed ≡ Some x) → IsClosedWireOf t b x
-        by_which (inl f) = h.closed x f
-        by_which (inr f) = absurd (let wrong : None ≡ Some x = sym on.place ∙ f in cc)
+    still_alone : (i : ℕ) → i < length spots → i ≢ a → i ≢ at → (nth_link links i).to ≡ i → nth_link new i ≡ nth_link links i
+    still_alone i lt x y self = let none = not_joined i lt x y self in on.rest i x y none.0 none.1
 
     pub opened_on : IsJoiningAt t b spots count (at + 1) after_opened
     opened_on = record {
@@ -446,15 +413,15 @@ module _ (t : Tables) (b : Body) (names : List (List ℕ)) (spots : List Spot) (
       back = λ i lt. back_4 i lt (which4 i);
       apart = λ i lt open_. apart_4 i lt open_ (which4 i);
       way = λ i lt open_. way_4 i lt open_ (which4 i);
-      used = λ i n x lt is met. used_4 i n x lt is met (same_or_not i a) (same_or_not i at);
-      fresh = λ i k n lt is unmet_. fresh_4 i k n lt is unmet_ (same_or_not n m);
+      used = λ i n x lt is met. used_by new occurrence_alone on.other still_alone i n x lt is met (same_or_not i a) (same_or_not i at);
+      fresh = λ i k n lt is unmet_. fresh_by new occurrence_alone on.other still_alone i k n lt is unmet_ (same_or_not n m);
       seen = λ n lt. seen_then n lt (same_or_not n m);
-      closed = closed_4;
+      closed = earlier_by {P = IsClosedWireOf t b} j.closed closed h.closed (λ x e. absurd (none-some x (sym on.place ∙ e)));
     }
 
   -- either way
   pub merged_on : IsJoiningAt t b spots count (at + 1) (record { links = (merged links a at).0; seen = seen2; closed = earlier j.closed (merged links a at).1 })
-  merged_on = by_outcome (merges links a at (omega (arith, a_in, h.size)) (omega (arith, at_in, h.size)) differ (omega (arith, h.inside a a_in, h.size)) (omega (arith, h.inside at at_in, h.size)) p_not_q q_not_a q_not_at)
+  merged_on = by_outcome (merges links a at (omega (arith, two.a_in, h.size)) (omega (arith, at_in, h.size)) two.differ (omega (arith, h.inside a two.a_in, h.size)) (omega (arith, h.inside at at_in, h.size)) two.p_not_q two.q_not_a q_not_at)
     where
       by_outcome : IsClosed links (merged links a at).0 a at (merged links a at).1 ⊎ IsOpened links (merged links a at).0 a at p q (merged links a at).1 →
           IsJoiningAt t b spots count (at + 1) (record { links = (merged links a at).0; seen = seen2; closed = earlier j.closed (merged links a at).1 })
@@ -496,13 +463,6 @@ module _ (t : Tables) (b : Body) (names : List (List ℕ)) (spots : List Spot) (
   seen_3 n lt (inl e) = subst (λ n. IsSeenAt spots (at + 1) n (nth_seen (set j.seen m x) n)) (sym e) (subst (IsSeenAt spots (at + 1) m) (sym there3) right)
   seen_3 n lt (inr e) = subst (IsSeenAt spots (at + 1) n) (sym (seen_other j.seen m n x e)) (seen_on spots at m n (nth_seen j.seen n) name e (h.seen n lt))
 
-  none_new : (p : Place) → earlier j.closed None ≡ Some p → IsClosedWireOf t b p
-  none_new p e = by_which (earlier_is j.closed None p e)
-    where
-      by_which : (j.closed ≡ Some p) ⊎ (None ≡ Some p) → IsClosedWireOf t b p
-      by_which (inl f) = h.closed p f
-      by_which (inr f) = cc
-
   pub counted_on : IsJoiningAt t b spots count (at + 1) (record { links = j.links; seen = seen3; closed = earlier j.closed None })
   counted_on = record {
     size = h.size;
@@ -514,7 +474,7 @@ module _ (t : Tables) (b : Body) (names : List (List ℕ)) (spots : List Spot) (
     used = λ i n p lt is met. h.used i n p lt is (met_back j.seen m x there3 same still n met);
     fresh = λ i k n lt is unmet. h.fresh i k n lt is (λ met. unmet (met_on j.seen m x there3 same still n met));
     seen = λ n lt. seen_3 n lt (same_or_not n m);
-    closed = none_new;
+    closed = earlier_by {P = IsClosedWireOf t b} j.closed None h.closed (λ x e. absurd (none-some x e));
   }
 
 -- a spot without a name

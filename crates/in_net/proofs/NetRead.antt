@@ -1,5 +1,6 @@
 -- A whole net or rule is read: its free ends are joined to nothing yet, all else is.
 use Rattle.std.proofs.Common.{◌≡◌, ◌≢◌, ◌⊎◌, inl, inr, ℕ, zero, suc, ◌+◌, ◌<◌, ◌≤◌, true, ◌&&◌, List, [], ◌∷◌, ◌++◌, length, map, Some, refl, sym, ◌∙◌, ap, subst, arith, slice_get, length-append, append_assoc, append-nil}
+use Rattle.std.proofs.lemmas.Option.{none-some}
 use Rattle.std.specs.List.{list_all}
 use Rattle.in_syntax.specs.declared.tree.Term.{Term}
 use Rattle.in_syntax.specs.declared.tree.Equation.{Equation}
@@ -329,12 +330,9 @@ places_read t b free count rest small h among done [] all port at r fits differ 
     record {
       net = record { read = more_names t b free count (count + total (map names_in [])) r (omega arith) same.read; wide = same.wide; first = same.first; alone = same.alone; joined = same.joined };
       keeps = keeps_itself r;
-      settled = λ j v e. absurd (no_element j v e);
+      settled = λ j v e. absurd (none-some v e);
       held = λ v x. absurd x;
     }
-  where
-    no_element : (j : ℕ) (v : Term) → slice_get {X = Term} [] j ≡ Some v → ⊥
-    no_element j v e = cc
 places_read t b free count rest small h among done (v ∷ vs) all port at r fits differ net =
     let both = and_parts (arities_fit t v) (list_all (arities_fit t) vs) fits in
     let there : slice_get h.head.terms (length done) ≡ Some v = subst (λ z. slice_get z (length done) ≡ Some v) all (middle done vs v) in

@@ -1,5 +1,5 @@
 -- The spots of names stand in the order of the text.
-use Rattle.std.proofs.Common.{◌≡◌, ℕ, zero, suc, ◌+◌, ◌<◌, ◌≤◌, true, List, [], ◌∷◌, ◌++◌, length, map, Option, Some, None, refl, sym, ◌∙◌, ap, subst, arith, append_assoc, append-nil}
+use Rattle.std.proofs.Common.{◌≡◌, ◌≢◌, ◌⊎◌, inl, inr, ℕ, zero, suc, ◌+◌, ◌<◌, ◌≤◌, true, List, [], ◌∷◌, ◌++◌, length, map, Option, Some, None, refl, sym, ◌∙◌, ap, subst, arith, append_assoc, append-nil}
 use Rattle.std.specs.List.{AllByRecursion, flat_map}
 use Rattle.in_syntax.specs.declared.places.Place.{Place}
 use Rattle.in_syntax.specs.declared.tree.Term.{Term, out-Term}
@@ -21,6 +21,7 @@ use Rattle.in_net.specs.Reading.{with_agent, with_joint, with_ends, boundary_spo
 use Rattle.in_net.specs.TextNet.{Body, LeftHead, body_of, heads_at}
 use Rattle.in_net.proofs.Folds.{read_agent, read_occurrence}
 use Rattle.in_net.proofs.HeadsOf.{arguments_known, no_arguments}
+use Rattle.in_net.proofs.Linked.{same_or_not, below_or_not}
 use Rattle.in_net.proofs.Known.{AreHeadsKnown, IsBodyKnown, all_known}
 use Rattle.std.proofs.lemmas.Bool.{and_parts}
 use Rattle.in_base.proofs.Each.{all_left, all_right, all_append}
@@ -178,25 +179,8 @@ rule_rises r first second order =
     let all : Rises (flat_map term_places r.first.terms ++ flat_map term_places r.second.terms) = without_middle (flat_map term_places r.first.terms) (flat_map term_places r.second.terms) r.second.name.place order.1 in
     subst Rises (ap (λ z. flat_map term_places r.first.terms ++ z) (sym (append-nil (flat_map term_places r.second.terms))) ∙ sym (append-nil _)) all
 
--- ---- and so and_parts occurrences have different places
+-- ---- and so two names have different places
 
-later_root : (P : Place → Type 0) (spots : List Spot) (j m : ℕ) (q : Place) → AllByRecursion P (root_places spots) → j < length spots → nth_spot spots j ≡ Occurrence m q → P q
-later_root P [] j m q all lt is = absurd (omega (arith, lt))
-later_root P (s ∷ spots) zero m q all lt is =
-    let here : AllByRecursion P (root_place s) = all_left P (root_place s) (root_places spots) all in
-    (subst (λ s. AllByRecursion P (root_place s)) is here).0
-later_root P (s ∷ spots) (suc j) m q all lt is = later_root P spots j m q (all_right P (root_place s) (root_places spots) all) (omega (arith, lt)) is
-
-pub root_before : (spots : List Spot) (i j m n : ℕ) (p q : Place) → Rises (root_places spots) → i < j → j < length spots → nth_spot spots i ≡ Occurrence m p → nth_spot spots j ≡ Occurrence n q → p.from < q.from
-root_before [] i j m n p q up lt in_ is at = absurd (omega (arith, in_))
-root_before (s ∷ spots) zero zero m n p q up lt in_ is at = absurd (omega (arith, lt))
-root_before (s ∷ spots) zero (suc j) m n p q up lt in_ is at =
-    let first : Rises (root_place (Occurrence m p) ++ root_places spots) = subst (λ s. Rises (root_place s ++ root_places spots)) is up in
-    later_root (λ q. p.from < q.from) spots j n q first.0 (omega (arith, in_)) at
-root_before (s ∷ spots) (suc i) zero m n p q up lt in_ is at = absurd (omega (arith, lt))
-root_before (s ∷ spots) (suc i) (suc j) m n p q up lt in_ is at = root_before spots i j m n p q (back_rises (root_place s) (root_places spots) up) (omega (arith, lt)) (omega (arith, in_)) is at
-
--- the same at any and_parts names
 later_place : (P : Place → Type 0) (spots : List Spot) (j : ℕ) (q : Place) → AllByRecursion P (root_places spots) → j < length spots → root_place (nth_spot spots j) ≡ q ∷ [] → P q
 later_place P [] j q all lt is = absurd (omega (arith, lt))
 later_place P (s ∷ spots) zero q all lt is =
@@ -212,3 +196,15 @@ place_before (s ∷ spots) zero (suc j) p q up lt in_ is at =
     later_place (λ q. p.from < q.from) spots j q first.0 (omega (arith, in_)) at
 place_before (s ∷ spots) (suc i) zero p q up lt in_ is at = absurd (omega (arith, lt))
 place_before (s ∷ spots) (suc i) (suc j) p q up lt in_ is at = place_before spots i j p q (back_rises (root_place s) (root_places spots) up) (omega (arith, lt)) (omega (arith, in_)) is at
+
+pub root_before : (spots : List Spot) (i j m n : ℕ) (p q : Place) → Rises (root_places spots) → i < j → j < length spots → nth_spot spots i ≡ Occurrence m p → nth_spot spots j ≡ Occurrence n q → p.from < q.from
+root_before spots i j m n p q up lt in_ is at = place_before spots i j p q up lt in_ (ap root_place is) (ap root_place at)
+
+-- one place, one spot
+pub same_root : (spots : List Spot) (i j : ℕ) (p : Place) → Rises (root_places spots) → i < length spots → j < length spots → root_place (nth_spot spots i) ≡ p ∷ [] → root_place (nth_spot spots j) ≡ p ∷ [] → i ≡ j
+same_root spots i j p up i_in j_in is at = by_order (same_or_not i j) (below_or_not i j)
+  where
+    by_order : (i ≡ j) ⊎ (i ≢ j) → (i < j) ⊎ (j ≤ i) → i ≡ j
+    by_order (inl x) y = x
+    by_order (inr x) (inl y) = absurd (let less = place_before spots i j p p up y j_in is at in omega (arith, less))
+    by_order (inr x) (inr y) = absurd (let less = place_before spots j i p p up (omega (arith, x, y)) i_in at is in omega (arith, less))

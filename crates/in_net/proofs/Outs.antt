@@ -1,6 +1,7 @@
 -- Where a chain leads from each occurrence whose name is joined: to an end of what is joined so far, or round a closed wire.
 use Rattle.std.proofs.Common.{if◌then◌else◌, ◌≡◌, ◌≢◌, ◌⊎◌, inl, inr, ℕ, ◌<◌, ◌≤◌, Bool, true, false, nat_lt, ltb-true, ltb-false, List, ◌++◌, length, Option, Some, None, refl, sym, ◌∙◌, ap, subst, arith, set}
 use Rattle.std.proofs.lemmas.List.{get_or-set_same}
+use Rattle.std.proofs.lemmas.Option.{same_Some}
 use Rattle.in_syntax.specs.declared.places.Place.{Place}
 use Rattle.in_syntax.specs.Refusals.{earlier}
 use Rattle.in_symbols.specs.Tables.{Tables}
@@ -22,7 +23,7 @@ use Rattle.in_net.proofs.Sound.{named}
 use Rattle.in_net.proofs.Merged.{IsClosed, IsOpened, merges}
 use Rattle.in_net.proofs.Ways.{nth_seen, IsMet, kind_of, IsOpen, IsWay, IsJoiningAt, spot_named}
 use Rattle.in_net.proofs.Naming as naming
-use Rattle.in_net.proofs.Naming.{AreOfText, IsLast, seen_other, met_back, met_on}
+use Rattle.in_net.proofs.Naming.{AreOfText, IsLast, IsSecond, seen_other, met_back, met_on}
 
 -- a closed wire goes through the spot, and the first one that is known stands no later
 pub record IsRound (t : Tables) (b : Body) (closed : Option Place) (s : text.Spot) : Type 0 where
@@ -53,29 +54,23 @@ pub record IsFoundBy (c : Option Place) (p : Place) : Type 0 where
   pub is : c ≡ Some found
   pub no_later : found.from ≤ p.from
 
+-- the earlier of two is no later than either
+earlier_of : (q r : Place) → (x : Place) × (earlier (Some q) (Some r) ≡ Some x) × (x.from ≤ q.from) × (x.from ≤ r.from)
+earlier_of q r = by_test (nat_lt r.from q.from) refl
+  where
+    by_test : (b : Bool) → nat_lt r.from q.from ≡ b → (x : Place) × ((if b then Some r else Some q) ≡ Some x) × (x.from ≤ q.from) × (x.from ≤ r.from)
+    by_test true is = (r, refl, let less = ltb-true r.from q.from is in omega (arith, less), omega arith)
+    by_test false is = (q, refl, omega arith, ltb-false r.from q.from is)
+
 earlier_left : (c d : Option Place) (p : Place) → c ≡ Some p → IsFoundBy (earlier c d) p
 earlier_left None d p e = cc
 earlier_left (Some q) None p e = record { found = p; is = e; no_later = omega arith }
-earlier_left (Some q) (Some r) p e = by_test (nat_lt r.from q.from) refl
-  where
-    place : q ≡ p
-    place = cc
-
-    by_test : (x : Bool) → nat_lt r.from q.from ≡ x → IsFoundBy (if x then Some r else Some q) p
-    by_test true is = record { found = r; is = refl; no_later = let less = ltb-true r.from q.from is in let same = ap (λ (x : Place). x.from) place in omega (arith, less, same) }
-    by_test false is = record { found = q; is = refl; no_later = let same = ap (λ (x : Place). x.from) place in omega (arith, same) }
+earlier_left (Some q) (Some r) p e = let first = earlier_of q r in record { found = first.0; is = first.1; no_later = subst (λ (x : Place). first.0.from ≤ x.from) (same_Some q p e) first.2 }
 
 earlier_right : (c d : Option Place) (p : Place) → d ≡ Some p → IsFoundBy (earlier c d) p
 earlier_right None d p e = record { found = p; is = e; no_later = omega arith }
 earlier_right (Some q) None p e = cc
-earlier_right (Some q) (Some r) p e = by_test (nat_lt r.from q.from) refl
-  where
-    place : r ≡ p
-    place = cc
-
-    by_test : (x : Bool) → nat_lt r.from q.from ≡ x → IsFoundBy (if x then Some r else Some q) p
-    by_test true is = record { found = r; is = refl; no_later = let same = ap (λ (x : Place). x.from) place in omega (arith, same) }
-    by_test false is = record { found = q; is = refl; no_later = let le = ltb-false r.from q.from is in let same = ap (λ (x : Place). x.from) place in omega (arith, le, same) }
+earlier_right (Some q) (Some r) p e = let first = earlier_of q r in record { found = first.0; is = first.1; no_later = subst (λ (x : Place). first.0.from ≤ x.from) (same_Some r p e) first.3 }
 
 round_on : (t : Tables) (b : Body) (c d : Option Place) (s : text.Spot) → IsRound t b c s → IsRound t b (earlier c d) s
 round_on t b c d s h =
@@ -168,35 +163,17 @@ module _ (t : Tables) (b : Body) (names : List (List ℕ)) (spots : List Spot) (
   abbrev q : ℕ
   q = (nth_link links at).to
 
-  first : (a < at) × (counting.name_of (nth_spot spots a) ≡ Some m) × ((i : ℕ) → i < at → counting.name_of (nth_spot spots i) ≡ Some m → i ≡ a)
-  first = naming.first t b names spots of count at m a j h at_in m_in name seen_is only
-
-  a_in : a < length spots
-  a_in = naming.a_in t b names spots of count at m a j h at_in m_in name seen_is only
-
-  second : (p : Place) × (nth_spot spots at ≡ Occurrence m p)
-  second = naming.second t b names spots of count at m a j h at_in m_in name seen_is only
+  two : IsSecond t b spots j at m a
+  two = naming.two t b names spots of count at m a j h at_in m_in name seen_is only
 
   held_at : IsHeld (nth_spot spots at)
-  held_at = held (nth_spot spots at) m second.0 second.1
-
-  unmet : IsMet (nth_seen j.seen m) → ⊥
-  unmet = naming.unmet t b names spots of count at m a j h at_in m_in name seen_is only
-
-  open_at : IsOpen j.seen (nth_spot spots at)
-  open_at = naming.open_at t b names spots of count at m a j h at_in m_in name seen_is only
-
-  is_one_of : (i : ℕ) → i < length spots → i ≢ a → i ≢ at → counting.name_of (nth_spot spots i) ≢ Some m
-  is_one_of = naming.is_one_of t b names spots of count at m a j h at_in m_in name seen_is only
-
-  joint : NameJoint t b (named (nth_spot spots a)) (named (nth_spot spots at))
-  joint = naming.joint t b names spots of count at m a j h at_in m_in name seen_is only
+  held_at = held (nth_spot spots at) m two.second.0 two.second.1
 
   joint_back : NameJoint t b (named (nth_spot spots at)) (named (nth_spot spots a))
-  joint_back = NameJoint.turned_name (named (nth_spot spots a)) (named (nth_spot spots at)) joint
+  joint_back = NameJoint.turned_name (named (nth_spot spots a)) (named (nth_spot spots at)) two.joint
 
   still_open : (i : ℕ) → i < length spots → i ≢ a → i ≢ at → IsOpen j.seen (nth_spot spots i) → IsOpen seen2 (nth_spot spots i)
-  still_open i lt x y open_ = open_on j.seen m Twice (nth_spot spots i) (is_one_of i lt x y) open_
+  still_open i lt x y open_ = open_on j.seen m Twice (nth_spot spots i) (two.is_one_of i lt x y) open_
 
   -- where chains lead on from the two, that came to them or begin there
   module _ (closed : Option Place) where
@@ -230,7 +207,7 @@ module _ (t : Tables) (b : Body) (names : List (List ℕ)) (spots : List Spot) (
         by_spot (inl e) f = subst (λ i. Out2 (named (nth_spot spots i))) (sym e) (new_a n x (sym (ap (nth_spot spots) e) ∙ is))
         by_spot (inr e) (inl f) = subst (λ i. Out2 (named (nth_spot spots i))) (sym f) (new_at n x (sym (ap (nth_spot spots) f) ∙ is))
         by_spot (inr e) (inr f) =
-            let other : n ≢ m = λ g. is_one_of i lt e f (ap counting.name_of is ∙ ap Some g) in
+            let other : n ≢ m = λ g. two.is_one_of i lt e f (ap counting.name_of is ∙ ap Some g) in
             old_out (outs i n x lt is (subst IsMet (seen_other j.seen m n Twice other) met))
 
   -- the wire is closed
@@ -244,21 +221,21 @@ module _ (t : Tables) (b : Body) (names : List (List ℕ)) (spots : List Spot) (
       held_a = held (nth_spot spots a) m first_occurs.0 first_occurs.1
 
       open_a : IsOpen j.seen (nth_spot spots a)
-      open_a = subst (IsOpen j.seen) (sym first_occurs.1) unmet
+      open_a = subst (IsOpen j.seen) (sym first_occurs.1) two.unmet
 
       way_a : IsWay t b (nth_spot spots a) (nth_spot spots at) (nth_link links a).place
-      way_a = subst (λ k. IsWay t b (nth_spot spots a) (nth_spot spots k) (nth_link links a).place) shut.round (h.way a a_in open_a)
+      way_a = subst (λ k. IsWay t b (nth_spot spots a) (nth_spot spots k) (nth_link links a).place) shut.round (h.way a two.a_in open_a)
 
       way_at : IsWay t b (nth_spot spots at) (nth_spot spots a) (nth_link links a).place
-      way_at = subst (λ (l : Link). IsWay t b (nth_spot spots at) (nth_spot spots l.to) l.place) (ap (nth_link links) (sym shut.round) ∙ h.back a a_in) (h.way at at_in open_at)
+      way_at = subst (λ (l : Link). IsWay t b (nth_spot spots at) (nth_spot spots l.to) l.place) (ap (nth_link links) (sym shut.round) ∙ h.back a two.a_in) (h.way at at_in two.open_at)
 
       stays_a : (s : text.Spot) (ps : List Place) → Chain t b placed (kind_of (nth_spot spots a)) s (named (nth_spot spots a)) ps → Out2 closed s
       stays_a s ps chain = record {
         spot = a;
-        inside = a_in;
+        inside = two.a_in;
         places = ps;
         chain = chain;
-        end = inr (round_of t b j.closed closed (nth_spot spots a) (nth_spot spots at) (nth_link links a).place held_a held_at joint way_at shut.place);
+        end = inr (round_of t b j.closed closed (nth_spot spots a) (nth_spot spots at) (nth_link links a).place held_a held_at two.joint way_at shut.place);
       }
 
       stays_at : (s : text.Spot) (ps : List Place) → Chain t b placed (kind_of (nth_spot spots at)) s (named (nth_spot spots at)) ps → Out2 closed s
@@ -272,13 +249,13 @@ module _ (t : Tables) (b : Body) (names : List (List ℕ)) (spots : List Spot) (
 
   -- the wire goes on
   opened_out : (closed : Option Place) → p ≢ at → AreOut t b spots seen2 (earlier j.closed closed)
-  opened_out closed on = by_first (spot_named (nth_spot spots a) m first.1)
+  opened_out closed on = by_first (spot_named (nth_spot spots a) m two.first.1)
     where
       way_at : IsWay t b (nth_spot spots at) (nth_spot spots q) (nth_link links at).place
-      way_at = h.way at at_in open_at
+      way_at = h.way at at_in two.open_at
 
       open_q : IsOpen seen2 (nth_spot spots q)
-      open_q = still_open q (h.inside at at_in) (naming.q_not_a t b names spots of count at m a j h at_in m_in name seen_is only on) (h.apart at at_in open_at) (linked_open t b spots count at j h at at_in open_at)
+      open_q = still_open q (h.inside at at_in) (two.q_not_a on) (h.apart at at_in two.open_at) (linked_open t b spots count at j h at at_in two.open_at)
 
       to_q : (s : text.Spot) (ps : List Place) → Chain t b placed (kind_of (nth_spot spots q)) s (named (nth_spot spots q)) ps → Out2 closed s
       to_q s ps chain = record { spot = q; inside = h.inside at at_in; places = ps; chain = chain; end = inl open_q }
@@ -288,7 +265,7 @@ module _ (t : Tables) (b : Body) (names : List (List ℕ)) (spots : List Spot) (
 
       by_first : ((x : Place) × (nth_spot spots a ≡ Occurrence m x)) ⊎ ((k : ℕ) × (nth_spot spots a ≡ Free k m)) → AreOut t b spots seen2 (earlier j.closed closed)
       by_first (inl (x, e)) =
-          all_out closed (λ s ps chain open_. to_q s (ps ++ way_at.places) (onward t b s (nth_spot spots a) (nth_spot spots at) (nth_spot spots q) (nth_link links at).place ps held_a held_at joint chain way_at))
+          all_out closed (λ s ps chain open_. to_q s (ps ++ way_at.places) (onward t b s (nth_spot spots a) (nth_spot spots at) (nth_spot spots q) (nth_link links at).place ps held_a held_at two.joint chain way_at))
           (λ s ps chain open_. to_p s (ps ++ way_a.places) (onward t b s (nth_spot spots at) (nth_spot spots a) (nth_spot spots p) (nth_link links a).place ps held_at held_a joint_back chain way_a))
           (λ n y is. to_p (named (nth_spot spots a)) way_a.places (begin t b (nth_spot spots a) (nth_spot spots p) (nth_link links a).place held_a way_a)) from_at
         where
@@ -296,31 +273,31 @@ module _ (t : Tables) (b : Body) (names : List (List ℕ)) (spots : List Spot) (
           held_a = held (nth_spot spots a) m x e
 
           open_a : IsOpen j.seen (nth_spot spots a)
-          open_a = subst (IsOpen j.seen) (sym e) unmet
+          open_a = subst (IsOpen j.seen) (sym e) two.unmet
 
           way_a : IsWay t b (nth_spot spots a) (nth_spot spots p) (nth_link links a).place
-          way_a = h.way a a_in open_a
+          way_a = h.way a two.a_in open_a
 
           open_p : IsOpen seen2 (nth_spot spots p)
-          open_p = still_open p (h.inside a a_in) (h.apart a a_in open_a) on (linked_open t b spots count at j h a a_in open_a)
+          open_p = still_open p (h.inside a two.a_in) (h.apart a two.a_in open_a) on (linked_open t b spots count at j h a two.a_in open_a)
 
           to_p : (s : text.Spot) (ps : List Place) → Chain t b placed (kind_of (nth_spot spots p)) s (named (nth_spot spots p)) ps → Out2 closed s
-          to_p s ps chain = record { spot = p; inside = h.inside a a_in; places = ps; chain = chain; end = inl open_p }
+          to_p s ps chain = record { spot = p; inside = h.inside a two.a_in; places = ps; chain = chain; end = inl open_p }
       by_first (inr (k, e)) =
-          all_out closed (λ s ps chain open_. absurd (unmet (subst (IsOpen j.seen) e open_)))
+          all_out closed (λ s ps chain open_. absurd (two.unmet (subst (IsOpen j.seen) e open_)))
           (λ s ps chain open_. let o : Out2 closed s = record {
             spot = a;
-            inside = a_in;
+            inside = two.a_in;
             places = ps;
             chain = to_end t b s (nth_spot spots at) (nth_spot spots a) ps held_at (ap kind_of e) joint_back chain;
-            end = inl (subst (IsOpen seen2) (sym e) (naming.met2 t b names spots of count at m a j h at_in m_in name seen_is only));
+            end = inl (subst (IsOpen seen2) (sym e) two.met2);
           } in o)
           (λ n y is. absurd (let wrong : Occurrence n y ≡ Free k m = sym is ∙ e in cc)) from_at
 
   merged_out : AreOut t b spots seen2 (earlier j.closed (merged links a at).1)
   merged_out =
-      by_outcome (merges links a at (omega (arith, a_in, h.size)) (omega (arith, at_in, h.size)) (naming.differ t b names spots of count at m a j h at_in m_in name seen_is only) (omega (arith, h.inside a a_in, h.size))
-      (omega (arith, h.inside at at_in, h.size)) (naming.p_not_q t b names spots of count at m a j h at_in m_in name seen_is only) (naming.q_not_a t b names spots of count at m a j h at_in m_in name seen_is only) (h.apart at at_in open_at))
+      by_outcome (merges links a at (omega (arith, two.a_in, h.size)) (omega (arith, at_in, h.size)) two.differ (omega (arith, h.inside a two.a_in, h.size))
+      (omega (arith, h.inside at at_in, h.size)) two.p_not_q two.q_not_a (h.apart at at_in two.open_at))
     where
       by_outcome : IsClosed links (merged links a at).0 a at (merged links a at).1 ⊎ IsOpened links (merged links a at).0 a at p q (merged links a at).1 → AreOut t b spots seen2 (earlier j.closed (merged links a at).1)
       by_outcome (inl x) =

@@ -21,8 +21,8 @@ use Rattle.in_net.proofs.Joined.{last_here, seen_named}
 use Rattle.in_net.proofs.Linked.{same_or_not}
 use Rattle.in_net.proofs.Merged.{IsClosed, IsOpened, merges}
 use Rattle.in_net.proofs.Naming as naming
-use Rattle.in_net.proofs.Naming.{AreOfText, IsLast, step_on}
-use Rattle.in_net.proofs.Ways.{nth_seen, IsMet, IsOpen, IsJoiningAt, no_place_before, spot_named}
+use Rattle.in_net.proofs.Naming.{AreOfText, IsLast, IsSecond, step_on}
+use Rattle.in_net.proofs.Ways.{nth_seen, IsOpen, IsJoiningAt, no_place_before, spot_named}
 
 -- of these spots, two that are joined at one place are joined to each other, or are one
 abbrev pub AreApart : ℕ → List Link → Type 0
@@ -144,33 +144,26 @@ module _ (t : Tables) (b : Body) (names : List (List ℕ)) (spots : List Spot) (
   merged_apart : (at m a : ℕ) (j : Joining) (h : IsJoiningAt t b spots (length names) at j) (at_in : at < length spots) (name : counting.name_of (nth_spot spots at) ≡ Some m) (seen_is : nth_seen j.seen m ≡ Once a)
       (only : (i : ℕ) → at < i → i < length spots → counting.name_of (nth_spot spots i) ≢ Some m) → AreApart (length spots) j.links → AreApart (length spots) (merged j.links a at).0
   merged_apart at m a j h at_in name seen_is only apart =
-      by_outcome (merges j.links a at (omega (arith, a_in, h.size)) (omega (arith, at_in, h.size)) (naming.differ t b names spots of (length names) at m a j h at_in m_in name seen_is only) (omega (arith, h.inside a a_in, h.size))
-      (omega (arith, h.inside at at_in, h.size)) (naming.p_not_q t b names spots of (length names) at m a j h at_in m_in name seen_is only) (naming.q_not_a t b names spots of (length names) at m a j h at_in m_in name seen_is only) at_to)
+      by_outcome (merges j.links a at (omega (arith, two.a_in, h.size)) (omega (arith, at_in, h.size)) two.differ (omega (arith, h.inside a two.a_in, h.size)) (omega (arith, h.inside at at_in, h.size)) two.p_not_q two.q_not_a at_to)
     where
-      m_in : m < length names
-      m_in = of.numbers at m at_in name
-
-      a_in : a < length spots
-      a_in = naming.a_in t b names spots of (length names) at m a j h at_in (of.numbers at m at_in name) name seen_is only
+      two : IsSecond t b spots j at m a
+      two = naming.two t b names spots of (length names) at m a j h at_in (of.numbers at m at_in name) name seen_is only
 
       at_to : (nth_link j.links at).to ≢ at
-      at_to = h.apart at at_in (naming.open_at t b names spots of (length names) at m a j h at_in (of.numbers at m at_in name) name seen_is only)
-
-      unmet : IsMet (nth_seen j.seen m) → ⊥
-      unmet = naming.unmet t b names spots of (length names) at m a j h at_in (of.numbers at m at_in name) name seen_is only
+      at_to = h.apart at at_in two.open_at
 
       -- a spot of a name that isn't met yet and leads to itself is a free end, and has no place
       alone : (nth_link j.links a).to ≡ a → (nth_link j.links a).place.from ≡ 0
-      alone self = by_spot (spot_named (nth_spot spots a) m (naming.first t b names spots of (length names) at m a j h at_in (of.numbers at m at_in name) name seen_is only).1)
+      alone self = by_spot (spot_named (nth_spot spots a) m two.first.1)
         where
           by_spot : ((x : Place) × (nth_spot spots a ≡ Occurrence m x)) ⊎ ((k : ℕ) × (nth_spot spots a ≡ Free k m)) → (nth_link j.links a).place.from ≡ 0
-          by_spot (inl (x, e)) = absurd (h.apart a a_in (subst (IsOpen j.seen) (sym e) unmet) self)
-          by_spot (inr (k, e)) = ap (λ (l : Link). l.place.from) (h.fresh a k m a_in e unmet)
+          by_spot (inl (x, e)) = absurd (h.apart a two.a_in (subst (IsOpen j.seen) (sym e) two.unmet) self)
+          by_spot (inr (k, e)) = ap (λ (l : Link). l.place.from) (h.fresh a k m two.a_in e two.unmet)
 
       by_outcome : IsClosed j.links (merged j.links a at).0 a at (merged j.links a at).1 ⊎ IsOpened j.links (merged j.links a at).0 a at (nth_link j.links a).to (nth_link j.links at).to (merged j.links a at).1 →
           AreApart (length spots) (merged j.links a at).0
-      by_outcome (inl x) = closed_apart (length spots) a at j.links (merged j.links a at).0 (merged j.links a at).1 a_in at_in apart x
-      by_outcome (inr x) = opened_apart (length spots) a at j.links (merged j.links a at).0 (merged j.links a at).1 a_in at_in apart x at_to alone
+      by_outcome (inl x) = closed_apart (length spots) a at j.links (merged j.links a at).0 (merged j.links a at).1 two.a_in at_in apart x
+      by_outcome (inr x) = opened_apart (length spots) a at j.links (merged j.links a at).0 (merged j.links a at).1 two.a_in at_in apart x at_to alone
 
   named_apart : (at m : ℕ) (s : Seen) (j : Joining) → IsJoiningAt t b spots (length names) at j → at < length spots → IsLast spots at j.seen → counting.name_of (nth_spot spots at) ≡ Some m → nth_seen j.seen m ≡ s →
       AreApart (length spots) j.links → AreApart (length spots) (met j.links s at).0

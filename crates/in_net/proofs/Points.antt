@@ -1,6 +1,6 @@
 -- The points of the spots that are joined, and their partners.
 use Rattle.std.proofs.Common.{◌≡◌, ◌≢◌, ◌⊎◌, inl, inr, ℕ, zero, suc, ◌+◌, ◌<◌, ◌≤◌, List, [], ◌∷◌, length, Option, Some, None, slice_get, option_map, option_and_then, refl, sym, ◌∙◌, ap, subst, arith}
-use Rattle.std.proofs.lemmas.Option.{slice_get-map}
+use Rattle.std.proofs.lemmas.Option.{slice_get-map, same_Some}
 use Rattle.in_syntax.specs.declared.places.Place.{Place}
 use Rattle.in_symbols.specs.Tables.{Tables, arity_of}
 use Rattle.in_net.specs.declared.reading.Spot.{Spot}
@@ -31,9 +31,6 @@ is_point_or_not (spot.End k) = inl tt
 is_point_or_not (spot.Occurrence m p) = inr (λ x. x)
 
 module _ (spots : List Spot) (links : List Link) (joined : IsJoined spots links) where
-  pub to_of : (i : ℕ) → i < length spots → (nth_link links (nth_link links i).to).to ≡ i
-  to_of i lt = ap (λ (l : Link). l.to) (joined.back i lt)
-
   -- a point is joined to a point
   pub point_to : (i : ℕ) → i < length spots → IsPointSpot (nth_spot spots i) → IsPointSpot (nth_spot spots (nth_link links i).to)
   point_to i lt h = either (is_point_or_not (nth_spot spots (nth_link links i).to))
@@ -42,14 +39,14 @@ module _ (spots : List Spot) (links : List Link) (joined : IsJoined spots links)
       either (inl x) = x
       either (inr x) =
           let self = joined.alone (nth_link links i).to (joined.inside i lt) x in
-          absurd (joined.apart i lt h (sym self ∙ to_of i lt))
+          absurd (joined.apart i lt h (sym self ∙ ap (λ (l : Link). l.to) (joined.back i lt)))
 
   -- the partner stands at the spot that a point's spot is joined to, and so back
   pub partner_stands : (p : Point) (k : ℕ) → Stands spots p k → Stands spots (partner_of spots links k) (nth_link links k).to
   partner_stands p k h = record { inside = joined.inside k h.inside; point = point_to k h.inside h.point; is = refl }
 
   pub partner_back : (p : Point) (k : ℕ) → Stands spots p k → partner_of spots links (nth_link links k).to ≡ p
-  partner_back p k h = ap (λ i. point_in (nth_spot spots i)) (to_of k h.inside) ∙ h.is
+  partner_back p k h = ap (λ (l : Link). point_in (nth_spot spots l.to)) (joined.back k h.inside) ∙ h.is
 
   -- a spot that is joined to a later one is a point's
   pub point_here : (i : ℕ) → i < length spots → (nth_link links i).to ≢ i → IsPointSpot (nth_spot spots i)
@@ -91,9 +88,6 @@ no_free (f ∷ fs) (suc k) q e = let less = no_free fs k q e in omega (arith, le
 
 abbrev agent_no : ℕ → AgentNo
 agent_no a = record { 0 = a }
-
-some_same : {X : Type 0} (x y : X) → Some x ≡ Some y → x ≡ y
-some_same x y e = cc
 
 -- the net of what was read and joined
 module _ (t : Tables) (free : List FreeEnd) (r : Reading) (links : List Link) (numbered : IsNumbered t (length free) r) (joined : IsJoined r.spots links) (ends : AreJoinedTo r.spots links free) (wires : List Wire) (places : List Place) where
@@ -157,7 +151,7 @@ module _ (t : Tables) (free : List FreeEnd) (r : Reading) (links : List Link) (n
       let port = numbered.ports a.0 i lt le in
       let k : ℕ = (nth_agent r.agents a.0).first + i in
       let stands : Stands r.spots (Port a i) ((nth_agent r.agents a.0).first + i) = record { inside = port.0; point = subst IsPointSpot (sym port.1) tt; is = ap point_in port.1 } in
-      (k, stands, some_same q (partner_of r.spots links k) (sym e ∙ partner_at (Port a i) k stands))
+      (k, stands, same_Some q (partner_of r.spots links k) (sym e ∙ partner_at (Port a i) k stands))
     where
       agent_in : (o : Option Cell) → cell_in net a.0 ≡ o → partner_in net (Port a i) ≡ Some q → a.0 < length r.agents
       agent_in None is e = absurd (let wrong : None ≡ Some q = sym (ap (option_and_then {T = Cell} {U = Point} (λ c. slice_get c.ends i)) is) ∙ e in cc)
@@ -166,7 +160,7 @@ module _ (t : Tables) (free : List FreeEnd) (r : Reading) (links : List Link) (n
       let lt = no_free free k q e in
       let end = numbered.ends k lt in
       let stands : Stands r.spots (Free k) k = by_end k (nth_spot r.spots k) end.0 refl end.1 in
-      (k, stands, some_same q (partner_of r.spots links k) (sym e ∙ partner_at (Free k) k stands))
+      (k, stands, same_Some q (partner_of r.spots links k) (sym e ∙ partner_at (Free k) k stands))
     where
       by_end : (k : ℕ) (s : Spot) → k < length r.spots → nth_spot r.spots k ≡ s → IsEnd s k → Stands r.spots (Free k) k
       by_end k (spot.Port a i p) lt is h = absurd h

@@ -15,6 +15,7 @@ use Rattle.in_net.specs.declared.reading.Reading.{Reading}
 use Rattle.in_symbols.specs.Names.{number_in, name_in}
 use Rattle.in_symbols.specs.Tables.{Tables, arity_of}
 use Rattle.in_net.specs.Reading.{with_agent, with_occurrence, with_joint, with_name, number_with, ports_from, reads_free_end}
+use Rattle.in_net.specs.Counting as counting
 use Rattle.in_net.specs.Counting.{IsNameInside}
 use Rattle.in_net.specs.Joining.{JointsInside, links_of}
 use Rattle.in_net.specs.Building.{no_agent, no_spot, nth_spot, nth_link, nth_agent}
@@ -109,6 +110,12 @@ name_inside t b names (Port a i p) h = tt
 name_inside t b names (End k) h = tt
 name_inside t b names (Free k m) h = h.inside
 name_inside t b names (Occurrence m p) h = h.inside
+
+pub name_known : (t : Tables) (b : Body) (names : List (List ℕ)) (s : Spot) (m : ℕ) → IsNamed t b names s → counting.name_of s ≡ Some m → m < length names
+name_known t b names (Port a i p) m h e = cc
+name_known t b names (End k) m h e = cc
+name_known t b names (Free k n) m h e = let same : n ≡ m = cc in omega (arith, same, h.inside)
+name_known t b names (Occurrence n p) m h e = let same : n ≡ m = cc in omega (arith, same, h.inside)
 
 -- ---- an agent
 
@@ -252,6 +259,14 @@ with_agent_read t b free names r s place read known few =
 
 -- ---- one spot that is no agent's: the occurrence of a name, or a free end
 
+before_it : (spots : List Spot) (s : Spot) (k : ℕ) → k < length spots → nth_spot (spots ++ s ∷ []) k ≡ nth_spot spots k
+before_it spots s k lt = at_front spots (s ∷ []) k no_spot lt
+
+is_it : (spots : List Spot) (s : Spot) (k j : ℕ) → k < length (spots ++ s ∷ []) → k ≡ length spots + j → nth_spot (spots ++ s ∷ []) k ≡ s
+is_it spots s k j lt e =
+    let none : j ≡ 0 = omega (arith, lt, e, length-append spots (s ∷ [])) in
+    ap (nth_spot (spots ++ s ∷ [])) (e ∙ ap (λ i. length spots + i) none) ∙ at_back spots (s ∷ []) 0 no_spot
+
 -- a spot that isn't a port or a free end keeps the numbering, and so does the next free end
 module _ (t : Tables) (free : ℕ) (r : Reading) (numbered : IsNumbered t free r) (s : Spot) (names : List (List ℕ)) where
   abbrev and_one : Reading
@@ -260,28 +275,22 @@ module _ (t : Tables) (free : ℕ) (r : Reading) (numbered : IsNumbered t free r
   one_more : length (r.spots ++ s ∷ []) ≡ length r.spots + 1
   one_more = length-append r.spots (s ∷ [])
 
-  before_it : (k : ℕ) → k < length r.spots → nth_spot (r.spots ++ s ∷ []) k ≡ nth_spot r.spots k
-  before_it k lt = at_front r.spots (s ∷ []) k no_spot lt
-
-  pub is_it : (k j : ℕ) → k < length (r.spots ++ s ∷ []) → k ≡ length r.spots + j → nth_spot (r.spots ++ s ∷ []) k ≡ s
-  is_it k j lt e = let none : j ≡ 0 = omega (arith, lt, e, one_more) in ap (nth_spot (r.spots ++ s ∷ [])) (e ∙ ap (λ i. length r.spots + i) none) ∙ at_back r.spots (s ∷ []) 0 no_spot
-
   one_port : (k a i : ℕ) (p : Place) → ((a i : ℕ) (p : Place) → s ≢ Port a i p) → k < length (r.spots ++ s ∷ []) → nth_spot (r.spots ++ s ∷ []) k ≡ Port a i p → (k < length r.spots) ⊎ ((j : ℕ) × (k ≡ length r.spots + j)) →
       IsPortOf t r k a i p
-  one_port k a i p never lt is (inl front) = numbered.port k a i p front (sym (before_it k front) ∙ is)
-  one_port k a i p never lt is (inr (j, e)) = absurd (never a i p (sym (is_it k j lt e) ∙ is))
+  one_port k a i p never lt is (inl front) = numbered.port k a i p front (sym (before_it r.spots s k front) ∙ is)
+  one_port k a i p never lt is (inr (j, e)) = absurd (never a i p (sym (is_it r.spots s k j lt e) ∙ is))
 
   one_end : (k j : ℕ) → ((j : ℕ) → IsEnd s j → (j ≡ length r.spots) × (j < free)) → k < length (r.spots ++ s ∷ []) → IsEnd (nth_spot (r.spots ++ s ∷ []) k) j → (k < length r.spots) ⊎ ((j : ℕ) × (k ≡ length r.spots + j)) →
       (j ≡ k) × (j < free)
-  one_end k j only lt is (inl front) = numbered.end k j front (subst (λ s. IsEnd s j) (before_it k front) is)
-  one_end k j only lt is (inr (i, e)) = let here = only j (subst (λ s. IsEnd s j) (is_it k i lt e) is) in (omega (arith, here.0, lt, e, one_more), here.1)
+  one_end k j only lt is (inl front) = numbered.end k j front (subst (λ s. IsEnd s j) (before_it r.spots s k front) is)
+  one_end k j only lt is (inr (i, e)) = let here = only j (subst (λ s. IsEnd s j) (is_it r.spots s k i lt e) is) in (omega (arith, here.0, lt, e, one_more), here.1)
 
   pub numbered_one : ((a i : ℕ) (p : Place) → s ≢ Port a i p) → ((j : ℕ) → IsEnd s j → (j ≡ length r.spots) × (j < free)) → IsNumbered t free and_one
   numbered_one never only = record {
     port = λ k a i p lt is. let old = one_port k a i p never lt is (front_or_back (length r.spots) k) in record { agent = old.agent; place = old.place; number = old.number; name = old.name };
     end = λ k j lt is. one_end k j only lt is (front_or_back (length r.spots) k);
-    ports = λ a i lt le. let old = numbered.ports a i lt le in (omega (arith, old.0, one_more), before_it ((nth_agent r.agents a).first + i) old.0 ∙ old.1);
-    ends = λ k lt. let old = numbered.ends k lt in (omega (arith, old.0, one_more), subst (λ s. IsEnd s k) (sym (before_it k old.0)) old.1);
+    ports = λ a i lt le. let old = numbered.ports a i lt le in (omega (arith, old.0, one_more), before_it r.spots s ((nth_agent r.agents a).first + i) old.0 ∙ old.1);
+    ends = λ k lt. let old = numbered.ends k lt in (omega (arith, old.0, one_more), subst (λ s. IsEnd s k) (sym (before_it r.spots s k old.0)) old.1);
     rise = numbered.rise;
   }
 
@@ -340,12 +349,6 @@ module _ (t : Tables) (b : Body) (k : ℕ) (r : Reading) (count : length r.spots
   grown : length (r.spots ++ s ∷ []) ≡ length r.spots + 1
   grown = length-append r.spots (s ∷ [])
 
-  before : (j : ℕ) → j < length r.spots → nth_spot (r.spots ++ s ∷ []) j ≡ nth_spot r.spots j
-  before j lt = at_front r.spots (s ∷ []) j no_spot lt
-
-  it : (j i : ℕ) → j < length (r.spots ++ s ∷ []) → j ≡ length r.spots + i → nth_spot (r.spots ++ s ∷ []) j ≡ s
-  it j i lt e = is_it t k r read.numbered s names j i lt e
-
   end_no_port : (u : Spot) (a i j : ℕ) (p : Place) → IsEnd u j → u ≢ Port a i p
   end_no_port u a i j p h e = subst (λ u. IsEnd u j) e h
 
@@ -357,25 +360,25 @@ module _ (t : Tables) (b : Body) (k : ℕ) (r : Reading) (count : length r.spots
 
   no_port : (j a i : ℕ) (p : Place) → j < length (r.spots ++ s ∷ []) → nth_spot (r.spots ++ s ∷ []) j ≡ Port a i p → (j < length r.spots) ⊎ ((i : ℕ) × (j ≡ length r.spots + i)) → ⊥
   no_port j a i p lt e (inl front) =
-      let old = read.numbered.port j a i p front (sym (before j front) ∙ e) in
+      let old = read.numbered.port j a i p front (sym (before_it r.spots s j front) ∙ e) in
       let none = ap length no_agents in
       absurd (omega (arith, old.agent, none))
-  no_port j a i p lt e (inr (x, f)) = end_no_port s a i k p is_end (sym (it j x lt f) ∙ e)
+  no_port j a i p lt e (inr (x, f)) = end_no_port s a i k p is_end (sym (is_it r.spots s j x lt f) ∙ e)
 
   end_at : (j i : ℕ) → j < length (r.spots ++ s ∷ []) → IsEnd (nth_spot (r.spots ++ s ∷ []) j) i → (j < length r.spots) ⊎ ((x : ℕ) × (j ≡ length r.spots + x)) → (i ≡ j) × (i < k + 1)
-  end_at j i lt e (inl front) = let old = read.numbered.end j i front (subst (λ u. IsEnd u i) (before j front) e) in (old.0, omega (arith, old.1))
+  end_at j i lt e (inl front) = let old = read.numbered.end j i front (subst (λ u. IsEnd u i) (before_it r.spots s j front) e) in (old.0, omega (arith, old.1))
   end_at j i lt e (inr (x, f)) =
-      let same : k ≡ i = one_number s k i is_end (subst (λ u. IsEnd u i) (it j x lt f) e) in
+      let same : k ≡ i = one_number s k i is_end (subst (λ u. IsEnd u i) (is_it r.spots s j x lt f) e) in
       (omega (arith, same, f, lt, grown, count), omega (arith, same))
 
   ends_at : (j : ℕ) → j < k + 1 → (j < length r.spots) ⊎ ((x : ℕ) × (j ≡ length r.spots + x)) → (j < length (r.spots ++ s ∷ [])) × IsEnd (nth_spot (r.spots ++ s ∷ []) j) j
   ends_at j lt (inl front) =
       let old = read.numbered.ends j (omega (arith, front, count)) in
-      (omega (arith, front, grown), subst (λ u. IsEnd u j) (sym (before j front)) old.1)
+      (omega (arith, front, grown), subst (λ u. IsEnd u j) (sym (before_it r.spots s j front)) old.1)
   ends_at j lt (inr (x, e)) =
       let same : k ≡ j = omega (arith, lt, e, count) in
       let there : j < length (r.spots ++ s ∷ []) = omega (arith, lt, grown, count) in
-      (omega (arith, lt, grown, count), subst (λ u. IsEnd u j) (sym (it j x there e)) (subst (IsEnd s) same is_end))
+      (omega (arith, lt, grown, count), subst (λ u. IsEnd u j) (sym (is_it r.spots s j x there e)) (subst (IsEnd s) same is_end))
 
   pub end_read : IsRead t b (k + 1) 0 and_end
   end_read = record {

@@ -18,15 +18,15 @@ use Rattle.in_net.specs.TextNet as text
 use Rattle.in_net.specs.TextNet.{Body, IsTermOf, IsPartOf, IsVariable, PlacedJoint, NameJoint, IsOccurrence, Chain, Kind, placed, of_name, IsWireOf, name_of, place_of, spot_of}
 use Rattle.std.proofs.lemmas.Option.{slice_get_within, same_Some}
 use Rattle.in_net.proofs.Links.{all_at}
-use Rattle.in_net.proofs.Linked.{same_or_not, below_or_not}
+use Rattle.in_net.proofs.Linked.{below_or_not}
 use Rattle.in_net.proofs.Sound.{named}
 use Rattle.in_net.proofs.Kept.{IsSettled}
-use Rattle.in_net.proofs.Read.{IsNamed, name_inside}
+use Rattle.in_net.proofs.Read.{IsNamed, name_known}
 use Rattle.in_net.specs.Built.{IsEnd}
 use Rattle.in_net.proofs.Known.{IsBodyKnown, equation_known, head_known}
 use Rattle.in_net.proofs.NamedSpots.{AreNamesRead}
 use Rattle.in_net.proofs.NetRead.{IsBodyRead}
-use Rattle.in_net.proofs.Order.{root_place, root_places, place_before}
+use Rattle.in_net.proofs.Order.{root_place, root_places, same_root}
 use Rattle.in_net.proofs.Counts.{other_is_one}
 
 -- what was read of a body, and what makes its joints single
@@ -45,12 +45,7 @@ module _ (t : Tables) (b : Body) (r : Reading) (h : IsReadWhole t b r) where
   -- ---- one spot for each spot of the text
 
   rising : (i j : ℕ) (p : Place) → i < length r.spots → j < length r.spots → root_place (nth_spot r.spots i) ≡ p ∷ [] → root_place (nth_spot r.spots j) ≡ p ∷ [] → i ≡ j
-  rising i j p i_in j_in e f = by_order (same_or_not i j) (below_or_not i j)
-    where
-      by_order : (i ≡ j) ⊎ (i ≢ j) → (i < j) ⊎ (j ≤ i) → i ≡ j
-      by_order (inl x) y = x
-      by_order (inr x) (inl y) = absurd (let less = place_before r.spots i j p p h.rises y j_in e f in omega (arith, less))
-      by_order (inr x) (inr y) = absurd (let less = place_before r.spots j i p p h.rises (omega (arith, x, y)) i_in f e in omega (arith, less))
+  rising i j p = same_root r.spots i j p h.rises
 
   -- agents of one place are one
   first_of : (k a i : ℕ) (p : Place) → k < length r.spots → nth_spot r.spots k ≡ Port a i p → ((nth_agent r.agents a).first < length r.spots) × (root_place (nth_spot r.spots (nth_agent r.agents a).first) ≡ p ∷ [])
@@ -205,14 +200,8 @@ module _ (t : Tables) (b : Body) (r : Reading) (h : IsReadWhole t b r) where
       not_both i j m k_ x y e = let wrong : Free k m ≡ Occurrence k_ (place_of u) = sym x ∙ ap (nth_spot r.spots) e ∙ y in cc
   twin_of _ _ (NameJoint.turned_name x y joint) = twin_turned x y (twin_of x y joint)
 
-  name_known : (i m : ℕ) → i < length r.spots → counting.name_of (nth_spot r.spots i) ≡ Some m → m < length r.names
-  name_known i m lt e = by_spot (nth_spot r.spots i) (name_inside t b r.names (nth_spot r.spots i) (all_at (IsNamed t b r.names) r.spots i _ h.body.net.read.named_as lt)) e
-    where
-      by_spot : (s : Spot) → counting.IsNameInside (length r.names) s → counting.name_of s ≡ Some m → m < length r.names
-      by_spot (Port a j p) inside e = cc
-      by_spot (End j) inside e = cc
-      by_spot (Free k l) inside e = let same : l ≡ m = cc in omega (arith, inside, same)
-      by_spot (Occurrence l p) inside e = let same : l ≡ m = cc in omega (arith, inside, same)
+  name_at : (i m : ℕ) → i < length r.spots → counting.name_of (nth_spot r.spots i) ≡ Some m → m < length r.names
+  name_at i m lt e = name_known t b r.names (nth_spot r.spots i) m (all_at (IsNamed t b r.names) r.spots i _ h.body.net.read.named_as lt) e
 
   pub one_name_joint : (x y z : text.Spot) → NameJoint t b x y → NameJoint t b x z → y ≡ z
   one_name_joint x y z j k =
@@ -220,7 +209,7 @@ module _ (t : Tables) (b : Body) (r : Reading) (h : IsReadWhole t b r) where
       let u = twin_of x z k in
       let same : s.one ≡ u.one = one_spot s.one u.one s.one_in u.one_in (s.one_is ∙ sym u.one_is) in
       let number : s.number ≡ u.number = same_Some s.number u.number (sym s.one_named ∙ ap (λ i. counting.name_of (nth_spot r.spots i)) same ∙ u.one_named) in
-      let other : s.other ≡ u.other = other_is_one r.spots (length r.names) h.twice s.number s.one s.other u.other (name_known s.one s.number s.one_in s.one_named) s.one_in s.other_in u.other_in s.one_named s.other_named (u.other_named ∙ ap Some (sym number))
+      let other : s.other ≡ u.other = other_is_one r.spots (length r.names) h.twice s.number s.one s.other u.other (name_at s.one s.number s.one_in s.one_named) s.one_in s.other_in u.other_in s.one_named s.other_named (u.other_named ∙ ap Some (sym number))
       s.apart (λ e. u.apart (sym same ∙ e)) in
       sym s.other_is ∙ ap (λ i. named (nth_spot r.spots i)) other ∙ u.other_is
 

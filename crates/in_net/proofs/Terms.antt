@@ -1,5 +1,6 @@
 -- A term is read: what is added is joined, but for the term's own spot.
 use Rattle.std.proofs.Common.{◌≡◌, ◌≢◌, ◌⊎◌, inl, inr, ℕ, zero, suc, ◌+◌, ◌<◌, ◌≤◌, true, List, [], ◌∷◌, ◌++◌, length, map, Option, Some, None, IsSome, refl, sym, ◌∙◌, ap, subst, arith, slice_get, length-append, append_assoc, append-nil}
+use Rattle.std.proofs.lemmas.Option.{none-some}
 use Rattle.std.specs.Str.{bytes_eq}
 use Rattle.std.proofs.lemmas.List.Quantifiers.{position-Some}
 use Rattle.in_syntax.specs.declared.tree.Term.{Term, out-Term}
@@ -207,15 +208,12 @@ reads_all t b free h ih u done [] first arity port agent count q short fits symb
   names_on = sym (append-nil q.names);
   keeps = keeps_itself q;
   held = λ heads w among. absurd among;
-  settled = λ j w e. absurd (no_element j w e);
+  settled = λ j w e. absurd (none-some w e);
 }
   where
     side : (i : ℕ) → (i < first + port) ⊎ (first + port ≤ i) → (i < first + port) ⊎ (first + arity < i)
     side i (inl a) = inl a
     side i (inr a) = inr (omega (arith, a, rest))
-
-    no_element : (j : ℕ) (w : Term) → slice_get {X = Term} [] j ≡ Some w → ⊥
-    no_element j w e = cc
 reads_all t b free h ih u done (v ∷ args) first arity port agent count q short fits symbol terms all at rest room ports past read =
     let both = and_parts (arities_fit t v) (all_true (map (arities_fit t) args)) fits in
     let q1 : Reading = ((reader_of t v).reads q).0 in

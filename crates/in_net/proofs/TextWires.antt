@@ -20,18 +20,18 @@ use Rattle.in_net.specs.Building.{AreTwice, nth_spot, nth_link, nth_agent, IsPoi
 use Rattle.in_net.specs.Built.{IsNumbered, AreJoinedTo, AreListedOf, Assembles, IsOver, IsCellOver}
 use Rattle.in_net.specs.declared.nets.Cell.{Cell}
 use Rattle.in_net.specs.declared.nets.FreeEnd.{FreeEnd}
-use Rattle.in_net.specs.Parts.{Parts, IsWireBetween, as_built, wire_in}
+use Rattle.in_net.specs.Parts.{Parts, as_built, wire_in}
 use Rattle.in_net.specs.TextNet as text
 use Rattle.in_net.specs.TextNet.{Body, IsOccurrence, IsWireOf, IsClosedWireOf, HasAgentsOf, HasWiresOf, spot_at}
 use Rattle.in_net.proofs.Agents.{cells_for, cells_over, places_for}
 use Rattle.in_net.proofs.ClosedWires.{found_first}
 use Rattle.in_net.proofs.FirstFault.{IsReady}
 use Rattle.in_net.proofs.Sound.{named}
-use Rattle.std.proofs.lemmas.Option.{slice_get-get_or}
+use Rattle.std.proofs.lemmas.Option.{slice_get-get_or, same_Some}
 use Rattle.in_net.proofs.OneJoint.{links_apart}
 use Rattle.in_net.proofs.PlacesApart.{AreApart, all_apart, rising_places}
 use Rattle.in_net.proofs.Turned.{comes_before}
-use Rattle.in_net.proofs.Points.{Stands, stands_at, partner_stands, to_of}
+use Rattle.in_net.proofs.Points.{Stands, stands_at, partner_stands}
 use Rattle.in_net.proofs.Single.{IsReadWhole, one_wire}
 use Rattle.in_net.proofs.NamesApart.{names_apart}
 use Rattle.in_net.proofs.NamedSpots.{AreNamesRead, names_read}
@@ -71,9 +71,6 @@ module _ (t : Tables) (b : Body) (free : List FreeEnd) (r : Reading) (links : Li
       by_spot (spot.End j) e m = refl
       by_spot (spot.Occurrence n x) e m = absurd m
 
-  some_same : (x y : Place) → Some x ≡ Some y → x ≡ y
-  some_same x y e = cc
-
   -- the wire of the spot of a point
   wire_from : (x : Point) (k : ℕ) → Stands r.spots x k → IsWireOf t b (spot_at net x) (spot_at net (partner_of r.spots links k)) (nth_link links k).place
   wire_from x k stands =
@@ -99,27 +96,24 @@ module _ (t : Tables) (b : Body) (free : List FreeEnd) (r : Reading) (links : Li
       let other : wire_in net w ≡ Some ((get_or wires w d).one, (get_or wires w d).other) = ap (option_map {T = Wire} {U = Point × Point} (λ u. (u.one, u.other))) (slice_get-get_or wires w d in_) in
       let f = wire_at t free r links numbered joined ends wires (map (λ a. a.place) r.agents) listed v (get_or wires v d).one (get_or wires v d).other one in
       let g = wire_at t free r links numbered joined ends wires (map (λ a. a.place) r.agents) listed w (get_or wires w d).one (get_or wires w d).other other in
-      let at_f : (nth_link links f.spot).place ≡ (get_or wires v d).place = some_same (nth_link links f.spot).place (get_or wires v d).place (sym f.place ∙ ap (option_map (λ (u : Wire). u.place)) (slice_get-get_or wires v d (omega (arith, lt, in_)))) in
-      let at_g : (nth_link links g.spot).place ≡ (get_or wires w d).place = some_same (nth_link links g.spot).place (get_or wires w d).place (sym g.place ∙ ap (option_map (λ (u : Wire). u.place)) (slice_get-get_or wires w d in_)) in
+      let at_f : (nth_link links f.spot).place ≡ (get_or wires v d).place = same_Some (nth_link links f.spot).place (get_or wires v d).place (sym f.place ∙ ap (option_map (λ (u : Wire). u.place)) (slice_get-get_or wires v d (omega (arith, lt, in_)))) in
+      let at_g : (nth_link links g.spot).place ≡ (get_or wires w d).place = same_Some (nth_link links g.spot).place (get_or wires w d).place (sym g.place ∙ ap (option_map (λ (u : Wire). u.place)) (slice_get-get_or wires w d in_)) in
       let after_f = f.later in
       let after_g = g.later in
       by_spot f.spot g.spot f.one g.one f.other g.other after_f after_g
       (apart f.spot g.spot f.one.inside g.one.inside (λ e. absurd (omega (arith, after_f, e))) (λ e. absurd (omega (arith, after_g, e))) (ap (λ (p : Place). p.from) at_f ∙ same ∙ ap (λ (p : Place). p.from) (sym at_g)))
     where
-      whole : (v w : ℕ) (p q : Point) → IsWireBetween net v p q → IsWireBetween net w p q → v ≡ w
-      whole = once_of t free r links numbered joined ends wires (map (λ a. a.place) r.agents) listed
-
       by_spot : (k l : ℕ) → Stands r.spots (get_or wires v d).one k → Stands r.spots (get_or wires w d).one l → Stands r.spots (get_or wires v d).other (nth_link links k).to → Stands r.spots (get_or wires w d).other (nth_link links l).to →
           k < (nth_link links k).to → l < (nth_link links l).to → (k ≡ l) ⊎ ((nth_link links k).to ≡ l) → ⊥
       by_spot k l a c e f x y (inl same) =
           let one : (get_or wires v d).one ≡ (get_or wires w d).one = sym a.is ∙ ap (λ i. point_in (nth_spot r.spots i)) same ∙ c.is in
           let other : (get_or wires v d).other ≡ (get_or wires w d).other = sym e.is ∙ ap (λ i. point_in (nth_spot r.spots (nth_link links i).to)) same ∙ f.is in
-          let number = whole v w (get_or wires w d).one (get_or wires w d).other
+          let number = once_of t free r links numbered joined ends wires (map (λ a. a.place) r.agents) listed v w (get_or wires w d).one (get_or wires w d).other
           (inl (ap (option_map {T = Wire} {U = Point × Point} (λ u. (u.one, u.other))) (slice_get-get_or wires v d (omega (arith, lt, in_))) ∙ ap (λ x. Some (x, (get_or wires v d).other)) one ∙ ap (λ x. Some ((get_or wires w d).one, x)) other))
           (inl (ap (option_map {T = Wire} {U = Point × Point} (λ u. (u.one, u.other))) (slice_get-get_or wires w d in_))) in
           absurd (omega (arith, number, lt))
       by_spot k l a c e f x y (inr same) =
-          let back = to_of r.spots links joined k a.inside in
+          let back = ap (λ (l : Link). l.to) (joined.back k a.inside) in
           let turn : (nth_link links l).to ≡ k = ap (λ i. (nth_link links i).to) (sym same) ∙ back in
           absurd (omega (arith, x, y, same, turn))
 
@@ -133,7 +127,7 @@ module _ (t : Tables) (b : Body) (free : List FreeEnd) (r : Reading) (links : Li
         single (spot_at net x) s (spot_at net y) p (nth_link links at.0).place wire (subst (λ y. IsWireOf t b (spot_at net x) (spot_at net y) (nth_link links at.0).place) (sym at.2) (wire_from x at.0 at.1));
     wires = λ w x y p is at.
         let found = wire_at t free r links numbered joined ends wires (map (λ a. a.place) r.agents) listed w x y is in
-        let place : (nth_link links found.spot).place ≡ p = some_same (nth_link links found.spot).place p (sym found.place ∙ at) in
+        let place : (nth_link links found.spot).place ≡ p = same_Some (nth_link links found.spot).place p (sym found.place ∙ at) in
         subst (IsWireOf t b (spot_at net x) (spot_at net y)) place (subst (λ y. IsWireOf t b (spot_at net x) (spot_at net y) (nth_link links found.spot).place) (sym found.partner) (wire_from x found.spot found.one));
     by_place = rising_places wires listed.by_place (places_apart apart);
     turned = λ w x y is.
@@ -180,13 +174,10 @@ module _ (t : Tables) (b : Body) (good : IsGood t b) where
   pub read_first : (p q : Place) → (joining_of (reading_of t b)).closed ≡ Some p → IsClosedWireOf t b q → p.from ≤ q.from
   read_first p q found wire =
       let early = found_first t b (ends_in t b) (names_in_body b) (reading_of t b) read.net names good.ready.differ rises good.twice read_whole q wire in
-      let same : p ≡ early.found = some_same p early.found (sym found ∙ early.is) in
+      let same : p ≡ early.found = same_Some p early.found (sym found ∙ early.is) in
       let from = ap (λ (x : Place). x.from) same in
       let le = early.no_later in
       omega (arith, from, le)
-    where
-      some_same : (x y : Place) → Some x ≡ Some y → x ≡ y
-      some_same x y e = cc
 
   -- where none is found, there is none
   pub read_none : (joining_of (reading_of t b)).closed ≡ None → (q : Place) → IsClosedWireOf t b q → ⊥
@@ -204,9 +195,6 @@ module _ (t : Tables) (b : Body) (good : IsGood t b) where
       all_apart t b r.names (reading_of t b).spots of 0 (reading_of t b).spots (not_named (links_of r) (length r.names)) (omega arith) (λ i lt. let e : i ≡ 0 + i = omega arith in ap (nth_spot spots) e) good.twice
       (begun t b (ends_in t b) (names_in_body b) (reading_of t b) read.net names good.ready.differ rises) (links_apart t b (reading_of t b) read_whole good.ready.order)
 
-  pub read_single : (x y z : text.Spot) (p q : Place) → IsWireOf t b x y p → IsWireOf t b x z q → y ≡ z
-  read_single = one_wire t b (reading_of t b) read_whole
-
 -- the net that is assembled has the body's agents and wires
 pub is_text_net : (t : Tables) (b : Body) (free : List FreeEnd) (r : Reading) (links : List Link) (n : Parts) → IsGood t b → r ≡ reading_of t b → links ≡ (joining_of r).links → length free ≡ ends_in t b → AreJoinedTo r.spots links free →
     Assembles t r links free n → IsOver t n × HasAgentsOf t b n × HasWiresOf t b n
@@ -219,7 +207,7 @@ is_text_net t b free r links n good is_read is_joined count ends made =
     let at_read : Assembles t (reading_of t b) (joining_of (reading_of t b)).links free n = subst (P (reading_of t b)) same_links (subst (λ r. P r links) is_read made) in
     let ends0 : AreJoinedTo (reading_of t b).spots (joining_of (reading_of t b)).links free = subst (E (reading_of t b)) same_links (subst (λ r. E r links) is_read ends) in
     let numbered = (read t b good).net.read.numbered in
-    let wires = text_wires t b free r0 links0 (subst (λ k. IsNumbered t k (reading_of t b)) (sym count) numbered) (read_joined t b good) ends0 (read_ways t b good) n.wires at_read.wires (read_single t b good) (read_apart t b good) in
+    let wires = text_wires t b free r0 links0 (subst (λ k. IsNumbered t k (reading_of t b)) (sym count) numbered) (read_joined t b good) ends0 (read_ways t b good) n.wires at_read.wires (one_wire t b (reading_of t b) (read_whole t b good)) (read_apart t b good) in
     let parts : as_built (cells_of t (reading_of t b).spots (joining_of (reading_of t b)).links (reading_of t b).agents) free n.wires (map (λ a. a.place) (reading_of t b).agents) ≡ n =
     parts_are n _ _ _ at_read.cells at_read.free_ends at_read.places at_read.built in (
       record { cells = subst (AllByRecursion (IsCellOver t)) (sym at_read.cells) (cells_over t r0.spots links0 r0.agents (read t b good).net.read.known) },

@@ -28,7 +28,7 @@ use Rattle.in_net.specs.Built.{IsNumbered, IsReadFrom, AreJoinedTo, AreListedOf}
 use Rattle.in_net.specs.Parts.{Parts, IsWhole, IsWireBetween, as_built, partner_in, wire_in, wire_place_in}
 use Rattle.in_net.proofs.Agents.{length-ends}
 use Rattle.in_net.proofs.Linked.{same_or_not, below_or_not}
-use Rattle.in_net.proofs.Points.{Stands, to_of, point_here, partner_stands, partner_back, only_one, partner_at, stands_at, leads_back, never_itself}
+use Rattle.in_net.proofs.Points.{Stands, point_here, partner_stands, partner_back, only_one, partner_at, stands_at, leads_back, never_itself}
 use Rattle.in_base.proofs.Each.{all_append}
 
 -- ---- the wires that are found, one for each spot that is joined to a later one
@@ -183,16 +183,13 @@ module _ (t : Tables) (free : List FreeEnd) (r : Reading) (links : List Link) (n
   abbrev net : Parts
   net = as_built (cells_of t r.spots links r.agents) free wires places
 
-  only : (p : Point) (k l : ℕ) → Stands r.spots p k → Stands r.spots p l → k ≡ l
-  only = only_one t free r links numbered joined ends wires places
-
   all_listed : AllByRecursion (IsFound r.spots links 0) wires
   all_listed =
       recursion_from_All (IsFound r.spots links 0) wires
       (All-permutation (IsFound r.spots links 0) found wires listed.same (All-from_recursion (IsFound r.spots links 0) found (all_found r.spots links 0 (length r.spots) (omega arith))))
 
   distinct : IsDistinct same_one wires
-  distinct = IsDistinct-IsPermutation same_one (λ v w. turns v.one w.one) found wires listed.same (distinct_found t r links only joined 0 (length r.spots) (omega arith))
+  distinct = IsDistinct-IsPermutation same_one (λ v w. turns v.one w.one) found wires listed.same (distinct_found t r links (only_one t free r links numbered joined ends wires places) joined 0 (length r.spots) (omega arith))
 
   -- the wire of that number, and the spot where it was found
   pub record IsWireAt (w : ℕ) (p q : Point) : Type 0 where
@@ -224,8 +221,8 @@ module _ (t : Tables) (free : List FreeEnd) (r : Reading) (links : List Link) (n
       record {
         inside = here.0;
         spot = here.2.3.0;
-        one = subst (λ x. Stands r.spots x here.2.3.0) here.2.1 (one_stands t r links only joined 0 k v f);
-        other = subst (λ x. Stands r.spots x (nth_link links here.2.3.0).to) here.2.2 (other_stands t r links only joined 0 k v f);
+        one = subst (λ x. Stands r.spots x here.2.3.0) here.2.1 (one_stands t r links (only_one t free r links numbered joined ends wires places) joined 0 k v f);
+        other = subst (λ x. Stands r.spots x (nth_link links here.2.3.0).to) here.2.2 (other_stands t r links (only_one t free r links numbered joined ends wires places) joined 0 k v f);
         later = f.later;
         partner = sym here.2.2 ∙ ap (λ (w : Wire). w.other) f.is;
         listed_one = here.1;
@@ -252,7 +249,7 @@ module _ (t : Tables) (free : List FreeEnd) (r : Reading) (links : List Link) (n
           (w.0, inl (w.1 ∙ ap (λ x. Some (x, partner_of r.spots links k)) stands.is ∙ ap (λ x. Some (p, x)) (sym is)))
       by_side k stands is (inr before) =
           let differ = joined.apart k stands.inside stands.point in
-          let back = to_of r.spots links joined k stands.inside in
+          let back = ap (λ (l : Link). l.to) (joined.back k stands.inside) in
           let less : (nth_link links k).to < (nth_link links (nth_link links k).to).to = omega (arith, differ, back, before) in
           let w = number_of (nth_link links k).to (joined.inside k stands.inside) less in
           (w.0, inr (w.1 ∙ ap (λ x. Some (partner_of r.spots links k, x)) (partner_back r.spots links joined p k stands) ∙ ap (λ x. Some (x, p)) (sym is)))
@@ -261,8 +258,8 @@ module _ (t : Tables) (free : List FreeEnd) (r : Reading) (links : List Link) (n
   not_turned v w p q a b =
       let f = wire_at v p q a in
       let g = wire_at w q p b in
-      let one = only q (nth_link links f.spot).to g.spot f.other g.one in
-      let other = only p (nth_link links g.spot).to f.spot g.other f.one in
+      let one = only_one t free r links numbered joined ends wires places q (nth_link links f.spot).to g.spot f.other g.one in
+      let other = only_one t free r links numbered joined ends wires places p (nth_link links g.spot).to f.spot g.other f.one in
       absurd (let l = f.later in let m = g.later in omega (arith, one, other, l, m))
 
   same_number : (v w : ℕ) (p q : Point) → wire_in net v ≡ Some (p, q) → wire_in net w ≡ Some (p, q) → v ≡ w

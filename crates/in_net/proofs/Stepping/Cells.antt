@@ -2,7 +2,7 @@
 use Rattle.std.proofs.Common.{◌≡◌, ◌≢◌, ◌⊎◌, inl, inr, ◌+◌, ◌^◌, ◌<◌, ◌≤◌, ℕ, zero, suc, max, Option, Some, None, List, [], ◌∷◌, ◌++◌, map, length, slice_get, get_or, refl, sym, ap, subst, ◌∙◌, arith}
 use Rattle.std.proofs.Math.ListN.{set, length-set}
 use Rattle.std.specs.Prelude.{option_and_then}
-use Rattle.std.proofs.lemmas.Option.{slice_get_within, get_or_from_slice_get}
+use Rattle.std.proofs.lemmas.Option.{slice_get_within, slice_get_read, get_or_from_slice_get}
 use Rattle.in_net.specs.After.{AreEndsAfter, IsAgentAfter, StaysAt, IsNewAt, IsCellAfter, AreCellsAfter, cell_at, IsFreeAfter, AreOuterEnds, Rejoins, AreFreeAfter}
 use Rattle.in_net.specs.Following.{SiteParts, IsSite, IsPartnerAfter}
 use Rattle.in_net.specs.Interacting.{unused, numbers_after}
@@ -13,7 +13,7 @@ use Rattle.in_net.specs.Parts.{cell_in}
 use Rattle.in_net.specs.declared.nets.Cell.{Cell}
 use Rattle.in_net.specs.declared.nets.FreeEnd.{FreeEnd}
 use Rattle.in_net.specs.declared.nets.Point.{Point}
-use Rattle.in_net.proofs.Stepping.Lists.{more_at, last_at, read_at}
+use Rattle.in_net.proofs.Stepping.Lists.{more_at, last_at}
 use Rattle.in_net.proofs.Stepping.Partners.{cell_within}
 use Rattle.in_net.proofs.Stepping.Turns.{some_same}
 use Rattle.in_net.proofs.Stepping.Unused.{few_unused, unused_rises, unused_free, unused_apart}
@@ -158,16 +158,16 @@ more_outer s ends q each here k p got = go (more_at ends q p k got)
 
 -- free ends that get their partners
 pub all_rejoined : (s : SiteParts) (ends : List Point) (free : List FreeEnd) → AreOuterEnds s ends → Rejoins ends s.net.free free → AreFreeAfter s free
-all_rejoined s ends free outer new = record { many = new.many; each = each }
-  where
-    each : (k : ℕ) (f g : FreeEnd) → slice_get s.net.free k ≡ Some f → slice_get free k ≡ Some g → IsFreeAfter s k f g
-    each k f g there got =
-        let lt = slice_get_within s.net.free k f there in
-        let many = outer.many in
-        let q = at_index ends k (omega (arith, lt, many)) in
-        let made : FreeEnd = record { name = f.name; kind = f.kind; end = q.0 } in
-        let same : made ≡ g = some_same (slice_get free k) made g (new.each k f q.0 there q.1) got in
-        subst (IsFreeAfter s k f) same (record { name = refl; kind = refl; end = outer.each k q.0 q.1 })
+all_rejoined s ends free outer new = record {
+  many = new.many;
+  each = λ k f g there got.
+      let lt = slice_get_within s.net.free k f there in
+      let many = outer.many in
+      let q = at_index ends k (omega (arith, lt, many)) in
+      let made : FreeEnd = record { name = f.name; kind = f.kind; end = q.0 } in
+      let same : made ≡ g = some_same (slice_get free k) made g (new.each k f q.0 there q.1) got in
+      subst (IsFreeAfter s k f) same (record { name = refl; kind = refl; end = outer.each k q.0 q.1 });
+}
 
 pub ends_rejoined : (ends : List Point) (old free : List FreeEnd) → length ends ≡ length old → Rejoins ends old free → AreEndsOf ends free
 ends_rejoined ends old free many new = go free ends (new.many ∙ sym many) (λ k g q got at. one k g q got at)
@@ -223,7 +223,7 @@ one_rejoined ends old new k got d h lt many is = record {
     each : (j : ℕ) (f : FreeEnd) (q : Point) → slice_get old j ≡ Some f → slice_get ends j ≡ Some q → (j < k) ⊎ (j ≡ k) → slice_get (set new k made) j ≡ Some (record { name = f.name; kind = f.kind; end = q })
     each j f q at end (inl l) = set_there new k j made (λ e. absurd (omega (arith, l, e))) ∙ h.each j f q l at end
     each j f q at end (inr e) =
-        let old_one : got ≡ f = some_same (slice_get new k) got f (read_at new k got within_new is) (h.rest k f (omega arith) (ap (slice_get old) (sym e) ∙ at)) in
+        let old_one : got ≡ f = some_same (slice_get new k) got f (slice_get_read new _ k got refl within_new is) (h.rest k f (omega arith) (ap (slice_get old) (sym e) ∙ at)) in
         let partner : get_or ends k d ≡ q = get_or_from_slice_get ends k q d (ap (slice_get ends) (sym e) ∙ end) in
         ap (slice_get (set new k made)) e ∙ set_here new k made within_new ∙ ap (λ (g : FreeEnd). let u : FreeEnd = record { name = g.name; kind = g.kind; end = get_or ends k d } in Some u) old_one
         ∙ ap (λ (p : Point). let u : FreeEnd = record { name = f.name; kind = f.kind; end = p } in Some u) partner

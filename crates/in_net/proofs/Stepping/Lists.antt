@@ -1,7 +1,7 @@
 -- What stands in a list with one more element.
-use Rattle.std.proofs.Common.{◌≡◌, ◌⊎◌, inl, inr, ◌<◌, ℕ, zero, suc, true, false, Option, Some, None, is_some, List, [], ◌∷◌, ◌++◌, length, slice_get, get_or, refl, sym, ◌∙◌, ap}
+use Rattle.std.proofs.Common.{◌≡◌, ◌⊎◌, inl, inr, ◌<◌, ℕ, zero, suc, true, false, Option, Some, None, is_some, List, [], ◌∷◌, ◌++◌, length, slice_get, get_or, refl, ◌∙◌, ap}
 use Rattle.std.specs.Prelude.{option_and_then}
-use Rattle.std.proofs.lemmas.Option.{slice_get-get_or, get_or_from_slice_get}
+use Rattle.std.proofs.lemmas.Option.{slice_get_read, get_or_from_slice_get}
 
 pub last_at : {X : Type 0} (xs : List X) (x : X) → slice_get (xs ++ x ∷ []) (length xs) ≡ Some x
 last_at [] x = refl
@@ -23,16 +23,13 @@ more_at (z ∷ xs) x y zero e = inl e
 more_at (z ∷ xs) x y (suc k) e = elim (more_at xs x y k e) [ inl h ↦ inl h | inr h ↦ inr (ap suc h.0, h.1) ]
 
 -- what was read at an index
-pub read_at : {X : Type 0} (xs : List X) (i : ℕ) (x : X) → i < length xs → x ≡ get_or xs i x → slice_get xs i ≡ Some x
-read_at xs i x h e = slice_get-get_or xs i x h ∙ ap Some (sym e)
-
 pub none_read : {X : Type 0} (xs : List (Option X)) (i : ℕ) (o : Option X) → i < length xs → o ≡ get_or xs i o → is_some o ≡ false → slice_get xs i ≡ Some None
-none_read xs i None h e is = read_at xs i None h e
+none_read xs i None h e is = slice_get_read xs (length xs) i None refl h e
 none_read xs i (Some x) h e is = cc
 
 pub some_read : {X : Type 0} (xs : List (Option X)) (i : ℕ) (o : Option X) → i < length xs → o ≡ get_or xs i o → is_some o ≡ true → (x : X) × (slice_get xs i ≡ Some (Some x))
 some_read xs i None h e is = cc
-some_read xs i (Some x) h e is = (x, read_at xs i (Some x) h e)
+some_read xs i (Some x) h e is = (x, slice_get_read xs (length xs) i (Some x) refl h e)
 
 -- what was read where there is something
 pub there_read : {X : Type 0} (xs : List (Option X)) (i : ℕ) (o : Option X) (x : X) → option_and_then (λ (o : Option X). o) (slice_get xs i) ≡ Some x → o ≡ get_or xs i o → o ≡ Some x

@@ -1,6 +1,7 @@
 -- The net after an interaction is one, and so are the lists of active pairs and of those that it makes.
 use Rattle.std.proofs.Common.{◌≡◌, inl, inr, ◌<◌, ℕ, zero, suc, Bool, Option, Some, None, List, [], ◌∷◌, map, length, slice_get, refl, sym, ap, subst, ◌∙◌, arith}
 use Rattle.std.specs.Prelude.{option_map, option_and_then}
+use Rattle.std.proofs.lemmas.Option.{same_Some}
 use Rattle.in_syntax.specs.declared.places.Place.{Place}
 use Rattle.in_symbols.specs.Tables.{Tables}
 use Rattle.in_symbols.specs.declared.symbols.PortType.{PortType}
@@ -34,16 +35,13 @@ module _ {X : Type 0} (Less : X → X → Type 0) (less_once : (x y : X) → Les
   abbrev pub Holds : List X → List X → Type 0
   Holds xs ys = (k : ℕ) (x : X) → slice_get xs k ≡ Some x → (j : ℕ) × (slice_get ys j ≡ Some x)
 
-  same_value : (x y : X) → ◌≡◌ {A = Option X} (Some x) (Some y) → x ≡ y
-  same_value x y e = cc
-
   -- what the lists hold after one first element
   tails_hold : (x y : X) (xs ys : List X) → Rises (x ∷ xs) → x ≡ y → Holds (x ∷ xs) (y ∷ ys) → Holds xs ys
   tails_hold x y xs ys a e h k z p = at (h (suc k) z p)
     where
       at : (j : ℕ) × (slice_get (y ∷ ys) j ≡ Some z) → (j : ℕ) × (slice_get ys j ≡ Some z)
       at (zero, q) =
-          let same : y ≡ z = same_value y z q in
+          let same : y ≡ z = same_Some y z q in
           let l : Less x z = a 0 (suc k) x z (omega arith) refl p in
           let m : Less x x = subst (Less x) (sym same ∙ sym e) l in
           absurd (less_once x x m m)
@@ -53,8 +51,8 @@ module _ {X : Type 0} (Less : X → X → Type 0) (less_once : (x y : X) → Les
   same_head x y xs ys a b h g = go (h 0 x refl) (g 0 y refl)
     where
       go : (j : ℕ) × (slice_get (y ∷ ys) j ≡ Some x) → (j : ℕ) × (slice_get (x ∷ xs) j ≡ Some y) → x ≡ y
-      go (zero, p) q = sym (same_value y x p)
-      go (suc j, p) (zero, q) = same_value x y q
+      go (zero, p) q = sym (same_Some y x p)
+      go (suc j, p) (zero, q) = same_Some x y q
       go (suc j, p) (suc k, q) = absurd (less_once x y (a 0 (suc k) x y (omega arith) refl q) (b 0 (suc j) y x (omega arith) refl p))
 
   tail_rises : (x : X) (xs : List X) → Rises (x ∷ xs) → Rises xs
@@ -118,13 +116,13 @@ same_frees (f ∷ fs) (g ∷ gs) a b h =
     let kinds : map (λ (f : FreeEnd). f.kind) fs ≡ map (λ (f : FreeEnd). f.kind) gs = cc in
     let name : f.name ≡ g.name = cc in
     let names : map (λ (f : FreeEnd). f.name) fs ≡ map (λ (f : FreeEnd). f.name) gs = cc in
-    let end : f.end ≡ g.end = same f.end g.end (h 0) in
+    let end : f.end ≡ g.end = same_Some f.end g.end (h 0) in
     let one : f ≡ g = ap (λ (z : List ℕ). let e : FreeEnd = record { name = z; kind = f.kind; end = f.end } in e) name ∙ ap (λ (z : PortType). let e : FreeEnd = record { name = g.name; kind = z; end = f.end } in e) kind
     ∙ ap (λ (z : coded.Point). let e : FreeEnd = record { name = g.name; kind = g.kind; end = z } in e) end in
     ap (λ (z : FreeEnd). z ∷ fs) one ∙ ap (λ (zs : List FreeEnd). g ∷ zs) (same_frees fs gs kinds names (λ k. h (suc k)))
-  where
-    same : (a b : coded.Point) → ◌≡◌ {A = Option coded.Point} (Some a) (Some b) → a ≡ b
-    same a b e = cc
+
+symbol_of : Option Cell → Option ℕ
+symbol_of o = option_map (λ (s : SymbolNo). s.0) (option_map (λ (c : Cell). c.symbol) o)
 
 same_parts : (m k : Parts) → m.cells ≡ k.cells → m.free ≡ k.free → m.wires ≡ k.wires → m.places ≡ k.places → m.built ≡ k.built → m ≡ k
 same_parts m k a b c d e =
@@ -160,9 +158,6 @@ at_nowhere (v ∷ vs) (suc j) w h e = at_nowhere vs j w (tail v.place _ _ _ h) e
 -- ---- the net after
 
 module _ (n : Parts) (r : RuleParts) (a b : AgentNo) (m k : Parts) (t : Tables) (can : CanInteract t n r a b) (h : Interacts n r a b m) (g : Interacts n r a b k) where
-  same_symbol : (x i : ℕ) → (net_of m).symbol x ≡ Some i → (net_of k).symbol x ≡ Some i
-  same_symbol x i e = ((g.step t can).agents x i).1 (((h.step t can).agents x i).0 e)
-
   same_partner : (u v : Point ℕ) → (net_of m).partner u ≡ Some v → (net_of k).partner u ≡ Some v
   same_partner u v e = ((g.step t can).wires u v).1 (((h.step t can).wires u v).0 e)
 
@@ -185,44 +180,37 @@ module _ (n : Parts) (r : RuleParts) (a b : AgentNo) (m k : Parts) (t : Tables) 
           (i, v.1 ∙ ap (λ (z : Wire). Some z) same)
       by_way i before (inr f) = absurd (not_both w.one w.other before (g.wires.turned i w.other w.one f))
 
-pub one_outcome : (n : Parts) (r : RuleParts) (a b : AgentNo) (m k : Parts) → MayInteract n r a b → IsWhole m → IsWhole k → Interacts n r a b m → Interacts n r a b k → m ≡ k
-one_outcome n r a b m k may whole other h g = same_parts m k cells free wires (h.places ∙ sym g.places) (h.built ∙ sym g.built)
-  where
-    t : Tables
-    t = may.0.0
+-- whatever its wires are listed as
+module _ (n : Parts) (r : RuleParts) (a b : AgentNo) (m k : Parts) (t : Tables) (can : CanInteract t n r a b) (h : Interacts n r a b m) (g : Interacts n r a b k) where
+  partners : (p : coded.Point) → partner_in m p ≡ partner_in k p
+  partners p = same_option (partner_in m p) (partner_in k p) (λ q e. partner_there n r a b m k t can h g p q e) (λ q e. partner_there n r a b k m t can g h p q e)
 
+  symbols : (x : ℕ) → symbol_of (cell_in m x) ≡ symbol_of (cell_in k x)
+  unfolding symbol_of
+  symbols x = same_option _ _ (λ i e. ((g.step t can).agents x i).1 (((h.step t can).agents x i).0 e)) (λ i e. ((h.step t can).agents x i).1 (((g.step t can).agents x i).0 e))
+
+  one_cell : (x : ℕ) (o p : Option Cell) → cell_in m x ≡ o → cell_in k x ≡ p → o ≡ p
+  unfolding symbol_of
+  one_cell x None None e f = refl
+  one_cell x None (Some d) e f = let s : symbol_of None ≡ symbol_of (Some d) = ap symbol_of (sym e) ∙ symbols x ∙ ap symbol_of f in cc
+  one_cell x (Some c) None e f = let s : symbol_of (Some c) ≡ symbol_of None = ap symbol_of (sym e) ∙ symbols x ∙ ap symbol_of f in cc
+  one_cell x (Some c) (Some d) e f =
+      let s : Some c.symbol.0 ≡ Some d.symbol.0 = ap symbol_of (sym e) ∙ symbols x ∙ ap symbol_of f in
+      let symbol : c.symbol ≡ d.symbol = ap (λ (z : ℕ). let y : SymbolNo = record { 0 = z } in y) (same_Some c.symbol.0 d.symbol.0 s) in
+      let ends : c.ends ≡ d.ends = all_same c.ends d.ends (λ i. ap (option_and_then (λ (c : Cell). slice_get c.ends i)) (sym e) ∙ partners (code.Port (record { 0 = x }) i) ∙ ap (option_and_then (λ (c : Cell). slice_get c.ends i)) f) in
+      ap (λ (z : SymbolNo). let y : Cell = record { symbol = z; ends = c.ends } in Some y) symbol ∙ ap (λ (z : List coded.Point). let y : Cell = record { symbol = d.symbol; ends = z } in Some y) ends
+
+  pub one_cells : m.cells ≡ k.cells
+  one_cells = same_cells m.cells k.cells (h.numbers ∙ sym g.numbers) (λ x. one_cell x (cell_in m x) (cell_in k x) refl refl)
+
+  pub one_free : m.free ≡ k.free
+  one_free = same_frees m.free k.free ((h.step t can).free ∙ sym (g.step t can).free) (h.names ∙ sym g.names) (λ j. partners (code.Free j))
+
+pub one_outcome : (n : Parts) (r : RuleParts) (a b : AgentNo) (m k : Parts) → MayInteract n r a b → IsWhole m → IsWhole k → Interacts n r a b m → Interacts n r a b k → m ≡ k
+one_outcome n r a b m k may whole other h g = same_parts m k (one_cells n r a b m k may.0.0 can h g) (one_free n r a b m k may.0.0 can h g) wires (h.places ∙ sym g.places) (h.built ∙ sym g.built)
+  where
     can : CanInteract may.0.0 n r a b
     can = may.0.1
-
-    partners : (p : coded.Point) → partner_in m p ≡ partner_in k p
-    partners p = same_option (partner_in m p) (partner_in k p) (λ q e. partner_there n r a b m k may.0.0 can h g p q e) (λ q e. partner_there n r a b k m may.0.0 can g h p q e)
-
-    symbols : (x : ℕ) → (net_of m).symbol x ≡ (net_of k).symbol x
-    symbols x = same_option ((net_of m).symbol x) ((net_of k).symbol x) (λ i e. same_symbol n r a b m k may.0.0 can h g x i e) (λ i e. same_symbol n r a b k m may.0.0 can g h x i e)
-
-    one_cell : (x : ℕ) (o p : Option Cell) → cell_in m x ≡ o → cell_in k x ≡ p → o ≡ p
-    one_cell x None None e f = refl
-    one_cell x None (Some d) e f =
-        let s : option_map (λ (s : SymbolNo). s.0) (option_map (λ (c : Cell). c.symbol) None) ≡ option_map (λ (s : SymbolNo). s.0) (option_map (λ (c : Cell). c.symbol) (Some d)) =
-        ap (λ (o : Option Cell). option_map (λ (s : SymbolNo). s.0) (option_map (λ (c : Cell). c.symbol) o)) (sym e) ∙ symbols x ∙ ap (λ (o : Option Cell). option_map (λ (s : SymbolNo). s.0) (option_map (λ (c : Cell). c.symbol) o)) f in
-        cc
-    one_cell x (Some c) None e f =
-        let s : option_map (λ (s : SymbolNo). s.0) (option_map (λ (c : Cell). c.symbol) (Some c)) ≡ option_map (λ (s : SymbolNo). s.0) (option_map (λ (c : Cell). c.symbol) None) =
-        ap (λ (o : Option Cell). option_map (λ (s : SymbolNo). s.0) (option_map (λ (c : Cell). c.symbol) o)) (sym e) ∙ symbols x ∙ ap (λ (o : Option Cell). option_map (λ (s : SymbolNo). s.0) (option_map (λ (c : Cell). c.symbol) o)) f in
-        cc
-    one_cell x (Some c) (Some d) e f =
-        let s : Some c.symbol.0 ≡ Some d.symbol.0 =
-        ap (λ (o : Option Cell). option_map (λ (s : SymbolNo). s.0) (option_map (λ (c : Cell). c.symbol) o)) (sym e) ∙ symbols x ∙ ap (λ (o : Option Cell). option_map (λ (s : SymbolNo). s.0) (option_map (λ (c : Cell). c.symbol) o)) f in
-        let number : c.symbol.0 ≡ d.symbol.0 = cc in
-        let symbol : c.symbol ≡ d.symbol = ap (λ (z : ℕ). let y : SymbolNo = record { 0 = z } in y) number in
-        let ends : c.ends ≡ d.ends = all_same c.ends d.ends (λ i. ap (option_and_then (λ (c : Cell). slice_get c.ends i)) (sym e) ∙ partners (code.Port (record { 0 = x }) i) ∙ ap (option_and_then (λ (c : Cell). slice_get c.ends i)) f) in
-        ap (λ (z : SymbolNo). let y : Cell = record { symbol = z; ends = c.ends } in Some y) symbol ∙ ap (λ (z : List coded.Point). let y : Cell = record { symbol = d.symbol; ends = z } in Some y) ends
-
-    cells : m.cells ≡ k.cells
-    cells = same_cells m.cells k.cells (h.numbers ∙ sym g.numbers) (λ x. one_cell x (cell_in m x) (cell_in k x) refl refl)
-
-    free : m.free ≡ k.free
-    free = same_frees m.free k.free ((h.step may.0.0 can).free ∙ sym (g.step may.0.0 can).free) (h.names ∙ sym g.names) (λ j. partners (code.Free j))
 
     wires : m.wires ≡ k.wires
     wires =

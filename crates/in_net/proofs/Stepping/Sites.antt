@@ -1,7 +1,7 @@
 -- Where two agents can interact: the net and the right member are nets, the pair is one of the definitions, and the unused numbers are names.
-use Rattle.std.proofs.Common.{◌≡◌, ◌⊎◌, inl, inr, ◌+◌, ◌-◌, ◌<◌, ◌≤◌, ℕ, zero, suc, true, false, cond, nat_lt, Option, Some, None, List, [], ◌∷◌, ◌++◌, map, length, length-append, refl, sym, ap, ◌∙◌, arith, slice_get}
+use Rattle.std.proofs.Common.{◌≡◌, ◌⊎◌, inl, inr, ◌+◌, ◌-◌, ◌<◌, ◌≤◌, ℕ, zero, suc, true, false, cond, nat_eq, nat_lt, Option, Some, None, List, [], ◌∷◌, ◌++◌, map, length, length-append, refl, sym, ap, ◌∙◌, arith, slice_get}
 use Rattle.std.specs.Prelude.{option_map}
-use Rattle.std.proofs.lemmas.Bool.Decides.{leb_tells}
+use Rattle.std.proofs.lemmas.Bool.Decides.{leb_tells, nat_tests}
 use Rattle.std.proofs.lemmas.List.{length-map}
 use Rattle.in_syntax.specs.Grammar.{max_ports}
 use Rattle.in_symbols.specs.declared.symbols.PortType.{PortType}
@@ -24,6 +24,9 @@ use Rattle.in_net.proofs.Stepping.Unused.{unused_free, unused_apart}
 pub lt_tells : (a b : ℕ) → ((nat_lt a b ≡ true) × (a < b)) ⊎ ((nat_lt a b ≡ false) × (b ≤ a))
 lt_tells a b = elim (leb_tells (suc a) b) [ inl h ↦ inl (h.0, omega (arith, h.1)) | inr h ↦ inr (h.0, omega (arith, h.1)) ]
 
+pub equal_turned : (m n : ℕ) → nat_eq m n ≡ nat_eq n m
+equal_turned m n = grind (arith, nat_tests)
+
 -- ---- the types of boundary ends
 
 types_at : (t : Tables) (s i n e : ℕ) (y : PortType) → slice_get (types_from t s i n) e ≡ Some y → (y ≡ port_at t s (i + e)) × (e < n)
@@ -39,11 +42,11 @@ of_append [] ys i x e = let k : i - 0 ≡ i = omega arith in inr (omega arith, a
 of_append (z ∷ xs) ys zero x e = inl (omega arith, e)
 of_append (z ∷ xs) ys (suc i) x e = elim (of_append xs ys i x e) [ inl h ↦ inl (let k = h.0 in omega arith, h.1) | inr h ↦ inr (let k = h.0 in omega arith, (let k : suc i - suc (length xs) ≡ i - length xs = omega arith in ap (λ z. slice_get ys z) k) ∙ h.1) ]
 
-types_many : (t : Tables) (s i n : ℕ) → length (types_from t s i n) ≡ n
+pub types_many : (t : Tables) (s i n : ℕ) → length (types_from t s i n) ≡ n
 types_many t s i zero = refl
 types_many t s i (suc n) = ap suc (types_many t s (i + 1) n)
 
-declared_at : (t : Tables) (p : RuleParts) (one two : ℕ) → map (λ (f : FreeEnd). f.kind) p.member.free ≡ auxiliary_types t p.heads.0.0 ++ auxiliary_types t p.heads.1.0 → (e : ℕ) (y : PortType) →
+pub declared_at : (t : Tables) (p : RuleParts) (one two : ℕ) → map (λ (f : FreeEnd). f.kind) p.member.free ≡ auxiliary_types t p.heads.0.0 ++ auxiliary_types t p.heads.1.0 → (e : ℕ) (y : PortType) →
     slice_get (map (λ (f : FreeEnd). f.kind) p.member.free) e ≡ Some y → y ≡ port_at t (end_symbol (signature_of t) (redex_at p one two) e) (end_place (signature_of t) (redex_at p one two) e)
 declared_at t p one two types e y h = elim (of_append (auxiliary_types t p.heads.0.0) (auxiliary_types t p.heads.1.0) e y (ap (λ z. slice_get z e) (sym types) ∙ h)) [
   | inl k ↦

@@ -1,6 +1,7 @@
 -- Numbers without an agent: as they are found, how large they are, and that they are new.
 use Rattle.std.proofs.Common.{◌≡◌, ◌⊎◌, inl, inr, ◌+◌, ◌-◌, ◌<◌, ◌≤◌, ℕ, zero, suc, Option, Some, None, List, [], ◌∷◌, ◌++◌, length, length-append, drop, cond, count_by, is_some, slice_get, refl, sym, ap, subst, ◌∙◌, arith}
 use Rattle.std.specs.Prelude.{option_and_then}
+use Rattle.std.proofs.lemmas.List.{drop_all}
 use Rattle.std.proofs.lemmas.List.Sums.{sum_by-cons}
 use Rattle.in_net.specs.After.{AreEmptyNumbers}
 use Rattle.in_net.specs.Interacting.{unused}
@@ -78,15 +79,11 @@ not_found cs count i found h o = record { few = h.few; names = h.names; rest = �
         ∙ (let z : i + suc (unused (drop (i + 1) cs) (k - length found)) ≡ i + 1 + unused (drop (i + 1) cs) (k - length found) = omega arith in z)
     go (inr full) k le lt = absurd (omega (arith, full, le, lt))
 
-drop_all : (cs : List (Option Cell)) → drop (length cs) cs ≡ []
-drop_all [] = refl
-drop_all (c ∷ cs) = drop_all cs
-
 pub all_found : (cs : List (Option Cell)) (count : ℕ) (found : List AgentNo) → AreFound cs count (length cs) found → AreEmptyNumbers cs count found
 all_found cs count found h = record {
   few = h.few;
   names = h.names;
-  rest = λ k le lt. h.rest k le lt ∙ ap (λ z. length cs + unused z (k - length found)) (drop_all cs);
+  rest = λ k le lt. h.rest k le lt ∙ ap (λ z. length cs + unused z (k - length found)) (drop_all (length cs) cs (omega arith));
 }
 
 -- ---- how large they are

@@ -1,4 +1,4 @@
-use Rattle.std.proofs.Common.{◌≡◌, ◌≤◌, ◌+◌, ◌*◌, ℕ, Option, Some, None, List, length, take, count_by, is_some, sym, ap, subst, ◌∙◌, arith}
+use Rattle.std.proofs.Common.{◌≡◌, ◌≤◌, ◌+◌, ◌*◌, ℕ, Option, Some, None, List, length, take, count_by, is_some, sym, ap, subst, ◌∙◌, arith, refl}
 use Rattle.std.specs.Prelude.{option_and_then}
 use Rattle.in_syntax.specs.Grammar.{max_ports}
 use Rattle.in_net.specs.Listing.{unlisted, AreEndsOf, AreListed}
@@ -8,7 +8,7 @@ use Rattle.in_net.specs.declared.nets.Cell.{Cell}
 use Rattle.in_net.specs.declared.nets.FreeEnd.{FreeEnd}
 use Rattle.in_net.specs.declared.nets.Point.TheVariants.{Port, Free}
 use Rattle.in_net.specs.declared.nets.Wire.{Wire}
-use Rattle.in_net.proofs.Stepping.Lists.{read_at}
+use Rattle.std.proofs.lemmas.Option.{slice_get_read}
 use Rattle.in_net.proofs.Stepping.Turns.{some_same}
 use Rattle.in_net.proofs.Stepping.Wires.{first_agent, next_agent, all_agents, is_many, counted_yes, counted_no, all_taken, none_at}
 use Rattle.in_net.proofs.listing.wires.Goals as goal
@@ -21,7 +21,7 @@ loop-number-init c =
 
 pub add_wires-requires : goal.add_wires-requires
 add_wires-requires c =
-    let read = read_at c.args.cells.now c.loop-number.number c.index-cells-number.result c.loop-number-test.true c.index-cells-number.is in
+    let read = slice_get_read c.args.cells.now _ c.loop-number.number c.index-cells-number.result refl c.loop-number-test.true c.index-cells-number.is in
     let most = c.requires.ports c.loop-number.number c.in-Some.cell (ap (option_and_then (λ (c : Option Cell). c)) read ∙ c.in-Some.is) in
     let same : length c.as_slice.result.now ≡ length c.in-Some.cell.ends = ap length c.as_slice.ensures in
     omega (arith, most, same)
@@ -29,7 +29,7 @@ add_wires-requires c =
 pub loop-number-preserved : goal.loop-number-preserved
 loop-number-preserved c =
     let x = c.loop-number.number in
-    let here = read_at c.args.cells.now x c.index-cells-number.result c.loop-number-test.true c.index-cells-number.is in
+    let here = slice_get_read c.args.cells.now _ x c.index-cells-number.result refl c.loop-number-test.true c.index-cells-number.is in
     let few = c.loop-number.invariant.few in
     let Kept : List Wire → Type 0 = λ ws.
     (length ws ≤ length c.args.ends.now + (max_ports + 1) * count_by is_some (take (x + 1) c.args.cells.now))

@@ -1,4 +1,4 @@
-use Rattle.std.proofs.Common.{◌≡◌, inl, inr, List, Option, Some, slice_get, sym, ap, subst, ◌∙◌, eq-eqb}
+use Rattle.std.proofs.Common.{◌≡◌, inl, inr, List, Option, Some, slice_get, sym, ap, subst, ◌∙◌, eq-eqb, refl}
 use Rattle.std.proofs.lemmas.Bool.{eqb-true, true≢false}
 use Rattle.std.specs.Prelude.{option_and_then}
 use Rattle.in_net.specs.After.{StaysAt}
@@ -6,7 +6,7 @@ use Rattle.in_net.specs.Following.{SiteParts}
 use Rattle.in_net.specs.Parts.{cell_in}
 use Rattle.in_net.specs.declared.nets.Cell.{Cell}
 use Rattle.in_net.proofs.Stepping.Cells.{after_kept, after_pair}
-use Rattle.in_net.proofs.Stepping.Lists.{read_at}
+use Rattle.std.proofs.lemmas.Option.{slice_get_read}
 use Rattle.in_net.proofs.following.Site.cell.Goals as goal
 use Rattle.in_net.proofs.following.Site.cell.Goals.{then-number-self, else-number-self}
 
@@ -16,7 +16,7 @@ returns-then-number-self-2 c =
     let there : cell_in s.net c.args.number.0 ≡ Some c.in-Some-Some.cell =
     (let h = c.in-Some-Some.ensures.lookup in
     let listed : c.cells.result.now ≡ s.net.cells = c.cells.ensures ∙ ap (λ (s : SiteParts). s.net.cells) c.self.view_is in
-    let read = subst (λ (cs : List (Option Cell)). slice_get cs c.args.number.0 ≡ Some c.in-Some-Some.field-0.now) listed (read_at c.cells.result.now c.args.number.0 c.in-Some-Some.field-0.now h.3.0 h.1) in
+    let read = subst (λ (cs : List (Option Cell)). slice_get cs c.args.number.0 ≡ Some c.in-Some-Some.field-0.now) listed (slice_get_read c.cells.result.now _ c.args.number.0 c.in-Some-Some.field-0.now refl h.3.0 h.1) in
     ap (option_and_then (λ (c : Option Cell). c)) read ∙ c.in-Some-Some.field-0-is) in
     let one : c.self.inside.one.0 ≡ s.one.0 = ap (λ (s : SiteParts). s.one.0) c.self.view_is in
     let two : c.self.inside.two.0 ≡ s.two.0 = ap (λ (s : SiteParts). s.two.0) c.self.view_is in
@@ -31,7 +31,7 @@ returns-in_ok-kept-in-Some-Some c =
     let there : cell_in s.net c.args.number.0 ≡ Some c.in-Some-Some.cell =
     (let h = c.in-Some-Some.ensures.lookup in
     let listed : c.cells.result.now ≡ s.net.cells = c.cells.ensures ∙ ap (λ (s : SiteParts). s.net.cells) c.self.view_is in
-    let read = subst (λ (cs : List (Option Cell)). slice_get cs c.args.number.0 ≡ Some c.in-Some-Some.field-0.now) listed (read_at c.cells.result.now c.args.number.0 c.in-Some-Some.field-0.now h.3.0 h.1) in
+    let read = subst (λ (cs : List (Option Cell)). slice_get cs c.args.number.0 ≡ Some c.in-Some-Some.field-0.now) listed (slice_get_read c.cells.result.now _ c.args.number.0 c.in-Some-Some.field-0.now refl h.3.0 h.1) in
     ap (option_and_then (λ (c : Option Cell). c)) read ∙ c.in-Some-Some.field-0-is) in
     let one : c.self.inside.one.0 ≡ s.one.0 = ap (λ (s : SiteParts). s.one.0) c.self.view_is in
     let two : c.self.inside.two.0 ≡ s.two.0 = ap (λ (s : SiteParts). s.two.0) c.self.view_is in
