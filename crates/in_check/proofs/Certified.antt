@@ -13,7 +13,8 @@ use Rattle.in_simple.proofs.TextRules.{rule_whole}
 use Rattle.in_check.specs.declared.checked.Certificate.{Certificate}
 use Rattle.in_check.specs.Certificates.{Certifies, CertifiesRule, CertifiesRules, CertifiesSome}
 use Rattle.in_check.specs.Checking.{BuildsRules}
-use Rattle.in_check.proofs.Passes.{all_of, last_or_before}
+use Rattle.in_net.proofs.Stepping.Lists.{more_at}
+use Rattle.in_check.proofs.Passes.{all_of}
 use Rattle.in_base.proofs.Each.{at_index}
 
 -- ---- rule by rule
@@ -40,7 +41,7 @@ same_rule p q e = cc
 pub one_more_certified : (t : Tables) (rules : List RuleParts) (cs more : List Certificate) (p : RuleParts) (c : Certificate) → more ≡ cs ++ c ∷ [] → slice_get rules (length cs) ≡ Some p →
     ((j : ℕ) (q : RuleParts) (d : Certificate) → slice_get rules j ≡ Some q → slice_get cs j ≡ Some d → CertifiesRule t q (Ok d)) → CertifiesRule t p (Ok c) →
     (j : ℕ) (q : RuleParts) (d : Certificate) → slice_get rules j ≡ Some q → slice_get more j ≡ Some d → CertifiesRule t q (Ok d)
-one_more_certified t rules cs more p c grown at each made j q d e f = by_side (last_or_before cs c d j (ap (λ z. slice_get z j) (sym grown) ∙ f))
+one_more_certified t rules cs more p c grown at each made j q d e f = by_side (more_at cs c d j (ap (λ z. slice_get z j) (sym grown) ∙ f))
   where
     by_side : (slice_get cs j ≡ Some d) ⊎ ((j ≡ length cs) × (c ≡ d)) → CertifiesRule t q (Ok d)
     by_side (inl h) = each j q d e h

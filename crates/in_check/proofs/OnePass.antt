@@ -1,5 +1,5 @@
 -- Each pass that goes rule by rule has one answer, and so have the steps.
-use Rattle.std.proofs.Common.{◌≡◌, ◌⊎◌, inl, inr, ℕ, ◌<◌, List, length, Some, slice_get, Ok, Err, sym, ◌∙◌, ap, subst, arith}
+use Rattle.std.proofs.Common.{◌≡◌, inl, inr, ℕ, ◌<◌, List, length, Some, slice_get, Ok, Err, sym, ◌∙◌, ap, subst, arith}
 use Rattle.std.proofs.lemmas.Bool.{cases_order}
 use Rattle.std.proofs.lemmas.Option.{slice_get_within}
 use Rattle.in_syntax.specs.declared.faults.Code.{Code}
@@ -25,6 +25,10 @@ use Rattle.in_check.specs.Checking.{BuildsRules, TypesRules, TypePasses}
 use Rattle.in_check.proofs.Certified.{same_rule}
 use Rattle.in_base.proofs.Each.{at_index, all_at}
 
+-- of two numbers neither of which comes before the other, what holds where they are one
+of_neither : {P : Type 0} (i j : ℕ) → (i ≡ j → P) → (i < j → ⊥) → (j < i → ⊥) → P
+of_neither i j same before after = elim (cases_order i j) [ inl e ↦ same e | inr z ↦ elim z [ inl lt ↦ absurd (before lt) | inr lt ↦ absurd (after lt) ] ]
+
 -- ---- the rules of a text
 
 pub one_rules : (s : Source) (t : Tables) → ((i : ℕ) → IsOne (BuildsRule s t i)) → IsOne (BuildsRules s t)
@@ -38,12 +42,11 @@ one_rules s t one (Err (Refused q)) (Ok ys) h k =
     let there : h.number < length s.rules = slice_get_within s.rules h.number h.stands.0 h.stands.1 in
     let y = at_index ys h.number (let e = k.count in omega (arith, there, e)) in
     one h.number (Err (Refused q)) (Ok y.0) h.stands (k.each h.number y.0 y.1)
-one_rules s t one (Err (Refused q)) (Err (Refused r)) h k = by_order (cases_order h.number k.number)
-  where
-    by_order : (h.number ≡ k.number) ⊎ ((h.number < k.number) ⊎ (k.number < h.number)) → q ≡ r
-    by_order (inr (inl lt)) = let x = k.first h.number lt in absurd (one h.number (Ok x.0) (Err (Refused q)) x.1 h.stands)
-    by_order (inl e) = one k.number (Err (Refused q)) (Err (Refused r)) (subst (λ i. BuildsRule s t i (Err (Refused q))) e h.stands) k.stands
-    by_order (inr (inr lt)) = let x = h.first k.number lt in absurd (one k.number (Ok x.0) (Err (Refused r)) x.1 k.stands)
+one_rules s t one (Err (Refused q)) (Err (Refused r)) h k =
+    of_neither h.number k.number
+    (λ e. one k.number (Err (Refused q)) (Err (Refused r)) (subst (λ i. BuildsRule s t i (Err (Refused q))) e h.stands) k.stands)
+    (λ lt. let x = k.first h.number lt in one h.number (Ok x.0) (Err (Refused q)) x.1 h.stands)
+    (λ lt. let x = h.first k.number lt in one k.number (Ok x.0) (Err (Refused r)) x.1 k.stands)
 one_rules s t one (Err (Refused q)) (Err (Memory e)) h k = tt
 one_rules s t one (Err (Memory e)) b h k = tt
 
@@ -53,14 +56,12 @@ rules_not_both : (t : Tables) (rules : List RuleParts) (r : Refusal) → TypesRu
 rules_not_both t rules r h k = rule_not_both t k.rule r (all_at (λ p. TypesRule t p (Ok tt)) rules k.number k.rule h k.stands) k.refused
 
 one_rules_refusal : (t : Tables) (rules : List RuleParts) (q r : Refusal) → TypesRules t rules (Err q) → TypesRules t rules (Err r) → q ≡ r
-one_rules_refusal t rules q r h k = by_order (cases_order h.number k.number)
-  where
-    by_order : (h.number ≡ k.number) ⊎ ((h.number < k.number) ⊎ (k.number < h.number)) → q ≡ r
-    by_order (inr (inl lt)) = absurd (rule_not_both t h.rule q (k.first h.number h.rule lt h.stands) h.refused)
-    by_order (inl e) =
-        let rule : h.rule ≡ k.rule = same_rule h.rule k.rule (sym h.stands ∙ ap (slice_get rules) e ∙ k.stands) in
-        one_rule_mistyped t k.rule q r (subst (λ p. IsRuleMistyped t p q) rule h.refused) k.refused
-    by_order (inr (inr lt)) = absurd (rule_not_both t k.rule r (h.first k.number k.rule lt k.stands) k.refused)
+one_rules_refusal t rules q r h k =
+    of_neither h.number k.number
+    (λ e.
+    let rule : h.rule ≡ k.rule = same_rule h.rule k.rule (sym h.stands ∙ ap (slice_get rules) e ∙ k.stands) in
+    one_rule_mistyped t k.rule q r (subst (λ p. IsRuleMistyped t p q) rule h.refused) k.refused)
+    (λ lt. rule_not_both t h.rule q (k.first h.number h.rule lt h.stands) h.refused) (λ lt. rule_not_both t k.rule r (h.first k.number k.rule lt k.stands) k.refused)
 
 pub one_types : (t : Tables) (rules : List RuleParts) (n : Parts) → IsOneBy (λ (u v : Unit {0}). Unit {0}) (TypePasses t rules n)
 one_types t rules n (Ok u) (Ok v) h k = tt
@@ -122,13 +123,12 @@ one_rules_steps t rules one (Err (Refused q)) (Ok ds) h k =
     let lt = slice_get_within rules h.number h.rule h.stands in
     let d = at_index ds h.number (let e = k.count in omega (arith, lt, e)) in
     one h.number h.rule h.stands (Err (Refused q)) (Ok d.0) h.refused (k.each h.number h.rule d.0 h.stands d.1)
-one_rules_steps t rules one (Err (Refused q)) (Err (Refused r)) h k = by_order (cases_order h.number k.number)
-  where
-    by_order : (h.number ≡ k.number) ⊎ ((h.number < k.number) ⊎ (k.number < h.number)) → q ≡ r
-    by_order (inr (inl lt)) = let c = k.first h.number h.rule lt h.stands in absurd (one h.number h.rule h.stands (Ok c.0) (Err (Refused q)) c.1 h.refused)
-    by_order (inl e) =
-        let rule : h.rule ≡ k.rule = same_rule h.rule k.rule (sym h.stands ∙ ap (slice_get rules) e ∙ k.stands) in
-        one k.number k.rule k.stands (Err (Refused q)) (Err (Refused r)) (subst (λ p. CertifiesRule t p (Err (Refused q))) rule h.refused) k.refused
-    by_order (inr (inr lt)) = let c = h.first k.number k.rule lt k.stands in absurd (one k.number k.rule k.stands (Ok c.0) (Err (Refused r)) c.1 k.refused)
+one_rules_steps t rules one (Err (Refused q)) (Err (Refused r)) h k =
+    of_neither h.number k.number
+    (λ e.
+    let rule : h.rule ≡ k.rule = same_rule h.rule k.rule (sym h.stands ∙ ap (slice_get rules) e ∙ k.stands) in
+    one k.number k.rule k.stands (Err (Refused q)) (Err (Refused r)) (subst (λ p. CertifiesRule t p (Err (Refused q))) rule h.refused) k.refused)
+    (λ lt. let c = k.first h.number h.rule lt h.stands in one h.number h.rule h.stands (Ok c.0) (Err (Refused q)) c.1 h.refused)
+    (λ lt. let c = h.first k.number k.rule lt k.stands in one k.number k.rule k.stands (Ok c.0) (Err (Refused r)) c.1 k.refused)
 one_rules_steps t rules one (Err (Refused q)) (Err (Memory e)) h k = tt
 one_rules_steps t rules one (Err (Memory e)) b h k = tt

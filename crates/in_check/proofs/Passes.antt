@@ -1,5 +1,5 @@
 -- What the passes say of rules, one after another.
-use Rattle.std.proofs.Common.{◌≡◌, ◌⊎◌, inl, inr, List, [], ◌∷◌, ◌++◌, length, ℕ, zero, suc, ◌<◌, Option, Some, None, slice_get, Ok, Err, refl, sym, ◌∙◌, ap, subst, arith}
+use Rattle.std.proofs.Common.{◌≡◌, ◌⊎◌, inl, inr, List, [], ◌∷◌, ◌++◌, length, ℕ, suc, ◌<◌, Some, slice_get, Ok, Err, refl, sym, ◌∙◌, ap, subst, arith}
 use Rattle.std.specs.List.{AllByRecursion}
 use Rattle.std.proofs.lemmas.Option.{slice_get_within}
 use Rattle.in_syntax.specs.declared.faults.Fault.{Fault}
@@ -7,6 +7,7 @@ use Rattle.in_syntax.specs.declared.faults.Fault.TheVariants.{Refused, Memory}
 use Rattle.in_syntax.specs.declared.tree.Source.{Source}
 use Rattle.in_symbols.specs.Tables.{Tables}
 use Rattle.in_net.specs.Rules.{RuleParts, BuildsRule, IsRuleOver}
+use Rattle.in_net.proofs.Stepping.Lists.{more_at}
 use Rattle.in_typing.specs.Typed.{TypesRule}
 use Rattle.in_cover.specs.Cover.{IsOfPair}
 use Rattle.in_check.specs.Checking.{BuildsRules, TypesRules}
@@ -24,15 +25,9 @@ at_rule s t rules i (Refused r) count each refuses = record {
 }
 
 -- one more rule is built
-pub last_or_before : {X : Type 0} (rules : List X) (rule p : X) (j : ℕ) → slice_get (rules ++ rule ∷ []) j ≡ Some p → (slice_get rules j ≡ Some p) ⊎ ((j ≡ length rules) × (rule ≡ p))
-last_or_before [] rule p zero e = inr (refl, (let same : rule ≡ p = cc in same))
-last_or_before {X} [] rule p (suc j) e = absurd (let wrong : ◌≡◌ {A = Option X} None (Some p) = e in cc)
-last_or_before (x ∷ rules) rule p zero e = inl e
-last_or_before (x ∷ rules) rule p (suc j) e = elim (last_or_before rules rule p j e) [ inl h ↦ inl h | inr h ↦ inr (ap suc h.0, h.1) ]
-
 pub one_more : (s : Source) (t : Tables) (rules more : List RuleParts) (rule : RuleParts) → more ≡ rules ++ rule ∷ [] → ((j : ℕ) (p : RuleParts) → slice_get rules j ≡ Some p → BuildsRule s t j (Ok p)) → BuildsRule s t (length rules) (Ok rule) →
     (j : ℕ) (p : RuleParts) → slice_get more j ≡ Some p → BuildsRule s t j (Ok p)
-one_more s t rules more rule grown each built j p is = by_side (last_or_before rules rule p j (ap (λ z. slice_get z j) (sym grown) ∙ is))
+one_more s t rules more rule grown each built j p is = by_side (more_at rules rule p j (ap (λ z. slice_get z j) (sym grown) ∙ is))
   where
     by_side : (slice_get rules j ≡ Some p) ⊎ ((j ≡ length rules) × (rule ≡ p)) → BuildsRule s t j (Ok p)
     by_side (inl h) = each j p h

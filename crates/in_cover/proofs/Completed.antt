@@ -2,13 +2,13 @@
 use Rattle.std.proofs.Common.{◌≡◌, ◌⊎◌, ◌↔◌, ℕ, ◌<◌, ◌≤◌, Bool, true, false, nat_eq, ◌&&◌, List, length, Option, Some, None, IsSome, refl, sym, ◌∙◌, ap, subst, inl, inr, arith}
 use Rattle.std.specs.List.{AllByRecursion}
 use Rattle.std.proofs.lemmas.Bool.{cases_lt, cases_order, and_parts}
-use Rattle.std.proofs.lemmas.Bool.Decides.{nat_tests}
 use Rattle.std.proofs.lemmas.Option.{none-some, same_Some, slice_get_within}
 use Rattle.in_syntax.specs.declared.faults.Refusal.{Refusal}
 use Rattle.in_symbols.specs.Tables.{Tables, port_at, is_constructor, are_opposite, matching}
 use Rattle.in_net.specs.Rules.{RuleParts}
+use Rattle.in_net.proofs.Stepping.Sites.{equal_turned}
 use Rattle.in_cover.specs.declared.table.RuleNo.{RuleNo}
-use Rattle.in_cover.specs.Cover.{IsPair, IsOfPair, IsFor, IsRuleFor, IsComplete, IsTableOf, IsMissing, IsMissingAt, IsFirstMissing}
+use Rattle.in_cover.specs.Cover.{IsPair, IsOfPair, IsRuleFor, IsComplete, IsTableOf, IsMissing, IsMissingAt, IsFirstMissing}
 use Rattle.in_cover.specs.Covering.{HoldsBelow, IsGap, HasNoGapBelow, HasNoGapIn}
 use Rattle.in_cover.specs.Table.{Cells, rule_at}
 use Rattle.in_cover.proofs.Numbered.{turn_rule}
@@ -25,9 +25,6 @@ opposite_turned false false = refl
 not_itself : (a : Bool) → are_opposite a a ≡ true → ⊥
 not_itself true e = cc
 not_itself false e = cc
-
-equal_turned : (m n : ℕ) → nat_eq m n ≡ nat_eq n m
-equal_turned m n = grind (arith, nat_tests)
 
 matching_turned : (t : Tables) (c d : ℕ) → matching t c d ≡ matching t d c
 matching_turned t c d =
@@ -50,16 +47,6 @@ module _ (t : Tables) (rules : List RuleParts) (table : Cells) (pairs : AllByRec
   turned : (c d : ℕ) (k : RuleNo) → rule_at table c d ≡ Some k → rule_at table d c ≡ Some k
   turned c d k e = (number d c k).1 (turn_rule rules k.0 c d ((number c d k).0 e))
 
-  of_pair : (c d k : ℕ) → IsRuleFor rules k c d → IsPair t c d
-  of_pair c d k h = by h.symbols
-    where
-      own : IsPair t h.rule.heads.0.0 h.rule.heads.1.0
-      own = all_at (IsOfPair t) rules k h.rule pairs h.stands
-
-      by : IsFor h.rule c d → IsPair t c d
-      by (inl e) = subst (λ x. IsPair t x d) e.0 (subst (λ y. IsPair t h.rule.heads.0.0 y) e.1 own)
-      by (inr e) = turn_pair t d c (subst (λ x. IsPair t x c) e.0 (subst (λ y. IsPair t h.rule.heads.0.0 y) e.1 own))
-
   -- ---- without a gap
 
   module _ (full : HasNoGapIn t table (length t.names)) where
@@ -77,17 +64,19 @@ module _ (t : Tables) (rules : List RuleParts) (table : Cells) (pairs : AllByRec
     found : (c d : ℕ) → IsPair t c d → (k : RuleNo) × (rule_at table c d ≡ Some k)
     found c d pair = found_by c d pair (cases_order c d)
 
-    same_number : (c d j k : ℕ) → IsRuleFor rules j c d → IsRuleFor rules k c d → j ≡ k
-    same_number c d j k h i =
-        let one : RuleNo = record { 0 = j } in
-        let other : RuleNo = record { 0 = k } in
-        ap (λ (n : RuleNo). n.0) (same_Some one other (sym ((number c d one).1 h) ∙ (number c d other).1 i))
-
     pub complete : IsComplete t rules
     complete = record {
       at_least_one = λ c d pair. let k = found c d pair in (k.0.0, (number c d k.0).0 k.1);
-      at_most_one = λ c d j k h i. same_number c d j k h i;
-      pairs_alone = λ c d k h. of_pair c d k h;
+      at_most_one = λ c d j k h i.
+          let one : RuleNo = record { 0 = j } in
+          let other : RuleNo = record { 0 = k } in
+          ap (λ (n : RuleNo). n.0) (same_Some one other (sym ((number c d one).1 h) ∙ (number c d other).1 i));
+      pairs_alone = λ c d k h.
+          let own : IsPair t h.rule.heads.0.0 h.rule.heads.1.0 = all_at (IsOfPair t) rules k h.rule pairs h.stands in
+          elim h.symbols [
+            | inl e ↦ subst (λ x. IsPair t x d) e.0 (subst (λ y. IsPair t h.rule.heads.0.0 y) e.1 own)
+            | inr e ↦ turn_pair t d c (subst (λ x. IsPair t x c) e.0 (subst (λ y. IsPair t h.rule.heads.0.0 y) e.1 own))
+          ];
     }
 
     pub table_of : IsTableOf t rules table

@@ -1,18 +1,17 @@
 -- The laws for the whole open net.
-use Rattle.std.proofs.Common.{◌≡◌, ◌⊎◌, ◌↔◌, ◌<◌, ℕ, Bool, nat_lt, length, slice_get, subst, inl, inr, ltb-true, lt-ltb, arith}
+use Rattle.std.proofs.Common.{◌≡◌, ◌⊎◌, ◌↔◌, ◌<◌, ℕ, Bool, nat_lt, length, subst, inl, inr, ltb-true, lt-ltb, arith}
 use mathlib.Core.Path.{fun_ext}
 use native.Mathlib.Decide.{ℕ_discrete}
-use Rattle.std.proofs.lemmas.Option.{slice_get_within}
 use Rattle.in_net.specs.Graphs.{CrossingCircle}
 use Rattle.in_simple.specs.declared.open_nets.Point.TheVariants.{Port}
 use Rattle.in_simple.specs.Constructions.{IsIn, Built}
 use Rattle.in_simple.specs.Splitting.{IsStuck}
 use Rattle.in_simple.proofs.EachSplits.{each_part_splits}
 use Rattle.in_simple.proofs.NoCircle.{no_circle}
-use Rattle.in_simple.specs.OpenNets.{OpenNet, IsOpenNet, IsAgent, IsNode, IsPointOf, classes_of, IsDerivable, NetSplits, open_graph}
+use Rattle.in_simple.specs.OpenNets.{OpenNet, IsOpenNet, IsAgent, IsNode, classes_of, IsDerivable, NetSplits, open_graph}
 use Rattle.in_simple.specs.Laws.{HasNoFirstStuck, HasOneFirstStuck}
 use Rattle.in_simple.specs.Stuck.{FirstStuck, whole, within, IsFirstStuck}
-use Rattle.in_simple.proofs.Sums.{same_test, some_of}
+use Rattle.in_simple.proofs.Sums.{same_test, point_node}
 use Rattle.in_simple.proofs.Balance.{wire_turn}
 use Rattle.in_simple.proofs.Search.{Found, search, count, not_both_ways, one_stuck, smaller}
 use Rattle.in_simple.proofs.Grow.{built_constructions, splits_built}
@@ -79,8 +78,5 @@ module _ (o : OpenNet) (net : IsOpenNet o) where
   pub derivable_no_circle : IsDerivable o → CrossingCircle (open_graph o) → ⊥
   derivable_no_circle d circle = no_circle (open_graph o) ℕ_discrete (IsAgent o) (classes_of o) d.0
       (λ u v w. (w.0, wire_turn o w.0 (Port u.0 u.1) (Port v.0 v.1) w.1))
-      (λ u v w. (d.1 v.0).1 (point_node v.0 v.1 (net.points w.0 (Port v.0 v.1) (Port u.0 u.1) (wire_turn o w.0 (Port u.0 u.1) (Port v.0 v.1) w.1))))
+      (λ u v w. (d.1 v.0).1 (point_node o v.0 v.1 (net.points w.0 (Port v.0 v.1) (Port u.0 u.1) (wire_turn o w.0 (Port u.0 u.1) (Port v.0 v.1) w.1))))
       d.2 circle
-    where
-      point_node : (n i : ℕ) → IsPointOf o (Port n i) → IsNode o n
-      point_node n i h = let x = some_of (λ m. i < length m.class_of) (slice_get o.nodes n) h in slice_get_within o.nodes n x.0 x.1

@@ -15,12 +15,13 @@ use Rattle.in_simple.specs.Stuck.{ports_of}
 use Rattle.in_simple.specs.Procedure.{nodes_in, IsPlan, Derives, with_task}
 use Rattle.in_simple.specs.Stacks.{Shape, shape, no_wires, HasShape, HaveShapes, IsLinkOf, Fits, Puts}
 use Rattle.in_simple.specs.Planned.{net_of, Meets, LeadsOff, IsBelow, IsClassShape, AreClassShapes, PutsClasses, HasClasses, IsBegun, Adds, AddsNothing, WhatPort, with_empty, Skips}
-use Rattle.in_simple.proofs.Sums.{not_both, same_test, some_same, port_yes, port_own, both_right}
+use Rattle.in_net.proofs.Stepping.Turns.{some_same}
+use Rattle.in_simple.proofs.Sums.{not_both, same_test, port_yes, port_own, both_right}
 use Rattle.in_simple.proofs.Balance.{wire_turn}
 use Rattle.in_simple.proofs.Sound.{wire_points, port_place}
 use Rattle.in_simple.proofs.Links.{same_nat, at_most}
 use Rattle.in_simple.proofs.Search.{at_ports, in_ports}
-use Rattle.in_simple.proofs.Forest.{length_app}
+use Rattle.in_simple.proofs.Forest.{length_app, last_split}
 use Rattle.in_simple.proofs.Make.{port_most, hanging, hanging_is, hanging_yes, fit_graft}
 use Rattle.in_simple.proofs.Joining.{shape_same, built_over, fits_empty, fits_link, fits_mix}
 use Rattle.in_simple.proofs.Stacking.{none_more}
@@ -129,11 +130,6 @@ module _ (o : OpenNet) (net : IsOpenNet o) (n : ℕ) where
       let e : suc c + length ys ≡ c + suc (length ys) = omega arith in
       ((h.0, r.0), subst (λ z. IsClassShape o rest n b z x) e r.1)
 
-  last_shape : (xs : List Shape) → 0 < length xs → (front : List Shape) × (top : Shape) × (xs ≡ front ++ top ∷ [])
-  last_shape [] l = absurd (omega arith)
-  last_shape (x ∷ []) l = ([], x, refl)
-  last_shape (x ∷ y ∷ ys) l = let r = last_shape (y ∷ ys) (omega arith) in (x ∷ r.0, r.1, ap (λ z. x ∷ z) r.2)
-
   many_empty : (k : ℕ) (xs : List Shape) → length (with_empty k xs) ≡ length xs + k
   many_empty zero xs = omega arith
   many_empty (suc k) xs = let r = many_empty k xs in let l = length_app (with_empty k xs) (shape (λ n. false) no_wires ∷ []) in omega arith
@@ -162,15 +158,17 @@ module _ (o : OpenNet) (net : IsOpenNet o) (n : ℕ) where
     done_is = f.done_is;
   }
 
+  -- ---- what a port meets
+
+  meets_class : (t : ℕ) (p : Plan) → IsPlan o n t p → (i j m : ℕ) → Meets o p.rest n i m → Meets o p.rest n j m → class_in o n i ≡ class_in o n j
+  meets_class t p h i j m x y = (h.splits i).touched j x.0 y.0 x.1 y.1 x.2 y.2 x.3 y.3 (joined_on o net n p.rest x.1 m y.1 x.4 (joined_back o net n p.rest y.1 m y.4))
+
+  meets_in : (rest : List Bool) (i m : ℕ) → Meets o rest n i m → IsIn m (nodes_in rest)
+  meets_in rest i m x = joined_last o net n rest x.1 m x.4
+
   -- ---- one port more
 
   module _ (agent : IsAgent o n) (t : ℕ) (p : Plan) (h : IsPlan o n t p) (b : ℕ) (aux : 0 < b) where
-    meets_class : (i j m : ℕ) → Meets o p.rest n i m → Meets o p.rest n j m → class_in o n i ≡ class_in o n j
-    meets_class i j m x y = (h.splits i).touched j x.0 y.0 x.1 y.1 x.2 y.2 x.3 y.3 (joined_on o net n p.rest x.1 m y.1 x.4 (joined_back o net n p.rest y.1 m y.4))
-
-    meets_in : (i m : ℕ) → Meets o p.rest n i m → IsIn m (nodes_in p.rest)
-    meets_in i m x = joined_last o net n p.rest x.1 m x.4
-
     meets_on : (i l m : ℕ) → Meets o p.rest n i l → Joined o net n p.rest l m → Meets o p.rest n i m
     meets_on i l m x k = (x.0, x.1, x.2, x.3, joined_on o net n p.rest x.1 l m x.4 k)
 
@@ -250,7 +248,7 @@ module _ (o : OpenNet) (net : IsOpenNet o) (n : ℕ) where
                   | inl e ↦
                       let g = (f.done_is m).0 (a.met m (subst (λ z. Meets o p.rest n z m) e y.3)) in
                       let v = g.2 in
-                      earlier g.0 g.1 (in_ports o net v.0 n g.0 (Port v.1 v.2) v.3) (meets_class g.0 y.0 m g.2 y.3 ∙ y.2)
+                      earlier g.0 g.1 (in_ports o net v.0 n g.0 (Port v.1 v.2) v.3) (meets_class t p h g.0 y.0 m g.2 y.3 ∙ y.2)
                   | inr l ↦ let v = y.3 in earlier y.0 l (in_ports o net v.0 n y.0 (Port v.1 v.2) v.3) y.2
                 ]),
               );
@@ -279,7 +277,7 @@ module _ (o : OpenNet) (net : IsOpenNet o) (n : ℕ) where
         topmost : Topmost
         topmost =
             let k = f.many in
-            let r = last_shape f.shapes (omega arith) in
+            let r = last_split f.shapes (omega arith) in
             let l = ap length r.2 ∙ length_app r.0 (r.1 ∷ []) in
             let u = classes_unsnoc p.rest b 1 r.0 r.1 (subst (λ z. AreClassShapes o p.rest n b 1 z) r.2 f.each) in
             let e : 1 + length r.0 ≡ class_in o n b = omega arith in
@@ -308,7 +306,7 @@ module _ (o : OpenNet) (net : IsOpenNet o) (n : ℕ) where
                 λ y. elim (below_cases b y.0 y.1) [
                   | inl e ↦
                       let g = (f.done_is m).0 (a.met m (subst (λ z. Meets o p.rest n z m) e y.3)) in
-                      (topmost.class.nodes m).1 (g.0, g.1, meets_class g.0 y.0 m g.2 y.3 ∙ y.2, g.2)
+                      (topmost.class.nodes m).1 (g.0, g.1, meets_class t p h g.0 y.0 m g.2 y.3 ∙ y.2, g.2)
                   | inr l ↦ (topmost.class.nodes m).1 (y.0, l, y.2, y.3)
                 ],
               );
@@ -335,10 +333,10 @@ module _ (o : OpenNet) (net : IsOpenNet o) (n : ℕ) where
           top_meets m g = (topmost.class.nodes m).0 g
 
           top_in : (m : ℕ) → IsIn m topmost.top.nodes → IsIn m (nodes_in p.rest)
-          top_in m g = let y = top_meets m g in meets_in y.0 m y.3
+          top_in m g = let y = top_meets m g in meets_in p.rest y.0 m y.3
 
           new_in : (m : ℕ) → IsIn m x.nodes → IsIn m (nodes_in p.rest)
-          new_in m g = meets_in b m ((a.nodes m).0 g)
+          new_in m g = meets_in p.rest b m ((a.nodes m).0 g)
 
           apart : (m : ℕ) → IsIn m topmost.top.nodes → IsIn m x.nodes → ⊥
           apart m g k = let y = top_meets m g in a.fresh m k ((f.done_is m).1 (y.0, y.1, y.3))
@@ -422,9 +420,6 @@ module _ (o : OpenNet) (net : IsOpenNet o) (n : ℕ) where
   number c (x ∷ xs) m = cond (x.nodes m) c (number (suc c) xs m)
 
   module _ (agent : IsAgent o n) (t : ℕ) (p : Plan) (h : IsPlan o n t p) (b : ℕ) (f : PutsClasses o p.rest n b (classes_of o n) p.tasks p.done) (all : ports_of o n ≤ b) where
-    same_class : (i j m : ℕ) → Meets o p.rest n i m → Meets o p.rest n j m → class_in o n i ≡ class_in o n j
-    same_class i j m x y = (h.splits i).touched j x.0 y.0 x.1 y.1 x.2 y.2 x.3 y.3 (joined_on o net n p.rest x.1 m y.1 x.4 (joined_back o net n p.rest y.1 m y.4))
-
     number_is : (c : ℕ) (xs : List Shape) → AreClassShapes o p.rest n b c xs → (m d : ℕ) → number c xs m ≡ suc d → (i : ℕ) × IsBelow b i × (class_in o n i ≡ suc d) × Meets o p.rest n i m
     number_is c [] k m d e = absurd (omega arith)
     number_is c (x ∷ xs) k m d e = go (x.nodes m) refl e (number_is (suc c) xs k.1 m d)
@@ -444,7 +439,7 @@ module _ (o : OpenNet) (net : IsOpenNet o) (n : ℕ) where
         high d = omega arith
 
         go : (z : Bool) → y.nodes m ≡ z → (class_in o n i ≢ c → number (suc c) ys m ≡ class_in o n i) → cond z c (number (suc c) ys m) ≡ class_in o n i
-        go true g rest = let u = (k.0.nodes m).0 g in sym u.2 ∙ same_class u.0 i m u.3 x
+        go true g rest = let u = (k.0.nodes m).0 g in sym u.2 ∙ meets_class t p h u.0 i m u.3 x
         go false g rest = rest (λ e. not_both (y.nodes m) ((k.0.nodes m).1 (i, bl, e, x)) g)
 
     abbrev part : ℕ → ℕ
@@ -472,9 +467,6 @@ module _ (o : OpenNet) (net : IsOpenNet o) (n : ℕ) where
     part_is m zero l e = absurd (omega arith)
     part_is m (suc c) l e = number_is 1 f.shapes f.each m c e
 
-    meets_rest : (i m : ℕ) → Meets o p.rest n i m → IsIn m (nodes_in p.rest)
-    meets_rest i m x = joined_last o net n p.rest x.1 m x.4
-
     other : (m : ℕ) → IsIn m whole → m ≢ n → (i : ℕ) × IsBelow b i × Meets o p.rest n i m
     other m g d = elim (or_cases (nat_eq m n) (nodes_in p.done m) g) [ inl e ↦ absurd (d (eqb-true m n e)) | inr e ↦ (f.done_is m).0 e ]
 
@@ -486,7 +478,7 @@ module _ (o : OpenNet) (net : IsOpenNet o) (n : ℕ) where
       where
         go : (c : ℕ) → part n ≡ c → part n ≡ 0
         go zero e = e
-        go (suc c) e = let x = part_is n (suc c) (omega arith) e in absurd (not_root o net n t p h n (meets_rest x.0 n x.3) refl)
+        go (suc c) e = let x = part_is n (suc c) (omega arith) e in absurd (not_root o net n t p h n (meets_in p.rest x.0 n x.3) refl)
 
     part_most : (m : ℕ) → part m ≤ classes_of o n
     part_most m = go (part m) refl
@@ -508,11 +500,11 @@ module _ (o : OpenNet) (net : IsOpenNet o) (n : ℕ) where
       own = λ i j w. (h.splits i).own j w.0 w.1;
       to = λ i j m g d w.
           let x = other m g d in
-          (part_of m x.0 x.1 x.2).0 ∙ same_class x.0 i m x.2 (w.0, m, j, w.1, alone m (meets_rest x.0 m x.2));
+          (part_of m x.0 x.1 x.2).0 ∙ meets_class t p h x.0 i m x.2 (w.0, m, j, w.1, alone m (meets_in p.rest x.0 m x.2));
       among = λ l m i j g k d e w.
           let x = other l g d in
           let y = other m k e in
-          let near = joined_near o net n p.rest w.0 l i m j w.1 (meets_rest x.0 l x.2) (meets_rest y.0 m y.2) in
+          let near = joined_near o net n p.rest w.0 l i m j w.1 (meets_in p.rest x.0 l x.2) (meets_in p.rest y.0 m y.2) in
           let z : Meets o p.rest n x.0 m = (x.2.0, x.2.1, x.2.2, x.2.3, joined_on o net n p.rest x.2.1 l m x.2.4 near) in
           (part_of l x.0 x.1 x.2).0 ∙ sym (part_of m x.0 x.1 z).0;
     }
@@ -524,7 +516,7 @@ module _ (o : OpenNet) (net : IsOpenNet o) (n : ℕ) where
     class_links c w = hanging o net n whole part agent zero_root (λ m g. part_most m) is_graft c (length o.wires) w
 
     class_rest : (c m : ℕ) → 0 < c → IsIn m (class_nodes c) → IsIn m (nodes_in p.rest)
-    class_rest c m l g = let x = part_is m c l (eqb-true (part m) c (both_right (whole m) (nat_eq (part m) c) g)) in meets_rest x.0 m x.3
+    class_rest c m l g = let x = part_is m c l (eqb-true (part m) c (both_right (whole m) (nat_eq (part m) c) g)) in meets_in p.rest x.0 m x.3
 
     -- the shape of a class is that of its net
     class_shape : (c : ℕ) (x : Shape) → 0 < c → IsClassShape o p.rest n b c x → x ≡ shape (class_nodes c) (class_links c)

@@ -4,7 +4,7 @@ use Rattle.in_net.specs.Graphs.{Graph}
 use Rattle.in_simple.specs.Constructions.{IsIn, AreParts, numbered, IsGraft, Built, empty, given, mix, cut, graft}
 use Rattle.in_simple.specs.Splitting.{Linked, alone, onward, Without, SplitsAt}
 use Rattle.std.proofs.lemmas.Bool.{and_from}
-use Rattle.in_simple.proofs.Sums.{both_left, both_right, not_both}
+use Rattle.in_simple.proofs.Sums.{both_left, both_right, not_both, swap_parts}
 
 module _ (g : Graph) (wire_back : (u v : g.Node × ℕ) → g.Wire u v → g.Wire v u) where
   link_first : (P : g.Node → Type 0) (u v : g.Node) → Linked g P u v → P u
@@ -87,9 +87,6 @@ module _ (g : Graph) (wire_back : (u v : g.Node × ℕ) → g.Wire u v → g.Wir
             let x = link_over (Without n t) (λ z x. in_s z x.0) l m la mb link in
             absurd (x.1 (sym (ap (λ r. r.0) (at j m h v mb))))
         over i j l m k h w v link (inr lb) (inr mb) = ap (λ r. g.class r.0 r.1) (at i l k w lb ∙ sym (at j m h v mb))
-
-  swap_parts : (s a b : g.Node → Bool) → AreParts s a b → AreParts s b a
-  swap_parts s a b parts n = ((λ h. elim ((parts n).0.0 h) [ inl x ↦ inr x | inr y ↦ inl y ], λ h. (parts n).0.1 (elim h [ inl x ↦ inr x | inr y ↦ inl y ])), λ x y. (parts n).1 y x)
 
   -- two parts joined by at most one wire
   in_two : (s a b : g.Node → Bool) → AreParts s a b → (p q : g.Node × ℕ) → ((u v : g.Node × ℕ) → g.Wire u v → IsIn u.0 a → IsIn v.0 b → (u ≡ p) × (v ≡ q)) → EachPartSplits a → EachPartSplits b → EachPartSplits s

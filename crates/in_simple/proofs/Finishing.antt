@@ -7,11 +7,12 @@ use Rattle.in_simple.specs.declared.plans.Joint.TheVariants as joint
 use Rattle.in_simple.specs.declared.plans.Task.{Task}
 use Rattle.in_simple.specs.declared.plans.Task.TheVariants.{Derive, Make}
 use Rattle.in_simple.specs.Constructions.{IsIn}
-use Rattle.in_simple.specs.OpenNets.{OpenNet, IsNode, IsWire, IsOpenNet, IsPointOf}
+use Rattle.in_simple.specs.OpenNets.{OpenNet, IsNode, IsWire, IsOpenNet}
 use Rattle.in_simple.specs.Derivations.{Step, Part, named, times, is_free, AreEarlier, IsDerivation}
 use Rattle.in_simple.specs.Procedure.{nodes_in}
 use Rattle.in_simple.specs.Stacks.{Shape, shape, no_wires, leads_out, HasShape, HaveShapes, times_node, IsLinkOf, IsStack, Runs, are_free, loose_in, loose_below, begun_with, SetsBeside, Ends, IsUnderWay}
-use Rattle.in_simple.proofs.Sums.{not_both, same_test, some_same, some_of, port_yes, one_other, earlier_of, both_left, both_right}
+use Rattle.in_net.proofs.Stepping.Turns.{some_same}
+use Rattle.in_simple.proofs.Sums.{not_both, same_test, point_node, port_yes, one_other, earlier_of, both_left, both_right}
 use Rattle.in_simple.proofs.Balance.{wire_turn}
 use Rattle.in_simple.proofs.Sound.{wire_points}
 use Rattle.in_simple.proofs.Links.{same_nat}
@@ -170,20 +171,14 @@ module _ (o : OpenNet) (net : IsOpenNet o) where
 
   pub last_ends : (whole : ℕ → Bool) → ((n : ℕ) → IsIn n whole ↔ IsNode o n) → (w : ℕ) (p q : Point) → IsWire o w p q → leads_out whole p q + cond (loose_in o w) 1 0 ≡ is_free q
   last_ends whole all w p (Port m j) h =
-      let a = port_yes whole m j ((all m).1 (node_of m j (net.points w (Port m j) p (wire_turn o w p (Port m j) h)))) in
+      let a = port_yes whole m j ((all m).1 (point_node o m j (net.points w (Port m j) p (wire_turn o w p (Port m j) h)))) in
       let b = port_most whole p in
       let c : cond {A = ℕ} (loose_in o w) 1 0 ≡ 0 = ap (λ z. cond z 1 0) (false_from_ne_true (loose_in o w) (λ g. loose_no_port o w m j p g (wire_turn o w p (Port m j) h))) in
       omega arith
-    where
-      node_of : (n i : ℕ) → IsPointOf o (Port n i) → IsNode o n
-      node_of n i h = let y = some_of (λ m. i < length m.class_of) (slice_get o.nodes n) h in slice_get_within o.nodes n y.0 y.1
   last_ends whole all w (Port m j) (Free k) h =
-      let a = port_yes whole m j ((all m).1 (node_of m j (net.points w (Port m j) (Free k) h))) in
+      let a = port_yes whole m j ((all m).1 (point_node o m j (net.points w (Port m j) (Free k) h))) in
       let c : cond {A = ℕ} (loose_in o w) 1 0 ≡ 0 = ap (λ z. cond z 1 0) (false_from_ne_true (loose_in o w) (λ g. loose_no_port o w m j (Free k) g h)) in
       omega arith
-    where
-      node_of : (n i : ℕ) → IsPointOf o (Port n i) → IsNode o n
-      node_of n i h = let y = some_of (λ m. i < length m.class_of) (slice_get o.nodes n) h in slice_get_within o.nodes n y.0 y.1
   last_ends whole all w (Free l) (Free k) h = let e : cond {A = ℕ} (loose_in o w) 1 0 ≡ 1 = ap (λ z. cond z 1 0) (loose_yes o w l k h) in omega arith
 
   -- the one root is the last step

@@ -3,7 +3,9 @@ use Rattle.std.proofs.Common.{◌≡◌, ◌⊎◌, ◌<◌, ◌≤◌, ◌+◌,
 use Rattle.in_simple.specs.Constructions.{IsIn}
 use Rattle.in_simple.specs.OpenNets.{OpenNet}
 use Rattle.in_simple.specs.Derivations.{Step, Part, named, own_nodes, own_links, is_among, nodes_of, links_of, ShareNothing, AreDifferent, AreEarlier, Joins, Builds, times, times_in}
-use Rattle.in_simple.proofs.Sums.{not_both, some_same, one_same, one_other}
+use Rattle.in_net.proofs.Stepping.Lists.{kept_at}
+use Rattle.in_net.proofs.Stepping.Turns.{some_same}
+use Rattle.in_simple.proofs.Sums.{not_both, one_same, one_other}
 use Rattle.in_simple.proofs.Links.{same_nat, at_most}
 use Rattle.in_simple.proofs.Whole.{times_among}
 use Rattle.std.proofs.lemmas.Bool.{or_cases, or_left, or_right, false_from_ne_true}
@@ -12,10 +14,10 @@ pub length_app : {X : Type 0} (xs ys : List X) → length (xs ++ ys) ≡ length 
 length_app [] ys = omega arith
 length_app (x ∷ xs) ys = let r = length_app xs ys in omega arith
 
-pub get_app : {X : Type 0} (xs ys : List X) (i : ℕ) (x : X) → slice_get xs i ≡ Some x → slice_get (xs ++ ys) i ≡ Some x
-get_app [] ys i x h = cc
-get_app (y ∷ xs) ys zero x h = h
-get_app (y ∷ xs) ys (suc i) x h = get_app xs ys i x h
+pub last_split : {X : Type 0} (xs : List X) → 0 < length xs → (front : List X) × (x : X) × (xs ≡ front ++ x ∷ [])
+last_split [] l = absurd (omega arith)
+last_split (x ∷ []) l = ([], x, refl)
+last_split (x ∷ y ∷ ys) l = let r = last_split (y ∷ ys) (omega arith) in (x ∷ r.0, r.1, ap (λ z. x ∷ z) r.2)
 
 pub get_past : {X : Type 0} (xs ys : List X) (i j : ℕ) (x : X) → j ≡ length xs + i → slice_get ys i ≡ Some x → slice_get (xs ++ ys) j ≡ Some x
 get_past [] ys i j x e h = let f : j ≡ i = omega arith in subst (λ z. slice_get ys z ≡ Some x) (sym f) h
@@ -117,7 +119,7 @@ module _ (o : OpenNet) where
     each = λ all a i step h. elim (get_cases s s' i step h) [
       | inl e ↦
           let x = f.each all (left all a) i step e in
-          (x.0, get_app p p' i x.0 x.1, x.2)
+          (x.0, kept_at p p' i x.0 x.1, x.2)
       | inr e ↦
           let x = g.each all (right all a) e.0 step e.2 in
           let q = f.same in
@@ -154,7 +156,7 @@ module _ (o : OpenNet) where
       both n a b = omega arith
 
       left : (all : List Part) → Agrees k (p ++ p') all → Agrees k p all
-      left all a i y h = a i y (get_app p p' i y h)
+      left all a i y h = a i y (kept_at p p' i y h)
 
       right : (all : List Part) → Agrees k (p ++ p') all → Agrees (k + length s) p' all
       right all a i y h =
@@ -167,7 +169,7 @@ module _ (o : OpenNet) where
   close k s p r t step x f names one fresh nodes links joins = record {
     same = length_app p (x ∷ []) ∙ (let a = f.same in add a) ∙ sym (length_app s (step ∷ []));
     each = λ all a i step' h. elim (get_cases s (step ∷ []) i step' h) [
-      | inl e ↦ let y = f.each all (left all a) i step' e in (y.0, get_app p (x ∷ []) i y.0 y.1, y.2)
+      | inl e ↦ let y = f.each all (left all a) i step' e in (y.0, kept_at p (x ∷ []) i y.0 y.1, y.2)
       | inr e ↦ last all a i step' e.0 e.1 e.2
     ];
     earlier = λ all a. let l = length_app s (step ∷ []) in let q = f.same in (omega arith, subst (λ z. slice_get all (k + z) ≡ Some x) q (a (length p) x (get_past p (x ∷ []) 0 (length p) x (omega arith) refl)), tt);
@@ -201,7 +203,7 @@ module _ (o : OpenNet) where
       both n a b = omega arith
 
       left : (all : List Part) → Agrees k (p ++ x ∷ []) all → Agrees k p all
-      left all a i y h = a i y (get_app p (x ∷ []) i y h)
+      left all a i y h = a i y (kept_at p (x ∷ []) i y h)
 
       few : (j : ℕ) → times j r ≤ 1
       few j = elim (at_most k j) [

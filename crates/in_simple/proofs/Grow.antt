@@ -9,7 +9,7 @@ use Rattle.in_simple.specs.Splitting.{Linked, alone, onward, Without, SplitsAt, 
 use Rattle.in_simple.specs.declared.open_nets.OpenNode.{OpenNode}
 use Rattle.in_simple.specs.OpenNets.{OpenNet, IsAgentNode, IsClassNode, IsAgent, IsClass, class_at, class_in, classes_of, IsWire, IsOpenNet, open_graph}
 use Rattle.in_simple.specs.Stuck.{ports_of}
-use Rattle.in_simple.proofs.Sums.{not_both, same_test, both_left, both_right}
+use Rattle.in_simple.proofs.Sums.{not_both, same_test, numbered_is, both_left, both_right}
 use Rattle.in_simple.proofs.Sound.{port_place, class_no_agent}
 use Rattle.in_simple.proofs.Links.{Decided, same_nat, both_decided, least, AreNext, are_next, link_join, link_back, link_first}
 use Rattle.in_simple.proofs.Search.{is_in, test, test_yes, test_is, in_ports, wired, without, linked, component, is_component}
@@ -296,7 +296,7 @@ module _ (o : OpenNet) (net : IsOpenNet o) (BuiltSet : (ℕ → Bool) → Type 0
       class_inside c m h = test_is (without o net s in_net n m) (both_left (test (without o net s in_net n m)) (nat_eq (part m) c) h)
 
       class_number : (c m : ℕ) → IsIn m (of_class c) → part m ≡ c
-      class_number c m h = eqb-true (part m) c (both_right (test (without o net s in_net n m)) (nat_eq (part m) c) h)
+      class_number c m h = numbered_is (λ m. test (without o net s in_net n m)) part c m h
 
       in_class : (c m : ℕ) → Without n s m → part m ≡ c → IsIn m (of_class c)
       in_class c m h e = and_from (test (without o net s in_net n m)) (nat_eq (part m) c) (test_yes (without o net s in_net n m) h) (eq-eqb (part m) c e)

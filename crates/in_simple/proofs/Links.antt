@@ -5,7 +5,7 @@ use Rattle.in_simple.specs.declared.open_nets.Point.{Point}
 use Rattle.in_simple.specs.declared.open_nets.Point.TheVariants.{Port, Free}
 use Rattle.in_simple.specs.Splitting.{Linked, alone, onward}
 use Rattle.in_simple.specs.OpenNets.{OpenNet, IsWire, open_graph}
-use Rattle.in_simple.proofs.Sums.{some_same}
+use Rattle.in_net.proofs.Stepping.Turns.{some_same}
 use Rattle.in_simple.proofs.Balance.{wire_turn}
 
 abbrev pub Decided : Type 0 → Type 0

@@ -9,22 +9,19 @@ use Rattle.in_simple.specs.OpenNets.{OpenNet, IsAgent, IsClass, class_in, classe
 use Rattle.in_simple.specs.Derivations.{Step, Empty, Link, Given, Graft, Cut, Mix, Part, named, own_nodes, own_links, one_if, is_port_in, is_principal, is_auxiliary, is_among, nodes_of, links_of, ends_of, ShareNothing, IsGrafted, Joins, times}
 use Rattle.in_simple.specs.Stuck.{ports_of}
 use Rattle.in_simple.specs.Stacks.{shape, no_wires, leads_out, IsLinkOf, HasShape}
-use Rattle.in_simple.proofs.Sums.{not_both, same_test, some_same, port_yes, port_no, port_none, port_same, port_or, port_own, other_port, auxiliary_port, principal_one, one_same, one_other, of_nodes, in_nodes_of, both_left, both_right}
+use Rattle.in_net.proofs.Stepping.Turns.{some_same}
+use Rattle.in_simple.proofs.Sums.{not_both, same_test, numbered_is, port_yes, port_no, port_none, port_same, port_or, port_own, other_port, auxiliary_port, principal_one, one_same, one_other, of_nodes, in_nodes_of, both_left, both_right}
 use Rattle.in_simple.proofs.Balance.{wire_turn}
 use Rattle.in_simple.proofs.Sound.{wire_points, port_place}
 use Rattle.in_simple.proofs.Links.{Decided, same_nat, both_decided, at_most, least}
 use Rattle.in_simple.proofs.Search.{test, test_yes, test_is, partner, in_ports}
 use Rattle.in_simple.proofs.Grow.{Constructions}
 use Rattle.in_simple.proofs.Forest.{Forest, nothing, beside, close, or_sum}
-use Rattle.std.proofs.lemmas.Bool.{and_from, or_cases, or_left, or_right, cases_Bool, false_from_ne_true}
+use Rattle.std.proofs.lemmas.Bool.{and_from, cond_both, or_cases, or_left, or_right, cases_Bool, false_from_ne_true}
 use Rattle.in_base.proofs.Each.{at_index}
 
 pub port_most : (s : ℕ → Bool) (p : Point) → is_port_in s p ≤ 1
-port_most s (Port n i) = go (s n)
-  where
-    go : (b : Bool) → cond b 1 0 ≤ 1
-    go true = omega arith
-    go false = omega arith
+port_most s (Port n i) = cond_both (s n) 1 0 (λ z. z ≤ 1) (λ e. omega arith) (λ e. omega arith)
 port_most s (Free k) = omega arith
 
 port_parts : (s a b : ℕ → Bool) → AreParts s a b → (p : Point) → is_port_in s p ≡ is_port_in a p + is_port_in b p
@@ -85,21 +82,18 @@ module _ (o : OpenNet) (net : IsOpenNet o) where
   abbrev pub if_in : (ℕ → Bool) → ℕ → ℕ
   if_in d w = cond (d w) 1 0
 
-  abbrev pub lead : (ℕ → Bool) → Point → Point → ℕ
-  lead = leads_out
-
   -- the ends of the net of s with the wires of d
   pub ends_at : (ℕ → Bool) → (ℕ → Bool) → Point → ℕ
-  ends_at s d q = elim (partner_of q) [ inl r ↦ lead s r.1 q + if_in d r.0 | inr r ↦ 0 ]
+  ends_at s d q = elim (partner_of q) [ inl r ↦ leads_out s r.1 q + if_in d r.0 | inr r ↦ 0 ]
 
-  pub ends_wire : (s d : ℕ → Bool) (w : ℕ) (p q : Point) → IsWire o w p q → ends_at s d q ≡ lead s p q + if_in d w
+  pub ends_wire : (s d : ℕ → Bool) (w : ℕ) (p q : Point) → IsWire o w p q → ends_at s d q ≡ leads_out s p q + if_in d w
   unfolding ends_at
   ends_wire s d w p q h = go (partner_of q)
     where
-      go : (r : Decided ((w : ℕ) × (p : Point) × IsWire o w q p)) → elim r [ inl r ↦ lead s r.1 q + if_in d r.0 | inr r ↦ 0 ] ≡ lead s p q + if_in d w
+      go : (r : Decided ((w : ℕ) × (p : Point) × IsWire o w q p)) → elim r [ inl r ↦ leads_out s r.1 q + if_in d r.0 | inr r ↦ 0 ] ≡ leads_out s p q + if_in d w
       go (inl r) =
           let e = net.once r.0 w q r.1 p r.2 (wire_turn o w p q h) in
-          let u : lead s r.1 q ≡ lead s p q = ap (λ z. lead s z q) e.1 in
+          let u : leads_out s r.1 q ≡ leads_out s p q = ap (λ z. leads_out s z q) e.1 in
           let v : if_in d r.0 ≡ if_in d w = ap (λ z. if_in d z) e.0 in
           omega arith
       go (inr r) = absurd (r (w, p, wire_turn o w p q h))
@@ -115,7 +109,7 @@ module _ (o : OpenNet) (net : IsOpenNet o) where
     pub forest : Forest o k steps parts (root ∷ []) (top ∷ [])
     pub last : suc root ≡ k + length steps
     pub nodes : (n : ℕ) → top.nodes n ≡ s n
-    pub ends : (w : ℕ) (p q : Point) → IsWire o w p q → top.ends q ≡ lead s p q + if_in d w
+    pub ends : (w : ℕ) (p q : Point) → IsWire o w p q → top.ends q ≡ leads_out s p q + if_in d w
     pub links : (w : ℕ) → IsIn w top.links → LinkOf s d w
 
   abbrev pub part_of : (ℕ → Bool) → (ℕ → Bool) → Step → List Part → Part
@@ -353,14 +347,11 @@ module _ (o : OpenNet) (net : IsOpenNet o) where
     class_in_s : (c m : ℕ) → IsIn m (of_class c) → IsIn m s
     class_in_s c m h = both_left (s m) (nat_eq (part m) c) h
 
-    class_is : (c m : ℕ) → IsIn m (of_class c) → part m ≡ c
-    class_is c m h = eqb-true (part m) c (both_right (s m) (nat_eq (part m) c) h)
-
     in_class : (c m : ℕ) → IsIn m s → part m ≡ c → IsIn m (of_class c)
     in_class c m h e = and_from (s m) (nat_eq (part m) c) h (eq-eqb (part m) c e)
 
     not_root : (c m : ℕ) → 0 < c → IsIn m (of_class c) → m ≢ n
-    not_root c m l h e = let u = class_is c m h in let v : part m ≡ part n = ap part e in omega arith
+    not_root c m l h e = let u = numbered_is s part c m h in let v : part m ≡ part n = ap part e in omega arith
 
     -- wire w is at a port of class c of n, and leads to no node of the class's net
     abbrev pub Dangles : ℕ → ℕ → Type 0
@@ -475,17 +466,17 @@ module _ (o : OpenNet) (net : IsOpenNet o) where
         mixed : (c d w : ℕ) → 0 < c → 0 < d → c ≢ d → Dangles c w → ((l : ℕ) × (i : ℕ) × (q : Point) × IsWire o w (Port l i) q × IsIn l (of_class d) × IsAgent o l × (i ≢ 0)) → ⊥
         mixed c d w lc ld differ x v = elim (wire_points o w (Port n x.0) x.2.0 (Port v.0 v.1) v.2 x.2.1 v.3) [
           | inl e ↦ not_root d v.0 ld v.4 (port_place v.0 n v.1 x.0 e.0).0
-          | inr e ↦ differ (sym x.1 ∙ sym (r.to x.0 v.1 v.0 (class_in_s d v.0 v.4) (not_root d v.0 ld v.4) (w, subst (λ t. IsWire o w (Port n x.0) t) (sym e.0) x.2.1)) ∙ class_is d v.0 v.4)
+          | inr e ↦ differ (sym x.1 ∙ sym (r.to x.0 v.1 v.0 (class_in_s d v.0 v.4) (not_root d v.0 ld v.4) (w, subst (λ t. IsWire o w (Port n x.0) t) (sym e.0) x.2.1)) ∙ numbered_is s part d v.0 v.4)
         ]
     apart c d w lc ld differ (inr u) (inl v) =
         let x = (hanging_is d (length o.wires) w v).1 in
         elim (wire_points o w (Port n x.0) x.2.0 (Port u.0 u.1) u.2 x.2.1 u.3) [
           | inl e ↦ not_root c u.0 lc u.4 (port_place u.0 n u.1 x.0 e.0).0
-          | inr e ↦ differ (sym (sym x.1 ∙ sym (r.to x.0 u.1 u.0 (class_in_s c u.0 u.4) (not_root c u.0 lc u.4) (w, subst (λ t. IsWire o w (Port n x.0) t) (sym e.0) x.2.1)) ∙ class_is c u.0 u.4))
+          | inr e ↦ differ (sym (sym x.1 ∙ sym (r.to x.0 u.1 u.0 (class_in_s c u.0 u.4) (not_root c u.0 lc u.4) (w, subst (λ t. IsWire o w (Port n x.0) t) (sym e.0) x.2.1)) ∙ numbered_is s part c u.0 u.4))
         ]
     apart c d w lc ld differ (inr u) (inr v) = elim (wire_points o w (Port u.0 u.1) u.2 (Port v.0 v.1) v.2 u.3 v.3) [
-      | inl e ↦ differ (sym (class_is c u.0 u.4) ∙ ap part (sym (port_place v.0 u.0 v.1 u.1 e.0).0) ∙ class_is d v.0 v.4)
-      | inr e ↦ differ (sym (class_is c u.0 u.4) ∙ r.among u.0 v.0 u.1 v.1 (class_in_s c u.0 u.4) (class_in_s d v.0 v.4) (not_root c u.0 lc u.4) (not_root d v.0 ld v.4) (w, subst (λ t. IsWire o w (Port u.0 u.1) t) (sym e.0) u.3) ∙ class_is d v.0 v.4)
+      | inl e ↦ differ (sym (numbered_is s part c u.0 u.4) ∙ ap part (sym (port_place v.0 u.0 v.1 u.1 e.0).0) ∙ numbered_is s part d v.0 v.4)
+      | inr e ↦ differ (sym (numbered_is s part c u.0 u.4) ∙ r.among u.0 v.0 u.1 v.1 (class_in_s c u.0 u.4) (class_in_s d v.0 v.4) (not_root c u.0 lc u.4) (not_root d v.0 ld v.4) (w, subst (λ t. IsWire o w (Port u.0 u.1) t) (sym e.0) u.3) ∙ numbered_is s part d v.0 v.4)
     ]
 
     share_classes : (c : ℕ) → 0 < c → (ys : List Part) → ((i : ℕ) (y : Part) → slice_get ys i ≡ Some y → ClassTop (c + i) y) → ShareNothing ys
@@ -493,8 +484,8 @@ module _ (o : OpenNet) (net : IsOpenNet o) where
     share_classes c l (y ∷ ys) at = (
       (λ m h g.
           let t = of_nodes ys m g in
-          let u = class_is c m (sym (here.nodes m) ∙ h) in
-          let v = class_is (suc c + t.0) m (sym ((next t.0 t.1 t.2).nodes m) ∙ t.3) in
+          let u = numbered_is s part c m (sym (here.nodes m) ∙ h) in
+          let v = numbered_is s part (suc c + t.0) m (sym ((next t.0 t.1 t.2).nodes m) ∙ t.3) in
           omega arith),
       (λ w h g.
           let t = of_links ys w g in
@@ -547,13 +538,13 @@ module _ (o : OpenNet) (net : IsOpenNet o) where
           (c, omega arith, y.0, y.1, subst (λ z. ClassTop z y.0) e (at c y.0 y.1))
 
       -- the ends of all classes' nets for q, where only class c has any
-      sum_class : (w : ℕ) (p q : Point) → IsWire o w p q → (c : ℕ) → 0 < c → c ≤ classes_of o n → ((d : ℕ) → 0 < d → d ≢ c → lead (of_class d) p q + if_in (hanging d (length o.wires)) w ≡ 0) → ends_of tops q ≡ lead (of_class c) p q + if_in (hanging c (length o.wires)) w
+      sum_class : (w : ℕ) (p q : Point) → IsWire o w p q → (c : ℕ) → 0 < c → c ≤ classes_of o n → ((d : ℕ) → 0 < d → d ≢ c → leads_out (of_class d) p q + if_in (hanging d (length o.wires)) w ≡ 0) → ends_of tops q ≡ leads_out (of_class c) p q + if_in (hanging c (length o.wires)) w
       sum_class w p q h c l m f =
           let y = top c l m in
           let e = y.1 in
           sum_one tops q y.0 y.2 y.3 (λ i z d g. (at i z g).ends w p q h ∙ f (1 + i) (omega arith) (λ u. d (omega arith))) ∙ y.4.ends w p q h
 
-      sum_none : (w : ℕ) (p q : Point) → IsWire o w p q → ((d : ℕ) → 0 < d → lead (of_class d) p q + if_in (hanging d (length o.wires)) w ≡ 0) → ends_of tops q ≡ 0
+      sum_none : (w : ℕ) (p q : Point) → IsWire o w p q → ((d : ℕ) → 0 < d → leads_out (of_class d) p q + if_in (hanging d (length o.wires)) w ≡ 0) → ends_of tops q ≡ 0
       sum_none w p q h f = sum_zero tops q (λ i z g. (at i z g).ends w p q h ∙ f (1 + i) (omega arith))
 
       -- where a point stands
@@ -571,7 +562,7 @@ module _ (o : OpenNet) (net : IsOpenNet o) where
       root_out c i l = port_no (of_class c) n i (false_from_ne_true (of_class c n) (λ h. not_root c n l h refl))
 
       class_out : (c m j : ℕ) → part m ≢ c → is_port_in (of_class c) (Port m j) ≡ 0
-      class_out c m j d = port_no (of_class c) m j (false_from_ne_true (of_class c m) (λ h. d (class_is c m h)))
+      class_out c m j d = port_no (of_class c) m j (false_from_ne_true (of_class c m) (λ h. d (numbered_is s part c m h)))
 
       outer_out : (c : ℕ) (p : Point) → is_port_in s p ≡ 0 → is_port_in (of_class c) p ≡ 0
       outer_out c p h = elim (at_most 1 (is_port_in (of_class c) p)) [
@@ -632,7 +623,7 @@ module _ (o : OpenNet) (net : IsOpenNet o) where
           ]
 
       abbrev Equation : Point → Point → Type 0
-      Equation p q = lead s p q + is_auxiliary n q ≡ ends_of tops q + is_principal n p
+      Equation p q = leads_out s p q + is_auxiliary n q ≡ ends_of tops q + is_principal n p
 
       root_root : (w i j : ℕ) → IsWire o w (Port n i) (Port n j) → Equation (Port n i) (Port n j)
       root_root w i j h =

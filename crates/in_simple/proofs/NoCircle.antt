@@ -5,7 +5,7 @@ use Rattle.std.specs.List.{AllByRecursion}
 use Rattle.in_net.specs.Graphs.{Graph, Passage, entered, left, Leads, CrossingCircle}
 use Rattle.in_simple.specs.Constructions.{IsIn, AreParts, numbered, IsGraft, Built, empty, given, mix, cut, graft}
 use Rattle.in_net.proofs.Circuits.{Walk, AreSeparate, Circuit, Found, find, rotate, IsEntered, IsLeft, crossings_separate, circuit_of}
-use Rattle.in_simple.proofs.Sums.{not_both}
+use Rattle.in_simple.proofs.Sums.{not_both, swap_parts}
 use Rattle.in_base.proofs.Each.{all_left, all_append, all_right, all_map}
 
 numbered_in : {V : Type 0} (s : V → Bool) (part : V → ℕ) (c : ℕ) (n : V) → IsIn n s → part n ≡ c → IsIn n (numbered s part c)
@@ -73,9 +73,6 @@ module _ (g : Graph) (same : Discrete g.Node) (E L : g.Node × ℕ → Type 0) (
         go (yes here) =
             separate n x.enter j (subst (λ v. E (v, x.enter)) here w.1) l (sym (r.own j x.enter (subst (λ v. g.Wire (n, j) (v, x.enter)) here w.0)))
         go (no there) = within x.node x.leave j i xs w.3 h.0 there (r.to j x.enter x.node h.0 there w.0) h.1 l f
-
-  swap_parts : (s a b : g.Node → Bool) → AreParts s a b → AreParts s b a
-  swap_parts s a b parts n = ((λ h. elim ((parts n).0.0 h) [ inl x ↦ inr x | inr y ↦ inl y ], λ h. (parts n).0.1 (elim h [ inl x ↦ inr x | inr y ↦ inl y ])), λ x y. (parts n).1 y x)
 
   -- a walk in s that avoids n stays within the net of one class
   avoid : (n : g.Node) (s : g.Node → Bool) (part : g.Node → ℕ) (many : ℕ) → IsGraft g n many s part → (p : Passage g.Node) (ps : List (Passage g.Node)) (to : g.Node × ℕ) → Walk g E L (left p) ps to → AreIn s (p ∷ ps) → AllByRecursion (λ q. n ≢ q.node) (p ∷ ps) → AreIn (numbered s part (part p.node)) (p ∷ ps)

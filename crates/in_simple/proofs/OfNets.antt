@@ -18,7 +18,7 @@ use Rattle.in_simple.specs.OpenNets as nets
 use Rattle.in_simple.specs.OpenNets.{OpenNet, class_in, open_graph}
 use Rattle.in_simple.specs.Opening.{IsNodeOf, AreNumbered, Opens}
 use Rattle.in_simple.proofs.Opened.{listed}
-use Rattle.in_simple.proofs.Sums.{some_same}
+use Rattle.in_net.proofs.Stepping.Turns.{some_same}
 use Rattle.in_simple.proofs.Mapped.{circle_mapped}
 use Rattle.in_base.proofs.Each.{at_index}
 

@@ -22,7 +22,8 @@ use Rattle.in_simple.specs.OpenNets.{OpenNet, IsWire, class_in, open_graph}
 use Rattle.in_simple.specs.Opening.{AreNumbered}
 use Rattle.in_simple.specs.OpeningRules.{agent_node, second_node, class_port, boundary_port, is_turned, rule_point, IsRuleWhole, OpensRule}
 use Rattle.in_simple.proofs.Grow.{pair_same}
-use Rattle.in_simple.proofs.RulePoints.{lt_tells, same_agent, agent_within}
+use Rattle.in_net.proofs.Stepping.Sites.{lt_tells}
+use Rattle.in_simple.proofs.RulePoints.{same_agent, agent_within}
 use Rattle.in_simple.proofs.OpenedRules.{listed, points_open, agent_not_end, same_end, is_end, IsEnd, in_first, in_second, first_port, second_port, class_low}
 use Rattle.in_simple.proofs.Sums.{some_of}
 use Rattle.in_net.specs.Interactions.{Redex, redex_at, open_member, open_port, class_node}

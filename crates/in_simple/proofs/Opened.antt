@@ -1,7 +1,6 @@
 -- The open net of a whole net is one.
-use Rattle.std.proofs.Common.{◌≡◌, ◌<◌, ◌≤◌, ◌+◌, ℕ, zero, suc, Option, Some, None, IsSomeAnd, List, [], ◌∷◌, length, slice_get, get_or, refl, sym, subst, ap, inl, inr, ◌∙◌, arith}
+use Rattle.std.proofs.Common.{◌≡◌, ◌<◌, ◌≤◌, ◌+◌, ℕ, Option, Some, None, IsSomeAnd, List, length, slice_get, get_or, refl, sym, subst, ap, inl, inr, ◌∙◌, arith}
 use Rattle.std.specs.Prelude.{option_map, option_and_then}
-use Rattle.std.specs.List.{AllByRecursion}
 use Rattle.std.proofs.lemmas.Option.{slice_get_within, get_or_from_slice_get}
 use Rattle.in_symbols.specs.declared.symbols.SymbolNo.{SymbolNo}
 use Rattle.in_symbols.specs.Tables.{Tables, arity_of, class_at, classes_of}
@@ -10,8 +9,9 @@ use Rattle.in_net.specs.declared.nets.Point as points
 use Rattle.in_net.specs.declared.nets.Point.TheVariants as point
 use Rattle.in_net.specs.declared.nets.FreeEnd.{FreeEnd}
 use Rattle.in_net.specs.declared.nets.Wire.{Wire}
+use Rattle.in_net.proofs.OneNet.{cell_over}
 use Rattle.in_net.proofs.WireAt.{has_partner}
-use Rattle.in_net.specs.Built.{IsOver, IsCellOver}
+use Rattle.in_net.specs.Built.{IsOver}
 use Rattle.in_net.specs.Parts.{Parts, IsWhole, IsPointOf, IsWireBetween, cell_in, symbol_in, partner_in, wire_in}
 use Rattle.in_simple.specs.declared.open_nets.Node.{Node}
 use Rattle.in_simple.specs.declared.open_nets.Node.TheVariants.{AgentNode, ClassNode}
@@ -21,7 +21,8 @@ use Rattle.in_simple.specs.declared.open_nets.Point.TheVariants.{Port, Free}
 use Rattle.in_simple.specs.OpenNets as nets
 use Rattle.in_simple.specs.OpenNets.{OpenNet, IsWire, IsOpenNet, IsOrderly, ports_in, IsAgentNode, IsAgent, class_in}
 use Rattle.in_simple.specs.Opening.{Each, IsNodeOf, AreNumbered, Opens, open_point, open_wire}
-use Rattle.in_simple.proofs.Sums.{some_of, some_same}
+use Rattle.in_net.proofs.Stepping.Turns.{some_same}
+use Rattle.in_simple.proofs.Sums.{some_of}
 use Rattle.in_base.proofs.Each.{at_index}
 use Rattle.in_syntax.specs.Grammar.{max_ports}
 
@@ -38,8 +39,21 @@ open_of_net : (p : Point) → open_point (net_point p) ≡ p
 open_of_net (Port x i) = refl
 open_of_net (Free k) = refl
 
-same_wire : (r s u v : points.Point) → r ≡ u → s ≡ v → ◌≡◌ {A = Option (points.Point × points.Point)} (Some (r, s)) (Some (u, v))
+pub same_wire : (r s u v : points.Point) → r ≡ u → s ≡ v → ◌≡◌ {A = Option (points.Point × points.Point)} (Some (r, s)) (Some (u, v))
 same_wire r s u v e f = cc
+
+pub lower_point : (o : OpenNet) (x i j : ℕ) → i ≤ j → nets.IsPointOf o (Port x j) → nets.IsPointOf o (Port x i)
+lower_point o x i j l h =
+    let m = some_of (λ (m : OpenNode). j < length m.class_of) (slice_get o.nodes x) h in
+    let k = m.2 in
+    subst (λ z. IsSomeAnd z (λ (m : OpenNode). i < length m.class_of)) (sym m.1) (omega arith)
+
+pub few_ports : (o : OpenNet) → Each (λ n node. length node.class_of ≤ max_ports + 1) o.nodes → (x : ℕ) → ports_in (slice_get o.nodes x) ≤ max_ports + 1
+few_ports o few x = at (slice_get o.nodes x) refl
+  where
+    at : (m : Option OpenNode) → slice_get o.nodes x ≡ m → ports_in m ≤ max_ports + 1
+    at None e = omega arith
+    at (Some m) e = few x m e
 
 module _ (t : Tables) (n : Parts) (o : OpenNet) (numbered : AreNumbered t) (whole : IsWhole n) (over : IsOver t n) (opens : Opens t n o) where
   wire_of_net : (w : ℕ) (p q : Point) → slice_get o.wires w ≡ Some (p, q) → wire_in n w ≡ Some (net_point p, net_point q)
@@ -90,11 +104,6 @@ module _ (t : Tables) (n : Parts) (o : OpenNet) (numbered : AreNumbered t) (whol
     pub ports : length node.class_of ≡ length cell.ends
     pub is : IsNodeOf t n x node
 
-  cell_over : (cells : List (Option Cell)) → AllByRecursion (IsCellOver t) cells → (x : ℕ) (c : Cell) → slice_get cells x ≡ Some (Some c) → length c.ends ≡ arity_of t c.symbol.0 + 1
-  cell_over [] all x c e = cc
-  cell_over (d ∷ ds) all zero c e = let f : d ≡ Some c = some_same (Some d) d (Some c) refl e in (subst (IsCellOver t) f all.0).1
-  cell_over (d ∷ ds) all (suc x) c e = cell_over ds all.1 x c e
-
   both_at : (x : ℕ) (m : OpenNode) → slice_get o.nodes x ≡ Some m → IsBoth x
   both_at x m e = go (slice_get n.cells x) refl (opens.nodes.1 x m e).here
     where
@@ -108,7 +117,7 @@ module _ (t : Tables) (n : Parts) (o : OpenNet) (numbered : AreNumbered t) (whol
           let g : symbol_in n x ≡ Some c.symbol = ap (λ z. option_map (λ (c : Cell). c.symbol) (option_and_then (λ c. c) z)) f in
           let s : is.symbol ≡ c.symbol = some_same (symbol_in n x) is.symbol c.symbol h g in
           let a : arity_of t is.symbol.0 ≡ arity_of t c.symbol.0 = ap (λ (z : SymbolNo). arity_of t z.0) s in
-          let l = cell_over n.cells over.cells x c f in
+          let l = (cell_over t n.cells x c over.cells (ap (option_and_then (λ (c : Option Cell). c)) f)).1 in
           let k = is.ports.0 in
           record {
             cell = c;
@@ -181,15 +190,9 @@ module _ (t : Tables) (n : Parts) (o : OpenNet) (numbered : AreNumbered t) (whol
       go : (u : (m : OpenNode) × (slice_get o.nodes x ≡ Some m) × (i < length m.class_of)) → (v : (m : OpenNode) × (slice_get o.nodes x ≡ Some m) × (j < length m.class_of)) → (opens.nodes.1 x u.0 u.1).symbol ≡ (opens.nodes.1 x v.0 v.1).symbol
       go u v = some_same (symbol_in n x) (opens.nodes.1 x u.0 u.1).symbol (opens.nodes.1 x v.0 v.1).symbol (opens.nodes.1 x u.0 u.1).here (opens.nodes.1 x v.0 v.1).here
 
-  lower_point : (x i j : ℕ) → i ≤ j → nets.IsPointOf o (Port x j) → nets.IsPointOf o (Port x i)
-  lower_point x i j l h =
-      let m = some_of (λ (m : OpenNode). j < length m.class_of) (slice_get o.nodes x) h in
-      let k = m.2 in
-      subst (λ z. IsSomeAnd z (λ (m : OpenNode). i < length m.class_of)) (sym m.1) (omega arith)
-
   pub in_order : (x i j : ℕ) → IsAgent o x → nets.IsPointOf o (Port x j) → 0 < i → i ≤ j → class_in o x i ≤ class_in o x j
   in_order x i j a k z l =
-      let h = lower_point x i j l k in
+      let h = lower_point o x i j l k in
       let c = class_is x i a h in
       let d = class_is x j a k in
       let e : class_at t c.0.0 j ≡ class_at t d.0.0 j = ap (λ (s : SymbolNo). class_at t s.0 j) (class_same x i j a h k) in
@@ -227,11 +230,7 @@ pub is_orderly : (t : Tables) (n : Parts) (o : OpenNet) → AreNumbered t → Is
 is_orderly t n o numbered whole over opens few = record {
   nodes = let a = whole.agents in let b = opens.nodes.0 in omega arith;
   wires = let a = whole.wires in let b = opens.wires.0 in omega arith;
-  ports = λ x. at x (slice_get o.nodes x) refl;
+  ports = few_ports o few;
   net = is_open_net t n o numbered whole over opens;
   ordered = λ x i j a k z l. in_order t n o numbered whole over opens x i j a k z l;
 }
-  where
-    at : (x : ℕ) (m : Option OpenNode) → slice_get o.nodes x ≡ m → ports_in m ≤ max_ports + 1
-    at x None e = omega arith
-    at x (Some m) e = few x m e

@@ -1,7 +1,6 @@
 -- The open net of a rule is one.
-use Rattle.std.proofs.Common.{◌≡◌, ◌<◌, ◌≤◌, ◌+◌, ◌-◌, ◌^◌, ℕ, zero, suc, Bool, true, false, cond, nat_lt, Option, Some, None, IsSomeAnd, List, [], ◌∷◌, length, slice_get, get_or, refl, sym, subst, ap, inl, inr, ◌∙◌, arith}
+use Rattle.std.proofs.Common.{◌≡◌, ◌<◌, ◌≤◌, ◌+◌, ◌-◌, ◌^◌, ℕ, suc, Bool, true, false, cond, nat_lt, Option, Some, None, IsSomeAnd, length, slice_get, get_or, refl, sym, subst, ap, inl, inr, ◌∙◌, arith}
 use Rattle.std.specs.Prelude.{option_map, option_and_then}
-use Rattle.std.specs.List.{AllByRecursion}
 use Rattle.std.proofs.lemmas.Bool.Decides.{leb_tells}
 use Rattle.std.proofs.lemmas.List.Sums.{count_by-le-length}
 use Rattle.std.proofs.lemmas.Option.{slice_get_within, get_or_from_slice_get}
@@ -13,10 +12,12 @@ use Rattle.in_net.specs.declared.nets.Point as points
 use Rattle.in_net.specs.declared.nets.Point.TheVariants as point
 use Rattle.in_net.specs.declared.nets.FreeEnd.{FreeEnd}
 use Rattle.in_net.specs.declared.nets.Wire.{Wire}
+use Rattle.in_net.proofs.OneNet.{cell_over}
 use Rattle.in_net.proofs.WireAt.{has_partner}
-use Rattle.in_net.specs.Built.{IsOver, IsCellOver}
+use Rattle.in_net.specs.Built.{IsOver}
 use Rattle.in_net.specs.Parts.{Parts, IsWhole, IsPointOf, IsWireBetween, cell_in, partner_in, wire_in}
 use Rattle.in_net.specs.Rules.{RuleParts}
+use Rattle.in_net.proofs.Stepping.Sites.{lt_tells}
 use Rattle.in_simple.specs.declared.open_nets.Node.{Node}
 use Rattle.in_simple.specs.declared.open_nets.Node.TheVariants.{AgentNode, ClassNode}
 use Rattle.in_simple.specs.declared.open_nets.OpenNode.{OpenNode}
@@ -26,13 +27,12 @@ use Rattle.in_simple.specs.OpenNets as nets
 use Rattle.in_simple.specs.OpenNets.{OpenNet, IsWire, IsOpenNet, IsOrderly, ports_in, IsAgentNode, IsAgent, class_in}
 use Rattle.in_simple.specs.Opening.{Each, IsNodeOf, AreNumbered}
 use Rattle.in_simple.specs.OpeningRules.{places_in, agents_before, agent_node, second_node, class_port, boundary_port, is_turned, rule_point, rule_wire, IsRuleWhole, OpensRule}
-use Rattle.in_simple.proofs.Sums.{some_of, some_same}
-use Rattle.in_simple.proofs.RulePoints.{lt_tells, place_there, place_within, same_place, not_first, not_second, same_agent, agent_within, NodeKind, of_first, of_second, of_agent, kind_of}
+use Rattle.in_net.proofs.Stepping.Turns.{some_same}
+use Rattle.in_simple.proofs.Sums.{some_of}
+use Rattle.in_simple.proofs.Opened.{lower_point, few_ports}
+use Rattle.in_simple.proofs.RulePoints.{place_there, place_within, same_place, not_first, not_second, same_agent, agent_within, NodeKind, of_first, of_second, of_agent, kind_of}
 use Rattle.in_base.proofs.Each.{at_index}
 use Rattle.in_syntax.specs.Grammar.{max_ports}
-
-same_wire : (r s u v : points.Point) → r ≡ u → s ≡ v → ◌≡◌ {A = Option (points.Point × points.Point)} (Some (r, s)) (Some (u, v))
-same_wire r s u v e f = cc
 
 same_port : (a b i j : ℕ) → a ≡ b → i ≡ j → ◌≡◌ {A = Point} (Port a i) (Port b j)
 same_port a b i j e f = cc
@@ -125,19 +125,6 @@ module _ (t : Tables) (p : RuleParts) where
 
 -- ---- the agents of the right member
 
-cell_over : (t : Tables) (cells : List (Option Cell)) → AllByRecursion (IsCellOver t) cells → (x : ℕ) (c : Cell) → slice_get cells x ≡ Some (Some c) → length c.ends ≡ arity_of t c.symbol.0 + 1
-cell_over t [] all x c e = cc
-cell_over t (d ∷ ds) all zero c e = let f : d ≡ Some c = some_same (Some d) d (Some c) refl e in (subst (IsCellOver t) f all.0).1
-cell_over t (d ∷ ds) all (suc x) c e = cell_over t ds all.1 x c e
-
-cell_listed : (n : Parts) (x : ℕ) (c : Cell) → cell_in n x ≡ Some c → slice_get n.cells x ≡ Some (Some c)
-cell_listed n x c e = go (slice_get n.cells x) refl e
-  where
-    go : (y : Option (Option Cell)) → slice_get n.cells x ≡ y → option_and_then (λ (c : Option Cell). c) y ≡ Some c → slice_get n.cells x ≡ Some (Some c)
-    go None f h = cc
-    go (Some None) f h = cc
-    go (Some (Some d)) f h = let k : ◌≡◌ {A = Option Cell} (Some d) (Some c) = h in f ∙ ap Some k
-
 -- the cell of a node's agent has an end for each of the node's ports
 cell_of : (t : Tables) (n : Parts) (over : IsOver t n) (x : ℕ) (m : OpenNode) → IsNodeOf t n x m → (c : Cell) × (cell_in n x ≡ Some c) × (length m.class_of ≡ length c.ends)
 cell_of t n over x m is = go (cell_in n x) refl is.here
@@ -147,7 +134,7 @@ cell_of t n over x m is = go (cell_in n x) refl is.here
     go (Some c) f h =
         let s : c.symbol ≡ is.symbol = some_same (Some c.symbol) c.symbol is.symbol refl h in
         let a : arity_of t c.symbol.0 ≡ arity_of t is.symbol.0 = ap (λ (z : SymbolNo). arity_of t z.0) s in
-        let l = cell_over t n.cells over.cells x c (cell_listed n x c f) in
+        let l = (cell_over t n.cells x c over.cells f).1 in
         let k = is.ports.0 in
         (c, f, omega arith)
 
@@ -193,7 +180,7 @@ module _ (t : Tables) (p : RuleParts) (o : OpenNet) (numbered : AreNumbered t) (
   pub points_open : (r : points.Point) → IsPointOf p.member r → nets.IsPointOf o (f r)
   points_open (point.Port x i) h =
       let c = some_of (λ (c : Cell). i < length c.ends) (cell_in p.member x.0) h in
-      let l = slice_get_within p.member.cells x.0 (Some c.0) (cell_listed p.member x.0 c.0 c.1) in
+      let l = (cell_over t p.member.cells x.0 c.0 over.cells c.1).0 in
       let w = agent_within t p x.0 l in
       let q = opens.nodes.0 in
       let m = at_index o.nodes (agent_node t p x.0) (omega arith) in
@@ -389,16 +376,6 @@ module _ (t : Tables) (p : RuleParts) (o : OpenNet) (numbered : AreNumbered t) (
   image_point : (w : ℕ) (a b : Point) → (i : IsImage w a b) → IsPointOf p.member i.one
   image_point w a b i = has_partner p.member i.one i.other i.partner
 
-  once : (w v : ℕ) (a b d : Point) → IsWire o w a b → IsWire o v a d → (w ≡ v) × (b ≡ d)
-  once w v a b d h k =
-      let i = image w a b h in
-      let j = image v a d k in
-      let e : i.one ≡ j.one = same_point i.one j.one (image_point w a b i) (image_point v a d j) (i.one_is ∙ sym j.one_is) in
-      let g : i.other ≡ j.other = some_same (partner_in p.member j.one) i.other j.other (subst (λ z. partner_in p.member z ≡ Some i.other) e i.partner) j.partner in (
-        net.once w v j.one j.other (subst (λ z. IsWireBetween p.member w z j.other) e (subst (λ z. IsWireBetween p.member w i.one z) g i.between)) j.between,
-        sym i.other_is ∙ ap f g ∙ j.other_is,
-      )
-
   apart : (w : ℕ) (a b : Point) → IsWire o w a b → a ≡ b → ⊥
   apart w a b h e =
       let i = image w a b h in
@@ -428,27 +405,18 @@ module _ (t : Tables) (p : RuleParts) (o : OpenNet) (numbered : AreNumbered t) (
       let c = at_index m.class_of i (omega arith) in
       (omega arith, ap (λ z. nets.class_at z i) e ∙ class_by_node m i is.node ∙ get_or_from_slice_get m.class_of i c.0 0 c.1 ∙ is.ports.1 i c.0 c.1)
 
-  lower_point : (n i j : ℕ) → i ≤ j → nets.IsPointOf o (Port n j) → nets.IsPointOf o (Port n i)
-  lower_point n i j l h =
-      let m = some_of (λ (m : OpenNode). j < length m.class_of) (slice_get o.nodes n) h in
-      let k = m.2 in
-      subst (λ z. IsSomeAnd z (λ (m : OpenNode). i < length m.class_of)) (sym m.1) (omega arith)
-
-  in_order : (n i j : ℕ) → IsAgent o n → nets.IsPointOf o (Port n j) → 0 < i → i ≤ j → class_in o n i ≤ class_in o n j
-  in_order n i j a k z l =
-      let m = agent_at n a in
-      let c = class_is n i m.0 m.2 m.1 m.3 (lower_point n i j l k) in
-      let d = class_is n j m.0 m.2 m.1 m.3 k in
-      let u = numbered.ordered m.3.symbol.0 i j z l d.0 in
-      let v = c.1 in
-      let w = d.1 in
-      omega arith
-
   pub is_open_net : IsOpenNet o
   is_open_net = record {
     points = λ w a b h. let i = image w a b h in subst (nets.IsPointOf o) i.one_is (points_open i.one (image_point w a b i));
     joined = λ a h. joined a h;
-    once = λ w v a b d h k. once w v a b d h k;
+    once = λ w v a b d h k.
+        let i = image w a b h in
+        let j = image v a d k in
+        let e : i.one ≡ j.one = same_point i.one j.one (image_point w a b i) (image_point v a d j) (i.one_is ∙ sym j.one_is) in
+        let g : i.other ≡ j.other = some_same (partner_in p.member j.one) i.other j.other (subst (λ z. partner_in p.member z ≡ Some i.other) e i.partner) j.partner in (
+          net.once w v j.one j.other (subst (λ z. IsWireBetween p.member w z j.other) e (subst (λ z. IsWireBetween p.member w i.one z) g i.between)) j.between,
+          sym i.other_is ∙ ap f g ∙ j.other_is,
+        );
     apart = λ w a b h e. apart w a b h e;
     principal = λ n i a h.
         let m = agent_at n a in
@@ -468,11 +436,14 @@ module _ (t : Tables) (p : RuleParts) (o : OpenNet) (numbered : AreNumbered t) (
   is_orderly small few = record {
     nodes = small;
     wires = let a = net.wires in let b = opens.wires.0 in omega arith;
-    ports = λ n. at n (slice_get o.nodes n) refl;
+    ports = few_ports o few;
     net = is_open_net;
-    ordered = λ n i j a k z l. in_order n i j a k z l;
+    ordered = λ n i j a k z l.
+        let m = agent_at n a in
+        let c = class_is n i m.0 m.2 m.1 m.3 (lower_point o n i j l k) in
+        let d = class_is n j m.0 m.2 m.1 m.3 k in
+        let u = numbered.ordered m.3.symbol.0 i j z l d.0 in
+        let v = c.1 in
+        let w = d.1 in
+        omega arith;
   }
-    where
-      at : (n : ℕ) (m : Option OpenNode) → slice_get o.nodes n ≡ m → ports_in m ≤ max_ports + 1
-      at n None e = omega arith
-      at n (Some m) e = few n m e

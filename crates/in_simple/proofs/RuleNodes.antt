@@ -4,7 +4,7 @@ use Rattle.std.specs.Prelude.{count_by, option_map}
 use Rattle.std.proofs.lemmas.List.Sums.{count_by_more_yes, count_by_more_no}
 use Rattle.std.proofs.lemmas.Option.{slice_get_within, get_or_from_slice_get}
 use Rattle.in_simple.specs.Opening.{Each}
-use Rattle.in_simple.proofs.Sums.{some_same}
+use Rattle.in_net.proofs.Stepping.Turns.{some_same}
 
 each_one_more : {X : Type 0} (P : ℕ → X → Type 0) (xs : List X) (x : X) → Each P xs → P (length xs) x → Each P (xs ++ x ∷ [])
 each_one_more P [] x all h zero y e = subst (P 0) (some_same (Some x) x y refl e) h

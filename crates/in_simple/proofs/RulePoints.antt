@@ -1,12 +1,10 @@
 -- The points of a rule's right member and those of its open net: each of these is one of those, and of one alone.
-use Rattle.std.proofs.Common.{◌≡◌, ◌≢◌, ◌⊎◌, ◌<◌, ◌≤◌, ◌+◌, ◌-◌, ℕ, zero, suc, true, false, cond, nat_eq, nat_lt, length, refl, ap, inl, inr, arith}
-use Rattle.std.proofs.lemmas.Bool.Decides.{leb_tells, eqb_tells}
+use Rattle.std.proofs.Common.{◌≡◌, ◌≢◌, ◌<◌, ◌≤◌, ◌+◌, ◌-◌, ℕ, zero, suc, cond, nat_eq, length, refl, ap, inl, inr, arith}
+use Rattle.std.proofs.lemmas.Bool.Decides.{eqb_tells}
 use Rattle.in_symbols.specs.Tables.{Tables, class_at, classes_of}
 use Rattle.in_net.specs.Rules.{RuleParts}
+use Rattle.in_net.proofs.Stepping.Sites.{lt_tells}
 use Rattle.in_simple.specs.OpeningRules.{places_in, agents_before, agent_node, second_node, rule_nodes}
-
-pub lt_tells : (a b : ℕ) → ((nat_lt a b ≡ true) × (a < b)) ⊎ ((nat_lt a b ≡ false) × (b ≤ a))
-lt_tells a b = elim (leb_tells (suc a) b) [ inl h ↦ inl (h.0, omega (arith, h.1)) | inr h ↦ inr (h.0, omega (arith, h.1)) ]
 
 one_same : (a b : ℕ) → a ≡ b → ◌≡◌ {A = ℕ} (cond (nat_eq a b) 1 0) 1
 one_same a b e = elim (eqb_tells a b) [ inl h ↦ ap (λ z. cond z 1 0) h.0 | inr h ↦ absurd (h.1 e) ]

@@ -13,22 +13,20 @@ use Rattle.in_simple.specs.TakenOrder.{AreTaken, steps_from}
 use Rattle.in_simple.specs.Stacks.{Yields}
 use Rattle.in_simple.proofs.OneOrder.{split}
 use Rattle.in_simple.specs.Stacks.{count_of, Shape, shape, no_wires, HasShape, HaveShapes, times_node, IsStack, step_of, over_two, IsLast, AreLast, Makes, BuildsOver, Fits, Runs, Puts, loose_in, IsUnderWay}
-use Rattle.in_simple.proofs.Sums.{some_same, one_same, one_other}
+use Rattle.in_net.proofs.Stepping.Lists.{kept_at}
+use Rattle.in_net.proofs.Stepping.Turns.{some_same}
+use Rattle.in_simple.proofs.Sums.{one_same, one_other}
 use Rattle.in_simple.proofs.Links.{same_nat, at_most}
-use Rattle.in_simple.proofs.Forest.{length_app, get_app, get_past, get_cases, times_app, times_in_app, earlier_app, different_of, or_sum}
+use Rattle.in_simple.proofs.Forest.{length_app, get_past, get_cases, times_app, times_in_app, earlier_app, different_of, or_sum}
 
 -- ---- lists
-
-abbrev tail_of : {X : Type 0} → List X → List X
-tail_of [] = []
-tail_of (x ∷ xs) = xs
 
 pub app_same : {X : Type 0} (xs ys us vs : List X) → xs ++ us ≡ ys ++ vs → length us ≡ length vs → (xs ≡ ys) × (us ≡ vs)
 app_same [] [] us vs e l = (refl, e)
 app_same [] (y ∷ ys) us vs e l = let a = ap length e in let b = length_app ys vs in absurd (omega arith)
 app_same (x ∷ xs) [] us vs e l = let a = ap length e in let b = length_app xs us in absurd (omega arith)
 app_same (x ∷ xs) (y ∷ ys) us vs e l =
-    let r = app_same xs ys us vs (ap tail_of e) l in
+    let r = app_same xs ys us vs (ap (drop 1) e) l in
     let h : x ≡ y = some_same (slice_get (x ∷ (xs ++ us)) 0) x y refl (ap (λ z. slice_get z 0) e) in
     (ap (λ z. z ∷ xs) h ∙ ap (λ z. y ∷ z) r.0, r.1)
 
@@ -42,7 +40,7 @@ earlier_push : (parts : List Part) (y : Part) (k l : ℕ) → k ≤ l → (is : 
 earlier_push parts y k l h [] [] e = tt
 earlier_push parts y k l h [] (x ∷ xs) e = e
 earlier_push parts y k l h (i ∷ is) [] e = e
-earlier_push parts y k l h (i ∷ is) (x ∷ xs) e = let a = e.0 in (omega arith, get_app parts (y ∷ []) i x e.1, earlier_push parts y k l h is xs e.2)
+earlier_push parts y k l h (i ∷ is) (x ∷ xs) e = let a = e.0 in (omega arith, kept_at parts (y ∷ []) i x e.1, earlier_push parts y k l h is xs e.2)
 
 times_node_app : (n : ℕ) (xs ys : List Part) → times_node n (xs ++ ys) ≡ times_node n xs + times_node n ys
 times_node_app n [] ys = omega arith
@@ -147,7 +145,7 @@ module _ (o : OpenNet) where
     tops = p.ts ++ y ∷ [];
     same = length_app k.parts (y ∷ []) ∙ ap (λ z. z + 1) k.same ∙ sym (length_app s (step ∷ []));
     each = λ i step' h. elim (get_cases s (step ∷ []) i step' h) [
-      | inl e ↦ let q = k.each i step' e in (q.0, get_app k.parts (y ∷ []) i q.0 q.1, builds_push k.parts y i step' q.0 q.2)
+      | inl e ↦ let q = k.each i step' e in (q.0, kept_at k.parts (y ∷ []) i q.0 q.1, builds_push k.parts y i step' q.0 q.2)
       | inr e ↦ last i step' e.0 e.1 e.2
     ];
     roots_are =

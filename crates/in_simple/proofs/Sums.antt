@@ -1,11 +1,14 @@
 -- Tests, ports and sums over parts.
-use Rattle.std.proofs.Common.{◌≡◌, ◌≢◌, ◌⊎◌, ◌<◌, ◌≤◌, ◌+◌, ℕ, zero, suc, Bool, true, false, cond, ◌||◌, ◌&&◌, nat_eq, Option, Some, None, IsSomeAnd, List, [], ◌∷◌, slice_get, refl, sym, subst, ap, inl, inr, ◌∙◌, eq-eqb, eqb-true, ne_eqb, arith}
+use Rattle.std.proofs.Common.{◌≡◌, ◌≢◌, ◌⊎◌, ◌<◌, ◌≤◌, ◌+◌, ℕ, zero, suc, Bool, true, false, cond, ◌||◌, ◌&&◌, nat_eq, Option, Some, None, IsSomeAnd, List, [], ◌∷◌, length, slice_get, refl, sym, subst, ap, inl, inr, ◌∙◌, eq-eqb, eqb-true, ne_eqb, arith}
 use Rattle.std.proofs.lemmas.Bool.Decides.{eqb_tells}
+use Rattle.std.proofs.lemmas.Option.{slice_get_within}
 use Rattle.in_simple.specs.declared.open_nets.Point.{Point}
 use Rattle.in_simple.specs.declared.open_nets.Point.TheVariants.{Port, Free}
-use Rattle.in_simple.specs.Constructions.{IsIn}
+use Rattle.in_net.proofs.Stepping.Turns.{some_same}
+use Rattle.in_simple.specs.Constructions.{IsIn, AreParts, numbered}
+use Rattle.in_simple.specs.OpenNets.{OpenNet, IsNode, IsPointOf}
 use Rattle.in_simple.specs.Derivations.{Part, one_if, is_port_in, is_principal, is_auxiliary, is_among, nodes_of, ends_of, ShareNothing, AreEarlier}
-use Rattle.std.proofs.lemmas.Bool.{and_parts, or_cases, or_left, or_right, cases_Bool}
+use Rattle.std.proofs.lemmas.Bool.{and_parts, cond_both, or_cases, or_left, or_right, cases_Bool}
 
 pub both_left : (b c : Bool) → (b && c) ≡ true → b ≡ true
 both_left b c h = (and_parts b c h).0
@@ -24,12 +27,21 @@ same_test false c f g = go (cases_Bool c)
     go (inl h) = let k = g h in cc
     go (inr h) = sym h
 
-pub some_same : {X : Type 0} (o : Option X) (x y : X) → o ≡ Some x → o ≡ Some y → x ≡ y
-some_same o x y h k = cc
-
 pub some_of : {X : Type 0} (P : X → Type 0) (o : Option X) → IsSomeAnd o P → (x : X) × (o ≡ Some x) × P x
 some_of P None h = absurd h
 some_of P (Some x) h = (x, refl, h)
+
+-- the node of a port is one of the net's
+pub point_node : (o : OpenNet) (n i : ℕ) → IsPointOf o (Port n i) → IsNode o n
+point_node o n i h = let m = some_of (λ m. i < length m.class_of) (slice_get o.nodes n) h in slice_get_within o.nodes n m.0 m.1
+
+-- ---- sets of nodes
+
+pub swap_parts : {V : Type 0} (s a b : V → Bool) → AreParts s a b → AreParts s b a
+swap_parts s a b parts n = ((λ h. elim ((parts n).0.0 h) [ inl x ↦ inr x | inr y ↦ inl y ], λ h. (parts n).0.1 (elim h [ inl x ↦ inr x | inr y ↦ inl y ])), λ x y. (parts n).1 y x)
+
+pub numbered_is : {V : Type 0} (s : V → Bool) (part : V → ℕ) (c : ℕ) (n : V) → IsIn n (numbered s part c) → part n ≡ c
+numbered_is s part c n h = eqb-true (part n) c (both_right (s n) (nat_eq (part n) c) h)
 
 -- a port of s counts once
 pub port_yes : (s : ℕ → Bool) (n i : ℕ) → IsIn n s → is_port_in s (Port n i) ≡ 1
@@ -118,11 +130,7 @@ pub one_other : (n m : ℕ) → n ≢ m → one_if n m ≡ 0
 one_other n m h = let e : nat_eq n m ≡ false = ne_eqb n m h in rw e refl
 
 pub one_most : (n m : ℕ) → one_if n m ≤ 1
-one_most n m = go (nat_eq n m)
-  where
-    go : (c : Bool) → cond c 1 0 ≤ 1
-    go true = omega arith
-    go false = omega arith
+one_most n m = cond_both (nat_eq n m) 1 0 (λ z. z ≤ 1) (λ e. omega arith) (λ e. omega arith)
 
 -- a part of a list has its nodes and ends there
 pub in_nodes_of : (xs : List Part) (i : ℕ) (x : Part) (n : ℕ) → slice_get xs i ≡ Some x → IsIn n x.nodes → IsIn n (nodes_of xs)

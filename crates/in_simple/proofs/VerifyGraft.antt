@@ -1,7 +1,7 @@
 -- A graft: its classes are gathered one by one, and its own ports joined to them.
 use Rattle.std.proofs.Common.{◌≡◌, ◌↔◌, ◌<◌, ◌≤◌, ◌+◌, ◌-◌, ℕ, zero, suc, Bool, true, false, cond, ◌||◌, nat_eq, Option, Some, None, List, [], ◌∷◌, length, drop, get_or, slice_get, refl, sym, subst, ap, inl, inr, ◌∙◌, eq-eqb, ne_eqb, arith}
 use Rattle.std.proofs.Math.ListN.{set}
-use Rattle.std.proofs.lemmas.List.{length-set}
+use Rattle.std.proofs.lemmas.List.{length-set, drop_all}
 use Rattle.std.proofs.lemmas.Option.{slice_get_within}
 use Rattle.in_simple.specs.declared.open_nets.Point.{Point}
 use Rattle.in_simple.specs.declared.open_nets.Point.TheVariants.{Port, Free}
@@ -11,9 +11,10 @@ use Rattle.in_simple.specs.Derivations.{Graft, Part, is_principal, is_auxiliary,
 use Rattle.in_simple.specs.Checking.{ends_at, has_node, has_link, in_one, IsSized, Holds, AllHold, Gathers, IsNothing, Took, Makes, IsMade, AreOpen, IsInClass, IsOpenAt, IsOpen, HasClass, AreGrafted, OnStep, IsClassTaken, IsClassRefused, AreGathered, AreRefused, IsGraftedTo, LacksSome}
 use Rattle.in_simple.specs.Procedure.{nodes_in}
 use Rattle.in_simple.proofs.Links.{same_nat}
-use Rattle.in_simple.proofs.Sums.{some_same, one_same, one_other}
+use Rattle.in_net.proofs.Stepping.Turns.{some_same}
+use Rattle.in_simple.proofs.Sums.{one_same, one_other}
 use Rattle.in_simple.proofs.VerifyMade.{AtWires, beside_counted, at_points, at_wires, gathers_none, gathers_more, share_none}
-use Rattle.in_simple.proofs.VerifySets.{at_set, at_other, drop_end, drop_here}
+use Rattle.in_simple.proofs.VerifySets.{at_set, at_other, drop_here}
 use Rattle.in_simple.proofs.VerifyTaken.{taken_counted, took_hold, took_kept, again_left, earlier_length}
 use Rattle.std.proofs.lemmas.Bool.{or_left, or_right}
 
@@ -243,7 +244,7 @@ module _ (o : OpenNet) (n : ℕ) where
       (refused_here k (get_or is k 0) (drop (suc k) is) old mid built h (subst (λ z. IsClassRefused o n (suc k) (get_or is z 0) mid built) e t)))
 
   pub classes_start : (is : List ℕ) (old : List (Option Built)) (built : Built) → IsNothing o built → AreGathered o n (length is) (drop (length is) is) old old built
-  classes_start is old built h = subst (λ z. AreGathered o n (length is) z old old built) (sym (drop_end is)) (gathered_none old (length is) built h)
+  classes_start is old built h = subst (λ z. AreGathered o n (length is) z old old built) (sym (drop_all (length is) is (omega arith))) (gathered_none old (length is) built h)
 
   -- ---- why a graft is refused
 

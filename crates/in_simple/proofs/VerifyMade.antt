@@ -12,7 +12,8 @@ use Rattle.in_simple.specs.Derivations.{Empty, Link, Given, Cut, Mix, Part, one_
 use Rattle.in_simple.specs.Checking.{ends_at, has_node, has_link, first_ends, second_ends, IsSized, Holds, Gathers, IsNothing, AreBeside, ShareOne, IsLed, IsFrom, IsJoint, Makes, OnAlone, OnPair, in_one}
 use Rattle.in_simple.specs.Procedure.{nodes_in}
 use Rattle.in_simple.proofs.Links.{same_nat}
-use Rattle.in_simple.proofs.Sums.{some_same, port_same, one_same, one_other}
+use Rattle.in_net.proofs.Stepping.Turns.{some_same}
+use Rattle.in_simple.proofs.Sums.{port_same, one_same, one_other}
 use Rattle.in_simple.proofs.VerifySets.{at_set, at_other}
 use Rattle.std.proofs.lemmas.Bool.{or_left, or_right}
 use Rattle.in_base.proofs.Each.{at_index}

@@ -6,9 +6,11 @@ use Rattle.in_simple.specs.OpenNets.{OpenNet, IsOpenNet}
 use Rattle.in_simple.specs.Derivations.{Step, Part, named, own_nodes, is_among, AreDifferent, AreEarlier, Builds, IsDerivation, is_free, times, times_in}
 use Rattle.in_simple.specs.Checking.{AreSized, AreHeld, AllHold, Again, Holds, IsLast, IsMade, IsWhole, IsSized, IsTaken, Took, Makes, OnStep, OnAlone, OnPair, has_node, in_one, left_of, left_at, times_left}
 use Rattle.in_simple.proofs.Named.{AreLeft, left_start, left_more, left_app, take_next, take_whole}
-use Rattle.in_simple.proofs.Forest.{get_app, get_past, get_cases, times_in_app}
+use Rattle.in_simple.proofs.Forest.{last_split, get_past, get_cases, times_in_app}
 use Rattle.in_simple.proofs.Links.{same_nat, at_most}
-use Rattle.in_simple.proofs.Sums.{some_same, one_same, one_other, earlier_of}
+use Rattle.in_net.proofs.Stepping.Lists.{kept_at}
+use Rattle.in_net.proofs.Stepping.Turns.{some_same}
+use Rattle.in_simple.proofs.Sums.{one_same, one_other, earlier_of}
 use Rattle.in_simple.proofs.Whole.{times_among, is_node}
 use Rattle.in_simple.proofs.VerifyMade.{at_points, part_of, holds_part}
 use Rattle.in_simple.proofs.VerifyTaken.{left_most, taken_counted, took_takes, took_kept, took_sized, took_different, took_hold, took_from, again_left}
@@ -207,7 +209,7 @@ module _ (o : OpenNet) (steps : List Step) where
           let held = h.held all so.2 in
           let l = so.1 in
           let size = length-append all (x ∷ []) in
-          let more : (i : ℕ) (y : Part) → slice_get all i ≡ Some y → slice_get (all ++ x ∷ []) i ≡ Some y = λ i y g. get_app all (x ∷ []) i y g in (
+          let more : (i : ℕ) (y : Part) → slice_get all i ≡ Some y → slice_get (all ++ x ∷ []) i ≡ Some y = λ i y g. kept_at all (x ∷ []) i y g in (
             all ++ x ∷ [],
             omega arith,
             λ i step' b f. elim (same_nat i k) [
@@ -290,11 +292,6 @@ module _ (o : OpenNet) (steps : List Step) where
             let same : y.0 ≡ x = some_same (slice_get so.0 (length front)) y.0 x y.1 (subst (λ z. slice_get so.0 z ≡ Some x) at f) in
             at_points o (λ w p q e. e ≡ is_free q) b x (λ w p q g. free w p q (slice_get_within o.wires w (p, q) g) g) (subst (λ z. Holds o b z) same y.2) w p q wire;
       }
-
-  last_split : {X : Type 0} (xs : List X) → 0 < length xs → (front : List X) × (x : X) × (xs ≡ front ++ x ∷ [])
-  last_split [] l = absurd (omega arith)
-  last_split (x ∷ []) l = ([], x, refl)
-  last_split (x ∷ y ∷ ys) l = let r = last_split (y ∷ ys) (omega arith) in (x ∷ r.0, r.1, ap (λ z. x ∷ z) r.2)
 
   pub whole_built : (parts : List (Option Built)) → AreBuilt o steps (length steps) parts → IsDerivation o steps → IsWhole o parts
   whole_built parts h d = go (last_split parts (let a = d.some in let b = h.left.size in omega arith))

@@ -33,10 +33,6 @@ none_there [] n d h = refl
 none_there (x ∷ xs) zero d h = cc
 none_there (x ∷ xs) (suc n) d h = none_there xs n d h
 
-pub drop_end : {X : Type 0} (xs : List X) → drop (length xs) xs ≡ []
-drop_end [] = refl
-drop_end (x ∷ xs) = drop_end xs
-
 pub drop_here : (xs : List ℕ) (k : ℕ) → k < length xs → drop k xs ≡ get_or xs k 0 ∷ drop (suc k) xs
 drop_here [] k l = absurd (omega arith)
 drop_here (x ∷ xs) zero l = refl

@@ -9,7 +9,8 @@ use Rattle.in_simple.specs.Checking.{Holds, AllHold, AreHeld, AreSized, IsTaken,
 use Rattle.in_simple.proofs.Forest.{different_of}
 use Rattle.in_simple.proofs.Links.{same_nat}
 use Rattle.in_simple.proofs.Named.{get_set_same, get_set_other, take_one, take_none}
-use Rattle.in_simple.proofs.Sums.{some_same, not_both}
+use Rattle.in_net.proofs.Stepping.Turns.{some_same}
+use Rattle.in_simple.proofs.Sums.{not_both}
 use Rattle.in_simple.proofs.Whole.{among_times}
 
 pub left_most : (parts : List (Option Built)) (i : ℕ) → left_at parts i ≤ 1

@@ -1,6 +1,5 @@
 -- The procedure's tasks decide which sub-net is the first stuck one, and grow fewer.
-use Rattle.std.proofs.Common.{◌≡◌, ◌⊎◌, ◌<◌, ◌≤◌, ℕ, suc, Bool, true, false, ◌||◌, List, [], ◌∷◌, ◌++◌, length, reverse, refl, sym, subst, ap, inl, inr, ◌∙◌, arith}
-use Rattle.std.proofs.lemmas.List.{reverse-append}
+use Rattle.std.proofs.Common.{◌≡◌, ◌⊎◌, ◌<◌, ◌≤◌, ℕ, suc, Bool, true, false, ◌||◌, List, [], ◌∷◌, ◌++◌, length, refl, sym, subst, ap, inl, inr, ◌∙◌, arith}
 use Rattle.in_simple.specs.declared.plans.Joint.{Joint}
 use Rattle.in_simple.specs.declared.plans.Task.{Task}
 use Rattle.in_simple.specs.declared.plans.Task.TheVariants.{Derive, Make}
@@ -72,9 +71,6 @@ pass_make a b x h = ((λ o w. go o (h.0 o w)), h.1)
   where
     go : (o : OpenNet) → IsWork o (Make x ∷ b) → IsWork o b
     go o w = record { sized = w.sized; apart = w.apart; whole = w.whole; nodes = w.nodes; stuck = w.stuck }
-
-pub reverse_more : {X : Type 0} (xs : List X) (x : X) → reverse (xs ++ x ∷ []) ≡ x ∷ reverse xs
-reverse_more xs x = reverse-append xs (x ∷ [])
 
 -- ---- a part that a node splits
 

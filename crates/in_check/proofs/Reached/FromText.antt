@@ -1,5 +1,5 @@
 -- The program of an accepted text is a sound system.
-use Rattle.std.proofs.Common.{◌≡◌, ◌≢◌, ◌⊎◌, ◌<◌, ◌≤◌, ◌+◌, ◌-◌, ℕ, zero, suc, Bool, true, false, not, ◌&&◌, nat_eq, cond, Option, Some, None, Ok, List, [], ◌∷◌, ◌++◌, map, length, slice_get, get_or, refl, sym, subst, ap, inl, inr, ◌∙◌, arith, eq-eqb}
+use Rattle.std.proofs.Common.{◌≡◌, ◌≢◌, ◌⊎◌, ◌<◌, ◌≤◌, ℕ, zero, suc, Bool, true, false, not, ◌&&◌, nat_eq, cond, Option, Some, None, Ok, List, [], ◌∷◌, ◌++◌, map, length, slice_get, get_or, refl, sym, subst, ap, inl, inr, ◌∙◌, arith, eq-eqb}
 use Rattle.std.specs.Prelude.{option_map, option_and_then}
 use Rattle.std.specs.List.{AllByRecursion}
 use Rattle.std.proofs.lemmas.Bool.Decides.{eqb_tells}
@@ -8,19 +8,18 @@ use Rattle.std.proofs.lemmas.Option.{slice_get_within, slice_get-map, same_Some}
 use Rattle.in_syntax.specs.declared.tree.Source.{Source}
 use Rattle.in_syntax.specs.declared.tree.SourcePort.{SourcePort}
 use Rattle.in_syntax.specs.declared.tree.SourceRule.{SourceRule}
-use Rattle.in_symbols.specs.declared.symbols.PortType.{PortType}
 use Rattle.in_symbols.specs.declared.symbols.Shape.{Shape}
 use Rattle.in_symbols.specs.declared.symbols.SymbolNo.{SymbolNo}
-use Rattle.in_symbols.specs.Tables.{Tables, IsTabled, tables_of, type_names, classes_from, shape_of, class_in, arity_of, port_at, is_constructor, are_opposite, matching}
+use Rattle.in_symbols.specs.Tables.{Tables, IsTabled, tables_of, type_names, classes_from, shape_of, class_in, port_at, is_constructor, are_opposite, matching}
 use Rattle.in_net.specs.declared.nets.Cell.{Cell}
 use Rattle.in_net.specs.declared.nets.FreeEnd.{FreeEnd}
 use Rattle.in_net.specs.Built.{IsCellOver}
-use Rattle.in_net.specs.Interactions.{end_symbol, end_place}
 use Rattle.in_net.specs.Nets.{AreClasses, net_of, signature_of}
 use Rattle.in_net.specs.Parts.{IsWhole}
 use Rattle.in_net.specs.Rules as written
 use Rattle.in_net.specs.Rules.{RuleParts, IsRuleOf, IsRuleOver, types_from, auxiliary_types}
 use Rattle.in_net.proofs.OneNet.{is_net}
+use Rattle.in_net.proofs.Stepping.Sites.{declared_at}
 use Rattle.in_typing.specs.Typed.{TypesRule}
 use Rattle.in_typing.proofs.TypedParts.{net_typed}
 use Rattle.in_cover.specs.Cover.{IsComplete}
@@ -32,20 +31,19 @@ use Rattle.in_simple.proofs.OfNets.{net_circle}
 use Rattle.in_simple.proofs.OfRules.{rule_circle}
 use Rattle.in_simple.proofs.OneAnswer.{rules_open, no_circle}
 use Rattle.in_simple.proofs.Opened as opened_nets
-use Rattle.in_simple.proofs.RulePoints.{lt_tells}
-use Rattle.in_simple.proofs.TextRules.{rule_whole, types_as_many}
+use Rattle.in_simple.proofs.TextRules.{rule_whole}
 use Rattle.in_simple.proofs.Whole.{derivation_builds}
 use Rattle.in_check.specs.Certificates.{CertifiesRule}
 use Rattle.in_check.specs.Checking.{IsAccepted, IsProgramOf}
 use Rattle.in_check.specs.Programs.{Program}
-use Rattle.in_check.specs.Systems.{SystemRule, IsMatching, IsSoundRule, IsSound, HasOneRule, IsSoundSystem, alone, rule_in, system_of}
+use Rattle.in_check.specs.Systems.{SystemRule, IsMatching, IsSoundRule, IsSound, HasOneRule, IsSoundSystem, rule_in, system_of}
 use Rattle.in_check.proofs.Chain.{program_of}
 use Rattle.in_base.proofs.Each.{at_index, all_at}
 use Rattle.std.proofs.lemmas.Bool.{and_parts}
 
 -- ---- lists
 
-of_mapped : {X Y : Type 0} (f : X → Y) (xs : List X) (i : ℕ) (y : Y) → slice_get (map f xs) i ≡ Some y → (x : X) × (slice_get xs i ≡ Some x) × (f x ≡ y)
+pub of_mapped : {X Y : Type 0} (f : X → Y) (xs : List X) (i : ℕ) (y : Y) → slice_get (map f xs) i ≡ Some y → (x : X) × (slice_get xs i ≡ Some x) × (f x ≡ y)
 of_mapped {X} {Y} f xs i y e = go (slice_get xs i) refl
   where
     go : (o : Option X) → slice_get xs i ≡ o → (x : X) × (slice_get xs i ≡ Some x) × (f x ≡ y)
@@ -150,44 +148,6 @@ heads_match t r p e m = subst (λ (h : SymbolNo × SymbolNo). IsMatching (signat
         let g : matching t c d ≡ true = subst (λ (h : SymbolNo × SymbolNo). matching t h.0.0 h.1.0 ≡ true) f m in
         absurd (let z : true ≡ false = sym g ∙ hb in cc)
 
--- ---- the types of boundary ends
-
-types_at : (t : Tables) (s i n e : ℕ) (y : PortType) → slice_get (types_from t s i n) e ≡ Some y → (y ≡ port_at t s (i + e)) × (e < n)
-types_at t s i zero e y h = cc
-types_at t s i (suc n) zero y h = let same : port_at t s i ≡ y = cc in (sym same ∙ ap (port_at t s) (let k : i ≡ i + 0 = omega arith in k), omega arith)
-types_at t s i (suc n) (suc e) y h =
-    let r = types_at t s (i + 1) n e y h in
-    let l = r.1 in
-    (r.0 ∙ ap (port_at t s) (let k : i + 1 + e ≡ i + suc e = omega arith in k), omega arith)
-
-of_append : {X : Type 0} (xs ys : List X) (i : ℕ) (x : X) → slice_get (xs ++ ys) i ≡ Some x → ((i < length xs) × (slice_get xs i ≡ Some x)) ⊎ ((length xs ≤ i) × (slice_get ys (i - length xs) ≡ Some x))
-of_append [] ys i x e = let k : i - 0 ≡ i = omega arith in inr (omega arith, ap (λ z. slice_get ys z) k ∙ e)
-of_append (z ∷ xs) ys zero x e = inl (omega arith, e)
-of_append (z ∷ xs) ys (suc i) x e = elim (of_append xs ys i x e) [ inl h ↦ inl (let k = h.0 in omega arith, h.1) | inr h ↦ inr (let k = h.0 in omega arith, (let k : suc i - suc (length xs) ≡ i - length xs = omega arith in ap (λ z. slice_get ys z) k) ∙ h.1) ]
-
-declared_at : (t : Tables) (p : RuleParts) → map (λ (f : FreeEnd). f.kind) p.member.free ≡ auxiliary_types t p.heads.0.0 ++ auxiliary_types t p.heads.1.0 → (e : ℕ) (y : PortType) →
-    slice_get (map (λ (f : FreeEnd). f.kind) p.member.free) e ≡ Some y → y ≡ port_at t (end_symbol (signature_of t) (alone (rule_in p)) e) (end_place (signature_of t) (alone (rule_in p)) e)
-declared_at t p types e y h = elim (of_append (auxiliary_types t p.heads.0.0) (auxiliary_types t p.heads.1.0) e y (ap (λ z. slice_get z e) (sym types) ∙ h)) [
-  | inl k ↦
-      let many = types_as_many t p.heads.0.0 1 (arity_of t p.heads.0.0) in
-      let r = types_at t p.heads.0.0 1 (arity_of t p.heads.0.0) e y k.1 in
-      let less = k.0 in
-      let place : 1 + e ≡ suc e = omega arith in
-      elim (lt_tells e (arity_of t p.heads.0.0)) [
-        | inl l ↦ r.0 ∙ ap (port_at t p.heads.0.0) place ∙ sym (ap (λ z. port_at t (cond z p.heads.0.0 p.heads.1.0) (cond z (suc e) (suc (e - arity_of t p.heads.0.0)))) l.0)
-        | inr l ↦ let m = l.1 in absurd (omega arith)
-      ]
-  | inr k ↦
-      let many = types_as_many t p.heads.0.0 1 (arity_of t p.heads.0.0) in
-      let r = types_at t p.heads.1.0 1 (arity_of t p.heads.1.0) (e - length (auxiliary_types t p.heads.0.0)) y k.1 in
-      let more = k.0 in
-      let place : 1 + (e - length (auxiliary_types t p.heads.0.0)) ≡ suc (e - arity_of t p.heads.0.0) = omega arith in
-      elim (lt_tells e (arity_of t p.heads.0.0)) [
-        | inl l ↦ let m = l.1 in absurd (omega arith)
-        | inr l ↦ r.0 ∙ ap (port_at t p.heads.1.0) place ∙ sym (ap (λ z. port_at t (cond z p.heads.0.0 p.heads.1.0) (cond z (suc e) (suc (e - arity_of t p.heads.0.0)))) l.0)
-      ]
-]
-
 -- ---- the program
 
 module _ (text : List ℕ) (p : Program) (accepted : IsAccepted text p) where
@@ -214,7 +174,7 @@ module _ (text : List ℕ) (p : Program) (accepted : IsAccepted text p) where
         net = is_net p.tables r.member whole over.member;
         within = λ x s h. below p.tables r.member.cells over.member.cells x s h;
         ends = length-map r.member.free (λ (f : FreeEnd). f.kind) ∙ complete.ends;
-        declared = declared_at p.tables r (of.member.types ∙ ap (λ (h : SymbolNo × SymbolNo). auxiliary_types p.tables h.0.0 ++ auxiliary_types p.tables h.1.0) heads);
+        declared = declared_at p.tables r 0 0 (of.member.types ∙ ap (λ (h : SymbolNo × SymbolNo). auxiliary_types p.tables h.0.0 ++ auxiliary_types p.tables h.1.0) heads);
         typed = net_typed p.tables r.member whole fits.1;
         no_circle = λ circle. no_circle p.tables r c.0.shape numbered complete whole over k.0 (derivation_builds c.0.shape open_net c.0.derivation.steps k.1.0)
             (rule_circle p.tables r c.0.shape numbered complete whole over.member over.built k.0 circle);
