@@ -3,14 +3,12 @@ use Rattle.std.proofs.Common.{◌≡◌, ◌≢◌, ◌⊎◌, ℕ, zero, suc, �
 use Rattle.in_net.specs.Ahead.{MeetsPair, WaitsAt}
 use Rattle.in_net.specs.Nets.{Point, Port, IsPoint, IsNet, net_of}
 use Rattle.in_check.specs.NetText.{AreAgents, text_parts}
-use Rattle.std.proofs.lemmas.Option.{same_Some}
 use Rattle.in_base.specs.Lists.{IsAmong}
 use Rattle.in_net.specs.Pieces.{AreDifferent}
 use Rattle.in_check.specs.Promises.{HoldsAll}
 use Rattle.in_print.specs.Laws.{parts_of_text}
-use Rattle.in_run.proofs.Queues.{machine_queue}
+use Rattle.in_run.proofs.Queues.{agent_numbers, as_many, numbered, machine_queue}
 use Rattle.in_net.specs.declared.nets.Cell.{Cell}
-use Rattle.in_net.proofs.Stepping.Unused.{counted}
 use Rattle.in_arena.specs.declared.content.End.{End}
 use Rattle.in_run.specs.Machines.{MachineParts, IsMachine, parts_of}
 use Rattle.in_print.specs.Points.{point_at}
@@ -50,24 +48,6 @@ shallow s net leads xs agents d le p point fs h =
 
 -- ---- a machine's agents
 
--- the numbers of the cells with an agent, the first cell having this one
-abbrev filled : ℕ → List (Option Cell) → List ℕ
-filled k [] = []
-filled k (None ∷ cs) = filled (suc k) cs
-filled k (Some c ∷ cs) = k ∷ filled (suc k) cs
-
-filled_many : (k : ℕ) (cs : List (Option Cell)) → length (filled k cs) ≡ count_by is_some cs
-filled_many k [] = refl
-filled_many k (None ∷ cs) = let h = filled_many (suc k) cs in omega (arith, h, counted None cs)
-filled_many k (Some c ∷ cs) = let h = filled_many (suc k) cs in omega (arith, h, counted (Some c) cs)
-
-filled_there : (k : ℕ) (cs : List (Option Cell)) (j : ℕ) (c : Cell) → slice_get cs j ≡ Some (Some c) → IsAmong (k + j) (filled k cs)
-filled_there k [] j c h = cc
-filled_there k (None ∷ cs) zero c h = (let e : None ≡ Some c = same_Some None (Some c) h in cc)
-filled_there k (None ∷ cs) (suc j) c h = subst (λ n. IsAmong n (filled (suc k) cs)) (omega arith) (filled_there (suc k) cs j c h)
-filled_there k (Some d ∷ cs) zero c h = inl (omega arith)
-filled_there k (Some d ∷ cs) (suc j) c h = inr (subst (λ n. IsAmong n (filled (suc k) cs)) (omega arith) (filled_there (suc k) cs j c h))
-
 cell_there : (m : MachineParts) (x : ℕ) → IsSome ((setting_of m).net.symbol x) → (c : Cell) × (slice_get m.agents x ≡ Some (Some c))
 cell_there m x h = by (slice_get m.agents x) refl h
   where
@@ -90,30 +70,30 @@ pub deep_enough : (m : MachineParts) → IsMachine m → (e : End) → IsPointAt
 deep_enough m machine e point d le =
     let promise = as_promised m machine in
     let agents = promise.written_whole.agents in
-    let few_agents : length agents.0 ≤ length (filled 0 m.agents) = few agents.0 (filled 0 m.agents) agents.1.once (λ x a. (let c = cell_there m x ((agents.1.all x).1 a) in subst (λ n. IsAmong n (filled 0 m.agents)) (omega arith) (filled_there 0 m.agents x c.0 c.1))) in
-    shallow (setting_of m) (net m machine) promise.leads_on agents.0 agents.1 d (omega (arith, few_agents, filled_many 0 m.agents, le)) (point_at e) point
+    let few_agents : length agents.0 ≤ length (agent_numbers 0 m.agents) = few agents.0 (agent_numbers 0 m.agents) agents.1.once (λ x a. (let c = cell_there m x ((agents.1.all x).1 a) in subst (λ n. IsAmong n (agent_numbers 0 m.agents)) (omega arith) (numbered 0 m.agents x c.0 (ap (option_and_then (λ c. c)) c.1)))) in
+    shallow (setting_of m) (net m machine) promise.leads_on agents.0 agents.1 d (omega (arith, few_agents, as_many 0 m.agents, le)) (point_at e) point
 
 -- ---- the agents of a machine, each once
 
-filled_only : (k : ℕ) (cs : List (Option Cell)) (x : ℕ) → IsAmong x (filled k cs) → (j : ℕ) × (c : Cell) × (x ≡ k + j) × (slice_get cs j ≡ Some (Some c))
+filled_only : (k : ℕ) (cs : List (Option Cell)) (x : ℕ) → IsAmong x (agent_numbers k cs) → (j : ℕ) × (c : Cell) × (x ≡ k + j) × (slice_get cs j ≡ Some (Some c))
 filled_only k [] x h = absurd h
 filled_only k (None ∷ cs) x h = let r = filled_only (suc k) cs x h in (suc r.0, r.1, omega (arith, r.2), r.3)
 filled_only k (Some c ∷ cs) x (inl e) = (0, c, omega (arith, e), refl)
 filled_only k (Some c ∷ cs) x (inr h) = let r = filled_only (suc k) cs x h in (suc r.0, r.1, omega (arith, r.2), r.3)
 
-filled_different : (k : ℕ) (cs : List (Option Cell)) → AreDifferent (filled k cs)
+filled_different : (k : ℕ) (cs : List (Option Cell)) → AreDifferent (agent_numbers k cs)
 filled_different k [] = tt
 filled_different k (None ∷ cs) = filled_different (suc k) cs
 filled_different k (Some c ∷ cs) =
-    (all_of (λ y. k ≢ y) (filled (suc k) cs) (λ y h e. (let r = filled_only (suc k) cs y h in omega (arith, e, r.2))), filled_different (suc k) cs)
+    (all_of (λ y. k ≢ y) (agent_numbers (suc k) cs) (λ y h e. (let r = filled_only (suc k) cs y h in omega (arith, e, r.2))), filled_different (suc k) cs)
 
 agent_shown : (m : MachineParts) (x : ℕ) (c : Cell) → slice_get m.agents x ≡ Some (Some c) → IsSome ((setting_of m).net.symbol x)
 agent_shown m x c e = ap (λ o. is_some (option_map (λ s. s.0) (option_map (λ (c : Cell). c.symbol) (option_and_then (λ c. c) o)))) e
 
-pub agents_listed : (m : MachineParts) → AreAgents (setting_of m).net (filled 0 m.agents)
+pub agents_listed : (m : MachineParts) → AreAgents (setting_of m).net (agent_numbers 0 m.agents)
 agents_listed m = record {
   all = λ x. (
-    (λ h. (let c = cell_there m x h in subst (λ n. IsAmong n (filled 0 m.agents)) (omega arith) (filled_there 0 m.agents x c.0 c.1))),
+    (λ h. (let c = cell_there m x h in subst (λ n. IsAmong n (agent_numbers 0 m.agents)) (omega arith) (numbered 0 m.agents x c.0 (ap (option_and_then (λ c. c)) c.1)))),
     (λ h. (let r = filled_only 0 m.agents x h in agent_shown m x r.1 (ap (slice_get m.agents) (omega (arith, r.2)) ∙ r.3))),
   );
   once = filled_different 0 m.agents;
@@ -123,5 +103,5 @@ agents_listed m = record {
 pub holds_each : (m : MachineParts) → IsMachine m → HoldsAll (net_of (parts_of m)) (parts_of_text m)
 holds_each m machine =
     let promise = as_promised m machine in
-    subst (λ d. HoldsAll (net_of (parts_of m)) (text_parts (setting_of m).symbols (words_of m) (net_of (parts_of m)) d m.queue)) (filled_many 0 m.agents)
-    (promise.written_whole.holds (words_of m) (filled 0 m.agents) m.queue (agents_listed m) (machine_queue m machine))
+    subst (λ d. HoldsAll (net_of (parts_of m)) (text_parts (setting_of m).symbols (words_of m) (net_of (parts_of m)) d m.queue)) (as_many 0 m.agents)
+    (promise.written_whole.holds (words_of m) (agent_numbers 0 m.agents) m.queue (agents_listed m) (machine_queue m machine))

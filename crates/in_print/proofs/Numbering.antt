@@ -12,18 +12,16 @@ use Rattle.in_arena.specs.declared.content.End.{End}
 use Rattle.in_arena.specs.declared.content.End.TheVariants as end
 use Rattle.in_arena.specs.contracts.content.EndPartialEq.TheImpl.{eq-value}
 use Rattle.in_net.specs.Nets.{Point}
+use Rattle.in_net.proofs.Stepping.Sites.{equal_turned}
 use Rattle.in_check.specs.NetText.{same_point, number_of}
 use Rattle.in_print.specs.Points.{point_at}
 use Rattle.in_print.specs.Writings.{number_at, met_after}
 
-turned : (i j : ℕ) → nat_eq i j ≡ nat_eq j i
-turned i j = grind (arith, nat_tests)
-
 pub agree : (e k : End) → eq-value.it e k ≡ same_point nat_eq (point_at k) (point_at e)
-agree (end.Cell c i) (end.Cell d j) = ap (λ b. b && nat_eq i j) (turned c.0 d.0) ∙ ap (λ b. nat_eq d.0 c.0 && b) (turned i j)
+agree (end.Cell c i) (end.Cell d j) = ap (λ b. b && nat_eq i j) (equal_turned c.0 d.0) ∙ ap (λ b. nat_eq d.0 c.0 && b) (equal_turned i j)
 agree (end.Cell c i) (end.Free j) = refl
 agree (end.Free i) (end.Cell d j) = refl
-agree (end.Free i) (end.Free j) = turned i j
+agree (end.Free i) (end.Free j) = equal_turned i j
 
 abbrev pub later : Option ℕ → Option ℕ → Option ℕ
 later a b = ord_max (option_cmp nat_cmp) a b

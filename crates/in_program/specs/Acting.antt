@@ -111,6 +111,12 @@ pub data Acts (a : Action) (r r' : Reader) (w w' : Device) (s : Status) : Type 0
 abbrev pub Tells : Device → Device → List ℕ → Status → Status → Type 0
 Tells w w' line s answer = (Moves w w' line × (answer ≡ s)) ⊎ (BreaksWithin w w' line × (answer ≡ fault_status))
 
+-- help and want of memory go to the output w, what is wrong with the words to the errors e
+abbrev pub TellsUsage : Device → Device → Device → Device → Usage → Status → Type 0
+TellsUsage w w' e e' (Help text) answer = Tells w w' (string_bytes text) (status 0) answer × (e' ≡ e)
+TellsUsage w w' e e' (Wrong text) answer = (w' ≡ w) × (Moves e e' (string_bytes text) ⊎ BreaksWithin e e' (string_bytes text)) × (answer ≡ status 2)
+TellsUsage w w' e e' Memory answer = Tells w w' memory_line memory_status answer × (e' ≡ e)
+
 -- ---- words of the inner contracts
 
 -- lines and a status that are so are told, or want of memory
@@ -124,9 +130,3 @@ AreThese these this lines s = (lines ≡ these) × (s ≡ this)
 -- those of what is found of a program
 abbrev pub AreFound : Action → Program → List ℕ → Status → Type 0
 AreFound a p lines s = (f : Finding) × IsFinding a p f × (lines ≡ finding_lines p f) × (s ≡ finding_status f)
-
--- help and want of memory go to the output w, what is wrong with the words to the errors e
-abbrev pub TellsUsage : Device → Device → Device → Device → Usage → Status → Type 0
-TellsUsage w w' e e' (Help text) answer = Tells w w' (string_bytes text) (status 0) answer × (e' ≡ e)
-TellsUsage w w' e e' (Wrong text) answer = (w' ≡ w) × (Moves e e' (string_bytes text) ⊎ BreaksWithin e e' (string_bytes text)) × (answer ≡ status 2)
-TellsUsage w w' e e' Memory answer = Tells w w' memory_line memory_status answer × (e' ≡ e)

@@ -1,24 +1,15 @@
 -- A machine and a limit have one outcome.
-use Rattle.std.proofs.Common.{◌≡◌, ◌⊎◌, inl, inr, ◌<◌, ◌+◌, ℕ, zero, suc, Option, Some, None, List, [], ◌∷◌, ◌++◌, length, map, remove, slice_get, refl, sym, ap, subst, ◌∙◌, arith}
-use Rattle.std.specs.Prelude.{option_map, option_and_then}
+use Rattle.std.proofs.Common.{◌≡◌, ◌⊎◌, inl, inr, ◌<◌, ◌+◌, ℕ, zero, suc, Option, Some, None, List, ◌++◌, map, remove, slice_get, refl, sym, ap, subst, ◌∙◌, arith}
 use Rattle.std.proofs.lemmas.Option.{same_Some}
 use Rattle.in_arena.specs.declared.content.CellClass.{CellClass}
 use Rattle.in_arena.specs.declared.content.CellClass.TheVariants.{Small, Large}
-use Rattle.in_symbols.specs.Tables.{Tables}
-use Rattle.in_symbols.specs.declared.symbols.PortType.{PortType}
-use Rattle.in_symbols.specs.declared.symbols.SymbolNo.{SymbolNo}
 use Rattle.in_net.specs.declared.nets.AgentNo.{AgentNo}
 use Rattle.in_net.specs.declared.nets.Cell.{Cell}
 use Rattle.in_net.specs.declared.nets.FreeEnd.{FreeEnd}
-use Rattle.in_net.specs.declared.nets.Point as coded
-use Rattle.in_net.specs.declared.nets.Point.TheVariants as code
-use Rattle.in_net.specs.After.{cell_at}
-use Rattle.in_net.specs.Interacting.{CanInteract, Interacts}
+use Rattle.in_net.specs.Interacting.{Interacts}
 use Rattle.in_net.specs.Made.{AreMade}
-use Rattle.in_net.specs.Parts.{Parts, cell_in, partner_in}
 use Rattle.in_net.specs.Rules.{RuleParts}
-use Rattle.in_net.proofs.SameNet.{all_same}
-use Rattle.in_net.proofs.Stepping.OneOutcome.{one_made_list, partner_there}
+use Rattle.in_net.proofs.Stepping.OneOutcome.{one_made_list, one_cells, one_free}
 use Rattle.in_check.specs.Checking.{IsAccepted}
 use Rattle.in_check.specs.Plain.{IsPlain, IsPairAt, IsReachedBy, IsRuleAt}
 use Rattle.in_check.specs.Programs.{Program}
@@ -41,62 +32,6 @@ run_keeps m o j (suc k) plain reached (then_step _ n _ _ before s) =
     let r = run_keeps m n j k plain reached before in
     let t = step_keeps n o 0 r.0 s in
     (t.0, subst (λ z. IsReachedBy (plain_of o) z) (let z : suc (k + j) ≡ suc k + j = omega arith in z) (t.1 (k + j) r.1))
-
--- ---- an interaction leaves one net, whatever its wires are listed as
-
-same_option : {X : Type 0} (o p : Option X) → ((x : X) → o ≡ Some x → p ≡ Some x) → ((x : X) → p ≡ Some x → o ≡ Some x) → o ≡ p
-same_option None None h g = refl
-same_option None (Some x) h g = g x refl
-same_option (Some x) p h g = sym (h x refl)
-
-same_cells : (cs ds : List (Option Cell)) → length cs ≡ length ds → ((x : ℕ) → cell_at cs x ≡ cell_at ds x) → cs ≡ ds
-same_cells [] [] e h = refl
-same_cells [] (d ∷ ds) e h = absurd (omega (arith, e))
-same_cells (c ∷ cs) [] e h = absurd (omega (arith, e))
-same_cells (c ∷ cs) (d ∷ ds) e h = ap (λ (z : Option Cell). z ∷ cs) (h 0) ∙ ap (λ (zs : List (Option Cell)). d ∷ zs) (same_cells cs ds (omega (arith, e)) (λ x. h (suc x)))
-
-same_frees : (fs gs : List FreeEnd) → map (λ (f : FreeEnd). f.kind) fs ≡ map (λ (f : FreeEnd). f.kind) gs → map (λ (f : FreeEnd). f.name) fs ≡ map (λ (f : FreeEnd). f.name) gs →
-    ((k : ℕ) → option_map (λ (f : FreeEnd). f.end) (slice_get fs k) ≡ option_map (λ (f : FreeEnd). f.end) (slice_get gs k)) → fs ≡ gs
-same_frees [] [] a b h = refl
-same_frees [] (g ∷ gs) a b h = cc
-same_frees (f ∷ fs) [] a b h = cc
-same_frees (f ∷ fs) (g ∷ gs) a b h =
-    let kind : f.kind ≡ g.kind = cc in
-    let kinds : map (λ (f : FreeEnd). f.kind) fs ≡ map (λ (f : FreeEnd). f.kind) gs = cc in
-    let name : f.name ≡ g.name = cc in
-    let names : map (λ (f : FreeEnd). f.name) fs ≡ map (λ (f : FreeEnd). f.name) gs = cc in
-    let end : f.end ≡ g.end = same_Some f.end g.end (h 0) in
-    let one : f ≡ g = ap (λ (z : List ℕ). let e : FreeEnd = record { name = z; kind = f.kind; end = f.end } in e) name ∙ ap (λ (z : PortType). let e : FreeEnd = record { name = g.name; kind = z; end = f.end } in e) kind
-    ∙ ap (λ (z : coded.Point). let e : FreeEnd = record { name = g.name; kind = g.kind; end = z } in e) end in
-    ap (λ (z : FreeEnd). z ∷ fs) one ∙ ap (λ (zs : List FreeEnd). g ∷ zs) (same_frees fs gs kinds names (λ k. h (suc k)))
-
-symbol_of : Option Cell → Option ℕ
-symbol_of o = option_map (λ (s : SymbolNo). s.0) (option_map (λ (c : Cell). c.symbol) o)
-
-module _ (n : Parts) (r : RuleParts) (a b : AgentNo) (m k : Parts) (t : Tables) (can : CanInteract t n r a b) (h : Interacts n r a b m) (g : Interacts n r a b k) where
-  partners : (p : coded.Point) → partner_in m p ≡ partner_in k p
-  partners p = same_option (partner_in m p) (partner_in k p) (λ q e. partner_there n r a b m k t can h g p q e) (λ q e. partner_there n r a b k m t can g h p q e)
-
-  symbols : (x : ℕ) → symbol_of (cell_in m x) ≡ symbol_of (cell_in k x)
-  unfolding symbol_of
-  symbols x = same_option _ _ (λ i e. ((g.step t can).agents x i).1 (((h.step t can).agents x i).0 e)) (λ i e. ((h.step t can).agents x i).1 (((g.step t can).agents x i).0 e))
-
-  one_cell : (x : ℕ) (o p : Option Cell) → cell_in m x ≡ o → cell_in k x ≡ p → o ≡ p
-  unfolding symbol_of
-  one_cell x None None e f = refl
-  one_cell x None (Some d) e f = let s : symbol_of None ≡ symbol_of (Some d) = ap symbol_of (sym e) ∙ symbols x ∙ ap symbol_of f in cc
-  one_cell x (Some c) None e f = let s : symbol_of (Some c) ≡ symbol_of None = ap symbol_of (sym e) ∙ symbols x ∙ ap symbol_of f in cc
-  one_cell x (Some c) (Some d) e f =
-      let s : Some c.symbol.0 ≡ Some d.symbol.0 = ap symbol_of (sym e) ∙ symbols x ∙ ap symbol_of f in
-      let symbol : c.symbol ≡ d.symbol = ap (λ (z : ℕ). let y : SymbolNo = record { 0 = z } in y) (same_Some c.symbol.0 d.symbol.0 s) in
-      let ends : c.ends ≡ d.ends = all_same c.ends d.ends (λ i. ap (option_and_then (λ (c : Cell). slice_get c.ends i)) (sym e) ∙ partners (code.Port (record { 0 = x }) i) ∙ ap (option_and_then (λ (c : Cell). slice_get c.ends i)) f) in
-      ap (λ (z : SymbolNo). let y : Cell = record { symbol = z; ends = c.ends } in Some y) symbol ∙ ap (λ (z : List coded.Point). let y : Cell = record { symbol = d.symbol; ends = z } in Some y) ends
-
-  pub one_cells : m.cells ≡ k.cells
-  one_cells = same_cells m.cells k.cells (h.numbers ∙ sym g.numbers) (λ x. one_cell x (cell_in m x) (cell_in k x) refl refl)
-
-  pub one_free : m.free ≡ k.free
-  one_free = same_frees m.free k.free ((h.step t can).free ∙ sym (g.step t can).free) (h.names ∙ sym g.names) (λ j. partners (code.Free j))
 
 -- ---- one step
 

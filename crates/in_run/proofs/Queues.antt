@@ -32,19 +32,18 @@ use Rattle.in_run.proofs.Ordered.{stands, stands_other}
 
 -- ---- the agents of a net, by number
 
-agent_numbers : ℕ → List (Option Cell) → List ℕ
+-- the numbers of the cells with an agent, the first cell having this one
+abbrev pub agent_numbers : ℕ → List (Option Cell) → List ℕ
 agent_numbers i [] = []
 agent_numbers i (None ∷ cs) = agent_numbers (suc i) cs
 agent_numbers i (Some c ∷ cs) = i ∷ agent_numbers (suc i) cs
 
-as_many : (i : ℕ) (cs : List (Option Cell)) → length (agent_numbers i cs) ≡ count_by is_some cs
-unfolding agent_numbers
+pub as_many : (i : ℕ) (cs : List (Option Cell)) → length (agent_numbers i cs) ≡ count_by is_some cs
 as_many i [] = refl
 as_many i (None ∷ cs) = let d = as_many (suc i) cs in let e = sum_by-cons (λ c. cond (is_some c) 1 0) None cs in omega arith
 as_many i (Some c ∷ cs) = ap suc (as_many (suc i) cs) ∙ (let e = sum_by-cons (λ c. cond (is_some c) 1 0) (Some c) cs in omega arith)
 
-numbered : (i : ℕ) (cs : List (Option Cell)) (k : ℕ) (c : Cell) → option_and_then (λ c. c) (slice_get cs k) ≡ Some c → IsAmong (i + k) (agent_numbers i cs)
-unfolding agent_numbers
+pub numbered : (i : ℕ) (cs : List (Option Cell)) (k : ℕ) (c : Cell) → option_and_then (λ c. c) (slice_get cs k) ≡ Some c → IsAmong (i + k) (agent_numbers i cs)
 numbered i [] k c e = cc
 numbered i (None ∷ cs) zero c e = cc
 numbered i (None ∷ cs) (suc k) c e = subst (λ z. IsAmong z (agent_numbers (suc i) cs)) (let z : suc i + k ≡ i + suc k = omega arith in z) (numbered (suc i) cs k c e)

@@ -15,7 +15,8 @@ use Rattle.in_net.specs.Parts.{Parts, IsWhole, cell_in}
 use Rattle.in_net.specs.Rules.{RuleParts}
 use Rattle.in_net.proofs.Interactions.AtNets.{port_agent, port_place}
 use Rattle.in_net.proofs.Stepping.Lists.{kept_at}
-use Rattle.in_check.proofs.Reached.FromText.{to_mapped}
+use Rattle.in_net.proofs.Stepping.Making.{agent_same}
+use Rattle.in_check.proofs.Reached.FromText.{of_mapped, to_mapped}
 use Rattle.in_run.specs.Machines.{agents_at, numbers_of, IsQueueOf}
 use Rattle.in_net.specs.Made.{IsMade, AreMade}
 use Rattle.in_net.specs.OutcomeLaws.{HoldsNoPair, IsOtherPair}
@@ -69,17 +70,9 @@ module _ {X : Type 0} where
       go (inr a) (inl b) = absurd (none k a.0 x b a.2)
       go (inr a) (inr b) = let c = two a.0 b.0 x a.2 b.2 in let d = a.1 in let g = b.1 in omega (arith, c, d, g)
 
-of_mapped : {X Y : Type 0} (f : X → Y) (xs : List X) (k : ℕ) (y : Y) → slice_get (map f xs) k ≡ Some y → (x : X) × (slice_get xs k ≡ Some x) × (f x ≡ y)
-of_mapped f [] k y e = cc
-of_mapped f (x ∷ xs) zero y e = (x, refl, same_Some (f x) y e)
-of_mapped f (x ∷ xs) (suc k) y e = of_mapped f xs k y e
-
 -- ---- a pair that was there is not made
 
 module _ (t : Tables) (n : Parts) (r : RuleParts) (a b : AgentNo) (naming : IsNaming (net_of n) (redex_at r a.0 b.0) (unused n.cells)) where
-  same_agent : (x y : AgentNo) → x.0 ≡ y.0 → x ≡ y
-  same_agent x y e = ap (λ (z : ℕ). let w : AgentNo = record { 0 = z } in w) e
-
   has_symbol : (k i : ℕ) (q : Point ℕ) → (net_of r.member).partner (Port k i) ≡ Some q → (s : ℕ) × ((net_of r.member).symbol k ≡ Some s)
   has_symbol k i q e = go (cell_in r.member k) refl e
     where
@@ -116,8 +109,8 @@ module _ (t : Tables) (n : Parts) (r : RuleParts) (a b : AgentNo) (naming : IsNa
         go Outer (f ∷ fs) path among =
             let same : Port q.1.0 0 ≡ f = same_Some (Port q.1.0 0) f (sym active ∙ path.0) in
             elim (subst (IsOfPair (redex_at r a.0 b.0)) (sym same) path.1) [
-              | inl e ↦ other.3 (same_agent q.1 a e)
-              | inr e ↦ other.4 (same_agent q.1 b e)
+              | inl e ↦ other.3 (agent_same q.1 a e)
+              | inr e ↦ other.4 (agent_same q.1 b e)
             ]
         go Inner (f ∷ fs) path among = not_inside path.0.0 path.0.1 path.0.2 path.0.4
 

@@ -1,16 +1,13 @@
 -- What a machine keeps of its fields: its net is listed too, and its queue has room for all active pairs that fit its cells. Words of its
 -- inner contracts.
-use Rattle.std.specs.Prelude.{◌≡◌, ◌≤◌, ◌+◌, ℕ, cond, List, Option}
+use Rattle.std.specs.Prelude.{◌≡◌, ◌≤◌, ◌+◌, ℕ, cond}
 use Rattle.in_arena.specs.declared.content.CellClass.{CellClass}
-use Rattle.in_arena.specs.declared.content.CellClass.TheVariants.{Small, Large}
 use Rattle.in_symbols.specs.Tables.{Tables}
 use Rattle.in_net.specs.declared.nets.AgentNo.{AgentNo}
-use Rattle.in_net.specs.declared.nets.Cell.{Cell}
 use Rattle.in_net.specs.Parts.{IsWhole}
 use Rattle.in_net.specs.Rules.{RuleParts}
 use Rattle.in_check.specs.Plain.{PlainParts, IsPlain, IsPairAt}
-use Rattle.in_run.specs.declared.cells.Need.{Need}
-use Rattle.in_run.specs.Machines.{MachineParts, IsMachine, is_of, agents_of}
+use Rattle.in_run.specs.Machines.{MachineParts, IsMachine, is_of}
 
 pub record IsKept (m : MachineParts) (p : PlainParts) (room : ℕ) : Type 0 where
   pub machine : IsMachine m
@@ -21,11 +18,6 @@ pub record IsKept (m : MachineParts) (p : PlainParts) (room : ℕ) : Type 0 wher
 -- a program's net and two of its agents that are an active pair
 abbrev pub IsPairOf : PlainParts → AgentNo → AgentNo → Type 0
 IsPairOf p a b = IsPlain p × IsPairAt p a b
-
--- so many of these agents take a small cell, and so many a large one
-pub record IsNeedOf (t : Tables) (agents : List (Option Cell)) (need : Need) : Type 0 where
-  pub small : need.small ≡ agents_of t Small agents
-  pub large : need.large ≡ agents_of t Large agents
 
 -- how many of a rule's two symbols take a cell of this class
 abbrev pub heads_taking : Tables → CellClass → RuleParts → ℕ

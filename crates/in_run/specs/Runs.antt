@@ -1,9 +1,11 @@
 -- One interaction of a machine, runs of them, first in, first out, and how a run stops. Lafont 1990: an interaction replaces an active pair
 -- by the right member of its rule. Which pair comes first, cells and stops are this project's own choice.
-use Rattle.std.specs.Prelude.{◌≡◌, ◌≢◌, ◌<◌, ◌≤◌, ◌+◌, ℕ, zero, suc, List, [], ◌++◌, length, map, Some, slice_get, remove, Result, Ok, Err}
+use Rattle.std.specs.Prelude.{◌≡◌, ◌≢◌, ◌<◌, ◌≤◌, ◌+◌, ℕ, zero, suc, List, [], ◌++◌, length, map, Option, Some, slice_get, remove, Result, Ok, Err}
 use Rattle.in_arena.specs.declared.content.CellClass.{CellClass}
 use Rattle.in_arena.specs.declared.content.CellClass.TheVariants.{Small, Large}
+use Rattle.in_symbols.specs.Tables.{Tables}
 use Rattle.in_net.specs.declared.nets.AgentNo.{AgentNo}
+use Rattle.in_net.specs.declared.nets.Cell.{Cell}
 use Rattle.in_net.specs.declared.nets.Point.TheVariants.{Port}
 use Rattle.in_net.specs.Parts.{Parts, IsWireBetween}
 use Rattle.in_net.specs.Rules.{RuleParts}
@@ -14,11 +16,15 @@ use Rattle.in_run.specs.declared.stops.Stop.{Stop}
 use Rattle.in_run.specs.declared.stops.Stop.TheVariants.{Normal, Limit, Full}
 use Rattle.in_run.specs.declared.stops.StartFault.{StartFault}
 use Rattle.in_run.specs.declared.stops.StartFault.TheVariants as start
-use Rattle.in_run.specs.Inside.{IsNeedOf}
 use Rattle.in_run.specs.Machines.{MachineParts, parts_of, plain_of, agents_at, numbers_of, agents_of, free_of, HasCells, IsQueueOf}
 use Rattle.in_net.specs.Made.{AreMade}
 
 -- ---- what an interaction needs
+
+-- so many of these agents take a small cell, and so many a large one
+pub record IsNeedOf (t : Tables) (agents : List (Option Cell)) (need : Need) : Type 0 where
+  pub small : need.small ≡ agents_of t Small agents
+  pub large : need.large ≡ agents_of t Large agents
 
 -- the agents of each class in the right member of the rule of that pair, which have to be free while the pair still stands
 pub record NeedsAt (m : MachineParts) (i : ℕ) (need : Need) : Type 0 where
@@ -96,8 +102,8 @@ pub data Runs : MachineParts → ℕ → MachineParts → Type 0 where
   at_start : (m : MachineParts) → Runs m zero m
   then_step : (m n o : MachineParts) (k : ℕ) → Runs m k n → StepsAt n 0 o → Runs m (suc k) o
 
--- no pair is left; or as many interactions were done as are allowed; or the first pair needs more cells than are free. Where one of them
--- stands, no earlier one does
+-- no pair is left; else as many interactions were done as are allowed; else the first pair needs more cells than are free. Each of these
+-- stops holds only where none before it in this order does
 abbrev pub IsStop : ℕ → MachineParts → ℕ → Stop → Type 0
 IsStop limit m k Normal = m.queue ≡ []
 IsStop limit m k Limit = (m.queue ≢ []) × (k ≡ limit)

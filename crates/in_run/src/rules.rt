@@ -1,7 +1,8 @@
 // The rule of an active pair, and the cells that it needs.
 ghost use Rattle.std.specs.Prelude.{◌≡◌, ◌+◌, ◌≤◌, ℕ, Some, slice_get};
 ghost use Rattle.in_check.specs.Plain.{IsRuleAt};
-ghost use Rattle.in_run.specs.Inside.{IsPairOf, IsNeedOf, heads_taking};
+ghost use Rattle.in_run.specs.Inside.{IsPairOf, heads_taking};
+ghost use Rattle.in_run.specs.Runs.{IsNeedOf};
 ghost use Rattle.in_run.specs.Limiting.{most_cells};
 ghost use Rattle.in_run.specs.Machines.{agents_of};
 

@@ -1,5 +1,5 @@
-use Rattle.std.proofs.Common.{◌<◌, length, subst, sym}
-use Rattle.in_net.proofs.Stepping.Lists.{read_at}
+use Rattle.std.proofs.Common.{◌<◌, length, subst, sym, refl}
+use Rattle.std.proofs.lemmas.Option.{slice_get_read}
 use Rattle.in_check.specs.Plain.{IsPairAt}
 use Rattle.in_run.specs.Machines.{MachineParts, agents_at, plain_of}
 use Rattle.in_run.proofs.Ordered.{pair_at}
@@ -12,4 +12,4 @@ returns-clause-pair c =
     let q = c.index.result.now in
     let within : c.args.number < length c.self.inside.queue.items = subst (λ (m : MachineParts). c.args.number < length m.queue) (sym c.self.view_is) c.requires in
     subst (λ (m : MachineParts). IsPairAt (plain_of m) (agents_at q).0 (agents_at q).1) c.self.view_is
-    (pair_at _ _ (machine_promised _ h) (agents_at q) (h.queue.pairs c.args.number q (read_at c.self.inside.queue.items c.args.number q within c.index.ensures)))
+    (pair_at _ _ (machine_promised _ h) (agents_at q) (h.queue.pairs c.args.number q (slice_get_read c.self.inside.queue.items _ c.args.number q refl within c.index.ensures)))
