@@ -33,7 +33,7 @@ length-ends spots links first (suc n) = ap suc (length-ends spots links (first +
 abbrev pub as_written : List Agent → List Written
 as_written = map (λ a. record { symbol = a.symbol.0; place = a.place })
 
-agents_out : (t : Tables) (u : Term) → agents_of t u ≡ written_by (number_in (out-Term u).name.text t.names) (out-Term u).name.place ++ flat_map (λ a. a) (map (agents_of t) (out-Term u).args)
+pub agents_out : (t : Tables) (u : Term) → agents_of t u ≡ written_by (number_in (out-Term u).name.text t.names) (out-Term u).name.place ++ flat_map (λ a. a) (map (agents_of t) (out-Term u).args)
 agents_out t = fold_out-Term (List Written) (λ f. written_by (number_in f.name.text t.names) f.name.place ++ flat_map (λ a. a) f.args)
 
 abbrev AgentsRead : Tables → ℕ → Type 0

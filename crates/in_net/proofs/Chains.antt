@@ -1,10 +1,10 @@
 -- Chains that are put together at a name.
-use Rattle.std.proofs.Common.{◌≡◌, inl, inr, Bool, true, false, cond, nat_lt, List, [], ◌∷◌, ◌++◌, refl, arith, ltb-false, ltb-true}
+use Rattle.std.proofs.Common.{◌≡◌, Bool, true, false, cond, nat_lt, List, [], ◌++◌, refl, arith, ltb-false, ltb-true}
 use Rattle.in_syntax.specs.declared.places.Place.{Place}
 use Rattle.in_symbols.specs.Tables.{Tables}
 use Rattle.in_net.specs.Joining.{later_of}
-use Rattle.in_base.specs.Lists.{IsAmong}
 use Rattle.in_net.specs.TextNet.{Body, Spot, Kind, placed, of_name, NameJoint, IsOccurrence, Chain, IsLastOf}
+use Rattle.in_base.proofs.Among.{among_left, among_right}
 use Rattle.in_base.proofs.Each.{all_map, all_append}
 
 -- on through a name
@@ -20,15 +20,6 @@ pub to_name : (t : Tables) (b : Body) (k : Kind) (x o u : Spot) (ps : List Place
 to_name t b _ _ _ u _ (Chain.one_placed x o p joint) occurs name = Chain.then_name of_name x o u p [] joint occurs (Chain.one_name o u name)
 to_name t b _ _ _ u _ (Chain.then_name _ x o1 o p ps joint occurs_1 rest) occurs name = Chain.then_name of_name x o1 u p ps joint occurs_1 (to_name t b of_name o1 o u ps rest occurs name)
 to_name t b _ _ _ u _ (Chain.then_placed _ x o1 o ps joint occurs_1 rest) occurs name = Chain.then_placed of_name x o1 u ps joint occurs_1 (to_name t b placed o1 o u ps rest occurs name)
-
-among_left : (p : Place) (ps qs : List Place) → IsAmong p ps → IsAmong p (ps ++ qs)
-among_left p [] qs h = absurd h
-among_left p (x ∷ ps) qs (inl e) = inl e
-among_left p (x ∷ ps) qs (inr h) = inr (among_left p ps qs h)
-
-among_right : (p : Place) (ps qs : List Place) → IsAmong p qs → IsAmong p (ps ++ qs)
-among_right p [] qs h = h
-among_right p (x ∷ ps) qs h = inr (among_right p ps qs h)
 
 later_by : (p q : Place) (ps qs : List Place) (b : Bool) → nat_lt q.from p.from ≡ b → IsLastOf p ps → IsLastOf q qs → IsLastOf (cond b p q) (ps ++ qs)
 later_by p q ps qs true is h k =

@@ -1,6 +1,6 @@
 -- Where each name stands twice, no three spots have one name.
-use Rattle.std.proofs.Common.{◌≡◌, ◌≢◌, ◌⊎◌, inl, inr, ℕ, zero, suc, ◌+◌, ◌<◌, ◌≤◌, List, [], ◌∷◌, length, Option, Some, None, refl, sym, ◌∙◌, ap, arith, set}
-use Rattle.std.proofs.lemmas.List.{get_or-set_same, get_or-set_other}
+use Rattle.std.proofs.Common.{◌≡◌, ◌≢◌, ◌⊎◌, inl, inr, ℕ, zero, suc, ◌+◌, ◌<◌, ◌≤◌, List, [], ◌∷◌, length, Option, Some, None, refl, sym, ◌∙◌, ap, arith}
+use Rattle.std.proofs.lemmas.List.{get_or-set_other}
 use Rattle.in_net.specs.declared.reading.Spot.{Spot}
 use Rattle.in_net.specs.declared.counting.Seen.{Seen}
 use Rattle.in_net.specs.declared.counting.Seen.TheVariants.{Never, Once, Twice, Often}
@@ -9,20 +9,14 @@ use Rattle.in_net.specs.Building.{AreTwice, nth_spot}
 use Rattle.in_net.proofs.Linked.{same_or_not, below_or_not}
 use Rattle.in_net.proofs.Joins.{length-counted, length-none_seen}
 use Rattle.in_net.proofs.Ways.{nth_seen}
-use Rattle.in_net.proofs.Joined.{is_named_or_not, third_time, nth_none}
+use Rattle.in_net.proofs.Joined.{is_named_or_not, named_again, third_time, nth_none}
 
 -- a name that is seen once, and stands twice more
 second_named : (seen : List Seen) (at m a : ℕ) (o : Option ℕ) → m < length seen → nth_seen seen m ≡ Once a → o ≡ Some m → nth_seen (count_name seen at o) m ≡ Twice
-second_named seen at m a None lt is e = cc
-second_named seen at m a (Some n) lt is e =
-    let same : n ≡ m = cc in
-    ap (λ k. nth_seen (set seen k (seen_again (nth_seen seen k) at)) m) same ∙ get_or-set_same seen m (seen_again (nth_seen seen m) at) Never lt ∙ ap (λ s. seen_again s at) is
+second_named seen at m a o lt is e = named_again seen at m o lt e ∙ ap (λ s. seen_again s at) is
 
 first_named : (seen : List Seen) (at m : ℕ) (o : Option ℕ) → m < length seen → nth_seen seen m ≡ Never → o ≡ Some m → nth_seen (count_name seen at o) m ≡ Once at
-first_named seen at m None lt is e = cc
-first_named seen at m (Some n) lt is e =
-    let same : n ≡ m = cc in
-    ap (λ k. nth_seen (set seen k (seen_again (nth_seen seen k) at)) m) same ∙ get_or-set_same seen m (seen_again (nth_seen seen m) at) Never lt ∙ ap (λ s. seen_again s at) is
+first_named seen at m o lt is e = named_again seen at m o lt e ∙ ap (λ s. seen_again s at) is
 
 other_named : (seen : List Seen) (at m : ℕ) (o : Option ℕ) → o ≢ Some m → nth_seen (count_name seen at o) m ≡ nth_seen seen m
 other_named seen at m None e = refl

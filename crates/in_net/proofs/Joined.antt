@@ -47,11 +47,14 @@ often_stays at (s ∷ ss) seen m lt is =
     often_stays (at + 1) ss (counted seen at s) m (omega (arith, lt, count)) (often_named seen at m (counting.name_of s) lt is)
 
 -- one spot of that name, or of another
-once_over : (seen : List Seen) (at m : ℕ) (o : Option ℕ) → m < length seen → nth_seen seen m ≡ Twice → o ≡ Some m → nth_seen (count_name seen at o) m ≡ Often
-once_over seen at m None lt is e = cc
-once_over seen at m (Some n) lt is e =
+pub named_again : (seen : List Seen) (at m : ℕ) (o : Option ℕ) → m < length seen → o ≡ Some m → nth_seen (count_name seen at o) m ≡ seen_again (nth_seen seen m) at
+named_again seen at m None lt e = cc
+named_again seen at m (Some n) lt e =
     let same : n ≡ m = cc in
-    ap (λ k. nth_seen (set seen k (seen_again (nth_seen seen k) at)) m) same ∙ get_or-set_same seen m (seen_again (nth_seen seen m) at) Never lt ∙ ap (λ s. seen_again s at) is
+    ap (λ k. nth_seen (set seen k (seen_again (nth_seen seen k) at)) m) same ∙ get_or-set_same seen m (seen_again (nth_seen seen m) at) Never lt
+
+once_over : (seen : List Seen) (at m : ℕ) (o : Option ℕ) → m < length seen → nth_seen seen m ≡ Twice → o ≡ Some m → nth_seen (count_name seen at o) m ≡ Often
+once_over seen at m o lt is e = named_again seen at m o lt e ∙ ap (λ s. seen_again s at) is
 
 not_over : (seen : List Seen) (at m : ℕ) (o : Option ℕ) → nth_seen seen m ≡ Twice → o ≢ Some m → nth_seen (count_name seen at o) m ≡ Twice
 not_over seen at m None is e = is

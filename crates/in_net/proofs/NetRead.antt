@@ -21,11 +21,11 @@ use Rattle.in_base.specs.Lists.{IsAmong}
 use Rattle.in_net.specs.TextNet.{Body, LeftHead, IsTermOf, IsPartOf, PlacedJoint, spot_of, place_of}
 use Rattle.in_net.proofs.Linked.{nth_self, same_or_not, below_or_not, at_front, at_first, at_second, at_third, links_joint, length-links_of}
 use Rattle.in_net.proofs.Sound.{named}
-use Rattle.in_net.specs.Built.{IsEnd}
+use Rattle.in_net.specs.Built.{HaveFewPorts, IsEnd}
 use Rattle.in_net.proofs.Folds.{place_read}
 use Rattle.in_net.proofs.Read.{IsRead, with_joint_read, more_names, free_end_read, boundary_end_read}
 use Rattle.in_net.proofs.Kept.{IsSettled, Keeps, keeps_both, keeps_itself, keeps_joint, settled_joint}
-use Rattle.in_net.proofs.Terms.{AreSmall, IsHeldIn, IsReadOn, held_stays, reads_on, among_middle, middle}
+use Rattle.in_net.proofs.Terms.{IsHeldIn, IsReadOn, held_stays, reads_on, among_middle, middle}
 use Rattle.std.proofs.lemmas.Bool.{and_parts}
 
 -- what is read but for some spots, which wait to be joined and are free or boundary ends: they are joined to nothing, and each other
@@ -61,7 +61,7 @@ pub record IsEquationRead (t : Tables) (b : Body) (free count : ℕ) (waits : �
   pub keeps : Keeps before after
   pub held : IsEquationHeld t e after
 
-pub equation_read : (t : Tables) (b : Body) (free count : ℕ) (waits : ℕ → Type 0) → AreSmall t → (e : Equation) (r : Reading) → IsAmong e b.equations → arities_fit t e.left ≡ true → arities_fit t e.right ≡ true → IsReadBut t b free count waits r →
+pub equation_read : (t : Tables) (b : Body) (free count : ℕ) (waits : ℕ → Type 0) → HaveFewPorts t → (e : Equation) (r : Reading) → IsAmong e b.equations → arities_fit t e.left ≡ true → arities_fit t e.right ≡ true → IsReadBut t b free count waits r →
     IsEquationRead t b free (count + names_in_equation e) waits e r (reads_equation t e r)
 equation_read t b free count waits small e r among fits_left fits_right net =
     let r1 : Reading = ((reader_of t e.left).reads r).0 in
@@ -161,7 +161,7 @@ pub record AreEquationsRead (t : Tables) (b : Body) (free count : ℕ) (waits : 
   pub keeps : Keeps before after
   pub held : (e : Equation) → IsAmong e es → IsEquationHeld t e after
 
-pub equations_read : (t : Tables) (b : Body) (free count : ℕ) (waits : ℕ → Type 0) → AreSmall t → (es : List Equation) (r : Reading) → ((e : Equation) → IsAmong e es → IsAmong e b.equations) →
+pub equations_read : (t : Tables) (b : Body) (free count : ℕ) (waits : ℕ → Type 0) → HaveFewPorts t → (es : List Equation) (r : Reading) → ((e : Equation) → IsAmong e es → IsAmong e b.equations) →
     list_all (equation_fits t) es ≡ true → IsReadBut t b free count waits r → AreEquationsRead t b free (count + names_in_equations es) waits es r (reads_equations t es r)
 equations_read t b free count waits small [] r among fits net = record {
   net = record { read = more_names t b free count (count + names_in_equations []) r (omega arith) net.read; wide = net.wide; first = net.first; alone = net.alone; joined = net.joined };
@@ -200,7 +200,7 @@ end_named (End j) k h = ap text.free_end h
 end_named (Occurrence m p) k h = absurd h
 
 -- one end that waited is joined to a term
-module _ (t : Tables) (b : Body) (free count : ℕ) (waits then_ : ℕ → Type 0) (small : AreSmall t) (v : Term) (r : Reading) (first port : ℕ)
+module _ (t : Tables) (b : Body) (free count : ℕ) (waits then_ : ℕ → Type 0) (small : HaveFewPorts t) (v : Term) (r : Reading) (first port : ℕ)
     (terms : (u : Term) → IsPartOf u v → IsTermOf b u) (fits : arities_fit t v ≡ true) (joint : PlacedJoint t b (text.free_end (first + port)) (spot_of t v) (place_of v))
     (waited : waits (first + port)) (still : (i : ℕ) → then_ i → waits i) (done : then_ (first + port) → ⊥) (others : (i : ℕ) → waits i → (i ≡ first + port) ⊎ then_ i) (net : IsReadBut t b free count waits r) where
   abbrev r1 : Reading
@@ -321,7 +321,7 @@ but_same t b free count W V r to back h = record {
   joined = λ i lt past. h.joined i lt (λ w. past (back i w));
 }
 
-places_read : (t : Tables) (b : Body) (free count : ℕ) (rest : ℕ → Type 0) → AreSmall t → (h : LeftHead) → IsAmong h b.heads → (done vs : List Term) → done ++ vs ≡ h.head.terms → (port : ℕ) → port ≡ length done → (r : Reading) →
+places_read : (t : Tables) (b : Body) (free count : ℕ) (rest : ℕ → Type 0) → HaveFewPorts t → (h : LeftHead) → IsAmong h b.heads → (done vs : List Term) → done ++ vs ≡ h.head.terms → (port : ℕ) → port ≡ length done → (r : Reading) →
     list_all (arities_fit t) vs ≡ true → ((i j : ℕ) → rest i → j < length h.head.terms → i ≢ h.first + j) → IsReadBut t b free count (Waits h.first port (length vs) rest) r →
     ArePlacesRead t b free (count + total (map names_in vs)) rest h.first port vs r (reads_arguments h.first (map (reader_of t) vs) port r)
 places_read t b free count rest small h among done [] all port at r fits differ net =
@@ -419,7 +419,7 @@ pub record AreHeadsRead (t : Tables) (b : Body) (free count : ℕ) (waits : ℕ 
 abbrev pub names_in_heads : List LeftHead → ℕ
 names_in_heads hs = total (map (λ h. total (map names_in h.head.terms)) hs)
 
-heads_read : (t : Tables) (b : Body) (free count : ℕ) (rest : ℕ → Type 0) → AreSmall t → (hs : List LeftHead) → ((h : LeftHead) → IsAmong h hs → IsAmong h b.heads) → (r : Reading) → list_all (head_fits t) hs ≡ true → AreHeadsApart hs rest →
+heads_read : (t : Tables) (b : Body) (free count : ℕ) (rest : ℕ → Type 0) → HaveFewPorts t → (hs : List LeftHead) → ((h : LeftHead) → IsAmong h hs → IsAmong h b.heads) → (r : Reading) → list_all (head_fits t) hs ≡ true → AreHeadsApart hs rest →
     IsReadBut t b free count (AtHeads hs rest) r → AreHeadsRead t b free (count + names_in_heads hs) rest hs r (reads_heads t hs r)
 heads_read t b free count rest small [] among r fits apart net = record {
   net = record { read = more_names t b free count (count + names_in_heads []) r (omega arith) net.read; wide = net.wide; first = net.first; alone = net.alone; joined = net.joined };
@@ -567,7 +567,7 @@ pub record IsBodyRead (t : Tables) (b : Body) (r : Reading) : Type 0 where
   pub heads : (h : LeftHead) → IsAmong h b.heads → IsHeadHeld t h r
   pub equations : (e : Equation) → IsAmong e b.equations → IsEquationHeld t e r
 
-pub body_read : (t : Tables) (b : Body) → AreSmall t → AreHeadsOf t b → all_arities_fit t b ≡ true → IsBodyRead t b (reading_of t b)
+pub body_read : (t : Tables) (b : Body) → HaveFewPorts t → AreHeadsOf t b → all_arities_fit t b ≡ true → IsBodyRead t b (reading_of t b)
 body_read t b small ends fits =
     let both = and_parts (list_all (head_fits t) b.heads) (list_all (equation_fits t) b.equations) fits in
     let free = free_read t b [] b.free nothing_read refl (nothing t b) in

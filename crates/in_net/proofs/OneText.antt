@@ -12,7 +12,6 @@ use Rattle.in_syntax.specs.declared.tree.Source.{Source}
 use Rattle.in_syntax.specs.declared.tree.SourceFree.{SourceFree}
 use Rattle.in_syntax.specs.declared.tree.SourceRule.{SourceRule}
 use Rattle.in_syntax.specs.declared.tree.Term.{Term, out-Term}
-use Rattle.in_syntax.specs.declared.tree.Term.TheFolds.{fold_out-Term}
 use Rattle.in_base.proofs.Among.{among_left, among_right, among_either, in_flat, of_flat, in_map, of_map, among_at, among_all}
 use Rattle.in_syntax.proofs.Ordered.{places_out, tree_in_order}
 use Rattle.in_syntax.proofs.Sized.{tree_sized}
@@ -37,7 +36,7 @@ use Rattle.in_net.specs.Searching.{first_fault}
 use Rattle.in_net.specs.TextNet as text
 use Rattle.in_base.specs.Lists.{IsAmong}
 use Rattle.in_net.specs.TextNet.{Body, LeftHead, IsPartOf, itself, deeper, IsTermOf, in_left, in_right, in_head, PlacedJoint, of_equation, of_argument, of_head, turned, Chain, one_placed, one_name, then_name, then_placed, Kind, IsLastOf, IsWireOf, IsClosedWireOf, Written, written_by, agents_of, agents_of_body, agents_of_heads, agents_of_equations, body_of, name_of, place_of}
-use Rattle.in_net.proofs.Agents.{places_for}
+use Rattle.in_net.proofs.Agents.{agents_out, places_for}
 use Rattle.in_net.proofs.Bodies.{net_ready, net_heads, rule_ready, rule_heads, readable}
 use Rattle.in_net.proofs.FirstFault.{IsReady, is_first, none_misfit, none_miscounted}
 use Rattle.in_net.proofs.SameNet.{AreSingle, StandApart, same_net, same_member}
@@ -100,9 +99,6 @@ agents_apart t b good i j p h k =
     number i j p q e = cc
 
 -- ---- faults of names
-
-agents_out : (t : Tables) (u : Term) → agents_of t u ≡ written_by (number_in (out-Term u).name.text t.names) (out-Term u).name.place ++ flat_map (λ (a : List Written). a) (map (agents_of t) (out-Term u).args)
-agents_out t = fold_out-Term (List Written) (λ f. written_by (number_in f.name.text t.names) f.name.place ++ flat_map (λ a. a) f.args)
 
 own_place : (o : Option ℕ) (p : Place) (w : Written) → IsAmong w (written_by o p) → p ≡ w.place
 own_place None p w h = absurd h

@@ -38,16 +38,16 @@ later_is p q = by_test (nat_lt q.from p.from)
 -- ---- two spots of a name are joined
 
 module _ (n a b : ℕ) (links new : List Link) (closed : Option Place) (a_in : a < n) (b_in : b < n) (h : AreApart n links) where
+  still_joined : (i j : ℕ) → nth_link new i ≡ nth_link links i → (i ≡ j) ⊎ ((nth_link links i).to ≡ j) → (i ≡ j) ⊎ ((nth_link new i).to ≡ j)
+  still_joined i j old (inl e) = inl e
+  still_joined i j old (inr e) = inr (ap (λ (l : Link). l.to) old ∙ e)
+
   closed_apart : IsClosed links new a b closed → AreApart n new
   closed_apart shut i j i_in j_in i_to j_to same =
       let old_i = shut.rest i (λ e. i_to (ap (λ k. (nth_link new k).to) e ∙ shut.one ∙ sym e)) (λ e. i_to (ap (λ k. (nth_link new k).to) e ∙ shut.other ∙ sym e)) in
       let old_j = shut.rest j (λ e. j_to (ap (λ k. (nth_link new k).to) e ∙ shut.one ∙ sym e)) (λ e. j_to (ap (λ k. (nth_link new k).to) e ∙ shut.other ∙ sym e)) in
-      by_old old_i
+      still_joined i j old_i
       (h i j i_in j_in (λ e. i_to (ap (λ (l : Link). l.to) old_i ∙ e)) (λ e. j_to (ap (λ (l : Link). l.to) old_j ∙ e)) (sym (ap (λ (l : Link). l.place.from) old_i) ∙ same ∙ ap (λ (l : Link). l.place.from) old_j))
-    where
-      by_old : nth_link new i ≡ nth_link links i → (i ≡ j) ⊎ ((nth_link links i).to ≡ j) → (i ≡ j) ⊎ ((nth_link new i).to ≡ j)
-      by_old old (inl e) = inl e
-      by_old old (inr e) = inr (ap (λ (l : Link). l.to) old ∙ e)
 
   abbrev p : ℕ
   p = (nth_link links a).to
@@ -128,11 +128,7 @@ module _ (n a b : ℕ) (links new : List Link) (closed : Option Place) (a_in : a
     by_which i j i_in j_in i_to j_to same (is_else x y z w) (is_else x1 y1 z1 w1) =
         let old_i = on.rest i x y z w in
         let old_j = on.rest j x1 y1 z1 w1 in
-        by_old old_i (h i j i_in j_in (old_to i old_i i_to) (old_to j old_j j_to) (sym (ap (λ (l : Link). l.place.from) old_i) ∙ same ∙ ap (λ (l : Link). l.place.from) old_j))
-      where
-        by_old : nth_link new i ≡ nth_link links i → (i ≡ j) ⊎ ((nth_link links i).to ≡ j) → (i ≡ j) ⊎ ((nth_link new i).to ≡ j)
-        by_old old (inl e) = inl e
-        by_old old (inr e) = inr (ap (λ (l : Link). l.to) old ∙ e)
+        still_joined i j old_i (h i j i_in j_in (old_to i old_i i_to) (old_to j old_j j_to) (sym (ap (λ (l : Link). l.place.from) old_i) ∙ same ∙ ap (λ (l : Link). l.place.from) old_j))
 
     opened_apart : AreApart n new
     opened_apart i j i_in j_in i_to j_to same = by_which i j i_in j_in i_to j_to same (which i i_to) (which j j_to)

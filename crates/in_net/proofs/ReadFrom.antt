@@ -9,12 +9,11 @@ use Rattle.in_net.specs.declared.reading.Reading.{Reading}
 use Rattle.in_net.specs.Joining.{JointsInside}
 use Rattle.in_net.specs.Reading.{reading_of}
 use Rattle.in_net.specs.Building.{no_agent, no_spot, nth_spot, nth_agent, IsPointSpot, IsSmall}
-use Rattle.in_net.specs.Built.{ArePointsAt, IsEnd, IsReadFrom}
+use Rattle.in_net.specs.Built.{HaveFewPorts, ArePointsAt, IsEnd, IsReadFrom}
 use Rattle.in_net.specs.TextNet.{Body}
 use Rattle.in_net.proofs.Links.{all_at}
 use Rattle.in_net.proofs.NetRead.{IsBodyRead, ends_in, names_in_body}
 use Rattle.in_syntax.specs.Tokens.{text_limit}
-use Rattle.in_net.proofs.Terms.{AreSmall}
 
 -- what holds of each element, one by one
 pub from_each : {X : Type 0} (P : X → Type 0) (xs : List X) (d : X) → ((i : ℕ) → i < length xs → P (get_or xs i d)) → AllByRecursion P xs
@@ -50,7 +49,7 @@ module _ (t : Tables) (b : Body) (read : IsBodyRead t b (reading_of t b)) where
   small_at few i (End k) lt is = let end = read.net.read.numbered.end i k lt (subst (λ s. IsEnd s k) (sym is) refl) in let n = few.0 in let less = end.1 in omega (arith, less, n)
   small_at few i (Occurrence m p) lt is = tt
 
-  pub read_from : AreSmall t → IsFew t b → IsReadFrom t (ends_in t b) (reading_of t b)
+  pub read_from : HaveFewPorts t → IsFew t b → IsReadFrom t (ends_in t b) (reading_of t b)
   read_from ports few = record {
     numbered = read.net.read.numbered;
     agents = from_each _ r.agents no_agent agent_at;

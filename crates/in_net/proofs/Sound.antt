@@ -6,7 +6,7 @@ use Rattle.in_net.specs.declared.reading.Joint.{Joint}
 use Rattle.in_net.specs.declared.reading.Spot.{Spot}
 use Rattle.in_net.specs.declared.reading.Spot.TheVariants.{Port, Free, End, Occurrence}
 use Rattle.in_symbols.specs.Tables.{Tables}
-use Rattle.in_net.specs.Building.{nth_link, nth_spot, no_spot}
+use Rattle.in_net.specs.Building.{LeadToSpots, LeadBack, nth_link, nth_spot, no_spot}
 use Rattle.in_net.specs.Joining.{self_link, self_links, with_link, with_joints, JointsInside}
 use Rattle.in_net.specs.TextNet as text
 use Rattle.in_net.specs.TextNet.{Body, PlacedJoint}
@@ -24,8 +24,8 @@ joined spots js = with_joints (self_links 0 (length spots)) js
 
 -- what a spot is joined to leads back, and they are joined in the text, at that place
 pub record IsLinked (t : Tables) (b : Body) (spots : List Spot) (links : List Link) : Type 0 where
-  pub inside : (i : ℕ) → i < length spots → (nth_link links i).to < length spots
-  pub back : (i : ℕ) → i < length spots → nth_link links (nth_link links i).to ≡ record { to = i; place = (nth_link links i).place }
+  pub inside : LeadToSpots spots links
+  pub back : LeadBack spots links
   pub sound : (i : ℕ) → i < length spots → (nth_link links i).to ≢ i → PlacedJoint t b (named (nth_spot spots i)) (named (nth_spot spots (nth_link links i).to)) (nth_link links i).place
 
 module _ (t : Tables) (b : Body) (spots more : List Spot) (js : List Joint) (all : JointsInside (length spots) js) (linked : IsLinked t b spots (joined spots js)) where

@@ -15,6 +15,7 @@ use Rattle.in_symbols.specs.Tables.{Tables, arity_of, all_true, heads_known}
 use Rattle.in_net.specs.Arities.{arities_fit}
 use Rattle.in_net.specs.Reading.{with_agent, with_occurrence, with_joint, number_with, ports_from, reader_of, reads_arguments}
 use Rattle.in_net.specs.Joining.{links_of}
+use Rattle.in_net.specs.Built.{HaveFewPorts}
 use Rattle.in_net.specs.Building.{no_spot, nth_spot, nth_link}
 use Rattle.in_net.specs.TextNet as text
 use Rattle.in_base.specs.Lists.{IsAmong}
@@ -27,7 +28,6 @@ use Rattle.in_net.proofs.Kept.{IsSettled, IsHeldAt, Keeps, keeps_both, keeps_its
 use Rattle.in_net.proofs.Read.{name_there, grows_by, IsRead, with_agent_read, with_occurrence_read, with_joint_read, more_names, new_spot, wider_agent}
 use Rattle.std.proofs.lemmas.Bool.{and_parts}
 use Rattle.in_syntax.proofs.Terms.{names_out}
-use Rattle.in_syntax.specs.Grammar.{max_ports}
 
 -- the joints of a term's arguments and its variables stand among the spots
 pub record IsHeldIn (t : Tables) (u : Term) (r : Reading) : Type 0 where
@@ -72,10 +72,6 @@ pub record AreReadOn (t : Tables) (b : Body) (free count first port : ℕ) (u : 
   pub keeps : Keeps before after
   pub held : all_true (map (heads_known t.names) args) ≡ true → (w : Term) → IsAmong w args → IsHeldIn t w after
   pub settled : (j : ℕ) (w : Term) → slice_get args j ≡ Some w → IsSettled after (text.port_at (place_of u) (port + j)) (spot_of t w) (place_of w)
-
--- a symbol has few auxiliary ports
-abbrev pub AreSmall : Tables → Type 0
-AreSmall t = (s : ℕ) → arity_of t s ≤ max_ports
 
 abbrev ReadsOn : Tables → Body → ℕ → ℕ → Type 0
 ReadsOn t b free h =
@@ -269,7 +265,7 @@ some_is : (o : Option ℕ) (s : ℕ) → o ≡ Some s → IsSome o
 some_is None s e = cc
 some_is (Some x) s e = refl
 
-reads_term : (t : Tables) (b : Body) (free h : ℕ) → AreSmall t → ReadsOn t b free h → (u : Term) (count : ℕ) (r : Reading) → names_in u ≤ suc h → arities_fit t u ≡ true → ((v : Term) → IsPartOf v u → IsTermOf b v) → IsRead t b free count r →
+reads_term : (t : Tables) (b : Body) (free h : ℕ) → HaveFewPorts t → ReadsOn t b free h → (u : Term) (count : ℕ) (r : Reading) → names_in u ≤ suc h → arities_fit t u ≡ true → ((v : Term) → IsPartOf v u → IsTermOf b v) → IsRead t b free count r →
     (o : Option ℕ) → number_in (out-Term u).name.text t.names ≡ o → IsReadOn t b free (count + names_in u) u r ((reader_of t u).reads r).0 ((reader_of t u).reads r).1
 reads_term t b free h small ih u count r short fits terms read None is =
     let out = names_out u in
@@ -383,7 +379,7 @@ reads_term t b free h small ih u count r short fits terms read (Some s) is =
     beyond i lt in_ (inl a) = absurd (omega (arith, lt, a))
     beyond i lt in_ (inr a) = absurd (omega (arith, in_, a))
 
-pub reads_on : (t : Tables) (b : Body) (free : ℕ) → AreSmall t → (h : ℕ) → ReadsOn t b free h
+pub reads_on : (t : Tables) (b : Body) (free : ℕ) → HaveFewPorts t → (h : ℕ) → ReadsOn t b free h
 reads_on t b free small zero u count r short fits terms read = absurd (omega (arith, names_out u, short))
 reads_on t b free small (suc h) u count r short fits terms read =
     reads_term t b free h small (λ v n q a c d e. reads_on t b free small h v n q a c d e) u count r short fits terms read (number_in (out-Term u).name.text t.names) refl

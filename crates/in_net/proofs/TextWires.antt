@@ -17,7 +17,7 @@ use Rattle.in_net.specs.Counting.{none_seen, counted_from}
 use Rattle.in_net.specs.Joining.{links_of, not_named, joining_of}
 use Rattle.in_net.specs.Reading.{reading_of}
 use Rattle.in_net.specs.Building.{AreTwice, nth_spot, nth_link, nth_agent, IsPointSpot, point_in, IsJoined, partner_of, cells_of, wires_from}
-use Rattle.in_net.specs.Built.{IsNumbered, AreJoinedTo, AreListedOf, Assembles, IsOver, IsCellOver}
+use Rattle.in_net.specs.Built.{HaveFewPorts, IsNumbered, AreJoinedTo, AreListedOf, Assembles, IsOver, IsCellOver}
 use Rattle.in_net.specs.declared.nets.Cell.{Cell}
 use Rattle.in_net.specs.declared.nets.FreeEnd.{FreeEnd}
 use Rattle.in_net.specs.Parts.{Parts, as_built, wire_in}
@@ -35,7 +35,6 @@ use Rattle.in_net.proofs.Points.{Stands, stands_at, partner_stands}
 use Rattle.in_net.proofs.Single.{IsReadWhole, one_wire}
 use Rattle.in_net.proofs.NamesApart.{names_apart}
 use Rattle.in_net.proofs.NamedSpots.{AreNamesRead, names_read}
-use Rattle.in_net.proofs.Terms.{AreSmall}
 use Rattle.in_net.proofs.Whole.{once_of, wire_at}
 use Rattle.in_net.proofs.Ways.{IsWay, kind_of}
 use Rattle.in_net.proofs.NetRead.{AreHeadsOf, IsBodyRead, ends_in, names_in_body, body_read}
@@ -140,7 +139,7 @@ module _ (t : Tables) (b : Body) (free : List FreeEnd) (r : Reading) (links : Li
 -- what is known of a body before it is read, and of its numbers: so much is read, and each name twice
 pub record IsGood (t : Tables) (b : Body) : Type 0 where
   pub ready : IsReady t b
-  pub small : AreSmall t
+  pub small : HaveFewPorts t
   pub heads : AreHeadsOf t b
   pub fits : all_arities_fit t b ≡ true
   pub twice : AreTwice (reading_of t b).spots (counted_from 0 (reading_of t b).spots (none_seen (length (reading_of t b).names)))

@@ -8,7 +8,7 @@ use Rattle.in_net.specs.declared.joining.Joining.{Joining}
 use Rattle.in_net.specs.declared.counting.Seen.{Seen}
 use Rattle.in_net.specs.declared.counting.Seen.TheVariants.{Never, Once, Twice, Often}
 use Rattle.in_net.specs.Counting as counting
-use Rattle.in_net.specs.Building.{nth_link, nth_spot}
+use Rattle.in_net.specs.Building.{LeadToSpots, LeadBack, nth_link, nth_spot}
 use Rattle.in_net.specs.Joining.{self_link, later_of}
 use Rattle.in_net.specs.TextNet as text
 use Rattle.in_net.specs.TextNet.{Body, Kind, placed, of_name, NameJoint, IsOccurrence, Chain, IsLastOf, IsClosedWireOf, name_of, place_of}
@@ -56,8 +56,8 @@ IsSeenAt spots at m Often = Unit {0}
 pub record IsJoiningAt (t : Tables) (b : Body) (spots : List Spot) (names at : ℕ) (j : Joining) : Type 0 where
   pub size : length j.links ≡ length spots
   pub count : length j.seen ≡ names
-  pub inside : (i : ℕ) → i < length spots → (nth_link j.links i).to < length spots
-  pub back : (i : ℕ) → i < length spots → nth_link j.links (nth_link j.links i).to ≡ record { to = i; place = (nth_link j.links i).place }
+  pub inside : LeadToSpots spots j.links
+  pub back : LeadBack spots j.links
   pub apart : (i : ℕ) → i < length spots → IsOpen j.seen (nth_spot spots i) → (nth_link j.links i).to ≢ i
   pub way : (i : ℕ) → i < length spots → IsOpen j.seen (nth_spot spots i) → IsWay t b (nth_spot spots i) (nth_spot spots (nth_link j.links i).to) (nth_link j.links i).place
   pub used : (i m : ℕ) (p : Place) → i < length spots → nth_spot spots i ≡ Occurrence m p → IsMet (nth_seen j.seen m) → (nth_link j.links i).to ≡ i

@@ -24,7 +24,7 @@ use Rattle.in_net.specs.declared.nets.Point.TheVariants.{Port, Free}
 use Rattle.in_net.specs.declared.nets.Wire.{Wire}
 use Rattle.in_net.specs.Building.{nth_spot, nth_link, point_in, IsJoined, partner_of, cell_of, cells_of, wire_of, wires_from}
 use Rattle.in_net.specs.declared.nets.FreeEnd.{FreeEnd}
-use Rattle.in_net.specs.Built.{IsNumbered, IsReadFrom, AreJoinedTo, AreListedOf}
+use Rattle.in_net.specs.Built.{HaveFewPorts, IsNumbered, IsReadFrom, AreJoinedTo, AreListedOf}
 use Rattle.in_net.specs.Parts.{Parts, IsWhole, IsWireBetween, as_built, partner_in, wire_in, wire_place_in}
 use Rattle.in_net.proofs.Agents.{length-ends}
 use Rattle.in_net.proofs.Linked.{same_or_not, below_or_not}
@@ -289,7 +289,7 @@ module _ (t : Tables) (free : List FreeEnd) (r : Reading) (links : List Link) (n
   once_of v w p q (inr a) (inl b) = absurd (not_turned v w q p a b)
   once_of v w p q (inr a) (inr b) = same_number v w q p a b
 
-  few_ports : (found : List Agent) (x : ℕ) (c : Cell) → ((s : ℕ) → arity_of t s ≤ max_ports) → option_and_then (λ c. c) (slice_get (cells_of t r.spots links found) x) ≡ Some c → length c.ends ≤ max_ports + 1
+  few_ports : (found : List Agent) (x : ℕ) (c : Cell) → HaveFewPorts t → option_and_then (λ c. c) (slice_get (cells_of t r.spots links found) x) ≡ Some c → length c.ends ≤ max_ports + 1
   few_ports [] x c few e = cc
   few_ports (a ∷ rest) zero c few e =
       let same : cell_of t r.spots links a ≡ c = cc in

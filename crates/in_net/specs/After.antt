@@ -73,8 +73,12 @@ pub record AreFreeAfter (s : SiteParts) (free : List FreeEnd) : Type 0 where
 abbrev pub AreUnused : List (Option Cell) → ℕ → List AgentNo → Type 0
 AreUnused cs count names = (length names ≡ count) × ((k : ℕ) → k < count → slice_get names k ≡ Some (record { 0 = unused cs k }))
 
+-- they are the first numbers without an agent
+abbrev pub AreFirstUnused : List (Option Cell) → List AgentNo → Type 0
+AreFirstUnused cs found = (k : ℕ) → k < length found → slice_get found k ≡ Some (record { 0 = unused cs k })
+
 -- no more of them than so many, of which the rest is past the last cell
 pub record AreEmptyNumbers (cs : List (Option Cell)) (count : ℕ) (found : List AgentNo) : Type 0 where
   pub few : length found ≤ count
-  pub names : (k : ℕ) → k < length found → slice_get found k ≡ Some (record { 0 = unused cs k })
+  pub names : AreFirstUnused cs found
   pub rest : (k : ℕ) → length found ≤ k → k < count → unused cs k ≡ length cs + (k - length found)

@@ -65,11 +65,19 @@ IsSmall (spot.Occurrence m p) = Unit {0}
 abbrev pub AreSmallSpots : List Spot → Type 0
 AreSmallSpots = AllByRecursion IsSmall
 
+-- what each spot is joined to is a spot
+abbrev pub LeadToSpots : List Spot → List Link → Type 0
+LeadToSpots spots links = (i : ℕ) → i < length spots → (nth_link links i).to < length spots
+
+-- .. and leads back, with the same place
+abbrev pub LeadBack : List Spot → List Link → Type 0
+LeadBack spots links = (i : ℕ) → i < length spots → nth_link links (nth_link links i).to ≡ record { to = i; place = (nth_link links i).place }
+
 -- once all is joined: points are joined to other points, each of which leads back, and no occurrence is joined to anything
 pub record IsJoined (spots : List Spot) (links : List Link) : Type 0 where
   pub count : length links ≡ length spots
-  pub inside : (i : ℕ) → i < length spots → (nth_link links i).to < length spots
-  pub back : (i : ℕ) → i < length spots → nth_link links (nth_link links i).to ≡ record { to = i; place = (nth_link links i).place }
+  pub inside : LeadToSpots spots links
+  pub back : LeadBack spots links
   pub apart : (i : ℕ) → i < length spots → IsPointSpot (nth_spot spots i) → (nth_link links i).to ≢ i
   pub alone : (i : ℕ) → i < length spots → (IsPointSpot (nth_spot spots i) → ⊥) → (nth_link links i).to ≡ i
 

@@ -55,6 +55,10 @@ pub record IsNumbered (t : Tables) (free : ℕ) (r : Reading) : Type 0 where
   pub ends : (k : ℕ) → k < free → (k < length r.spots) × IsEnd (nth_spot r.spots k) k
   pub rise : (a c : ℕ) → c < a → a < length r.agents → (nth_agent r.agents c).first < (nth_agent r.agents a).first
 
+-- each symbol has few auxiliary ports
+abbrev pub HaveFewPorts : Tables → Type 0
+HaveFewPorts t = (s : ℕ) → arity_of t s ≤ max_ports
+
 -- what was read, with so many free or boundary ends, is in range, and not too much
 pub record IsReadFrom (t : Tables) (free : ℕ) (r : Reading) : Type 0 where
   pub numbered : IsNumbered t free r
@@ -64,7 +68,7 @@ pub record IsReadFrom (t : Tables) (free : ℕ) (r : Reading) : Type 0 where
   pub few_agents : length r.agents ≤ text_limit
   pub few_spots : length r.spots ≤ max_free + (max_ports + 1) * text_limit
   pub few_free : free ≤ max_free
-  pub few_ports : (s : ℕ) → arity_of t s ≤ max_ports
+  pub few_ports : HaveFewPorts t
 
 -- the same wires, in the order of their places
 pub record AreListedOf (found listed : List Wire) : Type 0 where

@@ -15,12 +15,11 @@ use Rattle.in_symbols.specs.declared.symbols.PortType.{PortType}
 use Rattle.in_syntax.specs.Order.{IsRuleInOrder}
 use Rattle.in_syntax.specs.Sizes.{names_in_rule}
 use Rattle.in_symbols.specs.Tables.{Tables, IsSymbol, IsRuleKnown, arity_of, port_at, is_constructor, matching}
-use Rattle.in_net.specs.Built.{IsOver}
+use Rattle.in_net.specs.Built.{IsOver, HaveFewPorts}
 use Rattle.in_net.specs.NetFaults.{max_member_agents, HasNoNetFault, IsFirstNameFault}
 use Rattle.in_net.specs.Parts.{Parts, IsWhole}
 use Rattle.in_net.specs.TextNet.{Body, heads_at, HasAgentsOf, HasWiresOf}
 use Rattle.in_syntax.specs.Tokens.{text_limit}
-use Rattle.in_syntax.specs.Grammar.{max_ports}
 
 -- ---- what contracts see of a rule
 
@@ -113,4 +112,4 @@ pub record IsReadable (t : Tables) (r : SourceRule) : Type 0 where
   pub known : IsRuleKnown t.names r
   pub order : IsRuleInOrder r
   pub few : names_in_rule r ≤ text_limit
-  pub small : (s : ℕ) → arity_of t s ≤ max_ports
+  pub small : HaveFewPorts t

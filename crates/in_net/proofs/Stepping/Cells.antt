@@ -13,7 +13,7 @@ use Rattle.in_net.specs.Parts.{cell_in}
 use Rattle.in_net.specs.declared.nets.Cell.{Cell}
 use Rattle.in_net.specs.declared.nets.FreeEnd.{FreeEnd}
 use Rattle.in_net.specs.declared.nets.Point.{Point}
-use Rattle.in_net.proofs.Stepping.Lists.{more_at, last_at}
+use Rattle.in_net.proofs.Stepping.Lists.{more_at, last_at, set_here, set_there}
 use Rattle.in_net.proofs.Stepping.Partners.{cell_within}
 use Rattle.in_net.proofs.Stepping.Turns.{some_same}
 use Rattle.in_net.proofs.Stepping.Unused.{few_unused, unused_rises, unused_free, unused_apart}
@@ -190,18 +190,6 @@ pub record AreRejoinedTo (ends : List Point) (old new : List FreeEnd) (count : �
   pub many : length new ≡ length old
   pub each : (k : ℕ) (f : FreeEnd) (q : Point) → k < count → slice_get old k ≡ Some f → slice_get ends k ≡ Some q → slice_get new k ≡ Some (record { name = f.name; kind = f.kind; end = q })
   pub rest : (k : ℕ) (f : FreeEnd) → count ≤ k → slice_get old k ≡ Some f → slice_get new k ≡ Some f
-
-set_here : (xs : List FreeEnd) (k : ℕ) (x : FreeEnd) → k < length xs → slice_get (set xs k x) k ≡ Some x
-set_here [] k x h = absurd (omega (arith, h))
-set_here (y ∷ ys) zero x h = refl
-set_here (y ∷ ys) (suc k) x h = set_here ys k x (omega (arith, h))
-
-set_there : (xs : List FreeEnd) (k j : ℕ) (x : FreeEnd) → k ≢ j → slice_get (set xs k x) j ≡ slice_get xs j
-set_there [] k j x h = refl
-set_there (y ∷ ys) zero zero x h = absurd (h refl)
-set_there (y ∷ ys) zero (suc j) x h = refl
-set_there (y ∷ ys) (suc k) zero x h = refl
-set_there (y ∷ ys) (suc k) (suc j) x h = set_there ys k j x (λ e. h (ap suc e))
 
 pub one_rejoined : (ends : List Point) (old new : List FreeEnd) (k : ℕ) (got : FreeEnd) (d : Point) → AreRejoinedTo ends old new k → k < length ends → length ends ≡ length old → got ≡ get_or new k got →
     AreRejoinedTo ends old (set new k (record { name = got.name; kind = got.kind; end = get_or ends k d })) (k + 1)

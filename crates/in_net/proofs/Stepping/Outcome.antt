@@ -3,6 +3,7 @@ use Rattle.std.proofs.Common.{◌≡◌, ◌≢◌, ◌⊎◌, inl, inr, ◌+◌
 use Rattle.std.specs.Prelude.{option_map, option_and_then}
 use Rattle.std.specs.List.{AllByRecursion}
 use native.Mathlib.Decide.{ℕ_discrete}
+use Rattle.std.proofs.lemmas.Option.{slice_get_within}
 use Rattle.in_syntax.specs.Grammar.{max_ports}
 use Rattle.in_symbols.specs.Tables.{Tables, arity_of}
 use Rattle.in_symbols.specs.declared.symbols.SymbolNo.{SymbolNo}
@@ -164,14 +165,9 @@ module _ (s : SiteParts) (site : IsSite s) (cells : List (Option Cell)) (free : 
         go None is e = cc
         go (Some g) is e =
             let many = frees.many in
-            let f = at_index s.net.free k (let l = slice_within free k g is in omega (arith, l, many)) in
+            let f = at_index s.net.free k (let l = slice_get_within free k g is in omega (arith, l, many)) in
             let end : g.end ≡ coded_point v = cc in
             subst (Joined (Free k)) (ap point_of end ∙ round_point v) ((frees.each k f.0 g f.1 is).end t can)
-          where
-            slice_within : (xs : List FreeEnd) (k : ℕ) (x : FreeEnd) → slice_get xs k ≡ Some x → k < length xs
-            slice_within [] k x e = cc
-            slice_within (x ∷ xs) zero y e = omega arith
-            slice_within (x ∷ xs) (suc k) y e = let l = slice_within xs k y e in omega (arith, l)
 
     -- a point that is joined to one has a partner
     ends_there : (y i : ℕ) (c : Cell) → i < length c.ends → (d : Cell) × (cell_at cells y ≡ Some d) × IsAgentAfter s y c d → (w : Point ℕ) × ((net_of m).partner (Port y i) ≡ Some w)
@@ -183,14 +179,9 @@ module _ (s : SiteParts) (site : IsSite s) (cells : List (Option Cell)) (free : 
     port_cell : (n : Parts) (y i : ℕ) (w : Point ℕ) → (net_of n).partner (Port y i) ≡ Some w → (c : Cell) × (cell_in n y ≡ Some c) × (i < length c.ends)
     port_cell n y i w e = go (cell_in n y) refl (map_is (partner_in n (code.Port (record { 0 = y }) i)) w e)
       where
-        ends_within : (xs : List coded.Point) (i : ℕ) (q : coded.Point) → slice_get xs i ≡ Some q → i < length xs
-        ends_within [] i q e = cc
-        ends_within (x ∷ xs) zero q e = omega arith
-        ends_within (x ∷ xs) (suc i) q e = let l = ends_within xs i q e in omega (arith, l)
-
         go : (o : Option Cell) → cell_in n y ≡ o → option_and_then (λ (c : Cell). slice_get c.ends i) o ≡ Some (coded_point w) → (c : Cell) × (cell_in n y ≡ Some c) × (i < length c.ends)
         go None is e = cc
-        go (Some c) is e = (c, is, ends_within c.ends i (coded_point w) e)
+        go (Some c) is e = (c, is, slice_get_within c.ends i (coded_point w) e)
 
     outer_there : (u w : Point ℕ) → (IsOfPair (redex_at s.rule s.one.0 s.two.0) u → ⊥) → (net_of s.net).partner u ≡ Some w → (v : Point ℕ) × ((net_of m).partner u ≡ Some v)
     outer_there (Port y i) w stays e =
@@ -198,16 +189,11 @@ module _ (s : SiteParts) (site : IsSite s) (cells : List (Option Cell)) (free : 
         ends_there y i c.0 c.2 ((after y).stays c.0 (record { there = c.1; one = λ z. stays (inl z); two = λ z. stays (inr z) }))
     outer_there (Free k) w stays e = go (slice_get s.net.free k) refl (map_is (partner_in s.net (code.Free k)) w e)
       where
-        slice_within : (xs : List FreeEnd) (k : ℕ) (x : FreeEnd) → slice_get xs k ≡ Some x → k < length xs
-        slice_within [] k x e = cc
-        slice_within (x ∷ xs) zero y e = omega arith
-        slice_within (x ∷ xs) (suc k) y e = let l = slice_within xs k y e in omega (arith, l)
-
         go : (o : Option FreeEnd) → slice_get s.net.free k ≡ o → option_map (λ (f : FreeEnd). f.end) o ≡ Some (coded_point w) → (v : Point ℕ) × ((net_of m).partner (Free k) ≡ Some v)
         go None is e = cc
         go (Some f) is e =
             let many = frees.many in
-            let g = at_index free k (let l = slice_within s.net.free k f is in omega (arith, l, many)) in
+            let g = at_index free k (let l = slice_get_within s.net.free k f is in omega (arith, l, many)) in
             (point_of g.0.end, ap (λ (o : Option FreeEnd). option_map point_of (option_map (λ (f : FreeEnd). f.end) o)) g.1)
 
     inner_there : (u w : Point ℕ) → (IsOfPair (redex_at s.rule s.one.0 s.two.0) u → ⊥) → InnerWire (signature_of t) (redex_at s.rule s.one.0 s.two.0) (unused s.net.cells) u w → (v : Point ℕ) × ((net_of m).partner u ≡ Some v)

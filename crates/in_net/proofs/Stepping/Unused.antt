@@ -3,7 +3,7 @@ use Rattle.std.proofs.Common.{◌≡◌, ◌⊎◌, inl, inr, ◌+◌, ◌-◌, 
 use Rattle.std.specs.Prelude.{option_and_then}
 use Rattle.std.proofs.lemmas.List.{drop_all}
 use Rattle.std.proofs.lemmas.List.Sums.{sum_by-cons}
-use Rattle.in_net.specs.After.{AreEmptyNumbers}
+use Rattle.in_net.specs.After.{AreEmptyNumbers, AreFirstUnused}
 use Rattle.in_net.specs.Interacting.{unused}
 use Rattle.in_net.specs.declared.nets.AgentNo.{AgentNo}
 use Rattle.in_net.specs.declared.nets.Cell.{Cell}
@@ -24,7 +24,7 @@ at_some (Some d ∷ cs) zero c e k = refl
 at_some (d ∷ cs) (suc i) c e k = at_some cs i c e k
 
 -- one more after so many
-pub one_more : (cs : List (Option Cell)) (old : List AgentNo) (n : ℕ) → n ≡ unused cs (length old) → ((k : ℕ) → k < length old → slice_get old k ≡ Some (record { 0 = unused cs k })) →
+pub one_more : (cs : List (Option Cell)) (old : List AgentNo) (n : ℕ) → n ≡ unused cs (length old) → AreFirstUnused cs old →
     (k : ℕ) → k < length old + 1 → slice_get (old ++ record { 0 = n } ∷ []) k ≡ Some (record { 0 = unused cs k })
 one_more cs old n is h k lt = by_last (let o : (k < length old) ⊎ (k ≡ length old) = grind arith in o)
   where
@@ -37,7 +37,7 @@ one_more cs old n is h k lt = by_last (let o : (k < length old) ⊎ (k ≡ lengt
 -- of so many cells, with the rest behind them
 pub record AreFound (cs : List (Option Cell)) (count i : ℕ) (found : List AgentNo) : Type 0 where
   pub few : length found ≤ count
-  pub names : (k : ℕ) → k < length found → slice_get found k ≡ Some (record { 0 = unused cs k })
+  pub names : AreFirstUnused cs found
   pub rest : (k : ℕ) → length found ≤ k → k < count → unused cs k ≡ i + unused (drop i cs) (k - length found)
 
 pub none_yet : (cs : List (Option Cell)) (count : ℕ) → AreFound cs count 0 []
