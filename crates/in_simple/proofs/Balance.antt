@@ -1,15 +1,20 @@
 -- At each wire, a part's ends for the one point and for the other differ as its ports do.
-use Rattle.std.proofs.Common.{◌≡◌, ◌+◌, ℕ, Bool, true, false, ◌||◌, nat_eq, List, [], ◌∷◌, refl, sym, ap, inl, inr, ◌∙◌, arith}
+use Rattle.std.proofs.Common.{◌≡◌, ◌+◌, ℕ, Bool, true, false, ◌||◌, nat_eq, ◌<◌, length, List, [], ◌∷◌, refl, sym, ap, inl, inr, ◌∙◌, arith}
 use Rattle.in_simple.specs.declared.open_nets.Point.{Point}
 use Rattle.in_simple.specs.Constructions.{IsIn}
 use Rattle.in_simple.specs.OpenNets.{OpenNet, IsWire}
 use Rattle.in_simple.specs.Derivations.{Step, Empty, Link, Given, Graft, Cut, Mix, Part, named, AreEarlier, own_nodes, is_port_in, is_among, nodes_of, ends_of, ShareNothing, Joins}
 use Rattle.in_simple.proofs.Sums.{not_both, port_none, port_same, port_or, own_port}
 use Rattle.std.proofs.lemmas.Bool.{or_left}
+use Rattle.std.proofs.lemmas.Option.{slice_get_within}
 
 pub wire_turn : (o : OpenNet) (w : ℕ) (p q : Point) → IsWire o w p q → IsWire o w q p
 wire_turn o w p q (inl h) = inr h
 wire_turn o w p q (inr h) = inl h
+
+pub wire_within : (o : OpenNet) (w : ℕ) (p q : Point) → IsWire o w p q → w < length o.wires
+wire_within o w p q (inl h) = slice_get_within o.wires w (p, q) h
+wire_within o w p q (inr h) = slice_get_within o.wires w (q, p) h
 
 module _ (o : OpenNet) where
   abbrev pub IsBalanced : (Point → ℕ) → (ℕ → Bool) → Type 0

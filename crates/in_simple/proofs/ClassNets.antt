@@ -1,6 +1,5 @@
 -- The nets of an agent's classes grow port by port, until the agent is grafted on them.
 use Rattle.std.proofs.Common.{◌≡◌, ◌≢◌, ◌⊎◌, ◌↔◌, ◌<◌, ◌≤◌, ◌+◌, ℕ, zero, suc, Bool, true, false, cond, ◌&&◌, ◌||◌, nat_eq, Some, List, [], ◌∷◌, ◌++◌, length, slice_get, append_assoc, refl, sym, subst, ap, inl, inr, ◌∙◌, eq-eqb, eqb-true, arith}
-use Rattle.std.proofs.lemmas.Option.{slice_get_within}
 use Rattle.in_simple.specs.declared.open_nets.Point.{Point}
 use Rattle.in_simple.specs.declared.open_nets.Point.TheVariants.{Port}
 use Rattle.in_simple.specs.declared.plans.Joint.TheVariants as joint
@@ -17,7 +16,7 @@ use Rattle.in_simple.specs.Stacks.{Shape, shape, no_wires, HasShape, HaveShapes,
 use Rattle.in_simple.specs.Planned.{net_of, Meets, LeadsOff, IsBelow, IsClassShape, AreClassShapes, PutsClasses, HasClasses, IsBegun, Adds, AddsNothing, WhatPort, with_empty, Skips}
 use Rattle.in_net.proofs.Stepping.Turns.{some_same}
 use Rattle.in_simple.proofs.Sums.{not_both, same_test, port_yes, port_own, both_right}
-use Rattle.in_simple.proofs.Balance.{wire_turn}
+use Rattle.in_simple.proofs.Balance.{wire_within, wire_turn}
 use Rattle.in_simple.proofs.Sound.{wire_points, port_place}
 use Rattle.in_simple.proofs.Links.{same_nat, at_most}
 use Rattle.in_simple.proofs.Search.{at_ports, in_ports}
@@ -527,10 +526,6 @@ module _ (o : OpenNet) (net : IsOpenNet o) (n : ℕ) where
             (λ g. let y = (k.nodes m).0 g in and_from (whole m) (nat_eq (part m) c) (in_whole m y.0 y.1 y.3) (eq-eqb (part m) c ((part_of m y.0 y.1 y.3).0 ∙ y.2)))
             (λ g. (k.nodes m).1 (part_is m c l (eqb-true (part m) c (both_right (whole m) (nat_eq (part m) c) g))))
 
-        wire_small : (w : ℕ) (p q : Point) → IsWire o w p q → w < length o.wires
-        wire_small w p q (inl g) = slice_get_within o.wires w (p, q) g
-        wire_small w p q (inr g) = slice_get_within o.wires w (q, p) g
-
         outside : (q : Point) → is_port_in (nodes_in p.rest) q ≡ 0 → is_port_in (class_nodes c) q ≡ 0
         outside q z = elim (at_most 1 (is_port_in (class_nodes c) q)) [
           | inl u ↦
@@ -556,7 +551,7 @@ module _ (o : OpenNet) (net : IsOpenNet o) (n : ℕ) where
         links w = same_test (x.links w) (class_links c w)
             (λ g.
             let y = (k.links w).0 g in
-            hanging_yes o net n whole part agent zero_root (λ m g. part_most m) is_graft c (length o.wires) w (wire_small w (Port n y.0) y.3.0 y.3.1) (y.0, y.2, (y.3.0, y.3.1, outside y.3.0 y.3.2)))
+            hanging_yes o net n whole part agent zero_root (λ m g. part_most m) is_graft c (length o.wires) w (wire_within o w (Port n y.0) y.3.0 y.3.1) (y.0, y.2, (y.3.0, y.3.1, outside y.3.0 y.3.2)))
             (λ g.
             let y = (hanging_is o net n whole part agent zero_root (λ m g. part_most m) is_graft c (length o.wires) w g).1 in
             let small = in_ports o net w n y.0 y.2.0 y.2.1 in

@@ -4,26 +4,19 @@ use Rattle.in_net.specs.Graphs.{Graph}
 use Rattle.in_simple.specs.Constructions.{IsIn, AreParts, numbered, IsGraft, Built, empty, given, mix, cut, graft}
 use Rattle.in_simple.specs.Splitting.{Linked, alone, onward, Without, SplitsAt}
 use Rattle.std.proofs.lemmas.Bool.{and_from}
+use Rattle.in_simple.proofs.Links.{link_first, link_map}
 use Rattle.in_simple.proofs.Sums.{both_left, both_right, not_both, swap_parts}
 
 module _ (g : Graph) (wire_back : (u v : g.Node × ℕ) → g.Wire u v → g.Wire v u) where
-  link_first : (P : g.Node → Type 0) (u v : g.Node) → Linked g P u v → P u
-  link_first P u v (alone _ h) = h
-  link_first P u v (onward _ m _ i j h w k) = h
-
   link_last : (P : g.Node → Type 0) (u v : g.Node) → Linked g P u v → P v
   link_last P u v (alone _ h) = h
   link_last P u v (onward _ m _ i j h w k) = link_last P m v k
-
-  link_map : (P R : g.Node → Type 0) → ((k : g.Node) → P k → R k) → (u v : g.Node) → Linked g P u v → Linked g R u v
-  link_map P R f u v (alone _ h) = alone u (f u h)
-  link_map P R f u v (onward _ m _ i j h w k) = onward u m v i j (f u h) w (link_map P R f m v k)
 
   -- links between nodes of P stay in Q, where wires do
   link_stay : (P Q : g.Node → Type 0) → ((l m : g.Node) (i j : ℕ) → g.Wire (l, i) (m, j) → P l → P m → Q l → Q m) → (R : g.Node → Type 0) → ((n : g.Node) → P n → Q n → R n) → (u v : g.Node) → Q u → Linked g P u v → Linked g R u v × Q v
   link_stay P Q closed R both u v q (alone _ h) = (alone u (both u h q), q)
   link_stay P Q closed R both u v q (onward _ m _ i j h w k) =
-      let r = link_stay P Q closed R both m v (closed u m i j w h (link_first P m v k) q) k in
+      let r = link_stay P Q closed R both m v (closed u m i j w h (link_first g P m v k) q) k in
       (onward u m v i j (both u h q) w r.0, r.1)
 
   -- what splits the part of t in Q splits t, where no wire of t leaves Q
@@ -31,7 +24,7 @@ module _ (g : Graph) (wire_back : (u v : g.Node × ℕ) → g.Wire u v → g.Wir
   lift t part Q both closed n here q s = record {
     own = s.own;
     touched = λ i j l m k h w v link.
-        let a : Without n t l = link_first (Without n t) l m link in
+        let a : Without n t l = link_first g (Without n t) l m link in
         let inside = link_stay (Without n t) Q (λ l m i j w x y. closed l m i j w x.0 y.0) (Without n part) (λ k x y. (both k x.0 y, x.1)) l m (closed n l i k w here a.0 q) link in
         s.touched i j l m k h w v inside.0;
   }
@@ -45,7 +38,7 @@ module _ (g : Graph) (wire_back : (u v : g.Node × ℕ) → g.Wire u v → g.Wir
     link_over : (P : g.Node → Type 0) → ((k : g.Node) → P k → IsIn k s) → (u v : g.Node) → IsIn u a → IsIn v b → Linked g P u v → P p.0
     link_over P in_s u v ua vb (alone _ h) = absurd ((parts u).1 ua vb)
     link_over P in_s u v ua vb (onward _ m _ i j h w k) =
-        elim ((parts m).0.0 (in_s m (link_first P m v k))) [
+        elim ((parts m).0.0 (in_s m (link_first g P m v k))) [
           | inl ma ↦ link_over P in_s m v ma vb k
           | inr mb ↦ subst P (ap (λ r. r.0) (only (u, i) (m, j) w ua mb).0) h
         ]
@@ -55,7 +48,7 @@ module _ (g : Graph) (wire_back : (u v : g.Node × ℕ) → g.Wire u v → g.Wir
     link_back P in_s u v va (alone _ h) = ((λ ua. alone u (h, ua)), λ ub. absurd ((parts u).1 va ub))
     link_back P in_s u v va (onward _ m _ i j h w k) =
         let r = link_back P in_s m v va k in
-        elim ((parts m).0.0 (in_s m (link_first P m v k))) [
+        elim ((parts m).0.0 (in_s m (link_first g P m v k))) [
           | inl ma ↦ (
             (λ ua. onward u m v i j (h, ua) w (r.0 ma)),
             λ ub. subst (λ z. Linked g (λ k. P k × IsIn k a) z v) (ap (λ r. r.0) (only (m, j) (u, i) (wire_back (u, i) (m, j) w) ma ub).0) (r.0 ma),
@@ -70,7 +63,7 @@ module _ (g : Graph) (wire_back : (u v : g.Node × ℕ) → g.Wire u v → g.Wir
     lift_over : (t : g.Node → Bool) → ((k : g.Node) → IsIn k t → IsIn k s) → (n : g.Node) → IsIn n t → IsIn n a → SplitsAt g n (λ k. t k && a k) → SplitsAt g n t
     lift_over t in_s n here na split = record {
       own = split.own;
-      touched = λ i j l m k h w v link. over i j l m k h w v link ((parts l).0.0 (in_s l (link_first (Without n t) l m link).0)) ((parts m).0.0 (in_s m (link_last (Without n t) l m link).0));
+      touched = λ i j l m k h w v link. over i j l m k h w v link ((parts l).0.0 (in_s l (link_first g (Without n t) l m link).0)) ((parts m).0.0 (in_s m (link_last (Without n t) l m link).0));
     }
       where
         at : (i : ℕ) (l : g.Node) (k : ℕ) → g.Wire (n, i) (l, k) → IsIn l b → (n, i) ≡ p
@@ -78,10 +71,10 @@ module _ (g : Graph) (wire_back : (u v : g.Node × ℕ) → g.Wire u v → g.Wir
 
         over : (i j : ℕ) (l m : g.Node) (k h : ℕ) → g.Wire (n, i) (l, k) → g.Wire (n, j) (m, h) → Linked g (Without n t) l m → IsIn l a ⊎ IsIn l b → IsIn m a ⊎ IsIn m b → g.class n i ≡ g.class n j
         over i j l m k h w v link (inl la) (inl ma) =
-            split.touched i j l m k h w v (link_map (λ z. Without n t z × IsIn z a) (Without n (λ z. t z && a z)) (λ z x. (and_from (t z) (a z) x.0.0 x.1, x.0.1)) l m
+            split.touched i j l m k h w v (link_map g (λ z. Without n t z × IsIn z a) (Without n (λ z. t z && a z)) (λ z x. (and_from (t z) (a z) x.0.0 x.1, x.0.1)) l m
             ((link_back (Without n t) (λ z x. in_s z x.0) l m ma link).0 la))
         over i j l m k h w v link (inr lb) (inl ma) =
-            let x = link_first (λ z. Without n t z × IsIn z a) p.0 m ((link_back (Without n t) (λ z x. in_s z x.0) l m ma link).1 lb) in
+            let x = link_first g (λ z. Without n t z × IsIn z a) p.0 m ((link_back (Without n t) (λ z x. in_s z x.0) l m ma link).1 lb) in
             absurd (x.0.1 (sym (ap (λ r. r.0) (at i l k w lb))))
         over i j l m k h w v link (inl la) (inr mb) =
             let x = link_over (Without n t) (λ z x. in_s z x.0) l m la mb link in
@@ -108,7 +101,7 @@ module _ (g : Graph) (wire_back : (u v : g.Node × ℕ) → g.Wire u v → g.Wir
   root_splits n s part many r t in_s = record {
     own = r.own;
     touched = λ i j l m k h w v link.
-        let a = link_first (Without n t) l m link in
+        let a = link_first g (Without n t) l m link in
         let b = link_last (Without n t) l m link in
         let same = link_stay (Without n t) (λ z. part l ≡ part z) (λ y z i j w x x'. λ e. e ∙ r.among y z i j (in_s y x.0) (in_s z x'.0) x.1 x'.1 w) (λ z. Unit {0}) (λ z x y. tt) l m refl link in
         sym (r.to i k l (in_s l a.0) a.1 w) ∙ same.1 ∙ r.to j h m (in_s m b.0) b.1 v;
@@ -122,7 +115,7 @@ module _ (g : Graph) (wire_back : (u v : g.Node × ℕ) → g.Wire u v → g.Wir
     record {
       own = λ i j w. absurd (self i j (subst (λ z. g.Wire (z, i) (z, j)) ((all m).0 (in_s m here)) w));
       touched = λ i j l k _ _ w v link.
-          let a = link_first (Without m t) l k link in
+          let a = link_first g (Without m t) l k link in
           absurd (a.1 ((all l).0 (in_s l a.0) ∙ sym ((all m).0 (in_s m here))));
     },
   )

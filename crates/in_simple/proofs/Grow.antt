@@ -71,7 +71,7 @@ module _ (o : OpenNet) (net : IsOpenNet o) (BuiltSet : (ℕ → Bool) → Type 0
     back = link_back o (Without n s) (without o net s in_net n)
 
     begins : (l m : ℕ) → Link l m → Without n s l
-    begins = link_first o (Without n s) (without o net s in_net n)
+    begins = link_first (open_graph o) (Without n s)
 
     ends : (l m : ℕ) → Link l m → Without n s m
     ends l m h = begins m l (back l m h)

@@ -3,6 +3,7 @@ use Rattle.std.proofs.Common.{◌≡◌, ◌⊎◌, ◌<◌, ◌≤◌, ℕ, zer
 use Rattle.std.proofs.lemmas.Bool.Decides.{eqb_tells}
 use Rattle.in_simple.specs.declared.open_nets.Point.{Point}
 use Rattle.in_simple.specs.declared.open_nets.Point.TheVariants.{Port, Free}
+use Rattle.in_net.specs.Graphs.{Graph}
 use Rattle.in_simple.specs.Splitting.{Linked, alone, onward}
 use Rattle.in_simple.specs.OpenNets.{OpenNet, IsWire, open_graph}
 use Rattle.in_net.proofs.Stepping.Turns.{some_same}
@@ -42,6 +43,14 @@ least P dec key (suc b) = go (dec b) (least P dec key b)
       | inl le ↦ inr (r.0, omega arith, r.2, λ j l h. elim (same_nat j b) [ inl e ↦ let f : key j ≡ key b = ap key e in omega arith | inr d ↦ r.3 j (omega arith) h ])
       | inr gt ↦ inr (b, omega arith, y, λ j l h. elim (same_nat j b) [ inl e ↦ let f : key j ≡ key b = ap key e in omega arith | inr d ↦ let k = r.3 j (omega arith) h in omega arith ])
     ]
+
+pub link_first : (g : Graph) (P : g.Node → Type 0) (u v : g.Node) → Linked g P u v → P u
+link_first g P u v (alone _ h) = h
+link_first g P u v (onward _ m _ i j h w k) = h
+
+pub link_map : (g : Graph) (P R : g.Node → Type 0) → ((k : g.Node) → P k → R k) → (u v : g.Node) → Linked g P u v → Linked g R u v
+link_map g P R f u v (alone _ h) = alone u (f u h)
+link_map g P R f u v (onward _ m _ i j h w k) = onward u m v i j (f u h) w (link_map g P R f m v k)
 
 module _ (o : OpenNet) where
   abbrev pub AreNext : ℕ → ℕ → Type 0
@@ -128,20 +137,16 @@ module _ (o : OpenNet) where
         go (inr d) (inr a) (inl c) on = inr (a.0, on (z, m, omega arith) a.1 c)
         go (inr d) (inr a) (inr c) on = inr (a.0, c.1)
 
-    pub link_first : (l m : ℕ) → Linked (open_graph o) P l m → P l
-    link_first l m (alone _ h) = h
-    link_first l m (onward _ n _ i j h w k) = h
-
     link_through : (b : ℕ) → ((n : ℕ) → P n → n < b) → (l m : ℕ) → Linked (open_graph o) P l m → Through b l m
     link_through b below l m (alone _ h) = near_through b l l ((h, h), inl refl)
     link_through b below l m (onward _ n _ i j h w k) =
-        let hn = link_first n m k in
+        let hn = link_first (open_graph o) P n m k in
         through_both b n l m (below n hn) (near_through b l n ((h, hn), inr (i, j, w.0, w.1))) (link_through b below n m k)
 
     pub link_back : (l m : ℕ) → Linked (open_graph o) P l m → Linked (open_graph o) P m l
     link_back l m (alone _ h) = alone l h
     link_back l m (onward _ n _ i j h w k) =
-        link_join m n l (link_back n m k) (onward n l l j i (link_first n m k) (w.0, wire_turn o w.0 (Port l i) (Port n j) w.1) (alone l h))
+        link_join m n l (link_back n m k) (onward n l l j i (link_first (open_graph o) P n m k) (w.0, wire_turn o w.0 (Port l i) (Port n j) w.1) (alone l h))
 
     pub are_linked : (b : ℕ) → ((n : ℕ) → P n → n < b) → (l m : ℕ) → Decided (Linked (open_graph o) P l m)
     are_linked b below l m = elim (through b l m) [ inl h ↦ inl (through_link b l m h) | inr h ↦ inr (λ k. h (link_through b below l m k)) ]

@@ -1,7 +1,6 @@
 -- A derivation for each of the constructions.
 use Rattle.std.proofs.Common.{◌≡◌, ◌≢◌, ◌⊎◌, ◌↔◌, ◌<◌, ◌≤◌, ◌+◌, ℕ, zero, suc, Bool, true, false, cond, ◌&&◌, ◌||◌, nat_eq, Some, List, [], ◌∷◌, ◌++◌, length, slice_get, refl, sym, subst, ap, inl, inr, ◌∙◌, eq-eqb, eqb-true, ne_eqb, arith}
 use mathlib.Core.Path.{fun_ext}
-use Rattle.std.proofs.lemmas.Option.{slice_get_within}
 use Rattle.in_simple.specs.declared.open_nets.Point.{Point}
 use Rattle.in_simple.specs.declared.open_nets.Point.TheVariants.{Port, Free}
 use Rattle.in_simple.specs.Constructions.{IsIn, AreParts, numbered, IsGraft}
@@ -11,7 +10,7 @@ use Rattle.in_simple.specs.Stuck.{ports_of}
 use Rattle.in_simple.specs.Stacks.{shape, no_wires, leads_out, IsLinkOf, HasShape}
 use Rattle.in_net.proofs.Stepping.Turns.{some_same}
 use Rattle.in_simple.proofs.Sums.{not_both, same_test, numbered_is, port_yes, port_no, port_none, port_same, port_or, port_own, other_port, auxiliary_port, principal_one, one_same, one_other, of_nodes, in_nodes_of, both_left, both_right}
-use Rattle.in_simple.proofs.Balance.{wire_turn}
+use Rattle.in_simple.proofs.Balance.{wire_within, wire_turn}
 use Rattle.in_simple.proofs.Sound.{wire_points, port_place}
 use Rattle.in_simple.proofs.Links.{Decided, same_nat, both_decided, at_most, least}
 use Rattle.in_simple.proofs.Search.{test, test_yes, test_is, partner, in_ports}
@@ -578,11 +577,7 @@ module _ (o : OpenNet) (net : IsOpenNet o) where
       hang_none c w f = let e : hanging c (length o.wires) w ≡ false = false_from_ne_true (hanging c (length o.wires) w) (λ h. f (hanging_is c (length o.wires) w h).1) in ap (λ b. cond b 1 0) e
 
       hang_one : (c w : ℕ) (p q : Point) → IsWire o w p q → Dangles c w → if_in (hanging c (length o.wires)) w ≡ 1
-      hang_one c w p q h f = ap (λ b. cond b 1 0) (hanging_yes c (length o.wires) w (number w p q h) f)
-        where
-          number : (w : ℕ) (p q : Point) → IsWire o w p q → w < length o.wires
-          number w p q (inl h) = slice_get_within o.wires w (p, q) h
-          number w p q (inr h) = slice_get_within o.wires w (q, p) h
+      hang_one c w p q h f = ap (λ b. cond b 1 0) (hanging_yes c (length o.wires) w (wire_within o w p q h) f)
 
       -- what dangles at a wire does so at one of its points
       dangle_at : (c w : ℕ) (p q : Point) → IsWire o w p q → Dangles c w → ((i : ℕ) × (p ≡ Port n i) × (class_in o n i ≡ c) × (is_port_in (of_class c) q ≡ 0)) ⊎ ((i : ℕ) × (q ≡ Port n i) × (class_in o n i ≡ c) × (is_port_in (of_class c) p ≡ 0))

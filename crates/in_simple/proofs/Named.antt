@@ -1,37 +1,26 @@
 -- Which steps are left for others to name.
-use Rattle.std.proofs.Common.{◌≡◌, ◌≢◌, ◌<◌, ◌≤◌, ◌+◌, ℕ, zero, suc, Option, Some, None, List, [], ◌∷◌, ◌++◌, length, length-append, slice_get, take, refl, sym, subst, ap, inl, inr, ◌∙◌, arith}
+use Rattle.std.proofs.Common.{◌≡◌, ◌<◌, ◌≤◌, ◌+◌, ℕ, zero, suc, Option, Some, None, List, [], ◌∷◌, ◌++◌, length, length-append, slice_get, take, refl, sym, subst, ap, inl, inr, ◌∙◌, arith}
 use Rattle.std.proofs.Math.ListN.{set}
 use Rattle.std.proofs.lemmas.List.{length-set}
 use Rattle.in_simple.specs.declared.verifying.Built.{Built}
 use Rattle.in_simple.specs.Derivations.{Step, named, one_if, times_in}
 use Rattle.in_simple.specs.Checking.{left_of, left_at, Takes}
+use Rattle.in_net.proofs.Stepping.Lists.{set_here, set_there}
 use Rattle.in_net.proofs.Stepping.Turns.{some_same}
 use Rattle.in_simple.proofs.Sums.{one_same, one_other}
 use Rattle.in_simple.proofs.Links.{same_nat}
-
-pub get_set_same : {X : Type 0} (xs : List X) (i : ℕ) (y : X) → i < length xs → slice_get (set xs i y) i ≡ Some y
-get_set_same [] i y l = absurd (omega arith)
-get_set_same (x ∷ xs) zero y l = refl
-get_set_same (x ∷ xs) (suc i) y l = get_set_same xs i y (omega arith)
-
-pub get_set_other : {X : Type 0} (xs : List X) (i j : ℕ) (y : X) → j ≢ i → slice_get (set xs i y) j ≡ slice_get xs j
-get_set_other [] i j y d = refl
-get_set_other (x ∷ xs) zero zero y d = absurd (d refl)
-get_set_other (x ∷ xs) zero (suc j) y d = refl
-get_set_other (x ∷ xs) (suc i) zero y d = refl
-get_set_other (x ∷ xs) (suc i) (suc j) y d = get_set_other xs i j y (λ e. d (ap suc e))
 
 pub take_one : (parts : List (Option Built)) (k : ℕ) (b : Built) → k < length parts → slice_get parts k ≡ Some (Some b) → Takes (k ∷ []) parts (set parts k None)
 take_one parts k b l h = record {
   size = length-set parts k None;
   each = λ i. elim (same_nat i k) [
     | inl e ↦
-        let a : left_at (set parts k None) i ≡ 0 = ap (λ z. left_at (set parts k None) z) e ∙ ap left_of (get_set_same parts k None l) in
+        let a : left_at (set parts k None) i ≡ 0 = ap (λ z. left_at (set parts k None) z) e ∙ ap left_of (set_here parts k None l) in
         let c : left_at parts i ≡ 1 = ap (λ z. left_at parts z) e ∙ ap left_of h in
         let o = one_same i k e in
         omega arith
     | inr d ↦
-        let a : left_at (set parts k None) i ≡ left_at parts i = ap left_of (get_set_other parts k i None d) in
+        let a : left_at (set parts k None) i ≡ left_at parts i = ap left_of (set_there parts k i None d) in
         let o = one_other i k d in
         omega arith
   ];

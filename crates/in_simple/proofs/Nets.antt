@@ -16,10 +16,9 @@ use Rattle.in_simple.specs.Stacks.{Shape, shape, no_wires, Fits, Runs, Puts}
 use Rattle.in_simple.specs.Planned.{net_of, PutsNet, with_empty, Skips}
 use Rattle.in_simple.proofs.Sums.{not_both, same_test}
 use Rattle.in_simple.proofs.Sound.{port_place}
-use Rattle.in_simple.proofs.Links.{same_nat, link_join, link_back, link_first}
+use Rattle.in_simple.proofs.Links.{same_nat, link_join, link_back, link_first, link_map}
 use Rattle.in_simple.proofs.Search.{is_in, in_ports, turn_one_port_most, without, linked, component, is_component, comes_at, test_yes}
 use Rattle.in_simple.proofs.Grow.{class_is_place, agent_or_class}
-use Rattle.in_simple.proofs.SplittingPorts.{link_to}
 use Rattle.in_simple.proofs.Make.{OnlyWire, agents_apart}
 use Rattle.in_simple.proofs.Joining.{shape_same, fits_empty, fits_given, fits_cut, fits_mix}
 use Rattle.in_simple.proofs.Stacking.{none_more, runs_make, runs_derive}
@@ -72,7 +71,7 @@ module _ (o : OpenNet) (net : IsOpenNet o) (n : ℕ) where
   joined_back rest = link_back o (λ m. IsIn m (nodes_in rest)) (λ m. is_in m (nodes_in rest))
 
   pub joined_first : (rest : List Bool) (l m : ℕ) → Joined rest l m → IsIn l (nodes_in rest)
-  joined_first rest = link_first o (λ m. IsIn m (nodes_in rest)) (λ m. is_in m (nodes_in rest))
+  joined_first rest = link_first (open_graph o) (λ m. IsIn m (nodes_in rest))
 
   pub joined_last : (rest : List Bool) (l m : ℕ) → Joined rest l m → IsIn m (nodes_in rest)
   joined_last rest l m h = joined_first rest m l (joined_back rest l m h)
@@ -93,7 +92,7 @@ module _ (o : OpenNet) (net : IsOpenNet o) (n : ℕ) where
     done_on m k here link =
         let x = (h.done m).0 here in
         let part = x.2 in
-        let on = link_to o net (λ m. IsIn m (nodes_in p.rest)) (Without n (nodes_in p.rest)) (λ m a. (a, not_root m a)) m k link in
+        let on = link_map (open_graph o) (λ m. IsIn m (nodes_in p.rest)) (Without n (nodes_in p.rest)) (λ m a. (a, not_root m a)) m k link in
         (h.done k).1 (x.0, x.1, part, x.3, x.4, (part.2 k).1 (link_join o (Without n (nodes_in p.rest)) (without o net (nodes_in p.rest) (in_net o net n t p h) n) part.0 m k ((part.2 m).0 x.5) on))
 
     -- the component of a node that isn't derived yet

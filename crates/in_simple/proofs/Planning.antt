@@ -10,15 +10,14 @@ use Rattle.in_simple.specs.declared.plans.Task.{Task}
 use Rattle.in_simple.specs.declared.plans.Task.TheVariants.{Derive, Make}
 use Rattle.in_simple.specs.Constructions.{IsIn}
 use Rattle.in_simple.specs.Splitting.{alone, Without}
-use Rattle.in_simple.specs.OpenNets.{OpenNet, IsWire, IsOpenNet, IsAgentNode, IsClassNode, IsAgent, IsClass}
+use Rattle.in_simple.specs.OpenNets.{OpenNet, IsWire, IsOpenNet, open_graph, IsAgentNode, IsClassNode, IsAgent, IsClass}
 use Rattle.in_simple.specs.Stuck.{IsPart, ports_of, turn, ComesAt}
 use Rattle.in_simple.specs.Procedure.{nodes_in, IsReached, IsRest, Lists, AreSized, PortSplits, IsPlan, HasTurn, GoesOn, KeepsPlan, Derives, with_task}
 use Rattle.in_simple.proofs.Sums.{not_both}
-use Rattle.in_simple.proofs.Links.{same_nat, at_most, link_back, link_first}
+use Rattle.in_simple.proofs.Links.{same_nat, at_most, link_back, link_first, link_map}
 use Rattle.in_simple.proofs.Reaching.{in_length}
 use Rattle.in_simple.proofs.Search.{in_ports, one_turn, turn_same, meet_same, comes_at, turn_one_port, turn_one_port_most, without}
 use Rattle.in_simple.proofs.Sound.{port_place}
-use Rattle.in_simple.proofs.SplittingPorts.{link_to}
 use Rattle.std.proofs.lemmas.Bool.{or_cases, or_left, or_right}
 
 pub sized_more : (b : ℕ) (ts : List Task) (us : List Task) → AreSized b ts → AreSized b us → AreSized b (ts ++ us)
@@ -170,8 +169,8 @@ module _ (o : OpenNet) (net : IsOpenNet o) (n : ℕ) where
     near,
     (here, not_n near here),
     λ k. (
-      (λ h. link_to o net (λ m. IsIn m (nodes_in rest)) (Without n (nodes_in rest)) (λ m k. (k, not_n m k)) near k ((r k).0 h)),
-      λ h. (r k).1 (link_to o net (Without n (nodes_in rest)) (λ m. IsIn m (nodes_in rest)) (λ m k. k.0) near k h),
+      (λ h. link_map (open_graph o) (λ m. IsIn m (nodes_in rest)) (Without n (nodes_in rest)) (λ m k. (k, not_n m k)) near k ((r k).0 h)),
+      λ h. (r k).1 (link_map (open_graph o) (Without n (nodes_in rest)) (λ m. IsIn m (nodes_in rest)) (λ m k. k.0) near k h),
     ),
   )
     where
@@ -191,7 +190,7 @@ module _ (o : OpenNet) (net : IsOpenNet o) (n : ℕ) where
 
   -- each node of a component is one of the rest
   pub part_inside : (s : ℕ → Bool) → ((m : ℕ) → IsIn m s → m < length o.nodes) → (d : ℕ → Bool) → IsPart o n s d → (m : ℕ) → IsIn m d → Without n s m
-  part_inside s inside d part m h = link_first o (Without n s) (without o net s inside n) m part.0 (link_back o (Without n s) (without o net s inside n) part.0 m ((part.2 m).0 h))
+  part_inside s inside d part m h = link_first (open_graph o) (Without n s) m part.0 (link_back o (Without n s) (without o net s inside n) part.0 m ((part.2 m).0 h))
 
   -- a component with a done node has an earlier turn
   done_before : (t : ℕ) (p : Plan) → IsPlan o n t p → (d : ℕ → Bool) (l m : ℕ) → IsPart o n (nodes_in p.rest) d → ComesAt o n d l → IsIn m d → IsIn m (nodes_in p.done) → l < t
@@ -306,8 +305,8 @@ module _ (o : OpenNet) (net : IsOpenNet o) (n : ℕ) where
     h.0,
     (r h.0).0 h.1.0,
     λ k. (
-      (λ g. link_to o net (Without n (nodes_in rest)) (Without n (nodes_in part)) (λ m k. (r m).0 k.0) h.0 k ((h.2 k).0 g)),
-      λ g. (h.2 k).1 (link_to o net (Without n (nodes_in part)) (Without n (nodes_in rest)) (λ m k. ((r m).1 k, k.1)) h.0 k g),
+      (λ g. link_map (open_graph o) (Without n (nodes_in rest)) (Without n (nodes_in part)) (λ m k. (r m).0 k.0) h.0 k ((h.2 k).0 g)),
+      λ g. (h.2 k).1 (link_map (open_graph o) (Without n (nodes_in part)) (Without n (nodes_in rest)) (λ m k. ((r m).1 k, k.1)) h.0 k g),
     ),
   )
 
@@ -316,8 +315,8 @@ module _ (o : OpenNet) (net : IsOpenNet o) (n : ℕ) where
     h.0,
     ((r h.0).1 h.1, h.1.1),
     λ k. (
-      (λ g. link_to o net (Without n (nodes_in part)) (Without n (nodes_in rest)) (λ m k. ((r m).1 k, k.1)) h.0 k ((h.2 k).0 g)),
-      λ g. (h.2 k).1 (link_to o net (Without n (nodes_in rest)) (Without n (nodes_in part)) (λ m k. (r m).0 k.0) h.0 k g),
+      (λ g. link_map (open_graph o) (Without n (nodes_in part)) (Without n (nodes_in rest)) (λ m k. ((r m).1 k, k.1)) h.0 k ((h.2 k).0 g)),
+      λ g. (h.2 k).1 (link_map (open_graph o) (Without n (nodes_in rest)) (Without n (nodes_in part)) (λ m k. (r m).0 k.0) h.0 k g),
     ),
   )
 

@@ -336,7 +336,7 @@ module _ (o : OpenNet) (net : IsOpenNet o) where
   smaller s in_net n h c r = (inside, count_less s c (λ m k. (inside m k).0) n h (false_from_ne_true (c n) (λ k. (inside n k).1 refl)) (length o.nodes) (in_net n h))
     where
       inside : (m : ℕ) → IsIn m c → Without n s m
-      inside m k = link_first o (Without n s) (without s in_net n) m r.0 (link_back o (Without n s) (without s in_net n) r.0 m ((r.2 m).0 k))
+      inside m k = link_first (open_graph o) (Without n s) m r.0 (link_back o (Without n s) (without s in_net n) r.0 m ((r.2 m).0 k))
 
   abbrev SplitsIt : (ℕ → Bool) → ℕ → Type 0
   SplitsIt s n = IsIn n s × SplitsAt (open_graph o) n s

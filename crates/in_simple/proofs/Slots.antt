@@ -10,6 +10,7 @@ use Rattle.in_simple.specs.OpenNets.{OpenNet, IsWire, IsPointOf, IsOrderly, port
 use Rattle.in_simple.specs.Procedure.{Slot, slot_at, led, HasSlot, AreLed, IsWired, nodes_in, IsNeighbour}
 use Rattle.in_simple.specs.Stuck.{ports_of}
 use Rattle.in_net.proofs.Stepping.Turns.{some_same}
+use Rattle.in_simple.proofs.Balance.{wire_within}
 use Rattle.in_simple.proofs.Sums.{some_of, not_both}
 use Rattle.in_simple.proofs.Links.{same_nat}
 use Rattle.in_simple.proofs.Sound.{wire_points, port_place}
@@ -132,11 +133,7 @@ module _ (o : OpenNet) (orderly : IsOrderly o) where
   slot_there slots n i h a b e =
       let p = port_point o n i b in
       let w = orderly.net.joined (Port n i) p in
-      h.some n i w.0 w.1 (wire_within w.0 w.1 w.2) a (place n i p).1 w.2 e
-    where
-      wire_within : (w : ℕ) (q : Point) → IsWire o w (Port n i) q → w < length o.wires
-      wire_within w q (inl g) = slice_get_within o.wires w (Port n i, q) g
-      wire_within w q (inr g) = slice_get_within o.wires w (q, Port n i) g
+      h.some n i w.0 w.1 (wire_within o w.0 (Port n i) w.1 w.2) a (place n i p).1 w.2 e
 
   pub slot_right : (slots : List Slot) (n i : ℕ) (v : ℕ × Point) → IsWired o slots → n < length o.nodes → i < ports_of o n → slot_at slots n i ≡ Some v → IsWire o v.0 (Port n i) v.1
   slot_right slots n i v h a b e = h.right n i v.0 v.1 a (place n i (port_point o n i b)).1 e

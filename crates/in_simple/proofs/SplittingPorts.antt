@@ -4,14 +4,14 @@ use Rattle.std.proofs.Math.ListN.{set}
 use Rattle.std.proofs.lemmas.List.{get_or-set_same, get_or-set_other}
 use Rattle.in_simple.specs.declared.open_nets.Point.TheVariants.{Port, Free}
 use Rattle.in_simple.specs.Constructions.{IsIn}
-use Rattle.in_simple.specs.Splitting.{Linked, alone, onward, Without, SplitsAt}
+use Rattle.in_simple.specs.Splitting.{Linked, Without, SplitsAt}
 use Rattle.in_simple.specs.OpenNets.{OpenNet, IsWire, IsOpenNet, class_in, open_graph}
 use Rattle.in_simple.specs.Stuck.{ports_of}
 use Rattle.in_simple.specs.Meeting.{MeetsAlone}
 use Rattle.in_simple.specs.Procedure.{nodes_in, IsRest, PortSplits, SplitsPorts, SplitsIt, NoneSplits, IsFirst}
 use Rattle.in_simple.proofs.Balance.{wire_turn}
 use Rattle.in_simple.proofs.Sums.{not_both}
-use Rattle.in_simple.proofs.Links.{same_nat}
+use Rattle.in_simple.proofs.Links.{same_nat, link_first, link_map}
 use Rattle.in_simple.proofs.Search.{in_ports}
 use Rattle.in_simple.proofs.Sound.{port_place}
 
@@ -28,14 +28,6 @@ pub more : (P : ℕ → Type 0) (b : ℕ) → ((i : ℕ) → i < b → P i) → 
 more P b all here i l = elim (same_nat i b) [ inl e ↦ subst P (sym e) here | inr d ↦ all i (omega arith) ]
 
 module _ (o : OpenNet) (net : IsOpenNet o) where
-  first_of : (P : ℕ → Type 0) (l m : ℕ) → Linked (open_graph o) P l m → P l
-  first_of P l m (alone _ h) = h
-  first_of P l m (onward _ n _ i j h w q) = h
-
-  pub link_to : (P R : ℕ → Type 0) → ((k : ℕ) → P k → R k) → (u v : ℕ) → Linked (open_graph o) P u v → Linked (open_graph o) R u v
-  link_to P R f u v (alone _ h) = alone u (f u h)
-  link_to P R f u v (onward _ m _ i j h w k) = onward u m v i j (f u h) w (link_to P R f m v k)
-
   module _ (rest : List Bool) (n i : ℕ) (out : nodes_in rest n ≡ false) where
     pub port_free : (w k : ℕ) → IsWire o w (Port n i) (Free k) → PortSplits o rest n i
     port_free w k h = record {
@@ -48,7 +40,7 @@ module _ (o : OpenNet) (net : IsOpenNet o) where
       own = λ j v g. absurd (d (port_place l n k j (net.once w v (Port n i) (Port l k) (Port n j) h g).1).0);
       touched = λ j v u l' m k' h' g g' link.
           let e = (port_place l l' k k' (net.once w v (Port n i) (Port l k) (Port l' k') h g).1).0 in
-          absurd (not_both (nodes_in rest l') (first_of (λ m. IsIn m (nodes_in rest)) l' m link) (subst (λ z. nodes_in rest z ≡ false) e off));
+          absurd (not_both (nodes_in rest l') (link_first (open_graph o) (λ m. IsIn m (nodes_in rest)) l' m link) (subst (λ z. nodes_in rest z ≡ false) e off));
     }
 
     pub port_own : (w k : ℕ) → IsWire o w (Port n i) (Port n k) → class_in o n k ≡ class_in o n i → PortSplits o rest n i
@@ -56,7 +48,7 @@ module _ (o : OpenNet) (net : IsOpenNet o) where
       own = λ j v g. let e = (port_place n n k j (net.once w v (Port n i) (Port n k) (Port n j) h g).1).1 in sym c ∙ ap (class_in o n) e;
       touched = λ j v u l' m k' h' g g' link.
           let e = (port_place n l' k k' (net.once w v (Port n i) (Port n k) (Port l' k') h g).1).0 in
-          absurd (not_both (nodes_in rest l') (first_of (λ m. IsIn m (nodes_in rest)) l' m link) (subst (λ z. nodes_in rest z ≡ false) e out));
+          absurd (not_both (nodes_in rest l') (link_first (open_graph o) (λ m. IsIn m (nodes_in rest)) l' m link) (subst (λ z. nodes_in rest z ≡ false) e out));
     }
 
     pub own_port_class : (w k : ℕ) → IsWire o w (Port n i) (Port n k) → PortSplits o rest n i → class_in o n k ≡ class_in o n i
@@ -77,7 +69,7 @@ module _ (o : OpenNet) (net : IsOpenNet o) where
   pub each_split : (part rest : List Bool) (n : ℕ) → IsRest n part rest → SplitsAt (open_graph o) n (nodes_in part) → (i : ℕ) → PortSplits o rest n i
   each_split part rest n r s i = record {
     own = λ j w h. s.own i j (w, h);
-    touched = λ j w v l m k h g g' link. s.touched i j l m k h (w, g) (v, g') (link_to (λ m. IsIn m (nodes_in rest)) (Without n (nodes_in part)) (λ k h. (r k).0 h) l m link);
+    touched = λ j w v l m k h g g' link. s.touched i j l m k h (w, g) (v, g') (link_map (open_graph o) (λ m. IsIn m (nodes_in rest)) (Without n (nodes_in part)) (λ k h. (r k).0 h) l m link);
   }
 
   pub splits_all : (part rest : List Bool) (n : ℕ) → IsRest n part rest → SplitsAt (open_graph o) n (nodes_in part) → SplitsPorts o rest n (ports_of o n)
@@ -86,7 +78,7 @@ module _ (o : OpenNet) (net : IsOpenNet o) where
   pub all_split : (part rest : List Bool) (n : ℕ) → IsRest n part rest → SplitsPorts o rest n (ports_of o n) → SplitsAt (open_graph o) n (nodes_in part)
   all_split part rest n r all = record {
     own = λ i j w. (all i (in_ports o net w.0 n i (Port n j) w.1)).own j w.0 w.1;
-    touched = λ i j l m k h w v link. (all i (in_ports o net w.0 n i (Port l k) w.1)).touched j w.0 v.0 l m k h w.1 v.1 (link_to (Without n (nodes_in part)) (λ m. IsIn m (nodes_in rest)) (λ k h. (r k).1 h) l m link);
+    touched = λ i j l m k h w v link. (all i (in_ports o net w.0 n i (Port l k) w.1)).touched j w.0 v.0 l m k h w.1 v.1 (link_map (open_graph o) (Without n (nodes_in part)) (λ m. IsIn m (nodes_in rest)) (λ k h. (r k).1 h) l m link);
   }
 
   pub first_found : (part : List Bool) (n : ℕ) → NoneSplits o part n → SplitsIt o part n → IsFirst o part n

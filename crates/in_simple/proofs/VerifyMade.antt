@@ -9,8 +9,9 @@ use Rattle.in_simple.specs.declared.open_nets.Point.TheVariants.{Port, Free}
 use Rattle.in_simple.specs.declared.verifying.Built.{Built}
 use Rattle.in_simple.specs.OpenNets.{OpenNet, IsWire, IsOpenNet, IsClass}
 use Rattle.in_simple.specs.Derivations.{Empty, Link, Given, Cut, Mix, Part, one_if, is_port_in, nodes_of, links_of, ends_of, ShareNothing, IsCut}
-use Rattle.in_simple.specs.Checking.{ends_at, has_node, has_link, first_ends, second_ends, IsSized, Holds, Gathers, IsNothing, AreBeside, ShareOne, IsLed, IsFrom, IsJoint, Makes, OnAlone, OnPair, in_one}
+use Rattle.in_simple.specs.Checking.{ends_at, has_node, has_link, HasNoNodes, HasNoLinks, first_ends, second_ends, IsSized, Holds, Gathers, IsNothing, AreBeside, ShareOne, IsLed, IsFrom, IsJoint, Makes, OnAlone, OnPair, in_one}
 use Rattle.in_simple.specs.Procedure.{nodes_in}
+use Rattle.in_simple.proofs.Balance.{wire_within}
 use Rattle.in_simple.proofs.Links.{same_nat}
 use Rattle.in_net.proofs.Stepping.Turns.{some_same}
 use Rattle.in_simple.proofs.Sums.{port_same, one_same, one_other}
@@ -160,7 +161,7 @@ module _ (o : OpenNet) where
 
   -- one Link, and an end for both points of its wire
   pub record IsLink (v : ℕ) (b : Built) : Type 0 where
-    pub nodes : (n : ℕ) → has_node b n ≡ false
+    pub nodes : HasNoNodes b
     pub links : (w : ℕ) → has_link b w ≡ nat_eq w v
     pub ends : (w : ℕ) → (first_ends b w ≡ one_if w v) × (second_ends b w ≡ one_if w v)
 
@@ -187,7 +188,7 @@ module _ (o : OpenNet) where
 
   pub record IsGivenNode (n : ℕ) (b : Built) : Type 0 where
     pub nodes : (m : ℕ) → has_node b m ≡ nat_eq m n
-    pub links : (w : ℕ) → has_link b w ≡ false
+    pub links : HasNoLinks b
     pub led : IsLed o (has_node b) b.ends (length o.wires)
 
   pub made_given : (n : ℕ) (b : Built) → IsClass o n → IsGivenNode n b → ((w : ℕ) (p q : Point) → slice_get o.wires w ≡ Some (p, q) → w < length o.wires) → (x : Part) → Makes o (Given n) [] x ↔ Holds o b x
@@ -378,12 +379,8 @@ module _ (o : OpenNet) where
         (λ n. ap (λ z. cond z 1 0) (h.nodes n)),
       )
 
-  wire_within : (v : ℕ) (p q : Point) → IsWire o v p q → v < length o.wires
-  wire_within v p q (inl h) = slice_get_within o.wires v (p, q) h
-  wire_within v p q (inr h) = slice_get_within o.wires v (q, p) h
-
   pub link_refused : (v : ℕ) → length o.wires ≤ v → (x : Part) → Makes o (Link v) [] x → ⊥
-  link_refused v l x m = let j = m.joins.0 in let w = wire_within v j.0 j.1 j.2 in omega arith
+  link_refused v l x m = let j = m.joins.0 in let w = wire_within o v j.0 j.1 j.2 in omega arith
 
   pub set_node : (b : Built) (n : ℕ) (ns : List Bool) → n < length b.nodes → ns ≡ set b.nodes n true → (m : ℕ) → nodes_in ns m ≡ (nat_eq m n || has_node b m)
   set_node b n ns l e m = ap (λ z. nodes_in z m) e ∙ elim (same_nat m n) [
@@ -433,7 +430,7 @@ module _ (o : OpenNet) where
   joint_refused v a b s i j y z x k g m = s (cut_joint v a b y z k g m.joins.0)
 
   pub cut_past : (v : ℕ) (a b : Built) → length o.wires ≤ v → OnPair o (Cut v) a b None
-  cut_past v a b l i j y z x k g m = let c = m.joins.0 in let w = wire_within v c.p c.q c.wire in omega arith
+  cut_past v a b l i j y z x k g m = let c = m.joins.0 in let w = wire_within o v c.p c.q c.wire in omega arith
 
   -- at a joint there is an end for both points
   pub joint_ends : (v : ℕ) (a b c : Built) → IsJoint o v a b → AreBeside a b c → (0 < first_ends c v) × (0 < second_ends c v)

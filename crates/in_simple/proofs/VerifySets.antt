@@ -2,7 +2,7 @@
 use Rattle.std.proofs.Common.{◌≡◌, ◌≢◌, ◌<◌, ◌+◌, ℕ, zero, suc, Bool, ◌||◌, List, [], ◌∷◌, length, get_or, drop, slice_get, None, refl, sym, subst, arith}
 use Rattle.std.proofs.Math.ListN.{set}
 use Rattle.std.proofs.lemmas.List.{get_or-set_same, get_or-set_other}
-use Rattle.in_simple.specs.Checking.{ends_at}
+use Rattle.in_simple.specs.Checking.{ends_at, StayFrom}
 use Rattle.in_simple.specs.Procedure.{nodes_in}
 
 -- the sets are united below k, and as they were from there on
@@ -14,7 +14,7 @@ pub record IsUnitedTo (more old new : List Bool) (k : ℕ) : Type 0 where
 pub record IsAddedTo (more old new : List (ℕ × ℕ)) (k : ℕ) : Type 0 where
   pub size : length new ≡ length old
   pub below : (w : ℕ) → w < k → ((ends_at new w).0 ≡ (ends_at more w).0 + (ends_at old w).0) × ((ends_at new w).1 ≡ (ends_at more w).1 + (ends_at old w).1)
-  pub above : (w : ℕ) → (w < k → ⊥) → ends_at new w ≡ ends_at old w
+  pub above : StayFrom k old new
 
 -- what is at the places of a list with one place set
 pub at_set : {X : Type 0} (xs : List X) (k : ℕ) (y d : X) (n : ℕ) → k < length xs → n ≡ k → get_or (set xs k y) n d ≡ y

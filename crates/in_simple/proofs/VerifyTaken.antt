@@ -8,7 +8,8 @@ use Rattle.in_simple.specs.Derivations.{Part, is_among, AreDifferent, AreEarlier
 use Rattle.in_simple.specs.Checking.{Holds, AllHold, AreHeld, AreSized, IsTaken, Took, Takes, in_one, left_of, left_at, times_left}
 use Rattle.in_simple.proofs.Forest.{different_of}
 use Rattle.in_simple.proofs.Links.{same_nat}
-use Rattle.in_simple.proofs.Named.{get_set_same, get_set_other, take_one, take_none}
+use Rattle.in_simple.proofs.Named.{take_one, take_none}
+use Rattle.in_net.proofs.Stepping.Lists.{set_here, set_there}
 use Rattle.in_net.proofs.Stepping.Turns.{some_same}
 use Rattle.in_simple.proofs.Sums.{not_both}
 use Rattle.in_simple.proofs.Whole.{among_times}
@@ -28,8 +29,8 @@ pub taken_kept : (i : ℕ) (old new : List (Option Built)) (b : Built) → IsTak
 taken_kept i old new b h j c g =
     let e : slice_get (set old i None) j ≡ Some (Some c) = subst (λ z. slice_get z j ≡ Some (Some c)) h.1 g in
     elim (same_nat j i) [
-      | inl f ↦ let u = get_set_same old i None (slice_get_within old i (Some b) h.0) in let v : slice_get (set old i None) i ≡ Some (Some c) = subst (λ z. slice_get (set old i None) z ≡ Some (Some c)) f e in cc
-      | inr f ↦ sym (get_set_other old i j None f) ∙ e
+      | inl f ↦ let u = set_here old i None (slice_get_within old i (Some b) h.0) in let v : slice_get (set old i None) i ≡ Some (Some c) = subst (λ z. slice_get (set old i None) z ≡ Some (Some c)) f e in cc
+      | inr f ↦ sym (set_there old i j None f) ∙ e
     ]
 
 counted_set : (n : ℕ) (parts : List (Option Built)) (i : ℕ) (b : Built) → slice_get parts i ≡ Some (Some b) → times_left n (set parts i None) + in_one b n ≡ times_left n parts

@@ -1,5 +1,5 @@
 -- An open net that has a derivation is derivable.
-use Rattle.std.proofs.Common.{◌≡◌, ◌⊎◌, ◌<◌, ◌≤◌, ◌+◌, ◌-◌, ℕ, zero, suc, true, false, nat_eq, Some, List, [], ◌∷◌, length, slice_get, refl, sym, subst, inl, inr, ◌∙◌, eqb-true, arith}
+use Rattle.std.proofs.Common.{◌≡◌, ◌<◌, ◌≤◌, ◌+◌, ◌-◌, ℕ, zero, suc, true, false, nat_eq, Some, List, [], ◌∷◌, length, slice_get, refl, sym, subst, inl, inr, ◌∙◌, eqb-true, arith}
 use Rattle.std.proofs.lemmas.Bool.Decides.{eqb_tells}
 use Rattle.std.proofs.lemmas.Option.{slice_get_within}
 use Rattle.in_simple.specs.declared.open_nets.Point.TheVariants.{Port}
@@ -7,6 +7,7 @@ use Rattle.in_simple.specs.Constructions.{IsIn}
 use Rattle.in_simple.specs.OpenNets.{OpenNet, IsAgentNode, IsClassNode, IsNode, IsOpenNet, IsDerivable}
 use Rattle.in_simple.specs.Derivations.{Step, Empty, Link, Given, Graft, Cut, Mix, Part, named, own_nodes, is_among, nodes_of, AreEarlier, Joins, times, times_in, IsDerivation}
 use Rattle.in_net.proofs.Stepping.Turns.{some_same}
+use Rattle.in_simple.proofs.Links.{at_most}
 use Rattle.in_simple.proofs.Sums.{not_both, some_of, one_same, one_other, in_nodes_of, of_nodes, earlier_at, earlier_of}
 use Rattle.in_simple.proofs.Balance.{step_balanced}
 use Rattle.in_simple.proofs.Sound.{IsGood, AllGood, all_balanced, step_good}
@@ -27,11 +28,6 @@ among_times n (m ∷ ms) h = elim (eqb_tells n m) [
   | inr e ↦ let k = one_other n m e.1 in or_right (nat_eq n m) (is_among n ms) (among_times n ms (omega arith))
 ]
 
-leb_tells : (a b : ℕ) → (a ≤ b) ⊎ (b < a)
-leb_tells zero b = inl (omega arith)
-leb_tells (suc a) zero = inr (omega arith)
-leb_tells (suc a) (suc b) = elim (leb_tells a b) [ inl h ↦ inl (omega arith) | inr h ↦ inr (omega arith) ]
-
 pub times_one : (f : Step → List ℕ) (n : ℕ) (steps : List Step) (j : ℕ) (x : Step) → slice_get steps j ≡ Some x → is_among n (f x) ≡ true → 1 ≤ times_in f n steps
 times_one f n [] j x h k = cc
 times_one f n (y ∷ ys) zero x h k = let e = times_among n (f y) (subst (λ z. is_among n (f z) ≡ true) (sym (some_same (Some y) y x refl h)) k) in omega arith
@@ -51,7 +47,7 @@ times_some f n [] h = absurd (omega arith)
 times_some f n (y ∷ ys) h = elim (cases_Bool (is_among n (f y))) [
   | inl e ↦ (0, y, refl, e)
   | inr e ↦
-      let k : times n (f y) < 1 = elim (leb_tells 1 (times n (f y))) [ inl u ↦ absurd (not_both (is_among n (f y)) (among_times n (f y) u) e) | inr u ↦ u ] in
+      let k : times n (f y) < 1 = elim (at_most 1 (times n (f y))) [ inl u ↦ absurd (not_both (is_among n (f y)) (among_times n (f y) u) e) | inr u ↦ u ] in
       let r = times_some f n ys (omega arith) in
       (suc r.0, r.1, r.2, r.3)
 ]

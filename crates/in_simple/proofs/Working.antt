@@ -86,7 +86,7 @@ module _ (o : OpenNet) (net : IsOpenNet o) where
 
   module _ (n : ℕ) (s : ℕ → Bool) (in_net : (m : ℕ) → IsIn m s → m < length o.nodes) where
     inside : (d : ℕ → Bool) → IsPart o n s d → (m : ℕ) → IsIn m d → Without n s m
-    inside d part m h = link_first o (Without n s) (without o net s in_net n) m part.0 (link_back o (Without n s) (without o net s in_net n) part.0 m ((part.2 m).0 h))
+    inside d part m h = link_first (open_graph o) (Without n s) m part.0 (link_back o (Without n s) (without o net s in_net n) part.0 m ((part.2 m).0 h))
 
     pending_part : (low : ℕ) (ps : List Task) → Lists o n s low ps → (m : ℕ) → IsIn m (pending_in ps) → (d : ℕ → Bool) × (l : ℕ) × IsPart o n s d × ComesAt o n d l × (low ≤ l) × IsIn m d
     pending_part low [] h m g = absurd (not_both false g refl)

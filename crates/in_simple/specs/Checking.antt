@@ -58,10 +58,16 @@ IsUnion a b c = (n : ℕ) → nodes_in c n ≡ (nodes_in a n || nodes_in b n)
 abbrev pub IsSum : List (ℕ × ℕ) → List (ℕ × ℕ) → List (ℕ × ℕ) → Type 0
 IsSum a b c = (w : ℕ) → ((ends_at c w).0 ≡ (ends_at a w).0 + (ends_at b w).0) × ((ends_at c w).1 ≡ (ends_at a w).1 + (ends_at b w).1)
 
+abbrev pub HasNoNodes : Built → Type 0
+HasNoNodes b = (n : ℕ) → has_node b n ≡ false
+
+abbrev pub HasNoLinks : Built → Type 0
+HasNoLinks b = (w : ℕ) → has_link b w ≡ false
+
 pub record IsNothing (o : OpenNet) (b : Built) : Type 0 where
   pub sized : IsSized o b
-  pub nodes : (n : ℕ) → has_node b n ≡ false
-  pub links : (w : ℕ) → has_link b w ≡ false
+  pub nodes : HasNoNodes b
+  pub links : HasNoLinks b
   pub ends : (w : ℕ) → ends_at b.ends w ≡ (0, 0)
 
 -- c is a and b side by side, which share no node and no Link
@@ -117,11 +123,15 @@ abbrev pub OnGraftWire : ℕ → Point → Point → ℕ × ℕ → Option (ℕ 
 OnGraftWire n p q old None = LacksEnd n p q old
 OnGraftWire n p q old (Some new) = AreGrafted n p q old new
 
+-- the ends of wires from k on are as they were
+abbrev pub StayFrom : ℕ → List (ℕ × ℕ) → List (ℕ × ℕ) → Type 0
+StayFrom k old new = (w : ℕ) → (w < k → ⊥) → ends_at new w ≡ ends_at old w
+
 -- the wires below k are grafted, and the others as they were
 pub record IsGraftedTo (o : OpenNet) (n : ℕ) (old new : List (ℕ × ℕ)) (k : ℕ) : Type 0 where
   pub size : length new ≡ length old
   pub below : (w : ℕ) (p q : Point) → w < k → slice_get o.wires w ≡ Some (p, q) → AreGrafted n p q (ends_at old w) (ends_at new w)
-  pub above : (w : ℕ) → (w < k → ⊥) → ends_at new w ≡ ends_at old w
+  pub above : StayFrom k old new
 
 abbrev pub LacksSome : OpenNet → ℕ → List (ℕ × ℕ) → Type 0
 LacksSome o n ends = (w : ℕ) × (p : Point) × (q : Point) × (slice_get o.wires w ≡ Some (p, q)) × LacksEnd n p q (ends_at ends w)

@@ -1,5 +1,6 @@
 -- The agents of a typed net's active pair.
 use Rattle.std.proofs.Common.{◌≡◌, inl, inr, ℕ, Bool, true, false, not, Option, Some, None, option_map, option_and_then, slice_get, refl, sym, ◌∙◌, ap}
+use Rattle.std.proofs.lemmas.Option.{same_Some}
 use Rattle.in_symbols.specs.declared.symbols.PortType.{PortType}
 use Rattle.in_symbols.specs.declared.symbols.SymbolNo.{SymbolNo}
 use Rattle.in_symbols.specs.Tables.{Tables, port_at}
@@ -19,9 +20,6 @@ has_symbol n x i q (Some c) is e = (c.symbol, ap (option_map {T = Cell} {U = Sym
 type_is : (t : Tables) (n : Parts) (x : AgentNo) (s : SymbolNo) → symbol_in n x.0 ≡ Some s → type_at t n (Port x 0) ≡ Some (port_at t s.0 0)
 type_is t n x s is = ap (option_map {T = SymbolNo} {U = PortType} (λ s. port_at t s.0 0)) is
 
-some_same : (p q : PortType) → Some p ≡ Some q → p ≡ q
-some_same p q e = cc
-
 not_not : (a b : Bool) → b ≡ not a → a ≡ not b
 not_not true true e = cc
 not_not true false e = refl
@@ -39,10 +37,10 @@ pairs_match t n x y whole typed pair =
     by_side a b a_is b_is w (inl wire) =
         let fits = typed w (Port x 0) (Port y 0) wire in
         let same : port_at t a.0 0 ≡ opposite (port_at t b.0 0) =
-        some_same (port_at t a.0 0) (opposite (port_at t b.0 0)) (sym (type_is t n x a a_is) ∙ fits ∙ ap (option_map opposite) (type_is t n y b b_is)) in
+        same_Some (port_at t a.0 0) (opposite (port_at t b.0 0)) (sym (type_is t n x a a_is) ∙ fits ∙ ap (option_map opposite) (type_is t n y b b_is)) in
         record { one = a; other = b; one_is = a_is; other_is = b_is; kind = ap (λ (p : PortType). p.kind) same; sign = ap (λ (p : PortType). p.output) same }
     by_side a b a_is b_is w (inr wire) =
         let fits = typed w (Port y 0) (Port x 0) wire in
         let same : port_at t b.0 0 ≡ opposite (port_at t a.0 0) =
-        some_same (port_at t b.0 0) (opposite (port_at t a.0 0)) (sym (type_is t n y b b_is) ∙ fits ∙ ap (option_map opposite) (type_is t n x a a_is)) in
+        same_Some (port_at t b.0 0) (opposite (port_at t a.0 0)) (sym (type_is t n y b b_is) ∙ fits ∙ ap (option_map opposite) (type_is t n x a a_is)) in
         record { one = a; other = b; one_is = a_is; other_is = b_is; kind = sym (ap (λ (p : PortType). p.kind) same); sign = not_not (port_at t a.0 0).output (port_at t b.0 0).output (ap (λ (p : PortType). p.output) same) }
