@@ -1,6 +1,6 @@
 -- The bodies of a net and of a rule are ready to be read.
 use Rattle.std.proofs.Common.{◌≡◌, ◌≢◌, ◌⊎◌, inl, inr, ℕ, zero, suc, ◌+◌, ◌-◌, ◌<◌, ◌≤◌, Bool, true, false, cond, List, [], ◌∷◌, length, Option, Some, None, IsSome, slice_get, unwrap_or, subst, arith}
-use Rattle.std.proofs.lemmas.Bool.{eqb-true, and_parts}
+use Rattle.std.proofs.lemmas.Bool.{eqb-true, and_parts, cases_lt}
 use Rattle.in_syntax.specs.declared.tree.Source.{Source}
 use Rattle.in_syntax.specs.declared.tree.SourceRule.{SourceRule}
 use Rattle.in_syntax.specs.Order.{IsWrittenInOrder, IsRuleInOrder}
@@ -13,7 +13,6 @@ use Rattle.in_net.specs.Rules.{symbol_of, is_turned, body_of_rule, IsReadable}
 use Rattle.in_net.proofs.Small.{are_small}
 use Rattle.in_net.specs.TextNet.{Body, body_of, heads_at}
 use Rattle.in_net.proofs.FirstFault.{IsReady}
-use Rattle.in_net.proofs.Linked.{below_or_not}
 use Rattle.in_net.proofs.Known.{net_known, rule_known, free_differ}
 use Rattle.in_net.proofs.NetRead.{AreHeadsOf}
 use Rattle.in_net.proofs.Order.{net_rises, rule_rises}
@@ -84,7 +83,7 @@ module _ (t : Tables) (r : SourceRule) (known : IsRuleKnown t.names r) (fits : a
       inside i (inr (inr w)) = absurd (omega (arith, w))
 
       covered : (i : ℕ) → i < 0 + (arity_of t c + (arity_of t d + 0)) → ((j : ℕ) × (j < length r.first.terms) × (i ≡ arity_of t d + j)) ⊎ (((x : ℕ) × (x < length r.second.terms) × (i ≡ 0 + x)) ⊎ (i < 0))
-      covered i lt = by_side (below_or_not i (arity_of t d))
+      covered i lt = by_side (cases_lt i (arity_of t d))
         where
           by_side : (i < arity_of t d) ⊎ (arity_of t d ≤ i) → ((j : ℕ) × (j < length r.first.terms) × (i ≡ arity_of t d + j)) ⊎ (((x : ℕ) × (x < length r.second.terms) × (i ≡ 0 + x)) ⊎ (i < 0))
           by_side (inl x) = inr (inl (i, omega (arith, x, other_fits), omega arith))
@@ -105,7 +104,7 @@ module _ (t : Tables) (r : SourceRule) (known : IsRuleKnown t.names r) (fits : a
       inside i (inr (inr w)) = absurd (omega (arith, w))
 
       covered : (i : ℕ) → i < 0 + (arity_of t c + (arity_of t d + 0)) → ((j : ℕ) × (j < length r.first.terms) × (i ≡ 0 + j)) ⊎ (((x : ℕ) × (x < length r.second.terms) × (i ≡ arity_of t c + x)) ⊎ (i < 0))
-      covered i lt = by_side (below_or_not i (arity_of t c))
+      covered i lt = by_side (cases_lt i (arity_of t c))
         where
           by_side : (i < arity_of t c) ⊎ (arity_of t c ≤ i) → ((j : ℕ) × (j < length r.first.terms) × (i ≡ 0 + j)) ⊎ (((x : ℕ) × (x < length r.second.terms) × (i ≡ arity_of t c + x)) ⊎ (i < 0))
           by_side (inl x) = inl (i, omega (arith, x, one_fits), omega arith)

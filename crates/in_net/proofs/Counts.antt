@@ -1,12 +1,12 @@
 -- Where each name stands twice, no three spots have one name.
 use Rattle.std.proofs.Common.{◌≡◌, ◌≢◌, ◌⊎◌, inl, inr, ℕ, zero, suc, ◌+◌, ◌<◌, ◌≤◌, List, [], ◌∷◌, length, Option, Some, None, refl, sym, ◌∙◌, ap, arith}
 use Rattle.std.proofs.lemmas.List.{get_or-set_other}
+use Rattle.std.proofs.lemmas.Bool.{cases_eq, cases_lt}
 use Rattle.in_net.specs.declared.reading.Spot.{Spot}
 use Rattle.in_net.specs.declared.counting.Seen.{Seen}
 use Rattle.in_net.specs.declared.counting.Seen.TheVariants.{Never, Once, Twice, Often}
 use Rattle.in_net.specs.Counting.{name_of, seen_again, none_seen, count_name, counted, counted_from}
 use Rattle.in_net.specs.Building.{AreTwice, nth_spot}
-use Rattle.in_net.proofs.Linked.{same_or_not, below_or_not}
 use Rattle.in_net.proofs.Joins.{length-counted, length-none_seen}
 use Rattle.in_net.proofs.Ways.{nth_seen}
 use Rattle.in_net.proofs.Joined.{is_named_or_not, named_again, third_time, nth_none}
@@ -70,10 +70,10 @@ module _ (spots : List Spot) (names : ℕ) (twice : AreTwice spots (counted_from
   -- two other spots of a name are one
   pub other_is_one : (m i j k : ℕ) → m < names → i < length spots → j < length spots → k < length spots → name_of (nth_spot spots i) ≡ Some m → name_of (nth_spot spots j) ≡ Some m → name_of (nth_spot spots k) ≡ Some m →
       i ≢ j → i ≢ k → j ≡ k
-  other_is_one m i j k lt i_in j_in k_in e f g ij ik = by_same (same_or_not j k)
+  other_is_one m i j k lt i_in j_in k_in e f g ij ik = by_same (cases_eq j k)
     where
       ordered : (j k : ℕ) → j < length spots → k < length spots → name_of (nth_spot spots j) ≡ Some m → name_of (nth_spot spots k) ≡ Some m → i ≢ j → i ≢ k → j < k → ⊥
-      ordered j k j_in k_in f g ij ik less = by_place (below_or_not i j) (below_or_not i k)
+      ordered j k j_in k_in f g ij ik less = by_place (cases_lt i j) (cases_lt i k)
         where
           by_place : (i < j) ⊎ (j ≤ i) → (i < k) ⊎ (k ≤ i) → ⊥
           by_place (inl x) y = no_three m i j k lt x less k_in e f g
@@ -82,7 +82,7 @@ module _ (spots : List Spot) (names : ℕ) (twice : AreTwice spots (counted_from
 
       by_same : (j ≡ k) ⊎ (j ≢ k) → j ≡ k
       by_same (inl x) = x
-      by_same (inr x) = by_order (below_or_not j k)
+      by_same (inr x) = by_order (cases_lt j k)
         where
           by_order : (j < k) ⊎ (k ≤ j) → j ≡ k
           by_order (inl y) = absurd (ordered j k j_in k_in f g ij ik y)

@@ -1,6 +1,7 @@
 -- When all names are joined, each point is joined to another by a wire of the text.
 use Rattle.std.proofs.Common.{◌≡◌, ◌≢◌, ◌⊎◌, inl, inr, ℕ, zero, suc, ◌+◌, ◌-◌, ◌<◌, ◌≤◌, List, [], ◌∷◌, length, Option, Some, None, refl, sym, ◌∙◌, ap, subst, arith, set}
 use Rattle.std.proofs.lemmas.List.{get_or-set_same, get_or-set_other}
+use Rattle.std.proofs.lemmas.Bool.{cases_eq, cases_lt}
 use Rattle.in_syntax.specs.declared.places.Place.{Place}
 use Rattle.in_syntax.specs.Order.{Rises}
 use Rattle.in_symbols.specs.Tables.{Tables}
@@ -18,7 +19,7 @@ use Rattle.in_net.specs.Joining.{links_of, not_named, joins_named, joins, joins_
 use Rattle.in_net.specs.TextNet.{Body, IsClosedWireOf}
 use Rattle.in_net.specs.TextNet as text
 use Rattle.in_net.proofs.Links.{all_at}
-use Rattle.in_net.proofs.Linked.{same_or_not, below_or_not, length-links_of}
+use Rattle.in_net.proofs.Linked.{length-links_of}
 use Rattle.in_net.proofs.Joins.{length-none_seen, length-counted}
 use Rattle.in_net.proofs.Sound.{named}
 use Rattle.in_net.proofs.Read.{IsNamed, name_known}
@@ -33,7 +34,7 @@ use Rattle.in_net.proofs.Naming.{AreOfText, IsLast, step_on}
 
 often_named : (seen : List Seen) (at m : ℕ) (o : Option ℕ) → m < length seen → nth_seen seen m ≡ Often → nth_seen (count_name seen at o) m ≡ Often
 often_named seen at m None lt is = is
-often_named seen at m (Some n) lt is = by_same (same_or_not m n)
+often_named seen at m (Some n) lt is = by_same (cases_eq m n)
   where
     by_same : (m ≡ n) ⊎ (m ≢ n) → nth_seen (set seen n (seen_again (nth_seen seen n) at)) m ≡ Often
     by_same (inl e) =
@@ -62,7 +63,7 @@ not_over seen at m (Some n) is e = get_or-set_other seen n m (seen_again (nth_se
 
 pub is_named_or_not : (o : Option ℕ) (m : ℕ) → (o ≡ Some m) ⊎ (o ≢ Some m)
 is_named_or_not None m = inr (λ e. cc)
-is_named_or_not (Some n) m = by_same (same_or_not n m)
+is_named_or_not (Some n) m = by_same (cases_eq n m)
   where
     by_same : (n ≡ m) ⊎ (n ≢ m) → (Some n ≡ Some m) ⊎ (Some n ≢ Some m)
     by_same (inl e) = inl (ap Some e)
@@ -159,7 +160,7 @@ module _ (t : Tables) (b : Body) (free count : ℕ) (r : Reading) (net : IsNetRe
 
   -- a spot that isn't a free end is joined
   beyond : (i : ℕ) → i < length spots → ((k m : ℕ) → nth_spot spots i ≢ Free k m) → length b.free ≤ i
-  beyond i lt other = part (below_or_not i (length b.free))
+  beyond i lt other = part (cases_lt i (length b.free))
     where
       part : (i < length b.free) ⊎ (length b.free ≤ i) → length b.free ≤ i
       part (inl x) = absurd (let there = names.ends i x in other i there.1.0 there.1.1)
@@ -173,7 +174,7 @@ module _ (t : Tables) (b : Body) (free count : ℕ) (r : Reading) (net : IsNetRe
 
   -- and so is what it is joined to
   to_beyond : (i : ℕ) → i < length spots → length b.free ≤ i → length b.free ≤ (nth_link (links_of r) i).to
-  to_beyond i lt from = part (below_or_not (nth_link (links_of r) i).to (length b.free))
+  to_beyond i lt from = part (cases_lt (nth_link (links_of r) i).to (length b.free))
     where
       part : ((nth_link (links_of r) i).to < length b.free) ⊎ (length b.free ≤ (nth_link (links_of r) i).to) → length b.free ≤ (nth_link (links_of r) i).to
       part (inl x) =

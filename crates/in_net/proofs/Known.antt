@@ -13,8 +13,7 @@ use Rattle.in_symbols.specs.Faults.{IsRepeatedAt, IsDeclaredTwiceAt, declared_tw
 use Rattle.in_symbols.specs.Tables.{Tables, all_true, heads_known, HeadsKnown, IsRuleKnown, IsTabled}
 use Rattle.in_base.specs.Lists.{IsAmong}
 use Rattle.in_net.specs.TextNet.{Body, LeftHead, body_of, heads_at}
-use Rattle.in_net.proofs.Linked.{same_or_not, below_or_not}
-use Rattle.std.proofs.lemmas.Bool.{and_from}
+use Rattle.std.proofs.lemmas.Bool.{and_from, cases_eq, cases_lt}
 
 abbrev pub AreHeadsKnown : Tables → List LeftHead → Type 0
 AreHeadsKnown t = AllByRecursion (λ h. AllByRecursion (λ u. heads_known t.names u ≡ true) h.head.terms)
@@ -66,7 +65,7 @@ repeated (x ∷ fs) (suc k) zero f g lt is_f is_g e = absurd (omega (arith, lt))
 repeated (x ∷ fs) (suc k) (suc l) f g lt is_f is_g e = inr (repeated fs k l f g (omega (arith, lt)) is_f is_g e)
 
 pub free_differ : (source : Source) → IsFaultless source → AreDifferent (body_of source.net)
-free_differ source faultless k l f g is_f is_g e = by_order (same_or_not k l) (below_or_not k l)
+free_differ source faultless k l f g is_f is_g e = by_order (cases_eq k l) (cases_lt k l)
   where
     by_order : (k ≡ l) ⊎ (k ≢ l) → (k < l) ⊎ (l ≤ k) → k ≡ l
     by_order (inl x) y = x

@@ -1,6 +1,7 @@
 -- What one spot is joined to, after each step of the reading.
 use Rattle.std.proofs.Common.{◌≡◌, ◌≢◌, ◌⊎◌, inl, inr, ℕ, zero, suc, ◌+◌, ◌-◌, ◌<◌, ◌≤◌, List, [], ◌∷◌, ◌++◌, length, length-append, refl, sym, ◌∙◌, ap, arith, get_or, set}
-use Rattle.std.proofs.lemmas.List.{length-set, get_or-set_same, get_or-set_other, set-append_left}
+use Rattle.std.proofs.lemmas.List.{get_or_append_left, get_or-append-add, length-set, get_or-set_same, get_or-set_other, set-append_left}
+use Rattle.std.proofs.lemmas.Bool.{cases_lt}
 use Rattle.in_syntax.specs.declared.places.Place.{Place}
 use Rattle.in_net.specs.declared.joining.Link.{Link}
 use Rattle.in_net.specs.declared.reading.Joint.{Joint}
@@ -11,41 +12,17 @@ use Rattle.in_net.specs.Joining.{no_link, self_link, self_links, with_link, with
 use Rattle.in_net.specs.Reading.{with_joint}
 use Rattle.in_net.proofs.Links.{length-self_links, length-with_link, length-with_joints}
 
--- ---- two numbers are one or two
-
-pub same_or_not : (i j : ℕ) → (i ≡ j) ⊎ (i ≢ j)
-same_or_not zero zero = inl refl
-same_or_not zero (suc j) = inr (λ e. absurd (omega (arith, e)))
-same_or_not (suc i) zero = inr (λ e. absurd (omega (arith, e)))
-same_or_not (suc i) (suc j) = next (same_or_not i j)
-  where
-    next : (i ≡ j) ⊎ (i ≢ j) → (suc i ≡ suc j) ⊎ (suc i ≢ suc j)
-    next (inl e) = inl (ap suc e)
-    next (inr e) = inr (λ f. e (omega (arith, f)))
-
-pub below_or_not : (i j : ℕ) → (i < j) ⊎ (j ≤ i)
-below_or_not i zero = inr (omega arith)
-below_or_not zero (suc j) = inl (omega arith)
-below_or_not (suc i) (suc j) = next (below_or_not i j)
-  where
-    next : (i < j) ⊎ (j ≤ i) → (suc i < suc j) ⊎ (suc j ≤ suc i)
-    next (inl e) = inl (omega (arith, e))
-    next (inr e) = inr (omega (arith, e))
-
 -- ---- elements of two lists, one after the other
 
 pub at_front : {X : Type 0} (xs ys : List X) (i : ℕ) (d : X) → i < length xs → get_or (xs ++ ys) i d ≡ get_or xs i d
-at_front [] ys i d lt = absurd (omega arith)
-at_front (x ∷ xs) ys zero d lt = refl
-at_front (x ∷ xs) ys (suc i) d lt = at_front xs ys i d (omega arith)
+at_front xs ys i d lt = get_or_append_left xs ys d i lt
 
 pub at_back : {X : Type 0} (xs ys : List X) (j : ℕ) (d : X) → get_or (xs ++ ys) (length xs + j) d ≡ get_or ys j d
-at_back [] ys j d = let e : 0 + j ≡ j = omega arith in ap (λ k. get_or ys k d) e
-at_back (x ∷ xs) ys j d = let e : length (x ∷ xs) + j ≡ suc (length xs + j) = omega arith in ap (λ k. get_or (x ∷ (xs ++ ys)) k d) e ∙ at_back xs ys j d
+at_back xs ys j d = get_or-append-add xs ys j d
 
 -- a number is in front, or so many behind
 pub front_or_back : (n i : ℕ) → (i < n) ⊎ ((j : ℕ) × (i ≡ n + j))
-front_or_back n i = part (below_or_not i n)
+front_or_back n i = part (cases_lt i n)
   where
     part : (i < n) ⊎ (n ≤ i) → (i < n) ⊎ ((j : ℕ) × (i ≡ n + j))
     part (inl lt) = inl lt

@@ -1,6 +1,7 @@
 -- What is miscounted among the spots is what is miscounted in the text.
 use Rattle.std.proofs.Common.{◌≡◌, ◌≢◌, ◌⊎◌, inl, inr, ℕ, zero, suc, ◌<◌, ◌≤◌, List, [], ◌∷◌, length, Some, None, option_map, slice_get, refl, sym, ◌∙◌, ap, subst, arith}
 use Rattle.std.proofs.lemmas.Option.{slice_get-get_or, slice_get_within, same_Some}
+use Rattle.std.proofs.lemmas.Bool.{cases_eq, cases_lt}
 use Rattle.in_syntax.specs.declared.places.Place.{Place}
 use Rattle.in_syntax.specs.declared.tree.Term.{Term}
 use Rattle.in_syntax.specs.declared.tree.SourceFree.{SourceFree}
@@ -18,7 +19,6 @@ use Rattle.in_net.specs.NetFaults.{Occurs, IsFreeName, IsBefore, IsMiscountedAt}
 use Rattle.in_base.specs.Lists.{IsAmong}
 use Rattle.in_net.specs.TextNet.{Body, IsVariable, name_of, place_of}
 use Rattle.in_net.proofs.Kept.{IsHeldAt}
-use Rattle.in_net.proofs.Linked.{same_or_not, below_or_not}
 use Rattle.in_net.proofs.Links.{all_at}
 use Rattle.in_net.proofs.Miscounts.{Has, IsThirdAt, IsOnlyAt, IsStanding, done, same_seen, miscounted_least}
 use Rattle.in_net.specs.declared.counting.Seen.{Seen}
@@ -81,7 +81,7 @@ module _ (t : Tables) (body : Body) (r : Reading) (names : AreNamesRead t body r
 
   -- occurrences in the order of their places
   before_place : (i j m l : ℕ) (p q : Place) → i < length r.spots → j < length r.spots → nth_spot r.spots i ≡ Occurrence m p → nth_spot r.spots j ≡ Occurrence l q → p.from < q.from → i < j
-  before_place i j m l p q i_in j_in is_i is_j less = part (same_or_not i j) (below_or_not i j)
+  before_place i j m l p q i_in j_in is_i is_j less = part (cases_eq i j) (cases_lt i j)
     where
       part : (i ≡ j) ⊎ (i ≢ j) → (i < j) ⊎ (j ≤ i) → i < j
       part x (inl y) = y
@@ -93,7 +93,7 @@ module _ (t : Tables) (body : Body) (r : Reading) (names : AreNamesRead t body r
 
   -- free ends come before occurrences
   free_before : (i j k m l : ℕ) (p : Place) → i < length r.spots → j < length r.spots → nth_spot r.spots i ≡ Free k m → nth_spot r.spots j ≡ Occurrence l p → i < j
-  free_before i j k m l p i_in j_in is_i is_j = part (below_or_not i j)
+  free_before i j k m l p i_in j_in is_i is_j = part (cases_lt i j)
     where
       part : (i < j) ⊎ (j ≤ i) → i < j
       part (inl x) = x

@@ -1,6 +1,7 @@
 -- The first spot of a name that stands once or for the third time.
 use Rattle.std.proofs.Common.{◌≡◌, ◌≢◌, ◌⊎◌, inl, inr, ℕ, zero, suc, ◌+◌, ◌<◌, ◌≤◌, List, [], ◌∷◌, length, Option, Some, None, slice_get, refl, sym, ◌∙◌, ap, subst, arith, set}
 use Rattle.std.proofs.lemmas.List.{length-set, get_or-set_same, get_or-set_other}
+use Rattle.std.proofs.lemmas.Bool.{cases_eq, cases_lt}
 use Rattle.in_syntax.specs.declared.places.Place.{Place}
 use Rattle.in_syntax.specs.declared.tree.SourceFree.{SourceFree}
 use Rattle.in_base.specs.Lists.{AnyByRecursion}
@@ -13,7 +14,6 @@ use Rattle.in_net.specs.declared.counting.Seen.TheVariants.{Never, Once, Twice, 
 use Rattle.in_net.specs.declared.counting.Counting.{Counting}
 use Rattle.in_net.specs.Counting.{name_of, seen_again, count_name, counted_from, third_time, nothing_counted, counts_named, counts_spot, counts_from, place_at, lonely_place, lonely, miscounted}
 use Rattle.in_net.specs.Building.{nth_spot}
-use Rattle.in_net.proofs.Linked.{same_or_not, below_or_not}
 use Rattle.in_net.proofs.Joins.{length-none_seen}
 use Rattle.in_net.proofs.Ways.{nth_seen}
 use Rattle.in_net.proofs.Joined.{nth_none}
@@ -56,17 +56,17 @@ same_name spots i m n e f = some_is (sym e ∙ f)
 
 -- a spot of another name, or of none
 standing_on : (spots : List Spot) (at m : ℕ) (s : Seen) → (Has spots m at → ⊥) → IsStanding spots at m s → IsStanding spots (at + 1) m s
-standing_on spots at m Never other h = λ i lt e. part i e (below_or_not i at) lt
+standing_on spots at m Never other h = λ i lt e. part i e (cases_lt i at) lt
   where
     part : (i : ℕ) → Has spots m i → (i < at) ⊎ (at ≤ i) → i < at + 1 → ⊥
     part i e (inl x) lt = h i x e
     part i e (inr x) lt = let same : i ≡ at = omega (arith, x, lt) in other (subst (Has spots m) same e)
-standing_on spots at m (Once a) other h = (omega (arith, h.0), h.1, λ i lt e. part i e (below_or_not i at) lt)
+standing_on spots at m (Once a) other h = (omega (arith, h.0), h.1, λ i lt e. part i e (cases_lt i at) lt)
   where
     part : (i : ℕ) → Has spots m i → (i < at) ⊎ (at ≤ i) → i < at + 1 → i ≡ a
     part i e (inl x) lt = h.2 i x e
     part i e (inr x) lt = let same : i ≡ at = omega (arith, x, lt) in absurd (other (subst (Has spots m) same e))
-standing_on spots at m Twice other (a, b, less, in_, e, f, only) = (a, b, less, omega (arith, in_), e, f, λ i lt g. part i g (below_or_not i at) lt)
+standing_on spots at m Twice other (a, b, less, in_, e, f, only) = (a, b, less, omega (arith, in_), e, f, λ i lt g. part i g (cases_lt i at) lt)
   where
     part : (i : ℕ) → Has spots m i → (i < at) ⊎ (at ≤ i) → i < at + 1 → (i ≡ a) ⊎ (i ≡ b)
     part i g (inl x) lt = only i x g
@@ -75,12 +75,12 @@ standing_on spots at m Often other (a, b, c, less, next, in_, e, f, g, only) = (
 
 -- one spot more of the name
 standing_more : (spots : List Spot) (at m : ℕ) (s : Seen) → Has spots m at → IsStanding spots at m s → IsStanding spots (at + 1) m (seen_again s at)
-standing_more spots at m Never here h = (omega arith, here, λ i lt e. part i e (below_or_not i at) lt)
+standing_more spots at m Never here h = (omega arith, here, λ i lt e. part i e (cases_lt i at) lt)
   where
     part : (i : ℕ) → Has spots m i → (i < at) ⊎ (at ≤ i) → i < at + 1 → i ≡ at
     part i e (inl x) lt = absurd (h i x e)
     part i e (inr x) lt = omega (arith, x, lt)
-standing_more spots at m (Once a) here h = (a, at, h.0, omega arith, h.1, here, λ i lt e. part i e (below_or_not i at) lt)
+standing_more spots at m (Once a) here h = (a, at, h.0, omega arith, h.1, here, λ i lt e. part i e (cases_lt i at) lt)
   where
     part : (i : ℕ) → Has spots m i → (i < at) ⊎ (at ≤ i) → i < at + 1 → (i ≡ a) ⊎ (i ≡ at)
     part i e (inl x) lt = inl (h.2 i x e)
@@ -165,7 +165,7 @@ third_step spots at m s found here stand least =
     to q (inr h) = new q s stand h.0 h.1
 
     back : (q : Place) → IsThirdAt spots (at + 1) q → IsThirdAt spots at q ⊎ IsHere spots at m s q
-    back q h = part (below_or_not h.three at)
+    back q h = part (cases_lt h.three at)
       where
         part : (h.three < at) ⊎ (at ≤ h.three) → IsThirdAt spots at q ⊎ IsHere spots at m s q
         part (inl lt) = inl (record { name = h.name; one = h.one; two = h.two; three = h.three; first = h.first; next = h.next; inside = lt; has_one = h.has_one; has_two = h.has_two; stands = h.stands; only = h.only })
@@ -181,7 +181,7 @@ third_none : (spots : List Spot) (at : ℕ) (found : Option Place) → name_of (
 third_none spots at found none least = least_same (IsThirdAt spots at) (IsThirdAt spots (at + 1)) found (third_weaker spots at) back least
   where
     back : (q : Place) → IsThirdAt spots (at + 1) q → IsThirdAt spots at q
-    back q h = part (below_or_not h.three at)
+    back q h = part (cases_lt h.three at)
       where
         part : (h.three < at) ⊎ (at ≤ h.three) → IsThirdAt spots at q
         part (inl lt) = record { name = h.name; one = h.one; two = h.two; three = h.three; first = h.first; next = h.next; inside = lt; has_one = h.has_one; has_two = h.has_two; stands = h.stands; only = h.only }
@@ -200,7 +200,7 @@ module _ (spots : List Spot) (names : ℕ) (inside : (i m : ℕ) → i < length 
       let m_in = inside at m lt is in
       record {
         count = length-set c.seen m (seen_again (nth_seen c.seen m) at) ∙ h.count;
-        seen = λ k k_in. by_same k k_in (same_or_not k m) m_in;
+        seen = λ k k_in. by_same k k_in (cases_eq k m) m_in;
         third = third_step spots at m (nth_seen c.seen m) c.third is (h.seen m m_in) h.third;
       }
     where

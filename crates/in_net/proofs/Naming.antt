@@ -2,6 +2,7 @@
 use Rattle.std.proofs.Common.{if◌then◌else◌, ◌≡◌, ◌≢◌, ◌⊎◌, inl, inr, ℕ, ◌+◌, ◌<◌, ◌≤◌, Bool, true, false, nat_lt, List, length, Option, Some, None, refl, sym, ◌∙◌, ap, subst, arith, set}
 use Rattle.std.proofs.lemmas.List.{length-set, get_or-set_same, get_or-set_other}
 use Rattle.std.proofs.lemmas.Option.{none-some, same_Some}
+use Rattle.std.proofs.lemmas.Bool.{cases_eq, cases_lt}
 use Rattle.in_syntax.specs.declared.places.Place.{Place}
 use Rattle.in_syntax.specs.Refusals.{earlier}
 use Rattle.in_symbols.specs.Tables.{Tables}
@@ -15,7 +16,6 @@ use Rattle.in_net.specs.Counting as counting
 use Rattle.in_net.specs.Building.{nth_link, nth_spot}
 use Rattle.in_net.specs.Joining.{self_link, later_of, merged, met, joins_named, joins}
 use Rattle.in_net.specs.TextNet.{Body, NameJoint, IsClosedWireOf}
-use Rattle.in_net.proofs.Linked.{same_or_not, below_or_not}
 use Rattle.in_net.proofs.Sound.{named}
 use Rattle.in_net.proofs.Read.{IsNamed}
 use Rattle.in_net.proofs.Joins.{length-merged}
@@ -52,12 +52,12 @@ earlier_is (Some q) (Some r) p e = by_test (nat_lt r.from q.from) e
 
 -- no spot beyond has the name, and those before it are as they were
 seen_on : (spots : List Spot) (at m n : ℕ) (s : Seen) → counting.name_of (nth_spot spots at) ≡ Some m → n ≢ m → IsSeenAt spots at n s → IsSeenAt spots (at + 1) n s
-seen_on spots at m n Never name differ h = λ i lt e. part i e lt (below_or_not i at)
+seen_on spots at m n Never name differ h = λ i lt e. part i e lt (cases_lt i at)
   where
     part : (i : ℕ) → counting.name_of (nth_spot spots i) ≡ Some n → i < at + 1 → (i < at) ⊎ (at ≤ i) → ⊥
     part i e lt (inl a) = h i a e
     part i e lt (inr a) = let same : i ≡ at = omega (arith, a, lt) in differ (same_Some n m (sym e ∙ ap (λ k. counting.name_of (nth_spot spots k)) same ∙ name))
-seen_on spots at m n (Once x) name differ h = (omega (arith, h.0), h.1, λ i lt e. part i e (below_or_not i at) lt)
+seen_on spots at m n (Once x) name differ h = (omega (arith, h.0), h.1, λ i lt e. part i e (cases_lt i at) lt)
   where
     part : (i : ℕ) → counting.name_of (nth_spot spots i) ≡ Some n → (i < at) ⊎ (at ≤ i) → i < at + 1 → i ≡ x
     part i e (inl a) lt = h.2 i a e
@@ -135,7 +135,7 @@ module _ (t : Tables) (b : Body) (names : List (List ℕ)) (spots : List Spot) (
         unmet = unmet;
         open_at = subst (IsOpen j.seen) (sym second.1) unmet;
         met2 = subst IsMet (sym (get_or-set_same j.seen m Twice Never (omega (arith, m_in, h.count)))) tt;
-        is_one_of = λ i lt x y e. one_by first.2 i lt x y e (below_or_not i at) (below_or_not at i);
+        is_one_of = λ i lt x y e. one_by first.2 i lt x y e (cases_lt i at) (cases_lt at i);
         p_not_q = λ e. differ (sym (to_of a a_in) ∙ ap (λ k. (nth_link links k).to) e ∙ to_of at at_in);
         q_not_a = λ x e. x (sym (ap (λ k. (nth_link links k).to) e) ∙ to_of at at_in);
         joint = joint_by less a_in second.0 second.1 (spot_named (nth_spot spots a) m first.1);
@@ -248,13 +248,13 @@ module _ (t : Tables) (b : Body) (names : List (List ℕ)) (spots : List Spot) (
     closed_on = record {
       size = size;
       count = length-set j.seen m Twice ∙ h.count;
-      inside = λ i lt. inside_by i lt (same_or_not i a) (same_or_not i at);
-      back = λ i lt. back_by i lt (same_or_not i a) (same_or_not i at);
+      inside = λ i lt. inside_by i lt (cases_eq i a) (cases_eq i at);
+      back = λ i lt. back_by i lt (cases_eq i a) (cases_eq i at);
       apart = apart_then;
       way = way_then;
-      used = λ i n x lt is met. used_by new (λ n x is. shut.one) shut.other (λ i lt x y self. shut.rest i x y) i n x lt is met (same_or_not i a) (same_or_not i at);
-      fresh = λ i k n lt is unmet_. fresh_by new (λ n x is. shut.one) shut.other (λ i lt x y self. shut.rest i x y) i k n lt is unmet_ (same_or_not n m);
-      seen = λ n lt. seen_then n lt (same_or_not n m);
+      used = λ i n x lt is met. used_by new (λ n x is. shut.one) shut.other (λ i lt x y self. shut.rest i x y) i n x lt is met (cases_eq i a) (cases_eq i at);
+      fresh = λ i k n lt is unmet_. fresh_by new (λ n x is. shut.one) shut.other (λ i lt x y self. shut.rest i x y) i k n lt is unmet_ (cases_eq n m);
+      seen = λ n lt. seen_then n lt (cases_eq n m);
       closed = earlier_by {P = IsClosedWireOf t b} j.closed closed h.closed closed_here;
     }
 
@@ -278,7 +278,7 @@ module _ (t : Tables) (b : Body) (names : List (List ℕ)) (spots : List Spot) (
       is_else : i ≢ a → i ≢ at → i ≢ p → i ≢ q → Which4 i
 
     which4 : (i : ℕ) → Which4 i
-    which4 i = go (same_or_not i q) (same_or_not i p) (same_or_not i at) (same_or_not i a)
+    which4 i = go (cases_eq i q) (cases_eq i p) (cases_eq i at) (cases_eq i a)
       where
         go : (i ≡ q) ⊎ (i ≢ q) → (i ≡ p) ⊎ (i ≢ p) → (i ≡ at) ⊎ (i ≢ at) → (i ≡ a) ⊎ (i ≢ a) → Which4 i
         go (inl e) f g k = is_q e
@@ -413,9 +413,9 @@ module _ (t : Tables) (b : Body) (names : List (List ℕ)) (spots : List Spot) (
       back = λ i lt. back_4 i lt (which4 i);
       apart = λ i lt open_. apart_4 i lt open_ (which4 i);
       way = λ i lt open_. way_4 i lt open_ (which4 i);
-      used = λ i n x lt is met. used_by new occurrence_alone on.other still_alone i n x lt is met (same_or_not i a) (same_or_not i at);
-      fresh = λ i k n lt is unmet_. fresh_by new occurrence_alone on.other still_alone i k n lt is unmet_ (same_or_not n m);
-      seen = λ n lt. seen_then n lt (same_or_not n m);
+      used = λ i n x lt is met. used_by new occurrence_alone on.other still_alone i n x lt is met (cases_eq i a) (cases_eq i at);
+      fresh = λ i k n lt is unmet_. fresh_by new occurrence_alone on.other still_alone i k n lt is unmet_ (cases_eq n m);
+      seen = λ n lt. seen_then n lt (cases_eq n m);
       closed = earlier_by {P = IsClosedWireOf t b} j.closed closed h.closed (λ x e. absurd (none-some x (sym on.place ∙ e)));
     }
 
@@ -431,14 +431,14 @@ module _ (t : Tables) (b : Body) (names : List (List ℕ)) (spots : List Spot) (
 -- a name's state that is put in the place of another, where it is met as that is
 module _ (seen : List Seen) (m : ℕ) (x : Seen) (there : nth_seen (set seen m x) m ≡ x) (same : IsMet x → IsMet (nth_seen seen m)) (still : IsMet (nth_seen seen m) → IsMet x) where
   pub met_back : (n : ℕ) → IsMet (nth_seen (set seen m x) n) → IsMet (nth_seen seen n)
-  met_back n = by_name (same_or_not n m)
+  met_back n = by_name (cases_eq n m)
     where
       by_name : (n ≡ m) ⊎ (n ≢ m) → IsMet (nth_seen (set seen m x) n) → IsMet (nth_seen seen n)
       by_name (inl e) met = subst (λ n. IsMet (nth_seen seen n)) (sym e) (same (subst IsMet (ap (nth_seen (set seen m x)) e ∙ there) met))
       by_name (inr e) met = subst IsMet (seen_other seen m n x e) met
 
   pub met_on : (n : ℕ) → IsMet (nth_seen seen n) → IsMet (nth_seen (set seen m x) n)
-  met_on n = by_name (same_or_not n m)
+  met_on n = by_name (cases_eq n m)
     where
       by_name : (n ≡ m) ⊎ (n ≢ m) → IsMet (nth_seen seen n) → IsMet (nth_seen (set seen m x) n)
       by_name (inl e) met = subst IsMet (sym (ap (nth_seen (set seen m x)) e ∙ there)) (still (subst (λ n. IsMet (nth_seen seen n)) e met))
@@ -473,7 +473,7 @@ module _ (t : Tables) (b : Body) (names : List (List ℕ)) (spots : List Spot) (
     way = λ i lt o. h.way i lt (end_back (nth_spot spots i) o);
     used = λ i n p lt is met. h.used i n p lt is (met_back j.seen m x there3 same still n met);
     fresh = λ i k n lt is unmet. h.fresh i k n lt is (λ met. unmet (met_on j.seen m x there3 same still n met));
-    seen = λ n lt. seen_3 n lt (same_or_not n m);
+    seen = λ n lt. seen_3 n lt (cases_eq n m);
     closed = earlier_by {P = IsClosedWireOf t b} j.closed None h.closed (λ x e. absurd (none-some x e));
   }
 
@@ -496,12 +496,12 @@ unnamed_on t b spots count at j h none = record {
     here n i e le lt = let same : i ≡ at = omega (arith, le, lt) in let wrong : None ≡ Some n = sym none ∙ ap (λ k. counting.name_of (nth_spot spots k)) (sym same) ∙ e in cc
 
     on : (n : ℕ) (s : Seen) → IsSeenAt spots at n s → IsSeenAt spots (at + 1) n s
-    on n Never s_ = λ i lt e. part i e lt (below_or_not i at)
+    on n Never s_ = λ i lt e. part i e lt (cases_lt i at)
       where
         part : (i : ℕ) → counting.name_of (nth_spot spots i) ≡ Some n → i < at + 1 → (i < at) ⊎ (at ≤ i) → ⊥
         part i e lt (inl a) = s_ i a e
         part i e lt (inr a) = here n i e a lt
-    on n (Once x) s_ = (omega (arith, s_.0), s_.1, λ i lt e. part i e lt (below_or_not i at))
+    on n (Once x) s_ = (omega (arith, s_.0), s_.1, λ i lt e. part i e lt (cases_lt i at))
       where
         part : (i : ℕ) → counting.name_of (nth_spot spots i) ≡ Some n → i < at + 1 → (i < at) ⊎ (at ≤ i) → i ≡ x
         part i e lt (inl a) = s_.2 i a e
@@ -519,7 +519,7 @@ module _ (t : Tables) (b : Body) (names : List (List ℕ)) (spots : List Spot) (
   named_on m Never name is =
       let m_in = of.numbers at m at_in name in
       counted_on t b names spots (length names) at m j h m_in (Once at) name (λ x. absurd x) (λ x. absurd (subst IsMet is x))
-      (omega arith, name, λ i lt e. part i e lt (below_or_not i at))
+      (omega arith, name, λ i lt e. part i e lt (cases_lt i at))
     where
       part : (i : ℕ) → counting.name_of (nth_spot spots i) ≡ Some m → i < at + 1 → (i < at) ⊎ (at ≤ i) → i ≡ at
       part i e lt (inl a) = absurd (subst (IsSeenAt spots at m) is (h.seen m (of.numbers at m at_in name)) i a e)

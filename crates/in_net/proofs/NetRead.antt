@@ -19,14 +19,14 @@ use Rattle.in_net.specs.Building.{no_spot, nth_spot, nth_link}
 use Rattle.in_net.specs.TextNet as text
 use Rattle.in_base.specs.Lists.{IsAmong}
 use Rattle.in_net.specs.TextNet.{Body, LeftHead, IsTermOf, IsPartOf, PlacedJoint, spot_of, place_of}
-use Rattle.in_net.proofs.Linked.{nth_self, same_or_not, below_or_not, at_front, at_first, at_second, at_third, links_joint, length-links_of}
+use Rattle.in_net.proofs.Linked.{nth_self, at_front, at_first, at_second, at_third, links_joint, length-links_of}
 use Rattle.in_net.proofs.Sound.{named}
 use Rattle.in_net.specs.Built.{HaveFewPorts, IsEnd}
 use Rattle.in_net.proofs.Folds.{place_read}
 use Rattle.in_net.proofs.Read.{IsRead, with_joint_read, more_names, free_end_read, boundary_end_read}
 use Rattle.in_net.proofs.Kept.{IsSettled, Keeps, keeps_both, keeps_itself, keeps_joint, settled_joint}
 use Rattle.in_net.proofs.Terms.{IsHeldIn, IsReadOn, held_stays, reads_on, among_middle, middle}
-use Rattle.std.proofs.lemmas.Bool.{and_parts}
+use Rattle.std.proofs.lemmas.Bool.{and_parts, cases_eq, cases_lt}
 
 -- what is read but for some spots, which wait to be joined and are free or boundary ends: they are joined to nothing, and each other
 -- spot is joined
@@ -102,7 +102,7 @@ equation_read t b free count waits small e r among fits_left fits_right net =
           let lt = net.first i w in
           third i (λ f. absurd (omega (arith, f, lt, a.root_is, net.wide))) (λ f. absurd (omega (arith, f, lt, c.root_is, wide_1, net.wide)))
           ∙ c.links i (omega (arith, lt, net.wide, wide_1)) ∙ a.links i (omega (arith, lt, net.wide)) ∙ net.alone i w;
-      joined = λ i in_ from. by_side i from in_ (same_or_not i (one + 0)) (same_or_not i other) (below_or_not i (length r.spots)) (below_or_not i (length r1.spots)) third one_to other_to apart a.links c.links a.joined c.joined a.root_is c.root_is;
+      joined = λ i in_ from. by_side i from in_ (cases_eq i (one + 0)) (cases_eq i other) (cases_lt i (length r.spots)) (cases_lt i (length r1.spots)) third one_to other_to apart a.links c.links a.joined c.joined a.root_is c.root_is;
     } in
     record {
       net = whole;
@@ -139,17 +139,17 @@ equation_read t b free count waits small e r among fits_left fits_right net =
     by_side i from in_ (inr x) (inr y) (inl a) (inl b_) third one_to other_to apart l1 l2 j1 j2 w1 w2 f =
         net.joined i a from (sym (ap (λ (l : Link). l.to) (third i x y ∙ l2 i b_ ∙ l1 i a)) ∙ f)
     by_side i from in_ (inr x) (inr y) (inr a) (inl b_) third one_to other_to apart l1 l2 j1 j2 w1 w2 f =
-        j1 i (beyond_one (below_or_not one i)) b_ (sym (ap (λ (l : Link). l.to) (third i x y ∙ l2 i b_)) ∙ f)
+        j1 i (beyond_one (cases_lt one i)) b_ (sym (ap (λ (l : Link). l.to) (third i x y ∙ l2 i b_)) ∙ f)
       where
         beyond_one : (one < i) ⊎ (i ≤ one) → one < i
         beyond_one (inl g) = g
         beyond_one (inr g) = absurd (x (omega (arith, g, a, w1)))
-    by_side i from in_ (inr x) (inr y) (inl a) (inr b_) third one_to other_to apart l1 l2 j1 j2 w1 w2 f = j2 i (beyond (below_or_not other i)) in_ (sym (ap (λ (l : Link). l.to) (third i x y)) ∙ f)
+    by_side i from in_ (inr x) (inr y) (inl a) (inr b_) third one_to other_to apart l1 l2 j1 j2 w1 w2 f = j2 i (beyond (cases_lt other i)) in_ (sym (ap (λ (l : Link). l.to) (third i x y)) ∙ f)
       where
         beyond : (other < i) ⊎ (i ≤ other) → other < i
         beyond (inl g) = g
         beyond (inr g) = absurd (y (omega (arith, g, b_, w2)))
-    by_side i from in_ (inr x) (inr y) (inr a) (inr b_) third one_to other_to apart l1 l2 j1 j2 w1 w2 f = j2 i (beyond (below_or_not other i)) in_ (sym (ap (λ (l : Link). l.to) (third i x y)) ∙ f)
+    by_side i from in_ (inr x) (inr y) (inr a) (inr b_) third one_to other_to apart l1 l2 j1 j2 w1 w2 f = j2 i (beyond (cases_lt other i)) in_ (sym (ap (λ (l : Link). l.to) (third i x y)) ∙ f)
       where
         beyond : (other < i) ⊎ (i ≤ other) → other < i
         beyond (inl g) = g
@@ -269,7 +269,7 @@ module _ (t : Tables) (b : Body) (free count : ℕ) (waits then_ : ℕ → Type 
       waiting : (i ≡ first + port) ⊎ then_ i → ⊥
       waiting (inl e) = x e
       waiting (inr w) = past w
-  joined_by i lt past (inr x) (inr y) (inr behind) f = on.joined i (after (below_or_not other i)) lt (sym (ap (λ (l : Link). l.to) (third i x y)) ∙ f)
+  joined_by i lt past (inr x) (inr y) (inr behind) f = on.joined i (after (cases_lt other i)) lt (sym (ap (λ (l : Link). l.to) (third i x y)) ∙ f)
     where
       after : (other < i) ⊎ (i ≤ other) → other < i
       after (inl a) = a
@@ -290,8 +290,8 @@ module _ (t : Tables) (b : Body) (free count : ℕ) (waits then_ : ℕ → Type 
           read = with_joint_read t b free (count + names_in v) r1 first port other (reader_of t v).place on.read in_ on.there apart alone_there on.alone stands;
           wide = let w = net.wide in omega (arith, w, wider);
           first = λ i w. net.first i (still i w);
-          alone = λ i w. alone_by i w (same_or_not i (first + port));
-          joined = λ i lt past. joined_by i lt past (same_or_not i (first + port)) (same_or_not i other) (below_or_not i (length r.spots));
+          alone = λ i w. alone_by i w (cases_eq i (first + port));
+          joined = λ i lt past. joined_by i lt past (cases_eq i (first + port)) (cases_eq i other) (cases_lt i (length r.spots));
         };
         keeps = keeps_both r r1 r2 on.keeps keeps_one;
         settled =

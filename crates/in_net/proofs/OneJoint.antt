@@ -1,6 +1,7 @@
 -- At each place of a text stands one joint.
 use Rattle.std.proofs.Common.{◌≡◌, ◌≢◌, ◌⊎◌, inl, inr, ℕ, ◌<◌, ◌≤◌, List, [], ◌∷◌, ◌++◌, length, Option, Some, None, refl, sym, ◌∙◌, ap, subst, arith}
 use Rattle.std.specs.List.{flat_map}
+use Rattle.std.proofs.lemmas.Bool.{cases_eq, cases_lt}
 use Rattle.in_syntax.specs.declared.places.Place.{Place}
 use Rattle.in_syntax.specs.declared.tree.Equation.{Equation}
 use Rattle.in_syntax.specs.declared.tree.Term.{Term, out-Term}
@@ -17,7 +18,6 @@ use Rattle.in_net.specs.Building.{nth_link, nth_spot}
 use Rattle.in_net.specs.Joining.{links_of}
 use Rattle.in_net.specs.TextNet as text
 use Rattle.in_net.specs.TextNet.{Body, LeftHead, IsTermOf, PlacedJoint, of_equation, of_argument, of_head, turned, spot_by, spot_of, name_of, place_of}
-use Rattle.in_net.proofs.Linked.{same_or_not, below_or_not}
 use Rattle.in_net.proofs.Order.{root_place, place_before}
 use Rattle.in_net.proofs.Single.{IsReadWhole, one_spot, settled_of, one_placed_joint}
 use Rattle.in_net.proofs.Sound.{named}
@@ -154,7 +154,7 @@ module _ (t : Tables) (b : Body) (r : Reading) (h : IsReadWhole t b r) (up : Ris
       let one = root_of (nth_spot r.spots (nth_link (links_of r) s.spot).to) (number_in (name_of a.term) t.names) (place_of a.term) (s.other ∙ a.spot) in
       let other = root_of (nth_spot r.spots (nth_link (links_of r) u.spot).to) (number_in (name_of c.term) t.names) (place_of c.term) (u.other ∙ c.spot) in
       let from : (place_of a.term).from ≡ (place_of c.term).from = ap (λ (p : Place). p.from) (sym a.place) ∙ same ∙ ap (λ (p : Place). p.from) c.place in
-      sym s.other ∙ ap (λ i. named (nth_spot r.spots i)) (by_order i l (place_of a.term) (place_of c.term) s.to_inside u.to_inside one other from (same_or_not i l) (below_or_not i l)) ∙ u.other
+      sym s.other ∙ ap (λ i. named (nth_spot r.spots i)) (by_order i l (place_of a.term) (place_of c.term) s.to_inside u.to_inside one other from (cases_eq i l) (cases_lt i l)) ∙ u.other
     where
       by_order : (i l : ℕ) (p q : Place) → i < length r.spots → l < length r.spots → root_place (nth_spot r.spots i) ≡ p ∷ [] → root_place (nth_spot r.spots l) ≡ q ∷ [] → p.from ≡ q.from → (i ≡ l) ⊎ (i ≢ l) → (i < l) ⊎ (l ≤ i) → i ≡ l
       by_order i l p q i_in l_in e f from (inl x) y = x

@@ -1,6 +1,7 @@
 -- A text has one net, and whole parts are a net.
 use Rattle.std.proofs.Common.{◌≡◌, ◌≢◌, ◌⊎◌, inl, inr, ℕ, zero, suc, ◌+◌, ◌<◌, ◌≤◌, List, [], ◌∷◌, length, Option, Some, None, IsSome, IsSomeAnd, option_map, option_and_then, slice_get, refl, sym, ◌∙◌, ap, subst, arith}
 use Rattle.std.specs.List.{AllByRecursion}
+use Rattle.std.proofs.lemmas.Bool.{cases_eq}
 use Rattle.in_syntax.specs.declared.tree.SourceFree.{SourceFree}
 use Rattle.in_syntax.specs.declared.tree.SourceNet.{SourceNet}
 use Rattle.in_symbols.specs.declared.symbols.SymbolNo.{SymbolNo}
@@ -16,7 +17,6 @@ use Rattle.in_net.specs.Parts.{Parts, IsWhole, IsPointOf, cell_in, partner_in}
 use Rattle.in_base.specs.Lists.{IsAmong}
 use Rattle.in_net.specs.TextNet.{Written, AreCellsFor, AreFreeOf, body_of, IsWireOf, IsNetOf, spot_at}
 use Rattle.std.proofs.lemmas.List.{length-map}
-use Rattle.in_net.proofs.Linked.{same_or_not}
 use Rattle.in_net.proofs.WireAt.{has_partner}
 use Rattle.in_base.proofs.Each.{at_index}
 
@@ -105,7 +105,7 @@ numbers k (suc n) = k ∷ numbers (k + 1) n
 among_numbers : (k n x : ℕ) → k ≤ x → x < k + n → IsAmong x (numbers k n)
 unfolding numbers
 among_numbers k zero x le lt = absurd (omega (arith, le, lt))
-among_numbers k (suc n) x le lt = by_same (same_or_not k x) (λ e. among_numbers (k + 1) n x (omega (arith, le, e)) (omega (arith, lt)))
+among_numbers k (suc n) x le lt = by_same (cases_eq k x) (λ e. among_numbers (k + 1) n x (omega (arith, le, e)) (omega (arith, lt)))
   where
     by_same : (k ≡ x) ⊎ (k ≢ x) → (k ≢ x → IsAmong x (numbers (k + 1) n)) → IsAmong x (k ∷ numbers (k + 1) n)
     by_same (inl e) next = inl e

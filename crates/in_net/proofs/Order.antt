@@ -21,9 +21,8 @@ use Rattle.in_net.specs.Reading.{with_agent, with_joint, with_ends, boundary_spo
 use Rattle.in_net.specs.TextNet.{Body, LeftHead, body_of, heads_at}
 use Rattle.in_net.proofs.Folds.{read_agent, read_occurrence}
 use Rattle.in_net.proofs.HeadsOf.{arguments_known, no_arguments}
-use Rattle.in_net.proofs.Linked.{same_or_not, below_or_not}
 use Rattle.in_net.proofs.Known.{AreHeadsKnown, IsBodyKnown, all_known}
-use Rattle.std.proofs.lemmas.Bool.{and_parts}
+use Rattle.std.proofs.lemmas.Bool.{and_parts, cases_eq, cases_lt}
 use Rattle.in_base.proofs.Each.{all_left, all_right, all_append}
 use Rattle.in_syntax.proofs.Terms.{names_out}
 
@@ -202,7 +201,7 @@ root_before spots i j m n p q up lt in_ is at = place_before spots i j p q up lt
 
 -- one place, one spot
 pub same_root : (spots : List Spot) (i j : ℕ) (p : Place) → Rises (root_places spots) → i < length spots → j < length spots → root_place (nth_spot spots i) ≡ p ∷ [] → root_place (nth_spot spots j) ≡ p ∷ [] → i ≡ j
-same_root spots i j p up i_in j_in is at = by_order (same_or_not i j) (below_or_not i j)
+same_root spots i j p up i_in j_in is at = by_order (cases_eq i j) (cases_lt i j)
   where
     by_order : (i ≡ j) ⊎ (i ≢ j) → (i < j) ⊎ (j ≤ i) → i ≡ j
     by_order (inl x) y = x

@@ -2,6 +2,7 @@
 use Rattle.std.proofs.Common.{if◌then◌else◌, ◌≡◌, ◌≢◌, ◌⊎◌, inl, inr, ℕ, ◌<◌, ◌≤◌, Bool, true, false, nat_lt, ltb-true, ltb-false, List, ◌++◌, length, Option, Some, None, refl, sym, ◌∙◌, ap, subst, arith, set}
 use Rattle.std.proofs.lemmas.List.{get_or-set_same}
 use Rattle.std.proofs.lemmas.Option.{same_Some}
+use Rattle.std.proofs.lemmas.Bool.{cases_eq}
 use Rattle.in_syntax.specs.declared.places.Place.{Place}
 use Rattle.in_syntax.specs.Refusals.{earlier}
 use Rattle.in_symbols.specs.Tables.{Tables}
@@ -18,7 +19,6 @@ use Rattle.in_net.specs.TextNet as text
 use Rattle.in_net.specs.TextNet.{Body, Kind, placed, of_name, NameJoint, IsOccurrence, Chain, IsLastOf}
 use Rattle.in_net.proofs.Chains.{through, to_name}
 use Rattle.in_net.proofs.Joins.{length-merged}
-use Rattle.in_net.proofs.Linked.{same_or_not}
 use Rattle.in_net.proofs.Sound.{named}
 use Rattle.in_net.proofs.Merged.{IsClosed, IsOpened, merges}
 use Rattle.in_net.proofs.Ways.{nth_seen, IsMet, kind_of, IsOpen, IsWay, IsJoiningAt, spot_named}
@@ -187,10 +187,10 @@ module _ (t : Tables) (b : Body) (names : List (List ℕ)) (spots : List Spot) (
     Begins k = (n : ℕ) (x : Place) → nth_spot spots k ≡ Occurrence n x → Out2 (named (nth_spot spots k))
 
     all_out : LeadsOn a → LeadsOn at → Begins a → Begins at → AreOut t b spots seen2 (earlier j.closed closed)
-    all_out on_a on_at new_a new_at i n x lt is met = by_spot (same_or_not i a) (same_or_not i at)
+    all_out on_a on_at new_a new_at i n x lt is met = by_spot (cases_eq i a) (cases_eq i at)
       where
         old_out : IsOut t b spots j.seen j.closed (named (nth_spot spots i)) → Out2 (named (nth_spot spots i))
-        old_out o = by_end (same_or_not o.spot a) (same_or_not o.spot at) o.end
+        old_out o = by_end (cases_eq o.spot a) (cases_eq o.spot at) o.end
           where
             at_spot : (k : ℕ) → o.spot ≡ k → LeadsOn k → IsOpen j.seen (nth_spot spots o.spot) → Out2 (named (nth_spot spots i))
             at_spot k e on open_ =

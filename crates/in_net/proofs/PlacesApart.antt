@@ -2,6 +2,7 @@
 use Rattle.std.proofs.Common.{◌≡◌, ◌≢◌, ◌⊎◌, inl, inr, ℕ, suc, ◌+◌, ◌<◌, Bool, true, false, cond, nat_lt, List, [], ◌∷◌, length, map, Option, Some, None, refl, sym, ◌∙◌, ap, subst, arith, get_or}
 use Rattle.std.specs.List.{AllByRecursion}
 use Rattle.std.specs.List.Sorted.{IsNonDecreasingBy}
+use Rattle.std.proofs.lemmas.Bool.{cases_eq}
 use Rattle.in_syntax.specs.declared.places.Place.{Place}
 use Rattle.in_syntax.specs.Order.{Rises}
 use Rattle.in_symbols.specs.Tables.{Tables}
@@ -18,7 +19,6 @@ use Rattle.in_net.specs.Counting.{counted_from}
 use Rattle.in_net.specs.Joining.{later_of, merged, met, joins_named, joins, joins_from}
 use Rattle.in_net.specs.TextNet.{Body}
 use Rattle.in_net.proofs.Joined.{last_here, seen_named}
-use Rattle.in_net.proofs.Linked.{same_or_not}
 use Rattle.in_net.proofs.Merged.{IsClosed, IsOpened, merges}
 use Rattle.in_net.proofs.Naming as naming
 use Rattle.in_net.proofs.Naming.{AreOfText, IsLast, IsSecond, step_on}
@@ -69,7 +69,7 @@ module _ (n a b : ℕ) (links new : List Link) (closed : Option Place) (a_in : a
       is_else : i ≢ a → i ≢ b → i ≢ p → i ≢ q → Which i
 
     which : (i : ℕ) → (nth_link new i).to ≢ i → Which i
-    which i to = go (same_or_not i p) (same_or_not i q) (same_or_not i a) (same_or_not i b)
+    which i to = go (cases_eq i p) (cases_eq i q) (cases_eq i a) (cases_eq i b)
       where
         go : (i ≡ p) ⊎ (i ≢ p) → (i ≡ q) ⊎ (i ≢ q) → (i ≡ a) ⊎ (i ≢ a) → (i ≡ b) ⊎ (i ≢ b) → Which i
         go (inl e) f g k = is_p e
@@ -80,7 +80,7 @@ module _ (n a b : ℕ) (links new : List Link) (closed : Option Place) (a_in : a
 
     -- another spot was joined at neither of the two places
     not_there : (j : ℕ) → j < n → (nth_link links j).to ≢ j → j ≢ a → j ≢ b → j ≢ p → j ≢ q → (later_of pa pb).from ≡ (nth_link links j).place.from → ⊥
-    not_there j j_in j_to x y z w same = by_place (later_is pa pb) (same_or_not p a)
+    not_there j j_in j_to x y z w same = by_place (later_is pa pb) (cases_eq p a)
       where
         at_b : pb.from ≡ (nth_link links j).place.from → ⊥
         at_b e = by_one (h b j b_in j_in b_to j_to e)

@@ -1,5 +1,6 @@
 -- Each spot of a text is in at most one joint of each kind, so a point leads to one other by a wire.
 use Rattle.std.proofs.Common.{◌≡◌, ◌≢◌, ◌⊎◌, inl, inr, ℕ, suc, ◌+◌, ◌<◌, ◌≤◌, Bool, true, false, cond, nat_lt, ltb-true, ltb-false, List, [], ◌∷◌, length, Some, None, IsSome, slice_get, refl, sym, ◌∙◌, ap, subst, arith}
+use Rattle.std.proofs.lemmas.Bool.{cases_lt}
 use Rattle.in_syntax.specs.declared.places.Place.{Place}
 use Rattle.in_syntax.specs.declared.tree.Term.{Term, out-Term}
 use Rattle.in_syntax.specs.declared.tree.SourceFree.{SourceFree}
@@ -18,7 +19,6 @@ use Rattle.in_net.specs.TextNet as text
 use Rattle.in_net.specs.TextNet.{Body, IsTermOf, IsPartOf, IsVariable, PlacedJoint, NameJoint, IsOccurrence, Chain, Kind, placed, of_name, IsWireOf, name_of, place_of, spot_of}
 use Rattle.std.proofs.lemmas.Option.{slice_get_within, same_Some}
 use Rattle.in_net.proofs.Links.{all_at}
-use Rattle.in_net.proofs.Linked.{below_or_not}
 use Rattle.in_net.proofs.Sound.{named}
 use Rattle.in_net.proofs.Kept.{IsSettled}
 use Rattle.in_net.proofs.Read.{IsNamed, name_known}
@@ -273,8 +273,8 @@ module _ (t : Tables) (b : Body) (r : Reading) (h : IsReadWhole t b r) where
       by_spot : (u : Spot) → nth_spot r.spots s.spot ≡ u → named u ≡ text.free_end k → length b.free ≤ k
       by_spot (Port a i q) e f = cc
       by_spot (Occurrence m q) e f = cc
-      by_spot (Free l m) e f = let same : l ≡ k = cc in at_end l (subst (λ u. IsEnd u l) (sym e) refl) same (below_or_not s.spot (length b.free))
-      by_spot (End l) e f = let same : l ≡ k = cc in at_end l (subst (λ u. IsEnd u l) (sym e) refl) same (below_or_not s.spot (length b.free))
+      by_spot (Free l m) e f = let same : l ≡ k = cc in at_end l (subst (λ u. IsEnd u l) (sym e) refl) same (cases_lt s.spot (length b.free))
+      by_spot (End l) e f = let same : l ≡ k = cc in at_end l (subst (λ u. IsEnd u l) (sym e) refl) same (cases_lt s.spot (length b.free))
 
   first_kind : (k l : Kind) (x y : text.Spot) (ps : List Place) → (IsOccurrence x → ⊥) → Chain t b k l x y ps → k ≡ kind_from x
   first_kind k l (text.occurrence p) y ps no_ chain = absurd (no_ tt)

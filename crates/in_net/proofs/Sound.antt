@@ -1,5 +1,6 @@
 -- What two spots of a reading are joined by is a joint of the text.
 use Rattle.std.proofs.Common.{◌≡◌, ◌≢◌, ◌⊎◌, inl, inr, ℕ, ◌+◌, ◌<◌, ◌≤◌, List, ◌++◌, length, length-append, sym, ◌∙◌, ap, subst, arith}
+use Rattle.std.proofs.lemmas.Bool.{cases_eq}
 use Rattle.in_syntax.specs.declared.places.Place.{Place}
 use Rattle.in_net.specs.declared.joining.Link.{Link}
 use Rattle.in_net.specs.declared.reading.Joint.{Joint}
@@ -10,7 +11,7 @@ use Rattle.in_net.specs.Building.{LeadToSpots, LeadBack, nth_link, nth_spot, no_
 use Rattle.in_net.specs.Joining.{self_link, self_links, with_link, with_joints, JointsInside}
 use Rattle.in_net.specs.TextNet as text
 use Rattle.in_net.specs.TextNet.{Body, PlacedJoint}
-use Rattle.in_net.proofs.Linked.{same_or_not, front_or_back, at_front, at_first, at_second, at_third, stays, added}
+use Rattle.in_net.proofs.Linked.{front_or_back, at_front, at_first, at_second, at_third, stays, added}
 
 -- the spot of the text
 abbrev pub named : Spot → text.Spot
@@ -96,7 +97,7 @@ module _ (t : Tables) (b : Body) (spots : List Spot) (links : List Link) (count 
     is_third : i ≢ one → i ≢ other → Which i
 
   which : (i : ℕ) → Which i
-  which i = go (same_or_not i one) (same_or_not i other)
+  which i = go (cases_eq i one) (cases_eq i other)
     where
       go : (i ≡ one) ⊎ (i ≢ one) → (i ≡ other) ⊎ (i ≢ other) → Which i
       go (inl e) f = is_one e

@@ -21,12 +21,12 @@ use Rattle.in_net.specs.TextNet as text
 use Rattle.in_base.specs.Lists.{IsAmong}
 use Rattle.in_net.specs.TextNet.{Body, IsTermOf, IsPartOf, IsVariable, PlacedJoint, name_of, place_of, spot_of, spot_by}
 use Rattle.in_net.proofs.Folds.{fits_agent, read_agent, read_occurrence, place_read}
-use Rattle.in_net.proofs.Linked.{same_or_not, below_or_not, at_front, at_back, at_first, at_second, at_third, stays, added, links_joint, length-links_of}
+use Rattle.in_net.proofs.Linked.{at_front, at_back, at_first, at_second, at_third, stays, added, links_joint, length-links_of}
 use Rattle.in_net.proofs.Sound.{named}
 use Rattle.in_net.proofs.HeadsOf.{arguments_known, no_arguments}
 use Rattle.in_net.proofs.Kept.{IsSettled, IsHeldAt, Keeps, keeps_both, keeps_itself, keeps_more, keeps_joint, settled_joint}
 use Rattle.in_net.proofs.Read.{name_there, grows_by, IsRead, with_agent_read, with_occurrence_read, with_joint_read, more_names, new_spot, wider_agent}
-use Rattle.std.proofs.lemmas.Bool.{and_parts}
+use Rattle.std.proofs.lemmas.Bool.{and_parts, cases_eq, cases_lt}
 use Rattle.in_syntax.proofs.Terms.{names_out}
 
 -- the joints of a term's arguments and its variables stand among the spots
@@ -151,18 +151,18 @@ module _ (t : Tables) (b : Body) (free count first arity port agent : ℕ) (u v 
   joined_by i lt in_ side (inr x) (inr y) (inl front) f = past.joined i lt front (nearer side) (sym (ap (λ (l : Link). l.to) (old i front x)) ∙ f)
     where
       nearer : (i < first + (port + 1)) ⊎ (first + arity < i) → (i < first + port) ⊎ (first + arity < i)
-      nearer (inl near) = part (below_or_not i (first + port))
+      nearer (inl near) = part (cases_lt i (first + port))
         where
           part : (i < first + port) ⊎ (first + port ≤ i) → (i < first + port) ⊎ (first + arity < i)
           part (inl a) = inl a
           part (inr a) = absurd (x (omega (arith, a, near)))
       nearer (inr far) = inr far
   joined_by i lt in_ side (inr x) (inr y) (inr behind) f =
-      on.joined i (after (same_or_not i other)) in_ (sym (ap (λ (l : Link). l.to) (third i x y)) ∙ f)
+      on.joined i (after (cases_eq i other)) in_ (sym (ap (λ (l : Link). l.to) (third i x y)) ∙ f)
     where
       after : (i ≡ other) ⊎ (i ≢ other) → other < i
       after (inl e) = absurd (y e)
-      after (inr e) = less (below_or_not other i)
+      after (inr e) = less (cases_lt other i)
         where
           less : (other < i) ⊎ (i ≤ other) → other < i
           less (inl a) = a
@@ -173,7 +173,7 @@ module _ (t : Tables) (b : Body) (free count first arity port agent : ℕ) (u v 
     alone = λ j from to_.
         ap (λ (l : Link). l.to) (old (first + j) (omega (arith, room, to_)) (λ e. absurd (omega (arith, e, from)))) ∙ past.alone j (omega (arith, from)) to_;
     root = ap (λ (l : Link). l.to) (old first (omega (arith, room)) (λ e. absurd (omega (arith, e, some)))) ∙ past.root;
-    joined = λ i lt in_ side. joined_by i lt in_ side (same_or_not i (first + port)) (same_or_not i other) (below_or_not i (length q.spots));
+    joined = λ i lt in_ side. joined_by i lt in_ side (cases_eq i (first + port)) (cases_eq i other) (cases_lt i (length q.spots));
   }
 
   pub keeps_it : Keeps q1 q2
@@ -199,7 +199,7 @@ reads_all t b free h ih u done [] first arity port agent count q short fits symb
   spots = sym (append-nil q.spots);
   links = λ i lt. refl;
   root = past.root;
-  joined = λ i lt in_. past.joined i lt in_ (side i (below_or_not i (first + port)));
+  joined = λ i lt in_. past.joined i lt in_ (side i (cases_lt i (first + port)));
   more_names = [];
   names_on = sym (append-nil q.names);
   keeps = keeps_itself q;

@@ -1,5 +1,6 @@
 -- Points come in the order of their spots.
 use Rattle.std.proofs.Common.{◌≡◌, ◌≢◌, ◌⊎◌, inl, inr, ℕ, ◌+◌, ◌-◌, ◌<◌, ◌≤◌, length, refl, sym, ◌∙◌, ap, subst, arith}
+use Rattle.std.proofs.lemmas.Bool.{cases_eq, cases_lt}
 use Rattle.in_syntax.specs.declared.places.Place.{Place}
 use Rattle.in_symbols.specs.Tables.{Tables}
 use Rattle.in_net.specs.declared.reading.Spot.{Spot}
@@ -9,7 +10,6 @@ use Rattle.in_net.specs.declared.nets.Point.{Point}
 use Rattle.in_net.specs.Building.{nth_spot, nth_agent, IsPointSpot, point_in}
 use Rattle.in_net.specs.Built.{IsEnd, IsNumbered}
 use Rattle.in_net.specs.TextNet.{ComesBefore}
-use Rattle.in_net.proofs.Linked.{same_or_not, below_or_not}
 use Rattle.in_net.proofs.Points.{Stands}
 
 module _ (t : Tables) (free : ℕ) (r : Reading) (numbered : IsNumbered t free r) where
@@ -29,7 +29,7 @@ module _ (t : Tables) (free : ℕ) (r : Reading) (numbered : IsNumbered t free r
 
   -- ports of an agent stand before those of a later one
   ports_before : (k l a c i j : ℕ) (p q : Place) → k < length r.spots → l < length r.spots → nth_spot r.spots k ≡ spot.Port a i p → nth_spot r.spots l ≡ spot.Port c j q → k < l → (a < c) ⊎ ((a ≡ c) × (i < j))
-  ports_before k l a c i j p q k_in l_in is at lt = by_order (same_or_not a c) (below_or_not a c)
+  ports_before k l a c i j p q k_in l_in is at lt = by_order (cases_eq a c) (cases_lt a c)
     where
       by_order : (a ≡ c) ⊎ (a ≢ c) → (a < c) ⊎ (c ≤ a) → (a < c) ⊎ ((a ≡ c) × (i < j))
       by_order (inl e) y =

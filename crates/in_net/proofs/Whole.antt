@@ -2,7 +2,7 @@
 use Rattle.std.proofs.Common.{◌≡◌, ◌≢◌, ◌⊎◌, inl, inr, ℕ, zero, suc, ◌+◌, ◌<◌, ◌≤◌, Bool, true, false, ◌&&◌, ◌==◌, cond, nat_lt, List, [], ◌∷◌, ◌++◌, length, length-append, map, Option, Some, None, option_map, option_and_then, slice_get, refl, sym, ◌∙◌, ap, subst, arith, get_or, Contains, ltb-true, ltb-false}
 use Rattle.std.specs.Prelude.{option_to_list}
 use Rattle.std.specs.List.{AllByRecursion, IsDistinct}
-use Rattle.std.proofs.lemmas.Bool.{eqb-true, true≢false, and_from, and_parts, false_from_ne_true}
+use Rattle.std.proofs.lemmas.Bool.{eqb-true, true≢false, and_from, and_parts, false_from_ne_true, cases_eq, cases_lt}
 use Rattle.std.proofs.lemmas.Bool.Decides.{Decides-eqb}
 use Rattle.std.specs.Bool.{one_answer, Decides}
 use Rattle.std.proofs.lemmas.List.{length-map}
@@ -27,7 +27,6 @@ use Rattle.in_net.specs.declared.nets.FreeEnd.{FreeEnd}
 use Rattle.in_net.specs.Built.{HaveFewPorts, IsNumbered, IsReadFrom, AreJoinedTo, AreListedOf}
 use Rattle.in_net.specs.Parts.{Parts, IsWhole, IsWireBetween, as_built, partner_in, wire_in, wire_place_in}
 use Rattle.in_net.proofs.Agents.{length-ends}
-use Rattle.in_net.proofs.Linked.{same_or_not, below_or_not}
 use Rattle.in_net.proofs.Points.{Stands, point_here, partner_stands, partner_back, only_one, partner_at, stands_at, leads_back, never_itself}
 use Rattle.in_base.proofs.Each.{all_append}
 
@@ -144,7 +143,7 @@ module _ (t : Tables) (r : Reading) (links : List Link) (read : (p : Point) (k l
 -- a spot that is joined to a later one has its wire among those found
 found_there : (spots : List Spot) (links : List Link) (from n k : ℕ) → from ≤ k → k < from + n → k < (nth_link links k).to → Contains (wires_from spots links from n) (found_wire spots links k)
 found_there spots links from zero k le lt later = absurd (omega (arith, le, lt))
-found_there spots links from (suc n) k le lt later = by_same (same_or_not k from) (λ x. found_there spots links (from + 1) n k (omega (arith, le, x)) (omega (arith, lt)) later)
+found_there spots links from (suc n) k le lt later = by_same (cases_eq k from) (λ x. found_there spots links (from + 1) n k (omega (arith, le, x)) (omega (arith, lt)) later)
   where
     by_same : (k ≡ from) ⊎ (k ≢ from) → (k ≢ from → Contains (wires_from spots links (from + 1) n) (found_wire spots links k)) → Contains (wires_from spots links from (suc n)) (found_wire spots links k)
     by_same (inl e) next =
@@ -241,7 +240,7 @@ module _ (t : Tables) (free : List FreeEnd) (r : Reading) (links : List Link) (n
   listed_of : (p q : Point) → partner_in net p ≡ Some q → (w : ℕ) × IsWireBetween net w p q
   listed_of p q e =
       let at = stands_at t free r links numbered joined ends wires places p q e in
-      by_side at.0 at.1 at.2 (below_or_not at.0 (nth_link links at.0).to)
+      by_side at.0 at.1 at.2 (cases_lt at.0 (nth_link links at.0).to)
     where
       by_side : (k : ℕ) → Stands r.spots p k → q ≡ partner_of r.spots links k → (k < (nth_link links k).to) ⊎ ((nth_link links k).to ≤ k) → (w : ℕ) × IsWireBetween net w p q
       by_side k stands is (inl later) =
@@ -263,7 +262,7 @@ module _ (t : Tables) (free : List FreeEnd) (r : Reading) (links : List Link) (n
       absurd (let l = f.later in let m = g.later in omega (arith, one, other, l, m))
 
   same_number : (v w : ℕ) (p q : Point) → wire_in net v ≡ Some (p, q) → wire_in net w ≡ Some (p, q) → v ≡ w
-  same_number v w p q a b = by_order (same_or_not v w) (below_or_not v w)
+  same_number v w p q a b = by_order (cases_eq v w) (cases_lt v w)
     where
       f : IsWireAt v p q
       f = wire_at v p q a

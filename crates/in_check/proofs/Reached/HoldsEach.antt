@@ -31,6 +31,12 @@ pub few_tops : {A : Type 0} (sig : Signature) (n : Net A) → IsNet sig n → (x
 few_tops sig n net xs agents p ys tops = few ys xs (tops_different n p ys tops) (λ y a. (agents.all y).0 (tops_live sig n net p ys tops y a))
 
 module _ {A : Type 0} (sig : Signature) (n : Net A) (net : IsNet sig n) (leads : (x : A) → IsSome (n.symbol x) → MeetsPair n x ⊎ ((k : ℕ) × WaitsAt n k x)) (words : Words) (xs : List A) (agents : AreAgents n xs) (queue : List (A × A)) (is_queue : IsQueue n queue) where
+  -- a wire that leads to an auxiliary port or a free end is one variable
+  led : (u : Point A) (s : A → List (TextPart A)) (w : Point A) → IsAuxiliary w → StandsOnce (Variable u w) (term_at s u (Some w))
+  led u s (Port y zero) h = absurd h
+  led u s (Port y (suc i)) h = inl (refl, tt)
+  led u s (Free k) h = inl (refl, tt)
+
   pub variable_once : (u v : Point A) → n.partner u ≡ Some v → IsAuxiliary u → IsAuxiliary v → StandsOnce (Variable u v) (text_parts sig words n (length xs) queue)
   variable_once u v e aux_u aux_v =
       let t = tops_of sig n net leads u (net.points u v e) in
@@ -39,18 +45,8 @@ module _ {A : Type 0} (sig : Signature) (n : Net A) (net : IsNet sig n) (leads :
       (λ d h. shown d v e aux_v) words (length xs) (omega arith) queue is_queue (λ z f. absurd (subst IsAuxiliary f aux_u))
     where
       shown : (d : ℕ) (w : Point A) → n.partner u ≡ Some w → IsAuxiliary w → StandsOnce (Variable u w) (term sig n d u)
-      shown zero w e h = subst (λ o. StandsOnce (Variable u w) (term_at (λ y. []) u o)) (sym e) (at (λ y. []) w h)
-        where
-          at : (s : A → List (TextPart A)) (w : Point A) → IsAuxiliary w → StandsOnce (Variable u w) (term_at s u (Some w))
-          at s (Port y zero) h = absurd h
-          at s (Port y (suc i)) h = inl (refl, tt)
-          at s (Free k) h = inl (refl, tt)
-      shown (suc d) w e h = subst (λ o. StandsOnce (Variable u w) (term_at (agent_term sig n (term sig n d)) u o)) (sym e) (at (agent_term sig n (term sig n d)) w h)
-        where
-          at : (s : A → List (TextPart A)) (w : Point A) → IsAuxiliary w → StandsOnce (Variable u w) (term_at s u (Some w))
-          at s (Port y zero) h = absurd h
-          at s (Port y (suc i)) h = inl (refl, tt)
-          at s (Free k) h = inl (refl, tt)
+      shown zero w e h = subst (λ o. StandsOnce (Variable u w) (term_at (λ y. []) u o)) (sym e) (led u (λ y. []) w h)
+      shown (suc d) w e h = subst (λ o. StandsOnce (Variable u w) (term_at (agent_term sig n (term sig n d)) u o)) (sym e) (led u (agent_term sig n (term sig n d)) w h)
 
   pub agent_once : (x : A) → IsSome (n.symbol x) → StandsOnce (Head x) (text_parts sig words n (length xs) queue)
   agent_once x there =

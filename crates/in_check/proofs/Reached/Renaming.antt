@@ -142,15 +142,12 @@ module _ {A B : Type 0} (sig : Signature) (f : A → B) (n : Net A) (m : Net B) 
           (b.2, (subst (λ y. E (y, p.enter)) (sym b.1) w.1, b.3), subst (λ y. L (y, p.leave)) (sym b.1) w.2, rest.4),
         )
 
+    some_there : (y : B) (i : ℕ) (v : Point B) → m.partner (Port y i) ≡ Some v → IsSome (m.symbol y)
+    some_there y i v e = let s = symbol_of sig (m.symbol y) i (net_renamed.points (Port y i) v e) in is_some (m.symbol y) s.0 s.1
+
     first_node : (y : B) (i : ℕ) (ps : List (Passage B)) (to : B × ℕ) → Walk (graph_of sig m) E L (y, i) ps to → IsSome (m.symbol y)
     first_node y i [] to w = some_there y i (Port to.0 to.1) w
-      where
-        some_there : (y : B) (i : ℕ) (v : Point B) → m.partner (Port y i) ≡ Some v → IsSome (m.symbol y)
-        some_there y i v e = let s = symbol_of sig (m.symbol y) i (net_renamed.points (Port y i) v e) in is_some (m.symbol y) s.0 s.1
     first_node y i (p ∷ ps) to w = some_there y i (Port p.node p.enter) w.0
-      where
-        some_there : (y : B) (i : ℕ) (v : Point B) → m.partner (Port y i) ≡ Some v → IsSome (m.symbol y)
-        some_there y i v e = let s = symbol_of sig (m.symbol y) i (net_renamed.points (Port y i) v e) in is_some (m.symbol y) s.0 s.1
 
     lift_circuit : Circuit (graph_of sig m) E L → Circuit (graph_of sig n) E' L'
     lift_circuit c =
