@@ -16,6 +16,7 @@ use Rattle.in_net.specs.Interactions.{IsStep, redex_at}
 use Rattle.in_net.specs.Nets.{net_of, signature_of}
 use Rattle.in_net.specs.Parts.{Parts, partner_in}
 use Rattle.in_net.specs.Rules.{RuleParts}
+use Rattle.in_net.proofs.Stepping.OneOutcome.{same_option, symbol_of}
 use Rattle.in_run.specs.Inside.{heads_taking}
 use Rattle.in_run.specs.Machines.{is_of, takes, agents_of}
 
@@ -108,9 +109,6 @@ sums after left once full old new one two first second a b c d e f = omega (arit
 
 -- ---- an interaction
 
-symbol_of : Option Cell → Option ℕ
-symbol_of o = option_map (λ (s : SymbolNo). s.0) (option_map (λ (c : Cell). c.symbol) o)
-
 cell_of : (cs : List (Option Cell)) (y s : ℕ) → symbol_of (cell_at cs y) ≡ Some s → (c : Cell) × (cell_at cs y ≡ Some c) × (c.symbol.0 ≡ s)
 unfolding symbol_of
 cell_of cs y s e = go (cell_at cs y) refl e
@@ -118,11 +116,6 @@ cell_of cs y s e = go (cell_at cs y) refl e
     go : (o : Option Cell) → cell_at cs y ≡ o → option_map (λ (s : SymbolNo). s.0) (option_map (λ (c : Cell). c.symbol) o) ≡ Some s → (c : Cell) × (cell_at cs y ≡ Some c) × (c.symbol.0 ≡ s)
     go None is f = cc
     go (Some c) is f = (c, is, cc)
-
-same_option : (o p : Option ℕ) → ((s : ℕ) → o ≡ Some s → p ≡ Some s) → ((s : ℕ) → p ≡ Some s → o ≡ Some s) → o ≡ p
-same_option None None h g = refl
-same_option None (Some x) h g = g x refl
-same_option (Some x) p h g = sym (h x refl)
 
 takes_same : (t : Tables) (class : CellClass) (c d : Option Cell) → symbol_of c ≡ symbol_of d → takes t class c ≡ takes t class d
 unfolding symbol_of

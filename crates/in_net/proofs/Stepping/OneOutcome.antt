@@ -121,7 +121,7 @@ same_frees (f ∷ fs) (g ∷ gs) a b h =
     ∙ ap (λ (z : coded.Point). let e : FreeEnd = record { name = g.name; kind = g.kind; end = z } in e) end in
     ap (λ (z : FreeEnd). z ∷ fs) one ∙ ap (λ (zs : List FreeEnd). g ∷ zs) (same_frees fs gs kinds names (λ k. h (suc k)))
 
-pub symbol_of : Option Cell → Option ℕ
+unfoldable pub symbol_of : Option Cell → Option ℕ
 symbol_of o = option_map (λ (s : SymbolNo). s.0) (option_map (λ (c : Cell). c.symbol) o)
 
 same_parts : (m k : Parts) → m.cells ≡ k.cells → m.free ≡ k.free → m.wires ≡ k.wires → m.places ≡ k.places → m.built ≡ k.built → m ≡ k
