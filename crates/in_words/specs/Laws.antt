@@ -1,0 +1,28 @@
+-- Laws over what the words of a command line ask for.
+use Rattle.std.specs.Prelude.{◌≡◌, ◌++◌, List, [], ◌∷◌, codes}
+use Rattle.clap.specs.Words.{Text}
+use Rattle.in_run.specs.declared.limits.Limits.{Limits}
+use Rattle.in_words.specs.Asking.{AsksFor, Spells, faults}
+use Rattle.in_words.specs.declared.action.Action.{Action}
+use Rattle.in_words.specs.declared.action.Action.TheVariants.{Check, Derive, Run}
+
+-- words ask for one action at most
+abbrev pub WordsAskForOneAction : Type 0
+WordsAskForOneAction = (words : List Text) (a b : Action) → AsksFor words a → AsksFor words b → a ≡ b
+
+-- words in which `clap` finds no error ask for an action
+abbrev pub FaultlessWordsAsk : Type 0
+FaultlessWordsAsk = (words : List Text) → faults words ≡ [] → (a : Action) × AsksFor words a
+
+-- `inet check` and `inet derive` ask for those actions
+abbrev pub SubcommandsAsk : Type 0
+SubcommandsAsk = AsksFor (codes "inet" ∷ codes "check" ∷ []) Check × AsksFor (codes "inet" ∷ codes "derive" ∷ []) Derive
+
+-- `inet run` asks for a run within the usual limits
+abbrev pub RunAsksForTheUsual : Type 0
+RunAsksForTheUsual = (l : Limits) → l.limit ≡ 1000000 → l.cells ≡ 65536 → AsksFor (codes "inet" ∷ codes "run" ∷ []) (Run l)
+
+-- .. and with both options for one within the limits that their texts spell
+abbrev pub RunAsksForTheGiven : Type 0
+RunAsksForTheGiven = (limit cells : Text) (l : Limits) → Spells limit l.limit → Spells cells l.cells
+    → AsksFor (codes "inet" ∷ codes "run" ∷ (codes "--limit=" ++ limit) ∷ (codes "--cells=" ++ cells) ∷ []) (Run l)
