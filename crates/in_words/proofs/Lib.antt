@@ -5,3 +5,4 @@ pub mod Naming
 pub mod Subcommands
 pub mod OneAction
 pub mod Examples
+pub mod Refusals
