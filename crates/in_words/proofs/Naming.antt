@@ -29,8 +29,9 @@ help_command = built_leaf help_shape
 abbrev Asks : Option (Text × List Row) → Type 0
 Asks found = (a : Action) × (name : Text) × (options : List Row) × (found ≡ Some (name, options)) × Names name options a
 
-is_help : (name : Text) → IsNoHelp name → (bytes_eq (codes "help") name || false) ≡ true → ⊥
-is_help name well e = go (bytes_eq (codes "help") name) refl e
+-- the word isn't `help`
+not_help : (name : Text) → IsNoHelp name → (bytes_eq (codes "help") name || false) ≡ true → ⊥
+not_help name well e = go (bytes_eq (codes "help") name) refl e
   where
     go : (b : Bool) → bytes_eq (codes "help") name ≡ b → (b || false) ≡ true → ⊥
     go true is h =
@@ -39,10 +40,12 @@ is_help name well e = go (bytes_eq (codes "help") name) refl e
         cc
     go false is h = cc
 
-at_subcommand : (name : Text) (rest : List Text) (a b c d : Bool) → (d ≡ true → ⊥)
-    → option_map_or (λ s. level_fault s [] nothing_held rest false []) (cond a (Some (plain_shape (codes "check"))) (cond b (Some (plain_shape (codes "derive"))) (cond c (Some run_shape) (cond d (Some help_command) None)))) [] ≡ []
-    → is_some (option_map (λ s. rows_at s rest) (cond a (Some (plain_shape (codes "check"))) (cond b (Some (plain_shape (codes "derive"))) (cond c (Some run_shape) (cond d (Some help_command) None))))) ≡ true
-    → Asks (option_map (λ s. rows_at s rest) (cond a (Some (plain_shape (codes "check"))) (cond b (Some (plain_shape (codes "derive"))) (cond c (Some run_shape) (cond d (Some help_command) None)))))
+-- the first of the four that the word is
+abbrev met_of : Bool → Bool → Bool → Bool → Option Shape
+met_of check derive run help = cond check (Some (plain_shape (codes "check"))) (cond derive (Some (plain_shape (codes "derive"))) (cond run (Some run_shape) (cond help (Some help_command) None)))
+
+at_subcommand : (name : Text) (rest : List Text) (a b c d : Bool) → (d ≡ true → ⊥) → option_map_or (λ s. level_fault s [] nothing_held rest false []) (met_of a b c d) [] ≡ []
+    → is_some (option_map (λ s. rows_at s rest) (met_of a b c d)) ≡ true → Asks (option_map (λ s. rows_at s rest) (met_of a b c d))
 at_subcommand name rest true b c d well none some = (Check, codes "check", _, refl, refl)
 at_subcommand name rest false true c d well none some = (Derive, codes "derive", _, refl, refl)
 at_subcommand name rest false false true d well none some =
@@ -54,7 +57,7 @@ at_subcommand name rest false false false false well none some = cc
 at_stop : (stop : Option (Text × List Text)) → StopsWell stop → entered_fault inet stop ≡ [] → is_some (entered inet stop) ≡ true → Asks (entered inet stop)
 at_stop None well none some = cc
 at_stop (Some p) well none some = at_subcommand p.0 p.1 (bytes_eq (codes "check") p.0 || false) (bytes_eq (codes "derive") p.0 || false) (bytes_eq (codes "run") p.0 || false) (bytes_eq (codes "help") p.0 || false)
-    (is_help p.0 well) none some
+    (not_help p.0 well) none some
 
 -- a subcommand is needed
 needs_one : (rows : List Row) (has : Bool) → check_fault inet.top rows has ≡ [] → has ≡ true

@@ -70,6 +70,7 @@ help_flag = with_index 1 (filled help_rule)
 abbrev pub run_shape : Shape
 run_shape = built_leaf (inherited (built command_line).top run_command.top)
 
+-- the row of an option has what that option takes
 abbrev pub IsGood : Row → Type 0
 IsGood r = (bytes_eq r.id (codes "limit") ≡ true → Fits 0 most_interactions r) × (bytes_eq r.id (codes "cells") ≡ true → Fits least_cells most_cells r)
 
@@ -80,15 +81,15 @@ first_stays : (xs ys : List Text) (t : Text) → slice_get xs 0 ≡ Some t → s
 first_stays [] ys t e = cc
 first_stays (x ∷ xs) ys t e = e
 
-fits_more : (least most : ℕ) (s : ValueSource) (values : List Text) (r : Row) (more : Option ValueSource) → Fits least most r → Fits least most (record r { values = r.values ++ values; source = more })
-fits_more least most s values r more h = record { text = h.text; reading = h.reading; first = first_stays r.values values h.text h.first; passes = h.passes }
+fits_more : (least most : ℕ) (values : List Text) (r : Row) (source : Option ValueSource) → Fits least most r → Fits least most (record r { values = r.values ++ values; source = source })
+fits_more least most values r source h = record { text = h.text; reading = h.reading; first = first_stays r.values values h.text h.first; passes = h.passes }
 
 -- more values, after those that a row has, or else a new row
 values_keep : (id : Text) (how : Reading) (s : ValueSource) (values : List Text) (rows : List Row)
     → IsGood (record { id = id; values = values; count = None; source = Some s; reading = how }) → Good rows → Good (with_values id how s values rows)
 values_keep id how s values rows new h =
     each_at IsGood id (more_values s values) _ rows
-    (λ r g. ((λ e. fits_more _ _ s values r _ (g.0 e), λ e. fits_more _ _ s values r _ (g.1 e)), tt)) (new, tt) h
+    (λ r g. ((λ e. fits_more _ _ values r _ (g.0 e), λ e. fits_more _ _ values r _ (g.1 e)), tt)) (new, tt) h
 
 without_keeps : (id : Text) (rows : List Row) → Good rows → Good (without id rows)
 without_keeps id rows h = each_at IsGood id (λ _. []) [] rows (λ r g. tt) tt h
@@ -149,6 +150,7 @@ default_keeps name usual least most new rows good = go (has_row name rows)
     go true = good
     go false = values_keep name AsWritten DefaultValue (usual ∷ []) rows new good
 
+-- a row of the id is there after values are added to it, and each other row stays
 has_new : (id : Text) (how : Reading) (s : ValueSource) (values : List Text) (rows : List Row) → bytes_eq id id ≡ true → has_row id (with_values id how s values rows) ≡ true
 has_new id how s values [] same = rw same refl
 has_new id how s values (r ∷ rs) same = go (bytes_eq r.id id) refl (has_new id how s values rs same)
@@ -185,6 +187,7 @@ has_still other name usual least most rows has = go (has_row name rows)
     go true = has
     go false = has_kept other name AsWritten DefaultValue (usual ∷ []) rows has
 
+-- the help flag has no usual text
 with_help : (rows : List Row) → with_default rows help_flag ≡ rows
 with_help rows = go (has_row (codes "help") rows)
   where
@@ -194,6 +197,7 @@ with_help rows = go (has_row (codes "help") rows)
 
 -- ---- the numbers
 
+-- the text of the option's row spells a number between the bounds
 row_text_is : (r : Row) (text : Text) → r.reading ≡ AsWritten → slice_get r.values 0 ≡ Some text → row_text r ≡ Some text
 row_text_is r text reading first = rw (reading, first) refl
 

@@ -1,4 +1,4 @@
--- The subcommand that a match has.
+-- What the getters of a match say of its subcommand, and how an error is told.
 use Rattle.std.proofs.Common.{◌≡◌, ◌∙◌, List, Option, Some, None, refl, sym, ap, subst, inl, inr}
 use Rattle.std.specs.Box.{box_value}
 use Rattle.std.specs.Prelude.{codes, option_map}
