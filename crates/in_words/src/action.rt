@@ -1,3 +1,10 @@
+ghost use Rattle.std.specs.Prelude.{◌≡◌, IfErr, IfOk, false};
+ghost use Rattle.clap.specs.Words.{app_of, found_of, kind_of, rows_of, rule_of, subcommand_rows_of};
+ghost use Rattle.clap.specs.Walk.{texts};
+ghost use Rattle.clap.specs.declared.builder.command.Command.TheViews.{out-Command};
+ghost use Rattle.in_words.specs.Asking.{AreGiven, AsksFor, IsNamed, IsRefused, IsTold};
+ghost use Rattle.in_words.specs.CommandLine.{cells_option, command_line, limit_option, run_command};
+
 use clap::error::ErrorKind;
 use clap::{Arg, ArgAction, ArgMatches, Command, value_parser};
 use in_run::Limits;
@@ -30,35 +37,58 @@ pub enum Usage {
 }
 
 impl From<AllocError> for Usage {
+    ghost use Rattle.in_words.specs.declared.action.Usage.TheVariants.{Memory};
+
+    ghost from_gives = { λ _ usage. usage ≡ Memory };
+
     fn from(_error: AllocError) -> Usage {
         Usage::Memory
     }
 }
 
-/// `run` with its options: how many interactions at most, 1,000,000 where it isn't said, and how many cells of each class, 65,536 where
-/// it isn't said. The bounds are those of `Limits`.
-fn run_command<'a>(alloc: Global) -> Result<Command<'a>, AllocError> {
-    let limit = Arg::new(alloc, "limit")
+/// The option `--limit`: how many interactions at most, 1,000,000 where it isn't said.
+fn limit_option<'a>(alloc: Global) -> Arg<'a>
+    ensures rule { rule_of result ≡ limit_option }
+    ensures local { result.global ≡ false }
+{
+    Arg::new(alloc, "limit")
         .long("limit")
         .value_name("N")
         .help("The most interactions, 0 to 1000000000000")
         .action(ArgAction::Set)
         .value_parser(value_parser!(u64).range(0..=1_000_000_000_000))
-        .default_value("1000000");
-    let cells = Arg::new(alloc, "cells")
+        .default_value("1000000")
+}
+
+/// The option `--cells`: how many cells of each class, 65,536 where it isn't said.
+fn cells_option<'a>(alloc: Global) -> Arg<'a>
+    ensures rule { rule_of result ≡ cells_option }
+    ensures local { result.global ≡ false }
+{
+    Arg::new(alloc, "cells")
         .long("cells")
         .value_name("N")
         .help("The cells for agents of each size, 16 to 1048576")
         .action(ArgAction::Set)
         .value_parser(value_parser!(u64).range(16..=1_048_576))
-        .default_value("65536");
-    Command::new(alloc, "run")
-        .about("Reduces the net of the program on standard input, and prints it")
-        .arg(limit)?
-        .arg(cells)
+        .default_value("65536")
 }
 
-fn command<'a>(alloc: Global) -> Result<Command<'a>, AllocError> {
+/// `run` with its options, whose bounds are those of `Limits`.
+fn run_command<'a>(alloc: Global) -> Result<Command<'a>, AllocError>
+    ensures app { IfOk result (λ c. app_of c ≡ run_command) }
+    ensures local { IfOk result (λ c. (out-Command c).has_globals ≡ false) }
+{
+    Command::new(alloc, "run")
+        .about("Reduces the net of the program on standard input, and prints it")
+        .arg(limit_option(alloc))?
+        .arg(cells_option(alloc))
+}
+
+/// The command line: `inet` with its subcommands `check`, `derive` and `run`, of which one is needed.
+fn command<'a>(alloc: Global) -> Result<Command<'a>, AllocError>
+    ensures { IfOk result (λ c. app_of c ≡ command_line) }
+{
     let check = Command::new(alloc, "check").about(
         "Says whether the program on standard input is accepted",
     );
@@ -73,53 +103,61 @@ fn command<'a>(alloc: Global) -> Result<Command<'a>, AllocError> {
         .subcommand(run_command(alloc)?)
 }
 
-fn usage_of(alloc: Global, error: clap::Error) -> Usage {
-    let kind = error.kind();
-    if kind == ErrorKind::OutOfMemory {
-        return Usage::Memory;
-    }
+/// How an error of `clap` is told.
+fn usage_of(alloc: Global, error: clap::Error) -> Usage
+    ensures { IsTold (kind_of error) result }
+{
     match format!(in alloc; "{error}") {
-        Ok(text) if kind == ErrorKind::DisplayHelp => Usage::Help(text),
-        Ok(text) => Usage::Wrong(text),
-        Err(_) => Usage::Memory,
-    }
-}
-
-fn wrong(alloc: Global) -> Usage {
-    match String::from_str(alloc, "no such command\n") {
-        Ok(text) => Usage::Wrong(text),
+        Ok(text) => match error.kind() {
+            ErrorKind::OutOfMemory => Usage::Memory,
+            ErrorKind::DisplayHelp => Usage::Help(text),
+            _ => Usage::Wrong(text),
+        },
         Err(_) => Usage::Memory,
     }
 }
 
 /// The limits of a run, nothing where they are no numbers within their bounds.
-fn limits_of(matches: &ArgMatches) -> Option<Limits> {
-    let limit = matches.get_one::<u64>("limit")?;
-    let cells = matches.get_one::<u64>("cells")?;
+fn limits_of(options: &ArgMatches) -> Option<Limits>
+    ensures { AreGiven (rows_of (found_of options.now)) result }
+{
+    let limit = options.get_one::<u64>("limit")?;
+    let cells = options.get_one::<u64>("cells")?;
     match u32::try_from(cells) {
         Ok(cells) => Limits::new(limit, cells),
         Err(_) => None,
     }
 }
 
-/// What the words ask for; the first is the program's name.
+/// The action that a match names, nothing where it names none.
+fn action_named(matches: &ArgMatches) -> Option<Action>
+    ensures { IsNamed (subcommand_rows_of matches.now) result }
+{
+    let (name, options) = matches.subcommand()?;
+    match name {
+        "check" => Some(Action::Check),
+        "derive" => Some(Action::Derive),
+        "run" => Some(Action::Run(limits_of(options)?)),
+        _ => None,
+    }
+}
+
+/// What the words ask for; the first is the program's name. That is the subcommand which `clap` gives for them, with the numbers of the
+/// texts of its options, or the usual ones where an option is missing.
 ///
-/// Refused as `Wrong` with the text of `clap` where they name no command, have more than one needs, or give a number that
-/// is out of range, as `Help` with its
-/// text where `-h`, `--help` or `help` stands, and for want of memory.
-pub fn action_of(alloc: Global, words: &[&str]) -> Result<Action, Usage> {
-    let command = command(alloc)?;
-    let matches = match command.try_get_matches_from(words) {
-        Ok(matches) => matches,
-        Err(error) => return Err(usage_of(alloc, error)),
-    };
-    match matches.subcommand() {
-        Some(("check", _)) => Ok(Action::Check),
-        Some(("derive", _)) => Ok(Action::Derive),
-        Some(("run", options)) => match limits_of(options) {
-            Some(limits) => Ok(Action::Run(limits)),
-            None => Err(wrong(alloc)),
+/// Refused with the text of `clap` where it finds an error in the words: as `Help` where `-h`, `--help` or `help` stands, and else as
+/// `Wrong`, as where they name no command, have more than one needs, or give a number that is out of range. Refused as `Memory` for want
+/// of memory.
+pub fn action_of(alloc: Global, words: &[&str]) -> Result<Action, Usage>
+    ensures ok { IfOk result (AsksFor (texts words.now)) }
+    ensures err { IfErr result (IsRefused (texts words.now)) }
+{
+    match command(alloc)?.try_get_matches_from(words) {
+        Ok(matches) => match action_named(&matches) {
+            Some(action) => Ok(action),
+            // Words in which `clap` finds no error ask for an action: see `laws`.
+            None => unreachable!(),
         },
-        _ => Err(wrong(alloc)),
+        Err(error) => Err(usage_of(alloc, error)),
     }
 }

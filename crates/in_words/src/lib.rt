@@ -2,5 +2,6 @@
 #![tactic(auto)]
 
 mod action;
+pub mod laws;
 
 pub use action::{Action, Usage, action_of};

@@ -1,0 +1,97 @@
+-- What words that are written out ask for.
+use Rattle.std.proofs.Common.{◌≡◌, ◌<◌, ◌≤◌, ◌^◌, ℕ, ◌++◌, true, false, List, [], ◌∷◌, Some, None, refl, arith, rules}
+use Rattle.std.specs.Prelude.{codes}
+use Rattle.clap.specs.ValueTests.{accepts}
+use Rattle.clap.specs.Walk.{Row, Text}
+use Rattle.clap.specs.Simple.{subcommand_of}
+use Rattle.clap.specs.declared.builder.value_parser.Reading.TheVariants.{AsWritten}
+use Rattle.clap.specs.declared.builder.value_parser.ValueParser.TheVariants.{Unsigned}
+use Rattle.clap.specs.declared.parser.matches.ValueSource.{ValueSource}
+use Rattle.clap.specs.declared.parser.matches.ValueSource.TheVariants.{DefaultValue, CommandLine}
+use Rattle.clap.proofs.OnLiterals.{clap_on_literals}
+use Rattle.clap.proofs.ValueTestLemmas.{Accepts-accepts}
+use Rattle.in_run.specs.Limiting.{least_cells, most_cells, most_interactions}
+use Rattle.in_words.specs.Asking.{Spells, faults}
+use Rattle.in_words.specs.CommandLine.{command_line}
+use Rattle.in_words.specs.Laws.{RunAsksForTheGiven, RunAsksForTheUsual, SubcommandsAsk}
+
+abbrev check_words : List Text
+check_words = codes "inet" ∷ codes "check" ∷ []
+
+abbrev derive_words : List Text
+derive_words = codes "inet" ∷ codes "derive" ∷ []
+
+abbrev run_words : List Text
+run_words = codes "inet" ∷ codes "run" ∷ []
+
+abbrev given_words : Text → Text → List Text
+given_words limit cells = codes "inet" ∷ codes "run" ∷ (codes "--limit=" ++ limit) ∷ (codes "--cells=" ++ cells) ∷ []
+
+abbrev row : Text → Text → ValueSource → Row
+row name text s = record { id = name; values = text ∷ []; count = None; source = Some s; reading = AsWritten }
+
+abbrev usual_rows : List Row
+usual_rows = row (codes "limit") (codes "1000000") DefaultValue ∷ row (codes "cells") (codes "65536") DefaultValue ∷ []
+
+abbrev given_rows : Text → Text → List Row
+given_rows limit cells = row (codes "limit") limit CommandLine ∷ row (codes "cells") cells CommandLine ∷ []
+
+check_taken : faults check_words ≡ []
+unfolding clap_on_literals
+check_taken = refl
+
+check_given : subcommand_of command_line check_words ≡ Some (codes "check", [])
+unfolding clap_on_literals
+check_given = refl
+
+derive_taken : faults derive_words ≡ []
+unfolding clap_on_literals
+derive_taken = refl
+
+derive_given : subcommand_of command_line derive_words ≡ Some (codes "derive", [])
+unfolding clap_on_literals
+derive_given = refl
+
+run_taken : faults run_words ≡ []
+unfolding clap_on_literals
+run_taken = refl
+
+run_given : subcommand_of command_line run_words ≡ Some (codes "run", usual_rows)
+unfolding clap_on_literals
+run_given = refl
+
+both_taken : (limit cells : Text) → accepts false (Unsigned 0 most_interactions) limit ≡ true → accepts false (Unsigned least_cells most_cells) cells ≡ true → faults (given_words limit cells) ≡ []
+unfolding clap_on_literals
+both_taken limit cells is are = rw (is, are) refl
+
+both_given : (limit cells : Text) → subcommand_of command_line (given_words limit cells) ≡ Some (codes "run", given_rows limit cells)
+unfolding clap_on_literals
+both_given limit cells = refl
+
+accepted : (least most n : ℕ) (text : Text) → Spells text n → least ≤ n → n ≤ most → most < 2 ^ 64 → accepts false (Unsigned least most) text ≡ true
+accepted least most n text spells above below few =
+    Accepts-accepts false (Unsigned least most) text (spells.0, omega (arith, spells.1), omega (arith, spells.1), omega (arith, spells.1))
+
+pub named_ask : SubcommandsAsk
+named_ask = (
+  record { name = codes "check"; options = []; taken = check_taken; given = check_given; named = refl },
+  record { name = codes "derive"; options = []; taken = derive_taken; given = derive_given; named = refl },
+)
+
+pub usual_asks : RunAsksForTheUsual
+usual_asks l limit cells = record {
+  name = codes "run";
+  options = usual_rows;
+  taken = run_taken;
+  given = run_given;
+  named = (refl, ((codes "1000000", refl, ((omega arith, search rules), limit)), (codes "65536", refl, ((omega arith, search rules), cells))));
+}
+
+pub given_asks : RunAsksForTheGiven
+given_asks limit cells l is are = record {
+  name = codes "run";
+  options = given_rows limit cells;
+  taken = both_taken limit cells (accepted 0 most_interactions l.limit limit is (omega arith) l.limit_in_range (omega arith)) (accepted least_cells most_cells l.cells cells are l.least l.most (omega arith));
+  given = both_given limit cells;
+  named = (refl, ((limit, refl, is), (cells, refl, are)));
+}
