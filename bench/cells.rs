@@ -197,33 +197,58 @@ impl Arena {
     }
 }
 
+#[inline(always)]
+fn turn(arena: &mut Arena, class: CellClass, number: u32, word: u32, last: u32, ends: &mut [End]) -> Option<u32> {
+    unsafe {
+        *ends.get_unchecked_mut(0) = End::Cell(CellNo(number), 1);
+        *ends.get_unchecked_mut(1) = End::Free(word);
+        *ends.get_unchecked_mut(2) = End::Free(last);
+    }
+    arena.retire(CellNo(number));
+    let mut lease = arena.lease(class)?;
+    lease.write(word, ends);
+    let cell = lease.cell();
+    arena.settle(lease);
+    let one = arena.port(cell, 1);
+    arena.set_port(cell, 2, one);
+    let two = arena.port(cell, 2);
+    arena.set_port(cell, 0, two);
+    Some(arena.symbol(cell))
+}
+
 #[inline(never)]
 fn turns(mut arena: Arena, all: u32, class: CellClass, first: u32, mask: u32, count: u32, ends: &mut [End]) -> u32 {
     let mut last = 0u32;
     let mut place = 0u32;
-    for turn in 0..count {
+    for word in 0..count {
         place = place.wrapping_mul(1_664_525).wrapping_add(1_013_904_223);
         let number = first.wrapping_add(place & mask);
         if number >= all {
             return last;
         }
-        unsafe {
-            *ends.get_unchecked_mut(0) = End::Cell(CellNo(number), 1);
-            *ends.get_unchecked_mut(1) = End::Free(turn);
-            *ends.get_unchecked_mut(2) = End::Free(last);
-        }
-        arena.retire(CellNo(number));
-        let Some(mut lease) = arena.lease(class) else {
+        let Some(read) = turn(&mut arena, class, number, word, last, ends) else {
             return last;
         };
-        lease.write(turn, ends);
-        let cell = lease.cell();
-        arena.settle(lease);
-        let one = arena.port(cell, 1);
-        arena.set_port(cell, 2, one);
-        let two = arena.port(cell, 2);
-        arena.set_port(cell, 0, two);
-        last = last.wrapping_add(arena.symbol(cell));
+        last = last.wrapping_add(read);
+    }
+    last
+}
+
+#[inline(never)]
+fn turns_of_two(mut one: Arena, mut other: Arena, all: u32, mask: u32, count: u32, ends: &mut [End]) -> u32 {
+    let mut last = 0u32;
+    let mut place = 0u32;
+    for word in 0..count {
+        place = place.wrapping_mul(1_664_525).wrapping_add(1_013_904_223);
+        let number = place & mask;
+        if number >= all {
+            return last;
+        }
+        let arena = if place < 0x8000_0000 { &mut one } else { &mut other };
+        let Some(read) = turn(arena, CellClass::Small, number, word, last, ends) else {
+            return last;
+        };
+        last = last.wrapping_add(read);
     }
     last
 }
@@ -252,4 +277,9 @@ fn main() {
         measure("small", cells, CellClass::Small, 0, &mut [End::Free(0); 3]);
         measure("large", cells, CellClass::Large, cells, &mut [End::Free(0); 9]);
     }
+    let cells = 1_048_576;
+    let (one, other) = (full(cells), full(cells));
+    let start = Instant::now();
+    let read = turns_of_two(one, other, cells + cells, cells - 1, TURNS, &mut [End::Free(0); 3]);
+    println!("small-of-two {cells} {TURNS} {} {read}", start.elapsed().as_nanos());
 }

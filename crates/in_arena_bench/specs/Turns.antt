@@ -22,3 +22,8 @@ Keeps a b = length b.states ≡ length a.states
 abbrev pub Renews : ArenaView → Option CellNo → ArenaView → Type 0
 Renews a None b = AreFreeOrLive b
 Renews a (Some c) b = AreLive b × Keeps a b × (c.0 < length b.states)
+
+-- all cells stay live, or one was given up
+abbrev pub Turned : ArenaView → Option ℕ → ArenaView → Type 0
+Turned a None b = AreFreeOrLive b
+Turned a (Some word) b = AreLive b × Keeps a b

@@ -2,20 +2,28 @@
 //! without an argument. `bench/cells` runs it.
 #![tactic(auto)]
 
-ghost use Rattle.std.specs.Prelude.{◌≤◌};
+ghost use Rattle.std.specs.Prelude.{◌≡◌, ◌≤◌, length};
+ghost use Rattle.in_arena.specs.Arenas.{Holds};
 
 mod turns;
 
-use crate::turns::{full, turns};
+use crate::turns::{full, turns, turns_of_two};
 use in_arena::{CellClass, End};
 use std::time::Instant;
 use std::{env, io};
 
 const TURNS: u32 = 20_000_000;
 
-// So many turns over arenas of so many cells, by class, each in a line: the nanoseconds of all turns, and what they read last.
-fn measure(rt: &HostRuntime, cells: u32, mask: u32) -> io::Result<()>
-    requires { cells ≤ 1048576 }
+// So many turns over an arena of so many cells of each class, in a line: the nanoseconds of all turns, and what they read last.
+fn measure(
+    rt: &HostRuntime,
+    name: &str,
+    cells: u32,
+    class: CellClass,
+    first: u32,
+    ends: &mut [End],
+) -> io::Result<()>
+    requires { (cells ≤ 1048576) × Holds class (length ends.old) × (3 ≤ length ends.old) }
 {
     let Some(arena) = full(rt.alloc(), cells)? else {
         return Ok(());
@@ -24,35 +32,49 @@ fn measure(rt: &HostRuntime, cells: u32, mask: u32) -> io::Result<()>
     let read = turns(
         arena,
         cells + cells,
-        CellClass::Small,
-        0,
-        mask,
+        class,
+        first,
+        cells.max(1) - 1,
         TURNS,
-        &mut [End::Free(0); 3],
+        ends,
     );
     let spent = start?.elapsed(rt)?.as_nanos();
-    println!(rt; "small {cells} {TURNS} {spent} {read}")?;
-    let Some(arena) = full(rt.alloc(), cells)? else {
+    println!(rt; "{name} {cells} {TURNS} {spent} {read}")
+}
+
+// The same over the small cells of two arenas.
+fn measure_two(rt: &HostRuntime, name: &str, cells: u32, ends: &mut [End]) -> io::Result<()>
+    requires { (cells ≤ 1048576) × (length ends.old ≡ 3) }
+{
+    let Some(one) = full(rt.alloc(), cells)? else {
+        return Ok(());
+    };
+    let Some(other) = full(rt.alloc(), cells)? else {
         return Ok(());
     };
     let start = Instant::now(rt);
-    let read = turns(
-        arena,
+    let read = turns_of_two(
+        one,
+        other,
         cells + cells,
-        CellClass::Large,
-        cells,
-        mask,
+        CellClass::Small,
+        cells.max(1) - 1,
         TURNS,
-        &mut [End::Free(0); 9],
+        ends,
     );
     let spent = start?.elapsed(rt)?.as_nanos();
-    println!(rt; "large {cells} {TURNS} {spent} {read}")
+    println!(rt; "{name} {cells} {TURNS} {spent} {read}")
 }
 
 fn main(rt: HostRuntime) -> io::Result<()> {
     if env::args(&rt)?.nth(1).is_none() {
         return Ok(());
     }
-    measure(&rt, 256, 255)?;
-    measure(&rt, 1_048_576, 1_048_575)
+    let mut few = [End::Free(0); 3];
+    let mut many = [End::Free(0); 9];
+    for cells in [256, 1_048_576] {
+        measure(&rt, "small", cells, CellClass::Small, 0, &mut few)?;
+        measure(&rt, "large", cells, CellClass::Large, cells, &mut many)?;
+    }
+    measure_two(&rt, "small-of-two", 1_048_576, &mut few)
 }

@@ -1,7 +1,7 @@
 // Turns over the cells of an arena, all of which are live.
 ghost use Rattle.std.specs.Prelude.{◌≡◌, ◌+◌, ◌<◌, ◌≤◌, length, IfOk, IfSome};
 ghost use Rattle.in_arena.specs.Arenas.{Holds};
-ghost use Rattle.in_arena_bench.specs.Turns.{AreLive, AreFreeOrLive, IsFull, Renews, Keeps};
+ghost use Rattle.in_arena_bench.specs.Turns.{AreLive, AreFreeOrLive, IsFull, Renews, Keeps, Turned};
 
 use in_arena::{Arena, CellClass, CellNo, End};
 use std::alloc::{AllocError, Global};
@@ -68,6 +68,25 @@ pub fn full(alloc: Global, cells: u32) -> Result<Option<Arena>, AllocError>
     }
 }
 
+// One turn of a live cell, and what it reads; nothing where no cell could be taken in its place.
+fn turn(
+    arena: &mut Arena,
+    class: CellClass,
+    number: u32,
+    word: u32,
+    last: u32,
+    ends: &mut [End],
+) -> Option<u32>
+    requires { AreLive arena.old × (number < length arena.old.states) × Holds class (length ends.old) × (3 ≤ length ends.old) }
+    ensures { Turned arena.old result arena.new × (length ends.new ≡ length ends.old) }
+{
+    ends[0] = End::Cell(CellNo(number), 1);
+    ends[1] = End::Free(word);
+    ends[2] = End::Free(last);
+    let cell = renew(arena, class, CellNo(number), word, ends)?;
+    Some(mend(arena, cell))
+}
+
 // So many turns over the cells from the first one on, in an order without neighbours.
 #[tactic(auto, using(crate::proofs::Renewed::none_leased, crate::proofs::Renewed::live_free))]
 pub fn turns(
@@ -83,19 +102,50 @@ pub fn turns(
 {
     let mut last = 0u32;
     let mut place = 0u32;
-    for turn in 0..count {
+    for word in 0..count {
         place = place.wrapping_mul(1_664_525).wrapping_add(1_013_904_223);
         let number = first.wrapping_add(place & mask);
         if number >= all {
             return last;
         }
-        ends[0] = End::Cell(CellNo(number), 1);
-        ends[1] = End::Free(turn);
-        ends[2] = End::Free(last);
-        let Some(cell) = renew(&mut arena, class, CellNo(number), turn, ends) else {
+        let Some(read) = turn(&mut arena, class, number, word, last, ends) else {
             return last;
         };
-        last = last.wrapping_add(mend(&mut arena, cell));
+        last = last.wrapping_add(read);
+    }
+    last
+}
+
+// The same over two arenas, about half of the turns in each.
+#[tactic(auto, using(crate::proofs::Renewed::none_leased, crate::proofs::Renewed::live_free))]
+pub fn turns_of_two(
+    mut one: Arena,
+    mut other: Arena,
+    all: u32,
+    class: CellClass,
+    mask: u32,
+    count: u32,
+    ends: &mut [End],
+) -> u32
+    requires { IsFull one all × IsFull other all × Holds class (length ends.old) × (3 ≤ length ends.old) }
+{
+    let mut last = 0u32;
+    let mut place = 0u32;
+    for word in 0..count {
+        place = place.wrapping_mul(1_664_525).wrapping_add(1_013_904_223);
+        let number = place & mask;
+        if number >= all {
+            return last;
+        }
+        let read = if place < 0x8000_0000 {
+            turn(&mut one, class, number, word, last, ends)
+        } else {
+            turn(&mut other, class, number, word, last, ends)
+        };
+        let Some(read) = read else {
+            return last;
+        };
+        last = last.wrapping_add(read);
     }
     last
 }

@@ -1,6 +1,6 @@
 //! Tests of the definitions by which a text is accepted or refused: where `only_refusal` or `only_program` answers a value, the
 //! definitions allow no other answer.
-use crate::only::{only_program, only_refusal};
+use crate::only::{only_one, only_refusal};
 use in_check::Item;
 use in_simple::Step;
 use in_syntax::Code;
@@ -15,7 +15,7 @@ fn refused(alloc: Global, text: &str) -> Option<(Code, u32, u32)> {
 
 /// Whether the net of the text is built by its first wire alone, and the definitions allow no other steps.
 fn is_one_wire(alloc: Global, text: &str) -> Option<bool> {
-    let checked = only_program(alloc, text.as_bytes())?;
+    let checked = only_one(alloc, text)?;
     match checked.certificate(Item::NetItem).steps.as_slice() {
         [Step::Link { wire: 0 }] => Some(true),
         _ => Some(false),

@@ -1,8 +1,9 @@
-use in_check::{Checked, Counts, Item, check};
+use in_check::{Checked, Counts, Item};
 use in_cover::RuleNo;
 use in_simple::{Derivation, Node, OpenNet, Point, Step, verify};
 use in_symbols::SymbolNo;
 use in_syntax::{Code, Fault};
+use in_test_programs::program_of;
 use in_test_texts::{ADDITION, DUPLICATION, SUMS};
 use sqlite_items::Items;
 use std::alloc::Global;
@@ -19,7 +20,7 @@ const DUP: SymbolNo = SymbolNo(3);
 /// The program of numbers, with these rules of addition and this net.
 fn numbers(alloc: Global, addition: &str, net: &str) -> Result<Checked, Fault> {
     let text = format!(in alloc; "{SUMS}{addition}{DUPLICATION}{net}\n")?;
-    check(alloc, text.as_bytes())
+    program_of(alloc, text.as_str())
 }
 
 /// Whether these are the nodes, with the lines and columns that they stand at.
@@ -286,8 +287,8 @@ fn a_stuck_net_is_refused_at_its_first_node(rt: HostRuntime) {
 
 #[test]
 fn a_wire_between_two_outputs_is_refused(rt: HostRuntime) {
-    let text = b"type nat;\nnet (a : nat+, b : nat+) { a ~ b; }\n";
-    match check(rt.alloc(), text) {
+    let text = "type nat;\nnet (a : nat+, b : nat+) { a ~ b; }\n";
+    match program_of(rt.alloc(), text) {
         Err(Fault::Refused(refusal)) => {
             assert!(rt; refusal.code == Code::E10);
             assert_eq!(rt; (refusal.place.line, refusal.place.col), (2, 30));

@@ -1,15 +1,16 @@
-use crate::reducing::reduced;
-use in_check::{Plain, check};
+use crate::reducing::{Order, Reduced, reduced, started};
+use in_check::Checked;
+use in_test_programs::program_of;
 use in_test_texts::{ADDITION, DUPLICATION, ERASURE, SUMS};
-use std::alloc::Global;
+use std::alloc::{AllocError, Global};
 use std::test::Fail;
 
-/// The steps and the agents at the end, taking the first pair first and taking the last one.
-fn both_ways(alloc: Global, text: &str) -> Result<(Option<(u32, u32)>, Option<(u32, u32)>), Fail> {
-    let checked = check(alloc, text.as_bytes())?;
+/// The same of a text's net, first in, first out and with the newest pair first.
+fn both_ways(alloc: Global, text: &str) -> Result<(Reduced, Reduced), Fail> {
+    let checked = program_of(alloc, text)?;
     Ok((
-        reduced(alloc, &checked, false, 100)?,
-        reduced(alloc, &checked, true, 100)?,
+        reduced(alloc, &checked, Order::FirstInFirstOut, 200)?,
+        reduced(alloc, &checked, Order::NewestFirst, 200)?,
     ))
 }
 
@@ -36,6 +37,21 @@ fn the_order_changes_no_count(rt: HostRuntime) -> Result<(), Fail> {
     Ok(())
 }
 
+/// Three, doubled three times: copies and sums go on side by side, so that there are several active pairs to choose from.
+const DOUBLED: &str =
+    "net (r : nat+) {\n  S(S(S(Z))) ~ Dup(a, b); Add(b, c) ~ a;\n  Dup(d, e) ~ c; Add(e, f) ~ d;\n  Dup(g, h) ~ f; Add(h, r) ~ g;\n}\n";
+
+#[test]
+fn the_newest_pair_first_leaves_as_many_agents(rt: HostRuntime) -> Result<(), Fail> {
+    let alloc = rt.alloc();
+    let text = format!(in alloc; "{SUMS}{ADDITION}{DUPLICATION}{DOUBLED}")?;
+    assert_eq!(rt;
+        both_ways(alloc, text.as_str())?,
+        (Some((48, 25)), Some((48, 25)))
+    );
+    Ok(())
+}
+
 #[test]
 fn a_net_waits_at_its_free_ends(rt: HostRuntime) -> Result<(), Fail> {
     let alloc = rt.alloc();
@@ -49,14 +65,28 @@ fn a_net_waits_at_its_free_ends(rt: HostRuntime) -> Result<(), Fail> {
     Ok(())
 }
 
+/// Whether the program's net has so many agents before and after it is reduced, and that ends so.
+fn stays(alloc: Global, text: &str, agents: u32, end: Reduced) -> Result<bool, Fail> {
+    let checked = program_of(alloc, text)?;
+    Ok(stays_in(alloc, &checked, agents, end)?)
+}
+
+/// The same of a program.
+fn stays_in(
+    alloc: Global,
+    checked: &Checked,
+    agents: u32,
+    end: Reduced,
+) -> Result<bool, AllocError> {
+    let before = started(alloc, checked)?;
+    let reduced = reduced(alloc, checked, Order::FirstInFirstOut, 9)?;
+    Ok(before == agents && reduced == end && checked.net().agents() == agents)
+}
+
 #[test]
 fn the_initial_net_is_not_changed(rt: HostRuntime) -> Result<(), Fail> {
     let alloc = rt.alloc();
     let text = format!(in alloc; "{SUMS}{ADDITION}net (r : nat+) {{ Z ~ Add(S(Z), r); }}\n")?;
-    let checked = check(alloc, text.as_bytes())?;
-    let plain = Plain::new(alloc, &checked)?;
-    assert_eq!(rt; plain.net().agents(), checked.net().agents());
-    assert_eq!(rt; reduced(alloc, &checked, false, 9)?, Some((1, 2)));
-    assert_eq!(rt; checked.net().agents(), 4);
+    assert!(rt; stays(alloc, text.as_str(), 4, Some((1, 2)))?);
     Ok(())
 }

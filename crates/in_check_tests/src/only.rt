@@ -37,3 +37,8 @@ pub fn only_program(alloc: Global, text: &[u8]) -> Option<Checked>
     texts_are_checked_once();
     program_in(check(alloc, text))
 }
+
+/// The same program, where what it is the only one of matters no more.
+pub fn only_one(alloc: Global, text: &str) -> Option<Checked> {
+    only_program(alloc, text.as_bytes())
+}

@@ -1,4 +1,4 @@
-//! Reducing a program's net, the first or the last active pair first.
+//! Reducing a program's net, the pair that has waited longest first or the newest one.
 ghost use Rattle.std.specs.Prelude.{◌≡◌, IfOk, IfSome};
 ghost use Rattle.in_net.specs.ActivePairs.{IsActivePair};
 
@@ -6,39 +6,87 @@ use in_check::{Checked, Plain};
 use in_net::{AgentNo, MOST_AGENTS};
 use std::alloc::{AllocError, Global};
 
-/// An active pair of the net, the first one listed or the last one, if there is one.
-fn pair_of(
+/// Two agents of an active pair, the constructor first.
+type Pair = (AgentNo, AgentNo);
+
+/// How many interactions there were until no active pair was left, and how many agents there are then; nothing where the turns were
+/// not enough.
+pub type Reduced = Option<(u32, u32)>;
+
+/// Which pair is taken next.
+#[derive(Clone, Copy)]
+pub enum Order {
+    FirstInFirstOut,
+    NewestFirst,
+}
+
+/// The pairs that waited and are still active, as they came, and then those that are new.
+fn waiting_now(alloc: Global, waiting: &[Pair], active: &[Pair]) -> Result<Vec<Pair>, AllocError> {
+    let mut now = Vec::new(alloc);
+    for pair in waiting {
+        if active.contains(pair) {
+            now.push(*pair)?;
+        }
+    }
+    for pair in active {
+        if !waiting.contains(pair) {
+            now.push(*pair)?;
+        }
+    }
+    Ok(now)
+}
+
+/// The next pair of those that wait, if there is one.
+fn next_of(waiting: &[Pair], order: Order) -> Option<Pair> {
+    let next = match order {
+        Order::FirstInFirstOut => waiting.first()?,
+        Order::NewestFirst => waiting.last()?,
+    };
+    Some(*next)
+}
+
+/// The place of the pair, past the last one where it isn't there.
+fn place_of(active: &[Pair], wanted: Option<Pair>) -> usize {
+    for place in 0..active.len() {
+        if Some(active[place]) == wanted {
+            return place;
+        }
+    }
+    active.len()
+}
+
+/// The next pair of the net, if there is one; those that wait are afterwards its active pairs.
+fn next_pair(
     alloc: Global,
     checked: &Checked,
     plain: &Plain,
-    last: bool,
-) -> Result<Option<(AgentNo, AgentNo)>, AllocError>
+    waiting: &mut Vec<Pair>,
+    order: Order,
+) -> Result<Option<Pair>, AllocError>
     requires { plain.now.program ≡ checked.now }
     ensures { IfOk result (λ found. IfSome found (λ q. IsActivePair checked.now.tables plain.now.net q)) }
 {
     let pairs = plain.net().active_pairs(alloc, checked.symbols())?;
-    let at = if last {
-        pairs.len().saturating_sub(1)
-    } else {
-        0
-    };
+    *waiting = waiting_now(alloc, waiting.as_slice(), pairs.as_slice())?;
+    let at = place_of(pairs.as_slice(), next_of(waiting.as_slice(), order));
     match pairs.get(at) {
         Some(pair) => Ok(Some(*pair)),
         None => Ok(None),
     }
 }
 
-/// One interaction at that pair; whether there was one.
+/// One interaction at the next pair; whether there was one.
 pub fn step(
     alloc: Global,
     checked: &Checked,
     plain: &mut Plain,
-    last: bool,
+    waiting: &mut Vec<Pair>,
+    order: Order,
 ) -> Result<bool, AllocError>
     requires { plain.old.program ≡ checked.now }
     ensures { plain.new.program ≡ checked.now }
 {
-    let Some((a, b)) = pair_of(alloc, checked, plain, last)? else {
+    let Some((a, b)) = next_pair(alloc, checked, plain, waiting, order)? else {
         return Ok(false);
     };
     let Some(symbol) = plain.net().symbol(a) else {
@@ -51,17 +99,23 @@ pub fn step(
     Ok(true)
 }
 
-/// How many interactions there were until no active pair was left, and how many agents there are then; nothing where so many turns
-/// were not enough.
+/// How many agents the net is reduced from.
+pub fn started(alloc: Global, checked: &Checked) -> Result<u32, AllocError> {
+    let plain = Plain::new(alloc, checked)?;
+    Ok(plain.net().agents())
+}
+
+/// Reduces the program's net for so many turns at most.
 pub fn reduced(
     alloc: Global,
     checked: &Checked,
-    last: bool,
+    order: Order,
     turns: u32,
-) -> Result<Option<(u32, u32)>, AllocError> {
+) -> Result<Reduced, AllocError> {
     let mut plain = Plain::new(alloc, checked)?;
+    let mut waiting = Vec::new(alloc);
     for steps in 0..turns {
-        if !step(alloc, checked, &mut plain, last)? {
+        if !step(alloc, checked, &mut plain, &mut waiting, order)? {
             return Ok(Some((steps, plain.net().agents())));
         }
     }

@@ -1,4 +1,4 @@
-//! The tests of nets, rules and interactions, and of their types, over public calls. Each module is named after what it tests.
+//! The tests of nets, rules and interactions, and of their types, over public calls. Each module of tests is named after what it tests.
 #![tactic(auto)]
 
 #[cfg(test)]
@@ -7,3 +7,7 @@ mod of_in_net;
 mod of_in_typing;
 #[cfg(test)]
 mod of_interactions;
+pub mod pairs;
+pub mod stepping;
+pub mod texts;
+pub mod types;

@@ -1,24 +1,11 @@
-ghost use Rattle.std.specs.Prelude.{◌≡◌, ◌++◌, map, IfOk, IfSome};
-ghost use Rattle.in_syntax.specs.Order.{IsWrittenInOrder};
-ghost use Rattle.in_syntax.specs.Sizes.{IsSized};
-ghost use Rattle.in_symbols.specs.Tables.{IsTabled};
-ghost use Rattle.in_net.specs.ActivePairs.{AreActive};
-ghost use Rattle.in_net.specs.Built.{IsOver};
-ghost use Rattle.in_net.specs.Rules.{IsRuleOver, auxiliary_types};
-
-use in_net::{AgentNo, MOST_AGENTS, Net, Point, Rule, build_net, build_rule, made};
-use in_symbols::{SymbolNo, Symbols};
-use in_syntax::{Code, Fault, Refusal, Source, parse};
+use crate::pairs::makes;
+use crate::texts::{first_rule, net_of};
+use in_net::{AgentNo, Net, Point, Rule};
+use in_symbols::SymbolNo;
+use in_syntax::{Code, Fault, Refusal};
 use in_test_texts::{ADDITION, DUPLICATION, SUMS};
-use std::alloc::{AllocError, Global};
+use std::alloc::Global;
 use std::test::Fail;
-
-/// The net of a program, or its refusal.
-fn net_of(alloc: Global, text: &str) -> Result<Net, Fault> {
-    let source = parse(alloc, text.as_bytes())?;
-    let symbols = Symbols::build(alloc, &source)?;
-    build_net(alloc, &source, &symbols)
-}
 
 /// The refusal's code, line and column.
 fn refused(alloc: Global, text: &str) -> Option<(Code, u32, u32)> {
@@ -64,15 +51,19 @@ fn a_sum_has_six_wires(rt: HostRuntime) -> Result<(), Fail> {
     Ok(())
 }
 
+/// Whether the net is one wire from the free end to the agent, at the last of its equations.
+fn is_one_wire(net: &Net) -> bool {
+    net.is_built()
+        && net.wires() == 1
+        && net.wire(0) == (Point::Free(0), Point::Port(AgentNo(0), 0))
+        && net.wire_place(0).col == 41
+}
+
 #[test]
 fn a_wire_runs_over_many_equations(rt: HostRuntime) -> Result<(), Fail> {
     let text = "type nat;\nsymbol Z : nat+;\nnet (r : nat+) { a ~ b; b ~ c; r ~ a; c ~ Z; }";
-    let source = parse(rt.alloc(), text.as_bytes())?;
-    let symbols = Symbols::build(rt.alloc(), &source)?;
-    let net = build_net(rt.alloc(), &source, &symbols)?;
-    assert_eq!(rt; net.wires(), 1);
-    assert_eq!(rt; net.wire(0), (Point::Free(0), Point::Port(AgentNo(0), 0)));
-    assert_eq!(rt; net.wire_place(0).col, 41);
+    let net = net_of(rt.alloc(), text)?;
+    assert!(rt; is_one_wire(&net));
     Ok(())
 }
 
@@ -96,16 +87,6 @@ fn each_fault_of_a_net_is_answered_at_its_place(rt: HostRuntime) -> Result<(), F
         assert_eq!(rt; refused(rt.alloc(), text.as_str()), Some((code, 5, col)));
     }
     Ok(())
-}
-
-/// The first rule of a program, or its refusal; want of memory where there is none.
-fn first_rule(alloc: Global, text: &str) -> Result<Option<Rule>, Fault> {
-    let source = parse(alloc, text.as_bytes())?;
-    let symbols = Symbols::build(alloc, &source)?;
-    if source.rules.len() == 0 {
-        return Ok(None);
-    }
-    Ok(Some(build_rule(alloc, &source, &symbols, 0)?))
 }
 
 /// Whether the right member is that of the rule of S and Add, with its ends at S's place first.
@@ -132,19 +113,28 @@ fn has_its_wires(member: &Net) -> bool {
         && member.wire(3) == (Point::Port(AgentNo(0), 2), Point::Port(AgentNo(1), 1))
 }
 
+/// Whether the rule is written with these heads and has these, and they stand at these columns.
+fn has_heads(rule: &Rule, written: (u32, u32), heads: (u32, u32), columns: (u32, u32)) -> bool {
+    rule.written() == (SymbolNo(written.0), SymbolNo(written.1))
+        && rule.heads() == (SymbolNo(heads.0), SymbolNo(heads.1))
+        && (rule.head_place(0).col, rule.head_place(1).col) == columns
+}
+
 #[test]
 fn a_rule_is_read_back(rt: HostRuntime) -> Result<(), Fail> {
     let text = format!(in rt.alloc(); "{SUMS}rule S[Add(y, t)] >< Add[y, S(t)];\nnet () {{ }}")?;
     let Some(rule) = first_rule(rt.alloc(), text.as_str())? else {
         return Err(Fail::new("no rule"));
     };
-    assert_eq!(rt; rule.written(), (SymbolNo(1), SymbolNo(2)));
-    assert_eq!(rt; rule.heads(), (SymbolNo(1), SymbolNo(2)));
-    assert_eq!(rt; rule.head_place(0).col, 6);
-    assert_eq!(rt; rule.head_place(1).col, 22);
+    assert!(rt; has_heads(&rule, (1, 2), (1, 2), (6, 22)));
     assert!(rt; is_the_member(rule.member()));
     assert!(rt; has_its_wires(rule.member()));
     Ok(())
+}
+
+/// Whether the right member has three free ends, and its first agent is of this symbol.
+fn begins_with(member: &Net, symbol: SymbolNo) -> bool {
+    member.free_ends() == 3 && member.symbol(AgentNo(0)) == Some(symbol)
 }
 
 #[test]
@@ -153,102 +143,9 @@ fn the_ends_of_the_constructor_come_first(rt: HostRuntime) -> Result<(), Fail> {
     let Some(rule) = first_rule(rt.alloc(), text.as_str())? else {
         return Err(Fail::new("no rule"));
     };
-    assert_eq!(rt; rule.written(), (SymbolNo(2), SymbolNo(1)));
-    assert_eq!(rt; rule.heads(), (SymbolNo(1), SymbolNo(2)));
-    assert_eq!(rt; rule.head_place(0).col, 6);
-    assert_eq!(rt; rule.member().free_ends(), 3);
-    assert!(rt; rule.member().symbol(AgentNo(0)) == Some(SymbolNo(1)));
+    assert!(rt; has_heads(&rule, (2, 1), (1, 2), (6, 22)));
+    assert!(rt; begins_with(rule.member(), SymbolNo(1)));
     Ok(())
-}
-
-/// Whether `made` answers these pairs, where the rule is the one for this active pair.
-fn makes_at(
-    alloc: Global,
-    symbols: &Symbols,
-    net: &Net,
-    rule: &Rule,
-    pair: (AgentNo, AgentNo),
-    expected: &[(u32, u32)],
-) -> Result<bool, AllocError>
-    requires over { IsOver symbols.now net.now }
-    requires rule { IsRuleOver symbols.now rule.now }
-    requires declared { map (λ f. f.kind) rule.now.member.free ≡ auxiliary_types symbols.now rule.now.heads.0.0 ++ auxiliary_types symbols.now rule.now.heads.1.0 }
-    requires active { AreActive net.now pair.0 pair.1 }
-{
-    let (first, second) = rule.heads();
-    if net.agents() > MOST_AGENTS {
-        return Ok(false);
-    }
-    match (net.symbol(pair.0), net.symbol(pair.1)) {
-        (Some(one), Some(two)) if one.0 == first.0 && two.0 == second.0 => {
-            let pairs = made(alloc, symbols, net, rule, pair.0, pair.1)?;
-            Ok(are_the_pairs(pairs.as_slice(), expected))
-        }
-        _ => Ok(false),
-    }
-}
-
-/// Whether these are the pairs of these numbers.
-fn are_the_pairs(pairs: &[(AgentNo, AgentNo)], expected: &[(u32, u32)]) -> bool {
-    if pairs.len() != expected.len() {
-        return false;
-    }
-    for index in 0..pairs.len() {
-        let (one, other) = pairs[index];
-        if (one.0, other.0) != expected[index] {
-            return false;
-        }
-    }
-    true
-}
-
-/// The first active pair, if there is one.
-fn first_pair(
-    alloc: Global,
-    symbols: &Symbols,
-    net: &Net,
-) -> Result<Option<(AgentNo, AgentNo)>, AllocError>
-    requires { IsOver symbols.now net.now }
-    ensures { IfOk result (λ found. IfSome found (λ pair. AreActive net.now pair.0 pair.1)) }
-{
-    let pairs = net.active_pairs(alloc, symbols)?;
-    if pairs.len() == 0 {
-        return Ok(None);
-    }
-    Ok(Some(pairs[0]))
-}
-
-/// The same of the first rule of a program and the first active pair of its net.
-fn makes_first(
-    alloc: Global,
-    source: &Source,
-    symbols: &Symbols,
-    net: &Net,
-    expected: &[(u32, u32)],
-) -> Result<bool, Fault>
-    requires over { IsOver symbols.now net.now }
-    requires sized { IsSized source.now }
-    requires order { IsWrittenInOrder source.now }
-    requires tabled { IsTabled source.now symbols.now }
-{
-    if source.rules.len() == 0 {
-        return Ok(false);
-    }
-    match first_pair(alloc, symbols, net)? {
-        Some(pair) => {
-            let rule = build_rule(alloc, source, symbols, 0)?;
-            Ok(makes_at(alloc, symbols, net, &rule, pair, expected)?)
-        }
-        None => Ok(false),
-    }
-}
-
-/// The same of the text of the program.
-fn makes(alloc: Global, text: &str, expected: &[(u32, u32)]) -> Result<bool, Fault> {
-    let source = parse(alloc, text.as_bytes())?;
-    let symbols = Symbols::build(alloc, &source)?;
-    let net = build_net(alloc, &source, &symbols)?;
-    makes_first(alloc, &source, &symbols, &net, expected)
 }
 
 #[test]

@@ -1,25 +1,12 @@
-use in_net::{build_net, build_rule};
-use in_symbols::Symbols;
-use in_syntax::{Code, Fault, Refusal, parse};
+use crate::types::{net_typed, rule_typed};
+use in_syntax::{Code, Fault, Refusal};
 use in_test_texts::SUMS;
-use in_typing::{type_net, type_rule};
 use std::alloc::Global;
 use std::test::Fail;
 
-/// Whether the types of the net fit, or the refusal.
-fn passes(alloc: Global, text: &str) -> Result<(), Fault> {
-    let source = parse(alloc, text.as_bytes())?;
-    let symbols = Symbols::build(alloc, &source)?;
-    let net = build_net(alloc, &source, &symbols)?;
-    match type_net(&symbols, &net) {
-        Ok(()) => Ok(()),
-        Err(refusal) => Err(Fault::Refused(refusal)),
-    }
-}
-
 /// The refusal's code, line and column.
 fn refused(alloc: Global, text: &str) -> Option<(Code, u32, u32)> {
-    match passes(alloc, text) {
+    match net_typed(alloc, text) {
         Err(Fault::Refused(Refusal { code, place, .. })) => Some((code, place.line, place.col)),
         _ => None,
     }
@@ -54,24 +41,9 @@ fn types_and_signs_are_compared(rt: HostRuntime) -> Result<(), Fail> {
 
 /// Where the types of a program's first rule are refused.
 fn rule_refused(alloc: Global, text: &str) -> Option<(Code, u32, u32)> {
-    let answer = match rule_typed(alloc, text) {
-        Err(Fault::Refused(refusal)) => refusal,
-        _ => return None,
-    };
-    Some((answer.code, answer.place.line, answer.place.col))
-}
-
-/// Reads a program's first rule and tests its types.
-fn rule_typed(alloc: Global, text: &str) -> Result<(), Fault> {
-    let source = parse(alloc, text.as_bytes())?;
-    let symbols = Symbols::build(alloc, &source)?;
-    if source.rules.len() == 0 {
-        return Ok(());
-    }
-    let rule = build_rule(alloc, &source, &symbols, 0)?;
-    match type_rule(&symbols, &rule) {
-        Ok(()) => Ok(()),
-        Err(refusal) => Err(Fault::Refused(refusal)),
+    match rule_typed(alloc, text) {
+        Err(Fault::Refused(Refusal { code, place, .. })) => Some((code, place.line, place.col)),
+        _ => None,
     }
 }
 

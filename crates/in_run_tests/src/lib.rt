@@ -1,5 +1,6 @@
-//! The tests of a machine and its runs. Runs themselves are tested by what `inet run` prints of them, in `in_program_tests`.
+//! The tests of a machine and its runs, over public calls. What `inet run` prints of them is tested in `in_program_tests`.
 #![tactic(auto)]
 
 #[cfg(test)]
 mod of_in_run;
+pub mod showing;

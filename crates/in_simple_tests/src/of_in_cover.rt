@@ -1,10 +1,11 @@
 ghost use Rattle.std.specs.Prelude.{◌≡◌, true};
 ghost use Rattle.in_cover.specs.Cover.{IsPair};
 
-use in_check::{Checked, check};
+use in_check::Checked;
 use in_cover::RuleNo;
 use in_symbols::{SymbolNo, Symbols};
 use in_syntax::{Code, Fault, Place, Refusal};
+use in_test_programs::program_of;
 use in_test_texts::SUMS;
 use std::alloc::Global;
 use std::test::Fail;
@@ -42,7 +43,7 @@ fn each_pair_has_the_number_of_its_rule(rt: HostRuntime) -> Result<(), Fail> {
     let text = format!(in alloc;
         "{SUMS}rule S[Add(y, t)] >< Add[y, S(t)];\nrule Add[y, y] >< Z[];\nnet () {{ }}\n"
     )?;
-    let program = check(alloc, text.as_bytes())?;
+    let program = program_of(alloc, text.as_str())?;
     let rows = [
         (0, 2, Some(RuleNo(1))),
         (2, 0, Some(RuleNo(1))),
@@ -62,7 +63,7 @@ fn at(place: Place) -> (u32, u32) {
 
 /// The refusal's code and place, and the other place.
 fn refused(alloc: Global, text: &str) -> Option<(Code, (u32, u32), Option<(u32, u32)>)> {
-    match check(alloc, text.as_bytes()) {
+    match program_of(alloc, text) {
         Err(Fault::Refused(Refusal { code, place, other })) => {
             let other = match other {
                 Some(place) => Some(at(place)),
@@ -132,6 +133,6 @@ fn the_first_pair_without_a_rule_is_refused(rt: HostRuntime) -> Result<(), Fail>
 #[test]
 fn no_pairs_need_no_rule(rt: HostRuntime) -> Result<(), Fail> {
     let text = "type nat, bit;\nsymbol Z : nat+;\nsymbol Not : bit-;\nnet () { }\n";
-    assert_eq!(rt; check(rt.alloc(), text.as_bytes())?.rules(), 0);
+    assert_eq!(rt; program_of(rt.alloc(), text)?.rules(), 0);
     Ok(())
 }

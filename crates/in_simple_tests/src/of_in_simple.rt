@@ -1,9 +1,10 @@
 ghost use Rattle.in_check.specs.Programs.{IsItem};
 
-use in_check::{Checked, Item, check};
+use in_check::{Checked, Item};
 use in_cover::RuleNo;
 use in_simple::{Derivation, OpenNet, Step, StepNumbers, verify};
 use in_syntax::Fault;
+use in_test_programs::program_of;
 use in_test_texts::{ADDITION, DUPLICATION, SUMS};
 use sqlite_items::Items;
 use std::alloc::{AllocError, Global};
@@ -11,7 +12,7 @@ use std::test::Fail;
 
 /// The program of a wire between two free ends.
 fn wire(alloc: Global) -> Result<Checked, Fault> {
-    check(alloc, b"type nat;\nnet (a : nat+, b : nat-) { a ~ b; }\n")
+    program_of(alloc, "type nat;\nnet (a : nat+, b : nat-) { a ~ b; }\n")
 }
 
 /// Whether the steps build the wire.
@@ -149,13 +150,13 @@ fn steps_of_rules(alloc: Global, program: &Checked) -> Result<String, AllocError
 
 /// The steps of each rule of a text.
 fn rules_derived(alloc: Global, text: &str) -> Result<String, Fault> {
-    let program = check(alloc, text.as_bytes())?;
+    let program = program_of(alloc, text)?;
     Ok(steps_of_rules(alloc, &program)?)
 }
 
 /// The steps of a program's net.
 fn net_derived(alloc: Global, text: &str) -> Result<String, Fault> {
-    let program = check(alloc, text.as_bytes())?;
+    let program = program_of(alloc, text)?;
     Ok(steps_of(alloc, &program, Item::NetItem)?)
 }
 

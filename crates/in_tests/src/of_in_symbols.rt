@@ -1,52 +1,66 @@
+use crate::reading::tables_of;
 use in_symbols::{PortType, SymbolNo, Symbols};
-use in_syntax::{Code, Fault, Refusal, parse};
+use in_syntax::{Code, Fault, Refusal};
 use in_test_texts::SUMS;
 use std::alloc::Global;
 use std::test::Fail;
+
+/// Whether these are the tables of numbers and sums.
+fn are_those_of_sums(symbols: &Symbols) -> bool {
+    symbols.types() == 1
+        && symbols.symbols() == 3
+        && symbols.name(SymbolNo(1)) == "S"
+        && symbols.number_of("Add") == Some(SymbolNo(2))
+        && symbols.number_of("nat").is_none()
+        && symbols.is_constructor(SymbolNo(0))
+        && !symbols.is_constructor(SymbolNo(2))
+}
+
+/// Whether the third symbol has two auxiliary ports in two classes, an input and an output.
+fn has_two_classes(symbols: &Symbols) -> bool {
+    let add = SymbolNo(2);
+    symbols.symbols() == 3
+        && symbols.arity(add) == 2
+        && symbols.classes(add) == 2
+        && symbols.class_of(add, 0) == 0
+        && symbols.class_of(add, 2) == 2
+        && is_port(symbols.port(add, 1), false)
+        && is_port(symbols.port(add, 2), true)
+}
+
+/// Whether it is a port of the first type with this sign.
+fn is_port(port: PortType, output: bool) -> bool {
+    port.kind == 0 && port.output == output
+}
+
+/// Where the third symbol's name stands.
+fn place_of_third(symbols: &Symbols) -> Option<(usize, usize, u32, u32)> {
+    if symbols.symbols() < 3 {
+        return None;
+    }
+    let place = symbols.place(SymbolNo(2));
+    Some((place.from, place.to, place.line, place.col))
+}
 
 #[test]
 fn tables_are_the_declarations(rt: HostRuntime) -> Result<(), Fail> {
     let alloc = rt.alloc();
     let text = format!(in alloc; "{SUMS}net () {{ }}\n")?;
-    let symbols = Symbols::build(alloc, &parse(alloc, text.as_bytes())?)?;
-    assert_eq!(rt; symbols.types(), 1);
-    assert_eq!(rt; symbols.symbols(), 3);
-    assert_eq!(rt; symbols.number_of("Add"), Some(SymbolNo(2)));
-    assert_eq!(rt; symbols.number_of("nat"), None);
-    assert_eq!(rt; symbols.name(SymbolNo(1)), "S");
-    assert_eq!(rt; symbols.arity(SymbolNo(2)), 2);
-    assert_eq!(rt; symbols.classes(SymbolNo(2)), 2);
-    assert_eq!(rt; symbols.class_of(SymbolNo(2), 0), 0);
-    assert_eq!(rt; symbols.class_of(SymbolNo(2), 2), 2);
-    let place = symbols.place(SymbolNo(2));
-    assert_eq!(rt;
-        (place.from, place.to, place.line, place.col),
-        (58, 61, 4, 8)
-    );
-    let port = PortType {
-        kind: 0,
-        output: true,
-    };
-    assert_eq!(rt; symbols.port(SymbolNo(2), 2), port);
-    let port = PortType {
-        kind: 0,
-        output: false,
-    };
-    assert_eq!(rt; symbols.port(SymbolNo(2), 1), port);
-    assert!(rt; symbols.is_constructor(SymbolNo(0)));
-    assert!(rt; !symbols.is_constructor(SymbolNo(2)));
+    let symbols = tables_of(alloc, text.as_str())?;
+    assert!(rt; are_those_of_sums(&symbols));
+    assert!(rt; has_two_classes(&symbols));
+    assert_eq!(rt; place_of_third(&symbols), Some((58, 61, 4, 8)));
     Ok(())
 }
 
 /// The refusal's code, line and column, and what stands at its place.
-fn refused(alloc: Global, text: &str) -> Result<Option<(Code, u32, u32, &str)>, Fail> {
-    let source = parse(alloc, text.as_bytes())?;
-    match Symbols::build(alloc, &source) {
+fn refused(alloc: Global, text: &str) -> Option<(Code, u32, u32, &str)> {
+    match tables_of(alloc, text) {
         Err(Fault::Refused(Refusal { code, place, .. })) => {
             let name = text.get(place.from..place.to).unwrap_or("");
-            Ok(Some((code, place.line, place.col, name)))
+            Some((code, place.line, place.col, name))
         }
-        _ => Ok(None),
+        _ => None,
     }
 }
 
@@ -81,7 +95,7 @@ fn each_fault_stands_at_its_name(rt: HostRuntime) -> Result<(), Fail> {
     ];
     for (rest, wanted) in rows {
         let text = format!(in rt.alloc(); "{SUMS}{rest}\n")?;
-        assert_eq!(rt; refused(rt.alloc(), text.as_str())?, Some(wanted));
+        assert_eq!(rt; refused(rt.alloc(), text.as_str()), Some(wanted));
     }
     Ok(())
 }
@@ -125,7 +139,7 @@ fn the_first_fault_in_the_text_is_answered(rt: HostRuntime) -> Result<(), Fail> 
     ];
     for (rest, wanted) in rows {
         let text = format!(in rt.alloc(); "{SUMS}{rest}\n")?;
-        assert_eq!(rt; refused(rt.alloc(), text.as_str())?, Some(wanted));
+        assert_eq!(rt; refused(rt.alloc(), text.as_str()), Some(wanted));
     }
     Ok(())
 }
@@ -139,9 +153,16 @@ fn types_and_symbols_are_two_spaces_of_names(rt: HostRuntime) -> Result<(), Fail
     ];
     for rest in rows {
         let text = format!(in rt.alloc(); "{SUMS}{rest}\n")?;
-        assert_eq!(rt; refused(rt.alloc(), text.as_str())?, None);
+        assert_eq!(rt; refused(rt.alloc(), text.as_str()), None);
     }
     Ok(())
+}
+
+/// Whether the symbols of these two numbers match, where there are two.
+fn do_match(symbols: &Symbols, one: u32, other: u32) -> bool {
+    one < symbols.symbols()
+        && other < symbols.symbols()
+        && symbols.matching(SymbolNo(one), SymbolNo(other))
 }
 
 #[test]
@@ -150,8 +171,7 @@ fn a_constructor_and_a_destructor_of_one_type_match(rt: HostRuntime) -> Result<(
     let text = format!(in alloc;
         "{SUMS}type bit;\nsymbol B : bit+;\nsymbol Not : bit- {{bit+}};\nnet () {{ }}\n"
     )?;
-    let symbols = Symbols::build(alloc, &parse(alloc, text.as_bytes())?)?;
-    assert_eq!(rt; symbols.symbols(), 5);
+    let symbols = tables_of(alloc, text.as_str())?;
     let rows = [
         (0, 2, true),
         (2, 0, true),
@@ -164,10 +184,8 @@ fn a_constructor_and_a_destructor_of_one_type_match(rt: HostRuntime) -> Result<(
         (3, 2, false),
         (4, 0, false),
     ];
-    for (c, d, wanted) in rows {
-        if c < 5 && d < 5 {
-            assert_eq!(rt; symbols.matching(SymbolNo(c), SymbolNo(d)), wanted);
-        }
+    for (one, other, wanted) in rows {
+        assert_eq!(rt; do_match(&symbols, one, other), wanted);
     }
     Ok(())
 }

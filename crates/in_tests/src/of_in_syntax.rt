@@ -1,6 +1,9 @@
 //! The tests of `in_syntax::parse`; those of `tokens` stand in a module of that name.
 
-use in_syntax::{Code, Fault, Name, Place, Term, parse};
+use crate::reading::tree_of;
+use in_syntax::{
+    Code, Equation, Fault, Head, Name, Place, SourceFree, SourcePort, SourceSymbol, Term,
+};
 use std::alloc::Global;
 use std::process::Abort;
 use std::test::Fail;
@@ -13,7 +16,7 @@ fn word_at(text: &str, place: Place) -> usize {
 
 /// The code of a text's fault, and the number of the word at which it stands.
 fn fault(alloc: Global, text: &str) -> Option<(Code, usize)> {
-    match parse(alloc, text.as_bytes()) {
+    match tree_of(alloc, text.as_bytes()) {
         Err(Fault::Refused(refusal)) => Some((refusal.code, word_at(text, refusal.place))),
         _ => None,
     }
@@ -27,82 +30,129 @@ fn is_bare(term: &Term, text: &str) -> bool {
     is_named(&term.name, text) && term.args.is_empty()
 }
 
+/// Whether these are the names of the types.
+fn are_types(names: &[Name], texts: &[&str]) -> bool {
+    if names.len() != texts.len() {
+        return false;
+    }
+    for index in 0..names.len() {
+        if !is_named(&names[index], texts[index]) {
+            return false;
+        }
+    }
+    true
+}
+
+/// Whether the symbol has this name and sign, and so many classes.
+fn is_symbol(symbol: &SourceSymbol, name: &str, output: bool, classes: usize) -> bool {
+    is_named(&symbol.name, name) && symbol.port.output == output && symbol.classes.len() == classes
+}
+
+/// Whether the ports of a class have these signs, and the last one this type.
+fn is_class(class: &[SourcePort], signs: &[bool], kind: &str) -> bool {
+    if class.len() != signs.len() || class.is_empty() {
+        return false;
+    }
+    for index in 0..class.len() {
+        if class[index].output != signs[index] {
+            return false;
+        }
+    }
+    is_named(&class[class.len() - 1].kind, kind)
+}
+
+/// Whether the symbol Add is declared so: an input and an output of nat in a class, an input of list in another.
+fn is_the_sum(symbol: &SourceSymbol) -> bool {
+    let classes = symbol.classes.as_slice();
+    is_symbol(symbol, "Add", false, 2)
+        && classes.len() == 2
+        && is_class(classes[0].as_slice(), &[false, true], "nat")
+        && is_class(classes[1].as_slice(), &[false], "list")
+}
+
 #[test]
 fn declarations(rt: HostRuntime) -> Result<(), Fail> {
     let text =
         "type nat , list ; symbol Z : nat + ; symbol Add : nat - { nat - , nat + } { list - } ; type tree ; net ( ) { }";
-    let source = parse(rt.alloc(), text.as_bytes())?;
-    let types = source.types.as_slice();
-    assert_eq!(rt; types.len(), 3);
-    assert!(rt; is_named(&types[0], "nat"));
-    assert!(rt; is_named(&types[1], "list"));
-    assert!(rt; is_named(&types[2], "tree"));
+    let source = tree_of(rt.alloc(), text.as_bytes())?;
+    assert!(rt; are_types(source.types.as_slice(), &["nat", "list", "tree"]));
     let symbols = source.symbols.as_slice();
     assert_eq!(rt; symbols.len(), 2);
-    assert!(rt; is_named(&symbols[0].name, "Z"));
-    assert!(rt; symbols[0].port.output);
-    assert!(rt; symbols[0].classes.is_empty());
-    assert!(rt; is_named(&symbols[1].name, "Add"));
-    assert!(rt; !symbols[1].port.output);
-    let classes = symbols[1].classes.as_slice();
-    assert_eq!(rt; classes.len(), 2);
-    let first = classes[0].as_slice();
-    assert_eq!(rt; first.len(), 2);
-    assert!(rt; !first[0].output);
-    assert!(rt; first[1].output);
-    let second = classes[1].as_slice();
-    assert_eq!(rt; second.len(), 1);
-    assert!(rt; is_named(&second[0].kind, "list"));
+    assert!(rt; is_symbol(&symbols[0], "Z", true, 0));
+    assert!(rt; is_the_sum(&symbols[1]));
     Ok(())
+}
+
+/// Whether the free end has this name, type and sign.
+fn is_free(free: &SourceFree, name: &str, kind: &str, output: bool) -> bool {
+    is_named(&free.name, name) && is_named(&free.port.kind, kind) && free.port.output == output
+}
+
+/// Whether the term is Add of Z and S of y.
+fn is_add_of_two(term: &Term) -> bool {
+    let arguments = term.args.as_slice();
+    is_named(&term.name, "Add")
+        && arguments.len() == 2
+        && is_bare(&arguments[0], "Z")
+        && is_of_one(&arguments[1], "S", "y")
+}
+
+/// Whether the term has this name and one argument, which is bare.
+fn is_of_one(term: &Term, name: &str, argument: &str) -> bool {
+    let arguments = term.args.as_slice();
+    is_named(&term.name, name) && arguments.len() == 1 && is_bare(&arguments[0], argument)
+}
+
+/// Whether these are the two equations, the first one with its sign at this word.
+fn are_the_equations(text: &str, equations: &[Equation], at: usize) -> bool {
+    equations.len() == 2
+        && is_bare(&equations[0].left, "x")
+        && word_at(text, equations[0].tilde) == at
+        && is_add_of_two(&equations[0].right)
+        && is_bare(&equations[1].left, "y")
+        && is_bare(&equations[1].right, "x")
 }
 
 #[test]
 fn nets(rt: HostRuntime) -> Result<(), Fail> {
     let text = "net ( r : nat + , s : nat - ) { x ~ Add ( Z , S ( y ) ) ; y ~ x ; }";
-    let source = parse(rt.alloc(), text.as_bytes())?;
+    let source = tree_of(rt.alloc(), text.as_bytes())?;
     let free = source.net.free.as_slice();
     assert_eq!(rt; free.len(), 2);
-    assert!(rt; is_named(&free[0].name, "r"));
-    assert!(rt; free[0].port.output);
-    assert!(rt; is_named(&free[1].port.kind, "nat"));
-    let equations = source.net.equations.as_slice();
-    assert_eq!(rt; equations.len(), 2);
-    assert!(rt; is_bare(&equations[0].left, "x"));
-    assert_eq!(rt; word_at(text, equations[0].tilde), 14);
-    assert!(rt; is_named(&equations[0].right.name, "Add"));
-    let arguments = equations[0].right.args.as_slice();
-    assert_eq!(rt; arguments.len(), 2);
-    assert!(rt; is_bare(&arguments[0], "Z"));
-    assert!(rt; is_named(&arguments[1].name, "S"));
-    let inner = arguments[1].args.as_slice();
-    assert_eq!(rt; inner.len(), 1);
-    assert!(rt; is_bare(&inner[0], "y"));
-    assert!(rt; is_bare(&equations[1].right, "x"));
+    assert!(rt; is_free(&free[0], "r", "nat", true));
+    assert!(rt; is_free(&free[1], "s", "nat", false));
+    assert!(rt; are_the_equations(text, source.net.equations.as_slice(), 14));
     Ok(())
+}
+
+/// Whether the head has this name, and so many terms.
+fn is_head(head: &Head, name: &str, terms: usize) -> bool {
+    is_named(&head.name, name) && head.terms.len() == terms
+}
+
+/// Whether the head is S of Add, which has two arguments, and of x.
+fn is_s_of_add(head: &Head) -> bool {
+    let terms = head.terms.as_slice();
+    is_named(&head.name, "S")
+        && terms.len() == 2
+        && is_named(&terms[0].name, "Add")
+        && terms[0].args.len() == 2
+        && is_bare(&terms[1], "x")
 }
 
 #[test]
 fn rules(rt: HostRuntime) -> Result<(), Fail> {
     let text =
         "rule S [ Add ( y , t ) , x ] >< Add [ y ] ; rule Z [ ] >< E [ ] ; type n ; net ( ) { }";
-    let source = parse(rt.alloc(), text.as_bytes())?;
+    let source = tree_of(rt.alloc(), text.as_bytes())?;
     assert_eq!(rt; source.types.len(), 1);
     let rules = source.rules.as_slice();
     assert_eq!(rt; rules.len(), 2);
-    let first = &rules[0].first;
-    assert!(rt; is_named(&first.name, "S"));
-    assert_eq!(rt; word_at(text, first.name.place), 1);
-    let terms = first.terms.as_slice();
-    assert_eq!(rt; terms.len(), 2);
-    assert!(rt; is_named(&terms[0].name, "Add"));
-    assert_eq!(rt; terms[0].args.len(), 2);
-    assert!(rt; is_bare(&terms[1], "x"));
-    let second = &rules[0].second;
-    assert!(rt; is_named(&second.name, "Add"));
-    assert_eq!(rt; second.terms.len(), 1);
-    assert!(rt; is_named(&rules[1].first.name, "Z"));
-    assert!(rt; rules[1].first.terms.is_empty());
-    assert!(rt; is_named(&rules[1].second.name, "E"));
+    assert!(rt; is_s_of_add(&rules[0].first));
+    assert_eq!(rt; word_at(text, rules[0].first.name.place), 1);
+    assert!(rt; is_head(&rules[0].second, "Add", 1));
+    assert!(rt; is_head(&rules[1].first, "Z", 0));
+    assert!(rt; is_head(&rules[1].second, "E", 0));
     Ok(())
 }
 
@@ -170,7 +220,7 @@ fn often(alloc: Global, count: usize, word: &str, between: [&str; 2]) -> Result<
 
 /// How many types, symbols, rules, free names and equations a program has.
 fn lengths(alloc: Global, text: &str) -> Result<[usize; 5], Fault> {
-    let source = parse(alloc, text.as_bytes())?;
+    let source = tree_of(alloc, text.as_bytes())?;
     Ok([
         source.types.len(),
         source.symbols.len(),
@@ -255,38 +305,45 @@ fn limits_of_depth_in_heads(rt: HostRuntime) -> Result<(), Fail> {
 
 #[test]
 fn shortest(rt: HostRuntime) -> Result<(), Fail> {
-    let source = parse(rt.alloc(), b"net(){}")?;
+    let source = tree_of(rt.alloc(), b"net(){}")?;
     assert!(rt; source.types.is_empty());
     assert!(rt; source.net.equations.is_empty());
     Ok(())
 }
 
+/// The code of a text's fault, and the bytes at which it stands.
+fn refused(alloc: Global, text: &[u8]) -> Option<(Code, usize, usize)> {
+    match tree_of(alloc, text) {
+        Err(Fault::Refused(refusal)) => {
+            Some((refusal.code, refusal.place.from, refusal.place.to))
+        }
+        _ => None,
+    }
+}
+
 #[test]
 fn nothing(rt: HostRuntime) {
-    match parse(rt.alloc(), b"       ") {
-        Err(Fault::Refused(refusal)) => assert_eq!(rt; refusal.place.from, 7),
-        _ => assert!(rt; false),
-    }
+    assert_eq!(rt; refused(rt.alloc(), b"       "), Some((Code::E02, 7, 7)));
+}
+
+/// The bytes of a place, its line and its column.
+fn columns(place: Place) -> (usize, usize, u32, u32) {
+    (place.from, place.to, place.line, place.col)
 }
 
 #[test]
 fn parses_a_text(rt: HostRuntime) -> Result<(), Fail> {
     let text = "type ж; # \u{feff} $\nsymbol é : ж+; rule é[x(y)]><é[];\nnet(){\u{3b1}~b;}";
-    let source = parse(rt.alloc(), text.as_bytes())?;
-    let types = source.types.as_slice();
-    assert_eq!(rt; types.len(), 1);
-    assert!(rt; is_named(&types[0], "ж"));
+    let source = tree_of(rt.alloc(), text.as_bytes())?;
+    assert!(rt; are_types(source.types.as_slice(), &["ж"]));
     let rules = source.rules.as_slice();
     assert_eq!(rt; rules.len(), 1);
-    let second = &rules[0].second.name;
-    assert!(rt; is_named(second, "é"));
-    assert_eq!(rt; (second.place.from, second.place.to), (49, 51));
-    assert_eq!(rt; (second.place.line, second.place.col), (2, 30));
+    assert!(rt; is_head(&rules[0].second, "é", 0));
+    assert_eq!(rt; columns(rules[0].second.name.place), (49, 51, 2, 30));
     let equations = source.net.equations.as_slice();
     assert_eq!(rt; equations.len(), 1);
     assert!(rt; is_bare(&equations[0].left, "\u{3b1}"));
-    let tilde = equations[0].tilde;
-    assert_eq!(rt; (tilde.line, tilde.col), (3, 8));
+    assert_eq!(rt; columns(equations[0].tilde), (63, 64, 3, 8));
     Ok(())
 }
 
@@ -305,17 +362,11 @@ fn answers_the_first_fault(rt: HostRuntime) -> Result<(), Fail> {
         (b"", Code::E02, 0, 0),
     ];
     for (text, code, from, to) in cases {
-        match parse(rt.alloc(), text) {
-            Err(Fault::Refused(refusal)) => {
-                assert!(rt; refusal.code == code, "at {text:?}");
-                assert_eq!(rt;
-                    (refusal.place.from, refusal.place.to),
-                    (from, to),
-                    "at {text:?}"
-                );
-            }
-            _ => assert!(rt; false, "at {text:?}"),
-        }
+        assert_eq!(rt;
+            refused(rt.alloc(), text),
+            Some((code, from, to)),
+            "at {text:?}"
+        );
     }
     Ok(())
 }

@@ -1,11 +1,12 @@
 //! The tests of `in_syntax::tokens`.
 
-use in_syntax::{Code, Fault, Place, Refusal, TokenKind, tokens};
+use crate::reading::tokens_of;
+use in_syntax::{Code, Fault, Place, Refusal, TokenKind};
 use std::alloc::Global;
 use std::test::Fail;
 
 fn refusal(alloc: Global, text: &[u8]) -> Option<Refusal> {
-    match tokens(alloc, text) {
+    match tokens_of(alloc, text) {
         Err(Fault::Refused(refusal)) => Some(refusal),
         _ => None,
     }
@@ -28,7 +29,7 @@ fn empty_place(code: Code, at: usize, line: u32, col: u32) -> Option<Refusal> {
 fn reads_each_kind(rt: HostRuntime) -> Result<(), Fail> {
     let text = b"type symbol rule net name types _ , ; : + - { } ( ) [ ] ~ ><";
     let mut kinds = Vec::new(rt.alloc());
-    for token in tokens(rt.alloc(), text)? {
+    for token in tokens_of(rt.alloc(), text)? {
         kinds.push(token.kind)?;
     }
     let expected = [
@@ -54,8 +55,8 @@ fn reads_each_kind(rt: HostRuntime) -> Result<(), Fail> {
         TokenKind::Meets,
     ];
     assert_eq!(rt; kinds.as_slice(), expected.as_slice());
-    assert_eq!(rt; tokens(rt.alloc(), b"net () { }")?.len(), 5);
-    assert_eq!(rt; tokens(rt.alloc(), b"")?.len(), 0);
+    assert_eq!(rt; tokens_of(rt.alloc(), b"net () { }")?.len(), 5);
+    assert_eq!(rt; tokens_of(rt.alloc(), b"")?.len(), 0);
     Ok(())
 }
 
@@ -63,7 +64,7 @@ fn reads_each_kind(rt: HostRuntime) -> Result<(), Fail> {
 fn places_tokens(rt: HostRuntime) -> Result<(), Fail> {
     let text = b"\t\ta1\r\n# a $ comment\n ><b#c\n\n_9";
     let mut places = Vec::new(rt.alloc());
-    for token in tokens(rt.alloc(), text)? {
+    for token in tokens_of(rt.alloc(), text)? {
         let place = token.place;
         places.push((place.from, place.to, place.line, place.col))?;
     }
@@ -77,7 +78,7 @@ fn reads_names_of_any_letters(rt: HostRuntime) -> Result<(), Fail> {
     // the last name has a combining mark, which is a character of its own
     let text = "été _ж \u{3b1}\u{b7}1 e\u{301} # \u{feff}\u{2028} $ \0";
     let mut places = Vec::new(rt.alloc());
-    for token in tokens(rt.alloc(), text.as_bytes())? {
+    for token in tokens_of(rt.alloc(), text.as_bytes())? {
         assert!(rt; token.kind == TokenKind::Name);
         places.push((token.place.from, token.place.to, token.place.col))?;
     }
@@ -128,7 +129,7 @@ fn refuses_the_first_fault(rt: HostRuntime) -> Result<(), Fail> {
 #[test]
 fn limits_names_and_texts(rt: HostRuntime) -> Result<(), Fail> {
     let word = [b'w'; 65];
-    assert_eq!(rt; tokens(rt.alloc(), &word[1..])?.len(), 1);
+    assert_eq!(rt; tokens_of(rt.alloc(), &word[1..])?.len(), 1);
     assert_eq!(rt; refusal(rt.alloc(), &word), empty_place(Code::E03, 0, 1, 1));
     let mut text = word.to_vec(rt.alloc())?;
     text.extend_from_slice(b"\xC3\xA9 $")?;
@@ -140,7 +141,7 @@ fn limits_names_and_texts(rt: HostRuntime) -> Result<(), Fail> {
     for _ in 0..64 {
         letters.extend_from_slice(b"\xD0\xB6")?;
     }
-    assert_eq!(rt; tokens(rt.alloc(), letters.as_slice())?.len(), 1);
+    assert_eq!(rt; tokens_of(rt.alloc(), letters.as_slice())?.len(), 1);
     letters.extend_from_slice(b"\xCC\x81")?;
     assert_eq!(rt;
         refusal(rt.alloc(), letters.as_slice()),
@@ -150,7 +151,7 @@ fn limits_names_and_texts(rt: HostRuntime) -> Result<(), Fail> {
     for _ in 0..524_288 {
         long.extend_from_slice(b"a ")?;
     }
-    assert_eq!(rt; tokens(rt.alloc(), long.as_slice())?.len(), 524_288);
+    assert_eq!(rt; tokens_of(rt.alloc(), long.as_slice())?.len(), 524_288);
     long.push(b'$')?;
     assert_eq!(rt;
         refusal(rt.alloc(), long.as_slice()),

@@ -3,5 +3,5 @@ use Rattle.in_arena.specs.Arenas.{Holds}
 use Rattle.in_arena_bench.specs.Turns.{IsFull}
 use Rattle.in_arena_bench.proofs.turns.turns.Given as goal
 
-abbrev pub invariant-loop-turn : goal.invariant-loop-turn
-invariant-loop-turn l = IsFull l.arena l.all × Holds l.class (length l.ends) × (3 ≤ length l.ends)
+abbrev pub invariant-loop-word : goal.invariant-loop-word
+invariant-loop-word l = IsFull l.arena l.all × Holds l.class (length l.ends) × (3 ≤ length l.ends)

@@ -1,6 +1,6 @@
 use Rattle.std.proofs.Common.{◌<◌, length, refl, arith}
 use Rattle.std.proofs.lemmas.Option.{slice_get_read}
-use Rattle.in_net_tests.proofs.of_interactions.step.Goals as goal
+use Rattle.in_net_tests.proofs.stepping.step.Goals as goal
 
 pub interact_at-requires-clause-active : goal.interact_at-requires-clause-active
 interact_at-requires-clause-active c =

@@ -1,6 +1,6 @@
 use Rattle.std.proofs.Common.{◌<◌, length, refl, arith}
 use Rattle.std.proofs.lemmas.Option.{slice_get_read}
-use Rattle.in_net_tests.proofs.of_in_net.first_pair.Goals as goal
+use Rattle.in_net_tests.proofs.pairs.first_pair.Goals as goal
 
 pub returns : goal.returns
 returns c =
