@@ -244,8 +244,12 @@ fn turns_of_two(mut one: Arena, mut other: Arena, all: u32, mask: u32, count: u3
         if number >= all {
             return last;
         }
-        let arena = if place < 0x8000_0000 { &mut one } else { &mut other };
-        let Some(read) = turn(arena, CellClass::Small, number, word, last, ends) else {
+        let read = if place < 0x8000_0000 {
+            turn(&mut one, CellClass::Small, number, word, last, ends)
+        } else {
+            turn(&mut other, CellClass::Small, number, word, last, ends)
+        };
+        let Some(read) = read else {
             return last;
         };
         last = last.wrapping_add(read);
