@@ -7,11 +7,11 @@ use Rattle.in_symbols.specs.Tables.{Tables, IsTabled}
 use Rattle.in_net.specs.Built.{IsOver}
 use Rattle.in_net.specs.Parts.{Parts}
 use Rattle.in_net.specs.Rules.{RuleParts, IsRuleOver, auxiliary_types}
-use Rattle.in_net_tests.specs.declared.texts.Program.{Program}
+use Rattle.in_syntax.specs.declared.tree.Source.{Source}
 
 -- a tree that was read, with its tables
-abbrev pub IsProgram : Program → Type 0
-IsProgram p = IsSized p.source × IsWrittenInOrder p.source × IsTabled p.source p.symbols × IsFaultless p.source
+abbrev pub IsProgram : Source → Tables → Type 0
+IsProgram s t = IsSized s × IsWrittenInOrder s × IsTabled s t × IsFaultless s
 
 -- a net as built
 abbrev pub IsBuilt : Tables → Parts → Type 0

@@ -7,7 +7,11 @@ mod of_in_net;
 mod of_in_typing;
 #[cfg(test)]
 mod of_interactions;
-pub mod pairs;
-pub mod stepping;
-pub mod texts;
-pub mod types;
+#[cfg(test)]
+mod pairs;
+#[cfg(test)]
+mod stepping;
+#[cfg(test)]
+mod texts;
+#[cfg(test)]
+mod types;

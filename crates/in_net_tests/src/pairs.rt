@@ -75,7 +75,7 @@ fn makes_first(
     net: &Net,
     expected: &[(u32, u32)],
 ) -> Result<bool, Fault>
-    requires program { IsProgram program.now }
+    requires program { IsProgram program.now.source program.now.symbols }
     requires over { IsOver program.now.symbols net.now }
 {
     if program.source.rules.len() == 0 {

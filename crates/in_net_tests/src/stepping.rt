@@ -18,7 +18,7 @@ fn rule_for(
     net: &Net,
     pair: (AgentNo, AgentNo),
 ) -> Result<Option<Rule>, Fault>
-    requires { IsProgram program.now }
+    requires { IsProgram program.now.source program.now.symbols }
     ensures { IfOk result (λ found. IfSome found (IsBuiltRule program.now.symbols)) }
 {
     for number in 0..program.source.rules.len() as u32 {
@@ -60,7 +60,7 @@ fn interact_at(
 
 /// Does the first or the last of the active pairs, if there is one.
 fn step(alloc: Global, program: &Program, net: &mut Net, last: bool) -> Result<bool, Fault>
-    requires program { IsProgram program.now }
+    requires program { IsProgram program.now.source program.now.symbols }
     requires over { IsOver program.now.symbols net.old }
     ensures { OnOk result (IsOver program.now.symbols net.new) }
 {
@@ -94,7 +94,7 @@ fn steps(
     net: &mut Net,
     last: bool,
 ) -> Result<(Items<u32>, bool), Fault>
-    requires program { IsProgram program.now }
+    requires program { IsProgram program.now.source program.now.symbols }
     requires over { IsOver program.now.symbols net.old }
 {
     let mut counts = Items::new(alloc);

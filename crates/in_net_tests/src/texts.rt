@@ -18,7 +18,7 @@ pub struct Program {
 
 /// The program of a text, or its refusal.
 pub fn program_of(alloc: Global, text: &str) -> Result<Program, Fault>
-    ensures { IfOk result IsProgram }
+    ensures { IfOk result (λ p. IsProgram p.source p.symbols) }
 {
     let source = parse(alloc, text.as_bytes())?;
     let symbols = Symbols::build(alloc, &source)?;
@@ -27,7 +27,7 @@ pub fn program_of(alloc: Global, text: &str) -> Result<Program, Fault>
 
 /// The net of a program, or its refusal.
 pub fn net_in(alloc: Global, program: &Program) -> Result<Net, Fault>
-    requires { IsProgram program.now }
+    requires { IsProgram program.now.source program.now.symbols }
     ensures { IfOk result (IsBuilt program.now.symbols) }
 {
     build_net(alloc, &program.source, &program.symbols)
@@ -35,7 +35,7 @@ pub fn net_in(alloc: Global, program: &Program) -> Result<Net, Fault>
 
 /// A rule of a program, by its number, or its refusal.
 pub fn rule_in(alloc: Global, program: &Program, number: u32) -> Result<Rule, Fault>
-    requires program { IsProgram program.now }
+    requires program { IsProgram program.now.source program.now.symbols }
     requires number { number < length program.now.source.rules }
     ensures { IfOk result (IsBuiltRule program.now.symbols) }
 {

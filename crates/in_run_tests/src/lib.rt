@@ -3,4 +3,5 @@
 
 #[cfg(test)]
 mod of_in_run;
-pub mod showing;
+#[cfg(test)]
+mod showing;

@@ -6,6 +6,7 @@
 mod of_in_symbols;
 #[cfg(test)]
 mod of_in_syntax;
-pub mod reading;
+#[cfg(test)]
+mod reading;
 #[cfg(test)]
 mod tokens;
