@@ -1,7 +1,6 @@
 //! The programs that the tests of several crates hold.
 //!
-//! The call promises nothing of its answer, so that a test which holds a program is proved without what `in_check::check` says of it,
-//! which would take the prover a minute in each function.
+//! The call promises nothing of its answer, so that a test which holds a program is proved without what `in_check::check` says of it.
 #![tactic(auto)]
 
 use in_check::{Checked, check};
