@@ -1,5 +1,6 @@
 -- What the typed getter of `clap` reads, as the number of an option.
 use Rattle.std.proofs.Common.{◌≡◌, ℕ, ◌<◌, ◌^◌, Option, Some, None, refl, sym, ◌∙◌, subst, ap, arith, List}
+use Rattle.std.proofs.lemmas.Option.{same_Some}
 use Rattle.std.specs.Prelude.{codes}
 use Rattle.std.specs.Str.Parse.{IsNumeral, without_leading_plus, digits_value}
 use Rattle.clap.specs.Words.{Row, Text, one_text, rows_of}
@@ -9,13 +10,10 @@ use Rattle.in_run.specs.AllowedLimits.{AreLimits}
 use Rattle.in_run.specs.declared.limits.Limits.{Limits}
 use Rattle.in_words.specs.Asking.{AreGiven, IsNumber, Spells}
 
-pub some_once : {X : Type 0} (a b : X) → Some a ≡ Some b → a ≡ b
-some_once a b e = cc
-
 -- an option has one number
 pub number_once : (name : Text) (options : List Row) (n m : ℕ) → IsNumber name options n → IsNumber name options m → n ≡ m
 number_once name options n m (t, is, (digits, value)) (u, are, (more, other)) =
-    value ∙ ap (λ (x : Text). digits_value 10 (without_leading_plus x)) (some_once t u (sym is ∙ are)) ∙ sym other
+    value ∙ ap (λ (x : Text). digits_value 10 (without_leading_plus x)) (same_Some t u (sym is ∙ are)) ∙ sym other
 
 -- a number that was read is that of the option
 pub number_read : (f : Found) (name : Text) (n : ℕ) → (one_text f name ≡ None → ◌≡◌ {A = Option ℕ} (Some n) None)

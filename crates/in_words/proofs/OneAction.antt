@@ -1,5 +1,6 @@
 -- Words ask for one action at most.
 use Rattle.std.proofs.Common.{◌≡◌, ℕ, ◌≤◌, List, refl, sym, ◌∙◌, ap, subst}
+use Rattle.std.proofs.lemmas.Option.{same_Some}
 use Rattle.std.specs.Prelude.{codes}
 use Rattle.std.proofs.Math.Bridge.{le_prop}
 use Rattle.clap.specs.Words.{Row, Text}
@@ -9,7 +10,7 @@ use Rattle.in_words.specs.Asking.{Names}
 use Rattle.in_words.specs.Laws.{WordsAskForOneAction}
 use Rattle.in_words.specs.declared.action.Action.{Action}
 use Rattle.in_words.specs.declared.action.Action.TheVariants.{Check, Derive, Run}
-use Rattle.in_words.proofs.Numbers.{number_once, some_once}
+use Rattle.in_words.proofs.Numbers.{number_once}
 
 abbrev limits_of : (limit cells : ℕ) → limit ≤ most_interactions → least_cells ≤ cells → cells ≤ most_cells → Limits
 limits_of limit cells in_range least most = record { limit = limit; cells = cells; limit_in_range = in_range; least = least; most = most }
@@ -35,5 +36,5 @@ one_name name options (Run l) (Run k) h g =
 
 pub one_action : WordsAskForOneAction
 one_action words a b h g =
-    let same : (h.name, h.options) ≡ (g.name, g.options) = some_once _ _ (sym h.given ∙ g.given) in
+    let same : (h.name, h.options) ≡ (g.name, g.options) = same_Some _ _ (sym h.given ∙ g.given) in
     one_name g.name g.options a b (subst (λ (p : Text × List Row). Names p.0 p.1 a) same h.named) g.named

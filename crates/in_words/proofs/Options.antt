@@ -1,5 +1,6 @@
 -- What the options of `run` have after words with no fault: each a text that its parser takes.
 use Rattle.std.proofs.Common.{◌≡◌, ◌==◌, ◌||◌, ℕ, Bool, true, false, cond, List, [], ◌∷◌, ◌++◌, length, Option, Some, None, refl, sym, ◌∙◌, subst, ◌≤◌, arith}
+use Rattle.std.proofs.lemmas.Option.{same_Some}
 use Rattle.std.specs.Prelude.{codes, slice_get}
 use Rattle.std.proofs.lemmas.Bool.{eqb-true}
 use Rattle.std.specs.Str.{bytes_eq}
@@ -23,7 +24,6 @@ use Rattle.in_run.specs.declared.limits.Limits.{Limits}
 use Rattle.in_words.specs.Asking.{HasLimits, IsNumber}
 use Rattle.in_words.specs.CommandLine.{command_line, number_option, run_command}
 use Rattle.in_words.proofs.Faultless.{AllKeep, Keeps, first_none, settled_keeps, walk_keeps}
-use Rattle.in_words.proofs.Numbers.{some_once}
 
 -- ---- lists of rows
 
@@ -136,9 +136,9 @@ pub options_keep : AllKeep Good (limit_rule ∷ cells_rule ∷ help_flag ∷ [])
 options_keep f a is = go (f limit_rule) (f cells_rule) (f help_flag) is
   where
     go : (x y z : Bool) → cond x (Some limit_rule) (cond y (Some cells_rule) (cond z (Some help_flag) None)) ≡ Some a → Keeps Good a
-    go true y z e = subst (Keeps Good) (some_once _ _ e) (number_keeps (codes "limit") (codes "1000000") 0 most_interactions (limit_row CommandLine))
-    go false true z e = subst (Keeps Good) (some_once _ _ e) (number_keeps (codes "cells") (codes "65536") least_cells most_cells (cells_row CommandLine))
-    go false false true e = subst (Keeps Good) (some_once _ _ e) (λ again values rows good none. good)
+    go true y z e = subst (Keeps Good) (same_Some _ _ e) (number_keeps (codes "limit") (codes "1000000") 0 most_interactions (limit_row CommandLine))
+    go false true z e = subst (Keeps Good) (same_Some _ _ e) (number_keeps (codes "cells") (codes "65536") least_cells most_cells (cells_row CommandLine))
+    go false false true e = subst (Keeps Good) (same_Some _ _ e) (λ again values rows good none. good)
     go false false false e = cc
 
 -- ---- the usual texts, where an option is missing

@@ -1,5 +1,6 @@
 -- What the getters of a match say of its subcommand, and how an error is told.
 use Rattle.std.proofs.Common.{◌≡◌, ◌∙◌, List, Option, Some, None, refl, sym, ap, subst, inl, inr}
+use Rattle.std.proofs.lemmas.Option.{same_Some}
 use Rattle.std.specs.Box.{box_value}
 use Rattle.std.specs.Prelude.{codes, option_map}
 use Rattle.clap.specs.Words.{HasKind, IsAmong, Row, Text, kind_of, subcommand_name_of, subcommand_rows_of, subcommand_rows}
@@ -13,7 +14,6 @@ use Rattle.in_words.specs.declared.action.Action.{Action}
 use Rattle.in_words.specs.declared.action.Action.TheVariants.{Check, Derive, Run}
 use Rattle.in_words.specs.declared.action.Usage.{Usage}
 use Rattle.in_words.specs.declared.action.Usage.TheVariants.{Wrong, Help, Memory}
-use Rattle.in_words.proofs.Numbers.{some_once}
 
 pub name_of_rows : (m : ArgMatches) → subcommand_name_of m ≡ option_map (λ p. p.0) (subcommand_rows_of m)
 name_of_rows m = elim (out-ArgMatches m).subcommand as (λ o. option_map (λ b. (out-SubCommand (box_value b)).name.now) o ≡ option_map (λ p. p.0) (subcommand_rows o)) [
@@ -28,10 +28,10 @@ run_names_none None name options is are no_check no_derive no_limits n o a given
 run_names_none (Some p) name options is are no_check no_derive no_limits n o a given named = go a named
   where
     same : n ≡ name
-    same = ap (λ (q : Text × List Row). q.0) (sym (some_once p (n, o) given)) ∙ sym (some_once name p.0 is)
+    same = ap (λ (q : Text × List Row). q.0) (sym (same_Some p (n, o) given)) ∙ sym (same_Some name p.0 is)
 
     alike : o ≡ options
-    alike = ap (λ (q : Text × List Row). q.1) (sym (some_once p (n, o) given)) ∙ sym (some_once options p.1 are)
+    alike = ap (λ (q : Text × List Row). q.1) (sym (same_Some p (n, o) given)) ∙ sym (same_Some options p.1 are)
 
     go : (a : Action) → Names n o a → ⊥
     go Check h = no_check (sym same ∙ h)
