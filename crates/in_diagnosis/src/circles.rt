@@ -1,0 +1,216 @@
+//! A circle through nodes of an open net.
+use crate::declarations::port;
+use in_simple::{Node, OpenNet, Point};
+use in_syntax::{MAX_PORTS, Source};
+use std::alloc::{AllocError, Global};
+
+/// The most ports of a node.
+const MOST_PORTS: usize = MAX_PORTS + 1;
+
+/// A port of a node.
+type Port = (u32, u8);
+
+/// The wires between ports of nodes, by port.
+#[derive(Drop)]
+pub(crate) struct Wires {
+    ends: Vec<Option<Port>>,
+}
+
+/// Where a port's other end stands in the list.
+fn slot(port: Port) -> usize {
+    let (node, place) = port;
+    (node as usize)
+        .saturating_mul(MOST_PORTS)
+        .saturating_add(place as usize)
+}
+
+impl Wires {
+    fn set(&mut self, from: Port, to: Port) {
+        if let Some(end) = self.ends.get_mut(slot(from)) {
+            *end = Some(to);
+        }
+    }
+
+    /// The other end of the wire at a port, where it is a port.
+    fn end(&self, from: Port) -> Option<Port> {
+        *self.ends.get(slot(from))?
+    }
+
+    /// The wires of an open net.
+    pub(crate) fn of(alloc: Global, open: &OpenNet) -> Result<Wires, AllocError> {
+        let count = (open.nodes() as usize).saturating_mul(MOST_PORTS);
+        let mut wires = Wires {
+            ends: vec![in alloc; None; count]?,
+        };
+        for number in 0..open.wires() {
+            let (one, other) = open.wire(number);
+            if let (Point::Port(a, p), Point::Port(b, q)) = (one, other) {
+                wires.set((a, p), (b, q));
+                wires.set((b, q), (a, p));
+            }
+        }
+        Ok(wires)
+    }
+}
+
+/// The class of a port: each port of a class node is a class by itself.
+fn class_of(source: &Source, open: &OpenNet, at: Port) -> usize {
+    let (node, place) = at;
+    let number = place as usize;
+    if node >= open.nodes() {
+        return number;
+    }
+    match open.node(node) {
+        Node::AgentNode(symbol) => match source.symbols.get(symbol.0 as usize) {
+            Some(symbol) => port(symbol, number)
+                .map(|(class, _)| class)
+                .unwrap_or(number),
+            None => number,
+        },
+        Node::ClassNode(..) => number,
+    }
+}
+
+/// Two ports of a node that are of different classes, and the nodes of a way between them: from the first port to the second.
+#[derive(Drop)]
+pub(crate) struct Circle {
+    pub(crate) first: u8,
+    pub(crate) second: u8,
+    pub(crate) way: Vec<u32>,
+}
+
+/// From which node each node was reached, itself for the first; nothing for those that weren't.
+type Reached = Vec<Option<u32>>;
+
+fn is_reached(reached: &Reached, node: u32) -> bool {
+    matches!(reached.get(node as usize), Some(Some(_)))
+}
+
+fn reach(reached: &mut Reached, node: u32, from: u32) {
+    if let Some(found) = reached.get_mut(node as usize) {
+        *found = Some(from);
+    }
+}
+
+/// Goes on from a node to those of the part that aren't reached yet.
+fn spread(
+    wires: &Wires,
+    part: &[bool],
+    node: u32,
+    reached: &mut Reached,
+    pending: &mut Vec<u32>,
+) -> Result<(), AllocError> {
+    for place in 0..MOST_PORTS as u8 {
+        if let Some((next, _)) = wires.end((node, place)) {
+            let inside = matches!(part.get(next as usize), Some(true));
+            if inside && !is_reached(reached, next) {
+                reach(reached, next, node);
+                pending.push(next)?;
+            }
+        }
+    }
+    Ok(())
+}
+
+/// Which nodes of a part are reached from one of them.
+fn reached_from(
+    alloc: Global,
+    wires: &Wires,
+    part: &[bool],
+    first: u32,
+) -> Result<Reached, AllocError> {
+    let mut reached = vec![in alloc; None; part.len()]?;
+    let mut pending = Vec::new(alloc);
+    reach(&mut reached, first, first);
+    pending.push(first)?;
+    for index in 0..part.len() {
+        match pending.get(index).copied() {
+            Some(node) => spread(wires, part, node, &mut reached, &mut pending)?,
+            None => break,
+        }
+    }
+    Ok(reached)
+}
+
+/// The way by which a node was reached, from the first node to it.
+fn way_to(alloc: Global, reached: &Reached, last: u32) -> Result<Vec<u32>, AllocError> {
+    let mut way = Vec::new(alloc);
+    let mut node = last;
+    for _step in 0..reached.len() {
+        way.push(node)?;
+        match reached.get(node as usize).copied() {
+            Some(Some(from)) if from != node => node = from,
+            _ => break,
+        }
+    }
+    way.reverse();
+    Ok(way)
+}
+
+/// What a circle is looked for in.
+#[derive(Clone, Copy)]
+pub(crate) struct Field<'a> {
+    pub(crate) source: &'a Source,
+    pub(crate) open: &'a OpenNet,
+    pub(crate) wires: &'a Wires,
+    pub(crate) part: &'a [bool],
+}
+
+impl Field<'_> {
+    /// A port of the node, of another class than this one, that is joined to the node itself or to a node that is reached.
+    fn closing(&self, at: Port, reached: &Reached) -> Option<(u8, u32)> {
+        let (node, _) = at;
+        let class = class_of(self.source, self.open, at);
+        for place in 0..MOST_PORTS as u8 {
+            if class_of(self.source, self.open, (node, place)) != class {
+                if let Some((next, _)) = self.wires.end((node, place)) {
+                    if is_reached(reached, next) {
+                        return Some((place, next));
+                    }
+                }
+            }
+        }
+        None
+    }
+
+    /// A circle that leaves a node by this port.
+    fn circle_by(&self, alloc: Global, at: Port) -> Result<Option<Circle>, AllocError> {
+        let (node, first) = at;
+        let Some((next, place)) = self.wires.end(at) else {
+            return Ok(None);
+        };
+        if next == node {
+            let other = class_of(self.source, self.open, (node, place));
+            return Ok(if other == class_of(self.source, self.open, at) {
+                None
+            } else {
+                Some(Circle {
+                    first,
+                    second: place,
+                    way: Vec::new(alloc),
+                })
+            });
+        }
+        if !matches!(self.part.get(next as usize), Some(true)) {
+            return Ok(None);
+        }
+        let reached = reached_from(alloc, self.wires, self.part, next)?;
+        match self.closing(at, &reached) {
+            Some((second, last)) => {
+                let way = way_to(alloc, &reached, last)?;
+                Ok(Some(Circle { first, second, way }))
+            }
+            None => Ok(None),
+        }
+    }
+
+    /// A circle through a node that leaves it and comes back to it by ports of different classes; the node itself is not in the part.
+    pub(crate) fn circle(&self, alloc: Global, node: u32) -> Result<Option<Circle>, AllocError> {
+        for place in 0..MOST_PORTS as u8 {
+            if let Some(circle) = self.circle_by(alloc, (node, place))? {
+                return Ok(Some(circle));
+            }
+        }
+        Ok(None)
+    }
+}

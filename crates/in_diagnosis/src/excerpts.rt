@@ -1,0 +1,132 @@
+//! A line of a text with a mark under a place in it.
+use in_syntax::Place;
+use std::alloc::AllocError;
+use std::str;
+
+/// How many characters of a line are shown before the marked place.
+const BEFORE: usize = 48;
+
+/// How many characters of a line are shown from the beginning of the marked place on.
+const AFTER: usize = 64;
+
+/// The longest front of some bytes that is well-formed UTF-8.
+pub(crate) fn front(bytes: &[u8]) -> &str {
+    match str::from_utf8(bytes) {
+        Ok(text) => text,
+        Err(error) => match bytes.get(..error.valid_up_to()) {
+            Some(front) => str::from_utf8(front).unwrap_or(""),
+            None => "",
+        },
+    }
+}
+
+/// What stands from one byte to another one.
+pub(crate) fn between(text: &[u8], from: usize, to: usize) -> &str {
+    match text.get(from..to) {
+        Some(bytes) => front(bytes),
+        None => "",
+    }
+}
+
+/// A line: what stands before a place in it, at the place, and after it.
+#[derive(Clone, Copy)]
+struct Line<'a> {
+    before: &'a str,
+    marked: &'a str,
+    after: &'a str,
+}
+
+/// Where the line begins in which a byte stands.
+fn line_start(text: &[u8], at: usize) -> usize {
+    let mut start = 0;
+    for (index, byte) in text.iter().enumerate() {
+        if index >= at {
+            break;
+        }
+        if *byte == b'\n' {
+            start = index + 1;
+        }
+    }
+    start
+}
+
+/// Where the line ends in which a byte stands.
+fn line_end(text: &[u8], at: usize) -> usize {
+    for index in at..text.len() {
+        if text[index] == b'\n' {
+            return index;
+        }
+    }
+    text.len()
+}
+
+/// The line in which a place begins.
+fn line_of(text: &[u8], place: Place) -> Line<'_> {
+    let end = line_end(text, place.from);
+    let to = place.to.min(end);
+    Line {
+        before: between(text, line_start(text, place.from), place.from),
+        marked: between(text, place.from, to),
+        after: between(text, to, end).trim_end_matches('\r'),
+    }
+}
+
+/// A character as it is shown: control characters other than tabs would change the screen.
+fn shown(c: char) -> char {
+    if c != '\t' && c.is_control() {
+        '\u{FFFD}'
+    } else {
+        c
+    }
+}
+
+/// What stands above the mark, where this character stands in the line: a tab is as wide below a tab.
+fn blank(c: char) -> char {
+    if c == '\t' { '\t' } else { ' ' }
+}
+
+/// Adds the line, of which so many characters are not shown.
+fn add_line(lines: &mut String, line: &Line, hidden: usize) -> Result<(), AllocError> {
+    if hidden > 0 {
+        lines.push_str("...")?;
+    }
+    for c in line.before.chars().skip(hidden) {
+        lines.push(shown(c))?;
+    }
+    let mut left = AFTER;
+    for c in line.marked.chars().chain(line.after.chars()) {
+        if left == 0 {
+            return lines.push_str("...");
+        }
+        left -= 1;
+        lines.push(shown(c))?;
+    }
+    Ok(())
+}
+
+/// Adds the mark under the line.
+fn add_mark(lines: &mut String, line: &Line, hidden: usize) -> Result<(), AllocError> {
+    if hidden > 0 {
+        lines.push_str("   ")?;
+    }
+    for c in line.before.chars().skip(hidden) {
+        lines.push(blank(c))?;
+    }
+    lines.push('^')?;
+    for _c in line.marked.chars().skip(1).take(AFTER - 1) {
+        lines.push('^')?;
+    }
+    Ok(())
+}
+
+/// Adds the line in which a place begins, with its number, and a mark under the place; a line that is too long for a screen is cut.
+pub(crate) fn add_excerpt(lines: &mut String, text: &[u8], place: Place) -> Result<(), AllocError> {
+    let line = line_of(text, place);
+    let hidden = line.before.chars().count().saturating_sub(BEFORE);
+    let number = place.line;
+    write!(lines, "{number:>5} | ")?;
+    add_line(lines, &line, hidden)?;
+    lines.push_str("\n      | ")?;
+    add_mark(lines, &line, hidden)?;
+    lines.push_str("\n")
+}

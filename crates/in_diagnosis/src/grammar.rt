@@ -1,0 +1,157 @@
+//! What the grammar expects, and its limits.
+use crate::reports::Report;
+use in_syntax::{
+    Expected, Fault, MAX_DEPTH, MAX_FREE_NAMES, MAX_NAME_CHARACTERS, MAX_PORTS, MAX_RULES,
+    MAX_SYMBOLS, MAX_TEXT_BYTES, MAX_TYPES, Part, Place, expected_at_fault,
+};
+use std::alloc::AllocError;
+
+/// What may follow a name alone, or a whole term.
+fn after_term(part: Part, name: bool) -> &'static str {
+    match (part, name) {
+        (Part::Left, true) => "`(` or `~`",
+        (Part::Left, false) => "`~`",
+        (Part::Right, true) => "`(` or `;`",
+        (Part::Right, false) => "`;`",
+        (Part::Head, true) => "`(`, `,` or `]`",
+        (Part::Head, false) => "`,` or `]`",
+        (Part::Agent, true) => "`(`, `,` or `)`",
+        (Part::Agent, false) => "`,` or `)`",
+    }
+}
+
+/// What is expected, in words.
+fn words(expected: Expected) -> &'static str {
+    match expected {
+        Expected::Item => "`type`, `symbol`, `rule` or `net`",
+        Expected::TypeName => "the name of a type",
+        Expected::TypeEnd => "`,` or `;`",
+        Expected::SymbolName => "the name of a symbol",
+        Expected::Colon => "`:`",
+        Expected::PortType => "the name of a port's type",
+        Expected::PortSign => "`+` or `-`",
+        Expected::SymbolEnd => "`{` or `;`",
+        Expected::ClassEnd => "`,` or `}`",
+        Expected::HeadName => "the symbol of a head",
+        Expected::HeadOpen => "`[`",
+        Expected::HeadFirst => "a term or `]`",
+        Expected::Meets => "`><`",
+        Expected::RuleEnd => "`;`",
+        Expected::NetOpen => "`(`",
+        Expected::FreeFirst => "the name of a free end or `)`",
+        Expected::FreeName => "the name of a free end",
+        Expected::FreeEnd => "`,` or `)`",
+        Expected::BodyOpen => "`{`",
+        Expected::Equation => "an equation or `}`",
+        Expected::Term => "a term",
+        Expected::AfterName(part) => after_term(part, true),
+        Expected::AfterTerm(part) => after_term(part, false),
+        Expected::Nothing => "the end of the text",
+    }
+}
+
+/// Whether the grammar has this word for itself.
+fn is_reserved(word: &str) -> bool {
+    matches!(word, "type" | "symbol" | "rule" | "net")
+}
+
+/// What helps where this was found in the place of that.
+fn help_with(expected: Expected, found: &str) -> &'static str {
+    match (expected, found) {
+        (Expected::Term | Expected::HeadFirst, ")") => {
+            "a symbol without auxiliary ports is written without brackets in a term"
+        }
+        (Expected::Term, "]") => "a term is missing after the comma",
+        (Expected::HeadOpen, "(") => "the terms of a head stand in `[` and `]`",
+        (Expected::HeadOpen, _) => "a head has brackets, also where it has no terms: `Z[]`",
+        (Expected::AfterName(_) | Expected::AfterTerm(_), "[") => {
+            "the arguments of an agent stand in `(` and `)`; `[` and `]` are for heads of rules"
+        }
+        (Expected::AfterName(Part::Left) | Expected::AfterTerm(Part::Left), _) => {
+            "an equation is a term, `~`, another term and `;`"
+        }
+        (Expected::AfterName(Part::Right) | Expected::AfterTerm(Part::Right), _) => {
+            "an equation ends with `;`"
+        }
+        (Expected::PortSign, _) =>
+            "a port is a type's name and `+` for an output, `-` for an input",
+        (Expected::SymbolEnd, _) => "auxiliary ports stand in braces, one pair for each class",
+        (Expected::Meets, _) => "a rule is two heads with `><` between them",
+        (Expected::Item, "") => "a program ends with its net: `net (..) { .. }`",
+        (Expected::Nothing, _) => "the net comes last, and there is one",
+        (_, word) if is_reserved(word) => "a reserved word is no name",
+        _ => "look at what stands before it: most often a `;`, a `~` or a bracket is missing",
+    }
+}
+
+/// What is expected at the fault: the text was read before, so only memory may be wanted.
+fn expected_in(report: &Report) -> Result<Expected, AllocError> {
+    match expected_at_fault(report.alloc, report.text) {
+        Ok(expected) => Ok(expected),
+        Err(Fault::Refused(_)) => Ok(Expected::Nothing),
+        Err(Fault::Memory(error)) => Err(error),
+    }
+}
+
+/// No program goes on so.
+pub(crate) fn add_unexpected(report: &mut Report, place: Place) -> Result<(), AllocError> {
+    let expected = expected_in(report)?;
+    let found = report.at(place);
+    let wanted = words(expected);
+    let sentence = if found.is_empty() {
+        format!(in report.alloc; "the text ends here, where {wanted} is expected")?
+    } else {
+        format!(in report.alloc; "unexpected `{found}`, where {wanted} is expected")?
+    };
+    report.wrong(place, sentence.as_str())?;
+    report.help(help_with(expected, found))
+}
+
+/// A text of too many bytes.
+pub(crate) fn add_long_text(report: &mut Report, place: Place) -> Result<(), AllocError> {
+    let bytes = report.text.len();
+    let sentence = format!(in report.alloc;
+        "the text has {bytes} bytes, more than {MAX_TEXT_BYTES}"
+    )?;
+    report.wrong(place, sentence.as_str())
+}
+
+/// A word of too many characters.
+pub(crate) fn add_long_word(report: &mut Report, place: Place) -> Result<(), AllocError> {
+    let sentence = format!(in report.alloc;
+        "this word has more than {MAX_NAME_CHARACTERS} characters"
+    )?;
+    report.wrong(place, sentence.as_str())
+}
+
+/// What there is too much of, and the most of it, where the grammar expects this.
+fn limit(expected: Expected) -> (usize, &'static str) {
+    match expected {
+        Expected::TypeName => (MAX_TYPES, "types"),
+        Expected::SymbolName => (MAX_SYMBOLS, "symbols"),
+        Expected::Item => (MAX_RULES, "rules"),
+        Expected::PortType => (MAX_PORTS, "auxiliary ports of one symbol"),
+        Expected::FreeName => (MAX_FREE_NAMES, "free ends"),
+        _ => (MAX_DEPTH, "terms within each other"),
+    }
+}
+
+/// What helps against too much of it.
+fn limit_help(expected: Expected) -> &'static str {
+    match expected {
+        Expected::Term => {
+            "give an inner term a name: write a variable in its place, and an equation of the two"
+        }
+        Expected::PortType => "let one argument be an agent that holds several",
+        _ => "split the program",
+    }
+}
+
+/// A limit of the grammar that is passed.
+pub(crate) fn add_limit(report: &mut Report, place: Place) -> Result<(), AllocError> {
+    let expected = expected_in(report)?;
+    let (most, what) = limit(expected);
+    let sentence = format!(in report.alloc; "more than {most} {what}")?;
+    report.wrong(place, sentence.as_str())?;
+    report.help(limit_help(expected))
+}

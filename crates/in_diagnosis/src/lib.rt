@@ -1,0 +1,20 @@
+//! What is wrong with a program that is refused, told to people: where it is, what the field calls it, and what helps. The line on standard
+//! output says which fault it is; nothing here changes it.
+#![tactic(auto)]
+
+mod circles;
+mod declarations;
+mod excerpts;
+mod grammar;
+mod letters;
+mod names;
+mod near;
+mod occurrences;
+mod pairs;
+mod reading;
+mod reports;
+mod stuck;
+mod telling;
+mod wires;
+
+pub use telling::diagnosis;

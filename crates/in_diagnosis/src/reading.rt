@@ -1,0 +1,89 @@
+//! A program's tree, its tables, and the open nets of its rules and its net.
+ghost use Rattle.std.specs.Prelude.{◌<◌, length, IfOk, IsTrue};
+ghost use Rattle.in_syntax.specs.Parsing.{IsOfText};
+ghost use Rattle.in_diagnosis.specs.Programs.{IsProgram};
+
+use in_net::{Net, build_net, build_rule};
+use in_simple::{OpenNet, Undone, derive, open_net, open_rule};
+use in_symbols::Symbols;
+use in_syntax::{Fault, Place, Source, parse};
+use sqlite_items::Items;
+use std::alloc::{AllocError, Global};
+
+/// What was read of a text, with its tables.
+#[derive(Drop)]
+pub(crate) struct Program {
+    pub(crate) source: Source,
+    pub(crate) symbols: Symbols,
+}
+
+/// An open net, and the number of the wire at the place that was asked for.
+#[derive(Drop)]
+pub(crate) struct Shape {
+    pub(crate) open: OpenNet,
+    pub(crate) wire: Option<u32>,
+}
+
+/// The tables of a tree, and the tree.
+fn tabled(alloc: Global, source: Source) -> Result<Program, Fault>
+    requires { IsOfText source }
+    ensures { IfOk result (λ p. IsProgram p.source p.symbols) }
+{
+    let symbols = Symbols::build(alloc, &source)?;
+    Ok(Program { source, symbols })
+}
+
+/// The program of a text, or its refusal.
+pub(crate) fn program_of(alloc: Global, text: &[u8]) -> Result<Program, Fault>
+    ensures { IfOk result (λ p. IsProgram p.source p.symbols) }
+{
+    let source = parse(alloc, text)?;
+    tabled(alloc, source)
+}
+
+/// The number of the wire that stands at a place.
+fn wire_at(net: &Net, place: Place) -> Option<u32>
+    requires { IsTrue net.now.built }
+{
+    for number in 0..net.wires() {
+        if net.wire_place(number).from == place.from {
+            return Some(number);
+        }
+    }
+    None
+}
+
+/// The open net of a program's net, or its refusal.
+pub(crate) fn net_shape(alloc: Global, program: &Program, place: Place) -> Result<Shape, Fault>
+    requires { IsProgram program.now.source program.now.symbols }
+{
+    let net = build_net(alloc, &program.source, &program.symbols)?;
+    let wire = wire_at(&net, place);
+    let open = open_net(alloc, &program.symbols, &net)?;
+    Ok(Shape { open, wire })
+}
+
+/// The open net of a program's rule, or its refusal.
+pub(crate) fn rule_shape(
+    alloc: Global,
+    program: &Program,
+    number: u32,
+    place: Place,
+) -> Result<Shape, Fault>
+    requires program { IsProgram program.now.source program.now.symbols }
+    requires number { number < length program.now.source.rules }
+{
+    let rule = build_rule(alloc, &program.source, &program.symbols, number)?;
+    let wire = wire_at(rule.member(), place);
+    let open = open_rule(alloc, &program.symbols, &rule)?;
+    Ok(Shape { open, wire })
+}
+
+/// The nodes of the first part of an open net in which none splits.
+pub(crate) fn stuck_nodes(alloc: Global, open: &OpenNet) -> Result<Items<u32>, AllocError> {
+    match derive(alloc, open) {
+        Ok(_) => Ok(Items::new(alloc)),
+        Err(Undone::Stuck(stuck)) => Ok(stuck.nodes),
+        Err(Undone::Memory(error)) => Err(error),
+    }
+}

@@ -1,0 +1,148 @@
+//! The diagnosis of a program's text.
+ghost use Rattle.in_diagnosis.specs.Programs.{IsProgram};
+
+use crate::grammar::{add_limit, add_long_text, add_long_word, add_unexpected};
+use crate::letters::add_no_token;
+use crate::names::{
+    add_declared_twice, add_occurrences, add_other_arity, add_unknown_symbol, add_unknown_type,
+};
+use crate::occurrences::rule_at;
+use crate::pairs::{add_missing_rule, add_second_rule, add_unmatched};
+use crate::reading::{Program, Shape, net_shape, program_of, rule_shape, stuck_nodes};
+use crate::reports::Report;
+use crate::stuck::add_stuck;
+use crate::wires::{add_closed, add_misfit};
+use in_check::refusal_of;
+use in_net::{MAX_AGENTS, MAX_MEMBER_AGENTS};
+use in_syntax::{Code, Fault, MAX_TEXT_BYTES, Place, Refusal, Source, parse};
+use std::alloc::{AllocError, Global};
+
+/// A fault is want of memory, since the text is read as it was before.
+fn only_memory<T>(found: Result<T, Fault>) -> Result<Option<T>, AllocError> {
+    match found {
+        Ok(found) => Ok(Some(found)),
+        Err(Fault::Refused(_)) => Ok(None),
+        Err(Fault::Memory(error)) => Err(error),
+    }
+}
+
+/// A limit of tokens or of the grammar that is passed.
+fn add_limit_of_text(report: &mut Report, place: Place) -> Result<(), AllocError> {
+    if report.text.len() > MAX_TEXT_BYTES {
+        add_long_text(report, place)
+    } else if place.from == place.to {
+        add_long_word(report, place)
+    } else {
+        add_limit(report, place)
+    }
+}
+
+/// More agents than a right member or the net may have.
+fn add_agents(report: &mut Report, source: &Source, place: Place) -> Result<(), AllocError> {
+    let (most, what) = match rule_at(source, place.from) {
+        Some(_) => (MAX_MEMBER_AGENTS, "right member of a rule"),
+        None => (MAX_AGENTS, "net"),
+    };
+    let sentence = format!(in report.alloc; "more than {most} agents in the {what}")?;
+    report.wrong(place, sentence.as_str())
+}
+
+/// What the tokens or the grammar refuse.
+fn add_text_fault(report: &mut Report, refusal: Refusal) -> Result<(), AllocError> {
+    match refusal.code {
+        Code::E01 => add_no_token(report, refusal.place),
+        Code::E02 => add_unexpected(report, refusal.place),
+        _ => add_limit_of_text(report, refusal.place),
+    }
+}
+
+/// The open net of the rule or of the net in which a place stands.
+fn shape_at(alloc: Global, program: &Program, place: Place) -> Result<Option<Shape>, AllocError>
+    requires { IsProgram program.now.source program.now.symbols }
+{
+    let count = program.source.rules.len();
+    let number = rule_at(&program.source, place.from).and_then(|number| u32::try_from(number).ok());
+    match number {
+        Some(number) if (number as usize) < count => {
+            only_memory(rule_shape(alloc, program, number, place))
+        }
+        _ => only_memory(net_shape(alloc, program, place)),
+    }
+}
+
+/// The open net in which a place stands, where the text is read as it was before.
+fn shape_of(report: &Report, place: Place) -> Result<Option<Shape>, AllocError> {
+    match program_of(report.alloc, report.text) {
+        Ok(program) => shape_at(report.alloc, &program, place),
+        Err(Fault::Refused(_)) => Ok(None),
+        Err(Fault::Memory(error)) => Err(error),
+    }
+}
+
+/// A wire whose two ends don't fit.
+fn add_type_fault(report: &mut Report, source: &Source, place: Place) -> Result<(), AllocError> {
+    match shape_of(report, place)? {
+        Some(shape) => add_misfit(report, source, &shape, place),
+        None => Ok(()),
+    }
+}
+
+/// A rule or a net that no steps build.
+fn add_step_fault(
+    report: &mut Report,
+    source: &Source,
+    place: Place,
+    what: &str,
+) -> Result<(), AllocError> {
+    match shape_of(report, place)? {
+        Some(shape) => {
+            let nodes = stuck_nodes(report.alloc, &shape.open)?;
+            add_stuck(report, source, &shape.open, nodes.as_slice(), what, place)
+        }
+        None => Ok(()),
+    }
+}
+
+/// What is refused of a text that has a tree.
+fn add_fault(report: &mut Report, source: &Source, refusal: Refusal) -> Result<(), AllocError> {
+    let Refusal { code, place, other } = refusal;
+    match code {
+        Code::E01 | Code::E02 => Ok(()),
+        Code::E03 => add_agents(report, source, place),
+        Code::E04 => add_declared_twice(report, source, place),
+        Code::E05 => add_unknown_type(report, source, place),
+        Code::E06 => add_unknown_symbol(report, source, place),
+        Code::E07 => add_other_arity(report, source, place),
+        Code::E08 => add_occurrences(report, source, place),
+        Code::E09 => add_closed(report, source, place),
+        Code::E10 => add_type_fault(report, source, place),
+        Code::E11 => add_unmatched(report, source, place),
+        Code::E12 => add_step_fault(report, source, place, "this rule"),
+        Code::E13 => add_step_fault(report, source, place, "this net"),
+        Code::E14 => add_second_rule(report, source, place),
+        Code::E15 => add_missing_rule(report, source, place, other),
+    }
+}
+
+/// What is wrong with a text that is refused so.
+fn add_refusal(report: &mut Report, refusal: Refusal) -> Result<(), AllocError> {
+    match parse(report.alloc, report.text) {
+        Ok(source) => add_fault(report, &source, refusal),
+        Err(Fault::Refused(refusal)) => add_text_fault(report, refusal),
+        Err(Fault::Memory(error)) => Err(error),
+    }
+}
+
+/// What is wrong with a program's text, in words for people: the line of the text with a mark under the place of the fault, a sentence on
+/// what is wrong, lines on what belongs to it, and what helps. Nothing where `in_check::check` accepts the text. Its only error is want of
+/// memory.
+///
+/// The fault is the one that `in_check::check` refuses the text for. The words are this project's own choice; no clause says what they are.
+pub fn diagnosis(alloc: Global, text: &[u8]) -> Result<Option<String>, AllocError> {
+    let Some(refusal) = refusal_of(alloc, text)? else {
+        return Ok(None);
+    };
+    let mut report = Report::new(alloc, text);
+    add_refusal(&mut report, refusal)?;
+    Ok(Some(report.into_text()))
+}
