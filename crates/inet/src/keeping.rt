@@ -1,0 +1,52 @@
+ghost use Rattle.std.specs.Prelude.{◌≡◌};
+
+use in_syntax::TextIn;
+use std::alloc::Global;
+
+/// A text from another reader, of which a copy is kept.
+#[derive(Drop)]
+pub struct KeepingIn<R> {
+    reader: R,
+    kept: Vec<u8>,
+    whole: bool,
+}
+
+impl<R> KeepingIn<R> {
+    /// The reader, of which nothing is kept yet.
+    pub fn new(alloc: Global, reader: R) -> KeepingIn<R>
+        ensures { result.reader ≡ reader }
+    {
+        KeepingIn {
+            reader,
+            kept: Vec::new(alloc),
+            whole: true,
+        }
+    }
+
+    /// All that was read; nothing where a copy of it could not be had.
+    pub fn kept(&self) -> Option<&[u8]> {
+        if self.whole {
+            Some(self.kept.as_slice())
+        } else {
+            None
+        }
+    }
+}
+
+impl<R: TextIn> TextIn for KeepingIn<R> {
+    ghost given = { λ s. R.given s.reader };
+
+    ghost ended = { λ s. R.ended s.reader };
+
+    ghost failures = { λ s. R.failures s.reader };
+
+    ghost reads = { λ s. R.reads s.reader };
+
+    fn read(&mut self, into: &mut [u8]) -> Result<usize, ()> {
+        let read = self.reader.read(into)?;
+        if self.whole {
+            self.whole = self.kept.extend_from_slice(&into[..read]).is_ok();
+        }
+        Ok(read)
+    }
+}
