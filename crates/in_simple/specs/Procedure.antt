@@ -94,9 +94,6 @@ pub record PortSplits (o : OpenNet) (rest : List Bool) (n i : ℕ) : Type 0 wher
   pub own : (j w : ℕ) → IsWire o w (Port n i) (Port n j) → class_in o n i ≡ class_in o n j
   pub touched : (j w v l m k h : ℕ) → IsWire o w (Port n i) (Port l k) → IsWire o v (Port n j) (Port m h) → Linked (open_graph o) (λ m. IsIn m (nodes_in rest)) l m → class_in o n i ≡ class_in o n j
 
-abbrev pub SplitsPorts : OpenNet → List Bool → ℕ → ℕ → Type 0
-SplitsPorts o rest n b = (i : ℕ) → i < b → PortSplits o rest n i
-
 abbrev pub SplitsIt : OpenNet → List Bool → ℕ → Type 0
 SplitsIt o part n = IsIn n (nodes_in part) × SplitsAt (open_graph o) n (nodes_in part)
 
