@@ -131,11 +131,11 @@ module _ (o : OpenNet) (net : IsOpenNet o) where
   pub has_class : AreClasses (open_graph o) (HasClass o)
   has_class m i q w = port_class m i (net.points w.0 (Port m i) (Port q.0 q.1) w.1)
 
-  back : (u v : ℕ × ℕ) → (open_graph o).Wire u v → (open_graph o).Wire v u
-  back u v w = (w.0, wire_turn o w.0 (Port u.0 u.1) (Port v.0 v.1) w.1)
+  pub wire_back : (u v : ℕ × ℕ) → (open_graph o).Wire u v → (open_graph o).Wire v u
+  wire_back u v w = (w.0, wire_turn o w.0 (Port u.0 u.1) (Port v.0 v.1) w.1)
 
   pub net_by_bridges : (n : ℕ) (s : ℕ → Bool) → IsIn n s → SplitsAt (open_graph o) n s ↔ HubEdgesAreBridges (open_graph o) (HasClass o) n s
-  net_by_bridges n s here = splits_by_bridges (open_graph o) (HasClass o) has_class cases_eq back n s here
+  net_by_bridges n s here = splits_by_bridges (open_graph o) (HasClass o) has_class cases_eq wire_back n s here
 
   pub net_off_rings : (s : ℕ → Bool) (number : Vertex ℕ → ℕ) (hub_edge : ℕ → ℕ → ℕ) (es : List (ℕ × ℕ)) → IsClassGraph (open_graph o) (HasClass o) s number hub_edge es → (n : ℕ) → IsIn n s → SplitsAt (open_graph o) n s ↔ HubEdgesAreOffRings (open_graph o) (HasClass o) hub_edge es n
-  net_off_rings s number hub_edge es c n here = splits_off_rings (open_graph o) (HasClass o) has_class cases_eq back s number hub_edge es c n here
+  net_off_rings s number hub_edge es c n here = splits_off_rings (open_graph o) (HasClass o) has_class cases_eq wire_back s number hub_edge es c n here

@@ -1,22 +1,18 @@
--- What it means for the ports of a node, and for the nodes before it, that it splits a part.
-use Rattle.std.proofs.Common.{◌≡◌, ◌<◌, ℕ, Bool, false, List, length, sym, subst, inl, inr, ◌∙◌}
-use Rattle.std.proofs.Math.ListN.{set}
-use Rattle.std.proofs.lemmas.List.{get_or-set_same, get_or-set_other}
+-- What the ports of a node say of whether it splits a part.
+use Rattle.std.proofs.Common.{◌≡◌, ◌+◌, ℕ, Bool, false, List, Option, Some, None, sym, subst, ap, inl, inr, ◌∙◌, arith}
+use Rattle.std.specs.Option.{is_some, unwrap_or}
+use Rattle.std.proofs.lemmas.Option.{same_Some}
 use Rattle.in_simple.specs.Constructions.{IsIn}
 use Rattle.in_simple.specs.Splitting.{Without, SplitsAt}
-use Rattle.in_simple.specs.OpenNets.{OpenNet, IsOpenNet, open_graph}
-use Rattle.in_simple.specs.Procedure.{nodes_in, IsRest, PortSplits, SplitsIt, NoneSplits, IsFirst}
-use Rattle.in_simple.proofs.Sums.{not_both}
-use Rattle.in_simple.proofs.Links.{same_nat, link_map}
-
-pub rest_of : (part : List Bool) (n : ℕ) → n < length part → IsRest n part (set part n false)
-rest_of part n l m = (
-  (λ h. elim (same_nat m n) [
-    | inl e ↦ absurd (not_both (nodes_in (set part n false) m) h (subst (λ z. nodes_in (set part n false) z ≡ false) (sym e) (get_or-set_same part n false false l)))
-    | inr d ↦ (sym (get_or-set_other part n m false false d) ∙ h, d)
-  ]),
-  λ h. get_or-set_other part n m false false h.1 ∙ h.0,
-)
+use Rattle.in_simple.specs.declared.open_nets.Point.TheVariants.{Port}
+use Rattle.in_simple.specs.OpenNets.{OpenNet, IsOpenNet, IsWire, class_in, open_graph}
+use Rattle.in_simple.specs.Stuck.{ports_of, Touches}
+use Rattle.in_simple.specs.Procedure.{nodes_in, IsRest, PortSplits, AreOfClass, SplitsIt, IsNeighbour}
+use Rattle.in_simple.proofs.Links.{same_nat, link_first, link_map}
+use Rattle.in_simple.proofs.EachSplits.{link_last}
+use Rattle.in_simple.proofs.ClassWays.{wire_back}
+use Rattle.in_simple.proofs.Balance.{wire_turn}
+use Rattle.in_simple.proofs.Search.{in_ports}
 
 module _ (o : OpenNet) (net : IsOpenNet o) where
   -- a port with no wire splits too
@@ -26,5 +22,30 @@ module _ (o : OpenNet) (net : IsOpenNet o) where
     touched = λ j w v l m k h g g' link. s.touched i j l m k h (w, g) (v, g') (link_map (open_graph o) (λ m. IsIn m (nodes_in rest)) (Without n (nodes_in part)) (λ k h. (r k).0 h) l m link);
   }
 
-  pub first_found : (part : List Bool) (n : ℕ) → NoneSplits o part n → SplitsIt o part n → IsFirst o part n
-  first_found part n none h = record { here = h.0; splits = h.1; first = λ m k l s. none m l (k, s) }
+  class_kept : (part : List Bool) (n b : ℕ) (met : Option ℕ) → AreOfClass o part n b met → (Touches o n (nodes_in part) b → met ≡ Some (class_in o n b)) → AreOfClass o part n (b + 1) met
+  class_kept part n b met all here i l t = elim (same_nat i b) [
+    | inl e ↦ subst (λ z. met ≡ Some (class_in o n z)) (sym e) (here (subst (Touches o n (nodes_in part)) e t))
+    | inr d ↦ all i (omega arith) t
+  ]
+
+  pub class_past : (part : List Bool) (n b : ℕ) (met near : Option ℕ) → AreOfClass o part n b met → IsNeighbour o part n b near → is_some near ≡ false → AreOfClass o part n (b + 1) met
+  class_past part n b met None all none e = class_kept part n b met all (λ t. absurd (none t.0 t.1 t.2 t.3 t.4))
+  class_past part n b met (Some l) all near e = cc
+
+  pub class_met : (part : List Bool) (n b : ℕ) (met : Option ℕ) (class : ℕ) → AreOfClass o part n b met → class ≡ class_in o n b → unwrap_or met class ≡ class → AreOfClass o part n (b + 1) (Some class)
+  class_met part n b met class all c same i l t = elim (same_nat i b) [
+    | inl e ↦ ap (λ (z : ℕ). Some z) (c ∙ ap (class_in o n) (sym e))
+    | inr d ↦ ap (λ (z : ℕ). Some z) (sym same ∙ ap (λ z. unwrap_or z class) (all i (omega arith) t))
+  ]
+
+  -- where all ports that lead into the part are of one class, the node splits it
+  pub one_class : (part : List Bool) (n : ℕ) (met : Option ℕ) → IsIn n (nodes_in part) → AreOfClass o part n (ports_of o n) met → SplitsIt o part n
+  one_class part n met here all =
+      let at : (i w : ℕ) (l k : ℕ) → IsWire o w (Port n i) (Port l k) → IsIn l (nodes_in part) → met ≡ Some (class_in o n i) = λ i w l k h g. all i (in_ports o net w n i (Port l k) h) (w, l, k, h, g) in
+      let same : (i j : ℕ) → met ≡ Some (class_in o n i) → met ≡ Some (class_in o n j) → class_in o n i ≡ class_in o n j = λ i j e f. same_Some (class_in o n i) (class_in o n j) (sym e ∙ f) in (
+        here,
+        record {
+          own = λ i j w. same i j (at i w.0 n j w.1 here) (at j w.0 n i (wire_turn o w.0 (Port n i) (Port n j) w.1) here);
+          touched = λ i j l m k h w v link. same i j (at i w.0 l k w.1 (link_first (open_graph o) (Without n (nodes_in part)) l m link).0) (at j v.0 m h v.1 (link_last (open_graph o) (wire_back o net) (Without n (nodes_in part)) l m link).0);
+        },
+      )

@@ -1,10 +1,12 @@
-ghost use Rattle.std.specs.Prelude.{◌≡◌, ◌<◌, ◌↔◌, length, false, IfOk, IsTrue, MatchOption};
+ghost use Rattle.std.specs.Prelude.{◌≡◌, ◌<◌, ◌↔◌, length, false, IfOk, IsTrue, MatchOption, ℕ};
 ghost use Rattle.in_bridges.specs.Rings.{AreRings};
 ghost use Rattle.in_simple.specs.ClassEdges.{IsClassGraphOf};
+ghost use Rattle.in_simple.specs.Constructions.{IsIn};
 ghost use Rattle.in_simple.specs.OpenNets.{IsOrderly};
 ghost use Rattle.in_simple.specs.Procedure.{IsFirst, IsRest, NoneSplits, SplitsIt, nodes_in};
 
 use crate::class_graphs::ClassGraph;
+use crate::components::neighbour;
 use crate::wired::Wired;
 use in_bridges::on_rings;
 use sqlite_items::Items;
@@ -24,6 +26,39 @@ pub(crate) fn without(
     let mut rest = Items::from_slice(alloc, part.as_slice())?;
     rest.set(node, false);
     Ok(rest)
+}
+
+/// Whether all ports of the node that lead into the part are of one class: then it splits the part, whatever the rest is like.
+fn touches_by_one_class(wired: &Wired, part: &Items<bool>, node: usize) -> bool
+    requires size { length part.now ≡ length wired.now.nodes }
+    requires node { node < length wired.now.nodes }
+    requires here { IsIn node (nodes_in part.now) }
+    ensures splits { IsTrue result → SplitsIt wired.now part.now node }
+    ensures net { IsOrderly wired.now }
+{
+    let mut met: Option<usize> = None;
+    for port in 0..wired.ports(node) {
+        if neighbour(wired, part, node, port).is_some() {
+            let class = wired.class(node, port);
+            if met.unwrap_or(class) != class {
+                return false;
+            }
+            met = Some(class);
+        }
+    }
+    true
+}
+
+/// The first node of the part.
+fn first_node(part: &Items<bool>) -> Option<usize>
+    ensures { MatchOption result ((n : ℕ) → IsIn n (nodes_in part.now) → ⊥) (λ node. IsIn node (nodes_in part.now) × ((n : ℕ) → n < node → IsIn n (nodes_in part.now) → ⊥)) }
+{
+    for node in 0..part.len() {
+        if part.as_slice()[node] {
+            return Some(node);
+        }
+    }
+    None
 }
 
 /// Whether the node is in the part and splits it: each of its hub edges is a bridge.
@@ -48,7 +83,7 @@ fn splits(
     }
 }
 
-/// The first node of the part that splits it.
+/// The first node of the part that splits it. Where the part's first node is seen to split it, no class graph is listed.
 pub(crate) fn first_splitting(
     alloc: Global,
     wired: &Wired,
@@ -58,6 +93,11 @@ pub(crate) fn first_splitting(
     ensures net { IfOk result (λ found. IsOrderly wired.now) }
     ensures found { IfOk result (λ found. MatchOption found (NoneSplits wired.now part.now (length wired.now.nodes)) (IsFirst wired.now part.now)) }
 {
+    if let Some(first) = first_node(part) {
+        if touches_by_one_class(wired, part, first) {
+            return Ok(Some(first));
+        }
+    }
     let graph = ClassGraph::of(alloc, wired, part)?;
     let rings = on_rings(alloc, graph.count, &graph.edges)?;
     for node in 0..wired.nodes() {
