@@ -14,6 +14,10 @@ use Rattle.in_syntax.specs.Grammar.{max_ports}
 abbrev pub nodes_in : List Bool → ℕ → Bool
 nodes_in bits n = slice_index_or bits n false
 
+-- no node below b is in the part
+abbrev pub HasNoneBelow : List Bool → ℕ → Type 0
+HasNoneBelow part b = (m : ℕ) → m < b → IsIn m (nodes_in part) → ⊥
+
 -- ---- wires by port
 
 -- the wire at a port and its other point; a node has a slot for each port that an agent may have

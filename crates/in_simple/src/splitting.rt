@@ -1,9 +1,9 @@
-ghost use Rattle.std.specs.Prelude.{◌≡◌, ◌<◌, ◌↔◌, length, false, IfOk, IsTrue, MatchOption, ℕ};
+ghost use Rattle.std.specs.Prelude.{◌≡◌, ◌<◌, ◌↔◌, length, false, IfOk, IsTrue, MatchOption};
 ghost use Rattle.in_bridges.specs.Rings.{AreRings};
 ghost use Rattle.in_simple.specs.ClassEdges.{IsClassGraphOf};
 ghost use Rattle.in_simple.specs.Constructions.{IsIn};
 ghost use Rattle.in_simple.specs.OpenNets.{IsOrderly};
-ghost use Rattle.in_simple.specs.Procedure.{IsFirst, IsRest, NoneSplits, SplitsIt, nodes_in};
+ghost use Rattle.in_simple.specs.Procedure.{HasNoneBelow, IsFirst, IsRest, NoneSplits, SplitsIt, nodes_in};
 
 use crate::class_graphs::ClassGraph;
 use crate::components::neighbour;
@@ -51,7 +51,7 @@ fn touches_by_one_class(wired: &Wired, part: &Items<bool>, node: usize) -> bool
 
 /// The first node of the part.
 fn first_node(part: &Items<bool>) -> Option<usize>
-    ensures { MatchOption result ((n : ℕ) → IsIn n (nodes_in part.now) → ⊥) (λ node. IsIn node (nodes_in part.now) × ((n : ℕ) → n < node → IsIn n (nodes_in part.now) → ⊥)) }
+    ensures { MatchOption result (HasNoneBelow part.now (length part.now)) (λ node. IsIn node (nodes_in part.now) × HasNoneBelow part.now node) }
 {
     for node in 0..part.len() {
         if part.as_slice()[node] {
