@@ -8,7 +8,7 @@ use Rattle.in_simple.proofs.Links.{link_first, link_map}
 use Rattle.in_simple.proofs.Sums.{both_left, both_right, not_both, swap_parts}
 
 module _ (g : Graph) (wire_back : (u v : g.Node × ℕ) → g.Wire u v → g.Wire v u) where
-  link_last : (P : g.Node → Type 0) (u v : g.Node) → Linked g P u v → P v
+  pub link_last : (P : g.Node → Type 0) (u v : g.Node) → Linked g P u v → P v
   link_last P u v (alone _ h) = h
   link_last P u v (onward _ m _ i j h w k) = link_last P m v k
 

@@ -1,6 +1,8 @@
 pub mod Balance
 pub mod Both
+pub mod ClassEdges
 pub mod ClassNets
+pub mod ClassWays
 pub mod Classes
 pub mod Counted
 pub mod Derives
@@ -8,11 +10,11 @@ pub mod EachSplits
 pub mod Finishing
 pub mod Forest
 pub mod Grow
+pub mod HubEdges
 pub mod Joining
 pub mod Links
 pub mod Make
 pub mod Mapped
-pub mod MeetingNodes
 pub mod Named
 pub mod Nets
 pub mod NoCircle

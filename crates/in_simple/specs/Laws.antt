@@ -12,6 +12,9 @@ use Rattle.in_net.specs.TextNet.{IsNetOf}
 use Rattle.in_net.specs.Graphs.{CrossingCircle, graph_of}
 use Rattle.in_net.specs.Interactions.{redex_at, open_member}
 use Rattle.in_net.specs.Nets.{net_of, signature_of}
+use Rattle.in_simple.specs.Constructions.{IsIn}
+use Rattle.in_simple.specs.Splitting.{SplitsAt}
+use Rattle.in_simple.specs.ClassGraphs.{Vertex, HasClass, HubEdgesAreBridges, HubEdgesAreOffRings, IsClassGraph}
 use Rattle.in_simple.specs.OpenNets.{OpenNet, IsOpenNet, IsDerivable, NetSplits, open_graph}
 use Rattle.in_simple.specs.Derivations.{Step, IsDerivation}
 use Rattle.in_simple.specs.Opening.{AreAllThere, AreNumbered, Opens}
@@ -25,6 +28,15 @@ use Rattle.in_simple.specs.Stuck.{IsFirstStuck, IsUndone, IsStuckAt}
 -- an open net splits exactly where it is derivable
 abbrev pub SplitsWhereDerivable : Type 0
 SplitsWhereDerivable = (o : OpenNet) → IsOpenNet o → NetSplits o ↔ IsDerivable o
+
+-- a node splits a set of nodes exactly where each of its hub edges is a bridge of the class graph
+abbrev pub SplitsByBridges : Type 0
+SplitsByBridges = (o : OpenNet) → IsOpenNet o → (n : ℕ) (s : ℕ → Bool) → IsIn n s → SplitsAt (open_graph o) n s ↔ HubEdgesAreBridges (open_graph o) (HasClass o) n s
+
+-- .. and, where the class graph stands as a list of edges, exactly where none of its hub edges is on a ring
+abbrev pub SplitsOffRings : Type 0
+SplitsOffRings = (o : OpenNet) → IsOpenNet o → (s : ℕ → Bool) (number : Vertex ℕ → ℕ) (hub_edge : ℕ → ℕ → ℕ) (es : List (ℕ × ℕ)) → IsClassGraph (open_graph o) (HasClass o) s number hub_edge es →
+    (n : ℕ) → IsIn n s → SplitsAt (open_graph o) n s ↔ HubEdgesAreOffRings (open_graph o) (HasClass o) hub_edge es n
 
 -- what is derivable has no crossing circle
 abbrev pub DerivableHasNoCircle : Type 0

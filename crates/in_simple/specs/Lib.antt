@@ -1,10 +1,11 @@
 pub mod Checking
+pub mod ClassEdges
+pub mod ClassGraphs
 pub mod Constructions
 pub mod Derivations
 pub mod Joints
 pub mod Laws
 pub mod Maps
-pub mod Meeting
 pub mod OpenNets
 pub mod Opening
 pub mod OpeningRules

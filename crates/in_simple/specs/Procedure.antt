@@ -8,11 +8,15 @@ use Rattle.in_simple.specs.declared.plans.Task.TheVariants.{Derive, Make}
 use Rattle.in_simple.specs.Constructions.{IsIn, count}
 use Rattle.in_simple.specs.Splitting.{Linked, Without, SplitsAt, IsFirstSplitting, Splits}
 use Rattle.in_simple.specs.OpenNets.{OpenNet, IsWire, class_in, open_graph}
-use Rattle.in_simple.specs.Stuck.{IsPart, Among, ComesAt, FirstStuck}
+use Rattle.in_simple.specs.Stuck.{IsPart, Among, ComesAt, FirstStuck, Touches}
 use Rattle.in_syntax.specs.Grammar.{max_ports}
 
 abbrev pub nodes_in : List Bool → ℕ → Bool
 nodes_in bits n = slice_index_or bits n false
+
+-- no node below b is in the part
+abbrev pub HasNoneBelow : List Bool → ℕ → Type 0
+HasNoneBelow part b = (m : ℕ) → m < b → IsIn m (nodes_in part) → ⊥
 
 -- ---- wires by port
 
@@ -94,8 +98,9 @@ pub record PortSplits (o : OpenNet) (rest : List Bool) (n i : ℕ) : Type 0 wher
   pub own : (j w : ℕ) → IsWire o w (Port n i) (Port n j) → class_in o n i ≡ class_in o n j
   pub touched : (j w v l m k h : ℕ) → IsWire o w (Port n i) (Port l k) → IsWire o v (Port n j) (Port m h) → Linked (open_graph o) (λ m. IsIn m (nodes_in rest)) l m → class_in o n i ≡ class_in o n j
 
-abbrev pub SplitsPorts : OpenNet → List Bool → ℕ → ℕ → Type 0
-SplitsPorts o rest n b = (i : ℕ) → i < b → PortSplits o rest n i
+-- the ports of n below b that lead into the part are of one class, which has been met
+abbrev pub AreOfClass : OpenNet → List Bool → ℕ → ℕ → Option ℕ → Type 0
+AreOfClass o part n b met = (i : ℕ) → i < b → Touches o n (nodes_in part) i → met ≡ Some (class_in o n i)
 
 abbrev pub SplitsIt : OpenNet → List Bool → ℕ → Type 0
 SplitsIt o part n = IsIn n (nodes_in part) × SplitsAt (open_graph o) n (nodes_in part)

@@ -1,10 +1,10 @@
 //! Which nets can be built up step by step: Lafont 1990's semi-simple nets, and the steps that build them.
 #![tactic(auto)]
 
+mod class_graphs;
 mod components;
 mod derivations;
 pub mod laws;
-mod meeting;
 mod open_nets;
 mod opening;
 mod opening_rules;

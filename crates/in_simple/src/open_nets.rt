@@ -1,5 +1,6 @@
 ghost use Rattle.std.specs.Prelude.{◌≡◌, ◌+◌, ◌<◌, ◌≤◌, ◌^◌, length, slice_get, Some, IsTrue, false};
 ghost use Rattle.in_syntax.specs.Grammar.{max_ports};
+ghost use Rattle.in_simple.specs.ClassGraphs.{width_of};
 ghost use Rattle.in_simple.specs.OpenNets.{IsAgent, IsClass, IsOrderly, class_in, classes_of, node_in, node_place_in};
 ghost use Rattle.in_simple.specs.Stuck.{ports_of};
 
@@ -120,6 +121,19 @@ impl OpenNet {
         ensures { result ≡ classes_of self.now node }
     {
         self.nodes.as_slice()[node].classes as usize
+    }
+
+    /// How many numbers its classes have: an agent's principal port is class 0.
+    pub(crate) fn width(&self, node: usize) -> usize
+        requires { node < length self.now.nodes }
+        ensures width { result ≡ width_of self.now node }
+        ensures few { result ≤ 256 }
+    {
+        let found = &self.nodes.as_slice()[node];
+        match found.node {
+            Node::AgentNode(_) => found.classes as usize + 1,
+            Node::ClassNode(_, _) => found.class_of.len(),
+        }
     }
 
     /// Whether the node is an agent; else it is a class node.

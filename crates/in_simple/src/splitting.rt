@@ -1,11 +1,14 @@
 ghost use Rattle.std.specs.Prelude.{◌≡◌, ◌<◌, ◌↔◌, length, false, IfOk, IsTrue, MatchOption};
+ghost use Rattle.in_bridges.specs.Rings.{AreRings};
+ghost use Rattle.in_simple.specs.ClassEdges.{IsClassGraphOf};
+ghost use Rattle.in_simple.specs.Constructions.{IsIn};
 ghost use Rattle.in_simple.specs.OpenNets.{IsOrderly};
-ghost use Rattle.in_simple.specs.Procedure.{IsFirst, IsRest, NoneSplits, PortSplits, SplitsIt, SplitsPorts, nodes_in};
-ghost use Rattle.in_simple.specs.Stuck.{ports_of};
+ghost use Rattle.in_simple.specs.Procedure.{HasNoneBelow, IsFirst, IsRest, NoneSplits, SplitsIt, nodes_in};
 
-use crate::meeting::meets_alone;
-use crate::open_nets::Point;
+use crate::class_graphs::ClassGraph;
+use crate::components::neighbour;
 use crate::wired::Wired;
+use in_bridges::on_rings;
 use sqlite_items::Items;
 use std::alloc::{AllocError, Global};
 
@@ -25,73 +28,62 @@ pub(crate) fn without(
     Ok(rest)
 }
 
-/// Whether each port that meets this one, by a wire or in a component, is of its class.
-fn port_splits(
-    alloc: Global,
-    wired: &Wired,
-    rest: &Items<bool>,
-    node: usize,
-    port: usize,
-) -> Result<bool, AllocError>
-    requires size { length rest.now ≡ length wired.now.nodes }
-    requires node { node < length wired.now.nodes }
-    requires port { port < ports_of wired.now node }
-    requires out { nodes_in rest.now node ≡ false }
-    ensures { IfOk result (λ splits. IsTrue splits ↔ PortSplits wired.now rest.now node port) }
-{
-    let class = wired.class(node, port);
-    match wired.partner(node, port) {
-        (_, Point::Port(near, place)) => {
-            if near as usize == node {
-                Ok(wired.class(node, place as usize) == class)
-            } else if rest.as_slice()[near as usize] {
-                let alone = meets_alone(alloc, wired, rest, near, node, class)?;
-                Ok(alone)
-            } else {
-                Ok(true)
-            }
-        }
-        (_, Point::Free(_)) => Ok(true),
-    }
-}
-
-/// Whether all ports of the node split the rest.
-fn ports_split(
-    alloc: Global,
-    wired: &Wired,
-    rest: &Items<bool>,
-    node: usize,
-) -> Result<bool, AllocError>
-    requires size { length rest.now ≡ length wired.now.nodes }
-    requires node { node < length wired.now.nodes }
-    requires out { nodes_in rest.now node ≡ false }
-    ensures splits { IfOk result (λ splits. IsTrue splits ↔ SplitsPorts wired.now rest.now node (ports_of wired.now node)) }
-    ensures net { IfOk result (λ splits. IsOrderly wired.now) }
-{
-    for port in 0..wired.ports(node) {
-        if !port_splits(alloc, wired, rest, node, port)? {
-            return Ok(false);
-        }
-    }
-    Ok(true)
-}
-
-/// Whether the node is in the part and splits it.
-fn splits(alloc: Global, wired: &Wired, part: &Items<bool>, node: usize) -> Result<bool, AllocError>
+/// Whether all ports of the node that lead into the part are of one class: then it splits the part, whatever the rest is like.
+fn touches_by_one_class(wired: &Wired, part: &Items<bool>, node: usize) -> bool
     requires size { length part.now ≡ length wired.now.nodes }
     requires node { node < length wired.now.nodes }
-    ensures { IfOk result (λ splits. IsTrue splits ↔ SplitsIt wired.now part.now node) }
+    requires here { IsIn node (nodes_in part.now) }
+    ensures splits { IsTrue result → SplitsIt wired.now part.now node }
+    ensures net { IsOrderly wired.now }
+{
+    let mut met: Option<usize> = None;
+    for port in 0..wired.ports(node) {
+        if neighbour(wired, part, node, port).is_some() {
+            let class = wired.class(node, port);
+            if met.unwrap_or(class) != class {
+                return false;
+            }
+            met = Some(class);
+        }
+    }
+    true
+}
+
+/// The first node of the part.
+fn first_node(part: &Items<bool>) -> Option<usize>
+    ensures { MatchOption result (HasNoneBelow part.now (length part.now)) (λ node. IsIn node (nodes_in part.now) × HasNoneBelow part.now node) }
+{
+    for node in 0..part.len() {
+        if part.as_slice()[node] {
+            return Some(node);
+        }
+    }
+    None
+}
+
+/// Whether the node is in the part and splits it: each of its hub edges is a bridge.
+fn splits(
+    wired: &Wired,
+    part: &Items<bool>,
+    graph: &ClassGraph,
+    rings: &Items<bool>,
+    node: usize,
+) -> bool
+    requires size { length part.now ≡ length wired.now.nodes }
+    requires node { node < length wired.now.nodes }
+    requires graph { IsClassGraphOf wired.now part.now graph.now }
+    requires hubs { length graph.now.hubs ≡ length wired.now.nodes }
+    requires rings { AreRings graph.now.edges (length graph.now.edges) rings.now }
+    ensures { IsTrue result ↔ SplitsIt wired.now part.now node }
 {
     if part.as_slice()[node] {
-        let rest = without(alloc, part, node)?;
-        let split = ports_split(alloc, wired, &rest, node)?;
-        Ok(split)
+        graph.is_off_rings(rings, node, wired.width(node))
     } else {
-        Ok(false)
+        false
     }
 }
 
-/// The first node of the part that splits it.
+/// The first node of the part that splits it. Where the part's first node is seen to split it, no class graph is listed.
 pub(crate) fn first_splitting(
     alloc: Global,
     wired: &Wired,
@@ -101,8 +93,15 @@ pub(crate) fn first_splitting(
     ensures net { IfOk result (λ found. IsOrderly wired.now) }
     ensures found { IfOk result (λ found. MatchOption found (NoneSplits wired.now part.now (length wired.now.nodes)) (IsFirst wired.now part.now)) }
 {
+    if let Some(first) = first_node(part) {
+        if touches_by_one_class(wired, part, first) {
+            return Ok(Some(first));
+        }
+    }
+    let graph = ClassGraph::of(alloc, wired, part)?;
+    let rings = on_rings(alloc, graph.count, &graph.edges)?;
     for node in 0..wired.nodes() {
-        if splits(alloc, wired, part, node)? {
+        if splits(wired, part, &graph, &rings, node) {
             return Ok(Some(node));
         }
     }

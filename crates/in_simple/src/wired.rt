@@ -1,5 +1,6 @@
-ghost use Rattle.std.specs.Prelude.{◌≡◌, ◌<◌, ◌≤◌, ◌^◌, ◌*◌, ◌+◌, length, slice_index_or, Some, None, IsTrue, false, IfOk, OnOk, ℕ};
+ghost use Rattle.std.specs.Prelude.{◌≡◌, ◌<◌, ◌≤◌, ◌^◌, ◌*◌, ◌+◌, length, slice_get, slice_index_or, Some, None, IsTrue, false, IfOk, OnOk, ℕ};
 ghost use Rattle.in_syntax.specs.Grammar.{max_ports};
+ghost use Rattle.in_simple.specs.ClassGraphs.{width_of};
 ghost use Rattle.in_simple.specs.OpenNets.{IsAgent, IsClass, IsOrderly, IsPointOf, IsWire, class_in, classes_of};
 ghost use Rattle.in_simple.specs.Procedure.{led, HasSlot, IsWired};
 ghost use Rattle.in_simple.specs.Stuck.{ports_of};
@@ -122,6 +123,33 @@ impl<'a> Wired<'a> {
         ensures { result ≡ classes_of self.now node }
     {
         self.open.classes(node)
+    }
+
+    /// How many numbers its classes have: an agent's principal port is class 0.
+    pub(crate) fn width(&self, node: usize) -> usize
+        requires { node < length self.now.nodes }
+        ensures width { result ≡ width_of self.now node }
+        ensures few { result ≤ 256 }
+        ensures net { IsOrderly self.now }
+    {
+        self.open.width(node)
+    }
+
+    /// How many wires there are.
+    pub(crate) fn wires(&self) -> usize
+        ensures count { result ≡ length self.now.wires }
+        ensures net { IsOrderly self.now }
+    {
+        self.open.wires()
+    }
+
+    /// The two points of a wire.
+    pub(crate) fn wire(&self, number: usize) -> (Point, Point)
+        requires { number < length self.now.wires }
+        ensures points { slice_get self.now.wires number ≡ Some result }
+        ensures net { IsOrderly self.now }
+    {
+        self.open.wire(number)
     }
 
     /// Whether the node is an agent; else it is a class node.

@@ -1,13 +1,24 @@
-use Rattle.std.proofs.Common.{◌∙◌, ap, sym, get_or, false}
-use Rattle.in_simple.proofs.SplittingPorts.{splits_all, all_split}
+use Rattle.std.proofs.Common.{◌∙◌, ◌<◌, ap, sym, subst, false, get_or}
+use Rattle.in_simple.specs.Procedure.{nodes_in}
+use Rattle.in_simple.specs.ClassEdges.{vertex_in, hub_edge_in}
+use Rattle.in_simple.proofs.ClassWays.{net_off_rings}
+use Rattle.in_simple.proofs.ClassEdges.{hub_edge_small, off_rings}
 use Rattle.in_simple.proofs.splitting.splits.Goals as goal
 
-pub returns-in_ok-split : goal.returns-in_ok-split
-returns-in_ok-split c =
+pub is_off_rings-requires-clause-edges : goal.is_off_rings-requires-clause-edges
+is_off_rings-requires-clause-edges c =
+    let here = ap (λ z. get_or z c.args.node false) (sym c.as_slice.ensures) ∙ c.if-as_slice-node.true in
+    λ k h. hub_edge_small c.args.wired.now c.args.part.now c.args.graph.now c.requires.graph c.args.rings.now c.requires.rings c.args.node here k (subst (λ z. k < z) c.width.ensures.width h)
+
+pub returns-then-as_slice-node : goal.returns-then-as_slice-node
+returns-then-as_slice-node c =
     let o = c.args.wired.now in
-    let x = c.in_ok-split.ensures in
-    let n = x.net.net in
-    let r = c.in_ok-rest.ensures.rest in (
-      (λ t. (ap (λ z. get_or z c.args.node false) (sym c.as_slice.ensures) ∙ c.if-as_slice-node.true, all_split o n c.args.part.now c.in_ok-rest.rest c.args.node r (x.splits.0 t))),
-      λ s. x.splits.1 (splits_all o n c.args.part.now c.in_ok-rest.rest c.args.node r s.1),
+    let g = c.args.graph.now in
+    let here = ap (λ z. get_or z c.args.node false) (sym c.as_slice.ensures) ∙ c.if-as_slice-node.true in
+    let law = net_off_rings o c.width.ensures.net.net (nodes_in c.args.part.now) (vertex_in g.hubs) (hub_edge_in g.hubs) g.edges c.requires.graph c.args.node here in
+    let off = off_rings o c.args.part.now g c.requires.graph c.args.rings.now c.requires.rings c.args.node here in
+    let test = c.is_off_rings.ensures in
+    let w = c.width.ensures.width in (
+      (λ t. (here, law.1 (off.0 (λ k h. test.0 t k (subst (λ z. k < z) (sym w) h))))),
+      λ s. test.1 (λ k h. off.1 (law.0 s.1) k (subst (λ z. k < z) w h)),
     )

@@ -1,0 +1,6 @@
+pub mod Ways
+pub mod Trees
+pub mod Spans
+pub mod Stars
+pub mod Growing
+pub mod Rings

@@ -1,0 +1,284 @@
+-- A part's class graph, node by node and wire by wire.
+use Rattle.std.proofs.Common.{◌≡◌, ◌↔◌, ◌<◌, ◌≤◌, ◌+◌, ◌-◌, ◌^◌, ℕ, Bool, true, false, List, [], ◌∷◌, ◌++◌, Some, length, length-append, refl, sym, subst, ap, inl, inr, ◌∙◌, arith}
+use Rattle.std.specs.Prelude.{slice_get, slice_index_or}
+use Rattle.std.proofs.Math.Seq.{get_or-append_seam}
+use Rattle.std.proofs.lemmas.Bool.{cases_eq, cases_lt, cases_order, false≢true, false_from_ne_true}
+use Rattle.std.proofs.lemmas.List.{get_or_append_left}
+use Rattle.std.proofs.lemmas.Option.{slice_get_within, slice_get-get_or, same_Some}
+use Rattle.in_bridges.specs.Spans.{AreWithin}
+use Rattle.in_bridges.specs.Rings.{AreRings}
+use Rattle.in_bridges.proofs.Chains.{get_past, get_last}
+use Rattle.in_bridges.proofs.Forests.{pair_same}
+use Rattle.in_simple.specs.declared.class_graphs.HubNumbers.{HubNumbers}
+use Rattle.in_simple.specs.declared.class_graphs.ClassGraph.{ClassGraph}
+use Rattle.in_simple.specs.declared.open_nets.Point.{Point}
+use Rattle.in_simple.specs.declared.open_nets.Point.TheVariants.{Port}
+use Rattle.in_simple.specs.Constructions.{IsIn}
+use Rattle.in_simple.specs.OpenNets.{OpenNet, IsOpenNet, IsWire, class_in, open_graph}
+use Rattle.in_simple.specs.Procedure.{nodes_in}
+use Rattle.in_simple.specs.ClassGraphs.{Vertex, Hub, Class, HasClass, IsVertex, IsClassGraph, HubEdgesAreOffRings, width_of}
+use Rattle.in_simple.specs.ClassEdges.{no_hub, vertex_in, hub_edge_in, HaveNumbers, AreHubEdges, AddsHubEdges, IsEdgeOf, LeadsOutside, AreEdges}
+use Rattle.in_simple.specs.Stuck.{ports_of}
+use Rattle.in_simple.proofs.ClassWays.{has_class, port_class}
+use Rattle.in_simple.proofs.Search.{in_ports}
+use Rattle.in_simple.proofs.Sums.{point_node}
+use Rattle.in_simple.proofs.Reaching.{in_length}
+
+-- ---- the hub edges of one node
+
+pub adds_start : (hub : ℕ) (old : List (ℕ × ℕ)) → AddsHubEdges hub 0 old old
+adds_start hub old = record { size = omega arith; kept = λ e p h. h; all = λ c l. absurd (omega arith) }
+
+pub adds_more : (hub b : ℕ) (old new : List (ℕ × ℕ)) → AddsHubEdges hub b old new → AddsHubEdges hub (b + 1) old (new ++ (hub, hub + 1 + b) ∷ [])
+adds_more hub b old new a =
+    let size = a.size in
+    let longer = length-append new ((hub, hub + 1 + b) ∷ []) in
+    record {
+      size = omega arith;
+      kept = λ e p h. get_past new (hub, hub + 1 + b) p e (a.kept e p h);
+      all = λ c l. elim (cases_eq c b) [
+        | inl same ↦
+            let e : length old + c ≡ length new = omega arith in
+            subst (λ z. slice_get (new ++ (hub, hub + 1 + b) ∷ []) (length old + c) ≡ Some (hub, hub + 1 + z)) (sym same) (subst (λ z. slice_get (new ++ (hub, hub + 1 + b) ∷ []) z ≡ Some (hub, hub + 1 + b)) (sym e) (get_last new (hub, hub + 1 + b)))
+        | inr d ↦ get_past new (hub, hub + 1 + b) (hub, hub + 1 + c) (length old + c) (a.all c (omega arith))
+      ];
+    }
+
+-- ---- one more node
+
+abbrev entry : List HubNumbers → ℕ → HubNumbers
+entry hubs m = slice_index_or hubs m no_hub
+
+abbrev IsEdgeAt : HubNumbers → List (ℕ × ℕ) → ℕ → Type 0
+IsEdgeAt h edges k = slice_get edges (h.edge + k) ≡ Some (h.vertex, h.vertex + 1 + k)
+
+module _ (o : OpenNet) (part : List Bool) (b : ℕ) (hubs : List HubNumbers) (count : ℕ) (n : HaveNumbers o part b hubs count) (vertex edge : ℕ) where
+  abbrev more : List HubNumbers
+  more = hubs ++ record { vertex = vertex; edge = edge } ∷ []
+
+  old_entry : (m : ℕ) → m < b → entry more m ≡ entry hubs m
+  old_entry m l = let s = n.size in get_or_append_left hubs (record { vertex = vertex; edge = edge } ∷ []) no_hub m (omega arith)
+
+  new_entry : entry more b ≡ record { vertex = vertex; edge = edge }
+  new_entry = subst (λ z. entry more z ≡ record { vertex = vertex; edge = edge }) n.size (get_or-append_seam hubs (record { vertex = vertex; edge = edge }) [] no_hub)
+
+  old_vertex : (m : ℕ) → m < b → (entry more m).vertex ≡ (entry hubs m).vertex
+  old_vertex m l = ap (λ (z : HubNumbers). z.vertex) (old_entry m l)
+
+  longer : length more ≡ b + 1
+  longer = let s = n.size in let e = length-append hubs (record { vertex = vertex; edge = edge } ∷ []) in omega arith
+
+  pub numbers_out : nodes_in part b ≡ false → HaveNumbers o part (b + 1) more count
+  numbers_out off = record {
+    size = longer;
+    few = let f = n.few in omega arith;
+    room = λ m l h. elim (cases_eq m b) [
+      | inl e ↦ absurd (false≢true (sym off ∙ subst (λ z. nodes_in part z ≡ true) e h))
+      | inr d ↦ let e = old_vertex m (omega arith) in let r = n.room m (omega arith) h in omega arith
+    ];
+    apart = λ l m lt s h k. elim (cases_eq m b) [
+      | inl e ↦ absurd (false≢true (sym off ∙ subst (λ z. nodes_in part z ≡ true) e k))
+      | inr d ↦ let e = old_vertex l (omega arith) in let f = old_vertex m (omega arith) in let r = n.apart l m lt (omega arith) h k in omega arith
+    ];
+  }
+
+  pub numbers_in : (width : ℕ) → width ≡ width_of o b → width ≤ 256 → vertex ≡ count → HaveNumbers o part (b + 1) more (count + 1 + width)
+  numbers_in width w small v =
+      let new : (entry more b).vertex ≡ vertex = ap (λ (z : HubNumbers). z.vertex) new_entry in
+      record {
+        size = longer;
+        few = let f = n.few in omega arith;
+        room = λ m l h. elim (cases_eq m b) [
+          | inl e ↦
+              let f : (entry more m).vertex ≡ (entry more b).vertex = ap (λ z. (entry more z).vertex) e in
+              let g : width_of o m ≡ width_of o b = ap (width_of o) e in
+              omega arith
+          | inr d ↦ let e = old_vertex m (omega arith) in let r = n.room m (omega arith) h in omega arith
+        ];
+        apart = λ l m lt s h k. elim (cases_eq m b) [
+          | inl e ↦
+              let f : (entry more m).vertex ≡ (entry more b).vertex = ap (λ z. (entry more z).vertex) e in
+              let g = old_vertex l (omega arith) in
+              let r = n.room l (omega arith) h in
+              omega arith
+          | inr d ↦ let e = old_vertex l (omega arith) in let f = old_vertex m (omega arith) in let r = n.apart l m lt (omega arith) h k in omega arith
+        ];
+      }
+
+  module _ (edges : List (ℕ × ℕ)) (a : AreHubEdges o part b hubs edges) where
+    pub edges_out : nodes_in part b ≡ false → AreHubEdges o part (b + 1) more edges
+    edges_out off = record {
+      hub = λ m k l h x. elim (cases_eq m b) [
+        | inl e ↦ absurd (false≢true (sym off ∙ subst (λ z. nodes_in part z ≡ true) e h))
+        | inr d ↦ subst (λ z. IsEdgeAt z edges k) (sym (old_entry m (omega arith))) (a.hub m k (omega arith) h x)
+      ];
+      only = λ e p h.
+          let t = a.only e p h in
+          let l = t.2 in
+          (t.0, t.1, omega arith, t.3, t.4, t.5 ∙ ap (λ (z : HubNumbers). z.edge + t.1) (sym (old_entry t.0 l)));
+    }
+
+    pub edges_in : (width : ℕ) (new : List (ℕ × ℕ)) → width ≡ width_of o b → edge ≡ length edges → IsIn b (nodes_in part) → AddsHubEdges vertex width edges new → AreHubEdges o part (b + 1) more new
+    edges_in width new w at here add = record {
+      hub = λ m k l h x. elim (cases_eq m b) [
+        | inl e ↦
+            let x' : k < width_of o b = subst (λ z. k < width_of o z) e x in
+            let first = add.all k (omega arith) in
+            subst (λ z. IsEdgeAt (entry more z) new k) (sym e) (subst (λ z. IsEdgeAt z new k) (sym new_entry) (subst (λ z. slice_get new (z + k) ≡ Some (vertex, vertex + 1 + k)) (sym at) first))
+        | inr d ↦ subst (λ z. IsEdgeAt z new k) (sym (old_entry m (omega arith))) (add.kept (hub_edge_in hubs m k) (vertex_in hubs (Hub m), vertex_in hubs (Class m k)) (a.hub m k (omega arith) h x))
+      ];
+      only = λ e p h. elim (cases_lt e (length edges)) [
+        | inl l ↦
+            let t = a.only e (slice_index_or edges e (0, 0)) (slice_get-get_or edges e (0, 0) l) in
+            let lt = t.2 in
+            (t.0, t.1, omega arith, t.3, t.4, t.5 ∙ ap (λ (z : HubNumbers). z.edge + t.1) (sym (old_entry t.0 lt)))
+        | inr g ↦
+            let s = add.size in
+            let l = slice_get_within new e p h in
+            let k = e - length edges in
+            let f : (entry more b).edge ≡ edge = ap (λ (z : HubNumbers). z.edge) new_entry in
+            (b, k, omega arith, here, omega arith, omega arith)
+      ];
+    }
+
+pub numbers_start : (o : OpenNet) (part : List Bool) → HaveNumbers o part 0 [] 0
+numbers_start o part = record { size = refl; few = omega arith; room = λ m l. absurd (omega arith); apart = λ l m a s. absurd (omega arith) }
+
+pub edges_start : (o : OpenNet) (part : List Bool) → AreHubEdges o part 0 [] []
+edges_start o part = record { hub = λ m k l. absurd (omega arith); only = λ e p h. cc }
+
+-- ---- the wires
+
+module _ (o : OpenNet) (part : List Bool) (hubs : List HubNumbers) where
+  pub wires_start : (edges : List (ℕ × ℕ)) → length part ≡ length o.nodes → AreHubEdges o part (length o.nodes) hubs edges → AreEdges o part 0 hubs edges
+  wires_start edges size a = record {
+    hub = λ m k h x. let l = in_length part m h in a.hub m k (omega arith) h x;
+    wire = λ w l. absurd (omega arith);
+    only = λ e p h. let t = a.only e p h in inl (t.0, t.1, t.3, t.4, t.5);
+  }
+
+  pub wire_out : (b : ℕ) (edges : List (ℕ × ℕ)) → AreEdges o part b hubs edges → LeadsOutside o part b → AreEdges o part (b + 1) hubs edges
+  wire_out b edges a out = record {
+    hub = a.hub;
+    wire = λ w l. elim (cases_eq w b) [ inl e ↦ inl (subst (LeadsOutside o part) (sym e) out) | inr d ↦ a.wire w (omega arith) ];
+    only = a.only;
+  }
+
+  pub wire_in : (b : ℕ) (edges : List (ℕ × ℕ)) (edge : ℕ × ℕ) → AreEdges o part b hubs edges → IsEdgeOf o part hubs b edge → AreEdges o part (b + 1) hubs (edges ++ edge ∷ [])
+  wire_in b edges edge a is = record {
+    hub = λ m k h x. get_past edges edge (vertex_in hubs (Hub m), vertex_in hubs (Class m k)) (hub_edge_in hubs m k) (a.hub m k h x);
+    wire = λ w l. elim (cases_eq w b) [
+      | inl e ↦ inr (length edges, edge, get_last edges edge, subst (λ z. IsEdgeOf o part hubs z edge) (sym e) is)
+      | inr d ↦ elim (a.wire w (omega arith)) [ inl out ↦ inl out | inr t ↦ inr (t.0, t.1, get_past edges edge t.1 t.0 t.2, t.3) ]
+    ];
+    only = λ e p h. elim (cases_lt e (length edges)) [
+      | inl l ↦
+          let q = slice_get-get_or edges e (0, 0) l in
+          let same = same_Some p (slice_index_or edges e (0, 0)) (sym h ∙ get_past edges edge (slice_index_or edges e (0, 0)) e q) in
+          a.only e p (subst (λ z. slice_get edges e ≡ Some z) (sym same) q)
+      | inr g ↦
+          let l = slice_get_within (edges ++ edge ∷ []) e p h in
+          let s = length-append edges (edge ∷ []) in
+          let at : e ≡ length edges = omega arith in
+          let same = same_Some edge p (sym (get_last edges edge) ∙ subst (λ z. slice_get (edges ++ edge ∷ []) z ≡ Some p) at h) in
+          inr (b, subst (IsEdgeOf o part hubs b) same is)
+    ];
+  }
+
+-- the points of a wire that is read
+pub wire_points : (o : OpenNet) (w : ℕ) (v : Point × Point) (p q : Point) → slice_get o.wires w ≡ Some v → v.0 ≡ p → v.1 ≡ q → slice_get o.wires w ≡ Some (p, q)
+wire_points o w (x, y) p q e f g = e ∙ ap (λ (z : Point). Some (z, y)) f ∙ ap (λ (z : Point). Some (p, z)) g
+
+pub port_small : (o : OpenNet) → IsOpenNet o → (w n i : ℕ) (q : Point) → IsWire o w (Port n i) q → (n < length o.nodes) × (i < ports_of o n)
+port_small o net w n i q h = (point_node o n i (net.points w (Port n i) q h), in_ports o net w n i q h)
+
+-- ---- the class graph
+
+module _ (o : OpenNet) (net : IsOpenNet o) (part : List Bool) (all : length part ≡ length o.nodes) (hubs : List HubNumbers) (count : ℕ) (n : HaveNumbers o part (length o.nodes) hubs count) where
+  pub class_room : (m k : ℕ) → IsIn m (nodes_in part) → HasClass o m k → vertex_in hubs (Class m k) < count
+  class_room m k h x = let l = in_length part m h in let r = n.room m (omega arith) h in omega arith
+
+  -- vertices of different nodes have different numbers
+  of_one : (m l p q : ℕ) → IsIn m (nodes_in part) → IsIn l (nodes_in part) → p ≤ width_of o m → q ≤ width_of o l → vertex_in hubs (Hub m) + p ≡ vertex_in hubs (Hub l) + q → (m ≡ l) × (p ≡ q)
+  of_one m l p q hm hl a b e = elim (cases_order m l) [
+    | inl same ↦ let f : vertex_in hubs (Hub m) ≡ vertex_in hubs (Hub l) = ap (λ z. vertex_in hubs (Hub z)) same in (same, omega arith)
+    | inr d ↦ elim d [
+      | inl lt ↦ let k = in_length part l hl in let f = n.apart m l lt (omega arith) hm hl in absurd (omega arith)
+      | inr lt ↦ let k = in_length part m hm in let f = n.apart l m lt (omega arith) hl hm in absurd (omega arith)
+    ]
+  ]
+
+  apart : (u v : Vertex ℕ) → IsVertex (open_graph o) (HasClass o) (nodes_in part) u → IsVertex (open_graph o) (HasClass o) (nodes_in part) v → vertex_in hubs u ≡ vertex_in hubs v → u ≡ v
+  apart (Hub m) (Hub l) h k e = ap Hub (of_one m l 0 0 h k (omega arith) (omega arith) (omega arith)).0
+  apart (Hub m) (Class l q) h k e = let x = k.1 in let f = (of_one m l 0 (1 + q) h k.0 (omega arith) (omega arith) (omega arith)).1 in absurd (omega arith)
+  apart (Class m p) (Hub l) h k e = let x = h.1 in let f = (of_one m l (1 + p) 0 h.0 k (omega arith) (omega arith) (omega arith)).1 in absurd (omega arith)
+  apart (Class m p) (Class l q) h k e =
+      let x = h.1 in
+      let y = k.1 in
+      let f = of_one m l (1 + p) (1 + q) h.0 k.0 (omega arith) (omega arith) (omega arith) in
+      let g = f.1 in
+      let s : p ≡ q = omega arith in
+      ap (λ z. Class z p) f.0 ∙ ap (Class l) s
+
+  -- a port's class has a number that fits
+  pub class_small : length o.nodes < 2 ^ 32 → (w m i : ℕ) (q : Point) → IsIn m (nodes_in part) → IsWire o w (Port m i) q → vertex_in hubs (Class m (class_in o m i)) < 2 ^ 63
+  class_small s w m i q h e = let r = class_room m (class_in o m i) h (port_class o net m i (net.points w (Port m i) q e)) in let f = n.few in omega arith
+
+  module _ (edges : List (ℕ × ℕ)) (a : AreEdges o part (length o.wires) hubs edges) where
+    -- the edge of a wire from its first point
+    edge_of : (w l i m j : ℕ) → IsIn l (nodes_in part) → IsIn m (nodes_in part) → slice_get o.wires w ≡ Some (Port l i, Port m j) → (e : ℕ) × (slice_get edges e ≡ Some (vertex_in hubs (Class l (class_in o l i)), vertex_in hubs (Class m (class_in o m j))))
+    edge_of w l i m j h k e = elim (a.wire w (slice_get_within o.wires w (Port l i, Port m j) e)) [
+      | inl out ↦ absurd (out l i m j e h k)
+      | inr t ↦ (t.0, t.2 ∙ ap Some (t.3.7 ∙ same t.3.0 t.3.1 t.3.2 t.3.3 (same_Some (Port t.3.0 t.3.1, Port t.3.2 t.3.3) (Port l i, Port m j) (sym t.3.4 ∙ e))))
+    ]
+      where
+        same : (l' i' m' j' : ℕ) → ◌≡◌ {A = Point × Point} (Port l' i', Port m' j') (Port l i, Port m j) → ◌≡◌ {A = ℕ × ℕ} (vertex_in hubs (Class l' (class_in o l' i')), vertex_in hubs (Class m' (class_in o m' j'))) (vertex_in hubs (Class l (class_in o l i)), vertex_in hubs (Class m (class_in o m j)))
+        same l' i' m' j' f = let p = ap (λ z. z.0) f in let q = ap (λ z. z.1) f in cc
+
+    pub class_graph : IsClassGraph (open_graph o) (HasClass o) (nodes_in part) (vertex_in hubs) (hub_edge_in hubs) edges
+    class_graph = record {
+      apart = apart;
+      hub = a.hub;
+      wire = λ l m i j h k w. elim w.1 [
+        | inl e ↦ let t = edge_of w.0 l i m j h k e in (t.0, inl t.1)
+        | inr e ↦ let t = edge_of w.0 m j l i k h e in (t.0, inr t.1)
+      ];
+      only = λ e x y h. elim (a.only e (x, y) h) [
+        | inl t ↦ inl t
+        | inr t ↦
+            let d = t.1 in
+            inr (d.0, d.2, d.1, d.3, d.5, d.6, (t.0, inl d.4), ap (λ z. z.0) d.7, ap (λ z. z.1) d.7)
+      ];
+    }
+
+    pub graph_within : AreWithin count edges
+    graph_within e x y h = elim (a.only e (x, y) h) [
+      | inl t ↦
+          let p = pair_same (slice_get edges e) x y (vertex_in hubs (Hub t.0)) (vertex_in hubs (Class t.0 t.1)) h (subst (λ z. slice_get edges z ≡ Some (vertex_in hubs (Hub t.0), vertex_in hubs (Class t.0 t.1))) (sym t.4) (a.hub t.0 t.1 t.2 t.3)) in
+          let p0 = p.0 in let p1 = p.1 in
+          let r = class_room t.0 t.1 t.2 t.3 in
+          (omega arith, omega arith)
+      | inr t ↦
+          let d = t.1 in
+          let p0 : x ≡ vertex_in hubs (Class d.0 (class_in o d.0 d.1)) = ap (λ z. z.0) d.7 in
+          let p1 : y ≡ vertex_in hubs (Class d.2 (class_in o d.2 d.3)) = ap (λ z. z.1) d.7 in
+          let r = class_room d.0 (class_in o d.0 d.1) d.5 (has_class o net d.0 d.1 (d.2, d.3) (t.0, inl d.4)) in
+          let s = class_room d.2 (class_in o d.2 d.3) d.6 (has_class o net d.2 d.3 (d.0, d.1) (t.0, inr d.4)) in
+          (omega arith, omega arith)
+    ]
+
+-- ---- the marks of the rings
+
+module _ (o : OpenNet) (part : List Bool) (g : ClassGraph) (graph : IsClassGraph (open_graph o) (HasClass o) (nodes_in part) (vertex_in g.hubs) (hub_edge_in g.hubs) g.edges) (rings : List Bool) (r : AreRings g.edges (length g.edges) rings) (n : ℕ) (here : IsIn n (nodes_in part)) where
+  pub hub_edge_small : (c : ℕ) → HasClass o n c → hub_edge_in g.hubs n c < length rings
+  hub_edge_small c h =
+      let l = slice_get_within g.edges (hub_edge_in g.hubs n c) (vertex_in g.hubs (Hub n), vertex_in g.hubs (Class n c)) (graph.hub n c here h) in
+      let s = r.0 in
+      omega arith
+
+  pub off_rings : ((c : ℕ) → HasClass o n c → slice_index_or rings (hub_edge_in g.hubs n c) false ≡ false) ↔ HubEdgesAreOffRings (open_graph o) (HasClass o) (hub_edge_in g.hubs) g.edges n
+  off_rings =
+      let at : (c : ℕ) → HasClass o n c → hub_edge_in g.hubs n c < length g.edges = λ c h. let l = hub_edge_small c h in let s = r.0 in omega arith in (
+        (λ off c h ring. false≢true (sym (off c h) ∙ (r.1 (hub_edge_in g.hubs n c) (at c h)).1 ring)),
+        λ none c h. false_from_ne_true (slice_index_or rings (hub_edge_in g.hubs n c) false) (λ t. none c h ((r.1 (hub_edge_in g.hubs n c) (at c h)).0 t)),
+      )

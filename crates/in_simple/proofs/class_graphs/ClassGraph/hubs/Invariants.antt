@@ -1,0 +1,8 @@
+use Rattle.in_simple.specs.ClassEdges.{HaveNumbers, AreHubEdges}
+use Rattle.in_simple.proofs.class_graphs.ClassGraph.hubs.Given as goal
+
+abbrev pub invariant-loop-node : goal.invariant-loop-node
+invariant-loop-node l = record {
+  numbers : HaveNumbers l.wired l.part l.node l.graph.hubs l.graph.count;
+  edges : AreHubEdges l.wired l.part l.node l.graph.hubs l.graph.edges;
+}

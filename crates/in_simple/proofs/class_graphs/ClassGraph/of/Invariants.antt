@@ -1,0 +1,9 @@
+use Rattle.std.proofs.Common.{length}
+use Rattle.in_simple.specs.ClassEdges.{HaveNumbers, AreEdges}
+use Rattle.in_simple.proofs.class_graphs.ClassGraph.of.Given as goal
+
+abbrev pub invariant-loop-wire : goal.invariant-loop-wire
+invariant-loop-wire l = record {
+  numbers : HaveNumbers l.wired l.part (length l.wired.nodes) l.graph.hubs l.graph.count;
+  edges : AreEdges l.wired l.part l.wire l.graph.hubs l.graph.edges;
+}

@@ -1,0 +1,27 @@
+use Rattle.std.proofs.Common.{◌≡◌, ◌∙◌, ◌+◌, sym, subst, arith}
+use Rattle.in_simple.specs.Procedure.{AreOfClass}
+use Rattle.in_simple.specs.Stuck.{ports_of}
+use Rattle.in_simple.proofs.SplittingPorts.{class_past, class_met, one_class}
+use Rattle.in_simple.proofs.splitting.touches_by_one_class.Goals as goal
+use Rattle.in_simple.proofs.splitting.touches_by_one_class.Goals.{then-is_some+else-unwrap_or-class, else-is_some}
+
+pub loop-port-preserved : goal.loop-port-preserved
+loop-port-preserved c =
+    let o = c.args.wired.now in
+    let part = c.args.part.now in
+    let n = c.args.node in
+    let b = c.loop-port.port in
+    elim c.if-is_some.branch [
+      | then-is_some+else-unwrap_or-class w ↦
+          subst (AreOfClass o part n (b + 1)) (sym w.met-is) (class_met o c.ports-port-end.ensures.net.net part n b c.loop-port.met w.class-class.result c.loop-port.invariant w.class-class.ensures (sym w.unwrap_or.ensures ∙ w.if-unwrap_or-class.false))
+      | else-is_some w ↦
+          subst (AreOfClass o part n (b + 1)) (sym w.met-is) (class_past o c.ports-port-end.ensures.net.net part n b c.loop-port.met c.neighbour.result c.loop-port.invariant c.neighbour.ensures (sym c.is_some.ensures ∙ w.if-is_some.false))
+    ]
+
+pub returns-clause-splits : goal.returns-clause-splits
+returns-clause-splits c =
+    let e = c.ports-port-end.ensures.ports in
+    let f = c.loop-port-test.false in
+    let g = c.loop-port.auto in
+    let end : c.loop-port.port ≡ ports_of c.args.wired.now c.args.node = omega arith in
+    λ t. one_class c.args.wired.now c.ports-port-end.ensures.net.net c.args.part.now c.args.node c.loop-port.met c.requires.here (subst (λ z. AreOfClass c.args.wired.now c.args.part.now c.args.node z c.loop-port.met) end c.loop-port.invariant)
