@@ -1,8 +1,9 @@
-ghost use Rattle.std.specs.Prelude.{IfOk, IsTrue, MatchOption, Ok};
+ghost use Rattle.std.specs.Prelude.{Err, IfOk, IsTrue, MatchOption, Ok};
 ghost use Rattle.std.specs.List.{AllByRecursion};
 ghost use Rattle.in_syntax.specs.Order.{IsWrittenInOrder};
 ghost use Rattle.in_syntax.specs.Parsing.{IsOfText};
 ghost use Rattle.in_syntax.specs.Sizes.{IsSized};
+ghost use Rattle.in_syntax.specs.declared.faults.Fault.TheVariants.{Refused};
 ghost use Rattle.in_symbols.specs.Tables.{IsTabled, Tabulates};
 ghost use Rattle.in_net.specs.Built.{IsOver};
 ghost use Rattle.in_net.specs.Rules.{IsRuleOver};
@@ -10,7 +11,7 @@ ghost use Rattle.in_cover.specs.Cover.{IsOfPair};
 ghost use Rattle.in_check.specs.Programs.{Program};
 ghost use Rattle.in_check.specs.Promises.{ReachesAsPromised};
 ghost use Rattle.in_check.specs.Systems.{system_of};
-ghost use Rattle.in_check.specs.Checking.{AreOfText, BuildsRules, ChecksNames, ChecksNet, ChecksNetSteps, ChecksPairs, ChecksRules, ChecksRuleSteps, ChecksTypes, IsAccepted, IsChecked, IsRefused, TypePasses, TypesAll, TypesRules};
+ghost use Rattle.in_check.specs.Checking.{AreOfText, BuildsRules, ChecksNames, ChecksNet, ChecksNetSteps, ChecksPairs, ChecksRules, ChecksRuleSteps, ChecksTypes, IsChecked, TypePasses, TypesAll, TypesRules};
 
 use crate::certifying::{certify_net, certify_rules};
 use crate::checked::{Certificate, Checked, Passed};
@@ -204,11 +205,13 @@ pub fn check(alloc: Global, text: &[u8]) -> Result<Checked, Fault>
     Ok(Checked { passed })
 }
 
-/// Why a program's text is refused, as `check` refuses it; nothing where it is accepted. Its only error is want of memory.
-pub fn refusal_of(alloc: Global, text: &[u8]) -> Result<Option<Refusal>, AllocError>
-    ensures { IfOk result (λ found. MatchOption found ((p : Program) × IsAccepted text.now p) (IsRefused text.now)) }
+/// Why a program is refused, of which the tree is given: as `check` refuses a text of that tree; nothing where it is accepted. Its only error
+/// is want of memory.
+pub fn refusal_of(alloc: Global, source: &Source) -> Result<Option<Refusal>, AllocError>
+    requires { IsOfText source.now }
+    ensures { IfOk result (λ found. MatchOption found ((p : Program) × ChecksNames source.now (Ok p)) (λ r. ChecksNames source.now (Err (Refused r)))) }
 {
-    match check_tree(alloc, text) {
+    match check_names(alloc, source) {
         Ok(_) => Ok(None),
         Err(Fault::Refused(refusal)) => Ok(Some(refusal)),
         Err(Fault::Memory(error)) => Err(error),

@@ -1,9 +1,23 @@
--- What is known of a program's tree and its tables: as much as the passes over them ask for.
-use Rattle.std.specs.Prelude.{Ok}
+-- What is known of a program's tree and its tables, as much as the passes over them ask for; and of which texts something is told.
+use Rattle.std.specs.Prelude.{Bool, true, false, List, ℕ, Ok, Err}
+use Rattle.in_syntax.specs.declared.faults.Refusal.{Refusal}
+use Rattle.in_syntax.specs.declared.faults.Fault.TheVariants.{Refused}
 use Rattle.in_syntax.specs.declared.tree.Source.{Source}
 use Rattle.in_syntax.specs.Parsing.{IsOfText}
 use Rattle.in_symbols.specs.Tables.{Tables, Tabulates}
+use Rattle.in_check.specs.Checking.{ChecksNames, IsAccepted, IsRefused}
+use Rattle.in_check.specs.Programs.{Program}
 
 -- the tables are those of a tree that was read
 abbrev pub IsProgram : Source → Tables → Type 0
 IsProgram s t = IsOfText s × Tabulates s (Ok t)
+
+-- something is told of a text that is refused, and nothing of one that is accepted
+abbrev pub IsTold : List ℕ → Bool → Type 0
+IsTold text true = (r : Refusal) × IsRefused text r
+IsTold text false = (p : Program) × IsAccepted text p
+
+-- the same of a text's tree
+abbrev pub IsToldOfTree : Source → Bool → Type 0
+IsToldOfTree s true = (r : Refusal) × ChecksNames s (Err (Refused r))
+IsToldOfTree s false = (p : Program) × ChecksNames s (Ok p)

@@ -157,6 +157,31 @@ pub(crate) struct Field<'a> {
 }
 
 impl Field<'_> {
+    /// The ports by which a wire leads from one node to the other, where there is one.
+    fn ports_between(&self, one: u32, other: u32) -> Option<(u8, u8)> {
+        for place in 0..MOST_PORTS as u8 {
+            if let Some((next, end)) = self.wires.end((one, place)) {
+                if next == other {
+                    return Some((place, end));
+                }
+            }
+        }
+        None
+    }
+
+    /// The ports by which a way from one node over a second one to a third one passes the second, where they are of different classes.
+    pub(crate) fn passed(&self, from: u32, node: u32, to: u32) -> Option<(u8, u8)> {
+        let (_, first) = self.ports_between(from, node)?;
+        let (second, _) = self.ports_between(node, to)?;
+        if class_of(self.source, self.open, (node, first))
+            == class_of(self.source, self.open, (node, second))
+        {
+            None
+        } else {
+            Some((first, second))
+        }
+    }
+
     /// A port of the node, of another class than this one, that is joined to the node itself or to a node that is reached.
     fn closing(&self, at: Port, reached: &Reached) -> Option<(u8, u32)> {
         let (node, _) = at;

@@ -2,7 +2,7 @@
 use crate::reports::Report;
 use in_syntax::{
     Expected, Fault, MAX_DEPTH, MAX_FREE_NAMES, MAX_NAME_CHARACTERS, MAX_PORTS, MAX_RULES,
-    MAX_SYMBOLS, MAX_TEXT_BYTES, MAX_TYPES, Part, Place, expected_at_fault,
+    MAX_SYMBOLS, MAX_TEXT_BYTES, MAX_TYPES, Part, Place, expected_at,
 };
 use std::alloc::AllocError;
 
@@ -84,9 +84,9 @@ fn help_with(expected: Expected, found: &str) -> &'static str {
     }
 }
 
-/// What is expected at the fault: the text was read before, so only memory may be wanted.
-fn expected_in(report: &Report) -> Result<Expected, AllocError> {
-    match expected_at_fault(report.alloc, report.text) {
+/// What is expected at a place: the text was read before, so only memory may be wanted.
+fn expected_in(report: &Report, place: Place) -> Result<Expected, AllocError> {
+    match expected_at(report.alloc, report.text, place) {
         Ok(expected) => Ok(expected),
         Err(Fault::Refused(_)) => Ok(Expected::Nothing),
         Err(Fault::Memory(error)) => Err(error),
@@ -95,7 +95,7 @@ fn expected_in(report: &Report) -> Result<Expected, AllocError> {
 
 /// No program goes on so.
 pub(crate) fn add_unexpected(report: &mut Report, place: Place) -> Result<(), AllocError> {
-    let expected = expected_in(report)?;
+    let expected = expected_in(report, place)?;
     let found = report.at(place);
     let wanted = words(expected);
     let sentence = if found.is_empty() {
@@ -149,7 +149,7 @@ fn limit_help(expected: Expected) -> &'static str {
 
 /// A limit of the grammar that is passed.
 pub(crate) fn add_limit(report: &mut Report, place: Place) -> Result<(), AllocError> {
-    let expected = expected_in(report)?;
+    let expected = expected_in(report, place)?;
     let (most, what) = limit(expected);
     let sentence = format!(in report.alloc; "more than {most} {what}")?;
     report.wrong(place, sentence.as_str())?;

@@ -19,7 +19,8 @@ fn add_second(
     match first_of(names, name) {
         Some(first) => report.note(first.place, "it is declared here first"),
         None => Ok(()),
-    }
+    }?;
+    report.help("give one of them another name, or leave one out")
 }
 
 /// A free end that has the name of a symbol.
@@ -85,6 +86,11 @@ pub(crate) fn add_unknown_symbol(
     report.help("a name before `(` or `[` is that of a declared symbol")
 }
 
+/// The word for so many.
+fn plural(count: usize, one: &'static str, several: &'static str) -> &'static str {
+    if count == 1 { one } else { several }
+}
+
 /// An agent or a head with another number of arguments than its symbol's arity.
 pub(crate) fn add_other_arity(
     report: &mut Report,
@@ -98,12 +104,14 @@ pub(crate) fn add_other_arity(
     };
     let ports = arity(symbol);
     let sentence = format!(in report.alloc;
-        "`{name}` has {count} arguments here, and {ports} auxiliary ports"
+        "`{name}` has {count} {} here, and {ports} {}",
+        plural(count, "argument", "arguments"),
+        plural(ports, "auxiliary port", "auxiliary ports")
     )?;
     report.wrong(place, sentence.as_str())?;
     report.note(
         symbol.name.place,
-        "its declaration has each auxiliary port in braces",
+        "its auxiliary ports stand in braces here",
     )?;
     report.help(if ports == 0 {
         "it is written without brackets in a term, and with `[]` as a head"

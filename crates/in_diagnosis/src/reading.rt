@@ -1,4 +1,4 @@
-//! A program's tree, its tables, and the open nets of its rules and its net.
+//! A program's tables, and the open nets of its rules and its net.
 ghost use Rattle.std.specs.Prelude.{◌<◌, length, IfOk, IsTrue};
 ghost use Rattle.in_syntax.specs.Parsing.{IsOfText};
 ghost use Rattle.in_diagnosis.specs.Programs.{IsProgram};
@@ -6,16 +6,9 @@ ghost use Rattle.in_diagnosis.specs.Programs.{IsProgram};
 use in_net::{Net, build_net, build_rule};
 use in_simple::{OpenNet, Undone, derive, open_net, open_rule};
 use in_symbols::Symbols;
-use in_syntax::{Fault, Place, Source, parse};
+use in_syntax::{Fault, Place, Source};
 use sqlite_items::Items;
 use std::alloc::{AllocError, Global};
-
-/// What was read of a text, with its tables.
-#[derive(Drop)]
-pub(crate) struct Program {
-    pub(crate) source: Source,
-    pub(crate) symbols: Symbols,
-}
 
 /// An open net, and the number of the wire at the place that was asked for.
 #[derive(Drop)]
@@ -24,21 +17,12 @@ pub(crate) struct Shape {
     pub(crate) wire: Option<u32>,
 }
 
-/// The tables of a tree, and the tree.
-fn tabled(alloc: Global, source: Source) -> Result<Program, Fault>
-    requires { IsOfText source }
-    ensures { IfOk result (λ p. IsProgram p.source p.symbols) }
+/// The tables of a program, or its refusal.
+pub(crate) fn tables_of(alloc: Global, source: &Source) -> Result<Symbols, Fault>
+    requires { IsOfText source.now }
+    ensures { IfOk result (IsProgram source.now) }
 {
-    let symbols = Symbols::build(alloc, &source)?;
-    Ok(Program { source, symbols })
-}
-
-/// The program of a text, or its refusal.
-pub(crate) fn program_of(alloc: Global, text: &[u8]) -> Result<Program, Fault>
-    ensures { IfOk result (λ p. IsProgram p.source p.symbols) }
-{
-    let source = parse(alloc, text)?;
-    tabled(alloc, source)
+    Symbols::build(alloc, source)
 }
 
 /// The number of the wire that stands at a place.
@@ -54,28 +38,34 @@ fn wire_at(net: &Net, place: Place) -> Option<u32>
 }
 
 /// The open net of a program's net, or its refusal.
-pub(crate) fn net_shape(alloc: Global, program: &Program, place: Place) -> Result<Shape, Fault>
-    requires { IsProgram program.now.source program.now.symbols }
+pub(crate) fn net_shape(
+    alloc: Global,
+    source: &Source,
+    symbols: &Symbols,
+    place: Place,
+) -> Result<Shape, Fault>
+    requires { IsProgram source.now symbols.now }
 {
-    let net = build_net(alloc, &program.source, &program.symbols)?;
+    let net = build_net(alloc, source, symbols)?;
     let wire = wire_at(&net, place);
-    let open = open_net(alloc, &program.symbols, &net)?;
+    let open = open_net(alloc, symbols, &net)?;
     Ok(Shape { open, wire })
 }
 
 /// The open net of a program's rule, or its refusal.
 pub(crate) fn rule_shape(
     alloc: Global,
-    program: &Program,
+    source: &Source,
+    symbols: &Symbols,
     number: u32,
     place: Place,
 ) -> Result<Shape, Fault>
-    requires program { IsProgram program.now.source program.now.symbols }
-    requires number { number < length program.now.source.rules }
+    requires program { IsProgram source.now symbols.now }
+    requires number { number < length source.now.rules }
 {
-    let rule = build_rule(alloc, &program.source, &program.symbols, number)?;
+    let rule = build_rule(alloc, source, symbols, number)?;
     let wire = wire_at(rule.member(), place);
-    let open = open_rule(alloc, &program.symbols, &rule)?;
+    let open = open_rule(alloc, symbols, &rule)?;
     Ok(Shape { open, wire })
 }
 

@@ -138,30 +138,66 @@ fn add_places(report: &mut Report, open: &OpenNet, way: &[u32]) -> Result<(), Al
     Ok(())
 }
 
-/// Why the braces forbid a circle through a node.
-fn add_reason(
+/// Where the braces of a node's symbol stand, which keep two of its ports apart.
+fn add_braces(
     report: &mut Report,
     symbol: &SourceSymbol,
     class: Option<usize>,
+    ports: (u8, u8),
 ) -> Result<(), AllocError> {
-    let place = symbol.name.place;
-    match class {
-        Some(_) => {
-            report.note(
-                place,
-                "ports in one pair of braces may be joined outside of the rule",
-            )?;
-            report.help(
-                "give each of them a pair of braces of its own, or join them to parts that have nothing to do with each other",
-            )
-        }
-        None => {
-            report.note(place, "these two ports are not in one pair of braces here")?;
-            report.help(
-                "join the two to nets that have nothing to do with each other; or, where both are auxiliary ports, put them into one pair of braces, which its rules then have to allow",
-            )
+    if class.is_some() {
+        let sentence = "ports in one pair of braces may be joined outside of the rule";
+        return report.note(symbol.name.place, sentence);
+    }
+    let (first, second) = ports;
+    let one = port_words(report.alloc, symbol, first as usize)?;
+    let other = port_words(report.alloc, symbol, second as usize)?;
+    let sentence = format!(in report.alloc; "{one} and {other} are not in one pair of braces")?;
+    report.note(symbol.name.place, sentence.as_str())
+}
+
+/// The same for the nodes on the way of a circle, each symbol once.
+fn add_braces_on_the_way(
+    report: &mut Report,
+    field: Field,
+    ring: &[u32],
+    first: Place,
+) -> Result<(), AllocError> {
+    let mut shown = Vec::new(report.alloc);
+    shown.push(first.from)?;
+    for index in 1..ring.len().min(MOST_SHOWN) {
+        let next = ring.get(index + 1).or(ring.first()).copied().unwrap_or(0);
+        if let Some(ports) = field.passed(ring[index - 1], ring[index], next) {
+            if let Some((symbol, class)) = symbol_of(field.source, field.open, ring[index]) {
+                let place = symbol.name.place;
+                if !shown.as_slice().contains(&place.from) {
+                    shown.push(place.from)?;
+                    add_braces(report, symbol, class, ports)?;
+                }
+            }
         }
     }
+    Ok(())
+}
+
+/// Why the braces forbid a circle from a node back to it.
+fn add_reasons(
+    report: &mut Report,
+    field: Field,
+    node: u32,
+    circle: &Circle,
+) -> Result<(), AllocError> {
+    let Some((symbol, class)) = symbol_of(field.source, field.open, node) else {
+        return Ok(());
+    };
+    add_braces(report, symbol, class, (circle.first, circle.second))?;
+    let mut ring = Vec::new(report.alloc);
+    ring.push(node)?;
+    ring.extend_from_slice(circle.way.as_slice())?;
+    add_braces_on_the_way(report, field, ring.as_slice(), symbol.name.place)?;
+    report.help(
+        "join ports of different braces to parts that have nothing to do with each other; or put two auxiliary ports into one pair of braces, if the rules of the symbol allow it",
+    )
 }
 
 /// Which nodes are in the part, but for one.
@@ -202,9 +238,7 @@ fn add_circle(
         let words = circle_words(report.alloc, source, open, node, &circle)?;
         report.remark(words.as_str())?;
         add_places(report, open, circle.way.as_slice())?;
-        if let Some((symbol, class)) = symbol_of(source, open, node) {
-            return add_reason(report, symbol, class);
-        }
+        return add_reasons(report, field, node, &circle);
     }
     Ok(())
 }

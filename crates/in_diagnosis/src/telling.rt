@@ -1,5 +1,7 @@
 //! The diagnosis of a program's text.
-ghost use Rattle.in_diagnosis.specs.Programs.{IsProgram};
+ghost use Rattle.std.specs.Prelude.{IfOk, is_some};
+ghost use Rattle.in_syntax.specs.Parsing.{IsOfText};
+ghost use Rattle.in_diagnosis.specs.Programs.{IsProgram, IsTold, IsToldOfTree};
 
 use crate::grammar::{add_limit, add_long_text, add_long_word, add_unexpected};
 use crate::letters::add_no_token;
@@ -8,12 +10,13 @@ use crate::names::{
 };
 use crate::occurrences::rule_at;
 use crate::pairs::{add_missing_rule, add_second_rule, add_unmatched};
-use crate::reading::{Program, Shape, net_shape, program_of, rule_shape, stuck_nodes};
+use crate::reading::{Shape, net_shape, rule_shape, stuck_nodes, tables_of};
 use crate::reports::Report;
 use crate::stuck::add_stuck;
 use crate::wires::{add_closed, add_misfit};
 use in_check::refusal_of;
 use in_net::{MAX_AGENTS, MAX_MEMBER_AGENTS};
+use in_symbols::Symbols;
 use in_syntax::{Code, Fault, MAX_TEXT_BYTES, Place, Refusal, Source, parse};
 use std::alloc::{AllocError, Global};
 
@@ -57,31 +60,40 @@ fn add_text_fault(report: &mut Report, refusal: Refusal) -> Result<(), AllocErro
 }
 
 /// The open net of the rule or of the net in which a place stands.
-fn shape_at(alloc: Global, program: &Program, place: Place) -> Result<Option<Shape>, AllocError>
-    requires { IsProgram program.now.source program.now.symbols }
+fn shape_in(
+    alloc: Global,
+    source: &Source,
+    symbols: &Symbols,
+    place: Place,
+) -> Result<Option<Shape>, AllocError>
+    requires { IsProgram source.now symbols.now }
 {
-    let count = program.source.rules.len();
-    let number = rule_at(&program.source, place.from).and_then(|number| u32::try_from(number).ok());
+    let count = source.rules.len();
+    let number = rule_at(source, place.from).and_then(|number| u32::try_from(number).ok());
     match number {
         Some(number) if (number as usize) < count => {
-            only_memory(rule_shape(alloc, program, number, place))
+            only_memory(rule_shape(alloc, source, symbols, number, place))
         }
-        _ => only_memory(net_shape(alloc, program, place)),
+        _ => only_memory(net_shape(alloc, source, symbols, place)),
     }
 }
 
-/// The open net in which a place stands, where the text is read as it was before.
-fn shape_of(report: &Report, place: Place) -> Result<Option<Shape>, AllocError> {
-    match program_of(report.alloc, report.text) {
-        Ok(program) => shape_at(report.alloc, &program, place),
+/// The open net of the rule or of the net in which a place stands, where the tables can be had.
+fn shape_at(alloc: Global, source: &Source, place: Place) -> Result<Option<Shape>, AllocError>
+    requires { IsOfText source.now }
+{
+    match tables_of(alloc, source) {
+        Ok(symbols) => shape_in(alloc, source, &symbols, place),
         Err(Fault::Refused(_)) => Ok(None),
         Err(Fault::Memory(error)) => Err(error),
     }
 }
 
 /// A wire whose two ends don't fit.
-fn add_type_fault(report: &mut Report, source: &Source, place: Place) -> Result<(), AllocError> {
-    match shape_of(report, place)? {
+fn add_type_fault(report: &mut Report, source: &Source, place: Place) -> Result<(), AllocError>
+    requires { IsOfText source.now }
+{
+    match shape_at(report.alloc, source, place)? {
         Some(shape) => add_misfit(report, source, &shape, place),
         None => Ok(()),
     }
@@ -93,8 +105,10 @@ fn add_step_fault(
     source: &Source,
     place: Place,
     what: &str,
-) -> Result<(), AllocError> {
-    match shape_of(report, place)? {
+) -> Result<(), AllocError>
+    requires { IsOfText source.now }
+{
+    match shape_at(report.alloc, source, place)? {
         Some(shape) => {
             let nodes = stuck_nodes(report.alloc, &shape.open)?;
             add_stuck(report, source, &shape.open, nodes.as_slice(), what, place)
@@ -103,8 +117,10 @@ fn add_step_fault(
     }
 }
 
-/// What is refused of a text that has a tree.
-fn add_fault(report: &mut Report, source: &Source, refusal: Refusal) -> Result<(), AllocError> {
+/// What is refused of a program that has a tree.
+fn add_fault(report: &mut Report, source: &Source, refusal: Refusal) -> Result<(), AllocError>
+    requires { IsOfText source.now }
+{
     let Refusal { code, place, other } = refusal;
     match code {
         Code::E01 | Code::E02 => Ok(()),
@@ -124,11 +140,30 @@ fn add_fault(report: &mut Report, source: &Source, refusal: Refusal) -> Result<(
     }
 }
 
-/// What is wrong with a text that is refused so.
-fn add_refusal(report: &mut Report, refusal: Refusal) -> Result<(), AllocError> {
-    match parse(report.alloc, report.text) {
-        Ok(source) => add_fault(report, &source, refusal),
-        Err(Fault::Refused(refusal)) => add_text_fault(report, refusal),
+/// What is wrong with a program that has a tree; says whether anything is.
+fn add_refusal(report: &mut Report, source: &Source) -> Result<bool, AllocError>
+    requires { IsOfText source.now }
+    ensures { IfOk result (IsToldOfTree source.now) }
+{
+    match refusal_of(report.alloc, source)? {
+        Some(refusal) => {
+            add_fault(report, source, refusal)?;
+            Ok(true)
+        }
+        None => Ok(false),
+    }
+}
+
+/// What is wrong with a text, the report's; says whether anything is.
+fn add_first_fault(report: &mut Report, text: &[u8]) -> Result<bool, AllocError>
+    ensures { IfOk result (IsTold text.now) }
+{
+    match parse(report.alloc, text) {
+        Ok(source) => add_refusal(report, &source),
+        Err(Fault::Refused(refusal)) => {
+            add_text_fault(report, refusal)?;
+            Ok(true)
+        }
         Err(Fault::Memory(error)) => Err(error),
     }
 }
@@ -137,12 +172,15 @@ fn add_refusal(report: &mut Report, refusal: Refusal) -> Result<(), AllocError> 
 /// what is wrong, lines on what belongs to it, and what helps. Nothing where `in_check::check` accepts the text. Its only error is want of
 /// memory.
 ///
-/// The fault is the one that `in_check::check` refuses the text for. The words are this project's own choice; no clause says what they are.
-pub fn diagnosis(alloc: Global, text: &[u8]) -> Result<Option<String>, AllocError> {
-    let Some(refusal) = refusal_of(alloc, text)? else {
-        return Ok(None);
-    };
+/// The fault is the one that `in_check::check` refuses the text for. The words are this project's own choice: a clause says
+/// that there are some exactly where the text is refused, and none says which.
+pub fn diagnosis(alloc: Global, text: &[u8]) -> Result<Option<String>, AllocError>
+    ensures { IfOk result (λ found. IsTold text.now (is_some found)) }
+{
     let mut report = Report::new(alloc, text);
-    add_refusal(&mut report, refusal)?;
-    Ok(Some(report.into_text()))
+    if add_first_fault(&mut report, text)? {
+        Ok(Some(report.into_text()))
+    } else {
+        Ok(None)
+    }
 }

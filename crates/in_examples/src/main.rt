@@ -1,10 +1,12 @@
 //! Runs `inet check`, `inet derive` and `inet run` on each program NAME.inet of `examples/`: what they write has to be NAME.check and,
-//! where these files are there, NAME.derive and NAME.run; and the steps of each accepted program have to build its rules and its net.
+//! where these files are there, NAME.derive and NAME.run; the diagnosis of a refused one has to be NAME.diagnosis; and the steps of each
+//! accepted program have to build its rules and its net.
 #![tactic(auto)]
 
 use anyhow::Result;
 use in_check::{Checked, Item, check};
 use in_cover::RuleNo;
+use in_diagnosis::diagnosis;
 use in_program::act;
 use in_run::Limits;
 use in_simple::verify;
@@ -57,6 +59,14 @@ fn is_written_if_there(rt: &HostRuntime, action: Action, text: &str, file: &str)
     Ok(!fs::exists(rt, file)? || is_written(rt, action, text, file)?)
 }
 
+/// Whether the diagnosis of a program is the text of the file beside it, and neither is there where it is accepted.
+fn is_told(rt: &HostRuntime, text: &str, file: &str) -> Result<bool> {
+    match diagnosis(rt.alloc(), text.as_bytes())? {
+        Some(words) => Ok(fs::read(rt, file)?.as_slice() == words.as_bytes()),
+        None => Ok(!fs::exists(rt, file)?),
+    }
+}
+
 /// `run` with the limits that it has where none are given.
 fn running() -> Option<Action> {
     Some(Action::Run(Limits::new(1_000_000, 65_536)?))
@@ -74,6 +84,10 @@ fn is_as_written(rt: &HostRuntime, name: &str) -> Result<bool> {
     if !is_written_if_there(rt, Action::Derive, text.as_str(), steps.as_str())?
         || !is_written_if_there(rt, running, text.as_str(), net.as_str())?
     {
+        return Ok(false);
+    }
+    let told = format!(in alloc; "{name}.diagnosis")?;
+    if !is_told(rt, text.as_str(), told.as_str())? {
         return Ok(false);
     }
     let check = format!(in alloc; "{name}.check")?;

@@ -3,9 +3,11 @@ ghost use Rattle.in_syntax.specs.Programs.{HasTexts};
 
 use crate::faults::Fault;
 use crate::lexer::tokens_to_end;
+use crate::places::Place;
 use crate::reader::Reader;
 use crate::states::{HeadOf, Nest, State, TermOf};
-use crate::words::Token;
+use crate::tree::{Equations, SourceFrees, SourceNet};
+use crate::words::{Token, TokenKind};
 use std::alloc::Global;
 
 /// What a term is a part of.
@@ -116,31 +118,97 @@ fn expected_in(state: &State) -> Expected {
     }
 }
 
-/// What the program can go on with at the first of these tokens that it can't go on with, or after the last of them.
-fn expected_after(alloc: Global, text: &[u8], tokens: &[Token]) -> Result<Expected, Fault>
-    requires { HasTexts text.now tokens.now }
-{
-    let mut reader = Reader::new(alloc);
-    let mut expected = Expected::Item;
+/// Where an item or an equation begins, so that nothing before it matters for what is expected after it.
+#[derive(Clone, Copy)]
+enum Begin {
+    Item(usize),
+    Equation(usize),
+}
+
+/// Where the item or the equation begins that is read last before a place.
+fn begin_before(tokens: &[Token], place: Place) -> Begin {
+    let mut begin = Begin::Item(0);
+    let mut in_net = false;
     for token in tokens {
-        match reader.take(alloc, text, *token) {
-            Ok(next) => {
-                expected = expected_in(&next.state);
-                reader = next;
-            }
-            Err(Fault::Refused(_)) => return Ok(expected),
-            Err(fault) => return Err(fault),
+        let Token { kind, place: at } = *token;
+        if at.from >= place.from {
+            break;
+        }
+        in_net = in_net || kind == TokenKind::Net;
+        if kind == TokenKind::Semicolon {
+            begin = if in_net {
+                Begin::Equation(at.to)
+            } else {
+                Begin::Item(at.to)
+            };
         }
     }
+    begin
+}
+
+/// A reader that has read nothing, before an item or an equation; and where that begins.
+fn reader_at(alloc: Global, begin: Begin) -> (Reader, usize) {
+    let Reader {
+        types,
+        symbols,
+        rules,
+        state,
+    } = Reader::new(alloc);
+    match begin {
+        Begin::Item(from) => (
+            Reader {
+                types,
+                symbols,
+                rules,
+                state,
+            },
+            from,
+        ),
+        Begin::Equation(from) => {
+            let free = SourceFrees::new(alloc);
+            let equations = Equations::new(alloc);
+            let state = State::Equation(SourceNet { free, equations });
+            (
+                Reader {
+                    types,
+                    symbols,
+                    rules,
+                    state,
+                },
+                from,
+            )
+        }
+    }
+}
+
+/// What the program can go on with at a place up to which these tokens are those of a program.
+fn expected_before(
+    alloc: Global,
+    text: &[u8],
+    tokens: &[Token],
+    place: Place,
+) -> Result<Expected, Fault>
+    requires { HasTexts text.now tokens.now }
+{
+    let (mut reader, from) = reader_at(alloc, begin_before(tokens, place));
+    for token in tokens {
+        if token.place.from >= place.from {
+            break;
+        }
+        if token.place.from >= from {
+            reader = reader.take(alloc, text, *token)?;
+        }
+    }
+    let expected = expected_in(&reader.state);
     reader.put_away();
     Ok(expected)
 }
 
-/// What a program can go on with where the grammar refuses its text: at the token at which it is refused, or at its end. Of a text that
-/// is not refused, what follows its end. Refused as `tokens` refuses it, or for want of memory.
+/// What a program can go on with at the place at which the grammar refuses its text: at a token, or at its end. Refused as `tokens` refuses
+/// the text, or for want of memory.
 ///
-/// This is for messages, and so no clause says what is answered.
-pub fn expected_at_fault(alloc: Global, text: &[u8]) -> Result<Expected, Fault> {
+/// This is for messages, and so no clause says what is answered. Only the item or the equation around the place is read again.
+pub fn expected_at(alloc: Global, text: &[u8], place: Place) -> Result<Expected, Fault> {
     let (tokens, _end) = tokens_to_end(alloc, text)?;
-    expected_after(alloc, text, tokens.as_slice())
+    expected_before(alloc, text, tokens.as_slice(), place)
 }

@@ -1,0 +1,10 @@
+use Rattle.std.proofs.Common.{Err, subst}
+use Rattle.in_syntax.specs.Parsing.{Parses}
+use Rattle.in_diagnosis.proofs.Told.{of_tree, without_tree}
+use Rattle.in_diagnosis.proofs.telling.add_first_fault.Goals as goal
+
+pub returns-in-Ok : goal.returns-in-Ok
+returns-in-Ok c = of_tree c.args.text.now c.in-Ok.source c.add_refusal.result c.in-Ok.ensures.tree c.add_refusal.ensures
+
+pub returns-in_ok-add_text_fault-in-Err-Refused : goal.returns-in_ok-add_text_fault-in-Err-Refused
+returns-in_ok-add_text_fault-in-Err-Refused c = without_tree c.args.text.now c.in-Err-Refused.refusal (subst (λ e. Parses c.args.text.now (Err e)) c.in-Err-Refused.field-0-is c.in-Err-Refused.ensures.tree)
