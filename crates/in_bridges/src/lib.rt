@@ -1,4 +1,5 @@
-//! Which edges of a graph lie on a ring.
+//! Which edges of a graph lie on a ring: their two ends are joined without them too. A graph is a number of vertices, numbered from 0,
+//! and a list of edges, each by its two ends.
 #![tactic(auto)]
 
 mod forest;

@@ -7,8 +7,8 @@ use Rattle.std.proofs.lemmas.List.{get_or_append_left}
 use Rattle.std.proofs.lemmas.Option.{slice_get_within, slice_get-get_or, same_Some}
 use Rattle.in_bridges.specs.Spans.{AreWithin}
 use Rattle.in_bridges.specs.Rings.{AreRings}
-use Rattle.in_bridges.proofs.Chains.{get_past, get_last}
 use Rattle.in_bridges.proofs.Forests.{pair_same}
+use Rattle.in_net.proofs.Stepping.Lists.{kept_at, last_at, more_at}
 use Rattle.in_simple.specs.declared.class_graphs.HubNumbers.{HubNumbers}
 use Rattle.in_simple.specs.declared.class_graphs.ClassGraph.{ClassGraph}
 use Rattle.in_simple.specs.declared.open_nets.Point.{Point}
@@ -35,12 +35,12 @@ adds_more hub b old new a =
     let longer = length-append new ((hub, hub + 1 + b) ∷ []) in
     record {
       size = omega arith;
-      kept = λ e p h. get_past new (hub, hub + 1 + b) p e (a.kept e p h);
+      kept = λ e p h. kept_at new ((hub, hub + 1 + b) ∷ []) e p (a.kept e p h);
       all = λ c l. elim (cases_eq c b) [
         | inl same ↦
             let e : length old + c ≡ length new = omega arith in
-            subst (λ z. slice_get (new ++ (hub, hub + 1 + b) ∷ []) (length old + c) ≡ Some (hub, hub + 1 + z)) (sym same) (subst (λ z. slice_get (new ++ (hub, hub + 1 + b) ∷ []) z ≡ Some (hub, hub + 1 + b)) (sym e) (get_last new (hub, hub + 1 + b)))
-        | inr d ↦ get_past new (hub, hub + 1 + b) (hub, hub + 1 + c) (length old + c) (a.all c (omega arith))
+            subst (λ z. slice_get (new ++ (hub, hub + 1 + b) ∷ []) (length old + c) ≡ Some (hub, hub + 1 + z)) (sym same) (subst (λ z. slice_get (new ++ (hub, hub + 1 + b) ∷ []) z ≡ Some (hub, hub + 1 + b)) (sym e) (last_at new (hub, hub + 1 + b)))
+        | inr d ↦ kept_at new ((hub, hub + 1 + b) ∷ []) (length old + c) (hub, hub + 1 + c) (a.all c (omega arith))
       ];
     }
 
@@ -166,22 +166,14 @@ module _ (o : OpenNet) (part : List Bool) (hubs : List HubNumbers) where
 
   pub wire_in : (b : ℕ) (edges : List (ℕ × ℕ)) (edge : ℕ × ℕ) → AreEdges o part b hubs edges → IsEdgeOf o part hubs b edge → AreEdges o part (b + 1) hubs (edges ++ edge ∷ [])
   wire_in b edges edge a is = record {
-    hub = λ m k h x. get_past edges edge (vertex_in hubs (Hub m), vertex_in hubs (Class m k)) (hub_edge_in hubs m k) (a.hub m k h x);
+    hub = λ m k h x. kept_at edges (edge ∷ []) (hub_edge_in hubs m k) (vertex_in hubs (Hub m), vertex_in hubs (Class m k)) (a.hub m k h x);
     wire = λ w l. elim (cases_eq w b) [
-      | inl e ↦ inr (length edges, edge, get_last edges edge, subst (λ z. IsEdgeOf o part hubs z edge) (sym e) is)
-      | inr d ↦ elim (a.wire w (omega arith)) [ inl out ↦ inl out | inr t ↦ inr (t.0, t.1, get_past edges edge t.1 t.0 t.2, t.3) ]
+      | inl e ↦ inr (length edges, edge, last_at edges edge, subst (λ z. IsEdgeOf o part hubs z edge) (sym e) is)
+      | inr d ↦ elim (a.wire w (omega arith)) [ inl out ↦ inl out | inr t ↦ inr (t.0, t.1, kept_at edges (edge ∷ []) t.0 t.1 t.2, t.3) ]
     ];
-    only = λ e p h. elim (cases_lt e (length edges)) [
-      | inl l ↦
-          let q = slice_get-get_or edges e (0, 0) l in
-          let same = same_Some p (slice_index_or edges e (0, 0)) (sym h ∙ get_past edges edge (slice_index_or edges e (0, 0)) e q) in
-          a.only e p (subst (λ z. slice_get edges e ≡ Some z) (sym same) q)
-      | inr g ↦
-          let l = slice_get_within (edges ++ edge ∷ []) e p h in
-          let s = length-append edges (edge ∷ []) in
-          let at : e ≡ length edges = omega arith in
-          let same = same_Some edge p (sym (get_last edges edge) ∙ subst (λ z. slice_get (edges ++ edge ∷ []) z ≡ Some p) at h) in
-          inr (b, subst (IsEdgeOf o part hubs b) same is)
+    only = λ e p h. elim (more_at edges edge p e h) [
+      | inl old ↦ a.only e p old
+      | inr new ↦ inr (b, subst (IsEdgeOf o part hubs b) new.1 is)
     ];
   }
 
