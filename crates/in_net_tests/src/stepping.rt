@@ -116,22 +116,63 @@ pub fn counts(alloc: Global, text: &str, last: bool) -> Result<(Items<u32>, bool
     steps(alloc, &program, &mut net, last)
 }
 
+/// A copy of a net, where what is known of it matters no more.
+fn copy_alone(alloc: Global, net: &Net) -> Result<Net, AllocError> {
+    net.copy(alloc)
+}
+
+/// Does the first active pair of a program's net, if there is one.
+fn first_step(alloc: Global, program: &Program, net: &mut Net) -> Result<(), Fault>
+    requires program { IsProgram program.now.source program.now.symbols }
+    requires over { IsOver program.now.symbols net.old }
+{
+    step(alloc, program, net, false)?;
+    Ok(())
+}
+
 /// A copy of the net of a text, and the net after one step.
 pub fn before_and_after(alloc: Global, text: &str) -> Result<(Net, Net), Fault> {
     let program = program_of(alloc, text)?;
     let mut net = net_in(alloc, &program)?;
-    let before = net.copy(alloc)?;
-    step(alloc, &program, &mut net, false)?;
+    let before = copy_alone(alloc, &net)?;
+    first_step(alloc, &program, &mut net)?;
     Ok((before, net))
+}
+
+/// The numbers of pairs of agents.
+fn numbers_of(
+    alloc: Global,
+    pairs: &[(AgentNo, AgentNo)],
+) -> Result<Items<(u32, u32)>, AllocError> {
+    let mut numbers = Items::new(alloc);
+    for (one, other) in pairs {
+        numbers.push((one.0, other.0))?;
+    }
+    Ok(numbers)
+}
+
+/// The active pairs of a net, where what is known of them matters no more.
+fn pairs_alone(
+    alloc: Global,
+    program: &Program,
+    net: &Net,
+) -> Result<Vec<(AgentNo, AgentNo)>, AllocError>
+    requires { IsOver program.now.symbols net.now }
+{
+    net.active_pairs(alloc, &program.symbols)
+}
+
+/// The numbers of the active pairs of a program's net.
+fn pairs_in(alloc: Global, program: &Program, net: &Net) -> Result<Items<(u32, u32)>, AllocError>
+    requires { IsOver program.now.symbols net.now }
+{
+    let pairs = pairs_alone(alloc, program, net)?;
+    numbers_of(alloc, pairs.as_slice())
 }
 
 /// The numbers of the active pairs of a text's net.
 pub fn pairs_of(alloc: Global, text: &str) -> Result<Items<(u32, u32)>, Fault> {
     let program = program_of(alloc, text)?;
     let net = net_in(alloc, &program)?;
-    let mut numbers = Items::new(alloc);
-    for (one, other) in net.active_pairs(alloc, &program.symbols)? {
-        numbers.push((one.0, other.0))?;
-    }
-    Ok(numbers)
+    Ok(pairs_in(alloc, &program, &net)?)
 }

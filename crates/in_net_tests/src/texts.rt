@@ -42,17 +42,39 @@ pub fn rule_in(alloc: Global, program: &Program, number: u32) -> Result<Rule, Fa
     build_rule(alloc, &program.source, &program.symbols, number)
 }
 
+/// The net of a program, where what is known of it matters no more.
+fn net_alone(alloc: Global, program: &Program) -> Result<Net, Fault>
+    requires { IsProgram program.now.source program.now.symbols }
+{
+    net_in(alloc, program)
+}
+
 /// The net of a text, or its refusal.
 pub fn net_of(alloc: Global, text: &str) -> Result<Net, Fault> {
     let program = program_of(alloc, text)?;
-    net_in(alloc, &program)
+    net_alone(alloc, &program)
+}
+
+/// A rule of a program, where what is known of it matters no more.
+fn rule_alone(alloc: Global, program: &Program) -> Result<Rule, Fault>
+    requires program { IsProgram program.now.source program.now.symbols }
+    requires number { 0 < length program.now.source.rules }
+{
+    rule_in(alloc, program, 0)
+}
+
+/// The first rule of a program, if it has one, or its refusal.
+fn first_of(alloc: Global, program: &Program) -> Result<Option<Rule>, Fault>
+    requires { IsProgram program.now.source program.now.symbols }
+{
+    if program.source.rules.len() == 0 {
+        return Ok(None);
+    }
+    Ok(Some(rule_alone(alloc, program)?))
 }
 
 /// The first rule of a text, if it has one, or its refusal.
 pub fn first_rule(alloc: Global, text: &str) -> Result<Option<Rule>, Fault> {
     let program = program_of(alloc, text)?;
-    if program.source.rules.len() == 0 {
-        return Ok(None);
-    }
-    Ok(Some(rule_in(alloc, &program, 0)?))
+    first_of(alloc, &program)
 }
