@@ -1,9 +1,10 @@
 //! What the types of a text's net and of its first rule are answered.
-ghost use Rattle.in_net_tests.specs.Texts.{IsProgram, IsBuilt, IsBuiltRule};
+ghost use Rattle.in_net_tests.specs.Texts.{IsBuilt, IsBuiltRule};
 
-use crate::texts::{Program, net_in, program_of, rule_in};
+use crate::texts::{Look, net_in, rule_in};
 use in_net::{Net, Rule};
-use in_syntax::{Fault, Refusal};
+use in_symbols::Symbols;
+use in_syntax::{Fault, Refusal, Source};
 use in_typing::{type_net, type_rule};
 use std::alloc::Global;
 
@@ -15,40 +16,41 @@ fn told(answer: Result<(), Refusal>) -> Result<(), Fault> {
     }
 }
 
-/// Tests the types of a program's net.
-fn net_fits(program: &Program, net: &Net) -> Result<(), Refusal>
-    requires { IsBuilt program.now.symbols net.now }
+/// Tests the types of a net.
+fn net_fits(symbols: &Symbols, net: &Net) -> Result<(), Refusal>
+    requires { IsBuilt symbols.now net.now }
 {
-    type_net(&program.symbols, net)
+    type_net(symbols, net)
 }
 
-/// Tests the types of a program's rule.
-fn rule_fits(program: &Program, rule: &Rule) -> Result<(), Refusal>
-    requires { IsBuiltRule program.now.symbols rule.now }
+/// Tests the types of a rule.
+fn rule_fits(symbols: &Symbols, rule: &Rule) -> Result<(), Refusal>
+    requires { IsBuiltRule symbols.now rule.now }
 {
-    type_rule(&program.symbols, rule)
+    type_rule(symbols, rule)
 }
 
-/// Builds a text's net and tests its types.
-pub fn net_typed(alloc: Global, text: &str) -> Result<(), Fault> {
-    let program = program_of(alloc, text)?;
-    let net = net_in(alloc, &program)?;
-    told(net_fits(&program, &net))
-}
+/// Builds the net and tests its types.
+#[derive(Clone, Copy)]
+pub struct NetTyped;
 
-/// Builds a program's first rule, if it has one, and tests its types.
-fn first_typed(alloc: Global, program: &Program) -> Result<(), Fault>
-    requires { IsProgram program.now.source program.now.symbols }
-{
-    if program.source.rules.len() == 0 {
-        return Ok(());
+impl Look<()> for NetTyped {
+    fn look(&self, alloc: Global, source: &Source, symbols: &Symbols) -> Result<(), Fault> {
+        let net = net_in(alloc, source, symbols)?;
+        told(net_fits(symbols, &net))
     }
-    let rule = rule_in(alloc, program, 0)?;
-    told(rule_fits(program, &rule))
 }
 
-/// Builds a text's first rule, if it has one, and tests its types.
-pub fn rule_typed(alloc: Global, text: &str) -> Result<(), Fault> {
-    let program = program_of(alloc, text)?;
-    first_typed(alloc, &program)
+/// Builds the first rule, if there is one, and tests its types.
+#[derive(Clone, Copy)]
+pub struct RuleTyped;
+
+impl Look<()> for RuleTyped {
+    fn look(&self, alloc: Global, source: &Source, symbols: &Symbols) -> Result<(), Fault> {
+        if source.rules.len() == 0 {
+            return Ok(());
+        }
+        let rule = rule_in(alloc, source, symbols, 0)?;
+        told(rule_fits(symbols, &rule))
+    }
 }
