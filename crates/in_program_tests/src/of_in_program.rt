@@ -1,7 +1,8 @@
+ghost use Rattle.std.specs.Prelude.{◌≡◌};
+
 use crate::answers::{is_answer, is_written};
 use crate::devices::{Paper, Stop, Tape};
 use in_program::{Status, act, tell_usage};
-use in_syntax::TextIn;
 use in_test_texts::{ADDITION, DUPLICATION, ERASURE, NUMBERS, SUMS, joined};
 use in_words::{Action, Usage};
 use std::alloc::{AllocError, Global};
@@ -318,8 +319,8 @@ fn a_text_may_fill_the_limit_and_not_pass_it(rt: HostRuntime) -> Result<(), Fail
 }
 
 /// The status of `check`.
-fn checked<R: TextIn>(alloc: Global, reader: &mut R, writer: &mut Paper) -> Status
-    requires { (reader.old.failures ≡ 0) × (reader.old.reads ≡ 0) × (writer.old.failures ≡ 0) }
+fn checked(alloc: Global, reader: &mut Tape, writer: &mut Paper) -> Status
+    requires { (reader.old.failures ≡ 0) × (writer.old.failures ≡ 0) }
 {
     act(alloc, &Action::Check, reader, writer)
 }
