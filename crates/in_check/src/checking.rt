@@ -1,4 +1,4 @@
-ghost use Rattle.std.specs.Prelude.{IfOk, IsTrue, Ok};
+ghost use Rattle.std.specs.Prelude.{IfOk, IsTrue, MatchOption, Ok};
 ghost use Rattle.std.specs.List.{AllByRecursion};
 ghost use Rattle.in_syntax.specs.Order.{IsWrittenInOrder};
 ghost use Rattle.in_syntax.specs.Parsing.{IsOfText};
@@ -7,9 +7,10 @@ ghost use Rattle.in_symbols.specs.Tables.{IsTabled, Tabulates};
 ghost use Rattle.in_net.specs.Built.{IsOver};
 ghost use Rattle.in_net.specs.Rules.{IsRuleOver};
 ghost use Rattle.in_cover.specs.Cover.{IsOfPair};
+ghost use Rattle.in_check.specs.Programs.{Program};
 ghost use Rattle.in_check.specs.Promises.{ReachesAsPromised};
 ghost use Rattle.in_check.specs.Systems.{system_of};
-ghost use Rattle.in_check.specs.Checking.{AreOfText, BuildsRules, ChecksNames, ChecksNet, ChecksNetSteps, ChecksPairs, ChecksRules, ChecksRuleSteps, ChecksTypes, IsChecked, TypePasses, TypesAll, TypesRules};
+ghost use Rattle.in_check.specs.Checking.{AreOfText, BuildsRules, ChecksNames, ChecksNet, ChecksNetSteps, ChecksPairs, ChecksRules, ChecksRuleSteps, ChecksTypes, IsAccepted, IsChecked, IsRefused, TypePasses, TypesAll, TypesRules};
 
 use crate::certifying::{certify_net, certify_rules};
 use crate::checked::{Certificate, Checked, Passed};
@@ -19,7 +20,7 @@ use in_symbols::Symbols;
 use in_syntax::{Fault, Refusal, Source, parse};
 use in_typing::{type_net, type_rule};
 use sqlite_items::Items;
-use std::alloc::Global;
+use std::alloc::{AllocError, Global};
 
 /// What a text declares: its tables, its rules and its net.
 #[derive(Drop)]
@@ -201,4 +202,15 @@ pub fn check(alloc: Global, text: &[u8]) -> Result<Checked, Fault>
 {
     let passed = check_tree(alloc, text)?;
     Ok(Checked { passed })
+}
+
+/// Why a program's text is refused, as `check` refuses it; nothing where it is accepted. Its only error is want of memory.
+pub fn refusal_of(alloc: Global, text: &[u8]) -> Result<Option<Refusal>, AllocError>
+    ensures { IfOk result (λ found. MatchOption found ((p : Program) × IsAccepted text.now p) (IsRefused text.now)) }
+{
+    match check_tree(alloc, text) {
+        Ok(_) => Ok(None),
+        Err(Fault::Refused(refusal)) => Ok(Some(refusal)),
+        Err(Fault::Memory(error)) => Err(error),
+    }
 }

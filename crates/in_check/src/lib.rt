@@ -9,5 +9,5 @@ pub mod laws;
 mod plain;
 
 pub use checked::{Certificate, Checked, Counts, Item};
-pub use checking::check;
+pub use checking::{check, refusal_of};
 pub use plain::Plain;

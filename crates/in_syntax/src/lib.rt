@@ -3,6 +3,7 @@
 
 mod characters;
 mod counts;
+mod expecting;
 mod faults;
 pub mod laws;
 mod lexer;
@@ -20,6 +21,7 @@ mod text;
 mod tree;
 mod words;
 
+pub use expecting::{Expected, Part, expected_at_fault};
 pub use faults::{Code, Fault, Refusal};
 pub use lexer::{MAX_NAME_CHARACTERS, MAX_TEXT_BYTES, tokens};
 pub use machine::{MAX_DEPTH, MAX_FREE_NAMES, MAX_PORTS, MAX_RULES, MAX_SYMBOLS, MAX_TYPES};

@@ -1,0 +1,146 @@
+//! What a program can go on with where the grammar refuses it: for people who look for what is wrong.
+ghost use Rattle.in_syntax.specs.Programs.{HasTexts};
+
+use crate::faults::Fault;
+use crate::lexer::tokens_to_end;
+use crate::reader::Reader;
+use crate::states::{HeadOf, Nest, State, TermOf};
+use crate::words::Token;
+use std::alloc::Global;
+
+/// What a term is a part of.
+#[derive(Clone, Copy, Debug, PartialEq, Eq)]
+pub enum Part {
+    /// The left side of an equation.
+    Left,
+    /// The right side of an equation.
+    Right,
+    /// A head.
+    Head,
+    /// An agent.
+    Agent,
+}
+
+/// What a program can go on with at some place.
+#[derive(Clone, Copy, Debug, PartialEq, Eq)]
+pub enum Expected {
+    /// An item or the net.
+    Item,
+    /// The name of a type that is declared.
+    TypeName,
+    /// `,` or `;`
+    TypeEnd,
+    /// The name of a symbol that is declared.
+    SymbolName,
+    /// `:`
+    Colon,
+    /// A port's type.
+    PortType,
+    /// `+` or `-`
+    PortSign,
+    /// `{` or `;`
+    SymbolEnd,
+    /// `,` or `}`
+    ClassEnd,
+    /// The symbol of a head.
+    HeadName,
+    /// `[`
+    HeadOpen,
+    /// A term, or the `]` of a head without terms.
+    HeadFirst,
+    /// `><`
+    Meets,
+    /// `;` after a rule.
+    RuleEnd,
+    /// `(` after `net`.
+    NetOpen,
+    /// The name of a free end, or `)`.
+    FreeFirst,
+    /// The name of a free end.
+    FreeName,
+    /// `,` or `)`
+    FreeEnd,
+    /// `{`
+    BodyOpen,
+    /// An equation, or `}`.
+    Equation,
+    /// A term.
+    Term,
+    /// What goes on after a name alone: `(`, or what follows a whole term.
+    AfterName(Part),
+    /// What goes on after a whole term.
+    AfterTerm(Part),
+    /// Nothing: the program is whole.
+    Nothing,
+}
+
+/// What a term of this nest is a part of.
+fn part_of(nest: &Nest) -> Part {
+    if nest.around.len() > 0 {
+        return Part::Agent;
+    }
+    match &nest.of {
+        TermOf::Left(_) => Part::Left,
+        TermOf::Right(..) => Part::Right,
+        TermOf::Inside(..) => Part::Head,
+    }
+}
+
+/// What a program can go on with in this state.
+fn expected_in(state: &State) -> Expected {
+    match state {
+        State::Item => Expected::Item,
+        State::TypeName(_) => Expected::TypeName,
+        State::TypeEnd(_) => Expected::TypeEnd,
+        State::SymbolName => Expected::SymbolName,
+        State::SymbolColon(_) | State::FreeColon(..) => Expected::Colon,
+        State::PortKind(_) => Expected::PortType,
+        State::PortSign(..) => Expected::PortSign,
+        State::SymbolEnd(..) => Expected::SymbolEnd,
+        State::ClassEnd(..) => Expected::ClassEnd,
+        State::HeadName(_) => Expected::HeadName,
+        State::HeadOpen(..) => Expected::HeadOpen,
+        State::HeadFirst(..) => Expected::HeadFirst,
+        State::HeadEnd(HeadOf::First, _) => Expected::Meets,
+        State::HeadEnd(HeadOf::Second(_), _) => Expected::RuleEnd,
+        State::NetOpen => Expected::NetOpen,
+        State::FreeFirst => Expected::FreeFirst,
+        State::FreeName(_) => Expected::FreeName,
+        State::FreeEnd(_) => Expected::FreeEnd,
+        State::BodyOpen(_) => Expected::BodyOpen,
+        State::Equation(_) => Expected::Equation,
+        State::TermName(_) => Expected::Term,
+        State::TermOpen(nest, _) => Expected::AfterName(part_of(nest)),
+        State::TermEnd(nest, _) => Expected::AfterTerm(part_of(nest)),
+        State::Done(_) => Expected::Nothing,
+    }
+}
+
+/// What the program can go on with at the first of these tokens that it can't go on with, or after the last of them.
+fn expected_after(alloc: Global, text: &[u8], tokens: &[Token]) -> Result<Expected, Fault>
+    requires { HasTexts text.now tokens.now }
+{
+    let mut reader = Reader::new(alloc);
+    let mut expected = Expected::Item;
+    for token in tokens {
+        match reader.take(alloc, text, *token) {
+            Ok(next) => {
+                expected = expected_in(&next.state);
+                reader = next;
+            }
+            Err(Fault::Refused(_)) => return Ok(expected),
+            Err(fault) => return Err(fault),
+        }
+    }
+    reader.put_away();
+    Ok(expected)
+}
+
+/// What a program can go on with where the grammar refuses its text: at the token at which it is refused, or at its end. Of a text that
+/// is not refused, what follows its end. Refused as `tokens` refuses it, or for want of memory.
+///
+/// This is for messages, and so no clause says what is answered.
+pub fn expected_at_fault(alloc: Global, text: &[u8]) -> Result<Expected, Fault> {
+    let (tokens, _end) = tokens_to_end(alloc, text)?;
+    expected_after(alloc, text, tokens.as_slice())
+}
