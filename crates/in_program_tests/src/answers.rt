@@ -1,5 +1,7 @@
 //! What commands write on a text that comes from memory. A function that owns a text or a writer is small, since each way out of it costs
 //! the prover.
+ghost use Rattle.std.specs.Prelude.{◌≡◌};
+
 use in_program::{Status, act};
 use in_syntax::{MemoryIn, MemoryOut};
 use in_test_texts::joined;
@@ -7,7 +9,9 @@ use in_words::Action;
 use std::alloc::Global;
 
 /// The status of a command.
-fn status_of(alloc: Global, action: Action, text: &[u8], writer: &mut MemoryOut) -> Status {
+fn status_of(alloc: Global, action: Action, text: &[u8], writer: &mut MemoryOut) -> Status
+    requires { writer.old.failures ≡ 0 }
+{
     let mut reader = MemoryIn::new(text);
     act(alloc, &action, &mut reader, writer)
 }
