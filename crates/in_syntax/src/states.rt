@@ -95,7 +95,7 @@ pub enum State {
 
 // Each drop of a state is a call, of a part a call too, since the proof of a drop goes through all variants anew.
 
-fn put_away_port(_of: PortOf) {}
+pub fn put_away_port(_of: PortOf) {}
 
 pub fn put_away_head(_of: HeadOf) {}
 
@@ -107,7 +107,7 @@ pub fn put_away_term(of: TermOf) {
     }
 }
 
-fn put_away_nest(nest: Nest) {
+pub fn put_away_nest(nest: Nest) {
     let Nest {
         of,
         around: _around,
