@@ -1,18 +1,13 @@
 -- What `check` answers is the only answer.
-use Rattle.std.proofs.Common.{ℕ, List, Result, Ok, Err, IfSome}
+use Rattle.std.proofs.Common.{ℕ, List, Result, Ok, Err}
 use Rattle.in_syntax.specs.declared.faults.Fault.{Fault}
 use Rattle.in_syntax.specs.declared.faults.Fault.TheVariants.{Refused, Memory}
 use Rattle.in_check.specs.Checking.{IsChecked}
 use Rattle.in_check.specs.Laws.{TextsAreCheckedOnce}
 use Rattle.in_check.specs.Programs.{Program}
-use Rattle.in_check_tests.specs.Only.{refusal_in, program_in, IsOnlyRefusal, IsOnlyProgram}
+use Rattle.in_check_tests.specs.Only.{IsOnlyAnswer}
 
-pub refused_alone : TextsAreCheckedOnce → (text : List ℕ) (a : Result Program Fault) → IsChecked text a → IfSome (refusal_in a) (IsOnlyRefusal text)
-refused_alone once text (Ok p) h = tt
-refused_alone once text (Err (Refused r)) h = (h, (λ s k. once text (Err (Refused r)) (Err (Refused s)) h k), λ p k. once text (Err (Refused r)) (Ok p) h k)
-refused_alone once text (Err (Memory e)) h = tt
-
-pub accepted_alone : TextsAreCheckedOnce → (text : List ℕ) (a : Result Program Fault) → IsChecked text a → IfSome (program_in a) (IsOnlyProgram text)
-accepted_alone once text (Ok p) h = (h, (λ q k. once text (Ok p) (Ok q) h k), λ r k. once text (Ok p) (Err (Refused r)) h k)
-accepted_alone once text (Err (Refused r)) h = tt
-accepted_alone once text (Err (Memory e)) h = tt
+pub answered_alone : TextsAreCheckedOnce → (text : List ℕ) (a : Result Program Fault) → IsChecked text a → IsOnlyAnswer text a
+answered_alone once text (Ok p) h = (h, (λ q k. once text (Ok p) (Ok q) h k), λ r k. once text (Ok p) (Err (Refused r)) h k)
+answered_alone once text (Err (Refused r)) h = (h, (λ s k. once text (Err (Refused r)) (Err (Refused s)) h k), λ p k. once text (Err (Refused r)) (Ok p) h k)
+answered_alone once text (Err (Memory e)) h = tt

@@ -1,20 +1,11 @@
 -- Answers to a text beside which the definitions allow no other.
-use Rattle.std.specs.Prelude.{◌≡◌, ℕ, List, Option, Some, None, Result, Ok, Err}
+use Rattle.std.specs.Prelude.{◌≡◌, ⊤, ℕ, List, Result, Ok, Err}
 use Rattle.in_syntax.specs.declared.faults.Fault.{Fault}
 use Rattle.in_syntax.specs.declared.faults.Fault.TheVariants.{Refused, Memory}
 use Rattle.in_syntax.specs.declared.faults.Refusal.{Refusal}
 use Rattle.in_check.specs.Checking.{IsAccepted, IsRefused}
 use Rattle.in_check.specs.Laws.{AreOneProgram}
 use Rattle.in_check.specs.Programs.{Program}
-
-abbrev pub refusal_in : Result Program Fault → Option Refusal
-refusal_in (Ok p) = None
-refusal_in (Err (Refused r)) = Some r
-refusal_in (Err (Memory e)) = None
-
-abbrev pub program_in : Result Program Fault → Option Program
-program_in (Ok p) = Some p
-program_in (Err f) = None
 
 -- the text is refused so alone, and no program of it is accepted
 abbrev pub IsOnlyRefusal : List ℕ → Refusal → Type 0
@@ -23,3 +14,9 @@ IsOnlyRefusal text r = IsRefused text r × ((s : Refusal) → IsRefused text s �
 -- this program of the text is accepted alone, and the text isn't refused
 abbrev pub IsOnlyProgram : List ℕ → Program → Type 0
 IsOnlyProgram text p = IsAccepted text p × ((q : Program) → IsAccepted text q → AreOneProgram p q) × ((r : Refusal) → IsRefused text r → ⊥)
+
+-- the answer is the only one; for want of memory there may be any
+abbrev pub IsOnlyAnswer : List ℕ → Result Program Fault → Type 0
+IsOnlyAnswer text (Ok p) = IsOnlyProgram text p
+IsOnlyAnswer text (Err (Refused r)) = IsOnlyRefusal text r
+IsOnlyAnswer text (Err (Memory e)) = ⊤

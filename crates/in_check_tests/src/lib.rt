@@ -7,5 +7,7 @@ mod of_definitions;
 mod of_in_check;
 #[cfg(test)]
 mod of_plain;
-pub mod only;
-pub mod reducing;
+#[cfg(test)]
+mod only;
+#[cfg(test)]
+mod reducing;

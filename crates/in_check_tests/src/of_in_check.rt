@@ -2,12 +2,11 @@ use in_check::{Checked, Counts, Item};
 use in_cover::RuleNo;
 use in_simple::{Derivation, Node, OpenNet, Point, Step, verify};
 use in_symbols::SymbolNo;
-use in_syntax::{Code, Fault};
-use in_test_programs::program_of;
+use in_syntax::Code;
+use in_test_programs::{Look, refusal_of, seen};
 use in_test_texts::{ADDITION, DUPLICATION, SUMS};
 use sqlite_items::Items;
-use std::alloc::Global;
-use std::test::Fail;
+use std::alloc::{AllocError, Global};
 
 const Z: SymbolNo = SymbolNo(0);
 
@@ -16,12 +15,6 @@ const S: SymbolNo = SymbolNo(1);
 const ADD: SymbolNo = SymbolNo(2);
 
 const DUP: SymbolNo = SymbolNo(3);
-
-/// The program of numbers, with these rules of addition and this net.
-fn numbers(alloc: Global, addition: &str, net: &str) -> Result<Checked, Fault> {
-    let text = format!(in alloc; "{SUMS}{addition}{DUPLICATION}{net}\n")?;
-    program_of(alloc, text.as_str())
-}
 
 /// Whether these are the nodes, with the lines and columns that they stand at.
 fn has_nodes(shape: &OpenNet, nodes: &[(Node, u32, u32)]) -> bool {
@@ -56,6 +49,11 @@ fn has_wires(shape: &OpenNet, wires: &[(Point, Point)]) -> bool {
     true
 }
 
+/// Whether steps build an open net.
+fn do_build(alloc: Global, steps: &Derivation, shape: &OpenNet) -> Option<bool> {
+    verify(alloc, steps, shape).ok()
+}
+
 /// Whether an open net has these nodes and wires, and the steps build it.
 fn is_built(
     alloc: Global,
@@ -63,69 +61,85 @@ fn is_built(
     steps: &Derivation,
     nodes: &[(Node, u32, u32)],
     wires: &[(Point, Point)],
-) -> Result<bool, Fail> {
-    let builds = verify(alloc, steps, shape)?;
-    Ok(builds && has_nodes(shape, nodes) && has_wires(shape, wires))
+) -> Option<bool> {
+    let builds = do_build(alloc, steps, shape)?;
+    Some(builds && has_nodes(shape, nodes) && has_wires(shape, wires))
 }
 
-/// Whether the open net of that rule has these nodes and wires, and its steps build it.
-fn has_rule(
-    alloc: Global,
-    addition: &str,
+/// Whether the open net of a rule has these nodes and wires, and its steps build it.
+#[derive(Clone, Copy)]
+struct RuleIs<'a> {
     number: u32,
-    nodes: &[(Node, u32, u32)],
-    wires: &[(Point, Point)],
-) -> Result<bool, Fail> {
-    let checked = numbers(alloc, addition, "net () { }")?;
-    if number >= checked.rules() {
-        return Ok(false);
+    nodes: &'a [(Node, u32, u32)],
+    wires: &'a [(Point, Point)],
+}
+
+impl Look<bool> for RuleIs<'_> {
+    fn look(&self, alloc: Global, program: &Checked) -> Option<bool> {
+        if self.number >= program.rules() {
+            return Some(false);
+        }
+        let item = Item::RuleItem(RuleNo(self.number));
+        let steps = program.certificate(item);
+        is_built(alloc, program.shape(item), steps, self.nodes, self.wires)
     }
-    let item = Item::RuleItem(RuleNo(number));
-    is_built(
-        alloc,
-        checked.shape(item),
-        checked.certificate(item),
-        nodes,
-        wires,
-    )
 }
 
 /// Whether the open net of the net has these nodes and wires, and its steps build it.
-fn has_net(
-    alloc: Global,
-    net: &str,
-    nodes: &[(Node, u32, u32)],
-    wires: &[(Point, Point)],
-) -> Result<bool, Fail> {
-    let checked = numbers(alloc, ADDITION, net)?;
-    is_built(
-        alloc,
-        checked.shape(Item::NetItem),
-        checked.certificate(Item::NetItem),
-        nodes,
-        wires,
-    )
+#[derive(Clone, Copy)]
+struct NetIs<'a> {
+    nodes: &'a [(Node, u32, u32)],
+    wires: &'a [(Point, Point)],
 }
 
-/// Whether the program of this net has so much, and the second rule is of these symbols.
-fn keeps(
-    alloc: Global,
-    net: &str,
+impl Look<bool> for NetIs<'_> {
+    fn look(&self, alloc: Global, program: &Checked) -> Option<bool> {
+        let steps = program.certificate(Item::NetItem);
+        let shape = program.shape(Item::NetItem);
+        is_built(alloc, shape, steps, self.nodes, self.wires)
+    }
+}
+
+/// Whether a program has so much, and its second rule is of these symbols.
+#[derive(Clone, Copy)]
+struct Keeps {
     counts: Counts,
     heads: (SymbolNo, SymbolNo),
-) -> Result<bool, Fail> {
-    let checked = numbers(alloc, ADDITION, net)?;
-    Ok(
-        checked.counts() == counts
-            && checked.symbols().symbols() == counts.symbols
-            && checked.net().agents() == counts.agents
-            && checked.rules() > 1
-            && checked.rule(RuleNo(1)).written() == heads,
-    )
 }
 
-/// The two class nodes of the addition to zero, joined by nothing.
-fn side_by_side(alloc: Global) -> Result<Derivation, Fail> {
+impl Look<bool> for Keeps {
+    fn look(&self, _alloc: Global, program: &Checked) -> Option<bool> {
+        Some(
+            program.counts() == self.counts
+                && program.symbols().symbols() == self.counts.symbols
+                && program.net().agents() == self.counts.agents
+                && program.rules() > 1
+                && program.rule(RuleNo(1)).written() == self.heads,
+        )
+    }
+}
+
+/// Whether the two class nodes of the second rule, joined by nothing, are its open net.
+#[derive(Clone, Copy)]
+struct IsSideBySide;
+
+impl Look<bool> for IsSideBySide {
+    fn look(&self, alloc: Global, program: &Checked) -> Option<bool> {
+        if program.rules() < 2 {
+            return None;
+        }
+        builds_side_by_side(alloc, program.shape(Item::RuleItem(RuleNo(1))))
+    }
+}
+
+/// Whether two nodes, joined by nothing, are an open net.
+fn builds_side_by_side(alloc: Global, shape: &OpenNet) -> Option<bool> {
+    let steps = side_by_side(alloc).ok()?;
+    do_build(alloc, &steps, shape)
+}
+
+/// Two nodes, joined by nothing.
+fn side_by_side(alloc: Global) -> Result<Derivation, AllocError> {
     let mut steps = Items::new(alloc);
     steps.push(Step::Given { node: 0 })?;
     steps.push(Step::Given { node: 1 })?;
@@ -133,30 +147,13 @@ fn side_by_side(alloc: Global) -> Result<Derivation, Fail> {
     Ok(Derivation { steps })
 }
 
-/// Whether steps build the open net of the addition to zero.
-fn build_the_sum_of_zero(alloc: Global, steps: &Derivation) -> Result<bool, Fail> {
-    let checked = numbers(alloc, ADDITION, "net () { }")?;
-    if checked.rules() < 2 {
-        return Ok(false);
-    }
-    Ok(verify(alloc, steps, checked.shape(Item::RuleItem(RuleNo(1))))?)
-}
-
-/// Whether the program of this net is refused so.
-fn is_refused(alloc: Global, net: &str, code: Code, line: u32, col: u32) -> bool {
-    match numbers(alloc, ADDITION, net) {
-        Err(Fault::Refused(refusal)) => {
-            refusal.code == code
-                && refusal.place.line == line
-                && refusal.place.col == col
-                && refusal.other.is_none()
-        }
-        _ => false,
-    }
+/// What a look at the program of numbers with these rules of addition and this net finds.
+fn seen_of<A, L: Look<A>>(alloc: Global, addition: &str, net: &str, look: &L) -> Option<A> {
+    seen(alloc, &[SUMS, addition, DUPLICATION, net, "\n"], look)
 }
 
 #[test]
-fn a_class_of_a_head_is_a_node(rt: HostRuntime) -> Result<(), Fail> {
+fn a_class_of_a_head_is_a_node(rt: HostRuntime) {
     let nodes = [
         (Node::ClassNode(S, 1), 5, 6),
         (Node::AgentNode(ADD), 5, 8),
@@ -170,23 +167,33 @@ fn a_class_of_a_head_is_a_node(rt: HostRuntime) -> Result<(), Fail> {
         (Point::Port(3, 0), Point::Port(4, 0)),
         (Point::Port(1, 2), Point::Port(4, 1)),
     ];
-    assert!(rt; has_rule(rt.alloc(), ADDITION, 0, &nodes, &wires)?);
-    Ok(())
+    let look = RuleIs {
+        number: 0,
+        nodes: &nodes,
+        wires: &wires,
+    };
+    let found = seen_of(rt.alloc(), ADDITION, "net () { }", &look);
+    assert_eq!(rt; found, Some(true));
 }
 
 #[test]
-fn a_rule_without_agents_has_class_nodes(rt: HostRuntime) -> Result<(), Fail> {
+fn a_rule_without_agents_has_class_nodes(rt: HostRuntime) {
     let nodes = [
         (Node::ClassNode(ADD, 1), 6, 13),
         (Node::ClassNode(ADD, 2), 6, 13),
     ];
     let wires = [(Point::Port(0, 0), Point::Port(1, 0))];
-    assert!(rt; has_rule(rt.alloc(), ADDITION, 1, &nodes, &wires)?);
-    Ok(())
+    let look = RuleIs {
+        number: 1,
+        nodes: &nodes,
+        wires: &wires,
+    };
+    let found = seen_of(rt.alloc(), ADDITION, "net () { }", &look);
+    assert_eq!(rt; found, Some(true));
 }
 
 #[test]
-fn places_of_one_class_are_ports_of_one_node(rt: HostRuntime) -> Result<(), Fail> {
+fn places_of_one_class_are_ports_of_one_node(rt: HostRuntime) {
     let nodes = [
         (Node::ClassNode(S, 1), 8, 6),
         (Node::AgentNode(DUP), 8, 8),
@@ -201,12 +208,17 @@ fn places_of_one_class_are_ports_of_one_node(rt: HostRuntime) -> Result<(), Fail
         (Point::Port(2, 1), Point::Port(4, 0)),
         (Point::Port(1, 2), Point::Port(4, 1)),
     ];
-    assert!(rt; has_rule(rt.alloc(), ADDITION, 2, &nodes, &wires)?);
-    Ok(())
+    let look = RuleIs {
+        number: 2,
+        nodes: &nodes,
+        wires: &wires,
+    };
+    let found = seen_of(rt.alloc(), ADDITION, "net () { }", &look);
+    assert_eq!(rt; found, Some(true));
 }
 
 #[test]
-fn a_symbol_without_places_has_no_class_node(rt: HostRuntime) -> Result<(), Fail> {
+fn a_symbol_without_places_has_no_class_node(rt: HostRuntime) {
     let nodes = [
         (Node::ClassNode(DUP, 1), 9, 13),
         (Node::AgentNode(Z), 9, 17),
@@ -216,14 +228,19 @@ fn a_symbol_without_places_has_no_class_node(rt: HostRuntime) -> Result<(), Fail
         (Point::Port(0, 0), Point::Port(1, 0)),
         (Point::Port(0, 1), Point::Port(2, 0)),
     ];
-    assert!(rt; has_rule(rt.alloc(), ADDITION, 3, &nodes, &wires)?);
-    Ok(())
+    let look = RuleIs {
+        number: 3,
+        nodes: &nodes,
+        wires: &wires,
+    };
+    let found = seen_of(rt.alloc(), ADDITION, "net () { }", &look);
+    assert_eq!(rt; found, Some(true));
 }
 
 const TURNED: &str = "rule Add[y, S(t)] >< S[Add(y, t)];\nrule Z[] >< Add[y, y];\n";
 
 #[test]
-fn the_first_head_of_the_text_comes_first(rt: HostRuntime) -> Result<(), Fail> {
+fn the_first_head_of_the_text_comes_first(rt: HostRuntime) {
     let nodes = [
         (Node::ClassNode(ADD, 1), 5, 6),
         (Node::ClassNode(ADD, 2), 5, 6),
@@ -237,14 +254,19 @@ fn the_first_head_of_the_text_comes_first(rt: HostRuntime) -> Result<(), Fail> {
         (Point::Port(0, 0), Point::Port(4, 1)),
         (Point::Port(2, 1), Point::Port(4, 2)),
     ];
-    assert!(rt; has_rule(rt.alloc(), TURNED, 0, &nodes, &wires)?);
-    Ok(())
+    let look = RuleIs {
+        number: 0,
+        nodes: &nodes,
+        wires: &wires,
+    };
+    let found = seen_of(rt.alloc(), TURNED, "net () { }", &look);
+    assert_eq!(rt; found, Some(true));
 }
 
 const SUM: &str = "net (r : nat+) { Add(Z, r) ~ Z; }";
 
 #[test]
-fn the_net_is_kept_with_its_open_net(rt: HostRuntime) -> Result<(), Fail> {
+fn the_net_is_kept_with_its_open_net(rt: HostRuntime) {
     let nodes = [
         (Node::AgentNode(ADD), 10, 18),
         (Node::AgentNode(Z), 10, 22),
@@ -255,44 +277,52 @@ fn the_net_is_kept_with_its_open_net(rt: HostRuntime) -> Result<(), Fail> {
         (Point::Free(0), Point::Port(0, 2)),
         (Point::Port(0, 0), Point::Port(2, 0)),
     ];
-    assert!(rt; has_net(rt.alloc(), SUM, &nodes, &wires)?);
-    Ok(())
+    let look = NetIs {
+        nodes: &nodes,
+        wires: &wires,
+    };
+    assert_eq!(rt; seen_of(rt.alloc(), ADDITION, SUM, &look), Some(true));
 }
 
 #[test]
-fn the_tables_rules_and_net_are_kept(rt: HostRuntime) -> Result<(), Fail> {
+fn the_tables_rules_and_net_are_kept(rt: HostRuntime) {
     let counts = Counts {
         types: 1,
         symbols: 4,
         rules: 4,
         agents: 3,
     };
-    assert!(rt; keeps(rt.alloc(), SUM, counts, (Z, ADD))?);
-    Ok(())
+    let look = Keeps {
+        counts,
+        heads: (Z, ADD),
+    };
+    assert_eq!(rt; seen_of(rt.alloc(), ADDITION, SUM, &look), Some(true));
 }
 
 #[test]
-fn nodes_beside_each_other_are_not_joined(rt: HostRuntime) -> Result<(), Fail> {
-    let alloc = rt.alloc();
-    let steps = side_by_side(alloc)?;
-    assert!(rt; !build_the_sum_of_zero(alloc, &steps)?);
-    Ok(())
+fn nodes_beside_each_other_are_not_joined(rt: HostRuntime) {
+    let found = seen_of(rt.alloc(), ADDITION, "net () { }", &IsSideBySide);
+    assert_eq!(rt; found, Some(false));
+}
+
+/// The refusal's code, line and column, where no other place is told.
+fn refused(alloc: Global, parts: &[&str]) -> Option<(Code, u32, u32)> {
+    let refusal = refusal_of(alloc, parts)?;
+    if refusal.other.is_some() {
+        return None;
+    }
+    Some((refusal.code, refusal.place.line, refusal.place.col))
 }
 
 #[test]
 fn a_stuck_net_is_refused_at_its_first_node(rt: HostRuntime) {
     let net = "net (y : nat-) { x ~ Add(y, x); }";
-    assert!(rt; is_refused(rt.alloc(), net, Code::E13, 10, 22));
+    let found = refused(rt.alloc(), &[SUMS, ADDITION, DUPLICATION, net, "\n"]);
+    assert_eq!(rt; found, Some((Code::E13, 10, 22)));
 }
 
 #[test]
 fn a_wire_between_two_outputs_is_refused(rt: HostRuntime) {
     let text = "type nat;\nnet (a : nat+, b : nat+) { a ~ b; }\n";
-    match program_of(rt.alloc(), text) {
-        Err(Fault::Refused(refusal)) => {
-            assert!(rt; refusal.code == Code::E10);
-            assert_eq!(rt; (refusal.place.line, refusal.place.col), (2, 30));
-        }
-        _ => assert!(rt; false),
-    }
+    assert_eq!(rt; refused(rt.alloc(), &[text]), Some((Code::E10, 2, 30)));
 }

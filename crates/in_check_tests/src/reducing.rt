@@ -105,6 +105,39 @@ pub fn started(alloc: Global, checked: &Checked) -> Result<u32, AllocError> {
     Ok(plain.net().agents())
 }
 
+/// So many turns at most of a net. How many there were, and how many agents are left.
+fn turned(
+    alloc: Global,
+    checked: &Checked,
+    plain: &mut Plain,
+    waiting: &mut Vec<Pair>,
+    order: Order,
+    turns: u32,
+) -> Result<Reduced, AllocError>
+    requires { plain.old.program ≡ checked.now }
+{
+    for steps in 0..turns {
+        if !step(alloc, checked, plain, waiting, order)? {
+            return Ok(Some((steps, plain.net().agents())));
+        }
+    }
+    Ok(None)
+}
+
+/// The same, and no pair has waited before.
+fn turned_anew(
+    alloc: Global,
+    checked: &Checked,
+    plain: &mut Plain,
+    order: Order,
+    turns: u32,
+) -> Result<Reduced, AllocError>
+    requires { plain.old.program ≡ checked.now }
+{
+    let mut waiting = Vec::new(alloc);
+    turned(alloc, checked, plain, &mut waiting, order, turns)
+}
+
 /// Reduces the program's net for so many turns at most.
 pub fn reduced(
     alloc: Global,
@@ -113,11 +146,5 @@ pub fn reduced(
     turns: u32,
 ) -> Result<Reduced, AllocError> {
     let mut plain = Plain::new(alloc, checked)?;
-    let mut waiting = Vec::new(alloc);
-    for steps in 0..turns {
-        if !step(alloc, checked, &mut plain, &mut waiting, order)? {
-            return Ok(Some((steps, plain.net().agents())));
-        }
-    }
-    Ok(None)
+    turned_anew(alloc, checked, &mut plain, order, turns)
 }

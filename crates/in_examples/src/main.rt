@@ -4,13 +4,14 @@
 #![tactic(auto)]
 
 use anyhow::Result;
-use in_check::{Checked, Item, check};
+use in_check::{Checked, Item};
 use in_cover::RuleNo;
 use in_diagnosis::diagnosis;
 use in_program::act;
 use in_run::Limits;
 use in_simple::verify;
 use in_syntax::{MemoryIn, MemoryOut};
+use in_test_programs::{Look, seen};
 use in_words::Action;
 use std::alloc::{AllocError, Global};
 use std::fs;
@@ -27,7 +28,17 @@ fn lines_on(alloc: Global, action: Action, text: &[u8]) -> Result<MemoryOut, All
     Ok(writer)
 }
 
-/// Whether the steps of each rule and of the net build it.
+/// Whether the steps of each rule and of the net of a program build it.
+#[derive(Clone, Copy)]
+struct Builds;
+
+impl Look<Result<bool, AllocError>> for Builds {
+    fn look(&self, alloc: Global, program: &Checked) -> Option<Result<bool, AllocError>> {
+        Some(builds(alloc, program))
+    }
+}
+
+/// The same of a program that is there.
 fn builds(alloc: Global, program: &Checked) -> Result<bool, AllocError> {
     for number in 0..program.rules() {
         let item = Item::RuleItem(RuleNo(number));
@@ -40,18 +51,23 @@ fn builds(alloc: Global, program: &Checked) -> Result<bool, AllocError> {
 }
 
 /// Whether a program that is accepted is built by its steps.
-fn is_built(alloc: Global, text: &[u8]) -> Result<bool, AllocError> {
-    match check(alloc, text) {
-        Ok(program) => builds(alloc, &program),
-        Err(_) => Ok(true),
+fn is_built(alloc: Global, text: &str) -> Result<bool, AllocError> {
+    match seen(alloc, &[text], &Builds) {
+        Some(answer) => answer,
+        None => Ok(true),
     }
+}
+
+/// Whether this is what a command writes on a program.
+fn writes(alloc: Global, action: Action, text: &str, wanted: &[u8]) -> Result<bool, AllocError> {
+    let lines = lines_on(alloc, action, text.as_bytes())?;
+    Ok(lines.text() == wanted)
 }
 
 /// Whether what a command writes on a program is the text of a file beside it.
 fn is_written(rt: &HostRuntime, action: Action, text: &str, file: &str) -> Result<bool> {
     let wanted = fs::read(rt, file)?;
-    let lines = lines_on(rt.alloc(), action, text.as_bytes())?;
-    Ok(lines.text() == wanted.as_slice())
+    Ok(writes(rt.alloc(), action, text, wanted.as_slice())?)
 }
 
 /// Whether what a command writes on a program is the text of a file beside it, where there is one.
@@ -59,12 +75,25 @@ fn is_written_if_there(rt: &HostRuntime, action: Action, text: &str, file: &str)
     Ok(!fs::exists(rt, file)? || is_written(rt, action, text, file)?)
 }
 
-/// Whether the diagnosis of a program is the text of the file beside it, and neither is there where it is accepted.
-fn is_told(rt: &HostRuntime, text: &str, file: &str) -> Result<bool> {
+/// Whether the diagnosis of a program is what stands beside it, and nothing stands there where it is accepted.
+fn is_told(rt: &HostRuntime, name: &str, text: &str) -> Result<bool> {
+    let file = format!(in rt.alloc(); "{name}.diagnosis")?;
     match diagnosis(rt.alloc(), text.as_bytes())? {
-        Some(words) => Ok(fs::read(rt, file)?.as_slice() == words.as_bytes()),
-        None => Ok(!fs::exists(rt, file)?),
+        Some(words) => Ok(fs::read(rt, file.as_str())?.as_slice() == words.as_bytes()),
+        None => Ok(!fs::exists(rt, file.as_str())?),
     }
+}
+
+/// Whether `check` answers what stands beside a program.
+fn is_checked(rt: &HostRuntime, name: &str, text: &str) -> Result<bool> {
+    let file = format!(in rt.alloc(); "{name}.check")?;
+    is_written(rt, Action::Check, text, file.as_str())
+}
+
+/// Whether `derive` answers what stands beside a program, where something does.
+fn is_derived(rt: &HostRuntime, name: &str, text: &str) -> Result<bool> {
+    let file = format!(in rt.alloc(); "{name}.derive")?;
+    is_written_if_there(rt, Action::Derive, text, file.as_str())
 }
 
 /// `run` with the limits that it has where none are given.
@@ -72,54 +101,77 @@ fn running() -> Option<Action> {
     Some(Action::Run(Limits::new(1_000_000, 65_536)?))
 }
 
-/// Whether a program's answers are as they stand beside it.
-fn is_as_written(rt: &HostRuntime, name: &str) -> Result<bool> {
-    let alloc = rt.alloc();
-    let text = fs::read_to_string(rt, format!(in alloc; "{name}.inet")?)?;
-    let steps = format!(in alloc; "{name}.derive")?;
-    let net = format!(in alloc; "{name}.run")?;
+/// Whether `run` answers what stands beside a program, where something does.
+fn is_run(rt: &HostRuntime, name: &str, text: &str) -> Result<bool> {
     let Some(running) = running() else {
         return Ok(false);
     };
-    if !is_written_if_there(rt, Action::Derive, text.as_str(), steps.as_str())?
-        || !is_written_if_there(rt, running, text.as_str(), net.as_str())?
-    {
-        return Ok(false);
-    }
-    let told = format!(in alloc; "{name}.diagnosis")?;
-    if !is_told(rt, text.as_str(), told.as_str())? {
-        return Ok(false);
-    }
-    let check = format!(in alloc; "{name}.check")?;
+    let file = format!(in rt.alloc(); "{name}.run")?;
+    is_written_if_there(rt, running, text, file.as_str())
+}
+
+/// Whether a program's answers are as they stand beside it, and its steps build it.
+fn is_answered(rt: &HostRuntime, name: &str, text: &str) -> Result<bool> {
     Ok(
-        is_written(rt, Action::Check, text.as_str(), check.as_str())?
-            && is_built(alloc, text.as_bytes())?,
+        is_checked(rt, name, text)?
+            && is_derived(rt, name, text)?
+            && is_run(rt, name, text)?
+            && is_told(rt, name, text)?
+            && is_built(rt.alloc(), text)?,
     )
 }
 
-/// The names of the programs in this folder, in alphabetical order.
+/// The text of a program.
+fn text_of(rt: &HostRuntime, name: &str) -> Result<String> {
+    let file = format!(in rt.alloc(); "{name}.inet")?;
+    Ok(fs::read_to_string(rt, file.as_str())?)
+}
+
+/// The same of the program's name.
+fn is_as_written(rt: &HostRuntime, name: &str) -> Result<bool> {
+    let text = text_of(rt, name)?;
+    is_answered(rt, name, text.as_str())
+}
+
+/// One more name, where it is a program's.
+fn push_program(alloc: Global, file: &str, names: &mut Vec<String>) -> Result<()> {
+    if let Some(name) = file.strip_suffix(".inet") {
+        names.push(String::from_str(alloc, name)?)?;
+    }
+    Ok(())
+}
+
+/// The names of the programs in this folder.
+fn push_programs(rt: &HostRuntime, names: &mut Vec<String>) -> Result<()> {
+    for entry in fs::read_dir(rt, ".")? {
+        push_program(rt.alloc(), entry?.file_name(), names)?;
+    }
+    Ok(())
+}
+
+/// The same in alphabetical order.
 fn programs(rt: &HostRuntime) -> Result<Vec<String>> {
     let mut names = Vec::new(rt.alloc());
-    for entry in fs::read_dir(rt, ".")? {
-        let entry = entry?;
-        if let Some(name) = entry.file_name().strip_suffix(".inet") {
-            names.push(String::from_str(rt.alloc(), name)?)?;
-        }
-    }
+    push_programs(rt, &mut names)?;
     names.sort()?;
     Ok(names)
 }
 
-fn main(rt: HostRuntime) -> Result<()> {
-    let names = programs(&rt)?;
-    let mut wrong = names.is_empty();
-    for name in names.as_slice() {
-        if !is_as_written(&rt, name.as_str())? {
-            wrong = true;
+/// Whether there are programs and all are answered as is written beside them; each that isn't is told.
+fn are_as_written(rt: &HostRuntime, names: &[String]) -> Result<bool> {
+    let mut right = !names.is_empty();
+    for name in names {
+        if !is_as_written(rt, name.as_str())? {
+            right = false;
             println!(rt; "{name}: what is written on it is not what stands beside it")?;
         }
     }
-    if !wrong {
+    Ok(right)
+}
+
+fn main(rt: HostRuntime) -> Result<()> {
+    let names = programs(&rt)?;
+    if are_as_written(&rt, names.as_slice())? {
         println!(rt; "each example is answered as is written beside it")?;
     }
     Ok(())

@@ -1,6 +1,7 @@
 -- What is known of a text's tables, rules and net: as much as the calls on them ask for.
 use Rattle.std.specs.Prelude.{◌≡◌, ◌++◌, map, IsTrue}
 use Rattle.in_syntax.specs.Order.{IsWrittenInOrder}
+use Rattle.in_syntax.specs.Parsing.{IsOfText}
 use Rattle.in_syntax.specs.Sizes.{IsSized}
 use Rattle.in_symbols.specs.Faults.{IsFaultless}
 use Rattle.in_symbols.specs.Tables.{Tables, IsTabled}
@@ -8,6 +9,10 @@ use Rattle.in_net.specs.Built.{IsOver}
 use Rattle.in_net.specs.Parts.{Parts}
 use Rattle.in_net.specs.Rules.{RuleParts, IsRuleOver, auxiliary_types}
 use Rattle.in_syntax.specs.declared.tree.Source.{Source}
+
+-- a tree that was read
+abbrev pub IsRead : Source → Type 0
+IsRead s = IsOfText s × IsSized s × IsWrittenInOrder s
 
 -- a tree that was read, with its tables
 abbrev pub IsProgram : Source → Tables → Type 0

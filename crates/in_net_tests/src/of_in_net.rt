@@ -1,35 +1,36 @@
-use crate::pairs::makes;
-use crate::texts::{first_rule, net_of};
+use crate::pairs::Makes;
+use crate::texts::{FirstRule, TheNet, holds, refused_at, seen};
 use in_net::{AgentNo, Net, Point, Rule};
 use in_symbols::SymbolNo;
-use in_syntax::{Code, Fault, Refusal};
+use in_syntax::Code;
 use in_test_texts::{ADDITION, DUPLICATION, SUMS};
-use std::alloc::Global;
 use std::test::Fail;
 
-/// The refusal's code, line and column.
-fn refused(alloc: Global, text: &str) -> Option<(Code, u32, u32)> {
-    match net_of(alloc, text) {
-        Err(Fault::Refused(Refusal { code, place, .. })) => Some((code, place.line, place.col)),
-        _ => None,
-    }
+/// The net of a sum, S(S(Z)) + S(Z).
+const SUM: &str = "net (r : nat+) { S(S(Z)) ~ Add(S(Z), r); }\n";
+
+/// Whether the net has these symbols as agents 0, 3 and 6.
+fn has_symbols(
+    net: &Net,
+    first: Option<SymbolNo>,
+    fourth: Option<SymbolNo>,
+    seventh: Option<SymbolNo>,
+) -> bool {
+    net.symbol(AgentNo(0)) == first
+        && net.symbol(AgentNo(3)) == fourth
+        && net.symbol(AgentNo(6)) == seventh
 }
 
-/// The net of a sum, S(S(Z)) + S(Z).
-fn sum(alloc: Global) -> Result<Net, Fault> {
-    let text = format!(in alloc; "{SUMS}net (r : nat+) {{ S(S(Z)) ~ Add(S(Z), r); }}\n")?;
-    net_of(alloc, text.as_str())
+/// Whether the net is as built, with so many agents and free ends.
+fn is_built_with(net: &Net, agents: u32, free_ends: u32) -> bool {
+    net.is_built() && net.agents() == agents && net.free_ends() == free_ends
 }
 
 #[test]
 fn a_sum_has_six_agents_and_a_free_end(rt: HostRuntime) -> Result<(), Fail> {
-    let net = sum(rt.alloc())?;
-    assert!(rt; net.is_built());
-    assert_eq!(rt; net.agents(), 6);
-    assert_eq!(rt; net.symbol(AgentNo(0)), Some(SymbolNo(1)));
-    assert_eq!(rt; net.symbol(AgentNo(3)), Some(SymbolNo(2)));
-    assert_eq!(rt; net.symbol(AgentNo(6)), None);
-    assert_eq!(rt; net.free_ends(), 1);
+    let net = seen(rt.alloc(), &[SUMS, SUM], &TheNet)?;
+    assert!(rt; is_built_with(&net, 6, 1));
+    assert!(rt; has_symbols(&net, Some(SymbolNo(1)), Some(SymbolNo(2)), None));
     Ok(())
 }
 
@@ -46,7 +47,7 @@ fn are_the_wires_of_a_sum(net: &Net) -> bool {
 
 #[test]
 fn a_sum_has_six_wires(rt: HostRuntime) -> Result<(), Fail> {
-    let net = sum(rt.alloc())?;
+    let net = seen(rt.alloc(), &[SUMS, SUM], &TheNet)?;
     assert!(rt; are_the_wires_of_a_sum(&net));
     Ok(())
 }
@@ -62,13 +63,13 @@ fn is_one_wire(net: &Net) -> bool {
 #[test]
 fn a_wire_runs_over_many_equations(rt: HostRuntime) -> Result<(), Fail> {
     let text = "type nat;\nsymbol Z : nat+;\nnet (r : nat+) { a ~ b; b ~ c; r ~ a; c ~ Z; }";
-    let net = net_of(rt.alloc(), text)?;
+    let net = seen(rt.alloc(), &[text], &TheNet)?;
     assert!(rt; is_one_wire(&net));
     Ok(())
 }
 
 #[test]
-fn each_fault_of_a_net_is_answered_at_its_place(rt: HostRuntime) -> Result<(), Fail> {
+fn each_fault_of_a_net_is_answered_at_its_place(rt: HostRuntime) {
     let cases = [
         ("net (r : nat+) { S ~ Add(Z, r); }", Code::E07, 18),
         ("net (r : nat+) { S(x) ~ Add(Z, r); }", Code::E08, 20),
@@ -83,10 +84,9 @@ fn each_fault_of_a_net_is_answered_at_its_place(rt: HostRuntime) -> Result<(), F
         ("net () { x ~ y; z ~ z; x ~ y; }", Code::E09, 19),
     ];
     for (net, code, col) in cases {
-        let text = format!(in rt.alloc(); "{SUMS}{net}")?;
-        assert_eq!(rt; refused(rt.alloc(), text.as_str()), Some((code, 5, col)));
+        let answer = refused_at(seen(rt.alloc(), &[SUMS, net], &TheNet));
+        assert_eq!(rt; answer, Some((code, 5, col)));
     }
-    Ok(())
 }
 
 /// Whether the right member is that of the rule of S and Add, with its ends at S's place first.
@@ -120,15 +120,23 @@ fn has_heads(rule: &Rule, written: (u32, u32), heads: (u32, u32), columns: (u32,
         && (rule.head_place(0).col, rule.head_place(1).col) == columns
 }
 
+/// Whether it is the rule of S and Add, in this order.
+fn is_the_sum(rule: Option<&Rule>) -> bool {
+    match rule {
+        Some(rule) => {
+            has_heads(rule, (1, 2), (1, 2), (6, 22))
+                && is_the_member(rule.member())
+                && has_its_wires(rule.member())
+        }
+        None => false,
+    }
+}
+
 #[test]
 fn a_rule_is_read_back(rt: HostRuntime) -> Result<(), Fail> {
-    let text = format!(in rt.alloc(); "{SUMS}rule S[Add(y, t)] >< Add[y, S(t)];\nnet () {{ }}")?;
-    let Some(rule) = first_rule(rt.alloc(), text.as_str())? else {
-        return Err(Fail::new("no rule"));
-    };
-    assert!(rt; has_heads(&rule, (1, 2), (1, 2), (6, 22)));
-    assert!(rt; is_the_member(rule.member()));
-    assert!(rt; has_its_wires(rule.member()));
+    let text = "rule S[Add(y, t)] >< Add[y, S(t)];\nnet () { }";
+    let rule = seen(rt.alloc(), &[SUMS, text], &FirstRule)?;
+    assert!(rt; is_the_sum(rule.as_ref()));
     Ok(())
 }
 
@@ -137,71 +145,74 @@ fn begins_with(member: &Net, symbol: SymbolNo) -> bool {
     member.free_ends() == 3 && member.symbol(AgentNo(0)) == Some(symbol)
 }
 
+/// Whether it is the rule of Add and S, in this order, and its ends stand at S's place first.
+fn is_the_sum_turned(rule: Option<&Rule>) -> bool {
+    match rule {
+        Some(rule) => {
+            has_heads(rule, (2, 1), (1, 2), (6, 22)) && begins_with(rule.member(), SymbolNo(1))
+        }
+        None => false,
+    }
+}
+
 #[test]
 fn the_ends_of_the_constructor_come_first(rt: HostRuntime) -> Result<(), Fail> {
-    let text = format!(in rt.alloc(); "{SUMS}rule Add[y, S(t)] >< S[Add(y, t)];\nnet () {{ }}")?;
-    let Some(rule) = first_rule(rt.alloc(), text.as_str())? else {
-        return Err(Fail::new("no rule"));
-    };
-    assert!(rt; has_heads(&rule, (2, 1), (1, 2), (6, 22)));
-    assert!(rt; begins_with(rule.member(), SymbolNo(1)));
+    let text = "rule Add[y, S(t)] >< S[Add(y, t)];\nnet () { }";
+    let rule = seen(rt.alloc(), &[SUMS, text], &FirstRule)?;
+    assert!(rt; is_the_sum_turned(rule.as_ref()));
     Ok(())
 }
 
 #[test]
-fn a_sum_makes_one_pair(rt: HostRuntime) -> Result<(), Fail> {
-    let text = format!(in rt.alloc();
-        "{SUMS}{ADDITION}net (r : nat+) {{ S(S(Z)) ~ Add(S(Z), r); }}\n"
-    )?;
-    assert!(rt; makes(rt.alloc(), text.as_str(), &[(1, 6)])?);
-    Ok(())
+fn a_sum_makes_one_pair(rt: HostRuntime) {
+    let look = Makes { pairs: &[(1, 6)] };
+    assert!(rt; holds(rt.alloc(), &[SUMS, ADDITION, SUM], &look));
 }
 
 const TWO_PAIRS: &str =
     "net (r : nat+, s : nat+) { Add(x, r) ~ S(Z); Add(S(Z), x) ~ S(Z); s ~ Z; }\n";
 
 #[test]
-fn a_pair_beside_another_on_one_path_makes_its_own_alone(rt: HostRuntime) -> Result<(), Fail> {
-    let text = format!(in rt.alloc(); "{SUMS}{ADDITION}{TWO_PAIRS}")?;
-    assert!(rt; makes(rt.alloc(), text.as_str(), &[(2, 9)])?);
-    Ok(())
+fn a_pair_beside_another_on_one_path_makes_its_own_alone(rt: HostRuntime) {
+    let look = Makes { pairs: &[(2, 9)] };
+    assert!(rt; holds(rt.alloc(), &[SUMS, ADDITION, TWO_PAIRS], &look));
 }
 
-/// Symbols and the rule of an agent whose two auxiliary ports can be wired to one another.
-const TURN: &str = "symbol Era : nat-;\nsymbol W : nat- {nat-, nat+};\nrule Z[] >< W[Era, Z];\n";
+/// Symbols and the rule of an agent whose two auxiliary ports can be wired to one another, and a net.
+const TURN: &str =
+    "symbol Era : nat-;\nsymbol W : nat- {nat-, nat+};\nrule Z[] >< W[Era, Z];\nnet () { W(x, x) ~ Z; }\n";
 
 #[test]
-fn a_path_within_the_pair_joins_two_new_agents(rt: HostRuntime) -> Result<(), Fail> {
-    let text = format!(in rt.alloc(); "{SUMS}{TURN}net () {{ W(x, x) ~ Z; }}\n")?;
-    assert!(rt; makes(rt.alloc(), text.as_str(), &[(3, 2)])?);
-    Ok(())
+fn a_path_within_the_pair_joins_two_new_agents(rt: HostRuntime) {
+    let look = Makes { pairs: &[(3, 2)] };
+    assert!(rt; holds(rt.alloc(), &[SUMS, TURN], &look));
 }
 
-/// Symbols and the rule of an agent whose right member joins auxiliary ports.
+/// Symbols and the rule of an agent whose right member joins auxiliary ports, and a net.
 const LOOPS: &str =
-    "symbol Era : nat-;\nsymbol L : nat- {nat-, nat+, nat-, nat+};\nrule Z[] >< L[x, x, y, y];\n";
+    "symbol Era : nat-;\nsymbol L : nat- {nat-, nat+, nat-, nat+};\nrule Z[] >< L[x, x, y, y];\nnet () { L(Z, x, x, y) ~ Z; y ~ Era; }\n";
 
 #[test]
-fn a_path_goes_through_both_sides_several_times(rt: HostRuntime) -> Result<(), Fail> {
-    let text = format!(in rt.alloc(); "{SUMS}{LOOPS}net () {{ L(Z, x, x, y) ~ Z; y ~ Era; }}\n")?;
-    assert!(rt; makes(rt.alloc(), text.as_str(), &[(1, 3)])?);
-    Ok(())
+fn a_path_goes_through_both_sides_several_times(rt: HostRuntime) {
+    let look = Makes { pairs: &[(1, 3)] };
+    assert!(rt; holds(rt.alloc(), &[SUMS, LOOPS], &look));
 }
 
-#[test]
-fn the_pairs_stand_in_the_order_of_their_ends(rt: HostRuntime) -> Result<(), Fail> {
-    let text = format!(in rt.alloc();
-        "{SUMS}{DUPLICATION}net (r : nat+, s : nat+) {{ Dup(x, y) ~ S(Z); y ~ Add(Z, r); x ~ Add(Z, s); }}\n"
-    )?;
-    assert!(rt; makes(rt.alloc(), text.as_str(), &[(2, 7), (8, 5), (9, 3)])?);
-    Ok(())
-}
+const COPIES: &str =
+    "net (r : nat+, s : nat+) { Dup(x, y) ~ S(Z); y ~ Add(Z, r); x ~ Add(Z, s); }\n";
 
 #[test]
-fn a_free_end_makes_no_pair(rt: HostRuntime) -> Result<(), Fail> {
-    let text = format!(in rt.alloc();
-        "{SUMS}{DUPLICATION}net (r : nat+, s : nat+) {{ Dup(r, s) ~ S(Z); }}\n"
-    )?;
-    assert!(rt; makes(rt.alloc(), text.as_str(), &[(2, 3)])?);
-    Ok(())
+fn the_pairs_stand_in_the_order_of_their_ends(rt: HostRuntime) {
+    let look = Makes {
+        pairs: &[(2, 7), (8, 5), (9, 3)],
+    };
+    assert!(rt; holds(rt.alloc(), &[SUMS, DUPLICATION, COPIES], &look));
+}
+
+const FREE_COPIES: &str = "net (r : nat+, s : nat+) { Dup(r, s) ~ S(Z); }\n";
+
+#[test]
+fn a_free_end_makes_no_pair(rt: HostRuntime) {
+    let look = Makes { pairs: &[(2, 3)] };
+    assert!(rt; holds(rt.alloc(), &[SUMS, DUPLICATION, FREE_COPIES], &look));
 }

@@ -1,4 +1,5 @@
-use crate::stepping::{before_and_after, counts, pairs_of};
+use crate::stepping::{BeforeAndAfter, Counts, EndsWith, HasPairs};
+use crate::texts::{holds, seen};
 use in_net::{AgentNo, Net, Point};
 use in_symbols::SymbolNo;
 use in_test_texts::{ADDITION, ERASURE, SUMS};
@@ -7,12 +8,12 @@ use std::test::Fail;
 const TWO_AND_ONE: &str = "net (r : nat+) { S(S(Z)) ~ Add(S(Z), r); }\n";
 
 #[test]
-fn a_sum_of_two_and_one_has_six_agents_until_four_are_left(rt: HostRuntime) -> Result<(), Fail> {
-    let text = format!(in rt.alloc(); "{SUMS}{ADDITION}{TWO_AND_ONE}")?;
-    let (agents, partners) = counts(rt.alloc(), text.as_str(), false)?;
-    assert_eq!(rt; *agents.as_slice(), *[6, 6, 4].as_slice());
-    assert!(rt; partners);
-    Ok(())
+fn a_sum_of_two_and_one_has_six_agents_until_four_are_left(rt: HostRuntime) {
+    let look = Counts {
+        last: false,
+        agents: &[6, 6, 4],
+    };
+    assert!(rt; holds(rt.alloc(), &[SUMS, ADDITION, TWO_AND_ONE], &look));
 }
 
 /// A symbol whose two auxiliary ports can be wired to one another.
@@ -20,31 +21,28 @@ const TURN: &str =
     "symbol W : nat- {nat-, nat+};\nrule Z[] >< W[Era, Z];\nrule S[Era] >< W[Era, Z];\n";
 
 #[test]
-fn a_wire_within_the_pair_takes_two_steps_and_leaves_no_agent(rt: HostRuntime) -> Result<(), Fail> {
-    let text = format!(in rt.alloc();
-        "{SUMS}{ADDITION}{ERASURE}{TURN}net () {{ W(x, x) ~ Z; }}\n"
-    )?;
-    let (agents, partners) = counts(rt.alloc(), text.as_str(), false)?;
-    assert_eq!(rt; *agents.as_slice(), *[2, 0].as_slice());
-    assert!(rt; partners);
-    Ok(())
+fn a_wire_within_the_pair_takes_two_steps_and_leaves_no_agent(rt: HostRuntime) {
+    let look = Counts {
+        last: false,
+        agents: &[2, 0],
+    };
+    let parts = [SUMS, ADDITION, ERASURE, TURN, "net () { W(x, x) ~ Z; }\n"];
+    assert!(rt; holds(rt.alloc(), &parts, &look));
 }
 
 const TWO_PAIRS: &str =
     "net (r : nat+, s : nat+) { Add(x, r) ~ S(Z); Add(S(Z), x) ~ S(Z); s ~ Z; }\n";
 
 #[test]
-fn two_pairs_with_a_path_through_both_take_four_steps_in_either_order(
-    rt: HostRuntime,
-) -> Result<(), Fail> {
-    let text = format!(in rt.alloc(); "{SUMS}{ADDITION}{TWO_PAIRS}")?;
+fn two_pairs_with_a_path_through_both_take_four_steps_in_either_order(rt: HostRuntime) {
     for last in [false, true] {
-        let (agents, partners) = counts(rt.alloc(), text.as_str(), last)?;
-        assert_eq!(rt; agents.len(), 4);
-        assert_eq!(rt; agents.as_slice()[3], 5);
-        assert!(rt; partners);
+        let look = EndsWith {
+            last,
+            steps: 4,
+            agents: 5,
+        };
+        assert!(rt; holds(rt.alloc(), &[SUMS, ADDITION, TWO_PAIRS], &look));
     }
-    Ok(())
 }
 
 /// Whether the wires of the net after the first step of 2 and 1 are these. S and Add, agents 0 and 3, are gone; the new Add is 6 and the
@@ -69,21 +67,31 @@ fn has_agents(net: &Net, built: bool, first: Option<SymbolNo>, seventh: Option<S
     net.is_built() == built && net.symbol(AgentNo(0)) == first && net.symbol(AgentNo(6)) == seventh
 }
 
+/// Whether it is the net of 2 and 1.
+fn is_as_it_was(net: &Net) -> bool {
+    has_agents(net, true, Some(SymbolNo(1)), None)
+}
+
+/// Whether it is that net after the first step.
+fn is_as_it_is_after(net: &Net) -> bool {
+    are_the_wires_after(net)
+        && has_free_end(net, "r")
+        && has_agents(net, false, None, Some(SymbolNo(2)))
+}
+
 #[test]
 fn the_net_after_an_interaction_is_read_back(rt: HostRuntime) -> Result<(), Fail> {
-    let text = format!(in rt.alloc(); "{SUMS}{ADDITION}{TWO_AND_ONE}")?;
-    let (before, net) = before_and_after(rt.alloc(), text.as_str())?;
-    assert!(rt; are_the_wires_after(&net));
-    assert!(rt; has_free_end(&net, "r"));
-    assert!(rt; has_agents(&net, false, None, Some(SymbolNo(2))));
-    assert!(rt; has_agents(&before, true, Some(SymbolNo(1)), None));
+    let parts = [SUMS, ADDITION, TWO_AND_ONE];
+    let (before, net) = seen(rt.alloc(), &parts, &BeforeAndAfter)?;
+    assert!(rt; is_as_it_was(&before));
+    assert!(rt; is_as_it_is_after(&net));
     Ok(())
 }
 
 #[test]
-fn the_active_pairs_have_the_constructor_first(rt: HostRuntime) -> Result<(), Fail> {
-    let text = format!(in rt.alloc(); "{SUMS}{ADDITION}{TWO_PAIRS}")?;
-    let pairs = pairs_of(rt.alloc(), text.as_str())?;
-    assert_eq!(rt; *pairs.as_slice(), *[(1, 0), (6, 3)].as_slice());
-    Ok(())
+fn the_active_pairs_have_the_constructor_first(rt: HostRuntime) {
+    let look = HasPairs {
+        pairs: &[(1, 0), (6, 3)],
+    };
+    assert!(rt; holds(rt.alloc(), &[SUMS, ADDITION, TWO_PAIRS], &look));
 }

@@ -5,14 +5,14 @@ ghost use Rattle.in_net.specs.Built.{IsOver};
 ghost use Rattle.in_net.specs.Rules.{IsRuleOver};
 ghost use Rattle.in_net_tests.specs.Texts.{IsProgram, HasTypesOfHeads};
 
-use crate::texts::{Program, net_in, program_of, rule_in};
+use crate::texts::{Look, net_in, rule_in};
 use in_net::{AgentNo, MOST_AGENTS, Net, Rule, made};
 use in_symbols::Symbols;
-use in_syntax::Fault;
+use in_syntax::{Fault, Source};
 use std::alloc::{AllocError, Global};
 
 /// Whether these are the pairs of these numbers.
-fn are_the_pairs(pairs: &[(AgentNo, AgentNo)], expected: &[(u32, u32)]) -> bool {
+pub fn are_the_pairs(pairs: &[(AgentNo, AgentNo)], expected: &[(u32, u32)]) -> bool {
     if pairs.len() != expected.len() {
         return false;
     }
@@ -68,31 +68,38 @@ fn first_pair(
     Ok(Some(pairs[0]))
 }
 
-/// The same of the first rule of a program and the first active pair of its net.
-fn makes_first(
-    alloc: Global,
-    program: &Program,
-    net: &Net,
-    expected: &[(u32, u32)],
-) -> Result<bool, Fault>
-    requires program { IsProgram program.now.source program.now.symbols }
-    requires over { IsOver program.now.symbols net.now }
-{
-    if program.source.rules.len() == 0 {
-        return Ok(false);
-    }
-    match first_pair(alloc, &program.symbols, net)? {
-        Some(pair) => {
-            let rule = rule_in(alloc, program, 0)?;
-            Ok(makes_at(alloc, &program.symbols, net, &rule, pair, expected)?)
-        }
-        None => Ok(false),
+/// Whether `made` answers these pairs for the first rule and the first active pair of the net.
+#[derive(Clone, Copy)]
+pub struct Makes<'a> {
+    pub pairs: &'a [(u32, u32)],
+}
+
+impl Look<bool> for Makes<'_> {
+    fn look(&self, alloc: Global, source: &Source, symbols: &Symbols) -> Result<bool, Fault> {
+        let net = net_in(alloc, source, symbols)?;
+        makes_first(alloc, source, symbols, &net, self.pairs)
     }
 }
 
-/// The same of the text of the program.
-pub fn makes(alloc: Global, text: &str, expected: &[(u32, u32)]) -> Result<bool, Fault> {
-    let program = program_of(alloc, text)?;
-    let net = net_in(alloc, &program)?;
-    makes_first(alloc, &program, &net, expected)
+/// The same of a net.
+fn makes_first(
+    alloc: Global,
+    source: &Source,
+    symbols: &Symbols,
+    net: &Net,
+    expected: &[(u32, u32)],
+) -> Result<bool, Fault>
+    requires program { IsProgram source.now symbols.now }
+    requires over { IsOver symbols.now net.now }
+{
+    if source.rules.len() == 0 {
+        return Ok(false);
+    }
+    match first_pair(alloc, symbols, net)? {
+        Some(pair) => {
+            let rule = rule_in(alloc, source, symbols, 0)?;
+            Ok(makes_at(alloc, symbols, net, &rule, pair, expected)?)
+        }
+        None => Ok(false),
+    }
 }

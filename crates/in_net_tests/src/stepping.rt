@@ -5,24 +5,27 @@ ghost use Rattle.in_net.specs.Built.{IsOver};
 ghost use Rattle.in_net.specs.Rules.{IsRuleOver};
 ghost use Rattle.in_net_tests.specs.Texts.{IsProgram, IsBuiltRule, HasTypesOfHeads};
 
-use crate::texts::{Program, net_in, program_of, rule_in};
+use crate::pairs::are_the_pairs;
+use crate::texts::{Look, net_in, rule_in};
 use in_net::{AgentNo, MOST_AGENTS, Net, Rule, interact};
-use in_syntax::Fault;
+use in_symbols::Symbols;
+use in_syntax::{Fault, Source};
 use sqlite_items::Items;
 use std::alloc::{AllocError, Global};
 
 /// The rule for the symbols of these two agents, in this order.
 fn rule_for(
     alloc: Global,
-    program: &Program,
+    source: &Source,
+    symbols: &Symbols,
     net: &Net,
     pair: (AgentNo, AgentNo),
 ) -> Result<Option<Rule>, Fault>
-    requires { IsProgram program.now.source program.now.symbols }
-    ensures { IfOk result (λ found. IfSome found (IsBuiltRule program.now.symbols)) }
+    requires { IsProgram source.now symbols.now }
+    ensures { IfOk result (λ found. IfSome found (IsBuiltRule symbols.now)) }
 {
-    for number in 0..program.source.rules.len() as u32 {
-        let rule = rule_in(alloc, program, number)?;
+    for number in 0..source.rules.len() as u32 {
+        let rule = rule_in(alloc, source, symbols, number)?;
         let (first, second) = rule.heads();
         if net.symbol(pair.0) == Some(first) && net.symbol(pair.1) == Some(second) {
             return Ok(Some(rule));
@@ -34,16 +37,16 @@ fn rule_for(
 /// Replaces an active pair by the rule's right member, where the rule is the one for it.
 fn interact_at(
     alloc: Global,
-    program: &Program,
+    symbols: &Symbols,
     net: &mut Net,
     rule: &Rule,
     pair: (AgentNo, AgentNo),
 ) -> Result<bool, AllocError>
-    requires over { IsOver program.now.symbols net.old }
-    requires rule { IsRuleOver program.now.symbols rule.now }
-    requires declared { HasTypesOfHeads program.now.symbols rule.now }
+    requires over { IsOver symbols.now net.old }
+    requires rule { IsRuleOver symbols.now rule.now }
+    requires declared { HasTypesOfHeads symbols.now rule.now }
     requires active { AreActive net.old pair.0 pair.1 }
-    ensures { OnOk result (IsOver program.now.symbols net.new) }
+    ensures { OnOk result (IsOver symbols.now net.new) }
 {
     let (first, second) = rule.heads();
     if net.agents() > MOST_AGENTS {
@@ -59,19 +62,25 @@ fn interact_at(
 }
 
 /// Does the first or the last of the active pairs, if there is one.
-fn step(alloc: Global, program: &Program, net: &mut Net, last: bool) -> Result<bool, Fault>
-    requires program { IsProgram program.now.source program.now.symbols }
-    requires over { IsOver program.now.symbols net.old }
-    ensures { OnOk result (IsOver program.now.symbols net.new) }
+fn step(
+    alloc: Global,
+    source: &Source,
+    symbols: &Symbols,
+    net: &mut Net,
+    last: bool,
+) -> Result<bool, Fault>
+    requires program { IsProgram source.now symbols.now }
+    requires over { IsOver symbols.now net.old }
+    ensures { OnOk result (IsOver symbols.now net.new) }
 {
-    let pairs = net.active_pairs(alloc, &program.symbols)?;
+    let pairs = net.active_pairs(alloc, symbols)?;
     let chosen = if last { pairs.len().max(1) - 1 } else { 0 };
     if chosen >= pairs.len() {
         return Ok(false);
     }
     let pair = pairs[chosen];
-    match rule_for(alloc, program, net, pair)? {
-        Some(rule) => Ok(interact_at(alloc, program, net, &rule, pair)?),
+    match rule_for(alloc, source, symbols, net, pair)? {
+        Some(rule) => Ok(interact_at(alloc, symbols, net, &rule, pair)?),
         None => Ok(false),
     }
 }
@@ -90,17 +99,18 @@ fn are_wires_partners(net: &Net) -> bool {
 /// How many agents there are after each step, and whether the wires are partners each time.
 fn steps(
     alloc: Global,
-    program: &Program,
+    source: &Source,
+    symbols: &Symbols,
     net: &mut Net,
     last: bool,
 ) -> Result<(Items<u32>, bool), Fault>
-    requires program { IsProgram program.now.source program.now.symbols }
-    requires over { IsOver program.now.symbols net.old }
+    requires program { IsProgram source.now symbols.now }
+    requires over { IsOver symbols.now net.old }
 {
     let mut counts = Items::new(alloc);
     let mut partners = are_wires_partners(net);
     'steps: for _ in 0..20 {
-        if !step(alloc, program, net, last)? {
+        if !step(alloc, source, symbols, net, last)? {
             break;
         }
         counts.push(net.agents())?;
@@ -109,29 +119,102 @@ fn steps(
     Ok((counts, partners))
 }
 
-/// The same of the net of a text.
-pub fn counts(alloc: Global, text: &str, last: bool) -> Result<(Items<u32>, bool), Fault> {
-    let program = program_of(alloc, text)?;
-    let mut net = net_in(alloc, &program)?;
-    steps(alloc, &program, &mut net, last)
+/// The same of the net of a program.
+fn counted(
+    alloc: Global,
+    source: &Source,
+    symbols: &Symbols,
+    last: bool,
+) -> Result<(Items<u32>, bool), Fault>
+    requires { IsProgram source.now symbols.now }
+{
+    let mut net = net_in(alloc, source, symbols)?;
+    steps(alloc, source, symbols, &mut net, last)
 }
 
-/// A copy of the net of a text, and the net after one step.
-pub fn before_and_after(alloc: Global, text: &str) -> Result<(Net, Net), Fault> {
-    let program = program_of(alloc, text)?;
-    let mut net = net_in(alloc, &program)?;
-    let before = net.copy(alloc)?;
-    step(alloc, &program, &mut net, false)?;
-    Ok((before, net))
+/// Whether there are so many agents after each step, and the wires are partners each time.
+#[derive(Clone, Copy)]
+pub struct Counts<'a> {
+    pub last: bool,
+    pub agents: &'a [u32],
 }
 
-/// The numbers of the active pairs of a text's net.
-pub fn pairs_of(alloc: Global, text: &str) -> Result<Items<(u32, u32)>, Fault> {
-    let program = program_of(alloc, text)?;
-    let net = net_in(alloc, &program)?;
-    let mut numbers = Items::new(alloc);
-    for (one, other) in net.active_pairs(alloc, &program.symbols)? {
-        numbers.push((one.0, other.0))?;
+impl Look<bool> for Counts<'_> {
+    fn look(&self, alloc: Global, source: &Source, symbols: &Symbols) -> Result<bool, Fault> {
+        let (counts, partners) = counted(alloc, source, symbols, self.last)?;
+        Ok(partners && *counts.as_slice() == *self.agents)
     }
-    Ok(numbers)
+}
+
+/// Whether there are so many steps, so many agents at the end, and the wires are partners each time.
+#[derive(Clone, Copy)]
+pub struct EndsWith {
+    pub last: bool,
+    pub steps: usize,
+    pub agents: u32,
+}
+
+impl Look<bool> for EndsWith {
+    fn look(&self, alloc: Global, source: &Source, symbols: &Symbols) -> Result<bool, Fault> {
+        let (counts, partners) = counted(alloc, source, symbols, self.last)?;
+        let end = counts.as_slice().last() == Some(&self.agents);
+        Ok(partners && counts.len() == self.steps && end)
+    }
+}
+
+/// A copy of the net, where what is known of it matters no more.
+fn copy_alone(alloc: Global, net: &Net) -> Result<Net, AllocError> {
+    net.copy(alloc)
+}
+
+/// A copy of the net, and the net after its first active pair.
+#[derive(Clone, Copy)]
+pub struct BeforeAndAfter;
+
+impl Look<(Net, Net)> for BeforeAndAfter {
+    fn look(&self, alloc: Global, source: &Source, symbols: &Symbols) -> Result<(Net, Net), Fault> {
+        let mut net = net_in(alloc, source, symbols)?;
+        let before = before_step(alloc, source, symbols, &mut net)?;
+        Ok((before, net))
+    }
+}
+
+/// Does the first active pair of a net, if there is one, and answers a copy of the net before.
+fn before_step(
+    alloc: Global,
+    source: &Source,
+    symbols: &Symbols,
+    net: &mut Net,
+) -> Result<Net, Fault>
+    requires program { IsProgram source.now symbols.now }
+    requires over { IsOver symbols.now net.old }
+{
+    let before = copy_alone(alloc, net)?;
+    step(alloc, source, symbols, net, false)?;
+    Ok(before)
+}
+
+/// The active pairs of a net, where what is known of them matters no more.
+fn pairs_alone(
+    alloc: Global,
+    symbols: &Symbols,
+    net: &Net,
+) -> Result<Vec<(AgentNo, AgentNo)>, AllocError>
+    requires { IsOver symbols.now net.now }
+{
+    net.active_pairs(alloc, symbols)
+}
+
+/// Whether these are the active pairs of the net, by their numbers.
+#[derive(Clone, Copy)]
+pub struct HasPairs<'a> {
+    pub pairs: &'a [(u32, u32)],
+}
+
+impl Look<bool> for HasPairs<'_> {
+    fn look(&self, alloc: Global, source: &Source, symbols: &Symbols) -> Result<bool, Fault> {
+        let net = net_in(alloc, source, symbols)?;
+        let pairs = pairs_alone(alloc, symbols, &net)?;
+        Ok(are_the_pairs(pairs.as_slice(), self.pairs))
+    }
 }

@@ -1,28 +1,56 @@
 //! What the types of a text's net and of its first rule are answered.
-use crate::texts::{net_in, program_of, rule_in};
-use in_syntax::Fault;
+ghost use Rattle.in_net_tests.specs.Texts.{IsBuilt, IsBuiltRule};
+
+use crate::texts::{Look, net_in, rule_in};
+use in_net::{Net, Rule};
+use in_symbols::Symbols;
+use in_syntax::{Fault, Refusal, Source};
 use in_typing::{type_net, type_rule};
 use std::alloc::Global;
 
-/// Builds a text's net and tests its types.
-pub fn net_typed(alloc: Global, text: &str) -> Result<(), Fault> {
-    let program = program_of(alloc, text)?;
-    let net = net_in(alloc, &program)?;
-    match type_net(&program.symbols, &net) {
+/// The same answer as a fault.
+fn told(answer: Result<(), Refusal>) -> Result<(), Fault> {
+    match answer {
         Ok(()) => Ok(()),
         Err(refusal) => Err(Fault::Refused(refusal)),
     }
 }
 
-/// Builds a text's first rule, if it has one, and tests its types.
-pub fn rule_typed(alloc: Global, text: &str) -> Result<(), Fault> {
-    let program = program_of(alloc, text)?;
-    if program.source.rules.len() == 0 {
-        return Ok(());
+/// Tests the types of a net.
+fn net_fits(symbols: &Symbols, net: &Net) -> Result<(), Refusal>
+    requires { IsBuilt symbols.now net.now }
+{
+    type_net(symbols, net)
+}
+
+/// Tests the types of a rule.
+fn rule_fits(symbols: &Symbols, rule: &Rule) -> Result<(), Refusal>
+    requires { IsBuiltRule symbols.now rule.now }
+{
+    type_rule(symbols, rule)
+}
+
+/// Builds the net and tests its types.
+#[derive(Clone, Copy)]
+pub struct NetTyped;
+
+impl Look<()> for NetTyped {
+    fn look(&self, alloc: Global, source: &Source, symbols: &Symbols) -> Result<(), Fault> {
+        let net = net_in(alloc, source, symbols)?;
+        told(net_fits(symbols, &net))
     }
-    let rule = rule_in(alloc, &program, 0)?;
-    match type_rule(&program.symbols, &rule) {
-        Ok(()) => Ok(()),
-        Err(refusal) => Err(Fault::Refused(refusal)),
+}
+
+/// Builds the first rule, if there is one, and tests its types.
+#[derive(Clone, Copy)]
+pub struct RuleTyped;
+
+impl Look<()> for RuleTyped {
+    fn look(&self, alloc: Global, source: &Source, symbols: &Symbols) -> Result<(), Fault> {
+        if source.rules.len() == 0 {
+            return Ok(());
+        }
+        let rule = rule_in(alloc, source, symbols, 0)?;
+        told(rule_fits(symbols, &rule))
     }
 }

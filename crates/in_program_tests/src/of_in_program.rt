@@ -1,7 +1,9 @@
+ghost use Rattle.std.specs.Prelude.{◌≡◌};
+
+use crate::answers::{is_answer, is_written};
 use crate::devices::{Paper, Stop, Tape};
 use in_program::{Status, act, tell_usage};
-use in_syntax::{MemoryIn, MemoryOut};
-use in_test_texts::{ADDITION, DUPLICATION, ERASURE, NUMBERS, SUMS};
+use in_test_texts::{ADDITION, DUPLICATION, ERASURE, NUMBERS, SUMS, joined};
 use in_words::{Action, Usage};
 use std::alloc::{AllocError, Global};
 use std::process::Abort;
@@ -9,41 +11,33 @@ use std::test::Fail;
 
 const ACCEPTED: &str = "accepted: 1 types, 2 symbols, 0 rules, 3 agents\n";
 
-/// What is written on a text that comes from memory, and the status.
-fn answer_to(
+/// Checks the lines and the status of a command on a text.
+fn expect_of(
+    rt: &impl Abort,
     alloc: Global,
     action: Action,
-    text: &[u8],
-) -> Result<(MemoryOut, Status), AllocError> {
-    let mut reader = MemoryIn::new(text);
-    let mut writer = MemoryOut::new(alloc, 4096)?;
-    let status = act(alloc, &action, &mut reader, &mut writer);
-    Ok((writer, status))
-}
-
-/// Checks the lines and the status on a text that comes from memory.
-fn expect_of(rt: &impl Abort, alloc: Global, action: Action, text: &str, lines: &str, status: u8) {
-    match answer_to(alloc, action, text.as_bytes()) {
-        Ok((written, answer)) => {
-            assert!(rt; written.text() == lines.as_bytes(), "{lines}");
-            assert!(rt; answer == Status(status), "{lines}");
-        }
-        Err(_) => assert!(rt; false, "memory for {lines}"),
-    }
+    parts: &[&str],
+    lines: &[&str],
+    status: u8,
+) {
+    assert!(rt;
+        is_written(alloc, action, parts, lines, status) == Some(true),
+        "{lines:?}"
+    );
 }
 
 /// Checks the line and the status of `check`.
-fn expect(rt: &impl Abort, alloc: Global, text: &str, line: &str, status: u8) {
-    expect_of(rt, alloc, Action::Check, text, line, status);
+fn expect(rt: &impl Abort, alloc: Global, parts: &[&str], line: &str, status: u8) {
+    expect_of(rt, alloc, Action::Check, parts, &[line], status);
 }
 
 /// The text of a program of three agents, as it is accepted.
-fn accepted_text(alloc: Global) -> Result<String, Fail> {
-    Ok(format!(in alloc; "{NUMBERS}net (r : nat+) {{ r ~ S(S(Z)); }}\n")?)
+fn accepted_text(alloc: Global) -> Result<String, AllocError> {
+    joined(alloc, &[NUMBERS, "net (r : nat+) { r ~ S(S(Z)); }\n"])
 }
 
 #[test]
-fn nets_over_four_declarations_are_refused(rt: HostRuntime) -> Result<(), Fail> {
+fn nets_over_four_declarations_are_refused(rt: HostRuntime) {
     let rows = [
         ("net () { }", "refused E15 at 4:8: Add, Z\n"),
         (
@@ -60,14 +54,13 @@ fn nets_over_four_declarations_are_refused(rt: HostRuntime) -> Result<(), Fail> 
         ("net () { x ~ x; }", "refused E09 at 5:12: ~\n"),
     ];
     for (net, line) in rows {
-        let text = format!(in rt.alloc(); "{SUMS}{net}\n")?;
-        expect(&rt, rt.alloc(), text.as_str(), line, 1);
+        let text = [SUMS, net, "\n"];
+        expect(&rt, rt.alloc(), &text, line, 1);
     }
-    Ok(())
 }
 
 #[test]
-fn programs_with_rules_are_accepted_or_refused(rt: HostRuntime) -> Result<(), Fail> {
+fn programs_with_rules_are_accepted_or_refused(rt: HostRuntime) {
     let rows = [
         (
             "net () { }",
@@ -105,14 +98,13 @@ fn programs_with_rules_are_accepted_or_refused(rt: HostRuntime) -> Result<(), Fa
         ),
     ];
     for (rest, line, status) in rows {
-        let text = format!(in rt.alloc(); "{SUMS}{ADDITION}{rest}\n")?;
-        expect(&rt, rt.alloc(), text.as_str(), line, status);
+        let text = [SUMS, ADDITION, rest, "\n"];
+        expect(&rt, rt.alloc(), &text, line, status);
     }
-    Ok(())
 }
 
 #[test]
-fn faults_of_rules_stand_at_their_places(rt: HostRuntime) -> Result<(), Fail> {
+fn faults_of_rules_stand_at_their_places(rt: HostRuntime) {
     let rows = [
         ("rule Z[] >< Add[y, y];", "refused E14 at 7:6: Z\n"),
         ("rule Add[y, y] >< Z[];", "refused E14 at 7:6: Add\n"),
@@ -133,14 +125,13 @@ fn faults_of_rules_stand_at_their_places(rt: HostRuntime) -> Result<(), Fail> {
         ("rule Z[] >< Z[y];", "refused E07 at 7:13: Z\n"),
     ];
     for (rule, line) in rows {
-        let text = format!(in rt.alloc(); "{SUMS}{ADDITION}{rule}\nnet () {{ }}\n")?;
-        expect(&rt, rt.alloc(), text.as_str(), line, 1);
+        let text = [SUMS, ADDITION, rule, "\nnet () { }\n"];
+        expect(&rt, rt.alloc(), &text, line, 1);
     }
-    Ok(())
 }
 
 #[test]
-fn passes_come_one_after_another(rt: HostRuntime) -> Result<(), Fail> {
+fn passes_come_one_after_another(rt: HostRuntime) {
     let rows = [
         // a rule's agents before the net's, its types after the net's agents
         (
@@ -168,46 +159,52 @@ fn passes_come_one_after_another(rt: HostRuntime) -> Result<(), Fail> {
         ("symbol K : nat-;\nnet () { }", "refused E15 at 7:8: K, Z\n"),
     ];
     for (rest, line) in rows {
-        let text = format!(in rt.alloc(); "{SUMS}{ADDITION}{rest}\n")?;
-        expect(&rt, rt.alloc(), text.as_str(), line, 1);
+        let text = [SUMS, ADDITION, rest, "\n"];
+        expect(&rt, rt.alloc(), &text, line, 1);
     }
-    Ok(())
 }
 
 /// A program whose last rule has a right member of so many agents.
-fn text_of_agents(alloc: Global, agents: usize) -> Result<String, Fail> {
-    let mut text = format!(in alloc;
-        "{NUMBERS}symbol L : nat- {{nat+}};\nrule S[L(y)] >< L[y];\nrule Z[] >< L["
+fn text_of_agents(alloc: Global, agents: usize) -> Result<String, AllocError> {
+    let mut text = joined(
+        alloc,
+        &[
+            NUMBERS,
+            "symbol L : nat- {nat+};\nrule S[L(y)] >< L[y];\nrule Z[] >< L[",
+        ],
     )?;
-    for _ in 1..agents {
-        text.push_str("S(")?;
-    }
+    push_often(&mut text, "S(", agents)?;
     text.push_str("Z")?;
-    for _ in 1..agents {
-        text.push_str(")")?;
-    }
+    push_often(&mut text, ")", agents)?;
     text.push_str("];\nnet () { }\n")?;
     Ok(text)
 }
 
-#[test]
-fn sixty_four_agents_are_a_right_member_and_one_more_too_many(rt: HostRuntime) -> Result<(), Fail> {
-    let alloc = rt.alloc();
-    let fits = text_of_agents(alloc, 64)?;
-    expect(
-        &rt,
-        alloc,
-        fits.as_str(),
-        "accepted: 1 types, 3 symbols, 2 rules, 0 agents\n",
-        0,
-    );
-    let more = text_of_agents(alloc, 65)?;
-    expect(&rt, alloc, more.as_str(), "refused E03 at 6:143: Z\n", 1);
+/// One word after a text, once less than so often.
+fn push_often(text: &mut String, word: &str, count: usize) -> Result<(), AllocError> {
+    for _ in 1..count {
+        text.push_str(word)?;
+    }
     Ok(())
 }
 
+/// Checks the line and the status on a rule of so many agents.
+fn expect_agents(rt: &impl Abort, alloc: Global, agents: usize, line: &str, status: u8) {
+    match text_of_agents(alloc, agents) {
+        Ok(text) => expect(rt, alloc, &[text.as_str()], line, status),
+        Err(_) => assert!(rt; false, "memory for {line}"),
+    }
+}
+
 #[test]
-fn faults_of_names_stand_at_their_names(rt: HostRuntime) -> Result<(), Fail> {
+fn sixty_four_agents_are_a_right_member_and_one_more_too_many(rt: HostRuntime) {
+    let line = "accepted: 1 types, 3 symbols, 2 rules, 0 agents\n";
+    expect_agents(&rt, rt.alloc(), 64, line, 0);
+    expect_agents(&rt, rt.alloc(), 65, "refused E03 at 6:143: Z\n", 1);
+}
+
+#[test]
+fn faults_of_names_stand_at_their_names(rt: HostRuntime) {
     let rows = [
         ("symbol Z : nat+;\nnet () { }", "refused E04 at 5:8: Z\n"),
         ("symbol K : bit+;\nnet () { }", "refused E05 at 5:12: bit\n"),
@@ -216,14 +213,13 @@ fn faults_of_names_stand_at_their_names(rt: HostRuntime) -> Result<(), Fail> {
         ("net (r : nat+, r : nat-) { }", "refused E04 at 5:16: r\n"),
     ];
     for (rest, line) in rows {
-        let text = format!(in rt.alloc(); "{SUMS}{rest}\n")?;
-        expect(&rt, rt.alloc(), text.as_str(), line, 1);
+        let text = [SUMS, rest, "\n"];
+        expect(&rt, rt.alloc(), &text, line, 1);
     }
-    Ok(())
 }
 
 #[test]
-fn faults_of_nets_stand_at_their_places(rt: HostRuntime) -> Result<(), Fail> {
+fn faults_of_nets_stand_at_their_places(rt: HostRuntime) {
     let rows = [
         (
             "net (r : nat+) { S ~ Add(Z, r); }",
@@ -241,96 +237,137 @@ fn faults_of_nets_stand_at_their_places(rt: HostRuntime) -> Result<(), Fail> {
         ),
     ];
     for (net, line) in rows {
-        let text = format!(in rt.alloc(); "{SUMS}{net}\n")?;
-        expect(&rt, rt.alloc(), text.as_str(), line, 1);
+        let text = [SUMS, net, "\n"];
+        expect(&rt, rt.alloc(), &text, line, 1);
     }
-    Ok(())
+}
+
+/// A net of so many lines of two agents.
+fn text_of_lines(alloc: Global, lines: usize) -> Result<String, AllocError> {
+    let mut text = joined(alloc, &[SUMS, ADDITION, ERASURE, "net () {\n"])?;
+    push_often(&mut text, "Era ~ Z;\n", lines.saturating_add(1))?;
+    text.push_str("}\n")?;
+    Ok(text)
+}
+
+/// Checks the line and the status on a net of so many lines.
+fn expect_lines(rt: &impl Abort, alloc: Global, lines: usize, line: &str, status: u8) {
+    match text_of_lines(alloc, lines) {
+        Ok(text) => expect(rt, alloc, &[text.as_str()], line, status),
+        Err(_) => assert!(rt; false, "memory for {line}"),
+    }
 }
 
 #[test]
-fn a_thousand_agents_are_accepted_and_one_more_refused(rt: HostRuntime) -> Result<(), Fail> {
-    let alloc = rt.alloc();
-    for (lines, line, status) in [
-        (
-            500usize,
-            "accepted: 1 types, 4 symbols, 4 rules, 1000 agents\n",
-            0,
-        ),
-        (501, "refused E03 at 511:1: Era\n", 1),
-    ] {
-        let mut text = format!(in alloc; "{SUMS}{ADDITION}{ERASURE}net () {{\n")?;
-        for _ in 0..lines {
-            text.push_str("Era ~ Z;\n")?;
-        }
-        text.push_str("}\n")?;
-        expect(&rt, alloc, text.as_str(), line, status);
-    }
-    Ok(())
+fn a_thousand_agents_are_accepted_and_one_more_refused(rt: HostRuntime) {
+    let line = "accepted: 1 types, 4 symbols, 4 rules, 1000 agents\n";
+    expect_lines(&rt, rt.alloc(), 500, line, 0);
+    expect_lines(&rt, rt.alloc(), 501, "refused E03 at 511:1: Era\n", 1);
 }
 
 #[test]
-fn nets_over_three_declarations_are_accepted_or_refused(rt: HostRuntime) -> Result<(), Fail> {
+fn nets_over_three_declarations_are_accepted_or_refused(rt: HostRuntime) {
     let rows = [
         ("net (r : nat+) { r ~ S(S(Z)); }", ACCEPTED, 0),
         ("net () { S(Z) ~ S(Z); }", "refused E10 at 4:15: ~\n", 1),
     ];
     for (net, line, status) in rows {
-        let text = format!(in rt.alloc(); "{NUMBERS}{net}")?;
-        expect(&rt, rt.alloc(), text.as_str(), line, status);
+        let text = [NUMBERS, net];
+        expect(&rt, rt.alloc(), &text, line, status);
     }
-    Ok(())
 }
 
 #[test]
-fn names_come_before_types(rt: HostRuntime) -> Result<(), Fail> {
-    let text = format!(in rt.alloc(); "{NUMBERS}net () {{ S(Z) ~ S(Z); x ~ x; }}")?;
-    expect(
-        &rt,
-        rt.alloc(),
-        text.as_str(),
-        "refused E09 at 4:25: ~\n",
-        1,
-    );
-    Ok(())
+fn names_come_before_types(rt: HostRuntime) {
+    let text = [NUMBERS, "net () { S(Z) ~ S(Z); x ~ x; }"];
+    expect(&rt, rt.alloc(), &text, "refused E09 at 4:25: ~\n", 1);
+}
+
+/// The accepted text with so many bytes, the last of them blanks.
+fn padded(alloc: Global, program: &[u8], length: usize) -> Result<Vec<u8>, AllocError> {
+    let mut text = vec![in alloc; b' '; length]?;
+    for (place, byte) in text.iter_mut().zip(program) {
+        *place = *byte;
+    }
+    Ok(text)
+}
+
+/// Whether this is the line, and this the status, on a program with blanks after it.
+fn is_answer_to_padded(
+    alloc: Global,
+    program: &str,
+    length: usize,
+    line: &str,
+    status: u8,
+) -> Option<bool> {
+    let text = padded(alloc, program.as_bytes(), length).ok()?;
+    is_answer(alloc, Action::Check, text.as_slice(), line, status)
 }
 
 #[test]
 fn a_text_may_fill_the_limit_and_not_pass_it(rt: HostRuntime) -> Result<(), Fail> {
     let alloc = rt.alloc();
+    let text = accepted_text(alloc)?;
     for (length, line, status) in [
         (1_048_576usize, ACCEPTED, 0),
         (1_048_577, "refused E03 at 1:1\n", 1),
     ] {
-        let program = accepted_text(alloc)?;
-        let mut text = vec![in alloc; b' '; length]?;
-        for (place, byte) in text.iter_mut().zip(program.as_bytes()) {
-            *place = *byte;
-        }
-        let (written, answer) = answer_to(alloc, Action::Check, text.as_slice())?;
-        assert!(rt; written.text() == line.as_bytes(), "{length}");
-        assert!(rt; answer == Status(status), "{length}");
+        let found = is_answer_to_padded(alloc, text.as_str(), length, line, status);
+        assert!(rt; found == Some(true), "{length}");
     }
     Ok(())
 }
 
+/// The status of `check`.
+fn checked(alloc: Global, reader: &mut Tape, writer: &mut Paper) -> Status
+    requires { (reader.old.failures ≡ 0) × (writer.old.failures ≡ 0) }
+{
+    act(alloc, &Action::Check, reader, writer)
+}
+
+/// Whether this is the line, and this the status, where a text comes byte by byte and one read fails.
+fn is_answer_to_drips(alloc: Global, text: &[u8], failing: u64, line: &[u8], status: u8) -> bool {
+    let mut reader = Tape::dripping(text, failing);
+    let mut writer = Paper::new(alloc);
+    let answer = checked(alloc, &mut reader, &mut writer);
+    answer == Status(status) && writer.has(line)
+}
+
+/// Checks this at each read of a text.
+fn expect_drips(rt: &impl Abort, alloc: Global, text: &[u8]) {
+    let reads = (text.len() as u64).saturating_add(1);
+    for failing in 1..reads.saturating_add(1) {
+        assert!(rt;
+            is_answer_to_drips(alloc, text, failing, b"", 6),
+            "{failing}"
+        );
+    }
+    let failing = reads.saturating_add(1);
+    assert!(rt; is_answer_to_drips(alloc, text, failing, ACCEPTED.as_bytes(), 0));
+}
+
 #[test]
 fn a_text_comes_byte_by_byte_until_a_read_fails(rt: HostRuntime) -> Result<(), Fail> {
-    let alloc = rt.alloc();
-    let text = accepted_text(alloc)?;
-    let reads = (text.len() as u64).saturating_add(1);
-    for failing in 1..reads.saturating_add(2) {
-        let mut reader = Tape::dripping(text.as_bytes(), failing);
-        let mut writer = Paper::new(alloc);
-        let answer = act(alloc, &Action::Check, &mut reader, &mut writer);
-        if failing <= reads {
-            assert!(rt; answer == Status(6), "{failing}");
-            assert!(rt; writer.has(b""), "{failing}");
-        } else {
-            assert!(rt; answer == Status(0), "{failing}");
-            assert!(rt; writer.has(ACCEPTED.as_bytes()), "{failing}");
-        }
-    }
+    let text = accepted_text(rt.alloc())?;
+    expect_drips(&rt, rt.alloc(), text.as_bytes());
     Ok(())
+}
+
+/// A writer that takes so many bytes in all and so many a write.
+#[derive(Clone, Copy)]
+struct Width {
+    room: usize,
+    step: usize,
+    stop: Stop,
+}
+
+/// Whether a writer takes what it has room for of this text's line.
+fn is_front(alloc: Global, text: &[u8], line: &[u8], width: Width, status: u8) -> bool {
+    let mut reader = Tape::new(text);
+    let mut writer = Paper::narrow(alloc, width.room, width.step, width.stop);
+    let answer = checked(alloc, &mut reader, &mut writer);
+    let wanted = if width.room < line.len() { 6 } else { status };
+    answer == Status(wanted) && writer.has(&line[..width.room.min(line.len())])
 }
 
 /// Checks that of this text's line the writers take what they have room for.
@@ -338,12 +375,9 @@ fn expect_fronts(rt: &impl Abort, alloc: Global, text: &str, line: &[u8], status
     for stop in [Stop::Fails, Stop::TakesNothing] {
         for room in 0..line.len().saturating_add(1) {
             for step in [1usize, 7, 100] {
-                let mut reader = Tape::new(text.as_bytes());
-                let mut writer = Paper::narrow(alloc, room, step, stop);
-                let answer = act(alloc, &Action::Check, &mut reader, &mut writer);
-                let wanted = if room < line.len() { 6 } else { status };
-                assert!(rt; answer == Status(wanted), "{room} {step}");
-                assert!(rt; writer.has(&line[..room.min(line.len())]), "{room} {step}");
+                let width = Width { room, step, stop };
+                let found = is_front(alloc, text.as_bytes(), line, width, status);
+                assert!(rt; found, "{room} {step}");
             }
         }
     }
@@ -358,43 +392,45 @@ fn a_line_is_written_as_far_as_the_writer_goes(rt: HostRuntime) -> Result<(), Fa
     Ok(())
 }
 
+/// Whether this is what is said of the words, as output and as an error, and the status.
+fn is_told(alloc: Global, usage: &Usage, output: &[u8], error: &[u8], status: u8) -> bool {
+    let mut writer = Paper::new(alloc);
+    let mut errors = Paper::new(alloc);
+    let answer = tell_usage(usage, &mut writer, &mut errors);
+    answer == Status(status) && writer.has(output) && errors.has(error)
+}
+
+/// The status where what is said of the words finds no room.
+fn is_cut(alloc: Global, usage: &Usage, status: u8) -> bool {
+    let mut writer = Paper::narrow(alloc, 2, 1, Stop::Fails);
+    let mut errors = Paper::narrow(alloc, 2, 1, Stop::Fails);
+    tell_usage(usage, &mut writer, &mut errors) == Status(status)
+}
+
 #[test]
-fn help_is_output_and_wrong_words_are_an_error(rt: HostRuntime) -> Result<(), Fail> {
-    let alloc = rt.alloc();
-    let help = Usage::Help(String::from_str(alloc, "help\n")?);
-    let wrong = Usage::Wrong(String::from_str(alloc, "wrong\n")?);
-    let rows: [(&Usage, &[u8], &[u8], u8); 3] = [
-        (&help, b"help\n", b"", 0),
-        (&wrong, b"", b"wrong\n", 2),
-        (&Usage::Memory, b"memory\n", b"", 5),
-    ];
-    for (usage, output, error, status) in rows {
-        let mut writer = Paper::new(alloc);
-        let mut errors = Paper::new(alloc);
-        let answer = tell_usage(usage, &mut writer, &mut errors);
-        assert!(rt; answer == Status(status), "{status}");
-        assert!(rt; writer.has(output), "{status}");
-        assert!(rt; errors.has(error), "{status}");
-    }
+fn help_is_output(rt: HostRuntime) -> Result<(), Fail> {
+    let help = Usage::Help(String::from_str(rt.alloc(), "help\n")?);
+    assert!(rt; is_told(rt.alloc(), &help, b"help\n", b"", 0));
+    assert!(rt; is_cut(rt.alloc(), &help, 6));
     Ok(())
 }
 
 #[test]
-fn what_is_said_of_words_may_find_no_writer(rt: HostRuntime) -> Result<(), Fail> {
-    let alloc = rt.alloc();
-    let help = Usage::Help(String::from_str(alloc, "help\n")?);
-    let wrong = Usage::Wrong(String::from_str(alloc, "wrong\n")?);
-    for (usage, status) in [(&help, 6), (&wrong, 2), (&Usage::Memory, 6)] {
-        let mut writer = Paper::narrow(alloc, 2, 1, Stop::Fails);
-        let mut errors = Paper::narrow(alloc, 2, 1, Stop::Fails);
-        let answer = tell_usage(usage, &mut writer, &mut errors);
-        assert!(rt; answer == Status(status), "{status}");
-    }
+fn wrong_words_are_an_error(rt: HostRuntime) -> Result<(), Fail> {
+    let wrong = Usage::Wrong(String::from_str(rt.alloc(), "wrong\n")?);
+    assert!(rt; is_told(rt.alloc(), &wrong, b"", b"wrong\n", 2));
+    assert!(rt; is_cut(rt.alloc(), &wrong, 2));
     Ok(())
 }
 
 #[test]
-fn the_examples_of_the_language_are_refused(rt: HostRuntime) -> Result<(), Fail> {
+fn want_of_memory_is_told_of_words_too(rt: HostRuntime) {
+    assert!(rt; is_told(rt.alloc(), &Usage::Memory, b"memory\n", b"", 5));
+    assert!(rt; is_cut(rt.alloc(), &Usage::Memory, 6));
+}
+
+#[test]
+fn the_examples_of_the_language_are_refused(rt: HostRuntime) {
     let rows = [
         ("net () { $ }", "refused E01 at 1:10\n"),
         ("net () { Z() ~ Z; }", "refused E02 at 1:12: )\n"),
@@ -437,102 +473,98 @@ fn the_examples_of_the_language_are_refused(rt: HostRuntime) -> Result<(), Fail>
         ),
     ];
     for (text, line) in rows {
-        expect(&rt, rt.alloc(), text, line, 1);
+        expect(&rt, rt.alloc(), &[text], line, 1);
     }
-    Ok(())
 }
 
 #[test]
-fn rules_and_nets_that_are_not_built_by_steps_are_refused(rt: HostRuntime) -> Result<(), Fail> {
+fn rules_and_nets_that_are_not_built_by_steps_are_refused(rt: HostRuntime) {
     let one_class =
         "type nat;\nsymbol Z : nat+;\nsymbol S : nat+ {nat-};\nsymbol Add : nat- {nat-, nat+};\n";
     let two_classes =
         "symbol Dup : nat- {nat+} {nat+};\nrule S[Dup(a, b)] >< Dup[S(a), S(b)];\nrule Z[] >< Dup[Z, Z];\n";
     let alloc = rt.alloc();
     for action in [Action::Check, Action::Derive] {
-        let net = format!(in alloc; "{SUMS}{ADDITION}net (y : nat-) {{ x ~ Add(y, x); }}\n")?;
+        let net = [SUMS, ADDITION, "net (y : nat-) { x ~ Add(y, x); }\n"];
+        expect_of(&rt, alloc, action, &net, &["refused E13 at 7:22: Add\n"], 1);
+        let rule = [one_class, ADDITION, "net () { }\n"];
         expect_of(
             &rt,
             alloc,
             action,
-            net.as_str(),
-            "refused E13 at 7:22: Add\n",
+            &rule,
+            &["refused E12 at 6:13: Add\n"],
             1,
         );
-        let rule = format!(in alloc; "{one_class}{ADDITION}net () {{ }}\n")?;
+        let typed = [one_class, ADDITION, "net () { S(Z) ~ S(Z); }\n"];
+        expect_of(&rt, alloc, action, &typed, &["refused E10 at 7:15: ~\n"], 1);
+        let parted = [
+            SUMS,
+            ADDITION,
+            two_classes,
+            "net (r : nat+) { Dup(u, v) ~ S(Z); Add(v, r) ~ u; }\n",
+        ];
         expect_of(
             &rt,
             alloc,
             action,
-            rule.as_str(),
-            "refused E12 at 6:13: Add\n",
-            1,
-        );
-        let typed = format!(in alloc; "{one_class}{ADDITION}net () {{ S(Z) ~ S(Z); }}\n")?;
-        expect_of(
-            &rt,
-            alloc,
-            action,
-            typed.as_str(),
-            "refused E10 at 7:15: ~\n",
-            1,
-        );
-        let parted = format!(in alloc;
-            "{SUMS}{ADDITION}{two_classes}net (r : nat+) {{ Dup(u, v) ~ S(Z); Add(v, r) ~ u; }}\n"
-        )?;
-        expect_of(
-            &rt,
-            alloc,
-            action,
-            parted.as_str(),
-            "refused E13 at 10:18: Dup\n",
+            &parted,
+            &["refused E13 at 10:18: Dup\n"],
             1,
         );
     }
-    Ok(())
 }
 
 const SUM_STEPS: &str =
     "rule S Add\n0 given S 1\n1 given Add 1\n2 given Add 2\n3 link\n4 graft S 3\n5 cut 2 4\n6 graft Add 1 5\n7 cut 0 6\nrule Z Add\n0 given Add 1\n1 given Add 2\n2 cut 0 1\n";
 
 #[test]
-fn derivations_are_printed_step_by_step(rt: HostRuntime) -> Result<(), Fail> {
+fn derivations_are_printed_step_by_step(rt: HostRuntime) {
     let alloc = rt.alloc();
-    let text = format!(in alloc; "{SUMS}{ADDITION}net () {{ }}\n")?;
-    let lines = format!(in alloc; "{SUM_STEPS}net\n0 empty\n")?;
-    expect_of(&rt, alloc, Action::Derive, text.as_str(), lines.as_str(), 0);
+    let text = [SUMS, ADDITION, "net () { }\n"];
+    let lines = [SUM_STEPS, "net\n0 empty\n"];
+    expect_of(&rt, alloc, Action::Derive, &text, &lines, 0);
     expect(
         &rt,
         alloc,
-        text.as_str(),
+        &text,
         "accepted: 1 types, 3 symbols, 2 rules, 0 agents\n",
         0,
     );
-    Ok(())
 }
 
 #[test]
-fn ports_of_one_class_are_grafted_to_one_step(rt: HostRuntime) -> Result<(), Fail> {
+fn ports_of_one_class_are_grafted_to_one_step(rt: HostRuntime) {
     let alloc = rt.alloc();
-    let text = format!(in alloc;
-        "{SUMS}{ADDITION}{DUPLICATION}net (r : nat+) {{ Dup(u, v) ~ S(Z); Add(v, r) ~ u; }}\n"
-    )?;
-    let lines = format!(in alloc;
-        "{SUM_STEPS}rule S Dup\n0 given S 1\n1 given Dup 1\n2 link\n3 graft S 2\n4 cut 1 3\n5 link\n6 graft S 5\n7 cut 4 6\n8 graft Dup 7\n9 cut 0 8\nrule Z Dup\n0 given Dup 1\n1 graft Z\n2 cut 0 1\n3 graft Z\n4 cut 2 3\nnet\n0 link\n1 link\n2 graft Add 0 1\n3 graft Dup 2\n4 graft Z\n5 graft S 4\n6 cut 3 5\n"
-    )?;
-    expect_of(&rt, alloc, Action::Derive, text.as_str(), lines.as_str(), 0);
+    let text = [
+        SUMS,
+        ADDITION,
+        DUPLICATION,
+        "net (r : nat+) { Dup(u, v) ~ S(Z); Add(v, r) ~ u; }\n",
+    ];
+    let lines = [
+        SUM_STEPS,
+        "rule S Dup\n0 given S 1\n1 given Dup 1\n2 link\n3 graft S 2\n4 cut 1 3\n5 link\n6 graft S 5\n7 cut 4 6\n8 graft Dup 7\n9 cut 0 8\nrule Z Dup\n0 given Dup 1\n1 graft Z\n2 cut 0 1\n3 graft Z\n4 cut 2 3\nnet\n0 link\n1 link\n2 graft Add 0 1\n3 graft Dup 2\n4 graft Z\n5 graft S 4\n6 cut 3 5\n",
+    ];
+    expect_of(&rt, alloc, Action::Derive, &text, &lines, 0);
     expect(
         &rt,
         alloc,
-        text.as_str(),
+        &text,
         "accepted: 1 types, 4 symbols, 4 rules, 4 agents\n",
         0,
     );
-    Ok(())
 }
 
 #[test]
 fn a_wire_between_free_ends_is_a_link(rt: HostRuntime) {
     let text = "type nat;\nnet (a : nat+, b : nat-) { a ~ b; }\n";
-    expect_of(&rt, rt.alloc(), Action::Derive, text, "net\n0 link\n", 0);
+    expect_of(
+        &rt,
+        rt.alloc(),
+        Action::Derive,
+        &[text],
+        &["net\n0 link\n"],
+        0,
+    );
 }

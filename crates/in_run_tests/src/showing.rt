@@ -3,7 +3,7 @@ ghost use Rattle.std.specs.Prelude.{◌≤◌};
 
 use in_check::Checked;
 use in_run::{CellClass, End, Limits, Machine, Outcome, run};
-use in_test_programs::program_of;
+use in_test_programs::Look;
 use std::alloc::{AllocError, Global};
 
 /// How many agents there are, and how many small and large cells are free.
@@ -46,16 +46,42 @@ fn shown_free(alloc: Global, machine: &Machine, number: u32) -> Result<String, A
     }
 }
 
+/// One more line in a text.
+fn push_line(text: &mut String, line: &str) -> Result<(), AllocError> {
+    text.push_str("\n")?;
+    text.push_str(line)
+}
+
+/// A pair of the queue in a line.
+fn push_pair(
+    alloc: Global,
+    machine: &Machine,
+    number: u32,
+    text: &mut String,
+) -> Result<(), AllocError> {
+    let pair = shown_pair(alloc, machine, number)?;
+    push_line(text, pair.as_str())
+}
+
+/// A free end in a line.
+fn push_free(
+    alloc: Global,
+    machine: &Machine,
+    number: u32,
+    text: &mut String,
+) -> Result<(), AllocError> {
+    let free = shown_free(alloc, machine, number)?;
+    push_line(text, free.as_str())
+}
+
 /// All that a machine shows, a line each.
 fn shown(alloc: Global, machine: &Machine) -> Result<String, AllocError> {
     let mut text = shown_cells(alloc, machine)?;
     for number in 0..machine.pairs() {
-        let pair = shown_pair(alloc, machine, number)?;
-        text = format!(in alloc; "{text}\n{pair}")?;
+        push_pair(alloc, machine, number, &mut text)?;
     }
     for number in 0..machine.free_ends() {
-        let free = shown_free(alloc, machine, number)?;
-        text = format!(in alloc; "{text}\n{free}")?;
+        push_free(alloc, machine, number, &mut text)?;
     }
     Ok(text)
 }
@@ -72,19 +98,29 @@ fn step(alloc: Global, machine: &mut Machine) -> Result<(), AllocError> {
     machine.step(alloc, 0)
 }
 
-/// What the machine of a program shows after so many steps of the first pair, over 16 cells of each class.
-fn after_steps(alloc: Global, checked: &Checked, steps: u32) -> Option<String> {
-    let mut machine = Machine::new(alloc, checked, 16).ok()?;
+/// So many steps of the first pair.
+fn steps_of(alloc: Global, machine: &mut Machine, steps: u32) -> Result<(), AllocError> {
     for _ in 0..steps {
-        step(alloc, &mut machine).ok()?;
+        step(alloc, machine)?;
     }
-    shown(alloc, &machine).ok()
+    Ok(())
 }
 
-/// The same of a text.
-pub fn after(alloc: Global, text: &str, steps: u32) -> Option<String> {
-    let checked = program_of(alloc, text).ok()?;
-    after_steps(alloc, &checked, steps)
+/// What a machine shows after so many steps of the first pair.
+fn shown_after(alloc: Global, machine: &mut Machine, steps: u32) -> Option<String> {
+    steps_of(alloc, machine, steps).ok()?;
+    shown(alloc, machine).ok()
+}
+
+/// What the machine of a program shows after so many steps of the first pair, over 16 cells of each class.
+#[derive(Clone, Copy)]
+pub struct After(pub u32);
+
+impl Look<String> for After {
+    fn look(&self, alloc: Global, program: &Checked) -> Option<String> {
+        let mut machine = Machine::new(alloc, program, 16).ok()?;
+        shown_after(alloc, &mut machine, self.0)
+    }
 }
 
 /// How a run ended: its interactions, its stop and what its machine shows.
@@ -93,27 +129,30 @@ fn shown_end(alloc: Global, outcome: &Outcome) -> Result<String, AllocError> {
     format!(in alloc; "{} {:?}\n{machine}", outcome.interactions, outcome.stop)
 }
 
-/// How the run of a text within these limits ends.
-pub fn end(alloc: Global, text: &str, limit: u64, cells: u32) -> Option<String> {
-    let limits = Limits::new(limit, cells)?;
-    let checked = program_of(alloc, text).ok()?;
-    end_within(alloc, &checked, limits)
+/// How the run of a program ends, within so many interactions and so many cells of each class.
+#[derive(Clone, Copy)]
+pub struct Ending(pub u64, pub u32);
+
+impl Look<String> for Ending {
+    fn look(&self, alloc: Global, program: &Checked) -> Option<String> {
+        let limits = Limits::new(self.0, self.1)?;
+        let outcome = run(alloc, program, limits).ok()?;
+        shown_end(alloc, &outcome).ok()
+    }
 }
 
-/// How the run of a program within these limits ends.
-fn end_within(alloc: Global, checked: &Checked, limits: Limits) -> Option<String> {
-    let outcome = run(alloc, checked, limits).ok()?;
-    shown_end(alloc, &outcome).ok()
+/// Why the net of a program doesn't fit so many cells of each class; the empty text where it does.
+#[derive(Clone, Copy)]
+pub struct Start(pub u32);
+
+impl Look<String> for Start {
+    fn look(&self, alloc: Global, program: &Checked) -> Option<String> {
+        let limits = Limits::new(0, self.0)?;
+        start_over(alloc, program, limits.cells())
+    }
 }
 
-/// Why the net of a text doesn't fit so many cells of each class; the empty text where it does.
-pub fn start(alloc: Global, text: &str, cells: u32) -> Option<String> {
-    let limits = Limits::new(0, cells)?;
-    let checked = program_of(alloc, text).ok()?;
-    start_over(alloc, &checked, limits.cells())
-}
-
-/// The same of a program.
+/// The same within the limits.
 fn start_over(alloc: Global, checked: &Checked, cells: u32) -> Option<String>
     requires { (16 ≤ cells) × (cells ≤ 1048576) }
 {

@@ -4,11 +4,10 @@ ghost use Rattle.in_cover.specs.Cover.{IsPair};
 use in_check::Checked;
 use in_cover::RuleNo;
 use in_symbols::{SymbolNo, Symbols};
-use in_syntax::{Code, Fault, Place, Refusal};
-use in_test_programs::program_of;
+use in_syntax::{Code, Place};
+use in_test_programs::{Look, refusal_of, seen};
 use in_test_texts::SUMS;
 use std::alloc::Global;
-use std::test::Fail;
 
 /// Whether the two symbols are declared and match.
 fn is_pair(symbols: &Symbols, c: SymbolNo, d: SymbolNo) -> bool
@@ -28,22 +27,25 @@ fn rule_for(program: &Checked, c: SymbolNo, d: SymbolNo) -> Option<RuleNo> {
 }
 
 /// Whether these are the numbers of the rules for two symbols.
-fn has_rules(program: &Checked, rows: &[(u32, u32, Option<RuleNo>)]) -> bool {
-    for (c, d, wanted) in rows {
-        if rule_for(program, SymbolNo(*c), SymbolNo(*d)) != *wanted {
-            return false;
+#[derive(Clone, Copy)]
+struct HasRules<'a> {
+    rows: &'a [(u32, u32, Option<RuleNo>)],
+}
+
+impl Look<bool> for HasRules<'_> {
+    fn look(&self, _alloc: Global, program: &Checked) -> Option<bool> {
+        for (c, d, wanted) in self.rows {
+            if rule_for(program, SymbolNo(*c), SymbolNo(*d)) != *wanted {
+                return Some(false);
+            }
         }
+        Some(true)
     }
-    true
 }
 
 #[test]
-fn each_pair_has_the_number_of_its_rule(rt: HostRuntime) -> Result<(), Fail> {
-    let alloc = rt.alloc();
-    let text = format!(in alloc;
-        "{SUMS}rule S[Add(y, t)] >< Add[y, S(t)];\nrule Add[y, y] >< Z[];\nnet () {{ }}\n"
-    )?;
-    let program = program_of(alloc, text.as_str())?;
+fn each_pair_has_the_number_of_its_rule(rt: HostRuntime) {
+    let rules = "rule S[Add(y, t)] >< Add[y, S(t)];\nrule Add[y, y] >< Z[];\nnet () { }\n";
     let rows = [
         (0, 2, Some(RuleNo(1))),
         (2, 0, Some(RuleNo(1))),
@@ -52,8 +54,8 @@ fn each_pair_has_the_number_of_its_rule(rt: HostRuntime) -> Result<(), Fail> {
         (0, 1, None),
         (2, 2, None),
     ];
-    assert!(rt; has_rules(&program, &rows));
-    Ok(())
+    let look = HasRules { rows: &rows };
+    assert_eq!(rt; seen(rt.alloc(), &[SUMS, rules], &look), Some(true));
 }
 
 /// Line and column.
@@ -62,21 +64,17 @@ fn at(place: Place) -> (u32, u32) {
 }
 
 /// The refusal's code and place, and the other place.
-fn refused(alloc: Global, text: &str) -> Option<(Code, (u32, u32), Option<(u32, u32)>)> {
-    match program_of(alloc, text) {
-        Err(Fault::Refused(Refusal { code, place, other })) => {
-            let other = match other {
-                Some(place) => Some(at(place)),
-                None => None,
-            };
-            Some((code, at(place), other))
-        }
-        _ => None,
-    }
+fn refused(alloc: Global, parts: &[&str]) -> Option<(Code, (u32, u32), Option<(u32, u32)>)> {
+    let refusal = refusal_of(alloc, parts)?;
+    let other = match refusal.other {
+        Some(place) => Some(at(place)),
+        None => None,
+    };
+    Some((refusal.code, at(refusal.place), other))
 }
 
 #[test]
-fn the_first_second_rule_is_refused(rt: HostRuntime) -> Result<(), Fail> {
+fn the_first_second_rule_is_refused(rt: HostRuntime) {
     let rows = [
         ("rule Z[] >< Add[y, y];\nrule Z[] >< Add[y, y];", (6, 6)),
         ("rule Z[] >< Add[y, y];\nrule Add[y, y] >< Z[];", (6, 6)),
@@ -86,17 +84,13 @@ fn the_first_second_rule_is_refused(rt: HostRuntime) -> Result<(), Fail> {
         ),
     ];
     for (rules, place) in rows {
-        let text = format!(in rt.alloc(); "{SUMS}{rules}\nnet () {{ }}\n")?;
-        assert_eq!(rt;
-            refused(rt.alloc(), text.as_str()),
-            Some((Code::E14, place, None))
-        );
+        let found = refused(rt.alloc(), &[SUMS, rules, "\nnet () { }\n"]);
+        assert_eq!(rt; found, Some((Code::E14, place, None)));
     }
-    Ok(())
 }
 
 #[test]
-fn the_first_pair_without_a_rule_is_refused(rt: HostRuntime) -> Result<(), Fail> {
+fn the_first_pair_without_a_rule_is_refused(rt: HostRuntime) {
     let rows = [
         (SUMS, "rule S[Add(y, t)] >< Add[y, S(t)];", (4, 8), (2, 8)),
         (SUMS, "rule Z[] >< Add[y, y];", (4, 8), (3, 8)),
@@ -121,18 +115,23 @@ fn the_first_pair_without_a_rule_is_refused(rt: HostRuntime) -> Result<(), Fail>
         ),
     ];
     for (symbols, rules, place, other) in rows {
-        let text = format!(in rt.alloc(); "{symbols}{rules}\nnet () {{ }}\n")?;
-        assert_eq!(rt;
-            refused(rt.alloc(), text.as_str()),
-            Some((Code::E15, place, Some(other)))
-        );
+        let found = refused(rt.alloc(), &[symbols, rules, "\nnet () { }\n"]);
+        assert_eq!(rt; found, Some((Code::E15, place, Some(other))));
     }
-    Ok(())
+}
+
+/// How many rules there are.
+#[derive(Clone, Copy)]
+struct Rules;
+
+impl Look<u32> for Rules {
+    fn look(&self, _alloc: Global, program: &Checked) -> Option<u32> {
+        Some(program.rules())
+    }
 }
 
 #[test]
-fn no_pairs_need_no_rule(rt: HostRuntime) -> Result<(), Fail> {
+fn no_pairs_need_no_rule(rt: HostRuntime) {
     let text = "type nat, bit;\nsymbol Z : nat+;\nsymbol Not : bit-;\nnet () { }\n";
-    assert_eq!(rt; program_of(rt.alloc(), text)?.rules(), 0);
-    Ok(())
+    assert_eq!(rt; seen(rt.alloc(), &[text], &Rules), Some(0));
 }

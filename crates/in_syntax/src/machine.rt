@@ -1,13 +1,16 @@
-ghost use Rattle.std.specs.Prelude.{◌≡◌, [], IfOk};
+ghost use Rattle.std.specs.Prelude.{◌≡◌, [], ◌∷◌, IfOk};
 ghost use Rattle.in_syntax.specs.Steps as steps;
 ghost use Rattle.in_syntax.specs.Steps.{move_of};
+ghost use Rattle.in_syntax.specs.Trees.{with_argument};
 
 use crate::counts::Counts;
 use crate::faults::Code;
 use crate::places::Place;
 use crate::signs::Sign;
 use crate::stack::Stack;
-use crate::states::{HeadOf, Nest, PortOf, State, TermOf};
+use crate::states::{
+    HeadOf, Nest, PortOf, State, TermOf, put_away_head, put_away_nest, put_away_port, put_away_term,
+};
 use crate::tree::{
     Equation, Equations, Head, Name, Names, SourceClass, SourceClasses, SourceFree, SourceFrees,
     SourceNet, SourcePort, SourceRule, SourceSymbol, Term,
@@ -76,7 +79,7 @@ pub fn step(alloc: Global, counts: Counts, state: State, sign: Sign) -> Result<M
         State::TermName(nest) => Ok(at_term_name(nest, sign)),
         State::TermOpen(nest, name) => at_term_open(alloc, nest, name, sign),
         State::TermEnd(nest, term) => at_term_end(nest, term, sign),
-        State::Done(_) => Ok(Move::Refuses(Code::E02)),
+        State::Done(_net) => Ok(Move::Refuses(Code::E02)),
     }
 }
 
@@ -162,7 +165,10 @@ fn at_port_kind(port_of: PortOf, sign: Sign) -> Move
             }
             port_of => Move::Goes(State::PortSign(port_of, kind)),
         },
-        _ => Move::Refuses(Code::E02),
+        _ => {
+            put_away_port(port_of);
+            Move::Refuses(Code::E02)
+        }
     }
 }
 
@@ -172,7 +178,10 @@ fn at_port_sign(alloc: Global, port_of: PortOf, kind: Name, sign: Sign) -> Resul
     let output = match sign {
         Sign::Plain(TokenKind::Plus) => true,
         Sign::Plain(TokenKind::Minus) => false,
-        _ => return Ok(Move::Refuses(Code::E02)),
+        _ => {
+            put_away_port(port_of);
+            return Ok(Move::Refuses(Code::E02));
+        }
     };
     after_port(alloc, port_of, SourcePort { kind, output })
 }
@@ -371,13 +380,25 @@ fn at_term_name(nest: Nest, sign: Sign) -> Move
     match sign {
         Sign::Named(name) => {
             if nest.around.len() >= MAX_DEPTH {
+                put_away_nest(nest);
                 Move::Refuses(Code::E03)
             } else {
                 Move::Goes(State::TermOpen(nest, name))
             }
         }
-        _ => Move::Refuses(Code::E02),
+        _ => {
+            put_away_nest(nest);
+            Move::Refuses(Code::E02)
+        }
     }
+}
+
+// The open terms with one more.
+fn opened(mut around: Stack, term: Term) -> Result<Stack, AllocError>
+    ensures { IfOk result (λ s. s ≡ term ∷ around) }
+{
+    around.push(term)?;
+    Ok(around)
 }
 
 fn at_term_open(alloc: Global, nest: Nest, name: Name, sign: Sign) -> Result<Move, AllocError>
@@ -386,9 +407,14 @@ fn at_term_open(alloc: Global, nest: Nest, name: Name, sign: Sign) -> Result<Mov
     let term = Term::bare(alloc, name);
     match sign {
         Sign::Plain(TokenKind::OpenParenthesis) => {
-            let Nest { of, mut around } = nest;
-            around.push(term)?;
-            Ok(Move::Goes(State::TermName(Nest { of, around })))
+            let Nest { of, around } = nest;
+            match opened(around, term) {
+                Ok(around) => Ok(Move::Goes(State::TermName(Nest { of, around }))),
+                Err(error) => {
+                    put_away_term(of);
+                    Err(error)
+                }
+            }
         }
         sign => at_term_end(nest, term, sign),
     }
@@ -404,9 +430,16 @@ fn at_term_end(nest: Nest, term: Term, sign: Sign) -> Result<Move, AllocError>
     }
 }
 
+// The open terms, where the inmost one has one argument more.
+fn reopened(around: Stack, outer: Term, argument: Term) -> Result<Stack, AllocError>
+    ensures { IfOk result (λ s. s ≡ with_argument outer argument ∷ around) }
+{
+    opened(around, outer.with_argument(argument)?)
+}
+
 fn after_argument(
     of: TermOf,
-    mut around: Stack,
+    around: Stack,
     outer: Term,
     term: Term,
     sign: Sign,
@@ -414,15 +447,24 @@ fn after_argument(
     ensures { IfOk result (λ m. m ≡ move_of (steps.after_argument of around outer term sign)) }
 {
     match sign {
-        Sign::Plain(TokenKind::Comma) => {
-            around.push(outer.with_argument(term)?)?;
-            Ok(Move::Goes(State::TermName(Nest { of, around })))
+        Sign::Plain(TokenKind::Comma) => match reopened(around, outer, term) {
+            Ok(around) => Ok(Move::Goes(State::TermName(Nest { of, around }))),
+            Err(error) => {
+                put_away_term(of);
+                Err(error)
+            }
+        },
+        Sign::Plain(TokenKind::CloseParenthesis) => match outer.with_argument(term) {
+            Ok(outer) => Ok(Move::Goes(State::TermEnd(Nest { of, around }, outer))),
+            Err(error) => {
+                put_away_nest(Nest { of, around });
+                Err(error)
+            }
+        },
+        _ => {
+            put_away_nest(Nest { of, around });
+            Ok(Move::Refuses(Code::E02))
         }
-        Sign::Plain(TokenKind::CloseParenthesis) => {
-            let outer = outer.with_argument(term)?;
-            Ok(Move::Goes(State::TermEnd(Nest { of, around }, outer)))
-        }
-        _ => Ok(Move::Refuses(Code::E02)),
     }
 }
 
@@ -479,13 +521,26 @@ fn after_head_term(
     ensures { IfOk result (λ m. m ≡ move_of (steps.after_head_term head_of head term sign)) }
 {
     match sign {
-        Sign::Plain(TokenKind::Comma) => {
-            let of = TermOf::Inside(head_of, head.with_term(term)?);
-            Ok(Move::Goes(State::TermName(Nest { of, around })))
+        Sign::Plain(TokenKind::Comma) => match head.with_term(term) {
+            Ok(head) => {
+                let of = TermOf::Inside(head_of, head);
+                Ok(Move::Goes(State::TermName(Nest { of, around })))
+            }
+            Err(error) => {
+                put_away_head(head_of);
+                Err(error)
+            }
+        },
+        Sign::Plain(TokenKind::CloseBracket) => match head.with_term(term) {
+            Ok(head) => Ok(Move::Goes(State::HeadEnd(head_of, head))),
+            Err(error) => {
+                put_away_head(head_of);
+                Err(error)
+            }
+        },
+        _ => {
+            put_away_head(head_of);
+            Ok(Move::Refuses(Code::E02))
         }
-        Sign::Plain(TokenKind::CloseBracket) => {
-            Ok(Move::Goes(State::HeadEnd(head_of, head.with_term(term)?)))
-        }
-        _ => Ok(Move::Refuses(Code::E02)),
     }
 }

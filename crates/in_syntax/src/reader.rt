@@ -8,7 +8,7 @@ use crate::faults::{Code, Fault, Refusal};
 use crate::machine::{Move, step};
 use crate::places::Place;
 use crate::signs::{Sign, read_sign};
-use crate::states::State;
+use crate::states::{State, put_away};
 use crate::tree::{Names, Source, SourceNet, SourceRules, SourceSymbols};
 use crate::words::Token;
 use std::alloc::Global;
@@ -141,9 +141,6 @@ fn net_of(state: State) -> Option<SourceNet>
         }
     }
 }
-
-// Drops a state: a call, since the proof of each drop goes through all states anew.
-fn put_away(_state: State) {}
 
 fn refused(code: Code, place: Place) -> Fault
     ensures { result ≡ steps.fault_at code place }

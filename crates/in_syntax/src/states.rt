@@ -92,3 +92,46 @@ pub enum State {
     /// After the net.
     Done(SourceNet),
 }
+
+// Each drop of a state is a call, of a part a call too, since the proof of a drop goes through all variants anew.
+
+pub fn put_away_port(_of: PortOf) {}
+
+pub fn put_away_head(_of: HeadOf) {}
+
+pub fn put_away_term(of: TermOf) {
+    match of {
+        TermOf::Left(_net) => {}
+        TermOf::Right(_net, _left, _) => {}
+        TermOf::Inside(of, _head) => put_away_head(of),
+    }
+}
+
+pub fn put_away_nest(nest: Nest) {
+    let Nest {
+        of,
+        around: _around,
+    } = nest;
+    put_away_term(of);
+}
+
+pub fn put_away(state: State) {
+    match state {
+        State::Item | State::SymbolName | State::NetOpen | State::FreeFirst => {}
+        State::TypeName(_names) | State::TypeEnd(_names) => {}
+        State::SymbolColon(_name) => {}
+        State::PortKind(of) => put_away_port(of),
+        State::PortSign(of, _kind) => put_away_port(of),
+        State::SymbolEnd(_symbol, _) => {}
+        State::ClassEnd(_symbol, _class, _) => {}
+        State::HeadName(of) => put_away_head(of),
+        State::HeadOpen(of, _name) | State::HeadFirst(of, _name) => put_away_head(of),
+        State::HeadEnd(of, _head) => put_away_head(of),
+        State::FreeName(_frees) | State::FreeEnd(_frees) | State::BodyOpen(_frees) => {}
+        State::FreeColon(_frees, _name) => {}
+        State::Equation(_net) | State::Done(_net) => {}
+        State::TermName(nest) => put_away_nest(nest),
+        State::TermOpen(nest, _name) => put_away_nest(nest),
+        State::TermEnd(nest, _term) => put_away_nest(nest),
+    }
+}

@@ -1,7 +1,7 @@
-use crate::reading::tables_of;
+use crate::reading::{LookAtTables, tables_refused, tables_seen_in};
 use in_symbols::{PortType, SymbolNo, Symbols};
-use in_syntax::{Code, Fault, Refusal};
-use in_test_texts::SUMS;
+use in_syntax::Code;
+use in_test_texts::{SUMS, joined};
 use std::alloc::Global;
 use std::test::Fail;
 
@@ -42,30 +42,44 @@ fn place_of_third(symbols: &Symbols) -> Option<(usize, usize, u32, u32)> {
     Some((place.from, place.to, place.line, place.col))
 }
 
-#[test]
-fn tables_are_the_declarations(rt: HostRuntime) -> Result<(), Fail> {
-    let alloc = rt.alloc();
-    let text = format!(in alloc; "{SUMS}net () {{ }}\n")?;
-    let symbols = tables_of(alloc, text.as_str())?;
-    assert!(rt; are_those_of_sums(&symbols));
-    assert!(rt; has_two_classes(&symbols));
-    assert_eq!(rt; place_of_third(&symbols), Some((58, 61, 4, 8)));
-    Ok(())
-}
+/// Whether the tables are those of numbers and sums, and where the third symbol's name stands.
+#[derive(Clone, Copy)]
+struct AreThoseOfSums;
 
-/// The refusal's code, line and column, and what stands at its place.
-fn refused(alloc: Global, text: &str) -> Option<(Code, u32, u32, &str)> {
-    match tables_of(alloc, text) {
-        Err(Fault::Refused(Refusal { code, place, .. })) => {
-            let name = text.get(place.from..place.to).unwrap_or("");
-            Some((code, place.line, place.col, name))
-        }
-        _ => None,
+impl LookAtTables<(bool, Option<(usize, usize, u32, u32)>)> for AreThoseOfSums {
+    fn look(&self, symbols: &Symbols) -> (bool, Option<(usize, usize, u32, u32)>) {
+        let right = are_those_of_sums(symbols) && has_two_classes(symbols);
+        (right, place_of_third(symbols))
     }
 }
 
 #[test]
-fn each_fault_stands_at_its_name(rt: HostRuntime) -> Result<(), Fail> {
+fn tables_are_the_declarations(rt: HostRuntime) -> Result<(), Fail> {
+    let (right, place) = tables_seen_in(rt.alloc(), &[SUMS, "net () { }\n"], &AreThoseOfSums)?;
+    assert!(rt; right);
+    assert_eq!(rt; place, Some((58, 61, 4, 8)));
+    Ok(())
+}
+
+/// The refusal's code, line and column, and what stands at its place.
+type Refused<'a> = (Code, u32, u32, &'a str);
+
+/// The refusal of a text.
+fn refused(alloc: Global, text: &str) -> Option<Refused<'_>> {
+    let refusal = tables_refused(alloc, text)?;
+    let place = refusal.place;
+    let name = text.get(place.from..place.to).unwrap_or("");
+    Some((refusal.code, place.line, place.col, name))
+}
+
+/// Whether this is the refusal of numbers and sums with more after them.
+fn is_refused(alloc: Global, rest: &str, wanted: Option<Refused<'_>>) -> Option<bool> {
+    let text = joined(alloc, &[SUMS, rest, "\n"]).ok()?;
+    Some(refused(alloc, text.as_str()) == wanted)
+}
+
+#[test]
+fn each_fault_stands_at_its_name(rt: HostRuntime) {
     let rows = [
         ("symbol Z : nat+; net () { }", (Code::E04, 5, 8, "Z")),
         ("type bit, nat; net () { }", (Code::E04, 5, 11, "nat")),
@@ -94,14 +108,15 @@ fn each_fault_stands_at_its_name(rt: HostRuntime) -> Result<(), Fail> {
         ),
     ];
     for (rest, wanted) in rows {
-        let text = format!(in rt.alloc(); "{SUMS}{rest}\n")?;
-        assert_eq!(rt; refused(rt.alloc(), text.as_str()), Some(wanted));
+        assert!(rt;
+            is_refused(rt.alloc(), rest, Some(wanted)) == Some(true),
+            "{rest}"
+        );
     }
-    Ok(())
 }
 
 #[test]
-fn the_first_fault_in_the_text_is_answered(rt: HostRuntime) -> Result<(), Fail> {
+fn the_first_fault_in_the_text_is_answered(rt: HostRuntime) {
     let rows = [
         (
             "symbol K : bit+; symbol Z : nat+; net () { F(Z) ~ x; }",
@@ -138,24 +153,23 @@ fn the_first_fault_in_the_text_is_answered(rt: HostRuntime) -> Result<(), Fail> 
         ),
     ];
     for (rest, wanted) in rows {
-        let text = format!(in rt.alloc(); "{SUMS}{rest}\n")?;
-        assert_eq!(rt; refused(rt.alloc(), text.as_str()), Some(wanted));
+        assert!(rt;
+            is_refused(rt.alloc(), rest, Some(wanted)) == Some(true),
+            "{rest}"
+        );
     }
-    Ok(())
 }
 
 #[test]
-fn types_and_symbols_are_two_spaces_of_names(rt: HostRuntime) -> Result<(), Fail> {
+fn types_and_symbols_are_two_spaces_of_names(rt: HostRuntime) {
     let rows = [
         "symbol nat : nat+; net (r : nat+) { }",
         "symbol K : bit+; type bit; net (bit : nat+) { F ~ K; }",
         "rule Late[nat] >< Add[bit, F]; symbol Late : nat+ {nat-}; net () { }",
     ];
     for rest in rows {
-        let text = format!(in rt.alloc(); "{SUMS}{rest}\n")?;
-        assert_eq!(rt; refused(rt.alloc(), text.as_str()), None);
+        assert!(rt; is_refused(rt.alloc(), rest, None) == Some(true), "{rest}");
     }
-    Ok(())
 }
 
 /// Whether the symbols of these two numbers match, where there are two.
@@ -165,13 +179,26 @@ fn do_match(symbols: &Symbols, one: u32, other: u32) -> bool {
         && symbols.matching(SymbolNo(one), SymbolNo(other))
 }
 
+/// Whether the symbols of each two numbers match or don't, as is said.
+#[derive(Clone, Copy)]
+struct Match<'a> {
+    rows: &'a [(u32, u32, bool)],
+}
+
+impl LookAtTables<bool> for Match<'_> {
+    fn look(&self, symbols: &Symbols) -> bool {
+        for (one, other, wanted) in self.rows {
+            if do_match(symbols, *one, *other) != *wanted {
+                return false;
+            }
+        }
+        true
+    }
+}
+
 #[test]
 fn a_constructor_and_a_destructor_of_one_type_match(rt: HostRuntime) -> Result<(), Fail> {
-    let alloc = rt.alloc();
-    let text = format!(in alloc;
-        "{SUMS}type bit;\nsymbol B : bit+;\nsymbol Not : bit- {{bit+}};\nnet () {{ }}\n"
-    )?;
-    let symbols = tables_of(alloc, text.as_str())?;
+    let bits = "type bit;\nsymbol B : bit+;\nsymbol Not : bit- {bit+};\nnet () { }\n";
     let rows = [
         (0, 2, true),
         (2, 0, true),
@@ -184,8 +211,7 @@ fn a_constructor_and_a_destructor_of_one_type_match(rt: HostRuntime) -> Result<(
         (3, 2, false),
         (4, 0, false),
     ];
-    for (one, other, wanted) in rows {
-        assert_eq!(rt; do_match(&symbols, one, other), wanted);
-    }
+    let look = Match { rows: &rows };
+    assert!(rt; tables_seen_in(rt.alloc(), &[SUMS, bits], &look)?);
     Ok(())
 }

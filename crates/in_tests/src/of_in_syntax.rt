@@ -1,10 +1,10 @@
 //! The tests of `in_syntax::parse`; those of `tokens` stand in a module of that name.
 
-use crate::reading::tree_of;
+use crate::reading::{LookAtTree, tree_refused, tree_seen};
 use in_syntax::{
-    Code, Equation, Fault, Head, Name, Place, SourceFree, SourcePort, SourceSymbol, Term,
+    Code, Equation, Head, Name, Place, Source, SourceFree, SourcePort, SourceSymbol, Term,
 };
-use std::alloc::Global;
+use std::alloc::{AllocError, Global};
 use std::process::Abort;
 use std::test::Fail;
 
@@ -16,10 +16,8 @@ fn word_at(text: &str, place: Place) -> usize {
 
 /// The code of a text's fault, and the number of the word at which it stands.
 fn fault(alloc: Global, text: &str) -> Option<(Code, usize)> {
-    match tree_of(alloc, text.as_bytes()) {
-        Err(Fault::Refused(refusal)) => Some((refusal.code, word_at(text, refusal.place))),
-        _ => None,
-    }
+    let refusal = tree_refused(alloc, text.as_bytes())?;
+    Some((refusal.code, word_at(text, refusal.place)))
 }
 
 fn is_named(name: &Name, text: &str) -> bool {
@@ -70,16 +68,25 @@ fn is_the_sum(symbol: &SourceSymbol) -> bool {
         && is_class(classes[1].as_slice(), &[false], "list")
 }
 
+/// Whether there are three types, and the symbols Z and Add.
+#[derive(Clone, Copy)]
+struct AreDeclared;
+
+impl LookAtTree<bool> for AreDeclared {
+    fn look(&self, source: &Source) -> bool {
+        let symbols = source.symbols.as_slice();
+        are_types(source.types.as_slice(), &["nat", "list", "tree"])
+            && symbols.len() == 2
+            && is_symbol(&symbols[0], "Z", true, 0)
+            && is_the_sum(&symbols[1])
+    }
+}
+
 #[test]
 fn declarations(rt: HostRuntime) -> Result<(), Fail> {
     let text =
         "type nat , list ; symbol Z : nat + ; symbol Add : nat - { nat - , nat + } { list - } ; type tree ; net ( ) { }";
-    let source = tree_of(rt.alloc(), text.as_bytes())?;
-    assert!(rt; are_types(source.types.as_slice(), &["nat", "list", "tree"]));
-    let symbols = source.symbols.as_slice();
-    assert_eq!(rt; symbols.len(), 2);
-    assert!(rt; is_symbol(&symbols[0], "Z", true, 0));
-    assert!(rt; is_the_sum(&symbols[1]));
+    assert!(rt; tree_seen(rt.alloc(), text.as_bytes(), &AreDeclared)?);
     Ok(())
 }
 
@@ -113,15 +120,26 @@ fn are_the_equations(text: &str, equations: &[Equation], at: usize) -> bool {
         && is_bare(&equations[1].right, "x")
 }
 
+/// Whether these are the two free ends and the two equations.
+#[derive(Clone, Copy)]
+struct IsTheNet<'a> {
+    text: &'a str,
+}
+
+impl LookAtTree<bool> for IsTheNet<'_> {
+    fn look(&self, source: &Source) -> bool {
+        let free = source.net.free.as_slice();
+        free.len() == 2
+            && is_free(&free[0], "r", "nat", true)
+            && is_free(&free[1], "s", "nat", false)
+            && are_the_equations(self.text, source.net.equations.as_slice(), 14)
+    }
+}
+
 #[test]
 fn nets(rt: HostRuntime) -> Result<(), Fail> {
     let text = "net ( r : nat + , s : nat - ) { x ~ Add ( Z , S ( y ) ) ; y ~ x ; }";
-    let source = tree_of(rt.alloc(), text.as_bytes())?;
-    let free = source.net.free.as_slice();
-    assert_eq!(rt; free.len(), 2);
-    assert!(rt; is_free(&free[0], "r", "nat", true));
-    assert!(rt; is_free(&free[1], "s", "nat", false));
-    assert!(rt; are_the_equations(text, source.net.equations.as_slice(), 14));
+    assert!(rt; tree_seen(rt.alloc(), text.as_bytes(), &IsTheNet { text })?);
     Ok(())
 }
 
@@ -140,30 +158,35 @@ fn is_s_of_add(head: &Head) -> bool {
         && is_bare(&terms[1], "x")
 }
 
+/// Whether there is one type, and these are the two rules.
+#[derive(Clone, Copy)]
+struct AreTheRules<'a> {
+    text: &'a str,
+}
+
+impl LookAtTree<bool> for AreTheRules<'_> {
+    fn look(&self, source: &Source) -> bool {
+        let rules = source.rules.as_slice();
+        source.types.len() == 1
+            && rules.len() == 2
+            && is_s_of_add(&rules[0].first)
+            && word_at(self.text, rules[0].first.name.place) == 1
+            && is_head(&rules[0].second, "Add", 1)
+            && is_head(&rules[1].first, "Z", 0)
+            && is_head(&rules[1].second, "E", 0)
+    }
+}
+
 #[test]
 fn rules(rt: HostRuntime) -> Result<(), Fail> {
     let text =
         "rule S [ Add ( y , t ) , x ] >< Add [ y ] ; rule Z [ ] >< E [ ] ; type n ; net ( ) { }";
-    let source = tree_of(rt.alloc(), text.as_bytes())?;
-    assert_eq!(rt; source.types.len(), 1);
-    let rules = source.rules.as_slice();
-    assert_eq!(rt; rules.len(), 2);
-    assert!(rt; is_s_of_add(&rules[0].first));
-    assert_eq!(rt; word_at(text, rules[0].first.name.place), 1);
-    assert!(rt; is_head(&rules[0].second, "Add", 1));
-    assert!(rt; is_head(&rules[1].first, "Z", 0));
-    assert!(rt; is_head(&rules[1].second, "E", 0));
+    assert!(rt; tree_seen(rt.alloc(), text.as_bytes(), &AreTheRules { text })?);
     Ok(())
 }
 
 fn expect_fault(rt: &impl Abort, alloc: Global, text: &str, code: Code, at: usize) {
-    match fault(alloc, text) {
-        Some((found, place)) => {
-            assert!(rt; found == code, "{text}");
-            assert_eq!(rt; place, at, "{text}");
-        }
-        None => assert!(rt; false, "{text}"),
-    }
+    assert!(rt; fault(alloc, text) == Some((code, at)), "{text}");
 }
 
 #[test]
@@ -194,131 +217,182 @@ fn refusals(rt: HostRuntime) {
     }
 }
 
-/// A name at this depth, between two texts
-fn deep(alloc: Global, depth: usize, before: &str, after: &str) -> Result<String, Fault> {
-    let mut text = String::from_str(alloc, before)?;
-    for _ in 1..depth {
-        text.push_str(" S (")?;
-    }
-    text.push_str(" y")?;
-    for _ in 1..depth {
-        text.push_str(" )")?;
-    }
-    text.push_str(after)?;
-    Ok(text)
-}
-
-/// One word so often, between two texts
-fn often(alloc: Global, count: usize, word: &str, between: [&str; 2]) -> Result<String, Fault> {
-    let mut text = String::from_str(alloc, between[0])?;
-    for _ in 0..count {
+/// One more word in a text, once less than so often.
+fn push_often(text: &mut String, word: &str, count: usize) -> Result<(), AllocError> {
+    for _ in 1..count {
         text.push_str(word)?;
     }
+    Ok(())
+}
+
+/// A name at this depth, between two texts.
+fn deep(alloc: Global, depth: usize, between: [&str; 2]) -> Result<String, AllocError> {
+    let mut text = String::from_str(alloc, between[0])?;
+    push_often(&mut text, " S (", depth)?;
+    text.push_str(" y")?;
+    push_often(&mut text, " )", depth)?;
     text.push_str(between[1])?;
     Ok(text)
 }
 
-/// How many types, symbols, rules, free names and equations a program has.
-fn lengths(alloc: Global, text: &str) -> Result<[usize; 5], Fault> {
-    let source = tree_of(alloc, text.as_bytes())?;
-    Ok([
-        source.types.len(),
-        source.symbols.len(),
-        source.rules.len(),
-        source.net.free.len(),
-        source.net.equations.len(),
-    ])
+/// One word so often, between two texts.
+fn often(
+    alloc: Global,
+    count: usize,
+    word: &str,
+    between: [&str; 2],
+) -> Result<String, AllocError> {
+    let mut text = String::from_str(alloc, between[0])?;
+    push_often(&mut text, word, count.saturating_add(1))?;
+    text.push_str(between[1])?;
+    Ok(text)
+}
+
+/// How many types, symbols, rules, free names and equations there are.
+#[derive(Clone, Copy)]
+struct HowMany;
+
+impl LookAtTree<[usize; 5]> for HowMany {
+    fn look(&self, source: &Source) -> [usize; 5] {
+        [
+            source.types.len(),
+            source.symbols.len(),
+            source.rules.len(),
+            source.net.free.len(),
+            source.net.equations.len(),
+        ]
+    }
+}
+
+/// The same of a text that is read.
+fn lengths(alloc: Global, text: &str) -> Option<[usize; 5]> {
+    tree_seen(alloc, text.as_bytes(), &HowMany).ok()
+}
+
+/// How a text with one word so often is read.
+fn often_read(alloc: Global, count: usize, word: &str, between: [&str; 2]) -> Option<[usize; 5]> {
+    let text = often(alloc, count, word, between).ok()?;
+    lengths(alloc, text.as_str())
+}
+
+/// The fault of a text with one word so often.
+fn often_fault(
+    alloc: Global,
+    count: usize,
+    word: &str,
+    between: [&str; 2],
+) -> Option<(Code, usize)> {
+    let text = often(alloc, count, word, between).ok()?;
+    fault(alloc, text.as_str())
+}
+
+/// Checks that a word may stand so often, with what is then read, and not once more, with the place of the fault.
+fn expect_limit(
+    rt: &impl Abort,
+    alloc: Global,
+    count: usize,
+    word: &str,
+    between: [&str; 2],
+    read: [usize; 5],
+    place: usize,
+) {
+    assert_eq!(rt; often_read(alloc, count, word, between), Some(read));
+    let more = count.saturating_add(1);
+    let found = often_fault(alloc, more, word, between);
+    assert_eq!(rt; found, Some((Code::E03, place)));
 }
 
 #[test]
-fn limits_of_types(rt: HostRuntime) -> Result<(), Fail> {
-    let alloc = rt.alloc();
+fn limits_of_types(rt: HostRuntime) {
     let types = ["type a , b ; type c", " ; net ( ) { }"];
-    let text = often(alloc, 253, " , t", types)?;
-    assert_eq!(rt; lengths(alloc, text.as_str())?, [256, 0, 0, 0, 0]);
-    let text = often(alloc, 254, " , t", types)?;
-    expect_fault(&rt, alloc, text.as_str(), Code::E03, 514);
-    Ok(())
+    expect_limit(&rt, rt.alloc(), 253, " , t", types, [256, 0, 0, 0, 0], 514);
 }
 
 #[test]
-fn limits_of_symbols(rt: HostRuntime) -> Result<(), Fail> {
-    let alloc = rt.alloc();
+fn limits_of_symbols(rt: HostRuntime) {
     let symbols = ["type t ;", " net ( ) { }"];
-    let text = often(alloc, 512, " symbol s : t + ;", symbols)?;
-    assert_eq!(rt; lengths(alloc, text.as_str())?, [1, 512, 0, 0, 0]);
-    let text = often(alloc, 513, " symbol s : t + ;", symbols)?;
-    expect_fault(&rt, alloc, text.as_str(), Code::E03, 3076);
-    Ok(())
+    expect_limit(
+        &rt,
+        rt.alloc(),
+        512,
+        " symbol s : t + ;",
+        symbols,
+        [1, 512, 0, 0, 0],
+        3076,
+    );
 }
 
 #[test]
-fn limits_of_rules(rt: HostRuntime) -> Result<(), Fail> {
-    let alloc = rt.alloc();
+fn limits_of_rules(rt: HostRuntime) {
     let rules = ["type t ;", " net ( ) { }"];
-    let text = often(alloc, 4096, " rule s [ ] >< t [ ] ;", rules)?;
-    assert_eq!(rt; lengths(alloc, text.as_str())?, [1, 0, 4096, 0, 0]);
-    let text = often(alloc, 4097, " rule s [ ] >< t [ ] ;", rules)?;
-    expect_fault(&rt, alloc, text.as_str(), Code::E03, 36867);
-    Ok(())
+    expect_limit(
+        &rt,
+        rt.alloc(),
+        4096,
+        " rule s [ ] >< t [ ] ;",
+        rules,
+        [1, 0, 4096, 0, 0],
+        36867,
+    );
 }
 
 #[test]
-fn limits_of_free_names(rt: HostRuntime) -> Result<(), Fail> {
-    let alloc = rt.alloc();
+fn limits_of_free_names(rt: HostRuntime) {
     let free = ["net ( f : t +", " ) { }"];
-    let text = often(alloc, 255, " , f : t +", free)?;
-    assert_eq!(rt; lengths(alloc, text.as_str())?, [0, 0, 0, 256, 0]);
-    let text = often(alloc, 256, " , f : t +", free)?;
-    expect_fault(&rt, alloc, text.as_str(), Code::E03, 1282);
-    Ok(())
+    expect_limit(
+        &rt,
+        rt.alloc(),
+        255,
+        " , f : t +",
+        free,
+        [0, 0, 0, 256, 0],
+        1282,
+    );
 }
 
 #[test]
-fn limits_of_ports(rt: HostRuntime) -> Result<(), Fail> {
+fn limits_of_ports(rt: HostRuntime) {
     let eight = "symbol x : t + { t + , t + , t + , t + } { t + , t + , t + , t + } ; net ( ) { }";
-    assert_eq!(rt; lengths(rt.alloc(), eight)?, [0, 1, 0, 0, 0]);
+    assert_eq!(rt; lengths(rt.alloc(), eight), Some([0, 1, 0, 0, 0]));
     let nine = "symbol x : t + { t + , t + , t + , t + } { t + , t + , t + , t + , t + } ;";
     expect_fault(&rt, rt.alloc(), nine, Code::E03, 31);
-    Ok(())
+}
+
+/// How a text with a name at this depth is read.
+fn deep_read(alloc: Global, depth: usize, between: [&str; 2]) -> Option<[usize; 5]> {
+    let text = deep(alloc, depth, between).ok()?;
+    lengths(alloc, text.as_str())
+}
+
+/// The fault of a text with a name at this depth.
+fn deep_fault(alloc: Global, depth: usize, between: [&str; 2]) -> Option<(Code, usize)> {
+    let text = deep(alloc, depth, between).ok()?;
+    fault(alloc, text.as_str())
 }
 
 #[test]
-fn limits_of_depth_in_equations(rt: HostRuntime) -> Result<(), Fail> {
-    let alloc = rt.alloc();
-    let text = deep(alloc, 200, "net ( ) { x ~", " ; }")?;
-    assert_eq!(rt; lengths(alloc, text.as_str())?, [0, 0, 0, 0, 1]);
-    let text = deep(alloc, 201, "net ( ) { x ~", " ; }")?;
-    expect_fault(&rt, alloc, text.as_str(), Code::E03, 406);
-    Ok(())
+fn limits_of_depth_in_equations(rt: HostRuntime) {
+    let net = ["net ( ) { x ~", " ; }"];
+    assert_eq!(rt; deep_read(rt.alloc(), 200, net), Some([0, 0, 0, 0, 1]));
+    assert_eq!(rt; deep_fault(rt.alloc(), 201, net), Some((Code::E03, 406)));
 }
 
 #[test]
-fn limits_of_depth_in_heads(rt: HostRuntime) -> Result<(), Fail> {
-    let alloc = rt.alloc();
-    let text = deep(alloc, 200, "rule s [ x ,", " ] >< t [ ] ; net ( ) { }")?;
-    assert_eq!(rt; lengths(alloc, text.as_str())?, [0, 0, 1, 0, 0]);
-    let text = deep(alloc, 201, "rule s [ x ,", " ] >< t [ ] ; net ( ) { }")?;
-    expect_fault(&rt, alloc, text.as_str(), Code::E03, 405);
-    Ok(())
+fn limits_of_depth_in_heads(rt: HostRuntime) {
+    let rule = ["rule s [ x ,", " ] >< t [ ] ; net ( ) { }"];
+    assert_eq!(rt; deep_read(rt.alloc(), 200, rule), Some([0, 0, 1, 0, 0]));
+    assert_eq!(rt; deep_fault(rt.alloc(), 201, rule), Some((Code::E03, 405)));
 }
 
 #[test]
-fn shortest(rt: HostRuntime) -> Result<(), Fail> {
-    let source = tree_of(rt.alloc(), b"net(){}")?;
-    assert!(rt; source.types.is_empty());
-    assert!(rt; source.net.equations.is_empty());
-    Ok(())
+fn shortest(rt: HostRuntime) {
+    assert_eq!(rt; lengths(rt.alloc(), "net(){}"), Some([0, 0, 0, 0, 0]));
 }
 
 /// The code of a text's fault, and the bytes at which it stands.
 fn refused(alloc: Global, text: &[u8]) -> Option<(Code, usize, usize)> {
-    match tree_of(alloc, text) {
-        Err(Fault::Refused(refusal)) => {
-            Some((refusal.code, refusal.place.from, refusal.place.to))
-        }
-        _ => None,
-    }
+    let refusal = tree_refused(alloc, text)?;
+    Some((refusal.code, refusal.place.from, refusal.place.to))
 }
 
 #[test]
@@ -331,24 +405,33 @@ fn columns(place: Place) -> (usize, usize, u32, u32) {
     (place.from, place.to, place.line, place.col)
 }
 
+/// Whether these are the type, the rule and the equation of a text with letters of several bytes, at their places.
+#[derive(Clone, Copy)]
+struct HasLetters;
+
+impl LookAtTree<bool> for HasLetters {
+    fn look(&self, source: &Source) -> bool {
+        let rules = source.rules.as_slice();
+        let equations = source.net.equations.as_slice();
+        are_types(source.types.as_slice(), &["ж"])
+            && rules.len() == 1
+            && is_head(&rules[0].second, "é", 0)
+            && columns(rules[0].second.name.place) == (49, 51, 2, 30)
+            && equations.len() == 1
+            && is_bare(&equations[0].left, "\u{3b1}")
+            && columns(equations[0].tilde) == (63, 64, 3, 8)
+    }
+}
+
 #[test]
 fn parses_a_text(rt: HostRuntime) -> Result<(), Fail> {
     let text = "type ж; # \u{feff} $\nsymbol é : ж+; rule é[x(y)]><é[];\nnet(){\u{3b1}~b;}";
-    let source = tree_of(rt.alloc(), text.as_bytes())?;
-    assert!(rt; are_types(source.types.as_slice(), &["ж"]));
-    let rules = source.rules.as_slice();
-    assert_eq!(rt; rules.len(), 1);
-    assert!(rt; is_head(&rules[0].second, "é", 0));
-    assert_eq!(rt; columns(rules[0].second.name.place), (49, 51, 2, 30));
-    let equations = source.net.equations.as_slice();
-    assert_eq!(rt; equations.len(), 1);
-    assert!(rt; is_bare(&equations[0].left, "\u{3b1}"));
-    assert_eq!(rt; columns(equations[0].tilde), (63, 64, 3, 8));
+    assert!(rt; tree_seen(rt.alloc(), text.as_bytes(), &HasLetters)?);
     Ok(())
 }
 
 #[test]
-fn answers_the_first_fault(rt: HostRuntime) -> Result<(), Fail> {
+fn answers_the_first_fault(rt: HostRuntime) {
     let cases: [(&[u8], Code, usize, usize); 10] = [
         (b"type type; .. $", Code::E01, 11, 11),
         (b"type type; # \xFF", Code::E01, 13, 13),
@@ -368,5 +451,4 @@ fn answers_the_first_fault(rt: HostRuntime) -> Result<(), Fail> {
             "at {text:?}"
         );
     }
-    Ok(())
 }

@@ -2,7 +2,7 @@
 
 use crate::reading::tokens_of;
 use in_syntax::{Code, Fault, Place, Refusal, TokenKind};
-use std::alloc::Global;
+use std::alloc::{AllocError, Global};
 use std::test::Fail;
 
 fn refusal(alloc: Global, text: &[u8]) -> Option<Refusal> {
@@ -55,8 +55,8 @@ fn reads_each_kind(rt: HostRuntime) -> Result<(), Fail> {
         TokenKind::Meets,
     ];
     assert_eq!(rt; kinds.as_slice(), expected.as_slice());
-    assert_eq!(rt; tokens_of(rt.alloc(), b"net () { }")?.len(), 5);
-    assert_eq!(rt; tokens_of(rt.alloc(), b"")?.len(), 0);
+    assert_eq!(rt; count(rt.alloc(), b"net () { }"), Ok(5));
+    assert_eq!(rt; count(rt.alloc(), b""), Ok(0));
     Ok(())
 }
 
@@ -88,7 +88,7 @@ fn reads_names_of_any_letters(rt: HostRuntime) -> Result<(), Fail> {
 }
 
 #[test]
-fn refuses_the_first_fault(rt: HostRuntime) -> Result<(), Fail> {
+fn refuses_the_first_fault(rt: HostRuntime) {
     let cases: [(&[u8], usize, u32, u32); 25] = [
         (b"type type; .. $", 11, 1, 12),
         (b"a >", 2, 1, 3),
@@ -123,39 +123,44 @@ fn refuses_the_first_fault(rt: HostRuntime) -> Result<(), Fail> {
             "at {text:?}"
         );
     }
-    Ok(())
+}
+
+/// How many tokens a text has, or its refusal.
+fn count(alloc: Global, text: &[u8]) -> Result<usize, Option<Refusal>> {
+    match tokens_of(alloc, text) {
+        Ok(tokens) => Ok(tokens.len()),
+        Err(Fault::Refused(refusal)) => Err(Some(refusal)),
+        Err(_) => Err(None),
+    }
+}
+
+/// The same of some bytes so often, with more bytes after them.
+fn often(alloc: Global, bytes: &[u8], times: u32, more: &[u8]) -> Result<usize, Option<Refusal>> {
+    match text_of(alloc, bytes, times, more) {
+        Ok(text) => count(alloc, text.as_slice()),
+        Err(_) => Err(None),
+    }
+}
+
+/// Some bytes so often, with more bytes after them.
+fn text_of(alloc: Global, bytes: &[u8], times: u32, more: &[u8]) -> Result<Vec<u8>, AllocError> {
+    let mut text = Vec::new(alloc);
+    for _ in 0..times {
+        text.extend_from_slice(bytes)?;
+    }
+    text.extend_from_slice(more)?;
+    Ok(text)
 }
 
 #[test]
-fn limits_names_and_texts(rt: HostRuntime) -> Result<(), Fail> {
-    let word = [b'w'; 65];
-    assert_eq!(rt; tokens_of(rt.alloc(), &word[1..])?.len(), 1);
-    assert_eq!(rt; refusal(rt.alloc(), &word), empty_place(Code::E03, 0, 1, 1));
-    let mut text = word.to_vec(rt.alloc())?;
-    text.extend_from_slice(b"\xC3\xA9 $")?;
-    assert_eq!(rt;
-        refusal(rt.alloc(), text.as_slice()),
-        empty_place(Code::E03, 0, 1, 1)
-    );
-    let mut letters = Vec::new(rt.alloc());
-    for _ in 0..64 {
-        letters.extend_from_slice(b"\xD0\xB6")?;
-    }
-    assert_eq!(rt; tokens_of(rt.alloc(), letters.as_slice())?.len(), 1);
-    letters.extend_from_slice(b"\xCC\x81")?;
-    assert_eq!(rt;
-        refusal(rt.alloc(), letters.as_slice()),
-        empty_place(Code::E03, 0, 1, 1)
-    );
-    let mut long = Vec::new(rt.alloc());
-    for _ in 0..524_288 {
-        long.extend_from_slice(b"a ")?;
-    }
-    assert_eq!(rt; tokens_of(rt.alloc(), long.as_slice())?.len(), 524_288);
-    long.push(b'$')?;
-    assert_eq!(rt;
-        refusal(rt.alloc(), long.as_slice()),
-        empty_place(Code::E03, 0, 1, 1)
-    );
-    Ok(())
+fn limits_names_and_texts(rt: HostRuntime) {
+    let alloc = rt.alloc();
+    let refused = Err(empty_place(Code::E03, 0, 1, 1));
+    assert_eq!(rt; often(alloc, b"w", 64, b""), Ok(1));
+    assert_eq!(rt; often(alloc, b"w", 65, b""), refused);
+    assert_eq!(rt; often(alloc, b"w", 65, b"\xC3\xA9 $"), refused);
+    assert_eq!(rt; often(alloc, b"\xD0\xB6", 64, b""), Ok(1));
+    assert_eq!(rt; often(alloc, b"\xD0\xB6", 64, b"\xCC\x81"), refused);
+    assert_eq!(rt; often(alloc, b"a ", 524_288, b""), Ok(524_288));
+    assert_eq!(rt; often(alloc, b"a ", 524_288, b"$"), refused);
 }
