@@ -49,3 +49,5 @@ pub mod Turned
 pub mod Ways
 pub mod Whole
 pub mod WireAt
+pub mod GoodNets
+pub mod GoodRules

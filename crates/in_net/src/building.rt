@@ -1,13 +1,18 @@
-ghost use Rattle.std.specs.Prelude.{◌≡◌, ◌+◌, ◌<◌, ◌++◌, true, length, map, option_to_list, IfOk, OnOk};
+ghost use Rattle.std.specs.Prelude.{◌≡◌, ◌+◌, ◌<◌, ◌++◌, true, length, map, option_to_list, None, IfOk, OnOk};
 ghost use Rattle.in_syntax.specs.Sizes.{IsSized};
 ghost use Rattle.in_syntax.specs.Order.{IsWrittenInOrder};
 ghost use Rattle.in_symbols.specs.Faults.{IsFaultless};
 ghost use Rattle.in_symbols.specs.Tables.{FreeKnown, IsTabled};
 ghost use Rattle.in_net.specs.Building.{point_of, IsSmall, AreSmallSpots, IsJoined, nth_spot, IsPointSpot, partner_of, ends_from, cells_of, free_ends_from, wire_of, wires_from};
+ghost use Rattle.in_net.specs.Joining.{joined_spots};
+ghost use Rattle.in_net.specs.NetFaults.{max_agents};
+ghost use Rattle.in_net.specs.Reading.{reading_of};
+ghost use Rattle.in_net.specs.Searching.{first_fault};
+ghost use Rattle.in_net.specs.TextNet.{body_of};
 ghost use Rattle.in_net.specs.Built.{closed_at, Builds, Assembles, IsReadFrom, ArePointsAt, AgentsOf, AreJoinedTo, AreListedOf};
 
 use crate::faults::first_fault;
-use crate::joining::{Joined, Link, join_all};
+use crate::joining::{Link, join_all};
 use crate::nets::{AgentNo, Cell, FreeEnd, Net, Point, Wire};
 use crate::reading::{Agent, Reading, Spot, read_net};
 use in_symbols::Symbols;
@@ -195,6 +200,71 @@ fn closed_at(place: Place) -> Fault
     Fault::Refused(Refusal::at(Code::E09, place))
 }
 
+/// The net of what was read, where nothing in it is refused, with its links.
+fn linked_net(
+    alloc: Global,
+    source: &Source,
+    symbols: &Symbols,
+    reading: &Reading,
+    links: &[Link],
+) -> Result<Net, Fault>
+    requires sized { IsSized source.now }
+    requires order { IsWrittenInOrder source.now }
+    requires tabled { IsTabled source.now symbols.now }
+    requires faultless { IsFaultless source.now }
+    requires read { reading.now ≡ reading_of symbols.now (body_of source.now.net) }
+    requires clear { None ≡ first_fault max_agents symbols.now (body_of source.now.net) reading.now }
+    requires links { links.now ≡ (joined_spots reading.now).links }
+    requires whole { (joined_spots reading.now).closed ≡ None }
+    ensures { Builds source.now symbols.now result }
+{
+    let spots = reading.spots.as_slice();
+    let free = free_ends(alloc, symbols, spots, links, source.net.free.as_slice())?;
+    Ok(assemble(alloc, symbols, reading, links, free)?)
+}
+
+/// The net of what was read, where no agent and no name in it is refused.
+fn joined_net(
+    alloc: Global,
+    source: &Source,
+    symbols: &Symbols,
+    reading: &Reading,
+) -> Result<Net, Fault>
+    requires sized { IsSized source.now }
+    requires order { IsWrittenInOrder source.now }
+    requires tabled { IsTabled source.now symbols.now }
+    requires faultless { IsFaultless source.now }
+    requires read { reading.now ≡ reading_of symbols.now (body_of source.now.net) }
+    requires clear { None ≡ first_fault max_agents symbols.now (body_of source.now.net) reading.now }
+    ensures { Builds source.now symbols.now result }
+{
+    let joined = join_all(alloc, reading)?;
+    match joined.closed {
+        Some(place) => Err(closed_at(place)),
+        None => linked_net(alloc, source, symbols, reading, joined.links.as_slice()),
+    }
+}
+
+/// The net of what was read.
+fn net_of(
+    alloc: Global,
+    source: &Source,
+    symbols: &Symbols,
+    reading: &Reading,
+) -> Result<Net, Fault>
+    requires sized { IsSized source.now }
+    requires order { IsWrittenInOrder source.now }
+    requires tabled { IsTabled source.now symbols.now }
+    requires faultless { IsFaultless source.now }
+    requires read { reading.now ≡ reading_of symbols.now (body_of source.now.net) }
+    ensures { Builds source.now symbols.now result }
+{
+    match first_fault(alloc, symbols, &source.net, reading)? {
+        Some(refusal) => Err(Fault::Refused(refusal)),
+        None => joined_net(alloc, source, symbols, reading),
+    }
+}
+
 /// The initial net of a program.
 ///
 /// Refused for the first fault in the order of the text, at one place the lower code: E03 at the name of the agent that is one
@@ -211,15 +281,5 @@ pub fn build_net(alloc: Global, source: &Source, symbols: &Symbols) -> Result<Ne
     ensures { Builds source.now symbols.now result }
 {
     let reading = read_net(alloc, symbols, &source.net)?;
-    if let Some(refusal) = first_fault(alloc, symbols, &source.net, &reading)? {
-        return Err(Fault::Refused(refusal));
-    }
-    let Joined { links, closed } = join_all(alloc, &reading)?;
-    if let Some(place) = closed {
-        return Err(closed_at(place));
-    }
-    let spots = reading.spots.as_slice();
-    let links = links.as_slice();
-    let free = free_ends(alloc, symbols, spots, links, source.net.free.as_slice())?;
-    Ok(assemble(alloc, symbols, &reading, links, free)?)
+    net_of(alloc, source, symbols, &reading)
 }

@@ -1,15 +1,18 @@
-ghost use Rattle.std.specs.Prelude.{◌≡◌, ◌+◌, ◌<◌, ◌++◌, cond, length, IfOk, OnOk};
+ghost use Rattle.std.specs.Prelude.{◌≡◌, ◌+◌, ◌<◌, ◌++◌, cond, length, None, IfOk, OnOk};
 ghost use Rattle.in_syntax.specs.Sizes.{IsSized};
 ghost use Rattle.in_syntax.specs.Order.{IsWrittenInOrder};
 ghost use Rattle.in_symbols.specs.Tables.{IsSymbol, IsTabled, IsHeadKnown, IsRuleKnown, arity_of};
 ghost use Rattle.in_net.specs.Building.{AreSmallSpots, IsJoined, boundary_of};
 ghost use Rattle.in_net.specs.Built.{ArePointsAt};
 ghost use Rattle.in_net.specs.Rules.{symbol_of, is_turned, body_of_rule, IsReadable, BuildsRuleOf, BuildsRule};
+ghost use Rattle.in_net.specs.Joining.{joined_spots};
+ghost use Rattle.in_net.specs.NetFaults.{max_member_agents};
 ghost use Rattle.in_net.specs.Reading.{reading_of};
+ghost use Rattle.in_net.specs.Searching.{first_fault};
 
 use crate::building::{assemble, partner};
 use crate::faults::first_rule_fault;
-use crate::joining::{Joined, Link, join_all};
+use crate::joining::{Link, join_all};
 use crate::nets::FreeEnd;
 use crate::reading::{Reading, Spot, read_rule};
 use crate::rules::Rule;
@@ -118,6 +121,70 @@ fn boundary(
     Ok(ends)
 }
 
+/// The rule of what was read, where nothing in it is refused, with its links.
+fn linked_rule(
+    alloc: Global,
+    symbols: &Symbols,
+    rule: &SourceRule,
+    reading: &Reading,
+    links: &[Link],
+) -> Result<Rule, Fault>
+    requires readable { IsReadable symbols.now rule.now }
+    requires read { reading.now ≡ reading_of symbols.now (body_of_rule symbols.now rule.now) }
+    requires clear { None ≡ first_fault max_member_agents symbols.now (body_of_rule symbols.now rule.now) reading.now }
+    requires links { links.now ≡ (joined_spots reading.now).links }
+    ensures { BuildsRuleOf symbols.now rule.now result }
+{
+    let written = (
+        symbol_of(symbols, &rule.first),
+        symbol_of(symbols, &rule.second),
+    );
+    let turned = is_turned(symbols, written.0, written.1);
+    let heads = ordered(written, turned);
+    let spots = reading.spots.as_slice();
+    let free = boundary(alloc, symbols, spots, links, heads)?;
+    let member = assemble(alloc, symbols, reading, links, free)?;
+    Ok(Rule {
+        written,
+        heads,
+        head_places: (rule.first.name.place, rule.second.name.place),
+        member,
+    })
+}
+
+/// The rule of what was read, where no agent and no name in it is refused.
+fn joined_rule(
+    alloc: Global,
+    symbols: &Symbols,
+    rule: &SourceRule,
+    reading: &Reading,
+) -> Result<Rule, Fault>
+    requires readable { IsReadable symbols.now rule.now }
+    requires read { reading.now ≡ reading_of symbols.now (body_of_rule symbols.now rule.now) }
+    requires clear { None ≡ first_fault max_member_agents symbols.now (body_of_rule symbols.now rule.now) reading.now }
+    ensures { BuildsRuleOf symbols.now rule.now result }
+{
+    let joined = join_all(alloc, reading)?;
+    linked_rule(alloc, symbols, rule, reading, joined.links.as_slice())
+}
+
+/// The rule of what was read.
+fn rule_from(
+    alloc: Global,
+    symbols: &Symbols,
+    rule: &SourceRule,
+    reading: &Reading,
+) -> Result<Rule, Fault>
+    requires readable { IsReadable symbols.now rule.now }
+    requires read { reading.now ≡ reading_of symbols.now (body_of_rule symbols.now rule.now) }
+    ensures { BuildsRuleOf symbols.now rule.now result }
+{
+    match first_rule_fault(alloc, symbols, rule, reading)? {
+        Some(refusal) => Err(Fault::Refused(refusal)),
+        None => joined_rule(alloc, symbols, rule, reading),
+    }
+}
+
 /// The rule that is written so.
 fn rule_of(alloc: Global, symbols: &Symbols, rule: &SourceRule) -> Result<Rule, Fault>
     requires { IsReadable symbols.now rule.now }
@@ -129,21 +196,7 @@ fn rule_of(alloc: Global, symbols: &Symbols, rule: &SourceRule) -> Result<Rule, 
     );
     let turned = is_turned(symbols, written.0, written.1);
     let reading = read(alloc, symbols, rule, written, turned)?;
-    if let Some(refusal) = first_rule_fault(alloc, symbols, rule, &reading)? {
-        return Err(Fault::Refused(refusal));
-    }
-    let Joined { links, .. } = join_all(alloc, &reading)?;
-    let heads = ordered(written, turned);
-    let spots = reading.spots.as_slice();
-    let links = links.as_slice();
-    let free = boundary(alloc, symbols, spots, links, heads)?;
-    let member = assemble(alloc, symbols, &reading, links, free)?;
-    Ok(Rule {
-        written,
-        heads,
-        head_places: (rule.first.name.place, rule.second.name.place),
-        member,
-    })
+    rule_from(alloc, symbols, rule, &reading)
 }
 
 /// A rule of a program, by its number in the order of the text from 0.

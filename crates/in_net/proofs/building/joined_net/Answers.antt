@@ -1,0 +1,40 @@
+use Rattle.std.proofs.Common.{◌≡◌, ◌∙◌, ap, sym, subst, refl, length, Some, Err}
+use Rattle.in_net.specs.Counting.{NamesInside}
+use Rattle.in_net.specs.Joining.{JointsInside, joining_of}
+use Rattle.in_net.specs.Built.{Builds}
+use Rattle.in_net.specs.NetFaults.{max_agents, of_wires}
+use Rattle.in_net.specs.Reading.{reading_of}
+use Rattle.in_net.specs.TextNet.{body_of}
+use Rattle.in_net.proofs.Bodies.{net_ready}
+use Rattle.in_net.proofs.Known.{net_known}
+use Rattle.in_net.proofs.FirstFault.{no_fault, names_inside}
+use Rattle.in_net.proofs.ReadFrom as read_from
+use Rattle.in_net.proofs.TextWires.{read, read_closed, read_first}
+use Rattle.in_net.proofs.GoodNets.{good}
+use Rattle.in_net.proofs.building.joined_net.Goals as goal
+
+pub join_all-requires-clause-joints : goal.join_all-requires-clause-joints
+join_all-requires-clause-joints c =
+    let source = c.args.source.now in
+    let t = c.args.symbols.now in
+    let g = good source t c.args.reading.now c.requires.sized c.requires.order c.requires.tabled c.requires.faultless c.requires.read c.requires.clear in
+    subst (λ r. JointsInside (length r.spots) r.joints) (sym c.requires.read) (read_from.joints t (body_of source.net) (read t (body_of source.net) g))
+
+pub join_all-requires-clause-names : goal.join_all-requires-clause-names
+join_all-requires-clause-names c = subst (λ r. NamesInside (length r.names) r.spots) (sym c.requires.read) (names_inside c.args.symbols.now (body_of c.args.source.now.net) (net_known c.args.source.now c.args.symbols.now c.requires.tabled))
+
+pub returns-in-Some : goal.returns-in-Some
+returns-in-Some c =
+    let source = c.args.source.now in
+    let t = c.args.symbols.now in
+    let is = c.requires.read in
+    let clear = c.requires.clear in
+    let ready = net_ready source t c.requires.tabled c.requires.faultless c.requires.order in
+    let g = good source t c.args.reading.now c.requires.sized c.requires.order c.requires.tabled c.requires.faultless is clear in
+    let closed : (joining_of c.args.reading.now).closed ≡ Some c.in-Some.place = sym (ap (λ j. j.closed) c.in_ok-joined.ensures) ∙ c.in-Some.is in
+    let found : (joining_of (reading_of t (body_of source.net))).closed ≡ Some c.in-Some.place = sym (ap (λ r. (joining_of r).closed) is) ∙ closed in
+    subst (λ f. Builds source t (Err f)) (sym c.closed_at.ensures) (
+      of_wires c.in-Some.place (no_fault max_agents t (body_of source.net) c.args.reading.now ready is clear) (read_closed t (body_of source.net) g c.in-Some.place found)
+          (λ q wire. read_first t (body_of source.net) g c.in-Some.place q found wire),
+      refl,
+    )

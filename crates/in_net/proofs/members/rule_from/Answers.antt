@@ -1,0 +1,19 @@
+use Rattle.std.proofs.Common.{◌∙◌, sym, subst, length}
+use Rattle.in_net.specs.Counting.{NamesInside}
+use Rattle.in_net.specs.NetFaults.{max_member_agents}
+use Rattle.in_net.specs.Rules.{body_of_rule}
+use Rattle.in_net.proofs.Bodies.{rule_ready}
+use Rattle.in_net.proofs.FirstFault.{is_first, names_inside}
+use Rattle.in_net.proofs.members.rule_from.Goals as goal
+
+pub first_rule_fault-requires : goal.first_rule_fault-requires
+first_rule_fault-requires c =
+    let t = c.args.symbols.now in
+    let b = body_of_rule t c.args.rule.now in
+    subst (λ r. NamesInside (length r.names) r.spots) (sym c.requires.read) (names_inside t b (rule_ready t c.args.rule.now c.requires.readable.known c.requires.readable.order).known)
+
+pub returns-in-Some : goal.returns-in-Some
+returns-in-Some c =
+    let t = c.args.symbols.now in
+    let r = c.args.rule.now in
+    is_first max_member_agents t (body_of_rule t r) c.args.reading.now c.in-Some.refusal (rule_ready t r c.requires.readable.known c.requires.readable.order) c.requires.read (sym c.in-Some.is ∙ c.in_ok-refusal.ensures {u = tt})
