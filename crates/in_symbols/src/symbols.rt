@@ -1,9 +1,11 @@
-ghost use Rattle.std.specs.Prelude.{◌≡◌, ◌≤◌, length, Some};
+ghost use Rattle.std.specs.Prelude.{◌≡◌, ◌≤◌, length, map, None, Some};
 ghost use Rattle.in_syntax.specs.Grammar.{max_ports};
 ghost use Rattle.in_syntax.specs.Parsing.{IsOfText};
 ghost use Rattle.in_symbols.specs.Names.{name_in};
+ghost use Rattle.in_symbols.specs.Searching.{declares_all, first_fault, undeclared};
 ghost use Rattle.in_symbols.specs.Tables.{place_of, IsSymbol, arity_of, port_at, class_at, classes_of, is_constructor, matching, symbol_numbered, Knows, port_of, Tabulates};
 
+use crate::declaring::Declared;
 use crate::names::Names;
 use crate::searching::first_fault;
 use crate::{declaring, tables};
@@ -66,9 +68,25 @@ impl Symbols {
     {
         let types = declaring::types_of(alloc, source)?;
         let symbols = declaring::symbols_of(alloc, source)?;
-        if let Some(refusal) = first_fault(alloc, source, &types, &symbols)? {
-            return Err(Fault::Refused(refusal));
+        match first_fault(alloc, source, &types, &symbols)? {
+            Some(refusal) => Err(Fault::Refused(refusal)),
+            None => Symbols::of_names(alloc, source, types, symbols),
         }
+    }
+
+    /// The tables of a program in whose names no fault stands.
+    fn of_names(
+        alloc: Global,
+        source: &Source,
+        types: Declared,
+        symbols: Declared,
+    ) -> Result<Symbols, Fault>
+        requires text { IsOfText source.now }
+        requires types { types ≡ declares_all undeclared source.now.types }
+        requires symbols { symbols ≡ declares_all undeclared (map (λ s. s.name) source.now.symbols) }
+        requires clear { None ≡ first_fault source.now types symbols }
+        ensures { Tabulates source.now result }
+    {
         let shapes = tables::shapes(alloc, source, &types.names)?;
         Ok(Symbols {
             types: types.names,
