@@ -151,7 +151,7 @@ fn limit_help(expected: Expected) -> &'static str {
 pub(crate) fn add_limit(report: &mut Report, place: Place) -> Result<(), AllocError> {
     let expected = expected_in(report, place)?;
     let (most, what) = limit(expected);
-    let sentence = format!(in report.alloc; "more than {most} {what}")?;
-    report.wrong(place, sentence.as_str())?;
+    let sentence = format!(in report.alloc; "more than {most} {what}");
+    report.wrong_text(place, sentence)?;
     report.help(limit_help(expected))
 }

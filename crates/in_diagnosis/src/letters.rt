@@ -54,8 +54,8 @@ fn help_with(first: char, second: Option<char>) -> &'static str {
 
 /// A byte that is part of no character.
 fn add_byte(report: &mut Report, place: Place, byte: u8) -> Result<(), AllocError> {
-    let sentence = format!(in report.alloc; "the byte {byte:#04x} is no UTF-8 here")?;
-    report.wrong(place, sentence.as_str())?;
+    let sentence = format!(in report.alloc; "the byte {byte:#04x} is no UTF-8 here");
+    report.wrong_text(place, sentence)?;
     report.help("save the text as UTF-8")
 }
 

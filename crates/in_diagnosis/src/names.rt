@@ -14,8 +14,8 @@ fn add_second(
     place: Place,
 ) -> Result<(), AllocError> {
     let name = report.at(place);
-    let sentence = format!(in report.alloc; "the {what} `{name}` is declared twice")?;
-    report.wrong(place, sentence.as_str())?;
+    let sentence = format!(in report.alloc; "the {what} `{name}` is declared twice");
+    report.wrong_text(place, sentence)?;
     match first_of(names, name) {
         Some(first) => report.note(first.place, "it is declared here first"),
         None => Ok(()),
@@ -26,10 +26,40 @@ fn add_second(
 /// A free end that has the name of a symbol.
 fn add_taken(report: &mut Report, symbol: &SourceSymbol, place: Place) -> Result<(), AllocError> {
     let name = report.at(place);
-    let sentence = format!(in report.alloc; "the free end `{name}` has the name of a symbol")?;
-    report.wrong(place, sentence.as_str())?;
+    let sentence = format!(in report.alloc; "the free end `{name}` has the name of a symbol");
+    report.wrong_text(place, sentence)?;
     report.note(symbol.name.place, "the symbol is declared here")?;
     report.help("give the free end another name")
+}
+
+/// A type that is declared twice; says whether it is one.
+fn add_second_type(report: &mut Report, source: &Source, place: Place) -> Result<bool, AllocError> {
+    let types = types(report.alloc, source)?;
+    let found = is_among(types.as_slice(), place);
+    if found {
+        add_second(report, "type", types.as_slice(), place)?;
+    }
+    Ok(found)
+}
+
+/// A symbol that is declared twice; says whether it is one.
+fn add_second_symbol(
+    report: &mut Report,
+    source: &Source,
+    place: Place,
+) -> Result<bool, AllocError> {
+    let symbols = symbols(report.alloc, source)?;
+    let found = is_among(symbols.as_slice(), place);
+    if found {
+        add_second(report, "symbol", symbols.as_slice(), place)?;
+    }
+    Ok(found)
+}
+
+/// A free end that is declared twice.
+fn add_second_end(report: &mut Report, source: &Source, place: Place) -> Result<(), AllocError> {
+    let ends = free_ends(report.alloc, &source.net)?;
+    add_second(report, "free end", ends.as_slice(), place)
 }
 
 /// A name that is declared twice in its space.
@@ -38,21 +68,26 @@ pub(crate) fn add_declared_twice(
     source: &Source,
     place: Place,
 ) -> Result<(), AllocError> {
-    let types = types(report.alloc, source)?;
-    if is_among(types.as_slice(), place) {
-        return add_second(report, "type", types.as_slice(), place);
-    }
-    let symbols = symbols(report.alloc, source)?;
-    if is_among(symbols.as_slice(), place) {
-        return add_second(report, "symbol", symbols.as_slice(), place);
+    if add_second_type(report, source, place)? || add_second_symbol(report, source, place)? {
+        return Ok(());
     }
     match symbol_named(source, report.at(place)) {
         Some(symbol) => add_taken(report, symbol, place),
-        None => {
-            let ends = free_ends(report.alloc, &source.net)?;
-            add_second(report, "free end", ends.as_slice(), place)
-        }
+        None => add_second_end(report, source, place),
     }
+}
+
+/// The nearest of the declared types, where one is near; says whether there is one.
+fn add_nearest_type(report: &mut Report, source: &Source, name: &str) -> Result<bool, AllocError> {
+    let declared = types(report.alloc, source)?;
+    add_nearest(report, name, declared.as_slice())
+}
+
+/// The nearest of the declared symbols, where one is near.
+fn add_nearest_symbol(report: &mut Report, source: &Source, name: &str) -> Result<(), AllocError> {
+    let declared = symbols(report.alloc, source)?;
+    let _ = add_nearest(report, name, declared.as_slice())?;
+    Ok(())
 }
 
 /// A type that isn't declared.
@@ -62,14 +97,13 @@ pub(crate) fn add_unknown_type(
     place: Place,
 ) -> Result<(), AllocError> {
     let name = report.at(place);
-    let sentence = format!(in report.alloc; "the type `{name}` is not declared")?;
-    report.wrong(place, sentence.as_str())?;
-    let declared = types(report.alloc, source)?;
-    if add_nearest(report, name, declared.as_slice())? {
+    let sentence = format!(in report.alloc; "the type `{name}` is not declared");
+    report.wrong_text(place, sentence)?;
+    if add_nearest_type(report, source, name)? {
         return Ok(());
     }
-    let help = format!(in report.alloc; "declare it: `type {name};`")?;
-    report.help(help.as_str())
+    let help = format!(in report.alloc; "declare it: `type {name};`");
+    report.help_text(help)
 }
 
 /// A name before brackets that is no symbol.
@@ -79,10 +113,9 @@ pub(crate) fn add_unknown_symbol(
     place: Place,
 ) -> Result<(), AllocError> {
     let name = report.at(place);
-    let sentence = format!(in report.alloc; "no symbol `{name}` is declared")?;
-    report.wrong(place, sentence.as_str())?;
-    let declared = symbols(report.alloc, source)?;
-    let _ = add_nearest(report, name, declared.as_slice())?;
+    let sentence = format!(in report.alloc; "no symbol `{name}` is declared");
+    report.wrong_text(place, sentence)?;
+    add_nearest_symbol(report, source, name)?;
     report.help("a name before `(` or `[` is that of a declared symbol")
 }
 
@@ -141,8 +174,7 @@ fn add_once(
         "the variable `{name}` occurs once; a wire has two ends"
     )?;
     report.wrong(place, sentence.as_str())?;
-    let declared = symbols(report.alloc, source)?;
-    let _ = add_nearest(report, name, declared.as_slice())?;
+    add_nearest_symbol(report, source, name)?;
     report.help("what isn't needed is joined to an agent that erases it, with rules of its own")
 }
 
@@ -170,12 +202,12 @@ fn add_free(
 ) -> Result<(), AllocError> {
     let name = declared.text.as_str();
     if declared.place.from == place.from {
-        let sentence = format!(in report.alloc; "nothing is joined to the free end `{name}`")?;
-        report.wrong(place, sentence.as_str())?;
+        let sentence = format!(in report.alloc; "nothing is joined to the free end `{name}`");
+        report.wrong_text(place, sentence)?;
         return report.help("its name occurs exactly once in the equations of the net");
     }
-    let sentence = format!(in report.alloc; "the free end `{name}` occurs a second time")?;
-    report.wrong(place, sentence.as_str())?;
+    let sentence = format!(in report.alloc; "the free end `{name}` occurs a second time");
+    report.wrong_text(place, sentence)?;
     add_others(report, places, place)?;
     report.help(
         "a free end is one end of one wire; what is needed twice takes an agent that copies it",

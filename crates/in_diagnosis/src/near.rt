@@ -56,8 +56,8 @@ pub(crate) fn add_nearest(
     match nearest(report.alloc, name, declared)? {
         Some(near) => {
             let text = near.text.as_str();
-            let sentence = format!(in report.alloc; "did you mean `{text}`?")?;
-            report.note(near.place, sentence.as_str())?;
+            let sentence = format!(in report.alloc; "did you mean `{text}`?");
+            report.note_text(near.place, sentence)?;
             Ok(true)
         }
         None => Ok(false),

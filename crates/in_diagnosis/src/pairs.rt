@@ -88,8 +88,8 @@ pub(crate) fn add_second_rule(
     };
     let one = rule.first.name.text.as_str();
     let other = rule.second.name.text.as_str();
-    let sentence = format!(in report.alloc; "this is a second rule for `{one}` and `{other}`")?;
-    report.wrong(place, sentence.as_str())?;
+    let sentence = format!(in report.alloc; "this is a second rule for `{one}` and `{other}`");
+    report.wrong_text(place, sentence)?;
     if let Some(first) = first_for(source, rule) {
         report.note(first.first.name.place, "the first one is here")?;
     }
@@ -143,8 +143,8 @@ fn add_gap(
     report.wrong(place, sentence.as_str())?;
     add_principal(report, first)?;
     add_principal(report, second)?;
-    let help = rule_words(report.alloc, first, second)?;
-    report.help(help.as_str())
+    let help = rule_words(report.alloc, first, second);
+    report.help_text(help)
 }
 
 /// Two symbols that can meet and have no rule, at the places of their declarations.

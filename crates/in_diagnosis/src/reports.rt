@@ -39,11 +39,6 @@ impl<'a> Report<'a> {
         self.show(place)
     }
 
-    /// What belongs to it, without a place.
-    pub(crate) fn remark(&mut self, sentence: &str) -> Result<(), AllocError> {
-        self.add("note", sentence)
-    }
-
     /// What belongs to it, and where.
     pub(crate) fn note(&mut self, place: Place, sentence: &str) -> Result<(), AllocError> {
         self.add("note", sentence)?;
@@ -53,6 +48,52 @@ impl<'a> Report<'a> {
     /// What helps.
     pub(crate) fn help(&mut self, sentence: &str) -> Result<(), AllocError> {
         self.add("help", sentence)
+    }
+
+    /// What is wrong, in words that could be had, and where.
+    pub(crate) fn wrong_text(
+        &mut self,
+        place: Place,
+        sentence: Result<String, AllocError>,
+    ) -> Result<(), AllocError> {
+        self.wrong(place, sentence?.as_str())
+    }
+
+    /// What belongs to it, in words that could be had, and where.
+    pub(crate) fn note_text(
+        &mut self,
+        place: Place,
+        sentence: Result<String, AllocError>,
+    ) -> Result<(), AllocError> {
+        self.note(place, sentence?.as_str())
+    }
+
+    /// What helps, in words that could be had.
+    pub(crate) fn help_text(
+        &mut self,
+        sentence: Result<String, AllocError>,
+    ) -> Result<(), AllocError> {
+        self.help(sentence?.as_str())
+    }
+
+    /// Begins what belongs to it, without a place; `say` goes on with it, and `end` ends it.
+    pub(crate) fn begin_note(&mut self) -> Result<(), AllocError> {
+        self.lines.push_str("note: ")
+    }
+
+    /// Goes on with a sentence.
+    pub(crate) fn say(&mut self, words: &str) -> Result<(), AllocError> {
+        self.lines.push_str(words)
+    }
+
+    /// Goes on with a sentence, in words that could be had.
+    pub(crate) fn say_text(&mut self, words: Result<String, AllocError>) -> Result<(), AllocError> {
+        self.lines.push_str(words?.as_str())
+    }
+
+    /// Ends a sentence.
+    pub(crate) fn end(&mut self) -> Result<(), AllocError> {
+        self.lines.push_str("\n")
     }
 
     fn show(&mut self, place: Place) -> Result<(), AllocError> {

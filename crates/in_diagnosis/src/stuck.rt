@@ -38,50 +38,46 @@ fn place_of(open: &OpenNet, node: u32) -> Option<Place> {
     }
 }
 
-/// Adds a node in words, with its place.
-fn add_node(
-    text: &mut String,
+/// A node in words, with its place.
+fn node_words(
+    alloc: Global,
     source: &Source,
     open: &OpenNet,
     node: u32,
-) -> Result<(), AllocError> {
-    let Some(place) = place_of(open, node) else {
-        return Ok(());
+) -> Result<String, AllocError> {
+    let place = place_of(open, node);
+    let found = symbol_of(source, open, node);
+    let (Some(Place { line, col, .. }), Some((symbol, class))) = (place, found) else {
+        return Ok(String::new(alloc));
     };
-    let Place { line, col, .. } = place;
-    match symbol_of(source, open, node) {
-        Some((symbol, None)) => {
-            let name = symbol.name.text.as_str();
-            write!(text, "`{name}` at {line}:{col}")
-        }
-        Some((symbol, Some(class))) => {
-            let name = symbol.name.text.as_str();
-            write!(text, "class {class} of the head `{name}` at {line}:{col}")
-        }
-        None => Ok(()),
+    let name = symbol.name.text.as_str();
+    match class {
+        None => format!(in alloc; "`{name}` at {line}:{col}"),
+        Some(class) => format!(in alloc; "class {class} of the head `{name}` at {line}:{col}"),
     }
 }
 
 /// The nodes of the part, in words.
-fn part_words(
-    alloc: Global,
+fn add_part(
+    report: &mut Report,
     source: &Source,
     open: &OpenNet,
     nodes: &[u32],
-) -> Result<String, AllocError> {
-    let mut text = String::from_str(alloc, "no node of this part can be built last: ")?;
+) -> Result<(), AllocError> {
+    report.begin_note()?;
+    report.say("no node of this part can be built last: ")?;
     for (index, node) in nodes.iter().enumerate() {
         if index == MOST_LISTED {
             let more = nodes.len().saturating_sub(index);
-            write!(text, ", and {more} more")?;
+            let words = format!(in report.alloc; ", and {more} more");
+            report.say_text(words)?;
             break;
         }
-        if index > 0 {
-            text.push_str(", ")?;
-        }
-        add_node(&mut text, source, open, *node)?;
+        report.say(if index > 0 { ", " } else { "" })?;
+        let words = node_words(report.alloc, source, open, *node);
+        report.say_text(words)?;
     }
-    Ok(text)
+    report.end()
 }
 
 /// A port of a node, in words.
@@ -97,32 +93,38 @@ fn port_of_node(
     }
 }
 
+/// The nodes on the way of a circle, in words.
+fn say_way(report: &mut Report, field: Field, way: &[u32]) -> Result<(), AllocError> {
+    for (index, next) in way.iter().enumerate() {
+        if index == MOST_LISTED {
+            return report.say(", and on,");
+        }
+        report.say(" through ")?;
+        let words = node_words(report.alloc, field.source, field.open, *next);
+        report.say_text(words)?;
+    }
+    Ok(())
+}
+
 /// The circle, in words.
-fn circle_words(
-    alloc: Global,
-    source: &Source,
-    open: &OpenNet,
+fn add_circle_words(
+    report: &mut Report,
+    field: Field,
     node: u32,
     circle: &Circle,
-) -> Result<String, AllocError> {
-    let mut text = String::from_str(alloc, "a circle leads from ")?;
-    let Some((symbol, class)) = symbol_of(source, open, node) else {
-        return Ok(text);
+) -> Result<(), AllocError> {
+    let Some((symbol, class)) = symbol_of(field.source, field.open, node) else {
+        return Ok(());
     };
-    let first = port_of_node(alloc, symbol, class, circle.first)?;
-    let second = port_of_node(alloc, symbol, class, circle.second)?;
-    text.push_str(first.as_str())?;
-    for (index, next) in circle.way.as_slice().iter().enumerate() {
-        if index == MOST_LISTED {
-            text.push_str(", on")?;
-            break;
-        }
-        text.push_str(" through ")?;
-        add_node(&mut text, source, open, *next)?;
-    }
-    text.push_str(" back to ")?;
-    text.push_str(second.as_str())?;
-    Ok(text)
+    report.begin_note()?;
+    report.say("a circle leads from ")?;
+    let first = port_of_node(report.alloc, symbol, class, circle.first);
+    report.say_text(first)?;
+    say_way(report, field, circle.way.as_slice())?;
+    report.say(" back to ")?;
+    let second = port_of_node(report.alloc, symbol, class, circle.second);
+    report.say_text(second)?;
+    report.end()
 }
 
 /// The lines of the text in which the nodes of a circle stand.
@@ -138,6 +140,18 @@ fn add_places(report: &mut Report, open: &OpenNet, way: &[u32]) -> Result<(), Al
     Ok(())
 }
 
+/// That two ports are not in one pair of braces.
+fn apart_words(
+    alloc: Global,
+    symbol: &SourceSymbol,
+    ports: (u8, u8),
+) -> Result<String, AllocError> {
+    let (first, second) = ports;
+    let one = port_words(alloc, symbol, first as usize)?;
+    let other = port_words(alloc, symbol, second as usize)?;
+    format!(in alloc; "{one} and {other} are not in one pair of braces")
+}
+
 /// Where the braces of a node's symbol stand, which keep two of its ports apart.
 fn add_braces(
     report: &mut Report,
@@ -149,33 +163,48 @@ fn add_braces(
         let sentence = "ports in one pair of braces may be joined outside of the rule";
         return report.note(symbol.name.place, sentence);
     }
-    let (first, second) = ports;
-    let one = port_words(report.alloc, symbol, first as usize)?;
-    let other = port_words(report.alloc, symbol, second as usize)?;
-    let sentence = format!(in report.alloc; "{one} and {other} are not in one pair of braces")?;
-    report.note(symbol.name.place, sentence.as_str())
+    let words = apart_words(report.alloc, symbol, ports);
+    report.note_text(symbol.name.place, words)
+}
+
+/// The same for a node that a way passes from one node to another, unless its symbol was shown.
+fn add_passed(
+    report: &mut Report,
+    field: Field,
+    way: (u32, u32, u32),
+    shown: &mut Vec<usize>,
+) -> Result<(), AllocError> {
+    let (from, node, to) = way;
+    let Some(ports) = field.passed(from, node, to) else {
+        return Ok(());
+    };
+    let Some((symbol, class)) = symbol_of(field.source, field.open, node) else {
+        return Ok(());
+    };
+    let at = symbol.name.place.from;
+    if shown.as_slice().contains(&at) {
+        return Ok(());
+    }
+    shown.push(at)?;
+    add_braces(report, symbol, class, ports)
 }
 
 /// The same for the nodes on the way of a circle, each symbol once.
 fn add_braces_on_the_way(
     report: &mut Report,
     field: Field,
-    ring: &[u32],
-    first: Place,
+    node: u32,
+    way: &[u32],
+    shown: &mut Vec<usize>,
 ) -> Result<(), AllocError> {
-    let mut shown = Vec::new(report.alloc);
-    shown.push(first.from)?;
-    for index in 1..ring.len().min(MOST_SHOWN) {
-        let next = ring.get(index + 1).or(ring.first()).copied().unwrap_or(0);
-        if let Some(ports) = field.passed(ring[index - 1], ring[index], next) {
-            if let Some((symbol, class)) = symbol_of(field.source, field.open, ring[index]) {
-                let place = symbol.name.place;
-                if !shown.as_slice().contains(&place.from) {
-                    shown.push(place.from)?;
-                    add_braces(report, symbol, class, ports)?;
-                }
-            }
+    let mut from = node;
+    for (index, next) in way.iter().enumerate() {
+        if index == MOST_SHOWN {
+            break;
         }
+        let to = way.get(index + 1).copied().unwrap_or(node);
+        add_passed(report, field, (from, *next, to), shown)?;
+        from = *next;
     }
     Ok(())
 }
@@ -191,13 +220,13 @@ fn add_reasons(
         return Ok(());
     };
     add_braces(report, symbol, class, (circle.first, circle.second))?;
-    let mut ring = Vec::new(report.alloc);
-    ring.push(node)?;
-    ring.extend_from_slice(circle.way.as_slice())?;
-    add_braces_on_the_way(report, field, ring.as_slice(), symbol.name.place)?;
-    report.help(
-        "join ports of different braces to parts that have nothing to do with each other; or put two auxiliary ports into one pair of braces, if the rules of the symbol allow it",
-    )
+    let mut shown = vec![in report.alloc; symbol.name.place.from]?;
+    add_braces_on_the_way(report, field, node, circle.way.as_slice(), &mut shown)?;
+    report.help(if class.is_some() {
+        "give each of these ports a pair of braces of its own, or join them to parts that have nothing to do with each other"
+    } else {
+        "join ports of different braces to parts that have nothing to do with each other; or put two auxiliary ports into one pair of braces, if the rules of the symbol allow it"
+    })
 }
 
 /// Which nodes are in the part, but for one.
@@ -218,29 +247,49 @@ fn others(
     Ok(part)
 }
 
-/// A circle through the first node of the part.
-fn add_circle(
+/// A circle through a node.
+fn add_found(
+    report: &mut Report,
+    field: Field,
+    node: u32,
+    circle: &Circle,
+) -> Result<(), AllocError> {
+    add_circle_words(report, field, node, circle)?;
+    add_places(report, field.open, circle.way.as_slice())?;
+    add_reasons(report, field, node, circle)
+}
+
+/// A circle through a node, where there is one.
+fn add_circle(report: &mut Report, field: Field, node: u32) -> Result<(), AllocError> {
+    match field.circle(report.alloc, node)? {
+        Some(circle) => add_found(report, field, node, &circle),
+        None => Ok(()),
+    }
+}
+
+/// A circle through the first node of a part.
+fn add_circle_of(
     report: &mut Report,
     source: &Source,
     open: &OpenNet,
+    wires: &Wires,
     nodes: &[u32],
-    node: u32,
 ) -> Result<(), AllocError> {
-    let wires = Wires::of(report.alloc, open)?;
-    let part = others(report.alloc, open, nodes, node)?;
-    let field = Field {
-        source,
-        open,
-        wires: &wires,
-        part: part.as_slice(),
+    let Some(node) = nodes.first().copied() else {
+        return Ok(());
     };
-    if let Some(circle) = field.circle(report.alloc, node)? {
-        let words = circle_words(report.alloc, source, open, node, &circle)?;
-        report.remark(words.as_str())?;
-        add_places(report, open, circle.way.as_slice())?;
-        return add_reasons(report, field, node, &circle);
-    }
-    Ok(())
+    let inside = others(report.alloc, open, nodes, node)?;
+    let part = inside.as_slice();
+    add_circle(
+        report,
+        Field {
+            source,
+            open,
+            wires,
+            part,
+        },
+        node,
+    )
 }
 
 /// A rule or a net that no steps build, with the nodes of the part.
@@ -252,12 +301,9 @@ pub(crate) fn add_stuck(
     what: &str,
     place: Place,
 ) -> Result<(), AllocError> {
-    let sentence = format!(in report.alloc; "no steps build {what}: it could close a circle")?;
-    report.wrong(place, sentence.as_str())?;
-    let words = part_words(report.alloc, source, open, nodes)?;
-    report.remark(words.as_str())?;
-    match nodes.first() {
-        Some(node) => add_circle(report, source, open, nodes, *node),
-        None => Ok(()),
-    }
+    let sentence = format!(in report.alloc; "no steps build {what}: it could close a circle");
+    report.wrong_text(place, sentence)?;
+    add_part(report, source, open, nodes)?;
+    let wires = Wires::of(report.alloc, open)?;
+    add_circle_of(report, source, open, &wires, nodes)
 }

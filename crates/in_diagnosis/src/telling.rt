@@ -46,8 +46,8 @@ fn add_agents(report: &mut Report, source: &Source, place: Place) -> Result<(), 
         Some(_) => (MAX_MEMBER_AGENTS, "right member of a rule"),
         None => (MAX_AGENTS, "net"),
     };
-    let sentence = format!(in report.alloc; "more than {most} agents in the {what}")?;
-    report.wrong(place, sentence.as_str())
+    let sentence = format!(in report.alloc; "more than {most} agents in the {what}");
+    report.wrong_text(place, sentence)
 }
 
 /// What the tokens or the grammar refuse.

@@ -191,8 +191,8 @@ fn misfit(alloc: Global, one: &End, other: &End) -> Result<String, AllocError> {
 
 /// The two ends of a wire that don't fit.
 fn add_ends(report: &mut Report, place: Place, one: &End, other: &End) -> Result<(), AllocError> {
-    let sentence = misfit(report.alloc, one, other)?;
-    report.wrong(place, sentence.as_str())?;
+    let sentence = misfit(report.alloc, one, other);
+    report.wrong_text(place, sentence)?;
     report.note(one.place, one.words.as_str())?;
     report.note(other.place, other.words.as_str())?;
     report.help(
