@@ -25,7 +25,8 @@ IsClassGraphOf o part g = IsClassGraph (open_graph o) (HasClass o) (nodes_in par
 
 -- ---- what the code keeps true
 
--- the vertices of each node of the part below b come after those of the nodes before it, and are below count
+-- the vertices of each node of the part below b come after those of the nodes before it, and are below count; a node has a hub and at
+-- most 256 classes
 pub record HaveNumbers (o : OpenNet) (part : List Bool) (b : ℕ) (hubs : List HubNumbers) (count : ℕ) : Type 0 where
   pub size : length hubs ≡ b
   pub few : count ≤ b * 257
