@@ -1,6 +1,6 @@
 // Arenas as a test takes them.
 ghost use Rattle.std.specs.Prelude.{◌≡◌, ◌<◌, ◌≤◌, length, slice_set, IfOk};
-ghost use Rattle.in_arena.specs.States.{Live};
+ghost use Rattle.in_arena.specs.States.{Live, IsLive, places};
 ghost use Rattle.in_arena.specs.Arenas.{NoneLeased, Holds, state_at, written};
 
 use in_arena::{Arena, CellClass, CellNo, End, Lease};
@@ -78,6 +78,19 @@ pub fn make(
     lease.write(symbol, ends);
     arena.settle(lease);
     cell
+}
+
+// Whether a live cell carries this symbol and has these ends.
+pub fn has(arena: &Arena, cell: CellNo, symbol: u32, ends: &[End]) -> bool
+    requires live { IsLive (state_at arena.now cell.0) }
+    requires ends { (length ends.now ≤ 9) × (length ends.now ≤ places (state_at arena.now cell.0)) }
+{
+    for place in 0..ends.len() {
+        if arena.port(cell, place as u8) != ends[place] {
+            return false;
+        }
+    }
+    arena.symbol(cell) == symbol
 }
 
 // A live cell of which one end was written again before it was settled.

@@ -30,9 +30,9 @@ fn lines_on(alloc: Global, action: Action, text: &[u8]) -> Result<MemoryOut, All
 
 /// Whether the steps of each rule and of the net of a program build it.
 #[derive(Clone, Copy)]
-struct Builds;
+struct StepsBuild;
 
-impl Look<Result<bool, AllocError>> for Builds {
+impl Look<Result<bool, AllocError>> for StepsBuild {
     fn look(&self, alloc: Global, program: &Checked) -> Option<Result<bool, AllocError>> {
         Some(builds(alloc, program))
     }
@@ -52,7 +52,7 @@ fn builds(alloc: Global, program: &Checked) -> Result<bool, AllocError> {
 
 /// Whether a program that is accepted is built by its steps.
 fn is_built(alloc: Global, text: &str) -> Result<bool, AllocError> {
-    match seen(alloc, &[text], &Builds) {
+    match seen(alloc, &[text], &StepsBuild) {
         Some(answer) => answer,
         None => Ok(true),
     }

@@ -1,6 +1,7 @@
-//! The tree, the tables, the rules and the net of a text. Tests that need them come by them here, so that what reading a text says is
-//! opened once. To let a tree or its tables go costs the prover much at each way out of a function, so `seen_in` and `seen_of` alone
-//! own them, and tests look at them.
+//! The tree, the tables, the rules and the net of a text. Tests that need them come by them here,
+//! so that what reading a text says is opened once. To let a tree or its tables go costs the
+//! prover much at each way out of a function, so `seen_in` and `seen_of` alone own them, and
+//! tests look at them.
 ghost use Rattle.std.specs.Prelude.{◌<◌, length, IfOk};
 ghost use Rattle.in_net_tests.specs.Texts.{IsRead, IsProgram, IsBuilt, IsBuiltRule};
 

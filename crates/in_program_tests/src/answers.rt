@@ -1,5 +1,5 @@
-//! What commands write on a text that comes from memory. A function that owns a text or a writer is small, since each way out of it costs
-//! the prover.
+//! What commands write on a text that comes from memory. A function that owns a text or a writer
+//! is small, since each way out of it costs the prover.
 ghost use Rattle.std.specs.Prelude.{◌≡◌};
 
 use in_program::{Status, act};
@@ -16,7 +16,8 @@ fn status_of(alloc: Global, action: Action, text: &[u8], writer: &mut MemoryOut)
     act(alloc, &action, &mut reader, writer)
 }
 
-/// Whether a command writes these lines on a text and ends with this status. Nothing for want of memory.
+/// Whether a command writes these lines on a text and ends with this status. Nothing for want of
+/// memory.
 pub fn is_answer(
     alloc: Global,
     action: Action,

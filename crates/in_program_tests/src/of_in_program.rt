@@ -325,7 +325,8 @@ fn checked(alloc: Global, reader: &mut Tape, writer: &mut Paper) -> Status
     act(alloc, &Action::Check, reader, writer)
 }
 
-/// Whether this is the line, and this the status, where a text comes byte by byte and one read fails.
+/// Whether this is the line, and this the status, where a text comes byte by byte and one read
+/// fails.
 fn is_answer_to_drips(alloc: Global, text: &[u8], failing: u64, line: &[u8], status: u8) -> bool {
     let mut reader = Tape::dripping(text, failing);
     let mut writer = Paper::new(alloc);

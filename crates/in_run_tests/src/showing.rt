@@ -112,7 +112,8 @@ fn shown_after(alloc: Global, machine: &mut Machine, steps: u32) -> Option<Strin
     shown(alloc, machine).ok()
 }
 
-/// What the machine of a program shows after so many steps of the first pair, over 16 cells of each class.
+/// What the machine of a program shows after so many steps of the first pair, over 16 cells of
+/// each class.
 #[derive(Clone, Copy)]
 pub struct After(pub u32);
 

@@ -1,6 +1,6 @@
-//! What is read of a text. The calls promise nothing of their answers, so that a test which looks at one is proved without what the reader
-//! says of it. To let a tree or tables go costs the prover at each way out of a function, so `tree_seen` and `tables_seen` alone own
-//! them.
+//! What is read of a text. The calls promise nothing of their answers, so that a test which looks
+//! at one is proved without what the reader says of it. To let a tree or tables go costs the
+//! prover at each way out of a function, so `tree_seen` and `tables_seen` alone own them.
 use in_symbols::Symbols;
 use in_syntax::{Fault, Refusal, Source, Token, parse, tokens};
 use in_test_texts::joined;

@@ -152,15 +152,30 @@ fn text_of(alloc: Global, bytes: &[u8], times: u32, more: &[u8]) -> Result<Vec<u
     Ok(text)
 }
 
+/// Whether some bytes so often, with more bytes after them, are refused at their beginning as too
+/// long.
+fn is_too_long(alloc: Global, bytes: &[u8], times: u32, more: &[u8]) -> bool {
+    often(alloc, bytes, times, more) == Err(empty_place(Code::E03, 0, 1, 1))
+}
+
+/// How many tokens they are, where they are read.
+fn read(alloc: Global, bytes: &[u8], times: u32) -> Option<usize> {
+    often(alloc, bytes, times, b"").ok()
+}
+
 #[test]
-fn limits_names_and_texts(rt: HostRuntime) {
+fn limits_names(rt: HostRuntime) {
     let alloc = rt.alloc();
-    let refused = Err(empty_place(Code::E03, 0, 1, 1));
-    assert_eq!(rt; often(alloc, b"w", 64, b""), Ok(1));
-    assert_eq!(rt; often(alloc, b"w", 65, b""), refused);
-    assert_eq!(rt; often(alloc, b"w", 65, b"\xC3\xA9 $"), refused);
-    assert_eq!(rt; often(alloc, b"\xD0\xB6", 64, b""), Ok(1));
-    assert_eq!(rt; often(alloc, b"\xD0\xB6", 64, b"\xCC\x81"), refused);
-    assert_eq!(rt; often(alloc, b"a ", 524_288, b""), Ok(524_288));
-    assert_eq!(rt; often(alloc, b"a ", 524_288, b"$"), refused);
+    assert!(rt; read(alloc, b"w", 64) == Some(1));
+    assert!(rt; is_too_long(alloc, b"w", 65, b""));
+    assert!(rt; is_too_long(alloc, b"w", 65, b"\xC3\xA9 $"));
+    assert!(rt; read(alloc, b"\xD0\xB6", 64) == Some(1));
+    assert!(rt; is_too_long(alloc, b"\xD0\xB6", 64, b"\xCC\x81"));
+}
+
+#[test]
+fn limits_texts(rt: HostRuntime) {
+    let alloc = rt.alloc();
+    assert!(rt; read(alloc, b"a ", 524_288) == Some(524_288));
+    assert!(rt; is_too_long(alloc, b"a ", 524_288, b"$"));
 }
