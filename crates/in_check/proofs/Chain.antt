@@ -1,5 +1,7 @@
 -- A chain of passes: the first one refuses, or the rest answers.
 use Rattle.std.proofs.Common.{◌≡◌, inl, inr, List, length, ℕ, ◌<◌, ◌^◌, Result, Ok, Err, sym, subst, arith}
+use Rattle.std.specs.Prelude.{None, Some}
+use Rattle.std.specs.Result.{result_err}
 use Rattle.in_syntax.specs.declared.faults.Fault.{Fault}
 use Rattle.in_syntax.specs.declared.faults.Fault.TheVariants.{Refused, Memory}
 use Rattle.in_syntax.specs.Answers.{Then}
@@ -51,3 +53,8 @@ few_rules_of text p h = let a = program_of text p h in few_rules a.source p.tabl
 
 pub certified_each : (text : List ℕ) (p : Program) → IsAccepted text p → length p.rule_certificates ≡ length p.rules
 certified_each text p h = (program_of text p h).simple_rules.count
+
+-- what isn't refused is there
+pub some_accepted : {A : Type 0} (P : Result A Fault → Type 0) (x : Result A Fault) → P x → result_err x ≡ None → (a : A) × P (Ok a)
+some_accepted P (Ok a) p e = (a, p)
+some_accepted P (Err f) p e = (let wrong : Some f ≡ None = e in cc)

@@ -211,9 +211,9 @@ pub fn refusal_of(alloc: Global, source: &Source) -> Result<Option<Refusal>, All
     requires { IsOfText source.now }
     ensures { IfOk result (λ found. MatchOption found ((p : Program) × ChecksNames source.now (Ok p)) (λ r. ChecksNames source.now (Err (Refused r)))) }
 {
-    match check_names(alloc, source) {
-        Ok(_) => Ok(None),
-        Err(Fault::Refused(refusal)) => Ok(Some(refusal)),
-        Err(Fault::Memory(error)) => Err(error),
+    match check_names(alloc, source).err() {
+        None => Ok(None),
+        Some(Fault::Refused(refusal)) => Ok(Some(refusal)),
+        Some(Fault::Memory(error)) => Err(error),
     }
 }
