@@ -77,15 +77,13 @@ fn first_for<'a>(source: &'a Source, rule: &SourceRule) -> Option<&'a SourceRule
     None
 }
 
-/// A second rule for two symbols.
-pub(crate) fn add_second_rule(
+/// A second rule for two symbols: the first one, and the symbols where they are declared.
+fn add_second(
     report: &mut Report,
     source: &Source,
     place: Place,
+    rule: &SourceRule,
 ) -> Result<(), AllocError> {
-    let Some(rule) = rule_with(source, place) else {
-        return report.wrong(place, "a second rule for two symbols");
-    };
     let one = rule.first.name.text.as_str();
     let other = rule.second.name.text.as_str();
     let sentence = format!(in report.alloc; "this is a second rule for `{one}` and `{other}`");
@@ -93,7 +91,20 @@ pub(crate) fn add_second_rule(
     if let Some(first) = first_for(source, rule) {
         report.note(first.first.name.place, "the first one is here")?;
     }
+    add_heads(report, source, rule)?;
     report.help("keep one of them: the order of the heads doesn't matter")
+}
+
+/// A second rule for two symbols.
+pub(crate) fn add_second_rule(
+    report: &mut Report,
+    source: &Source,
+    place: Place,
+) -> Result<(), AllocError> {
+    match rule_with(source, place) {
+        Some(rule) => add_second(report, source, place, rule),
+        None => report.wrong(place, "this is a second rule for its two symbols"),
+    }
 }
 
 /// A name for each of so many terms, from this number on, as they stand in a head.
