@@ -1,5 +1,6 @@
 ghost use Rattle.std.specs.Prelude.{◌≡◌, ◌<◌, ◌≤◌, length, slice_index_or, IfOk, OnOk, false, ℕ};
 ghost use Rattle.in_simple.specs.Constructions.{IsIn};
+ghost use Rattle.in_simple.specs.OpenNets.{IsOrderly};
 ghost use Rattle.in_simple.specs.Procedure.{IsNeighbour, IsReached, Reaches, Spreads, nodes_in};
 ghost use Rattle.in_simple.specs.Stuck.{ports_of};
 
@@ -79,6 +80,31 @@ pub(crate) fn spread(
     Ok(())
 }
 
+/// Reaches all nodes of the component of a node, where none is reached yet.
+fn reach_all(
+    alloc: Global,
+    wired: &Wired,
+    within: &Items<bool>,
+    from: u32,
+    reached: &mut Items<bool>,
+) -> Result<(), AllocError>
+    requires within { length within.now ≡ length wired.now.nodes }
+    requires small { from < length wired.now.nodes }
+    requires from { IsIn from (nodes_in within.now) }
+    requires net { IsOrderly wired.now }
+    requires size { length reached.old ≡ length wired.now.nodes }
+    requires none { (n : ℕ) → nodes_in reached.old n ≡ false }
+    ensures size { OnOk result (length reached.new ≡ length wired.now.nodes) }
+    ensures reached { OnOk result (IsReached wired.now within.now from reached.new) }
+{
+    let mut pending = Items::new(alloc);
+    reach(from, reached, &mut pending)?;
+    while let Some(node) = pending.pop() {
+        spread(wired, within, node as usize, reached, &mut pending)?;
+    }
+    Ok(())
+}
+
 /// The component of a node, of the sub-net of these nodes.
 pub(crate) fn component(
     alloc: Global,
@@ -93,10 +119,6 @@ pub(crate) fn component(
     ensures reached { IfOk result (IsReached wired.now within.now from) }
 {
     let mut reached = none(alloc, wired.nodes())?;
-    let mut pending = Items::new(alloc);
-    reach(from, &mut reached, &mut pending)?;
-    while let Some(node) = pending.pop() {
-        spread(wired, within, node as usize, &mut reached, &mut pending)?;
-    }
+    reach_all(alloc, wired, within, from, &mut reached)?;
     Ok(reached)
 }

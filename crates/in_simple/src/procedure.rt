@@ -268,13 +268,13 @@ enum Outcome {
     First(Stuck),
 }
 
-/// What the procedure comes to.
-fn attempt(alloc: Global, open: &OpenNet) -> Result<Outcome, AllocError>
+/// What the procedure comes to, with the wires by port.
+fn come_to(alloc: Global, open: &OpenNet, wired: &Wired) -> Result<Outcome, AllocError>
+    requires { wired.now ≡ «open».now }
     ensures { IfOk result (IsOutcome «open».now) }
 {
-    let wired = Wired::of(alloc, open)?;
     let mut work = begin(alloc, open)?;
-    match finish(alloc, &wired, &mut work)? {
+    match finish(alloc, wired, &mut work)? {
         None => {
             let Work {
                 tasks: _,
@@ -285,6 +285,14 @@ fn attempt(alloc: Global, open: &OpenNet) -> Result<Outcome, AllocError>
         }
         Some(stuck) => Ok(Outcome::First(stuck)),
     }
+}
+
+/// What the procedure comes to.
+fn attempt(alloc: Global, open: &OpenNet) -> Result<Outcome, AllocError>
+    ensures { IfOk result (IsOutcome «open».now) }
+{
+    let wired = Wired::of(alloc, open)?;
+    come_to(alloc, open, &wired)
 }
 
 /// The steps that build the open net: the first node in order that splits it is taken out, then each component that is left is

@@ -1,5 +1,6 @@
 ghost use Rattle.std.specs.Prelude.{◌≡◌, ◌<◌, ◌↔◌, length, false, IfOk, IsTrue, MatchOption};
 ghost use Rattle.in_bridges.specs.Rings.{AreRings};
+ghost use Rattle.in_bridges.specs.Spans.{AreWithin};
 ghost use Rattle.in_simple.specs.ClassEdges.{IsClassGraphOf};
 ghost use Rattle.in_simple.specs.Constructions.{IsIn};
 ghost use Rattle.in_simple.specs.OpenNets.{IsOrderly};
@@ -83,6 +84,46 @@ fn splits(
     }
 }
 
+/// The first node that is off the rings of the part's class graph.
+fn first_off_rings(
+    wired: &Wired,
+    part: &Items<bool>,
+    graph: &ClassGraph,
+    rings: &Items<bool>,
+) -> Option<usize>
+    requires size { length part.now ≡ length wired.now.nodes }
+    requires graph { IsClassGraphOf wired.now part.now graph.now }
+    requires hubs { length graph.now.hubs ≡ length wired.now.nodes }
+    requires rings { AreRings graph.now.edges (length graph.now.edges) rings.now }
+    ensures net { IsOrderly wired.now }
+    ensures found { MatchOption result (NoneSplits wired.now part.now (length wired.now.nodes)) (IsFirst wired.now part.now) }
+{
+    for node in 0..wired.nodes() {
+        if splits(wired, part, graph, rings, node) {
+            return Some(node);
+        }
+    }
+    None
+}
+
+/// The first node of the part that splits it, by the part's class graph.
+fn first_in(
+    alloc: Global,
+    wired: &Wired,
+    part: &Items<bool>,
+    graph: &ClassGraph,
+) -> Result<Option<usize>, AllocError>
+    requires size { length part.now ≡ length wired.now.nodes }
+    requires graph { IsClassGraphOf wired.now part.now graph.now }
+    requires within { AreWithin graph.now.count graph.now.edges }
+    requires hubs { length graph.now.hubs ≡ length wired.now.nodes }
+    ensures net { IfOk result (λ found. IsOrderly wired.now) }
+    ensures found { IfOk result (λ found. MatchOption found (NoneSplits wired.now part.now (length wired.now.nodes)) (IsFirst wired.now part.now)) }
+{
+    let rings = on_rings(alloc, graph.count, &graph.edges)?;
+    Ok(first_off_rings(wired, part, graph, &rings))
+}
+
 /// The first node of the part that splits it. Where the part's first node is seen to split it, no class graph is listed.
 pub(crate) fn first_splitting(
     alloc: Global,
@@ -99,11 +140,5 @@ pub(crate) fn first_splitting(
         }
     }
     let graph = ClassGraph::of(alloc, wired, part)?;
-    let rings = on_rings(alloc, graph.count, &graph.edges)?;
-    for node in 0..wired.nodes() {
-        if splits(wired, part, &graph, &rings, node) {
-            return Ok(Some(node));
-        }
-    }
-    Ok(None)
+    first_in(alloc, wired, part, &graph)
 }

@@ -1,4 +1,4 @@
-ghost use Rattle.std.specs.Prelude.{◌≡◌, ◌↔◌, ◌+◌, ◌<◌, ℕ, length, IsTrue, IfOk, OnOk};
+ghost use Rattle.std.specs.Prelude.{◌≡◌, ◌↔◌, ◌+◌, ◌<◌, ℕ, length, None, Some, IsTrue, IfOk, OnOk};
 ghost use Rattle.in_simple.specs.Checking.{AreAll, AreBeside, AreGathered, AreRefused, AreSized, HasClass, HasFreeEnds, IsClassRefused, IsClassTaken, IsFrom, IsGraftedTo, IsInClass, IsJoint, IsLast, IsLed, IsNothing, IsOpenAt, IsSized, IsSum, IsUnion, IsWhole, LacksSome, OnAlone, OnGraftEnd, OnGraftWire, OnPair, OnStep, OnTaken, ShareOne, Shares, Tells, ends_at, left_at};
 ghost use Rattle.in_simple.specs.Derivations.{Cut, Given, Graft, IsDerivation, Link, Mix, is_auxiliary, is_free, is_port_in, is_principal};
 ghost use Rattle.in_simple.specs.OpenNets.{IsAgent, IsClass, IsOrderly, IsPointOf, classes_of};
@@ -225,23 +225,41 @@ fn is_joint(open: &OpenNet, wire: usize, a: &Built, b: &Built) -> bool
     is_from(&a.nodes, one, a_second, b_first) || is_from(&a.nodes, other, a_first, b_second)
 }
 
+/// Joins one to another along a wire, if they can be.
+fn join_along(
+    open: &OpenNet,
+    wire: u32,
+    a: &Built,
+    built: &mut Built,
+) -> Result<bool, AllocError>
+    requires a { IsSized «open».now a.now }
+    requires built { IsSized «open».now built.old }
+    ensures { IfOk result (λ yes. Tells yes (OnPair «open».now (Cut wire) a.now built.old (Some built.new)) (OnPair «open».now (Cut wire) a.now built.old None)) }
+{
+    let number = wire as usize;
+    if number >= open.wires() {
+        return Ok(false);
+    }
+    if !is_joint(open, number, a, built) {
+        return Ok(false);
+    }
+    if beside(open, a, built)? {
+        let (first, second) = built.ends.as_slice()[number];
+        built.ends.set(number, (first - 1, second - 1));
+        Ok(true)
+    } else {
+        Ok(false)
+    }
+}
+
 /// Two joined along a wire.
 fn cut(open: &OpenNet, wire: u32, a: Built, b: Built) -> Result<Option<Built>, AllocError>
     requires a { IsSized «open».now a }
     requires b { IsSized «open».now b }
     ensures { IfOk result (OnPair «open».now (Cut wire) a b) }
 {
-    let number = wire as usize;
-    if number >= open.wires() {
-        return Ok(None);
-    }
-    if !is_joint(open, number, &a, &b) {
-        return Ok(None);
-    }
     let mut built = b;
-    if beside(open, &a, &mut built)? {
-        let (first, second) = built.ends.as_slice()[number];
-        built.ends.set(number, (first - 1, second - 1));
+    if join_along(open, wire, &a, &mut built)? {
         Ok(Some(built))
     } else {
         Ok(None)
@@ -431,6 +449,35 @@ fn is_agent_with(open: &OpenNet, node: u32, classes: usize) -> bool
     node < open.nodes() && open.is_agent(node as usize) && classes == open.classes(node as usize)
 }
 
+/// Joins an agent to the steps of its classes, if it can be.
+fn graft_into(
+    open: &OpenNet,
+    parts: &mut Vec<Option<Built>>,
+    built: &mut Built,
+    node: u32,
+    steps: &StepNumbers,
+) -> Result<bool, AllocError>
+    requires parts { AreSized «open».now parts.old.items }
+    requires built { IsNothing «open».now built.old }
+    requires within { node < length «open».now.nodes }
+    requires agent { IsAgent «open».now node × (length steps.now ≡ classes_of «open».now node) }
+    ensures { IfOk result (λ yes. Tells yes (OnStep «open».now (Graft node steps.now) parts.old.items parts.new.items (Some built.new)) (OnStep «open».now (Graft node steps.now) parts.old.items parts.new.items None)) }
+{
+    let number = node as usize;
+    if !graft_classes(open, parts, built, node, steps.as_slice())? {
+        return Ok(false);
+    }
+    if built.nodes.as_slice()[number] {
+        return Ok(false);
+    }
+    built.nodes.set(number, true);
+    if graft_ends(open, &mut built.ends, node)? {
+        Ok(true)
+    } else {
+        Ok(false)
+    }
+}
+
 /// An agent, joined to the steps of its classes.
 fn graft(
     alloc: Global,
@@ -442,20 +489,11 @@ fn graft(
     requires { AreSized «open».now parts.old.items }
     ensures { IfOk result (OnStep «open».now (Graft node steps.now) parts.old.items parts.new.items) }
 {
-    let number = node as usize;
-    let classes = steps.as_slice();
-    if !is_agent_with(open, node, classes.len()) {
+    if !is_agent_with(open, node, steps.as_slice().len()) {
         return Ok(None);
     }
     let mut built = nothing(alloc, open)?;
-    if !graft_classes(open, parts, &mut built, node, classes)? {
-        return Ok(None);
-    }
-    if built.nodes.as_slice()[number] {
-        return Ok(None);
-    }
-    built.nodes.set(number, true);
-    if graft_ends(open, &mut built.ends, node)? {
+    if graft_into(open, parts, &mut built, node, steps)? {
         Ok(Some(built))
     } else {
         Ok(None)

@@ -1,16 +1,13 @@
-use Rattle.std.proofs.Common.{arith, sym, subst}
+use Rattle.std.proofs.Common.{sym, subst}
 use Rattle.in_simple.specs.Stuck.{Among}
 use Rattle.in_simple.specs.Procedure.{IsSearch, Reaches}
 use Rattle.in_simple.proofs.Reaching.{among_last, search_start, search_step, search_end}
-use Rattle.in_simple.proofs.components.component.Goals as goal
+use Rattle.in_simple.proofs.components.reach_all.Goals as goal
 
 pub loop-node-init : goal.loop-node-init
 loop-node-init c =
-    let o = c.args.wired.now in
-    let e = c.in_ok-reached.ensures.count in
-    let f = c.nodes.ensures.count in
-    search_start o c.nodes.ensures.net.net c.args.within.now c.args.from c.requires.from c.in_ok-reached.reached c.reach.new.reached c.reach.new.pending (omega arith) c.requires.small c.in_ok-reached.ensures.none
-    (subst (λ z. Reaches c.args.from c.in_ok-reached.reached z c.reach.new.reached c.reach.new.pending) c.new-pending.ensures c.in_ok-reach.ensures)
+    search_start c.args.wired.now c.requires.net.net c.args.within.now c.args.from c.requires.from c.args.reached.now c.reach.new.reached c.reach.new.pending c.requires.size c.requires.small c.requires.none
+    (subst (λ z. Reaches c.args.from c.args.reached.now z c.reach.new.reached c.reach.new.pending) c.new-pending.ensures c.in_ok-reach.ensures)
 
 pub spread-requires-clause-node : goal.spread-requires-clause-node
 spread-requires-clause-node c =
@@ -19,11 +16,11 @@ spread-requires-clause-node c =
 pub loop-node-preserved : goal.loop-node-preserved
 loop-node-preserved c =
     let o = c.args.wired.now in
-    search_step o c.nodes.ensures.net.net c.args.within.now c.args.from c.requires.from c.in-Some.node c.loop-node.reached c.pop.new.self c.spread.new.reached c.spread.new.pending
+    search_step o c.requires.net.net c.args.within.now c.args.from c.requires.from c.in-Some.node c.loop-node.reached c.pop.new.self c.spread.new.reached c.spread.new.pending
     (subst (λ z. IsSearch o c.args.within.now c.args.from c.loop-node.reached z) c.in-Some.ensures c.loop-node.invariant) c.in_ok-spread.ensures
 
 pub returns-clause-reached : goal.returns-clause-reached
 returns-clause-reached c =
     let o = c.args.wired.now in
-    search_end o c.nodes.ensures.net.net c.args.within.now c.args.from c.requires.from c.loop-node.reached
+    search_end o c.requires.net.net c.args.within.now c.args.from c.requires.from c.loop-node.reached
     (subst (λ z. IsSearch o c.args.within.now c.args.from c.loop-node.reached z) c.in_default.ensures.0 c.loop-node.invariant)
