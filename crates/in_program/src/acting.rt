@@ -1,9 +1,14 @@
-ghost use Rattle.std.specs.Prelude.{◌≡◌, ◌-◌, ◌^◌, ◌<◌, ◌++◌, IfOk, OnErr};
+ghost use Rattle.std.specs.Prelude.{ℕ, ◌≡◌, ◌-◌, ◌^◌, ◌<◌, ◌++◌, IfOk, OnErr};
 ghost use Rattle.in_print.specs.Devices.{device};
 ghost use Rattle.in_print.specs.Texts.{text_of};
-ghost use Rattle.in_program.specs.Acting.{Acts, IsReply, Tells, TellsOne, TellsUsage, memory_status, AreFound, AreThese, stop_status};
+ghost use Rattle.in_program.specs.Acting.{Acts, IsReply, Tells, TellsOne, TellsUsage, memory_status, AreFound, AreThese, status, stop_status};
 ghost use Rattle.in_program.specs.Devices.{reader_of};
-ghost use Rattle.in_program.specs.Lines.{memory_line, run_lines};
+ghost use Rattle.in_program.specs.Lines.{memory_line, refused_line, run_lines, start_line};
+ghost use Rattle.in_arena.specs.declared.content.CellClass.{CellClass};
+ghost use Rattle.in_run.specs.declared.running.RunFault.TheVariants.{Start};
+ghost use Rattle.in_run.specs.declared.stops.StartFault.TheVariants.{Full};
+ghost use Rattle.in_syntax.specs.declared.faults.Fault.TheVariants.{Refused};
+ghost use Rattle.in_syntax.specs.declared.faults.Refusal.{Refusal};
 ghost use Rattle.in_words.specs.declared.action.Action.TheVariants.{Run};
 
 use crate::lines::{accepted_line, refused_line};
@@ -111,6 +116,20 @@ fn tell_outcome<W: TextOut>(alloc: Global, writer: &mut W, outcome: &Outcome) ->
     }
 }
 
+/// Writes that a net doesn't fit the cells, or that memory is wanted.
+fn tell_run_fault<W: TextOut>(alloc: Global, writer: &mut W, fault: &RunFault) -> Status
+    requires { W.failures writer.old < 2 ^ 64 - 1 }
+    ensures { TellsOne (λ lines s. (c : CellClass) × (need : ℕ) × (free : ℕ) × (fault.now ≡ Start (Full c need free)) × AreThese (start_line c need free) (status 4) lines s)
+        (device (W.taken writer.old) (W.failures writer.old)) (device (W.taken writer.new) (W.failures writer.new)) result }
+{
+    match fault {
+        RunFault::Start(StartFault::Full { class, need, free }) => {
+            tell_lines(writer, start_line(alloc, *class, *need, *free), FULL)
+        }
+        _ => tell(writer, MEMORY_LINE, MEMORY),
+    }
+}
+
 /// Runs an accepted program, and writes what its run came to, or that its net doesn't fit.
 fn tell_run<W: TextOut>(alloc: Global, writer: &mut W, checked: &Checked, limits: Limits) -> Status
     requires { W.failures writer.old < 2 ^ 64 - 1 }
@@ -118,10 +137,7 @@ fn tell_run<W: TextOut>(alloc: Global, writer: &mut W, checked: &Checked, limits
 {
     match run(alloc, checked, limits) {
         Ok(outcome) => tell_outcome(alloc, writer, &outcome),
-        Err(RunFault::Start(StartFault::Full { class, need, free })) => {
-            tell_lines(writer, start_line(alloc, class, need, free), FULL)
-        }
-        Err(_) => tell(writer, MEMORY_LINE, MEMORY),
+        Err(fault) => tell_run_fault(alloc, writer, &fault),
     }
 }
 
@@ -142,6 +158,20 @@ fn tell_found<W: TextOut>(
     }
 }
 
+/// Writes why a text is refused, or that memory is wanted.
+fn tell_fault<W: TextOut>(alloc: Global, writer: &mut W, text: &[u8], fault: Fault) -> Status
+    requires { W.failures writer.old < 2 ^ 64 - 1 }
+    ensures { TellsOne (λ lines s. (r : Refusal) × (fault ≡ Refused r) × AreThese (refused_line text.now r) (status 1) lines s)
+        (device (W.taken writer.old) (W.failures writer.old)) (device (W.taken writer.new) (W.failures writer.new)) result }
+{
+    match fault {
+        Fault::Refused(refusal) => {
+            tell_lines(writer, refused_line(alloc, text, refusal), REFUSED)
+        }
+        Fault::Memory(_) => tell(writer, MEMORY_LINE, MEMORY),
+    }
+}
+
 /// Writes the answer to a text.
 fn tell_reply<W: TextOut>(alloc: Global, writer: &mut W, action: &Action, text: &[u8]) -> Status
     requires { W.failures writer.old < 2 ^ 64 - 1 }
@@ -149,10 +179,7 @@ fn tell_reply<W: TextOut>(alloc: Global, writer: &mut W, action: &Action, text: 
 {
     match check(alloc, text) {
         Ok(checked) => tell_found(alloc, writer, action, &checked),
-        Err(Fault::Refused(refusal)) => {
-            tell_lines(writer, refused_line(alloc, text, refusal), REFUSED)
-        }
-        Err(Fault::Memory(_)) => tell(writer, MEMORY_LINE, MEMORY),
+        Err(fault) => tell_fault(alloc, writer, text, fault),
     }
 }
 
