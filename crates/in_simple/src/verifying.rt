@@ -513,7 +513,7 @@ fn cut_of(
 {
     match taken(parts, b) {
         Some(second) => match taken(parts, a) {
-            Some(first) => Ok(cut(open, wire, first, second)?),
+            Some(first) => cut(open, wire, first, second),
             None => Ok(None),
         },
         None => Ok(None),
@@ -532,7 +532,7 @@ fn mix_of(
 {
     match taken(parts, b) {
         Some(second) => match taken(parts, a) {
-            Some(first) => Ok(mix(open, first, second)?),
+            Some(first) => mix(open, first, second),
             None => Ok(None),
         },
         None => Ok(None),
@@ -551,11 +551,11 @@ fn built_by(
 {
     match step {
         Step::Empty => Ok(Some(nothing(alloc, open)?)),
-        Step::Link { wire } => Ok(link(alloc, open, *wire)?),
-        Step::Given { node } => Ok(given(alloc, open, *node)?),
-        Step::Graft { node, classes } => Ok(graft(alloc, open, parts, *node, classes)?),
-        Step::Cut { wire, a, b } => Ok(cut_of(open, parts, *wire, *a, *b)?),
-        Step::Mix { a, b } => Ok(mix_of(open, parts, *a, *b)?),
+        Step::Link { wire } => link(alloc, open, *wire),
+        Step::Given { node } => given(alloc, open, *node),
+        Step::Graft { node, classes } => graft(alloc, open, parts, *node, classes),
+        Step::Cut { wire, a, b } => cut_of(open, parts, *wire, *a, *b),
+        Step::Mix { a, b } => mix_of(open, parts, *a, *b),
     }
 }
 
