@@ -386,9 +386,9 @@ fn touched(plan: Plan, alloc: Global, wired: &Wired, node: usize) -> Result<Plan
     ensures takes { IfOk result (Takes wired.now node (suc (ports_of wired.now node)) []) }
 {
     if wired.is_agent(node) {
-        Ok(plan.agent(alloc, wired, node)?)
+        plan.agent(alloc, wired, node)
     } else {
-        Ok(plan.class(alloc, wired, node)?)
+        plan.class(alloc, wired, node)
     }
 }
 
