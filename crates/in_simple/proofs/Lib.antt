@@ -45,3 +45,4 @@ pub mod VerifySets
 pub mod VerifyTaken
 pub mod Whole
 pub mod Working
+pub mod OkValues

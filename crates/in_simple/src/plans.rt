@@ -140,7 +140,7 @@ impl Plan {
                     if self.done.as_slice()[near as usize] {
                         Ok(self)
                     } else {
-                        Ok(self.derive(alloc, wired, near)?.make(Joint::Cut(wire))?)
+                        self.derive(alloc, wired, near)?.make(Joint::Cut(wire))
                     }
                 } else {
                     Ok(self)
@@ -177,7 +177,7 @@ impl Plan {
         if came {
             Ok(plan)
         } else {
-            Ok(plan.make(Joint::Empty)?)
+            plan.make(Joint::Empty)
         }
     }
 
@@ -204,7 +204,7 @@ impl Plan {
     {
         let (plan, came) = self.port(alloc, wired, node, port)?;
         if came {
-            Ok(plan.make(Joint::Mix)?)
+            plan.make(Joint::Mix)
         } else {
             Ok(plan)
         }
@@ -319,7 +319,7 @@ impl Plan {
             if self.done.as_slice()[near as usize] {
                 Ok(self)
             } else {
-                Ok(self.derive(alloc, wired, near)?.make(Joint::Mix)?)
+                self.derive(alloc, wired, near)?.make(Joint::Mix)
             }
         } else {
             Ok(self)
@@ -386,9 +386,9 @@ fn touched(plan: Plan, alloc: Global, wired: &Wired, node: usize) -> Result<Plan
     ensures takes { IfOk result (Takes wired.now node (suc (ports_of wired.now node)) []) }
 {
     if wired.is_agent(node) {
-        Ok(plan.agent(alloc, wired, node)?)
+        plan.agent(alloc, wired, node)
     } else {
-        Ok(plan.class(alloc, wired, node)?)
+        plan.class(alloc, wired, node)
     }
 }
 

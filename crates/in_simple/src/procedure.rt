@@ -180,14 +180,13 @@ fn start(alloc: Global, open: &OpenNet) -> Result<Items<Task>, AllocError>
     ensures steps { IfOk result (λ tasks. IsUnderWay «open».now tasks [] []) }
 {
     let count = open.nodes() as usize;
-    let links = loose(alloc, open, count > 0)?;
     if count > 0 {
         let mut tasks = Items::new(alloc);
         tasks.push(Task::Derive(all(alloc, count)?))?;
-        tasks.append(links)?;
+        tasks.append(loose(alloc, open, true)?)?;
         Ok(tasks)
     } else {
-        Ok(links)
+        loose(alloc, open, false)
     }
 }
 

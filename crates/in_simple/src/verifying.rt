@@ -1,4 +1,4 @@
-ghost use Rattle.std.specs.Prelude.{◌≡◌, ◌↔◌, ◌+◌, ◌<◌, ℕ, length, None, Some, IsTrue, IfOk, OnOk};
+ghost use Rattle.std.specs.Prelude.{◌≡◌, ◌↔◌, ◌+◌, ◌<◌, ℕ, ◌⊎◌, length, false, None, Some, IsTrue, IfOk, OnOk};
 ghost use Rattle.in_simple.specs.Checking.{AreAll, AreBeside, AreGathered, AreRefused, AreSized, HasClass, HasFreeEnds, IsClassRefused, IsClassTaken, IsFrom, IsGraftedTo, IsInClass, IsJoint, IsLast, IsLed, IsNothing, IsOpenAt, IsSized, IsSum, IsUnion, IsWhole, LacksSome, OnAlone, OnGraftEnd, OnGraftWire, OnPair, OnStep, OnTaken, ShareOne, Shares, Tells, ends_at, left_at};
 ghost use Rattle.in_simple.specs.Derivations.{Cut, Given, Graft, IsDerivation, Link, Mix, is_auxiliary, is_free, is_port_in, is_principal};
 ghost use Rattle.in_simple.specs.OpenNets.{IsAgent, IsClass, IsOrderly, IsPointOf, classes_of};
@@ -226,12 +226,7 @@ fn is_joint(open: &OpenNet, wire: usize, a: &Built, b: &Built) -> bool
 }
 
 /// Joins one to another along a wire, if they can be.
-fn join_along(
-    open: &OpenNet,
-    wire: u32,
-    a: &Built,
-    built: &mut Built,
-) -> Result<bool, AllocError>
+fn join_along(open: &OpenNet, wire: u32, a: &Built, built: &mut Built) -> Result<bool, AllocError>
     requires a { IsSized «open».now a.now }
     requires built { IsSized «open».now built.old }
     ensures { IfOk result (λ yes. Tells yes (OnPair «open».now (Cut wire) a.now built.old (Some built.new)) (OnPair «open».now (Cut wire) a.now built.old None)) }
@@ -389,6 +384,30 @@ fn taken(parts: &mut Vec<Option<Built>>, step: u32) -> Option<Built>
     }
 }
 
+/// Puts one beside another, if it has an end for each port of a class.
+fn put_class(
+    open: &OpenNet,
+    more: &Built,
+    built: &mut Built,
+    node: u32,
+    class: usize,
+) -> Result<bool, AllocError>
+    requires more { IsSized «open».now more.now }
+    requires built { IsSized «open».now built.old }
+    requires node { node < length «open».now.nodes }
+    ensures sized { IsSized «open».now built.new }
+    ensures class { IfOk result (λ yes. IsTrue yes → HasClass «open».now node class more.now) }
+    ensures beside { IfOk result (λ yes. IsTrue yes → AreBeside more.now built.old built.new) }
+    ensures refused { IfOk result (λ yes. yes ≡ false → (HasClass «open».now node class more.now → ⊥) ⊎ ShareOne more.now built.old) }
+{
+    if has_class(open, more, node, class) {
+        let apart = beside(open, more, built)?;
+        Ok(apart)
+    } else {
+        Ok(false)
+    }
+}
+
 /// One more class of a graft, beside those after it.
 fn graft_class(
     open: &OpenNet,
@@ -406,12 +425,8 @@ fn graft_class(
 {
     match taken(parts, step) {
         Some(more) => {
-            if has_class(open, &more, node, class) {
-                let apart = beside(open, &more, built)?;
-                Ok(apart)
-            } else {
-                Ok(false)
-            }
+            let apart = put_class(open, &more, built, node, class)?;
+            Ok(apart)
         }
         None => Ok(false),
     }
@@ -513,7 +528,7 @@ fn cut_of(
 {
     match taken(parts, b) {
         Some(second) => match taken(parts, a) {
-            Some(first) => Ok(cut(open, wire, first, second)?),
+            Some(first) => cut(open, wire, first, second),
             None => Ok(None),
         },
         None => Ok(None),
@@ -532,7 +547,7 @@ fn mix_of(
 {
     match taken(parts, b) {
         Some(second) => match taken(parts, a) {
-            Some(first) => Ok(mix(open, first, second)?),
+            Some(first) => mix(open, first, second),
             None => Ok(None),
         },
         None => Ok(None),
@@ -551,11 +566,11 @@ fn built_by(
 {
     match step {
         Step::Empty => Ok(Some(nothing(alloc, open)?)),
-        Step::Link { wire } => Ok(link(alloc, open, *wire)?),
-        Step::Given { node } => Ok(given(alloc, open, *node)?),
-        Step::Graft { node, classes } => Ok(graft(alloc, open, parts, *node, classes)?),
-        Step::Cut { wire, a, b } => Ok(cut_of(open, parts, *wire, *a, *b)?),
-        Step::Mix { a, b } => Ok(mix_of(open, parts, *a, *b)?),
+        Step::Link { wire } => link(alloc, open, *wire),
+        Step::Given { node } => given(alloc, open, *node),
+        Step::Graft { node, classes } => graft(alloc, open, parts, *node, classes),
+        Step::Cut { wire, a, b } => cut_of(open, parts, *wire, *a, *b),
+        Step::Mix { a, b } => mix_of(open, parts, *a, *b),
     }
 }
 

@@ -1,6 +1,8 @@
 use Rattle.std.proofs.Common.{Some, cond, refl, sym, subst, ap}
 use Rattle.in_simple.specs.Derivations.{Empty, Link, Given}
 use Rattle.in_simple.specs.Checking.{OnStep}
+use Rattle.std.specs.Prelude.{IfOk}
+use Rattle.in_simple.proofs.OkValues.{if_ok}
 use Rattle.in_simple.proofs.VerifyMade.{made_empty}
 use Rattle.in_simple.proofs.VerifyRun.{step_alone}
 use Rattle.in_simple.proofs.verifying.built_by.Goals as goal
@@ -13,16 +15,14 @@ returns-in_ok-nothing-in-Empty c =
     let h = c.in_ok-nothing-in-Empty.ensures in
     subst (λ z. OnStep o z parts parts (Some b)) (sym c.in-Empty.is) (step_alone o Empty parts (Some b) refl (h.sized, made_empty o b h, (λ n. ap (λ z. cond z 1 0) (h.nodes n))))
 
-pub returns-in_ok-link-in-Link : goal.returns-in_ok-link-in-Link
-returns-in_ok-link-in-Link c =
+pub returns-in-Link : goal.returns-in-Link
+returns-in-Link c =
     let o = c.args.open.now in
     let parts = c.args.parts.now.items in
-    let r = c.in_ok-link-in-Link.field-0 in
-    subst (λ z. OnStep o z parts parts r) (sym c.in-Link.is) (step_alone o (Link c.in-Link.wire) parts r refl c.in_ok-link-in-Link.ensures)
+    subst (λ z. IfOk c.link.result (OnStep o z parts parts)) (sym c.in-Link.is) (if_ok c.link.result (λ r h. step_alone o (Link c.in-Link.wire) parts r refl h) c.link.ensures)
 
-pub returns-in_ok-given-in-Given : goal.returns-in_ok-given-in-Given
-returns-in_ok-given-in-Given c =
+pub returns-in-Given : goal.returns-in-Given
+returns-in-Given c =
     let o = c.args.open.now in
     let parts = c.args.parts.now.items in
-    let r = c.in_ok-given-in-Given.field-0 in
-    subst (λ z. OnStep o z parts parts r) (sym c.in-Given.is) (step_alone o (Given c.in-Given.node) parts r refl c.in_ok-given-in-Given.ensures)
+    subst (λ z. IfOk c.given.result (OnStep o z parts parts)) (sym c.in-Given.is) (if_ok c.given.result (λ r h. step_alone o (Given c.in-Given.node) parts r refl h) c.given.ensures)

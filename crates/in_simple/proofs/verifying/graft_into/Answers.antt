@@ -9,19 +9,17 @@ use Rattle.in_simple.proofs.verifying.graft_into.Goals as goal
 pub returns-then-not-branch : goal.returns-then-not-branch
 returns-then-not-branch c =
     let o = c.args.open.now in
-    let is = c.args.steps.now in
-    (
+    let is = c.args.steps.now in (
       (λ e. absurd (not_both false e refl)),
       λ _. classes_none o c.args.node is c.args.parts.now.items c.graft_classes.new.parts.items
-      (subst (λ z. AreRefused o c.args.node 0 z c.args.parts.now.items) c.as_slice.ensures (c.in_ok-graft_classes.ensures.answer.1 c.if-not-branch.true)),
+          (subst (λ z. AreRefused o c.args.node 0 z c.args.parts.now.items) c.as_slice.ensures (c.in_ok-graft_classes.ensures.answer.1 c.if-not-branch.true)),
     )
 
 pub returns-then-as_slice-number : goal.returns-then-as_slice-number
 returns-then-as_slice-number c =
     let o = c.args.open.now in
     let built = c.graft_classes.new.built in
-    let g = subst (λ z. AreGathered o c.args.node 0 z c.args.parts.now.items c.graft_classes.new.parts.items built) c.as_slice.ensures (c.in_ok-graft_classes.ensures.answer.0 c.if-not-branch.false) in
-    (
+    let g = subst (λ z. AreGathered o c.args.node 0 z c.args.parts.now.items c.graft_classes.new.parts.items built) c.as_slice.ensures (c.in_ok-graft_classes.ensures.answer.0 c.if-not-branch.false) in (
       (λ e. absurd (not_both false e refl)),
       λ _. node_again o c.args.node c.args.steps.now c.args.parts.now.items c.graft_classes.new.parts.items built g (ap (λ z. get_or z c.args.node false) (sym c.as_slice-2.ensures) ∙ c.if-as_slice-number.true),
     )
@@ -36,20 +34,19 @@ returns-then-branch c =
     let g = subst (λ z. AreGathered o n 0 z c.args.parts.now.items c.graft_classes.new.parts.items built) c.as_slice.ensures (c.in_ok-graft_classes.ensures.answer.0 c.if-not-branch.false) in
     let s = c.graft_classes.ensures.sized in
     let within = c.requires.within in
-    let size = s.nodes in
-    (
+    let size = s.nodes in (
       (λ _. graft_made o n is c.args.parts.now.items c.graft_classes.new.parts.items built (record { nodes = c.set.new.self; links = built.links; ends = c.graft_ends.new.ends }) a.0 a.1 g
-      (record {
-        new = ap (λ z. get_or z n false) (sym c.as_slice-2.ensures) ∙ c.if-as_slice-number.false;
-        nodes = set_node o built n c.set.new.self (omega arith) c.set.ensures;
-        links = refl;
-        ends = c.in_ok-graft_ends.ensures.grafted.0 c.if-branch.true;
-      })
-      (record {
-        nodes = ap length c.set.ensures ∙ length-set built.nodes n true ∙ s.nodes;
-        links = s.links;
-        ends = c.graft_ends.ensures.size ∙ s.ends;
-      })),
+          (record {
+            new = ap (λ z. get_or z n false) (sym c.as_slice-2.ensures) ∙ c.if-as_slice-number.false;
+            nodes = set_node o built n c.set.new.self (omega arith) c.set.ensures;
+            links = refl;
+            ends = c.in_ok-graft_ends.ensures.grafted.0 c.if-branch.true;
+          })
+          (record {
+            nodes = ap length c.set.ensures ∙ length-set built.nodes n true ∙ s.nodes;
+            links = s.links;
+            ends = c.graft_ends.ensures.size ∙ s.ends;
+          })),
       λ e. absurd (not_both true refl e),
     )
 
@@ -57,8 +54,7 @@ pub returns-else-branch : goal.returns-else-branch
 returns-else-branch c =
     let o = c.args.open.now in
     let is = c.args.steps.now in
-    let g = subst (λ z. AreGathered o c.args.node 0 z c.args.parts.now.items c.graft_classes.new.parts.items c.graft_classes.new.built) c.as_slice.ensures (c.in_ok-graft_classes.ensures.answer.0 c.if-not-branch.false) in
-    (
+    let g = subst (λ z. AreGathered o c.args.node 0 z c.args.parts.now.items c.graft_classes.new.parts.items c.graft_classes.new.built) c.as_slice.ensures (c.in_ok-graft_classes.ensures.answer.0 c.if-not-branch.false) in (
       (λ e. absurd (not_both false e refl)),
       λ _. ends_lack o c.args.node is c.args.parts.now.items c.graft_classes.new.parts.items c.graft_classes.new.built g (c.in_ok-graft_ends.ensures.grafted.1 c.if-branch.false),
     )

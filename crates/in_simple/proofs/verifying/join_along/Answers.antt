@@ -53,10 +53,9 @@ returns-then-branch c =
     let v = c.args.wire in
     let d = c.beside.new.built in
     let a = c.if-number-wires.false in
-    let b = c.wires.ensures.count in
-    (
+    let b = c.wires.ensures.count in (
       (λ _. cut_pair o v c.args.a.now c.args.built.now d c.set.new.self (omega arith)
-      (c.is_joint.ensures.0 c.if-not-is_joint.false) (c.in_ok-beside.ensures.beside.0 c.if-branch.true) c.beside.ensures.sized
-      (subst (λ z. c.set.new.self ≡ set d.ends v ((ends_at z v).0 - 1, (ends_at z v).1 - 1)) c.as_slice.ensures c.set.ensures)),
+          (c.is_joint.ensures.0 c.if-not-is_joint.false) (c.in_ok-beside.ensures.beside.0 c.if-branch.true) c.beside.ensures.sized
+          (subst (λ z. c.set.new.self ≡ set d.ends v ((ends_at z v).0 - 1, (ends_at z v).1 - 1)) c.as_slice.ensures c.set.ensures)),
       λ e. absurd (not_both true refl e),
     )

@@ -4,10 +4,11 @@ use Rattle.in_simple.specs.Stuck.{turn}
 use Rattle.in_simple.proofs.ClassNets.{some_class, further_came, further_none}
 use Rattle.in_simple.proofs.Planning.{goes_make}
 use Rattle.in_simple.proofs.Taking.{further_takes, further_nothing}
+use Rattle.in_simple.proofs.OkValues.{if_ok}
 use Rattle.in_simple.proofs.plans.Plan.further_port.Goals as goal
 
-pub returns-in_ok-make : goal.returns-in_ok-make
-returns-in_ok-make c =
+pub returns-then-came : goal.returns-then-came
+returns-then-came c =
     let o = c.args.wired.now in
     let n = c.args.node in
     let i = c.args.port in
@@ -15,10 +16,10 @@ returns-in_ok-make c =
     let r = c.in_ok-plan.plan in
     let net = c.requires.orderly.net in
     record {
-      plan = goes_make o n (suc (turn o n i)) p r c.in_ok-make.field-0 _ c.in_ok-plan.ensures.plan c.in_ok-make.ensures;
-      classes = further_came o net n c.requires.agent (turn o n i) p c.requires.plan i c.requires.auxiliary c.requires.classes (some_class o net n i c.requires.agent c.requires.auxiliary c.requires.port)
-          r c.in_ok-make.field-0 c.in_ok-plan.ensures.plan.1 (subst (λ z. WhatPort o n i p r z) c.if-came.true c.in_ok-plan.ensures.adds) c.in_ok-make.ensures;
-      takes = further_takes o net n p r c.in_ok-make.field-0 i c.requires.agent c.requires.port c.requires.last c.requires.takes c.in_ok-plan.ensures.plan.1 (subst (λ z. WhatComes o n i p r z) c.if-came.true c.in_ok-plan.ensures.comes) c.in_ok-make.ensures;
+      plan = if_ok c.make.result (λ q h. goes_make o n (suc (turn o n i)) p r q _ c.in_ok-plan.ensures.plan h) c.make.ensures;
+      classes = if_ok c.make.result (λ q h. further_came o net n c.requires.agent (turn o n i) p c.requires.plan i c.requires.auxiliary c.requires.classes (some_class o net n i c.requires.agent c.requires.auxiliary c.requires.port)
+          r q c.in_ok-plan.ensures.plan.1 (subst (λ z. WhatPort o n i p r z) c.if-came.true c.in_ok-plan.ensures.adds) h) c.make.ensures;
+      takes = if_ok c.make.result (λ q h. further_takes o net n p r q i c.requires.agent c.requires.port c.requires.last c.requires.takes c.in_ok-plan.ensures.plan.1 (subst (λ z. WhatComes o n i p r z) c.if-came.true c.in_ok-plan.ensures.comes) h) c.make.ensures;
     }
 
 pub returns-else-came : goal.returns-else-came

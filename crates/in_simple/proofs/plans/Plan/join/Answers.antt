@@ -10,6 +10,7 @@ use Rattle.in_simple.specs.OpenNets.{IsWire}
 use Rattle.in_simple.specs.Stuck.{turn}
 use Rattle.in_simple.proofs.Nets.{net_join, one_port}
 use Rattle.in_simple.proofs.Planning.{port_free, port_out, port_done, port_derive, goes_make, read_bit}
+use Rattle.in_simple.proofs.OkValues.{if_ok}
 use Rattle.in_simple.proofs.plans.Plan.join.Goals as goal
 
 pub returns-then-as_slice-near-2 : goal.returns-then-as_slice-near-2
@@ -28,8 +29,8 @@ returns-then-as_slice-near-2 c =
       takes = join_nothing o net n p i c.requires.port c.requires.principal c.requires.plan (λ w l j g m. let e = (port_place x.near l x.field-1-1 j (net.once v w (Port n i) (Port x.near x.field-1-1) (Port l j) wire g).1).0 in subst (λ z. IsIn z (nodes_in p.done)) e (read_bit _ p.done x.near true c.as_slice-then-as_slice-near.ensures c.if-as_slice-near-2.true)) c.requires.takes;
     }
 
-pub returns-in_ok-make-in_default-Port : goal.returns-in_ok-make-in_default-Port
-returns-in_ok-make-in_default-Port c =
+pub returns-in_ok-derive-in_default-Port : goal.returns-in_ok-derive-in_default-Port
+returns-in_ok-derive-in_default-Port c =
     let o = c.args.wired.now in
     let n = c.args.node in
     let i = c.args.port in
@@ -40,9 +41,9 @@ returns-in_ok-make-in_default-Port c =
     let wire = subst (λ z. IsWire o v (Port n i) z) x.is-1 c.partner.ensures.wire in
     let d = c.in_ok-derive-in_default-Port in
     record {
-      plan = goes_make o n (suc (turn o n i)) p d.field-0 c.in_ok-make-in_default-Port.field-0 _ (port_derive o net n p d.field-0 i v x.near x.field-1-1 c.requires.plan wire (read_bit _ p.rest x.near true c.as_slice.ensures c.if-as_slice-near.true) (read_bit _ p.done x.near false c.as_slice-then-as_slice-near.ensures c.if-as_slice-near-2.false) d.ensures) c.in_ok-make-in_default-Port.ensures;
-      net = net_join o net n (turn o n i) p c.requires.plan x.near d.field-0 (read_bit _ p.rest x.near true c.as_slice.ensures c.if-as_slice-near.true) (read_bit _ p.done x.near false c.as_slice-then-as_slice-near.ensures c.if-as_slice-near-2.false) d.ensures c.in_ok-make-in_default-Port.field-0 i v x.field-1-1 c.requires.net wire c.requires.principal (one_port o net n i v (Port x.near x.field-1-1) c.requires.node wire c.requires.principal) c.in_ok-make-in_default-Port.ensures;
-      takes = join_takes o net n p d.field-0 c.in_ok-make-in_default-Port.field-0 i v x.near x.field-1-1 c.requires.port c.requires.principal c.requires.plan wire (read_bit _ p.rest x.near true c.as_slice.ensures c.if-as_slice-near.true) (read_bit _ p.done x.near false c.as_slice-then-as_slice-near.ensures c.if-as_slice-near-2.false) d.ensures c.in_ok-make-in_default-Port.ensures c.requires.takes;
+      plan = if_ok c.make.result (λ q h. goes_make o n (suc (turn o n i)) p d.field-0 q _ (port_derive o net n p d.field-0 i v x.near x.field-1-1 c.requires.plan wire (read_bit _ p.rest x.near true c.as_slice.ensures c.if-as_slice-near.true) (read_bit _ p.done x.near false c.as_slice-then-as_slice-near.ensures c.if-as_slice-near-2.false) d.ensures) h) c.make.ensures;
+      net = if_ok c.make.result (λ q h. net_join o net n (turn o n i) p c.requires.plan x.near d.field-0 (read_bit _ p.rest x.near true c.as_slice.ensures c.if-as_slice-near.true) (read_bit _ p.done x.near false c.as_slice-then-as_slice-near.ensures c.if-as_slice-near-2.false) d.ensures q i v x.field-1-1 c.requires.net wire c.requires.principal (one_port o net n i v (Port x.near x.field-1-1) c.requires.node wire c.requires.principal) h) c.make.ensures;
+      takes = if_ok c.make.result (λ q h. join_takes o net n p d.field-0 q i v x.near x.field-1-1 c.requires.port c.requires.principal c.requires.plan wire (read_bit _ p.rest x.near true c.as_slice.ensures c.if-as_slice-near.true) (read_bit _ p.done x.near false c.as_slice-then-as_slice-near.ensures c.if-as_slice-near-2.false) d.ensures h c.requires.takes) c.make.ensures;
     }
 
 pub returns-else-as_slice-near : goal.returns-else-as_slice-near
