@@ -1,4 +1,4 @@
-ghost use Rattle.std.specs.Prelude.{◌≡◌, ◌<◌, ℕ, [], ◌∷◌, length, slice_get, Some, IfOk, OnOk};
+ghost use Rattle.std.specs.Prelude.{◌≡◌, ◌<◌, ◌++◌, ℕ, [], ◌∷◌, length, slice_get, Some, IfOk, OnOk};
 ghost use Rattle.in_run.specs.Machines.{IsMachine};
 ghost use Rattle.in_print.specs.Texts.{Wrote, free_lines_in, pair_lines_in, text_of};
 
@@ -67,13 +67,22 @@ fn pair_lines(alloc: Global, machine: &Machine, sheet: &mut Sheet) -> Result<(),
     Ok(())
 }
 
+/// Writes the lines of the free ends, and then those of the active pairs.
+fn all_lines(alloc: Global, machine: &Machine, sheet: &mut Sheet) -> Result<(), AllocError>
+    requires { IsMachine machine.now }
+    ensures { OnOk result (Wrote machine.now sheet.old sheet.new (λ d. free_lines_in machine.now d 0 (length machine.now.free) ++ pair_lines_in machine.now d machine.now.queue)) }
+{
+    free_lines(alloc, machine, sheet)?;
+    pair_lines(alloc, machine, sheet)?;
+    Ok(())
+}
+
 /// The whole text of a machine's net.
 pub(crate) fn text(alloc: Global, machine: &Machine) -> Result<Vec<u8>, AllocError>
     ensures { IfOk result (λ bytes. bytes.items ≡ text_of machine.now) }
 {
     let _ = machine.pairs();
     let mut sheet = Sheet::new(alloc);
-    free_lines(alloc, machine, &mut sheet)?;
-    pair_lines(alloc, machine, &mut sheet)?;
+    all_lines(alloc, machine, &mut sheet)?;
     Ok(sheet.into_bytes())
 }

@@ -136,8 +136,16 @@ fn tell_run<W: TextOut>(alloc: Global, writer: &mut W, checked: &Checked, limits
     ensures { TellsOne (AreFound (Run limits) checked.now) (device (W.taken writer.old) (W.failures writer.old)) (device (W.taken writer.new) (W.failures writer.new)) result }
 {
     match run(alloc, checked, limits) {
-        Ok(outcome) => tell_outcome(alloc, writer, &outcome),
-        Err(fault) => tell_run_fault(alloc, writer, &fault),
+        Ok(outcome) => {
+            let status = tell_outcome(alloc, writer, &outcome);
+            drop(outcome);
+            status
+        }
+        Err(fault) => {
+            let status = tell_run_fault(alloc, writer, &fault);
+            drop(fault);
+            status
+        }
     }
 }
 
@@ -178,7 +186,11 @@ fn tell_reply<W: TextOut>(alloc: Global, writer: &mut W, action: &Action, text: 
     ensures { TellsOne (IsReply action.now text.now) (device (W.taken writer.old) (W.failures writer.old)) (device (W.taken writer.new) (W.failures writer.new)) result }
 {
     match check(alloc, text) {
-        Ok(checked) => tell_found(alloc, writer, action, &checked),
+        Ok(checked) => {
+            let status = tell_found(alloc, writer, action, &checked);
+            drop(checked);
+            status
+        }
         Err(fault) => tell_fault(alloc, writer, text, fault),
     }
 }

@@ -1,5 +1,5 @@
 ghost use Rattle.std.specs.Prelude.{◌≡◌, ◌++◌, IfOk, OnOk, slice_range};
-ghost use Rattle.in_program.specs.Lines.{accepted_line, code_name, text_at, other_at, refused_line};
+ghost use Rattle.in_program.specs.Lines.{accepted_line, code_name, line_end, text_at, other_at, refused_line};
 
 use in_check::Counts;
 use in_syntax::{Code, Place, Refusal};
@@ -73,6 +73,21 @@ fn add_other(bytes: &mut Vec<u8>, text: &[u8], other: Option<Place>) -> Result<(
     Ok(())
 }
 
+/// Adds what stands at the place, what stands at the other, and the end of the line.
+fn add_places(
+    bytes: &mut Vec<u8>,
+    text: &[u8],
+    place: Place,
+    other: Option<Place>,
+) -> Result<(), AllocError>
+    ensures { OnOk result (bytes.new.items ≡ bytes.old.items ++ (text_at text.now place ++ (other_at text.now other ++ line_end))) }
+{
+    add_text(bytes, text, place)?;
+    add_other(bytes, text, other)?;
+    bytes.push(b'\n')?;
+    Ok(())
+}
+
 /// The line of a refused text: the code, the line and the column, what stands at the place, if the place isn't empty, and at the
 /// other place, if there is one.
 pub fn refused_line(alloc: Global, text: &[u8], refusal: Refusal) -> Result<Vec<u8>, AllocError>
@@ -82,8 +97,6 @@ pub fn refused_line(alloc: Global, text: &[u8], refusal: Refusal) -> Result<Vec<
     let Place { line, col, .. } = place;
     let name = code_name(code);
     let mut bytes = format!(in alloc; "refused {name} at {line}:{col}")?.into_bytes();
-    add_text(&mut bytes, text, place)?;
-    add_other(&mut bytes, text, other)?;
-    bytes.push(b'\n')?;
+    add_places(&mut bytes, text, place, other)?;
     Ok(bytes)
 }

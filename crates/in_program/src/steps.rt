@@ -62,6 +62,35 @@ fn add_node(
     }
 }
 
+/// Adds what a step does, and its node.
+fn add_word_and_node(
+    bytes: &mut Vec<u8>,
+    alloc: Global,
+    symbols: &Symbols,
+    shape: &OpenNet,
+    word: &[u8],
+    node: u32,
+) -> Result<(), AllocError>
+    ensures { OnOk result (bytes.new.items ≡ bytes.old.items ++ (word.now ++ node_text symbols.now (node_in shape.now node))) }
+{
+    bytes.extend_from_slice(word)?;
+    add_node(bytes, alloc, symbols, shape, node)
+}
+
+/// Adds what a step does, and the two steps that it names.
+fn add_word_and_two(
+    bytes: &mut Vec<u8>,
+    alloc: Global,
+    word: &[u8],
+    a: u32,
+    b: u32,
+) -> Result<(), AllocError>
+    ensures { OnOk result (bytes.new.items ≡ bytes.old.items ++ (word.now ++ numbers_text (a ∷ b ∷ []))) }
+{
+    bytes.extend_from_slice(word)?;
+    add_numbers(bytes, alloc, &[a, b])
+}
+
 /// Adds what a step does, and the nodes and steps that it names.
 fn add_step(
     bytes: &mut Vec<u8>,
@@ -75,23 +104,13 @@ fn add_step(
     match step {
         Step::Empty => bytes.extend_from_slice(b"empty"),
         Step::Link { wire: _ } => bytes.extend_from_slice(b"link"),
-        Step::Given { node } => {
-            bytes.extend_from_slice(b"given ")?;
-            add_node(bytes, alloc, symbols, shape, *node)
-        }
+        Step::Given { node } => add_word_and_node(bytes, alloc, symbols, shape, b"given ", *node),
         Step::Graft { node, classes } => {
-            bytes.extend_from_slice(b"graft ")?;
-            add_node(bytes, alloc, symbols, shape, *node)?;
+            add_word_and_node(bytes, alloc, symbols, shape, b"graft ", *node)?;
             add_numbers(bytes, alloc, classes.as_slice())
         }
-        Step::Cut { wire: _, a, b } => {
-            bytes.extend_from_slice(b"cut")?;
-            add_numbers(bytes, alloc, &[*a, *b])
-        }
-        Step::Mix { a, b } => {
-            bytes.extend_from_slice(b"mix")?;
-            add_numbers(bytes, alloc, &[*a, *b])
-        }
+        Step::Cut { wire: _, a, b } => add_word_and_two(bytes, alloc, b"cut", *a, *b),
+        Step::Mix { a, b } => add_word_and_two(bytes, alloc, b"mix", *a, *b),
     }
 }
 

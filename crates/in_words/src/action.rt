@@ -1,9 +1,9 @@
-ghost use Rattle.std.specs.Prelude.{◌≡◌, IfErr, IfOk, false};
-ghost use Rattle.clap.specs.Words.{app_of, found_of, kind_of, rows_of, rule_of, subcommand_rows_of};
+ghost use Rattle.std.specs.Prelude.{codes, ◌≡◌, IfErr, IfOk, false};
+ghost use Rattle.clap.specs.Words.{app_of, found_of, kind_of, new_app, rows_of, rule_of, subcommand_rows_of, with_subcommand};
 ghost use Rattle.clap.specs.Walk.{texts};
 ghost use Rattle.clap.specs.declared.builder.command.Command.TheViews.{out-Command};
 ghost use Rattle.in_words.specs.Asking.{AreGiven, AsksFor, IsNamed, IsRefused, IsTold};
-ghost use Rattle.in_words.specs.CommandLine.{cells_option, command_line, limit_option, run_command};
+ghost use Rattle.in_words.specs.CommandLine.{cells_option, command_line, limit_option, needs_subcommand, run_command};
 
 use clap::error::ErrorKind;
 use clap::{Arg, ArgAction, ArgMatches, Command, value_parser};
@@ -85,22 +85,35 @@ fn run_command<'a>(alloc: Global) -> Result<Command<'a>, AllocError>
         .arg(cells_option(alloc))
 }
 
-/// The command line: `inet` with its subcommands `check`, `derive` and `run`, of which one is needed.
-fn command<'a>(alloc: Global) -> Result<Command<'a>, AllocError>
-    ensures { IfOk result (λ c. app_of c ≡ command_line) }
+/// `inet`, of whose subcommands one is needed, with `check` and `derive`.
+fn command_without_run<'a>(alloc: Global) -> Result<Command<'a>, AllocError>
+    ensures { IfOk result (λ c. app_of c ≡ with_subcommand (with_subcommand (needs_subcommand (new_app (codes "inet"))) (new_app (codes "check")).top) (new_app (codes "derive")).top) }
 {
     let check = Command::new(alloc, "check").about(
         "Says whether the program on standard input is accepted",
     );
+    let inet = Command::new(alloc, "inet")
+        .about("Checks and runs programs of interaction nets")
+        .subcommand_required(true)
+        .subcommand(check)?;
     let derive = Command::new(alloc, "derive").about(
         "Prints the steps that build the rules and the net of the program on standard input",
     );
-    Command::new(alloc, "inet")
-        .about("Checks and runs programs of interaction nets")
-        .subcommand_required(true)
-        .subcommand(check)?
-        .subcommand(derive)?
-        .subcommand(run_command(alloc)?)
+    inet.subcommand(derive)
+}
+
+/// The command line: `inet` with its subcommands `check`, `derive` and `run`, of which one is needed.
+fn command<'a>(alloc: Global) -> Result<Command<'a>, AllocError>
+    ensures { IfOk result (λ c. app_of c ≡ command_line) }
+{
+    let inet = command_without_run(alloc)?;
+    match run_command(alloc) {
+        Ok(run) => inet.subcommand(run),
+        Err(error) => {
+            drop(inet);
+            Err(error)
+        }
+    }
 }
 
 /// How an error of `clap` is told.

@@ -1,18 +1,9 @@
-use Rattle.std.proofs.Common.{rules, ap, ap₂, codes, false, ◌≡◌, ◌∙◌}
+use Rattle.std.proofs.Common.{ap, ap₂, ◌∙◌}
 use Rattle.std.proofs.lemmas.Result.{IfOk-weaker}
-use Rattle.clap.specs.Words.{App, app_of, new_app, with_subcommand}
-use Rattle.clap.specs.declared.builder.command.Command.TheViews.{out-Command}
-use Rattle.in_words.specs.CommandLine.{needs_subcommand}
+use Rattle.clap.specs.Words.{App, with_subcommand}
 use Rattle.in_words.proofs.action.command.Goals as goal
 
-pub returns : goal.returns
-returns c =
-    let check_is : app_of c.about-check.result ≡ new_app (codes "check") = search rules in
-    let derive_is : app_of c.about-derive.result ≡ new_app (codes "derive") = search rules in
-    let inet_is : app_of c.subcommand_required.result ≡ needs_subcommand (new_app (codes "inet")) = search rules in
-    let check_local : (out-Command c.about-check.result).has_globals ≡ false = search rules in
-    let derive_local : (out-Command c.about-derive.result).has_globals ≡ false = search rules in
-    let one = c.in_ok-subcommand.ensures.shape check_local ∙ ap₂ with_subcommand inet_is (ap (λ (a : App). a.top) check_is) in
-    let two = c.in_ok-subcommand-2.ensures.shape derive_local ∙ ap₂ with_subcommand one (ap (λ (a : App). a.top) derive_is) in
-    IfOk-weaker c.subcommand-3.result _ _
-    (λ r h. h.shape c.in_ok-run_command.ensures.local ∙ ap₂ with_subcommand two (ap (λ (a : App). a.top) c.in_ok-run_command.ensures.app)) c.subcommand-3.ensures
+pub returns-in-Ok : goal.returns-in-Ok
+returns-in-Ok c =
+    IfOk-weaker c.subcommand.result _ _
+    (λ r h. h.shape c.in-Ok.ensures.local ∙ ap₂ with_subcommand c.in_ok-inet.ensures (ap (λ (a : App). a.top) c.in-Ok.ensures.app)) c.subcommand.ensures
