@@ -28,26 +28,25 @@ pub(crate) fn between(text: &[u8], from: usize, to: usize) -> &str {
     }
 }
 
-/// A line: what stands before a place in it, at the place, and after it.
+/// A line: what stands before a place in it, at the place, and after it. A byte at the place that is part of no character stands in none
+/// of them.
 #[derive(Clone, Copy)]
 struct Line<'a> {
     before: &'a str,
     marked: &'a str,
+    broken: bool,
     after: &'a str,
 }
 
 /// Where the line begins in which a byte stands.
-fn line_start(text: &[u8], at: usize) -> usize {
-    let mut start = 0;
-    for (index, byte) in text.iter().enumerate() {
-        if index >= at {
-            break;
-        }
-        if *byte == b'\n' {
-            start = index + 1;
+pub(crate) fn line_start(text: &[u8], at: usize) -> usize {
+    for before in 0..at {
+        let index = at - before;
+        if text.get(index - 1) == Some(&b'\n') {
+            return index;
         }
     }
-    start
+    0
 }
 
 /// Where the line ends in which a byte stands.
@@ -64,17 +63,28 @@ fn line_end(text: &[u8], at: usize) -> usize {
 fn line_of(text: &[u8], place: Place) -> Line<'_> {
     let end = line_end(text, place.from);
     let to = place.to.min(end);
+    let broken = to < end && between(text, to, end).is_empty();
+    let after = if broken { to + 1 } else { to };
     Line {
         before: between(text, line_start(text, place.from), place.from),
         marked: between(text, place.from, to),
-        after: between(text, to, end).trim_end_matches('\r'),
+        broken,
+        after: between(text, after, end).trim_end_matches('\r'),
     }
 }
 
-/// A character as it is shown: control characters other than tabs would change the screen.
+/// What is shown in the place of what can't be shown.
+const REPLACEMENT: char = '\u{FFFD}';
+
+/// Whether a character isn't seen, or turns the direction of what follows it.
+fn is_hidden(c: char) -> bool {
+    matches!(c, '\u{AD}' | '\u{200B}'..='\u{200F}' | '\u{2028}'..='\u{202E}' | '\u{2060}'..='\u{206F}' | '\u{FEFF}')
+}
+
+/// A character as it is shown: control characters other than tabs would change the screen, and hidden ones would not be seen.
 fn shown(c: char) -> char {
-    if c != '\t' && c.is_control() {
-        '\u{FFFD}'
+    if c != '\t' && (c.is_control() || is_hidden(c)) {
+        REPLACEMENT
     } else {
         c
     }
@@ -92,6 +102,9 @@ fn add_line(lines: &mut String, line: &Line, hidden: usize) -> Result<(), AllocE
     }
     for c in line.before.chars().skip(hidden) {
         lines.push(shown(c))?;
+    }
+    if line.broken {
+        lines.push(REPLACEMENT)?;
     }
     let mut left = AFTER;
     for c in line.marked.chars().chain(line.after.chars()) {

@@ -1,6 +1,6 @@
 //! Names: declared twice, not declared, with another number of arguments, or in another number of places.
 use crate::declarations::{arity, first_of, free_ends, is_among, symbol_named, symbols, types};
-use crate::near::add_nearest;
+use crate::near::add_near;
 use crate::occurrences::{arguments, occurrences};
 use crate::reports::Report;
 use in_syntax::{Name, Place, Source, SourceSymbol};
@@ -77,16 +77,16 @@ pub(crate) fn add_declared_twice(
     }
 }
 
-/// The nearest of the declared types, where one is near; says whether there is one.
-fn add_nearest_type(report: &mut Report, source: &Source, name: &str) -> Result<bool, AllocError> {
+/// The declared types that are near; says whether there are any.
+fn add_near_types(report: &mut Report, source: &Source, name: &str) -> Result<bool, AllocError> {
     let declared = types(report.alloc, source)?;
-    add_nearest(report, name, declared.as_slice())
+    add_near(report, name, declared.as_slice())
 }
 
-/// The nearest of the declared symbols, where one is near.
-fn add_nearest_symbol(report: &mut Report, source: &Source, name: &str) -> Result<(), AllocError> {
+/// The declared symbols that are near.
+fn add_near_symbols(report: &mut Report, source: &Source, name: &str) -> Result<(), AllocError> {
     let declared = symbols(report.alloc, source)?;
-    let _ = add_nearest(report, name, declared.as_slice())?;
+    let _ = add_near(report, name, declared.as_slice())?;
     Ok(())
 }
 
@@ -99,7 +99,7 @@ pub(crate) fn add_unknown_type(
     let name = report.at(place);
     let sentence = format!(in report.alloc; "the type `{name}` is not declared");
     report.wrong_text(place, sentence)?;
-    if add_nearest_type(report, source, name)? {
+    if add_near_types(report, source, name)? {
         return Ok(());
     }
     let help = format!(in report.alloc; "declare it: `type {name};`");
@@ -115,7 +115,7 @@ pub(crate) fn add_unknown_symbol(
     let name = report.at(place);
     let sentence = format!(in report.alloc; "no symbol `{name}` is declared");
     report.wrong_text(place, sentence)?;
-    add_nearest_symbol(report, source, name)?;
+    add_near_symbols(report, source, name)?;
     report.help("a name before `(` or `[` is that of a declared symbol")
 }
 
@@ -174,7 +174,7 @@ fn add_once(
         "the variable `{name}` occurs once; a wire has two ends"
     )?;
     report.wrong(place, sentence.as_str())?;
-    add_nearest_symbol(report, source, name)?;
+    add_near_symbols(report, source, name)?;
     report.help("what isn't needed is joined to an agent that erases it, with rules of its own")
 }
 
@@ -221,13 +221,7 @@ pub(crate) fn add_occurrences(
     place: Place,
 ) -> Result<(), AllocError> {
     let name = report.at(place);
-    let places = occurrences(
-        report.alloc,
-        report.text,
-        source,
-        place.from,
-        name.as_bytes(),
-    )?;
+    let places = occurrences(report.alloc, report.text, source, place, name.as_bytes())?;
     let ends = free_ends(report.alloc, &source.net)?;
     let in_rule = crate::occurrences::rule_at(source, place.from).is_some();
     match first_of(ends.as_slice(), name) {

@@ -4,13 +4,12 @@ use in_syntax::Name;
 use std::alloc::{AllocError, Global};
 use strsim::levenshtein;
 
+/// How many characters may differ in a near name at most.
+const FARTHEST: usize = 3;
+
 /// How many characters may differ in a name that is near to one of so many characters.
 fn most(characters: usize) -> usize {
-    if characters < 3 {
-        0
-    } else {
-        (characters / 3).min(3)
-    }
+    (characters / 3).min(FARTHEST)
 }
 
 /// By how many characters a declared name differs from this one, where it is near to it.
@@ -28,38 +27,72 @@ fn distance(alloc: Global, name: &str, declared: &str) -> Result<Option<usize>, 
     })
 }
 
-/// Of the declared names the nearest to this one, where one is near.
-pub(crate) fn nearest<'a>(
+/// A declared name, and by how many characters it differs from another one.
+#[derive(Clone, Copy)]
+struct Near<'a> {
+    name: &'a Name,
+    distance: usize,
+}
+
+/// The declared names that are near to this one.
+fn near_names<'a>(
     alloc: Global,
     name: &str,
     declared: &[&'a Name],
-) -> Result<Option<&'a Name>, AllocError> {
-    let mut best = None;
-    let mut least = usize::MAX;
+) -> Result<Vec<Near<'a>>, AllocError> {
+    let mut found = Vec::new(alloc);
     for other in declared {
-        if let Some(found) = distance(alloc, name, other.text.as_str())? {
-            if found < least {
-                least = found;
-                best = Some(*other);
-            }
+        if let Some(distance) = distance(alloc, name, other.text.as_str())? {
+            found.push(Near {
+                name: other,
+                distance,
+            })?;
         }
     }
-    Ok(best)
+    Ok(found)
 }
 
-/// Adds the nearest of the declared names, where one is near; says whether it did.
-pub(crate) fn add_nearest(
+/// How many near names are told.
+const MOST_TOLD: usize = 4;
+
+/// Adds those names that differ by so many characters, where so many are told already; answers how many are told now.
+fn add_at(
+    report: &mut Report,
+    found: &[Near],
+    distance: usize,
+    told: usize,
+) -> Result<usize, AllocError> {
+    let mut count = told;
+    for near in found {
+        if near.distance == distance && count < MOST_TOLD {
+            add_name(report, near.name, count > 0)?;
+            count += 1;
+        }
+    }
+    Ok(count)
+}
+
+/// Asks whether this name was meant, or this one too.
+fn add_name(report: &mut Report, name: &Name, further: bool) -> Result<(), AllocError> {
+    let text = name.text.as_str();
+    let sentence = if further {
+        format!(in report.alloc; "or `{text}`?")
+    } else {
+        format!(in report.alloc; "did you mean `{text}`?")
+    };
+    report.note_text(name.place, sentence)
+}
+
+/// Adds the declared names that are near to this one, the nearest first; says whether there are any.
+pub(crate) fn add_near(
     report: &mut Report,
     name: &str,
     declared: &[&Name],
 ) -> Result<bool, AllocError> {
-    match nearest(report.alloc, name, declared)? {
-        Some(near) => {
-            let text = near.text.as_str();
-            let sentence = format!(in report.alloc; "did you mean `{text}`?");
-            report.note_text(near.place, sentence)?;
-            Ok(true)
-        }
-        None => Ok(false),
+    let found = near_names(report.alloc, name, declared)?;
+    let mut told = 0;
+    for distance in 0..=FARTHEST {
+        told = add_at(report, found.as_slice(), distance, told)?;
     }
+    Ok(told > 0)
 }

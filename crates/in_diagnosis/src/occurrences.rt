@@ -1,27 +1,22 @@
 //! Where a name stands in a rule or in the net.
+use crate::excerpts::line_start;
 use in_syntax::{Fault, Place, Source, SourceNet, Token, TokenKind, tokens};
 use std::alloc::{AllocError, Global};
 
-/// The tokens of a text that was read before, so only memory may be wanted.
-pub(crate) fn tokens_of(alloc: Global, text: &[u8]) -> Result<Vec<Token>, AllocError> {
-    match tokens(alloc, text) {
-        Ok(tokens) => Ok(tokens),
-        Err(Fault::Refused(_)) => Ok(Vec::new(alloc)),
-        Err(Fault::Memory(error)) => Err(error),
-    }
-}
-
-/// Where the equations of the net begin.
-fn body_start(net: &SourceNet) -> Option<usize> {
+/// Where the first equation of the net begins.
+fn body_start(net: &SourceNet) -> Option<Place> {
     let first = net.equations.as_slice().first()?;
-    Some(first.left.name.place.from)
+    Some(first.left.name.place)
 }
 
 /// Where the net's names begin.
 pub(crate) fn net_start(net: &SourceNet) -> usize {
     match net.free.as_slice().first() {
         Some(end) => end.name.place.from,
-        None => body_start(net).unwrap_or(usize::MAX),
+        None => match body_start(net) {
+            Some(place) => place.from,
+            None => usize::MAX,
+        },
     }
 }
 
@@ -39,69 +34,242 @@ pub(crate) fn rule_at(source: &Source, at: usize) -> Option<usize> {
     found
 }
 
-/// Where the rule or the body of the net begins in which a byte stands.
-fn part_start(source: &Source, at: usize) -> usize {
-    match rule_at(source, at) {
+/// Where the rule or the body of the net begins in which a place stands.
+fn part_start(source: &Source, at: Place) -> Place {
+    let found = match rule_at(source, at.from) {
         Some(number) => match source.rules.as_slice().get(number) {
-            Some(rule) => rule.first.name.place.from,
-            None => at,
+            Some(rule) => Some(rule.first.name.place),
+            None => None,
         },
-        None => body_start(&source.net).unwrap_or(at),
+        None => body_start(&source.net),
+    };
+    found.unwrap_or(at)
+}
+
+/// A line of a text: its number, and where it begins. No token goes on over its end, so that a line can be read by itself.
+#[derive(Clone, Copy)]
+struct Line {
+    number: u32,
+    from: usize,
+}
+
+impl Line {
+    /// That in which a place begins.
+    fn of(text: &[u8], place: Place) -> Line {
+        Line {
+            number: place.line,
+            from: line_start(text, place.from),
+        }
+    }
+
+    /// The next one, which begins at a byte.
+    fn next(self, from: usize) -> Line {
+        Line {
+            number: self.number.saturating_add(1),
+            from,
+        }
+    }
+
+    /// The place in the text of what has this place in the line.
+    fn place(self, place: Place) -> Place {
+        Place {
+            from: place.from.saturating_add(self.from),
+            to: place.to.saturating_add(self.from),
+            line: self.number,
+            col: place.col,
+        }
     }
 }
 
-/// Where a name stands in the rule or in the body of the net in which a byte stands.
+/// Whether a line ends before this byte.
+fn is_end(text: &[u8], index: usize) -> bool {
+    match text.get(index) {
+        Some(byte) => *byte == b'\n',
+        None => true,
+    }
+}
+
+/// The tokens of a line of a text that was read before, so only memory may be wanted.
+fn tokens_of(alloc: Global, line: &[u8]) -> Result<Vec<Token>, AllocError> {
+    match tokens(alloc, line) {
+        Ok(tokens) => Ok(tokens),
+        Err(Fault::Refused(_)) => Ok(Vec::new(alloc)),
+        Err(Fault::Memory(error)) => Err(error),
+    }
+}
+
+/// What looks at the tokens of a part of a text, one after another.
+trait Reading {
+    /// Whether a line with these bytes has to be read at all.
+    fn needs(&self, line: &[u8]) -> bool;
+
+    /// Looks at a token that has this place in the text; says whether it is the last one.
+    fn read(&mut self, kind: TokenKind, place: Place) -> Result<bool, AllocError>;
+}
+
+/// Where a name stands.
+#[derive(Drop)]
+struct Places<'a> {
+    text: &'a [u8],
+    name: &'a [u8],
+    start: usize,
+    in_rule: bool,
+    found: Vec<Place>,
+}
+
+/// Whether these bytes stand in a line before its comment.
+fn holds(line: &[u8], name: &[u8]) -> bool {
+    let Some(first) = name.first() else {
+        return false;
+    };
+    for (index, byte) in line.iter().enumerate() {
+        if *byte == b'#' {
+            return false;
+        }
+        if byte == first && line.get(index..index.saturating_add(name.len())) == Some(name) {
+            return true;
+        }
+    }
+    false
+}
+
+impl Reading for Places<'_> {
+    fn needs(&self, line: &[u8]) -> bool {
+        self.in_rule || holds(line, self.name)
+    }
+
+    fn read(&mut self, kind: TokenKind, place: Place) -> Result<bool, AllocError> {
+        if place.from < self.start {
+            return Ok(false);
+        }
+        if kind == TokenKind::Name && self.text.get(place.from..place.to) == Some(self.name) {
+            self.found.push(place)?;
+        }
+        Ok(self.in_rule && kind == TokenKind::Semicolon)
+    }
+}
+
+/// How many arguments or terms follow a name, in round or square brackets.
+#[derive(Clone, Copy)]
+struct ArgumentCount {
+    name: usize,
+    depth: usize,
+    commas: usize,
+    last: Option<TokenKind>,
+}
+
+impl Reading for ArgumentCount {
+    fn needs(&self, _line: &[u8]) -> bool {
+        true
+    }
+
+    fn read(&mut self, kind: TokenKind, place: Place) -> Result<bool, AllocError> {
+        if place.from <= self.name {
+            return Ok(false);
+        }
+        if opens(kind) {
+            self.depth = self.depth.saturating_add(1);
+        } else if closes(kind) {
+            self.depth = self.depth.saturating_sub(1);
+        } else if self.depth == 1 && kind == TokenKind::Comma {
+            self.commas = self.commas.saturating_add(1);
+        }
+        if self.depth > 0 {
+            self.last = Some(kind);
+        }
+        Ok(self.depth == 0)
+    }
+}
+
+impl ArgumentCount {
+    /// How many there are, once all are read.
+    fn count(self) -> usize {
+        match self.last {
+            Some(last) if self.commas > 0 || !opens(last) => self.commas.saturating_add(1),
+            _ => 0,
+        }
+    }
+}
+
+/// Reads these tokens of a line; says whether the last one is among them.
+fn read_tokens<R: Reading>(
+    line: Line,
+    tokens: &[Token],
+    reading: &mut R,
+) -> Result<bool, AllocError> {
+    for token in tokens {
+        if reading.read(token.kind, line.place(token.place))? {
+            return Ok(true);
+        }
+    }
+    Ok(false)
+}
+
+/// Reads a line; says whether the last token is on it.
+fn read_line<R: Reading>(
+    alloc: Global,
+    line: Line,
+    bytes: &[u8],
+    reading: &mut R,
+) -> Result<bool, AllocError> {
+    if !reading.needs(bytes) {
+        return Ok(false);
+    }
+    let tokens = tokens_of(alloc, bytes)?;
+    read_tokens(line, tokens.as_slice(), reading)
+}
+
+/// Reads a text from the line of a place on, until the last token.
+fn read_from<R: Reading>(
+    alloc: Global,
+    text: &[u8],
+    place: Place,
+    reading: &mut R,
+) -> Result<(), AllocError> {
+    let mut line = Line::of(text, place);
+    for index in line.from..=text.len() {
+        if is_end(text, index) {
+            let bytes = text.get(line.from..index).unwrap_or(&[]);
+            if read_line(alloc, line, bytes, reading)? {
+                return Ok(());
+            }
+            line = line.next(index.saturating_add(1));
+        }
+    }
+    Ok(())
+}
+
+/// Where a name stands in the rule or in the body of the net in which a place stands.
 pub(crate) fn occurrences(
     alloc: Global,
     text: &[u8],
     source: &Source,
-    at: usize,
+    at: Place,
     name: &[u8],
 ) -> Result<Vec<Place>, AllocError> {
-    let mut places = Vec::new(alloc);
     let start = part_start(source, at);
-    let in_rule = rule_at(source, at).is_some();
-    let tokens = tokens_of(alloc, text)?;
-    for token in tokens.as_slice() {
-        let Token { kind, place } = *token;
-        if place.from >= start {
-            if in_rule && kind == TokenKind::Semicolon {
-                break;
-            }
-            if kind == TokenKind::Name && text.get(place.from..place.to) == Some(name) {
-                places.push(place)?;
-            }
-        }
-    }
-    Ok(places)
+    let mut places = Places {
+        text,
+        name,
+        start: start.from,
+        in_rule: rule_at(source, at.from).is_some(),
+        found: Vec::new(alloc),
+    };
+    read_from(alloc, text, start, &mut places)?;
+    let Places { found, .. } = places;
+    Ok(found)
 }
 
 /// How many arguments or terms follow the name at a place, in round or square brackets.
 pub(crate) fn arguments(alloc: Global, text: &[u8], at: Place) -> Result<usize, AllocError> {
-    let tokens = tokens_of(alloc, text)?;
-    let mut depth: usize = 0;
-    let mut count: usize = 0;
-    let mut last = TokenKind::Name;
-    for token in tokens.as_slice() {
-        let Token { kind, place } = *token;
-        if place.from > at.from {
-            if opens(kind) {
-                depth = depth.saturating_add(1);
-            } else if depth == 0 {
-                return Ok(0);
-            } else if closes(kind) {
-                depth -= 1;
-                if depth == 0 {
-                    let bare = count == 0 && opens(last);
-                    return Ok(if bare { 0 } else { count.saturating_add(1) });
-                }
-            } else if depth == 1 && kind == TokenKind::Comma {
-                count = count.saturating_add(1);
-            }
-            last = kind;
-        }
-    }
-    Ok(count)
+    let mut arguments = ArgumentCount {
+        name: at.from,
+        depth: 0,
+        commas: 0,
+        last: None,
+    };
+    read_from(alloc, text, at, &mut arguments)?;
+    Ok(arguments.count())
 }
 
 fn opens(kind: TokenKind) -> bool {

@@ -6,8 +6,8 @@ use in_simple::{Node, OpenNet};
 use in_syntax::{Place, Source, SourceSymbol};
 use std::alloc::{AllocError, Global};
 
-/// How many nodes are listed by name.
-const MOST_LISTED: usize = 24;
+/// How many nodes stand on a line.
+const ON_A_LINE: usize = 6;
 
 /// How many lines of the text are shown for a circle.
 const MOST_SHOWN: usize = 6;
@@ -57,6 +57,17 @@ fn node_words(
     }
 }
 
+/// What stands before the node of this number in a list.
+fn before_node(index: usize) -> &'static str {
+    if index == 0 {
+        ""
+    } else if index % ON_A_LINE == 0 {
+        ",\n      "
+    } else {
+        ", "
+    }
+}
+
 /// The nodes of the part, in words.
 fn add_part(
     report: &mut Report,
@@ -67,13 +78,7 @@ fn add_part(
     report.begin_note()?;
     report.say("no node of this part can be built last: ")?;
     for (index, node) in nodes.iter().enumerate() {
-        if index == MOST_LISTED {
-            let more = nodes.len().saturating_sub(index);
-            let words = format!(in report.alloc; ", and {more} more");
-            report.say_text(words)?;
-            break;
-        }
-        report.say(if index > 0 { ", " } else { "" })?;
+        report.say(before_node(index))?;
         let words = node_words(report.alloc, source, open, *node);
         report.say_text(words)?;
     }
@@ -96,10 +101,11 @@ fn port_of_node(
 /// The nodes on the way of a circle, in words.
 fn say_way(report: &mut Report, field: Field, way: &[u32]) -> Result<(), AllocError> {
     for (index, next) in way.iter().enumerate() {
-        if index == MOST_LISTED {
-            return report.say(", and on,");
-        }
-        report.say(" through ")?;
+        report.say(if index > 0 && index % ON_A_LINE == 0 {
+            "\n      through "
+        } else {
+            " through "
+        })?;
         let words = node_words(report.alloc, field.source, field.open, *next);
         report.say_text(words)?;
     }

@@ -16,6 +16,7 @@ use in_words::Action;
 use std::alloc::{AllocError, Global};
 use std::fs;
 use std::rt::Files;
+use std::str;
 
 /// Room for the lines on a program, in bytes.
 const ROOM: usize = 65_536;
@@ -51,7 +52,10 @@ fn builds(alloc: Global, program: &Checked) -> Result<bool, AllocError> {
 }
 
 /// Whether a program that is accepted is built by its steps.
-fn is_built(alloc: Global, text: &str) -> Result<bool, AllocError> {
+fn is_built(alloc: Global, text: &[u8]) -> Result<bool, AllocError> {
+    let Ok(text) = str::from_utf8(text) else {
+        return Ok(true);
+    };
     match seen(alloc, &[text], &StepsBuild) {
         Some(answer) => answer,
         None => Ok(true),
@@ -59,39 +63,39 @@ fn is_built(alloc: Global, text: &str) -> Result<bool, AllocError> {
 }
 
 /// Whether this is what a command writes on a program.
-fn writes(alloc: Global, action: Action, text: &str, wanted: &[u8]) -> Result<bool, AllocError> {
-    let lines = lines_on(alloc, action, text.as_bytes())?;
+fn writes(alloc: Global, action: Action, text: &[u8], wanted: &[u8]) -> Result<bool, AllocError> {
+    let lines = lines_on(alloc, action, text)?;
     Ok(lines.text() == wanted)
 }
 
 /// Whether what a command writes on a program is the text of a file beside it.
-fn is_written(rt: &HostRuntime, action: Action, text: &str, file: &str) -> Result<bool> {
+fn is_written(rt: &HostRuntime, action: Action, text: &[u8], file: &str) -> Result<bool> {
     let wanted = fs::read(rt, file)?;
     Ok(writes(rt.alloc(), action, text, wanted.as_slice())?)
 }
 
 /// Whether what a command writes on a program is the text of a file beside it, where there is one.
-fn is_written_if_there(rt: &HostRuntime, action: Action, text: &str, file: &str) -> Result<bool> {
+fn is_written_if_there(rt: &HostRuntime, action: Action, text: &[u8], file: &str) -> Result<bool> {
     Ok(!fs::exists(rt, file)? || is_written(rt, action, text, file)?)
 }
 
 /// Whether the diagnosis of a program is what stands beside it, and nothing stands there where it is accepted.
-fn is_told(rt: &HostRuntime, name: &str, text: &str) -> Result<bool> {
+fn is_told(rt: &HostRuntime, name: &str, text: &[u8]) -> Result<bool> {
     let file = format!(in rt.alloc(); "{name}.diagnosis")?;
-    match diagnosis(rt.alloc(), text.as_bytes())? {
+    match diagnosis(rt.alloc(), text)? {
         Some(words) => Ok(fs::read(rt, file.as_str())?.as_slice() == words.as_bytes()),
         None => Ok(!fs::exists(rt, file.as_str())?),
     }
 }
 
 /// Whether `check` answers what stands beside a program.
-fn is_checked(rt: &HostRuntime, name: &str, text: &str) -> Result<bool> {
+fn is_checked(rt: &HostRuntime, name: &str, text: &[u8]) -> Result<bool> {
     let file = format!(in rt.alloc(); "{name}.check")?;
     is_written(rt, Action::Check, text, file.as_str())
 }
 
 /// Whether `derive` answers what stands beside a program, where something does.
-fn is_derived(rt: &HostRuntime, name: &str, text: &str) -> Result<bool> {
+fn is_derived(rt: &HostRuntime, name: &str, text: &[u8]) -> Result<bool> {
     let file = format!(in rt.alloc(); "{name}.derive")?;
     is_written_if_there(rt, Action::Derive, text, file.as_str())
 }
@@ -102,7 +106,7 @@ fn running() -> Option<Action> {
 }
 
 /// Whether `run` answers what stands beside a program, where something does.
-fn is_run(rt: &HostRuntime, name: &str, text: &str) -> Result<bool> {
+fn is_run(rt: &HostRuntime, name: &str, text: &[u8]) -> Result<bool> {
     let Some(running) = running() else {
         return Ok(false);
     };
@@ -111,7 +115,7 @@ fn is_run(rt: &HostRuntime, name: &str, text: &str) -> Result<bool> {
 }
 
 /// Whether a program's answers are as they stand beside it, and its steps build it.
-fn is_answered(rt: &HostRuntime, name: &str, text: &str) -> Result<bool> {
+fn is_answered(rt: &HostRuntime, name: &str, text: &[u8]) -> Result<bool> {
     Ok(
         is_checked(rt, name, text)?
             && is_derived(rt, name, text)?
@@ -121,16 +125,16 @@ fn is_answered(rt: &HostRuntime, name: &str, text: &str) -> Result<bool> {
     )
 }
 
-/// The text of a program.
-fn text_of(rt: &HostRuntime, name: &str) -> Result<String> {
+/// The text of a program, which may be no UTF-8.
+fn text_of(rt: &HostRuntime, name: &str) -> Result<Vec<u8>> {
     let file = format!(in rt.alloc(); "{name}.inet")?;
-    Ok(fs::read_to_string(rt, file.as_str())?)
+    Ok(fs::read(rt, file.as_str())?)
 }
 
 /// The same of the program's name.
 fn is_as_written(rt: &HostRuntime, name: &str) -> Result<bool> {
     let text = text_of(rt, name)?;
-    is_answered(rt, name, text.as_str())
+    is_answered(rt, name, text.as_slice())
 }
 
 /// One more name, where it is a program's.
