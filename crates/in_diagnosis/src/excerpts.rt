@@ -95,38 +95,52 @@ fn blank(c: char) -> char {
     if c == '\t' { '\t' } else { ' ' }
 }
 
-/// Adds the line, of which so many characters are not shown.
-fn add_line(lines: &mut String, line: &Line, hidden: usize) -> Result<(), AllocError> {
-    if hidden > 0 {
-        lines.push_str("...")?;
-    }
-    for c in line.before.chars().skip(hidden) {
+/// Adds what stands before the place, but for so many characters.
+fn add_before(lines: &mut String, before: &str, hidden: usize) -> Result<(), AllocError> {
+    for c in before.chars().skip(hidden) {
         lines.push(shown(c))?;
     }
-    if line.broken {
-        lines.push(REPLACEMENT)?;
-    }
-    let mut left = AFTER;
-    for c in line.marked.chars().chain(line.after.chars()) {
+    Ok(())
+}
+
+/// Adds so many of these characters at most; answers how many more may come, or nothing where some are left out.
+fn add_some(lines: &mut String, text: &str, most: usize) -> Result<Option<usize>, AllocError> {
+    let mut left = most;
+    for c in text.chars() {
         if left == 0 {
-            return lines.push_str("...");
+            lines.push_str("...")?;
+            return Ok(None);
         }
         left -= 1;
         lines.push(shown(c))?;
+    }
+    Ok(Some(left))
+}
+
+/// Adds the line, of which so many characters are not shown.
+fn add_line(lines: &mut String, line: &Line, hidden: usize) -> Result<(), AllocError> {
+    lines.push_str(if hidden > 0 { "..." } else { "" })?;
+    add_before(lines, line.before, hidden)?;
+    lines.push_str(if line.broken { "\u{FFFD}" } else { "" })?;
+    match add_some(lines, line.marked, AFTER)? {
+        Some(left) => add_some(lines, line.after, left).map(|_| ()),
+        None => Ok(()),
+    }
+}
+
+/// Adds blanks as wide as what stands before the place, but for so many characters.
+fn add_blanks(lines: &mut String, before: &str, hidden: usize) -> Result<(), AllocError> {
+    for c in before.chars().skip(hidden) {
+        lines.push(blank(c))?;
     }
     Ok(())
 }
 
 /// Adds the mark under the line.
 fn add_mark(lines: &mut String, line: &Line, hidden: usize) -> Result<(), AllocError> {
-    if hidden > 0 {
-        lines.push_str("   ")?;
-    }
-    for c in line.before.chars().skip(hidden) {
-        lines.push(blank(c))?;
-    }
-    lines.push('^')?;
-    for _c in line.marked.chars().skip(1).take(AFTER - 1) {
+    lines.push_str(if hidden > 0 { "   " } else { "" })?;
+    add_blanks(lines, line.before, hidden)?;
+    for _mark in 0..line.marked.chars().count().clamp(1, AFTER) {
         lines.push('^')?;
     }
     Ok(())

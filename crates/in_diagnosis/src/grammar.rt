@@ -99,11 +99,11 @@ pub(crate) fn add_unexpected(report: &mut Report, place: Place) -> Result<(), Al
     let found = report.at(place);
     let wanted = words(expected);
     let sentence = if found.is_empty() {
-        format!(in report.alloc; "the text ends here, where {wanted} is expected")?
+        format!(in report.alloc; "the text ends here, where {wanted} is expected")
     } else {
-        format!(in report.alloc; "unexpected `{found}`, where {wanted} is expected")?
+        format!(in report.alloc; "unexpected `{found}`, where {wanted} is expected")
     };
-    report.wrong(place, sentence.as_str())?;
+    report.wrong_text(place, sentence)?;
     report.help(help_with(expected, found))
 }
 
@@ -112,16 +112,16 @@ pub(crate) fn add_long_text(report: &mut Report, place: Place) -> Result<(), All
     let bytes = report.text.len();
     let sentence = format!(in report.alloc;
         "the text has {bytes} bytes, more than {MAX_TEXT_BYTES}"
-    )?;
-    report.wrong(place, sentence.as_str())
+    );
+    report.wrong_text(place, sentence)
 }
 
 /// A word of too many characters.
 pub(crate) fn add_long_word(report: &mut Report, place: Place) -> Result<(), AllocError> {
     let sentence = format!(in report.alloc;
         "this word has more than {MAX_NAME_CHARACTERS} characters"
-    )?;
-    report.wrong(place, sentence.as_str())
+    );
+    report.wrong_text(place, sentence)
 }
 
 /// What there is too much of, and the most of it, where the grammar expects this.

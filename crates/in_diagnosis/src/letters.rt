@@ -169,10 +169,10 @@ pub(crate) fn add_no_token(report: &mut Report, place: Place) -> Result<(), Allo
     let name = name_of(first);
     let number = u32::from(first);
     let sentence = if first.is_control() || first.is_whitespace() || blank_name(first).is_some() {
-        format!(in report.alloc; "no token begins with a {name}, U+{number:04X}")?
+        format!(in report.alloc; "no token begins with a {name}, U+{number:04X}")
     } else {
-        format!(in report.alloc; "no token begins with `{first}`, the {name} U+{number:04X}")?
+        format!(in report.alloc; "no token begins with `{first}`, the {name} U+{number:04X}")
     };
-    report.wrong(place, sentence.as_str())?;
+    report.wrong_text(place, sentence)?;
     report.help(help_with(first, second))
 }

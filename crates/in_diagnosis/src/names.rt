@@ -140,8 +140,8 @@ pub(crate) fn add_other_arity(
         "`{name}` has {count} {} here, and {ports} {}",
         plural(count, "argument", "arguments"),
         plural(ports, "auxiliary port", "auxiliary ports")
-    )?;
-    report.wrong(place, sentence.as_str())?;
+    );
+    report.wrong_text(place, sentence)?;
     report.note(
         symbol.name.place,
         "its auxiliary ports stand in braces here",
@@ -172,8 +172,8 @@ fn add_once(
 ) -> Result<(), AllocError> {
     let sentence = format!(in report.alloc;
         "the variable `{name}` occurs once; a wire has two ends"
-    )?;
-    report.wrong(place, sentence.as_str())?;
+    );
+    report.wrong_text(place, sentence)?;
     add_near_symbols(report, source, name)?;
     report.help("what isn't needed is joined to an agent that erases it, with rules of its own")
 }
@@ -187,8 +187,8 @@ fn add_third(
 ) -> Result<(), AllocError> {
     let sentence = format!(in report.alloc;
         "the variable `{name}` occurs a third time; a wire has two ends"
-    )?;
-    report.wrong(place, sentence.as_str())?;
+    );
+    report.wrong_text(place, sentence)?;
     add_others(report, places, place)?;
     report.help("what is needed twice is joined to an agent that copies it, with rules of its own")
 }
