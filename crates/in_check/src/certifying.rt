@@ -8,32 +8,53 @@ ghost use Rattle.in_check.specs.Certificates.{Certifies, CertifiesNet, Certifies
 
 use crate::checked::Certificate;
 use in_net::{Net, Rule};
-use in_simple::{OpenNet, Undone, derive, open_net, open_rule};
+use in_simple::{OpenNet, Stuck, Undone, derive, open_net, open_rule};
 use in_symbols::Symbols;
 use in_syntax::{Code, Fault, Refusal};
 use sqlite_items::Items;
 use std::alloc::Global;
 
-/// An open net with the steps that build it; or its refusal, with this code.
-fn certify(alloc: Global, shape: OpenNet, code: Code) -> Result<Certificate, Fault>
+/// An open net, and its first part in which no node splits: for who tells why a program is refused.
+#[derive(Drop)]
+pub struct StuckPart {
+    pub open: OpenNet,
+    pub stuck: Stuck,
+}
+
+/// An open net with the steps that build it; or its refusal, with this code, and then `part` has what is stuck.
+fn certify(
+    alloc: Global,
+    shape: OpenNet,
+    code: Code,
+    part: &mut Option<StuckPart>,
+) -> Result<Certificate, Fault>
     ensures { Certifies shape code result }
 {
     match derive(alloc, &shape) {
         Ok(derivation) => Ok(Certificate { shape, derivation }),
-        Err(Undone::Stuck(stuck)) => Err(Fault::Refused(Refusal::at(code, stuck.place(&shape)))),
+        Err(Undone::Stuck(stuck)) => {
+            let place = stuck.place(&shape);
+            *part = Some(StuckPart { open: shape, stuck });
+            Err(Fault::Refused(Refusal::at(code, place)))
+        }
         Err(Undone::Memory(error)) => Err(Fault::Memory(error)),
     }
 }
 
 /// A rule's open net with the steps that build it; or its refusal.
-fn certify_rule(alloc: Global, symbols: &Symbols, rule: &Rule) -> Result<Certificate, Fault>
+fn certify_rule(
+    alloc: Global,
+    symbols: &Symbols,
+    rule: &Rule,
+    part: &mut Option<StuckPart>,
+) -> Result<Certificate, Fault>
     requires over { IsRuleOver symbols.now rule.now }
     requires whole { IsRuleWhole symbols.now rule.now }
     requires numbered { AreNumbered symbols.now }
     ensures { CertifiesRule symbols.now rule.now result }
 {
     let shape = open_rule(alloc, symbols, rule)?;
-    certify(alloc, shape, Code::E12)
+    certify(alloc, shape, Code::E12, part)
 }
 
 /// The open nets of the rules with their steps; refused for the first rule that is stuck.
@@ -41,6 +62,7 @@ pub(crate) fn certify_rules(
     alloc: Global,
     symbols: &Symbols,
     rules: &[Rule],
+    part: &mut Option<StuckPart>,
 ) -> Result<Items<Certificate>, Fault>
     requires over { AllByRecursion (IsRuleOver symbols.now) rules.now }
     requires whole { AllByRecursion (IsRuleWhole symbols.now) rules.now }
@@ -49,14 +71,19 @@ pub(crate) fn certify_rules(
 {
     let mut certificates = Items::new(alloc);
     for rule in rules {
-        let certificate = certify_rule(alloc, symbols, rule)?;
+        let certificate = certify_rule(alloc, symbols, rule, part)?;
         certificates.push(certificate)?;
     }
     Ok(certificates)
 }
 
 /// The net's open net with the steps that build it; or its refusal.
-pub(crate) fn certify_net(alloc: Global, symbols: &Symbols, net: &Net) -> Result<Certificate, Fault>
+pub(crate) fn certify_net(
+    alloc: Global,
+    symbols: &Symbols,
+    net: &Net,
+    part: &mut Option<StuckPart>,
+) -> Result<Certificate, Fault>
     requires over { IsOver symbols.now net.now }
     requires built { IsTrue net.now.built }
     requires there { AreAllThere net.now }
@@ -64,5 +91,5 @@ pub(crate) fn certify_net(alloc: Global, symbols: &Symbols, net: &Net) -> Result
     ensures { CertifiesNet symbols.now net.now result }
 {
     let shape = open_net(alloc, symbols, net)?;
-    certify(alloc, shape, Code::E13)
+    certify(alloc, shape, Code::E13, part)
 }

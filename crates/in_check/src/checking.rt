@@ -13,7 +13,7 @@ ghost use Rattle.in_check.specs.Promises.{ReachesAsPromised};
 ghost use Rattle.in_check.specs.Systems.{system_of};
 ghost use Rattle.in_check.specs.Checking.{AreOfText, BuildsRules, ChecksNames, ChecksNet, ChecksNetSteps, ChecksPairs, ChecksRules, ChecksRuleSteps, ChecksTypes, IsChecked, TypePasses, TypesAll, TypesRules};
 
-use crate::certifying::{certify_net, certify_rules};
+use crate::certifying::{StuckPart, certify_net, certify_rules};
 use crate::checked::{Certificate, Checked, Passed};
 use in_cover::{RuleTable, cover};
 use in_net::{Net, Rule, build_net, build_rule};
@@ -87,11 +87,12 @@ fn check_net_steps(
     declared: Declared,
     numbers: RuleTable,
     rule_certificates: Items<Certificate>,
+    part: &mut Option<StuckPart>,
 ) -> Result<Passed, Fault>
     requires { AreOfText declared.symbols declared.rules declared.net }
     ensures { ChecksNetSteps declared.symbols declared.rules declared.net numbers rule_certificates result }
 {
-    let net_certificate = certify_net(alloc, &declared.symbols, &declared.net)?;
+    let net_certificate = certify_net(alloc, &declared.symbols, &declared.net, part)?;
     let Declared {
         symbols,
         rules,
@@ -108,32 +109,45 @@ fn check_net_steps(
 }
 
 /// The steps of the rules, and then those of the net.
-fn check_rule_steps(alloc: Global, declared: Declared, numbers: RuleTable) -> Result<Passed, Fault>
+fn check_rule_steps(
+    alloc: Global,
+    declared: Declared,
+    numbers: RuleTable,
+    part: &mut Option<StuckPart>,
+) -> Result<Passed, Fault>
     requires { AreOfText declared.symbols declared.rules declared.net }
     ensures { ChecksRuleSteps declared.symbols declared.rules declared.net numbers result }
 {
-    let certificates = certify_rules(alloc, &declared.symbols, declared.rules.as_slice())?;
-    check_net_steps(alloc, declared, numbers, certificates)
+    let certificates = certify_rules(alloc, &declared.symbols, declared.rules.as_slice(), part)?;
+    check_net_steps(alloc, declared, numbers, certificates, part)
 }
 
 /// One rule for each pair, and then the steps.
-fn check_pairs(alloc: Global, declared: Declared) -> Result<Passed, Fault>
+fn check_pairs(
+    alloc: Global,
+    declared: Declared,
+    part: &mut Option<StuckPart>,
+) -> Result<Passed, Fault>
     requires text { AreOfText declared.symbols declared.rules declared.net }
     requires pairs { AllByRecursion (IsOfPair declared.symbols) declared.rules }
     ensures { ChecksPairs declared.symbols declared.rules declared.net result }
 {
     let numbers = cover(alloc, &declared.symbols, declared.rules.as_slice())?;
-    check_rule_steps(alloc, declared, numbers)
+    check_rule_steps(alloc, declared, numbers, part)
 }
 
 /// The types, and then one rule for each pair and the steps.
-fn check_types(alloc: Global, declared: Declared) -> Result<Passed, Fault>
+fn check_types(
+    alloc: Global,
+    declared: Declared,
+    part: &mut Option<StuckPart>,
+) -> Result<Passed, Fault>
     requires { AreOfText declared.symbols declared.rules declared.net }
     ensures { ChecksTypes declared.symbols declared.rules declared.net result }
 {
     let rules = declared.rules.as_slice();
     type_pass(&declared.symbols, rules, &declared.net)?;
-    check_pairs(alloc, declared)
+    check_pairs(alloc, declared, part)
 }
 
 /// The net, and then the passes over all that is declared.
@@ -142,6 +156,7 @@ fn check_net(
     source: &Source,
     symbols: Symbols,
     rules: Items<Rule>,
+    part: &mut Option<StuckPart>,
 ) -> Result<Passed, Fault>
     requires tree { IsOfText source.now }
     requires tables { Tabulates source.now (Ok symbols) }
@@ -156,34 +171,44 @@ fn check_net(
             rules,
             net,
         },
+        part,
     )
 }
 
 /// The rules, and then the net and the rest.
-fn check_rules(alloc: Global, source: &Source, symbols: Symbols) -> Result<Passed, Fault>
+fn check_rules(
+    alloc: Global,
+    source: &Source,
+    symbols: Symbols,
+    part: &mut Option<StuckPart>,
+) -> Result<Passed, Fault>
     requires tree { IsOfText source.now }
     requires tables { Tabulates source.now (Ok symbols) }
     ensures { ChecksRules source.now symbols result }
 {
     let rules = build_rules(alloc, source, &symbols)?;
-    check_net(alloc, source, symbols, rules)
+    check_net(alloc, source, symbols, rules, part)
 }
 
 /// The names, and then the rules, the net and the rest.
-fn check_names(alloc: Global, source: &Source) -> Result<Passed, Fault>
+fn check_names(
+    alloc: Global,
+    source: &Source,
+    part: &mut Option<StuckPart>,
+) -> Result<Passed, Fault>
     requires { IsOfText source.now }
     ensures { ChecksNames source.now result }
 {
     let symbols = Symbols::build(alloc, source)?;
-    check_rules(alloc, source, symbols)
+    check_rules(alloc, source, symbols, part)
 }
 
 /// The tree, and then the names and the rest.
-fn check_tree(alloc: Global, text: &[u8]) -> Result<Passed, Fault>
+fn check_tree(alloc: Global, text: &[u8], part: &mut Option<StuckPart>) -> Result<Passed, Fault>
     ensures { IsChecked text.now result }
 {
     let source = parse(alloc, text)?;
-    check_names(alloc, &source)
+    check_names(alloc, &source, part)
 }
 
 /// Checks a program's text: its tokens and its tree, then its names, then rule by rule and the net at last its agents, variables
@@ -201,17 +226,23 @@ pub fn check(alloc: Global, text: &[u8]) -> Result<Checked, Fault>
     ensures checked { IsChecked text.now result }
     ensures promised { IfOk result (λ p. ReachesAsPromised (system_of p)) }
 {
-    let passed = check_tree(alloc, text)?;
+    let mut part = None;
+    let passed = check_tree(alloc, text, &mut part)?;
     Ok(Checked { passed })
 }
 
-/// Why a program is refused, of which the tree is given: as `check` refuses a text of that tree; nothing where it is accepted. Its only error
-/// is want of memory.
-pub fn refusal_of(alloc: Global, source: &Source) -> Result<Option<Refusal>, AllocError>
+/// Why a program is refused, of which the tree is given: as `check` refuses a text of that tree; nothing where it is accepted. Where it is
+/// refused because no steps build a rule or the net, `part` has the open net and its first part in which no node splits. The only error is
+/// want of memory.
+pub fn refusal_of(
+    alloc: Global,
+    source: &Source,
+    part: &mut Option<StuckPart>,
+) -> Result<Option<Refusal>, AllocError>
     requires { IsOfText source.now }
     ensures { IfOk result (λ found. MatchOption found ((p : Program) × ChecksNames source.now (Ok p)) (λ r. ChecksNames source.now (Err (Refused r)))) }
 {
-    match check_names(alloc, source).err() {
+    match check_names(alloc, source, part).err() {
         None => Ok(None),
         Some(Fault::Refused(refusal)) => Ok(Some(refusal)),
         Some(Fault::Memory(error)) => Err(error),

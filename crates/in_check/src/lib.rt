@@ -8,6 +8,7 @@ mod checking;
 pub mod laws;
 mod plain;
 
+pub use certifying::StuckPart;
 pub use checked::{Certificate, Checked, Counts, Item};
 pub use checking::{check, refusal_of};
 pub use plain::Plain;

@@ -4,11 +4,10 @@ ghost use Rattle.in_syntax.specs.Parsing.{IsOfText};
 ghost use Rattle.in_diagnosis.specs.Programs.{IsProgram};
 
 use in_net::{Net, build_net, build_rule};
-use in_simple::{OpenNet, Undone, derive, open_net, open_rule};
+use in_simple::{OpenNet, open_net, open_rule};
 use in_symbols::Symbols;
 use in_syntax::{Fault, Place, Source};
-use sqlite_items::Items;
-use std::alloc::{AllocError, Global};
+use std::alloc::Global;
 
 /// An open net, and the number of the wire at the place that was asked for.
 #[derive(Drop)]
@@ -67,13 +66,4 @@ pub(crate) fn rule_shape(
     let wire = wire_at(rule.member(), place);
     let open = open_rule(alloc, symbols, &rule)?;
     Ok(Shape { open, wire })
-}
-
-/// The nodes of the first part of an open net in which none splits.
-pub(crate) fn stuck_nodes(alloc: Global, open: &OpenNet) -> Result<Items<u32>, AllocError> {
-    match derive(alloc, open) {
-        Ok(_) => Ok(Items::new(alloc)),
-        Err(Undone::Stuck(stuck)) => Ok(stuck.nodes),
-        Err(Undone::Memory(error)) => Err(error),
-    }
 }

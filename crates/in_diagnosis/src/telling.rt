@@ -1,5 +1,5 @@
 //! The diagnosis of a program's text.
-ghost use Rattle.std.specs.Prelude.{IfOk, is_some};
+ghost use Rattle.std.specs.Prelude.{◌≡◌, IfOk, is_some};
 ghost use Rattle.in_syntax.specs.Parsing.{IsOfText};
 ghost use Rattle.in_diagnosis.specs.Programs.{IsProgram, IsTold, IsToldOfTree};
 
@@ -10,11 +10,11 @@ use crate::names::{
 };
 use crate::occurrences::rule_at;
 use crate::pairs::{add_missing_rule, add_second_rule, add_unmatched};
-use crate::reading::{Shape, net_shape, rule_shape, stuck_nodes, tables_of};
+use crate::reading::{Shape, net_shape, rule_shape, tables_of};
 use crate::reports::Report;
 use crate::stuck::add_stuck;
 use crate::wires::{add_closed, add_misfit};
-use in_check::refusal_of;
+use in_check::{StuckPart, refusal_of};
 use in_net::{MAX_AGENTS, MAX_MEMBER_AGENTS};
 use in_symbols::Symbols;
 use in_syntax::{Code, Fault, MAX_TEXT_BYTES, Place, Refusal, Source, parse};
@@ -99,26 +99,29 @@ fn add_type_fault(report: &mut Report, source: &Source, place: Place) -> Result<
     }
 }
 
-/// A rule or a net that no steps build.
+/// A rule or a net that no steps build, with its first part in which no node splits.
 fn add_step_fault(
     report: &mut Report,
     source: &Source,
     place: Place,
     what: &str,
-) -> Result<(), AllocError>
-    requires { IsOfText source.now }
-{
-    match shape_at(report.alloc, source, place)? {
-        Some(shape) => {
-            let nodes = stuck_nodes(report.alloc, &shape.open)?;
-            add_stuck(report, source, &shape.open, nodes.as_slice(), what, place)
+    part: Option<&StuckPart>,
+) -> Result<(), AllocError> {
+    match part {
+        Some(StuckPart { open, stuck }) => {
+            add_stuck(report, source, open, stuck.nodes.as_slice(), what, place)
         }
         None => Ok(()),
     }
 }
 
 /// What is refused of a program that has a tree.
-fn add_fault(report: &mut Report, source: &Source, refusal: Refusal) -> Result<(), AllocError>
+fn add_fault(
+    report: &mut Report,
+    source: &Source,
+    refusal: Refusal,
+    part: Option<&StuckPart>,
+) -> Result<(), AllocError>
     requires { IsOfText source.now }
 {
     let Refusal { code, place, other } = refusal;
@@ -133,10 +136,29 @@ fn add_fault(report: &mut Report, source: &Source, refusal: Refusal) -> Result<(
         Code::E09 => add_closed(report, source, place),
         Code::E10 => add_type_fault(report, source, place),
         Code::E11 => add_unmatched(report, source, place),
-        Code::E12 => add_step_fault(report, source, place, "this rule"),
-        Code::E13 => add_step_fault(report, source, place, "this net"),
+        Code::E12 => add_step_fault(report, source, place, "this rule", part),
+        Code::E13 => add_step_fault(report, source, place, "this net", part),
         Code::E14 => add_second_rule(report, source, place),
         Code::E15 => add_missing_rule(report, source, place, other),
+    }
+}
+
+/// What is wrong with a program that has a tree, where anything is; says whether it is.
+fn add_refused(
+    report: &mut Report,
+    source: &Source,
+    refusal: Option<Refusal>,
+    part: Option<&StuckPart>,
+) -> Result<bool, AllocError>
+    requires { IsOfText source.now }
+    ensures { IfOk result (λ told. told ≡ is_some refusal) }
+{
+    match refusal {
+        Some(refusal) => {
+            add_fault(report, source, refusal, part)?;
+            Ok(true)
+        }
+        None => Ok(false),
     }
 }
 
@@ -145,13 +167,9 @@ fn add_refusal(report: &mut Report, source: &Source) -> Result<bool, AllocError>
     requires { IsOfText source.now }
     ensures { IfOk result (IsToldOfTree source.now) }
 {
-    match refusal_of(report.alloc, source)? {
-        Some(refusal) => {
-            add_fault(report, source, refusal)?;
-            Ok(true)
-        }
-        None => Ok(false),
-    }
+    let mut part = None;
+    let refusal = refusal_of(report.alloc, source, &mut part)?;
+    add_refused(report, source, refusal, part.as_ref())
 }
 
 /// What is wrong with a text, the report's; says whether anything is.
