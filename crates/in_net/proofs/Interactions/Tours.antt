@@ -58,12 +58,16 @@ IsCrossingStop sig n x (Through s e) = Unit {0}
 abbrev pub AnyPlace : {A B : Type 0} → Side → Place A B → Type 0
 AnyPlace s p = Unit {0}
 
+-- wires of an interaction through these stops in turn
+abbrev pub Passes : {A B : Type 0} → Signature → Net A → Redex A B → Side × Place A B → List (Stop A B) → Side × Place A B → Type 0
+Passes sig n x = Tour (wires sig n x) AnyPlace AnyPlace
+
 -- a ring of agents that stay, new agents and boundary ends: what stands between two boundary ends is joined by wires of the net
 -- before alone, or by wires of the right member alone, and the side changes at each boundary end. No agent and no boundary end comes twice
 pub record LaidOut {A B : Type 0} (sig : Signature) (n : Net A) (x : Redex A B) : Type 0 where
   pub first : Stop A B
   pub rest : List (Stop A B)
-  pub closed : Tour (wires sig n x) AnyPlace AnyPlace (leaves first) rest (enters first)
+  pub closed : Passes sig n x (leaves first) rest (enters first)
   pub crossing : AllByRecursion (IsCrossingStop sig n x) (first ∷ rest)
   pub agents : AreApart (agents_of (first ∷ rest))
   pub boundary : AreDifferent (boundary_of (first ∷ rest))

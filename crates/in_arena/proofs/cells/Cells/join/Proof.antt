@@ -37,7 +37,7 @@ use Rattle.core.proofs.mem.Param.{El, R, args}
 use Rattle.in_arena.specs.Places.{together}
 use Rattle.in_arena.specs.Ownership.{row, cells_own}
 use Rattle.in_arena.specs.Lends.{with_slots}
-use Rattle.in_arena.proofs.Memory.{Owner, sz, mark, mark_had}
+use Rattle.in_arena.proofs.Memory.{Owner, HasCells, sz, lent, mark, mark_had}
 use Rattle.in_arena.proofs.Rows.{rows_join, length-together}
 use Rattle.in_arena.specs.contracts.cells.Cells.join.Key.{name as #self}
 use Rattle.in_arena.proofs.cells.Cells.join.Statement as stated
@@ -57,7 +57,7 @@ module _ (E : El) where
   Asks d other = (other.at ≡ d.at) × (length other.slots ≡ length d.slots)
 
   abbrev Gives : (Owner E).Denot → (Owner E).Denot → (Owner E).Denot → Type 0
-  Gives d other new = (new.at ≡ d.at) × (new.slots ≡ together d.slots other.slots)
+  Gives d other new = HasCells E d (together d.slots other.slots) new
 
   abbrev spec : {M : Type 1} {𝓤 : Ura M} (𝓛 : Logic 𝓤) → Clauses 𝓤 ended
   spec {𝓤 = 𝓤} 𝓛 κs a = record { ghost = Unit {0}; requires = λ _. fact 𝓤 (Asks a.0.now a.1.0); ensures = λ _ r w. fact 𝓤 (Gives a.0.now a.1.0 w.0.now) }
@@ -74,12 +74,9 @@ module _ (E : El) {M : Type 1} {𝓤 : Ura M} (𝓛 : Logic 𝓤) (C : Calls �
   abbrev Post : Val → SProp 𝓤
   Post = (walk_of 𝓛 (ended E) (stayed E) (spec E 𝓛)).post bound
 
-  abbrev Told : (Owner E).Denot → List (Item 𝓤)
-  Told new = ‵ (fobs γ ((Owner E).coded.code new)) ∷ ‵ (fbor κ (Borrowed (mem (Owner E)) rb ro γ)) ∷ ‵ (flft κ q) ∷ []
-
-  exits : us0 ≡ vptr rb ro ∷ [] → (new : (Owner E).Denot) → Gives E d other new → ent 𝓤 (⋆ 𝓛 (Told new)) (Post vunit)
+  exits : us0 ≡ vptr rb ro ∷ [] → (new : (Owner E).Denot) → Gives E d other new → ent 𝓤 (⋆ 𝓛 (lent E 𝓛 κ q rb ro γ new)) (Post vunit)
   exits passed new given_it =
-      qed 𝓛 (Told new) ∵ suffices ! _ (ends_at 𝓛 (ended E) (stayed E) (spec E 𝓛) bound vunit tt (new, (tt, tt)) (tt, (tt, tt))) $ says ! given_it $
+      qed 𝓛 (lent E 𝓛 κ q rb ro γ new) ∵ suffices ! _ (ends_at 𝓛 (ended E) (stayed E) (spec E 𝓛) bound vunit tt (new, (tt, tt)) (tt, (tt, tt))) $ says ! given_it $
       feq_i ! (List Val) (vunit ∷ []) (vunit ∷ []) refl $ move ! (1 ∷ 2 ∷ 3 ∷ 0 ∷ []) $ nothing ! $ move ! (3 ∷ 0 ∷ []) $ join ! $ frame ! $
       feq_i ! (List Val) us0 (vptr rb ro ∷ []) passed $ fjoin3 ! $ nothing ! $ nothing ! $ fjoin ! $ move ! (1 ∷ 0 ∷ []) $ fjoin ! $ done !
 

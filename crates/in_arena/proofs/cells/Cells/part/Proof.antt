@@ -37,7 +37,7 @@ use denote.Triple.Walked.{needs, Stays, stay_dropped, stay_ref, walk_of, ends_at
 use Rattle.core.proofs.mem.Param.{El, R, args}
 use Rattle.in_arena.specs.Ownership.{row, cells_own}
 use Rattle.in_arena.specs.Lends.{with_slots}
-use Rattle.in_arena.proofs.Memory.{Owner, Mark, Place, sz, mark, mark_made, says_both}
+use Rattle.in_arena.proofs.Memory.{Owner, Mark, Place, HasCells, sz, lent, mark, mark_made, says_both}
 use Rattle.in_arena.proofs.Rows.{cell_parts}
 use Rattle.in_arena.specs.contracts.cells.Cells.part.Key.{name as #self}
 use Rattle.in_arena.proofs.cells.Cells.part.Statement as stated
@@ -56,21 +56,12 @@ module _ (E : El) where
   abbrev Asks : (Owner E).Denot → ℕ → Type 0
   Asks d index = index < length d.slots
 
-  -- the cell that leaves, and those that stay
+  -- the cell that leaves
   abbrev one_of : (Owner E).Denot → ℕ → List (Place E)
   one_of d index = set (replicate (length d.slots) None) index (get_or d.slots index None)
 
-  abbrev rest_of : (Owner E).Denot → ℕ → List (Place E)
-  rest_of d index = set d.slots index None
-
-  abbrev GivesOne : (Owner E).Denot → ℕ → (Owner E).Denot → Type 0
-  GivesOne d index r = (r.at ≡ d.at) × (r.slots ≡ one_of d index)
-
-  abbrev GivesRest : (Owner E).Denot → ℕ → (Owner E).Denot → Type 0
-  GivesRest d index new = (new.at ≡ d.at) × (new.slots ≡ rest_of d index)
-
   abbrev spec : {M : Type 1} {𝓤 : Ura M} (𝓛 : Logic 𝓤) → Clauses 𝓤 ended
-  spec {𝓤 = 𝓤} 𝓛 κs a = record { ghost = Unit {0}; requires = λ _. fact 𝓤 (Asks a.0.now a.1.0); ensures = λ _ r w. sep 𝓤 (fact 𝓤 (GivesOne a.0.now a.1.0 r)) (fact 𝓤 (GivesRest a.0.now a.1.0 w.0.now)) }
+  spec {𝓤 = 𝓤} 𝓛 κs a = record { ghost = Unit {0}; requires = λ _. fact 𝓤 (Asks a.0.now a.1.0); ensures = λ _ r w. sep 𝓤 (fact 𝓤 (HasCells E a.0.now (one_of a.0.now a.1.0) r)) (fact 𝓤 (HasCells E a.0.now (set a.0.now.slots a.1.0 None) w.0.now)) }
 
 module _ (E : El) {M : Type 1} {𝓤 : Ura M} (𝓛 : Logic 𝓤) (C : Calls 𝓤 𝓛.H) (Λ : Loops 𝓤 𝓛.H) (κ : Lft) (q : Share) (rb ro : ℕ) (γ : GName) (d : (Owner E).Denot) (index : ℕ) (us0 us1 : List Val) where
   open 𝓛 use {H}
@@ -84,7 +75,7 @@ module _ (E : El) {M : Type 1} {𝓤 : Ura M} (𝓛 : Logic 𝓤) (C : Calls �
   abbrev Post : Val → SProp 𝓤
   Post = (walk_of 𝓛 (ended E) (stayed E) (spec E 𝓛)).post bound
 
-  exits : us0 ≡ vptr rb ro ∷ [] → (r new : (Owner E).Denot) → GivesOne E d index r → GivesRest E d index new
+  exits : us0 ≡ vptr rb ro ∷ [] → (r new : (Owner E).Denot) → HasCells E d (one_of E d index) r → HasCells E d (set d.slots index None) new
       → ent 𝓤 (⋆ 𝓛 (‵ (fobs γ ((Owner E).coded.code new)) ∷ ‵ (fbor κ (Borrowed (mem (Owner E)) rb ro γ)) ∷ ‵ (flft κ q) ∷ ‵ ((Owner E).own_val r (mark ∷ [])) ∷ [])) (Post mark)
   exits passed r new one rest =
       qed 𝓛 (‵ (fobs γ ((Owner E).coded.code new)) ∷ ‵ (fbor κ (Borrowed (mem (Owner E)) rb ro γ)) ∷ ‵ (flft κ q) ∷ ‵ ((Owner E).own_val r (mark ∷ [])) ∷ []) ∵
@@ -92,11 +83,11 @@ module _ (E : El) {M : Type 1} {𝓤 : Ura M} (𝓛 : Logic 𝓤) (C : Calls �
       nothing ! $ move ! (3 ∷ 0 ∷ []) $ join ! $ frame ! $ feq_i ! (List Val) us0 (vptr rb ro ∷ []) passed $ fjoin3 ! $ nothing ! $ nothing ! $ fjoin ! $ move ! (1 ∷ 0 ∷ []) $ fjoin ! $ done !
 
   abbrev Had : List (Item 𝓤)
-  Had = ‵ (fobs γ ((Owner E).coded.code d)) ∷ ‵ (fbor κ (Borrowed (mem (Owner E)) rb ro γ)) ∷ ‵ (flft κ q) ∷ []
+  Had = lent E 𝓛 κ q rb ro γ d
 
   walk : us0 ≡ vptr rb ro ∷ [] → Asks E d index → index < 2 ^ 64 → ent 𝓤 (⋆ 𝓛 Had) (WpFn 𝓤 H C Λ (function E) (vptr rb ro ∷ vint w64 index ∷ []) Post)
   walk passed inside fits =
-      let s = sz E in let n = length d.slots in let one = one_of E d index in let rest = rest_of E d index in
+      let s = sz E in let n = length d.slots in let one = one_of E d index in let rest = set d.slots index None in
       let apart : (Owner E).Denot = with_slots d one in let new : (Owner E).Denot = with_slots d rest in
       let long_one : length one ≡ n = length-set (replicate n None) index (get_or d.slots index None) ∙ length-replicate n None in
       qed 𝓛 Had ∵ enter ! C Λ (function E) (vptr rb ro ∷ vint w64 index ∷ []) _ $ alloc_all ! (λ l. pass_all ! refl ((tt, tt), ((tt, record { fits = fits }), tt)) $

@@ -44,7 +44,7 @@ use Rattle.std_alloc.proofs.RcSteps.{Good, word, word-Good}
 use Rattle.std_alloc.proofs.VecSteps.Shapes.{after}
 use Rattle.in_arena.specs.Ownership.{cell, row, cells_own}
 use Rattle.in_arena.specs.Lends.{with_slots}
-use Rattle.in_arena.proofs.Memory.{Owner, Begin, sz, Place, word_had, value_in, tells}
+use Rattle.in_arena.proofs.Memory.{Owner, Begin, HasCells, sz, Place, lent, word_had, value_in, tells}
 use Rattle.in_arena.proofs.Rows.{Others, cell_out, cell_in}
 use Rattle.in_arena.specs.contracts.cells.Cells.write.Key.{name as #self}
 use Rattle.in_arena.proofs.cells.Cells.write.Statement as stated
@@ -64,7 +64,7 @@ module _ (E : El) where
   Asks d base index = (base.ptr ≡ d.at) × (index < length d.slots) × (get_or d.slots index None ≡ Some None)
 
   abbrev Gives : (Owner E).Denot → ℕ → (R E).Denot → (Owner E).Denot → Type 0
-  Gives d index content new = (new.at ≡ d.at) × (new.slots ≡ set d.slots index (Some (Some content)))
+  Gives d index content new = HasCells E d (set d.slots index (Some (Some content))) new
 
   abbrev spec : {M : Type 1} {𝓤 : Ura M} (𝓛 : Logic 𝓤) → Clauses 𝓤 ended
   spec {𝓤 = 𝓤} 𝓛 κs a = record { ghost = Unit {0}; requires = λ _. fact 𝓤 (Asks a.0.now a.1.0 a.1.1.0); ensures = λ _ r w. fact 𝓤 (Gives a.0.now a.1.1.0 a.1.1.1.0 w.0.now) }
@@ -81,12 +81,9 @@ module _ (E : El) {M : Type 1} {𝓤 : Ura M} (𝓛 : Logic 𝓤) (C : Calls �
   abbrev Post : Val → SProp 𝓤
   Post = (walk_of 𝓛 (ended E) (stayed E) (spec E 𝓛)).post bound
 
-  abbrev Told : (Owner E).Denot → List (Item 𝓤)
-  Told new = ‵ (fobs γ ((Owner E).coded.code new)) ∷ ‵ (fbor κ (Borrowed (mem (Owner E)) rb ro γ)) ∷ ‵ (flft κ q) ∷ []
-
-  exits : us0 ≡ vptr rb ro ∷ [] → (new : (Owner E).Denot) → Gives E d index content new → ent 𝓤 (⋆ 𝓛 (Told new)) (Post vunit)
+  exits : us0 ≡ vptr rb ro ∷ [] → (new : (Owner E).Denot) → Gives E d index content new → ent 𝓤 (⋆ 𝓛 (lent E 𝓛 κ q rb ro γ new)) (Post vunit)
   exits passed new given_it =
-      qed 𝓛 (Told new) ∵ suffices ! _ (ends_at 𝓛 (ended E) (stayed E) (spec E 𝓛) bound vunit tt (new, (tt, (tt, (tt, tt)))) (tt, (tt, (tt, (tt, tt))))) $ says ! given_it $
+      qed 𝓛 (lent E 𝓛 κ q rb ro γ new) ∵ suffices ! _ (ends_at 𝓛 (ended E) (stayed E) (spec E 𝓛) bound vunit tt (new, (tt, (tt, (tt, tt)))) (tt, (tt, (tt, (tt, tt))))) $ says ! given_it $
       feq_i ! (List Val) (vunit ∷ []) (vunit ∷ []) refl $ move ! (1 ∷ 2 ∷ 3 ∷ 0 ∷ []) $ nothing ! $ move ! (3 ∷ 0 ∷ []) $ join ! $ frame ! $
       feq_i ! (List Val) us0 (vptr rb ro ∷ []) passed $ fjoin3 ! $ nothing ! $ nothing ! $ fjoin ! $ nothing ! $ fjoin ! $ nothing ! $ fjoin ! $ move ! (1 ∷ 0 ∷ []) $ fjoin ! $ done !
 
