@@ -9,7 +9,6 @@ use mir.MapTy.{inst_fn}
 use prog.Wp.{Calls, Loops, WpFn, Tables}
 use contract.Monad.{fact}
 use contract.Running.{tables, tables_of}
-use sound.WpLaws.{WpFn-mono}
 use types.Logic.{Logic}
 use types.SemTy.{Body as Borrowed}
 use denote.Exit.{yes, no}
@@ -19,7 +18,7 @@ use denote.Signature.{plain}
 use denote.Triple.Carry.{spared}
 use denote.Triple.Clauses.{Clauses, Ended, closing}
 use denote.Triple.Entry.{on_entry}
-use denote.Triple.Spec.{Meets, triple_of}
+use denote.Triple.Spec.{triple_of}
 use denote.Triple.Table.{entered, run_framed}
 use Rattle.std.specs.Prelude.{None}
 use lib.ListN.{length, set, get_or, replicate, length-set, length-replicate}
@@ -33,11 +32,12 @@ use denote.Builtin.{RefMutOf, usize}
 use denote.Memory.{mem}
 use denote.RawPtr.{Ptr, in_a_block}
 use denote.Steps.{nothing, opens, closes}
-use denote.Triple.Walked.{needs, Stays, stay_dropped, stay_ref, walk_of, ends_at, Goes-dropped, Goes-ref, walk_Meets}
+use denote.Triple.Walked.{needs, Stays, stay_dropped, stay_ref, walk_of, ends_at, Goes-dropped, Goes-ref}
 use Rattle.core.proofs.mem.Param.{El, R, args}
 use Rattle.in_arena.specs.Ownership.{row, cells_own}
 use Rattle.in_arena.specs.Lends.{with_slots}
 use Rattle.in_arena.proofs.Memory.{Owner, Mark, Place, HasCells, sz, lent, mark, mark_made, says_both}
+use Rattle.in_arena.proofs.Walks.{walked}
 use Rattle.in_arena.proofs.Rows.{cell_parts}
 use Rattle.in_arena.specs.contracts.cells.Cells.part.Key.{name as #self}
 use Rattle.in_arena.proofs.cells.Cells.part.Statement as stated
@@ -109,17 +109,14 @@ module _ (E : El) {M : Type 1} {𝓤 : Ura M} (𝓛 : Logic 𝓤) (C : Calls �
       split ! $ move ! (2 ∷ []) $ fsplit ! $ fsplit3 ! $ feq_l ! (λ e0. move ! (2 ∷ []) $ fsplit ! $ fsplit ! $ feq_l ! (λ e1. flt_l ! (λ fits. keep ! (1 ∷ 2 ∷ 3 ∷ []) $
       by ! (subst (λ (ws : List Val × List Val). ent 𝓤 (⋆ 𝓛 Had) (WpFn 𝓤 H C Λ (function E) (ws.0 ++ (ws.1 ++ [])) Post)) (λ j. (sym e0 j, sym e1 j)) (walk e0 asked fits)))))
 
-meets : (E : El) {M : Type 1} {𝓤 : Ura M} (𝓛 : Logic 𝓤) (𝓣 : Tables 𝓤 𝓛.H) → Meets 𝓛 (ended E).signature (WpFn 𝓤 𝓛.H 𝓣.C 𝓣.Λ (function E)) (closing 𝓛 (ended E) (spec E 𝓛))
-meets E {𝓤 = 𝓤} 𝓛 𝓣 =
-    walk_Meets 𝓛 (ended E) (stayed E) (Goes-ref 𝓛 1 0 tt (plain (λ _. Owner E)), (Goes-dropped 𝓛 1 (plain (λ _. usize)) no (λ κs x f. refl), tt))
-    (spec E 𝓛) (WpFn 𝓤 𝓛.H 𝓣.C 𝓣.Λ (function E)) (WpFn-mono 𝓤 𝓛.H 𝓛.laws 𝓣 (function E))
-    (λ z. let a = z.0.3 in let us = z.0.4 in
-    needs 𝓤 (Asks E a.0.now a.1.0) _ (entry E 𝓛 𝓣.C 𝓣.Λ z.0.0.0 z.0.1.0 a.0.ref_ptr.0 a.0.ref_ptr.1 a.0.ghost_name a.0.now a.1.0 us.0 us.1.0))
-
 pub part_spec : {M : Type 1} → stated.statement M
 unfolding tables_of
 part_spec 𝓤 𝓛 𝓜 𝓡 wired X LX y =
     let E : El = record { row = X; laws = LX } in let 𝓣 : Tables 𝓤 𝓛.H = tables_of 𝓤 𝓛.H 𝓜 (tables 𝓤 𝓛.H 𝓜 𝓡 𝓡.env) in let k = #self (args E) in
     spared 𝓛 (ended E).signature (𝓡.run (𝓡.env k)) (run_framed 𝓤 𝓛.H 𝓜 𝓡 (𝓡.env k)) 1 (X.lives, tt) (closing 𝓛 (ended E) (spec E 𝓛))
-    (entered 𝓤 𝓛.H (triple_of 𝓛 (ended E).signature (closing 𝓛 (ended E) (spec E 𝓛))) 𝓣.C 𝓣.Λ k (function E) (code.unfolded 𝓤 𝓛.H 𝓜 𝓡 wired (X, tt)) (meets E 𝓛 𝓣))
+    (entered 𝓤 𝓛.H (triple_of 𝓛 (ended E).signature (closing 𝓛 (ended E) (spec E 𝓛))) 𝓣.C 𝓣.Λ k (function E) (code.unfolded 𝓤 𝓛.H 𝓜 𝓡 wired (X, tt))
+    (walked 𝓛 𝓣 (function E) (ended E) (stayed E) (spec E 𝓛)
+    (Goes-ref 𝓛 1 0 tt (plain (λ _. Owner E)), (Goes-dropped 𝓛 1 (plain (λ _. usize)) no (λ κs x f. refl), tt))
+    (λ z. let a = z.0.3 in let us = z.0.4 in
+    needs 𝓤 (Asks E a.0.now a.1.0) _ (entry E 𝓛 𝓣.C 𝓣.Λ z.0.0.0 z.0.1.0 a.0.ref_ptr.0 a.0.ref_ptr.1 a.0.ghost_name a.0.now a.1.0 us.0 us.1.0))))
     ((y.0.0, y.0.1, tt, y.0.3, y.0.4), y.1)
