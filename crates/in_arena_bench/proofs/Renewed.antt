@@ -1,7 +1,7 @@
 -- What a turn changes of an arena, and how one becomes full.
 use Rattle.std.proofs.Common.{◌≡◌, ◌+◌, ◌-◌, ◌<◌, ◌≤◌, ◌⊎◌, inl, inr, ℕ, zero, suc, cond, List, [], ◌∷◌, length, set, get_or, take, drop, replicate, count_by, Some, sym, ap, ◌∙◌, subst, ⊎_elim, arith, length-set, get_or-set_same, get_or-set_other}
 use Rattle.std.proofs.lemmas.Bool.{cases_eq, cases_lt}
-use Rattle.std.proofs.lemmas.List.{set-set, get_or_past, get_or-replicate, length-replicate, get_or-take, get_or-drop}
+use Rattle.std.proofs.lemmas.List.{set-set, get_or-replicate, length-replicate, get_or-take, get_or-drop}
 use Rattle.std.proofs.lemmas.List.Sums.{sum_by-cons}
 use Rattle.in_arena.specs.Arenas.{ArenaView, LeaseView, Leases, NoneLeased, free_of, changed, state_at, written}
 use Rattle.in_arena.specs.States.{State, Vacant, Leased, Live, IsLeased, is_vacant, places}

@@ -1,7 +1,7 @@
 -- What calls in a row change of an arena.
-use Rattle.std.proofs.Common.{◌≡◌, ◌<◌, ℕ, List, length, set, get_or, Option, Some, sym, ap, ◌∙◌, subst, ⊎_elim, arith, length-set, get_or-set_same, get_or-set_other}
-use Rattle.std.proofs.lemmas.Bool.{cases_eq, cases_lt}
-use Rattle.std.proofs.lemmas.List.{set-set, set-get_or, get_or_past}
+use Rattle.std.proofs.Common.{◌≡◌, ℕ, List, length, set, get_or, Option, Some, sym, ap, ◌∙◌, subst, ⊎_elim, arith, length-set, get_or-set_same, get_or-set_other}
+use Rattle.std.proofs.lemmas.Bool.{cases_eq}
+use Rattle.std.proofs.lemmas.List.{set-set, set-get_or}
 use Rattle.in_arena.specs.Arenas.{ArenaView, LeaseView, Leases, NoneLeased, changed, state_at, written}
 use Rattle.in_arena.specs.States.{Vacant, Leased, Live, IsLeased}
 use Rattle.in_arena.specs.declared.content.CellClass.{CellClass}

@@ -1,16 +1,13 @@
 -- Renaming the agents of a net that is reached changes nothing of it.
-use Rattle.std.proofs.Common.{◌≡◌, ℕ, nat_eq, Some, IsSome, List, [], ◌∷◌, subst, ◌∙◌}
-use Rattle.std.specs.List.{AllByRecursion}
+use Rattle.std.proofs.Common.{◌≡◌, ℕ, nat_eq, Some, subst, ◌∙◌}
 use native.Mathlib.Decide.{ℕ_discrete}
-use Rattle.in_net.specs.Nets.{Point, Port, Free, Net, IsNet}
-use Rattle.in_net.proofs.Interactions.Alternating.{symbol_of}
+use Rattle.in_net.specs.Nets.{Point, Port, Free, Net}
 use Rattle.in_net.proofs.Interactions.AtNets.{port_place}
 use Rattle.in_check.specs.Promises.{RenamingChangesNothing}
 use Rattle.in_check.specs.Runs.{renamed, then_renamed, HasEnded}
-use Rattle.in_check.specs.Systems.{System}
 use Rattle.in_check.proofs.Reached.Counts.{agents_before, one_count}
 use Rattle.in_check.proofs.Reached.Kept.{sound_reached}
-use Rattle.in_check.proofs.Reached.Renaming.{is_some, wire_kept}
+use Rattle.in_check.proofs.Reached.Renaming.{wire_kept}
 use Rattle.in_check.proofs.Reached.SameText.{nat_test, text_same}
 
 at_agents : (f : ℕ → ℕ) (n : Net ℕ) (x y : ℕ) (p q : Point ℕ) → renamed f p ≡ Port x 0 → renamed f q ≡ Port y 0 → n.partner p ≡ Some q → HasEnded n → ⊥

@@ -6,20 +6,17 @@ use seplogic.Ra.Ura.{Ura}
 use base.Logic.{SProp, ent, sep, never, id⊢}
 use base.Fml.{Lft, GName, Share, ftrue, flft, fobs, fbor}
 use mir.MapTy.{inst_fn}
-use prog.Wp.{Calls, Loops, WpFn, Tables}
+use prog.Wp.{Calls, Loops, WpFn}
 use contract.Monad.{fact}
-use contract.Running.{tables, tables_of}
+use contract.Running.{tables}
 use types.Logic.{Logic}
 use types.SemTy.{Body as Borrowed}
 use denote.Exit.{yes, no}
 use denote.RattleType.{owns}
 use denote.Ref.{MutBor, MutRef}
 use denote.Signature.{plain}
-use denote.Triple.Carry.{spared}
-use denote.Triple.Clauses.{Clauses, Ended, closing}
+use denote.Triple.Clauses.{Clauses, Ended}
 use denote.Triple.Entry.{on_entry}
-use denote.Triple.Spec.{triple_of}
-use denote.Triple.Table.{entered, run_framed}
 use Rattle.std.specs.Prelude.{None}
 use lib.ListN.{length, set, get_or, replicate, length-set, length-replicate}
 use mir.Syntax.{Fn, named, w64}
@@ -110,13 +107,10 @@ module _ (E : El) {M : Type 1} {𝓤 : Ura M} (𝓛 : Logic 𝓤) (C : Calls �
       by ! (subst (λ (ws : List Val × List Val). ent 𝓤 (⋆ 𝓛 Had) (WpFn 𝓤 H C Λ (function E) (ws.0 ++ (ws.1 ++ [])) Post)) (λ j. (sym e0 j, sym e1 j)) (walk e0 asked fits)))))
 
 pub part_spec : {M : Type 1} → stated.statement M
-unfolding tables_of
 part_spec 𝓤 𝓛 𝓜 𝓡 wired X LX y =
-    let E : El = record { row = X; laws = LX } in let 𝓣 : Tables 𝓤 𝓛.H = tables_of 𝓤 𝓛.H 𝓜 (tables 𝓤 𝓛.H 𝓜 𝓡 𝓡.env) in let k = #self (args E) in
-    spared 𝓛 (ended E).signature (𝓡.run (𝓡.env k)) (run_framed 𝓤 𝓛.H 𝓜 𝓡 (𝓡.env k)) 1 (X.lives, tt) (closing 𝓛 (ended E) (spec E 𝓛))
-    (entered 𝓤 𝓛.H (triple_of 𝓛 (ended E).signature (closing 𝓛 (ended E) (spec E 𝓛))) 𝓣.C 𝓣.Λ k (function E) (code.unfolded 𝓤 𝓛.H 𝓜 𝓡 wired (X, tt))
-    (walked 𝓛 𝓣 (function E) (ended E) (stayed E) (spec E 𝓛)
+    let E : El = record { row = X; laws = LX } in let 𝓣 = tables 𝓤 𝓛.H 𝓜 𝓡 𝓡.env in
+    walked 𝓤 𝓛 𝓜 𝓡 X.lives (#self (args E)) (function E) (ended E) (stayed E) (spec E 𝓛) (code.unfolded 𝓤 𝓛.H 𝓜 𝓡 wired (X, tt))
     (Goes-ref 𝓛 1 0 tt (plain (λ _. Owner E)), (Goes-dropped 𝓛 1 (plain (λ _. usize)) no (λ κs x f. refl), tt))
     (λ z. let a = z.0.3 in let us = z.0.4 in
-    needs 𝓤 (Asks E a.0.now a.1.0) _ (entry E 𝓛 𝓣.C 𝓣.Λ z.0.0.0 z.0.1.0 a.0.ref_ptr.0 a.0.ref_ptr.1 a.0.ghost_name a.0.now a.1.0 us.0 us.1.0))))
+    needs 𝓤 (Asks E a.0.now a.1.0) _ (entry E 𝓛 𝓣.C 𝓣.Λ z.0.0.0 z.0.1.0 a.0.ref_ptr.0 a.0.ref_ptr.1 a.0.ghost_name a.0.now a.1.0 us.0 us.1.0))
     ((y.0.0, y.0.1, tt, y.0.3, y.0.4), y.1)
