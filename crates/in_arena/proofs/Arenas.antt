@@ -1,10 +1,10 @@
 -- What a change of one region is to contracts.
-use Rattle.std.proofs.Common.{◌≡◌, ℕ, zero, suc, ◌+◌, ◌-◌, ◌<◌, ◌≤◌, nat_lt, cond, List, [], ◌∷◌, ◌++◌, map, take, drop, length, set, get_or, replicate, count_by, Option, Some, None, refl, sym, ap, ◌∙◌, subst, arith, length-append}
-use Rattle.std.proofs.lemmas.List.{length-map, get_or-replicate, set-append_left, set-append_right, get_or_append_left, get_or-append_right}
+use Rattle.std.proofs.Common.{◌≡◌, ℕ, zero, suc, ◌+◌, ◌-◌, ◌<◌, ◌≤◌, nat_lt, cond, List, [], ◌∷◌, ◌++◌, map, take, drop, length, set, get_or, replicate, count_by, Option, Some, None, refl, sym, ap, ◌∙◌, subst, ⊎_elim, arith, length-append}
+use Rattle.std.proofs.lemmas.List.{length-map, get_or_past, get_or-replicate, set-append_left, set-append_right, get_or_append_left, get_or-append_right}
 use Rattle.std.proofs.lemmas.List.Sums.{sum_by-cons}
 use Rattle.std.proofs.Math.ListN.{get_or-map}
 use Rattle.std.proofs.Math.Seq.{take-append_seam, drop-append_seam}
-use Rattle.std.proofs.lemmas.Bool.{lt-ltb, le-ltb}
+use Rattle.std.proofs.lemmas.Bool.{cases_lt, lt-ltb, le-ltb}
 use Rattle.in_arena.specs.Arenas.{ArenaView, LeaseView, state_at, changed, free_of, IsOf, NoneLeased, Leases}
 use Rattle.in_arena.specs.Inside.{arena_view, IsArena}
 use Rattle.in_arena.specs.Leases.{view_of, IsNumbered}
@@ -22,6 +22,10 @@ use Rattle.in_arena.specs.declared.region.Held.{Held}
 
 abbrev Slot : ℕ → Type 0
 Slot W = Option (Option (Content W))
+
+-- no cell is vacant past the last one
+pub vacant_inside : (a : ArenaView) (n : ℕ) → state_at a n ≡ Vacant → n < length a.states
+vacant_inside a n free = ⊎_elim (λ lt. lt) (λ past. absurd (subst IsLeased (sym (get_or_past a.states n Leased past) ∙ free) tt)) (cases_lt n (length a.states))
 
 pub changed_same : {a b : ArenaView} {n m : ℕ} {x y : State} → a ≡ b → n ≡ m → x ≡ y → changed a n x ≡ changed b m y
 changed_same e f g = λ i. changed (e i) (f i) (g i)

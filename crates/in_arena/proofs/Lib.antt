@@ -5,3 +5,4 @@ pub mod Memory
 pub mod Regions
 pub mod Rows
 pub mod Sharing
+pub mod Walks

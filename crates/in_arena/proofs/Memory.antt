@@ -7,15 +7,16 @@ use base.Fraction.{full_share}
 use mir.Syntax.{Ty}
 use mir.Val.{Val, vstruct, vcons, vnil, of_list}
 use base.Logic.{SProp, ent, sep, emp, ex, guard, via}
-use base.Fml.{fat}
+use base.Fml.{Lft, GName, Share, fat, flft, fobs, fbor}
 use types.Logic.{Logic, sem}
 use contract.Monad.{fact, fact_i}
 use types.Kit.{Item, Goal, Seq, Step, step, prop, ‵, raw, some, ◌⊛◌, ◌$◌, ◌∵◌, !, qed, move, drop as skip, use0, use1, pick, split, check, show, frame, fsplit, fjoin, fpick, fpack, feq_i, feq_l, rewrite, done}
+use types.SemTy.{Body as Borrowed}
 use denote.RattleType.{RattleType, Valss}
 use denote.Laws.{Typed, Is, shows}
 use denote.Param.{param, layout}
 use denote.Param.Laws.{Laws, param_laws}
-use denote.Memory.{part_at}
+use denote.Memory.{mem, part_at}
 use denote.RawPtr.{Ptr, RawPtr, ptr_val}
 use denote.Shadow.{makes_shadow}
 use denote.Steps.{nothing, peeks}
@@ -26,6 +27,7 @@ use Rattle.std.specs.Prelude.{Option}
 use Rattle.std.specs.Mem.{type_size}
 use Rattle.core.proofs.mem.Param.{El, R, el_x}
 use Rattle.std_alloc.proofs.RcSteps.{Good, word}
+use Rattle.in_arena.specs.Places.{IsFilled}
 use Rattle.in_arena.specs.contracts.cells.Cells as cells
 use Rattle.in_arena.specs.contracts.cells.Base as base-row
 
@@ -45,6 +47,18 @@ module _ (E : El) where
 
   abbrev pub Place : Type 0
   Place = Option (Option (el_x E))
+
+  -- the base is that of the owner's row, and a value is in the cell of that number
+  abbrev pub IsFilledFrom : Owner.Denot → Begin.Denot → ℕ → Type 0
+  IsFilledFrom d base index = (base.ptr ≡ d.at) × IsFilled d.slots index
+
+  -- an owner in the same row, of these cells
+  abbrev pub HasCells : Owner.Denot → List Place → Owner.Denot → Type 0
+  HasCells d places new = (new.at ≡ d.at) × (new.slots ≡ places)
+
+  -- what a `&mut` to an owner is, once what it leads to is this owner
+  abbrev pub lent : {M : Type 1} {𝓤 : Ura M} (𝓛 : Logic 𝓤) → Lft → Share → ℕ → ℕ → GName → Owner.Denot → List (Item 𝓤)
+  lent 𝓛 κ q rb ro γ new = ‵ (fobs γ (Owner.coded.code new)) ∷ ‵ (fbor κ (Borrowed (mem Owner) rb ro γ)) ∷ ‵ (flft κ q) ∷ []
 
 abbrev one_pointer : Shape
 one_pointer = record { name = []; args = []; types = []; fields = RawPtr ∷ [] }

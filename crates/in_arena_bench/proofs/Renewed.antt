@@ -1,18 +1,15 @@
 -- What a turn changes of an arena, and how one becomes full.
 use Rattle.std.proofs.Common.{◌≡◌, ◌+◌, ◌-◌, ◌<◌, ◌≤◌, ◌⊎◌, inl, inr, ℕ, zero, suc, cond, List, [], ◌∷◌, length, set, get_or, take, drop, replicate, count_by, Some, sym, ap, ◌∙◌, subst, ⊎_elim, arith, length-set, get_or-set_same, get_or-set_other}
 use Rattle.std.proofs.lemmas.Bool.{cases_eq, cases_lt}
-use Rattle.std.proofs.lemmas.List.{set-set, get_or_past, get_or-replicate, length-replicate, get_or-take, get_or-drop}
+use Rattle.std.proofs.lemmas.List.{set-set, get_or-replicate, length-replicate, get_or-take, get_or-drop}
 use Rattle.std.proofs.lemmas.List.Sums.{sum_by-cons}
 use Rattle.in_arena.specs.Arenas.{ArenaView, LeaseView, Leases, NoneLeased, free_of, changed, state_at, written}
 use Rattle.in_arena.specs.States.{State, Vacant, Leased, Live, IsLeased, is_vacant, places}
 use Rattle.in_arena.specs.declared.content.CellClass.TheVariants.{Small, Large}
 use Rattle.in_arena.specs.declared.content.CellClass.{CellClass}
 use Rattle.in_arena.specs.declared.content.End.{End}
+use Rattle.in_arena.proofs.Arenas.{vacant_inside}
 use Rattle.in_arena_bench.specs.Turns.{AreLive, AreFreeOrLive, Keeps}
-
--- no cell is vacant past the last one
-inside : (a : ArenaView) (n : ℕ) → state_at a n ≡ Vacant → n < length a.states
-inside a n free = ⊎_elim (λ lt. lt) (λ past. absurd (subst IsLeased (sym (get_or_past a.states n Leased past) ∙ free) tt)) (cases_lt n (length a.states))
 
 -- where all cells but one are live, it is the one that is leased
 pub renewed : (a r b d : ArenaView) (c : CellClass) (n k word : ℕ) (ends : List End) (l m : LeaseView) → AreLive a → r ≡ changed a n Vacant → Leases r c (Some l) b → m ≡ written l (Live word ends) → d ≡ changed b m.number m.state → 3 ≤ length ends → k ≡ m.number → AreLive d × Keeps a d × (k < length d.states)
@@ -24,7 +21,7 @@ renewed a r b d c n k word ends l m live freed y write e three at =
     in
     let long_r : length r.states ≡ length a.states = ap length first ∙ length-set a.states n Vacant in
     let long : length d.states ≡ length a.states = ap length states ∙ length-set r.states q x ∙ long_r in
-    let lt_r : q < length r.states = inside r q y.2 in
+    let lt_r : q < length r.states = vacant_inside r q y.2 in
     let lt : q < length a.states = omega (arith, lt_r, long_r) in
     let here : state_at d q ≡ x = ap (λ l. get_or l q Leased) states ∙ get_or-set_same r.states q x Leased lt_r in
     let elsewhere : (i : ℕ) → (i ≡ n → ⊥) → state_at r i ≡ state_at a i = λ i other. ap (λ l. get_or l i Leased) first ∙ get_or-set_other a.states n i Vacant Leased other in

@@ -6,11 +6,11 @@ use Rattle.in_syntax.specs.declared.faults.Fault.{Fault}
 use Rattle.in_syntax.specs.declared.faults.Fault.TheVariants.{Refused, Memory}
 use Rattle.in_syntax.specs.Answers.{Then}
 use Rattle.in_syntax.specs.declared.tree.Source.{Source}
-use Rattle.in_syntax.specs.Parsing.{IsOfText}
+use Rattle.in_syntax.specs.Parsing.{IsOfText, Parses}
 use Rattle.in_syntax.proofs.Sized.{tree_sized}
 use Rattle.in_symbols.specs.Tables.{Tables}
 use Rattle.in_net.specs.Rules.{RuleParts}
-use Rattle.in_check.specs.Checking.{BuildsRules, ChecksTree, IsAccepted, IsChecked, IsProgramOf}
+use Rattle.in_check.specs.Checking.{BuildsRules, ChecksNames, IsAccepted, IsChecked, IsProgramOf}
 use Rattle.in_check.specs.Programs.{Program}
 
 pub then_refused : {A B : Type 0} (P : Result A Fault → Type 0) (Q : A → Result B Fault → Type 0) (e : Fault) → P (Err e) → Then P Q (Err e)
@@ -39,7 +39,7 @@ program_of text p (s, parses, (t, tabulates, (rules, builds_rules, (n, builds, (
     })
 
 -- the whole chain
-pub chain_of : (text : List ℕ) (x : Result Program Fault) → ChecksTree text x → IsChecked text x
+pub chain_of : (text : List ℕ) (x : Result Program Fault) → Then (Parses text) ChecksNames x → IsChecked text x
 unfolding IsChecked
 chain_of text x h = h
 

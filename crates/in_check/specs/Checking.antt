@@ -62,27 +62,28 @@ TypePasses t rules n (Err (Memory e)) = ⊥
 
 -- ---- pass by pass: each answers, and, where it is Ok, the rest of them do
 
--- what the passes answered is kept
-abbrev pub Keeps : Tables → List RuleParts → Parts → Cells → List Certificate → Certificate → Result Program Fault → Type 0
-Keeps t rules n numbers cs c (Ok p) = p ≡ record { tables = t; rules = rules; net = n; numbers = numbers; rule_certificates = cs; net_certificate = c }
-Keeps t rules n numbers cs c (Err (Refused r)) = ⊥
-Keeps t rules n numbers cs c (Err (Memory e)) = Unit {0}
+module _ (t : Tables) (rules : List RuleParts) (n : Parts) where
+  -- what the passes answered is kept
+  abbrev pub Keeps : Cells → List Certificate → Certificate → Result Program Fault → Type 0
+  Keeps numbers cs c (Ok p) = p ≡ record { tables = t; rules = rules; net = n; numbers = numbers; rule_certificates = cs; net_certificate = c }
+  Keeps numbers cs c (Err (Refused r)) = ⊥
+  Keeps numbers cs c (Err (Memory e)) = Unit {0}
 
--- the steps of the net
-abbrev pub ChecksNetSteps : Tables → List RuleParts → Parts → Cells → List Certificate → Result Program Fault → Type 0
-ChecksNetSteps t rules n numbers cs = Then (CertifiesNet t n) (Keeps t rules n numbers cs)
+  -- the steps of the net
+  abbrev pub ChecksNetSteps : Cells → List Certificate → Result Program Fault → Type 0
+  ChecksNetSteps numbers cs = Then (CertifiesNet t n) (Keeps numbers cs)
 
--- the steps of the rules, and the rest
-abbrev pub ChecksRuleSteps : Tables → List RuleParts → Parts → Cells → Result Program Fault → Type 0
-ChecksRuleSteps t rules n numbers = Then (CertifiesRules t rules) (ChecksNetSteps t rules n numbers)
+  -- the steps of the rules, and the rest
+  abbrev pub ChecksRuleSteps : Cells → Result Program Fault → Type 0
+  ChecksRuleSteps numbers = Then (CertifiesRules t rules) (ChecksNetSteps numbers)
 
--- one rule for each pair, and the rest
-abbrev pub ChecksPairs : Tables → List RuleParts → Parts → Result Program Fault → Type 0
-ChecksPairs t rules n = Then (Covers t rules) (ChecksRuleSteps t rules n)
+  -- one rule for each pair, and the rest
+  abbrev pub ChecksPairs : Result Program Fault → Type 0
+  ChecksPairs = Then (Covers t rules) ChecksRuleSteps
 
--- the types, and the rest
-abbrev pub ChecksTypes : Tables → List RuleParts → Parts → Result Program Fault → Type 0
-ChecksTypes t rules n = Then (TypePasses t rules n) (λ u. ChecksPairs t rules n)
+  -- the types, and the rest
+  abbrev pub ChecksTypes : Result Program Fault → Type 0
+  ChecksTypes = Then (TypePasses t rules n) (λ u. ChecksPairs)
 
 -- the net, and the rest
 abbrev pub ChecksNet : Source → Tables → List RuleParts → Result Program Fault → Type 0
@@ -96,13 +97,9 @@ ChecksRules s t = Then (BuildsRules s t) (ChecksNet s t)
 abbrev pub ChecksNames : Source → Result Program Fault → Type 0
 ChecksNames s = Then (Tabulates s) (ChecksRules s)
 
--- the tree, and the rest
-abbrev pub ChecksTree : List ℕ → Result Program Fault → Type 0
-ChecksTree text = Then (Parses text) ChecksNames
-
--- the program that all passes accept, or the refusal of the first that refuses. (Who only holds a program need not look inside.)
+-- the tree, and the rest: the program that all passes accept, or the refusal of the first that refuses. (Who only holds a program need not look inside.)
 unfoldable pub IsChecked : List ℕ → Result Program Fault → Type 0
-IsChecked text = ChecksTree text
+IsChecked text = Then (Parses text) ChecksNames
 
 -- the program of a text that all passes accept
 abbrev pub IsAccepted : List ℕ → Program → Type 0

@@ -108,14 +108,12 @@ pub record AreAgents {A : Type 0} (n : Net A) (xs : List A) : Type 0 where
   pub all : (x : A) → IsSome (n.symbol x) ↔ IsAmong x xs
   pub once : AreDifferent xs
 
--- it stands nowhere in the list, and exactly once
-abbrev pub StandsNowhere : {X : Type 0} → X → List X → Type 0
-StandsNowhere x [] = Unit {0}
-StandsNowhere x (y ∷ ys) = (y ≢ x) × StandsNowhere x ys
-
-abbrev pub StandsOnce : {X : Type 0} → X → List X → Type 0
-StandsOnce x [] = ⊥
-StandsOnce x (y ∷ ys) = ((y ≡ x) × StandsNowhere x ys) ⊎ ((y ≢ x) × StandsOnce x ys)
+-- it stands exactly so many times in the list
+abbrev pub StandsTimes : {X : Type 0} → ℕ → X → List X → Type 0
+StandsTimes zero x [] = Unit {0}
+StandsTimes (suc n) x [] = ⊥
+StandsTimes zero x (y ∷ ys) = (y ≢ x) × StandsTimes zero x ys
+StandsTimes (suc n) x (y ∷ ys) = ((y ≡ x) × StandsTimes n x ys) ⊎ ((y ≢ x) × StandsTimes (suc n) x ys)
 
 -- the agents of these pairs
 abbrev pub agents_of : {A : Type 0} → List (A × A) → List A
@@ -133,10 +131,6 @@ abbrev pub IsAuxiliary : {A : Type 0} → Point A → Type 0
 IsAuxiliary (Port y zero) = ⊥
 IsAuxiliary (Port y (suc i)) = Unit {0}
 IsAuxiliary (Free k) = Unit {0}
-
-abbrev pub StandsTwice : {X : Type 0} → X → List X → Type 0
-StandsTwice x [] = ⊥
-StandsTwice x (y ∷ ys) = ((y ≡ x) × StandsOnce x ys) ⊎ ((y ≢ x) × StandsTwice x ys)
 
 -- a name is of an agent of the net, a variable of a wire without principal ports
 abbrev pub IsOfNet : {A : Type 0} → Net A → TextPart A → Type 0

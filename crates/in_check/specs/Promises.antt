@@ -9,7 +9,7 @@ use Rattle.in_net.specs.Graphs.{CrossingCircle, ViciousCircle, graph_of}
 use Rattle.in_net.specs.Interactions.{Redex, IsNaming, ClosedPath}
 use Rattle.in_net.specs.Nets.{Point, Port, Net, IsNet}
 use Rattle.in_typing.specs.TypedNets.{IsTypedNet}
-use Rattle.in_check.specs.NetText.{Words, TextPart, Head, Variable, text, text_parts, AreAgents, numbers, numbered, StandsOnce, StandsTwice, IsQueue, IsAuxiliary, IsOfNet}
+use Rattle.in_check.specs.NetText.{Words, TextPart, Head, Variable, text, text_parts, AreAgents, numbers, numbered, StandsTimes, IsQueue, IsAuxiliary, IsOfNet}
 use Rattle.in_check.specs.Runs.{IsRenamed, IsPairWithRule, IsInteraction, Reached, HasEnded}
 use Rattle.in_check.specs.Systems.{System, IsMatching, HasOneRule, IsSoundSystem, system_of}
 use Rattle.in_check.specs.Checking.{IsAccepted}
@@ -41,10 +41,10 @@ LeadsOn n = (x : ℕ) → IsSome (n.symbol x) → MeetsPair n x ⊎ ((k : ℕ) �
 -- these parts of a text hold each agent once, each wire without principal ports at each of its two points once, and nothing else of the
 -- kind. Each variable's number is written twice, at one wire
 pub record HoldsAll (n : Net ℕ) (parts : List (TextPart ℕ)) : Type 0 where
-  pub agents : (x : ℕ) → IsSome (n.symbol x) → StandsOnce (Head x) parts
-  pub variables : (u v : Point ℕ) → n.partner u ≡ Some v → IsAuxiliary u → IsAuxiliary v → StandsOnce (Variable u v) parts
+  pub agents : (x : ℕ) → IsSome (n.symbol x) → StandsTimes 1 (Head x) parts
+  pub variables : (u v : Point ℕ) → n.partner u ≡ Some v → IsAuxiliary u → IsAuxiliary v → StandsTimes 1 (Variable u v) parts
   pub others : AllByRecursion (IsOfNet n) parts
-  pub twice : (k : ℕ) → IsAmong k (numbers nat_eq [] parts) → StandsTwice k (numbers nat_eq [] parts)
+  pub twice : (k : ℕ) → IsAmong k (numbers nat_eq [] parts) → StandsTimes 2 k (numbers nat_eq [] parts)
   pub one_wire : (k : ℕ) (u v : Point ℕ) → IsAmong (k, u) (numbered (numbers nat_eq [] parts) parts) → IsAmong (k, v) (numbered (numbers nat_eq [] parts) parts) → (u ≡ v) ⊎ (n.partner u ≡ Some v)
 
 -- its agents and its active pairs can be listed, each once; and its text holds all, whatever the names are, and in whatever order its

@@ -1,5 +1,5 @@
 -- Where the table holds all rules and has no gap, the rules are complete; else the first gap is the first pair without a rule.
-use Rattle.std.proofs.Common.{◌≡◌, ◌⊎◌, ◌↔◌, ℕ, ◌<◌, ◌≤◌, Bool, true, false, nat_eq, ◌&&◌, List, length, Option, Some, None, IsSome, refl, sym, ◌∙◌, ap, subst, inl, inr, arith}
+use Rattle.std.proofs.Common.{◌≡◌, ◌⊎◌, ℕ, ◌<◌, ◌≤◌, Bool, true, false, nat_eq, ◌&&◌, List, length, Option, Some, None, IsSome, refl, sym, ◌∙◌, ap, subst, inl, inr, arith}
 use Rattle.std.specs.List.{AllByRecursion}
 use Rattle.std.proofs.lemmas.Bool.{cases_lt, cases_order, and_parts}
 use Rattle.std.proofs.lemmas.Option.{none-some, same_Some, slice_get_within}
@@ -8,7 +8,7 @@ use Rattle.in_symbols.specs.Tables.{Tables, port_at, is_constructor, are_opposit
 use Rattle.in_net.specs.Rules.{RuleParts}
 use Rattle.in_net.proofs.Stepping.Sites.{equal_turned}
 use Rattle.in_cover.specs.declared.table.RuleNo.{RuleNo}
-use Rattle.in_cover.specs.Cover.{IsPair, IsOfPair, IsRuleFor, IsComplete, IsTableOf, IsMissing, IsMissingAt, IsFirstMissing}
+use Rattle.in_cover.specs.Cover.{IsPair, IsOfPair, IsRuleFor, IsComplete, Numbers, IsTableOf, IsMissing, IsMissingAt, IsFirstMissing}
 use Rattle.in_cover.specs.Covering.{HoldsBelow, IsGap, HasNoGapBelow, HasNoGapIn}
 use Rattle.in_cover.specs.Table.{Cells, rule_at}
 use Rattle.in_cover.proofs.Numbered.{turn_rule}
@@ -41,7 +41,7 @@ no_pair t c d same h =
 -- ---- the whole table
 
 module _ (t : Tables) (rules : List RuleParts) (table : Cells) (pairs : AllByRecursion (IsOfPair t) rules) (holds : HoldsBelow rules (length rules) table) where
-  number : (c d : ℕ) (k : RuleNo) → (rule_at table c d ≡ Some k) ↔ IsRuleFor rules k.0 c d
+  number : Numbers table rules
   number c d k = ((λ e. ((holds c d k).0 e).1), (λ h. (holds c d k).1 (slice_get_within rules k.0 h.rule h.stands, h)))
 
   turned : (c d : ℕ) (k : RuleNo) → rule_at table c d ≡ Some k → rule_at table d c ≡ Some k

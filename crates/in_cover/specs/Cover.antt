@@ -37,9 +37,13 @@ pub record IsComplete (t : Tables) (rules : List RuleParts) : Type 0 where
   pub at_most_one : (c d j k : ℕ) → IsRuleFor rules j c d → IsRuleFor rules k c d → j ≡ k
   pub pairs_alone : (c d k : ℕ) → IsRuleFor rules k c d → IsPair t c d
 
--- the table has a number for two symbols exactly where the rule of that number is for them, and it has one for each pair
+-- the table has a number for two symbols exactly where the rule of that number is for them
+abbrev pub Numbers : Cells → List RuleParts → Type 0
+Numbers table rules = (c d : ℕ) (k : RuleNo) → (rule_at table c d ≡ Some k) ↔ IsRuleFor rules k.0 c d
+
+-- .. and it has one for each pair
 pub record IsTableOf (t : Tables) (rules : List RuleParts) (table : Cells) : Type 0 where
-  pub numbers : (c d : ℕ) (k : RuleNo) → (rule_at table c d ≡ Some k) ↔ IsRuleFor rules k.0 c d
+  pub numbers : Numbers table rules
   pub pairs : (c d : ℕ) → IsPair t c d → IsSome (rule_at table c d)
 
 -- ---- a second rule

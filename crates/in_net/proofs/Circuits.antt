@@ -51,11 +51,12 @@ each_any P r [] = tt
 each_any P r (x ∷ xs) = (inl (r x), all_map (λ y. AnyByRecursion (P y) xs) (λ y. AnyByRecursion (P y) (x ∷ xs)) (λ y h. inr h) xs (each_any P r xs))
 
 -- a port by which some passage enters, or leaves
-abbrev pub IsEntered : {V : Type 0} → List (Passage V) → V × ℕ → Type 0
-IsEntered ps v = AnyByRecursion (λ p. entered p ≡ v) ps
+module _ {V : Type 0} (ps : List (Passage V)) (port : V × ℕ) where
+  abbrev pub IsEntered : Type 0
+  IsEntered = AnyByRecursion (λ p. entered p ≡ port) ps
 
-abbrev pub IsLeft : {V : Type 0} → List (Passage V) → V × ℕ → Type 0
-IsLeft ps v = AnyByRecursion (λ p. left p ≡ v) ps
+  abbrev pub IsLeft : Type 0
+  IsLeft = AnyByRecursion (λ p. left p ≡ port) ps
 
 pub not_entered : {V : Type 0} (m : V) (v : V × ℕ) (ps : List (Passage V)) → AllByRecursion (λ q. m ≢ q.node) ps → IsEntered ps v → m ≡ v.0 → ⊥
 not_entered m v [] h e i = e

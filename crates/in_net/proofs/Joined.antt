@@ -27,7 +27,8 @@ use Rattle.in_net.proofs.Known.{AreDifferent}
 use Rattle.in_net.proofs.NamedSpots.{AreNamesRead}
 use Rattle.in_net.proofs.NetRead.{IsNetRead}
 use Rattle.in_net.proofs.Order.{root_places, root_before}
-use Rattle.in_net.proofs.Ways.{nth_seen, IsMet, kind_of, IsOpen, IsWay, IsSeenAt, IsJoiningAt}
+use Rattle.in_net.proofs.Standing.{IsStanding}
+use Rattle.in_net.proofs.Ways.{nth_seen, IsMet, kind_of, IsOpen, IsWay, IsJoiningAt}
 use Rattle.in_net.proofs.Naming.{AreOfText, IsLast, step_on}
 
 -- ---- a name that stands twice stands no third time
@@ -215,7 +216,7 @@ module _ (t : Tables) (b : Body) (free count : ℕ) (r : Reading) (net : IsNetRe
     way = λ i lt o. start_way i lt (start_open i lt (nth_spot spots i) refl o);
     used = λ i m p lt is met. absurd (subst IsMet (nth_none (length r.names) m) met);
     fresh = λ i k m lt is unmet. let end = names.end i k m lt is in net.alone i end.1;
-    seen = λ m lt. subst (IsSeenAt spots 0 m) (sym (nth_none (length r.names) m)) (λ i x. absurd (omega (arith, x)));
+    seen = λ m lt. subst (IsStanding spots 0 m) (sym (nth_none (length r.names) m)) (λ i x. absurd (omega (arith, x)));
     closed = λ p e. cc;
   }
 

@@ -40,6 +40,7 @@ pub mod SameNet
 pub mod Single
 pub mod Small
 pub mod Sound
+pub mod Standing
 pub mod Stepping
 pub mod Steps
 pub mod Terms

@@ -20,7 +20,8 @@ use Rattle.in_base.specs.Lists.{IsAmong}
 use Rattle.in_net.specs.TextNet.{Body, IsVariable, name_of, place_of}
 use Rattle.in_net.proofs.Kept.{IsHeldAt}
 use Rattle.in_net.proofs.Links.{all_at}
-use Rattle.in_net.proofs.Miscounts.{Has, IsThirdAt, IsOnlyAt, IsStanding, done, same_seen, miscounted_least}
+use Rattle.in_net.proofs.Miscounts.{IsThirdAt, IsOnlyAt, done, same_seen, miscounted_least}
+use Rattle.in_net.proofs.Standing.{Has, IsStanding}
 use Rattle.in_net.specs.declared.counting.Seen.{Seen}
 use Rattle.in_net.specs.declared.counting.Seen.TheVariants.{Never, Once, Twice, Often}
 use Rattle.in_net.proofs.NamedSpots.{AreNamesRead}

@@ -20,7 +20,8 @@ use Rattle.in_net.proofs.Sound.{named}
 use Rattle.in_net.proofs.Read.{IsNamed}
 use Rattle.in_net.proofs.Joins.{length-merged}
 use Rattle.in_net.proofs.Merged.{IsClosed, IsOpened, merges}
-use Rattle.in_net.proofs.Ways.{nth_seen, IsMet, IsOpen, IsWay, IsSeenAt, IsJoiningAt, spot_named, name_joint, free_joint, on_through, back_through, from_free, to_free, closes}
+use Rattle.in_net.proofs.Standing.{IsStanding, standing_on, standing_more}
+use Rattle.in_net.proofs.Ways.{nth_seen, IsMet, IsOpen, IsWay, IsJoiningAt, spot_named, name_joint, free_joint, on_through, back_through, from_free, to_free, closes}
 
 -- the spots are a text's: each has its name there, free ends come first and have different names, occurrences different places
 pub record AreOfText (t : Tables) (b : Body) (names : List (List ℕ)) (spots : List Spot) : Type 0 where
@@ -49,21 +50,6 @@ earlier_is (Some q) (Some r) p e = by_test (nat_lt r.from q.from) e
     by_test : (x : Bool) → (if x then Some r else Some q) ≡ Some p → (Some q ≡ Some p) ⊎ (Some r ≡ Some p)
     by_test true e = inr e
     by_test false e = inl e
-
--- no spot beyond has the name, and those before it are as they were
-seen_on : (spots : List Spot) (at m n : ℕ) (s : Seen) → counting.name_of (nth_spot spots at) ≡ Some m → n ≢ m → IsSeenAt spots at n s → IsSeenAt spots (at + 1) n s
-seen_on spots at m n Never name differ h = λ i lt e. part i e lt (cases_lt i at)
-  where
-    part : (i : ℕ) → counting.name_of (nth_spot spots i) ≡ Some n → i < at + 1 → (i < at) ⊎ (at ≤ i) → ⊥
-    part i e lt (inl a) = h i a e
-    part i e lt (inr a) = let same : i ≡ at = omega (arith, a, lt) in differ (same_Some n m (sym e ∙ ap (λ k. counting.name_of (nth_spot spots k)) same ∙ name))
-seen_on spots at m n (Once x) name differ h = (omega (arith, h.0), h.1, λ i lt e. part i e (cases_lt i at) lt)
-  where
-    part : (i : ℕ) → counting.name_of (nth_spot spots i) ≡ Some n → (i < at) ⊎ (at ≤ i) → i < at + 1 → i ≡ x
-    part i e (inl a) lt = h.2 i a e
-    part i e (inr a) lt = let same : i ≡ at = omega (arith, a, lt) in absurd (differ (same_Some n m (sym e ∙ ap (λ k. counting.name_of (nth_spot spots k)) same ∙ name)))
-seen_on spots at m n Twice name differ h = tt
-seen_on spots at m n Often name differ h = tt
 
 -- what holds of both holds of the earlier
 earlier_by : {P : Place → Type 0} (c d : Option Place) → ((x : Place) → c ≡ Some x → P x) → ((x : Place) → d ≡ Some x → P x) → (x : Place) → earlier c d ≡ Some x → P x
@@ -121,7 +107,7 @@ module _ (t : Tables) (b : Body) (names : List (List ℕ)) (spots : List Spot) (
 
   pub two : IsSecond t b spots j at m a
   two =
-      let first = subst (IsSeenAt spots at m) seen_is (h.seen m m_in) in
+      let first = subst (IsStanding spots at m) seen_is (h.seen m m_in) in
       let less = first.0 in
       let a_in : a < length spots = omega (arith, less, at_in) in
       let differ : a ≢ at = λ e. absurd (omega (arith, e, less)) in
@@ -153,9 +139,12 @@ module _ (t : Tables) (b : Body) (names : List (List ℕ)) (spots : List Spot) (
   q_not_at : q ≢ at
   q_not_at = h.apart at at_in two.open_at
 
-  seen_then : (n : ℕ) → n < count → (n ≡ m) ⊎ (n ≢ m) → IsSeenAt spots (at + 1) n (nth_seen seen2 n)
-  seen_then n lt (inl e) = subst (IsSeenAt spots (at + 1) n) (sym (ap (nth_seen seen2) e ∙ get_or-set_same j.seen m Twice Never (omega (arith, m_in, h.count)))) tt
-  seen_then n lt (inr e) = subst (IsSeenAt spots (at + 1) n) (sym (seen_other j.seen m n Twice e)) (seen_on spots at m n (nth_seen j.seen n) name e (h.seen n lt))
+  seen_then : (n : ℕ) → n < count → (n ≡ m) ⊎ (n ≢ m) → IsStanding spots (at + 1) n (nth_seen seen2 n)
+  seen_then n lt (inl e) =
+      subst (λ n. IsStanding spots (at + 1) n (nth_seen seen2 n)) (sym e)
+      (subst (IsStanding spots (at + 1) m) (sym (get_or-set_same j.seen m Twice Never (omega (arith, m_in, h.count))))
+      (standing_more spots at m (Once a) name (subst (IsStanding spots at m) seen_is (h.seen m m_in))))
+  seen_then n lt (inr e) = subst (IsStanding spots (at + 1) n) (sym (seen_other j.seen m n Twice e)) (standing_on spots at n (nth_seen j.seen n) (λ here. e (same_Some n m (sym here ∙ name))) (h.seen n lt))
 
   way_here : (i : ℕ) → i < length spots → IsOpen j.seen (nth_spot spots i) → IsWay t b (nth_spot spots i) (nth_spot spots (nth_link links i).to) (nth_link links i).place
   way_here i lt open_ = h.way i lt open_
@@ -446,7 +435,7 @@ module _ (seen : List Seen) (m : ℕ) (x : Seen) (there : nth_seen (set seen m x
 
 -- the first spot of a name, or a third one, joins nothing
 module _ (t : Tables) (b : Body) (names : List (List ℕ)) (spots : List Spot) (count at m : ℕ) (j : Joining) (h : IsJoiningAt t b spots count at j) (m_in : m < count) (x : Seen)
-    (name : counting.name_of (nth_spot spots at) ≡ Some m) (same : IsMet x → IsMet (nth_seen j.seen m)) (still : IsMet (nth_seen j.seen m) → IsMet x) (right : IsSeenAt spots (at + 1) m x) where
+    (name : counting.name_of (nth_spot spots at) ≡ Some m) (same : IsMet x → IsMet (nth_seen j.seen m)) (still : IsMet (nth_seen j.seen m) → IsMet x) (right : IsStanding spots (at + 1) m x) where
   abbrev seen3 : List Seen
   seen3 = set j.seen m x
 
@@ -459,9 +448,9 @@ module _ (t : Tables) (b : Body) (names : List (List ℕ)) (spots : List Spot) (
   end_back (Free k n) o = met_back j.seen m x there3 same still n o
   end_back (Occurrence n p) o = λ met. o (met_on j.seen m x there3 same still n met)
 
-  seen_3 : (n : ℕ) → n < count → (n ≡ m) ⊎ (n ≢ m) → IsSeenAt spots (at + 1) n (nth_seen seen3 n)
-  seen_3 n lt (inl e) = subst (λ n. IsSeenAt spots (at + 1) n (nth_seen (set j.seen m x) n)) (sym e) (subst (IsSeenAt spots (at + 1) m) (sym there3) right)
-  seen_3 n lt (inr e) = subst (IsSeenAt spots (at + 1) n) (sym (seen_other j.seen m n x e)) (seen_on spots at m n (nth_seen j.seen n) name e (h.seen n lt))
+  seen_3 : (n : ℕ) → n < count → (n ≡ m) ⊎ (n ≢ m) → IsStanding spots (at + 1) n (nth_seen seen3 n)
+  seen_3 n lt (inl e) = subst (λ n. IsStanding spots (at + 1) n (nth_seen (set j.seen m x) n)) (sym e) (subst (IsStanding spots (at + 1) m) (sym there3) right)
+  seen_3 n lt (inr e) = subst (IsStanding spots (at + 1) n) (sym (seen_other j.seen m n x e)) (standing_on spots at n (nth_seen j.seen n) (λ here. e (same_Some n m (sym here ∙ name))) (h.seen n lt))
 
   pub counted_on : IsJoiningAt t b spots count (at + 1) (record { links = j.links; seen = seen3; closed = earlier j.closed None })
   counted_on = record {
@@ -488,45 +477,26 @@ unnamed_on t b spots count at j h none = record {
   way = h.way;
   used = h.used;
   fresh = h.fresh;
-  seen = λ n lt. on n (nth_seen j.seen n) (h.seen n lt);
+  seen = λ n lt. standing_on spots at n (nth_seen j.seen n) (λ here. none-some n (sym none ∙ here)) (h.seen n lt);
   closed = h.closed;
 }
-  where
-    here : (n i : ℕ) → counting.name_of (nth_spot spots i) ≡ Some n → at ≤ i → i < at + 1 → ⊥
-    here n i e le lt = let same : i ≡ at = omega (arith, le, lt) in let wrong : None ≡ Some n = sym none ∙ ap (λ k. counting.name_of (nth_spot spots k)) (sym same) ∙ e in cc
-
-    on : (n : ℕ) (s : Seen) → IsSeenAt spots at n s → IsSeenAt spots (at + 1) n s
-    on n Never s_ = λ i lt e. part i e lt (cases_lt i at)
-      where
-        part : (i : ℕ) → counting.name_of (nth_spot spots i) ≡ Some n → i < at + 1 → (i < at) ⊎ (at ≤ i) → ⊥
-        part i e lt (inl a) = s_ i a e
-        part i e lt (inr a) = here n i e a lt
-    on n (Once x) s_ = (omega (arith, s_.0), s_.1, λ i lt e. part i e lt (cases_lt i at))
-      where
-        part : (i : ℕ) → counting.name_of (nth_spot spots i) ≡ Some n → i < at + 1 → (i < at) ⊎ (at ≤ i) → i ≡ x
-        part i e lt (inl a) = s_.2 i a e
-        part i e lt (inr a) = absurd (here n i e a lt)
-    on n Twice s_ = tt
-    on n Often s_ = tt
 
 -- no later spot has the name of this one, if it was met once before
 abbrev pub IsLast : List Spot → ℕ → List Seen → Type 0
 IsLast spots at seen = (m a : ℕ) → counting.name_of (nth_spot spots at) ≡ Some m → nth_seen seen m ≡ Once a → (i : ℕ) → at < i → i < length spots → counting.name_of (nth_spot spots i) ≢ Some m
 
 module _ (t : Tables) (b : Body) (names : List (List ℕ)) (spots : List Spot) (of : AreOfText t b names spots) (at : ℕ) (j : Joining) (h : IsJoiningAt t b spots (length names) at j) (at_in : at < length spots) (last : IsLast spots at j.seen) where
+  again : (m : ℕ) (s : Seen) → counting.name_of (nth_spot spots at) ≡ Some m → nth_seen j.seen m ≡ s → IsStanding spots (at + 1) m (counting.seen_again s at)
+  again m s name is = standing_more spots at m s name (subst (IsStanding spots at m) is (h.seen m (of.numbers at m at_in name)))
+
   named_on : (m : ℕ) (s : Seen) → counting.name_of (nth_spot spots at) ≡ Some m → nth_seen j.seen m ≡ s →
       IsJoiningAt t b spots (length names) (at + 1) (record { links = (met j.links s at).0; seen = set j.seen m (counting.seen_again s at); closed = earlier j.closed (met j.links s at).1 })
   named_on m Never name is =
       let m_in = of.numbers at m at_in name in
-      counted_on t b names spots (length names) at m j h m_in (Once at) name (λ x. absurd x) (λ x. absurd (subst IsMet is x))
-      (omega arith, name, λ i lt e. part i e lt (cases_lt i at))
-    where
-      part : (i : ℕ) → counting.name_of (nth_spot spots i) ≡ Some m → i < at + 1 → (i < at) ⊎ (at ≤ i) → i ≡ at
-      part i e lt (inl a) = absurd (subst (IsSeenAt spots at m) is (h.seen m (of.numbers at m at_in name)) i a e)
-      part i e lt (inr a) = omega (arith, a, lt)
+      counted_on t b names spots (length names) at m j h m_in (Once at) name (λ x. absurd x) (λ x. absurd (subst IsMet is x)) (again m Never name is)
   named_on m (Once a) name is = merged_on t b names spots of (length names) at m a j h at_in (of.numbers at m at_in name) name is (last m a name is)
-  named_on m Twice name is = counted_on t b names spots (length names) at m j h (of.numbers at m at_in name) Often name (λ x. subst IsMet (sym is) tt) (λ x. tt) tt
-  named_on m Often name is = counted_on t b names spots (length names) at m j h (of.numbers at m at_in name) Often name (λ x. subst IsMet (sym is) tt) (λ x. tt) tt
+  named_on m Twice name is = counted_on t b names spots (length names) at m j h (of.numbers at m at_in name) Often name (λ x. subst IsMet (sym is) tt) (λ x. tt) (again m Twice name is)
+  named_on m Often name is = counted_on t b names spots (length names) at m j h (of.numbers at m at_in name) Often name (λ x. subst IsMet (sym is) tt) (λ x. tt) (again m Often name is)
 
   step_by : (o : Option ℕ) → counting.name_of (nth_spot spots at) ≡ o → IsJoiningAt t b spots (length names) (at + 1) (joins_named j at o)
   step_by None is = unnamed_on t b spots (length names) at j h is

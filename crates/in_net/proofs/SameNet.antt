@@ -7,6 +7,7 @@ use Rattle.in_syntax.specs.declared.tree.SourceNet.{SourceNet}
 use Rattle.in_syntax.specs.declared.tree.SourceRule.{SourceRule}
 use Rattle.in_syntax.specs.Order.{Rises}
 use Rattle.in_symbols.specs.Tables.{Tables}
+use Rattle.in_net.specs.Laws.{HasPointsOf}
 use Rattle.in_net.specs.declared.nets.AgentNo.{AgentNo}
 use Rattle.in_net.specs.declared.nets.Cell.{Cell}
 use Rattle.in_net.specs.declared.nets.FreeEnd.{FreeEnd}
@@ -200,7 +201,7 @@ module _ (t : Tables) (b : Body) (n m : Parts) (single : AreSingle t b) (apart :
   cells_pair : (x : ℕ) → SameCell (slice_get n.cells x) (slice_get m.cells x)
   cells_pair x = same_cells t (agents_of_body t b) n.cells m.cells x h.one.agents h.other.agents
 
-  point_same : (p : Point) → IsPointOf n p → IsPointOf m p
+  point_same : HasPointsOf m n
   point_same (Port x i) there = by_cells (slice_get n.cells x.0) (slice_get m.cells x.0) (cells_pair x.0) there
     where
       by_cells : (c d : Option (Option Cell)) → SameCell c d → IsSomeAnd (option_and_then (λ c. c) c) (λ c. i < length c.ends) → IsSomeAnd (option_and_then (λ c. c) d) (λ c. i < length c.ends)

@@ -14,6 +14,7 @@ use Rattle.in_net.specs.TextNet as text
 use Rattle.in_net.specs.TextNet.{Body, Kind, placed, of_name, NameJoint, IsOccurrence, Chain, IsLastOf, IsClosedWireOf, name_of, place_of}
 use Rattle.in_net.proofs.Sound.{named}
 use Rattle.in_net.proofs.Read.{IsNamed}
+use Rattle.in_net.proofs.Standing.{IsStanding}
 use Rattle.in_net.proofs.Chains.{through, to_name, later_last, later_first}
 
 abbrev pub nth_seen : List Seen → ℕ → Seen
@@ -45,13 +46,6 @@ pub record IsWay (t : Tables) (b : Body) (s u : Spot) (place : Place) : Type 0 w
   pub chain : Chain t b (kind_of s) (kind_of u) (named s) (named u) places
   pub last : IsLastOf place places
 
--- what is known of a name before a spot
-abbrev pub IsSeenAt : List Spot → ℕ → ℕ → Seen → Type 0
-IsSeenAt spots at m Never = (i : ℕ) → i < at → counting.name_of (nth_spot spots i) ≢ Some m
-IsSeenAt spots at m (Once a) = (a < at) × (counting.name_of (nth_spot spots a) ≡ Some m) × ((i : ℕ) → i < at → counting.name_of (nth_spot spots i) ≡ Some m → i ≡ a)
-IsSeenAt spots at m Twice = Unit {0}
-IsSeenAt spots at m Often = Unit {0}
-
 -- what is joined before a spot
 pub record IsJoiningAt (t : Tables) (b : Body) (spots : List Spot) (names at : ℕ) (j : Joining) : Type 0 where
   pub size : length j.links ≡ length spots
@@ -62,7 +56,7 @@ pub record IsJoiningAt (t : Tables) (b : Body) (spots : List Spot) (names at : �
   pub way : (i : ℕ) → i < length spots → IsOpen j.seen (nth_spot spots i) → IsWay t b (nth_spot spots i) (nth_spot spots (nth_link j.links i).to) (nth_link j.links i).place
   pub used : (i m : ℕ) (p : Place) → i < length spots → nth_spot spots i ≡ Occurrence m p → IsMet (nth_seen j.seen m) → (nth_link j.links i).to ≡ i
   pub fresh : (i k m : ℕ) → i < length spots → nth_spot spots i ≡ Free k m → (IsMet (nth_seen j.seen m) → ⊥) → nth_link j.links i ≡ self_link i
-  pub seen : (m : ℕ) → m < names → IsSeenAt spots at m (nth_seen j.seen m)
+  pub seen : (m : ℕ) → m < names → IsStanding spots at m (nth_seen j.seen m)
   pub closed : (p : Place) → j.closed ≡ Some p → IsClosedWireOf t b p
 
 -- a spot with a name is an occurrence or a free end

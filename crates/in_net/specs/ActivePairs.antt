@@ -30,8 +30,12 @@ pub record IsActivePair (t : Tables) (n : Parts) (q : AgentNo × AgentNo) : Type
 abbrev pub lower_of : AgentNo × AgentNo → ℕ
 lower_of q = min q.0.0 q.1.0
 
+-- in the order of their lower agents' numbers
+abbrev pub RiseByLower : List (AgentNo × AgentNo) → Type 0
+RiseByLower qs = (j k : ℕ) (p q : AgentNo × AgentNo) → j < k → slice_get qs j ≡ Some p → slice_get qs k ≡ Some q → lower_of p < lower_of q
+
 -- the active pairs, each once, in the order of their lower agents' numbers
 pub record ArePairsOf (t : Tables) (n : Parts) (qs : List (AgentNo × AgentNo)) : Type 0 where
   pub pairs : (k : ℕ) (q : AgentNo × AgentNo) → slice_get qs k ≡ Some q → IsActivePair t n q
   pub all : (q : AgentNo × AgentNo) → IsActivePair t n q → (k : ℕ) × (slice_get qs k ≡ Some q)
-  pub rising : (j k : ℕ) (p q : AgentNo × AgentNo) → j < k → slice_get qs j ≡ Some p → slice_get qs k ≡ Some q → lower_of p < lower_of q
+  pub rising : RiseByLower qs

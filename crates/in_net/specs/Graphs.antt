@@ -18,11 +18,12 @@ pub record Passage (V : Type 0) : Type 0 where
   pub leave : ℕ
 
 -- the two ports of a passage
-abbrev pub entered : {V : Type 0} → Passage V → V × ℕ
-entered p = (p.node, p.enter)
+module _ {V : Type 0} (p : Passage V) where
+  abbrev pub entered : V × ℕ
+  entered = (p.node, p.enter)
 
-abbrev pub left : {V : Type 0} → Passage V → V × ℕ
-left p = (p.node, p.leave)
+  abbrev pub left : V × ℕ
+  left = (p.node, p.leave)
 
 -- a wire, or wires through these nodes in turn, lead from one port to the other
 abbrev pub Leads : (g : Graph) → g.Node × ℕ → List (Passage g.Node) → g.Node × ℕ → Type 0

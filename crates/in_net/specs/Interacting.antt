@@ -11,7 +11,7 @@ use Rattle.in_net.specs.Interactions.{IsStep, redex_at}
 use Rattle.in_net.specs.Nets.{net_of, signature_of}
 use Rattle.in_net.specs.Parts.{Parts, symbol_in, partner_in, wire_in}
 use Rattle.in_net.specs.Rules.{RuleParts, IsRuleOver, auxiliary_types}
-use Rattle.in_net.specs.TextNet.{ComesBefore}
+use Rattle.in_net.specs.TextNet.{ComesBefore, EndsInOrder}
 
 -- the numbers without an agent, in their order: those of empty cells, and then all past the last cell
 abbrev pub unused : List (Option Cell) → ℕ → ℕ
@@ -45,7 +45,7 @@ MayInteract n r a b = ((t : Tables) × CanInteract t n r a b) × (count_by is_so
 
 -- the wires are numbered by their first points
 pub record AreNumberedByPoints (m : Parts) : Type 0 where
-  pub turned : (w : ℕ) (p q : Point) → wire_in m w ≡ Some (p, q) → ComesBefore p q
+  pub turned : EndsInOrder m
   pub rising : (v w : ℕ) (p q x y : Point) → v < w → wire_in m v ≡ Some (p, q) → wire_in m w ≡ Some (x, y) → ComesBefore p x
   pub nowhere : map (λ w. w.place) m.wires ≡ map (λ w. record { from = 0; to = 0; line = 0; col = 0 }) m.wires
 

@@ -21,17 +21,18 @@ abbrev pub redex_at : {A : Type 0} → RuleParts → A → A → Redex A ℕ
 redex_at r a b = record { one = a; two = b; first = r.heads.0.0; second = r.heads.1.0; member = net_of r.member }
 
 -- the free ends are numbered the first agent's places first: the agent, symbol and place of one
-abbrev pub of_first : {A B : Type 0} → Signature → Redex A B → ℕ → Bool
-of_first sig x e = nat_lt e (sig.arity x.first)
+module _ {A B : Type 0} (sig : Signature) (x : Redex A B) (end : ℕ) where
+  abbrev pub of_first : Bool
+  of_first = nat_lt end (sig.arity x.first)
 
-abbrev pub end_agent : {A B : Type 0} → Signature → Redex A B → ℕ → A
-end_agent sig x e = cond (of_first sig x e) x.one x.two
+  abbrev pub end_agent : A
+  end_agent = cond of_first x.one x.two
 
-abbrev pub end_symbol : {A B : Type 0} → Signature → Redex A B → ℕ → ℕ
-end_symbol sig x e = cond (of_first sig x e) x.first x.second
+  abbrev pub end_symbol : ℕ
+  end_symbol = cond of_first x.first x.second
 
-abbrev pub end_place : {A B : Type 0} → Signature → Redex A B → ℕ → ℕ
-end_place sig x e = cond (of_first sig x e) (suc e) (suc (e - sig.arity x.first))
+  abbrev pub end_place : ℕ
+  end_place = cond of_first (suc end) (suc (end - sig.arity x.first))
 
 -- the two agents are an active pair of the net, and the free ends of the right member are their auxiliary places, declared with their types
 pub record IsRedex {A B : Type 0} (sig : Signature) (n : Net A) (x : Redex A B) : Type 0 where

@@ -24,9 +24,13 @@ PartnersLeadBack = (n : Parts) (p q : Point) → IsWhole n → partner_in n p �
 abbrev pub WholePartsAreNets : Type 0
 WholePartsAreNets = (t : Tables) (n : Parts) → IsWhole n → IsOver t n → IsNet (signature_of t) (net_of n)
 
+-- each point of the second net is one of the first
+abbrev pub HasPointsOf : Parts → Parts → Type 0
+HasPointsOf m n = (p : Point) → IsPointOf n p → IsPointOf m p
+
 -- two nets of one text have the same agents, points, places and free ends, and a point leads to the same spot of the text in both
 pub record AreOneNet (n m : Parts) : Type 0 where
-  pub points : (p : Point) → IsPointOf n p → IsPointOf m p
+  pub points : HasPointsOf m n
   pub symbols : (x : ℕ) → symbol_in n x ≡ symbol_in m x
   pub places : n.places ≡ m.places
   pub types : (k : ℕ) → free_type_in n k ≡ free_type_in m k

@@ -1,5 +1,5 @@
 -- What contracts see of a net: all that its looking calls read.
-use Rattle.std.specs.Prelude.{◌≡◌, ◌≢◌, ◌⊎◌, ℕ, ◌+◌, ◌^◌, ◌<◌, ◌≤◌, Bool, true, false, List, length, Option, Some, IsSomeAnd, option_map, option_and_then, slice_get}
+use Rattle.std.specs.Prelude.{◌≡◌, ◌≢◌, ◌⊎◌, ℕ, ◌+◌, ◌^◌, ◌<◌, ◌≤◌, Bool, true, List, length, Option, Some, IsSomeAnd, option_map, option_and_then, slice_get}
 use Rattle.in_syntax.specs.declared.places.Place.{Place}
 use Rattle.in_syntax.specs.Grammar.{max_free, max_ports}
 use Rattle.in_symbols.specs.declared.symbols.PortType.{PortType}
@@ -21,10 +21,6 @@ pub record Parts : Type 0 where
 -- a net as it is built from a text
 abbrev pub as_built : List (Option Cell) → List FreeEnd → List Wire → List Place → Parts
 as_built cells free wires places = record { cells = cells; free = free; wires = wires; places = places; built = true }
-
--- .. and after an interaction
-abbrev pub as_changed : List (Option Cell) → List FreeEnd → List Wire → List Place → Parts
-as_changed cells free wires places = record { cells = cells; free = free; wires = wires; places = places; built = false }
 
 abbrev pub cell_in : Parts → ℕ → Option Cell
 cell_in n x = option_and_then (λ c. c) (slice_get n.cells x)

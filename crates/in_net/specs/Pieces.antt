@@ -38,17 +38,18 @@ pub data Piece (A B : Type 0) : Type 0 where
   Outside : ℕ → List (Passage A) → ℕ → Piece A B
   Inside : ℕ → List (Passage B) → ℕ → Piece A B
 
-abbrev pub begins : {A B : Type 0} → Piece A B → ℕ
-begins (Outside e ps f) = e
-begins (Inside e ps f) = e
+module _ {A B : Type 0} where
+  abbrev pub begins : Piece A B → ℕ
+  begins (Outside e ps f) = e
+  begins (Inside e ps f) = e
 
-abbrev pub ends : {A B : Type 0} → Piece A B → ℕ
-ends (Outside e ps f) = f
-ends (Inside e ps f) = f
+  abbrev pub ends : Piece A B → ℕ
+  ends (Outside e ps f) = f
+  ends (Inside e ps f) = f
 
-abbrev pub lies : {A B : Type 0} → Piece A B → Side
-lies (Outside e ps f) = Outer
-lies (Inside e ps f) = Inner
+  abbrev pub lies : Piece A B → Side
+  lies (Outside e ps f) = Outer
+  lies (Inside e ps f) = Inner
 
 abbrev pub IsPiece : {A B : Type 0} → Signature → Net A → Redex A B → Piece A B → Type 0
 IsPiece sig n x (Outside e ps f) = IsOuterPiece sig n x e f ps

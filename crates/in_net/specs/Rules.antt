@@ -42,27 +42,29 @@ place_of_head r (suc n) = r.head_places.1
 abbrev pub symbol_of : Tables → Head → ℕ
 symbol_of t h = unwrap_or (number_in h.name.text t.names) 0
 
-abbrev pub written_of : Tables → SourceRule → SymbolNo × SymbolNo
-written_of t r = (record { 0 = symbol_of t r.first }, record { 0 = symbol_of t r.second })
-
 -- the constructor is written last
 abbrev pub is_turned : Tables → ℕ → ℕ → Bool
 is_turned t c d = matching t c d && not (is_constructor t c)
 
--- the two symbols, the constructor first where they match, else as written
-abbrev pub heads_of : Tables → SourceRule → SymbolNo × SymbolNo
-heads_of t r = cond (is_turned t (symbol_of t r.first) (symbol_of t r.second)) ((written_of t r).1, (written_of t r).0) (written_of t r)
+module _ (t : Tables) (r : SourceRule) where
+  -- the two symbols, as they are written
+  abbrev pub written_of : SymbolNo × SymbolNo
+  written_of = (record { 0 = symbol_of t r.first }, record { 0 = symbol_of t r.second })
 
--- a rule's body: its heads as they are written. Boundary ends are numbered from 0, first those of the first of the two symbols
-abbrev pub body_of_rule : Tables → SourceRule → Body
-body_of_rule t r =
-    let c = symbol_of t r.first in
-    let d = symbol_of t r.second in
-    record {
-      free = [];
-      heads = heads_at r (cond (is_turned t c d) (arity_of t d) 0) (cond (is_turned t c d) 0 (arity_of t c));
-      equations = [];
-    }
+  -- .. and the constructor first, where they match
+  abbrev pub heads_of : SymbolNo × SymbolNo
+  heads_of = cond (is_turned t (symbol_of t r.first) (symbol_of t r.second)) (written_of.1, written_of.0) written_of
+
+  -- a rule's body: its heads as they are written. Boundary ends are numbered from 0, first those of the first of the two symbols
+  abbrev pub body_of_rule : Body
+  body_of_rule =
+      let c = symbol_of t r.first in
+      let d = symbol_of t r.second in
+      record {
+        free = [];
+        heads = heads_at r (cond (is_turned t c d) (arity_of t d) 0) (cond (is_turned t c d) 0 (arity_of t c));
+        equations = [];
+      }
 
 -- the types at so many places from one on, and at all auxiliary places of a symbol
 abbrev pub types_from : Tables → ℕ → ℕ → ℕ → List PortType

@@ -202,6 +202,10 @@ ComesBefore (Free k) (Port y j) = Unit {0}
 ComesBefore (Port x i) (Free l) = ⊥
 ComesBefore (Port x i) (Port y j) = (x.0 < y.0) ⊎ ((x.0 ≡ y.0) × (i < j))
 
+-- each wire is listed with the point first that comes first
+abbrev pub EndsInOrder : Parts → Type 0
+EndsInOrder m = (w : ℕ) (x y : Point) → wire_in m w ≡ Some (x, y) → ComesBefore x y
+
 -- the wires are those of the text: two points are partners by a wire of the text, which leads to no other spot, and the listed
 -- wires stand at the places of theirs, no two at one, in the order of these places, each with the point first that comes first
 pub record HasWiresOf (t : Tables) (b : Body) (m : Parts) : Type 0 where
@@ -209,7 +213,7 @@ pub record HasWiresOf (t : Tables) (b : Body) (m : Parts) : Type 0 where
   pub only : (x y : Point) (s : Spot) (p : Place) → partner_in m x ≡ Some y → IsWireOf t b (spot_at m x) s p → s ≡ spot_at m y
   pub wires : (w : ℕ) (x y : Point) (p : Place) → wire_in m w ≡ Some (x, y) → wire_place_in m w ≡ Some p → IsWireOf t b (spot_at m x) (spot_at m y) p
   pub by_place : Rises (map (λ w. w.place) m.wires)
-  pub turned : (w : ℕ) (x y : Point) → wire_in m w ≡ Some (x, y) → ComesBefore x y
+  pub turned : EndsInOrder m
 
 -- the parts are the net of the text: its agents, its free ends in order, with their names and declared types, and its wires, and each
 -- point is in exactly one of these

@@ -13,11 +13,10 @@ use Rattle.in_syntax.specs.Refusals.{earlier, refused, earlier_refusal}
 use Rattle.in_symbols.specs.Searching.{undeclared, declares_all, declares_all_free, untyped_in_symbols, untyped_in_free, unknown_in_rules, unknown_in_equations, first_fault}
 use Rattle.in_syntax.proofs.Least.{IsLeast, least_same, least_earlier}
 use Rattle.in_syntax.proofs.FirstFault.{IsFirst, Of, first_same, first_of_three, first_as}
-use Rattle.in_symbols.proofs.Named.{IsIn}
+use Rattle.in_symbols.proofs.Named.{IsIn, AreNamesOf}
 use Rattle.in_symbols.proofs.Repeated.{all_names, repeats_least, free_least}
-use Rattle.in_symbols.proofs.Unknown.{AreSymbols}
 use Rattle.in_symbols.proofs.UnknownInRules.{unknown_least}
-use Rattle.in_symbols.proofs.Untyped.{AreTypes, untyped_least}
+use Rattle.in_symbols.proofs.Untyped.{untyped_least}
 use Rattle.in_base.proofs.Each.{any_of, any_mapped, any_to_map}
 
 abbrev Coded : Source → Code → Place → Type 0
@@ -45,13 +44,13 @@ none_before : (A : Type 0) → ⊥ ⊎ A → A
 none_before A (inl h) = absurd h
 none_before A (inr a) = a
 
-pub are_types : (s : Source) → AreTypes s (declares_all undeclared s.types).names
+pub are_types : (s : Source) → AreNamesOf (IsTypeName s) (declares_all undeclared s.types).names
 are_types s m = ((λ h. none_before (IsTypeName s m) ((all_names s.types undeclared m).0 h)), λ h. (all_names s.types undeclared m).1 (inr h))
 
 abbrev symbol_declared : Source → List Name
 symbol_declared s = map (λ d. d.name) s.symbols
 
-pub are_symbols : (s : Source) → AreSymbols s (declares_all undeclared (map (λ d. d.name) s.symbols)).names
+pub are_symbols : (s : Source) → AreNamesOf (IsSymbolName s) (declares_all undeclared (map (λ d. d.name) s.symbols)).names
 are_symbols s m = (
   (λ h. any_mapped (λ d. d.name) (λ n. n.text ≡ m) s.symbols (none_before (AnyByRecursion (λ n. n.text ≡ m) (symbol_declared s)) ((all_names (symbol_declared s) undeclared m).0 h))),
   λ h. (all_names (symbol_declared s) undeclared m).1 (inr (any_to_map (λ d. d.name) (λ n. n.text ≡ m) s.symbols h)),
@@ -61,7 +60,7 @@ abbrev Twice : Source → List (List ℕ) → Place → Type 0
 Twice s symbols q = (IsRepeatedAt s.types q ⊎ IsRepeatedAt (map (λ d. d.name) s.symbols) q)
     ⊎ (AnyByRecursion (λ m. IsIn symbols m.text × (m.place ≡ q)) (map (λ f. f.name) s.net.free) ⊎ IsRepeatedAt (map (λ f. f.name) s.net.free) q)
 
-as_twice : (s : Source) (symbols : List (List ℕ)) → AreSymbols s symbols → (q : Place) → Twice s symbols q → IsDeclaredTwiceAt s q
+as_twice : (s : Source) (symbols : List (List ℕ)) → AreNamesOf (IsSymbolName s) symbols → (q : Place) → Twice s symbols q → IsDeclaredTwiceAt s q
 as_twice s symbols are q (inl (inl h)) = type_twice h
 as_twice s symbols are q (inl (inr h)) = symbol_twice h
 as_twice s symbols are q (inr (inl h)) =
@@ -69,7 +68,7 @@ as_twice s symbols are q (inr (inl h)) =
     (any_mapped (λ f. f.name) (λ m. IsIn symbols m.text × (m.place ≡ q)) s.net.free h))
 as_twice s symbols are q (inr (inr h)) = free_twice h
 
-of_twice : (s : Source) (symbols : List (List ℕ)) → AreSymbols s symbols → (q : Place) → IsDeclaredTwiceAt s q → Twice s symbols q
+of_twice : (s : Source) (symbols : List (List ℕ)) → AreNamesOf (IsSymbolName s) symbols → (q : Place) → IsDeclaredTwiceAt s q → Twice s symbols q
 of_twice s symbols are q (type_twice h) = inl (inl h)
 of_twice s symbols are q (symbol_twice h) = inl (inr h)
 of_twice s symbols are q (free_twice h) = inr (inr h)
@@ -77,7 +76,7 @@ of_twice s symbols are q (free_symbol h) =
     inr (inl (any_to_map (λ f. f.name) (λ m. IsIn symbols m.text × (m.place ≡ q)) s.net.free
     (any_of (λ f. IsSymbolName s f.name.text × (f.name.place ≡ q)) (λ f. IsIn symbols f.name.text × (f.name.place ≡ q)) (λ f a. ((are f.name.text).1 a.0, a.1)) s.net.free h)))
 
-twice_least : (s : Source) (symbols : List (List ℕ)) → AreSymbols s symbols →
+twice_least : (s : Source) (symbols : List (List ℕ)) → AreNamesOf (IsSymbolName s) symbols →
     IsLeast (IsDeclaredTwiceAt s) (earlier (earlier (declares_all undeclared s.types).repeat (declares_all undeclared (map (λ d. d.name) s.symbols)).repeat) (declares_all_free symbols undeclared (map (λ f. f.name) s.net.free)).repeat)
 twice_least s symbols are =
     let types = (declares_all undeclared s.types).repeat in

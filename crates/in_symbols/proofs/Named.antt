@@ -12,6 +12,10 @@ use Rattle.in_symbols.specs.Names.{number_in, has_name}
 abbrev pub IsIn : List (List ℕ) → List ℕ → Type 0
 IsIn names name = AnyByRecursion (λ n. n ≡ name) names
 
+-- they are the names of which this holds
+abbrev pub AreNamesOf : (List ℕ → Type 0) → List (List ℕ) → Type 0
+AreNamesOf P names = (m : List ℕ) → (IsIn names m → P m) × (P m → IsIn names m)
+
 -- ---- the tests of names
 
 or_true : (b : Bool) → (b || true) ≡ true

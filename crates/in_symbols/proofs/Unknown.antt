@@ -14,18 +14,14 @@ use Rattle.in_symbols.specs.Searching.{is_empty, unknown_here, unknown_in_term, 
 use Rattle.in_symbols.specs.Tables.{is_none, all_true, heads_known, HeadsKnown}
 use Rattle.in_symbols.proofs.Heads.{heads_out, unknown_out}
 use Rattle.in_syntax.proofs.Least.{IsLeast, left, shift, shift_back, least_same, least_earlier, least_of_all, earlier_none, earliest_none}
-use Rattle.in_symbols.proofs.Named.{IsIn, has_number, no_number}
+use Rattle.in_symbols.proofs.Named.{AreNamesOf, has_number, no_number}
 use Rattle.in_base.proofs.Each.{any_of}
 use Rattle.std.proofs.lemmas.Bool.{and_from}
 use Rattle.in_syntax.proofs.Terms.{names_out}
 
--- these names are those of the declared symbols
-abbrev pub AreSymbols : Source → List (List ℕ) → Type 0
-AreSymbols s names = (m : List ℕ) → (IsIn names m → IsSymbolName s m) × (IsSymbolName s m → IsIn names m)
-
 -- ---- one term
 
-here_by : (s : Source) (names : List (List ℕ)) → AreSymbols s names → (t : Term) (bare : Bool) → is_empty (out-Term t).args ≡ bare → (b : Bool) → is_some (number_in (out-Term t).name.text names) ≡ b →
+here_by : (s : Source) (names : List (List ℕ)) → AreNamesOf (IsSymbolName s) names → (t : Term) (bare : Bool) → is_empty (out-Term t).args ≡ bare → (b : Bool) → is_some (number_in (out-Term t).name.text names) ≡ b →
     IsLeast (λ q. IsUnknownHead s q t) (if bare then None else (if b then None else Some (out-Term t).name.place))
 here_by s names are t true bare b is = λ q h. h.arguments (empty (out-Term t).args bare)
   where
@@ -42,7 +38,7 @@ here_by s names are t false bare false is = (
     some [] e f = cc
     some (a ∷ ts) e f = cc
 
-here_least : (s : Source) (names : List (List ℕ)) → AreSymbols s names → (t : Term) → IsLeast (λ q. IsUnknownHead s q t) (unknown_here names (is_empty (out-Term t).args) (out-Term t).name)
+here_least : (s : Source) (names : List (List ℕ)) → AreNamesOf (IsSymbolName s) names → (t : Term) → IsLeast (λ q. IsUnknownHead s q t) (unknown_here names (is_empty (out-Term t).args) (out-Term t).name)
 here_least s names are t = here_by s names are t (is_empty (out-Term t).args) refl (is_some (number_in (out-Term t).name.text names)) refl
 
 -- in the term itself, or in one of its arguments
@@ -78,7 +74,7 @@ arguments_least s names h ih Q found least (t ∷ ts) short =
     (arguments_least s names h ih (λ q. Q q ⊎ HasPart (IsUnknownHead s q) t) (earlier found (unknown_in_term names t))
     (least_earlier Q (λ q. HasPart (IsUnknownHead s q) t) found (unknown_in_term names t) least (ih t (omega (arith, short)))) ts (omega (arith, short)))
 
-terms_least : (s : Source) (names : List (List ℕ)) → AreSymbols s names → (h : ℕ) → TermsLeast s names h
+terms_least : (s : Source) (names : List (List ℕ)) → AreNamesOf (IsSymbolName s) names → (h : ℕ) → TermsLeast s names h
 terms_least s names are zero t short = absurd (omega (arith, names_out t, short))
 terms_least s names are (suc h) t short =
     let all = arguments_least s names h (terms_least s names are h) (λ q. IsUnknownHead s q t) (unknown_here names (is_empty (out-Term t).args) (out-Term t).name) (here_least s names are t) (out-Term t).args (omega (arith, names_out t, short)) in
@@ -88,10 +84,10 @@ terms_least s names are (suc h) t short =
     (earliest (unknown_here names (is_empty (out-Term t).args) (out-Term t).name) (map (unknown_in_term names) (out-Term t).args))
     (λ q k. as_part (IsUnknownHead s q) t k) (λ q k. part_of (IsUnknownHead s q) t k) all)
 
-pub term_least : (s : Source) (names : List (List ℕ)) → AreSymbols s names → (t : Term) → IsLeast (λ q. HasPart (IsUnknownHead s q) t) (unknown_in_term names t)
+pub term_least : (s : Source) (names : List (List ℕ)) → AreNamesOf (IsSymbolName s) names → (t : Term) → IsLeast (λ q. HasPart (IsUnknownHead s q) t) (unknown_in_term names t)
 term_least s names are t = terms_least s names are (names_in t) t (omega arith)
 
-equation_least : (s : Source) (names : List (List ℕ)) → AreSymbols s names → (e : Equation) →
+equation_least : (s : Source) (names : List (List ℕ)) → AreNamesOf (IsSymbolName s) names → (e : Equation) →
     IsLeast (λ q. HasPart (IsUnknownHead s q) e.left ⊎ HasPart (IsUnknownHead s q) e.right) (unknown_in_equation names e)
 equation_least s names are e =
     least_earlier (λ q. HasPart (IsUnknownHead s q) e.left) (λ q. HasPart (IsUnknownHead s q) e.right) (unknown_in_term names e.left) (unknown_in_term names e.right)
@@ -100,7 +96,7 @@ equation_least s names are e =
 abbrev pub IsUnknownInNet : Source → Place → Type 0
 IsUnknownInNet s q = AnyByRecursion (λ e. HasPart (IsUnknownHead s q) e.left ⊎ HasPart (IsUnknownHead s q) e.right) s.net.equations
 
-pub equations_least : (s : Source) (names : List (List ℕ)) → AreSymbols s names → IsLeast (IsUnknownInNet s) (unknown_in_equations names s.net.equations)
+pub equations_least : (s : Source) (names : List (List ℕ)) → AreNamesOf (IsSymbolName s) names → IsLeast (IsUnknownInNet s) (unknown_in_equations names s.net.equations)
 equations_least s names are =
     least_of_all (unknown_in_equation names) (λ e q. HasPart (IsUnknownHead s q) e.left ⊎ HasPart (IsUnknownHead s q) e.right) (equation_least s names are) s.net.equations
 

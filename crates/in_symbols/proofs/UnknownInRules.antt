@@ -12,8 +12,8 @@ use Rattle.in_syntax.specs.Refusals.{earlier}
 use Rattle.in_symbols.specs.Searching.{unknown_name, unknown_in_term, unknown_in_equations, unknown_in_head, unknown_in_rule, unknown_in_rules}
 use Rattle.in_symbols.specs.Tables.{heads_known, IsHeadKnown, IsRuleKnown}
 use Rattle.in_syntax.proofs.Least.{IsLeast, least_same, least_earlier, least_earliest, least_of_all, earlier_none, earliest_none}
-use Rattle.in_symbols.proofs.Named.{has_number, no_number, known_by}
-use Rattle.in_symbols.proofs.Unknown.{AreSymbols, IsUnknownInNet, term_least, equations_least, term_known}
+use Rattle.in_symbols.proofs.Named.{AreNamesOf, has_number, no_number, known_by}
+use Rattle.in_symbols.proofs.Unknown.{IsUnknownInNet, term_least, equations_least, term_known}
 use Rattle.in_base.proofs.Each.{any_of, any_either}
 
 -- at the place stands the head's name, and is no symbol's
@@ -26,16 +26,16 @@ IsUnknownWithin s q h = AnyByRecursion (HasPart (IsUnknownHead s q)) h.terms
 abbrev IsUnknownIn : Source → Place → Head → Type 0
 IsUnknownIn s q h = IsUnnamed s q h ⊎ IsUnknownWithin s q h
 
-name_by : (s : Source) (names : List (List ℕ)) → AreSymbols s names → (h : Head) (b : Bool) → is_some (number_in h.name.text names) ≡ b → IsLeast (λ q. IsUnnamed s q h) (if b then None else Some h.name.place)
+name_by : (s : Source) (names : List (List ℕ)) → AreNamesOf (IsSymbolName s) names → (h : Head) (b : Bool) → is_some (number_in h.name.text names) ≡ b → IsLeast (λ q. IsUnnamed s q h) (if b then None else Some h.name.place)
 name_by s names are h true is = λ q k. k.0 ((are h.name.text).0 (has_number names h.name.text is))
 name_by s names are h false is = (((λ k. no_number names h.name.text is ((are h.name.text).1 k)), refl), λ q k. omega (arith, ap (λ (r : Place). r.from) k.1))
 
-head_least : (s : Source) (names : List (List ℕ)) → AreSymbols s names → (h : Head) → IsLeast (λ q. IsUnknownIn s q h) (unknown_in_head names h)
+head_least : (s : Source) (names : List (List ℕ)) → AreNamesOf (IsSymbolName s) names → (h : Head) → IsLeast (λ q. IsUnknownIn s q h) (unknown_in_head names h)
 head_least s names are h =
     least_earliest (unknown_in_term names) (λ t q. HasPart (IsUnknownHead s q) t) (term_least s names are) (λ q. IsUnnamed s q h) (unknown_name names h.name)
     (name_by s names are h (is_some (number_in h.name.text names)) refl) h.terms
 
-rule_least : (s : Source) (names : List (List ℕ)) → AreSymbols s names → (r : SourceRule) → IsLeast (λ q. OfAHead (IsUnknownIn s q) r) (unknown_in_rule names r)
+rule_least : (s : Source) (names : List (List ℕ)) → AreNamesOf (IsSymbolName s) names → (r : SourceRule) → IsLeast (λ q. OfAHead (IsUnknownIn s q) r) (unknown_in_rule names r)
 rule_least s names are r =
     least_earlier (λ q. IsUnknownIn s q r.first) (λ q. IsUnknownIn s q r.second) (unknown_in_head names r.first) (unknown_in_head names r.second)
     (head_least s names are r.first) (head_least s names are r.second)
@@ -69,7 +69,7 @@ of_unknown s q (in_equation h) = inr h
 of_unknown s q (of_head h) = inl (any_of (OfAHead (IsUnnamed s q)) (OfAHead (IsUnknownIn s q)) (of_one_head (IsUnnamed s q) (IsUnknownIn s q) (λ k a. inl a)) s.rules h)
 of_unknown s q (in_head h) = inl (any_of (OfAHead (IsUnknownWithin s q)) (OfAHead (IsUnknownIn s q)) (of_one_head (IsUnknownWithin s q) (IsUnknownIn s q) (λ k a. inr a)) s.rules h)
 
-pub unknown_least : (s : Source) (names : List (List ℕ)) → AreSymbols s names → IsLeast (IsUnknownHeadAt s) (earlier (unknown_in_rules names s.rules) (unknown_in_equations names s.net.equations))
+pub unknown_least : (s : Source) (names : List (List ℕ)) → AreNamesOf (IsSymbolName s) names → IsLeast (IsUnknownHeadAt s) (earlier (unknown_in_rules names s.rules) (unknown_in_equations names s.net.equations))
 unknown_least s names are =
     least_same (λ q. IsUnknownInRules s q ⊎ IsUnknownInNet s q) (IsUnknownHeadAt s) (earlier (unknown_in_rules names s.rules) (unknown_in_equations names s.net.equations))
     (λ q h. as_unknown s q h) (λ q h. of_unknown s q h)

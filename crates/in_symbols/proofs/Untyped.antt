@@ -13,25 +13,21 @@ use Rattle.in_syntax.specs.Refusals.{earlier}
 use Rattle.in_symbols.specs.Searching.{untyped, untyped_in_class, untyped_in_symbol, untyped_in_symbols, untyped_in_free}
 use Rattle.in_symbols.specs.Tables.{Knows, KnowsAll, FreeKnown}
 use Rattle.in_syntax.proofs.Least.{IsLeast, least_same, least_earlier, least_earliest, least_of_all, earliest_none}
-use Rattle.in_symbols.proofs.Named.{IsIn, has_number, no_number, known_by}
+use Rattle.in_symbols.proofs.Named.{AreNamesOf, has_number, no_number, known_by}
 use Rattle.in_base.proofs.Each.{any_of, any_either}
 
--- these names are those of the declared types
-abbrev pub AreTypes : Source → List (List ℕ) → Type 0
-AreTypes s types = (m : List ℕ) → (IsIn types m → IsTypeName s m) × (IsTypeName s m → IsIn types m)
-
-port_by : (s : Source) (types : List (List ℕ)) → AreTypes s types → (port : SourcePort) (b : Bool) → is_some (number_in port.kind.text types) ≡ b →
+port_by : (s : Source) (types : List (List ℕ)) → AreNamesOf (IsTypeName s) types → (port : SourcePort) (b : Bool) → is_some (number_in port.kind.text types) ≡ b →
     IsLeast (λ q. IsUntypedAt s q port) (if b then None else Some port.kind.place)
 port_by s types are port true is = λ q h. h.0 ((are port.kind.text).0 (has_number types port.kind.text is))
 port_by s types are port false is = (((λ h. no_number types port.kind.text is ((are port.kind.text).1 h)), refl), λ q h. omega (arith, ap (λ (r : Place). r.from) h.1))
 
-port_least : (s : Source) (types : List (List ℕ)) → AreTypes s types → (port : SourcePort) → IsLeast (λ q. IsUntypedAt s q port) (untyped types port)
+port_least : (s : Source) (types : List (List ℕ)) → AreNamesOf (IsTypeName s) types → (port : SourcePort) → IsLeast (λ q. IsUntypedAt s q port) (untyped types port)
 port_least s types are port = port_by s types are port (is_some (number_in port.kind.text types)) refl
 
-class_least : (s : Source) (types : List (List ℕ)) → AreTypes s types → (ps : List SourcePort) → IsLeast (λ q. AnyByRecursion (IsUntypedAt s q) ps) (untyped_in_class types ps)
+class_least : (s : Source) (types : List (List ℕ)) → AreNamesOf (IsTypeName s) types → (ps : List SourcePort) → IsLeast (λ q. AnyByRecursion (IsUntypedAt s q) ps) (untyped_in_class types ps)
 class_least s types are ps = least_of_all (untyped types) (λ port q. IsUntypedAt s q port) (port_least s types are) ps
 
-symbol_least : (s : Source) (types : List (List ℕ)) → AreTypes s types → (d : SourceSymbol) →
+symbol_least : (s : Source) (types : List (List ℕ)) → AreNamesOf (IsTypeName s) types → (d : SourceSymbol) →
     IsLeast (λ q. IsUntypedAt s q d.port ⊎ AnyByRecursion (AnyByRecursion (IsUntypedAt s q)) d.classes) (untyped_in_symbol types d)
 symbol_least s types are d =
     least_earliest (untyped_in_class types) (λ ps q. AnyByRecursion (IsUntypedAt s q) ps) (class_least s types are) (λ q. IsUntypedAt s q d.port) (untyped types d.port) (port_least s types are d.port) d.classes
@@ -53,7 +49,7 @@ of_fault s q (of_auxiliary h) =
     inl (any_of (λ d. AnyByRecursion (AnyByRecursion (IsUntypedAt s q)) d.classes) (λ d. IsUntypedAt s q d.port ⊎ AnyByRecursion (AnyByRecursion (IsUntypedAt s q)) d.classes) (λ d a. inr a) s.symbols h)
 of_fault s q (of_free h) = inr h
 
-pub untyped_least : (s : Source) (types : List (List ℕ)) → AreTypes s types → IsLeast (IsUnknownTypeAt s) (earlier (untyped_in_symbols types s.symbols) (untyped_in_free types s.net.free))
+pub untyped_least : (s : Source) (types : List (List ℕ)) → AreNamesOf (IsTypeName s) types → IsLeast (IsUnknownTypeAt s) (earlier (untyped_in_symbols types s.symbols) (untyped_in_free types s.net.free))
 untyped_least s types are =
     least_same (λ q. InSymbols s q ⊎ InFree s q) (IsUnknownTypeAt s) (earlier (untyped_in_symbols types s.symbols) (untyped_in_free types s.net.free))
     (λ q h. to_fault s q h) (λ q h. of_fault s q h)

@@ -1,5 +1,5 @@
 -- What is spelled is read.
-use Rattle.std.proofs.Common.{◌≡◌, ℕ, zero, suc, ◌+◌, ◌≤◌, max, Bool, true, false, cond, nat_lt, List, [], ◌∷◌, ◌++◌, length, map, refl, sym, ◌∙◌, ap, subst, append_assoc, append-nil, length-append, arith}
+use Rattle.std.proofs.Common.{◌≡◌, ℕ, zero, suc, ◌+◌, ◌<◌, ◌≤◌, max, Bool, true, false, cond, nat_lt, List, [], ◌∷◌, ◌++◌, length, map, refl, sym, ◌∙◌, ap, subst, append_assoc, append-nil, length-append, arith}
 use Rattle.std.specs.List.{flat_map, AllByRecursion}
 use Rattle.in_syntax.specs.declared.words.TokenKind.TheVariants as kind
 use Rattle.in_syntax.specs.declared.signs.Sign.{Sign}
@@ -27,7 +27,7 @@ use Rattle.in_syntax.specs.declared.states.HeadOf.{HeadOf}
 use Rattle.in_syntax.specs.declared.states.HeadOf.TheVariants.{First, Second}
 use Rattle.in_syntax.specs.declared.states.TermOf.TheVariants.{Left, Right, Inside}
 use Rattle.in_syntax.specs.declared.states.Nest.{Nest}
-use Rattle.in_syntax.specs.Grammar.{Marked, marked, within, plain, separated, numbered, spell_auxiliary, spell_class, spell_classes, spell_symbol, spell_type, spell_types, spell_arguments, spell_term, spell_outermost, spell_head, spell_rule, spell_equation, spell_free, spell_net, max_types, max_depth, IsNonempty, Item, types, symbol, rule, none_yet, counted, spell_items, IsItem, types_in, symbols_in, rules_in, Program, spelling}
+use Rattle.in_syntax.specs.Grammar.{Marked, marked, within, plain, separated, numbered, spell_auxiliary, spell_class, spell_classes, spell_symbol, spell_type, spell_types, spell_arguments, spell_term, spell_outermost, spell_head, spell_rule, spell_equation, spell_free, spell_net, max_types, max_depth, Item, types, symbol, rule, none_yet, counted, spell_items, IsItem, types_in, symbols_in, rules_in, Program, spelling}
 use Rattle.in_syntax.specs.Steps.{at_term_open, at_term_end, after_port, step, at_state, with_types, with_symbol, with_rule, counts_of, between_items, start}
 use Rattle.in_syntax.specs.Trees.{bare, bare_head, with_argument, with_class, with_equation, with_term}
 use Rattle.in_syntax.proofs.Separated.{ports_after, after}
@@ -60,8 +60,8 @@ path_names r names (n ∷ more) =
       ),
     )
 
-path_types : (r : Reader) (names : List Name) → IsNonempty names → Path (at_state r state.Item) (spell_types (next_type r) names) (with_types r names)
-path_types r [] full = absurd full
+path_types : (r : Reader) (names : List Name) → 0 < length names → Path (at_state r state.Item) (spell_types (next_type r) names) (with_types r names)
+path_types r [] full = absurd (omega (arith, full))
 path_types r (n ∷ more) full =
     let e : next_type r + 0 ≡ next_type r = omega arith in (
       at_state r (state.TypeName []),
@@ -104,9 +104,9 @@ path_ports r s (p ∷ more) c number =
           (path_ports r s more (c ++ p ∷ []) (number + 1))),
     )
 
-path_class : (r : Reader) (s : SourceSymbol) (c : List SourcePort) (number : ℕ) → IsNonempty c →
+path_class : (r : Reader) (s : SourceSymbol) (c : List SourcePort) (number : ℕ) → 0 < length c →
     Path (at_state r (state.SymbolEnd s number)) (spell_class number c) (at_state r (state.SymbolEnd (with_class s c) (number + length c)))
-path_class r s [] number full = absurd full
+path_class r s [] number full = absurd (omega (arith, full))
 path_class r s (p ∷ more) number full =
     let e : (number + 1) + length more ≡ number + length (p ∷ more) = omega arith in (
       at_state r (state.PortKind (Auxiliary s [] number)),
@@ -122,7 +122,7 @@ path_class r s (p ∷ more) number full =
 abbrev with_classes : SourceSymbol → List (List SourcePort) → SourceSymbol
 with_classes s cs = record { name = s.name; port = s.port; classes = s.classes ++ cs }
 
-path_classes : (r : Reader) (cs : List (List SourcePort)) (s : SourceSymbol) (number : ℕ) → AllByRecursion IsNonempty cs →
+path_classes : (r : Reader) (cs : List (List SourcePort)) (s : SourceSymbol) (number : ℕ) → AllByRecursion (λ c. 0 < length c) cs →
     Path (at_state r (state.SymbolEnd s number)) (spell_classes number cs) (at_state r (state.SymbolEnd (with_classes s cs) (ports_after number cs)))
 path_classes r [] s number each = ap (λ z. at_state r (state.SymbolEnd (record { name = s.name; port = s.port; classes = z }) number)) (sym (append-nil s.classes))
 path_classes r (c ∷ cs) s number each =
@@ -137,7 +137,7 @@ path_classes r (c ∷ cs) s number each =
 abbrev no_classes : SourceSymbol → SourceSymbol
 no_classes s = record { name = s.name; port = s.port; classes = [] }
 
-path_symbol : (r : Reader) (s : SourceSymbol) → AllByRecursion IsNonempty s.classes → Path (at_state r state.Item) (spell_symbol (length r.symbols + 1) s) (with_symbol r s)
+path_symbol : (r : Reader) (s : SourceSymbol) → AllByRecursion (λ c. 0 < length c) s.classes → Path (at_state r state.Item) (spell_symbol (length r.symbols + 1) s) (with_symbol r s)
 path_symbol r s each = (
   at_state r state.SymbolName,
   refl,

@@ -1,10 +1,10 @@
 -- Lists that grow at their end, and how they are spelled.
-use Rattle.std.proofs.Common.{◌≡◌, ℕ, ◌+◌, List, [], ◌∷◌, ◌++◌, length, map, refl, sym, ◌∙◌, ap, append_assoc, append-nil, arith}
+use Rattle.std.proofs.Common.{◌≡◌, ℕ, ◌+◌, ◌<◌, List, [], ◌∷◌, ◌++◌, length, length-append, refl, sym, ◌∙◌, ap, append_assoc, append-nil, arith}
 use Rattle.std.specs.List.{flat_map}
 use Rattle.in_syntax.specs.declared.counts.Counts.{Counts}
 use Rattle.in_syntax.specs.declared.tree.SourcePort.{SourcePort}
 use Rattle.in_syntax.specs.declared.words.TokenKind.TheVariants as kind
-use Rattle.in_syntax.specs.Grammar.{Marked, plain, separated, numbered, spell_class, spell_classes, IsNonempty, Item, counted, spell_item, spell_items}
+use Rattle.in_syntax.specs.Grammar.{Marked, plain, separated, numbered, spell_class, spell_classes, Item, counted, spell_item, spell_items}
 
 abbrev pub comma : Marked
 comma = plain kind.Comma
@@ -29,17 +29,12 @@ after_comma : (l : List (List Marked)) → after l ++ comma ∷ [] ≡ comma ∷
 after_comma [] = refl
 after_comma (b ∷ l) = append_assoc (comma ∷ b) (after l) (comma ∷ []) ∙ ap (λ z. (comma ∷ b) ++ z) (after_comma l) ∙ ap (λ z. comma ∷ z) (simp append_assoc)
 
-pub before_is : (l : List (List Marked)) → IsNonempty l → before l ≡ separated l ++ comma ∷ []
-before_is [] full = absurd full
+pub before_is : (l : List (List Marked)) → 0 < length l → before l ≡ separated l ++ comma ∷ []
+before_is [] full = absurd (omega (arith, full))
 before_is (b ∷ l) full = sym (append_assoc b (after l) (comma ∷ []) ∙ ap (λ z. b ++ z) (after_comma l) ∙ simp append_assoc)
 
-pub nonempty_snoc : {A : Type 0} (l : List A) (a : A) → IsNonempty (l ++ a ∷ [])
-nonempty_snoc [] a = tt
-nonempty_snoc (b ∷ l) a = tt
-
-pub nonempty_map : {A B : Type 0} (f : A → B) (l : List A) → IsNonempty l → IsNonempty (map f l)
-nonempty_map f [] full = absurd full
-nonempty_map f (a ∷ l) full = tt
+pub nonempty_snoc : {A : Type 0} (l : List A) (a : A) → 0 < length (l ++ a ∷ [])
+nonempty_snoc l a = omega (arith, length-append l (a ∷ []))
 
 pub flat_snoc : {A B : Type 0} (f : A → List B) (l : List A) (a : A) → flat_map f (l ++ a ∷ []) ≡ flat_map f l ++ f a
 flat_snoc f [] a = append-nil (f a)
@@ -53,9 +48,9 @@ numbered_snoc f number (b ∷ l) a =
     let e : (number + 1) + length l ≡ number + length (b ∷ l) = omega arith in
     ap (λ z. f number b ∷ z) (numbered_snoc f (number + 1) l a ∙ ap (λ n. numbered f (number + 1) l ++ f n a ∷ []) e)
 
-pub nonempty_numbered : {A : Type 0} (f : ℕ → A → List Marked) (number : ℕ) (l : List A) → IsNonempty l → IsNonempty (numbered f number l)
-nonempty_numbered f number [] full = absurd full
-nonempty_numbered f number (a ∷ l) full = tt
+pub nonempty_numbered : {A : Type 0} (f : ℕ → A → List Marked) (number : ℕ) (l : List A) → 0 < length l → 0 < length (numbered f number l)
+nonempty_numbered f number [] full = full
+nonempty_numbered f number (a ∷ l) full = omega arith
 
 -- the number of the first port after these classes
 abbrev pub ports_after : ℕ → List (List SourcePort) → ℕ

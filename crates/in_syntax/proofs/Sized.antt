@@ -1,5 +1,5 @@
 -- A tree has no more names than its text has bytes.
-use Rattle.std.proofs.Common.{◌≡◌, ℕ, zero, suc, ◌+◌, ◌≤◌, false, List, [], ◌∷◌, ◌++◌, length, map, refl, sym, ◌∙◌, ap, subst, arith, length-append, ltb-false, Result, Ok, Err, IfOk}
+use Rattle.std.proofs.Common.{◌≡◌, ℕ, zero, suc, ◌+◌, ◌<◌, ◌≤◌, false, List, [], ◌∷◌, ◌++◌, length, map, refl, sym, ◌∙◌, ap, subst, arith, length-append, ltb-false, Result, Ok, Err, IfOk}
 use Rattle.std.proofs.lemmas.List.{length-map}
 use Rattle.std.specs.List.{AllByRecursion, flat_map}
 use Rattle.in_syntax.specs.declared.tree.Term.{Term, out-Term}
@@ -16,7 +16,7 @@ use Rattle.in_syntax.specs.declared.words.Token.{Token}
 use Rattle.in_syntax.specs.declared.words.TokenKind.TheVariants as kind
 use Rattle.in_syntax.specs.declared.signs.Sign.{Sign}
 use Rattle.in_syntax.specs.declared.signs.Sign.TheVariants.{Tilde}
-use Rattle.in_syntax.specs.Grammar.{Marked, within, plain, max_types, max_symbols, max_rules, max_free, max_ports, separated, numbered, spell_port, spell_auxiliary, spell_class, spell_classes, spell_symbol, spell_type, spell_arguments, spell_term, spell_outermost, spell_head, spell_rule, spell_equation, spell_free, spell_net, Item, types, symbol, rule, none_yet, counted, spell_item, spell_items, IsNonempty, IsItem, Program, spelling, types_in, symbols_in, rules_in, source_of}
+use Rattle.in_syntax.specs.Grammar.{Marked, within, plain, max_types, max_symbols, max_rules, max_free, max_ports, separated, numbered, spell_port, spell_auxiliary, spell_class, spell_classes, spell_symbol, spell_type, spell_arguments, spell_term, spell_outermost, spell_head, spell_rule, spell_equation, spell_free, spell_net, Item, types, symbol, rule, none_yet, counted, spell_item, spell_items, IsItem, Program, spelling, types_in, symbols_in, rules_in, source_of}
 use Rattle.in_syntax.specs.Programs.{sign_of, signs_of, unmarked}
 use Rattle.in_syntax.specs.Parsing.{IsTreeOf, Parses}
 use Rattle.in_syntax.specs.Sizes.{total, names_in, names_in_equation, names_in_equations, names_in_head, names_in_rule, names_in_rules, IsSizedSymbol, IsSized}
@@ -158,9 +158,9 @@ type_within number n all = ltb-false max_types number all.0
 free_within : Within max_free spell_free
 free_within number f all = ltb-false max_free number all.0
 
-classes_within : (number : ℕ) (cs : List (List SourcePort)) → number ≤ max_ports + 1 → AllByRecursion IsNonempty cs → Unmarked (spell_classes number cs) → (number + length (flat_map (λ c. c) cs) ≤ max_ports + 1) × (number + length cs ≤ max_ports + 1)
+classes_within : (number : ℕ) (cs : List (List SourcePort)) → number ≤ max_ports + 1 → AllByRecursion (λ c. 0 < length c) cs → Unmarked (spell_classes number cs) → (number + length (flat_map (λ c. c) cs) ≤ max_ports + 1) × (number + length cs ≤ max_ports + 1)
 classes_within number [] le some all = (omega (arith, le), omega (arith, le))
-classes_within number ([] ∷ cs) le some all = absurd some.0
+classes_within number ([] ∷ cs) le some all = absurd (let h = some.0 in omega (arith, h))
 classes_within number ((p ∷ c) ∷ cs) le some all =
     let front = front_all (spell_class number (p ∷ c)) (spell_classes (number + length (p ∷ c)) cs) all in
     let here : number + length (p ∷ c) ≤ max_ports + 1 =
@@ -168,7 +168,7 @@ classes_within number ((p ∷ c) ∷ cs) le some all =
     let rest = classes_within (number + length (p ∷ c)) cs here some.1 (back_all (spell_class number (p ∷ c)) (spell_classes (number + length (p ∷ c)) cs) all) in
     (omega (arith, rest.0, length-append (p ∷ c) (flat_map (λ c. c) cs)), omega (arith, rest.1))
 
-symbol_sized : (number : ℕ) (s : SourceSymbol) → AllByRecursion IsNonempty s.classes → Unmarked (spell_symbol number s) → IsSizedSymbol s
+symbol_sized : (number : ℕ) (s : SourceSymbol) → AllByRecursion (λ c. 0 < length c) s.classes → Unmarked (spell_symbol number s) → IsSizedSymbol s
 symbol_sized number s some all =
     let ports : List Marked = spell_port false s.port in
     let tail = front_all (spell_port false s.port ++ spell_classes 1 s.classes) (plain kind.Semicolon ∷ []) all.1.1.1 in

@@ -1,5 +1,5 @@
 -- What was read before a reader is spelled so.
-use Rattle.std.proofs.Common.{◌≡◌, ℕ, ◌+◌, Bool, true, false, nat_lt, List, [], ◌∷◌, ◌++◌, length, map, refl, sym, ◌∙◌, ap, subst, append_assoc, append-nil, length-append, arith}
+use Rattle.std.proofs.Common.{◌≡◌, ℕ, ◌+◌, ◌<◌, Bool, true, false, nat_lt, List, [], ◌∷◌, ◌++◌, length, map, refl, sym, ◌∙◌, ap, subst, append_assoc, append-nil, length-append, arith}
 use Rattle.std.specs.List.{flat_map, AllByRecursion}
 use Rattle.std.proofs.lemmas.List.{map_push}
 use Rattle.in_syntax.specs.declared.words.TokenKind.TheVariants as kind
@@ -28,7 +28,7 @@ use Rattle.in_syntax.specs.declared.states.HeadOf.TheVariants.{First, Second}
 use Rattle.in_syntax.specs.declared.states.TermOf.{TermOf}
 use Rattle.in_syntax.specs.declared.states.TermOf.TheVariants.{Left, Right, Inside}
 use Rattle.in_syntax.specs.declared.states.Nest.{Nest}
-use Rattle.in_syntax.specs.Grammar.{Marked, marked, within, named, plain, separated, numbered, spell_port, spell_auxiliary, spell_classes, spell_symbol, spell_type, spell_types, spell_arguments, spell_level, spell_term, spell_outermost, spell_head, spell_rule, spell_equation, spell_free, spell_net, max_symbols, max_rules, max_free, max_ports, max_depth, IsNonempty, Item, types, symbol, rule, none_yet, counted, spell_item, spell_items, IsItem, types_in, symbols_in, rules_in}
+use Rattle.in_syntax.specs.Grammar.{Marked, marked, within, named, plain, separated, numbered, spell_port, spell_auxiliary, spell_classes, spell_symbol, spell_type, spell_types, spell_arguments, spell_level, spell_term, spell_outermost, spell_head, spell_rule, spell_equation, spell_free, spell_net, max_symbols, max_rules, max_free, max_ports, max_depth, Item, types, symbol, rule, none_yet, counted, spell_item, spell_items, IsItem, types_in, symbols_in, rules_in}
 use Rattle.in_syntax.specs.Steps.{Step, goes, adds_types, adds_symbol, adds_rule, stuck, at_item, at_type_name, at_type_end, at_symbol_name, at_symbol_colon, at_port_kind, after_port, at_port_sign, at_symbol_end, at_class_end, at_head_name, at_head_open, at_head_first, at_head_end, at_net_open, at_free_first, at_free_name, at_free_colon, at_free_end, at_body_open, at_equation, at_term_name, after_argument, after_left, after_right, after_head_term, after_outermost, after_term, at_term_end, at_term_open, step, at_state, with_types, with_symbol, with_rule, counts_of, start}
 use Rattle.in_syntax.specs.Trees.{bare, bare_head, with_argument}
 use Rattle.in_syntax.proofs.Separated.{comma, before, separated_snoc, before_is, nonempty_snoc, flat_snoc, numbered_snoc, nonempty_numbered, ports_after, ports_after_snoc, classes_snoc, counted_all, counted_snoc, items_snoc}
@@ -63,8 +63,8 @@ head_of_front c (Second h) = marked (nat_lt max_rules (c.rules + 1)) (Plain kind
 abbrev pub head_before : Counts → HeadOf → Head → List Marked
 head_before c o h = head_of_front c o ++ named h.name ∷ plain kind.OpenBracket ∷ before (map spell_outermost h.terms)
 
-abbrev pub frees_front : List (List Marked) → List Marked
-frees_front l = plain kind.Net ∷ plain kind.OpenParenthesis ∷ separated l
+abbrev pub frees_front : List SourceFree → List Marked
+frees_front fs = plain kind.Net ∷ plain kind.OpenParenthesis ∷ separated (numbered spell_free 1 fs)
 
 abbrev pub frees_before : List SourceFree → List Marked
 frees_before fs = plain kind.Net ∷ plain kind.OpenParenthesis ∷ before (numbered spell_free 1 fs)
@@ -74,7 +74,7 @@ abbrev pub free_name : List SourceFree → Name → Marked
 free_name fs n = marked (nat_lt max_free (1 + length fs)) (Named n)
 
 abbrev pub net_front : SourceNet → List Marked
-net_front n = frees_front (numbered spell_free 1 n.free) ++ plain kind.CloseParenthesis ∷ plain kind.OpenBrace ∷ flat_map spell_equation n.equations
+net_front n = frees_front n.free ++ plain kind.CloseParenthesis ∷ plain kind.OpenBrace ∷ flat_map spell_equation n.equations
 
 -- what is read before a term and the terms that are open around it
 abbrev pub of_front : Counts → TermOf → List Marked
@@ -121,8 +121,8 @@ spelled k state.NetOpen = plain kind.Net ∷ []
 spelled k state.FreeFirst = plain kind.Net ∷ plain kind.OpenParenthesis ∷ []
 spelled k (state.FreeName fs) = frees_before fs
 spelled k (state.FreeColon fs n) = frees_before fs ++ free_name fs n ∷ []
-spelled k (state.FreeEnd fs) = frees_front (numbered spell_free 1 fs)
-spelled k (state.BodyOpen fs) = frees_front (numbered spell_free 1 fs) ++ plain kind.CloseParenthesis ∷ []
+spelled k (state.FreeEnd fs) = frees_front fs
+spelled k (state.BodyOpen fs) = frees_front fs ++ plain kind.CloseParenthesis ∷ []
 spelled k (state.Equation n) = net_front n
 spelled k (state.TermName b) = nest_front k b
 spelled k (state.TermOpen b n) = nest_front k b ++ marked (nat_lt max_depth (length b.around + 1)) (Named n) ∷ []
@@ -132,28 +132,28 @@ spelled k (state.Done n) = spell_net n
 -- lists that have an element, and the numbers of ports
 abbrev pub IsFullPort : PortOf → Type 0
 IsFullPort (Principal n) = Unit {0}
-IsFullPort (Auxiliary s c number) = AllByRecursion IsNonempty s.classes × (number ≡ next_port s c)
+IsFullPort (Auxiliary s c number) = AllByRecursion (λ c. 0 < length c) s.classes × (number ≡ next_port s c)
 IsFullPort (Free fs n) = Unit {0}
 
 abbrev pub IsFullSign : PortOf → Type 0
 IsFullSign (Principal n) = Unit {0}
-IsFullSign (Auxiliary s c number) = AllByRecursion IsNonempty s.classes × (number ≡ next_port s c + 1)
+IsFullSign (Auxiliary s c number) = AllByRecursion (λ c. 0 < length c) s.classes × (number ≡ next_port s c + 1)
 IsFullSign (Free fs n) = Unit {0}
 
 abbrev pub IsFull : State → Type 0
-IsFull (state.TypeEnd names) = IsNonempty names
+IsFull (state.TypeEnd names) = 0 < length names
 IsFull (state.PortKind o) = IsFullPort o
 IsFull (state.PortSign o k) = IsFullSign o
-IsFull (state.SymbolEnd s number) = AllByRecursion IsNonempty s.classes × (number ≡ ports_after 1 s.classes)
-IsFull (state.ClassEnd s c number) = AllByRecursion IsNonempty s.classes × IsNonempty c × (number ≡ next_port s c)
-IsFull (state.FreeEnd fs) = IsNonempty fs
+IsFull (state.SymbolEnd s number) = AllByRecursion (λ c. 0 < length c) s.classes × (number ≡ ports_after 1 s.classes)
+IsFull (state.ClassEnd s c number) = AllByRecursion (λ c. 0 < length c) s.classes × (0 < length c) × (number ≡ next_port s c)
+IsFull (state.FreeEnd fs) = 0 < length fs
 IsFull _ = Unit {0}
 
 -- what a step from a state has to keep
 abbrev pub KeepsAll : Counts → List Marked → Sign → Step → Type 0
 KeepsAll k l x (goes past q) = IsFull q × (spelled k q ≡ l ++ marked past x ∷ [])
-KeepsAll k l x (adds_types names) = IsNonempty names × (spell_types (k.types + 1) names ≡ l ++ within x ∷ [])
-KeepsAll k l x (adds_symbol s) = AllByRecursion IsNonempty s.classes × (spell_symbol (k.symbols + 1) s ≡ l ++ within x ∷ [])
+KeepsAll k l x (adds_types names) = (0 < length names) × (spell_types (k.types + 1) names ≡ l ++ within x ∷ [])
+KeepsAll k l x (adds_symbol s) = AllByRecursion (λ c. 0 < length c) s.classes × (spell_symbol (k.symbols + 1) s ≡ l ++ within x ∷ [])
 KeepsAll k l x (adds_rule y) = spell_rule (k.rules + 1) y ≡ l ++ within x ∷ []
 KeepsAll k l x stuck = Unit {0}
 
@@ -178,7 +178,7 @@ keeps_type_name k names (Named n) = (
 )
 keeps_type_name k names _ = tt
 
-keeps_type_end : (k : Counts) (names : List Name) (x : Sign) → IsNonempty names → Keeps k (state.TypeEnd names) x (at_type_end names x)
+keeps_type_end : (k : Counts) (names : List Name) (x : Sign) → 0 < length names → Keeps k (state.TypeEnd names) x (at_type_end names x)
 keeps_type_end k names (Plain kind.Comma) full =
     (tt, ap (λ z. plain kind.Type ∷ z) (before_is (numbered spell_type (k.types + 1) names) (nonempty_numbered spell_type (k.types + 1) names full)))
 keeps_type_end k names (Plain kind.Semicolon) full = (full, refl)
@@ -246,7 +246,7 @@ keeps_class_end k s c number (Plain kind.Comma) full = (
       ∙ simp append_assoc,
 )
 keeps_class_end k s c number (Plain kind.CloseBrace) full = (
-  (all_append IsNonempty s.classes (c ∷ []) full.0 (full.1, tt), full.2 ∙ sym (ports_after_snoc 1 s.classes c)),
+  (all_append (λ c. 0 < length c) s.classes (c ∷ []) full.0 (full.1, tt), full.2 ∙ sym (ports_after_snoc 1 s.classes c)),
   ap (λ z. plain kind.Symbol ∷ marked (nat_lt max_symbols (k.symbols + 1)) (Named s.name) ∷ plain kind.Colon ∷ spell_port false s.port ++ z) (classes_snoc 1 s.classes c)
       ∙ simp append_assoc,
 )
@@ -298,7 +298,7 @@ keeps_free_colon : (k : Counts) (fs : List SourceFree) (n : Name) (x : Sign) →
 keeps_free_colon k fs n (Plain kind.Colon) = (tt, simp append_assoc)
 keeps_free_colon k fs n _ = tt
 
-keeps_free_end : (k : Counts) (fs : List SourceFree) (x : Sign) → IsNonempty fs → Keeps k (state.FreeEnd fs) x (at_free_end fs x)
+keeps_free_end : (k : Counts) (fs : List SourceFree) (x : Sign) → 0 < length fs → Keeps k (state.FreeEnd fs) x (at_free_end fs x)
 keeps_free_end k fs (Plain kind.Comma) full =
     (tt, ap (λ z. plain kind.Net ∷ plain kind.OpenParenthesis ∷ z) (before_is (numbered spell_free 1 fs) (nonempty_numbered spell_free 1 fs full)))
 keeps_free_end k fs (Plain kind.CloseParenthesis) full = (tt, refl)
@@ -400,9 +400,9 @@ keeps_after_right : (k : Counts) (n : SourceNet) (l : Term) (p : Place) (t : Ter
     Keeps k (state.TermEnd (record { of = Right n l p; around = [] }) t) x (after_right n l p t x)
 keeps_after_right k n l p t (Plain kind.Semicolon) = (
   tt,
-  ap (λ z. frees_front (numbered spell_free 1 n.free) ++ plain kind.CloseParenthesis ∷ plain kind.OpenBrace ∷ z)
+  ap (λ z. frees_front n.free ++ plain kind.CloseParenthesis ∷ plain kind.OpenBrace ∷ z)
       (flat_snoc spell_equation n.equations (record { left = l; tilde = p; right = t }))
-      ∙ regroup_equation (frees_front (numbered spell_free 1 n.free)) (plain kind.CloseParenthesis ∷ plain kind.OpenBrace ∷ []) (flat_map spell_equation n.equations) (spell_term l 1) (within (Tilde p) ∷ []) (spell_term t 1) (plain kind.Semicolon ∷ [])
+      ∙ regroup_equation (frees_front n.free) (plain kind.CloseParenthesis ∷ plain kind.OpenBrace ∷ []) (flat_map spell_equation n.equations) (spell_term l 1) (within (Tilde p) ∷ []) (spell_term t 1) (plain kind.Semicolon ∷ [])
       ∙ ap (λ z. (z ++ spell_term t 1) ++ plain kind.Semicolon ∷ []) (sym (append-nil ((net_front n ++ spell_term l 1) ++ within (Tilde p) ∷ []))),
 )
 keeps_after_right k n l p t _ = tt

@@ -1,5 +1,5 @@
 -- The grammar of programs, as the spelling of their trees: Lafont's language (1990), in signs and with limits of this project's own choice.
-use Rattle.std.specs.Prelude.{ℕ, ◌+◌, Bool, false, cond, nat_lt, List, [], ◌∷◌, ◌++◌, length, map}
+use Rattle.std.specs.Prelude.{ℕ, ◌+◌, ◌<◌, Bool, false, cond, nat_lt, List, [], ◌∷◌, ◌++◌, length, map}
 use Rattle.std.specs.List.{flat_map, AllByRecursion}
 use Rattle.in_syntax.specs.declared.counts.Counts.{Counts}
 use Rattle.in_syntax.specs.declared.tree.Name.{Name}
@@ -170,15 +170,10 @@ abbrev pub spell_items : Counts → List Item → List Marked
 spell_items c [] = []
 spell_items c (i ∷ more) = spell_item c i ++ spell_items (counted c i) more
 
--- there is an element at least
-abbrev pub IsNonempty : {A : Type 0} → List A → Type 0
-IsNonempty [] = ⊥
-IsNonempty (x ∷ xs) = Unit {0}
-
 -- a list that the grammar writes with one element at least has one
 abbrev pub IsItem : Item → Type 0
-IsItem (types names) = IsNonempty names
-IsItem (symbol s) = AllByRecursion IsNonempty s.classes
+IsItem (types names) = 0 < length names
+IsItem (symbol s) = AllByRecursion (λ c. 0 < length c) s.classes
 IsItem (rule r) = Unit {0}
 
 -- program = item* net

@@ -102,7 +102,7 @@ place_at [] end = end
 place_at (t ∷ ts) end = t.place
 
 -- what is answered of a text's tokens
-abbrev pub IsParsing : List ℕ → List Token → Place → Result Source Fault → Type 0
+abbrev pub IsParsing : (text : List ℕ) (tokens : List Token) (end : Place) → Result Source Fault → Type 0
 IsParsing text tokens end (Ok source) = IsOutcome (signs_of text tokens) (tree source)
 IsParsing text tokens end (Err (Refused r)) =
     (i : ℕ) × IsOutcome (signs_of text tokens) (fault r.code i) × (r.place ≡ place_at (drop i tokens) end) × (r.other ≡ None)

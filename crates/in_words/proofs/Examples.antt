@@ -1,18 +1,17 @@
 -- What words that are written out ask for.
-use Rattle.std.proofs.Common.{◌≡◌, ◌<◌, ◌≤◌, ◌^◌, ℕ, ◌++◌, true, false, List, [], ◌∷◌, Some, None, refl, arith, rules}
+use Rattle.std.proofs.Common.{◌≡◌, ◌<◌, ◌≤◌, ◌^◌, ℕ, ◌++◌, true, false, List, [], ◌∷◌, Some, refl, arith, rules}
 use Rattle.std.specs.Prelude.{codes}
 use Rattle.clap.specs.ValueTests.{accepts}
 use Rattle.clap.specs.Walk.{Row, Text}
 use Rattle.clap.specs.Simple.{subcommand_of}
-use Rattle.clap.specs.declared.builder.value_parser.Reading.TheVariants.{AsWritten}
 use Rattle.clap.specs.declared.builder.value_parser.ValueParser.TheVariants.{Unsigned}
-use Rattle.clap.specs.declared.parser.matches.ValueSource.{ValueSource}
 use Rattle.clap.specs.declared.parser.matches.ValueSource.TheVariants.{DefaultValue, CommandLine}
 use Rattle.clap.proofs.OnLiterals.{clap_on_literals}
 use Rattle.clap.proofs.ValueTestLemmas.{Accepts-accepts}
 use Rattle.in_run.specs.Limiting.{least_cells, most_cells, most_interactions}
 use Rattle.in_words.specs.Asking.{Spells, faults}
 use Rattle.in_words.specs.CommandLine.{command_line}
+use Rattle.in_words.proofs.Options.{new_row}
 use Rattle.in_words.specs.Laws.{RunAsksForTheGiven, RunAsksForTheUsual, SubcommandsAsk}
 
 abbrev check_words : List Text
@@ -27,14 +26,11 @@ run_words = codes "inet" ∷ codes "run" ∷ []
 abbrev given_words : Text → Text → List Text
 given_words limit cells = codes "inet" ∷ codes "run" ∷ (codes "--limit=" ++ limit) ∷ (codes "--cells=" ++ cells) ∷ []
 
-abbrev row : Text → Text → ValueSource → Row
-row name text s = record { id = name; values = text ∷ []; count = None; source = Some s; reading = AsWritten }
-
 abbrev usual_rows : List Row
-usual_rows = row (codes "limit") (codes "1000000") DefaultValue ∷ row (codes "cells") (codes "65536") DefaultValue ∷ []
+usual_rows = new_row (codes "limit") (codes "1000000") DefaultValue ∷ new_row (codes "cells") (codes "65536") DefaultValue ∷ []
 
 abbrev given_rows : Text → Text → List Row
-given_rows limit cells = row (codes "limit") limit CommandLine ∷ row (codes "cells") cells CommandLine ∷ []
+given_rows limit cells = new_row (codes "limit") limit CommandLine ∷ new_row (codes "cells") cells CommandLine ∷ []
 
 check_taken : faults check_words ≡ []
 unfolding clap_on_literals

@@ -112,7 +112,7 @@ is_taken parser text e = go (accepts false parser text) e
     go false e = cc
 
 -- a row of one text
-abbrev new_row : Text → Text → ValueSource → Row
+abbrev pub new_row : Text → Text → ValueSource → Row
 new_row name text s = record { id = name; values = text ∷ []; count = None; source = Some s; reading = AsWritten }
 
 number_keeps : (name usual : Text) (least most : ℕ) → ((text : Text) → accepts false (Unsigned least most) text ≡ true → IsGood (new_row name text CommandLine))

@@ -10,21 +10,21 @@ use Rattle.in_base.specs.Lists.{IsAmong}
 use Rattle.in_net.specs.Ahead.{MeetsPair, pair, pair_later, WaitsAt, free, free_later}
 use Rattle.in_net.proofs.Interactions.AtNets.{port_agent, port_place}
 use Rattle.in_net.proofs.Interactions.Alternating.{symbol_of}
-use Rattle.in_check.specs.NetText.{Words, TextPart, Bytes, Head, Variable, listed, bracketed, arity_of, agent_term, term_at, term, free_lines, pair_lines, text_parts, StandsNowhere, StandsOnce, agents_of, IsQueue, IsAuxiliary}
+use Rattle.in_check.specs.NetText.{Words, TextPart, Bytes, Head, Variable, listed, bracketed, arity_of, agent_term, term_at, term, free_lines, pair_lines, text_parts, StandsTimes, agents_of, IsQueue, IsAuxiliary}
 use Rattle.in_check.proofs.Reached.Renaming.{is_some}
 use Rattle.in_check.proofs.Reached.Counts.{all_of}
 
 module _ {X : Type 0} (x : X) where
-  nowhere_join : (xs ys : List X) → StandsNowhere x xs → StandsNowhere x ys → StandsNowhere x (xs ++ ys)
+  nowhere_join : (xs ys : List X) → StandsTimes 0 x xs → StandsTimes 0 x ys → StandsTimes 0 x (xs ++ ys)
   nowhere_join [] ys h k = k
   nowhere_join (y ∷ xs) ys h k = (h.0, nowhere_join xs ys h.1 k)
 
-  once_left : (xs ys : List X) → StandsOnce x xs → StandsNowhere x ys → StandsOnce x (xs ++ ys)
+  once_left : (xs ys : List X) → StandsTimes 1 x xs → StandsTimes 0 x ys → StandsTimes 1 x (xs ++ ys)
   once_left [] ys h k = absurd h
   once_left (y ∷ xs) ys (inl h) k = inl (h.0, nowhere_join xs ys h.1 k)
   once_left (y ∷ xs) ys (inr h) k = inr (h.0, once_left xs ys h.1 k)
 
-  once_right : (xs ys : List X) → StandsNowhere x xs → StandsOnce x ys → StandsOnce x (xs ++ ys)
+  once_right : (xs ys : List X) → StandsTimes 0 x xs → StandsTimes 1 x ys → StandsTimes 1 x (xs ++ ys)
   once_right [] ys h k = k
   once_right (y ∷ xs) ys h k = inr (h.0, once_right xs ys h.1 k)
 
@@ -178,26 +178,26 @@ module _ {A : Type 0} (sig : Signature) (n : Net A) (net : IsNet sig n) where
 
   -- a piece of the text, and the point at which it is to stand
   module _ (p : Point A) (ys : List A) (tops : Tops n p ys) (point : IsPoint sig n p) (T : TextPart A) (bytes : (bs : List ℕ) → Bytes bs ≢ T) (heads : (y : A) (q : Point A) → n.partner q ≡ Some (Port y 0) → Head y ≡ T → q ≡ p) (variables : (q v : Point A) → Variable q v ≡ T → q ≡ p) where
-    nowhere_at : (agent : A → List (TextPart A)) (q : Point A) (o : Option (Point A)) → n.partner q ≡ o → ((y : A) → n.partner q ≡ Some (Port y 0) → StandsNowhere T (agent y)) → q ≢ p → StandsNowhere T (term_at agent q o)
+    nowhere_at : (agent : A → List (TextPart A)) (q : Point A) (o : Option (Point A)) → n.partner q ≡ o → ((y : A) → n.partner q ≡ Some (Port y 0) → StandsTimes 0 T (agent y)) → q ≢ p → StandsTimes 0 T (term_at agent q o)
     nowhere_at agent q None e h differ = tt
     nowhere_at agent q (Some (Port y zero)) e h differ = h y e
     nowhere_at agent q (Some (Port y (suc i))) e h differ = ((λ w. differ (variables q (Port y (suc i)) w)), tt)
     nowhere_at agent q (Some (Free k)) e h differ = ((λ w. differ (variables q (Free k) w)), tt)
 
-    nowhere_listed : (s : Point A → List (TextPart A)) (y : A) → ((i : ℕ) → StandsNowhere T (s (Port y (suc i)))) → (i k : ℕ) → StandsNowhere T (listed s y (suc i) k)
+    nowhere_listed : (s : Point A → List (TextPart A)) (y : A) → ((i : ℕ) → StandsTimes 0 T (s (Port y (suc i)))) → (i k : ℕ) → StandsTimes 0 T (listed s y (suc i) k)
     nowhere_listed s y h i zero = tt
     nowhere_listed s y h i (suc zero) = h i
     nowhere_listed s y h i (suc (suc k)) = nowhere_join T (s (Port y (suc i))) (Bytes (44 ∷ 32 ∷ []) ∷ listed s y (suc (suc i)) (suc k)) (h i) (bytes (44 ∷ 32 ∷ []), nowhere_listed s y h (suc i) (suc k))
 
-    nowhere_bracketed : (k : ℕ) (ps : List (TextPart A)) → StandsNowhere T ps → StandsNowhere T (bracketed k ps)
+    nowhere_bracketed : (k : ℕ) (ps : List (TextPart A)) → StandsTimes 0 T ps → StandsTimes 0 T (bracketed k ps)
     nowhere_bracketed zero ps h = tt
     nowhere_bracketed (suc k) ps h = (bytes (40 ∷ []), nowhere_join T ps (Bytes (41 ∷ []) ∷ []) h (bytes (41 ∷ []), tt))
 
-    pub nowhere_below : (s : Point A → List (TextPart A)) (y : A) → ((i : ℕ) → StandsNowhere T (s (Port y (suc i)))) → StandsNowhere T (bracketed (arity_of sig (n.symbol y)) (listed s y 1 (arity_of sig (n.symbol y))))
+    pub nowhere_below : (s : Point A → List (TextPart A)) (y : A) → ((i : ℕ) → StandsTimes 0 T (s (Port y (suc i)))) → StandsTimes 0 T (bracketed (arity_of sig (n.symbol y)) (listed s y 1 (arity_of sig (n.symbol y))))
     nowhere_below s y h = nowhere_bracketed (arity_of sig (n.symbol y)) (listed s y 1 (arity_of sig (n.symbol y))) (nowhere_listed s y h 0 (arity_of sig (n.symbol y)))
 
     -- it stands in no term of a point to which it doesn't climb
-    pub nowhere : (d : ℕ) (q : Point A) → ((l : ℕ) → Climb n p l q → ⊥) → StandsNowhere T (term sig n d q)
+    pub nowhere : (d : ℕ) (q : Point A) → ((l : ℕ) → Climb n p l q → ⊥) → StandsTimes 0 T (term sig n d q)
     nowhere zero q h = nowhere_at (λ y. []) q (n.partner q) refl (λ y e. tt) (λ e. h 0 (sym e))
     nowhere (suc d) q h = nowhere_at (agent_term sig n (term sig n d)) q (n.partner q) refl
         (λ y e. (
@@ -205,28 +205,28 @@ module _ {A : Type 0} (sig : Signature) (n : Net A) (net : IsNet sig n) where
           nowhere_below (term sig n d) y (λ i. nowhere d (Port y (suc i)) (λ l c. h (suc l) (y, i, c, net.back q (Port y 0) e))),
         )) (λ e. h 0 (sym e))
 
-    once_listed : (s : Point A → List (TextPart A)) (y : A) (i : ℕ) → StandsOnce T (s (Port y (suc i))) → ((j : ℕ) → j ≢ i → StandsNowhere T (s (Port y (suc j)))) → (j k : ℕ) → j ≤ i → i < j + k → StandsOnce T (listed s y (suc j) k)
+    once_listed : (s : Point A → List (TextPart A)) (y : A) (i : ℕ) → StandsTimes 1 T (s (Port y (suc i))) → ((j : ℕ) → j ≢ i → StandsTimes 0 T (s (Port y (suc j)))) → (j k : ℕ) → j ≤ i → i < j + k → StandsTimes 1 T (listed s y (suc j) k)
     once_listed s y i h others j zero a b = absurd (omega arith)
-    once_listed s y i h others j (suc zero) a b = let e : i ≡ j = omega arith in subst (λ j. StandsOnce T (s (Port y (suc j)))) e h
+    once_listed s y i h others j (suc zero) a b = let e : i ≡ j = omega arith in subst (λ j. StandsTimes 1 T (s (Port y (suc j)))) e h
     once_listed s y i h others j (suc (suc k)) a b = go (ℕ_discrete j i) (λ c. once_listed s y i h others (suc j) (suc k) c (omega arith))
       where
-        go : Dec (j ≡ i) → (suc j ≤ i → StandsOnce T (listed s y (suc (suc j)) (suc k))) → StandsOnce T (s (Port y (suc j)) ++ (Bytes (44 ∷ 32 ∷ []) ∷ listed s y (suc (suc j)) (suc k)))
-        go (yes e) again = once_left T (s (Port y (suc j))) (Bytes (44 ∷ 32 ∷ []) ∷ listed s y (suc (suc j)) (suc k)) (subst (λ j. StandsOnce T (s (Port y (suc j)))) (sym e) h) (bytes (44 ∷ 32 ∷ []), later (suc j) (suc k) (omega arith))
+        go : Dec (j ≡ i) → (suc j ≤ i → StandsTimes 1 T (listed s y (suc (suc j)) (suc k))) → StandsTimes 1 T (s (Port y (suc j)) ++ (Bytes (44 ∷ 32 ∷ []) ∷ listed s y (suc (suc j)) (suc k)))
+        go (yes e) again = once_left T (s (Port y (suc j))) (Bytes (44 ∷ 32 ∷ []) ∷ listed s y (suc (suc j)) (suc k)) (subst (λ j. StandsTimes 1 T (s (Port y (suc j)))) (sym e) h) (bytes (44 ∷ 32 ∷ []), later (suc j) (suc k) (omega arith))
           where
-            later : (m k : ℕ) → i < m → StandsNowhere T (listed s y (suc m) k)
+            later : (m k : ℕ) → i < m → StandsTimes 0 T (listed s y (suc m) k)
             later m zero l = tt
             later m (suc zero) l = others m (λ w. (let b : ⊥ = omega arith in b))
             later m (suc (suc k)) l = nowhere_join T (s (Port y (suc m))) (Bytes (44 ∷ 32 ∷ []) ∷ listed s y (suc (suc m)) (suc k)) (others m (λ w. (let b : ⊥ = omega arith in b))) (bytes (44 ∷ 32 ∷ []), later (suc m) (suc k) (omega arith))
         go (no e) again = once_right T (s (Port y (suc j))) (Bytes (44 ∷ 32 ∷ []) ∷ listed s y (suc (suc j)) (suc k)) (others j e) (inr (bytes (44 ∷ 32 ∷ []), again (omega arith)))
 
-    once_bracketed : (k : ℕ) (qs : List (TextPart A)) → 0 < k → StandsOnce T qs → StandsOnce T (bracketed k qs)
+    once_bracketed : (k : ℕ) (qs : List (TextPart A)) → 0 < k → StandsTimes 1 T qs → StandsTimes 1 T (bracketed k qs)
     once_bracketed zero qs l h = absurd (omega arith)
     once_bracketed (suc k) qs l h = inr (bytes (40 ∷ []), once_left T qs (Bytes (41 ∷ []) ∷ []) h (bytes (41 ∷ []), tt))
 
-    module _ (b : ℕ) (shown : (d : ℕ) → b ≤ d → StandsOnce T (term sig n d p)) where
+    module _ (b : ℕ) (shown : (d : ℕ) → b ≤ d → StandsTimes 1 T (term sig n d p)) where
       -- it stands once in the term of each point to which it climbs, if that is deep enough
-      pub once : (l : ℕ) (q : Point A) (d : ℕ) → Climb n p l q → l + b ≤ d → StandsOnce T (term sig n d q)
-      once zero q d c h = subst (λ q. StandsOnce T (term sig n d q)) c (shown d (omega arith))
+      pub once : (l : ℕ) (q : Point A) (d : ℕ) → Climb n p l q → l + b ≤ d → StandsTimes 1 T (term sig n d q)
+      once zero q d c h = subst (λ q. StandsTimes 1 T (term sig n d q)) c (shown d (omega arith))
       once (suc l) q zero c h = absurd (omega arith)
       once (suc l) q (suc d) c h =
           let y = c.0 in
@@ -234,8 +234,8 @@ module _ {A : Type 0} (sig : Signature) (n : Net A) (net : IsNet sig n) where
           let k = arity_of sig (n.symbol y) in
           let back : n.partner q ≡ Some (Port y 0) = net.back (Port y 0) q c.3 in
           let within : i < k = in_arity y i (n.symbol y) (climb_point l p (Port y (suc i)) point c.2) in
-          let inside : StandsOnce T (term sig n d (Port y (suc i))) = once l (Port y (suc i)) d c.2 (omega arith) in
-          subst (λ o. StandsOnce T (term_at (agent_term sig n (term sig n d)) q o)) (sym back) (inr (
+          let inside : StandsTimes 1 T (term sig n d (Port y (suc i))) = once l (Port y (suc i)) d c.2 (omega arith) in
+          subst (λ o. StandsTimes 1 T (term_at (agent_term sig n (term sig n d)) q o)) (sym back) (inr (
             (λ w. no_return n l p ys tops (subst (λ r. Climb n p (suc l) r) (heads y q back w) c)),
             once_bracketed k (listed (term sig n d) y 1 k) (omega arith)
                 (once_listed (term sig n d) y i inside (λ j differ. nowhere d (Port y (suc j)) (λ m c'. differ (one_port n m l p ys y j i q c.3 tops c' c.2))) 0 k (omega arith) (omega arith)),
@@ -257,17 +257,17 @@ module _ {A : Type 0} (sig : Signature) (n : Net A) (net : IsNet sig n) where
         pair_end : (z : A) (zs : List A) → Tops n (Port z 0) zs → zs ≡ []
         pair_end z zs t = tops_root n (Port z 0) zs t (λ h. h)
 
-        free_nowhere : (j more : ℕ) → ((i : ℕ) → j ≤ i → StandsNowhere T (term sig n d (Free i))) → StandsNowhere T (free_lines sig words n d j more)
+        free_nowhere : (j more : ℕ) → ((i : ℕ) → j ≤ i → StandsTimes 0 T (term sig n d (Free i))) → StandsTimes 0 T (free_lines sig words n d j more)
         free_nowhere j zero h = tt
         free_nowhere j (suc more) h =
             (bytes (words.free j ++ 32 ∷ 61 ∷ 32 ∷ []), nowhere_join T (term sig n d (Free j)) (Bytes (10 ∷ []) ∷ free_lines sig words n d (suc j) more) (h j (omega arith)) (bytes (10 ∷ []), free_nowhere (suc j) more (λ i l. h i (omega arith))))
 
-        free_once : (k : ℕ) → StandsOnce T (term sig n d (Free k)) → ((i : ℕ) → i ≢ k → StandsNowhere T (term sig n d (Free i))) → (j more : ℕ) → j ≤ k → k < j + more → StandsOnce T (free_lines sig words n d j more)
+        free_once : (k : ℕ) → StandsTimes 1 T (term sig n d (Free k)) → ((i : ℕ) → i ≢ k → StandsTimes 0 T (term sig n d (Free i))) → (j more : ℕ) → j ≤ k → k < j + more → StandsTimes 1 T (free_lines sig words n d j more)
         free_once k h others j zero a c = absurd (omega arith)
         free_once k h others j (suc more) a c = inr (bytes (words.free j ++ 32 ∷ 61 ∷ 32 ∷ []), go (ℕ_discrete j k) (λ e. free_once k h others (suc j) more e (omega arith)))
           where
-            go : Dec (j ≡ k) → (suc j ≤ k → StandsOnce T (free_lines sig words n d (suc j) more)) → StandsOnce T (term sig n d (Free j) ++ (Bytes (10 ∷ []) ∷ free_lines sig words n d (suc j) more))
-            go (yes e) again = once_left T (term sig n d (Free j)) (Bytes (10 ∷ []) ∷ free_lines sig words n d (suc j) more) (subst (λ j. StandsOnce T (term sig n d (Free j))) (sym e) h)
+            go : Dec (j ≡ k) → (suc j ≤ k → StandsTimes 1 T (free_lines sig words n d (suc j) more)) → StandsTimes 1 T (term sig n d (Free j) ++ (Bytes (10 ∷ []) ∷ free_lines sig words n d (suc j) more))
+            go (yes e) again = once_left T (term sig n d (Free j)) (Bytes (10 ∷ []) ∷ free_lines sig words n d (suc j) more) (subst (λ j. StandsTimes 1 T (term sig n d (Free j))) (sym e) h)
                 (bytes (10 ∷ []), free_nowhere (suc j) more (λ i l. others i (λ w. (let b : ⊥ = omega arith in b))))
             go (no e) again = once_right T (term sig n d (Free j)) (Bytes (10 ∷ []) ∷ free_lines sig words n d (suc j) more) (others j e) (inr (bytes (10 ∷ []), again (omega arith)))
 
@@ -275,15 +275,15 @@ module _ {A : Type 0} (sig : Signature) (n : Net A) (net : IsNet sig n) where
         pair_term : (x y : A) → n.partner (Port y 0) ≡ Some (Port x 0) → term sig n (suc d) (Port y 0) ≡ agent_term sig n (term sig n d) x
         pair_term x y e = ap (term_at (agent_term sig n (term sig n d)) (Port y 0)) e
 
-        pair_nowhere : (qs : List (A × A)) → AllByRecursion (λ q. n.partner (Port q.0 0) ≡ Some (Port q.1 0)) qs → ((z : A) → IsAmong z (agents_of qs) → StandsNowhere T (term sig n (suc d) (Port z 0))) → StandsNowhere T (pair_lines sig n d qs)
+        pair_nowhere : (qs : List (A × A)) → AllByRecursion (λ q. n.partner (Port q.0 0) ≡ Some (Port q.1 0)) qs → ((z : A) → IsAmong z (agents_of qs) → StandsTimes 0 T (term sig n (suc d) (Port z 0))) → StandsTimes 0 T (pair_lines sig n d qs)
         pair_nowhere [] active h = tt
         pair_nowhere (q ∷ qs) active h =
-            let one = subst (StandsNowhere T) (pair_term q.0 q.1 (net.back (Port q.0 0) (Port q.1 0) active.0)) (h q.1 (inr (inl refl))) in
-            let two = subst (StandsNowhere T) (pair_term q.1 q.0 active.0) (h q.0 (inl refl)) in
+            let one = subst (StandsTimes 0 T) (pair_term q.0 q.1 (net.back (Port q.0 0) (Port q.1 0) active.0)) (h q.1 (inr (inl refl))) in
+            let two = subst (StandsTimes 0 T) (pair_term q.1 q.0 active.0) (h q.0 (inl refl)) in
             nowhere_join T (agent_term sig n (term sig n d) q.0) (Bytes (32 ∷ 126 ∷ 32 ∷ []) ∷ (agent_term sig n (term sig n d) q.1 ++ (Bytes (10 ∷ []) ∷ pair_lines sig n d qs))) one
             (bytes (32 ∷ 126 ∷ 32 ∷ []), nowhere_join T (agent_term sig n (term sig n d) q.1) (Bytes (10 ∷ []) ∷ pair_lines sig n d qs) two (bytes (10 ∷ []), pair_nowhere qs active.1 (λ z a. h z (inr (inr a)))))
 
-        pair_once : (z : A) → StandsOnce T (term sig n (suc d) (Port z 0)) → ((w : A) → w ≢ z → StandsNowhere T (term sig n (suc d) (Port w 0))) → (qs : List (A × A)) → AllByRecursion (λ q. n.partner (Port q.0 0) ≡ Some (Port q.1 0)) qs → AreDifferent (agents_of qs) → IsAmong z (agents_of qs) → StandsOnce T (pair_lines sig n d qs)
+        pair_once : (z : A) → StandsTimes 1 T (term sig n (suc d) (Port z 0)) → ((w : A) → w ≢ z → StandsTimes 0 T (term sig n (suc d) (Port w 0))) → (qs : List (A × A)) → AllByRecursion (λ q. n.partner (Port q.0 0) ≡ Some (Port q.1 0)) qs → AreDifferent (agents_of qs) → IsAmong z (agents_of qs) → StandsTimes 1 T (pair_lines sig n d qs)
         pair_once z h others [] active different among = absurd among
         pair_once z h others (q ∷ qs) active different among =
             go among (λ a. pair_once z h others qs active.1 different.1.1 a)
@@ -300,28 +300,28 @@ module _ {A : Type 0} (sig : Signature) (n : Net A) (net : IsNet sig n) where
             to_second : term sig n (suc d) (Port q.0 0) ≡ agent_term sig n (term sig n d) q.1
             to_second = pair_term q.1 q.0 active.0
 
-            rest_nowhere : (z ≡ q.0) ⊎ (z ≡ q.1) → StandsNowhere T (pair_lines sig n d qs)
+            rest_nowhere : (z ≡ q.0) ⊎ (z ≡ q.1) → StandsTimes 0 T (pair_lines sig n d qs)
             rest_nowhere (inl e) = pair_nowhere qs active.1 (λ w a. others w (λ f. among_all (λ r. q.0 ≢ r) (q.1 ∷ agents_of qs) w different.0 (inr a) (sym e ∙ sym f)))
             rest_nowhere (inr e) = pair_nowhere qs active.1 (λ w a. others w (λ f. among_all (λ r. q.1 ≢ r) (agents_of qs) w different.1.0 a (sym e ∙ sym f)))
 
-            join : StandsNowhere T (agent_term sig n (term sig n d) q.0) → StandsOnce T (agent_term sig n (term sig n d) q.1 ++ (Bytes (10 ∷ []) ∷ pair_lines sig n d qs)) → StandsOnce T (pair_lines sig n d (q ∷ qs))
+            join : StandsTimes 0 T (agent_term sig n (term sig n d) q.0) → StandsTimes 1 T (agent_term sig n (term sig n d) q.1 ++ (Bytes (10 ∷ []) ∷ pair_lines sig n d qs)) → StandsTimes 1 T (pair_lines sig n d (q ∷ qs))
             join a h = once_right T (agent_term sig n (term sig n d) q.0) (Bytes (32 ∷ 126 ∷ 32 ∷ []) ∷ (agent_term sig n (term sig n d) q.1 ++ (Bytes (10 ∷ []) ∷ pair_lines sig n d qs))) a (inr (bytes (32 ∷ 126 ∷ 32 ∷ []), h))
 
-            go : (q.0 ≡ z) ⊎ ((q.1 ≡ z) ⊎ IsAmong z (agents_of qs)) → (IsAmong z (agents_of qs) → StandsOnce T (pair_lines sig n d qs)) → StandsOnce T (pair_lines sig n d (q ∷ qs))
+            go : (q.0 ≡ z) ⊎ ((q.1 ≡ z) ⊎ IsAmong z (agents_of qs)) → (IsAmong z (agents_of qs) → StandsTimes 1 T (pair_lines sig n d qs)) → StandsTimes 1 T (pair_lines sig n d (q ∷ qs))
             go (inl e) again =
-                join (subst (StandsNowhere T) to_first (others q.1 (λ f. different.0.0 (e ∙ sym f))))
-                (once_left T (agent_term sig n (term sig n d) q.1) (Bytes (10 ∷ []) ∷ pair_lines sig n d qs) (subst (StandsOnce T) to_second (subst (λ w. StandsOnce T (term sig n (suc d) (Port w 0))) (sym e) h)) (bytes (10 ∷ []), rest_nowhere (inl (sym e))))
+                join (subst (StandsTimes 0 T) to_first (others q.1 (λ f. different.0.0 (e ∙ sym f))))
+                (once_left T (agent_term sig n (term sig n d) q.1) (Bytes (10 ∷ []) ∷ pair_lines sig n d qs) (subst (StandsTimes 1 T) to_second (subst (λ w. StandsTimes 1 T (term sig n (suc d) (Port w 0))) (sym e) h)) (bytes (10 ∷ []), rest_nowhere (inl (sym e))))
             go (inr (inl e)) again =
                 once_left T (agent_term sig n (term sig n d) q.0) (Bytes (32 ∷ 126 ∷ 32 ∷ []) ∷ (agent_term sig n (term sig n d) q.1 ++ (Bytes (10 ∷ []) ∷ pair_lines sig n d qs)))
-                (subst (StandsOnce T) to_first (subst (λ w. StandsOnce T (term sig n (suc d) (Port w 0))) (sym e) h)) (
+                (subst (StandsTimes 1 T) to_first (subst (λ w. StandsTimes 1 T (term sig n (suc d) (Port w 0))) (sym e) h)) (
                   bytes (32 ∷ 126 ∷ 32 ∷ []),
                   nowhere_join T (agent_term sig n (term sig n d) q.1) (Bytes (10 ∷ []) ∷ pair_lines sig n d qs)
-                      (subst (StandsNowhere T) to_second (others q.0 (λ f. different.0.0 (f ∙ sym e)))) (bytes (10 ∷ []), rest_nowhere (inr (sym e))),
+                      (subst (StandsTimes 0 T) to_second (others q.0 (λ f. different.0.0 (f ∙ sym e)))) (bytes (10 ∷ []), rest_nowhere (inr (sym e))),
                 )
             go (inr (inr a)) again =
-                join (subst (StandsNowhere T) to_first (others q.1 (λ f. among_all (λ r. q.1 ≢ r) (agents_of qs) z different.1.0 a f)))
+                join (subst (StandsTimes 0 T) to_first (others q.1 (λ f. among_all (λ r. q.1 ≢ r) (agents_of qs) z different.1.0 a f)))
                 (once_right T (agent_term sig n (term sig n d) q.1) (Bytes (10 ∷ []) ∷ pair_lines sig n d qs)
-                (subst (StandsNowhere T) to_second (others q.0 (λ f. among_all (λ r. q.0 ≢ r) (q.1 ∷ agents_of qs) z different.0 (inr a) f)))
+                (subst (StandsTimes 0 T) to_second (others q.0 (λ f. among_all (λ r. q.0 ≢ r) (q.1 ∷ agents_of qs) z different.0 (inr a) f)))
                 (inr (bytes (10 ∷ []), again a)))
 
         -- the active pair at whose agent it ends
@@ -329,13 +329,13 @@ module _ {A : Type 0} (sig : Signature) (n : Net A) (net : IsNet sig n) where
         last_pair zero z c = near z c
         last_pair (suc l) z c = (c.0, net.back (Port c.0 0) (Port z 0) c.3)
 
-        pub holds : StandsOnce T (text_parts sig words n d queue)
+        pub holds : StandsTimes 1 T (text_parts sig words n d queue)
         holds = elim (top_of n p ys tops) [
           | inl r ↦ (
               let k = r.0 in
               let inside : k < length n.free = climb_point (length ys) p (Free k) point r.1 in
-              let other : (i : ℕ) → i ≢ k → StandsNowhere T (term sig n d (Free i)) = λ i differ. nowhere d (Free i) (elsewhere (Free k) (Free i) r.1 (free_end i) (λ e. (let w : i ≡ k = cc in differ w))) in
-              let pairs : (z : A) → StandsNowhere T (term sig n (suc d) (Port z 0)) = λ z. nowhere (suc d) (Port z 0) (elsewhere (Free k) (Port z 0) r.1 (pair_end z) (λ e. (let w : Port z 0 ≡ Free k = e in cc))) in
+              let other : (i : ℕ) → i ≢ k → StandsTimes 0 T (term sig n d (Free i)) = λ i differ. nowhere d (Free i) (elsewhere (Free k) (Free i) r.1 (free_end i) (λ e. (let w : i ≡ k = cc in differ w))) in
+              let pairs : (z : A) → StandsTimes 0 T (term sig n (suc d) (Port z 0)) = λ z. nowhere (suc d) (Port z 0) (elsewhere (Free k) (Port z 0) r.1 (pair_end z) (λ e. (let w : Port z 0 ≡ Free k = e in cc))) in
               once_left T (free_lines sig words n d 0 (length n.free)) (pair_lines sig n d queue)
               (free_once k (once (length ys) (Free k) d r.1 deep) other 0 (length n.free) (omega arith) (omega arith))
               (pair_nowhere queue is_queue.active (λ z a. pairs z))
@@ -343,8 +343,8 @@ module _ {A : Type 0} (sig : Signature) (n : Net A) (net : IsNet sig n) where
           | inr r ↦ (
               let z = r.0 in
               let y = last_pair (length ys) z r.1 in
-              let free : (i : ℕ) → StandsNowhere T (term sig n d (Free i)) = λ i. nowhere d (Free i) (elsewhere (Port z 0) (Free i) r.1 (free_end i) (λ e. (let w : Free i ≡ Port z 0 = e in cc))) in
-              let others : (w : A) → w ≢ z → StandsNowhere T (term sig n (suc d) (Port w 0)) = λ w differ. nowhere (suc d) (Port w 0) (elsewhere (Port z 0) (Port w 0) r.1 (pair_end w) (λ e. differ (port_agent w z 0 0 e))) in
+              let free : (i : ℕ) → StandsTimes 0 T (term sig n d (Free i)) = λ i. nowhere d (Free i) (elsewhere (Port z 0) (Free i) r.1 (free_end i) (λ e. (let w : Free i ≡ Port z 0 = e in cc))) in
+              let others : (w : A) → w ≢ z → StandsTimes 0 T (term sig n (suc d) (Port w 0)) = λ w differ. nowhere (suc d) (Port w 0) (elsewhere (Port z 0) (Port w 0) r.1 (pair_end w) (λ e. differ (port_agent w z 0 0 e))) in
               once_right T (free_lines sig words n d 0 (length n.free)) (pair_lines sig n d queue)
               (free_nowhere 0 (length n.free) (λ i l. free i))
               (pair_once z (once (length ys) (Port z 0) (suc d) r.1 (omega arith)) others queue is_queue.active is_queue.once (is_queue.all z y.0 y.1))

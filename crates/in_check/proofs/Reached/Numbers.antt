@@ -7,7 +7,7 @@ use Rattle.std.proofs.lemmas.Bool.{or_parts, or_cases, cases_Bool, and_parts}
 use Rattle.in_net.specs.Nets.{Point, Port, Free, Signature, Net, IsNet}
 use Rattle.in_base.specs.Lists.{IsAmong}
 use Rattle.in_net.proofs.Interactions.AtNets.{port_agent, port_place}
-use Rattle.in_check.specs.NetText.{TextPart, Bytes, Head, Variable, same_point, number_of, numbers, numbered, StandsNowhere, StandsOnce, StandsTwice, IsAuxiliary, IsOfNet}
+use Rattle.in_check.specs.NetText.{TextPart, Bytes, Head, Variable, same_point, number_of, numbers, numbered, StandsTimes, IsAuxiliary, IsOfNet}
 use Rattle.in_check.proofs.Reached.SameText.{IsTest, nat_test}
 
 -- in a list of the wires met, the last one first, this one has this number
@@ -131,14 +131,14 @@ module _ {A : Type 0} (s : A → A → Bool) (test : IsTest s) where
     )
 
     -- a number of a wire met stands nowhere, where the wire's variable doesn't
-    number_nowhere : (ps : List (TextPart A)) → AllByRecursion (IsOfNet n) ps → (met : List (Point A)) (k : ℕ) (a b : Point A) → n.partner a ≡ Some b → At met k a → StandsNowhere (Variable a b) ps → StandsNowhere (Variable b a) ps → StandsNowhere k (numbers s met ps)
+    number_nowhere : (ps : List (TextPart A)) → AllByRecursion (IsOfNet n) ps → (met : List (Point A)) (k : ℕ) (a b : Point A) → n.partner a ≡ Some b → At met k a → StandsTimes 0 (Variable a b) ps → StandsTimes 0 (Variable b a) ps → StandsTimes 0 k (numbers s met ps)
     number_nowhere [] of met k a b e h x y = tt
     number_nowhere (Bytes bs ∷ ps) of met k a b e h x y = number_nowhere ps of.1 met k a b e h x.1 y.1
     number_nowhere (Head z ∷ ps) of met k a b e h x y = number_nowhere ps of.1 met k a b e h x.1 y.1
     number_nowhere (Variable p q ∷ ps) of met k a b e h x y =
         go (number_of s met p q) refl (λ met h. number_nowhere ps of.1 met k a b e h x.1 y.1)
       where
-        go : (o : Option ℕ) → number_of s met p q ≡ o → ((met : List (Point A)) → At met k a → StandsNowhere k (numbers s met ps)) → StandsNowhere k (elim o [
+        go : (o : Option ℕ) → number_of s met p q ≡ o → ((met : List (Point A)) → At met k a → StandsTimes 0 k (numbers s met ps)) → StandsTimes 0 k (elim o [
           | None ↦ suc (length met) ∷ numbers s (p ∷ met) ps
           | Some k ↦ k ∷ numbers s met ps
         ])
@@ -157,7 +157,7 @@ module _ {A : Type 0} (s : A → A → Bool) (test : IsTest s) where
         )
 
     -- .. and once, where its variable at the other point stands once
-    number_once : (ps : List (TextPart A)) → AllByRecursion (IsOfNet n) ps → (met : List (Point A)) (k : ℕ) (a b : Point A) → AreApart met → n.partner a ≡ Some b → At met k a → StandsNowhere (Variable a b) ps → StandsOnce (Variable b a) ps → StandsOnce k (numbers s met ps)
+    number_once : (ps : List (TextPart A)) → AllByRecursion (IsOfNet n) ps → (met : List (Point A)) (k : ℕ) (a b : Point A) → AreApart met → n.partner a ≡ Some b → At met k a → StandsTimes 0 (Variable a b) ps → StandsTimes 1 (Variable b a) ps → StandsTimes 1 k (numbers s met ps)
     number_once [] of met k a b apart e h x y = absurd y
     number_once (Bytes bs ∷ ps) of met k a b apart e h x (inl y) = cc
     number_once (Bytes bs ∷ ps) of met k a b apart e h x (inr y) = number_once ps of.1 met k a b apart e h x.1 y.1
@@ -175,7 +175,7 @@ module _ {A : Type 0} (s : A → A → Bool) (test : IsTest s) where
           apart,
         )
 
-        go : (o : Option ℕ) → number_of s met p q ≡ o → ((Variable p q ≡ Variable b a) × StandsNowhere (Variable b a) ps) ⊎ ((Variable p q ≢ Variable b a) × StandsOnce (Variable b a) ps) → (StandsOnce (Variable b a) ps → (met : List (Point A)) → AreApart met → At met k a → StandsOnce k (numbers s met ps)) → StandsOnce k (elim o [
+        go : (o : Option ℕ) → number_of s met p q ≡ o → ((Variable p q ≡ Variable b a) × StandsTimes 0 (Variable b a) ps) ⊎ ((Variable p q ≢ Variable b a) × StandsTimes 1 (Variable b a) ps) → (StandsTimes 1 (Variable b a) ps → (met : List (Point A)) → AreApart met → At met k a → StandsTimes 1 k (numbers s met ps)) → StandsTimes 1 k (elim o [
           | None ↦ suc (length met) ∷ numbers s (p ∷ met) ps
           | Some k ↦ k ∷ numbers s met ps
         ])
@@ -213,17 +213,17 @@ module _ {A : Type 0} (s : A → A → Bool) (test : IsTest s) where
 
     -- each wire that was not met has its variable once at each end in what follows
     abbrev Ahead : List (Point A) → List (TextPart A) → Type 0
-    Ahead met ps = (u v : Point A) → n.partner u ≡ Some v → IsAuxiliary u → IsAuxiliary v → Unmet met u v → StandsOnce (Variable u v) ps
+    Ahead met ps = (u v : Point A) → n.partner u ≡ Some v → IsAuxiliary u → IsAuxiliary v → Unmet met u v → StandsTimes 1 (Variable u v) ps
 
-    later : (x y : TextPart A) (ps : List (TextPart A)) → y ≢ x → StandsOnce x (y ∷ ps) → StandsOnce x ps
+    later : (x y : TextPart A) (ps : List (TextPart A)) → y ≢ x → StandsTimes 1 x (y ∷ ps) → StandsTimes 1 x ps
     later x y ps differ (inl h) = absurd (differ h.0)
     later x y ps differ (inr h) = h.1
 
-    gone : (x : TextPart A) (ps : List (TextPart A)) → StandsOnce x (x ∷ ps) → StandsNowhere x ps
+    gone : (x : TextPart A) (ps : List (TextPart A)) → StandsTimes 1 x (x ∷ ps) → StandsTimes 0 x ps
     gone x ps (inl h) = h.1
     gone x ps (inr h) = absurd (h.0 refl)
 
-    pub number_twice : (ps : List (TextPart A)) → AllByRecursion (IsOfNet n) ps → (met : List (Point A)) → AreApart met → Ahead met ps → (k : ℕ) → length met < k → IsAmong k (numbers s met ps) → StandsTwice k (numbers s met ps)
+    pub number_twice : (ps : List (TextPart A)) → AllByRecursion (IsOfNet n) ps → (met : List (Point A)) → AreApart met → Ahead met ps → (k : ℕ) → length met < k → IsAmong k (numbers s met ps) → StandsTimes 2 k (numbers s met ps)
     number_twice [] of met apart ahead k l h = absurd h
     number_twice (Bytes bs ∷ ps) of met apart ahead k l h =
         number_twice ps of.1 met apart (λ u v e a b m. later (Variable u v) (Bytes bs) ps (λ w. cc) (ahead u v e a b m)) k l h
@@ -249,7 +249,7 @@ module _ {A : Type 0} (s : A → A → Bool) (test : IsTest s) where
         go : (o : Option ℕ) → number_of s met p q ≡ o → IsAmong k (elim o [
           | None ↦ suc (length met) ∷ numbers s (p ∷ met) ps
           | Some k ↦ k ∷ numbers s met ps
-        ]) → ((met : List (Point A)) → AreApart met → Ahead met ps → length met < k → IsAmong k (numbers s met ps) → StandsTwice k (numbers s met ps)) → StandsTwice k (elim o [
+        ]) → ((met : List (Point A)) → AreApart met → Ahead met ps → length met < k → IsAmong k (numbers s met ps) → StandsTimes 2 k (numbers s met ps)) → StandsTimes 2 k (elim o [
           | None ↦ suc (length met) ∷ numbers s (p ∷ met) ps
           | Some k ↦ k ∷ numbers s met ps
         ])
@@ -265,7 +265,7 @@ module _ {A : Type 0} (s : A → A → Bool) (test : IsTest s) where
             unmet : Unmet met p q
             unmet = none_met met p q f
 
-            decided : Dec (suc (length met) ≡ k) → (suc (length met) ≡ k) ⊎ IsAmong k (numbers s (p ∷ met) ps) → StandsTwice k (suc (length met) ∷ numbers s (p ∷ met) ps)
+            decided : Dec (suc (length met) ≡ k) → (suc (length met) ≡ k) ⊎ IsAmong k (numbers s (p ∷ met) ps) → StandsTimes 2 k (suc (length met) ∷ numbers s (p ∷ met) ps)
             decided (yes e) h = inl (
               e,
               number_once ps of.1 (p ∷ met) k p q (apart_more met p q apart of.0.0 f) of.0.0 (inl (sym e, refl))

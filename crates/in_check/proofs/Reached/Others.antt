@@ -17,7 +17,7 @@ module _ {A : Type 0} (sig : Signature) (n : Net A) (net : IsNet sig n) where
   bracketed_of zero ps h = tt
   bracketed_of (suc k) ps h = (tt, all_append (IsOfNet n) ps (Bytes (41 ∷ []) ∷ []) h (tt, tt))
 
-  there : (y : A) (p : Point A) → n.partner p ≡ Some (Port y 0) → IsSome (n.symbol y)
+  pub there : (y : A) (p : Point A) → n.partner p ≡ Some (Port y 0) → IsSome (n.symbol y)
   there y p e =
       let s = symbol_of sig (n.symbol y) 0 (net.points (Port y 0) p (net.back p (Port y 0) e)) in
       is_some (n.symbol y) s.0 s.1

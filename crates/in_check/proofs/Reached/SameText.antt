@@ -8,9 +8,9 @@ use Rattle.in_simple.proofs.Sums.{same_test}
 use Rattle.in_net.proofs.Interactions.AtNets.{port_agent, port_place}
 use Rattle.in_net.proofs.Interactions.Alternating.{has_value}
 use Rattle.in_check.specs.Runs.{renamed, IsRenamed}
-use Rattle.in_check.specs.NetText.{Words, TextPart, Bytes, Head, Variable, listed, bracketed, arity_of, agent_term, term_at, term, free_lines, pair_lines, text_parts, same_point, number_of, symbol_name, variable_name, numbers, bytes_of, text}
+use Rattle.in_check.specs.NetText.{Words, TextPart, Bytes, Head, Variable, listed, bracketed, arity_of, agent_term, term_at, term, free_lines, pair_lines, text_parts, same_point, number_of, symbol_name, variable_name, numbers, bytes_of, text, IsQueue, IsOfNet}
 use Rattle.in_check.proofs.Reached.Renaming.{symbol_kept, wire_kept, live}
-use Rattle.in_base.proofs.Each.{all_append}
+use Rattle.in_check.proofs.Reached.Others.{there, pieces_of}
 
 -- a test of equality
 abbrev pub IsTest : {A : Type 0} → (A → A → Bool) → Type 0
@@ -33,11 +33,6 @@ abbrev pub IsLive : {A : Type 0} → Net A → Point A → Type 0
 IsLive n (Port x i) = IsSome (n.symbol x)
 IsLive n (Free k) = Unit {0}
 
-abbrev pub IsLivePiece : {A : Type 0} → Net A → TextPart A → Type 0
-IsLivePiece n (Bytes bs) = Unit {0}
-IsLivePiece n (Head y) = IsSome (n.symbol y)
-IsLivePiece n (Variable p q) = IsLive n p × IsLive n q
-
 -- brackets and commas around pieces
 bracketed_map : {A B : Type 0} (f : A → B) (k : ℕ) (ps : List (TextPart A)) → bracketed k (map (renamed_piece f) ps) ≡ map (renamed_piece f) (bracketed k ps)
 bracketed_map f zero ps = refl
@@ -50,15 +45,6 @@ listed_map f s t y h i (suc (suc k)) =
     ap (λ ps. ps ++ Bytes (44 ∷ 32 ∷ []) ∷ listed t (f y) (suc i) (suc k)) (h i)
     ∙ ap (λ ps. map (renamed_piece f) (s (Port y i)) ++ Bytes (44 ∷ 32 ∷ []) ∷ ps) (listed_map f s t y h (suc i) (suc k))
     ∙ sym (map-append (renamed_piece f) (s (Port y i)) (Bytes (44 ∷ 32 ∷ []) ∷ listed s y (suc i) (suc k)))
-
-bracketed_live : {A : Type 0} (n : Net A) (k : ℕ) (ps : List (TextPart A)) → AllByRecursion (IsLivePiece n) ps → AllByRecursion (IsLivePiece n) (bracketed k ps)
-bracketed_live n zero ps h = tt
-bracketed_live n (suc k) ps h = (tt, all_append (IsLivePiece n) ps (Bytes (41 ∷ []) ∷ []) h (tt, tt))
-
-listed_live : {A : Type 0} (n : Net A) (s : Point A → List (TextPart A)) (y : A) → ((i : ℕ) → AllByRecursion (IsLivePiece n) (s (Port y i))) → (i k : ℕ) → AllByRecursion (IsLivePiece n) (listed s y i k)
-listed_live n s y h i zero = tt
-listed_live n s y h i (suc zero) = h i
-listed_live n s y h i (suc (suc k)) = all_append (IsLivePiece n) (s (Port y i)) (Bytes (44 ∷ 32 ∷ []) ∷ listed s y (suc i) (suc k)) (h i) (tt, listed_live n s y h (suc i) (suc k))
 
 module _ {A B : Type 0} (sig : Signature) (f : A → B) (n : Net A) (m : Net B) (net : IsNet sig n) (r : IsRenamed f n m) where
   symbol_same : (y : A) → IsSome (n.symbol y) → m.symbol (f y) ≡ n.symbol y
@@ -113,22 +99,6 @@ module _ {A B : Type 0} (sig : Signature) (f : A → B) (n : Net A) (m : Net B) 
       ap (term_at (agent_term sig m (term sig m d)) (renamed f p)) (partner_same p h)
       ∙ term_at_map (agent_term sig n (term sig n d)) (agent_term sig m (term sig m d)) (agent_map (term sig n d) (term sig m d) (λ p h. term_map d p h)) p (n.partner p) refl
 
-  -- what stands in a term is of the net
-  term_at_live : (s : A → List (TextPart A)) → ((y : A) → IsSome (n.symbol y) → AllByRecursion (IsLivePiece n) (s y)) → (p : Point A) (o : Option (Point A)) → IsLive n p → n.partner p ≡ o → AllByRecursion (IsLivePiece n) (term_at s p o)
-  term_at_live s h p None l e = tt
-  term_at_live s h p (Some (Port y zero)) l e = h y (far_live p (Port y zero) e)
-  term_at_live s h p (Some (Port y (suc i))) l e = ((l, far_live p (Port y (suc i)) e), tt)
-  term_at_live s h p (Some (Free k)) l e = ((l, tt), tt)
-
-  agent_live : (s : Point A → List (TextPart A)) → ((p : Point A) → IsLive n p → AllByRecursion (IsLivePiece n) (s p)) → (y : A) → IsSome (n.symbol y) → AllByRecursion (IsLivePiece n) (agent_term sig n s y)
-  agent_live s h y there =
-      let k = arity_of sig (n.symbol y) in
-      (there, bracketed_live n k (listed s y 1 k) (listed_live n s y (λ i. h (Port y i) there) 1 k))
-
-  term_live : (d : ℕ) (p : Point A) → IsLive n p → AllByRecursion (IsLivePiece n) (term sig n d p)
-  term_live zero p h = term_at_live (λ y. []) (λ y there. tt) p (n.partner p) h refl
-  term_live (suc d) p h = term_at_live (agent_term sig n (term sig n d)) (agent_live (term sig n d) (λ p h. term_live d p h)) p (n.partner p) h refl
-
   module _ (words : Words) (d : ℕ) where
     free_map : (k more : ℕ) → free_lines sig words m d k more ≡ map (renamed_piece f) (free_lines sig words n d k more)
     free_map k zero = refl
@@ -139,18 +109,14 @@ module _ {A B : Type 0} (sig : Signature) (f : A → B) (n : Net A) (m : Net B) 
         ∙ sym (map-append (renamed_piece f) (term sig n d (Free k)) (Bytes (10 ∷ []) ∷ free_lines sig words n d (suc k) more))
         )
 
-    free_live : (k more : ℕ) → AllByRecursion (IsLivePiece n) (free_lines sig words n d k more)
-    free_live k zero = tt
-    free_live k (suc more) = (tt, all_append (IsLivePiece n) (term sig n d (Free k)) (Bytes (10 ∷ []) ∷ free_lines sig words n d (suc k) more) (term_live d (Free k) tt) (tt, free_live (suc k) more))
-
     abbrev Pairs : List (A × A) → Type 0
-    Pairs qs = AllByRecursion (λ q. IsSome (n.symbol q.0) × IsSome (n.symbol q.1)) qs
+    Pairs qs = AllByRecursion (λ q. n.partner (Port q.0 0) ≡ Some (Port q.1 0)) qs
 
     pair_map : (qs : List (A × A)) → Pairs qs → pair_lines sig m d (map (λ q. (f q.0, f q.1)) qs) ≡ map (renamed_piece f) (pair_lines sig n d qs)
     pair_map [] h = refl
     pair_map (q ∷ qs) h =
-        let one = agent_map (term sig n d) (term sig m d) (λ p h. term_map d p h) q.0 h.0.0 in
-        let two = agent_map (term sig n d) (term sig m d) (λ p h. term_map d p h) q.1 h.0.1 in
+        let one = agent_map (term sig n d) (term sig m d) (λ p h. term_map d p h) q.0 (there sig n net q.0 (Port q.1 0) (net.back (Port q.0 0) (Port q.1 0) h.0)) in
+        let two = agent_map (term sig n d) (term sig m d) (λ p h. term_map d p h) q.1 (there sig n net q.1 (Port q.0 0) h.0) in
         let a = agent_term sig n (term sig n d) q.0 in
         let b = agent_term sig n (term sig n d) q.1 in
         ap (λ ps. ps ++ (Bytes (32 ∷ 126 ∷ 32 ∷ []) ∷ (agent_term sig m (term sig m d) (f q.1) ++ (Bytes (10 ∷ []) ∷ pair_lines sig m d (map (λ q. (f q.0, f q.1)) qs))))) one
@@ -161,15 +127,6 @@ module _ {A B : Type 0} (sig : Signature) (f : A → B) (n : Net A) (m : Net B) 
         )
         ∙ sym (map-append (renamed_piece f) a (Bytes (32 ∷ 126 ∷ 32 ∷ []) ∷ (b ++ (Bytes (10 ∷ []) ∷ pair_lines sig n d qs))))
 
-    pair_live : (qs : List (A × A)) → Pairs qs → AllByRecursion (IsLivePiece n) (pair_lines sig n d qs)
-    pair_live [] h = tt
-    pair_live (q ∷ qs) h =
-        let s = term sig n d in
-        let a = agent_term sig n s q.0 in
-        let b = agent_term sig n s q.1 in
-        all_append (IsLivePiece n) a (Bytes (32 ∷ 126 ∷ 32 ∷ []) ∷ (b ++ (Bytes (10 ∷ []) ∷ pair_lines sig n d qs))) (agent_live s (λ p h. term_live d p h) q.0 h.0.0)
-        (tt, all_append (IsLivePiece n) b (Bytes (10 ∷ []) ∷ pair_lines sig n d qs) (agent_live s (λ p h. term_live d p h) q.1 h.0.1) (tt, pair_live qs h.1))
-
     pieces_map : (qs : List (A × A)) → Pairs qs → text_parts sig words m d (map (λ q. (f q.0, f q.1)) qs) ≡ map (renamed_piece f) (text_parts sig words n d qs)
     pieces_map qs h =
         ap (λ ts. free_lines sig words m d 0 (length ts) ++ pair_lines sig m d (map (λ q. (f q.0, f q.1)) qs)) r.free
@@ -177,10 +134,7 @@ module _ {A B : Type 0} (sig : Signature) (f : A → B) (n : Net A) (m : Net B) 
         ∙ ap (λ ps. map (renamed_piece f) (free_lines sig words n d 0 (length n.free)) ++ ps) (pair_map qs h)
         ∙ sym (map-append (renamed_piece f) (free_lines sig words n d 0 (length n.free)) (pair_lines sig n d qs))
 
-    pieces_live : (qs : List (A × A)) → Pairs qs → AllByRecursion (IsLivePiece n) (text_parts sig words n d qs)
-    pieces_live qs h = all_append (IsLivePiece n) (free_lines sig words n d 0 (length n.free)) (pair_lines sig n d qs) (free_live 0 (length n.free)) (pair_live qs h)
-
-    bytes_same : (ks : List ℕ) (ps : List (TextPart A)) → AllByRecursion (IsLivePiece n) ps → bytes_of words m ks (map (renamed_piece f) ps) ≡ bytes_of words n ks ps
+    bytes_same : (ks : List ℕ) (ps : List (TextPart A)) → AllByRecursion (IsOfNet n) ps → bytes_of words m ks (map (renamed_piece f) ps) ≡ bytes_of words n ks ps
     bytes_same ks [] h = refl
     bytes_same ks (Bytes bs ∷ ps) h = ap (λ r. bs ++ r) (bytes_same ks ps h.1)
     bytes_same ks (Head y ∷ ps) h =
@@ -207,16 +161,17 @@ module _ {A B : Type 0} (sig : Signature) (f : A → B) (n : Net A) (m : Net B) 
           ∙ ap (λ k. cond (same_point s u p || same_point s u q) (Some (suc k)) (number_of t (map (renamed f) us) (renamed f p) (renamed f q))) (length-map us (renamed f))
           ∙ ap (λ o. cond (same_point s u p || same_point s u q) (Some (suc (length us))) o) (number_same us p q h.1 hp hq)
 
-      numbers_same : (met : List (Point A)) (ps : List (TextPart A)) → AllByRecursion (IsLive n) met → AllByRecursion (IsLivePiece n) ps → numbers t (map (renamed f) met) (map (renamed_piece f) ps) ≡ numbers s met ps
+      numbers_same : (met : List (Point A)) (ps : List (TextPart A)) → AllByRecursion (IsLive n) met → AllByRecursion (IsOfNet n) ps → numbers t (map (renamed f) met) (map (renamed_piece f) ps) ≡ numbers s met ps
       numbers_same met [] h k = refl
       numbers_same met (Bytes bs ∷ ps) h k = numbers_same met ps h k.1
       numbers_same met (Head y ∷ ps) h k = numbers_same met ps h k.1
       numbers_same met (Variable p q ∷ ps) h k =
+          let near : IsLive n p = live_of p (net.points p q k.0.0) in
           ap (λ o. elim o [
             | None ↦ suc (length (map (renamed f) met)) ∷ numbers t (renamed f p ∷ map (renamed f) met) (map (renamed_piece f) ps)
             | Some k ↦ k ∷ numbers t (map (renamed f) met) (map (renamed_piece f) ps)
-          ]) (number_same met p q h k.0.0 k.0.1)
-          ∙ go (numbers_same (p ∷ met) ps (k.0.0, h) k.1) (numbers_same met ps h k.1) (number_of s met p q)
+          ]) (number_same met p q h near (far_live p q k.0.0))
+          ∙ go (numbers_same (p ∷ met) ps (near, h) k.1) (numbers_same met ps h k.1) (number_of s met p q)
         where
           go : numbers t (renamed f p ∷ map (renamed f) met) (map (renamed_piece f) ps) ≡ numbers s (p ∷ met) ps → numbers t (map (renamed f) met) (map (renamed_piece f) ps) ≡ numbers s met ps → (o : Option ℕ) → ◌≡◌ {A = List ℕ} (elim o [
             | None ↦ suc (length (map (renamed f) met)) ∷ numbers t (renamed f p ∷ map (renamed f) met) (map (renamed_piece f) ps)
@@ -228,8 +183,9 @@ module _ {A B : Type 0} (sig : Signature) (f : A → B) (n : Net A) (m : Net B) 
           go new old None = ap (λ l. suc l ∷ numbers t (renamed f p ∷ map (renamed f) met) (map (renamed_piece f) ps)) (length-map met (renamed f)) ∙ ap (λ r. suc (length met) ∷ r) new
           go new old (Some l) = ap (λ r. l ∷ r) old
 
-      pub text_same : (qs : List (A × A)) → Pairs qs → text sig words t m d (map (λ q. (f q.0, f q.1)) qs) ≡ text sig words s n d qs
+      pub text_same : (qs : List (A × A)) → IsQueue n qs → text sig words t m d (map (λ q. (f q.0, f q.1)) qs) ≡ text sig words s n d qs
       text_same qs h =
-          ap (λ ps. bytes_of words m (numbers t [] ps) ps) (pieces_map qs h)
-          ∙ ap (λ ks. bytes_of words m ks (map (renamed_piece f) (text_parts sig words n d qs))) (numbers_same [] (text_parts sig words n d qs) tt (pieces_live qs h))
-          ∙ bytes_same (numbers s [] (text_parts sig words n d qs)) (text_parts sig words n d qs) (pieces_live qs h)
+          let of = pieces_of sig n net words d qs h in
+          ap (λ ps. bytes_of words m (numbers t [] ps) ps) (pieces_map qs h.active)
+          ∙ ap (λ ks. bytes_of words m ks (map (renamed_piece f) (text_parts sig words n d qs))) (numbers_same [] (text_parts sig words n d qs) tt of)
+          ∙ bytes_same (numbers s [] (text_parts sig words n d qs)) (text_parts sig words n d qs) of

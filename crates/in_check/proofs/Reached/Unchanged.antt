@@ -1,25 +1,14 @@
 -- Renaming the agents of a net that is reached changes nothing of it.
-use Rattle.std.proofs.Common.{◌≡◌, ℕ, nat_eq, Some, IsSome, List, [], ◌∷◌, subst, ◌∙◌}
-use Rattle.std.specs.List.{AllByRecursion}
+use Rattle.std.proofs.Common.{◌≡◌, ℕ, nat_eq, Some, subst, ◌∙◌}
 use native.Mathlib.Decide.{ℕ_discrete}
-use Rattle.in_net.specs.Nets.{Point, Port, Free, Net, IsNet}
-use Rattle.in_net.proofs.Interactions.Alternating.{symbol_of}
+use Rattle.in_net.specs.Nets.{Point, Port, Free, Net}
 use Rattle.in_net.proofs.Interactions.AtNets.{port_place}
 use Rattle.in_check.specs.Promises.{RenamingChangesNothing}
 use Rattle.in_check.specs.Runs.{renamed, then_renamed, HasEnded}
-use Rattle.in_check.specs.Systems.{System}
 use Rattle.in_check.proofs.Reached.Counts.{agents_before, one_count}
 use Rattle.in_check.proofs.Reached.Kept.{sound_reached}
-use Rattle.in_check.proofs.Reached.Renaming.{is_some, wire_kept}
+use Rattle.in_check.proofs.Reached.Renaming.{wire_kept}
 use Rattle.in_check.proofs.Reached.SameText.{nat_test, text_same}
-
-module _ (p : System) (n m : Net ℕ) (net : IsNet p.symbols n) where
-  there : (x y : ℕ) → n.partner (Port x 0) ≡ Some (Port y 0) → IsSome (n.symbol x)
-  there x y e = let s = symbol_of p.symbols (n.symbol x) 0 (net.points (Port x 0) (Port y 0) e) in is_some (n.symbol x) s.0 s.1
-
-  queued : (queue : List (ℕ × ℕ)) → AllByRecursion (λ q. n.partner (Port q.0 0) ≡ Some (Port q.1 0)) queue → AllByRecursion (λ q. IsSome (n.symbol q.0) × IsSome (n.symbol q.1)) queue
-  queued [] h = tt
-  queued (q ∷ qs) h = ((there q.0 q.1 h.0, there q.1 q.0 (net.back (Port q.0 0) (Port q.1 0) h.0)), queued qs h.1)
 
 at_agents : (f : ℕ → ℕ) (n : Net ℕ) (x y : ℕ) (p q : Point ℕ) → renamed f p ≡ Port x 0 → renamed f q ≡ Port y 0 → n.partner p ≡ Some q → HasEnded n → ⊥
 at_agents f n x y (Port a i) (Port b j) at_x at_y e ended =
@@ -39,5 +28,5 @@ unchanged p k n f m good reached r =
         (λ ended x y e. ended (f x) (f y) (wire_kept p.symbols f n m net r (Port x 0) (Port y 0) e)),
         (λ ended x y e. let w = (r.wires (Port x 0) (Port y 0)).0 e in at_agents f n x y w.0 w.1 w.2 w.3 w.4 ended),
       );
-      text = λ words d queue is_queue. text_same p.symbols f n m net r words d nat_eq nat_eq nat_test nat_test queue (queued p n m net queue is_queue.active);
+      text = λ words d queue is_queue. text_same p.symbols f n m net r words d nat_eq nat_eq nat_test nat_test queue is_queue;
     }

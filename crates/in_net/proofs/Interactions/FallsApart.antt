@@ -12,7 +12,7 @@ use Rattle.in_net.proofs.Interactions.Compress.{outer_port, inner_port, IsOn, ou
 use Rattle.in_net.proofs.Interactions.Places.{Place, Old, New, Boundary, wires}
 use Rattle.in_net.proofs.Interactions.Rings.{apart_turned, different_turned, apart_unnamed}
 use Rattle.in_net.proofs.Interactions.Stops.{tour_to, tour_join, agents_join, boundary_join}
-use Rattle.in_net.proofs.Interactions.Tours.{Stop, At_old, At_new, Through, enters, leaves, Tour, AnyPlace, IsCrossingStop, LaidOut, agents_of, boundary_of}
+use Rattle.in_net.proofs.Interactions.Tours.{Stop, At_old, At_new, Through, enters, leaves, Passes, AnyPlace, IsCrossingStop, LaidOut, agents_of, boundary_of}
 use Rattle.in_base.proofs.Each.{all_append, all_left, all_right}
 
 -- the first boundary end on the way, and what stands before and after it
@@ -48,9 +48,6 @@ ends_turned : {A B : Type 0} (xs ys : List (Stop A B)) → AreDifferent (boundar
 ends_turned xs ys h = subst AreDifferent (sym (boundary_join ys xs)) (different_turned (boundary_of xs) (boundary_of ys) (subst AreDifferent (boundary_join xs ys) h))
 
 module _ {A B : Type 0} (sig : Signature) (classed : AreClasses sig) (n : Net A) (x : Redex A B) (net : IsNet sig n) (inside : IsNet sig x.member) (redex : IsRedex sig n x) where
-  abbrev Way : Side × Place A B → List (Stop A B) → Side × Place A B → Type 0
-  Way = Tour (wires sig n x) AnyPlace AnyPlace
-
   -- the agents of a piece on a side, the piece, and what leads from a place to the boundary end where it ends
   abbrev Agents : Side → Type 0
   Agents Outer = List (Passage A)
@@ -94,7 +91,7 @@ module _ {A B : Type 0} (sig : Signature) (classed : AreClasses sig) (n : Net A)
     apart = apart_unnamed (λ (y : B). let m : A ⊎ B = inr y in m) r.here (apart_before (map (renamed (λ y. inr y)) r.here) (passages_of r.later) (subst AreApart r.agents apart));
   }
 
-  cut : (ss : List (Stop A B)) (s : Side) (p : Place A B) (t : Side) (e : ℕ) → IsOn p → IsCut ss → Way (s, p) ss (t, Boundary e) → Cut s p ss t e
+  cut : (ss : List (Stop A B)) (s : Side) (p : Place A B) (t : Side) (e : ℕ) → IsOn p → IsCut ss → Passes sig n x (s, p) ss (t, Boundary e) → Cut s p ss t e
   cut [] Outer p Outer e on h w = record { here = []; to = e; later = []; goes = ((are_sides sig n x net inside redex classed).outer p (Boundary e) on tt w.1, tt, tt); turn = λ b ps q k l. (sym k, l); pieces = tt; agents = refl; bounds = refl }
   cut [] Inner p Inner e on h w = record { here = []; to = e; later = []; goes = ((are_sides sig n x net inside redex classed).inner p (Boundary e) w.1, tt); turn = λ b ps q k l. (sym k, l); pieces = tt; agents = refl; bounds = refl }
   cut [] Outer p Inner e on h w = absurd (outer_inner w.0)
@@ -155,7 +152,7 @@ module _ {A B : Type 0} (sig : Signature) (classed : AreClasses sig) (n : Net A)
   cut (Through Inner b ∷ ss) Outer p t e on h w = absurd (outer_inner w.0.0)
 
   -- a ring that begins at a boundary end
-  ring : (s : Side) (e : ℕ) (ss : List (Stop A B)) → IsCut ss → AreDifferent (e ∷ boundary_of ss) → Way (other s, Boundary e) ss (s, Boundary e) → (r : PieceRing sig n x) × (agents_of ss ≡ passages_of (r.first ∷ r.rest))
+  ring : (s : Side) (e : ℕ) (ss : List (Stop A B)) → IsCut ss → AreDifferent (e ∷ boundary_of ss) → Passes sig n x (other s, Boundary e) ss (s, Boundary e) → (r : PieceRing sig n x) × (agents_of ss ≡ passages_of (r.first ∷ r.rest))
   ring Outer e ss h d w =
       let r = cut ss Inner (Boundary e) Outer e tt h w in (
         record {
@@ -182,7 +179,7 @@ module _ {A B : Type 0} (sig : Signature) (classed : AreClasses sig) (n : Net A)
       )
 
   -- a walk without boundary ends goes by agents that stay alone, or by new agents alone
-  outside : (ss : List (Stop A B)) (p : Place A B) (y : A) (i : ℕ) → IsOn p → AllByRecursion IsAgent ss → AllByRecursion (IsCrossingStop sig n x) ss → Way (Outer, p) ss (Outer, Old y i) →
+  outside : (ss : List (Stop A B)) (p : Place A B) (y : A) (i : ℕ) → IsOn p → AllByRecursion IsAgent ss → AllByRecursion (IsCrossingStop sig n x) ss → Passes sig n x (Outer, p) ss (Outer, Old y i) →
       (ps : List (Passage A)) × Leads (graph_of sig n) (outer_port (sides sig n x) p) ps (y, i) × AllByRecursion (IsCrossing (graph_of sig n)) ps × (agents_of ss ≡ map (renamed (λ y. inl y)) ps)
   outside [] p y i on a h w = ([], (are_sides sig n x net inside redex classed).outer p (Old y i) on tt w.1, tt, refl)
   outside (At_old z k j ∷ ss) p y i on a h w =
@@ -194,7 +191,7 @@ module _ {A B : Type 0} (sig : Signature) (classed : AreClasses sig) (n : Net A)
   inner_wire : (y z : B) (i j : ℕ) → wires sig n x Inner (New y i) (New z j) → x.member.partner (Port y i) ≡ Some (Port z j)
   inner_wire y z i j w = sym (ap x.member.partner w.2) ∙ w.4 ∙ ap (λ v. Some v) w.3
 
-  within : (ss : List (Stop A B)) (z : B) (k : ℕ) (y : B) (i : ℕ) → AllByRecursion IsAgent ss → AllByRecursion (IsCrossingStop sig n x) ss → Way (Inner, New z k) ss (Inner, New y i) →
+  within : (ss : List (Stop A B)) (z : B) (k : ℕ) (y : B) (i : ℕ) → AllByRecursion IsAgent ss → AllByRecursion (IsCrossingStop sig n x) ss → Passes sig n x (Inner, New z k) ss (Inner, New y i) →
       (ps : List (Passage B)) × Leads (graph_of sig x.member) (z, k) ps (y, i) × AllByRecursion (IsCrossing (graph_of sig x.member)) ps × (agents_of ss ≡ map (renamed (λ y. inr y)) ps)
   within [] z k y i a h w = ([], inner_wire z y k i w.1, tt, refl)
   within (At_new v l j ∷ ss) z k y i a h w =
@@ -218,7 +215,7 @@ module _ {A B : Type 0} (sig : Signature) (classed : AreClasses sig) (n : Net A)
     named_in [] = refl
     named_in (p ∷ ps) = ap (λ z. renamed name p ∷ z) (named_in ps)
 
-    whole : (q : Stop A B) (ss : List (Stop A B)) → AllByRecursion IsAgent (q ∷ ss) → AllByRecursion (IsCrossingStop sig n x) (q ∷ ss) → AreApart (agents_of (q ∷ ss)) → Way (leaves q) ss (enters q) → names (agents_of (q ∷ ss)) ≡ circle → IsMadeOf sig n x name circle
+    whole : (q : Stop A B) (ss : List (Stop A B)) → AllByRecursion IsAgent (q ∷ ss) → AllByRecursion (IsCrossingStop sig n x) (q ∷ ss) → AreApart (agents_of (q ∷ ss)) → Passes sig n x (leaves q) ss (enters q) → names (agents_of (q ∷ ss)) ≡ circle → IsMadeOf sig n x name circle
     whole (At_old y i j) ss a h apart w same =
         let r = outside ss (Old y j) y i tt a.1 h.1 w in
         let p : Passage A = record { node = y; enter = i; leave = j } in
@@ -237,7 +234,7 @@ module _ {A B : Type 0} (sig : Signature) (classed : AreClasses sig) (n : Net A)
     turned : (l : LaidOut sig n x) → FirstEnd l.rest → names (agents_of (l.first ∷ l.rest)) ≡ circle → IsMadeOf sig n x name circle
     turned l f same =
         let front = l.first ∷ f.before in
-        let t = tour_to (wires sig n x) AnyPlace AnyPlace (leaves l.first) (enters l.first) f.before (Through f.side f.end) f.after (subst (λ ss. Way (leaves l.first) ss (enters l.first)) f.whole l.closed) in
+        let t = tour_to (wires sig n x) AnyPlace AnyPlace (leaves l.first) (enters l.first) f.before (Through f.side f.end) f.after (subst (λ ss. Passes sig n x (leaves l.first) ss (enters l.first)) f.whole l.closed) in
         let w = tour_join (wires sig n x) AnyPlace AnyPlace (other f.side, Boundary f.end) (f.side, Boundary f.end) f.after l.first f.before t.3 tt tt t.0 in
         let stops : l.first ∷ l.rest ≡ front ++ Through f.side f.end ∷ f.after = ap (λ z. l.first ∷ z) f.whole in
         let crossing = crossed front f.after (Through f.side f.end) (subst (AllByRecursion (IsCrossingStop sig n x)) stops l.crossing) in
@@ -258,7 +255,7 @@ module _ {A B : Type 0} (sig : Signature) (classed : AreClasses sig) (n : Net A)
     at_end : (s : Side) (e : ℕ) (l : LaidOut sig n x) → l.first ≡ Through s e → names (agents_of (l.first ∷ l.rest)) ≡ circle → IsMadeOf sig n x name circle
     at_end s e l is same =
         let stops : l.first ∷ l.rest ≡ Through s e ∷ l.rest = ap (λ q. q ∷ l.rest) is in
-        let r = ring s e l.rest (l.crossing.1, subst AreApart (ap agents_of stops) l.agents) (subst AreDifferent (ap boundary_of stops) l.boundary) (subst (λ q. Way (leaves q) l.rest (enters q)) is l.closed) in
+        let r = ring s e l.rest (l.crossing.1, subst AreApart (ap agents_of stops) l.agents) (subst AreDifferent (ap boundary_of stops) l.boundary) (subst (λ q. Passes sig n x (leaves q) l.rest (enters q)) is l.closed) in
         of_pieces r.0 ([], circle, refl, ap names (sym r.1) ∙ sym (ap names (ap agents_of stops)) ∙ same ∙ sym (append-nil circle))
 
     pub falls_apart : (l : LaidOut sig n x) → names (agents_of (l.first ∷ l.rest)) ≡ circle → IsMadeOf sig n x name circle

@@ -11,7 +11,7 @@ use Rattle.in_net.proofs.Interactions.Alternating.{symbol_of}
 use Rattle.in_net.proofs.Interactions.Paths.{joined_back}
 use Rattle.in_net.proofs.Circuits.{Walk, AreSeparate, Circuit, IsEntered, IsLeft, circuit_of, crossings_separate}
 use Rattle.std.specs.List.{AllByRecursion}
-use Rattle.in_net.proofs.Interactions.Tours.{Stop, At_old, At_new, Through, enters, leaves, Tour, IsCrossingStop, AnyPlace, LaidOut, agents_of}
+use Rattle.in_net.proofs.Interactions.Tours.{Stop, At_old, At_new, Through, enters, leaves, Tour, IsCrossingStop, Passes, LaidOut, agents_of}
 use Rattle.in_net.specs.Pieces.{AreDifferent, renamed}
 use Rattle.in_net.proofs.Interactions.EndsApart.{ends_apart}
 use Rattle.in_net.proofs.Interactions.Rings.{apart_unnamed}
@@ -135,7 +135,7 @@ module _ {A B C : Type 0} (sig : Signature) (classed : AreClasses sig) (n : Net 
     crossing_stop (At_new y i j) e l = separate_in E L separate (inr y) i j e l
     crossing_stop (Through s e) a b = tt
 
-    plain : (u v : Side × Place A B) (ss : List (Stop A B)) → Tour (wires sig n x) En Le u ss v → Tour (wires sig n x) AnyPlace AnyPlace u ss v × AllByRecursion (IsCrossingStop sig n x) ss
+    plain : (u v : Side × Place A B) (ss : List (Stop A B)) → Tour (wires sig n x) En Le u ss v → Passes sig n x u ss v × AllByRecursion (IsCrossingStop sig n x) ss
     plain u v [] w = (w, tt)
     plain u v (q ∷ ss) w = let r = plain (leaves q) v ss w.3 in ((w.0, tt, tt, r.0), (crossing_stop q w.1 w.2, r.1))
 

@@ -121,8 +121,8 @@ module _ {A B : Type 0} (sig : Signature) (n : Net A) (x : Redex A B) (name : B 
   other_same : (s t : Side) → other s ≡ other t → s ≡ t
   other_same s t h = sym (other_twice s) ∙ ap other h ∙ other_twice t
 
-  abbrev InRange : List (Passage (ℕ × Side)) → Type 0
-  InRange ps = AllByRecursion (λ p. p.node.0 < sig.arity x.first + sig.arity x.second) ps
+  abbrev InRange : Passage (ℕ × Side) → Type 0
+  InRange p = p.node.0 < sig.arity x.first + sig.arity x.second
 
   -- a wire back from a boundary end leads to one point
   only_from : (s : Side) (u v : Point A) (d e : ℕ) → d ≡ e → wire_of sig n x name s u (pt d) → wire_of sig n x name s v (pt e) → u ≡ v
@@ -130,7 +130,7 @@ module _ {A B : Type 0} (sig : Signature) (n : Net A) (x : Redex A B) (name : B 
       one_wire sig n x name net inside redex naming s (pt e) u v (wire_back sig n x name net inside s u (pt e) (subst (λ d. wire_of sig n x name s u (pt d)) h w)) (wire_back sig n x name net inside s v (pt e) k)
 
   -- what follows the newest is none of the trail
-  fresh : (c : ℕ) (s : Side) (d : ℕ) (p : Passage (ℕ × Side)) (ps : List (Passage (ℕ × Side))) → c < sig.arity x.first + sig.arity x.second → InRange (p ∷ ps) → Trail (p ∷ ps) → wire_of sig n x name s (pt c) (pt d) → AllByRecursion (λ q. (c, s) ≢ q.node) ps → AllByRecursion (λ q. (d, other s) ≢ q.node) (p ∷ ps)
+  fresh : (c : ℕ) (s : Side) (d : ℕ) (p : Passage (ℕ × Side)) (ps : List (Passage (ℕ × Side))) → c < sig.arity x.first + sig.arity x.second → AllByRecursion InRange (p ∷ ps) → Trail (p ∷ ps) → wire_of sig n x name s (pt c) (pt d) → AllByRecursion (λ q. (c, s) ≢ q.node) ps → AllByRecursion (λ q. (d, other s) ≢ q.node) (p ∷ ps)
   fresh c s d p [] hc range trail w apart = (
     (λ e.
         let side : other p.node.1 ≡ s = sym (ap (λ r. other r.1) e) ∙ other_twice s in
@@ -171,13 +171,13 @@ module _ {A B : Type 0} (sig : Signature) (n : Net A) (x : Redex A B) (name : B 
           let h : d < length x.member.free = inside.points (Free d) (Free c) (inside.back (Free c) (Free d) e) in
           inr (d, subst (λ m. d < m) redex.ends h, (Free c, Free d, refl, refl, e))
 
-  walk : (k : ℕ) (s : Side) (c : ℕ) (ps : List (Passage (ℕ × Side))) → InRange (record { node = (c, s); enter = 0; leave = 0 } ∷ ps) → Trail (record { node = (c, s); enter = 0; leave = 0 } ∷ ps) → AreApart (record { node = (c, s); enter = 0; leave = 0 } ∷ ps) → Ended k s c ⊎ ((qs : List (Passage (ℕ × Side))) × (length qs ≡ k + suc (length ps)) × InRange qs × AreApart qs)
+  walk : (k : ℕ) (s : Side) (c : ℕ) (ps : List (Passage (ℕ × Side))) → AllByRecursion InRange (record { node = (c, s); enter = 0; leave = 0 } ∷ ps) → Trail (record { node = (c, s); enter = 0; leave = 0 } ∷ ps) → AreApart (record { node = (c, s); enter = 0; leave = 0 } ∷ ps) → Ended k s c ⊎ ((qs : List (Passage (ℕ × Side))) × (length qs ≡ k + suc (length ps)) × AllByRecursion InRange qs × AreApart qs)
   walk zero s c ps range trail apart = inr (record { node = (c, s); enter = 0; leave = 0 } ∷ ps, omega arith, range, apart)
   walk (suc k) s c ps range trail apart = go (next s c range.0) (λ d h w.
       walk k (other s) d (record { node = (c, s); enter = 0; leave = 0 } ∷ ps) (h, range) (w, refl, trail)
       (fresh c s d (record { node = (c, s); enter = 0; leave = 0 }) ps range.0 range trail w apart.0, apart))
     where
-      go : ((v : Point A) × (IsOfPair x v → ⊥) × wire_of sig n x name s (pt c) v) ⊎ ((d : ℕ) × (d < sig.arity x.first + sig.arity x.second) × wire_of sig n x name s (pt c) (pt d)) → ((d : ℕ) → d < sig.arity x.first + sig.arity x.second → wire_of sig n x name s (pt c) (pt d) → Ended k (other s) d ⊎ ((qs : List (Passage (ℕ × Side))) × (length qs ≡ k + suc (suc (length ps))) × InRange qs × AreApart qs)) → Ended (suc k) s c ⊎ ((qs : List (Passage (ℕ × Side))) × (length qs ≡ suc k + suc (length ps)) × InRange qs × AreApart qs)
+      go : ((v : Point A) × (IsOfPair x v → ⊥) × wire_of sig n x name s (pt c) v) ⊎ ((d : ℕ) × (d < sig.arity x.first + sig.arity x.second) × wire_of sig n x name s (pt c) (pt d)) → ((d : ℕ) → d < sig.arity x.first + sig.arity x.second → wire_of sig n x name s (pt c) (pt d) → Ended k (other s) d ⊎ ((qs : List (Passage (ℕ × Side))) × (length qs ≡ k + suc (suc (length ps))) × AllByRecursion InRange qs × AreApart qs)) → Ended (suc k) s c ⊎ ((qs : List (Passage (ℕ × Side))) × (length qs ≡ suc k + suc (length ps)) × AllByRecursion InRange qs × AreApart qs)
       go (inl v) on = inl ([], v.0, v.1, v.2, omega arith)
       go (inr d) on =
           elim (on d.0 d.1 d.2) [
@@ -185,7 +185,7 @@ module _ {A B : Type 0} (sig : Signature) (n : Net A) (x : Redex A B) (name : B 
             | inr r ↦ let h : length r.0 ≡ k + suc (suc (length ps)) = r.1 in inr (r.0, omega arith, r.2, r.3)
           ]
 
-  all_among : (ps : List (Passage (ℕ × Side))) → InRange ps → AllByRecursion (λ p. IsAmong p.node (states (sig.arity x.first + sig.arity x.second))) ps
+  all_among : (ps : List (Passage (ℕ × Side))) → AllByRecursion InRange ps → AllByRecursion (λ p. IsAmong p.node (states (sig.arity x.first + sig.arity x.second))) ps
   all_among [] h = tt
   all_among (p ∷ ps) h = (among_states (sig.arity x.first + sig.arity x.second) p.node.0 p.node.1 h.0, all_among ps h.1)
 

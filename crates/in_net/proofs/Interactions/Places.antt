@@ -11,28 +11,29 @@ pub data Place (A B : Type 0) : Type 0 where
   Boundary : ℕ → Place A B
   Loose : ℕ → Place A B
 
--- a wire, or wires that change sides at each of these boundary ends in turn
-abbrev pub Path : {A B : Type 0} → (Side → Place A B → Place A B → Type 0) → Side → Place A B → List ℕ → Place A B → Type 0
-Path wire side p [] q = wire side p q
-Path wire side p (e ∷ es) q = wire side p (Boundary e) × Path wire (other side) (Boundary e) es q
+module _ {A B : Type 0} where
+  -- a wire, or wires that change sides at each of these boundary ends in turn
+  abbrev pub Path : (Side → Place A B → Place A B → Type 0) → Side → Place A B → List ℕ → Place A B → Type 0
+  Path wire side p [] q = wire side p q
+  Path wire side p (e ∷ es) q = wire side p (Boundary e) × Path wire (other side) (Boundary e) es q
 
--- it is left after the interaction
-abbrev pub Stays : {A B : Type 0} → Place A B → Type 0
-Stays (Old x i) = Unit {0}
-Stays (New y i) = Unit {0}
-Stays (Boundary e) = ⊥
-Stays (Loose k) = Unit {0}
+  -- it is left after the interaction
+  abbrev pub Stays : Place A B → Type 0
+  Stays (Old x i) = Unit {0}
+  Stays (New y i) = Unit {0}
+  Stays (Boundary e) = ⊥
+  Stays (Loose k) = Unit {0}
 
--- the side of a place that stays
-abbrev pub side_of : {A B : Type 0} → Place A B → Side
-side_of (Old x i) = Outer
-side_of (New y i) = Inner
-side_of (Boundary e) = Outer
-side_of (Loose k) = Outer
+  -- the side of a place that stays
+  abbrev pub side_of : Place A B → Side
+  side_of (Old x i) = Outer
+  side_of (New y i) = Inner
+  side_of (Boundary e) = Outer
+  side_of (Loose k) = Outer
 
--- two places that stay are joined by an alternating path
-abbrev pub IsJoined : {A B : Type 0} → (Side → Place A B → Place A B → Type 0) → Place A B → Place A B → Type 0
-IsJoined wire p q = Stays p × Stays q × ((es : List ℕ) × Path wire (side_of p) p es q)
+  -- two places that stay are joined by an alternating path
+  abbrev pub IsJoined : (Side → Place A B → Place A B → Type 0) → Place A B → Place A B → Type 0
+  IsJoined wire p q = Stays p × Stays q × ((es : List ℕ) × Path wire (side_of p) p es q)
 
 -- the point of the net before that stands at a place
 abbrev pub IsBefore : {A B : Type 0} → Signature → Redex A B → Place A B → Point A → Type 0

@@ -3,23 +3,18 @@ use Rattle.std.proofs.Common.{◌≡◌, ◌≢◌, List, [], ◌∷◌, ◌++�
 use Rattle.std.specs.List.{AllByRecursion}
 use Rattle.in_net.specs.Graphs.{Passage, AreApart}
 use Rattle.in_net.specs.Pieces.{AreDifferent, renamed}
-use Rattle.in_base.proofs.Each.{all_append}
-
--- any two of the list
-abbrev Pairs : {X : Type 0} → (X → X → Type 0) → List X → Type 0
-Pairs R [] = Unit {0}
-Pairs R (x ∷ xs) = AllByRecursion (R x) xs × Pairs R xs
+use Rattle.in_base.proofs.Each.{all_append, Pairwise}
 
 module _ {X : Type 0} (R : X → X → Type 0) (back : (x y : X) → R x y → R y x) where
-  put_last : (x : X) (xs : List X) → AllByRecursion (R x) xs → Pairs R xs → Pairs R (xs ++ x ∷ [])
+  put_last : (x : X) (xs : List X) → AllByRecursion (R x) xs → Pairwise R xs → Pairwise R (xs ++ x ∷ [])
   put_last x [] h all = (tt, tt)
   put_last x (y ∷ ys) h all = (all_append (R y) ys (x ∷ []) all.0 (back x y h.0, tt), put_last x ys h.1 all.1)
 
-  pairs_turned : (xs ys : List X) → Pairs R (xs ++ ys) → Pairs R (ys ++ xs)
-  pairs_turned [] ys h = subst (Pairs R) (sym (append-nil ys)) h
+  pairs_turned : (xs ys : List X) → Pairwise R (xs ++ ys) → Pairwise R (ys ++ xs)
+  pairs_turned [] ys h = subst (Pairwise R) (sym (append-nil ys)) h
   pairs_turned (x ∷ xs) ys h =
-      subst (Pairs R) (append_assoc ys (x ∷ []) xs)
-      (pairs_turned xs (ys ++ x ∷ []) (subst (Pairs R) (append_assoc xs ys (x ∷ [])) (put_last x (xs ++ ys) h.0 h.1)))
+      subst (Pairwise R) (append_assoc ys (x ∷ []) xs)
+      (pairs_turned xs (ys ++ x ∷ []) (subst (Pairwise R) (append_assoc xs ys (x ∷ [])) (put_last x (xs ++ ys) h.0 h.1)))
 
 pub apart_turned : {V : Type 0} (xs ys : List (Passage V)) → AreApart (xs ++ ys) → AreApart (ys ++ xs)
 apart_turned xs ys h = pairs_turned (λ p q. p.node ≢ q.node) (λ p q d e. d (sym e)) xs ys h

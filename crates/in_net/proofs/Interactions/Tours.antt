@@ -15,29 +15,30 @@ pub data Stop (A B : Type 0) : Type 0 where
   At_new : B → ℕ → ℕ → Stop A B
   Through : Side → ℕ → Stop A B
 
-abbrev pub enters : {A B : Type 0} → Stop A B → Side × Place A B
-enters (At_old x i j) = (Outer, Old x i)
-enters (At_new y i j) = (Inner, New y i)
-enters (Through s e) = (s, Boundary e)
+module _ {A B : Type 0} where
+  abbrev pub enters : Stop A B → Side × Place A B
+  enters (At_old x i j) = (Outer, Old x i)
+  enters (At_new y i j) = (Inner, New y i)
+  enters (Through s e) = (s, Boundary e)
 
-abbrev pub leaves : {A B : Type 0} → Stop A B → Side × Place A B
-leaves (At_old x i j) = (Outer, Old x j)
-leaves (At_new y i j) = (Inner, New y j)
-leaves (Through s e) = (other s, Boundary e)
+  abbrev pub leaves : Stop A B → Side × Place A B
+  leaves (At_old x i j) = (Outer, Old x j)
+  leaves (At_new y i j) = (Inner, New y j)
+  leaves (Through s e) = (other s, Boundary e)
 
--- the agents among them, in order, by the ports of their passages
-abbrev pub agents_of : {A B : Type 0} → List (Stop A B) → List (Passage (A ⊎ B))
-agents_of [] = []
-agents_of (At_old x i j ∷ ss) = record { node = inl x; enter = i; leave = j } ∷ agents_of ss
-agents_of (At_new y i j ∷ ss) = record { node = inr y; enter = i; leave = j } ∷ agents_of ss
-agents_of (Through s e ∷ ss) = agents_of ss
+  -- the agents among them, in order, by the ports of their passages
+  abbrev pub agents_of : List (Stop A B) → List (Passage (A ⊎ B))
+  agents_of [] = []
+  agents_of (At_old x i j ∷ ss) = record { node = inl x; enter = i; leave = j } ∷ agents_of ss
+  agents_of (At_new y i j ∷ ss) = record { node = inr y; enter = i; leave = j } ∷ agents_of ss
+  agents_of (Through s e ∷ ss) = agents_of ss
 
--- the boundary ends among them, in order
-abbrev pub boundary_of : {A B : Type 0} → List (Stop A B) → List ℕ
-boundary_of [] = []
-boundary_of (At_old x i j ∷ ss) = boundary_of ss
-boundary_of (At_new y i j ∷ ss) = boundary_of ss
-boundary_of (Through s e ∷ ss) = e ∷ boundary_of ss
+  -- the boundary ends among them, in order
+  abbrev pub boundary_of : List (Stop A B) → List ℕ
+  boundary_of [] = []
+  boundary_of (At_old x i j ∷ ss) = boundary_of ss
+  boundary_of (At_new y i j ∷ ss) = boundary_of ss
+  boundary_of (Through s e ∷ ss) = e ∷ boundary_of ss
 
 -- walks each of whose places is entered as En says, and left as Le says
 module _ {A B : Type 0} (wire : Side → Place A B → Place A B → Type 0) (En Le : Side → Place A B → Type 0) where
@@ -58,12 +59,16 @@ IsCrossingStop sig n x (Through s e) = Unit {0}
 abbrev pub AnyPlace : {A B : Type 0} → Side → Place A B → Type 0
 AnyPlace s p = Unit {0}
 
+-- wires of an interaction through these stops in turn
+abbrev pub Passes : {A B : Type 0} → Signature → Net A → Redex A B → Side × Place A B → List (Stop A B) → Side × Place A B → Type 0
+Passes sig n x = Tour (wires sig n x) AnyPlace AnyPlace
+
 -- a ring of agents that stay, new agents and boundary ends: what stands between two boundary ends is joined by wires of the net
 -- before alone, or by wires of the right member alone, and the side changes at each boundary end. No agent and no boundary end comes twice
 pub record LaidOut {A B : Type 0} (sig : Signature) (n : Net A) (x : Redex A B) : Type 0 where
   pub first : Stop A B
   pub rest : List (Stop A B)
-  pub closed : Tour (wires sig n x) AnyPlace AnyPlace (leaves first) rest (enters first)
+  pub closed : Passes sig n x (leaves first) rest (enters first)
   pub crossing : AllByRecursion (IsCrossingStop sig n x) (first ∷ rest)
   pub agents : AreApart (agents_of (first ∷ rest))
   pub boundary : AreDifferent (boundary_of (first ∷ rest))

@@ -2,15 +2,7 @@
 use Rattle.std.proofs.Common.{◌≡◌, ◌⊎◌, inl, inr, ◌<◌, ℕ, zero, suc, true, false, Option, Some, None, is_some, List, [], ◌∷◌, ◌++◌, length, slice_get, get_or, refl, ◌∙◌, ap, ◌≢◌, set, arith}
 use Rattle.std.specs.Prelude.{option_and_then}
 use Rattle.std.proofs.lemmas.Option.{slice_get_read, get_or_from_slice_get}
-
-pub last_at : {X : Type 0} (xs : List X) (x : X) → slice_get (xs ++ x ∷ []) (length xs) ≡ Some x
-last_at [] x = refl
-last_at (y ∷ xs) x = last_at xs x
-
-pub kept_at : {X : Type 0} (xs ys : List X) (k : ℕ) (y : X) → slice_get xs k ≡ Some y → slice_get (xs ++ ys) k ≡ Some y
-kept_at [] ys k y e = cc
-kept_at (x ∷ xs) ys zero y e = e
-kept_at (x ∷ xs) ys (suc k) y e = kept_at xs ys k y e
+pub use Rattle.in_base.proofs.Places.{last_at, kept_at}
 
 -- what stands there stood there before, or is the new one
 pub more_at : {X : Type 0} (xs : List X) (x y : X) (k : ℕ) → slice_get (xs ++ x ∷ []) k ≡ Some y → (slice_get xs k ≡ Some y) ⊎ ((k ≡ length xs) × (x ≡ y))

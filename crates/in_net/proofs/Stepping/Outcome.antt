@@ -1,5 +1,5 @@
 -- The net after an interaction: it is the one of the definitions, over the same tables, and whole.
-use Rattle.std.proofs.Common.{◌≡◌, ◌≢◌, ◌⊎◌, inl, inr, ◌+◌, ◌*◌, ◌<◌, ◌≤◌, ℕ, zero, suc, cond, Option, Some, None, List, [], ◌∷◌, map, length, count_by, is_some, slice_get, refl, sym, ap, subst, ◌∙◌, arith}
+use Rattle.std.proofs.Common.{◌≡◌, ◌≢◌, ◌⊎◌, inl, inr, ◌+◌, ◌*◌, ◌<◌, ◌≤◌, ℕ, zero, suc, false, cond, Option, Some, None, List, [], ◌∷◌, map, length, count_by, is_some, slice_get, refl, sym, ap, subst, ◌∙◌, arith}
 use Rattle.std.specs.Prelude.{option_map, option_and_then}
 use Rattle.std.specs.List.{AllByRecursion}
 use native.Mathlib.Decide.{ℕ_discrete}
@@ -14,7 +14,7 @@ use Rattle.in_net.specs.Interacting.{unused, numbers_after, CanInteract, Interac
 use Rattle.in_net.specs.Interactions.{IsStep, AreJoined, IsOfPair, InnerWire, Side, Outer, Inner, wire_of, stands_for, redex_at}
 use Rattle.in_net.specs.Listing.{unlisted, AreListed, HaveFewEnds}
 use Rattle.in_net.specs.Nets.{Point, Port, Free, IsNet, net_of, signature_of, point_of, coded_point}
-use Rattle.in_net.specs.Parts.{Parts, IsWhole, IsWireBetween, as_changed, cell_in, partner_in, wire_in}
+use Rattle.in_net.specs.Parts.{Parts, IsWhole, IsWireBetween, cell_in, partner_in, wire_in}
 use Rattle.in_net.specs.TextNet.{ComesBefore}
 use Rattle.in_net.specs.declared.nets.Cell.{Cell}
 use Rattle.in_net.specs.declared.nets.FreeEnd.{FreeEnd}
@@ -105,7 +105,7 @@ before_or (code.Port x i) (code.Port y j) h = by_agent (less_or x.0 y.0)
 
 module _ (s : SiteParts) (site : IsSite s) (cells : List (Option Cell)) (free : List FreeEnd) (wires : List Wire) (numbers : length cells ≡ numbers_after s.net.cells (length s.rule.member.cells)) (after : AreCellsAfter s cells) (frees : AreFreeAfter s free) where
   abbrev pub m : Parts
-  m = as_changed cells free wires []
+  m = record { cells = cells; free = free; wires = wires; places = []; built = false }
 
   pub few_ends : HaveFewEnds cells
   few_ends x c e = go (after x).only

@@ -5,7 +5,7 @@ use Rattle.std.specs.List.{AllByRecursion}
 use Rattle.std.proofs.lemmas.Option.{slice_get_within}
 use Rattle.in_symbols.specs.Tables.{Tables, IsSymbol, is_constructor}
 use Rattle.in_symbols.specs.declared.symbols.SymbolNo.{SymbolNo}
-use Rattle.in_net.specs.ActivePairs.{AreActive, StandsFirst, IsOrdered, IsActivePair, lower_of, ArePairsOf}
+use Rattle.in_net.specs.ActivePairs.{AreActive, StandsFirst, IsOrdered, IsActivePair, lower_of, RiseByLower, ArePairsOf}
 use Rattle.in_net.specs.Built.{IsOver, IsCellOver}
 use Rattle.in_net.specs.declared.nets.AgentNo.{AgentNo}
 use Rattle.in_net.specs.declared.nets.Cell.{Cell}
@@ -49,7 +49,7 @@ module _ (t : Tables) (n : Parts) where
   pub record AreFirstPairs (x : ℕ) (qs : List (AgentNo × AgentNo)) : Type 0 where
     pub pairs : (k : ℕ) (q : AgentNo × AgentNo) → slice_get qs k ≡ Some q → IsActivePair t n q × (lower_of q < x)
     pub all : (q : AgentNo × AgentNo) → IsActivePair t n q → lower_of q < x → (k : ℕ) × (slice_get qs k ≡ Some q)
-    pub rising : (j k : ℕ) (p q : AgentNo × AgentNo) → j < k → slice_get qs j ≡ Some p → slice_get qs k ≡ Some q → lower_of p < lower_of q
+    pub rising : RiseByLower qs
 
   module _ (whole : IsWhole n) where
     -- the lower of the two agents has this number

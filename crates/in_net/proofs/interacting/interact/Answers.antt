@@ -1,11 +1,11 @@
-use Rattle.std.proofs.Common.{◌≡◌, ◌≤◌, ◌<◌, ◌+◌, ◌*◌, ◌^◌, ℕ, Option, Some, List, length, count_by, is_some, sym, ap, subst, ◌∙◌, arith}
+use Rattle.std.proofs.Common.{◌≡◌, ◌≤◌, ◌<◌, ◌+◌, ◌*◌, ◌^◌, ℕ, false, Option, Some, List, length, count_by, is_some, sym, ap, subst, ◌∙◌, arith}
 use Rattle.in_syntax.specs.Grammar.{max_ports}
 use Rattle.in_net.specs.After.{AreUnused, Rejoins}
 use Rattle.in_net.specs.Following.{SiteParts, IsSite}
 use Rattle.in_net.specs.Interacting.{MayInteract, Interacts}
 use Rattle.in_net.specs.Listing.{AreEndsOf, AreListed, unlisted}
 use Rattle.in_net.specs.NetFaults.{max_member_agents}
-use Rattle.in_net.specs.Parts.{Parts, IsWhole, as_changed, cell_in}
+use Rattle.in_net.specs.Parts.{Parts, IsWhole, as_built, cell_in}
 use Rattle.in_net.specs.Rules.{RuleParts}
 use Rattle.in_net.specs.declared.nets.AgentNo.{AgentNo}
 use Rattle.in_net.specs.declared.nets.Cell.{Cell}
@@ -90,7 +90,7 @@ invariant_of-net c =
     let count : length c.as_slice-3.result.now ≡ length c.rejoin.new.free.items = ap length c.as_slice-3.ensures ∙ outer.many ∙ sym new.many in
     let few = subst (λ (cs : List (Option Cell)). length wires ≤ length c.rejoin.new.free.items + (max_ports + 1) * count_by is_some cs) c.as_slice-2.ensures
     (subst (λ (k : ℕ). length wires ≤ k + (max_ports + 1) * count_by is_some c.as_slice-2.result.now) count listing.few) in
-    subst (λ ps. IsWhole (as_changed c.in_ok-cells.cells c.rejoin.new.free.items wires ps)) (sym c.new.ensures) (whole at site c.in_ok-cells.cells c.rejoin.new.free.items wires made.0 made.1 frees listed few)
+    subst (λ ps. IsWhole (record (as_built c.in_ok-cells.cells c.rejoin.new.free.items wires ps) { built = false })) (sym c.new.ensures) (whole at site c.in_ok-cells.cells c.rejoin.new.free.items wires made.0 made.1 frees listed few)
 
 pub returns-clause-ok : goal.returns-clause-ok
 returns-clause-ok c =
@@ -115,5 +115,5 @@ returns-clause-ok c =
     let count : length c.as_slice-3.result.now ≡ length c.rejoin.new.free.items = ap length c.as_slice-3.ensures ∙ outer.many ∙ sym new.many in
     let few = subst (λ (cs : List (Option Cell)). length wires ≤ length c.rejoin.new.free.items + (max_ports + 1) * count_by is_some cs) c.as_slice-2.ensures
     (subst (λ (k : ℕ). length wires ≤ k + (max_ports + 1) * count_by is_some c.as_slice-2.result.now) count listing.few) in
-    subst (λ ps. Interacts c.args.net.now c.args.rule.now c.args.a c.args.b (as_changed c.in_ok-cells.cells c.rejoin.new.free.items wires ps)) (sym c.new.ensures)
+    subst (λ ps. Interacts c.args.net.now c.args.rule.now c.args.a c.args.b (record (as_built c.in_ok-cells.cells c.rejoin.new.free.items wires ps) { built = false })) (sym c.new.ensures)
     (interacts at site c.in_ok-cells.cells c.rejoin.new.free.items wires made.0 made.1 frees listed few)

@@ -10,10 +10,10 @@ use denote.Struct.Laws.{field_copy}
 use denote.Struct.Lending.{of_Lends}
 use Rattle.core.specs.contracts.marker.PhantomData as marker
 use Rattle.in_arena.specs.contracts.cells.Cells as cells
-use Rattle.in_arena.proofs.cells.Cells.TheLaw.Statement.{statement}
+use Rattle.in_arena.proofs.cells.Cells.TheLaw.Statement as stated
 use Rattle.in_arena.proofs.Sharing.{cells_laws, lends_cells}
 
-pub shares : (R : RattleType) (L : Laws R) → statement R L
+pub shares : (R : RattleType) (L : Laws R) → stated.statement R L
 shares R L =
     let inside = Incl-trans (meet_⊑_left (R.lives ++ []) _) (meet_⊑_left R.lives []) in
     of_Lends (cells.struct R) (cells.the_codes R.Denot R.coded (marker.the_row RawPtr).coded) (cells.the_heap R) (cells.the_lent R) (λ d p. cells_laws R L.shr_laws d.at d.slots)

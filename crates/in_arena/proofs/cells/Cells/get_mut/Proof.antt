@@ -7,20 +7,18 @@ use lib.ListN.{length, set, get_or, length-set}
 use seplogic.Ra.Ura.{Ura}
 use base.Fraction.{full_share}
 use base.Logic.{SProp, ent, sep, never, id⊢}
-use base.Fml.{Lft, GName, Share, Fml, ftrue, fsep, fat, flft, fobs, fbor}
+use base.Fml.{Lft, GName, Share, Fml, ftrue, fsep, fat, flft}
 use mir.Syntax.{Fn, named, w64}
 use mir.MapTy.{inst_fn}
 use mir.Val.{Val, vptr, vint}
-use prog.Wp.{Env, Calls, Loops, WpFn, Tables}
+use prog.Wp.{Env, Calls, Loops, WpFn}
 use contract.Monad.{fact}
-use contract.Running.{tables, tables_of}
-use sound.WpLaws.{WpFn-mono}
+use contract.Running.{tables}
 use types.Logic.{Logic, sem}
 use types.Kit.{Item, ⋆, ‵, raw, ◌⊛◌, some, later, await, pick, at_ret, ◌$◌, ◌∵◌, !, qed, by, move, keep, use1, use2, split, join, group, rewrite, fsplit, fsplit3, fjoin, fjoin3, fpack, feq_l, flt_l, flt_i, suffices, frame, done}
 use types.Part.{whole, sub}
 use types.Run.{stop, fld, of_opd, bin, size_lit, addr, first, blocks, exec, returns, enter}
 use types.ByLocal.{alloc_all, pass_all, free_all, look_at, get, get_in, take_at, give_at, through, sets, sets_last, env}
-use types.SemTy.{Body as Borrowed}
 use denote.Builtin.{RefMutOf, usize}
 use denote.Exit.{no}
 use denote.Follow.{follows, Part, lends_Part}
@@ -31,21 +29,18 @@ use denote.RawPtr.{Ptr, block_ptr, in_a_block}
 use denote.Ref.{MutBor, MutRef}
 use denote.Signature.{plain, mut_ref_to}
 use denote.Steps.{nothing, opens}
-use denote.Triple.Carry.{spared}
-use denote.Triple.Clauses.{Clauses, Ended, closing}
+use denote.Triple.Clauses.{Clauses, Ended}
 use denote.Triple.Entry.{on_entry}
-use denote.Triple.Spec.{Meets, triple_of}
-use denote.Triple.Table.{entered, run_framed}
-use denote.Triple.Walked.{says, needs, Stays, stay_dropped, walk_of, ends_at, Goes-dropped, Goes-spent_ref, walk_Meets}
+use denote.Triple.Walked.{says, needs, Stays, stay_dropped, walk_of, ends_at, Goes-dropped, Goes-spent_ref}
 use Rattle.std.specs.Prelude.{Some, None}
 use Rattle.core.proofs.mem.Param.{El, R, args, el_x}
 use Rattle.core.proofs.ptr.Rows.{times_below, one_below}
 use Rattle.std_alloc.proofs.RcSteps.{word, word-Good}
 use Rattle.std_alloc.proofs.VecSteps.Shapes.{after}
-use Rattle.in_arena.specs.Places.{IsFilled}
 use Rattle.in_arena.specs.Ownership.{cell, row, cells_own}
 use Rattle.in_arena.specs.Lends.{with_slots}
-use Rattle.in_arena.proofs.Memory.{Owner, Begin, Mark, sz, Place, word_had}
+use Rattle.in_arena.proofs.Memory.{Owner, Begin, Mark, sz, Place, IsFilledFrom, lent, word_had}
+use Rattle.in_arena.proofs.Walks.{walked}
 use Rattle.in_arena.proofs.Rows.{Others, cell_out, cell_in, filled_inside}
 use Rattle.in_arena.specs.contracts.cells.Cells.get_mut.Key.{name as #self}
 use Rattle.in_arena.proofs.cells.Cells.get_mut.Statement as stated
@@ -61,9 +56,6 @@ module _ (E : El) where
   abbrev stayed : Stays ended.signature.params ended.kept
   stayed = (stay_dropped (mut_ref_to (0 ∷ []) tt (plain (λ _. Owner E))) no, (stay_dropped (plain (λ _. Begin E)) no, (stay_dropped (plain (λ _. usize)) no, tt)))
 
-  abbrev Asks : (Owner E).Denot → (Begin E).Denot → ℕ → Type 0
-  Asks d base index = (base.ptr ≡ d.at) × IsFilled d.slots index
-
   abbrev Gives : (Owner E).Denot → ℕ → MutBor (el_x E) → Type 0
   Gives d index r = get_or d.slots index None ≡ Some (Some r.now)
 
@@ -74,7 +66,7 @@ module _ (E : El) where
   abbrev spec : {M : Type 1} {𝓤 : Ura M} (𝓛 : Logic 𝓤) → Clauses 𝓤 ended
   spec {𝓤 = 𝓤} 𝓛 κs a = record {
     ghost = Unit {0};
-    requires = λ _. fact 𝓤 (Asks a.0.now a.1.0 a.1.1.0);
+    requires = λ _. fact 𝓤 (IsFilledFrom E a.0.now a.1.0 a.1.1.0);
     ensures = λ _ r w. sep 𝓤 (sem 𝓛 (follows (Owner E) (R E) a.0.ghost_name r.ghost_name (new a.0.now a.1.1.0))) (fact 𝓤 (Gives a.0.now a.1.1.0 r));
   }
 
@@ -114,9 +106,9 @@ module _ (E : El) {M : Type 1} {𝓤 : Ura M} (𝓛 : Logic 𝓤) (C : Calls �
       nothing ! $ nothing ! $ fjoin ! $ nothing ! $ fjoin ! $ nothing ! $ fjoin ! $ join ! $ nothing ! $ move ! (2 ∷ 0 ∷ []) $ join ! $ join ! $ frame ! $ says ! given_it $ done !
 
   abbrev Had : List (Item 𝓤)
-  Had = ‵ (fobs γ ((Owner E).coded.code d)) ∷ ‵ (fbor κ (Borrowed (mem (Owner E)) rb ro γ)) ∷ ‵ (flft κ q) ∷ []
+  Had = lent E 𝓛 κ q rb ro γ d
 
-  walk : Asks E d base index → index < 2 ^ 64 → ent 𝓤 (⋆ 𝓛 Had) (WpFn 𝓤 H C Λ (function E) (vptr rb ro ∷ word base.ptr ∷ vint w64 index ∷ []) Post)
+  walk : IsFilledFrom E d base index → index < 2 ^ 64 → ent 𝓤 (⋆ 𝓛 Had) (WpFn 𝓤 H C Λ (function E) (vptr rb ro ∷ word base.ptr ∷ vint w64 index ∷ []) Post)
   walk asked fits =
       let x = asked.1.0 in let is = asked.1.1 in let inside = filled_inside d.slots index (Some x) is in let s = sz E in let coded = (Owner E).coded.code d in
       qed 𝓛 Had ∵ enter ! C Λ (function E) (vptr rb ro ∷ word base.ptr ∷ vint w64 index ∷ []) _ $ alloc_all ! (λ l. pass_all ! refl ((tt, tt), (word-Good [] base.ptr, ((tt, record { fits = fits }), tt))) $
@@ -138,25 +130,18 @@ module _ (E : El) {M : Type 1} {𝓤 : Ura M} (𝓛 : Logic 𝓤) (C : Calls �
       (lends_Part 𝓛 (Owner E) (R E) (new E d index) (named 0) κ q rb ro b at γ (sem 𝓛 (Rest vs b o)) way coded coded x) $ await ! tt $ pick ! (λ δ.
       returns ! (look_at ! 0 refl) $ free_all ! refl $ keep ! (0 ∷ []) $ by ! (exits (vptr b at) (record { ref_ptr = (b, at); ghost_name = δ; now = x }) is))))))
 
-  entry : Asks E d base index → ent 𝓤 (on_entry 𝓛 (ended E).signature (κ, tt) (q, tt) (self, (base, (index, tt))) (us0, (us1, (us2, tt)))) (WpFn 𝓤 H C Λ (function E) (us0 ++ (us1 ++ (us2 ++ []))) Post)
+  entry : IsFilledFrom E d base index → ent 𝓤 (on_entry 𝓛 (ended E).signature (κ, tt) (q, tt) (self, (base, (index, tt))) (us0, (us1, (us2, tt)))) (WpFn 𝓤 H C Λ (function E) (us0 ++ (us1 ++ (us2 ++ []))) Post)
   entry asked =
       qed 𝓛 ((‵ (flft κ q) ⊛ ‵ ftrue) ∷ ‵ (owns (MutRef (named 0) κ (Owner E) ∷ Begin E ∷ usize ∷ []) (self, (base, (index, tt))) (us0, (us1, (us2, tt)))) ∷ []) ∵
       split ! $ move ! (2 ∷ []) $ fsplit ! $ fsplit3 ! $ feq_l ! (λ e0. move ! (2 ∷ []) $ fsplit ! $ word_had ! base.ptr us1 (λ e1.
       fsplit ! $ fsplit ! $ feq_l ! (λ e2. flt_l ! (λ fits. keep ! (1 ∷ 2 ∷ 3 ∷ []) $
       by ! (subst (λ (ws : List Val × List Val × List Val). ent 𝓤 (⋆ 𝓛 Had) (WpFn 𝓤 H C Λ (function E) (ws.0 ++ (ws.1 ++ (ws.2 ++ []))) Post)) (λ j. (sym e0 j, sym e1 j, sym e2 j)) (walk asked fits))))))
 
-meets : (E : El) {M : Type 1} {𝓤 : Ura M} (𝓛 : Logic 𝓤) (𝓣 : Tables 𝓤 𝓛.H) → Meets 𝓛 (ended E).signature (WpFn 𝓤 𝓛.H 𝓣.C 𝓣.Λ (function E)) (closing 𝓛 (ended E) (spec E 𝓛))
-meets E {𝓤 = 𝓤} 𝓛 𝓣 =
-    walk_Meets 𝓛 (ended E) (stayed E)
-    (Goes-spent_ref 𝓛 1 (0 ∷ []) tt (plain (λ _. Owner E)), (Goes-dropped 𝓛 1 (plain (λ _. Begin E)) no (λ κs x f. refl), (Goes-dropped 𝓛 1 (plain (λ _. usize)) no (λ κs x f. refl), tt)))
-    (spec E 𝓛) (WpFn 𝓤 𝓛.H 𝓣.C 𝓣.Λ (function E)) (WpFn-mono 𝓤 𝓛.H 𝓛.laws 𝓣 (function E))
-    (λ z. let a = z.0.3 in let us = z.0.4 in
-    needs 𝓤 (Asks E a.0.now a.1.0 a.1.1.0) _ (entry E 𝓛 𝓣.C 𝓣.Λ z.0.0.0 z.0.1.0 a.0.ref_ptr.0 a.0.ref_ptr.1 a.0.ghost_name a.0.now a.1.0 a.1.1.0 us.0 us.1.0 us.1.1.0))
-
 pub get_mut_spec : {M : Type 1} → stated.statement M
-unfolding tables_of
 get_mut_spec 𝓤 𝓛 𝓜 𝓡 wired X LX y =
-    let E : El = record { row = X; laws = LX } in let 𝓣 : Tables 𝓤 𝓛.H = tables_of 𝓤 𝓛.H 𝓜 (tables 𝓤 𝓛.H 𝓜 𝓡 𝓡.env) in let k = #self (args E) in
-    spared 𝓛 (ended E).signature (𝓡.run (𝓡.env k)) (run_framed 𝓤 𝓛.H 𝓜 𝓡 (𝓡.env k)) 1 (X.lives, tt) (closing 𝓛 (ended E) (spec E 𝓛))
-    (entered 𝓤 𝓛.H (triple_of 𝓛 (ended E).signature (closing 𝓛 (ended E) (spec E 𝓛))) 𝓣.C 𝓣.Λ k (function E) (code.unfolded 𝓤 𝓛.H 𝓜 𝓡 wired (X, tt)) (meets E 𝓛 𝓣))
+    let E : El = record { row = X; laws = LX } in let 𝓣 = tables 𝓤 𝓛.H 𝓜 𝓡 𝓡.env in
+    walked 𝓤 𝓛 𝓜 𝓡 X.lives (#self (args E)) (function E) (ended E) (stayed E) (spec E 𝓛) (code.unfolded 𝓤 𝓛.H 𝓜 𝓡 wired (X, tt))
+    (Goes-spent_ref 𝓛 1 (0 ∷ []) tt (plain (λ _. Owner E)), (Goes-dropped 𝓛 1 (plain (λ _. Begin E)) no (λ κs x f. refl), (Goes-dropped 𝓛 1 (plain (λ _. usize)) no (λ κs x f. refl), tt)))
+    (λ z. let a = z.0.3 in let us = z.0.4 in
+    needs 𝓤 (IsFilledFrom E a.0.now a.1.0 a.1.1.0) _ (entry E 𝓛 𝓣.C 𝓣.Λ z.0.0.0 z.0.1.0 a.0.ref_ptr.0 a.0.ref_ptr.1 a.0.ghost_name a.0.now a.1.0 a.1.1.0 us.0 us.1.0 us.1.1.0))
     ((y.0.0, y.0.1, tt, y.0.3, y.0.4), y.1)

@@ -6,21 +6,17 @@ use seplogic.Ra.Ura.{Ura}
 use base.Logic.{SProp, ent, never, id⊢}
 use base.Fml.{Lft, GName, Share, ftrue, flft, fobs, fbor}
 use mir.MapTy.{inst_fn}
-use prog.Wp.{Calls, Loops, WpFn, Tables}
+use prog.Wp.{Calls, Loops, WpFn}
 use contract.Monad.{fact}
-use contract.Running.{tables, tables_of}
-use sound.WpLaws.{WpFn-mono}
+use contract.Running.{tables}
 use types.Logic.{Logic}
 use types.SemTy.{Body as Borrowed}
 use denote.Exit.{yes, no}
 use denote.RattleType.{owns}
 use denote.Ref.{MutBor, MutRef}
 use denote.Signature.{plain}
-use denote.Triple.Carry.{spared}
-use denote.Triple.Clauses.{Clauses, Ended, closing}
+use denote.Triple.Clauses.{Clauses, Ended}
 use denote.Triple.Entry.{on_entry}
-use denote.Triple.Spec.{Meets, triple_of}
-use denote.Triple.Table.{entered, run_framed}
 use lib.ListN.{length}
 use mir.Syntax.{Fn, named}
 use mir.Val.{Val, vptr, vunit}
@@ -31,13 +27,14 @@ use denote.Builtin.{RefMutOf, unit}
 use denote.Memory.{mem}
 use denote.RawPtr.{Ptr, in_a_block}
 use denote.Steps.{nothing, opens, closes}
-use denote.Triple.Walked.{says, needs, Stays, stay_dropped, stay_ref, walk_of, ends_at, Goes-ref, walk_Meets}
+use denote.Triple.Walked.{says, needs, Stays, stay_dropped, stay_ref, walk_of, ends_at, Goes-ref}
 use Rattle.core.proofs.alloc.Calls.{Goes-blank}
 use Rattle.core.proofs.mem.Param.{El, R, args}
 use Rattle.in_arena.specs.Places.{together}
 use Rattle.in_arena.specs.Ownership.{row, cells_own}
 use Rattle.in_arena.specs.Lends.{with_slots}
-use Rattle.in_arena.proofs.Memory.{Owner, sz, mark, mark_had}
+use Rattle.in_arena.proofs.Memory.{Owner, HasCells, sz, lent, mark, mark_had}
+use Rattle.in_arena.proofs.Walks.{walked}
 use Rattle.in_arena.proofs.Rows.{rows_join, length-together}
 use Rattle.in_arena.specs.contracts.cells.Cells.join.Key.{name as #self}
 use Rattle.in_arena.proofs.cells.Cells.join.Statement as stated
@@ -57,7 +54,7 @@ module _ (E : El) where
   Asks d other = (other.at ≡ d.at) × (length other.slots ≡ length d.slots)
 
   abbrev Gives : (Owner E).Denot → (Owner E).Denot → (Owner E).Denot → Type 0
-  Gives d other new = (new.at ≡ d.at) × (new.slots ≡ together d.slots other.slots)
+  Gives d other new = HasCells E d (together d.slots other.slots) new
 
   abbrev spec : {M : Type 1} {𝓤 : Ura M} (𝓛 : Logic 𝓤) → Clauses 𝓤 ended
   spec {𝓤 = 𝓤} 𝓛 κs a = record { ghost = Unit {0}; requires = λ _. fact 𝓤 (Asks a.0.now a.1.0); ensures = λ _ r w. fact 𝓤 (Gives a.0.now a.1.0 w.0.now) }
@@ -74,12 +71,9 @@ module _ (E : El) {M : Type 1} {𝓤 : Ura M} (𝓛 : Logic 𝓤) (C : Calls �
   abbrev Post : Val → SProp 𝓤
   Post = (walk_of 𝓛 (ended E) (stayed E) (spec E 𝓛)).post bound
 
-  abbrev Told : (Owner E).Denot → List (Item 𝓤)
-  Told new = ‵ (fobs γ ((Owner E).coded.code new)) ∷ ‵ (fbor κ (Borrowed (mem (Owner E)) rb ro γ)) ∷ ‵ (flft κ q) ∷ []
-
-  exits : us0 ≡ vptr rb ro ∷ [] → (new : (Owner E).Denot) → Gives E d other new → ent 𝓤 (⋆ 𝓛 (Told new)) (Post vunit)
+  exits : us0 ≡ vptr rb ro ∷ [] → (new : (Owner E).Denot) → Gives E d other new → ent 𝓤 (⋆ 𝓛 (lent E 𝓛 κ q rb ro γ new)) (Post vunit)
   exits passed new given_it =
-      qed 𝓛 (Told new) ∵ suffices ! _ (ends_at 𝓛 (ended E) (stayed E) (spec E 𝓛) bound vunit tt (new, (tt, tt)) (tt, (tt, tt))) $ says ! given_it $
+      qed 𝓛 (lent E 𝓛 κ q rb ro γ new) ∵ suffices ! _ (ends_at 𝓛 (ended E) (stayed E) (spec E 𝓛) bound vunit tt (new, (tt, tt)) (tt, (tt, tt))) $ says ! given_it $
       feq_i ! (List Val) (vunit ∷ []) (vunit ∷ []) refl $ move ! (1 ∷ 2 ∷ 3 ∷ 0 ∷ []) $ nothing ! $ move ! (3 ∷ 0 ∷ []) $ join ! $ frame ! $
       feq_i ! (List Val) us0 (vptr rb ro ∷ []) passed $ fjoin3 ! $ nothing ! $ nothing ! $ fjoin ! $ move ! (1 ∷ 0 ∷ []) $ fjoin ! $ done !
 
@@ -105,17 +99,11 @@ module _ (E : El) {M : Type 1} {𝓤 : Ura M} (𝓛 : Logic 𝓤) (C : Calls �
       split ! $ move ! (2 ∷ []) $ fsplit ! $ fsplit3 ! $ feq_l ! (λ e0. move ! (2 ∷ []) $ fsplit ! $ fsplit ! $ mark_had ! E us1 (λ e1. keep ! (2 ∷ 3 ∷ 4 ∷ 0 ∷ []) $
       by ! (subst (λ (ws : List Val × List Val). ent 𝓤 (⋆ 𝓛 Had) (WpFn 𝓤 H C Λ (function E) (ws.0 ++ (ws.1 ++ [])) Post)) (λ j. (sym e0 j, sym e1 j)) (walk e0 asked))))
 
-meets : (E : El) {M : Type 1} {𝓤 : Ura M} (𝓛 : Logic 𝓤) (𝓣 : Tables 𝓤 𝓛.H) → Meets 𝓛 (ended E).signature (WpFn 𝓤 𝓛.H 𝓣.C 𝓣.Λ (function E)) (closing 𝓛 (ended E) (spec E 𝓛))
-meets E {𝓤 = 𝓤} 𝓛 𝓣 =
-    walk_Meets 𝓛 (ended E) (stayed E) (Goes-ref 𝓛 1 0 tt (plain (λ _. Owner E)), (Goes-blank 𝓛 1 (plain (λ _. Owner E)) no (λ κs x f. tt), tt))
-    (spec E 𝓛) (WpFn 𝓤 𝓛.H 𝓣.C 𝓣.Λ (function E)) (WpFn-mono 𝓤 𝓛.H 𝓛.laws 𝓣 (function E))
+pub join_spec : {M : Type 1} → stated.statement M
+join_spec 𝓤 𝓛 𝓜 𝓡 wired X LX y =
+    let E : El = record { row = X; laws = LX } in let 𝓣 = tables 𝓤 𝓛.H 𝓜 𝓡 𝓡.env in
+    walked 𝓤 𝓛 𝓜 𝓡 X.lives (#self (args E)) (function E) (ended E) (stayed E) (spec E 𝓛) (code.unfolded 𝓤 𝓛.H 𝓜 𝓡 wired (X, tt))
+    (Goes-ref 𝓛 1 0 tt (plain (λ _. Owner E)), (Goes-blank 𝓛 1 (plain (λ _. Owner E)) no (λ κs x f. tt), tt))
     (λ z. let a = z.0.3 in let us = z.0.4 in
     needs 𝓤 (Asks E a.0.now a.1.0) _ (entry E 𝓛 𝓣.C 𝓣.Λ z.0.0.0 z.0.1.0 a.0.ref_ptr.0 a.0.ref_ptr.1 a.0.ghost_name a.0.now a.1.0 us.0 us.1.0))
-
-pub join_spec : {M : Type 1} → stated.statement M
-unfolding tables_of
-join_spec 𝓤 𝓛 𝓜 𝓡 wired X LX y =
-    let E : El = record { row = X; laws = LX } in let 𝓣 : Tables 𝓤 𝓛.H = tables_of 𝓤 𝓛.H 𝓜 (tables 𝓤 𝓛.H 𝓜 𝓡 𝓡.env) in let k = #self (args E) in
-    spared 𝓛 (ended E).signature (𝓡.run (𝓡.env k)) (run_framed 𝓤 𝓛.H 𝓜 𝓡 (𝓡.env k)) 1 (X.lives, tt) (closing 𝓛 (ended E) (spec E 𝓛))
-    (entered 𝓤 𝓛.H (triple_of 𝓛 (ended E).signature (closing 𝓛 (ended E) (spec E 𝓛))) 𝓣.C 𝓣.Λ k (function E) (code.unfolded 𝓤 𝓛.H 𝓜 𝓡 wired (X, tt)) (meets E 𝓛 𝓣))
     ((y.0.0, y.0.1, tt, y.0.3, y.0.4), y.1)

@@ -6,21 +6,17 @@ use seplogic.Ra.Ura.{Ura}
 use base.Logic.{SProp, ent, sep, never, id⊢}
 use base.Fml.{Lft, GName, Share, ftrue, flft, fobs, fbor}
 use mir.MapTy.{inst_fn}
-use prog.Wp.{Calls, Loops, WpFn, Tables}
+use prog.Wp.{Calls, Loops, WpFn}
 use contract.Monad.{fact}
-use contract.Running.{tables, tables_of}
-use sound.WpLaws.{WpFn-mono}
+use contract.Running.{tables}
 use types.Logic.{Logic}
 use types.SemTy.{Body as Borrowed}
 use denote.Exit.{yes, no}
 use denote.RattleType.{owns}
 use denote.Ref.{MutBor, MutRef}
 use denote.Signature.{plain}
-use denote.Triple.Carry.{spared}
-use denote.Triple.Clauses.{Clauses, Ended, closing}
+use denote.Triple.Clauses.{Clauses, Ended}
 use denote.Triple.Entry.{on_entry}
-use denote.Triple.Spec.{Meets, triple_of}
-use denote.Triple.Table.{entered, run_framed}
 use Rattle.std.specs.Prelude.{None}
 use lib.ListN.{length, set, get_or, replicate, length-set, length-replicate}
 use mir.Syntax.{Fn, named, w64}
@@ -33,11 +29,12 @@ use denote.Builtin.{RefMutOf, usize}
 use denote.Memory.{mem}
 use denote.RawPtr.{Ptr, in_a_block}
 use denote.Steps.{nothing, opens, closes}
-use denote.Triple.Walked.{needs, Stays, stay_dropped, stay_ref, walk_of, ends_at, Goes-dropped, Goes-ref, walk_Meets}
+use denote.Triple.Walked.{needs, Stays, stay_dropped, stay_ref, walk_of, ends_at, Goes-dropped, Goes-ref}
 use Rattle.core.proofs.mem.Param.{El, R, args}
 use Rattle.in_arena.specs.Ownership.{row, cells_own}
 use Rattle.in_arena.specs.Lends.{with_slots}
-use Rattle.in_arena.proofs.Memory.{Owner, Mark, Place, sz, mark, mark_made, says_both}
+use Rattle.in_arena.proofs.Memory.{Owner, Mark, Place, HasCells, sz, lent, mark, mark_made, says_both}
+use Rattle.in_arena.proofs.Walks.{walked}
 use Rattle.in_arena.proofs.Rows.{cell_parts}
 use Rattle.in_arena.specs.contracts.cells.Cells.part.Key.{name as #self}
 use Rattle.in_arena.proofs.cells.Cells.part.Statement as stated
@@ -56,21 +53,12 @@ module _ (E : El) where
   abbrev Asks : (Owner E).Denot → ℕ → Type 0
   Asks d index = index < length d.slots
 
-  -- the cell that leaves, and those that stay
+  -- the cell that leaves
   abbrev one_of : (Owner E).Denot → ℕ → List (Place E)
   one_of d index = set (replicate (length d.slots) None) index (get_or d.slots index None)
 
-  abbrev rest_of : (Owner E).Denot → ℕ → List (Place E)
-  rest_of d index = set d.slots index None
-
-  abbrev GivesOne : (Owner E).Denot → ℕ → (Owner E).Denot → Type 0
-  GivesOne d index r = (r.at ≡ d.at) × (r.slots ≡ one_of d index)
-
-  abbrev GivesRest : (Owner E).Denot → ℕ → (Owner E).Denot → Type 0
-  GivesRest d index new = (new.at ≡ d.at) × (new.slots ≡ rest_of d index)
-
   abbrev spec : {M : Type 1} {𝓤 : Ura M} (𝓛 : Logic 𝓤) → Clauses 𝓤 ended
-  spec {𝓤 = 𝓤} 𝓛 κs a = record { ghost = Unit {0}; requires = λ _. fact 𝓤 (Asks a.0.now a.1.0); ensures = λ _ r w. sep 𝓤 (fact 𝓤 (GivesOne a.0.now a.1.0 r)) (fact 𝓤 (GivesRest a.0.now a.1.0 w.0.now)) }
+  spec {𝓤 = 𝓤} 𝓛 κs a = record { ghost = Unit {0}; requires = λ _. fact 𝓤 (Asks a.0.now a.1.0); ensures = λ _ r w. sep 𝓤 (fact 𝓤 (HasCells E a.0.now (one_of a.0.now a.1.0) r)) (fact 𝓤 (HasCells E a.0.now (set a.0.now.slots a.1.0 None) w.0.now)) }
 
 module _ (E : El) {M : Type 1} {𝓤 : Ura M} (𝓛 : Logic 𝓤) (C : Calls 𝓤 𝓛.H) (Λ : Loops 𝓤 𝓛.H) (κ : Lft) (q : Share) (rb ro : ℕ) (γ : GName) (d : (Owner E).Denot) (index : ℕ) (us0 us1 : List Val) where
   open 𝓛 use {H}
@@ -84,7 +72,7 @@ module _ (E : El) {M : Type 1} {𝓤 : Ura M} (𝓛 : Logic 𝓤) (C : Calls �
   abbrev Post : Val → SProp 𝓤
   Post = (walk_of 𝓛 (ended E) (stayed E) (spec E 𝓛)).post bound
 
-  exits : us0 ≡ vptr rb ro ∷ [] → (r new : (Owner E).Denot) → GivesOne E d index r → GivesRest E d index new
+  exits : us0 ≡ vptr rb ro ∷ [] → (r new : (Owner E).Denot) → HasCells E d (one_of E d index) r → HasCells E d (set d.slots index None) new
       → ent 𝓤 (⋆ 𝓛 (‵ (fobs γ ((Owner E).coded.code new)) ∷ ‵ (fbor κ (Borrowed (mem (Owner E)) rb ro γ)) ∷ ‵ (flft κ q) ∷ ‵ ((Owner E).own_val r (mark ∷ [])) ∷ [])) (Post mark)
   exits passed r new one rest =
       qed 𝓛 (‵ (fobs γ ((Owner E).coded.code new)) ∷ ‵ (fbor κ (Borrowed (mem (Owner E)) rb ro γ)) ∷ ‵ (flft κ q) ∷ ‵ ((Owner E).own_val r (mark ∷ [])) ∷ []) ∵
@@ -92,11 +80,11 @@ module _ (E : El) {M : Type 1} {𝓤 : Ura M} (𝓛 : Logic 𝓤) (C : Calls �
       nothing ! $ move ! (3 ∷ 0 ∷ []) $ join ! $ frame ! $ feq_i ! (List Val) us0 (vptr rb ro ∷ []) passed $ fjoin3 ! $ nothing ! $ nothing ! $ fjoin ! $ move ! (1 ∷ 0 ∷ []) $ fjoin ! $ done !
 
   abbrev Had : List (Item 𝓤)
-  Had = ‵ (fobs γ ((Owner E).coded.code d)) ∷ ‵ (fbor κ (Borrowed (mem (Owner E)) rb ro γ)) ∷ ‵ (flft κ q) ∷ []
+  Had = lent E 𝓛 κ q rb ro γ d
 
   walk : us0 ≡ vptr rb ro ∷ [] → Asks E d index → index < 2 ^ 64 → ent 𝓤 (⋆ 𝓛 Had) (WpFn 𝓤 H C Λ (function E) (vptr rb ro ∷ vint w64 index ∷ []) Post)
   walk passed inside fits =
-      let s = sz E in let n = length d.slots in let one = one_of E d index in let rest = rest_of E d index in
+      let s = sz E in let n = length d.slots in let one = one_of E d index in let rest = set d.slots index None in
       let apart : (Owner E).Denot = with_slots d one in let new : (Owner E).Denot = with_slots d rest in
       let long_one : length one ≡ n = length-set (replicate n None) index (get_or d.slots index None) ∙ length-replicate n None in
       qed 𝓛 Had ∵ enter ! C Λ (function E) (vptr rb ro ∷ vint w64 index ∷ []) _ $ alloc_all ! (λ l. pass_all ! refl ((tt, tt), ((tt, record { fits = fits }), tt)) $
@@ -118,17 +106,11 @@ module _ (E : El) {M : Type 1} {𝓤 : Ura M} (𝓛 : Logic 𝓤) (C : Calls �
       split ! $ move ! (2 ∷ []) $ fsplit ! $ fsplit3 ! $ feq_l ! (λ e0. move ! (2 ∷ []) $ fsplit ! $ fsplit ! $ feq_l ! (λ e1. flt_l ! (λ fits. keep ! (1 ∷ 2 ∷ 3 ∷ []) $
       by ! (subst (λ (ws : List Val × List Val). ent 𝓤 (⋆ 𝓛 Had) (WpFn 𝓤 H C Λ (function E) (ws.0 ++ (ws.1 ++ [])) Post)) (λ j. (sym e0 j, sym e1 j)) (walk e0 asked fits)))))
 
-meets : (E : El) {M : Type 1} {𝓤 : Ura M} (𝓛 : Logic 𝓤) (𝓣 : Tables 𝓤 𝓛.H) → Meets 𝓛 (ended E).signature (WpFn 𝓤 𝓛.H 𝓣.C 𝓣.Λ (function E)) (closing 𝓛 (ended E) (spec E 𝓛))
-meets E {𝓤 = 𝓤} 𝓛 𝓣 =
-    walk_Meets 𝓛 (ended E) (stayed E) (Goes-ref 𝓛 1 0 tt (plain (λ _. Owner E)), (Goes-dropped 𝓛 1 (plain (λ _. usize)) no (λ κs x f. refl), tt))
-    (spec E 𝓛) (WpFn 𝓤 𝓛.H 𝓣.C 𝓣.Λ (function E)) (WpFn-mono 𝓤 𝓛.H 𝓛.laws 𝓣 (function E))
+pub part_spec : {M : Type 1} → stated.statement M
+part_spec 𝓤 𝓛 𝓜 𝓡 wired X LX y =
+    let E : El = record { row = X; laws = LX } in let 𝓣 = tables 𝓤 𝓛.H 𝓜 𝓡 𝓡.env in
+    walked 𝓤 𝓛 𝓜 𝓡 X.lives (#self (args E)) (function E) (ended E) (stayed E) (spec E 𝓛) (code.unfolded 𝓤 𝓛.H 𝓜 𝓡 wired (X, tt))
+    (Goes-ref 𝓛 1 0 tt (plain (λ _. Owner E)), (Goes-dropped 𝓛 1 (plain (λ _. usize)) no (λ κs x f. refl), tt))
     (λ z. let a = z.0.3 in let us = z.0.4 in
     needs 𝓤 (Asks E a.0.now a.1.0) _ (entry E 𝓛 𝓣.C 𝓣.Λ z.0.0.0 z.0.1.0 a.0.ref_ptr.0 a.0.ref_ptr.1 a.0.ghost_name a.0.now a.1.0 us.0 us.1.0))
-
-pub part_spec : {M : Type 1} → stated.statement M
-unfolding tables_of
-part_spec 𝓤 𝓛 𝓜 𝓡 wired X LX y =
-    let E : El = record { row = X; laws = LX } in let 𝓣 : Tables 𝓤 𝓛.H = tables_of 𝓤 𝓛.H 𝓜 (tables 𝓤 𝓛.H 𝓜 𝓡 𝓡.env) in let k = #self (args E) in
-    spared 𝓛 (ended E).signature (𝓡.run (𝓡.env k)) (run_framed 𝓤 𝓛.H 𝓜 𝓡 (𝓡.env k)) 1 (X.lives, tt) (closing 𝓛 (ended E) (spec E 𝓛))
-    (entered 𝓤 𝓛.H (triple_of 𝓛 (ended E).signature (closing 𝓛 (ended E) (spec E 𝓛))) 𝓣.C 𝓣.Λ k (function E) (code.unfolded 𝓤 𝓛.H 𝓜 𝓡 wired (X, tt)) (meets E 𝓛 𝓣))
     ((y.0.0, y.0.1, tt, y.0.3, y.0.4), y.1)
