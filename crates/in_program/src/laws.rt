@@ -2,7 +2,8 @@
 
 ghost use Rattle.in_program.specs.Laws.{TextsAreAnsweredOnce};
 
-/// What `check` writes on a text, and what `derive` does, and the status, are a function of the text, where memory was not wanted.
+/// What a command writes on a text, and its status, are a function of the text, where memory was not wanted: of `check`, of `derive`, and of
+/// `run` with its limits.
 pub fn texts_are_answered_once()
     ensures { TextsAreAnsweredOnce }
 {}
