@@ -1,6 +1,6 @@
 -- What a ring and labels show of one node.
-use Rattle.std.proofs.Common.{◌≡◌, ◌≢◌, ◌<◌, ◌+◌, ℕ, List, Bool, Option, Some, None, length, refl, sym, subst, ap, inl, inr, ◌∙◌, arith}
-use Rattle.std.specs.Option.{unwrap_or}
+use Rattle.std.proofs.Common.{◌≡◌, ◌≢◌, ◌⊎◌, ◌<◌, ◌+◌, ℕ, List, Bool, Option, Some, None, length, refl, sym, subst, ap, inl, inr, ◌∙◌, arith}
+use Rattle.std.proofs.lemmas.Option.{same_Some}
 use Rattle.std.specs.Prelude.{MatchOption, IsSomeAnd}
 use Rattle.in_simple.specs.declared.labels.Labels.{Labels}
 use Rattle.in_simple.specs.declared.labels.Mark.{Mark}
@@ -21,21 +21,41 @@ use Rattle.in_simple.proofs.Search.{in_ports}
 use Rattle.in_simple.proofs.Sound.{port_place}
 
 module _ (o : OpenNet) (part : List Bool) (n : ℕ) where
+  -- the class in which a walk began, or begins at port i of l
+  abbrev pub IsClassOf : Option ℕ → ℕ → ℕ → ℕ → Type 0
+  IsClassOf begun l i class = (begun ≡ Some class) ⊎ ((begun ≡ None) × (class ≡ class_in o l i))
+
+  -- by port i of l it leaves n for m, or goes on to it
+  abbrev Leaves : ℕ → ℕ → ℕ → Type 0
+  Leaves class l i = ((l ≡ n) × (class_in o l i ≡ class)) ⊎ IsLedTo o part n class l
+
+  leaves : (begun : Option ℕ) (l i class : ℕ) → IsWalked o part n begun l → IsClassOf begun l i class → Leaves class l i
+  leaves None l i class e (inl c) = cc
+  leaves None l i class e (inr c) = inl (e, sym c.1)
+  leaves (Some b) l i class r (inl c) = inr (subst (λ z. IsLedTo o part n z l) (same_Some b class c) r)
+  leaves (Some b) l i class r (inr c) = let e = c.0 in cc
+
   -- one step of a walk, by port i of l
-  pub walk_on : (begun : Option ℕ) (l i w m j class : ℕ) (q : Point) → IsWalked o part n begun l → class ≡ unwrap_or begun (class_in o l i) → IsWire o w (Port l i) q → q ≡ Port m j → IsIn m (nodes_in part) → m ≢ n → IsLedTo o part n class m
-  walk_on None l i w m j class q e c g f here off =
-      (i, w, m, j, subst (λ z. IsWire o w (Port z i) (Port m j)) e (subst (IsWire o w (Port l i)) f g), subst (λ z. class_in o z i ≡ class) e (sym c), alone m (here, off))
-  walk_on (Some b) l i w m j class q r c g f here off =
-      (r.0, r.1, r.2, r.3, r.4, r.5 ∙ sym c, link_snoc o (Without n (nodes_in part)) r.2 l m i j w r.6 (subst (IsWire o w (Port l i)) f g) (here, off))
+  pub walk_on : (begun : Option ℕ) (l i w m j class : ℕ) (q : Point) → IsWalked o part n begun l → IsWire o w (Port l i) q → IsClassOf begun l i class → q ≡ Port m j → IsIn m (nodes_in part) → m ≢ n → IsLedTo o part n class m
+  walk_on begun l i w m j class q walked g c f here off = go (leaves begun l i class walked c)
+    where
+      h : IsWire o w (Port l i) (Port m j)
+      h = subst (IsWire o w (Port l i)) f g
+
+      go : Leaves class l i → IsLedTo o part n class m
+      go (inl e) = (i, w, m, j, subst (λ z. IsWire o w (Port z i) (Port m j)) e.0 h, subst (λ z. class_in o z i ≡ class) e.0 e.1, alone m (here, off))
+      go (inr r) = (r.0, r.1, r.2, r.3, r.4, r.5, link_snoc o (Without n (nodes_in part)) r.2 l m i j w r.6 h (here, off))
 
   -- a walk that is back by another class
-  pub walk_back : (begun : Option ℕ) (l i w m j class : ℕ) (q : Point) → IsWalked o part n begun l → class ≡ unwrap_or begun (class_in o l i) → IsWire o w (Port l i) q → q ≡ Port m j → m ≡ n → (class_in o m j ≡ class → ⊥) → SplitsIt o part n → ⊥
-  walk_back None l i w m j class q e c g f d other s =
-      let h = subst (λ z. IsWire o w (Port z i) (Port n j)) e (subst (λ z. IsWire o w (Port l i) (Port z j)) d (subst (IsWire o w (Port l i)) f g)) in
-      other (ap (λ z. class_in o z j) d ∙ sym (s.1.own i j (w, h)) ∙ subst (λ z. class_in o z i ≡ class) e (sym c))
-  walk_back (Some b) l i w m j class q r c g f d other s =
-      let h = subst (λ z. IsWire o w (Port l i) (Port z j)) d (subst (IsWire o w (Port l i)) f g) in
-      other (ap (λ z. class_in o z j) d ∙ sym (s.1.touched r.0 j r.2 l r.3 i (r.1, r.4) (w, wire_turn o w (Port l i) (Port n j) h) r.6) ∙ r.5 ∙ sym c)
+  pub walk_back : (begun : Option ℕ) (l i w m j class : ℕ) (q : Point) → IsWalked o part n begun l → IsWire o w (Port l i) q → IsClassOf begun l i class → q ≡ Port m j → m ≡ n → (class_in o m j ≡ class → ⊥) → SplitsIt o part n → ⊥
+  walk_back begun l i w m j class q walked g c f d other s = go (leaves begun l i class walked c)
+    where
+      h : IsWire o w (Port l i) (Port n j)
+      h = subst (λ z. IsWire o w (Port l i) (Port z j)) d (subst (IsWire o w (Port l i)) f g)
+
+      go : Leaves class l i → ⊥
+      go (inl e) = other (ap (λ z. class_in o z j) d ∙ sym (s.1.own i j (w, subst (λ z. IsWire o w (Port z i) (Port n j)) e.0 h)) ∙ subst (λ z. class_in o z i ≡ class) e.0 e.1)
+      go (inr r) = other (ap (λ z. class_in o z j) d ∙ sym (s.1.touched r.0 j r.2 l r.3 i (r.1, r.4) (w, wire_turn o w (Port l i) (Port n j) h) r.6) ∙ r.5)
 
   module _ (net : IsOpenNet o) (labels : Labels) where
     one_mark : (m : Option Mark) (c d : ℕ) → IsSomeAnd m (λ m. m.class ≡ c) → IsSomeAnd m (λ m. m.class ≡ d) → c ≡ d

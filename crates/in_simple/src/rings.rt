@@ -24,7 +24,10 @@ pub(crate) fn joins_classes(
         if port >= wired.ports(at) {
             return false;
         }
-        let class = begun.unwrap_or(wired.class(at, port));
+        let class = match begun {
+            Some(class) => class,
+            None => wired.class(at, port),
+        };
         match wired.partner(at, port) {
             (_, Point::Port(near, place)) => {
                 if near as usize == node {
