@@ -12,6 +12,7 @@ mod opening_rules;
 mod plans;
 mod procedure;
 mod rings;
+mod sets;
 mod splitting;
 mod stuck;
 mod trials;

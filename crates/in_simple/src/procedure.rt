@@ -11,6 +11,7 @@ ghost use Rattle.in_simple.specs.declared.plans.Task.TheVariants.{Derive, Make};
 use crate::derivations::{Derivation, Step, StepNumbers, Stuck, Undone};
 use crate::open_nets::{OpenNet, Point};
 use crate::plans::{Joint, Task, tasks_of};
+use crate::sets::all;
 use crate::splitting::first_splitting;
 use crate::trials::Trials;
 use crate::wired::Wired;
@@ -161,18 +162,6 @@ fn loose(alloc: Global, open: &OpenNet, begun: bool) -> Result<Items<Task>, Allo
         tasks.push(Task::Make(Joint::Empty))?;
     }
     Ok(tasks)
-}
-
-/// All nodes.
-fn all(alloc: Global, count: usize) -> Result<Items<bool>, AllocError>
-    ensures size { IfOk result (λ nodes. length nodes ≡ count) }
-    ensures all { IfOk result (λ nodes. (n : ℕ) → n < count → nodes_in nodes n ≡ true) }
-{
-    let mut nodes = Items::new(alloc);
-    for node in 0..count {
-        nodes.push(true)?;
-    }
-    Ok(nodes)
 }
 
 /// The tasks of the whole open net.

@@ -15,22 +15,6 @@ use in_bridges::on_rings;
 use sqlite_items::Items;
 use std::alloc::{AllocError, Global};
 
-/// These nodes but one.
-pub(crate) fn without(
-    alloc: Global,
-    part: &Items<bool>,
-    node: usize,
-) -> Result<Items<bool>, AllocError>
-    requires { node < length part.now }
-    ensures size { IfOk result (λ rest. length rest ≡ length part.now) }
-    ensures rest { IfOk result (IsRest node part.now) }
-    ensures out { IfOk result (λ rest. nodes_in rest node ≡ false) }
-{
-    let mut rest = Items::from_slice(alloc, part.as_slice())?;
-    rest.set(node, false);
-    Ok(rest)
-}
-
 /// Whether all ports of the node that lead into the part are of one class: then it splits the part, whatever the rest is like.
 fn touches_by_one_class(wired: &Wired, part: &Items<bool>, node: usize) -> bool
     requires size { length part.now ≡ length wired.now.nodes }

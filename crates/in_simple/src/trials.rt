@@ -7,6 +7,7 @@ ghost use Rattle.in_simple.specs.Tries.{IsTried};
 use crate::labels::{Labels, Mark, show_splitting};
 use crate::open_nets::Point;
 use crate::rings::joins_classes;
+use crate::sets::size;
 use crate::wired::Wired;
 use sqlite_items::Items;
 use std::alloc::{AllocError, Global};
@@ -74,17 +75,6 @@ fn no_rings(alloc: Global, count: usize) -> Result<Items<Items<u8>>, AllocError>
         rings.push(Items::new(alloc))?;
     }
     Ok(rings)
-}
-
-/// How many nodes the part has.
-fn size(part: &Items<bool>) -> usize {
-    let mut count = 0usize;
-    for node in 0..part.len() {
-        if part.as_slice()[node] {
-            count = count.wrapping_add(1);
-        }
-    }
-    count
 }
 
 impl Trials {
