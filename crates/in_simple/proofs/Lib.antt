@@ -38,6 +38,7 @@ pub mod StuckNodes
 pub mod Sums
 pub mod Taking
 pub mod TextRules
+pub mod Tried
 pub mod VerifyGraft
 pub mod VerifyMade
 pub mod VerifyRun

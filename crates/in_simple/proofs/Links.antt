@@ -53,6 +53,10 @@ link_map g P R f u v (alone _ h) = alone u (f u h)
 link_map g P R f u v (onward _ m _ i j h w k) = onward u m v i j (f u h) w (link_map g P R f m v k)
 
 module _ (o : OpenNet) where
+  pub link_snoc : (P : ℕ → Type 0) (u l m : ℕ) (i j w : ℕ) → Linked (open_graph o) P u l → IsWire o w (Port l i) (Port m j) → P m → Linked (open_graph o) P u m
+  link_snoc P u l m i j w (alone _ h) g k = onward u m m i j h (w, g) (alone m k)
+  link_snoc P u l m i j w (onward _ n _ i' j' h v r) g k = onward u n m i' j' h v (link_snoc P n l m i j w r g k)
+
   abbrev pub AreNext : ℕ → ℕ → Type 0
   AreNext l m = (i : ℕ) × (j : ℕ) × (w : ℕ) × IsWire o w (Port l i) (Port m j)
 

@@ -1,4 +1,5 @@
 -- The net of a node and of the nodes that are derived grows as a plan goes on.
+use Rattle.std.proofs.Math.Bool.{or_comm}
 use Rattle.std.proofs.Common.{◌≡◌, ◌≢◌, ◌⊎◌, ◌↔◌, ◌<◌, ◌+◌, ℕ, suc, Bool, false, ◌||◌, nat_eq, List, [], ◌∷◌, ◌++◌, length, slice_get, append_assoc, refl, sym, subst, ap, inl, inr, ◌∙◌, eq-eqb, eqb-true, arith}
 use Rattle.in_simple.specs.declared.open_nets.Point.{Point}
 use Rattle.in_simple.specs.declared.open_nets.Point.TheVariants.{Port}
@@ -105,8 +106,8 @@ module _ (o : OpenNet) (net : IsOpenNet o) (n : ℕ) where
 
       pub in_both : (m : ℕ) → IsIn m (nodes_in q.done) ↔ (IsIn m (nodes_in p.done) ⊎ IsIn m (nodes_in d.component))
       in_both m = (
-        (λ a. or_cases (nodes_in p.done m) (nodes_in d.component m) (sym (d.both m) ∙ a)),
-        λ a. d.both m ∙ elim a [ inl b ↦ or_left (nodes_in p.done m) (nodes_in d.component m) b | inr b ↦ or_right (nodes_in p.done m) (nodes_in d.component m) b ],
+        (λ a. or_cases (nodes_in p.done m) (nodes_in d.component m) (or_comm (nodes_in p.done m) (nodes_in d.component m) ∙ sym (d.both m) ∙ a)),
+        λ a. d.both m ∙ or_comm (nodes_in d.component m) (nodes_in p.done m) ∙ elim a [ inl b ↦ or_left (nodes_in p.done m) (nodes_in d.component m) b | inr b ↦ or_right (nodes_in p.done m) (nodes_in d.component m) b ],
       )
 
       pub component_new : (m : ℕ) → IsIn m (nodes_in d.component) → IsIn m (nodes_in p.done) → ⊥

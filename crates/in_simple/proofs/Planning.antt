@@ -1,4 +1,5 @@
 -- A plan lists the components that a node leaves, by their turns.
+use Rattle.std.proofs.Math.Bool.{or_comm}
 use Rattle.std.proofs.Common.{◌≡◌, ◌≢◌, ◌<◌, ◌≤◌, ◌+◌, ℕ, suc, Bool, false, cond, ◌||◌, nat_eq, Option, Some, None, IsSomeAnd, List, [], ◌∷◌, ◌++◌, length, slice_get, get_or, append_assoc, refl, sym, subst, ap, inl, inr, ◌∙◌, ne_eqb, arith}
 use Rattle.in_simple.specs.declared.open_nets.Node.{Node}
 use Rattle.in_simple.specs.declared.open_nets.Node.TheVariants.{AgentNode, ClassNode}
@@ -181,7 +182,7 @@ module _ (o : OpenNet) (net : IsOpenNet o) (n : ℕ) where
   derive_goes t near p q h here now d =
       let part = reached_part p.rest d.component near h.out here d.reached in
       let inside = (d.reached near).1 (alone near here) in
-      let x = plan_derive t p d.component q.done h d.size (d.done_size ∙ h.done_size) d.both part (now (nodes_in d.component) part inside) in
+      let x = plan_derive t p d.component q.done h d.size (d.done_size ∙ h.done_size) (λ m. d.both m ∙ or_comm (nodes_in d.component m) (nodes_in p.done m)) part (now (nodes_in d.component) part inside) in
       let e : record { tasks = p.tasks ++ Derive d.component ∷ []; rest = p.rest; done = q.done } ≡ q = plan_same p q (p.tasks ++ Derive d.component ∷ []) d.tasks d.same in
       (subst (λ z. IsPlan o n (suc t) z) e x, d.same)
     where

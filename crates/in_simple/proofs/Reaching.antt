@@ -9,7 +9,7 @@ use Rattle.in_simple.specs.OpenNets.{OpenNet, IsWire, IsOpenNet, open_graph}
 use Rattle.in_simple.specs.Procedure.{nodes_in, IsNeighbour, missing, Reaches, Spreads, IsSearch, IsReached}
 use Rattle.in_simple.specs.Stuck.{Among, ports_of}
 use Rattle.in_simple.proofs.Sums.{not_both}
-use Rattle.in_simple.proofs.Links.{same_nat}
+use Rattle.in_simple.proofs.Links.{same_nat, link_snoc}
 use Rattle.in_simple.proofs.Search.{in_ports}
 use Rattle.in_simple.proofs.Sound.{port_place}
 
@@ -142,17 +142,13 @@ module _ (o : OpenNet) (net : IsOpenNet o) (within : List Bool) where
       closed = λ k h. elim (set_cases r from k (omega arith) h) [ inl e ↦ inl (inl e) | inr g ↦ absurd (not_both (nodes_in r k) g (off k)) ];
     }))
 
-    link_snoc : (u l m : ℕ) (i j w : ℕ) → Linked (open_graph o) (λ m. IsIn m (nodes_in within)) u l → IsWire o w (Port l i) (Port m j) → IsIn m (nodes_in within) → Linked (open_graph o) (λ m. IsIn m (nodes_in within)) u m
-    link_snoc u _ m i j w (alone _ h) g k = onward u m m i j h (w, g) (alone m k)
-    link_snoc u l m i j w (onward _ n _ i' j' h v r) g k = onward u n m i' j' h v (link_snoc n l m i j w r g k)
-
     pub search_step : (x : ℕ) (r : List Bool) (q : List ℕ) (r' : List Bool) (q' : List ℕ) → IsSearch o within from r (q ++ x ∷ []) → Spreads o within x (ports_of o x) r q r' q' → IsSearch o within from r' q'
     search_step x r q r' q' s t = record {
       size = t.size ∙ s.size;
       start = t.kept from s.start;
       sound = λ k h. elim (t.fresh k h) [
         | inl g ↦ s.sound k g
-        | inr g ↦ link_snoc from x k g.2.0 g.2.2 g.2.1 (s.sound x (s.pending x (among_last q x)).0) g.2.3 g.1
+        | inr g ↦ link_snoc o (λ m. IsIn m (nodes_in within)) from x k g.2.0 g.2.2 g.2.1 (s.sound x (s.pending x (among_last q x)).0) g.2.3 g.1
       ];
       pending = λ k h. elim (t.fresh_pending k h) [
         | inl g ↦ let u = s.pending k (among_left q k x g) in (t.kept k u.0, u.1)

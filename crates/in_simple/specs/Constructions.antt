@@ -27,13 +27,17 @@ numbered s part c n = s n && nat_eq (part n) c
 abbrev pub AreUnjoined : (g : Graph) → (a b : Nodes g) → Type 0
 AreUnjoined g a b = (u v : g.Node × ℕ) → g.Wire u v → IsIn u.0 a → IsIn v.0 b → ⊥
 
+-- a wire between two ports of n is within one class
+abbrev pub OwnWiresAreOfOneClass : (g : Graph) → g.Node → Type 0
+OwnWiresAreOfOneClass g n = (i j : ℕ) → g.Wire (n, i) (n, j) → g.class n i ≡ g.class n j
+
 -- the agent n joins the nets of its classes, of which there are so many: every other node of s is numbered by one of them, a wire
 -- between two of these is within one class, and one at n leads to the net of its port's class
 pub record IsGraft (g : Graph) (n : g.Node) (classes : ℕ) (s : Nodes g) (part : g.Node → ℕ) : Type 0 where
   pub root : IsIn n s
   pub others : (m : g.Node) → IsIn m s → m ≢ n → 0 < part m
   pub most : (m : g.Node) → IsIn m s → m ≢ n → part m ≤ classes
-  pub own : (i j : ℕ) → g.Wire (n, i) (n, j) → g.class n i ≡ g.class n j
+  pub own : OwnWiresAreOfOneClass g n
   pub to : (i j : ℕ) (m : g.Node) → IsIn m s → m ≢ n → g.Wire (n, i) (m, j) → part m ≡ g.class n i
   pub among : (l m : g.Node) (i j : ℕ) → IsIn l s → IsIn m s → l ≢ n → m ≢ n → g.Wire (l, i) (m, j) → part l ≡ part m
 

@@ -138,10 +138,14 @@ abbrev pub times_in : (Step → List ℕ) → ℕ → List Step → ℕ
 times_in f n [] = 0
 times_in f n (x ∷ xs) = times n (f x) + times_in f n xs
 
+-- each step builds its part of those of the steps before it
+abbrev pub EachBuilds : OpenNet → List Step → List Part → Type 0
+EachBuilds o steps parts = (k : ℕ) (step : Step) → slice_get steps k ≡ Some step → (x : Part) × (slice_get parts k ≡ Some x) × Builds o parts k step x
+
 -- the steps build the open net
 pub record IsDerivation (o : OpenNet) (steps : List Step) : Type 0 where
   pub parts : List Part
-  pub each : (k : ℕ) (step : Step) → slice_get steps k ≡ Some step → (x : Part) × (slice_get parts k ≡ Some x) × Builds o parts k step x
+  pub each : EachBuilds o steps parts
   pub named_once : (k : ℕ) → suc k < length steps → times_in named k steps ≡ 1
   pub node_once : (n : ℕ) → n < length o.nodes → times_in own_nodes n steps ≡ 1
   pub some : 0 < length steps

@@ -16,3 +16,4 @@ pub mod Splitting
 pub mod Stacks
 pub mod Stuck
 pub mod TakenOrder
+pub mod Tries

@@ -162,7 +162,7 @@ pub record Derives (o : OpenNet) (near : ℕ) (old new : Plan) : Type 0 where
   pub tasks : new.tasks ≡ old.tasks ++ Derive component ∷ []
   pub same : new.rest ≡ old.rest
   pub done_size : length new.done ≡ length old.done
-  pub both : (m : ℕ) → nodes_in new.done m ≡ (nodes_in old.done m || nodes_in component m)
+  pub both : (m : ℕ) → nodes_in new.done m ≡ (nodes_in component m || nodes_in old.done m)
 
 -- with one more task
 abbrev pub with_task : Plan → Task → Plan

@@ -1,7 +1,7 @@
 -- Which nodes split a sub-net, and which sub-nets split. This project's own choice: a procedure that decides what is derivable.
 use Rattle.std.specs.Prelude.{◌≡◌, ◌≢◌, ◌↔◌, ℕ, Bool, false}
 use Rattle.in_net.specs.Graphs.{Graph}
-use Rattle.in_simple.specs.Constructions.{IsIn}
+use Rattle.in_simple.specs.Constructions.{IsIn, OwnWiresAreOfOneClass}
 
 -- joined through nodes of which P holds, both ends among them
 pub data Linked (g : Graph) (P : g.Node → Type 0) : g.Node → g.Node → Type 0 where
@@ -14,7 +14,7 @@ Without n s m = IsIn m s × (m ≢ n)
 
 -- with n taken out, ports of n that touch one component are of one class
 pub record SplitsAt (g : Graph) (n : g.Node) (s : g.Node → Bool) : Type 0 where
-  pub own : (i j : ℕ) → g.Wire (n, i) (n, j) → g.class n i ≡ g.class n j
+  pub own : OwnWiresAreOfOneClass g n
   pub touched : (i j : ℕ) (l m : g.Node) (k h : ℕ) → g.Wire (n, i) (l, k) → g.Wire (n, j) (m, h) → Linked g (Without n s) l m → g.class n i ≡ g.class n j
 
 -- n is in s and splits it, and no node of s before n does

@@ -8,7 +8,7 @@ use Rattle.in_simple.specs.declared.plans.Task.{Task}
 use Rattle.in_simple.specs.declared.plans.Task.TheVariants.{Derive, Make}
 use Rattle.in_simple.specs.Constructions.{IsIn}
 use Rattle.in_simple.specs.OpenNets.{OpenNet, IsNode, IsAgent, IsWire}
-use Rattle.in_simple.specs.Derivations.{Step, Part, named, own_nodes, own_links, is_port_in, is_among, nodes_of, links_of, ShareNothing, AreEarlier, Joins, Builds, times, times_in}
+use Rattle.in_simple.specs.Derivations.{Step, Part, named, own_nodes, own_links, is_port_in, is_among, nodes_of, links_of, ShareNothing, AreEarlier, Joins, EachBuilds, times, times_in}
 pub use Rattle.in_simple.specs.Joints.{count_of, over_two, step_of, are_free, loose_in}
 use Rattle.in_simple.specs.Procedure.{nodes_in}
 use Rattle.in_simple.specs.TakenOrder.{AreTaken, Comes, part, steps_from}
@@ -53,7 +53,7 @@ pub record IsStack (o : OpenNet) (steps : List Step) (roots : List ℕ) (shapes 
   pub parts : List Part
   pub tops : List Part
   pub same : length parts ≡ length steps
-  pub each : (k : ℕ) (step : Step) → slice_get steps k ≡ Some step → (x : Part) × (slice_get parts k ≡ Some x) × Builds o parts k step x
+  pub each : EachBuilds o steps parts
   pub roots_are : AreEarlier parts (length steps) roots tops
   pub once : (k : ℕ) → k < length steps → times_in named k steps + times k roots ≡ 1
   pub later : (k : ℕ) → length steps ≤ k → times_in named k steps + times k roots ≡ 0

@@ -5,19 +5,10 @@ ghost use Rattle.in_simple.specs.Procedure.{IsNeighbour, IsReached, Reaches, Spr
 ghost use Rattle.in_simple.specs.Stuck.{ports_of};
 
 use crate::open_nets::Point;
+use crate::sets::none;
 use crate::wired::Wired;
 use sqlite_items::Items;
 use std::alloc::{AllocError, Global};
-
-/// No node.
-pub(crate) fn none(alloc: Global, count: usize) -> Result<Items<bool>, AllocError>
-    ensures count { IfOk result (λ nodes. length nodes ≡ count) }
-    ensures none { IfOk result (λ nodes. (n : ℕ) → nodes_in nodes n ≡ false) }
-{
-    let mut nodes = Vec::new(alloc);
-    nodes.resize(count, false)?;
-    Ok(Items::from_vec(nodes))
-}
 
 /// The node at the other end of the wire at a port, where it is one of these.
 pub(crate) fn neighbour(

@@ -4,14 +4,18 @@
 mod class_graphs;
 mod components;
 mod derivations;
+mod labels;
 pub mod laws;
 mod open_nets;
 mod opening;
 mod opening_rules;
 mod plans;
 mod procedure;
+mod rings;
+mod sets;
 mod splitting;
 mod stuck;
+mod trials;
 mod verifying;
 mod wired;
 

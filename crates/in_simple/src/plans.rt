@@ -9,9 +9,9 @@ ghost use Rattle.in_simple.specs.Stacks.{Puts, no_wires, shape};
 ghost use Rattle.in_simple.specs.Stuck.{ports_of, turn};
 ghost use Rattle.in_simple.specs.declared.plans.Task.TheVariants.{Make};
 
-use crate::components::{component, none};
+use crate::components::component;
 use crate::open_nets::Point;
-use crate::splitting::without;
+use crate::sets::{none, unite, without};
 use crate::wired::Wired;
 use sqlite_items::Items;
 use std::alloc::{AllocError, Global};
@@ -44,19 +44,6 @@ pub(crate) struct Plan {
     pub(crate) done: Items<bool>,
 }
 
-/// These nodes are derived too.
-fn add(done: &mut Items<bool>, more: &Items<bool>)
-    requires { length more.now ≡ length done.old }
-    ensures size { length done.new ≡ length done.old }
-    ensures both { (n : ℕ) → nodes_in done.new n ≡ (nodes_in done.old n || nodes_in more.now n) }
-{
-    for node in 0..more.len() {
-        if more.as_slice()[node] {
-            done.set(node, true);
-        }
-    }
-}
-
 impl Plan {
     /// One more step.
     fn make(mut self, joint: Joint) -> Result<Plan, AllocError>
@@ -75,7 +62,7 @@ impl Plan {
         ensures { IfOk result (Derives wired.now near self) }
     {
         let component = component(alloc, wired, &self.rest, near)?;
-        add(&mut self.done, &component);
+        unite(&component, &mut self.done);
         self.tasks.push(Task::Derive(component))?;
         Ok(self)
     }

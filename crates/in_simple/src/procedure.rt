@@ -11,7 +11,9 @@ ghost use Rattle.in_simple.specs.declared.plans.Task.TheVariants.{Derive, Make};
 use crate::derivations::{Derivation, Step, StepNumbers, Stuck, Undone};
 use crate::open_nets::{OpenNet, Point};
 use crate::plans::{Joint, Task, tasks_of};
+use crate::sets::all;
 use crate::splitting::first_splitting;
+use crate::trials::Trials;
 use crate::wired::Wired;
 use sqlite_items::Items;
 use std::alloc::{AllocError, Global};
@@ -162,18 +164,6 @@ fn loose(alloc: Global, open: &OpenNet, begun: bool) -> Result<Items<Task>, Allo
     Ok(tasks)
 }
 
-/// All nodes.
-fn all(alloc: Global, count: usize) -> Result<Items<bool>, AllocError>
-    ensures size { IfOk result (λ nodes. length nodes ≡ count) }
-    ensures all { IfOk result (λ nodes. (n : ℕ) → n < count → nodes_in nodes n ≡ true) }
-{
-    let mut nodes = Items::new(alloc);
-    for node in 0..count {
-        nodes.push(true)?;
-    }
-    Ok(nodes)
-}
-
 /// The tasks of the whole open net.
 fn start(alloc: Global, open: &OpenNet) -> Result<Items<Task>, AllocError>
     ensures work { IfOk result (StartsWork (length «open».now.nodes)) }
@@ -224,6 +214,7 @@ fn take(
     alloc: Global,
     wired: &Wired,
     work: &mut Work,
+    trials: &mut Trials,
     part: &Items<bool>,
 ) -> Result<Option<Stuck>, AllocError>
     requires work { IsWork wired.now (Derive part.now ∷ reverse work.old.tasks) }
@@ -232,7 +223,7 @@ fn take(
         (IsWork wired.now (reverse work.new.tasks) × AreFewer wired.now (Derive part.now ∷ reverse work.old.tasks) (reverse work.new.tasks) × IsUnderWay wired.now (reverse work.new.tasks) work.new.steps work.new.roots)
         (IsStuckNet wired.now)) }
 {
-    match first_splitting(alloc, wired, part)? {
+    match first_splitting(alloc, wired, part, trials)? {
         Some(node) => {
             let tasks = tasks_of(alloc, wired, part, node)?;
             work.expand(tasks)?;
@@ -246,13 +237,18 @@ fn take(
 }
 
 /// Goes on until nothing is left, or a part is stuck.
-fn finish(alloc: Global, wired: &Wired, work: &mut Work) -> Result<Option<Stuck>, AllocError>
+fn finish(
+    alloc: Global,
+    wired: &Wired,
+    work: &mut Work,
+    trials: &mut Trials,
+) -> Result<Option<Stuck>, AllocError>
     requires work { IsWork wired.now (reverse work.old.tasks) }
     requires steps { IsUnderWay wired.now (reverse work.old.tasks) work.old.steps work.old.roots }
     ensures { IfOk result (λ found. MatchOption found (IsDerivation wired.now work.new.steps × AreTaken wired.now work.new.steps) (IsStuckNet wired.now)) }
 {
     while let Some(part) = work.next_part(alloc)? {
-        if let Some(stuck) = take(alloc, wired, work, &part)? {
+        if let Some(stuck) = take(alloc, wired, work, trials, &part)? {
             return Ok(Some(stuck));
         }
     }
@@ -268,12 +264,17 @@ enum Outcome {
 }
 
 /// What the procedure comes to, with the wires by port.
-fn come_to(alloc: Global, open: &OpenNet, wired: &Wired) -> Result<Outcome, AllocError>
+fn come_to(
+    alloc: Global,
+    open: &OpenNet,
+    wired: &Wired,
+    trials: &mut Trials,
+) -> Result<Outcome, AllocError>
     requires { wired.now ≡ «open».now }
     ensures { IfOk result (IsOutcome «open».now) }
 {
     let mut work = begin(alloc, open)?;
-    match finish(alloc, wired, &mut work)? {
+    match finish(alloc, wired, &mut work, trials)? {
         None => {
             let Work {
                 tasks: _,
@@ -291,7 +292,8 @@ fn attempt(alloc: Global, open: &OpenNet) -> Result<Outcome, AllocError>
     ensures { IfOk result (IsOutcome «open».now) }
 {
     let wired = Wired::of(alloc, open)?;
-    come_to(alloc, open, &wired)
+    let mut trials = Trials::new(alloc, wired.nodes())?;
+    come_to(alloc, open, &wired, &mut trials)
 }
 
 /// The steps that build the open net: the first node in order that splits it is taken out, then each component that is left is

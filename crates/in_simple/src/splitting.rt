@@ -4,30 +4,16 @@ ghost use Rattle.in_bridges.specs.Spans.{AreWithin};
 ghost use Rattle.in_simple.specs.ClassEdges.{IsClassGraphOf};
 ghost use Rattle.in_simple.specs.Constructions.{IsIn};
 ghost use Rattle.in_simple.specs.OpenNets.{IsOrderly};
-ghost use Rattle.in_simple.specs.Procedure.{HasNoneBelow, IsFirst, IsRest, NoneSplits, SplitsIt, nodes_in};
+ghost use Rattle.in_simple.specs.Tries.{AreTried, IsTried};
+ghost use Rattle.in_simple.specs.Procedure.{IsFirst, IsRest, NoneSplits, SplitsIt, nodes_in};
 
 use crate::class_graphs::ClassGraph;
 use crate::components::neighbour;
+use crate::trials::Trials;
 use crate::wired::Wired;
 use in_bridges::on_rings;
 use sqlite_items::Items;
 use std::alloc::{AllocError, Global};
-
-/// These nodes but one.
-pub(crate) fn without(
-    alloc: Global,
-    part: &Items<bool>,
-    node: usize,
-) -> Result<Items<bool>, AllocError>
-    requires { node < length part.now }
-    ensures size { IfOk result (λ rest. length rest ≡ length part.now) }
-    ensures rest { IfOk result (IsRest node part.now) }
-    ensures out { IfOk result (λ rest. nodes_in rest node ≡ false) }
-{
-    let mut rest = Items::from_slice(alloc, part.as_slice())?;
-    rest.set(node, false);
-    Ok(rest)
-}
 
 /// Whether all ports of the node that lead into the part are of one class: then it splits the part, whatever the rest is like.
 fn touches_by_one_class(wired: &Wired, part: &Items<bool>, node: usize) -> bool
@@ -48,18 +34,6 @@ fn touches_by_one_class(wired: &Wired, part: &Items<bool>, node: usize) -> bool
         }
     }
     true
-}
-
-/// The first node of the part.
-fn first_node(part: &Items<bool>) -> Option<usize>
-    ensures { MatchOption result (HasNoneBelow part.now (length part.now)) (λ node. IsIn node (nodes_in part.now) × HasNoneBelow part.now node) }
-{
-    for node in 0..part.len() {
-        if part.as_slice()[node] {
-            return Some(node);
-        }
-    }
-    None
 }
 
 /// Whether the node is in the part and splits it: each of its hub edges is a bridge.
@@ -124,8 +98,53 @@ fn first_in(
     Ok(first_off_rings(wired, part, graph, &rings))
 }
 
-/// The first node of the part that splits it. Where the part's first node is seen to split it, no class graph is listed.
-pub(crate) fn first_splitting(
+/// Whether the node splits the part, by the ring through it that was found before, or by its own ports, or by a search from it.
+fn tried(
+    alloc: Global,
+    wired: &Wired,
+    part: &Items<bool>,
+    node: usize,
+    trials: &mut Trials,
+) -> Result<Option<bool>, AllocError>
+    requires size { length part.now ≡ length wired.now.nodes }
+    requires node { node < length wired.now.nodes }
+    requires here { IsIn node (nodes_in part.now) }
+    ensures { IfOk result (IsTried wired.now part.now node) }
+{
+    if trials.is_ringed(wired, part, node) {
+        Ok(Some(false))
+    } else if touches_by_one_class(wired, part, node) {
+        Ok(Some(true))
+    } else {
+        trials.find(alloc, wired, part, node)
+    }
+}
+
+/// The first node of the part that splits it, by trying one after another, where that tells.
+fn first_by_trials(
+    alloc: Global,
+    wired: &Wired,
+    part: &Items<bool>,
+    trials: &mut Trials,
+) -> Result<Option<Option<usize>>, AllocError>
+    requires size { length part.now ≡ length wired.now.nodes }
+    ensures net { IfOk result (λ found. IsOrderly wired.now) }
+    ensures found { IfOk result (AreTried wired.now part.now) }
+{
+    for node in 0..wired.nodes() {
+        if part.as_slice()[node] {
+            match tried(alloc, wired, part, node, trials)? {
+                Some(true) => return Ok(Some(Some(node))),
+                Some(false) => {}
+                None => return Ok(None),
+            }
+        }
+    }
+    Ok(Some(None))
+}
+
+/// The first node of the part that splits it, by the part's class graph.
+fn first_by_bridges(
     alloc: Global,
     wired: &Wired,
     part: &Items<bool>,
@@ -134,11 +153,24 @@ pub(crate) fn first_splitting(
     ensures net { IfOk result (λ found. IsOrderly wired.now) }
     ensures found { IfOk result (λ found. MatchOption found (NoneSplits wired.now part.now (length wired.now.nodes)) (IsFirst wired.now part.now)) }
 {
-    if let Some(first) = first_node(part) {
-        if touches_by_one_class(wired, part, first) {
-            return Ok(Some(first));
-        }
-    }
     let graph = ClassGraph::of(alloc, wired, part)?;
     first_in(alloc, wired, part, &graph)
+}
+
+/// The first node of the part that splits it. Its class graph is listed only where trying its nodes one by one takes too long.
+pub(crate) fn first_splitting(
+    alloc: Global,
+    wired: &Wired,
+    part: &Items<bool>,
+    trials: &mut Trials,
+) -> Result<Option<usize>, AllocError>
+    requires size { length part.now ≡ length wired.now.nodes }
+    ensures net { IfOk result (λ found. IsOrderly wired.now) }
+    ensures found { IfOk result (λ found. MatchOption found (NoneSplits wired.now part.now (length wired.now.nodes)) (IsFirst wired.now part.now)) }
+{
+    trials.begin(part);
+    match first_by_trials(alloc, wired, part, trials)? {
+        Some(found) => Ok(found),
+        None => first_by_bridges(alloc, wired, part),
+    }
 }

@@ -4,9 +4,9 @@ ghost use Rattle.in_simple.specs.Derivations.{Cut, Given, Graft, IsDerivation, L
 ghost use Rattle.in_simple.specs.OpenNets.{IsAgent, IsClass, IsOrderly, IsPointOf, classes_of};
 ghost use Rattle.in_simple.specs.Procedure.{nodes_in};
 
-use crate::components::none;
 use crate::derivations::{Derivation, Step, StepNumbers};
 use crate::open_nets::{OpenNet, Point};
+use crate::sets::{none, unite};
 use sqlite_items::Items;
 use std::alloc::{AllocError, Global};
 
@@ -53,18 +53,6 @@ fn share(one: &Items<bool>, other: &Items<bool>) -> bool
         }
     }
     false
-}
-
-/// Adds to one set the members of another of the same size.
-fn unite(more: &Items<bool>, set: &mut Items<bool>)
-    requires { length more.now ≡ length set.old }
-    ensures size { length set.new ≡ length set.old }
-    ensures union { IsUnion more.now set.old set.new }
-{
-    for member in 0..more.len() {
-        let is_in = more.as_slice()[member] || set.as_slice()[member];
-        set.set(member, is_in);
-    }
 }
 
 /// The sum of two numbers of ends. Too many to be counted are no memory.

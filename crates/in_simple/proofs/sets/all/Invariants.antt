@@ -1,6 +1,6 @@
 use Rattle.std.proofs.Common.{◌≡◌, ◌<◌, ℕ, length, true}
 use Rattle.in_simple.specs.Procedure.{nodes_in}
-use Rattle.in_simple.proofs.procedure.all.Given as goal
+use Rattle.in_simple.proofs.sets.all.Given as goal
 
 abbrev pub invariant-loop-node : goal.invariant-loop-node
 invariant-loop-node l = record {

@@ -1,0 +1,5 @@
+use Rattle.in_simple.specs.Tries.{AreLabelled}
+use Rattle.in_simple.proofs.labels.is_spread.Given as goal
+
+abbrev pub invariant-loop-port : goal.invariant-loop-port
+invariant-loop-port l = AreLabelled l.wired l.part l.node l.labels l.class l.at l.port

@@ -1,0 +1,45 @@
+use Rattle.std.proofs.Common.{◌≡◌, ◌<◌, ◌∙◌, ℕ, Bool, true, false, nat_eq, length, ap, sym, subst, get_or, eq-eqb, inl, inr, Some, arith}
+use Rattle.std.specs.Bool.{IsTrue}
+use Rattle.std.specs.Prelude.{not}
+use Rattle.in_simple.specs.declared.open_nets.Point.TheVariants.{Port}
+use Rattle.in_simple.specs.OpenNets.{IsWire, IsPointOf, class_in}
+use Rattle.in_simple.proofs.Planning.{read_bit}
+use Rattle.in_simple.proofs.Slots.{place}
+use Rattle.in_simple.proofs.Tried.{walk_on, walk_back}
+use Rattle.in_simple.proofs.rings.joins_classes.Goals as goal
+use Rattle.in_simple.proofs.rings.joins_classes.Goals.{in-Some, in-None}
+
+differ : (a b : ℕ) → IsTrue (not (nat_eq a b)) → a ≡ b → ⊥
+differ a b t e = let f = subst (λ z. IsTrue (not z)) (eq-eqb a b e) t in cc
+
+pub returns-then-near-node : goal.returns-then-near-node
+returns-then-near-node c =
+    λ t. walk_back c.args.wired.now c.args.part.now c.args.node c.loop-step.begun c.loop-step.at _ c.partner.result.0 c.in_default-Port.near c.in_default-Port.place c.match-begun.class c.partner.result.1 c.loop-step.invariant.1 c.partner.ensures.wire
+    (elim c.match-begun.branch [
+      | in-Some w ↦ inl (w.in-Some.is ∙ ap (λ (z : ℕ). Some z) (sym w.class-is))
+      | in-None w ↦ inr (w.in-None.is, w.class-is ∙ w.class-class.ensures)
+    ])
+    c.in_default-Port.is-1 c.if-near-node.true (λ f. differ c.class.result c.match-begun.class t (c.class.ensures ∙ f))
+
+pub bounds-as_slice-near : goal.bounds-as_slice-near
+bounds-as_slice-near c =
+    let o = c.args.wired.now in
+    let p = (place o c.partner.ensures.net c.in_default-Port.near c.in_default-Port.place (subst (IsPointOf o) c.in_default-Port.is-1 c.partner.ensures.point)).0 in
+    let a = c.requires.size in
+    let b = ap length c.as_slice-in_default-Port.ensures in
+    omega arith
+
+pub loop-step-preserved : goal.loop-step-preserved
+loop-step-preserved c =
+    let o = c.args.wired.now in
+    let near = c.in_default-Port.near in
+    let k = c.in_default-Port.place in
+    let here = read_bit _ c.args.part.now near true c.as_slice-in_default-Port.ensures c.if-not-as_slice-near.false in (
+      (place o c.partner.ensures.net near k (subst (IsPointOf o) c.in_default-Port.is-1 c.partner.ensures.point)).0,
+      walk_on o c.args.part.now c.args.node c.loop-step.begun c.loop-step.at _ c.partner.result.0 near k c.match-begun.class c.partner.result.1 c.loop-step.invariant.1 c.partner.ensures.wire
+          (elim c.match-begun.branch [
+            | in-Some w ↦ inl (w.in-Some.is ∙ ap (λ (z : ℕ). Some z) (sym w.class-is))
+            | in-None w ↦ inr (w.in-None.is, w.class-is ∙ w.class-class.ensures)
+          ])
+          c.in_default-Port.is-1 here c.if-near-node.false,
+    )

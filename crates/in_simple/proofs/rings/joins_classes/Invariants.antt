@@ -1,0 +1,6 @@
+use Rattle.std.proofs.Common.{◌<◌, length}
+use Rattle.in_simple.specs.Tries.{IsWalked}
+use Rattle.in_simple.proofs.rings.joins_classes.Given as goal
+
+abbrev pub invariant-loop-step : goal.invariant-loop-step
+invariant-loop-step l = (l.at < length l.wired.nodes) × IsWalked l.wired l.part l.node l.begun l.at

@@ -1,0 +1,363 @@
+ghost use Rattle.std.specs.Prelude.{◌≡◌, ◌<◌, length, IfOk, IsTrue};
+ghost use Rattle.in_simple.specs.Constructions.{IsIn};
+ghost use Rattle.in_simple.specs.Procedure.{SplitsIt, nodes_in};
+ghost use Rattle.in_simple.specs.Stuck.{ports_of};
+ghost use Rattle.in_simple.specs.Tries.{IsTried};
+
+use crate::labels::{Labels, Mark, show_splitting};
+use crate::open_nets::Point;
+use crate::rings::joins_classes;
+use crate::sets::size;
+use crate::wired::Wired;
+use sqlite_items::Items;
+use std::alloc::{AllocError, Global};
+
+/// The most nodes of a ring on either side of where a search met.
+const MOST_STEPS: usize = 64;
+
+/// How many ports are looked at for each node of a part, before all of its nodes are decided at once.
+const PORTS_FOR_A_NODE: usize = 32;
+
+/// A node that a search reached, by a class of the node that is tried: from which one before it, if not from that node itself, by which
+/// port of that one, and at which port of its own.
+#[derive(Clone, Copy, Drop)]
+struct Reached {
+    node: usize,
+    class: usize,
+    before: Option<usize>,
+    left: u8,
+    entered: u8,
+}
+
+/// Where two classes met: at the port of the one that was reached, or of the node itself, and at another one that was reached, or the node.
+#[derive(Clone, Copy, Drop)]
+struct Meeting {
+    from: Option<usize>,
+    port: u8,
+    to: Option<usize>,
+}
+
+/// What a search came to: two classes that meet, or none although it reached all that it could, or the end of its budget.
+#[derive(Clone, Copy, Drop)]
+enum Answer {
+    Met(Meeting),
+    Apart,
+    Spent,
+}
+
+/// Searches from single nodes: a ring for each node where one was found, what the last search reached, and how many more ports may be
+/// looked at. Nothing is claimed of what a search finds, since rings and labels are checked before they are used.
+#[derive(Drop)]
+pub(crate) struct Trials {
+    rings: Items<Items<u8>>,
+    labels: Labels,
+    reached: Items<Reached>,
+    budget: usize,
+}
+
+/// A mark of no trial for each node.
+fn no_marks(alloc: Global, count: usize) -> Result<Items<Mark>, AllocError> {
+    let mut marks = Items::new(alloc);
+    for node in 0..count {
+        marks.push(Mark {
+            trial: 0,
+            class: 0,
+            place: 0,
+        })?;
+    }
+    Ok(marks)
+}
+
+/// No ring for each node.
+fn no_rings(alloc: Global, count: usize) -> Result<Items<Items<u8>>, AllocError> {
+    let mut rings = Items::new(alloc);
+    for node in 0..count {
+        rings.push(Items::new(alloc))?;
+    }
+    Ok(rings)
+}
+
+impl Trials {
+    /// Nothing tried yet.
+    pub(crate) fn new(alloc: Global, count: usize) -> Result<Trials, AllocError> {
+        let marks = no_marks(alloc, count)?;
+        let rings = no_rings(alloc, count)?;
+        Ok(Trials {
+            rings,
+            labels: Labels { marks, trial: 0 },
+            reached: Items::new(alloc),
+            budget: 0,
+        })
+    }
+
+    /// As many ports may be looked at as the size of the part allows.
+    pub(crate) fn begin(&mut self, part: &Items<bool>) {
+        self.budget = size(part).saturating_mul(PORTS_FOR_A_NODE);
+    }
+
+    /// So many ports are looked at, where that many still may be.
+    fn spend(&mut self, ports: usize) -> bool {
+        if ports > self.budget {
+            return false;
+        }
+        self.budget -= ports;
+        true
+    }
+
+    /// The node is reached.
+    fn reach(&mut self, reached: Reached) -> Result<(), AllocError> {
+        let mark = Mark {
+            trial: self.labels.trial,
+            class: reached.class,
+            place: self.reached.len(),
+        };
+        if reached.node < self.labels.marks.len() {
+            self.labels.marks.set(reached.node, mark);
+        }
+        self.reached.push(reached)
+    }
+
+    /// Comes by the wire at a port of the node `at`, reached by a class. Answers where it meets another class.
+    fn visit(
+        &mut self,
+        wired: &Wired,
+        part: &Items<bool>,
+        node: usize,
+        from: Option<usize>,
+        at: usize,
+        port: usize,
+        class: usize,
+    ) -> Result<Option<Meeting>, AllocError>
+        requires size { length part.now ≡ length wired.now.nodes }
+        requires at { at < length wired.now.nodes }
+        requires port { port < ports_of wired.now at }
+    {
+        match wired.partner(at, port) {
+            (_, Point::Port(near, place)) => {
+                let left = port as u8;
+                if near as usize == node {
+                    if wired.class(near as usize, place as usize) != class {
+                        return Ok(Some(Meeting {
+                            from,
+                            port: left,
+                            to: None,
+                        }));
+                    }
+                } else if part.as_slice()[near as usize] {
+                    match self.labels.mark(near as usize) {
+                        Some(mark) => {
+                            if mark.class != class {
+                                return Ok(Some(Meeting {
+                                    from,
+                                    port: left,
+                                    to: Some(mark.place),
+                                }));
+                            }
+                        }
+                        None => self.reach(Reached {
+                            node: near as usize,
+                            class,
+                            before: from,
+                            left,
+                            entered: place,
+                        })?,
+                    }
+                }
+            }
+            (_, Point::Free(_)) => {}
+        }
+        Ok(None)
+    }
+
+    /// Reaches what the ports of the node that is tried lead to, each by its class.
+    fn start(
+        &mut self,
+        wired: &Wired,
+        part: &Items<bool>,
+        node: usize,
+    ) -> Result<Option<Meeting>, AllocError>
+        requires size { length part.now ≡ length wired.now.nodes }
+        requires node { node < length wired.now.nodes }
+    {
+        for port in 0..wired.ports(node) {
+            let class = wired.class(node, port);
+            if let Some(meeting) = self.visit(wired, part, node, None, node, port, class)? {
+                return Ok(Some(meeting));
+            }
+        }
+        Ok(None)
+    }
+
+    /// Reaches the neighbours of a node that was reached.
+    fn spread(
+        &mut self,
+        wired: &Wired,
+        part: &Items<bool>,
+        node: usize,
+        place: usize,
+        at: usize,
+        class: usize,
+    ) -> Result<Option<Meeting>, AllocError>
+        requires size { length part.now ≡ length wired.now.nodes }
+        requires at { at < length wired.now.nodes }
+    {
+        for port in 0..wired.ports(at) {
+            if let Some(meeting) = self.visit(wired, part, node, Some(place), at, port, class)? {
+                return Ok(Some(meeting));
+            }
+        }
+        Ok(None)
+    }
+
+    /// Reaches the neighbours of the node that was reached at this place.
+    fn go_on(
+        &mut self,
+        wired: &Wired,
+        part: &Items<bool>,
+        node: usize,
+        place: usize,
+    ) -> Result<Option<Answer>, AllocError>
+        requires size { length part.now ≡ length wired.now.nodes }
+    {
+        match self.reached.get(place) {
+            Some(reached) => {
+                let at = reached.node;
+                let class = reached.class;
+                if at >= wired.nodes() || !self.spend(wired.ports(at)) {
+                    return Ok(Some(Answer::Spent));
+                }
+                match self.spread(wired, part, node, place, at, class)? {
+                    Some(meeting) => Ok(Some(Answer::Met(meeting))),
+                    None => Ok(None),
+                }
+            }
+            None => Ok(Some(Answer::Apart)),
+        }
+    }
+
+    /// Searches from all ports of the node at once, breadth first, by the nodes of the part.
+    fn search(
+        &mut self,
+        alloc: Global,
+        wired: &Wired,
+        part: &Items<bool>,
+        node: usize,
+    ) -> Result<Answer, AllocError>
+        requires size { length part.now ≡ length wired.now.nodes }
+        requires node { node < length wired.now.nodes }
+    {
+        self.labels.trial = self.labels.trial.wrapping_add(1);
+        self.reached = Items::new(alloc);
+        if let Some(meeting) = self.start(wired, part, node)? {
+            return Ok(Answer::Met(meeting));
+        }
+        for place in 0..wired.nodes() {
+            if let Some(answer) = self.go_on(wired, part, node, place)? {
+                return Ok(answer);
+            }
+        }
+        Ok(Answer::Apart)
+    }
+
+    /// By which ports the search left and entered each node on its way, the last one first.
+    fn way(&self, alloc: Global, last: Option<usize>) -> Result<Items<(u8, u8)>, AllocError> {
+        let mut way = Items::new(alloc);
+        let mut next = last;
+        for step in 0..MOST_STEPS {
+            if let Some(place) = next {
+                if let Some(reached) = self.reached.get(place) {
+                    next = reached.before;
+                    way.push((reached.left, reached.entered))?;
+                }
+            }
+        }
+        Ok(way)
+    }
+
+    /// The ring by which two classes meet.
+    fn ring(&self, alloc: Global, meeting: Meeting) -> Result<Items<u8>, AllocError> {
+        let way = self.way(alloc, meeting.from)?;
+        let back = self.way(alloc, meeting.to)?;
+        let mut ring = Items::new(alloc);
+        join_ways(way, meeting.port, &back, &mut ring)?;
+        Ok(ring)
+    }
+
+    /// Keeps the ring through a node.
+    fn keep(&mut self, node: usize, ring: Items<u8>) {
+        if node < self.rings.len() {
+            self.rings.set(node, ring);
+        }
+    }
+
+    /// Whether the ring that was kept of the node shows that it does not split the part.
+    pub(crate) fn is_ringed(&mut self, wired: &Wired, part: &Items<bool>, node: usize) -> bool
+        requires size { length part.now ≡ length wired.now.nodes }
+        requires node { node < length wired.now.nodes }
+        ensures { IsTrue result → SplitsIt wired.now part.now node → ⊥ }
+    {
+        let steps = match self.rings.get(node) {
+            Some(ring) => ring.len(),
+            None => 0,
+        };
+        if !self.spend(steps) {
+            return false;
+        }
+        match self.rings.get(node) {
+            Some(ring) => joins_classes(wired, part, node, ring),
+            None => false,
+        }
+    }
+
+    /// Whether the node splits the part, where a search from it tells.
+    pub(crate) fn find(
+        &mut self,
+        alloc: Global,
+        wired: &Wired,
+        part: &Items<bool>,
+        node: usize,
+    ) -> Result<Option<bool>, AllocError>
+        requires size { length part.now ≡ length wired.now.nodes }
+        requires node { node < length wired.now.nodes }
+        requires here { IsIn node (nodes_in part.now) }
+        ensures { IfOk result (IsTried wired.now part.now node) }
+    {
+        match self.search(alloc, wired, part, node)? {
+            Answer::Met(meeting) => {
+                let ring = self.ring(alloc, meeting)?;
+                self.keep(node, ring);
+                if self.is_ringed(wired, part, node) {
+                    Ok(Some(false))
+                } else {
+                    Ok(None)
+                }
+            }
+            Answer::Apart => {
+                if show_splitting(wired, part, node, &self.labels) {
+                    Ok(Some(true))
+                } else {
+                    Ok(None)
+                }
+            }
+            Answer::Spent => Ok(None),
+        }
+    }
+}
+
+/// The ports by which a walk leaves each node: the first way turned, the port between, and the other way back.
+fn join_ways(
+    way: Items<(u8, u8)>,
+    port: u8,
+    back: &Items<(u8, u8)>,
+    ring: &mut Items<u8>,
+) -> Result<(), AllocError> {
+    let mut left = way;
+    while let Some(step) = left.pop() {
+        ring.push(step.0)?;
+    }
+    ring.push(port)?;
+    for step in 0..back.len() {
+        ring.push(back.as_slice()[step].1)?;
+    }
+    Ok(())
+}
