@@ -20,7 +20,8 @@ use Rattle.in_simple.proofs.Balance.{wire_within, wire_turn}
 use Rattle.in_simple.proofs.Sound.{wire_points, port_place}
 use Rattle.in_simple.proofs.Links.{same_nat, at_most}
 use Rattle.in_simple.proofs.Search.{at_ports, in_ports}
-use Rattle.in_simple.proofs.Forest.{length_app, last_split}
+use Rattle.in_simple.proofs.Forest.{length_app}
+use Rattle.std_collections.proofs.ListMemory.Steps.{unsnoc}
 use Rattle.in_simple.proofs.Make.{port_most, hanging, hanging_is, hanging_yes, fit_graft}
 use Rattle.in_simple.proofs.Joining.{shape_same, built_over, fits_empty, fits_link, fits_mix}
 use Rattle.in_simple.proofs.Stacking.{none_more}
@@ -276,7 +277,7 @@ module _ (o : OpenNet) (net : IsOpenNet o) (n : ℕ) where
         topmost : Topmost
         topmost =
             let k = f.many in
-            let r = last_split f.shapes (omega arith) in
+            let r = unsnoc f.shapes (omega arith) in
             let l = ap length r.2 ∙ length_app r.0 (r.1 ∷ []) in
             let u = classes_unsnoc p.rest b 1 r.0 r.1 (subst (λ z. AreClassShapes o p.rest n b 1 z) r.2 f.each) in
             let e : 1 + length r.0 ≡ class_in o n b = omega arith in

@@ -14,11 +14,6 @@ pub length_app : {X : Type 0} (xs ys : List X) → length (xs ++ ys) ≡ length 
 length_app [] ys = omega arith
 length_app (x ∷ xs) ys = let r = length_app xs ys in omega arith
 
-pub last_split : {X : Type 0} (xs : List X) → 0 < length xs → (front : List X) × (x : X) × (xs ≡ front ++ x ∷ [])
-last_split [] l = absurd (omega arith)
-last_split (x ∷ []) l = ([], x, refl)
-last_split (x ∷ y ∷ ys) l = let r = last_split (y ∷ ys) (omega arith) in (x ∷ r.0, r.1, ap (λ z. x ∷ z) r.2)
-
 pub get_past : {X : Type 0} (xs ys : List X) (i j : ℕ) (x : X) → j ≡ length xs + i → slice_get ys i ≡ Some x → slice_get (xs ++ ys) j ≡ Some x
 get_past [] ys i j x e h = let f : j ≡ i = omega arith in subst (λ z. slice_get ys z ≡ Some x) (sym f) h
 get_past (y ∷ xs) ys i zero x e h = absurd (omega arith)

@@ -1,7 +1,7 @@
 -- What a ring and labels show of one node.
-use Rattle.std.proofs.Common.{◌≡◌, ◌≢◌, ◌⊎◌, ◌<◌, ◌+◌, ℕ, List, Bool, Option, Some, None, length, refl, sym, subst, ap, inl, inr, ◌∙◌, arith}
+use Rattle.std.proofs.Common.{◌≡◌, ◌≢◌, ◌⊎◌, ◌+◌, ℕ, List, Bool, Option, Some, None, length, refl, sym, subst, ap, inl, inr, ◌∙◌, arith}
 use Rattle.std.proofs.lemmas.Option.{same_Some}
-use Rattle.std.specs.Prelude.{MatchOption, IsSomeAnd}
+use Rattle.std.specs.Prelude.{IsSomeAnd}
 use Rattle.in_simple.specs.declared.labels.Labels.{Labels}
 use Rattle.in_simple.specs.declared.labels.Mark.{Mark}
 use Rattle.in_simple.specs.declared.open_nets.Point.{Point}

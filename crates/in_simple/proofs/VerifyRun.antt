@@ -6,7 +6,8 @@ use Rattle.in_simple.specs.OpenNets.{OpenNet, IsOpenNet}
 use Rattle.in_simple.specs.Derivations.{Step, Part, named, own_nodes, is_among, AreDifferent, AreEarlier, Builds, IsDerivation, is_free, times, times_in}
 use Rattle.in_simple.specs.Checking.{AreSized, AreHeld, AllHold, Again, Holds, IsLast, IsMade, IsWhole, IsSized, IsTaken, Took, Makes, OnStep, OnAlone, OnPair, has_node, in_one, left_of, left_at, times_left}
 use Rattle.in_simple.proofs.Named.{AreLeft, left_start, left_more, left_app, take_next, take_whole}
-use Rattle.in_simple.proofs.Forest.{last_split, get_past, get_cases, times_in_app}
+use Rattle.in_simple.proofs.Forest.{get_past, get_cases, times_in_app}
+use Rattle.std_collections.proofs.ListMemory.Steps.{unsnoc}
 use Rattle.in_simple.proofs.Links.{same_nat, at_most}
 use Rattle.in_net.proofs.Stepping.Lists.{kept_at}
 use Rattle.in_net.proofs.Stepping.Turns.{some_same}
@@ -294,7 +295,7 @@ module _ (o : OpenNet) (steps : List Step) where
       }
 
   pub whole_built : (parts : List (Option Built)) → AreBuilt o steps (length steps) parts → IsDerivation o steps → IsWhole o parts
-  whole_built parts h d = go (last_split parts (let a = d.some in let b = h.left.size in omega arith))
+  whole_built parts h d = go (unsnoc parts (let a = d.some in let b = h.left.size in omega arith))
     where
       there : (front : List (Option Built)) (last : Option Built) → parts ≡ front ++ last ∷ [] → slice_get parts (length front) ≡ Some last
       there front last e = subst (λ z. slice_get z (length front) ≡ Some last) (sym e) (get_past front (last ∷ []) 0 (length front) last (omega arith) refl)

@@ -26,13 +26,14 @@ PutsNet o n p = Puts o p.tasks (net_of n p.done ∷ [])
 
 -- ---- the nets of an agent's classes
 
--- port i of n leads into the rest, to the component of m there
-abbrev pub Meets : OpenNet → List Bool → ℕ → ℕ → ℕ → Type 0
-Meets o rest n i m = (w : ℕ) × (l : ℕ) × (k : ℕ) × IsWire o w (Port n i) (Port l k) × Linked (open_graph o) (λ m. IsIn m (nodes_in rest)) l m
+module _ (o : OpenNet) (rest : List Bool) (n : ℕ) where
+  -- port i of n leads into the rest, to the component of m there
+  abbrev pub Meets : ℕ → ℕ → Type 0
+  Meets i m = (w : ℕ) × (l : ℕ) × (k : ℕ) × IsWire o w (Port n i) (Port l k) × Linked (open_graph o) (λ m. IsIn m (nodes_in rest)) l m
 
--- wire w is at port i of n, and leads to no node of the rest
-abbrev pub LeadsOff : OpenNet → List Bool → ℕ → ℕ → ℕ → Type 0
-LeadsOff o rest n i w = (q : Point) × IsWire o w (Port n i) q × (is_port_in (nodes_in rest) q ≡ 0)
+  -- wire w is at port i of n, and leads to no node of the rest
+  abbrev pub LeadsOff : ℕ → ℕ → Type 0
+  LeadsOff i w = (q : Point) × IsWire o w (Port n i) q × (is_port_in (nodes_in rest) q ≡ 0)
 
 -- i is an auxiliary port below b
 abbrev pub IsBelow : ℕ → ℕ → Type 0

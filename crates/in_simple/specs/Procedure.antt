@@ -98,18 +98,20 @@ pub record PortSplits (o : OpenNet) (rest : List Bool) (n i : ℕ) : Type 0 wher
   pub own : (j w : ℕ) → IsWire o w (Port n i) (Port n j) → class_in o n i ≡ class_in o n j
   pub touched : (j w v l m k h : ℕ) → IsWire o w (Port n i) (Port l k) → IsWire o v (Port n j) (Port m h) → Linked (open_graph o) (λ m. IsIn m (nodes_in rest)) l m → class_in o n i ≡ class_in o n j
 
--- the ports of n below b that lead into the part are of one class, which has been met
-abbrev pub AreOfClass : OpenNet → List Bool → ℕ → ℕ → Option ℕ → Type 0
-AreOfClass o part n b met = (i : ℕ) → i < b → Touches o n (nodes_in part) i → met ≡ Some (class_in o n i)
+module _ (o : OpenNet) (part : List Bool) where
+  -- the ports of n below b that lead into the part are of one class, which has been met
+  abbrev pub AreOfClass : ℕ → ℕ → Option ℕ → Type 0
+  AreOfClass n b met = (i : ℕ) → i < b → Touches o n (nodes_in part) i → met ≡ Some (class_in o n i)
 
-abbrev pub SplitsIt : OpenNet → List Bool → ℕ → Type 0
-SplitsIt o part n = IsIn n (nodes_in part) × SplitsAt (open_graph o) n (nodes_in part)
+  -- a node of the part splits it; it is the first one that does; and none of the nodes below b does
+  abbrev pub SplitsIt : ℕ → Type 0
+  SplitsIt n = IsIn n (nodes_in part) × SplitsAt (open_graph o) n (nodes_in part)
 
-abbrev pub IsFirst : OpenNet → List Bool → ℕ → Type 0
-IsFirst o part n = IsFirstSplitting (open_graph o) (λ m n. m < n) n (nodes_in part)
+  abbrev pub IsFirst : ℕ → Type 0
+  IsFirst n = IsFirstSplitting (open_graph o) (λ m n. m < n) n (nodes_in part)
 
-abbrev pub NoneSplits : OpenNet → List Bool → ℕ → Type 0
-NoneSplits o part b = (m : ℕ) → m < b → SplitsIt o part m → ⊥
+  abbrev pub NoneSplits : ℕ → Type 0
+  NoneSplits b = (m : ℕ) → m < b → SplitsIt m → ⊥
 
 -- ---- tasks
 

@@ -11,33 +11,35 @@ use Rattle.in_simple.specs.Constructions.{IsIn}
 use Rattle.in_simple.specs.Splitting.{Without, IsComponent, IsFirstSplitting, Splits, IsStuck}
 use Rattle.in_simple.specs.OpenNets.{OpenNet, IsDerivable, IsNode, IsWire, node_place_in, open_graph}
 
--- port i of n is wired to a node of c
-abbrev pub Touches : OpenNet → ℕ → (ℕ → Bool) → ℕ → Type 0
-Touches o n c i = (w : ℕ) × (l : ℕ) × (k : ℕ) × IsWire o w (Port n i) (Port l k) × IsIn l c
+module _ (o : OpenNet) (n : ℕ) where
+  -- port i of n is wired to a node of c
+  abbrev pub Touches : (ℕ → Bool) → ℕ → Type 0
+  Touches c i = (w : ℕ) × (l : ℕ) × (k : ℕ) × IsWire o w (Port n i) (Port l k) × IsIn l c
 
-abbrev pub ports_of : OpenNet → ℕ → ℕ
-ports_of o n = elim (slice_get o.nodes n) [ None ↦ 0 | Some m ↦ length m.class_of ]
+  abbrev pub ports_of : ℕ
+  ports_of = elim (slice_get o.nodes n) [ None ↦ 0 | Some m ↦ length m.class_of ]
 
--- a node's ports have their turns by place, but an agent's principal port comes last
-abbrev pub turn : OpenNet → ℕ → ℕ → ℕ
-turn o n i = elim (slice_get o.nodes n) [ None ↦ i | Some m ↦ elim m.node [ AgentNode y ↦ cond (nat_eq i 0) (length m.class_of) i | ClassNode y c ↦ i ] ]
+  -- a node's ports have their turns by place, but an agent's principal port comes last
+  abbrev pub turn : ℕ → ℕ
+  turn i = elim (slice_get o.nodes n) [ None ↦ i | Some m ↦ elim m.node [ AgentNode y ↦ cond (nat_eq i 0) (length m.class_of) i | ClassNode y c ↦ i ] ]
 
--- the turn of a component: that of the first port of n that touches it; after these come those that n doesn't touch, by their first nodes
-abbrev pub ComesAt : OpenNet → ℕ → (ℕ → Bool) → ℕ → Type 0
-ComesAt o n c k = ((i : ℕ) × Touches o n c i × (turn o n i ≡ k) × ((j : ℕ) → Touches o n c j → k ≤ turn o n j))
-    ⊎ (((i : ℕ) → Touches o n c i → ⊥) × ((m : ℕ) × IsIn m c × (suc (ports_of o n) + m ≡ k) × ((l : ℕ) → IsIn l c → m ≤ l)))
+  -- the turn of a component: that of the first port of n that touches it; after these come those that n doesn't touch, by their first nodes
+  abbrev pub ComesAt : (ℕ → Bool) → ℕ → Type 0
+  ComesAt c k = ((i : ℕ) × Touches c i × (turn i ≡ k) × ((j : ℕ) → Touches c j → k ≤ turn j))
+      ⊎ (((i : ℕ) → Touches c i → ⊥) × ((m : ℕ) × IsIn m c × (suc ports_of + m ≡ k) × ((l : ℕ) → IsIn l c → m ≤ l)))
 
--- n is the first node of s, by number, that splits it
-abbrev pub IsFirstToSplit : OpenNet → ℕ → (ℕ → Bool) → Type 0
-IsFirstToSplit o n s = IsFirstSplitting (open_graph o) (λ m n. m < n) n s
+module _ (o : OpenNet) (n : ℕ) (s : ℕ → Bool) where
+  -- n is the first node of s, by number, that splits it
+  abbrev pub IsFirstToSplit : Type 0
+  IsFirstToSplit = IsFirstSplitting (open_graph o) (λ m n. m < n) n s
 
--- c is a component of s with n taken out
-abbrev pub IsPart : OpenNet → ℕ → (ℕ → Bool) → (ℕ → Bool) → Type 0
-IsPart o n s c = IsComponent (open_graph o) (Without n s) c
+  -- c is a component of s with n taken out
+  abbrev pub IsPart : (ℕ → Bool) → Type 0
+  IsPart c = IsComponent (open_graph o) (Without n s) c
 
--- with n taken out of s, the components whose turns come before k split
-abbrev pub EarlierSplit : OpenNet → ℕ → (ℕ → Bool) → ℕ → Type 0
-EarlierSplit o n s k = (d : ℕ → Bool) (l : ℕ) → IsPart o n s d → ComesAt o n d l → l < k → Splits (open_graph o) (λ m n. m < n) d
+  -- with n taken out of s, the components whose turns come before k split
+  abbrev pub EarlierSplit : ℕ → Type 0
+  EarlierSplit k = (d : ℕ → Bool) (l : ℕ) → IsPart d → ComesAt o n d l → l < k → Splits (open_graph o) (λ m n. m < n) d
 
 -- t is the first stuck sub-net of s: s, where it has nodes and none splits it; else that of the first component, with the first
 -- splitting node taken out, that doesn't split

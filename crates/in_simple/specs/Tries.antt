@@ -1,5 +1,5 @@
 -- Whether one node splits a part, by what a search from the node alone found: a ring shows that it does not, and labels show that it does.
-use Rattle.std.specs.Prelude.{◌≡◌, ◌≢◌, ℕ, ◌<◌, Bool, true, false, cond, nat_eq, List, slice_get, Option, Some, None, MatchOption, IsSomeAnd, length}
+use Rattle.std.specs.Prelude.{◌≡◌, ◌≢◌, ℕ, ◌<◌, Bool, cond, nat_eq, List, slice_get, Option, Some, None, MatchOption, IsSomeAnd, length}
 use Rattle.in_simple.specs.declared.labels.Labels.{Labels}
 use Rattle.in_simple.specs.declared.labels.Mark.{Mark}
 use Rattle.in_simple.specs.declared.open_nets.Point.TheVariants.{Port}
@@ -29,20 +29,21 @@ mark_in labels n = elim (slice_get labels.marks n) [ None ↦ None | Some m ↦ 
 abbrev pub HasLabel : Labels → ℕ → ℕ → Type 0
 HasLabel labels c n = IsSomeAnd (mark_in labels n) (λ m. m.class ≡ c)
 
--- what the ports of l below b lead to in the part, but n, has this label
-abbrev pub AreLabelled : OpenNet → List Bool → ℕ → Labels → ℕ → ℕ → ℕ → Type 0
-AreLabelled o part n labels c l b = (i w m j : ℕ) → i < b → IsWire o w (Port l i) (Port m j) → IsIn m (nodes_in part) → m ≢ n → HasLabel labels c m
+module _ (o : OpenNet) (part : List Bool) (n : ℕ) (labels : Labels) where
+  -- what the ports of l below b lead to in the part, but n, has this label
+  abbrev pub AreLabelled : ℕ → ℕ → ℕ → Type 0
+  AreLabelled c l b = (i w m j : ℕ) → i < b → IsWire o w (Port l i) (Port m j) → IsIn m (nodes_in part) → m ≢ n → HasLabel labels c m
 
--- the labels of nodes below b are those of their neighbours
-abbrev pub LabelsSpread : OpenNet → List Bool → ℕ → Labels → ℕ → Type 0
-LabelsSpread o part n labels b = (l c : ℕ) → l < b → HasLabel labels c l → AreLabelled o part n labels c l (ports_of o l)
+  -- the labels of nodes below b are those of their neighbours
+  abbrev pub LabelsSpread : ℕ → Type 0
+  LabelsSpread b = (l c : ℕ) → l < b → HasLabel labels c l → AreLabelled c l (ports_of o l)
 
--- port i of n leads to n itself by a port of its class, and to no other node of the part but those with its class as label
-abbrev pub LeadsToLabel : OpenNet → List Bool → ℕ → Labels → ℕ → Type 0
-LeadsToLabel o part n labels i = (w m j : ℕ) → IsWire o w (Port n i) (Port m j) → (m ≡ n → class_in o n j ≡ class_in o n i) × (IsIn m (nodes_in part) → m ≢ n → HasLabel labels (class_in o n i) m)
+  -- port i of n leads to n itself by a port of its class, and to no other node of the part but those with its class as label
+  abbrev pub LeadsToLabel : ℕ → Type 0
+  LeadsToLabel i = (w m j : ℕ) → IsWire o w (Port n i) (Port m j) → (m ≡ n → class_in o n j ≡ class_in o n i) × (IsIn m (nodes_in part) → m ≢ n → HasLabel labels (class_in o n i) m)
 
-abbrev pub LeadToLabels : OpenNet → List Bool → ℕ → Labels → ℕ → Type 0
-LeadToLabels o part n labels b = (i : ℕ) → i < b → LeadsToLabel o part n labels i
+  abbrev pub LeadToLabels : ℕ → Type 0
+  LeadToLabels b = (i : ℕ) → i < b → LeadsToLabel i
 
 -- ---- what is found
 

@@ -1,4 +1,4 @@
-use Rattle.std.proofs.Common.{◌≡◌, sym, subst, arith}
+use Rattle.std.proofs.Common.{◌≡◌, subst, arith}
 use Rattle.in_simple.specs.Stuck.{ports_of}
 use Rattle.in_simple.specs.Tries.{AreLabelled}
 use Rattle.in_simple.proofs.Tried.{labelled_past, labelled_more}

@@ -1,8 +1,7 @@
-use Rattle.std.proofs.Common.{◌≡◌, ◌<◌, ◌∙◌, ℕ, Bool, true, false, nat_eq, length, ap, sym, subst, get_or, eq-eqb, inl, inr, Some, arith}
+use Rattle.std.proofs.Common.{◌≡◌, ◌∙◌, ℕ, true, nat_eq, length, ap, sym, subst, eq-eqb, inl, inr, Some, arith}
 use Rattle.std.specs.Bool.{IsTrue}
 use Rattle.std.specs.Prelude.{not}
-use Rattle.in_simple.specs.declared.open_nets.Point.TheVariants.{Port}
-use Rattle.in_simple.specs.OpenNets.{IsWire, IsPointOf, class_in}
+use Rattle.in_simple.specs.OpenNets.{IsPointOf}
 use Rattle.in_simple.proofs.Planning.{read_bit}
 use Rattle.in_simple.proofs.Slots.{place}
 use Rattle.in_simple.proofs.Tried.{walk_on, walk_back}
