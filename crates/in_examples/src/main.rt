@@ -14,9 +14,8 @@ use in_syntax::{MemoryIn, MemoryOut};
 use in_test_programs::{Look, seen};
 use in_words::Action;
 use std::alloc::{AllocError, Global};
-use std::fs;
 use std::rt::Files;
-use std::str;
+use std::{fs, str};
 
 /// Room for the lines on a program, in bytes.
 const ROOM: usize = 65_536;

@@ -51,8 +51,9 @@ pub(crate) fn unite(more: &Items<bool>, set: &mut Items<bool>)
     ensures union { IsUnion more.now set.old set.new }
 {
     for member in 0..more.len() {
-        let is_in = more.as_slice()[member] || set.as_slice()[member];
-        set.set(member, is_in);
+        if more.as_slice()[member] {
+            set.set(member, true);
+        }
     }
 }
 
