@@ -8,7 +8,7 @@ use Rattle.in_simple.specs.declared.plans.Task.TheVariants.{Derive, Make}
 use Rattle.in_simple.specs.Constructions.{IsIn, count}
 use Rattle.in_simple.specs.Splitting.{Linked, Without, SplitsAt, IsFirstSplitting, Splits}
 use Rattle.in_simple.specs.OpenNets.{OpenNet, IsWire, class_in, open_graph}
-use Rattle.in_simple.specs.Stuck.{IsPart, Among, ComesAt, FirstStuck, Touches}
+use Rattle.in_simple.specs.Stuck.{IsPart, Among, ComesAt, FirstStuck, Touches, ports_of}
 use Rattle.in_syntax.specs.Grammar.{max_ports}
 
 abbrev pub nodes_in : List Bool → ℕ → Bool
@@ -45,6 +45,11 @@ pub record AreLed (o : OpenNet) (b : ℕ) (slots : List Slot) : Type 0 where
 
 abbrev pub IsWired : OpenNet → List Slot → Type 0
 IsWired o slots = AreLed o (length o.wires) slots
+
+-- how many ports each node below b has
+pub record ArePorts (o : OpenNet) (b : ℕ) (ports : List ℕ) : Type 0 where
+  pub all : length ports ≡ b
+  pub right : (n : ℕ) → n < b → slice_index_or ports n 0 ≡ ports_of o n
 
 -- ---- components
 

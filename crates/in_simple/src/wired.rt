@@ -2,7 +2,7 @@ ghost use Rattle.std.specs.Prelude.{◌≡◌, ◌<◌, ◌≤◌, ◌^◌, ◌*
 ghost use Rattle.in_syntax.specs.Grammar.{max_ports};
 ghost use Rattle.in_simple.specs.ClassGraphs.{width_of};
 ghost use Rattle.in_simple.specs.OpenNets.{IsAgent, IsClass, IsOrderly, IsPointOf, IsWire, class_in, classes_of};
-ghost use Rattle.in_simple.specs.Procedure.{led, HasSlot, IsWired};
+ghost use Rattle.in_simple.specs.Procedure.{led, ArePorts, HasSlot, IsWired};
 ghost use Rattle.in_simple.specs.Stuck.{ports_of};
 ghost use Rattle.in_simple.specs.declared.open_nets.Point.TheVariants.{Port};
 
@@ -15,15 +15,18 @@ use std::marker::Model;
 /// The most ports of a node: an agent's principal port and its auxiliary ports.
 const MOST_PORTS: usize = MAX_PORTS + 1;
 
-/// An open net, with the wire at each port and its other point. A node has a slot for each port that an agent may have.
+/// An open net, with how many ports each node has, and the wire at each port and its other point, side by side for a search. A node has
+/// a slot for each port that an agent may have.
 #[derive(Drop)]
 pub(crate) struct Wired<'a> {
     open: &'a OpenNet,
+    ports: Items<u8>,
     slots: Items<Option<(u32, Point)>>,
 }
 
 // Contracts see the open net.
 impl<'a> Model for Wired<'a> {
+    ghost use Rattle.std.specs.Prelude.{length};
     ghost use Rattle.in_simple.specs.OpenNets as nets;
     ghost use Rattle.in_simple.specs.Procedure as procedure;
 
@@ -31,7 +34,18 @@ impl<'a> Model for Wired<'a> {
 
     ghost view = { λ w. w.«open».now };
 
-    ghost invariant = { λ w. nets.IsOrderly w.«open».now × procedure.IsWired w.«open».now w.slots };
+    ghost invariant = { λ w. nets.IsOrderly w.«open».now × procedure.IsWired w.«open».now w.slots × procedure.ArePorts w.«open».now (length w.«open».now.nodes) w.ports };
+}
+
+/// How many ports each node has.
+fn ports(alloc: Global, open: &OpenNet) -> Result<Items<u8>, AllocError>
+    ensures { IfOk result (ArePorts «open».now (length «open».now.nodes)) }
+{
+    let mut ports = Items::new(alloc);
+    for node in 0..open.nodes() as usize {
+        ports.push(open.ports(node) as u8)?;
+    }
+    Ok(ports)
 }
 
 /// So many empty slots.
@@ -82,8 +96,10 @@ impl<'a> Wired<'a> {
         ensures { IfOk result (λ wired. wired ≡ «open».now) }
     {
         let _ = &open.nodes;
+        let ports = ports(alloc, open)?;
         Ok(Wired {
             open,
+            ports,
             slots: slots(alloc, open)?,
         })
     }
@@ -105,7 +121,7 @@ impl<'a> Wired<'a> {
         ensures few { result ≤ max_ports + 1 }
         ensures net { IsOrderly self.now }
     {
-        self.open.ports(node)
+        self.ports.as_slice()[node] as usize
     }
 
     /// The class of a node's port.
