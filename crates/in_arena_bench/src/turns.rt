@@ -7,6 +7,7 @@ use in_arena::{Arena, CellClass, CellNo, End};
 use std::alloc::{AllocError, Global};
 
 // The cell is free, and then live with this in it.
+#[inline(always)]
 pub fn renew(
     arena: &mut Arena,
     class: CellClass,
@@ -26,6 +27,7 @@ pub fn renew(
 }
 
 // Reads two ports of a live cell and sets two.
+#[inline(always)]
 pub fn mend(arena: &mut Arena, cell: CellNo) -> u32
     requires { AreLive arena.old × (cell.0 < length arena.old.states) }
     ensures { AreLive arena.new × Keeps arena.old arena.new }
@@ -69,6 +71,7 @@ pub fn full(alloc: Global, cells: u32) -> Result<Option<Arena>, AllocError>
 }
 
 // One turn of a live cell, and what it reads; nothing where no cell could be taken in its place.
+#[inline(always)]
 fn turn(
     arena: &mut Arena,
     class: CellClass,
