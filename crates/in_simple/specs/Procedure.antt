@@ -5,6 +5,8 @@ use Rattle.in_simple.specs.declared.open_nets.Point.TheVariants.{Port, Free}
 use Rattle.in_simple.specs.declared.plans.Plan.{Plan}
 use Rattle.in_simple.specs.declared.plans.Task.{Task}
 use Rattle.in_simple.specs.declared.plans.Task.TheVariants.{Derive, Make}
+use Rattle.in_simple.specs.declared.wired.Target.{Target}
+use Rattle.in_simple.specs.declared.wired.Target.TheVariants.{Nowhere, ToPort, ToFree}
 use Rattle.in_simple.specs.Constructions.{IsIn, count}
 use Rattle.in_simple.specs.Splitting.{Linked, Without, SplitsAt, IsFirstSplitting, Splits}
 use Rattle.in_simple.specs.OpenNets.{OpenNet, IsWire, class_in, open_graph}
@@ -23,6 +25,12 @@ HasNoneBelow part b = (m : ℕ) → m < b → IsIn m (nodes_in part) → ⊥
 -- the wire at a port and its other point; a node has a slot for each port that an agent may have
 abbrev pub Slot : Type 0
 Slot = Option (ℕ × Point)
+
+-- .. as it is kept
+abbrev pub slot_of : ℕ → ℕ → ℕ → Target → Slot
+slot_of w number place Nowhere = None
+slot_of w number place ToPort = Some (w, Port number place)
+slot_of w number place ToFree = Some (w, Free number)
 
 abbrev pub slot_at : List Slot → ℕ → ℕ → Slot
 slot_at slots n i = slice_index_or slots (n * (max_ports + 1) + i) None

@@ -15,13 +15,84 @@ use std::marker::Model;
 /// The most ports of a node: an agent's principal port and its auxiliary ports.
 const MOST_PORTS: usize = MAX_PORTS + 1;
 
+/// What a slot has: no wire, or where its wire leads to.
+#[derive(Clone, Copy, Drop)]
+pub(crate) enum Target {
+    Nowhere,
+    ToPort,
+    ToFree,
+}
+
+/// The wire at a port and its other point, if there is one, in twelve bytes: a search reads one for each port that it comes by.
+#[derive(Drop)]
+pub(crate) struct Slot {
+    wire: u32,
+    number: u32,
+    place: u8,
+    target: Target,
+}
+
+// Contracts see the wire and the point.
+impl Model for Slot {
+    ghost use Rattle.in_simple.specs.Procedure as procedure;
+
+    ghost Value = { procedure.Slot };
+
+    ghost view = { λ s. procedure.slot_of s.wire s.number s.place s.target };
+}
+
+impl Slot {
+    /// No wire.
+    fn empty() -> Slot
+        ensures { result ≡ None }
+    {
+        Slot {
+            wire: 0,
+            number: 0,
+            place: 0,
+            target: Target::Nowhere,
+        }
+    }
+
+    /// The wire leads to this point.
+    fn to(wire: u32, point: Point) -> Slot
+        ensures { result ≡ Some (wire, point) }
+    {
+        match point {
+            Point::Port(number, place) => Slot {
+                wire,
+                number,
+                place,
+                target: Target::ToPort,
+            },
+            Point::Free(number) => Slot {
+                wire,
+                number,
+                place: 0,
+                target: Target::ToFree,
+            },
+        }
+    }
+
+    /// The wire and its other point.
+    fn get(&self) -> Option<(u32, Point)>
+        ensures { result ≡ self.now }
+    {
+        match self.target {
+            Target::Nowhere => None,
+            Target::ToPort => Some((self.wire, Point::Port(self.number, self.place))),
+            Target::ToFree => Some((self.wire, Point::Free(self.number))),
+        }
+    }
+}
+
 /// An open net, with how many ports each node has, and the wire at each port and its other point, side by side for a search. A node has
 /// a slot for each port that an agent may have.
 #[derive(Drop)]
 pub(crate) struct Wired<'a> {
     open: &'a OpenNet,
     ports: Items<u8>,
-    slots: Items<Option<(u32, Point)>>,
+    slots: Items<Slot>,
 }
 
 // Contracts see the open net.
@@ -49,19 +120,19 @@ fn ports(alloc: Global, open: &OpenNet) -> Result<Items<u8>, AllocError>
 }
 
 /// So many empty slots.
-fn empty(alloc: Global, count: usize) -> Result<Items<Option<(u32, Point)>>, AllocError>
+fn empty(alloc: Global, count: usize) -> Result<Items<Slot>, AllocError>
     ensures count { IfOk result (λ slots. length slots ≡ count) }
     ensures empty { IfOk result (λ slots. (i : ℕ) → slice_index_or slots i None ≡ None) }
 {
     let mut slots = Items::new(alloc);
     for slot in 0..count {
-        slots.push(None)?;
+        slots.push(Slot::empty())?;
     }
     Ok(slots)
 }
 
 /// From this point the wire leads to that one.
-fn lead(slots: &mut Items<Option<(u32, Point)>>, wire: u32, from: Point, to: Point)
+fn lead(slots: &mut Items<Slot>, wire: u32, from: Point, to: Point)
     requires { HasSlot slots.old from }
     ensures { slots.new ≡ led slots.old wire from to }
 {
@@ -69,7 +140,7 @@ fn lead(slots: &mut Items<Option<(u32, Point)>>, wire: u32, from: Point, to: Poi
         Point::Port(node, place) => {
             slots.set(
                 node as usize * MOST_PORTS + place as usize,
-                Some((wire, to)),
+                Slot::to(wire, to),
             );
         }
         Point::Free(_) => {}
@@ -77,7 +148,7 @@ fn lead(slots: &mut Items<Option<(u32, Point)>>, wire: u32, from: Point, to: Poi
 }
 
 /// The slots of the open net's ports.
-fn slots(alloc: Global, open: &OpenNet) -> Result<Items<Option<(u32, Point)>>, AllocError>
+fn slots(alloc: Global, open: &OpenNet) -> Result<Items<Slot>, AllocError>
     ensures { IfOk result (IsWired «open».now) }
 {
     let count = open.nodes() as usize;
@@ -185,7 +256,7 @@ impl<'a> Wired<'a> {
         ensures point { IsPointOf self.now result.1 }
         ensures net { IsOrderly self.now }
     {
-        match self.slots.as_slice()[node * MOST_PORTS + port] {
+        match self.slots.as_slice()[node * MOST_PORTS + port].get() {
             Some(found) => found,
             None => unreachable!(),
         }
