@@ -6,6 +6,7 @@ ghost use Rattle.in_simple.specs.OpenNets.{IsOrderly, class_in};
 ghost use Rattle.in_simple.specs.Stuck.{ports_of};
 
 use crate::open_nets::Point;
+use crate::sets::NumberSet;
 use crate::wired::Wired;
 use sqlite_items::Items;
 use std::alloc::{AllocError, Global};
@@ -42,7 +43,7 @@ fn add_hub_edges(
 
 impl ClassGraph {
     /// The next node, with its hub edges where it is one of the part.
-    fn add_node(&mut self, wired: &Wired, part: &Items<bool>, node: usize) -> Result<(), AllocError>
+    fn add_node(&mut self, wired: &Wired, part: &NumberSet, node: usize) -> Result<(), AllocError>
         requires size { length part.now ≡ length wired.now.nodes }
         requires node { node < length wired.now.nodes }
         requires numbers { HaveNumbers wired.now part.now node self.old.hubs self.old.count }
@@ -55,7 +56,7 @@ impl ClassGraph {
             vertex: hub,
             edge: self.edges.len(),
         })?;
-        if part.as_slice()[node] {
+        if part.has(node) {
             let width = wired.width(node);
             add_hub_edges(hub, width, &mut self.edges)?;
             self.count = hub + 1 + width;
@@ -64,7 +65,7 @@ impl ClassGraph {
     }
 
     /// The hubs and the hub edges of a part.
-    fn hubs(alloc: Global, wired: &Wired, part: &Items<bool>) -> Result<ClassGraph, AllocError>
+    fn hubs(alloc: Global, wired: &Wired, part: &NumberSet) -> Result<ClassGraph, AllocError>
         requires { length part.now ≡ length wired.now.nodes }
         ensures numbers { IfOk result (λ graph. HaveNumbers wired.now part.now (length wired.now.nodes) graph.hubs graph.count) }
         ensures edges { IfOk result (λ graph. AreHubEdges wired.now part.now (length wired.now.nodes) graph.hubs graph.edges) }
@@ -92,7 +93,7 @@ impl ClassGraph {
     }
 
     /// The edge of a wire, if it is between two nodes of the part.
-    fn wire_edge(&self, wired: &Wired, part: &Items<bool>, wire: usize) -> Option<(usize, usize)>
+    fn wire_edge(&self, wired: &Wired, part: &NumberSet, wire: usize) -> Option<(usize, usize)>
         requires size { length part.now ≡ length wired.now.nodes }
         requires wire { wire < length wired.now.wires }
         requires numbers { HaveNumbers wired.now part.now (length wired.now.nodes) self.now.hubs self.now.count }
@@ -100,7 +101,7 @@ impl ClassGraph {
     {
         match wired.wire(wire) {
             (Point::Port(one, place), Point::Port(other, far)) => {
-                if part.as_slice()[one as usize] && part.as_slice()[other as usize] {
+                if part.has(one as usize) && part.has(other as usize) {
                     Some((
                         self.class_vertex(wired, one as usize, place as usize),
                         self.class_vertex(wired, other as usize, far as usize),
@@ -114,7 +115,7 @@ impl ClassGraph {
     }
 
     /// The edge of one more wire, where it is between two nodes of the part.
-    fn add_wire(&mut self, wired: &Wired, part: &Items<bool>, wire: usize) -> Result<(), AllocError>
+    fn add_wire(&mut self, wired: &Wired, part: &NumberSet, wire: usize) -> Result<(), AllocError>
         requires size { length part.now ≡ length wired.now.nodes }
         requires wire { wire < length wired.now.wires }
         requires numbers { HaveNumbers wired.now part.now (length wired.now.nodes) self.old.hubs self.old.count }
@@ -132,7 +133,7 @@ impl ClassGraph {
     pub(crate) fn of(
         alloc: Global,
         wired: &Wired,
-        part: &Items<bool>,
+        part: &NumberSet,
     ) -> Result<ClassGraph, AllocError>
         requires { length part.now ≡ length wired.now.nodes }
         ensures graph { IfOk result (IsClassGraphOf wired.now part.now) }

@@ -5,18 +5,13 @@ ghost use Rattle.in_simple.specs.Procedure.{IsNeighbour, IsReached, Reaches, Spr
 ghost use Rattle.in_simple.specs.Stuck.{ports_of};
 
 use crate::open_nets::Point;
-use crate::sets::none;
+use crate::sets::NumberSet;
 use crate::wired::Wired;
 use sqlite_items::Items;
 use std::alloc::{AllocError, Global};
 
 /// The node at the other end of the wire at a port, where it is one of these.
-pub(crate) fn neighbour(
-    wired: &Wired,
-    within: &Items<bool>,
-    node: usize,
-    port: usize,
-) -> Option<u32>
+pub(crate) fn neighbour(wired: &Wired, within: &NumberSet, node: usize, port: usize) -> Option<u32>
     requires size { length within.now ≡ length wired.now.nodes }
     requires node { node < length wired.now.nodes }
     requires port { port < ports_of wired.now node }
@@ -24,7 +19,7 @@ pub(crate) fn neighbour(
 {
     match wired.partner(node, port) {
         (_, Point::Port(near, _)) => {
-            if within.as_slice()[near as usize] {
+            if within.has(near as usize) {
                 Some(near)
             } else {
                 None
@@ -37,14 +32,14 @@ pub(crate) fn neighbour(
 /// Reaches a node, if it isn't yet.
 pub(crate) fn reach(
     near: u32,
-    reached: &mut Items<bool>,
+    reached: &mut NumberSet,
     pending: &mut Items<u32>,
 ) -> Result<(), AllocError>
     requires { near < length reached.old }
     ensures { OnOk result (Reaches near reached.old pending.old reached.new pending.new) }
 {
-    if !reached.as_slice()[near as usize] {
-        reached.set(near as usize, true);
+    if !reached.has(near as usize) {
+        reached.insert(near as usize);
         pending.push(near)?;
     }
     Ok(())
@@ -53,9 +48,9 @@ pub(crate) fn reach(
 /// Reaches the neighbours of a node.
 pub(crate) fn spread(
     wired: &Wired,
-    within: &Items<bool>,
+    within: &NumberSet,
     node: usize,
-    reached: &mut Items<bool>,
+    reached: &mut NumberSet,
     pending: &mut Items<u32>,
 ) -> Result<(), AllocError>
     requires within { length within.now ≡ length wired.now.nodes }
@@ -75,9 +70,9 @@ pub(crate) fn spread(
 fn reach_all(
     alloc: Global,
     wired: &Wired,
-    within: &Items<bool>,
+    within: &NumberSet,
     from: u32,
-    reached: &mut Items<bool>,
+    reached: &mut NumberSet,
 ) -> Result<(), AllocError>
     requires within { length within.now ≡ length wired.now.nodes }
     requires small { from < length wired.now.nodes }
@@ -100,16 +95,16 @@ fn reach_all(
 pub(crate) fn component(
     alloc: Global,
     wired: &Wired,
-    within: &Items<bool>,
+    within: &NumberSet,
     from: u32,
-) -> Result<Items<bool>, AllocError>
+) -> Result<NumberSet, AllocError>
     requires within { length within.now ≡ length wired.now.nodes }
     requires small { from < length wired.now.nodes }
     requires from { IsIn from (nodes_in within.now) }
     ensures size { IfOk result (λ c. length c ≡ length wired.now.nodes) }
     ensures reached { IfOk result (IsReached wired.now within.now from) }
 {
-    let mut reached = none(alloc, wired.nodes())?;
+    let mut reached = NumberSet::none(alloc, wired.nodes())?;
     reach_all(alloc, wired, within, from, &mut reached)?;
     Ok(reached)
 }

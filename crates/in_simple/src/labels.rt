@@ -7,6 +7,7 @@ ghost use Rattle.in_simple.specs.Tries.{AreLabelled, LabelsSpread, LeadToLabels,
 
 use crate::components::neighbour;
 use crate::open_nets::Point;
+use crate::sets::NumberSet;
 use crate::wired::Wired;
 use sqlite_items::Items;
 
@@ -56,7 +57,7 @@ impl Labels {
 /// Whether what a node's ports lead to in the part, but for the node that is tried, has this label.
 fn is_spread(
     wired: &Wired,
-    part: &Items<bool>,
+    part: &NumberSet,
     node: usize,
     labels: &Labels,
     class: usize,
@@ -77,7 +78,7 @@ fn is_spread(
 }
 
 /// Whether each label is that of the neighbours too.
-fn are_spread(wired: &Wired, part: &Items<bool>, node: usize, labels: &Labels) -> bool
+fn are_spread(wired: &Wired, part: &NumberSet, node: usize, labels: &Labels) -> bool
     requires { length part.now ≡ length wired.now.nodes }
     ensures { IsTrue result → LabelsSpread wired.now part.now node labels.now (length wired.now.nodes) }
 {
@@ -94,7 +95,7 @@ fn are_spread(wired: &Wired, part: &Items<bool>, node: usize, labels: &Labels) -
 /// Whether a port of the node leads to itself by a port of its class, or to a node with its class as label, or out of the part.
 fn leads_to_label(
     wired: &Wired,
-    part: &Items<bool>,
+    part: &NumberSet,
     node: usize,
     labels: &Labels,
     port: usize,
@@ -109,7 +110,7 @@ fn leads_to_label(
         (_, Point::Port(near, place)) => {
             if near as usize == node {
                 wired.class(near as usize, place as usize) == class
-            } else if part.as_slice()[near as usize] {
+            } else if part.has(near as usize) {
                 labels.has(near as usize, class)
             } else {
                 true
@@ -120,7 +121,7 @@ fn leads_to_label(
 }
 
 /// Whether each port of the node leads to its class.
-fn lead_to_labels(wired: &Wired, part: &Items<bool>, node: usize, labels: &Labels) -> bool
+fn lead_to_labels(wired: &Wired, part: &NumberSet, node: usize, labels: &Labels) -> bool
     requires size { length part.now ≡ length wired.now.nodes }
     requires node { node < length wired.now.nodes }
     ensures leads { IsTrue result → LeadToLabels wired.now part.now node labels.now (ports_of wired.now node) }
@@ -135,12 +136,7 @@ fn lead_to_labels(wired: &Wired, part: &Items<bool>, node: usize, labels: &Label
 }
 
 /// Whether the labels show that the node splits the part: none is beside another one, and the node's ports lead to their own.
-pub(crate) fn show_splitting(
-    wired: &Wired,
-    part: &Items<bool>,
-    node: usize,
-    labels: &Labels,
-) -> bool
+pub(crate) fn show_splitting(wired: &Wired, part: &NumberSet, node: usize, labels: &Labels) -> bool
     requires size { length part.now ≡ length wired.now.nodes }
     requires node { node < length wired.now.nodes }
     requires here { IsIn node (nodes_in part.now) }

@@ -11,7 +11,7 @@ ghost use Rattle.in_simple.specs.declared.plans.Task.TheVariants.{Derive, Make};
 use crate::derivations::{Derivation, Step, StepNumbers, Stuck, Undone};
 use crate::open_nets::{OpenNet, Point};
 use crate::plans::{Joint, Task, tasks_of};
-use crate::sets::all;
+use crate::sets::NumberSet;
 use crate::splitting::first_splitting;
 use crate::trials::Trials;
 use crate::wired::Wired;
@@ -115,7 +115,7 @@ impl Work {
     }
 
     /// Makes steps until a part is to be derived.
-    fn next_part(&mut self, alloc: Global) -> Result<Option<Items<bool>>, AllocError>
+    fn next_part(&mut self, alloc: Global) -> Result<Option<NumberSet>, AllocError>
         ensures tasks { IfOk result (λ next. MatchOption next
             (Passes (reverse self.old.tasks) [])
             (λ part. Passes (reverse self.old.tasks) (Derive part ∷ reverse self.new.tasks))) }
@@ -172,26 +172,12 @@ fn start(alloc: Global, open: &OpenNet) -> Result<Items<Task>, AllocError>
     let count = open.nodes() as usize;
     if count > 0 {
         let mut tasks = Items::new(alloc);
-        tasks.push(Task::Derive(all(alloc, count)?))?;
+        tasks.push(Task::Derive(NumberSet::all(alloc, count)?))?;
         tasks.append(loose(alloc, open, true)?)?;
         Ok(tasks)
     } else {
         loose(alloc, open, false)
     }
-}
-
-/// The nodes of a part, by number.
-fn stuck(alloc: Global, part: &Items<bool>) -> Result<Stuck, AllocError>
-    requires { length part.now < 2 ^ 32 }
-    ensures { IfOk result (λ stuck. IsListed (nodes_in part.now) stuck.nodes) }
-{
-    let mut nodes = Items::new(alloc);
-    for node in 0..part.len() {
-        if part.as_slice()[node] {
-            nodes.push(node as u32)?;
-        }
-    }
-    Ok(Stuck { nodes })
 }
 
 /// The tasks of the whole open net, and no step yet.
@@ -215,7 +201,7 @@ fn take(
     wired: &Wired,
     work: &mut Work,
     trials: &mut Trials,
-    part: &Items<bool>,
+    part: &NumberSet,
 ) -> Result<Option<Stuck>, AllocError>
     requires work { IsWork wired.now (Derive part.now ∷ reverse work.old.tasks) }
     requires steps { IsUnderWay wired.now (Derive part.now ∷ reverse work.old.tasks) work.old.steps work.old.roots }
@@ -230,8 +216,8 @@ fn take(
             Ok(None)
         }
         None => {
-            let stuck = stuck(alloc, part)?;
-            Ok(Some(stuck))
+            let nodes = part.members(alloc)?;
+            Ok(Some(Stuck { nodes }))
         }
     }
 }

@@ -2,17 +2,13 @@ ghost use Rattle.std.specs.Prelude.{◌≡◌, ◌<◌, length, IsTrue};
 ghost use Rattle.in_simple.specs.Procedure.{SplitsIt};
 
 use crate::open_nets::Point;
+use crate::sets::NumberSet;
 use crate::wired::Wired;
 use sqlite_items::Items;
 
 /// Whether the walk that leaves one node after the other by these ports, from this node on, leads through the part back to the node by
 /// a port of another class than it began with: then the node does not split the part.
-pub(crate) fn joins_classes(
-    wired: &Wired,
-    part: &Items<bool>,
-    node: usize,
-    ring: &Items<u8>,
-) -> bool
+pub(crate) fn joins_classes(wired: &Wired, part: &NumberSet, node: usize, ring: &Items<u8>) -> bool
     requires size { length part.now ≡ length wired.now.nodes }
     requires node { node < length wired.now.nodes }
     ensures { IsTrue result → SplitsIt wired.now part.now node → ⊥ }
@@ -33,7 +29,7 @@ pub(crate) fn joins_classes(
                 if near as usize == node {
                     return wired.class(near as usize, place as usize) != class;
                 }
-                if !part.as_slice()[near as usize] {
+                if !part.has(near as usize) {
                     return false;
                 }
                 at = near as usize;

@@ -9,6 +9,7 @@ ghost use Rattle.in_simple.specs.Procedure.{IsFirst, IsRest, NoneSplits, SplitsI
 
 use crate::class_graphs::ClassGraph;
 use crate::components::neighbour;
+use crate::sets::NumberSet;
 use crate::trials::Trials;
 use crate::wired::Wired;
 use in_bridges::on_rings;
@@ -16,7 +17,7 @@ use sqlite_items::Items;
 use std::alloc::{AllocError, Global};
 
 /// Whether all ports of the node that lead into the part are of one class: then it splits the part, whatever the rest is like.
-fn touches_by_one_class(wired: &Wired, part: &Items<bool>, node: usize) -> bool
+fn touches_by_one_class(wired: &Wired, part: &NumberSet, node: usize) -> bool
     requires size { length part.now ≡ length wired.now.nodes }
     requires node { node < length wired.now.nodes }
     requires here { IsIn node (nodes_in part.now) }
@@ -39,7 +40,7 @@ fn touches_by_one_class(wired: &Wired, part: &Items<bool>, node: usize) -> bool
 /// Whether the node is in the part and splits it: each of its hub edges is a bridge.
 fn splits(
     wired: &Wired,
-    part: &Items<bool>,
+    part: &NumberSet,
     graph: &ClassGraph,
     rings: &Items<bool>,
     node: usize,
@@ -51,7 +52,7 @@ fn splits(
     requires rings { AreRings graph.now.edges (length graph.now.edges) rings.now }
     ensures { IsTrue result ↔ SplitsIt wired.now part.now node }
 {
-    if part.as_slice()[node] {
+    if part.has(node) {
         graph.is_off_rings(rings, node, wired.width(node))
     } else {
         false
@@ -61,7 +62,7 @@ fn splits(
 /// The first node that is off the rings of the part's class graph.
 fn first_off_rings(
     wired: &Wired,
-    part: &Items<bool>,
+    part: &NumberSet,
     graph: &ClassGraph,
     rings: &Items<bool>,
 ) -> Option<usize>
@@ -84,7 +85,7 @@ fn first_off_rings(
 fn first_in(
     alloc: Global,
     wired: &Wired,
-    part: &Items<bool>,
+    part: &NumberSet,
     graph: &ClassGraph,
 ) -> Result<Option<usize>, AllocError>
     requires size { length part.now ≡ length wired.now.nodes }
@@ -102,7 +103,7 @@ fn first_in(
 fn tried(
     alloc: Global,
     wired: &Wired,
-    part: &Items<bool>,
+    part: &NumberSet,
     node: usize,
     trials: &mut Trials,
 ) -> Result<Option<bool>, AllocError>
@@ -124,7 +125,7 @@ fn tried(
 fn first_by_trials(
     alloc: Global,
     wired: &Wired,
-    part: &Items<bool>,
+    part: &NumberSet,
     trials: &mut Trials,
 ) -> Result<Option<Option<usize>>, AllocError>
     requires size { length part.now ≡ length wired.now.nodes }
@@ -132,7 +133,7 @@ fn first_by_trials(
     ensures found { IfOk result (AreTried wired.now part.now) }
 {
     for node in 0..wired.nodes() {
-        if part.as_slice()[node] {
+        if part.has(node) {
             match tried(alloc, wired, part, node, trials)? {
                 Some(true) => return Ok(Some(Some(node))),
                 Some(false) => {}
@@ -147,7 +148,7 @@ fn first_by_trials(
 fn first_by_bridges(
     alloc: Global,
     wired: &Wired,
-    part: &Items<bool>,
+    part: &NumberSet,
 ) -> Result<Option<usize>, AllocError>
     requires size { length part.now ≡ length wired.now.nodes }
     ensures net { IfOk result (λ found. IsOrderly wired.now) }
@@ -161,7 +162,7 @@ fn first_by_bridges(
 pub(crate) fn first_splitting(
     alloc: Global,
     wired: &Wired,
-    part: &Items<bool>,
+    part: &NumberSet,
     trials: &mut Trials,
 ) -> Result<Option<usize>, AllocError>
     requires size { length part.now ≡ length wired.now.nodes }

@@ -7,7 +7,7 @@ ghost use Rattle.in_simple.specs.Tries.{IsTried};
 use crate::labels::{Labels, Mark, show_splitting};
 use crate::open_nets::Point;
 use crate::rings::joins_classes;
-use crate::sets::size;
+use crate::sets::NumberSet;
 use crate::wired::Wired;
 use sqlite_items::Items;
 use std::alloc::{AllocError, Global};
@@ -91,8 +91,8 @@ impl Trials {
     }
 
     /// As many ports may be looked at as the size of the part allows.
-    pub(crate) fn begin(&mut self, part: &Items<bool>) {
-        self.budget = size(part).saturating_mul(PORTS_FOR_A_NODE);
+    pub(crate) fn begin(&mut self, part: &NumberSet) {
+        self.budget = part.count().saturating_mul(PORTS_FOR_A_NODE);
     }
 
     /// So many ports are looked at, where that many still may be.
@@ -121,7 +121,7 @@ impl Trials {
     fn visit(
         &mut self,
         wired: &Wired,
-        part: &Items<bool>,
+        part: &NumberSet,
         node: usize,
         from: Option<usize>,
         at: usize,
@@ -143,7 +143,7 @@ impl Trials {
                             to: None,
                         }));
                     }
-                } else if part.as_slice()[near as usize] {
+                } else if part.has(near as usize) {
                     match self.labels.mark(near as usize) {
                         Some(mark) => {
                             if mark.class != class {
@@ -173,7 +173,7 @@ impl Trials {
     fn start(
         &mut self,
         wired: &Wired,
-        part: &Items<bool>,
+        part: &NumberSet,
         node: usize,
     ) -> Result<Option<Meeting>, AllocError>
         requires size { length part.now ≡ length wired.now.nodes }
@@ -192,7 +192,7 @@ impl Trials {
     fn spread(
         &mut self,
         wired: &Wired,
-        part: &Items<bool>,
+        part: &NumberSet,
         node: usize,
         place: usize,
         at: usize,
@@ -213,7 +213,7 @@ impl Trials {
     fn go_on(
         &mut self,
         wired: &Wired,
-        part: &Items<bool>,
+        part: &NumberSet,
         node: usize,
         place: usize,
     ) -> Result<Option<Answer>, AllocError>
@@ -240,7 +240,7 @@ impl Trials {
         &mut self,
         alloc: Global,
         wired: &Wired,
-        part: &Items<bool>,
+        part: &NumberSet,
         node: usize,
     ) -> Result<Answer, AllocError>
         requires size { length part.now ≡ length wired.now.nodes }
@@ -291,7 +291,7 @@ impl Trials {
     }
 
     /// Whether the ring that was kept of the node shows that it does not split the part.
-    pub(crate) fn is_ringed(&mut self, wired: &Wired, part: &Items<bool>, node: usize) -> bool
+    pub(crate) fn is_ringed(&mut self, wired: &Wired, part: &NumberSet, node: usize) -> bool
         requires size { length part.now ≡ length wired.now.nodes }
         requires node { node < length wired.now.nodes }
         ensures { IsTrue result → SplitsIt wired.now part.now node → ⊥ }
@@ -314,7 +314,7 @@ impl Trials {
         &mut self,
         alloc: Global,
         wired: &Wired,
-        part: &Items<bool>,
+        part: &NumberSet,
         node: usize,
     ) -> Result<Option<bool>, AllocError>
         requires size { length part.now ≡ length wired.now.nodes }
