@@ -11,6 +11,7 @@ ghost use Rattle.in_simple.specs.declared.plans.Task.TheVariants.{Make};
 
 use crate::components::component;
 use crate::open_nets::Point;
+use crate::parts::Part;
 use crate::sets::NumberSet;
 use crate::wired::Wired;
 use sqlite_items::Items;
@@ -61,7 +62,11 @@ impl Plan {
         requires near { IsIn near (nodes_in self.rest) }
         ensures { IfOk result (Derives wired.now near self) }
     {
-        let component = component(alloc, wired, &self.rest, near)?;
+        let part = Part {
+            wired,
+            nodes: &self.rest,
+        };
+        let component = component(alloc, &part, near)?;
         self.done.unite(&component);
         self.tasks.push(Task::Derive(component))?;
         Ok(self)

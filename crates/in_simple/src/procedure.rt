@@ -10,6 +10,7 @@ ghost use Rattle.in_simple.specs.declared.plans.Task.TheVariants.{Derive, Make};
 
 use crate::derivations::{Derivation, Step, StepNumbers, Stuck, Undone};
 use crate::open_nets::{OpenNet, Point};
+use crate::parts::Part;
 use crate::plans::{Joint, Task, tasks_of};
 use crate::sets::NumberSet;
 use crate::splitting::first_splitting;
@@ -209,7 +210,8 @@ fn take(
         (IsWork wired.now (reverse work.new.tasks) × AreFewer wired.now (Derive part.now ∷ reverse work.old.tasks) (reverse work.new.tasks) × IsUnderWay wired.now (reverse work.new.tasks) work.new.steps work.new.roots)
         (IsStuckNet wired.now)) }
 {
-    match first_splitting(alloc, wired, part, trials)? {
+    let whole = Part { wired, nodes: part };
+    match first_splitting(alloc, &whole, trials)? {
         Some(node) => {
             let tasks = tasks_of(alloc, wired, part, node)?;
             work.expand(tasks)?;
