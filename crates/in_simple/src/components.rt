@@ -28,11 +28,7 @@ pub(crate) fn neighbour(part: &Part, node: usize, port: usize) -> Option<u32>
 }
 
 /// Reaches a node, if it isn't yet.
-pub(crate) fn reach(
-    near: u32,
-    reached: &mut NumberSet,
-    pending: &mut Items<u32>,
-) -> Result<(), AllocError>
+fn reach(near: u32, reached: &mut NumberSet, pending: &mut Items<u32>) -> Result<(), AllocError>
     requires { near < length reached.old }
     ensures { OnOk result (Reaches near reached.old pending.old reached.new pending.new) }
 {
@@ -44,7 +40,7 @@ pub(crate) fn reach(
 }
 
 /// Reaches the neighbours of a node.
-pub(crate) fn spread(
+fn spread(
     part: &Part,
     node: usize,
     reached: &mut NumberSet,

@@ -196,30 +196,30 @@ fn begin(alloc: Global, open: &OpenNet) -> Result<Work, AllocError>
     Ok(work)
 }
 
-/// Takes the first node that splits the part out of it; or answers the part, where there is none.
+/// Takes the first node that splits the part of these nodes out of it; or answers the part, where there is none.
 fn take(
     alloc: Global,
     wired: &Wired,
     work: &mut Work,
     trials: &mut Trials,
-    part: &NumberSet,
+    nodes: &NumberSet,
 ) -> Result<Option<Stuck>, AllocError>
-    requires work { IsWork wired.now (Derive part.now ∷ reverse work.old.tasks) }
-    requires steps { IsUnderWay wired.now (Derive part.now ∷ reverse work.old.tasks) work.old.steps work.old.roots }
+    requires work { IsWork wired.now (Derive nodes.now ∷ reverse work.old.tasks) }
+    requires steps { IsUnderWay wired.now (Derive nodes.now ∷ reverse work.old.tasks) work.old.steps work.old.roots }
     ensures { IfOk result (λ found. MatchOption found
-        (IsWork wired.now (reverse work.new.tasks) × AreFewer wired.now (Derive part.now ∷ reverse work.old.tasks) (reverse work.new.tasks) × IsUnderWay wired.now (reverse work.new.tasks) work.new.steps work.new.roots)
+        (IsWork wired.now (reverse work.new.tasks) × AreFewer wired.now (Derive nodes.now ∷ reverse work.old.tasks) (reverse work.new.tasks) × IsUnderWay wired.now (reverse work.new.tasks) work.new.steps work.new.roots)
         (IsStuckNet wired.now)) }
 {
-    let whole = Part { wired, nodes: part };
-    match first_splitting(alloc, &whole, trials)? {
+    let part = Part { wired, nodes };
+    match first_splitting(alloc, &part, trials)? {
         Some(node) => {
-            let tasks = tasks_of(alloc, wired, part, node)?;
+            let tasks = tasks_of(alloc, wired, nodes, node)?;
             work.expand(tasks)?;
             Ok(None)
         }
         None => {
-            let nodes = part.members(alloc)?;
-            Ok(Some(Stuck { nodes }))
+            let members = nodes.members(alloc)?;
+            Ok(Some(Stuck { nodes: members }))
         }
     }
 }

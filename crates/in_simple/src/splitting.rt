@@ -1,9 +1,9 @@
-ghost use Rattle.std.specs.Prelude.{◌<◌, ◌↔◌, length, IfOk, IsTrue, MatchOption};
+ghost use Rattle.std.specs.Prelude.{◌<◌, ◌↔◌, length, IfOk, IsTrue};
 ghost use Rattle.in_bridges.specs.Rings.{AreRings};
 ghost use Rattle.in_simple.specs.ClassEdges.{IsGraphOf};
 ghost use Rattle.in_simple.specs.OpenNets.{IsOrderly};
-ghost use Rattle.in_simple.specs.Tries.{AreTried, IsTried};
-ghost use Rattle.in_simple.specs.Procedure.{IsFirst, NoneSplits, SplitsIt};
+ghost use Rattle.in_simple.specs.Tries.{AreTried, IsFirstIn, IsTried};
+ghost use Rattle.in_simple.specs.Procedure.{SplitsIt};
 
 use crate::class_graphs::ClassGraph;
 use crate::components::neighbour;
@@ -52,7 +52,7 @@ fn first_off_rings(part: &Part, graph: &ClassGraph, rings: &Items<bool>) -> Opti
     requires graph { IsGraphOf part.now.wired.now part.now.nodes.now graph.now }
     requires rings { AreRings graph.now.edges (length graph.now.edges) rings.now }
     ensures net { IsOrderly part.now.wired.now }
-    ensures found { MatchOption result (NoneSplits part.now.wired.now part.now.nodes.now (length part.now.wired.now.nodes)) (IsFirst part.now.wired.now part.now.nodes.now) }
+    ensures found { IsFirstIn part.now.wired.now part.now.nodes.now result }
 {
     for node in 0..part.wired.nodes() {
         if splits(part, graph, rings, node) {
@@ -66,7 +66,7 @@ fn first_off_rings(part: &Part, graph: &ClassGraph, rings: &Items<bool>) -> Opti
 fn first_in(alloc: Global, part: &Part, graph: &ClassGraph) -> Result<Option<usize>, AllocError>
     requires { IsGraphOf part.now.wired.now part.now.nodes.now graph.now }
     ensures net { IfOk result (λ found. IsOrderly part.now.wired.now) }
-    ensures found { IfOk result (λ found. MatchOption found (NoneSplits part.now.wired.now part.now.nodes.now (length part.now.wired.now.nodes)) (IsFirst part.now.wired.now part.now.nodes.now)) }
+    ensures found { IfOk result (IsFirstIn part.now.wired.now part.now.nodes.now) }
 {
     let rings = on_rings(alloc, graph.count, &graph.edges)?;
     Ok(first_off_rings(part, graph, &rings))
@@ -114,7 +114,7 @@ fn first_by_trials(
 /// The first node of the part that splits it, by the part's class graph.
 fn first_by_bridges(alloc: Global, part: &Part) -> Result<Option<usize>, AllocError>
     ensures net { IfOk result (λ found. IsOrderly part.now.wired.now) }
-    ensures found { IfOk result (λ found. MatchOption found (NoneSplits part.now.wired.now part.now.nodes.now (length part.now.wired.now.nodes)) (IsFirst part.now.wired.now part.now.nodes.now)) }
+    ensures found { IfOk result (IsFirstIn part.now.wired.now part.now.nodes.now) }
 {
     let graph = ClassGraph::of(alloc, part)?;
     first_in(alloc, part, &graph)
@@ -127,7 +127,7 @@ pub(crate) fn first_splitting(
     trials: &mut Trials,
 ) -> Result<Option<usize>, AllocError>
     ensures net { IfOk result (λ found. IsOrderly part.now.wired.now) }
-    ensures found { IfOk result (λ found. MatchOption found (NoneSplits part.now.wired.now part.now.nodes.now (length part.now.wired.now.nodes)) (IsFirst part.now.wired.now part.now.nodes.now)) }
+    ensures found { IfOk result (IsFirstIn part.now.wired.now part.now.nodes.now) }
 {
     trials.begin(part.nodes);
     match first_by_trials(alloc, part, trials)? {
