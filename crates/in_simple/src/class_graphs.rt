@@ -1,7 +1,7 @@
-ghost use Rattle.std.specs.Prelude.{◌≡◌, ◌+◌, ◌<◌, ◌≤◌, ◌^◌, ◌↔◌, length, slice_index_or, false, IfOk, OnOk, IsTrue, MatchOption, ℕ};
+ghost use Rattle.std.specs.Prelude.{◌≡◌, ◌+◌, ◌<◌, ◌^◌, ◌↔◌, length, slice_index_or, false, IfOk, OnOk, IsTrue, MatchOption, ℕ};
 ghost use Rattle.in_simple.specs.ClassEdges.{AddsHubEdges, AreHubEdges, HaveNumbers, IsEdgeOf, IsGraphOf, LeadsOutside, hub_edge_in, vertex_in};
-ghost use Rattle.in_simple.specs.ClassGraphs.{Class, width_of};
-ghost use Rattle.in_simple.specs.OpenNets.{IsOrderly, class_in};
+ghost use Rattle.in_simple.specs.ClassGraphs.{Class};
+ghost use Rattle.in_simple.specs.OpenNets.{class_in};
 ghost use Rattle.in_simple.specs.Stuck.{ports_of};
 
 use crate::open_nets::Point;

@@ -1,8 +1,7 @@
-ghost use Rattle.std.specs.Prelude.{◌≡◌, ◌<◌, ◌-◌, ◌^◌, ◌++◌, ◌∷◌, [], drop, length, map, reverse, true, IfOk, OnOk, MatchOption, MatchResult, ℕ};
-ghost use Rattle.in_simple.specs.OpenNets.{IsOrderly};
+ghost use Rattle.std.specs.Prelude.{◌≡◌, ◌<◌, ◌-◌, ◌++◌, ◌∷◌, [], drop, length, map, reverse, true, IfOk, OnOk, MatchOption, MatchResult};
 ghost use Rattle.in_simple.specs.Derivations.{IsDerivation};
-ghost use Rattle.in_simple.specs.Stuck.{IsListed, IsStuckNet, IsUndone};
-ghost use Rattle.in_simple.specs.Procedure.{AreFewer, AreMakes, IsWork, Passes, StartsWork, nodes_in};
+ghost use Rattle.in_simple.specs.Stuck.{IsStuckNet, IsUndone};
+ghost use Rattle.in_simple.specs.Procedure.{AreFewer, AreMakes, IsWork, Passes, StartsWork};
 ghost use Rattle.in_simple.specs.Outcomes.{IsOutcome};
 ghost use Rattle.in_simple.specs.Stacks.{Advances, AreLast, Ends, IsLast, IsUnderWay, Makes, loose_in};
 ghost use Rattle.in_simple.specs.TakenOrder.{AreTaken, links_from};
