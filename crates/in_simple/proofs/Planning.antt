@@ -1,6 +1,6 @@
 -- A plan lists the components that a node leaves, by their turns.
 use Rattle.std.proofs.Math.Bool.{or_comm}
-use Rattle.std.proofs.Common.{◌≡◌, ◌≢◌, ◌<◌, ◌≤◌, ◌+◌, ℕ, suc, Bool, false, cond, ◌||◌, nat_eq, Option, Some, None, IsSomeAnd, List, [], ◌∷◌, ◌++◌, length, slice_get, get_or, append_assoc, refl, sym, subst, ap, inl, inr, ◌∙◌, ne_eqb, arith}
+use Rattle.std.proofs.Common.{◌≡◌, ◌≢◌, ◌<◌, ◌≤◌, ◌+◌, ℕ, suc, Bool, false, cond, ◌||◌, nat_eq, Option, Some, None, IsSomeAnd, List, [], ◌∷◌, ◌++◌, length, slice_get, append_assoc, refl, sym, subst, ap, inl, inr, ◌∙◌, ne_eqb, arith}
 use Rattle.in_simple.specs.declared.open_nets.Node.{Node}
 use Rattle.in_simple.specs.declared.open_nets.Node.TheVariants.{AgentNode, ClassNode}
 use Rattle.in_simple.specs.declared.open_nets.OpenNode.{OpenNode}
@@ -370,6 +370,3 @@ module _ (o : OpenNet) (net : IsOpenNet o) (n : ℕ) where
 
   pub class_last : (old p : Plan) → IsClass o n → GoesOn o n (ports_of o n) old p → GoesOn o n (suc (ports_of o n)) old p
   class_last old p a h = (plan_skip (ports_of o n) p h.0 (class_none (nodes_in p.rest) a), h.1)
-
-pub read_bit : (xs ys : List Bool) (i : ℕ) (b : Bool) → xs ≡ ys → get_or xs i false ≡ b → nodes_in ys i ≡ b
-read_bit xs ys i b e h = ap (λ z. get_or z i false) (sym e) ∙ h

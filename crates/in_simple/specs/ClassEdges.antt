@@ -3,6 +3,7 @@ use Rattle.std.specs.Prelude.{◌≡◌, ◌⊎◌, ℕ, ◌+◌, ◌*◌, ◌<�
 use Rattle.in_simple.specs.declared.class_graphs.HubNumbers.{HubNumbers}
 use Rattle.in_simple.specs.declared.class_graphs.ClassGraph.{ClassGraph}
 use Rattle.in_simple.specs.declared.open_nets.Point.TheVariants.{Port}
+use Rattle.in_bridges.specs.Spans.{AreWithin}
 use Rattle.in_simple.specs.Constructions.{IsIn}
 use Rattle.in_simple.specs.OpenNets.{OpenNet, class_in, open_graph}
 use Rattle.in_simple.specs.Procedure.{nodes_in}
@@ -22,6 +23,12 @@ hub_edge_in hubs n c = (slice_index_or hubs n no_hub).edge + c
 
 abbrev pub IsClassGraphOf : OpenNet → List Bool → ClassGraph → Type 0
 IsClassGraphOf o part g = IsClassGraph (open_graph o) (HasClass o) (nodes_in part) (vertex_in g.hubs) (hub_edge_in g.hubs) g.edges
+
+-- .. whose edges are between its vertices, and where each node has a hub
+pub record IsGraphOf (o : OpenNet) (part : List Bool) (g : ClassGraph) : Type 0 where
+  pub graph : IsClassGraphOf o part g
+  pub within : AreWithin g.count g.edges
+  pub hubs : length g.hubs ≡ length o.nodes
 
 -- ---- what the code keeps true
 

@@ -52,7 +52,11 @@ abbrev pub IsTried : OpenNet → List Bool → ℕ → Option Bool → Type 0
 IsTried o part n None = Unit {0}
 IsTried o part n (Some b) = cond b (SplitsIt o part n) (SplitsIt o part n → ⊥)
 
--- the first node that splits the part, or that none does, where that is found
+-- this is the first node that splits the part, or none does
+abbrev pub IsFirstIn : OpenNet → List Bool → Option ℕ → Type 0
+IsFirstIn o part found = MatchOption found (NoneSplits o part (length o.nodes)) (IsFirst o part)
+
+-- .. where that is found
 abbrev pub AreTried : OpenNet → List Bool → Option (Option ℕ) → Type 0
 AreTried o part None = Unit {0}
-AreTried o part (Some found) = MatchOption found (NoneSplits o part (length o.nodes)) (IsFirst o part)
+AreTried o part (Some found) = IsFirstIn o part found

@@ -1,11 +1,11 @@
-ghost use Rattle.std.specs.Prelude.{◌≡◌, ◌+◌, ◌<◌, ◌≤◌, ◌^◌, ◌↔◌, length, slice_index_or, false, IfOk, OnOk, IsTrue, MatchOption, ℕ};
-ghost use Rattle.in_bridges.specs.Spans.{AreWithin};
-ghost use Rattle.in_simple.specs.ClassEdges.{AddsHubEdges, AreEdges, AreHubEdges, HaveNumbers, IsClassGraphOf, IsEdgeOf, LeadsOutside, hub_edge_in, vertex_in};
-ghost use Rattle.in_simple.specs.ClassGraphs.{Class, width_of};
-ghost use Rattle.in_simple.specs.OpenNets.{IsOrderly, class_in};
+ghost use Rattle.std.specs.Prelude.{◌≡◌, ◌+◌, ◌<◌, ◌^◌, ◌↔◌, length, slice_index_or, false, IfOk, OnOk, IsTrue, MatchOption, ℕ};
+ghost use Rattle.in_simple.specs.ClassEdges.{AddsHubEdges, AreHubEdges, HaveNumbers, IsEdgeOf, IsGraphOf, LeadsOutside, hub_edge_in, vertex_in};
+ghost use Rattle.in_simple.specs.ClassGraphs.{Class};
+ghost use Rattle.in_simple.specs.OpenNets.{class_in};
 ghost use Rattle.in_simple.specs.Stuck.{ports_of};
 
 use crate::open_nets::Point;
+use crate::parts::Part;
 use crate::wired::Wired;
 use sqlite_items::Items;
 use std::alloc::{AllocError, Global};
@@ -42,21 +42,20 @@ fn add_hub_edges(
 
 impl ClassGraph {
     /// The next node, with its hub edges where it is one of the part.
-    fn add_node(&mut self, wired: &Wired, part: &Items<bool>, node: usize) -> Result<(), AllocError>
-        requires size { length part.now ≡ length wired.now.nodes }
-        requires node { node < length wired.now.nodes }
-        requires numbers { HaveNumbers wired.now part.now node self.old.hubs self.old.count }
-        requires edges { AreHubEdges wired.now part.now node self.old.hubs self.old.edges }
-        ensures numbers { OnOk result (HaveNumbers wired.now part.now (node + 1) self.new.hubs self.new.count) }
-        ensures edges { OnOk result (AreHubEdges wired.now part.now (node + 1) self.new.hubs self.new.edges) }
+    fn add_node(&mut self, part: &Part, node: usize) -> Result<(), AllocError>
+        requires node { node < length part.now.wired.now.nodes }
+        requires numbers { HaveNumbers part.now.wired.now part.now.nodes.now node self.old.hubs self.old.count }
+        requires edges { AreHubEdges part.now.wired.now part.now.nodes.now node self.old.hubs self.old.edges }
+        ensures numbers { OnOk result (HaveNumbers part.now.wired.now part.now.nodes.now (node + 1) self.new.hubs self.new.count) }
+        ensures edges { OnOk result (AreHubEdges part.now.wired.now part.now.nodes.now (node + 1) self.new.hubs self.new.edges) }
     {
         let hub = self.count;
         self.hubs.push(HubNumbers {
             vertex: hub,
             edge: self.edges.len(),
         })?;
-        if part.as_slice()[node] {
-            let width = wired.width(node);
+        if part.nodes.has(node) {
+            let width = part.wired.width(node);
             add_hub_edges(hub, width, &mut self.edges)?;
             self.count = hub + 1 + width;
         }
@@ -64,18 +63,17 @@ impl ClassGraph {
     }
 
     /// The hubs and the hub edges of a part.
-    fn hubs(alloc: Global, wired: &Wired, part: &Items<bool>) -> Result<ClassGraph, AllocError>
-        requires { length part.now ≡ length wired.now.nodes }
-        ensures numbers { IfOk result (λ graph. HaveNumbers wired.now part.now (length wired.now.nodes) graph.hubs graph.count) }
-        ensures edges { IfOk result (λ graph. AreHubEdges wired.now part.now (length wired.now.nodes) graph.hubs graph.edges) }
+    fn hubs(alloc: Global, part: &Part) -> Result<ClassGraph, AllocError>
+        ensures numbers { IfOk result (λ graph. HaveNumbers part.now.wired.now part.now.nodes.now (length part.now.wired.now.nodes) graph.hubs graph.count) }
+        ensures edges { IfOk result (λ graph. AreHubEdges part.now.wired.now part.now.nodes.now (length part.now.wired.now.nodes) graph.hubs graph.edges) }
     {
         let mut graph = ClassGraph {
             hubs: Items::new(alloc),
             count: 0,
             edges: Items::new(alloc),
         };
-        for node in 0..wired.nodes() {
-            graph.add_node(wired, part, node)?;
+        for node in 0..part.wired.nodes() {
+            graph.add_node(part, node)?;
         }
         Ok(graph)
     }
@@ -92,18 +90,17 @@ impl ClassGraph {
     }
 
     /// The edge of a wire, if it is between two nodes of the part.
-    fn wire_edge(&self, wired: &Wired, part: &Items<bool>, wire: usize) -> Option<(usize, usize)>
-        requires size { length part.now ≡ length wired.now.nodes }
-        requires wire { wire < length wired.now.wires }
-        requires numbers { HaveNumbers wired.now part.now (length wired.now.nodes) self.now.hubs self.now.count }
-        ensures { MatchOption result (LeadsOutside wired.now part.now wire) (IsEdgeOf wired.now part.now self.now.hubs wire) }
+    fn wire_edge(&self, part: &Part, wire: usize) -> Option<(usize, usize)>
+        requires wire { wire < length part.now.wired.now.wires }
+        requires numbers { HaveNumbers part.now.wired.now part.now.nodes.now (length part.now.wired.now.nodes) self.now.hubs self.now.count }
+        ensures { MatchOption result (LeadsOutside part.now.wired.now part.now.nodes.now wire) (IsEdgeOf part.now.wired.now part.now.nodes.now self.now.hubs wire) }
     {
-        match wired.wire(wire) {
+        match part.wired.wire(wire) {
             (Point::Port(one, place), Point::Port(other, far)) => {
-                if part.as_slice()[one as usize] && part.as_slice()[other as usize] {
+                if part.nodes.has(one as usize) && part.nodes.has(other as usize) {
                     Some((
-                        self.class_vertex(wired, one as usize, place as usize),
-                        self.class_vertex(wired, other as usize, far as usize),
+                        self.class_vertex(part.wired, one as usize, place as usize),
+                        self.class_vertex(part.wired, other as usize, far as usize),
                     ))
                 } else {
                     None
@@ -113,35 +110,15 @@ impl ClassGraph {
         }
     }
 
-    /// The edge of one more wire, where it is between two nodes of the part.
-    fn add_wire(&mut self, wired: &Wired, part: &Items<bool>, wire: usize) -> Result<(), AllocError>
-        requires size { length part.now ≡ length wired.now.nodes }
-        requires wire { wire < length wired.now.wires }
-        requires numbers { HaveNumbers wired.now part.now (length wired.now.nodes) self.old.hubs self.old.count }
-        requires edges { AreEdges wired.now part.now wire self.old.hubs self.old.edges }
-        ensures numbers { OnOk result (HaveNumbers wired.now part.now (length wired.now.nodes) self.new.hubs self.new.count) }
-        ensures edges { OnOk result (AreEdges wired.now part.now (wire + 1) self.new.hubs self.new.edges) }
-    {
-        if let Some(edge) = self.wire_edge(wired, part, wire) {
-            self.edges.push(edge)?;
-        }
-        Ok(())
-    }
-
     /// The class graph of a part.
-    pub(crate) fn of(
-        alloc: Global,
-        wired: &Wired,
-        part: &Items<bool>,
-    ) -> Result<ClassGraph, AllocError>
-        requires { length part.now ≡ length wired.now.nodes }
-        ensures graph { IfOk result (IsClassGraphOf wired.now part.now) }
-        ensures within { IfOk result (λ graph. AreWithin graph.count graph.edges) }
-        ensures hubs { IfOk result (λ graph. length graph.hubs ≡ length wired.now.nodes) }
+    pub(crate) fn of(alloc: Global, part: &Part) -> Result<ClassGraph, AllocError>
+        ensures { IfOk result (IsGraphOf part.now.wired.now part.now.nodes.now) }
     {
-        let mut graph = ClassGraph::hubs(alloc, wired, part)?;
-        for wire in 0..wired.wires() {
-            graph.add_wire(wired, part, wire)?;
+        let mut graph = ClassGraph::hubs(alloc, part)?;
+        for wire in 0..part.wired.wires() {
+            if let Some(edge) = graph.wire_edge(part, wire) {
+                graph.edges.push(edge)?;
+            }
         }
         Ok(graph)
     }

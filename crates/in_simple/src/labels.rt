@@ -1,13 +1,12 @@
 ghost use Rattle.std.specs.Prelude.{◌≡◌, ◌<◌, length, IsTrue};
-ghost use Rattle.in_simple.specs.Constructions.{IsIn};
 ghost use Rattle.in_simple.specs.OpenNets.{IsOrderly};
-ghost use Rattle.in_simple.specs.Procedure.{SplitsIt, nodes_in};
+ghost use Rattle.in_simple.specs.Procedure.{SplitsIt};
 ghost use Rattle.in_simple.specs.Stuck.{ports_of};
 ghost use Rattle.in_simple.specs.Tries.{AreLabelled, LabelsSpread, LeadToLabels, LeadsToLabel, HasLabel, mark_in};
 
 use crate::components::neighbour;
 use crate::open_nets::Point;
-use crate::wired::Wired;
+use crate::parts::Candidate;
 use sqlite_items::Items;
 
 /// By which class of the node that was tried a node was reached, in which trial, and its place among those that were reached.
@@ -53,22 +52,14 @@ impl Labels {
     }
 }
 
-/// Whether what a node's ports lead to in the part, but for the node that is tried, has this label.
-fn is_spread(
-    wired: &Wired,
-    part: &Items<bool>,
-    node: usize,
-    labels: &Labels,
-    class: usize,
-    at: usize,
-) -> bool
-    requires size { length part.now ≡ length wired.now.nodes }
-    requires at { at < length wired.now.nodes }
-    ensures { IsTrue result → AreLabelled wired.now part.now node labels.now class at (ports_of wired.now at) }
+/// Whether what a node's ports lead to in the part, but for the candidate, has this label.
+fn is_spread(candidate: &Candidate, labels: &Labels, class: usize, at: usize) -> bool
+    requires { at < length candidate.now.part.wired.now.nodes }
+    ensures { IsTrue result → AreLabelled candidate.now.part.wired.now candidate.now.part.nodes.now candidate.now.node labels.now class at (ports_of candidate.now.part.wired.now at) }
 {
-    for port in 0..wired.ports(at) {
-        if let Some(near) = neighbour(wired, part, at, port) {
-            if near as usize != node && !labels.has(near as usize, class) {
+    for port in 0..candidate.part.wired.ports(at) {
+        if let Some(near) = neighbour(&candidate.part, at, port) {
+            if near as usize != candidate.node && !labels.has(near as usize, class) {
                 return false;
             }
         }
@@ -77,13 +68,12 @@ fn is_spread(
 }
 
 /// Whether each label is that of the neighbours too.
-fn are_spread(wired: &Wired, part: &Items<bool>, node: usize, labels: &Labels) -> bool
-    requires { length part.now ≡ length wired.now.nodes }
-    ensures { IsTrue result → LabelsSpread wired.now part.now node labels.now (length wired.now.nodes) }
+fn are_spread(candidate: &Candidate, labels: &Labels) -> bool
+    ensures { IsTrue result → LabelsSpread candidate.now.part.wired.now candidate.now.part.nodes.now candidate.now.node labels.now (length candidate.now.part.wired.now.nodes) }
 {
-    for at in 0..wired.nodes() {
+    for at in 0..candidate.part.wired.nodes() {
         if let Some(mark) = labels.mark(at) {
-            if !is_spread(wired, part, node, labels, mark.class, at) {
+            if !is_spread(candidate, labels, mark.class, at) {
                 return false;
             }
         }
@@ -91,25 +81,18 @@ fn are_spread(wired: &Wired, part: &Items<bool>, node: usize, labels: &Labels) -
     true
 }
 
-/// Whether a port of the node leads to itself by a port of its class, or to a node with its class as label, or out of the part.
-fn leads_to_label(
-    wired: &Wired,
-    part: &Items<bool>,
-    node: usize,
-    labels: &Labels,
-    port: usize,
-) -> bool
-    requires size { length part.now ≡ length wired.now.nodes }
-    requires node { node < length wired.now.nodes }
-    requires port { port < ports_of wired.now node }
-    ensures { IsTrue result → LeadsToLabel wired.now part.now node labels.now port }
+/// Whether a port of the candidate leads to itself by a port of its class, or to a node with its class as label, or out of the part.
+fn leads_to_label(candidate: &Candidate, labels: &Labels, port: usize) -> bool
+    requires { port < ports_of candidate.now.part.wired.now candidate.now.node }
+    ensures { IsTrue result → LeadsToLabel candidate.now.part.wired.now candidate.now.part.nodes.now candidate.now.node labels.now port }
 {
-    let class = wired.class(node, port);
-    match wired.partner(node, port) {
+    let wired = candidate.part.wired;
+    let class = wired.class(candidate.node, port);
+    match wired.partner(candidate.node, port) {
         (_, Point::Port(near, place)) => {
-            if near as usize == node {
+            if near as usize == candidate.node {
                 wired.class(near as usize, place as usize) == class
-            } else if part.as_slice()[near as usize] {
+            } else if candidate.part.nodes.has(near as usize) {
                 labels.has(near as usize, class)
             } else {
                 true
@@ -119,33 +102,23 @@ fn leads_to_label(
     }
 }
 
-/// Whether each port of the node leads to its class.
-fn lead_to_labels(wired: &Wired, part: &Items<bool>, node: usize, labels: &Labels) -> bool
-    requires size { length part.now ≡ length wired.now.nodes }
-    requires node { node < length wired.now.nodes }
-    ensures leads { IsTrue result → LeadToLabels wired.now part.now node labels.now (ports_of wired.now node) }
-    ensures net { IsOrderly wired.now }
+/// Whether each port of the candidate leads to its class.
+fn lead_to_labels(candidate: &Candidate, labels: &Labels) -> bool
+    ensures leads { IsTrue result → LeadToLabels candidate.now.part.wired.now candidate.now.part.nodes.now candidate.now.node labels.now (ports_of candidate.now.part.wired.now candidate.now.node) }
+    ensures net { IsOrderly candidate.now.part.wired.now }
 {
-    for port in 0..wired.ports(node) {
-        if !leads_to_label(wired, part, node, labels, port) {
+    for port in 0..candidate.part.wired.ports(candidate.node) {
+        if !leads_to_label(candidate, labels, port) {
             return false;
         }
     }
     true
 }
 
-/// Whether the labels show that the node splits the part: none is beside another one, and the node's ports lead to their own.
-pub(crate) fn show_splitting(
-    wired: &Wired,
-    part: &Items<bool>,
-    node: usize,
-    labels: &Labels,
-) -> bool
-    requires size { length part.now ≡ length wired.now.nodes }
-    requires node { node < length wired.now.nodes }
-    requires here { IsIn node (nodes_in part.now) }
-    ensures { IsTrue result → SplitsIt wired.now part.now node }
+/// Whether the labels show that the candidate splits the part: none is beside another one, and its ports lead to their own.
+pub(crate) fn show_splitting(candidate: &Candidate, labels: &Labels) -> bool
+    ensures { IsTrue result → SplitsIt candidate.now.part.wired.now candidate.now.part.nodes.now candidate.now.node }
 {
-    let leads = lead_to_labels(wired, part, node, labels);
-    leads && are_spread(wired, part, node, labels)
+    let leads = lead_to_labels(candidate, labels);
+    leads && are_spread(candidate, labels)
 }

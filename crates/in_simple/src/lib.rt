@@ -9,6 +9,7 @@ pub mod laws;
 mod open_nets;
 mod opening;
 mod opening_rules;
+mod parts;
 mod plans;
 mod procedure;
 mod rings;

@@ -11,7 +11,8 @@ ghost use Rattle.in_simple.specs.declared.plans.Task.TheVariants.{Make};
 
 use crate::components::component;
 use crate::open_nets::Point;
-use crate::sets::{none, unite, without};
+use crate::parts::Part;
+use crate::sets::NumberSet;
 use crate::wired::Wired;
 use sqlite_items::Items;
 use std::alloc::{AllocError, Global};
@@ -32,7 +33,7 @@ pub(crate) enum Joint {
 /// What remains to be done: a part that is to be derived, or a step.
 #[derive(Drop)]
 pub(crate) enum Task {
-    Derive(Items<bool>),
+    Derive(NumberSet),
     Make(Joint),
 }
 
@@ -40,8 +41,8 @@ pub(crate) enum Task {
 #[derive(Drop)]
 pub(crate) struct Plan {
     pub(crate) tasks: Items<Task>,
-    pub(crate) rest: Items<bool>,
-    pub(crate) done: Items<bool>,
+    pub(crate) rest: NumberSet,
+    pub(crate) done: NumberSet,
 }
 
 impl Plan {
@@ -61,8 +62,12 @@ impl Plan {
         requires near { IsIn near (nodes_in self.rest) }
         ensures { IfOk result (Derives wired.now near self) }
     {
-        let component = component(alloc, wired, &self.rest, near)?;
-        unite(&component, &mut self.done);
+        let part = Part {
+            wired,
+            nodes: &self.rest,
+        };
+        let component = component(alloc, &part, near)?;
+        self.done.unite(&component);
         self.tasks.push(Task::Derive(component))?;
         Ok(self)
     }
@@ -87,8 +92,8 @@ impl Plan {
     {
         match wired.partner(node, port) {
             (wire, Point::Port(near, place)) => {
-                if self.rest.as_slice()[near as usize] {
-                    if self.done.as_slice()[near as usize] {
+                if self.rest.has(near as usize) {
+                    if self.done.has(near as usize) {
                         Ok((self, false))
                     } else {
                         Ok((self.derive(alloc, wired, near)?, true))
@@ -123,8 +128,8 @@ impl Plan {
     {
         match wired.partner(node, port) {
             (wire, Point::Port(near, _)) => {
-                if self.rest.as_slice()[near as usize] {
-                    if self.done.as_slice()[near as usize] {
+                if self.rest.has(near as usize) {
+                    if self.done.has(near as usize) {
                         Ok(self)
                     } else {
                         self.derive(alloc, wired, near)?.make(Joint::Cut(wire))
@@ -302,8 +307,8 @@ impl Plan {
         ensures net { IfOk result (PutsNet wired.now node) }
         ensures takes { IfOk result (Takes wired.now node (suc (suc (ports_of wired.now node) + near)) []) }
     {
-        if self.rest.as_slice()[near as usize] {
-            if self.done.as_slice()[near as usize] {
+        if self.rest.has(near as usize) {
+            if self.done.has(near as usize) {
                 Ok(self)
             } else {
                 self.derive(alloc, wired, near)?.make(Joint::Mix)
@@ -345,7 +350,7 @@ fn skip(plan: Plan, classes: usize) -> Result<Plan, AllocError>
 }
 
 /// A plan with no task yet.
-fn begin(alloc: Global, wired: &Wired, part: &Items<bool>, node: usize) -> Result<Plan, AllocError>
+fn begin(alloc: Global, wired: &Wired, part: &NumberSet, node: usize) -> Result<Plan, AllocError>
     requires size { length part.now ≡ length wired.now.nodes }
     requires node { node < length wired.now.nodes }
     requires splits { SplitsAt (open_graph wired.now) node (nodes_in part.now) }
@@ -354,8 +359,8 @@ fn begin(alloc: Global, wired: &Wired, part: &Items<bool>, node: usize) -> Resul
     ensures rest { IfOk result (λ plan. IsRest node part.now plan.rest) }
     ensures net { IfOk result (λ plan. IsOrderly wired.now) }
 {
-    let rest = without(alloc, part, node)?;
-    let done = none(alloc, wired.nodes())?;
+    let rest = part.without(alloc, node)?;
+    let done = NumberSet::none(alloc, wired.nodes())?;
     Ok(Plan {
         tasks: Items::new(alloc),
         rest,
@@ -383,7 +388,7 @@ fn touched(plan: Plan, alloc: Global, wired: &Wired, node: usize) -> Result<Plan
 pub(crate) fn tasks_of(
     alloc: Global,
     wired: &Wired,
-    part: &Items<bool>,
+    part: &NumberSet,
     node: usize,
 ) -> Result<Items<Task>, AllocError>
     requires size { length part.now ≡ length wired.now.nodes }

@@ -1,8 +1,7 @@
-ghost use Rattle.std.specs.Prelude.{◌≡◌, ◌<◌, ◌-◌, ◌^◌, ◌++◌, ◌∷◌, [], drop, length, map, reverse, true, IfOk, OnOk, MatchOption, MatchResult, ℕ};
-ghost use Rattle.in_simple.specs.OpenNets.{IsOrderly};
+ghost use Rattle.std.specs.Prelude.{◌≡◌, ◌<◌, ◌-◌, ◌++◌, ◌∷◌, [], drop, length, map, reverse, true, IfOk, OnOk, MatchOption, MatchResult};
 ghost use Rattle.in_simple.specs.Derivations.{IsDerivation};
-ghost use Rattle.in_simple.specs.Stuck.{IsListed, IsStuckNet, IsUndone};
-ghost use Rattle.in_simple.specs.Procedure.{AreFewer, AreMakes, IsWork, Passes, StartsWork, nodes_in};
+ghost use Rattle.in_simple.specs.Stuck.{IsStuckNet, IsUndone};
+ghost use Rattle.in_simple.specs.Procedure.{AreFewer, AreMakes, IsWork, Passes, StartsWork};
 ghost use Rattle.in_simple.specs.Outcomes.{IsOutcome};
 ghost use Rattle.in_simple.specs.Stacks.{Advances, AreLast, Ends, IsLast, IsUnderWay, Makes, loose_in};
 ghost use Rattle.in_simple.specs.TakenOrder.{AreTaken, links_from};
@@ -10,8 +9,9 @@ ghost use Rattle.in_simple.specs.declared.plans.Task.TheVariants.{Derive, Make};
 
 use crate::derivations::{Derivation, Step, StepNumbers, Stuck, Undone};
 use crate::open_nets::{OpenNet, Point};
+use crate::parts::Part;
 use crate::plans::{Joint, Task, tasks_of};
-use crate::sets::all;
+use crate::sets::NumberSet;
 use crate::splitting::first_splitting;
 use crate::trials::Trials;
 use crate::wired::Wired;
@@ -115,7 +115,7 @@ impl Work {
     }
 
     /// Makes steps until a part is to be derived.
-    fn next_part(&mut self, alloc: Global) -> Result<Option<Items<bool>>, AllocError>
+    fn next_part(&mut self, alloc: Global) -> Result<Option<NumberSet>, AllocError>
         ensures tasks { IfOk result (λ next. MatchOption next
             (Passes (reverse self.old.tasks) [])
             (λ part. Passes (reverse self.old.tasks) (Derive part ∷ reverse self.new.tasks))) }
@@ -172,26 +172,12 @@ fn start(alloc: Global, open: &OpenNet) -> Result<Items<Task>, AllocError>
     let count = open.nodes() as usize;
     if count > 0 {
         let mut tasks = Items::new(alloc);
-        tasks.push(Task::Derive(all(alloc, count)?))?;
+        tasks.push(Task::Derive(NumberSet::all(alloc, count)?))?;
         tasks.append(loose(alloc, open, true)?)?;
         Ok(tasks)
     } else {
         loose(alloc, open, false)
     }
-}
-
-/// The nodes of a part, by number.
-fn stuck(alloc: Global, part: &Items<bool>) -> Result<Stuck, AllocError>
-    requires { length part.now < 2 ^ 32 }
-    ensures { IfOk result (λ stuck. IsListed (nodes_in part.now) stuck.nodes) }
-{
-    let mut nodes = Items::new(alloc);
-    for node in 0..part.len() {
-        if part.as_slice()[node] {
-            nodes.push(node as u32)?;
-        }
-    }
-    Ok(Stuck { nodes })
 }
 
 /// The tasks of the whole open net, and no step yet.
@@ -209,29 +195,30 @@ fn begin(alloc: Global, open: &OpenNet) -> Result<Work, AllocError>
     Ok(work)
 }
 
-/// Takes the first node that splits the part out of it; or answers the part, where there is none.
+/// Takes the first node that splits the part of these nodes out of it; or answers the part, where there is none.
 fn take(
     alloc: Global,
     wired: &Wired,
     work: &mut Work,
     trials: &mut Trials,
-    part: &Items<bool>,
+    nodes: &NumberSet,
 ) -> Result<Option<Stuck>, AllocError>
-    requires work { IsWork wired.now (Derive part.now ∷ reverse work.old.tasks) }
-    requires steps { IsUnderWay wired.now (Derive part.now ∷ reverse work.old.tasks) work.old.steps work.old.roots }
+    requires work { IsWork wired.now (Derive nodes.now ∷ reverse work.old.tasks) }
+    requires steps { IsUnderWay wired.now (Derive nodes.now ∷ reverse work.old.tasks) work.old.steps work.old.roots }
     ensures { IfOk result (λ found. MatchOption found
-        (IsWork wired.now (reverse work.new.tasks) × AreFewer wired.now (Derive part.now ∷ reverse work.old.tasks) (reverse work.new.tasks) × IsUnderWay wired.now (reverse work.new.tasks) work.new.steps work.new.roots)
+        (IsWork wired.now (reverse work.new.tasks) × AreFewer wired.now (Derive nodes.now ∷ reverse work.old.tasks) (reverse work.new.tasks) × IsUnderWay wired.now (reverse work.new.tasks) work.new.steps work.new.roots)
         (IsStuckNet wired.now)) }
 {
-    match first_splitting(alloc, wired, part, trials)? {
+    let part = Part { wired, nodes };
+    match first_splitting(alloc, &part, trials)? {
         Some(node) => {
-            let tasks = tasks_of(alloc, wired, part, node)?;
+            let tasks = tasks_of(alloc, wired, nodes, node)?;
             work.expand(tasks)?;
             Ok(None)
         }
         None => {
-            let stuck = stuck(alloc, part)?;
-            Ok(Some(stuck))
+            let members = nodes.members(alloc)?;
+            Ok(Some(Stuck { nodes: members }))
         }
     }
 }

@@ -1,69 +1,149 @@
-//! Sets of nodes, or of wires: a test for each.
-ghost use Rattle.std.specs.Prelude.{◌≡◌, ◌<◌, length, false, true, IfOk, ℕ};
-ghost use Rattle.in_simple.specs.Checking.{IsUnion};
+//! Sets of numbers below a count, as of the nodes or of the wires of an open net.
+ghost use Rattle.std.specs.Prelude.{◌≡◌, ◌<◌, ◌↔◌, ◌^◌, length, slice_set, IfOk, IsTrue, false, true, ℕ};
+ghost use Rattle.in_simple.specs.Checking.{AreAll, IsUnion, Shares};
 ghost use Rattle.in_simple.specs.Procedure.{IsRest, nodes_in};
+ghost use Rattle.in_simple.specs.Stuck.{IsListed};
 
 use sqlite_items::Items;
 use std::alloc::{AllocError, Global};
+use std::marker::Model;
 
-/// No node.
-pub(crate) fn none(alloc: Global, count: usize) -> Result<Items<bool>, AllocError>
-    ensures count { IfOk result (λ nodes. length nodes ≡ count) }
-    ensures none { IfOk result (λ nodes. (n : ℕ) → nodes_in nodes n ≡ false) }
-{
-    let mut nodes = Vec::new(alloc);
-    nodes.resize(count, false)?;
-    Ok(Items::from_vec(nodes))
+/// A set of numbers: a test for each below the count.
+#[derive(Drop)]
+pub(crate) struct NumberSet {
+    tests: Items<bool>,
 }
 
-/// All nodes.
-pub(crate) fn all(alloc: Global, count: usize) -> Result<Items<bool>, AllocError>
-    ensures size { IfOk result (λ nodes. length nodes ≡ count) }
-    ensures all { IfOk result (λ nodes. (n : ℕ) → n < count → nodes_in nodes n ≡ true) }
-{
-    let mut nodes = Items::new(alloc);
-    for node in 0..count {
-        nodes.push(true)?;
+// Contracts see the tests.
+impl Model for NumberSet {
+    ghost use Rattle.std.specs.Prelude.{Bool, List};
+
+    ghost Value = { List Bool };
+
+    ghost view = { λ s. s.tests };
+}
+
+impl NumberSet {
+    /// None of so many.
+    pub(crate) fn none(alloc: Global, count: usize) -> Result<NumberSet, AllocError>
+        ensures count { IfOk result (λ set. length set ≡ count) }
+        ensures none { IfOk result (λ set. (n : ℕ) → nodes_in set n ≡ false) }
+    {
+        let mut tests = Vec::new(alloc);
+        tests.resize(count, false)?;
+        Ok(NumberSet {
+            tests: Items::from_vec(tests),
+        })
     }
-    Ok(nodes)
-}
 
-/// These nodes but one.
-pub(crate) fn without(
-    alloc: Global,
-    part: &Items<bool>,
-    node: usize,
-) -> Result<Items<bool>, AllocError>
-    requires { node < length part.now }
-    ensures size { IfOk result (λ rest. length rest ≡ length part.now) }
-    ensures rest { IfOk result (IsRest node part.now) }
-    ensures out { IfOk result (λ rest. nodes_in rest node ≡ false) }
-{
-    let mut rest = Items::from_slice(alloc, part.as_slice())?;
-    rest.set(node, false);
-    Ok(rest)
-}
+    /// All of so many.
+    pub(crate) fn all(alloc: Global, count: usize) -> Result<NumberSet, AllocError>
+        ensures size { IfOk result (λ set. length set ≡ count) }
+        ensures all { IfOk result (λ set. (n : ℕ) → n < count → nodes_in set n ≡ true) }
+    {
+        let mut tests = Items::new(alloc);
+        for number in 0..count {
+            tests.push(true)?;
+        }
+        Ok(NumberSet { tests })
+    }
 
-/// Adds to one set the members of another of the same size.
-pub(crate) fn unite(more: &Items<bool>, set: &mut Items<bool>)
-    requires { length more.now ≡ length set.old }
-    ensures size { length set.new ≡ length set.old }
-    ensures union { IsUnion more.now set.old set.new }
-{
-    for member in 0..more.len() {
-        if more.as_slice()[member] {
-            set.set(member, true);
+    /// How many tests there are.
+    pub(crate) fn len(&self) -> usize
+        ensures { result ≡ length self.now }
+    {
+        self.tests.len()
+    }
+
+    /// Whether the number is a member; one past the tests is none.
+    pub(crate) fn has(&self, number: usize) -> bool
+        ensures { result ≡ nodes_in self.now number }
+    {
+        match self.tests.get(number) {
+            Some(test) => *test,
+            None => false,
         }
     }
-}
 
-/// How many nodes the part has.
-pub(crate) fn size(part: &Items<bool>) -> usize {
-    let mut count = 0usize;
-    for node in 0..part.len() {
-        if part.as_slice()[node] {
-            count = count.wrapping_add(1);
+    /// How many members there are.
+    pub(crate) fn count(&self) -> usize {
+        let mut count = 0usize;
+        for number in 0..self.len() {
+            if self.has(number) {
+                count = count.wrapping_add(1);
+            }
+        }
+        count
+    }
+
+    /// The members in rising order.
+    pub(crate) fn members(&self, alloc: Global) -> Result<Items<u32>, AllocError>
+        requires { length self.now < 2 ^ 32 }
+        ensures { IfOk result (IsListed (nodes_in self.now)) }
+    {
+        let mut members = Items::new(alloc);
+        for number in 0..self.len() {
+            if self.has(number) {
+                members.push(number as u32)?;
+            }
+        }
+        Ok(members)
+    }
+
+    /// Whether all are members.
+    pub(crate) fn is_all(&self) -> bool
+        ensures { IsTrue result ↔ AreAll self.now (length self.now) }
+    {
+        for number in 0..self.len() {
+            if !self.has(number) {
+                return false;
+            }
+        }
+        true
+    }
+
+    /// Whether two sets share a member.
+    pub(crate) fn shares(&self, other: &NumberSet) -> bool
+        ensures { IsTrue result ↔ Shares self.now other.now }
+    {
+        for number in 0..self.len() {
+            if self.has(number) && other.has(number) {
+                return true;
+            }
+        }
+        false
+    }
+
+    /// Makes the number a member.
+    pub(crate) fn insert(&mut self, number: usize)
+        requires { number < length self.old }
+        ensures { self.new ≡ slice_set self.old number true }
+    {
+        self.tests.set(number, true);
+    }
+
+    /// Makes the members of another set of the same size members too.
+    pub(crate) fn unite(&mut self, more: &NumberSet)
+        requires { length more.now ≡ length self.old }
+        ensures size { length self.new ≡ length self.old }
+        ensures union { IsUnion more.now self.old self.new }
+    {
+        for number in 0..more.len() {
+            if more.has(number) {
+                self.insert(number);
+            }
         }
     }
-    count
+
+    /// These but one.
+    pub(crate) fn without(&self, alloc: Global, number: usize) -> Result<NumberSet, AllocError>
+        requires { number < length self.now }
+        ensures size { IfOk result (λ rest. length rest ≡ length self.now) }
+        ensures rest { IfOk result (IsRest number self.now) }
+        ensures out { IfOk result (λ rest. nodes_in rest number ≡ false) }
+    {
+        let mut tests = Items::from_slice(alloc, self.tests.as_slice())?;
+        tests.set(number, false);
+        Ok(NumberSet { tests })
+    }
 }

@@ -1,31 +1,28 @@
-ghost use Rattle.std.specs.Prelude.{◌≡◌, ◌<◌, ◌↔◌, length, false, IfOk, IsTrue, MatchOption};
+ghost use Rattle.std.specs.Prelude.{◌<◌, ◌↔◌, length, IfOk, IsTrue};
 ghost use Rattle.in_bridges.specs.Rings.{AreRings};
-ghost use Rattle.in_bridges.specs.Spans.{AreWithin};
-ghost use Rattle.in_simple.specs.ClassEdges.{IsClassGraphOf};
-ghost use Rattle.in_simple.specs.Constructions.{IsIn};
+ghost use Rattle.in_simple.specs.ClassEdges.{IsGraphOf};
 ghost use Rattle.in_simple.specs.OpenNets.{IsOrderly};
-ghost use Rattle.in_simple.specs.Tries.{AreTried, IsTried};
-ghost use Rattle.in_simple.specs.Procedure.{IsFirst, IsRest, NoneSplits, SplitsIt, nodes_in};
+ghost use Rattle.in_simple.specs.Tries.{AreTried, IsFirstIn, IsTried};
+ghost use Rattle.in_simple.specs.Procedure.{SplitsIt};
 
 use crate::class_graphs::ClassGraph;
 use crate::components::neighbour;
+use crate::parts::{Candidate, Part};
 use crate::trials::Trials;
-use crate::wired::Wired;
 use in_bridges::on_rings;
 use sqlite_items::Items;
 use std::alloc::{AllocError, Global};
 
-/// Whether all ports of the node that lead into the part are of one class: then it splits the part, whatever the rest is like.
-fn touches_by_one_class(wired: &Wired, part: &Items<bool>, node: usize) -> bool
-    requires size { length part.now ≡ length wired.now.nodes }
-    requires node { node < length wired.now.nodes }
-    requires here { IsIn node (nodes_in part.now) }
-    ensures splits { IsTrue result → SplitsIt wired.now part.now node }
-    ensures net { IsOrderly wired.now }
+/// Whether all ports of the candidate that lead into the part are of one class: then it splits the part, whatever the rest is like.
+fn touches_by_one_class(candidate: &Candidate) -> bool
+    ensures splits { IsTrue result → SplitsIt candidate.now.part.wired.now candidate.now.part.nodes.now candidate.now.node }
+    ensures net { IsOrderly candidate.now.part.wired.now }
 {
+    let wired = candidate.part.wired;
+    let node = candidate.node;
     let mut met: Option<usize> = None;
     for port in 0..wired.ports(node) {
-        if neighbour(wired, part, node, port).is_some() {
+        if neighbour(&candidate.part, node, port).is_some() {
             let class = wired.class(node, port);
             if met.unwrap_or(class) != class {
                 return false;
@@ -37,43 +34,28 @@ fn touches_by_one_class(wired: &Wired, part: &Items<bool>, node: usize) -> bool
 }
 
 /// Whether the node is in the part and splits it: each of its hub edges is a bridge.
-fn splits(
-    wired: &Wired,
-    part: &Items<bool>,
-    graph: &ClassGraph,
-    rings: &Items<bool>,
-    node: usize,
-) -> bool
-    requires size { length part.now ≡ length wired.now.nodes }
-    requires node { node < length wired.now.nodes }
-    requires graph { IsClassGraphOf wired.now part.now graph.now }
-    requires hubs { length graph.now.hubs ≡ length wired.now.nodes }
+fn splits(part: &Part, graph: &ClassGraph, rings: &Items<bool>, node: usize) -> bool
+    requires node { node < length part.now.wired.now.nodes }
+    requires graph { IsGraphOf part.now.wired.now part.now.nodes.now graph.now }
     requires rings { AreRings graph.now.edges (length graph.now.edges) rings.now }
-    ensures { IsTrue result ↔ SplitsIt wired.now part.now node }
+    ensures { IsTrue result ↔ SplitsIt part.now.wired.now part.now.nodes.now node }
 {
-    if part.as_slice()[node] {
-        graph.is_off_rings(rings, node, wired.width(node))
+    if part.nodes.has(node) {
+        graph.is_off_rings(rings, node, part.wired.width(node))
     } else {
         false
     }
 }
 
 /// The first node that is off the rings of the part's class graph.
-fn first_off_rings(
-    wired: &Wired,
-    part: &Items<bool>,
-    graph: &ClassGraph,
-    rings: &Items<bool>,
-) -> Option<usize>
-    requires size { length part.now ≡ length wired.now.nodes }
-    requires graph { IsClassGraphOf wired.now part.now graph.now }
-    requires hubs { length graph.now.hubs ≡ length wired.now.nodes }
+fn first_off_rings(part: &Part, graph: &ClassGraph, rings: &Items<bool>) -> Option<usize>
+    requires graph { IsGraphOf part.now.wired.now part.now.nodes.now graph.now }
     requires rings { AreRings graph.now.edges (length graph.now.edges) rings.now }
-    ensures net { IsOrderly wired.now }
-    ensures found { MatchOption result (NoneSplits wired.now part.now (length wired.now.nodes)) (IsFirst wired.now part.now) }
+    ensures net { IsOrderly part.now.wired.now }
+    ensures found { IsFirstIn part.now.wired.now part.now.nodes.now result }
 {
-    for node in 0..wired.nodes() {
-        if splits(wired, part, graph, rings, node) {
+    for node in 0..part.wired.nodes() {
+        if splits(part, graph, rings, node) {
             return Some(node);
         }
     }
@@ -81,59 +63,45 @@ fn first_off_rings(
 }
 
 /// The first node of the part that splits it, by the part's class graph.
-fn first_in(
-    alloc: Global,
-    wired: &Wired,
-    part: &Items<bool>,
-    graph: &ClassGraph,
-) -> Result<Option<usize>, AllocError>
-    requires size { length part.now ≡ length wired.now.nodes }
-    requires graph { IsClassGraphOf wired.now part.now graph.now }
-    requires within { AreWithin graph.now.count graph.now.edges }
-    requires hubs { length graph.now.hubs ≡ length wired.now.nodes }
-    ensures net { IfOk result (λ found. IsOrderly wired.now) }
-    ensures found { IfOk result (λ found. MatchOption found (NoneSplits wired.now part.now (length wired.now.nodes)) (IsFirst wired.now part.now)) }
+fn first_in(alloc: Global, part: &Part, graph: &ClassGraph) -> Result<Option<usize>, AllocError>
+    requires { IsGraphOf part.now.wired.now part.now.nodes.now graph.now }
+    ensures net { IfOk result (λ found. IsOrderly part.now.wired.now) }
+    ensures found { IfOk result (IsFirstIn part.now.wired.now part.now.nodes.now) }
 {
     let rings = on_rings(alloc, graph.count, &graph.edges)?;
-    Ok(first_off_rings(wired, part, graph, &rings))
+    Ok(first_off_rings(part, graph, &rings))
 }
 
-/// Whether the node splits the part, by the ring through it that was found before, or by its own ports, or by a search from it.
+/// Whether the candidate splits the part, by the ring through it that was found before, or by its own ports, or by a search from it.
 fn tried(
     alloc: Global,
-    wired: &Wired,
-    part: &Items<bool>,
-    node: usize,
+    candidate: &Candidate,
     trials: &mut Trials,
 ) -> Result<Option<bool>, AllocError>
-    requires size { length part.now ≡ length wired.now.nodes }
-    requires node { node < length wired.now.nodes }
-    requires here { IsIn node (nodes_in part.now) }
-    ensures { IfOk result (IsTried wired.now part.now node) }
+    ensures { IfOk result (IsTried candidate.now.part.wired.now candidate.now.part.nodes.now candidate.now.node) }
 {
-    if trials.is_ringed(wired, part, node) {
+    if trials.is_ringed(candidate) {
         Ok(Some(false))
-    } else if touches_by_one_class(wired, part, node) {
+    } else if touches_by_one_class(candidate) {
         Ok(Some(true))
     } else {
-        trials.find(alloc, wired, part, node)
+        trials.find(alloc, candidate)
     }
 }
 
 /// The first node of the part that splits it, by trying one after another, where that tells.
 fn first_by_trials(
     alloc: Global,
-    wired: &Wired,
-    part: &Items<bool>,
+    part: &Part,
     trials: &mut Trials,
 ) -> Result<Option<Option<usize>>, AllocError>
-    requires size { length part.now ≡ length wired.now.nodes }
-    ensures net { IfOk result (λ found. IsOrderly wired.now) }
-    ensures found { IfOk result (AreTried wired.now part.now) }
+    ensures net { IfOk result (λ found. IsOrderly part.now.wired.now) }
+    ensures found { IfOk result (AreTried part.now.wired.now part.now.nodes.now) }
 {
-    for node in 0..wired.nodes() {
-        if part.as_slice()[node] {
-            match tried(alloc, wired, part, node, trials)? {
+    for node in 0..part.wired.nodes() {
+        if part.nodes.has(node) {
+            let candidate = Candidate { part: *part, node };
+            match tried(alloc, &candidate, trials)? {
                 Some(true) => return Ok(Some(Some(node))),
                 Some(false) => {}
                 None => return Ok(None),
@@ -144,33 +112,26 @@ fn first_by_trials(
 }
 
 /// The first node of the part that splits it, by the part's class graph.
-fn first_by_bridges(
-    alloc: Global,
-    wired: &Wired,
-    part: &Items<bool>,
-) -> Result<Option<usize>, AllocError>
-    requires size { length part.now ≡ length wired.now.nodes }
-    ensures net { IfOk result (λ found. IsOrderly wired.now) }
-    ensures found { IfOk result (λ found. MatchOption found (NoneSplits wired.now part.now (length wired.now.nodes)) (IsFirst wired.now part.now)) }
+fn first_by_bridges(alloc: Global, part: &Part) -> Result<Option<usize>, AllocError>
+    ensures net { IfOk result (λ found. IsOrderly part.now.wired.now) }
+    ensures found { IfOk result (IsFirstIn part.now.wired.now part.now.nodes.now) }
 {
-    let graph = ClassGraph::of(alloc, wired, part)?;
-    first_in(alloc, wired, part, &graph)
+    let graph = ClassGraph::of(alloc, part)?;
+    first_in(alloc, part, &graph)
 }
 
 /// The first node of the part that splits it. Its class graph is listed only where trying its nodes one by one takes too long.
 pub(crate) fn first_splitting(
     alloc: Global,
-    wired: &Wired,
-    part: &Items<bool>,
+    part: &Part,
     trials: &mut Trials,
 ) -> Result<Option<usize>, AllocError>
-    requires size { length part.now ≡ length wired.now.nodes }
-    ensures net { IfOk result (λ found. IsOrderly wired.now) }
-    ensures found { IfOk result (λ found. MatchOption found (NoneSplits wired.now part.now (length wired.now.nodes)) (IsFirst wired.now part.now)) }
+    ensures net { IfOk result (λ found. IsOrderly part.now.wired.now) }
+    ensures found { IfOk result (IsFirstIn part.now.wired.now part.now.nodes.now) }
 {
-    trials.begin(part);
-    match first_by_trials(alloc, wired, part, trials)? {
+    trials.begin(part.nodes);
+    match first_by_trials(alloc, part, trials)? {
         Some(found) => Ok(found),
-        None => first_by_bridges(alloc, wired, part),
+        None => first_by_bridges(alloc, part),
     }
 }

@@ -1,14 +1,13 @@
-ghost use Rattle.std.specs.Prelude.{◌≡◌, ◌<◌, length, IfOk, IsTrue};
-ghost use Rattle.in_simple.specs.Constructions.{IsIn};
-ghost use Rattle.in_simple.specs.Procedure.{SplitsIt, nodes_in};
+ghost use Rattle.std.specs.Prelude.{◌<◌, length, IfOk, IsTrue};
+ghost use Rattle.in_simple.specs.Procedure.{SplitsIt};
 ghost use Rattle.in_simple.specs.Stuck.{ports_of};
 ghost use Rattle.in_simple.specs.Tries.{IsTried};
 
 use crate::labels::{Labels, Mark, show_splitting};
 use crate::open_nets::Point;
+use crate::parts::Candidate;
 use crate::rings::joins_classes;
-use crate::sets::size;
-use crate::wired::Wired;
+use crate::sets::NumberSet;
 use sqlite_items::Items;
 use std::alloc::{AllocError, Global};
 
@@ -18,7 +17,7 @@ const MOST_STEPS: usize = 64;
 /// How many ports are looked at for each node of a part, before all of its nodes are decided at once.
 const PORTS_FOR_A_NODE: usize = 32;
 
-/// A node that a search reached, by a class of the node that is tried: from which one before it, if not from that node itself, by which
+/// A node that a search reached, by a class of the candidate: from which one before it, if not from that node itself, by which
 /// port of that one, and at which port of its own.
 #[derive(Clone, Copy, Drop)]
 struct Reached {
@@ -29,7 +28,7 @@ struct Reached {
     entered: u8,
 }
 
-/// Where two classes met: at the port of the one that was reached, or of the node itself, and at another one that was reached, or the node.
+/// Where two classes met: at the port of the one that was reached, or of the candidate, and at another one that was reached, or the candidate.
 #[derive(Clone, Copy, Drop)]
 struct Meeting {
     from: Option<usize>,
@@ -91,8 +90,8 @@ impl Trials {
     }
 
     /// As many ports may be looked at as the size of the part allows.
-    pub(crate) fn begin(&mut self, part: &Items<bool>) {
-        self.budget = size(part).saturating_mul(PORTS_FOR_A_NODE);
+    pub(crate) fn begin(&mut self, part: &NumberSet) {
+        self.budget = part.count().saturating_mul(PORTS_FOR_A_NODE);
     }
 
     /// So many ports are looked at, where that many still may be.
@@ -120,30 +119,28 @@ impl Trials {
     /// Comes by the wire at a port of the node `at`, reached by a class. Answers where it meets another class.
     fn visit(
         &mut self,
-        wired: &Wired,
-        part: &Items<bool>,
-        node: usize,
+        candidate: &Candidate,
         from: Option<usize>,
         at: usize,
         port: usize,
         class: usize,
     ) -> Result<Option<Meeting>, AllocError>
-        requires size { length part.now ≡ length wired.now.nodes }
-        requires at { at < length wired.now.nodes }
-        requires port { port < ports_of wired.now at }
+        requires at { at < length candidate.now.part.wired.now.nodes }
+        requires port { port < ports_of candidate.now.part.wired.now at }
     {
-        match wired.partner(at, port) {
+        let part = candidate.part;
+        match part.wired.partner(at, port) {
             (_, Point::Port(near, place)) => {
                 let left = port as u8;
-                if near as usize == node {
-                    if wired.class(near as usize, place as usize) != class {
+                if near as usize == candidate.node {
+                    if part.wired.class(near as usize, place as usize) != class {
                         return Ok(Some(Meeting {
                             from,
                             port: left,
                             to: None,
                         }));
                     }
-                } else if part.as_slice()[near as usize] {
+                } else if part.nodes.has(near as usize) {
                     match self.labels.mark(near as usize) {
                         Some(mark) => {
                             if mark.class != class {
@@ -169,19 +166,13 @@ impl Trials {
         Ok(None)
     }
 
-    /// Reaches what the ports of the node that is tried lead to, each by its class.
-    fn start(
-        &mut self,
-        wired: &Wired,
-        part: &Items<bool>,
-        node: usize,
-    ) -> Result<Option<Meeting>, AllocError>
-        requires size { length part.now ≡ length wired.now.nodes }
-        requires node { node < length wired.now.nodes }
-    {
+    /// Reaches what the ports of the candidate lead to, each by its class.
+    fn start(&mut self, candidate: &Candidate) -> Result<Option<Meeting>, AllocError> {
+        let wired = candidate.part.wired;
+        let node = candidate.node;
         for port in 0..wired.ports(node) {
             let class = wired.class(node, port);
-            if let Some(meeting) = self.visit(wired, part, node, None, node, port, class)? {
+            if let Some(meeting) = self.visit(candidate, None, node, port, class)? {
                 return Ok(Some(meeting));
             }
         }
@@ -191,18 +182,15 @@ impl Trials {
     /// Reaches the neighbours of a node that was reached.
     fn spread(
         &mut self,
-        wired: &Wired,
-        part: &Items<bool>,
-        node: usize,
+        candidate: &Candidate,
         place: usize,
         at: usize,
         class: usize,
     ) -> Result<Option<Meeting>, AllocError>
-        requires size { length part.now ≡ length wired.now.nodes }
-        requires at { at < length wired.now.nodes }
+        requires { at < length candidate.now.part.wired.now.nodes }
     {
-        for port in 0..wired.ports(at) {
-            if let Some(meeting) = self.visit(wired, part, node, Some(place), at, port, class)? {
+        for port in 0..candidate.part.wired.ports(at) {
+            if let Some(meeting) = self.visit(candidate, Some(place), at, port, class)? {
                 return Ok(Some(meeting));
             }
         }
@@ -210,15 +198,8 @@ impl Trials {
     }
 
     /// Reaches the neighbours of the node that was reached at this place.
-    fn go_on(
-        &mut self,
-        wired: &Wired,
-        part: &Items<bool>,
-        node: usize,
-        place: usize,
-    ) -> Result<Option<Answer>, AllocError>
-        requires size { length part.now ≡ length wired.now.nodes }
-    {
+    fn go_on(&mut self, candidate: &Candidate, place: usize) -> Result<Option<Answer>, AllocError> {
+        let wired = candidate.part.wired;
         match self.reached.get(place) {
             Some(reached) => {
                 let at = reached.node;
@@ -226,7 +207,7 @@ impl Trials {
                 if at >= wired.nodes() || !self.spend(wired.ports(at)) {
                     return Ok(Some(Answer::Spent));
                 }
-                match self.spread(wired, part, node, place, at, class)? {
+                match self.spread(candidate, place, at, class)? {
                     Some(meeting) => Ok(Some(Answer::Met(meeting))),
                     None => Ok(None),
                 }
@@ -235,24 +216,15 @@ impl Trials {
         }
     }
 
-    /// Searches from all ports of the node at once, breadth first, by the nodes of the part.
-    fn search(
-        &mut self,
-        alloc: Global,
-        wired: &Wired,
-        part: &Items<bool>,
-        node: usize,
-    ) -> Result<Answer, AllocError>
-        requires size { length part.now ≡ length wired.now.nodes }
-        requires node { node < length wired.now.nodes }
-    {
+    /// Searches from all ports of the candidate at once, breadth first, by the nodes of the part.
+    fn search(&mut self, alloc: Global, candidate: &Candidate) -> Result<Answer, AllocError> {
         self.labels.trial = self.labels.trial.wrapping_add(1);
         self.reached = Items::new(alloc);
-        if let Some(meeting) = self.start(wired, part, node)? {
+        if let Some(meeting) = self.start(candidate)? {
             return Ok(Answer::Met(meeting));
         }
-        for place in 0..wired.nodes() {
-            if let Some(answer) = self.go_on(wired, part, node, place)? {
+        for place in 0..candidate.part.wired.nodes() {
+            if let Some(answer) = self.go_on(candidate, place)? {
                 return Ok(answer);
             }
         }
@@ -290,50 +262,43 @@ impl Trials {
         }
     }
 
-    /// Whether the ring that was kept of the node shows that it does not split the part.
-    pub(crate) fn is_ringed(&mut self, wired: &Wired, part: &Items<bool>, node: usize) -> bool
-        requires size { length part.now ≡ length wired.now.nodes }
-        requires node { node < length wired.now.nodes }
-        ensures { IsTrue result → SplitsIt wired.now part.now node → ⊥ }
+    /// Whether the ring that was kept of the candidate shows that it does not split the part.
+    pub(crate) fn is_ringed(&mut self, candidate: &Candidate) -> bool
+        ensures { IsTrue result → SplitsIt candidate.now.part.wired.now candidate.now.part.nodes.now candidate.now.node → ⊥ }
     {
-        let steps = match self.rings.get(node) {
+        let steps = match self.rings.get(candidate.node) {
             Some(ring) => ring.len(),
             None => 0,
         };
         if !self.spend(steps) {
             return false;
         }
-        match self.rings.get(node) {
-            Some(ring) => joins_classes(wired, part, node, ring),
+        match self.rings.get(candidate.node) {
+            Some(ring) => joins_classes(candidate, ring),
             None => false,
         }
     }
 
-    /// Whether the node splits the part, where a search from it tells.
+    /// Whether the candidate splits the part, where a search from it tells.
     pub(crate) fn find(
         &mut self,
         alloc: Global,
-        wired: &Wired,
-        part: &Items<bool>,
-        node: usize,
+        candidate: &Candidate,
     ) -> Result<Option<bool>, AllocError>
-        requires size { length part.now ≡ length wired.now.nodes }
-        requires node { node < length wired.now.nodes }
-        requires here { IsIn node (nodes_in part.now) }
-        ensures { IfOk result (IsTried wired.now part.now node) }
+        ensures { IfOk result (IsTried candidate.now.part.wired.now candidate.now.part.nodes.now candidate.now.node) }
     {
-        match self.search(alloc, wired, part, node)? {
+        match self.search(alloc, candidate)? {
             Answer::Met(meeting) => {
                 let ring = self.ring(alloc, meeting)?;
-                self.keep(node, ring);
-                if self.is_ringed(wired, part, node) {
+                self.keep(candidate.node, ring);
+                if self.is_ringed(candidate) {
                     Ok(Some(false))
                 } else {
                     Ok(None)
                 }
             }
             Answer::Apart => {
-                if show_splitting(wired, part, node, &self.labels) {
+                if show_splitting(candidate, &self.labels) {
                     Ok(Some(true))
                 } else {
                     Ok(None)

@@ -6,15 +6,15 @@ ghost use Rattle.in_simple.specs.Procedure.{nodes_in};
 
 use crate::derivations::{Derivation, Step, StepNumbers};
 use crate::open_nets::{OpenNet, Point};
-use crate::sets::{none, unite};
+use crate::sets::NumberSet;
 use sqlite_items::Items;
 use std::alloc::{AllocError, Global};
 
 /// What a step builds: its nodes, the wires of its Links, and for each wire how many open ends it has for the two points.
 #[derive(Drop)]
 pub(crate) struct Built {
-    pub(crate) nodes: Items<bool>,
-    pub(crate) links: Items<bool>,
+    pub(crate) nodes: NumberSet,
+    pub(crate) links: NumberSet,
     pub(crate) ends: Items<(u32, u32)>,
 }
 
@@ -36,23 +36,10 @@ fn nothing(alloc: Global, open: &OpenNet) -> Result<Built, AllocError>
 {
     let wires = open.wires();
     Ok(Built {
-        nodes: none(alloc, open.nodes() as usize)?,
-        links: none(alloc, wires)?,
+        nodes: NumberSet::none(alloc, open.nodes() as usize)?,
+        links: NumberSet::none(alloc, wires)?,
         ends: no_ends(alloc, wires)?,
     })
-}
-
-/// Whether two sets share a member.
-fn share(one: &Items<bool>, other: &Items<bool>) -> bool
-    requires { length one.now ≡ length other.now }
-    ensures { IsTrue result ↔ Shares one.now other.now }
-{
-    for member in 0..one.len() {
-        if one.as_slice()[member] && other.as_slice()[member] {
-            return true;
-        }
-    }
-    false
 }
 
 /// The sum of two numbers of ends. Too many to be counted are no memory.
@@ -89,27 +76,24 @@ fn beside(open: &OpenNet, more: &Built, built: &mut Built) -> Result<bool, Alloc
     ensures sized { IsSized «open».now built.new }
     ensures beside { IfOk result (λ yes. Tells yes (AreBeside more.now built.old built.new) (ShareOne more.now built.old)) }
 {
-    if share(&more.nodes, &built.nodes) {
+    if more.nodes.shares(&built.nodes) {
         return Ok(false);
     }
-    if share(&more.links, &built.links) {
+    if more.links.shares(&built.links) {
         return Ok(false);
     }
-    unite(&more.nodes, &mut built.nodes);
-    unite(&more.links, &mut built.links);
+    built.nodes.unite(&more.nodes);
+    built.links.unite(&more.links);
     add_ends(&more.ends, &mut built.ends)?;
     Ok(true)
 }
 
 /// 1 for a port of one of these nodes.
-fn port_in(nodes: &Items<bool>, point: Point) -> u32
+fn port_in(nodes: &NumberSet, point: Point) -> u32
     ensures { result ≡ is_port_in (nodes_in nodes.now) point }
 {
     match point {
-        Point::Port(node, _) => match nodes.get(node as usize) {
-            Some(is_in) => u32::from(*is_in),
-            None => 0,
-        },
+        Point::Port(node, _) => u32::from(nodes.has(node as usize)),
         Point::Free(_) => 0,
     }
 }
@@ -151,7 +135,7 @@ fn link(alloc: Global, open: &OpenNet, wire: u32) -> Result<Option<Built>, Alloc
     let number = wire as usize;
     if number < open.wires() {
         let mut built = nothing(alloc, open)?;
-        built.links.set(number, true);
+        built.links.insert(number);
         built.ends.set(number, (1, 1));
         Ok(Some(built))
     } else {
@@ -160,7 +144,7 @@ fn link(alloc: Global, open: &OpenNet, wire: u32) -> Result<Option<Built>, Alloc
 }
 
 /// An end for each far point of a wire at one of these nodes.
-fn lead(open: &OpenNet, nodes: &Items<bool>, ends: &mut Items<(u32, u32)>)
+fn lead(open: &OpenNet, nodes: &NumberSet, ends: &mut Items<(u32, u32)>)
     requires { length ends.old ≡ length «open».now.wires }
     ensures size { length ends.new ≡ length ends.old }
     ensures led { IsLed «open».now (nodes_in nodes.now) ends.new (length «open».now.wires) }
@@ -185,7 +169,7 @@ fn given(alloc: Global, open: &OpenNet, node: u32) -> Result<Option<Built>, Allo
 {
     if is_class_node(open, node) {
         let mut built = nothing(alloc, open)?;
-        built.nodes.set(node as usize, true);
+        built.nodes.insert(node as usize);
         lead(open, &built.nodes, &mut built.ends);
         Ok(Some(built))
     } else {
@@ -194,7 +178,7 @@ fn given(alloc: Global, open: &OpenNet, node: u32) -> Result<Option<Built>, Allo
 }
 
 /// Whether a point is a port of these nodes, and there are ends for the far point and for it.
-fn is_from(nodes: &Items<bool>, point: Point, far: u32, near: u32) -> bool
+fn is_from(nodes: &NumberSet, point: Point, far: u32, near: u32) -> bool
     ensures { IsTrue result ↔ IsFrom nodes.now point far near }
 {
     port_in(nodes, point) == 1 && far > 0 && near > 0
@@ -470,10 +454,10 @@ fn graft_into(
     if !graft_classes(open, parts, built, node, steps.as_slice())? {
         return Ok(false);
     }
-    if built.nodes.as_slice()[number] {
+    if built.nodes.has(number) {
         return Ok(false);
     }
-    built.nodes.set(number, true);
+    built.nodes.insert(number);
     if graft_ends(open, &mut built.ends, node)? {
         Ok(true)
     } else {
@@ -578,18 +562,6 @@ fn has_free_ends(open: &OpenNet, built: &Built) -> bool
     true
 }
 
-/// Whether all are in the set.
-fn are_all(set: &Items<bool>) -> bool
-    ensures { IsTrue result ↔ AreAll set.now (length set.now) }
-{
-    for member in 0..set.len() {
-        if !set.as_slice()[member] {
-            return false;
-        }
-    }
-    true
-}
-
 /// Whether no step is left.
 fn is_none_left(parts: &Vec<Option<Built>>) -> bool
     ensures { IsTrue result ↔ ((i : ℕ) → left_at parts.now.items i ≡ 0) }
@@ -608,7 +580,7 @@ fn is_last(open: &OpenNet, last: &Built, others: &Vec<Option<Built>>) -> bool
     ensures last { IsTrue result ↔ IsLast «open».now last.now others.now.items }
     ensures net { IsOrderly «open».now }
 {
-    has_free_ends(open, last) && are_all(&last.nodes) && is_none_left(others)
+    has_free_ends(open, last) && last.nodes.is_all() && is_none_left(others)
 }
 
 /// Whether the last step built all of the open net, and all others are named.

@@ -6,7 +6,7 @@ use Rattle.in_simple.proofs.labels.lead_to_labels.Goals as goal
 
 pub loop-port-preserved : goal.loop-port-preserved
 loop-port-preserved c i lt = elim (same_nat i c.loop-port.port) [
-  | inl e ↦ subst (LeadsToLabel c.args.wired.now c.args.part.now c.args.node c.args.labels.now) (sym e) (c.leads_to_label.ensures c.if-not-leads_to_label.false)
+  | inl e ↦ subst (LeadsToLabel c.args.candidate.now.part.wired.now c.args.candidate.now.part.nodes.now c.args.candidate.now.node c.args.labels.now) (sym e) (c.leads_to_label.ensures c.if-not-leads_to_label.false)
   | inr d ↦ c.loop-port.invariant i (omega arith)
 ]
 
@@ -15,5 +15,5 @@ returns-clause-leads c =
     let e = c.ports-port-end.ensures.ports in
     let f = c.loop-port-test.false in
     let g = c.loop-port.auto in
-    let end : c.loop-port.port ≡ ports_of c.args.wired.now c.args.node = omega arith in
-    λ t. subst (LeadToLabels c.args.wired.now c.args.part.now c.args.node c.args.labels.now) end c.loop-port.invariant
+    let end : c.loop-port.port ≡ ports_of c.args.candidate.now.part.wired.now c.args.candidate.now.node = omega arith in
+    λ t. subst (LeadToLabels c.args.candidate.now.part.wired.now c.args.candidate.now.part.nodes.now c.args.candidate.now.node c.args.labels.now) end c.loop-port.invariant

@@ -2,4 +2,4 @@ use Rattle.in_simple.specs.Tries.{LeadToLabels}
 use Rattle.in_simple.proofs.labels.lead_to_labels.Given as goal
 
 abbrev pub invariant-loop-port : goal.invariant-loop-port
-invariant-loop-port l = LeadToLabels l.wired l.part l.node l.labels l.port
+invariant-loop-port l = LeadToLabels l.candidate.part.wired.now l.candidate.part.nodes.now l.candidate.node l.labels l.port

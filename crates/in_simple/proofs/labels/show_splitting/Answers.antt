@@ -5,7 +5,7 @@ use Rattle.in_simple.proofs.labels.show_splitting.Goals as goal
 
 pub returns-then-leads : goal.returns-then-leads
 returns-then-leads c =
-    let o = c.args.wired.now in
-    let part = c.args.part.now in
+    let o = c.args.candidate.now.part.wired.now in
+    let part = c.args.candidate.now.part.nodes.now in
     let l = c.lead_to_labels-leads.ensures in
-    λ t. labels_split o part c.args.node l.net.net c.args.labels.now c.requires.here (subst (LabelsSpread o part c.args.node c.args.labels.now) (sym c.requires.size) (c.are_spread.ensures t)) (l.leads c.if-leads.true)
+    λ t. labels_split o part c.args.candidate.now.node l.net.net c.args.labels.now c.args.candidate.now.here (subst (LabelsSpread o part c.args.candidate.now.node c.args.labels.now) (sym c.args.candidate.now.part.size) (c.are_spread.ensures t)) (l.leads c.if-leads.true)

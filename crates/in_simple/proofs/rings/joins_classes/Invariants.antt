@@ -3,4 +3,4 @@ use Rattle.in_simple.specs.Tries.{IsWalked}
 use Rattle.in_simple.proofs.rings.joins_classes.Given as goal
 
 abbrev pub invariant-loop-step : goal.invariant-loop-step
-invariant-loop-step l = (l.at < length l.wired.nodes) × IsWalked l.wired l.part l.node l.begun l.at
+invariant-loop-step l = (l.at < length l.candidate.part.wired.now.nodes) × IsWalked l.candidate.part.wired.now l.candidate.part.nodes.now l.candidate.node l.begun l.at

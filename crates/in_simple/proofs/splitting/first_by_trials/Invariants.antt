@@ -2,4 +2,4 @@ use Rattle.in_simple.specs.Procedure.{NoneSplits}
 use Rattle.in_simple.proofs.splitting.first_by_trials.Given as goal
 
 abbrev pub invariant-loop-node : goal.invariant-loop-node
-invariant-loop-node l = NoneSplits l.wired l.part l.node
+invariant-loop-node l = NoneSplits l.part.wired.now l.part.nodes.now l.node

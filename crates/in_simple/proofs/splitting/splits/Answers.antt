@@ -1,4 +1,4 @@
-use Rattle.std.proofs.Common.{◌∙◌, ◌<◌, ap, sym, subst, false, get_or}
+use Rattle.std.proofs.Common.{◌∙◌, ◌<◌, sym, subst}
 use Rattle.in_simple.specs.Procedure.{nodes_in}
 use Rattle.in_simple.specs.ClassEdges.{vertex_in, hub_edge_in}
 use Rattle.in_simple.proofs.ClassWays.{net_off_rings}
@@ -7,16 +7,16 @@ use Rattle.in_simple.proofs.splitting.splits.Goals as goal
 
 pub is_off_rings-requires-clause-edges : goal.is_off_rings-requires-clause-edges
 is_off_rings-requires-clause-edges c =
-    let here = ap (λ z. get_or z c.args.node false) (sym c.as_slice.ensures) ∙ c.if-as_slice-node.true in
-    λ k h. hub_edge_small c.args.wired.now c.args.part.now c.args.graph.now c.requires.graph c.args.rings.now c.requires.rings c.args.node here k (subst (λ z. k < z) c.width.ensures.width h)
+    let here = sym c.has.ensures ∙ c.if-has.true in
+    λ k h. hub_edge_small c.args.part.now.wired.now c.args.part.now.nodes.now c.args.graph.now c.requires.graph.graph c.args.rings.now c.requires.rings c.args.node here k (subst (λ z. k < z) c.width.ensures.width h)
 
-pub returns-then-as_slice-node : goal.returns-then-as_slice-node
-returns-then-as_slice-node c =
-    let o = c.args.wired.now in
+pub returns-then-has : goal.returns-then-has
+returns-then-has c =
+    let o = c.args.part.now.wired.now in
     let g = c.args.graph.now in
-    let here = ap (λ z. get_or z c.args.node false) (sym c.as_slice.ensures) ∙ c.if-as_slice-node.true in
-    let law = net_off_rings o c.width.ensures.net.net (nodes_in c.args.part.now) (vertex_in g.hubs) (hub_edge_in g.hubs) g.edges c.requires.graph c.args.node here in
-    let off = off_rings o c.args.part.now g c.requires.graph c.args.rings.now c.requires.rings c.args.node here in
+    let here = sym c.has.ensures ∙ c.if-has.true in
+    let law = net_off_rings o c.width.ensures.net.net (nodes_in c.args.part.now.nodes.now) (vertex_in g.hubs) (hub_edge_in g.hubs) g.edges c.requires.graph.graph c.args.node here in
+    let off = off_rings o c.args.part.now.nodes.now g c.requires.graph.graph c.args.rings.now c.requires.rings c.args.node here in
     let test = c.is_off_rings.ensures in
     let w = c.width.ensures.width in (
       (λ t. (here, law.1 (off.0 (λ k h. test.0 t k (subst (λ z. k < z) (sym w) h))))),

@@ -7,9 +7,9 @@ use Rattle.in_simple.proofs.splitting.touches_by_one_class.Goals.{then-is_some+e
 
 pub loop-port-preserved : goal.loop-port-preserved
 loop-port-preserved c =
-    let o = c.args.wired.now in
-    let part = c.args.part.now in
-    let n = c.args.node in
+    let o = c.args.candidate.now.part.wired.now in
+    let part = c.args.candidate.now.part.nodes.now in
+    let n = c.args.candidate.now.node in
     let b = c.loop-port.port in
     elim c.if-is_some.branch [
       | then-is_some+else-unwrap_or-class w ↦
@@ -23,5 +23,5 @@ returns-clause-splits c =
     let e = c.ports-port-end.ensures.ports in
     let f = c.loop-port-test.false in
     let g = c.loop-port.auto in
-    let end : c.loop-port.port ≡ ports_of c.args.wired.now c.args.node = omega arith in
-    λ t. one_class c.args.wired.now c.ports-port-end.ensures.net.net c.args.part.now c.args.node c.loop-port.met c.requires.here (subst (λ z. AreOfClass c.args.wired.now c.args.part.now c.args.node z c.loop-port.met) end c.loop-port.invariant)
+    let end : c.loop-port.port ≡ ports_of c.args.candidate.now.part.wired.now c.args.candidate.now.node = omega arith in
+    λ t. one_class c.args.candidate.now.part.wired.now c.ports-port-end.ensures.net.net c.args.candidate.now.part.nodes.now c.args.candidate.now.node c.loop-port.met c.args.candidate.now.here (subst (λ z. AreOfClass c.args.candidate.now.part.wired.now c.args.candidate.now.part.nodes.now c.args.candidate.now.node z c.loop-port.met) end c.loop-port.invariant)

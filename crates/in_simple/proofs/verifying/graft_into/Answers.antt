@@ -1,4 +1,4 @@
-use Rattle.std.proofs.Common.{◌∙◌, true, false, get_or, length, refl, ap, sym, subst, arith}
+use Rattle.std.proofs.Common.{◌∙◌, true, false, length, refl, ap, sym, subst, arith}
 use Rattle.std.proofs.lemmas.List.{length-set}
 use Rattle.in_simple.specs.Checking.{AreGathered, AreRefused}
 use Rattle.in_simple.proofs.Sums.{not_both}
@@ -15,13 +15,13 @@ returns-then-not-branch c =
           (subst (λ z. AreRefused o c.args.node 0 z c.args.parts.now.items) c.as_slice.ensures (c.in_ok-graft_classes.ensures.answer.1 c.if-not-branch.true)),
     )
 
-pub returns-then-as_slice-number : goal.returns-then-as_slice-number
-returns-then-as_slice-number c =
+pub returns-then-has : goal.returns-then-has
+returns-then-has c =
     let o = c.args.open.now in
     let built = c.graft_classes.new.built in
     let g = subst (λ z. AreGathered o c.args.node 0 z c.args.parts.now.items c.graft_classes.new.parts.items built) c.as_slice.ensures (c.in_ok-graft_classes.ensures.answer.0 c.if-not-branch.false) in (
       (λ e. absurd (not_both false e refl)),
-      λ _. node_again o c.args.node c.args.steps.now c.args.parts.now.items c.graft_classes.new.parts.items built g (ap (λ z. get_or z c.args.node false) (sym c.as_slice-2.ensures) ∙ c.if-as_slice-number.true),
+      λ _. node_again o c.args.node c.args.steps.now c.args.parts.now.items c.graft_classes.new.parts.items built g (sym c.has.ensures ∙ c.if-has.true),
     )
 
 pub returns-then-branch : goal.returns-then-branch
@@ -35,15 +35,15 @@ returns-then-branch c =
     let s = c.graft_classes.ensures.sized in
     let within = c.requires.within in
     let size = s.nodes in (
-      (λ _. graft_made o n is c.args.parts.now.items c.graft_classes.new.parts.items built (record { nodes = c.set.new.self; links = built.links; ends = c.graft_ends.new.ends }) a.0 a.1 g
+      (λ _. graft_made o n is c.args.parts.now.items c.graft_classes.new.parts.items built (record { nodes = c.insert.new.self; links = built.links; ends = c.graft_ends.new.ends }) a.0 a.1 g
           (record {
-            new = ap (λ z. get_or z n false) (sym c.as_slice-2.ensures) ∙ c.if-as_slice-number.false;
-            nodes = set_node o built n c.set.new.self (omega arith) c.set.ensures;
+            new = sym c.has.ensures ∙ c.if-has.false;
+            nodes = set_node o built n c.insert.new.self (omega arith) c.insert.ensures;
             links = refl;
             ends = c.in_ok-graft_ends.ensures.grafted.0 c.if-branch.true;
           })
           (record {
-            nodes = ap length c.set.ensures ∙ length-set built.nodes n true ∙ s.nodes;
+            nodes = ap length c.insert.ensures ∙ length-set built.nodes n true ∙ s.nodes;
             links = s.links;
             ends = c.graft_ends.ensures.size ∙ s.ends;
           })),

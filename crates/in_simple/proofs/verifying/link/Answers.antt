@@ -6,7 +6,7 @@ pub returns-in_ok-built : goal.returns-in_ok-built
 returns-in_ok-built c =
     let a = c.if-number-wires.true in
     let b = c.wires.ensures.count in
-    link_alone c.args.open.now c.args.wire c.in_ok-built.built c.set.new.self c.set-then-number-wires.new.self c.in_ok-built.ensures (omega arith) c.set.ensures c.set-then-number-wires.ensures
+    link_alone c.args.open.now c.args.wire c.in_ok-built.built c.insert.new.self c.set.new.self c.in_ok-built.ensures (omega arith) c.insert.ensures c.set.ensures
 
 pub returns-else-number-wires : goal.returns-else-number-wires
 returns-else-number-wires c =

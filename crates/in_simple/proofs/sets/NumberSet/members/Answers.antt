@@ -1,28 +1,27 @@
-use Rattle.std.proofs.Common.{◌≡◌, ◌↔◌, ◌<◌, ◌+◌, ◌∙◌, ℕ, Bool, true, false, sym, subst, inl, inr, ◌++◌, ◌∷◌, [], List, arith}
+use Rattle.std.proofs.Common.{◌≡◌, ◌↔◌, ◌<◌, ◌+◌, ◌∙◌, ℕ, Bool, false, sym, subst, inl, inr, ◌++◌, ◌∷◌, [], List, arith}
 use Rattle.in_simple.specs.Constructions.{IsIn}
 use Rattle.in_simple.specs.Stuck.{Among, Rises}
 use Rattle.in_simple.specs.Procedure.{nodes_in}
 use Rattle.in_simple.proofs.Sums.{not_both}
 use Rattle.in_simple.proofs.Links.{same_nat}
-use Rattle.in_simple.proofs.Planning.{read_bit}
 use Rattle.in_simple.proofs.Reaching.{among_left, among_last, among_cases}
 use Rattle.in_simple.proofs.Working.{rises_more}
-use Rattle.in_simple.proofs.procedure.stuck.Goals as goal
-use Rattle.in_simple.proofs.procedure.stuck.Goals.{then-as_slice-node+in_ok-push, else-as_slice-node}
+use Rattle.in_simple.proofs.sets.NumberSet.members.Goals as goal
+use Rattle.in_simple.proofs.sets.NumberSet.members.Goals.{then-has+in_ok-push, else-has}
 
 abbrev AreListed : List Bool → ℕ → List ℕ → Type 0
 AreListed part b ns = record { rises : Rises 0 ns; all : (n : ℕ) → (IsIn n (nodes_in part) × (n < b)) ↔ Among n ns }
 
-pub loop-node-preserved : goal.loop-node-preserved
-loop-node-preserved c =
-    let k = c.loop-node.node in
-    let ns = c.loop-node.nodes in
-    let i = c.loop-node.invariant in
-    let part = c.args.part.now in
-    elim c.if-as_slice-node.branch [
-      | then-as_slice-node+in_ok-push w ↦
-          let here = read_bit _ part k true c.as_slice.ensures w.if-as_slice-node.true in
-          subst (AreListed part (k + 1)) (sym (w.nodes-is ∙ w.in_ok-push.ensures.ok)) (record {
+pub loop-number-preserved : goal.loop-number-preserved
+loop-number-preserved c =
+    let k = c.loop-number.number in
+    let ns = c.loop-number.members in
+    let i = c.loop-number.invariant in
+    let part = c.args.self.now in
+    elim c.if-has.branch [
+      | then-has+in_ok-push w ↦
+          let here = sym c.has.ensures ∙ w.if-has.true in
+          subst (AreListed part (k + 1)) (sym (w.members-is ∙ w.in_ok-push.ensures.ok)) (record {
             rises = rises_more 0 ns k i.rises (λ n a. ((i.all n).1 a).1) (omega arith);
             all = λ n. (
               (λ h. elim (same_nat n k) [
@@ -35,9 +34,9 @@ loop-node-preserved c =
               ],
             );
           })
-      | else-as_slice-node w ↦
-          let out = read_bit _ part k false c.as_slice.ensures w.if-as_slice-node.false in
-          subst (AreListed part (k + 1)) (sym w.nodes-is) (record {
+      | else-has w ↦
+          let out = sym c.has.ensures ∙ w.if-has.false in
+          subst (AreListed part (k + 1)) (sym w.members-is) (record {
             rises = i.rises;
             all = λ n. (
               (λ h. elim (same_nat n k) [
