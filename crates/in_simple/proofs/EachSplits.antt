@@ -4,14 +4,10 @@ use Rattle.in_net.specs.Graphs.{Graph}
 use Rattle.in_simple.specs.Constructions.{IsIn, AreParts, numbered, IsGraft, Built, empty, given, mix, cut, graft}
 use Rattle.in_simple.specs.Splitting.{Linked, alone, onward, Without, SplitsAt}
 use Rattle.std.proofs.lemmas.Bool.{and_from}
-use Rattle.in_simple.proofs.Links.{link_first, link_map}
+use Rattle.in_simple.proofs.Links.{link_first, link_last, link_map}
 use Rattle.in_simple.proofs.Sums.{both_left, both_right, not_both, swap_parts}
 
 module _ (g : Graph) (wire_back : (u v : g.Node × ℕ) → g.Wire u v → g.Wire v u) where
-  pub link_last : (P : g.Node → Type 0) (u v : g.Node) → Linked g P u v → P v
-  link_last P u v (alone _ h) = h
-  link_last P u v (onward _ m _ i j h w k) = link_last P m v k
-
   -- links between nodes of P stay in Q, where wires do
   link_stay : (P Q : g.Node → Type 0) → ((l m : g.Node) (i j : ℕ) → g.Wire (l, i) (m, j) → P l → P m → Q l → Q m) → (R : g.Node → Type 0) → ((n : g.Node) → P n → Q n → R n) → (u v : g.Node) → Q u → Linked g P u v → Linked g R u v × Q v
   link_stay P Q closed R both u v q (alone _ h) = (alone u (both u h q), q)
@@ -63,7 +59,7 @@ module _ (g : Graph) (wire_back : (u v : g.Node × ℕ) → g.Wire u v → g.Wir
     lift_over : (t : g.Node → Bool) → ((k : g.Node) → IsIn k t → IsIn k s) → (n : g.Node) → IsIn n t → IsIn n a → SplitsAt g n (λ k. t k && a k) → SplitsAt g n t
     lift_over t in_s n here na split = record {
       own = split.own;
-      touched = λ i j l m k h w v link. over i j l m k h w v link ((parts l).0.0 (in_s l (link_first g (Without n t) l m link).0)) ((parts m).0.0 (in_s m (link_last (Without n t) l m link).0));
+      touched = λ i j l m k h w v link. over i j l m k h w v link ((parts l).0.0 (in_s l (link_first g (Without n t) l m link).0)) ((parts m).0.0 (in_s m (link_last g (Without n t) l m link).0));
     }
       where
         at : (i : ℕ) (l : g.Node) (k : ℕ) → g.Wire (n, i) (l, k) → IsIn l b → (n, i) ≡ p
@@ -102,7 +98,7 @@ module _ (g : Graph) (wire_back : (u v : g.Node × ℕ) → g.Wire u v → g.Wir
     own = r.own;
     touched = λ i j l m k h w v link.
         let a = link_first g (Without n t) l m link in
-        let b = link_last (Without n t) l m link in
+        let b = link_last g (Without n t) l m link in
         let same = link_stay (Without n t) (λ z. part l ≡ part z) (λ y z i j w x x'. λ e. e ∙ r.among y z i j (in_s y x.0) (in_s z x'.0) x.1 x'.1 w) (λ z. Unit {0}) (λ z x y. tt) l m refl link in
         sym (r.to i k l (in_s l a.0) a.1 w) ∙ same.1 ∙ r.to j h m (in_s m b.0) b.1 v;
   }

@@ -6,8 +6,7 @@ use Rattle.in_net.specs.Graphs.{Graph}
 use Rattle.in_simple.specs.Constructions.{IsIn}
 use Rattle.in_simple.specs.Splitting.{Linked, alone, onward, Without, SplitsAt}
 use Rattle.in_simple.specs.ClassGraphs.{Vertex, Hub, Class, OtherEdge, AreClasses, HubEdgesAreBridges}
-use Rattle.in_simple.proofs.Links.{link_first}
-use Rattle.in_simple.proofs.EachSplits.{link_last}
+use Rattle.in_simple.proofs.Links.{link_first, link_last}
 
 module _ (g : Graph) (Has : g.Node → ℕ → Type 0) (has : AreClasses g Has) (same : (m n : g.Node) → (m ≡ n) ⊎ (m ≢ n)) (back : (u v : g.Node × ℕ) → g.Wire u v → g.Wire v u) (n : g.Node) (s : g.Node → Bool) (here : IsIn n s) where
   link_snoc : (u l m : g.Node) (i j : ℕ) → Linked g (Without n s) u l → g.Wire (l, i) (m, j) → Without n s m → Linked g (Without n s) u m
@@ -70,7 +69,7 @@ module _ (g : Graph) (Has : g.Node → ℕ → Type 0) (has : AreClasses g Has) 
     ];
     touched = λ i j l m k h w v r. elim (cases_eq (g.class n j) (g.class n i)) [
       | inl e ↦ sym e
-      | inr d ↦ absurd (all (g.class n i) (has n i (l, k) w) (along (Class n (g.class n i)) (Class l (g.class l k)) (Hub n) (here, (link_first g (Without n s) l m r).0, i, k, w, refl, refl) (through (g.class n i) l m (g.class l k) (g.class m h) (has l k (n, i) (back (n, i) (l, k) w)) (has m h (n, j) (back (n, j) (m, h) v)) r (Hub n) (along (Class m (g.class m h)) (Class n (g.class n j)) (Hub n) ((link_last g back (Without n s) l m r).0, here, h, j, back (n, j) (m, h) v, refl, refl) (home (g.class n i) (g.class n j) (has n j (m, h) v) d)))))
+      | inr d ↦ absurd (all (g.class n i) (has n i (l, k) w) (along (Class n (g.class n i)) (Class l (g.class l k)) (Hub n) (here, (link_first g (Without n s) l m r).0, i, k, w, refl, refl) (through (g.class n i) l m (g.class l k) (g.class m h) (has l k (n, i) (back (n, i) (l, k) w)) (has m h (n, j) (back (n, j) (m, h) v)) r (Hub n) (along (Class m (g.class m h)) (Class n (g.class n j)) (Hub n) ((link_last g (Without n s) l m r).0, here, h, j, back (n, j) (m, h) v, refl, refl) (home (g.class n i) (g.class n j) (has n j (m, h) v) d)))))
     ];
   }
 

@@ -1,3 +1,4 @@
+mod Absent
 pub mod Balance
 pub mod Both
 pub mod ClassEdges

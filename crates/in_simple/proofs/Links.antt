@@ -48,6 +48,10 @@ pub link_first : (g : Graph) (P : g.Node → Type 0) (u v : g.Node) → Linked g
 link_first g P u v (alone _ h) = h
 link_first g P u v (onward _ m _ i j h w k) = h
 
+pub link_last : (g : Graph) (P : g.Node → Type 0) (u v : g.Node) → Linked g P u v → P v
+link_last g P u v (alone _ h) = h
+link_last g P u v (onward _ m _ i j h w k) = link_last g P m v k
+
 pub link_map : (g : Graph) (P R : g.Node → Type 0) → ((k : g.Node) → P k → R k) → (u v : g.Node) → Linked g P u v → Linked g R u v
 link_map g P R f u v (alone _ h) = alone u (f u h)
 link_map g P R f u v (onward _ m _ i j h w k) = onward u m v i j (f u h) w (link_map g P R f m v k)

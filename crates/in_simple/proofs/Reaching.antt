@@ -1,5 +1,5 @@
 -- A search from a node reaches its component.
-use Rattle.std.proofs.Common.{◌≡◌, ◌⊎◌, ◌<◌, ◌+◌, ℕ, zero, suc, Bool, true, false, Some, None, List, [], ◌∷◌, ◌++◌, length, length-append, refl, sym, subst, inl, inr, ◌∙◌, arith}
+use Rattle.std.proofs.Common.{◌≡◌, ◌⊎◌, ◌<◌, ◌≤◌, ◌+◌, ℕ, zero, suc, Bool, true, false, Some, None, List, [], ◌∷◌, ◌++◌, length, length-append, refl, sym, subst, inl, inr, ◌∙◌, arith}
 use Rattle.std.proofs.Math.ListN.{set}
 use Rattle.std.proofs.lemmas.List.{length-set, get_or-set_same, get_or-set_other}
 use Rattle.in_simple.specs.declared.open_nets.Point.TheVariants.{Port}
@@ -9,7 +9,8 @@ use Rattle.in_simple.specs.OpenNets.{OpenNet, IsWire, IsOpenNet, open_graph}
 use Rattle.in_simple.specs.Procedure.{nodes_in, IsNeighbour, missing, Reaches, Spreads, IsSearch, IsReached}
 use Rattle.in_simple.specs.Stuck.{Among, ports_of}
 use Rattle.in_simple.proofs.Sums.{not_both}
-use Rattle.in_simple.proofs.Links.{same_nat, link_snoc}
+use Rattle.in_simple.proofs.Absent.{has_all}
+use Rattle.in_simple.proofs.Links.{same_nat, link_last, link_snoc}
 use Rattle.in_simple.proofs.Search.{in_ports}
 use Rattle.in_simple.proofs.Sound.{port_place}
 
@@ -164,6 +165,16 @@ module _ (o : OpenNet) (net : IsOpenNet o) (within : List Bool) where
         ]
         | inr g ↦ inl g.0
       ];
+    }
+
+    -- once all of the sub-net is reached, a node need not be looked at
+    pub search_all : (x : ℕ) (r : List Bool) (q : List ℕ) → IsSearch o within from r (q ++ x ∷ []) → length r ≡ length within → missing r ≤ missing within → IsSearch o within from r q
+    search_all x r q s size few = record {
+      size = s.size;
+      start = s.start;
+      sound = s.sound;
+      pending = λ k h. s.pending k (among_left q k x h);
+      closed = λ k h. inr (λ i w l j a here. has_all r within size (λ l u. link_last (open_graph o) (λ m. IsIn m (nodes_in within)) from l (s.sound l u)) few l here);
     }
 
     pub search_end : (r : List Bool) → IsSearch o within from r [] → IsReached o within from r

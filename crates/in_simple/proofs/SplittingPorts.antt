@@ -8,8 +8,7 @@ use Rattle.in_simple.specs.declared.open_nets.Point.TheVariants.{Port}
 use Rattle.in_simple.specs.OpenNets.{OpenNet, IsOpenNet, IsWire, class_in, open_graph}
 use Rattle.in_simple.specs.Stuck.{ports_of, Touches}
 use Rattle.in_simple.specs.Procedure.{nodes_in, IsRest, PortSplits, AreOfClass, SplitsIt, IsNeighbour}
-use Rattle.in_simple.proofs.Links.{same_nat, link_first, link_map}
-use Rattle.in_simple.proofs.EachSplits.{link_last}
+use Rattle.in_simple.proofs.Links.{same_nat, link_first, link_map, link_last}
 use Rattle.in_simple.proofs.ClassWays.{wire_back}
 use Rattle.in_simple.proofs.Balance.{wire_turn}
 use Rattle.in_simple.proofs.Search.{in_ports}
@@ -46,6 +45,6 @@ module _ (o : OpenNet) (net : IsOpenNet o) where
         here,
         record {
           own = λ i j w. same i j (at i w.0 n j w.1 here) (at j w.0 n i (wire_turn o w.0 (Port n i) (Port n j) w.1) here);
-          touched = λ i j l m k h w v link. same i j (at i w.0 l k w.1 (link_first (open_graph o) (Without n (nodes_in part)) l m link).0) (at j v.0 m h v.1 (link_last (open_graph o) (wire_back o net) (Without n (nodes_in part)) l m link).0);
+          touched = λ i j l m k h w v link. same i j (at i w.0 l k w.1 (link_first (open_graph o) (Without n (nodes_in part)) l m link).0) (at j v.0 m h v.1 (link_last (open_graph o) (Without n (nodes_in part)) l m link).0);
         },
       )

@@ -14,8 +14,7 @@ use Rattle.in_simple.specs.Procedure.{nodes_in, SplitsIt, IsNeighbour}
 use Rattle.in_simple.specs.Tries.{IsLedTo, IsWalked, mark_in, HasLabel, AreLabelled, LabelsSpread, LeadsToLabel, LeadToLabels}
 use Rattle.in_simple.proofs.Balance.{wire_turn}
 use Rattle.in_simple.proofs.ClassWays.{wire_back}
-use Rattle.in_simple.proofs.EachSplits.{link_last}
-use Rattle.in_simple.proofs.Links.{same_nat, link_first, link_snoc}
+use Rattle.in_simple.proofs.Links.{same_nat, link_first, link_snoc, link_last}
 use Rattle.in_simple.proofs.Reaching.{in_length}
 use Rattle.in_simple.proofs.Search.{in_ports}
 use Rattle.in_simple.proofs.Sound.{port_place}
@@ -124,7 +123,7 @@ module _ (o : OpenNet) (part : List Bool) (n : ℕ) where
         own = λ i j w. sym ((leads i (in_ports o net w.0 n i (Port n j) w.1) w.0 n j w.1).0 refl);
         touched = λ i j l m k h w v link.
             let a = link_first (open_graph o) (Without n (nodes_in part)) l m link in
-            let b = link_last (open_graph o) (wire_back o net) (Without n (nodes_in part)) l m link in
+            let b = link_last (open_graph o) (Without n (nodes_in part)) l m link in
             let one = (leads i (in_ports o net w.0 n i (Port l k) w.1) w.0 l k w.1).1 a.0 a.1 in
             let two = (leads j (in_ports o net v.0 n j (Port m h) v.1) v.0 m h v.1).1 b.0 b.1 in
             one_mark (mark_in labels m) (class_in o n i) (class_in o n j) (link_label all l m (class_in o n i) link one) two;

@@ -58,7 +58,7 @@ fn spread(
     Ok(())
 }
 
-/// The component of a node of the part.
+/// The component of a node of the part. Once it has all of the part, nothing is left to be looked for.
 pub(crate) fn component(alloc: Global, part: &Part, from: u32) -> Result<NumberSet, AllocError>
     requires { IsIn from (nodes_in part.now.nodes.now) }
     ensures size { IfOk result (λ c. length c ≡ length part.now.wired.now.nodes) }
@@ -68,6 +68,9 @@ pub(crate) fn component(alloc: Global, part: &Part, from: u32) -> Result<NumberS
     let mut pending = Items::new(alloc);
     reach(from, &mut reached, &mut pending)?;
     while let Some(node) = pending.pop() {
+        if reached.absent() <= part.nodes.absent() {
+            continue;
+        }
         spread(part, node as usize, &mut reached, &mut pending)?;
     }
     Ok(reached)

@@ -1,17 +1,18 @@
 //! Sets of numbers below a count, as of the nodes or of the wires of an open net.
 ghost use Rattle.std.specs.Prelude.{◌≡◌, ◌<◌, ◌↔◌, ◌^◌, length, slice_set, IfOk, IsTrue, false, true, ℕ};
 ghost use Rattle.in_simple.specs.Checking.{AreAll, IsUnion, Shares};
-ghost use Rattle.in_simple.specs.Procedure.{IsRest, nodes_in};
+ghost use Rattle.in_simple.specs.Procedure.{IsRest, missing, nodes_in};
 ghost use Rattle.in_simple.specs.Stuck.{IsListed};
 
 use sqlite_items::Items;
 use std::alloc::{AllocError, Global};
 use std::marker::Model;
 
-/// A set of numbers: a test for each below the count.
+/// A set of numbers: a test for each below the count, and how many of them are no members.
 #[derive(Drop)]
 pub(crate) struct NumberSet {
     tests: Items<bool>,
+    absent: usize,
 }
 
 // Contracts see the tests.
@@ -21,6 +22,11 @@ impl Model for NumberSet {
     ghost Value = { List Bool };
 
     ghost view = { λ s. s.tests };
+
+    ghost use Rattle.std.specs.Prelude.{◌≡◌, ◌<◌, ◌^◌, length};
+    ghost use Rattle.in_simple.specs.Procedure.{missing};
+
+    ghost invariant = { λ s. (s.absent ≡ missing s.tests) × (length s.tests < 2 ^ 64) };
 }
 
 impl NumberSet {
@@ -33,6 +39,7 @@ impl NumberSet {
         tests.resize(count, false)?;
         Ok(NumberSet {
             tests: Items::from_vec(tests),
+            absent: count,
         })
     }
 
@@ -41,11 +48,12 @@ impl NumberSet {
         ensures size { IfOk result (λ set. length set ≡ count) }
         ensures all { IfOk result (λ set. (n : ℕ) → n < count → nodes_in set n ≡ true) }
     {
-        let mut tests = Items::new(alloc);
-        for number in 0..count {
-            tests.push(true)?;
-        }
-        Ok(NumberSet { tests })
+        let mut tests = Vec::new(alloc);
+        tests.resize(count, true)?;
+        Ok(NumberSet {
+            tests: Items::from_vec(tests),
+            absent: 0,
+        })
     }
 
     /// How many tests there are.
@@ -67,13 +75,14 @@ impl NumberSet {
 
     /// How many members there are.
     pub(crate) fn count(&self) -> usize {
-        let mut count = 0usize;
-        for number in 0..self.len() {
-            if self.has(number) {
-                count = count.wrapping_add(1);
-            }
-        }
-        count
+        self.len().saturating_sub(self.absent)
+    }
+
+    /// How many numbers below the count are no members.
+    pub(crate) fn absent(&self) -> usize
+        ensures { result ≡ missing self.now }
+    {
+        self.absent
     }
 
     /// The members in rising order.
@@ -119,7 +128,10 @@ impl NumberSet {
         requires { number < length self.old }
         ensures { self.new ≡ slice_set self.old number true }
     {
-        self.tests.set(number, true);
+        if !self.has(number) {
+            self.absent -= 1;
+            self.tests.set(number, true);
+        }
     }
 
     /// Makes the members of another set of the same size members too.
@@ -142,8 +154,13 @@ impl NumberSet {
         ensures rest { IfOk result (IsRest number self.now) }
         ensures out { IfOk result (λ rest. nodes_in rest number ≡ false) }
     {
+        let absent = if self.has(number) {
+            self.absent + 1
+        } else {
+            self.absent
+        };
         let mut tests = Items::from_slice(alloc, self.tests.as_slice())?;
         tests.set(number, false);
-        Ok(NumberSet { tests })
+        Ok(NumberSet { tests, absent })
     }
 }

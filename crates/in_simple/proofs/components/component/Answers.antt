@@ -1,7 +1,7 @@
-use Rattle.std.proofs.Common.{◌<◌, ◌∙◌, sym, subst}
+use Rattle.std.proofs.Common.{arith, ◌≤◌, ◌<◌, ◌∙◌, sym, subst}
 use Rattle.in_simple.specs.Stuck.{Among}
-use Rattle.in_simple.specs.Procedure.{IsSearch, Reaches}
-use Rattle.in_simple.proofs.Reaching.{among_last, in_length, search_start, search_step, search_end}
+use Rattle.in_simple.specs.Procedure.{missing, IsSearch, Reaches}
+use Rattle.in_simple.proofs.Reaching.{search_all, among_last, in_length, search_start, search_step, search_end}
 use Rattle.in_simple.proofs.components.component.Goals as goal
 
 pub reach-requires : goal.reach-requires
@@ -29,6 +29,14 @@ loop-node-preserved c =
     let nodes = c.args.part.now.nodes.now in
     search_step o c.nodes.ensures.net.net nodes c.args.from c.requires c.in-Some.node c.loop-node.reached c.pop.new.self c.spread.new.reached c.spread.new.pending
     (subst (λ z. IsSearch o nodes c.args.from c.loop-node.reached z) c.in-Some.ensures c.loop-node.invariant) c.in_ok-spread.ensures
+
+pub loop-node-preserved-then-absent : goal.loop-node-preserved-then-absent
+loop-node-preserved-then-absent c =
+    let o = c.args.part.now.wired.now in
+    let nodes = c.args.part.now.nodes.now in
+    let few : missing c.loop-node.reached ≤ missing nodes = let a = c.absent.ensures in let b = c.absent-in-Some.ensures in let f = c.if-absent.true in omega arith in
+    search_all o c.nodes.ensures.net.net nodes c.args.from c.requires c.in-Some.node c.loop-node.reached c.pop.new.self
+    (subst (λ z. IsSearch o nodes c.args.from c.loop-node.reached z) c.in-Some.ensures c.loop-node.invariant) (c.loop-node.invariant.size ∙ sym c.args.part.now.size) few
 
 pub returns-clause-reached : goal.returns-clause-reached
 returns-clause-reached c =
