@@ -7,6 +7,7 @@ pub mod Classes
 pub mod Counted
 pub mod Derives
 pub mod EachSplits
+pub mod Fates
 pub mod Finishing
 pub mod Forest
 pub mod Grow

@@ -1,7 +1,9 @@
 -- Which nets the tasks of a plan put on a stack.
 use Rattle.std.specs.Prelude.{◌≡◌, ◌⊎◌, ◌↔◌, ℕ, zero, suc, ◌+◌, ◌<◌, ◌≤◌, Bool, true, false, ◌||◌, nat_eq, List, [], ◌∷◌, ◌++◌, length, map}
 use Rattle.in_simple.specs.declared.open_nets.Point.{Point}
-use Rattle.in_simple.specs.declared.open_nets.Point.TheVariants.{Port}
+use Rattle.in_simple.specs.declared.open_nets.Point.TheVariants.{Port, Free}
+use Rattle.in_simple.specs.declared.plans.Fate.{Fate}
+use Rattle.in_simple.specs.declared.plans.Fate.TheVariants.{Waits, Derived, Outside}
 use Rattle.in_simple.specs.declared.plans.Joint.{Joint}
 use Rattle.in_simple.specs.declared.plans.Joint.TheVariants.{Link}
 use Rattle.in_simple.specs.declared.plans.Plan.{Plan}
@@ -23,6 +25,31 @@ net_of n done = shape (λ m. nat_eq m n || nodes_in done m) no_wires
 
 abbrev pub PutsNet : OpenNet → ℕ → Plan → Type 0
 PutsNet o n p = Puts o p.tasks (net_of n p.done ∷ [])
+
+-- ---- the node at the other end of a wire
+
+-- both sets have a test for the node
+abbrev pub HasTests : Plan → ℕ → Type 0
+HasTests p m = (m < length p.rest) × (m < length p.done)
+
+abbrev pub HasTestsAt : Plan → Point → Type 0
+HasTestsAt p (Port m i) = HasTests p m
+HasTestsAt p (Free k) = Unit {0}
+
+abbrev pub HasFate : Plan → ℕ → Fate → Type 0
+HasFate p m (Waits l) = (l ≡ m) × IsIn m (nodes_in p.rest) × (nodes_in p.done m ≡ false)
+HasFate p m Derived = IsIn m (nodes_in p.rest) × IsIn m (nodes_in p.done)
+HasFate p m Outside = nodes_in p.rest m ≡ false
+
+abbrev pub HasFateAt : Plan → Point → Fate → Type 0
+HasFateAt p q (Waits l) = (k : ℕ) × (q ≡ Port l k) × IsIn l (nodes_in p.rest) × (nodes_in p.done l ≡ false)
+HasFateAt p q Derived = (l : ℕ) × (k : ℕ) × (q ≡ Port l k) × IsIn l (nodes_in p.rest) × IsIn l (nodes_in p.done)
+HasFateAt p q Outside = is_port_in (nodes_in p.rest) q ≡ 0
+
+-- the point is a port of n up to i
+abbrev pub LeadsBack : ℕ → ℕ → Point → Type 0
+LeadsBack n i (Port l k) = (l ≡ n) × (k ≤ i)
+LeadsBack n i (Free k) = ⊥
 
 -- ---- the nets of an agent's classes
 

@@ -1,8 +1,8 @@
-ghost use Rattle.std.specs.Prelude.{[], ◌∷◌, ◌≡◌, ◌<◌, ◌+◌, ◌-◌, ◌||◌, suc, length, IfOk, ℕ};
+ghost use Rattle.std.specs.Prelude.{[], ◌∷◌, ◌≡◌, ◌<◌, ◌+◌, ◌-◌, ◌||◌, ◌↔◌, suc, length, IfOk, IsTrue, ℕ};
 ghost use Rattle.in_simple.specs.Constructions.{IsIn};
 ghost use Rattle.in_simple.specs.Procedure.{AreSized, Derives, GoesOn, IsFirst, IsPlan, IsRest, KeepsPlan, Lists, nodes_in, with_task};
 ghost use Rattle.in_simple.specs.OpenNets.{IsAgent, IsClass, IsOrderly, class_in, classes_of, open_graph};
-ghost use Rattle.in_simple.specs.Planned.{HasClasses, IsBegun, PutsNet, Skipping, Skips, Takes, TakesPart, WhatComes, WhatPort, WithEmpties};
+ghost use Rattle.in_simple.specs.Planned.{HasClasses, HasFate, HasFateAt, HasTests, HasTestsAt, IsBegun, LeadsBack, PutsNet, Skipping, Skips, Takes, TakesPart, WhatComes, WhatPort, WithEmpties};
 ghost use Rattle.in_simple.specs.TakenOrder.{before, empties};
 ghost use Rattle.in_simple.specs.Splitting.{SplitsAt};
 ghost use Rattle.in_simple.specs.Stacks.{Puts, no_wires, shape};
@@ -36,6 +36,26 @@ pub(crate) enum Task {
     Make(Joint),
 }
 
+/// What a plan has for what is at the other end of a wire.
+enum Fate {
+    /// A node that is left and not derived yet.
+    Waits(u32),
+    /// One that is left, and derived.
+    Derived,
+    /// None that is left.
+    Outside,
+}
+
+/// Whether the point is one of the node's ports up to this one.
+fn leads_back(point: Point, node: usize, port: usize) -> bool
+    ensures { IsTrue result ↔ LeadsBack node port point }
+{
+    match point {
+        Point::Port(near, place) => near as usize == node && place as usize <= port,
+        Point::Free(_) => false,
+    }
+}
+
 /// The tasks of a part of which one node is taken out, the nodes that are left, and those that the tasks derive.
 #[derive(Drop)]
 pub(crate) struct Plan {
@@ -67,6 +87,31 @@ impl Plan {
         Ok(self)
     }
 
+    /// What becomes of a node.
+    fn fate(&self, near: u32) -> Fate
+        requires { HasTests self.now near }
+        ensures { HasFate self.now near result }
+    {
+        if !self.rest.as_slice()[near as usize] {
+            Fate::Outside
+        } else if self.done.as_slice()[near as usize] {
+            Fate::Derived
+        } else {
+            Fate::Waits(near)
+        }
+    }
+
+    /// What becomes of the node at a point.
+    fn fate_at(&self, point: Point) -> Fate
+        requires { HasTestsAt self.now point }
+        ensures { HasFateAt self.now point result }
+    {
+        match point {
+            Point::Port(near, _) => self.fate(near),
+            Point::Free(_) => Fate::Outside,
+        }
+    }
+
     /// The component that a port touches, unless it is derived; else the port's wire, where it leads out of the part or to
     /// a later port. Answers whether something came.
     fn port(
@@ -85,21 +130,17 @@ impl Plan {
         ensures adds { IfOk result (λ r. WhatPort wired.now node port self r.0 r.1) }
         ensures comes { IfOk result (λ r. WhatComes wired.now node port self r.0 r.1) }
     {
-        match wired.partner(node, port) {
-            (wire, Point::Port(near, place)) => {
-                if self.rest.as_slice()[near as usize] {
-                    if self.done.as_slice()[near as usize] {
-                        Ok((self, false))
-                    } else {
-                        Ok((self.derive(alloc, wired, near)?, true))
-                    }
-                } else if near as usize == node && place as usize <= port {
+        let (wire, point) = wired.partner(node, port);
+        match self.fate_at(point) {
+            Fate::Waits(near) => Ok((self.derive(alloc, wired, near)?, true)),
+            Fate::Derived => Ok((self, false)),
+            Fate::Outside => {
+                if leads_back(point, node, port) {
                     Ok((self, false))
                 } else {
                     Ok((self.make(Joint::Link(wire))?, true))
                 }
             }
-            (wire, Point::Free(_)) => Ok((self.make(Joint::Link(wire))?, true)),
         }
     }
 
@@ -121,19 +162,10 @@ impl Plan {
         ensures net { IfOk result (PutsNet wired.now node) }
         ensures takes { IfOk result (Takes wired.now node (suc (turn wired.now node port)) []) }
     {
-        match wired.partner(node, port) {
-            (wire, Point::Port(near, _)) => {
-                if self.rest.as_slice()[near as usize] {
-                    if self.done.as_slice()[near as usize] {
-                        Ok(self)
-                    } else {
-                        self.derive(alloc, wired, near)?.make(Joint::Cut(wire))
-                    }
-                } else {
-                    Ok(self)
-                }
-            }
-            (_, Point::Free(_)) => Ok(self),
+        let (wire, point) = wired.partner(node, port);
+        match self.fate_at(point) {
+            Fate::Waits(near) => self.derive(alloc, wired, near)?.make(Joint::Cut(wire)),
+            Fate::Derived | Fate::Outside => Ok(self),
         }
     }
 
@@ -302,14 +334,9 @@ impl Plan {
         ensures net { IfOk result (PutsNet wired.now node) }
         ensures takes { IfOk result (Takes wired.now node (suc (suc (ports_of wired.now node) + near)) []) }
     {
-        if self.rest.as_slice()[near as usize] {
-            if self.done.as_slice()[near as usize] {
-                Ok(self)
-            } else {
-                self.derive(alloc, wired, near)?.make(Joint::Mix)
-            }
-        } else {
-            Ok(self)
+        match self.fate(near) {
+            Fate::Waits(_) => self.derive(alloc, wired, near)?.make(Joint::Mix),
+            Fate::Derived | Fate::Outside => Ok(self),
         }
     }
 

@@ -1,79 +1,47 @@
-use Rattle.std.proofs.Common.{◌≡◌, suc, true, false, subst}
-use Rattle.in_simple.specs.declared.open_nets.Point.{Point}
-use Rattle.in_simple.specs.declared.open_nets.Point.TheVariants.{Port, Free}
-use Rattle.in_simple.specs.Constructions.{IsIn}
-use Rattle.in_simple.specs.Procedure.{nodes_in}
-use Rattle.in_simple.proofs.Sound.{port_place}
-use Rattle.in_simple.proofs.Sums.{not_both}
-use Rattle.in_simple.proofs.Taking.{join_nothing, join_takes}
-use Rattle.in_simple.specs.OpenNets.{IsWire}
+use Rattle.std.proofs.Common.{suc}
 use Rattle.in_simple.specs.Stuck.{turn}
+use Rattle.in_simple.proofs.Fates.{along, met_past, tests_at}
 use Rattle.in_simple.proofs.Nets.{net_join, one_port}
-use Rattle.in_simple.proofs.Planning.{port_free, port_out, port_done, port_derive, goes_make, read_bit}
 use Rattle.in_simple.proofs.OkValues.{if_ok}
+use Rattle.in_simple.proofs.Planning.{port_pass, port_derive, goes_make}
+use Rattle.in_simple.proofs.Taking.{join_nothing, join_takes}
 use Rattle.in_simple.proofs.plans.Plan.join.Goals as goal
 
-pub returns-then-as_slice-near-2 : goal.returns-then-as_slice-near-2
-returns-then-as_slice-near-2 c =
+pub fate_at-requires : goal.fate_at-requires
+fate_at-requires c = tests_at c.args.wired.now c.args.node (turn c.args.wired.now c.args.node c.args.port) c.args.self c.requires.plan c.partner-wire.result.1 c.partner-wire.ensures.point
+
+pub returns-in_ok-derive-in-Waits : goal.returns-in_ok-derive-in-Waits
+returns-in_ok-derive-in-Waits c =
     let o = c.args.wired.now in
     let n = c.args.node in
     let i = c.args.port in
     let p = c.args.self in
-    let net = c.partner.ensures.net.net in
-    let v = c.partner.result.0 in
-    let x = c.in_default-Port in
-    let wire = subst (λ z. IsWire o v (Port n i) z) x.is-1 c.partner.ensures.wire in
+    let r = c.requires in
+    let net = c.partner-wire.ensures.net.net in
+    let w = c.partner-wire.result.0 in
+    let q = c.partner-wire.result.1 in
+    let wire = c.partner-wire.ensures.wire in
+    let l = c.in-Waits.near in
+    let f = c.in-Waits.ensures in
+    let there = along o net n p i w q wire l f.0 f.1 in
+    let d = c.in_ok-derive-in-Waits in
     record {
-      plan = port_done o net n p i v x.near x.field-1-1 c.requires.port c.requires.plan wire (read_bit _ p.done x.near true c.as_slice-then-as_slice-near.ensures c.if-as_slice-near-2.true);
-      net = c.requires.net;
-      takes = join_nothing o net n p i c.requires.port c.requires.principal c.requires.plan (λ w l j g m. let e = (port_place x.near l x.field-1-1 j (net.once v w (Port n i) (Port x.near x.field-1-1) (Port l j) wire g).1).0 in subst (λ z. IsIn z (nodes_in p.done)) e (read_bit _ p.done x.near true c.as_slice-then-as_slice-near.ensures c.if-as_slice-near-2.true)) c.requires.takes;
+      plan = if_ok c.make.result (λ x h. goes_make o n (suc (turn o n i)) p d.field-0 x _ (port_derive o net n p d.field-0 i w l f.0 r.plan there f.2 f.3 d.ensures) h) c.make.ensures;
+      net = if_ok c.make.result (λ x h. net_join o net n (turn o n i) p r.plan l d.field-0 f.2 f.3 d.ensures x i w f.0 r.net there r.principal (one_port o net n i w q r.node wire r.principal) h) c.make.ensures;
+      takes = if_ok c.make.result (λ x h. join_takes o net n p d.field-0 x i w l f.0 r.port r.principal r.plan there f.2 f.3 d.ensures h r.takes) c.make.ensures;
     }
 
-pub returns-in_ok-derive-in_default-Port : goal.returns-in_ok-derive-in_default-Port
-returns-in_ok-derive-in_default-Port c =
+pub returns-in-Derived : goal.returns-in-Derived
+returns-in-Derived c =
     let o = c.args.wired.now in
     let n = c.args.node in
     let i = c.args.port in
     let p = c.args.self in
-    let net = c.partner.ensures.net.net in
-    let v = c.partner.result.0 in
-    let x = c.in_default-Port in
-    let wire = subst (λ z. IsWire o v (Port n i) z) x.is-1 c.partner.ensures.wire in
-    let d = c.in_ok-derive-in_default-Port in
+    let r = c.requires in
+    let net = c.partner-wire.ensures.net.net in
+    let met = met_past o net n p i c.partner-wire.result.0 c.partner-wire.result.1 c.partner-wire.ensures.wire c.fate_at.result c.in-Derived.is c.fate_at.ensures in
     record {
-      plan = if_ok c.make.result (λ q h. goes_make o n (suc (turn o n i)) p d.field-0 q _ (port_derive o net n p d.field-0 i v x.near x.field-1-1 c.requires.plan wire (read_bit _ p.rest x.near true c.as_slice.ensures c.if-as_slice-near.true) (read_bit _ p.done x.near false c.as_slice-then-as_slice-near.ensures c.if-as_slice-near-2.false) d.ensures) h) c.make.ensures;
-      net = if_ok c.make.result (λ q h. net_join o net n (turn o n i) p c.requires.plan x.near d.field-0 (read_bit _ p.rest x.near true c.as_slice.ensures c.if-as_slice-near.true) (read_bit _ p.done x.near false c.as_slice-then-as_slice-near.ensures c.if-as_slice-near-2.false) d.ensures q i v x.field-1-1 c.requires.net wire c.requires.principal (one_port o net n i v (Port x.near x.field-1-1) c.requires.node wire c.requires.principal) h) c.make.ensures;
-      takes = if_ok c.make.result (λ q h. join_takes o net n p d.field-0 q i v x.near x.field-1-1 c.requires.port c.requires.principal c.requires.plan wire (read_bit _ p.rest x.near true c.as_slice.ensures c.if-as_slice-near.true) (read_bit _ p.done x.near false c.as_slice-then-as_slice-near.ensures c.if-as_slice-near-2.false) d.ensures h c.requires.takes) c.make.ensures;
-    }
-
-pub returns-else-as_slice-near : goal.returns-else-as_slice-near
-returns-else-as_slice-near c =
-    let o = c.args.wired.now in
-    let n = c.args.node in
-    let i = c.args.port in
-    let p = c.args.self in
-    let net = c.partner.ensures.net.net in
-    let v = c.partner.result.0 in
-    let x = c.in_default-Port in
-    let wire = subst (λ z. IsWire o v (Port n i) z) x.is-1 c.partner.ensures.wire in
-    record {
-      plan = port_out o net n p i v x.near x.field-1-1 c.requires.port c.requires.plan wire (read_bit _ p.rest x.near false c.as_slice.ensures c.if-as_slice-near.false);
-      net = c.requires.net;
-      takes = join_nothing o net n p i c.requires.port c.requires.principal c.requires.plan (λ w l j g m. let e = (port_place x.near l x.field-1-1 j (net.once v w (Port n i) (Port x.near x.field-1-1) (Port l j) wire g).1).0 in absurd (not_both (nodes_in p.rest l) m (subst (λ z. nodes_in p.rest z ≡ false) e (read_bit _ p.rest x.near false c.as_slice.ensures c.if-as_slice-near.false)))) c.requires.takes;
-    }
-
-pub returns-in_default-Free : goal.returns-in_default-Free
-returns-in_default-Free c =
-    let o = c.args.wired.now in
-    let n = c.args.node in
-    let i = c.args.port in
-    let p = c.args.self in
-    let net = c.partner.ensures.net.net in
-    let v = c.partner.result.0 in
-    let x = c.in_default-Free in
-    let wire = subst (λ z. IsWire o v (Port n i) z) x.is-1 c.partner.ensures.wire in
-    record {
-      plan = port_free o net n p i v x.field-0-1 c.requires.port c.requires.plan wire;
-      net = c.requires.net;
-      takes = join_nothing o net n p i c.requires.port c.requires.principal c.requires.plan (λ w l j g m. let e : ◌≡◌ {A = Point} (Free x.field-0-1) (Port l j) = (net.once v w (Port n i) (Free x.field-0-1) (Port l j) wire g).1 in cc) c.requires.takes;
+      plan = port_pass o net n p i r.port r.plan met;
+      net = r.net;
+      takes = join_nothing o net n p i r.port r.principal r.plan met r.takes;
     }
