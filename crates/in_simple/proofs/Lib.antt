@@ -35,6 +35,7 @@ pub mod Slots
 pub mod Sound
 pub mod SplittingPorts
 pub mod Stacking
+pub mod Stages
 pub mod StuckNodes
 pub mod Sums
 pub mod Taking

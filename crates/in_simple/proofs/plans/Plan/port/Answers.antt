@@ -1,5 +1,5 @@
 use Rattle.std.proofs.Common.{◌≡◌, suc, false, nat_eq, sym, subst}
-use Rattle.in_simple.specs.Procedure.{nodes_in}
+use Rattle.in_simple.specs.Procedure.{GoesOn, IsPlan, nodes_in}
 use Rattle.in_simple.specs.Stacks.{shape, no_wires}
 use Rattle.in_simple.specs.Stuck.{turn}
 use Rattle.in_simple.proofs.Fates.{along, back_at, later_port, leads_away, met_derived, met_none, tests_at}
@@ -7,10 +7,11 @@ use Rattle.in_simple.proofs.Taking.{comes_done, comes_own, comes_component, come
 use Rattle.in_simple.proofs.ClassNets.{nothing_done, nothing_own, adds_component, adds_link}
 use Rattle.in_simple.proofs.Planning.{port_pass, port_derive, goes_make}
 use Rattle.in_simple.proofs.Sums.{not_both}
+use Rattle.in_simple.proofs.Stages.{own_turn}
 use Rattle.in_simple.proofs.plans.Plan.port.Goals as goal
 
 pub fate_at-requires : goal.fate_at-requires
-fate_at-requires c = tests_at c.args.wired.now c.args.node (turn c.args.wired.now c.args.node c.args.port) c.args.self c.requires.plan c.partner-wire.result.1 c.partner-wire.ensures.point
+fate_at-requires c = tests_at c.args.wired.now c.args.node c.args.port c.args.self c.requires.plan c.partner-wire.result.1 c.partner-wire.ensures.point
 
 pub returns-in_ok-derive-in-Waits : goal.returns-in_ok-derive-in-Waits
 returns-in_ok-derive-in-Waits c =
@@ -18,7 +19,9 @@ returns-in_ok-derive-in-Waits c =
     let n = c.args.node in
     let i = c.args.port in
     let p = c.args.self in
-    let r = c.requires in
+    let a = c.requires.port in
+    let own = own_turn o n i a in
+    let h = subst (λ z. IsPlan o n z p) (sym own) c.requires.plan in
     let net = c.partner-wire.ensures.net.net in
     let w = c.partner-wire.result.0 in
     let q = c.partner-wire.result.1 in
@@ -28,9 +31,9 @@ returns-in_ok-derive-in-Waits c =
     let there = along o net n p i w q wire l f.0 f.1 in
     let d = c.in_ok-derive-in-Waits in
     record {
-      plan = port_derive o net n p d.field-0 i w l f.0 r.plan there f.2 f.3 d.ensures;
-      adds = (shape (nodes_in d.ensures.component) no_wires, adds_component o net n (turn o n i) p r.plan i w l f.0 d.field-0 there f.2 f.3 d.ensures);
-      comes = comes_component o net n p i w r.agent r.auxiliary r.port r.plan d.field-0 l f.0 there f.2 f.3 d.ensures;
+      plan = subst (λ z. GoesOn o n (suc z) p d.field-0) own (port_derive o net n p d.field-0 i w l f.0 h there f.2 f.3 d.ensures);
+      adds = (shape (nodes_in d.ensures.component) no_wires, adds_component o net n i p c.requires.plan i w l f.0 d.field-0 there f.2 f.3 d.ensures);
+      comes = comes_component o net n p i w a.agent a.auxiliary a.port h d.field-0 l f.0 there f.2 f.3 d.ensures;
     }
 
 pub returns-in-Derived : goal.returns-in-Derived
@@ -39,7 +42,9 @@ returns-in-Derived c =
     let n = c.args.node in
     let i = c.args.port in
     let p = c.args.self in
-    let r = c.requires in
+    let a = c.requires.port in
+    let own = own_turn o n i a in
+    let h = subst (λ z. IsPlan o n z p) (sym own) c.requires.plan in
     let net = c.partner-wire.ensures.net.net in
     let w = c.partner-wire.result.0 in
     let q = c.partner-wire.result.1 in
@@ -47,9 +52,9 @@ returns-in-Derived c =
     let f = c.in-Derived.ensures in
     let there = along o net n p i w q wire f.0 f.1 f.2 in
     record {
-      plan = port_pass o net n p i r.port r.plan (met_derived o net n p i w q wire f);
-      adds = nothing_done o net n (turn o n i) p r.plan i w f.0 f.1 there f.3 f.4;
-      comes = comes_done o net n p i w r.agent r.auxiliary r.port r.plan f.0 f.1 there f.3 f.4;
+      plan = subst (λ z. GoesOn o n (suc z) p p) own (port_pass o net n p i a.port h (met_derived o net n p i w q wire f));
+      adds = nothing_done o net n i p c.requires.plan i w f.0 f.1 there f.3 f.4;
+      comes = comes_done o net n p i w a.agent a.auxiliary a.port h f.0 f.1 there f.3 f.4;
     }
 
 pub returns-then-leads_back : goal.returns-then-leads_back
@@ -58,7 +63,9 @@ returns-then-leads_back c =
     let n = c.args.node in
     let i = c.args.port in
     let p = c.args.self in
-    let r = c.requires in
+    let a = c.requires.port in
+    let own = own_turn o n i a in
+    let h = subst (λ z. IsPlan o n z p) (sym own) c.requires.plan in
     let net = c.partner-wire.ensures.net.net in
     let w = c.partner-wire.result.0 in
     let q = c.partner-wire.result.1 in
@@ -66,11 +73,11 @@ returns-then-leads_back c =
     let f = c.in-Outside.ensures in
     let b = back_at n i q (c.leads_back.ensures.0 c.if-leads_back.true) in
     let there = along o net n p i w q wire b.0 b.1 b.2 in
-    let out = subst (λ z. nodes_in p.rest z ≡ false) (sym b.3) r.plan.out in
+    let out = subst (λ z. nodes_in p.rest z ≡ false) (sym b.3) h.out in
     record {
-      plan = port_pass o net n p i r.port r.plan (λ v l k g here. absurd (met_none o net n p i w q wire f v l k g here));
-      adds = nothing_own o net n (turn o n i) p r.plan i w b.0 b.1 there out b.3 b.4;
-      comes = comes_own o net n p i w r.agent r.auxiliary r.port r.plan b.0 b.1 there out b.3 b.4;
+      plan = subst (λ z. GoesOn o n (suc z) p p) own (port_pass o net n p i a.port h (λ v l k g here. absurd (met_none o net n p i w q wire f v l k g here)));
+      adds = nothing_own o net n i p c.requires.plan i w b.0 b.1 there out b.3 b.4;
+      comes = comes_own o net n p i w a.agent a.auxiliary a.port h b.0 b.1 there out b.3 b.4;
     }
 
 pub returns-in_ok-make-in-Outside : goal.returns-in_ok-make-in-Outside
@@ -79,7 +86,9 @@ returns-in_ok-make-in-Outside c =
     let n = c.args.node in
     let i = c.args.port in
     let p = c.args.self in
-    let r = c.requires in
+    let a = c.requires.port in
+    let own = own_turn o n i a in
+    let h = subst (λ z. IsPlan o n z p) (sym own) c.requires.plan in
     let net = c.partner-wire.ensures.net.net in
     let w = c.partner-wire.result.0 in
     let q = c.partner-wire.result.1 in
@@ -88,7 +97,7 @@ returns-in_ok-make-in-Outside c =
     let m = c.in_ok-make-in-Outside in
     let away = leads_away (nodes_in p.rest) n i q f (λ b. not_both c.leads_back.result (c.leads_back.ensures.1 b) c.if-leads_back.false) in
     record {
-      plan = goes_make o n (suc (turn o n i)) p p m.field-0 _ (port_pass o net n p i r.port r.plan (λ v l k g here. absurd (met_none o net n p i w q wire f v l k g here))) m.ensures;
-      adds = (shape (λ m. false) (λ v. nat_eq v w), adds_link o net n (turn o n i) p r.plan i w q m.field-0 wire f (later_port (nodes_in p.rest) n i q away) m.ensures);
-      comes = comes_link o net n p i w r.agent r.auxiliary r.port r.plan m.field-0 q wire away m.ensures;
+      plan = subst (λ z. GoesOn o n (suc z) p m.field-0) own (goes_make o n (suc (turn o n i)) p p m.field-0 _ (port_pass o net n p i a.port h (λ v l k g here. absurd (met_none o net n p i w q wire f v l k g here))) m.ensures);
+      adds = (shape (λ m. false) (λ v. nat_eq v w), adds_link o net n i p c.requires.plan i w q m.field-0 wire f (later_port (nodes_in p.rest) n i q away) m.ensures);
+      comes = comes_link o net n p i w a.agent a.auxiliary a.port h m.field-0 q wire away m.ensures;
     }
