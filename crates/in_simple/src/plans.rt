@@ -37,13 +37,13 @@ pub(crate) enum Task {
     Make(Joint),
 }
 
-/// What a plan has for what is at the other end of a wire.
+/// What becomes of a node, or of what is at the other end of a wire.
 enum Fate {
-    /// A node that is left and not derived yet.
+    /// It is left and not derived yet.
     Waits(u32),
-    /// One that is left, and derived.
+    /// It is left, and derived.
     Derived,
-    /// None that is left.
+    /// It is no node that is left.
     Outside,
 }
 
@@ -303,6 +303,7 @@ impl<'a> Begun<'a> {
         for port in 0..ports {
             joined = joined.port(alloc, port)?;
         }
+        // No port of a class node has the turn after these.
         joined.turn = ports + 1;
         Ok(joined)
     }
@@ -335,7 +336,7 @@ impl<'a> Classes<'a> {
             begun,
         } = self;
         let skipped = skip(plan, class - begun - 1)?;
-        // What comes here has not come at a port of another class.
+        // Something comes: a component that touches ports of two classes would keep the node from splitting.
         let (plan, _) = skipped.port(alloc, wired, node, port)?;
         Ok(Classes {
             wired,
