@@ -8,7 +8,7 @@ use Rattle.in_simple.specs.declared.plans.Task.{Task}
 use Rattle.in_simple.specs.declared.plans.Task.TheVariants.{Make}
 use Rattle.in_simple.specs.Constructions.{IsIn, AreParts, IsGraft}
 use Rattle.in_simple.specs.Splitting.{alone}
-use Rattle.in_simple.specs.OpenNets.{OpenNet, IsAgent, IsPointOf, IsWire, IsOpenNet, IsOrderly, class_in, classes_of, open_graph}
+use Rattle.in_simple.specs.OpenNets.{OpenNet, IsAgent, IsPointOf, IsWire, IsOpenNet, class_in, classes_of, open_graph}
 use Rattle.in_simple.specs.Derivations.{Part, Graft, is_port_in}
 use Rattle.in_simple.specs.Stuck.{ports_of}
 use Rattle.in_simple.specs.Procedure.{nodes_in, IsPlan, Derives, with_task}
@@ -23,7 +23,7 @@ use Rattle.in_simple.proofs.Search.{at_ports, in_ports}
 use Rattle.in_simple.proofs.Forest.{length_app}
 use Rattle.std_collections.proofs.ListMemory.Steps.{unsnoc}
 use Rattle.in_simple.proofs.Make.{port_most, hanging, hanging_is, hanging_yes, fit_graft}
-use Rattle.in_simple.proofs.Joining.{shape_same, built_over, fits_empty, fits_link, fits_mix}
+use Rattle.in_simple.proofs.Joining.{shape_same, built_over, fits_link, fits_mix}
 use Rattle.in_simple.proofs.Stacking.{none_more}
 use Rattle.in_simple.proofs.Nets.{Joined, joined_on, joined_back, joined_first, joined_last, joined_near, not_root, done_on, in_both, component_new, puts_none, puts_make, puts_derive}
 use Rattle.std.proofs.lemmas.Bool.{and_from, or_cases, or_left, or_right}
@@ -224,43 +224,6 @@ module _ (o : OpenNet) (net : IsOpenNet o) (n : ℕ) where
                   | inl e ↦ (a.links w).1 (subst (λ z. LeadsOff o p.rest n z w) e y.3)
                   | inr l ↦ let v = y.3 in let s = f.most y.0 l (in_ports o net w n y.0 v.0 v.1) in let u = y.2 in absurd (omega arith)
                 ],
-              );
-            }
-
-        pub first_nothing : (q : Plan) (us : List Task) → Puts o us (f.shapes ++ shape (λ n. false) no_wires ∷ []) → AddsNothing o n b p q → PutsClasses o p.rest n (suc b) (class_in o n b) us p.done
-        first_nothing q us more a = record {
-          shapes = f.shapes ++ shape (λ n. false) no_wires ∷ [];
-          puts = more;
-          many = let l = length_app f.shapes (shape (λ n. false) no_wires ∷ []) in let k = f.many in omega arith;
-          each = let k = f.many in classes_snoc p.rest (suc b) 1 f.shapes (shape (λ n. false) no_wires) (classes_next p.rest b 1 f.shapes (omega arith) f.each) (let e : class_in o n b ≡ 1 + length f.shapes = omega arith in subst (λ z. IsClassShape o p.rest n (suc b) z (shape (λ n. false) no_wires)) e new);
-          most = most_next (class_in o n b) (omega arith) (omega arith);
-          done_is = done_same q a;
-        }
-          where
-            earlier : (i : ℕ) → IsBelow b i → i < ports_of o n → class_in o n i ≡ class_in o n b → ⊥
-            earlier i l k e = let s = f.most i l k in omega arith
-
-            new : IsClassShape o p.rest n (suc b) (class_in o n b) (shape (λ n. false) no_wires)
-            new = record {
-              nodes = λ m. (
-                (λ g. absurd (not_both false g refl)),
-                λ y. absurd (elim (below_cases b y.0 y.1) [
-                  | inl e ↦
-                      let g = (f.done_is m).0 (a.met m (subst (λ z. Meets o p.rest n z m) e y.3)) in
-                      let v = g.2 in
-                      earlier g.0 g.1 (in_ports o net v.0 n g.0 (Port v.1 v.2) v.3) (meets_class t p h g.0 y.0 m g.2 y.3 ∙ y.2)
-                  | inr l ↦ let v = y.3 in earlier y.0 l (in_ports o net v.0 n y.0 (Port v.1 v.2) v.3) y.2
-                ]),
-              );
-              links = λ w. (
-                (λ g. absurd (not_both false g refl)),
-                λ y. absurd (elim (below_cases b y.0 y.1) [
-                  | inl e ↦
-                      let g = a.past w (subst (λ z. LeadsOff o p.rest n z w) e y.3) in
-                      let k = past_class w g.0 (omega arith) g.1 g.2 in
-                      earlier g.0 k.0 (in_ports o net w n g.0 (Port n b) (wire_turn o w (Port n b) (Port n g.0) g.2)) k.1
-                  | inr l ↦ let v = y.3 in earlier y.0 l (in_ports o net w n y.0 v.0 v.1) y.2
-                ]),
               );
             }
 
@@ -616,15 +579,6 @@ module _ (o : OpenNet) (net : IsOpenNet o) (n : ℕ) where
     | inr u ↦ let e = (net.principal n i agent (point_of i l)).0 (omega arith) in absurd (omega arith)
   ]
 
-  -- where classes stand in order, a port is of the last one that is begun or of a later one
-  pub same_begun : (b begun : ℕ) → IsOrderly o → IsAgent o n → 0 < b → b < ports_of o n → IsBegun o n b begun → class_in o n b ≤ begun → class_in o n b ≡ begun
-  same_begun b begun orderly agent aux l (inl e) le = let u = some_class b agent aux l in absurd (omega arith)
-  same_begun b begun orderly agent aux l (inr x) le =
-      let bl = x.1.1 in
-      let u = orderly.ordered n x.0 b agent (point_of b l) x.1.0 (omega arith) in
-      let v = x.3 in
-      omega arith
-
   pub begun_most : (b begun : ℕ) → IsAgent o n → IsBegun o n b begun → begun ≤ classes_of o n
   begun_most b begun agent (inl e) = omega arith
   begun_most b begun agent (inr x) = let u = net.classes n x.0 agent (point_of x.0 x.2) in let v = x.3 in omega arith
@@ -633,11 +587,6 @@ module _ (o : OpenNet) (net : IsOpenNet o) (n : ℕ) where
     pub first_came : (begun : ℕ) → HasClasses o n b begun p → class_in o n b ≡ suc begun → (q : Plan) → q.rest ≡ p.rest → WhatPort o n b p q true → HasClasses o n (suc b) (class_in o n b) q
     first_came begun f next q same w = subst (λ z. PutsClasses o z n (suc b) (class_in o n b) q.tasks q.done) (sym same)
         (first_adds agent t p h b aux begun p.tasks f next q q.tasks w.0 w.1.puts w.1)
-
-    pub first_none : (begun : ℕ) → HasClasses o n b begun p → class_in o n b ≡ suc begun → (q r : Plan) → WhatPort o n b p q false → r ≡ with_task q (Make joint.Empty) → HasClasses o n (suc b) (class_in o n b) r
-    first_none begun f next q r w e = subst (HasClasses o n (suc b) (class_in o n b)) (sym (e ∙ ap (λ z. with_task z (Make joint.Empty)) w.same))
-        (first_nothing agent t p h b aux begun p.tasks f next q (p.tasks ++ Make joint.Empty ∷ [])
-        (puts_make o p.tasks joint.Empty f.shapes [] (shape (λ m. false) no_wires) (subst (λ z. Puts o p.tasks z) (sym (none_more f.shapes)) f.puts) (fits_empty o net)) w)
 
     pub further_came : HasClasses o n b (class_in o n b) p → 0 < class_in o n b → (q r : Plan) → q.rest ≡ p.rest → WhatPort o n b p q true → r ≡ with_task q (Make joint.Mix) → HasClasses o n (suc b) (class_in o n b) r
     further_came f some q r same w e = subst (HasClasses o n (suc b) (class_in o n b)) (sym e)

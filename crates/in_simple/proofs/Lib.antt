@@ -8,6 +8,7 @@ pub mod Classes
 pub mod Counted
 pub mod Derives
 pub mod EachSplits
+pub mod Fates
 pub mod Finishing
 pub mod Forest
 pub mod Grow
@@ -35,6 +36,7 @@ pub mod Slots
 pub mod Sound
 pub mod SplittingPorts
 pub mod Stacking
+pub mod Stages
 pub mod StuckNodes
 pub mod Sums
 pub mod Taking

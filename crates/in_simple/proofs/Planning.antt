@@ -4,7 +4,7 @@ use Rattle.std.proofs.Common.{◌≡◌, ◌≢◌, ◌<◌, ◌≤◌, ◌+◌,
 use Rattle.in_simple.specs.declared.open_nets.Node.{Node}
 use Rattle.in_simple.specs.declared.open_nets.Node.TheVariants.{AgentNode, ClassNode}
 use Rattle.in_simple.specs.declared.open_nets.OpenNode.{OpenNode}
-use Rattle.in_simple.specs.declared.open_nets.Point.TheVariants.{Port, Free}
+use Rattle.in_simple.specs.declared.open_nets.Point.TheVariants.{Port}
 use Rattle.in_simple.specs.declared.plans.Joint.{Joint}
 use Rattle.in_simple.specs.declared.plans.Plan.{Plan}
 use Rattle.in_simple.specs.declared.plans.Task.{Task}
@@ -18,7 +18,6 @@ use Rattle.in_simple.proofs.Sums.{not_both}
 use Rattle.in_simple.proofs.Links.{same_nat, at_most, link_back, link_first, link_map}
 use Rattle.in_simple.proofs.Reaching.{in_length}
 use Rattle.in_simple.proofs.Search.{in_ports, one_turn, turn_same, meet_same, comes_at, turn_one_port, turn_one_port_most, without}
-use Rattle.in_simple.proofs.Sound.{port_place}
 use Rattle.std.proofs.lemmas.Bool.{or_cases, or_left, or_right}
 
 pub sized_more : (b : ℕ) (ts : List Task) (us : List Task) → AreSized b ts → AreSized b us → AreSized b (ts ++ us)
@@ -334,33 +333,14 @@ module _ (o : OpenNet) (net : IsOpenNet o) (n : ℕ) where
   lists_part part rest r low (Make x ∷ ts) h = lists_part part rest r low ts h
 
   -- port by port
-  pub port_free : (p : Plan) (i w k : ℕ) → i < ports_of o n → IsPlan o n (turn o n i) p → IsWire o w (Port n i) (Free k) → GoesOn o n (suc (turn o n i)) p p
-  port_free p i w k b h wire = (plan_skip (turn o n i) p h (port_none p i b h (λ v l j g m. let e = (net.once w v (Port n i) (Free k) (Port l j) wire g).1 in cc)), refl)
-
-  pub port_out : (p : Plan) (i w l k : ℕ) → i < ports_of o n → IsPlan o n (turn o n i) p → IsWire o w (Port n i) (Port l k) → nodes_in p.rest l ≡ false → GoesOn o n (suc (turn o n i)) p p
-  port_out p i w l k b h wire out = (
-    plan_skip (turn o n i) p h (port_none p i b h (λ v l' j g m.
-        let e = (port_place l l' k j (net.once w v (Port n i) (Port l k) (Port l' j) wire g).1).0 in
-        absurd (not_both (nodes_in p.rest l') m (subst (λ z. nodes_in p.rest z ≡ false) e out)))),
-    refl,
-  )
-
-  pub port_done : (p : Plan) (i w l k : ℕ) → i < ports_of o n → IsPlan o n (turn o n i) p → IsWire o w (Port n i) (Port l k) → IsIn l (nodes_in p.done) → GoesOn o n (suc (turn o n i)) p p
-  port_done p i w l k b h wire here = (
-    plan_skip (turn o n i) p h (port_none p i b h (λ v l' j g m.
-        let e = (port_place l l' k j (net.once w v (Port n i) (Port l k) (Port l' j) wire g).1).0 in
-        subst (λ z. IsIn z (nodes_in p.done)) e here)),
-    refl,
-  )
+  pub port_pass : (p : Plan) (i : ℕ) → i < ports_of o n → IsPlan o n (turn o n i) p → ((w l k : ℕ) → IsWire o w (Port n i) (Port l k) → IsIn l (nodes_in p.rest) → IsIn l (nodes_in p.done)) → GoesOn o n (suc (turn o n i)) p p
+  port_pass p i b h all = (plan_skip (turn o n i) p h (port_none p i b h all), refl)
 
   pub port_derive : (p q : Plan) (i w l k : ℕ) → IsPlan o n (turn o n i) p → IsWire o w (Port n i) (Port l k) → IsIn l (nodes_in p.rest) → nodes_in p.done l ≡ false → Derives o l p q → GoesOn o n (suc (turn o n i)) p q
   port_derive p q i w l k h wire here off d = derive_goes (turn o n i) l p q h here (port_turn p i w l k h wire here off) d
 
-  pub node_out : (p : Plan) (m : ℕ) → IsPlan o n (suc (ports_of o n) + m) p → nodes_in p.rest m ≡ false → GoesOn o n (suc (suc (ports_of o n) + m)) p p
-  node_out p m h out = (plan_skip (suc (ports_of o n) + m) p h (node_none p m h (λ g. absurd (not_both (nodes_in p.rest m) g out))), refl)
-
-  pub node_done : (p : Plan) (m : ℕ) → IsPlan o n (suc (ports_of o n) + m) p → IsIn m (nodes_in p.done) → GoesOn o n (suc (suc (ports_of o n) + m)) p p
-  node_done p m h here = (plan_skip (suc (ports_of o n) + m) p h (node_none p m h (λ g. here)), refl)
+  pub node_pass : (p : Plan) (m : ℕ) → IsPlan o n (suc (ports_of o n) + m) p → (IsIn m (nodes_in p.rest) → IsIn m (nodes_in p.done)) → GoesOn o n (suc (suc (ports_of o n) + m)) p p
+  node_pass p m h all = (plan_skip (suc (ports_of o n) + m) p h (node_none p m h all), refl)
 
   pub node_derive : (p q : Plan) (m : ℕ) → IsPlan o n (suc (ports_of o n) + m) p → IsIn m (nodes_in p.rest) → nodes_in p.done m ≡ false → Derives o m p q → GoesOn o n (suc (suc (ports_of o n) + m)) p q
   node_derive p q m h here off d = derive_goes (suc (ports_of o n) + m) m p q h here (node_turn p m h here off) d

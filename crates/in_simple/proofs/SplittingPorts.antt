@@ -9,7 +9,6 @@ use Rattle.in_simple.specs.OpenNets.{OpenNet, IsOpenNet, IsWire, class_in, open_
 use Rattle.in_simple.specs.Stuck.{ports_of, Touches}
 use Rattle.in_simple.specs.Procedure.{nodes_in, IsRest, PortSplits, AreOfClass, SplitsIt, IsNeighbour}
 use Rattle.in_simple.proofs.Links.{same_nat, link_first, link_map, link_last}
-use Rattle.in_simple.proofs.ClassWays.{wire_back}
 use Rattle.in_simple.proofs.Balance.{wire_turn}
 use Rattle.in_simple.proofs.Search.{in_ports}
 

@@ -279,6 +279,12 @@ module _ (o : OpenNet) (net : IsOpenNet o) (n : ℕ) where
       (a_component d.component is_part (port_turn o net n p i w l k h wire here off (nodes_in d.component) is_part inside))
       (subst (λ m. IsJoined o n (turn o n i) m (Cut w ∷ [])) (sym (manner_join i lt principal)) (w, (i, Port l k, wire, refl), refl))
 
+  pub before_next : (i : ℕ) → i < ports_of o n → (IsAgent o n → i ≡ 0) → before o n (suc (turn o n i)) ≡ []
+  before_next i lt principal = elim (kind_of i lt) [
+    | inl a ↦ ap (λ k. before o n (suc k)) (ap (turn o n) (principal a) ∙ turn_principal o n a) ∙ before_other o n (suc (ports_of o n)) (omega arith)
+    | inr c ↦ before_given o n (suc (turn o n i)) c
+  ]
+
   -- ---- the nodes that aren't touched
 
   other_link : (t : ℕ → Bool) (m w : ℕ) → LinksAt o t n (suc (ports_of o n) + m) w → ⊥

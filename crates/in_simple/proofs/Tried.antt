@@ -13,7 +13,6 @@ use Rattle.in_simple.specs.Stuck.{ports_of}
 use Rattle.in_simple.specs.Procedure.{nodes_in, SplitsIt, IsNeighbour}
 use Rattle.in_simple.specs.Tries.{IsLedTo, IsWalked, mark_in, HasLabel, AreLabelled, LabelsSpread, LeadsToLabel, LeadToLabels}
 use Rattle.in_simple.proofs.Balance.{wire_turn}
-use Rattle.in_simple.proofs.ClassWays.{wire_back}
 use Rattle.in_simple.proofs.Links.{same_nat, link_first, link_snoc, link_last}
 use Rattle.in_simple.proofs.Reaching.{in_length}
 use Rattle.in_simple.proofs.Search.{in_ports}

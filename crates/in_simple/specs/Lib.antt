@@ -12,6 +12,7 @@ pub mod OpeningRules
 pub mod Outcomes
 pub mod Planned
 pub mod Procedure
+pub mod Progress
 pub mod Splitting
 pub mod Stacks
 pub mod Stuck

@@ -9,14 +9,13 @@ use Rattle.in_net.specs.declared.nets.Point as points
 use Rattle.in_net.specs.declared.nets.Point.TheVariants as point
 use Rattle.in_net.specs.Parts.{wire_in}
 use Rattle.in_net.specs.NetFaults.{max_member_agents}
-use Rattle.in_net.specs.Rules.{RuleParts}
+use Rattle.in_net.specs.Rules.{IsRuleOver, RuleParts}
 use Rattle.in_simple.specs.declared.open_nets.Node.TheVariants.{ClassNode}
 use Rattle.in_simple.specs.declared.open_nets.OpenNode.{OpenNode}
 use Rattle.in_simple.specs.declared.open_nets.Point.{Point}
 use Rattle.in_simple.specs.declared.open_nets.Point.TheVariants.{Port}
-use Rattle.in_simple.specs.declared.opening_rules.Layout.{Layout}
 use Rattle.in_simple.specs.OpenNets.{OpenNet}
-use Rattle.in_simple.specs.Opening.{AreAllThere, Each, IsNodeOf}
+use Rattle.in_simple.specs.Opening.{AreAllThere, AreNumbered, Each, IsNodeOf}
 
 -- how many of the places 1 to n of a symbol are in a class
 abbrev pub places_in : Tables → ℕ → ℕ → ℕ → ℕ
@@ -96,8 +95,15 @@ pub record IsRuleWhole (t : Tables) (p : RuleParts) : Type 0 where
 
 -- ---- the numbers that nodes are counted by
 
-pub record IsLayoutOf (t : Tables) (p : RuleParts) (l : Layout) : Type 0 where
-  pub first : l.first ≡ classes_of t p.written.0.0
-  pub before : l.before ≡ agents_before p
-  pub second : l.second ≡ classes_of t p.written.1.0
-  pub few : (l.first < 2 ^ 8) × (l.second < 2 ^ 8) × (l.before ≤ length p.member.cells)
+pub record LaidOut : Type 0 where
+  pub tables : Tables
+  pub rule : RuleParts
+
+pub record IsLayoutOf (t : Tables) (p : RuleParts) (first before second : ℕ) : Type 0 where
+  pub over : IsRuleOver t p
+  pub whole : IsRuleWhole t p
+  pub numbered : AreNumbered t
+  pub first_is : first ≡ classes_of t p.written.0.0
+  pub before_is : before ≡ agents_before p
+  pub second_is : second ≡ classes_of t p.written.1.0
+  pub few : (first < 2 ^ 8) × (second < 2 ^ 8) × (before ≤ length p.member.cells)

@@ -1,7 +1,9 @@
 -- Which nets the tasks of a plan put on a stack.
-use Rattle.std.specs.Prelude.{◌≡◌, ◌⊎◌, ◌↔◌, ℕ, zero, suc, ◌+◌, ◌<◌, ◌≤◌, Bool, true, false, ◌||◌, nat_eq, List, [], ◌∷◌, ◌++◌, length, map}
+use Rattle.std.specs.Prelude.{◌≡◌, ◌⊎◌, ◌↔◌, ℕ, zero, suc, ◌<◌, ◌≤◌, Bool, true, false, ◌||◌, nat_eq, List, [], ◌∷◌, ◌++◌, length, map}
 use Rattle.in_simple.specs.declared.open_nets.Point.{Point}
-use Rattle.in_simple.specs.declared.open_nets.Point.TheVariants.{Port}
+use Rattle.in_simple.specs.declared.open_nets.Point.TheVariants.{Port, Free}
+use Rattle.in_simple.specs.declared.plans.Fate.{Fate}
+use Rattle.in_simple.specs.declared.plans.Fate.TheVariants.{Waits, Derived, Outside}
 use Rattle.in_simple.specs.declared.plans.Joint.{Joint}
 use Rattle.in_simple.specs.declared.plans.Joint.TheVariants.{Link}
 use Rattle.in_simple.specs.declared.plans.Plan.{Plan}
@@ -9,12 +11,12 @@ use Rattle.in_simple.specs.declared.plans.Task.{Task}
 use Rattle.in_simple.specs.declared.plans.Task.TheVariants.{Derive, Make}
 use Rattle.in_simple.specs.Constructions.{IsIn}
 use Rattle.in_simple.specs.Splitting.{Linked}
-use Rattle.in_simple.specs.OpenNets.{OpenNet, IsWire, IsOpenNet, class_in, open_graph}
+use Rattle.in_simple.specs.OpenNets.{OpenNet, IsAgent, IsWire, IsOpenNet, class_in, open_graph}
 use Rattle.in_simple.specs.Derivations.{is_port_in}
 use Rattle.in_simple.specs.Stuck.{ComesAt, IsPart, ports_of}
 use Rattle.in_simple.specs.TakenOrder.{Comes, LinksAt, NothingAt, empties, part, turns}
 use Rattle.in_simple.specs.Stacks.{Yields}
-use Rattle.in_simple.specs.Procedure.{nodes_in}
+use Rattle.in_simple.specs.Procedure.{Derives, nodes_in, with_task}
 use Rattle.in_simple.specs.Stacks.{Shape, shape, no_wires, Puts}
 
 -- the tasks put the net of n and of the nodes that are derived
@@ -23,6 +25,47 @@ net_of n done = shape (λ m. nat_eq m n || nodes_in done m) no_wires
 
 abbrev pub PutsNet : OpenNet → ℕ → Plan → Type 0
 PutsNet o n p = Puts o p.tasks (net_of n p.done ∷ [])
+
+-- ---- the node at the other end of a wire
+
+-- both sets have a test for the node
+abbrev pub HasTests : Plan → ℕ → Type 0
+HasTests p m = (m < length p.rest) × (m < length p.done)
+
+abbrev pub HasTestsAt : Plan → Point → Type 0
+HasTestsAt p (Port m i) = HasTests p m
+HasTestsAt p (Free k) = Unit {0}
+
+abbrev pub HasFate : Plan → ℕ → Fate → Type 0
+HasFate p m (Waits l) = (l ≡ m) × IsIn m (nodes_in p.rest) × (nodes_in p.done m ≡ false)
+HasFate p m Derived = IsIn m (nodes_in p.rest) × IsIn m (nodes_in p.done)
+HasFate p m Outside = nodes_in p.rest m ≡ false
+
+abbrev pub HasFateAt : Plan → Point → Fate → Type 0
+HasFateAt p q (Waits l) = (k : ℕ) × (q ≡ Port l k) × IsIn l (nodes_in p.rest) × (nodes_in p.done l ≡ false)
+HasFateAt p q Derived = (l : ℕ) × (k : ℕ) × (q ≡ Port l k) × IsIn l (nodes_in p.rest) × IsIn l (nodes_in p.done)
+HasFateAt p q Outside = is_port_in (nodes_in p.rest) q ≡ 0
+
+-- both sets have a test for each node of the net
+abbrev pub IsSized : OpenNet → Plan → Type 0
+IsSized o p = (length p.rest ≡ length o.nodes) × (length p.done ≡ length o.nodes)
+
+-- what waits is a node of the rest
+abbrev pub IsLeftOver : Plan → Fate → Type 0
+IsLeftOver p (Waits l) = IsIn l (nodes_in p.rest)
+IsLeftOver p Derived = Unit {0}
+IsLeftOver p Outside = Unit {0}
+
+-- the component of what waits is derived and joined; else nothing changes
+abbrev pub JoinsFate : OpenNet → Joint → Plan → Fate → Plan → Type 0
+JoinsFate o j old (Waits l) new = (next : Plan) × Derives o l old next × (new ≡ with_task next (Make j))
+JoinsFate o j old Derived new = new ≡ old
+JoinsFate o j old Outside new = new ≡ old
+
+-- the point is a port of n up to i
+abbrev pub LeadsBack : ℕ → ℕ → Point → Type 0
+LeadsBack n i (Port l k) = (l ≡ n) × (k ≤ i)
+LeadsBack n i (Free k) = ⊥
 
 -- ---- the nets of an agent's classes
 
@@ -34,6 +77,12 @@ module _ (o : OpenNet) (rest : List Bool) (n : ℕ) where
   -- wire w is at port i of n, and leads to no node of the rest
   abbrev pub LeadsOff : ℕ → ℕ → Type 0
   LeadsOff i w = (q : Point) × IsWire o w (Port n i) q × (is_port_in (nodes_in rest) q ≡ 0)
+
+-- i is an auxiliary port of the agent n
+pub record IsAuxiliaryPort (o : OpenNet) (n i : ℕ) : Type 0 where
+  pub agent : IsAgent o n
+  pub auxiliary : 0 < i
+  pub port : i < ports_of o n
 
 -- i is an auxiliary port below b
 abbrev pub IsBelow : ℕ → ℕ → Type 0
@@ -64,10 +113,6 @@ HasClasses o n b begun p = PutsClasses o p.rest n b begun p.tasks p.done
 -- a port below b is of the last of these classes, where there are some
 abbrev pub IsBegun : OpenNet → ℕ → ℕ → ℕ → Type 0
 IsBegun o n b begun = (begun ≡ 0) ⊎ ((i : ℕ) × IsBelow b i × (i < ports_of o n) × (class_in o n i ≡ begun))
-
--- the port's class is the next one after some that are skipped
-abbrev pub Skipping : OpenNet → ℕ → ℕ → ℕ → Plan → Type 0
-Skipping o n i skipped p = (begun : ℕ) × HasClasses o n i begun p × (class_in o n i ≡ suc (begun + skipped))
 
 -- what a port adds: the component that it meets, which is not derived yet, or the Link of a wire that leads off
 pub record Adds (o : OpenNet) (n i : ℕ) (old new : Plan) (x : Shape) : Type 0 where

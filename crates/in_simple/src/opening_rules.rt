@@ -1,11 +1,10 @@
 ghost use Rattle.std.specs.Prelude.{◌≡◌, ◌+◌, ◌<◌, ◌≤◌, ◌^◌, cond, nat_eq, nat_lt, length, option_map, Some, IfOk, IsTrue};
 ghost use Rattle.in_syntax.specs.Grammar.{max_ports};
 ghost use Rattle.in_symbols.specs.Tables.{IsSymbol, arity_of, class_at};
-ghost use Rattle.in_net.specs.NetFaults.{max_member_agents};
 ghost use Rattle.in_net.specs.Parts.{IsPointOf, IsWhole, agent_place_in, wire_in};
 ghost use Rattle.in_net.specs.Rules.{IsRuleOver};
 ghost use Rattle.in_simple.specs.Opening.{AreAllThere, AreNumbered, Each};
-ghost use Rattle.in_simple.specs.OpeningRules.{places_in, IsClassNodeOf, agents_before, class_port, boundary_port, is_turned, rule_nodes, rule_point, rule_wire, AreRuleNodes, AreRuleWires, IsRuleNode, IsRuleWhole, IsLayoutOf, OpensRule};
+ghost use Rattle.in_simple.specs.OpeningRules.{places_in, IsClassNodeOf, agent_node, agents_before, class_port, boundary_port, is_turned, rule_nodes, rule_point, rule_wire, second_node, AreRuleNodes, AreRuleWires, IsRuleNode, IsRuleWhole, OpensRule};
 
 use crate::open_nets::{Node, OpenNet, OpenNode, Point};
 use crate::opening::node;
@@ -14,6 +13,7 @@ use in_symbols::{SymbolNo, Symbols};
 use in_syntax::Place;
 use sqlite_items::Items;
 use std::alloc::{AllocError, Global};
+use std::marker::Model;
 
 /// Whether a place is in a class, as a number.
 fn one_in(symbols: &Symbols, symbol: SymbolNo, class: u8, place: u8) -> u8
@@ -105,43 +105,6 @@ fn agents_before(rule: &Rule) -> u32
     count
 }
 
-/// Where the nodes of a rule's open net begin: how many class nodes its first head has and its second one, and how many agents
-/// stand before the second head.
-#[derive(Clone, Copy)]
-struct Layout {
-    first: u32,
-    before: u32,
-    second: u32,
-}
-
-impl Layout {
-    /// The layout of a rule.
-    fn new(symbols: &Symbols, rule: &Rule) -> Layout
-        requires over { IsRuleOver symbols.now rule.now }
-        requires whole { IsRuleWhole symbols.now rule.now }
-        ensures { IsLayoutOf symbols.now rule.now result }
-    {
-        let (first, second) = rule.written();
-        Layout {
-            first: symbols.classes(first) as u32,
-            before: agents_before(rule),
-            second: symbols.classes(second) as u32,
-        }
-    }
-
-    /// The node of an agent.
-    fn agent(self, agent: AgentNo) -> u32
-        requires { self.first + (self.second + agent.0) < 2 ^ 32 }
-        ensures { result ≡ cond (nat_lt agent.0 self.before) (self.first + agent.0) (self.first + (self.second + agent.0)) }
-    {
-        if agent.0 < self.before {
-            self.first + agent.0
-        } else {
-            self.first + (self.second + agent.0)
-        }
-    }
-}
-
 /// The port of a class node at a place of a symbol, whose first class node has that number.
 fn class_port(symbols: &Symbols, symbol: SymbolNo, first: u32, place: u8) -> Point
     requires symbol { IsSymbol symbols.now symbol.0 }
@@ -156,145 +119,159 @@ fn class_port(symbols: &Symbols, symbol: SymbolNo, first: u32, place: u8) -> Poi
     Point::Port(node, places_in(symbols, symbol, class, place - 1))
 }
 
-/// The first class node of the head that is or is not written second.
-fn first_node(layout: Layout, second: bool) -> u32
-    requires first { layout.first < 2 ^ 8 }
-    requires before { layout.before ≤ max_member_agents }
-    ensures node { result ≡ cond second (layout.first + layout.before) 0 }
-    ensures few { result < 2 ^ 31 }
-{
-    if second {
-        layout.first + layout.before
-    } else {
-        0
-    }
+/// Where the nodes of a rule's open net begin: how many class nodes its first head has and its second one, and how many agents
+/// stand before the second head.
+#[derive(Drop)]
+struct Layout<'a> {
+    symbols: &'a Symbols,
+    rule: &'a Rule,
+    first: u32,
+    before: u32,
+    second: u32,
 }
 
-/// The port of a class node that is the boundary end of that number.
-fn boundary_port(symbols: &Symbols, rule: &Rule, layout: Layout, number: u32) -> Point
-    requires over { IsRuleOver symbols.now rule.now }
-    requires whole { IsRuleWhole symbols.now rule.now }
-    requires numbered { AreNumbered symbols.now }
-    requires layout { IsLayoutOf symbols.now rule.now layout }
-    requires number { number < arity_of symbols.now rule.now.heads.0.0 + arity_of symbols.now rule.now.heads.1.0 }
-    ensures { result ≡ boundary_port symbols.now rule.now (is_turned rule.now) number }
-{
-    let (one, other) = rule.heads();
-    let (first, _) = rule.written();
-    let arity = symbols.arity(one) as u32;
-    let turned = one.0 != first.0;
-    if number < arity {
-        class_port(symbols, one, first_node(layout, turned), number as u8 + 1)
-    } else if number - arity < symbols.arity(other) as u32 {
-        let place = (number - arity) as u8 + 1;
-        class_port(symbols, other, first_node(layout, !turned), place)
-    } else {
-        unreachable!()
-    }
+// Contracts see the tables and the rule.
+impl<'a> Model for Layout<'a> {
+    ghost use Rattle.in_simple.specs.OpeningRules.{LaidOut, IsLayoutOf};
+
+    ghost Value = { LaidOut };
+
+    ghost view = { λ l. record { tables = l.symbols.now; rule = l.rule.now } };
+
+    ghost invariant = { λ l. IsLayoutOf l.symbols.now l.rule.now l.first l.before l.second };
 }
 
-/// A point of the right member as one of the rule's open net.
-fn rule_point(symbols: &Symbols, rule: &Rule, layout: Layout, point: in_net::Point) -> Point
-    requires over { IsRuleOver symbols.now rule.now }
-    requires whole { IsRuleWhole symbols.now rule.now }
-    requires numbered { AreNumbered symbols.now }
-    requires layout { IsLayoutOf symbols.now rule.now layout }
-    requires point { IsPointOf rule.now.member point }
-    ensures { result ≡ rule_point symbols.now rule.now (is_turned rule.now) point }
-{
-    match point {
-        in_net::Point::Port(agent, place) => Point::Port(layout.agent(agent), place),
-        in_net::Point::Free(number) => boundary_port(symbols, rule, layout, number),
+impl<'a> Layout<'a> {
+    /// The layout of a rule.
+    fn of(symbols: &'a Symbols, rule: &'a Rule) -> Layout<'a>
+        requires over { IsRuleOver symbols.now rule.now }
+        requires whole { IsRuleWhole symbols.now rule.now }
+        requires numbered { AreNumbered symbols.now }
+        ensures tables { result.tables ≡ symbols.now }
+        ensures rule { result.rule ≡ rule.now }
+    {
+        let (first, second) = rule.written();
+        Layout {
+            symbols,
+            rule,
+            first: symbols.classes(first) as u32,
+            before: agents_before(rule),
+            second: symbols.classes(second) as u32,
+        }
     }
-}
 
-/// The node of that number.
-fn rule_node(
-    alloc: Global,
-    symbols: &Symbols,
-    rule: &Rule,
-    layout: Layout,
-    number: u32,
-) -> Result<OpenNode, AllocError>
-    requires over { IsRuleOver symbols.now rule.now }
-    requires whole { IsRuleWhole symbols.now rule.now }
-    requires layout { IsLayoutOf symbols.now rule.now layout }
-    requires number { number < rule_nodes symbols.now rule.now }
-    ensures node { IfOk result (IsRuleNode symbols.now rule.now number) }
-    ensures few { IfOk result (λ node. length node.class_of ≤ max_ports + 1) }
-{
-    let (first, second) = rule.written();
-    if number < layout.first {
-        return class_node(alloc, symbols, first, rule.head_place(0), number as u8 + 1);
+    /// The node of an agent.
+    fn agent(&self, agent: AgentNo) -> u32
+        requires { agent.0 < length self.now.rule.member.cells }
+        ensures { result ≡ agent_node self.now.tables self.now.rule agent.0 }
+    {
+        if agent.0 < self.before {
+            self.first + agent.0
+        } else {
+            self.first + (self.second + agent.0)
+        }
     }
-    let at = number - layout.first;
-    if at < layout.before {
-        return node(alloc, symbols, rule.member(), AgentNo(at));
-    }
-    if at - layout.before < layout.second {
-        let class = (at - layout.before) as u8 + 1;
-        return class_node(alloc, symbols, second, rule.head_place(1), class);
-    }
-    node(alloc, symbols, rule.member(), AgentNo(at - layout.second))
-}
 
-/// The nodes in the order of their tokens.
-fn nodes(
-    alloc: Global,
-    symbols: &Symbols,
-    rule: &Rule,
-    layout: Layout,
-) -> Result<Items<OpenNode>, AllocError>
-    requires over { IsRuleOver symbols.now rule.now }
-    requires whole { IsRuleWhole symbols.now rule.now }
-    requires layout { IsLayoutOf symbols.now rule.now layout }
-    ensures nodes { IfOk result (AreRuleNodes symbols.now rule.now) }
-    ensures small { IfOk result (λ nodes. length nodes < 2 ^ 32) }
-    ensures few { IfOk result (Each (λ n node. length node.class_of ≤ max_ports + 1)) }
-    ensures member { IsWhole rule.now.member }
-{
-    let mut nodes = Items::new(alloc);
-    let count = layout.first + (layout.second + rule.member().agents());
-    for number in 0..count {
-        nodes.push(rule_node(alloc, symbols, rule, layout, number)?)?;
+    /// The first class node of the head that is or is not written second.
+    fn first_node(&self, second: bool) -> u32
+        ensures node { result ≡ cond second (second_node self.now.tables self.now.rule) 0 }
+        ensures few { result < 2 ^ 31 }
+    {
+        if second { self.first + self.before } else { 0 }
     }
-    Ok(nodes)
-}
 
-/// A wire of the right member between the points of the rule's open net.
-fn rule_wire(symbols: &Symbols, rule: &Rule, layout: Layout, number: u32) -> (Point, Point)
-    requires over { IsRuleOver symbols.now rule.now }
-    requires whole { IsRuleWhole symbols.now rule.now }
-    requires numbered { AreNumbered symbols.now }
-    requires layout { IsLayoutOf symbols.now rule.now layout }
-    requires number { number < length rule.now.member.wires }
-    ensures { option_map (rule_wire symbols.now rule.now (is_turned rule.now)) (wire_in rule.now.member number) ≡ Some result }
-{
-    let (one, other) = rule.member().wire(number);
-    let one = rule_point(symbols, rule, layout, one);
-    let other = rule_point(symbols, rule, layout, other);
-    (one, other)
-}
-
-/// The wires between the nodes.
-fn wires(
-    alloc: Global,
-    symbols: &Symbols,
-    rule: &Rule,
-    layout: Layout,
-) -> Result<Items<(Point, Point)>, AllocError>
-    requires over { IsRuleOver symbols.now rule.now }
-    requires whole { IsRuleWhole symbols.now rule.now }
-    requires numbered { AreNumbered symbols.now }
-    requires layout { IsLayoutOf symbols.now rule.now layout }
-    ensures { IfOk result (AreRuleWires symbols.now rule.now) }
-{
-    let mut wires = Items::new(alloc);
-    let count = rule.member().wires();
-    for number in 0..count {
-        wires.push(rule_wire(symbols, rule, layout, number))?;
+    /// The port of a class node that is the boundary end of that number.
+    fn boundary_port(&self, number: u32) -> Point
+        requires { number < length self.now.rule.member.free }
+        ensures { result ≡ boundary_port self.now.tables self.now.rule (is_turned self.now.rule) number }
+    {
+        let symbols = self.symbols;
+        let (one, other) = self.rule.heads();
+        let (first, _) = self.rule.written();
+        let arity = symbols.arity(one) as u32;
+        let turned = one.0 != first.0;
+        if number < arity {
+            class_port(symbols, one, self.first_node(turned), number as u8 + 1)
+        } else if number - arity < symbols.arity(other) as u32 {
+            let place = (number - arity) as u8 + 1;
+            class_port(symbols, other, self.first_node(!turned), place)
+        } else {
+            unreachable!()
+        }
     }
-    Ok(wires)
+
+    /// A point of the right member as one of the rule's open net.
+    fn point(&self, point: in_net::Point) -> Point
+        requires { IsPointOf self.now.rule.member point }
+        ensures { result ≡ rule_point self.now.tables self.now.rule (is_turned self.now.rule) point }
+    {
+        match point {
+            in_net::Point::Port(agent, place) => Point::Port(self.agent(agent), place),
+            in_net::Point::Free(number) => self.boundary_port(number),
+        }
+    }
+
+    /// The node of that number.
+    fn node(&self, alloc: Global, number: u32) -> Result<OpenNode, AllocError>
+        requires { number < rule_nodes self.now.tables self.now.rule }
+        ensures node { IfOk result (IsRuleNode self.now.tables self.now.rule number) }
+        ensures few { IfOk result (λ node. length node.class_of ≤ max_ports + 1) }
+    {
+        let symbols = self.symbols;
+        let rule = self.rule;
+        let (first, second) = rule.written();
+        if number < self.first {
+            return class_node(alloc, symbols, first, rule.head_place(0), number as u8 + 1);
+        }
+        let at = number - self.first;
+        if at < self.before {
+            return node(alloc, symbols, rule.member(), AgentNo(at));
+        }
+        if at - self.before < self.second {
+            let class = (at - self.before) as u8 + 1;
+            return class_node(alloc, symbols, second, rule.head_place(1), class);
+        }
+        node(alloc, symbols, rule.member(), AgentNo(at - self.second))
+    }
+
+    /// The nodes in the order of their tokens.
+    fn nodes(&self, alloc: Global) -> Result<Items<OpenNode>, AllocError>
+        ensures nodes { IfOk result (AreRuleNodes self.now.tables self.now.rule) }
+        ensures small { IfOk result (λ nodes. length nodes < 2 ^ 32) }
+        ensures few { IfOk result (Each (λ n node. length node.class_of ≤ max_ports + 1)) }
+        ensures member { IsWhole self.now.rule.member }
+    {
+        let mut nodes = Items::new(alloc);
+        let rule = self.rule;
+        let count = self.first + (self.second + rule.member().agents());
+        for number in 0..count {
+            nodes.push(self.node(alloc, number)?)?;
+        }
+        Ok(nodes)
+    }
+
+    /// A wire of the right member between the points of the rule's open net.
+    fn wire(&self, number: u32) -> (Point, Point)
+        requires { number < length self.now.rule.member.wires }
+        ensures { option_map (rule_wire self.now.tables self.now.rule (is_turned self.now.rule)) (wire_in self.now.rule.member number) ≡ Some result }
+    {
+        let rule = self.rule;
+        let (one, other) = rule.member().wire(number);
+        (self.point(one), self.point(other))
+    }
+
+    /// The wires between the nodes.
+    fn wires(&self, alloc: Global) -> Result<Items<(Point, Point)>, AllocError>
+        ensures { IfOk result (AreRuleWires self.now.tables self.now.rule) }
+    {
+        let mut wires = Items::new(alloc);
+        let rule = self.rule;
+        let count = rule.member().wires();
+        for number in 0..count {
+            wires.push(self.wire(number))?;
+        }
+        Ok(wires)
+    }
 }
 
 /// The open net of a rule: a node for each class of its two heads and for each agent of its right member, in the order of their
@@ -308,10 +285,10 @@ pub fn open_rule(alloc: Global, symbols: &Symbols, rule: &Rule) -> Result<OpenNe
     requires numbered { AreNumbered symbols.now }
     ensures { IfOk result (OpensRule symbols.now rule.now) }
 {
-    let layout = Layout::new(symbols, rule);
+    let layout = Layout::of(symbols, rule);
     Ok(OpenNet {
-        nodes: nodes(alloc, symbols, rule, layout)?,
-        wires: wires(alloc, symbols, rule, layout)?,
+        nodes: layout.nodes(alloc)?,
+        wires: layout.wires(alloc)?,
         free: 0,
     })
 }

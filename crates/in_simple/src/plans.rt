@@ -1,9 +1,9 @@
-ghost use Rattle.std.specs.Prelude.{[], ◌∷◌, ◌≡◌, ◌<◌, ◌+◌, ◌-◌, ◌||◌, suc, length, IfOk, ℕ};
+ghost use Rattle.std.specs.Prelude.{[], ◌∷◌, ◌≡◌, ◌<◌, ◌+◌, ◌-◌, ◌↔◌, suc, length, IfOk, IsTrue, ℕ};
 ghost use Rattle.in_simple.specs.Constructions.{IsIn};
 ghost use Rattle.in_simple.specs.Procedure.{AreSized, Derives, GoesOn, IsFirst, IsPlan, IsRest, KeepsPlan, Lists, nodes_in, with_task};
-ghost use Rattle.in_simple.specs.OpenNets.{IsAgent, IsClass, IsOrderly, class_in, classes_of, open_graph};
-ghost use Rattle.in_simple.specs.Planned.{HasClasses, IsBegun, PutsNet, Skipping, Skips, Takes, TakesPart, WhatComes, WhatPort, WithEmpties};
-ghost use Rattle.in_simple.specs.TakenOrder.{before, empties};
+ghost use Rattle.in_simple.specs.Progress.{after_ports, at_end, later, progress, until};
+ghost use Rattle.in_simple.specs.OpenNets.{IsAgent, IsClass, IsOrderly, class_in, open_graph};
+ghost use Rattle.in_simple.specs.Planned.{HasFate, HasFateAt, HasTests, HasTestsAt, IsAuxiliaryPort, IsLeftOver, IsSized, JoinsFate, LeadsBack, Skips, TakesPart, WhatComes, WhatPort, WithEmpties};
 ghost use Rattle.in_simple.specs.Splitting.{SplitsAt};
 ghost use Rattle.in_simple.specs.Stacks.{Puts, no_wires, shape};
 ghost use Rattle.in_simple.specs.Stuck.{ports_of, turn};
@@ -16,6 +16,7 @@ use crate::sets::NumberSet;
 use crate::wired::Wired;
 use sqlite_items::Items;
 use std::alloc::{AllocError, Global};
+use std::marker::Model;
 
 /// A step over those that came last.
 #[derive(Clone, Copy)]
@@ -37,12 +38,32 @@ pub(crate) enum Task {
     Make(Joint),
 }
 
+/// What becomes of a node, or of what is at the other end of a wire.
+enum Fate {
+    /// It is left and not derived yet.
+    Waits(u32),
+    /// It is left, and derived.
+    Derived,
+    /// It is no node that is left.
+    Outside,
+}
+
+/// Whether the point is one of the node's ports up to this one.
+fn leads_back(point: Point, node: usize, port: usize) -> bool
+    ensures { IsTrue result ↔ LeadsBack node port point }
+{
+    match point {
+        Point::Port(near, place) => near as usize == node && place as usize <= port,
+        Point::Free(_) => false,
+    }
+}
+
 /// The tasks of a part of which one node is taken out, the nodes that are left, and those that the tasks derive.
 #[derive(Drop)]
-pub(crate) struct Plan {
-    pub(crate) tasks: Items<Task>,
-    pub(crate) rest: NumberSet,
-    pub(crate) done: NumberSet,
+struct Plan {
+    tasks: Items<Task>,
+    rest: NumberSet,
+    done: NumberSet,
 }
 
 impl Plan {
@@ -54,11 +75,34 @@ impl Plan {
         Ok(self)
     }
 
+    /// What becomes of a node.
+    fn fate(&self, near: u32) -> Fate
+        requires { HasTests self.now near }
+        ensures { HasFate self.now near result }
+    {
+        if !self.rest.has(near as usize) {
+            Fate::Outside
+        } else if self.done.has(near as usize) {
+            Fate::Derived
+        } else {
+            Fate::Waits(near)
+        }
+    }
+
+    /// What becomes of the node at a point.
+    fn fate_at(&self, point: Point) -> Fate
+        requires { HasTestsAt self.now point }
+        ensures { HasFateAt self.now point result }
+    {
+        match point {
+            Point::Port(near, _) => self.fate(near),
+            Point::Free(_) => Fate::Outside,
+        }
+    }
+
     /// Derives the component of a node.
     fn derive(mut self, alloc: Global, wired: &Wired, near: u32) -> Result<Plan, AllocError>
-        requires rest { length self.rest ≡ length wired.now.nodes }
-        requires done { length self.done ≡ length wired.now.nodes }
-        requires small { near < length wired.now.nodes }
+        requires size { IsSized wired.now self }
         requires near { IsIn near (nodes_in self.rest) }
         ensures { IfOk result (Derives wired.now near self) }
     {
@@ -72,8 +116,26 @@ impl Plan {
         Ok(self)
     }
 
-    /// The component that a port touches, unless it is derived; else the port's wire, where it leads out of the part or to
-    /// a later port. Answers whether something came.
+    /// Derives the component of a node that waits, and joins it to what came so far.
+    fn join(
+        self,
+        alloc: Global,
+        wired: &Wired,
+        fate: Fate,
+        joint: Joint,
+    ) -> Result<Plan, AllocError>
+        requires size { IsSized wired.now self }
+        requires waits { IsLeftOver self fate }
+        ensures { IfOk result (JoinsFate wired.now joint self fate) }
+    {
+        match fate {
+            Fate::Waits(near) => self.derive(alloc, wired, near)?.make(joint),
+            Fate::Derived | Fate::Outside => Ok(self),
+        }
+    }
+
+    /// The component that an agent's auxiliary port touches, unless it is derived; else the port's wire, where it leads out of the
+    /// part or to a later port. Answers whether something came.
     fn port(
         self,
         alloc: Global,
@@ -81,258 +143,24 @@ impl Plan {
         node: usize,
         port: usize,
     ) -> Result<(Plan, bool), AllocError>
-        requires node { node < length wired.now.nodes }
-        requires port { port < ports_of wired.now node }
-        requires plan { IsPlan wired.now node (turn wired.now node port) self }
-        requires agent { IsAgent wired.now node }
-        requires auxiliary { 0 < port }
-        ensures plan { IfOk result (λ r. GoesOn wired.now node (suc (turn wired.now node port)) self r.0) }
+        requires port { IsAuxiliaryPort wired.now node port }
+        requires plan { IsPlan wired.now node port self }
+        ensures plan { IfOk result (λ r. GoesOn wired.now node (suc port) self r.0) }
         ensures adds { IfOk result (λ r. WhatPort wired.now node port self r.0 r.1) }
         ensures comes { IfOk result (λ r. WhatComes wired.now node port self r.0 r.1) }
     {
-        match wired.partner(node, port) {
-            (wire, Point::Port(near, place)) => {
-                if self.rest.has(near as usize) {
-                    if self.done.has(near as usize) {
-                        Ok((self, false))
-                    } else {
-                        Ok((self.derive(alloc, wired, near)?, true))
-                    }
-                } else if near as usize == node && place as usize <= port {
+        let (wire, point) = wired.partner(node, port);
+        match self.fate_at(point) {
+            Fate::Waits(near) => Ok((self.derive(alloc, wired, near)?, true)),
+            Fate::Derived => Ok((self, false)),
+            Fate::Outside => {
+                if leads_back(point, node, port) {
                     Ok((self, false))
                 } else {
                     Ok((self.make(Joint::Link(wire))?, true))
                 }
             }
-            (wire, Point::Free(_)) => Ok((self.make(Joint::Link(wire))?, true)),
         }
-    }
-
-    /// The component that a port touches, unless it is derived, cut to what came so far.
-    fn join(
-        self,
-        alloc: Global,
-        wired: &Wired,
-        node: usize,
-        port: usize,
-    ) -> Result<Plan, AllocError>
-        requires node { node < length wired.now.nodes }
-        requires port { port < ports_of wired.now node }
-        requires plan { IsPlan wired.now node (turn wired.now node port) self }
-        requires principal { IsAgent wired.now node → port ≡ 0 }
-        requires net { PutsNet wired.now node self }
-        requires takes { Takes wired.now node (turn wired.now node port) (before wired.now node (turn wired.now node port)) self }
-        ensures plan { IfOk result (GoesOn wired.now node (suc (turn wired.now node port)) self) }
-        ensures net { IfOk result (PutsNet wired.now node) }
-        ensures takes { IfOk result (Takes wired.now node (suc (turn wired.now node port)) []) }
-    {
-        match wired.partner(node, port) {
-            (wire, Point::Port(near, _)) => {
-                if self.rest.has(near as usize) {
-                    if self.done.has(near as usize) {
-                        Ok(self)
-                    } else {
-                        self.derive(alloc, wired, near)?.make(Joint::Cut(wire))
-                    }
-                } else {
-                    Ok(self)
-                }
-            }
-            (_, Point::Free(_)) => Ok(self),
-        }
-    }
-
-    /// The first port of a class; so many classes before it have no port.
-    fn first_port(
-        self,
-        alloc: Global,
-        wired: &Wired,
-        node: usize,
-        port: usize,
-        skipped: usize,
-    ) -> Result<Plan, AllocError>
-        requires node { node < length wired.now.nodes }
-        requires port { port < ports_of wired.now node }
-        requires plan { IsPlan wired.now node (turn wired.now node port) self }
-        requires orderly { IsOrderly wired.now }
-        requires agent { IsAgent wired.now node }
-        requires auxiliary { 0 < port }
-        requires classes { Skipping wired.now node port skipped self }
-        requires takes { Takes wired.now node port [] self }
-        requires skipped { class_in wired.now node port ≡ suc (class_in wired.now node (port - 1) + skipped) }
-        ensures plan { IfOk result (GoesOn wired.now node (suc (turn wired.now node port)) self) }
-        ensures classes { IfOk result (HasClasses wired.now node (suc port) (class_in wired.now node port)) }
-        ensures takes { IfOk result (Takes wired.now node (suc port) []) }
-    {
-        let begun = skip(self, skipped)?;
-        let (plan, came) = begun.port(alloc, wired, node, port)?;
-        if came {
-            Ok(plan)
-        } else {
-            plan.make(Joint::Empty)
-        }
-    }
-
-    /// A further port of a class.
-    fn further_port(
-        self,
-        alloc: Global,
-        wired: &Wired,
-        node: usize,
-        port: usize,
-    ) -> Result<Plan, AllocError>
-        requires node { node < length wired.now.nodes }
-        requires port { port < ports_of wired.now node }
-        requires plan { IsPlan wired.now node (turn wired.now node port) self }
-        requires orderly { IsOrderly wired.now }
-        requires agent { IsAgent wired.now node }
-        requires auxiliary { 0 < port }
-        requires classes { HasClasses wired.now node port (class_in wired.now node port) self }
-        requires takes { Takes wired.now node port [] self }
-        requires last { class_in wired.now node port ≡ class_in wired.now node (port - 1) }
-        ensures plan { IfOk result (GoesOn wired.now node (suc (turn wired.now node port)) self) }
-        ensures classes { IfOk result (HasClasses wired.now node (suc port) (class_in wired.now node port)) }
-        ensures takes { IfOk result (Takes wired.now node (suc port) []) }
-    {
-        let (plan, came) = self.port(alloc, wired, node, port)?;
-        if came {
-            plan.make(Joint::Mix)
-        } else {
-            Ok(plan)
-        }
-    }
-
-    /// A port of a class, where so many classes are begun. Answers how many are begun now.
-    fn class_port(
-        self,
-        alloc: Global,
-        wired: &Wired,
-        node: usize,
-        port: usize,
-        begun: usize,
-    ) -> Result<(Plan, usize), AllocError>
-        requires node { node < length wired.now.nodes }
-        requires port { port < ports_of wired.now node }
-        requires plan { IsPlan wired.now node (turn wired.now node port) self }
-        requires orderly { IsOrderly wired.now }
-        requires agent { IsAgent wired.now node }
-        requires auxiliary { 0 < port }
-        requires classes { HasClasses wired.now node port begun self }
-        requires begun { IsBegun wired.now node port begun }
-        requires takes { Takes wired.now node port [] self }
-        requires last { begun ≡ class_in wired.now node (port - 1) }
-        ensures plan { IfOk result (λ r. GoesOn wired.now node (suc (turn wired.now node port)) self r.0) }
-        ensures classes { IfOk result (λ r. HasClasses wired.now node (suc port) r.1 r.0) }
-        ensures begun { IfOk result (λ r. IsBegun wired.now node (suc port) r.1) }
-        ensures takes { IfOk result (λ r. Takes wired.now node (suc port) [] r.0) }
-        ensures last { IfOk result (λ r. r.1 ≡ class_in wired.now node port) }
-    {
-        let class = wired.class(node, port);
-        if class > begun {
-            Ok((
-                self.first_port(alloc, wired, node, port, class - begun - 1)?,
-                class,
-            ))
-        } else {
-            Ok((self.further_port(alloc, wired, node, port)?, begun))
-        }
-    }
-
-    /// The nets of an agent's classes.
-    fn classes(self, alloc: Global, wired: &Wired, node: usize) -> Result<Plan, AllocError>
-        requires node { node < length wired.now.nodes }
-        requires agent { IsAgent wired.now node }
-        requires plan { IsPlan wired.now node 0 self }
-        requires start { self.tasks ≡ [] }
-        ensures plan { IfOk result (GoesOn wired.now node (1 + (ports_of wired.now node - 1)) self) }
-        ensures classes { IfOk result (HasClasses wired.now node (1 + (ports_of wired.now node - 1)) (classes_of wired.now node)) }
-        ensures takes { IfOk result (Takes wired.now node (ports_of wired.now node) (empties (classes_of wired.now node - class_in wired.now node (ports_of wired.now node - 1)))) }
-    {
-        let mut plan = self;
-        let mut begun = 0;
-        for port in 1..wired.ports(node) {
-            (plan, begun) = plan.class_port(alloc, wired, node, port, begun)?;
-        }
-        let filled = skip(plan, wired.classes(node).saturating_sub(begun))?;
-        Ok(filled)
-    }
-
-    /// An agent: the nets of its classes, the graft, and the component at its principal port.
-    fn agent(self, alloc: Global, wired: &Wired, node: usize) -> Result<Plan, AllocError>
-        requires node { node < length wired.now.nodes }
-        requires agent { IsAgent wired.now node }
-        requires plan { IsPlan wired.now node 0 self }
-        requires start { self.tasks ≡ [] }
-        ensures plan { IfOk result (GoesOn wired.now node (suc (ports_of wired.now node)) self) }
-        ensures net { IfOk result (PutsNet wired.now node) }
-        ensures takes { IfOk result (Takes wired.now node (suc (ports_of wired.now node)) []) }
-    {
-        let ports = wired.ports(node);
-        let classes = self.classes(alloc, wired, node)?;
-        let plan = classes.make(Joint::Graft(node as u32, wired.classes(node)))?;
-        if ports > 0 {
-            Ok(plan.join(alloc, wired, node, 0)?)
-        } else {
-            Ok(plan)
-        }
-    }
-
-    /// A class node, and the components at its ports.
-    fn class(self, alloc: Global, wired: &Wired, node: usize) -> Result<Plan, AllocError>
-        requires node { node < length wired.now.nodes }
-        requires class { IsClass wired.now node }
-        requires plan { IsPlan wired.now node 0 self }
-        requires start { self.tasks ≡ [] }
-        ensures plan { IfOk result (GoesOn wired.now node (suc (ports_of wired.now node)) self) }
-        ensures net { IfOk result (PutsNet wired.now node) }
-        ensures takes { IfOk result (Takes wired.now node (suc (ports_of wired.now node)) []) }
-    {
-        let ports = wired.ports(node);
-        let mut plan = self.make(Joint::Given(node as u32))?;
-        for port in 0..ports {
-            plan = plan.join(alloc, wired, node, port)?;
-        }
-        Ok(plan)
-    }
-
-    /// The component of a node, unless it is derived, beside what came so far.
-    fn other(self, alloc: Global, wired: &Wired, node: usize, near: u32) -> Result<Plan, AllocError>
-        requires node { node < length wired.now.nodes }
-        requires near { near < length wired.now.nodes }
-        requires plan { IsPlan wired.now node (suc (ports_of wired.now node) + near) self }
-        requires orderly { IsOrderly wired.now }
-        requires net { PutsNet wired.now node self }
-        requires takes { Takes wired.now node (suc (ports_of wired.now node) + near) [] self }
-        ensures plan { IfOk result (GoesOn wired.now node (suc (suc (ports_of wired.now node) + near)) self) }
-        ensures net { IfOk result (PutsNet wired.now node) }
-        ensures takes { IfOk result (Takes wired.now node (suc (suc (ports_of wired.now node) + near)) []) }
-    {
-        if self.rest.has(near as usize) {
-            if self.done.has(near as usize) {
-                Ok(self)
-            } else {
-                self.derive(alloc, wired, near)?.make(Joint::Mix)
-            }
-        } else {
-            Ok(self)
-        }
-    }
-
-    /// The components that the node doesn't touch.
-    fn others(self, alloc: Global, wired: &Wired, node: usize) -> Result<Plan, AllocError>
-        requires node { node < length wired.now.nodes }
-        requires plan { IsPlan wired.now node (suc (ports_of wired.now node)) self }
-        requires net { PutsNet wired.now node self }
-        requires takes { Takes wired.now node (suc (ports_of wired.now node)) [] self }
-        ensures plan { IfOk result (GoesOn wired.now node (suc (ports_of wired.now node) + length wired.now.nodes) self) }
-        ensures net { IfOk result (PutsNet wired.now node) }
-        ensures takes { IfOk result (Takes wired.now node (suc (ports_of wired.now node) + length wired.now.nodes) []) }
-    {
-        let mut plan = self;
-        for near in 0..wired.nodes() {
-            plan = plan.other(alloc, wired, node, near as u32)?;
-        }
-        Ok(plan)
     }
 }
 
@@ -349,38 +177,300 @@ fn skip(plan: Plan, classes: usize) -> Result<Plan, AllocError>
     Ok(skipped)
 }
 
-/// A plan with no task yet.
-fn begin(alloc: Global, wired: &Wired, part: &NumberSet, node: usize) -> Result<Plan, AllocError>
-    requires size { length part.now ≡ length wired.now.nodes }
-    requires node { node < length wired.now.nodes }
-    requires splits { SplitsAt (open_graph wired.now) node (nodes_in part.now) }
-    ensures plan { IfOk result (IsPlan wired.now node 0) }
-    ensures start { IfOk result (λ plan. plan.tasks ≡ []) }
-    ensures rest { IfOk result (λ plan. IsRest node part.now plan.rest) }
-    ensures net { IfOk result (λ plan. IsOrderly wired.now) }
-{
-    let rest = part.without(alloc, node)?;
-    let done = NumberSet::none(alloc, wired.nodes())?;
-    Ok(Plan {
-        tasks: Items::new(alloc),
-        rest,
-        done,
-    })
+/// A plan with no task yet, for a part without a node that splits it.
+#[derive(Drop)]
+struct Begun<'a> {
+    wired: &'a Wired<'a>,
+    node: usize,
+    plan: Plan,
 }
 
-/// The components that the node touches.
-fn touched(plan: Plan, alloc: Global, wired: &Wired, node: usize) -> Result<Plan, AllocError>
-    requires node { node < length wired.now.nodes }
-    requires plan { IsPlan wired.now node 0 plan }
-    requires start { plan.tasks ≡ [] }
-    ensures plan { IfOk result (GoesOn wired.now node (suc (ports_of wired.now node)) plan) }
-    ensures net { IfOk result (PutsNet wired.now node) }
-    ensures takes { IfOk result (Takes wired.now node (suc (ports_of wired.now node)) []) }
-{
-    if wired.is_agent(node) {
-        plan.agent(alloc, wired, node)
-    } else {
-        plan.class(alloc, wired, node)
+impl<'a> Model for Begun<'a> {
+    ghost use Rattle.in_simple.specs.Progress.{Progress, StartsPlan, progress};
+
+    ghost Value = { Progress };
+
+    ghost view = { λ b. progress b.wired.now b.node b.plan.rest 0 };
+
+    ghost invariant = { λ b. StartsPlan b.wired.now b.node b.plan };
+}
+
+/// A plan that puts the nets of an agent's classes, as far as the ports before this one go. So many classes are begun.
+#[derive(Drop)]
+struct Classes<'a> {
+    wired: &'a Wired<'a>,
+    node: usize,
+    plan: Plan,
+    port: usize,
+    begun: usize,
+}
+
+impl<'a> Model for Classes<'a> {
+    ghost use Rattle.in_simple.specs.Progress.{PlansClasses, Progress, progress};
+
+    ghost Value = { Progress };
+
+    ghost view = { λ c. progress c.wired.now c.node c.plan.rest c.port };
+
+    ghost invariant = { λ c. PlansClasses c.wired.now c.node c.port c.begun c.plan };
+}
+
+/// A plan that puts one net: that of the node, with the components whose turns come before this one.
+#[derive(Drop)]
+struct Joined<'a> {
+    wired: &'a Wired<'a>,
+    node: usize,
+    plan: Plan,
+    turn: usize,
+}
+
+impl<'a> Model for Joined<'a> {
+    ghost use Rattle.in_simple.specs.Progress.{PlansNet, Progress, progress};
+
+    ghost Value = { Progress };
+
+    ghost view = { λ j. progress j.wired.now j.node j.plan.rest j.turn };
+
+    ghost invariant = { λ j. PlansNet j.wired.now j.node j.turn j.plan };
+}
+
+impl<'a> Begun<'a> {
+    /// A plan with no task yet.
+    fn of(
+        alloc: Global,
+        wired: &'a Wired<'a>,
+        part: &NumberSet,
+        node: usize,
+    ) -> Result<Begun<'a>, AllocError>
+        requires size { length part.now ≡ length wired.now.nodes }
+        requires here { IsIn node (nodes_in part.now) }
+        requires splits { SplitsAt (open_graph wired.now) node (nodes_in part.now) }
+        ensures start { IfOk result (λ begun. begun ≡ progress wired.now node begun.rest 0) }
+        ensures rest { IfOk result (λ begun. IsRest node part.now begun.rest) }
+    {
+        let rest = part.without(alloc, node)?;
+        let done = NumberSet::none(alloc, wired.nodes())?;
+        let plan = Plan {
+            tasks: Items::new(alloc),
+            rest,
+            done,
+        };
+        Ok(Begun { wired, node, plan })
+    }
+
+    /// The nets of an agent's classes, but for the last ones, which have no port.
+    fn classes(self, alloc: Global) -> Result<Classes<'a>, AllocError>
+        requires { IsAgent self.net self.node }
+        ensures { IfOk result (λ classes. classes ≡ until self.entry (1 + (ports_of self.entry.net self.entry.node - 1))) }
+    {
+        let Begun { wired, node, plan } = self;
+        let mut classes = Classes {
+            wired,
+            node,
+            plan,
+            port: 1,
+            begun: 0,
+        };
+        for port in 1..wired.ports(node) {
+            classes = classes.port(alloc)?;
+        }
+        Ok(classes)
+    }
+
+    /// An agent: the nets of its classes, the graft, and the component at its principal port.
+    fn agent(self, alloc: Global) -> Result<Joined<'a>, AllocError>
+        requires { IsAgent self.net self.node }
+        ensures { IfOk result (λ joined. joined ≡ after_ports self.entry) }
+    {
+        let ports = self.wired.ports(self.node);
+        let joined = self.classes(alloc)?.graft()?;
+        if ports > 0 {
+            joined.port(alloc, 0)
+        } else {
+            Ok(joined)
+        }
+    }
+
+    /// A class node, and the components at its ports.
+    fn class(self, alloc: Global) -> Result<Joined<'a>, AllocError>
+        requires { IsClass self.net self.node }
+        ensures { IfOk result (λ joined. joined ≡ after_ports self.entry) }
+    {
+        let Begun { wired, node, plan } = self;
+        let ports = wired.ports(node);
+        let plan = plan.make(Joint::Given(node as u32))?;
+        let mut joined = Joined {
+            wired,
+            node,
+            plan,
+            turn: 0,
+        };
+        for port in 0..ports {
+            joined = joined.port(alloc, port)?;
+        }
+        // No port of a class node has the turn after these.
+        joined.turn = ports + 1;
+        Ok(joined)
+    }
+
+    /// The components that the node touches.
+    fn touched(self, alloc: Global) -> Result<Joined<'a>, AllocError>
+        ensures { IfOk result (λ joined. joined ≡ after_ports self.entry) }
+    {
+        if self.wired.is_agent(self.node) {
+            self.agent(alloc)
+        } else {
+            self.class(alloc)
+        }
+    }
+}
+
+impl<'a> Classes<'a> {
+    /// The first port of a class; the classes between it and the last one have no port.
+    fn first_port(self, alloc: Global, class: usize) -> Result<Classes<'a>, AllocError>
+        requires port { self.next < ports_of self.net self.node }
+        requires class { class ≡ class_in self.net self.node self.next }
+        requires later { class_in self.net self.node (self.next - 1) < class }
+        ensures { IfOk result (λ classes. classes ≡ later self.entry) }
+    {
+        let Classes {
+            wired,
+            node,
+            plan,
+            port,
+            begun,
+        } = self;
+        let skipped = skip(plan, class - begun - 1)?;
+        // Something comes: a component that touches ports of two classes would keep the node from splitting.
+        let (plan, _) = skipped.port(alloc, wired, node, port)?;
+        Ok(Classes {
+            wired,
+            node,
+            plan,
+            port: port + 1,
+            begun: class,
+        })
+    }
+
+    /// A further port of a class.
+    fn further_port(self, alloc: Global) -> Result<Classes<'a>, AllocError>
+        requires port { self.next < ports_of self.net self.node }
+        requires class { class_in self.net self.node self.next ≡ class_in self.net self.node (self.next - 1) }
+        ensures { IfOk result (λ classes. classes ≡ later self.entry) }
+    {
+        let Classes {
+            wired,
+            node,
+            plan,
+            port,
+            begun,
+        } = self;
+        let (next, came) = plan.port(alloc, wired, node, port)?;
+        let plan = if came { next.make(Joint::Mix)? } else { next };
+        Ok(Classes {
+            wired,
+            node,
+            plan,
+            port: port + 1,
+            begun,
+        })
+    }
+
+    /// The port that comes next.
+    fn port(self, alloc: Global) -> Result<Classes<'a>, AllocError>
+        requires { self.next < ports_of self.net self.node }
+        ensures { IfOk result (λ classes. classes ≡ later self.entry) }
+    {
+        let class = self.wired.class(self.node, self.port);
+        if class > self.begun {
+            self.first_port(alloc, class)
+        } else {
+            self.further_port(alloc)
+        }
+    }
+
+    /// The agent over its classes, of which the last ones have no port.
+    fn graft(self) -> Result<Joined<'a>, AllocError>
+        requires { self.next ≡ 1 + (ports_of self.net self.node - 1) }
+        ensures { IfOk result (λ joined. joined ≡ self.entry) }
+    {
+        let Classes {
+            wired,
+            node,
+            plan,
+            port,
+            begun,
+        } = self;
+        let classes = wired.classes(node);
+        let filled = skip(plan, classes.saturating_sub(begun))?;
+        let plan = filled.make(Joint::Graft(node as u32, classes))?;
+        Ok(Joined {
+            wired,
+            node,
+            plan,
+            turn: port,
+        })
+    }
+}
+
+impl<'a> Joined<'a> {
+    /// The component that a port touches, unless it is derived, cut to what came so far.
+    fn port(self, alloc: Global, port: usize) -> Result<Joined<'a>, AllocError>
+        requires port { port < ports_of self.net self.node }
+        requires turn { self.next ≡ turn self.net self.node port }
+        requires principal { IsAgent self.net self.node → port ≡ 0 }
+        ensures { IfOk result (λ joined. joined ≡ later self.entry) }
+    {
+        let Joined {
+            wired,
+            node,
+            plan,
+            turn,
+        } = self;
+        let (wire, point) = wired.partner(node, port);
+        let fate = plan.fate_at(point);
+        let plan = plan.join(alloc, wired, fate, Joint::Cut(wire))?;
+        Ok(Joined {
+            wired,
+            node,
+            plan,
+            turn: turn + 1,
+        })
+    }
+
+    /// The component of a node, unless it is derived, beside what came so far.
+    fn other(self, alloc: Global, near: u32) -> Result<Joined<'a>, AllocError>
+        requires near { near < length self.net.nodes }
+        requires turn { self.next ≡ suc (ports_of self.net self.node) + near }
+        ensures { IfOk result (λ joined. joined ≡ later self.entry) }
+    {
+        let Joined {
+            wired,
+            node,
+            plan,
+            turn,
+        } = self;
+        let fate = plan.fate(near);
+        let plan = plan.join(alloc, wired, fate, Joint::Mix)?;
+        Ok(Joined {
+            wired,
+            node,
+            plan,
+            turn: turn + 1,
+        })
+    }
+
+    /// The components that the node doesn't touch.
+    fn others(self, alloc: Global) -> Result<Joined<'a>, AllocError>
+        requires { self.next ≡ suc (ports_of self.net self.node) }
+        ensures { IfOk result (λ whole. whole ≡ at_end self.entry) }
+    {
+        let wired = self.wired;
+        let mut whole = self;
+        for near in 0..wired.nodes() {
+            whole = whole.other(alloc, near as u32)?;
+        }
+        Ok(whole)
     }
 }
 
@@ -401,13 +491,12 @@ pub(crate) fn tasks_of(
     ensures lists { IfOk result (Lists wired.now node (nodes_in part.now) 0) }
     ensures sized { IfOk result (AreSized (length wired.now.nodes)) }
 {
-    let begun = begin(alloc, wired, part, node)?;
-    let touched = touched(begun, alloc, wired, node)?;
-    let whole = touched.others(alloc, wired, node)?;
+    let begun = Begun::of(alloc, wired, part, node)?;
+    let whole = begun.touched(alloc)?.others(alloc)?;
     let Plan {
         tasks,
         rest: _,
         done: _,
-    } = whole;
+    } = whole.plan;
     Ok(tasks)
 }

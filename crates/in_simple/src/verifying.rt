@@ -247,54 +247,6 @@ fn mix(open: &OpenNet, a: Built, b: Built) -> Result<Option<Built>, AllocError>
     }
 }
 
-/// Whether a point is a port of the node in this class.
-fn is_in_class(open: &OpenNet, point: Point, node: u32, class: usize) -> bool
-    requires node { node < length «open».now.nodes }
-    requires point { IsPointOf «open».now point }
-    ensures { IsTrue result ↔ IsInClass «open».now node class point }
-{
-    match point {
-        Point::Port(owner, place) => {
-            owner == node && open.class(node as usize, place as usize) == class
-        }
-        Point::Free(_) => false,
-    }
-}
-
-/// Whether there is an end for the point, if it is a port of the node in this class.
-fn is_open_for(open: &OpenNet, point: Point, count: u32, node: u32, class: usize) -> bool
-    requires node { node < length «open».now.nodes }
-    requires point { IsPointOf «open».now point }
-    ensures { IsTrue result ↔ (IsInClass «open».now node class point → 0 < count) }
-{
-    count > 0 || !is_in_class(open, point, node, class)
-}
-
-/// The same for both points of a wire.
-fn is_open_at(open: &OpenNet, wire: usize, ends: (u32, u32), node: u32, class: usize) -> bool
-    requires net { IsOrderly «open».now }
-    requires wire { wire < length «open».now.wires }
-    requires node { node < length «open».now.nodes }
-    ensures { IsTrue result ↔ IsOpenAt «open».now node class wire ends }
-{
-    let (one, other) = open.wire(wire);
-    is_open_for(open, one, ends.0, node, class) && is_open_for(open, other, ends.1, node, class)
-}
-
-/// Whether there is an end for each port of the node in this class.
-fn has_class(open: &OpenNet, built: &Built, node: u32, class: usize) -> bool
-    requires built { IsSized «open».now built.now }
-    requires node { node < length «open».now.nodes }
-    ensures { IsTrue result ↔ HasClass «open».now node class built.now }
-{
-    for wire in 0..open.wires() {
-        if !is_open_at(open, wire, built.ends.as_slice()[wire], node, class) {
-            return false;
-        }
-    }
-    true
-}
-
 /// How many ends for a point are left when the node is joined to one for its auxiliary port, and its principal port at the
 /// far point is open; none, if there is no end to be joined to.
 fn graft_end(count: u32, point: Point, far: Point, node: u32) -> Result<Option<u32>, AllocError>
@@ -356,78 +308,6 @@ fn taken(parts: &mut Vec<Option<Built>>, step: u32) -> Option<Built>
     }
 }
 
-/// Puts one beside another, if it has an end for each port of a class.
-fn put_class(
-    open: &OpenNet,
-    more: &Built,
-    built: &mut Built,
-    node: u32,
-    class: usize,
-) -> Result<bool, AllocError>
-    requires more { IsSized «open».now more.now }
-    requires built { IsSized «open».now built.old }
-    requires node { node < length «open».now.nodes }
-    ensures sized { IsSized «open».now built.new }
-    ensures class { IfOk result (λ yes. IsTrue yes → HasClass «open».now node class more.now) }
-    ensures beside { IfOk result (λ yes. IsTrue yes → AreBeside more.now built.old built.new) }
-    ensures refused { IfOk result (λ yes. yes ≡ false → (HasClass «open».now node class more.now → ⊥) ⊎ ShareOne more.now built.old) }
-{
-    if has_class(open, more, node, class) {
-        let apart = beside(open, more, built)?;
-        Ok(apart)
-    } else {
-        Ok(false)
-    }
-}
-
-/// One more class of a graft, beside those after it.
-fn graft_class(
-    open: &OpenNet,
-    parts: &mut Vec<Option<Built>>,
-    built: &mut Built,
-    node: u32,
-    step: u32,
-    class: usize,
-) -> Result<bool, AllocError>
-    requires parts { AreSized «open».now parts.old.items }
-    requires built { IsSized «open».now built.old }
-    requires node { node < length «open».now.nodes }
-    ensures sized { IsSized «open».now built.new }
-    ensures answer { IfOk result (λ yes. Tells yes (IsClassTaken «open».now node class step parts.old.items parts.new.items built.old built.new) (IsClassRefused «open».now node class step parts.old.items built.old)) }
-{
-    match taken(parts, step) {
-        Some(more) => {
-            let apart = put_class(open, &more, built, node, class)?;
-            Ok(apart)
-        }
-        None => Ok(false),
-    }
-}
-
-/// The classes of a graft side by side, the last one first.
-fn graft_classes(
-    open: &OpenNet,
-    parts: &mut Vec<Option<Built>>,
-    built: &mut Built,
-    node: u32,
-    steps: &[u32],
-) -> Result<bool, AllocError>
-    requires parts { AreSized «open».now parts.old.items }
-    requires built { IsNothing «open».now built.old }
-    requires node { node < length «open».now.nodes }
-    ensures sized { IsSized «open».now built.new }
-    ensures answer { IfOk result (λ yes. Tells yes (AreGathered «open».now node 0 steps.now parts.old.items parts.new.items built.new) (AreRefused «open».now node 0 steps.now parts.old.items)) }
-{
-    let mut class = steps.len();
-    while class > 0 {
-        if !graft_class(open, parts, built, node, steps[class - 1], class)? {
-            return Ok(false);
-        }
-        class -= 1;
-    }
-    Ok(true)
-}
-
 /// Whether there is an agent of that number, with so many classes of auxiliary ports.
 fn is_agent_with(open: &OpenNet, node: u32, classes: usize) -> bool
     ensures within { IsTrue result → node < length «open».now.nodes }
@@ -436,32 +316,145 @@ fn is_agent_with(open: &OpenNet, node: u32, classes: usize) -> bool
     node < open.nodes() && open.is_agent(node as usize) && classes == open.classes(node as usize)
 }
 
-/// Joins an agent to the steps of its classes, if it can be.
-fn graft_into(
-    open: &OpenNet,
-    parts: &mut Vec<Option<Built>>,
-    built: &mut Built,
+/// The agent of a graft: a node of the open net.
+#[derive(Clone, Copy)]
+struct Root<'a> {
+    net: &'a OpenNet,
     node: u32,
-    steps: &StepNumbers,
-) -> Result<bool, AllocError>
-    requires parts { AreSized «open».now parts.old.items }
-    requires built { IsNothing «open».now built.old }
-    requires within { node < length «open».now.nodes }
-    requires agent { IsAgent «open».now node × (length steps.now ≡ classes_of «open».now node) }
-    ensures { IfOk result (λ yes. Tells yes (OnStep «open».now (Graft node steps.now) parts.old.items parts.new.items (Some built.new)) (OnStep «open».now (Graft node steps.now) parts.old.items parts.new.items None)) }
-{
-    let number = node as usize;
-    if !graft_classes(open, parts, built, node, steps.as_slice())? {
-        return Ok(false);
+    ghost within: { node < length net.now.nodes },
+}
+
+impl<'a> Root<'a> {
+    /// Whether a point is a port of the node in this class.
+    fn has_in_class(&self, point: Point, class: usize) -> bool
+        requires { IsPointOf self.now.net.now point }
+        ensures { IsTrue result ↔ IsInClass self.now.net.now self.now.node class point }
+    {
+        match point {
+            Point::Port(owner, place) => {
+                owner == self.node && self.net.class(owner as usize, place as usize) == class
+            }
+            Point::Free(_) => false,
+        }
     }
-    if built.nodes.has(number) {
-        return Ok(false);
+
+    /// Whether there is an end for the point, if it is a port of the node in this class.
+    fn is_open_for(&self, point: Point, count: u32, class: usize) -> bool
+        requires { IsPointOf self.now.net.now point }
+        ensures { IsTrue result ↔ (IsInClass self.now.net.now self.now.node class point → 0 < count) }
+    {
+        count > 0 || !self.has_in_class(point, class)
     }
-    built.nodes.insert(number);
-    if graft_ends(open, &mut built.ends, node)? {
+
+    /// The same for both points of a wire.
+    fn is_open_at(&self, wire: usize, ends: (u32, u32), class: usize) -> bool
+        requires net { IsOrderly self.now.net.now }
+        requires wire { wire < length self.now.net.now.wires }
+        ensures { IsTrue result ↔ IsOpenAt self.now.net.now self.now.node class wire ends }
+    {
+        let (one, other) = self.net.wire(wire);
+        self.is_open_for(one, ends.0, class) && self.is_open_for(other, ends.1, class)
+    }
+
+    /// Whether there is an end for each port of the node in this class.
+    fn has_class(&self, built: &Built, class: usize) -> bool
+        requires { IsSized self.now.net.now built.now }
+        ensures { IsTrue result ↔ HasClass self.now.net.now self.now.node class built.now }
+    {
+        for wire in 0..self.net.wires() {
+            if !self.is_open_at(wire, built.ends.as_slice()[wire], class) {
+                return false;
+            }
+        }
+        true
+    }
+
+    /// Puts one beside another, if it has an end for each port of a class.
+    fn put_class(&self, more: &Built, built: &mut Built, class: usize) -> Result<bool, AllocError>
+        requires more { IsSized self.now.net.now more.now }
+        requires built { IsSized self.now.net.now built.old }
+        ensures sized { IsSized self.now.net.now built.new }
+        ensures class { IfOk result (λ yes. IsTrue yes → HasClass self.now.net.now self.now.node class more.now) }
+        ensures beside { IfOk result (λ yes. IsTrue yes → AreBeside more.now built.old built.new) }
+        ensures refused { IfOk result (λ yes. yes ≡ false → (HasClass self.now.net.now self.now.node class more.now → ⊥) ⊎ ShareOne more.now built.old) }
+    {
+        if self.has_class(more, class) {
+            let apart = beside(self.net, more, built)?;
+            Ok(apart)
+        } else {
+            Ok(false)
+        }
+    }
+
+    /// One more class of a graft, beside those after it.
+    fn take_class(
+        &self,
+        parts: &mut Vec<Option<Built>>,
+        built: &mut Built,
+        step: u32,
+        class: usize,
+    ) -> Result<bool, AllocError>
+        requires parts { AreSized self.now.net.now parts.old.items }
+        requires built { IsSized self.now.net.now built.old }
+        ensures sized { IsSized self.now.net.now built.new }
+        ensures answer { IfOk result (λ yes. Tells yes (IsClassTaken self.now.net.now self.now.node class step parts.old.items parts.new.items built.old built.new) (IsClassRefused self.now.net.now self.now.node class step parts.old.items built.old)) }
+    {
+        match taken(parts, step) {
+            Some(more) => {
+                let apart = self.put_class(&more, built, class)?;
+                Ok(apart)
+            }
+            None => Ok(false),
+        }
+    }
+
+    /// The classes of a graft side by side, the last one first.
+    fn take_classes(
+        &self,
+        parts: &mut Vec<Option<Built>>,
+        built: &mut Built,
+        steps: &[u32],
+    ) -> Result<bool, AllocError>
+        requires parts { AreSized self.now.net.now parts.old.items }
+        requires built { IsNothing self.now.net.now built.old }
+        ensures sized { IsSized self.now.net.now built.new }
+        ensures answer { IfOk result (λ yes. Tells yes (AreGathered self.now.net.now self.now.node 0 steps.now parts.old.items parts.new.items built.new) (AreRefused self.now.net.now self.now.node 0 steps.now parts.old.items)) }
+    {
+        let mut class = steps.len();
+        while class > 0 {
+            if !self.take_class(parts, built, steps[class - 1], class)? {
+                return Ok(false);
+            }
+            class -= 1;
+        }
         Ok(true)
-    } else {
-        Ok(false)
+    }
+
+    /// Joins an agent to the steps of its classes, if it can be.
+    fn graft(
+        &self,
+        parts: &mut Vec<Option<Built>>,
+        built: &mut Built,
+        steps: &StepNumbers,
+    ) -> Result<bool, AllocError>
+        requires parts { AreSized self.now.net.now parts.old.items }
+        requires built { IsNothing self.now.net.now built.old }
+        requires agent { IsAgent self.now.net.now self.now.node × (length steps.now ≡ classes_of self.now.net.now self.now.node) }
+        ensures { IfOk result (λ yes. Tells yes (OnStep self.now.net.now (Graft self.now.node steps.now) parts.old.items parts.new.items (Some built.new)) (OnStep self.now.net.now (Graft self.now.node steps.now) parts.old.items parts.new.items None)) }
+    {
+        let number = self.node as usize;
+        if !self.take_classes(parts, built, steps.as_slice())? {
+            return Ok(false);
+        }
+        if built.nodes.has(number) {
+            return Ok(false);
+        }
+        built.nodes.insert(number);
+        if graft_ends(self.net, &mut built.ends, self.node)? {
+            Ok(true)
+        } else {
+            Ok(false)
+        }
     }
 }
 
@@ -480,7 +473,8 @@ fn graft(
         return Ok(None);
     }
     let mut built = nothing(alloc, open)?;
-    if graft_into(open, parts, &mut built, node, steps)? {
+    let root = Root { net: open, node };
+    if root.graft(parts, &mut built, steps)? {
         Ok(Some(built))
     } else {
         Ok(None)

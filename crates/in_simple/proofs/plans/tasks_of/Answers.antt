@@ -1,30 +1,29 @@
-use Rattle.std.proofs.Common.{◌+◌, suc, length, sym, subst}
+use Rattle.std.proofs.Common.{◌≡◌, ◌+◌, suc, length, sym, ◌∙◌, ap, subst, arith}
+use Rattle.in_simple.specs.Planned.{Takes}
 use Rattle.in_simple.specs.Procedure.{IsRest}
+use Rattle.in_simple.specs.Progress.{PlansNet, Progress, after_ports, at_end, progress}
 use Rattle.in_simple.specs.Stuck.{ports_of}
 use Rattle.in_simple.proofs.Nets.{net_whole}
-use Rattle.in_simple.proofs.Planning.{goes_on, plan_end, lists_part}
-use Rattle.in_simple.proofs.Taking.{part_taken}
+use Rattle.in_simple.proofs.Planning.{lists_part, plan_end}
+use Rattle.in_simple.proofs.Taking.{before_other, part_taken}
 use Rattle.in_simple.proofs.plans.tasks_of.Goals as goal
 
-pub returns-clause-lists : goal.returns-clause-lists
-returns-clause-lists c =
+pub returns : goal.returns
+returns c =
     let o = c.args.wired.now in
     let n = c.args.node in
-    let g = goes_on o n (suc (ports_of o n)) (suc (ports_of o n) + length o.nodes) c.in_ok-begun.begun c.in_ok-touched.touched c.in_ok-whole.whole c.in_ok-touched.ensures.plan c.in_ok-whole.ensures.plan in
-    lists_part o c.in_ok-begun.ensures.net.net n c.args.part.now c.in_ok-whole.whole.rest (subst (λ z. IsRest n c.args.part.now z) (sym g.1) c.in_ok-begun.ensures.rest) 0 c.in_ok-whole.whole.tasks
-    (plan_end o c.in_ok-begun.ensures.net.net n c.in_ok-whole.whole g.0)
-
-pub returns-clause-steps : goal.returns-clause-steps
-returns-clause-steps c =
-    let o = c.args.wired.now in
-    let n = c.args.node in
-    let whole = c.in_ok-whole.whole in
-    let g = goes_on o n (suc (ports_of o n)) (suc (ports_of o n) + length o.nodes) c.in_ok-begun.begun c.in_ok-touched.touched whole c.in_ok-touched.ensures.plan c.in_ok-whole.ensures.plan in
-    net_whole o c.in_ok-begun.ensures.net.net n c.args.part.now whole g.0 c.in_ok-whole.ensures.net (subst (λ z. IsRest n c.args.part.now z) (sym g.1) c.in_ok-begun.ensures.rest) c.requires.here
-
-pub returns-clause-takes : goal.returns-clause-takes
-returns-clause-takes c =
-    let o = c.args.wired.now in
-    let n = c.args.node in
-    let g = goes_on o n (suc (ports_of o n)) (suc (ports_of o n) + length o.nodes) c.in_ok-begun.begun c.in_ok-touched.touched c.in_ok-whole.whole c.in_ok-touched.ensures.plan c.in_ok-whole.ensures.plan in
-    part_taken o c.in_ok-begun.ensures.net.net n c.args.part.now c.in_ok-whole.whole c.requires.first (subst (λ z. IsRest n c.args.part.now z) (sym g.1) c.in_ok-begun.ensures.rest) c.in_ok-whole.ensures.takes
+    let j = c.whole.inside in
+    let p = j.plan in
+    let k = suc (ports_of o n) + length o.nodes in
+    let e : progress j.wired.now j.node p.rest j.turn ≡ progress o n c.in_ok-begun.begun.rest k =
+    c.whole.view_is ∙ c.in_ok-whole.ensures ∙ ap at_end c.in_ok-touched.ensures ∙ ap (λ s. at_end (after_ports s)) c.in_ok-begun.ensures.start in
+    let x : PlansNet o n k p = subst (λ (s : Progress). PlansNet s.net s.node s.next p) e c.whole.invariant in
+    let left : IsRest n c.args.part.now p.rest = subst (λ (s : Progress). IsRest n c.args.part.now s.rest) (sym e) c.in_ok-begun.ensures.rest in
+    let net = x.orderly.net in
+    record {
+      steps = net_whole o net n c.args.part.now p x.plan x.net left c.requires.here;
+      takes = part_taken o net n c.args.part.now p c.requires.first left (subst (λ z. Takes o n k z p) (before_other o n k (omega arith)) x.takes);
+      net = x.orderly;
+      lists = lists_part o net n c.args.part.now p.rest left 0 p.tasks (plan_end o net n p x.plan);
+      sized = x.plan.sized;
+    }

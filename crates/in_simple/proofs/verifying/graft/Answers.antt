@@ -8,13 +8,13 @@ returns-then-not-is_agent_with c =
     none_grafts c.args.open.now c.args.node c.args.steps.now c.args.parts.now.items c.args.parts.now.items
     (λ h. not_both c.is_agent_with.result (c.is_agent_with.ensures.agent.1 (h.0, ap length c.as_slice.ensures ∙ h.1)) c.if-not-is_agent_with.true)
 
-pub graft_into-requires-clause-agent : goal.graft_into-requires-clause-agent
-graft_into-requires-clause-agent c =
+pub graft-requires-clause-agent : goal.graft-requires-clause-agent
+graft-requires-clause-agent c =
     let a = c.is_agent_with.ensures.agent.0 c.if-not-is_agent_with.false in
     (a.0, sym (ap length c.as_slice.ensures) ∙ a.1)
 
 pub returns-then-branch : goal.returns-then-branch
-returns-then-branch c = c.in_ok-graft_into.ensures.0 c.if-branch.true
+returns-then-branch c = c.in_ok-graft.ensures.0 c.if-branch.true
 
 pub returns-else-branch : goal.returns-else-branch
-returns-else-branch c = c.in_ok-graft_into.ensures.1 c.if-branch.false
+returns-else-branch c = c.in_ok-graft.ensures.1 c.if-branch.false

@@ -1,108 +1,103 @@
-use Rattle.std.proofs.Common.{◌≡◌, suc, false, nat_eq, refl, subst, arith, ◌∙◌, sym}
-use Rattle.in_simple.specs.declared.open_nets.Point.{Point}
-use Rattle.in_simple.specs.declared.open_nets.Point.TheVariants.{Port, Free}
-use Rattle.in_simple.specs.OpenNets.{IsWire}
-use Rattle.in_simple.specs.Stuck.{turn}
-use Rattle.in_simple.specs.Procedure.{nodes_in}
+use Rattle.std.proofs.Common.{◌≡◌, suc, false, nat_eq, sym, subst}
+use Rattle.in_simple.specs.Procedure.{GoesOn, IsPlan, nodes_in}
 use Rattle.in_simple.specs.Stacks.{shape, no_wires}
-use Rattle.in_simple.proofs.Sums.{not_both, port_no}
+use Rattle.in_simple.specs.Stuck.{turn}
+use Rattle.in_simple.proofs.Fates.{along, back_at, later_port, leads_away, met_derived, met_none, tests_at}
 use Rattle.in_simple.proofs.Taking.{comes_done, comes_own, comes_component, comes_link}
-use Rattle.in_simple.proofs.Sound.{port_place}
 use Rattle.in_simple.proofs.ClassNets.{nothing_done, nothing_own, adds_component, adds_link}
-use Rattle.in_simple.proofs.Planning.{port_free, port_out, port_done, port_derive, goes_make}
+use Rattle.in_simple.proofs.Planning.{port_pass, port_derive, goes_make}
+use Rattle.in_simple.proofs.Sums.{not_both}
+use Rattle.in_simple.proofs.Stages.{own_turn}
 use Rattle.in_simple.proofs.plans.Plan.port.Goals as goal
-use Rattle.in_simple.proofs.plans.Plan.port.Goals.{else-near-node-via-then-near-node+else-place-port, else-near-node-via-else-near-node}
 
-pub returns-then-has-2 : goal.returns-then-has-2
-returns-then-has-2 c =
+pub fate_at-requires : goal.fate_at-requires
+fate_at-requires c = tests_at c.args.wired.now c.args.node c.args.port c.args.self c.requires.plan c.partner-wire.result.1 c.partner-wire.ensures.point
+
+pub returns-in_ok-derive-in-Waits : goal.returns-in_ok-derive-in-Waits
+returns-in_ok-derive-in-Waits c =
     let o = c.args.wired.now in
     let n = c.args.node in
     let i = c.args.port in
     let p = c.args.self in
-    let net = c.partner.ensures.net.net in
-    let v = c.partner.result.0 in
-    let x = c.in_default-Port in
-    let wire = subst (λ z. IsWire o v (Port n i) z) x.is-1 c.partner.ensures.wire in
+    let a = c.requires.port in
+    let own = own_turn o n i a in
+    let h = subst (λ z. IsPlan o n z p) (sym own) c.requires.plan in
+    let net = c.partner-wire.ensures.net.net in
+    let w = c.partner-wire.result.0 in
+    let q = c.partner-wire.result.1 in
+    let wire = c.partner-wire.ensures.wire in
+    let l = c.in-Waits.near in
+    let f = c.in-Waits.ensures in
+    let there = along o net n p i w q wire l f.0 f.1 in
+    let d = c.in_ok-derive-in-Waits in
     record {
-      plan = port_done o net n p i v x.near x.place c.requires.port c.requires.plan wire (sym c.has-then-has.ensures ∙ c.if-has-2.true);
-      adds = nothing_done o net n (turn o n i) p c.requires.plan i v x.near x.place wire (sym c.has.ensures ∙ c.if-has.true) (sym c.has-then-has.ensures ∙ c.if-has-2.true);
-      comes = comes_done o net n p i v c.requires.agent c.requires.auxiliary c.requires.port c.requires.plan x.near x.place wire (sym c.has.ensures ∙ c.if-has.true) (sym c.has-then-has.ensures ∙ c.if-has-2.true);
+      plan = subst (λ z. GoesOn o n (suc z) p d.field-0) own (port_derive o net n p d.field-0 i w l f.0 h there f.2 f.3 d.ensures);
+      adds = (shape (nodes_in d.ensures.component) no_wires, adds_component o net n i p c.requires.plan i w l f.0 d.field-0 there f.2 f.3 d.ensures);
+      comes = comes_component o net n p i w a.agent a.auxiliary a.port h d.field-0 l f.0 there f.2 f.3 d.ensures;
     }
 
-pub returns-in_ok-derive-in_default-Port : goal.returns-in_ok-derive-in_default-Port
-returns-in_ok-derive-in_default-Port c =
+pub returns-in-Derived : goal.returns-in-Derived
+returns-in-Derived c =
     let o = c.args.wired.now in
     let n = c.args.node in
     let i = c.args.port in
     let p = c.args.self in
-    let net = c.partner.ensures.net.net in
-    let v = c.partner.result.0 in
-    let x = c.in_default-Port in
-    let wire = subst (λ z. IsWire o v (Port n i) z) x.is-1 c.partner.ensures.wire in
-    let d = c.in_ok-derive-in_default-Port in
+    let a = c.requires.port in
+    let own = own_turn o n i a in
+    let h = subst (λ z. IsPlan o n z p) (sym own) c.requires.plan in
+    let net = c.partner-wire.ensures.net.net in
+    let w = c.partner-wire.result.0 in
+    let q = c.partner-wire.result.1 in
+    let wire = c.partner-wire.ensures.wire in
+    let f = c.in-Derived.ensures in
+    let there = along o net n p i w q wire f.0 f.1 f.2 in
     record {
-      plan = port_derive o net n p d.field-0 i v x.near x.place c.requires.plan wire (sym c.has.ensures ∙ c.if-has.true) (sym c.has-then-has.ensures ∙ c.if-has-2.false) d.ensures;
-      adds = (shape (nodes_in d.ensures.component) no_wires, adds_component o net n (turn o n i) p c.requires.plan i v x.near x.place d.field-0 wire (sym c.has.ensures ∙ c.if-has.true) (sym c.has-then-has.ensures ∙ c.if-has-2.false) d.ensures);
-      comes = comes_component o net n p i v c.requires.agent c.requires.auxiliary c.requires.port c.requires.plan d.field-0 x.near x.place wire (sym c.has.ensures ∙ c.if-has.true) (sym c.has-then-has.ensures ∙ c.if-has-2.false) d.ensures;
+      plan = subst (λ z. GoesOn o n (suc z) p p) own (port_pass o net n p i a.port h (met_derived o net n p i w q wire f));
+      adds = nothing_done o net n i p c.requires.plan i w f.0 f.1 there f.3 f.4;
+      comes = comes_done o net n p i w a.agent a.auxiliary a.port h f.0 f.1 there f.3 f.4;
     }
 
-pub returns-then-place-port : goal.returns-then-place-port
-returns-then-place-port c =
+pub returns-then-leads_back : goal.returns-then-leads_back
+returns-then-leads_back c =
     let o = c.args.wired.now in
     let n = c.args.node in
     let i = c.args.port in
     let p = c.args.self in
-    let net = c.partner.ensures.net.net in
-    let v = c.partner.result.0 in
-    let x = c.in_default-Port in
-    let wire = subst (λ z. IsWire o v (Port n i) z) x.is-1 c.partner.ensures.wire in
+    let a = c.requires.port in
+    let own = own_turn o n i a in
+    let h = subst (λ z. IsPlan o n z p) (sym own) c.requires.plan in
+    let net = c.partner-wire.ensures.net.net in
+    let w = c.partner-wire.result.0 in
+    let q = c.partner-wire.result.1 in
+    let wire = c.partner-wire.ensures.wire in
+    let f = c.in-Outside.ensures in
+    let b = back_at n i q (c.leads_back.ensures.0 c.if-leads_back.true) in
+    let there = along o net n p i w q wire b.0 b.1 b.2 in
+    let out = subst (λ z. nodes_in p.rest z ≡ false) (sym b.3) h.out in
     record {
-      plan = port_out o net n p i v x.near x.place c.requires.port c.requires.plan wire (sym c.has.ensures ∙ c.if-has.false);
-      adds = nothing_own o net n (turn o n i) p c.requires.plan i v x.near x.place wire (sym c.has.ensures ∙ c.if-has.false) c.if-near-node.true c.if-place-port.true;
-      comes = comes_own o net n p i v c.requires.agent c.requires.auxiliary c.requires.port c.requires.plan x.near x.place wire (sym c.has.ensures ∙ c.if-has.false) c.if-near-node.true c.if-place-port.true;
+      plan = subst (λ z. GoesOn o n (suc z) p p) own (port_pass o net n p i a.port h (λ v l k g here. absurd (met_none o net n p i w q wire f v l k g here)));
+      adds = nothing_own o net n i p c.requires.plan i w b.0 b.1 there out b.3 b.4;
+      comes = comes_own o net n p i w a.agent a.auxiliary a.port h b.0 b.1 there out b.3 b.4;
     }
 
-pub returns-in_ok-make-in_default-Port : goal.returns-in_ok-make-in_default-Port
-returns-in_ok-make-in_default-Port c =
+pub returns-in_ok-make-in-Outside : goal.returns-in_ok-make-in-Outside
+returns-in_ok-make-in-Outside c =
     let o = c.args.wired.now in
     let n = c.args.node in
     let i = c.args.port in
     let p = c.args.self in
-    let net = c.partner.ensures.net.net in
-    let v = c.partner.result.0 in
-    let x = c.in_default-Port in
-    let wire = subst (λ z. IsWire o v (Port n i) z) x.is-1 c.partner.ensures.wire in
+    let a = c.requires.port in
+    let own = own_turn o n i a in
+    let h = subst (λ z. IsPlan o n z p) (sym own) c.requires.plan in
+    let net = c.partner-wire.ensures.net.net in
+    let w = c.partner-wire.result.0 in
+    let q = c.partner-wire.result.1 in
+    let wire = c.partner-wire.ensures.wire in
+    let f = c.in-Outside.ensures in
+    let m = c.in_ok-make-in-Outside in
+    let away = leads_away (nodes_in p.rest) n i q f (λ b. not_both c.leads_back.result (c.leads_back.ensures.1 b) c.if-leads_back.false) in
     record {
-      plan = goes_make o n (suc (turn o n i)) p p c.in_ok-make-in_default-Port.field-0 _ (port_out o net n p i v x.near x.place c.requires.port c.requires.plan wire (sym c.has.ensures ∙ c.if-has.false)) c.in_ok-make-in_default-Port.ensures;
-      adds = (
-        shape (λ m. false) (λ w. nat_eq w v),
-        adds_link o net n (turn o n i) p c.requires.plan i v (Port x.near x.place) c.in_ok-make-in_default-Port.field-0 wire (port_no (nodes_in p.rest) x.near x.place (sym c.has.ensures ∙ c.if-has.false))
-            (λ j e.
-            let s = port_place x.near n x.place j e in
-            elim c.else-near-node.branch [
-              | else-near-node-via-then-near-node+else-place-port w ↦ let l = w.if-place-port.false in let k = s.1 in omega arith
-              | else-near-node-via-else-near-node w ↦ absurd (w.if-near-node.false s.0)
-            ])
-            c.in_ok-make-in_default-Port.ensures,
-      );
-      comes = comes_link o net n p i v c.requires.agent c.requires.auxiliary c.requires.port c.requires.plan c.in_ok-make-in_default-Port.field-0 (Port x.near x.place) wire (
-        (λ h. absurd (not_both (nodes_in p.rest x.near) h (sym c.has.ensures ∙ c.if-has.false))),
-        λ e. elim c.else-near-node.branch [ else-near-node-via-then-near-node+else-place-port w ↦ let l = w.if-place-port.false in omega arith | else-near-node-via-else-near-node w ↦ absurd (w.if-near-node.false e) ],
-      ) c.in_ok-make-in_default-Port.ensures;
-    }
-
-pub returns-in_ok-make-in_default-Free : goal.returns-in_ok-make-in_default-Free
-returns-in_ok-make-in_default-Free c =
-    let o = c.args.wired.now in
-    let n = c.args.node in
-    let i = c.args.port in
-    let p = c.args.self in
-    let net = c.partner.ensures.net.net in
-    let v = c.partner.result.0 in
-    let x = c.in_default-Free in
-    let wire = subst (λ z. IsWire o v (Port n i) z) x.is-1 c.partner.ensures.wire in
-    record {
-      plan = goes_make o n (suc (turn o n i)) p p c.in_ok-make-in_default-Free.field-0 _ (port_free o net n p i v x.field-0-1 c.requires.port c.requires.plan wire) c.in_ok-make-in_default-Free.ensures;
-      adds = (shape (λ m. false) (λ w. nat_eq w v), adds_link o net n (turn o n i) p c.requires.plan i v (Free x.field-0-1) c.in_ok-make-in_default-Free.field-0 wire refl (λ j e. let f : ◌≡◌ {A = Point} (Free x.field-0-1) (Port n j) = e in cc) c.in_ok-make-in_default-Free.ensures);
-      comes = comes_link o net n p i v c.requires.agent c.requires.auxiliary c.requires.port c.requires.plan c.in_ok-make-in_default-Free.field-0 (Free x.field-0-1) wire tt c.in_ok-make-in_default-Free.ensures;
+      plan = subst (λ z. GoesOn o n (suc z) p m.field-0) own (goes_make o n (suc (turn o n i)) p p m.field-0 _ (port_pass o net n p i a.port h (λ v l k g here. absurd (met_none o net n p i w q wire f v l k g here))) m.ensures);
+      adds = (shape (λ m. false) (λ v. nat_eq v w), adds_link o net n i p c.requires.plan i w q m.field-0 wire f (later_port (nodes_in p.rest) n i q away) m.ensures);
+      comes = comes_link o net n p i w a.agent a.auxiliary a.port h m.field-0 q wire away m.ensures;
     }
