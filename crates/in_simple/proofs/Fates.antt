@@ -1,7 +1,5 @@
 -- What becomes of the node at the other end of a wire, and what a port adds there.
-use Rattle.std.proofs.Common.{◌≡◌, ◌⊎◌, ◌<◌, ◌≤◌, ℕ, Bool, length, slice_get, Option, Some, None, IsSomeAnd, refl, sym, subst, inl, inr, arith}
-use Rattle.std.proofs.lemmas.Option.{slice_get_within}
-use Rattle.in_simple.specs.declared.open_nets.OpenNode.{OpenNode}
+use Rattle.std.proofs.Common.{◌≡◌, ◌⊎◌, ◌<◌, ◌≤◌, ℕ, Bool, refl, sym, subst, inl, inr, arith}
 use Rattle.in_simple.specs.declared.open_nets.Point.{Point}
 use Rattle.in_simple.specs.declared.open_nets.Point.TheVariants.{Port, Free}
 use Rattle.in_simple.specs.declared.plans.Fate.{Fate}
@@ -9,25 +7,13 @@ use Rattle.in_simple.specs.declared.plans.Fate.TheVariants.{Derived, Outside}
 use Rattle.in_simple.specs.declared.plans.Plan.{Plan}
 use Rattle.in_simple.specs.Constructions.{IsIn}
 use Rattle.in_simple.specs.Derivations.{is_port_in}
-use Rattle.in_simple.specs.OpenNets.{OpenNet, IsPointOf, IsWire, IsOpenNet}
-use Rattle.in_simple.specs.Planned.{HasFate, HasFateAt, HasTests, HasTestsAt, LeadsBack}
-use Rattle.in_simple.specs.Procedure.{IsPlan, nodes_in}
+use Rattle.in_simple.specs.OpenNets.{OpenNet, IsWire, IsOpenNet}
+use Rattle.in_simple.specs.Planned.{HasFate, HasFateAt, LeadsBack}
+use Rattle.in_simple.specs.Procedure.{nodes_in}
 use Rattle.in_simple.specs.TakenOrder.{LeadsAway}
 use Rattle.in_simple.proofs.Links.{at_most}
 use Rattle.in_simple.proofs.Sound.{port_place}
 use Rattle.in_simple.proofs.Sums.{not_both, port_yes}
-
--- a plan has tests for each node of the net
-pub tests : (o : OpenNet) (n t : ℕ) (p : Plan) → IsPlan o n t p → (m : ℕ) → m < length o.nodes → HasTests p m
-tests o n t p h m lt = (let e = h.rest_size in omega arith, let e = h.done_size in omega arith)
-
-pub tests_at : (o : OpenNet) (n t : ℕ) (p : Plan) → IsPlan o n t p → (q : Point) → IsPointOf o q → HasTestsAt p q
-tests_at o n t p h (Port m i) point = tests o n t p h m (go (slice_get o.nodes m) refl point)
-  where
-    go : (x : Option OpenNode) → slice_get o.nodes m ≡ x → IsSomeAnd x (λ y. i < length y.class_of) → m < length o.nodes
-    go None e k = absurd k
-    go (Some y) e k = slice_get_within o.nodes m y e
-tests_at o n t p h (Free k) point = tt
 
 pub back_at : (n i : ℕ) (q : Point) → LeadsBack n i q → (l : ℕ) × (k : ℕ) × (q ≡ Port l k) × (l ≡ n) × (k ≤ i)
 back_at n i (Port l k) h = (l, k, refl, h.0, h.1)

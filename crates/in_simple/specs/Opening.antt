@@ -1,8 +1,9 @@
 -- The open net of an initial net: its agents in order are the nodes, its wires by number, and its free ends.
-use Rattle.std.specs.Prelude.{◌≡◌, ◌↔◌, ℕ, ◌+◌, ◌<◌, ◌≤◌, List, length, slice_get, Some, option_map, is_some, true}
+use Rattle.std.specs.Prelude.{◌≡◌, ◌↔◌, ℕ, ◌+◌, ◌<◌, ◌≤◌, List, length, slice_get, Some, option_map, is_some, true, IsTrue}
 use Rattle.std.specs.List.{AllByRecursion}
 use Rattle.in_symbols.specs.declared.symbols.SymbolNo.{SymbolNo}
 use Rattle.in_symbols.specs.Tables.{Tables, arity_of, class_at, classes_of}
+use Rattle.in_net.specs.Built.{IsOver}
 use Rattle.in_net.specs.declared.nets.Point as points
 use Rattle.in_net.specs.declared.nets.Point.TheVariants as point
 use Rattle.in_net.specs.Parts.{Parts, symbol_in, agent_place_in, wire_in}
@@ -15,6 +16,16 @@ use Rattle.in_simple.specs.OpenNets.{OpenNet}
 -- no number is without an agent, as it is where no interaction happened
 abbrev pub AreAllThere : Parts → Type 0
 AreAllThere n = AllByRecursion (λ c. is_some c ≡ true) n.cells
+
+-- a net or a right member with the tables of its symbols; over them it was built
+pub record Member : Type 0 where
+  pub tables : Tables
+  pub net : Parts
+
+pub record IsBuiltOver (t : Tables) (n : Parts) : Type 0 where
+  pub over : IsOver t n
+  pub built : IsTrue n.built
+  pub there : AreAllThere n
 
 -- P holds of each element at its number
 abbrev pub Each : {X : Type 0} → (ℕ → X → Type 0) → List X → Type 0

@@ -28,14 +28,6 @@ PutsNet o n p = Puts o p.tasks (net_of n p.done ∷ [])
 
 -- ---- the node at the other end of a wire
 
--- both sets have a test for the node
-abbrev pub HasTests : Plan → ℕ → Type 0
-HasTests p m = (m < length p.rest) × (m < length p.done)
-
-abbrev pub HasTestsAt : Plan → Point → Type 0
-HasTestsAt p (Port m i) = HasTests p m
-HasTestsAt p (Free k) = Unit {0}
-
 abbrev pub HasFate : Plan → ℕ → Fate → Type 0
 HasFate p m (Waits l) = (l ≡ m) × IsIn m (nodes_in p.rest) × (nodes_in p.done m ≡ false)
 HasFate p m Derived = IsIn m (nodes_in p.rest) × IsIn m (nodes_in p.done)

@@ -10,6 +10,7 @@ use in_net::{AgentNo, Net};
 use in_symbols::{SymbolNo, Symbols};
 use sqlite_items::Items;
 use std::alloc::{AllocError, Global};
+use std::marker::Model;
 
 /// The classes of a symbol's places.
 fn classes(alloc: Global, symbols: &Symbols, symbol: SymbolNo) -> Result<Items<u8>, AllocError>
@@ -25,45 +26,52 @@ fn classes(alloc: Global, symbols: &Symbols, symbol: SymbolNo) -> Result<Items<u
     Ok(classes)
 }
 
+/// A net or a right member as it was built, with the tables of its symbols.
+#[derive(Drop)]
+pub(crate) struct BuiltNet<'a> {
+    pub(crate) symbols: &'a Symbols,
+    pub(crate) net: &'a Net,
+}
+
+// Contracts see the tables and the net.
+impl<'a> Model for BuiltNet<'a> {
+    ghost use Rattle.in_simple.specs.Opening.{IsBuiltOver, Member};
+
+    ghost Value = { Member };
+
+    ghost view = { λ m. record { tables = m.symbols.now; net = m.net.now } };
+
+    ghost invariant = { λ m. IsBuiltOver m.symbols.now m.net.now };
+}
+
 /// The node of an agent.
-pub(crate) fn node(
-    alloc: Global,
-    symbols: &Symbols,
-    net: &Net,
-    agent: AgentNo,
-) -> Result<OpenNode, AllocError>
-    requires over { IsOver symbols.now net.now }
-    requires built { IsTrue net.now.built }
-    requires there { AreAllThere net.now }
-    requires agent { agent.0 < length net.now.cells }
-    ensures node { IfOk result (IsNodeOf symbols.now net.now agent.0) }
+pub(crate) fn node(alloc: Global, built: &BuiltNet, agent: AgentNo) -> Result<OpenNode, AllocError>
+    requires { agent.0 < length built.now.net.cells }
+    ensures node { IfOk result (IsNodeOf built.now.tables built.now.net agent.0) }
     ensures few { IfOk result (λ node. length node.class_of ≤ max_ports + 1) }
 {
-    match net.symbol(agent) {
+    match built.net.symbol(agent) {
         Some(symbol) => Ok(OpenNode {
             node: Node::AgentNode(symbol),
-            place: net.agent_place(agent),
-            classes: symbols.classes(symbol),
-            class_of: classes(alloc, symbols, symbol)?,
+            place: built.net.agent_place(agent),
+            classes: built.symbols.classes(symbol),
+            class_of: classes(alloc, built.symbols, symbol)?,
         }),
         None => unreachable!(),
     }
 }
 
 /// The nodes of the agents.
-fn nodes(alloc: Global, symbols: &Symbols, net: &Net) -> Result<Items<OpenNode>, AllocError>
-    requires over { IsOver symbols.now net.now }
-    requires built { IsTrue net.now.built }
-    requires there { AreAllThere net.now }
-    ensures nodes { IfOk result (AreNodesOf symbols.now net.now) }
+fn nodes(alloc: Global, built: &BuiltNet) -> Result<Items<OpenNode>, AllocError>
+    ensures nodes { IfOk result (AreNodesOf built.now.tables built.now.net) }
     ensures small { IfOk result (λ nodes. length nodes < 2 ^ 32) }
     ensures few { IfOk result (Each (λ n node. length node.class_of ≤ max_ports + 1)) }
-    ensures whole { IsWhole net.now }
+    ensures whole { IsWhole built.now.net }
 {
     let mut nodes = Items::new(alloc);
-    let count = net.agents();
+    let count = built.net.agents();
     for agent in 0..count {
-        nodes.push(node(alloc, symbols, net, AgentNo(agent))?)?;
+        nodes.push(node(alloc, built, AgentNo(agent))?)?;
     }
     Ok(nodes)
 }
@@ -109,8 +117,9 @@ pub fn open_net(alloc: Global, symbols: &Symbols, net: &Net) -> Result<OpenNet, 
     requires numbered { AreNumbered symbols.now }
     ensures { IfOk result (Opens symbols.now net.now) }
 {
+    let built = BuiltNet { symbols, net };
     Ok(OpenNet {
-        nodes: nodes(alloc, symbols, net)?,
+        nodes: nodes(alloc, &built)?,
         wires: wires(alloc, net)?,
         free: net.free_ends(),
     })

@@ -7,7 +7,7 @@ ghost use Rattle.in_simple.specs.Opening.{AreAllThere, AreNumbered, Each};
 ghost use Rattle.in_simple.specs.OpeningRules.{places_in, IsClassNodeOf, agent_node, agents_before, class_port, boundary_port, is_turned, rule_nodes, rule_point, rule_wire, second_node, AreRuleNodes, AreRuleWires, IsRuleNode, IsRuleWhole, OpensRule};
 
 use crate::open_nets::{Node, OpenNet, OpenNode, Point};
-use crate::opening::node;
+use crate::opening::{BuiltNet, node};
 use in_net::{AgentNo, Rule};
 use in_symbols::{SymbolNo, Symbols};
 use in_syntax::Place;
@@ -219,19 +219,23 @@ impl<'a> Layout<'a> {
     {
         let symbols = self.symbols;
         let rule = self.rule;
+        let member = BuiltNet {
+            symbols,
+            net: rule.member(),
+        };
         let (first, second) = rule.written();
         if number < self.first {
             return class_node(alloc, symbols, first, rule.head_place(0), number as u8 + 1);
         }
         let at = number - self.first;
         if at < self.before {
-            return node(alloc, symbols, rule.member(), AgentNo(at));
+            return node(alloc, &member, AgentNo(at));
         }
         if at - self.before < self.second {
             let class = (at - self.before) as u8 + 1;
             return class_node(alloc, symbols, second, rule.head_place(1), class);
         }
-        node(alloc, symbols, rule.member(), AgentNo(at - self.second))
+        node(alloc, &member, AgentNo(at - self.second))
     }
 
     /// The nodes in the order of their tokens.

@@ -3,7 +3,7 @@ ghost use Rattle.in_simple.specs.Constructions.{IsIn};
 ghost use Rattle.in_simple.specs.Procedure.{AreSized, Derives, GoesOn, IsFirst, IsPlan, IsRest, KeepsPlan, Lists, nodes_in, with_task};
 ghost use Rattle.in_simple.specs.Progress.{after_ports, at_end, later, progress, until};
 ghost use Rattle.in_simple.specs.OpenNets.{IsAgent, IsClass, IsOrderly, class_in, open_graph};
-ghost use Rattle.in_simple.specs.Planned.{HasFate, HasFateAt, HasTests, HasTestsAt, IsAuxiliaryPort, IsLeftOver, IsSized, JoinsFate, LeadsBack, Skips, TakesPart, WhatComes, WhatPort, WithEmpties};
+ghost use Rattle.in_simple.specs.Planned.{HasFate, HasFateAt, IsAuxiliaryPort, IsLeftOver, IsSized, JoinsFate, LeadsBack, Skips, TakesPart, WhatComes, WhatPort, WithEmpties};
 ghost use Rattle.in_simple.specs.Splitting.{SplitsAt};
 ghost use Rattle.in_simple.specs.Stacks.{Puts, no_wires, shape};
 ghost use Rattle.in_simple.specs.Stuck.{ports_of, turn};
@@ -77,7 +77,6 @@ impl Plan {
 
     /// What becomes of a node.
     fn fate(&self, near: u32) -> Fate
-        requires { HasTests self.now near }
         ensures { HasFate self.now near result }
     {
         if !self.rest.has(near as usize) {
@@ -91,7 +90,6 @@ impl Plan {
 
     /// What becomes of the node at a point.
     fn fate_at(&self, point: Point) -> Fate
-        requires { HasTestsAt self.now point }
         ensures { HasFateAt self.now point result }
     {
         match point {

@@ -2,12 +2,8 @@ use Rattle.std.proofs.Common.{◌≡◌, ◌<◌, ◌+◌, sym, subst}
 use Rattle.in_simple.specs.Progress.{PlansNet, Progress}
 use Rattle.in_simple.specs.OpenNets.{IsAgent}
 use Rattle.in_simple.specs.Stuck.{ports_of, turn}
-use Rattle.in_simple.proofs.Fates.{tests_at}
 use Rattle.in_simple.proofs.Stages.{joins_port}
 use Rattle.in_simple.proofs.plans.Joined.port.Goals as goal
-
-pub fate_at-fate-requires : goal.fate_at-fate-requires
-fate_at-fate-requires c = tests_at c.self.inside.wired.now c.self.inside.node c.self.inside.turn c.self.inside.plan c.self.invariant.plan c.partner-wire.result.1 c.partner-wire.ensures.point
 
 pub invariant_of-result : goal.invariant_of-result
 invariant_of-result c =

@@ -2,16 +2,13 @@ use Rattle.std.proofs.Common.{◌≡◌, suc, false, nat_eq, sym, subst}
 use Rattle.in_simple.specs.Procedure.{GoesOn, IsPlan, nodes_in}
 use Rattle.in_simple.specs.Stacks.{shape, no_wires}
 use Rattle.in_simple.specs.Stuck.{turn}
-use Rattle.in_simple.proofs.Fates.{along, back_at, later_port, leads_away, met_derived, met_none, tests_at}
+use Rattle.in_simple.proofs.Fates.{along, back_at, later_port, leads_away, met_derived, met_none}
 use Rattle.in_simple.proofs.Taking.{comes_done, comes_own, comes_component, comes_link}
 use Rattle.in_simple.proofs.ClassNets.{nothing_done, nothing_own, adds_component, adds_link}
 use Rattle.in_simple.proofs.Planning.{port_pass, port_derive, goes_make}
 use Rattle.in_simple.proofs.Sums.{not_both}
 use Rattle.in_simple.proofs.Stages.{own_turn}
 use Rattle.in_simple.proofs.plans.Plan.port.Goals as goal
-
-pub fate_at-requires : goal.fate_at-requires
-fate_at-requires c = tests_at c.args.wired.now c.args.node c.args.port c.args.self c.requires.plan c.partner-wire.result.1 c.partner-wire.ensures.point
 
 pub returns-in_ok-derive-in-Waits : goal.returns-in_ok-derive-in-Waits
 returns-in_ok-derive-in-Waits c =
