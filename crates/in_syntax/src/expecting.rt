@@ -6,7 +6,7 @@ use crate::lexer::{MAX_TEXT_BYTES, tokens};
 use crate::places::Place;
 use crate::reader::Reader;
 use crate::states::{HeadOf, Nest, State, TermOf};
-use crate::tree::{Equations, SourceFrees, SourceNet};
+use crate::tree::{Equations, Names, SourceFrees, SourceNet, SourceRules, SourceSymbols};
 use crate::words::{Token, TokenKind};
 use std::alloc::Global;
 
@@ -146,38 +146,33 @@ fn begin_of(tokens: &[Token]) -> Begin {
     begin
 }
 
-/// A reader that has read nothing, before an item or an equation; and where that begins.
-fn reader_at(alloc: Global, begin: Begin) -> (Reader, usize) {
-    let Reader {
-        types,
-        symbols,
-        rules,
-        state,
-    } = Reader::new(alloc);
-    match begin {
-        Begin::Item(from) => (
-            Reader {
-                types,
-                symbols,
-                rules,
-                state,
-            },
-            from,
-        ),
-        Begin::Equation(from) => {
-            let free = SourceFrees::new(alloc);
-            let equations = Equations::new(alloc);
-            let state = State::Equation(SourceNet { free, equations });
-            (
-                Reader {
-                    types,
-                    symbols,
-                    rules,
-                    state,
-                },
-                from,
-            )
+impl Begin {
+    /// The place of its first byte.
+    fn place(self) -> usize {
+        match self {
+            Begin::Item(from) | Begin::Equation(from) => from,
         }
+    }
+
+    /// The state before it.
+    fn state(self, alloc: Global) -> State {
+        match self {
+            Begin::Item(_) => State::Item,
+            Begin::Equation(_) => State::Equation(SourceNet {
+                free: SourceFrees::new(alloc),
+                equations: Equations::new(alloc),
+            }),
+        }
+    }
+}
+
+/// A reader that has read nothing, in this state.
+fn reader_in(alloc: Global, state: State) -> Reader {
+    Reader {
+        types: Names::new(alloc),
+        symbols: SourceSymbols::new(alloc),
+        rules: SourceRules::new(alloc),
+        state,
     }
 }
 
@@ -185,9 +180,10 @@ fn reader_at(alloc: Global, begin: Begin) -> (Reader, usize) {
 fn expected_after(alloc: Global, text: &[u8], tokens: &[Token]) -> Result<Expected, Fault>
     requires { HasTexts text.now tokens.now }
 {
-    let (mut reader, from) = reader_at(alloc, begin_of(tokens));
+    let begin = begin_of(tokens);
+    let mut reader = reader_in(alloc, begin.state(alloc));
     for token in tokens {
-        if token.place.from >= from {
+        if token.place.from >= begin.place() {
             reader = reader.take(alloc, text, *token)?;
         }
     }
