@@ -77,7 +77,7 @@ fn line_of(text: &[u8], place: Place) -> Line<'_> {
 const REPLACEMENT: char = '\u{FFFD}';
 
 /// Whether a character isn't seen, or turns the direction of what follows it.
-fn is_hidden(c: char) -> bool {
+pub(crate) fn is_hidden(c: char) -> bool {
     matches!(c, '\u{AD}' | '\u{200B}'..='\u{200F}' | '\u{2028}'..='\u{202E}' | '\u{2060}'..='\u{206F}' | '\u{FEFF}')
 }
 

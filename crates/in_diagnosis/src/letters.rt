@@ -1,114 +1,23 @@
 //! Characters with which no token begins.
-use crate::excerpts::front;
+use crate::excerpts::{front, is_hidden};
 use crate::reports::Report;
+use in_characters::name_of;
 use in_syntax::Place;
 use std::alloc::AllocError;
 
-/// The name of a character that is no letter of a name, where it is one of ASCII.
-fn ascii_name(c: char) -> Option<&'static str> {
-    Some(match c {
-        '\0' => "null character",
-        '\u{7}' => "bell character",
-        '\u{8}' => "backspace character",
-        '\u{B}' => "line tabulation",
-        '\u{C}' => "form feed",
-        '\u{1A}' => "substitute character",
-        '\u{1B}' => "escape character",
-        '\u{7F}' => "delete character",
-        '!' => "exclamation mark",
-        '"' => "quotation mark",
-        '$' => "dollar sign",
-        '%' => "percent sign",
-        '&' => "ampersand",
-        '\'' => "apostrophe",
-        '*' => "asterisk",
-        '.' => "full stop",
-        '/' => "slash",
-        '0'..='9' => "digit",
-        '<' => "less-than sign",
-        '=' => "equals sign",
-        '>' => "greater-than sign",
-        '?' => "question mark",
-        '@' => "at sign",
-        '\\' => "backslash",
-        '^' => "circumflex accent",
-        '`' => "grave accent",
-        '|' => "vertical bar",
-        _ => return None,
-    })
-}
-
-/// The name of a space or of a character that isn't seen.
-fn blank_name(c: char) -> Option<&'static str> {
-    Some(match c {
-        '\u{85}' => "next line character",
-        '\u{A0}' => "no-break space",
-        '\u{AD}' => "soft hyphen",
-        '\u{2000}'..='\u{200A}' => "space of another width",
-        '\u{200B}' => "zero width space",
-        '\u{200C}' => "zero width non-joiner",
-        '\u{200D}' => "zero width joiner",
-        '\u{200E}' => "left-to-right mark",
-        '\u{200F}' => "right-to-left mark",
-        '\u{2028}' => "line separator",
-        '\u{2029}' => "paragraph separator",
-        '\u{202F}' => "narrow no-break space",
-        '\u{2060}' => "word joiner",
-        '\u{3000}' => "ideographic space",
-        '\u{FEFF}' => "byte order mark",
-        '\u{FFFD}' => "replacement character",
-        _ => return None,
-    })
-}
-
-/// The name of a sign of print or of mathematics.
-fn sign_name(c: char) -> Option<&'static str> {
-    Some(match c {
-        '\u{A7}' => "section sign",
-        '\u{AB}' | '\u{BB}' => "angle quotation mark",
-        '\u{AC}' => "not sign",
-        '\u{B0}' => "degree sign",
-        '\u{B1}' => "plus-minus sign",
-        '\u{B4}' => "acute accent",
-        '\u{D7}' => "multiplication sign",
-        '\u{F7}' => "division sign",
-        '\u{37E}' => "Greek question mark",
-        '\u{2010}' | '\u{2011}' => "hyphen",
-        '\u{2012}'..='\u{2015}' => "dash",
-        '\u{2018}' | '\u{2019}' | '\u{201A}' | '\u{201C}' | '\u{201D}' | '\u{201E}' =>
-            "typographic quotation mark",
-        '\u{2022}' => "bullet",
-        '\u{2026}' => "ellipsis",
-        '\u{2032}' | '\u{2033}' => "prime",
-        '\u{20AC}' => "euro sign",
-        '\u{2190}' => "leftwards arrow",
-        '\u{2192}' => "rightwards arrow",
-        '\u{2194}' => "left right arrow",
-        '\u{21D2}' => "rightwards double arrow",
-        '\u{2212}' => "minus sign",
-        '\u{223C}' => "tilde operator",
-        '\u{2248}' => "almost equal to",
-        '\u{2260}' => "not equal to",
-        '\u{22C8}' => "bowtie",
-        '\u{2295}' => "circled plus",
-        '\u{2297}' => "circled times",
-        '\u{214B}' => "turned ampersand",
-        '\u{FF01}'..='\u{FF5E}' => "fullwidth form",
-        _ => return None,
-    })
-}
-
-/// The name of a character with which no token begins; what kind it is, where it has no name here.
-fn name_of(c: char) -> &'static str {
-    if let Some(name) = ascii_name(c).or(blank_name(c)).or(sign_name(c)) {
-        name
-    } else if c.is_control() {
-        "control character"
-    } else if c.is_whitespace() {
-        "space of another kind"
-    } else {
-        "character"
+/// What a character without a name is: nothing here, private, or not a character at all.
+fn nameless(c: char) -> &'static str {
+    match u32::from(c) {
+        0xE000..=0xF8FF | 0xF0000..=0xFFFFD | 0x100000..=0x10FFFD => "private-use character",
+        0xFDD0..=0xFDEF => "noncharacter",
+        number if number % 0x10000 >= 0xFFFE => "noncharacter",
+        _ => "unassigned character",
     }
+}
+
+/// Whether a character isn't seen by itself in a line.
+fn is_blank(c: char) -> bool {
+    c.is_control() || c.is_whitespace() || is_hidden(c)
 }
 
 /// The sign of the grammar that a character is easily taken for.
@@ -136,7 +45,7 @@ fn help_with(first: char, second: Option<char>) -> &'static str {
             "a name begins with a letter or `_`; numbers are agents, such as S(S(Z)) for two"
         }
         ('\u{FEFF}', _) => "save the text without a byte order mark",
-        _ if blank_name(first).is_some() || first.is_whitespace() => "write a space in its place",
+        _ if is_blank(first) => "write a space in its place",
         _ => "names have letters, digits and `_`; a comment begins with `#`",
     }
 }
@@ -155,6 +64,17 @@ fn first_two(bytes: &[u8]) -> (Option<char>, Option<char>) {
     (first, chars.next())
 }
 
+/// What is wrong with a character with which no token begins: it, unless it isn't seen, its name and its number.
+fn sentence_on(report: &Report, c: char) -> Result<String, AllocError> {
+    let name = name_of(c).unwrap_or(nameless(c));
+    let number = u32::from(c);
+    if is_blank(c) {
+        format!(in report.alloc; "no token begins with U+{number:04X}, the {name}")
+    } else {
+        format!(in report.alloc; "no token begins with `{c}`, the {name} U+{number:04X}")
+    }
+}
+
 /// No token begins at this place.
 pub(crate) fn add_no_token(report: &mut Report, place: Place) -> Result<(), AllocError> {
     let Some(rest) = report.text.get(place.from..) else {
@@ -166,13 +86,7 @@ pub(crate) fn add_no_token(report: &mut Report, place: Place) -> Result<(), Allo
     let (Some(first), second) = first_two(rest) else {
         return add_byte(report, place, *byte);
     };
-    let name = name_of(first);
-    let number = u32::from(first);
-    let sentence = if first.is_control() || first.is_whitespace() || blank_name(first).is_some() {
-        format!(in report.alloc; "no token begins with a {name}, U+{number:04X}")
-    } else {
-        format!(in report.alloc; "no token begins with `{first}`, the {name} U+{number:04X}")
-    };
+    let sentence = sentence_on(report, first);
     report.wrong_text(place, sentence)?;
     report.help(help_with(first, second))
 }

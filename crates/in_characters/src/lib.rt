@@ -1,0 +1,33 @@
+//! The names of characters that begin no name of a program: signs, digits, marks, spaces and what isn't seen.
+#![tactic(auto)]
+
+mod tables;
+
+use crate::tables::table_of;
+use std::str;
+
+/// The name of a line, where the line is that of the number.
+fn name_on(line: &'static str, number: u32) -> Option<&'static str> {
+    let (digits, name) = line.split_once(' ')?;
+    if u32::from_str_radix(digits, 16) == Ok(number) {
+        Some(name)
+    } else {
+        None
+    }
+}
+
+/// The name of a character by Unicode 18, in small letters but for proper names, such as "leftwards arrow" or "Greek question mark".
+/// Nothing for those that may begin an identifier (`XID_Start`), and for those that have no name: private and unassigned ones. In the
+/// place of a faulty name comes its correction; a few are called as they are known better, such as "slash" and "byte order mark".
+///
+/// That characters have names here is this project's own choice: diagnoses tell them. No clause says which name is whose.
+pub fn name_of(c: char) -> Option<&'static str> {
+    let number = u32::from(c);
+    let names = str::from_utf8(table_of(number)).unwrap_or("");
+    for line in names.lines() {
+        if let Some(name) = name_on(line, number) {
+            return Some(name);
+        }
+    }
+    None
+}
