@@ -92,20 +92,27 @@ fn check_net_steps(
     requires { AreOfText declared.symbols declared.rules declared.net }
     ensures { ChecksNetSteps declared.symbols declared.rules declared.net numbers rule_certificates result }
 {
-    let net_certificate = certify_net(alloc, &declared.symbols, &declared.net, part)?;
-    let Declared {
-        symbols,
-        rules,
-        net,
-    } = declared;
-    Ok(Passed {
-        symbols,
-        rules,
-        net,
-        numbers,
-        rule_certificates,
-        net_certificate,
-    })
+    match certify_net(alloc, &declared.symbols, &declared.net, part) {
+        Ok(net_certificate) => {
+            let Declared {
+                symbols,
+                rules,
+                net,
+            } = declared;
+            Ok(Passed {
+                symbols,
+                rules,
+                net,
+                numbers,
+                rule_certificates,
+                net_certificate,
+            })
+        }
+        Err(fault) => {
+            drop((declared, numbers, rule_certificates));
+            Err(fault)
+        }
+    }
 }
 
 /// The steps of the rules, and then those of the net.
@@ -118,8 +125,13 @@ fn check_rule_steps(
     requires { AreOfText declared.symbols declared.rules declared.net }
     ensures { ChecksRuleSteps declared.symbols declared.rules declared.net numbers result }
 {
-    let certificates = certify_rules(alloc, &declared.symbols, declared.rules.as_slice(), part)?;
-    check_net_steps(alloc, declared, numbers, certificates, part)
+    match certify_rules(alloc, &declared.symbols, declared.rules.as_slice(), part) {
+        Ok(certificates) => check_net_steps(alloc, declared, numbers, certificates, part),
+        Err(fault) => {
+            drop((declared, numbers));
+            Err(fault)
+        }
+    }
 }
 
 /// One rule for each pair, and then the steps.
@@ -132,8 +144,13 @@ fn check_pairs(
     requires pairs { AllByRecursion (IsOfPair declared.symbols) declared.rules }
     ensures { ChecksPairs declared.symbols declared.rules declared.net result }
 {
-    let numbers = cover(alloc, &declared.symbols, declared.rules.as_slice())?;
-    check_rule_steps(alloc, declared, numbers, part)
+    match cover(alloc, &declared.symbols, declared.rules.as_slice()) {
+        Ok(numbers) => check_rule_steps(alloc, declared, numbers, part),
+        Err(fault) => {
+            drop(declared);
+            Err(fault)
+        }
+    }
 }
 
 /// The types, and then one rule for each pair and the steps.
@@ -146,8 +163,13 @@ fn check_types(
     ensures { ChecksTypes declared.symbols declared.rules declared.net result }
 {
     let rules = declared.rules.as_slice();
-    type_pass(&declared.symbols, rules, &declared.net)?;
-    check_pairs(alloc, declared, part)
+    match type_pass(&declared.symbols, rules, &declared.net) {
+        Ok(()) => check_pairs(alloc, declared, part),
+        Err(fault) => {
+            drop(declared);
+            Err(fault)
+        }
+    }
 }
 
 /// The net, and then the passes over all that is declared.
@@ -163,16 +185,20 @@ fn check_net(
     requires rules { BuildsRules source.now symbols (Ok rules) }
     ensures { ChecksNet source.now symbols rules result }
 {
-    let net = build_net(alloc, source, &symbols)?;
-    check_types(
-        alloc,
-        Declared {
-            symbols,
-            rules,
-            net,
-        },
-        part,
-    )
+    match build_net(alloc, source, &symbols) {
+        Ok(net) => {
+            let declared = Declared {
+                symbols,
+                rules,
+                net,
+            };
+            check_types(alloc, declared, part)
+        }
+        Err(fault) => {
+            drop((symbols, rules));
+            Err(fault)
+        }
+    }
 }
 
 /// The rules, and then the net and the rest.
@@ -186,8 +212,13 @@ fn check_rules(
     requires tables { Tabulates source.now (Ok symbols) }
     ensures { ChecksRules source.now symbols result }
 {
-    let rules = build_rules(alloc, source, &symbols)?;
-    check_net(alloc, source, symbols, rules, part)
+    match build_rules(alloc, source, &symbols) {
+        Ok(rules) => check_net(alloc, source, symbols, rules, part),
+        Err(fault) => {
+            drop(symbols);
+            Err(fault)
+        }
+    }
 }
 
 /// The names, and then the rules, the net and the rest.

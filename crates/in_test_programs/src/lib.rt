@@ -32,8 +32,14 @@ pub fn seen_in<A, L: Look<A>>(
     answer: Result<Checked, Fault>,
     look: &L,
 ) -> Option<A> {
-    let program = answer.ok()?;
-    look.look(alloc, &program)
+    match answer {
+        Ok(program) => {
+            let found = look.look(alloc, &program);
+            drop(program);
+            found
+        }
+        Err(_) => None,
+    }
 }
 
 /// The refusal of a text, which comes in parts; nothing where it is accepted, or for want of memory.
@@ -45,7 +51,11 @@ pub fn refusal_of(alloc: Global, parts: &[&str]) -> Option<Refusal> {
 /// The refusal that `check` answers.
 pub fn refusal_in(answer: Result<Checked, Fault>) -> Option<Refusal> {
     match answer {
+        Ok(program) => {
+            drop(program);
+            None
+        }
         Err(Fault::Refused(refusal)) => Some(refusal),
-        _ => None,
+        Err(Fault::Memory(_)) => None,
     }
 }

@@ -12,5 +12,5 @@ type_pass-requires-clause-rules c =
 pub check_pairs-requires-clause-pairs : goal.check_pairs-requires-clause-pairs
 check_pairs-requires-clause-pairs c =
     let over = rules_over c.requires.source c.args.declared.symbols c.args.declared.rules c.requires.builds_rules in
-    let typed = subst (λ rules. TypesAll c.args.declared.symbols rules c.args.declared.net (Ok tt)) c.as_slice-rules.ensures c.in_ok-type_pass.ensures in
+    let typed = subst (λ rules. TypesAll c.args.declared.symbols rules c.args.declared.net (Ok tt)) c.as_slice-rules.ensures c.in-Ok.ensures in
     rules_paired c.args.declared.symbols c.args.declared.rules over typed.0
