@@ -25,7 +25,7 @@ fn meant(c: char) -> Option<&'static str> {
     Some(match c {
         '=' | '\u{223C}' | '\u{2248}' | '\u{FF5E}' | '\u{2192}' | '\u{2194}' =>
             "two terms are joined by `~`",
-        '<' | '>' | '\u{22C8}' => "the two heads of a rule are joined by `><`",
+        '<' | '>' | '\u{21C4}' | '\u{22C8}' => "the two heads of a rule are joined by `><`",
         '\u{2010}'..='\u{2015}' | '\u{2212}' => "the sign of an input is `-`",
         '\u{37E}' | '\u{FF1B}' => "an item and an equation end with `;`",
         '\u{FF08}' | '\u{FF09}' => "the arguments of an agent stand in `(` and `)`",
