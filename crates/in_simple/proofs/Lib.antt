@@ -17,6 +17,7 @@ pub mod Joining
 pub mod Links
 pub mod Make
 pub mod Mapped
+pub mod Members
 pub mod Named
 pub mod Nets
 pub mod NoCircle

@@ -1,5 +1,5 @@
 -- What a ring and labels show of one node.
-use Rattle.std.proofs.Common.{◌≡◌, ◌≢◌, ◌⊎◌, ◌+◌, ℕ, List, Bool, Option, Some, None, length, refl, sym, subst, ap, inl, inr, ◌∙◌, arith}
+use Rattle.std.proofs.Common.{◌≡◌, ◌≢◌, ◌⊎◌, ◌+◌, ℕ, List, Bool, Option, Some, None, refl, sym, subst, ap, inl, inr, ◌∙◌, arith}
 use Rattle.std.proofs.lemmas.Option.{same_Some}
 use Rattle.std.specs.Prelude.{IsSomeAnd}
 use Rattle.in_simple.specs.declared.labels.Labels.{Labels}
@@ -11,10 +11,9 @@ use Rattle.in_simple.specs.Splitting.{Linked, alone, onward, Without}
 use Rattle.in_simple.specs.OpenNets.{OpenNet, IsOpenNet, IsWire, class_in, open_graph}
 use Rattle.in_simple.specs.Stuck.{ports_of}
 use Rattle.in_simple.specs.Procedure.{nodes_in, SplitsIt, IsNeighbour}
-use Rattle.in_simple.specs.Tries.{IsLedTo, IsWalked, mark_in, HasLabel, AreLabelled, LabelsSpread, LeadsToLabel, LeadToLabels}
+use Rattle.in_simple.specs.Tries.{IsLedTo, IsWalked, mark_in, HasLabel, AreLabelled, LabelSpreads, LabelsSpread, LeadsToLabel, LeadToLabels}
 use Rattle.in_simple.proofs.Balance.{wire_turn}
 use Rattle.in_simple.proofs.Links.{same_nat, link_first, link_snoc, link_last}
-use Rattle.in_simple.proofs.Reaching.{in_length}
 use Rattle.in_simple.proofs.Search.{in_ports}
 use Rattle.in_simple.proofs.Sound.{port_place}
 
@@ -55,17 +54,27 @@ module _ (o : OpenNet) (part : List Bool) (n : ℕ) where
       go (inl e) = other (ap (λ z. class_in o z j) d ∙ sym (s.1.own i j (w, subst (λ z. IsWire o w (Port z i) (Port n j)) e.0 h)) ∙ subst (λ z. class_in o z i ≡ class) e.0 e.1)
       go (inr r) = other (ap (λ z. class_in o z j) d ∙ sym (s.1.touched r.0 j r.2 l r.3 i (r.1, r.4) (w, wire_turn o w (Port l i) (Port n j) h) r.6) ∙ r.5)
 
+  module _ (labels : Labels) where
+    -- a node by its mark
+    pub spread_none : (l : ℕ) → mark_in labels l ≡ None → LabelSpreads o part n labels l
+    spread_none l e c here h = absurd (subst (λ z. IsSomeAnd z (λ m. m.class ≡ c)) e h)
+
+    pub spread_some : (l : ℕ) (m : Mark) → mark_in labels l ≡ Some m → AreLabelled o part n labels m.class l (ports_of o l) → LabelSpreads o part n labels l
+    spread_some l m e all c here h =
+        let same : m.class ≡ c = subst (λ z. IsSomeAnd z (λ m. m.class ≡ c)) e h in
+        subst (λ z. AreLabelled o part n labels z l (ports_of o l)) same all
+
   module _ (net : IsOpenNet o) (labels : Labels) where
     one_mark : (m : Option Mark) (c d : ℕ) → IsSomeAnd m (λ m. m.class ≡ c) → IsSomeAnd m (λ m. m.class ≡ d) → c ≡ d
     one_mark None c d h k = absurd h
     one_mark (Some m) c d h k = sym h ∙ k
 
     -- links keep labels
-    link_label : LabelsSpread o part n labels (length part) → (l m c : ℕ) → Linked (open_graph o) (Without n (nodes_in part)) l m → HasLabel labels c l → HasLabel labels c m
+    link_label : LabelsSpread o part n labels → (l m c : ℕ) → Linked (open_graph o) (Without n (nodes_in part)) l m → HasLabel labels c l → HasLabel labels c m
     link_label all l m c (alone _ h) k = k
     link_label all l m c (onward _ x _ i j h w r) k =
         let next = link_first (open_graph o) (Without n (nodes_in part)) x m r in
-        link_label all x m c r (all l c (in_length part l h.0) k i w.0 x j (in_ports o net w.0 l i (Port x j) w.1) w.1 next.0 next.1)
+        link_label all x m c r (all l c h.0 k i w.0 x j (in_ports o net w.0 l i (Port x j) w.1) w.1 next.0 next.1)
 
     -- what port b of l leads to has the label too
     pub labelled_past : (l c b : ℕ) → AreLabelled o part n labels c l b → IsNeighbour o part l b None → AreLabelled o part n labels c l (b + 1)
@@ -80,21 +89,6 @@ module _ (o : OpenNet) (part : List Bool) (n : ℕ) where
           let f = (port_place x m near.1 j (net.once near.0 w (Port l b) (Port x near.1) (Port m j) near.2 (subst (λ z. IsWire o w (Port l z) (Port m j)) e g)).1).0 in
           subst (HasLabel labels c) f (has (λ k. off (sym f ∙ k)))
       | inr d ↦ all i w m j (omega arith) g here off
-    ]
-
-    -- one more node
-    pub spread_none : (b : ℕ) → LabelsSpread o part n labels b → mark_in labels b ≡ None → LabelsSpread o part n labels (b + 1)
-    spread_none b all e l c lt h = elim (same_nat l b) [
-      | inl f ↦ absurd (subst (λ z. IsSomeAnd z (λ m. m.class ≡ c)) e (subst (HasLabel labels c) f h))
-      | inr d ↦ all l c (omega arith) h
-    ]
-
-    pub spread_some : (b : ℕ) (m : Mark) → LabelsSpread o part n labels b → mark_in labels b ≡ Some m → AreLabelled o part n labels m.class b (ports_of o b) → LabelsSpread o part n labels (b + 1)
-    spread_some b m all e here l c lt h = elim (same_nat l b) [
-      | inl f ↦
-          let same : m.class ≡ c = subst (λ z. IsSomeAnd z (λ m. m.class ≡ c)) e (subst (HasLabel labels c) f h) in
-          subst (λ z. AreLabelled o part n labels c z (ports_of o z)) (sym f) (subst (λ z. AreLabelled o part n labels z b (ports_of o b)) same here)
-      | inr d ↦ all l c (omega arith) h
     ]
 
     -- a port of n by its wire
@@ -115,7 +109,7 @@ module _ (o : OpenNet) (part : List Bool) (n : ℕ) where
     pub leads_free : (i v k : ℕ) → IsWire o v (Port n i) (Free k) → LeadsToLabel o part n labels i
     leads_free i v k h w m j g = let e = (net.once v w (Port n i) (Free k) (Port m j) h g).1 in cc
 
-    pub labels_split : IsIn n (nodes_in part) → LabelsSpread o part n labels (length part) → LeadToLabels o part n labels (ports_of o n) → SplitsIt o part n
+    pub labels_split : IsIn n (nodes_in part) → LabelsSpread o part n labels → LeadToLabels o part n labels (ports_of o n) → SplitsIt o part n
     labels_split here all leads = (
       here,
       record {

@@ -34,9 +34,12 @@ module _ (o : OpenNet) (part : List Bool) (n : ℕ) (labels : Labels) where
   abbrev pub AreLabelled : ℕ → ℕ → ℕ → Type 0
   AreLabelled c l b = (i w m j : ℕ) → i < b → IsWire o w (Port l i) (Port m j) → IsIn m (nodes_in part) → m ≢ n → HasLabel labels c m
 
-  -- the labels of nodes below b are those of their neighbours
-  abbrev pub LabelsSpread : ℕ → Type 0
-  LabelsSpread b = (l c : ℕ) → l < b → HasLabel labels c l → AreLabelled c l (ports_of o l)
+  -- the label of a node of the part is that of its neighbours; and so it is for each node
+  abbrev pub LabelSpreads : ℕ → Type 0
+  LabelSpreads l = (c : ℕ) → IsIn l (nodes_in part) → HasLabel labels c l → AreLabelled c l (ports_of o l)
+
+  abbrev pub LabelsSpread : Type 0
+  LabelsSpread = (l : ℕ) → LabelSpreads l
 
   -- port i of n leads to n itself by a port of its class, and to no other node of the part but those with its class as label
   abbrev pub LeadsToLabel : ℕ → Type 0

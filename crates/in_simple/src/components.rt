@@ -3,6 +3,7 @@ ghost use Rattle.in_simple.specs.Constructions.{IsIn};
 ghost use Rattle.in_simple.specs.Procedure.{IsNeighbour, IsReached, Reaches, Spreads, nodes_in};
 ghost use Rattle.in_simple.specs.Stuck.{ports_of};
 
+use crate::nodes::NodeSet;
 use crate::open_nets::Point;
 use crate::parts::Part;
 use crate::sets::NumberSet;
@@ -59,7 +60,7 @@ fn spread(
 }
 
 /// The component of a node of the part. Once it has all of the part, nothing is left to be looked for.
-pub(crate) fn component(alloc: Global, part: &Part, from: u32) -> Result<NumberSet, AllocError>
+pub(crate) fn component(alloc: Global, part: &Part, from: u32) -> Result<NodeSet, AllocError>
     requires { IsIn from (nodes_in part.now.nodes.now) }
     ensures size { IfOk result (λ c. length c ≡ length part.now.wired.now.nodes) }
     ensures reached { IfOk result (IsReached part.now.wired.now part.now.nodes.now from) }
@@ -73,5 +74,5 @@ pub(crate) fn component(alloc: Global, part: &Part, from: u32) -> Result<NumberS
         }
         spread(part, node as usize, &mut reached, &mut pending)?;
     }
-    Ok(reached)
+    part.nodes.narrowed(alloc, reached)
 }

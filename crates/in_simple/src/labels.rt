@@ -67,11 +67,12 @@ fn is_spread(candidate: &Candidate, labels: &Labels, class: usize, at: usize) ->
     true
 }
 
-/// Whether each label is that of the neighbours too.
+/// Whether each label of a node of the part is that of the neighbours too.
 fn are_spread(candidate: &Candidate, labels: &Labels) -> bool
-    ensures { IsTrue result → LabelsSpread candidate.now.part.wired.now candidate.now.part.nodes.now candidate.now.node labels.now (length candidate.now.part.wired.now.nodes) }
+    ensures { IsTrue result → LabelsSpread candidate.now.part.wired.now candidate.now.part.nodes.now candidate.now.node labels.now }
 {
-    for at in 0..candidate.part.wired.nodes() {
+    for node in candidate.part.nodes.members() {
+        let at = *node as usize;
         if let Some(mark) = labels.mark(at) {
             if !is_spread(candidate, labels, mark.class, at) {
                 return false;

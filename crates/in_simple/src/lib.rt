@@ -6,6 +6,7 @@ mod components;
 mod derivations;
 mod labels;
 pub mod laws;
+mod nodes;
 mod open_nets;
 mod opening;
 mod opening_rules;

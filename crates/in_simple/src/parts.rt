@@ -3,14 +3,14 @@ ghost use Rattle.std.specs.Prelude.{◌≡◌, ◌<◌, length};
 ghost use Rattle.in_simple.specs.Constructions.{IsIn};
 ghost use Rattle.in_simple.specs.Procedure.{nodes_in};
 
-use crate::sets::NumberSet;
+use crate::nodes::NodeSet;
 use crate::wired::Wired;
 
 /// The sub-net of some nodes of an open net.
 #[derive(Clone, Copy, Drop)]
 pub(crate) struct Part<'a> {
     pub(crate) wired: &'a Wired<'a>,
-    pub(crate) nodes: &'a NumberSet,
+    pub(crate) nodes: &'a NodeSet,
     ghost size: { length nodes.now ≡ length wired.now.nodes },
 }
 

@@ -10,6 +10,7 @@ ghost use Rattle.in_simple.specs.Stuck.{ports_of, turn};
 ghost use Rattle.in_simple.specs.declared.plans.Task.TheVariants.{Make};
 
 use crate::components::component;
+use crate::nodes::NodeSet;
 use crate::open_nets::Point;
 use crate::parts::Part;
 use crate::sets::NumberSet;
@@ -34,7 +35,7 @@ pub(crate) enum Joint {
 /// What remains to be done: a part that is to be derived, or a step.
 #[derive(Drop)]
 pub(crate) enum Task {
-    Derive(NumberSet),
+    Derive(NodeSet),
     Make(Joint),
 }
 
@@ -62,7 +63,7 @@ fn leads_back(point: Point, node: usize, port: usize) -> bool
 #[derive(Drop)]
 struct Plan {
     tasks: Items<Task>,
-    rest: NumberSet,
+    rest: NodeSet,
     done: NumberSet,
 }
 
@@ -109,7 +110,7 @@ impl Plan {
             nodes: &self.rest,
         };
         let component = component(alloc, &part, near)?;
-        self.done.unite(&component);
+        component.add_to(&mut self.done);
         self.tasks.push(Task::Derive(component))?;
         Ok(self)
     }
@@ -237,7 +238,7 @@ impl<'a> Begun<'a> {
     fn of(
         alloc: Global,
         wired: &'a Wired<'a>,
-        part: &NumberSet,
+        part: &NodeSet,
         node: usize,
     ) -> Result<Begun<'a>, AllocError>
         requires size { length part.now ≡ length wired.now.nodes }
@@ -476,7 +477,7 @@ impl<'a> Joined<'a> {
 pub(crate) fn tasks_of(
     alloc: Global,
     wired: &Wired,
-    part: &NumberSet,
+    part: &NodeSet,
     node: usize,
 ) -> Result<Items<Task>, AllocError>
     requires size { length part.now ≡ length wired.now.nodes }

@@ -8,10 +8,10 @@ ghost use Rattle.in_simple.specs.TakenOrder.{AreTaken, links_from};
 ghost use Rattle.in_simple.specs.declared.plans.Task.TheVariants.{Derive, Make};
 
 use crate::derivations::{Derivation, Step, StepNumbers, Stuck, Undone};
+use crate::nodes::NodeSet;
 use crate::open_nets::{OpenNet, Point};
 use crate::parts::Part;
 use crate::plans::{Joint, Task, tasks_of};
-use crate::sets::NumberSet;
 use crate::splitting::first_splitting;
 use crate::trials::Trials;
 use crate::wired::Wired;
@@ -115,7 +115,7 @@ impl Work {
     }
 
     /// Makes steps until a part is to be derived.
-    fn next_part(&mut self, alloc: Global) -> Result<Option<NumberSet>, AllocError>
+    fn next_part(&mut self, alloc: Global) -> Result<Option<NodeSet>, AllocError>
         ensures tasks { IfOk result (λ next. MatchOption next
             (Passes (reverse self.old.tasks) [])
             (λ part. Passes (reverse self.old.tasks) (Derive part ∷ reverse self.new.tasks))) }
@@ -169,10 +169,10 @@ fn start(alloc: Global, open: &OpenNet) -> Result<Items<Task>, AllocError>
     ensures work { IfOk result (StartsWork (length «open».now.nodes)) }
     ensures steps { IfOk result (λ tasks. IsUnderWay «open».now tasks [] []) }
 {
-    let count = open.nodes() as usize;
+    let count = open.nodes();
     if count > 0 {
         let mut tasks = Items::new(alloc);
-        tasks.push(Task::Derive(NumberSet::all(alloc, count)?))?;
+        tasks.push(Task::Derive(NodeSet::all(alloc, count)?))?;
         tasks.append(loose(alloc, open, true)?)?;
         Ok(tasks)
     } else {
@@ -201,7 +201,7 @@ fn take(
     wired: &Wired,
     work: &mut Work,
     trials: &mut Trials,
-    nodes: &NumberSet,
+    nodes: &NodeSet,
 ) -> Result<Option<Stuck>, AllocError>
     requires work { IsWork wired.now (Derive nodes.now ∷ reverse work.old.tasks) }
     requires steps { IsUnderWay wired.now (Derive nodes.now ∷ reverse work.old.tasks) work.old.steps work.old.roots }
@@ -217,8 +217,8 @@ fn take(
             Ok(None)
         }
         None => {
-            let members = nodes.members(alloc)?;
-            Ok(Some(Stuck { nodes: members }))
+            let nodes = Items::from_slice(alloc, nodes.members())?;
+            Ok(Some(Stuck { nodes }))
         }
     }
 }

@@ -1,8 +1,7 @@
 //! Sets of numbers below a count, as of the nodes or of the wires of an open net.
-ghost use Rattle.std.specs.Prelude.{◌≡◌, ◌<◌, ◌↔◌, ◌^◌, length, slice_set, IfOk, IsTrue, false, true, ℕ};
+ghost use Rattle.std.specs.Prelude.{◌≡◌, ◌<◌, ◌↔◌, length, slice_set, IfOk, IsTrue, false, true, ℕ};
 ghost use Rattle.in_simple.specs.Checking.{AreAll, IsUnion, Shares};
 ghost use Rattle.in_simple.specs.Procedure.{IsRest, missing, nodes_in};
-ghost use Rattle.in_simple.specs.Stuck.{IsListed};
 
 use sqlite_items::Items;
 use std::alloc::{AllocError, Global};
@@ -73,30 +72,11 @@ impl NumberSet {
         }
     }
 
-    /// How many members there are.
-    pub(crate) fn count(&self) -> usize {
-        self.len().saturating_sub(self.absent)
-    }
-
     /// How many numbers below the count are no members.
     pub(crate) fn absent(&self) -> usize
         ensures { result ≡ missing self.now }
     {
         self.absent
-    }
-
-    /// The members in rising order.
-    pub(crate) fn members(&self, alloc: Global) -> Result<Items<u32>, AllocError>
-        requires { length self.now < 2 ^ 32 }
-        ensures { IfOk result (IsListed (nodes_in self.now)) }
-    {
-        let mut members = Items::new(alloc);
-        for number in 0..self.len() {
-            if self.has(number) {
-                members.push(number as u32)?;
-            }
-        }
-        Ok(members)
     }
 
     /// Whether all are members.

@@ -4,10 +4,10 @@ ghost use Rattle.in_simple.specs.Stuck.{ports_of};
 ghost use Rattle.in_simple.specs.Tries.{IsTried};
 
 use crate::labels::{Labels, Mark, show_splitting};
+use crate::nodes::NodeSet;
 use crate::open_nets::Point;
 use crate::parts::Candidate;
 use crate::rings::joins_classes;
-use crate::sets::NumberSet;
 use sqlite_items::Items;
 use std::alloc::{AllocError, Global};
 
@@ -90,7 +90,7 @@ impl Trials {
     }
 
     /// As many ports may be looked at as the size of the part allows.
-    pub(crate) fn begin(&mut self, part: &NumberSet) {
+    pub(crate) fn begin(&mut self, part: &NodeSet) {
         self.budget = part.count().saturating_mul(PORTS_FOR_A_NODE);
     }
 

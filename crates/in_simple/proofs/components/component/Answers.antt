@@ -1,6 +1,10 @@
 use Rattle.std.proofs.Common.{arith, ◌≤◌, ◌<◌, ◌∙◌, sym, subst}
 use Rattle.in_simple.specs.Stuck.{Among}
-use Rattle.in_simple.specs.Procedure.{missing, IsSearch, Reaches}
+use Rattle.in_simple.specs.Constructions.{IsIn}
+use Rattle.in_simple.specs.OpenNets.{open_graph}
+use Rattle.in_simple.specs.Procedure.{missing, nodes_in, IsReached, IsSearch, Reaches}
+use Rattle.in_simple.proofs.Links.{link_last}
+use Rattle.in_simple.proofs.OkValues.{if_ok}
 use Rattle.in_simple.proofs.Reaching.{search_all, among_last, in_length, search_start, search_step, search_end}
 use Rattle.in_simple.proofs.components.component.Goals as goal
 
@@ -42,5 +46,12 @@ pub returns-clause-reached : goal.returns-clause-reached
 returns-clause-reached c =
     let o = c.args.part.now.wired.now in
     let nodes = c.args.part.now.nodes.now in
-    search_end o c.nodes.ensures.net.net nodes c.args.from c.requires c.loop-node.reached
-    (subst (λ z. IsSearch o nodes c.args.from c.loop-node.reached z) c.in_default.ensures.0 c.loop-node.invariant)
+    let found = search_end o c.nodes.ensures.net.net nodes c.args.from c.requires c.loop-node.reached
+    (subst (λ z. IsSearch o nodes c.args.from c.loop-node.reached z) c.in_default.ensures.0 c.loop-node.invariant) in
+    if_ok c.narrowed.result (λ set e. subst (IsReached o nodes c.args.from) (sym e) found) c.narrowed.ensures
+
+pub narrowed-requires : goal.narrowed-requires
+narrowed-requires c =
+    let o = c.args.part.now.wired.now in
+    let nodes = c.args.part.now.nodes.now in
+    λ k h. link_last (open_graph o) (λ m. IsIn m (nodes_in nodes)) c.args.from k (c.loop-node.invariant.sound k h)

@@ -1,5 +1,3 @@
-use Rattle.std.proofs.Common.{sym, subst}
-use Rattle.in_simple.specs.Tries.{LabelsSpread}
 use Rattle.in_simple.proofs.Tried.{labels_split}
 use Rattle.in_simple.proofs.labels.show_splitting.Goals as goal
 
@@ -8,4 +6,4 @@ returns-then-leads c =
     let o = c.args.candidate.now.part.wired.now in
     let part = c.args.candidate.now.part.nodes.now in
     let l = c.lead_to_labels-leads.ensures in
-    λ t. labels_split o part c.args.candidate.now.node l.net.net c.args.labels.now c.args.candidate.now.here (subst (LabelsSpread o part c.args.candidate.now.node c.args.labels.now) (sym c.args.candidate.now.part.size) (c.are_spread.ensures t)) (l.leads c.if-leads.true)
+    λ t. labels_split o part c.args.candidate.now.node l.net.net c.args.labels.now c.args.candidate.now.here (c.are_spread.ensures t) (l.leads c.if-leads.true)

@@ -1,14 +1,12 @@
-use Rattle.std.proofs.Common.{◌∷◌, reverse, sym, subst, arith}
+use Rattle.std.proofs.Common.{◌∷◌, reverse, sym, subst}
 use Rattle.in_simple.specs.declared.plans.Task.TheVariants.{Derive}
 use Rattle.in_simple.specs.Procedure.{IsWork, AreFewer, nodes_in}
 use Rattle.in_simple.specs.Stacks.{IsUnderWay}
+use Rattle.in_simple.specs.Stuck.{IsListed}
 use Rattle.in_simple.specs.Tries.{IsFirstIn}
 use Rattle.in_simple.proofs.Stacking.{under_derive}
 use Rattle.in_simple.proofs.Working.{expand_work, expand_fewer, stuck_first, stuck_underivable}
 use Rattle.in_simple.proofs.procedure.take.Goals as goal
-
-pub members-requires : goal.members-requires
-members-requires c = let a = c.in_ok-node.ensures.net.nodes in let b = c.requires.work.sized.0 in omega arith
 
 pub returns-in_ok-expand-in-Some : goal.returns-in_ok-expand-in-Some
 returns-in_ok-expand-in-Some c =
@@ -29,15 +27,15 @@ returns-in_ok-expand-in-Some c =
           (subst (λ z. IsUnderWay o (reverse x.tasks) z old.roots) (sym c.in_ok-expand-in-Some.ensures.steps) (subst (λ z. IsUnderWay o z old.steps old.roots) (sym e) (under_derive o part ps ts old.steps old.roots t.steps t.takes c.requires.steps))),
     )
 
-pub returns-in_ok-members-in-None : goal.returns-in_ok-members-in-None
-returns-in_ok-members-in-None c =
+pub returns-in_ok-nodes-in-None : goal.returns-in_ok-nodes-in-None
+returns-in_ok-nodes-in-None c =
     let o = c.args.wired.now in
     let part = c.args.nodes.now in
     let ts = reverse c.args.work.now.tasks in
     let net = c.in_ok-node.ensures.net.net in
     let f = subst (IsFirstIn o part) c.in-None.is c.in_ok-node.ensures.found in
     let s = stuck_first o net part ts c.requires.work f in
-    (stuck_underivable o net (nodes_in part) s, (nodes_in part, s, c.in_ok-members-in-None.ensures))
+    (stuck_underivable o net (nodes_in part) s, (nodes_in part, s, subst (IsListed (nodes_in part)) (sym c.in_ok-nodes-in-None.ensures) c.members.ensures))
 
 pub tasks_of-requires-clause-here : goal.tasks_of-requires-clause-here
 tasks_of-requires-clause-here c =

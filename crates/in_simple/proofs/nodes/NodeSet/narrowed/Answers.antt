@@ -1,0 +1,32 @@
+use Rattle.std.proofs.Common.{◌≡◌, ◌+◌, ◌∙◌, length, sym, subst, arith}
+use Rattle.in_simple.specs.Procedure.{nodes_in}
+use Rattle.in_simple.proofs.Members.{IsBefore, Lists, list_next, list_past, list_end}
+use Rattle.in_simple.proofs.nodes.NodeSet.narrowed.Goals as goal
+use Rattle.in_simple.proofs.nodes.NodeSet.narrowed.Goals.{then-has+in_ok-push, else-has}
+
+pub loop-node-preserved : goal.loop-node-preserved
+loop-node-preserved c =
+    let nodes = nodes_in c.args.self.now in
+    let ns = c.members-node-items.result.now in
+    let listed = c.members-node-items.ensures in
+    let tests = nodes_in c.args.tests in
+    let i = c.loop-node.node-index in
+    elim c.if-has.branch [
+      | then-has+in_ok-push w ↦
+          subst (Lists (IsBefore nodes ns listed tests c.requires (i + 1))) (sym (w.members-is ∙ w.in_ok-push.ensures.ok))
+          (list_next nodes ns listed tests c.requires i c.loop-node.members c.loop-node-test.true c.loop-node.invariant (sym c.has.ensures ∙ w.if-has.true))
+      | else-has w ↦
+          subst (Lists (IsBefore nodes ns listed tests c.requires (i + 1))) (sym w.members-is)
+          (list_past nodes ns listed tests c.requires i c.loop-node.members c.loop-node-test.true c.loop-node.invariant (sym c.has.ensures ∙ w.if-has.false))
+    ]
+
+pub invariant_of-result : goal.invariant_of-result
+invariant_of-result c =
+    let nodes = nodes_in c.args.self.now in
+    let ns = c.members-node-items.result.now in
+    let listed = c.members-node-items.ensures in
+    let tests = nodes_in c.args.tests in
+    let f = c.loop-node-test.false in
+    let g = c.loop-node.auto in
+    let end : c.loop-node.node-index ≡ length ns = omega arith in
+    list_end nodes ns listed tests c.requires c.loop-node.members (subst (λ z. Lists (IsBefore nodes ns listed tests c.requires z) c.loop-node.members) end c.loop-node.invariant)
