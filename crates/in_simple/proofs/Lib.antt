@@ -10,6 +10,7 @@ pub mod Derives
 pub mod EachSplits
 pub mod Fates
 pub mod Finishing
+pub mod FirstMembers
 pub mod Forest
 pub mod Grow
 pub mod HubEdges
@@ -48,6 +49,7 @@ pub mod VerifyMade
 pub mod VerifyRun
 pub mod VerifySets
 pub mod VerifyTaken
+pub mod Waiting
 pub mod Whole
 pub mod Working
 pub mod OkValues

@@ -68,10 +68,10 @@ lists_more P Q ns k h below same = record {
 
 -- ---- the members of a set, one after another
 
-past_next : (ns : List ℕ) (i : ℕ) → past ns (i + 1) ≡ suc (get_or ns i 0)
+pub past_next : (ns : List ℕ) (i : ℕ) → past ns (i + 1) ≡ suc (get_or ns i 0)
 past_next ns i = ap (past ns) (add-one i)
 
-past_below : (low : ℕ) (ns : List ℕ) (i : ℕ) → Rises low ns → i < length ns → past ns i ≤ get_or ns i 0
+pub past_below : (low : ℕ) (ns : List ℕ) (i : ℕ) → Rises low ns → i < length ns → past ns i ≤ get_or ns i 0
 past_below low ns zero r l = omega arith
 past_below low [] (suc i) r l = absurd (omega arith)
 past_below low (n ∷ ns) (suc zero) r l = among_from (suc n) ns (get_or ns 0 0) r.1 (among_get ns 0 (omega arith))

@@ -1,5 +1,5 @@
 -- What a plan keeps from turn to turn.
-use Rattle.std.proofs.Common.{◌≡◌, ◌⊎◌, ◌<◌, ◌+◌, ◌-◌, ℕ, suc, Bool, true, false, cond, List, [], refl, sym, ◌∙◌, ap, subst, inl, inr, arith}
+use Rattle.std.proofs.Common.{◌≡◌, ◌⊎◌, ◌<◌, ◌+◌, ◌-◌, ◌≤◌, ℕ, zero, suc, Bool, true, false, cond, List, [], refl, sym, ◌∙◌, ap, subst, inl, inr, arith}
 use Rattle.in_simple.specs.declared.open_nets.Point.{Point}
 use Rattle.in_simple.specs.declared.open_nets.Point.TheVariants.{Port}
 use Rattle.in_simple.specs.declared.plans.Fate.{Fate}
@@ -9,7 +9,7 @@ use Rattle.in_simple.specs.declared.plans.Plan.{Plan}
 use Rattle.in_simple.specs.declared.plans.Task.TheVariants.{Make}
 use Rattle.in_simple.specs.OpenNets.{OpenNet, IsAgent, IsClass, IsWire, class_in, classes_of}
 use Rattle.in_simple.specs.Planned.{HasClasses, HasFate, HasFateAt, IsAuxiliaryPort, JoinsFate, PutsNet, Skips, Takes, WhatComes, WhatPort, WithEmpties}
-use Rattle.in_simple.specs.Procedure.{Derives, GoesOn, IsPlan, KeepsPlan, with_task}
+use Rattle.in_simple.specs.Procedure.{Derives, GoesOn, IsPlan, KeepsPlan, nodes_in, with_task}
 use Rattle.in_simple.specs.Progress.{PlansClasses, PlansNet, Progress, StartsPlan, later, progress, until}
 use Rattle.in_simple.specs.Stuck.{ports_of, turn}
 use Rattle.in_simple.specs.TakenOrder.{before, empties}
@@ -227,3 +227,12 @@ joins_node o n m p r (Waits l) x f j =
     (other_takes o net n p j.0 r m x.plan f.1 f.2 d j.2 takes)
 joins_node o n m p r Derived x f j = node_passes o n m p r Derived x f (inl refl) j
 joins_node o n m p r Outside x f j = node_passes o n m p r Outside x f (inr refl) j
+
+-- the turns of nodes that aren't left
+pub waits : (o : OpenNet) (n d m : ℕ) (p : Plan) → PlansNet o n (suc (ports_of o n) + m) p → ((k : ℕ) → m ≤ k → k < m + d → nodes_in p.rest k ≡ false) → PlansNet o n (suc (ports_of o n) + (m + d)) p
+waits o n zero m p x none = subst (λ z. PlansNet o n z p) (let e : suc (ports_of o n) + m ≡ suc (ports_of o n) + (m + 0) = omega arith in e) x
+waits o n (suc d) m p x none =
+    let y = (joins_node o n m p p Outside x (none m (omega arith) (omega arith)) refl).0 in
+    let e : suc (ports_of o n) + m + 1 ≡ suc (ports_of o n) + (m + 1) = omega arith in
+    let f : suc (ports_of o n) + (m + 1 + d) ≡ suc (ports_of o n) + (m + suc d) = omega arith in
+    subst (λ z. PlansNet o n z p) f (waits o n d (m + 1) p (subst (λ z. PlansNet o n z p) e y) (λ k a b. none k (omega arith) (omega arith)))

@@ -1,4 +1,4 @@
-ghost use Rattle.std.specs.Prelude.{[], ◌∷◌, ◌≡◌, ◌<◌, ◌+◌, ◌-◌, ◌↔◌, suc, length, IfOk, IsTrue, ℕ};
+ghost use Rattle.std.specs.Prelude.{[], ◌∷◌, ◌≡◌, ◌<◌, ◌≤◌, ◌+◌, ◌-◌, ◌↔◌, suc, length, false, IfOk, IsTrue, ℕ};
 ghost use Rattle.in_simple.specs.Constructions.{IsIn};
 ghost use Rattle.in_simple.specs.Procedure.{AreSized, Derives, GoesOn, IsFirst, IsPlan, IsRest, KeepsPlan, Lists, nodes_in, with_task};
 ghost use Rattle.in_simple.specs.Progress.{after_ports, at_end, later, progress, until};
@@ -459,17 +459,42 @@ impl<'a> Joined<'a> {
         })
     }
 
-    /// The components that the node doesn't touch.
-    fn others(self, alloc: Global) -> Result<Joined<'a>, AllocError>
-        requires { self.next ≡ suc (ports_of self.net self.node) }
+    /// The turn of the node `near`, where none whose turn is before it is left.
+    fn wait(self, near: usize) -> Joined<'a>
+        requires near { near ≤ length self.net.nodes }
+        requires from { suc (ports_of self.net self.node) ≤ self.next }
+        requires turn { self.next ≤ suc (ports_of self.net self.node) + near }
+        requires none { (m : ℕ) → self.next ≤ suc (ports_of self.net self.node) + m → m < near → nodes_in self.rest m ≡ false }
+        ensures { result ≡ until self.entry (suc (ports_of self.entry.net self.entry.node) + near) }
+    {
+        let Joined {
+            wired,
+            node,
+            plan,
+            turn: _,
+        } = self;
+        let turn = wired.ports(node) + 1 + near;
+        Joined {
+            wired,
+            node,
+            plan,
+            turn,
+        }
+    }
+
+    /// The components that the node doesn't touch: only nodes of the part may be left.
+    fn others(self, alloc: Global, part: &NodeSet) -> Result<Joined<'a>, AllocError>
+        requires turn { self.next ≡ suc (ports_of self.net self.node) }
+        requires size { length part.now ≡ length self.net.nodes }
+        requires rest { IsRest self.node part.now self.rest }
         ensures { IfOk result (λ whole. whole ≡ at_end self.entry) }
     {
-        let wired = self.wired;
+        let count = self.wired.nodes();
         let mut whole = self;
-        for near in 0..wired.nodes() {
-            whole = whole.other(alloc, near as u32)?;
+        for member in part.members() {
+            whole = whole.wait(*member as usize).other(alloc, *member)?;
         }
-        Ok(whole)
+        Ok(whole.wait(count))
     }
 }
 
@@ -491,7 +516,7 @@ pub(crate) fn tasks_of(
     ensures sized { IfOk result (AreSized (length wired.now.nodes)) }
 {
     let begun = Begun::of(alloc, wired, part, node)?;
-    let whole = begun.touched(alloc)?.others(alloc)?;
+    let whole = begun.touched(alloc)?.others(alloc, part)?;
     let Plan {
         tasks,
         rest: _,

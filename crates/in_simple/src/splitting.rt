@@ -54,7 +54,9 @@ fn first_off_rings(part: &Part, graph: &ClassGraph, rings: &Items<bool>) -> Opti
     ensures net { IsOrderly part.now.wired.now }
     ensures found { IsFirstIn part.now.wired.now part.now.nodes.now result }
 {
-    for node in 0..part.wired.nodes() {
+    let _count = part.wired.nodes();
+    for member in part.nodes.members() {
+        let node = *member as usize;
         if splits(part, graph, rings, node) {
             return Some(node);
         }
@@ -98,14 +100,14 @@ fn first_by_trials(
     ensures net { IfOk result (λ found. IsOrderly part.now.wired.now) }
     ensures found { IfOk result (AreTried part.now.wired.now part.now.nodes.now) }
 {
-    for node in 0..part.wired.nodes() {
-        if part.nodes.has(node) {
-            let candidate = Candidate { part: *part, node };
-            match tried(alloc, &candidate, trials)? {
-                Some(true) => return Ok(Some(Some(node))),
-                Some(false) => {}
-                None => return Ok(None),
-            }
+    let _count = part.wired.nodes();
+    for member in part.nodes.members() {
+        let node = *member as usize;
+        let candidate = Candidate { part: *part, node };
+        match tried(alloc, &candidate, trials)? {
+            Some(true) => return Ok(Some(Some(node))),
+            Some(false) => {}
+            None => return Ok(None),
         }
     }
     Ok(Some(None))

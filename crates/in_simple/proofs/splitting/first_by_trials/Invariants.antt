@@ -1,5 +1,6 @@
+use Rattle.in_simple.proofs.Members.{past}
 use Rattle.in_simple.specs.Procedure.{NoneSplits}
 use Rattle.in_simple.proofs.splitting.first_by_trials.Given as goal
 
-abbrev pub invariant-loop-node : goal.invariant-loop-node
-invariant-loop-node l = NoneSplits l.part.wired.now l.part.nodes.now l.node
+abbrev pub invariant-loop-member : goal.invariant-loop-member
+invariant-loop-member l = NoneSplits l.part.wired.now l.part.nodes.now (past l.member-items l.member-index)

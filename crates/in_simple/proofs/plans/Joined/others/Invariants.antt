@@ -1,7 +1,8 @@
 use Rattle.std.proofs.Common.{◌≡◌, ◌+◌, suc}
 use Rattle.in_simple.specs.Progress.{until}
 use Rattle.in_simple.specs.Stuck.{ports_of}
+use Rattle.in_simple.proofs.Members.{past}
 use Rattle.in_simple.proofs.plans.Joined.others.Given as goal
 
-abbrev pub invariant-loop-near : goal.invariant-loop-near
-invariant-loop-near l = l.whole ≡ until l.fn.self (suc (ports_of l.fn.self.net l.fn.self.node) + l.near)
+abbrev pub invariant-loop-member : goal.invariant-loop-member
+invariant-loop-member l = l.whole ≡ until l.fn.self (suc (ports_of l.fn.self.net l.fn.self.node) + past l.member-items l.member-index)
