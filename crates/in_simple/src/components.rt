@@ -59,8 +59,8 @@ fn spread(
     Ok(())
 }
 
-/// The component of a node of the part. Once it has all of the part, nothing is left to be looked for.
-pub(crate) fn component(alloc: Global, part: &Part, from: u32) -> Result<NodeSet, AllocError>
+/// The nodes of the component of a node of the part. Once they are all of the part, nothing is left to be looked for.
+fn reached_from(alloc: Global, part: &Part, from: u32) -> Result<NumberSet, AllocError>
     requires { IsIn from (nodes_in part.now.nodes.now) }
     ensures size { IfOk result (λ c. length c ≡ length part.now.wired.now.nodes) }
     ensures reached { IfOk result (IsReached part.now.wired.now part.now.nodes.now from) }
@@ -74,5 +74,15 @@ pub(crate) fn component(alloc: Global, part: &Part, from: u32) -> Result<NodeSet
         }
         spread(part, node as usize, &mut reached, &mut pending)?;
     }
+    Ok(reached)
+}
+
+/// The component of a node of the part.
+pub(crate) fn component(alloc: Global, part: &Part, from: u32) -> Result<NodeSet, AllocError>
+    requires { IsIn from (nodes_in part.now.nodes.now) }
+    ensures size { IfOk result (λ c. length c ≡ length part.now.wired.now.nodes) }
+    ensures reached { IfOk result (IsReached part.now.wired.now part.now.nodes.now from) }
+{
+    let reached = reached_from(alloc, part, from)?;
     part.nodes.narrowed(alloc, reached)
 }

@@ -1,6 +1,6 @@
 use Rattle.std.proofs.Common.{◌+◌, ◌*◌, length}
 use Rattle.in_simple.specs.Procedure.{IsSearch, missing}
-use Rattle.in_simple.proofs.components.component.Given as goal
+use Rattle.in_simple.proofs.components.reached_from.Given as goal
 
 abbrev pub invariant-loop-node : goal.invariant-loop-node
 invariant-loop-node l = IsSearch l.part.wired.now l.part.nodes.now l.from l.reached l.pending
