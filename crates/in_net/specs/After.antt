@@ -1,11 +1,14 @@
 -- The agents and wires after an interaction, number by number. Words of the inner contracts of `interact`.
-use Rattle.std.specs.Prelude.{◌≡◌, ◌≢◌, ◌⊎◌, ◌<◌, ◌≤◌, ◌+◌, ◌-◌, ℕ, List, length, Option, Some, option_and_then, slice_get}
+use Rattle.std.specs.Prelude.{◌≡◌, ◌≢◌, ◌⊎◌, ◌<◌, ◌≤◌, ◌+◌, ◌-◌, ◌*◌, ℕ, List, length, count_by, is_some, Option, Some, option_and_then, slice_get}
+use Rattle.in_syntax.specs.Grammar.{max_ports}
+use Rattle.in_net.specs.declared.interacting.After.{After}
 use Rattle.in_net.specs.declared.nets.AgentNo.{AgentNo}
 use Rattle.in_net.specs.declared.nets.Cell.{Cell}
 use Rattle.in_net.specs.declared.nets.FreeEnd.{FreeEnd}
 use Rattle.in_net.specs.declared.nets.Point.{Point}
 use Rattle.in_net.specs.Following.{SiteParts, IsPartnerAfter}
-use Rattle.in_net.specs.Interacting.{unused}
+use Rattle.in_net.specs.Interacting.{unused, numbers_after}
+use Rattle.in_net.specs.Listing.{AreEndsOf, AreListed, unlisted}
 use Rattle.in_net.specs.Nets as nets
 use Rattle.in_net.specs.Parts.{cell_in}
 
@@ -50,6 +53,14 @@ AreCellsAfter s cs = (y : ℕ) → IsCellAfter s y (cell_at cs y)
 pub record AreOuterEnds (s : SiteParts) (ends : List Point) : Type 0 where
   pub many : length ends ≡ length s.net.free
   pub each : (k : ℕ) (q : Point) → slice_get ends k ≡ Some q → IsPartnerAfter s (nets.Free k) q
+
+-- the agents, the partners of the free ends, and the wires between them, listed by their first points
+pub record IsAfter (s : SiteParts) (a : After) : Type 0 where
+  pub count : length a.cells ≡ numbers_after s.net.cells (length s.rule.member.cells)
+  pub cells : AreCellsAfter s a.cells
+  pub ends : AreOuterEnds s a.ends
+  pub few : length a.wires ≤ length a.ends + (max_ports + 1) * count_by is_some a.cells
+  pub listed : (free : List FreeEnd) → AreEndsOf a.ends free → AreListed (unlisted a.cells free) (λ p. Unit {0}) a.wires
 
 -- each free end gets its partner, and keeps its name and type
 pub record Rejoins (ends : List Point) (old new : List FreeEnd) : Type 0 where

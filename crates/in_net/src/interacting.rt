@@ -1,12 +1,12 @@
 ghost use Rattle.std.specs.Prelude.{◌≡◌, ◌≢◌, ℕ, ◌+◌, ◌^◌, ◌<◌, length, count_by, is_some, IfOk, OnOk, OnErr, MatchOption};
-ghost use Rattle.in_net.specs.After.{AreEmptyNumbers, AreUnused, StaysAt, IsAgentAfter, IsCellAfter, AreCellsAfter, AreOuterEnds, Rejoins};
+ghost use Rattle.in_net.specs.After.{AreEmptyNumbers, AreUnused, StaysAt, IsAgentAfter, IsCellAfter, AreCellsAfter, AreOuterEnds, IsAfter, Rejoins};
 ghost use Rattle.in_net.specs.Interacting.{unused, numbers_after, MayInteract, Interacts};
 ghost use Rattle.in_net.specs.Parts.{cell_in};
 ghost use Rattle.in_net.specs.declared.nets.Cell.{Cell};
 
 use crate::following::Site;
 use crate::listing::wires;
-use crate::nets::{AgentNo, Cell, FreeEnd, Net, Point};
+use crate::nets::{AgentNo, Cell, FreeEnd, Net, Point, Wire};
 use crate::rules::Rule;
 use sqlite_items::Items;
 use std::alloc::{AllocError, Global};
@@ -49,6 +49,14 @@ pub(crate) fn unused(
         names.push(AgentNo((cells.len() + more) as u32))?;
     }
     Ok(names)
+}
+
+/// The agents after an interaction, the partners of the free ends, and the wires.
+#[derive(Drop)]
+struct After {
+    cells: Items<Option<Cell>>,
+    ends: Items<Point>,
+    wires: Items<Wire>,
 }
 
 impl<'a> Site<'a> {
@@ -161,6 +169,17 @@ impl<'a> Site<'a> {
         }
         Ok(ends)
     }
+
+    /// What is new after the interaction.
+    fn after(&self, alloc: Global) -> Result<After, AllocError>
+        ensures { IfOk result (IsAfter self.now) }
+    {
+        let _ = &self.first;
+        let cells = self.cells(alloc)?;
+        let ends = self.free_ends(alloc)?;
+        let wires = wires(alloc, cells.as_slice(), ends.as_slice())?;
+        Ok(After { cells, ends, wires })
+    }
 }
 
 /// Gives each free end its partner.
@@ -219,9 +238,7 @@ pub fn interact(
         first: arity(net, a),
         names: names.as_slice(),
     };
-    let cells = site.cells(alloc)?;
-    let ends = site.free_ends(alloc)?;
-    let wires = wires(alloc, cells.as_slice(), ends.as_slice())?;
+    let After { cells, ends, wires } = site.after(alloc)?;
     net.cells = cells;
     rejoin(&mut net.free, ends.as_slice());
     net.wires = wires;

@@ -39,12 +39,23 @@ pub(crate) struct Joint {
 
 /// What is read of a net or a rule so far. Spots and agents are in the order of the text; free or boundary ends are the first
 /// spots.
-#[derive(Drop)]
 pub(crate) struct Reading {
     pub(crate) spots: Items<Spot>,
     pub(crate) agents: Items<Agent>,
     pub(crate) joints: Items<Joint>,
     pub(crate) names: Names,
+}
+
+// By hand, so that each drop is a call, as with `Net`.
+impl Drop for Reading {
+    fn drop(self) {
+        let Reading {
+            spots: _,
+            agents: _,
+            joints: _,
+            names: _,
+        } = self;
+    }
 }
 
 impl Reading {

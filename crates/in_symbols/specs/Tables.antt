@@ -46,6 +46,10 @@ shape_of types s = record {
   class_count = length s.classes;
 }
 
+-- .. before its places are added
+abbrev pub bare_shape : SourceSymbol → Shape
+bare_shape s = record { place = s.name.place; ports = []; classes = []; class_count = 0 }
+
 abbrev pub type_names : Source → List (List ℕ)
 type_names s = map (λ n. n.text) s.types
 

@@ -6,9 +6,15 @@ use std::alloc::{AllocError, Global};
 use std::marker::Model;
 
 /// A space of names, numbered from 0 in the order of their declaration. Contracts see the list of them.
-#[derive(Drop)]
 pub struct Names {
     set: IndexSet<String>,
+}
+
+// By hand, so that each drop is a call: a derived one is written out in each proof, at each way out.
+impl Drop for Names {
+    fn drop(self) {
+        let Names { set: _ } = self;
+    }
 }
 
 impl Model for Names {

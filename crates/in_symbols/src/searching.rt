@@ -6,7 +6,8 @@ ghost use Rattle.in_symbols.specs.Searching.{untyped, untyped_in_class, untyped_
 use crate::declaring::{Declared, free_names_of};
 use crate::names::Names;
 use in_syntax::{
-    Code, Equation, Head, Name, Place, Refusal, Source, SourcePort, SourceRule, SourceSymbol, Term,
+    Code, Equation, Head, Name, Place, Refusal, Source, SourceFree, SourcePort, SourceRule,
+    SourceSymbol, Term,
 };
 use std::alloc::{AllocError, Global};
 
@@ -41,21 +42,21 @@ fn untyped_in_symbol(types: &Names, symbol: &SourceSymbol) -> Option<Place>
     found
 }
 
-fn untyped_in_symbols(types: &Names, source: &Source) -> Option<Place>
-    ensures { result ≡ untyped_in_symbols types.now source.now.symbols }
+fn untyped_in_symbols(types: &Names, symbols: &[SourceSymbol]) -> Option<Place>
+    ensures { result ≡ untyped_in_symbols types.now symbols.now }
 {
     let mut found = None;
-    for symbol in source.symbols.as_slice() {
+    for symbol in symbols {
         found = Place::earlier(found, untyped_in_symbol(types, symbol));
     }
     found
 }
 
-fn untyped_in_free(types: &Names, source: &Source) -> Option<Place>
-    ensures { result ≡ untyped_in_free types.now source.now.net.free }
+fn untyped_in_free(types: &Names, frees: &[SourceFree]) -> Option<Place>
+    ensures { result ≡ untyped_in_free types.now frees.now }
 {
     let mut found = None;
-    for free in source.net.free.as_slice() {
+    for free in frees {
         found = Place::earlier(found, untyped(types, &free.port));
     }
     found
@@ -94,11 +95,11 @@ fn unknown_in_term(symbols: &Names, term: &Term) -> Option<Place>
     found
 }
 
-fn unknown_in_equations(symbols: &Names, source: &Source) -> Option<Place>
-    ensures { result ≡ unknown_in_equations symbols.now source.now.net.equations }
+fn unknown_in_equations(symbols: &Names, equations: &[Equation]) -> Option<Place>
+    ensures { result ≡ unknown_in_equations symbols.now equations.now }
 {
     let mut found = None;
-    for equation in source.net.equations.as_slice() {
+    for equation in equations {
         let Equation { left, right, .. } = equation;
         let place = Place::earlier(
             unknown_in_term(symbols, left),
@@ -129,11 +130,11 @@ fn unknown_in_rule(symbols: &Names, rule: &SourceRule) -> Option<Place>
     )
 }
 
-fn unknown_in_rules(symbols: &Names, source: &Source) -> Option<Place>
-    ensures { result ≡ unknown_in_rules symbols.now source.now.rules }
+fn unknown_in_rules(symbols: &Names, rules: &[SourceRule]) -> Option<Place>
+    ensures { result ≡ unknown_in_rules symbols.now rules.now }
 {
     let mut found = None;
-    for rule in source.rules.as_slice() {
+    for rule in rules {
         found = Place::earlier(found, unknown_in_rule(symbols, rule));
     }
     found
@@ -151,12 +152,12 @@ pub(crate) fn first_fault(
     let free = free_names_of(alloc, source, &symbols.names)?;
     let twice = Place::earlier(Place::earlier(types.repeat, symbols.repeat), free.repeat);
     let untyped = Place::earlier(
-        untyped_in_symbols(&types.names, source),
-        untyped_in_free(&types.names, source),
+        untyped_in_symbols(&types.names, source.symbols.as_slice()),
+        untyped_in_free(&types.names, source.net.free.as_slice()),
     );
     let unknown = Place::earlier(
-        unknown_in_rules(&symbols.names, source),
-        unknown_in_equations(&symbols.names, source),
+        unknown_in_rules(&symbols.names, source.rules.as_slice()),
+        unknown_in_equations(&symbols.names, source.net.equations.as_slice()),
     );
     let fault = Refusal::earlier(
         Refusal::found(Code::E04, twice),

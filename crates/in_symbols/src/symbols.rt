@@ -36,11 +36,21 @@ pub(crate) struct Shape {
 }
 
 /// The types and symbols of a program, each numbered from 0 in the order of declaration.
-#[derive(Drop)]
 pub struct Symbols {
     types: Names,
     names: Names,
     shapes: Items<Shape>,
+}
+
+// By hand, so that each drop is a call, as with `Names`.
+impl Drop for Symbols {
+    fn drop(self) {
+        let Symbols {
+            types: _,
+            names: _,
+            shapes: _,
+        } = self;
+    }
 }
 
 // Contracts see the declarations, symbol by symbol.

@@ -1,7 +1,7 @@
 ghost use Rattle.std.specs.Prelude.{◌≡◌, ◌<◌, ◌^◌, length, IfOk};
 ghost use Rattle.std.specs.List.{AllByRecursion};
 ghost use Rattle.in_syntax.specs.Sizes.{IsSized, IsSizedSymbol};
-ghost use Rattle.in_symbols.specs.Tables.{port_of, shape_of, shapes_of, Knows, KnowsAll, AddsClass};
+ghost use Rattle.in_symbols.specs.Tables.{port_of, bare_shape, shape_of, shapes_of, Knows, KnowsAll, AddsClass};
 
 use crate::names::Names;
 use crate::symbols::{PortType, Shape};
@@ -42,6 +42,24 @@ fn add_class(
     Ok(())
 }
 
+/// Adds the places of a symbol, the principal port first.
+fn add_places(shape: &mut Shape, types: &Names, symbol: &SourceSymbol) -> Result<(), AllocError>
+    requires sized { IsSizedSymbol symbol.now }
+    requires types { length types.now < 2 ^ 32 }
+    requires known { KnowsAll types.now symbol.now }
+    requires bare { shape.old ≡ bare_shape symbol.now }
+    ensures { IfOk result (λ _. shape.new ≡ shape_of types.now symbol.now) }
+{
+    shape.ports.push(port_type(types, &symbol.port))?;
+    shape.classes.push(0)?;
+    for class in symbol.classes.as_slice() {
+        shape.class_count += 1;
+        let number = shape.class_count;
+        add_class(shape, types, number, class.as_slice())?;
+    }
+    Ok(())
+}
+
 /// What is declared of a symbol.
 fn shape(alloc: Global, types: &Names, symbol: &SourceSymbol) -> Result<Shape, AllocError>
     requires sized { IsSizedSymbol symbol.now }
@@ -55,13 +73,7 @@ fn shape(alloc: Global, types: &Names, symbol: &SourceSymbol) -> Result<Shape, A
         classes: Items::new(alloc),
         class_count: 0,
     };
-    shape.ports.push(port_type(types, &symbol.port))?;
-    shape.classes.push(0)?;
-    for class in symbol.classes.as_slice() {
-        shape.class_count += 1;
-        let number = shape.class_count;
-        add_class(&mut shape, types, number, class.as_slice())?;
-    }
+    add_places(&mut shape, types, symbol)?;
     Ok(shape)
 }
 

@@ -23,12 +23,23 @@ pub type Equations = Items<Equation>;
 pub type Terms = Items<Term>;
 
 /// A program as it is written, each list in the order of the text.
-#[derive(Drop)]
 pub struct Source {
     pub types: Names,
     pub symbols: SourceSymbols,
     pub rules: SourceRules,
     pub net: SourceNet,
+}
+
+// By hand, so that each drop is a call: a derived one is written out in each proof, at each way out.
+impl Drop for Source {
+    fn drop(self) {
+        let Source {
+            types: _,
+            symbols: _,
+            rules: _,
+            net: _,
+        } = self;
+    }
 }
 
 /// A name as it is written, and where.
@@ -46,11 +57,21 @@ pub struct SourcePort {
 }
 
 /// The declaration of a symbol: its principal port, and its auxiliary ports class by class.
-#[derive(Drop)]
 pub struct SourceSymbol {
     pub name: Name,
     pub port: SourcePort,
     pub classes: SourceClasses,
+}
+
+// By hand, so that each drop is a call, as with `Source`.
+impl Drop for SourceSymbol {
+    fn drop(self) {
+        let SourceSymbol {
+            name: _,
+            port: _,
+            classes: _,
+        } = self;
+    }
 }
 
 impl SourceSymbol {
@@ -64,17 +85,32 @@ impl SourceSymbol {
 }
 
 /// A rule as it is written: its two heads.
-#[derive(Drop)]
 pub struct SourceRule {
     pub first: Head,
     pub second: Head,
 }
 
+// By hand, so that each drop is a call, as with `Source`.
+impl Drop for SourceRule {
+    fn drop(self) {
+        let SourceRule {
+            first: _,
+            second: _,
+        } = self;
+    }
+}
+
 /// A head of a rule: a symbol's name, and a term for each of its auxiliary ports.
-#[derive(Drop)]
 pub struct Head {
     pub name: Name,
     pub terms: Terms,
+}
+
+// By hand, so that each drop is a call, as with `Source`.
+impl Drop for Head {
+    fn drop(self) {
+        let Head { name: _, terms: _ } = self;
+    }
 }
 
 impl Head {
@@ -140,10 +176,19 @@ pub struct SourceFree {
 }
 
 /// The initial net as it is written.
-#[derive(Drop)]
 pub struct SourceNet {
     pub free: SourceFrees,
     pub equations: Equations,
+}
+
+// By hand, so that each drop is a call, as with `Source`.
+impl Drop for SourceNet {
+    fn drop(self) {
+        let SourceNet {
+            free: _,
+            equations: _,
+        } = self;
+    }
 }
 
 impl SourceNet {

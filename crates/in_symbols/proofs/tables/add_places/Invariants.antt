@@ -1,7 +1,7 @@
 use Rattle.std.proofs.Common.{◌≡◌, ◌++◌, ◌∷◌, ◌+◌, drop, map}
 use Rattle.std.specs.List.{AllByRecursion, flat_map}
 use Rattle.in_symbols.specs.Tables.{Knows, port_of, classes_from}
-use Rattle.in_symbols.proofs.tables.shape.Given as goal
+use Rattle.in_symbols.proofs.tables.add_places.Given as goal
 
 abbrev pub invariant-loop-class : goal.invariant-loop-class
 invariant-loop-class l = record {
