@@ -5,6 +5,7 @@ pub mod Maps
 pub mod Named
 pub mod OneTables
 pub mod Repeated
+pub mod Searches
 pub mod Shapes
 pub mod Tabled
 pub mod Unknown
