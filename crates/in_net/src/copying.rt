@@ -5,19 +5,26 @@ use in_syntax::Text;
 use sqlite_items::Items;
 use std::alloc::{AllocError, Global};
 
+/// The same agent, if there is one.
+fn same(alloc: Global, cell: &Option<Cell>) -> Result<Option<Cell>, AllocError>
+    ensures { IfOk result (λ copy. copy ≡ cell.now) }
+{
+    match cell {
+        Some(cell) => Ok(Some(Cell {
+            symbol: cell.symbol,
+            ends: Items::from_slice(alloc, cell.ends.as_slice())?,
+        })),
+        None => Ok(None),
+    }
+}
+
 /// The same agents.
 fn cells(alloc: Global, cells: &[Option<Cell>]) -> Result<Items<Option<Cell>>, AllocError>
     ensures { IfOk result (λ copy. copy ≡ cells.now) }
 {
     let mut copy = Items::new(alloc);
     for cell in cells {
-        match cell {
-            Some(cell) => copy.push(Some(Cell {
-                symbol: cell.symbol,
-                ends: Items::from_slice(alloc, cell.ends.as_slice())?,
-            }))?,
-            None => copy.push(None)?,
-        }
+        copy.push(same(alloc, cell)?)?;
     }
     Ok(copy)
 }
