@@ -1,1286 +1,1286 @@
 // Written by bench/characters from the data of Unicode 18.0.0. Do not edit.
 
-/// From U+0000 to U+2886: a line for each character, its number and its name.
+/// From U+0000 to U+2858: a line for each character, its number and its name.
 #[rattlefmt::skip]
 pub(crate) static NAMES: &[u8] = b"\
-0 null character
-1 start of heading
-2 start of text
-3 end of text
-4 end of transmission
-5 enquiry
-6 acknowledge
-7 bell character
-8 backspace character
-9 character tabulation
-A line feed
-B line tabulation
-C form feed
-D carriage return
-E shift out
-F shift in
-10 data link escape
-11 device control one
-12 device control two
-13 device control three
-14 device control four
-15 negative acknowledge
-16 synchronous idle
-17 end of transmission block
-18 cancel
-19 end of medium
-1A substitute character
-1B escape character
-1C information separator four
-1D information separator three
-1E information separator two
-1F information separator one
-20 space
-21 exclamation mark
-22 quotation mark
-23 number sign
-24 dollar sign
-25 percent sign
-26 ampersand
-27 apostrophe
-28 left parenthesis
-29 right parenthesis
-2A asterisk
-2B plus sign
-2C comma
-2D hyphen-minus
-2E full stop
-2F slash
-30 digit zero
-31 digit one
-32 digit two
-33 digit three
-34 digit four
-35 digit five
-36 digit six
-37 digit seven
-38 digit eight
-39 digit nine
-3A colon
-3B semicolon
-3C less-than sign
-3D equals sign
-3E greater-than sign
-3F question mark
-40 at sign
-5B left square bracket
-5C backslash
-5D right square bracket
-5E circumflex accent
-5F low line
-60 grave accent
-7B left curly bracket
-7C vertical bar
-7D right curly bracket
-7E tilde
-7F delete character
-80 padding character
-81 high octet preset
-82 break permitted here
-83 no break here
-84 index
-85 next line character
-86 start of selected area
-87 end of selected area
-88 character tabulation set
-89 character tabulation with justification
-8A line tabulation set
-8B partial line forward
-8C partial line backward
-8D reverse line feed
-8E single shift two
-8F single shift three
-90 device control string
-91 private use one
-92 private use two
-93 set transmit state
-94 cancel character
-95 message waiting
-96 start of guarded area
-97 end of guarded area
-98 start of string
-99 single graphic character introducer
-9A single character introducer
-9B control sequence introducer
-9C string terminator
-9D operating system command
-9E privacy message
-9F application program command
-A0 no-break space
-A1 inverted exclamation mark
-A2 cent sign
-A3 pound sign
-A4 currency sign
-A5 yen sign
-A6 broken bar
-A7 section sign
-A8 diaeresis
-A9 copyright sign
-AB left-pointing double angle quotation mark
-AC not sign
-AD soft hyphen
-AE registered sign
-AF macron
-B0 degree sign
-B1 plus-minus sign
-B2 superscript two
-B3 superscript three
-B4 acute accent
-B6 pilcrow sign
-B7 middle dot
-B8 cedilla
-B9 superscript one
-BB right-pointing double angle quotation mark
-BC vulgar fraction one quarter
-BD vulgar fraction one half
-BE vulgar fraction three quarters
-BF inverted question mark
-D7 multiplication sign
-F7 division sign
-2C2 modifier letter left arrowhead
-2C3 modifier letter right arrowhead
-2C4 modifier letter up arrowhead
-2C5 modifier letter down arrowhead
-2D2 modifier letter centred right half ring
-2D3 modifier letter centred left half ring
-2D4 modifier letter up tack
-2D5 modifier letter down tack
-2D6 modifier letter plus sign
-2D7 modifier letter minus sign
-2D8 breve
-2D9 dot above
-2DA ring above
-2DB ogonek
-2DC small tilde
-2DD double acute accent
-2DE modifier letter rhotic hook
-2DF modifier letter cross accent
-2E5 modifier letter extra-high tone bar
-2E6 modifier letter high tone bar
-2E7 modifier letter mid tone bar
-2E8 modifier letter low tone bar
-2E9 modifier letter extra-low tone bar
-2EA modifier letter yin departing tone mark
-2EB modifier letter yang departing tone mark
-2ED modifier letter unaspirated
-2EF modifier letter low down arrowhead
-2F0 modifier letter low up arrowhead
-2F1 modifier letter low left arrowhead
-2F2 modifier letter low right arrowhead
-2F3 modifier letter low ring
-2F4 modifier letter middle grave accent
-2F5 modifier letter middle double grave accent
-2F6 modifier letter middle double acute accent
-2F7 modifier letter low tilde
-2F8 modifier letter raised colon
-2F9 modifier letter begin high tone
-2FA modifier letter end high tone
-2FB modifier letter begin low tone
-2FC modifier letter end low tone
-2FD modifier letter shelf
-2FE modifier letter open shelf
-2FF modifier letter low left arrow
-300 combining grave accent
-301 combining acute accent
-302 combining circumflex accent
-303 combining tilde
-304 combining macron
-305 combining overline
-306 combining breve
-307 combining dot above
-308 combining diaeresis
-309 combining hook above
-30A combining ring above
-30B combining double acute accent
-30C combining caron
-30D combining vertical line above
-30E combining double vertical line above
-30F combining double grave accent
-310 combining candrabindu
-311 combining inverted breve
-312 combining turned comma above
-313 combining comma above
-314 combining reversed comma above
-315 combining comma above right
-316 combining grave accent below
-317 combining acute accent below
-318 combining left tack below
-319 combining right tack below
-31A combining left angle above
-31B combining horn
-31C combining left half ring below
-31D combining up tack below
-31E combining down tack below
-31F combining plus sign below
-320 combining minus sign below
-321 combining palatalized hook below
-322 combining retroflex hook below
-323 combining dot below
-324 combining diaeresis below
-325 combining ring below
-326 combining comma below
-327 combining cedilla
-328 combining ogonek
-329 combining vertical line below
-32A combining bridge below
-32B combining inverted double arch below
-32C combining caron below
-32D combining circumflex accent below
-32E combining breve below
-32F combining inverted breve below
-330 combining tilde below
-331 combining macron below
-332 combining low line
-333 combining double low line
-334 combining tilde overlay
-335 combining short stroke overlay
-336 combining long stroke overlay
-337 combining short solidus overlay
-338 combining long solidus overlay
-339 combining right half ring below
-33A combining inverted bridge below
-33B combining square below
-33C combining seagull below
-33D combining x above
-33E combining vertical tilde
-33F combining double overline
-340 combining grave tone mark
-341 combining acute tone mark
-342 combining Greek perispomeni
-343 combining Greek koronis
-344 combining Greek dialytika tonos
-345 combining Greek ypogegrammeni
-346 combining bridge above
-347 combining equals sign below
-348 combining double vertical line below
-349 combining left angle below
-34A combining not tilde above
-34B combining homothetic above
-34C combining almost equal to above
-34D combining left right arrow below
-34E combining upwards arrow below
-34F combining grapheme joiner
-350 combining right arrowhead above
-351 combining left half ring above
-352 combining fermata
-353 combining x below
-354 combining left arrowhead below
-355 combining right arrowhead below
-356 combining right arrowhead and up arrowhead below
-357 combining right half ring above
-358 combining dot above right
-359 combining asterisk below
-35A combining double ring below
-35B combining zigzag above
-35C combining double breve below
-35D combining double breve
-35E combining double macron
-35F combining double macron below
-360 combining double tilde
-361 combining double inverted breve
-362 combining double rightwards arrow below
-363 combining Latin small letter a
-364 combining Latin small letter e
-365 combining Latin small letter i
-366 combining Latin small letter o
-367 combining Latin small letter u
-368 combining Latin small letter c
-369 combining Latin small letter d
-36A combining Latin small letter h
-36B combining Latin small letter m
-36C combining Latin small letter r
-36D combining Latin small letter t
-36E combining Latin small letter v
-36F combining Latin small letter x
-375 Greek lower numeral sign
-37A Greek ypogegrammeni
-37E Greek question mark
-384 Greek tonos
-385 Greek dialytika tonos
-387 Greek ano teleia
-3F6 Greek reversed lunate epsilon symbol
-482 Cyrillic thousands sign
-483 combining Cyrillic titlo
-484 combining Cyrillic palatalization
-485 combining Cyrillic dasia pneumata
-486 combining Cyrillic psili pneumata
-487 combining Cyrillic pokrytie
-488 combining Cyrillic hundred thousands sign
-489 combining Cyrillic millions sign
-55A Armenian apostrophe
-55B Armenian emphasis mark
-55C Armenian exclamation mark
-55D Armenian comma
-55E Armenian question mark
-55F Armenian abbreviation mark
-589 Armenian full stop
-58A Armenian hyphen
-58D right-facing Armenian eternity sign
-58E left-facing Armenian eternity sign
-58F Armenian dram sign
-591 Hebrew accent etnahta
-592 Hebrew accent segol
-593 Hebrew accent shalshelet
-594 Hebrew accent zaqef qatan
-595 Hebrew accent zaqef gadol
-596 Hebrew accent tipeha
-597 Hebrew accent revia
-598 Hebrew accent zarqa
-599 Hebrew accent pashta
-59A Hebrew accent yetiv
-59B Hebrew accent tevir
-59C Hebrew accent geresh
-59D Hebrew accent geresh muqdam
-59E Hebrew accent gershayim
-59F Hebrew accent qarney para
-5A0 Hebrew accent telisha gedola
-5A1 Hebrew accent pazer
-5A2 Hebrew accent atnah hafukh
-5A3 Hebrew accent munah
-5A4 Hebrew accent mahapakh
-5A5 Hebrew accent merkha
-5A6 Hebrew accent merkha kefula
-5A7 Hebrew accent darga
-5A8 Hebrew accent qadma
-5A9 Hebrew accent telisha qetana
-5AA Hebrew accent yerah ben yomo
-5AB Hebrew accent ole
-5AC Hebrew accent iluy
-5AD Hebrew accent dehi
-5AE Hebrew accent zinor
-5AF Hebrew mark masora circle
-5B0 Hebrew point sheva
-5B1 Hebrew point hataf segol
-5B2 Hebrew point hataf patah
-5B3 Hebrew point hataf qamats
-5B4 Hebrew point hiriq
-5B5 Hebrew point tsere
-5B6 Hebrew point segol
-5B7 Hebrew point patah
-5B8 Hebrew point qamats
-5B9 Hebrew point holam
-5BA Hebrew point holam haser for vav
-5BB Hebrew point qubuts
-5BC Hebrew point dagesh or mapiq
-5BD Hebrew point meteg
-5BE Hebrew punctuation maqaf
-5BF Hebrew point rafe
-5C0 Hebrew punctuation paseq
-5C1 Hebrew point shin dot
-5C2 Hebrew point sin dot
-5C3 Hebrew punctuation sof pasuq
-5C4 Hebrew mark upper dot
-5C5 Hebrew mark lower dot
-5C6 Hebrew punctuation nun hafukha
-5C7 Hebrew point qamats qatan
-5C8 Hebrew point sheva na mudgash
-5C9 Hebrew point dagesh hazaq mudgash
-5F3 Hebrew punctuation geresh
-5F4 Hebrew punctuation gershayim
-600 Arabic number sign
-601 Arabic sign sanah
-602 Arabic footnote marker
-603 Arabic sign safha
-604 Arabic sign samvat
-605 Arabic number mark above
-606 Arabic-Indic cube root
-607 Arabic-Indic fourth root
-608 Arabic ray
-609 Arabic-Indic per mille sign
-60A Arabic-Indic per ten thousand sign
-60B afghani sign
-60C Arabic comma
-60D Arabic date separator
-60E Arabic poetic verse sign
-60F Arabic sign misra
-610 Arabic sign sallallahou alayhe wassallam
-611 Arabic sign alayhe assallam
-612 Arabic sign rahmatullah alayhe
-613 Arabic sign radi allahou anhu
-614 Arabic sign takhallus
-615 Arabic small high tah
-616 Arabic small high ligature alef with yeh barree
-617 Arabic small high zain
-618 Arabic small fatha
-619 Arabic small damma
-61A Arabic small kasra
-61B Arabic semicolon
-61C Arabic letter mark
-61D Arabic end of text mark
-61E Arabic triple dot punctuation mark
-61F Arabic question mark
-64B Arabic fathatan
-64C Arabic dammatan
-64D Arabic kasratan
-64E Arabic fatha
-64F Arabic damma
-650 Arabic kasra
-651 Arabic shadda
-652 Arabic sukun
-653 Arabic maddah above
-654 Arabic hamza above
-655 Arabic hamza below
-656 Arabic subscript alef
-657 Arabic inverted damma
-658 Arabic mark noon ghunna
-659 Arabic zwarakay
-65A Arabic vowel sign small v above
-65B Arabic vowel sign inverted small v above
-65C Arabic vowel sign dot below
-65D Arabic reversed damma
-65E Arabic fatha with two dots
-65F Arabic wavy hamza below
-660 Arabic-Indic digit zero
-661 Arabic-Indic digit one
-662 Arabic-Indic digit two
-663 Arabic-Indic digit three
-664 Arabic-Indic digit four
-665 Arabic-Indic digit five
-666 Arabic-Indic digit six
-667 Arabic-Indic digit seven
-668 Arabic-Indic digit eight
-669 Arabic-Indic digit nine
-66A Arabic percent sign
-66B Arabic decimal separator
-66C Arabic thousands separator
-66D Arabic five pointed star
-670 Arabic letter superscript alef
-6D4 Arabic full stop
-6D6 Arabic small high ligature sad with lam with alef maksura
-6D7 Arabic small high ligature qaf with lam with alef maksura
-6D8 Arabic small high meem initial form
-6D9 Arabic small high lam alef
-6DA Arabic small high jeem
-6DB Arabic small high three dots
-6DC Arabic small high seen
-6DD Arabic end of ayah
-6DE Arabic start of rub el hizb
-6DF Arabic small high rounded zero
-6E0 Arabic small high upright rectangular zero
-6E1 Arabic small high dotless head of khah
-6E2 Arabic small high meem isolated form
-6E3 Arabic small low seen
-6E4 Arabic small high madda
-6E7 Arabic small high yeh
-6E8 Arabic small high noon
-6E9 Arabic place of sajdah
-6EA Arabic empty centre low stop
-6EB Arabic empty centre high stop
-6EC Arabic rounded high stop with filled centre
-6ED Arabic small low meem
-6F0 extended Arabic-Indic digit zero
-6F1 extended Arabic-Indic digit one
-6F2 extended Arabic-Indic digit two
-6F3 extended Arabic-Indic digit three
-6F4 extended Arabic-Indic digit four
-6F5 extended Arabic-Indic digit five
-6F6 extended Arabic-Indic digit six
-6F7 extended Arabic-Indic digit seven
-6F8 extended Arabic-Indic digit eight
-6F9 extended Arabic-Indic digit nine
-6FD Arabic sign sindhi ampersand
-6FE Arabic sign sindhi postposition men
-700 Syriac end of paragraph
-701 Syriac supralinear full stop
-702 Syriac sublinear full stop
-703 Syriac supralinear colon
-704 Syriac sublinear colon
-705 Syriac horizontal colon
-706 Syriac colon skewed left
-707 Syriac colon skewed right
-708 Syriac supralinear colon skewed left
-709 Syriac sublinear colon skewed left
-70A Syriac contraction
-70B Syriac harklean obelus
-70C Syriac harklean metobelus
-70D Syriac harklean asteriscus
-70F Syriac abbreviation mark
-711 Syriac letter superscript alaph
-730 Syriac pthaha above
-731 Syriac pthaha below
-732 Syriac pthaha dotted
-733 Syriac zqapha above
-734 Syriac zqapha below
-735 Syriac zqapha dotted
-736 Syriac rbasa above
-737 Syriac rbasa below
-738 Syriac dotted zlama horizontal
-739 Syriac dotted zlama angular
-73A Syriac hbasa above
-73B Syriac hbasa below
-73C Syriac hbasa-esasa dotted
-73D Syriac esasa above
-73E Syriac esasa below
-73F Syriac rwaha
-740 Syriac feminine dot
-741 Syriac qushshaya
-742 Syriac rukkakha
-743 Syriac two vertical dots above
-744 Syriac two vertical dots below
-745 Syriac three dots above
-746 Syriac three dots below
-747 Syriac oblique line above
-748 Syriac oblique line below
-749 Syriac music
-74A Syriac barrekh
-7A6 Thaana abafili
-7A7 Thaana aabaafili
-7A8 Thaana ibifili
-7A9 Thaana eebeefili
-7AA Thaana ubufili
-7AB Thaana ooboofili
-7AC Thaana ebefili
-7AD Thaana eybeyfili
-7AE Thaana obofili
-7AF Thaana oaboafili
-7B0 Thaana sukun
-7C0 Nko digit zero
-7C1 Nko digit one
-7C2 Nko digit two
-7C3 Nko digit three
-7C4 Nko digit four
-7C5 Nko digit five
-7C6 Nko digit six
-7C7 Nko digit seven
-7C8 Nko digit eight
-7C9 Nko digit nine
-7EB Nko combining short high tone
-7EC Nko combining short low tone
-7ED Nko combining short rising tone
-7EE Nko combining long descending tone
-7EF Nko combining long high tone
-7F0 Nko combining long low tone
-7F1 Nko combining long rising tone
-7F2 Nko combining nasalization mark
-7F3 Nko combining double dot above
-7F6 Nko symbol oo dennen
-7F7 Nko symbol gbakurunen
-7F8 Nko comma
-7F9 Nko exclamation mark
-7FD Nko dantayalan
-7FE Nko dorome sign
-7FF Nko taman sign
-816 Samaritan mark in
-817 Samaritan mark in-alaf
-818 Samaritan mark occlusion
-819 Samaritan mark dagesh
-81B Samaritan mark epenthetic yut
-81C Samaritan vowel sign long e
-81D Samaritan vowel sign e
-81E Samaritan vowel sign overlong AA
-81F Samaritan vowel sign long AA
-820 Samaritan vowel sign AA
-821 Samaritan vowel sign overlong a
-822 Samaritan vowel sign long a
-823 Samaritan vowel sign a
-825 Samaritan vowel sign short a
-826 Samaritan vowel sign long u
-827 Samaritan vowel sign u
-829 Samaritan vowel sign long i
-82A Samaritan vowel sign i
-82B Samaritan vowel sign o
-82C Samaritan vowel sign sukun
-82D Samaritan mark nequdaa
-830 Samaritan punctuation nequdaa
-831 Samaritan punctuation afsaaq
-832 Samaritan punctuation anged
-833 Samaritan punctuation bau
-834 Samaritan punctuation atmaau
-835 Samaritan punctuation shiyyaalaa
-836 Samaritan abbreviation mark
-837 Samaritan punctuation melodic qitsa
-838 Samaritan punctuation ziqaa
-839 Samaritan punctuation qitsa
-83A Samaritan punctuation zaef
-83B Samaritan punctuation turu
-83C Samaritan punctuation arkaanu
-83D Samaritan punctuation sof mashfaat
-83E Samaritan punctuation annaau
-859 Mandaic affrication mark
-85A Mandaic vocalization mark
-85B Mandaic gemination mark
-85E Mandaic punctuation
-888 Arabic raised round dot
-890 Arabic pound mark above
-891 Arabic piastre mark above
-897 Arabic pepet
-898 Arabic small high word al-juz
-899 Arabic small low word ishmaam
-89A Arabic small low word imaala
-89B Arabic small low word tasheel
-89C Arabic madda waajib
-89D Arabic superscript alef mokhassas
-89E Arabic doubled madda
-89F Arabic half madda over madda
-8CA Arabic small high farsi yeh
-8CB Arabic small high yeh barree with two dots below
-8CC Arabic small high word sah
-8CD Arabic small high zah
-8CE Arabic large round dot above
-8CF Arabic large round dot below
-8D0 Arabic sukun below
-8D1 Arabic large circle below
-8D2 Arabic large round dot inside circle below
-8D3 Arabic small low waw
-8D4 Arabic small high word ar-rub
-8D5 Arabic small high sad
-8D6 Arabic small high ain
-8D7 Arabic small high qaf
-8D8 Arabic small high noon with kasra
-8D9 Arabic small low noon with kasra
-8DA Arabic small high word ath-thalatha
-8DB Arabic small high word as-sajda
-8DC Arabic small high word an-nisf
-8DD Arabic small high word sakta
-8DE Arabic small high word qif
-8DF Arabic small high word waqfa
-8E0 Arabic small high footnote marker
-8E1 Arabic small high sign safha
-8E2 Arabic disputed end of ayah
-8E3 Arabic turned damma below
-8E4 Arabic curly fatha
-8E5 Arabic curly damma
-8E6 Arabic curly kasra
-8E7 Arabic curly fathatan
-8E8 Arabic curly dammatan
-8E9 Arabic curly kasratan
-8EA Arabic tone one dot above
-8EB Arabic tone two dots above
-8EC Arabic tone loop above
-8ED Arabic tone one dot below
-8EE Arabic tone two dots below
-8EF Arabic tone loop below
-8F0 Arabic open fathatan
-8F1 Arabic open dammatan
-8F2 Arabic open kasratan
-8F3 Arabic small high waw
-8F4 Arabic fatha with ring
-8F5 Arabic fatha with dot above
-8F6 Arabic kasra with dot below
-8F7 Arabic left arrowhead above
-8F8 Arabic right arrowhead above
-8F9 Arabic left arrowhead below
-8FA Arabic right arrowhead below
-8FB Arabic double right arrowhead above
-8FC Arabic double right arrowhead above with dot
-8FD Arabic right arrowhead above with dot
-8FE Arabic damma with dot
-8FF Arabic mark sideways noon ghunna
-900 Devanagari sign inverted candrabindu
-901 Devanagari sign candrabindu
-902 Devanagari sign anusvara
-903 Devanagari sign visarga
-93A Devanagari vowel sign oe
-93B Devanagari vowel sign ooe
-93C Devanagari sign nukta
-93E Devanagari vowel sign AA
-93F Devanagari vowel sign i
-940 Devanagari vowel sign ii
-941 Devanagari vowel sign u
-942 Devanagari vowel sign uu
-943 Devanagari vowel sign vocalic r
-944 Devanagari vowel sign vocalic rr
-945 Devanagari vowel sign candra e
-946 Devanagari vowel sign short e
-947 Devanagari vowel sign e
-948 Devanagari vowel sign ai
-949 Devanagari vowel sign candra o
-94A Devanagari vowel sign short o
-94B Devanagari vowel sign o
-94C Devanagari vowel sign au
-94D Devanagari sign virama
-94E Devanagari vowel sign prishthamatra e
-94F Devanagari vowel sign aw
-951 Devanagari stress sign udatta
-952 Devanagari stress sign anudatta
-953 Devanagari grave accent
-954 Devanagari acute accent
-955 Devanagari vowel sign candra long e
-956 Devanagari vowel sign ue
-957 Devanagari vowel sign uue
-962 Devanagari vowel sign vocalic l
-963 Devanagari vowel sign vocalic ll
-964 Devanagari danda
-965 Devanagari double danda
-966 Devanagari digit zero
-967 Devanagari digit one
-968 Devanagari digit two
-969 Devanagari digit three
-96A Devanagari digit four
-96B Devanagari digit five
-96C Devanagari digit six
-96D Devanagari digit seven
-96E Devanagari digit eight
-96F Devanagari digit nine
-970 Devanagari abbreviation sign
-981 Bengali sign candrabindu
-982 Bengali sign anusvara
-983 Bengali sign visarga
-9BC Bengali sign nukta
-9BE Bengali vowel sign AA
-9BF Bengali vowel sign i
-9C0 Bengali vowel sign ii
-9C1 Bengali vowel sign u
-9C2 Bengali vowel sign uu
-9C3 Bengali vowel sign vocalic r
-9C4 Bengali vowel sign vocalic rr
-9C7 Bengali vowel sign e
-9C8 Bengali vowel sign ai
-9CB Bengali vowel sign o
-9CC Bengali vowel sign au
-9CD Bengali sign virama
-9D7 Bengali au length mark
-9E2 Bengali vowel sign vocalic l
-9E3 Bengali vowel sign vocalic ll
-9E6 Bengali digit zero
-9E7 Bengali digit one
-9E8 Bengali digit two
-9E9 Bengali digit three
-9EA Bengali digit four
-9EB Bengali digit five
-9EC Bengali digit six
-9ED Bengali digit seven
-9EE Bengali digit eight
-9EF Bengali digit nine
-9F2 Bengali rupee mark
-9F3 Bengali rupee sign
-9F4 Bengali currency numerator one
-9F5 Bengali currency numerator two
-9F6 Bengali currency numerator three
-9F7 Bengali currency numerator four
-9F8 Bengali currency numerator one less than the denominator
-9F9 Bengali currency denominator sixteen
-9FA Bengali isshar
-9FB Bengali ganda mark
-9FD Bengali abbreviation sign
-9FE Bengali sandhi mark
-A01 Gurmukhi sign adak bindi
-A02 Gurmukhi sign bindi
-A03 Gurmukhi sign visarga
-A3C Gurmukhi sign nukta
-A3E Gurmukhi vowel sign AA
-A3F Gurmukhi vowel sign i
-A40 Gurmukhi vowel sign ii
-A41 Gurmukhi vowel sign u
-A42 Gurmukhi vowel sign uu
-A47 Gurmukhi vowel sign ee
-A48 Gurmukhi vowel sign ai
-A4B Gurmukhi vowel sign oo
-A4C Gurmukhi vowel sign au
-A4D Gurmukhi sign virama
-A51 Gurmukhi sign udaat
-A66 Gurmukhi digit zero
-A67 Gurmukhi digit one
-A68 Gurmukhi digit two
-A69 Gurmukhi digit three
-A6A Gurmukhi digit four
-A6B Gurmukhi digit five
-A6C Gurmukhi digit six
-A6D Gurmukhi digit seven
-A6E Gurmukhi digit eight
-A6F Gurmukhi digit nine
-A70 Gurmukhi tippi
-A71 Gurmukhi addak
-A75 Gurmukhi sign yakash
-A76 Gurmukhi abbreviation sign
-A81 Gujarati sign candrabindu
-A82 Gujarati sign anusvara
-A83 Gujarati sign visarga
-ABC Gujarati sign nukta
-ABE Gujarati vowel sign AA
-ABF Gujarati vowel sign i
-AC0 Gujarati vowel sign ii
-AC1 Gujarati vowel sign u
-AC2 Gujarati vowel sign uu
-AC3 Gujarati vowel sign vocalic r
-AC4 Gujarati vowel sign vocalic rr
-AC5 Gujarati vowel sign candra e
-AC7 Gujarati vowel sign e
-AC8 Gujarati vowel sign ai
-AC9 Gujarati vowel sign candra o
-ACB Gujarati vowel sign o
-ACC Gujarati vowel sign au
-ACD Gujarati sign virama
-AE2 Gujarati vowel sign vocalic l
-AE3 Gujarati vowel sign vocalic ll
-AE6 Gujarati digit zero
-AE7 Gujarati digit one
-AE8 Gujarati digit two
-AE9 Gujarati digit three
-AEA Gujarati digit four
-AEB Gujarati digit five
-AEC Gujarati digit six
-AED Gujarati digit seven
-AEE Gujarati digit eight
-AEF Gujarati digit nine
-AF0 Gujarati abbreviation sign
-AF1 Gujarati rupee sign
-AFA Gujarati sign sukun
-AFB Gujarati sign shadda
-AFC Gujarati sign maddah
-AFD Gujarati sign three-dot nukta above
-AFE Gujarati sign circle nukta above
-AFF Gujarati sign two-circle nukta above
-B01 Oriya sign candrabindu
-B02 Oriya sign anusvara
-B03 Oriya sign visarga
-B3C Oriya sign nukta
-B3E Oriya vowel sign AA
-B3F Oriya vowel sign i
-B40 Oriya vowel sign ii
-B41 Oriya vowel sign u
-B42 Oriya vowel sign uu
-B43 Oriya vowel sign vocalic r
-B44 Oriya vowel sign vocalic rr
-B47 Oriya vowel sign e
-B48 Oriya vowel sign ai
-B4B Oriya vowel sign o
-B4C Oriya vowel sign au
-B4D Oriya sign virama
-B53 Oriya sign dot above
-B54 Oriya sign double dot above
-B55 Oriya sign overline
-B56 Oriya ai length mark
-B57 Oriya au length mark
-B62 Oriya vowel sign vocalic l
-B63 Oriya vowel sign vocalic ll
-B66 Oriya digit zero
-B67 Oriya digit one
-B68 Oriya digit two
-B69 Oriya digit three
-B6A Oriya digit four
-B6B Oriya digit five
-B6C Oriya digit six
-B6D Oriya digit seven
-B6E Oriya digit eight
-B6F Oriya digit nine
-B70 Oriya isshar
-B72 Oriya fraction one quarter
-B73 Oriya fraction one half
-B74 Oriya fraction three quarters
-B75 Oriya fraction one sixteenth
-B76 Oriya fraction one eighth
-B77 Oriya fraction three sixteenths
-B82 Tamil sign anusvara
-BBE Tamil vowel sign AA
-BBF Tamil vowel sign i
-BC0 Tamil vowel sign ii
-BC1 Tamil vowel sign u
-BC2 Tamil vowel sign uu
-BC6 Tamil vowel sign e
-BC7 Tamil vowel sign ee
-BC8 Tamil vowel sign ai
-BCA Tamil vowel sign o
-BCB Tamil vowel sign oo
-BCC Tamil vowel sign au
-BCD Tamil sign virama
-BD7 Tamil au length mark
-BE6 Tamil digit zero
-BE7 Tamil digit one
-BE8 Tamil digit two
-BE9 Tamil digit three
-BEA Tamil digit four
-BEB Tamil digit five
-BEC Tamil digit six
-BED Tamil digit seven
-BEE Tamil digit eight
-BEF Tamil digit nine
-BF0 Tamil number ten
-BF1 Tamil number one hundred
-BF2 Tamil number one thousand
-BF3 Tamil day sign
-BF4 Tamil month sign
-BF5 Tamil year sign
-BF6 Tamil debit sign
-BF7 Tamil credit sign
-BF8 Tamil as above sign
-BF9 Tamil rupee sign
-BFA Tamil number sign
-C00 Telugu sign combining candrabindu above
-C01 Telugu sign candrabindu
-C02 Telugu sign anusvara
-C03 Telugu sign visarga
-C04 Telugu sign combining anusvara above
-C3C Telugu sign nukta
-C3E Telugu vowel sign AA
-C3F Telugu vowel sign i
-C40 Telugu vowel sign ii
-C41 Telugu vowel sign u
-C42 Telugu vowel sign uu
-C43 Telugu vowel sign vocalic r
-C44 Telugu vowel sign vocalic rr
-C46 Telugu vowel sign e
-C47 Telugu vowel sign ee
-C48 Telugu vowel sign ai
-C4A Telugu vowel sign o
-C4B Telugu vowel sign oo
-C4C Telugu vowel sign au
-C4D Telugu sign virama
-C55 Telugu length mark
-C56 Telugu ai length mark
-C62 Telugu vowel sign vocalic l
-C63 Telugu vowel sign vocalic ll
-C66 Telugu digit zero
-C67 Telugu digit one
-C68 Telugu digit two
-C69 Telugu digit three
-C6A Telugu digit four
-C6B Telugu digit five
-C6C Telugu digit six
-C6D Telugu digit seven
-C6E Telugu digit eight
-C6F Telugu digit nine
-C77 Telugu sign Siddham
-C78 Telugu fraction digit zero for odd powers of four
-C79 Telugu fraction digit one for odd powers of four
-C7A Telugu fraction digit two for odd powers of four
-C7B Telugu fraction digit three for odd powers of four
-C7C Telugu fraction digit one for even powers of four
-C7D Telugu fraction digit two for even powers of four
-C7E Telugu fraction digit three for even powers of four
-C7F Telugu sign tuumu
-C81 Kannada sign candrabindu
-C82 Kannada sign anusvara
-C83 Kannada sign visarga
-C84 Kannada sign Siddham
-CBC Kannada sign nukta
-CBE Kannada vowel sign AA
-CBF Kannada vowel sign i
-CC0 Kannada vowel sign ii
-CC1 Kannada vowel sign u
-CC2 Kannada vowel sign uu
-CC3 Kannada vowel sign vocalic r
-CC4 Kannada vowel sign vocalic rr
-CC6 Kannada vowel sign e
-CC7 Kannada vowel sign ee
-CC8 Kannada vowel sign ai
-CCA Kannada vowel sign o
-CCB Kannada vowel sign oo
-CCC Kannada vowel sign au
-CCD Kannada sign virama
-CD5 Kannada length mark
-CD6 Kannada ai length mark
-CE2 Kannada vowel sign vocalic l
-CE3 Kannada vowel sign vocalic ll
-CE6 Kannada digit zero
-CE7 Kannada digit one
-CE8 Kannada digit two
-CE9 Kannada digit three
-CEA Kannada digit four
-CEB Kannada digit five
-CEC Kannada digit six
-CED Kannada digit seven
-CEE Kannada digit eight
-CEF Kannada digit nine
-CF3 Kannada sign combining anusvara above right
-D00 Malayalam sign combining anusvara above
-D01 Malayalam sign candrabindu
-D02 Malayalam sign anusvara
-D03 Malayalam sign visarga
-D3B Malayalam sign vertical bar virama
-D3C Malayalam sign circular virama
-D3E Malayalam vowel sign AA
-D3F Malayalam vowel sign i
-D40 Malayalam vowel sign ii
-D41 Malayalam vowel sign u
-D42 Malayalam vowel sign uu
-D43 Malayalam vowel sign vocalic r
-D44 Malayalam vowel sign vocalic rr
-D46 Malayalam vowel sign e
-D47 Malayalam vowel sign ee
-D48 Malayalam vowel sign ai
-D4A Malayalam vowel sign o
-D4B Malayalam vowel sign oo
-D4C Malayalam vowel sign au
-D4D Malayalam sign virama
-D4F Malayalam sign para
-D57 Malayalam au length mark
-D58 Malayalam fraction one one-hundred-and-sixtieth
-D59 Malayalam fraction one fortieth
-D5A Malayalam fraction three eightieths
-D5B Malayalam fraction one twentieth
-D5C Malayalam fraction one tenth
-D5D Malayalam fraction three twentieths
-D5E Malayalam fraction one fifth
-D62 Malayalam vowel sign vocalic l
-D63 Malayalam vowel sign vocalic ll
-D66 Malayalam digit zero
-D67 Malayalam digit one
-D68 Malayalam digit two
-D69 Malayalam digit three
-D6A Malayalam digit four
-D6B Malayalam digit five
-D6C Malayalam digit six
-D6D Malayalam digit seven
-D6E Malayalam digit eight
-D6F Malayalam digit nine
-D70 Malayalam number ten
-D71 Malayalam number one hundred
-D72 Malayalam number one thousand
-D73 Malayalam fraction one quarter
-D74 Malayalam fraction one half
-D75 Malayalam fraction three quarters
-D76 Malayalam fraction one sixteenth
-D77 Malayalam fraction one eighth
-D78 Malayalam fraction three sixteenths
-D79 Malayalam date mark
-D81 Sinhala sign candrabindu
-D82 Sinhala sign anusvaraya
-D83 Sinhala sign visargaya
-DCA Sinhala sign al-lakuna
-DCF Sinhala vowel sign aela-pilla
-DD0 Sinhala vowel sign ketti aeda-pilla
-DD1 Sinhala vowel sign diga aeda-pilla
-DD2 Sinhala vowel sign ketti is-pilla
-DD3 Sinhala vowel sign diga is-pilla
-DD4 Sinhala vowel sign ketti paa-pilla
-DD6 Sinhala vowel sign diga paa-pilla
-DD8 Sinhala vowel sign gaetta-pilla
-DD9 Sinhala vowel sign kombuva
-DDA Sinhala vowel sign diga kombuva
-DDB Sinhala vowel sign kombu deka
-DDC Sinhala vowel sign kombuva haa aela-pilla
-DDD Sinhala vowel sign kombuva haa diga aela-pilla
-DDE Sinhala vowel sign kombuva haa gayanukitta
-DDF Sinhala vowel sign gayanukitta
-DE6 Sinhala lith digit zero
-DE7 Sinhala lith digit one
-DE8 Sinhala lith digit two
-DE9 Sinhala lith digit three
-DEA Sinhala lith digit four
-DEB Sinhala lith digit five
-DEC Sinhala lith digit six
-DED Sinhala lith digit seven
-DEE Sinhala lith digit eight
-DEF Sinhala lith digit nine
-DF2 Sinhala vowel sign diga gaetta-pilla
-DF3 Sinhala vowel sign diga gayanukitta
-DF4 Sinhala punctuation kunddaliya
-E31 Thai character mai Han-akat
-E33 Thai character sara am
-E34 Thai character sara i
-E35 Thai character sara ii
-E36 Thai character sara ue
-E37 Thai character sara uee
-E38 Thai character sara u
-E39 Thai character sara uu
-E3A Thai character phinthu
-E3F Thai currency symbol baht
-E47 Thai character maitaikhu
-E48 Thai character mai ek
-E49 Thai character mai tho
-E4A Thai character mai tri
-E4B Thai character mai chattawa
-E4C Thai character thanthakhat
-E4D Thai character nikhahit
-E4E Thai character yamakkan
-E4F Thai character fongman
-E50 Thai digit zero
-E51 Thai digit one
-E52 Thai digit two
-E53 Thai digit three
-E54 Thai digit four
-E55 Thai digit five
-E56 Thai digit six
-E57 Thai digit seven
-E58 Thai digit eight
-E59 Thai digit nine
-E5A Thai character angkhankhu
-E5B Thai character khomut
-EB1 Lao vowel sign mai kan
-EB3 Lao vowel sign am
-EB4 Lao vowel sign i
-EB5 Lao vowel sign ii
-EB6 Lao vowel sign y
-EB7 Lao vowel sign yy
-EB8 Lao vowel sign u
-EB9 Lao vowel sign uu
-EBA Lao sign pali virama
-EBB Lao vowel sign mai kon
-EBC Lao semivowel sign lo
-EC8 Lao tone mai ek
-EC9 Lao tone mai tho
-ECA Lao tone mai ti
-ECB Lao tone mai catawa
-ECC Lao cancellation mark
-ECD Lao niggahita
-ECE Lao yamakkan
-ED0 Lao digit zero
-ED1 Lao digit one
-ED2 Lao digit two
-ED3 Lao digit three
-ED4 Lao digit four
-ED5 Lao digit five
-ED6 Lao digit six
-ED7 Lao digit seven
-ED8 Lao digit eight
-ED9 Lao digit nine
-F01 Tibetan mark gter yig mgo truncated a
-F02 Tibetan mark gter yig mgo -um rnam bcad ma
-F03 Tibetan mark gter yig mgo -um gter tsheg ma
-F04 Tibetan mark initial yig mgo mdun ma
-F05 Tibetan mark closing yig mgo sgab ma
-F06 Tibetan mark caret yig mgo phur shad ma
-F07 Tibetan mark yig mgo tsheg shad ma
-F08 Tibetan mark sbrul shad
-F09 Tibetan mark bskur yig mgo
-F0A Tibetan mark bka- shog yig mgo
-F0B Tibetan mark intersyllabic tsheg
-F0C Tibetan mark delimiter tsheg bstar
-F0D Tibetan mark shad
-F0E Tibetan mark nyis shad
-F0F Tibetan mark tsheg shad
-F10 Tibetan mark nyis tsheg shad
-F11 Tibetan mark rin chen spungs shad
-F12 Tibetan mark rgya gram shad
-F13 Tibetan mark caret -dzud rtags me long can
-F14 Tibetan mark gter tsheg
-F15 Tibetan logotype sign chad rtags
-F16 Tibetan logotype sign lhag rtags
-F17 Tibetan astrological sign sgra gcan -char rtags
-F18 Tibetan astrological sign -khyud Pa
-F19 Tibetan astrological sign sdong tshugs
-F1A Tibetan sign rdel dkar gcig
-F1B Tibetan sign rdel dkar gnyis
-F1C Tibetan sign rdel dkar gsum
-F1D Tibetan sign rdel Nag gcig
-F1E Tibetan sign rdel Nag gnyis
-F1F Tibetan sign rdel dkar rdel Nag
-F20 Tibetan digit zero
-F21 Tibetan digit one
-F22 Tibetan digit two
-F23 Tibetan digit three
-F24 Tibetan digit four
-F25 Tibetan digit five
-F26 Tibetan digit six
-F27 Tibetan digit seven
-F28 Tibetan digit eight
-F29 Tibetan digit nine
-F2A Tibetan digit half one
-F2B Tibetan digit half two
-F2C Tibetan digit half three
-F2D Tibetan digit half four
-F2E Tibetan digit half five
-F2F Tibetan digit half six
-F30 Tibetan digit half seven
-F31 Tibetan digit half eight
-F32 Tibetan digit half nine
-F33 Tibetan digit half zero
-F34 Tibetan mark bsdus rtags
-F35 Tibetan mark ngas bzung nyi zla
-F36 Tibetan mark caret -dzud rtags bzhi mig can
-F37 Tibetan mark ngas bzung sgor rtags
-F38 Tibetan mark che mgo
-F39 Tibetan mark tsa -phru
-F3A Tibetan mark gug rtags gyon
-F3B Tibetan mark gug rtags gyas
-F3C Tibetan mark ang khang gyon
-F3D Tibetan mark ang khang gyas
-F3E Tibetan sign yar tshes
-F3F Tibetan sign mar tshes
-F71 Tibetan vowel sign AA
-F72 Tibetan vowel sign i
-F73 Tibetan vowel sign ii
-F74 Tibetan vowel sign u
-F75 Tibetan vowel sign uu
-F76 Tibetan vowel sign vocalic r
-F77 Tibetan vowel sign vocalic rr
-F78 Tibetan vowel sign vocalic l
-F79 Tibetan vowel sign vocalic ll
-F7A Tibetan vowel sign e
-F7B Tibetan vowel sign ee
-F7C Tibetan vowel sign o
-F7D Tibetan vowel sign oo
-F7E Tibetan sign rjes su nga ro
-F7F Tibetan sign rnam bcad
-F80 Tibetan vowel sign reversed i
-F81 Tibetan vowel sign reversed ii
-F82 Tibetan sign nyi zla naa da
-F83 Tibetan sign sna ldan
-F84 Tibetan mark halanta
-F85 Tibetan mark paluta
-F86 Tibetan sign lci rtags
-F87 Tibetan sign yang rtags
-F8D Tibetan subjoined sign lce tsa can
-F8E Tibetan subjoined sign mchu can
-F8F Tibetan subjoined sign inverted mchu can
-F90 Tibetan subjoined letter ka
-F91 Tibetan subjoined letter kha
-F92 Tibetan subjoined letter ga
-F93 Tibetan subjoined letter gha
-F94 Tibetan subjoined letter nga
-F95 Tibetan subjoined letter ca
-F96 Tibetan subjoined letter cha
-F97 Tibetan subjoined letter ja
-F99 Tibetan subjoined letter nya
-F9A Tibetan subjoined letter tta
-F9B Tibetan subjoined letter ttha
-F9C Tibetan subjoined letter dda
-F9D Tibetan subjoined letter ddha
-F9E Tibetan subjoined letter nna
-F9F Tibetan subjoined letter ta
-FA0 Tibetan subjoined letter tha
-FA1 Tibetan subjoined letter da
-FA2 Tibetan subjoined letter dha
-FA3 Tibetan subjoined letter na
-FA4 Tibetan subjoined letter Pa
-FA5 Tibetan subjoined letter pha
-FA6 Tibetan subjoined letter ba
-FA7 Tibetan subjoined letter bha
-FA8 Tibetan subjoined letter ma
-FA9 Tibetan subjoined letter tsa
-FAA Tibetan subjoined letter tsha
-FAB Tibetan subjoined letter dza
-FAC Tibetan subjoined letter dzha
-FAD Tibetan subjoined letter wa
-FAE Tibetan subjoined letter zha
-FAF Tibetan subjoined letter za
-FB0 Tibetan subjoined letter -a
-FB1 Tibetan subjoined letter ya
-FB2 Tibetan subjoined letter ra
-FB3 Tibetan subjoined letter la
-FB4 Tibetan subjoined letter sha
-FB5 Tibetan subjoined letter ssa
-FB6 Tibetan subjoined letter sa
-FB7 Tibetan subjoined letter ha
-FB8 Tibetan subjoined letter a
-FB9 Tibetan subjoined letter kssa
-FBA Tibetan subjoined letter fixed-form wa
-FBB Tibetan subjoined letter fixed-form ya
-FBC Tibetan subjoined letter fixed-form ra
-FBE Tibetan ku ru kha
-FBF Tibetan ku ru kha bzhi mig can
-FC0 Tibetan cantillation sign heavy beat
-FC1 Tibetan cantillation sign light beat
-FC2 Tibetan cantillation sign cang te-u
-FC3 Tibetan cantillation sign sbub -chal
-FC4 Tibetan symbol dril bu
-FC5 Tibetan symbol rdo rje
-FC6 Tibetan symbol padma gdan
-FC7 Tibetan symbol rdo rje rgya gram
-FC8 Tibetan symbol phur Pa
-FC9 Tibetan symbol nor bu
-FCA Tibetan symbol nor bu nyis -khyil
-FCB Tibetan symbol nor bu gsum -khyil
-FCC Tibetan symbol nor bu bzhi -khyil
-FCE Tibetan sign rdel Nag rdel dkar
-FCF Tibetan sign rdel Nag gsum
-FD0 Tibetan mark bka- shog gi mgo rgyan
-FD1 Tibetan mark mnyam yig gi mgo rgyan
-FD2 Tibetan mark nyis tsheg
-FD3 Tibetan mark initial brda rnying yig mgo mdun ma
-FD4 Tibetan mark closing brda rnying yig mgo sgab ma
-FD5 right-facing svasti sign
-FD6 left-facing svasti sign
-FD7 right-facing svasti sign with dots
-FD8 left-facing svasti sign with dots
-FD9 Tibetan mark leading mchan rtags
-FDA Tibetan mark trailing mchan rtags
+0000 null character
+0001 start of heading
+0002 start of text
+0003 end of text
+0004 end of transmission
+0005 enquiry
+0006 acknowledge
+0007 bell character
+0008 backspace character
+0009 character tabulation
+000A line feed
+000B line tabulation
+000C form feed
+000D carriage return
+000E shift out
+000F shift in
+0010 data link escape
+0011 device control one
+0012 device control two
+0013 device control three
+0014 device control four
+0015 negative acknowledge
+0016 synchronous idle
+0017 end of transmission block
+0018 cancel
+0019 end of medium
+001A substitute character
+001B escape character
+001C information separator four
+001D information separator three
+001E information separator two
+001F information separator one
+0020 space
+0021 exclamation mark
+0022 quotation mark
+0023 number sign
+0024 dollar sign
+0025 percent sign
+0026 ampersand
+0027 apostrophe
+0028 left parenthesis
+0029 right parenthesis
+002A asterisk
+002B plus sign
+002C comma
+002D hyphen-minus
+002E full stop
+002F slash
+0030 digit zero
+0031 digit one
+0032 digit two
+0033 digit three
+0034 digit four
+0035 digit five
+0036 digit six
+0037 digit seven
+0038 digit eight
+0039 digit nine
+003A colon
+003B semicolon
+003C less-than sign
+003D equals sign
+003E greater-than sign
+003F question mark
+0040 at sign
+005B left square bracket
+005C backslash
+005D right square bracket
+005E circumflex accent
+005F low line
+0060 grave accent
+007B left curly bracket
+007C vertical bar
+007D right curly bracket
+007E tilde
+007F delete character
+0080 padding character
+0081 high octet preset
+0082 break permitted here
+0083 no break here
+0084 index
+0085 next line character
+0086 start of selected area
+0087 end of selected area
+0088 character tabulation set
+0089 character tabulation with justification
+008A line tabulation set
+008B partial line forward
+008C partial line backward
+008D reverse line feed
+008E single shift two
+008F single shift three
+0090 device control string
+0091 private use one
+0092 private use two
+0093 set transmit state
+0094 cancel character
+0095 message waiting
+0096 start of guarded area
+0097 end of guarded area
+0098 start of string
+0099 single graphic character introducer
+009A single character introducer
+009B control sequence introducer
+009C string terminator
+009D operating system command
+009E privacy message
+009F application program command
+00A0 no-break space
+00A1 inverted exclamation mark
+00A2 cent sign
+00A3 pound sign
+00A4 currency sign
+00A5 yen sign
+00A6 broken bar
+00A7 section sign
+00A8 diaeresis
+00A9 copyright sign
+00AB left-pointing double angle quotation mark
+00AC not sign
+00AD soft hyphen
+00AE registered sign
+00AF macron
+00B0 degree sign
+00B1 plus-minus sign
+00B2 superscript two
+00B3 superscript three
+00B4 acute accent
+00B6 pilcrow sign
+00B7 middle dot
+00B8 cedilla
+00B9 superscript one
+00BB right-pointing double angle quotation mark
+00BC vulgar fraction one quarter
+00BD vulgar fraction one half
+00BE vulgar fraction three quarters
+00BF inverted question mark
+00D7 multiplication sign
+00F7 division sign
+02C2 modifier letter left arrowhead
+02C3 modifier letter right arrowhead
+02C4 modifier letter up arrowhead
+02C5 modifier letter down arrowhead
+02D2 modifier letter centred right half ring
+02D3 modifier letter centred left half ring
+02D4 modifier letter up tack
+02D5 modifier letter down tack
+02D6 modifier letter plus sign
+02D7 modifier letter minus sign
+02D8 breve
+02D9 dot above
+02DA ring above
+02DB ogonek
+02DC small tilde
+02DD double acute accent
+02DE modifier letter rhotic hook
+02DF modifier letter cross accent
+02E5 modifier letter extra-high tone bar
+02E6 modifier letter high tone bar
+02E7 modifier letter mid tone bar
+02E8 modifier letter low tone bar
+02E9 modifier letter extra-low tone bar
+02EA modifier letter yin departing tone mark
+02EB modifier letter yang departing tone mark
+02ED modifier letter unaspirated
+02EF modifier letter low down arrowhead
+02F0 modifier letter low up arrowhead
+02F1 modifier letter low left arrowhead
+02F2 modifier letter low right arrowhead
+02F3 modifier letter low ring
+02F4 modifier letter middle grave accent
+02F5 modifier letter middle double grave accent
+02F6 modifier letter middle double acute accent
+02F7 modifier letter low tilde
+02F8 modifier letter raised colon
+02F9 modifier letter begin high tone
+02FA modifier letter end high tone
+02FB modifier letter begin low tone
+02FC modifier letter end low tone
+02FD modifier letter shelf
+02FE modifier letter open shelf
+02FF modifier letter low left arrow
+0300 combining grave accent
+0301 combining acute accent
+0302 combining circumflex accent
+0303 combining tilde
+0304 combining macron
+0305 combining overline
+0306 combining breve
+0307 combining dot above
+0308 combining diaeresis
+0309 combining hook above
+030A combining ring above
+030B combining double acute accent
+030C combining caron
+030D combining vertical line above
+030E combining double vertical line above
+030F combining double grave accent
+0310 combining candrabindu
+0311 combining inverted breve
+0312 combining turned comma above
+0313 combining comma above
+0314 combining reversed comma above
+0315 combining comma above right
+0316 combining grave accent below
+0317 combining acute accent below
+0318 combining left tack below
+0319 combining right tack below
+031A combining left angle above
+031B combining horn
+031C combining left half ring below
+031D combining up tack below
+031E combining down tack below
+031F combining plus sign below
+0320 combining minus sign below
+0321 combining palatalized hook below
+0322 combining retroflex hook below
+0323 combining dot below
+0324 combining diaeresis below
+0325 combining ring below
+0326 combining comma below
+0327 combining cedilla
+0328 combining ogonek
+0329 combining vertical line below
+032A combining bridge below
+032B combining inverted double arch below
+032C combining caron below
+032D combining circumflex accent below
+032E combining breve below
+032F combining inverted breve below
+0330 combining tilde below
+0331 combining macron below
+0332 combining low line
+0333 combining double low line
+0334 combining tilde overlay
+0335 combining short stroke overlay
+0336 combining long stroke overlay
+0337 combining short solidus overlay
+0338 combining long solidus overlay
+0339 combining right half ring below
+033A combining inverted bridge below
+033B combining square below
+033C combining seagull below
+033D combining x above
+033E combining vertical tilde
+033F combining double overline
+0340 combining grave tone mark
+0341 combining acute tone mark
+0342 combining Greek perispomeni
+0343 combining Greek koronis
+0344 combining Greek dialytika tonos
+0345 combining Greek ypogegrammeni
+0346 combining bridge above
+0347 combining equals sign below
+0348 combining double vertical line below
+0349 combining left angle below
+034A combining not tilde above
+034B combining homothetic above
+034C combining almost equal to above
+034D combining left right arrow below
+034E combining upwards arrow below
+034F combining grapheme joiner
+0350 combining right arrowhead above
+0351 combining left half ring above
+0352 combining fermata
+0353 combining x below
+0354 combining left arrowhead below
+0355 combining right arrowhead below
+0356 combining right arrowhead and up arrowhead below
+0357 combining right half ring above
+0358 combining dot above right
+0359 combining asterisk below
+035A combining double ring below
+035B combining zigzag above
+035C combining double breve below
+035D combining double breve
+035E combining double macron
+035F combining double macron below
+0360 combining double tilde
+0361 combining double inverted breve
+0362 combining double rightwards arrow below
+0363 combining Latin small letter a
+0364 combining Latin small letter e
+0365 combining Latin small letter i
+0366 combining Latin small letter o
+0367 combining Latin small letter u
+0368 combining Latin small letter c
+0369 combining Latin small letter d
+036A combining Latin small letter h
+036B combining Latin small letter m
+036C combining Latin small letter r
+036D combining Latin small letter t
+036E combining Latin small letter v
+036F combining Latin small letter x
+0375 Greek lower numeral sign
+037A Greek ypogegrammeni
+037E Greek question mark
+0384 Greek tonos
+0385 Greek dialytika tonos
+0387 Greek ano teleia
+03F6 Greek reversed lunate epsilon symbol
+0482 Cyrillic thousands sign
+0483 combining Cyrillic titlo
+0484 combining Cyrillic palatalization
+0485 combining Cyrillic dasia pneumata
+0486 combining Cyrillic psili pneumata
+0487 combining Cyrillic pokrytie
+0488 combining Cyrillic hundred thousands sign
+0489 combining Cyrillic millions sign
+055A Armenian apostrophe
+055B Armenian emphasis mark
+055C Armenian exclamation mark
+055D Armenian comma
+055E Armenian question mark
+055F Armenian abbreviation mark
+0589 Armenian full stop
+058A Armenian hyphen
+058D right-facing Armenian eternity sign
+058E left-facing Armenian eternity sign
+058F Armenian dram sign
+0591 Hebrew accent etnahta
+0592 Hebrew accent segol
+0593 Hebrew accent shalshelet
+0594 Hebrew accent zaqef qatan
+0595 Hebrew accent zaqef gadol
+0596 Hebrew accent tipeha
+0597 Hebrew accent revia
+0598 Hebrew accent zarqa
+0599 Hebrew accent pashta
+059A Hebrew accent yetiv
+059B Hebrew accent tevir
+059C Hebrew accent geresh
+059D Hebrew accent geresh muqdam
+059E Hebrew accent gershayim
+059F Hebrew accent qarney para
+05A0 Hebrew accent telisha gedola
+05A1 Hebrew accent pazer
+05A2 Hebrew accent atnah hafukh
+05A3 Hebrew accent munah
+05A4 Hebrew accent mahapakh
+05A5 Hebrew accent merkha
+05A6 Hebrew accent merkha kefula
+05A7 Hebrew accent darga
+05A8 Hebrew accent qadma
+05A9 Hebrew accent telisha qetana
+05AA Hebrew accent yerah ben yomo
+05AB Hebrew accent ole
+05AC Hebrew accent iluy
+05AD Hebrew accent dehi
+05AE Hebrew accent zinor
+05AF Hebrew mark masora circle
+05B0 Hebrew point sheva
+05B1 Hebrew point hataf segol
+05B2 Hebrew point hataf patah
+05B3 Hebrew point hataf qamats
+05B4 Hebrew point hiriq
+05B5 Hebrew point tsere
+05B6 Hebrew point segol
+05B7 Hebrew point patah
+05B8 Hebrew point qamats
+05B9 Hebrew point holam
+05BA Hebrew point holam haser for vav
+05BB Hebrew point qubuts
+05BC Hebrew point dagesh or mapiq
+05BD Hebrew point meteg
+05BE Hebrew punctuation maqaf
+05BF Hebrew point rafe
+05C0 Hebrew punctuation paseq
+05C1 Hebrew point shin dot
+05C2 Hebrew point sin dot
+05C3 Hebrew punctuation sof pasuq
+05C4 Hebrew mark upper dot
+05C5 Hebrew mark lower dot
+05C6 Hebrew punctuation nun hafukha
+05C7 Hebrew point qamats qatan
+05C8 Hebrew point sheva na mudgash
+05C9 Hebrew point dagesh hazaq mudgash
+05F3 Hebrew punctuation geresh
+05F4 Hebrew punctuation gershayim
+0600 Arabic number sign
+0601 Arabic sign sanah
+0602 Arabic footnote marker
+0603 Arabic sign safha
+0604 Arabic sign samvat
+0605 Arabic number mark above
+0606 Arabic-Indic cube root
+0607 Arabic-Indic fourth root
+0608 Arabic ray
+0609 Arabic-Indic per mille sign
+060A Arabic-Indic per ten thousand sign
+060B afghani sign
+060C Arabic comma
+060D Arabic date separator
+060E Arabic poetic verse sign
+060F Arabic sign misra
+0610 Arabic sign sallallahou alayhe wassallam
+0611 Arabic sign alayhe assallam
+0612 Arabic sign rahmatullah alayhe
+0613 Arabic sign radi allahou anhu
+0614 Arabic sign takhallus
+0615 Arabic small high tah
+0616 Arabic small high ligature alef with yeh barree
+0617 Arabic small high zain
+0618 Arabic small fatha
+0619 Arabic small damma
+061A Arabic small kasra
+061B Arabic semicolon
+061C Arabic letter mark
+061D Arabic end of text mark
+061E Arabic triple dot punctuation mark
+061F Arabic question mark
+064B Arabic fathatan
+064C Arabic dammatan
+064D Arabic kasratan
+064E Arabic fatha
+064F Arabic damma
+0650 Arabic kasra
+0651 Arabic shadda
+0652 Arabic sukun
+0653 Arabic maddah above
+0654 Arabic hamza above
+0655 Arabic hamza below
+0656 Arabic subscript alef
+0657 Arabic inverted damma
+0658 Arabic mark noon ghunna
+0659 Arabic zwarakay
+065A Arabic vowel sign small v above
+065B Arabic vowel sign inverted small v above
+065C Arabic vowel sign dot below
+065D Arabic reversed damma
+065E Arabic fatha with two dots
+065F Arabic wavy hamza below
+0660 Arabic-Indic digit zero
+0661 Arabic-Indic digit one
+0662 Arabic-Indic digit two
+0663 Arabic-Indic digit three
+0664 Arabic-Indic digit four
+0665 Arabic-Indic digit five
+0666 Arabic-Indic digit six
+0667 Arabic-Indic digit seven
+0668 Arabic-Indic digit eight
+0669 Arabic-Indic digit nine
+066A Arabic percent sign
+066B Arabic decimal separator
+066C Arabic thousands separator
+066D Arabic five pointed star
+0670 Arabic letter superscript alef
+06D4 Arabic full stop
+06D6 Arabic small high ligature sad with lam with alef maksura
+06D7 Arabic small high ligature qaf with lam with alef maksura
+06D8 Arabic small high meem initial form
+06D9 Arabic small high lam alef
+06DA Arabic small high jeem
+06DB Arabic small high three dots
+06DC Arabic small high seen
+06DD Arabic end of ayah
+06DE Arabic start of rub el hizb
+06DF Arabic small high rounded zero
+06E0 Arabic small high upright rectangular zero
+06E1 Arabic small high dotless head of khah
+06E2 Arabic small high meem isolated form
+06E3 Arabic small low seen
+06E4 Arabic small high madda
+06E7 Arabic small high yeh
+06E8 Arabic small high noon
+06E9 Arabic place of sajdah
+06EA Arabic empty centre low stop
+06EB Arabic empty centre high stop
+06EC Arabic rounded high stop with filled centre
+06ED Arabic small low meem
+06F0 extended Arabic-Indic digit zero
+06F1 extended Arabic-Indic digit one
+06F2 extended Arabic-Indic digit two
+06F3 extended Arabic-Indic digit three
+06F4 extended Arabic-Indic digit four
+06F5 extended Arabic-Indic digit five
+06F6 extended Arabic-Indic digit six
+06F7 extended Arabic-Indic digit seven
+06F8 extended Arabic-Indic digit eight
+06F9 extended Arabic-Indic digit nine
+06FD Arabic sign sindhi ampersand
+06FE Arabic sign sindhi postposition men
+0700 Syriac end of paragraph
+0701 Syriac supralinear full stop
+0702 Syriac sublinear full stop
+0703 Syriac supralinear colon
+0704 Syriac sublinear colon
+0705 Syriac horizontal colon
+0706 Syriac colon skewed left
+0707 Syriac colon skewed right
+0708 Syriac supralinear colon skewed left
+0709 Syriac sublinear colon skewed left
+070A Syriac contraction
+070B Syriac harklean obelus
+070C Syriac harklean metobelus
+070D Syriac harklean asteriscus
+070F Syriac abbreviation mark
+0711 Syriac letter superscript alaph
+0730 Syriac pthaha above
+0731 Syriac pthaha below
+0732 Syriac pthaha dotted
+0733 Syriac zqapha above
+0734 Syriac zqapha below
+0735 Syriac zqapha dotted
+0736 Syriac rbasa above
+0737 Syriac rbasa below
+0738 Syriac dotted zlama horizontal
+0739 Syriac dotted zlama angular
+073A Syriac hbasa above
+073B Syriac hbasa below
+073C Syriac hbasa-esasa dotted
+073D Syriac esasa above
+073E Syriac esasa below
+073F Syriac rwaha
+0740 Syriac feminine dot
+0741 Syriac qushshaya
+0742 Syriac rukkakha
+0743 Syriac two vertical dots above
+0744 Syriac two vertical dots below
+0745 Syriac three dots above
+0746 Syriac three dots below
+0747 Syriac oblique line above
+0748 Syriac oblique line below
+0749 Syriac music
+074A Syriac barrekh
+07A6 Thaana abafili
+07A7 Thaana aabaafili
+07A8 Thaana ibifili
+07A9 Thaana eebeefili
+07AA Thaana ubufili
+07AB Thaana ooboofili
+07AC Thaana ebefili
+07AD Thaana eybeyfili
+07AE Thaana obofili
+07AF Thaana oaboafili
+07B0 Thaana sukun
+07C0 Nko digit zero
+07C1 Nko digit one
+07C2 Nko digit two
+07C3 Nko digit three
+07C4 Nko digit four
+07C5 Nko digit five
+07C6 Nko digit six
+07C7 Nko digit seven
+07C8 Nko digit eight
+07C9 Nko digit nine
+07EB Nko combining short high tone
+07EC Nko combining short low tone
+07ED Nko combining short rising tone
+07EE Nko combining long descending tone
+07EF Nko combining long high tone
+07F0 Nko combining long low tone
+07F1 Nko combining long rising tone
+07F2 Nko combining nasalization mark
+07F3 Nko combining double dot above
+07F6 Nko symbol oo dennen
+07F7 Nko symbol gbakurunen
+07F8 Nko comma
+07F9 Nko exclamation mark
+07FD Nko dantayalan
+07FE Nko dorome sign
+07FF Nko taman sign
+0816 Samaritan mark in
+0817 Samaritan mark in-alaf
+0818 Samaritan mark occlusion
+0819 Samaritan mark dagesh
+081B Samaritan mark epenthetic yut
+081C Samaritan vowel sign long e
+081D Samaritan vowel sign e
+081E Samaritan vowel sign overlong AA
+081F Samaritan vowel sign long AA
+0820 Samaritan vowel sign AA
+0821 Samaritan vowel sign overlong a
+0822 Samaritan vowel sign long a
+0823 Samaritan vowel sign a
+0825 Samaritan vowel sign short a
+0826 Samaritan vowel sign long u
+0827 Samaritan vowel sign u
+0829 Samaritan vowel sign long i
+082A Samaritan vowel sign i
+082B Samaritan vowel sign o
+082C Samaritan vowel sign sukun
+082D Samaritan mark nequdaa
+0830 Samaritan punctuation nequdaa
+0831 Samaritan punctuation afsaaq
+0832 Samaritan punctuation anged
+0833 Samaritan punctuation bau
+0834 Samaritan punctuation atmaau
+0835 Samaritan punctuation shiyyaalaa
+0836 Samaritan abbreviation mark
+0837 Samaritan punctuation melodic qitsa
+0838 Samaritan punctuation ziqaa
+0839 Samaritan punctuation qitsa
+083A Samaritan punctuation zaef
+083B Samaritan punctuation turu
+083C Samaritan punctuation arkaanu
+083D Samaritan punctuation sof mashfaat
+083E Samaritan punctuation annaau
+0859 Mandaic affrication mark
+085A Mandaic vocalization mark
+085B Mandaic gemination mark
+085E Mandaic punctuation
+0888 Arabic raised round dot
+0890 Arabic pound mark above
+0891 Arabic piastre mark above
+0897 Arabic pepet
+0898 Arabic small high word al-juz
+0899 Arabic small low word ishmaam
+089A Arabic small low word imaala
+089B Arabic small low word tasheel
+089C Arabic madda waajib
+089D Arabic superscript alef mokhassas
+089E Arabic doubled madda
+089F Arabic half madda over madda
+08CA Arabic small high farsi yeh
+08CB Arabic small high yeh barree with two dots below
+08CC Arabic small high word sah
+08CD Arabic small high zah
+08CE Arabic large round dot above
+08CF Arabic large round dot below
+08D0 Arabic sukun below
+08D1 Arabic large circle below
+08D2 Arabic large round dot inside circle below
+08D3 Arabic small low waw
+08D4 Arabic small high word ar-rub
+08D5 Arabic small high sad
+08D6 Arabic small high ain
+08D7 Arabic small high qaf
+08D8 Arabic small high noon with kasra
+08D9 Arabic small low noon with kasra
+08DA Arabic small high word ath-thalatha
+08DB Arabic small high word as-sajda
+08DC Arabic small high word an-nisf
+08DD Arabic small high word sakta
+08DE Arabic small high word qif
+08DF Arabic small high word waqfa
+08E0 Arabic small high footnote marker
+08E1 Arabic small high sign safha
+08E2 Arabic disputed end of ayah
+08E3 Arabic turned damma below
+08E4 Arabic curly fatha
+08E5 Arabic curly damma
+08E6 Arabic curly kasra
+08E7 Arabic curly fathatan
+08E8 Arabic curly dammatan
+08E9 Arabic curly kasratan
+08EA Arabic tone one dot above
+08EB Arabic tone two dots above
+08EC Arabic tone loop above
+08ED Arabic tone one dot below
+08EE Arabic tone two dots below
+08EF Arabic tone loop below
+08F0 Arabic open fathatan
+08F1 Arabic open dammatan
+08F2 Arabic open kasratan
+08F3 Arabic small high waw
+08F4 Arabic fatha with ring
+08F5 Arabic fatha with dot above
+08F6 Arabic kasra with dot below
+08F7 Arabic left arrowhead above
+08F8 Arabic right arrowhead above
+08F9 Arabic left arrowhead below
+08FA Arabic right arrowhead below
+08FB Arabic double right arrowhead above
+08FC Arabic double right arrowhead above with dot
+08FD Arabic right arrowhead above with dot
+08FE Arabic damma with dot
+08FF Arabic mark sideways noon ghunna
+0900 Devanagari sign inverted candrabindu
+0901 Devanagari sign candrabindu
+0902 Devanagari sign anusvara
+0903 Devanagari sign visarga
+093A Devanagari vowel sign oe
+093B Devanagari vowel sign ooe
+093C Devanagari sign nukta
+093E Devanagari vowel sign AA
+093F Devanagari vowel sign i
+0940 Devanagari vowel sign ii
+0941 Devanagari vowel sign u
+0942 Devanagari vowel sign uu
+0943 Devanagari vowel sign vocalic r
+0944 Devanagari vowel sign vocalic rr
+0945 Devanagari vowel sign candra e
+0946 Devanagari vowel sign short e
+0947 Devanagari vowel sign e
+0948 Devanagari vowel sign ai
+0949 Devanagari vowel sign candra o
+094A Devanagari vowel sign short o
+094B Devanagari vowel sign o
+094C Devanagari vowel sign au
+094D Devanagari sign virama
+094E Devanagari vowel sign prishthamatra e
+094F Devanagari vowel sign aw
+0951 Devanagari stress sign udatta
+0952 Devanagari stress sign anudatta
+0953 Devanagari grave accent
+0954 Devanagari acute accent
+0955 Devanagari vowel sign candra long e
+0956 Devanagari vowel sign ue
+0957 Devanagari vowel sign uue
+0962 Devanagari vowel sign vocalic l
+0963 Devanagari vowel sign vocalic ll
+0964 Devanagari danda
+0965 Devanagari double danda
+0966 Devanagari digit zero
+0967 Devanagari digit one
+0968 Devanagari digit two
+0969 Devanagari digit three
+096A Devanagari digit four
+096B Devanagari digit five
+096C Devanagari digit six
+096D Devanagari digit seven
+096E Devanagari digit eight
+096F Devanagari digit nine
+0970 Devanagari abbreviation sign
+0981 Bengali sign candrabindu
+0982 Bengali sign anusvara
+0983 Bengali sign visarga
+09BC Bengali sign nukta
+09BE Bengali vowel sign AA
+09BF Bengali vowel sign i
+09C0 Bengali vowel sign ii
+09C1 Bengali vowel sign u
+09C2 Bengali vowel sign uu
+09C3 Bengali vowel sign vocalic r
+09C4 Bengali vowel sign vocalic rr
+09C7 Bengali vowel sign e
+09C8 Bengali vowel sign ai
+09CB Bengali vowel sign o
+09CC Bengali vowel sign au
+09CD Bengali sign virama
+09D7 Bengali au length mark
+09E2 Bengali vowel sign vocalic l
+09E3 Bengali vowel sign vocalic ll
+09E6 Bengali digit zero
+09E7 Bengali digit one
+09E8 Bengali digit two
+09E9 Bengali digit three
+09EA Bengali digit four
+09EB Bengali digit five
+09EC Bengali digit six
+09ED Bengali digit seven
+09EE Bengali digit eight
+09EF Bengali digit nine
+09F2 Bengali rupee mark
+09F3 Bengali rupee sign
+09F4 Bengali currency numerator one
+09F5 Bengali currency numerator two
+09F6 Bengali currency numerator three
+09F7 Bengali currency numerator four
+09F8 Bengali currency numerator one less than the denominator
+09F9 Bengali currency denominator sixteen
+09FA Bengali isshar
+09FB Bengali ganda mark
+09FD Bengali abbreviation sign
+09FE Bengali sandhi mark
+0A01 Gurmukhi sign adak bindi
+0A02 Gurmukhi sign bindi
+0A03 Gurmukhi sign visarga
+0A3C Gurmukhi sign nukta
+0A3E Gurmukhi vowel sign AA
+0A3F Gurmukhi vowel sign i
+0A40 Gurmukhi vowel sign ii
+0A41 Gurmukhi vowel sign u
+0A42 Gurmukhi vowel sign uu
+0A47 Gurmukhi vowel sign ee
+0A48 Gurmukhi vowel sign ai
+0A4B Gurmukhi vowel sign oo
+0A4C Gurmukhi vowel sign au
+0A4D Gurmukhi sign virama
+0A51 Gurmukhi sign udaat
+0A66 Gurmukhi digit zero
+0A67 Gurmukhi digit one
+0A68 Gurmukhi digit two
+0A69 Gurmukhi digit three
+0A6A Gurmukhi digit four
+0A6B Gurmukhi digit five
+0A6C Gurmukhi digit six
+0A6D Gurmukhi digit seven
+0A6E Gurmukhi digit eight
+0A6F Gurmukhi digit nine
+0A70 Gurmukhi tippi
+0A71 Gurmukhi addak
+0A75 Gurmukhi sign yakash
+0A76 Gurmukhi abbreviation sign
+0A81 Gujarati sign candrabindu
+0A82 Gujarati sign anusvara
+0A83 Gujarati sign visarga
+0ABC Gujarati sign nukta
+0ABE Gujarati vowel sign AA
+0ABF Gujarati vowel sign i
+0AC0 Gujarati vowel sign ii
+0AC1 Gujarati vowel sign u
+0AC2 Gujarati vowel sign uu
+0AC3 Gujarati vowel sign vocalic r
+0AC4 Gujarati vowel sign vocalic rr
+0AC5 Gujarati vowel sign candra e
+0AC7 Gujarati vowel sign e
+0AC8 Gujarati vowel sign ai
+0AC9 Gujarati vowel sign candra o
+0ACB Gujarati vowel sign o
+0ACC Gujarati vowel sign au
+0ACD Gujarati sign virama
+0AE2 Gujarati vowel sign vocalic l
+0AE3 Gujarati vowel sign vocalic ll
+0AE6 Gujarati digit zero
+0AE7 Gujarati digit one
+0AE8 Gujarati digit two
+0AE9 Gujarati digit three
+0AEA Gujarati digit four
+0AEB Gujarati digit five
+0AEC Gujarati digit six
+0AED Gujarati digit seven
+0AEE Gujarati digit eight
+0AEF Gujarati digit nine
+0AF0 Gujarati abbreviation sign
+0AF1 Gujarati rupee sign
+0AFA Gujarati sign sukun
+0AFB Gujarati sign shadda
+0AFC Gujarati sign maddah
+0AFD Gujarati sign three-dot nukta above
+0AFE Gujarati sign circle nukta above
+0AFF Gujarati sign two-circle nukta above
+0B01 Oriya sign candrabindu
+0B02 Oriya sign anusvara
+0B03 Oriya sign visarga
+0B3C Oriya sign nukta
+0B3E Oriya vowel sign AA
+0B3F Oriya vowel sign i
+0B40 Oriya vowel sign ii
+0B41 Oriya vowel sign u
+0B42 Oriya vowel sign uu
+0B43 Oriya vowel sign vocalic r
+0B44 Oriya vowel sign vocalic rr
+0B47 Oriya vowel sign e
+0B48 Oriya vowel sign ai
+0B4B Oriya vowel sign o
+0B4C Oriya vowel sign au
+0B4D Oriya sign virama
+0B53 Oriya sign dot above
+0B54 Oriya sign double dot above
+0B55 Oriya sign overline
+0B56 Oriya ai length mark
+0B57 Oriya au length mark
+0B62 Oriya vowel sign vocalic l
+0B63 Oriya vowel sign vocalic ll
+0B66 Oriya digit zero
+0B67 Oriya digit one
+0B68 Oriya digit two
+0B69 Oriya digit three
+0B6A Oriya digit four
+0B6B Oriya digit five
+0B6C Oriya digit six
+0B6D Oriya digit seven
+0B6E Oriya digit eight
+0B6F Oriya digit nine
+0B70 Oriya isshar
+0B72 Oriya fraction one quarter
+0B73 Oriya fraction one half
+0B74 Oriya fraction three quarters
+0B75 Oriya fraction one sixteenth
+0B76 Oriya fraction one eighth
+0B77 Oriya fraction three sixteenths
+0B82 Tamil sign anusvara
+0BBE Tamil vowel sign AA
+0BBF Tamil vowel sign i
+0BC0 Tamil vowel sign ii
+0BC1 Tamil vowel sign u
+0BC2 Tamil vowel sign uu
+0BC6 Tamil vowel sign e
+0BC7 Tamil vowel sign ee
+0BC8 Tamil vowel sign ai
+0BCA Tamil vowel sign o
+0BCB Tamil vowel sign oo
+0BCC Tamil vowel sign au
+0BCD Tamil sign virama
+0BD7 Tamil au length mark
+0BE6 Tamil digit zero
+0BE7 Tamil digit one
+0BE8 Tamil digit two
+0BE9 Tamil digit three
+0BEA Tamil digit four
+0BEB Tamil digit five
+0BEC Tamil digit six
+0BED Tamil digit seven
+0BEE Tamil digit eight
+0BEF Tamil digit nine
+0BF0 Tamil number ten
+0BF1 Tamil number one hundred
+0BF2 Tamil number one thousand
+0BF3 Tamil day sign
+0BF4 Tamil month sign
+0BF5 Tamil year sign
+0BF6 Tamil debit sign
+0BF7 Tamil credit sign
+0BF8 Tamil as above sign
+0BF9 Tamil rupee sign
+0BFA Tamil number sign
+0C00 Telugu sign combining candrabindu above
+0C01 Telugu sign candrabindu
+0C02 Telugu sign anusvara
+0C03 Telugu sign visarga
+0C04 Telugu sign combining anusvara above
+0C3C Telugu sign nukta
+0C3E Telugu vowel sign AA
+0C3F Telugu vowel sign i
+0C40 Telugu vowel sign ii
+0C41 Telugu vowel sign u
+0C42 Telugu vowel sign uu
+0C43 Telugu vowel sign vocalic r
+0C44 Telugu vowel sign vocalic rr
+0C46 Telugu vowel sign e
+0C47 Telugu vowel sign ee
+0C48 Telugu vowel sign ai
+0C4A Telugu vowel sign o
+0C4B Telugu vowel sign oo
+0C4C Telugu vowel sign au
+0C4D Telugu sign virama
+0C55 Telugu length mark
+0C56 Telugu ai length mark
+0C62 Telugu vowel sign vocalic l
+0C63 Telugu vowel sign vocalic ll
+0C66 Telugu digit zero
+0C67 Telugu digit one
+0C68 Telugu digit two
+0C69 Telugu digit three
+0C6A Telugu digit four
+0C6B Telugu digit five
+0C6C Telugu digit six
+0C6D Telugu digit seven
+0C6E Telugu digit eight
+0C6F Telugu digit nine
+0C77 Telugu sign Siddham
+0C78 Telugu fraction digit zero for odd powers of four
+0C79 Telugu fraction digit one for odd powers of four
+0C7A Telugu fraction digit two for odd powers of four
+0C7B Telugu fraction digit three for odd powers of four
+0C7C Telugu fraction digit one for even powers of four
+0C7D Telugu fraction digit two for even powers of four
+0C7E Telugu fraction digit three for even powers of four
+0C7F Telugu sign tuumu
+0C81 Kannada sign candrabindu
+0C82 Kannada sign anusvara
+0C83 Kannada sign visarga
+0C84 Kannada sign Siddham
+0CBC Kannada sign nukta
+0CBE Kannada vowel sign AA
+0CBF Kannada vowel sign i
+0CC0 Kannada vowel sign ii
+0CC1 Kannada vowel sign u
+0CC2 Kannada vowel sign uu
+0CC3 Kannada vowel sign vocalic r
+0CC4 Kannada vowel sign vocalic rr
+0CC6 Kannada vowel sign e
+0CC7 Kannada vowel sign ee
+0CC8 Kannada vowel sign ai
+0CCA Kannada vowel sign o
+0CCB Kannada vowel sign oo
+0CCC Kannada vowel sign au
+0CCD Kannada sign virama
+0CD5 Kannada length mark
+0CD6 Kannada ai length mark
+0CE2 Kannada vowel sign vocalic l
+0CE3 Kannada vowel sign vocalic ll
+0CE6 Kannada digit zero
+0CE7 Kannada digit one
+0CE8 Kannada digit two
+0CE9 Kannada digit three
+0CEA Kannada digit four
+0CEB Kannada digit five
+0CEC Kannada digit six
+0CED Kannada digit seven
+0CEE Kannada digit eight
+0CEF Kannada digit nine
+0CF3 Kannada sign combining anusvara above right
+0D00 Malayalam sign combining anusvara above
+0D01 Malayalam sign candrabindu
+0D02 Malayalam sign anusvara
+0D03 Malayalam sign visarga
+0D3B Malayalam sign vertical bar virama
+0D3C Malayalam sign circular virama
+0D3E Malayalam vowel sign AA
+0D3F Malayalam vowel sign i
+0D40 Malayalam vowel sign ii
+0D41 Malayalam vowel sign u
+0D42 Malayalam vowel sign uu
+0D43 Malayalam vowel sign vocalic r
+0D44 Malayalam vowel sign vocalic rr
+0D46 Malayalam vowel sign e
+0D47 Malayalam vowel sign ee
+0D48 Malayalam vowel sign ai
+0D4A Malayalam vowel sign o
+0D4B Malayalam vowel sign oo
+0D4C Malayalam vowel sign au
+0D4D Malayalam sign virama
+0D4F Malayalam sign para
+0D57 Malayalam au length mark
+0D58 Malayalam fraction one one-hundred-and-sixtieth
+0D59 Malayalam fraction one fortieth
+0D5A Malayalam fraction three eightieths
+0D5B Malayalam fraction one twentieth
+0D5C Malayalam fraction one tenth
+0D5D Malayalam fraction three twentieths
+0D5E Malayalam fraction one fifth
+0D62 Malayalam vowel sign vocalic l
+0D63 Malayalam vowel sign vocalic ll
+0D66 Malayalam digit zero
+0D67 Malayalam digit one
+0D68 Malayalam digit two
+0D69 Malayalam digit three
+0D6A Malayalam digit four
+0D6B Malayalam digit five
+0D6C Malayalam digit six
+0D6D Malayalam digit seven
+0D6E Malayalam digit eight
+0D6F Malayalam digit nine
+0D70 Malayalam number ten
+0D71 Malayalam number one hundred
+0D72 Malayalam number one thousand
+0D73 Malayalam fraction one quarter
+0D74 Malayalam fraction one half
+0D75 Malayalam fraction three quarters
+0D76 Malayalam fraction one sixteenth
+0D77 Malayalam fraction one eighth
+0D78 Malayalam fraction three sixteenths
+0D79 Malayalam date mark
+0D81 Sinhala sign candrabindu
+0D82 Sinhala sign anusvaraya
+0D83 Sinhala sign visargaya
+0DCA Sinhala sign al-lakuna
+0DCF Sinhala vowel sign aela-pilla
+0DD0 Sinhala vowel sign ketti aeda-pilla
+0DD1 Sinhala vowel sign diga aeda-pilla
+0DD2 Sinhala vowel sign ketti is-pilla
+0DD3 Sinhala vowel sign diga is-pilla
+0DD4 Sinhala vowel sign ketti paa-pilla
+0DD6 Sinhala vowel sign diga paa-pilla
+0DD8 Sinhala vowel sign gaetta-pilla
+0DD9 Sinhala vowel sign kombuva
+0DDA Sinhala vowel sign diga kombuva
+0DDB Sinhala vowel sign kombu deka
+0DDC Sinhala vowel sign kombuva haa aela-pilla
+0DDD Sinhala vowel sign kombuva haa diga aela-pilla
+0DDE Sinhala vowel sign kombuva haa gayanukitta
+0DDF Sinhala vowel sign gayanukitta
+0DE6 Sinhala lith digit zero
+0DE7 Sinhala lith digit one
+0DE8 Sinhala lith digit two
+0DE9 Sinhala lith digit three
+0DEA Sinhala lith digit four
+0DEB Sinhala lith digit five
+0DEC Sinhala lith digit six
+0DED Sinhala lith digit seven
+0DEE Sinhala lith digit eight
+0DEF Sinhala lith digit nine
+0DF2 Sinhala vowel sign diga gaetta-pilla
+0DF3 Sinhala vowel sign diga gayanukitta
+0DF4 Sinhala punctuation kunddaliya
+0E31 Thai character mai Han-akat
+0E33 Thai character sara am
+0E34 Thai character sara i
+0E35 Thai character sara ii
+0E36 Thai character sara ue
+0E37 Thai character sara uee
+0E38 Thai character sara u
+0E39 Thai character sara uu
+0E3A Thai character phinthu
+0E3F Thai currency symbol baht
+0E47 Thai character maitaikhu
+0E48 Thai character mai ek
+0E49 Thai character mai tho
+0E4A Thai character mai tri
+0E4B Thai character mai chattawa
+0E4C Thai character thanthakhat
+0E4D Thai character nikhahit
+0E4E Thai character yamakkan
+0E4F Thai character fongman
+0E50 Thai digit zero
+0E51 Thai digit one
+0E52 Thai digit two
+0E53 Thai digit three
+0E54 Thai digit four
+0E55 Thai digit five
+0E56 Thai digit six
+0E57 Thai digit seven
+0E58 Thai digit eight
+0E59 Thai digit nine
+0E5A Thai character angkhankhu
+0E5B Thai character khomut
+0EB1 Lao vowel sign mai kan
+0EB3 Lao vowel sign am
+0EB4 Lao vowel sign i
+0EB5 Lao vowel sign ii
+0EB6 Lao vowel sign y
+0EB7 Lao vowel sign yy
+0EB8 Lao vowel sign u
+0EB9 Lao vowel sign uu
+0EBA Lao sign pali virama
+0EBB Lao vowel sign mai kon
+0EBC Lao semivowel sign lo
+0EC8 Lao tone mai ek
+0EC9 Lao tone mai tho
+0ECA Lao tone mai ti
+0ECB Lao tone mai catawa
+0ECC Lao cancellation mark
+0ECD Lao niggahita
+0ECE Lao yamakkan
+0ED0 Lao digit zero
+0ED1 Lao digit one
+0ED2 Lao digit two
+0ED3 Lao digit three
+0ED4 Lao digit four
+0ED5 Lao digit five
+0ED6 Lao digit six
+0ED7 Lao digit seven
+0ED8 Lao digit eight
+0ED9 Lao digit nine
+0F01 Tibetan mark gter yig mgo truncated a
+0F02 Tibetan mark gter yig mgo -um rnam bcad ma
+0F03 Tibetan mark gter yig mgo -um gter tsheg ma
+0F04 Tibetan mark initial yig mgo mdun ma
+0F05 Tibetan mark closing yig mgo sgab ma
+0F06 Tibetan mark caret yig mgo phur shad ma
+0F07 Tibetan mark yig mgo tsheg shad ma
+0F08 Tibetan mark sbrul shad
+0F09 Tibetan mark bskur yig mgo
+0F0A Tibetan mark bka- shog yig mgo
+0F0B Tibetan mark intersyllabic tsheg
+0F0C Tibetan mark delimiter tsheg bstar
+0F0D Tibetan mark shad
+0F0E Tibetan mark nyis shad
+0F0F Tibetan mark tsheg shad
+0F10 Tibetan mark nyis tsheg shad
+0F11 Tibetan mark rin chen spungs shad
+0F12 Tibetan mark rgya gram shad
+0F13 Tibetan mark caret -dzud rtags me long can
+0F14 Tibetan mark gter tsheg
+0F15 Tibetan logotype sign chad rtags
+0F16 Tibetan logotype sign lhag rtags
+0F17 Tibetan astrological sign sgra gcan -char rtags
+0F18 Tibetan astrological sign -khyud Pa
+0F19 Tibetan astrological sign sdong tshugs
+0F1A Tibetan sign rdel dkar gcig
+0F1B Tibetan sign rdel dkar gnyis
+0F1C Tibetan sign rdel dkar gsum
+0F1D Tibetan sign rdel Nag gcig
+0F1E Tibetan sign rdel Nag gnyis
+0F1F Tibetan sign rdel dkar rdel Nag
+0F20 Tibetan digit zero
+0F21 Tibetan digit one
+0F22 Tibetan digit two
+0F23 Tibetan digit three
+0F24 Tibetan digit four
+0F25 Tibetan digit five
+0F26 Tibetan digit six
+0F27 Tibetan digit seven
+0F28 Tibetan digit eight
+0F29 Tibetan digit nine
+0F2A Tibetan digit half one
+0F2B Tibetan digit half two
+0F2C Tibetan digit half three
+0F2D Tibetan digit half four
+0F2E Tibetan digit half five
+0F2F Tibetan digit half six
+0F30 Tibetan digit half seven
+0F31 Tibetan digit half eight
+0F32 Tibetan digit half nine
+0F33 Tibetan digit half zero
+0F34 Tibetan mark bsdus rtags
+0F35 Tibetan mark ngas bzung nyi zla
+0F36 Tibetan mark caret -dzud rtags bzhi mig can
+0F37 Tibetan mark ngas bzung sgor rtags
+0F38 Tibetan mark che mgo
+0F39 Tibetan mark tsa -phru
+0F3A Tibetan mark gug rtags gyon
+0F3B Tibetan mark gug rtags gyas
+0F3C Tibetan mark ang khang gyon
+0F3D Tibetan mark ang khang gyas
+0F3E Tibetan sign yar tshes
+0F3F Tibetan sign mar tshes
+0F71 Tibetan vowel sign AA
+0F72 Tibetan vowel sign i
+0F73 Tibetan vowel sign ii
+0F74 Tibetan vowel sign u
+0F75 Tibetan vowel sign uu
+0F76 Tibetan vowel sign vocalic r
+0F77 Tibetan vowel sign vocalic rr
+0F78 Tibetan vowel sign vocalic l
+0F79 Tibetan vowel sign vocalic ll
+0F7A Tibetan vowel sign e
+0F7B Tibetan vowel sign ee
+0F7C Tibetan vowel sign o
+0F7D Tibetan vowel sign oo
+0F7E Tibetan sign rjes su nga ro
+0F7F Tibetan sign rnam bcad
+0F80 Tibetan vowel sign reversed i
+0F81 Tibetan vowel sign reversed ii
+0F82 Tibetan sign nyi zla naa da
+0F83 Tibetan sign sna ldan
+0F84 Tibetan mark halanta
+0F85 Tibetan mark paluta
+0F86 Tibetan sign lci rtags
+0F87 Tibetan sign yang rtags
+0F8D Tibetan subjoined sign lce tsa can
+0F8E Tibetan subjoined sign mchu can
+0F8F Tibetan subjoined sign inverted mchu can
+0F90 Tibetan subjoined letter ka
+0F91 Tibetan subjoined letter kha
+0F92 Tibetan subjoined letter ga
+0F93 Tibetan subjoined letter gha
+0F94 Tibetan subjoined letter nga
+0F95 Tibetan subjoined letter ca
+0F96 Tibetan subjoined letter cha
+0F97 Tibetan subjoined letter ja
+0F99 Tibetan subjoined letter nya
+0F9A Tibetan subjoined letter tta
+0F9B Tibetan subjoined letter ttha
+0F9C Tibetan subjoined letter dda
+0F9D Tibetan subjoined letter ddha
+0F9E Tibetan subjoined letter nna
+0F9F Tibetan subjoined letter ta
+0FA0 Tibetan subjoined letter tha
+0FA1 Tibetan subjoined letter da
+0FA2 Tibetan subjoined letter dha
+0FA3 Tibetan subjoined letter na
+0FA4 Tibetan subjoined letter Pa
+0FA5 Tibetan subjoined letter pha
+0FA6 Tibetan subjoined letter ba
+0FA7 Tibetan subjoined letter bha
+0FA8 Tibetan subjoined letter ma
+0FA9 Tibetan subjoined letter tsa
+0FAA Tibetan subjoined letter tsha
+0FAB Tibetan subjoined letter dza
+0FAC Tibetan subjoined letter dzha
+0FAD Tibetan subjoined letter wa
+0FAE Tibetan subjoined letter zha
+0FAF Tibetan subjoined letter za
+0FB0 Tibetan subjoined letter -a
+0FB1 Tibetan subjoined letter ya
+0FB2 Tibetan subjoined letter ra
+0FB3 Tibetan subjoined letter la
+0FB4 Tibetan subjoined letter sha
+0FB5 Tibetan subjoined letter ssa
+0FB6 Tibetan subjoined letter sa
+0FB7 Tibetan subjoined letter ha
+0FB8 Tibetan subjoined letter a
+0FB9 Tibetan subjoined letter kssa
+0FBA Tibetan subjoined letter fixed-form wa
+0FBB Tibetan subjoined letter fixed-form ya
+0FBC Tibetan subjoined letter fixed-form ra
+0FBE Tibetan ku ru kha
+0FBF Tibetan ku ru kha bzhi mig can
+0FC0 Tibetan cantillation sign heavy beat
+0FC1 Tibetan cantillation sign light beat
+0FC2 Tibetan cantillation sign cang te-u
+0FC3 Tibetan cantillation sign sbub -chal
+0FC4 Tibetan symbol dril bu
+0FC5 Tibetan symbol rdo rje
+0FC6 Tibetan symbol padma gdan
+0FC7 Tibetan symbol rdo rje rgya gram
+0FC8 Tibetan symbol phur Pa
+0FC9 Tibetan symbol nor bu
+0FCA Tibetan symbol nor bu nyis -khyil
+0FCB Tibetan symbol nor bu gsum -khyil
+0FCC Tibetan symbol nor bu bzhi -khyil
+0FCE Tibetan sign rdel Nag rdel dkar
+0FCF Tibetan sign rdel Nag gsum
+0FD0 Tibetan mark bka- shog gi mgo rgyan
+0FD1 Tibetan mark mnyam yig gi mgo rgyan
+0FD2 Tibetan mark nyis tsheg
+0FD3 Tibetan mark initial brda rnying yig mgo mdun ma
+0FD4 Tibetan mark closing brda rnying yig mgo sgab ma
+0FD5 right-facing svasti sign
+0FD6 left-facing svasti sign
+0FD7 right-facing svasti sign with dots
+0FD8 left-facing svasti sign with dots
+0FD9 Tibetan mark leading mchan rtags
+0FDA Tibetan mark trailing mchan rtags
 102B Myanmar vowel sign tall AA
 102C Myanmar vowel sign AA
 102D Myanmar vowel sign i
@@ -3979,50 +3979,4 @@ FDA Tibetan mark trailing mchan rtags
 2856 braille pattern dots-2357
 2857 braille pattern dots-12357
 2858 braille pattern dots-457
-2859 braille pattern dots-1457
-285A braille pattern dots-2457
-285B braille pattern dots-12457
-285C braille pattern dots-3457
-285D braille pattern dots-13457
-285E braille pattern dots-23457
-285F braille pattern dots-123457
-2860 braille pattern dots-67
-2861 braille pattern dots-167
-2862 braille pattern dots-267
-2863 braille pattern dots-1267
-2864 braille pattern dots-367
-2865 braille pattern dots-1367
-2866 braille pattern dots-2367
-2867 braille pattern dots-12367
-2868 braille pattern dots-467
-2869 braille pattern dots-1467
-286A braille pattern dots-2467
-286B braille pattern dots-12467
-286C braille pattern dots-3467
-286D braille pattern dots-13467
-286E braille pattern dots-23467
-286F braille pattern dots-123467
-2870 braille pattern dots-567
-2871 braille pattern dots-1567
-2872 braille pattern dots-2567
-2873 braille pattern dots-12567
-2874 braille pattern dots-3567
-2875 braille pattern dots-13567
-2876 braille pattern dots-23567
-2877 braille pattern dots-123567
-2878 braille pattern dots-4567
-2879 braille pattern dots-14567
-287A braille pattern dots-24567
-287B braille pattern dots-124567
-287C braille pattern dots-34567
-287D braille pattern dots-134567
-287E braille pattern dots-234567
-287F braille pattern dots-1234567
-2880 braille pattern dots-8
-2881 braille pattern dots-18
-2882 braille pattern dots-28
-2883 braille pattern dots-128
-2884 braille pattern dots-38
-2885 braille pattern dots-138
-2886 braille pattern dots-238
 ";

@@ -1,8 +1,62 @@
 // Written by bench/characters from the data of Unicode 18.0.0. Do not edit.
 
-/// From U+118E3 to U+1E00B: a line for each character, its number and its name.
+/// From U+116E0 to U+1DAAF: a line for each character, its number and its name.
 #[rattlefmt::skip]
 pub(crate) static NAMES: &[u8] = b"\
+116E0 Myanmar eastern pwo karen digit six
+116E1 Myanmar eastern pwo karen digit seven
+116E2 Myanmar eastern pwo karen digit eight
+116E3 Myanmar eastern pwo karen digit nine
+1171D Ahom consonant sign medial la
+1171E Ahom consonant sign medial ra
+1171F Ahom consonant sign medial ligating ra
+11720 Ahom vowel sign a
+11721 Ahom vowel sign AA
+11722 Ahom vowel sign i
+11723 Ahom vowel sign ii
+11724 Ahom vowel sign u
+11725 Ahom vowel sign uu
+11726 Ahom vowel sign e
+11727 Ahom vowel sign aw
+11728 Ahom vowel sign o
+11729 Ahom vowel sign ai
+1172A Ahom vowel sign am
+1172B Ahom sign killer
+11730 Ahom digit zero
+11731 Ahom digit one
+11732 Ahom digit two
+11733 Ahom digit three
+11734 Ahom digit four
+11735 Ahom digit five
+11736 Ahom digit six
+11737 Ahom digit seven
+11738 Ahom digit eight
+11739 Ahom digit nine
+1173A Ahom number ten
+1173B Ahom number twenty
+1173C Ahom sign small section
+1173D Ahom sign section
+1173E Ahom sign rulai
+1173F Ahom symbol vi
+1182C Dogra vowel sign AA
+1182D Dogra vowel sign i
+1182E Dogra vowel sign ii
+1182F Dogra vowel sign u
+11830 Dogra vowel sign uu
+11831 Dogra vowel sign vocalic r
+11832 Dogra vowel sign vocalic rr
+11833 Dogra vowel sign e
+11834 Dogra vowel sign ai
+11835 Dogra vowel sign o
+11836 Dogra vowel sign au
+11837 Dogra sign anusvara
+11838 Dogra sign visarga
+11839 Dogra sign virama
+1183A Dogra sign nukta
+1183B Dogra abbreviation sign
+118E0 Warang Citi digit zero
+118E1 Warang Citi digit one
+118E2 Warang Citi digit two
 118E3 Warang Citi digit three
 118E4 Warang Citi digit four
 118E5 Warang Citi digit five
@@ -3082,44 +3136,4 @@ pub(crate) static NAMES: &[u8] = b"\
 1DAAD SignWriting rotation modifier-14
 1DAAE SignWriting rotation modifier-15
 1DAAF SignWriting rotation modifier-16
-1DB00 leibnizian equals sign
-1DB01 leibnizian equals sign with double verticals
-1DB02 leibnizian equals sign with small s
-1DB03 leibnizian greater-than
-1DB04 leibnizian less-than
-1DB05 leibnizian greater-than with small p
-1DB06 leibnizian less-than with small p
-1DB07 leibnizian greater-than or less-than
-1DB08 inverted square left open box operator
-1DB09 inverted square right open box operator
-1DB0A two-line greater-than
-1DB0B two-line less-than
-1DB0C commensurability
-1DB0D incommensurability
-1DB0E commensurability in square
-1DB0F incommensurability in square
-1DB10 cartesian equals sign
-1DB11 leibnizian congruence
-1DB12 leibnizian congruence with vertical bar
-1DB13 leibnizian congruence-2
-1DB14 leibnizian congruence-2 inverted
-1DB15 leibnizian congruence-2 with horizontal bar
-1DB16 leibnizian congruence-2 with horizontal and vertical bar
-1DB17 leibnizian coincidence
-1DB18 inverted lazy s over lazy s
-1DB19 leibnizian similarity
-1DB1A leibnizian similarity-2
-1DB1B leibnizian dissimilarity
-1DB1C facit symbol
-1E000 combining Glagolitic letter azu
-1E001 combining Glagolitic letter buky
-1E002 combining Glagolitic letter vede
-1E003 combining Glagolitic letter glagoli
-1E004 combining Glagolitic letter dobro
-1E005 combining Glagolitic letter yestu
-1E006 combining Glagolitic letter zhivete
-1E008 combining Glagolitic letter zemlja
-1E009 combining Glagolitic letter izhe
-1E00A combining Glagolitic letter initial izhe
-1E00B combining Glagolitic letter i
 ";

@@ -1,8 +1,54 @@
 // Written by bench/characters from the data of Unicode 18.0.0. Do not edit.
 
-/// From U+2887 to U+118E2: a line for each character, its number and its name.
+/// From U+2859 to U+116DF: a line for each character, its number and its name.
 #[rattlefmt::skip]
 pub(crate) static NAMES: &[u8] = b"\
+2859 braille pattern dots-1457
+285A braille pattern dots-2457
+285B braille pattern dots-12457
+285C braille pattern dots-3457
+285D braille pattern dots-13457
+285E braille pattern dots-23457
+285F braille pattern dots-123457
+2860 braille pattern dots-67
+2861 braille pattern dots-167
+2862 braille pattern dots-267
+2863 braille pattern dots-1267
+2864 braille pattern dots-367
+2865 braille pattern dots-1367
+2866 braille pattern dots-2367
+2867 braille pattern dots-12367
+2868 braille pattern dots-467
+2869 braille pattern dots-1467
+286A braille pattern dots-2467
+286B braille pattern dots-12467
+286C braille pattern dots-3467
+286D braille pattern dots-13467
+286E braille pattern dots-23467
+286F braille pattern dots-123467
+2870 braille pattern dots-567
+2871 braille pattern dots-1567
+2872 braille pattern dots-2567
+2873 braille pattern dots-12567
+2874 braille pattern dots-3567
+2875 braille pattern dots-13567
+2876 braille pattern dots-23567
+2877 braille pattern dots-123567
+2878 braille pattern dots-4567
+2879 braille pattern dots-14567
+287A braille pattern dots-24567
+287B braille pattern dots-124567
+287C braille pattern dots-34567
+287D braille pattern dots-134567
+287E braille pattern dots-234567
+287F braille pattern dots-1234567
+2880 braille pattern dots-8
+2881 braille pattern dots-18
+2882 braille pattern dots-28
+2883 braille pattern dots-128
+2884 braille pattern dots-38
+2885 braille pattern dots-138
+2886 braille pattern dots-238
 2887 braille pattern dots-1238
 2888 braille pattern dots-48
 2889 braille pattern dots-148
@@ -3706,58 +3752,4 @@ FFFD replacement character
 116DD Myanmar eastern pwo karen digit three
 116DE Myanmar eastern pwo karen digit four
 116DF Myanmar eastern pwo karen digit five
-116E0 Myanmar eastern pwo karen digit six
-116E1 Myanmar eastern pwo karen digit seven
-116E2 Myanmar eastern pwo karen digit eight
-116E3 Myanmar eastern pwo karen digit nine
-1171D Ahom consonant sign medial la
-1171E Ahom consonant sign medial ra
-1171F Ahom consonant sign medial ligating ra
-11720 Ahom vowel sign a
-11721 Ahom vowel sign AA
-11722 Ahom vowel sign i
-11723 Ahom vowel sign ii
-11724 Ahom vowel sign u
-11725 Ahom vowel sign uu
-11726 Ahom vowel sign e
-11727 Ahom vowel sign aw
-11728 Ahom vowel sign o
-11729 Ahom vowel sign ai
-1172A Ahom vowel sign am
-1172B Ahom sign killer
-11730 Ahom digit zero
-11731 Ahom digit one
-11732 Ahom digit two
-11733 Ahom digit three
-11734 Ahom digit four
-11735 Ahom digit five
-11736 Ahom digit six
-11737 Ahom digit seven
-11738 Ahom digit eight
-11739 Ahom digit nine
-1173A Ahom number ten
-1173B Ahom number twenty
-1173C Ahom sign small section
-1173D Ahom sign section
-1173E Ahom sign rulai
-1173F Ahom symbol vi
-1182C Dogra vowel sign AA
-1182D Dogra vowel sign i
-1182E Dogra vowel sign ii
-1182F Dogra vowel sign u
-11830 Dogra vowel sign uu
-11831 Dogra vowel sign vocalic r
-11832 Dogra vowel sign vocalic rr
-11833 Dogra vowel sign e
-11834 Dogra vowel sign ai
-11835 Dogra vowel sign o
-11836 Dogra vowel sign au
-11837 Dogra sign anusvara
-11838 Dogra sign visarga
-11839 Dogra sign virama
-1183A Dogra sign nukta
-1183B Dogra abbreviation sign
-118E0 Warang Citi digit zero
-118E1 Warang Citi digit one
-118E2 Warang Citi digit two
 ";

@@ -1,8 +1,48 @@
 // Written by bench/characters from the data of Unicode 18.0.0. Do not edit.
 
-/// From U+1E00C to U+E01EF: a line for each character, its number and its name.
+/// From U+1DB00 to U+E01EF: a line for each character, its number and its name.
 #[rattlefmt::skip]
 pub(crate) static NAMES: &[u8] = b"\
+1DB00 leibnizian equals sign
+1DB01 leibnizian equals sign with double verticals
+1DB02 leibnizian equals sign with small s
+1DB03 leibnizian greater-than
+1DB04 leibnizian less-than
+1DB05 leibnizian greater-than with small p
+1DB06 leibnizian less-than with small p
+1DB07 leibnizian greater-than or less-than
+1DB08 inverted square left open box operator
+1DB09 inverted square right open box operator
+1DB0A two-line greater-than
+1DB0B two-line less-than
+1DB0C commensurability
+1DB0D incommensurability
+1DB0E commensurability in square
+1DB0F incommensurability in square
+1DB10 cartesian equals sign
+1DB11 leibnizian congruence
+1DB12 leibnizian congruence with vertical bar
+1DB13 leibnizian congruence-2
+1DB14 leibnizian congruence-2 inverted
+1DB15 leibnizian congruence-2 with horizontal bar
+1DB16 leibnizian congruence-2 with horizontal and vertical bar
+1DB17 leibnizian coincidence
+1DB18 inverted lazy s over lazy s
+1DB19 leibnizian similarity
+1DB1A leibnizian similarity-2
+1DB1B leibnizian dissimilarity
+1DB1C facit symbol
+1E000 combining Glagolitic letter azu
+1E001 combining Glagolitic letter buky
+1E002 combining Glagolitic letter vede
+1E003 combining Glagolitic letter glagoli
+1E004 combining Glagolitic letter dobro
+1E005 combining Glagolitic letter yestu
+1E006 combining Glagolitic letter zhivete
+1E008 combining Glagolitic letter zemlja
+1E009 combining Glagolitic letter izhe
+1E00A combining Glagolitic letter initial izhe
+1E00B combining Glagolitic letter i
 1E00C combining Glagolitic letter djervi
 1E00D combining Glagolitic letter kako
 1E00E combining Glagolitic letter ljudije
