@@ -13,7 +13,8 @@ use Rattle.in_simple.specs.Constructions.{IsIn}
 use Rattle.in_simple.specs.Splitting.{alone, Without}
 use Rattle.in_simple.specs.OpenNets.{OpenNet, IsWire, IsOpenNet, open_graph, IsAgentNode, IsClassNode, IsAgent, IsClass}
 use Rattle.in_simple.specs.Stuck.{IsPart, ports_of, turn, ComesAt}
-use Rattle.in_simple.specs.Procedure.{nodes_in, IsReached, IsRest, Lists, AreSized, PortSplits, IsPlan, HasTurn, GoesOn, KeepsPlan, Derives, with_task}
+use Rattle.in_simple.specs.Procedure.{nodes_in, missing, IsReached, IsRest, Lists, AreSized, PortSplits, IsPlan, HasTurn, GoesOn, KeepsPlan, Derives, with_task}
+use Rattle.in_simple.proofs.Absent.{has_all}
 use Rattle.in_simple.proofs.Sums.{not_both}
 use Rattle.in_simple.proofs.Links.{same_nat, at_most, link_back, link_first, link_map}
 use Rattle.in_simple.proofs.Reaching.{in_length}
@@ -279,6 +280,18 @@ module _ (o : OpenNet) (net : IsOpenNet o) (n : ℕ) where
       let inside : IsIn m d = subst (λ z. IsIn z d) e x.1.1 in
       let here = (part_inside (nodes_in p.rest) (in_net t p h) d part m inside).0 in
       let f = done_before t p h d t m part (inr x) inside (all here) in
+      absurd (omega arith)
+
+  -- where all that is left is derived
+  pub none_later : (t : ℕ) (p : Plan) → IsPlan o n t p → missing p.done ≤ missing p.rest → (d : ℕ → Bool) (l : ℕ) → IsPart o n (nodes_in p.rest) d → ComesAt o n d l → t ≤ l → ⊥
+  none_later t p h few d l part comes low =
+      let m = part.0 in
+      let inside : IsIn m d = (part.2 m).1 (alone m part.1) in
+      let within : (k : ℕ) → IsIn k (nodes_in p.done) → IsIn k (nodes_in p.rest) = λ k a.
+          let x = (h.done k).0 a in
+          (part_inside (nodes_in p.rest) (in_net t p h) x.0 x.2 k x.5).0 in
+      let all = has_all p.done p.rest (h.done_size ∙ sym h.rest_size) within few in
+      let f = done_before t p h d l m part comes inside (all m part.1.0) in
       absurd (omega arith)
 
   pub plan_end : (p : Plan) → IsPlan o n (suc (ports_of o n) + length o.nodes) p → Lists o n (nodes_in p.rest) 0 p.tasks

@@ -10,15 +10,15 @@ use Rattle.in_simple.specs.declared.plans.Task.TheVariants.{Make}
 use Rattle.in_simple.specs.OpenNets.{OpenNet, IsAgent, IsClass, IsWire, class_in, classes_of}
 use Rattle.in_simple.specs.Planned.{HasClasses, HasFate, HasFateAt, IsAuxiliaryPort, JoinsFate, PutsNet, Skips, Takes, WhatComes, WhatPort, WithEmpties}
 use Rattle.in_simple.specs.Procedure.{Derives, GoesOn, IsPlan, KeepsPlan, nodes_in, with_task}
-use Rattle.in_simple.specs.Progress.{PlansClasses, PlansNet, Progress, StartsPlan, later, progress, until}
+use Rattle.in_simple.specs.Progress.{IsOver, PlansClasses, PlansNet, Progress, StartsPlan, later, progress, until}
 use Rattle.in_simple.specs.Stuck.{ports_of, turn}
 use Rattle.in_simple.specs.TakenOrder.{before, empties}
 use Rattle.in_simple.proofs.ClassNets.{begun_most, classes_start, first_came, further_came, further_none, net_graft, skip_has, some_class}
 use Rattle.in_simple.proofs.Fates.{along, met_past, past}
 use Rattle.in_simple.proofs.Links.{at_most}
 use Rattle.in_simple.proofs.Nets.{net_given, net_join, net_other, one_port}
-use Rattle.in_simple.proofs.Planning.{agent_start, class_last, goes_make, node_derive, node_pass, port_derive, port_pass, turn_agent}
-use Rattle.in_simple.proofs.Taking.{agent_alone, agent_first, agent_grafts, agent_takes, before_given, before_next, before_other, class_end, class_takes, first_brings, first_takes, further_nothing, further_takes, join_nothing, join_takes, other_nothing, other_takes, principal_zero, takes_makes}
+use Rattle.in_simple.proofs.Planning.{NoneAt, agent_start, class_last, goes_make, node_derive, node_pass, plan_skip, port_derive, port_pass, turn_agent}
+use Rattle.in_simple.proofs.Taking.{agent_alone, agent_first, agent_grafts, agent_takes, before_given, before_next, before_other, class_end, class_takes, first_brings, first_takes, further_nothing, further_takes, join_nothing, join_takes, other_nothing, other_takes, over_nothing, principal_zero, takes_makes}
 
 -- the same net and node, and the same nodes that are left
 pub moves : (o : OpenNet) (n k j : ℕ) (rest new : List Bool) (s : Progress) → progress o n rest k ≡ s → new ≡ rest → progress o n new j ≡ until s j
@@ -236,3 +236,16 @@ waits o n (suc d) m p x none =
     let e : suc (ports_of o n) + m + 1 ≡ suc (ports_of o n) + (m + 1) = omega arith in
     let f : suc (ports_of o n) + (m + 1 + d) ≡ suc (ports_of o n) + (m + suc d) = omega arith in
     subst (λ z. PlansNet o n z p) f (waits o n d (m + 1) p (subst (λ z. PlansNet o n z p) e y) (λ k a b. none k (omega arith) (omega arith)))
+
+-- the turns that no component has any more
+pub ends : (o : OpenNet) (n d m : ℕ) (p : Plan) → PlansNet o n (suc (ports_of o n) + m) p → IsOver (progress o n p.rest (suc (ports_of o n) + m)) → PlansNet o n (suc (ports_of o n) + (m + d)) p
+ends o n zero m p x over = subst (λ z. PlansNet o n z p) (let e : suc (ports_of o n) + m ≡ suc (ports_of o n) + (m + 0) = omega arith in e) x
+ends o n (suc d) m p x over =
+    let net = x.orderly.net in
+    let k = suc (ports_of o n) + m in
+    let none : NoneAt o net n (nodes_in p.rest) k = λ c part comes. over c k part comes (omega arith) in
+    let takes = subst (λ z. Takes o n k z p) (before_other o n k (omega arith)) x.takes in
+    let y = (next_net o n k p p x (plan_skip o net n k p x.plan none, refl) x.net (before_other o n (suc k) (omega arith)) (over_nothing o net n p m none takes)).0 in
+    let e : suc (ports_of o n) + m + 1 ≡ suc (ports_of o n) + (m + 1) = omega arith in
+    let f : suc (ports_of o n) + (m + 1 + d) ≡ suc (ports_of o n) + (m + suc d) = omega arith in
+    subst (λ z. PlansNet o n z p) f (ends o n d (m + 1) p (subst (λ z. PlansNet o n z p) e y) (λ c l part comes low. over c l part comes (omega arith)))

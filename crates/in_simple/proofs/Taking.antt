@@ -21,7 +21,7 @@ use Rattle.in_simple.specs.TakenOrder.{Comes, IsJoined, LeadsAway, LinksAt, Mann
 use Rattle.in_simple.specs.Stacks.{Yields, derived, done, made}
 use Rattle.in_simple.proofs.Links.{at_most}
 use Rattle.in_simple.proofs.OneOrder.{split}
-use Rattle.in_simple.proofs.Planning.{agent_none, class_none, node_none, node_turn, port_none, port_turn, reached_part, turn_agent, turn_class, turn_principal}
+use Rattle.in_simple.proofs.Planning.{NoneAt, agent_none, class_none, node_none, node_turn, port_none, port_turn, reached_part, turn_agent, turn_class, turn_principal}
 use Rattle.in_simple.proofs.Search.{at_ports}
 use Rattle.in_simple.proofs.Sound.{class_no_agent, port_place}
 use Rattle.in_simple.proofs.Sums.{not_both, port_no}
@@ -290,9 +290,14 @@ module _ (o : OpenNet) (net : IsOpenNet o) (n : ℕ) where
   other_link : (t : ℕ → Bool) (m w : ℕ) → LinksAt o t n (suc (ports_of o n) + m) w → ⊥
   other_link t m w l = let lt = l.port in absurd (omega (arith, lt))
 
+  -- at a turn that no component has
+  pub over_nothing : (p : Plan) (m : ℕ) → NoneAt o net n (nodes_in p.rest) (suc (ports_of o n) + m) → Takes o n (suc (ports_of o n) + m) [] p → Takes o n (suc (suc (ports_of o n) + m)) [] p
+  over_nothing p m none takes =
+      takes_nothing o n (suc (ports_of o n) + m) [] p p takes refl (sym (before_other o n (suc (ports_of o n) + m) (omega arith))) refl ((λ c is_part comes. none c is_part comes), λ w l. other_link (nodes_in p.rest) m w l)
+
   pub other_nothing : (p : Plan) (m : ℕ) → IsPlan o n (suc (ports_of o n) + m) p → (IsIn m (nodes_in p.rest) → IsIn m (nodes_in p.done)) → Takes o n (suc (ports_of o n) + m) [] p → Takes o n (suc (suc (ports_of o n) + m)) [] p
   other_nothing p m h all takes =
-      takes_nothing o n (suc (ports_of o n) + m) [] p p takes refl (sym (before_other o n (suc (ports_of o n) + m) (omega arith))) refl ((λ c is_part comes. node_none o net n p m h all c is_part comes), λ w l. other_link (nodes_in p.rest) m w l)
+      over_nothing p m (node_none o net n p m h all) takes
 
   pub other_takes : (p q r : Plan) (m : ℕ) → IsPlan o n (suc (ports_of o n) + m) p → IsIn m (nodes_in p.rest) → nodes_in p.done m ≡ false → Derives o m p q → r ≡ with_task q (Make Mix) → Takes o n (suc (ports_of o n) + m) [] p →
       Takes o n (suc (suc (ports_of o n) + m)) [] r

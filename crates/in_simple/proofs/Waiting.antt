@@ -39,12 +39,15 @@ module _ (s : Progress) (part : List Bool) (size : length part ≡ length s.net.
         let h : k + get_or ns i 0 + 1 ≡ k + past ns (i + 1) = omega arith in
         g ∙ ap later (f ∙ ap (λ (z : Progress). until z (suc (ports_of z.net z.node) + get_or ns i 0)) e) ∙ ap (until s) h
 
+  most : (j : ℕ) → j ≤ length ns → past ns j ≤ length s.net.nodes
+  most zero b = omega arith
+  most (suc j) b = small j (omega arith)
+
+  pub waits_most : (i : ℕ) → i ≤ length ns → (w : Progress) → IsAfter i w → Comes w (length w.net.nodes)
+  waits_most i b w e = subst (λ (z : Progress). Comes z (length z.net.nodes)) (sym e) (let a = most i b in omega arith)
+
   -- .. after all of them
   module _ (i : ℕ) (all : i ≡ length ns) (w : Progress) (e : IsAfter i w) where
-    most : (j : ℕ) → j ≤ length ns → past ns j ≤ length s.net.nodes
-    most zero b = omega arith
-    most (suc j) b = small j (omega arith)
-
     pub ends_turn : Comes w (length s.net.nodes)
     ends_turn = subst (λ (z : Progress). Comes z (length s.net.nodes)) (sym e) (let a = most i (omega arith) in omega arith)
 

@@ -1,10 +1,10 @@
 -- What a plan keeps from turn to turn.
-use Rattle.std.specs.Prelude.{◌≡◌, ℕ, suc, ◌+◌, ◌-◌, ◌<◌, Bool, List, [], length}
+use Rattle.std.specs.Prelude.{◌≡◌, ℕ, suc, ◌+◌, ◌-◌, ◌<◌, ◌≤◌, Bool, List, [], length}
 use Rattle.in_simple.specs.declared.plans.Plan.{Plan}
 use Rattle.in_simple.specs.OpenNets.{OpenNet, IsAgent, IsOrderly, class_in}
 use Rattle.in_simple.specs.Planned.{HasClasses, IsBegun, PutsNet, Takes}
-use Rattle.in_simple.specs.Procedure.{IsPlan}
-use Rattle.in_simple.specs.Stuck.{ports_of}
+use Rattle.in_simple.specs.Procedure.{IsPlan, nodes_in}
+use Rattle.in_simple.specs.Stuck.{ComesAt, IsPart, ports_of}
 use Rattle.in_simple.specs.TakenOrder.{before}
 
 -- how far a plan has come: for the nodes of a net that are left without one node, to a turn of that node
@@ -30,6 +30,10 @@ after_ports s = until s (suc (ports_of s.net s.node))
 
 abbrev pub at_end : Progress → Progress
 at_end s = until s (suc (ports_of s.net s.node) + length s.net.nodes)
+
+-- no component has a turn any more
+abbrev pub IsOver : Progress → Type 0
+IsOver s = (d : ℕ → Bool) (l : ℕ) → IsPart s.net s.node (nodes_in s.rest) d → ComesAt s.net s.node d l → s.next ≤ l → ⊥
 
 module _ (o : OpenNet) (n : ℕ) where
   -- nothing is planned yet

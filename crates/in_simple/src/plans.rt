@@ -1,7 +1,7 @@
 ghost use Rattle.std.specs.Prelude.{[], ◌∷◌, ◌≡◌, ◌<◌, ◌≤◌, ◌+◌, ◌-◌, ◌↔◌, suc, length, false, IfOk, IsTrue, ℕ};
 ghost use Rattle.in_simple.specs.Constructions.{IsIn};
 ghost use Rattle.in_simple.specs.Procedure.{AreSized, Derives, GoesOn, IsFirst, IsPlan, IsRest, KeepsPlan, Lists, nodes_in, with_task};
-ghost use Rattle.in_simple.specs.Progress.{after_ports, at_end, later, progress, until};
+ghost use Rattle.in_simple.specs.Progress.{IsOver, after_ports, at_end, later, progress, until};
 ghost use Rattle.in_simple.specs.OpenNets.{IsAgent, IsClass, IsOrderly, class_in, open_graph};
 ghost use Rattle.in_simple.specs.Planned.{HasFate, HasFateAt, IsAuxiliaryPort, IsLeftOver, IsSized, JoinsFate, LeadsBack, Skips, TakesPart, WhatComes, WhatPort, WithEmpties};
 ghost use Rattle.in_simple.specs.Splitting.{SplitsAt};
@@ -482,7 +482,36 @@ impl<'a> Joined<'a> {
         }
     }
 
-    /// The components that the node doesn't touch: only nodes of the part may be left.
+    /// Whether all that is left is derived, so that no component has a turn any more.
+    fn is_over(&self) -> bool
+        ensures { IsTrue result → IsOver self.now }
+    {
+        self.plan.done.absent() <= self.plan.rest.absent()
+    }
+
+    /// The end of the turns, where no component has one any more.
+    fn end(self) -> Joined<'a>
+        requires from { suc (ports_of self.net self.node) ≤ self.next }
+        requires turn { self.next ≤ suc (ports_of self.net self.node) + length self.net.nodes }
+        requires over { IsOver self }
+        ensures { result ≡ at_end self.entry }
+    {
+        let Joined {
+            wired,
+            node,
+            plan,
+            turn: _,
+        } = self;
+        let turn = wired.ports(node) + 1 + wired.nodes();
+        Joined {
+            wired,
+            node,
+            plan,
+            turn,
+        }
+    }
+
+    /// The components that the node doesn't touch: only nodes of the part may be left. Mostly none is, since the node touches them all.
     fn others(self, alloc: Global, part: &NodeSet) -> Result<Joined<'a>, AllocError>
         requires turn { self.next ≡ suc (ports_of self.net self.node) }
         requires size { length part.now ≡ length self.net.nodes }
@@ -492,6 +521,9 @@ impl<'a> Joined<'a> {
         let count = self.wired.nodes();
         let mut whole = self;
         for member in part.members() {
+            if whole.is_over() {
+                return Ok(whole.end());
+            }
             whole = whole.wait(*member as usize).other(alloc, *member)?;
         }
         Ok(whole.wait(count))

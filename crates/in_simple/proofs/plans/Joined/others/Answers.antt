@@ -1,7 +1,12 @@
 use Rattle.std.proofs.Common.{◌≡◌, ◌<◌, ◌∙◌, length, slice_index_or, sym, subst, ap, arith}
 use Rattle.in_simple.specs.Progress.{Progress}
-use Rattle.in_simple.proofs.Waiting.{Comes, NoneLeft, ends_none, ends_turn, waits_next, waits_none, waits_small, waits_turn}
+use Rattle.in_simple.proofs.Waiting.{Comes, NoneLeft, ends_none, ends_turn, waits_most, waits_next, waits_none, waits_small, waits_turn}
 use Rattle.in_simple.proofs.plans.Joined.others.Goals as goal
+
+pub end-requires-clause-turn : goal.end-requires-clause-turn
+end-requires-clause-turn c =
+    let g = c.loop-member-test.true in
+    waits_most c.args.self c.args.part.now c.requires.size c.requires.rest c.members-member-items.result.now c.members-member-items.ensures c.loop-member.member-index (omega arith) c.loop-member.whole c.loop-member.invariant
 
 pub wait-requires-clause-near : goal.wait-requires-clause-near
 wait-requires-clause-near c =
