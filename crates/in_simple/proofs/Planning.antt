@@ -288,8 +288,8 @@ module _ (o : OpenNet) (net : IsOpenNet o) (n : ℕ) where
       let m = part.0 in
       let inside : IsIn m d = (part.2 m).1 (alone m part.1) in
       let within : (k : ℕ) → IsIn k (nodes_in p.done) → IsIn k (nodes_in p.rest) = λ k a.
-          let x = (h.done k).0 a in
-          (part_inside (nodes_in p.rest) (in_net t p h) x.0 x.2 k x.5).0 in
+      let x = (h.done k).0 a in
+      (part_inside (nodes_in p.rest) (in_net t p h) x.0 x.2 k x.5).0 in
       let all = has_all p.done p.rest (h.done_size ∙ sym h.rest_size) within few in
       let f = done_before t p h d l m part comes inside (all m part.1.0) in
       absurd (omega arith)

@@ -1,5 +1,5 @@
 -- Whether one node splits a part, by what a search from the node alone found: a ring shows that it does not, and labels show that it does.
-use Rattle.std.specs.Prelude.{◌≡◌, ◌≢◌, ℕ, ◌<◌, Bool, cond, nat_eq, List, slice_get, Option, Some, None, MatchOption, IsSomeAnd, length}
+use Rattle.std.specs.Prelude.{◌≡◌, ◌≢◌, ℕ, ◌<◌, Bool, cond, nat_eq, List, slice_get, slice_index_or, Option, Some, None, MatchOption, IsSomeAnd, length}
 use Rattle.in_simple.specs.declared.labels.Labels.{Labels}
 use Rattle.in_simple.specs.declared.labels.Mark.{Mark}
 use Rattle.in_simple.specs.declared.open_nets.Point.TheVariants.{Port}
@@ -7,7 +7,7 @@ use Rattle.in_simple.specs.Constructions.{IsIn}
 use Rattle.in_simple.specs.Splitting.{Linked, Without}
 use Rattle.in_simple.specs.OpenNets.{OpenNet, IsWire, class_in, open_graph}
 use Rattle.in_simple.specs.Procedure.{nodes_in, SplitsIt, NoneSplits, IsFirst}
-use Rattle.in_simple.specs.Stuck.{ports_of}
+use Rattle.in_simple.specs.Stuck.{Among, ports_of}
 
 -- ---- rings
 
@@ -18,6 +18,21 @@ IsLedTo o part n c l = (i : ℕ) × (w : ℕ) × (m : ℕ) × (k : ℕ) × IsWir
 -- the walk is at n still, or began in a class and has come to l
 abbrev pub IsWalked : OpenNet → List Bool → ℕ → Option ℕ → ℕ → Type 0
 IsWalked o part n begun l = MatchOption begun (l ≡ n) (λ c. IsLedTo o part n c l)
+
+-- the part has these nodes
+abbrev pub AreIn : List Bool → List ℕ → Type 0
+AreIn part ms = (m : ℕ) → Among m ms → IsIn m (nodes_in part)
+
+-- n splits no part that has these nodes
+abbrev pub KeepsWhole : OpenNet → ℕ → List ℕ → Type 0
+KeepsWhole o n ms = (part : List Bool) → AreIn part ms → SplitsIt o part n → ⊥
+
+-- the nodes that are kept for a node do so; and none is kept for any
+abbrev pub KeepWhole : OpenNet → List (Option (List ℕ)) → Type 0
+KeepWhole o found = (n : ℕ) (ms : List ℕ) → slice_index_or found n None ≡ Some ms → KeepsWhole o n ms
+
+abbrev pub AreNone : List (Option (List ℕ)) → Type 0
+AreNone found = (n : ℕ) → slice_index_or found n None ≡ None
 
 -- ---- labels
 

@@ -205,7 +205,9 @@ fn take(
 ) -> Result<Option<Stuck>, AllocError>
     requires work { IsWork wired.now (Derive nodes.now ∷ reverse work.old.tasks) }
     requires steps { IsUnderWay wired.now (Derive nodes.now ∷ reverse work.old.tasks) work.old.steps work.old.roots }
-    ensures { IfOk result (λ found. MatchOption found
+    requires rings { trials.old.rings ≡ wired.now }
+    ensures rings { trials.new.rings ≡ trials.old.rings }
+    ensures found { IfOk result (λ found. MatchOption found
         (IsWork wired.now (reverse work.new.tasks) × AreFewer wired.now (Derive nodes.now ∷ reverse work.old.tasks) (reverse work.new.tasks) × IsUnderWay wired.now (reverse work.new.tasks) work.new.steps work.new.roots)
         (IsStuckNet wired.now)) }
 {
@@ -232,6 +234,7 @@ fn finish(
 ) -> Result<Option<Stuck>, AllocError>
     requires work { IsWork wired.now (reverse work.old.tasks) }
     requires steps { IsUnderWay wired.now (reverse work.old.tasks) work.old.steps work.old.roots }
+    requires rings { trials.old.rings ≡ wired.now }
     ensures { IfOk result (λ found. MatchOption found (IsDerivation wired.now work.new.steps × AreTaken wired.now work.new.steps) (IsStuckNet wired.now)) }
 {
     while let Some(part) = work.next_part(alloc)? {
@@ -257,7 +260,8 @@ fn come_to(
     wired: &Wired,
     trials: &mut Trials,
 ) -> Result<Outcome, AllocError>
-    requires { wired.now ≡ «open».now }
+    requires net { wired.now ≡ «open».now }
+    requires rings { trials.old.rings ≡ wired.now }
     ensures { IfOk result (IsOutcome «open».now) }
 {
     let mut work = begin(alloc, open)?;
@@ -279,7 +283,7 @@ fn attempt(alloc: Global, open: &OpenNet) -> Result<Outcome, AllocError>
     ensures { IfOk result (IsOutcome «open».now) }
 {
     let wired = Wired::of(alloc, open)?;
-    let mut trials = Trials::new(alloc, wired.nodes())?;
+    let mut trials = Trials::new(alloc, &wired)?;
     come_to(alloc, open, &wired, &mut trials)
 }
 

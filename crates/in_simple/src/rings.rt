@@ -1,40 +1,138 @@
-ghost use Rattle.std.specs.Prelude.{IsTrue};
+ghost use Rattle.std.specs.Prelude.{◌≡◌, ◌<◌, [], length, IfOk, IsTrue};
 ghost use Rattle.in_simple.specs.Procedure.{SplitsIt};
+ghost use Rattle.in_simple.specs.Tries.{AreIn, AreNone, KeepsWhole};
 
 use crate::open_nets::Point;
-use crate::parts::Candidate;
+use crate::parts::{Candidate, Part};
+use crate::wired::Wired;
 use sqlite_items::Items;
+use std::alloc::{AllocError, Global};
+use std::marker::Model;
 
-/// Whether the walk that leaves one node after the other by these ports, from the candidate on, leads through the part back to it by a
-/// port of another class than it began with: then it does not split the part.
-pub(crate) fn joins_classes(candidate: &Candidate, ring: &Items<u8>) -> bool
-    ensures { IsTrue result → SplitsIt candidate.now.part.wired.now candidate.now.part.nodes.now candidate.now.node → ⊥ }
+/// For each node the other nodes of a ring, if one was found: it leads through these from one class of the node to another one, so that
+/// the node splits no part that has them. That is checked when a ring is kept, so that later only its nodes are looked for.
+#[derive(Drop)]
+pub(crate) struct Rings<'a> {
+    wired: &'a Wired<'a>,
+    found: Items<Option<Items<u32>>>,
+}
+
+// Contracts see the open net.
+impl<'a> Model for Rings<'a> {
+    ghost use Rattle.in_simple.specs.OpenNets as nets;
+    ghost use Rattle.in_simple.specs.Tries.{KeepWhole};
+
+    ghost Value = { nets.OpenNet };
+
+    ghost view = { λ r. r.wired.now };
+
+    ghost invariant = { λ r. KeepWhole r.wired.now r.found };
+}
+
+/// Whether the walk that leaves one node after the other by these ports, from this one on, leads back to it by a port of another class
+/// than it began with. The nodes between come to `nodes`.
+fn comes_back(
+    wired: &Wired,
+    from: usize,
+    ring: &Items<u8>,
+    nodes: &mut Items<u32>,
+) -> Result<bool, AllocError>
+    requires from { from < length wired.now.nodes }
+    requires nodes { nodes.old ≡ [] }
+    ensures { IfOk result (λ back. IsTrue back → KeepsWhole wired.now from nodes.new) }
 {
-    let part = candidate.part;
-    let mut at = candidate.node;
+    let mut at = from;
     let mut begun: Option<usize> = None;
     for step in 0..ring.len() {
         let port = ring.as_slice()[step] as usize;
-        if port >= part.wired.ports(at) {
-            return false;
+        if port >= wired.ports(at) {
+            return Ok(false);
         }
         let class = match begun {
             Some(class) => class,
-            None => part.wired.class(at, port),
+            None => wired.class(at, port),
         };
-        match part.wired.partner(at, port) {
+        match wired.partner(at, port) {
             (_, Point::Port(near, place)) => {
-                if near as usize == candidate.node {
-                    return part.wired.class(near as usize, place as usize) != class;
+                if near as usize == from {
+                    return Ok(wired.class(near as usize, place as usize) != class);
                 }
-                if !part.nodes.has(near as usize) {
-                    return false;
-                }
+                nodes.push(near)?;
                 at = near as usize;
                 begun = Some(class);
             }
-            (_, Point::Free(_)) => return false,
+            (_, Point::Free(_)) => return Ok(false),
         }
     }
-    false
+    Ok(false)
+}
+
+/// Whether all of these nodes are in the part.
+fn are_in(part: &Part, nodes: &Items<u32>) -> bool
+    ensures { IsTrue result → AreIn part.now.nodes.now nodes.now }
+{
+    for node in nodes.as_slice() {
+        if !part.nodes.has(*node as usize) {
+            return false;
+        }
+    }
+    true
+}
+
+/// No ring for each node.
+fn no_rings(alloc: Global, count: usize) -> Result<Items<Option<Items<u32>>>, AllocError>
+    ensures { IfOk result AreNone }
+{
+    let mut found = Items::new(alloc);
+    for node in 0..count {
+        found.push(None)?;
+    }
+    Ok(found)
+}
+
+impl<'a> Rings<'a> {
+    /// None yet.
+    pub(crate) fn none(alloc: Global, wired: &'a Wired<'a>) -> Result<Rings<'a>, AllocError>
+        ensures { IfOk result (λ rings. rings ≡ wired.now) }
+    {
+        let found = no_rings(alloc, wired.nodes())?;
+        Ok(Rings { wired, found })
+    }
+
+    /// How many other nodes the ring of a node has.
+    pub(crate) fn size(&self, node: usize) -> usize {
+        match self.found.get(node) {
+            Some(Some(nodes)) => nodes.len(),
+            _ => 0,
+        }
+    }
+
+    /// Keeps the walk that leaves one node after the other by these ports, from this one on, where it is such a ring.
+    pub(crate) fn keep(
+        &mut self,
+        alloc: Global,
+        node: usize,
+        ring: &Items<u8>,
+    ) -> Result<(), AllocError>
+        requires { node < length self.old.nodes }
+        ensures { self.new ≡ self.old }
+    {
+        let mut nodes = Items::new(alloc);
+        let back = comes_back(self.wired, node, ring, &mut nodes)?;
+        if back && node < self.found.len() {
+            self.found.set(node, Some(nodes));
+        }
+        Ok(())
+    }
+
+    /// Whether the ring of the candidate is in the part, so that the candidate does not split it.
+    pub(crate) fn keep_whole(&self, candidate: &Candidate) -> bool
+        requires { self.now ≡ candidate.now.part.wired.now }
+        ensures { IsTrue result → SplitsIt candidate.now.part.wired.now candidate.now.part.nodes.now candidate.now.node → ⊥ }
+    {
+        match self.found.get(candidate.node) {
+            Some(Some(nodes)) => are_in(&candidate.part, nodes),
+            _ => false,
+        }
+    }
 }

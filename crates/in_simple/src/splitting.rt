@@ -1,4 +1,4 @@
-ghost use Rattle.std.specs.Prelude.{◌<◌, ◌↔◌, length, IfOk, IsTrue};
+ghost use Rattle.std.specs.Prelude.{◌≡◌, ◌<◌, ◌↔◌, length, IfOk, IsTrue};
 ghost use Rattle.in_bridges.specs.Rings.{AreRings};
 ghost use Rattle.in_simple.specs.ClassEdges.{IsGraphOf};
 ghost use Rattle.in_simple.specs.OpenNets.{IsOrderly};
@@ -80,7 +80,9 @@ fn tried(
     candidate: &Candidate,
     trials: &mut Trials,
 ) -> Result<Option<bool>, AllocError>
-    ensures { IfOk result (IsTried candidate.now.part.wired.now candidate.now.part.nodes.now candidate.now.node) }
+    requires { trials.old.rings ≡ candidate.now.part.wired.now }
+    ensures same { trials.new.rings ≡ trials.old.rings }
+    ensures tried { IfOk result (IsTried candidate.now.part.wired.now candidate.now.part.nodes.now candidate.now.node) }
 {
     if trials.is_ringed(candidate) {
         Ok(Some(false))
@@ -97,6 +99,8 @@ fn first_by_trials(
     part: &Part,
     trials: &mut Trials,
 ) -> Result<Option<Option<usize>>, AllocError>
+    requires { trials.old.rings ≡ part.now.wired.now }
+    ensures same { trials.new.rings ≡ trials.old.rings }
     ensures net { IfOk result (λ found. IsOrderly part.now.wired.now) }
     ensures found { IfOk result (AreTried part.now.wired.now part.now.nodes.now) }
 {
@@ -128,6 +132,8 @@ pub(crate) fn first_splitting(
     part: &Part,
     trials: &mut Trials,
 ) -> Result<Option<usize>, AllocError>
+    requires { trials.old.rings ≡ part.now.wired.now }
+    ensures same { trials.new.rings ≡ trials.old.rings }
     ensures net { IfOk result (λ found. IsOrderly part.now.wired.now) }
     ensures found { IfOk result (IsFirstIn part.now.wired.now part.now.nodes.now) }
 {

@@ -1,4 +1,4 @@
-ghost use Rattle.std.specs.Prelude.{◌<◌, length, IfOk, IsTrue};
+ghost use Rattle.std.specs.Prelude.{◌≡◌, ◌<◌, length, IfOk, IsTrue};
 ghost use Rattle.in_simple.specs.Procedure.{SplitsIt};
 ghost use Rattle.in_simple.specs.Stuck.{ports_of};
 ghost use Rattle.in_simple.specs.Tries.{IsTried};
@@ -7,7 +7,8 @@ use crate::labels::{Labels, Mark, show_splitting};
 use crate::nodes::NodeSet;
 use crate::open_nets::Point;
 use crate::parts::Candidate;
-use crate::rings::joins_classes;
+use crate::rings::Rings;
+use crate::wired::Wired;
 use sqlite_items::Items;
 use std::alloc::{AllocError, Global};
 
@@ -44,14 +45,20 @@ enum Answer {
     Spent,
 }
 
-/// Searches from single nodes: a ring for each node where one was found, what the last search reached, and how many more ports may be
-/// looked at. Nothing is claimed of what a search finds, since rings and labels are checked before they are used.
+/// A search from single nodes: what the last one reached, and how many more ports may be looked at. Nothing is claimed of what it finds,
+/// since rings and labels are checked before they are used.
 #[derive(Drop)]
-pub(crate) struct Trials {
-    rings: Items<Items<u8>>,
+struct Search {
     labels: Labels,
     reached: Items<Reached>,
     budget: usize,
+}
+
+/// The rings that searches from single nodes found, and the last search.
+#[derive(Drop)]
+pub(crate) struct Trials<'a> {
+    pub(crate) rings: Rings<'a>,
+    search: Search,
 }
 
 /// A mark of no trial for each node.
@@ -67,31 +74,15 @@ fn no_marks(alloc: Global, count: usize) -> Result<Items<Mark>, AllocError> {
     Ok(marks)
 }
 
-/// No ring for each node.
-fn no_rings(alloc: Global, count: usize) -> Result<Items<Items<u8>>, AllocError> {
-    let mut rings = Items::new(alloc);
-    for node in 0..count {
-        rings.push(Items::new(alloc))?;
-    }
-    Ok(rings)
-}
-
-impl Trials {
-    /// Nothing tried yet.
-    pub(crate) fn new(alloc: Global, count: usize) -> Result<Trials, AllocError> {
+impl Search {
+    /// Nothing reached yet.
+    fn new(alloc: Global, count: usize) -> Result<Search, AllocError> {
         let marks = no_marks(alloc, count)?;
-        let rings = no_rings(alloc, count)?;
-        Ok(Trials {
-            rings,
+        Ok(Search {
             labels: Labels { marks, trial: 0 },
             reached: Items::new(alloc),
             budget: 0,
         })
-    }
-
-    /// As many ports may be looked at as the size of the part allows.
-    pub(crate) fn begin(&mut self, part: &NodeSet) {
-        self.budget = part.count().saturating_mul(PORTS_FOR_A_NODE);
     }
 
     /// So many ports are looked at, where that many still may be.
@@ -217,7 +208,7 @@ impl Trials {
     }
 
     /// Searches from all ports of the candidate at once, breadth first, by the nodes of the part.
-    fn search(&mut self, alloc: Global, candidate: &Candidate) -> Result<Answer, AllocError> {
+    fn run(&mut self, alloc: Global, candidate: &Candidate) -> Result<Answer, AllocError> {
         self.labels.trial = self.labels.trial.wrapping_add(1);
         self.reached = Items::new(alloc);
         if let Some(meeting) = self.start(candidate)? {
@@ -254,29 +245,33 @@ impl Trials {
         join_ways(way, meeting.port, &back, &mut ring)?;
         Ok(ring)
     }
+}
 
-    /// Keeps the ring through a node.
-    fn keep(&mut self, node: usize, ring: Items<u8>) {
-        if node < self.rings.len() {
-            self.rings.set(node, ring);
-        }
+impl<'a> Trials<'a> {
+    /// Nothing tried yet.
+    pub(crate) fn new(alloc: Global, wired: &'a Wired<'a>) -> Result<Trials<'a>, AllocError>
+        ensures { IfOk result (λ trials. trials.rings ≡ wired.now) }
+    {
+        let rings = Rings::none(alloc, wired)?;
+        let search = Search::new(alloc, wired.nodes())?;
+        Ok(Trials { rings, search })
+    }
+
+    /// As many ports may be looked at as the size of the part allows.
+    pub(crate) fn begin(&mut self, part: &NodeSet)
+        ensures { self.new.rings ≡ self.old.rings }
+    {
+        self.search.budget = part.count().saturating_mul(PORTS_FOR_A_NODE);
     }
 
     /// Whether the ring that was kept of the candidate shows that it does not split the part.
     pub(crate) fn is_ringed(&mut self, candidate: &Candidate) -> bool
-        ensures { IsTrue result → SplitsIt candidate.now.part.wired.now candidate.now.part.nodes.now candidate.now.node → ⊥ }
+        requires { self.old.rings ≡ candidate.now.part.wired.now }
+        ensures ringed { IsTrue result → SplitsIt candidate.now.part.wired.now candidate.now.part.nodes.now candidate.now.node → ⊥ }
+        ensures same { self.new.rings ≡ self.old.rings }
     {
-        let steps = match self.rings.get(candidate.node) {
-            Some(ring) => ring.len(),
-            None => 0,
-        };
-        if !self.spend(steps) {
-            return false;
-        }
-        match self.rings.get(candidate.node) {
-            Some(ring) => joins_classes(candidate, ring),
-            None => false,
-        }
+        let size = self.rings.size(candidate.node);
+        self.search.spend(size) && self.rings.keep_whole(candidate)
     }
 
     /// Whether the candidate splits the part, where a search from it tells.
@@ -285,12 +280,14 @@ impl Trials {
         alloc: Global,
         candidate: &Candidate,
     ) -> Result<Option<bool>, AllocError>
-        ensures { IfOk result (IsTried candidate.now.part.wired.now candidate.now.part.nodes.now candidate.now.node) }
+        requires { self.old.rings ≡ candidate.now.part.wired.now }
+        ensures tried { IfOk result (IsTried candidate.now.part.wired.now candidate.now.part.nodes.now candidate.now.node) }
+        ensures same { self.new.rings ≡ self.old.rings }
     {
-        match self.search(alloc, candidate)? {
+        match self.search.run(alloc, candidate)? {
             Answer::Met(meeting) => {
-                let ring = self.ring(alloc, meeting)?;
-                self.keep(candidate.node, ring);
+                let ring = self.search.ring(alloc, meeting)?;
+                self.rings.keep(alloc, candidate.node, &ring)?;
                 if self.is_ringed(candidate) {
                     Ok(Some(false))
                 } else {
@@ -298,7 +295,7 @@ impl Trials {
                 }
             }
             Answer::Apart => {
-                if show_splitting(candidate, &self.labels) {
+                if show_splitting(candidate, &self.search.labels) {
                     Ok(Some(true))
                 } else {
                     Ok(None)

@@ -1,4 +1,4 @@
-use Rattle.std.proofs.Common.{reverse, length}
+use Rattle.std.proofs.Common.{◌≡◌, reverse, length}
 use Rattle.in_simple.specs.Constructions.{count}
 use Rattle.in_simple.specs.Procedure.{IsWork, pending_in}
 use Rattle.in_simple.specs.Stacks.{IsUnderWay}
@@ -8,6 +8,7 @@ abbrev pub invariant-loop-part : goal.invariant-loop-part
 invariant-loop-part l = record {
   work : IsWork l.wired (reverse l.work.tasks);
   steps : IsUnderWay l.wired (reverse l.work.tasks) l.work.steps l.work.roots;
+  rings : l.trials.rings ≡ l.wired;
 }
 
 abbrev pub decreases-loop-part : goal.decreases-loop-part

@@ -8,8 +8,8 @@ use Rattle.in_simple.proofs.Stacking.{under_derive}
 use Rattle.in_simple.proofs.Working.{expand_work, expand_fewer, stuck_first, stuck_underivable}
 use Rattle.in_simple.proofs.procedure.take.Goals as goal
 
-pub returns-in_ok-expand-in-Some : goal.returns-in_ok-expand-in-Some
-returns-in_ok-expand-in-Some c =
+pub returns-in_ok-expand-in-Some-clause-found : goal.returns-in_ok-expand-in-Some-clause-found
+returns-in_ok-expand-in-Some-clause-found c =
     let o = c.args.wired.now in
     let part = c.args.nodes.now in
     let ts = reverse c.args.work.now.tasks in
@@ -27,8 +27,8 @@ returns-in_ok-expand-in-Some c =
           (subst (λ z. IsUnderWay o (reverse x.tasks) z old.roots) (sym c.in_ok-expand-in-Some.ensures.steps) (subst (λ z. IsUnderWay o z old.steps old.roots) (sym e) (under_derive o part ps ts old.steps old.roots t.steps t.takes c.requires.steps))),
     )
 
-pub returns-in_ok-nodes-in-None : goal.returns-in_ok-nodes-in-None
-returns-in_ok-nodes-in-None c =
+pub returns-in_ok-nodes-in-None-clause-found : goal.returns-in_ok-nodes-in-None-clause-found
+returns-in_ok-nodes-in-None-clause-found c =
     let o = c.args.wired.now in
     let part = c.args.nodes.now in
     let ts = reverse c.args.work.now.tasks in

@@ -19,19 +19,22 @@ pub returns-in-Some-true-clause-found : goal.returns-in-Some-true-clause-found
 returns-in-Some-true-clause-found c =
     let o = c.args.part.now.wired.now in
     let part = c.args.part.now.nodes.now in
-    first_next o part c.members-member-items.result.now c.members-member-items.ensures c.loop-member.member-index c.loop-member-test.true c.loop-member.invariant
-    (subst (IsTried o part _) (c.in-Some-true.is ∙ ap Some c.in-Some-true.field-0-test) c.in_ok-tried.ensures)
+    first_next o part c.members-member-items.result.now c.members-member-items.ensures c.loop-member.member-index c.loop-member-test.true c.loop-member.invariant.none
+    (subst (IsTried o part _) (c.in-Some-true.is ∙ ap Some c.in-Some-true.field-0-test) c.in_ok-tried.ensures.tried)
 
 pub loop-member-preserved : goal.loop-member-preserved
 loop-member-preserved c =
     let o = c.args.part.now.wired.now in
     let part = c.args.part.now.nodes.now in
-    none_next o part c.members-member-items.result.now c.members-member-items.ensures c.loop-member.member-index c.loop-member-test.true c.loop-member.invariant
-    (subst (IsTried o part _) (c.in-Some-false.is ∙ ap Some c.in-Some-false.field-0-test) c.in_ok-tried.ensures)
+    record {
+      none = none_next o part c.members-member-items.result.now c.members-member-items.ensures c.loop-member.member-index c.loop-member-test.true c.loop-member.invariant.none
+          (subst (IsTried o part _) (c.in-Some-false.is ∙ ap Some c.in-Some-false.field-0-test) c.in_ok-tried.ensures.tried);
+      rings = c.in_ok-tried.ensures.same ∙ c.loop-member.invariant.rings;
+    }
 
 pub returns-clause-found : goal.returns-clause-found
 returns-clause-found c =
     let ns = c.members-member-items.result.now in
     let f = c.loop-member-test.false in
     let g = c.loop-member.auto in
-    none_splits c.args.part.now.wired.now c.args.part.now.nodes.now ns c.members-member-items.ensures c.loop-member.member-index (omega arith) c.loop-member.invariant
+    none_splits c.args.part.now.wired.now c.args.part.now.nodes.now ns c.members-member-items.ensures c.loop-member.member-index (omega arith) c.loop-member.invariant.none

@@ -1,6 +1,10 @@
+use Rattle.std.proofs.Common.{◌≡◌}
 use Rattle.in_simple.proofs.Members.{past}
 use Rattle.in_simple.specs.Procedure.{NoneSplits}
 use Rattle.in_simple.proofs.splitting.first_by_trials.Given as goal
 
 abbrev pub invariant-loop-member : goal.invariant-loop-member
-invariant-loop-member l = NoneSplits l.part.wired.now l.part.nodes.now (past l.member-items l.member-index)
+invariant-loop-member l = record {
+  none : NoneSplits l.part.wired.now l.part.nodes.now (past l.member-items l.member-index);
+  rings : l.trials.rings ≡ l.part.wired.now;
+}
