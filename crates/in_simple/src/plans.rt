@@ -60,11 +60,21 @@ fn leads_back(point: Point, node: usize, port: usize) -> bool
 }
 
 /// The tasks of a part of which one node is taken out, the nodes that are left, and those that the tasks derive.
-#[derive(Drop)]
 struct Plan {
     tasks: Items<Task>,
     rest: NodeSet,
     done: NumberSet,
+}
+
+// By hand, so that each drop is a call: a derived one is written out in each proof, at each way out.
+impl Drop for Plan {
+    fn drop(self) {
+        let Plan {
+            tasks: _,
+            rest: _,
+            done: _,
+        } = self;
+    }
 }
 
 impl Plan {
@@ -74,6 +84,18 @@ impl Plan {
     {
         self.tasks.push(Task::Make(joint))?;
         Ok(self)
+    }
+
+    /// Its tasks.
+    fn into_tasks(self) -> Items<Task>
+        ensures { result ≡ self.tasks }
+    {
+        let Plan {
+            tasks,
+            rest: _,
+            done: _,
+        } = self;
+        tasks
     }
 
     /// What becomes of a node.
@@ -549,10 +571,5 @@ pub(crate) fn tasks_of(
 {
     let begun = Begun::of(alloc, wired, part, node)?;
     let whole = begun.touched(alloc)?.others(alloc, part)?;
-    let Plan {
-        tasks,
-        rest: _,
-        done: _,
-    } = whole.plan;
-    Ok(tasks)
+    Ok(whole.plan.into_tasks())
 }

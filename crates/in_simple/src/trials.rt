@@ -47,18 +47,37 @@ enum Answer {
 
 /// A search from single nodes: what the last one reached, and how many more ports may be looked at. Nothing is claimed of what it finds,
 /// since rings and labels are checked before they are used.
-#[derive(Drop)]
 struct Search {
     labels: Labels,
     reached: Items<Reached>,
     budget: usize,
 }
 
+// By hand, so that each drop is a call: a derived one is written out in each proof, at each way out.
+impl Drop for Search {
+    fn drop(self) {
+        let Search {
+            labels: _,
+            reached: _,
+            budget: _,
+        } = self;
+    }
+}
+
 /// The rings that searches from single nodes found, and the last search.
-#[derive(Drop)]
 pub(crate) struct Trials<'a> {
     pub(crate) rings: Rings<'a>,
     search: Search,
+}
+
+// By hand, so that each drop is a call: a derived one is written out in each proof, at each way out.
+impl<'a> Drop for Trials<'a> {
+    fn drop(self) {
+        let Trials {
+            rings: _,
+            search: _,
+        } = self;
+    }
 }
 
 /// A mark of no trial for each node.

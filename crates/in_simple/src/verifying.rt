@@ -11,11 +11,21 @@ use sqlite_items::Items;
 use std::alloc::{AllocError, Global};
 
 /// What a step builds: its nodes, the wires of its Links, and for each wire how many open ends it has for the two points.
-#[derive(Drop)]
 pub(crate) struct Built {
     pub(crate) nodes: NumberSet,
     pub(crate) links: NumberSet,
     pub(crate) ends: Items<(u32, u32)>,
+}
+
+// By hand, so that each drop is a call: a derived one is written out in each proof, at each way out.
+impl Drop for Built {
+    fn drop(self) {
+        let Built {
+            nodes: _,
+            links: _,
+            ends: _,
+        } = self;
+    }
 }
 
 /// No end.

@@ -88,11 +88,21 @@ impl Slot {
 
 /// An open net, with how many ports each node has, and the wire at each port and its other point, side by side for a search. A node has
 /// a slot for each port that an agent may have.
-#[derive(Drop)]
 pub(crate) struct Wired<'a> {
     open: &'a OpenNet,
     ports: Items<u8>,
     slots: Items<Slot>,
+}
+
+// By hand, so that each drop is a call: a derived one is written out in each proof, at each way out.
+impl<'a> Drop for Wired<'a> {
+    fn drop(self) {
+        let Wired {
+            open: _,
+            ports: _,
+            slots: _,
+        } = self;
+    }
 }
 
 // Contracts see the open net.

@@ -1,7 +1,8 @@
-use Rattle.std.proofs.Common.{◌≡◌, ◌+◌, suc, length, sym, ◌∙◌, ap, subst, arith}
-use Rattle.in_simple.specs.Planned.{Takes}
-use Rattle.in_simple.specs.Procedure.{IsRest}
+use Rattle.std.proofs.Common.{[], ◌∷◌, ◌≡◌, ◌+◌, suc, length, sym, ◌∙◌, ap, subst, arith}
+use Rattle.in_simple.specs.Planned.{Takes, TakesPart}
+use Rattle.in_simple.specs.Procedure.{AreSized, IsRest, Lists, nodes_in}
 use Rattle.in_simple.specs.Progress.{PlansNet, Progress, after_ports, at_end, progress}
+use Rattle.in_simple.specs.Stacks.{Puts, no_wires, shape}
 use Rattle.in_simple.specs.Stuck.{ports_of}
 use Rattle.in_simple.proofs.Nets.{net_whole}
 use Rattle.in_simple.proofs.Planning.{lists_part, plan_end}
@@ -20,10 +21,12 @@ returns c =
     let x : PlansNet o n k p = subst (λ (s : Progress). PlansNet s.net s.node s.next p) e c.whole.invariant in
     let left : IsRest n c.args.part.now p.rest = subst (λ (s : Progress). IsRest n c.args.part.now s.rest) (sym e) c.in_ok-begun.ensures.rest in
     let net = x.orderly.net in
+    let s = nodes_in c.args.part.now in
+    let same = sym c.into_tasks.ensures in
     record {
-      steps = net_whole o net n c.args.part.now p x.plan x.net left c.requires.here;
-      takes = part_taken o net n c.args.part.now p c.requires.first left (subst (λ z. Takes o n k z p) (before_other o n k (omega arith)) x.takes);
+      steps = subst (λ z. Puts o z (shape s no_wires ∷ [])) same (net_whole o net n c.args.part.now p x.plan x.net left c.requires.here);
+      takes = subst (TakesPart o s) same (part_taken o net n c.args.part.now p c.requires.first left (subst (λ z. Takes o n k z p) (before_other o n k (omega arith)) x.takes));
       net = x.orderly;
-      lists = lists_part o net n c.args.part.now p.rest left 0 p.tasks (plan_end o net n p x.plan);
-      sized = x.plan.sized;
+      lists = subst (Lists o n s 0) same (lists_part o net n c.args.part.now p.rest left 0 p.tasks (plan_end o net n p x.plan));
+      sized = subst (AreSized (length o.nodes)) same x.plan.sized;
     }
