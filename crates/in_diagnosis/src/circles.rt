@@ -198,33 +198,58 @@ impl Field<'_> {
         None
     }
 
-    /// A circle that leaves a node by this port.
-    fn circle_by(&self, alloc: Global, at: Port) -> Result<Option<Circle>, AllocError> {
+    /// The circle of a wire between this port and another one of its node, where they are of different classes.
+    fn own_circle(&self, alloc: Global, at: Port, second: u8) -> Option<Circle> {
         let (node, first) = at;
-        let Some((next, place)) = self.wires.end(at) else {
-            return Ok(None);
-        };
-        if next == node {
-            let other = class_of(self.source, self.open, (node, place));
-            return Ok(if other == class_of(self.source, self.open, at) {
-                None
-            } else {
-                Some(Circle {
-                    first,
-                    second: place,
-                    way: Vec::new(alloc),
-                })
-            });
+        if class_of(self.source, self.open, (node, second))
+            == class_of(self.source, self.open, at)
+        {
+            return None;
         }
+        Some(Circle {
+            first,
+            second,
+            way: Vec::new(alloc),
+        })
+    }
+
+    /// A circle that leaves a node by this port and comes back from one of the nodes that are reached.
+    fn closed_circle(
+        &self,
+        alloc: Global,
+        at: Port,
+        reached: &Reached,
+    ) -> Result<Option<Circle>, AllocError> {
+        let (_, first) = at;
+        match self.closing(at, reached) {
+            Some((second, last)) => {
+                let way = way_to(alloc, reached, last)?;
+                Ok(Some(Circle { first, second, way }))
+            }
+            None => Ok(None),
+        }
+    }
+
+    /// A circle that leaves a node by this port to another node.
+    fn circle_over(
+        &self,
+        alloc: Global,
+        at: Port,
+        next: u32,
+    ) -> Result<Option<Circle>, AllocError> {
         if !matches!(self.part.get(next as usize), Some(true)) {
             return Ok(None);
         }
         let reached = reached_from(alloc, self.wires, self.part, next)?;
-        match self.closing(at, &reached) {
-            Some((second, last)) => {
-                let way = way_to(alloc, &reached, last)?;
-                Ok(Some(Circle { first, second, way }))
-            }
+        self.closed_circle(alloc, at, &reached)
+    }
+
+    /// A circle that leaves a node by this port.
+    fn circle_by(&self, alloc: Global, at: Port) -> Result<Option<Circle>, AllocError> {
+        let (node, _) = at;
+        match self.wires.end(at) {
+            Some((next, place)) if next == node => Ok(self.own_circle(alloc, at, place)),
+            Some((next, _)) => self.circle_over(alloc, at, next),
             None => Ok(None),
         }
     }

@@ -1,37 +1,50 @@
 //! What a program declares.
-use in_syntax::{Name, Place, Source, SourceClass, SourceNet, SourcePort, SourceSymbol};
-use std::alloc::{AllocError, Global};
+use crate::reports::Report;
+use in_syntax::{Name, Place, Source, SourceClass, SourceFree, SourcePort, SourceSymbol};
 
-/// The names of the types.
-pub(crate) fn types(alloc: Global, source: &Source) -> Result<Vec<&Name>, AllocError> {
-    source.types.as_slice().iter().collect(alloc)
+/// What is declared by a name: a type, a symbol or a free end.
+pub(crate) trait Declared {
+    /// Its name.
+    fn name(&self) -> &Name;
 }
 
-/// The names of the symbols.
-pub(crate) fn symbols(alloc: Global, source: &Source) -> Result<Vec<&Name>, AllocError> {
-    let symbols = source.symbols.as_slice();
-    symbols.iter().map(|symbol| &symbol.name).collect(alloc)
+impl Declared for Name {
+    fn name(&self) -> &Name {
+        self
+    }
 }
 
-/// The names of the free ends.
-pub(crate) fn free_ends(alloc: Global, net: &SourceNet) -> Result<Vec<&Name>, AllocError> {
-    let free = net.free.as_slice();
-    free.iter().map(|end| &end.name).collect(alloc)
+impl Declared for SourceSymbol {
+    fn name(&self) -> &Name {
+        &self.name
+    }
+}
+
+impl Declared for SourceFree {
+    fn name(&self) -> &Name {
+        &self.name
+    }
 }
 
 /// The first of these names that has this text.
-pub(crate) fn first_of<'a>(names: &[&'a Name], text: &str) -> Option<&'a Name> {
-    for name in names {
+pub(crate) fn first_of<'a, D: Declared>(declared: &'a [D], text: &str) -> Option<&'a Name> {
+    for one in declared {
+        let name = one.name();
         if name.text.as_str() == text {
-            return Some(*name);
+            return Some(name);
         }
     }
     None
 }
 
 /// Whether one of these names stands at this place.
-pub(crate) fn is_among(names: &[&Name], place: Place) -> bool {
-    names.iter().any(|name| name.place.from == place.from)
+pub(crate) fn is_among<D: Declared>(declared: &[D], place: Place) -> bool {
+    for one in declared {
+        if one.name().place.from == place.from {
+            return true;
+        }
+    }
+    false
 }
 
 /// The first symbol of this name.
@@ -83,23 +96,23 @@ pub(crate) fn place_in(symbol: &SourceSymbol, class: usize, number: usize) -> us
     place
 }
 
-/// A port's type, as it is written.
-pub(crate) fn type_text(alloc: Global, port: &SourcePort) -> Result<String, AllocError> {
-    let kind = port.kind.text.as_str();
-    let sign = if port.output { '+' } else { '-' };
-    format!(in alloc; "{kind}{sign}")
+/// The sign of a port's type.
+fn sign(port: &SourcePort) -> &'static str {
+    if port.output { "+" } else { "-" }
 }
 
-/// A port, in words.
-pub(crate) fn port_words(
-    alloc: Global,
-    symbol: &SourceSymbol,
-    place: usize,
-) -> Result<String, AllocError> {
-    let name = symbol.name.text.as_str();
+/// Says a port's type between these words, as it is written.
+pub(crate) fn say_type(report: &mut Report, before: &str, port: &SourcePort, after: &str) {
+    report.say_name(before, port.kind.text.as_str(), sign(port));
+    report.say(after);
+}
+
+/// Says a port, in words.
+pub(crate) fn say_port(report: &mut Report, symbol: &SourceSymbol, place: usize) {
     if place == 0 {
-        format!(in alloc; "the principal port of `{name}`")
+        report.say("the principal port");
     } else {
-        format!(in alloc; "auxiliary port {place} of `{name}`")
+        report.say_number("auxiliary port ", place, "");
     }
+    report.say_name(" of `", symbol.name.text.as_str(), "`");
 }

@@ -1,6 +1,6 @@
 //! A line of a text with a mark under a place in it.
+use crate::reports::Report;
 use in_syntax::Place;
-use std::alloc::AllocError;
 use std::str;
 
 /// How many characters of a line are shown before the marked place.
@@ -96,64 +96,70 @@ fn blank(c: char) -> char {
 }
 
 /// Adds what stands before the place, but for so many characters.
-fn add_before(lines: &mut String, before: &str, hidden: usize) -> Result<(), AllocError> {
+fn add_before(report: &mut Report, before: &str, hidden: usize) {
     for c in before.chars().skip(hidden) {
-        lines.push(shown(c))?;
+        report.push(shown(c));
     }
-    Ok(())
 }
 
 /// Adds so many of these characters at most; answers how many more may come, or nothing where some are left out.
-fn add_some(lines: &mut String, text: &str, most: usize) -> Result<Option<usize>, AllocError> {
+fn add_some(report: &mut Report, text: &str, most: usize) -> Option<usize> {
     let mut left = most;
     for c in text.chars() {
         if left == 0 {
-            lines.push_str("...")?;
-            return Ok(None);
+            report.say("...");
+            return None;
         }
         left -= 1;
-        lines.push(shown(c))?;
+        report.push(shown(c));
     }
-    Ok(Some(left))
+    Some(left)
+}
+
+/// Adds the marked part and what stands after it, as far as there is room.
+fn add_rest(report: &mut Report, line: &Line) {
+    if let Some(left) = add_some(report, line.marked, AFTER) {
+        let _ = add_some(report, line.after, left);
+    }
+}
+
+/// These words, or none.
+fn where_it_holds(holds: bool, words: &'static str) -> &'static str {
+    if holds { words } else { "" }
 }
 
 /// Adds the line, of which so many characters are not shown.
-fn add_line(lines: &mut String, line: &Line, hidden: usize) -> Result<(), AllocError> {
-    lines.push_str(if hidden > 0 { "..." } else { "" })?;
-    add_before(lines, line.before, hidden)?;
-    lines.push_str(if line.broken { "\u{FFFD}" } else { "" })?;
-    match add_some(lines, line.marked, AFTER)? {
-        Some(left) => add_some(lines, line.after, left).map(|_| ()),
-        None => Ok(()),
-    }
+fn add_line(report: &mut Report, line: &Line, hidden: usize) {
+    report.say(where_it_holds(hidden > 0, "..."));
+    add_before(report, line.before, hidden);
+    report.say(where_it_holds(line.broken, "\u{FFFD}"));
+    add_rest(report, line);
 }
 
 /// Adds blanks as wide as what stands before the place, but for so many characters.
-fn add_blanks(lines: &mut String, before: &str, hidden: usize) -> Result<(), AllocError> {
+fn add_blanks(report: &mut Report, before: &str, hidden: usize) {
     for c in before.chars().skip(hidden) {
-        lines.push(blank(c))?;
+        report.push(blank(c));
     }
-    Ok(())
 }
 
 /// Adds the mark under the line.
-fn add_mark(lines: &mut String, line: &Line, hidden: usize) -> Result<(), AllocError> {
-    lines.push_str(if hidden > 0 { "   " } else { "" })?;
-    add_blanks(lines, line.before, hidden)?;
+fn add_mark(report: &mut Report, line: &Line, hidden: usize) {
+    report.say(where_it_holds(hidden > 0, "   "));
+    add_blanks(report, line.before, hidden);
     for _mark in 0..line.marked.chars().count().clamp(1, AFTER) {
-        lines.push('^')?;
+        report.push('^');
     }
-    Ok(())
 }
 
 /// Adds the line in which a place begins, with its number, and a mark under the place; a line that is too long for a screen is cut.
-pub(crate) fn add_excerpt(lines: &mut String, text: &[u8], place: Place) -> Result<(), AllocError> {
-    let line = line_of(text, place);
+pub(crate) fn add_excerpt(report: &mut Report, place: Place) {
+    let line = line_of(report.text, place);
     let hidden = line.before.chars().count().saturating_sub(BEFORE);
     let number = place.line;
-    write!(lines, "{number:>5} | ")?;
-    add_line(lines, &line, hidden)?;
-    lines.push_str("\n      | ")?;
-    add_mark(lines, &line, hidden)?;
-    lines.push_str("\n")
+    report.put(&format_args!("{number:>5} | "));
+    add_line(report, &line, hidden);
+    report.say("\n      | ");
+    add_mark(report, &line, hidden);
+    report.end();
 }

@@ -93,35 +93,51 @@ fn expected_in(report: &Report, place: Place) -> Result<Expected, AllocError> {
     }
 }
 
-/// No program goes on so.
-pub(crate) fn add_unexpected(report: &mut Report, place: Place) -> Result<(), AllocError> {
-    let expected = expected_in(report, place)?;
-    let found = report.at(place);
-    let wanted = words(expected);
-    let sentence = if found.is_empty() {
-        format!(in report.alloc; "the text ends here, where {wanted} is expected")
+/// What was found in the place of what is expected.
+fn say_found(report: &mut Report, found: &str) {
+    if found.is_empty() {
+        report.say("error: the text ends here");
     } else {
-        format!(in report.alloc; "unexpected `{found}`, where {wanted} is expected")
-    };
-    report.wrong_text(place, sentence)?;
-    report.help(help_with(expected, found))
+        report.say_name("error: unexpected `", found, "`");
+    }
+}
+
+/// No program goes on so, where this is expected.
+fn add_other(report: &mut Report, place: Place, expected: Expected) {
+    let found = report.at(place);
+    say_found(report, found);
+    report.say_name(", where ", words(expected), " is expected");
+    report.end_at(place);
+    report.help(help_with(expected, found));
+}
+
+/// No program goes on so.
+pub(crate) fn add_unexpected(report: &mut Report, place: Place) {
+    match expected_in(report, place) {
+        Ok(expected) => add_other(report, place, expected),
+        Err(error) => report.fail(error),
+    }
 }
 
 /// A text of too many bytes.
-pub(crate) fn add_long_text(report: &mut Report, place: Place) -> Result<(), AllocError> {
-    let bytes = report.text.len();
-    let sentence = format!(in report.alloc;
-        "the text has {bytes} bytes, more than {MAX_TEXT_BYTES}"
+pub(crate) fn add_long_text(report: &mut Report, place: Place) {
+    report.say_number(
+        "error: the text has ",
+        report.text.len(),
+        " bytes, more than ",
     );
-    report.wrong_text(place, sentence)
+    report.put(&MAX_TEXT_BYTES);
+    report.end_at(place);
 }
 
 /// A word of too many characters.
-pub(crate) fn add_long_word(report: &mut Report, place: Place) -> Result<(), AllocError> {
-    let sentence = format!(in report.alloc;
-        "this word has more than {MAX_NAME_CHARACTERS} characters"
+pub(crate) fn add_long_word(report: &mut Report, place: Place) {
+    report.wrong_number(
+        place,
+        "this word has more than ",
+        MAX_NAME_CHARACTERS,
+        " characters",
     );
-    report.wrong_text(place, sentence)
 }
 
 /// What there is too much of, and the most of it, where the grammar expects this.
@@ -147,11 +163,19 @@ fn limit_help(expected: Expected) -> &'static str {
     }
 }
 
-/// A limit of the grammar that is passed.
-pub(crate) fn add_limit(report: &mut Report, place: Place) -> Result<(), AllocError> {
-    let expected = expected_in(report, place)?;
+/// More than the grammar takes, where this is expected.
+fn add_more(report: &mut Report, place: Place, expected: Expected) {
     let (most, what) = limit(expected);
-    let sentence = format!(in report.alloc; "more than {most} {what}");
-    report.wrong_text(place, sentence)?;
-    report.help(limit_help(expected))
+    report.say_number("error: more than ", most, " ");
+    report.say(what);
+    report.end_at(place);
+    report.help(limit_help(expected));
+}
+
+/// A limit of the grammar that is passed.
+pub(crate) fn add_limit(report: &mut Report, place: Place) {
+    match expected_in(report, place) {
+        Ok(expected) => add_more(report, place, expected),
+        Err(error) => report.fail(error),
+    }
 }

@@ -3,7 +3,6 @@ use crate::excerpts::{front, is_hidden};
 use crate::reports::Report;
 use in_characters::name_of;
 use in_syntax::Place;
-use std::alloc::AllocError;
 
 /// What a character without a name is: nothing here, private, or not a character at all.
 fn nameless(c: char) -> &'static str {
@@ -51,10 +50,11 @@ fn help_with(first: char, second: Option<char>) -> &'static str {
 }
 
 /// A byte that is part of no character.
-fn add_byte(report: &mut Report, place: Place, byte: u8) -> Result<(), AllocError> {
-    let sentence = format!(in report.alloc; "the byte {byte:#04x} is no UTF-8 here");
-    report.wrong_text(place, sentence)?;
-    report.help("save the text as UTF-8")
+fn add_byte(report: &mut Report, place: Place, byte: u8) {
+    report.say("error: ");
+    report.put(&format_args!("the byte {byte:#04x} is no UTF-8 here"));
+    report.end_at(place);
+    report.help("save the text as UTF-8");
 }
 
 /// The two characters with which some bytes begin.
@@ -64,29 +64,56 @@ fn first_two(bytes: &[u8]) -> (Option<char>, Option<char>) {
     (first, chars.next())
 }
 
-/// What is wrong with a character with which no token begins: it, unless it isn't seen, its name and its number.
-fn sentence_on(report: &Report, c: char) -> Result<String, AllocError> {
-    let name = name_of(c).unwrap_or(nameless(c));
+/// The number of a character.
+fn say_code(report: &mut Report, c: char) {
     let number = u32::from(c);
+    report.put(&format_args!("U+{number:04X}"));
+}
+
+/// A character that isn't seen: its number and its name.
+fn say_blank(report: &mut Report, c: char, name: &str) {
+    say_code(report, c);
+    report.say_name(", the ", name, "");
+}
+
+/// A character that is seen: it, its name and its number.
+fn say_seen(report: &mut Report, c: char, name: &str) {
+    report.say("`");
+    report.push(c);
+    report.say_name("`, the ", name, " ");
+    say_code(report, c);
+}
+
+/// A character with which no token begins.
+fn say_letter(report: &mut Report, c: char) {
+    let name = name_of(c).unwrap_or(nameless(c));
     if is_blank(c) {
-        format!(in report.alloc; "no token begins with U+{number:04X}, the {name}")
+        say_blank(report, c, name);
     } else {
-        format!(in report.alloc; "no token begins with `{c}`, the {name} U+{number:04X}")
+        say_seen(report, c, name);
+    }
+}
+
+/// A character with which no token begins, and the one after it.
+fn add_letter(report: &mut Report, place: Place, first: char, second: Option<char>) {
+    report.say("error: no token begins with ");
+    say_letter(report, first);
+    report.end_at(place);
+    report.help(help_with(first, second));
+}
+
+/// What stands at the place, where there is something.
+fn add_rest(report: &mut Report, place: Place, rest: &[u8]) {
+    match (first_two(rest), rest.first()) {
+        ((Some(first), second), _) => add_letter(report, place, first, second),
+        ((None, _), Some(byte)) => add_byte(report, place, *byte),
+        ((None, _), None) => (),
     }
 }
 
 /// No token begins at this place.
-pub(crate) fn add_no_token(report: &mut Report, place: Place) -> Result<(), AllocError> {
-    let Some(rest) = report.text.get(place.from..) else {
-        return Ok(());
-    };
-    let Some(byte) = rest.first() else {
-        return Ok(());
-    };
-    let (Some(first), second) = first_two(rest) else {
-        return add_byte(report, place, *byte);
-    };
-    let sentence = sentence_on(report, first);
-    report.wrong_text(place, sentence)?;
-    report.help(help_with(first, second))
+pub(crate) fn add_no_token(report: &mut Report, place: Place) {
+    if let Some(rest) = report.text.get(place.from..) {
+        add_rest(report, place, rest);
+    }
 }

@@ -1,4 +1,5 @@
 //! Names that are near to one that isn't declared.
+use crate::declarations::Declared;
 use crate::reports::Report;
 use in_syntax::Name;
 use std::alloc::{AllocError, Global};
@@ -35,13 +36,14 @@ struct Near<'a> {
 }
 
 /// The declared names that are near to this one.
-fn near_names<'a>(
+fn near_names<'a, D: Declared>(
     alloc: Global,
     name: &str,
-    declared: &[&'a Name],
+    declared: &'a [D],
 ) -> Result<Vec<Near<'a>>, AllocError> {
     let mut found = Vec::new(alloc);
     for other in declared {
+        let other = other.name();
         if let Some(distance) = distance(alloc, name, other.text.as_str())? {
             found.push(Near {
                 name: other,
@@ -55,44 +57,40 @@ fn near_names<'a>(
 /// How many near names are told.
 const MOST_TOLD: usize = 4;
 
+/// Asks whether this name was meant, or this one too.
+fn add_name(report: &mut Report, name: &Name, further: bool) {
+    let before = if further { "or `" } else { "did you mean `" };
+    report.note_name(name.place, before, name.text.as_str(), "`?");
+}
+
 /// Adds those names that differ by so many characters, where so many are told already; answers how many are told now.
-fn add_at(
-    report: &mut Report,
-    found: &[Near],
-    distance: usize,
-    told: usize,
-) -> Result<usize, AllocError> {
+fn add_at(report: &mut Report, found: &[Near], distance: usize, told: usize) -> usize {
     let mut count = told;
     for near in found {
         if near.distance == distance && count < MOST_TOLD {
-            add_name(report, near.name, count > 0)?;
+            add_name(report, near.name, count > 0);
             count += 1;
         }
     }
-    Ok(count)
+    count
 }
 
-/// Asks whether this name was meant, or this one too.
-fn add_name(report: &mut Report, name: &Name, further: bool) -> Result<(), AllocError> {
-    let text = name.text.as_str();
-    let sentence = if further {
-        format!(in report.alloc; "or `{text}`?")
-    } else {
-        format!(in report.alloc; "did you mean `{text}`?")
-    };
-    report.note_text(name.place, sentence)
+/// Adds these names, the nearest first; says whether there are any.
+fn add_found(report: &mut Report, found: &[Near]) -> bool {
+    let mut told = 0;
+    for distance in 0..=FARTHEST {
+        told = add_at(report, found, distance, told);
+    }
+    told > 0
 }
 
 /// Adds the declared names that are near to this one, the nearest first; says whether there are any.
-pub(crate) fn add_near(
-    report: &mut Report,
-    name: &str,
-    declared: &[&Name],
-) -> Result<bool, AllocError> {
-    let found = near_names(report.alloc, name, declared)?;
-    let mut told = 0;
-    for distance in 0..=FARTHEST {
-        told = add_at(report, found.as_slice(), distance, told)?;
+pub(crate) fn add_near<D: Declared>(report: &mut Report, name: &str, declared: &[D]) -> bool {
+    match near_names(report.alloc, name, declared) {
+        Ok(found) => add_found(report, found.as_slice()),
+        Err(error) => {
+            report.fail(error);
+            false
+        }
     }
-    Ok(told > 0)
 }

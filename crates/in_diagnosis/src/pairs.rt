@@ -1,8 +1,7 @@
 //! Rules: of heads that can't meet, a second one for two symbols, and one that is missing.
-use crate::declarations::{arity, symbol_named, type_text};
+use crate::declarations::{arity, say_type, symbol_named};
 use crate::reports::Report;
-use in_syntax::{Place, Source, SourceRule, SourceSymbol};
-use std::alloc::{AllocError, Global};
+use in_syntax::{Name, Place, Source, SourceRule, SourceSymbol};
 
 /// The rule of which a head's name stands at a place.
 fn rule_with(source: &Source, place: Place) -> Option<&SourceRule> {
@@ -14,57 +13,60 @@ fn rule_with(source: &Source, place: Place) -> Option<&SourceRule> {
     None
 }
 
-/// A head's symbol, where it is declared, with the type of its principal port.
-fn add_principal(report: &mut Report, symbol: &SourceSymbol) -> Result<(), AllocError> {
-    let name = symbol.name.text.as_str();
-    let kind = type_text(report.alloc, &symbol.port)?;
-    let what = if symbol.port.output {
-        "constructor"
+/// What a symbol is, by its principal port.
+fn sort(symbol: &SourceSymbol) -> &'static str {
+    if symbol.port.output {
+        "` is a constructor: its principal port is `"
     } else {
-        "destructor"
-    };
-    let sentence = format!(in report.alloc;
-        "`{name}` is a {what}: its principal port is `{kind}`"
-    )?;
-    report.note(symbol.name.place, sentence.as_str())
+        "` is a destructor: its principal port is `"
+    }
+}
+
+/// A head's symbol, where it is declared, with the type of its principal port.
+fn add_principal(report: &mut Report, symbol: &SourceSymbol) {
+    report.say_name("note: `", symbol.name.text.as_str(), sort(symbol));
+    say_type(report, "", &symbol.port, "`");
+    report.end_at(symbol.name.place);
+}
+
+/// The symbol of a head, where it is declared.
+fn add_head(report: &mut Report, source: &Source, name: &str) {
+    if let Some(symbol) = symbol_named(source, name) {
+        add_principal(report, symbol);
+    }
 }
 
 /// The heads' symbols, where they are declared.
-fn add_heads(report: &mut Report, source: &Source, rule: &SourceRule) -> Result<(), AllocError> {
+fn add_heads(report: &mut Report, source: &Source, rule: &SourceRule) {
     let first = rule.first.name.text.as_str();
     let second = rule.second.name.text.as_str();
-    if let Some(symbol) = symbol_named(source, first) {
-        add_principal(report, symbol)?;
-    }
-    match symbol_named(source, second) {
-        Some(symbol) if first != second => add_principal(report, symbol),
-        _ => Ok(()),
+    add_head(report, source, first);
+    if first != second {
+        add_head(report, source, second);
     }
 }
 
 /// Heads that can't meet.
-pub(crate) fn add_unmatched(
-    report: &mut Report,
-    source: &Source,
-    place: Place,
-) -> Result<(), AllocError> {
-    report.wrong(place, "the two heads of this rule can't meet")?;
+pub(crate) fn add_unmatched(report: &mut Report, source: &Source, place: Place) {
+    report.wrong(place, "the two heads of this rule can't meet");
     if let Some(rule) = rule_with(source, place) {
-        add_heads(report, source, rule)?;
+        add_heads(report, source, rule);
     }
     report.help(
         "a rule is for a constructor and a destructor whose principal ports are of one type",
-    )
+    );
+}
+
+/// Whether the heads of a rule are of these symbols, in this order.
+fn are_of(rule: &SourceRule, first: &Name, second: &Name) -> bool {
+    rule.first.name.text.as_str() == first.text.as_str()
+        && rule.second.name.text.as_str() == second.text.as_str()
 }
 
 /// Whether two rules are for the same two symbols.
 fn are_of_one_pair(one: &SourceRule, other: &SourceRule) -> bool {
-    let (a, b) = (one.first.name.text.as_str(), one.second.name.text.as_str());
-    let (c, d) = (
-        other.first.name.text.as_str(),
-        other.second.name.text.as_str(),
-    );
-    (a == c && b == d) || (a == d && b == c)
+    are_of(one, &other.first.name, &other.second.name)
+        || are_of(one, &other.second.name, &other.first.name)
 }
 
 /// The first rule for the two symbols of this one.
@@ -77,85 +79,98 @@ fn first_for<'a>(source: &'a Source, rule: &SourceRule) -> Option<&'a SourceRule
     None
 }
 
-/// A second rule for two symbols: the first one, and the symbols where they are declared.
-fn add_second(
-    report: &mut Report,
-    source: &Source,
-    place: Place,
-    rule: &SourceRule,
-) -> Result<(), AllocError> {
-    let one = rule.first.name.text.as_str();
-    let other = rule.second.name.text.as_str();
-    let sentence = format!(in report.alloc; "this is a second rule for `{one}` and `{other}`");
-    report.wrong_text(place, sentence)?;
+/// Where the first rule for the two symbols of this one stands.
+fn note_first(report: &mut Report, source: &Source, rule: &SourceRule) {
     if let Some(first) = first_for(source, rule) {
-        report.note(first.first.name.place, "the first one is here")?;
+        report.note(first.first.name.place, "the first one is here");
     }
-    add_heads(report, source, rule)?;
-    report.help("keep one of them: the order of the heads doesn't matter")
+}
+
+/// A second rule for two symbols: the first one, and the symbols where they are declared.
+fn add_second(report: &mut Report, source: &Source, place: Place, rule: &SourceRule) {
+    let other = rule.second.name.text.as_str();
+    report.say_name(
+        "error: this is a second rule for `",
+        rule.first.name.text.as_str(),
+        "` and `",
+    );
+    report.say_name(other, "`", "");
+    report.end_at(place);
+    note_first(report, source, rule);
+    add_heads(report, source, rule);
+    report.help("keep one of them: the order of the heads doesn't matter");
 }
 
 /// A second rule for two symbols.
-pub(crate) fn add_second_rule(
-    report: &mut Report,
-    source: &Source,
-    place: Place,
-) -> Result<(), AllocError> {
+pub(crate) fn add_second_rule(report: &mut Report, source: &Source, place: Place) {
     match rule_with(source, place) {
         Some(rule) => add_second(report, source, place, rule),
         None => report.wrong(place, "this is a second rule for its two symbols"),
     }
 }
 
+/// The letter of this number.
+fn letter(number: usize) -> char {
+    let letter = number % 26;
+    char::from(b'a' + letter as u8)
+}
+
+/// What stands before the letter of this number in a head.
+fn comma(number: usize) -> &'static str {
+    if number > 0 { ", " } else { "" }
+}
+
 /// A name for each of so many terms, from this number on, as they stand in a head.
-fn letters(alloc: Global, first: usize, count: usize) -> Result<String, AllocError> {
-    let mut text = String::new(alloc);
+fn say_letters(report: &mut Report, first: usize, count: usize) {
     for number in 0..count {
-        if number > 0 {
-            text.push_str(", ")?;
-        }
-        let letter = first.saturating_add(number) % 26;
-        text.push(char::from(b'a' + letter as u8))?;
+        report.say(comma(number));
+        report.push(letter(first.saturating_add(number)));
     }
-    Ok(text)
+}
+
+/// A head with variables for its terms, from this number on.
+fn say_head(report: &mut Report, before: &str, symbol: &SourceSymbol, first: usize) {
+    report.say_name(before, symbol.name.text.as_str(), "[");
+    say_letters(report, first, arity(symbol));
 }
 
 /// The rule to write, with variables for its terms: the constructor first.
-fn rule_words(
-    alloc: Global,
-    first: &SourceSymbol,
-    second: &SourceSymbol,
-) -> Result<String, AllocError> {
-    let one = first.name.text.as_str();
-    let other = second.name.text.as_str();
-    let ports = arity(first);
-    let before = letters(alloc, 0, ports)?;
-    let after = letters(alloc, ports, arity(second))?;
-    format!(in alloc; "add `rule {one}[{before}] >< {other}[{after}];`, with terms for the letters")
+fn help_rule(report: &mut Report, first: &SourceSymbol, second: &SourceSymbol) {
+    say_head(report, "help: add `rule ", first, 0);
+    say_head(report, "] >< ", second, arity(first));
+    report.say("];`, with terms for the letters\n");
+}
+
+/// A constructor and a destructor that can meet and have no rule.
+fn add_gap(report: &mut Report, place: Place, first: &SourceSymbol, second: &SourceSymbol) {
+    let destructor = second.name.text.as_str();
+    report.say_name("error: `", first.name.text.as_str(), "` and `");
+    report.say_name(destructor, "` can meet, and have no rule", "");
+    report.end_at(place);
+    add_principal(report, first);
+    add_principal(report, second);
+    help_rule(report, first, second);
 }
 
 /// Two symbols that can meet and have no rule.
-fn add_gap(
-    report: &mut Report,
-    place: Place,
-    one: &SourceSymbol,
-    other: &SourceSymbol,
-) -> Result<(), AllocError> {
-    let (first, second) = if one.port.output {
-        (one, other)
+fn add_gap_of(report: &mut Report, place: Place, one: &SourceSymbol, other: &SourceSymbol) {
+    if one.port.output {
+        add_gap(report, place, one, other);
     } else {
-        (other, one)
-    };
-    let constructor = first.name.text.as_str();
-    let destructor = second.name.text.as_str();
-    let sentence = format!(in report.alloc;
-        "`{constructor}` and `{destructor}` can meet, and have no rule"
-    )?;
-    report.wrong(place, sentence.as_str())?;
-    add_principal(report, first)?;
-    add_principal(report, second)?;
-    let help = rule_words(report.alloc, first, second);
-    report.help_text(help)
+        add_gap(report, place, other, one);
+    }
+}
+
+/// The symbols of which the names stand at two places, where both are declared.
+fn symbols_at<'a>(
+    report: &Report,
+    source: &'a Source,
+    place: Place,
+    earlier: Option<Place>,
+) -> Option<(&'a SourceSymbol, &'a SourceSymbol)> {
+    let one = symbol_named(source, report.at(place))?;
+    let other = symbol_named(source, report.at(earlier?))?;
+    Some((one, other))
 }
 
 /// Two symbols that can meet and have no rule, at the places of their declarations.
@@ -164,13 +179,9 @@ pub(crate) fn add_missing_rule(
     source: &Source,
     place: Place,
     earlier: Option<Place>,
-) -> Result<(), AllocError> {
-    if let Some(earlier) = earlier {
-        let one = symbol_named(source, report.at(place));
-        let other = symbol_named(source, report.at(earlier));
-        if let (Some(one), Some(other)) = (one, other) {
-            return add_gap(report, place, one, other);
-        }
+) {
+    match symbols_at(report, source, place, earlier) {
+        Some((one, other)) => add_gap_of(report, place, one, other),
+        None => report.wrong(place, "two symbols can meet, and have no rule"),
     }
-    report.wrong(place, "two symbols can meet, and have no rule")
 }

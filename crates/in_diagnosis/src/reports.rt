@@ -2,13 +2,16 @@
 use crate::excerpts::{add_excerpt, between};
 use in_syntax::Place;
 use std::alloc::{AllocError, Global};
+use std::fmt::Display;
 
-/// A diagnosis that is being written, on a program's text.
+/// A diagnosis that is being written, on a program's text. That memory was wanting is kept, and `into_text` answers it: so who writes
+/// has one way out.
 #[derive(Drop)]
 pub(crate) struct Report<'a> {
     pub(crate) alloc: Global,
     pub(crate) text: &'a [u8],
     lines: String,
+    failure: Option<AllocError>,
 }
 
 impl<'a> Report<'a> {
@@ -18,6 +21,7 @@ impl<'a> Report<'a> {
             alloc,
             text,
             lines: String::new(alloc),
+            failure: None,
         }
     }
 
@@ -26,87 +30,110 @@ impl<'a> Report<'a> {
         between(self.text, place.from, place.to)
     }
 
-    fn add(&mut self, kind: &str, sentence: &str) -> Result<(), AllocError> {
-        self.lines.push_str(kind)?;
-        self.lines.push_str(": ")?;
-        self.lines.push_str(sentence)?;
-        self.lines.push_str("\n")
+    /// Memory was wanting: the whole diagnosis is.
+    pub(crate) fn fail(&mut self, error: AllocError) {
+        self.failure = Some(error);
     }
 
-    /// What is wrong, and where.
-    pub(crate) fn wrong(&mut self, place: Place, sentence: &str) -> Result<(), AllocError> {
-        self.add("error", sentence)?;
-        self.show(place)
+    /// Keeps that memory was wanting, if it was.
+    pub(crate) fn keep(&mut self, done: Result<(), AllocError>) {
+        if let Err(error) = done {
+            self.fail(error);
+        }
     }
 
-    /// What belongs to it, and where.
-    pub(crate) fn note(&mut self, place: Place, sentence: &str) -> Result<(), AllocError> {
-        self.add("note", sentence)?;
-        self.show(place)
+    /// Goes on with these words.
+    pub(crate) fn say(&mut self, words: &str) {
+        let done = self.lines.push_str(words);
+        self.keep(done);
     }
 
-    /// What helps.
-    pub(crate) fn help(&mut self, sentence: &str) -> Result<(), AllocError> {
-        self.add("help", sentence)
+    /// Goes on with a character.
+    pub(crate) fn push(&mut self, c: char) {
+        let done = self.lines.push(c);
+        self.keep(done);
     }
 
-    /// What is wrong, in words that could be had, and where.
-    pub(crate) fn wrong_text(
-        &mut self,
-        place: Place,
-        sentence: Result<String, AllocError>,
-    ) -> Result<(), AllocError> {
-        self.wrong(place, sentence?.as_str())
+    /// Goes on with what is shown so.
+    pub(crate) fn put<S: Display>(&mut self, shown: &S) {
+        let done = write!(self.lines, "{shown}");
+        self.keep(done);
     }
 
-    /// What belongs to it, in words that could be had, and where.
-    pub(crate) fn note_text(
-        &mut self,
-        place: Place,
-        sentence: Result<String, AllocError>,
-    ) -> Result<(), AllocError> {
-        self.note(place, sentence?.as_str())
+    /// Goes on with a name between these words.
+    pub(crate) fn say_name(&mut self, before: &str, name: &str, after: &str) {
+        self.say(before);
+        self.say(name);
+        self.say(after);
     }
 
-    /// What helps, in words that could be had.
-    pub(crate) fn help_text(
-        &mut self,
-        sentence: Result<String, AllocError>,
-    ) -> Result<(), AllocError> {
-        self.help(sentence?.as_str())
-    }
-
-    /// Begins what belongs to it, without a place; `say` goes on with it, and `end` ends it.
-    pub(crate) fn begin_note(&mut self) -> Result<(), AllocError> {
-        self.lines.push_str("note: ")
-    }
-
-    /// Goes on with a sentence.
-    pub(crate) fn say(&mut self, words: &str) -> Result<(), AllocError> {
-        self.lines.push_str(words)
-    }
-
-    /// Goes on with a sentence, in words that could be had.
-    pub(crate) fn say_text(&mut self, words: Result<String, AllocError>) -> Result<(), AllocError> {
-        self.lines.push_str(words?.as_str())
+    /// Goes on with a number between these words.
+    pub(crate) fn say_number(&mut self, before: &str, number: usize, after: &str) {
+        self.say(before);
+        self.put(&number);
+        self.say(after);
     }
 
     /// Ends a sentence.
-    pub(crate) fn end(&mut self) -> Result<(), AllocError> {
-        self.lines.push_str("\n")
+    pub(crate) fn end(&mut self) {
+        self.say("\n");
     }
 
-    fn show(&mut self, place: Place) -> Result<(), AllocError> {
-        add_excerpt(&mut self.lines, self.text, place)
+    /// Ends a sentence on what stands at a place.
+    pub(crate) fn end_at(&mut self, place: Place) {
+        self.end();
+        add_excerpt(self, place);
+    }
+
+    /// What is wrong, and where.
+    pub(crate) fn wrong(&mut self, place: Place, sentence: &str) {
+        self.say_name("error: ", sentence, "");
+        self.end_at(place);
+    }
+
+    /// What is wrong, and where: a name between these words.
+    pub(crate) fn wrong_name(&mut self, place: Place, before: &str, name: &str, after: &str) {
+        self.say("error: ");
+        self.say_name(before, name, after);
+        self.end_at(place);
+    }
+
+    /// What is wrong, and where: a number between these words.
+    pub(crate) fn wrong_number(&mut self, place: Place, before: &str, number: usize, after: &str) {
+        self.say("error: ");
+        self.say_number(before, number, after);
+        self.end_at(place);
+    }
+
+    /// What belongs to it, and where.
+    pub(crate) fn note(&mut self, place: Place, sentence: &str) {
+        self.say_name("note: ", sentence, "");
+        self.end_at(place);
+    }
+
+    /// What belongs to it, and where: a name between these words.
+    pub(crate) fn note_name(&mut self, place: Place, before: &str, name: &str, after: &str) {
+        self.say("note: ");
+        self.say_name(before, name, after);
+        self.end_at(place);
+    }
+
+    /// What helps.
+    pub(crate) fn help(&mut self, sentence: &str) {
+        self.say_name("help: ", sentence, "\n");
     }
 
     /// The whole diagnosis.
-    pub(crate) fn into_text(self) -> String {
+    pub(crate) fn into_text(self) -> Result<String, AllocError> {
         let Report {
             alloc: _,
             text: _,
             lines,
+            failure,
         } = self;
-        lines
+        match failure {
+            None => Ok(lines),
+            Some(error) => Err(error),
+        }
     }
 }

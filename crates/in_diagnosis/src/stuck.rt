@@ -1,6 +1,6 @@
 //! Rules and nets that no steps build: the first part in which no node splits, and a circle in it.
 use crate::circles::{Circle, Field, Wires};
-use crate::declarations::{place_in, port_words};
+use crate::declarations::{place_in, say_port};
 use crate::reports::Report;
 use in_simple::{Node, OpenNet};
 use in_syntax::{Place, Source, SourceSymbol};
@@ -38,22 +38,27 @@ fn place_of(open: &OpenNet, node: u32) -> Option<Place> {
     }
 }
 
+/// Where something stands, in words.
+fn say_place(report: &mut Report, place: Place) {
+    report.say_number(" at ", place.line as usize, ":");
+    report.put(&place.col);
+}
+
+/// What a node is, in words.
+fn say_symbol(report: &mut Report, symbol: &SourceSymbol, class: Option<usize>) {
+    if let Some(class) = class {
+        report.say_number("class ", class, " of the head ");
+    }
+    report.say_name("`", symbol.name.text.as_str(), "`");
+}
+
 /// A node in words, with its place.
-fn node_words(
-    alloc: Global,
-    source: &Source,
-    open: &OpenNet,
-    node: u32,
-) -> Result<String, AllocError> {
-    let place = place_of(open, node);
-    let found = symbol_of(source, open, node);
-    let (Some(Place { line, col, .. }), Some((symbol, class))) = (place, found) else {
-        return Ok(String::new(alloc));
-    };
-    let name = symbol.name.text.as_str();
-    match class {
-        None => format!(in alloc; "`{name}` at {line}:{col}"),
-        Some(class) => format!(in alloc; "class {class} of the head `{name}` at {line}:{col}"),
+fn say_node(report: &mut Report, source: &Source, open: &OpenNet, node: u32) {
+    if let Some((symbol, class)) = symbol_of(source, open, node) {
+        say_symbol(report, symbol, class);
+    }
+    if let Some(place) = place_of(open, node) {
+        say_place(report, place);
     }
 }
 
@@ -69,130 +74,126 @@ fn before_node(index: usize) -> &'static str {
 }
 
 /// The nodes of the part, in words.
-fn add_part(
-    report: &mut Report,
-    source: &Source,
-    open: &OpenNet,
-    nodes: &[u32],
-) -> Result<(), AllocError> {
-    report.begin_note()?;
-    report.say("no node of this part can be built last: ")?;
+fn add_part(report: &mut Report, source: &Source, open: &OpenNet, nodes: &[u32]) {
+    report.say("note: no node of this part can be built last: ");
     for (index, node) in nodes.iter().enumerate() {
-        report.say(before_node(index))?;
-        let words = node_words(report.alloc, source, open, *node);
-        report.say_text(words)?;
+        report.say(before_node(index));
+        say_node(report, source, open, *node);
     }
-    report.end()
+    report.end();
 }
 
 /// A port of a node, in words.
-fn port_of_node(
-    alloc: Global,
-    symbol: &SourceSymbol,
-    class: Option<usize>,
-    number: u8,
-) -> Result<String, AllocError> {
-    match class {
-        Some(class) => port_words(alloc, symbol, place_in(symbol, class, number as usize)),
-        None => port_words(alloc, symbol, number as usize),
+fn say_port_of(report: &mut Report, symbol: &SourceSymbol, class: Option<usize>, number: u8) {
+    let place = match class {
+        Some(class) => place_in(symbol, class, number as usize),
+        None => number as usize,
+    };
+    say_port(report, symbol, place);
+}
+
+/// What stands before the node of this number on a way.
+fn before_passed(index: usize) -> &'static str {
+    if index > 0 && index % ON_A_LINE == 0 {
+        "\n      through "
+    } else {
+        " through "
     }
 }
 
 /// The nodes on the way of a circle, in words.
-fn say_way(report: &mut Report, field: Field, way: &[u32]) -> Result<(), AllocError> {
+fn say_way(report: &mut Report, field: Field, way: &[u32]) {
     for (index, next) in way.iter().enumerate() {
-        report.say(if index > 0 && index % ON_A_LINE == 0 {
-            "\n      through "
-        } else {
-            " through "
-        })?;
-        let words = node_words(report.alloc, field.source, field.open, *next);
-        report.say_text(words)?;
+        report.say(before_passed(index));
+        say_node(report, field.source, field.open, *next);
     }
-    Ok(())
 }
 
-/// The circle, in words.
+/// A circle through a node of this symbol, in words.
 fn add_circle_words(
     report: &mut Report,
     field: Field,
-    node: u32,
+    symbol: &SourceSymbol,
+    class: Option<usize>,
     circle: &Circle,
-) -> Result<(), AllocError> {
-    let Some((symbol, class)) = symbol_of(field.source, field.open, node) else {
-        return Ok(());
-    };
-    report.begin_note()?;
-    report.say("a circle leads from ")?;
-    let first = port_of_node(report.alloc, symbol, class, circle.first);
-    report.say_text(first)?;
-    say_way(report, field, circle.way.as_slice())?;
-    report.say(" back to ")?;
-    let second = port_of_node(report.alloc, symbol, class, circle.second);
-    report.say_text(second)?;
-    report.end()
+) {
+    report.say("note: a circle leads from ");
+    say_port_of(report, symbol, class, circle.first);
+    say_way(report, field, circle.way.as_slice());
+    report.say(" back to ");
+    say_port_of(report, symbol, class, circle.second);
+    report.end();
+}
+
+/// Where a node stands in the text.
+fn add_place(report: &mut Report, open: &OpenNet, node: u32) {
+    if let Some(place) = place_of(open, node) {
+        report.note(place, "through this");
+    }
 }
 
 /// The lines of the text in which the nodes of a circle stand.
-fn add_places(report: &mut Report, open: &OpenNet, way: &[u32]) -> Result<(), AllocError> {
+fn add_places(report: &mut Report, open: &OpenNet, way: &[u32]) {
     for (index, node) in way.iter().enumerate() {
         if index == MOST_SHOWN {
             break;
         }
-        if let Some(place) = place_of(open, *node) {
-            report.note(place, "through this")?;
-        }
+        add_place(report, open, *node);
     }
-    Ok(())
 }
 
 /// That two ports are not in one pair of braces.
-fn apart_words(
-    alloc: Global,
-    symbol: &SourceSymbol,
-    ports: (u8, u8),
-) -> Result<String, AllocError> {
+fn add_apart(report: &mut Report, symbol: &SourceSymbol, ports: (u8, u8)) {
     let (first, second) = ports;
-    let one = port_words(alloc, symbol, first as usize)?;
-    let other = port_words(alloc, symbol, second as usize)?;
-    format!(in alloc; "{one} and {other} are not in one pair of braces")
+    report.say("note: ");
+    say_port(report, symbol, first as usize);
+    report.say(" and ");
+    say_port(report, symbol, second as usize);
+    report.say(" are not in one pair of braces");
+    report.end_at(symbol.name.place);
 }
 
 /// Where the braces of a node's symbol stand, which keep two of its ports apart.
-fn add_braces(
+fn add_braces(report: &mut Report, symbol: &SourceSymbol, class: Option<usize>, ports: (u8, u8)) {
+    match class {
+        Some(_) => report.note(
+            symbol.name.place,
+            "ports in one pair of braces may be joined outside of the rule",
+        ),
+        None => add_apart(report, symbol, ports),
+    }
+}
+
+/// The symbol at this byte is shown.
+fn add_shown(shown: &mut Vec<usize>, at: usize) -> Result<(), AllocError> {
+    shown.push(at)?;
+    Ok(())
+}
+
+/// The same for a node that is passed by these ports, unless its symbol was shown.
+fn add_passed_by(
     report: &mut Report,
     symbol: &SourceSymbol,
     class: Option<usize>,
     ports: (u8, u8),
-) -> Result<(), AllocError> {
-    if class.is_some() {
-        let sentence = "ports in one pair of braces may be joined outside of the rule";
-        return report.note(symbol.name.place, sentence);
+    shown: &mut Vec<usize>,
+) {
+    let at = symbol.name.place.from;
+    if !shown.as_slice().contains(&at) {
+        report.keep(add_shown(shown, at));
+        add_braces(report, symbol, class, ports);
     }
-    let words = apart_words(report.alloc, symbol, ports);
-    report.note_text(symbol.name.place, words)
 }
 
-/// The same for a node that a way passes from one node to another, unless its symbol was shown.
-fn add_passed(
-    report: &mut Report,
-    field: Field,
-    way: (u32, u32, u32),
-    shown: &mut Vec<usize>,
-) -> Result<(), AllocError> {
+/// The same for a node that a way passes from one node to another.
+fn add_passed(report: &mut Report, field: Field, way: (u32, u32, u32), shown: &mut Vec<usize>) {
     let (from, node, to) = way;
-    let Some(ports) = field.passed(from, node, to) else {
-        return Ok(());
-    };
-    let Some((symbol, class)) = symbol_of(field.source, field.open, node) else {
-        return Ok(());
-    };
-    let at = symbol.name.place.from;
-    if shown.as_slice().contains(&at) {
-        return Ok(());
+    if let (Some(ports), Some((symbol, class))) = (
+        field.passed(from, node, to),
+        symbol_of(field.source, field.open, node),
+    ) {
+        add_passed_by(report, symbol, class, ports, shown);
     }
-    shown.push(at)?;
-    add_braces(report, symbol, class, ports)
 }
 
 /// The same for the nodes on the way of a circle, each symbol once.
@@ -202,37 +203,41 @@ fn add_braces_on_the_way(
     node: u32,
     way: &[u32],
     shown: &mut Vec<usize>,
-) -> Result<(), AllocError> {
+) {
     let mut from = node;
     for (index, next) in way.iter().enumerate() {
         if index == MOST_SHOWN {
             break;
         }
         let to = way.get(index + 1).copied().unwrap_or(node);
-        add_passed(report, field, (from, *next, to), shown)?;
+        add_passed(report, field, (from, *next, to), shown);
         from = *next;
     }
-    Ok(())
 }
 
-/// Why the braces forbid a circle from a node back to it.
+/// What helps where a circle goes through a node of a symbol, or of a class.
+fn help_with(class: Option<usize>) -> &'static str {
+    match class {
+        Some(_) => {
+            "give each of these ports a pair of braces of its own, or join them to parts that have nothing to do with each other"
+        }
+        None => {
+            "join ports of different braces to parts that have nothing to do with each other; or put two auxiliary ports into one pair of braces, if the rules of the symbol allow it"
+        }
+    }
+}
+
+/// The symbols on the way of a circle from a node of this symbol, which is shown already.
 fn add_reasons(
     report: &mut Report,
     field: Field,
     node: u32,
+    symbol: &SourceSymbol,
     circle: &Circle,
-) -> Result<(), AllocError> {
-    let Some((symbol, class)) = symbol_of(field.source, field.open, node) else {
-        return Ok(());
-    };
-    add_braces(report, symbol, class, (circle.first, circle.second))?;
-    let mut shown = vec![in report.alloc; symbol.name.place.from]?;
-    add_braces_on_the_way(report, field, node, circle.way.as_slice(), &mut shown)?;
-    report.help(if class.is_some() {
-        "give each of these ports a pair of braces of its own, or join them to parts that have nothing to do with each other"
-    } else {
-        "join ports of different braces to parts that have nothing to do with each other; or put two auxiliary ports into one pair of braces, if the rules of the symbol allow it"
-    })
+) {
+    let mut shown = Vec::new(report.alloc);
+    report.keep(add_shown(&mut shown, symbol.name.place.from));
+    add_braces_on_the_way(report, field, node, circle.way.as_slice(), &mut shown);
 }
 
 /// Which nodes are in the part, but for one.
@@ -254,48 +259,62 @@ fn others(
 }
 
 /// A circle through a node.
-fn add_found(
-    report: &mut Report,
-    field: Field,
-    node: u32,
-    circle: &Circle,
-) -> Result<(), AllocError> {
-    add_circle_words(report, field, node, circle)?;
-    add_places(report, field.open, circle.way.as_slice())?;
-    add_reasons(report, field, node, circle)
-}
-
-/// A circle through a node, where there is one.
-fn add_circle(report: &mut Report, field: Field, node: u32) -> Result<(), AllocError> {
-    match field.circle(report.alloc, node)? {
-        Some(circle) => add_found(report, field, node, &circle),
-        None => Ok(()),
+fn add_found(report: &mut Report, field: Field, node: u32, circle: &Circle) {
+    if let Some((symbol, class)) = symbol_of(field.source, field.open, node) {
+        add_circle_words(report, field, symbol, class, circle);
+        add_places(report, field.open, circle.way.as_slice());
+        add_braces(report, symbol, class, (circle.first, circle.second));
+        add_reasons(report, field, node, symbol, circle);
+        report.help(help_with(class));
     }
 }
 
-/// A circle through the first node of a part.
+/// A circle through a node, where there is one.
+fn add_circle(report: &mut Report, field: Field, node: u32) {
+    match field.circle(report.alloc, node) {
+        Ok(Some(circle)) => add_found(report, field, node, &circle),
+        Ok(None) => (),
+        Err(error) => report.fail(error),
+    }
+}
+
+/// A circle through a node of a part.
 fn add_circle_of(
     report: &mut Report,
     source: &Source,
     open: &OpenNet,
     wires: &Wires,
     nodes: &[u32],
-) -> Result<(), AllocError> {
-    let Some(node) = nodes.first().copied() else {
-        return Ok(());
-    };
-    let inside = others(report.alloc, open, nodes, node)?;
-    let part = inside.as_slice();
-    add_circle(
-        report,
-        Field {
-            source,
-            open,
-            wires,
-            part,
-        },
-        node,
-    )
+    node: u32,
+) {
+    match others(report.alloc, open, nodes, node) {
+        Ok(inside) => {
+            let part = inside.as_slice();
+            let field = Field {
+                source,
+                open,
+                wires,
+                part,
+            };
+            add_circle(report, field, node);
+        }
+        Err(error) => report.fail(error),
+    }
+}
+
+/// A circle through a node of a part of an open net.
+fn add_circle_in(report: &mut Report, source: &Source, open: &OpenNet, nodes: &[u32], node: u32) {
+    match Wires::of(report.alloc, open) {
+        Ok(wires) => add_circle_of(report, source, open, &wires, nodes, node),
+        Err(error) => report.fail(error),
+    }
+}
+
+/// A circle through the first node of a part.
+fn add_first_circle(report: &mut Report, source: &Source, open: &OpenNet, nodes: &[u32]) {
+    if let Some(node) = nodes.first() {
+        add_circle_in(report, source, open, nodes, *node);
+    }
 }
 
 /// A rule or a net that no steps build, with the nodes of the part.
@@ -306,10 +325,8 @@ pub(crate) fn add_stuck(
     nodes: &[u32],
     what: &str,
     place: Place,
-) -> Result<(), AllocError> {
-    let sentence = format!(in report.alloc; "no steps build {what}: it could close a circle");
-    report.wrong_text(place, sentence)?;
-    add_part(report, source, open, nodes)?;
-    let wires = Wires::of(report.alloc, open)?;
-    add_circle_of(report, source, open, &wires, nodes)
+) {
+    report.wrong_name(place, "no steps build ", what, ": it could close a circle");
+    add_part(report, source, open, nodes);
+    add_first_circle(report, source, open, nodes);
 }

@@ -30,28 +30,27 @@ fn only_memory<T>(found: Result<T, Fault>) -> Result<Option<T>, AllocError> {
 }
 
 /// A limit of tokens or of the grammar that is passed.
-fn add_limit_of_text(report: &mut Report, place: Place) -> Result<(), AllocError> {
+fn add_limit_of_text(report: &mut Report, place: Place) {
     if report.text.len() > MAX_TEXT_BYTES {
-        add_long_text(report, place)
+        add_long_text(report, place);
     } else if place.from == place.to {
-        add_long_word(report, place)
+        add_long_word(report, place);
     } else {
-        add_limit(report, place)
+        add_limit(report, place);
     }
 }
 
 /// More agents than a right member or the net may have.
-fn add_agents(report: &mut Report, source: &Source, place: Place) -> Result<(), AllocError> {
+fn add_agents(report: &mut Report, source: &Source, place: Place) {
     let (most, what) = match rule_at(source, place.from) {
-        Some(_) => (MAX_MEMBER_AGENTS, "right member of a rule"),
-        None => (MAX_AGENTS, "net"),
+        Some(_) => (MAX_MEMBER_AGENTS, " agents in the right member of a rule"),
+        None => (MAX_AGENTS, " agents in the net"),
     };
-    let sentence = format!(in report.alloc; "more than {most} agents in the {what}");
-    report.wrong_text(place, sentence)
+    report.wrong_number(place, "more than ", most, what);
 }
 
 /// What the tokens or the grammar refuse.
-fn add_text_fault(report: &mut Report, refusal: Refusal) -> Result<(), AllocError> {
+fn add_text_fault(report: &mut Report, refusal: Refusal) {
     match refusal.code {
         Code::E01 => add_no_token(report, refusal.place),
         Code::E02 => add_unexpected(report, refusal.place),
@@ -90,12 +89,13 @@ fn shape_at(alloc: Global, source: &Source, place: Place) -> Result<Option<Shape
 }
 
 /// A wire whose two ends don't fit.
-fn add_type_fault(report: &mut Report, source: &Source, place: Place) -> Result<(), AllocError>
+fn add_type_fault(report: &mut Report, source: &Source, place: Place)
     requires { IsOfText source.now }
 {
-    match shape_at(report.alloc, source, place)? {
-        Some(shape) => add_misfit(report, source, &shape, place),
-        None => Ok(()),
+    match shape_at(report.alloc, source, place) {
+        Ok(Some(shape)) => add_misfit(report, source, &shape, place),
+        Ok(None) => (),
+        Err(error) => report.fail(error),
     }
 }
 
@@ -106,27 +106,19 @@ fn add_step_fault(
     place: Place,
     what: &str,
     part: Option<&StuckPart>,
-) -> Result<(), AllocError> {
-    match part {
-        Some(StuckPart { open, stuck }) => {
-            add_stuck(report, source, open, stuck.nodes.as_slice(), what, place)
-        }
-        None => Ok(()),
+) {
+    if let Some(StuckPart { open, stuck }) = part {
+        add_stuck(report, source, open, stuck.nodes.as_slice(), what, place);
     }
 }
 
 /// What is refused of a program that has a tree.
-fn add_fault(
-    report: &mut Report,
-    source: &Source,
-    refusal: Refusal,
-    part: Option<&StuckPart>,
-) -> Result<(), AllocError>
+fn add_fault(report: &mut Report, source: &Source, refusal: Refusal, part: Option<&StuckPart>)
     requires { IsOfText source.now }
 {
     let Refusal { code, place, other } = refusal;
     match code {
-        Code::E01 | Code::E02 => Ok(()),
+        Code::E01 | Code::E02 => (),
         Code::E03 => add_agents(report, source, place),
         Code::E04 => add_declared_twice(report, source, place),
         Code::E05 => add_unknown_type(report, source, place),
@@ -149,16 +141,16 @@ fn add_refused(
     source: &Source,
     refusal: Option<Refusal>,
     part: Option<&StuckPart>,
-) -> Result<bool, AllocError>
+) -> bool
     requires { IsOfText source.now }
-    ensures { IfOk result (λ told. told ≡ is_some refusal) }
+    ensures { result ≡ is_some refusal }
 {
     match refusal {
         Some(refusal) => {
-            add_fault(report, source, refusal, part)?;
-            Ok(true)
+            add_fault(report, source, refusal, part);
+            true
         }
-        None => Ok(false),
+        None => false,
     }
 }
 
@@ -169,7 +161,7 @@ fn add_refusal(report: &mut Report, source: &Source) -> Result<bool, AllocError>
 {
     let mut part = None;
     let refusal = refusal_of(report.alloc, source, &mut part)?;
-    add_refused(report, source, refusal, part.as_ref())
+    Ok(add_refused(report, source, refusal, part.as_ref()))
 }
 
 /// What is wrong with a text, the report's; says whether anything is.
@@ -179,7 +171,7 @@ fn add_first_fault(report: &mut Report, text: &[u8]) -> Result<bool, AllocError>
     match parse(report.alloc, text) {
         Ok(source) => add_refusal(report, &source),
         Err(Fault::Refused(refusal)) => {
-            add_text_fault(report, refusal)?;
+            add_text_fault(report, refusal);
             Ok(true)
         }
         Err(Fault::Memory(error)) => Err(error),
@@ -197,7 +189,7 @@ pub fn diagnosis(alloc: Global, text: &[u8]) -> Result<Option<String>, AllocErro
 {
     let mut report = Report::new(alloc, text);
     if add_first_fault(&mut report, text)? {
-        Ok(Some(report.into_text()))
+        Ok(Some(report.into_text()?))
     } else {
         Ok(None)
     }

@@ -6,5 +6,5 @@ use Rattle.in_diagnosis.proofs.telling.add_first_fault.Goals as goal
 pub returns-in-Ok : goal.returns-in-Ok
 returns-in-Ok c = of_tree c.args.text.now c.in-Ok.source c.add_refusal.result c.in-Ok.ensures.tree c.add_refusal.ensures
 
-pub returns-in_ok-add_text_fault-in-Err-Refused : goal.returns-in_ok-add_text_fault-in-Err-Refused
-returns-in_ok-add_text_fault-in-Err-Refused c = without_tree c.args.text.now c.in-Err-Refused.refusal (subst (λ e. Parses c.args.text.now (Err e)) c.in-Err-Refused.field-0-is c.in-Err-Refused.ensures.tree)
+pub returns-in-Err-Refused : goal.returns-in-Err-Refused
+returns-in-Err-Refused c = without_tree c.args.text.now c.in-Err-Refused.refusal (subst (λ e. Parses c.args.text.now (Err e)) c.in-Err-Refused.field-0-is c.in-Err-Refused.ensures.tree)
