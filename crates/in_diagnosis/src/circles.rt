@@ -112,6 +112,25 @@ fn spread(
     Ok(())
 }
 
+/// Goes on from a node to all of the part that are reached from it.
+fn spread_all(
+    wires: &Wires,
+    part: &[bool],
+    first: u32,
+    reached: &mut Reached,
+    pending: &mut Vec<u32>,
+) -> Result<(), AllocError> {
+    reach(reached, first, first);
+    pending.push(first)?;
+    for index in 0..part.len() {
+        match pending.get(index).copied() {
+            Some(node) => spread(wires, part, node, reached, pending)?,
+            None => break,
+        }
+    }
+    Ok(())
+}
+
 /// Which nodes of a part are reached from one of them.
 fn reached_from(
     alloc: Global,
@@ -121,14 +140,7 @@ fn reached_from(
 ) -> Result<Reached, AllocError> {
     let mut reached = vec![in alloc; None; part.len()]?;
     let mut pending = Vec::new(alloc);
-    reach(&mut reached, first, first);
-    pending.push(first)?;
-    for index in 0..part.len() {
-        match pending.get(index).copied() {
-            Some(node) => spread(wires, part, node, &mut reached, &mut pending)?,
-            None => break,
-        }
-    }
+    spread_all(wires, part, first, &mut reached, &mut pending)?;
     Ok(reached)
 }
 

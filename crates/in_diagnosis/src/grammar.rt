@@ -55,18 +55,27 @@ fn is_reserved(word: &str) -> bool {
     matches!(word, "type" | "symbol" | "rule" | "net")
 }
 
-/// What helps where this was found in the place of that.
-fn help_with(expected: Expected, found: &str) -> &'static str {
+/// What helps where this was found in the place of a term or of brackets.
+fn help_with_brackets(expected: Expected, found: &str) -> Option<&'static str> {
     match (expected, found) {
         (Expected::Term | Expected::HeadFirst, ")") => {
-            "a symbol without auxiliary ports is written without brackets in a term"
+            Some("a symbol without auxiliary ports is written without brackets in a term")
         }
-        (Expected::Term, "]") => "a term is missing after the comma",
-        (Expected::HeadOpen, "(") => "the terms of a head stand in `[` and `]`",
-        (Expected::HeadOpen, _) => "a head has brackets, also where it has no terms: `Z[]`",
+        (Expected::Term, "]") => Some("a term is missing after the comma"),
+        (Expected::HeadOpen, "(") => Some("the terms of a head stand in `[` and `]`"),
+        (Expected::HeadOpen, _) => Some("a head has brackets, also where it has no terms: `Z[]`"),
         (Expected::AfterName(_) | Expected::AfterTerm(_), "[") => {
-            "the arguments of an agent stand in `(` and `)`; `[` and `]` are for heads of rules"
+            Some(
+                "the arguments of an agent stand in `(` and `)`; `[` and `]` are for heads of rules",
+            )
         }
+        _ => None,
+    }
+}
+
+/// What helps where this was found in the place of that, brackets and terms aside.
+fn help_with_other(expected: Expected, found: &str) -> &'static str {
+    match (expected, found) {
         (Expected::AfterName(Part::Left) | Expected::AfterTerm(Part::Left), _) => {
             "an equation is a term, `~`, another term and `;`"
         }
@@ -81,6 +90,14 @@ fn help_with(expected: Expected, found: &str) -> &'static str {
         (Expected::Nothing, _) => "the net comes last, and there is one",
         (_, word) if is_reserved(word) => "a reserved word is no name",
         _ => "look at what stands before it: most often a `;`, a `~` or a bracket is missing",
+    }
+}
+
+/// What helps where this was found in the place of that.
+fn help_with(expected: Expected, found: &str) -> &'static str {
+    match help_with_brackets(expected, found) {
+        Some(help) => help,
+        None => help_with_other(expected, found),
     }
 }
 

@@ -35,6 +35,22 @@ struct Near<'a> {
     distance: usize,
 }
 
+/// Adds a declared name where it is near to this one.
+fn find_near<'a>(
+    alloc: Global,
+    name: &str,
+    declared: &'a Name,
+    found: &mut Vec<Near<'a>>,
+) -> Result<(), AllocError> {
+    if let Some(distance) = distance(alloc, name, declared.text.as_str())? {
+        found.push(Near {
+            name: declared,
+            distance,
+        })?;
+    }
+    Ok(())
+}
+
 /// The declared names that are near to this one.
 fn near_names<'a, D: Declared>(
     alloc: Global,
@@ -42,14 +58,8 @@ fn near_names<'a, D: Declared>(
     declared: &'a [D],
 ) -> Result<Vec<Near<'a>>, AllocError> {
     let mut found = Vec::new(alloc);
-    for other in declared {
-        let other = other.name();
-        if let Some(distance) = distance(alloc, name, other.text.as_str())? {
-            found.push(Near {
-                name: other,
-                distance,
-            })?;
-        }
+    for one in declared {
+        find_near(alloc, name, one.name(), &mut found)?;
     }
     Ok(found)
 }
