@@ -3,6 +3,7 @@ use in_symbols::{PortType, SymbolNo, Symbols};
 use in_syntax::Code;
 use in_test_texts::{SUMS, joined};
 use std::alloc::Global;
+use std::process::Abort;
 use std::test::Fail;
 
 /// Whether these are the tables of numbers and sums.
@@ -78,86 +79,125 @@ fn is_refused(alloc: Global, rest: &str, wanted: Option<Refused<'_>>) -> Option<
     Some(refused(alloc, text.as_str()) == wanted)
 }
 
-#[test]
-fn each_fault_stands_at_its_name(rt: HostRuntime) {
-    let rows = [
-        ("symbol Z : nat+; net () { }", (Code::E04, 5, 8, "Z")),
-        ("type bit, nat; net () { }", (Code::E04, 5, 11, "nat")),
-        ("net (Z : nat+) { }", (Code::E04, 5, 6, "Z")),
-        ("net (r : nat+, r : nat-) { }", (Code::E04, 5, 16, "r")),
-        ("symbol K : bit+; net () { }", (Code::E05, 5, 12, "bit")),
-        (
-            "symbol K : nat+ {nat-} {nat+, bit-}; net () { }",
-            (Code::E05, 5, 31, "bit"),
-        ),
-        ("net (r : bit+) { }", (Code::E05, 5, 10, "bit")),
-        ("net () { F(S) ~ x; }", (Code::E06, 5, 10, "F")),
-        ("net () { x ~ S(S(F(Z))); }", (Code::E06, 5, 18, "F")),
-        ("rule F[] >< Add[y, y]; net () { }", (Code::E06, 5, 6, "F")),
-        (
-            "rule Z[] >< nat[y, y]; net () { }",
-            (Code::E06, 5, 13, "nat"),
-        ),
-        (
-            "rule Z[] >< Add[y, S(F(y))]; net () { }",
-            (Code::E06, 5, 22, "F"),
-        ),
-        (
-            "rule S[F(x)] >< Add[y, y]; net () { }",
-            (Code::E06, 5, 8, "F"),
-        ),
-    ];
-    for (rest, wanted) in rows {
-        assert!(rt;
-            is_refused(rt.alloc(), rest, Some(wanted)) == Some(true),
-            "{rest}"
-        );
+// A loop over rows is a function of its own: where a function makes the rows too, each way through it names all of them.
+fn expect_refused(rt: &impl Abort, alloc: Global, rows: &[(&str, Code, u32, u32, &str)]) {
+    for (rest, code, line, col, name) in rows {
+        let wanted = (*code, *line, *col, *name);
+        let is_so = is_refused(alloc, rest, Some(wanted)) == Some(true);
+        assert!(rt; is_so, "{rest}");
     }
 }
 
+fn expect_no_refusal(rt: &impl Abort, alloc: Global, rows: &[&str]) {
+    for rest in rows {
+        assert!(rt; is_refused(alloc, rest, None) == Some(true), "{rest}");
+    }
+}
+
+/// Programs with one fault.
+const FAULTS: [(&str, Code, u32, u32, &str); 13] = [
+    ("symbol Z : nat+; net () { }", Code::E04, 5, 8, "Z"),
+    ("type bit, nat; net () { }", Code::E04, 5, 11, "nat"),
+    ("net (Z : nat+) { }", Code::E04, 5, 6, "Z"),
+    ("net (r : nat+, r : nat-) { }", Code::E04, 5, 16, "r"),
+    ("symbol K : bit+; net () { }", Code::E05, 5, 12, "bit"),
+    (
+        "symbol K : nat+ {nat-} {nat+, bit-}; net () { }",
+        Code::E05,
+        5,
+        31,
+        "bit",
+    ),
+    ("net (r : bit+) { }", Code::E05, 5, 10, "bit"),
+    ("net () { F(S) ~ x; }", Code::E06, 5, 10, "F"),
+    ("net () { x ~ S(S(F(Z))); }", Code::E06, 5, 18, "F"),
+    ("rule F[] >< Add[y, y]; net () { }", Code::E06, 5, 6, "F"),
+    ("rule Z[] >< nat[y, y]; net () { }", Code::E06, 5, 13, "nat"),
+    (
+        "rule Z[] >< Add[y, S(F(y))]; net () { }",
+        Code::E06,
+        5,
+        22,
+        "F",
+    ),
+    (
+        "rule S[F(x)] >< Add[y, y]; net () { }",
+        Code::E06,
+        5,
+        8,
+        "F",
+    ),
+];
+
+#[test]
+fn each_fault_stands_at_its_name(rt: HostRuntime) {
+    expect_refused(&rt, rt.alloc(), &FAULTS);
+}
+
+/// Programs with several faults, and the first of them.
+const SEVERAL_FAULTS: [(&str, Code, u32, u32, &str); 9] = [
+    (
+        "symbol K : bit+; symbol Z : nat+; net () { F(Z) ~ x; }",
+        Code::E05,
+        5,
+        12,
+        "bit",
+    ),
+    (
+        "symbol Z : bit+; type nat; net () { F(Z) ~ x; }",
+        Code::E04,
+        5,
+        8,
+        "Z",
+    ),
+    (
+        "net (r : bit+, r : nat-) { F(r) ~ G(r); }",
+        Code::E05,
+        5,
+        10,
+        "bit",
+    ),
+    ("net () { F(G(Z)) ~ H(Z); }", Code::E06, 5, 10, "F"),
+    (
+        "rule F[] >< G[H(Z)]; net () { K(Z) ~ x; }",
+        Code::E06,
+        5,
+        6,
+        "F",
+    ),
+    (
+        "rule Z[] >< Add[y, F(y)]; type nat; net () { }",
+        Code::E06,
+        5,
+        20,
+        "F",
+    ),
+    (
+        "symbol Z : nat+; rule F[] >< Add[y, y]; net () { }",
+        Code::E04,
+        5,
+        8,
+        "Z",
+    ),
+    (
+        "rule S[K] >< F[y]; symbol K : bit+; net () { }",
+        Code::E06,
+        5,
+        14,
+        "F",
+    ),
+    (
+        "rule Z[] >< Add[y, y]; rule F[] >< Add[G(y), y]; net (r : bit+) { }",
+        Code::E06,
+        5,
+        29,
+        "F",
+    ),
+];
+
 #[test]
 fn the_first_fault_in_the_text_is_answered(rt: HostRuntime) {
-    let rows = [
-        (
-            "symbol K : bit+; symbol Z : nat+; net () { F(Z) ~ x; }",
-            (Code::E05, 5, 12, "bit"),
-        ),
-        (
-            "symbol Z : bit+; type nat; net () { F(Z) ~ x; }",
-            (Code::E04, 5, 8, "Z"),
-        ),
-        (
-            "net (r : bit+, r : nat-) { F(r) ~ G(r); }",
-            (Code::E05, 5, 10, "bit"),
-        ),
-        ("net () { F(G(Z)) ~ H(Z); }", (Code::E06, 5, 10, "F")),
-        (
-            "rule F[] >< G[H(Z)]; net () { K(Z) ~ x; }",
-            (Code::E06, 5, 6, "F"),
-        ),
-        (
-            "rule Z[] >< Add[y, F(y)]; type nat; net () { }",
-            (Code::E06, 5, 20, "F"),
-        ),
-        (
-            "symbol Z : nat+; rule F[] >< Add[y, y]; net () { }",
-            (Code::E04, 5, 8, "Z"),
-        ),
-        (
-            "rule S[K] >< F[y]; symbol K : bit+; net () { }",
-            (Code::E06, 5, 14, "F"),
-        ),
-        (
-            "rule Z[] >< Add[y, y]; rule F[] >< Add[G(y), y]; net (r : bit+) { }",
-            (Code::E06, 5, 29, "F"),
-        ),
-    ];
-    for (rest, wanted) in rows {
-        assert!(rt;
-            is_refused(rt.alloc(), rest, Some(wanted)) == Some(true),
-            "{rest}"
-        );
-    }
+    expect_refused(&rt, rt.alloc(), &SEVERAL_FAULTS);
 }
 
 #[test]
@@ -167,9 +207,7 @@ fn types_and_symbols_are_two_spaces_of_names(rt: HostRuntime) {
         "symbol K : bit+; type bit; net (bit : nat+) { F ~ K; }",
         "rule Late[nat] >< Add[bit, F]; symbol Late : nat+ {nat-}; net () { }",
     ];
-    for rest in rows {
-        assert!(rt; is_refused(rt.alloc(), rest, None) == Some(true), "{rest}");
-    }
+    expect_no_refusal(&rt, rt.alloc(), &rows);
 }
 
 /// Whether the symbols of these two numbers match, where there are two.

@@ -189,32 +189,38 @@ fn expect_fault(rt: &impl Abort, alloc: Global, text: &str, code: Code, at: usiz
     assert!(rt; fault(alloc, text) == Some((code, at)), "{text}");
 }
 
+fn expect_faults(rt: &impl Abort, alloc: Global, rows: &[(&str, usize)]) {
+    for (text, at) in rows {
+        expect_fault(rt, alloc, text, Code::E02, *at);
+    }
+}
+
+/// Texts that are refused as no program, with the number of the word that is the fault.
+const REFUSED: [(&str, usize); 19] = [
+    ("type ;", 1),
+    ("type nat ;", 2),
+    ("symbol x : nat + { } ;", 6),
+    ("net ( ) { } net", 5),
+    ("net ( r : nat + , ) { }", 7),
+    ("net ( ) { Z ( ) ~ x ; }", 6),
+    ("net ( ) { x ~ y }", 7),
+    ("net ( ) { x ~ y ~ z ; }", 7),
+    ("rule S >< Z [ ] ;", 2),
+    ("rule S ( ) >< Z [ ] ;", 2),
+    ("rule S [ ] ~ Z [ ] ;", 4),
+    ("rule S [ ] ;", 4),
+    ("rule S [ ] >< Z [ ] >< Z [ ] ;", 8),
+    ("rule S [ x , ] >< Z [ ] ;", 5),
+    ("rule S [ x ) >< Z [ ] ;", 4),
+    ("rule S [ F ( x ] >< Z [ ] ;", 6),
+    ("rule S [ x ~ y ] >< Z [ ] ;", 4),
+    ("rule S [ ] >< Z [ ] net", 8),
+    ("rule S [", 2),
+];
+
 #[test]
 fn refusals(rt: HostRuntime) {
-    let rows = [
-        ("type ;", 1),
-        ("type nat ;", 2),
-        ("symbol x : nat + { } ;", 6),
-        ("net ( ) { } net", 5),
-        ("net ( r : nat + , ) { }", 7),
-        ("net ( ) { Z ( ) ~ x ; }", 6),
-        ("net ( ) { x ~ y }", 7),
-        ("net ( ) { x ~ y ~ z ; }", 7),
-        ("rule S >< Z [ ] ;", 2),
-        ("rule S ( ) >< Z [ ] ;", 2),
-        ("rule S [ ] ~ Z [ ] ;", 4),
-        ("rule S [ ] ;", 4),
-        ("rule S [ ] >< Z [ ] >< Z [ ] ;", 8),
-        ("rule S [ x , ] >< Z [ ] ;", 5),
-        ("rule S [ x ) >< Z [ ] ;", 4),
-        ("rule S [ F ( x ] >< Z [ ] ;", 6),
-        ("rule S [ x ~ y ] >< Z [ ] ;", 4),
-        ("rule S [ ] >< Z [ ] net", 8),
-        ("rule S [", 2),
-    ];
-    for (text, at) in rows {
-        expect_fault(&rt, rt.alloc(), text, Code::E02, at);
-    }
+    expect_faults(&rt, rt.alloc(), &REFUSED);
 }
 
 /// One more word in a text, once less than so often.
@@ -430,25 +436,31 @@ fn parses_a_text(rt: HostRuntime) -> Result<(), Fail> {
     Ok(())
 }
 
-#[test]
-fn answers_the_first_fault(rt: HostRuntime) {
-    let cases: [(&[u8], Code, usize, usize); 10] = [
-        (b"type type; .. $", Code::E01, 11, 11),
-        (b"type type; # \xFF", Code::E01, 13, 13),
-        (b"type type;", Code::E02, 5, 9),
-        (b"rule S >< Z[];", Code::E02, 7, 9),
-        (b"rule S[] >< Z[]; # no net\n ", Code::E02, 27, 27),
-        (b"net(){} rule", Code::E02, 8, 12),
-        (b"net(){} >", Code::E01, 8, 8),
-        (b"net(){}\xEF\xBB\xBF", Code::E01, 7, 7),
-        (b"\xEF\xBB\xBFnet(){}", Code::E01, 0, 0),
-        (b"", Code::E02, 0, 0),
-    ];
+/// Checks that each text is refused with this code at these bytes.
+fn expect_refused(rt: &impl Abort, alloc: Global, cases: &[(&[u8], Code, usize, usize)]) {
     for (text, code, from, to) in cases {
-        assert_eq!(rt;
-            refused(rt.alloc(), text),
-            Some((code, from, to)),
+        assert!(rt;
+            refused(alloc, text) == Some((*code, *from, *to)),
             "at {text:?}"
         );
     }
+}
+
+/// Texts that are no programs, with the bytes of the first fault.
+const FAULTS: [(&[u8], Code, usize, usize); 10] = [
+    (b"type type; .. $", Code::E01, 11, 11),
+    (b"type type; # \xFF", Code::E01, 13, 13),
+    (b"type type;", Code::E02, 5, 9),
+    (b"rule S >< Z[];", Code::E02, 7, 9),
+    (b"rule S[] >< Z[]; # no net\n ", Code::E02, 27, 27),
+    (b"net(){} rule", Code::E02, 8, 12),
+    (b"net(){} >", Code::E01, 8, 8),
+    (b"net(){}\xEF\xBB\xBF", Code::E01, 7, 7),
+    (b"\xEF\xBB\xBFnet(){}", Code::E01, 0, 0),
+    (b"", Code::E02, 0, 0),
+];
+
+#[test]
+fn answers_the_first_fault(rt: HostRuntime) {
+    expect_refused(&rt, rt.alloc(), &FAULTS);
 }
