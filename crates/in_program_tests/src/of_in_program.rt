@@ -31,137 +31,159 @@ fn expect(rt: &impl Abort, alloc: Global, parts: &[&str], line: &str, status: u8
     expect_of(rt, alloc, Action::Check, parts, &[line], status);
 }
 
+/// Checks the line and the status of `check` on each of these, within the other parts of a text.
+fn expect_each(rt: &impl Abort, alloc: Global, around: [&str; 3], rows: &[(&str, &str, u8)]) {
+    for (rest, line, status) in rows {
+        let parts = [around[0], around[1], *rest, around[2]];
+        expect(rt, alloc, &parts, line, *status);
+    }
+}
+
+/// Checks that `check` refuses each of these, within the other parts of a text, with this line.
+fn expect_refused(rt: &impl Abort, alloc: Global, around: [&str; 3], rows: &[(&str, &str)]) {
+    for (rest, line) in rows {
+        let parts = [around[0], around[1], *rest, around[2]];
+        expect(rt, alloc, &parts, line, 1);
+    }
+}
+
 /// The text of a program of three agents, as it is accepted.
 fn accepted_text(alloc: Global) -> Result<String, AllocError> {
     joined(alloc, &[NUMBERS, "net (r : nat+) { r ~ S(S(Z)); }\n"])
 }
 
+/// Nets over the declarations of sums, and their refusals.
+const OVER_FOUR_DECLARATIONS: [(&str, &str); 7] = [
+    ("net () { }", "refused E15 at 4:8: Add, Z\n"),
+    (
+        "net (r : nat+) { S(S(Z)) ~ Add(S(Z), r); }",
+        "refused E15 at 4:8: Add, Z\n",
+    ),
+    ("net () { $ }", "refused E01 at 5:10\n"),
+    ("rule Z[] >< Add[y, y];", "refused E02 at 6:1\n"),
+    (
+        "rule Z[] >< Add[y, y];\nnet () { }",
+        "refused E15 at 4:8: Add, S\n",
+    ),
+    ("net () { S(Z) ~ S(Z); }", "refused E10 at 5:15: ~\n"),
+    ("net () { x ~ x; }", "refused E09 at 5:12: ~\n"),
+];
+
 #[test]
 fn nets_over_four_declarations_are_refused(rt: HostRuntime) {
-    let rows = [
-        ("net () { }", "refused E15 at 4:8: Add, Z\n"),
-        (
-            "net (r : nat+) { S(S(Z)) ~ Add(S(Z), r); }",
-            "refused E15 at 4:8: Add, Z\n",
-        ),
-        ("net () { $ }", "refused E01 at 5:10\n"),
-        ("rule Z[] >< Add[y, y];", "refused E02 at 6:1\n"),
-        (
-            "rule Z[] >< Add[y, y];\nnet () { }",
-            "refused E15 at 4:8: Add, S\n",
-        ),
-        ("net () { S(Z) ~ S(Z); }", "refused E10 at 5:15: ~\n"),
-        ("net () { x ~ x; }", "refused E09 at 5:12: ~\n"),
-    ];
-    for (net, line) in rows {
-        let text = [SUMS, net, "\n"];
-        expect(&rt, rt.alloc(), &text, line, 1);
-    }
+    expect_refused(&rt, rt.alloc(), [SUMS, "", "\n"], &OVER_FOUR_DECLARATIONS);
 }
+
+/// What follows the rules of addition, with the line and the status.
+const WITH_RULES: [(&str, &str, u8); 10] = [
+    (
+        "net () { }",
+        "accepted: 1 types, 3 symbols, 2 rules, 0 agents\n",
+        0,
+    ),
+    (
+        "net (r : nat+) { S(S(Z)) ~ Add(S(Z), r); }",
+        "accepted: 1 types, 3 symbols, 2 rules, 6 agents\n",
+        0,
+    ),
+    (
+        "net (a : nat+, b : nat-) { a ~ b; }",
+        "accepted: 1 types, 3 symbols, 2 rules, 0 agents\n",
+        0,
+    ),
+    ("net () { x ~ x; }", "refused E09 at 7:12: ~\n", 1),
+    ("net () { S(Z) ~ S(Z); }", "refused E10 at 7:15: ~\n", 1),
+    ("symbol Z : nat+;\nnet () { }", "refused E04 at 7:8: Z\n", 1),
+    (
+        "symbol K : bit+;\nnet () { }",
+        "refused E05 at 7:12: bit\n",
+        1,
+    ),
+    ("net () { F(x) ~ x; }", "refused E06 at 7:10: F\n", 1),
+    (
+        "net (r : nat+) { S ~ Add(Z, r); }",
+        "refused E07 at 7:18: S\n",
+        1,
+    ),
+    (
+        "net (r : nat+) { S(x) ~ Add(Z, r); }",
+        "refused E08 at 7:20: x\n",
+        1,
+    ),
+];
 
 #[test]
 fn programs_with_rules_are_accepted_or_refused(rt: HostRuntime) {
-    let rows = [
-        (
-            "net () { }",
-            "accepted: 1 types, 3 symbols, 2 rules, 0 agents\n",
-            0,
-        ),
-        (
-            "net (r : nat+) { S(S(Z)) ~ Add(S(Z), r); }",
-            "accepted: 1 types, 3 symbols, 2 rules, 6 agents\n",
-            0,
-        ),
-        (
-            "net (a : nat+, b : nat-) { a ~ b; }",
-            "accepted: 1 types, 3 symbols, 2 rules, 0 agents\n",
-            0,
-        ),
-        ("net () { x ~ x; }", "refused E09 at 7:12: ~\n", 1),
-        ("net () { S(Z) ~ S(Z); }", "refused E10 at 7:15: ~\n", 1),
-        ("symbol Z : nat+;\nnet () { }", "refused E04 at 7:8: Z\n", 1),
-        (
-            "symbol K : bit+;\nnet () { }",
-            "refused E05 at 7:12: bit\n",
-            1,
-        ),
-        ("net () { F(x) ~ x; }", "refused E06 at 7:10: F\n", 1),
-        (
-            "net (r : nat+) { S ~ Add(Z, r); }",
-            "refused E07 at 7:18: S\n",
-            1,
-        ),
-        (
-            "net (r : nat+) { S(x) ~ Add(Z, r); }",
-            "refused E08 at 7:20: x\n",
-            1,
-        ),
-    ];
-    for (rest, line, status) in rows {
-        let text = [SUMS, ADDITION, rest, "\n"];
-        expect(&rt, rt.alloc(), &text, line, status);
-    }
+    expect_each(&rt, rt.alloc(), [SUMS, ADDITION, "\n"], &WITH_RULES);
 }
+
+/// Rules with a fault, and their refusals.
+const FAULTS_OF_RULES: [(&str, &str); 14] = [
+    ("rule Z[] >< Add[y, y];", "refused E14 at 7:6: Z\n"),
+    ("rule Add[y, y] >< Z[];", "refused E14 at 7:6: Add\n"),
+    ("rule Z[] >< Z[];", "refused E11 at 7:13: Z\n"),
+    ("rule F[] >< Z[];", "refused E06 at 7:6: F\n"),
+    ("rule Z[] >< F[];", "refused E06 at 7:13: F\n"),
+    ("rule Z[] >< Add[F(y), y];", "refused E06 at 7:17: F\n"),
+    ("rule Z[y] >< Add[y, S];", "refused E07 at 7:6: Z\n"),
+    ("rule Z[] >< Add[y];", "refused E07 at 7:13: Add\n"),
+    ("rule Z[] >< Add[S, S(y)];", "refused E07 at 7:17: S\n"),
+    ("rule Z[] >< Add[y, x];", "refused E08 at 7:17: y\n"),
+    ("rule S[y] >< Add[y, y];", "refused E08 at 7:21: y\n"),
+    ("rule Z[] >< Add[S(y), y];", "refused E10 at 7:17: S\n"),
+    (
+        "rule Z[] >< Add[y, Add(y, Z)];",
+        "refused E10 at 7:20: Add\n",
+    ),
+    ("rule Z[] >< Z[y];", "refused E07 at 7:13: Z\n"),
+];
 
 #[test]
 fn faults_of_rules_stand_at_their_places(rt: HostRuntime) {
-    let rows = [
-        ("rule Z[] >< Add[y, y];", "refused E14 at 7:6: Z\n"),
-        ("rule Add[y, y] >< Z[];", "refused E14 at 7:6: Add\n"),
-        ("rule Z[] >< Z[];", "refused E11 at 7:13: Z\n"),
-        ("rule F[] >< Z[];", "refused E06 at 7:6: F\n"),
-        ("rule Z[] >< F[];", "refused E06 at 7:13: F\n"),
-        ("rule Z[] >< Add[F(y), y];", "refused E06 at 7:17: F\n"),
-        ("rule Z[y] >< Add[y, S];", "refused E07 at 7:6: Z\n"),
-        ("rule Z[] >< Add[y];", "refused E07 at 7:13: Add\n"),
-        ("rule Z[] >< Add[S, S(y)];", "refused E07 at 7:17: S\n"),
-        ("rule Z[] >< Add[y, x];", "refused E08 at 7:17: y\n"),
-        ("rule S[y] >< Add[y, y];", "refused E08 at 7:21: y\n"),
-        ("rule Z[] >< Add[S(y), y];", "refused E10 at 7:17: S\n"),
-        (
-            "rule Z[] >< Add[y, Add(y, Z)];",
-            "refused E10 at 7:20: Add\n",
-        ),
-        ("rule Z[] >< Z[y];", "refused E07 at 7:13: Z\n"),
-    ];
-    for (rule, line) in rows {
-        let text = [SUMS, ADDITION, rule, "\nnet () { }\n"];
-        expect(&rt, rt.alloc(), &text, line, 1);
-    }
+    expect_refused(
+        &rt,
+        rt.alloc(),
+        [SUMS, ADDITION, "\nnet () { }\n"],
+        &FAULTS_OF_RULES,
+    );
 }
+
+/// Programs with faults of two passes, and their refusals.
+const FAULTS_OF_TWO_PASSES: [(&str, &str); 6] = [
+    // a rule's agents before the net's, its types after the net's agents
+    (
+        "rule Z[] >< Add[y, x];\nnet () { S ~ Z; }",
+        "refused E08 at 7:17: y\n",
+    ),
+    (
+        "rule Z[] >< Z[];\nnet () { S ~ Z; }",
+        "refused E07 at 8:10: S\n",
+    ),
+    (
+        "rule Z[] >< Z[];\nnet () { Z ~ Z; }",
+        "refused E11 at 7:13: Z\n",
+    ),
+    // types before pairs
+    (
+        "rule Z[] >< Add[y, y];\nnet () { Z ~ Z; }",
+        "refused E10 at 8:12: ~\n",
+    ),
+    // second rules before missing ones
+    (
+        "symbol K : nat-;\nrule Z[] >< Add[y, y];\nnet () { }",
+        "refused E14 at 8:6: Z\n",
+    ),
+    ("symbol K : nat-;\nnet () { }", "refused E15 at 7:8: K, Z\n"),
+];
 
 #[test]
 fn passes_come_one_after_another(rt: HostRuntime) {
-    let rows = [
-        // a rule's agents before the net's, its types after the net's agents
-        (
-            "rule Z[] >< Add[y, x];\nnet () { S ~ Z; }",
-            "refused E08 at 7:17: y\n",
-        ),
-        (
-            "rule Z[] >< Z[];\nnet () { S ~ Z; }",
-            "refused E07 at 8:10: S\n",
-        ),
-        (
-            "rule Z[] >< Z[];\nnet () { Z ~ Z; }",
-            "refused E11 at 7:13: Z\n",
-        ),
-        // types before pairs
-        (
-            "rule Z[] >< Add[y, y];\nnet () { Z ~ Z; }",
-            "refused E10 at 8:12: ~\n",
-        ),
-        // second rules before missing ones
-        (
-            "symbol K : nat-;\nrule Z[] >< Add[y, y];\nnet () { }",
-            "refused E14 at 8:6: Z\n",
-        ),
-        ("symbol K : nat-;\nnet () { }", "refused E15 at 7:8: K, Z\n"),
-    ];
-    for (rest, line) in rows {
-        let text = [SUMS, ADDITION, rest, "\n"];
-        expect(&rt, rt.alloc(), &text, line, 1);
-    }
+    expect_refused(
+        &rt,
+        rt.alloc(),
+        [SUMS, ADDITION, "\n"],
+        &FAULTS_OF_TWO_PASSES,
+    );
 }
 
 /// A program whose last rule has a right member of so many agents.
@@ -203,43 +225,41 @@ fn sixty_four_agents_are_a_right_member_and_one_more_too_many(rt: HostRuntime) {
     expect_agents(&rt, rt.alloc(), 65, "refused E03 at 6:143: Z\n", 1);
 }
 
+/// Programs with a fault of a name, and their refusals.
+const FAULTS_OF_NAMES: [(&str, &str); 5] = [
+    ("symbol Z : nat+;\nnet () { }", "refused E04 at 5:8: Z\n"),
+    ("symbol K : bit+;\nnet () { }", "refused E05 at 5:12: bit\n"),
+    ("net () { F(S) ~ x; }", "refused E06 at 5:10: F\n"),
+    ("net (Z : nat+) { }", "refused E04 at 5:6: Z\n"),
+    ("net (r : nat+, r : nat-) { }", "refused E04 at 5:16: r\n"),
+];
+
 #[test]
 fn faults_of_names_stand_at_their_names(rt: HostRuntime) {
-    let rows = [
-        ("symbol Z : nat+;\nnet () { }", "refused E04 at 5:8: Z\n"),
-        ("symbol K : bit+;\nnet () { }", "refused E05 at 5:12: bit\n"),
-        ("net () { F(S) ~ x; }", "refused E06 at 5:10: F\n"),
-        ("net (Z : nat+) { }", "refused E04 at 5:6: Z\n"),
-        ("net (r : nat+, r : nat-) { }", "refused E04 at 5:16: r\n"),
-    ];
-    for (rest, line) in rows {
-        let text = [SUMS, rest, "\n"];
-        expect(&rt, rt.alloc(), &text, line, 1);
-    }
+    expect_refused(&rt, rt.alloc(), [SUMS, "", "\n"], &FAULTS_OF_NAMES);
 }
+
+/// Nets with a fault, and their refusals.
+const FAULTS_OF_NETS: [(&str, &str); 5] = [
+    (
+        "net (r : nat+) { S ~ Add(Z, r); }",
+        "refused E07 at 5:18: S\n",
+    ),
+    (
+        "net (r : nat+) { S(x) ~ Add(Z, r); }",
+        "refused E08 at 5:20: x\n",
+    ),
+    ("net () { x ~ S(x); Z ~ S(x); }", "refused E08 at 5:26: x\n"),
+    ("net (r : nat+) { }", "refused E08 at 5:6: r\n"),
+    (
+        "net (r : nat+) { r ~ Z; r ~ Z; }",
+        "refused E08 at 5:25: r\n",
+    ),
+];
 
 #[test]
 fn faults_of_nets_stand_at_their_places(rt: HostRuntime) {
-    let rows = [
-        (
-            "net (r : nat+) { S ~ Add(Z, r); }",
-            "refused E07 at 5:18: S\n",
-        ),
-        (
-            "net (r : nat+) { S(x) ~ Add(Z, r); }",
-            "refused E08 at 5:20: x\n",
-        ),
-        ("net () { x ~ S(x); Z ~ S(x); }", "refused E08 at 5:26: x\n"),
-        ("net (r : nat+) { }", "refused E08 at 5:6: r\n"),
-        (
-            "net (r : nat+) { r ~ Z; r ~ Z; }",
-            "refused E08 at 5:25: r\n",
-        ),
-    ];
-    for (net, line) in rows {
-        let text = [SUMS, net, "\n"];
-        expect(&rt, rt.alloc(), &text, line, 1);
-    }
+    expect_refused(&rt, rt.alloc(), [SUMS, "", "\n"], &FAULTS_OF_NETS);
 }
 
 /// A net of so many lines of two agents.
@@ -265,16 +285,15 @@ fn a_thousand_agents_are_accepted_and_one_more_refused(rt: HostRuntime) {
     expect_lines(&rt, rt.alloc(), 501, "refused E03 at 511:1: Era\n", 1);
 }
 
+/// Nets over the declarations of numbers, with the line and the status.
+const OVER_THREE_DECLARATIONS: [(&str, &str, u8); 2] = [
+    ("net (r : nat+) { r ~ S(S(Z)); }", ACCEPTED, 0),
+    ("net () { S(Z) ~ S(Z); }", "refused E10 at 4:15: ~\n", 1),
+];
+
 #[test]
 fn nets_over_three_declarations_are_accepted_or_refused(rt: HostRuntime) {
-    let rows = [
-        ("net (r : nat+) { r ~ S(S(Z)); }", ACCEPTED, 0),
-        ("net () { S(Z) ~ S(Z); }", "refused E10 at 4:15: ~\n", 1),
-    ];
-    for (net, line, status) in rows {
-        let text = [NUMBERS, net];
-        expect(&rt, rt.alloc(), &text, line, status);
-    }
+    expect_each(&rt, rt.alloc(), [NUMBERS, "", ""], &OVER_THREE_DECLARATIONS);
 }
 
 #[test]
@@ -304,17 +323,26 @@ fn is_answer_to_padded(
     is_answer(alloc, Action::Check, text.as_slice(), line, status)
 }
 
+/// Checks the line and the status on a program with blanks after it.
+fn expect_padded(
+    rt: &impl Abort,
+    alloc: Global,
+    program: &str,
+    length: usize,
+    line: &str,
+    status: u8,
+) {
+    let found = is_answer_to_padded(alloc, program, length, line, status);
+    assert!(rt; found == Some(true), "{length}");
+}
+
 #[test]
 fn a_text_may_fill_the_limit_and_not_pass_it(rt: HostRuntime) -> Result<(), Fail> {
     let alloc = rt.alloc();
     let text = accepted_text(alloc)?;
-    for (length, line, status) in [
-        (1_048_576usize, ACCEPTED, 0),
-        (1_048_577, "refused E03 at 1:1\n", 1),
-    ] {
-        let found = is_answer_to_padded(alloc, text.as_str(), length, line, status);
-        assert!(rt; found == Some(true), "{length}");
-    }
+    expect_padded(&rt, alloc, text.as_str(), 1_048_576, ACCEPTED, 0);
+    let line = "refused E03 at 1:1\n";
+    expect_padded(&rt, alloc, text.as_str(), 1_048_577, line, 1);
     Ok(())
 }
 
@@ -430,90 +458,102 @@ fn want_of_memory_is_told_of_words_too(rt: HostRuntime) {
     assert!(rt; is_cut(rt.alloc(), &Usage::Memory, 6));
 }
 
+/// The refused examples of the manual of the language.
+const EXAMPLES_OF_THE_LANGUAGE: [(&str, &str); 15] = [
+    ("net () { $ }", "refused E01 at 1:10\n"),
+    ("net () { Z() ~ Z; }", "refused E02 at 1:12: )\n"),
+    ("net () {", "refused E02 at 1:9\n"),
+    ("type a, a; net () { }", "refused E04 at 1:9: a\n"),
+    ("net (r : nat+) { r ~ x; }", "refused E05 at 1:10: nat\n"),
+    ("net () { F(x) ~ x; }", "refused E06 at 1:10: F\n"),
+    (
+        "type nat; symbol Z : nat+; net () { Z(x) ~ x; }",
+        "refused E07 at 1:37: Z\n",
+    ),
+    (
+        "type nat; symbol Z : nat+; net () { x ~ Z; }",
+        "refused E08 at 1:37: x\n",
+    ),
+    ("net () { x ~ x; }", "refused E09 at 1:12: ~\n"),
+    (
+        "type nat; symbol Z : nat+; net () { Z ~ Z; }",
+        "refused E10 at 1:39: ~\n",
+    ),
+    (
+        "type nat; symbol Z : nat+; rule Z[] >< Z[]; net () { }",
+        "refused E11 at 1:40: Z\n",
+    ),
+    (
+        "type nat; symbol Z : nat+; symbol W : nat- {nat-} {nat+}; rule Z[] >< W[x, x]; net (y : nat-) { x ~ W(y, x); }",
+        "refused E13 at 1:101: W\n",
+    ),
+    (
+        "type nat; symbol Z : nat+; symbol W : nat- {nat-, nat+}; rule Z[] >< W[x, x]; net () { }",
+        "refused E12 at 1:70: W\n",
+    ),
+    (
+        "type nat; symbol Z : nat+; symbol Era : nat-; rule Z[] >< Era[]; rule Era[] >< Z[]; net () { }",
+        "refused E14 at 1:71: Era\n",
+    ),
+    (
+        "type nat; symbol Z : nat+; symbol Era : nat-; net () { }",
+        "refused E15 at 1:35: Era, Z\n",
+    ),
+];
+
 #[test]
 fn the_examples_of_the_language_are_refused(rt: HostRuntime) {
-    let rows = [
-        ("net () { $ }", "refused E01 at 1:10\n"),
-        ("net () { Z() ~ Z; }", "refused E02 at 1:12: )\n"),
-        ("net () {", "refused E02 at 1:9\n"),
-        ("type a, a; net () { }", "refused E04 at 1:9: a\n"),
-        ("net (r : nat+) { r ~ x; }", "refused E05 at 1:10: nat\n"),
-        ("net () { F(x) ~ x; }", "refused E06 at 1:10: F\n"),
-        (
-            "type nat; symbol Z : nat+; net () { Z(x) ~ x; }",
-            "refused E07 at 1:37: Z\n",
-        ),
-        (
-            "type nat; symbol Z : nat+; net () { x ~ Z; }",
-            "refused E08 at 1:37: x\n",
-        ),
-        ("net () { x ~ x; }", "refused E09 at 1:12: ~\n"),
-        (
-            "type nat; symbol Z : nat+; net () { Z ~ Z; }",
-            "refused E10 at 1:39: ~\n",
-        ),
-        (
-            "type nat; symbol Z : nat+; rule Z[] >< Z[]; net () { }",
-            "refused E11 at 1:40: Z\n",
-        ),
-        (
-            "type nat; symbol Z : nat+; symbol W : nat- {nat-} {nat+}; rule Z[] >< W[x, x]; net (y : nat-) { x ~ W(y, x); }",
-            "refused E13 at 1:101: W\n",
-        ),
-        (
-            "type nat; symbol Z : nat+; symbol W : nat- {nat-, nat+}; rule Z[] >< W[x, x]; net () { }",
-            "refused E12 at 1:70: W\n",
-        ),
-        (
-            "type nat; symbol Z : nat+; symbol Era : nat-; rule Z[] >< Era[]; rule Era[] >< Z[]; net () { }",
-            "refused E14 at 1:71: Era\n",
-        ),
-        (
-            "type nat; symbol Z : nat+; symbol Era : nat-; net () { }",
-            "refused E15 at 1:35: Era, Z\n",
-        ),
-    ];
-    for (text, line) in rows {
-        expect(&rt, rt.alloc(), &[text], line, 1);
+    expect_refused(&rt, rt.alloc(), ["", "", ""], &EXAMPLES_OF_THE_LANGUAGE);
+}
+
+/// The declarations of sums, each symbol's auxiliary ports in one class.
+const ONE_CLASS: &str =
+    "type nat;\nsymbol Z : nat+;\nsymbol S : nat+ {nat-};\nsymbol Add : nat- {nat-, nat+};\n";
+
+/// A duplicator with its copies in two classes.
+const TWO_CLASSES: &str =
+    "symbol Dup : nat- {nat+} {nat+};\nrule S[Dup(a, b)] >< Dup[S(a), S(b)];\nrule Z[] >< Dup[Z, Z];\n";
+
+/// What stands before and after the rules of addition, and the refusal.
+const NOT_BUILT_BY_STEPS: [(&str, &str, &str, &str); 4] = [
+    (
+        SUMS,
+        "",
+        "net (y : nat-) { x ~ Add(y, x); }\n",
+        "refused E13 at 7:22: Add\n",
+    ),
+    (ONE_CLASS, "", "net () { }\n", "refused E12 at 6:13: Add\n"),
+    (
+        ONE_CLASS,
+        "",
+        "net () { S(Z) ~ S(Z); }\n",
+        "refused E10 at 7:15: ~\n",
+    ),
+    (
+        SUMS,
+        TWO_CLASSES,
+        "net (r : nat+) { Dup(u, v) ~ S(Z); Add(v, r) ~ u; }\n",
+        "refused E13 at 10:18: Dup\n",
+    ),
+];
+
+/// Checks that the command refuses each of these with this line.
+fn expect_not_built(
+    rt: &impl Abort,
+    alloc: Global,
+    action: Action,
+    rows: &[(&str, &str, &str, &str)],
+) {
+    for (symbols, more, net, line) in rows {
+        let parts = [*symbols, ADDITION, *more, *net];
+        expect_of(rt, alloc, action, &parts, &[*line], 1);
     }
 }
 
 #[test]
 fn rules_and_nets_that_are_not_built_by_steps_are_refused(rt: HostRuntime) {
-    let one_class =
-        "type nat;\nsymbol Z : nat+;\nsymbol S : nat+ {nat-};\nsymbol Add : nat- {nat-, nat+};\n";
-    let two_classes =
-        "symbol Dup : nat- {nat+} {nat+};\nrule S[Dup(a, b)] >< Dup[S(a), S(b)];\nrule Z[] >< Dup[Z, Z];\n";
-    let alloc = rt.alloc();
-    for action in [Action::Check, Action::Derive] {
-        let net = [SUMS, ADDITION, "net (y : nat-) { x ~ Add(y, x); }\n"];
-        expect_of(&rt, alloc, action, &net, &["refused E13 at 7:22: Add\n"], 1);
-        let rule = [one_class, ADDITION, "net () { }\n"];
-        expect_of(
-            &rt,
-            alloc,
-            action,
-            &rule,
-            &["refused E12 at 6:13: Add\n"],
-            1,
-        );
-        let typed = [one_class, ADDITION, "net () { S(Z) ~ S(Z); }\n"];
-        expect_of(&rt, alloc, action, &typed, &["refused E10 at 7:15: ~\n"], 1);
-        let parted = [
-            SUMS,
-            ADDITION,
-            two_classes,
-            "net (r : nat+) { Dup(u, v) ~ S(Z); Add(v, r) ~ u; }\n",
-        ];
-        expect_of(
-            &rt,
-            alloc,
-            action,
-            &parted,
-            &["refused E13 at 10:18: Dup\n"],
-            1,
-        );
-    }
+    expect_not_built(&rt, rt.alloc(), Action::Check, &NOT_BUILT_BY_STEPS);
+    expect_not_built(&rt, rt.alloc(), Action::Derive, &NOT_BUILT_BY_STEPS);
 }
 
 const SUM_STEPS: &str =
