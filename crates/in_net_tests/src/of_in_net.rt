@@ -4,6 +4,8 @@ use in_net::{AgentNo, Net, Point, Rule};
 use in_symbols::SymbolNo;
 use in_syntax::Code;
 use in_test_texts::{ADDITION, DUPLICATION, SUMS};
+use std::alloc::Global;
+use std::process::Abort;
 use std::test::Fail;
 
 /// The net of a sum, S(S(Z)) + S(Z).
@@ -68,25 +70,32 @@ fn a_wire_runs_over_many_equations(rt: HostRuntime) -> Result<(), Fail> {
     Ok(())
 }
 
+/// Checks that each net over numbers and sums is refused with this code at this column.
+fn expect_refused(rt: &impl Abort, alloc: Global, cases: &[(&str, Code, u32)]) {
+    for (net, code, col) in cases {
+        let answer = refused_at(seen(alloc, &[SUMS, *net], &TheNet));
+        assert!(rt; answer == Some((*code, 5, *col)), "{net}");
+    }
+}
+
+/// Nets with a fault, its code and its column.
+const FAULTS: [(&str, Code, u32); 11] = [
+    ("net (r : nat+) { S ~ Add(Z, r); }", Code::E07, 18),
+    ("net (r : nat+) { S(x) ~ Add(Z, r); }", Code::E08, 20),
+    ("net () { x ~ S(x); Z ~ S(x); }", Code::E08, 26),
+    ("net (r : nat+) { }", Code::E08, 6),
+    ("net (r : nat+) { r ~ Z; r ~ Z; }", Code::E08, 25),
+    ("net () { x ~ Z; S ~ Z; }", Code::E08, 10),
+    ("net () { x ~ x; }", Code::E09, 12),
+    ("net () { x ~ y; z ~ y; x ~ z; }", Code::E09, 26),
+    ("net () { x ~ x; y ~ Z; }", Code::E08, 17),
+    ("net () { x ~ x; y ~ y; }", Code::E09, 12),
+    ("net () { x ~ y; z ~ z; x ~ y; }", Code::E09, 19),
+];
+
 #[test]
 fn each_fault_of_a_net_is_answered_at_its_place(rt: HostRuntime) {
-    let cases = [
-        ("net (r : nat+) { S ~ Add(Z, r); }", Code::E07, 18),
-        ("net (r : nat+) { S(x) ~ Add(Z, r); }", Code::E08, 20),
-        ("net () { x ~ S(x); Z ~ S(x); }", Code::E08, 26),
-        ("net (r : nat+) { }", Code::E08, 6),
-        ("net (r : nat+) { r ~ Z; r ~ Z; }", Code::E08, 25),
-        ("net () { x ~ Z; S ~ Z; }", Code::E08, 10),
-        ("net () { x ~ x; }", Code::E09, 12),
-        ("net () { x ~ y; z ~ y; x ~ z; }", Code::E09, 26),
-        ("net () { x ~ x; y ~ Z; }", Code::E08, 17),
-        ("net () { x ~ x; y ~ y; }", Code::E09, 12),
-        ("net () { x ~ y; z ~ z; x ~ y; }", Code::E09, 19),
-    ];
-    for (net, code, col) in cases {
-        let answer = refused_at(seen(rt.alloc(), &[SUMS, net], &TheNet));
-        assert_eq!(rt; answer, Some((code, 5, col)));
-    }
+    expect_refused(&rt, rt.alloc(), &FAULTS);
 }
 
 /// Whether the right member is that of the rule of S and Add, with its ends at S's place first.
