@@ -8,6 +8,7 @@ use in_syntax::{Code, Place};
 use in_test_programs::{Look, refusal_of, seen};
 use in_test_texts::SUMS;
 use std::alloc::Global;
+use std::process::Abort;
 
 /// Whether the two symbols are declared and match.
 fn is_pair(symbols: &Symbols, c: SymbolNo, d: SymbolNo) -> bool
@@ -73,51 +74,67 @@ fn refused(alloc: Global, parts: &[&str]) -> Option<(Code, (u32, u32), Option<(u
     Some((refusal.code, at(refusal.place), other))
 }
 
+/// Rules of sums with a second one for a pair, and its line and column.
+const SECOND_RULES: [(&str, u32, u32); 3] = [
+    ("rule Z[] >< Add[y, y];\nrule Z[] >< Add[y, y];", 6, 6),
+    ("rule Z[] >< Add[y, y];\nrule Add[y, y] >< Z[];", 6, 6),
+    (
+        "rule Add[y, y] >< Z[];\nrule S[Add(y, t)] >< Add[y, S(t)];\nrule Z[] >< Add[y, y];\nrule S[Add(y, t)] >< Add[y, S(t)];",
+        7,
+        6,
+    ),
+];
+
+/// Checks that each of these is refused for a second rule at this line and column.
+fn expect_second(rt: &impl Abort, alloc: Global, rows: &[(&str, u32, u32)]) {
+    for (rules, line, col) in rows {
+        let found = refused(alloc, &[SUMS, *rules, "\nnet () { }\n"]);
+        assert!(rt; found == Some((Code::E14, (*line, *col), None)), "{rules}");
+    }
+}
+
 #[test]
 fn the_first_second_rule_is_refused(rt: HostRuntime) {
-    let rows = [
-        ("rule Z[] >< Add[y, y];\nrule Z[] >< Add[y, y];", (6, 6)),
-        ("rule Z[] >< Add[y, y];\nrule Add[y, y] >< Z[];", (6, 6)),
-        (
-            "rule Add[y, y] >< Z[];\nrule S[Add(y, t)] >< Add[y, S(t)];\nrule Z[] >< Add[y, y];\nrule S[Add(y, t)] >< Add[y, S(t)];",
-            (7, 6),
-        ),
-    ];
-    for (rules, place) in rows {
-        let found = refused(rt.alloc(), &[SUMS, rules, "\nnet () { }\n"]);
-        assert_eq!(rt; found, Some((Code::E14, place, None)));
+    expect_second(&rt, rt.alloc(), &SECOND_RULES);
+}
+
+/// Symbols, rules that lack one for a pair, and the lines of the pair's symbols.
+const LACKING_RULES: [(&str, &str, u32, u32); 6] = [
+    (SUMS, "rule S[Add(y, t)] >< Add[y, S(t)];", 4, 2),
+    (SUMS, "rule Z[] >< Add[y, y];", 4, 3),
+    (SUMS, "", 4, 2),
+    (
+        "type nat;\nsymbol Era : nat-;\nsymbol Z : nat+;\nsymbol S : nat+ {nat-};\n",
+        "rule Era[] >< Z[];",
+        4,
+        2,
+    ),
+    (
+        "type nat, bit;\nsymbol T : bit+;\nsymbol Z : nat+;\nsymbol Era : nat-;\nsymbol Not : bit-;\n",
+        "",
+        4,
+        3,
+    ),
+    (
+        SUMS,
+        "symbol Era : nat-;\nrule Z[] >< Add[y, y];\nrule S[Add(y, t)] >< Add[y, S(t)];\nrule Era[] >< Z[];",
+        5,
+        3,
+    ),
+];
+
+/// Checks that each of these is refused for a pair without a rule, at the names in these lines.
+fn expect_lacking(rt: &impl Abort, alloc: Global, rows: &[(&str, &str, u32, u32)]) {
+    for (symbols, rules, line, other) in rows {
+        let found = refused(alloc, &[*symbols, *rules, "\nnet () { }\n"]);
+        let wanted = Some((Code::E15, (*line, 8), Some((*other, 8))));
+        assert!(rt; found == wanted, "{symbols}{rules}");
     }
 }
 
 #[test]
 fn the_first_pair_without_a_rule_is_refused(rt: HostRuntime) {
-    let rows = [
-        (SUMS, "rule S[Add(y, t)] >< Add[y, S(t)];", (4, 8), (2, 8)),
-        (SUMS, "rule Z[] >< Add[y, y];", (4, 8), (3, 8)),
-        (SUMS, "", (4, 8), (2, 8)),
-        (
-            "type nat;\nsymbol Era : nat-;\nsymbol Z : nat+;\nsymbol S : nat+ {nat-};\n",
-            "rule Era[] >< Z[];",
-            (4, 8),
-            (2, 8),
-        ),
-        (
-            "type nat, bit;\nsymbol T : bit+;\nsymbol Z : nat+;\nsymbol Era : nat-;\nsymbol Not : bit-;\n",
-            "",
-            (4, 8),
-            (3, 8),
-        ),
-        (
-            SUMS,
-            "symbol Era : nat-;\nrule Z[] >< Add[y, y];\nrule S[Add(y, t)] >< Add[y, S(t)];\nrule Era[] >< Z[];",
-            (5, 8),
-            (3, 8),
-        ),
-    ];
-    for (symbols, rules, place, other) in rows {
-        let found = refused(rt.alloc(), &[symbols, rules, "\nnet () { }\n"]);
-        assert_eq!(rt; found, Some((Code::E15, place, Some(other))));
-    }
+    expect_lacking(&rt, rt.alloc(), &LACKING_RULES);
 }
 
 /// How many rules there are.
