@@ -1,3 +1,4 @@
 pub mod Among
+pub mod Circuits
 pub mod Each
 pub mod Places

@@ -8,12 +8,12 @@ use Rattle.in_syntax.specs.declared.tree.Source.{Source}
 use Rattle.in_symbols.specs.Tables.{Tables}
 use Rattle.in_net.specs.Rules.{RuleParts}
 use Rattle.in_simple.specs.OpenNets.{OpenNet}
-use Rattle.in_simple.specs.OpeningRules.{IsRuleWhole}
-use Rattle.in_simple.proofs.TextRules.{rule_whole}
+use Rattle.in_opening.specs.OpeningRules.{IsRuleWhole}
+use Rattle.in_opening.proofs.TextRules.{rule_whole}
 use Rattle.in_check.specs.declared.checked.Certificate.{Certificate}
 use Rattle.in_check.specs.Certificates.{Certifies, CertifiesRule, CertifiesRules, CertifiesSome}
 use Rattle.in_check.specs.Checking.{BuildsRules}
-use Rattle.in_net.proofs.Stepping.Lists.{more_at}
+use Rattle.in_base.proofs.Places.{more_at}
 use Rattle.in_check.proofs.Passes.{all_of}
 use Rattle.in_base.proofs.Each.{at_index}
 

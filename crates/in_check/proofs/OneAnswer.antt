@@ -15,13 +15,13 @@ use Rattle.in_net.specs.Built.{Builds}
 use Rattle.in_net.specs.Rules.{RuleParts, BuildsRule}
 use Rattle.in_net.proofs.OneText.{nets_once, rules_once}
 use Rattle.in_simple.specs.OpenNets.{OpenNet, IsOpenNet}
-use Rattle.in_simple.specs.Opening.{Opens}
-use Rattle.in_simple.specs.OpeningRules.{OpensRule}
-use Rattle.in_simple.proofs.Classes.{tables_numbered}
-use Rattle.in_simple.proofs.OneAnswer.{opened_once, rules_open}
-use Rattle.in_simple.proofs.OneOpening.{one_open_net}
-use Rattle.in_simple.proofs.Opened.{is_open_net}
-use Rattle.in_simple.proofs.TextRules.{rule_whole}
+use Rattle.in_opening.specs.Opening.{Opens}
+use Rattle.in_opening.specs.OpeningRules.{OpensRule}
+use Rattle.in_opening.proofs.Classes.{tables_numbered}
+use Rattle.in_opening.proofs.RuleLaws.{opened_once, rules_open}
+use Rattle.in_opening.proofs.OneOpening.{one_open_net}
+use Rattle.in_opening.proofs.Opened.{is_open_net}
+use Rattle.in_opening.proofs.TextRules.{rule_whole}
 use Rattle.in_cover.specs.Table.{Cells}
 use Rattle.in_cover.specs.Cover.{Covers}
 use Rattle.in_cover.specs.Laws.{AreOneTable}

@@ -17,7 +17,7 @@ use Rattle.in_simple.specs.OpenNets.{OpenNet, IsOpenNet}
 use Rattle.in_simple.specs.Derivations.{IsDerivation}
 use Rattle.in_simple.specs.TakenOrder.{AreTaken}
 use Rattle.in_simple.proofs.OneAnswer.{derived_once, one_stuck_place}
-use Rattle.in_simple.proofs.OneOpening.{by_elements}
+use Rattle.in_opening.proofs.OneOpening.{by_elements}
 use Rattle.in_simple.proofs.Whole.{derivation_builds}
 use Rattle.in_check.specs.declared.checked.Certificate.{Certificate}
 use Rattle.in_check.specs.Certificates.{IsCertificate, IsRefusedAt, CertifiesRule, CertifiesRules, CertifiesSome}

@@ -7,7 +7,7 @@ use Rattle.in_syntax.specs.declared.faults.Fault.TheVariants.{Refused, Memory}
 use Rattle.in_syntax.specs.declared.tree.Source.{Source}
 use Rattle.in_symbols.specs.Tables.{Tables}
 use Rattle.in_net.specs.Rules.{RuleParts, BuildsRule, IsRuleOver}
-use Rattle.in_net.proofs.Stepping.Lists.{more_at}
+use Rattle.in_base.proofs.Places.{more_at}
 use Rattle.in_typing.specs.Typed.{TypesRule}
 use Rattle.in_cover.specs.Cover.{IsOfPair}
 use Rattle.in_check.specs.Checking.{BuildsRules, TypesRules}

@@ -5,7 +5,8 @@ use Rattle.std.specs.Prelude.{◌≡◌, ◌⊎◌, ◌↔◌, ℕ, suc, nat_eq,
 use Rattle.std.specs.List.{AllByRecursion}
 use Rattle.in_base.specs.Lists.{IsAmong}
 use Rattle.in_net.specs.Ahead.{MeetsPair, WaitsAt}
-use Rattle.in_net.specs.Graphs.{CrossingCircle, ViciousCircle, graph_of}
+use Rattle.in_base.specs.Graphs.{CrossingCircle, ViciousCircle}
+use Rattle.in_net.specs.Graphs.{graph_of}
 use Rattle.in_net.specs.Interactions.{Redex, IsNaming, ClosedPath}
 use Rattle.in_net.specs.Nets.{Point, Port, Net, IsNet}
 use Rattle.in_typing.specs.TypedNets.{IsTypedNet}

@@ -3,7 +3,8 @@
 -- initial net and in each right member with its class nodes, is this project's own condition, which his semi-simple nets meet.
 use Rattle.std.specs.Prelude.{◌≡◌, ◌<◌, ◌+◌, ℕ, true, false, List, length, map, slice_get, Some}
 use Rattle.in_symbols.specs.declared.symbols.PortType.{PortType}
-use Rattle.in_net.specs.Graphs.{CrossingCircle, graph_of}
+use Rattle.in_base.specs.Graphs.{CrossingCircle}
+use Rattle.in_net.specs.Graphs.{graph_of}
 use Rattle.in_net.specs.Interactions.{Redex, end_symbol, end_place, open_member}
 use Rattle.in_net.specs.Nets.{Signature, AreClasses, Net, IsNet, net_of, signature_of}
 use Rattle.in_net.specs.Rules.{RuleParts}

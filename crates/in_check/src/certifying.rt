@@ -2,13 +2,14 @@ ghost use Rattle.std.specs.Prelude.{IsTrue, length};
 ghost use Rattle.std.specs.List.{AllByRecursion};
 ghost use Rattle.in_net.specs.Built.{IsOver};
 ghost use Rattle.in_net.specs.Rules.{IsRuleOver};
-ghost use Rattle.in_simple.specs.Opening.{AreAllThere, AreNumbered};
-ghost use Rattle.in_simple.specs.OpeningRules.{IsRuleWhole};
+ghost use Rattle.in_opening.specs.Opening.{AreAllThere, AreNumbered};
+ghost use Rattle.in_opening.specs.OpeningRules.{IsRuleWhole};
 ghost use Rattle.in_check.specs.Certificates.{Certifies, CertifiesNet, CertifiesRule, CertifiesRules};
 
 use crate::checked::Certificate;
 use in_net::{Net, Rule};
-use in_simple::{OpenNet, Stuck, Undone, derive, open_net, open_rule};
+use in_opening::{open_net, open_rule};
+use in_simple::{OpenNet, Stuck, Undone, derive};
 use in_symbols::Symbols;
 use in_syntax::{Code, Fault, Refusal};
 use sqlite_items::Items;

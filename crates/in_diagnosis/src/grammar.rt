@@ -1,10 +1,9 @@
 //! What the grammar expects, and its limits.
 use crate::reports::Report;
 use in_syntax::{
-    Expected, Fault, MAX_DEPTH, MAX_FREE_NAMES, MAX_NAME_CHARACTERS, MAX_PORTS, MAX_RULES,
-    MAX_SYMBOLS, MAX_TEXT_BYTES, MAX_TYPES, Part, Place, expected_at,
+    Expected, MAX_DEPTH, MAX_FREE_NAMES, MAX_NAME_CHARACTERS, MAX_PORTS, MAX_RULES, MAX_SYMBOLS,
+    MAX_TEXT_BYTES, MAX_TYPES, Part, Place,
 };
-use std::alloc::AllocError;
 
 /// What may follow a name alone, or a whole term.
 fn after_term(part: Part, name: bool) -> &'static str {
@@ -101,15 +100,6 @@ fn help_with(expected: Expected, found: &str) -> &'static str {
     }
 }
 
-/// What is expected at a place: the text was read before, so only memory may be wanted.
-fn expected_in(report: &Report, place: Place) -> Result<Expected, AllocError> {
-    match expected_at(report.alloc, report.text, place) {
-        Ok(expected) => Ok(expected),
-        Err(Fault::Refused(_)) => Ok(Expected::Nothing),
-        Err(Fault::Memory(error)) => Err(error),
-    }
-}
-
 /// What was found in the place of what is expected.
 fn say_found(report: &mut Report, found: &str) {
     if found.is_empty() {
@@ -120,20 +110,12 @@ fn say_found(report: &mut Report, found: &str) {
 }
 
 /// No program goes on so, where this is expected.
-fn add_other(report: &mut Report, place: Place, expected: Expected) {
+pub(crate) fn add_unexpected(report: &mut Report, place: Place, expected: Expected) {
     let found = report.at(place);
     say_found(report, found);
     report.say_name(", where ", words(expected), " is expected");
     report.end_at(place);
     report.help(help_with(expected, found));
-}
-
-/// No program goes on so.
-pub(crate) fn add_unexpected(report: &mut Report, place: Place) {
-    match expected_in(report, place) {
-        Ok(expected) => add_other(report, place, expected),
-        Err(error) => report.fail(error),
-    }
 }
 
 /// A text of too many bytes.
@@ -180,19 +162,11 @@ fn limit_help(expected: Expected) -> &'static str {
     }
 }
 
-/// More than the grammar takes, where this is expected.
-fn add_more(report: &mut Report, place: Place, expected: Expected) {
+/// A limit of the grammar that is passed, where this is expected.
+pub(crate) fn add_limit(report: &mut Report, place: Place, expected: Expected) {
     let (most, what) = limit(expected);
     report.say_number("error: more than ", most, " ");
     report.say(what);
     report.end_at(place);
     report.help(limit_help(expected));
-}
-
-/// A limit of the grammar that is passed.
-pub(crate) fn add_limit(report: &mut Report, place: Place) {
-    match expected_in(report, place) {
-        Ok(expected) => add_more(report, place, expected),
-        Err(error) => report.fail(error),
-    }
 }

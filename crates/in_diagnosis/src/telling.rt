@@ -17,7 +17,7 @@ use crate::wires::{add_closed, add_misfit};
 use in_check::{StuckPart, refusal_of};
 use in_net::{MAX_AGENTS, MAX_MEMBER_AGENTS};
 use in_symbols::Symbols;
-use in_syntax::{Code, Fault, MAX_TEXT_BYTES, Place, Refusal, Source, parse};
+use in_syntax::{Code, Expected, Fault, MAX_TEXT_BYTES, Place, Refusal, Source, parse_expecting};
 use std::alloc::{AllocError, Global};
 
 /// A fault is want of memory, since the text is read as it was before.
@@ -30,13 +30,13 @@ fn only_memory<T>(found: Result<T, Fault>) -> Result<Option<T>, AllocError> {
 }
 
 /// A limit of tokens or of the grammar that is passed.
-fn add_limit_of_text(report: &mut Report, place: Place) {
+fn add_limit_of_text(report: &mut Report, place: Place, expected: Expected) {
     if report.text.len() > MAX_TEXT_BYTES {
         add_long_text(report, place);
     } else if place.from == place.to {
         add_long_word(report, place);
     } else {
-        add_limit(report, place);
+        add_limit(report, place, expected);
     }
 }
 
@@ -49,12 +49,12 @@ fn add_agents(report: &mut Report, source: &Source, place: Place) {
     report.wrong_number(place, "more than ", most, what);
 }
 
-/// What the tokens or the grammar refuse.
-fn add_text_fault(report: &mut Report, refusal: Refusal) {
+/// What the tokens or the grammar refuse, where this is expected.
+fn add_text_fault(report: &mut Report, refusal: Refusal, expected: Expected) {
     match refusal.code {
         Code::E01 => add_no_token(report, refusal.place),
-        Code::E02 => add_unexpected(report, refusal.place),
-        _ => add_limit_of_text(report, refusal.place),
+        Code::E02 => add_unexpected(report, refusal.place, expected),
+        _ => add_limit_of_text(report, refusal.place, expected),
     }
 }
 
@@ -168,10 +168,11 @@ fn add_refusal(report: &mut Report, source: &Source) -> Result<bool, AllocError>
 fn add_first_fault(report: &mut Report, text: &[u8]) -> Result<bool, AllocError>
     ensures { IfOk result (IsTold text.now) }
 {
-    match parse(report.alloc, text) {
+    let mut expected = Expected::Item;
+    match parse_expecting(report.alloc, text, &mut expected) {
         Ok(source) => add_refusal(report, &source),
         Err(Fault::Refused(refusal)) => {
-            add_text_fault(report, refusal);
+            add_text_fault(report, refusal, expected);
             Ok(true)
         }
         Err(Fault::Memory(error)) => Err(error),

@@ -2,7 +2,6 @@ pub mod Absent
 pub mod Agents
 pub mod Bodies
 pub mod Chains
-pub mod Circuits
 pub mod ClosedWires
 pub mod Counts
 pub mod FirstFault

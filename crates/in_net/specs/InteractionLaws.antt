@@ -1,7 +1,8 @@
 -- The laws of interactions, over the definitions alone.
 use Rattle.std.specs.Prelude.{◌≡◌, ◌≢◌, ◌⊎◌, ℕ, List, ◌∷◌, IsSome}
 use Rattle.in_net.specs.Ahead.{MeetsPair, WaitsAt}
-use Rattle.in_net.specs.Graphs.{Passage, CrossingCircle, ViciousCircle, graph_of}
+use Rattle.in_base.specs.Graphs.{Passage, CrossingCircle, ViciousCircle}
+use Rattle.in_net.specs.Graphs.{graph_of}
 use Rattle.in_net.specs.Interactions.{Redex, IsRedex, IsNaming, IsStep, ClosedPath, class_node, open_member}
 use Rattle.in_net.specs.Nets.{Signature, AreClasses, Net, IsNet}
 use Rattle.in_net.specs.Pieces.{IsOuterPiece, PieceRing, IsMadeOf, IsPassage, ClosedWalk}

@@ -4,7 +4,8 @@
 use Rattle.std.specs.Prelude.{◌≡◌, ◌≢◌, ◌⊎◌, ◌↔◌, ℕ, suc, ◌+◌, ◌-◌, nat_lt, Bool, cond, List, [], ◌∷◌, length, slice_get, Some, None}
 use mathlib.Core.Logic.{inl, inr}
 use Rattle.in_symbols.specs.declared.symbols.PortType.{PortType}
-use Rattle.in_net.specs.Graphs.{Graph, class_of_symbol}
+use Rattle.in_base.specs.Graphs.{Graph}
+use Rattle.in_net.specs.Graphs.{class_of_symbol}
 use Rattle.in_net.specs.Nets.{Point, Port, Free, Signature, Net, net_of}
 use Rattle.in_net.specs.Rules.{RuleParts}
 

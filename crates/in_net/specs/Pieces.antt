@@ -3,7 +3,8 @@
 use Rattle.std.specs.Prelude.{◌≡◌, ◌≢◌, ◌⊎◌, ℕ, Bool, List, [], ◌∷◌, ◌++◌, map}
 use Rattle.std.specs.List.{AllByRecursion}
 use mathlib.Core.Logic.{inl, inr}
-use Rattle.in_net.specs.Graphs.{Passage, entered, left, Leads, IsCrossing, AreApart, CrossingCircle, graph_of}
+use Rattle.in_base.specs.Graphs.{Passage, entered, left, Leads, IsCrossing, AreApart, CrossingCircle}
+use Rattle.in_net.specs.Graphs.{graph_of}
 use Rattle.in_net.specs.Nets.{Free, Signature, Net}
 use Rattle.in_net.specs.Interactions.{Redex, Side, Outer, Inner, other, end_agent, end_place, class_node, open_port, open_member}
 

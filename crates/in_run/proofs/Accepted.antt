@@ -14,9 +14,9 @@ use Rattle.in_net.specs.Parts.{Parts, IsWhole, symbol_in}
 use Rattle.in_net.specs.Rules.{RuleParts, BuildsRuleOf}
 use Rattle.in_net.proofs.RightMembers.{no_active_pair}
 use Rattle.in_cover.specs.Cover.{IsRuleFor}
-use Rattle.in_simple.specs.Opening.{AreAllThere}
-use Rattle.in_simple.proofs.Counted.{text_net_there}
-use Rattle.in_simple.proofs.TextRules.{rule_whole}
+use Rattle.in_opening.specs.Opening.{AreAllThere}
+use Rattle.in_opening.proofs.Counted.{text_net_there}
+use Rattle.in_opening.proofs.TextRules.{rule_whole}
 use Rattle.in_check.specs.Checking.{IsAccepted, IsProgramOf}
 use Rattle.in_check.specs.Plain.{PlainParts, IsRuleAt}
 use Rattle.in_check.specs.Programs.{Program}

@@ -9,7 +9,7 @@ use Rattle.in_net.specs.declared.nets.Point.TheVariants.{Port}
 use Rattle.in_net.specs.ActivePairs.{IsActivePair}
 use Rattle.in_net.specs.declared.nets.Wire.{Wire}
 use Rattle.in_net.specs.Parts.{Parts, IsWhole, wire_in}
-use Rattle.in_net.proofs.Stepping.Lists.{last_at, kept_at, more_at}
+use Rattle.in_base.proofs.Places.{last_at, kept_at, more_at}
 use Rattle.in_run.specs.Machines.{agents_at, numbers_of, IsQueueOf}
 use Rattle.in_run.specs.Runs.{JoinsPair, IsNoPair, AreInOrder}
 use Rattle.in_run.proofs.Apart.{apart, same_numbers}

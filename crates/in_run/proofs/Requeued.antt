@@ -14,7 +14,7 @@ use Rattle.in_net.specs.Nets.{Point, Port, Free, net_of, point_of, signature_of}
 use Rattle.in_net.specs.Parts.{Parts, IsWhole, cell_in}
 use Rattle.in_net.specs.Rules.{RuleParts}
 use Rattle.in_net.proofs.Interactions.AtNets.{port_agent, port_place}
-use Rattle.in_net.proofs.Stepping.Lists.{kept_at}
+use Rattle.in_base.proofs.Places.{kept_at}
 use Rattle.in_net.proofs.Stepping.Making.{agent_same}
 use Rattle.in_check.proofs.Reached.FromText.{of_mapped, to_mapped}
 use Rattle.in_run.specs.Machines.{agents_at, numbers_of, IsQueueOf}

@@ -1,7 +1,7 @@
 ghost use Rattle.std.specs.Prelude.{◌≡◌, ◌<◌, ◌^◌, length};
 ghost use Rattle.in_symbols.specs.Tables.{IsSymbol};
 ghost use Rattle.in_net.specs.Built.{IsOver};
-ghost use Rattle.in_simple.specs.Opening.{AreAllThere};
+ghost use Rattle.in_opening.specs.Opening.{AreAllThere};
 ghost use Rattle.in_run.specs.Machines.{is_of, agents_of};
 
 use in_arena::CellClass;

@@ -2,7 +2,7 @@
 use Rattle.std.proofs.Common.{◌≡◌, ◌⊎◌, ◌↔◌, ◌<◌, ℕ, Bool, nat_lt, length, subst, inl, inr, ltb-true, lt-ltb, arith}
 use mathlib.Core.Path.{fun_ext}
 use native.Mathlib.Decide.{ℕ_discrete}
-use Rattle.in_net.specs.Graphs.{CrossingCircle}
+use Rattle.in_base.specs.Graphs.{CrossingCircle}
 use Rattle.in_simple.specs.declared.open_nets.Point.TheVariants.{Port}
 use Rattle.in_simple.specs.Constructions.{IsIn, Built}
 use Rattle.in_simple.specs.Splitting.{IsStuck}

@@ -8,7 +8,7 @@ use Rattle.std.proofs.lemmas.Option.{slice_get_within, slice_get-get_or, same_So
 use Rattle.in_bridges.specs.Spans.{AreWithin}
 use Rattle.in_bridges.specs.Rings.{AreRings}
 use Rattle.in_bridges.proofs.Forests.{pair_same}
-use Rattle.in_net.proofs.Stepping.Lists.{kept_at, last_at, more_at}
+use Rattle.in_base.proofs.Places.{kept_at, last_at, more_at}
 use Rattle.in_simple.specs.declared.class_graphs.HubNumbers.{HubNumbers}
 use Rattle.in_simple.specs.declared.class_graphs.ClassGraph.{ClassGraph}
 use Rattle.in_simple.specs.declared.open_nets.Point.{Point}

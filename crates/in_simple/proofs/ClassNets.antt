@@ -14,7 +14,7 @@ use Rattle.in_simple.specs.Stuck.{ports_of}
 use Rattle.in_simple.specs.Procedure.{nodes_in, IsPlan, Derives, with_task}
 use Rattle.in_simple.specs.Stacks.{Shape, shape, no_wires, HasShape, HaveShapes, IsLinkOf, Fits, Puts}
 use Rattle.in_simple.specs.Planned.{net_of, Meets, LeadsOff, IsBelow, IsClassShape, AreClassShapes, PutsClasses, HasClasses, IsBegun, Adds, AddsNothing, WhatPort, with_empty, Skips}
-use Rattle.in_net.proofs.Stepping.Turns.{some_same}
+use Rattle.in_base.proofs.Places.{some_same}
 use Rattle.in_simple.proofs.Sums.{not_both, same_test, port_yes, port_own, both_right}
 use Rattle.in_simple.proofs.Balance.{wire_within, wire_turn}
 use Rattle.in_simple.proofs.Sound.{wire_points, port_place}

@@ -5,7 +5,7 @@ use Rattle.std.proofs.lemmas.Bool.{cases_eq}
 use Rattle.in_bridges.specs.Ways.{Way, done, along, Joins, Other, IsOnRing}
 use Rattle.in_bridges.proofs.Ways.{way_back}
 use Rattle.in_bridges.proofs.Forests.{joins_same, other_back, pair_same}
-use Rattle.in_net.specs.Graphs.{Graph}
+use Rattle.in_base.specs.Graphs.{Graph}
 use Rattle.in_simple.specs.Constructions.{IsIn}
 use Rattle.in_simple.specs.Splitting.{SplitsAt}
 use Rattle.in_simple.specs.ClassGraphs.{Vertex, Hub, Class, AreClasses, OtherEdge, IsVertex, IsClassGraph, HubEdgesAreBridges, HubEdgesAreOffRings, HasClass, width_at}

@@ -5,7 +5,7 @@ use Rattle.in_simple.specs.Constructions.{IsIn}
 use Rattle.in_simple.specs.OpenNets.{OpenNet, IsNode, IsOpenNet, IsDerivable}
 use Rattle.in_simple.specs.Derivations.{Step, is_free, Builds, IsDerivation}
 use Rattle.in_simple.specs.Stacks.{no_wires, loose_in, loose_below}
-use Rattle.in_net.proofs.Stepping.Turns.{some_same}
+use Rattle.in_base.proofs.Places.{some_same}
 use Rattle.in_simple.proofs.Sums.{not_both, one_other}
 use Rattle.in_simple.proofs.Grow.{splits_built}
 use Rattle.in_simple.proofs.Forest.{Agrees}

@@ -1,6 +1,6 @@
 -- In a derivable open net every set of nodes has a node that splits it.
 use Rattle.std.proofs.Common.{◌≤◌, ◌≡◌, ◌≢◌, ◌⊎◌, ◌<◌, ℕ, Bool, true, false, ◌&&◌, nat_eq, refl, sym, subst, ap, inl, inr, ◌∙◌, eq-eqb, eqb-true}
-use Rattle.in_net.specs.Graphs.{Graph}
+use Rattle.in_base.specs.Graphs.{Graph}
 use Rattle.in_simple.specs.Constructions.{IsIn, AreParts, numbered, IsGraft, Built, empty, given, mix, cut, graft}
 use Rattle.in_simple.specs.Splitting.{Linked, alone, onward, Without, SplitsAt}
 use Rattle.std.proofs.lemmas.Bool.{and_from}

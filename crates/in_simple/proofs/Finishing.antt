@@ -11,7 +11,7 @@ use Rattle.in_simple.specs.OpenNets.{OpenNet, IsNode, IsWire, IsOpenNet}
 use Rattle.in_simple.specs.Derivations.{Step, Part, named, times, is_free, AreEarlier, IsDerivation}
 use Rattle.in_simple.specs.Procedure.{nodes_in}
 use Rattle.in_simple.specs.Stacks.{Shape, shape, no_wires, leads_out, HasShape, HaveShapes, times_node, IsLinkOf, IsStack, Runs, are_free, loose_in, loose_below, begun_with, SetsBeside, Ends, IsUnderWay}
-use Rattle.in_net.proofs.Stepping.Turns.{some_same}
+use Rattle.in_base.proofs.Places.{some_same}
 use Rattle.in_simple.proofs.Sums.{not_both, same_test, point_node, port_yes, one_other, earlier_of, both_left, both_right}
 use Rattle.in_simple.proofs.Balance.{wire_turn}
 use Rattle.in_simple.proofs.Sound.{wire_points}

@@ -2,7 +2,7 @@
 use Rattle.std.proofs.Common.{◌≡◌, ◌≢◌, ◌⊎◌, ◌↔◌, ℕ, Bool, refl, sym, subst, ap, inl, inr, ◌∙◌}
 use Rattle.std.proofs.lemmas.Bool.{cases_eq}
 use Rattle.in_bridges.specs.Ways.{Way, done, along}
-use Rattle.in_net.specs.Graphs.{Graph}
+use Rattle.in_base.specs.Graphs.{Graph}
 use Rattle.in_simple.specs.Constructions.{IsIn}
 use Rattle.in_simple.specs.Splitting.{Linked, alone, onward, Without, SplitsAt}
 use Rattle.in_simple.specs.ClassGraphs.{Vertex, Hub, Class, OtherEdge, AreClasses, HubEdgesAreBridges}

@@ -8,7 +8,7 @@ use Rattle.in_simple.specs.OpenNets.{OpenNet, IsAgent, IsClass, class_in, classe
 use Rattle.in_simple.specs.Derivations.{Step, Empty, Link, Given, Graft, Cut, Mix, Part, named, own_nodes, own_links, one_if, is_port_in, is_principal, is_auxiliary, is_among, nodes_of, links_of, ends_of, ShareNothing, IsGrafted, Joins, times}
 use Rattle.in_simple.specs.Stuck.{ports_of}
 use Rattle.in_simple.specs.Stacks.{shape, no_wires, leads_out, IsLinkOf, HasShape}
-use Rattle.in_net.proofs.Stepping.Turns.{some_same}
+use Rattle.in_base.proofs.Places.{some_same}
 use Rattle.in_simple.proofs.Sums.{not_both, same_test, numbered_is, port_yes, port_no, port_none, port_same, port_or, port_own, other_port, auxiliary_port, principal_one, one_same, one_other, of_nodes, in_nodes_of, both_left, both_right}
 use Rattle.in_simple.proofs.Balance.{wire_within, wire_turn}
 use Rattle.in_simple.proofs.Sound.{wire_points, port_place}

@@ -5,8 +5,8 @@ use Rattle.std.proofs.lemmas.List.{length-set}
 use Rattle.in_simple.specs.declared.verifying.Built.{Built}
 use Rattle.in_simple.specs.Derivations.{Step, named, one_if, times_in}
 use Rattle.in_simple.specs.Checking.{left_of, left_at, Takes}
-use Rattle.in_net.proofs.Stepping.Lists.{set_here, set_there}
-use Rattle.in_net.proofs.Stepping.Turns.{some_same}
+use Rattle.in_base.proofs.Places.{set_here, set_there}
+use Rattle.in_base.proofs.Places.{some_same}
 use Rattle.in_simple.proofs.Sums.{one_same, one_other}
 use Rattle.in_simple.proofs.Links.{same_nat}
 

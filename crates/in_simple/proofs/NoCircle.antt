@@ -2,9 +2,9 @@
 use Rattle.std.proofs.Common.{◌≤◌, ◌≡◌, ◌≢◌, ◌⊎◌, ◌<◌, ℕ, Bool, true, nat_eq, List, [], ◌∷◌, ◌++◌, refl, sym, subst, inl, inr, ◌∙◌, eq-eqb}
 use mathlib.Core.HLevel.{Discrete}
 use Rattle.std.specs.List.{AllByRecursion}
-use Rattle.in_net.specs.Graphs.{Graph, Passage, entered, left, Leads, CrossingCircle}
+use Rattle.in_base.specs.Graphs.{Graph, Passage, entered, left, Leads, CrossingCircle}
 use Rattle.in_simple.specs.Constructions.{IsIn, AreParts, numbered, IsGraft, Built, empty, given, mix, cut, graft}
-use Rattle.in_net.proofs.Circuits.{Walk, AreSeparate, Circuit, Found, find, rotate, IsEntered, IsLeft, crossings_separate, circuit_of}
+use Rattle.in_base.proofs.Circuits.{Walk, AreSeparate, Circuit, Found, find, rotate, IsEntered, IsLeft, crossings_separate, circuit_of}
 use Rattle.in_simple.proofs.Sums.{not_both, swap_parts}
 use Rattle.in_base.proofs.Each.{all_left, all_append, all_right, all_map}
 

@@ -1,19 +1,16 @@
--- What deriving an open net answers is one, and so is what opening a rule does.
-use Rattle.std.proofs.Common.{◌≡◌, ◌⊎◌, inl, inr, ℕ, suc, ◌≤◌, Bool, nat_lt, List, [], ◌∷◌, Ok, Err, refl, sym, ◌∙◌, ap, subst, arith}
-use Rattle.std.proofs.lemmas.List.Sums.{count_by-le-length}
+-- What deriving an open net answers is one.
+use Rattle.std.proofs.Common.{◌≡◌, ◌⊎◌, inl, inr, ℕ, suc, ◌≤◌, Bool, List, [], ◌∷◌, Ok, Err, refl, sym, ◌∙◌, ap, subst, arith}
 use Rattle.std.proofs.lemmas.Option.{same_Some}
 use Rattle.in_syntax.specs.declared.places.Place.{Place}
 use Rattle.in_simple.specs.declared.derivations.Derivation.{Derivation}
 use Rattle.in_simple.specs.declared.derivations.Stuck.{Stuck as StuckNet}
 use Rattle.in_simple.specs.declared.derivations.Undone.TheVariants.{Stuck, Memory}
 use Rattle.in_simple.specs.Constructions.{IsIn}
-use Rattle.in_simple.specs.Laws.{Derives, NetsAreDerivedOnce, OneStuckPlace, RulesAreOpenedOnce, OpenRulesAreOpen, DerivableRulesHaveNoCircle}
+use Rattle.in_simple.specs.Laws.{Derives, NetsAreDerivedOnce, OneStuckPlace}
 use Rattle.in_simple.specs.OpenNets.{OpenNet, IsOpenNet, node_place_in}
 use Rattle.in_simple.specs.Stuck.{Among, Rises, IsListed, IsStuckNet, IsFirstStuck}
-use Rattle.in_simple.proofs.Both.{one_first_stuck, derivable_no_circle}
-use Rattle.in_simple.proofs.OneOpening.{one_open_rule}
+use Rattle.in_simple.proofs.Both.{one_first_stuck}
 use Rattle.in_simple.proofs.OneOrder.{one_list}
-use Rattle.in_simple.proofs.OpenedRules.{is_open_net}
 use Rattle.in_simple.proofs.Whole.{derivation_builds}
 
 -- ---- numbers that rise are one list
@@ -75,15 +72,3 @@ derived_once o (Err (Stuck s)) (Ok d) net h k = no_steps o d s net k h
 derived_once o (Err (Stuck s)) (Err (Stuck r)) net h k = one_listing k.1.0 s.nodes r.nodes (subst (λ z. IsListed z s.nodes) (one_stuck o h.1.0 k.1.0 net h.1.1 k.1.1) h.1.2) k.1.2
 derived_once o (Err (Stuck s)) (Err (Memory e)) net h k = tt
 derived_once o (Err (Memory e)) b net h k = tt
-
--- ---- opening a rule
-
-pub opened_once : RulesAreOpenedOnce
-opened_once t p o u whole over =
-    one_open_rule t p o u (let a = whole.placed over.built in let b = count_by-le-length (λ (q : Place). nat_lt q.from p.head_places.1.from) p.member.places in omega (arith, a, b))
-
-pub rules_open : OpenRulesAreOpen
-rules_open t p o numbered rule_whole whole over opens = is_open_net t p o numbered rule_whole whole over.member over.built opens
-
-pub no_circle : DerivableRulesHaveNoCircle
-no_circle t p o numbered rule_whole whole over opens = derivable_no_circle o (rules_open t p o numbered rule_whole whole over opens)

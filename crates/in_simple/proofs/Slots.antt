@@ -9,7 +9,7 @@ use Rattle.in_simple.specs.declared.open_nets.Point.TheVariants.{Port, Free}
 use Rattle.in_simple.specs.OpenNets.{OpenNet, IsWire, IsPointOf, IsOrderly, ports_in}
 use Rattle.in_simple.specs.Procedure.{Slot, slot_at, led, HasSlot, AreLed, IsWired, nodes_in, IsNeighbour}
 use Rattle.in_simple.specs.Stuck.{ports_of}
-use Rattle.in_net.proofs.Stepping.Turns.{some_same}
+use Rattle.in_base.proofs.Places.{some_same}
 use Rattle.in_simple.proofs.Balance.{wire_within}
 use Rattle.in_simple.proofs.Sums.{some_of, not_both}
 use Rattle.in_simple.proofs.Links.{same_nat}

@@ -11,7 +11,7 @@ use Rattle.in_simple.specs.declared.open_nets.Node.TheVariants.{AgentNode, Class
 use Rattle.in_simple.specs.declared.open_nets.OpenNode.{OpenNode}
 use Rattle.in_simple.specs.OpenNets.{classes_of, OpenNet, IsAgentNode, IsClassNode, IsAgent, IsClass, class_in, IsWire, IsOpenNet, open_graph}
 use Rattle.in_simple.specs.Derivations.{Step, Empty, Link, Given, Graft, Cut, Mix, Part, named, own_nodes, one_if, is_port_in, is_principal, is_auxiliary, is_among, nodes_of, ends_of, ShareNothing, AreEarlier, IsCut, IsGrafted, Joins}
-use Rattle.in_net.proofs.Stepping.Turns.{some_same}
+use Rattle.in_base.proofs.Places.{some_same}
 use Rattle.in_simple.proofs.Sums.{not_both, same_test, port_yes, port_no, port_own, other_port, auxiliary_most, principal_one, one_same, one_other, in_nodes_of, of_nodes, ends_most, ends_two, parts_apart, both_left, both_right}
 use Rattle.in_simple.proofs.Balance.{wire_turn, IsBalanced, AllBalanced, all_nodes}
 use Rattle.std.proofs.lemmas.Bool.{or_cases, or_left, or_right, cases_Bool, false_from_ne_true, or_parts, and_from}

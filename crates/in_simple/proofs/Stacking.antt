@@ -13,8 +13,8 @@ use Rattle.in_simple.specs.TakenOrder.{AreTaken, steps_from}
 use Rattle.in_simple.specs.Stacks.{Yields}
 use Rattle.in_simple.proofs.OneOrder.{split}
 use Rattle.in_simple.specs.Stacks.{count_of, Shape, shape, no_wires, HasShape, HaveShapes, times_node, IsStack, step_of, over_two, IsLast, AreLast, Makes, BuildsOver, Fits, Runs, Puts, loose_in, IsUnderWay}
-use Rattle.in_net.proofs.Stepping.Lists.{kept_at}
-use Rattle.in_net.proofs.Stepping.Turns.{some_same}
+use Rattle.in_base.proofs.Places.{kept_at}
+use Rattle.in_base.proofs.Places.{some_same}
 use Rattle.in_simple.proofs.Sums.{one_same, one_other}
 use Rattle.in_simple.proofs.Links.{same_nat, at_most}
 use Rattle.in_simple.proofs.Forest.{length_app, get_past, get_cases, times_app, times_in_app, earlier_app, different_of, or_sum}

@@ -11,7 +11,7 @@ use Rattle.in_simple.specs.Derivations.{Graft, Part, is_principal, is_auxiliary,
 use Rattle.in_simple.specs.Checking.{ends_at, has_node, has_link, in_one, IsSized, Holds, AllHold, Gathers, IsNothing, Took, Makes, IsMade, AreOpen, IsInClass, IsOpenAt, IsOpen, HasClass, AreGrafted, OnStep, IsClassTaken, IsClassRefused, AreGathered, AreRefused, IsGraftedTo, LacksSome}
 use Rattle.in_simple.specs.Procedure.{nodes_in}
 use Rattle.in_simple.proofs.Links.{same_nat}
-use Rattle.in_net.proofs.Stepping.Turns.{some_same}
+use Rattle.in_base.proofs.Places.{some_same}
 use Rattle.in_simple.proofs.Sums.{one_same, one_other}
 use Rattle.in_simple.proofs.VerifyMade.{AtWires, beside_counted, at_points, at_wires, gathers_none, gathers_more, share_none}
 use Rattle.in_simple.proofs.VerifySets.{at_set, at_other, drop_here}

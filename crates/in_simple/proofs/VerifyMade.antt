@@ -13,7 +13,7 @@ use Rattle.in_simple.specs.Checking.{ends_at, has_node, has_link, HasNoNodes, Ha
 use Rattle.in_simple.specs.Procedure.{nodes_in}
 use Rattle.in_simple.proofs.Balance.{wire_within}
 use Rattle.in_simple.proofs.Links.{same_nat}
-use Rattle.in_net.proofs.Stepping.Turns.{some_same}
+use Rattle.in_base.proofs.Places.{some_same}
 use Rattle.in_simple.proofs.Sums.{port_same, one_same, one_other}
 use Rattle.in_simple.proofs.VerifySets.{at_set, at_other}
 use Rattle.std.proofs.lemmas.Bool.{or_left, or_right}

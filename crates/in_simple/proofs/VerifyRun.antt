@@ -9,8 +9,8 @@ use Rattle.in_simple.proofs.Named.{AreLeft, left_start, left_more, left_app, tak
 use Rattle.in_simple.proofs.Forest.{get_past, get_cases, times_in_app}
 use Rattle.std_collections.proofs.ListMemory.Steps.{unsnoc}
 use Rattle.in_simple.proofs.Links.{same_nat, at_most}
-use Rattle.in_net.proofs.Stepping.Lists.{kept_at}
-use Rattle.in_net.proofs.Stepping.Turns.{some_same}
+use Rattle.in_base.proofs.Places.{kept_at}
+use Rattle.in_base.proofs.Places.{some_same}
 use Rattle.in_simple.proofs.Sums.{one_same, one_other, earlier_of}
 use Rattle.in_simple.proofs.Whole.{times_among, is_node}
 use Rattle.in_simple.proofs.VerifyMade.{at_points, part_of, holds_part}

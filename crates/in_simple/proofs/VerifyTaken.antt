@@ -9,8 +9,8 @@ use Rattle.in_simple.specs.Checking.{Holds, AllHold, AreHeld, AreSized, IsTaken,
 use Rattle.in_simple.proofs.Forest.{different_of}
 use Rattle.in_simple.proofs.Links.{same_nat}
 use Rattle.in_simple.proofs.Named.{take_one, take_none}
-use Rattle.in_net.proofs.Stepping.Lists.{set_here, set_there}
-use Rattle.in_net.proofs.Stepping.Turns.{some_same}
+use Rattle.in_base.proofs.Places.{set_here, set_there}
+use Rattle.in_base.proofs.Places.{some_same}
 use Rattle.in_simple.proofs.Sums.{not_both}
 use Rattle.in_simple.proofs.Whole.{among_times}
 

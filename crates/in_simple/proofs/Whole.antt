@@ -6,7 +6,7 @@ use Rattle.in_simple.specs.declared.open_nets.Point.TheVariants.{Port}
 use Rattle.in_simple.specs.Constructions.{IsIn}
 use Rattle.in_simple.specs.OpenNets.{OpenNet, IsAgentNode, IsClassNode, IsNode, IsOpenNet, IsDerivable}
 use Rattle.in_simple.specs.Derivations.{Step, Empty, Link, Given, Graft, Cut, Mix, Part, named, own_nodes, is_among, nodes_of, AreEarlier, Joins, times, times_in, IsDerivation}
-use Rattle.in_net.proofs.Stepping.Turns.{some_same}
+use Rattle.in_base.proofs.Places.{some_same}
 use Rattle.in_simple.proofs.Links.{at_most}
 use Rattle.in_simple.proofs.Sums.{not_both, some_of, one_same, one_other, in_nodes_of, of_nodes, earlier_at, earlier_of}
 use Rattle.in_simple.proofs.Balance.{step_balanced}

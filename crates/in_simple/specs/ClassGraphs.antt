@@ -1,7 +1,7 @@
 -- The class graph of a set of nodes: a hub for each node, a vertex for each of its classes, an edge from the hub to each of these,
 -- and the wires between the classes of their ports. This project's own: by its bridges it is decided which nodes split the set.
 use Rattle.std.specs.Prelude.{◌≡◌, ◌⊎◌, ℕ, suc, ◌<◌, Bool, List, length, slice_get, Option, Some, None}
-use Rattle.in_net.specs.Graphs.{Graph}
+use Rattle.in_base.specs.Graphs.{Graph}
 use Rattle.in_bridges.specs.Ways.{Way, Joins, IsOnRing}
 use Rattle.in_simple.specs.declared.open_nets.Node.TheVariants.{AgentNode, ClassNode}
 use Rattle.in_simple.specs.declared.open_nets.OpenNode.{OpenNode}

@@ -5,10 +5,7 @@ pub mod Constructions
 pub mod Derivations
 pub mod Joints
 pub mod Laws
-pub mod Maps
 pub mod OpenNets
-pub mod Opening
-pub mod OpeningRules
 pub mod Outcomes
 pub mod Planned
 pub mod Procedure

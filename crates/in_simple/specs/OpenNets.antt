@@ -3,7 +3,7 @@
 -- say it.
 use Rattle.std.specs.Prelude.{◌+◌, ◌≡◌, ◌≢◌, ◌⊎◌, ◌↔◌, ℕ, ◌<◌, ◌≤◌, ◌^◌, Bool, List, length, slice_get, get_or, Option, Some, None, IsSomeAnd, option_map}
 use Rattle.in_syntax.specs.declared.places.Place.{Place}
-use Rattle.in_net.specs.Graphs.{Graph}
+use Rattle.in_base.specs.Graphs.{Graph}
 use Rattle.in_simple.specs.declared.open_nets.Node.{Node}
 use Rattle.in_simple.specs.declared.open_nets.Node.TheVariants.{AgentNode, ClassNode}
 use Rattle.in_simple.specs.declared.open_nets.OpenNode.{OpenNode}
@@ -18,6 +18,9 @@ pub record OpenNet : Type 0 where
   pub nodes : List OpenNode
   pub wires : List (Point × Point)
   pub free : ℕ
+
+abbrev pub open_of : List OpenNode → List (Point × Point) → ℕ → OpenNet
+open_of nodes wires free = record { nodes = nodes; wires = wires; free = free }
 
 abbrev pub IsNode : OpenNet → ℕ → Type 0
 IsNode o n = n < length o.nodes

@@ -1,6 +1,6 @@
 -- Which nodes split a sub-net, and which sub-nets split. This project's own choice: a procedure that decides what is derivable.
 use Rattle.std.specs.Prelude.{◌≡◌, ◌≢◌, ◌↔◌, ℕ, Bool, false}
-use Rattle.in_net.specs.Graphs.{Graph}
+use Rattle.in_base.specs.Graphs.{Graph}
 use Rattle.in_simple.specs.Constructions.{IsIn, OwnWiresAreOfOneClass}
 
 -- joined through nodes of which P holds, both ends among them

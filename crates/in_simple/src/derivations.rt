@@ -1,51 +1,5 @@
-ghost use Rattle.std.specs.Prelude.{◌≡◌, [], ◌∷◌, ◌++◌, OnOk, OnErr};
-
-use smallvec::SmallVec;
 use sqlite_items::Items;
-use std::alloc::{AllocError, Global};
-use std::marker::Model;
-
-/// The numbers of a few steps, in order.
-#[derive(Drop)]
-pub struct StepNumbers {
-    items: SmallVec<u32, 8>,
-}
-
-// Contracts see the list of the numbers.
-impl Model for StepNumbers {
-    ghost use Rattle.std.specs.Prelude.{List, ℕ};
-
-    ghost Value = { List ℕ };
-
-    ghost view = { λ s. s.items.items };
-}
-
-impl StepNumbers {
-    /// No numbers yet.
-    pub fn new(alloc: Global) -> StepNumbers
-        ensures { result ≡ [] }
-    {
-        StepNumbers {
-            items: SmallVec::new(alloc),
-        }
-    }
-
-    /// One number more, at the end; refused for want of memory, and then nothing changes.
-    pub fn push(&mut self, step: u32) -> Result<(), AllocError>
-        ensures ok { OnOk result (self.new ≡ self.old ++ step ∷ []) }
-        ensures err { OnErr result (self.new ≡ self.old) }
-    {
-        self.items.push(step)?;
-        Ok(())
-    }
-
-    /// The numbers.
-    pub fn as_slice(&self) -> &[u32]
-        ensures { result.now ≡ self.now }
-    {
-        self.items.as_slice()
-    }
-}
+use std::alloc::AllocError;
 
 /// A step of a derivation. Steps, nodes and wires are named by their numbers, from 0 on. The steps are Lafont 1990's
 /// constructions; that they name wires, and the step for a class node, is this project's own choice.
@@ -58,7 +12,7 @@ pub enum Step {
     /// A class node.
     Given { node: u32 },
     /// An agent, with a step for each class of its auxiliary ports, in order.
-    Graft { node: u32, classes: StepNumbers },
+    Graft { node: u32, classes: Items<u32> },
     /// Two steps joined along a wire.
     Cut { wire: u32, a: u32, b: u32 },
     /// Two steps side by side.

@@ -1,7 +1,7 @@
 ghost use Rattle.std.specs.Prelude.{◌≡◌, ◌+◌, ◌<◌, ◌≤◌, ◌^◌, length, slice_get, Some, IsTrue, false};
 ghost use Rattle.in_syntax.specs.Grammar.{max_ports};
 ghost use Rattle.in_simple.specs.ClassGraphs.{width_of};
-ghost use Rattle.in_simple.specs.OpenNets.{IsAgent, IsClass, IsOrderly, class_in, classes_of, node_in, node_place_in};
+ghost use Rattle.in_simple.specs.OpenNets.{IsAgent, IsClass, IsOrderly, class_in, classes_of, node_in, node_place_in, open_of};
 ghost use Rattle.in_simple.specs.Stuck.{ports_of};
 
 use in_symbols::SymbolNo;
@@ -26,11 +26,11 @@ pub enum Point {
 
 /// A node, where it stands in the text, how many classes its auxiliary places are in, and the class of each place.
 #[derive(Drop)]
-pub(crate) struct OpenNode {
-    pub(crate) node: Node,
-    pub(crate) place: Place,
-    pub(crate) classes: u8,
-    pub(crate) class_of: Items<u8>,
+pub struct OpenNode {
+    pub node: Node,
+    pub place: Place,
+    pub classes: u8,
+    pub class_of: Items<u8>,
 }
 
 /// A net of which it can be asked how it is built up: its nodes in the order of their places, its wires, and its free ends.
@@ -47,12 +47,21 @@ impl Model for OpenNet {
 
     ghost Value = { nets.OpenNet };
 
-    ghost view = { λ o. record { nodes = o.nodes; wires = o.wires; free = o.free } };
+    ghost view = { λ o. nets.open_of o.nodes o.wires o.free };
 
-    ghost invariant = { λ o. nets.IsOrderly (record { nodes = o.nodes; wires = o.wires; free = o.free }) };
+    ghost invariant = { λ o. nets.IsOrderly (nets.open_of o.nodes o.wires o.free) };
 }
 
 impl OpenNet {
+    /// The open net of these nodes, these wires and so many free ends: each point is in exactly one wire, an agent's principal port is the
+    /// one place of class 0, and its other classes stand in order.
+    pub fn new(nodes: Items<OpenNode>, wires: Items<(Point, Point)>, free: u32) -> OpenNet
+        requires { IsOrderly (open_of nodes wires free) }
+        ensures { result ≡ open_of nodes wires free }
+    {
+        OpenNet { nodes, wires, free }
+    }
+
     /// How many nodes the open net has.
     pub fn nodes(&self) -> u32
         ensures { result ≡ length self.now.nodes }

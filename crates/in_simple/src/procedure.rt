@@ -7,7 +7,7 @@ ghost use Rattle.in_simple.specs.Stacks.{Advances, AreLast, Ends, IsLast, IsUnde
 ghost use Rattle.in_simple.specs.TakenOrder.{AreTaken, links_from};
 ghost use Rattle.in_simple.specs.declared.plans.Task.TheVariants.{Derive, Make};
 
-use crate::derivations::{Derivation, Step, StepNumbers, Stuck, Undone};
+use crate::derivations::{Derivation, Step, Stuck, Undone};
 use crate::nodes::NodeSet;
 use crate::open_nets::{OpenNet, Point};
 use crate::parts::Part;
@@ -27,10 +27,10 @@ pub(crate) struct Work {
 }
 
 /// The last of these, in their order.
-fn last_of(alloc: Global, roots: &Items<u32>, count: usize) -> Result<StepNumbers, AllocError>
+fn last_of(alloc: Global, roots: &Items<u32>, count: usize) -> Result<Items<u32>, AllocError>
     ensures { IfOk result (λ last. last ≡ drop (length roots.now - count) roots.now) }
 {
-    let mut last = StepNumbers::new(alloc);
+    let mut last = Items::new(alloc);
     let first = roots.len() - count.min(roots.len());
     for root in first..roots.len() {
         last.push(roots.as_slice()[root])?;

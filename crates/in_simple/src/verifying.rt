@@ -4,7 +4,7 @@ ghost use Rattle.in_simple.specs.Derivations.{Cut, Given, Graft, IsDerivation, L
 ghost use Rattle.in_simple.specs.OpenNets.{IsAgent, IsClass, IsOrderly, IsPointOf, classes_of};
 ghost use Rattle.in_simple.specs.Procedure.{nodes_in};
 
-use crate::derivations::{Derivation, Step, StepNumbers};
+use crate::derivations::{Derivation, Step};
 use crate::open_nets::{OpenNet, Point};
 use crate::sets::NumberSet;
 use sqlite_items::Items;
@@ -445,7 +445,7 @@ impl<'a> Root<'a> {
         &self,
         parts: &mut Vec<Option<Built>>,
         built: &mut Built,
-        steps: &StepNumbers,
+        steps: &Items<u32>,
     ) -> Result<bool, AllocError>
         requires parts { AreSized self.now.net.now parts.old.items }
         requires built { IsNothing self.now.net.now built.old }
@@ -474,7 +474,7 @@ fn graft(
     open: &OpenNet,
     parts: &mut Vec<Option<Built>>,
     node: u32,
-    steps: &StepNumbers,
+    steps: &Items<u32>,
 ) -> Result<Option<Built>, AllocError>
     requires { AreSized «open».now parts.old.items }
     ensures { IfOk result (OnStep «open».now (Graft node steps.now) parts.old.items parts.new.items) }

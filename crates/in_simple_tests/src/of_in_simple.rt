@@ -1,6 +1,6 @@
 use in_check::{Checked, Item};
 use in_cover::RuleNo;
-use in_simple::{Derivation, OpenNet, Step, StepNumbers, verify};
+use in_simple::{Derivation, OpenNet, Step, verify};
 use in_test_programs::{Look, seen};
 use in_test_texts::{ADDITION, DUPLICATION, SUMS};
 use sqlite_items::Items;
@@ -97,7 +97,7 @@ fn each_step_but_the_last_is_named_once(rt: HostRuntime) {
 
 /// A graft of one class, after a Link.
 fn grafted(alloc: Global) -> Result<[Step; 2], AllocError> {
-    let mut classes = StepNumbers::new(alloc);
+    let mut classes = Items::new(alloc);
     classes.push(0)?;
     Ok([Step::Link { wire: 0 }, Step::Graft { node: 0, classes }])
 }

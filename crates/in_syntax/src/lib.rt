@@ -21,12 +21,12 @@ mod text;
 mod tree;
 mod words;
 
-pub use expecting::{Expected, Part, expected_at};
+pub use expecting::{Expected, Part};
 pub use faults::{Code, Fault, Refusal};
 pub use lexer::{MAX_NAME_CHARACTERS, MAX_TEXT_BYTES, tokens};
 pub use machine::{MAX_DEPTH, MAX_FREE_NAMES, MAX_PORTS, MAX_RULES, MAX_SYMBOLS, MAX_TYPES};
 pub use memory::{MemoryIn, MemoryOut};
-pub use parsing::parse;
+pub use parsing::{parse, parse_expecting};
 pub use places::Place;
 pub use streams::{TextIn, TextOut};
 pub use text::Text;

@@ -1,6 +1,7 @@
 ghost use Rattle.in_syntax.specs.Programs.{HasTexts, IsParsing};
 ghost use Rattle.in_syntax.specs.Steps.{Gives};
 
+use crate::expecting::{Expected, expected_in};
 use crate::faults::Fault;
 use crate::places::Place;
 use crate::reader::Reader;
@@ -19,11 +20,19 @@ use std::alloc::Global;
 ///
 /// The grammar is that of Lafont's language ("Interaction nets", 1990) in this project's own signs, the limits are this
 /// project's own choice. Its other error is want of memory.
-pub fn program(alloc: Global, text: &[u8], tokens: &[Token], end: Place) -> Result<Source, Fault>
+///
+/// Where the grammar refuses a program, `expected` has what one can go on with there.
+pub fn program(
+    alloc: Global,
+    text: &[u8],
+    tokens: &[Token],
+    end: Place,
+    expected: &mut Expected,
+) -> Result<Source, Fault>
     requires { HasTexts text.now tokens.now }
     ensures { IsParsing text.now tokens.now end result }
 {
-    program_by_steps(alloc, text, tokens, end)
+    program_by_steps(alloc, text, tokens, end, expected)
 }
 
 fn program_by_steps(
@@ -31,13 +40,16 @@ fn program_by_steps(
     text: &[u8],
     tokens: &[Token],
     end: Place,
+    expected: &mut Expected,
 ) -> Result<Source, Fault>
     requires { HasTexts text.now tokens.now }
     ensures { Gives text.now tokens.now end result }
 {
     let mut reader = Reader::new(alloc);
+    *expected = expected_in(&reader.state);
     for token in tokens {
         reader = reader.take(alloc, text, *token)?;
+        *expected = expected_in(&reader.state);
     }
     reader.finish(end)
 }

@@ -3,6 +3,7 @@ ghost use Rattle.in_syntax.specs.Order.{IsWrittenInOrder};
 ghost use Rattle.in_syntax.specs.Parsing.{IsOfText, Parses};
 ghost use Rattle.in_syntax.specs.Sizes.{IsSized};
 
+use crate::expecting::Expected;
 use crate::faults::Fault;
 use crate::lexer::tokens_to_end;
 use crate::parser::program;
@@ -27,6 +28,20 @@ pub fn parse(alloc: Global, text: &[u8]) -> Result<Source, Fault>
     ensures sized { IfOk result IsSized }
     ensures order { IfOk result IsWrittenInOrder }
 {
+    let mut expected = Expected::Item;
+    parse_expecting(alloc, text, &mut expected)
+}
+
+/// The tree of a program's text, or the fault for which `parse` refuses it. Where the grammar refuses it, at a token or at its end,
+/// `expected` has what a program can go on with there.
+///
+/// What is expected is for messages, and so no clause says which it is.
+pub fn parse_expecting(alloc: Global, text: &[u8], expected: &mut Expected) -> Result<Source, Fault>
+    ensures tree { Parses text.now result }
+    ensures of_text { IfOk result IsOfText }
+    ensures sized { IfOk result IsSized }
+    ensures order { IfOk result IsWrittenInOrder }
+{
     let (tokens, end) = tokens_to_end(alloc, text)?;
-    program(alloc, text, tokens.as_slice(), end)
+    program(alloc, text, tokens.as_slice(), end, expected)
 }

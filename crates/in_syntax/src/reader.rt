@@ -86,17 +86,6 @@ impl Reader {
         }
     }
 
-    /// Drops what was read: a call, since the proof of each drop goes through all states anew.
-    pub fn put_away(self) {
-        let Reader {
-            types: _,
-            symbols: _,
-            rules: _,
-            state,
-        } = self;
-        put_away(state);
-    }
-
     /// The program, where the text ends here.
     pub fn finish(self, end: Place) -> Result<Source, Fault>
         ensures { Ends self end result }

@@ -2,7 +2,7 @@
 
 /// From U+0000 to U+2858: a line for each character, its number and its name.
 #[rattlefmt::skip]
-pub(crate) static NAMES: &[u8] = b"\
+static NAMES: &[u8] = b"\
 0000 null character
 0001 start of heading
 0002 start of text
@@ -3980,3 +3980,8 @@ pub(crate) static NAMES: &[u8] = b"\
 2857 braille pattern dots-12357
 2858 braille pattern dots-457
 ";
+
+/// These lines. Each table has a function of its own, since the prover writes a constant out in each that names it.
+pub(crate) fn names() -> &'static [u8] {
+    NAMES
+}

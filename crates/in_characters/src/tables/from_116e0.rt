@@ -2,7 +2,7 @@
 
 /// From U+116E0 to U+1DAAF: a line for each character, its number and its name.
 #[rattlefmt::skip]
-pub(crate) static NAMES: &[u8] = b"\
+static NAMES: &[u8] = b"\
 116E0 Myanmar eastern pwo karen digit six
 116E1 Myanmar eastern pwo karen digit seven
 116E2 Myanmar eastern pwo karen digit eight
@@ -3137,3 +3137,8 @@ pub(crate) static NAMES: &[u8] = b"\
 1DAAE SignWriting rotation modifier-15
 1DAAF SignWriting rotation modifier-16
 ";
+
+/// These lines. Each table has a function of its own, since the prover writes a constant out in each that names it.
+pub(crate) fn names() -> &'static [u8] {
+    NAMES
+}

@@ -2,7 +2,7 @@
 
 /// From U+1DB00 to U+E01EF: a line for each character, its number and its name.
 #[rattlefmt::skip]
-pub(crate) static NAMES: &[u8] = b"\
+static NAMES: &[u8] = b"\
 1DB00 leibnizian equals sign
 1DB01 leibnizian equals sign with double verticals
 1DB02 leibnizian equals sign with small s
@@ -3303,3 +3303,8 @@ E01ED variation selector-254
 E01EE variation selector-255
 E01EF variation selector-256
 ";
+
+/// These lines. Each table has a function of its own, since the prover writes a constant out in each that names it.
+pub(crate) fn names() -> &'static [u8] {
+    NAMES
+}

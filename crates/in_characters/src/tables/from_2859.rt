@@ -2,7 +2,7 @@
 
 /// From U+2859 to U+116DF: a line for each character, its number and its name.
 #[rattlefmt::skip]
-pub(crate) static NAMES: &[u8] = b"\
+static NAMES: &[u8] = b"\
 2859 braille pattern dots-1457
 285A braille pattern dots-2457
 285B braille pattern dots-12457
@@ -3753,3 +3753,8 @@ FFFD replacement character
 116DE Myanmar eastern pwo karen digit four
 116DF Myanmar eastern pwo karen digit five
 ";
+
+/// These lines. Each table has a function of its own, since the prover writes a constant out in each that names it.
+pub(crate) fn names() -> &'static [u8] {
+    NAMES
+}

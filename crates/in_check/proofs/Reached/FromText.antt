@@ -23,15 +23,15 @@ use Rattle.in_net.proofs.Stepping.Sites.{declared_at}
 use Rattle.in_typing.specs.Typed.{TypesRule}
 use Rattle.in_typing.proofs.TypedParts.{net_typed}
 use Rattle.in_cover.specs.Cover.{IsComplete}
-use Rattle.in_simple.specs.Opening.{AreNumbered}
+use Rattle.in_opening.specs.Opening.{AreNumbered}
 use Rattle.in_simple.proofs.Both.{derivable_no_circle}
-use Rattle.in_simple.proofs.Classes.{class_between, of_map, tables_numbered}
+use Rattle.in_opening.proofs.Classes.{class_between, of_map, tables_numbered}
 use Rattle.in_simple.proofs.Links.{at_most}
-use Rattle.in_simple.proofs.OfNets.{net_circle}
-use Rattle.in_simple.proofs.OfRules.{rule_circle}
-use Rattle.in_simple.proofs.OneAnswer.{rules_open, no_circle}
-use Rattle.in_simple.proofs.Opened as opened_nets
-use Rattle.in_simple.proofs.TextRules.{rule_whole}
+use Rattle.in_opening.proofs.OfNets.{net_circle}
+use Rattle.in_opening.proofs.OfRules.{rule_circle}
+use Rattle.in_opening.proofs.RuleLaws.{rules_open, no_circle}
+use Rattle.in_opening.proofs.Opened as opened_nets
+use Rattle.in_opening.proofs.TextRules.{rule_whole}
 use Rattle.in_simple.proofs.Whole.{derivation_builds}
 use Rattle.in_check.specs.Certificates.{CertifiesRule}
 use Rattle.in_check.specs.Checking.{IsAccepted, IsProgramOf}

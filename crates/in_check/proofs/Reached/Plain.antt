@@ -15,7 +15,7 @@ use Rattle.in_net.specs.Rules.{RuleParts, auxiliary_types}
 use Rattle.in_cover.specs.Cover.{IsPair, IsFor}
 use Rattle.std.proofs.lemmas.Option.{same_Some}
 use Rattle.in_net.proofs.Stepping.OneOutcome.{one_outcome}
-use Rattle.in_simple.proofs.TextRules.{same_symbol}
+use Rattle.in_opening.proofs.TextRules.{same_symbol}
 use Rattle.in_check.specs.Checking.{IsAccepted, IsProgramOf}
 use Rattle.in_check.specs.Programs.{Program}
 use Rattle.in_check.specs.Plain.{PlainParts, IsReachedBy, IsPlain, StepsTo, IsPairAt, IsRuleAt, PlainStarts, PlainSteps, PlainStepsAreOne, PairsHaveTheirRule, PlainAsPromised}

@@ -2,11 +2,12 @@
 use Rattle.std.proofs.Common.{◌≡◌, ◌≢◌, ◌⊎◌, ◌≤◌, ℕ, zero, suc, Option, Some, None, IsSome, IsSomeAnd, List, [], ◌∷◌, length, refl, sym, subst, ap, inl, inr, ◌∙◌, arith}
 use mathlib.Core.HLevel.{Discrete}
 use Rattle.std.specs.List.{AllByRecursion}
-use Rattle.in_net.specs.Graphs.{Passage, AreApart, CrossingCircle, class_of_symbol, graph_of}
+use Rattle.in_base.specs.Graphs.{Passage, AreApart, CrossingCircle}
+use Rattle.in_net.specs.Graphs.{class_of_symbol, graph_of}
 use Rattle.in_net.specs.Nets.{Point, Port, Free, Signature, AreClasses, Net, IsPoint, IsNet}
 use Rattle.in_base.specs.Lists.{IsAmong}
 use Rattle.in_net.specs.Ahead.{MeetsPair, pair, pair_later, WaitsAt, free, free_later}
-use Rattle.in_net.proofs.Circuits.{Walk, AreSeparate, scan}
+use Rattle.in_base.proofs.Circuits.{Walk, AreSeparate, scan}
 
 -- xs without one x
 pub record Rest {X : Type 0} (x : X) (xs : List X) : Type 0 where

@@ -2,7 +2,8 @@
 use Rattle.std.proofs.Common.{◌≡◌, ◌⊎◌, ◌≤◌, ℕ, zero, suc, Bool, List, [], ◌∷◌, ◌++◌, length, refl, sym, subst, ap, ◌∙◌, arith}
 use mathlib.Core.HLevel.{Discrete}
 use Rattle.std.proofs.lemmas.Option.{same_Some}
-use Rattle.in_net.specs.Graphs.{CrossingCircle, graph_of}
+use Rattle.in_base.specs.Graphs.{CrossingCircle}
+use Rattle.in_net.specs.Graphs.{graph_of}
 use Rattle.in_net.specs.Nets.{Point, Port, Free, Signature, AreClasses, Net, IsNet}
 use Rattle.in_net.specs.Interactions.{Redex, IsRedex, Side, Outer, Inner, other, end_agent, end_place, EndWire, EndPath, ClosedPath, open_member}
 use Rattle.in_net.proofs.Interactions.Places.{Place, Old, New, Boundary, Loose, wires}

@@ -3,10 +3,10 @@ use Rattle.std.proofs.Common.{◌≡◌, ◌≢◌, ◌⊎◌, ℕ, List, [], �
 use mathlib.Core.HLevel.{Discrete}
 use mathlib.Core.Sum as Sum
 use Rattle.std.specs.List.{AllByRecursion}
-use Rattle.in_net.specs.Graphs.{Graph, Passage, CrossingCircle}
+use Rattle.in_base.specs.Graphs.{Graph, Passage, CrossingCircle}
 use Rattle.in_net.specs.Interactions.{Side, Outer, Inner}
 use Rattle.in_net.proofs.Interactions.Places.{Place, Old, New, Boundary, Loose}
-use Rattle.in_net.proofs.Circuits.{Walk, AreSeparate, shorten}
+use Rattle.in_base.proofs.Circuits.{Walk, AreSeparate, shorten}
 use Rattle.in_net.proofs.Interactions.Tours.{Stop, At_old, At_new, Through, enters, leaves, Tour}
 use Rattle.in_net.proofs.Interactions.Stops.{tour_to, tour_join, ClosedTour}
 use Rattle.in_net.proofs.Interactions.Pieces.{close_one, close_two}

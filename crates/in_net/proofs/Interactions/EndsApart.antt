@@ -1,10 +1,10 @@
 -- The boundary ends that a ring after an interaction passes are different: from each of them one path leads on, and one back.
 use Rattle.std.proofs.Common.{◌≡◌, ◌≢◌, ◌⊎◌, ◌<◌, ℕ, suc, List, [], ◌∷◌, length, sym, subst, ap, inl, inr, arith}
 use Rattle.std.specs.List.{AllByRecursion}
-use Rattle.in_net.specs.Graphs.{Passage, entered, left, AreApart}
+use Rattle.in_base.specs.Graphs.{Passage, entered, left, AreApart}
 use Rattle.in_net.specs.Interactions.{Side, Outer, Inner, other}
 use Rattle.in_net.specs.Pieces.{AreDifferent}
-use Rattle.in_net.proofs.Circuits.{Walk, AreSeparate, Circuit}
+use Rattle.in_base.proofs.Circuits.{Walk, AreSeparate, Circuit}
 use Rattle.in_net.proofs.Interactions.Places.{Place, Boundary, Path, Stays, side_of, IsJoined}
 use Rattle.in_net.proofs.Interactions.Paths.{AreWires, other_twice, one_path}
 use Rattle.in_net.proofs.Interactions.Expand.{place, after, bounds}

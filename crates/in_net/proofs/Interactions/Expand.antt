@@ -1,10 +1,10 @@
 -- A closed walk of the net after an interaction, wire by wire.
 use Rattle.std.proofs.Common.{◌≡◌, ◌⊎◌, ℕ, List, [], ◌∷◌, ◌++◌, refl, sym, subst, inl, inr, ◌∙◌, ap}
-use Rattle.in_net.specs.Graphs.{Graph, Passage, entered, left}
+use Rattle.in_base.specs.Graphs.{Graph, Passage, entered, left}
 use Rattle.in_net.specs.Interactions.{Side, other}
 use Rattle.in_net.proofs.Interactions.Places.{Place, Old, New, Boundary, Loose, Path, Stays, side_of, IsJoined}
 use Rattle.in_net.proofs.Interactions.Paths.{AreWires}
-use Rattle.in_net.proofs.Circuits.{Walk, Circuit}
+use Rattle.in_base.proofs.Circuits.{Walk, Circuit}
 use Rattle.in_net.proofs.Interactions.Tours.{Stop, At_old, At_new, Through, enters, leaves, Tour, agents_of, boundary_of}
 use Rattle.in_net.proofs.Interactions.Stops.{AtPlace, tour_join, boundary_join, ClosedTour}
 

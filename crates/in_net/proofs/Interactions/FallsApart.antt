@@ -2,11 +2,12 @@
 use Rattle.std.proofs.Common.{◌≡◌, ◌≢◌, ◌⊎◌, ℕ, Some, List, [], ◌∷◌, ◌++◌, map, refl, sym, subst, ap, inl, inr, ◌∙◌, append-nil}
 use Rattle.std.specs.List.{AllByRecursion}
 use Rattle.std.proofs.lemmas.List.{map-append}
-use Rattle.in_net.specs.Graphs.{Passage, Leads, IsCrossing, AreApart, graph_of}
+use Rattle.in_base.specs.Graphs.{Passage, Leads, IsCrossing, AreApart}
+use Rattle.in_net.specs.Graphs.{graph_of}
 use Rattle.in_net.specs.Nets.{Port, Free, Signature, AreClasses, Net, IsNet}
 use Rattle.in_net.specs.Interactions.{Redex, IsRedex, Side, Outer, Inner, other, open_port, open_member}
 use Rattle.in_net.specs.Pieces.{Piece, Outside, Inside, begins, lies, IsPiece, passages_of, FollowInTurn, AreDifferent, PieceRing, IsMadeOf, wholly_outside, wholly_inside, of_pieces, end_port, renamed, name_after}
-use Rattle.in_net.proofs.Circuits.{apart_before}
+use Rattle.in_base.proofs.Circuits.{apart_before}
 use Rattle.in_net.proofs.Interactions.AtNets.{sides, are_sides}
 use Rattle.in_net.proofs.Interactions.Compress.{outer_port, inner_port, IsOn, outer_inner}
 use Rattle.in_net.proofs.Interactions.Places.{Place, Old, New, Boundary, wires}

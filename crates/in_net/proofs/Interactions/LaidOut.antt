@@ -1,6 +1,7 @@
 -- A crossing circle after an interaction, laid out wire by wire.
 use Rattle.std.proofs.Common.{◌≡◌, ◌⊎◌, Some, ℕ, List, [], ◌∷◌, map, refl, sym, subst, ap, inl, inr, ◌∙◌}
-use Rattle.in_net.specs.Graphs.{Graph, Passage, entered, left, AreApart, CrossingCircle, class_of_symbol, graph_of}
+use Rattle.in_base.specs.Graphs.{Graph, Passage, entered, left, AreApart, CrossingCircle}
+use Rattle.in_net.specs.Graphs.{class_of_symbol, graph_of}
 use Rattle.in_net.specs.Nets.{Port, Free, Signature, AreClasses, Net, IsPoint, IsNet}
 use Rattle.in_net.specs.Interactions.{Side, Outer, Inner}
 use Rattle.in_net.proofs.Interactions.Places.{Place, Old, New, Boundary, Loose, Path, IsJoined}
@@ -9,7 +10,7 @@ use Rattle.in_net.proofs.Interactions.Places.{wires, HasSymbol, IsAfter, IsByPla
 use Rattle.in_net.proofs.Interactions.Compress.{Sides}
 use Rattle.in_net.proofs.Interactions.Alternating.{symbol_of}
 use Rattle.in_net.proofs.Interactions.Paths.{joined_back}
-use Rattle.in_net.proofs.Circuits.{Walk, AreSeparate, Circuit, IsEntered, IsLeft, circuit_of, crossings_separate}
+use Rattle.in_base.proofs.Circuits.{Walk, AreSeparate, Circuit, IsEntered, IsLeft, circuit_of, crossings_separate}
 use Rattle.std.specs.List.{AllByRecursion}
 use Rattle.in_net.proofs.Interactions.Tours.{Stop, At_old, At_new, Through, enters, leaves, Tour, IsCrossingStop, Passes, LaidOut, agents_of}
 use Rattle.in_net.specs.Pieces.{AreDifferent, renamed}

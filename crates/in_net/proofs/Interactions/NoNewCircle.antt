@@ -2,7 +2,8 @@
 use Rattle.std.proofs.Common.{◌≡◌, ◌⊎◌, ℕ, Bool, List, [], ◌∷◌, map, refl, inl}
 use Rattle.std.specs.List.{AllByRecursion}
 use mathlib.Core.HLevel.{Discrete}
-use Rattle.in_net.specs.Graphs.{Passage, Leads, CrossingCircle, graph_of}
+use Rattle.in_base.specs.Graphs.{Passage, Leads, CrossingCircle}
+use Rattle.in_net.specs.Graphs.{graph_of}
 use Rattle.in_net.specs.Nets.{Port, Signature, AreClasses, Net, IsNet}
 use Rattle.in_net.specs.Interactions.{Redex, IsRedex, IsStep, open_member}
 use Rattle.in_net.specs.Pieces.{Piece, Outside, Inside, IsPiece, IsPassage, IsMadeOf, wholly_outside, wholly_inside, of_pieces, renamed, name_after}

@@ -3,9 +3,10 @@ use Rattle.std.proofs.Common.{◌≡◌, ◌≢◌, ℕ, suc, ◌-◌, Bool, tru
 use Rattle.std.specs.List.{AllByRecursion}
 use mathlib.Core.HLevel.{Discrete}
 use native.Mathlib.Decide.{ℕ_discrete}
-use Rattle.in_net.specs.Graphs.{Graph, Passage, entered, left, Leads, IsCrossing, AreApart, CrossingCircle, class_of_symbol, graph_of}
+use Rattle.in_base.specs.Graphs.{Graph, Passage, entered, left, Leads, IsCrossing, AreApart, CrossingCircle}
+use Rattle.in_net.specs.Graphs.{class_of_symbol, graph_of}
 use Rattle.in_net.specs.Nets.{Point, Port, Signature, AreClasses, Net, IsNet}
-use Rattle.in_net.proofs.Circuits.{Walk, IsEntered, IsLeft, each_any, not_entered, not_left, crossings_separate, leads_walk}
+use Rattle.in_base.proofs.Circuits.{Walk, IsEntered, IsLeft, each_any, not_entered, not_left, crossings_separate, leads_walk}
 use Rattle.in_net.specs.Interactions.{Redex, IsRedex, of_first, class_node}
 use Rattle.in_net.specs.Pieces.{IsOuterPiece, end_port}
 use Rattle.in_net.proofs.Interactions.Pieces.{close_one, close_two}

@@ -2,7 +2,8 @@
 use Rattle.std.proofs.Common.{◌≡◌, ◌≢◌, ◌⊎◌, ℕ, Bool, List, [], ◌∷◌, ◌++◌, map, refl, sym, subst, ap, inl, inr, ◌∙◌, append-nil, append_assoc}
 use Rattle.std.specs.List.{AllByRecursion}
 use Rattle.std.proofs.lemmas.List.{map-append}
-use Rattle.in_net.specs.Graphs.{Graph, Passage, entered, left, Leads, IsCrossing, AreApart, graph_of}
+use Rattle.in_base.specs.Graphs.{Graph, Passage, entered, left, Leads, IsCrossing, AreApart}
+use Rattle.in_net.specs.Graphs.{graph_of}
 use Rattle.in_net.specs.Nets.{Signature, Net}
 use Rattle.in_net.specs.Interactions.{Redex, Outer, class_node, open_member}
 use Rattle.in_net.specs.Pieces.{Piece, Outside, Inside, begins, lies, IsPiece, IsPassage, passages_of, Follows, FollowInTurn, AreDifferent, PieceRing, ports_of, AtOtherAgent, AgentsOnce, ClosedWalk, renamed}

@@ -1,7 +1,7 @@
 -- Rings as lists: begun elsewhere, renamed, joined.
 use Rattle.std.proofs.Common.{◌≡◌, ◌≢◌, List, [], ◌∷◌, ◌++◌, map, sym, subst, ap, append_assoc, append-nil}
 use Rattle.std.specs.List.{AllByRecursion}
-use Rattle.in_net.specs.Graphs.{Passage, AreApart}
+use Rattle.in_base.specs.Graphs.{Passage, AreApart}
 use Rattle.in_net.specs.Pieces.{AreDifferent, renamed}
 use Rattle.in_base.proofs.Each.{all_append, Pairwise}
 

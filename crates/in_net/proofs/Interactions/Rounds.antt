@@ -3,9 +3,9 @@ use Rattle.std.proofs.Common.{◌≡◌, ◌≢◌, ◌⊎◌, ℕ, Bool, List, 
 use Rattle.std.specs.List.{AllByRecursion}
 use mathlib.Core.HLevel.{Discrete}
 use mathlib.Core.Sum as Sum
-use Rattle.in_net.specs.Graphs.{Passage, entered, left, IsCrossing, CrossingCircle}
+use Rattle.in_base.specs.Graphs.{Passage, entered, left, IsCrossing, CrossingCircle}
 use Rattle.in_net.specs.Nets.{Signature}
-use Rattle.in_net.proofs.Circuits.{AreSeparate, IsEntered, IsLeft, each_any, leads_walk, shorten}
+use Rattle.in_base.proofs.Circuits.{AreSeparate, IsEntered, IsLeft, each_any, leads_walk, shorten}
 use Rattle.in_net.specs.Interactions.{Redex, open_member}
 use Rattle.in_net.specs.Pieces.{ports_of, AreDifferent, AtOtherAgent, AgentsOnce, ClosedWalk}
 use Rattle.in_net.proofs.Interactions.Names.{class_discrete}

@@ -2,7 +2,8 @@
 use Rattle.std.specs.Prelude.{◌≡◌, ◌≢◌, ◌⊎◌, ℕ, List, [], ◌∷◌}
 use mathlib.Core.Logic.{inl, inr}
 use Rattle.std.specs.List.{AllByRecursion}
-use Rattle.in_net.specs.Graphs.{Passage, AreApart, class_of_symbol}
+use Rattle.in_base.specs.Graphs.{Passage, AreApart}
+use Rattle.in_net.specs.Graphs.{class_of_symbol}
 use Rattle.in_net.specs.Nets.{Signature, Net}
 use Rattle.in_net.specs.Interactions.{Redex, Side, Outer, Inner, other}
 use Rattle.in_net.specs.Pieces.{AreDifferent}

@@ -1,7 +1,8 @@
 -- A vicious circle is a crossing one, since the principal port is a class by itself.
 use Rattle.std.proofs.Common.{◌≢◌, ℕ, zero, suc, List, [], ◌∷◌, refl, sym, ap, ◌∙◌}
 use Rattle.std.specs.List.{AllByRecursion}
-use Rattle.in_net.specs.Graphs.{Passage, entered, left, Leads, IsCrossing, IsFromPrincipal, CrossingCircle, ViciousCircle, class_of_symbol, graph_of}
+use Rattle.in_base.specs.Graphs.{Passage, entered, left, Leads, IsCrossing, IsFromPrincipal, CrossingCircle, ViciousCircle}
+use Rattle.in_net.specs.Graphs.{class_of_symbol, graph_of}
 use Rattle.in_net.specs.Nets.{Port, Signature, AreClasses, Net, IsPoint, IsNet}
 use Rattle.in_net.proofs.Interactions.Alternating.{symbol_of}
 

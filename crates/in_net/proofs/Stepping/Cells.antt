@@ -13,9 +13,9 @@ use Rattle.in_net.specs.Parts.{cell_in}
 use Rattle.in_net.specs.declared.nets.Cell.{Cell}
 use Rattle.in_net.specs.declared.nets.FreeEnd.{FreeEnd}
 use Rattle.in_net.specs.declared.nets.Point.{Point}
-use Rattle.in_net.proofs.Stepping.Lists.{more_at, last_at, set_here, set_there}
+use Rattle.in_base.proofs.Places.{more_at, last_at, set_here, set_there}
 use Rattle.in_net.proofs.Stepping.Partners.{cell_within}
-use Rattle.in_net.proofs.Stepping.Turns.{some_same}
+use Rattle.in_base.proofs.Places.{some_same}
 use Rattle.in_net.proofs.Stepping.Unused.{few_unused, unused_rises, unused_free, unused_apart}
 use Rattle.in_base.proofs.Each.{at_index}
 

@@ -24,10 +24,10 @@ use Rattle.in_net.proofs.Interactions.Alternating.{end_of_pair, not_pair, one_wi
 use Rattle.in_net.proofs.Interactions.StaysNet as stays_net
 use Rattle.in_net.proofs.Interactions.StepExists.{step_exists}
 use Rattle.in_net.proofs.Interactions.Through as through
-use Rattle.in_net.proofs.Stepping.Lists.{last_at, kept_at, more_at}
+use Rattle.in_base.proofs.Places.{last_at, kept_at, more_at}
 use Rattle.in_net.proofs.Stepping.Pairs.{below_or, no_both, symbol_known}
 use Rattle.in_net.proofs.Stepping.Sites as sites
-use Rattle.in_net.proofs.Stepping.Turns.{some_same}
+use Rattle.in_base.proofs.Places.{some_same}
 use Rattle.in_net.proofs.Stepping.Unused.{unused_free, unused_apart}
 
 pub agent_same : (x y : AgentNo) → x.0 ≡ y.0 → x ≡ y

@@ -12,8 +12,8 @@ use Rattle.in_net.specs.declared.nets.Cell.{Cell}
 use Rattle.in_net.specs.declared.nets.Point.{Point}
 use Rattle.in_net.specs.declared.nets.Point.TheVariants.{Port}
 use Rattle.in_net.specs.Parts.{Parts, IsWhole, IsPointOf, cell_in, symbol_in, partner_in}
-use Rattle.in_net.proofs.Stepping.Lists.{last_at, kept_at, more_at}
-use Rattle.in_net.proofs.Stepping.Turns.{some_same}
+use Rattle.in_base.proofs.Places.{last_at, kept_at, more_at}
+use Rattle.in_base.proofs.Places.{some_same}
 use Rattle.in_net.proofs.WireAt.{has_partner}
 
 -- ---- one pair

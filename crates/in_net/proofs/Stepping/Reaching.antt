@@ -26,7 +26,7 @@ use Rattle.in_net.proofs.Stepping.Landing as landing
 use Rattle.in_net.proofs.Stepping.Making as making
 use Rattle.in_net.proofs.Stepping.Partners.{net_wire, named}
 use Rattle.in_net.proofs.Stepping.Sites.{net, inside, redex, naming, first_is}
-use Rattle.in_net.proofs.Stepping.Turns.{some_same}
+use Rattle.in_base.proofs.Places.{some_same}
 use Rattle.in_net.proofs.Stepping.Unused.{unused_apart}
 use Rattle.in_net.proofs.WireAt.{has_partner}
 

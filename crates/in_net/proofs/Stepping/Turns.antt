@@ -1,15 +1,13 @@
 -- A turn of a path: what it goes on to.
-use Rattle.std.proofs.Common.{◌≡◌, ◌<◌, ◌≤◌, ◌+◌, ◌-◌, ℕ, suc, Option, Some, None, List, length, slice_get, get_or, subst, ap, ◌∙◌, arith}
+use Rattle.std.proofs.Common.{◌≡◌, ◌<◌, ◌≤◌, ◌+◌, ◌-◌, ℕ, suc, Some, None, List, length, slice_get, get_or, subst, ap, ◌∙◌, arith}
 use Rattle.std.proofs.lemmas.Option.{get_or_from_slice_get}
+use Rattle.in_base.proofs.Places.{some_same}
 use Rattle.in_net.specs.declared.nets.AgentNo.{AgentNo}
 use Rattle.in_net.specs.declared.nets.Point.{Point}
 use Rattle.in_net.specs.declared.nets.Point.TheVariants.{Port, Free}
 use Rattle.in_net.specs.Parts.{IsWhole, partner_in}
 use Rattle.in_net.proofs.WireAt.{has_partner}
 use Rattle.in_net.specs.Following.{SiteParts, end_of, port_of, most_turns, OnInner, OnEnd, Lands}
-
-pub some_same : {X : Type 0} (o : Option X) (x y : X) → o ≡ Some x → o ≡ Some y → x ≡ y
-some_same o x y h k = cc
 
 module _ (s : SiteParts) where
   abbrev To : ℕ → Point → Point → Type 0

@@ -7,7 +7,7 @@ use Rattle.in_net.specs.After.{AreEmptyNumbers, AreFirstUnused}
 use Rattle.in_net.specs.Interacting.{unused}
 use Rattle.in_net.specs.declared.nets.AgentNo.{AgentNo}
 use Rattle.in_net.specs.declared.nets.Cell.{Cell}
-use Rattle.in_net.proofs.Stepping.Lists.{last_at, kept_at}
+use Rattle.in_base.proofs.Places.{last_at, kept_at}
 
 -- ---- as they are found, cell by cell
 

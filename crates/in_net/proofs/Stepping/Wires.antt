@@ -16,7 +16,7 @@ use Rattle.in_net.specs.declared.nets.Point.TheVariants.{Port, Free}
 use Rattle.in_net.specs.declared.nets.Wire.{Wire}
 use Rattle.in_net.proofs.WireAt.{has_partner}
 use Rattle.in_net.proofs.Stepping.Partners.{cell_within}
-use Rattle.in_net.proofs.Stepping.Turns.{some_same}
+use Rattle.in_base.proofs.Places.{some_same}
 
 -- ---- one more wire
 

@@ -1,7 +1,7 @@
 use Rattle.in_syntax.proofs.Ordered.{tree_in_order}
 use Rattle.in_syntax.proofs.Sized.{tree_sized}
-use Rattle.in_simple.proofs.Classes.{tables_numbered}
-use Rattle.in_simple.proofs.Counted.{text_net_there}
+use Rattle.in_opening.proofs.Classes.{tables_numbered}
+use Rattle.in_opening.proofs.Counted.{text_net_there}
 use Rattle.in_diagnosis.proofs.reading.net_shape.Goals as goal
 
 pub build_net-requires-clause-sized : goal.build_net-requires-clause-sized

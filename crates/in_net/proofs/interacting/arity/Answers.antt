@@ -2,7 +2,7 @@ use Rattle.std.proofs.Common.{◌≡◌, Option, Some, None, List, length, slice
 use Rattle.in_net.specs.Parts.{IsWhole, cell_in}
 use Rattle.in_net.specs.declared.nets.Cell.{Cell}
 use Rattle.in_net.proofs.Stepping.Lists.{there_read}
-use Rattle.in_net.proofs.Stepping.Turns.{some_same}
+use Rattle.in_base.proofs.Places.{some_same}
 use Rattle.in_net.proofs.interacting.arity.Goals as goal
 
 pub overflow_cast-result : goal.overflow_cast-result

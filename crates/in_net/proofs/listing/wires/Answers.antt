@@ -9,7 +9,7 @@ use Rattle.in_net.specs.declared.nets.FreeEnd.{FreeEnd}
 use Rattle.in_net.specs.declared.nets.Point.TheVariants.{Port, Free}
 use Rattle.in_net.specs.declared.nets.Wire.{Wire}
 use Rattle.std.proofs.lemmas.Option.{slice_get_read}
-use Rattle.in_net.proofs.Stepping.Turns.{some_same}
+use Rattle.in_base.proofs.Places.{some_same}
 use Rattle.in_net.proofs.Stepping.Wires.{first_agent, next_agent, all_agents, is_many, counted_yes, counted_no, all_taken, none_at}
 use Rattle.in_net.proofs.listing.wires.Goals as goal
 use Rattle.in_net.proofs.listing.wires.Goals.{in-Some+in_ok-add_wires, in_default}

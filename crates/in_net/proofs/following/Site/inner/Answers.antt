@@ -10,7 +10,7 @@ use Rattle.in_net.specs.declared.nets.Point.{Point}
 use Rattle.in_net.specs.declared.nets.Point.TheVariants.{Port, Free}
 use Rattle.in_net.proofs.WireAt.{has_partner}
 use Rattle.in_net.proofs.Stepping.Partners.{name_at, inner_port, inner_free, partner_is}
-use Rattle.in_net.proofs.Stepping.Turns.{some_same}
+use Rattle.in_base.proofs.Places.{some_same}
 use Rattle.in_net.proofs.following.Site.inner.Goals as goal
 
 pub partner-requires : goal.partner-requires

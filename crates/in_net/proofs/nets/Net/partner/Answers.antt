@@ -8,7 +8,7 @@ use Rattle.in_net.specs.declared.nets.Point.{Point}
 use Rattle.in_net.specs.declared.nets.Point.TheVariants.{Port}
 use Rattle.in_net.proofs.Stepping.Lists.{there_read}
 use Rattle.in_net.proofs.Stepping.Partners.{cell_within}
-use Rattle.in_net.proofs.Stepping.Turns.{some_same}
+use Rattle.in_base.proofs.Places.{some_same}
 use Rattle.in_net.proofs.nets.Net.partner.Goals as goal
 
 -- the agent that a port is of
