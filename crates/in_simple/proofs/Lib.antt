@@ -27,6 +27,7 @@ pub mod Search
 pub mod Slots
 pub mod Sound
 pub mod SplittingPorts
+pub mod Spreading
 pub mod Stacking
 pub mod Stages
 pub mod StuckNodes

@@ -66,6 +66,10 @@ lists_more P Q ns k h below same = record {
   );
 }
 
+-- .. and of each set that has these members
+pub listed_same : (nodes tests : ℕ → Bool) (ns : List ℕ) → IsListed nodes ns → ((n : ℕ) → IsIn n nodes ↔ IsIn n tests) → IsListed tests ns
+listed_same nodes tests ns l same = record { rises = l.rises; all = λ n. ((λ h. (l.all n).0 ((same n).1 h)), λ a. (same n).0 ((l.all n).1 a)) }
+
 -- ---- the members of a set, one after another
 
 pub past_next : (ns : List ℕ) (i : ℕ) → past ns (i + 1) ≡ suc (get_or ns i 0)

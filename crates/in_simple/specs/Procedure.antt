@@ -78,6 +78,10 @@ Reaches l reached pending reached' pending' =
     (IsIn l (nodes_in reached) × (reached' ≡ reached) × (pending' ≡ pending))
     ⊎ ((nodes_in reached l ≡ false) × (reached' ≡ slice_set reached l true) × (pending' ≡ pending ++ l ∷ []))
 
+-- these are left: what is in the part and not reached
+abbrev pub AreLeft : List Bool → List Bool → List Bool → Type 0
+AreLeft within reached left = (n : ℕ) → IsIn n (nodes_in left) ↔ (IsIn n (nodes_in within) × (nodes_in reached n ≡ false))
+
 -- the neighbours of n at its ports below b are reached
 pub record Spreads (o : OpenNet) (within : List Bool) (n b : ℕ) (reached : List Bool) (pending : List ℕ) (reached' : List Bool) (pending' : List ℕ) : Type 0 where
   pub size : length reached' ≡ length reached

@@ -1,6 +1,6 @@
 ghost use Rattle.std.specs.Prelude.{◌≡◌, ◌<◌, length, IfOk, OnOk};
 ghost use Rattle.in_simple.specs.Constructions.{IsIn};
-ghost use Rattle.in_simple.specs.Procedure.{IsNeighbour, IsReached, Reaches, Spreads, nodes_in};
+ghost use Rattle.in_simple.specs.Procedure.{AreLeft, IsNeighbour, IsReached, Spreads, nodes_in};
 ghost use Rattle.in_simple.specs.Stuck.{ports_of};
 
 use crate::nodes::NodeSet;
@@ -28,32 +28,30 @@ pub(crate) fn neighbour(part: &Part, node: usize, port: usize) -> Option<u32>
     }
 }
 
-/// Reaches a node, if it isn't yet.
-fn reach(near: u32, reached: &mut NumberSet, pending: &mut Items<u32>) -> Result<(), AllocError>
-    requires { near < length reached.old }
-    ensures { OnOk result (Reaches near reached.old pending.old reached.new pending.new) }
-{
-    if !reached.has(near as usize) {
-        reached.insert(near as usize);
-        pending.push(near)?;
-    }
-    Ok(())
-}
-
-/// Reaches the neighbours of a node.
+/// Reaches the neighbours of a node that are left. To look into one set tells both that a neighbour is in the part and that it isn't
+/// reached: that is asked for each port of the part.
 fn spread(
     part: &Part,
     node: usize,
+    left: &mut NumberSet,
     reached: &mut NumberSet,
     pending: &mut Items<u32>,
 ) -> Result<(), AllocError>
     requires node { node < length part.now.wired.now.nodes }
     requires reached { length reached.old ≡ length part.now.wired.now.nodes }
-    ensures { OnOk result (Spreads part.now.wired.now part.now.nodes.now node (ports_of part.now.wired.now node) reached.old pending.old reached.new pending.new) }
+    requires left { AreLeft part.now.nodes.now reached.old left.old }
+    ensures spreads { OnOk result (Spreads part.now.wired.now part.now.nodes.now node (ports_of part.now.wired.now node) reached.old pending.old reached.new pending.new) }
+    ensures left { OnOk result (AreLeft part.now.nodes.now reached.new left.new) }
 {
     for port in 0..part.wired.ports(node) {
-        if let Some(near) = neighbour(part, node, port) {
-            reach(near, reached, pending)?;
+        match part.wired.partner(node, port) {
+            (_, Point::Port(near, _)) => {
+                if left.take(near as usize) {
+                    reached.insert(near as usize);
+                    pending.push(near)?;
+                }
+            }
+            (_, Point::Free(_)) => {}
         }
     }
     Ok(())
@@ -66,13 +64,16 @@ fn reached_from(alloc: Global, part: &Part, from: u32) -> Result<NumberSet, Allo
     ensures reached { IfOk result (IsReached part.now.wired.now part.now.nodes.now from) }
 {
     let mut reached = NumberSet::none(alloc, part.wired.nodes())?;
+    let mut left = part.nodes.tests(alloc)?;
     let mut pending = Items::new(alloc);
-    reach(from, &mut reached, &mut pending)?;
+    left.take(from as usize);
+    reached.insert(from as usize);
+    pending.push(from)?;
     while let Some(node) = pending.pop() {
         if reached.absent() <= part.nodes.absent() {
-            continue;
+            return Ok(reached);
         }
-        spread(part, node as usize, &mut reached, &mut pending)?;
+        spread(part, node as usize, &mut left, &mut reached, &mut pending)?;
     }
     Ok(reached)
 }

@@ -42,7 +42,7 @@ impl Labels {
     }
 
     /// Whether the node was reached by this class.
-    fn has(&self, node: usize, class: usize) -> bool
+    pub(crate) fn has(&self, node: usize, class: usize) -> bool
         ensures { IsTrue result → HasLabel self.now class node }
     {
         match self.mark(node) {

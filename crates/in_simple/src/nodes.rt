@@ -73,6 +73,13 @@ impl NodeSet {
         self.tests.absent()
     }
 
+    /// Its tests once more.
+    pub(crate) fn tests(&self, alloc: Global) -> Result<NumberSet, AllocError>
+        ensures { IfOk result (λ set. set ≡ self.now) }
+    {
+        self.tests.copy(alloc)
+    }
+
     /// The members in rising order.
     pub(crate) fn members(&self) -> &[u32]
         ensures { IsListed (nodes_in self.now) result.now }
@@ -82,9 +89,15 @@ impl NodeSet {
 
     /// The set of these tests, each member of which is one of this set.
     pub(crate) fn narrowed(&self, alloc: Global, tests: NumberSet) -> Result<NodeSet, AllocError>
-        requires { (n : ℕ) → IsIn n (nodes_in tests) → IsIn n (nodes_in self.now) }
+        requires size { length tests ≡ length self.now }
+        requires within { (n : ℕ) → IsIn n (nodes_in tests) → IsIn n (nodes_in self.now) }
         ensures { IfOk result (λ set. set ≡ tests) }
     {
+        // Mostly a node is taken out of a part, and the others are of one component: then nothing is to be gone over.
+        if tests.absent() <= self.absent() {
+            let members = Items::from_slice(alloc, self.members())?;
+            return Ok(NodeSet { tests, members });
+        }
         let mut members = Items::new(alloc);
         for node in self.members() {
             if tests.has(*node as usize) {

@@ -1,9 +1,8 @@
-ghost use Rattle.std.specs.Prelude.{◌≡◌, ◌<◌, [], length, IfOk, IsTrue};
-ghost use Rattle.in_simple.specs.Procedure.{SplitsIt};
+ghost use Rattle.std.specs.Prelude.{◌≡◌, ◌<◌, [], length, IfOk, IfSome, IsTrue};
 ghost use Rattle.in_simple.specs.Tries.{AreIn, AreNone, KeepsWhole};
 
 use crate::open_nets::Point;
-use crate::parts::{Candidate, Part};
+use crate::parts::Part;
 use crate::wired::Wired;
 use sqlite_items::Items;
 use std::alloc::{AllocError, Global};
@@ -68,7 +67,7 @@ fn comes_back(
 }
 
 /// Whether all of these nodes are in the part.
-fn are_in(part: &Part, nodes: &Items<u32>) -> bool
+pub(crate) fn are_in(part: &Part, nodes: &Items<u32>) -> bool
     ensures { IsTrue result → AreIn part.now.nodes.now nodes.now }
 {
     for node in nodes.as_slice() {
@@ -99,11 +98,13 @@ impl<'a> Rings<'a> {
         Ok(Rings { wired, found })
     }
 
-    /// How many other nodes the ring of a node has.
-    pub(crate) fn size(&self, node: usize) -> usize {
+    /// The other nodes of the ring of a node.
+    pub(crate) fn ring(&self, node: usize) -> Option<&Items<u32>>
+        ensures { IfSome result (λ nodes. KeepsWhole self.now node nodes.now) }
+    {
         match self.found.get(node) {
-            Some(Some(nodes)) => nodes.len(),
-            _ => 0,
+            Some(Some(nodes)) => Some(nodes),
+            _ => None,
         }
     }
 
@@ -123,16 +124,5 @@ impl<'a> Rings<'a> {
             self.found.set(node, Some(nodes));
         }
         Ok(())
-    }
-
-    /// Whether the ring of the candidate is in the part, so that the candidate does not split it.
-    pub(crate) fn keep_whole(&self, candidate: &Candidate) -> bool
-        requires { self.now ≡ candidate.now.part.wired.now }
-        ensures { IsTrue result → SplitsIt candidate.now.part.wired.now candidate.now.part.nodes.now candidate.now.node → ⊥ }
-    {
-        match self.found.get(candidate.node) {
-            Some(Some(nodes)) => are_in(&candidate.part, nodes),
-            _ => false,
-        }
     }
 }

@@ -114,6 +114,31 @@ impl NumberSet {
         }
     }
 
+    /// Takes the number out. Answers whether it was a member.
+    pub(crate) fn take(&mut self, number: usize) -> bool
+        ensures was { result ≡ nodes_in self.old number }
+        ensures out { self.new ≡ slice_set self.old number false }
+    {
+        if self.has(number) {
+            self.absent += 1;
+            self.tests.set(number, false);
+            true
+        } else {
+            false
+        }
+    }
+
+    /// The same set once more.
+    pub(crate) fn copy(&self, alloc: Global) -> Result<NumberSet, AllocError>
+        ensures { IfOk result (λ set. set ≡ self.now) }
+    {
+        let tests = Items::from_slice(alloc, self.tests.as_slice())?;
+        Ok(NumberSet {
+            tests,
+            absent: self.absent,
+        })
+    }
+
     /// Makes the members of another set of the same size members too.
     pub(crate) fn unite(&mut self, more: &NumberSet)
         requires { length more.now ≡ length self.old }

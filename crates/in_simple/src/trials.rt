@@ -7,7 +7,7 @@ use crate::labels::{Labels, Mark, show_splitting};
 use crate::nodes::NodeSet;
 use crate::open_nets::Point;
 use crate::parts::Candidate;
-use crate::rings::Rings;
+use crate::rings::{Rings, are_in};
 use crate::wired::Wired;
 use sqlite_items::Items;
 use std::alloc::{AllocError, Global};
@@ -126,6 +126,20 @@ impl Search {
         self.reached.push(reached)
     }
 
+    /// Whether the wire at a port of the node `at`, reached by a class, leads out of the part, or to a node that is reached by that class
+    /// already. It is asked first, since mostly it is so.
+    fn is_old(&self, candidate: &Candidate, at: usize, port: usize, class: usize) -> bool
+        requires at { at < length candidate.now.part.wired.now.nodes }
+        requires port { port < ports_of candidate.now.part.wired.now at }
+    {
+        match candidate.part.wired.partner(at, port) {
+            (_, Point::Port(near, _)) => {
+                !candidate.part.nodes.has(near as usize) || self.labels.has(near as usize, class)
+            }
+            (_, Point::Free(_)) => true,
+        }
+    }
+
     /// Comes by the wire at a port of the node `at`, reached by a class. Answers where it meets another class.
     fn visit(
         &mut self,
@@ -200,6 +214,9 @@ impl Search {
         requires { at < length candidate.now.part.wired.now.nodes }
     {
         for port in 0..candidate.part.wired.ports(at) {
+            if self.is_old(candidate, at, port, class) {
+                continue;
+            }
             if let Some(meeting) = self.visit(candidate, Some(place), at, port, class)? {
                 return Ok(Some(meeting));
             }
@@ -289,8 +306,10 @@ impl<'a> Trials<'a> {
         ensures ringed { IsTrue result → SplitsIt candidate.now.part.wired.now candidate.now.part.nodes.now candidate.now.node → ⊥ }
         ensures same { self.new.rings ≡ self.old.rings }
     {
-        let size = self.rings.size(candidate.node);
-        self.search.spend(size) && self.rings.keep_whole(candidate)
+        match self.rings.ring(candidate.node) {
+            Some(ring) => self.search.spend(ring.len()) && are_in(&candidate.part, ring),
+            None => false,
+        }
     }
 
     /// Whether the candidate splits the part, where a search from it tells.

@@ -1,4 +1,4 @@
-use Rattle.std.proofs.Common.{sym, subst}
+use Rattle.std.proofs.Common.{◌∙◌, sym, subst}
 use Rattle.in_simple.specs.Constructions.{IsIn}
 use Rattle.in_simple.specs.OpenNets.{open_graph}
 use Rattle.in_simple.specs.Procedure.{nodes_in, IsReached}
@@ -9,7 +9,10 @@ use Rattle.in_simple.proofs.components.component.Goals as goal
 pub narrowed-requires : goal.narrowed-requires
 narrowed-requires c =
     let nodes = c.args.part.now.nodes.now in
-    λ k h. link_last (open_graph c.args.part.now.wired.now) (λ m. IsIn m (nodes_in nodes)) c.args.from k ((c.in_ok-reached.ensures.reached k).0 h)
+    record {
+      size = c.in_ok-reached.ensures.size ∙ sym c.args.part.now.size;
+      within = λ k h. link_last (open_graph c.args.part.now.wired.now) (λ m. IsIn m (nodes_in nodes)) c.args.from k ((c.in_ok-reached.ensures.reached k).0 h);
+    }
 
 pub returns-clause-reached : goal.returns-clause-reached
 returns-clause-reached c =
