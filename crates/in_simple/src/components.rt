@@ -28,8 +28,8 @@ pub(crate) fn neighbour(part: &Part, node: usize, port: usize) -> Option<u32>
     }
 }
 
-/// Reaches the neighbours of a node that are left. To look into one set tells both that a neighbour is in the part and that it isn't
-/// reached: that is asked for each port of the part.
+/// Reaches the neighbours of a node that are left. What is left tells at one look that a neighbour is in the part and not reached yet,
+/// which is asked for each port of the part.
 fn spread(
     part: &Part,
     node: usize,
