@@ -36,3 +36,9 @@ set_there (y ∷ ys) zero zero x h = absurd (h refl)
 set_there (y ∷ ys) zero (suc j) x h = refl
 set_there (y ∷ ys) (suc k) zero x h = refl
 set_there (y ∷ ys) (suc k) (suc j) x h = set_there ys k j x (λ e. h (ap suc e))
+
+-- a list with an element has a last one
+pub unsnoc : {X : Type 0} (xs : List X) → 0 < length xs → (ys : List X) × (y : X) × (xs ≡ ys ++ y ∷ [])
+unsnoc [] some = absurd (omega (arith, some))
+unsnoc (x ∷ []) some = ([], x, refl)
+unsnoc (x ∷ y ∷ ys) some = let r = unsnoc (y ∷ ys) (omega arith) in (x ∷ r.0, r.1, ap (λ zs. x ∷ zs) r.2)

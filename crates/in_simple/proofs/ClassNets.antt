@@ -14,14 +14,13 @@ use Rattle.in_simple.specs.Stuck.{ports_of}
 use Rattle.in_simple.specs.Procedure.{nodes_in, IsPlan, Derives, with_task}
 use Rattle.in_simple.specs.Stacks.{Shape, shape, no_wires, HasShape, HaveShapes, IsLinkOf, Fits, Puts}
 use Rattle.in_simple.specs.Planned.{net_of, Meets, LeadsOff, IsBelow, IsClassShape, AreClassShapes, PutsClasses, HasClasses, IsBegun, Adds, AddsNothing, WhatPort, with_empty, Skips}
-use Rattle.in_base.proofs.Places.{some_same}
+use Rattle.in_base.proofs.Places.{some_same, unsnoc}
 use Rattle.in_simple.proofs.Sums.{not_both, same_test, port_yes, port_own, both_right}
 use Rattle.in_simple.proofs.Balance.{wire_within, wire_turn}
 use Rattle.in_simple.proofs.Sound.{wire_points, port_place}
 use Rattle.in_simple.proofs.Links.{same_nat, at_most}
 use Rattle.in_simple.proofs.Search.{at_ports, in_ports}
 use Rattle.in_simple.proofs.Forest.{length_app}
-use Rattle.std_collections.proofs.ListMemory.Steps.{unsnoc}
 use Rattle.in_simple.proofs.Make.{port_most, hanging, hanging_is, hanging_yes, fit_graft}
 use Rattle.in_simple.proofs.Joining.{shape_same, built_over, fits_link, fits_mix}
 use Rattle.in_simple.proofs.Stacking.{none_more}

@@ -7,9 +7,8 @@ use Rattle.in_simple.specs.Derivations.{Step, Part, named, own_nodes, is_among, 
 use Rattle.in_simple.specs.Checking.{AreSized, AreHeld, AllHold, Again, Holds, IsLast, IsMade, IsWhole, IsSized, IsTaken, Took, Makes, OnStep, OnAlone, OnPair, has_node, in_one, left_of, left_at, times_left}
 use Rattle.in_simple.proofs.Named.{AreLeft, left_start, left_more, left_app, take_next, take_whole}
 use Rattle.in_simple.proofs.Forest.{get_past, get_cases, times_in_app}
-use Rattle.std_collections.proofs.ListMemory.Steps.{unsnoc}
 use Rattle.in_simple.proofs.Links.{same_nat, at_most}
-use Rattle.in_base.proofs.Places.{kept_at}
+use Rattle.in_base.proofs.Places.{kept_at, unsnoc}
 use Rattle.in_base.proofs.Places.{some_same}
 use Rattle.in_simple.proofs.Sums.{one_same, one_other, earlier_of}
 use Rattle.in_simple.proofs.Whole.{times_among, is_node}

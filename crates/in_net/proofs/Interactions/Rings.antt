@@ -3,7 +3,8 @@ use Rattle.std.proofs.Common.{◌≡◌, ◌≢◌, List, [], ◌∷◌, ◌++�
 use Rattle.std.specs.List.{AllByRecursion}
 use Rattle.in_base.specs.Graphs.{Passage, AreApart}
 use Rattle.in_net.specs.Pieces.{AreDifferent, renamed}
-use Rattle.in_base.proofs.Each.{all_append, Pairwise}
+use Rattle.in_base.specs.Lists.{Pairwise}
+use Rattle.in_base.proofs.Each.{all_append}
 
 module _ {X : Type 0} (R : X → X → Type 0) (back : (x y : X) → R x y → R y x) where
   put_last : (x : X) (xs : List X) → AllByRecursion (R x) xs → Pairwise R xs → Pairwise R (xs ++ x ∷ [])
