@@ -3,6 +3,7 @@ use Rattle.std.proofs.Common.{◌≡◌, ℕ, zero, suc, ◌≤◌, Bool, true, 
 use Rattle.std.proofs.Math.Seq.{take-append_seam, drop-append_seam}
 use Rattle.std.proofs.lemmas.List.{map-append}
 use Rattle.std.specs.List.{flat_map}
+use Rattle.in_syntax.specs.declared.expecting.Expected.TheVariants as expected
 use Rattle.in_syntax.specs.declared.faults.Code.{Code}
 use Rattle.in_syntax.specs.declared.faults.Code.TheVariants.{E02, E03}
 use Rattle.in_syntax.specs.declared.faults.Fault.{Fault}
@@ -18,7 +19,7 @@ use Rattle.in_syntax.specs.declared.states.State.TheVariants as state
 use Rattle.in_syntax.specs.Grammar.{Marked, marked, Program, spelling, source_of, none_yet, spell_items, symbols_in, rules_in}
 use Rattle.in_syntax.specs.Programs.{signs_of, signs, unmarked, IsProgram, Begins, BeginsWithin, BeginsPast, IsFault, Outcome, tree, fault, IsOutcome, IsParsing}
 use Rattle.in_syntax.specs.GrammarLaws.{OneOutcome, OneTree}
-use Rattle.in_syntax.specs.Steps.{Step, goes, adds_types, adds_symbol, adds_rule, stuck, step, move_of, Answer, reads, refused, net_of, whole, counts_of, run, start, Gives}
+use Rattle.in_syntax.specs.Steps.{Step, goes, adds_types, adds_symbol, adds_rule, stuck, step, move_of, Answer, reads, refused, net_of, whole, counts_of, run, start, Gives, expected_in}
 use Rattle.in_syntax.proofs.Paths.{Turn, turns, halts, turn_of, turn, Path, join, split, same, IsFaultAt, IsTrace, along, trace}
 use Rattle.in_syntax.proofs.Sound.{HasRead, has_read, read_nothing, spelled}
 use Rattle.in_syntax.proofs.Complete.{done_with, program_path}
@@ -54,6 +55,14 @@ begun front last path =
 done_state : (p : State) (n : SourceNet) → net_of p ≡ Some n → p ≡ state.Done n
 done_state (state.Done k) n e = let is : k ≡ n = cc in ap (λ z. state.Done z) is
 done_state p n e = cc
+
+-- where the net is whole, nothing more is expected
+whole_state : (p : State) (r : Reader) (source : Source) (o : Option SourceNet) → net_of p ≡ o → whole r o ≡ reads source → expected_in p ≡ expected.Nothing
+whole_state p r source (Some n) e is = ap expected_in (done_state p n e)
+whole_state p r source None e is = cc
+
+pub whole_expects : (r : Reader) (source : Source) → run r [] ≡ reads source → expected_in r.state ≡ expected.Nothing
+whole_expects r source is = whole_state r.state r source (net_of r.state) refl is
 
 -- ---- the run along a path
 
@@ -117,12 +126,23 @@ halts_there x last mid done (y ∷ l) more is e path f =
     let t : turns y.past path.0 ≡ halts = sym path.1 ∙ ap (λ z. turn z y.sign) is ∙ ap (turn last) here ∙ e in
     cc
 
-no_beginning : (front : List Sign) (x : Sign) (last : Reader) → Path start (unmarked front) last → turn last x ≡ halts → Begins (front ++ x ∷ []) → ⊥
+pub no_beginning : (front : List Sign) (x : Sign) (last : Reader) → Path start (unmarked front) last → turn last x ≡ halts → Begins (front ++ x ∷ []) → ⊥
 no_beginning front x last path e (p, more, is) =
     let parts = split_signs (spelling p) front (x ∷ more) (is ∙ append_assoc front (x ∷ []) more) in
     let two = split parts.0 parts.1 start (done_with p) (subst (λ z. Path start z (done_with p)) parts.2 (program_path p)) in
     let k = same parts.0 (unmarked front) start two.0 last two.1 path (parts.3 ∙ sym (signs_unmarked front)) in
     halts_there x last two.0 (done_with p) parts.1 more k.1 e two.2 parts.4
+
+signs_begun : (front : List Sign) (x : Sign) (b : Bool) (more : List Marked) → signs ((unmarked front ++ marked b x ∷ []) ++ more) ≡ (front ++ x ∷ []) ++ signs more
+signs_begun front x b more =
+    map-append (λ m. m.sign) (unmarked front ++ marked b x ∷ []) more
+    ∙ ap (λ z. z ++ signs more) (map-append (λ m. m.sign) (unmarked front) (marked b x ∷ []) ∙ ap (λ z. z ++ x ∷ []) (signs_unmarked front))
+
+-- some program goes on with a sign that leads on
+pub begins_on : (front : List Sign) (x : Sign) (last next : Reader) (past : Bool) → Path start (unmarked front) last → turn last x ≡ turns past next → Begins (front ++ x ∷ [])
+begins_on front x last next past path e =
+    let p = begun (unmarked front ++ marked past x ∷ []) next (join (unmarked front) (marked past x ∷ []) start last next path (next, e, refl)) in
+    (p.0, signs p.1, ap signs p.2 ∙ signs_begun front x past p.1)
 
 begins_past : (front : List Sign) (x : Sign) (last next : Reader) → Path start (unmarked front) last → turn last x ≡ turns true next → BeginsPast front x
 begins_past front x last next path e =
@@ -176,15 +196,8 @@ end_refuses front mid path never (Some n) e =
     absurd (never (p.0, ap signs p.1 ∙ signs_unmarked front))
 end_refuses front mid path never None e = refl
 
-signs_begun : (front : List Sign) (x : Sign) (b : Bool) (more : List Marked) → signs ((unmarked front ++ marked b x ∷ []) ++ more) ≡ (front ++ x ∷ []) ++ signs more
-signs_begun front x b more =
-    map-append (λ m. m.sign) (unmarked front ++ marked b x ∷ []) more
-    ∙ ap (λ z. z ++ signs more) (map-append (λ m. m.sign) (unmarked front) (marked b x ∷ []) ∙ ap (λ z. z ++ x ∷ []) (signs_unmarked front))
-
 sign_refuses : (front rest : List Sign) (x : Sign) (mid : Reader) → Path start (unmarked front) mid → ¬ Begins (front ++ x ∷ []) → (t : Turn) → turn mid x ≡ t → after_turn x rest t ≡ refused E02 (x ∷ rest)
-sign_refuses front rest x mid path never (turns b next) e =
-    let p = begun (unmarked front ++ marked b x ∷ []) next (join (unmarked front) (marked b x ∷ []) start mid next path (next, e, refl)) in
-    absurd (never (p.0, signs p.1, ap signs p.2 ∙ signs_begun front x b p.1))
+sign_refuses front rest x mid path never (turns b next) e = absurd (never (begins_on front x mid next b path e))
 sign_refuses front rest x mid path never halts e = refl
 
 past_refuses : (front rest : List Sign) (x : Sign) → BeginsPast front x → run start (front ++ x ∷ rest) ≡ refused E03 (x ∷ rest)
@@ -239,12 +252,12 @@ count_signs : (text : List ℕ) (tokens : List Token) → length tokens ≡ leng
 count_signs text [] = refl
 count_signs text (t ∷ tokens) = ap (λ n. suc n) (count_signs text tokens)
 
+pub refused_outcome : (text : List ℕ) (i : ℕ) (tokens : List Token) (c : Code) → i ≤ length tokens → run start (signs_of text tokens) ≡ refused c (signs_of text (drop i tokens)) →
+    IsOutcome (signs_of text tokens) (fault c i)
+refused_outcome text i tokens c le is =
+    fault_outcome (signs_of text tokens) (signs_of text (drop i tokens)) c i (omega (arith, le, count_signs text tokens)) (drop_signs text i tokens) is
+
 pub parsing : (text : List ℕ) (tokens : List Token) (end : Place) (r : Result Source Fault) → Gives text tokens end r → IsParsing text tokens end r
 parsing text tokens end (Ok source) g = tree_outcome (signs_of text tokens) source g
-parsing text tokens end (Err (Refused r)) g = (
-  g.0,
-  fault_outcome (signs_of text tokens) (signs_of text (drop g.0 tokens)) r.code g.0 (omega (arith, g.1, count_signs text tokens)) (drop_signs text g.0 tokens) g.2,
-  g.3,
-  g.4,
-)
+parsing text tokens end (Err (Refused r)) g = (g.0, refused_outcome text g.0 tokens r.code g.1 g.2, g.3, g.4)
 parsing text tokens end (Err (Memory e)) g = tt

@@ -1,6 +1,7 @@
 -- What reading the tokens of a text and then their grammar gives.
 use Rattle.std.proofs.Common.{◌≡◌, ℕ, List, [], ◌∷◌, drop, Result, Ok, Err, inr, arith, subst, IfOk}
 use Rattle.std.specs.List.{AllByRecursion}
+use Rattle.in_syntax.specs.declared.expecting.Expected.{Expected}
 use Rattle.in_syntax.specs.declared.faults.Fault.{Fault}
 use Rattle.in_syntax.specs.declared.faults.Fault.TheVariants.{Refused, Memory}
 use Rattle.in_syntax.specs.declared.tree.Source.{Source}
@@ -8,6 +9,7 @@ use Rattle.in_syntax.specs.declared.words.Token.{Token}
 use Rattle.in_syntax.specs.declared.words.TokenKind.{TokenKind}
 use Rattle.in_syntax.specs.declared.words.TokenKind.TheVariants as kind
 use Rattle.in_syntax.specs.declared.places.Place.{Place}
+use Rattle.in_syntax.specs.Expecting.{IsNotedOf, IsNoted}
 use Rattle.in_syntax.specs.Places.{end_place}
 use Rattle.in_syntax.specs.Tokens.{IsTokensOf, StandsIn}
 use Rattle.in_syntax.specs.Programs.{IsTextAt, HasText, HasTexts, IsParsing, place_at}
@@ -36,3 +38,9 @@ parsed text ts end (Err (Memory e)) read last p = tt
 pub of_text_when : (text : List ℕ) (r : Result Source Fault) → Parses text r → IfOk r IsOfText
 of_text_when text (Ok source) p = record { text = text; tree = p }
 of_text_when text (Err e) p = tt
+
+-- what is noted of a text is what is noted of its tokens
+pub noted_when : (text : List ℕ) (ts : List Token) (before e : Expected) (r : Result Source Fault) → IsTokensOf text ts → IsNotedOf text ts r e → IsNoted text before e r
+noted_when text ts before e (Ok source) read n = n
+noted_when text ts before e (Err (Refused r)) read n = inr (ts, read, n)
+noted_when text ts before e (Err (Memory m)) read n = tt

@@ -1,11 +1,15 @@
 -- Laws of the definitions, for every text.
-use Rattle.std.specs.Prelude.{◌≡◌, ℕ, ◌⊎◌, List, Result}
+use Rattle.std.specs.Prelude.{◌≡◌, ℕ, ◌⊎◌, List, Result, Err}
 use Rattle.std.specs.List.{AllByRecursion}
 use Rattle.in_syntax.specs.declared.words.Token.{Token}
+use Rattle.in_syntax.specs.declared.expecting.Expected.{Expected}
+use Rattle.in_syntax.specs.declared.faults.Fault.TheVariants.{Refused}
 use Rattle.in_syntax.specs.declared.faults.Refusal.{Refusal}
+use Rattle.in_syntax.specs.declared.signs.Sign.{Sign}
 use Rattle.in_syntax.specs.declared.tree.Source.{Source}
 use Rattle.in_syntax.specs.Tokens.{IsTokensOf, IsTokenFault, StandsIn, StandInOrder}
 use Rattle.in_syntax.specs.Answers.{IsOne}
+use Rattle.in_syntax.specs.Expecting.{IsExpected, IsNoted}
 use Rattle.in_syntax.specs.Order.{BeginApart, source_places}
 use Rattle.in_syntax.specs.Parsing.{IsAnswer, IsTreeOf, Parses}
 
@@ -44,3 +48,12 @@ TextsAreParsedOnce = (text : List ℕ) → IsOne (Parses text)
 -- the names and the ~ of a text's program that begin at one byte have one place
 abbrev pub TextsBeginApart : Type 0
 TextsBeginApart = (text : List ℕ) (s : Source) → IsTreeOf text s → BeginApart (source_places s)
+
+-- what is expected after signs is one
+abbrev pub OneExpected : Type 0
+OneExpected = (text : List ℕ) (front : List Sign) (d e : Expected) → IsExpected text front d → IsExpected text front e → d ≡ e
+
+-- what is noted of a text that is refused is one
+abbrev pub TextsAreNotedOnce : Type 0
+TextsAreNotedOnce =
+    (text : List ℕ) (before d e : Expected) (q r : Refusal) → IsNoted text before d (Err (Refused q)) → IsNoted text before e (Err (Refused r)) → d ≡ e

@@ -1,5 +1,5 @@
 -- How a program is read from the left, one sign at a time: what the code does. No public contract speaks of it.
-use Rattle.std.specs.Prelude.{◌≡◌, ℕ, ◌+◌, ◌≤◌, Bool, true, false, nat_lt, List, [], ◌∷◌, ◌++◌, length, drop, Option, Some, None, Result, Ok, Err}
+use Rattle.std.specs.Prelude.{◌≡◌, ℕ, ◌+◌, ◌≤◌, Bool, true, false, nat_lt, List, [], ◌∷◌, ◌++◌, length, take, drop, Option, Some, None, Result, Ok, Err}
 use Rattle.in_syntax.specs.Refusals.{refusal_of}
 use Rattle.in_syntax.specs.declared.places.Place.{Place}
 use Rattle.in_syntax.specs.declared.faults.Code.{Code}
@@ -29,6 +29,10 @@ use Rattle.in_syntax.specs.declared.states.HeadOf.TheVariants.{First, Second}
 use Rattle.in_syntax.specs.declared.states.TermOf.{TermOf}
 use Rattle.in_syntax.specs.declared.states.TermOf.TheVariants.{Left, Right, Inside}
 use Rattle.in_syntax.specs.declared.states.Nest.{Nest}
+use Rattle.in_syntax.specs.declared.expecting.Expected.{Expected}
+use Rattle.in_syntax.specs.declared.expecting.Expected.TheVariants as expected
+use Rattle.in_syntax.specs.declared.expecting.Part.{Part}
+use Rattle.in_syntax.specs.declared.expecting.Part.TheVariants as part
 use Rattle.in_syntax.specs.declared.machine.Move.{Move}
 use Rattle.in_syntax.specs.declared.machine.Move.TheVariants as move
 use Rattle.in_syntax.specs.declared.reader.Reader.{Reader}
@@ -276,9 +280,26 @@ run r (x ∷ s) = elim (move_of (step (counts_of r) r.state x)) as (λ m. Answer
 abbrev pub fault_at : Code → Place → Fault
 fault_at c place = Refused (refusal_of c place)
 
+-- the reader after a move, if it is none that refuses
+abbrev pub moved : Reader → Move → Option Reader
+moved r (move.Goes p) = Some (at_state r p)
+moved r (move.Types names) = Some (with_types r names)
+moved r (move.Symbol y) = Some (with_symbol r y)
+moved r (move.Rule y) = Some (with_rule r y)
+moved r (move.Refuses c) = None
+
+-- the reader after a sign
+abbrev pub taken : Reader → Sign → Option Reader
+taken r x = moved r (move_of (step (counts_of r) r.state x))
+
+-- the signs lead from one reader to another
+abbrev pub Leads : Reader → List Sign → Reader → Type 0
+Leads r [] last = r ≡ last
+Leads r (x ∷ s) last = (next : Reader) × (taken r x ≡ Some next) × Leads next s last
+
 -- what one sign, that of a token at a place, makes of a reader
 abbrev pub Takes : Reader → Sign → Place → Result Reader Fault → Type 0
-Takes r x place (Ok next) = (s : List Sign) → run r (x ∷ s) ≡ run next s
+Takes r x place (Ok next) = taken r x ≡ Some next
 Takes r x place (Err (Refused f)) = ((s : List Sign) → run r (x ∷ s) ≡ refused f.code (x ∷ s)) × (f.place ≡ place) × (f.other ≡ None)
 Takes r x place (Err (Memory e)) = Unit {0}
 
@@ -295,3 +316,59 @@ Gives text tokens end (Err (Refused r)) =
     (i : ℕ) × (i ≤ length tokens) × (run start (signs_of text tokens) ≡ refused r.code (signs_of text (drop i tokens)))
     × (r.place ≡ place_at (drop i tokens) end) × (r.other ≡ None)
 Gives text tokens end (Err (Memory e)) = Unit {0}
+
+-- ---- what is expected in a state
+
+-- what a term is a part of
+abbrev pub outermost_part : TermOf → Part
+outermost_part (Left n) = part.Left
+outermost_part (Right n l p) = part.Right
+outermost_part (Inside o h) = part.Head
+
+abbrev pub part_within : TermOf → List Term → Part
+part_within of [] = outermost_part of
+part_within of (outer ∷ around) = part.Agent
+
+abbrev pub part_of : Nest → Part
+part_of b = part_within b.of b.around
+
+abbrev pub head_end : HeadOf → Expected
+head_end First = expected.Meets
+head_end (Second h) = expected.RuleEnd
+
+abbrev pub expected_in : State → Expected
+expected_in state.Item = expected.Item
+expected_in (state.TypeName names) = expected.TypeName
+expected_in (state.TypeEnd names) = expected.TypeEnd
+expected_in state.SymbolName = expected.SymbolName
+expected_in (state.SymbolColon n) = expected.Colon
+expected_in (state.PortKind o) = expected.PortType
+expected_in (state.PortSign o k) = expected.PortSign
+expected_in (state.SymbolEnd s number) = expected.SymbolEnd
+expected_in (state.ClassEnd s c number) = expected.ClassEnd
+expected_in (state.HeadName o) = expected.HeadName
+expected_in (state.HeadOpen o n) = expected.HeadOpen
+expected_in (state.HeadFirst o n) = expected.HeadFirst
+expected_in (state.HeadEnd o h) = head_end o
+expected_in state.NetOpen = expected.NetOpen
+expected_in state.FreeFirst = expected.FreeFirst
+expected_in (state.FreeName fs) = expected.FreeName
+expected_in (state.FreeColon fs n) = expected.Colon
+expected_in (state.FreeEnd fs) = expected.FreeEnd
+expected_in (state.BodyOpen fs) = expected.BodyOpen
+expected_in (state.Equation n) = expected.Equation
+expected_in (state.TermName b) = expected.Term
+expected_in (state.TermOpen b n) = expected.AfterName (part_of b)
+expected_in (state.TermEnd b t) = expected.AfterTerm (part_of b)
+expected_in (state.Done n) = expected.Nothing
+
+-- what is noted where the tokens before this one are read
+abbrev pub IsNotedBefore : List ℕ → List Token → ℕ → Expected → Type 0
+IsNotedBefore text tokens i e = (last : Reader) × Leads start (signs_of text (take i tokens)) last × (e ≡ expected_in last.state)
+
+-- what is noted of a run that gives this
+abbrev pub Notes : List ℕ → List Token → Result Source Fault → Expected → Type 0
+Notes text tokens (Ok source) e = e ≡ expected.Nothing
+Notes text tokens (Err (Refused r)) e =
+    (i : ℕ) × (i ≤ length tokens) × (run start (signs_of text tokens) ≡ refused r.code (signs_of text (drop i tokens))) × IsNotedBefore text tokens i e
+Notes text tokens (Err (Memory m)) e = Unit {0}

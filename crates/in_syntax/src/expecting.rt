@@ -1,4 +1,7 @@
 //! What a program can go on with where the grammar refuses it: for people who look for what is wrong.
+ghost use Rattle.std.specs.Prelude.{◌≡◌};
+ghost use Rattle.in_syntax.specs.Steps as steps;
+
 use crate::states::{HeadOf, Nest, State, TermOf};
 
 /// What a term is a part of.
@@ -68,7 +71,9 @@ pub enum Expected {
 }
 
 /// What a term of this nest is a part of.
-fn part_of(nest: &Nest) -> Part {
+fn part_of(nest: &Nest) -> Part
+    ensures { result ≡ steps.part_of nest.now }
+{
     if nest.around.len() > 0 {
         return Part::Agent;
     }
@@ -80,7 +85,9 @@ fn part_of(nest: &Nest) -> Part {
 }
 
 /// What a program can go on with in this state.
-pub fn expected_in(state: &State) -> Expected {
+pub fn expected_in(state: &State) -> Expected
+    ensures { result ≡ steps.expected_in state.now }
+{
     match state {
         State::Item => Expected::Item,
         State::TypeName(_) => Expected::TypeName,

@@ -1,6 +1,6 @@
 //! Laws of the definitions that contracts cite, each the contract of a function that does nothing.
 ghost use Rattle.in_syntax.specs.GrammarLaws.{OneOutcome, OneTree, PrefixesBegin};
-ghost use Rattle.in_syntax.specs.Laws.{TokensAreUnique, TokenFaultsAreUnique, TextsHaveTokensOrFault, NoTextHasBoth, TokensStandInTheirText, TokensStandInOrder, OneAnswer, TextsAreParsedOnce, TextsBeginApart};
+ghost use Rattle.in_syntax.specs.Laws.{TokensAreUnique, TokenFaultsAreUnique, TextsHaveTokensOrFault, NoTextHasBoth, TokensStandInTheirText, TokensStandInOrder, OneAnswer, TextsAreParsedOnce, TextsBeginApart, OneExpected, TextsAreNotedOnce};
 
 /// A text has at most one list of tokens.
 pub fn tokens_are_unique()
@@ -60,4 +60,14 @@ pub fn texts_are_parsed_once()
 /// What stands at one byte of a text is one name or one `~`.
 pub fn texts_begin_apart()
     ensures { TextsBeginApart }
+{}
+
+/// After the tokens of a front, one thing is expected.
+pub fn one_expected()
+    ensures { OneExpected }
+{}
+
+/// What is noted of a text that is refused is one.
+pub fn texts_are_noted_once()
+    ensures { TextsAreNotedOnce }
 {}

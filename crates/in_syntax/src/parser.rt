@@ -1,5 +1,6 @@
+ghost use Rattle.in_syntax.specs.Expecting.{IsNotedOf};
 ghost use Rattle.in_syntax.specs.Programs.{HasTexts, IsParsing};
-ghost use Rattle.in_syntax.specs.Steps.{Gives};
+ghost use Rattle.in_syntax.specs.Steps.{Gives, Notes};
 
 use crate::expecting::{Expected, expected_in};
 use crate::faults::Fault;
@@ -30,7 +31,8 @@ pub fn program(
     expected: &mut Expected,
 ) -> Result<Source, Fault>
     requires { HasTexts text.now tokens.now }
-    ensures { IsParsing text.now tokens.now end result }
+    ensures parsing { IsParsing text.now tokens.now end result }
+    ensures expected { IsNotedOf text.now tokens.now result expected.new }
 {
     program_by_steps(alloc, text, tokens, end, expected)
 }
@@ -43,7 +45,8 @@ fn program_by_steps(
     expected: &mut Expected,
 ) -> Result<Source, Fault>
     requires { HasTexts text.now tokens.now }
-    ensures { Gives text.now tokens.now end result }
+    ensures gives { Gives text.now tokens.now end result }
+    ensures expected { Notes text.now tokens.now result expected.new }
 {
     let mut reader = Reader::new(alloc);
     *expected = expected_in(&reader.state);

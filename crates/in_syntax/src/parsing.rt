@@ -1,4 +1,5 @@
 ghost use Rattle.std.specs.Prelude.{IfOk};
+ghost use Rattle.in_syntax.specs.Expecting.{IsNoted};
 ghost use Rattle.in_syntax.specs.Order.{IsWrittenInOrder};
 ghost use Rattle.in_syntax.specs.Parsing.{IsOfText, Parses};
 ghost use Rattle.in_syntax.specs.Sizes.{IsSized};
@@ -33,14 +34,15 @@ pub fn parse(alloc: Global, text: &[u8]) -> Result<Source, Fault>
 }
 
 /// The tree of a program's text, or the fault for which `parse` refuses it. Where the grammar refuses it, at a token or at its end,
-/// `expected` has what a program can go on with there.
-///
-/// What is expected is for messages, and so no clause says which it is.
+/// `expected` has what a program can go on with there: just the tokens that some program goes on with, and of which sort a name is. It has
+/// `Nothing` where the text is a program, and is as it was where `tokens` refuses the text; after want of memory it may be anything. The
+/// sorts are this project's own choice.
 pub fn parse_expecting(alloc: Global, text: &[u8], expected: &mut Expected) -> Result<Source, Fault>
     ensures tree { Parses text.now result }
     ensures of_text { IfOk result IsOfText }
     ensures sized { IfOk result IsSized }
     ensures order { IfOk result IsWrittenInOrder }
+    ensures expected { IsNoted text.now expected.old expected.new result }
 {
     let (tokens, end) = tokens_to_end(alloc, text)?;
     program(alloc, text, tokens.as_slice(), end, expected)

@@ -1,0 +1,141 @@
+-- What a program can go on with at some place: which tokens, and of which sort a name is there. The sorts, as the signs of the grammar, are this
+-- project's own choice.
+use Rattle.std.specs.Prelude.{◌≡◌, ◌↔◌, ◌⊎◌, ℕ, Bool, true, false, List, [], ◌∷◌, ◌++◌, take, IsTrue, Result, Ok, Err}
+use Rattle.in_syntax.specs.declared.expecting.Expected.{Expected}
+use Rattle.in_syntax.specs.declared.expecting.Expected.TheVariants as expected
+use Rattle.in_syntax.specs.declared.expecting.Part.{Part}
+use Rattle.in_syntax.specs.declared.expecting.Part.TheVariants as part
+use Rattle.in_syntax.specs.declared.faults.Fault.{Fault}
+use Rattle.in_syntax.specs.declared.faults.Fault.TheVariants.{Refused, Memory}
+use Rattle.in_syntax.specs.declared.signs.Sign.{Sign}
+use Rattle.in_syntax.specs.declared.signs.Sign.TheVariants.{Plain}
+use Rattle.in_syntax.specs.declared.tree.Source.{Source}
+use Rattle.in_syntax.specs.declared.words.Token.{Token}
+use Rattle.in_syntax.specs.declared.words.TokenKind.{TokenKind}
+use Rattle.in_syntax.specs.declared.words.TokenKind.TheVariants as kind
+use Rattle.in_syntax.specs.Programs.{Begins, IsOutcome, fault, sign_of, signs_of}
+use Rattle.in_syntax.specs.Tokens.{IsTokensOf, IsTokenFault}
+
+-- ---- tokens
+
+-- what may follow a whole term
+abbrev pub follows_term : Part → TokenKind → Bool
+follows_term part.Left kind.Tilde = true
+follows_term part.Right kind.Semicolon = true
+follows_term part.Head kind.Comma = true
+follows_term part.Head kind.CloseBracket = true
+follows_term part.Agent kind.Comma = true
+follows_term part.Agent kind.CloseParenthesis = true
+follows_term p k = false
+
+-- what may follow a name alone: arguments, or what follows a whole term
+abbrev pub follows_name : Part → TokenKind → Bool
+follows_name p kind.OpenParenthesis = true
+follows_name p k = follows_term p k
+
+-- which tokens are expected
+abbrev pub takes : Expected → TokenKind → Bool
+takes expected.Item kind.Type = true
+takes expected.Item kind.Symbol = true
+takes expected.Item kind.Rule = true
+takes expected.Item kind.Net = true
+takes expected.TypeName kind.Name = true
+takes expected.TypeEnd kind.Comma = true
+takes expected.TypeEnd kind.Semicolon = true
+takes expected.SymbolName kind.Name = true
+takes expected.Colon kind.Colon = true
+takes expected.PortType kind.Name = true
+takes expected.PortSign kind.Plus = true
+takes expected.PortSign kind.Minus = true
+takes expected.SymbolEnd kind.OpenBrace = true
+takes expected.SymbolEnd kind.Semicolon = true
+takes expected.ClassEnd kind.Comma = true
+takes expected.ClassEnd kind.CloseBrace = true
+takes expected.HeadName kind.Name = true
+takes expected.HeadOpen kind.OpenBracket = true
+takes expected.HeadFirst kind.Name = true
+takes expected.HeadFirst kind.CloseBracket = true
+takes expected.Meets kind.Meets = true
+takes expected.RuleEnd kind.Semicolon = true
+takes expected.NetOpen kind.OpenParenthesis = true
+takes expected.FreeFirst kind.Name = true
+takes expected.FreeFirst kind.CloseParenthesis = true
+takes expected.FreeName kind.Name = true
+takes expected.FreeEnd kind.Comma = true
+takes expected.FreeEnd kind.CloseParenthesis = true
+takes expected.BodyOpen kind.OpenBrace = true
+takes expected.Equation kind.Name = true
+takes expected.Equation kind.CloseBrace = true
+takes expected.Term kind.Name = true
+takes (expected.AfterName p) k = follows_name p k
+takes (expected.AfterTerm p) k = follows_term p k
+takes e k = false
+
+-- ---- sorts of names
+
+-- where in a program signs end, by the sort of a name that may come: between items, where none does; in a list of types; after the word
+-- `symbol`; in a symbol's ports; before and in a head; before a free end and in its port; and in the equations of the net
+pub data Section : Type 0 where
+  between types symbol ports head terms free free_port body : Section
+
+-- where they end with one sign more
+abbrev pub further : Section → Sign → Section
+further between (Plain kind.Type) = types
+further between (Plain kind.Symbol) = symbol
+further between (Plain kind.Rule) = head
+further between (Plain kind.Net) = free
+further types (Plain kind.Semicolon) = between
+further symbol x = ports
+further ports (Plain kind.Semicolon) = between
+further head x = terms
+further terms (Plain kind.Meets) = head
+further terms (Plain kind.Semicolon) = between
+further free (Plain kind.Colon) = free_port
+further free (Plain kind.OpenBrace) = body
+further free_port (Plain kind.Comma) = free
+further free_port (Plain kind.CloseParenthesis) = free
+further s x = s
+
+-- where they end from a section on
+abbrev pub section_from : Section → List Sign → Section
+section_from s [] = s
+section_from s (x ∷ front) = section_from (further s x) front
+
+abbrev pub section : List Sign → Section
+section = section_from between
+
+-- where each can be expected, if not everywhere: what tells names apart, and what a `;` or a `)` ends
+abbrev pub IsAt : Expected → Section → Type 0
+IsAt expected.TypeName s = s ≡ types
+IsAt expected.SymbolName s = s ≡ symbol
+IsAt expected.PortType s = (s ≡ ports) ⊎ (s ≡ free_port)
+IsAt expected.HeadName s = s ≡ head
+IsAt expected.FreeName s = s ≡ free
+IsAt expected.Term s = (s ≡ terms) ⊎ (s ≡ body)
+IsAt expected.RuleEnd s = s ≡ terms
+IsAt expected.FreeEnd s = s ≡ free_port
+IsAt (expected.AfterTerm part.Right) s = s ≡ body
+IsAt (expected.AfterTerm part.Agent) s = (s ≡ terms) ⊎ (s ≡ body)
+IsAt _ s = Unit {0}
+
+-- ---- what is expected
+
+-- after these signs: just the tokens that are expected go on with some program, wherever they stand, and names are of the sort of this section
+pub record IsExpected (text : List ℕ) (front : List Sign) (e : Expected) : Type 0 where
+  pub tokens : (t : Token) → IsTrue (takes e t.kind) ↔ Begins (front ++ sign_of text t ∷ [])
+  pub sort : IsAt e (section front)
+
+-- what is noted of tokens: nothing more where they are a program, and at a fault what is expected after the signs before it
+abbrev pub IsNotedOf : List ℕ → List Token → Result Source Fault → Expected → Type 0
+IsNotedOf text tokens (Ok source) e = e ≡ expected.Nothing
+IsNotedOf text tokens (Err (Refused r)) e =
+    (at : ℕ) × IsOutcome (signs_of text tokens) (fault r.code at) × IsExpected text (take at (signs_of text tokens)) e
+IsNotedOf text tokens (Err (Memory m)) e = Unit {0}
+
+-- what is noted of a text, and was before: it is the same where tokens are at fault, and that of its tokens where it has some; nothing is
+-- said where memory was wanted
+abbrev pub IsNoted : List ℕ → Expected → Expected → Result Source Fault → Type 0
+IsNoted text before e (Ok source) = e ≡ expected.Nothing
+IsNoted text before e (Err (Refused r)) =
+    (IsTokenFault text r × (e ≡ before)) ⊎ ((tokens : List Token) × IsTokensOf text tokens × IsNotedOf text tokens (Err (Refused r)) e)
+IsNoted text before e (Err (Memory m)) = Unit {0}
