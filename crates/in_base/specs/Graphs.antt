@@ -3,6 +3,7 @@
 -- crossing circle, which classes exclude, is this project's own choice.
 use Rattle.std.specs.Prelude.{◌≡◌, ◌≢◌, ℕ, List, [], ◌∷◌}
 use Rattle.std.specs.List.{AllByRecursion}
+use Rattle.in_base.specs.Lists.{Pairwise}
 
 -- nodes whose ports are numbered places, a class for each place, and wires between ports
 pub record Graph : Type 1 where
@@ -35,8 +36,7 @@ IsCrossing g p = g.class p.node p.enter ≢ g.class p.node p.leave
 
 -- no two passages are at one node
 abbrev pub AreApart : {V : Type 0} → List (Passage V) → Type 0
-AreApart [] = Unit {0}
-AreApart (p ∷ ps) = AllByRecursion (λ q. p.node ≢ q.node) ps × AreApart ps
+AreApart = Pairwise (λ p q. p.node ≢ q.node)
 
 -- one or more different nodes in a ring, each entered and left by ports of different classes
 pub record CrossingCircle (g : Graph) : Type 0 where

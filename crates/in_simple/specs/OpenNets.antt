@@ -19,6 +19,7 @@ pub record OpenNet : Type 0 where
   pub wires : List (Point × Point)
   pub free : ℕ
 
+-- the open net of these parts
 abbrev pub open_of : List OpenNode → List (Point × Point) → ℕ → OpenNet
 open_of nodes wires free = record { nodes = nodes; wires = wires; free = free }
 
