@@ -15,6 +15,7 @@ pub mod HubEdges
 pub mod Joining
 pub mod Links
 pub mod Make
+pub mod Marks
 pub mod Members
 pub mod Named
 pub mod Nets

@@ -7,7 +7,7 @@ use Rattle.in_simple.specs.declared.open_nets.Point.TheVariants.{Port}
 use Rattle.in_simple.specs.Constructions.{IsIn}
 use Rattle.in_simple.specs.Splitting.{Linked, alone, onward}
 use Rattle.in_simple.specs.OpenNets.{OpenNet, IsWire, IsOpenNet, open_graph}
-use Rattle.in_simple.specs.Procedure.{nodes_in, AreLeft, IsNeighbour, missing, Reaches, Spreads, IsSearch, IsReached}
+use Rattle.in_simple.specs.Procedure.{nodes_in, IsNeighbour, missing, Reaches, Spreads, IsSearch, IsReached}
 use Rattle.in_simple.specs.Stuck.{Among, ports_of}
 use Rattle.in_simple.proofs.Sums.{not_both}
 use Rattle.in_simple.proofs.Absent.{has_all}
@@ -49,36 +49,6 @@ set_kept bits l k b h = elim (same_nat k l) [
   | inl e ↦ subst (λ z. IsIn z (nodes_in (set bits l true))) (sym e) (get_or-set_same bits l true false b)
   | inr d ↦ get_or-set_other bits l k true false d ∙ h
 ]
-
--- ---- what is left of the part
-
-cleared : (bits : List Bool) (l : ℕ) → nodes_in (set bits l false) l ≡ false
-cleared [] l = refl
-cleared (b ∷ bs) zero = refl
-cleared (b ∷ bs) (suc l) = cleared bs l
-
-module _ (within : List Bool) where
-  pub left_first : (r : List Bool) → ((k : ℕ) → nodes_in r k ≡ false) → AreLeft within r within
-  left_first r off = λ n. ((λ h. (h, off n)), λ p. p.0)
-
-  pub left_less : (r left : List Bool) (l : ℕ) → AreLeft within r left → l < length r → AreLeft within (set r l true) (set left l false)
-  left_less r left l a small = λ n. elim (same_nat n l) [
-    | inl e ↦ (
-      (λ h. absurd (not_both (nodes_in (set left l false) l) (subst (λ z. IsIn z (nodes_in (set left l false))) e h) (cleared left l))),
-      λ p. absurd (not_both (nodes_in (set r l true) l) (get_or-set_same r l true false small) (subst (λ z. nodes_in (set r l true) z ≡ false) e p.1)),
-    )
-    | inr d ↦ (
-      (λ h. let u = (a n).0 (sym (get_or-set_other left l n false false d) ∙ h) in (u.0, get_or-set_other r l n true false d ∙ u.1)),
-      λ p. get_or-set_other left l n false false d ∙ (a n).1 (p.0, sym (get_or-set_other r l n true false d) ∙ p.1),
-    )
-  ]
-
-  -- a node of the part that isn't left is reached
-  pub left_none : (r left : List Bool) (l : ℕ) → AreLeft within r left → nodes_in left l ≡ false → nodes_in within l ≡ true → IsIn l (nodes_in r)
-  left_none r left l a out here = elim (cases_Bool (nodes_in r l)) [
-    | inl e ↦ e
-    | inr e ↦ absurd (not_both (nodes_in left l) ((a l).1 (here, e)) out)
-  ]
 
 module _ (o : OpenNet) (net : IsOpenNet o) (within : List Bool) where
   pub spread_start : (n : ℕ) (r : List Bool) (q : List ℕ) → Spreads o within n 0 r q r q

@@ -1,7 +1,7 @@
 use Rattle.std.proofs.Common.{◌≡◌, ◌+◌, length, sym, subst, arith}
 use Rattle.in_simple.proofs.Members.{past, unite_next, unite_small, unite_end}
 use Rattle.in_simple.proofs.VerifySets.{IsUnitedTo}
-use Rattle.in_simple.proofs.nodes.NodeSet.add_to.Goals as goal
+use Rattle.in_simple.proofs.nodes.NodeList.add_to.Goals as goal
 
 pub insert-requires : goal.insert-requires
 insert-requires c = unite_small c.args.self.now c.args.set.now c.requires c.members-node-items.result.now c.members-node-items.ensures c.loop-node.node-index c.loop-node.set c.loop-node-test.true c.loop-node.invariant
