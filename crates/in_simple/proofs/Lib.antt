@@ -12,6 +12,7 @@ pub mod FirstMembers
 pub mod Forest
 pub mod Grow
 pub mod HubEdges
+pub mod HubMembers
 pub mod Joining
 pub mod Links
 pub mod Make

@@ -219,8 +219,8 @@ module _ (tests : List Bool) (ns : List ℕ) (l : IsListed (nodes_in tests) ns) 
 
   pub tests_same : tests_of (length tests) ns ≡ tests
   tests_same = lists_equal (tests_of (length tests) ns) tests (tests_many (length tests) ns) (λ n.
-    let a = tests_in (length tests) ns small n in
-    ((λ h. (l.all n).1 (a.0 h)), λ h. a.1 ((l.all n).0 h)))
+      let a = tests_in (length tests) ns small n in
+      ((λ h. (l.all n).1 (a.0 h)), λ h. a.1 ((l.all n).0 h)))
 
   pub tests_are : (count : ℕ) → count ≡ length tests → (tests_of count ns ≡ tests) × IsListed (nodes_in (tests_of count ns)) ns
   tests_are count e =
