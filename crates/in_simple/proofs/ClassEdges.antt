@@ -1,10 +1,10 @@
 -- A part's class graph, node by node and wire by wire.
-use Rattle.std.proofs.Common.{◌≡◌, ◌⊎◌, ◌↔◌, ◌<◌, ◌≤◌, ◌+◌, ◌-◌, ◌^◌, ℕ, Bool, true, false, List, [], ◌∷◌, ◌++◌, Some, length, length-append, refl, sym, subst, ap, inl, inr, ◌∙◌, arith}
+use Rattle.std.proofs.Common.{◌≡◌, ◌⊎◌, ◌↔◌, ◌<◌, ◌≤◌, ◌+◌, ◌-◌, ◌^◌, ℕ, Bool, false, List, [], ◌∷◌, ◌++◌, Some, length, length-append, refl, sym, subst, ap, inl, inr, ◌∙◌, arith}
 use Rattle.std.specs.Prelude.{slice_get, slice_index_or}
 use Rattle.std.proofs.Math.ListN.{set}
 use Rattle.std.proofs.lemmas.Bool.{cases_eq, cases_lt, cases_order, false≢true, false_from_ne_true}
 use Rattle.std.proofs.lemmas.List.{length-set}
-use Rattle.std.proofs.lemmas.Option.{slice_get_within, slice_get-get_or, same_Some}
+use Rattle.std.proofs.lemmas.Option.{slice_get_within, slice_get-get_or}
 use Rattle.in_bridges.specs.Spans.{AreWithin}
 use Rattle.in_bridges.specs.Rings.{AreRings}
 use Rattle.in_bridges.proofs.Forests.{pair_same}
@@ -264,6 +264,7 @@ module _ (o : OpenNet) (net : IsOpenNet o) (part : List Bool) (all : length part
           let s = class_room d.1 (class_in o d.1 d.2) d.4 (port_class o net d.1 d.2 (net.points d.0 (Port d.1 d.2) (Port t.0 t.1) (turned o d.0 (Port t.0 t.1) (Port d.1 d.2) d.3))) in
           (omega arith, omega arith)
     ]
+
 -- ---- the marks of the rings
 
 module _ (o : OpenNet) (part : List Bool) (g : ClassGraph) (graph : IsClassGraph (open_graph o) (HasClass o) (nodes_in part) (vertex_in g.hubs) (hub_edge_in g.hubs) g.edges) (rings : List Bool) (r : AreRings g.edges (length g.edges) rings) (n : ℕ) (here : IsIn n (nodes_in part)) where

@@ -3,7 +3,7 @@ use Rattle.std.proofs.Common.{◌≡◌, ◌<◌, ◌≤◌, ◌+◌, ◌∙◌,
 use Rattle.std.proofs.lemmas.Bool.{cases_eq}
 use Rattle.in_simple.specs.declared.class_graphs.HubNumbers.{HubNumbers}
 use Rattle.in_simple.specs.declared.open_nets.Point.TheVariants.{Port}
-use Rattle.in_simple.specs.ClassEdges.{AreEdges, AreHubEdges, HaveNumbers, IsPast}
+use Rattle.in_simple.specs.ClassEdges.{AreEdges, AreHubEdges, HaveNumbers}
 use Rattle.in_simple.specs.Constructions.{IsIn}
 use Rattle.in_simple.specs.OpenNets.{OpenNet, IsOpenNet, IsWire}
 use Rattle.in_simple.specs.Procedure.{nodes_in}

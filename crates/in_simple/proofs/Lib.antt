@@ -27,6 +27,7 @@ pub mod Planning
 pub mod Reaching
 pub mod Search
 pub mod Slots
+pub mod SortedMembers
 pub mod Sound
 pub mod SplittingPorts
 pub mod Spreading

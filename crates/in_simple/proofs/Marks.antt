@@ -1,5 +1,5 @@
 -- Sets that are kept by marks.
-use Rattle.std.proofs.Common.{◌≡◌, ◌≢◌, ◌<◌, ◌≤◌, ◌+◌, ◌^◌, ◌∙◌, ℕ, zero, suc, Bool, true, false, cond, nat_eq, List, [], ◌∷◌, Some, None, length, map, slice_get, get_or, refl, sym, subst, ap, inl, inr, arith}
+use Rattle.std.proofs.Common.{◌≡◌, ◌≢◌, ◌<◌, ◌≤◌, ◌+◌, ◌^◌, ◌∙◌, ℕ, zero, suc, Bool, true, false, nat_eq, List, [], ◌∷◌, Some, None, length, slice_get, get_or, refl, sym, ap, inl, inr, arith}
 use Rattle.std.proofs.Math.ListN.{set}
 use Rattle.std.proofs.lemmas.Bool.Decides.{eqb_tells}
 use Rattle.std.proofs.lemmas.List.{length-map, length-set, map-set}
@@ -7,7 +7,7 @@ use Rattle.in_simple.specs.Members.{AreMarks, marked, missing, nodes_in}
 use Rattle.in_simple.proofs.Absent.{missing_cleared}
 use Rattle.in_simple.proofs.Links.{same_nat}
 use Rattle.in_simple.proofs.Reaching.{missing_set}
-use Rattle.in_simple.proofs.VerifySets.{at_other, at_set, past_end}
+use Rattle.in_simple.proofs.VerifySets.{at_other, at_set}
 
 pub equal : (n : ℕ) → nat_eq n n ≡ true
 equal n = elim (eqb_tells n n) [ inl h ↦ h.0 | inr h ↦ absurd (h.1 refl) ]

@@ -1,5 +1,5 @@
 -- What the procedure that looks for a derivation keeps true. Sets of nodes are lists of tests, node by node.
-use Rattle.std.specs.Prelude.{◌≡◌, ◌⊎◌, ◌↔◌, ℕ, suc, ◌+◌, ◌*◌, ◌<◌, ◌≤◌, Bool, true, false, cond, ◌||◌, List, [], ◌∷◌, ◌++◌, length, slice_set, slice_index_or, Option, Some, None, MatchOption}
+use Rattle.std.specs.Prelude.{◌≡◌, ◌⊎◌, ◌↔◌, ℕ, suc, ◌+◌, ◌*◌, ◌<◌, ◌≤◌, Bool, true, false, ◌||◌, List, [], ◌∷◌, ◌++◌, length, drop, slice_set, slice_index_or, Option, Some, None, MatchOption}
 use Rattle.in_simple.specs.declared.open_nets.Point.{Point}
 use Rattle.in_simple.specs.declared.open_nets.Point.TheVariants.{Port, Free}
 use Rattle.in_simple.specs.declared.plans.Plan.{Plan}
@@ -81,6 +81,16 @@ pub record Spreads (o : OpenNet) (within : List Bool) (n b : ℕ) (reached : Lis
   pub fresh_pending : (k : ℕ) → Among k pending' → Among k pending ⊎ (IsIn k (nodes_in reached') × (k < length reached'))
   pub all : (i w l j : ℕ) → i < b → IsWire o w (Port n i) (Port l j) → IsIn l (nodes_in within) → IsIn l (nodes_in reached')
   pub fewer : 2 * missing reached' + length pending' ≤ 2 * missing reached + length pending
+
+-- .. wherever among those that are found the search is
+pub record SpreadsOver (o : OpenNet) (within : List Bool) (n b : ℕ) (reached : List Bool) (found : List ℕ) (reached' : List Bool) (found' : List ℕ) : Type 0 where
+  pub size : length reached' ≡ length reached
+  pub longer : length found ≤ length found'
+  pub each : (place : ℕ) → place ≤ length found → Spreads o within n b reached (drop place found) reached' (drop place found')
+
+-- these are the nodes that are reached
+abbrev pub AreFound : List Bool → List ℕ → Type 0
+AreFound reached found = (n : ℕ) → IsIn n (nodes_in reached) ↔ Among n found
 
 -- what a search from a node has reached, and of what it has not looked at the neighbours yet
 pub record IsSearch (o : OpenNet) (within : List Bool) (from : ℕ) (reached : List Bool) (queue : List ℕ) : Type 0 where

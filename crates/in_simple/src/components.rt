@@ -1,14 +1,13 @@
 ghost use Rattle.std.specs.Prelude.{◌≡◌, ◌<◌, length, IfOk, OnOk, false, ℕ};
 ghost use Rattle.in_simple.specs.Checking.{IsUnion};
 ghost use Rattle.in_simple.specs.Constructions.{IsIn};
-ghost use Rattle.in_simple.specs.Procedure.{IsNeighbour, IsReached, Spreads, missing, nodes_in};
+ghost use Rattle.in_simple.specs.Procedure.{AreFound, IsNeighbour, IsReached, SpreadsOver, missing, nodes_in};
 ghost use Rattle.in_simple.specs.Stuck.{ports_of};
 
 use crate::nodes::NodeList;
 use crate::open_nets::Point;
 use crate::parts::Part;
 use crate::scratch::Scratch;
-use sqlite_items::Items;
 use std::alloc::{AllocError, Global};
 use std::marker::Model;
 
@@ -30,24 +29,24 @@ pub(crate) fn neighbour(part: &Part, node: usize, port: usize) -> Option<u32>
     }
 }
 
-/// Reaches the neighbours of a node in the part.
+/// Reaches the neighbours of a node in the part, and lists them.
 fn spread(
     part: &Part,
     node: usize,
     reached: &mut Scratch,
-    pending: &mut Items<u32>,
+    found: &mut Vec<u32>,
 ) -> Result<(), AllocError>
     requires node { node < length part.now.wired.now.nodes }
     requires reached { length reached.old ≡ length part.now.wired.now.nodes }
     ensures size { length reached.new ≡ length reached.old }
-    ensures spreads { OnOk result (Spreads part.now.wired.now part.now.nodes.now node (ports_of part.now.wired.now node) reached.old pending.old reached.new pending.new) }
+    ensures spreads { OnOk result (SpreadsOver part.now.wired.now part.now.nodes.now node (ports_of part.now.wired.now node) reached.old found.old.items reached.new found.new.items) }
 {
     for port in 0..part.wired.ports(node) {
         match part.wired.partner(node, port) {
             (_, Point::Port(near, _)) => {
                 if !reached.has(near as usize) && part.nodes.has(near as usize) {
                     reached.insert(near as usize);
-                    pending.push(near)?;
+                    found.push(near)?;
                 }
             }
             (_, Point::Free(_)) => {}
@@ -56,30 +55,34 @@ fn spread(
     Ok(())
 }
 
-/// Reaches the nodes of the component of a node of the part. Once they are all of the part, nothing is left to be looked for.
+/// Reaches the nodes of the component of a node of the part, and lists them. Once they are all of the part, nothing is left to be looked for.
 fn reach_from(
     alloc: Global,
     part: &Part,
     reached: &mut Scratch,
     from: u32,
-) -> Result<(), AllocError>
+) -> Result<Vec<u32>, AllocError>
     requires size { length reached.old ≡ length part.now.wired.now.nodes }
     requires here { IsIn from (nodes_in part.now.nodes.now) }
     ensures size { length reached.new ≡ length reached.old }
     ensures reached { OnOk result (IsReached part.now.wired.now part.now.nodes.now from reached.new) }
+    ensures found { IfOk result (λ found. AreFound reached.new found.items) }
 {
     let _count = part.wired.nodes();
     reached.clear()?;
-    let mut pending = Items::new(alloc);
+    let mut found = Vec::new(alloc);
     reached.insert(from as usize);
-    pending.push(from)?;
-    while let Some(node) = pending.pop() {
+    found.push(from)?;
+    let mut place = 0;
+    while place < found.len() {
         if reached.absent() <= part.nodes.absent() {
-            return Ok(());
+            return Ok(found);
         }
-        spread(part, node as usize, reached, &mut pending)?;
+        let node = found[place];
+        spread(part, node as usize, reached, &mut found)?;
+        place += 1;
     }
-    Ok(())
+    Ok(found)
 }
 
 /// The component of a node of the part, with a set that is lent for the search.
@@ -95,8 +98,8 @@ fn component(
     ensures size { IfOk result (λ c. length c ≡ length part.now.wired.now.nodes) }
     ensures reached { IfOk result (IsReached part.now.wired.now part.now.nodes.now from) }
 {
-    reach_from(alloc, part, lent, from)?;
-    part.nodes.narrowed(alloc, lent)
+    let found = reach_from(alloc, part, lent, from)?;
+    part.nodes.narrowed(alloc, lent, found)
 }
 
 /// The nodes that are derived, and a set to search for one more component.

@@ -3,7 +3,7 @@ ghost use Rattle.std.specs.Prelude.{◌≡◌, ◌<◌, length, IfOk, false, tru
 ghost use Rattle.in_simple.specs.Checking.{IsUnion};
 ghost use Rattle.in_simple.specs.Constructions.{IsIn};
 ghost use Rattle.in_simple.specs.Members.{missing, nodes_in};
-ghost use Rattle.in_simple.specs.Procedure.{IsRest};
+ghost use Rattle.in_simple.specs.Procedure.{AreFound, IsRest};
 ghost use Rattle.in_simple.specs.Stuck.{IsListed};
 
 use crate::scratch::Scratch;
@@ -73,6 +73,20 @@ impl NodeList {
             members,
             count: self.count,
         })
+    }
+
+    /// The nodes of a set, which were found in some order.
+    fn sorted(tests: &Scratch, found: Vec<u32>) -> NodeList
+        requires { AreFound tests.now found.items }
+        ensures { result ≡ tests.now }
+    {
+        let mut members = found;
+        members.sort_unstable();
+        members.dedup();
+        NodeList {
+            members: Items::from_vec(members),
+            count: tests.len(),
+        }
     }
 
     /// The nodes of a set, each of them one of these.
@@ -175,15 +189,23 @@ impl NodeSet {
         self.list.members()
     }
 
-    /// The nodes of a set, each of them one of these.
-    pub(crate) fn narrowed(&self, alloc: Global, tests: &Scratch) -> Result<NodeList, AllocError>
+    /// The nodes of a set, each of them one of these, which were found in some order.
+    pub(crate) fn narrowed(
+        &self,
+        alloc: Global,
+        tests: &Scratch,
+        found: Vec<u32>,
+    ) -> Result<NodeList, AllocError>
         requires size { length tests.now ≡ length self.now }
         requires within { (n : ℕ) → IsIn n (nodes_in tests.now) → IsIn n (nodes_in self.now) }
+        requires found { AreFound tests.now found.items }
         ensures { IfOk result (λ set. set ≡ tests.now) }
     {
-        // Mostly what a node is taken out of is of one component: then nothing is to be gone over.
+        // Mostly what a node is taken out of is of one component. All of these are gone over only for a good part of them.
         if tests.absent() <= self.absent() {
             self.list.copy(alloc)
+        } else if found.len() < self.count() / 16 {
+            Ok(NodeList::sorted(tests, found))
         } else {
             self.list.narrowed(alloc, tests)
         }

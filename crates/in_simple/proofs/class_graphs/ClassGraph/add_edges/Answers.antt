@@ -1,4 +1,4 @@
-use Rattle.std.proofs.Common.{◌≡◌, ◌+◌, ◌∙◌, ℕ, Bool, List, length, sym, subst, arith}
+use Rattle.std.proofs.Common.{◌≡◌, ◌+◌, ℕ, Bool, List, length, sym, subst, arith}
 use Rattle.in_simple.specs.declared.class_graphs.ClassGraph.{ClassGraph}
 use Rattle.in_simple.specs.ClassEdges.{AreEdges, HaveNumbers}
 use Rattle.in_simple.specs.OpenNets.{OpenNet}

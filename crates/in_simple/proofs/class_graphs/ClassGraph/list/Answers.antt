@@ -1,4 +1,4 @@
-use Rattle.std.proofs.Common.{◌≡◌, length, arith}
+use Rattle.std.proofs.Common.{arith}
 use Rattle.in_simple.specs.Procedure.{nodes_in}
 use Rattle.in_simple.proofs.ClassEdges.{class_graph, graph_within, wires_start}
 use Rattle.in_simple.proofs.FirstMembers.{next_small}

@@ -32,4 +32,4 @@ returns-in_default-Free c =
     let n = c.args.node in
     let i = c.args.port in
     λ w m j x here first. neighbour_free o c.partner.ensures.net c.args.part.now.nodes.now c.partner.result.0 n i c.in_default-Free.field-0-1
-        (subst (λ z. IsWire o c.partner.result.0 (Port n i) z) c.in_default-Free.is-1 c.partner.ensures.wire) w m j x here
+    (subst (λ z. IsWire o c.partner.result.0 (Port n i) z) c.in_default-Free.is-1 c.partner.ensures.wire) w m j x here

@@ -1,4 +1,4 @@
-use Rattle.std.proofs.Common.{◌≡◌, ◌≤◌, ◌-◌, ◌++◌, ◌∙◌, ℕ, zero, suc, get_or, length, replicate, refl, sym, subst, ap, arith}
+use Rattle.std.proofs.Common.{◌≤◌, ◌-◌, ◌++◌, ◌∙◌, ℕ, zero, suc, get_or, length, replicate, sym, subst, ap, arith}
 use Rattle.std.proofs.Math.ListN.{take}
 use Rattle.std.proofs.lemmas.List.{length-replicate}
 use Rattle.std.specs.Vec.{vec_len}

@@ -1,7 +1,7 @@
-use Rattle.std.proofs.Common.{◌≡◌, ◌≤◌, ◌+◌, ◌∙◌, length, true, false, sym, subst, ap, arith}
+use Rattle.std.proofs.Common.{◌≡◌, ◌+◌, ◌∙◌, true, false, sym, subst, ap, arith}
 use Rattle.std.proofs.Math.ListN.{set}
 use Rattle.std.proofs.lemmas.List.{length-set}
-use Rattle.in_simple.specs.Members.{AreMarks, marked, missing, nodes_in}
+use Rattle.in_simple.specs.Members.{AreMarks, marked, nodes_in}
 use Rattle.in_simple.proofs.Absent.{missing_within}
 use Rattle.in_simple.proofs.Marks.{has_mark, marked_many, marked_out, more, put_out}
 use Rattle.in_simple.proofs.Reaching.{in_length}
