@@ -5,19 +5,11 @@ use Rattle.std.proofs.lemmas.List.{set-get_or}
 use Rattle.in_simple.specs.Constructions.{IsIn}
 use Rattle.in_simple.specs.Procedure.{nodes_in, missing}
 
--- a list is made as long as asked for, of one test
-module _ (b : Bool) where
+-- a list is made as long as asked for, of one item
+module _ {X : Type 0} (b : X) where
   pub resized : (n k : ℕ) → k ≡ n → take n [] ++ replicate k b ≡ replicate n b
   resized zero k e = ap (λ z. replicate z b) e
   resized (suc n) k e = ap (λ z. replicate z b) e
-
-pub missing_none : (n : ℕ) → missing (replicate n false) ≡ n
-missing_none zero = refl
-missing_none (suc n) = let r = missing_none n in omega arith
-
-pub missing_all : (n : ℕ) → missing (replicate n true) ≡ 0
-missing_all zero = refl
-missing_all (suc n) = let r = missing_all n in omega arith
 
 pub missing_within : (xs : List Bool) → missing xs ≤ length xs
 missing_within [] = omega arith

@@ -12,9 +12,11 @@ pub mod FirstMembers
 pub mod Forest
 pub mod Grow
 pub mod HubEdges
+pub mod HubMembers
 pub mod Joining
 pub mod Links
 pub mod Make
+pub mod Marks
 pub mod Members
 pub mod Named
 pub mod Nets
@@ -25,6 +27,7 @@ pub mod Planning
 pub mod Reaching
 pub mod Search
 pub mod Slots
+pub mod SortedMembers
 pub mod Sound
 pub mod SplittingPorts
 pub mod Spreading

@@ -1,15 +1,15 @@
 -- Members in rising order, one after another.
-use Rattle.std.proofs.Common.{◌≡◌, ◌⊎◌, ◌↔◌, ◌<◌, ◌≤◌, ◌+◌, ◌∙◌, ℕ, zero, suc, List, [], ◌∷◌, ◌++◌, length, get_or, add-one, Bool, true, false, ◌||◌, refl, sym, subst, ap, inl, inr, arith}
+use Rattle.std.proofs.Common.{◌≡◌, ◌⊎◌, ◌↔◌, ◌<◌, ◌≤◌, ◌+◌, ◌∙◌, ℕ, zero, suc, List, [], ◌∷◌, ◌++◌, length, replicate, get_or, add-one, Bool, true, false, ◌||◌, refl, sym, subst, ap, inl, inr, arith}
 use Rattle.std.proofs.Math.ListN.{set}
 use Rattle.std.proofs.lemmas.Bool.{or_left, false_from_ne_true}
-use Rattle.std.proofs.lemmas.List.{length-set}
+use Rattle.std.proofs.lemmas.List.{length-replicate, length-set}
 use Rattle.in_simple.specs.Checking.{IsUnion}
 use Rattle.in_simple.specs.Constructions.{IsIn}
-use Rattle.in_simple.specs.Procedure.{nodes_in}
+use Rattle.in_simple.specs.Members.{nodes_in, tests_of}
 use Rattle.in_simple.specs.Stuck.{Among, IsListed, Rises}
 use Rattle.in_simple.proofs.Links.{same_nat, at_most}
 use Rattle.in_simple.proofs.Reaching.{in_length, among_left, among_last, among_cases}
-use Rattle.in_simple.proofs.Sums.{not_both}
+use Rattle.in_simple.proofs.Sums.{not_both, same_test}
 use Rattle.in_simple.proofs.VerifySets.{IsUnitedTo, at_set, at_other}
 use Rattle.in_simple.proofs.Working.{rises_more}
 
@@ -176,3 +176,64 @@ module _ (more old : List Bool) (size : length more ≡ length old) (ns : List �
         h.above n (λ v. omega arith) ∙ sym (ap (λ z. z || nodes_in old n) out)
     | inr g ↦ h.below n g
   ]
+
+-- ---- the tests of a list
+
+pub lists_equal : (xs ys : List Bool) → length xs ≡ length ys → ((n : ℕ) → IsIn n (nodes_in xs) ↔ IsIn n (nodes_in ys)) → xs ≡ ys
+lists_equal [] [] e same = refl
+lists_equal [] (y ∷ ys) e same = absurd (let a : 0 ≡ suc (length ys) = e in omega arith)
+lists_equal (x ∷ xs) [] e same = absurd (let a : suc (length xs) ≡ 0 = e in omega arith)
+lists_equal (x ∷ xs) (y ∷ ys) e same =
+    ap (λ z. z ∷ xs) (same_test x y (same 0).0 (same 0).1) ∙ ap (λ z. y ∷ z) (lists_equal xs ys (let a : suc (length xs) ≡ suc (length ys) = e in omega arith) (λ n. same (suc n)))
+
+pub tests_many : (count : ℕ) (ns : List ℕ) → length (tests_of count ns) ≡ count
+tests_many count [] = length-replicate count false
+tests_many count (n ∷ ns) = length-set (tests_of count ns) n true ∙ tests_many count ns
+
+off : (count m : ℕ) → nodes_in (replicate count false) m ≡ false
+off zero m = refl
+off (suc count) zero = refl
+off (suc count) (suc m) = off count m
+
+pub tests_in : (count : ℕ) (ns : List ℕ) → ((n : ℕ) → Among n ns → n < count) → (m : ℕ) → IsIn m (nodes_in (tests_of count ns)) ↔ Among m ns
+tests_in count [] small m = ((λ h. absurd (not_both (nodes_in (replicate count false) m) h (off count m))), λ h. absurd h)
+tests_in count (n ∷ ns) small m =
+    let lt : n < length (tests_of count ns) = let a = tests_many count ns in let b = small n (inl refl) in omega arith in
+    let r = tests_in count ns (λ k h. small k (inr h)) m in
+    elim (same_nat m n) [
+      | inl e ↦ ((λ h. inl e), λ h. at_set (tests_of count ns) n true false m lt e)
+      | inr d ↦ (
+        (λ h. inr (r.0 (sym (at_other (tests_of count ns) n true false m d) ∙ h))),
+        λ h. elim h [ inl e ↦ absurd (d e) | inr g ↦ at_other (tests_of count ns) n true false m d ∙ r.1 g ],
+      )
+    ]
+
+-- members in rising order, all below the count, are listed
+pub tests_listed : (count : ℕ) (ns : List ℕ) → Rises 0 ns → ((n : ℕ) → Among n ns → n < count) → IsListed (nodes_in (tests_of count ns)) ns
+tests_listed count ns r small = record { rises = r; all = tests_in count ns small }
+
+-- what lists a set has its tests
+module _ (tests : List Bool) (ns : List ℕ) (l : IsListed (nodes_in tests) ns) where
+  small : (n : ℕ) → Among n ns → n < length tests
+  small n h = in_length tests n ((l.all n).1 h)
+
+  pub tests_same : tests_of (length tests) ns ≡ tests
+  tests_same = lists_equal (tests_of (length tests) ns) tests (tests_many (length tests) ns) (λ n.
+      let a = tests_in (length tests) ns small n in
+      ((λ h. (l.all n).1 (a.0 h)), λ h. a.1 ((l.all n).0 h)))
+
+  pub tests_are : (count : ℕ) → count ≡ length tests → (tests_of count ns ≡ tests) × IsListed (nodes_in (tests_of count ns)) ns
+  tests_are count e =
+      let same : tests_of count ns ≡ tests = ap (λ z. tests_of z ns) e ∙ tests_same in
+      (same, subst (λ z. IsListed (nodes_in z) ns) (sym same) l)
+
+-- a set with no member, and then these members alone
+pub filled : (more none set : List Bool) → length set ≡ length more → ((n : ℕ) → nodes_in none n ≡ false) → IsUnion more none set → set ≡ more
+filled more none set e out u = lists_equal set more e (λ n. (
+  (λ h. or_none (nodes_in more n) (nodes_in none n) (out n) (sym (u n) ∙ h)),
+  λ h. u n ∙ or_left (nodes_in more n) (nodes_in none n) h,
+))
+  where
+    or_none : (b c : Bool) → c ≡ false → (b || c) ≡ true → b ≡ true
+    or_none true c e h = refl
+    or_none false c e h = absurd (not_both c h e)

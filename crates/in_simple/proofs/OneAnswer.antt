@@ -1,7 +1,6 @@
 -- What deriving an open net answers is one.
 use Rattle.std.proofs.Common.{◌≡◌, ◌⊎◌, inl, inr, ℕ, suc, ◌≤◌, Bool, List, [], ◌∷◌, Ok, Err, refl, sym, ◌∙◌, ap, subst, arith}
 use Rattle.std.proofs.lemmas.Option.{same_Some}
-use Rattle.in_syntax.specs.declared.places.Place.{Place}
 use Rattle.in_simple.specs.declared.derivations.Derivation.{Derivation}
 use Rattle.in_simple.specs.declared.derivations.Stuck.{Stuck as StuckNet}
 use Rattle.in_simple.specs.declared.derivations.Undone.TheVariants.{Stuck, Memory}

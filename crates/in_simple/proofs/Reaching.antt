@@ -1,13 +1,12 @@
 -- A search from a node reaches its component.
-use Rattle.std.proofs.Common.{◌≡◌, ◌⊎◌, ◌<◌, ◌≤◌, ◌+◌, ℕ, zero, suc, Bool, true, false, Some, None, List, [], ◌∷◌, ◌++◌, length, length-append, refl, sym, subst, inl, inr, ◌∙◌, arith}
+use Rattle.std.proofs.Common.{◌≡◌, ◌⊎◌, ◌<◌, ◌≤◌, ◌+◌, ℕ, zero, suc, Bool, true, false, Some, None, List, [], ◌∷◌, ◌++◌, length, drop, length-append, refl, sym, subst, inl, inr, ◌∙◌, arith}
 use Rattle.std.proofs.Math.ListN.{set}
-use Rattle.std.proofs.lemmas.Bool.{cases_Bool}
 use Rattle.std.proofs.lemmas.List.{length-set, get_or-set_same, get_or-set_other}
 use Rattle.in_simple.specs.declared.open_nets.Point.TheVariants.{Port}
 use Rattle.in_simple.specs.Constructions.{IsIn}
 use Rattle.in_simple.specs.Splitting.{Linked, alone, onward}
 use Rattle.in_simple.specs.OpenNets.{OpenNet, IsWire, IsOpenNet, open_graph}
-use Rattle.in_simple.specs.Procedure.{nodes_in, AreLeft, IsNeighbour, missing, Reaches, Spreads, IsSearch, IsReached}
+use Rattle.in_simple.specs.Procedure.{nodes_in, AreFound, IsNeighbour, missing, Reaches, Spreads, IsSearch, IsReached}
 use Rattle.in_simple.specs.Stuck.{Among, ports_of}
 use Rattle.in_simple.proofs.Sums.{not_both}
 use Rattle.in_simple.proofs.Absent.{has_all}
@@ -35,6 +34,18 @@ among_cases [] k x (inr h) = absurd h
 among_cases (y ∷ ys) k x (inl e) = inl (inl e)
 among_cases (y ∷ ys) k x (inr h) = elim (among_cases ys k x h) [ inl g ↦ inl (inr g) | inr g ↦ inr g ]
 
+-- what is listed from a place on
+pub drop_last : (k : ℕ) (xs : List ℕ) (y : ℕ) → k ≤ length xs → drop k (xs ++ y ∷ []) ≡ drop k xs ++ y ∷ []
+drop_last zero xs y l = refl
+drop_last (suc k) [] y l = absurd (omega arith)
+drop_last (suc k) (x ∷ xs) y l = drop_last k xs y (omega arith)
+
+pub drop_all : (k : ℕ) (xs : List ℕ) → length xs ≤ k → drop k xs ≡ []
+drop_all zero [] l = refl
+drop_all zero (x ∷ xs) l = absurd (omega arith)
+drop_all (suc k) [] l = refl
+drop_all (suc k) (x ∷ xs) l = drop_all k xs (omega arith)
+
 pub missing_set : (bits : List Bool) (l : ℕ) → l < length bits → nodes_in bits l ≡ false → missing (set bits l true) + 1 ≡ missing bits
 missing_set [] l h e = absurd (omega arith)
 missing_set (true ∷ bs) zero h e = cc
@@ -50,35 +61,12 @@ set_kept bits l k b h = elim (same_nat k l) [
   | inr d ↦ get_or-set_other bits l k true false d ∙ h
 ]
 
--- ---- what is left of the part
-
-cleared : (bits : List Bool) (l : ℕ) → nodes_in (set bits l false) l ≡ false
-cleared [] l = refl
-cleared (b ∷ bs) zero = refl
-cleared (b ∷ bs) (suc l) = cleared bs l
-
-module _ (within : List Bool) where
-  pub left_first : (r : List Bool) → ((k : ℕ) → nodes_in r k ≡ false) → AreLeft within r within
-  left_first r off = λ n. ((λ h. (h, off n)), λ p. p.0)
-
-  pub left_less : (r left : List Bool) (l : ℕ) → AreLeft within r left → l < length r → AreLeft within (set r l true) (set left l false)
-  left_less r left l a small = λ n. elim (same_nat n l) [
-    | inl e ↦ (
-      (λ h. absurd (not_both (nodes_in (set left l false) l) (subst (λ z. IsIn z (nodes_in (set left l false))) e h) (cleared left l))),
-      λ p. absurd (not_both (nodes_in (set r l true) l) (get_or-set_same r l true false small) (subst (λ z. nodes_in (set r l true) z ≡ false) e p.1)),
-    )
-    | inr d ↦ (
-      (λ h. let u = (a n).0 (sym (get_or-set_other left l n false false d) ∙ h) in (u.0, get_or-set_other r l n true false d ∙ u.1)),
-      λ p. get_or-set_other left l n false false d ∙ (a n).1 (p.0, sym (get_or-set_other r l n true false d) ∙ p.1),
-    )
-  ]
-
-  -- a node of the part that isn't left is reached
-  pub left_none : (r left : List Bool) (l : ℕ) → AreLeft within r left → nodes_in left l ≡ false → nodes_in within l ≡ true → IsIn l (nodes_in r)
-  left_none r left l a out here = elim (cases_Bool (nodes_in r l)) [
-    | inl e ↦ e
-    | inr e ↦ absurd (not_both (nodes_in left l) ((a l).1 (here, e)) out)
-  ]
+-- one node is reached, and found
+pub found_first : (none : List Bool) (n : ℕ) → ((k : ℕ) → nodes_in none k ≡ false) → n < length none → AreFound (set none n true) (n ∷ [])
+found_first none n off small k = (
+  (λ h. elim (set_cases none n k small h) [ inl e ↦ inl e | inr g ↦ absurd (not_both (nodes_in none k) g (off k)) ]),
+  λ h. elim h [ inl e ↦ subst (λ z. IsIn z (nodes_in (set none n true))) (sym e) (get_or-set_same none n true false small) | inr g ↦ absurd g ],
+)
 
 module _ (o : OpenNet) (net : IsOpenNet o) (within : List Bool) where
   pub spread_start : (n : ℕ) (r : List Bool) (q : List ℕ) → Spreads o within n 0 r q r q
@@ -174,29 +162,36 @@ module _ (o : OpenNet) (net : IsOpenNet o) (within : List Bool) where
       closed = λ k h. elim (set_cases r from k (omega arith) h) [ inl e ↦ inl (inl e) | inr g ↦ absurd (not_both (nodes_in r k) g (off k)) ];
     }))
 
-    pub search_step : (x : ℕ) (r : List Bool) (q : List ℕ) (r' : List Bool) (q' : List ℕ) → IsSearch o within from r (q ++ x ∷ []) → Spreads o within x (ports_of o x) r q r' q' → IsSearch o within from r' q'
+    pub search_step : (x : ℕ) (r : List Bool) (q : List ℕ) (r' : List Bool) (q' : List ℕ) → IsSearch o within from r (x ∷ q) → Spreads o within x (ports_of o x) r q r' q' → IsSearch o within from r' q'
     search_step x r q r' q' s t = record {
       size = t.size ∙ s.size;
       start = t.kept from s.start;
       sound = λ k h. elim (t.fresh k h) [
         | inl g ↦ s.sound k g
-        | inr g ↦ link_snoc o (λ m. IsIn m (nodes_in within)) from x k g.2.0 g.2.2 g.2.1 (s.sound x (s.pending x (among_last q x)).0) g.2.3 g.1
+        | inr g ↦ link_snoc o (λ m. IsIn m (nodes_in within)) from x k g.2.0 g.2.2 g.2.1 (s.sound x (s.pending x (inl refl)).0) g.2.3 g.1
       ];
       pending = λ k h. elim (t.fresh_pending k h) [
-        | inl g ↦ let u = s.pending k (among_left q k x g) in (t.kept k u.0, u.1)
+        | inl g ↦ let u = s.pending k (inr g) in (t.kept k u.0, u.1)
         | inr g ↦ let a = t.size in let b = s.size in let c = g.1 in (g.0, omega arith)
       ];
       closed = λ k h. elim (t.fresh k h) [
         | inl g ↦ elim (s.closed k g) [
-          | inl u ↦ elim (among_cases q k x u) [
-            | inl a ↦ inl (t.kept_pending k a)
-            | inr e ↦ inr (λ i w l j c m. t.all i w l j (in_ports o net w x i (Port l j) (subst (λ z. IsWire o w (Port z i) (Port l j)) e c)) (subst (λ z. IsWire o w (Port z i) (Port l j)) e c) m)
+          | inl u ↦ elim u [
+            | inr a ↦ inl (t.kept_pending k a)
+            | inl e ↦ inr (λ i w l j c m. t.all i w l j (in_ports o net w x i (Port l j) (subst (λ z. IsWire o w (Port z i) (Port l j)) e c)) (subst (λ z. IsWire o w (Port z i) (Port l j)) e c) m)
           ]
           | inr u ↦ inr (λ i w l j c m. t.kept l (u i w l j c m))
         ]
         | inr g ↦ inl g.0
       ];
     }
+
+    -- the nodes that were found before, and those that are found now
+    pub found_more : (x b : ℕ) (r : List Bool) (q : List ℕ) (r' : List Bool) (q' : List ℕ) → Spreads o within x b r q r' q' → AreFound r q → AreFound r' q'
+    found_more x b r q r' q' t found k = (
+      (λ h. elim (t.fresh k h) [ inl g ↦ t.kept_pending k ((found k).0 g) | inr g ↦ g.0 ]),
+      λ h. elim (t.fresh_pending k h) [ inl g ↦ t.kept k ((found k).1 g) | inr g ↦ g.0 ],
+    )
 
     -- all of the sub-net is reached
     pub search_over : (r : List Bool) (q : List ℕ) → IsSearch o within from r q → length r ≡ length within → missing r ≤ missing within → IsReached o within from r

@@ -5,6 +5,7 @@ pub mod Constructions
 pub mod Derivations
 pub mod Joints
 pub mod Laws
+pub mod Members
 pub mod OpenNets
 pub mod Outcomes
 pub mod Planned

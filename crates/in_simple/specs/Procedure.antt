@@ -1,20 +1,19 @@
 -- What the procedure that looks for a derivation keeps true. Sets of nodes are lists of tests, node by node.
-use Rattle.std.specs.Prelude.{◌≡◌, ◌⊎◌, ◌↔◌, ℕ, suc, ◌+◌, ◌*◌, ◌<◌, ◌≤◌, Bool, true, false, cond, ◌||◌, List, [], ◌∷◌, ◌++◌, length, slice_set, slice_index_or, Option, Some, None, MatchOption}
+use Rattle.std.specs.Prelude.{◌≡◌, ◌⊎◌, ◌↔◌, ℕ, suc, ◌+◌, ◌*◌, ◌<◌, ◌≤◌, Bool, true, false, ◌||◌, List, [], ◌∷◌, ◌++◌, length, drop, slice_set, slice_index_or, Option, Some, None, MatchOption}
 use Rattle.in_simple.specs.declared.open_nets.Point.{Point}
 use Rattle.in_simple.specs.declared.open_nets.Point.TheVariants.{Port, Free}
 use Rattle.in_simple.specs.declared.plans.Plan.{Plan}
+use Rattle.in_simple.specs.declared.plans.Room.{Room}
 use Rattle.in_simple.specs.declared.plans.Task.{Task}
 use Rattle.in_simple.specs.declared.plans.Task.TheVariants.{Derive, Make}
 use Rattle.in_simple.specs.declared.wired.Target.{Target}
 use Rattle.in_simple.specs.declared.wired.Target.TheVariants.{Nowhere, ToPort, ToFree}
 use Rattle.in_simple.specs.Constructions.{IsIn, count}
+pub use Rattle.in_simple.specs.Members.{missing, nodes_in}
 use Rattle.in_simple.specs.Splitting.{Linked, Without, SplitsAt, IsFirstSplitting, Splits}
 use Rattle.in_simple.specs.OpenNets.{OpenNet, IsWire, class_in, open_graph}
 use Rattle.in_simple.specs.Stuck.{IsPart, Among, ComesAt, FirstStuck, Touches, ports_of}
 use Rattle.in_syntax.specs.Grammar.{max_ports}
-
-abbrev pub nodes_in : List Bool → ℕ → Bool
-nodes_in bits n = slice_index_or bits n false
 
 -- no node below b is in the part
 abbrev pub HasNoneBelow : List Bool → ℕ → Type 0
@@ -67,20 +66,11 @@ IsNeighbour o within n i near = MatchOption near
     ((w l j : ℕ) → IsWire o w (Port n i) (Port l j) → IsIn l (nodes_in within) → ⊥)
     (λ l. (w : ℕ) × (j : ℕ) × IsWire o w (Port n i) (Port l j) × IsIn l (nodes_in within) × (l < length o.nodes))
 
--- how many nodes are not in the set
-abbrev pub missing : List Bool → ℕ
-missing [] = 0
-missing (b ∷ bs) = cond b 0 1 + missing bs
-
 -- l is reached, and pending where it is so only now
 abbrev pub Reaches : ℕ → List Bool → List ℕ → List Bool → List ℕ → Type 0
 Reaches l reached pending reached' pending' =
     (IsIn l (nodes_in reached) × (reached' ≡ reached) × (pending' ≡ pending))
     ⊎ ((nodes_in reached l ≡ false) × (reached' ≡ slice_set reached l true) × (pending' ≡ pending ++ l ∷ []))
-
--- these are left: what is in the part and not reached
-abbrev pub AreLeft : List Bool → List Bool → List Bool → Type 0
-AreLeft within reached left = (n : ℕ) → IsIn n (nodes_in left) ↔ (IsIn n (nodes_in within) × (nodes_in reached n ≡ false))
 
 -- the neighbours of n at its ports below b are reached
 pub record Spreads (o : OpenNet) (within : List Bool) (n b : ℕ) (reached : List Bool) (pending : List ℕ) (reached' : List Bool) (pending' : List ℕ) : Type 0 where
@@ -91,6 +81,16 @@ pub record Spreads (o : OpenNet) (within : List Bool) (n b : ℕ) (reached : Lis
   pub fresh_pending : (k : ℕ) → Among k pending' → Among k pending ⊎ (IsIn k (nodes_in reached') × (k < length reached'))
   pub all : (i w l j : ℕ) → i < b → IsWire o w (Port n i) (Port l j) → IsIn l (nodes_in within) → IsIn l (nodes_in reached')
   pub fewer : 2 * missing reached' + length pending' ≤ 2 * missing reached + length pending
+
+-- .. wherever among those that are found the search is
+pub record SpreadsOver (o : OpenNet) (within : List Bool) (n b : ℕ) (reached : List Bool) (found : List ℕ) (reached' : List Bool) (found' : List ℕ) : Type 0 where
+  pub size : length reached' ≡ length reached
+  pub longer : length found ≤ length found'
+  pub each : (place : ℕ) → place ≤ length found → Spreads o within n b reached (drop place found) reached' (drop place found')
+
+-- these are the nodes that are reached
+abbrev pub AreFound : List Bool → List ℕ → Type 0
+AreFound reached found = (n : ℕ) → IsIn n (nodes_in reached) ↔ Among n found
 
 -- what a search from a node has reached, and of what it has not looked at the neighbours yet
 pub record IsSearch (o : OpenNet) (within : List Bool) (from : ℕ) (reached : List Bool) (queue : List ℕ) : Type 0 where
@@ -186,6 +186,10 @@ pub record Derives (o : OpenNet) (near : ℕ) (old new : Plan) : Type 0 where
 -- with one more task
 abbrev pub with_task : Plan → Task → Plan
 with_task p t = record { tasks = p.tasks ++ t ∷ []; rest = p.rest; done = p.done }
+
+-- there is room for each node of the net
+abbrev pub HasRoom : OpenNet → Room → Type 0
+HasRoom o r = (length r.tests ≡ length o.nodes) × (length r.done ≡ length o.nodes)
 
 -- what is true of a plan stays so
 abbrev pub KeepsPlan : Plan → Plan → Type 0

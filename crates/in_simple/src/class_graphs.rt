@@ -1,7 +1,9 @@
-ghost use Rattle.std.specs.Prelude.{◌≡◌, ◌+◌, ◌<◌, ◌^◌, ◌↔◌, length, slice_index_or, false, IfOk, OnOk, IsTrue, MatchOption, ℕ};
-ghost use Rattle.in_simple.specs.ClassEdges.{AddsHubEdges, AreHubEdges, HaveNumbers, IsEdgeOf, IsGraphOf, LeadsOutside, hub_edge_in, vertex_in};
+ghost use Rattle.std.specs.Prelude.{◌≡◌, ◌+◌, ◌<◌, ◌≤◌, ◌^◌, ◌↔◌, length, slice_index_or, false, OnOk, IsTrue, MatchOption, ℕ};
+ghost use Rattle.in_simple.specs.ClassEdges.{AddsHubEdges, AreEdges, AreHubEdges, ComesFirst, HaveNumbers, IsEdgeOf, IsGraphOf, ListsNone, hub_edge_in, vertex_in};
 ghost use Rattle.in_simple.specs.ClassGraphs.{Class};
+ghost use Rattle.in_simple.specs.Constructions.{IsIn};
 ghost use Rattle.in_simple.specs.OpenNets.{class_in};
+ghost use Rattle.in_simple.specs.Procedure.{nodes_in};
 ghost use Rattle.in_simple.specs.Stuck.{ports_of};
 
 use crate::open_nets::Point;
@@ -17,7 +19,8 @@ pub(crate) struct HubNumbers {
     pub(crate) edge: usize,
 }
 
-/// The class graph of some nodes: the numbers of each node, how many vertices there are, and the edges, hub edges first.
+/// The class graph of some nodes: the numbers of each of them, how many vertices there are, and the edges, hub edges first. It is made once
+/// for all parts, so that the numbers of other nodes are left from parts before.
 #[derive(Drop)]
 pub(crate) struct ClassGraph {
     pub(crate) hubs: Items<HubNumbers>,
@@ -40,87 +43,132 @@ fn add_hub_edges(
     Ok(())
 }
 
+/// Whether the first of two ports comes first, or is the other one.
+fn comes_first(node: usize, port: usize, other: usize, far: usize) -> bool
+    ensures { IsTrue result ↔ ComesFirst node port other far }
+{
+    node < other || node == other && port <= far
+}
+
 impl ClassGraph {
-    /// The next node, with its hub edges where it is one of the part.
+    /// Of no nodes.
+    pub(crate) fn new(alloc: Global) -> ClassGraph {
+        ClassGraph {
+            hubs: Items::new(alloc),
+            count: 0,
+            edges: Items::new(alloc),
+        }
+    }
+
+    /// Numbers for so many nodes: nothing is to be done but the first time.
+    fn make_room(&mut self, nodes: usize) -> Result<(), AllocError>
+        ensures { OnOk result (nodes ≤ length self.new.hubs) }
+    {
+        let more = nodes.saturating_sub(self.hubs.len());
+        for node in 0..more {
+            self.hubs.push(HubNumbers { vertex: 0, edge: 0 })?;
+        }
+        Ok(())
+    }
+
+    /// The next node of the part, with its hub edges.
     fn add_node(&mut self, part: &Part, node: usize) -> Result<(), AllocError>
         requires node { node < length part.now.wired.now.nodes }
+        requires here { IsIn node (nodes_in part.now.nodes.now) }
         requires numbers { HaveNumbers part.now.wired.now part.now.nodes.now node self.old.hubs self.old.count }
         requires edges { AreHubEdges part.now.wired.now part.now.nodes.now node self.old.hubs self.old.edges }
         ensures numbers { OnOk result (HaveNumbers part.now.wired.now part.now.nodes.now (node + 1) self.new.hubs self.new.count) }
         ensures edges { OnOk result (AreHubEdges part.now.wired.now part.now.nodes.now (node + 1) self.new.hubs self.new.edges) }
     {
         let hub = self.count;
-        self.hubs.push(HubNumbers {
+        let numbers = HubNumbers {
             vertex: hub,
             edge: self.edges.len(),
-        })?;
-        if part.nodes.has(node) {
-            let width = part.wired.width(node);
-            add_hub_edges(hub, width, &mut self.edges)?;
-            self.count = hub + 1 + width;
-        }
+        };
+        self.hubs.set(node, numbers);
+        let width = part.wired.width(node);
+        add_hub_edges(hub, width, &mut self.edges)?;
+        self.count = hub + 1 + width;
         Ok(())
     }
 
     /// The hubs and the hub edges of a part.
-    fn hubs(alloc: Global, part: &Part) -> Result<ClassGraph, AllocError>
-        ensures numbers { IfOk result (λ graph. HaveNumbers part.now.wired.now part.now.nodes.now (length part.now.wired.now.nodes) graph.hubs graph.count) }
-        ensures edges { IfOk result (λ graph. AreHubEdges part.now.wired.now part.now.nodes.now (length part.now.wired.now.nodes) graph.hubs graph.edges) }
+    fn list_hubs(&mut self, alloc: Global, part: &Part) -> Result<(), AllocError>
+        ensures numbers { OnOk result (HaveNumbers part.now.wired.now part.now.nodes.now (length part.now.wired.now.nodes) self.new.hubs self.new.count) }
+        ensures edges { OnOk result (AreHubEdges part.now.wired.now part.now.nodes.now (length part.now.wired.now.nodes) self.new.hubs self.new.edges) }
     {
-        let mut graph = ClassGraph {
-            hubs: Items::new(alloc),
-            count: 0,
-            edges: Items::new(alloc),
-        };
-        for node in 0..part.wired.nodes() {
-            graph.add_node(part, node)?;
+        self.make_room(part.wired.nodes())?;
+        self.count = 0;
+        self.edges = Items::new(alloc);
+        for member in part.nodes.members() {
+            self.add_node(part, *member as usize)?;
         }
-        Ok(graph)
+        Ok(())
     }
 
     /// The vertex of a port's class.
     fn class_vertex(&self, wired: &Wired, node: usize, port: usize) -> usize
         requires node { node < length wired.now.nodes }
         requires port { port < ports_of wired.now node }
-        requires hubs { length self.now.hubs ≡ length wired.now.nodes }
+        requires hubs { length wired.now.nodes ≤ length self.now.hubs }
         requires few { vertex_in self.now.hubs (Class node (class_in wired.now node port)) < 2 ^ 63 }
         ensures { result ≡ vertex_in self.now.hubs (Class node (class_in wired.now node port)) }
     {
         self.hubs.as_slice()[node].vertex + 1 + wired.class(node, port)
     }
 
-    /// The edge of a wire, if it is between two nodes of the part.
-    fn wire_edge(&self, part: &Part, wire: usize) -> Option<(usize, usize)>
-        requires wire { wire < length part.now.wired.now.wires }
+    /// The edge of the wire at a port, if it leads to a node of the part. It is listed at the one of its points that comes first.
+    fn port_edge(&self, part: &Part, node: usize, port: usize) -> Option<(usize, usize)>
+        requires node { node < length part.now.wired.now.nodes }
+        requires port { port < ports_of part.now.wired.now node }
+        requires here { IsIn node (nodes_in part.now.nodes.now) }
         requires numbers { HaveNumbers part.now.wired.now part.now.nodes.now (length part.now.wired.now.nodes) self.now.hubs self.now.count }
-        ensures { MatchOption result (LeadsOutside part.now.wired.now part.now.nodes.now wire) (IsEdgeOf part.now.wired.now part.now.nodes.now self.now.hubs wire) }
+        ensures { MatchOption result (ListsNone part.now.wired.now part.now.nodes.now node port) (IsEdgeOf part.now.wired.now part.now.nodes.now self.now.hubs node port) }
     {
-        match part.wired.wire(wire) {
-            (Point::Port(one, place), Point::Port(other, far)) => {
-                if part.nodes.has(one as usize) && part.nodes.has(other as usize) {
+        match part.wired.partner(node, port) {
+            (_, Point::Port(near, place)) => {
+                let other = near as usize;
+                let far = place as usize;
+                if comes_first(node, port, other, far) && part.nodes.has(other) {
                     Some((
-                        self.class_vertex(part.wired, one as usize, place as usize),
-                        self.class_vertex(part.wired, other as usize, far as usize),
+                        self.class_vertex(part.wired, node, port),
+                        self.class_vertex(part.wired, other, far),
                     ))
                 } else {
                     None
                 }
             }
-            _ => None,
+            (_, Point::Free(_)) => None,
         }
     }
 
-    /// The class graph of a part.
-    pub(crate) fn of(alloc: Global, part: &Part) -> Result<ClassGraph, AllocError>
-        ensures { IfOk result (IsGraphOf part.now.wired.now part.now.nodes.now) }
+    /// The edges that are listed at the ports of a node of the part.
+    fn add_edges(&mut self, part: &Part, node: usize) -> Result<(), AllocError>
+        requires node { node < length part.now.wired.now.nodes }
+        requires here { IsIn node (nodes_in part.now.nodes.now) }
+        requires numbers { HaveNumbers part.now.wired.now part.now.nodes.now (length part.now.wired.now.nodes) self.old.hubs self.old.count }
+        requires edges { AreEdges part.now.wired.now part.now.nodes.now node 0 self.old.hubs self.old.edges }
+        ensures numbers { OnOk result (HaveNumbers part.now.wired.now part.now.nodes.now (length part.now.wired.now.nodes) self.new.hubs self.new.count) }
+        ensures edges { OnOk result (AreEdges part.now.wired.now part.now.nodes.now (node + 1) 0 self.new.hubs self.new.edges) }
     {
-        let mut graph = ClassGraph::hubs(alloc, part)?;
-        for wire in 0..part.wired.wires() {
-            if let Some(edge) = graph.wire_edge(part, wire) {
-                graph.edges.push(edge)?;
+        for port in 0..part.wired.ports(node) {
+            if let Some(edge) = self.port_edge(part, node, port) {
+                self.edges.push(edge)?;
             }
         }
-        Ok(graph)
+        Ok(())
+    }
+
+    /// The class graph of a part.
+    pub(crate) fn list(&mut self, alloc: Global, part: &Part) -> Result<(), AllocError>
+        ensures { OnOk result (IsGraphOf part.now.wired.now part.now.nodes.now self.new) }
+    {
+        let _count = part.wired.nodes();
+        self.list_hubs(alloc, part)?;
+        for member in part.nodes.members() {
+            self.add_edges(part, *member as usize)?;
+        }
+        Ok(())
     }
 
     /// Whether none of a node's hub edges is on a ring.

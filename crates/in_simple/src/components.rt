@@ -1,14 +1,15 @@
-ghost use Rattle.std.specs.Prelude.{◌≡◌, ◌<◌, length, IfOk, OnOk};
+ghost use Rattle.std.specs.Prelude.{◌≡◌, ◌<◌, length, IfOk, OnOk, false, ℕ};
+ghost use Rattle.in_simple.specs.Checking.{IsUnion};
 ghost use Rattle.in_simple.specs.Constructions.{IsIn};
-ghost use Rattle.in_simple.specs.Procedure.{AreLeft, IsNeighbour, IsReached, Spreads, nodes_in};
+ghost use Rattle.in_simple.specs.Procedure.{AreFound, IsNeighbour, IsReached, SpreadsOver, missing, nodes_in};
 ghost use Rattle.in_simple.specs.Stuck.{ports_of};
 
-use crate::nodes::NodeSet;
+use crate::nodes::NodeList;
 use crate::open_nets::Point;
 use crate::parts::Part;
-use crate::sets::NumberSet;
-use sqlite_items::Items;
+use crate::scratch::Scratch;
 use std::alloc::{AllocError, Global};
+use std::marker::Model;
 
 /// The node at the other end of the wire at a port, where it is in the part.
 pub(crate) fn neighbour(part: &Part, node: usize, port: usize) -> Option<u32>
@@ -28,27 +29,24 @@ pub(crate) fn neighbour(part: &Part, node: usize, port: usize) -> Option<u32>
     }
 }
 
-/// Reaches the neighbours of a node that are left. What is left tells at one look that a neighbour is in the part and not reached yet,
-/// which is asked for each port of the part.
+/// Reaches the neighbours of a node in the part, and lists them.
 fn spread(
     part: &Part,
     node: usize,
-    left: &mut NumberSet,
-    reached: &mut NumberSet,
-    pending: &mut Items<u32>,
+    reached: &mut Scratch,
+    found: &mut Vec<u32>,
 ) -> Result<(), AllocError>
     requires node { node < length part.now.wired.now.nodes }
     requires reached { length reached.old ≡ length part.now.wired.now.nodes }
-    requires left { AreLeft part.now.nodes.now reached.old left.old }
-    ensures spreads { OnOk result (Spreads part.now.wired.now part.now.nodes.now node (ports_of part.now.wired.now node) reached.old pending.old reached.new pending.new) }
-    ensures left { OnOk result (AreLeft part.now.nodes.now reached.new left.new) }
+    ensures size { length reached.new ≡ length reached.old }
+    ensures spreads { OnOk result (SpreadsOver part.now.wired.now part.now.nodes.now node (ports_of part.now.wired.now node) reached.old found.old.items reached.new found.new.items) }
 {
     for port in 0..part.wired.ports(node) {
         match part.wired.partner(node, port) {
             (_, Point::Port(near, _)) => {
-                if left.take(near as usize) {
+                if !reached.has(near as usize) && part.nodes.has(near as usize) {
                     reached.insert(near as usize);
-                    pending.push(near)?;
+                    found.push(near)?;
                 }
             }
             (_, Point::Free(_)) => {}
@@ -57,33 +55,129 @@ fn spread(
     Ok(())
 }
 
-/// The nodes of the component of a node of the part. Once they are all of the part, nothing is left to be looked for.
-fn reached_from(alloc: Global, part: &Part, from: u32) -> Result<NumberSet, AllocError>
-    requires { IsIn from (nodes_in part.now.nodes.now) }
-    ensures size { IfOk result (λ c. length c ≡ length part.now.wired.now.nodes) }
-    ensures reached { IfOk result (IsReached part.now.wired.now part.now.nodes.now from) }
+/// Reaches the nodes of the component of a node of the part, and lists them. Once they are all of the part, nothing is left to be looked for.
+fn reach_from(
+    alloc: Global,
+    part: &Part,
+    reached: &mut Scratch,
+    from: u32,
+) -> Result<Vec<u32>, AllocError>
+    requires size { length reached.old ≡ length part.now.wired.now.nodes }
+    requires here { IsIn from (nodes_in part.now.nodes.now) }
+    ensures size { length reached.new ≡ length reached.old }
+    ensures reached { OnOk result (IsReached part.now.wired.now part.now.nodes.now from reached.new) }
+    ensures found { IfOk result (λ found. AreFound reached.new found.items) }
 {
-    let mut reached = NumberSet::none(alloc, part.wired.nodes())?;
-    let mut left = part.nodes.tests(alloc)?;
-    let mut pending = Items::new(alloc);
-    left.take(from as usize);
+    let _count = part.wired.nodes();
+    reached.clear()?;
+    let mut found = Vec::new(alloc);
     reached.insert(from as usize);
-    pending.push(from)?;
-    while let Some(node) = pending.pop() {
+    found.push(from)?;
+    let mut place = 0;
+    while place < found.len() {
         if reached.absent() <= part.nodes.absent() {
-            return Ok(reached);
+            return Ok(found);
         }
-        spread(part, node as usize, &mut left, &mut reached, &mut pending)?;
+        let node = found[place];
+        spread(part, node as usize, reached, &mut found)?;
+        place += 1;
     }
-    Ok(reached)
+    Ok(found)
 }
 
-/// The component of a node of the part.
-pub(crate) fn component(alloc: Global, part: &Part, from: u32) -> Result<NodeSet, AllocError>
-    requires { IsIn from (nodes_in part.now.nodes.now) }
+/// The component of a node of the part, with a set that is lent for the search.
+fn component(
+    alloc: Global,
+    part: &Part,
+    lent: &mut Scratch,
+    from: u32,
+) -> Result<NodeList, AllocError>
+    requires size { length lent.old ≡ length part.now.wired.now.nodes }
+    requires here { IsIn from (nodes_in part.now.nodes.now) }
+    ensures lent { length lent.new ≡ length lent.old }
     ensures size { IfOk result (λ c. length c ≡ length part.now.wired.now.nodes) }
     ensures reached { IfOk result (IsReached part.now.wired.now part.now.nodes.now from) }
 {
-    let reached = reached_from(alloc, part, from)?;
-    part.nodes.narrowed(alloc, reached)
+    let found = reach_from(alloc, part, lent, from)?;
+    part.nodes.narrowed(alloc, lent, found)
+}
+
+/// The nodes that are derived, and a set to search for one more component.
+pub(crate) struct Done {
+    nodes: Scratch,
+    reached: Scratch,
+}
+
+// By hand, so that each drop is a call: a derived one is written out in each proof, at each way out.
+impl Drop for Done {
+    fn drop(self) {
+        let Done {
+            nodes: _,
+            reached: _,
+        } = self;
+    }
+}
+
+// Contracts see a test for each node of the net.
+impl Model for Done {
+    ghost use Rattle.std.specs.Prelude.{◌≡◌, length, Bool, List};
+
+    ghost Value = { List Bool };
+
+    ghost view = { λ d. d.nodes };
+
+    ghost invariant = { λ d. length d.reached ≡ length d.nodes };
+}
+
+impl Done {
+    /// None of so many.
+    pub(crate) fn new(alloc: Global, count: usize) -> Result<Done, AllocError>
+        ensures { IfOk result (λ done. length done ≡ count) }
+    {
+        Ok(Done {
+            nodes: Scratch::new(alloc, count)?,
+            reached: Scratch::new(alloc, count)?,
+        })
+    }
+
+    /// None any more.
+    pub(crate) fn clear(&mut self) -> Result<(), AllocError>
+        ensures size { length self.new ≡ length self.old }
+        ensures none { OnOk result ((n : ℕ) → nodes_in self.new n ≡ false) }
+    {
+        self.nodes.clear()
+    }
+
+    /// Whether the node is derived.
+    pub(crate) fn has(&self, node: usize) -> bool
+        ensures { result ≡ nodes_in self.now node }
+    {
+        self.nodes.has(node)
+    }
+
+    /// How many nodes are not derived.
+    pub(crate) fn absent(&self) -> usize
+        ensures { result ≡ missing self.now }
+    {
+        self.nodes.absent()
+    }
+
+    /// The component of a node of the part, which is derived too now.
+    pub(crate) fn add(
+        &mut self,
+        alloc: Global,
+        part: &Part,
+        from: u32,
+    ) -> Result<NodeList, AllocError>
+        requires size { length self.old ≡ length part.now.wired.now.nodes }
+        requires here { IsIn from (nodes_in part.now.nodes.now) }
+        ensures same { length self.new ≡ length self.old }
+        ensures size { IfOk result (λ c. length c ≡ length part.now.wired.now.nodes) }
+        ensures reached { IfOk result (IsReached part.now.wired.now part.now.nodes.now from) }
+        ensures union { IfOk result (λ c. IsUnion c self.old self.new) }
+    {
+        let component = component(alloc, part, &mut self.reached, from)?;
+        component.add_to(&mut self.nodes);
+        Ok(component)
+    }
 }

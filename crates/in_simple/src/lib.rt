@@ -12,6 +12,7 @@ mod parts;
 mod plans;
 mod procedure;
 mod rings;
+mod scratch;
 mod sets;
 mod splitting;
 mod stuck;

@@ -1,6 +1,6 @@
 ghost use Rattle.std.specs.Prelude.{[], ◌∷◌, ◌≡◌, ◌<◌, ◌≤◌, ◌+◌, ◌-◌, ◌↔◌, suc, length, false, IfOk, IsTrue, ℕ};
 ghost use Rattle.in_simple.specs.Constructions.{IsIn};
-ghost use Rattle.in_simple.specs.Procedure.{AreSized, Derives, GoesOn, IsFirst, IsPlan, IsRest, KeepsPlan, Lists, nodes_in, with_task};
+ghost use Rattle.in_simple.specs.Procedure.{AreSized, Derives, GoesOn, HasRoom, IsFirst, IsPlan, IsRest, KeepsPlan, Lists, nodes_in, with_task};
 ghost use Rattle.in_simple.specs.Progress.{IsOver, after_ports, at_end, later, progress, until};
 ghost use Rattle.in_simple.specs.OpenNets.{IsAgent, IsClass, IsOrderly, class_in, open_graph};
 ghost use Rattle.in_simple.specs.Planned.{HasFate, HasFateAt, IsAuxiliaryPort, IsLeftOver, IsSized, JoinsFate, LeadsBack, Skips, TakesPart, WhatComes, WhatPort, WithEmpties};
@@ -9,11 +9,11 @@ ghost use Rattle.in_simple.specs.Stacks.{Puts, no_wires, shape};
 ghost use Rattle.in_simple.specs.Stuck.{ports_of, turn};
 ghost use Rattle.in_simple.specs.declared.plans.Task.TheVariants.{Make};
 
-use crate::components::component;
-use crate::nodes::NodeSet;
+use crate::components::Done;
+use crate::nodes::{NodeList, NodeSet};
 use crate::open_nets::Point;
 use crate::parts::Part;
-use crate::sets::NumberSet;
+use crate::scratch::Scratch;
 use crate::wired::Wired;
 use sqlite_items::Items;
 use std::alloc::{AllocError, Global};
@@ -35,7 +35,7 @@ pub(crate) enum Joint {
 /// What remains to be done: a part that is to be derived, or a step.
 #[derive(Drop)]
 pub(crate) enum Task {
-    Derive(NodeSet),
+    Derive(NodeList),
     Make(Joint),
 }
 
@@ -59,11 +59,45 @@ fn leads_back(point: Point, node: usize, port: usize) -> bool
     }
 }
 
+/// Sets that are made once for all parts: which nodes are in a part, and which ones are derived.
+pub(crate) struct Room {
+    pub(crate) tests: Scratch,
+    pub(crate) done: Done,
+}
+
+// By hand, so that each drop is a call: a derived one is written out in each proof, at each way out.
+impl Drop for Room {
+    fn drop(self) {
+        let Room { tests: _, done: _ } = self;
+    }
+}
+
+impl Room {
+    /// For so many nodes.
+    pub(crate) fn new(alloc: Global, count: usize) -> Result<Room, AllocError>
+        ensures tests { IfOk result (λ room. length room.tests ≡ count) }
+        ensures done { IfOk result (λ room. length room.done ≡ count) }
+    {
+        let tests = Scratch::new(alloc, count)?;
+        let done = Done::new(alloc, count)?;
+        Ok(Room { tests, done })
+    }
+
+    /// The one set and the other one.
+    pub(crate) fn apart(self) -> (Scratch, Done)
+        ensures tests { result.0 ≡ self.tests }
+        ensures done { result.1 ≡ self.done }
+    {
+        let Room { tests, done } = self;
+        (tests, done)
+    }
+}
+
 /// The tasks of a part of which one node is taken out, the nodes that are left, and those that the tasks derive.
 struct Plan {
     tasks: Items<Task>,
     rest: NodeSet,
-    done: NumberSet,
+    done: Done,
 }
 
 // By hand, so that each drop is a call: a derived one is written out in each proof, at each way out.
@@ -86,16 +120,15 @@ impl Plan {
         Ok(self)
     }
 
-    /// Its tasks.
-    fn into_tasks(self) -> Items<Task>
-        ensures { result ≡ self.tasks }
+    /// Its tasks, and the room that it took.
+    fn into_tasks(self) -> (Items<Task>, Room)
+        ensures tasks { result.0 ≡ self.tasks }
+        ensures tests { result.1.tests ≡ self.rest }
+        ensures done { result.1.done ≡ self.done }
     {
-        let Plan {
-            tasks,
-            rest: _,
-            done: _,
-        } = self;
-        tasks
+        let Plan { tasks, rest, done } = self;
+        let tests = rest.into_tests();
+        (tasks, Room { tests, done })
     }
 
     /// What becomes of a node.
@@ -131,8 +164,7 @@ impl Plan {
             wired,
             nodes: &self.rest,
         };
-        let component = component(alloc, &part, near)?;
-        component.add_to(&mut self.done);
+        let component = self.done.add(alloc, &part, near)?;
         self.tasks.push(Task::Derive(component))?;
         Ok(self)
     }
@@ -256,27 +288,32 @@ impl<'a> Model for Joined<'a> {
 }
 
 impl<'a> Begun<'a> {
-    /// A plan with no task yet.
+    /// A plan with no task yet, and the list of the part.
     fn of(
         alloc: Global,
         wired: &'a Wired<'a>,
-        part: &NodeSet,
+        part: NodeSet,
+        lent: Done,
         node: usize,
-    ) -> Result<Begun<'a>, AllocError>
-        requires size { length part.now ≡ length wired.now.nodes }
-        requires here { IsIn node (nodes_in part.now) }
-        requires splits { SplitsAt (open_graph wired.now) node (nodes_in part.now) }
-        ensures start { IfOk result (λ begun. begun ≡ progress wired.now node begun.rest 0) }
-        ensures rest { IfOk result (λ begun. IsRest node part.now begun.rest) }
+    ) -> Result<(Begun<'a>, NodeList), AllocError>
+        requires size { length part ≡ length wired.now.nodes }
+        requires lent { length lent ≡ length wired.now.nodes }
+        requires here { IsIn node (nodes_in part) }
+        requires splits { SplitsAt (open_graph wired.now) node (nodes_in part) }
+        ensures start { IfOk result (λ r. r.0 ≡ progress wired.now node r.0.rest 0) }
+        ensures rest { IfOk result (λ r. IsRest node part r.0.rest) }
+        ensures list { IfOk result (λ r. r.1 ≡ part) }
     {
-        let rest = part.without(alloc, node)?;
-        let done = NumberSet::none(alloc, wired.nodes())?;
+        let _count = wired.nodes();
+        let mut done = lent;
+        done.clear()?;
+        let (rest, list) = part.without(alloc, node)?;
         let plan = Plan {
             tasks: Items::new(alloc),
             rest,
             done,
         };
-        Ok(Begun { wired, node, plan })
+        Ok((Begun { wired, node, plan }, list))
     }
 
     /// The nets of an agent's classes, but for the last ones, which have no port.
@@ -534,7 +571,7 @@ impl<'a> Joined<'a> {
     }
 
     /// The components that the node doesn't touch: only nodes of the part may be left. Mostly none is, since the node touches them all.
-    fn others(self, alloc: Global, part: &NodeSet) -> Result<Joined<'a>, AllocError>
+    fn others(self, alloc: Global, part: &NodeList) -> Result<Joined<'a>, AllocError>
         requires turn { self.next ≡ suc (ports_of self.net self.node) }
         requires size { length part.now ≡ length self.net.nodes }
         requires rest { IsRest self.node part.now self.rest }
@@ -552,24 +589,27 @@ impl<'a> Joined<'a> {
     }
 }
 
-/// The tasks of a part that the node splits.
+/// The tasks of a part that the node splits, and the room that they took.
 pub(crate) fn tasks_of(
     alloc: Global,
     wired: &Wired,
-    part: &NodeSet,
+    part: NodeSet,
+    lent: Done,
     node: usize,
-) -> Result<Items<Task>, AllocError>
-    requires size { length part.now ≡ length wired.now.nodes }
-    requires here { IsIn node (nodes_in part.now) }
-    requires splits { SplitsAt (open_graph wired.now) node (nodes_in part.now) }
-    requires first { IsFirst wired.now part.now node }
-    ensures steps { IfOk result (λ tasks. Puts wired.now tasks (shape (nodes_in part.now) no_wires ∷ [])) }
-    ensures takes { IfOk result (TakesPart wired.now (nodes_in part.now)) }
-    ensures net { IfOk result (λ tasks. IsOrderly wired.now) }
-    ensures lists { IfOk result (Lists wired.now node (nodes_in part.now) 0) }
-    ensures sized { IfOk result (AreSized (length wired.now.nodes)) }
+) -> Result<(Items<Task>, Room), AllocError>
+    requires size { length part ≡ length wired.now.nodes }
+    requires lent { length lent ≡ length wired.now.nodes }
+    requires here { IsIn node (nodes_in part) }
+    requires splits { SplitsAt (open_graph wired.now) node (nodes_in part) }
+    requires first { IsFirst wired.now part node }
+    ensures steps { IfOk result (λ r. Puts wired.now r.0 (shape (nodes_in part) no_wires ∷ [])) }
+    ensures takes { IfOk result (λ r. TakesPart wired.now (nodes_in part) r.0) }
+    ensures net { IfOk result (λ r. IsOrderly wired.now) }
+    ensures lists { IfOk result (λ r. Lists wired.now node (nodes_in part) 0 r.0) }
+    ensures sized { IfOk result (λ r. AreSized (length wired.now.nodes) r.0) }
+    ensures room { IfOk result (λ r. HasRoom wired.now r.1) }
 {
-    let begun = Begun::of(alloc, wired, part, node)?;
-    let whole = begun.touched(alloc)?.others(alloc, part)?;
+    let (begun, list) = Begun::of(alloc, wired, part, lent, node)?;
+    let whole = begun.touched(alloc)?.others(alloc, &list)?;
     Ok(whole.plan.into_tasks())
 }

@@ -1,17 +1,17 @@
 ghost use Rattle.std.specs.Prelude.{◌≡◌, ◌<◌, ◌-◌, ◌++◌, ◌∷◌, [], drop, length, map, reverse, true, IfOk, OnOk, MatchOption, MatchResult};
 ghost use Rattle.in_simple.specs.Derivations.{IsDerivation};
 ghost use Rattle.in_simple.specs.Stuck.{IsStuckNet, IsUndone};
-ghost use Rattle.in_simple.specs.Procedure.{AreFewer, AreMakes, IsWork, Passes, StartsWork};
+ghost use Rattle.in_simple.specs.Procedure.{AreFewer, AreMakes, HasRoom, IsWork, Passes, StartsWork};
 ghost use Rattle.in_simple.specs.Outcomes.{IsOutcome};
 ghost use Rattle.in_simple.specs.Stacks.{Advances, AreLast, Ends, IsLast, IsUnderWay, Makes, loose_in};
 ghost use Rattle.in_simple.specs.TakenOrder.{AreTaken, links_from};
 ghost use Rattle.in_simple.specs.declared.plans.Task.TheVariants.{Derive, Make};
 
 use crate::derivations::{Derivation, Step, Stuck, Undone};
-use crate::nodes::NodeSet;
+use crate::nodes::{NodeList, NodeSet};
 use crate::open_nets::{OpenNet, Point};
 use crate::parts::Part;
-use crate::plans::{Joint, Task, tasks_of};
+use crate::plans::{Joint, Room, Task, tasks_of};
 use crate::splitting::first_splitting;
 use crate::trials::Trials;
 use crate::wired::Wired;
@@ -115,7 +115,7 @@ impl Work {
     }
 
     /// Makes steps until a part is to be derived.
-    fn next_part(&mut self, alloc: Global) -> Result<Option<NodeSet>, AllocError>
+    fn next_part(&mut self, alloc: Global) -> Result<Option<NodeList>, AllocError>
         ensures tasks { IfOk result (λ next. MatchOption next
             (Passes (reverse self.old.tasks) [])
             (λ part. Passes (reverse self.old.tasks) (Derive part ∷ reverse self.new.tasks))) }
@@ -172,7 +172,7 @@ fn start(alloc: Global, open: &OpenNet) -> Result<Items<Task>, AllocError>
     let count = open.nodes();
     if count > 0 {
         let mut tasks = Items::new(alloc);
-        tasks.push(Task::Derive(NodeSet::all(alloc, count)?))?;
+        tasks.push(Task::Derive(NodeList::all(alloc, count)?))?;
         tasks.append(loose(alloc, open, true)?)?;
         Ok(tasks)
     } else {
@@ -201,26 +201,37 @@ fn take(
     wired: &Wired,
     work: &mut Work,
     trials: &mut Trials,
-    nodes: &NodeSet,
-) -> Result<Option<Stuck>, AllocError>
-    requires work { IsWork wired.now (Derive nodes.now ∷ reverse work.old.tasks) }
-    requires steps { IsUnderWay wired.now (Derive nodes.now ∷ reverse work.old.tasks) work.old.steps work.old.roots }
+    list: NodeList,
+    room: Room,
+) -> Result<(Option<Stuck>, Room), AllocError>
+    requires work { IsWork wired.now (Derive list ∷ reverse work.old.tasks) }
+    requires steps { IsUnderWay wired.now (Derive list ∷ reverse work.old.tasks) work.old.steps work.old.roots }
     requires rings { trials.old.rings ≡ wired.now }
+    requires room { HasRoom wired.now room }
     ensures rings { trials.new.rings ≡ trials.old.rings }
-    ensures found { IfOk result (λ found. MatchOption found
-        (IsWork wired.now (reverse work.new.tasks) × AreFewer wired.now (Derive nodes.now ∷ reverse work.old.tasks) (reverse work.new.tasks) × IsUnderWay wired.now (reverse work.new.tasks) work.new.steps work.new.roots)
+    ensures room { IfOk result (λ r. HasRoom wired.now r.1) }
+    ensures found { IfOk result (λ r. MatchOption r.0
+        (IsWork wired.now (reverse work.new.tasks) × AreFewer wired.now (Derive list ∷ reverse work.old.tasks) (reverse work.new.tasks) × IsUnderWay wired.now (reverse work.new.tasks) work.new.steps work.new.roots)
         (IsStuckNet wired.now)) }
 {
-    let part = Part { wired, nodes };
+    let (tests, done) = room.apart();
+    let nodes = NodeSet::of(list, tests)?;
+    let part = Part {
+        wired,
+        nodes: &nodes,
+    };
     match first_splitting(alloc, &part, trials)? {
         Some(node) => {
-            let tasks = tasks_of(alloc, wired, nodes, node)?;
+            let (tasks, room) = tasks_of(alloc, wired, nodes, done, node)?;
             work.expand(tasks)?;
-            Ok(None)
+            Ok((None, room))
         }
         None => {
-            let nodes = Items::from_slice(alloc, nodes.members())?;
-            Ok(Some(Stuck { nodes }))
+            let stuck = Stuck {
+                nodes: Items::from_slice(alloc, nodes.members())?,
+            };
+            let tests = nodes.into_tests();
+            Ok((Some(stuck), Room { tests, done }))
         }
     }
 }
@@ -231,16 +242,21 @@ fn finish(
     wired: &Wired,
     work: &mut Work,
     trials: &mut Trials,
+    room: Room,
 ) -> Result<Option<Stuck>, AllocError>
     requires work { IsWork wired.now (reverse work.old.tasks) }
     requires steps { IsUnderWay wired.now (reverse work.old.tasks) work.old.steps work.old.roots }
     requires rings { trials.old.rings ≡ wired.now }
+    requires room { HasRoom wired.now room }
     ensures { IfOk result (λ found. MatchOption found (IsDerivation wired.now work.new.steps × AreTaken wired.now work.new.steps) (IsStuckNet wired.now)) }
 {
+    let mut lent = room;
     while let Some(part) = work.next_part(alloc)? {
-        if let Some(stuck) = take(alloc, wired, work, trials, &part)? {
-            return Ok(Some(stuck));
+        let (stuck, room) = take(alloc, wired, work, trials, part, lent)?;
+        if stuck.is_some() {
+            return Ok(stuck);
         }
+        lent = room;
     }
     let _count = wired.nodes();
     Ok(None)
@@ -259,13 +275,15 @@ fn come_to(
     open: &OpenNet,
     wired: &Wired,
     trials: &mut Trials,
+    room: Room,
 ) -> Result<Outcome, AllocError>
     requires net { wired.now ≡ «open».now }
     requires rings { trials.old.rings ≡ wired.now }
+    requires room { HasRoom wired.now room }
     ensures { IfOk result (IsOutcome «open».now) }
 {
     let mut work = begin(alloc, open)?;
-    match finish(alloc, wired, &mut work, trials)? {
+    match finish(alloc, wired, &mut work, trials, room)? {
         None => {
             let Work {
                 tasks: _,
@@ -284,7 +302,8 @@ fn attempt(alloc: Global, open: &OpenNet) -> Result<Outcome, AllocError>
 {
     let wired = Wired::of(alloc, open)?;
     let mut trials = Trials::new(alloc, &wired)?;
-    come_to(alloc, open, &wired, &mut trials)
+    let room = Room::new(alloc, wired.nodes())?;
+    come_to(alloc, open, &wired, &mut trials, room)
 }
 
 /// The steps that build the open net: the first node in order that splits it is taken out, then each component that is left is

@@ -1,17 +1,16 @@
 //! Sets of numbers below a count, as of the nodes or of the wires of an open net.
 ghost use Rattle.std.specs.Prelude.{◌≡◌, ◌<◌, ◌↔◌, length, slice_set, IfOk, IsTrue, false, true, ℕ};
 ghost use Rattle.in_simple.specs.Checking.{AreAll, IsUnion, Shares};
-ghost use Rattle.in_simple.specs.Procedure.{IsRest, missing, nodes_in};
+ghost use Rattle.in_simple.specs.Procedure.{nodes_in};
 
 use sqlite_items::Items;
 use std::alloc::{AllocError, Global};
 use std::marker::Model;
 
-/// A set of numbers: a test for each below the count, and how many of them are no members.
+/// A set of numbers: a test for each below the count.
 #[derive(Drop)]
 pub(crate) struct NumberSet {
     tests: Items<bool>,
-    absent: usize,
 }
 
 // Contracts see the tests.
@@ -21,11 +20,6 @@ impl Model for NumberSet {
     ghost Value = { List Bool };
 
     ghost view = { λ s. s.tests };
-
-    ghost use Rattle.std.specs.Prelude.{◌≡◌, ◌<◌, ◌^◌, length};
-    ghost use Rattle.in_simple.specs.Procedure.{missing};
-
-    ghost invariant = { λ s. (s.absent ≡ missing s.tests) × (length s.tests < 2 ^ 64) };
 }
 
 impl NumberSet {
@@ -38,20 +32,6 @@ impl NumberSet {
         tests.resize(count, false)?;
         Ok(NumberSet {
             tests: Items::from_vec(tests),
-            absent: count,
-        })
-    }
-
-    /// All of so many.
-    pub(crate) fn all(alloc: Global, count: usize) -> Result<NumberSet, AllocError>
-        ensures size { IfOk result (λ set. length set ≡ count) }
-        ensures all { IfOk result (λ set. (n : ℕ) → n < count → nodes_in set n ≡ true) }
-    {
-        let mut tests = Vec::new(alloc);
-        tests.resize(count, true)?;
-        Ok(NumberSet {
-            tests: Items::from_vec(tests),
-            absent: 0,
         })
     }
 
@@ -70,13 +50,6 @@ impl NumberSet {
             Some(test) => *test,
             None => false,
         }
-    }
-
-    /// How many numbers below the count are no members.
-    pub(crate) fn absent(&self) -> usize
-        ensures { result ≡ missing self.now }
-    {
-        self.absent
     }
 
     /// Whether all are members.
@@ -108,35 +81,7 @@ impl NumberSet {
         requires { number < length self.old }
         ensures { self.new ≡ slice_set self.old number true }
     {
-        if !self.has(number) {
-            self.absent -= 1;
-            self.tests.set(number, true);
-        }
-    }
-
-    /// Takes the number out. Answers whether it was a member.
-    pub(crate) fn take(&mut self, number: usize) -> bool
-        ensures was { result ≡ nodes_in self.old number }
-        ensures out { self.new ≡ slice_set self.old number false }
-    {
-        if self.has(number) {
-            self.absent += 1;
-            self.tests.set(number, false);
-            true
-        } else {
-            false
-        }
-    }
-
-    /// The same set once more.
-    pub(crate) fn copy(&self, alloc: Global) -> Result<NumberSet, AllocError>
-        ensures { IfOk result (λ set. set ≡ self.now) }
-    {
-        let tests = Items::from_slice(alloc, self.tests.as_slice())?;
-        Ok(NumberSet {
-            tests,
-            absent: self.absent,
-        })
+        self.tests.set(number, true);
     }
 
     /// Makes the members of another set of the same size members too.
@@ -150,22 +95,5 @@ impl NumberSet {
                 self.insert(number);
             }
         }
-    }
-
-    /// These but one.
-    pub(crate) fn without(&self, alloc: Global, number: usize) -> Result<NumberSet, AllocError>
-        requires { number < length self.now }
-        ensures size { IfOk result (λ rest. length rest ≡ length self.now) }
-        ensures rest { IfOk result (IsRest number self.now) }
-        ensures out { IfOk result (λ rest. nodes_in rest number ≡ false) }
-    {
-        let absent = if self.has(number) {
-            self.absent + 1
-        } else {
-            self.absent
-        };
-        let mut tests = Items::from_slice(alloc, self.tests.as_slice())?;
-        tests.set(number, false);
-        Ok(NumberSet { tests, absent })
     }
 }

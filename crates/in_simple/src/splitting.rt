@@ -118,12 +118,16 @@ fn first_by_trials(
 }
 
 /// The first node of the part that splits it, by the part's class graph.
-fn first_by_bridges(alloc: Global, part: &Part) -> Result<Option<usize>, AllocError>
+fn first_by_bridges(
+    alloc: Global,
+    part: &Part,
+    graph: &mut ClassGraph,
+) -> Result<Option<usize>, AllocError>
     ensures net { IfOk result (λ found. IsOrderly part.now.wired.now) }
     ensures found { IfOk result (IsFirstIn part.now.wired.now part.now.nodes.now) }
 {
-    let graph = ClassGraph::of(alloc, part)?;
-    first_in(alloc, part, &graph)
+    graph.list(alloc, part)?;
+    first_in(alloc, part, graph)
 }
 
 /// The first node of the part that splits it. Its class graph is listed only where trying its nodes one by one takes too long.
@@ -140,6 +144,6 @@ pub(crate) fn first_splitting(
     trials.begin(part.nodes);
     match first_by_trials(alloc, part, trials)? {
         Some(found) => Ok(found),
-        None => first_by_bridges(alloc, part),
+        None => first_by_bridges(alloc, part, &mut trials.graph),
     }
 }

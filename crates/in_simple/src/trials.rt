@@ -3,6 +3,7 @@ ghost use Rattle.in_simple.specs.Procedure.{SplitsIt};
 ghost use Rattle.in_simple.specs.Stuck.{ports_of};
 ghost use Rattle.in_simple.specs.Tries.{IsTried};
 
+use crate::class_graphs::ClassGraph;
 use crate::labels::{Labels, Mark, show_splitting};
 use crate::nodes::NodeSet;
 use crate::open_nets::Point;
@@ -64,9 +65,10 @@ impl Drop for Search {
     }
 }
 
-/// The rings that searches from single nodes found, and the last search.
+/// The rings that searches from single nodes found, the last search, and room for a class graph, where searches do not tell.
 pub(crate) struct Trials<'a> {
     pub(crate) rings: Rings<'a>,
+    pub(crate) graph: ClassGraph,
     search: Search,
 }
 
@@ -75,6 +77,7 @@ impl<'a> Drop for Trials<'a> {
     fn drop(self) {
         let Trials {
             rings: _,
+            graph: _,
             search: _,
         } = self;
     }
@@ -290,7 +293,11 @@ impl<'a> Trials<'a> {
     {
         let rings = Rings::none(alloc, wired)?;
         let search = Search::new(alloc, wired.nodes())?;
-        Ok(Trials { rings, search })
+        Ok(Trials {
+            rings,
+            graph: ClassGraph::new(alloc),
+            search,
+        })
     }
 
     /// As many ports may be looked at as the size of the part allows.

@@ -1,4 +1,4 @@
-ghost use Rattle.std.specs.Prelude.{◌≡◌, ◌<◌, ◌≤◌, ◌^◌, ◌*◌, ◌+◌, length, slice_get, slice_index_or, Some, None, IsTrue, false, IfOk, OnOk, ℕ};
+ghost use Rattle.std.specs.Prelude.{◌≡◌, ◌<◌, ◌≤◌, ◌^◌, ◌*◌, ◌+◌, length, slice_index_or, Some, None, IsTrue, false, IfOk, OnOk, ℕ};
 ghost use Rattle.in_syntax.specs.Grammar.{max_ports};
 ghost use Rattle.in_simple.specs.ClassGraphs.{width_of};
 ghost use Rattle.in_simple.specs.OpenNets.{IsAgent, IsClass, IsOrderly, IsPointOf, IsWire, class_in, classes_of};
@@ -230,23 +230,6 @@ impl<'a> Wired<'a> {
         ensures net { IsOrderly self.now }
     {
         self.open.width(node)
-    }
-
-    /// How many wires there are.
-    pub(crate) fn wires(&self) -> usize
-        ensures count { result ≡ length self.now.wires }
-        ensures net { IsOrderly self.now }
-    {
-        self.open.wires()
-    }
-
-    /// The two points of a wire.
-    pub(crate) fn wire(&self, number: usize) -> (Point, Point)
-        requires { number < length self.now.wires }
-        ensures points { slice_get self.now.wires number ≡ Some result }
-        ensures net { IsOrderly self.now }
-    {
-        self.open.wire(number)
     }
 
     /// Whether the node is an agent; else it is a class node.

@@ -10,10 +10,11 @@ pub narrowed-requires : goal.narrowed-requires
 narrowed-requires c =
     let nodes = c.args.part.now.nodes.now in
     record {
-      size = c.in_ok-reached.ensures.size ∙ sym c.args.part.now.size;
-      within = λ k h. link_last (open_graph c.args.part.now.wired.now) (λ m. IsIn m (nodes_in nodes)) c.args.from k ((c.in_ok-reached.ensures.reached k).0 h);
+      size = c.in_ok-found.ensures.size ∙ c.requires.size ∙ sym c.args.part.now.size;
+      within = λ k h. link_last (open_graph c.args.part.now.wired.now) (λ m. IsIn m (nodes_in nodes)) c.args.from k ((c.in_ok-found.ensures.reached k).0 h);
+      found = c.in_ok-found.ensures.found;
     }
 
 pub returns-clause-reached : goal.returns-clause-reached
 returns-clause-reached c =
-    if_ok c.narrowed.result (λ set e. subst (IsReached c.args.part.now.wired.now c.args.part.now.nodes.now c.args.from) (sym e) c.in_ok-reached.ensures.reached) c.narrowed.ensures
+    if_ok c.narrowed.result (λ set e. subst (IsReached c.args.part.now.wired.now c.args.part.now.nodes.now c.args.from) (sym e) c.in_ok-found.ensures.reached) c.narrowed.ensures

@@ -1,5 +1,5 @@
-use Rattle.in_simple.proofs.Spreading.{Goes}
+use Rattle.in_simple.specs.Procedure.{SpreadsOver}
 use Rattle.in_simple.proofs.components.spread.Given as goal
 
 abbrev pub invariant-loop-port : goal.invariant-loop-port
-invariant-loop-port l = Goes l.part.wired.now l.part.nodes.now l.node l.port l.initial.reached l.initial.pending l.reached l.pending l.left
+invariant-loop-port l = SpreadsOver l.part.wired.now l.part.nodes.now l.node l.port l.initial.reached l.initial.found.items l.reached l.found.items

@@ -1,6 +1,6 @@
 use Rattle.std.proofs.Common.{◌≡◌, reverse, length}
 use Rattle.in_simple.specs.Constructions.{count}
-use Rattle.in_simple.specs.Procedure.{IsWork, pending_in}
+use Rattle.in_simple.specs.Procedure.{HasRoom, IsWork, pending_in}
 use Rattle.in_simple.specs.Stacks.{IsUnderWay}
 use Rattle.in_simple.proofs.procedure.finish.Given as goal
 
@@ -9,6 +9,7 @@ invariant-loop-part l = record {
   work : IsWork l.wired (reverse l.work.tasks);
   steps : IsUnderWay l.wired (reverse l.work.tasks) l.work.steps l.work.roots;
   rings : l.trials.rings ≡ l.wired;
+  room : HasRoom l.wired l.lent;
 }
 
 abbrev pub decreases-loop-part : goal.decreases-loop-part

@@ -1,4 +1,4 @@
-use Rattle.std.proofs.Common.{◌∷◌, reverse, sym, subst}
+use Rattle.std.proofs.Common.{◌∷◌, ◌++◌, reverse, sym, subst}
 use Rattle.in_simple.specs.declared.plans.Task.TheVariants.{Derive}
 use Rattle.in_simple.specs.Procedure.{IsWork, AreFewer, nodes_in}
 use Rattle.in_simple.specs.Stacks.{IsUnderWay}
@@ -11,41 +11,45 @@ use Rattle.in_simple.proofs.procedure.take.Goals as goal
 pub returns-in_ok-expand-in-Some-clause-found : goal.returns-in_ok-expand-in-Some-clause-found
 returns-in_ok-expand-in-Some-clause-found c =
     let o = c.args.wired.now in
-    let part = c.args.nodes.now in
+    let part = c.in_ok-nodes.nodes in
+    let same = c.in_ok-nodes.ensures in
     let ts = reverse c.args.work.now.tasks in
     let n = c.in-Some.node in
+    let old = c.args.work.now in
     let ps = c.in_ok-tasks-in-Some.tasks in
+    let work = subst (λ z. IsWork o (Derive z ∷ ts)) (sym same) c.requires.work in
+    let steps = subst (λ z. IsUnderWay o (Derive z ∷ ts) old.steps old.roots) (sym same) c.requires.steps in
     let net = c.in_ok-node.ensures.net.net in
     let f = subst (IsFirstIn o part) c.in-Some.is c.in_ok-node.ensures.found in
     let e = c.in_ok-expand-in-Some.ensures.tasks in
-    let old = c.args.work.now in
     let x = c.expand.new.self in
     let t = c.in_ok-tasks-in-Some.ensures in (
-      subst (λ z. IsWork o z) (sym e) (expand_work o net part n ps ts c.requires.work f t.lists t.sized),
-      subst (λ z. AreFewer o (Derive part ∷ ts) z) (sym e) (expand_fewer o net part n ps ts c.requires.work f t.lists),
+      subst (λ z. IsWork o z) (sym e) (expand_work o net part n ps ts work f t.lists t.sized),
+      subst (λ z. AreFewer o (Derive c.args.list ∷ ts) z) (sym e) (subst (λ z. AreFewer o (Derive z ∷ ts) (ps ++ ts)) same (expand_fewer o net part n ps ts work f t.lists)),
       subst (λ z. IsUnderWay o (reverse x.tasks) x.steps z) (sym c.in_ok-expand-in-Some.ensures.roots)
-          (subst (λ z. IsUnderWay o (reverse x.tasks) z old.roots) (sym c.in_ok-expand-in-Some.ensures.steps) (subst (λ z. IsUnderWay o z old.steps old.roots) (sym e) (under_derive o part ps ts old.steps old.roots t.steps t.takes c.requires.steps))),
+          (subst (λ z. IsUnderWay o (reverse x.tasks) z old.roots) (sym c.in_ok-expand-in-Some.ensures.steps) (subst (λ z. IsUnderWay o z old.steps old.roots) (sym e) (under_derive o part ps ts old.steps old.roots t.steps t.takes steps))),
     )
 
-pub returns-in_ok-nodes-in-None-clause-found : goal.returns-in_ok-nodes-in-None-clause-found
-returns-in_ok-nodes-in-None-clause-found c =
+pub returns-in_ok-from_slice-in-None-clause-found : goal.returns-in_ok-from_slice-in-None-clause-found
+returns-in_ok-from_slice-in-None-clause-found c =
     let o = c.args.wired.now in
-    let part = c.args.nodes.now in
+    let part = c.in_ok-nodes.nodes in
+    let same = c.in_ok-nodes.ensures in
     let ts = reverse c.args.work.now.tasks in
     let net = c.in_ok-node.ensures.net.net in
     let f = subst (IsFirstIn o part) c.in-None.is c.in_ok-node.ensures.found in
-    let s = stuck_first o net part ts c.requires.work f in
-    (stuck_underivable o net (nodes_in part) s, (nodes_in part, s, subst (IsListed (nodes_in part)) (sym c.in_ok-nodes-in-None.ensures) c.members.ensures))
+    let s = stuck_first o net part ts (subst (λ z. IsWork o (Derive z ∷ ts)) (sym same) c.requires.work) f in
+    (stuck_underivable o net (nodes_in part) s, (nodes_in part, s, subst (IsListed (nodes_in part)) (sym c.in_ok-from_slice-in-None.ensures) c.members.ensures))
 
 pub tasks_of-requires-clause-here : goal.tasks_of-requires-clause-here
 tasks_of-requires-clause-here c =
-    let f = subst (IsFirstIn c.args.wired.now c.args.nodes.now) c.in-Some.is c.in_ok-node.ensures.found in
+    let f = subst (IsFirstIn c.args.wired.now c.in_ok-nodes.nodes) c.in-Some.is c.in_ok-node.ensures.found in
     f.here
 
 pub tasks_of-requires-clause-splits : goal.tasks_of-requires-clause-splits
 tasks_of-requires-clause-splits c =
-    let f = subst (IsFirstIn c.args.wired.now c.args.nodes.now) c.in-Some.is c.in_ok-node.ensures.found in
+    let f = subst (IsFirstIn c.args.wired.now c.in_ok-nodes.nodes) c.in-Some.is c.in_ok-node.ensures.found in
     f.splits
 
 pub tasks_of-requires-clause-first : goal.tasks_of-requires-clause-first
-tasks_of-requires-clause-first c = subst (IsFirstIn c.args.wired.now c.args.nodes.now) c.in-Some.is c.in_ok-node.ensures.found
+tasks_of-requires-clause-first c = subst (IsFirstIn c.args.wired.now c.in_ok-nodes.nodes) c.in-Some.is c.in_ok-node.ensures.found

@@ -8,15 +8,16 @@ pub invariant_of-result : goal.invariant_of-result
 invariant_of-result c =
     let o = c.args.wired.now in
     let n = c.args.node in
-    let net = c.nodes.ensures.net.net in
-    let a = c.nodes.ensures.count in
-    let b = c.in_ok-done.ensures.count in
+    let net = c.nodes-count.ensures.net.net in
+    let a = c.nodes-count.ensures.count in
+    let b = c.in_ok-clear.ensures.size in
+    let k = c.requires.lent in
     let d = c.in_ok-rest.ensures.size in
     let e = c.requires.size in
-    let l = in_length c.args.part.now n c.requires.here in
+    let l = in_length c.args.part n c.requires.here in
     record {
-      orderly = c.nodes.ensures.net;
+      orderly = c.nodes-count.ensures.net;
       node = omega arith;
-      plan = plan_start o net n _ (omega arith) (omega arith) c.in_ok-rest.ensures.out c.in_ok-done.ensures.none c.new.ensures (each_split o net c.args.part.now c.in_ok-rest.rest n c.in_ok-rest.ensures.rest c.requires.splits);
+      plan = plan_start o net n _ (omega arith) (omega arith) c.in_ok-rest.ensures.out c.in_ok-clear.ensures.none c.new.ensures (each_split o net c.args.part _ n c.in_ok-rest.ensures.rest c.requires.splits);
       start = c.new.ensures;
     }
