@@ -83,13 +83,49 @@ impl Room {
         Ok(Room { tests, done })
     }
 
-    /// The one set and the other one.
-    pub(crate) fn apart(self) -> (Scratch, Done)
-        ensures tests { result.0 ≡ self.tests }
-        ensures done { result.1 ≡ self.done }
+    /// For the nodes of a list.
+    pub(crate) fn open(self, list: NodeList) -> Result<Opened, AllocError>
+        requires { length self.tests ≡ length list }
+        ensures nodes { IfOk result (λ part. part.nodes ≡ list) }
+        ensures done { IfOk result (λ part. part.done ≡ self.done) }
     {
         let Room { tests, done } = self;
-        (tests, done)
+        let nodes = NodeSet::of(list, tests)?;
+        Ok(Opened { nodes, done })
+    }
+}
+
+/// The nodes of a part, and a set for those that are derived.
+pub(crate) struct Opened {
+    pub(crate) nodes: NodeSet,
+    pub(crate) done: Done,
+}
+
+// By hand, so that each drop is a call: a derived one is written out in each proof, at each way out.
+impl Drop for Opened {
+    fn drop(self) {
+        let Opened { nodes: _, done: _ } = self;
+    }
+}
+
+impl Opened {
+    /// The one set and the other one.
+    fn apart(self) -> (NodeSet, Done)
+        ensures nodes { result.0 ≡ self.nodes }
+        ensures done { result.1 ≡ self.done }
+    {
+        let Opened { nodes, done } = self;
+        (nodes, done)
+    }
+
+    /// The room that it took.
+    pub(crate) fn close(self) -> Room
+        ensures tests { result.tests ≡ self.nodes }
+        ensures done { result.done ≡ self.done }
+    {
+        let Opened { nodes, done } = self;
+        let tests = nodes.into_tests();
+        Room { tests, done }
     }
 }
 
@@ -292,22 +328,21 @@ impl<'a> Begun<'a> {
     fn of(
         alloc: Global,
         wired: &'a Wired<'a>,
-        part: NodeSet,
-        lent: Done,
+        part: Opened,
         node: usize,
     ) -> Result<(Begun<'a>, NodeList), AllocError>
-        requires size { length part ≡ length wired.now.nodes }
-        requires lent { length lent ≡ length wired.now.nodes }
-        requires here { IsIn node (nodes_in part) }
-        requires splits { SplitsAt (open_graph wired.now) node (nodes_in part) }
+        requires size { length part.nodes ≡ length wired.now.nodes }
+        requires done { length part.done ≡ length wired.now.nodes }
+        requires here { IsIn node (nodes_in part.nodes) }
+        requires splits { SplitsAt (open_graph wired.now) node (nodes_in part.nodes) }
         ensures start { IfOk result (λ r. r.0 ≡ progress wired.now node r.0.rest 0) }
-        ensures rest { IfOk result (λ r. IsRest node part r.0.rest) }
-        ensures list { IfOk result (λ r. r.1 ≡ part) }
+        ensures rest { IfOk result (λ r. IsRest node part.nodes r.0.rest) }
+        ensures list { IfOk result (λ r. r.1 ≡ part.nodes) }
     {
         let _count = wired.nodes();
-        let mut done = lent;
+        let (nodes, mut done) = part.apart();
         done.clear()?;
-        let (rest, list) = part.without(alloc, node)?;
+        let (rest, list) = nodes.without(alloc, node)?;
         let plan = Plan {
             tasks: Items::new(alloc),
             rest,
@@ -593,23 +628,22 @@ impl<'a> Joined<'a> {
 pub(crate) fn tasks_of(
     alloc: Global,
     wired: &Wired,
-    part: NodeSet,
-    lent: Done,
+    part: Opened,
     node: usize,
 ) -> Result<(Items<Task>, Room), AllocError>
-    requires size { length part ≡ length wired.now.nodes }
-    requires lent { length lent ≡ length wired.now.nodes }
-    requires here { IsIn node (nodes_in part) }
-    requires splits { SplitsAt (open_graph wired.now) node (nodes_in part) }
-    requires first { IsFirst wired.now part node }
-    ensures steps { IfOk result (λ r. Puts wired.now r.0 (shape (nodes_in part) no_wires ∷ [])) }
-    ensures takes { IfOk result (λ r. TakesPart wired.now (nodes_in part) r.0) }
+    requires size { length part.nodes ≡ length wired.now.nodes }
+    requires done { length part.done ≡ length wired.now.nodes }
+    requires here { IsIn node (nodes_in part.nodes) }
+    requires splits { SplitsAt (open_graph wired.now) node (nodes_in part.nodes) }
+    requires first { IsFirst wired.now part.nodes node }
+    ensures steps { IfOk result (λ r. Puts wired.now r.0 (shape (nodes_in part.nodes) no_wires ∷ [])) }
+    ensures takes { IfOk result (λ r. TakesPart wired.now (nodes_in part.nodes) r.0) }
     ensures net { IfOk result (λ r. IsOrderly wired.now) }
-    ensures lists { IfOk result (λ r. Lists wired.now node (nodes_in part) 0 r.0) }
+    ensures lists { IfOk result (λ r. Lists wired.now node (nodes_in part.nodes) 0 r.0) }
     ensures sized { IfOk result (λ r. AreSized (length wired.now.nodes) r.0) }
     ensures room { IfOk result (λ r. HasRoom wired.now r.1) }
 {
-    let (begun, list) = Begun::of(alloc, wired, part, lent, node)?;
+    let (begun, list) = Begun::of(alloc, wired, part, node)?;
     let whole = begun.touched(alloc)?.others(alloc, &list)?;
     Ok(whole.plan.into_tasks())
 }

@@ -8,7 +8,7 @@ ghost use Rattle.in_simple.specs.TakenOrder.{AreTaken, links_from};
 ghost use Rattle.in_simple.specs.declared.plans.Task.TheVariants.{Derive, Make};
 
 use crate::derivations::{Derivation, Step, Stuck, Undone};
-use crate::nodes::{NodeList, NodeSet};
+use crate::nodes::NodeList;
 use crate::open_nets::{OpenNet, Point};
 use crate::parts::Part;
 use crate::plans::{Joint, Room, Task, tasks_of};
@@ -214,24 +214,20 @@ fn take(
         (IsWork wired.now (reverse work.new.tasks) × AreFewer wired.now (Derive list ∷ reverse work.old.tasks) (reverse work.new.tasks) × IsUnderWay wired.now (reverse work.new.tasks) work.new.steps work.new.roots)
         (IsStuckNet wired.now)) }
 {
-    let (tests, done) = room.apart();
-    let nodes = NodeSet::of(list, tests)?;
+    let opened = room.open(list)?;
     let part = Part {
-        wired,
-        nodes: &nodes,
+        wired: &*wired,
+        nodes: &opened.nodes,
     };
     match first_splitting(alloc, &part, trials)? {
         Some(node) => {
-            let (tasks, room) = tasks_of(alloc, wired, nodes, done, node)?;
+            let (tasks, room) = tasks_of(alloc, wired, opened, node)?;
             work.expand(tasks)?;
             Ok((None, room))
         }
         None => {
-            let stuck = Stuck {
-                nodes: Items::from_slice(alloc, nodes.members())?,
-            };
-            let tests = nodes.into_tests();
-            Ok((Some(stuck), Room { tests, done }))
+            let nodes = Items::from_slice(alloc, opened.nodes.members())?;
+            Ok((Some(Stuck { nodes }), opened.close()))
         }
     }
 }

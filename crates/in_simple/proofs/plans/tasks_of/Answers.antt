@@ -19,15 +19,15 @@ returns c =
     let e : progress j.wired.now j.node p.rest j.turn ≡ progress o n c.in_ok-begun.begun.rest k =
     c.whole.view_is ∙ c.in_ok-whole.ensures ∙ ap at_end c.in_ok-touched.ensures ∙ ap (λ s. at_end (after_ports s)) c.in_ok-begun.ensures.start in
     let x : PlansNet o n k p = subst (λ (s : Progress). PlansNet s.net s.node s.next p) e c.whole.invariant in
-    let left : IsRest n c.args.part p.rest = subst (λ (s : Progress). IsRest n c.args.part s.rest) (sym e) c.in_ok-begun.ensures.rest in
+    let left : IsRest n c.args.part.nodes p.rest = subst (λ (s : Progress). IsRest n c.args.part.nodes s.rest) (sym e) c.in_ok-begun.ensures.rest in
     let net = x.orderly.net in
-    let s = nodes_in c.args.part in
+    let s = nodes_in c.args.part.nodes in
     let same = sym c.into_tasks.ensures.tasks in
     record {
-      steps = subst (λ z. Puts o z (shape s no_wires ∷ [])) same (net_whole o net n c.args.part p x.plan x.net left c.requires.here);
-      takes = subst (TakesPart o s) same (part_taken o net n c.args.part p c.requires.first left (subst (λ z. Takes o n k z p) (before_other o n k (omega arith)) x.takes));
+      steps = subst (λ z. Puts o z (shape s no_wires ∷ [])) same (net_whole o net n c.args.part.nodes p x.plan x.net left c.requires.here);
+      takes = subst (TakesPart o s) same (part_taken o net n c.args.part.nodes p c.requires.first left (subst (λ z. Takes o n k z p) (before_other o n k (omega arith)) x.takes));
       net = x.orderly;
-      lists = subst (Lists o n s 0) same (lists_part o net n c.args.part p.rest left 0 p.tasks (plan_end o net n p x.plan));
+      lists = subst (Lists o n s 0) same (lists_part o net n c.args.part.nodes p.rest left 0 p.tasks (plan_end o net n p x.plan));
       room = let a = c.into_tasks.ensures.tests in let b = c.into_tasks.ensures.done in (ap length a ∙ x.plan.rest_size, ap length b ∙ x.plan.done_size);
       sized = subst (AreSized (length o.nodes)) same x.plan.sized;
     }

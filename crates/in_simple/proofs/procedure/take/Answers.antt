@@ -11,8 +11,8 @@ use Rattle.in_simple.proofs.procedure.take.Goals as goal
 pub returns-in_ok-expand-in-Some-clause-found : goal.returns-in_ok-expand-in-Some-clause-found
 returns-in_ok-expand-in-Some-clause-found c =
     let o = c.args.wired.now in
-    let part = c.in_ok-nodes.nodes in
-    let same = c.in_ok-nodes.ensures in
+    let part = c.in_ok-opened.opened.nodes in
+    let same = c.in_ok-opened.ensures.nodes in
     let ts = reverse c.args.work.now.tasks in
     let n = c.in-Some.node in
     let old = c.args.work.now in
@@ -30,26 +30,26 @@ returns-in_ok-expand-in-Some-clause-found c =
           (subst (λ z. IsUnderWay o (reverse x.tasks) z old.roots) (sym c.in_ok-expand-in-Some.ensures.steps) (subst (λ z. IsUnderWay o z old.steps old.roots) (sym e) (under_derive o part ps ts old.steps old.roots t.steps t.takes steps))),
     )
 
-pub returns-in_ok-from_slice-in-None-clause-found : goal.returns-in_ok-from_slice-in-None-clause-found
-returns-in_ok-from_slice-in-None-clause-found c =
+pub returns-in_ok-nodes-in-None-clause-found : goal.returns-in_ok-nodes-in-None-clause-found
+returns-in_ok-nodes-in-None-clause-found c =
     let o = c.args.wired.now in
-    let part = c.in_ok-nodes.nodes in
-    let same = c.in_ok-nodes.ensures in
+    let part = c.in_ok-opened.opened.nodes in
+    let same = c.in_ok-opened.ensures.nodes in
     let ts = reverse c.args.work.now.tasks in
     let net = c.in_ok-node.ensures.net.net in
     let f = subst (IsFirstIn o part) c.in-None.is c.in_ok-node.ensures.found in
     let s = stuck_first o net part ts (subst (λ z. IsWork o (Derive z ∷ ts)) (sym same) c.requires.work) f in
-    (stuck_underivable o net (nodes_in part) s, (nodes_in part, s, subst (IsListed (nodes_in part)) (sym c.in_ok-from_slice-in-None.ensures) c.members.ensures))
+    (stuck_underivable o net (nodes_in part) s, (nodes_in part, s, subst (IsListed (nodes_in part)) (sym c.in_ok-nodes-in-None.ensures) c.members.ensures))
 
 pub tasks_of-requires-clause-here : goal.tasks_of-requires-clause-here
 tasks_of-requires-clause-here c =
-    let f = subst (IsFirstIn c.args.wired.now c.in_ok-nodes.nodes) c.in-Some.is c.in_ok-node.ensures.found in
+    let f = subst (IsFirstIn c.args.wired.now c.in_ok-opened.opened.nodes) c.in-Some.is c.in_ok-node.ensures.found in
     f.here
 
 pub tasks_of-requires-clause-splits : goal.tasks_of-requires-clause-splits
 tasks_of-requires-clause-splits c =
-    let f = subst (IsFirstIn c.args.wired.now c.in_ok-nodes.nodes) c.in-Some.is c.in_ok-node.ensures.found in
+    let f = subst (IsFirstIn c.args.wired.now c.in_ok-opened.opened.nodes) c.in-Some.is c.in_ok-node.ensures.found in
     f.splits
 
 pub tasks_of-requires-clause-first : goal.tasks_of-requires-clause-first
-tasks_of-requires-clause-first c = subst (IsFirstIn c.args.wired.now c.in_ok-nodes.nodes) c.in-Some.is c.in_ok-node.ensures.found
+tasks_of-requires-clause-first c = subst (IsFirstIn c.args.wired.now c.in_ok-opened.opened.nodes) c.in-Some.is c.in_ok-node.ensures.found
