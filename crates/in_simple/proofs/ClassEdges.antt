@@ -19,6 +19,7 @@ use Rattle.in_simple.specs.Procedure.{nodes_in}
 use Rattle.in_simple.specs.ClassGraphs.{Vertex, Hub, Class, HasClass, IsVertex, IsClassGraph, HubEdgesAreOffRings, width_of}
 use Rattle.in_simple.specs.ClassEdges.{no_hub, vertex_in, hub_edge_in, HaveNumbers, AreHubEdges, AddsHubEdges, ComesFirst, IsEdgeOf, IsPast, ListsNone, AreEdges}
 use Rattle.in_simple.specs.Stuck.{ports_of}
+use Rattle.in_simple.proofs.Balance.{wire_turn}
 use Rattle.in_simple.proofs.ClassWays.{has_class, port_class}
 use Rattle.in_simple.proofs.Search.{in_ports}
 use Rattle.in_simple.proofs.Sums.{point_node}
@@ -190,10 +191,6 @@ first_of n i m j = elim (cases_order n m) [
 pub port_small : (o : OpenNet) → IsOpenNet o → (w n i : ℕ) (q : Point) → IsWire o w (Port n i) q → (n < length o.nodes) × (i < ports_of o n)
 port_small o net w n i q h = (point_node o n i (net.points w (Port n i) q h), in_ports o net w n i q h)
 
-turned : (o : OpenNet) (w : ℕ) (p q : Point) → IsWire o w p q → IsWire o w q p
-turned o w p q (inl e) = inr e
-turned o w p q (inr e) = inl e
-
 -- ---- the class graph
 
 module _ (o : OpenNet) (net : IsOpenNet o) (part : List Bool) (all : length part ≡ length o.nodes) (hubs : List HubNumbers) (count : ℕ) (n : HaveNumbers o part (length o.nodes) hubs count) where
@@ -241,7 +238,7 @@ module _ (o : OpenNet) (net : IsOpenNet o) (part : List Bool) (all : length part
       hub = a.hub;
       wire = λ l m i j h k w. elim (first_of l i m j) [
         | inl first ↦ let t = edge_of w.0 l i m j h k w.1 first in (t.0, inl t.1)
-        | inr first ↦ let t = edge_of w.0 m j l i k h (turned o w.0 (Port l i) (Port m j) w.1) first in (t.0, inr t.1)
+        | inr first ↦ let t = edge_of w.0 m j l i k h (wire_turn o w.0 (Port l i) (Port m j) w.1) first in (t.0, inr t.1)
       ];
       only = λ e x y h. elim (a.only e (x, y) h) [
         | inl t ↦ inl t
@@ -261,7 +258,7 @@ module _ (o : OpenNet) (net : IsOpenNet o) (part : List Bool) (all : length part
           let p0 : x ≡ vertex_in hubs (Class t.0 (class_in o t.0 t.1)) = ap (λ z. z.0) d.5 in
           let p1 : y ≡ vertex_in hubs (Class d.1 (class_in o d.1 d.2)) = ap (λ z. z.1) d.5 in
           let r = class_room t.0 (class_in o t.0 t.1) t.2 (has_class o net t.0 t.1 (d.1, d.2) (d.0, d.3)) in
-          let s = class_room d.1 (class_in o d.1 d.2) d.4 (port_class o net d.1 d.2 (net.points d.0 (Port d.1 d.2) (Port t.0 t.1) (turned o d.0 (Port t.0 t.1) (Port d.1 d.2) d.3))) in
+          let s = class_room d.1 (class_in o d.1 d.2) d.4 (port_class o net d.1 d.2 (net.points d.0 (Port d.1 d.2) (Port t.0 t.1) (wire_turn o d.0 (Port t.0 t.1) (Port d.1 d.2) d.3))) in
           (omega arith, omega arith)
     ]
 

@@ -1,19 +1,13 @@
 -- Sets that are kept by marks.
 use Rattle.std.proofs.Common.{◌≡◌, ◌≢◌, ◌<◌, ◌≤◌, ◌+◌, ◌^◌, ◌∙◌, ℕ, zero, suc, Bool, true, false, nat_eq, List, [], ◌∷◌, Some, None, length, slice_get, get_or, refl, sym, ap, inl, inr, arith}
 use Rattle.std.proofs.Math.ListN.{set}
-use Rattle.std.proofs.lemmas.Bool.Decides.{eqb_tells}
+use Rattle.std.proofs.lemmas.Bool.{eq-eqb, ne_eqb}
 use Rattle.std.proofs.lemmas.List.{length-map, length-set, map-set}
 use Rattle.in_simple.specs.Members.{AreMarks, marked, missing, nodes_in}
 use Rattle.in_simple.proofs.Absent.{missing_cleared}
 use Rattle.in_simple.proofs.Links.{same_nat}
 use Rattle.in_simple.proofs.Reaching.{missing_set}
 use Rattle.in_simple.proofs.VerifySets.{at_other, at_set}
-
-pub equal : (n : ℕ) → nat_eq n n ≡ true
-equal n = elim (eqb_tells n n) [ inl h ↦ h.0 | inr h ↦ absurd (h.1 refl) ]
-
-pub differ : (m n : ℕ) → m ≢ n → nat_eq m n ≡ false
-differ m n d = elim (eqb_tells m n) [ inl h ↦ absurd (d h.1) | inr h ↦ h.0 ]
 
 pub mark_at : (last : ℕ) (ms : List ℕ) (n m : ℕ) → slice_get ms n ≡ Some m → nodes_in (marked last ms) n ≡ nat_eq m last
 mark_at last [] n m e = cc
@@ -45,10 +39,10 @@ module _ (ms : List ℕ) (last absent : ℕ) (h : AreMarks ms last absent) (n : 
   }
 
   pub marked_in : marked last (set ms n last) ≡ set (marked last ms) n true
-  marked_in = marked_set last ms n last ∙ ap (set (marked last ms) n) (equal last)
+  marked_in = marked_set last ms n last ∙ ap (set (marked last ms) n) (eq-eqb last last refl)
 
   pub marked_out : marked last (set ms n 0) ≡ set (marked last ms) n false
-  marked_out = marked_set last ms n 0 ∙ ap (set (marked last ms) n) (differ 0 last (let a = h.some in omega arith))
+  marked_out = marked_set last ms n 0 ∙ ap (set (marked last ms) n) (ne_eqb 0 last (let a = h.some in omega arith))
 
   pub fewer : nodes_in (marked last ms) n ≡ false → missing (set (marked last ms) n true) + 1 ≡ absent
   fewer out = let l = marked_many last ms in let a = missing_set (marked last ms) n (omega arith) out in let b = h.absent in omega arith
@@ -65,7 +59,7 @@ module _ (ms : List ℕ) (last absent : ℕ) (h : AreMarks ms last absent) (n : 
 -- none has a mark that comes after the last one
 pub none_marked : (last : ℕ) (ms : List ℕ) → ((n : ℕ) → get_or ms n 0 ≤ last) → (n : ℕ) → nodes_in (marked (last + 1) ms) n ≡ false
 none_marked last [] most n = refl
-none_marked last (k ∷ ks) most zero = differ k (last + 1) (λ e. let a = most 0 in omega arith)
+none_marked last (k ∷ ks) most zero = ne_eqb k (last + 1) (λ e. let a = most 0 in omega arith)
 none_marked last (k ∷ ks) most (suc n) = none_marked last ks (λ n. most (suc n)) n
 
 missing_off : (xs : List Bool) → ((n : ℕ) → nodes_in xs n ≡ false) → missing xs ≡ length xs

@@ -1,6 +1,6 @@
 -- From each point that stays the path lands, within few turns, at the point to which it is joined.
 use Rattle.std.proofs.Common.{◌≡◌, ◌≢◌, ◌+◌, ◌*◌, ◌-◌, ◌≤◌, ◌<◌, ℕ, zero, suc, Bool, true, false, cond, nat_eq, nat_lt, Option, Some, None, List, [], ◌∷◌, length, slice_get, refl, sym, subst, ap, inl, inr, ◌∙◌, arith, eq-eqb}
-use Rattle.std.proofs.lemmas.Bool.Decides.{eqb_tells}
+use Rattle.std.proofs.lemmas.Bool.{ne_eqb}
 use native.Mathlib.Decide.{ℕ_discrete}
 use Rattle.in_net.specs.declared.nets.AgentNo.{AgentNo}
 use Rattle.in_net.specs.declared.nets.Point as coded
@@ -45,29 +45,23 @@ module _ (sig : Signature) (n : Parts) (rule : RuleParts) (one two : ℕ) (names
   end_code p = end_of (agent_no one) (agent_no two) (sig.arity c) p
 
   module _ (net : IsNet sig (net_of n)) (inside : IsNet sig (net_of member)) (redex : IsRedex sig (net_of n) at) (naming : IsNaming (net_of n) at name) (named : (k i : ℕ) → IsPoint sig (net_of member) (Port k i) → slice_get names k ≡ Some (agent_no (name k))) where
-    same_yes : (a : ℕ) → nat_eq a a ≡ true
-    same_yes a = eq-eqb a a refl
-
-    same_no : (a b : ℕ) → a ≢ b → nat_eq a b ≡ false
-    same_no a b h = elim (eqb_tells a b) [ inl l ↦ absurd (h l.1) | inr l ↦ l.0 ]
-
     pub end_at : (e : ℕ) → end_code (coded_point (pt e)) ≡ Some e
     end_at e = elim (lt_tells e (sig.arity c)) [
       | inl l ↦ ap (λ (b : Bool). end_by (agent_no one) (agent_no two) (sig.arity c) (agent_no (cond b one two)) (cond b (suc e) (suc (e - sig.arity c)))) l.0
-          ∙ ap (λ (z : Bool). cond z (Some e) (cond (nat_eq one two) (Some (sig.arity c + e)) None)) (same_yes one)
+          ∙ ap (λ (z : Bool). cond z (Some e) (cond (nat_eq one two) (Some (sig.arity c + e)) None)) (eq-eqb one one refl)
       | inr l ↦
           let k = l.1 in
           let place : sig.arity c + (e - sig.arity c) ≡ e = omega arith in
           ap (λ (b : Bool). end_by (agent_no one) (agent_no two) (sig.arity c) (agent_no (cond b one two)) (cond b (suc e) (suc (e - sig.arity c)))) l.0
-          ∙ ap (λ (z : Bool). cond z (Some (e - sig.arity c)) (cond (nat_eq two two) (Some (sig.arity c + (e - sig.arity c))) None)) (same_no two one (λ h. redex.differ (sym h)))
-          ∙ ap (λ (z : Bool). cond z (Some (sig.arity c + (e - sig.arity c))) None) (same_yes two) ∙ ap (λ (z : ℕ). Some z) place
+          ∙ ap (λ (z : Bool). cond z (Some (e - sig.arity c)) (cond (nat_eq two two) (Some (sig.arity c + (e - sig.arity c))) None)) (ne_eqb two one (λ h. redex.differ (sym h)))
+          ∙ ap (λ (z : Bool). cond z (Some (sig.arity c + (e - sig.arity c))) None) (eq-eqb two two refl) ∙ ap (λ (z : ℕ). Some z) place
     ]
 
     pub end_none : (v : Point ℕ) → (IsOfPair at v → ⊥) → end_code (coded_point v) ≡ None
     end_none (Port y zero) h = refl
     end_none (Port y (suc i)) h =
-        ap (λ (z : Bool). cond z (Some i) (cond (nat_eq y two) (Some (sig.arity c + i)) None)) (same_no y one (λ e. h (inl e)))
-        ∙ ap (λ (z : Bool). cond z (Some (sig.arity c + i)) None) (same_no y two (λ e. h (inr e)))
+        ap (λ (z : Bool). cond z (Some i) (cond (nat_eq y two) (Some (sig.arity c + i)) None)) (ne_eqb y one (λ e. h (inl e)))
+        ∙ ap (λ (z : Bool). cond z (Some (sig.arity c + i)) None) (ne_eqb y two (λ e. h (inr e)))
     end_none (Free k) h = refl
 
     pub port_is : (e : ℕ) → port_of (agent_no one) (agent_no two) (sig.arity c) e ≡ coded_point (pt e)
