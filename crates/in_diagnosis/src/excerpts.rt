@@ -9,6 +9,12 @@ const BEFORE: usize = 48;
 /// How many characters of a line are shown from the beginning of the marked place on.
 const AFTER: usize = 64;
 
+/// In so many bytes there are more characters than are shown before the marked place.
+const MOST_BYTES_BEFORE: usize = 4 * (BEFORE + 2);
+
+/// In so many bytes there are more characters than are shown from the beginning of the marked place on.
+const MOST_BYTES_AFTER: usize = 4 * (AFTER + 2);
+
 /// The longest front of some bytes that is well-formed UTF-8.
 pub(crate) fn front(bytes: &[u8]) -> &str {
     match str::from_utf8(bytes) {
@@ -28,8 +34,8 @@ pub(crate) fn between(text: &[u8], from: usize, to: usize) -> &str {
     }
 }
 
-/// A line: what stands before a place in it, at the place, and after it. A byte at the place that is part of no character stands in none
-/// of them.
+/// A line, as far as it is looked at: what stands before a place in it, at the place, and after it. A byte at the place that is part of no
+/// character stands in none of them.
 #[derive(Clone, Copy)]
 struct Line<'a> {
     before: &'a str,
@@ -49,27 +55,68 @@ pub(crate) fn line_start(text: &[u8], at: usize) -> usize {
     0
 }
 
-/// Where the line ends in which a byte stands.
-fn line_end(text: &[u8], at: usize) -> usize {
-    for index in at..text.len() {
+/// Whether the byte there goes on with a character.
+fn goes_on(text: &[u8], index: usize) -> bool {
+    matches!(text.get(index), Some(0x80..=0xBF))
+}
+
+/// Where the first character begins that stands in these bytes.
+fn character_start(text: &[u8], from: usize, to: usize) -> usize {
+    for index in from..to {
+        if !goes_on(text, index) {
+            return index;
+        }
+    }
+    to
+}
+
+/// Where the line begins in which a byte stands, or so far before that byte that no more of the line is looked at: a text may be one long
+/// line, of which many places are shown.
+fn near_start(text: &[u8], at: usize) -> usize {
+    for before in 0..at {
+        if before == MOST_BYTES_BEFORE {
+            break;
+        }
+        let index = at - before;
+        if text.get(index - 1) == Some(&b'\n') {
+            return index;
+        }
+    }
+    character_start(text, at.saturating_sub(MOST_BYTES_BEFORE), at)
+}
+
+/// Where the line ends in which a byte stands, or the last byte before which it is looked at.
+fn near_end(text: &[u8], at: usize, most: usize) -> usize {
+    let end = text.len().min(most);
+    for index in at..end {
         if text[index] == b'\n' {
             return index;
         }
     }
-    text.len()
+    end
+}
+
+/// What stands from one byte to another one, without the carriage returns at the end of a line.
+fn rest(text: &[u8], from: usize, to: usize) -> &str {
+    let words = between(text, from, to);
+    match text.get(to) {
+        Some(byte) if *byte != b'\n' => words,
+        _ => words.trim_end_matches('\r'),
+    }
 }
 
 /// The line in which a place begins.
 fn line_of(text: &[u8], place: Place) -> Line<'_> {
-    let end = line_end(text, place.from);
+    let most = place.to.saturating_add(MOST_BYTES_AFTER);
+    let end = near_end(text, place.from, most);
     let to = place.to.min(end);
     let broken = to < end && between(text, to, end).is_empty();
     let after = if broken { to + 1 } else { to };
     Line {
-        before: between(text, line_start(text, place.from), place.from),
+        before: between(text, near_start(text, place.from), place.from),
         marked: between(text, place.from, to),
         broken,
-        after: between(text, after, end).trim_end_matches('\r'),
+        after: rest(text, after, end),
     }
 }
 

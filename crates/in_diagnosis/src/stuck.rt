@@ -38,27 +38,29 @@ fn place_of(open: &OpenNet, node: u32) -> Option<Place> {
     }
 }
 
-/// Where something stands, in words.
-fn say_place(report: &mut Report, place: Place) {
-    report.say_number(" at ", place.line as usize, ":");
-    report.put(&place.col);
-}
-
-/// What a node is, in words.
-fn say_symbol(report: &mut Report, symbol: &SourceSymbol, class: Option<usize>) {
+/// Of which class a node is, in words, where it is a class node.
+fn say_class(report: &mut Report, class: Option<usize>) {
     if let Some(class) = class {
         report.say_number("class ", class, " of the head ");
     }
-    report.say_name("`", symbol.name.text.as_str(), "`");
+}
+
+/// What a node is, and where it stands, in words. A thousand nodes may be told: few calls write one.
+fn say_node_at(report: &mut Report, symbol: &SourceSymbol, class: Option<usize>, place: Place) {
+    say_class(report, class);
+    report.say_name("`", symbol.name.text.as_str(), "` at ");
+    report.put(&place.line);
+    report.say(":");
+    report.put(&place.col);
 }
 
 /// A node in words, with its place.
 fn say_node(report: &mut Report, source: &Source, open: &OpenNet, node: u32) {
-    if let Some((symbol, class)) = symbol_of(source, open, node) {
-        say_symbol(report, symbol, class);
-    }
-    if let Some(place) = place_of(open, node) {
-        say_place(report, place);
+    if let (Some((symbol, class)), Some(place)) = (
+        symbol_of(source, open, node),
+        place_of(open, node),
+    ) {
+        say_node_at(report, symbol, class, place);
     }
 }
 

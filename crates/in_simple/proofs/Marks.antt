@@ -1,8 +1,8 @@
 -- Sets that are kept by marks.
-use Rattle.std.proofs.Common.{◌≡◌, ◌≢◌, ◌<◌, ◌≤◌, ◌+◌, ◌^◌, ◌∙◌, ℕ, zero, suc, Bool, true, false, nat_eq, List, [], ◌∷◌, Some, None, length, slice_get, get_or, refl, sym, ap, inl, inr, arith}
+use Rattle.std.proofs.Common.{◌≡◌, ◌≢◌, ◌<◌, ◌≤◌, ◌+◌, ◌^◌, ◌∙◌, ℕ, zero, suc, Bool, true, false, nat_eq, List, [], ◌∷◌, Some, None, length, slice_get, get_or, refl, sym, subst, ap, inl, inr, arith}
 use Rattle.std.proofs.Math.ListN.{set}
 use Rattle.std.proofs.lemmas.Bool.{eq-eqb, ne_eqb}
-use Rattle.std.proofs.lemmas.List.{length-map, length-set, map-set}
+use Rattle.std.proofs.lemmas.List.{length-map, length-set, map-set, set-get_or}
 use Rattle.in_simple.specs.Members.{AreMarks, marked, missing, nodes_in}
 use Rattle.in_simple.proofs.Absent.{missing_cleared}
 use Rattle.in_simple.proofs.Links.{same_nat}
@@ -87,3 +87,7 @@ marks_first n ms few size none = record {
 -- a number of the set is one of the marks
 pub has_mark : (last : ℕ) (ms : List ℕ) (now : List Bool) (n : ℕ) → marked last ms ≡ now → n < length now → n < length ms
 has_mark last ms now n e l = let a = marked_many last ms in let b = ap length e in omega arith
+
+-- what is as it is to be stays so
+pub same_set : (bits : List Bool) (n : ℕ) (b : Bool) → nodes_in bits n ≡ b → bits ≡ set bits n b
+same_set bits n b e = sym (subst (λ z. set bits n z ≡ bits) e (set-get_or bits n false))

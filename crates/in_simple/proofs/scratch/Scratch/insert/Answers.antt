@@ -1,7 +1,7 @@
 use Rattle.std.proofs.Common.{◌≡◌, ◌-◌, ◌∙◌, true, false, sym, subst, ap, arith}
 use Rattle.std.proofs.Math.ListN.{set}
 use Rattle.in_simple.specs.Members.{AreMarks, marked, nodes_in}
-use Rattle.in_simple.proofs.Marks.{fewer, has_mark, marked_in, put_in}
+use Rattle.in_simple.proofs.Marks.{fewer, has_mark, marked_in, put_in, same_set}
 use Rattle.in_simple.proofs.scratch.Scratch.insert.Goals as goal
 
 pub overflow_sub-self : goal.overflow_sub-self
@@ -25,3 +25,9 @@ returns-then-not-has c =
     let s = c.self.inside in
     let small = has_mark s.last s.marks c.args.self.now c.args.number c.self.view_is c.requires in
     ap (marked s.last) c.set.ensures ∙ marked_in s.marks s.last s.absent c.self.invariant c.args.number small ∙ ap (λ z. set z c.args.number true) c.self.view_is
+
+pub set-requires : goal.set-requires
+set-requires c = has_mark c.self.inside.last c.self.inside.marks c.args.self.now c.args.number c.self.view_is c.requires
+
+pub returns-else-not-has : goal.returns-else-not-has
+returns-else-not-has c = same_set c.args.self.now c.args.number true (sym c.has.ensures ∙ c.if-not-has.false)

@@ -3,7 +3,7 @@ use Rattle.std.proofs.Math.ListN.{set}
 use Rattle.std.proofs.lemmas.List.{length-set}
 use Rattle.in_simple.specs.Members.{AreMarks, marked, nodes_in}
 use Rattle.in_simple.proofs.Absent.{missing_within}
-use Rattle.in_simple.proofs.Marks.{has_mark, marked_many, marked_out, more, put_out}
+use Rattle.in_simple.proofs.Marks.{has_mark, marked_many, marked_out, more, put_out, same_set}
 use Rattle.in_simple.proofs.Reaching.{in_length}
 use Rattle.in_simple.proofs.scratch.Scratch.take.Goals as goal
 
@@ -36,3 +36,11 @@ returns-then-has c =
     let here = sym c.has.ensures ∙ c.if-has.true in
     let small = has_mark s.last s.marks c.args.self.now n c.self.view_is (in_length c.args.self.now n here) in
     ap (marked s.last) c.set.ensures ∙ marked_out s.marks s.last s.absent c.self.invariant n small ∙ ap (λ z. set z n false) c.self.view_is
+
+pub set-requires : goal.set-requires
+set-requires c =
+    let here = sym c.has.ensures ∙ c.if-has.true in
+    has_mark c.self.inside.last c.self.inside.marks c.args.self.now c.args.number c.self.view_is (in_length c.args.self.now c.args.number here)
+
+pub returns-else-has : goal.returns-else-has
+returns-else-has c = same_set c.args.self.now c.args.number false (sym c.has.ensures ∙ c.if-has.false)
