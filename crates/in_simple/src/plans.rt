@@ -644,6 +644,7 @@ pub(crate) fn tasks_of(
     ensures room { IfOk result (λ r. HasRoom wired.now r.1) }
 {
     let (begun, list) = Begun::of(alloc, wired, part, node)?;
-    let whole = begun.touched(alloc)?.others(alloc, &list)?;
+    let touched = begun.touched(alloc)?;
+    let whole = touched.others(alloc, &list)?;
     Ok(whole.plan.into_tasks())
 }

@@ -2,11 +2,28 @@ use Rattle.std.proofs.Common.{◌∙◌, sym, subst}
 use Rattle.in_simple.specs.declared.open_nets.Point.TheVariants.{Port}
 use Rattle.in_simple.specs.ClassEdges.{ComesFirst}
 use Rattle.in_simple.specs.OpenNets.{IsWire}
+use Rattle.in_simple.proofs.Balance.{wire_turn}
+use Rattle.in_simple.proofs.ClassEdges.{class_small}
 use Rattle.in_simple.proofs.Slots.{neighbour_free, neighbour_out}
 use Rattle.in_simple.proofs.Sound.{port_place}
 use Rattle.in_simple.proofs.Sums.{not_both}
 use Rattle.in_simple.proofs.class_graphs.ClassGraph.port_edge.Goals as goal
 use Rattle.in_simple.proofs.class_graphs.ClassGraph.port_edge.Goals.{else-comes_first-via-then-comes_first+else-has, else-comes_first-via-else-comes_first}
+
+pub class_vertex-requires-clause-few : goal.class_vertex-requires-clause-few
+class_vertex-requires-clause-few c =
+    let o = c.args.part.now.wired.now in
+    let net = c.partner.ensures.net in
+    class_small o net.net c.args.part.now.nodes.now c.args.part.now.size c.args.self.now.hubs c.args.self.now.count c.requires.numbers net.nodes c.partner.result.0 c.args.node c.args.port c.partner.result.1 c.requires.here c.partner.ensures.wire
+
+pub class_vertex-requires-then-has-clause-few : goal.class_vertex-requires-then-has-clause-few
+class_vertex-requires-then-has-clause-few c =
+    let o = c.args.part.now.wired.now in
+    let net = c.partner.ensures.net in
+    let near = c.in_default-Port.near in
+    let place = c.in_default-Port.place in
+    class_small o net.net c.args.part.now.nodes.now c.args.part.now.size c.args.self.now.hubs c.args.self.now.count c.requires.numbers net.nodes c.partner.result.0 near place (Port c.args.node c.args.port) (sym c.has.ensures ∙ c.if-has.true)
+    (wire_turn o c.partner.result.0 (Port c.args.node c.args.port) (Port near place) (subst (λ z. IsWire o c.partner.result.0 (Port c.args.node c.args.port) z) c.in_default-Port.is-1 c.partner.ensures.wire))
 
 pub returns-else-comes_first : goal.returns-else-comes_first
 returns-else-comes_first c =
