@@ -6,11 +6,12 @@ use Rattle.in_net.specs.declared.nets.AgentNo.{AgentNo}
 use Rattle.in_net.specs.declared.nets.Cell.{Cell}
 use Rattle.in_net.specs.declared.nets.FreeEnd.{FreeEnd}
 use Rattle.in_net.specs.declared.nets.Point.{Point}
-use Rattle.in_net.specs.Following.{SiteParts, IsPartnerAfter}
+use Rattle.in_net.specs.Following.{SiteParts, IsSite, IsPartnerAfter}
 use Rattle.in_net.specs.Interacting.{unused, numbers_after}
 use Rattle.in_net.specs.Listing.{AreEndsOf, AreListed, unlisted}
 use Rattle.in_net.specs.Nets as nets
-use Rattle.in_net.specs.Parts.{cell_in}
+use Rattle.in_net.specs.Parts.{Parts, cell_in}
+use Rattle.in_net.specs.Rules.{RuleParts}
 
 -- the ends lead, one by one, to where the paths lead that begin at the ports of this agent
 abbrev pub AreEndsAfter : SiteParts → ℕ → List Point → Type 0
@@ -61,6 +62,13 @@ pub record IsAfter (s : SiteParts) (a : After) : Type 0 where
   pub ends : AreOuterEnds s a.ends
   pub few : length a.wires ≤ length a.ends + (max_ports + 1) * count_by is_some a.cells
   pub listed : (free : List FreeEnd) → AreEndsOf a.ends free → AreListed (unlisted a.cells free) (λ p. Unit {0}) a.wires
+
+-- .. after these two interact, wherever their site is written
+pub record IsAfterPair (n : Parts) (r : RuleParts) (a b : AgentNo) (x : After) : Type 0 where
+  pub first : ℕ
+  pub names : List AgentNo
+  pub site : IsSite (record { net = n; rule = r; one = a; two = b; first = first; names = names })
+  pub after : IsAfter (record { net = n; rule = r; one = a; two = b; first = first; names = names }) x
 
 -- each free end gets its partner, and keeps its name and type
 pub record Rejoins (ends : List Point) (old new : List FreeEnd) : Type 0 where

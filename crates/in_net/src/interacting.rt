@@ -1,5 +1,5 @@
 ghost use Rattle.std.specs.Prelude.{◌≡◌, ◌≢◌, ℕ, ◌+◌, ◌^◌, ◌<◌, length, count_by, is_some, IfOk, OnOk, OnErr, MatchOption};
-ghost use Rattle.in_net.specs.After.{AreEmptyNumbers, AreUnused, StaysAt, IsAgentAfter, IsCellAfter, AreCellsAfter, AreOuterEnds, IsAfter, Rejoins};
+ghost use Rattle.in_net.specs.After.{AreEmptyNumbers, AreUnused, StaysAt, IsAgentAfter, IsCellAfter, AreCellsAfter, AreOuterEnds, IsAfter, IsAfterPair, Rejoins};
 ghost use Rattle.in_net.specs.Interacting.{unused, numbers_after, MayInteract, Interacts};
 ghost use Rattle.in_net.specs.Parts.{cell_in};
 ghost use Rattle.in_net.specs.declared.nets.Cell.{Cell};
@@ -204,6 +204,47 @@ pub(crate) fn arity(net: &Net, agent: AgentNo) -> u32
     }
 }
 
+/// The agents, the partners of the free ends, and the wires after the two interact.
+fn after_pair(
+    alloc: Global,
+    net: &Net,
+    rule: &Rule,
+    a: AgentNo,
+    b: AgentNo,
+) -> Result<After, AllocError>
+    requires { MayInteract net.now rule.now a b }
+    ensures { IfOk result (IsAfterPair net.now rule.now a b) }
+{
+    let _ = &net.cells;
+    let _ = &rule.member;
+    let right = rule.member();
+    let _ = &right.cells;
+    let names = unused(alloc, net.cells(), right.cells().len())?;
+    let site = Site {
+        net,
+        rule,
+        one: a,
+        two: b,
+        first: arity(net, a),
+        names: names.as_slice(),
+    };
+    site.after(alloc)
+}
+
+/// Makes the net that of after the interaction.
+fn renew(alloc: Global, net: &mut Net, after: After)
+    requires { (r : _) × (a : _) × (b : _) × IsAfterPair net.old r a b after }
+    ensures { (r : _) (a : _) (b : _) → IsAfterPair net.old r a b after → Interacts net.old r a b net.new }
+{
+    let _ = &net.cells;
+    let After { cells, ends, wires } = after;
+    net.cells = cells;
+    rejoin(&mut net.free, ends.as_slice());
+    net.wires = wires;
+    net.places = Items::new(alloc);
+    net.built = false;
+}
+
 /// Replaces an active pair by the right member of the rule of its two symbols.
 ///
 /// Lafont 1990: both agents go, and the right member takes their place on the same boundary ends. A wire of the net after is a path that
@@ -225,24 +266,7 @@ pub fn interact(
     ensures ok { OnOk result (Interacts net.old rule.now a b net.new) }
     ensures err { OnErr result (net.new ≡ net.old) }
 {
-    let _ = &net.cells;
-    let _ = &rule.member;
-    let right = rule.member();
-    let _ = &right.cells;
-    let names = unused(alloc, net.cells(), right.cells().len())?;
-    let site = Site {
-        net,
-        rule,
-        one: a,
-        two: b,
-        first: arity(net, a),
-        names: names.as_slice(),
-    };
-    let After { cells, ends, wires } = site.after(alloc)?;
-    net.cells = cells;
-    rejoin(&mut net.free, ends.as_slice());
-    net.wires = wires;
-    net.places = Items::new(alloc);
-    net.built = false;
+    let after = after_pair(alloc, net, rule, a, b)?;
+    renew(alloc, net, after);
     Ok(())
 }

@@ -1,5 +1,5 @@
 -- From each point that stays the path lands, within few turns, at the point to which it is joined.
-use Rattle.std.proofs.Common.{◌≡◌, ◌≢◌, ◌+◌, ◌*◌, ◌-◌, ◌≤◌, ◌<◌, ℕ, zero, suc, Bool, true, false, cond, nat_eq, nat_lt, Option, Some, None, List, [], ◌∷◌, length, slice_get, refl, sym, subst, ap, inl, inr, ◌∙◌, arith, eq-eqb}
+use Rattle.std.proofs.Common.{◌≡◌, ◌+◌, ◌*◌, ◌-◌, ◌≤◌, ◌<◌, ℕ, zero, suc, Bool, true, false, cond, nat_eq, nat_lt, Option, Some, None, List, [], ◌∷◌, length, slice_get, refl, sym, subst, ap, inl, inr, ◌∙◌, arith, eq-eqb}
 use Rattle.std.proofs.lemmas.Bool.{ne_eqb}
 use native.Mathlib.Decide.{ℕ_discrete}
 use Rattle.in_net.specs.declared.nets.AgentNo.{AgentNo}
