@@ -8,6 +8,7 @@ ghost use Rattle.in_symbols.specs.Tables.{IsTabled, Tabulates};
 ghost use Rattle.in_net.specs.Built.{IsOver};
 ghost use Rattle.in_net.specs.Rules.{IsRuleOver};
 ghost use Rattle.in_cover.specs.Cover.{IsOfPair};
+ghost use Rattle.in_check.specs.Certificates.{CertifiesRules};
 ghost use Rattle.in_check.specs.Programs.{Program};
 ghost use Rattle.in_check.specs.Promises.{ReachesAsPromised};
 ghost use Rattle.in_check.specs.Systems.{system_of};
@@ -115,6 +116,18 @@ fn check_net_steps(
     }
 }
 
+/// The steps of the rules.
+fn rule_steps(
+    alloc: Global,
+    declared: &Declared,
+    part: &mut Option<StuckPart>,
+) -> Result<Items<Certificate>, Fault>
+    requires { AreOfText declared.now.symbols declared.now.rules declared.now.net }
+    ensures { CertifiesRules declared.now.symbols declared.now.rules result }
+{
+    certify_rules(alloc, &declared.symbols, declared.rules.as_slice(), part)
+}
+
 /// The steps of the rules, and then those of the net.
 fn check_rule_steps(
     alloc: Global,
@@ -125,7 +138,7 @@ fn check_rule_steps(
     requires { AreOfText declared.symbols declared.rules declared.net }
     ensures { ChecksRuleSteps declared.symbols declared.rules declared.net numbers result }
 {
-    match certify_rules(alloc, &declared.symbols, declared.rules.as_slice(), part) {
+    match rule_steps(alloc, &declared, part) {
         Ok(certificates) => check_net_steps(alloc, declared, numbers, certificates, part),
         Err(fault) => {
             drop((declared, numbers));
@@ -165,9 +178,9 @@ fn check_types(
     let rules = declared.rules.as_slice();
     match type_pass(&declared.symbols, rules, &declared.net) {
         Ok(()) => check_pairs(alloc, declared, part),
-        Err(fault) => {
+        Err(mistyped) => {
             drop(declared);
-            Err(fault)
+            Err(mistyped)
         }
     }
 }
