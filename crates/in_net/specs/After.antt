@@ -63,7 +63,7 @@ pub record IsAfter (s : SiteParts) (a : After) : Type 0 where
   pub few : length a.wires ≤ length a.ends + (max_ports + 1) * count_by is_some a.cells
   pub listed : (free : List FreeEnd) → AreEndsOf a.ends free → AreListed (unlisted a.cells free) (λ p. Unit {0}) a.wires
 
--- .. after these two interact, wherever their site is written
+-- .. after these two interact: their site has so many auxiliary places of the first one, and these numbers for the new agents
 pub record IsAfterPair (n : Parts) (r : RuleParts) (a b : AgentNo) (x : After) : Type 0 where
   pub first : ℕ
   pub names : List AgentNo

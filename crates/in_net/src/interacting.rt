@@ -231,7 +231,7 @@ fn after_pair(
     site.after(alloc)
 }
 
-/// Makes the net that of after the interaction.
+/// Puts the agents, the partners of the free ends, and the wires after the interaction into the net.
 fn renew(alloc: Global, net: &mut Net, after: After)
     requires { (r : _) × (a : _) × (b : _) × IsAfterPair net.old r a b after }
     ensures { (r : _) (a : _) (b : _) → IsAfterPair net.old r a b after → Interacts net.old r a b net.new }

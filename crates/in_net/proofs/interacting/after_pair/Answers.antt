@@ -1,6 +1,6 @@
 use Rattle.std.proofs.Common.{◌≡◌, ◌≤◌, ◌<◌, ◌+◌, ◌^◌, ℕ, Option, Some, List, length, count_by, is_some, sym, ap, subst, ◌∙◌, arith}
 use Rattle.in_net.specs.After.{AreUnused}
-use Rattle.in_net.specs.Following.{SiteParts, IsSite}
+use Rattle.in_net.specs.Following.{IsSite}
 use Rattle.in_net.specs.Interacting.{MayInteract}
 use Rattle.in_net.specs.NetFaults.{max_member_agents}
 use Rattle.in_net.specs.Parts.{Parts, IsWhole, cell_in}
@@ -39,7 +39,6 @@ invariant_of-site c =
     let many : length c.cells-2.result.now ≡ length c.args.rule.now.member.cells = ap length (c.cells-2.ensures ∙ ap (λ (m : Parts). m.cells) c.member-right.ensures) in
     let found : AreUnused n.cells (length c.cells-2.result.now) c.as_slice.result.now =
     subst (AreUnused n.cells (length c.cells-2.result.now)) (sym c.as_slice.ensures.value) (subst (λ (cs : List (Option Cell)). AreUnused cs (length c.cells-2.result.now) c.in_ok-names.names.items) c.cells.ensures (c.in_ok-names.ensures {u = tt})) in
-    let at : SiteParts = record { net = c.args.net.now; rule = c.args.rule.now; one = c.args.a; two = c.args.b; first = c.arity.result; names = c.as_slice.result.now } in
     let site : IsSite (record { net = c.args.net.now; rule = c.args.rule.now; one = c.args.a; two = c.args.b; first = c.arity.result; names = c.as_slice.result.now }) =
     is_site n c.args.rule.now c.args.a c.args.b c.as_slice.result.now c.arity.result (length c.cells-2.result.now) c.requires (subst IsWhole c.net.view_is c.net.invariant) (subst IsWhole (c.right.view_is ∙ c.member-right.ensures) c.right.invariant)
     (subst (λ (r : RuleParts). length r.member.cells ≤ max_member_agents) c.rule.view_is c.rule.invariant) c.arity.ensures many found in
