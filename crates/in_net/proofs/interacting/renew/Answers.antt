@@ -1,7 +1,7 @@
-use Rattle.std.proofs.Common.{◌≡◌, ◌≤◌, ◌+◌, ◌*◌, ℕ, false, List, length, count_by, is_some, sym, ap, subst, ◌∙◌}
+use Rattle.std.proofs.Common.{◌≡◌, ◌≤◌, ◌+◌, ◌*◌, ℕ, false, List, [], length, count_by, is_some, sym, ap, subst, ◌∙◌}
 use Rattle.in_syntax.specs.Grammar.{max_ports}
 use Rattle.in_net.specs.After.{IsAfter, Rejoins}
-use Rattle.in_net.specs.Following.{SiteParts}
+use Rattle.in_net.specs.Following.{SiteParts, IsSite}
 use Rattle.in_net.specs.Interacting.{Interacts}
 use Rattle.in_net.specs.Listing.{AreListed, unlisted}
 use Rattle.in_net.specs.Parts.{Parts, IsWhole, as_built}
@@ -23,31 +23,32 @@ few_of s a free after new = subst (λ (k : ℕ). length a.wires ≤ k + (max_por
 abbrev site_of : Parts → RuleParts → AgentNo → AgentNo → ℕ → List AgentNo → SiteParts
 site_of n r a b first names = record { net = n; rule = r; one = a; two = b; first = first; names = names }
 
+-- the net with what is new, and with its free ends joined anew, is whole, and that of the definition
+renewed : (s : SiteParts) (x : After) (free : List FreeEnd) → IsSite s → IsAfter s x → Rejoins x.ends s.net.free free →
+    IsWhole (record (as_built x.cells free x.wires []) { built = false }) × Interacts s.net s.rule s.one s.two (record (as_built x.cells free x.wires []) { built = false })
+renewed s x free site is new =
+    let frees = all_rejoined s x.ends free is.ends new in
+    let listed = listed_of s x free is new in
+    let few = few_of s x free is new in
+    (whole s site x.cells free x.wires is.count is.cells frees listed few, interacts s site x.cells free x.wires is.count is.cells frees listed few)
+
+rejoins : (ends new : List Point) (old net free : List FreeEnd) → new ≡ ends → old ≡ net → Rejoins new old free → Rejoins ends net free
+rejoins ends new old net free e f r = subst (λ (ps : List Point). Rejoins ps net free) e (subst (λ (fs : List FreeEnd). Rejoins new fs free) f r)
+
 pub invariant_of-net : goal.invariant_of-net
 invariant_of-net c =
     let n = c.args.net.now in
     let x = c.requires.3 in
-    let at = site_of n c.requires.0 c.requires.1 c.requires.2 x.first x.names in
     let after : After = c.args.after in
-    let is = x.after in
     let free = c.rejoin.new.free.items in
-    let old : c.net.inside.free.items ≡ n.free = ap (λ (m : Parts). m.free) c.net.view_is in
-    let new : Rejoins after.ends n.free free =
-    subst (λ (ps : List Point). Rejoins ps n.free free) c.as_slice.ensures (subst (λ (fs : List FreeEnd). Rejoins c.as_slice.result.now fs free) old c.rejoin.ensures) in
-    let frees = all_rejoined at after.ends free is.ends new in
-    subst (λ ps. IsWhole (record (as_built after.cells free after.wires ps) { built = false })) (sym c.new.ensures) (whole at x.site after.cells free after.wires is.count is.cells frees (listed_of at after free is new) (few_of at after free is new))
+    let new = rejoins after.ends c.as_slice.result.now c.net.inside.free.items n.free free c.as_slice.ensures (ap (λ (m : Parts). m.free) c.net.view_is) c.rejoin.ensures in
+    subst (λ ps. IsWhole (record (as_built after.cells free after.wires ps) { built = false })) (sym c.new.ensures) (renewed (site_of n c.requires.0 c.requires.1 c.requires.2 x.first x.names) after free x.site x.after new).0
 
 pub returns : goal.returns
 returns c =
     λ r a b x.
     let n = c.args.net.now in
-    let at = site_of n r a b x.first x.names in
     let after : After = c.args.after in
-    let is = x.after in
     let free = c.rejoin.new.free.items in
-    let old : c.net.inside.free.items ≡ n.free = ap (λ (m : Parts). m.free) c.net.view_is in
-    let new : Rejoins after.ends n.free free =
-    subst (λ (ps : List Point). Rejoins ps n.free free) c.as_slice.ensures (subst (λ (fs : List FreeEnd). Rejoins c.as_slice.result.now fs free) old c.rejoin.ensures) in
-    let frees = all_rejoined at after.ends free is.ends new in
-    subst (λ ps. Interacts n r a b (record (as_built after.cells free after.wires ps) { built = false })) (sym c.new.ensures)
-    (interacts at x.site after.cells free after.wires is.count is.cells frees (listed_of at after free is new) (few_of at after free is new))
+    let new = rejoins after.ends c.as_slice.result.now c.net.inside.free.items n.free free c.as_slice.ensures (ap (λ (m : Parts). m.free) c.net.view_is) c.rejoin.ensures in
+    subst (λ ps. Interacts n r a b (record (as_built after.cells free after.wires ps) { built = false })) (sym c.new.ensures) (renewed (site_of n r a b x.first x.names) after free x.site x.after new).1
