@@ -7,6 +7,7 @@ use Rattle.in_simple.specs.declared.plans.Plan.{Plan}
 use Rattle.in_simple.specs.declared.plans.Task.{Task}
 use Rattle.in_simple.specs.declared.plans.Task.TheVariants.{Make}
 use Rattle.in_simple.specs.Constructions.{IsIn, AreParts, IsGraft}
+use Rattle.in_simple.specs.Pieces.{AreJoined}
 use Rattle.in_simple.specs.Splitting.{alone}
 use Rattle.in_simple.specs.OpenNets.{OpenNet, IsAgent, IsPointOf, IsWire, IsOpenNet, class_in, classes_of, open_graph}
 use Rattle.in_simple.specs.Derivations.{Part, Graft, is_port_in}
@@ -24,7 +25,8 @@ use Rattle.in_simple.proofs.Forest.{length_app}
 use Rattle.in_simple.proofs.Make.{port_most, hanging, hanging_is, hanging_yes, fit_graft}
 use Rattle.in_simple.proofs.Joining.{shape_same, built_over, fits_link, fits_mix}
 use Rattle.in_simple.proofs.Stacking.{none_more}
-use Rattle.in_simple.proofs.Nets.{Joined, joined_on, joined_back, joined_first, joined_last, joined_near, not_root, done_on, in_both, component_new, puts_none, puts_make, puts_derive}
+use Rattle.in_simple.proofs.OnePiece.{joined_back, joined_on}
+use Rattle.in_simple.proofs.Nets.{joined_first, joined_last, joined_near, not_root, done_on, in_both, component_new, puts_none, puts_make, puts_derive}
 use Rattle.std.proofs.lemmas.Bool.{and_from, or_cases, or_left, or_right}
 
 module _ (o : OpenNet) (net : IsOpenNet o) (n : ℕ) where
@@ -34,8 +36,8 @@ module _ (o : OpenNet) (net : IsOpenNet o) (n : ℕ) where
   at_port : (i w v : ℕ) (p q : Point) → IsWire o w (Port n i) p → IsWire o v (Port n i) q → (w ≡ v) × (p ≡ q)
   at_port i w v p q h g = net.once w v (Port n i) p q h g
 
-  met_at : (rest : List Bool) (i w l k m : ℕ) → IsWire o w (Port n i) (Port l k) → Meets o rest n i m → Joined o net n rest l m
-  met_at rest i w l k m wire x = subst (λ z. Joined o net n rest z m) (sym (port_place l x.1 k x.2 (at_port i w x.0 (Port l k) (Port x.1 x.2) wire x.3).1).0) x.4
+  met_at : (rest : List Bool) (i w l k m : ℕ) → IsWire o w (Port n i) (Port l k) → Meets o rest n i m → AreJoined o rest l m
+  met_at rest i w l k m wire x = subst (λ z. AreJoined o rest z m) (sym (port_place l x.1 k x.2 (at_port i w x.0 (Port l k) (Port x.1 x.2) wire x.3).1).0) x.4
 
   no_lead : (rest : List Bool) (i w l k v : ℕ) → IsWire o w (Port n i) (Port l k) → IsIn l (nodes_in rest) → LeadsOff o rest n i v → ⊥
   no_lead rest i w l k v wire here x =
@@ -160,7 +162,7 @@ module _ (o : OpenNet) (net : IsOpenNet o) (n : ℕ) where
   -- ---- what a port meets
 
   meets_class : (t : ℕ) (p : Plan) → IsPlan o n t p → (i j m : ℕ) → Meets o p.rest n i m → Meets o p.rest n j m → class_in o n i ≡ class_in o n j
-  meets_class t p h i j m x y = (h.splits i).touched j x.0 y.0 x.1 y.1 x.2 y.2 x.3 y.3 (joined_on o net n p.rest x.1 m y.1 x.4 (joined_back o net n p.rest y.1 m y.4))
+  meets_class t p h i j m x y = (h.splits i).touched j x.0 y.0 x.1 y.1 x.2 y.2 x.3 y.3 (joined_on o p.rest x.1 m y.1 x.4 (joined_back o p.rest y.1 m y.4))
 
   meets_in : (rest : List Bool) (i m : ℕ) → Meets o rest n i m → IsIn m (nodes_in rest)
   meets_in rest i m x = joined_last o net n rest x.1 m x.4
@@ -168,8 +170,8 @@ module _ (o : OpenNet) (net : IsOpenNet o) (n : ℕ) where
   -- ---- one port more
 
   module _ (agent : IsAgent o n) (t : ℕ) (p : Plan) (h : IsPlan o n t p) (b : ℕ) (aux : 0 < b) where
-    meets_on : (i l m : ℕ) → Meets o p.rest n i l → Joined o net n p.rest l m → Meets o p.rest n i m
-    meets_on i l m x k = (x.0, x.1, x.2, x.3, joined_on o net n p.rest x.1 l m x.4 k)
+    meets_on : (i l m : ℕ) → Meets o p.rest n i l → AreJoined o p.rest l m → Meets o p.rest n i m
+    meets_on i l m x k = (x.0, x.1, x.2, x.3, joined_on o p.rest x.1 l m x.4 k)
 
     -- an own wire to an earlier port comes from a port of the same class, which is no principal one
     past_class : (w j : ℕ) → 0 < class_in o n b → j < b → IsWire o w (Port n b) (Port n j) → IsBelow b j × (class_in o n j ≡ class_in o n b)
@@ -467,7 +469,7 @@ module _ (o : OpenNet) (net : IsOpenNet o) (n : ℕ) where
           let x = other l g d in
           let y = other m k e in
           let near = joined_near o net n p.rest w.0 l i m j w.1 (meets_in p.rest x.0 l x.2) (meets_in p.rest y.0 m y.2) in
-          let z : Meets o p.rest n x.0 m = (x.2.0, x.2.1, x.2.2, x.2.3, joined_on o net n p.rest x.2.1 l m x.2.4 near) in
+          let z : Meets o p.rest n x.0 m = (x.2.0, x.2.1, x.2.2, x.2.3, joined_on o p.rest x.2.1 l m x.2.4 near) in
           (part_of l x.0 x.1 x.2).0 ∙ sym (part_of m x.0 x.1 z).0;
     }
 

@@ -23,6 +23,7 @@ pub mod Nets
 pub mod NoCircle
 pub mod OneAnswer
 pub mod OneOrder
+pub mod OnePiece
 pub mod Planning
 pub mod Reaching
 pub mod Search

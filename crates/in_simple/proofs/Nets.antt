@@ -9,7 +9,8 @@ use Rattle.in_simple.specs.declared.plans.Plan.{Plan}
 use Rattle.in_simple.specs.declared.plans.Task.{Task}
 use Rattle.in_simple.specs.declared.plans.Task.TheVariants.{Derive, Make}
 use Rattle.in_simple.specs.Constructions.{IsIn, AreParts}
-use Rattle.in_simple.specs.Splitting.{Linked, alone, onward, Without}
+use Rattle.in_simple.specs.Pieces.{AreJoined}
+use Rattle.in_simple.specs.Splitting.{alone, onward, Without}
 use Rattle.in_simple.specs.OpenNets.{OpenNet, IsAgent, IsClass, IsWire, IsOpenNet, class_in, open_graph}
 use Rattle.in_simple.specs.Stuck.{IsPart, ports_of, ComesAt}
 use Rattle.in_simple.specs.Procedure.{nodes_in, IsRest, IsPlan, HasTurn, Derives, with_task}
@@ -17,12 +18,13 @@ use Rattle.in_simple.specs.Stacks.{Shape, shape, no_wires, Fits, Runs, Puts}
 use Rattle.in_simple.specs.Planned.{net_of, PutsNet, with_empty, Skips}
 use Rattle.in_simple.proofs.Sums.{not_both, same_test}
 use Rattle.in_simple.proofs.Sound.{port_place}
-use Rattle.in_simple.proofs.Links.{same_nat, link_join, link_back, link_first, link_map}
-use Rattle.in_simple.proofs.Search.{is_in, in_ports, turn_one_port_most, without, linked, component, is_component, comes_at, test_yes}
+use Rattle.in_simple.proofs.Links.{same_nat, link_join, link_first, link_map}
+use Rattle.in_simple.proofs.Search.{in_ports, turn_one_port_most, without, linked, component, is_component, comes_at, test_yes}
 use Rattle.in_simple.proofs.Grow.{class_is_place, agent_or_class}
 use Rattle.in_simple.proofs.Make.{OnlyWire, agents_apart}
 use Rattle.in_simple.proofs.Joining.{shape_same, fits_empty, fits_given, fits_cut, fits_mix}
 use Rattle.in_simple.proofs.Stacking.{none_more, runs_make, runs_derive}
+use Rattle.in_simple.proofs.OnePiece.{joined_back}
 use Rattle.in_simple.proofs.Planning.{in_net, part_inside, reached_part, node_turn}
 use Rattle.std.proofs.lemmas.Bool.{or_cases, or_left, or_right}
 use Rattle.in_base.proofs.Each.{at_index}
@@ -62,22 +64,13 @@ skips_more k p q r s e = record {
 module _ (o : OpenNet) (net : IsOpenNet o) (n : ℕ) where
   -- ---- joined in the rest
 
-  abbrev pub Joined : List Bool → ℕ → ℕ → Type 0
-  Joined rest l m = Linked (open_graph o) (λ m. IsIn m (nodes_in rest)) l m
-
-  pub joined_on : (rest : List Bool) (l m k : ℕ) → Joined rest l m → Joined rest m k → Joined rest l k
-  joined_on rest = link_join o (λ m. IsIn m (nodes_in rest)) (λ m. is_in m (nodes_in rest))
-
-  pub joined_back : (rest : List Bool) (l m : ℕ) → Joined rest l m → Joined rest m l
-  joined_back rest = link_back o (λ m. IsIn m (nodes_in rest)) (λ m. is_in m (nodes_in rest))
-
-  pub joined_first : (rest : List Bool) (l m : ℕ) → Joined rest l m → IsIn l (nodes_in rest)
+  pub joined_first : (rest : List Bool) (l m : ℕ) → AreJoined o rest l m → IsIn l (nodes_in rest)
   joined_first rest = link_first (open_graph o) (λ m. IsIn m (nodes_in rest))
 
-  pub joined_last : (rest : List Bool) (l m : ℕ) → Joined rest l m → IsIn m (nodes_in rest)
-  joined_last rest l m h = joined_first rest m l (joined_back rest l m h)
+  pub joined_last : (rest : List Bool) (l m : ℕ) → AreJoined o rest l m → IsIn m (nodes_in rest)
+  joined_last rest l m h = joined_first rest m l (joined_back o rest l m h)
 
-  pub joined_near : (rest : List Bool) (w l i m j : ℕ) → IsWire o w (Port l i) (Port m j) → IsIn l (nodes_in rest) → IsIn m (nodes_in rest) → Joined rest l m
+  pub joined_near : (rest : List Bool) (w l i m j : ℕ) → IsWire o w (Port l i) (Port m j) → IsIn l (nodes_in rest) → IsIn m (nodes_in rest) → AreJoined o rest l m
   joined_near rest w l i m j h a b = onward l m m i j a (w, h) (alone m b)
 
   -- ---- what is derived
@@ -89,7 +82,7 @@ module _ (o : OpenNet) (net : IsOpenNet o) (n : ℕ) where
     pub done_in : (m : ℕ) → IsIn m (nodes_in p.done) → IsIn m (nodes_in p.rest)
     done_in m here = let x = (h.done m).0 here in (part_inside o net n (nodes_in p.rest) (in_net o net n t p h) x.0 x.2 m x.5).0
 
-    pub done_on : (m k : ℕ) → IsIn m (nodes_in p.done) → Joined p.rest m k → IsIn k (nodes_in p.done)
+    pub done_on : (m k : ℕ) → IsIn m (nodes_in p.done) → AreJoined o p.rest m k → IsIn k (nodes_in p.done)
     done_on m k here link =
         let x = (h.done m).0 here in
         let part = x.2 in
@@ -111,7 +104,7 @@ module _ (o : OpenNet) (net : IsOpenNet o) (n : ℕ) where
       )
 
       pub component_new : (m : ℕ) → IsIn m (nodes_in d.component) → IsIn m (nodes_in p.done) → ⊥
-      component_new m a b = not_both (nodes_in p.done l) (done_on m l b (joined_back p.rest l m ((d.reached m).0 a))) off
+      component_new m a b = not_both (nodes_in p.done l) (done_on m l b (joined_back o p.rest l m ((d.reached m).0 a))) off
 
       component_in : (m : ℕ) → IsIn m (nodes_in d.component) → IsIn m (nodes_in p.rest)
       component_in m a = joined_last p.rest l m ((d.reached m).0 a)

@@ -1,5 +1,5 @@
 -- A search from a node reaches its component.
-use Rattle.std.proofs.Common.{◌≡◌, ◌⊎◌, ◌<◌, ◌≤◌, ◌+◌, ℕ, zero, suc, Bool, true, false, Some, None, List, [], ◌∷◌, ◌++◌, length, drop, length-append, refl, sym, subst, inl, inr, ◌∙◌, arith}
+use Rattle.std.proofs.Common.{◌≡◌, ◌⊎◌, ◌<◌, ◌≤◌, ◌+◌, ℕ, zero, suc, Bool, true, false, Some, None, List, [], ◌∷◌, ◌++◌, length, get_or, drop, length-append, add-one, refl, sym, subst, inl, inr, ◌∙◌, arith}
 use Rattle.std.proofs.Math.ListN.{set}
 use Rattle.std.proofs.lemmas.List.{length-set, get_or-set_same, get_or-set_other}
 use Rattle.in_simple.specs.declared.open_nets.Point.TheVariants.{Port}
@@ -13,6 +13,7 @@ use Rattle.in_simple.proofs.Absent.{has_all}
 use Rattle.in_simple.proofs.Links.{same_nat, link_last, link_snoc}
 use Rattle.in_simple.proofs.Search.{in_ports}
 use Rattle.in_simple.proofs.Sound.{port_place}
+use Rattle.in_simple.proofs.VerifySets.{any_default, drop_here}
 
 pub in_length : (bits : List Bool) (n : ℕ) → IsIn n (nodes_in bits) → n < length bits
 in_length [] n h = cc
@@ -45,6 +46,12 @@ drop_all zero [] l = refl
 drop_all zero (x ∷ xs) l = absurd (omega arith)
 drop_all (suc k) [] l = refl
 drop_all (suc k) (x ∷ xs) l = drop_all k xs (omega arith)
+
+-- the next node that was found
+pub next_found : (found : List ℕ) (place node : ℕ) → place < length found → node ≡ get_or found place node → drop place found ≡ node ∷ drop (place + 1) found
+next_found found place node l e =
+    subst (λ z. drop place found ≡ node ∷ drop z found) (sym (add-one place))
+    (subst (λ z. drop place found ≡ z ∷ drop (suc place) found) (sym (e ∙ any_default found place node 0 l)) (drop_here found place l))
 
 pub missing_set : (bits : List Bool) (l : ℕ) → l < length bits → nodes_in bits l ≡ false → missing (set bits l true) + 1 ≡ missing bits
 missing_set [] l h e = absurd (omega arith)

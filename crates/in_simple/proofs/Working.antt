@@ -7,9 +7,10 @@ use Rattle.in_simple.specs.Constructions.{IsIn}
 use Rattle.in_simple.specs.Splitting.{alone, Without, IsFirstSplitting, first}
 use Rattle.in_simple.specs.OpenNets.{OpenNet, IsOpenNet, IsDerivable, open_graph}
 use Rattle.in_simple.specs.Stuck.{IsPart, Among, ComesAt, FirstStuck, IsFirstStuck, Rises, whole, within}
-use Rattle.in_simple.specs.Procedure.{nodes_in, AllSplit, HasNone, IsFirst, NoneSplits, Lists, AreSized, AreMakes, StuckIn, pending_in, AreApart, IsWork, StartsWork, Passes}
+use Rattle.in_simple.specs.Procedure.{nodes_in, AllSplit, HasNone, IsFirst, NoneSplits, Lists, AreSized, AreMakes, StuckIn, pending_in, AreApart, ArePieces, IsWork, StartsWork, Passes}
 use Rattle.in_simple.proofs.Sums.{not_both}
 use Rattle.in_simple.proofs.Links.{same_nat, at_most, link_first, link_back}
+use Rattle.in_simple.proofs.OnePiece.{component_piece, missing_none}
 use Rattle.in_simple.proofs.Reaching.{in_length}
 use Rattle.in_simple.proofs.Search.{count, count_less, comes_at, one_turn, turn_same, meet_same, without}
 use Rattle.in_simple.proofs.Both.{derivable_splits, one_first_stuck}
@@ -38,6 +39,11 @@ makes_apart [] h = tt
 makes_apart (Derive c ∷ ts) h = absurd h
 makes_apart (Make y ∷ ts) h = makes_apart ts h
 
+makes_pieces : (o : OpenNet) (ts : List Task) → AreMakes ts → ArePieces o ts
+makes_pieces o [] h = tt
+makes_pieces o (Derive c ∷ ts) h = absurd h
+makes_pieces o (Make y ∷ ts) h = makes_pieces o ts h
+
 makes_none : (ts : List Task) → AreMakes ts → (m : ℕ) → pending_in ts m ≡ false
 makes_none [] h m = refl
 makes_none (Derive c ∷ ts) h m = absurd h
@@ -47,6 +53,7 @@ empty_work : (o : OpenNet) (ts : List Task) → length o.nodes ≡ 0 → AreMake
 empty_work o ts e h = record {
   sized = makes_sized (length o.nodes) ts h;
   apart = makes_apart ts h;
+  pieces = makes_pieces o ts h;
   whole = λ m. false;
   nodes = λ n. ((λ k. absurd (not_both false k refl)), λ k. absurd (omega arith));
   stuck = λ t s. absurd (makes_stuck o ts t h s);
@@ -58,6 +65,7 @@ start_work o (Make x ∷ ts) h = empty_work o (Make x ∷ ts) h.0 h.1
 start_work o (Derive c ∷ ts) h = record {
   sized = (h.0, (0, h.2 0 h.1), makes_sized (length o.nodes) ts h.3);
   apart = ((λ m k g. not_both (pending_in ts m) g (makes_none ts h.3 m)), makes_apart ts h.3);
+  pieces = ((λ some. let none = missing_none c (λ m l. let size = h.0 in h.2 m (omega arith)) in absurd (omega arith)), makes_pieces o ts h.3);
   whole = nodes_in c;
   nodes = λ n. ((λ k. let a = in_length c n k in let b = h.0 in omega arith), h.2 n);
   stuck = λ t s. elim s [ inl f ↦ f | inr f ↦ absurd (makes_stuck o ts t h.3 f.1) ];
@@ -70,7 +78,7 @@ pub pass_make : (a b : List Task) (x : Joint) → Passes a (Make x ∷ b) → Pa
 pass_make a b x h = ((λ o w. go o (h.0 o w)), h.1)
   where
     go : (o : OpenNet) → IsWork o (Make x ∷ b) → IsWork o b
-    go o w = record { sized = w.sized; apart = w.apart; whole = w.whole; nodes = w.nodes; stuck = w.stuck }
+    go o w = record { sized = w.sized; apart = w.apart; pieces = w.pieces; whole = w.whole; nodes = w.nodes; stuck = w.stuck }
 
 -- ---- a part that a node splits
 
@@ -112,6 +120,12 @@ module _ (o : OpenNet) (net : IsOpenNet o) where
       apart_more (suc h.0) ps ts h.5 a off,
     )
 
+    -- the components are in one piece each
+    pieces_more : (low : ℕ) (ps ts : List Task) → Lists o n s low ps → ArePieces o ts → ArePieces o (ps ++ ts)
+    pieces_more low [] ts h a = a
+    pieces_more low (Make x ∷ ps) ts h a = pieces_more low ps ts h a
+    pieces_more low (Derive c ∷ ps) ts h a = ((λ some. component_piece o (Without n s) (without o net s in_net n) c h.2), pieces_more (suc h.0) ps ts h.5 a)
+
     module _ (f : IsFirstSplitting (open_graph o) (λ m n. m < n) n s) where
       abbrev SplitBefore : ℕ → Type 0
       SplitBefore low = (d : ℕ → Bool) (l : ℕ) → IsPart o n s d → ComesAt o n d l → l < low → AllSplit o d
@@ -143,6 +157,7 @@ module _ (o : OpenNet) (net : IsOpenNet o) where
   expand_work part n ps ts w f h sized = record {
     sized = sized_more (length o.nodes) ps ts sized w.sized.2;
     apart = apart_more n (nodes_in part) (part_in_net part ts w) 0 ps ts h w.apart.1 w.apart.0;
+    pieces = pieces_more n (nodes_in part) (part_in_net part ts w) 0 ps ts h w.pieces.1;
     whole = w.whole;
     nodes = w.nodes;
     stuck = λ t s. w.stuck t (stuck_more n (nodes_in part) (part_in_net part ts w) f 0 ps ts (λ d l p c e. absurd (omega arith)) h t s);

@@ -7,6 +7,7 @@ pub mod Joints
 pub mod Laws
 pub mod Members
 pub mod OpenNets
+pub mod Pieces
 pub mod Outcomes
 pub mod Planned
 pub mod Procedure

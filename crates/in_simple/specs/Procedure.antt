@@ -1,5 +1,5 @@
 -- What the procedure that looks for a derivation keeps true. Sets of nodes are lists of tests, node by node.
-use Rattle.std.specs.Prelude.{◌≡◌, ◌⊎◌, ◌↔◌, ℕ, suc, ◌+◌, ◌*◌, ◌<◌, ◌≤◌, Bool, true, false, ◌||◌, List, [], ◌∷◌, ◌++◌, length, drop, slice_set, slice_index_or, Option, Some, None, MatchOption}
+use Rattle.std.specs.Prelude.{◌≡◌, ◌⊎◌, ◌↔◌, ℕ, suc, ◌+◌, ◌*◌, ◌<◌, ◌≤◌, Bool, true, false, IsTrue, ◌||◌, List, [], ◌∷◌, ◌++◌, length, drop, slice_set, slice_index_or, Option, Some, None, MatchOption}
 use Rattle.in_simple.specs.declared.open_nets.Point.{Point}
 use Rattle.in_simple.specs.declared.open_nets.Point.TheVariants.{Port, Free}
 use Rattle.in_simple.specs.declared.plans.Plan.{Plan}
@@ -10,6 +10,7 @@ use Rattle.in_simple.specs.declared.wired.Target.{Target}
 use Rattle.in_simple.specs.declared.wired.Target.TheVariants.{Nowhere, ToPort, ToFree}
 use Rattle.in_simple.specs.Constructions.{IsIn, count}
 pub use Rattle.in_simple.specs.Members.{missing, nodes_in}
+use Rattle.in_simple.specs.Pieces.{IsPiece, IsPieceOrWhole}
 use Rattle.in_simple.specs.Splitting.{Linked, Without, SplitsAt, IsFirstSplitting, Splits}
 use Rattle.in_simple.specs.OpenNets.{OpenNet, IsWire, class_in, open_graph}
 use Rattle.in_simple.specs.Stuck.{IsPart, Among, ComesAt, FirstStuck, Touches, ports_of}
@@ -164,6 +165,7 @@ pub record IsPlan (o : OpenNet) (n : ℕ) (turn : ℕ) (p : Plan) : Type 0 where
   pub sized : AreSized (length o.nodes) p.tasks
   pub lists : (more : List Task) → Lists o n (nodes_in p.rest) turn more → Lists o n (nodes_in p.rest) 0 (p.tasks ++ more)
   pub splits : (i : ℕ) → PortSplits o p.rest n i
+  pub piece : IsTrue p.is_piece → IsPiece o p.rest
 
 -- .. and is for the same rest
 abbrev pub GoesOn : OpenNet → ℕ → ℕ → Plan → Plan → Type 0
@@ -180,12 +182,13 @@ pub record Derives (o : OpenNet) (near : ℕ) (old new : Plan) : Type 0 where
   pub reached : IsReached o old.rest near component
   pub tasks : new.tasks ≡ old.tasks ++ Derive component ∷ []
   pub same : new.rest ≡ old.rest
+  pub same_piece : new.is_piece ≡ old.is_piece
   pub done_size : length new.done ≡ length old.done
   pub both : (m : ℕ) → nodes_in new.done m ≡ (nodes_in component m || nodes_in old.done m)
 
 -- with one more task
 abbrev pub with_task : Plan → Task → Plan
-with_task p t = record { tasks = p.tasks ++ t ∷ []; rest = p.rest; done = p.done }
+with_task p t = record { tasks = p.tasks ++ t ∷ []; rest = p.rest; done = p.done; is_piece = p.is_piece }
 
 -- there is room for each node of the net
 abbrev pub HasRoom : OpenNet → Room → Type 0
@@ -219,10 +222,17 @@ AreApart [] = Unit {0}
 AreApart (Derive c ∷ ts) = ((m : ℕ) → IsIn m (nodes_in c) → IsIn m (pending_in ts) → ⊥) × AreApart ts
 AreApart (Make x ∷ ts) = AreApart ts
 
+-- each part but the whole net is in one piece
+abbrev pub ArePieces : OpenNet → List Task → Type 0
+ArePieces o [] = Unit {0}
+ArePieces o (Derive c ∷ ts) = IsPieceOrWhole o c × ArePieces o ts
+ArePieces o (Make x ∷ ts) = ArePieces o ts
+
 -- the first of the parts that doesn't split decides which sub-net is the first stuck one
 pub record IsWork (o : OpenNet) (tasks : List Task) : Type 0 where
   pub sized : AreSized (length o.nodes) tasks
   pub apart : AreApart tasks
+  pub pieces : ArePieces o tasks
   pub whole : ℕ → Bool
   pub nodes : (n : ℕ) → IsIn n whole ↔ (n < length o.nodes)
   pub stuck : (t : ℕ → Bool) → StuckIn o tasks t → FirstStuck o whole t

@@ -1,12 +1,14 @@
-ghost use Rattle.std.specs.Prelude.{◌≡◌, ◌<◌, length, IfOk, OnOk, false, ℕ};
+ghost use Rattle.std.specs.Prelude.{◌≡◌, ◌<◌, length, IfOk, IsTrue, OnOk, false, ℕ};
 ghost use Rattle.in_simple.specs.Checking.{IsUnion};
 ghost use Rattle.in_simple.specs.Constructions.{IsIn};
+ghost use Rattle.in_simple.specs.Pieces.{AreNeighboursJoined, IsPiece};
 ghost use Rattle.in_simple.specs.Procedure.{AreFound, IsNeighbour, IsReached, SpreadsOver, missing, nodes_in};
 ghost use Rattle.in_simple.specs.Stuck.{ports_of};
 
 use crate::nodes::NodeList;
 use crate::open_nets::Point;
 use crate::parts::Part;
+use crate::pieces::joins_neighbours;
 use crate::scratch::Scratch;
 use std::alloc::{AllocError, Global};
 use std::marker::Model;
@@ -30,7 +32,7 @@ pub(crate) fn neighbour(part: &Part, node: usize, port: usize) -> Option<u32>
 }
 
 /// Reaches the neighbours of a node in the part, and lists them.
-fn spread(
+pub(crate) fn spread(
     part: &Part,
     node: usize,
     reached: &mut Scratch,
@@ -85,27 +87,33 @@ fn reach_from(
     Ok(found)
 }
 
-/// The component of a node of the part, with a set that is lent for the search.
+/// The component of a node of the part, with a set that is lent for the search: all of the part, where that is known to be in one piece.
 fn component(
     alloc: Global,
     part: &Part,
+    is_piece: bool,
     lent: &mut Scratch,
     from: u32,
 ) -> Result<NodeList, AllocError>
     requires size { length lent.old ≡ length part.now.wired.now.nodes }
+    requires piece { IsTrue is_piece → IsPiece part.now.wired.now part.now.nodes.now }
     requires here { IsIn from (nodes_in part.now.nodes.now) }
     ensures lent { length lent.new ≡ length lent.old }
     ensures size { IfOk result (λ c. length c ≡ length part.now.wired.now.nodes) }
     ensures reached { IfOk result (IsReached part.now.wired.now part.now.nodes.now from) }
 {
+    if is_piece {
+        return part.nodes.copy(alloc);
+    }
     let found = reach_from(alloc, part, lent, from)?;
     part.nodes.narrowed(alloc, lent, found)
 }
 
-/// The nodes that are derived, and a set to search for one more component.
+/// The nodes that are derived, and two sets to search with.
 pub(crate) struct Done {
     nodes: Scratch,
     reached: Scratch,
+    near: Scratch,
 }
 
 // By hand, so that each drop is a call: a derived one is written out in each proof, at each way out.
@@ -114,6 +122,7 @@ impl Drop for Done {
         let Done {
             nodes: _,
             reached: _,
+            near: _,
         } = self;
     }
 }
@@ -126,7 +135,7 @@ impl Model for Done {
 
     ghost view = { λ d. d.nodes };
 
-    ghost invariant = { λ d. length d.reached ≡ length d.nodes };
+    ghost invariant = { λ d. (length d.reached ≡ length d.nodes) × (length d.near ≡ length d.nodes) };
 }
 
 impl Done {
@@ -137,6 +146,7 @@ impl Done {
         Ok(Done {
             nodes: Scratch::new(alloc, count)?,
             reached: Scratch::new(alloc, count)?,
+            near: Scratch::new(alloc, count)?,
         })
     }
 
@@ -162,21 +172,44 @@ impl Done {
         self.nodes.absent()
     }
 
-    /// The component of a node of the part, which is derived too now.
+    /// Whether the neighbours of a node, which is not in the part, are joined in the part, where it is asked for and short searches tell.
+    pub(crate) fn joins(
+        &mut self,
+        alloc: Global,
+        is_asked: bool,
+        part: &Part,
+        node: usize,
+    ) -> Result<bool, AllocError>
+        requires node { node < length part.now.wired.now.nodes }
+        requires size { length self.old ≡ length part.now.wired.now.nodes }
+        ensures same { self.new ≡ self.old }
+        ensures asked { IfOk result (λ joined. IsTrue joined → IsTrue is_asked) }
+        ensures joined { IfOk result (λ joined. IsTrue joined → AreNeighboursJoined part.now.wired.now part.now.nodes.now node) }
+    {
+        if is_asked {
+            joins_neighbours(alloc, part, node, &mut self.near, &mut self.reached)
+        } else {
+            Ok(false)
+        }
+    }
+
+    /// The component of a node of the part, which is derived too now: all of the part, where that is known to be in one piece.
     pub(crate) fn add(
         &mut self,
         alloc: Global,
         part: &Part,
+        is_piece: bool,
         from: u32,
     ) -> Result<NodeList, AllocError>
         requires size { length self.old ≡ length part.now.wired.now.nodes }
+        requires piece { IsTrue is_piece → IsPiece part.now.wired.now part.now.nodes.now }
         requires here { IsIn from (nodes_in part.now.nodes.now) }
         ensures same { length self.new ≡ length self.old }
         ensures size { IfOk result (λ c. length c ≡ length part.now.wired.now.nodes) }
         ensures reached { IfOk result (IsReached part.now.wired.now part.now.nodes.now from) }
         ensures union { IfOk result (λ c. IsUnion c self.old self.new) }
     {
-        let component = component(alloc, part, &mut self.reached, from)?;
+        let component = component(alloc, part, is_piece, &mut self.reached, from)?;
         component.add_to(&mut self.nodes);
         Ok(component)
     }

@@ -9,6 +9,7 @@ pub mod laws;
 mod nodes;
 mod open_nets;
 mod parts;
+mod pieces;
 mod plans;
 mod procedure;
 mod rings;

@@ -170,6 +170,13 @@ impl NodeSet {
         self.tests.has(node)
     }
 
+    /// The list of these nodes once more.
+    pub(crate) fn copy(&self, alloc: Global) -> Result<NodeList, AllocError>
+        ensures { IfOk result (λ set. set ≡ self.now) }
+    {
+        self.list.copy(alloc)
+    }
+
     /// How many members there are.
     pub(crate) fn count(&self) -> usize {
         self.list.members.len()

@@ -4,6 +4,7 @@ ghost use Rattle.in_simple.specs.Procedure.{AreSized, Derives, GoesOn, HasRoom, 
 ghost use Rattle.in_simple.specs.Progress.{IsOver, after_ports, at_end, later, progress, until};
 ghost use Rattle.in_simple.specs.OpenNets.{IsAgent, IsClass, IsOrderly, class_in, open_graph};
 ghost use Rattle.in_simple.specs.Planned.{HasFate, HasFateAt, IsAuxiliaryPort, IsLeftOver, IsSized, JoinsFate, LeadsBack, Skips, TakesPart, WhatComes, WhatPort, WithEmpties};
+ghost use Rattle.in_simple.specs.Pieces.{IsPieceOrWhole};
 ghost use Rattle.in_simple.specs.Splitting.{SplitsAt};
 ghost use Rattle.in_simple.specs.Stacks.{Puts, no_wires, shape};
 ghost use Rattle.in_simple.specs.Stuck.{ports_of, turn};
@@ -129,11 +130,13 @@ impl Opened {
     }
 }
 
-/// The tasks of a part of which one node is taken out, the nodes that are left, and those that the tasks derive.
+/// The tasks of a part of which one node is taken out, the nodes that are left, those that the tasks derive, and whether what is left is
+/// known to be in one piece.
 struct Plan {
     tasks: Items<Task>,
     rest: NodeSet,
     done: Done,
+    is_piece: bool,
 }
 
 // By hand, so that each drop is a call: a derived one is written out in each proof, at each way out.
@@ -143,6 +146,7 @@ impl Drop for Plan {
             tasks: _,
             rest: _,
             done: _,
+            is_piece: _,
         } = self;
     }
 }
@@ -162,7 +166,12 @@ impl Plan {
         ensures tests { result.1.tests ≡ self.rest }
         ensures done { result.1.done ≡ self.done }
     {
-        let Plan { tasks, rest, done } = self;
+        let Plan {
+            tasks,
+            rest,
+            done,
+            is_piece: _,
+        } = self;
         let tests = rest.into_tests();
         (tasks, Room { tests, done })
     }
@@ -200,7 +209,7 @@ impl Plan {
             wired,
             nodes: &self.rest,
         };
-        let component = self.done.add(alloc, &part, near)?;
+        let component = self.done.add(alloc, &part, self.is_piece, near)?;
         self.tasks.push(Task::Derive(component))?;
         Ok(self)
     }
@@ -335,6 +344,7 @@ impl<'a> Begun<'a> {
         requires done { length part.done ≡ length wired.now.nodes }
         requires here { IsIn node (nodes_in part.nodes) }
         requires splits { SplitsAt (open_graph wired.now) node (nodes_in part.nodes) }
+        requires piece { IsPieceOrWhole wired.now part.nodes }
         ensures start { IfOk result (λ r. r.0 ≡ progress wired.now node r.0.rest 0) }
         ensures rest { IfOk result (λ r. IsRest node part.nodes r.0.rest) }
         ensures list { IfOk result (λ r. r.1 ≡ part.nodes) }
@@ -342,11 +352,18 @@ impl<'a> Begun<'a> {
         let _count = wired.nodes();
         let (nodes, mut done) = part.apart();
         done.clear()?;
+        let is_part = nodes.absent() > 0;
         let (rest, list) = nodes.without(alloc, node)?;
+        let left = Part {
+            wired: &*wired,
+            nodes: &rest,
+        };
+        let is_piece = done.joins(alloc, is_part, &left, node)?;
         let plan = Plan {
             tasks: Items::new(alloc),
             rest,
             done,
+            is_piece,
         };
         Ok((Begun { wired, node, plan }, list))
     }
@@ -636,6 +653,7 @@ pub(crate) fn tasks_of(
     requires here { IsIn node (nodes_in part.nodes) }
     requires splits { SplitsAt (open_graph wired.now) node (nodes_in part.nodes) }
     requires first { IsFirst wired.now part.nodes node }
+    requires piece { IsPieceOrWhole wired.now part.nodes }
     ensures steps { IfOk result (λ r. Puts wired.now r.0 (shape (nodes_in part.nodes) no_wires ∷ [])) }
     ensures takes { IfOk result (λ r. TakesPart wired.now (nodes_in part.nodes) r.0) }
     ensures net { IfOk result (λ r. IsOrderly wired.now) }

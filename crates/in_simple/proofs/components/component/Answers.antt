@@ -4,6 +4,7 @@ use Rattle.in_simple.specs.OpenNets.{open_graph}
 use Rattle.in_simple.specs.Procedure.{nodes_in, IsReached}
 use Rattle.in_simple.proofs.Links.{link_last}
 use Rattle.in_simple.proofs.OkValues.{if_ok}
+use Rattle.in_simple.proofs.OnePiece.{piece_reached}
 use Rattle.in_simple.proofs.components.component.Goals as goal
 
 pub narrowed-requires : goal.narrowed-requires
@@ -18,3 +19,9 @@ narrowed-requires c =
 pub returns-clause-reached : goal.returns-clause-reached
 returns-clause-reached c =
     if_ok c.narrowed.result (λ set e. subst (IsReached c.args.part.now.wired.now c.args.part.now.nodes.now c.args.from) (sym e) c.in_ok-found.ensures.reached) c.narrowed.ensures
+
+pub returns-then-is_piece-clause-reached : goal.returns-then-is_piece-clause-reached
+returns-then-is_piece-clause-reached c =
+    let o = c.args.part.now.wired.now in
+    let nodes = c.args.part.now.nodes.now in
+    if_ok c.copy.result (λ set e. subst (IsReached o nodes c.args.from) (sym e) (piece_reached o nodes c.args.from (c.requires.piece c.if-is_piece.true) c.requires.here)) c.copy.ensures

@@ -1,9 +1,8 @@
-use Rattle.std.proofs.Common.{arith, ◌≡◌, ◌≤◌, ◌<◌, ◌+◌, ◌∙◌, ℕ, suc, List, ◌∷◌, ◌++◌, [], length, get_or, drop, true, add-one, sym, subst, ap, refl, inl, inr}
+use Rattle.std.proofs.Common.{arith, ◌≤◌, ◌<◌, ◌+◌, ◌∙◌, ◌∷◌, ◌++◌, [], drop, true, sym, subst, ap, refl, inl, inr}
 use Rattle.std.proofs.Math.ListN.{set}
 use Rattle.in_simple.specs.Stuck.{ports_of}
 use Rattle.in_simple.specs.Procedure.{AreFound, missing, IsSearch}
-use Rattle.in_simple.proofs.Reaching.{drop_all, found_first, found_more, in_length, search_start, search_step, search_over, search_end}
-use Rattle.in_simple.proofs.VerifySets.{any_default, drop_here}
+use Rattle.in_simple.proofs.Reaching.{drop_all, found_first, found_more, in_length, next_found, search_start, search_step, search_over, search_end}
 use Rattle.in_simple.proofs.components.reach_from.Goals as goal
 
 pub loop-place-init : goal.loop-place-init
@@ -24,17 +23,11 @@ loop-place-init c =
           (subst (AreFound (set none from true)) (sym e) (found_first none from off (omega arith)));
     }
 
--- the next node that was found
-next : (found : List ℕ) (place node : ℕ) → place < length found → node ≡ get_or found place node → drop place found ≡ node ∷ drop (place + 1) found
-next found place node l e =
-    subst (λ z. drop place found ≡ node ∷ drop z found) (sym (add-one place))
-    (subst (λ z. drop place found ≡ z ∷ drop (suc place) found) (sym (e ∙ any_default found place node 0 l)) (drop_here found place l))
-
 pub spread-requires-clause-node : goal.spread-requires-clause-node
 spread-requires-clause-node c =
     let l = c.loop-place-test.true in
     let n = c.len.ensures in
-    let e = next c.loop-place.found.items c.loop-place.place c.index-node.result.now (omega arith) c.index-node.ensures in
+    let e = next_found c.loop-place.found.items c.loop-place.place c.index-node.result.now (omega arith) c.index-node.ensures in
     ((subst (λ z. IsSearch c.args.part.now.wired.now c.args.part.now.nodes.now c.args.from c.loop-place.reached z) e c.loop-place.invariant.search).pending c.index-node.result.now (inl refl)).1
 
 pub loop-place-preserved : goal.loop-place-preserved
@@ -49,7 +42,7 @@ loop-place-preserved c =
     let node = c.index-node.result.now in
     let l = c.loop-place-test.true in
     let n = c.len.ensures in
-    let e = next found place node (omega arith) c.index-node.ensures in
+    let e = next_found found place node (omega arith) c.index-node.ensures in
     let r = c.loop-place.reached in
     let r' = c.spread.new.reached in
     let found' = c.spread.new.found.items in

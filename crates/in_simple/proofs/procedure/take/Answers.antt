@@ -1,5 +1,6 @@
 use Rattle.std.proofs.Common.{◌∷◌, ◌++◌, reverse, sym, subst}
 use Rattle.in_simple.specs.declared.plans.Task.TheVariants.{Derive}
+use Rattle.in_simple.specs.Pieces.{IsPieceOrWhole}
 use Rattle.in_simple.specs.Procedure.{IsWork, AreFewer, nodes_in}
 use Rattle.in_simple.specs.Stacks.{IsUnderWay}
 use Rattle.in_simple.specs.Stuck.{IsListed}
@@ -50,6 +51,11 @@ pub tasks_of-requires-clause-splits : goal.tasks_of-requires-clause-splits
 tasks_of-requires-clause-splits c =
     let f = subst (IsFirstIn c.args.wired.now c.in_ok-opened.opened.nodes) c.in-Some.is c.in_ok-node.ensures.found in
     f.splits
+
+pub tasks_of-requires-clause-piece : goal.tasks_of-requires-clause-piece
+tasks_of-requires-clause-piece c =
+    let o = c.args.wired.now in
+    subst (IsPieceOrWhole o) (sym c.in_ok-opened.ensures.nodes) c.requires.work.pieces.0
 
 pub tasks_of-requires-clause-first : goal.tasks_of-requires-clause-first
 tasks_of-requires-clause-first c = subst (IsFirstIn c.args.wired.now c.in_ok-opened.opened.nodes) c.in-Some.is c.in_ok-node.ensures.found
