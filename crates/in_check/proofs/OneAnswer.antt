@@ -14,7 +14,7 @@ use Rattle.in_net.specs.Parts.{Parts}
 use Rattle.in_net.specs.Built.{Builds}
 use Rattle.in_net.specs.Rules.{RuleParts, BuildsRule}
 use Rattle.in_net.proofs.OneText.{nets_once, rules_once}
-use Rattle.in_simple.specs.OpenNets.{OpenNet, IsOpenNet}
+use Rattle.in_open_nets.specs.OpenNets.{OpenNet, IsOpenNet}
 use Rattle.in_opening.specs.Opening.{Opens}
 use Rattle.in_opening.specs.OpeningRules.{OpensRule}
 use Rattle.in_opening.proofs.Classes.{tables_numbered}

@@ -9,11 +9,11 @@ use Rattle.in_syntax.specs.declared.faults.Refusal.{Refusal}
 use Rattle.in_symbols.specs.Tables.{Tables}
 use Rattle.in_net.specs.Parts.{Parts}
 use Rattle.in_net.specs.Rules.{RuleParts}
-use Rattle.in_simple.specs.Derivations.{IsDerivation}
-use Rattle.in_simple.specs.OpenNets.{OpenNet, IsDerivable}
+use Rattle.in_open_nets.specs.Derivations.{IsDerivation}
+use Rattle.in_open_nets.specs.OpenNets.{OpenNet, IsDerivable}
 use Rattle.in_opening.specs.Opening.{Opens}
 use Rattle.in_opening.specs.OpeningRules.{OpensRule}
-use Rattle.in_simple.specs.Stuck.{IsStuckAt}
+use Rattle.in_open_nets.specs.Stuck.{IsStuckAt}
 use Rattle.in_simple.specs.TakenOrder.{AreTaken}
 use Rattle.in_check.specs.declared.checked.Certificate.{Certificate}
 

@@ -5,7 +5,7 @@ ghost use Rattle.in_check.specs.Programs.{IsItem, certificate_of, counts_of};
 
 use in_cover::{RuleNo, RuleTable};
 use in_net::{Net, Rule};
-use in_simple::{Derivation, OpenNet};
+use in_open_nets::{Derivation, OpenNet};
 use in_symbols::{SymbolNo, Symbols};
 use sqlite_items::Items;
 use std::marker::Model;

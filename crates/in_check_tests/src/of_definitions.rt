@@ -1,7 +1,7 @@
 //! Tests of the definitions by which a text is accepted or refused: they allow no other answer than the one that is looked at.
 use crate::only::{only_refusal, only_seen};
 use in_check::{Checked, Item};
-use in_simple::Step;
+use in_open_nets::Step;
 use in_syntax::Code;
 use in_test_programs::Look;
 use std::alloc::Global;

@@ -2,7 +2,7 @@
 use crate::circles::{Circle, Field, Wires};
 use crate::declarations::{place_in, say_port};
 use crate::reports::Report;
-use in_simple::{Node, OpenNet};
+use in_open_nets::{Node, OpenNet};
 use in_syntax::{Place, Source, SourceSymbol};
 use std::alloc::{AllocError, Global};
 

@@ -2,7 +2,7 @@
 use crate::declarations::{place_in, port, say_port, say_type};
 use crate::reading::Shape;
 use crate::reports::Report;
-use in_simple::{Node, OpenNet, Point};
+use in_open_nets::{Node, OpenNet, Point};
 use in_syntax::{Equation, Place, Source, SourcePort, SourceSymbol};
 
 /// The two names of an equation of two bare names.

@@ -10,7 +10,7 @@ use Rattle.in_symbols.specs.declared.symbols.Shape.{Shape}
 use Rattle.in_symbols.specs.Tables.{Tables, IsTabled, tables_of, type_names, port_of, classes_from, shape_of, arity_in, class_in, classes_in}
 use Rattle.in_symbols.proofs.Shapes.{length-classes_from}
 use Rattle.in_opening.specs.Opening.{AreNumbered}
-use Rattle.in_simple.proofs.Links.{at_most}
+use Rattle.in_open_nets.proofs.Links.{at_most}
 
 -- the classes that are counted from k on
 pub class_between : (k : ℕ) (cs : List (List SourcePort)) (j : ℕ) → j < length (classes_from k cs) → (k ≤ get_or (classes_from k cs) j 1) × (get_or (classes_from k cs) j 1 < k + length cs)

@@ -12,11 +12,11 @@ use Rattle.in_net.specs.Graphs.{class_of_symbol, graph_of}
 use Rattle.in_net.specs.Nets.{Port, IsPoint, net_of, signature_of, coded_point}
 use Rattle.in_net.specs.Parts.{Parts, IsWhole, partner_in, symbol_in}
 use Rattle.in_net.proofs.OneNet.{map_is, is_net}
-use Rattle.in_simple.specs.declared.open_nets.Node.{Node}
-use Rattle.in_simple.specs.declared.open_nets.Node.TheVariants.{AgentNode, ClassNode}
-use Rattle.in_simple.specs.declared.open_nets.OpenNode.{OpenNode}
-use Rattle.in_simple.specs.OpenNets as nets
-use Rattle.in_simple.specs.OpenNets.{OpenNet, class_in, open_graph}
+use Rattle.in_open_nets.specs.declared.open_nets.Node.{Node}
+use Rattle.in_open_nets.specs.declared.open_nets.Node.TheVariants.{AgentNode, ClassNode}
+use Rattle.in_open_nets.specs.declared.open_nets.OpenNode.{OpenNode}
+use Rattle.in_open_nets.specs.OpenNets as nets
+use Rattle.in_open_nets.specs.OpenNets.{OpenNet, class_in, open_graph}
 use Rattle.in_opening.specs.Opening.{IsNodeOf, AreNumbered, Opens}
 use Rattle.in_opening.proofs.Opened.{listed}
 use Rattle.in_base.proofs.Places.{some_same}

@@ -13,20 +13,20 @@ use Rattle.in_net.specs.Nets.{Point, Port, Free, IsPoint, net_of, signature_of, 
 use Rattle.in_net.specs.Parts.{IsWhole, partner_in}
 use Rattle.in_net.specs.Rules.{RuleParts}
 use Rattle.in_net.proofs.OneNet.{map_is, is_net}
-use Rattle.in_simple.specs.declared.open_nets.Node.{Node}
-use Rattle.in_simple.specs.declared.open_nets.Node.TheVariants.{AgentNode, ClassNode}
-use Rattle.in_simple.specs.declared.open_nets.OpenNode.{OpenNode}
-use Rattle.in_simple.specs.declared.open_nets.Point as opened
-use Rattle.in_simple.specs.declared.open_nets.Point.TheVariants as open_p
-use Rattle.in_simple.specs.OpenNets as nets
-use Rattle.in_simple.specs.OpenNets.{OpenNet, IsWire, class_in, open_graph}
+use Rattle.in_open_nets.specs.declared.open_nets.Node.{Node}
+use Rattle.in_open_nets.specs.declared.open_nets.Node.TheVariants.{AgentNode, ClassNode}
+use Rattle.in_open_nets.specs.declared.open_nets.OpenNode.{OpenNode}
+use Rattle.in_open_nets.specs.declared.open_nets.Point as opened
+use Rattle.in_open_nets.specs.declared.open_nets.Point.TheVariants as open_p
+use Rattle.in_open_nets.specs.OpenNets as nets
+use Rattle.in_open_nets.specs.OpenNets.{OpenNet, IsWire, class_in, open_graph}
 use Rattle.in_opening.specs.Opening.{AreNumbered}
 use Rattle.in_opening.specs.OpeningRules.{agent_node, second_node, class_port, boundary_port, is_turned, rule_point, IsRuleWhole, OpensRule}
-use Rattle.in_simple.proofs.Grow.{pair_same}
+use Rattle.in_open_nets.proofs.Grow.{pair_same}
 use Rattle.in_net.proofs.Stepping.Sites.{lt_tells}
 use Rattle.in_opening.proofs.RulePoints.{same_agent, agent_within}
 use Rattle.in_opening.proofs.OpenedRules.{listed, points_open, agent_not_end, same_end, is_end, IsEnd, in_first, in_second, first_port, second_port, class_low}
-use Rattle.in_simple.proofs.Sums.{some_of}
+use Rattle.in_open_nets.proofs.Sums.{some_of}
 use Rattle.in_net.specs.Interactions.{Redex, redex_at, open_member, open_port, class_node}
 use Rattle.in_opening.proofs.Mapped.{circle_mapped}
 use Rattle.in_opening.proofs.OfNets.{symbol_at, symbol_within, class_of_node}

@@ -5,9 +5,9 @@ use Rattle.in_symbols.specs.declared.symbols.SymbolNo.{SymbolNo}
 use Rattle.in_symbols.specs.Tables.{Tables, arity_of, class_at, classes_of}
 use Rattle.in_net.specs.Parts.{Parts}
 use Rattle.in_net.specs.Rules.{RuleParts}
-use Rattle.in_simple.specs.declared.open_nets.Node.TheVariants.{AgentNode}
-use Rattle.in_simple.specs.declared.open_nets.OpenNode.{OpenNode}
-use Rattle.in_simple.specs.OpenNets.{OpenNet}
+use Rattle.in_open_nets.specs.declared.open_nets.Node.TheVariants.{AgentNode}
+use Rattle.in_open_nets.specs.declared.open_nets.OpenNode.{OpenNode}
+use Rattle.in_open_nets.specs.OpenNets.{OpenNet}
 use Rattle.in_opening.specs.Opening.{IsNodeOf, Opens}
 use Rattle.in_opening.specs.OpeningRules.{IsClassNodeOf, IsRuleNode, OpensRule, agents_before}
 use Rattle.in_opening.proofs.RulePoints.{NodeKind, of_first, of_second, of_agent, kind_of}

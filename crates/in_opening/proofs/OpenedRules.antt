@@ -18,17 +18,17 @@ use Rattle.in_net.specs.Built.{IsOver}
 use Rattle.in_net.specs.Parts.{Parts, IsWhole, IsPointOf, IsWireBetween, cell_in, partner_in, wire_in}
 use Rattle.in_net.specs.Rules.{RuleParts}
 use Rattle.in_net.proofs.Stepping.Sites.{lt_tells}
-use Rattle.in_simple.specs.declared.open_nets.Node.{Node}
-use Rattle.in_simple.specs.declared.open_nets.Node.TheVariants.{AgentNode, ClassNode}
-use Rattle.in_simple.specs.declared.open_nets.OpenNode.{OpenNode}
-use Rattle.in_simple.specs.declared.open_nets.Point.{Point}
-use Rattle.in_simple.specs.declared.open_nets.Point.TheVariants.{Port, Free}
-use Rattle.in_simple.specs.OpenNets as nets
-use Rattle.in_simple.specs.OpenNets.{OpenNet, IsWire, IsOpenNet, IsOrderly, ports_in, IsAgentNode, IsAgent, class_in}
+use Rattle.in_open_nets.specs.declared.open_nets.Node.{Node}
+use Rattle.in_open_nets.specs.declared.open_nets.Node.TheVariants.{AgentNode, ClassNode}
+use Rattle.in_open_nets.specs.declared.open_nets.OpenNode.{OpenNode}
+use Rattle.in_open_nets.specs.declared.open_nets.Point.{Point}
+use Rattle.in_open_nets.specs.declared.open_nets.Point.TheVariants.{Port, Free}
+use Rattle.in_open_nets.specs.OpenNets as nets
+use Rattle.in_open_nets.specs.OpenNets.{OpenNet, IsWire, IsOpenNet, IsOrderly, ports_in, IsAgentNode, IsAgent, class_in}
 use Rattle.in_opening.specs.Opening.{Each, IsNodeOf, AreNumbered}
 use Rattle.in_opening.specs.OpeningRules.{places_in, agents_before, agent_node, second_node, class_port, boundary_port, is_turned, rule_point, rule_wire, IsRuleWhole, OpensRule}
 use Rattle.in_base.proofs.Places.{some_same}
-use Rattle.in_simple.proofs.Sums.{some_of}
+use Rattle.in_open_nets.proofs.Sums.{some_of}
 use Rattle.in_opening.proofs.Opened.{lower_point, few_ports}
 use Rattle.in_opening.proofs.RulePoints.{place_there, place_within, same_place, not_first, not_second, same_agent, agent_within, NodeKind, of_first, of_second, of_agent, kind_of}
 use Rattle.in_base.proofs.Each.{at_index}

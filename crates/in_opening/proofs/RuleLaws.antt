@@ -2,7 +2,7 @@
 use Rattle.std.proofs.Common.{nat_lt, arith}
 use Rattle.std.proofs.lemmas.List.Sums.{count_by-le-length}
 use Rattle.in_syntax.specs.declared.places.Place.{Place}
-use Rattle.in_simple.proofs.Both.{derivable_no_circle}
+use Rattle.in_open_nets.proofs.Both.{derivable_no_circle}
 use Rattle.in_opening.specs.Laws.{RulesAreOpenedOnce, OpenRulesAreOpen, DerivableRulesHaveNoCircle}
 use Rattle.in_opening.proofs.OneOpening.{one_open_rule}
 use Rattle.in_opening.proofs.OpenedRules.{is_open_net}

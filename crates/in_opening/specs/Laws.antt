@@ -12,7 +12,7 @@ use Rattle.in_net.specs.TextNet.{IsNetOf}
 use Rattle.in_net.specs.Graphs.{graph_of}
 use Rattle.in_net.specs.Interactions.{redex_at, open_member}
 use Rattle.in_net.specs.Nets.{net_of, signature_of}
-use Rattle.in_simple.specs.OpenNets.{OpenNet, IsOpenNet, IsDerivable, open_graph}
+use Rattle.in_open_nets.specs.OpenNets.{OpenNet, IsOpenNet, IsDerivable, open_graph}
 use Rattle.in_opening.specs.Opening.{AreAllThere, AreNumbered, Opens}
 use Rattle.in_opening.specs.OpeningRules.{IsRuleWhole, OpensRule}
 

@@ -7,11 +7,11 @@ use Rattle.in_net.specs.Built.{IsOver}
 use Rattle.in_net.specs.declared.nets.Point as points
 use Rattle.in_net.specs.declared.nets.Point.TheVariants as point
 use Rattle.in_net.specs.Parts.{Parts, symbol_in, agent_place_in, wire_in}
-use Rattle.in_simple.specs.declared.open_nets.Node.TheVariants.{AgentNode}
-use Rattle.in_simple.specs.declared.open_nets.OpenNode.{OpenNode}
-use Rattle.in_simple.specs.declared.open_nets.Point.{Point}
-use Rattle.in_simple.specs.declared.open_nets.Point.TheVariants.{Port, Free}
-use Rattle.in_simple.specs.OpenNets.{OpenNet}
+use Rattle.in_open_nets.specs.declared.open_nets.Node.TheVariants.{AgentNode}
+use Rattle.in_open_nets.specs.declared.open_nets.OpenNode.{OpenNode}
+use Rattle.in_open_nets.specs.declared.open_nets.Point.{Point}
+use Rattle.in_open_nets.specs.declared.open_nets.Point.TheVariants.{Port, Free}
+use Rattle.in_open_nets.specs.OpenNets.{OpenNet}
 
 -- no number is without an agent, as it is where no interaction happened
 abbrev pub AreAllThere : Parts → Type 0

@@ -10,11 +10,11 @@ use Rattle.in_net.specs.declared.nets.Point.TheVariants as point
 use Rattle.in_net.specs.Parts.{wire_in}
 use Rattle.in_net.specs.NetFaults.{max_member_agents}
 use Rattle.in_net.specs.Rules.{IsRuleOver, RuleParts}
-use Rattle.in_simple.specs.declared.open_nets.Node.TheVariants.{ClassNode}
-use Rattle.in_simple.specs.declared.open_nets.OpenNode.{OpenNode}
-use Rattle.in_simple.specs.declared.open_nets.Point.{Point}
-use Rattle.in_simple.specs.declared.open_nets.Point.TheVariants.{Port}
-use Rattle.in_simple.specs.OpenNets.{OpenNet}
+use Rattle.in_open_nets.specs.declared.open_nets.Node.TheVariants.{ClassNode}
+use Rattle.in_open_nets.specs.declared.open_nets.OpenNode.{OpenNode}
+use Rattle.in_open_nets.specs.declared.open_nets.Point.{Point}
+use Rattle.in_open_nets.specs.declared.open_nets.Point.TheVariants.{Port}
+use Rattle.in_open_nets.specs.OpenNets.{OpenNet}
 use Rattle.in_opening.specs.Opening.{AreAllThere, AreNumbered, Each, IsNodeOf}
 
 -- how many of the places 1 to n of a symbol are in a class

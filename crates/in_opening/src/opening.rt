@@ -6,7 +6,7 @@ ghost use Rattle.in_net.specs.Parts.{IsWhole, wire_in};
 ghost use Rattle.in_opening.specs.Opening.{AreAllThere, AreClassesOf, Each, AreNumbered, IsNodeOf, open_point, open_wire, AreNodesOf, AreWiresOf, Opens};
 
 use in_net::{AgentNo, Net};
-use in_simple::{Node, OpenNet, OpenNode, Point};
+use in_open_nets::{Node, OpenNet, OpenNode, Point};
 use in_symbols::{SymbolNo, Symbols};
 use sqlite_items::Items;
 use std::alloc::{AllocError, Global};

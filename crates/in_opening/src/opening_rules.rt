@@ -8,7 +8,7 @@ ghost use Rattle.in_opening.specs.OpeningRules.{places_in, IsClassNodeOf, agent_
 
 use crate::opening::{BuiltNet, node};
 use in_net::{AgentNo, Rule};
-use in_simple::{Node, OpenNet, OpenNode, Point};
+use in_open_nets::{Node, OpenNet, OpenNode, Point};
 use in_symbols::{SymbolNo, Symbols};
 use in_syntax::Place;
 use sqlite_items::Items;

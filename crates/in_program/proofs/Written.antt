@@ -4,9 +4,9 @@ use Rattle.std.proofs.lemmas.List.{drop_more}
 use Rattle.std.proofs.lemmas.Option.{slice_get_within, get_or_from_slice_get}
 use Rattle.in_symbols.specs.Tables.{Tables}
 use Rattle.in_net.specs.Rules.{RuleParts}
-use Rattle.in_simple.specs.declared.derivations.Derivation.{Derivation}
-use Rattle.in_simple.specs.declared.derivations.Step.{Step}
-use Rattle.in_simple.specs.OpenNets.{OpenNet}
+use Rattle.in_open_nets.specs.declared.derivations.Derivation.{Derivation}
+use Rattle.in_open_nets.specs.declared.derivations.Step.{Step}
+use Rattle.in_open_nets.specs.OpenNets.{OpenNet}
 use Rattle.in_check.specs.declared.checked.Certificate.{Certificate}
 use Rattle.in_program.specs.Lines.{line_end}
 use Rattle.in_program.specs.Steps.{step_text, numbers_text, lines_from, heads_line, rule_lines, rules_lines}

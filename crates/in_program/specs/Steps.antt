@@ -4,11 +4,11 @@ use Rattle.std.specs.Prelude.{ℕ, suc, List, [], ◌∷◌, ◌++◌, codes, de
 use Rattle.in_symbols.specs.Names.{name_in}
 use Rattle.in_symbols.specs.Tables.{Tables}
 use Rattle.in_net.specs.Rules.{RuleParts}
-use Rattle.in_simple.specs.declared.open_nets.Node.{Node}
-use Rattle.in_simple.specs.declared.open_nets.Node.TheVariants.{AgentNode, ClassNode}
-use Rattle.in_simple.specs.declared.derivations.Step.{Step}
-use Rattle.in_simple.specs.declared.derivations.Step.TheVariants.{Empty, Link, Given, Graft, Cut, Mix}
-use Rattle.in_simple.specs.OpenNets.{OpenNet, node_in}
+use Rattle.in_open_nets.specs.declared.open_nets.Node.{Node}
+use Rattle.in_open_nets.specs.declared.open_nets.Node.TheVariants.{AgentNode, ClassNode}
+use Rattle.in_open_nets.specs.declared.derivations.Step.{Step}
+use Rattle.in_open_nets.specs.declared.derivations.Step.TheVariants.{Empty, Link, Given, Graft, Cut, Mix}
+use Rattle.in_open_nets.specs.OpenNets.{OpenNet, node_in}
 use Rattle.in_check.specs.declared.checked.Certificate.{Certificate}
 use Rattle.in_check.specs.Programs.{Program}
 use Rattle.in_program.specs.Lines.{line_end}

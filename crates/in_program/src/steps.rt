@@ -1,13 +1,13 @@
 ghost use Rattle.std.specs.Prelude.{◌≡◌, ◌<◌, ◌+◌, ◌∷◌, ◌++◌, [], codes, decimal, length, drop, IfOk, OnOk};
 ghost use Rattle.in_symbols.specs.Names.{name_in};
-ghost use Rattle.in_simple.specs.OpenNets.{node_in};
+ghost use Rattle.in_open_nets.specs.OpenNets.{node_in};
 ghost use Rattle.in_program.specs.Lines.{line_end};
 ghost use Rattle.in_program.specs.Steps.{derivation_lines, heads_line, lines_from, node_text, numbers_text, rules_lines, step_text};
 
 use in_check::{Checked, Item};
 use in_cover::RuleNo;
 use in_net::Rule;
-use in_simple::{Derivation, Node, OpenNet, Step};
+use in_open_nets::{Derivation, Node, OpenNet, Step};
 use in_symbols::{SymbolNo, Symbols};
 use std::alloc::{AllocError, Global};
 

@@ -1,31 +1,33 @@
 -- The nets of an agent's classes grow port by port, until the agent is grafted on them.
 use Rattle.std.proofs.Common.{◌≡◌, ◌≢◌, ◌⊎◌, ◌↔◌, ◌<◌, ◌≤◌, ◌+◌, ℕ, zero, suc, Bool, true, false, cond, ◌&&◌, ◌||◌, nat_eq, Some, List, [], ◌∷◌, ◌++◌, length, slice_get, append_assoc, refl, sym, subst, ap, inl, inr, ◌∙◌, eq-eqb, eqb-true, arith}
-use Rattle.in_simple.specs.declared.open_nets.Point.{Point}
-use Rattle.in_simple.specs.declared.open_nets.Point.TheVariants.{Port}
+use Rattle.in_open_nets.specs.declared.open_nets.Point.{Point}
+use Rattle.in_open_nets.specs.declared.open_nets.Point.TheVariants.{Port}
 use Rattle.in_simple.specs.declared.plans.Joint.TheVariants as joint
 use Rattle.in_simple.specs.declared.plans.Plan.{Plan}
 use Rattle.in_simple.specs.declared.plans.Task.{Task}
 use Rattle.in_simple.specs.declared.plans.Task.TheVariants.{Make}
-use Rattle.in_simple.specs.Constructions.{IsIn, AreParts, IsGraft}
-use Rattle.in_simple.specs.Pieces.{AreJoined}
-use Rattle.in_simple.specs.Splitting.{alone}
-use Rattle.in_simple.specs.OpenNets.{OpenNet, IsAgent, IsPointOf, IsWire, IsOpenNet, class_in, classes_of, open_graph}
-use Rattle.in_simple.specs.Derivations.{Part, Graft, is_port_in}
-use Rattle.in_simple.specs.Stuck.{ports_of}
-use Rattle.in_simple.specs.Procedure.{nodes_in, IsPlan, Derives, with_task}
+use Rattle.in_open_nets.specs.Constructions.{IsIn, AreParts, IsGraft}
+use Rattle.in_open_nets.specs.Pieces.{AreJoined}
+use Rattle.in_open_nets.specs.Splitting.{alone}
+use Rattle.in_open_nets.specs.OpenNets.{OpenNet, IsAgent, IsPointOf, IsWire, IsOpenNet, class_in, classes_of, open_graph}
+use Rattle.in_open_nets.specs.declared.derivations.Step.TheVariants.{Graft}
+use Rattle.in_open_nets.specs.Derivations.{Part, is_port_in}
+use Rattle.in_open_nets.specs.Stuck.{ports_of}
+use Rattle.in_open_nets.specs.Members.{nodes_in}
+use Rattle.in_simple.specs.Procedure.{IsPlan, Derives, with_task}
 use Rattle.in_simple.specs.Stacks.{Shape, shape, no_wires, HasShape, HaveShapes, IsLinkOf, Fits, Puts}
 use Rattle.in_simple.specs.Planned.{net_of, Meets, LeadsOff, IsBelow, IsClassShape, AreClassShapes, PutsClasses, HasClasses, IsBegun, Adds, AddsNothing, WhatPort, with_empty, Skips}
 use Rattle.in_base.proofs.Places.{some_same, unsnoc}
-use Rattle.in_simple.proofs.Sums.{not_both, same_test, port_yes, port_own, both_right}
-use Rattle.in_simple.proofs.Balance.{wire_within, wire_turn}
-use Rattle.in_simple.proofs.Sound.{wire_points, port_place}
-use Rattle.in_simple.proofs.Links.{same_nat, at_most}
-use Rattle.in_simple.proofs.Search.{at_ports, in_ports}
+use Rattle.in_open_nets.proofs.Sums.{not_both, same_test, port_yes, port_own, both_right}
+use Rattle.in_open_nets.proofs.Balance.{wire_within, wire_turn}
+use Rattle.in_open_nets.proofs.Sound.{wire_points, port_place}
+use Rattle.in_open_nets.proofs.Links.{same_nat, at_most}
+use Rattle.in_open_nets.proofs.Search.{at_ports, in_ports}
 use Rattle.in_simple.proofs.Forest.{length_app}
 use Rattle.in_simple.proofs.Make.{port_most, hanging, hanging_is, hanging_yes, fit_graft}
 use Rattle.in_simple.proofs.Joining.{shape_same, built_over, fits_link, fits_mix}
 use Rattle.in_simple.proofs.Stacking.{none_more}
-use Rattle.in_simple.proofs.OnePiece.{joined_back, joined_on}
+use Rattle.in_open_nets.proofs.OnePiece.{joined_back, joined_on}
 use Rattle.in_simple.proofs.Nets.{joined_first, joined_last, joined_near, not_root, done_on, in_both, component_new, puts_none, puts_make, puts_derive}
 use Rattle.std.proofs.lemmas.Bool.{and_from, or_cases, or_left, or_right}
 

@@ -1,16 +1,17 @@
 -- A derivable open net has a derivation.
 use Rattle.std.proofs.Common.{◌≡◌, ◌↔◌, ◌+◌, ◌-◌, ℕ, zero, suc, Bool, true, false, cond, ◌||◌, nat_eq, Some, List, length, slice_get, refl, sym, subst, ap, inl, inr, ◌∙◌, eqb-true, arith}
-use Rattle.in_simple.specs.declared.open_nets.Point.TheVariants.{Free}
-use Rattle.in_simple.specs.Constructions.{IsIn}
-use Rattle.in_simple.specs.OpenNets.{OpenNet, IsNode, IsOpenNet, IsDerivable}
-use Rattle.in_simple.specs.Derivations.{Step, is_free, Builds, IsDerivation}
+use Rattle.in_open_nets.specs.declared.open_nets.Point.TheVariants.{Free}
+use Rattle.in_open_nets.specs.Constructions.{IsIn}
+use Rattle.in_open_nets.specs.OpenNets.{OpenNet, IsNode, IsOpenNet, IsDerivable}
+use Rattle.in_open_nets.specs.declared.derivations.Step.{Step}
+use Rattle.in_open_nets.specs.Derivations.{is_free, Builds, IsDerivation}
 use Rattle.in_simple.specs.Stacks.{no_wires, loose_in, loose_below}
 use Rattle.in_base.proofs.Places.{some_same}
-use Rattle.in_simple.proofs.Sums.{not_both, one_other}
-use Rattle.in_simple.proofs.Grow.{splits_built}
+use Rattle.in_open_nets.proofs.Sums.{not_both, one_other}
+use Rattle.in_open_nets.proofs.Grow.{splits_built}
 use Rattle.in_simple.proofs.Forest.{Agrees}
 use Rattle.in_simple.proofs.Make.{Made, LinkOf, make_link, make_mix, same_links, constructions}
-use Rattle.in_simple.proofs.Both.{derivable_splits}
+use Rattle.in_open_nets.proofs.Both.{derivable_splits}
 use Rattle.in_simple.proofs.Finishing.{loose_points, loose_no_port, below_small, below_none, below_past, below_more, below_all, last_ends}
 use Rattle.std.proofs.lemmas.Bool.{or_left}
 

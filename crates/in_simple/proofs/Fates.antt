@@ -1,19 +1,19 @@
 -- What becomes of the node at the other end of a wire, and what a port adds there.
 use Rattle.std.proofs.Common.{◌≡◌, ◌⊎◌, ◌<◌, ◌≤◌, ℕ, Bool, refl, sym, subst, inl, inr, arith}
-use Rattle.in_simple.specs.declared.open_nets.Point.{Point}
-use Rattle.in_simple.specs.declared.open_nets.Point.TheVariants.{Port, Free}
+use Rattle.in_open_nets.specs.declared.open_nets.Point.{Point}
+use Rattle.in_open_nets.specs.declared.open_nets.Point.TheVariants.{Port, Free}
 use Rattle.in_simple.specs.declared.plans.Fate.{Fate}
 use Rattle.in_simple.specs.declared.plans.Fate.TheVariants.{Derived, Outside}
 use Rattle.in_simple.specs.declared.plans.Plan.{Plan}
-use Rattle.in_simple.specs.Constructions.{IsIn}
-use Rattle.in_simple.specs.Derivations.{is_port_in}
-use Rattle.in_simple.specs.OpenNets.{OpenNet, IsWire, IsOpenNet}
+use Rattle.in_open_nets.specs.Constructions.{IsIn}
+use Rattle.in_open_nets.specs.Derivations.{is_port_in}
+use Rattle.in_open_nets.specs.OpenNets.{OpenNet, IsWire, IsOpenNet}
 use Rattle.in_simple.specs.Planned.{HasFate, HasFateAt, LeadsBack}
-use Rattle.in_simple.specs.Procedure.{nodes_in}
+use Rattle.in_open_nets.specs.Members.{nodes_in}
 use Rattle.in_simple.specs.TakenOrder.{LeadsAway}
-use Rattle.in_simple.proofs.Links.{at_most}
-use Rattle.in_simple.proofs.Sound.{port_place}
-use Rattle.in_simple.proofs.Sums.{not_both, port_yes}
+use Rattle.in_open_nets.proofs.Links.{at_most}
+use Rattle.in_open_nets.proofs.Sound.{port_place}
+use Rattle.in_open_nets.proofs.Sums.{not_both, port_yes}
 
 pub back_at : (n i : ℕ) (q : Point) → LeadsBack n i q → (l : ℕ) × (k : ℕ) × (q ≡ Port l k) × (l ≡ n) × (k ≤ i)
 back_at n i (Port l k) h = (l, k, refl, h.0, h.1)

@@ -1,27 +1,27 @@
 -- The first tasks, and the steps that stand where no task is left.
 use Rattle.std.proofs.Common.{◌≡◌, ◌↔◌, ◌<◌, ◌+◌, ◌-◌, ℕ, suc, Bool, true, false, cond, ◌||◌, nat_eq, nat_lt, Option, Some, None, List, [], ◌∷◌, ◌++◌, length, map, slice_get, refl, sym, subst, ap, inl, inr, ◌∙◌, eq-eqb, eqb-true, ltb-true, lt-ltb, arith}
 use Rattle.std.proofs.lemmas.Option.{slice_get_within}
-use Rattle.in_simple.specs.declared.open_nets.Point.{Point}
-use Rattle.in_simple.specs.declared.open_nets.Point.TheVariants.{Port, Free}
+use Rattle.in_open_nets.specs.declared.open_nets.Point.{Point}
+use Rattle.in_open_nets.specs.declared.open_nets.Point.TheVariants.{Port, Free}
 use Rattle.in_simple.specs.declared.plans.Joint.TheVariants as joint
 use Rattle.in_simple.specs.declared.plans.Task.{Task}
 use Rattle.in_simple.specs.declared.plans.Task.TheVariants.{Derive, Make}
-use Rattle.in_simple.specs.Constructions.{IsIn}
-use Rattle.in_simple.specs.OpenNets.{OpenNet, IsNode, IsWire, IsOpenNet}
-use Rattle.in_simple.specs.Derivations.{Step, Part, named, times, is_free, AreEarlier, IsDerivation}
-use Rattle.in_simple.specs.Procedure.{nodes_in}
-use Rattle.in_simple.specs.Stacks.{Shape, shape, no_wires, leads_out, HasShape, HaveShapes, times_node, IsLinkOf, IsStack, Runs, are_free, loose_in, loose_below, begun_with, SetsBeside, Ends, IsUnderWay}
+use Rattle.in_open_nets.specs.Constructions.{IsIn}
+use Rattle.in_open_nets.specs.OpenNets.{OpenNet, IsNode, IsWire, IsOpenNet}
+use Rattle.in_open_nets.specs.declared.derivations.Step.{Step}
+use Rattle.in_open_nets.specs.Derivations.{Part, named, times, is_free, AreEarlier, IsDerivation}
+use Rattle.in_open_nets.specs.Members.{nodes_in}
+use Rattle.in_simple.specs.Stacks.{Shape, shape, no_wires, leads_out, HasShape, HaveShapes, times_node, IsLinkOf, IsStack, Runs, are_free, loose_in, loose_below, begun_with, SetsBeside, Ends, IsUnderWay, Yields, done}
 use Rattle.in_base.proofs.Places.{some_same}
-use Rattle.in_simple.proofs.Sums.{not_both, same_test, point_node, port_yes, one_other, earlier_of, both_left, both_right}
-use Rattle.in_simple.proofs.Balance.{wire_turn}
-use Rattle.in_simple.proofs.Sound.{wire_points}
-use Rattle.in_simple.proofs.Links.{same_nat}
-use Rattle.in_simple.proofs.Reaching.{in_length}
+use Rattle.in_open_nets.proofs.Sums.{not_both, same_test, point_node, port_yes, one_other, earlier_of, both_left, both_right}
+use Rattle.in_open_nets.proofs.Balance.{wire_turn}
+use Rattle.in_open_nets.proofs.Sound.{wire_points}
+use Rattle.in_open_nets.proofs.Links.{same_nat}
+use Rattle.in_open_nets.proofs.Reaching.{in_length}
 use Rattle.in_simple.proofs.Whole.{times_some}
 use Rattle.in_simple.proofs.Make.{port_most}
 use Rattle.in_simple.proofs.Joining.{shape_same, fits_empty, fits_link, fits_mix}
 use Rattle.in_simple.specs.TakenOrder.{AreJointsOf, AreTaken, links_from, with_nodes, without}
-use Rattle.in_simple.specs.Stacks.{Yields, done}
 use Rattle.in_simple.proofs.Taking.{yields_makes, yields_part}
 use Rattle.in_simple.proofs.Stacking.{none_more, stack_none, runs_make}
 use Rattle.std.proofs.lemmas.Bool.{and_from, or_cases, or_left, or_right, false_from_ne_true}

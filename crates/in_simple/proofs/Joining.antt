@@ -1,12 +1,14 @@
 -- What each joint makes of nets on the way.
 use Rattle.std.proofs.Common.{◌≡◌, ◌↔◌, ℕ, Bool, false, ◌||◌, nat_eq, List, [], ◌∷◌, length, refl, ap, ◌∙◌, arith}
 use mathlib.Core.Path.{fun_ext}
-use Rattle.in_simple.specs.declared.open_nets.Point.{Point}
-use Rattle.in_simple.specs.declared.open_nets.Point.TheVariants.{Port}
+use Rattle.in_open_nets.specs.declared.open_nets.Point.{Point}
+use Rattle.in_open_nets.specs.declared.open_nets.Point.TheVariants.{Port}
 use Rattle.in_simple.specs.declared.plans.Joint.TheVariants as joint
-use Rattle.in_simple.specs.Constructions.{IsIn, AreParts}
-use Rattle.in_simple.specs.OpenNets.{OpenNet, IsClass, IsAgent, IsWire, IsOpenNet}
-use Rattle.in_simple.specs.Derivations.{Step, Empty, Link, Given, Cut, Mix, Part, named}
+use Rattle.in_open_nets.specs.Constructions.{IsIn, AreParts}
+use Rattle.in_open_nets.specs.OpenNets.{OpenNet, IsClass, IsAgent, IsWire, IsOpenNet}
+use Rattle.in_open_nets.specs.declared.derivations.Step.{Step}
+use Rattle.in_open_nets.specs.declared.derivations.Step.TheVariants.{Empty, Link, Given, Cut, Mix}
+use Rattle.in_open_nets.specs.Derivations.{Part, named}
 use Rattle.in_simple.specs.Stacks.{Shape, shape, no_wires, HasShape, HaveShapes, IsLinkOf, step_of, BuildsOver, Fits}
 use Rattle.in_simple.proofs.Make.{part_of, ends_wire, Fit, fit_empty, fit_link, fit_given, fit_mix, fit_cut, OnlyWire}
 

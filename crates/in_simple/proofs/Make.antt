@@ -1,20 +1,22 @@
 -- A derivation for each of the constructions.
 use Rattle.std.proofs.Common.{◌≡◌, ◌≢◌, ◌⊎◌, ◌↔◌, ◌<◌, ◌≤◌, ◌+◌, ℕ, zero, suc, Bool, true, false, cond, ◌&&◌, ◌||◌, nat_eq, Some, List, [], ◌∷◌, ◌++◌, length, slice_get, refl, sym, subst, ap, inl, inr, ◌∙◌, eq-eqb, eqb-true, ne_eqb, arith}
 use mathlib.Core.Path.{fun_ext}
-use Rattle.in_simple.specs.declared.open_nets.Point.{Point}
-use Rattle.in_simple.specs.declared.open_nets.Point.TheVariants.{Port, Free}
-use Rattle.in_simple.specs.Constructions.{IsIn, AreParts, numbered, IsGraft}
-use Rattle.in_simple.specs.OpenNets.{OpenNet, IsAgent, IsClass, class_in, classes_of, IsWire, IsOpenNet, open_graph}
-use Rattle.in_simple.specs.Derivations.{Step, Empty, Link, Given, Graft, Cut, Mix, Part, named, own_nodes, own_links, one_if, is_port_in, is_principal, is_auxiliary, is_among, nodes_of, links_of, ends_of, ShareNothing, IsGrafted, Joins, times}
-use Rattle.in_simple.specs.Stuck.{ports_of}
+use Rattle.in_open_nets.specs.declared.open_nets.Point.{Point}
+use Rattle.in_open_nets.specs.declared.open_nets.Point.TheVariants.{Port, Free}
+use Rattle.in_open_nets.specs.Constructions.{IsIn, AreParts, numbered, IsGraft}
+use Rattle.in_open_nets.specs.OpenNets.{OpenNet, IsAgent, IsClass, class_in, classes_of, IsWire, IsOpenNet, open_graph}
+use Rattle.in_open_nets.specs.declared.derivations.Step.{Step}
+use Rattle.in_open_nets.specs.declared.derivations.Step.TheVariants.{Empty, Link, Given, Graft, Cut, Mix}
+use Rattle.in_open_nets.specs.Derivations.{Part, named, own_nodes, own_links, one_if, is_port_in, is_principal, is_auxiliary, is_among, nodes_of, links_of, ends_of, ShareNothing, IsGrafted, Joins, times}
+use Rattle.in_open_nets.specs.Stuck.{ports_of}
 use Rattle.in_simple.specs.Stacks.{shape, no_wires, leads_out, IsLinkOf, HasShape}
 use Rattle.in_base.proofs.Places.{some_same}
-use Rattle.in_simple.proofs.Sums.{not_both, same_test, numbered_is, port_yes, port_no, port_none, port_same, port_or, port_own, other_port, auxiliary_port, principal_one, one_same, one_other, of_nodes, in_nodes_of, both_left, both_right}
-use Rattle.in_simple.proofs.Balance.{wire_within, wire_turn}
-use Rattle.in_simple.proofs.Sound.{wire_points, port_place}
-use Rattle.in_simple.proofs.Links.{Decided, same_nat, both_decided, at_most, least}
-use Rattle.in_simple.proofs.Search.{test, test_yes, test_is, partner, in_ports}
-use Rattle.in_simple.proofs.Grow.{Constructions}
+use Rattle.in_open_nets.proofs.Sums.{not_both, same_test, numbered_is, port_yes, port_no, port_none, port_same, port_or, port_own, other_port, auxiliary_port, principal_one, one_same, one_other, of_nodes, in_nodes_of, both_left, both_right}
+use Rattle.in_open_nets.proofs.Balance.{wire_within, wire_turn}
+use Rattle.in_open_nets.proofs.Sound.{wire_points, port_place}
+use Rattle.in_open_nets.proofs.Links.{Decided, same_nat, both_decided, at_most, least}
+use Rattle.in_open_nets.proofs.Search.{test, test_yes, test_is, partner, in_ports}
+use Rattle.in_open_nets.proofs.Grow.{Constructions}
 use Rattle.in_simple.proofs.Forest.{Forest, nothing, beside, close, or_sum}
 use Rattle.std.proofs.lemmas.Bool.{and_from, cond_both, or_cases, or_left, or_right, cases_Bool, false_from_ne_true}
 use Rattle.in_base.proofs.Each.{at_index}

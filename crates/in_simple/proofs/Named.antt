@@ -3,12 +3,13 @@ use Rattle.std.proofs.Common.{◌≡◌, ◌<◌, ◌≤◌, ◌+◌, ℕ, zero,
 use Rattle.std.proofs.Math.ListN.{set}
 use Rattle.std.proofs.lemmas.List.{length-set}
 use Rattle.in_simple.specs.declared.verifying.Built.{Built}
-use Rattle.in_simple.specs.Derivations.{Step, named, one_if, times_in}
+use Rattle.in_open_nets.specs.declared.derivations.Step.{Step}
+use Rattle.in_open_nets.specs.Derivations.{named, one_if, times_in}
 use Rattle.in_simple.specs.Checking.{left_of, left_at, Takes}
 use Rattle.in_base.proofs.Places.{set_here, set_there}
 use Rattle.in_base.proofs.Places.{some_same}
-use Rattle.in_simple.proofs.Sums.{one_same, one_other}
-use Rattle.in_simple.proofs.Links.{same_nat}
+use Rattle.in_open_nets.proofs.Sums.{one_same, one_other}
+use Rattle.in_open_nets.proofs.Links.{same_nat}
 
 pub take_one : (parts : List (Option Built)) (k : ℕ) (b : Built) → k < length parts → slice_get parts k ≡ Some (Some b) → Takes (k ∷ []) parts (set parts k None)
 take_one parts k b l h = record {

@@ -1,30 +1,32 @@
 -- The net of a node and of the nodes that are derived grows as a plan goes on.
 use Rattle.std.proofs.Math.Bool.{or_comm}
 use Rattle.std.proofs.Common.{◌≡◌, ◌≢◌, ◌⊎◌, ◌↔◌, ◌<◌, ◌+◌, ℕ, suc, Bool, false, ◌||◌, nat_eq, List, [], ◌∷◌, ◌++◌, length, slice_get, append_assoc, refl, sym, subst, ap, inl, inr, ◌∙◌, eq-eqb, eqb-true, arith}
-use Rattle.in_simple.specs.declared.open_nets.Point.{Point}
-use Rattle.in_simple.specs.declared.open_nets.Point.TheVariants.{Port}
+use Rattle.in_open_nets.specs.declared.open_nets.Point.{Point}
+use Rattle.in_open_nets.specs.declared.open_nets.Point.TheVariants.{Port}
 use Rattle.in_simple.specs.declared.plans.Joint.{Joint}
 use Rattle.in_simple.specs.declared.plans.Joint.TheVariants as joint
 use Rattle.in_simple.specs.declared.plans.Plan.{Plan}
 use Rattle.in_simple.specs.declared.plans.Task.{Task}
 use Rattle.in_simple.specs.declared.plans.Task.TheVariants.{Derive, Make}
-use Rattle.in_simple.specs.Constructions.{IsIn, AreParts}
-use Rattle.in_simple.specs.Pieces.{AreJoined}
-use Rattle.in_simple.specs.Splitting.{alone, onward, Without}
-use Rattle.in_simple.specs.OpenNets.{OpenNet, IsAgent, IsClass, IsWire, IsOpenNet, class_in, open_graph}
-use Rattle.in_simple.specs.Stuck.{IsPart, ports_of, ComesAt}
-use Rattle.in_simple.specs.Procedure.{nodes_in, IsRest, IsPlan, HasTurn, Derives, with_task}
+use Rattle.in_open_nets.specs.Constructions.{IsIn, AreParts}
+use Rattle.in_open_nets.specs.Pieces.{AreJoined}
+use Rattle.in_open_nets.specs.Splitting.{alone, onward, Without}
+use Rattle.in_open_nets.specs.OpenNets.{OpenNet, IsAgent, IsClass, IsWire, IsOpenNet, class_in, open_graph}
+use Rattle.in_open_nets.specs.Stuck.{IsPart, ports_of, ComesAt}
+use Rattle.in_open_nets.specs.Members.{nodes_in}
+use Rattle.in_open_nets.specs.Parts.{IsRest}
+use Rattle.in_simple.specs.Procedure.{IsPlan, HasTurn, Derives, with_task}
 use Rattle.in_simple.specs.Stacks.{Shape, shape, no_wires, Fits, Runs, Puts}
 use Rattle.in_simple.specs.Planned.{net_of, PutsNet, with_empty, Skips}
-use Rattle.in_simple.proofs.Sums.{not_both, same_test}
-use Rattle.in_simple.proofs.Sound.{port_place}
-use Rattle.in_simple.proofs.Links.{same_nat, link_join, link_first, link_map}
-use Rattle.in_simple.proofs.Search.{in_ports, turn_one_port_most, without, linked, component, is_component, comes_at, test_yes}
-use Rattle.in_simple.proofs.Grow.{class_is_place, agent_or_class}
+use Rattle.in_open_nets.proofs.Sums.{not_both, same_test}
+use Rattle.in_open_nets.proofs.Sound.{port_place}
+use Rattle.in_open_nets.proofs.Links.{same_nat, link_join, link_first, link_map}
+use Rattle.in_open_nets.proofs.Search.{in_ports, turn_one_port_most, without, linked, component, is_component, comes_at, test_yes}
+use Rattle.in_open_nets.proofs.Grow.{class_is_place, agent_or_class}
 use Rattle.in_simple.proofs.Make.{OnlyWire, agents_apart}
 use Rattle.in_simple.proofs.Joining.{shape_same, fits_empty, fits_given, fits_cut, fits_mix}
 use Rattle.in_simple.proofs.Stacking.{none_more, runs_make, runs_derive}
-use Rattle.in_simple.proofs.OnePiece.{joined_back}
+use Rattle.in_open_nets.proofs.OnePiece.{joined_back}
 use Rattle.in_simple.proofs.Planning.{in_net, part_inside, reached_part, node_turn}
 use Rattle.std.proofs.lemmas.Bool.{or_cases, or_left, or_right}
 use Rattle.in_base.proofs.Each.{at_index}

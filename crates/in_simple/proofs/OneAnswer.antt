@@ -1,14 +1,14 @@
 -- What deriving an open net answers is one.
 use Rattle.std.proofs.Common.{◌≡◌, ◌⊎◌, inl, inr, ℕ, suc, ◌≤◌, Bool, List, [], ◌∷◌, Ok, Err, refl, sym, ◌∙◌, ap, subst, arith}
 use Rattle.std.proofs.lemmas.Option.{same_Some}
-use Rattle.in_simple.specs.declared.derivations.Derivation.{Derivation}
-use Rattle.in_simple.specs.declared.derivations.Stuck.{Stuck as StuckNet}
-use Rattle.in_simple.specs.declared.derivations.Undone.TheVariants.{Stuck, Memory}
-use Rattle.in_simple.specs.Constructions.{IsIn}
+use Rattle.in_open_nets.specs.declared.derivations.Derivation.{Derivation}
+use Rattle.in_open_nets.specs.declared.derivations.Stuck.{Stuck as StuckNet}
+use Rattle.in_open_nets.specs.declared.derivations.Undone.TheVariants.{Stuck, Memory}
+use Rattle.in_open_nets.specs.Constructions.{IsIn}
 use Rattle.in_simple.specs.Laws.{Derives, NetsAreDerivedOnce, OneStuckPlace}
-use Rattle.in_simple.specs.OpenNets.{OpenNet, IsOpenNet, node_place_in}
-use Rattle.in_simple.specs.Stuck.{Among, Rises, IsListed, IsStuckNet, IsFirstStuck}
-use Rattle.in_simple.proofs.Both.{one_first_stuck}
+use Rattle.in_open_nets.specs.OpenNets.{OpenNet, IsOpenNet, node_place_in}
+use Rattle.in_open_nets.specs.Stuck.{Among, Rises, IsListed, IsStuckNet, IsFirstStuck}
+use Rattle.in_open_nets.proofs.Both.{one_first_stuck}
 use Rattle.in_simple.proofs.OneOrder.{one_list}
 use Rattle.in_simple.proofs.Whole.{derivation_builds}
 

@@ -1,25 +1,25 @@
 -- The order of steps determines them.
 use Rattle.std.proofs.Common.{◌≡◌, inl, inr, ℕ, suc, ◌+◌, ◌<◌, Bool, true, cond, nat_eq, List, [], ◌∷◌, ◌++◌, length, Option, Some, None, IsSomeAnd, slice_get, refl, sym, ◌∙◌, ap, subst, arith}
 use mathlib.Core.Path.{fun_ext}
-use Rattle.in_simple.specs.declared.open_nets.Node.{Node}
-use Rattle.in_simple.specs.declared.open_nets.Node.TheVariants.{AgentNode, ClassNode}
-use Rattle.in_simple.specs.declared.open_nets.OpenNode.{OpenNode}
-use Rattle.in_simple.specs.declared.open_nets.Point.TheVariants.{Port}
+use Rattle.in_open_nets.specs.declared.open_nets.Node.{Node}
+use Rattle.in_open_nets.specs.declared.open_nets.Node.TheVariants.{AgentNode, ClassNode}
+use Rattle.in_open_nets.specs.declared.open_nets.OpenNode.{OpenNode}
+use Rattle.in_open_nets.specs.declared.open_nets.Point.TheVariants.{Port}
 use Rattle.in_simple.specs.declared.plans.Joint.{Joint}
 use Rattle.in_simple.specs.declared.plans.Joint.TheVariants.{Link, Cut}
-use Rattle.in_simple.specs.Constructions.{IsIn}
-use Rattle.in_simple.specs.Derivations.{Step}
-use Rattle.in_simple.specs.OpenNets.{OpenNet, IsOpenNet, IsAgentNode, IsWire}
+use Rattle.in_open_nets.specs.Constructions.{IsIn}
+use Rattle.in_open_nets.specs.declared.derivations.Step.{Step}
+use Rattle.in_open_nets.specs.OpenNets.{OpenNet, IsOpenNet, IsAgentNode, IsWire}
 use Rattle.in_simple.specs.declared.plans.Task.{Task}
 use Rattle.in_simple.specs.declared.plans.Task.TheVariants.{Derive, Make}
 use Rattle.std.proofs.Common.{append_assoc}
-use Rattle.in_simple.specs.Stuck.{ComesAt, IsPart, ports_of}
+use Rattle.in_open_nets.specs.Stuck.{ComesAt, IsPart, ports_of}
 use Rattle.in_simple.specs.TakenOrder.{IsLeft, Manner, begins, beside, cut, manner, IsWireAt, IsJoined, LeadsAway, LinksAt, Stage, part, turns, at, Comes, taken, start, next, component, link, nothing, AreJointsOf, with_nodes, without, AreTaken, before, links_from, steps_from}
 use Rattle.in_simple.specs.Stacks.{Yields, done, made, derived}
 use Rattle.in_simple.proofs.Planning.{part_inside}
-use Rattle.in_simple.proofs.Search.{one_first, turn_same, turn_one, turn_cases}
-use Rattle.in_simple.proofs.Both.{all_one}
-use Rattle.in_simple.proofs.Sums.{same_test}
+use Rattle.in_open_nets.proofs.Search.{one_first, turn_same, turn_one, turn_cases}
+use Rattle.in_open_nets.proofs.Both.{all_one}
+use Rattle.in_open_nets.proofs.Sums.{same_test}
 
 -- the nodes are the open net's
 abbrev Inside : OpenNet → Stage → Type 0

@@ -1,25 +1,27 @@
 -- A plan lists the components that a node leaves, by their turns.
 use Rattle.std.proofs.Math.Bool.{or_comm}
 use Rattle.std.proofs.Common.{◌≡◌, ◌≢◌, ◌<◌, ◌≤◌, ◌+◌, ℕ, suc, Bool, false, IsTrue, cond, ◌||◌, nat_eq, Option, Some, None, IsSomeAnd, List, [], ◌∷◌, ◌++◌, length, slice_get, append_assoc, refl, sym, subst, ap, inl, inr, ◌∙◌, ne_eqb, arith}
-use Rattle.in_simple.specs.declared.open_nets.Node.{Node}
-use Rattle.in_simple.specs.declared.open_nets.Node.TheVariants.{AgentNode, ClassNode}
-use Rattle.in_simple.specs.declared.open_nets.OpenNode.{OpenNode}
-use Rattle.in_simple.specs.declared.open_nets.Point.TheVariants.{Port}
+use Rattle.in_open_nets.specs.declared.open_nets.Node.{Node}
+use Rattle.in_open_nets.specs.declared.open_nets.Node.TheVariants.{AgentNode, ClassNode}
+use Rattle.in_open_nets.specs.declared.open_nets.OpenNode.{OpenNode}
+use Rattle.in_open_nets.specs.declared.open_nets.Point.TheVariants.{Port}
 use Rattle.in_simple.specs.declared.plans.Joint.{Joint}
 use Rattle.in_simple.specs.declared.plans.Plan.{Plan}
 use Rattle.in_simple.specs.declared.plans.Task.{Task}
 use Rattle.in_simple.specs.declared.plans.Task.TheVariants.{Derive, Make}
-use Rattle.in_simple.specs.Constructions.{IsIn}
-use Rattle.in_simple.specs.Pieces.{IsPiece}
-use Rattle.in_simple.specs.Splitting.{alone, Without}
-use Rattle.in_simple.specs.OpenNets.{OpenNet, IsWire, IsOpenNet, open_graph, IsAgentNode, IsClassNode, IsAgent, IsClass}
-use Rattle.in_simple.specs.Stuck.{IsPart, ports_of, turn, ComesAt}
-use Rattle.in_simple.specs.Procedure.{nodes_in, missing, IsReached, IsRest, Lists, AreSized, PortSplits, IsPlan, HasTurn, GoesOn, KeepsPlan, Derives, with_task}
-use Rattle.in_simple.proofs.Absent.{has_all}
-use Rattle.in_simple.proofs.Sums.{not_both}
-use Rattle.in_simple.proofs.Links.{same_nat, at_most, link_back, link_first, link_map}
-use Rattle.in_simple.proofs.Reaching.{in_length}
-use Rattle.in_simple.proofs.Search.{in_ports, one_turn, turn_same, meet_same, comes_at, turn_one_port, turn_one_port_most, without}
+use Rattle.in_open_nets.specs.Constructions.{IsIn}
+use Rattle.in_open_nets.specs.Pieces.{IsPiece}
+use Rattle.in_open_nets.specs.Splitting.{alone, Without}
+use Rattle.in_open_nets.specs.OpenNets.{OpenNet, IsWire, IsOpenNet, open_graph, IsAgentNode, IsClassNode, IsAgent, IsClass}
+use Rattle.in_open_nets.specs.Stuck.{IsPart, ports_of, turn, ComesAt}
+use Rattle.in_open_nets.specs.Members.{nodes_in, missing}
+use Rattle.in_open_nets.specs.Parts.{IsReached, IsRest, PortSplits}
+use Rattle.in_simple.specs.Procedure.{Lists, AreSized, IsPlan, HasTurn, GoesOn, KeepsPlan, Derives, with_task}
+use Rattle.in_open_nets.proofs.Absent.{has_all}
+use Rattle.in_open_nets.proofs.Sums.{not_both}
+use Rattle.in_open_nets.proofs.Links.{same_nat, at_most, link_back, link_first, link_map}
+use Rattle.in_open_nets.proofs.Reaching.{in_length}
+use Rattle.in_open_nets.proofs.Search.{in_ports, one_turn, turn_same, meet_same, comes_at, turn_one_port, turn_one_port_most, without}
 use Rattle.std.proofs.lemmas.Bool.{or_cases, or_left, or_right}
 
 pub sized_more : (b : ℕ) (ts : List Task) (us : List Task) → AreSized b ts → AreSized b us → AreSized b (ts ++ us)

@@ -4,19 +4,20 @@ use Rattle.in_simple.specs.declared.plans.Joint.{Joint}
 use Rattle.in_simple.specs.declared.plans.Joint.TheVariants as joint
 use Rattle.in_simple.specs.declared.plans.Task.{Task}
 use Rattle.in_simple.specs.declared.plans.Task.TheVariants.{Derive, Make}
-use Rattle.in_simple.specs.OpenNets.{OpenNet}
-use Rattle.in_simple.specs.Derivations.{Step, Part, named, own_nodes, is_among, nodes_of, ShareNothing, AreDifferent, AreEarlier, Builds, times, Graft, Cut, Mix}
-use Rattle.in_simple.specs.Procedure.{nodes_in}
+use Rattle.in_open_nets.specs.OpenNets.{OpenNet}
+use Rattle.in_open_nets.specs.declared.derivations.Step.{Step}
+use Rattle.in_open_nets.specs.declared.derivations.Step.TheVariants.{Graft, Cut, Mix}
+use Rattle.in_open_nets.specs.Derivations.{Part, named, own_nodes, is_among, nodes_of, ShareNothing, AreDifferent, AreEarlier, Builds, times}
+use Rattle.in_open_nets.specs.Members.{nodes_in}
 use Rattle.in_simple.specs.Planned.{TakesPart}
 use Rattle.in_simple.specs.Stacks as yields
 use Rattle.in_simple.specs.TakenOrder.{AreTaken, steps_from}
-use Rattle.in_simple.specs.Stacks.{Yields}
+use Rattle.in_simple.specs.Stacks.{Yields, count_of, Shape, shape, no_wires, HasShape, HaveShapes, times_node, IsStack, step_of, over_two, IsLast, AreLast, Makes, BuildsOver, Fits, Runs, Puts, loose_in, IsUnderWay}
 use Rattle.in_simple.proofs.OneOrder.{split}
-use Rattle.in_simple.specs.Stacks.{count_of, Shape, shape, no_wires, HasShape, HaveShapes, times_node, IsStack, step_of, over_two, IsLast, AreLast, Makes, BuildsOver, Fits, Runs, Puts, loose_in, IsUnderWay}
 use Rattle.in_base.proofs.Places.{kept_at}
 use Rattle.in_base.proofs.Places.{some_same}
-use Rattle.in_simple.proofs.Sums.{one_same, one_other}
-use Rattle.in_simple.proofs.Links.{same_nat, at_most}
+use Rattle.in_open_nets.proofs.Sums.{one_same, one_other}
+use Rattle.in_open_nets.proofs.Links.{same_nat, at_most}
 use Rattle.in_simple.proofs.Forest.{length_app, get_past, get_cases, times_app, times_in_app, earlier_app, different_of, or_sum}
 
 -- ---- lists

@@ -1,21 +1,22 @@
 -- What a plan keeps from turn to turn.
 use Rattle.std.proofs.Common.{◌≡◌, ◌⊎◌, ◌<◌, ◌+◌, ◌-◌, ◌≤◌, ℕ, zero, suc, Bool, true, false, cond, List, [], refl, sym, ◌∙◌, ap, subst, inl, inr, arith}
-use Rattle.in_simple.specs.declared.open_nets.Point.{Point}
-use Rattle.in_simple.specs.declared.open_nets.Point.TheVariants.{Port}
+use Rattle.in_open_nets.specs.declared.open_nets.Point.{Point}
+use Rattle.in_open_nets.specs.declared.open_nets.Point.TheVariants.{Port}
 use Rattle.in_simple.specs.declared.plans.Fate.{Fate}
 use Rattle.in_simple.specs.declared.plans.Fate.TheVariants.{Waits, Derived, Outside}
 use Rattle.in_simple.specs.declared.plans.Joint.TheVariants.{Cut, Given, Graft, Mix}
 use Rattle.in_simple.specs.declared.plans.Plan.{Plan}
 use Rattle.in_simple.specs.declared.plans.Task.TheVariants.{Make}
-use Rattle.in_simple.specs.OpenNets.{OpenNet, IsAgent, IsClass, IsWire, class_in, classes_of}
+use Rattle.in_open_nets.specs.OpenNets.{OpenNet, IsAgent, IsClass, IsWire, class_in, classes_of}
 use Rattle.in_simple.specs.Planned.{HasClasses, HasFate, HasFateAt, IsAuxiliaryPort, JoinsFate, PutsNet, Skips, Takes, WhatComes, WhatPort, WithEmpties}
-use Rattle.in_simple.specs.Procedure.{Derives, GoesOn, IsPlan, KeepsPlan, nodes_in, with_task}
+use Rattle.in_simple.specs.Procedure.{Derives, GoesOn, IsPlan, KeepsPlan, with_task}
+use Rattle.in_open_nets.specs.Members.{nodes_in}
 use Rattle.in_simple.specs.Progress.{IsOver, PlansClasses, PlansNet, Progress, StartsPlan, later, progress, until}
-use Rattle.in_simple.specs.Stuck.{ports_of, turn}
+use Rattle.in_open_nets.specs.Stuck.{ports_of, turn}
 use Rattle.in_simple.specs.TakenOrder.{before, empties}
 use Rattle.in_simple.proofs.ClassNets.{begun_most, classes_start, first_came, further_came, further_none, net_graft, skip_has, some_class}
 use Rattle.in_simple.proofs.Fates.{along, met_past, past}
-use Rattle.in_simple.proofs.Links.{at_most}
+use Rattle.in_open_nets.proofs.Links.{at_most}
 use Rattle.in_simple.proofs.Nets.{net_given, net_join, net_other, one_port}
 use Rattle.in_simple.proofs.Planning.{NoneAt, agent_start, class_last, goes_make, node_derive, node_pass, plan_skip, port_derive, port_pass, turn_agent}
 use Rattle.in_simple.proofs.Taking.{agent_alone, agent_first, agent_grafts, agent_takes, before_given, before_next, before_other, class_end, class_takes, first_brings, first_takes, further_nothing, further_takes, join_nothing, join_takes, other_nothing, other_takes, over_nothing, principal_zero, takes_makes}

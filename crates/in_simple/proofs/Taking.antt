@@ -1,30 +1,32 @@
 -- What the tasks of a plan come to, turn by turn.
 use Rattle.std.proofs.Common.{◌≡◌, ◌⊎◌, inl, inr, ℕ, zero, suc, ◌+◌, ◌-◌, ◌<◌, ◌≤◌, Bool, true, false, cond, nat_eq, nat_lt, Option, Some, None, IsSomeAnd, List, [], ◌∷◌, ◌++◌, length, map, slice_get, get_or, append_assoc, append-nil, refl, sym, ◌∙◌, ap, subst, arith, lt-ltb, le-ltb, eq-eqb, ne_eqb}
-use Rattle.in_simple.specs.declared.open_nets.Node.{Node}
-use Rattle.in_simple.specs.declared.open_nets.Node.TheVariants.{AgentNode, ClassNode}
-use Rattle.in_simple.specs.declared.open_nets.OpenNode.{OpenNode}
-use Rattle.in_simple.specs.declared.open_nets.Point.{Point}
-use Rattle.in_simple.specs.declared.open_nets.Point.TheVariants.{Port, Free}
+use Rattle.in_open_nets.specs.declared.open_nets.Node.{Node}
+use Rattle.in_open_nets.specs.declared.open_nets.Node.TheVariants.{AgentNode, ClassNode}
+use Rattle.in_open_nets.specs.declared.open_nets.OpenNode.{OpenNode}
+use Rattle.in_open_nets.specs.declared.open_nets.Point.{Point}
+use Rattle.in_open_nets.specs.declared.open_nets.Point.TheVariants.{Port, Free}
 use Rattle.in_simple.specs.declared.plans.Joint.{Joint}
 use Rattle.in_simple.specs.declared.plans.Joint.TheVariants.{Empty, Link, Given, Graft, Cut, Mix}
 use Rattle.in_simple.specs.declared.plans.Plan.{Plan}
 use Rattle.in_simple.specs.declared.plans.Task.{Task}
 use Rattle.in_simple.specs.declared.plans.Task.TheVariants.{Derive, Make}
-use Rattle.in_simple.specs.Constructions.{IsIn}
+use Rattle.in_open_nets.specs.Constructions.{IsIn}
 use Rattle.in_simple.specs.Joints.{loose_in}
-use Rattle.in_simple.specs.OpenNets.{OpenNet, IsAgent, IsAgentNode, IsClass, IsClassNode, IsOpenNet, IsWire, class_at, class_in, classes_of}
+use Rattle.in_open_nets.specs.OpenNets.{OpenNet, IsAgent, IsAgentNode, IsClass, IsClassNode, IsOpenNet, IsWire, class_at, class_in, classes_of}
 use Rattle.in_simple.specs.Planned.{AddsNothing, Brings, HasClasses, Takes, TakesPart, WhatComes, WithEmpties, a_component, a_link}
-use Rattle.in_simple.specs.Procedure.{Derives, IsFirst, IsPlan, IsRest, nodes_in, with_task}
-use Rattle.in_simple.specs.Splitting.{alone}
-use Rattle.in_simple.specs.Stuck.{ComesAt, IsPart, ports_of, turn}
+use Rattle.in_simple.specs.Procedure.{Derives, IsPlan, with_task}
+use Rattle.in_open_nets.specs.Parts.{IsFirst, IsRest}
+use Rattle.in_open_nets.specs.Members.{nodes_in}
+use Rattle.in_open_nets.specs.Splitting.{alone}
+use Rattle.in_open_nets.specs.Stuck.{ComesAt, IsPart, ports_of, turn}
 use Rattle.in_simple.specs.TakenOrder.{Comes, IsJoined, LeadsAway, LinksAt, Manner, NothingAt, at, before, begins, beside, component, cut, empties, first_joint, link, links_from, manner, next, nothing, part, start, taken, turns}
 use Rattle.in_simple.specs.Stacks.{Yields, derived, done, made}
-use Rattle.in_simple.proofs.Links.{at_most}
+use Rattle.in_open_nets.proofs.Links.{at_most}
 use Rattle.in_simple.proofs.OneOrder.{split}
 use Rattle.in_simple.proofs.Planning.{NoneAt, agent_none, class_none, node_none, node_turn, port_none, port_turn, reached_part, turn_agent, turn_class, turn_principal}
-use Rattle.in_simple.proofs.Search.{at_ports}
-use Rattle.in_simple.proofs.Sound.{class_no_agent, port_place}
-use Rattle.in_simple.proofs.Sums.{not_both, port_no}
+use Rattle.in_open_nets.proofs.Search.{at_ports}
+use Rattle.in_open_nets.proofs.Sound.{class_no_agent, port_place}
+use Rattle.in_open_nets.proofs.Sums.{not_both, port_no}
 
 -- ---- tasks that are steps alone
 

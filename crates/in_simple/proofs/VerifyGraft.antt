@@ -3,18 +3,19 @@ use Rattle.std.proofs.Common.{◌≡◌, ◌↔◌, ◌<◌, ◌≤◌, ◌+◌,
 use Rattle.std.proofs.Math.ListN.{set}
 use Rattle.std.proofs.lemmas.List.{length-set, drop_all}
 use Rattle.std.proofs.lemmas.Option.{slice_get_within}
-use Rattle.in_simple.specs.declared.open_nets.Point.{Point}
-use Rattle.in_simple.specs.declared.open_nets.Point.TheVariants.{Port, Free}
+use Rattle.in_open_nets.specs.declared.open_nets.Point.{Point}
+use Rattle.in_open_nets.specs.declared.open_nets.Point.TheVariants.{Port, Free}
 use Rattle.in_simple.specs.declared.verifying.Built.{Built}
-use Rattle.in_simple.specs.OpenNets.{OpenNet, IsWire, IsAgent, classes_of, class_in}
-use Rattle.in_simple.specs.Derivations.{Graft, Part, is_principal, is_auxiliary, is_among, nodes_of, links_of, ends_of, IsGrafted, times}
+use Rattle.in_open_nets.specs.OpenNets.{OpenNet, IsWire, IsAgent, classes_of, class_in}
+use Rattle.in_open_nets.specs.declared.derivations.Step.TheVariants.{Graft}
+use Rattle.in_open_nets.specs.Derivations.{Part, is_principal, is_auxiliary, is_among, nodes_of, links_of, ends_of, IsGrafted, times}
 use Rattle.in_simple.specs.Checking.{ends_at, has_node, has_link, in_one, IsSized, Holds, AllHold, Gathers, IsNothing, Took, Makes, IsMade, AreOpen, IsInClass, IsOpenAt, IsOpen, HasClass, AreGrafted, OnStep, IsClassTaken, IsClassRefused, AreGathered, AreRefused, IsGraftedTo, LacksSome}
-use Rattle.in_simple.specs.Procedure.{nodes_in}
-use Rattle.in_simple.proofs.Links.{same_nat}
+use Rattle.in_open_nets.specs.Members.{nodes_in}
+use Rattle.in_open_nets.proofs.Links.{same_nat}
 use Rattle.in_base.proofs.Places.{some_same}
-use Rattle.in_simple.proofs.Sums.{one_same, one_other}
+use Rattle.in_open_nets.proofs.Sums.{one_same, one_other}
 use Rattle.in_simple.proofs.VerifyMade.{AtWires, beside_counted, at_points, at_wires, gathers_none, gathers_more, share_none}
-use Rattle.in_simple.proofs.VerifySets.{at_set, at_other, drop_here}
+use Rattle.in_open_nets.proofs.Places.{at_set, at_other, drop_here}
 use Rattle.in_simple.proofs.VerifyTaken.{taken_counted, took_hold, took_kept, again_left, earlier_length}
 use Rattle.std.proofs.lemmas.Bool.{or_left, or_right}
 

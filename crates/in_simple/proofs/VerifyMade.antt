@@ -4,18 +4,19 @@ use Rattle.std.proofs.Math.ListN.{set}
 use Rattle.std.proofs.lemmas.Bool.Decides.{eqb_tells}
 use Rattle.std.proofs.lemmas.List.{length-set}
 use Rattle.std.proofs.lemmas.Option.{slice_get_within}
-use Rattle.in_simple.specs.declared.open_nets.Point.{Point}
-use Rattle.in_simple.specs.declared.open_nets.Point.TheVariants.{Port, Free}
+use Rattle.in_open_nets.specs.declared.open_nets.Point.{Point}
+use Rattle.in_open_nets.specs.declared.open_nets.Point.TheVariants.{Port, Free}
 use Rattle.in_simple.specs.declared.verifying.Built.{Built}
-use Rattle.in_simple.specs.OpenNets.{OpenNet, IsWire, IsOpenNet, IsClass}
-use Rattle.in_simple.specs.Derivations.{Empty, Link, Given, Cut, Mix, Part, one_if, is_port_in, nodes_of, links_of, ends_of, ShareNothing, IsCut}
+use Rattle.in_open_nets.specs.OpenNets.{OpenNet, IsWire, IsOpenNet, IsClass}
+use Rattle.in_open_nets.specs.declared.derivations.Step.TheVariants.{Empty, Link, Given, Cut, Mix}
+use Rattle.in_open_nets.specs.Derivations.{Part, one_if, is_port_in, nodes_of, links_of, ends_of, ShareNothing, IsCut}
 use Rattle.in_simple.specs.Checking.{ends_at, has_node, has_link, HasNoNodes, HasNoLinks, first_ends, second_ends, IsSized, Holds, Gathers, IsNothing, AreBeside, ShareOne, IsLed, IsFrom, IsJoint, Makes, OnAlone, OnPair, in_one}
-use Rattle.in_simple.specs.Procedure.{nodes_in}
-use Rattle.in_simple.proofs.Balance.{wire_within}
-use Rattle.in_simple.proofs.Links.{same_nat}
+use Rattle.in_open_nets.specs.Members.{nodes_in}
+use Rattle.in_open_nets.proofs.Balance.{wire_within}
+use Rattle.in_open_nets.proofs.Links.{same_nat}
 use Rattle.in_base.proofs.Places.{some_same}
-use Rattle.in_simple.proofs.Sums.{port_same, one_same, one_other}
-use Rattle.in_simple.proofs.VerifySets.{at_set, at_other}
+use Rattle.in_open_nets.proofs.Sums.{port_same, one_same, one_other}
+use Rattle.in_open_nets.proofs.Places.{at_set, at_other}
 use Rattle.std.proofs.lemmas.Bool.{or_left, or_right}
 use Rattle.in_base.proofs.Each.{at_index}
 

@@ -2,15 +2,16 @@
 use Rattle.std.proofs.Common.{◌≡◌, ◌↔◌, ◌<◌, ◌≤◌, ◌+◌, ◌-◌, ℕ, zero, suc, true, false, cond, nat_eq, Option, Some, None, List, [], ◌∷◌, ◌++◌, length, length-append, take, slice_get, refl, sym, subst, ap, inl, inr, ◌∙◌, eq-eqb, arith}
 use Rattle.std.proofs.lemmas.Option.{slice_get_within}
 use Rattle.in_simple.specs.declared.verifying.Built.{Built}
-use Rattle.in_simple.specs.OpenNets.{OpenNet, IsOpenNet}
-use Rattle.in_simple.specs.Derivations.{Step, Part, named, own_nodes, is_among, AreDifferent, AreEarlier, Builds, IsDerivation, is_free, times, times_in}
+use Rattle.in_open_nets.specs.OpenNets.{OpenNet, IsOpenNet}
+use Rattle.in_open_nets.specs.declared.derivations.Step.{Step}
+use Rattle.in_open_nets.specs.Derivations.{Part, named, own_nodes, is_among, AreDifferent, AreEarlier, Builds, IsDerivation, is_free, times, times_in}
 use Rattle.in_simple.specs.Checking.{AreSized, AreHeld, AllHold, Again, Holds, IsLast, IsMade, IsWhole, IsSized, IsTaken, Took, Makes, OnStep, OnAlone, OnPair, has_node, in_one, left_of, left_at, times_left}
 use Rattle.in_simple.proofs.Named.{AreLeft, left_start, left_more, left_app, take_next, take_whole}
 use Rattle.in_simple.proofs.Forest.{get_past, get_cases, times_in_app}
-use Rattle.in_simple.proofs.Links.{same_nat, at_most}
+use Rattle.in_open_nets.proofs.Links.{same_nat, at_most}
 use Rattle.in_base.proofs.Places.{kept_at, unsnoc}
 use Rattle.in_base.proofs.Places.{some_same}
-use Rattle.in_simple.proofs.Sums.{one_same, one_other, earlier_of}
+use Rattle.in_open_nets.proofs.Sums.{one_same, one_other, earlier_of}
 use Rattle.in_simple.proofs.Whole.{times_among, is_node}
 use Rattle.in_simple.proofs.VerifyMade.{at_points, part_of, holds_part}
 use Rattle.in_simple.proofs.VerifyTaken.{left_most, taken_counted, took_takes, took_kept, took_sized, took_different, took_hold, took_from, again_left}

@@ -3,15 +3,15 @@ use Rattle.std.proofs.Common.{◌≡◌, ◌≤◌, ◌+◌, ℕ, zero, suc, fal
 use Rattle.std.proofs.Math.ListN.{set}
 use Rattle.std.proofs.lemmas.Option.{slice_get_within}
 use Rattle.in_simple.specs.declared.verifying.Built.{Built}
-use Rattle.in_simple.specs.OpenNets.{OpenNet}
-use Rattle.in_simple.specs.Derivations.{Part, is_among, AreDifferent, AreEarlier, times}
+use Rattle.in_open_nets.specs.OpenNets.{OpenNet}
+use Rattle.in_open_nets.specs.Derivations.{Part, is_among, AreDifferent, AreEarlier, times}
 use Rattle.in_simple.specs.Checking.{Holds, AllHold, AreHeld, AreSized, IsTaken, Took, Takes, in_one, left_of, left_at, times_left}
 use Rattle.in_simple.proofs.Forest.{different_of}
-use Rattle.in_simple.proofs.Links.{same_nat}
+use Rattle.in_open_nets.proofs.Links.{same_nat}
 use Rattle.in_simple.proofs.Named.{take_one, take_none}
 use Rattle.in_base.proofs.Places.{set_here, set_there}
 use Rattle.in_base.proofs.Places.{some_same}
-use Rattle.in_simple.proofs.Sums.{not_both}
+use Rattle.in_open_nets.proofs.Sums.{not_both}
 use Rattle.in_simple.proofs.Whole.{among_times}
 
 pub left_most : (parts : List (Option Built)) (i : ℕ) → left_at parts i ≤ 1

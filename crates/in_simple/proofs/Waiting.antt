@@ -1,11 +1,12 @@
 -- A plan waits from one member of a part to the next, since only members are left.
 use Rattle.std.proofs.Common.{◌≡◌, ◌<◌, ◌≤◌, ◌+◌, ◌∙◌, ℕ, zero, suc, Bool, false, List, length, get_or, sym, subst, ap, arith}
 use Rattle.std.proofs.lemmas.Bool.{false_from_ne_true}
-use Rattle.in_simple.specs.Procedure.{nodes_in, IsRest}
+use Rattle.in_open_nets.specs.Members.{nodes_in}
+use Rattle.in_open_nets.specs.Parts.{IsRest}
 use Rattle.in_simple.specs.Progress.{Progress, later, until}
-use Rattle.in_simple.specs.Stuck.{IsListed, ports_of}
-use Rattle.in_simple.proofs.Members.{next_in, none_after, none_between, past, past_below, past_next}
-use Rattle.in_simple.proofs.Reaching.{in_length}
+use Rattle.in_open_nets.specs.Stuck.{IsListed, ports_of}
+use Rattle.in_open_nets.proofs.Members.{next_in, none_after, none_between, past, past_below, past_next}
+use Rattle.in_open_nets.proofs.Reaching.{in_length}
 
 -- no node that is left has a turn from that of the plan on and before that of k
 abbrev pub NoneLeft : Progress → ℕ → Type 0

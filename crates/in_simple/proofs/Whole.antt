@@ -2,15 +2,17 @@
 use Rattle.std.proofs.Common.{◌≡◌, ◌<◌, ◌≤◌, ◌+◌, ◌-◌, ℕ, zero, suc, true, false, nat_eq, Some, List, [], ◌∷◌, length, slice_get, refl, sym, subst, inl, inr, ◌∙◌, eqb-true, arith}
 use Rattle.std.proofs.lemmas.Bool.Decides.{eqb_tells}
 use Rattle.std.proofs.lemmas.Option.{slice_get_within}
-use Rattle.in_simple.specs.declared.open_nets.Point.TheVariants.{Port}
-use Rattle.in_simple.specs.Constructions.{IsIn}
-use Rattle.in_simple.specs.OpenNets.{OpenNet, IsAgentNode, IsClassNode, IsNode, IsOpenNet, IsDerivable}
-use Rattle.in_simple.specs.Derivations.{Step, Empty, Link, Given, Graft, Cut, Mix, Part, named, own_nodes, is_among, nodes_of, AreEarlier, Joins, times, times_in, IsDerivation}
+use Rattle.in_open_nets.specs.declared.open_nets.Point.TheVariants.{Port}
+use Rattle.in_open_nets.specs.Constructions.{IsIn}
+use Rattle.in_open_nets.specs.OpenNets.{OpenNet, IsAgentNode, IsClassNode, IsNode, IsOpenNet, IsDerivable}
+use Rattle.in_open_nets.specs.declared.derivations.Step.{Step}
+use Rattle.in_open_nets.specs.declared.derivations.Step.TheVariants.{Empty, Link, Given, Graft, Cut, Mix}
+use Rattle.in_open_nets.specs.Derivations.{Part, named, own_nodes, is_among, nodes_of, AreEarlier, Joins, times, times_in, IsDerivation}
 use Rattle.in_base.proofs.Places.{some_same}
-use Rattle.in_simple.proofs.Links.{at_most}
-use Rattle.in_simple.proofs.Sums.{not_both, some_of, one_same, one_other, in_nodes_of, of_nodes, earlier_at, earlier_of}
-use Rattle.in_simple.proofs.Balance.{step_balanced}
-use Rattle.in_simple.proofs.Sound.{IsGood, AllGood, all_balanced, step_good}
+use Rattle.in_open_nets.proofs.Links.{at_most}
+use Rattle.in_open_nets.proofs.Sums.{not_both, some_of, one_same, one_other, in_nodes_of, of_nodes, earlier_at, earlier_of}
+use Rattle.in_open_nets.proofs.Balance.{step_balanced}
+use Rattle.in_open_nets.proofs.Sound.{IsGood, AllGood, all_balanced, step_good}
 use Rattle.std.proofs.lemmas.Bool.{or_cases, or_left, or_right, cases_Bool, false_from_ne_true}
 use Rattle.in_base.proofs.Each.{at_index}
 

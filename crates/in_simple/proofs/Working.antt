@@ -3,17 +3,19 @@ use Rattle.std.proofs.Common.{◌≡◌, ◌⊎◌, ◌<◌, ◌≤◌, ℕ, suc
 use Rattle.in_simple.specs.declared.plans.Joint.{Joint}
 use Rattle.in_simple.specs.declared.plans.Task.{Task}
 use Rattle.in_simple.specs.declared.plans.Task.TheVariants.{Derive, Make}
-use Rattle.in_simple.specs.Constructions.{IsIn}
-use Rattle.in_simple.specs.Splitting.{alone, Without, IsFirstSplitting, first}
-use Rattle.in_simple.specs.OpenNets.{OpenNet, IsOpenNet, IsDerivable, open_graph}
-use Rattle.in_simple.specs.Stuck.{IsPart, Among, ComesAt, FirstStuck, IsFirstStuck, Rises, whole, within}
-use Rattle.in_simple.specs.Procedure.{nodes_in, AllSplit, HasNone, IsFirst, NoneSplits, Lists, AreSized, AreMakes, StuckIn, pending_in, AreApart, ArePieces, IsWork, StartsWork, Passes}
-use Rattle.in_simple.proofs.Sums.{not_both}
-use Rattle.in_simple.proofs.Links.{same_nat, at_most, link_first, link_back}
-use Rattle.in_simple.proofs.OnePiece.{component_piece, missing_none}
-use Rattle.in_simple.proofs.Reaching.{in_length}
-use Rattle.in_simple.proofs.Search.{count, count_less, comes_at, one_turn, turn_same, meet_same, without}
-use Rattle.in_simple.proofs.Both.{derivable_splits, one_first_stuck}
+use Rattle.in_open_nets.specs.Constructions.{IsIn}
+use Rattle.in_open_nets.specs.Splitting.{alone, Without, IsFirstSplitting, first}
+use Rattle.in_open_nets.specs.OpenNets.{OpenNet, IsOpenNet, IsDerivable, open_graph}
+use Rattle.in_open_nets.specs.Stuck.{IsPart, ComesAt, FirstStuck, IsFirstStuck, whole, within}
+use Rattle.in_open_nets.specs.Members.{nodes_in}
+use Rattle.in_simple.specs.Procedure.{AllSplit, HasNone, Lists, AreSized, AreMakes, StuckIn, pending_in, AreApart, ArePieces, IsWork, StartsWork, Passes}
+use Rattle.in_open_nets.specs.Parts.{IsFirst, NoneSplits}
+use Rattle.in_open_nets.proofs.Sums.{not_both}
+use Rattle.in_open_nets.proofs.Links.{same_nat, at_most, link_first, link_back}
+use Rattle.in_open_nets.proofs.OnePiece.{component_piece, missing_none}
+use Rattle.in_open_nets.proofs.Reaching.{in_length}
+use Rattle.in_open_nets.proofs.Search.{count, count_less, comes_at, one_turn, turn_same, meet_same, without}
+use Rattle.in_open_nets.proofs.Both.{derivable_splits, one_first_stuck}
 use Rattle.in_simple.proofs.Planning.{sized_more}
 use Rattle.std.proofs.lemmas.Bool.{or_cases, or_left, or_right, or_from, false_from_ne_true}
 
@@ -184,9 +186,3 @@ module _ (o : OpenNet) (net : IsOpenNet o) where
 
   pub stuck_underivable : (t : ℕ → Bool) → IsFirstStuck o t → IsDerivable o → ⊥
   stuck_underivable t h d = (one_first_stuck o net t h).0 (derivable_splits o net d)
-
--- ---- lists of nodes
-
-pub rises_more : (low : ℕ) (ns : List ℕ) (k : ℕ) → Rises low ns → ((n : ℕ) → Among n ns → n < k) → low ≤ k → Rises low (ns ++ k ∷ [])
-rises_more low [] k r h l = (l, tt)
-rises_more low (n ∷ ns) k r h l = (r.0, rises_more (suc n) ns k r.1 (λ m g. h m (inr g)) (h n (inl refl)))

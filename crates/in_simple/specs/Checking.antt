@@ -1,12 +1,13 @@
 -- What a check of a derivation keeps true. Sets of nodes and of wires are lists of tests.
 use Rattle.std.specs.Prelude.{◌≡◌, ◌⊎◌, ◌↔◌, ◌<◌, ◌+◌, ℕ, suc, Bool, true, false, cond, ◌||◌, List, [], ◌∷◌, ◌++◌, Option, Some, None, length, slice_get, slice_set, slice_index_or}
-use Rattle.in_simple.specs.declared.open_nets.Point.{Point}
-use Rattle.in_simple.specs.declared.open_nets.Point.TheVariants.{Port, Free}
+use Rattle.in_open_nets.specs.declared.open_nets.Point.{Point}
+use Rattle.in_open_nets.specs.declared.open_nets.Point.TheVariants.{Port, Free}
 use Rattle.in_simple.specs.declared.verifying.Built.{Built}
-use Rattle.in_simple.specs.Constructions.{IsIn}
-use Rattle.in_simple.specs.Derivations.{Step, Part, named, own_nodes, own_links, is_port_in, is_principal, is_auxiliary, is_free, is_among, nodes_of, links_of, ends_of, ShareNothing, AreDifferent, AreEarlier, Joins, Builds, times}
-use Rattle.in_simple.specs.OpenNets.{OpenNet, class_in, IsWire}
-use Rattle.in_simple.specs.Procedure.{nodes_in}
+use Rattle.in_open_nets.specs.Constructions.{IsIn}
+use Rattle.in_open_nets.specs.declared.derivations.Step.{Step}
+use Rattle.in_open_nets.specs.Derivations.{Part, named, own_nodes, own_links, is_port_in, is_principal, is_auxiliary, is_free, is_among, nodes_of, links_of, ends_of, ShareNothing, AreDifferent, AreEarlier, Joins, Builds, times}
+use Rattle.in_open_nets.specs.OpenNets.{OpenNet, class_in, IsWire}
+use Rattle.in_open_nets.specs.Members.{IsUnion, nodes_in}
 
 -- the answer says which of the two holds
 abbrev pub Tells : Bool → Type 0 → Type 0 → Type 0
@@ -51,9 +52,6 @@ pub record Gathers (o : OpenNet) (b : Built) (xs : List Part) : Type 0 where
 
 abbrev pub Shares : List Bool → List Bool → Type 0
 Shares a b = (n : ℕ) × IsIn n (nodes_in a) × IsIn n (nodes_in b)
-
-abbrev pub IsUnion : List Bool → List Bool → List Bool → Type 0
-IsUnion a b c = (n : ℕ) → nodes_in c n ≡ (nodes_in a n || nodes_in b n)
 
 abbrev pub IsSum : List (ℕ × ℕ) → List (ℕ × ℕ) → List (ℕ × ℕ) → Type 0
 IsSum a b c = (w : ℕ) → ((ends_at c w).0 ≡ (ends_at a w).0 + (ends_at b w).0) × ((ends_at c w).1 ≡ (ends_at a w).1 + (ends_at b w).1)

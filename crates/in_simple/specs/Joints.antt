@@ -1,11 +1,12 @@
 -- Joints: steps over those that came last and that none names yet.
 use Rattle.std.specs.Prelude.{ℕ, Bool, true, false, List, [], ◌∷◌, slice_get, Option, Some, None}
-use Rattle.in_simple.specs.declared.open_nets.Point.{Point}
-use Rattle.in_simple.specs.declared.open_nets.Point.TheVariants.{Port, Free}
+use Rattle.in_open_nets.specs.declared.open_nets.Point.{Point}
+use Rattle.in_open_nets.specs.declared.open_nets.Point.TheVariants.{Port, Free}
 use Rattle.in_simple.specs.declared.plans.Joint.{Joint}
 use Rattle.in_simple.specs.declared.plans.Joint.TheVariants as joint
-use Rattle.in_simple.specs.Derivations.{Step, Empty, Link, Given, Graft, Cut, Mix}
-use Rattle.in_simple.specs.OpenNets.{OpenNet}
+use Rattle.in_open_nets.specs.declared.derivations.Step.{Step}
+use Rattle.in_open_nets.specs.declared.derivations.Step.TheVariants.{Empty, Link, Given, Graft, Cut, Mix}
+use Rattle.in_open_nets.specs.OpenNets.{OpenNet}
 
 -- how many of the last steps that none names a joint takes, and the step that it makes of them
 abbrev pub count_of : Joint → ℕ

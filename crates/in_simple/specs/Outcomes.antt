@@ -1,9 +1,9 @@
 -- What the procedure comes to.
 use Rattle.in_simple.specs.declared.procedure.Outcome.{Outcome}
 use Rattle.in_simple.specs.declared.procedure.Outcome.TheVariants.{Derived, First}
-use Rattle.in_simple.specs.OpenNets.{OpenNet}
-use Rattle.in_simple.specs.Derivations.{IsDerivation}
-use Rattle.in_simple.specs.Stuck.{IsStuckNet}
+use Rattle.in_open_nets.specs.OpenNets.{OpenNet}
+use Rattle.in_open_nets.specs.Derivations.{IsDerivation}
+use Rattle.in_open_nets.specs.Stuck.{IsStuckNet}
 use Rattle.in_simple.specs.TakenOrder.{AreTaken}
 
 abbrev pub IsOutcome : OpenNet → Outcome → Type 0

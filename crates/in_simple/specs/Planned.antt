@@ -1,7 +1,7 @@
 -- Which nets the tasks of a plan put on a stack.
 use Rattle.std.specs.Prelude.{◌≡◌, ◌⊎◌, ◌↔◌, ℕ, zero, suc, ◌<◌, ◌≤◌, Bool, true, false, IsTrue, ◌||◌, nat_eq, List, [], ◌∷◌, ◌++◌, length, map}
-use Rattle.in_simple.specs.declared.open_nets.Point.{Point}
-use Rattle.in_simple.specs.declared.open_nets.Point.TheVariants.{Port, Free}
+use Rattle.in_open_nets.specs.declared.open_nets.Point.{Point}
+use Rattle.in_open_nets.specs.declared.open_nets.Point.TheVariants.{Port, Free}
 use Rattle.in_simple.specs.declared.plans.Fate.{Fate}
 use Rattle.in_simple.specs.declared.plans.Fate.TheVariants.{Waits, Derived, Outside}
 use Rattle.in_simple.specs.declared.plans.Joint.{Joint}
@@ -9,16 +9,16 @@ use Rattle.in_simple.specs.declared.plans.Joint.TheVariants.{Link}
 use Rattle.in_simple.specs.declared.plans.Plan.{Plan}
 use Rattle.in_simple.specs.declared.plans.Task.{Task}
 use Rattle.in_simple.specs.declared.plans.Task.TheVariants.{Derive, Make}
-use Rattle.in_simple.specs.Constructions.{IsIn}
-use Rattle.in_simple.specs.Pieces.{IsPiece}
-use Rattle.in_simple.specs.Splitting.{Linked}
-use Rattle.in_simple.specs.OpenNets.{OpenNet, IsAgent, IsWire, IsOpenNet, class_in, open_graph}
-use Rattle.in_simple.specs.Derivations.{is_port_in}
-use Rattle.in_simple.specs.Stuck.{ComesAt, IsPart, ports_of}
+use Rattle.in_open_nets.specs.Constructions.{IsIn}
+use Rattle.in_open_nets.specs.Pieces.{IsPiece}
+use Rattle.in_open_nets.specs.Splitting.{Linked}
+use Rattle.in_open_nets.specs.OpenNets.{OpenNet, IsAgent, IsWire, IsOpenNet, class_in, open_graph}
+use Rattle.in_open_nets.specs.Derivations.{is_port_in}
+use Rattle.in_open_nets.specs.Stuck.{ComesAt, IsPart, ports_of}
 use Rattle.in_simple.specs.TakenOrder.{Comes, LinksAt, NothingAt, empties, part, turns}
-use Rattle.in_simple.specs.Stacks.{Yields}
-use Rattle.in_simple.specs.Procedure.{Derives, nodes_in, with_task}
-use Rattle.in_simple.specs.Stacks.{Shape, shape, no_wires, Puts}
+use Rattle.in_simple.specs.Stacks.{Yields, Shape, shape, no_wires, Puts}
+use Rattle.in_simple.specs.Procedure.{Derives, with_task}
+use Rattle.in_open_nets.specs.Members.{nodes_in}
 
 -- the tasks put the net of n and of the nodes that are derived
 abbrev pub net_of : ℕ → List Bool → Shape

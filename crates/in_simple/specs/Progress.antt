@@ -1,10 +1,11 @@
 -- What a plan keeps from turn to turn.
 use Rattle.std.specs.Prelude.{◌≡◌, ℕ, suc, ◌+◌, ◌-◌, ◌<◌, ◌≤◌, Bool, List, [], length}
 use Rattle.in_simple.specs.declared.plans.Plan.{Plan}
-use Rattle.in_simple.specs.OpenNets.{OpenNet, IsAgent, IsOrderly, class_in}
+use Rattle.in_open_nets.specs.OpenNets.{OpenNet, IsAgent, IsOrderly, class_in}
 use Rattle.in_simple.specs.Planned.{HasClasses, IsBegun, PutsNet, Takes}
-use Rattle.in_simple.specs.Procedure.{IsPlan, nodes_in}
-use Rattle.in_simple.specs.Stuck.{ComesAt, IsPart, ports_of}
+use Rattle.in_simple.specs.Procedure.{IsPlan}
+use Rattle.in_open_nets.specs.Members.{nodes_in}
+use Rattle.in_open_nets.specs.Stuck.{ComesAt, IsPart, ports_of}
 use Rattle.in_simple.specs.TakenOrder.{before}
 
 -- how far a plan has come: for the nodes of a net that are left without one node, to a turn of that node

@@ -1,16 +1,17 @@
 -- What the steps so far have built, and what the tasks that are left make of it. A net on the way is known by its nodes and by the
 -- wires of its Links that are open at both ends.
 use Rattle.std.specs.Prelude.{◌≡◌, ◌≢◌, ◌⊎◌, ◌↔◌, ℕ, ◌+◌, ◌-◌, ◌<◌, ◌≤◌, Bool, true, false, cond, ◌||◌, ◌&&◌, nat_lt, List, [], ◌∷◌, ◌++◌, length}
-use Rattle.in_simple.specs.declared.open_nets.Point.{Point}
-use Rattle.in_simple.specs.declared.open_nets.Point.TheVariants.{Port}
+use Rattle.in_open_nets.specs.declared.open_nets.Point.{Point}
+use Rattle.in_open_nets.specs.declared.open_nets.Point.TheVariants.{Port}
 use Rattle.in_simple.specs.declared.plans.Joint.{Joint}
 use Rattle.in_simple.specs.declared.plans.Task.{Task}
 use Rattle.in_simple.specs.declared.plans.Task.TheVariants.{Derive, Make}
-use Rattle.in_simple.specs.Constructions.{IsIn}
-use Rattle.in_simple.specs.OpenNets.{OpenNet, IsNode, IsAgent, IsWire}
-use Rattle.in_simple.specs.Derivations.{Step, Part, named, own_nodes, own_links, is_port_in, is_among, nodes_of, links_of, ShareNothing, AreEarlier, Joins, EachBuilds, times, times_in}
+use Rattle.in_open_nets.specs.Constructions.{IsIn}
+use Rattle.in_open_nets.specs.OpenNets.{OpenNet, IsNode, IsAgent, IsWire}
+use Rattle.in_open_nets.specs.declared.derivations.Step.{Step}
+use Rattle.in_open_nets.specs.Derivations.{Part, named, own_nodes, own_links, is_port_in, is_among, nodes_of, links_of, ShareNothing, AreEarlier, Joins, EachBuilds, times, times_in}
 pub use Rattle.in_simple.specs.Joints.{count_of, over_two, step_of, are_free, loose_in}
-use Rattle.in_simple.specs.Procedure.{nodes_in}
+use Rattle.in_open_nets.specs.Members.{nodes_in}
 use Rattle.in_simple.specs.TakenOrder.{AreTaken, Comes, part, steps_from}
 
 pub record Shape : Type 0 where

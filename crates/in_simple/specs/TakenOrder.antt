@@ -6,17 +6,17 @@
 -- the turn of its principal port, with an Empty for each of its classes without ports. At the end come the Links of wires between two free
 -- ends, by number, each beside the rest; and Empty where nothing came.
 use Rattle.std.specs.Prelude.{◌≡◌, ◌↔◌, ℕ, zero, suc, ◌+◌, ◌-◌, ◌<◌, Bool, true, false, cond, nat_eq, nat_lt, List, [], ◌∷◌, ◌++◌, length, take, drop, slice_get, Some, None}
-use Rattle.in_simple.specs.declared.open_nets.Node.TheVariants.{AgentNode, ClassNode}
-use Rattle.in_simple.specs.declared.open_nets.Point.{Point}
-use Rattle.in_simple.specs.declared.open_nets.Point.TheVariants.{Port, Free}
+use Rattle.in_open_nets.specs.declared.open_nets.Node.TheVariants.{AgentNode, ClassNode}
+use Rattle.in_open_nets.specs.declared.open_nets.Point.{Point}
+use Rattle.in_open_nets.specs.declared.open_nets.Point.TheVariants.{Port, Free}
 use Rattle.in_simple.specs.declared.plans.Joint.{Joint}
 use Rattle.in_simple.specs.declared.plans.Joint.TheVariants.{Empty, Link, Given, Graft, Cut, Mix}
-use Rattle.in_simple.specs.Constructions.{IsIn}
-use Rattle.in_simple.specs.Derivations.{Step}
-use Rattle.in_simple.specs.OpenNets.{OpenNet, IsAgent, IsNode, IsWire, class_in, classes_of}
+use Rattle.in_open_nets.specs.Constructions.{IsIn}
+use Rattle.in_open_nets.specs.declared.derivations.Step.{Step}
+use Rattle.in_open_nets.specs.OpenNets.{OpenNet, IsAgent, IsNode, IsWire, class_in, classes_of}
 use Rattle.in_simple.specs.Joints.{count_of, step_of, loose_in}
-use Rattle.in_simple.specs.Splitting.{Without}
-use Rattle.in_simple.specs.Stuck.{ComesAt, IsFirstToSplit, IsPart, ports_of, turn}
+use Rattle.in_open_nets.specs.Splitting.{Without}
+use Rattle.in_open_nets.specs.Stuck.{ComesAt, IsFirstToSplit, IsPart, ports_of, turn}
 
 -- ---- the joints at a node, turn by turn: what comes at a turn, what before it, and what joins it to that which came so far
 

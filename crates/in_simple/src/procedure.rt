@@ -1,20 +1,16 @@
 ghost use Rattle.std.specs.Prelude.{◌≡◌, ◌<◌, ◌-◌, ◌++◌, ◌∷◌, [], drop, length, map, reverse, true, IfOk, OnOk, MatchOption, MatchResult};
-ghost use Rattle.in_simple.specs.Derivations.{IsDerivation};
-ghost use Rattle.in_simple.specs.Stuck.{IsStuckNet, IsUndone};
+ghost use Rattle.in_open_nets.specs.Derivations.{IsDerivation};
+ghost use Rattle.in_open_nets.specs.Stuck.{IsStuckNet, IsUndone};
 ghost use Rattle.in_simple.specs.Procedure.{AreFewer, AreMakes, HasRoom, IsWork, Passes, StartsWork};
 ghost use Rattle.in_simple.specs.Outcomes.{IsOutcome};
 ghost use Rattle.in_simple.specs.Stacks.{Advances, AreLast, Ends, IsLast, IsUnderWay, Makes, loose_in};
 ghost use Rattle.in_simple.specs.TakenOrder.{AreTaken, links_from};
 ghost use Rattle.in_simple.specs.declared.plans.Task.TheVariants.{Derive, Make};
 
-use crate::derivations::{Derivation, Step, Stuck, Undone};
-use crate::nodes::NodeList;
-use crate::open_nets::{OpenNet, Point};
-use crate::parts::Part;
 use crate::plans::{Joint, Room, Task, tasks_of};
-use crate::splitting::first_splitting;
-use crate::trials::Trials;
-use crate::wired::Wired;
+use in_open_nets::{
+    Derivation, NodeList, OpenNet, Part, Point, Step, Stuck, Trials, Undone, Wired, first_splitting,
+};
 use sqlite_items::Items;
 use std::alloc::{AllocError, Global};
 

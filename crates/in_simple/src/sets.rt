@@ -1,7 +1,7 @@
 //! Sets of numbers below a count, as of the nodes or of the wires of an open net.
 ghost use Rattle.std.specs.Prelude.{◌≡◌, ◌<◌, ◌↔◌, length, slice_set, IfOk, IsTrue, false, true, ℕ};
-ghost use Rattle.in_simple.specs.Checking.{AreAll, IsUnion, Shares};
-ghost use Rattle.in_simple.specs.Procedure.{nodes_in};
+ghost use Rattle.in_simple.specs.Checking.{AreAll, Shares};
+ghost use Rattle.in_open_nets.specs.Members.{IsUnion, nodes_in};
 
 use sqlite_items::Items;
 use std::alloc::{AllocError, Global};

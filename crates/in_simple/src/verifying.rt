@@ -1,12 +1,12 @@
 ghost use Rattle.std.specs.Prelude.{◌≡◌, ◌↔◌, ◌+◌, ◌<◌, ℕ, ◌⊎◌, length, false, None, Some, IsTrue, IfOk, OnOk};
-ghost use Rattle.in_simple.specs.Checking.{AreAll, AreBeside, AreGathered, AreRefused, AreSized, HasClass, HasFreeEnds, IsClassRefused, IsClassTaken, IsFrom, IsGraftedTo, IsInClass, IsJoint, IsLast, IsLed, IsNothing, IsOpenAt, IsSized, IsSum, IsUnion, IsWhole, LacksSome, OnAlone, OnGraftEnd, OnGraftWire, OnPair, OnStep, OnTaken, ShareOne, Shares, Tells, ends_at, left_at};
-ghost use Rattle.in_simple.specs.Derivations.{Cut, Given, Graft, IsDerivation, Link, Mix, is_auxiliary, is_free, is_port_in, is_principal};
-ghost use Rattle.in_simple.specs.OpenNets.{IsAgent, IsClass, IsOrderly, IsPointOf, classes_of};
-ghost use Rattle.in_simple.specs.Procedure.{nodes_in};
+ghost use Rattle.in_simple.specs.Checking.{AreAll, AreBeside, AreGathered, AreRefused, AreSized, HasClass, HasFreeEnds, IsClassRefused, IsClassTaken, IsFrom, IsGraftedTo, IsInClass, IsJoint, IsLast, IsLed, IsNothing, IsOpenAt, IsSized, IsSum, IsWhole, LacksSome, OnAlone, OnGraftEnd, OnGraftWire, OnPair, OnStep, OnTaken, ShareOne, Shares, Tells, ends_at, left_at};
+ghost use Rattle.in_open_nets.specs.Members.{IsUnion, nodes_in};
+ghost use Rattle.in_open_nets.specs.declared.derivations.Step.TheVariants.{Cut, Given, Graft, Link, Mix};
+ghost use Rattle.in_open_nets.specs.Derivations.{IsDerivation, is_auxiliary, is_free, is_port_in, is_principal};
+ghost use Rattle.in_open_nets.specs.OpenNets.{IsAgent, IsClass, IsOrderly, IsPointOf, classes_of};
 
-use crate::derivations::{Derivation, Step};
-use crate::open_nets::{OpenNet, Point};
 use crate::sets::NumberSet;
+use in_open_nets::{Derivation, OpenNet, Point, Step};
 use sqlite_items::Items;
 use std::alloc::{AllocError, Global};
 

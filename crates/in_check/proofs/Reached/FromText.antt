@@ -24,9 +24,9 @@ use Rattle.in_typing.specs.Typed.{TypesRule}
 use Rattle.in_typing.proofs.TypedParts.{net_typed}
 use Rattle.in_cover.specs.Cover.{IsComplete}
 use Rattle.in_opening.specs.Opening.{AreNumbered}
-use Rattle.in_simple.proofs.Both.{derivable_no_circle}
+use Rattle.in_open_nets.proofs.Both.{derivable_no_circle}
 use Rattle.in_opening.proofs.Classes.{class_between, of_map, tables_numbered}
-use Rattle.in_simple.proofs.Links.{at_most}
+use Rattle.in_open_nets.proofs.Links.{at_most}
 use Rattle.in_opening.proofs.OfNets.{net_circle}
 use Rattle.in_opening.proofs.OfRules.{rule_circle}
 use Rattle.in_opening.proofs.RuleLaws.{rules_open, no_circle}

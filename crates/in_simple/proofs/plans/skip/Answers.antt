@@ -1,8 +1,7 @@
 use Rattle.std.proofs.Common.{◌≡◌, append-nil, sym, subst, arith}
-use Rattle.in_simple.specs.Planned.{Skips}
+use Rattle.in_simple.specs.Planned.{Skips, WithEmpties}
 use Rattle.in_simple.proofs.Nets.{skips_none, skips_more}
 use Rattle.in_simple.proofs.Planning.{keeps_make, keeps_same}
-use Rattle.in_simple.specs.Planned.{WithEmpties}
 use Rattle.in_simple.proofs.Taking.{more_empties}
 use Rattle.in_simple.proofs.plans.skip.Goals as goal
 

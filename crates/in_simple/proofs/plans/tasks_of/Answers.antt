@@ -1,9 +1,11 @@
 use Rattle.std.proofs.Common.{[], ◌∷◌, ◌≡◌, ◌+◌, suc, length, sym, ◌∙◌, ap, subst, arith}
 use Rattle.in_simple.specs.Planned.{Takes, TakesPart}
-use Rattle.in_simple.specs.Procedure.{AreSized, IsRest, Lists, nodes_in}
+use Rattle.in_simple.specs.Procedure.{AreSized, Lists}
+use Rattle.in_open_nets.specs.Parts.{IsRest}
+use Rattle.in_open_nets.specs.Members.{nodes_in}
 use Rattle.in_simple.specs.Progress.{PlansNet, Progress, after_ports, at_end, progress}
 use Rattle.in_simple.specs.Stacks.{Puts, no_wires, shape}
-use Rattle.in_simple.specs.Stuck.{ports_of}
+use Rattle.in_open_nets.specs.Stuck.{ports_of}
 use Rattle.in_simple.proofs.Nets.{net_whole}
 use Rattle.in_simple.proofs.Planning.{lists_part, plan_end}
 use Rattle.in_simple.proofs.Taking.{before_other, part_taken}

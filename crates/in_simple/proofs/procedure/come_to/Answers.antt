@@ -1,7 +1,7 @@
 use Rattle.std.specs.Prelude.{MatchOption}
 use Rattle.std.proofs.Common.{subst}
-use Rattle.in_simple.specs.Derivations.{IsDerivation}
-use Rattle.in_simple.specs.Stuck.{IsStuckNet}
+use Rattle.in_open_nets.specs.Derivations.{IsDerivation}
+use Rattle.in_open_nets.specs.Stuck.{IsStuckNet}
 use Rattle.in_simple.specs.TakenOrder.{AreTaken}
 use Rattle.in_simple.proofs.procedure.come_to.Goals as goal
 

@@ -1,5 +1,5 @@
 use Rattle.std.proofs.Common.{◌≡◌, reverse, length}
-use Rattle.in_simple.specs.Constructions.{count}
+use Rattle.in_open_nets.specs.Constructions.{count}
 use Rattle.in_simple.specs.Procedure.{HasRoom, IsWork, pending_in}
 use Rattle.in_simple.specs.Stacks.{IsUnderWay}
 use Rattle.in_simple.proofs.procedure.finish.Given as goal

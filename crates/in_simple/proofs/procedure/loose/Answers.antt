@@ -1,6 +1,6 @@
 use Rattle.std.proofs.Common.{◌≡◌, ◌<◌, ◌≤◌, ◌+◌, ◌-◌, ◌++◌, ◌∷◌, [], ◌∙◌, ℕ, Bool, List, map, ap, sym, subst, arith, length}
 use Rattle.in_simple.specs.Procedure.{AreMakes}
-use Rattle.in_simple.specs.OpenNets.{OpenNet}
+use Rattle.in_open_nets.specs.OpenNets.{OpenNet}
 use Rattle.in_simple.specs.Stacks.{SetsBeside, Ends}
 use Rattle.in_simple.specs.declared.plans.Task.{Task}
 use Rattle.in_simple.specs.declared.plans.Task.TheVariants.{Make}

@@ -1,7 +1,7 @@
 use Rattle.std.proofs.Common.{◌++◌, ◌∷◌, [], ◌∙◌, ap, sym, subst, arith}
 use Rattle.in_simple.specs.declared.plans.Task.TheVariants.{Derive}
 use Rattle.in_simple.specs.Stacks.{IsUnderWay}
-use Rattle.in_simple.proofs.OkValues.{if_ok_both}
+use Rattle.in_open_nets.proofs.OkValues.{if_ok_both}
 use Rattle.in_simple.proofs.Finishing.{under_all, under_none}
 use Rattle.in_simple.proofs.procedure.start.Goals as goal
 

@@ -1,10 +1,11 @@
 use Rattle.std.proofs.Common.{◌∷◌, ◌++◌, reverse, sym, subst}
 use Rattle.in_simple.specs.declared.plans.Task.TheVariants.{Derive}
-use Rattle.in_simple.specs.Pieces.{IsPieceOrWhole}
-use Rattle.in_simple.specs.Procedure.{IsWork, AreFewer, nodes_in}
+use Rattle.in_open_nets.specs.Pieces.{IsPieceOrWhole}
+use Rattle.in_simple.specs.Procedure.{IsWork, AreFewer}
+use Rattle.in_open_nets.specs.Members.{nodes_in}
 use Rattle.in_simple.specs.Stacks.{IsUnderWay}
-use Rattle.in_simple.specs.Stuck.{IsListed}
-use Rattle.in_simple.specs.Tries.{IsFirstIn}
+use Rattle.in_open_nets.specs.Stuck.{IsListed}
+use Rattle.in_open_nets.specs.Tries.{IsFirstIn}
 use Rattle.in_simple.proofs.Stacking.{under_derive}
 use Rattle.in_simple.proofs.Working.{expand_work, expand_fewer, stuck_first, stuck_underivable}
 use Rattle.in_simple.proofs.procedure.take.Goals as goal

@@ -1,4 +1,4 @@
-use Rattle.in_simple.proofs.VerifySets.{IsAddedTo}
+use Rattle.in_simple.proofs.VerifyEnds.{IsAddedTo}
 use Rattle.in_simple.proofs.verifying.add_ends.Given as goal
 
 abbrev pub invariant-loop-wire : goal.invariant-loop-wire

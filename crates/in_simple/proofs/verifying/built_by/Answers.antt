@@ -1,8 +1,8 @@
 use Rattle.std.proofs.Common.{Some, cond, refl, sym, subst, ap}
-use Rattle.in_simple.specs.Derivations.{Empty, Link, Given}
+use Rattle.in_open_nets.specs.declared.derivations.Step.TheVariants.{Empty, Link, Given}
 use Rattle.in_simple.specs.Checking.{OnStep}
 use Rattle.std.specs.Prelude.{IfOk}
-use Rattle.in_simple.proofs.OkValues.{if_ok}
+use Rattle.in_open_nets.proofs.OkValues.{if_ok}
 use Rattle.in_simple.proofs.VerifyMade.{made_empty}
 use Rattle.in_simple.proofs.VerifyRun.{step_alone}
 use Rattle.in_simple.proofs.verifying.built_by.Goals as goal

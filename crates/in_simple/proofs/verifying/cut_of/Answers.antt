@@ -1,6 +1,6 @@
 use Rattle.std.proofs.Common.{refl}
-use Rattle.in_simple.specs.Derivations.{Cut}
-use Rattle.in_simple.proofs.OkValues.{if_ok}
+use Rattle.in_open_nets.specs.declared.derivations.Step.TheVariants.{Cut}
+use Rattle.in_open_nets.proofs.OkValues.{if_ok}
 use Rattle.in_simple.proofs.VerifyRun.{step_pair, first_refused, second_refused}
 use Rattle.in_simple.proofs.VerifyTaken.{taken_kept}
 use Rattle.in_simple.proofs.verifying.cut_of.Goals as goal

@@ -1,7 +1,7 @@
 use Rattle.std.proofs.Common.{sym, subst, inl, inr}
 use Rattle.in_simple.specs.Checking.{IsFrom, ends_at}
-use Rattle.in_simple.proofs.Slots.{wire_read}
-use Rattle.in_simple.proofs.Sums.{not_both}
+use Rattle.in_open_nets.proofs.Slots.{wire_read}
+use Rattle.in_open_nets.proofs.Sums.{not_both}
 use Rattle.in_simple.proofs.VerifyMade.{joint_at}
 use Rattle.in_simple.proofs.verifying.is_joint.Goals as goal
 

@@ -1,6 +1,6 @@
 use Rattle.std.proofs.Common.{◌≡◌, ◌-◌, ◌≤◌, true, false, length, set, ap, sym, subst, refl, arith}
 use Rattle.in_simple.specs.Checking.{ends_at}
-use Rattle.in_simple.proofs.Sums.{not_both}
+use Rattle.in_open_nets.proofs.Sums.{not_both}
 use Rattle.in_simple.proofs.VerifyMade.{cut_pair, cut_past, cut_refused, joint_ends, joint_refused}
 use Rattle.in_simple.proofs.verifying.join_along.Goals as goal
 

@@ -1,6 +1,6 @@
 use Rattle.std.proofs.Common.{◌≡◌, length}
 use Rattle.in_simple.specs.Checking.{IsLed}
-use Rattle.in_simple.specs.Procedure.{nodes_in}
+use Rattle.in_open_nets.specs.Members.{nodes_in}
 use Rattle.in_simple.proofs.verifying.lead.Given as goal
 
 abbrev pub invariant-loop-wire : goal.invariant-loop-wire

@@ -1,7 +1,7 @@
 use Rattle.std.proofs.Common.{◌≡◌, ◌+◌, ◌∙◌, length, get_or, false, refl, sym, subst, ap, arith}
 use Rattle.std.proofs.lemmas.Option.{slice_get_read}
 use Rattle.in_simple.specs.Checking.{OnStep}
-use Rattle.in_simple.proofs.Sums.{not_both}
+use Rattle.in_open_nets.proofs.Sums.{not_both}
 use Rattle.in_simple.proofs.VerifyRun.{AreBuilt, built_start, built_more, built_refused, built_whole, whole_built}
 use Rattle.in_simple.proofs.verifying.verify.Goals as goal
 

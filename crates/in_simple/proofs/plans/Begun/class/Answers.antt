@@ -1,7 +1,7 @@
 use Rattle.std.proofs.Common.{◌≡◌, ◌+◌, sym, ◌∙◌, ap, subst, arith}
-use Rattle.in_simple.specs.OpenNets.{IsClass}
+use Rattle.in_open_nets.specs.OpenNets.{IsClass}
 use Rattle.in_simple.specs.Progress.{PlansNet, Progress, progress, until}
-use Rattle.in_simple.specs.Stuck.{ports_of}
+use Rattle.in_open_nets.specs.Stuck.{ports_of}
 use Rattle.in_simple.proofs.Stages.{gives, past_ports}
 use Rattle.in_simple.proofs.plans.Begun.class.Goals as goal
 

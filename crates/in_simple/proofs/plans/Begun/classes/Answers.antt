@@ -1,5 +1,5 @@
 use Rattle.std.proofs.Common.{sym, subst}
-use Rattle.in_simple.specs.OpenNets.{IsAgent}
+use Rattle.in_open_nets.specs.OpenNets.{IsAgent}
 use Rattle.in_simple.specs.Progress.{Progress}
 use Rattle.in_simple.proofs.Stages.{starts_classes}
 use Rattle.in_simple.proofs.plans.Begun.classes.Goals as goal

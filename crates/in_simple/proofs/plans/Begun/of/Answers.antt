@@ -1,10 +1,11 @@
 use Rattle.std.proofs.Common.{◌<◌, ◌∙◌, length, subst, ap, arith}
 use Rattle.std.proofs.lemmas.Bool.{ltb-true}
-use Rattle.in_simple.specs.Procedure.{IsRest, missing, nodes_in}
-use Rattle.in_simple.proofs.OnePiece.{rest_piece}
+use Rattle.in_open_nets.specs.Parts.{IsRest}
+use Rattle.in_open_nets.specs.Members.{missing, nodes_in}
+use Rattle.in_open_nets.proofs.OnePiece.{rest_piece}
 use Rattle.in_simple.proofs.Planning.{plan_start}
-use Rattle.in_simple.proofs.Reaching.{in_length}
-use Rattle.in_simple.proofs.SplittingPorts.{each_split}
+use Rattle.in_open_nets.proofs.Reaching.{in_length}
+use Rattle.in_open_nets.proofs.SplittingPorts.{each_split}
 use Rattle.in_simple.proofs.plans.Begun.of.Goals as goal
 
 pub invariant_of-result : goal.invariant_of-result

@@ -1,7 +1,7 @@
 use Rattle.std.proofs.Common.{◌≡◌, ◌<◌, ◌-◌, sym, subst, arith}
-use Rattle.in_simple.specs.OpenNets.{class_in}
+use Rattle.in_open_nets.specs.OpenNets.{class_in}
 use Rattle.in_simple.specs.Progress.{Progress}
-use Rattle.in_simple.specs.Stuck.{ports_of}
+use Rattle.in_open_nets.specs.Stuck.{ports_of}
 use Rattle.in_simple.proofs.Stages.{first_next}
 use Rattle.in_simple.proofs.plans.Classes.first_port.Goals as goal
 

@@ -1,7 +1,7 @@
 use Rattle.std.proofs.Common.{◌≡◌, ◌<◌, ◌-◌, cond, sym, ◌∙◌, subst}
-use Rattle.in_simple.specs.OpenNets.{class_in}
+use Rattle.in_open_nets.specs.OpenNets.{class_in}
 use Rattle.in_simple.specs.Progress.{Progress}
-use Rattle.in_simple.specs.Stuck.{ports_of}
+use Rattle.in_open_nets.specs.Stuck.{ports_of}
 use Rattle.in_simple.specs.Procedure.{with_task}
 use Rattle.in_simple.specs.declared.plans.Joint.TheVariants.{Mix}
 use Rattle.in_simple.specs.declared.plans.Task.TheVariants.{Make}

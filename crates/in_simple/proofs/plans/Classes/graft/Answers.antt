@@ -1,7 +1,7 @@
 use Rattle.std.proofs.Common.{◌≡◌, ◌+◌, ◌-◌, sym, subst}
 use Rattle.in_simple.specs.Planned.{Skips, WithEmpties}
 use Rattle.in_simple.specs.Progress.{Progress}
-use Rattle.in_simple.specs.Stuck.{ports_of}
+use Rattle.in_open_nets.specs.Stuck.{ports_of}
 use Rattle.in_simple.proofs.Stages.{grafts}
 use Rattle.in_simple.proofs.plans.Classes.graft.Goals as goal
 

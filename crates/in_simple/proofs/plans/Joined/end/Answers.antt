@@ -1,6 +1,6 @@
 use Rattle.std.proofs.Common.{◌≡◌, ◌+◌, ◌-◌, ◌≤◌, length, suc, sym, subst, arith}
 use Rattle.in_simple.specs.Progress.{IsOver, PlansNet, Progress, progress}
-use Rattle.in_simple.specs.Stuck.{ports_of}
+use Rattle.in_open_nets.specs.Stuck.{ports_of}
 use Rattle.in_simple.proofs.Stages.{ends}
 use Rattle.in_simple.proofs.plans.Joined.end.Goals as goal
 

@@ -1,5 +1,5 @@
 use Rattle.std.proofs.Common.{◌≤◌, leb-true, subst, arith}
-use Rattle.in_simple.specs.Procedure.{missing}
+use Rattle.in_open_nets.specs.Members.{missing}
 use Rattle.in_simple.specs.Progress.{IsOver}
 use Rattle.in_simple.proofs.Planning.{none_later}
 use Rattle.in_simple.proofs.plans.Joined.is_over.Goals as goal

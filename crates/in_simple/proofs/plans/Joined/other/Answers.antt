@@ -1,6 +1,6 @@
 use Rattle.std.proofs.Common.{◌≡◌, ◌+◌, suc, sym, subst}
 use Rattle.in_simple.specs.Progress.{PlansNet, Progress}
-use Rattle.in_simple.specs.Stuck.{ports_of}
+use Rattle.in_open_nets.specs.Stuck.{ports_of}
 use Rattle.in_simple.proofs.Stages.{joins_node}
 use Rattle.in_simple.proofs.plans.Joined.other.Goals as goal
 

@@ -1,7 +1,7 @@
 use Rattle.std.proofs.Common.{◌≡◌, ◌+◌, suc}
 use Rattle.in_simple.specs.Progress.{until}
-use Rattle.in_simple.specs.Stuck.{ports_of}
-use Rattle.in_simple.proofs.Members.{past}
+use Rattle.in_open_nets.specs.Stuck.{ports_of}
+use Rattle.in_open_nets.proofs.Members.{past}
 use Rattle.in_simple.proofs.plans.Joined.others.Given as goal
 
 abbrev pub invariant-loop-member : goal.invariant-loop-member

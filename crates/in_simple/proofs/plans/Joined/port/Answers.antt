@@ -1,7 +1,7 @@
 use Rattle.std.proofs.Common.{◌≡◌, ◌<◌, ◌+◌, sym, subst}
 use Rattle.in_simple.specs.Progress.{PlansNet, Progress}
-use Rattle.in_simple.specs.OpenNets.{IsAgent}
-use Rattle.in_simple.specs.Stuck.{ports_of, turn}
+use Rattle.in_open_nets.specs.OpenNets.{IsAgent}
+use Rattle.in_open_nets.specs.Stuck.{ports_of, turn}
 use Rattle.in_simple.proofs.Stages.{joins_port}
 use Rattle.in_simple.proofs.plans.Joined.port.Goals as goal
 

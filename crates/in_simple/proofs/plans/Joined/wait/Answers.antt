@@ -1,6 +1,6 @@
 use Rattle.std.proofs.Common.{◌≡◌, ◌+◌, ◌-◌, ◌≤◌, suc, sym, subst, arith}
 use Rattle.in_simple.specs.Progress.{PlansNet, Progress}
-use Rattle.in_simple.specs.Stuck.{ports_of}
+use Rattle.in_open_nets.specs.Stuck.{ports_of}
 use Rattle.in_simple.proofs.Stages.{waits}
 use Rattle.in_simple.proofs.Waiting.{Comes, NoneLeft}
 use Rattle.in_simple.proofs.plans.Joined.wait.Goals as goal

@@ -1,12 +1,13 @@
 use Rattle.std.proofs.Common.{◌≡◌, suc, false, nat_eq, sym, subst}
-use Rattle.in_simple.specs.Procedure.{GoesOn, IsPlan, nodes_in}
+use Rattle.in_simple.specs.Procedure.{GoesOn, IsPlan}
+use Rattle.in_open_nets.specs.Members.{nodes_in}
 use Rattle.in_simple.specs.Stacks.{shape, no_wires}
-use Rattle.in_simple.specs.Stuck.{turn}
+use Rattle.in_open_nets.specs.Stuck.{turn}
 use Rattle.in_simple.proofs.Fates.{along, back_at, later_port, leads_away, met_derived, met_none}
 use Rattle.in_simple.proofs.Taking.{comes_done, comes_own, comes_component, comes_link}
 use Rattle.in_simple.proofs.ClassNets.{nothing_done, nothing_own, adds_component, adds_link}
 use Rattle.in_simple.proofs.Planning.{port_pass, port_derive, goes_make}
-use Rattle.in_simple.proofs.Sums.{not_both}
+use Rattle.in_open_nets.proofs.Sums.{not_both}
 use Rattle.in_simple.proofs.Stages.{own_turn}
 use Rattle.in_simple.proofs.plans.Plan.port.Goals as goal
 

@@ -1,5 +1,5 @@
 use Rattle.std.proofs.Common.{◌++◌, ◌∷◌, [], length, ◌∙◌, ap}
-use Rattle.in_simple.specs.Derivations.{Graft, Cut, Mix}
+use Rattle.in_open_nets.specs.declared.derivations.Step.TheVariants.{Graft, Cut, Mix}
 use Rattle.in_simple.proofs.Stacking.{makes_graft, makes_cut, makes_mix, on_both}
 use Rattle.in_simple.proofs.procedure.Work.make.Goals as goal
 

@@ -1,6 +1,6 @@
 use Rattle.std.proofs.Common.{◌≡◌, false, sym, subst}
-use Rattle.in_simple.specs.Procedure.{nodes_in}
-use Rattle.in_simple.proofs.VerifySets.{none_there}
+use Rattle.in_open_nets.specs.Members.{nodes_in}
+use Rattle.in_open_nets.proofs.Places.{none_there}
 use Rattle.in_simple.proofs.sets.NumberSet.has.Goals as goal
 
 pub returns-in-None : goal.returns-in-None

@@ -1,4 +1,4 @@
-use Rattle.in_simple.proofs.VerifySets.{IsUnitedTo}
+use Rattle.in_open_nets.proofs.Places.{IsUnitedTo}
 use Rattle.in_simple.proofs.sets.NumberSet.unite.Given as goal
 
 abbrev pub invariant-loop-number : goal.invariant-loop-number

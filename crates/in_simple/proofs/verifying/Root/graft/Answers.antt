@@ -1,7 +1,7 @@
 use Rattle.std.proofs.Common.{◌∙◌, true, false, length, refl, ap, sym, subst, arith}
 use Rattle.std.proofs.lemmas.List.{length-set}
 use Rattle.in_simple.specs.Checking.{AreGathered, AreRefused}
-use Rattle.in_simple.proofs.Sums.{not_both}
+use Rattle.in_open_nets.proofs.Sums.{not_both}
 use Rattle.in_simple.proofs.VerifyGraft.{graft_made, node_again, classes_none, ends_lack}
 use Rattle.in_simple.proofs.VerifyMade.{set_node}
 use Rattle.in_simple.proofs.verifying.Root.graft.Goals as goal

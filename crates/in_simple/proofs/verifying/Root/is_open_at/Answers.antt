@@ -1,6 +1,6 @@
 use Rattle.std.proofs.Common.{inl, inr}
-use Rattle.in_simple.proofs.Slots.{wire_read}
-use Rattle.in_simple.proofs.Sums.{not_both}
+use Rattle.in_open_nets.proofs.Slots.{wire_read}
+use Rattle.in_open_nets.proofs.Sums.{not_both}
 use Rattle.in_simple.proofs.verifying.Root.is_open_at.Goals as goal
 
 pub is_open_for-requires : goal.is_open_for-requires

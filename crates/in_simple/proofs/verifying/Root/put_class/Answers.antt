@@ -1,5 +1,5 @@
 use Rattle.std.proofs.Common.{inl}
-use Rattle.in_simple.proofs.Sums.{not_both}
+use Rattle.in_open_nets.proofs.Sums.{not_both}
 use Rattle.in_simple.proofs.verifying.Root.put_class.Goals as goal
 
 pub returns-else-has_class-clause-refused : goal.returns-else-has_class-clause-refused

@@ -1,5 +1,5 @@
 use Rattle.std.proofs.Common.{false, refl, arith}
-use Rattle.in_simple.proofs.Sums.{not_both}
+use Rattle.in_open_nets.proofs.Sums.{not_both}
 use Rattle.in_simple.proofs.VerifyGraft.{classes_start, classes_more, classes_refused}
 use Rattle.in_simple.proofs.VerifyTaken.{taken_sized}
 use Rattle.in_simple.proofs.verifying.Root.take_classes.Goals as goal

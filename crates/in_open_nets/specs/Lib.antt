@@ -1,0 +1,12 @@
+pub mod ClassEdges
+pub mod ClassGraphs
+pub mod Constructions
+pub mod Derivations
+pub mod Laws
+pub mod Members
+pub mod OpenNets
+pub mod Parts
+pub mod Pieces
+pub mod Splitting
+pub mod Stuck
+pub mod Tries

@@ -1,0 +1,48 @@
+-- Sets of nodes that are in one piece. What a node leaves of such a set is in one piece too, where its neighbours are joined without it.
+use Rattle.std.specs.Prelude.{ℕ, ◌<◌, Bool, List}
+use Rattle.in_open_nets.specs.declared.open_nets.Point.TheVariants.{Port}
+use Rattle.in_open_nets.specs.Constructions.{IsIn}
+use Rattle.in_open_nets.specs.Members.{missing, nodes_in}
+use Rattle.in_open_nets.specs.OpenNets.{OpenNet, IsWire, open_graph}
+use Rattle.in_open_nets.specs.Splitting.{Linked}
+
+module _ (o : OpenNet) (within : List Bool) where
+  -- joined through nodes of the set
+  abbrev pub AreJoined : ℕ → ℕ → Type 0
+  AreJoined = Linked (open_graph o) (λ m. IsIn m (nodes_in within))
+
+  -- .. any two of these
+  abbrev pub AreTogether : List Bool → Type 0
+  AreTogether these = (k l : ℕ) → IsIn k (nodes_in these) → IsIn l (nodes_in these) → AreJoined k l
+
+  -- .. from and one of these
+  abbrev pub IsJoinedTo : ℕ → List Bool → Type 0
+  IsJoinedTo from these = (k : ℕ) × IsIn k (nodes_in these) × AreJoined from k
+
+  -- the neighbour of n in the set, at port i, is one of these
+  abbrev pub IsMetAt : ℕ → ℕ → List Bool → Type 0
+  IsMetAt n i these = (w l j : ℕ) → IsWire o w (Port n i) (Port l j) → IsIn l (nodes_in within) → IsIn l (nodes_in these)
+
+  -- .. at each port below b
+  abbrev pub AreMet : ℕ → ℕ → List Bool → Type 0
+  AreMet n b these = (i : ℕ) → i < b → IsMetAt n i these
+
+  -- l is a neighbour of n in the set
+  abbrev pub IsNeighbourOf : ℕ → ℕ → Type 0
+  IsNeighbourOf n l = (i : ℕ) × (w : ℕ) × (j : ℕ) × IsWire o w (Port n i) (Port l j) × IsIn l (nodes_in within)
+
+  -- any two neighbours of n in the set are joined
+  abbrev pub AreNeighboursJoined : ℕ → Type 0
+  AreNeighboursJoined n = (k l : ℕ) → IsNeighbourOf n k → IsNeighbourOf n l → AreJoined k l
+
+-- any two nodes of the set are joined through it
+abbrev pub IsPiece : OpenNet → List Bool → Type 0
+IsPiece o s = AreTogether o s s
+
+-- a part that lacks a node is a component, and so in one piece; the whole net may be in several
+abbrev pub IsPieceOrWhole : OpenNet → List Bool → Type 0
+IsPieceOrWhole o s = 0 < missing s → IsPiece o s
+
+-- a port of n leads to one of these
+abbrev pub LeadsTo : OpenNet → ℕ → List Bool → Type 0
+LeadsTo o n these = (i : ℕ) × (w : ℕ) × (l : ℕ) × (j : ℕ) × IsWire o w (Port n i) (Port l j) × IsIn l (nodes_in these)

@@ -1,0 +1,216 @@
+ghost use Rattle.std.specs.Prelude.{◌≡◌, ◌<◌, length, IfOk, IsTrue, OnOk, false, ℕ};
+ghost use Rattle.in_open_nets.specs.Members.{IsUnion, missing, nodes_in};
+ghost use Rattle.in_open_nets.specs.Constructions.{IsIn};
+ghost use Rattle.in_open_nets.specs.Pieces.{AreNeighboursJoined, IsPiece};
+ghost use Rattle.in_open_nets.specs.Parts.{AreFound, IsNeighbour, IsReached, SpreadsOver};
+ghost use Rattle.in_open_nets.specs.Stuck.{ports_of};
+
+use crate::nodes::NodeList;
+use crate::open_nets::Point;
+use crate::parts::Part;
+use crate::pieces::joins_neighbours;
+use crate::scratch::Scratch;
+use std::alloc::{AllocError, Global};
+use std::marker::Model;
+
+/// The node at the other end of the wire at a port, where it is in the part.
+pub(crate) fn neighbour(part: &Part, node: usize, port: usize) -> Option<u32>
+    requires node { node < length part.now.wired.now.nodes }
+    requires port { port < ports_of part.now.wired.now node }
+    ensures { IsNeighbour part.now.wired.now part.now.nodes.now node port result }
+{
+    match part.wired.partner(node, port) {
+        (_, Point::Port(near, _)) => {
+            if part.nodes.has(near as usize) {
+                Some(near)
+            } else {
+                None
+            }
+        }
+        (_, Point::Free(_)) => None,
+    }
+}
+
+/// Reaches the neighbours of a node in the part, and lists them.
+pub(crate) fn spread(
+    part: &Part,
+    node: usize,
+    reached: &mut Scratch,
+    found: &mut Vec<u32>,
+) -> Result<(), AllocError>
+    requires node { node < length part.now.wired.now.nodes }
+    requires reached { length reached.old ≡ length part.now.wired.now.nodes }
+    ensures size { length reached.new ≡ length reached.old }
+    ensures spreads { OnOk result (SpreadsOver part.now.wired.now part.now.nodes.now node (ports_of part.now.wired.now node) reached.old found.old.items reached.new found.new.items) }
+{
+    for port in 0..part.wired.ports(node) {
+        match part.wired.partner(node, port) {
+            (_, Point::Port(near, _)) => {
+                if !reached.has(near as usize) && part.nodes.has(near as usize) {
+                    reached.insert(near as usize);
+                    found.push(near)?;
+                }
+            }
+            (_, Point::Free(_)) => {}
+        }
+    }
+    Ok(())
+}
+
+/// Reaches the nodes of the component of a node of the part, and lists them. Once they are all of the part, nothing is left to be looked for.
+fn reach_from(
+    alloc: Global,
+    part: &Part,
+    reached: &mut Scratch,
+    from: u32,
+) -> Result<Vec<u32>, AllocError>
+    requires size { length reached.old ≡ length part.now.wired.now.nodes }
+    requires here { IsIn from (nodes_in part.now.nodes.now) }
+    ensures size { length reached.new ≡ length reached.old }
+    ensures reached { OnOk result (IsReached part.now.wired.now part.now.nodes.now from reached.new) }
+    ensures found { IfOk result (λ found. AreFound reached.new found.items) }
+{
+    let _count = part.wired.nodes();
+    reached.clear()?;
+    let mut found = Vec::new(alloc);
+    reached.insert(from as usize);
+    found.push(from)?;
+    let mut place = 0;
+    while place < found.len() {
+        if reached.absent() <= part.nodes.absent() {
+            return Ok(found);
+        }
+        let node = found[place];
+        spread(part, node as usize, reached, &mut found)?;
+        place += 1;
+    }
+    Ok(found)
+}
+
+/// The component of a node of the part, with a set that is lent for the search: all of the part, where that is known to be in one piece.
+fn component(
+    alloc: Global,
+    part: &Part,
+    is_piece: bool,
+    lent: &mut Scratch,
+    from: u32,
+) -> Result<NodeList, AllocError>
+    requires size { length lent.old ≡ length part.now.wired.now.nodes }
+    requires piece { IsTrue is_piece → IsPiece part.now.wired.now part.now.nodes.now }
+    requires here { IsIn from (nodes_in part.now.nodes.now) }
+    ensures lent { length lent.new ≡ length lent.old }
+    ensures size { IfOk result (λ c. length c ≡ length part.now.wired.now.nodes) }
+    ensures reached { IfOk result (IsReached part.now.wired.now part.now.nodes.now from) }
+{
+    if is_piece {
+        return part.nodes.copy(alloc);
+    }
+    let found = reach_from(alloc, part, lent, from)?;
+    part.nodes.narrowed(alloc, lent, found)
+}
+
+/// The nodes that are derived, and two sets to search with.
+pub struct Done {
+    nodes: Scratch,
+    reached: Scratch,
+    near: Scratch,
+}
+
+// By hand, so that each drop is a call: a derived one is written out in each proof, at each way out.
+impl Drop for Done {
+    fn drop(self) {
+        let Done {
+            nodes: _,
+            reached: _,
+            near: _,
+        } = self;
+    }
+}
+
+// Contracts see a test for each node of the net.
+impl Model for Done {
+    ghost use Rattle.std.specs.Prelude.{◌≡◌, length, Bool, List};
+
+    ghost Value = { List Bool };
+
+    ghost view = { λ d. d.nodes };
+
+    ghost invariant = { λ d. (length d.reached ≡ length d.nodes) × (length d.near ≡ length d.nodes) };
+}
+
+impl Done {
+    /// None of so many.
+    pub fn new(alloc: Global, count: usize) -> Result<Done, AllocError>
+        ensures { IfOk result (λ done. length done ≡ count) }
+    {
+        Ok(Done {
+            nodes: Scratch::new(alloc, count)?,
+            reached: Scratch::new(alloc, count)?,
+            near: Scratch::new(alloc, count)?,
+        })
+    }
+
+    /// None any more.
+    pub fn clear(&mut self) -> Result<(), AllocError>
+        ensures size { length self.new ≡ length self.old }
+        ensures none { OnOk result ((n : ℕ) → nodes_in self.new n ≡ false) }
+    {
+        self.nodes.clear()
+    }
+
+    /// Whether the node is derived.
+    pub fn has(&self, node: usize) -> bool
+        ensures { result ≡ nodes_in self.now node }
+    {
+        self.nodes.has(node)
+    }
+
+    /// How many nodes are not derived.
+    pub fn absent(&self) -> usize
+        ensures { result ≡ missing self.now }
+    {
+        self.nodes.absent()
+    }
+
+    /// Whether the neighbours of a node, which is not in the part, are joined in the part, where it is asked for and short searches tell.
+    pub fn joins(
+        &mut self,
+        alloc: Global,
+        is_asked: bool,
+        part: &Part,
+        node: usize,
+    ) -> Result<bool, AllocError>
+        requires node { node < length part.now.wired.now.nodes }
+        requires size { length self.old ≡ length part.now.wired.now.nodes }
+        ensures same { self.new ≡ self.old }
+        ensures asked { IfOk result (λ joined. IsTrue joined → IsTrue is_asked) }
+        ensures joined { IfOk result (λ joined. IsTrue joined → AreNeighboursJoined part.now.wired.now part.now.nodes.now node) }
+    {
+        if is_asked {
+            joins_neighbours(alloc, part, node, &mut self.near, &mut self.reached)
+        } else {
+            Ok(false)
+        }
+    }
+
+    /// The component of a node of the part, which is derived too now: all of the part, where that is known to be in one piece.
+    pub fn add(
+        &mut self,
+        alloc: Global,
+        part: &Part,
+        is_piece: bool,
+        from: u32,
+    ) -> Result<NodeList, AllocError>
+        requires size { length self.old ≡ length part.now.wired.now.nodes }
+        requires piece { IsTrue is_piece → IsPiece part.now.wired.now part.now.nodes.now }
+        requires here { IsIn from (nodes_in part.now.nodes.now) }
+        ensures same { length self.new ≡ length self.old }
+        ensures size { IfOk result (λ c. length c ≡ length part.now.wired.now.nodes) }
+        ensures reached { IfOk result (IsReached part.now.wired.now part.now.nodes.now from) }
+        ensures union { IfOk result (λ c. IsUnion c self.old self.new) }
+    {
+        let component = component(alloc, part, is_piece, &mut self.reached, from)?;
+        component.add_to(&mut self.nodes);
+        Ok(component)
+    }
+}

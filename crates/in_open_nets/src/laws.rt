@@ -1,0 +1,31 @@
+//! Laws over the definitions of open nets, for whoever reasons above them. No function here does anything.
+
+ghost use Rattle.in_open_nets.specs.Laws.{DerivableHasNoCircle, SplitsByBridges, SplitsOffRings, SplitsOrFirstStuck, SplitsWhereDerivable};
+
+/// An open net splits exactly where it is derivable. Derivable is Lafont 1990's semi-simple; to decide it by splitting is this
+/// project's own choice.
+pub fn splits_where_derivable()
+    ensures { SplitsWhereDerivable }
+{}
+
+/// A node splits a set of nodes exactly where each of its hub edges is a bridge of the class graph of the set: a hub for each node
+/// and a vertex for each of its classes, joined by the hub edges, and the wires between classes. This project's own.
+pub fn splits_by_bridges()
+    ensures { SplitsByBridges }
+{}
+
+/// Where the class graph stands as a list of edges, a node splits the set exactly where none of its hub edges is on a ring.
+pub fn splits_off_rings()
+    ensures { SplitsOffRings }
+{}
+
+/// A derivable open net has no ring of one or more different nodes, each entered and left by ports of different classes.
+/// Lafont 1990 has semi-simple nets without vicious circles, which are such rings.
+pub fn derivable_has_no_circle()
+    ensures { DerivableHasNoCircle }
+{}
+
+/// An open net splits, or it has exactly one first stuck sub-net; never both.
+pub fn splits_or_first_stuck()
+    ensures { SplitsOrFirstStuck }
+{}

@@ -1,0 +1,240 @@
+//! Sets of nodes of an open net that a procedure goes over.
+ghost use Rattle.std.specs.Prelude.{◌≡◌, ◌<◌, length, IfOk, false, true, ℕ};
+ghost use Rattle.in_open_nets.specs.Members.{IsUnion, missing, nodes_in};
+ghost use Rattle.in_open_nets.specs.Constructions.{IsIn};
+ghost use Rattle.in_open_nets.specs.Parts.{AreFound, IsRest};
+ghost use Rattle.in_open_nets.specs.Stuck.{IsListed};
+
+use crate::scratch::Scratch;
+use sqlite_items::Items;
+use std::alloc::{AllocError, Global};
+use std::marker::Model;
+
+/// Nodes of so many, in rising order: as large as they are many, however large the net is.
+pub struct NodeList {
+    members: Items<u32>,
+    count: usize,
+}
+
+// By hand, so that each drop is a call: a derived one is written out in each proof, at each way out.
+impl Drop for NodeList {
+    fn drop(self) {
+        let NodeList {
+            members: _,
+            count: _,
+        } = self;
+    }
+}
+
+// Contracts see a test for each node of the net.
+impl Model for NodeList {
+    ghost use Rattle.std.specs.Prelude.{Bool, List};
+
+    ghost Value = { List Bool };
+
+    ghost use Rattle.in_open_nets.specs.Members.{nodes_in, tests_of};
+    ghost use Rattle.in_open_nets.specs.Stuck.{IsListed};
+
+    ghost view = { λ s. tests_of s.count s.members };
+
+    ghost invariant = { λ s. IsListed (nodes_in (tests_of s.count s.members)) s.members };
+}
+
+impl NodeList {
+    /// All of so many.
+    pub fn all(alloc: Global, count: u32) -> Result<NodeList, AllocError>
+        ensures size { IfOk result (λ set. length set ≡ count) }
+        ensures all { IfOk result (λ set. (n : ℕ) → n < count → nodes_in set n ≡ true) }
+    {
+        let mut members = Items::new(alloc);
+        for node in 0..count {
+            members.push(node)?;
+        }
+        Ok(NodeList {
+            members,
+            count: count as usize,
+        })
+    }
+
+    /// The members in rising order.
+    pub fn members(&self) -> &[u32]
+        ensures { IsListed (nodes_in self.now) result.now }
+    {
+        self.members.as_slice()
+    }
+
+    /// The same nodes once more.
+    fn copy(&self, alloc: Global) -> Result<NodeList, AllocError>
+        ensures { IfOk result (λ set. set ≡ self.now) }
+    {
+        let members = Items::from_slice(alloc, self.members.as_slice())?;
+        Ok(NodeList {
+            members,
+            count: self.count,
+        })
+    }
+
+    /// The nodes of a set, which were found in some order.
+    fn sorted(tests: &Scratch, found: Vec<u32>) -> NodeList
+        requires { AreFound tests.now found.items }
+        ensures { result ≡ tests.now }
+    {
+        let mut members = found;
+        members.sort_unstable();
+        members.dedup();
+        NodeList {
+            members: Items::from_vec(members),
+            count: tests.len(),
+        }
+    }
+
+    /// The nodes of a set, each of them one of these.
+    fn narrowed(&self, alloc: Global, tests: &Scratch) -> Result<NodeList, AllocError>
+        requires size { length tests.now ≡ length self.now }
+        requires within { (n : ℕ) → IsIn n (nodes_in tests.now) → IsIn n (nodes_in self.now) }
+        ensures { IfOk result (λ set. set ≡ tests.now) }
+    {
+        let mut members = Items::new(alloc);
+        for node in self.members() {
+            if tests.has(*node as usize) {
+                members.push(*node)?;
+            }
+        }
+        Ok(NodeList {
+            members,
+            count: tests.len(),
+        })
+    }
+
+    /// Makes these members of a set of the same size too.
+    pub(crate) fn add_to(&self, set: &mut Scratch)
+        requires { length self.now ≡ length set.old }
+        ensures size { length set.new ≡ length set.old }
+        ensures union { IsUnion self.now set.old set.new }
+    {
+        for node in self.members() {
+            set.insert(*node as usize);
+        }
+    }
+}
+
+/// A list of nodes, and which nodes are in it.
+pub struct NodeSet {
+    list: NodeList,
+    tests: Scratch,
+}
+
+// By hand, so that each drop is a call: a derived one is written out in each proof, at each way out.
+impl Drop for NodeSet {
+    fn drop(self) {
+        let NodeSet { list: _, tests: _ } = self;
+    }
+}
+
+// Contracts see the tests.
+impl Model for NodeSet {
+    ghost use Rattle.std.specs.Prelude.{◌≡◌, Bool, List};
+
+    ghost Value = { List Bool };
+
+    ghost view = { λ s. s.tests };
+
+    ghost invariant = { λ s. s.list ≡ s.tests };
+}
+
+impl NodeSet {
+    /// The nodes of a list, with their tests in a set that is lent.
+    pub fn of(list: NodeList, lent: Scratch) -> Result<NodeSet, AllocError>
+        requires { length lent ≡ length list }
+        ensures { IfOk result (λ set. set ≡ list) }
+    {
+        let mut tests = lent;
+        tests.clear()?;
+        list.add_to(&mut tests);
+        Ok(NodeSet { list, tests })
+    }
+
+    /// What was lent.
+    pub fn into_tests(self) -> Scratch
+        ensures { result ≡ self }
+    {
+        let NodeSet { list: _, tests } = self;
+        tests
+    }
+
+    /// Whether the node is a member; one past the tests is none.
+    pub fn has(&self, node: usize) -> bool
+        ensures { result ≡ nodes_in self.now node }
+    {
+        self.tests.has(node)
+    }
+
+    /// The list of these nodes once more.
+    pub(crate) fn copy(&self, alloc: Global) -> Result<NodeList, AllocError>
+        ensures { IfOk result (λ set. set ≡ self.now) }
+    {
+        self.list.copy(alloc)
+    }
+
+    /// How many members there are.
+    pub(crate) fn count(&self) -> usize {
+        self.list.members.len()
+    }
+
+    /// How many nodes are no members.
+    pub fn absent(&self) -> usize
+        ensures { result ≡ missing self.now }
+    {
+        self.tests.absent()
+    }
+
+    /// The members in rising order.
+    pub fn members(&self) -> &[u32]
+        ensures { IsListed (nodes_in self.now) result.now }
+    {
+        self.list.members()
+    }
+
+    /// The nodes of a set, each of them one of these, which were found in some order.
+    pub(crate) fn narrowed(
+        &self,
+        alloc: Global,
+        tests: &Scratch,
+        found: Vec<u32>,
+    ) -> Result<NodeList, AllocError>
+        requires size { length tests.now ≡ length self.now }
+        requires within { (n : ℕ) → IsIn n (nodes_in tests.now) → IsIn n (nodes_in self.now) }
+        requires found { AreFound tests.now found.items }
+        ensures { IfOk result (λ set. set ≡ tests.now) }
+    {
+        // Mostly what a node is taken out of is of one component. All of these are gone over only for a good part of them.
+        if tests.absent() <= self.absent() {
+            self.list.copy(alloc)
+        } else if found.len() < self.count() / 16 {
+            Ok(NodeList::sorted(tests, found))
+        } else {
+            self.list.narrowed(alloc, tests)
+        }
+    }
+
+    /// These but one, and the list of these.
+    pub fn without(
+        self,
+        alloc: Global,
+        node: usize,
+    ) -> Result<(NodeSet, NodeList), AllocError>
+        requires { node < length self }
+        ensures size { IfOk result (λ r. length r.0 ≡ length self) }
+        ensures rest { IfOk result (λ r. IsRest node self r.0) }
+        ensures out { IfOk result (λ r. nodes_in r.0 node ≡ false) }
+        ensures list { IfOk result (λ r. r.1 ≡ self) }
+    {
+        let NodeSet {
+            list: whole,
+            mut tests,
+        } = self;
+        tests.take(node);
+        let list = whole.narrowed(alloc, &tests)?;
+        Ok((NodeSet { list, tests }, whole))
+    }
+}

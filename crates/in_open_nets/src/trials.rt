@@ -1,0 +1,370 @@
+ghost use Rattle.std.specs.Prelude.{◌≡◌, ◌<◌, length, IfOk, IsTrue};
+ghost use Rattle.in_open_nets.specs.Parts.{SplitsIt};
+ghost use Rattle.in_open_nets.specs.Stuck.{ports_of};
+ghost use Rattle.in_open_nets.specs.Tries.{IsTried};
+
+use crate::class_graphs::ClassGraph;
+use crate::labels::{Labels, Mark, show_splitting};
+use crate::nodes::NodeSet;
+use crate::open_nets::Point;
+use crate::parts::Candidate;
+use crate::rings::{Rings, are_in};
+use crate::wired::Wired;
+use sqlite_items::Items;
+use std::alloc::{AllocError, Global};
+
+/// The most nodes of a ring on either side of where a search met.
+const MOST_STEPS: usize = 64;
+
+/// How many ports are looked at for each node of a part, before all of its nodes are decided at once.
+const PORTS_FOR_A_NODE: usize = 32;
+
+/// A node that a search reached, by a class of the candidate: from which one before it, if not from that node itself, by which
+/// port of that one, and at which port of its own.
+#[derive(Clone, Copy, Drop)]
+struct Reached {
+    node: usize,
+    class: usize,
+    before: Option<usize>,
+    left: u8,
+    entered: u8,
+}
+
+/// Where two classes met: at the port of the one that was reached, or of the candidate, and at another one that was reached, or the candidate.
+#[derive(Clone, Copy, Drop)]
+struct Meeting {
+    from: Option<usize>,
+    port: u8,
+    to: Option<usize>,
+}
+
+/// What a search came to: two classes that meet, or none although it reached all that it could, or the end of its budget.
+#[derive(Clone, Copy, Drop)]
+enum Answer {
+    Met(Meeting),
+    Apart,
+    Spent,
+}
+
+/// A search from single nodes: what the last one reached, and how many more ports may be looked at. Nothing is claimed of what it finds,
+/// since rings and labels are checked before they are used.
+struct Search {
+    labels: Labels,
+    reached: Items<Reached>,
+    budget: usize,
+}
+
+// By hand, so that each drop is a call: a derived one is written out in each proof, at each way out.
+impl Drop for Search {
+    fn drop(self) {
+        let Search {
+            labels: _,
+            reached: _,
+            budget: _,
+        } = self;
+    }
+}
+
+/// The rings that searches from single nodes found, the last search, and room for a class graph, where searches do not tell.
+pub struct Trials<'a> {
+    pub rings: Rings<'a>,
+    pub(crate) graph: ClassGraph,
+    search: Search,
+}
+
+// By hand, so that each drop is a call: a derived one is written out in each proof, at each way out.
+impl<'a> Drop for Trials<'a> {
+    fn drop(self) {
+        let Trials {
+            rings: _,
+            graph: _,
+            search: _,
+        } = self;
+    }
+}
+
+/// A mark of no trial for each node.
+fn no_marks(alloc: Global, count: usize) -> Result<Items<Mark>, AllocError> {
+    let mut marks = Items::new(alloc);
+    for node in 0..count {
+        marks.push(Mark {
+            trial: 0,
+            class: 0,
+            place: 0,
+        })?;
+    }
+    Ok(marks)
+}
+
+impl Search {
+    /// Nothing reached yet.
+    fn new(alloc: Global, count: usize) -> Result<Search, AllocError> {
+        let marks = no_marks(alloc, count)?;
+        Ok(Search {
+            labels: Labels { marks, trial: 0 },
+            reached: Items::new(alloc),
+            budget: 0,
+        })
+    }
+
+    /// So many ports are looked at, where that many still may be.
+    fn spend(&mut self, ports: usize) -> bool {
+        if ports > self.budget {
+            return false;
+        }
+        self.budget -= ports;
+        true
+    }
+
+    /// The node is reached.
+    fn reach(&mut self, reached: Reached) -> Result<(), AllocError> {
+        let mark = Mark {
+            trial: self.labels.trial,
+            class: reached.class,
+            place: self.reached.len(),
+        };
+        if reached.node < self.labels.marks.len() {
+            self.labels.marks.set(reached.node, mark);
+        }
+        self.reached.push(reached)
+    }
+
+    /// Whether the wire at a port of the node `at`, reached by a class, leads out of the part, or to a node that is reached by that class
+    /// already. It is asked first, since mostly it is so.
+    fn is_old(&self, candidate: &Candidate, at: usize, port: usize, class: usize) -> bool
+        requires at { at < length candidate.now.part.wired.now.nodes }
+        requires port { port < ports_of candidate.now.part.wired.now at }
+    {
+        match candidate.part.wired.partner(at, port) {
+            (_, Point::Port(near, _)) => {
+                !candidate.part.nodes.has(near as usize) || self.labels.has(near as usize, class)
+            }
+            (_, Point::Free(_)) => true,
+        }
+    }
+
+    /// Comes by the wire at a port of the node `at`, reached by a class. Answers where it meets another class.
+    fn visit(
+        &mut self,
+        candidate: &Candidate,
+        from: Option<usize>,
+        at: usize,
+        port: usize,
+        class: usize,
+    ) -> Result<Option<Meeting>, AllocError>
+        requires at { at < length candidate.now.part.wired.now.nodes }
+        requires port { port < ports_of candidate.now.part.wired.now at }
+    {
+        let part = candidate.part;
+        match part.wired.partner(at, port) {
+            (_, Point::Port(near, place)) => {
+                let left = port as u8;
+                if near as usize == candidate.node {
+                    if part.wired.class(near as usize, place as usize) != class {
+                        return Ok(Some(Meeting {
+                            from,
+                            port: left,
+                            to: None,
+                        }));
+                    }
+                } else if part.nodes.has(near as usize) {
+                    match self.labels.mark(near as usize) {
+                        Some(mark) => {
+                            if mark.class != class {
+                                return Ok(Some(Meeting {
+                                    from,
+                                    port: left,
+                                    to: Some(mark.place),
+                                }));
+                            }
+                        }
+                        None => self.reach(Reached {
+                            node: near as usize,
+                            class,
+                            before: from,
+                            left,
+                            entered: place,
+                        })?,
+                    }
+                }
+            }
+            (_, Point::Free(_)) => {}
+        }
+        Ok(None)
+    }
+
+    /// Reaches what the ports of the candidate lead to, each by its class.
+    fn start(&mut self, candidate: &Candidate) -> Result<Option<Meeting>, AllocError> {
+        let wired = candidate.part.wired;
+        let node = candidate.node;
+        for port in 0..wired.ports(node) {
+            let class = wired.class(node, port);
+            if let Some(meeting) = self.visit(candidate, None, node, port, class)? {
+                return Ok(Some(meeting));
+            }
+        }
+        Ok(None)
+    }
+
+    /// Reaches the neighbours of a node that was reached.
+    fn spread(
+        &mut self,
+        candidate: &Candidate,
+        place: usize,
+        at: usize,
+        class: usize,
+    ) -> Result<Option<Meeting>, AllocError>
+        requires { at < length candidate.now.part.wired.now.nodes }
+    {
+        for port in 0..candidate.part.wired.ports(at) {
+            if self.is_old(candidate, at, port, class) {
+                continue;
+            }
+            if let Some(meeting) = self.visit(candidate, Some(place), at, port, class)? {
+                return Ok(Some(meeting));
+            }
+        }
+        Ok(None)
+    }
+
+    /// Reaches the neighbours of the node that was reached at this place.
+    fn go_on(&mut self, candidate: &Candidate, place: usize) -> Result<Option<Answer>, AllocError> {
+        let wired = candidate.part.wired;
+        match self.reached.get(place) {
+            Some(reached) => {
+                let at = reached.node;
+                let class = reached.class;
+                if at >= wired.nodes() || !self.spend(wired.ports(at)) {
+                    return Ok(Some(Answer::Spent));
+                }
+                match self.spread(candidate, place, at, class)? {
+                    Some(meeting) => Ok(Some(Answer::Met(meeting))),
+                    None => Ok(None),
+                }
+            }
+            None => Ok(Some(Answer::Apart)),
+        }
+    }
+
+    /// Searches from all ports of the candidate at once, breadth first, by the nodes of the part.
+    fn run(&mut self, alloc: Global, candidate: &Candidate) -> Result<Answer, AllocError> {
+        self.labels.trial = self.labels.trial.wrapping_add(1);
+        self.reached = Items::new(alloc);
+        if let Some(meeting) = self.start(candidate)? {
+            return Ok(Answer::Met(meeting));
+        }
+        for place in 0..candidate.part.wired.nodes() {
+            if let Some(answer) = self.go_on(candidate, place)? {
+                return Ok(answer);
+            }
+        }
+        Ok(Answer::Apart)
+    }
+
+    /// By which ports the search left and entered each node on its way, the last one first.
+    fn way(&self, alloc: Global, last: Option<usize>) -> Result<Items<(u8, u8)>, AllocError> {
+        let mut way = Items::new(alloc);
+        let mut next = last;
+        for step in 0..MOST_STEPS {
+            if let Some(place) = next {
+                if let Some(reached) = self.reached.get(place) {
+                    next = reached.before;
+                    way.push((reached.left, reached.entered))?;
+                }
+            }
+        }
+        Ok(way)
+    }
+
+    /// The ring by which two classes meet.
+    fn ring(&self, alloc: Global, meeting: Meeting) -> Result<Items<u8>, AllocError> {
+        let way = self.way(alloc, meeting.from)?;
+        let back = self.way(alloc, meeting.to)?;
+        let mut ring = Items::new(alloc);
+        join_ways(way, meeting.port, &back, &mut ring)?;
+        Ok(ring)
+    }
+}
+
+impl<'a> Trials<'a> {
+    /// Nothing tried yet.
+    pub fn new(alloc: Global, wired: &'a Wired<'a>) -> Result<Trials<'a>, AllocError>
+        ensures { IfOk result (λ trials. trials.rings ≡ wired.now) }
+    {
+        let rings = Rings::none(alloc, wired)?;
+        let search = Search::new(alloc, wired.nodes())?;
+        Ok(Trials {
+            rings,
+            graph: ClassGraph::new(alloc),
+            search,
+        })
+    }
+
+    /// As many ports may be looked at as the size of the part allows.
+    pub(crate) fn begin(&mut self, part: &NodeSet)
+        ensures { self.new.rings ≡ self.old.rings }
+    {
+        self.search.budget = part.count().saturating_mul(PORTS_FOR_A_NODE);
+    }
+
+    /// Whether the ring that was kept of the candidate shows that it does not split the part.
+    pub(crate) fn is_ringed(&mut self, candidate: &Candidate) -> bool
+        requires { self.old.rings ≡ candidate.now.part.wired.now }
+        ensures ringed { IsTrue result → SplitsIt candidate.now.part.wired.now candidate.now.part.nodes.now candidate.now.node → ⊥ }
+        ensures same { self.new.rings ≡ self.old.rings }
+    {
+        match self.rings.ring(candidate.node) {
+            Some(ring) => self.search.spend(ring.len()) && are_in(&candidate.part, ring),
+            None => false,
+        }
+    }
+
+    /// Whether the candidate splits the part, where a search from it tells.
+    pub(crate) fn find(
+        &mut self,
+        alloc: Global,
+        candidate: &Candidate,
+    ) -> Result<Option<bool>, AllocError>
+        requires { self.old.rings ≡ candidate.now.part.wired.now }
+        ensures tried { IfOk result (IsTried candidate.now.part.wired.now candidate.now.part.nodes.now candidate.now.node) }
+        ensures same { self.new.rings ≡ self.old.rings }
+    {
+        match self.search.run(alloc, candidate)? {
+            Answer::Met(meeting) => {
+                let ring = self.search.ring(alloc, meeting)?;
+                self.rings.keep(alloc, candidate.node, &ring)?;
+                if self.is_ringed(candidate) {
+                    Ok(Some(false))
+                } else {
+                    Ok(None)
+                }
+            }
+            Answer::Apart => {
+                if show_splitting(candidate, &self.search.labels) {
+                    Ok(Some(true))
+                } else {
+                    Ok(None)
+                }
+            }
+            Answer::Spent => Ok(None),
+        }
+    }
+}
+
+/// The ports by which a walk leaves each node: the first way turned, the port between, and the other way back.
+fn join_ways(
+    way: Items<(u8, u8)>,
+    port: u8,
+    back: &Items<(u8, u8)>,
+    ring: &mut Items<u8>,
+) -> Result<(), AllocError> {
+    let mut left = way;
+    while let Some(step) = left.pop() {
+        ring.push(step.0)?;
+    }
+    ring.push(port)?;
+    for step in 0..back.len() {
+        ring.push(back.as_slice()[step].1)?;
+    }
+    Ok(())
+}

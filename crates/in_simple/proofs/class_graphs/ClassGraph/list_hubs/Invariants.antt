@@ -1,9 +1,0 @@
-use Rattle.in_simple.specs.ClassEdges.{HaveNumbers, AreHubEdges}
-use Rattle.in_simple.proofs.Members.{past}
-use Rattle.in_simple.proofs.class_graphs.ClassGraph.list_hubs.Given as goal
-
-abbrev pub invariant-loop-member : goal.invariant-loop-member
-invariant-loop-member l = record {
-  numbers : HaveNumbers l.part.wired.now l.part.nodes.now (past l.member-items l.member-index) l.self.hubs l.self.count;
-  edges : AreHubEdges l.part.wired.now l.part.nodes.now (past l.member-items l.member-index) l.self.hubs l.self.edges;
-}

@@ -1,5 +1,0 @@
-use Rattle.in_simple.proofs.Both.{splits_or_first_stuck}
-use Rattle.in_simple.proofs.laws.splits_or_first_stuck.Goals as goal
-
-pub returns : goal.returns
-returns c = λ o net. splits_or_first_stuck o net

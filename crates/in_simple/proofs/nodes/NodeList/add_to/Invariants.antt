@@ -1,6 +1,0 @@
-use Rattle.in_simple.proofs.Members.{past}
-use Rattle.in_simple.proofs.VerifySets.{IsUnitedTo}
-use Rattle.in_simple.proofs.nodes.NodeList.add_to.Given as goal
-
-abbrev pub invariant-loop-node : goal.invariant-loop-node
-invariant-loop-node l = IsUnitedTo l.self l.initial.set l.set (past l.node-items l.node-index)

@@ -1,6 +1,0 @@
-use Rattle.std.proofs.Common.{◌<◌}
-use Rattle.in_simple.proofs.Members.{Lists}
-use Rattle.in_simple.proofs.nodes.NodeList.all.Given as goal
-
-abbrev pub invariant-loop-node : goal.invariant-loop-node
-invariant-loop-node l = Lists (λ n. n < l.node) l.members

@@ -1,6 +1,0 @@
-use Rattle.in_simple.proofs.Members.{past}
-use Rattle.in_simple.specs.Procedure.{NoneSplits}
-use Rattle.in_simple.proofs.splitting.first_off_rings.Given as goal
-
-abbrev pub invariant-loop-member : goal.invariant-loop-member
-invariant-loop-member l = NoneSplits l.part.wired.now l.part.nodes.now (past l.member-items l.member-index)
