@@ -3,7 +3,7 @@
 use Rattle.std.specs.Prelude.{◌≡◌, ◌↔◌, ◌⊎◌, ◌≢◌, ◌||◌, ◌&&◌, ℕ, zero, suc, Bool, false, cond, List, [], ◌∷◌, ◌++◌, length, Option, Some, None, IsSome, decimal, nat_eq}
 use Rattle.std.specs.List.{AllByRecursion}
 use Rattle.in_net.specs.Nets.{Point, Port, Free, Signature, Net}
-use Rattle.in_net.specs.Pieces.{AreDifferent}
+use Rattle.in_interaction.specs.Pieces.{AreDifferent}
 use Rattle.in_base.specs.Lists.{IsAmong}
 
 -- the symbols' names and the free ends'

@@ -6,7 +6,7 @@ use Rattle.in_symbols.specs.Tables.{is_constructor}
 use Rattle.in_net.specs.declared.nets.AgentNo.{AgentNo}
 use Rattle.in_net.specs.declared.nets.Point.TheVariants.{Port}
 use Rattle.in_net.specs.Built.{IsOver}
-use Rattle.in_net.specs.Interacting.{most_agents, Interacts}
+use Rattle.in_interaction.specs.Interacting.{most_agents, Interacts}
 use Rattle.in_net.specs.Nets.{net_of}
 use Rattle.in_net.specs.Parts.{Parts, IsWhole, symbol_in, partner_in}
 use Rattle.in_net.specs.Rules.{RuleParts, IsRuleOver, auxiliary_types}

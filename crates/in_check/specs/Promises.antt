@@ -4,7 +4,7 @@
 use Rattle.std.specs.Prelude.{◌≡◌, ◌⊎◌, ◌↔◌, ℕ, suc, nat_eq, List, [], length, map, Some, IsSome}
 use Rattle.std.specs.List.{AllByRecursion}
 use Rattle.in_base.specs.Lists.{IsAmong}
-use Rattle.in_net.specs.Ahead.{MeetsPair, WaitsAt}
+use Rattle.in_interaction.specs.Ahead.{MeetsPair, WaitsAt}
 use Rattle.in_base.specs.Graphs.{CrossingCircle, ViciousCircle}
 use Rattle.in_net.specs.Graphs.{graph_of}
 use Rattle.in_net.specs.Interactions.{Redex, IsNaming, ClosedPath}

@@ -1,13 +1,14 @@
 ghost use Rattle.std.specs.Prelude.{◌≡◌, ◌≤◌, ℕ, suc, count_by, is_some, IfOk, OnOk, OnErr};
 ghost use Rattle.in_net.specs.Built.{IsOver};
-ghost use Rattle.in_net.specs.Interacting.{most_agents};
+ghost use Rattle.in_interaction.specs.Interacting.{most_agents};
 ghost use Rattle.in_net.specs.Nets.{net_of};
 ghost use Rattle.in_check.specs.Plain.{IsReachedBy, IsPairAt, StepsTo};
 ghost use Rattle.in_check.specs.Promises.{IsAsPromised};
 ghost use Rattle.in_check.specs.Systems.{system_of};
 
 use crate::checked::Checked;
-use in_net::{AgentNo, Net, interact};
+use in_interaction::interact;
+use in_net::{AgentNo, Net};
 use std::alloc::{AllocError, Global};
 use std::marker::Model;
 

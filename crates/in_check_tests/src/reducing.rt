@@ -3,7 +3,8 @@ ghost use Rattle.std.specs.Prelude.{◌≡◌, IfOk, IfSome};
 ghost use Rattle.in_net.specs.ActivePairs.{IsActivePair};
 
 use in_check::{Checked, Plain};
-use in_net::{AgentNo, MOST_AGENTS};
+use in_interaction::MOST_AGENTS;
+use in_net::AgentNo;
 use std::alloc::{AllocError, Global};
 
 /// Two agents of an active pair, the constructor first.

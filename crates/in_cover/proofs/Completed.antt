@@ -6,7 +6,7 @@ use Rattle.std.proofs.lemmas.Option.{none-some, same_Some, slice_get_within}
 use Rattle.in_syntax.specs.declared.faults.Refusal.{Refusal}
 use Rattle.in_symbols.specs.Tables.{Tables, port_at, is_constructor, are_opposite, matching}
 use Rattle.in_net.specs.Rules.{RuleParts}
-use Rattle.in_net.proofs.Stepping.Sites.{equal_turned}
+use Rattle.in_net.proofs.NumberTests.{equal_turned}
 use Rattle.in_cover.specs.declared.table.RuleNo.{RuleNo}
 use Rattle.in_cover.specs.Cover.{IsPair, IsOfPair, IsRuleFor, IsComplete, Numbers, IsTableOf, IsMissing, IsMissingAt, IsFirstMissing}
 use Rattle.in_cover.specs.Covering.{HoldsBelow, IsGap, HasNoGapBelow, HasNoGapIn}

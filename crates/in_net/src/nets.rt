@@ -19,9 +19,9 @@ pub enum Point {
 
 /// An agent: its symbol, and the partner of each of its places.
 #[derive(Drop)]
-pub(crate) struct Cell {
-    pub(crate) symbol: SymbolNo,
-    pub(crate) ends: Items<Point>,
+pub struct Cell {
+    pub symbol: SymbolNo,
+    pub ends: Items<Point>,
 }
 
 /// A free end: its name, the type that it is declared with, and its partner.
@@ -34,10 +34,10 @@ pub(crate) struct FreeEnd {
 
 /// Two points that are joined, and where the last joint between them stands in the text.
 #[derive(Clone, Copy)]
-pub(crate) struct Wire {
-    pub(crate) one: Point,
-    pub(crate) other: Point,
-    pub(crate) place: Place,
+pub struct Wire {
+    pub one: Point,
+    pub other: Point,
+    pub place: Place,
 }
 
 /// A net. Lafont 1990: agents, each with a symbol, and wires, each of which joins two points, a point being a port or a free
@@ -94,18 +94,12 @@ impl Net {
         }
     }
 
-    /// The agents by number, with the partner of each of their places.
-    pub(crate) fn cells(&self) -> &[Option<Cell>]
-        ensures { result.now ≡ self.now.cells }
+    /// The agents by number, with the partner of each of their places; `None` where a number has no agent.
+    pub fn cells(&self) -> &[Option<Cell>]
+        ensures cells { result.now ≡ self.now.cells }
+        ensures whole { IsWhole self.now }
     {
         self.cells.as_slice()
-    }
-
-    /// The free ends by number.
-    pub(crate) fn free(&self) -> &[FreeEnd]
-        ensures { result.now ≡ self.now.free }
-    {
-        self.free.as_slice()
     }
 
     /// How many agents the net has.

@@ -8,8 +8,9 @@ use crate::nets::{AgentNo, Net, Point};
 use in_symbols::{SymbolNo, Symbols};
 use std::alloc::{AllocError, Global};
 
-/// Two agents that are an active pair, in their order.
-pub(crate) fn in_order(
+/// Two agents that are an active pair, each with its symbol, in their order: the constructor first, and of two constructors or two
+/// destructors the one with the lower number. The `Symbols` have both symbols, and the two agents differ.
+pub fn in_order(
     symbols: &Symbols,
     one: (AgentNo, SymbolNo),
     other: (AgentNo, SymbolNo),

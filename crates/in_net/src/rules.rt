@@ -1,7 +1,9 @@
-ghost use Rattle.std.specs.Prelude.{◌≡◌, ◌<◌};
+ghost use Rattle.std.specs.Prelude.{◌≡◌, ◌<◌, ◌≤◌, length};
+ghost use Rattle.in_net.specs.NetFaults.{max_member_agents};
+ghost use Rattle.in_net.specs.Parts.{IsWhole};
 ghost use Rattle.in_net.specs.Rules.{place_of_head};
 
-use crate::nets::Net;
+use crate::nets::{Cell, Net};
 use in_symbols::SymbolNo;
 use in_syntax::Place;
 use std::marker::Model;
@@ -62,5 +64,15 @@ impl Rule {
         ensures { result.now ≡ self.now.member }
     {
         &self.member
+    }
+
+    /// The agents of the right member by number, as `cells` gives them; there are at most `MAX_MEMBER_AGENTS`.
+    pub fn member_cells(&self) -> &[Option<Cell>]
+        ensures cells { result.now ≡ self.now.member.cells }
+        ensures few { length self.now.member.cells ≤ max_member_agents }
+        ensures whole { IsWhole self.now.member }
+    {
+        let _ = &self.member;
+        self.member.cells()
     }
 }

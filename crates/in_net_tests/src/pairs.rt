@@ -6,7 +6,8 @@ ghost use Rattle.in_net.specs.Rules.{IsRuleOver};
 ghost use Rattle.in_net_tests.specs.Texts.{IsProgram, HasTypesOfHeads};
 
 use crate::texts::{Look, net_in, rule_in};
-use in_net::{AgentNo, MOST_AGENTS, Net, Rule, made};
+use in_interaction::{MOST_AGENTS, made};
+use in_net::{AgentNo, Net, Rule};
 use in_symbols::Symbols;
 use in_syntax::{Fault, Source};
 use std::alloc::{AllocError, Global};

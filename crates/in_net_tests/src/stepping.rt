@@ -7,7 +7,8 @@ ghost use Rattle.in_net_tests.specs.Texts.{IsProgram, IsBuiltRule, HasTypesOfHea
 
 use crate::pairs::are_the_pairs;
 use crate::texts::{Look, net_in, rule_in};
-use in_net::{AgentNo, MOST_AGENTS, Net, Rule, interact};
+use in_interaction::{MOST_AGENTS, interact};
+use in_net::{AgentNo, Net, Rule};
 use in_symbols::Symbols;
 use in_syntax::{Fault, Source};
 use sqlite_items::Items;

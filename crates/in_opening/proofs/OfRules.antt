@@ -23,7 +23,7 @@ use Rattle.in_open_nets.specs.OpenNets.{OpenNet, IsWire, class_in, open_graph}
 use Rattle.in_opening.specs.Opening.{AreNumbered}
 use Rattle.in_opening.specs.OpeningRules.{agent_node, second_node, class_port, boundary_port, is_turned, rule_point, IsRuleWhole, OpensRule}
 use Rattle.in_open_nets.proofs.Grow.{pair_same}
-use Rattle.in_net.proofs.Stepping.Sites.{lt_tells}
+use Rattle.in_net.proofs.NumberTests.{lt_tells}
 use Rattle.in_opening.proofs.RulePoints.{same_agent, agent_within}
 use Rattle.in_opening.proofs.OpenedRules.{listed, points_open, agent_not_end, same_end, is_end, IsEnd, in_first, in_second, first_port, second_port, class_low}
 use Rattle.in_open_nets.proofs.Sums.{some_of}

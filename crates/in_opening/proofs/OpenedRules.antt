@@ -17,7 +17,7 @@ use Rattle.in_net.proofs.WireAt.{has_partner}
 use Rattle.in_net.specs.Built.{IsOver}
 use Rattle.in_net.specs.Parts.{Parts, IsWhole, IsPointOf, IsWireBetween, cell_in, partner_in, wire_in}
 use Rattle.in_net.specs.Rules.{RuleParts}
-use Rattle.in_net.proofs.Stepping.Sites.{lt_tells}
+use Rattle.in_net.proofs.NumberTests.{lt_tells}
 use Rattle.in_open_nets.specs.declared.open_nets.Node.{Node}
 use Rattle.in_open_nets.specs.declared.open_nets.Node.TheVariants.{AgentNode, ClassNode}
 use Rattle.in_open_nets.specs.declared.open_nets.OpenNode.{OpenNode}

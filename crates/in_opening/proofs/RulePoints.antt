@@ -3,7 +3,7 @@ use Rattle.std.proofs.Common.{◌≡◌, ◌≢◌, ◌<◌, ◌≤◌, ◌+◌,
 use Rattle.std.proofs.lemmas.Bool.Decides.{eqb_tells}
 use Rattle.in_symbols.specs.Tables.{Tables, class_at, classes_of}
 use Rattle.in_net.specs.Rules.{RuleParts}
-use Rattle.in_net.proofs.Stepping.Sites.{lt_tells}
+use Rattle.in_net.proofs.NumberTests.{lt_tells}
 use Rattle.in_opening.specs.OpeningRules.{places_in, agents_before, agent_node, second_node, rule_nodes}
 
 one_same : (a b : ℕ) → a ≡ b → ◌≡◌ {A = ℕ} (cond (nat_eq a b) 1 0) 1

@@ -11,8 +11,8 @@ use Rattle.in_net.specs.Rules.{RuleParts, IsRuleOf, BuildsRuleOf, types_from, au
 use Rattle.in_net.specs.Rules as rules_of
 use Rattle.in_opening.specs.OpeningRules.{is_turned, IsRuleWhole}
 use Rattle.in_opening.proofs.Counted.{cells_there}
-use Rattle.in_net.proofs.Stepping.FewAgents.{few_agents}
-use Rattle.in_net.proofs.Stepping.Sites.{types_many}
+use Rattle.in_net.proofs.FewAgents.{few_agents}
+use Rattle.in_net.proofs.BoundaryTypes.{types_many}
 
 pub same_symbol : (x y : SymbolNo) → x.0 ≡ y.0 → x ≡ y
 same_symbol x y e = ap (λ (z : ℕ). record { 0 = z }) e

@@ -1,10 +1,10 @@
 -- No more agents hang on each other than the net has.
 use Rattle.std.proofs.Common.{◌≡◌, ◌≢◌, ◌⊎◌, ℕ, zero, suc, ◌+◌, ◌<◌, ◌≤◌, List, [], ◌∷◌, length, Option, Some, None, IsSome, is_some, option_map, option_and_then, true≢false, count_by, slice_get, inl, inr, refl, sym, ap, ◌∙◌, subst, arith}
-use Rattle.in_net.specs.Ahead.{MeetsPair, WaitsAt}
+use Rattle.in_interaction.specs.Ahead.{MeetsPair, WaitsAt}
 use Rattle.in_net.specs.Nets.{Point, Port, IsPoint, IsNet, net_of}
 use Rattle.in_check.specs.NetText.{AreAgents, text_parts}
 use Rattle.in_base.specs.Lists.{IsAmong}
-use Rattle.in_net.specs.Pieces.{AreDifferent}
+use Rattle.in_interaction.specs.Pieces.{AreDifferent}
 use Rattle.in_check.specs.Promises.{HoldsAll}
 use Rattle.in_print.specs.Laws.{parts_of_text}
 use Rattle.in_run.proofs.Queues.{agent_numbers, as_many, numbered, machine_queue}

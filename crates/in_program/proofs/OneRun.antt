@@ -5,7 +5,7 @@ use Rattle.in_arena.specs.declared.content.CellClass.TheVariants.{Small, Large}
 use Rattle.in_cover.specs.Table.{Cells}
 use Rattle.in_net.specs.declared.nets.AgentNo.{AgentNo}
 use Rattle.in_net.specs.Parts.{Parts}
-use Rattle.in_net.specs.Listing.{unlisted}
+use Rattle.in_interaction.specs.Listing.{unlisted}
 use Rattle.in_net.specs.Rules.{RuleParts}
 use Rattle.in_symbols.specs.Tables.{Tables}
 use Rattle.in_check.specs.Checking.{IsAccepted}

@@ -6,7 +6,7 @@ use Rattle.in_net.specs.declared.nets.Point.{Point}
 use Rattle.in_net.specs.declared.nets.Point.TheVariants.{Port}
 use Rattle.in_net.specs.ActivePairs.{AreActive, IsActivePair}
 use Rattle.in_net.specs.Parts.{Parts, partner_in}
-use Rattle.in_net.proofs.Stepping.Pairs.{flipped, one_partner}
+use Rattle.in_net.proofs.ActivePairs.{flipped, one_partner}
 use Rattle.in_run.specs.Machines.{agents_at, numbers_of}
 
 pub same_numbers : (p q : ℕ × ℕ) → agents_at p ≡ agents_at q → p ≡ q

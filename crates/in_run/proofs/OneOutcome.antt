@@ -6,10 +6,10 @@ use Rattle.in_arena.specs.declared.content.CellClass.TheVariants.{Small, Large}
 use Rattle.in_net.specs.declared.nets.AgentNo.{AgentNo}
 use Rattle.in_net.specs.declared.nets.Cell.{Cell}
 use Rattle.in_net.specs.declared.nets.FreeEnd.{FreeEnd}
-use Rattle.in_net.specs.Interacting.{Interacts}
-use Rattle.in_net.specs.Made.{AreMade}
+use Rattle.in_interaction.specs.Interacting.{Interacts}
+use Rattle.in_interaction.specs.Made.{AreMade}
 use Rattle.in_net.specs.Rules.{RuleParts}
-use Rattle.in_net.proofs.Stepping.OneOutcome.{one_made_list, one_cells, one_free}
+use Rattle.in_interaction.proofs.Stepping.OneOutcome.{one_made_list, one_cells, one_free}
 use Rattle.in_check.specs.Checking.{IsAccepted}
 use Rattle.in_check.specs.Plain.{IsPlain, IsPairAt, IsReachedBy, IsRuleAt}
 use Rattle.in_check.specs.Programs.{Program}

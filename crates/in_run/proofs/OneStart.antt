@@ -4,9 +4,9 @@ use Rattle.in_arena.specs.declared.content.CellClass.{CellClass}
 use Rattle.in_arena.specs.declared.content.CellClass.TheVariants.{Small, Large}
 use Rattle.in_net.specs.declared.nets.FreeEnd.{FreeEnd}
 use Rattle.in_net.specs.declared.nets.Point.TheVariants.{Port}
-use Rattle.in_net.specs.Listing.{unlisted}
+use Rattle.in_interaction.specs.Listing.{unlisted}
 use Rattle.in_net.specs.Parts.{IsWhole}
-use Rattle.in_net.proofs.Stepping.OneOutcome.{same_sorted}
+use Rattle.in_interaction.proofs.Stepping.OneOutcome.{same_sorted}
 use Rattle.in_check.specs.Checking.{IsAccepted}
 use Rattle.in_check.specs.Programs.{Program}
 use Rattle.in_run.specs.Machines.{MachineParts, IsQueueOf, agents_at, agents_of, free_of}

@@ -15,10 +15,10 @@ use Rattle.in_net.specs.declared.nets.Point.TheVariants as code
 use Rattle.in_net.specs.ActivePairs.{AreActive, IsActivePair}
 use Rattle.in_net.specs.Nets.{Port, IsNet, net_of, point_of, coded_point, signature_of}
 use Rattle.in_net.specs.Parts.{Parts, cell_in, symbol_in, partner_in}
-use Rattle.in_net.specs.Pieces.{AreDifferent}
-use Rattle.in_net.proofs.Interactions.Alternating.{symbol_of}
+use Rattle.in_interaction.specs.Pieces.{AreDifferent}
+use Rattle.in_net.proofs.PairPorts.{symbol_of}
 use Rattle.in_net.proofs.OneNet.{round_code, map_is}
-use Rattle.in_net.proofs.Stepping.Partners.{net_wire}
+use Rattle.in_interaction.proofs.Stepping.Partners.{net_wire}
 use Rattle.in_check.specs.NetText.{IsQueue, agents_of}
 use Rattle.in_check.specs.Programs.{Program}
 use Rattle.in_check.specs.Promises.{IsAsPromised}

@@ -10,13 +10,13 @@ use Rattle.in_net.specs.declared.nets.AgentNo.{AgentNo}
 use Rattle.in_net.specs.declared.nets.Cell.{Cell}
 use Rattle.in_net.specs.declared.nets.Point.{Point}
 use Rattle.in_net.specs.declared.nets.Point.TheVariants.{Port}
-use Rattle.in_net.specs.After.{cell_at}
-use Rattle.in_net.specs.Interacting.{unused, CanInteract, Interacts}
+use Rattle.in_interaction.specs.After.{cell_at}
+use Rattle.in_interaction.specs.Interacting.{unused, CanInteract, Interacts}
 use Rattle.in_net.specs.Interactions.{IsStep, redex_at}
 use Rattle.in_net.specs.Nets.{net_of, signature_of}
 use Rattle.in_net.specs.Parts.{Parts, partner_in}
 use Rattle.in_net.specs.Rules.{RuleParts}
-use Rattle.in_net.proofs.Stepping.OneOutcome.{same_option, symbol_of}
+use Rattle.in_interaction.proofs.Stepping.OneOutcome.{same_option, symbol_of}
 use Rattle.in_run.specs.Inside.{heads_taking}
 use Rattle.in_run.specs.Machines.{is_of, takes, agents_of}
 

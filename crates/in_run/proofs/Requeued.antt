@@ -8,20 +8,20 @@ use Rattle.in_symbols.specs.declared.symbols.SymbolNo.{SymbolNo}
 use Rattle.in_net.specs.declared.nets.AgentNo.{AgentNo}
 use Rattle.in_net.specs.declared.nets.Cell.{Cell}
 use Rattle.in_net.specs.ActivePairs.{IsActivePair}
-use Rattle.in_net.specs.Interacting.{unused, CanInteract, Interacts}
+use Rattle.in_interaction.specs.Interacting.{unused, CanInteract, Interacts}
 use Rattle.in_net.specs.Interactions.{Side, Outer, Inner, Alternates, IsNaming, IsOfPair, wire_of, stands_for, redex_at, of_first, end_agent, end_place}
 use Rattle.in_net.specs.Nets.{Point, Port, Free, net_of, point_of, signature_of}
 use Rattle.in_net.specs.Parts.{Parts, IsWhole, cell_in}
 use Rattle.in_net.specs.Rules.{RuleParts}
-use Rattle.in_net.proofs.Interactions.AtNets.{port_agent, port_place}
+use Rattle.in_net.proofs.PairPorts.{port_agent, port_place}
 use Rattle.in_base.proofs.Places.{kept_at}
-use Rattle.in_net.proofs.Stepping.Making.{agent_same}
+use Rattle.in_interaction.proofs.Stepping.Making.{agent_same}
 use Rattle.in_check.proofs.Reached.FromText.{of_mapped, to_mapped}
 use Rattle.in_run.specs.Machines.{agents_at, numbers_of, IsQueueOf}
-use Rattle.in_net.specs.Made.{IsMade, AreMade}
-use Rattle.in_net.specs.OutcomeLaws.{HoldsNoPair, IsOtherPair}
+use Rattle.in_interaction.specs.Made.{IsMade, AreMade}
+use Rattle.in_interaction.specs.OutcomeLaws.{HoldsNoPair, IsOtherPair}
 use Rattle.in_run.proofs.Apart.{apart}
-use Rattle.in_net.proofs.Stepping.KeptOrMade.{kept_or_made}
+use Rattle.in_interaction.proofs.Stepping.KeptOrMade.{kept_or_made}
 
 -- ---- lists
 

@@ -7,7 +7,7 @@ use Rattle.in_arena.specs.declared.content.CellClass.{CellClass}
 use Rattle.in_arena.specs.declared.content.CellClass.TheVariants.{Small, Large}
 use Rattle.in_symbols.specs.Tables.{Tables}
 use Rattle.in_net.specs.declared.nets.AgentNo.{AgentNo}
-use Rattle.in_net.specs.Interacting.{most_agents, CanInteract, Interacts}
+use Rattle.in_interaction.specs.Interacting.{most_agents, CanInteract, Interacts}
 use Rattle.in_net.specs.Parts.{Parts, IsWhole}
 use Rattle.in_net.specs.Rules.{RuleParts}
 use Rattle.in_check.specs.Checking.{IsAccepted}
@@ -17,7 +17,7 @@ use Rattle.in_check.proofs.Reached.Plain.{fits, steps}
 use Rattle.in_run.specs.Inside.{IsKept, heads_taking}
 use Rattle.in_run.specs.Limiting.{most_cells}
 use Rattle.in_run.specs.Machines.{MachineParts, IsMachine, IsQueueOf, HasCells, agents_at, agents_of, free_of, numbers_of, plain_of}
-use Rattle.in_net.specs.Made.{IsMade, AreMade}
+use Rattle.in_interaction.specs.Made.{IsMade, AreMade}
 use Rattle.in_run.specs.Runs.{HasRoomAt, StepsAt}
 use Rattle.in_run.proofs.Accepted.{member_whole, no_pair, one_rule}
 use Rattle.in_run.proofs.Queues.{few_agents, short_queue}

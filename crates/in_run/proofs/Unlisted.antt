@@ -4,8 +4,8 @@ use Rattle.in_symbols.specs.Tables.{Tables}
 use Rattle.in_net.specs.declared.nets.AgentNo.{AgentNo}
 use Rattle.in_net.specs.ActivePairs.{IsActivePair}
 use Rattle.in_net.specs.Built.{IsOver}
-use Rattle.in_net.specs.Interacting.{CanInteract, Interacts}
-use Rattle.in_net.specs.Listing.{unlisted}
+use Rattle.in_interaction.specs.Interacting.{CanInteract, Interacts}
+use Rattle.in_interaction.specs.Listing.{unlisted}
 use Rattle.in_net.specs.Parts.{Parts}
 use Rattle.in_net.specs.Rules.{RuleParts}
 use Rattle.in_check.specs.Plain.{PlainParts, IsPlain, IsPairAt, IsRuleAt, StepsTo}

@@ -12,7 +12,7 @@ use Rattle.in_net.specs.declared.nets.FreeEnd.{FreeEnd}
 use Rattle.in_net.specs.declared.nets.Point as points
 use Rattle.in_net.specs.declared.nets.Point.TheVariants as point
 use Rattle.in_net.specs.ActivePairs.{IsActivePair}
-use Rattle.in_net.specs.Listing.{unlisted}
+use Rattle.in_interaction.specs.Listing.{unlisted}
 use Rattle.in_net.specs.Parts.{Parts}
 use Rattle.in_check.specs.Checking.{IsAccepted}
 use Rattle.in_check.specs.Plain.{PlainParts, IsPlain}

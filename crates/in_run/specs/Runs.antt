@@ -17,7 +17,7 @@ use Rattle.in_run.specs.declared.stops.Stop.TheVariants.{Normal, Limit, Full}
 use Rattle.in_run.specs.declared.stops.StartFault.{StartFault}
 use Rattle.in_run.specs.declared.stops.StartFault.TheVariants as start
 use Rattle.in_run.specs.Machines.{MachineParts, parts_of, plain_of, agents_at, numbers_of, agents_of, free_of, HasCells, IsQueueOf}
-use Rattle.in_net.specs.Made.{AreMade}
+use Rattle.in_interaction.specs.Made.{AreMade}
 
 -- ---- what an interaction needs
 

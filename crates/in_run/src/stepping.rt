@@ -8,7 +8,8 @@ ghost use Rattle.in_run.specs.Runs.{StepsAt, HasRoomAt};
 use crate::machine::Machine;
 use crate::rules::{free_after, rule_of};
 use in_arena::CellClass;
-use in_net::{AgentNo, made};
+use in_interaction::made;
+use in_net::AgentNo;
 use std::alloc::{AllocError, Global};
 use std::collections::VecDeque;
 

@@ -19,7 +19,7 @@ use Rattle.in_net.specs.Parts.{IsWhole}
 use Rattle.in_net.specs.Rules as written
 use Rattle.in_net.specs.Rules.{RuleParts, IsRuleOf, IsRuleOver, types_from, auxiliary_types}
 use Rattle.in_net.proofs.OneNet.{is_net}
-use Rattle.in_net.proofs.Stepping.Sites.{declared_at}
+use Rattle.in_net.proofs.BoundaryTypes.{declared_at}
 use Rattle.in_typing.specs.Typed.{TypesRule}
 use Rattle.in_typing.proofs.TypedParts.{net_typed}
 use Rattle.in_cover.specs.Cover.{IsComplete}

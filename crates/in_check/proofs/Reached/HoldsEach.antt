@@ -1,9 +1,9 @@
 -- The text of a net that is reached holds each agent and each variable.
 use Rattle.std.proofs.Common.{◌≡◌, ◌≢◌, ◌⊎◌, ◌≤◌, ℕ, nat_eq, zero, suc, Option, Some, None, IsSome, IsSomeAnd, List, [], ◌∷◌, length, refl, sym, subst, ap, inl, inr, ◌∙◌, arith}
 use Rattle.in_net.specs.Nets.{Point, Port, Free, Signature, Net, IsPoint, IsNet}
-use Rattle.in_net.specs.Ahead.{MeetsPair, WaitsAt}
+use Rattle.in_interaction.specs.Ahead.{MeetsPair, WaitsAt}
 use Rattle.std.proofs.lemmas.Option.{same_Some}
-use Rattle.in_net.proofs.Interactions.Alternating.{has_value}
+use Rattle.in_interaction.proofs.Interactions.Alternating.{has_value}
 use Rattle.in_check.specs.Systems.{System}
 use Rattle.in_check.specs.NetText.{Words, TextPart, Bytes, Head, Variable, agent_term, term_at, term, text_parts, AreAgents, StandsTimes, IsQueue, IsAuxiliary}
 use Rattle.in_check.specs.Promises.{HoldsAll, LeadsOn}

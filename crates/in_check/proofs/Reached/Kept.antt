@@ -4,13 +4,13 @@ use mathlib.Core.HLevel.{Discrete}
 use native.Mathlib.Decide.{ℕ_discrete}
 use Rattle.in_net.specs.Interactions.{Redex, IsRedex, IsNaming, ClosedPath}
 use Rattle.in_net.specs.Nets.{Port, Net, IsNet}
-use Rattle.in_net.proofs.Interactions.Ahead.{each_leads_on}
-use Rattle.in_net.proofs.Interactions.ClosedPath.{no_closed_path}
-use Rattle.in_net.proofs.Interactions.Names.{class_discrete}
-use Rattle.in_net.proofs.Interactions.NoNewCircle.{no_new_circle}
-use Rattle.in_net.proofs.Interactions.StaysNet.{is_net}
-use Rattle.in_net.proofs.Interactions.StepExists.{step_exists}
-use Rattle.in_net.proofs.Interactions.Vicious.{crossing_circle}
+use Rattle.in_interaction.proofs.Interactions.Ahead.{each_leads_on}
+use Rattle.in_interaction.proofs.Interactions.ClosedPath.{no_closed_path}
+use Rattle.in_interaction.proofs.Interactions.Names.{class_discrete}
+use Rattle.in_interaction.proofs.Interactions.NoNewCircle.{no_new_circle}
+use Rattle.in_interaction.proofs.Interactions.StaysNet.{is_net}
+use Rattle.in_interaction.proofs.Interactions.StepExists.{step_exists}
+use Rattle.in_interaction.proofs.Interactions.Vicious.{crossing_circle}
 use Rattle.in_typing.specs.Typed.{opposite}
 use Rattle.in_typing.proofs.TypedAlong.{port_type, typed_after}
 use Rattle.in_check.specs.Promises.{IsAsPromised, ReachesAsPromised}

@@ -5,9 +5,8 @@ use Rattle.std.proofs.lemmas.Option.{same_Some}
 use native.Mathlib.Decide.{ℕ_discrete}
 use Rattle.in_base.specs.Lists.{IsAmong}
 use Rattle.in_net.specs.Nets.{Point, Port, Free, Signature, Net, IsNet}
-use Rattle.in_net.specs.Pieces.{AreDifferent}
-use Rattle.in_net.proofs.Interactions.Alternating.{symbol_of}
-use Rattle.in_net.proofs.Interactions.AtNets.{port_agent, port_place}
+use Rattle.in_interaction.specs.Pieces.{AreDifferent}
+use Rattle.in_net.proofs.PairPorts.{symbol_of, port_agent, port_place}
 use Rattle.in_check.specs.NetText.{AreAgents, IsQueue, agents_of}
 use Rattle.in_check.proofs.Reached.Counts.{all_of}
 use Rattle.in_check.proofs.Reached.Renaming.{is_some}

@@ -7,14 +7,14 @@ use Rattle.in_symbols.specs.Tables.{port_at}
 use Rattle.in_net.specs.declared.nets.AgentNo.{AgentNo}
 use Rattle.in_net.specs.declared.nets.Point as coded
 use Rattle.in_net.specs.Built.{IsOver}
-use Rattle.in_net.specs.Interacting.{unused, most_agents, CanInteract, Interacts}
+use Rattle.in_interaction.specs.Interacting.{unused, most_agents, CanInteract, Interacts}
 use Rattle.in_net.specs.Interactions.{redex_at}
 use Rattle.in_net.specs.Nets.{Point, Port, Free, net_of, signature_of, point_of}
 use Rattle.in_net.specs.Parts.{Parts, IsWhole, symbol_in}
 use Rattle.in_net.specs.Rules.{RuleParts, auxiliary_types}
 use Rattle.in_cover.specs.Cover.{IsPair, IsFor}
 use Rattle.std.proofs.lemmas.Option.{same_Some}
-use Rattle.in_net.proofs.Stepping.OneOutcome.{one_outcome}
+use Rattle.in_interaction.proofs.Stepping.OneOutcome.{one_outcome}
 use Rattle.in_opening.proofs.TextRules.{same_symbol}
 use Rattle.in_check.specs.Checking.{IsAccepted, IsProgramOf}
 use Rattle.in_check.specs.Programs.{Program}

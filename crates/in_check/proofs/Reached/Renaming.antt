@@ -9,8 +9,8 @@ use Rattle.in_net.specs.Nets.{Point, Port, Free, Signature, Net, IsPoint, IsNet}
 use Rattle.in_base.specs.Lists.{IsAmong}
 use Rattle.in_typing.specs.Typed.{opposite}
 use Rattle.in_typing.specs.TypedNets.{type_in, IsTypedNet}
-use Rattle.in_net.proofs.Interactions.Alternating.{has_value, symbol_of}
-use Rattle.in_net.proofs.Interactions.AtNets.{port_agent, port_place}
+use Rattle.in_interaction.proofs.Interactions.Alternating.{has_value}
+use Rattle.in_net.proofs.PairPorts.{symbol_of, port_agent, port_place}
 use Rattle.in_base.proofs.Circuits.{Walk, Circuit, IsEntered, IsLeft, crossings_separate, circuit_of, shorten}
 use Rattle.in_check.specs.Systems.{HasSymbolsBelow}
 use Rattle.in_check.specs.Runs.{renamed, IsRenamed}

@@ -14,7 +14,7 @@ use Rattle.in_net.proofs.FirstFault.{no_fault}
 use Rattle.in_net.proofs.Frees.{length-boundary, boundary_joined, boundary_types, boundary_unnamed}
 use Rattle.in_net.proofs.NetRead.{ends_in}
 use Rattle.in_net.proofs.TextWires.{read_joined, is_text_net}
-use Rattle.in_net.proofs.Stepping.FewAgents.{few_agents}
+use Rattle.in_net.proofs.FewAgents.{few_agents}
 use Rattle.in_net.proofs.GoodRules.{good, from, both_symbols, are_written, are_heads, count}
 use Rattle.in_net.proofs.members.linked_rule.Goals as goal
 

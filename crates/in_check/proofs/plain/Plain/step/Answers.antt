@@ -1,5 +1,5 @@
 use Rattle.std.proofs.Common.{◌≤◌, count_by, is_some, sym, subst, ◌∙◌}
-use Rattle.in_net.specs.Interacting.{most_agents}
+use Rattle.in_interaction.specs.Interacting.{most_agents}
 use Rattle.in_net.specs.Parts.{Parts}
 use Rattle.in_check.specs.Plain.{PlainParts, IsPlain, IsReachedBy, IsPairAt, StepsTo}
 use Rattle.in_check.proofs.Reached.Plain.{steps, promised}

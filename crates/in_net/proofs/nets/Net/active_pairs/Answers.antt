@@ -1,7 +1,7 @@
 use Rattle.std.proofs.Common.{◌≤◌, ◌+◌, length, Option, List, sym, subst}
 use Rattle.in_net.specs.Parts.{IsWhole}
 use Rattle.in_net.specs.declared.nets.Cell.{Cell}
-use Rattle.in_net.proofs.Stepping.Pairs.{AreFirstPairs, none_yet, none_here, one_here, all_pairs}
+use Rattle.in_net.proofs.ActivePairs.{AreFirstPairs, none_yet, none_here, one_here, all_pairs}
 use Rattle.in_net.proofs.nets.Net.active_pairs.Goals as goal
 use Rattle.in_net.proofs.nets.Net.active_pairs.Goals.{in-Some+in_ok-push, in_default}
 
@@ -30,5 +30,5 @@ loop-number-preserved c =
 pub returns : goal.returns
 returns c =
     let whole = subst IsWhole c.self.view_is c.self.invariant in
-    let last : length c.args.self.now.cells ≤ c.loop-number.number = subst (λ (cs : List (Option Cell)). length cs ≤ c.loop-number.number) c.cells-number-end.ensures c.loop-number-test.false in
+    let last : length c.args.self.now.cells ≤ c.loop-number.number = subst (λ (cs : List (Option Cell)). length cs ≤ c.loop-number.number) c.cells-number-end.ensures.cells c.loop-number-test.false in
     all_pairs c.args.symbols.now c.args.self.now whole c.loop-number.number c.loop-number.pairs.items c.loop-number.invariant last

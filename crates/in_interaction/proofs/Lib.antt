@@ -1,0 +1,2 @@
+pub mod Interactions
+pub mod Stepping

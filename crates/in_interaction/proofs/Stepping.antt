@@ -1,0 +1,12 @@
+pub mod Cells
+pub mod KeptOrMade
+pub mod Landing
+pub mod Making
+pub mod OneOutcome
+pub mod Outcome
+pub mod Partners
+pub mod Reaching
+pub mod Sites
+pub mod Turns
+pub mod Unused
+pub mod Wires

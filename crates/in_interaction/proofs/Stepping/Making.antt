@@ -1,0 +1,294 @@
+-- The pairs that an interaction makes: one for each lowest boundary end, found by the two halves of its path.
+use Rattle.std.proofs.Common.{◌≡◌, ◌≢◌, ◌⊎◌, inl, inr, ◌+◌, ◌*◌, ◌<◌, ◌≤◌, ℕ, Option, Some, None, List, [], ◌∷◌, ◌++◌, length, slice_get, refl, sym, ap, subst, ◌∙◌, arith}
+use Rattle.std.specs.Prelude.{option_map, IsSomeAnd}
+use native.Mathlib.Decide.{ℕ_discrete}
+use Rattle.std.proofs.lemmas.List.{length-map}
+use Rattle.std.proofs.lemmas.Option.{none-some, slice_get_within}
+use Rattle.in_base.specs.Lists.{IsAmong}
+use Rattle.in_syntax.specs.Grammar.{max_ports}
+use Rattle.in_symbols.specs.Tables.{Tables, arity_of, IsSymbol}
+use Rattle.in_symbols.specs.declared.symbols.SymbolNo.{SymbolNo}
+use Rattle.in_net.specs.ActivePairs.{StandsFirst}
+use Rattle.in_interaction.specs.Following.{SiteParts}
+use Rattle.in_interaction.specs.Interacting.{unused, CanInteract}
+use Rattle.in_net.specs.Interactions.{Redex, IsRedex, IsNaming, Side, Outer, Inner, other, Alternates, wire_of, IsOfPair, AreJoined, end_agent, end_place, redex_at}
+use Rattle.in_interaction.specs.Made.{PassesEnd, HasSymbolAfter, IsMade, AreMade}
+use Rattle.in_interaction.specs.Making.{AreMadeBelow, most_wires}
+use Rattle.in_net.specs.Nets.{Point, Port, IsPoint, IsNet, net_of, signature_of}
+use Rattle.in_net.specs.Parts.{Parts, IsWhole, symbol_in}
+use Rattle.in_net.specs.Rules.{RuleParts}
+use Rattle.in_net.specs.declared.nets.AgentNo.{AgentNo}
+use Rattle.in_net.specs.declared.nets.Cell.{Cell}
+use Rattle.in_net.specs.declared.nets.FreeEnd.{FreeEnd}
+use Rattle.in_net.proofs.PairPorts.{end_of_pair, not_pair}
+use Rattle.in_interaction.proofs.Interactions.Alternating.{one_wire}
+use Rattle.in_interaction.proofs.Interactions.StaysNet as stays_net
+use Rattle.in_interaction.proofs.Interactions.StepExists.{step_exists}
+use Rattle.in_interaction.proofs.Interactions.Through as through
+use Rattle.in_base.proofs.Places.{last_at, kept_at, more_at}
+use Rattle.in_net.proofs.ActivePairs.{below_or, no_both, symbol_known}
+use Rattle.in_interaction.proofs.Stepping.Sites as sites
+use Rattle.in_base.proofs.Places.{some_same}
+use Rattle.in_interaction.proofs.Stepping.Unused.{unused_free, unused_apart}
+
+pub agent_same : (x y : AgentNo) → x.0 ≡ y.0 → x ≡ y
+agent_same x y e = ap (λ (z : ℕ). let w : AgentNo = record { 0 = z } in w) e
+
+port_same : (x y : ℕ) (i j : ℕ) → ◌≡◌ {A = Point ℕ} (Port x i) (Port y j) → x ≡ y
+port_same x y i j e = cc
+
+-- a pair has one lowest boundary end
+pub end_once : (t : Tables) (n : Parts) (r : RuleParts) (a b : AgentNo) (d e : ℕ) (q : AgentNo × AgentNo) → IsMade t n r a b d q → IsMade t n r a b e q → d ≡ e
+end_once t n r a b d e q h g = let x = h.path.lowest e g.path.passed in let y = g.path.lowest d h.path.passed in omega (arith, x, y)
+
+-- a new number has no symbol before
+pub fresh_symbol : (n : Parts) (k : ℕ) → symbol_in n (unused n.cells k) ≡ None
+fresh_symbol n k = ap (option_map (λ (c : Cell). c.symbol)) (unused_free n.cells k)
+
+pub symbol_once : (n : Parts) (r : RuleParts) (a b y : AgentNo) (s z : SymbolNo) → HasSymbolAfter n r a b y s → HasSymbolAfter n r a b y z → s ≡ z
+symbol_once n r a b y s z (inl h) (inl k) = some_same (symbol_in n y.0) s z h.2 k.2
+symbol_once n r a b y s z (inl h) (inr k) = absurd (none-some s (sym (ap (symbol_in n) (sym k.1) ∙ fresh_symbol n k.0) ∙ h.2))
+symbol_once n r a b y s z (inr h) (inl k) = absurd (none-some z (sym (ap (symbol_in n) (sym h.1) ∙ fresh_symbol n h.0) ∙ k.2))
+symbol_once n r a b y s z (inr h) (inr k) =
+    let same : h.0 ≡ k.0 = unused_apart n.cells h.0 k.0 (h.1 ∙ sym k.1) in
+    some_same (symbol_in r.member h.0) s z h.2 (ap (symbol_in r.member) same ∙ k.2)
+
+pub symbol_after_known : (t : Tables) (n : Parts) (r : RuleParts) (a b y : AgentNo) (s : SymbolNo) → CanInteract t n r a b → HasSymbolAfter n r a b y s → IsSymbol t s.0
+symbol_after_known t n r a b y s can (inl h) = symbol_known t n y.0 s can.net h.2
+symbol_after_known t n r a b y s can (inr h) = symbol_known t r.member h.0 s can.rule.member h.2
+
+module _ (t : Tables) (n : Parts) (r : RuleParts) (a b : AgentNo) (whole : IsWhole n) (small : IsWhole r.member) (can : CanInteract t n r a b) where
+  abbrev at : Redex ℕ ℕ
+  at = redex_at r a.0 b.0
+
+  abbrev name : ℕ → ℕ
+  name = unused n.cells
+
+  abbrev pub pt : ℕ → Point ℕ
+  pt e = Port (end_agent (signature_of t) (redex_at r a.0 b.0) e) (end_place (signature_of t) (redex_at r a.0 b.0) e)
+
+  abbrev pub Way : Side → Point ℕ → List (Point ℕ) → Point ℕ → Type 0
+  Way = Alternates (wire_of (signature_of t) (net_of n) (redex_at r a.0 b.0) (unused n.cells)) (IsOfPair (redex_at r a.0 b.0))
+
+  -- the premises of the lemmas on paths
+  abbrev pub net : IsNet (signature_of t) (net_of n)
+  net = sites.net t n r a b whole small can
+
+  abbrev pub inside : IsNet (signature_of t) (net_of r.member)
+  inside = sites.inside t n r a b whole small can
+
+  abbrev pub redex : IsRedex (signature_of t) (net_of n) (redex_at r a.0 b.0)
+  redex = sites.redex t n r a b whole small can
+
+  abbrev pub naming : IsNaming (net_of n) (redex_at r a.0 b.0) (unused n.cells)
+  naming = sites.naming t n r a b whole small can
+
+  abbrev pub Stays : Point ℕ → Type 0
+  Stays u = IsOfPair (redex_at r a.0 b.0) u → ⊥
+
+  pub stays_after : (y : AgentNo) (s : SymbolNo) → HasSymbolAfter n r a b y s → Stays (Port y.0 0)
+  stays_after y s (inl h) = λ o. elim o [ inl e ↦ h.0 (agent_same y a e) | inr e ↦ h.1 (agent_same y b e) ]
+  stays_after y s (inr h) =
+      let there : IsPoint (signature_of t) (net_of r.member) (Port h.0 0) =
+      subst (λ (o : Option SymbolNo). IsSomeAnd (option_map (λ (s : SymbolNo). s.0) o) (λ s. 0 ≤ arity_of t s)) (sym h.2) (omega arith) in
+      λ o. not_pair (signature_of t) (net_of n) (redex_at r a.0 b.0) (unused n.cells) net inside redex naming h.0 0 there (subst (λ z. IsOfPair (redex_at r a.0 b.0) (Port z 0)) (sym h.1) o)
+
+  few_ends : arity_of t r.heads.0.0 + arity_of t r.heads.1.0 ≤ 2 * max_ports
+  few_ends =
+      let x = sites.agent_ends t n can.net a.0 r.heads.0 can.one in
+      let y = sites.agent_ends t n can.net b.0 r.heads.1 can.two in
+      let l = whole.ports a.0 x.0 x.1 in
+      let m = whole.ports b.0 y.0 y.1 in
+      omega (arith, l, m, x.3, y.3)
+
+  -- the path from a boundary end by one side ends at this agent's principal port
+  pub record Half (side : Side) (e : ℕ) (z : AgentNo) : Type 0 where
+    pub symbol : SymbolNo
+    pub has : HasSymbolAfter n r a b z symbol
+    pub ends : List (Point ℕ)
+    pub way : Way side (pt e) ends (Port z.0 0)
+    pub few : length ends < most_wires
+    pub low : (d : ℕ) → IsAmong (pt d) ends → e ≤ d
+
+  -- .. by both sides
+  pub record Halves (e : ℕ) (q : AgentNo × AgentNo) : Type 0 where
+    pub one : AgentNo
+    pub two : AgentNo
+    pub outer : Half Outer e one
+    pub inner : Half Inner e two
+    pub are : (q ≡ (one, two)) ⊎ (q ≡ (two, one))
+
+  pub halves : (e : ℕ) (q : AgentNo × AgentNo) → IsMade t n r a b e q → Halves e q
+  halves e q h = by c.side c.front c.rear c.ahead c.behind c.front_of c.rear_of c.short
+    where
+      es : List (Point ℕ)
+      es = h.path.passed.1
+
+      c : through.Cut (wire_of (signature_of t) (net_of n) (redex_at r a.0 b.0) (unused n.cells)) (IsOfPair (redex_at r a.0 b.0)) (Port q.0.0 0) (Port q.1.0 0) (pt e) es
+      c = through.cut_at (signature_of t) (net_of n) (redex_at r a.0 b.0) (unused n.cells) net inside redex naming h.path.passed.0 (Port q.0.0 0) es (Port q.1.0 0) h.path.passed.2 (pt e) h.path.passed.3
+
+      most : length es ≤ 2 * (arity_of t r.heads.0.0 + arity_of t r.heads.1.0) + 1
+      most =
+          through.short_way (signature_of t) (net_of n) (redex_at r a.0 b.0) (unused n.cells) net inside redex naming ℕ_discrete h.path.passed.0 (Port q.0.0 0) es (Port q.1.0 0) (stays_after q.0 h.first h.one) (stays_after q.1 h.second h.two) h.path.passed.2
+
+      low : (fs : List (Point ℕ)) → ((p : Point ℕ) → IsAmong p fs → IsAmong p es) → (d : ℕ) → IsAmong (pt d) fs → e ≤ d
+      low fs into d i = h.path.lowest d (h.path.passed.0, es, h.path.passed.2, into (pt d) i)
+
+      by : (s : Side) (front rear : List (Point ℕ)) → Way s (pt e) front (Port q.1.0 0) → Way (other s) (pt e) rear (Port q.0.0 0) → ((p : Point ℕ) → IsAmong p front → IsAmong p es) → ((p : Point ℕ) → IsAmong p rear → IsAmong p es) →
+          length front + length rear < length es → Halves e q
+      by Outer front rear x y f g less = let k = few_ends in let m = most in record {
+        one = q.1;
+        two = q.0;
+        outer = record { symbol = h.second; has = h.two; ends = front; way = x; few = omega (arith, less, k, m); low = low front f };
+        inner = record { symbol = h.first; has = h.one; ends = rear; way = y; few = omega (arith, less, k, m); low = low rear g };
+        are = inr refl;
+      }
+      by Inner front rear x y f g less = let k = few_ends in let m = most in record {
+        one = q.0;
+        two = q.1;
+        outer = record { symbol = h.first; has = h.one; ends = rear; way = y; few = omega (arith, less, k, m); low = low rear g };
+        inner = record { symbol = h.second; has = h.two; ends = front; way = x; few = omega (arith, less, k, m); low = low front f };
+        are = inl refl;
+      }
+
+  -- from a boundary end by one side one path goes to a point that stays
+  pub one_from : (s : Side) (e : ℕ) (u v : Point ℕ) (es fs : List (Point ℕ)) → Stays u → Stays v → Way s (pt e) es u → Way s (pt e) fs v → (es ≡ fs) × (u ≡ v)
+  one_from s e u v es fs hu hv x y =
+      through.same_path (wire_of (signature_of t) (net_of n) (redex_at r a.0 b.0) (unused n.cells)) (IsOfPair (redex_at r a.0 b.0)) (one_wire (signature_of t) (net_of n) (redex_at r a.0 b.0) (unused n.cells) net inside redex naming) s (pt e) es fs u v hu hv x y
+
+  half_once : (s : Side) (e : ℕ) (z w : AgentNo) → Half s e z → Half s e w → z ≡ w
+  half_once s e z w h g = agent_same z w (port_same z.0 w.0 0 0 (one_from s e (Port z.0 0) (Port w.0 0) h.ends g.ends (stays_after z h.symbol h.has) (stays_after w g.symbol g.has) h.way g.way).1)
+
+  -- not both ways round
+  not_turned : (x y : AgentNo) (d e : ℕ) → IsMade t n r a b d (x, y) → IsMade t n r a b e (y, x) → ⊥
+  not_turned x y d e h g =
+      let one = symbol_once n r a b x h.first g.second h.one g.two in
+      let two = symbol_once n r a b y h.second g.first h.two g.one in
+      no_both t x y h.first h.second h.order (subst (λ (s : SymbolNo). StandsFirst t h.second s y x) (sym one) (subst (λ (s : SymbolNo). StandsFirst t s g.second y x) (sym two) g.order))
+
+  -- a boundary end is the lowest of one pair
+  pub pair_once : (e : ℕ) (p q : AgentNo × AgentNo) → IsMade t n r a b e p → IsMade t n r a b e q → p ≡ q
+  pair_once e p q h g = go x.are y.are
+    where
+      x : Halves e p
+      x = halves e p h
+
+      y : Halves e q
+      y = halves e q g
+
+      one : x.one ≡ y.one
+      one = half_once Outer e x.one y.one x.outer y.outer
+
+      two : x.two ≡ y.two
+      two = half_once Inner e x.two y.two x.inner y.inner
+
+      go : (p ≡ (x.one, x.two)) ⊎ (p ≡ (x.two, x.one)) → (q ≡ (y.one, y.two)) ⊎ (q ≡ (y.two, y.one)) → p ≡ q
+      go (inl u) (inl v) = u ∙ ap (λ (z : AgentNo). let w : AgentNo × AgentNo = (z, x.two) in w) one ∙ ap (λ (z : AgentNo). let w : AgentNo × AgentNo = (y.one, z) in w) two ∙ sym v
+      go (inr u) (inr v) = u ∙ ap (λ (z : AgentNo). let w : AgentNo × AgentNo = (z, x.one) in w) two ∙ ap (λ (z : AgentNo). let w : AgentNo × AgentNo = (y.two, z) in w) one ∙ sym v
+      go (inl u) (inr v) =
+          let turned : q ≡ (x.two, x.one) = v ∙ ap (λ (z : AgentNo). let w : AgentNo × AgentNo = (z, y.one) in w) (sym two) ∙ ap (λ (z : AgentNo). let w : AgentNo × AgentNo = (x.two, z) in w) (sym one) in
+          absurd (not_turned x.one x.two e e (subst (IsMade t n r a b e) u h) (subst (IsMade t n r a b e) turned g))
+      go (inr u) (inl v) =
+          let turned : q ≡ (x.one, x.two) = v ∙ ap (λ (z : AgentNo). let w : AgentNo × AgentNo = (z, y.two) in w) (sym one) ∙ ap (λ (z : AgentNo). let w : AgentNo × AgentNo = (x.one, z) in w) (sym two) in
+          absurd (not_turned x.one x.two e e (subst (IsMade t n r a b e) turned g) (subst (IsMade t n r a b e) u h))
+
+  -- two halves without a lower end make a pair, in its order
+  pub is_made : (s : Side) (e : ℕ) (x y : AgentNo) (c d : SymbolNo) (es fs : List (Point ℕ)) → Way s (pt e) es (Port x.0 0) → ((l : ℕ) → IsAmong (pt l) es → e ≤ l) → Way (other s) (pt e) fs (Port y.0 0) → ((l : ℕ) → IsAmong (pt l) fs → e ≤ l) →
+      HasSymbolAfter n r a b x c → HasSymbolAfter n r a b y d → StandsFirst t c d x y → IsMade t n r a b e (x, y)
+  is_made s e x y c d es fs h low_h g low_g one two order = record {
+    first = c;
+    second = d;
+    one = one;
+    two = two;
+    path = record { passed = (j.side, j.ends, j.path, j.through); lowest = lowest };
+    order = order;
+  }
+    where
+      j : through.Joins (wire_of (signature_of t) (net_of n) (redex_at r a.0 b.0) (unused n.cells)) (IsOfPair (redex_at r a.0 b.0)) (pt e) es fs (Port x.0 0) (Port y.0 0)
+      j =
+          through.join_at (signature_of t) (net_of n) (redex_at r a.0 b.0) (unused n.cells) net inside redex naming s (pt e) es (Port x.0 0) (end_of_pair (signature_of t) (net_of n) (redex_at r a.0 b.0) (unused n.cells) net inside redex naming e) h fs (Port y.0 0) g
+
+      lowest : (l : ℕ) → PassesEnd (signature_of t) (net_of n) (redex_at r a.0 b.0) (unused n.cells) l (Port x.0 0) (Port y.0 0) → e ≤ l
+      lowest l p =
+          let same =
+          (through.one_way (signature_of t) (net_of n) (redex_at r a.0 b.0) (unused n.cells) net inside redex naming p.0 j.side (Port x.0 0) (Port y.0 0) (Port y.0 0) p.1 j.ends (stays_after x c one) (stays_after y d two) (stays_after y d two) p.2 j.path).0 in
+          elim (j.only (pt l) (subst (IsAmong (pt l)) same p.3)) [
+            | inl k ↦ let m = through.pt_same (signature_of t) (net_of n) (redex_at r a.0 b.0) (unused n.cells) net inside redex naming e l k in omega (arith, m)
+            | inr k ↦ elim k [ inl i ↦ low_h l i | inr i ↦ low_g l i ]
+          ]
+
+  pub end_within : (e : ℕ) → e < arity_of t r.heads.0.0 + arity_of t r.heads.1.0 → e < length r.member.free
+  end_within e lt =
+      let many = length-map r.member.free (λ (f : FreeEnd). f.kind) in
+      let ends = sites.redex t n r a b whole small can in
+      let all = ends.ends in
+      omega (arith, lt, many, all)
+
+  -- a lowest end of a pair is a boundary end
+  pub made_within : (e : ℕ) (q : AgentNo × AgentNo) → IsMade t n r a b e q → e < length r.member.free
+  made_within e q h =
+      let d = through.through_ends (signature_of t) (net_of n) (redex_at r a.0 b.0) (unused n.cells) net inside redex naming h.path.passed.0 (Port q.0.0 0) h.path.passed.1 (Port q.1.0 0) h.path.passed.2 (pt e) h.path.passed.3 in
+      let same = through.pt_same (signature_of t) (net_of n) (redex_at r a.0 b.0) (unused n.cells) net inside redex naming e d.0 d.2 in
+      let many = length-map r.member.free (λ (f : FreeEnd). f.kind) in
+      let l = d.1 in
+      omega (arith, same, l, many)
+
+  -- two principal ports that are joined are those of two agents
+  pub agents_differ : (x y : AgentNo) → AreJoined (signature_of t) (net_of n) (redex_at r a.0 b.0) (unused n.cells) (Port x.0 0) (Port y.0 0) → x ≢ y
+  agents_differ x y j same =
+      let after = step_exists (signature_of t) (net_of n) (redex_at r a.0 b.0) (unused n.cells) net inside redex naming ℕ_discrete in
+      let is_net = stays_net.is_net (signature_of t) (net_of n) (redex_at r a.0 b.0) (unused n.cells) after.0 net inside redex after.1 ℕ_discrete in
+      is_net.apart (Port x.0 0) ((after.1.wires (Port x.0 0) (Port x.0 0)).1 (subst (λ (z : AgentNo). AreJoined (signature_of t) (net_of n) (redex_at r a.0 b.0) (unused n.cells) (Port x.0 0) (Port z.0 0)) (sym same) j))
+
+-- ---- end by end
+
+module _ (t : Tables) (s : SiteParts) where
+  abbrev Made : ℕ → AgentNo × AgentNo → Type 0
+  Made = IsMade t s.net s.rule s.one s.two
+
+  pub none_below : AreMadeBelow t s 0 []
+  none_below = record { each = λ k q e. cc; all = λ e q lt h. absurd (omega (arith, lt)); rising = λ j k d e p q lt f g h i. cc }
+
+  pub none_more : (e : ℕ) (qs : List (AgentNo × AgentNo)) → AreMadeBelow t s e qs → ((q : AgentNo × AgentNo) → IsMade t s.net s.rule s.one s.two e q → ⊥) → AreMadeBelow t s (e + 1) qs
+  none_more e qs h none = record {
+    each = λ k q f. (let r = h.each k q f in (r.0, (let l = r.1 in omega (arith, l)), r.2));
+    all = λ d q lt m. all d q m (below_or d e lt);
+    rising = h.rising;
+  }
+    where
+      all : (d : ℕ) (q : AgentNo × AgentNo) → Made d q → (d < e) ⊎ (d ≡ e) → (k : ℕ) × (slice_get qs k ≡ Some q)
+      all d q m (inl lt) = h.all d q lt m
+      all d q m (inr same) = absurd (none q (subst (λ (z : ℕ). Made z q) same m))
+
+  pub one_more : (e : ℕ) (qs : List (AgentNo × AgentNo)) (p : AgentNo × AgentNo) → AreMadeBelow t s e qs → IsMade t s.net s.rule s.one s.two e p → ((q : AgentNo × AgentNo) → IsMade t s.net s.rule s.one s.two e q → q ≡ p) → AreMadeBelow t s (e + 1) (qs ++ p ∷ [])
+  one_more e qs p h made once = record {
+    each = λ k q f. each k q (more_at qs p q k f);
+    all = λ d q lt m. all d q m (below_or d e lt);
+    rising = λ j k d c x y lt f g m i. rising j k d c x y lt m i (more_at qs p x j f) (more_at qs p y k g);
+  }
+    where
+      each : (k : ℕ) (q : AgentNo × AgentNo) → (slice_get qs k ≡ Some q) ⊎ ((k ≡ length qs) × (p ≡ q)) → (d : ℕ) × (d < e + 1) × Made d q
+      each k q (inl f) = let r = h.each k q f in (r.0, (let l = r.1 in omega (arith, l)), r.2)
+      each k q (inr f) = (e, omega arith, subst (Made e) f.1 made)
+
+      all : (d : ℕ) (q : AgentNo × AgentNo) → Made d q → (d < e) ⊎ (d ≡ e) → (k : ℕ) × (slice_get (qs ++ p ∷ []) k ≡ Some q)
+      all d q m (inl lt) = let r = h.all d q lt m in (r.0, kept_at qs (p ∷ []) r.0 q r.1)
+      all d q m (inr same) = (length qs, last_at qs p ∙ ap (λ (z : AgentNo × AgentNo). Some z) (sym (once q (subst (λ (z : ℕ). Made z q) same m))))
+
+      rising : (j k d c : ℕ) (x y : AgentNo × AgentNo) → j < k → Made d x → Made c y → (slice_get qs j ≡ Some x) ⊎ ((j ≡ length qs) × (p ≡ x)) → (slice_get qs k ≡ Some y) ⊎ ((k ≡ length qs) × (p ≡ y)) → d < c
+      rising j k d c x y lt m i (inl f) (inl g) = h.rising j k d c x y lt f g m i
+      rising j k d c x y lt m i (inl f) (inr g) =
+          let r = h.each j x f in
+          let less = r.1 in
+          let one = end_once t s.net s.rule s.one s.two d r.0 x m r.2 in
+          let two = end_once t s.net s.rule s.one s.two c e y i (subst (Made e) g.1 made) in
+          omega (arith, less, one, two)
+      rising j k d c x y lt m i (inr f) (inl g) = let l = slice_get_within qs k y g in let n = f.0 in absurd (omega (arith, l, n, lt))
+      rising j k d c x y lt m i (inr f) (inr g) = let l = g.0 in let n = f.0 in absurd (omega (arith, l, n, lt))
+
+  pub all_ends : (e : ℕ) (qs : List (AgentNo × AgentNo)) → IsWhole s.net → IsWhole s.rule.member → CanInteract t s.net s.rule s.one s.two → AreMadeBelow t s e qs → length s.rule.member.free ≤ e → AreMade t s.net s.rule s.one s.two qs
+  all_ends e qs whole small can h le = record {
+    each = λ k q f. (let r = h.each k q f in (r.0, r.2));
+    all = λ d q m. h.all d q (let l = made_within t s.net s.rule s.one s.two whole small can d q m in omega (arith, l, le)) m;
+    rising = h.rising;
+  }

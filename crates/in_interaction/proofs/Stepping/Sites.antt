@@ -1,0 +1,81 @@
+-- Where two agents can interact: the net and the right member are nets, the pair is one of the definitions, and the unused numbers are names.
+use Rattle.std.proofs.Common.{◌≡◌, ◌+◌, ◌≤◌, ℕ, Option, Some, None, length, length-append, refl, sym, ap, ◌∙◌, arith}
+use Rattle.std.specs.Prelude.{option_map}
+use Rattle.std.proofs.lemmas.List.{length-map}
+use Rattle.in_syntax.specs.Grammar.{max_ports}
+use Rattle.in_symbols.specs.declared.symbols.SymbolNo.{SymbolNo}
+use Rattle.in_symbols.specs.Tables.{Tables, arity_of}
+use Rattle.in_net.specs.declared.nets.AgentNo.{AgentNo}
+use Rattle.in_net.specs.declared.nets.Cell.{Cell}
+use Rattle.in_net.specs.declared.nets.FreeEnd.{FreeEnd}
+use Rattle.in_net.specs.declared.nets.Point as coded
+use Rattle.in_net.specs.Built.{IsOver}
+use Rattle.in_interaction.specs.Following.{SiteParts, IsSite}
+use Rattle.in_interaction.specs.Interacting.{unused, CanInteract}
+use Rattle.in_net.specs.Interactions.{IsRedex, IsNaming, redex_at}
+use Rattle.in_net.specs.Nets.{Port, IsNet, net_of, signature_of, point_of}
+use Rattle.in_net.specs.Parts.{Parts, IsWhole, cell_in, symbol_in}
+use Rattle.in_net.specs.Rules.{RuleParts, auxiliary_types}
+use Rattle.in_net.proofs.OneNet.{is_net, cell_over}
+use Rattle.in_net.proofs.BoundaryTypes.{types_many, declared_at}
+use Rattle.in_interaction.proofs.Stepping.Unused.{unused_free, unused_apart}
+
+module _ (t : Tables) (n : Parts) (r : RuleParts) (a b : AgentNo) (whole : IsWhole n) (small : IsWhole r.member) (can : CanInteract t n r a b) where
+  pub net : IsNet (signature_of t) (net_of n)
+  net = is_net t n whole can.net
+
+  pub inside : IsNet (signature_of t) (net_of r.member)
+  inside = is_net t r.member small can.rule.member
+
+  pub naming : IsNaming (net_of n) (redex_at r a.0 b.0) (unused n.cells)
+  naming = record {
+    fresh = λ k s e. ap (λ (o : Option Cell). option_map (λ (s : SymbolNo). s.0) (option_map (λ (c : Cell). c.symbol) o)) (unused_free n.cells k);
+    apart = λ k l s u e f same. unused_apart n.cells k l same;
+  }
+
+  active : (net_of n).partner (Port a.0 0) ≡ Some (Port b.0 0)
+  active = ap (λ (o : Option coded.Point). option_map point_of o) can.active
+
+  pub redex : IsRedex (signature_of t) (net_of n) (redex_at r a.0 b.0)
+  redex = record {
+    one = ap (λ (o : Option SymbolNo). option_map (λ (s : SymbolNo). s.0) o) can.one;
+    two = ap (λ (o : Option SymbolNo). option_map (λ (s : SymbolNo). s.0) o) can.two;
+    differ = λ same. net.apart (Port a.0 0) (active ∙ ap (λ y. Some (Port y 0)) (sym same));
+    active = active;
+    ends =
+        ap length can.declared ∙ length-append (auxiliary_types t r.heads.0.0) (auxiliary_types t r.heads.1.0)
+        ∙ ap (λ z. z + length (auxiliary_types t r.heads.1.0)) (types_many t r.heads.0.0 1 (arity_of t r.heads.0.0)) ∙ ap (λ z. arity_of t r.heads.0.0 + z) (types_many t r.heads.1.0 1 (arity_of t r.heads.1.0));
+    declared = declared_at t r a.0 b.0 can.declared;
+  }
+
+-- ---- how many places
+
+-- an agent with this symbol has a cell with an end for each place
+pub agent_ends : (t : Tables) (n : Parts) → IsOver t n → (x : ℕ) (s : SymbolNo) → symbol_in n x ≡ Some s → (c : Cell) × (cell_in n x ≡ Some c) × (c.symbol ≡ s) × (length c.ends ≡ arity_of t s.0 + 1)
+agent_ends t n over x s e = go (cell_in n x) refl e
+  where
+    go : (o : Option Cell) → cell_in n x ≡ o → option_map (λ (c : Cell). c.symbol) o ≡ Some s → (c : Cell) × (cell_in n x ≡ Some c) × (c.symbol ≡ s) × (length c.ends ≡ arity_of t s.0 + 1)
+    go None is e = cc
+    go (Some c) is e =
+        let same : c.symbol ≡ s = cc in
+        (c, is, same, (cell_over t n.cells x c over.cells is).1 ∙ ap (λ (s : SymbolNo). arity_of t s.0 + 1) same)
+
+module _ (s : SiteParts) (site : IsSite s) where
+  pub first_is : (t : Tables) → CanInteract t s.net s.rule s.one s.two → arity_of t s.rule.heads.0.0 ≡ s.first
+  first_is t can =
+      let c = agent_ends t s.net can.net s.one.0 s.rule.heads.0 can.one in
+      let many = site.first c.0 c.1 in
+      omega (arith, many, c.3)
+
+  pub ends_fit : (s.first ≤ max_ports) × (length s.rule.member.free ≤ s.first + max_ports)
+  ends_fit =
+      let t = site.over.0 in
+      let can = site.over.1 in
+      let a = agent_ends t s.net can.net s.one.0 s.rule.heads.0 can.one in
+      let b = agent_ends t s.net can.net s.two.0 s.rule.heads.1 can.two in
+      let small = site.whole.ports s.one.0 a.0 a.1 in
+      let other = site.whole.ports s.two.0 b.0 b.1 in
+      let first = first_is t can in
+      let many = (redex t s.net s.rule s.one s.two site.whole site.member can).ends in
+      let types = length-map s.rule.member.free (λ (f : FreeEnd). f.kind) in
+      (omega (arith, small, a.3, first), omega (arith, other, b.3, first, many, types))

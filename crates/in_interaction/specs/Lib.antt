@@ -1,0 +1,10 @@
+pub mod After
+pub mod Ahead
+pub mod Following
+pub mod Interacting
+pub mod InteractionLaws
+pub mod Listing
+pub mod Made
+pub mod Making
+pub mod OutcomeLaws
+pub mod Pieces

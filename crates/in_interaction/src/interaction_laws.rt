@@ -1,0 +1,51 @@
+//! Laws of interactions, over the definitions alone, in the order of the argument. No function here does anything.
+
+ghost use Rattle.in_interaction.specs.InteractionLaws.{StepExists, CirclesFallApart, OuterPiecesArePassages, RingsLeaveWalks, ClosedWalksShorten, NoNewCircle, NoClosedPath, NoViciousCircle, EachLeadsOn};
+
+/// An interaction has a result, and it is a net.
+pub fn step_exists()
+    ensures { StepExists }
+{}
+
+/// A crossing circle after an interaction stood in the net before or in the right member, or it falls into pieces outside and inside,
+/// cut at its boundary ends, whose agents are the circle's, each once.
+pub fn circles_fall_apart()
+    ensures { CirclesFallApart }
+{}
+
+/// Where the net before has no crossing circle, a walk round the active pair from a boundary end to one is a passage through one
+/// class node, by two different ports.
+pub fn outer_pieces_are_passages()
+    ensures { OuterPiecesArePassages }
+{}
+
+/// Where each outer piece of a ring is such a passage, what is left of the ring is a closed walk of the open right member.
+pub fn rings_leave_walks()
+    ensures { RingsLeaveWalks }
+{}
+
+/// A closed walk of the open right member that enters and leaves each node by different classes, and meets each agent and each port
+/// at most once, shortens to a crossing circle.
+pub fn closed_walks_shorten()
+    ensures { ClosedWalksShorten }
+{}
+
+/// An interaction makes no crossing circle.
+pub fn no_new_circle()
+    ensures { NoNewCircle }
+{}
+
+/// An interaction leaves no closed alternating path.
+pub fn no_closed_path()
+    ensures { NoClosedPath }
+{}
+
+/// A net without crossing circle has no vicious one.
+pub fn no_vicious_circle()
+    ensures { NoViciousCircle }
+{}
+
+/// Without a crossing circle each agent has an active pair ahead, or waits at a free end.
+pub fn each_leads_on()
+    ensures { EachLeadsOn }
+{}

@@ -1,0 +1,28 @@
+//! Laws of what an interaction makes of a net, and of active pairs, for whoever reasons above them. No function here does anything.
+
+ghost use Rattle.in_interaction.specs.OutcomeLaws.{InteractionsAreOne, PairsAreListedOnce, MadePairsAreListedOnce, PairsAreKeptOrMade, PairsAreApart};
+
+/// The net after an interaction is determined by the net before, the rule and the pair, the numbers of its wires included.
+pub fn interactions_are_one()
+    ensures { InteractionsAreOne }
+{}
+
+/// The list of active pairs is determined by the tables and the net.
+pub fn pairs_are_listed_once()
+    ensures { PairsAreListedOnce }
+{}
+
+/// The list of the active pairs that an interaction makes is determined by the tables, the net, the rule and the pair.
+pub fn made_pairs_are_listed_once()
+    ensures { MadePairsAreListedOnce }
+{}
+
+/// The active pairs after an interaction are those of other agents, and the pairs that it makes.
+pub fn pairs_are_kept_or_made()
+    ensures { PairsAreKeptOrMade }
+{}
+
+/// An agent is in at most one active pair.
+pub fn pairs_are_apart()
+    ensures { PairsAreApart }
+{}

@@ -1,0 +1,162 @@
+ghost use Rattle.std.specs.Prelude.{◌≡◌, ◌≢◌, ◌<◌, length, IfOk};
+ghost use Rattle.in_interaction.specs.Interacting.{MayInteract, CanInteract};
+ghost use Rattle.in_net.specs.Interactions.{other};
+ghost use Rattle.in_interaction.specs.Made.{AreMade};
+ghost use Rattle.in_interaction.specs.Making.{side_of, Over, LeadsTo, IsLanding, principal_of, IsSymbolAfter, IsPairAt};
+
+use crate::following::Site;
+use crate::interacting::{arity, unused};
+use in_net::{AgentNo, Net, Point, Rule, in_order};
+use in_symbols::{SymbolNo, Symbols};
+use in_syntax::MAX_PORTS;
+use smallvec::SmallVec;
+use std::alloc::{AllocError, Global};
+
+/// How many wires a path has at most: it comes to each boundary end at most once from each side.
+const MOST_WIRES: u32 = 4 * MAX_PORTS as u32 + 2;
+
+/// The net round the active pair, or the right member.
+#[derive(Clone, Copy)]
+enum Side {
+    Outer,
+    Inner,
+}
+
+impl Side {
+    fn other(self) -> Side
+        ensures { side_of result ≡ other (side_of self) }
+    {
+        match self {
+            Side::Outer => Side::Inner,
+            Side::Inner => Side::Outer,
+        }
+    }
+}
+
+/// Where a wire of a boundary end leads: to another one, or to a point that stays.
+#[derive(Clone, Copy)]
+enum Reached {
+    End(u32),
+    Staying(Point),
+}
+
+/// The agent whose principal port this is.
+fn principal(point: Point) -> Option<AgentNo>
+    ensures { result ≡ principal_of point }
+{
+    match point {
+        Point::Port(agent, 0) => Some(agent),
+        _ => None,
+    }
+}
+
+impl<'a> Site<'a> {
+    /// Where the wire of a boundary end leads on this side.
+    fn reached(&self, side: Side, end: u32) -> Reached
+        requires { end < length self.now.rule.member.free }
+        ensures { LeadsTo self.now (side_of side) end result }
+    {
+        match side {
+            Side::Outer => {
+                let point = self.net.partner(self.port_of(end));
+                match self.end_of(point) {
+                    Some(next) => Reached::End(next),
+                    None => Reached::Staying(point),
+                }
+            }
+            Side::Inner => match self.rule.member().partner(Point::Free(end)) {
+                Point::Port(agent, place) => {
+                    Reached::Staying(Point::Port(self.names[agent.0 as usize], place))
+                }
+                Point::Free(next) => Reached::End(next),
+            },
+        }
+    }
+
+    /// Where the path ends that leaves a boundary end by this side, if it goes through no lower one.
+    fn landing(&self, side: Side, end: u32) -> Option<Point>
+        requires { end < length self.now.rule.member.free }
+        ensures { IsLanding self.now (side_of side) end result }
+    {
+        let _ = &self.first;
+        let mut by = side;
+        let mut at = end;
+        for wire in 0..MOST_WIRES {
+            match self.reached(by, at) {
+                Reached::Staying(point) => return Some(point),
+                Reached::End(next) => {
+                    if next < end {
+                        return None;
+                    }
+                    at = next;
+                    by = by.other();
+                }
+            }
+        }
+        None
+    }
+
+    /// The symbol that an agent which isn't of the pair has after the interaction.
+    fn symbol_after(&self, agent: AgentNo) -> Option<SymbolNo>
+        requires one { agent ≢ self.now.one }
+        requires two { agent ≢ self.now.two }
+        ensures { IsSymbolAfter self.now agent result }
+    {
+        let _ = &self.first;
+        match self.net.symbol(agent) {
+            Some(symbol) => Some(symbol),
+            None => self.rule.member().symbol(self.named(agent)?),
+        }
+    }
+
+    /// The pair whose principal ports are joined by the path through this boundary end, if it goes through no lower one.
+    fn pair_through(&self, symbols: &Symbols, end: u32) -> Option<(AgentNo, AgentNo)>
+        requires over { Over self.now symbols.now }
+        requires end { end < length self.now.rule.member.free }
+        ensures { IsPairAt symbols.now self.now end result }
+    {
+        let _ = &self.first;
+        let one = principal(self.landing(Side::Outer, end)?)?;
+        let other = principal(self.landing(Side::Inner, end)?)?;
+        let first = self.symbol_after(one)?;
+        let second = self.symbol_after(other)?;
+        Some(in_order(symbols, (one, first), (other, second)))
+    }
+}
+
+/// The active pairs that `interact` would make of this net, rule, `a` and `b`: two agents whose principal ports come to one wire by it.
+///
+/// The constructor stands first, and of two constructors or two destructors the one with the lower number, which may be that of a new
+/// agent. Each such wire goes through ports of the pair; the pairs are in the order of the lowest boundary ends on their wires. Both
+/// orders are this project's own choice. The `Symbols` are those of the net; the other conditions are those of `interact`. Refused for
+/// want of memory alone.
+pub fn made(
+    alloc: Global,
+    symbols: &Symbols,
+    net: &Net,
+    rule: &Rule,
+    a: AgentNo,
+    b: AgentNo,
+) -> Result<SmallVec<(AgentNo, AgentNo), 16>, AllocError>
+    requires may { MayInteract net.now rule.now a b }
+    requires over { CanInteract symbols.now net.now rule.now a b }
+    ensures { IfOk result (λ pairs. AreMade symbols.now net.now rule.now a b pairs.items) }
+{
+    let right = rule.member();
+    let names = unused(alloc, net.cells(), rule.member_cells().len())?;
+    let site = Site {
+        net,
+        rule,
+        one: a,
+        two: b,
+        first: arity(net, a),
+        names: names.as_slice(),
+    };
+    let mut pairs = SmallVec::new(alloc);
+    for end in 0..right.free_ends() {
+        if let Some(pair) = site.pair_through(symbols, end) {
+            pairs.push(pair)?;
+        }
+    }
+    Ok(pairs)
+}

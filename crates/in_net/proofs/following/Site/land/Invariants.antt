@@ -1,6 +1,0 @@
-use Rattle.std.proofs.Common.{◌-◌}
-use Rattle.in_net.specs.Following.{Lands, most_turns}
-use Rattle.in_net.proofs.following.Site.land.Given as goal
-
-abbrev pub invariant-loop-turn : goal.invariant-loop-turn
-invariant-loop-turn l = (v : _) → Lands l.self most_turns l.fn.arrived v → Lands l.self (most_turns - l.turn) l.at v

@@ -1,6 +1,0 @@
-use Rattle.std.proofs.Common.{◌≢◌, ◌<◌, ℕ}
-use Rattle.in_net.specs.Interacting.{unused}
-use Rattle.in_net.proofs.following.Site.named.Given as goal
-
-abbrev pub invariant-loop-agent : goal.invariant-loop-agent
-invariant-loop-agent l = (k : ℕ) → k < l.agent → unused l.self.net.cells k ≢ l.number.0

@@ -1,5 +1,0 @@
-use Rattle.in_net.proofs.Stepping.Unused.{AreFound}
-use Rattle.in_net.proofs.interacting.empty_numbers.Given as goal
-
-abbrev pub invariant-loop-number : goal.invariant-loop-number
-invariant-loop-number l = AreFound l.cells l.count l.number l.names.items

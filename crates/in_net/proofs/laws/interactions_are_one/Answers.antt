@@ -1,5 +1,0 @@
-use Rattle.in_net.proofs.Stepping.OneOutcome.{one_outcome}
-use Rattle.in_net.proofs.laws.interactions_are_one.Goals as goal
-
-pub returns : goal.returns
-returns c = one_outcome

@@ -1,5 +1,0 @@
-use Rattle.in_net.proofs.Stepping.KeptOrMade.{apart}
-use Rattle.in_net.proofs.laws.pairs_are_apart.Goals as goal
-
-pub returns : goal.returns
-returns c = apart

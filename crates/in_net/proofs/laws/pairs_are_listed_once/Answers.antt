@@ -1,5 +1,0 @@
-use Rattle.in_net.proofs.Stepping.OneOutcome.{one_list}
-use Rattle.in_net.proofs.laws.pairs_are_listed_once.Goals as goal
-
-pub returns : goal.returns
-returns c = one_list

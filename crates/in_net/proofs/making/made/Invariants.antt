@@ -1,5 +1,0 @@
-use Rattle.in_net.specs.Making.{AreMadeBelow}
-use Rattle.in_net.proofs.making.made.Given as goal
-
-abbrev pub invariant-loop-end : goal.invariant-loop-end
-invariant-loop-end l = AreMadeBelow l.symbols l.site l.end l.pairs.items
