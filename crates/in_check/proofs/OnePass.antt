@@ -18,7 +18,7 @@ use Rattle.in_open_nets.specs.Derivations.{IsDerivation}
 use Rattle.in_simple.specs.TakenOrder.{AreTaken}
 use Rattle.in_simple.proofs.OneAnswer.{derived_once, one_stuck_place}
 use Rattle.in_opening.proofs.OneOpening.{by_elements}
-use Rattle.in_simple.proofs.Whole.{derivation_builds}
+use Rattle.in_open_nets.proofs.Whole.{derivation_builds}
 use Rattle.in_check.specs.declared.checked.Certificate.{Certificate}
 use Rattle.in_check.specs.Certificates.{IsCertificate, IsRefusedAt, CertifiesRule, CertifiesRules, CertifiesSome}
 use Rattle.in_check.specs.Checking.{BuildsRules, TypesRules, TypePasses}

@@ -1,7 +1,7 @@
 use in_check::{Checked, Counts, Item};
 use in_cover::RuleNo;
 use in_open_nets::{Derivation, Node, OpenNet, Point, Step};
-use in_simple::verify;
+use in_verify::verify;
 use in_symbols::SymbolNo;
 use in_syntax::Code;
 use in_test_programs::{Look, refusal_of, seen};

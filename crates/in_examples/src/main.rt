@@ -9,7 +9,7 @@ use in_cover::RuleNo;
 use in_diagnosis::diagnosis;
 use in_program::act;
 use in_run::Limits;
-use in_simple::verify;
+use in_verify::verify;
 use in_syntax::{MemoryIn, MemoryOut};
 use in_test_programs::{Look, seen};
 use in_words::Action;

@@ -5,6 +5,7 @@ pub mod ClassEdges
 pub mod ClassWays
 pub mod EachSplits
 pub mod FirstMembers
+pub mod Forest
 pub mod Grow
 pub mod HubEdges
 pub mod HubMembers
@@ -25,3 +26,4 @@ pub mod Spreading
 pub mod StuckNodes
 pub mod Sums
 pub mod Tried
+pub mod Whole

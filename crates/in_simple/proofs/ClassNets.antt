@@ -23,7 +23,7 @@ use Rattle.in_open_nets.proofs.Balance.{wire_within, wire_turn}
 use Rattle.in_open_nets.proofs.Sound.{wire_points, port_place}
 use Rattle.in_open_nets.proofs.Links.{same_nat, at_most}
 use Rattle.in_open_nets.proofs.Search.{at_ports, in_ports}
-use Rattle.in_simple.proofs.Forest.{length_app}
+use Rattle.in_open_nets.proofs.Forest.{length_app}
 use Rattle.in_simple.proofs.Make.{port_most, hanging, hanging_is, hanging_yes, fit_graft}
 use Rattle.in_simple.proofs.Joining.{shape_same, built_over, fits_link, fits_mix}
 use Rattle.in_simple.proofs.Stacking.{none_more}

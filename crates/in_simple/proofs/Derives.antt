@@ -9,7 +9,7 @@ use Rattle.in_simple.specs.Stacks.{no_wires, loose_in, loose_below}
 use Rattle.in_base.proofs.Places.{some_same}
 use Rattle.in_open_nets.proofs.Sums.{not_both, one_other}
 use Rattle.in_open_nets.proofs.Grow.{splits_built}
-use Rattle.in_simple.proofs.Forest.{Agrees}
+use Rattle.in_open_nets.proofs.Forest.{Agrees}
 use Rattle.in_simple.proofs.Make.{Made, LinkOf, make_link, make_mix, same_links, constructions}
 use Rattle.in_open_nets.proofs.Both.{derivable_splits}
 use Rattle.in_simple.proofs.Finishing.{loose_points, loose_no_port, below_small, below_none, below_past, below_more, below_all, last_ends}

@@ -18,7 +18,7 @@ use Rattle.in_open_nets.proofs.Balance.{wire_turn}
 use Rattle.in_open_nets.proofs.Sound.{wire_points}
 use Rattle.in_open_nets.proofs.Links.{same_nat}
 use Rattle.in_open_nets.proofs.Reaching.{in_length}
-use Rattle.in_simple.proofs.Whole.{times_some}
+use Rattle.in_open_nets.proofs.Whole.{times_some}
 use Rattle.in_simple.proofs.Make.{port_most}
 use Rattle.in_simple.proofs.Joining.{shape_same, fits_empty, fits_link, fits_mix}
 use Rattle.in_simple.specs.TakenOrder.{AreJointsOf, AreTaken, links_from, with_nodes, without}

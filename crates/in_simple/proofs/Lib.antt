@@ -2,10 +2,8 @@ pub mod ClassNets
 pub mod Derives
 pub mod Fates
 pub mod Finishing
-pub mod Forest
 pub mod Joining
 pub mod Make
-pub mod Named
 pub mod Nets
 pub mod OneAnswer
 pub mod OneOrder
@@ -13,11 +11,5 @@ pub mod Planning
 pub mod Stacking
 pub mod Stages
 pub mod Taking
-pub mod VerifyEnds
-pub mod VerifyGraft
-pub mod VerifyMade
-pub mod VerifyRun
-pub mod VerifyTaken
 pub mod Waiting
-pub mod Whole
 pub mod Working

@@ -17,7 +17,7 @@ use Rattle.in_open_nets.proofs.Sound.{wire_points, port_place}
 use Rattle.in_open_nets.proofs.Links.{Decided, same_nat, both_decided, at_most, least}
 use Rattle.in_open_nets.proofs.Search.{test, test_yes, test_is, partner, in_ports}
 use Rattle.in_open_nets.proofs.Grow.{Constructions}
-use Rattle.in_simple.proofs.Forest.{Forest, nothing, beside, close, or_sum}
+use Rattle.in_open_nets.proofs.Forest.{Forest, nothing, beside, close, or_sum}
 use Rattle.std.proofs.lemmas.Bool.{and_from, cond_both, or_cases, or_left, or_right, cases_Bool, false_from_ne_true}
 use Rattle.in_base.proofs.Each.{at_index}
 

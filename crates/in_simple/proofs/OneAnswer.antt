@@ -10,7 +10,7 @@ use Rattle.in_open_nets.specs.OpenNets.{OpenNet, IsOpenNet, node_place_in}
 use Rattle.in_open_nets.specs.Stuck.{Among, Rises, IsListed, IsStuckNet, IsFirstStuck}
 use Rattle.in_open_nets.proofs.Both.{one_first_stuck}
 use Rattle.in_simple.proofs.OneOrder.{one_list}
-use Rattle.in_simple.proofs.Whole.{derivation_builds}
+use Rattle.in_open_nets.proofs.Whole.{derivation_builds}
 
 -- ---- numbers that rise are one list
 

@@ -18,7 +18,7 @@ use Rattle.in_base.proofs.Places.{kept_at}
 use Rattle.in_base.proofs.Places.{some_same}
 use Rattle.in_open_nets.proofs.Sums.{one_same, one_other}
 use Rattle.in_open_nets.proofs.Links.{same_nat, at_most}
-use Rattle.in_simple.proofs.Forest.{length_app, get_past, get_cases, times_app, times_in_app, earlier_app, different_of, or_sum}
+use Rattle.in_open_nets.proofs.Forest.{length_app, get_past, get_cases, times_app, times_in_app, earlier_app, different_of, or_sum}
 
 -- ---- lists
 

@@ -1,4 +1,3 @@
-pub mod Checking
 pub mod Joints
 pub mod Laws
 pub mod Outcomes

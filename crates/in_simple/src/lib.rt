@@ -4,8 +4,5 @@
 pub mod laws;
 mod plans;
 mod procedure;
-mod sets;
-mod verifying;
 
 pub use procedure::derive;
-pub use verifying::verify;

@@ -1,7 +1,7 @@
 use in_check::{Checked, Item};
 use in_cover::RuleNo;
 use in_open_nets::{Derivation, OpenNet, Step};
-use in_simple::verify;
+use in_verify::verify;
 use in_test_programs::{Look, seen};
 use in_test_texts::{ADDITION, DUPLICATION, SUMS};
 use sqlite_items::Items;

@@ -32,7 +32,7 @@ use Rattle.in_opening.proofs.OfRules.{rule_circle}
 use Rattle.in_opening.proofs.RuleLaws.{rules_open, no_circle}
 use Rattle.in_opening.proofs.Opened as opened_nets
 use Rattle.in_opening.proofs.TextRules.{rule_whole}
-use Rattle.in_simple.proofs.Whole.{derivation_builds}
+use Rattle.in_open_nets.proofs.Whole.{derivation_builds}
 use Rattle.in_check.specs.Certificates.{CertifiesRule}
 use Rattle.in_check.specs.Checking.{IsAccepted, IsProgramOf}
 use Rattle.in_check.specs.Programs.{Program}

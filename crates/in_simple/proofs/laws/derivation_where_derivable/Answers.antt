@@ -1,5 +1,5 @@
 use Rattle.in_simple.proofs.Derives.{derivable_has_derivation}
-use Rattle.in_simple.proofs.Whole.{derivation_builds}
+use Rattle.in_open_nets.proofs.Whole.{derivation_builds}
 use Rattle.in_simple.proofs.laws.derivation_where_derivable.Goals as goal
 
 pub returns : goal.returns
