@@ -20,8 +20,9 @@ pub(crate) fn net_start(net: &SourceNet) -> usize {
     }
 }
 
-/// The number of the rule in which a byte stands, from 0; nothing where it is not in a rule.
-pub(crate) fn rule_at(source: &Source, at: usize) -> Option<usize> {
+/// The number, from 0, of the rule in which a byte of the program's text stands; nothing where it stands before the first rule or in the
+/// net.
+pub fn rule_at(source: &Source, at: usize) -> Option<usize> {
     if at >= net_start(&source.net) {
         return None;
     }
