@@ -63,26 +63,35 @@ pub fn free_end(source: &Source, number: u32) -> Option<End<'_>> {
     })
 }
 
+/// The port of an agent.
+fn say_agent(report: &mut Report, end: &End, symbol: &SourceSymbol, number: usize) {
+    say_port(report, symbol, number);
+    say_type(report, " is `", end.port, "`");
+}
+
+/// The port of a head that is replaced.
+fn say_head(report: &mut Report, end: &End, symbol: &SourceSymbol, number: usize) {
+    say_type(report, "here a port of type `", end.port, "` replaces ");
+    say_port(report, symbol, number);
+}
+
+/// The free end of this name.
+fn say_free(report: &mut Report, end: &End, name: &str) {
+    say_type(
+        report,
+        "a port of type `",
+        end.port,
+        "` belongs at the free end `",
+    );
+    report.say_name(name, "`", "");
+}
+
 /// What an end is.
 fn say_end(report: &mut Report, end: &End) {
     match end.owner {
-        Owner::Agent(symbol, number) => {
-            say_port(report, symbol, number);
-            say_type(report, " is `", end.port, "`");
-        }
-        Owner::Head(symbol, number) => {
-            say_type(report, "here a port of type `", end.port, "` replaces ");
-            say_port(report, symbol, number);
-        }
-        Owner::Free(name) => {
-            say_type(
-                report,
-                "a port of type `",
-                end.port,
-                "` belongs at the free end `",
-            );
-            report.say_name(name, "`", "");
-        }
+        Owner::Agent(symbol, number) => say_agent(report, end, symbol, number),
+        Owner::Head(symbol, number) => say_head(report, end, symbol, number),
+        Owner::Free(name) => say_free(report, end, name),
     }
 }
 
@@ -93,17 +102,29 @@ fn add_end(report: &mut Report, end: &End) {
     report.end_at(end.place);
 }
 
+/// A wire between two types.
+fn say_types(report: &mut Report, kind: &str, second: &str) {
+    report.say_name("error: this wire joins the type `", kind, "` to the type `");
+    report.say_name(second, "`", "");
+}
+
+/// The words before the type of two outputs, or of two inputs.
+fn two_of(output: bool) -> &'static str {
+    if output {
+        "error: this wire joins two outputs of type `"
+    } else {
+        "error: this wire joins two inputs of type `"
+    }
+}
+
 /// What is wrong with a wire of these two ends.
 fn say_misfit(report: &mut Report, one: &End, other: &End) {
     let kind = one.port.kind.text.as_str();
     let second = other.port.kind.text.as_str();
     if kind != second {
-        report.say_name("error: this wire joins the type `", kind, "` to the type `");
-        report.say_name(second, "`", "");
-    } else if one.output {
-        report.say_name("error: this wire joins two outputs of type `", kind, "`");
+        say_types(report, kind, second);
     } else {
-        report.say_name("error: this wire joins two inputs of type `", kind, "`");
+        report.say_name(two_of(one.output), kind, "`");
     }
 }
 

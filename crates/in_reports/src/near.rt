@@ -51,17 +51,17 @@ fn find_near<'a>(
     Ok(())
 }
 
-/// The declared names that are near to this one.
-fn near_names<'a, D: Declared>(
+/// Adds the declared names that are near to this one.
+fn find_all<'a, D: Declared>(
     alloc: Global,
     name: &str,
     declared: &'a [D],
-) -> Result<Vec<Near<'a>>, AllocError> {
-    let mut found = Vec::new(alloc);
+    found: &mut Vec<Near<'a>>,
+) -> Result<(), AllocError> {
     for one in declared {
-        find_near(alloc, name, one.name(), &mut found)?;
+        find_near(alloc, name, one.name(), found)?;
     }
-    Ok(found)
+    Ok(())
 }
 
 /// How many near names are told.
@@ -96,11 +96,9 @@ fn add_found(report: &mut Report, found: &[Near]) -> bool {
 
 /// Adds the declared names that are near to this one, the nearest first; says whether there are any.
 pub(crate) fn add_near<D: Declared>(report: &mut Report, name: &str, declared: &[D]) -> bool {
-    match near_names(report.alloc, name, declared) {
-        Ok(found) => add_found(report, found.as_slice()),
-        Err(error) => {
-            report.fail(error);
-            false
-        }
-    }
+    let mut found = Vec::new(report.alloc);
+    let done = find_all(report.alloc, name, declared, &mut found);
+    let all = done.is_ok();
+    report.keep(done);
+    all && add_found(report, found.as_slice())
 }

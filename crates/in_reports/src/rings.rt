@@ -12,6 +12,15 @@ fn bare_names(equation: &Equation) -> Option<(&str, &str)> {
     }
 }
 
+/// The other name of an equation of two bare names, one of which is this one.
+fn other_name<'a>(equation: &'a Equation, name: &str) -> Option<&'a str> {
+    match bare_names(equation) {
+        Some((left, right)) if left == name => Some(right),
+        Some((left, right)) if right == name => Some(left),
+        _ => None,
+    }
+}
+
 /// Another equation of two bare names, one of which is this one: its number, and its other name.
 fn next_equation<'a>(
     equations: &'a [Equation],
@@ -20,13 +29,8 @@ fn next_equation<'a>(
 ) -> Option<(usize, &'a str)> {
     for (other, equation) in equations.iter().enumerate() {
         if other != number {
-            if let Some((left, right)) = bare_names(equation) {
-                if left == name {
-                    return Some((other, right));
-                }
-                if right == name {
-                    return Some((other, left));
-                }
+            if let Some(next) = other_name(equation, name) {
+                return Some((other, next));
             }
         }
     }
@@ -66,11 +70,16 @@ fn add_ring(report: &mut Report, equations: &[Equation], first: usize, from: &st
     }
 }
 
+/// The second name of the equation of this number, where it is of two bare names.
+fn second_name(equations: &[Equation], number: usize) -> Option<&str> {
+    let (_, name) = bare_names(equations.get(number)?)?;
+    Some(name)
+}
+
 /// The number of the equation whose `~` stands at a place, and its second name, where it is of two bare names.
 fn ring_at(equations: &[Equation], place: Place) -> Option<(usize, &str)> {
     let first = equation_at(equations, place)?;
-    let (_, name) = bare_names(equations.get(first)?)?;
-    Some((first, name))
+    Some((first, second_name(equations, first)?))
 }
 
 /// A wire that is joined to itself.
