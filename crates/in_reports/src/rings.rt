@@ -12,13 +12,18 @@ fn bare_names(equation: &Equation) -> Option<(&str, &str)> {
     }
 }
 
+/// The other one of two names, where this is one of them.
+fn other_of<'a>(left: &'a str, right: &'a str, name: &str) -> Option<&'a str> {
+    if left == name {
+        return Some(right);
+    }
+    if right == name { Some(left) } else { None }
+}
+
 /// The other name of an equation of two bare names, one of which is this one.
 fn other_name<'a>(equation: &'a Equation, name: &str) -> Option<&'a str> {
-    match bare_names(equation) {
-        Some((left, right)) if left == name => Some(right),
-        Some((left, right)) if right == name => Some(left),
-        _ => None,
-    }
+    let (left, right) = bare_names(equation)?;
+    other_of(left, right, name)
 }
 
 /// Another equation of two bare names, one of which is this one: its number, and its other name.
