@@ -3,16 +3,7 @@
 #![tactic(auto)]
 
 mod circles;
-mod declarations;
-mod excerpts;
-mod grammar;
-mod letters;
-mod names;
-mod near;
-mod occurrences;
-mod pairs;
 mod reading;
-mod reports;
 mod stuck;
 mod telling;
 mod wires;

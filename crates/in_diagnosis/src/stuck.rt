@@ -1,7 +1,6 @@
 //! Rules and nets that no steps build: the first part in which no node splits, and a circle in it.
 use crate::circles::{Circle, Field, Wires};
-use crate::declarations::{place_in, say_port};
-use crate::reports::Report;
+use in_reports::{Report, add_braces, help_apart, say_node_at, say_port_of};
 use in_open_nets::{Node, OpenNet};
 use in_syntax::{Place, Source, SourceSymbol};
 use std::alloc::{AllocError, Global};
@@ -38,22 +37,6 @@ fn place_of(open: &OpenNet, node: u32) -> Option<Place> {
     }
 }
 
-/// Of which class a node is, in words, where it is a class node.
-fn say_class(report: &mut Report, class: Option<usize>) {
-    if let Some(class) = class {
-        report.say_number("class ", class, " of the head ");
-    }
-}
-
-/// What a node is, and where it stands, in words. A thousand nodes may be told: few calls write one.
-fn say_node_at(report: &mut Report, symbol: &SourceSymbol, class: Option<usize>, place: Place) {
-    say_class(report, class);
-    report.say_name("`", symbol.name.text.as_str(), "` at ");
-    report.put(&place.line);
-    report.say(":");
-    report.put(&place.col);
-}
-
 /// A node in words, with its place.
 fn say_node(report: &mut Report, source: &Source, open: &OpenNet, node: u32) {
     if let (Some((symbol, class)), Some(place)) = (
@@ -83,15 +66,6 @@ fn add_part(report: &mut Report, source: &Source, open: &OpenNet, nodes: &[u32])
         say_node(report, source, open, *node);
     }
     report.end();
-}
-
-/// A port of a node, in words.
-fn say_port_of(report: &mut Report, symbol: &SourceSymbol, class: Option<usize>, number: u8) {
-    let place = match class {
-        Some(class) => place_in(symbol, class, number as usize),
-        None => number as usize,
-    };
-    say_port(report, symbol, place);
 }
 
 /// What stands before the node of this number on a way.
@@ -141,28 +115,6 @@ fn add_places(report: &mut Report, open: &OpenNet, way: &[u32]) {
             break;
         }
         add_place(report, open, *node);
-    }
-}
-
-/// That two ports are not in one pair of braces.
-fn add_apart(report: &mut Report, symbol: &SourceSymbol, ports: (u8, u8)) {
-    let (first, second) = ports;
-    report.say("note: ");
-    say_port(report, symbol, first as usize);
-    report.say(" and ");
-    say_port(report, symbol, second as usize);
-    report.say(" are not in one pair of braces");
-    report.end_at(symbol.name.place);
-}
-
-/// Where the braces of a node's symbol stand, which keep two of its ports apart.
-fn add_braces(report: &mut Report, symbol: &SourceSymbol, class: Option<usize>, ports: (u8, u8)) {
-    match class {
-        Some(_) => report.note(
-            symbol.name.place,
-            "ports in one pair of braces may be joined outside of the rule",
-        ),
-        None => add_apart(report, symbol, ports),
     }
 }
 
@@ -217,18 +169,6 @@ fn add_braces_on_the_way(
     }
 }
 
-/// What helps where a circle goes through a node of a symbol, or of a class.
-fn help_with(class: Option<usize>) -> &'static str {
-    match class {
-        Some(_) => {
-            "give each of these ports a pair of braces of its own, or join them to parts that have nothing to do with each other"
-        }
-        None => {
-            "join ports of different braces to parts that have nothing to do with each other; or put two auxiliary ports into one pair of braces, if the rules of the symbol allow it"
-        }
-    }
-}
-
 /// The symbols on the way of a circle from a node of this symbol, which is shown already.
 fn add_reasons(
     report: &mut Report,
@@ -267,7 +207,7 @@ fn add_found(report: &mut Report, field: Field, node: u32, circle: &Circle) {
         add_places(report, field.open, circle.way.as_slice());
         add_braces(report, symbol, class, (circle.first, circle.second));
         add_reasons(report, field, node, symbol, circle);
-        report.help(help_with(class));
+        report.help(help_apart(class));
     }
 }
 

@@ -3,21 +3,14 @@ ghost use Rattle.std.specs.Prelude.{◌≡◌, IfOk, is_some};
 ghost use Rattle.in_syntax.specs.Parsing.{IsOfText};
 ghost use Rattle.in_diagnosis.specs.Programs.{IsProgram, IsTold, IsToldOfTree};
 
-use crate::grammar::{add_limit, add_long_text, add_long_word, add_unexpected};
-use crate::letters::add_no_token;
-use crate::names::{
-    add_declared_twice, add_occurrences, add_other_arity, add_unknown_symbol, add_unknown_type,
-};
-use crate::occurrences::rule_at;
-use crate::pairs::{add_missing_rule, add_second_rule, add_unmatched};
 use crate::reading::{Shape, net_shape, rule_shape, tables_of};
-use crate::reports::Report;
 use crate::stuck::add_stuck;
-use crate::wires::{add_closed, add_misfit};
+use crate::wires::add_misfit;
 use in_check::{StuckPart, refusal_of};
 use in_net::{MAX_AGENTS, MAX_MEMBER_AGENTS};
+use in_reports::{Report, add_text_fault, add_tree_fault, rule_at};
 use in_symbols::Symbols;
-use in_syntax::{Code, Expected, Fault, MAX_TEXT_BYTES, Place, Refusal, Source, parse_expecting};
+use in_syntax::{Code, Expected, Fault, Place, Refusal, Source, parse_expecting};
 use std::alloc::{AllocError, Global};
 
 /// A fault is want of memory, since the text is read as it was before.
@@ -29,17 +22,6 @@ fn only_memory<T>(found: Result<T, Fault>) -> Result<Option<T>, AllocError> {
     }
 }
 
-/// A limit of tokens or of the grammar that is passed.
-fn add_limit_of_text(report: &mut Report, place: Place, expected: Expected) {
-    if report.text.len() > MAX_TEXT_BYTES {
-        add_long_text(report, place);
-    } else if place.from == place.to {
-        add_long_word(report, place);
-    } else {
-        add_limit(report, place, expected);
-    }
-}
-
 /// More agents than a right member or the net may have.
 fn add_agents(report: &mut Report, source: &Source, place: Place) {
     let (most, what) = match rule_at(source, place.from) {
@@ -47,15 +29,6 @@ fn add_agents(report: &mut Report, source: &Source, place: Place) {
         None => (MAX_AGENTS, " agents in the net"),
     };
     report.wrong_number(place, "more than ", most, what);
-}
-
-/// What the tokens or the grammar refuse, where this is expected.
-fn add_text_fault(report: &mut Report, refusal: Refusal, expected: Expected) {
-    match refusal.code {
-        Code::E01 => add_no_token(report, refusal.place),
-        Code::E02 => add_unexpected(report, refusal.place, expected),
-        _ => add_limit_of_text(report, refusal.place, expected),
-    }
 }
 
 /// The open net of the rule or of the net in which a place stands.
@@ -116,22 +89,13 @@ fn add_step_fault(
 fn add_fault(report: &mut Report, source: &Source, refusal: Refusal, part: Option<&StuckPart>)
     requires { IsOfText source.now }
 {
-    let Refusal { code, place, other } = refusal;
-    match code {
-        Code::E01 | Code::E02 => (),
+    let place = refusal.place;
+    match refusal.code {
         Code::E03 => add_agents(report, source, place),
-        Code::E04 => add_declared_twice(report, source, place),
-        Code::E05 => add_unknown_type(report, source, place),
-        Code::E06 => add_unknown_symbol(report, source, place),
-        Code::E07 => add_other_arity(report, source, place),
-        Code::E08 => add_occurrences(report, source, place),
-        Code::E09 => add_closed(report, source, place),
         Code::E10 => add_type_fault(report, source, place),
-        Code::E11 => add_unmatched(report, source, place),
         Code::E12 => add_step_fault(report, source, place, "this rule", part),
         Code::E13 => add_step_fault(report, source, place, "this net", part),
-        Code::E14 => add_second_rule(report, source, place),
-        Code::E15 => add_missing_rule(report, source, place, other),
+        _ => add_tree_fault(report, source, refusal),
     }
 }
 

@@ -7,16 +7,17 @@ use std::fmt::Display;
 /// A diagnosis that is being written, on a program's text. That memory was wanting is kept, and `into_text` answers it: so who writes
 /// has one way out.
 #[derive(Drop)]
-pub(crate) struct Report<'a> {
-    pub(crate) alloc: Global,
+pub struct Report<'a> {
+    /// Where its memory comes from.
+    pub alloc: Global,
     pub(crate) text: &'a [u8],
     lines: String,
     failure: Option<AllocError>,
 }
 
 impl<'a> Report<'a> {
-    /// No line yet.
-    pub(crate) fn new(alloc: Global, text: &'a [u8]) -> Report<'a> {
+    /// A diagnosis of a text, with no line yet.
+    pub fn new(alloc: Global, text: &'a [u8]) -> Report<'a> {
         Report {
             alloc,
             text,
@@ -30,20 +31,20 @@ impl<'a> Report<'a> {
         between(self.text, place.from, place.to)
     }
 
-    /// Memory was wanting: the whole diagnosis is.
-    pub(crate) fn fail(&mut self, error: AllocError) {
+    /// Keeps that memory was wanting, so that there will be no diagnosis: `into_text` answers the error, or the last one of several.
+    pub fn fail(&mut self, error: AllocError) {
         self.failure = Some(error);
     }
 
-    /// Keeps that memory was wanting, if it was.
-    pub(crate) fn keep(&mut self, done: Result<(), AllocError>) {
+    /// Keeps that memory was wanting, if it was, as `fail` does.
+    pub fn keep(&mut self, done: Result<(), AllocError>) {
         if let Err(error) = done {
             self.fail(error);
         }
     }
 
     /// Goes on with these words.
-    pub(crate) fn say(&mut self, words: &str) {
+    pub fn say(&mut self, words: &str) {
         let done = self.lines.push_str(words);
         self.keep(done);
     }
@@ -74,8 +75,8 @@ impl<'a> Report<'a> {
         self.say(after);
     }
 
-    /// Ends a sentence.
-    pub(crate) fn end(&mut self) {
+    /// Ends a sentence, and its line.
+    pub fn end(&mut self) {
         self.say("\n");
     }
 
@@ -85,46 +86,46 @@ impl<'a> Report<'a> {
         add_excerpt(self, place);
     }
 
-    /// What is wrong, and where.
-    pub(crate) fn wrong(&mut self, place: Place, sentence: &str) {
+    /// Adds what is wrong, and where: a sentence, and the line of the text with a mark under the place.
+    pub fn wrong(&mut self, place: Place, sentence: &str) {
         self.say_name("error: ", sentence, "");
         self.end_at(place);
     }
 
-    /// What is wrong, and where: a name between these words.
-    pub(crate) fn wrong_name(&mut self, place: Place, before: &str, name: &str, after: &str) {
+    /// The same with a name between these words.
+    pub fn wrong_name(&mut self, place: Place, before: &str, name: &str, after: &str) {
         self.say("error: ");
         self.say_name(before, name, after);
         self.end_at(place);
     }
 
-    /// What is wrong, and where: a number between these words.
-    pub(crate) fn wrong_number(&mut self, place: Place, before: &str, number: usize, after: &str) {
+    /// The same with a number between these words.
+    pub fn wrong_number(&mut self, place: Place, before: &str, number: usize, after: &str) {
         self.say("error: ");
         self.say_number(before, number, after);
         self.end_at(place);
     }
 
-    /// What belongs to it, and where.
-    pub(crate) fn note(&mut self, place: Place, sentence: &str) {
+    /// Adds what belongs to it, and where: a sentence, and the line of the text with a mark under the place.
+    pub fn note(&mut self, place: Place, sentence: &str) {
         self.say_name("note: ", sentence, "");
         self.end_at(place);
     }
 
-    /// What belongs to it, and where: a name between these words.
+    /// The same with a name between these words.
     pub(crate) fn note_name(&mut self, place: Place, before: &str, name: &str, after: &str) {
         self.say("note: ");
         self.say_name(before, name, after);
         self.end_at(place);
     }
 
-    /// What helps.
-    pub(crate) fn help(&mut self, sentence: &str) {
+    /// Adds what helps, a sentence.
+    pub fn help(&mut self, sentence: &str) {
         self.say_name("help: ", sentence, "\n");
     }
 
-    /// The whole diagnosis.
-    pub(crate) fn into_text(self) -> Result<String, AllocError> {
+    /// The whole diagnosis. Its only error is want of memory, where that was met while the diagnosis was written.
+    pub fn into_text(self) -> Result<String, AllocError> {
         let Report {
             alloc: _,
             text: _,

@@ -66,8 +66,9 @@ pub(crate) fn arity(symbol: &SourceSymbol) -> usize {
     arity
 }
 
-/// The class of a symbol's port, and the port: place 0 is the principal port, in class 0.
-pub(crate) fn port(symbol: &SourceSymbol, place: usize) -> Option<(usize, &SourcePort)> {
+/// The class of the port of a symbol at a place, and the port: place 0 is the principal port, in class 0; the auxiliary ports follow, class
+/// by class, from place 1 and class 1 on. Nothing where the symbol has no such place.
+pub fn port(symbol: &SourceSymbol, place: usize) -> Option<(usize, &SourcePort)> {
     if place == 0 {
         return Some((0, &symbol.port));
     }

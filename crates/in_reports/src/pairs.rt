@@ -86,15 +86,19 @@ fn note_first(report: &mut Report, source: &Source, rule: &SourceRule) {
     }
 }
 
-/// A second rule for two symbols: the first one, and the symbols where they are declared.
-fn add_second(report: &mut Report, source: &Source, place: Place, rule: &SourceRule) {
-    let other = rule.second.name.text.as_str();
+/// Says that a rule is a second one for its two symbols.
+fn say_second(report: &mut Report, rule: &SourceRule) {
     report.say_name(
         "error: this is a second rule for `",
         rule.first.name.text.as_str(),
         "` and `",
     );
-    report.say_name(other, "`", "");
+    report.say_name(rule.second.name.text.as_str(), "`", "");
+}
+
+/// A second rule for two symbols: the first one, and the symbols where they are declared.
+fn add_second(report: &mut Report, source: &Source, place: Place, rule: &SourceRule) {
+    say_second(report, rule);
     report.end_at(place);
     note_first(report, source, rule);
     add_heads(report, source, rule);
@@ -141,11 +145,16 @@ fn help_rule(report: &mut Report, first: &SourceSymbol, second: &SourceSymbol) {
     report.say("];`, with terms for the letters\n");
 }
 
+/// Says that two symbols can meet and have no rule.
+fn say_gap(report: &mut Report, first: &SourceSymbol, second: &SourceSymbol) {
+    report.say_name("error: `", first.name.text.as_str(), "` and `");
+    let destructor = second.name.text.as_str();
+    report.say_name(destructor, "` can meet, and have no rule", "");
+}
+
 /// A constructor and a destructor that can meet and have no rule.
 fn add_gap(report: &mut Report, place: Place, first: &SourceSymbol, second: &SourceSymbol) {
-    let destructor = second.name.text.as_str();
-    report.say_name("error: `", first.name.text.as_str(), "` and `");
-    report.say_name(destructor, "` can meet, and have no rule", "");
+    say_gap(report, first, second);
     report.end_at(place);
     add_principal(report, first);
     add_principal(report, second);
@@ -161,16 +170,16 @@ fn add_gap_of(report: &mut Report, place: Place, one: &SourceSymbol, other: &Sou
     }
 }
 
-/// The symbols of which the names stand at two places, where both are declared.
-fn symbols_at<'a>(
+/// The symbol of which the name stands at a place, where there is one and it is declared.
+fn symbol_at<'a>(
     report: &Report,
     source: &'a Source,
-    place: Place,
-    earlier: Option<Place>,
-) -> Option<(&'a SourceSymbol, &'a SourceSymbol)> {
-    let one = symbol_named(source, report.at(place))?;
-    let other = symbol_named(source, report.at(earlier?))?;
-    Some((one, other))
+    place: Option<Place>,
+) -> Option<&'a SourceSymbol> {
+    match place {
+        Some(place) => symbol_named(source, report.at(place)),
+        None => None,
+    }
 }
 
 /// Two symbols that can meet and have no rule, at the places of their declarations.
@@ -180,8 +189,10 @@ pub(crate) fn add_missing_rule(
     place: Place,
     earlier: Option<Place>,
 ) {
-    match symbols_at(report, source, place, earlier) {
-        Some((one, other)) => add_gap_of(report, place, one, other),
-        None => report.wrong(place, "two symbols can meet, and have no rule"),
+    let one = symbol_at(report, source, Some(place));
+    let other = symbol_at(report, source, earlier);
+    match (one, other) {
+        (Some(one), Some(other)) => add_gap_of(report, place, one, other),
+        _ => report.wrong(place, "two symbols can meet, and have no rule"),
     }
 }

@@ -1,0 +1,101 @@
+//! Closed wires: equations of bare names that lead back to the first.
+use crate::reports::Report;
+use in_syntax::{Equation, Place, Source};
+
+/// The two names of an equation of two bare names.
+fn bare_names(equation: &Equation) -> Option<(&str, &str)> {
+    if equation.left.args.is_empty() && equation.right.args.is_empty() {
+        let left = equation.left.name.text.as_str();
+        Some((left, equation.right.name.text.as_str()))
+    } else {
+        None
+    }
+}
+
+/// The other one of two names, where this is one of them.
+fn other_of<'a>(left: &'a str, right: &'a str, name: &str) -> Option<&'a str> {
+    if left == name {
+        return Some(right);
+    }
+    if right == name { Some(left) } else { None }
+}
+
+/// The other name of an equation of two bare names, one of which is this one.
+fn other_name<'a>(equation: &'a Equation, name: &str) -> Option<&'a str> {
+    let (left, right) = bare_names(equation)?;
+    other_of(left, right, name)
+}
+
+/// Another equation of two bare names, one of which is this one: its number, and its other name.
+fn next_equation<'a>(
+    equations: &'a [Equation],
+    number: usize,
+    name: &str,
+) -> Option<(usize, &'a str)> {
+    for (other, equation) in equations.iter().enumerate() {
+        if other != number {
+            if let Some(next) = other_name(equation, name) {
+                return Some((other, next));
+            }
+        }
+    }
+    None
+}
+
+/// The number of the equation whose `~` stands at a place.
+fn equation_at(equations: &[Equation], place: Place) -> Option<usize> {
+    for (number, equation) in equations.iter().enumerate() {
+        if equation.tilde.from == place.from {
+            return Some(number);
+        }
+    }
+    None
+}
+
+/// Where the equation of this number stands.
+fn add_turn(report: &mut Report, equations: &[Equation], number: usize) {
+    if let Some(equation) = equations.get(number) {
+        report.note(equation.tilde, "the wire goes on here");
+    }
+}
+
+/// Adds the other equations of a closed wire.
+fn add_ring(report: &mut Report, equations: &[Equation], first: usize, from: &str) {
+    let mut name = from;
+    let mut number = first;
+    for _turn in 0..equations.len().min(8) {
+        match next_equation(equations, number, name) {
+            Some((next, other)) if next != first => {
+                add_turn(report, equations, next);
+                number = next;
+                name = other;
+            }
+            _ => break,
+        }
+    }
+}
+
+/// The second name of the equation of this number, where it is of two bare names.
+fn second_name(equations: &[Equation], number: usize) -> Option<&str> {
+    let (_, name) = bare_names(equations.get(number)?)?;
+    Some(name)
+}
+
+/// The number of the equation whose `~` stands at a place, and its second name, where it is of two bare names.
+fn ring_at(equations: &[Equation], place: Place) -> Option<(usize, &str)> {
+    let first = equation_at(equations, place)?;
+    Some((first, second_name(equations, first)?))
+}
+
+/// A wire that is joined to itself.
+pub(crate) fn add_closed(report: &mut Report, source: &Source, place: Place) {
+    report.wrong(
+        place,
+        "this wire is closed: no agent and no free end is on it",
+    );
+    let equations = source.net.equations.as_slice();
+    if let Some((first, name)) = ring_at(equations, place) {
+        add_ring(report, equations, first, name);
+    }
+    report.help("leave the equation out, or join its ends to something");
+}
