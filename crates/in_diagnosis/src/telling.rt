@@ -72,16 +72,32 @@ fn add_type_fault(report: &mut Report, source: &Source, place: Place)
     }
 }
 
+/// What it is that no steps build, in words.
+fn stuck_words(code: Code) -> &'static str {
+    if code == Code::E12 {
+        "this rule"
+    } else {
+        "this net"
+    }
+}
+
 /// A rule or a net that no steps build, with its first part in which no node splits.
 fn add_step_fault(
     report: &mut Report,
     source: &Source,
-    place: Place,
-    what: &str,
+    refusal: Refusal,
     part: Option<&StuckPart>,
 ) {
     if let Some(StuckPart { open, stuck }) = part {
-        add_stuck(report, source, open, stuck.nodes.as_slice(), what, place);
+        let what = stuck_words(refusal.code);
+        add_stuck(
+            report,
+            source,
+            open,
+            stuck.nodes.as_slice(),
+            what,
+            refusal.place,
+        );
     }
 }
 
@@ -93,8 +109,7 @@ fn add_fault(report: &mut Report, source: &Source, refusal: Refusal, part: Optio
     match refusal.code {
         Code::E03 => add_agents(report, source, place),
         Code::E10 => add_type_fault(report, source, place),
-        Code::E12 => add_step_fault(report, source, place, "this rule", part),
-        Code::E13 => add_step_fault(report, source, place, "this net", part),
+        Code::E12 | Code::E13 => add_step_fault(report, source, refusal, part),
         _ => add_tree_fault(report, source, refusal),
     }
 }
@@ -124,8 +139,12 @@ fn add_refusal(report: &mut Report, source: &Source) -> Result<bool, AllocError>
     ensures { IfOk result (IsToldOfTree source.now) }
 {
     let mut part = None;
-    let refusal = refusal_of(report.alloc, source, &mut part)?;
-    Ok(add_refused(report, source, refusal, part.as_ref()))
+    let told = match refusal_of(report.alloc, source, &mut part) {
+        Ok(refusal) => Ok(add_refused(report, source, refusal, part.as_ref())),
+        Err(error) => Err(error),
+    };
+    drop(part);
+    told
 }
 
 /// What is wrong with a text, the report's; says whether anything is.
