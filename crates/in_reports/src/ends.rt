@@ -63,35 +63,26 @@ pub fn free_end(source: &Source, number: u32) -> Option<End<'_>> {
     })
 }
 
-/// The port of an agent.
-fn say_agent(report: &mut Report, end: &End, symbol: &SourceSymbol, number: usize) {
-    say_port(report, symbol, number);
-    say_type(report, " is `", end.port, "`");
-}
-
-/// The port of a head that is replaced.
-fn say_head(report: &mut Report, end: &End, symbol: &SourceSymbol, number: usize) {
-    say_type(report, "here a port of type `", end.port, "` replaces ");
-    say_port(report, symbol, number);
-}
-
-/// The free end of this name.
-fn say_free(report: &mut Report, end: &End, name: &str) {
-    say_type(
-        report,
-        "a port of type `",
-        end.port,
-        "` belongs at the free end `",
-    );
-    report.say_name(name, "`", "");
-}
-
 /// What an end is.
 fn say_end(report: &mut Report, end: &End) {
     match end.owner {
-        Owner::Agent(symbol, number) => say_agent(report, end, symbol, number),
-        Owner::Head(symbol, number) => say_head(report, end, symbol, number),
-        Owner::Free(name) => say_free(report, end, name),
+        Owner::Agent(symbol, number) => {
+            say_port(report, symbol, number);
+            say_type(report, " is `", end.port, "`");
+        }
+        Owner::Head(symbol, number) => {
+            say_type(report, "here a port of type `", end.port, "` replaces ");
+            say_port(report, symbol, number);
+        }
+        Owner::Free(name) => {
+            say_type(
+                report,
+                "a port of type `",
+                end.port,
+                "` belongs at the free end `",
+            );
+            report.say_name(name, "`", "");
+        }
     }
 }
 

@@ -199,27 +199,14 @@ fn add_mark(report: &mut Report, line: &Line, hidden: usize) {
     }
 }
 
-/// How many characters before the place are not shown, so that a line that is too long for a screen is cut.
-fn hidden_of(line: &Line) -> usize {
-    line.before.chars().count().saturating_sub(BEFORE)
-}
-
-/// Adds the number of a line.
-fn add_number(report: &mut Report, number: u32) {
-    report.put(&format_args!("{number:>5} | "));
-}
-
-/// Adds the line, and the mark under it.
-fn add_marked(report: &mut Report, line: &Line, hidden: usize) {
-    add_line(report, line, hidden);
-    report.say("\n      | ");
-    add_mark(report, line, hidden);
-    report.end();
-}
-
 /// Adds the line in which a place begins, with its number, and a mark under the place; a line that is too long for a screen is cut.
 pub(crate) fn add_excerpt(report: &mut Report, place: Place) {
     let line = line_of(report.text, place);
-    add_number(report, place.line);
-    add_marked(report, &line, hidden_of(&line));
+    let hidden = line.before.chars().count().saturating_sub(BEFORE);
+    let number = place.line;
+    report.put(&format_args!("{number:>5} | "));
+    add_line(report, &line, hidden);
+    report.say("\n      | ");
+    add_mark(report, &line, hidden);
+    report.end();
 }

@@ -19,9 +19,10 @@ fn after_term(part: Part, name: bool) -> &'static str {
     }
 }
 
-/// What is expected of types and symbols, in words.
-fn words_in_declarations(expected: Expected) -> &'static str {
+/// What is expected, in words.
+fn words(expected: Expected) -> &'static str {
     match expected {
+        Expected::Item => "`type`, `symbol`, `rule` or `net`",
         Expected::TypeName => "the name of a type",
         Expected::TypeEnd => "`,` or `;`",
         Expected::SymbolName => "the name of a symbol",
@@ -29,56 +30,18 @@ fn words_in_declarations(expected: Expected) -> &'static str {
         Expected::PortType => "the name of a port's type",
         Expected::PortSign => "`+` or `-`",
         Expected::SymbolEnd => "`{` or `;`",
-        _ => "`,` or `}`",
-    }
-}
-
-/// What is expected of rules, in words.
-fn words_in_rules(expected: Expected) -> &'static str {
-    match expected {
+        Expected::ClassEnd => "`,` or `}`",
         Expected::HeadName => "the symbol of a head",
         Expected::HeadOpen => "`[`",
         Expected::HeadFirst => "a term or `]`",
         Expected::Meets => "`><`",
-        _ => "`;`",
-    }
-}
-
-/// What is expected of the net, in words.
-fn words_in_net(expected: Expected) -> &'static str {
-    match expected {
+        Expected::RuleEnd => "`;`",
         Expected::NetOpen => "`(`",
         Expected::FreeFirst => "the name of a free end or `)`",
         Expected::FreeName => "the name of a free end",
         Expected::FreeEnd => "`,` or `)`",
         Expected::BodyOpen => "`{`",
-        _ => "an equation or `}`",
-    }
-}
-
-/// What is expected, in words.
-fn words(expected: Expected) -> &'static str {
-    match expected {
-        Expected::Item => "`type`, `symbol`, `rule` or `net`",
-        Expected::TypeName
-        | Expected::TypeEnd
-        | Expected::SymbolName
-        | Expected::Colon
-        | Expected::PortType
-        | Expected::PortSign
-        | Expected::SymbolEnd
-        | Expected::ClassEnd => words_in_declarations(expected),
-        Expected::HeadName
-        | Expected::HeadOpen
-        | Expected::HeadFirst
-        | Expected::Meets
-        | Expected::RuleEnd => words_in_rules(expected),
-        Expected::NetOpen
-        | Expected::FreeFirst
-        | Expected::FreeName
-        | Expected::FreeEnd
-        | Expected::BodyOpen
-        | Expected::Equation => words_in_net(expected),
+        Expected::Equation => "an equation or `}`",
         Expected::Term => "a term",
         Expected::AfterName(part) => after_term(part, true),
         Expected::AfterTerm(part) => after_term(part, false),
@@ -91,93 +54,41 @@ fn is_reserved(word: &str) -> bool {
     matches!(word, "type" | "symbol" | "rule" | "net")
 }
 
-/// What helps where brackets without arguments close in the place of a term.
-const NO_BRACKETS: &str = "a symbol without auxiliary ports is written without brackets in a term";
-
-/// What helps where this was found in the place of a term.
-fn help_for_term(found: &str) -> Option<&'static str> {
-    match found {
-        ")" => Some(NO_BRACKETS),
-        "]" => Some("a term is missing after the comma"),
-        _ => None,
-    }
-}
-
-/// What helps where this was found in the place of the first term of a head.
-fn help_for_first(found: &str) -> Option<&'static str> {
-    if found == ")" {
-        Some(NO_BRACKETS)
-    } else {
-        None
-    }
-}
-
-/// What helps where this was found in the place of the bracket of a head.
-fn help_for_head(found: &str) -> Option<&'static str> {
-    if found == "(" {
-        Some("the terms of a head stand in `[` and `]`")
-    } else {
-        Some("a head has brackets, also where it has no terms: `Z[]`")
-    }
-}
-
-/// What helps where this was found after a term.
-fn help_after_term(found: &str) -> Option<&'static str> {
-    if found == "[" {
-        Some("the arguments of an agent stand in `(` and `)`; `[` and `]` are for heads of rules")
-    } else {
-        None
-    }
-}
-
 /// What helps where this was found in the place of a term or of brackets.
 fn help_with_brackets(expected: Expected, found: &str) -> Option<&'static str> {
-    match expected {
-        Expected::Term => help_for_term(found),
-        Expected::HeadFirst => help_for_first(found),
-        Expected::HeadOpen => help_for_head(found),
-        Expected::AfterName(_) | Expected::AfterTerm(_) => help_after_term(found),
+    match (expected, found) {
+        (Expected::Term | Expected::HeadFirst, ")") => {
+            Some("a symbol without auxiliary ports is written without brackets in a term")
+        }
+        (Expected::Term, "]") => Some("a term is missing after the comma"),
+        (Expected::HeadOpen, "(") => Some("the terms of a head stand in `[` and `]`"),
+        (Expected::HeadOpen, _) => Some("a head has brackets, also where it has no terms: `Z[]`"),
+        (Expected::AfterName(_) | Expected::AfterTerm(_), "[") => {
+            Some(
+                "the arguments of an agent stand in `(` and `)`; `[` and `]` are for heads of rules",
+            )
+        }
         _ => None,
-    }
-}
-
-/// What helps where this was found and nothing else is known to help.
-fn help_with_word(found: &str) -> &'static str {
-    if is_reserved(found) {
-        "a reserved word is no name"
-    } else {
-        "look at what stands before it: most often a `;`, a `~` or a bracket is missing"
-    }
-}
-
-/// What helps where this was found in the place of what follows a term of that part.
-fn help_after_part(part: Part, found: &str) -> &'static str {
-    match part {
-        Part::Left => "an equation is a term, `~`, another term and `;`",
-        Part::Right => "an equation ends with `;`",
-        Part::Head | Part::Agent => help_with_word(found),
-    }
-}
-
-/// What helps where this was found in the place of an item.
-fn help_for_item(found: &str) -> &'static str {
-    if found.is_empty() {
-        "a program ends with its net: `net (..) { .. }`"
-    } else {
-        help_with_word(found)
     }
 }
 
 /// What helps where this was found in the place of that, brackets and terms aside.
 fn help_with_other(expected: Expected, found: &str) -> &'static str {
-    match expected {
-        Expected::AfterName(part) | Expected::AfterTerm(part) => help_after_part(part, found),
-        Expected::PortSign => "a port is a type's name and `+` for an output, `-` for an input",
-        Expected::SymbolEnd => "auxiliary ports stand in braces, one pair for each class",
-        Expected::Meets => "a rule is two heads with `><` between them",
-        Expected::Item => help_for_item(found),
-        Expected::Nothing => "the net comes last, and there is one",
-        _ => help_with_word(found),
+    match (expected, found) {
+        (Expected::AfterName(Part::Left) | Expected::AfterTerm(Part::Left), _) => {
+            "an equation is a term, `~`, another term and `;`"
+        }
+        (Expected::AfterName(Part::Right) | Expected::AfterTerm(Part::Right), _) => {
+            "an equation ends with `;`"
+        }
+        (Expected::PortSign, _) =>
+            "a port is a type's name and `+` for an output, `-` for an input",
+        (Expected::SymbolEnd, _) => "auxiliary ports stand in braces, one pair for each class",
+        (Expected::Meets, _) => "a rule is two heads with `><` between them",
+        (Expected::Item, "") => "a program ends with its net: `net (..) { .. }`",
+        (Expected::Nothing, _) => "the net comes last, and there is one",
+        (_, word) if is_reserved(word) => "a reserved word is no name",
+        _ => "look at what stands before it: most often a `;`, a `~` or a bracket is missing",
     }
 }
 

@@ -49,14 +49,10 @@ fn help_with(first: char, second: Option<char>) -> &'static str {
     }
 }
 
-/// Says that a byte is part of no character.
-fn say_byte(report: &mut Report, byte: u8) {
-    report.put(&format_args!("error: the byte {byte:#04x} is no UTF-8 here"));
-}
-
 /// A byte that is part of no character.
 fn add_byte(report: &mut Report, place: Place, byte: u8) {
-    say_byte(report, byte);
+    report.say("error: ");
+    report.put(&format_args!("the byte {byte:#04x} is no UTF-8 here"));
     report.end_at(place);
     report.help("save the text as UTF-8");
 }

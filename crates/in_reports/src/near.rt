@@ -35,18 +35,6 @@ struct Near<'a> {
     distance: usize,
 }
 
-/// Adds a declared name that differs by so many characters, where it is near.
-fn push_near<'a>(
-    name: &'a Name,
-    distance: Option<usize>,
-    found: &mut Vec<Near<'a>>,
-) -> Result<(), AllocError> {
-    if let Some(distance) = distance {
-        found.push(Near { name, distance })?;
-    }
-    Ok(())
-}
-
 /// Adds a declared name where it is near to this one.
 fn find_near<'a>(
     alloc: Global,
@@ -54,21 +42,26 @@ fn find_near<'a>(
     declared: &'a Name,
     found: &mut Vec<Near<'a>>,
 ) -> Result<(), AllocError> {
-    let distance = distance(alloc, name, declared.text.as_str())?;
-    push_near(declared, distance, found)
+    if let Some(distance) = distance(alloc, name, declared.text.as_str())? {
+        found.push(Near {
+            name: declared,
+            distance,
+        })?;
+    }
+    Ok(())
 }
 
-/// Adds the declared names that are near to this one.
-fn find_all<'a, D: Declared>(
+/// The declared names that are near to this one.
+fn near_names<'a, D: Declared>(
     alloc: Global,
     name: &str,
     declared: &'a [D],
-    found: &mut Vec<Near<'a>>,
-) -> Result<(), AllocError> {
+) -> Result<Vec<Near<'a>>, AllocError> {
+    let mut found = Vec::new(alloc);
     for one in declared {
-        find_near(alloc, name, one.name(), found)?;
+        find_near(alloc, name, one.name(), &mut found)?;
     }
-    Ok(())
+    Ok(found)
 }
 
 /// How many near names are told.
@@ -101,20 +94,13 @@ fn add_found(report: &mut Report, found: &[Near]) -> bool {
     told > 0
 }
 
-/// Adds these names, where memory was there to find all; says whether there are any.
-fn add_if_done(report: &mut Report, done: Result<(), AllocError>, found: &[Near]) -> bool {
-    match done {
-        Ok(()) => add_found(report, found),
+/// Adds the declared names that are near to this one, the nearest first; says whether there are any.
+pub(crate) fn add_near<D: Declared>(report: &mut Report, name: &str, declared: &[D]) -> bool {
+    match near_names(report.alloc, name, declared) {
+        Ok(found) => add_found(report, found.as_slice()),
         Err(error) => {
             report.fail(error);
             false
         }
     }
-}
-
-/// Adds the declared names that are near to this one, the nearest first; says whether there are any.
-pub(crate) fn add_near<D: Declared>(report: &mut Report, name: &str, declared: &[D]) -> bool {
-    let mut found = Vec::new(report.alloc);
-    let done = find_all(report.alloc, name, declared, &mut found);
-    add_if_done(report, done, found.as_slice())
 }

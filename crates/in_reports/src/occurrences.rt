@@ -118,45 +118,20 @@ struct Places<'a> {
     found: Vec<Place>,
 }
 
-/// Whether these bytes stand in a line from this one on.
-fn holds_at(line: &[u8], index: usize, name: &[u8]) -> bool {
-    line.get(index..index.saturating_add(name.len())) == Some(name)
-}
-
-/// Whether these bytes, of which this is the first, stand in a line before its comment.
-fn holds_from(line: &[u8], first: u8, name: &[u8]) -> bool {
+/// Whether these bytes stand in a line before its comment.
+fn holds(line: &[u8], name: &[u8]) -> bool {
+    let Some(first) = name.first() else {
+        return false;
+    };
     for (index, byte) in line.iter().enumerate() {
         if *byte == b'#' {
             return false;
         }
-        if *byte == first && holds_at(line, index, name) {
+        if byte == first && line.get(index..index.saturating_add(name.len())) == Some(name) {
             return true;
         }
     }
     false
-}
-
-/// Whether these bytes stand in a line before its comment.
-fn holds(line: &[u8], name: &[u8]) -> bool {
-    match name.first() {
-        Some(first) => holds_from(line, *first, name),
-        None => false,
-    }
-}
-
-impl Places<'_> {
-    /// Whether a token at a place is the name.
-    fn is_name(&self, kind: TokenKind, place: Place) -> bool {
-        kind == TokenKind::Name && self.text.get(place.from..place.to) == Some(self.name)
-    }
-
-    /// Keeps the place of a token that is the name.
-    fn keep(&mut self, kind: TokenKind, place: Place) -> Result<(), AllocError> {
-        if self.is_name(kind, place) {
-            self.found.push(place)?;
-        }
-        Ok(())
-    }
 }
 
 impl Reading for Places<'_> {
@@ -168,7 +143,9 @@ impl Reading for Places<'_> {
         if place.from < self.start {
             return Ok(false);
         }
-        self.keep(kind, place)?;
+        if kind == TokenKind::Name && self.text.get(place.from..place.to) == Some(self.name) {
+            self.found.push(place)?;
+        }
         Ok(self.in_rule && kind == TokenKind::Semicolon)
     }
 }
@@ -229,7 +206,7 @@ fn read_tokens<R: Reading>(
     Ok(false)
 }
 
-/// Reads a line, of these bytes; says whether the last token is on it.
+/// Reads a line; says whether the last token is on it.
 fn read_line<R: Reading>(
     alloc: Global,
     line: Line,
@@ -243,18 +220,6 @@ fn read_line<R: Reading>(
     read_tokens(line, tokens.as_slice(), reading)
 }
 
-/// Reads a line of a text that ends before a byte; says whether the last token is on it.
-fn read_line_to<R: Reading>(
-    alloc: Global,
-    text: &[u8],
-    line: Line,
-    to: usize,
-    reading: &mut R,
-) -> Result<bool, AllocError> {
-    let bytes = text.get(line.from..to).unwrap_or(&[]);
-    read_line(alloc, line, bytes, reading)
-}
-
 /// Reads a text from the line of a place on, until the last token.
 fn read_from<R: Reading>(
     alloc: Global,
@@ -265,7 +230,8 @@ fn read_from<R: Reading>(
     let mut line = Line::of(text, place);
     for index in line.from..=text.len() {
         if is_end(text, index) {
-            if read_line_to(alloc, text, line, index, reading)? {
+            let bytes = text.get(line.from..index).unwrap_or(&[]);
+            if read_line(alloc, line, bytes, reading)? {
                 return Ok(());
             }
             line = line.next(index.saturating_add(1));

@@ -86,19 +86,15 @@ fn note_first(report: &mut Report, source: &Source, rule: &SourceRule) {
     }
 }
 
-/// Says that a rule is a second one for its two symbols.
-fn say_second(report: &mut Report, rule: &SourceRule) {
+/// A second rule for two symbols: the first one, and the symbols where they are declared.
+fn add_second(report: &mut Report, source: &Source, place: Place, rule: &SourceRule) {
+    let other = rule.second.name.text.as_str();
     report.say_name(
         "error: this is a second rule for `",
         rule.first.name.text.as_str(),
         "` and `",
     );
-    report.say_name(rule.second.name.text.as_str(), "`", "");
-}
-
-/// A second rule for two symbols: the first one, and the symbols where they are declared.
-fn add_second(report: &mut Report, source: &Source, place: Place, rule: &SourceRule) {
-    say_second(report, rule);
+    report.say_name(other, "`", "");
     report.end_at(place);
     note_first(report, source, rule);
     add_heads(report, source, rule);
@@ -145,16 +141,11 @@ fn help_rule(report: &mut Report, first: &SourceSymbol, second: &SourceSymbol) {
     report.say("];`, with terms for the letters\n");
 }
 
-/// Says that two symbols can meet and have no rule.
-fn say_gap(report: &mut Report, first: &SourceSymbol, second: &SourceSymbol) {
-    report.say_name("error: `", first.name.text.as_str(), "` and `");
-    let destructor = second.name.text.as_str();
-    report.say_name(destructor, "` can meet, and have no rule", "");
-}
-
 /// A constructor and a destructor that can meet and have no rule.
 fn add_gap(report: &mut Report, place: Place, first: &SourceSymbol, second: &SourceSymbol) {
-    say_gap(report, first, second);
+    let destructor = second.name.text.as_str();
+    report.say_name("error: `", first.name.text.as_str(), "` and `");
+    report.say_name(destructor, "` can meet, and have no rule", "");
     report.end_at(place);
     add_principal(report, first);
     add_principal(report, second);

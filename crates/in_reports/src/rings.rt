@@ -12,20 +12,6 @@ fn bare_names(equation: &Equation) -> Option<(&str, &str)> {
     }
 }
 
-/// The other one of two names, where this is one of them.
-fn other_of<'a>(left: &'a str, right: &'a str, name: &str) -> Option<&'a str> {
-    if left == name {
-        return Some(right);
-    }
-    if right == name { Some(left) } else { None }
-}
-
-/// The other name of an equation of two bare names, one of which is this one.
-fn other_name<'a>(equation: &'a Equation, name: &str) -> Option<&'a str> {
-    let (left, right) = bare_names(equation)?;
-    other_of(left, right, name)
-}
-
 /// Another equation of two bare names, one of which is this one: its number, and its other name.
 fn next_equation<'a>(
     equations: &'a [Equation],
@@ -34,8 +20,13 @@ fn next_equation<'a>(
 ) -> Option<(usize, &'a str)> {
     for (other, equation) in equations.iter().enumerate() {
         if other != number {
-            if let Some(next) = other_name(equation, name) {
-                return Some((other, next));
+            if let Some((left, right)) = bare_names(equation) {
+                if left == name {
+                    return Some((other, right));
+                }
+                if right == name {
+                    return Some((other, left));
+                }
             }
         }
     }
@@ -75,16 +66,11 @@ fn add_ring(report: &mut Report, equations: &[Equation], first: usize, from: &st
     }
 }
 
-/// The second name of the equation of this number, where it is of two bare names.
-fn second_name(equations: &[Equation], number: usize) -> Option<&str> {
-    let (_, name) = bare_names(equations.get(number)?)?;
-    Some(name)
-}
-
 /// The number of the equation whose `~` stands at a place, and its second name, where it is of two bare names.
 fn ring_at(equations: &[Equation], place: Place) -> Option<(usize, &str)> {
     let first = equation_at(equations, place)?;
-    Some((first, second_name(equations, first)?))
+    let (_, name) = bare_names(equations.get(first)?)?;
+    Some((first, name))
 }
 
 /// A wire that is joined to itself.
