@@ -72,24 +72,24 @@ fn add_type_fault(report: &mut Report, source: &Source, place: Place)
     }
 }
 
-/// What it is that no steps build, in words.
-fn stuck_words(code: Code) -> &'static str {
-    if code == Code::E12 {
-        "this rule"
-    } else {
-        "this net"
+/// What it is that no steps build, in words, where that is refused.
+fn stuck_words(code: Code) -> Option<&'static str> {
+    match code {
+        Code::E12 => Some("this rule"),
+        Code::E13 => Some("this net"),
+        _ => None,
     }
 }
 
 /// A rule or a net that no steps build, with its first part in which no node splits.
+// Apart from `add_fault`: where a function with a contract takes the part, what contracts see of it takes 18 seconds to check.
 fn add_step_fault(
     report: &mut Report,
     source: &Source,
     refusal: Refusal,
     part: Option<&StuckPart>,
 ) {
-    if let Some(StuckPart { open, stuck }) = part {
-        let what = stuck_words(refusal.code);
+    if let (Some(what), Some(StuckPart { open, stuck })) = (stuck_words(refusal.code), part) {
         add_stuck(
             report,
             source,
@@ -101,35 +101,14 @@ fn add_step_fault(
     }
 }
 
-/// What is refused of a program that has a tree.
-fn add_fault(report: &mut Report, source: &Source, refusal: Refusal, part: Option<&StuckPart>)
+/// What is refused of a program that has a tree, but for what no steps build.
+fn add_fault(report: &mut Report, source: &Source, refusal: Refusal)
     requires { IsOfText source.now }
 {
-    let place = refusal.place;
     match refusal.code {
-        Code::E03 => add_agents(report, source, place),
-        Code::E10 => add_type_fault(report, source, place),
-        Code::E12 | Code::E13 => add_step_fault(report, source, refusal, part),
+        Code::E03 => add_agents(report, source, refusal.place),
+        Code::E10 => add_type_fault(report, source, refusal.place),
         _ => add_tree_fault(report, source, refusal),
-    }
-}
-
-/// What is wrong with a program that has a tree, where anything is; says whether it is.
-fn add_refused(
-    report: &mut Report,
-    source: &Source,
-    refusal: Option<Refusal>,
-    part: Option<&StuckPart>,
-) -> bool
-    requires { IsOfText source.now }
-    ensures { result ≡ is_some refusal }
-{
-    match refusal {
-        Some(refusal) => {
-            add_fault(report, source, refusal, part);
-            true
-        }
-        None => false,
     }
 }
 
@@ -140,7 +119,12 @@ fn add_refusal(report: &mut Report, source: &Source) -> Result<bool, AllocError>
 {
     let mut part = None;
     let told = match refusal_of(report.alloc, source, &mut part) {
-        Ok(refusal) => Ok(add_refused(report, source, refusal, part.as_ref())),
+        Ok(Some(refusal)) => {
+            add_fault(report, source, refusal);
+            add_step_fault(report, source, refusal, part.as_ref());
+            Ok(true)
+        }
+        Ok(None) => Ok(false),
         Err(error) => Err(error),
     };
     drop(part);
