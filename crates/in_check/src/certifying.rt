@@ -8,8 +8,8 @@ ghost use Rattle.in_check.specs.Certificates.{Certifies, CertifiesNet, Certifies
 
 use crate::checked::Certificate;
 use in_net::{Net, Rule};
-use in_opening::{open_net, open_rule};
 use in_open_nets::{OpenNet, Stuck, Undone};
+use in_opening::{open_net, open_rule};
 use in_simple::derive;
 use in_symbols::Symbols;
 use in_syntax::{Code, Fault, Refusal};

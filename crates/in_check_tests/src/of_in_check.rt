@@ -1,11 +1,11 @@
 use in_check::{Checked, Counts, Item};
 use in_cover::RuleNo;
 use in_open_nets::{Derivation, Node, OpenNet, Point, Step};
-use in_verify::verify;
 use in_symbols::SymbolNo;
 use in_syntax::Code;
 use in_test_programs::{Look, refusal_of, seen};
 use in_test_texts::{ADDITION, DUPLICATION, SUMS};
+use in_verify::verify;
 use sqlite_items::Items;
 use std::alloc::{AllocError, Global};
 

@@ -1,6 +1,6 @@
 //! A circle through nodes of an open net.
-use in_reports::port;
 use in_open_nets::{Node, OpenNet, Point};
+use in_reports::port;
 use in_syntax::{MAX_PORTS, Source};
 use std::alloc::{AllocError, Global};
 

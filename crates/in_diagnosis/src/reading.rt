@@ -4,8 +4,8 @@ ghost use Rattle.in_syntax.specs.Parsing.{IsOfText};
 ghost use Rattle.in_diagnosis.specs.Programs.{IsProgram};
 
 use in_net::{Net, build_net, build_rule};
-use in_opening::{open_net, open_rule};
 use in_open_nets::OpenNet;
+use in_opening::{open_net, open_rule};
 use in_symbols::Symbols;
 use in_syntax::{Fault, Place, Source};
 use std::alloc::Global;

@@ -1,7 +1,7 @@
 //! Rules and nets that no steps build: the first part in which no node splits, and a circle in it.
 use crate::circles::{Circle, Field, Wires};
-use in_reports::{Report, add_braces, help_apart, say_node_at, say_port_of};
 use in_open_nets::{Node, OpenNet};
+use in_reports::{Report, add_braces, help_apart, say_node_at, say_port_of};
 use in_syntax::{Place, Source, SourceSymbol};
 use std::alloc::{AllocError, Global};
 

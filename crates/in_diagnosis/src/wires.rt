@@ -1,7 +1,7 @@
 //! Wires whose two ends don't fit.
 use crate::reading::Shape;
-use in_reports::{End, Report, add_ends, agent_end, free_end, head_end};
 use in_open_nets::{Node, OpenNet, Point};
+use in_reports::{End, Report, add_ends, agent_end, free_end, head_end};
 use in_syntax::{Place, Source};
 
 /// The end of a wire at a port of a node.

@@ -218,11 +218,7 @@ impl NodeSet {
     }
 
     /// These but one, and the list of these.
-    pub fn without(
-        self,
-        alloc: Global,
-        node: usize,
-    ) -> Result<(NodeSet, NodeList), AllocError>
+    pub fn without(self, alloc: Global, node: usize) -> Result<(NodeSet, NodeList), AllocError>
         requires { node < length self }
         ensures size { IfOk result (λ r. length r.0 ≡ length self) }
         ensures rest { IfOk result (λ r. IsRest node self r.0) }
