@@ -14,6 +14,7 @@ pub mod Marks
 pub mod Members
 pub mod NoCircle
 pub mod OkValues
+pub mod OneAnswer
 pub mod OnePiece
 pub mod Places
 pub mod Reaching

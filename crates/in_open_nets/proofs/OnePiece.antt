@@ -1,19 +1,24 @@
 -- What a node leaves of a set in one piece is in one piece, where its neighbours are joined without it.
-use Rattle.std.proofs.Common.{◌≡◌, ◌⊎◌, ◌<◌, ℕ, suc, Bool, true, false, true≢false, None, Some, List, [], ◌∷◌, length, refl, sym, subst, inl, inr, arith}
+use Rattle.std.proofs.Common.{◌≡◌, ◌⊎◌, ◌<◌, ◌≤◌, ◌+◌, ◌∙◌, ℕ, suc, Bool, true, false, true≢false, None, Some, List, [], ◌∷◌, length, refl, sym, subst, inl, inr, arith}
 use Rattle.std.proofs.Math.ListN.{set}
+use Rattle.std.proofs.lemmas.Bool.{false_from_ne_true}
+use Rattle.std.proofs.lemmas.List.{length-set}
 use Rattle.in_open_nets.specs.declared.open_nets.Point.TheVariants.{Port}
 use Rattle.in_open_nets.specs.Constructions.{IsIn}
 use Rattle.in_open_nets.specs.OpenNets.{OpenNet, IsWire, IsOpenNet, open_graph}
-use Rattle.in_open_nets.specs.Pieces.{AreJoined, AreMet, AreNeighboursJoined, AreTogether, IsJoinedTo, IsMetAt, IsNeighbourOf, IsPiece}
+use Rattle.in_open_nets.specs.Pieces.{AreJoined, AreMet, AreNeighboursJoined, AreTogether, IsJoinedTo, IsMetAt, IsLeftOf, IsNeighbourOf, IsPiece}
 use Rattle.in_open_nets.specs.Members.{nodes_in, missing}
 use Rattle.in_open_nets.specs.Parts.{IsNeighbour, IsReached, IsRest, IsSearch}
 use Rattle.in_open_nets.specs.Splitting.{IsComponent, Linked, alone, onward}
 use Rattle.in_open_nets.specs.Stuck.{ports_of}
+use Rattle.in_open_nets.proofs.Absent.{missing_cleared, missing_fewer, missing_same}
 use Rattle.in_open_nets.proofs.Balance.{wire_turn}
 use Rattle.in_open_nets.proofs.Links.{Decided, link_back, link_first, link_join, link_last, link_snoc, same_nat}
-use Rattle.in_open_nets.proofs.Reaching.{set_cases}
+use Rattle.in_open_nets.proofs.Places.{at_other, at_set}
+use Rattle.in_open_nets.proofs.Reaching.{in_length, set_cases}
 use Rattle.in_open_nets.proofs.Search.{in_ports, is_in}
 use Rattle.in_open_nets.proofs.Sound.{port_place}
+use Rattle.in_open_nets.proofs.Sums.{not_both}
 
 pub missing_none : (xs : List Bool) → ((n : ℕ) → n < length xs → IsIn n (nodes_in xs)) → missing xs ≡ 0
 missing_none [] h = refl
@@ -89,3 +94,25 @@ module _ (o : OpenNet) (part rest : List Bool) (n : ℕ) (left : IsRest n part r
       | inr v ↦ joined_on o rest k u.0 l u.2 (joined_on o rest u.0 v.0 l (joins u.0 v.0 u.1 v.1) (joined_back o rest l v.0 v.2))
     ]
   ]
+
+-- what n leaves of a set lacks at most one node more
+rest_missing : (part rest : List Bool) (n : ℕ) → length part ≡ length rest → IsRest n part rest → missing rest ≤ missing part + 1
+rest_missing part rest n size left =
+    let fewer = missing_fewer (set part n false) rest (length-set part n false ∙ size) inside in
+    elim (is_in n (nodes_in part)) [
+      | inl here ↦ let e = missing_cleared part n here in omega arith
+      | inr out ↦ let e = missing_same part n (false_from_ne_true (nodes_in part n) out) in omega arith
+    ]
+  where
+    inside : (k : ℕ) → IsIn k (nodes_in (set part n false)) → IsIn k (nodes_in rest)
+    inside k h = elim (same_nat k n) [
+      | inl e ↦
+          let small = in_length (set part n false) k h in
+          let size' = length-set part n false in
+          absurd (not_both (nodes_in (set part n false) k) h (at_set part n false false k (omega arith) e))
+      | inr d ↦ (left k).1 (sym (at_other part n false false k d) ∙ h, d)
+    ]
+
+-- where two nodes lack, the set was not the whole net
+pub left_piece : (o : OpenNet) (n : ℕ) (rest : List Bool) → IsLeftOf o n rest → 1 < missing rest → AreNeighboursJoined o rest n → IsPiece o rest
+left_piece o n rest h few joins = let a = rest_missing h.0 rest n h.1 h.2 in rest_piece o h.0 rest n h.2 (h.3 (omega arith)) joins

@@ -1,11 +1,14 @@
 -- The laws of open nets, over the definitions alone.
-use Rattle.std.specs.Prelude.{◌≡◌, ◌⊎◌, ◌↔◌, ℕ, Bool, List}
+use Rattle.std.specs.Prelude.{◌≡◌, ◌⊎◌, ◌↔◌, ℕ, Bool, List, length, Option}
 use Rattle.in_base.specs.Graphs.{CrossingCircle}
 use Rattle.in_open_nets.specs.Constructions.{IsIn}
+use Rattle.in_open_nets.specs.Members.{IsUnion}
+use Rattle.in_open_nets.specs.Parts.{IsReached, IsRest}
 use Rattle.in_open_nets.specs.Splitting.{SplitsAt}
 use Rattle.in_open_nets.specs.ClassGraphs.{Vertex, HasClass, HubEdgesAreBridges, HubEdgesAreOffRings, IsClassGraph}
 use Rattle.in_open_nets.specs.OpenNets.{OpenNet, IsOpenNet, IsDerivable, NetSplits, open_graph}
-use Rattle.in_open_nets.specs.Stuck.{IsFirstStuck}
+use Rattle.in_open_nets.specs.Stuck.{IsFirstStuck, IsListed}
+use Rattle.in_open_nets.specs.Tries.{IsFirstIn}
 
 -- an open net splits exactly where it is derivable
 abbrev pub SplitsWhereDerivable : Type 0
@@ -33,3 +36,25 @@ HasOneFirstStuck o = (t : ℕ → Bool) × IsFirstStuck o t × ((u : ℕ → Boo
 
 abbrev pub SplitsOrFirstStuck : Type 0
 SplitsOrFirstStuck = (o : OpenNet) → IsOpenNet o → (NetSplits o × HasNoFirstStuck o) ⊎ ((NetSplits o → ⊥) × HasOneFirstStuck o)
+
+-- ---- one answer
+
+-- of a set of an open net's nodes one node is the first that splits it, or none is
+abbrev pub FirstSplittingIsOne : Type 0
+FirstSplittingIsOne = (o : OpenNet) (part : List Bool) (a b : Option ℕ) → length part ≡ length o.nodes → IsFirstIn o part a → IsFirstIn o part b → a ≡ b
+
+-- a node has one component in a set
+abbrev pub ComponentIsOne : Type 0
+ComponentIsOne = (o : OpenNet) (within : List Bool) (from : ℕ) (a b : List Bool) → length a ≡ length o.nodes → length b ≡ length o.nodes → IsReached o within from a → IsReached o within from b → a ≡ b
+
+-- two sets have one union, as large as the second one
+abbrev pub UnionIsOne : Type 0
+UnionIsOne = (more old a b : List Bool) → length a ≡ length old → length b ≡ length old → IsUnion more old a → IsUnion more old b → a ≡ b
+
+-- a node leaves one set of a set
+abbrev pub RestIsOne : Type 0
+RestIsOne = (n : ℕ) (part a b : List Bool) → length a ≡ length part → length b ≡ length part → IsRest n part a → IsRest n part b → a ≡ b
+
+-- the members of a set have one list
+abbrev pub MembersAreListedOnce : Type 0
+MembersAreListedOnce = (set : ℕ → Bool) (a b : List ℕ) → IsListed set a → IsListed set b → a ≡ b

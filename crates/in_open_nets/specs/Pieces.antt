@@ -1,9 +1,10 @@
 -- Sets of nodes that are in one piece. What a node leaves of such a set is in one piece too, where its neighbours are joined without it.
-use Rattle.std.specs.Prelude.{ℕ, ◌<◌, Bool, List}
+use Rattle.std.specs.Prelude.{◌≡◌, ℕ, ◌<◌, Bool, List, length}
 use Rattle.in_open_nets.specs.declared.open_nets.Point.TheVariants.{Port}
 use Rattle.in_open_nets.specs.Constructions.{IsIn}
 use Rattle.in_open_nets.specs.Members.{missing, nodes_in}
 use Rattle.in_open_nets.specs.OpenNets.{OpenNet, IsWire, open_graph}
+use Rattle.in_open_nets.specs.Parts.{IsRest}
 use Rattle.in_open_nets.specs.Splitting.{Linked}
 
 module _ (o : OpenNet) (within : List Bool) where
@@ -42,6 +43,10 @@ IsPiece o s = AreTogether o s s
 -- a part that lacks a node is a component, and so in one piece; the whole net may be in several
 abbrev pub IsPieceOrWhole : OpenNet → List Bool → Type 0
 IsPieceOrWhole o s = 0 < missing s → IsPiece o s
+
+-- s is what n leaves of a set that is in one piece, or of the whole net
+abbrev pub IsLeftOf : OpenNet → ℕ → List Bool → Type 0
+IsLeftOf o n s = (set : List Bool) × (length set ≡ length s) × IsRest n set s × IsPieceOrWhole o set
 
 -- a port of n leads to one of these
 abbrev pub LeadsTo : OpenNet → ℕ → List Bool → Type 0

@@ -1,7 +1,7 @@
 ghost use Rattle.std.specs.Prelude.{◌≡◌, ◌<◌, length, IfOk, IsTrue, OnOk, false, ℕ};
 ghost use Rattle.in_open_nets.specs.Members.{IsUnion, missing, nodes_in};
 ghost use Rattle.in_open_nets.specs.Constructions.{IsIn};
-ghost use Rattle.in_open_nets.specs.Pieces.{AreNeighboursJoined, IsPiece};
+ghost use Rattle.in_open_nets.specs.Pieces.{IsLeftOf, IsPiece};
 ghost use Rattle.in_open_nets.specs.Parts.{AreFound, IsNeighbour, IsReached, SpreadsOver};
 ghost use Rattle.in_open_nets.specs.Stuck.{ports_of};
 
@@ -109,11 +109,12 @@ fn component(
     part.nodes.narrowed(alloc, lent, found)
 }
 
-/// The nodes that are derived, and two sets to search with.
+/// The nodes that are derived, whether short searches were tried for them, and two sets to search with.
 pub struct Done {
     nodes: Scratch,
     reached: Scratch,
     near: Scratch,
+    tried: bool,
 }
 
 // By hand, so that each drop is a call: a derived one is written out in each proof, at each way out.
@@ -123,6 +124,7 @@ impl Drop for Done {
             nodes: _,
             reached: _,
             near: _,
+            tried: _,
         } = self;
     }
 }
@@ -147,6 +149,7 @@ impl Done {
             nodes: Scratch::new(alloc, count)?,
             reached: Scratch::new(alloc, count)?,
             near: Scratch::new(alloc, count)?,
+            tried: false,
         })
     }
 
@@ -155,6 +158,7 @@ impl Done {
         ensures size { length self.new ≡ length self.old }
         ensures none { OnOk result ((n : ℕ) → nodes_in self.new n ≡ false) }
     {
+        self.tried = false;
         self.nodes.clear()
     }
 
@@ -172,43 +176,40 @@ impl Done {
         self.nodes.absent()
     }
 
-    /// Whether the neighbours of a node, which is not in the part, are joined in the part, where it is asked for and short searches tell.
-    pub fn joins(
-        &mut self,
-        alloc: Global,
-        is_asked: bool,
-        part: &Part,
-        node: usize,
-    ) -> Result<bool, AllocError>
+    /// Whether the part, which a node left, is in one piece, where short searches tell. They are tried once: where they tell, the whole
+    /// part is derived at once, and where they don't, they would not later on. What is left of the whole net may be in several pieces.
+    fn is_piece(&mut self, alloc: Global, part: &Part, node: usize) -> Result<bool, AllocError>
         requires node { node < length part.now.wired.now.nodes }
         requires size { length self.old ≡ length part.now.wired.now.nodes }
+        requires left { IsLeftOf part.now.wired.now node part.now.nodes.now }
         ensures same { self.new ≡ self.old }
-        ensures asked { IfOk result (λ joined. IsTrue joined → IsTrue is_asked) }
-        ensures joined { IfOk result (λ joined. IsTrue joined → AreNeighboursJoined part.now.wired.now part.now.nodes.now node) }
+        ensures piece { IfOk result (λ is_piece. IsTrue is_piece → IsPiece part.now.wired.now part.now.nodes.now) }
     {
-        if is_asked {
-            joins_neighbours(alloc, part, node, &mut self.near, &mut self.reached)
-        } else {
-            Ok(false)
+        if self.tried || part.nodes.absent() <= 1 {
+            return Ok(false);
         }
+        self.tried = true;
+        joins_neighbours(alloc, part, node, &mut self.near, &mut self.reached)
     }
 
-    /// The component of a node of the part, which is derived too now: all of the part, where that is known to be in one piece.
+    /// The component of a node of the part, which is derived too now. The part is what the node `node` left.
     pub fn add(
         &mut self,
         alloc: Global,
         part: &Part,
-        is_piece: bool,
+        node: usize,
         from: u32,
     ) -> Result<NodeList, AllocError>
+        requires node { node < length part.now.wired.now.nodes }
         requires size { length self.old ≡ length part.now.wired.now.nodes }
-        requires piece { IsTrue is_piece → IsPiece part.now.wired.now part.now.nodes.now }
+        requires left { IsLeftOf part.now.wired.now node part.now.nodes.now }
         requires here { IsIn from (nodes_in part.now.nodes.now) }
         ensures same { length self.new ≡ length self.old }
         ensures size { IfOk result (λ c. length c ≡ length part.now.wired.now.nodes) }
         ensures reached { IfOk result (IsReached part.now.wired.now part.now.nodes.now from) }
         ensures union { IfOk result (λ c. IsUnion c self.old self.new) }
     {
+        let is_piece = self.is_piece(alloc, part, node)?;
         let component = component(alloc, part, is_piece, &mut self.reached, from)?;
         component.add_to(&mut self.nodes);
         Ok(component)

@@ -1,6 +1,6 @@
 //! Laws over the definitions of open nets, for whoever reasons above them. No function here does anything.
 
-ghost use Rattle.in_open_nets.specs.Laws.{DerivableHasNoCircle, SplitsByBridges, SplitsOffRings, SplitsOrFirstStuck, SplitsWhereDerivable};
+ghost use Rattle.in_open_nets.specs.Laws.{ComponentIsOne, DerivableHasNoCircle, FirstSplittingIsOne, MembersAreListedOnce, RestIsOne, SplitsByBridges, SplitsOffRings, SplitsOrFirstStuck, SplitsWhereDerivable, UnionIsOne};
 
 /// An open net splits exactly where it is derivable. Derivable is Lafont 1990's semi-simple; to decide it by splitting is this
 /// project's own choice.
@@ -28,4 +28,29 @@ pub fn derivable_has_no_circle()
 /// An open net splits, or it has exactly one first stuck sub-net; never both.
 pub fn splits_or_first_stuck()
     ensures { SplitsOrFirstStuck }
+{}
+
+/// What `first_splitting` answers is one: a node, or that there is none.
+pub fn first_splitting_is_one()
+    ensures { FirstSplittingIsOne }
+{}
+
+/// The component that `Done::add` answers is one.
+pub fn component_is_one()
+    ensures { ComponentIsOne }
+{}
+
+/// The set of the nodes that are derived after `Done::add` is one.
+pub fn union_is_one()
+    ensures { UnionIsOne }
+{}
+
+/// What `NodeSet::without` leaves is one set.
+pub fn rest_is_one()
+    ensures { RestIsOne }
+{}
+
+/// The members of a set, in rising order, are one list.
+pub fn members_are_listed_once()
+    ensures { MembersAreListedOnce }
 {}

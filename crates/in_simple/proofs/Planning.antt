@@ -1,6 +1,6 @@
 -- A plan lists the components that a node leaves, by their turns.
 use Rattle.std.proofs.Math.Bool.{or_comm}
-use Rattle.std.proofs.Common.{◌≡◌, ◌≢◌, ◌<◌, ◌≤◌, ◌+◌, ℕ, suc, Bool, false, IsTrue, cond, ◌||◌, nat_eq, Option, Some, None, IsSomeAnd, List, [], ◌∷◌, ◌++◌, length, slice_get, append_assoc, refl, sym, subst, ap, inl, inr, ◌∙◌, ne_eqb, arith}
+use Rattle.std.proofs.Common.{◌≡◌, ◌≢◌, ◌<◌, ◌≤◌, ◌+◌, ℕ, suc, Bool, false, cond, ◌||◌, nat_eq, Option, Some, None, IsSomeAnd, List, [], ◌∷◌, ◌++◌, length, slice_get, append_assoc, refl, sym, subst, ap, inl, inr, ◌∙◌, ne_eqb, arith}
 use Rattle.in_open_nets.specs.declared.open_nets.Node.{Node}
 use Rattle.in_open_nets.specs.declared.open_nets.Node.TheVariants.{AgentNode, ClassNode}
 use Rattle.in_open_nets.specs.declared.open_nets.OpenNode.{OpenNode}
@@ -10,7 +10,7 @@ use Rattle.in_simple.specs.declared.plans.Plan.{Plan}
 use Rattle.in_simple.specs.declared.plans.Task.{Task}
 use Rattle.in_simple.specs.declared.plans.Task.TheVariants.{Derive, Make}
 use Rattle.in_open_nets.specs.Constructions.{IsIn}
-use Rattle.in_open_nets.specs.Pieces.{IsPiece}
+use Rattle.in_open_nets.specs.Pieces.{IsLeftOf}
 use Rattle.in_open_nets.specs.Splitting.{alone, Without}
 use Rattle.in_open_nets.specs.OpenNets.{OpenNet, IsWire, IsOpenNet, open_graph, IsAgentNode, IsClassNode, IsAgent, IsClass}
 use Rattle.in_open_nets.specs.Stuck.{IsPart, ports_of, turn, ComesAt}
@@ -72,7 +72,7 @@ plan_make o n t p j h = record {
   sized = sized_more (length o.nodes) p.tasks (Make j ∷ []) h.sized tt;
   lists = λ more k. subst (λ z. Lists o n (nodes_in p.rest) 0 z) (sym (append_assoc p.tasks (Make j ∷ []) more)) (h.lists (Make j ∷ more) k);
   splits = h.splits;
-  piece = h.piece;
+  left = h.left;
 }
 
 pub keeps_make : (old p q : Plan) (j : Joint) → KeepsPlan old p → q ≡ with_task p (Make j) → KeepsPlan old q
@@ -115,8 +115,8 @@ module _ (o : OpenNet) (net : IsOpenNet o) (n : ℕ) where
   )
   lists_down s t none (Make x ∷ ts) h = lists_down s t none ts h
 
-  pub plan_start : (p : Plan) → length p.rest ≡ length o.nodes → length p.done ≡ length o.nodes → nodes_in p.rest n ≡ false → ((m : ℕ) → nodes_in p.done m ≡ false) → p.tasks ≡ [] → ((i : ℕ) → PortSplits o p.rest n i) → (IsTrue p.is_piece → IsPiece o p.rest) → IsPlan o n 0 p
-  plan_start p a b out off e splits piece = record {
+  pub plan_start : (p : Plan) → length p.rest ≡ length o.nodes → length p.done ≡ length o.nodes → nodes_in p.rest n ≡ false → ((m : ℕ) → nodes_in p.done m ≡ false) → p.tasks ≡ [] → ((i : ℕ) → PortSplits o p.rest n i) → IsLeftOf o n p.rest → IsPlan o n 0 p
+  plan_start p a b out off e splits left = record {
     rest_size = a;
     done_size = b;
     out = out;
@@ -124,7 +124,7 @@ module _ (o : OpenNet) (net : IsOpenNet o) (n : ℕ) where
     sized = subst (λ z. AreSized (length o.nodes) z) (sym e) tt;
     lists = λ more h. subst (λ z. Lists o n (nodes_in p.rest) 0 (z ++ more)) (sym e) h;
     splits = splits;
-    piece = piece;
+    left = left;
   }
 
   pub plan_skip : (t : ℕ) (p : Plan) → IsPlan o n t p → NoneAt (nodes_in p.rest) t → IsPlan o n (suc t) p
@@ -142,13 +142,13 @@ module _ (o : OpenNet) (net : IsOpenNet o) (n : ℕ) where
     sized = h.sized;
     lists = λ more k. h.lists more (lists_down (nodes_in p.rest) t none more k);
     splits = h.splits;
-    piece = h.piece;
+    left = h.left;
   }
 
   pub in_net : (t : ℕ) (p : Plan) → IsPlan o n t p → (m : ℕ) → IsIn m (nodes_in p.rest) → m < length o.nodes
   in_net t p h m k = let a = in_length p.rest m k in let b = h.rest_size in omega arith
 
-  pub plan_derive : (t : ℕ) (p : Plan) (c d : List Bool) → IsPlan o n t p → length c ≡ length o.nodes → length d ≡ length o.nodes → ((m : ℕ) → nodes_in d m ≡ (nodes_in p.done m || nodes_in c m)) → IsPart o n (nodes_in p.rest) (nodes_in c) → ComesAt o n (nodes_in c) t → IsPlan o n (suc t) (record { tasks = p.tasks ++ Derive c ∷ []; rest = p.rest; done = d; is_piece = p.is_piece })
+  pub plan_derive : (t : ℕ) (p : Plan) (c d : List Bool) → IsPlan o n t p → length c ≡ length o.nodes → length d ≡ length o.nodes → ((m : ℕ) → nodes_in d m ≡ (nodes_in p.done m || nodes_in c m)) → IsPart o n (nodes_in p.rest) (nodes_in c) → ComesAt o n (nodes_in c) t → IsPlan o n (suc t) (record { tasks = p.tasks ++ Derive c ∷ []; rest = p.rest; done = d })
   plan_derive t p c d h size size' both part comes = record {
     rest_size = h.rest_size;
     done_size = size';
@@ -168,7 +168,7 @@ module _ (o : OpenNet) (net : IsOpenNet o) (n : ℕ) where
     sized = sized_more (length o.nodes) p.tasks (Derive c ∷ []) h.sized (size, (part.0, (part.2 part.0).1 (alone part.0 part.1)), tt);
     lists = λ more k. subst (λ z. Lists o n (nodes_in p.rest) 0 z) (sym (append_assoc p.tasks (Derive c ∷ []) more)) (h.lists (Derive c ∷ more) (t, omega arith, part, comes, (λ d l q u a b. absurd (omega arith)), k));
     splits = h.splits;
-    piece = h.piece;
+    left = h.left;
   }
 
   -- what a search reaches is a component
@@ -190,13 +190,11 @@ module _ (o : OpenNet) (net : IsOpenNet o) (n : ℕ) where
       let part = reached_part p.rest d.component near h.out here d.reached in
       let inside = (d.reached near).1 (alone near here) in
       let x = plan_derive t p d.component q.done h d.size (d.done_size ∙ h.done_size) (λ m. d.both m ∙ or_comm (nodes_in d.component m) (nodes_in p.done m)) part (now (nodes_in d.component) part inside) in
-      let e : record { tasks = p.tasks ++ Derive d.component ∷ []; rest = p.rest; done = q.done; is_piece = p.is_piece } ≡ q = plan_same p q (p.tasks ++ Derive d.component ∷ []) d.tasks d.same d.same_piece in
+      let e : record { tasks = p.tasks ++ Derive d.component ∷ []; rest = p.rest; done = q.done } ≡ q = plan_same p q (p.tasks ++ Derive d.component ∷ []) d.tasks d.same in
       (subst (λ z. IsPlan o n (suc t) z) e x, d.same)
     where
-      plan_same : (p q : Plan) (ts : List Task) → q.tasks ≡ ts → q.rest ≡ p.rest → q.is_piece ≡ p.is_piece → ◌≡◌ {A = Plan} (record { tasks = ts; rest = p.rest; done = q.done; is_piece = p.is_piece }) q
-      plan_same p q ts e f g =
-          ap (λ z. record { tasks = z; rest = p.rest; done = q.done; is_piece = p.is_piece }) (sym e) ∙ ap (λ z. record { tasks = q.tasks; rest = z; done = q.done; is_piece = p.is_piece }) (sym f)
-          ∙ ap (λ z. record { tasks = q.tasks; rest = q.rest; done = q.done; is_piece = z }) (sym g)
+      plan_same : (p q : Plan) (ts : List Task) → q.tasks ≡ ts → q.rest ≡ p.rest → ◌≡◌ {A = Plan} (record { tasks = ts; rest = p.rest; done = q.done }) q
+      plan_same p q ts e f = ap (λ z. record { tasks = z; rest = p.rest; done = q.done }) (sym e) ∙ ap (λ z. record { tasks = q.tasks; rest = z; done = q.done }) (sym f)
 
   -- each node of a component is one of the rest
   pub part_inside : (s : ℕ → Bool) → ((m : ℕ) → IsIn m s → m < length o.nodes) → (d : ℕ → Bool) → IsPart o n s d → (m : ℕ) → IsIn m d → Without n s m

@@ -1,5 +1,5 @@
 -- Which nets the tasks of a plan put on a stack.
-use Rattle.std.specs.Prelude.{◌≡◌, ◌⊎◌, ◌↔◌, ℕ, zero, suc, ◌<◌, ◌≤◌, Bool, true, false, IsTrue, ◌||◌, nat_eq, List, [], ◌∷◌, ◌++◌, length, map}
+use Rattle.std.specs.Prelude.{◌≡◌, ◌⊎◌, ◌↔◌, ℕ, zero, suc, ◌<◌, ◌≤◌, Bool, true, false, ◌||◌, nat_eq, List, [], ◌∷◌, ◌++◌, length, map}
 use Rattle.in_open_nets.specs.declared.open_nets.Point.{Point}
 use Rattle.in_open_nets.specs.declared.open_nets.Point.TheVariants.{Port, Free}
 use Rattle.in_simple.specs.declared.plans.Fate.{Fate}
@@ -10,7 +10,7 @@ use Rattle.in_simple.specs.declared.plans.Plan.{Plan}
 use Rattle.in_simple.specs.declared.plans.Task.{Task}
 use Rattle.in_simple.specs.declared.plans.Task.TheVariants.{Derive, Make}
 use Rattle.in_open_nets.specs.Constructions.{IsIn}
-use Rattle.in_open_nets.specs.Pieces.{IsPiece}
+use Rattle.in_open_nets.specs.Pieces.{IsLeftOf}
 use Rattle.in_open_nets.specs.Splitting.{Linked}
 use Rattle.in_open_nets.specs.OpenNets.{OpenNet, IsAgent, IsWire, IsOpenNet, class_in, open_graph}
 use Rattle.in_open_nets.specs.Derivations.{is_port_in}
@@ -39,9 +39,9 @@ HasFateAt p q (Waits l) = (k : ℕ) × (q ≡ Port l k) × IsIn l (nodes_in p.re
 HasFateAt p q Derived = (l : ℕ) × (k : ℕ) × (q ≡ Port l k) × IsIn l (nodes_in p.rest) × IsIn l (nodes_in p.done)
 HasFateAt p q Outside = is_port_in (nodes_in p.rest) q ≡ 0
 
--- both sets have a test for each node of the net, and the rest is in one piece where the plan says so
-abbrev pub IsSized : OpenNet → Plan → Type 0
-IsSized o p = (length p.rest ≡ length o.nodes) × (length p.done ≡ length o.nodes) × (IsTrue p.is_piece → IsPiece o p.rest)
+-- both sets have a test for each node of the net, and the rest is what n left
+abbrev pub IsSized : OpenNet → ℕ → Plan → Type 0
+IsSized o n p = (length p.rest ≡ length o.nodes) × (length p.done ≡ length o.nodes) × IsLeftOf o n p.rest
 
 -- what waits is a node of the rest
 abbrev pub IsLeftOver : Plan → Fate → Type 0

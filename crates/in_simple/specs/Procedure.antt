@@ -1,5 +1,5 @@
 -- What the procedure that looks for a derivation keeps true. Sets of nodes are lists of tests, node by node.
-use Rattle.std.specs.Prelude.{◌≡◌, ◌⊎◌, ◌↔◌, ℕ, suc, ◌<◌, ◌≤◌, Bool, false, IsTrue, ◌||◌, List, [], ◌∷◌, ◌++◌, length}
+use Rattle.std.specs.Prelude.{◌≡◌, ◌⊎◌, ◌↔◌, ℕ, suc, ◌<◌, ◌≤◌, Bool, false, ◌||◌, List, [], ◌∷◌, ◌++◌, length}
 use Rattle.in_simple.specs.declared.plans.Plan.{Plan}
 use Rattle.in_simple.specs.declared.plans.Room.{Room}
 use Rattle.in_simple.specs.declared.plans.Task.{Task}
@@ -7,7 +7,7 @@ use Rattle.in_simple.specs.declared.plans.Task.TheVariants.{Derive, Make}
 use Rattle.in_open_nets.specs.Constructions.{IsIn, count}
 use Rattle.in_open_nets.specs.Members.{nodes_in}
 use Rattle.in_open_nets.specs.Parts.{IsReached, PortSplits}
-use Rattle.in_open_nets.specs.Pieces.{IsPiece, IsPieceOrWhole}
+use Rattle.in_open_nets.specs.Pieces.{IsLeftOf, IsPieceOrWhole}
 use Rattle.in_open_nets.specs.Splitting.{Splits}
 use Rattle.in_open_nets.specs.OpenNets.{OpenNet, open_graph}
 use Rattle.in_open_nets.specs.Stuck.{IsPart, ComesAt, FirstStuck}
@@ -44,7 +44,7 @@ pub record IsPlan (o : OpenNet) (n : ℕ) (turn : ℕ) (p : Plan) : Type 0 where
   pub sized : AreSized (length o.nodes) p.tasks
   pub lists : (more : List Task) → Lists o n (nodes_in p.rest) turn more → Lists o n (nodes_in p.rest) 0 (p.tasks ++ more)
   pub splits : (i : ℕ) → PortSplits o p.rest n i
-  pub piece : IsTrue p.is_piece → IsPiece o p.rest
+  pub left : IsLeftOf o n p.rest
 
 -- .. and is for the same rest
 abbrev pub GoesOn : OpenNet → ℕ → ℕ → Plan → Plan → Type 0
@@ -61,13 +61,12 @@ pub record Derives (o : OpenNet) (near : ℕ) (old new : Plan) : Type 0 where
   pub reached : IsReached o old.rest near component
   pub tasks : new.tasks ≡ old.tasks ++ Derive component ∷ []
   pub same : new.rest ≡ old.rest
-  pub same_piece : new.is_piece ≡ old.is_piece
   pub done_size : length new.done ≡ length old.done
   pub both : (m : ℕ) → nodes_in new.done m ≡ (nodes_in component m || nodes_in old.done m)
 
 -- with one more task
 abbrev pub with_task : Plan → Task → Plan
-with_task p t = record { tasks = p.tasks ++ t ∷ []; rest = p.rest; done = p.done; is_piece = p.is_piece }
+with_task p t = record { tasks = p.tasks ++ t ∷ []; rest = p.rest; done = p.done }
 
 -- there is room for each node of the net
 abbrev pub HasRoom : OpenNet → Room → Type 0

@@ -127,13 +127,11 @@ impl Opened {
     }
 }
 
-/// The tasks of a part of which one node is taken out, the nodes that are left, those that the tasks derive, and whether what is left is
-/// known to be in one piece.
+/// The tasks of a part of which one node is taken out, the nodes that are left, and those that the tasks derive.
 struct Plan {
     tasks: Items<Task>,
     rest: NodeSet,
     done: Done,
-    is_piece: bool,
 }
 
 // By hand, so that each drop is a call: a derived one is written out in each proof, at each way out.
@@ -143,7 +141,6 @@ impl Drop for Plan {
             tasks: _,
             rest: _,
             done: _,
-            is_piece: _,
         } = self;
     }
 }
@@ -163,12 +160,7 @@ impl Plan {
         ensures tests { result.1.tests ≡ self.rest }
         ensures done { result.1.done ≡ self.done }
     {
-        let Plan {
-            tasks,
-            rest,
-            done,
-            is_piece: _,
-        } = self;
+        let Plan { tasks, rest, done } = self;
         let tests = rest.into_tests();
         (tasks, Room { tests, done })
     }
@@ -196,9 +188,16 @@ impl Plan {
         }
     }
 
-    /// Derives the component of a node.
-    fn derive(mut self, alloc: Global, wired: &Wired, near: u32) -> Result<Plan, AllocError>
-        requires size { IsSized wired.now self }
+    /// Derives the component of a node. What is left is what the node `node` left.
+    fn derive(
+        mut self,
+        alloc: Global,
+        wired: &Wired,
+        node: usize,
+        near: u32,
+    ) -> Result<Plan, AllocError>
+        requires node { node < length wired.now.nodes }
+        requires size { IsSized wired.now node self }
         requires near { IsIn near (nodes_in self.rest) }
         ensures { IfOk result (Derives wired.now near self) }
     {
@@ -206,7 +205,7 @@ impl Plan {
             wired,
             nodes: &self.rest,
         };
-        let component = self.done.add(alloc, &part, self.is_piece, near)?;
+        let component = self.done.add(alloc, &part, node, near)?;
         self.tasks.push(Task::Derive(component))?;
         Ok(self)
     }
@@ -216,15 +215,17 @@ impl Plan {
         self,
         alloc: Global,
         wired: &Wired,
+        node: usize,
         fate: Fate,
         joint: Joint,
     ) -> Result<Plan, AllocError>
-        requires size { IsSized wired.now self }
+        requires node { node < length wired.now.nodes }
+        requires size { IsSized wired.now node self }
         requires waits { IsLeftOver self fate }
         ensures { IfOk result (JoinsFate wired.now joint self fate) }
     {
         match fate {
-            Fate::Waits(near) => self.derive(alloc, wired, near)?.make(joint),
+            Fate::Waits(near) => self.derive(alloc, wired, node, near)?.make(joint),
             Fate::Derived | Fate::Outside => Ok(self),
         }
     }
@@ -246,7 +247,7 @@ impl Plan {
     {
         let (wire, point) = wired.partner(node, port);
         match self.fate_at(point) {
-            Fate::Waits(near) => Ok((self.derive(alloc, wired, near)?, true)),
+            Fate::Waits(near) => Ok((self.derive(alloc, wired, node, near)?, true)),
             Fate::Derived => Ok((self, false)),
             Fate::Outside => {
                 if leads_back(point, node, port) {
@@ -349,18 +350,11 @@ impl<'a> Begun<'a> {
         let _count = wired.nodes();
         let (nodes, mut done) = part.apart();
         done.clear()?;
-        let is_part = nodes.absent() > 0;
         let (rest, list) = nodes.without(alloc, node)?;
-        let left = Part {
-            wired: &*wired,
-            nodes: &rest,
-        };
-        let is_piece = done.joins(alloc, is_part, &left, node)?;
         let plan = Plan {
             tasks: Items::new(alloc),
             rest,
             done,
-            is_piece,
         };
         Ok((Begun { wired, node, plan }, list))
     }
@@ -536,7 +530,7 @@ impl<'a> Joined<'a> {
         } = self;
         let (wire, point) = wired.partner(node, port);
         let fate = plan.fate_at(point);
-        let plan = plan.join(alloc, wired, fate, Joint::Cut(wire))?;
+        let plan = plan.join(alloc, wired, node, fate, Joint::Cut(wire))?;
         Ok(Joined {
             wired,
             node,
@@ -558,7 +552,7 @@ impl<'a> Joined<'a> {
             turn,
         } = self;
         let fate = plan.fate(near);
-        let plan = plan.join(alloc, wired, fate, Joint::Mix)?;
+        let plan = plan.join(alloc, wired, node, fate, Joint::Mix)?;
         Ok(Joined {
             wired,
             node,
