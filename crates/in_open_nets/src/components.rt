@@ -177,7 +177,8 @@ impl Done {
     }
 
     /// Whether the part, which a node left, is in one piece, where short searches tell. They are tried once: where they tell, the whole
-    /// part is derived at once, and where they don't, they would not later on. What is left of the whole net may be in several pieces.
+    /// part is derived at once, and where they don't, they wouldn't later on. Of the whole net, which may be in several pieces, a part lacks
+    /// one node alone, and nothing is tried.
     fn is_piece(&mut self, alloc: Global, part: &Part, node: usize) -> Result<bool, AllocError>
         requires node { node < length part.now.wired.now.nodes }
         requires size { length self.old ≡ length part.now.wired.now.nodes }
@@ -192,7 +193,7 @@ impl Done {
         joins_neighbours(alloc, part, node, &mut self.near, &mut self.reached)
     }
 
-    /// The component of a node of the part, which is derived too now. The part is what the node `node` left.
+    /// The component of the node `from` of the part, which is derived too now. The part is what the node `node` left.
     pub fn add(
         &mut self,
         alloc: Global,

@@ -188,7 +188,7 @@ impl Plan {
         }
     }
 
-    /// Derives the component of a node. What is left is what the node `node` left.
+    /// Derives the component of the node `near`. The node `node` is the one that was taken out.
     fn derive(
         mut self,
         alloc: Global,
