@@ -2,7 +2,7 @@
 use Rattle.std.specs.Prelude.{◌≡◌, ◌⊎◌, ◌↔◌, ℕ, Bool, List, length, Option}
 use Rattle.in_base.specs.Graphs.{CrossingCircle}
 use Rattle.in_open_nets.specs.Constructions.{IsIn}
-use Rattle.in_open_nets.specs.Members.{IsUnion}
+use Rattle.in_open_nets.specs.Members.{IsUnion, nodes_in}
 use Rattle.in_open_nets.specs.Parts.{IsReached, IsRest}
 use Rattle.in_open_nets.specs.Splitting.{SplitsAt}
 use Rattle.in_open_nets.specs.ClassGraphs.{Vertex, HasClass, HubEdgesAreBridges, HubEdgesAreOffRings, IsClassGraph}
@@ -38,6 +38,10 @@ abbrev pub SplitsOrFirstStuck : Type 0
 SplitsOrFirstStuck = (o : OpenNet) → IsOpenNet o → (NetSplits o × HasNoFirstStuck o) ⊎ ((NetSplits o → ⊥) × HasOneFirstStuck o)
 
 -- ---- one answer
+
+-- a set of nodes is its members: with as many tests one set has them
+abbrev pub SetIsItsMembers : Type 0
+SetIsItsMembers = (a b : List Bool) → length a ≡ length b → ((n : ℕ) → IsIn n (nodes_in a) ↔ IsIn n (nodes_in b)) → a ≡ b
 
 -- of a set of an open net's nodes one node is the first that splits it, or none is
 abbrev pub FirstSplittingIsOne : Type 0

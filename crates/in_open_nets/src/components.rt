@@ -143,7 +143,8 @@ impl Model for Done {
 impl Done {
     /// None of so many.
     pub fn new(alloc: Global, count: usize) -> Result<Done, AllocError>
-        ensures { IfOk result (λ done. length done ≡ count) }
+        ensures size { IfOk result (λ done. length done ≡ count) }
+        ensures none { IfOk result (λ done. (n : ℕ) → nodes_in done n ≡ false) }
     {
         Ok(Done {
             nodes: Scratch::new(alloc, count)?,

@@ -1,6 +1,6 @@
 //! Laws over the definitions of open nets, for whoever reasons above them. No function here does anything.
 
-ghost use Rattle.in_open_nets.specs.Laws.{ComponentIsOne, DerivableHasNoCircle, FirstSplittingIsOne, MembersAreListedOnce, RestIsOne, SplitsByBridges, SplitsOffRings, SplitsOrFirstStuck, SplitsWhereDerivable, UnionIsOne};
+ghost use Rattle.in_open_nets.specs.Laws.{ComponentIsOne, DerivableHasNoCircle, FirstSplittingIsOne, MembersAreListedOnce, RestIsOne, SetIsItsMembers, SplitsByBridges, SplitsOffRings, SplitsOrFirstStuck, SplitsWhereDerivable, UnionIsOne};
 
 /// An open net splits exactly where it is derivable. Derivable is Lafont 1990's semi-simple; to decide it by splitting is this
 /// project's own choice.
@@ -28,6 +28,11 @@ pub fn derivable_has_no_circle()
 /// An open net splits, or it has exactly one first stuck sub-net; never both.
 pub fn splits_or_first_stuck()
     ensures { SplitsOrFirstStuck }
+{}
+
+/// A set of nodes is its members, so that what says of each node whether it is a member allows one set.
+pub fn set_is_its_members()
+    ensures { SetIsItsMembers }
 {}
 
 /// What `first_splitting` answers is one: a node, or that there is none.

@@ -40,7 +40,8 @@ impl Model for Scratch {
 impl Scratch {
     /// None of so many.
     pub fn new(alloc: Global, count: usize) -> Result<Scratch, AllocError>
-        ensures { IfOk result (λ set. length set ≡ count) }
+        ensures size { IfOk result (λ set. length set ≡ count) }
+        ensures none { IfOk result (λ set. (n : ℕ) → nodes_in set n ≡ false) }
     {
         let mut marks = Vec::new(alloc);
         marks.resize(count, 0)?;
