@@ -1,9 +1,13 @@
 -- Free ends that get their partners, one by one.
-use Rattle.std.proofs.Common.{◌≡◌, ◌⊎◌, inl, inr, ◌+◌, ◌<◌, ◌≤◌, ℕ, Some, List, length, slice_get, get_or, refl, sym, ap, ◌∙◌, arith}
+use Rattle.std.proofs.Common.{◌≡◌, ◌⊎◌, inl, inr, ◌+◌, ◌<◌, ◌≤◌, ℕ, Option, Some, None, List, length, slice_get, get_or, refl, sym, ap, ◌∙◌, arith}
 use Rattle.std.proofs.Math.ListN.{set, length-set}
-use Rattle.std.proofs.lemmas.Option.{slice_get_within, slice_get_read, get_or_from_slice_get}
+use Rattle.std.proofs.lemmas.Option.{slice_get_cases, slice_get_past, slice_get_within, slice_get_read, get_or_from_slice_get}
 use Rattle.in_base.proofs.Places.{set_here, set_there, some_same}
-use Rattle.in_net.specs.Renewing.{Rejoins}
+use Rattle.in_net.proofs.SameNet.{all_same}
+use Rattle.in_net.specs.Parts.{Parts}
+use Rattle.in_net.specs.Renewing.{IsRenewed, Rejoins, renewed}
+use Rattle.in_net.specs.declared.nets.Cell.{Cell}
+use Rattle.in_net.specs.declared.nets.Wire.{Wire}
 use Rattle.in_net.specs.declared.nets.FreeEnd.{FreeEnd}
 use Rattle.in_net.specs.declared.nets.Point.{Point}
 
@@ -43,3 +47,18 @@ none_rejoined ends old = record { many = refl; each = λ k f q lt at end. absurd
 
 pub rejoins : (ends : List Point) (old new : List FreeEnd) (k : ℕ) → AreRejoinedTo ends old new k → length ends ≤ k → Rejoins ends old new
 rejoins ends old new k h le = record { many = h.many; each = λ j f q at end. h.each j f q (let l = slice_get_within ends j q end in omega (arith, l, le)) at end }
+
+-- a free end gets one partner, and so a net becomes one
+rejoined_once : (ends : List Point) (old new other : List FreeEnd) → length ends ≡ length old → Rejoins ends old new → Rejoins ends old other → new ≡ other
+rejoined_once ends old new other all h k = all_same new other (λ i. at i (slice_get_cases old i).1 (slice_get_cases ends i).1)
+  where
+    Found : {X : Type 0} → List X → ℕ → Type 0
+    Found {X} xs i = ((x : X) × (i < length xs) × (slice_get xs i ≡ Some x) × (get_or xs i x ≡ x)) ⊎ ((length xs ≤ i) × (slice_get xs i ≡ None))
+
+    at : (i : ℕ) → Found old i → Found ends i → slice_get new i ≡ slice_get other i
+    at i (inl f) (inl q) = h.each i f.0 q.0 f.2 q.2 ∙ sym (k.each i f.0 q.0 f.2 q.2)
+    at i (inl f) (inr e) = let lt = f.1 in let le = e.0 in absurd (omega (arith, all, lt, le))
+    at i (inr e) q = let le = e.0 in let m = h.many in let n = k.many in slice_get_past new i (omega (arith, le, m)) ∙ sym (slice_get_past other i (omega (arith, le, n)))
+
+pub renewed_once : (old n m : Parts) (cells : List (Option Cell)) (ends : List Point) (wires : List Wire) → length ends ≡ length old.free → IsRenewed old cells ends wires n → IsRenewed old cells ends wires m → n ≡ m
+renewed_once old n m cells ends wires all h k = h.2 ∙ ap (λ free. renewed cells free wires) (rejoined_once ends old.free h.0 k.0 all h.1 k.1) ∙ sym k.2

@@ -1,11 +1,13 @@
 -- Laws over the definitions of a net.
-use Rattle.std.specs.Prelude.{◌≡◌, ◌≢◌, ℕ, Some, Ok}
+use Rattle.std.specs.Prelude.{◌≡◌, ◌≢◌, ℕ, List, length, Option, Some, Ok}
 use Rattle.in_syntax.specs.declared.tree.Source.{Source}
 use Rattle.in_syntax.specs.Parsing.{IsOfText}
 use Rattle.in_syntax.specs.declared.places.Place.{Place}
 use Rattle.in_syntax.specs.declared.tree.SourceNet.{SourceNet}
 use Rattle.in_syntax.specs.declared.tree.SourceRule.{SourceRule}
 use Rattle.in_net.specs.declared.nets.AgentNo.{AgentNo}
+use Rattle.in_net.specs.declared.nets.Cell.{Cell}
+use Rattle.in_net.specs.declared.nets.Wire.{Wire}
 use Rattle.in_net.specs.declared.nets.Point.{Point}
 use Rattle.in_net.specs.declared.nets.Point.TheVariants.{Port}
 use Rattle.in_net.specs.Rules.{BuildsRule, IsMemberOf, body_of_rule}
@@ -14,6 +16,7 @@ use Rattle.in_syntax.specs.Answers.{IsOne}
 use Rattle.in_net.specs.Built.{IsOver, Builds}
 use Rattle.in_net.specs.Nets.{IsNet, net_of, signature_of}
 use Rattle.in_net.specs.Parts.{Parts, IsWhole, IsPointOf, partner_in, symbol_in, free_type_in, free_name_in}
+use Rattle.in_net.specs.Renewing.{IsRenewed}
 use Rattle.in_net.specs.TextNet.{IsNetOf, IsClosedWireOf, spot_at}
 
 -- the partner of a point's partner is the point, and no point is its own partner
@@ -56,3 +59,7 @@ NetsAreBuiltOnce = (s : Source) (t : Tables) → IsOfText s → Tabulates s (Ok 
 -- .. and a rule of it
 abbrev pub RulesAreBuiltOnce : Type 0
 RulesAreBuiltOnce = (s : Source) (t : Tables) (i : ℕ) → IsOfText s → Tabulates s (Ok t) → IsOne (BuildsRule s t i)
+
+-- .. and of what renewing a net makes of it
+abbrev pub NetsAreRenewedOnce : Type 0
+NetsAreRenewedOnce = (old n m : Parts) (cells : List (Option Cell)) (ends : List Point) (wires : List Wire) → length ends ≡ length old.free → IsRenewed old cells ends wires n → IsRenewed old cells ends wires m → n ≡ m

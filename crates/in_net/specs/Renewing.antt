@@ -14,3 +14,7 @@ pub record Rejoins (ends : List Point) (old new : List FreeEnd) : Type 0 where
 -- a net that isn't as built: its agents and wires have no places
 abbrev pub renewed : List (Option Cell) → List FreeEnd → List Wire → Parts
 renewed cells free wires = record { cells = cells; free = free; wires = wires; places = []; built = false }
+
+-- the net that gets these agents, partners and wires
+abbrev pub IsRenewed : Parts → List (Option Cell) → List Point → List Wire → Parts → Type 0
+IsRenewed old cells ends wires new = (free : List FreeEnd) × Rejoins ends old.free free × (new ≡ renewed cells free wires)

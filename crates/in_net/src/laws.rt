@@ -1,6 +1,6 @@
 //! Laws over the definitions of a net, for whoever reasons above them. No function here does anything.
 
-ghost use Rattle.in_net.specs.Laws.{MembersHoldNoPair, NetsAreBuiltOnce, RulesAreBuiltOnce, PartnersLeadBack, RulesHoldNoClosedWire, TextNetsAreOne, WholePartsAreNets};
+ghost use Rattle.in_net.specs.Laws.{MembersHoldNoPair, NetsAreBuiltOnce, NetsAreRenewedOnce, RulesAreBuiltOnce, PartnersLeadBack, RulesHoldNoClosedWire, TextNetsAreOne, WholePartsAreNets};
 
 /// In a net, the partner of a point's partner is the point, and no point is its own partner.
 pub fn partners_lead_back()
@@ -35,4 +35,9 @@ pub fn nets_are_built_once()
 /// What building a rule of a text's program answers is one.
 pub fn rules_are_built_once()
     ensures { RulesAreBuiltOnce }
+{}
+
+/// What a net becomes that gets other agents and wires, and its free ends other partners, is one.
+pub fn nets_are_renewed_once()
+    ensures { NetsAreRenewedOnce }
 {}

@@ -1,6 +1,6 @@
 ghost use Rattle.std.specs.Prelude.{◌≡◌, List, length};
 ghost use Rattle.in_net.specs.Parts.{IsWhole};
-ghost use Rattle.in_net.specs.Renewing.{Rejoins, renewed};
+ghost use Rattle.in_net.specs.Renewing.{IsRenewed, Rejoins, renewed};
 ghost use Rattle.in_net.specs.declared.nets.FreeEnd.{FreeEnd};
 
 use crate::nets::{Cell, FreeEnd, Net, Point, Wire};
@@ -31,7 +31,7 @@ impl Net {
     )
         requires ends { length ends.now ≡ length self.old.free }
         requires whole { (free : List FreeEnd) → Rejoins ends.now self.old.free free → IsWhole (renewed cells free wires) }
-        ensures { (free : List FreeEnd) × Rejoins ends.now self.old.free free × (self.new ≡ renewed cells free wires) }
+        ensures { IsRenewed self.old cells ends.now wires self.new }
     {
         self.cells = cells;
         rejoin(&mut self.free, ends);
