@@ -7,6 +7,7 @@ ghost use Rattle.in_opening.specs.OpeningRules.{IsRuleWhole};
 ghost use Rattle.in_check.specs.Certificates.{Certifies, CertifiesNet, CertifiesRule, CertifiesRules};
 
 use crate::checked::Certificate;
+use crate::misfits::Misfit;
 use in_net::{Net, Rule};
 use in_open_nets::{OpenNet, Stuck, Undone};
 use in_opening::{open_net, open_rule};
@@ -16,19 +17,28 @@ use in_syntax::{Code, Fault, Refusal};
 use sqlite_items::Items;
 use std::alloc::Global;
 
-/// An open net, and its first part in which no node splits: for who tells why a program is refused.
+/// An open net, and its first part in which no node splits.
 #[derive(Drop)]
 pub struct StuckPart {
     pub open: OpenNet,
     pub stuck: Stuck,
 }
 
-/// An open net with the steps that build it; or its refusal, with this code, and then `part` has what is stuck.
+/// What was at hand when a program was refused: for who tells why, who need not look for it again.
+#[derive(Drop)]
+pub enum Evidence {
+    /// The ends of the first wire whose types don't fit.
+    Misfit(Misfit),
+    /// The part of the first rule, or of the net, that no steps build.
+    Stuck(StuckPart),
+}
+
+/// An open net with the steps that build it; or its refusal, with this code, and then `evidence` has what is stuck.
 fn certify(
     alloc: Global,
     shape: OpenNet,
     code: Code,
-    part: &mut Option<StuckPart>,
+    evidence: &mut Option<Evidence>,
 ) -> Result<Certificate, Fault>
     ensures { Certifies shape code result }
 {
@@ -36,7 +46,7 @@ fn certify(
         Ok(derivation) => Ok(Certificate { shape, derivation }),
         Err(Undone::Stuck(stuck)) => {
             let place = stuck.place(&shape);
-            *part = Some(StuckPart { open: shape, stuck });
+            *evidence = Some(Evidence::Stuck(StuckPart { open: shape, stuck }));
             Err(Fault::Refused(Refusal::at(code, place)))
         }
         Err(Undone::Memory(error)) => Err(Fault::Memory(error)),
@@ -48,7 +58,7 @@ fn certify_rule(
     alloc: Global,
     symbols: &Symbols,
     rule: &Rule,
-    part: &mut Option<StuckPart>,
+    evidence: &mut Option<Evidence>,
 ) -> Result<Certificate, Fault>
     requires over { IsRuleOver symbols.now rule.now }
     requires whole { IsRuleWhole symbols.now rule.now }
@@ -56,7 +66,7 @@ fn certify_rule(
     ensures { CertifiesRule symbols.now rule.now result }
 {
     let shape = open_rule(alloc, symbols, rule)?;
-    certify(alloc, shape, Code::E12, part)
+    certify(alloc, shape, Code::E12, evidence)
 }
 
 /// The open nets of the rules with their steps; refused for the first rule that is stuck.
@@ -64,7 +74,7 @@ pub(crate) fn certify_rules(
     alloc: Global,
     symbols: &Symbols,
     rules: &[Rule],
-    part: &mut Option<StuckPart>,
+    evidence: &mut Option<Evidence>,
 ) -> Result<Items<Certificate>, Fault>
     requires over { AllByRecursion (IsRuleOver symbols.now) rules.now }
     requires whole { AllByRecursion (IsRuleWhole symbols.now) rules.now }
@@ -73,7 +83,7 @@ pub(crate) fn certify_rules(
 {
     let mut certificates = Items::new(alloc);
     for rule in rules {
-        let certificate = certify_rule(alloc, symbols, rule, part)?;
+        let certificate = certify_rule(alloc, symbols, rule, evidence)?;
         certificates.push(certificate)?;
     }
     Ok(certificates)
@@ -84,7 +94,7 @@ pub(crate) fn certify_net(
     alloc: Global,
     symbols: &Symbols,
     net: &Net,
-    part: &mut Option<StuckPart>,
+    evidence: &mut Option<Evidence>,
 ) -> Result<Certificate, Fault>
     requires over { IsOver symbols.now net.now }
     requires built { IsTrue net.now.built }
@@ -93,5 +103,5 @@ pub(crate) fn certify_net(
     ensures { CertifiesNet symbols.now net.now result }
 {
     let shape = open_net(alloc, symbols, net)?;
-    certify(alloc, shape, Code::E13, part)
+    certify(alloc, shape, Code::E13, evidence)
 }

@@ -14,12 +14,13 @@ ghost use Rattle.in_check.specs.Promises.{ReachesAsPromised};
 ghost use Rattle.in_check.specs.Systems.{system_of};
 ghost use Rattle.in_check.specs.Checking.{AreOfText, BuildsRules, ChecksNames, ChecksNet, ChecksNetSteps, ChecksPairs, ChecksRules, ChecksRuleSteps, ChecksTypes, IsChecked, TypePasses, TypesAll, TypesRules};
 
-use crate::certifying::{StuckPart, certify_net, certify_rules};
+use crate::certifying::{Evidence, certify_net, certify_rules};
 use crate::checked::{Certificate, Checked, Passed};
+use crate::misfits::misfit_at;
 use in_cover::{RuleTable, cover};
 use in_net::{Net, Rule, build_net, build_rule};
 use in_symbols::Symbols;
-use in_syntax::{Fault, Refusal, Source, parse};
+use in_syntax::{Code, Fault, Refusal, Source, parse};
 use in_typing::{type_net, type_rule};
 use sqlite_items::Items;
 use std::alloc::{AllocError, Global};
@@ -88,12 +89,12 @@ fn check_net_steps(
     declared: Declared,
     numbers: RuleTable,
     rule_certificates: Items<Certificate>,
-    part: &mut Option<StuckPart>,
+    evidence: &mut Option<Evidence>,
 ) -> Result<Passed, Fault>
     requires { AreOfText declared.symbols declared.rules declared.net }
     ensures { ChecksNetSteps declared.symbols declared.rules declared.net numbers rule_certificates result }
 {
-    match certify_net(alloc, &declared.symbols, &declared.net, part) {
+    match certify_net(alloc, &declared.symbols, &declared.net, evidence) {
         Ok(net_certificate) => {
             let Declared {
                 symbols,
@@ -120,12 +121,17 @@ fn check_net_steps(
 fn rule_steps(
     alloc: Global,
     declared: &Declared,
-    part: &mut Option<StuckPart>,
+    evidence: &mut Option<Evidence>,
 ) -> Result<Items<Certificate>, Fault>
     requires { AreOfText declared.now.symbols declared.now.rules declared.now.net }
     ensures { CertifiesRules declared.now.symbols declared.now.rules result }
 {
-    certify_rules(alloc, &declared.symbols, declared.rules.as_slice(), part)
+    certify_rules(
+        alloc,
+        &declared.symbols,
+        declared.rules.as_slice(),
+        evidence,
+    )
 }
 
 /// The steps of the rules, and then those of the net.
@@ -133,13 +139,13 @@ fn check_rule_steps(
     alloc: Global,
     declared: Declared,
     numbers: RuleTable,
-    part: &mut Option<StuckPart>,
+    evidence: &mut Option<Evidence>,
 ) -> Result<Passed, Fault>
     requires { AreOfText declared.symbols declared.rules declared.net }
     ensures { ChecksRuleSteps declared.symbols declared.rules declared.net numbers result }
 {
-    match rule_steps(alloc, &declared, part) {
-        Ok(certificates) => check_net_steps(alloc, declared, numbers, certificates, part),
+    match rule_steps(alloc, &declared, evidence) {
+        Ok(certificates) => check_net_steps(alloc, declared, numbers, certificates, evidence),
         Err(fault) => {
             drop((declared, numbers));
             Err(fault)
@@ -151,14 +157,14 @@ fn check_rule_steps(
 fn check_pairs(
     alloc: Global,
     declared: Declared,
-    part: &mut Option<StuckPart>,
+    evidence: &mut Option<Evidence>,
 ) -> Result<Passed, Fault>
     requires text { AreOfText declared.symbols declared.rules declared.net }
     requires pairs { AllByRecursion (IsOfPair declared.symbols) declared.rules }
     ensures { ChecksPairs declared.symbols declared.rules declared.net result }
 {
     match cover(alloc, &declared.symbols, declared.rules.as_slice()) {
-        Ok(numbers) => check_rule_steps(alloc, declared, numbers, part),
+        Ok(numbers) => check_rule_steps(alloc, declared, numbers, evidence),
         Err(fault) => {
             drop(declared);
             Err(fault)
@@ -166,19 +172,38 @@ fn check_pairs(
     }
 }
 
+/// The ends of the wire that a fault is about, where it is one of types.
+fn misfit_of(declared: &Declared, fault: &Fault) -> Option<Evidence> {
+    match fault {
+        Fault::Refused(
+            Refusal {
+                code: Code::E10,
+                place,
+                ..
+            },
+        ) => {
+            let rules = declared.rules.as_slice();
+            let misfit = misfit_at(&declared.symbols, rules, &declared.net, *place)?;
+            Some(Evidence::Misfit(misfit))
+        }
+        _ => None,
+    }
+}
+
 /// The types, and then one rule for each pair and the steps.
 fn check_types(
     alloc: Global,
     declared: Declared,
-    part: &mut Option<StuckPart>,
+    evidence: &mut Option<Evidence>,
 ) -> Result<Passed, Fault>
     requires { AreOfText declared.symbols declared.rules declared.net }
     ensures { ChecksTypes declared.symbols declared.rules declared.net result }
 {
     let rules = declared.rules.as_slice();
     match type_pass(&declared.symbols, rules, &declared.net) {
-        Ok(()) => check_pairs(alloc, declared, part),
+        Ok(()) => check_pairs(alloc, declared, evidence),
         Err(mistyped) => {
+            *evidence = misfit_of(&declared, &mistyped);
             drop(declared);
             Err(mistyped)
         }
@@ -191,7 +216,7 @@ fn check_net(
     source: &Source,
     symbols: Symbols,
     rules: Items<Rule>,
-    part: &mut Option<StuckPart>,
+    evidence: &mut Option<Evidence>,
 ) -> Result<Passed, Fault>
     requires tree { IsOfText source.now }
     requires tables { Tabulates source.now (Ok symbols) }
@@ -205,7 +230,7 @@ fn check_net(
                 rules,
                 net,
             };
-            check_types(alloc, declared, part)
+            check_types(alloc, declared, evidence)
         }
         Err(fault) => {
             drop((symbols, rules));
@@ -219,14 +244,14 @@ fn check_rules(
     alloc: Global,
     source: &Source,
     symbols: Symbols,
-    part: &mut Option<StuckPart>,
+    evidence: &mut Option<Evidence>,
 ) -> Result<Passed, Fault>
     requires tree { IsOfText source.now }
     requires tables { Tabulates source.now (Ok symbols) }
     ensures { ChecksRules source.now symbols result }
 {
     match build_rules(alloc, source, &symbols) {
-        Ok(rules) => check_net(alloc, source, symbols, rules, part),
+        Ok(rules) => check_net(alloc, source, symbols, rules, evidence),
         Err(fault) => {
             drop(symbols);
             Err(fault)
@@ -238,21 +263,21 @@ fn check_rules(
 fn check_names(
     alloc: Global,
     source: &Source,
-    part: &mut Option<StuckPart>,
+    evidence: &mut Option<Evidence>,
 ) -> Result<Passed, Fault>
     requires { IsOfText source.now }
     ensures { ChecksNames source.now result }
 {
     let symbols = Symbols::build(alloc, source)?;
-    check_rules(alloc, source, symbols, part)
+    check_rules(alloc, source, symbols, evidence)
 }
 
 /// The tree, and then the names and the rest.
-fn check_tree(alloc: Global, text: &[u8], part: &mut Option<StuckPart>) -> Result<Passed, Fault>
+fn check_tree(alloc: Global, text: &[u8], evidence: &mut Option<Evidence>) -> Result<Passed, Fault>
     ensures { IsChecked text.now result }
 {
     let source = parse(alloc, text)?;
-    check_names(alloc, &source, part)
+    check_names(alloc, &source, evidence)
 }
 
 /// Checks a program's text: its tokens and its tree, then its names, then rule by rule and the net at last its agents, variables
@@ -270,23 +295,23 @@ pub fn check(alloc: Global, text: &[u8]) -> Result<Checked, Fault>
     ensures checked { IsChecked text.now result }
     ensures promised { IfOk result (λ p. ReachesAsPromised (system_of p)) }
 {
-    let mut part = None;
-    let passed = check_tree(alloc, text, &mut part)?;
+    let mut evidence = None;
+    let passed = check_tree(alloc, text, &mut evidence)?;
     Ok(Checked { passed })
 }
 
-/// Why a program is refused, of which the tree is given: as `check` refuses a text of that tree; nothing where it is accepted. Where it is
-/// refused because no steps build a rule or the net, `part` has the open net and its first part in which no node splits. The only error is
-/// want of memory.
+/// Why a program is refused, of which the tree is given: as `check` refuses a text of that tree; nothing where it is accepted. What was at
+/// hand then is put into `evidence`: the two ends of a wire whose types don't fit, or the open net that no steps build, with its first part
+/// in which no node splits. The only error is want of memory.
 pub fn refusal_of(
     alloc: Global,
     source: &Source,
-    part: &mut Option<StuckPart>,
+    evidence: &mut Option<Evidence>,
 ) -> Result<Option<Refusal>, AllocError>
     requires { IsOfText source.now }
     ensures { IfOk result (λ found. MatchOption found ((p : Program) × ChecksNames source.now (Ok p)) (λ r. ChecksNames source.now (Err (Refused r)))) }
 {
-    match check_names(alloc, source, part).err() {
+    match check_names(alloc, source, evidence).err() {
         None => Ok(None),
         Some(Fault::Refused(refusal)) => Ok(Some(refusal)),
         Some(Fault::Memory(error)) => Err(error),

@@ -6,9 +6,11 @@ mod certifying;
 mod checked;
 mod checking;
 pub mod laws;
+mod misfits;
 mod plain;
 
-pub use certifying::StuckPart;
+pub use certifying::{Evidence, StuckPart};
 pub use checked::{Certificate, Checked, Counts, Item};
 pub use checking::{check, refusal_of};
+pub use misfits::{Misfit, WireEnd};
 pub use plain::Plain;

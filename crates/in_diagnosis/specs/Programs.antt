@@ -1,16 +1,10 @@
--- What is known of a program's tree and its tables, as much as the passes over them ask for; and of which texts something is told.
+-- Of which texts something is told.
 use Rattle.std.specs.Prelude.{Bool, true, false, List, ℕ, Ok, Err}
 use Rattle.in_syntax.specs.declared.faults.Refusal.{Refusal}
 use Rattle.in_syntax.specs.declared.faults.Fault.TheVariants.{Refused}
 use Rattle.in_syntax.specs.declared.tree.Source.{Source}
-use Rattle.in_syntax.specs.Parsing.{IsOfText}
-use Rattle.in_symbols.specs.Tables.{Tables, Tabulates}
 use Rattle.in_check.specs.Checking.{ChecksNames, IsAccepted, IsRefused}
 use Rattle.in_check.specs.Programs.{Program}
-
--- the tables are those of a tree that was read
-abbrev pub IsProgram : Source → Tables → Type 0
-IsProgram s t = IsOfText s × Tabulates s (Ok t)
 
 -- something is told of a text that is refused, and nothing of one that is accepted
 abbrev pub IsTold : List ℕ → Bool → Type 0

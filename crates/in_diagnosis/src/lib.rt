@@ -3,7 +3,6 @@
 #![tactic(auto)]
 
 mod circles;
-mod reading;
 mod stuck;
 mod telling;
 mod wires;

@@ -1,5 +1,6 @@
 //! Rules and nets that no steps build: the first part in which no node splits, and a circle in it.
 use crate::circles::{Circle, Field, Wires};
+use in_check::StuckPart;
 use in_open_nets::{Node, OpenNet};
 use in_reports::{Report, add_braces, help_apart, say_node_at, say_port_of};
 use in_syntax::{Place, Source, SourceSymbol};
@@ -259,16 +260,18 @@ fn add_first_circle(report: &mut Report, source: &Source, open: &OpenNet, nodes:
     }
 }
 
-/// A rule or a net that no steps build, with the nodes of the part.
+/// A rule or a net that no steps build, with the part of it in which no node splits.
 pub(crate) fn add_stuck(
     report: &mut Report,
     source: &Source,
-    open: &OpenNet,
-    nodes: &[u32],
+    part: Option<&StuckPart>,
     what: &str,
     place: Place,
 ) {
     report.wrong_name(place, "no steps build ", what, ": it could close a circle");
-    add_part(report, source, open, nodes);
-    add_first_circle(report, source, open, nodes);
+    if let Some(StuckPart { open, stuck }) = part {
+        let nodes = stuck.nodes.as_slice();
+        add_part(report, source, open, nodes);
+        add_first_circle(report, source, open, nodes);
+    }
 }

@@ -1,26 +1,15 @@
 //! The diagnosis of a program's text.
 ghost use Rattle.std.specs.Prelude.{◌≡◌, IfOk, is_some};
 ghost use Rattle.in_syntax.specs.Parsing.{IsOfText};
-ghost use Rattle.in_diagnosis.specs.Programs.{IsProgram, IsTold, IsToldOfTree};
+ghost use Rattle.in_diagnosis.specs.Programs.{IsTold, IsToldOfTree};
 
-use crate::reading::{Shape, net_shape, rule_shape, tables_of};
 use crate::stuck::add_stuck;
 use crate::wires::add_misfit;
-use in_check::{StuckPart, refusal_of};
+use in_check::{Evidence, Misfit, StuckPart, refusal_of};
 use in_net::{MAX_AGENTS, MAX_MEMBER_AGENTS};
 use in_reports::{Report, add_text_fault, add_tree_fault, rule_at};
-use in_symbols::Symbols;
 use in_syntax::{Code, Expected, Fault, Place, Refusal, Source, parse_expecting};
 use std::alloc::{AllocError, Global};
-
-/// A fault is want of memory, since the text is read as it was before.
-fn only_memory<T>(found: Result<T, Fault>) -> Result<Option<T>, AllocError> {
-    match found {
-        Ok(found) => Ok(Some(found)),
-        Err(Fault::Refused(_)) => Ok(None),
-        Err(Fault::Memory(error)) => Err(error),
-    }
-}
 
 /// More agents than a right member or the net may have.
 fn add_agents(report: &mut Report, source: &Source, place: Place) {
@@ -31,84 +20,44 @@ fn add_agents(report: &mut Report, source: &Source, place: Place) {
     report.wrong_number(place, "more than ", most, what);
 }
 
-/// The open net of the rule or of the net in which a place stands.
-fn shape_in(
-    alloc: Global,
-    source: &Source,
-    symbols: &Symbols,
-    place: Place,
-) -> Result<Option<Shape>, AllocError>
-    requires { IsProgram source.now symbols.now }
-{
-    let count = source.rules.len();
-    let number = rule_at(source, place.from).and_then(|number| u32::try_from(number).ok());
-    match number {
-        Some(number) if (number as usize) < count => {
-            only_memory(rule_shape(alloc, source, symbols, number, place))
-        }
-        _ => only_memory(net_shape(alloc, source, symbols, place)),
+/// What is refused of a program that has a tree, but for wires that don't fit and for what no steps build.
+fn add_fault(report: &mut Report, source: &Source, refusal: Refusal) {
+    match refusal.code {
+        Code::E03 => add_agents(report, source, refusal.place),
+        _ => add_tree_fault(report, source, refusal),
     }
 }
 
-/// The open net of the rule or of the net in which a place stands, where the tables can be had.
-fn shape_at(alloc: Global, source: &Source, place: Place) -> Result<Option<Shape>, AllocError>
-    requires { IsOfText source.now }
-{
-    match tables_of(alloc, source) {
-        Ok(symbols) => shape_in(alloc, source, &symbols, place),
-        Err(Fault::Refused(_)) => Ok(None),
-        Err(Fault::Memory(error)) => Err(error),
-    }
-}
-
-/// A wire whose two ends don't fit.
-fn add_type_fault(report: &mut Report, source: &Source, place: Place)
-    requires { IsOfText source.now }
-{
-    match shape_at(report.alloc, source, place) {
-        Ok(Some(shape)) => add_misfit(report, source, &shape, place),
-        Ok(None) => (),
-        Err(error) => report.fail(error),
-    }
-}
-
-/// What it is that no steps build, in words, where that is refused.
-fn stuck_words(code: Code) -> Option<&'static str> {
-    match code {
-        Code::E12 => Some("this rule"),
-        Code::E13 => Some("this net"),
+/// The ends of the wire that doesn't fit.
+fn misfit_in(evidence: Option<&Evidence>) -> Option<&Misfit> {
+    match evidence {
+        Some(Evidence::Misfit(misfit)) => Some(misfit),
         _ => None,
     }
 }
 
-/// A rule or a net that no steps build, with its first part in which no node splits.
-// Apart from `add_fault`: where a function with a contract takes the part, what contracts see of it takes 18 seconds to check.
-fn add_step_fault(
-    report: &mut Report,
-    source: &Source,
-    refusal: Refusal,
-    part: Option<&StuckPart>,
-) {
-    if let (Some(what), Some(StuckPart { open, stuck })) = (stuck_words(refusal.code), part) {
-        add_stuck(
-            report,
-            source,
-            open,
-            stuck.nodes.as_slice(),
-            what,
-            refusal.place,
-        );
+/// The part that no steps build.
+fn stuck_in(evidence: Option<&Evidence>) -> Option<&StuckPart> {
+    match evidence {
+        Some(Evidence::Stuck(part)) => Some(part),
+        _ => None,
     }
 }
 
-/// What is refused of a program that has a tree, but for what no steps build.
-fn add_fault(report: &mut Report, source: &Source, refusal: Refusal)
-    requires { IsOfText source.now }
-{
+/// A wire that doesn't fit, or what no steps build, with what was at hand when it was refused.
+// Apart from `add_fault`: where a function with a contract takes an open net, what contracts see of it takes 18 seconds to check.
+fn add_shape_fault(
+    report: &mut Report,
+    source: &Source,
+    refusal: Refusal,
+    evidence: Option<&Evidence>,
+) {
+    let place = refusal.place;
     match refusal.code {
-        Code::E03 => add_agents(report, source, refusal.place),
-        Code::E10 => add_type_fault(report, source, refusal.place),
-        _ => add_tree_fault(report, source, refusal),
+        Code::E10 => add_misfit(report, source, misfit_in(evidence), place),
+        Code::E12 => add_stuck(report, source, stuck_in(evidence), "this rule", place),
+        Code::E13 => add_stuck(report, source, stuck_in(evidence), "this net", place),
+        _ => (),
     }
 }
 
@@ -117,17 +66,17 @@ fn add_refusal(report: &mut Report, source: &Source) -> Result<bool, AllocError>
     requires { IsOfText source.now }
     ensures { IfOk result (IsToldOfTree source.now) }
 {
-    let mut part = None;
-    let told = match refusal_of(report.alloc, source, &mut part) {
+    let mut evidence = None;
+    let told = match refusal_of(report.alloc, source, &mut evidence) {
         Ok(Some(refusal)) => {
             add_fault(report, source, refusal);
-            add_step_fault(report, source, refusal, part.as_ref());
+            add_shape_fault(report, source, refusal, evidence.as_ref());
             Ok(true)
         }
         Ok(None) => Ok(false),
         Err(error) => Err(error),
     };
-    drop(part);
+    drop(evidence);
     told
 }
 

@@ -1,51 +1,45 @@
 //! Wires whose two ends don't fit.
-use crate::reading::Shape;
-use in_open_nets::{Node, OpenNet, Point};
+use in_check::{Misfit, WireEnd};
 use in_reports::{End, Report, add_ends, agent_end, free_end, head_end};
-use in_syntax::{Place, Source};
+use in_symbols::SymbolNo;
+use in_syntax::{Place, Source, SourceSymbol};
 
-/// The end of a wire at a port of a node.
-fn node_end<'a>(source: &'a Source, open: &OpenNet, node: u32, port: usize) -> Option<End<'a>> {
-    if node >= open.nodes() {
-        return None;
-    }
-    let place = open.node_place(node);
-    match open.node(node) {
-        Node::AgentNode(symbol) => {
-            agent_end(source.symbols.get(symbol.0 as usize)?, port, place)
-        }
-        Node::ClassNode(symbol, class) => {
-            let symbol = source.symbols.get(symbol.0 as usize)?;
-            head_end(symbol, class as usize, port, place)
-        }
+/// The declaration of a symbol.
+fn declared(source: &Source, symbol: SymbolNo) -> Option<&SourceSymbol> {
+    source.symbols.get(symbol.0 as usize)
+}
+
+/// An end of a wire as it is told.
+fn told<'a>(source: &'a Source, end: WireEnd) -> Option<End<'a>> {
+    match end {
+        WireEnd::Agent {
+            symbol,
+            port,
+            place,
+        } => agent_end(declared(source, symbol)?, port, place),
+        WireEnd::Head {
+            symbol,
+            port,
+            place,
+        } => head_end(declared(source, symbol)?, port, place),
+        WireEnd::Free(number) => free_end(source, number),
     }
 }
 
-/// The end of a wire at a point.
-fn end_at<'a>(source: &'a Source, open: &OpenNet, point: Point) -> Option<End<'a>> {
-    match point {
-        Point::Port(node, port) => node_end(source, open, node, port as usize),
-        Point::Free(number) => free_end(source, number),
-    }
-}
-
-/// The two ends of the wire that was asked for.
-fn ends_of<'a>(source: &'a Source, shape: &Shape) -> Option<(End<'a>, End<'a>)> {
-    let wire = shape.wire?;
-    if (wire as usize) < shape.open.wires() {
-        let (one, other) = shape.open.wire(wire as usize);
-        Some((
-            end_at(source, &shape.open, one)?,
-            end_at(source, &shape.open, other)?,
-        ))
-    } else {
-        None
-    }
+/// The two ends of a wire as they are told.
+fn told_both<'a>(source: &'a Source, misfit: Option<&Misfit>) -> Option<(End<'a>, End<'a>)> {
+    let misfit = misfit?;
+    Some((told(source, misfit.one)?, told(source, misfit.other)?))
 }
 
 /// A wire whose two ends don't fit.
-pub(crate) fn add_misfit(report: &mut Report, source: &Source, shape: &Shape, place: Place) {
-    match ends_of(source, shape) {
+pub(crate) fn add_misfit(
+    report: &mut Report,
+    source: &Source,
+    misfit: Option<&Misfit>,
+    place: Place,
+) {
+    match told_both(source, misfit) {
         Some((one, other)) => add_ends(report, place, &one, &other),
         None => report.wrong(place, "the types of the two ends of this wire don't fit"),
     }

@@ -1,5 +1,5 @@
 //! The two ends of a wire, which don't fit.
-use crate::declarations::{place_in, port, say_port, say_type};
+use crate::declarations::{port, say_port, say_type};
 use crate::reports::Report;
 use in_syntax::{Place, Source, SourcePort, SourceSymbol};
 
@@ -34,15 +34,9 @@ pub fn agent_end(symbol: &SourceSymbol, number: usize, place: Place) -> Option<E
     })
 }
 
-/// An end of a wire in the right member of a rule: there it replaces an auxiliary port of the head at a place of the text, that of the number,
-/// from 0, in the class, from 1. Nothing where the symbol has no such port.
-pub fn head_end(
-    symbol: &SourceSymbol,
-    class: usize,
-    number: usize,
-    place: Place,
-) -> Option<End<'_>> {
-    let number = place_in(symbol, class, number);
+/// An end of a wire in the right member of a rule: there it replaces the port of that number of the head at a place of the text. Nothing where
+/// the symbol has no such port.
+pub fn head_end(symbol: &SourceSymbol, number: usize, place: Place) -> Option<End<'_>> {
     let (_, port) = port(symbol, number)?;
     Some(End {
         place,
