@@ -4,10 +4,12 @@ pub mod Holds
 pub mod HoldsEach
 pub mod Kept
 pub mod Listed
+pub mod Moved
 pub mod Numbers
 pub mod Others
 pub mod Plain
 pub mod Renaming
 pub mod SameText
+pub mod Signs
 pub mod Stepped
 pub mod Unchanged

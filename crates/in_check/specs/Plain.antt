@@ -6,7 +6,7 @@ use Rattle.in_symbols.specs.Tables.{is_constructor}
 use Rattle.in_net.specs.declared.nets.AgentNo.{AgentNo}
 use Rattle.in_net.specs.declared.nets.Point.TheVariants.{Port}
 use Rattle.in_net.specs.Built.{IsOver}
-use Rattle.in_interaction.specs.Interacting.{most_agents, Interacts}
+use Rattle.in_interaction.specs.Interacting.{most_agents, Interacts, InteractsAs}
 use Rattle.in_net.specs.Nets.{net_of}
 use Rattle.in_net.specs.Parts.{Parts, IsWhole, symbol_in, partner_in}
 use Rattle.in_net.specs.Rules.{RuleParts, IsRuleOver, auxiliary_types}
@@ -57,6 +57,14 @@ pub record StepsTo (p : PlainParts) (a b : AgentNo) (q : PlainParts) : Type 0 wh
   pub acts : Interacts p.net rule a b q.net
   pub program : q.program ≡ p.program
 
+-- .. the new agents under these names, which may be any that are new
+pub record StepsAs (p : PlainParts) (a b : AgentNo) (name : ℕ → ℕ) (q : PlainParts) : Type 0 where
+  pub number : ℕ
+  pub rule : RuleParts
+  pub is_rule : IsRuleAt p a b number rule
+  pub acts : InteractsAs p.program.tables p.net rule a b name q.net
+  pub program : q.program ≡ p.program
+
 -- ---- laws
 
 -- the initial net is reached by no interaction
@@ -66,6 +74,10 @@ PlainStarts = (p : Program) → IsOver p.tables p.net → IsPlain (record { prog
 -- a step leads from a net that is reached to one, which is reached by one interaction more
 abbrev pub PlainSteps : Type 0
 PlainSteps = (p q : PlainParts) (a b : AgentNo) → IsPlain p → IsPairAt p a b → StepsTo p a b q → IsPlain q × ((k : ℕ) → IsReachedBy p k → IsReachedBy q (suc k))
+
+-- .. also under other names of the new agents
+abbrev pub PlainStepsUnderNames : Type 0
+PlainStepsUnderNames = (p q : PlainParts) (a b : AgentNo) (name : ℕ → ℕ) → IsPlain p → IsPairAt p a b → StepsAs p a b name q → IsPlain q × ((k : ℕ) → IsReachedBy p k → IsReachedBy q (suc k))
 
 -- .. and of an accepted program what a step leads to is one: its net with its numbers, its wires in their order, and its free ends
 abbrev pub PlainStepsAreOne : Type 0

@@ -7,11 +7,11 @@ use Rattle.in_base.specs.Lists.{IsAmong}
 use Rattle.in_interaction.specs.Ahead.{MeetsPair, WaitsAt}
 use Rattle.in_base.specs.Graphs.{CrossingCircle, ViciousCircle}
 use Rattle.in_net.specs.Graphs.{graph_of}
-use Rattle.in_net.specs.Interactions.{Redex, IsNaming, ClosedPath}
-use Rattle.in_net.specs.Nets.{Point, Port, Net, IsNet}
+use Rattle.in_net.specs.Interactions.{Redex, IsRedex, IsNaming, IsStep, ClosedPath}
+use Rattle.in_net.specs.Nets.{Point, Port, Signature, Net, IsNet}
 use Rattle.in_typing.specs.TypedNets.{IsTypedNet}
 use Rattle.in_check.specs.NetText.{Words, TextPart, Head, Variable, text, text_parts, AreAgents, numbers, numbered, StandsTimes, IsQueue, IsAuxiliary, IsOfNet}
-use Rattle.in_check.specs.Runs.{IsRenamed, IsPairWithRule, IsInteraction, Reached, HasEnded}
+use Rattle.in_check.specs.Runs.{IsRenamed, moved, IsPairWithRule, IsInteraction, Reached, HasEnded}
 use Rattle.in_check.specs.Systems.{System, IsMatching, HasOneRule, IsSoundSystem, system_of}
 use Rattle.in_check.specs.Checking.{IsAccepted}
 use Rattle.in_check.specs.Programs.{Program}
@@ -92,3 +92,8 @@ pub record IsUnchanged (p : System) (k : ℕ) (f : ℕ → ℕ) (n m : Net ℕ) 
 
 abbrev pub RenamingChangesNothing : Type 0
 RenamingChangesNothing = (p : System) (k : ℕ) (n : Net ℕ) (f : ℕ → ℕ) (m : Net ℕ) → IsSoundSystem p → Reached p k n → IsRenamed f n m → IsUnchanged p k f n m
+
+-- an interaction of a net under other names leads to the net after it, under other names, whatever the new agents are named
+abbrev pub RenamedStepsAreRenamed : Type 0
+RenamedStepsAreRenamed = (sig : Signature) (n m after end : Net ℕ) (f name other_name : ℕ → ℕ) (x : Redex ℕ ℕ) → IsNet sig n → IsNet sig x.member → IsRedex sig n x →
+    IsRenamed f n m → IsStep sig n x name after → IsStep sig m (moved f x) other_name end → (g : ℕ → ℕ) × IsRenamed g after end

@@ -16,6 +16,10 @@ pub record IsRenamed {A B : Type 0} (f : A → B) (n : Net A) (m : Net B) : Type
   pub wires : (u v : Point B) → (m.partner u ≡ Some v) ↔ ((p q : Point A) × (renamed f p ≡ u) × (renamed f q ≡ v) × (n.partner p ≡ Some q))
   pub free : m.free ≡ n.free
 
+-- an active pair under other names, with the same rule
+abbrev pub moved : {A B C : Type 0} → (A → B) → Redex A C → Redex B C
+moved f x = record { one = f x.one; two = f x.two; first = x.first; second = x.second; member = x.member }
+
 abbrev pub rule_of : {A : Type 0} → Redex A ℕ → SystemRule
 rule_of x = record { first = x.first; second = x.second; member = x.member }
 

@@ -42,9 +42,9 @@ IsMatching sig c d = ((sig.type_of c 0).output ≡ true) × ((sig.type_of d 0).o
 abbrev pub IsRuleOf : System → ℕ → ℕ → ℕ → Type 0
 IsRuleOf p c d i = (r : SystemRule) × (slice_get p.rules i ≡ Some r) × (r.first ≡ c) × (r.second ≡ d)
 
--- exactly one rule is
+-- exactly one rule is, and none is for the two in the other order
 abbrev pub HasOneRule : System → ℕ → ℕ → Type 0
-HasOneRule p c d = (i : ℕ) × (IsRuleOf p c d i) × ((j : ℕ) → IsRuleOf p c d j → j ≡ i)
+HasOneRule p c d = (i : ℕ) × (IsRuleOf p c d i) × ((j : ℕ) → IsRuleOf p c d j → j ≡ i) × ((j : ℕ) → IsRuleOf p d c j → ⊥)
 
 -- ---- a sound system
 

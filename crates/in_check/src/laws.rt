@@ -1,8 +1,8 @@
 //! Laws over what checking a text answers, for whoever reasons above it. No function here does anything.
 
 ghost use Rattle.in_check.specs.Laws.{TextsAreCheckedOnce};
-ghost use Rattle.in_check.specs.Plain.{PairsHaveTheirRule, PlainAsPromised, PlainStarts, PlainSteps, PlainStepsAreOne};
-ghost use Rattle.in_check.specs.Promises.{AcceptedIsSound, RenamingChangesNothing, SoundReachesAsPromised, StepsReach};
+ghost use Rattle.in_check.specs.Plain.{PairsHaveTheirRule, PlainAsPromised, PlainStarts, PlainSteps, PlainStepsAreOne, PlainStepsUnderNames};
+ghost use Rattle.in_check.specs.Promises.{AcceptedIsSound, RenamedStepsAreRenamed, RenamingChangesNothing, SoundReachesAsPromised, StepsReach};
 
 /// A text has one answer: it is accepted or refused, never both; two refusals are equal, and two accepted programs have equal tables,
 /// rules, nets, numbers of rules, open nets and steps. Nothing is said where memory was wanted.
@@ -32,6 +32,12 @@ pub fn renaming_changes_nothing()
     ensures { RenamingChangesNothing }
 {}
 
+/// The same interaction of two nets that differ in names alone leads to nets that differ in names alone, whatever the new agents are
+/// named in each.
+pub fn renamed_steps_are_renamed()
+    ensures { RenamedStepsAreRenamed }
+{}
+
 /// The initial net of a program is reached by no interaction.
 pub fn plain_starts()
     ensures { PlainStarts }
@@ -40,6 +46,11 @@ pub fn plain_starts()
 /// A step at an active pair, by its rule, leads from a net that is reached to one that is reached by one more.
 pub fn plain_steps()
     ensures { PlainSteps }
+{}
+
+/// .. also under other names of the new agents than `Plain` gives them.
+pub fn plain_steps_under_names()
+    ensures { PlainStepsUnderNames }
 {}
 
 /// Of an accepted program, what a step at an active pair leads to is one.

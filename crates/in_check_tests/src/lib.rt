@@ -11,3 +11,5 @@ mod of_plain;
 mod only;
 #[cfg(test)]
 mod reducing;
+#[cfg(test)]
+mod showing;

@@ -1,7 +1,7 @@
-use crate::reducing::{Order, Reduced, reduced, started};
+use crate::reducing::{Order, Reduced, ended, reduced, started};
 use in_check::Checked;
 use in_test_programs::{Look, seen};
-use in_test_texts::{ADDITION, DUPLICATION, ERASURE, SUMS};
+use in_test_texts::{ADDITION, DUPLICATION, ERASURE, SORTING, SUMS};
 use std::alloc::{AllocError, Global};
 
 /// How a program's net is reduced, first in, first out and with the newest pair first.
@@ -61,6 +61,86 @@ fn the_newest_pair_first_leaves_as_many_agents(rt: HostRuntime) {
         ),
         Some((Some((48, 25)), Some((48, 25))))
     );
+}
+
+/// The orders in which a net is reduced to compare what it comes to.
+const ORDERS: [Order; 6] = [
+    Order::FirstInFirstOut,
+    Order::NewestFirst,
+    Order::Seeded(1),
+    Order::Seeded(2),
+    Order::Seeded(3),
+    Order::Seeded(2_026),
+];
+
+/// Whether a net comes to its end by as many interactions in each order, and then to these terms at its free ends.
+#[derive(Clone, Copy)]
+struct EndsInEachOrder<'a> {
+    count: u32,
+    text: &'a str,
+}
+
+impl<'a> Look<bool> for EndsInEachOrder<'a> {
+    fn look(&self, alloc: Global, program: &Checked) -> Option<bool> {
+        self.ends_in_each(alloc, program, &ORDERS).ok()
+    }
+}
+
+impl<'a> EndsInEachOrder<'a> {
+    /// The same of one order, or want of memory.
+    fn ends_in(&self, alloc: Global, program: &Checked, order: Order) -> Result<bool, AllocError> {
+        match ended(alloc, program, order, 400)? {
+            Some((count, text)) => Ok(count == self.count && text.as_str() == self.text),
+            None => Ok(false),
+        }
+    }
+
+    /// The same of these orders.
+    fn ends_in_each(
+        &self,
+        alloc: Global,
+        program: &Checked,
+        orders: &[Order],
+    ) -> Result<bool, AllocError> {
+        for order in orders {
+            if !self.ends_in(alloc, program, *order)? {
+                return Ok(false);
+            }
+        }
+        Ok(true)
+    }
+}
+
+#[test]
+fn a_number_is_doubled_in_each_order(rt: HostRuntime) {
+    let look = EndsInEachOrder {
+        count: 48,
+        text: "S(S(S(S(S(S(S(S(S(S(S(S(S(S(S(S(S(S(S(S(S(S(S(S(Z))))))))))))))))))))))))\n",
+    };
+    let parts = [SUMS, ADDITION, DUPLICATION, DOUBLED];
+    assert_eq!(rt; seen(rt.alloc(), &parts, &look), Some(true));
+}
+
+#[test]
+fn sums_side_by_side_end_in_each_order(rt: HostRuntime) {
+    let net =
+        "net (r : nat+, s : nat+) { Add(x, r) ~ S(Z); Add(S(Z), x) ~ S(Z); s ~ Z; }\n";
+    let look = EndsInEachOrder {
+        count: 4,
+        text: "S(S(S(Z)))\nZ\n",
+    };
+    assert_eq!(rt; seen(rt.alloc(), &[SUMS, ADDITION, net], &look), Some(true));
+}
+
+#[test]
+fn numbers_are_sorted_in_each_order(rt: HostRuntime) {
+    let net =
+        "net (r : list+) { Cons(S(S(S(Z))), Cons(S(Z), Cons(Z, Cons(S(S(Z)), Nil)))) ~ Sort(r); }\n";
+    let look = EndsInEachOrder {
+        count: 31,
+        text: "Cons(Z, Cons(S(Z), Cons(S(S(Z)), Cons(S(S(S(Z))), Nil))))\n",
+    };
+    assert_eq!(rt; seen(rt.alloc(), &[SORTING, net], &look), Some(true));
 }
 
 #[test]

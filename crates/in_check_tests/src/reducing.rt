@@ -1,7 +1,8 @@
-//! Reducing a program's net, the pair that has waited longest first or the newest one.
+//! Reducing a program's net: the pair that has waited longest first, the newest one, or one that a seed picks.
 ghost use Rattle.std.specs.Prelude.{◌≡◌, IfOk, IfSome};
 ghost use Rattle.in_net.specs.ActivePairs.{IsActivePair};
 
+use crate::showing::written;
 use in_check::{Checked, Plain};
 use in_interaction::MOST_AGENTS;
 use in_net::AgentNo;
@@ -19,6 +20,7 @@ pub type Reduced = Option<(u32, u32)>;
 pub enum Order {
     FirstInFirstOut,
     NewestFirst,
+    Seeded(u32),
 }
 
 /// The pairs that waited and are still active, as they came, and then those that are new.
@@ -37,11 +39,18 @@ fn waiting_now(alloc: Global, waiting: &[Pair], active: &[Pair]) -> Result<Vec<P
     Ok(now)
 }
 
+/// A number below the bound that a seed picks in this turn.
+fn picked(seed: u32, turn: u32, bound: usize) -> usize {
+    let mixed = (seed as u64 * 48_271 + turn as u64 * 69_621) % 2_147_483_647;
+    mixed as usize % bound.max(1)
+}
+
 /// The next pair of those that wait, if there is one.
-fn next_of(waiting: &[Pair], order: Order) -> Option<Pair> {
+fn next_of(waiting: &[Pair], order: Order, turn: u32) -> Option<Pair> {
     let next = match order {
         Order::FirstInFirstOut => waiting.first()?,
         Order::NewestFirst => waiting.last()?,
+        Order::Seeded(seed) => waiting.get(picked(seed, turn, waiting.len()))?,
     };
     Some(*next)
 }
@@ -63,13 +72,14 @@ fn next_pair(
     plain: &Plain,
     waiting: &mut Vec<Pair>,
     order: Order,
+    turn: u32,
 ) -> Result<Option<Pair>, AllocError>
     requires { plain.now.program ≡ checked.now }
     ensures { IfOk result (λ found. IfSome found (λ q. IsActivePair checked.now.tables plain.now.net q)) }
 {
     let pairs = plain.net().active_pairs(alloc, checked.symbols())?;
     *waiting = waiting_now(alloc, waiting.as_slice(), pairs.as_slice())?;
-    let at = place_of(pairs.as_slice(), next_of(waiting.as_slice(), order));
+    let at = place_of(pairs.as_slice(), next_of(waiting.as_slice(), order, turn));
     match pairs.get(at) {
         Some(pair) => Ok(Some(*pair)),
         None => Ok(None),
@@ -83,11 +93,12 @@ pub fn step(
     plain: &mut Plain,
     waiting: &mut Vec<Pair>,
     order: Order,
+    turn: u32,
 ) -> Result<bool, AllocError>
     requires { plain.old.program ≡ checked.now }
     ensures { plain.new.program ≡ checked.now }
 {
-    let Some((a, b)) = next_pair(alloc, checked, plain, waiting, order)? else {
+    let Some((a, b)) = next_pair(alloc, checked, plain, waiting, order, turn)? else {
         return Ok(false);
     };
     let Some(symbol) = plain.net().symbol(a) else {
@@ -118,7 +129,7 @@ fn turned(
     requires { plain.old.program ≡ checked.now }
 {
     for steps in 0..turns {
-        if !step(alloc, checked, plain, waiting, order)? {
+        if !step(alloc, checked, plain, waiting, order, steps)? {
             return Ok(Some((steps, plain.net().agents())));
         }
     }
@@ -137,6 +148,20 @@ fn turned_anew(
 {
     let mut waiting = Vec::new(alloc);
     turned(alloc, checked, plain, &mut waiting, order, turns)
+}
+
+/// How many interactions there were until no active pair was left, and the text of the net then; nothing where the turns were not enough.
+pub fn ended(
+    alloc: Global,
+    checked: &Checked,
+    order: Order,
+    turns: u32,
+) -> Result<Option<(u32, String)>, AllocError> {
+    let mut plain = Plain::new(alloc, checked)?;
+    match turned_anew(alloc, checked, &mut plain, order, turns)? {
+        Some((count, _)) => Ok(Some((count, written(alloc, checked, &plain)?))),
+        None => Ok(None),
+    }
 }
 
 /// Reduces the program's net for so many turns at most.

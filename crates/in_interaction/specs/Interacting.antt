@@ -49,6 +49,12 @@ pub record AreNumberedByPoints (m : Parts) : Type 0 where
   pub rising : (v w : ℕ) (p q x y : Point) → v < w → wire_in m v ≡ Some (p, q) → wire_in m w ≡ Some (x, y) → ComesBefore p x
   pub nowhere : map (λ w. w.place) m.wires ≡ map (λ w. record { from = 0; to = 0; line = 0; col = 0 }) m.wires
 
+-- the net after the interaction, the new agents under any names that the old net doesn't have. It has the same free ends
+pub record InteractsAs (t : Tables) (n : Parts) (r : RuleParts) (a b : AgentNo) (name : ℕ → ℕ) (m : Parts) : Type 0 where
+  pub step : IsStep (signature_of t) (net_of n) (redex_at r a.0 b.0) name (net_of m)
+  pub over : IsOver t m
+  pub names : map (λ f. f.name) m.free ≡ map (λ f. f.name) n.free
+
 -- the net after the interaction, whichever tables the two are over: the new agents have the least numbers that the old net doesn't have,
 -- in the order of the right member. It has the same free ends, is no longer as built, and its wires are numbered anew
 pub record Interacts (n : Parts) (r : RuleParts) (a b : AgentNo) (m : Parts) : Type 0 where

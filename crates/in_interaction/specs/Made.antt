@@ -1,13 +1,12 @@
 -- The active pairs that an interaction makes. Lafont 1990: the right member takes the place of the active pair on the same boundary ends;
 -- where two principal ports come to one wire by this, a new active pair stands. Which of the two stands first, and the order of the new
--- pairs, is this project's own choice.
+-- pairs, is this project's own choice. All this is under any names of the new agents.
 use Rattle.std.specs.Prelude.{◌≡◌, ◌≢◌, ◌⊎◌, ◌<◌, ◌≤◌, ℕ, List, slice_get, Some}
 use Rattle.in_base.specs.Lists.{IsAmong}
 use Rattle.in_symbols.specs.Tables.{Tables}
 use Rattle.in_symbols.specs.declared.symbols.SymbolNo.{SymbolNo}
 use Rattle.in_net.specs.declared.nets.AgentNo.{AgentNo}
-use Rattle.in_net.specs.ActivePairs.{StandsFirst}
-use Rattle.in_interaction.specs.Interacting.{unused}
+use Rattle.in_net.specs.ActivePairs.{AreActive, StandsFirst}
 use Rattle.in_net.specs.Interactions.{Redex, Side, Alternates, wire_of, IsOfPair, end_agent, end_place, redex_at}
 use Rattle.in_net.specs.Nets.{Point, Port, Signature, Net, net_of, signature_of}
 use Rattle.in_net.specs.Parts.{Parts, symbol_in}
@@ -24,24 +23,35 @@ pub record IsLowestEnd {A B : Type 0} (sig : Signature) (n : Net A) (x : Redex A
   pub passed : PassesEnd sig n x name e u v
   pub lowest : (d : ℕ) → PassesEnd sig n x name d u v → e ≤ d
 
--- the agent stays and has this symbol, or it is a new one and has it in the right member
-abbrev pub HasSymbolAfter : Parts → RuleParts → AgentNo → AgentNo → AgentNo → SymbolNo → Type 0
-HasSymbolAfter n r a b y s =
-    ((y ≢ a) × (y ≢ b) × (symbol_in n y.0 ≡ Some s)) ⊎ ((k : ℕ) × (unused n.cells k ≡ y.0) × (symbol_in r.member k ≡ Some s))
+-- the agent stays and has this symbol, or it is a new one, under its name, and has it in the right member
+abbrev pub HasSymbolAfter : Parts → RuleParts → AgentNo → AgentNo → (ℕ → ℕ) → AgentNo → SymbolNo → Type 0
+HasSymbolAfter n r a b name y s =
+    ((y ≢ a) × (y ≢ b) × (symbol_in n y.0 ≡ Some s)) ⊎ ((k : ℕ) × (name k ≡ y.0) × (symbol_in r.member k ≡ Some s))
 
 -- the path between the principal ports of these two agents passes this boundary end and no lower one: then they are an active pair after
 -- the interaction of a and b, in this order
-pub record IsMade (t : Tables) (n : Parts) (r : RuleParts) (a b : AgentNo) (e : ℕ) (q : AgentNo × AgentNo) : Type 0 where
+pub record IsMade (t : Tables) (n : Parts) (r : RuleParts) (a b : AgentNo) (name : ℕ → ℕ) (e : ℕ) (q : AgentNo × AgentNo) : Type 0 where
   pub first : SymbolNo
   pub second : SymbolNo
-  pub one : HasSymbolAfter n r a b q.0 first
-  pub two : HasSymbolAfter n r a b q.1 second
-  pub path : IsLowestEnd (signature_of t) (net_of n) (redex_at r a.0 b.0) (unused n.cells) e (Port q.0.0 0) (Port q.1.0 0)
+  pub one : HasSymbolAfter n r a b name q.0 first
+  pub two : HasSymbolAfter n r a b name q.1 second
+  pub path : IsLowestEnd (signature_of t) (net_of n) (redex_at r a.0 b.0) name e (Port q.0.0 0) (Port q.1.0 0)
   pub order : StandsFirst t first second q.0 q.1
 
 -- these are all of them, each once, in the order of the lowest boundary ends
-pub record AreMade (t : Tables) (n : Parts) (r : RuleParts) (a b : AgentNo) (qs : List (AgentNo × AgentNo)) : Type 0 where
-  pub each : (k : ℕ) (q : AgentNo × AgentNo) → slice_get qs k ≡ Some q → (e : ℕ) × IsMade t n r a b e q
-  pub all : (e : ℕ) (q : AgentNo × AgentNo) → IsMade t n r a b e q → (k : ℕ) × (slice_get qs k ≡ Some q)
+pub record AreMade (t : Tables) (n : Parts) (r : RuleParts) (a b : AgentNo) (name : ℕ → ℕ) (qs : List (AgentNo × AgentNo)) : Type 0 where
+  pub each : (k : ℕ) (q : AgentNo × AgentNo) → slice_get qs k ≡ Some q → (e : ℕ) × IsMade t n r a b name e q
+  pub all : (e : ℕ) (q : AgentNo × AgentNo) → IsMade t n r a b name e q → (k : ℕ) × (slice_get qs k ≡ Some q)
   pub rising : (j k d e : ℕ) (p q : AgentNo × AgentNo) → j < k → slice_get qs j ≡ Some p → slice_get qs k ≡ Some q →
-      IsMade t n r a b d p → IsMade t n r a b e q → d < e
+      IsMade t n r a b name d p → IsMade t n r a b name e q → d < e
+
+-- two new agents that are an active pair in the right member already, so that no boundary end is on their wire
+pub record IsOwn (t : Tables) (r : RuleParts) (name : ℕ → ℕ) (q : AgentNo × AgentNo) : Type 0 where
+  pub inner : AgentNo × AgentNo
+  pub active : AreActive r.member inner.0 inner.1
+  pub first : SymbolNo
+  pub second : SymbolNo
+  pub one : symbol_in r.member inner.0.0 ≡ Some first
+  pub two : symbol_in r.member inner.1.0 ≡ Some second
+  pub named : (name inner.0.0 ≡ q.0.0) × (name inner.1.0 ≡ q.1.0)
+  pub order : StandsFirst t first second q.0 q.1

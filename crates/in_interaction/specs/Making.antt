@@ -81,17 +81,17 @@ principal_of (coded_point.Free k) = None
 
 -- an agent's symbol after the interaction, if it is there
 abbrev pub IsSymbolAfter : SiteParts → AgentNo → Option SymbolNo → Type 0
-IsSymbolAfter s y None = (z : SymbolNo) → HasSymbolAfter s.net s.rule s.one s.two y z → ⊥
-IsSymbolAfter s y (Some z) = HasSymbolAfter s.net s.rule s.one s.two y z
+IsSymbolAfter s y None = (z : SymbolNo) → HasSymbolAfter s.net s.rule s.one s.two (unused s.net.cells) y z → ⊥
+IsSymbolAfter s y (Some z) = HasSymbolAfter s.net s.rule s.one s.two (unused s.net.cells) y z
 
 -- the one pair whose lowest boundary end this is, if there is one
 abbrev pub IsPairAt : Tables → SiteParts → ℕ → Option (AgentNo × AgentNo) → Type 0
-IsPairAt t s e None = (q : AgentNo × AgentNo) → IsMade t s.net s.rule s.one s.two e q → ⊥
-IsPairAt t s e (Some p) = IsMade t s.net s.rule s.one s.two e p × ((q : AgentNo × AgentNo) → IsMade t s.net s.rule s.one s.two e q → q ≡ p)
+IsPairAt t s e None = (q : AgentNo × AgentNo) → IsMade t s.net s.rule s.one s.two (unused s.net.cells) e q → ⊥
+IsPairAt t s e (Some p) = IsMade t s.net s.rule s.one s.two (unused s.net.cells) e p × ((q : AgentNo × AgentNo) → IsMade t s.net s.rule s.one s.two (unused s.net.cells) e q → q ≡ p)
 
 -- the pairs that are made with lowest boundary ends below this one, in their order
 pub record AreMadeBelow (t : Tables) (s : SiteParts) (end : ℕ) (qs : List (AgentNo × AgentNo)) : Type 0 where
-  pub each : (k : ℕ) (q : AgentNo × AgentNo) → slice_get qs k ≡ Some q → (e : ℕ) × (e < end) × IsMade t s.net s.rule s.one s.two e q
-  pub all : (e : ℕ) (q : AgentNo × AgentNo) → e < end → IsMade t s.net s.rule s.one s.two e q → (k : ℕ) × (slice_get qs k ≡ Some q)
+  pub each : (k : ℕ) (q : AgentNo × AgentNo) → slice_get qs k ≡ Some q → (e : ℕ) × (e < end) × IsMade t s.net s.rule s.one s.two (unused s.net.cells) e q
+  pub all : (e : ℕ) (q : AgentNo × AgentNo) → e < end → IsMade t s.net s.rule s.one s.two (unused s.net.cells) e q → (k : ℕ) × (slice_get qs k ≡ Some q)
   pub rising : (j k d e : ℕ) (p q : AgentNo × AgentNo) → j < k → slice_get qs j ≡ Some p → slice_get qs k ≡ Some q →
-      IsMade t s.net s.rule s.one s.two d p → IsMade t s.net s.rule s.one s.two e q → d < e
+      IsMade t s.net s.rule s.one s.two (unused s.net.cells) d p → IsMade t s.net s.rule s.one s.two (unused s.net.cells) e q → d < e

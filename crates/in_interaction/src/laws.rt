@@ -1,6 +1,6 @@
 //! Laws of what an interaction makes of a net, and of active pairs, for whoever reasons above them. No function here does anything.
 
-ghost use Rattle.in_interaction.specs.OutcomeLaws.{InteractionsAreOne, PairsAreListedOnce, MadePairsAreListedOnce, PairsAreKeptOrMade, PairsAreApart};
+ghost use Rattle.in_interaction.specs.OutcomeLaws.{InteractionsAreOne, LeastNumbersAreNames, PairsAreListedOnce, MadePairsAreListedOnce, PairsAreKeptOrMade, PairsAreApart};
 
 /// The net after an interaction is determined by the net before, the rule and the pair, the numbers of its wires included.
 pub fn interactions_are_one()
@@ -12,12 +12,13 @@ pub fn pairs_are_listed_once()
     ensures { PairsAreListedOnce }
 {}
 
-/// The list of the active pairs that an interaction makes is determined by the tables, the net, the rule and the pair.
+/// The list of the active pairs that an interaction makes is determined by the tables, the net, the rule, the pair and the new agents' names.
 pub fn made_pairs_are_listed_once()
     ensures { MadePairsAreListedOnce }
 {}
 
-/// The active pairs after an interaction are those of other agents, and the pairs that it makes.
+/// The active pairs after an interaction, whatever the new agents' names are, are those of other agents, the pairs that it makes, and the
+/// right member's own.
 pub fn pairs_are_kept_or_made()
     ensures { PairsAreKeptOrMade }
 {}
@@ -25,4 +26,9 @@ pub fn pairs_are_kept_or_made()
 /// An agent is in at most one active pair.
 pub fn pairs_are_apart()
     ensures { PairsAreApart }
+{}
+
+/// What `interact` does is an interaction under the least numbers that the net doesn't have.
+pub fn least_numbers_are_names()
+    ensures { LeastNumbersAreNames }
 {}

@@ -1,5 +1,5 @@
 ghost use Rattle.std.specs.Prelude.{◌≡◌, ◌≢◌, ◌<◌, length, IfOk};
-ghost use Rattle.in_interaction.specs.Interacting.{MayInteract, CanInteract};
+ghost use Rattle.in_interaction.specs.Interacting.{unused, MayInteract, CanInteract};
 ghost use Rattle.in_net.specs.Interactions.{other};
 ghost use Rattle.in_interaction.specs.Made.{AreMade};
 ghost use Rattle.in_interaction.specs.Making.{side_of, Over, LeadsTo, IsLanding, principal_of, IsSymbolAfter, IsPairAt};
@@ -140,7 +140,7 @@ pub fn made(
 ) -> Result<SmallVec<(AgentNo, AgentNo), 16>, AllocError>
     requires may { MayInteract net.now rule.now a b }
     requires over { CanInteract symbols.now net.now rule.now a b }
-    ensures { IfOk result (λ pairs. AreMade symbols.now net.now rule.now a b pairs.items) }
+    ensures { IfOk result (λ pairs. AreMade symbols.now net.now rule.now a b (unused net.now.cells) pairs.items) }
 {
     let right = rule.member();
     let names = unused(alloc, net.cells(), rule.member_cells().len())?;

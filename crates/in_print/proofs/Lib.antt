@@ -1,7 +1,8 @@
-mod Depths
+pub mod Depths
 pub mod Fronts
 mod LineByLine
 mod Looking
 mod Numbering
 mod Remaining
+pub mod SameTexts
 mod Texts

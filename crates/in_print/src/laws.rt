@@ -1,9 +1,14 @@
-//! A law over the text of a machine's net. No function here does anything.
+//! Laws over the text of a machine's net. No function here does anything.
 
-ghost use Rattle.in_print.specs.Laws.{TextsHoldAll};
+ghost use Rattle.in_print.specs.Laws.{TextsAreSame, TextsHoldAll};
 
 /// The text of a machine's net holds each agent once and each variable twice, and nothing else of the kind: so it is as deep as its
 /// terms need.
 pub fn texts_hold_all()
     ensures { TextsHoldAll }
+{}
+
+/// The text doesn't tell which numbers agents have: machines that are the same up to them have one text.
+pub fn texts_are_same()
+    ensures { TextsAreSame }
 {}

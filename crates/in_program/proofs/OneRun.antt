@@ -1,31 +1,29 @@
 -- A program's run comes to one end: two accepted programs of one text differ at most in the table of their rules, of which a run says nothing.
-use Rattle.std.proofs.Common.{◌≡◌, ◌≤◌, ℕ, zero, suc, List, sym, ap, ◌∙◌, subst, arith}
+use Rattle.std.proofs.Common.{◌≡◌, ◌≤◌, ℕ, zero, suc, List, map, ap, ◌∙◌, subst, arith}
 use Rattle.in_arena.specs.declared.content.CellClass.{CellClass}
 use Rattle.in_arena.specs.declared.content.CellClass.TheVariants.{Small, Large}
 use Rattle.in_cover.specs.Table.{Cells}
 use Rattle.in_net.specs.declared.nets.AgentNo.{AgentNo}
+use Rattle.in_net.specs.Built.{IsOver}
+use Rattle.in_net.specs.Nets.{net_of}
 use Rattle.in_net.specs.Parts.{Parts}
-use Rattle.in_interaction.specs.Listing.{unlisted}
 use Rattle.in_net.specs.Rules.{RuleParts}
 use Rattle.in_symbols.specs.Tables.{Tables}
 use Rattle.in_check.specs.Checking.{IsAccepted}
 use Rattle.in_check.specs.Laws.{AreOneProgram}
-use Rattle.in_check.specs.Plain.{IsPlain, IsPairAt, IsRuleAt}
+use Rattle.in_check.specs.Plain.{IsPairAt, IsRuleAt}
 use Rattle.in_check.specs.Programs.{Program}
-use Rattle.in_check.proofs.Reached.Plain.{starts}
+use Rattle.in_check.specs.Runs.{IsRenamed}
 use Rattle.in_run.specs.declared.cells.Need.{Need}
 use Rattle.in_run.specs.declared.limits.Limits.{Limits}
 use Rattle.in_run.specs.declared.stops.Stop.{Stop}
 use Rattle.in_run.specs.declared.stops.Stop.TheVariants.{Normal, Limit, Full}
-use Rattle.in_run.specs.Limiting.{most_cells}
-use Rattle.in_run.specs.Machines.{MachineParts, IsMachine, IsQueueOf, parts_of, plain_of, agents_of}
-use Rattle.in_run.specs.Runs.{StepsAt, NeedsAt, Runs, at_start, then_step, IsStop, IsOutcome, AreInOrder, IsStart, DoesNotFit}
-use Rattle.in_run.proofs.Accepted.{net_over}
-use Rattle.in_run.proofs.Ended.{is_machine}
-use Rattle.in_run.proofs.OneOutcome.{one_outcome}
-use Rattle.in_run.proofs.OneStart.{one_start}
-use Rattle.in_run.proofs.Unlisted.{plain_bare}
-use Rattle.in_print.specs.Texts.{text_of}
+use Rattle.in_run.specs.Machines.{MachineParts, parts_of, plain_of, agents_of}
+use Rattle.in_run.specs.Runs.{StepsAt, NeedsAt, Runs, at_start, then_step, IsStop, IsOutcome, IsFirstQueue, IsStart, DoesNotFit}
+use Rattle.in_run.proofs.SameRun.{machine_runs, same_outcome}
+use Rattle.in_run.proofs.SameStart.{count_at, same_start, start_machine}
+use Rattle.in_print.proofs.SameTexts.{same_texts}
+use Rattle.in_run.specs.Texts.{text_of}
 
 -- ---- another table of rules
 
@@ -51,6 +49,7 @@ module _ (ns : Cells) where
     stands = s.stands;
     active = pair_kept m _ _ s.active;
     room = (s.room.0, need_kept m i s.room.0 s.room.1, s.room.2, s.room.3);
+    name = s.name;
     step = record {
       number = s.step.number;
       rule = s.step.rule;
@@ -60,6 +59,8 @@ module _ (ns : Cells) where
     };
     made = s.made;
     new = s.new;
+    own = s.own;
+    inner = s.inner;
     queue = s.queue;
     cells = s.cells;
   }
@@ -84,10 +85,13 @@ module _ (p q : Program) (same : AreOneProgram p q) where
   start_kept cells m h = record {
     program = ap (numbered q.numbers) h.program
         ∙ (λ i. record { tables = same.tables i; rules = same.rules i; net = same.net i; numbers = q.numbers; rule_certificates = same.rule_certificates i; net_certificate = same.net_certificate i });
-    agents = h.agents ∙ ap (λ (n : Parts). n.cells) same.net;
-    free = h.free ∙ ap (λ (n : Parts). n.free) same.net;
-    queue = subst (λ (t : Tables). IsQueueOf t (parts_of m) m.queue) same.tables h.queue;
-    order = subst (λ (n : Parts). AreInOrder n m.queue) same.net h.order;
+    over = subst (λ (t : Tables). IsOver t (parts_of m)) same.tables h.over;
+    name = h.name;
+    net = subst (λ (n : Parts). IsRenamed h.name (net_of n) (net_of (parts_of m))) same.net h.net;
+    names = h.names ∙ ap (λ (n : Parts). map (λ f. f.name) n.free) same.net;
+    first = h.first;
+    pairs = subst (λ (t : Tables). IsFirstQueue t q.net h.first) same.tables (subst (λ (n : Parts). IsFirstQueue p.tables n h.first) same.net h.pairs);
+    queue = h.queue;
     counted = h.counted;
   }
 
@@ -95,10 +99,7 @@ module _ (p q : Program) (same : AreOneProgram p q) where
   same_agents c = (λ i. agents_of (same.tables i) c (same.net i).cells)
 
 fits : (p : Program) (cells : ℕ) (m : MachineParts) (c : CellClass) → IsStart p cells m → agents_of p.tables c p.net.cells ≤ cells
-fits p cells m c h =
-    let same : agents_of m.program.tables c m.agents ≡ agents_of p.tables c p.net.cells = (λ i. agents_of (h.program i).tables c (h.agents i)) in
-    let count = h.counted c in
-    omega (arith, same, count)
+fits p cells m c h = let count = count_at p cells m h c in omega (arith, count)
 
 pub starts_or_not : (p q : Program) → AreOneProgram p q → (cells : ℕ) (m : MachineParts) (c : CellClass) (need free : ℕ) → IsStart p cells m → DoesNotFit q cells c need free → ⊥
 starts_or_not p q same cells m Small need free h (is, all, less) = let f = fits p cells m Small h in let a = same_agents p q same Small in omega (arith, is, all, less, f, a)
@@ -108,7 +109,8 @@ pub one_run : (text : List ℕ) (p q : Program) (l : Limits) (m n o r : MachineP
     → (text_of n ≡ text_of r) × (j ≡ k) × (s ≡ t)
 one_run text p q l m n o r j k s t same accepted start run other end =
     let first = start_kept p q same l.cells m start in
-    let is = one_start text q l.cells (renumbered q.numbers m) o accepted first other in
-    let whole = subst (λ z. IsOutcome z l.limit (renumbered q.numbers n) j s) is (outcome_kept q.numbers m l.limit n j s run) in
-    let one = one_outcome o (is_machine text q accepted l.cells o other l.most) l.limit (renumbered q.numbers n) r j k s t whole end in
-    (ap text_of one.0, one.1, one.2)
+    let machine = start_machine text q accepted l.cells (renumbered q.numbers m) first l.most in
+    let whole = outcome_kept q.numbers m l.limit n j s run in
+    let one =
+    same_outcome (renumbered q.numbers m) o machine (start_machine text q accepted l.cells o other l.most) (same_start text q accepted l.cells (renumbered q.numbers m) o first other) l.limit (renumbered q.numbers n) r j k s t whole end in
+    (same_texts (renumbered q.numbers n) r (machine_runs (renumbered q.numbers m) (renumbered q.numbers n) j machine whole.run) one.0.0 one.0.1, one.1, one.2)

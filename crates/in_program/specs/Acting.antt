@@ -10,10 +10,11 @@ use Rattle.in_check.specs.Checking.{IsAccepted, IsRefused}
 use Rattle.in_check.specs.Programs.{Program, counts_of}
 use Rattle.in_arena.specs.declared.content.CellClass.{CellClass}
 use Rattle.in_print.specs.Devices.{Device, Moves}
-use Rattle.in_print.specs.Texts.{text_of}
+use Rattle.in_run.specs.Texts.{text_of}
 use Rattle.in_run.specs.declared.stops.Stop.{Stop}
 use Rattle.in_run.specs.declared.stops.Stop.TheVariants.{Normal, Limit, Full}
 use Rattle.in_run.specs.Machines.{MachineParts}
+use Rattle.in_order.specs.Ends.{Ends}
 use Rattle.in_run.specs.Runs.{IsStart, DoesNotFit, IsOutcome}
 use Rattle.in_program.specs.Devices.{Reader, Gives, Fails, BreaksWithin, IsEnough}
 use Rattle.in_program.specs.Lines.{accepted_line, refused_line, memory_line, run_lines, start_line}
@@ -82,12 +83,19 @@ abbrev pub status_of : Report → Status
 status_of (accepted p f) = finding_status f
 status_of (refused r) = status 1
 
+-- where a run ends normally, its lines are those of each run of the program that ends, whatever the order of its interactions: its text and
+-- its count
+abbrev pub IsOfEachEnd : Action → List ℕ → List ℕ → Status → Type 0
+IsOfEachEnd (Run l) text lines s = s ≡ status 0 → (p : Program) → IsAccepted text p → (k : ℕ) (written : List ℕ) → Ends p k written → lines ≡ written ++ run_lines k Normal
+IsOfEachEnd a text lines s = Unit {0}
+
 -- the lines and the status are those of what is said of the text
 pub record IsReply (a : Action) (text lines : List ℕ) (s : Status) : Type 0 where
   pub report : Report
   pub so : IsReport a text report
   pub lines_are : lines ≡ lines_of text report
   pub status_is : s ≡ status_of report
+  pub any_order : IsOfEachEnd a text lines s
 
 -- the line of want of memory, and its status
 abbrev pub WantsMemory : List ℕ → Status → Type 0

@@ -1,6 +1,6 @@
 ghost use Rattle.std.specs.Prelude.{ℕ, ◌≡◌, ◌-◌, ◌^◌, ◌<◌, ◌++◌, IfOk, OnErr};
 ghost use Rattle.in_print.specs.Devices.{device};
-ghost use Rattle.in_print.specs.Texts.{text_of};
+ghost use Rattle.in_run.specs.Texts.{text_of};
 ghost use Rattle.in_program.specs.Acting.{Acts, IsReply, Tells, TellsOne, TellsUsage, memory_status, AreFound, AreThese, status, stop_status};
 ghost use Rattle.in_program.specs.Devices.{reader_of};
 ghost use Rattle.in_program.specs.Lines.{memory_line, refused_line, run_lines, start_line};

@@ -5,9 +5,16 @@ use Rattle.in_net.specs.declared.nets.AgentNo.{AgentNo}
 use Rattle.in_net.specs.declared.nets.Point.{Point}
 use Rattle.in_net.specs.declared.nets.Point.TheVariants.{Port}
 use Rattle.in_net.specs.ActivePairs.{AreActive, IsActivePair}
+use Rattle.in_net.specs.Nets.{IsNet, net_of, point_of, coded_point, signature_of}
 use Rattle.in_net.specs.Parts.{Parts, partner_in}
 use Rattle.in_net.proofs.ActivePairs.{flipped, one_partner}
+use Rattle.in_net.proofs.OneNet.{round_code, map_is}
+use Rattle.in_interaction.proofs.Stepping.Partners.{net_wire}
 use Rattle.in_run.specs.Machines.{agents_at, numbers_of}
+
+-- the partner's partner, point by point of the code
+pub back_in : (t : Tables) (n : Parts) → IsNet (signature_of t) (net_of n) → (u v : Point) → partner_in n u ≡ Some v → partner_in n v ≡ Some u
+back_in t n net u v e = ap (partner_in n) (sym (round_code v)) ∙ map_is (partner_in n (coded_point (point_of v))) (point_of u) (net.back (point_of u) (point_of v) (net_wire n u v e)) ∙ ap (λ (z : Point). Some z) (round_code u)
 
 pub same_numbers : (p q : ℕ × ℕ) → agents_at p ≡ agents_at q → p ≡ q
 same_numbers p q e = ap numbers_of e

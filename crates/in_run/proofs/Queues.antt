@@ -13,11 +13,11 @@ use Rattle.in_net.specs.declared.nets.Cell.{Cell}
 use Rattle.in_net.specs.declared.nets.Point as coded
 use Rattle.in_net.specs.declared.nets.Point.TheVariants as code
 use Rattle.in_net.specs.ActivePairs.{AreActive, IsActivePair}
-use Rattle.in_net.specs.Nets.{Port, IsNet, net_of, point_of, coded_point, signature_of}
+use Rattle.in_net.specs.Nets.{Port, IsNet, net_of, point_of, signature_of}
 use Rattle.in_net.specs.Parts.{Parts, cell_in, symbol_in, partner_in}
 use Rattle.in_interaction.specs.Pieces.{AreDifferent}
 use Rattle.in_net.proofs.PairPorts.{symbol_of}
-use Rattle.in_net.proofs.OneNet.{round_code, map_is}
+use Rattle.in_net.proofs.OneNet.{map_is}
 use Rattle.in_interaction.proofs.Stepping.Partners.{net_wire}
 use Rattle.in_check.specs.NetText.{IsQueue, agents_of}
 use Rattle.in_check.specs.Programs.{Program}
@@ -26,8 +26,8 @@ use Rattle.in_check.specs.Systems.{system_of}
 use Rattle.in_check.proofs.Reached.Counts.{few}
 use Rattle.in_check.proofs.Reached.Plain.{promised}
 use Rattle.in_run.specs.Machines as machines
-use Rattle.in_run.specs.Machines.{MachineParts, IsMachine, IsQueueOf, HasCells, agents_at, numbers_of, takes, parts_of, plain_of}
-use Rattle.in_run.proofs.Apart.{apart, same_numbers}
+use Rattle.in_run.specs.Machines.{MachineParts, IsMachine, IsQueueOf, agents_at, takes, parts_of, plain_of}
+use Rattle.in_run.proofs.Apart.{apart, back_in, same_numbers}
 use Rattle.in_run.proofs.Ordered.{stands, stands_other}
 
 -- ---- the agents of a net, by number
@@ -142,7 +142,7 @@ module _ (p : Program) (n : Parts) (promised : IsAsPromised (system_of p) (net_o
   net = promised.typed.0
 
   pub back_of : (u v : coded.Point) → partner_in n u ≡ Some v → partner_in n v ≡ Some u
-  back_of u v e = ap (partner_in n) (sym (round_code v)) ∙ map_is (partner_in n (coded_point (point_of v))) (point_of u) (net.back (point_of u) (point_of v) (net_wire n u v e)) ∙ ap (λ (z : coded.Point). Some z) (round_code u)
+  back_of = back_in p.tables n net
 
   pub alone_of : (u : coded.Point) → partner_in n u ≢ Some u
   alone_of u e = net.apart (point_of u) (net_wire n u u e)

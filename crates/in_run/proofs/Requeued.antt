@@ -1,35 +1,34 @@
 -- The queue after an interaction is one of the net after it.
-use Rattle.std.proofs.Common.{◌≡◌, ◌≢◌, ◌⊎◌, inl, inr, ◌<◌, ◌+◌, ℕ, zero, suc, Bool, true, false, cond, Option, Some, None, List, [], ◌∷◌, ◌++◌, length, map, remove, slice_get, refl, sym, ap, subst, ◌∙◌, arith}
-use Rattle.std.specs.Prelude.{option_map, option_and_then}
+use Rattle.std.proofs.Common.{◌≡◌, ◌≢◌, ◌⊎◌, inl, inr, ◌<◌, ◌+◌, ℕ, zero, suc, Option, Some, None, List, [], ◌∷◌, ◌++◌, length, map, remove, slice_get, refl, sym, ap, subst, ◌∙◌, arith}
+use Rattle.std.specs.Prelude.{option_map}
 use Rattle.std.proofs.lemmas.Option.{same_Some}
-use Rattle.in_base.specs.Lists.{IsAmong}
 use Rattle.in_symbols.specs.Tables.{Tables}
 use Rattle.in_symbols.specs.declared.symbols.SymbolNo.{SymbolNo}
 use Rattle.in_net.specs.declared.nets.AgentNo.{AgentNo}
-use Rattle.in_net.specs.declared.nets.Cell.{Cell}
+use Rattle.in_net.specs.declared.nets.Point.TheVariants as code
 use Rattle.in_net.specs.ActivePairs.{IsActivePair}
-use Rattle.in_interaction.specs.Interacting.{unused, CanInteract, Interacts}
-use Rattle.in_net.specs.Interactions.{Side, Outer, Inner, Alternates, IsNaming, IsOfPair, wire_of, stands_for, redex_at, of_first, end_agent, end_place}
-use Rattle.in_net.specs.Nets.{Point, Port, Free, net_of, point_of, signature_of}
-use Rattle.in_net.specs.Parts.{Parts, IsWhole, cell_in}
+use Rattle.in_interaction.specs.Interacting.{CanInteract, InteractsAs}
+use Rattle.in_net.specs.Interactions.{Outer, Inner, InnerWire, IsNaming, redex_at}
+use Rattle.in_net.specs.Nets.{Port, IsNet, net_of, signature_of}
+use Rattle.in_net.specs.Parts.{Parts, symbol_in}
 use Rattle.in_net.specs.Rules.{RuleParts}
-use Rattle.in_net.proofs.PairPorts.{port_agent, port_place}
 use Rattle.in_base.proofs.Places.{kept_at}
-use Rattle.in_interaction.proofs.Stepping.Making.{agent_same}
 use Rattle.in_check.proofs.Reached.FromText.{of_mapped, to_mapped}
-use Rattle.in_run.specs.Machines.{agents_at, numbers_of, IsQueueOf}
-use Rattle.in_interaction.specs.Made.{IsMade, AreMade}
-use Rattle.in_interaction.specs.OutcomeLaws.{HoldsNoPair, IsOtherPair}
-use Rattle.in_run.proofs.Apart.{apart}
-use Rattle.in_interaction.proofs.Stepping.KeptOrMade.{kept_or_made}
+use Rattle.in_check.proofs.Reached.Signs.{AreOpposed, stands_anywhere}
+use Rattle.in_run.specs.Machines.{agents_at, numbers_of, both, IsQueueOf}
+use Rattle.in_interaction.specs.Made.{AreMade, IsOwn}
+use Rattle.in_interaction.specs.OutcomeLaws.{IsOtherPair}
+use Rattle.in_run.proofs.Apart.{apart, back_in}
+use Rattle.in_interaction.proofs.Stepping.KeptOrMade.{kept_or_made, not_made}
+use Rattle.in_interaction.proofs.Stepping.Partners.{net_wire}
 
 -- ---- lists
 
 module _ {X : Type 0} where
-  abbrev StandOnce : List X → Type 0
+  abbrev pub StandOnce : List X → Type 0
   StandOnce xs = (j k : ℕ) (x : X) → slice_get xs j ≡ Some x → slice_get xs k ≡ Some x → j ≡ k
 
-  was_there : (xs : List X) (i k : ℕ) (x : X) → slice_get (remove xs i) k ≡ Some x → (j : ℕ) × (j ≢ i) × (slice_get xs j ≡ Some x)
+  pub was_there : (xs : List X) (i k : ℕ) (x : X) → slice_get (remove xs i) k ≡ Some x → (j : ℕ) × (j ≢ i) × (slice_get xs j ≡ Some x)
   was_there [] zero k x e = cc
   was_there [] (suc i) k x e = cc
   was_there (y ∷ ys) zero k x e = (suc k, (λ f. (omega (arith, f))), e)
@@ -70,71 +69,70 @@ module _ {X : Type 0} where
       go (inr a) (inl b) = absurd (none k a.0 x b a.2)
       go (inr a) (inr b) = let c = two a.0 b.0 x a.2 b.2 in let d = a.1 in let g = b.1 in omega (arith, c, d, g)
 
--- ---- a pair that was there is not made
+as_number : (n : Parts) (x : ℕ) (s : SymbolNo) → symbol_in n x ≡ Some s → (net_of n).symbol x ≡ Some s.0
+as_number n x s e = ap (option_map (λ (s : SymbolNo). s.0)) e
 
-module _ (t : Tables) (n : Parts) (r : RuleParts) (a b : AgentNo) (naming : IsNaming (net_of n) (redex_at r a.0 b.0) (unused n.cells)) where
-  has_symbol : (k i : ℕ) (q : Point ℕ) → (net_of r.member).partner (Port k i) ≡ Some q → (s : ℕ) × ((net_of r.member).symbol k ≡ Some s)
-  has_symbol k i q e = go (cell_in r.member k) refl e
-    where
-      go : (o : Option Cell) → cell_in r.member k ≡ o → option_map point_of (option_and_then (λ c. slice_get c.ends i) o) ≡ Some q → (s : ℕ) × ((net_of r.member).symbol k ≡ Some s)
-      go None is f = cc
-      go (Some c) is f = (c.symbol.0, ap (λ (o : Option Cell). option_map (λ (s : SymbolNo). s.0) (option_map (λ (c : Cell). c.symbol) o)) is)
+-- ---- the other pairs of a queue
 
-  no_place : (e : ℕ) → end_place (signature_of t) (redex_at r a.0 b.0) e ≡ 0 → ⊥
-  no_place e = go (of_first (signature_of t) (redex_at r a.0 b.0) e) _ _
-    where
-      go : (v : Bool) (x y : ℕ) → cond v (suc x) (suc y) ≡ 0 → ⊥
-      go true x y h = omega (arith, h)
-      go false x y h = omega (arith, h)
-
-  module _ (q : AgentNo × AgentNo) (other : IsOtherPair t n a b q) where
-    active : (net_of n).partner (Port q.0.0 0) ≡ Some (Port q.1.0 0)
-    active = ap (option_map point_of) other.0.active
-
-    not_inside : (p s : Point ℕ) → stands_for (signature_of t) (redex_at r a.0 b.0) (unused n.cells) p ≡ Port q.0.0 0 → (net_of r.member).partner p ≡ Some s → ⊥
-    not_inside (Port k i) s e f =
-        let symbol = has_symbol k i s f in
-        let none = naming.fresh k symbol.0 symbol.1 in
-        let name : unused n.cells k ≡ q.0.0 = port_agent _ _ _ _ e in
-        let z : ◌≡◌ {A = Option ℕ} None (Some other.0.first.0) = sym none ∙ ap (net_of n).symbol name ∙ ap (option_map (λ (s : SymbolNo). s.0)) other.0.one in
-        cc
-    not_inside (Free e) s f g = no_place e (port_place _ _ _ _ f)
-
-    pub not_made : (e : ℕ) → IsMade t n r a b e q → ⊥
-    not_made e h = go h.path.passed.0 h.path.passed.1 h.path.passed.2 h.path.passed.3
-      where
-        go : (side : Side) (es : List (Point ℕ)) → Alternates (wire_of (signature_of t) (net_of n) (redex_at r a.0 b.0) (unused n.cells)) (IsOfPair (redex_at r a.0 b.0)) side (Port q.0.0 0) es (Port q.1.0 0) →
-            IsAmong (Port (end_agent (signature_of t) (redex_at r a.0 b.0) e) (end_place (signature_of t) (redex_at r a.0 b.0) e)) es → ⊥
-        go side [] path among = absurd among
-        go Outer (f ∷ fs) path among =
-            let same : Port q.1.0 0 ≡ f = same_Some (Port q.1.0 0) f (sym active ∙ path.0) in
-            elim (subst (IsOfPair (redex_at r a.0 b.0)) (sym same) path.1) [
-              | inl e ↦ other.3 (agent_same q.1 a e)
-              | inr e ↦ other.4 (agent_same q.1 b e)
-            ]
-        go Inner (f ∷ fs) path among = not_inside path.0.0 path.0.1 path.0.2 path.0.4
-
--- ---- the queue after
-
-module _ (t : Tables) (n : Parts) (r : RuleParts) (a b : AgentNo) (m : Parts) (made : List (AgentNo × AgentNo)) (qs : List (ℕ × ℕ)) (i : ℕ) (whole : IsWhole n) (member : IsWhole r.member) (can : CanInteract t n r a b)
-    (act : Interacts n r a b m) (none : HoldsNoPair r.member) (are_made : AreMade t n r a b made) (queue : IsQueueOf t n qs) (stands : slice_get qs i ≡ Some (a.0, b.0)) where
-  kept : (q : AgentNo × AgentNo) → (IsActivePair t m q → IsOtherPair t n a b q ⊎ ((k : ℕ) × (slice_get made k ≡ Some q))) × (IsOtherPair t n a b q ⊎ ((k : ℕ) × (slice_get made k ≡ Some q)) → IsActivePair t m q)
-  kept q = kept_or_made t n r a b m made whole member can act none are_made q
-
-  naming : IsNaming (net_of n) (redex_at r a.0 b.0) (unused n.cells)
-  naming = (act.step t can).naming
-
-  -- what is left of the queue are pairs of other agents
-  others : (k : ℕ) (q : ℕ × ℕ) → slice_get qs k ≡ Some q → k ≢ i → IsOtherPair t n a b (agents_at q)
-  others k q e ne = (h, (λ f. gone (inl f)), (λ f. gone (inr (inl f))), (λ f. gone (inr (inr (inl f)))), (λ f. gone (inr (inr (inr f)))))
+module _ (t : Tables) (n : Parts) (a b : AgentNo) (qs : List (ℕ × ℕ)) (i : ℕ) (net : IsNet (signature_of t) (net_of n)) (queue : IsQueueOf t n qs) (stands : slice_get qs i ≡ Some (a.0, b.0)) where
+  pub other_pair : (k : ℕ) (q : ℕ × ℕ) → slice_get qs k ≡ Some q → k ≢ i → IsOtherPair t n a b (agents_at q)
+  other_pair k q e ne = (h, (λ f. gone (inl f)), (λ f. gone (inr (inl f))), (λ f. gone (inr (inr (inl f)))), (λ f. gone (inr (inr (inr f)))))
     where
       h : IsActivePair t n (agents_at q)
       h = queue.pairs k q e
 
       gone : ((agents_at q).0 ≡ a) ⊎ ((agents_at q).0 ≡ b) ⊎ ((agents_at q).1 ≡ a) ⊎ ((agents_at q).1 ≡ b) → ⊥
       gone f =
-          let same : agents_at q ≡ (a, b) = apart t n whole.back (agents_at q) (a, b) h (queue.pairs i (a.0, b.0) stands) f in
+          let same : agents_at q ≡ (a, b) = apart t n (back_in t n net) (agents_at q) (a, b) h (queue.pairs i (a.0, b.0) stands) f in
           ne (queue.once k i q e (stands ∙ ap (λ (z : AgentNo × AgentNo). Some (numbers_of z)) (sym same)))
+
+-- ---- the queue after
+
+module _ (t : Tables) (n : Parts) (r : RuleParts) (a b : AgentNo) (name : ℕ → ℕ) (m : Parts) (made : List (AgentNo × AgentNo)) (own qs : List (ℕ × ℕ)) (i : ℕ) (net : IsNet (signature_of t) (net_of n)) (inside : IsNet (signature_of t) (net_of r.member))
+    (can : CanInteract t n r a b) (act : InteractsAs t n r a b name m) (opposed : AreOpposed t r.member) (are_made : AreMade t n r a b name made) (inner : IsQueueOf t r.member own) (queue : IsQueueOf t n qs) (stands : slice_get qs i ≡ Some (a.0, b.0)) where
+  abbrev Made : AgentNo × AgentNo → Type 0
+  Made q = (k : ℕ) × (slice_get made k ≡ Some q)
+
+  kept : (q : AgentNo × AgentNo) → (IsActivePair t m q → IsOtherPair t n a b q ⊎ Made q ⊎ IsOwn t r name q) × (IsOtherPair t n a b q ⊎ Made q ⊎ IsOwn t r name q → IsActivePair t m q)
+  kept q = kept_or_made t n r a b name m made net inside can act are_made q
+
+  naming : IsNaming (net_of n) (redex_at r a.0 b.0) name
+  naming = act.step.naming
+
+  -- what is left of the queue are pairs of other agents
+  others : (k : ℕ) (q : ℕ × ℕ) → slice_get qs k ≡ Some q → k ≢ i → IsOtherPair t n a b (agents_at q)
+  others = other_pair t n a b qs i net queue stands
+
+  -- ---- the right member's own
+
+  own_pair : (k : ℕ) (q : ℕ × ℕ) → slice_get own k ≡ Some q → IsOwn t r name (agents_at (both name q))
+  own_pair k q e =
+      let h = inner.pairs k q e in
+      let x = (agents_at q).0 in
+      let y = (agents_at q).1 in
+      let z = agents_at (both name q) in
+      record { inner = agents_at q; active = h.active; first = h.first; second = h.second; one = h.one; two = h.two; named = (refl, refl); order = stands_anywhere t r.member x y x y h.first h.second opposed h.active h.one h.two h.order z.0 z.1 }
+
+  of_own : (q : AgentNo × AgentNo) → IsOwn t r name q → (k : ℕ) × (slice_get (map (both name) own) k ≡ Some (numbers_of q))
+  of_own q h =
+      let pair : IsActivePair t r.member h.inner =
+      record { active = h.active; first = h.first; second = h.second; one = h.one; two = h.two; order = stands_anywhere t r.member h.inner.0 h.inner.1 q.0 q.1 h.first h.second opposed h.active h.one h.two h.order h.inner.0 h.inner.1 } in
+      let k = inner.all h.inner pair in
+      (k.0, to_mapped (both name) own k.0 (numbers_of h.inner) k.1 ∙ ap (λ (z : ℕ). Some (z, name h.inner.1.0)) h.named.0 ∙ ap (λ (z : ℕ). Some (q.0.0, z)) h.named.1)
+
+  own_once : StandOnce (map (both name) own)
+  own_once j k q e f =
+      let x = of_mapped (both name) own j q e in
+      let y = of_mapped (both name) own k q f in
+      let g = inner.pairs j x.0 x.1 in
+      let h = inner.pairs k y.0 y.1 in
+      let named : both name x.0 ≡ both name y.0 = x.2 ∙ sym y.2 in
+      let one : x.0.0 ≡ y.0.0 = naming.apart x.0.0 y.0.0 g.first.0 h.first.0 (as_number r.member x.0.0 g.first g.one) (as_number r.member y.0.0 h.first h.one) (ap (λ (z : ℕ × ℕ). z.0) named) in
+      let two : x.0.1 ≡ y.0.1 = naming.apart x.0.1 y.0.1 g.second.0 h.second.0 (as_number r.member x.0.1 g.second g.two) (as_number r.member y.0.1 h.second h.two) (ap (λ (z : ℕ × ℕ). z.1) named) in
+      let same : x.0 ≡ y.0 = ap (λ (z : ℕ). let w : ℕ × ℕ = (z, x.0.1) in w) one ∙ ap (λ (z : ℕ). let w : ℕ × ℕ = (y.0.0, z) in w) two in
+      inner.once j k y.0 (x.1 ∙ ap (λ (z : ℕ × ℕ). Some z) same) y.1
+
+  -- ---- each once
 
   made_once : StandOnce made
   made_once j k q e f = go (let o : (j ≡ k) ⊎ (j < k) ⊎ (k < j) = grind arith in o)
@@ -151,30 +149,78 @@ module _ (t : Tables) (n : Parts) (r : RuleParts) (a b : AgentNo) (m : Parts) (m
       let same : x.0 ≡ y.0 = ap agents_at (x.2 ∙ sym y.2) in
       made_once j k x.0 x.1 (y.1 ∙ ap (λ (z : AgentNo × AgentNo). Some z) (sym same))
 
-  apart_lists : (j k : ℕ) (q : ℕ × ℕ) → slice_get (remove qs i) j ≡ Some q → slice_get (map numbers_of made) k ≡ Some q → ⊥
-  apart_lists j k q e f =
-      let x = was_there qs i j q e in
-      let y = of_mapped numbers_of made k q f in
-      let is : slice_get made k ≡ Some (agents_at q) = y.1 ∙ ap (λ (z : ℕ × ℕ). Some (agents_at z)) y.2 in
-      let h = are_made.each k (agents_at q) is in
-      not_made t n r a b naming (agents_at q) (others x.0 q x.2 x.1) h.0 h.1
+  made_at : (k : ℕ) (q : ℕ × ℕ) → slice_get (map numbers_of made) k ≡ Some q → Made (agents_at q)
+  made_at k q f = let y = of_mapped numbers_of made k q f in (k, y.1 ∙ ap (λ (z : ℕ × ℕ). Some (agents_at z)) y.2)
 
-  pub is_queue_after : IsQueueOf t m (remove qs i ++ map numbers_of made)
-  is_queue_after = record { pairs = pairs; all = all; once = append_once (remove qs i) (map numbers_of made) (remove_once qs i queue.once) mapped_once apart_lists }
+  own_at : (k : ℕ) (q : ℕ × ℕ) → slice_get (map (both name) own) k ≡ Some q → IsOwn t r name (agents_at q)
+  own_at k q f = let y = of_mapped (both name) own k q f in subst (λ (z : ℕ × ℕ). IsOwn t r name (agents_at z)) y.2 (own_pair k y.0 y.1)
+
+  old_and_made : (j k : ℕ) (q : ℕ × ℕ) → slice_get (remove qs i) j ≡ Some q → slice_get (map numbers_of made) k ≡ Some q → ⊥
+  old_and_made j k q e f =
+      let x = was_there qs i j q e in
+      let y = made_at k q f in
+      let h = are_made.each y.0 (agents_at q) y.1 in
+      let g = others x.0 q x.2 x.1 in
+      not_made t n r a b name m net inside can act Outer (agents_at q) (net_wire n (code.Port (agents_at q).0 0) (code.Port (agents_at q).1 0) g.0.active) h.0 h.1
+
+  old_and_own : (j k : ℕ) (q : ℕ × ℕ) → slice_get (remove qs i) j ≡ Some q → slice_get (map (both name) own) k ≡ Some q → ⊥
+  old_and_own j k q e f =
+      let x = was_there qs i j q e in
+      let g = others x.0 q x.2 x.1 in
+      let h = own_at k q f in
+      let none : (net_of n).symbol q.0 ≡ None = ap (net_of n).symbol (sym h.named.0) ∙ naming.fresh h.inner.0.0 h.first.0 (as_number r.member h.inner.0.0 h.first h.one) in
+      let z : ◌≡◌ {A = Option ℕ} None (Some g.0.first.0) = sym none ∙ as_number n q.0 g.0.first g.0.one in
+      cc
+
+  made_and_own : (j k : ℕ) (q : ℕ × ℕ) → slice_get (map numbers_of made) j ≡ Some q → slice_get (map (both name) own) k ≡ Some q → ⊥
+  made_and_own j k q e f =
+      let y = made_at j q e in
+      let g = are_made.each y.0 (agents_at q) y.1 in
+      let h = own_at k q f in
+      let wire : InnerWire (signature_of t) (redex_at r a.0 b.0) name (Port q.0 0) (Port q.1 0) =
+      (Port h.inner.0.0 0, Port h.inner.1.0 0, ap (λ (z : ℕ). Port z 0) h.named.0, ap (λ (z : ℕ). Port z 0) h.named.1, net_wire r.member (code.Port h.inner.0 0) (code.Port h.inner.1 0) h.active) in
+      not_made t n r a b name m net inside can act Inner (agents_at q) wire g.0 g.1
+
+  old_and_new : (j k : ℕ) (q : ℕ × ℕ) → slice_get (remove qs i) j ≡ Some q → slice_get (map numbers_of made ++ map (both name) own) k ≡ Some q → ⊥
+  old_and_new j k q e f = elim (in_part (map numbers_of made) (map (both name) own) k q f) [ inl g ↦ old_and_made j k q e g | inr g ↦ old_and_own j g.0 q e g.2 ]
+
+  pub is_queue_after : IsQueueOf t m (remove qs i ++ (map numbers_of made ++ map (both name) own))
+  is_queue_after = record {
+    pairs = pairs;
+    all = all;
+    once = append_once (remove qs i) (map numbers_of made ++ map (both name) own) (remove_once qs i queue.once) (append_once (map numbers_of made) (map (both name) own) mapped_once own_once made_and_own) old_and_new;
+  }
     where
-      pairs : (k : ℕ) (q : ℕ × ℕ) → slice_get (remove qs i ++ map numbers_of made) k ≡ Some q → IsActivePair t m (agents_at q)
-      pairs k q e = elim (in_part (remove qs i) (map numbers_of made) k q e) [
-        | inl f ↦ (let x = was_there qs i k q f in (kept (agents_at q)).1 (inl (others x.0 q x.2 x.1)))
-        | inr f ↦ (let y = of_mapped numbers_of made f.0 q f.2 in (kept (agents_at q)).1 (inr (f.0, y.1 ∙ ap (λ (z : ℕ × ℕ). Some (agents_at z)) y.2)))
+      new : (k : ℕ) (q : ℕ × ℕ) → slice_get (map numbers_of made ++ map (both name) own) k ≡ Some q → IsActivePair t m (agents_at q)
+      new k q e = elim (in_part (map numbers_of made) (map (both name) own) k q e) [
+        | inl f ↦ (kept (agents_at q)).1 (inr (inl (made_at k q f)))
+        | inr f ↦ (kept (agents_at q)).1 (inr (inr (own_at f.0 q f.2)))
       ]
 
-      all : (q : AgentNo × AgentNo) → IsActivePair t m q → (k : ℕ) × (slice_get (remove qs i ++ map numbers_of made) k ≡ Some (numbers_of q))
+      pairs : (k : ℕ) (q : ℕ × ℕ) → slice_get (remove qs i ++ (map numbers_of made ++ map (both name) own)) k ≡ Some q → IsActivePair t m (agents_at q)
+      pairs k q e = elim (in_part (remove qs i) (map numbers_of made ++ map (both name) own) k q e) [
+        | inl f ↦ (let x = was_there qs i k q f in (kept (agents_at q)).1 (inl (others x.0 q x.2 x.1)))
+        | inr f ↦ new f.0 q f.2
+      ]
+
+      all : (q : AgentNo × AgentNo) → IsActivePair t m q → (k : ℕ) × (slice_get (remove qs i ++ (map numbers_of made ++ map (both name) own)) k ≡ Some (numbers_of q))
       all q h = elim ((kept q).0 h) [
         | inl o ↦ (
             let k = queue.all q o.0 in
             let ne : k.0 ≢ i = λ f. o.1 (ap (λ (z : ℕ × ℕ). (agents_at z).0) (same_Some (numbers_of q) (a.0, b.0) (sym k.1 ∙ ap (slice_get qs) f ∙ stands))) in
             let j = still_there qs i k.0 (numbers_of q) k.1 ne in
-            (j.0, kept_at (remove qs i) (map numbers_of made) j.0 (numbers_of q) j.1)
+            (j.0, kept_at (remove qs i) (map numbers_of made ++ map (both name) own) j.0 (numbers_of q) j.1)
             )
-        | inr o ↦ (length (remove qs i) + o.0, in_second (remove qs i) (map numbers_of made) o.0 (numbers_of q) (to_mapped numbers_of made o.0 q o.1))
+        | inr o ↦ elim o [
+          | inl g ↦ (
+            length (remove qs i) + g.0,
+            in_second (remove qs i) (map numbers_of made ++ map (both name) own) g.0 (numbers_of q) (kept_at (map numbers_of made) (map (both name) own) g.0 (numbers_of q) (to_mapped numbers_of made g.0 q g.1)),
+          )
+          | inr g ↦ (
+              let k = of_own q g in (
+                length (remove qs i) + (length (map numbers_of made) + k.0),
+                in_second (remove qs i) (map numbers_of made ++ map (both name) own) (length (map numbers_of made) + k.0) (numbers_of q) (in_second (map numbers_of made) (map (both name) own) k.0 (numbers_of q) k.1),
+              )
+              )
+        ]
       ]

@@ -1,18 +1,19 @@
 -- A machine at its program's net.
-use Rattle.std.proofs.Common.{◌≡◌, ◌≤◌, ◌-◌, ℕ, List, refl, sym, subst, arith}
+use Rattle.std.proofs.Common.{◌≡◌, ◌≤◌, ◌-◌, ℕ, List, [], ◌∷◌, map, refl, sym, ap, subst, arith}
 use Rattle.in_arena.specs.declared.content.CellClass.TheVariants.{Small, Large}
 use Rattle.in_symbols.specs.Tables.{Tables}
 use Rattle.in_net.specs.Parts.{Parts}
 use Rattle.in_check.specs.Checking.{IsAccepted}
 use Rattle.in_check.specs.Plain.{PlainParts}
 use Rattle.in_check.specs.Programs.{Program}
-use Rattle.in_check.proofs.Reached.Plain.{starts}
+use Rattle.in_net.specs.Nets.{net_of}
+use Rattle.in_check.proofs.Reached.Plain.{renamed_self, starts}
 use Rattle.in_run.specs.Inside.{IsKept}
 use Rattle.in_run.specs.Limiting.{most_cells}
-use Rattle.in_run.specs.Machines.{MachineParts, IsMachine, IsQueueOf, HasCells, agents_at, agents_of}
+use Rattle.in_run.specs.Machines.{MachineParts, IsMachine, IsQueueOf, HasCells, agents_at, agents_of, both}
 use Rattle.in_run.specs.Runs.{AreInOrder, IsStart}
 use Rattle.in_run.proofs.Accepted.{net_over, net_whole}
-use Rattle.in_run.proofs.Unlisted.{bare, pair_bare, pair_full, plain_bare}
+use Rattle.in_run.proofs.Unlisted.{bare, over_bare, pair_bare, pair_full, plain_bare}
 
 pub queue_bare : (t : Tables) (n : Parts) (qs : List (ℕ × ℕ)) → IsQueueOf t n qs → IsQueueOf t (bare n) qs
 queue_bare t n qs h = record {
@@ -27,6 +28,11 @@ queue_full t n qs h = record {
   all = λ q a. h.all q (pair_bare t n q a);
   once = h.once;
 }
+
+-- as they are numbered
+pub map_self : (qs : List (ℕ × ℕ)) → map (both (λ x. x)) qs ≡ qs
+map_self [] = refl
+map_self (q ∷ qs) = ap (λ (zs : List (ℕ × ℕ)). q ∷ zs) (map_self qs)
 
 abbrev pub machine_at : Program → Parts → List (ℕ × ℕ) → ℕ → ℕ → MachineParts
 machine_at p n queue small large = record { program = p; agents = n.cells; free = n.free; queue = queue; small = small; large = large }
@@ -55,4 +61,14 @@ module _ (text : List ℕ) (p : Program) (accepted : IsAccepted text p) (cells s
     pub is_start : IsStart p cells (machine_at p plain.net queue (cells - small) (cells - large))
     is_start =
         subst (λ (n : Parts). IsStart p cells (machine_at p n queue (cells - small) (cells - large))) (sym net)
-        (record { program = refl; agents = refl; free = refl; queue = queue_bare p.tables p.net queue pairs; order = order; counted = counted })
+        (record {
+          program = refl;
+          over = over_bare p.tables p.net (net_over text p accepted);
+          name = λ x. x;
+          net = renamed_self (net_of p.net);
+          names = refl;
+          first = queue;
+          pairs = record { pairs = pairs; order = order };
+          queue = sym (map_self queue);
+          counted = counted;
+        })

@@ -1,24 +1,27 @@
 -- One interaction of a machine: what it leaves is a machine again.
-use Rattle.std.proofs.Common.{◌≡◌, ◌≤◌, ◌+◌, ℕ, suc, List, ◌++◌, length, length-append, map, remove, count_by, is_some, Some, slice_get, refl, sym, ap, subst, ◌∙◌, arith}
-use Rattle.std.proofs.lemmas.List.{length-map}
+use Rattle.std.proofs.Common.{◌≡◌, ◌≤◌, ◌+◌, ℕ, suc, List, [], ◌++◌, length, length-append, map, remove, count_by, is_some, Some, slice_get, refl, sym, ap, subst, ◌∙◌, arith}
+use Rattle.std.proofs.lemmas.List.{append-nil, length-map}
 use Rattle.std.proofs.lemmas.List.Edits.{length-remove}
 use Rattle.std.proofs.lemmas.Option.{same_Some, slice_get_within}
 use Rattle.in_arena.specs.declared.content.CellClass.{CellClass}
 use Rattle.in_arena.specs.declared.content.CellClass.TheVariants.{Small, Large}
 use Rattle.in_symbols.specs.Tables.{Tables}
 use Rattle.in_net.specs.declared.nets.AgentNo.{AgentNo}
-use Rattle.in_interaction.specs.Interacting.{most_agents, CanInteract, Interacts}
+use Rattle.in_net.specs.ActivePairs.{AreActive}
+use Rattle.in_interaction.specs.Interacting.{unused, most_agents, CanInteract, Interacts, InteractsAs}
 use Rattle.in_net.specs.Parts.{Parts, IsWhole}
 use Rattle.in_net.specs.Rules.{RuleParts}
 use Rattle.in_check.specs.Checking.{IsAccepted}
 use Rattle.in_check.specs.Plain.{PlainParts, IsPlain, IsPairAt, IsReachedBy, IsRuleAt, StepsTo}
 use Rattle.in_check.specs.Programs.{Program}
+use Rattle.in_net.proofs.OneNet.{is_net}
+use Rattle.in_interaction.proofs.Stepping.KeptOrMade.{least_are_names}
 use Rattle.in_check.proofs.Reached.Plain.{fits, steps}
 use Rattle.in_run.specs.Inside.{IsKept, heads_taking}
 use Rattle.in_run.specs.Limiting.{most_cells}
-use Rattle.in_run.specs.Machines.{MachineParts, IsMachine, IsQueueOf, HasCells, agents_at, agents_of, free_of, numbers_of, plain_of}
+use Rattle.in_run.specs.Machines.{MachineParts, IsMachine, IsQueueOf, HasCells, agents_at, agents_of, both, free_of, numbers_of, plain_of}
 use Rattle.in_interaction.specs.Made.{IsMade, AreMade}
-use Rattle.in_run.specs.Runs.{HasRoomAt, StepsAt}
+use Rattle.in_run.specs.Runs.{HasRoomAt, IsFirstQueue, StepsAt}
 use Rattle.in_run.proofs.Accepted.{member_whole, no_pair, one_rule}
 use Rattle.in_run.proofs.Queues.{few_agents, short_queue}
 use Rattle.in_run.proofs.Replaced.{counted}
@@ -28,19 +31,26 @@ use Rattle.in_run.proofs.Unlisted.{bare, with_net, plain_bare, plain_full, at_fu
 
 -- ---- the pairs that it makes, without the list of wires
 
-module _ (t : Tables) (n : Parts) (r : RuleParts) (a b : AgentNo) where
-  one_bare : (e : ℕ) (q : AgentNo × AgentNo) → IsMade t n r a b e q → IsMade t (bare n) r a b e q
+module _ (t : Tables) (n : Parts) (r : RuleParts) (a b : AgentNo) (name : ℕ → ℕ) where
+  one_bare : (e : ℕ) (q : AgentNo × AgentNo) → IsMade t n r a b name e q → IsMade t (bare n) r a b name e q
   one_bare e q h = record { first = h.first; second = h.second; one = h.one; two = h.two; path = h.path; order = h.order }
 
-  one_full : (e : ℕ) (q : AgentNo × AgentNo) → IsMade t (bare n) r a b e q → IsMade t n r a b e q
+  one_full : (e : ℕ) (q : AgentNo × AgentNo) → IsMade t (bare n) r a b name e q → IsMade t n r a b name e q
   one_full e q h = record { first = h.first; second = h.second; one = h.one; two = h.two; path = h.path; order = h.order }
 
-  made_bare : (made : List (AgentNo × AgentNo)) → AreMade t n r a b made → AreMade t (bare n) r a b made
+  made_bare : (made : List (AgentNo × AgentNo)) → AreMade t n r a b name made → AreMade t (bare n) r a b name made
   made_bare made h = record {
     each = λ k q e. (let f = h.each k q e in (f.0, one_bare f.0 q f.1));
     all = λ e q f. h.all e q (one_full e q f);
     rising = λ j k d e p q l x y f g. h.rising j k d e p q l x y (one_full d p f) (one_full e q g);
   }
+
+-- a net without an active pair has an empty queue
+no_queue : (t : Tables) (n : Parts) → ((x y : AgentNo) → AreActive n x y → ⊥) → IsFirstQueue t n []
+no_queue t n none = record {
+  pairs = record { pairs = λ k q e. cc; all = λ q h. absurd (none q.0 q.1 h.active); once = λ j k q e f. cc };
+  order = λ j k v w p q l e f g h. cc;
+}
 
 -- ---- the machine after
 
@@ -64,13 +74,20 @@ module _ (text : List ℕ) (p : Program) (accepted : IsAccepted text p) (n m : P
       let two : need.large ≡ agents_of p.tables Large r.member.cells = at.is_need.large ∙ ap (λ (z : RuleParts). agents_of p.tables Large z.member.cells) rule in
       (omega (arith, one, s), omega (arith, two, l))
 
-  module _ (to : StepsTo (with_net p n) a b (with_net p m)) (made : List (AgentNo × AgentNo)) (are_made : AreMade p.tables n r a b made) (s l : ℕ)
+  module _ (to : StepsTo (with_net p n) a b (with_net p m)) (made : List (AgentNo × AgentNo)) (are_made : AreMade p.tables n r a b (unused n.cells) made) (s l : ℕ)
       (one : s + agents_of p.tables Small r.member.cells ≡ small + heads_taking p.tables Small r) (two : l + agents_of p.tables Large r.member.cells ≡ large + heads_taking p.tables Large r) where
     abbrev after : MachineParts
     after = machine_at p m (remove qs i ++ map numbers_of made) s l
 
     act : Interacts n r a b m
     act = subst (λ (z : RuleParts). Interacts n z a b m) (one_rule text p accepted (with_net p n) a b to.number k to.rule r refl to.is_rule is) to.acts
+
+    acts : InteractsAs p.tables n r a b (unused n.cells) m
+    acts = least_are_names p.tables n r a b m can act
+
+    -- the right member has no pair of its own
+    whole_queue : remove qs i ++ (map numbers_of made ++ map (both (unused n.cells)) []) ≡ remove qs i ++ map numbers_of made
+    whole_queue = ap (λ (z : List (ℕ × ℕ)). remove qs i ++ z) (append-nil (map numbers_of made))
 
     cells_kept : (c : CellClass) → free_of after c + agents_of p.tables c m.cells ≡ free_of (machine_at p n qs small large) c + agents_of p.tables c n.cells
     cells_kept Small = let e = counted p.tables n r a b m whole.apart can act Small in omega (arith, e, one)
@@ -82,10 +99,13 @@ module _ (text : List ℕ) (p : Program) (accepted : IsAccepted text p) (n m : P
       stands = stands;
       active = at;
       room = free;
-      step = record { number = k; rule = r; is_rule = rule_bare p n a b k r is; acts = acts_bare n m r a b act; program = refl };
+      name = unused n.cells;
+      step = record { number = k; rule = r; is_rule = rule_bare p n a b k r is; acts = acts_bare p.tables n m r a b (unused n.cells) acts; program = refl };
       made = made;
-      new = made_bare p.tables n r a b made are_made;
-      queue = refl;
+      new = made_bare p.tables n r a b (unused n.cells) made are_made;
+      own = [];
+      inner = no_queue p.tables r.member (no_pair text p accepted k r is.stands);
+      queue = sym whole_queue;
       cells = cells_kept;
     }
 
@@ -93,7 +113,9 @@ module _ (text : List ℕ) (p : Program) (accepted : IsAccepted text p) (n m : P
     counted_after c = cells_kept c ∙ h.cells.2 c
 
     queued_after : IsQueueOf p.tables m (remove qs i ++ map numbers_of made)
-    queued_after = is_queue_after p.tables n r a b m made qs i whole (member_whole text p accepted k r is.stands) can act (no_pair text p accepted k r is.stands) are_made (queue_full p.tables n qs h.queue) stands
+    queued_after =
+        subst (IsQueueOf p.tables m) whole_queue (is_queue_after p.tables n r a b (unused n.cells) m made [] qs i (is_net p.tables n whole can.net) (is_net p.tables r.member (member_whole text p accepted k r is.stands) can.rule.member)
+        can acts (λ x y c d active. absurd (no_pair text p accepted k r is.stands x y active)) are_made (no_queue p.tables r.member (no_pair text p accepted k r is.stands)).pairs (queue_full p.tables n qs h.queue) stands)
 
     pub is_machine_after : IsMachine after
     is_machine_after = record {
@@ -155,10 +177,10 @@ module _ (p : Program) (plain : PlainParts) (qs : List (ℕ × ℕ)) (small larg
         subst (λ (t : Tables). CanInteract t y r q.0 q.1) (sym e)
         (subst (λ (y : Parts). CanInteract p.tables y r q.0 q.1) (sym f) (can h.machine.accepted.0 p accepted plain.net plain.net qs small large i q.0 q.1 h.machine h.whole stands_here at_here k r is))
 
-    module _ (after : PlainParts) (to : StepsTo plain q.0 q.1 after) (made : List (AgentNo × AgentNo)) (t : Tables) (y : Parts) (e : t ≡ p.tables) (f : y ≡ plain.net) (made_there : AreMade t y r q.0 q.1 made) (s l : ℕ)
+    module _ (after : PlainParts) (to : StepsTo plain q.0 q.1 after) (made : List (AgentNo × AgentNo)) (t : Tables) (y : Parts) (e : t ≡ p.tables) (f : y ≡ plain.net) (made_there : AreMade t y r q.0 q.1 (unused y.cells) made) (s l : ℕ)
         (one : s + agents_of p.tables Small r.member.cells ≡ small + heads_taking p.tables Small r) (two : l + agents_of p.tables Large r.member.cells ≡ large + heads_taking p.tables Large r) where
-      are_made : AreMade p.tables plain.net r q.0 q.1 made
-      are_made = subst (λ (t : Tables). AreMade t plain.net r q.0 q.1 made) e (subst (λ (y : Parts). AreMade t y r q.0 q.1 made) f made_there)
+      are_made : AreMade p.tables plain.net r q.0 q.1 (unused plain.net.cells) made
+      are_made = subst (λ (t : Tables). AreMade t plain.net r q.0 q.1 (unused plain.net.cells) made) e (subst (λ (y : Parts). AreMade t y r q.0 q.1 (unused y.cells) made) f made_there)
 
       program : after.program ≡ p
       program = to.program ∙ h.program

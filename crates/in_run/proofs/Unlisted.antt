@@ -1,14 +1,14 @@
 -- A net and the same without its list of wires: what is said of one holds of the other.
-use Rattle.std.proofs.Common.{ℕ, refl}
+use Rattle.std.proofs.Common.{ℕ}
 use Rattle.in_symbols.specs.Tables.{Tables}
 use Rattle.in_net.specs.declared.nets.AgentNo.{AgentNo}
 use Rattle.in_net.specs.ActivePairs.{IsActivePair}
 use Rattle.in_net.specs.Built.{IsOver}
-use Rattle.in_interaction.specs.Interacting.{CanInteract, Interacts}
+use Rattle.in_interaction.specs.Interacting.{CanInteract, InteractsAs}
 use Rattle.in_interaction.specs.Listing.{unlisted}
 use Rattle.in_net.specs.Parts.{Parts}
 use Rattle.in_net.specs.Rules.{RuleParts}
-use Rattle.in_check.specs.Plain.{PlainParts, IsPlain, IsPairAt, IsRuleAt, StepsTo}
+use Rattle.in_check.specs.Plain.{PlainParts, IsPlain, IsPairAt, IsRuleAt}
 use Rattle.in_check.specs.Programs.{Program}
 
 abbrev pub bare : Parts → Parts
@@ -56,16 +56,5 @@ module _ (p : Program) (n : Parts) where
   rule_full a b k r h = record { stands = h.stands; over = h.over; declared = h.declared; one = h.one; two = h.two }
 
 -- an interaction, without the lists of wires
-pub acts_bare : (n m : Parts) (r : RuleParts) (a b : AgentNo) → Interacts n r a b m → Interacts (bare n) r a b (bare m)
-acts_bare n m r a b h = record {
-  step = λ t can. h.step t (can_full t n r a b can);
-  over = λ t can. over_bare t m (h.over t (can_full t n r a b can));
-  numbers = h.numbers;
-  names = h.names;
-  wires = record { turned = λ w p q e. cc; rising = λ v w p q x y l e f. cc; nowhere = refl };
-  places = refl;
-  built = refl;
-}
-
-pub steps_bare : (p : Program) (n m : Parts) (a b : AgentNo) → StepsTo (with_net p n) a b (with_net p m) → StepsTo (with_net p (bare n)) a b (with_net p (bare m))
-steps_bare p n m a b h = record { number = h.number; rule = h.rule; is_rule = rule_bare p n a b h.number h.rule h.is_rule; acts = acts_bare n m h.rule a b h.acts; program = refl }
+pub acts_bare : (t : Tables) (n m : Parts) (r : RuleParts) (a b : AgentNo) (name : ℕ → ℕ) → InteractsAs t n r a b name m → InteractsAs t (bare n) r a b name (bare m)
+acts_bare t n m r a b name h = record { step = h.step; over = over_bare t m h.over; names = h.names }

@@ -4,4 +4,7 @@ pub mod Laws
 pub mod Limiting
 pub mod Machines
 pub mod Outcomes
+pub mod Rounds
 pub mod Runs
+pub mod Same
+pub mod Texts

@@ -43,6 +43,10 @@ agents_at q = (record { 0 = q.0 }, record { 0 = q.1 })
 abbrev pub numbers_of : AgentNo × AgentNo → ℕ × ℕ
 numbers_of q = (q.0.0, q.1.0)
 
+-- two agents under other numbers
+abbrev pub both : (ℕ → ℕ) → ℕ × ℕ → ℕ × ℕ
+both f q = (f q.0, f q.1)
+
 -- the point that an end stands for, a cell having the number of its agent
 abbrev pub point_at : End → points.Point
 point_at (end.Cell c i) = point.Port (record { 0 = c.0 }) i

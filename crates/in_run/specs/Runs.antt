@@ -1,5 +1,6 @@
 -- One interaction of a machine, runs of them, first in, first out, and how a run stops. Lafont 1990: an interaction replaces an active pair
--- by the right member of its rule. Which pair comes first, cells and stops are this project's own choice.
+-- by the right member of its rule, and nets are taken up to the names of their agents. Which pair comes first, cells and stops are this
+-- project's own choice; which numbers agents have is left open.
 use Rattle.std.specs.Prelude.{◌≡◌, ◌≢◌, ◌<◌, ◌≤◌, ◌+◌, ℕ, zero, suc, List, [], ◌++◌, length, map, Option, Some, slice_get, remove, Result, Ok, Err}
 use Rattle.in_arena.specs.declared.content.CellClass.{CellClass}
 use Rattle.in_arena.specs.declared.content.CellClass.TheVariants.{Small, Large}
@@ -7,16 +8,19 @@ use Rattle.in_symbols.specs.Tables.{Tables}
 use Rattle.in_net.specs.declared.nets.AgentNo.{AgentNo}
 use Rattle.in_net.specs.declared.nets.Cell.{Cell}
 use Rattle.in_net.specs.declared.nets.Point.TheVariants.{Port}
+use Rattle.in_net.specs.Built.{IsOver}
+use Rattle.in_net.specs.Nets.{net_of}
 use Rattle.in_net.specs.Parts.{Parts, IsWireBetween}
 use Rattle.in_net.specs.Rules.{RuleParts}
-use Rattle.in_check.specs.Plain.{IsPairAt, IsRuleAt, StepsTo}
+use Rattle.in_check.specs.Plain.{IsPairAt, IsRuleAt, StepsAs}
 use Rattle.in_check.specs.Programs.{Program}
+use Rattle.in_check.specs.Runs.{IsRenamed}
 use Rattle.in_run.specs.declared.cells.Need.{Need}
 use Rattle.in_run.specs.declared.stops.Stop.{Stop}
 use Rattle.in_run.specs.declared.stops.Stop.TheVariants.{Normal, Limit, Full}
 use Rattle.in_run.specs.declared.stops.StartFault.{StartFault}
 use Rattle.in_run.specs.declared.stops.StartFault.TheVariants as start
-use Rattle.in_run.specs.Machines.{MachineParts, parts_of, plain_of, agents_at, numbers_of, agents_of, free_of, HasCells, IsQueueOf}
+use Rattle.in_run.specs.Machines.{MachineParts, parts_of, plain_of, agents_at, numbers_of, both, agents_of, free_of, HasCells, IsQueueOf}
 use Rattle.in_interaction.specs.Made.{AreMade}
 
 -- ---- what an interaction needs
@@ -44,22 +48,7 @@ abbrev pub IsShortAt : MachineParts → ℕ → CellClass → ℕ → ℕ → Ty
 IsShortAt m i Small need free = (n : Need) × NeedsAt m i n × (need ≡ n.small) × (free ≡ m.small) × (free < need)
 IsShortAt m i Large need free = (n : Need) × NeedsAt m i n × (need ≡ n.large) × (free ≡ m.large) × (free < need) × (n.small ≤ m.small)
 
--- ---- one interaction
-
--- the interaction of the active pair of that number, as `Plain` has it, where its cells are free: the pair leaves the queue, and the new
--- pairs come last, by the lowest boundary ends on their paths. Of each class there are as many cells after as before
-pub record StepsAt (m : MachineParts) (i : ℕ) (after : MachineParts) : Type 0 where
-  pub pair : ℕ × ℕ
-  pub stands : slice_get m.queue i ≡ Some pair
-  pub active : IsPairAt (plain_of m) (agents_at pair).0 (agents_at pair).1
-  pub room : HasRoomAt m i
-  pub step : StepsTo (plain_of m) (agents_at pair).0 (agents_at pair).1 (plain_of after)
-  pub made : List (AgentNo × AgentNo)
-  pub new : AreMade m.program.tables (parts_of m) step.rule (agents_at pair).0 (agents_at pair).1 made
-  pub queue : after.queue ≡ remove m.queue i ++ map numbers_of made
-  pub cells : (c : CellClass) → free_of after c + agents_of m.program.tables c after.agents ≡ free_of m c + agents_of m.program.tables c m.agents
-
--- ---- a start
+-- ---- the pairs of a net as built
 
 -- the wire of that number joins the principal ports of the two
 abbrev pub JoinsPair : Parts → ℕ → ℕ × ℕ → Type 0
@@ -73,13 +62,43 @@ IsNoPair n w = (q : ℕ × ℕ) → JoinsPair n w q → ⊥
 abbrev pub AreInOrder : Parts → List (ℕ × ℕ) → Type 0
 AreInOrder n queue = (j k v w : ℕ) (p q : ℕ × ℕ) → j < k → slice_get queue j ≡ Some p → slice_get queue k ≡ Some q → JoinsPair n v p → JoinsPair n w q → v < w
 
--- a machine with so many cells of each class that shows the program's net, its active pairs in the order of their wires
+-- the active pairs of a program's net, or of a right member, each once, the constructor first, in the order of their wires
+pub record IsFirstQueue (t : Tables) (n : Parts) (queue : List (ℕ × ℕ)) : Type 0 where
+  pub pairs : IsQueueOf t n queue
+  pub order : AreInOrder n queue
+
+-- ---- one interaction
+
+-- the interaction of the active pair of that number by its rule, where its cells are free: the new agents have any numbers that the net
+-- doesn't have. The pair leaves the queue, and the new pairs come last: those of paths through boundary ends, by the lowest of them, and
+-- then the right member's own, in the order of their wires. Of each class there are as many cells after as before
+pub record StepsAt (m : MachineParts) (i : ℕ) (after : MachineParts) : Type 0 where
+  pub pair : ℕ × ℕ
+  pub stands : slice_get m.queue i ≡ Some pair
+  pub active : IsPairAt (plain_of m) (agents_at pair).0 (agents_at pair).1
+  pub room : HasRoomAt m i
+  pub name : ℕ → ℕ
+  pub step : StepsAs (plain_of m) (agents_at pair).0 (agents_at pair).1 name (plain_of after)
+  pub made : List (AgentNo × AgentNo)
+  pub new : AreMade m.program.tables (parts_of m) step.rule (agents_at pair).0 (agents_at pair).1 name made
+  pub own : List (ℕ × ℕ)
+  pub inner : IsFirstQueue m.program.tables step.rule.member own
+  pub queue : after.queue ≡ remove m.queue i ++ (map numbers_of made ++ map (both name) own)
+  pub cells : (c : CellClass) → free_of after c + agents_of m.program.tables c after.agents ≡ free_of m c + agents_of m.program.tables c m.agents
+
+-- ---- a start
+
+-- a machine with so many cells of each class that shows the program's net, its agents under any numbers, its active pairs in the order of
+-- their wires
 pub record IsStart (p : Program) (cells : ℕ) (m : MachineParts) : Type 0 where
   pub program : m.program ≡ p
-  pub agents : m.agents ≡ p.net.cells
-  pub free : m.free ≡ p.net.free
-  pub queue : IsQueueOf p.tables (parts_of m) m.queue
-  pub order : AreInOrder p.net m.queue
+  pub over : IsOver p.tables (parts_of m)
+  pub name : ℕ → ℕ
+  pub net : IsRenamed name (net_of p.net) (net_of (parts_of m))
+  pub names : map (λ f. f.name) m.free ≡ map (λ f. f.name) p.net.free
+  pub first : List (ℕ × ℕ)
+  pub pairs : IsFirstQueue p.tables p.net first
+  pub queue : m.queue ≡ map (both name) first
   pub counted : HasCells cells m
 
 -- the program's net has more agents of a class than cells; of large ones only where the small ones fit

@@ -1,5 +1,9 @@
 // A run: first in, first out.
+ghost use Rattle.std.specs.Prelude.{◌≡◌, IfOk};
+ghost use Rattle.in_order.specs.Ends.{EndsOnce};
+ghost use Rattle.in_run.specs.declared.stops.Stop.TheVariants.{Normal};
 ghost use Rattle.in_run.specs.Outcomes.{RunsTo};
+ghost use Rattle.in_run.specs.Texts.{text_of};
 
 use crate::limits::Limits;
 use crate::machine::Machine;
@@ -65,13 +69,18 @@ impl<'a> Machine<'a> {
 /// Before each interaction, in this order: where no pair is left the run stops as `Normal`; where it did as many interactions as are
 /// allowed, as `Limit`; where the first pair needs more cells of a class than are free, small ones tested first, as `Full`. Refused where no
 /// machine starts, and for want of memory, and then the machine stands at the interactions counted so far.
+///
+/// Where it stops as `Normal`, it has come to the one end of its program: each run that ends, its interactions in any order, has as many
+/// interactions and the same text.
 pub fn run<'a>(
     alloc: Global,
     checked: &'a Checked,
     limits: Limits,
 ) -> Result<Outcome<'a>, RunFault<'a>>
-    ensures { RunsTo checked.now limits result }
+    ensures runs { RunsTo checked.now limits result }
+    ensures order { IfOk result (λ o. o.stop ≡ Normal → EndsOnce checked.now o.interactions (text_of o.machine)) }
 {
+    checked.is_accepted();
     let mut machine = match Machine::new(alloc, checked, limits.cells()) {
         Ok(machine) => machine,
         Err(fault) => return Err(RunFault::Start(fault)),

@@ -207,6 +207,12 @@ module _ (text : List ℕ) (p : Program) (accepted : IsAccepted text p) where
             let x = of_mapped rule_in p.rules j h.0 h.1 in
             complete.at_most_one c d j k.0 (record { rule = x.0; stands = x.1; symbols = inl (ap (λ (z : SystemRule). z.first) x.2 ∙ h.2, ap (λ (z : SystemRule). z.second) x.2 ∙ h.3) }) k.1
             ),
+        λ j h. (
+            let x = of_mapped rule_in p.rules j h.0 h.1 in
+            let s = rule_kept j x.0 x.1 in
+            let z : true ≡ false = sym s.matching.0 ∙ ap (λ z. (port_at p.tables z 0).output) (ap (λ (z : SystemRule). z.first) x.2 ∙ h.2) ∙ m.1 in
+            cc
+            ),
       )
     where
       in_order : (r : RuleParts) → IsMatching (signature_of p.tables) r.heads.0.0 r.heads.1.0 → ((r.heads.0.0 ≡ c) × (r.heads.1.0 ≡ d)) ⊎ ((r.heads.0.0 ≡ d) × (r.heads.1.0 ≡ c)) → (r.heads.0.0 ≡ c) × (r.heads.1.0 ≡ d)

@@ -9,17 +9,18 @@ use Rattle.in_net.specs.declared.nets.Point as coded
 use Rattle.in_net.specs.Built.{IsOver}
 use Rattle.in_interaction.specs.Interacting.{unused, most_agents, CanInteract, Interacts}
 use Rattle.in_net.specs.Interactions.{redex_at}
-use Rattle.in_net.specs.Nets.{Point, Port, Free, net_of, signature_of, point_of}
+use Rattle.in_net.specs.Nets.{Point, Port, Free, Net, net_of, signature_of, point_of}
 use Rattle.in_net.specs.Parts.{Parts, IsWhole, symbol_in}
 use Rattle.in_net.specs.Rules.{RuleParts, auxiliary_types}
 use Rattle.in_cover.specs.Cover.{IsPair, IsFor}
 use Rattle.std.proofs.lemmas.Option.{same_Some}
+use Rattle.in_interaction.proofs.Stepping.KeptOrMade.{least_are_names}
 use Rattle.in_interaction.proofs.Stepping.OneOutcome.{one_outcome}
 use Rattle.in_opening.proofs.TextRules.{same_symbol}
 use Rattle.in_check.specs.Checking.{IsAccepted, IsProgramOf}
 use Rattle.in_check.specs.Programs.{Program}
-use Rattle.in_check.specs.Plain.{PlainParts, IsReachedBy, IsPlain, StepsTo, IsPairAt, IsRuleAt, PlainStarts, PlainSteps, PlainStepsAreOne, PairsHaveTheirRule, PlainAsPromised}
-use Rattle.in_check.specs.Runs.{renamed, Reached, at_start, then_step}
+use Rattle.in_check.specs.Plain.{PlainParts, IsReachedBy, IsPlain, StepsTo, StepsAs, IsPairAt, IsRuleAt, PlainStarts, PlainSteps, PlainStepsUnderNames, PlainStepsAreOne, PairsHaveTheirRule, PlainAsPromised}
+use Rattle.in_check.specs.Runs.{renamed, IsRenamed, Reached, at_start, then_step}
 use Rattle.in_check.specs.Systems.{IsMatching, IsRuleOf, IsSoundSystem, rule_in, system_of}
 use Rattle.in_check.proofs.Chain.{program_of}
 use Rattle.in_check.proofs.Reached.FromText.{is_matching, is_sound, to_mapped}
@@ -29,17 +30,20 @@ same_points : (p : Point ℕ) → renamed (λ x. x) p ≡ p
 same_points (Port x i) = refl
 same_points (Free k) = refl
 
+-- a net is one under its own names
+pub renamed_self : (n : Net ℕ) → IsRenamed (λ x. x) n n
+renamed_self n = record {
+  apart = λ x y h k e. e;
+  agents = λ y s. ((λ e. (y, refl, e)), (λ h. ap n.symbol (sym h.1) ∙ h.2));
+  wires = λ u v. (
+    (λ e. (u, v, same_points u, same_points v, e)),
+    (λ h. (let a : h.0 ≡ u = sym (same_points h.0) ∙ h.2 in let b : h.1 ≡ v = sym (same_points h.1) ∙ h.3 in ap n.partner (sym a) ∙ h.4 ∙ ap (λ (z : Point ℕ). Some z) b)),
+  );
+  free = refl;
+}
+
 starts_reached : (p : Program) → IsReachedBy (record { program = p; net = p.net }) zero
-starts_reached p =
-    at_start (λ x. x) (net_of p.net) (record {
-      apart = λ x y h k e. e;
-      agents = λ y s. ((λ e. (y, refl, e)), (λ h. ap (net_of p.net).symbol (sym h.1) ∙ h.2));
-      wires = λ u v. (
-        (λ e. (u, v, same_points u, same_points v, e)),
-        (λ h. (let a : h.0 ≡ u = sym (same_points h.0) ∙ h.2 in let b : h.1 ≡ v = sym (same_points h.1) ∙ h.3 in ap (net_of p.net).partner (sym a) ∙ h.4 ∙ ap (λ (z : Point ℕ). Some z) b)),
-      );
-      free = refl;
-    })
+starts_reached p = at_start (λ x. x) (net_of p.net) (renamed_self (net_of p.net))
 
 pub starts : PlainStarts
 starts p over = (record { reached = (zero, starts_reached p); over = over; names = refl }, starts_reached p)
@@ -55,28 +59,41 @@ active_is p a b at = ap (λ (o : Option coded.Point). option_map point_of o) at.
 pub fits : (p : PlainParts) (a b : AgentNo) → IsPlain p → IsPairAt p a b → (k : ℕ) (r : RuleParts) → IsRuleAt p a b k r → CanInteract p.program.tables p.net r a b
 fits p a b h at k r is = record { net = h.over; rule = is.over; declared = is.declared; one = is.one; two = is.two; active = at.active }
 
-one_more : (p q : PlainParts) (a b : AgentNo) → IsPlain p → IsPairAt p a b → StepsTo p a b q → (k : ℕ) → IsReachedBy p k → IsReachedBy q (suc k)
-one_more p q a b plain at to k h =
-    let now : Reached (system_of p.program) (suc k) (net_of q.net) = then_step k (net_of p.net) (redex_at to.rule a.0 b.0) (unused p.net.cells) (net_of q.net) h (record {
+one_more : (p q : PlainParts) (a b : AgentNo) (name : ℕ → ℕ) → IsPlain p → IsPairAt p a b → StepsAs p a b name q → (k : ℕ) → IsReachedBy p k → IsReachedBy q (suc k)
+one_more p q a b name plain at to k h =
+    let now : Reached (system_of p.program) (suc k) (net_of q.net) = then_step k (net_of p.net) (redex_at to.rule a.0 b.0) name (net_of q.net) h (record {
       at = record {
         one = symbol_is p a.0 to.rule.heads.0 to.is_rule.one;
         two = symbol_is p b.0 to.rule.heads.1 to.is_rule.two;
         active = active_is p a b at;
         rule = (to.number, to_mapped rule_in p.program.rules to.number to.rule to.is_rule.stands);
       };
-      step = to.acts.step p.program.tables (fits p a b plain at to.number to.rule to.is_rule);
+      step = to.acts.step;
     }) in
     subst (λ z. Reached (system_of z) (suc k) (net_of q.net)) (sym to.program) now
 
-pub steps : PlainSteps
-steps p q a b h at to = (
+pub steps_under_names : PlainStepsUnderNames
+steps_under_names p q a b name h at to = (
   record {
-    reached = (suc h.reached.0, one_more p q a b h at to h.reached.0 h.reached.1);
-    over = subst (λ z. IsOver z.tables q.net) (sym to.program) (to.acts.over p.program.tables (fits p a b h at to.number to.rule to.is_rule));
+    reached = (suc h.reached.0, one_more p q a b name h at to h.reached.0 h.reached.1);
+    over = subst (λ z. IsOver z.tables q.net) (sym to.program) to.acts.over;
     names = to.acts.names ∙ h.names ∙ ap (λ z. map (λ f. f.name) z.net.free) (sym to.program);
   },
-  one_more p q a b h at to,
+  one_more p q a b name h at to,
 )
+
+-- a step of `Plain` is one under the least numbers
+pub as_least : (p q : PlainParts) (a b : AgentNo) → IsPlain p → IsPairAt p a b → StepsTo p a b q → StepsAs p a b (unused p.net.cells) q
+as_least p q a b h at to = record {
+  number = to.number;
+  rule = to.rule;
+  is_rule = to.is_rule;
+  acts = least_are_names p.program.tables p.net to.rule a b q.net (fits p a b h at to.number to.rule to.is_rule) to.acts;
+  program = to.program;
+}
+
+pub steps : PlainSteps
+steps p q a b h at to = steps_under_names p q a b (unused p.net.cells) h at (as_least p q a b h at to)
 
 same_plain : (q r : PlainParts) → q.program ≡ r.program → q.net ≡ r.net → q ≡ r
 same_plain q r e f = ap (λ (z : Program). record { program = z; net = q.net }) e ∙ ap (λ (z : Parts). record { program = r.program; net = z }) f

@@ -38,14 +38,14 @@ port_same : (x y : ℕ) (i j : ℕ) → ◌≡◌ {A = Point ℕ} (Port x i) (Po
 port_same x y i j e = cc
 
 -- a pair has one lowest boundary end
-pub end_once : (t : Tables) (n : Parts) (r : RuleParts) (a b : AgentNo) (d e : ℕ) (q : AgentNo × AgentNo) → IsMade t n r a b d q → IsMade t n r a b e q → d ≡ e
-end_once t n r a b d e q h g = let x = h.path.lowest e g.path.passed in let y = g.path.lowest d h.path.passed in omega (arith, x, y)
+pub end_once : (t : Tables) (n : Parts) (r : RuleParts) (a b : AgentNo) (name : ℕ → ℕ) (d e : ℕ) (q : AgentNo × AgentNo) → IsMade t n r a b name d q → IsMade t n r a b name e q → d ≡ e
+end_once t n r a b name d e q h g = let x = h.path.lowest e g.path.passed in let y = g.path.lowest d h.path.passed in omega (arith, x, y)
 
 -- a new number has no symbol before
 pub fresh_symbol : (n : Parts) (k : ℕ) → symbol_in n (unused n.cells k) ≡ None
 fresh_symbol n k = ap (option_map (λ (c : Cell). c.symbol)) (unused_free n.cells k)
 
-pub symbol_once : (n : Parts) (r : RuleParts) (a b y : AgentNo) (s z : SymbolNo) → HasSymbolAfter n r a b y s → HasSymbolAfter n r a b y z → s ≡ z
+pub symbol_once : (n : Parts) (r : RuleParts) (a b y : AgentNo) (s z : SymbolNo) → HasSymbolAfter n r a b (unused n.cells) y s → HasSymbolAfter n r a b (unused n.cells) y z → s ≡ z
 symbol_once n r a b y s z (inl h) (inl k) = some_same (symbol_in n y.0) s z h.2 k.2
 symbol_once n r a b y s z (inl h) (inr k) = absurd (none-some s (sym (ap (symbol_in n) (sym k.1) ∙ fresh_symbol n k.0) ∙ h.2))
 symbol_once n r a b y s z (inr h) (inl k) = absurd (none-some z (sym (ap (symbol_in n) (sym h.1) ∙ fresh_symbol n h.0) ∙ k.2))
@@ -53,9 +53,18 @@ symbol_once n r a b y s z (inr h) (inr k) =
     let same : h.0 ≡ k.0 = unused_apart n.cells h.0 k.0 (h.1 ∙ sym k.1) in
     some_same (symbol_in r.member h.0) s z h.2 (ap (symbol_in r.member) same ∙ k.2)
 
-pub symbol_after_known : (t : Tables) (n : Parts) (r : RuleParts) (a b y : AgentNo) (s : SymbolNo) → CanInteract t n r a b → HasSymbolAfter n r a b y s → IsSymbol t s.0
+pub symbol_after_known : (t : Tables) (n : Parts) (r : RuleParts) (a b y : AgentNo) (s : SymbolNo) → CanInteract t n r a b → HasSymbolAfter n r a b (unused n.cells) y s → IsSymbol t s.0
 symbol_after_known t n r a b y s can (inl h) = symbol_known t n y.0 s can.net h.2
 symbol_after_known t n r a b y s can (inr h) = symbol_known t r.member h.0 s can.rule.member h.2
+
+-- an agent after the interaction is none of the pair
+pub stays_as : (t : Tables) (n : Parts) (r : RuleParts) (a b : AgentNo) (name : ℕ → ℕ) → IsNet (signature_of t) (net_of n) → IsNet (signature_of t) (net_of r.member) → IsRedex (signature_of t) (net_of n) (redex_at r a.0 b.0) → IsNaming (net_of n) (redex_at r a.0 b.0) name →
+    (y : AgentNo) (s : SymbolNo) → HasSymbolAfter n r a b name y s → IsOfPair (redex_at r a.0 b.0) (Port y.0 0) → ⊥
+stays_as t n r a b name net inside redex naming y s (inl h) = λ o. elim o [ inl e ↦ h.0 (agent_same y a e) | inr e ↦ h.1 (agent_same y b e) ]
+stays_as t n r a b name net inside redex naming y s (inr h) =
+    let there : IsPoint (signature_of t) (net_of r.member) (Port h.0 0) =
+    subst (λ (o : Option SymbolNo). IsSomeAnd (option_map (λ (s : SymbolNo). s.0) o) (λ s. 0 ≤ arity_of t s)) (sym h.2) (omega arith) in
+    λ o. not_pair (signature_of t) (net_of n) (redex_at r a.0 b.0) name net inside redex naming h.0 0 there (subst (λ z. IsOfPair (redex_at r a.0 b.0) (Port z 0)) (sym h.1) o)
 
 module _ (t : Tables) (n : Parts) (r : RuleParts) (a b : AgentNo) (whole : IsWhole n) (small : IsWhole r.member) (can : CanInteract t n r a b) where
   abbrev at : Redex ℕ ℕ
@@ -86,12 +95,8 @@ module _ (t : Tables) (n : Parts) (r : RuleParts) (a b : AgentNo) (whole : IsWho
   abbrev pub Stays : Point ℕ → Type 0
   Stays u = IsOfPair (redex_at r a.0 b.0) u → ⊥
 
-  pub stays_after : (y : AgentNo) (s : SymbolNo) → HasSymbolAfter n r a b y s → Stays (Port y.0 0)
-  stays_after y s (inl h) = λ o. elim o [ inl e ↦ h.0 (agent_same y a e) | inr e ↦ h.1 (agent_same y b e) ]
-  stays_after y s (inr h) =
-      let there : IsPoint (signature_of t) (net_of r.member) (Port h.0 0) =
-      subst (λ (o : Option SymbolNo). IsSomeAnd (option_map (λ (s : SymbolNo). s.0) o) (λ s. 0 ≤ arity_of t s)) (sym h.2) (omega arith) in
-      λ o. not_pair (signature_of t) (net_of n) (redex_at r a.0 b.0) (unused n.cells) net inside redex naming h.0 0 there (subst (λ z. IsOfPair (redex_at r a.0 b.0) (Port z 0)) (sym h.1) o)
+  pub stays_after : (y : AgentNo) (s : SymbolNo) → HasSymbolAfter n r a b (unused n.cells) y s → Stays (Port y.0 0)
+  stays_after = stays_as t n r a b (unused n.cells) net inside redex naming
 
   few_ends : arity_of t r.heads.0.0 + arity_of t r.heads.1.0 ≤ 2 * max_ports
   few_ends =
@@ -104,7 +109,7 @@ module _ (t : Tables) (n : Parts) (r : RuleParts) (a b : AgentNo) (whole : IsWho
   -- the path from a boundary end by one side ends at this agent's principal port
   pub record Half (side : Side) (e : ℕ) (z : AgentNo) : Type 0 where
     pub symbol : SymbolNo
-    pub has : HasSymbolAfter n r a b z symbol
+    pub has : HasSymbolAfter n r a b (unused n.cells) z symbol
     pub ends : List (Point ℕ)
     pub way : Way side (pt e) ends (Port z.0 0)
     pub few : length ends < most_wires
@@ -118,7 +123,7 @@ module _ (t : Tables) (n : Parts) (r : RuleParts) (a b : AgentNo) (whole : IsWho
     pub inner : Half Inner e two
     pub are : (q ≡ (one, two)) ⊎ (q ≡ (two, one))
 
-  pub halves : (e : ℕ) (q : AgentNo × AgentNo) → IsMade t n r a b e q → Halves e q
+  pub halves : (e : ℕ) (q : AgentNo × AgentNo) → IsMade t n r a b (unused n.cells) e q → Halves e q
   halves e q h = by c.side c.front c.rear c.ahead c.behind c.front_of c.rear_of c.short
     where
       es : List (Point ℕ)
@@ -160,14 +165,14 @@ module _ (t : Tables) (n : Parts) (r : RuleParts) (a b : AgentNo) (whole : IsWho
   half_once s e z w h g = agent_same z w (port_same z.0 w.0 0 0 (one_from s e (Port z.0 0) (Port w.0 0) h.ends g.ends (stays_after z h.symbol h.has) (stays_after w g.symbol g.has) h.way g.way).1)
 
   -- not both ways round
-  not_turned : (x y : AgentNo) (d e : ℕ) → IsMade t n r a b d (x, y) → IsMade t n r a b e (y, x) → ⊥
+  not_turned : (x y : AgentNo) (d e : ℕ) → IsMade t n r a b (unused n.cells) d (x, y) → IsMade t n r a b (unused n.cells) e (y, x) → ⊥
   not_turned x y d e h g =
       let one = symbol_once n r a b x h.first g.second h.one g.two in
       let two = symbol_once n r a b y h.second g.first h.two g.one in
       no_both t x y h.first h.second h.order (subst (λ (s : SymbolNo). StandsFirst t h.second s y x) (sym one) (subst (λ (s : SymbolNo). StandsFirst t s g.second y x) (sym two) g.order))
 
   -- a boundary end is the lowest of one pair
-  pub pair_once : (e : ℕ) (p q : AgentNo × AgentNo) → IsMade t n r a b e p → IsMade t n r a b e q → p ≡ q
+  pub pair_once : (e : ℕ) (p q : AgentNo × AgentNo) → IsMade t n r a b (unused n.cells) e p → IsMade t n r a b (unused n.cells) e q → p ≡ q
   pair_once e p q h g = go x.are y.are
     where
       x : Halves e p
@@ -187,14 +192,14 @@ module _ (t : Tables) (n : Parts) (r : RuleParts) (a b : AgentNo) (whole : IsWho
       go (inr u) (inr v) = u ∙ ap (λ (z : AgentNo). let w : AgentNo × AgentNo = (z, x.one) in w) two ∙ ap (λ (z : AgentNo). let w : AgentNo × AgentNo = (y.two, z) in w) one ∙ sym v
       go (inl u) (inr v) =
           let turned : q ≡ (x.two, x.one) = v ∙ ap (λ (z : AgentNo). let w : AgentNo × AgentNo = (z, y.one) in w) (sym two) ∙ ap (λ (z : AgentNo). let w : AgentNo × AgentNo = (x.two, z) in w) (sym one) in
-          absurd (not_turned x.one x.two e e (subst (IsMade t n r a b e) u h) (subst (IsMade t n r a b e) turned g))
+          absurd (not_turned x.one x.two e e (subst (IsMade t n r a b (unused n.cells) e) u h) (subst (IsMade t n r a b (unused n.cells) e) turned g))
       go (inr u) (inl v) =
           let turned : q ≡ (x.one, x.two) = v ∙ ap (λ (z : AgentNo). let w : AgentNo × AgentNo = (z, y.two) in w) (sym one) ∙ ap (λ (z : AgentNo). let w : AgentNo × AgentNo = (x.one, z) in w) (sym two) in
-          absurd (not_turned x.one x.two e e (subst (IsMade t n r a b e) turned g) (subst (IsMade t n r a b e) u h))
+          absurd (not_turned x.one x.two e e (subst (IsMade t n r a b (unused n.cells) e) turned g) (subst (IsMade t n r a b (unused n.cells) e) u h))
 
   -- two halves without a lower end make a pair, in its order
   pub is_made : (s : Side) (e : ℕ) (x y : AgentNo) (c d : SymbolNo) (es fs : List (Point ℕ)) → Way s (pt e) es (Port x.0 0) → ((l : ℕ) → IsAmong (pt l) es → e ≤ l) → Way (other s) (pt e) fs (Port y.0 0) → ((l : ℕ) → IsAmong (pt l) fs → e ≤ l) →
-      HasSymbolAfter n r a b x c → HasSymbolAfter n r a b y d → StandsFirst t c d x y → IsMade t n r a b e (x, y)
+      HasSymbolAfter n r a b (unused n.cells) x c → HasSymbolAfter n r a b (unused n.cells) y d → StandsFirst t c d x y → IsMade t n r a b (unused n.cells) e (x, y)
   is_made s e x y c d es fs h low_h g low_g one two order = record {
     first = c;
     second = d;
@@ -225,7 +230,7 @@ module _ (t : Tables) (n : Parts) (r : RuleParts) (a b : AgentNo) (whole : IsWho
       omega (arith, lt, many, all)
 
   -- a lowest end of a pair is a boundary end
-  pub made_within : (e : ℕ) (q : AgentNo × AgentNo) → IsMade t n r a b e q → e < length r.member.free
+  pub made_within : (e : ℕ) (q : AgentNo × AgentNo) → IsMade t n r a b (unused n.cells) e q → e < length r.member.free
   made_within e q h =
       let d = through.through_ends (signature_of t) (net_of n) (redex_at r a.0 b.0) (unused n.cells) net inside redex naming h.path.passed.0 (Port q.0.0 0) h.path.passed.1 (Port q.1.0 0) h.path.passed.2 (pt e) h.path.passed.3 in
       let same = through.pt_same (signature_of t) (net_of n) (redex_at r a.0 b.0) (unused n.cells) net inside redex naming e d.0 d.2 in
@@ -244,12 +249,12 @@ module _ (t : Tables) (n : Parts) (r : RuleParts) (a b : AgentNo) (whole : IsWho
 
 module _ (t : Tables) (s : SiteParts) where
   abbrev Made : ℕ → AgentNo × AgentNo → Type 0
-  Made = IsMade t s.net s.rule s.one s.two
+  Made = IsMade t s.net s.rule s.one s.two (unused s.net.cells)
 
   pub none_below : AreMadeBelow t s 0 []
   none_below = record { each = λ k q e. cc; all = λ e q lt h. absurd (omega (arith, lt)); rising = λ j k d e p q lt f g h i. cc }
 
-  pub none_more : (e : ℕ) (qs : List (AgentNo × AgentNo)) → AreMadeBelow t s e qs → ((q : AgentNo × AgentNo) → IsMade t s.net s.rule s.one s.two e q → ⊥) → AreMadeBelow t s (e + 1) qs
+  pub none_more : (e : ℕ) (qs : List (AgentNo × AgentNo)) → AreMadeBelow t s e qs → ((q : AgentNo × AgentNo) → IsMade t s.net s.rule s.one s.two (unused s.net.cells) e q → ⊥) → AreMadeBelow t s (e + 1) qs
   none_more e qs h none = record {
     each = λ k q f. (let r = h.each k q f in (r.0, (let l = r.1 in omega (arith, l)), r.2));
     all = λ d q lt m. all d q m (below_or d e lt);
@@ -260,7 +265,7 @@ module _ (t : Tables) (s : SiteParts) where
       all d q m (inl lt) = h.all d q lt m
       all d q m (inr same) = absurd (none q (subst (λ (z : ℕ). Made z q) same m))
 
-  pub one_more : (e : ℕ) (qs : List (AgentNo × AgentNo)) (p : AgentNo × AgentNo) → AreMadeBelow t s e qs → IsMade t s.net s.rule s.one s.two e p → ((q : AgentNo × AgentNo) → IsMade t s.net s.rule s.one s.two e q → q ≡ p) → AreMadeBelow t s (e + 1) (qs ++ p ∷ [])
+  pub one_more : (e : ℕ) (qs : List (AgentNo × AgentNo)) (p : AgentNo × AgentNo) → AreMadeBelow t s e qs → IsMade t s.net s.rule s.one s.two (unused s.net.cells) e p → ((q : AgentNo × AgentNo) → IsMade t s.net s.rule s.one s.two (unused s.net.cells) e q → q ≡ p) → AreMadeBelow t s (e + 1) (qs ++ p ∷ [])
   one_more e qs p h made once = record {
     each = λ k q f. each k q (more_at qs p q k f);
     all = λ d q lt m. all d q m (below_or d e lt);
@@ -280,13 +285,13 @@ module _ (t : Tables) (s : SiteParts) where
       rising j k d c x y lt m i (inl f) (inr g) =
           let r = h.each j x f in
           let less = r.1 in
-          let one = end_once t s.net s.rule s.one s.two d r.0 x m r.2 in
-          let two = end_once t s.net s.rule s.one s.two c e y i (subst (Made e) g.1 made) in
+          let one = end_once t s.net s.rule s.one s.two (unused s.net.cells) d r.0 x m r.2 in
+          let two = end_once t s.net s.rule s.one s.two (unused s.net.cells) c e y i (subst (Made e) g.1 made) in
           omega (arith, less, one, two)
       rising j k d c x y lt m i (inr f) (inl g) = let l = slice_get_within qs k y g in let n = f.0 in absurd (omega (arith, l, n, lt))
       rising j k d c x y lt m i (inr f) (inr g) = let l = g.0 in let n = f.0 in absurd (omega (arith, l, n, lt))
 
-  pub all_ends : (e : ℕ) (qs : List (AgentNo × AgentNo)) → IsWhole s.net → IsWhole s.rule.member → CanInteract t s.net s.rule s.one s.two → AreMadeBelow t s e qs → length s.rule.member.free ≤ e → AreMade t s.net s.rule s.one s.two qs
+  pub all_ends : (e : ℕ) (qs : List (AgentNo × AgentNo)) → IsWhole s.net → IsWhole s.rule.member → CanInteract t s.net s.rule s.one s.two → AreMadeBelow t s e qs → length s.rule.member.free ≤ e → AreMade t s.net s.rule s.one s.two (unused s.net.cells) qs
   all_ends e qs whole small can h le = record {
     each = λ k q f. (let r = h.each k q f in (r.0, r.2));
     all = λ d q m. h.all d q (let l = made_within t s.net s.rule s.one s.two whole small can d q m in omega (arith, l, le)) m;

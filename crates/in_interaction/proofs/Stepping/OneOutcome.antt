@@ -72,22 +72,22 @@ pub one_list : (t : Tables) (n : Parts) (ps qs : List (AgentNo × AgentNo)) → 
 one_list t n ps qs h g =
     same_sorted (λ p q. lower_of p < lower_of q) (λ p q a b. omega (arith, a, b)) ps qs h.rising g.rising (λ k q e. g.all q (h.pairs k q e)) (λ k q e. h.all q (g.pairs k q e))
 
-pub one_made_list : (t : Tables) (n : Parts) (r : RuleParts) (a b : AgentNo) (ps qs : List (AgentNo × AgentNo)) → AreMade t n r a b ps → AreMade t n r a b qs → ps ≡ qs
-one_made_list t n r a b ps qs h g =
+pub one_made_list : (t : Tables) (n : Parts) (r : RuleParts) (a b : AgentNo) (name : ℕ → ℕ) (ps qs : List (AgentNo × AgentNo)) → AreMade t n r a b name ps → AreMade t n r a b name qs → ps ≡ qs
+one_made_list t n r a b name ps qs h g =
     same_sorted Lower lower_once ps qs (rises ps h) (rises qs g) (λ k q e. let m = h.each k q e in g.all m.0 q m.1) (λ k q e. let m = g.each k q e in h.all m.0 q m.1)
   where
     Lower : AgentNo × AgentNo → AgentNo × AgentNo → Type 0
-    Lower p q = (d e : ℕ) × IsMade t n r a b d p × IsMade t n r a b e q × (d < e)
+    Lower p q = (d e : ℕ) × IsMade t n r a b name d p × IsMade t n r a b name e q × (d < e)
 
     lower_once : (p q : AgentNo × AgentNo) → Lower p q → Lower q p → ⊥
     lower_once p q x y =
-        let one = end_once t n r a b x.0 y.1 p x.2 y.3 in
-        let two = end_once t n r a b x.1 y.0 q x.3 y.2 in
+        let one = end_once t n r a b name x.0 y.1 p x.2 y.3 in
+        let two = end_once t n r a b name x.1 y.0 q x.3 y.2 in
         let l = x.4 in
         let m = y.4 in
         omega (arith, one, two, l, m)
 
-    rises : (xs : List (AgentNo × AgentNo)) → AreMade t n r a b xs → Rises Lower lower_once xs
+    rises : (xs : List (AgentNo × AgentNo)) → AreMade t n r a b name xs → Rises Lower lower_once xs
     rises xs m j k p q lt e f =
         let x = m.each j p e in
         let y = m.each k q f in

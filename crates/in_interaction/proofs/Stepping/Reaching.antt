@@ -201,7 +201,7 @@ module _ (s : SiteParts) (site : IsSite s) where
 
   module _ (t : Tables) (can : CanInteract t s.net s.rule s.one s.two) where
     abbrev Made : ℕ → AgentNo × AgentNo → Type 0
-    Made = IsMade t s.net s.rule s.one s.two
+    Made = IsMade t s.net s.rule s.one s.two (unused s.net.cells)
 
     abbrev Half : Side → ℕ → AgentNo → Type 0
     Half = making.Half t s.net s.rule s.one s.two site.whole site.member can
@@ -210,7 +210,7 @@ module _ (s : SiteParts) (site : IsSite s) where
     half_of Outer e q h = let r = making.halves t s.net s.rule s.one s.two site.whole site.member can e q h in (r.one, r.outer)
     half_of Inner e q h = let r = making.halves t s.net s.rule s.one s.two site.whole site.member can e q h in (r.two, r.inner)
 
-    stays : (y : AgentNo) (z : SymbolNo) → HasSymbolAfter s.net s.rule s.one s.two y z → IsOfPair (redex_of s) (Port y.0 0) → ⊥
+    stays : (y : AgentNo) (z : SymbolNo) → HasSymbolAfter s.net s.rule s.one s.two (unused s.net.cells) y z → IsOfPair (redex_of s) (Port y.0 0) → ⊥
     stays = making.stays_after t s.net s.rule s.one s.two site.whole site.member can
 
     pub nowhere : (side : Side) (e : ℕ) → LandsNowhere s side e → (q : AgentNo × AgentNo) → Made e q → ⊥
@@ -232,11 +232,11 @@ module _ (s : SiteParts) (site : IsSite s) where
         let r = half_of side e q h in
         none-some r.0 (sym none ∙ ap principal_of (landed side e p at r.0 r.1))
 
-    pub no_symbol_there : (side : Side) (e : ℕ) (x : AgentNo) → LandsAt s side e (code.Port x 0) → ((z : SymbolNo) → HasSymbolAfter s.net s.rule s.one s.two x z → ⊥) → (q : AgentNo × AgentNo) → Made e q → ⊥
+    pub no_symbol_there : (side : Side) (e : ℕ) (x : AgentNo) → LandsAt s side e (code.Port x 0) → ((z : SymbolNo) → HasSymbolAfter s.net s.rule s.one s.two (unused s.net.cells) x z → ⊥) → (q : AgentNo × AgentNo) → Made e q → ⊥
     no_symbol_there side e x at none q h =
         let r = half_of side e q h in
         let same = port_agent_of x r.0 0 0 (landed side e (code.Port x 0) at r.0 r.1) in
-        none r.1.symbol (subst (λ (y : AgentNo). HasSymbolAfter s.net s.rule s.one s.two y r.1.symbol) (sym same) r.1.has)
+        none r.1.symbol (subst (λ (y : AgentNo). HasSymbolAfter s.net s.rule s.one s.two (unused s.net.cells) y r.1.symbol) (sym same) r.1.has)
 
     pub differ : (e : ℕ) (x y : AgentNo) → LandsAt s Outer e (code.Port x 0) → LandsAt s Inner e (code.Port y 0) → x ≢ y
     differ e x y outer inner =
@@ -246,7 +246,7 @@ module _ (s : SiteParts) (site : IsSite s) where
         (redex t s.net s.rule s.one s.two site.whole site.member can) (naming t s.net s.rule s.one s.two site.whole site.member can) Outer (end_point t s e) o.0 (Port x.0 0) (is_pair_end t can e) o.1.0 i.0 (Port y.0 0) i.1.0 in
         making.agents_differ t s.net s.rule s.one s.two site.whole site.member can x y (o.1.1, i.1.1, (j.side, j.ends, j.path))
 
-    pub pair_there : (e : ℕ) (x y : AgentNo) (c d : SymbolNo) (q : AgentNo × AgentNo) → LandsAt s Outer e (code.Port x 0) → LandsAt s Inner e (code.Port y 0) → HasSymbolAfter s.net s.rule s.one s.two x c → HasSymbolAfter s.net s.rule s.one s.two y d →
+    pub pair_there : (e : ℕ) (x y : AgentNo) (c d : SymbolNo) (q : AgentNo × AgentNo) → LandsAt s Outer e (code.Port x 0) → LandsAt s Inner e (code.Port y 0) → HasSymbolAfter s.net s.rule s.one s.two (unused s.net.cells) x c → HasSymbolAfter s.net s.rule s.one s.two (unused s.net.cells) y d →
         IsOrdered t (x, c) (y, d) q → Made e q × ((p : AgentNo × AgentNo) → Made e p → p ≡ q)
     pair_there e x y c d q outer inner one two order = (here order, (λ p h. making.pair_once t s.net s.rule s.one s.two site.whole site.member can e p q h (here order)))
       where
@@ -267,7 +267,7 @@ principal_is (code.Free k) o x is e = cc
 
 -- ---- what is answered at a boundary end
 
-pub no_pair : (t : Tables) (s : SiteParts) (e : ℕ) (o : Option (AgentNo × AgentNo)) → o ≡ None → ((q : AgentNo × AgentNo) → IsMade t s.net s.rule s.one s.two e q → ⊥) → IsPairAt t s e o
+pub no_pair : (t : Tables) (s : SiteParts) (e : ℕ) (o : Option (AgentNo × AgentNo)) → o ≡ None → ((q : AgentNo × AgentNo) → IsMade t s.net s.rule s.one s.two (unused s.net.cells) e q → ⊥) → IsPairAt t s e o
 no_pair t s e o is h = subst (IsPairAt t s e) (sym is) h
 
 pub lands_there : (s : SiteParts) (side : Side) (e : ℕ) (p : coded.Point) (o : Option AgentNo) (x : AgentNo) → LandsAt s side e p → o ≡ principal_of p → o ≡ Some x → LandsAt s side e (code.Port x 0)

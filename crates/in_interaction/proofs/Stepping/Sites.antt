@@ -20,6 +20,23 @@ use Rattle.in_net.proofs.OneNet.{is_net, cell_over}
 use Rattle.in_net.proofs.BoundaryTypes.{types_many, declared_at}
 use Rattle.in_interaction.proofs.Stepping.Unused.{unused_free, unused_apart}
 
+-- the pair is one of the definitions, in any net
+module _ (t : Tables) (n : Parts) (r : RuleParts) (a b : AgentNo) (net : IsNet (signature_of t) (net_of n)) (can : CanInteract t n r a b) where
+  active : (net_of n).partner (Port a.0 0) ≡ Some (Port b.0 0)
+  active = ap (λ (o : Option coded.Point). option_map point_of o) can.active
+
+  pub redex_in : IsRedex (signature_of t) (net_of n) (redex_at r a.0 b.0)
+  redex_in = record {
+    one = ap (λ (o : Option SymbolNo). option_map (λ (s : SymbolNo). s.0) o) can.one;
+    two = ap (λ (o : Option SymbolNo). option_map (λ (s : SymbolNo). s.0) o) can.two;
+    differ = λ same. net.apart (Port a.0 0) (active ∙ ap (λ y. Some (Port y 0)) (sym same));
+    active = active;
+    ends =
+        ap length can.declared ∙ length-append (auxiliary_types t r.heads.0.0) (auxiliary_types t r.heads.1.0)
+        ∙ ap (λ z. z + length (auxiliary_types t r.heads.1.0)) (types_many t r.heads.0.0 1 (arity_of t r.heads.0.0)) ∙ ap (λ z. arity_of t r.heads.0.0 + z) (types_many t r.heads.1.0 1 (arity_of t r.heads.1.0));
+    declared = declared_at t r a.0 b.0 can.declared;
+  }
+
 module _ (t : Tables) (n : Parts) (r : RuleParts) (a b : AgentNo) (whole : IsWhole n) (small : IsWhole r.member) (can : CanInteract t n r a b) where
   pub net : IsNet (signature_of t) (net_of n)
   net = is_net t n whole can.net
@@ -33,20 +50,8 @@ module _ (t : Tables) (n : Parts) (r : RuleParts) (a b : AgentNo) (whole : IsWho
     apart = λ k l s u e f same. unused_apart n.cells k l same;
   }
 
-  active : (net_of n).partner (Port a.0 0) ≡ Some (Port b.0 0)
-  active = ap (λ (o : Option coded.Point). option_map point_of o) can.active
-
   pub redex : IsRedex (signature_of t) (net_of n) (redex_at r a.0 b.0)
-  redex = record {
-    one = ap (λ (o : Option SymbolNo). option_map (λ (s : SymbolNo). s.0) o) can.one;
-    two = ap (λ (o : Option SymbolNo). option_map (λ (s : SymbolNo). s.0) o) can.two;
-    differ = λ same. net.apart (Port a.0 0) (active ∙ ap (λ y. Some (Port y 0)) (sym same));
-    active = active;
-    ends =
-        ap length can.declared ∙ length-append (auxiliary_types t r.heads.0.0) (auxiliary_types t r.heads.1.0)
-        ∙ ap (λ z. z + length (auxiliary_types t r.heads.1.0)) (types_many t r.heads.0.0 1 (arity_of t r.heads.0.0)) ∙ ap (λ z. arity_of t r.heads.0.0 + z) (types_many t r.heads.1.0 1 (arity_of t r.heads.1.0));
-    declared = declared_at t r a.0 b.0 can.declared;
-  }
+  redex = redex_in t n r a b net can
 
 -- ---- how many places
 

@@ -1,4 +1,4 @@
-use Rattle.in_run.proofs.OneOutcome.{run_keeps}
+use Rattle.in_run.proofs.SameRun.{run_keeps}
 use Rattle.in_run.proofs.laws.runs_reach.Goals as goal
 
 pub returns : goal.returns

@@ -1,5 +1,5 @@
-use Rattle.in_run.proofs.Ended.{is_machine}
+use Rattle.in_run.proofs.SameStart.{start_machine}
 use Rattle.in_run.proofs.laws.starts_are_machines.Goals as goal
 
 pub returns : goal.returns
-returns c = λ text p cells m accepted few h. is_machine text p accepted cells m h few
+returns c = λ text p cells m accepted few h. start_machine text p accepted cells m h few

@@ -1,5 +1,6 @@
 use Rattle.std.proofs.Common.{◌<◌, ℕ, subst}
 use Rattle.in_run.specs.Runs.{IsStart}
+use Rattle.in_run.proofs.OneEnd.{way_ended}
 use Rattle.in_run.proofs.OnItsWay.{begins, goes_on, not_err}
 use Rattle.in_run.proofs.running.run.Goals as goal
 
@@ -10,3 +11,7 @@ pub loop-stop-preserved : goal.loop-stop-preserved
 loop-stop-preserved c =
     goes_on c.args.checked.now c.args.limits.cells c.args.limits.limit c.loop-stop.interactions c.loop-stop.machine c.step.new.self c.loop-stop.invariant
     (not_err c.step.result (c.if-is_err.ensures {u = tt}).value c.step.ensures.ok) (subst (λ (n : ℕ). c.loop-stop.interactions < n) c.limit.ensures.limit (c.in_default.ensures {u = tt}).1)
+
+pub returns-in-Some-clause-order : goal.returns-in-Some-clause-order
+returns-in-Some-clause-order c = λ normal.
+    way_ended c.is_accepted.ensures.0 c.args.checked.now c.args.limits c.loop-stop.machine c.loop-stop.interactions c.is_accepted.ensures.1 c.loop-stop.invariant _ c.in-Some.stop (c.in-Some.ensures {u = tt}) normal

@@ -1,0 +1,88 @@
+-- What `run` tells with status 0 is of the one end of its program.
+use Rattle.std.proofs.Common.{◌≡◌, ℕ, nat_eq, List, [], ◌++◌, map, length, Ok, refl, sym, subst, ap, ◌∙◌}
+use Rattle.in_net.specs.Nets.{net_of, signature_of}
+use Rattle.in_check.specs.Checking.{IsAccepted}
+use Rattle.in_check.specs.Laws.{AreOneProgram}
+use Rattle.in_check.specs.NetText.{text}
+use Rattle.in_check.specs.Programs.{Program}
+use Rattle.in_check.specs.Runs.{Reached}
+use Rattle.in_check.specs.Systems.{System, rule_in, system_of}
+use Rattle.in_check.proofs.OneAnswer.{checked_once}
+use Rattle.in_order.specs.Ends.{words_in, Ends, EndsOnce}
+use Rattle.in_run.specs.declared.limits.Limits.{Limits}
+use Rattle.in_run.specs.declared.running.Outcome.{Outcome}
+use Rattle.in_run.specs.declared.stops.Stop.{Stop}
+use Rattle.in_run.specs.declared.stops.Stop.TheVariants.{Normal, Limit, Full}
+use Rattle.in_run.specs.Machines.{MachineParts}
+use Rattle.in_run.specs.Runs.{IsStart, IsOutcome}
+use Rattle.in_run.specs.Texts.{text_of}
+use Rattle.in_run.proofs.OneEnd.{normal_outcomes_are_one}
+use Rattle.in_words.specs.declared.action.Action.{Action}
+use Rattle.in_words.specs.declared.action.Action.TheVariants.{Check, Derive, Run}
+use Rattle.in_program.specs.declared.acting.Status.{Status}
+use Rattle.in_program.specs.Acting.{IsReply, IsOfEachEnd, IsReport, IsFinding, counted, derived, ran, full, Report, accepted, refused, lines_of, status_of, status, stop_status}
+use Rattle.in_program.specs.Lines.{run_lines}
+use Rattle.in_program.specs.Laws.{NormalLinesAreOne}
+
+-- two programs of one text have one end
+same_system : (p q : Program) → AreOneProgram p q → system_of p ≡ system_of q
+same_system p q h =
+    λ i. (let s : System = record { count = length (h.tables i).names; symbols = signature_of (h.tables i); rules = map rule_in (h.rules i); start = net_of (h.net i) } in s)
+
+ends_kept : (p q : Program) (k : ℕ) (written : List ℕ) → AreOneProgram p q → Ends p k written → Ends q k written
+ends_kept p q k written h e = record {
+  net = e.net;
+  reached = subst (λ s. Reached s k e.net) (same_system p q h) e.reached;
+  ended = e.ended;
+  agents = e.agents;
+  are_agents = e.are_agents;
+  is_text = e.is_text
+      ∙ ap (λ t. text (signature_of t) (words_in (record { tables = t; rules = p.rules; net = p.net; numbers = p.numbers; rule_certificates = p.rule_certificates; net_certificate = p.net_certificate })) nat_eq e.net (length e.agents) []) h.tables
+      ∙ ap (λ n. text (signature_of q.tables) (words_in (record { tables = q.tables; rules = p.rules; net = n; numbers = p.numbers; rule_certificates = p.rule_certificates; net_certificate = p.net_certificate })) nat_eq e.net (length e.agents) []) h.net;
+}
+
+-- what a reply with status 0 is of
+record IsNormal (l : Limits) (input lines : List ℕ) : Type 0 where
+  program : Program
+  valid : IsAccepted input program
+  count : ℕ
+  written : List ℕ
+  once : EndsOnce program count written
+  lines_are : lines ≡ written ++ run_lines count Normal
+
+ended : (l : Limits) (input : List ℕ) (q : Program) → IsAccepted input q → (start m : MachineParts) (k : ℕ) → IsStart q l.cells start → IsOutcome start l.limit m k Normal → EndsOnce q k (text_of m)
+ended l input q valid start m k starts outcome =
+    let o : Outcome = record { machine = m; interactions = k; stop = Normal } in normal_outcomes_are_one input q l o valid (start, starts, outcome) refl
+
+normal : (l : Limits) (input lines : List ℕ) (s : Status) (r : Report) → IsReport (Run l) input r → lines ≡ lines_of input r → s ≡ status_of r → s ≡ status 0 → IsNormal l input lines
+normal l input lines s r so e is zero = go r so e (sym zero ∙ is)
+  where
+    stopped : (q : Program) (start m : MachineParts) (k : ℕ) (s : Stop) → IsAccepted input q → IsFinding (Run l) q (ran start m k s) → lines ≡ text_of m ++ run_lines k s → status 0 ≡ stop_status s → IsNormal l input lines
+    stopped q start m k Normal valid h e is = record { program = q; valid = valid; count = k; written = text_of m; once = ended l input q valid start m k h.0 h.1; lines_are = e }
+    stopped q start m k Limit valid h e is = absurd (let z : 0 ≡ 3 = ap (λ s. s.0) is in cc)
+    stopped q start m k (Full c need free) valid h e is = absurd (let z : 0 ≡ 4 = ap (λ s. s.0) is in cc)
+
+    go : (r : Report) → IsReport (Run l) input r → lines ≡ lines_of input r → status 0 ≡ status_of r → IsNormal l input lines
+    go (accepted q (ran start m k s)) h e is = stopped q start m k s h.0 h.1 e is
+    go (accepted q (full c need free)) h e is = absurd (let z : 0 ≡ 4 = ap (λ s. s.0) is in cc)
+    go (accepted q counted) h e is = elim h.1 [ ]
+    go (accepted q derived) h e is = elim h.1 [ ]
+    go (refused r) h e is = absurd (let z : 0 ≡ 1 = ap (λ s. s.0) is in cc)
+
+of_each_end : (a : Action) (input lines : List ℕ) (s : Status) (r : Report) → IsReport a input r → lines ≡ lines_of input r → s ≡ status_of r → IsOfEachEnd a input lines s
+of_each_end Check input lines s r so e is = tt
+of_each_end Derive input lines s r so e is = tt
+of_each_end (Run l) input lines s r so e is = λ zero p valid k written ends.
+    (let n = normal l input lines s r so e is zero in
+    let one = n.once.1 k written (ends_kept p n.program k written (checked_once input (Ok p) (Ok n.program) valid n.valid) ends) in
+    n.lines_are ∙ (λ i. one.1 i ++ run_lines (one.0 i) Normal))
+
+-- what is said of a text is a reply
+pub replied : (a : Action) (input lines : List ℕ) (s : Status) (r : Report) → IsReport a input r → lines ≡ lines_of input r → s ≡ status_of r → IsReply a input lines s
+replied a input lines s r so e is = record { report = r; so = so; lines_are = e; status_is = is; any_order = of_each_end a input lines s r so e is }
+
+-- two calls of `run` on one text that end normally write the same, whatever their limits are
+pub normal_lines_are_one : NormalLinesAreOne
+normal_lines_are_one l m input lines more one other =
+    let n = normal m input more (status 0) other.report other.so other.lines_are other.status_is refl in
+    one.any_order refl n.program n.valid n.count n.written n.once.0 ∙ sym n.lines_are
