@@ -3,7 +3,7 @@ ghost use Rattle.std.specs.Prelude.{◌≡◌, ◌+◌, ◌<◌, ◌≤◌, ◌^
 ghost use Rattle.in_arena.specs.States.{Vacant, IsLive, word_of, end_at, places, with_end};
 ghost use Rattle.in_arena.specs.Arenas.{Leases, IsOf, NoneLeased, state_at, changed, free_of};
 
-use crate::content::{CellClass, CellNo, End};
+use crate::content::{CellClass, CellNo, End, SymbolWord};
 use crate::lease::{HeldCell, Lease};
 use crate::region::Region;
 use std::alloc::{AllocError, Global};
@@ -121,7 +121,7 @@ impl Arena {
     }
 
     /// The symbol word of a live cell.
-    pub fn symbol(&self, cell: CellNo) -> u32
+    pub fn symbol(&self, cell: CellNo) -> SymbolWord
         requires { IsLive (state_at self.now cell.0) }
         ensures { word_of (state_at self.now cell.0) ≡ Some result }
     {

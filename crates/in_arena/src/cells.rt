@@ -51,8 +51,8 @@ unsafe impl<T: Send> Send for Cells<T> {}
 
 unsafe impl<T: Sync> Sync for Cells<T> {}
 
-/// The right to give the block of a row of `len` cells back to `alloc`. It takes no space.
-#[derive(Drop)]
+/// The right to give the block of a row of `len` cells back to `alloc`, and the duty: it is no `Drop` type, so who has it can't let it go,
+/// and `deallocate` alone takes it. It takes no space.
 pub struct Deed<T, A: Allocator> {
     mark: PhantomData<*const (T, A)>,
     pub ghost at: { Ptr },

@@ -6,6 +6,9 @@ ghost use Rattle.in_arena.specs.Contents.{end_of};
 #[derive(Clone, Copy, Debug, PartialEq, Eq, Hash)]
 pub struct CellNo(pub u32);
 
+/// The word of a live cell, which is the number of its agent's symbol.
+pub type SymbolWord = u32;
+
 /// What a place of a cell leads to: a place of a cell, the principal one being 0, or a free end.
 #[derive(Clone, Copy, Debug, PartialEq, Eq, Hash)]
 pub enum End {

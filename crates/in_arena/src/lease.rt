@@ -3,7 +3,7 @@ ghost use Rattle.std.specs.Prelude.{◌≡◌, ◌<◌, length};
 ghost use Rattle.in_arena.specs.States.{Live, places, with_end};
 ghost use Rattle.in_arena.specs.Arenas.{Holds, written};
 
-use crate::content::{CellClass, CellNo, End};
+use crate::content::{CellClass, CellNo, End, SymbolWord};
 use crate::region::Held;
 use std::marker::Model;
 
@@ -55,7 +55,7 @@ impl Lease {
 
     /// Writes the symbol word and the ends at its places, the principal port first: one to three for a small cell, four to nine for a
     /// large one.
-    pub fn write(&mut self, symbol: u32, ends: &[End])
+    pub fn write(&mut self, symbol: SymbolWord, ends: &[End])
         requires { Holds self.old.class (length ends.now) }
         ensures { self.new ≡ written self.old (Live symbol ends.now) }
     {

@@ -8,5 +8,5 @@ mod lease;
 mod region;
 
 pub use arena::Arena;
-pub use content::{CellClass, CellNo, End};
+pub use content::{CellClass, CellNo, End, SymbolWord};
 pub use lease::Lease;

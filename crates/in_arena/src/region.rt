@@ -63,7 +63,7 @@ impl<const WIDTH: usize> Region<WIDTH> {
         })
     }
 
-    // Gives the block back.
+    // Gives the block back: the region's deed can't be let go otherwise.
     pub fn close(self)
         requires { IsRegion self × IsWhole self }
     {

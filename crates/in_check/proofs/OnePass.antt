@@ -15,8 +15,8 @@ use Rattle.in_typing.specs.Typed.{TypesRule, IsRuleMistyped}
 use Rattle.in_typing.proofs.OneFault.{one_mistyped, one_rule_mistyped, rule_not_both}
 use Rattle.in_open_nets.specs.OpenNets.{OpenNet, IsOpenNet}
 use Rattle.in_open_nets.specs.Derivations.{IsDerivation}
-use Rattle.in_simple.specs.TakenOrder.{AreTaken}
-use Rattle.in_simple.proofs.OneAnswer.{derived_once, one_stuck_place}
+use Rattle.in_deriving.specs.TakenOrder.{AreTaken}
+use Rattle.in_deriving.proofs.OneAnswer.{derived_once, one_stuck_place}
 use Rattle.in_opening.proofs.OneOpening.{by_elements}
 use Rattle.in_open_nets.proofs.Whole.{derivation_builds}
 use Rattle.in_check.specs.declared.checked.Certificate.{Certificate}

@@ -14,7 +14,7 @@ use Rattle.in_open_nets.specs.OpenNets.{OpenNet, IsDerivable}
 use Rattle.in_opening.specs.Opening.{Opens}
 use Rattle.in_opening.specs.OpeningRules.{OpensRule}
 use Rattle.in_open_nets.specs.Stuck.{IsStuckAt}
-use Rattle.in_simple.specs.TakenOrder.{AreTaken}
+use Rattle.in_deriving.specs.TakenOrder.{AreTaken}
 use Rattle.in_check.specs.declared.checked.Certificate.{Certificate}
 
 -- ---- an open net

@@ -11,7 +11,7 @@ use crate::misfits::Misfit;
 use in_net::{Net, Rule};
 use in_open_nets::{OpenNet, Stuck, Undone};
 use in_opening::{open_net, open_rule};
-use in_simple::derive;
+use in_deriving::derive;
 use in_symbols::Symbols;
 use in_syntax::{Code, Fault, Refusal};
 use sqlite_items::Items;

@@ -1,9 +1,8 @@
 use in_check::{Checked, Item};
 use in_cover::RuleNo;
-use in_open_nets::{Derivation, OpenNet, Step};
+use in_simple::{Derivation, OpenNet, Step, verify};
 use in_test_programs::{Look, seen};
 use in_test_texts::{ADDITION, DUPLICATION, SUMS};
-use in_verify::verify;
 use sqlite_items::Items;
 use std::alloc::{AllocError, Global};
 

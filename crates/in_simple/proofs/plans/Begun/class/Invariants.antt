@@ -1,6 +1,0 @@
-use Rattle.std.proofs.Common.{◌≡◌}
-use Rattle.in_simple.specs.Progress.{until}
-use Rattle.in_simple.proofs.plans.Begun.class.Given as goal
-
-abbrev pub invariant-loop-port : goal.invariant-loop-port
-invariant-loop-port l = l.joined ≡ until l.fn.self l.port
