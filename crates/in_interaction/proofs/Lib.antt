@@ -1,2 +1,3 @@
 pub mod Interactions
+pub mod Queues
 pub mod Stepping

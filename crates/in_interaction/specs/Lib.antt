@@ -8,3 +8,4 @@ pub mod Made
 pub mod Making
 pub mod OutcomeLaws
 pub mod Pieces
+pub mod Queues

@@ -1,7 +1,7 @@
 -- The active pairs that an interaction makes. Lafont 1990: the right member takes the place of the active pair on the same boundary ends;
 -- where two principal ports come to one wire by this, a new active pair stands. Which of the two stands first, and the order of the new
 -- pairs, is this project's own choice. All this is under any names of the new agents.
-use Rattle.std.specs.Prelude.{◌≡◌, ◌≢◌, ◌⊎◌, ◌<◌, ◌≤◌, ℕ, List, slice_get, Some}
+use Rattle.std.specs.Prelude.{◌≡◌, ◌≢◌, ◌⊎◌, ◌<◌, ◌≤◌, ◌++◌, ℕ, List, map, slice_get, Some}
 use Rattle.in_base.specs.Lists.{IsAmong}
 use Rattle.in_symbols.specs.Tables.{Tables}
 use Rattle.in_symbols.specs.declared.symbols.SymbolNo.{SymbolNo}
@@ -11,6 +11,7 @@ use Rattle.in_net.specs.Interactions.{Redex, Side, Alternates, wire_of, IsOfPair
 use Rattle.in_net.specs.Nets.{Point, Port, Signature, Net, net_of, signature_of}
 use Rattle.in_net.specs.Parts.{Parts, symbol_in}
 use Rattle.in_net.specs.Rules.{RuleParts}
+use Rattle.in_interaction.specs.Queues.{agents_at, both, IsFirstQueue}
 
 -- an alternating path leads from one point to the other and passes the boundary end of this number
 abbrev pub PassesEnd : {A B : Type 0} → Signature → Net A → Redex A B → (B → A) → ℕ → Point A → Point A → Type 0
@@ -38,12 +39,21 @@ pub record IsMade (t : Tables) (n : Parts) (r : RuleParts) (a b : AgentNo) (name
   pub path : IsLowestEnd (signature_of t) (net_of n) (redex_at r a.0 b.0) name e (Port q.0.0 0) (Port q.1.0 0)
   pub order : StandsFirst t first second q.0 q.1
 
--- these are all of them, each once, in the order of the lowest boundary ends
-pub record AreMade (t : Tables) (n : Parts) (r : RuleParts) (a b : AgentNo) (name : ℕ → ℕ) (qs : List (AgentNo × AgentNo)) : Type 0 where
+-- these are all such pairs, each once, in the order of the lowest boundary ends
+pub record AreMadeOverEnds (t : Tables) (n : Parts) (r : RuleParts) (a b : AgentNo) (name : ℕ → ℕ) (qs : List (AgentNo × AgentNo)) : Type 0 where
   pub each : (k : ℕ) (q : AgentNo × AgentNo) → slice_get qs k ≡ Some q → (e : ℕ) × IsMade t n r a b name e q
   pub all : (e : ℕ) (q : AgentNo × AgentNo) → IsMade t n r a b name e q → (k : ℕ) × (slice_get qs k ≡ Some q)
   pub rising : (j k d e : ℕ) (p q : AgentNo × AgentNo) → j < k → slice_get qs j ≡ Some p → slice_get qs k ≡ Some q →
       IsMade t n r a b name d p → IsMade t n r a b name e q → d < e
+
+-- these are the active pairs that the interaction makes, each once: those of paths through boundary ends, by the lowest of them, and then
+-- the right member's own under their new names, in the order of their wires
+pub record AreMade (t : Tables) (n : Parts) (r : RuleParts) (a b : AgentNo) (name : ℕ → ℕ) (qs : List (AgentNo × AgentNo)) : Type 0 where
+  pub over : List (AgentNo × AgentNo)
+  pub own : List (ℕ × ℕ)
+  pub are_over : AreMadeOverEnds t n r a b name over
+  pub are_own : IsFirstQueue t r.member own
+  pub listed : qs ≡ over ++ map (λ q. agents_at (both name q)) own
 
 -- two new agents that are an active pair in the right member already, so that no boundary end is on their wire
 pub record IsOwn (t : Tables) (r : RuleParts) (name : ℕ → ℕ) (q : AgentNo × AgentNo) : Type 0 where

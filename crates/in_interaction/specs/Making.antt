@@ -1,5 +1,5 @@
 -- How the code looks for the active pairs that an interaction makes. Words of the inner contracts of `made`.
-use Rattle.std.specs.Prelude.{◌≡◌, ◌<◌, ◌≤◌, ◌*◌, ◌+◌, ℕ, zero, suc, List, length, Option, Some, None, slice_get}
+use Rattle.std.specs.Prelude.{◌≡◌, ◌<◌, ◌≤◌, ◌*◌, ◌+◌, ◌++◌, ℕ, zero, suc, List, length, map, Option, Some, None, slice_get}
 use Rattle.in_base.specs.Lists.{IsAmong}
 use Rattle.in_symbols.specs.Tables.{Tables}
 use Rattle.in_symbols.specs.declared.symbols.SymbolNo.{SymbolNo}
@@ -16,6 +16,7 @@ use Rattle.in_interaction.specs.Interacting.{unused, CanInteract}
 use Rattle.in_net.specs.Interactions.{Side, Outer, Inner, Redex, Alternates, wire_of, IsOfPair, end_agent, end_place, redex_at}
 use Rattle.in_interaction.specs.Made.{HasSymbolAfter, IsMade}
 use Rattle.in_net.specs.Nets.{Point, Port, net_of, signature_of, point_of}
+use Rattle.in_interaction.specs.Queues.{agents_at, both, IsFirstQueue}
 
 abbrev pub side_of : code.Side → Side
 side_of code_side.Outer = Outer
@@ -95,3 +96,11 @@ pub record AreMadeBelow (t : Tables) (s : SiteParts) (end : ℕ) (qs : List (Age
   pub all : (e : ℕ) (q : AgentNo × AgentNo) → e < end → IsMade t s.net s.rule s.one s.two (unused s.net.cells) e q → (k : ℕ) × (slice_get qs k ≡ Some q)
   pub rising : (j k d e : ℕ) (p q : AgentNo × AgentNo) → j < k → slice_get qs j ≡ Some p → slice_get qs k ≡ Some q →
       IsMade t s.net s.rule s.one s.two (unused s.net.cells) d p → IsMade t s.net s.rule s.one s.two (unused s.net.cells) e q → d < e
+
+-- two agents of the right member under the numbers that they get
+abbrev pub renumbered : SiteParts → ℕ × ℕ → AgentNo × AgentNo
+renumbered s q = agents_at (both (unused s.net.cells) q)
+
+-- behind the pairs that were there stand the right member's own
+abbrev pub AddsOwn : Tables → SiteParts → List (AgentNo × AgentNo) → List (AgentNo × AgentNo) → Type 0
+AddsOwn t s before after = (own : List (ℕ × ℕ)) × IsFirstQueue t s.rule.member own × (after ≡ before ++ map (renumbered s) own)

@@ -3,7 +3,7 @@ use Rattle.std.specs.Prelude.{◌≡◌, ◌≢◌, ◌⊎◌, ◌↔◌, ℕ, L
 use Rattle.in_symbols.specs.Tables.{Tables}
 use Rattle.in_net.specs.ActivePairs.{IsActivePair, ArePairsOf}
 use Rattle.in_interaction.specs.Interacting.{unused, CanInteract, MayInteract, Interacts, InteractsAs}
-use Rattle.in_interaction.specs.Made.{AreMade, IsOwn}
+use Rattle.in_interaction.specs.Made.{AreMadeOverEnds, AreMade, IsOwn}
 use Rattle.in_net.specs.Nets.{IsNet, net_of, signature_of}
 use Rattle.in_net.specs.Parts.{Parts, IsWhole}
 use Rattle.in_net.specs.Rules.{RuleParts}
@@ -20,17 +20,17 @@ PairsAreListedOnce = (t : Tables) (n : Parts) (ps qs : List (AgentNo × AgentNo)
 
 -- .. and so is the list of the pairs that an interaction makes
 abbrev pub MadePairsAreListedOnce : Type 0
-MadePairsAreListedOnce = (t : Tables) (n : Parts) (r : RuleParts) (a b : AgentNo) (name : ℕ → ℕ) (ps qs : List (AgentNo × AgentNo)) → AreMade t n r a b name ps → AreMade t n r a b name qs → ps ≡ qs
+MadePairsAreListedOnce = (t : Tables) (n : Parts) (r : RuleParts) (a b : AgentNo) (name : ℕ → ℕ) (ps qs : List (AgentNo × AgentNo)) → IsWhole r.member → AreMade t n r a b name ps → AreMade t n r a b name qs → ps ≡ qs
 
 -- an active pair of two other agents than these
 abbrev pub IsOtherPair : Tables → Parts → AgentNo → AgentNo → AgentNo × AgentNo → Type 0
 IsOtherPair t n a b q = IsActivePair t n q × (q.0 ≢ a) × (q.0 ≢ b) × (q.1 ≢ a) × (q.1 ≢ b)
 
--- the active pairs after an interaction, whatever the new agents' names are, are those of other agents, the pairs that it makes, and the
--- right member's own
+-- the active pairs after an interaction, whatever the new agents' names are, are those of other agents, the pairs that it makes over
+-- boundary ends, and the right member's own
 abbrev pub PairsAreKeptOrMade : Type 0
 PairsAreKeptOrMade = (t : Tables) (n : Parts) (r : RuleParts) (a b : AgentNo) (name : ℕ → ℕ) (m : Parts) (made : List (AgentNo × AgentNo)) →
-    IsNet (signature_of t) (net_of n) → IsNet (signature_of t) (net_of r.member) → CanInteract t n r a b → InteractsAs t n r a b name m → AreMade t n r a b name made →
+    IsNet (signature_of t) (net_of n) → IsNet (signature_of t) (net_of r.member) → CanInteract t n r a b → InteractsAs t n r a b name m → AreMadeOverEnds t n r a b name made →
     (q : AgentNo × AgentNo) → IsActivePair t m q ↔ (IsOtherPair t n a b q ⊎ ((k : ℕ) × (slice_get made k ≡ Some q)) ⊎ IsOwn t r name q)
 
 -- interacting as `interact` does is one way of it: the new agents have the least numbers that the old net doesn't have

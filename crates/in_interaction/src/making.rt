@@ -1,8 +1,8 @@
-ghost use Rattle.std.specs.Prelude.{◌≡◌, ◌≢◌, ◌<◌, length, IfOk};
+ghost use Rattle.std.specs.Prelude.{◌≡◌, ◌≢◌, ◌<◌, length, IfOk, OnOk};
 ghost use Rattle.in_interaction.specs.Interacting.{unused, MayInteract, CanInteract};
 ghost use Rattle.in_net.specs.Interactions.{other};
 ghost use Rattle.in_interaction.specs.Made.{AreMade};
-ghost use Rattle.in_interaction.specs.Making.{side_of, Over, LeadsTo, IsLanding, principal_of, IsSymbolAfter, IsPairAt};
+ghost use Rattle.in_interaction.specs.Making.{side_of, Over, LeadsTo, IsLanding, principal_of, IsSymbolAfter, IsPairAt, AddsOwn};
 
 use crate::following::Site;
 use crate::interacting::{arity, unused};
@@ -124,11 +124,32 @@ impl<'a> Site<'a> {
     }
 }
 
+impl<'a> Site<'a> {
+    /// Adds the right member's own active pairs, under the numbers that its agents get, in the order of their wires.
+    fn add_own(
+        &self,
+        symbols: &Symbols,
+        pairs: &mut SmallVec<(AgentNo, AgentNo), 16>,
+    ) -> Result<(), AllocError>
+        requires over { Over self.now symbols.now }
+        ensures { OnOk result (AddsOwn symbols.now self.now pairs.old.items pairs.new.items) }
+    {
+        let _ = &self.first;
+        let right = self.rule.member();
+        for wire in 0..right.wires() {
+            if let Some((one, other)) = right.pair_of_wire(symbols, wire) {
+                pairs.push((self.names[one.0 as usize], self.names[other.0 as usize]))?;
+            }
+        }
+        Ok(())
+    }
+}
+
 /// The active pairs that `interact` would make of this net, rule, `a` and `b`: two agents whose principal ports come to one wire by it.
 ///
-/// The constructor stands first, and of two constructors or two destructors the one with the lower number, which may be that of a new
-/// agent. Each such wire goes through ports of the pair; the pairs are in the order of the lowest boundary ends on their wires. Both
-/// orders are this project's own choice. The `Symbols` are those of the net; the other conditions are those of `interact`. Refused for
+/// First come the pairs whose wires go through ports of `a` and `b`, by the lowest boundary end on each, and then those that the right
+/// member holds itself, in the order of their wires, which is that of the text. The constructor stands first; of two constructors or two
+/// destructors the one with the lower number, which may be that of a new agent. Both orders are this project's own choice. The `Symbols` are those of the net; the other conditions are those of `interact`. Refused for
 /// want of memory alone.
 pub fn made(
     alloc: Global,
@@ -158,5 +179,6 @@ pub fn made(
             pairs.push(pair)?;
         }
     }
+    site.add_own(symbols, &mut pairs)?;
     Ok(pairs)
 }

@@ -59,7 +59,7 @@ module _ (t : Tables) (n : Parts) where
       active : AreActive n (record { 0 = x }) other
       way : (q ≡ (record { 0 = x }, other)) ⊎ (q ≡ (other, record { 0 = x }))
 
-    differ : (a b : AgentNo) → AreActive n a b → a.0 ≢ b.0
+    pub differ : (a b : AgentNo) → AreActive n a b → a.0 ≢ b.0
     differ a b h e = whole.apart (Port a 0) (h ∙ ap (λ (z : ℕ). let y : AgentNo = record { 0 = z } in Some (Port y 0)) (sym e))
 
     by_order : (a b : AgentNo) → a.0 ≢ b.0 → (a.0 < b.0) ⊎ (b.0 < a.0)

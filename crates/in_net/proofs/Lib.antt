@@ -35,6 +35,7 @@ pub mod OneNet
 pub mod OneText
 pub mod Order
 pub mod Outs
+pub mod PairOfWire
 pub mod PairPorts
 pub mod PlacesApart
 pub mod Points

@@ -5,7 +5,7 @@ use Rattle.in_symbols.specs.Tables.{Tables, is_constructor}
 use Rattle.in_symbols.specs.declared.symbols.SymbolNo.{SymbolNo}
 use Rattle.in_net.specs.declared.nets.AgentNo.{AgentNo}
 use Rattle.in_net.specs.declared.nets.Point.TheVariants.{Port}
-use Rattle.in_net.specs.Parts.{Parts, symbol_in, partner_in}
+use Rattle.in_net.specs.Parts.{Parts, symbol_in, partner_in, IsWireBetween}
 
 abbrev pub AreActive : Parts → AgentNo → AgentNo → Type 0
 AreActive n a b = partner_in n (Port a 0) ≡ Some (Port b 0)
@@ -26,6 +26,10 @@ pub record IsActivePair (t : Tables) (n : Parts) (q : AgentNo × AgentNo) : Type
   pub one : symbol_in n q.0.0 ≡ Some first
   pub two : symbol_in n q.1.0 ≡ Some second
   pub order : StandsFirst t first second q.0 q.1
+
+-- the listed wire of that number joins the principal ports of the two
+abbrev pub JoinsAgents : Parts → ℕ → AgentNo × AgentNo → Type 0
+JoinsAgents n w q = IsWireBetween n w (Port q.0 0) (Port q.1 0)
 
 abbrev pub lower_of : AgentNo × AgentNo → ℕ
 lower_of q = min q.0.0 q.1.0

@@ -17,6 +17,22 @@ pub enum Point {
     Free(u32),
 }
 
+impl Point {
+    ghost use Rattle.std.specs.Prelude.{◌≢◌, MatchOption};
+    ghost use Rattle.in_net.specs.declared.nets.AgentNo.{AgentNo};
+    ghost use Rattle.in_net.specs.declared.nets.Point.TheVariants.{Port};
+
+    /// The agent whose principal port this is.
+    pub fn principal(self) -> Option<AgentNo>
+        ensures { MatchOption result ((x : AgentNo) → self ≢ Port x 0) (λ x. self ≡ Port x 0) }
+    {
+        match self {
+            Point::Port(agent, place) => { if place == 0 { Some(agent) } else { None } }
+            Point::Free(_) => None,
+        }
+    }
+}
+
 /// An agent: its symbol, and the partner of each of its places.
 #[derive(Drop)]
 pub struct Cell {

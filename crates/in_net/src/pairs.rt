@@ -1,5 +1,5 @@
-ghost use Rattle.std.specs.Prelude.{◌≡◌, ◌≢◌, ◌<◌, IfOk, MatchOption};
-ghost use Rattle.in_net.specs.ActivePairs.{AreActive, IsActivePair, IsOrdered, lower_of, ArePairsOf};
+ghost use Rattle.std.specs.Prelude.{◌≡◌, ◌≢◌, ◌<◌, length, IfOk, MatchOption};
+ghost use Rattle.in_net.specs.ActivePairs.{AreActive, IsActivePair, IsOrdered, JoinsAgents, lower_of, ArePairsOf};
 ghost use Rattle.in_symbols.specs.Tables.{IsSymbol};
 ghost use Rattle.in_net.specs.Built.{IsOver};
 ghost use Rattle.in_net.specs.declared.nets.AgentNo.{AgentNo};
@@ -44,6 +44,21 @@ impl Net {
             }
             _ => None,
         }
+    }
+
+    /// The active pair whose principal ports this wire joins, in its order, if it joins two. The `Symbols` are those of the net.
+    pub fn pair_of_wire(&self, symbols: &Symbols, wire: u32) -> Option<(AgentNo, AgentNo)>
+        requires over { IsOver symbols.now self.now }
+        requires wire { wire < length self.now.wires }
+        ensures { MatchOption result ((q : AgentNo × AgentNo) → JoinsAgents self.now wire q → ⊥) (λ q. IsActivePair symbols.now self.now q × JoinsAgents self.now wire q) }
+    {
+        let _ = &self.cells;
+        let (from, to) = self.wire(wire);
+        let one = from.principal()?;
+        let other = to.principal()?;
+        let first = self.symbol(one)?;
+        let second = self.symbol(other)?;
+        Some(in_order(symbols, (one, first), (other, second)))
     }
 
     /// The active pairs, each once: two agents whose principal ports are joined (Lafont 1990). The constructor stands first, and of two

@@ -14,12 +14,13 @@ use Rattle.in_check.specs.Laws.{AreOneProgram}
 use Rattle.in_check.specs.Plain.{IsPairAt, IsRuleAt}
 use Rattle.in_check.specs.Programs.{Program}
 use Rattle.in_check.specs.Runs.{IsRenamed}
+use Rattle.in_interaction.specs.Queues.{IsFirstQueue}
 use Rattle.in_run.specs.declared.cells.Need.{Need}
 use Rattle.in_run.specs.declared.limits.Limits.{Limits}
 use Rattle.in_run.specs.declared.stops.Stop.{Stop}
 use Rattle.in_run.specs.declared.stops.Stop.TheVariants.{Normal, Limit, Full}
 use Rattle.in_run.specs.Machines.{MachineParts, parts_of, plain_of, agents_of}
-use Rattle.in_run.specs.Runs.{StepsAt, NeedsAt, Runs, at_start, then_step, IsStop, IsOutcome, IsFirstQueue, IsStart, DoesNotFit}
+use Rattle.in_run.specs.Runs.{StepsAt, NeedsAt, Runs, at_start, then_step, IsStop, IsOutcome, IsStart, DoesNotFit}
 use Rattle.in_run.proofs.SameRun.{machine_runs, same_outcome}
 use Rattle.in_run.proofs.SameStart.{count_at, same_start, start_machine}
 use Rattle.in_print.proofs.SameTexts.{same_texts}
@@ -59,8 +60,6 @@ module _ (ns : Cells) where
     };
     made = s.made;
     new = s.new;
-    own = s.own;
-    inner = s.inner;
     queue = s.queue;
     cells = s.cells;
   }

@@ -7,12 +7,10 @@ use Rattle.in_syntax.specs.declared.tree.SourceRule.{SourceRule}
 use Rattle.in_symbols.specs.Tables.{Tables, IsSymbol}
 use Rattle.in_symbols.specs.declared.symbols.SymbolNo.{SymbolNo}
 use Rattle.in_net.specs.declared.nets.AgentNo.{AgentNo}
-use Rattle.in_net.specs.ActivePairs.{AreActive}
 use Rattle.in_net.specs.Built.{IsOver}
 use Rattle.in_net.specs.Nets.{net_of}
 use Rattle.in_net.specs.Parts.{Parts, IsWhole, symbol_in}
 use Rattle.in_net.specs.Rules.{RuleParts, BuildsRuleOf}
-use Rattle.in_net.proofs.RightMembers.{no_active_pair}
 use Rattle.in_cover.specs.Cover.{IsRuleFor}
 use Rattle.in_opening.specs.Opening.{AreAllThere}
 use Rattle.in_opening.proofs.Counted.{text_net_there}
@@ -66,9 +64,6 @@ module _ (text : List ℕ) (p : Program) (accepted : IsAccepted text p) where
 
     pub member_whole : IsWhole r.member
     member_whole = written.2.1.member.whole
-
-    pub no_pair : (x y : AgentNo) → AreActive r.member x y → ⊥
-    no_pair x y e = no_active_pair p.tables written.0 r.member x y written.2.1.member e
 
     -- the same of equal tables and parts
     pub over_at : (t : Tables) (n : Parts) → t ≡ p.tables → n ≡ r.member → IsOver t n

@@ -1,10 +1,7 @@
 pub mod Accepted
-pub mod Apart
 pub mod AsMany
 pub mod Counting
 pub mod Ended
-pub mod FirstPairs
-pub mod FirstQueue
 pub mod ListedAgents
 pub mod OnItsWay
 pub mod OneEnd

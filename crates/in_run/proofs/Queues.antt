@@ -25,9 +25,10 @@ use Rattle.in_check.specs.Promises.{IsAsPromised}
 use Rattle.in_check.specs.Systems.{system_of}
 use Rattle.in_check.proofs.Reached.Counts.{few}
 use Rattle.in_check.proofs.Reached.Plain.{promised}
+use Rattle.in_interaction.specs.Queues.{IsQueueOf, agents_at}
 use Rattle.in_run.specs.Machines as machines
-use Rattle.in_run.specs.Machines.{MachineParts, IsMachine, IsQueueOf, agents_at, takes, parts_of, plain_of}
-use Rattle.in_run.proofs.Apart.{apart, back_in, same_numbers}
+use Rattle.in_run.specs.Machines.{MachineParts, IsMachine, takes, parts_of, plain_of}
+use Rattle.in_interaction.proofs.Queues.Apart.{apart, back_in, same_numbers}
 use Rattle.in_run.proofs.Ordered.{stands, stands_other}
 
 -- ---- the agents of a net, by number

@@ -15,12 +15,12 @@ use Rattle.in_net.specs.Rules.{RuleParts}
 use Rattle.in_base.proofs.Places.{kept_at}
 use Rattle.in_check.proofs.Reached.FromText.{of_mapped, to_mapped}
 use Rattle.in_check.proofs.Reached.Signs.{AreOpposed, stands_anywhere}
-use Rattle.in_run.specs.Machines.{agents_at, numbers_of, both, IsQueueOf}
-use Rattle.in_interaction.specs.Made.{AreMade, IsOwn}
+use Rattle.in_interaction.specs.Made.{AreMadeOverEnds, IsOwn}
 use Rattle.in_interaction.specs.OutcomeLaws.{IsOtherPair}
-use Rattle.in_run.proofs.Apart.{apart, back_in}
+use Rattle.in_interaction.proofs.Queues.Apart.{apart, back_in}
 use Rattle.in_interaction.proofs.Stepping.KeptOrMade.{kept_or_made, not_made}
 use Rattle.in_interaction.proofs.Stepping.Partners.{net_wire}
+use Rattle.in_interaction.specs.Queues.{agents_at, numbers_of, both, IsQueueOf}
 
 -- ---- lists
 
@@ -89,7 +89,7 @@ module _ (t : Tables) (n : Parts) (a b : AgentNo) (qs : List (ℕ × ℕ)) (i : 
 -- ---- the queue after
 
 module _ (t : Tables) (n : Parts) (r : RuleParts) (a b : AgentNo) (name : ℕ → ℕ) (m : Parts) (made : List (AgentNo × AgentNo)) (own qs : List (ℕ × ℕ)) (i : ℕ) (net : IsNet (signature_of t) (net_of n)) (inside : IsNet (signature_of t) (net_of r.member))
-    (can : CanInteract t n r a b) (act : InteractsAs t n r a b name m) (opposed : AreOpposed t r.member) (are_made : AreMade t n r a b name made) (inner : IsQueueOf t r.member own) (queue : IsQueueOf t n qs) (stands : slice_get qs i ≡ Some (a.0, b.0)) where
+    (can : CanInteract t n r a b) (act : InteractsAs t n r a b name m) (opposed : AreOpposed t r.member) (are_made : AreMadeOverEnds t n r a b name made) (inner : IsQueueOf t r.member own) (queue : IsQueueOf t n qs) (stands : slice_get qs i ≡ Some (a.0, b.0)) where
   abbrev Made : AgentNo × AgentNo → Type 0
   Made q = (k : ℕ) × (slice_get made k ≡ Some q)
 

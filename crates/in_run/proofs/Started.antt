@@ -8,10 +8,11 @@ use Rattle.in_check.specs.Plain.{PlainParts}
 use Rattle.in_check.specs.Programs.{Program}
 use Rattle.in_net.specs.Nets.{net_of}
 use Rattle.in_check.proofs.Reached.Plain.{renamed_self, starts}
+use Rattle.in_interaction.specs.Queues.{IsQueueOf, agents_at, both, AreInOrder}
 use Rattle.in_run.specs.Inside.{IsKept}
 use Rattle.in_run.specs.Limiting.{most_cells}
-use Rattle.in_run.specs.Machines.{MachineParts, IsMachine, IsQueueOf, HasCells, agents_at, agents_of, both}
-use Rattle.in_run.specs.Runs.{AreInOrder, IsStart}
+use Rattle.in_run.specs.Machines.{MachineParts, IsMachine, HasCells, agents_of}
+use Rattle.in_run.specs.Runs.{IsStart}
 use Rattle.in_run.proofs.Accepted.{net_over, net_whole}
 use Rattle.in_run.proofs.Unlisted.{bare, over_bare, pair_bare, pair_full, plain_bare}
 

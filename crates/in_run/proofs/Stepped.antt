@@ -1,13 +1,12 @@
 -- One interaction of a machine: what it leaves is a machine again.
-use Rattle.std.proofs.Common.{◌≡◌, ◌≤◌, ◌+◌, ℕ, suc, List, [], ◌++◌, length, length-append, map, remove, count_by, is_some, Some, slice_get, refl, sym, ap, subst, ◌∙◌, arith}
-use Rattle.std.proofs.lemmas.List.{append-nil, length-map}
+use Rattle.std.proofs.Common.{◌≡◌, ◌≤◌, ◌+◌, ℕ, suc, List, ◌++◌, length, length-append, map, remove, count_by, is_some, Some, slice_get, refl, sym, ap, subst, ◌∙◌, arith}
+use Rattle.std.proofs.lemmas.List.{length-map}
 use Rattle.std.proofs.lemmas.List.Edits.{length-remove}
 use Rattle.std.proofs.lemmas.Option.{same_Some, slice_get_within}
 use Rattle.in_arena.specs.declared.content.CellClass.{CellClass}
 use Rattle.in_arena.specs.declared.content.CellClass.TheVariants.{Small, Large}
 use Rattle.in_symbols.specs.Tables.{Tables}
 use Rattle.in_net.specs.declared.nets.AgentNo.{AgentNo}
-use Rattle.in_net.specs.ActivePairs.{AreActive}
 use Rattle.in_interaction.specs.Interacting.{unused, most_agents, CanInteract, Interacts, InteractsAs}
 use Rattle.in_net.specs.Parts.{Parts, IsWhole}
 use Rattle.in_net.specs.Rules.{RuleParts}
@@ -15,18 +14,21 @@ use Rattle.in_check.specs.Checking.{IsAccepted}
 use Rattle.in_check.specs.Plain.{PlainParts, IsPlain, IsPairAt, IsReachedBy, IsRuleAt, StepsTo}
 use Rattle.in_check.specs.Programs.{Program}
 use Rattle.in_net.proofs.OneNet.{is_net}
+use Rattle.in_interaction.proofs.Queues.NewPairs.{made_numbers}
 use Rattle.in_interaction.proofs.Stepping.KeptOrMade.{least_are_names}
 use Rattle.in_check.proofs.Reached.Plain.{fits, steps}
+use Rattle.in_interaction.specs.Queues.{IsQueueOf, agents_at, both, numbers_of}
 use Rattle.in_run.specs.Inside.{IsKept, heads_taking}
 use Rattle.in_run.specs.Limiting.{most_cells}
-use Rattle.in_run.specs.Machines.{MachineParts, IsMachine, IsQueueOf, HasCells, agents_at, agents_of, both, free_of, numbers_of, plain_of}
-use Rattle.in_interaction.specs.Made.{IsMade, AreMade}
-use Rattle.in_run.specs.Runs.{HasRoomAt, IsFirstQueue, StepsAt}
-use Rattle.in_run.proofs.Accepted.{member_whole, no_pair, one_rule}
+use Rattle.in_run.specs.Machines.{MachineParts, IsMachine, HasCells, agents_of, free_of, plain_of}
+use Rattle.in_interaction.specs.Made.{IsMade, AreMadeOverEnds, AreMade}
+use Rattle.in_run.specs.Runs.{HasRoomAt, StepsAt}
+use Rattle.in_run.proofs.Accepted.{member_whole, one_rule}
 use Rattle.in_run.proofs.Queues.{few_agents, short_queue}
 use Rattle.in_run.proofs.Replaced.{counted}
 use Rattle.in_run.proofs.Requeued.{is_queue_after}
 use Rattle.in_run.proofs.Started.{machine_at, queue_bare, queue_full}
+use Rattle.in_run.proofs.StepsOn.{member_opposed}
 use Rattle.in_run.proofs.Unlisted.{bare, with_net, plain_bare, plain_full, at_full, rule_bare, rule_full, acts_bare}
 
 -- ---- the pairs that it makes, without the list of wires
@@ -38,19 +40,15 @@ module _ (t : Tables) (n : Parts) (r : RuleParts) (a b : AgentNo) (name : ℕ �
   one_full : (e : ℕ) (q : AgentNo × AgentNo) → IsMade t (bare n) r a b name e q → IsMade t n r a b name e q
   one_full e q h = record { first = h.first; second = h.second; one = h.one; two = h.two; path = h.path; order = h.order }
 
-  made_bare : (made : List (AgentNo × AgentNo)) → AreMade t n r a b name made → AreMade t (bare n) r a b name made
-  made_bare made h = record {
+  over_bare : (over : List (AgentNo × AgentNo)) → AreMadeOverEnds t n r a b name over → AreMadeOverEnds t (bare n) r a b name over
+  over_bare over h = record {
     each = λ k q e. (let f = h.each k q e in (f.0, one_bare f.0 q f.1));
     all = λ e q f. h.all e q (one_full e q f);
     rising = λ j k d e p q l x y f g. h.rising j k d e p q l x y (one_full d p f) (one_full e q g);
   }
 
--- a net without an active pair has an empty queue
-no_queue : (t : Tables) (n : Parts) → ((x y : AgentNo) → AreActive n x y → ⊥) → IsFirstQueue t n []
-no_queue t n none = record {
-  pairs = record { pairs = λ k q e. cc; all = λ q h. absurd (none q.0 q.1 h.active); once = λ j k q e f. cc };
-  order = λ j k v w p q l e f g h. cc;
-}
+  made_bare : (made : List (AgentNo × AgentNo)) → AreMade t n r a b name made → AreMade t (bare n) r a b name made
+  made_bare made h = record { over = h.over; own = h.own; are_over = over_bare h.over h.are_over; are_own = h.are_own; listed = h.listed }
 
 -- ---- the machine after
 
@@ -85,9 +83,9 @@ module _ (text : List ℕ) (p : Program) (accepted : IsAccepted text p) (n m : P
     acts : InteractsAs p.tables n r a b (unused n.cells) m
     acts = least_are_names p.tables n r a b m can act
 
-    -- the right member has no pair of its own
-    whole_queue : remove qs i ++ (map numbers_of made ++ map (both (unused n.cells)) []) ≡ remove qs i ++ map numbers_of made
-    whole_queue = ap (λ (z : List (ℕ × ℕ)). remove qs i ++ z) (append-nil (map numbers_of made))
+    -- the queue, the new pairs by their two kinds
+    by_kinds : remove qs i ++ (map numbers_of are_made.over ++ map (both (unused n.cells)) are_made.own) ≡ remove qs i ++ map numbers_of made
+    by_kinds = ap (λ (z : List (ℕ × ℕ)). remove qs i ++ z) (sym (made_numbers p.tables n r a b (unused n.cells) made are_made))
 
     cells_kept : (c : CellClass) → free_of after c + agents_of p.tables c m.cells ≡ free_of (machine_at p n qs small large) c + agents_of p.tables c n.cells
     cells_kept Small = let e = counted p.tables n r a b m whole.apart can act Small in omega (arith, e, one)
@@ -103,9 +101,7 @@ module _ (text : List ℕ) (p : Program) (accepted : IsAccepted text p) (n m : P
       step = record { number = k; rule = r; is_rule = rule_bare p n a b k r is; acts = acts_bare p.tables n m r a b (unused n.cells) acts; program = refl };
       made = made;
       new = made_bare p.tables n r a b (unused n.cells) made are_made;
-      own = [];
-      inner = no_queue p.tables r.member (no_pair text p accepted k r is.stands);
-      queue = sym whole_queue;
+      queue = refl;
       cells = cells_kept;
     }
 
@@ -114,8 +110,8 @@ module _ (text : List ℕ) (p : Program) (accepted : IsAccepted text p) (n m : P
 
     queued_after : IsQueueOf p.tables m (remove qs i ++ map numbers_of made)
     queued_after =
-        subst (IsQueueOf p.tables m) whole_queue (is_queue_after p.tables n r a b (unused n.cells) m made [] qs i (is_net p.tables n whole can.net) (is_net p.tables r.member (member_whole text p accepted k r is.stands) can.rule.member)
-        can acts (λ x y c d active. absurd (no_pair text p accepted k r is.stands x y active)) are_made (no_queue p.tables r.member (no_pair text p accepted k r is.stands)).pairs (queue_full p.tables n qs h.queue) stands)
+        subst (IsQueueOf p.tables m) by_kinds (is_queue_after p.tables n r a b (unused n.cells) m are_made.over are_made.own qs i (is_net p.tables n whole can.net) (is_net p.tables r.member (member_whole text p accepted k r is.stands) can.rule.member)
+        can acts (member_opposed (machine_at p n qs small large) h k r is.stands) are_made.are_over are_made.are_own.pairs (queue_full p.tables n qs h.queue) stands)
 
     pub is_machine_after : IsMachine after
     is_machine_after = record {

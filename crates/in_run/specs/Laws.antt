@@ -8,12 +8,13 @@ use Rattle.in_check.specs.Programs.{Program}
 use Rattle.in_check.specs.Promises.{IsAsPromised}
 use Rattle.in_check.specs.Systems.{system_of}
 use Rattle.in_order.specs.Ends.{EndsOnce}
+use Rattle.in_interaction.specs.Queues.{numbers_of, both}
 use Rattle.in_run.specs.declared.limits.Limits.{Limits}
 use Rattle.in_run.specs.declared.running.Outcome.{Outcome}
 use Rattle.in_run.specs.declared.stops.Stop.{Stop}
 use Rattle.in_run.specs.declared.stops.Stop.TheVariants.{Normal}
 use Rattle.in_run.specs.Limiting.{most_cells}
-use Rattle.in_run.specs.Machines.{MachineParts, IsMachine, parts_of, plain_of, numbers_of, both}
+use Rattle.in_run.specs.Machines.{MachineParts, IsMachine, parts_of, plain_of}
 use Rattle.in_run.specs.Outcomes.{RunsTo}
 use Rattle.in_run.specs.Rounds.{HasRoomFor, jobs_of, IsRound}
 use Rattle.in_run.specs.Runs.{HasRoomAt, StepsAt, IsStart, Runs, IsStop, IsOutcome}
@@ -100,7 +101,7 @@ RoomLasts = (m n : MachineParts) (j k : ℕ) → IsMachine m → HasRoomFor m k 
 -- at its end
 abbrev pub QueuesMoveUp : Type 0
 QueuesMoveUp = (m n : MachineParts) (j : ℕ) → Runs m j n → j ≤ length m.queue → (new : List (ℕ × ℕ)) × (n.queue ≡ drop j m.queue ++ new)
-    × ((o : MachineParts) (s : StepsAt n 0 o) → suc j ≤ length m.queue → o.queue ≡ drop (suc j) m.queue ++ (new ++ (map numbers_of s.made ++ map (both s.name) s.own)))
+    × ((o : MachineParts) (s : StepsAt n 0 o) → suc j ≤ length m.queue → o.queue ≡ drop (suc j) m.queue ++ (new ++ map numbers_of s.made))
 
 -- who takes the first pairs in turn until there are no more jobs, or no room for the next one, does a round
 abbrev pub RoundsEnd : Type 0

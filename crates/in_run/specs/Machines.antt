@@ -13,6 +13,7 @@ use Rattle.in_net.specs.declared.nets.Point as points
 use Rattle.in_net.specs.declared.nets.Point.TheVariants as point
 use Rattle.in_net.specs.ActivePairs.{IsActivePair}
 use Rattle.in_interaction.specs.Listing.{unlisted}
+use Rattle.in_interaction.specs.Queues.{IsQueueOf}
 use Rattle.in_net.specs.Parts.{Parts}
 use Rattle.in_check.specs.Checking.{IsAccepted}
 use Rattle.in_check.specs.Plain.{PlainParts, IsPlain}
@@ -35,17 +36,6 @@ parts_of m = unlisted m.agents m.free
 -- .. with its program
 abbrev pub plain_of : MachineParts → PlainParts
 plain_of m = record { program = m.program; net = parts_of m }
-
--- a pair of numbers as a pair of agents, and back
-abbrev pub agents_at : ℕ × ℕ → AgentNo × AgentNo
-agents_at q = (record { 0 = q.0 }, record { 0 = q.1 })
-
-abbrev pub numbers_of : AgentNo × AgentNo → ℕ × ℕ
-numbers_of q = (q.0.0, q.1.0)
-
--- two agents under other numbers
-abbrev pub both : (ℕ → ℕ) → ℕ × ℕ → ℕ × ℕ
-both f q = (f q.0, f q.1)
 
 -- the point that an end stands for, a cell having the number of its agent
 abbrev pub point_at : End → points.Point
@@ -75,14 +65,6 @@ free_of m Large = m.large
 -- of each class it has so many cells, free ones and those of its agents
 abbrev pub HasCells : ℕ → MachineParts → Type 0
 HasCells cells m = (c : CellClass) → free_of m c + agents_of m.program.tables c m.agents ≡ cells
-
--- ---- the queue
-
--- these are the active pairs of the net, each once, the constructor first
-pub record IsQueueOf (t : Tables) (n : Parts) (queue : List (ℕ × ℕ)) : Type 0 where
-  pub pairs : (k : ℕ) (q : ℕ × ℕ) → slice_get queue k ≡ Some q → IsActivePair t n (agents_at q)
-  pub all : (q : AgentNo × AgentNo) → IsActivePair t n q → (k : ℕ) × (slice_get queue k ≡ Some (numbers_of q))
-  pub once : (j k : ℕ) (q : ℕ × ℕ) → slice_get queue j ≡ Some q → slice_get queue k ≡ Some q → j ≡ k
 
 -- ---- what each machine keeps
 

@@ -15,12 +15,13 @@ use Rattle.in_net.specs.Rules.{RuleParts}
 use Rattle.in_check.specs.Plain.{IsPairAt, IsRuleAt, StepsAs}
 use Rattle.in_check.specs.Programs.{Program}
 use Rattle.in_check.specs.Runs.{IsRenamed}
+use Rattle.in_interaction.specs.Queues.{agents_at, numbers_of, both, IsQueueOf}
 use Rattle.in_run.specs.declared.cells.Need.{Need}
 use Rattle.in_run.specs.declared.stops.Stop.{Stop}
 use Rattle.in_run.specs.declared.stops.Stop.TheVariants.{Normal, Limit, Full}
 use Rattle.in_run.specs.declared.stops.StartFault.{StartFault}
 use Rattle.in_run.specs.declared.stops.StartFault.TheVariants as start
-use Rattle.in_run.specs.Machines.{MachineParts, parts_of, plain_of, agents_at, numbers_of, both, agents_of, free_of, HasCells, IsQueueOf}
+use Rattle.in_run.specs.Machines.{MachineParts, parts_of, plain_of, agents_of, free_of, HasCells}
 use Rattle.in_interaction.specs.Made.{AreMade}
 
 -- ---- what an interaction needs
@@ -48,30 +49,10 @@ abbrev pub IsShortAt : MachineParts → ℕ → CellClass → ℕ → ℕ → Ty
 IsShortAt m i Small need free = (n : Need) × NeedsAt m i n × (need ≡ n.small) × (free ≡ m.small) × (free < need)
 IsShortAt m i Large need free = (n : Need) × NeedsAt m i n × (need ≡ n.large) × (free ≡ m.large) × (free < need) × (n.small ≤ m.small)
 
--- ---- the pairs of a net as built
-
--- the wire of that number joins the principal ports of the two
-abbrev pub JoinsPair : Parts → ℕ → ℕ × ℕ → Type 0
-JoinsPair n w q = IsWireBetween n w (Port (agents_at q).0 0) (Port (agents_at q).1 0)
-
--- the wire of that number joins the principal ports of no two agents
-abbrev pub IsNoPair : Parts → ℕ → Type 0
-IsNoPair n w = (q : ℕ × ℕ) → JoinsPair n w q → ⊥
-
--- these pairs stand in the order of their wires. (The wires of a net as built stand in the order of their places.)
-abbrev pub AreInOrder : Parts → List (ℕ × ℕ) → Type 0
-AreInOrder n queue = (j k v w : ℕ) (p q : ℕ × ℕ) → j < k → slice_get queue j ≡ Some p → slice_get queue k ≡ Some q → JoinsPair n v p → JoinsPair n w q → v < w
-
--- the active pairs of a program's net, or of a right member, each once, the constructor first, in the order of their wires
-pub record IsFirstQueue (t : Tables) (n : Parts) (queue : List (ℕ × ℕ)) : Type 0 where
-  pub pairs : IsQueueOf t n queue
-  pub order : AreInOrder n queue
-
 -- ---- one interaction
 
 -- the interaction of the active pair of that number by its rule, where its cells are free: the new agents have any numbers that the net
--- doesn't have. The pair leaves the queue, and the new pairs come last: those of paths through boundary ends, by the lowest of them, and
--- then the right member's own, in the order of their wires. Of each class there are as many cells after as before
+-- doesn't have. The pair leaves the queue, and the new pairs come last. Of each class there are as many cells after as before
 pub record StepsAt (m : MachineParts) (i : ℕ) (after : MachineParts) : Type 0 where
   pub pair : ℕ × ℕ
   pub stands : slice_get m.queue i ≡ Some pair
@@ -81,9 +62,7 @@ pub record StepsAt (m : MachineParts) (i : ℕ) (after : MachineParts) : Type 0 
   pub step : StepsAs (plain_of m) (agents_at pair).0 (agents_at pair).1 name (plain_of after)
   pub made : List (AgentNo × AgentNo)
   pub new : AreMade m.program.tables (parts_of m) step.rule (agents_at pair).0 (agents_at pair).1 name made
-  pub own : List (ℕ × ℕ)
-  pub inner : IsFirstQueue m.program.tables step.rule.member own
-  pub queue : after.queue ≡ remove m.queue i ++ (map numbers_of made ++ map (both name) own)
+  pub queue : after.queue ≡ remove m.queue i ++ map numbers_of made
   pub cells : (c : CellClass) → free_of after c + agents_of m.program.tables c after.agents ≡ free_of m c + agents_of m.program.tables c m.agents
 
 -- ---- a start

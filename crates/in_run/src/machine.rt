@@ -1,18 +1,14 @@
 // A machine, and how it starts.
-ghost use Rattle.std.specs.Prelude.{◌≡◌, ◌≢◌, ◌<◌, ◌≤◌, length, IfOk, MatchOption};
+ghost use Rattle.std.specs.Prelude.{◌≤◌, IfOk};
 ghost use Rattle.std.specs.VecDeque.{deque_capacity};
-ghost use Rattle.in_net.specs.declared.nets.AgentNo.{AgentNo};
-ghost use Rattle.in_net.specs.declared.nets.Point.TheVariants.{Port};
-ghost use Rattle.in_net.specs.ActivePairs.{IsActivePair};
+ghost use Rattle.in_interaction.specs.Queues.{IsQueueOf, AreInOrder};
 ghost use Rattle.in_run.specs.Limiting.{least_cells, most_cells};
-ghost use Rattle.in_run.specs.Machines.{agents_at, IsQueueOf};
-ghost use Rattle.in_run.specs.Runs.{AreInOrder, IsNoPair, JoinsPair, Starts};
+ghost use Rattle.in_run.specs.Runs.{Starts};
 
 use crate::cells::agents_of;
 use crate::stops::StartFault;
 use in_arena::CellClass;
 use in_check::{Checked, Plain};
-use in_net::{AgentNo, Point};
 use std::alloc::{AllocError, Global};
 use std::collections::VecDeque;
 use std::marker::Model;
@@ -53,37 +49,6 @@ impl<'a> Model for Machine<'a> {
     }) m.plain (deque_capacity m.queue) };
 }
 
-/// The agent whose principal port this is.
-fn principal(point: Point) -> Option<AgentNo>
-    ensures { MatchOption result ((x : AgentNo) → point ≢ Port x 0) (λ x. point ≡ Port x 0) }
-{
-    match point {
-        Point::Port(agent, place) => { if place == 0 { Some(agent) } else { None } }
-        Point::Free(_) => None,
-    }
-}
-
-/// The two agents of a wire that is an active pair of the program's net, the constructor first.
-fn pair_of(checked: &Checked, wire: u32) -> Option<(u32, u32)>
-    requires { wire < length checked.now.net.wires }
-    ensures { MatchOption result (IsNoPair checked.now.net wire) (λ q. IsActivePair checked.now.tables checked.now.net (agents_at q) × JoinsPair checked.now.net wire q) }
-{
-    checked.is_accepted();
-    let net = checked.net();
-    let (one, other) = net.wire(wire);
-    let (Some(a), Some(b)) = (principal(one), principal(other)) else {
-        return None;
-    };
-    let (Some(first), Some(_)) = (net.symbol(a), net.symbol(b)) else {
-        unreachable!()
-    };
-    if checked.symbols().is_constructor(first) {
-        Some((a.0, b.0))
-    } else {
-        Some((b.0, a.0))
-    }
-}
-
 /// The active pairs of the program's net, in the order of their wires, in a queue with at least this much room.
 fn first_queue(
     alloc: Global,
@@ -95,10 +60,11 @@ fn first_queue(
     ensures order { IfOk result (λ q. AreInOrder checked.now.net q.items) }
 {
     checked.is_accepted();
+    let net = checked.net();
     let mut pairs = Vec::with_capacity(alloc, room)?;
-    for wire in 0..checked.net().wires() {
-        if let Some(pair) = pair_of(checked, wire) {
-            pairs.push(pair)?;
+    for wire in 0..net.wires() {
+        if let Some((one, other)) = net.pair_of_wire(checked.symbols(), wire) {
+            pairs.push((one.0, other.0))?;
         }
     }
     Ok(VecDeque::from_vec(pairs))

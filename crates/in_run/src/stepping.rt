@@ -2,7 +2,8 @@
 ghost use Rattle.std.specs.Prelude.{◌≡◌, ◌<◌, ◌≤◌, ◌+◌, ◌++◌, ℕ, suc, length, map, remove, OnOk, OnErr};
 ghost use Rattle.std.specs.VecDeque.{deque_len, deque_capacity};
 ghost use Rattle.in_check.specs.Plain.{IsReachedBy};
-ghost use Rattle.in_run.specs.Machines.{plain_of, numbers_of};
+ghost use Rattle.in_interaction.specs.Queues.{numbers_of};
+ghost use Rattle.in_run.specs.Machines.{plain_of};
 ghost use Rattle.in_run.specs.Runs.{StepsAt, HasRoomAt};
 
 use crate::machine::Machine;

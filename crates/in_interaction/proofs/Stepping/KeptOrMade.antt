@@ -8,7 +8,7 @@ use Rattle.in_symbols.specs.declared.symbols.SymbolNo.{SymbolNo}
 use Rattle.in_net.specs.ActivePairs.{AreActive, IsActivePair}
 use Rattle.in_interaction.specs.Interacting.{unused, CanInteract, Interacts, InteractsAs}
 use Rattle.in_net.specs.Interactions.{Side, Outer, Inner, Alternates, stands_for, InnerWire, wire_of, IsOfPair, IsNaming, IsRedex, AreJoined, IsStep, end_agent, end_place, redex_at}
-use Rattle.in_interaction.specs.Made.{PassesEnd, HasSymbolAfter, IsMade, AreMade, IsOwn}
+use Rattle.in_interaction.specs.Made.{PassesEnd, HasSymbolAfter, IsMade, AreMadeOverEnds, IsOwn}
 use Rattle.in_net.specs.Nets.{Point, Port, Free, IsNet, net_of, signature_of, coded_point}
 use Rattle.in_interaction.specs.OutcomeLaws.{IsOtherPair}
 use Rattle.in_net.specs.Parts.{Parts, IsWhole, symbol_in, partner_in}
@@ -120,7 +120,7 @@ module _ (t : Tables) (n : Parts) (r : RuleParts) (a b : AgentNo) (name : ℕ �
             )
       ]
 
-  module _ (made : List (AgentNo × AgentNo)) (are : AreMade t n r a b name made) where
+  module _ (made : List (AgentNo × AgentNo)) (are : AreMadeOverEnds t n r a b name made) where
     abbrev IsThere : AgentNo × AgentNo → Type 0
     IsThere q = IsOtherPair t n a b q ⊎ ((k : ℕ) × (slice_get made k ≡ Some q)) ⊎ IsOwn t r name q
 
@@ -248,7 +248,7 @@ module _ (t : Tables) (n : Parts) (r : RuleParts) (a b : AgentNo) (name : ℕ �
       let same = through.one_way (signature_of t) (net_of n) (redex_at r a.0 b.0) name net inside redex naming p.0 s (Port q.0.0 0) (Port q.1.0 0) (Port q.1.0 0) p.1 [] hx hy hy p.2 w in
       subst (IsAmong (pt e)) same.0 p.3
 
-pub kept_or_made : (t : Tables) (n : Parts) (r : RuleParts) (a b : AgentNo) (name : ℕ → ℕ) (m : Parts) (made : List (AgentNo × AgentNo)) → IsNet (signature_of t) (net_of n) → IsNet (signature_of t) (net_of r.member) → CanInteract t n r a b → InteractsAs t n r a b name m → AreMade t n r a b name made →
+pub kept_or_made : (t : Tables) (n : Parts) (r : RuleParts) (a b : AgentNo) (name : ℕ → ℕ) (m : Parts) (made : List (AgentNo × AgentNo)) → IsNet (signature_of t) (net_of n) → IsNet (signature_of t) (net_of r.member) → CanInteract t n r a b → InteractsAs t n r a b name m → AreMadeOverEnds t n r a b name made →
     (q : AgentNo × AgentNo) → IsActivePair t m q ↔ (IsOtherPair t n a b q ⊎ ((k : ℕ) × (slice_get made k ≡ Some q)) ⊎ IsOwn t r name q)
 kept_or_made t n r a b name m made net inside can h are = kept_or_made_of t n r a b name m net inside can h made are
 

@@ -12,7 +12,7 @@ use Rattle.in_net.specs.ActivePairs.{StandsFirst}
 use Rattle.in_interaction.specs.Following.{SiteParts}
 use Rattle.in_interaction.specs.Interacting.{unused, CanInteract}
 use Rattle.in_net.specs.Interactions.{Redex, IsRedex, IsNaming, Side, Outer, Inner, other, Alternates, wire_of, IsOfPair, AreJoined, end_agent, end_place, redex_at}
-use Rattle.in_interaction.specs.Made.{PassesEnd, HasSymbolAfter, IsMade, AreMade}
+use Rattle.in_interaction.specs.Made.{PassesEnd, HasSymbolAfter, IsMade, AreMadeOverEnds}
 use Rattle.in_interaction.specs.Making.{AreMadeBelow, most_wires}
 use Rattle.in_net.specs.Nets.{Point, Port, IsPoint, IsNet, net_of, signature_of}
 use Rattle.in_net.specs.Parts.{Parts, IsWhole, symbol_in}
@@ -291,7 +291,7 @@ module _ (t : Tables) (s : SiteParts) where
       rising j k d c x y lt m i (inr f) (inl g) = let l = slice_get_within qs k y g in let n = f.0 in absurd (omega (arith, l, n, lt))
       rising j k d c x y lt m i (inr f) (inr g) = let l = g.0 in let n = f.0 in absurd (omega (arith, l, n, lt))
 
-  pub all_ends : (e : ℕ) (qs : List (AgentNo × AgentNo)) → IsWhole s.net → IsWhole s.rule.member → CanInteract t s.net s.rule s.one s.two → AreMadeBelow t s e qs → length s.rule.member.free ≤ e → AreMade t s.net s.rule s.one s.two (unused s.net.cells) qs
+  pub all_ends : (e : ℕ) (qs : List (AgentNo × AgentNo)) → IsWhole s.net → IsWhole s.rule.member → CanInteract t s.net s.rule s.one s.two → AreMadeBelow t s e qs → length s.rule.member.free ≤ e → AreMadeOverEnds t s.net s.rule s.one s.two (unused s.net.cells) qs
   all_ends e qs whole small can h le = record {
     each = λ k q f. (let r = h.each k q f in (r.0, r.2));
     all = λ d q m. h.all d q (let l = made_within t s.net s.rule s.one s.two whole small can d q m in omega (arith, l, le)) m;

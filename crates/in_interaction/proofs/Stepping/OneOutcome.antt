@@ -9,7 +9,7 @@ use Rattle.in_symbols.specs.declared.symbols.SymbolNo.{SymbolNo}
 use Rattle.in_net.specs.ActivePairs.{ArePairsOf, lower_of}
 use Rattle.in_interaction.specs.After.{cell_at}
 use Rattle.in_interaction.specs.Interacting.{MayInteract, CanInteract, Interacts}
-use Rattle.in_interaction.specs.Made.{IsMade, AreMade}
+use Rattle.in_interaction.specs.Made.{IsMade, AreMadeOverEnds}
 use Rattle.in_net.specs.Nets.{Point, net_of, point_of, coded_point}
 use Rattle.in_net.specs.Parts.{Parts, IsWhole, IsWireBetween, cell_in, partner_in, wire_in}
 use Rattle.in_net.specs.Rules.{RuleParts}
@@ -72,8 +72,8 @@ pub one_list : (t : Tables) (n : Parts) (ps qs : List (AgentNo × AgentNo)) → 
 one_list t n ps qs h g =
     same_sorted (λ p q. lower_of p < lower_of q) (λ p q a b. omega (arith, a, b)) ps qs h.rising g.rising (λ k q e. g.all q (h.pairs k q e)) (λ k q e. h.all q (g.pairs k q e))
 
-pub one_made_list : (t : Tables) (n : Parts) (r : RuleParts) (a b : AgentNo) (name : ℕ → ℕ) (ps qs : List (AgentNo × AgentNo)) → AreMade t n r a b name ps → AreMade t n r a b name qs → ps ≡ qs
-one_made_list t n r a b name ps qs h g =
+pub one_made_over_ends : (t : Tables) (n : Parts) (r : RuleParts) (a b : AgentNo) (name : ℕ → ℕ) (ps qs : List (AgentNo × AgentNo)) → AreMadeOverEnds t n r a b name ps → AreMadeOverEnds t n r a b name qs → ps ≡ qs
+one_made_over_ends t n r a b name ps qs h g =
     same_sorted Lower lower_once ps qs (rises ps h) (rises qs g) (λ k q e. let m = h.each k q e in g.all m.0 q m.1) (λ k q e. let m = g.each k q e in h.all m.0 q m.1)
   where
     Lower : AgentNo × AgentNo → AgentNo × AgentNo → Type 0
@@ -87,7 +87,7 @@ one_made_list t n r a b name ps qs h g =
         let m = y.4 in
         omega (arith, one, two, l, m)
 
-    rises : (xs : List (AgentNo × AgentNo)) → AreMade t n r a b name xs → Rises Lower lower_once xs
+    rises : (xs : List (AgentNo × AgentNo)) → AreMadeOverEnds t n r a b name xs → Rises Lower lower_once xs
     rises xs m j k p q lt e f =
         let x = m.each j p e in
         let y = m.each k q f in

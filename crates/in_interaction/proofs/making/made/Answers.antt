@@ -30,4 +30,11 @@ pub returns : goal.returns
 returns c =
     let s : SiteParts = record { net = c.args.net.now; rule = c.args.rule.now; one = c.args.a; two = c.args.b; first = c.arity.result; names = c.as_slice.result.now } in
     let last : length c.args.rule.now.member.free ≤ c.loop-end.end = subst (λ (m : Parts). length m.free ≤ c.loop-end.end) c.member-right.ensures (subst (λ k. k ≤ c.loop-end.end) c.free_ends-end-end.ensures c.loop-end-test.false) in
-    all_ends c.args.symbols.now s c.loop-end.end c.loop-end.pairs.items c.cells.ensures.whole c.member_cells.ensures.whole c.requires.over c.loop-end.invariant last
+    let added = c.in_ok-add_own.ensures {u = tt} in
+    record {
+      over = c.loop-end.pairs.items;
+      own = added.0;
+      are_over = all_ends c.args.symbols.now s c.loop-end.end c.loop-end.pairs.items c.cells.ensures.whole c.member_cells.ensures.whole c.requires.over c.loop-end.invariant last;
+      are_own = added.1;
+      listed = added.2;
+    }

@@ -1,5 +1,5 @@
 use Rattle.std.proofs.Common.{◌≤◌, vec_capacity}
-use Rattle.in_run.proofs.FirstQueue.{AreFirst}
+use Rattle.in_interaction.proofs.Queues.FirstQueue.{AreFirst}
 use Rattle.in_run.proofs.machine.first_queue.Given as goal
 
 abbrev pub invariant-loop-wire : goal.invariant-loop-wire

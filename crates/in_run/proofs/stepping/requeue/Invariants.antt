@@ -1,6 +1,6 @@
 use Rattle.std.proofs.Common.{◌≡◌, ◌++◌, map, take, remove}
 use Rattle.std.specs.VecDeque.{deque_capacity}
-use Rattle.in_run.specs.Machines.{numbers_of}
+use Rattle.in_interaction.specs.Queues.{numbers_of}
 use Rattle.in_run.proofs.stepping.requeue.Given as goal
 
 abbrev pub invariant-loop-pair : goal.invariant-loop-pair

@@ -1,7 +1,8 @@
 use Rattle.std.proofs.Common.{◌<◌, length, subst, sym, refl}
 use Rattle.std.proofs.lemmas.Option.{slice_get_read}
 use Rattle.in_check.specs.Plain.{IsPairAt}
-use Rattle.in_run.specs.Machines.{MachineParts, agents_at, plain_of}
+use Rattle.in_interaction.specs.Queues.{agents_at}
+use Rattle.in_run.specs.Machines.{MachineParts, plain_of}
 use Rattle.in_run.proofs.Ordered.{pair_at}
 use Rattle.in_run.proofs.Queues.{machine_promised}
 use Rattle.in_run.proofs.machine.Machine.agents_at.Goals as goal

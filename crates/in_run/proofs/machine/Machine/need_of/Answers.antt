@@ -1,7 +1,8 @@
 use Rattle.std.proofs.Common.{subst}
 use Rattle.in_net.specs.Parts.{Parts}
 use Rattle.in_check.specs.Plain.{IsRuleAt}
-use Rattle.in_run.specs.Machines.{MachineParts, numbers_of, plain_of}
+use Rattle.in_interaction.specs.Queues.{numbers_of}
+use Rattle.in_run.specs.Machines.{MachineParts, plain_of}
 use Rattle.in_run.specs.Runs.{IsNeedOf}
 use Rattle.in_run.proofs.Unlisted.{bare, rule_bare, with_net}
 use Rattle.in_run.proofs.machine.Machine.need_of.Goals as goal

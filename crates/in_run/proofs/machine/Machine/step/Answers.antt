@@ -1,7 +1,7 @@
 use Rattle.std.proofs.Common.{◌≡◌, ◌++◌, List, length, map, remove, refl, ap, subst, ◌∙◌, arith}
 use Rattle.in_net.specs.declared.nets.AgentNo.{AgentNo}
 use Rattle.in_net.specs.Parts.{IsWhole}
-use Rattle.in_run.specs.Machines.{numbers_of}
+use Rattle.in_interaction.specs.Queues.{numbers_of}
 use Rattle.in_run.proofs.Stepped.{ready, few_small, few_large, few_at, both_free, can_at, room_after, kept_after, step_after, counted_one}
 use Rattle.in_run.proofs.machine.Machine.step.Goals as goal
 

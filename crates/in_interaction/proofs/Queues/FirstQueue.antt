@@ -1,5 +1,5 @@
 -- The active pairs of a net, found wire by wire.
-use Rattle.std.proofs.Common.{◌≡◌, ◌⊎◌, inl, inr, ◌<◌, ◌+◌, ℕ, Option, Some, None, List, [], ◌∷◌, ◌++◌, length, slice_get, refl, sym, ap, subst, ◌∙◌, arith}
+use Rattle.std.proofs.Common.{◌≡◌, ◌⊎◌, inl, inr, ◌<◌, ◌≤◌, ◌+◌, ℕ, Option, Some, None, List, [], ◌∷◌, ◌++◌, length, slice_get, refl, sym, ap, subst, ◌∙◌, arith}
 use Rattle.std.specs.Prelude.{option_map}
 use Rattle.std.proofs.lemmas.Option.{same_Some, slice_get_within}
 use Rattle.in_symbols.specs.Tables.{Tables}
@@ -10,9 +10,8 @@ use Rattle.in_net.specs.ActivePairs.{IsActivePair}
 use Rattle.in_net.specs.declared.nets.Wire.{Wire}
 use Rattle.in_net.specs.Parts.{Parts, IsWhole, wire_in}
 use Rattle.in_base.proofs.Places.{last_at, kept_at, more_at}
-use Rattle.in_run.specs.Machines.{agents_at, numbers_of, IsQueueOf}
-use Rattle.in_run.specs.Runs.{JoinsPair, IsNoPair, AreInOrder}
-use Rattle.in_run.proofs.Apart.{apart, same_numbers}
+use Rattle.in_interaction.proofs.Queues.Apart.{apart, same_numbers}
+use Rattle.in_interaction.specs.Queues.{agents_at, numbers_of, IsQueueOf, JoinsPair, IsNoPair, AreInOrder, IsFirstQueue}
 
 module _ (t : Tables) (n : Parts) where
   -- the pairs on the wires below one
@@ -80,10 +79,10 @@ module _ (t : Tables) (n : Parts) where
             go (inr c) (inl d) = absurd (let m = slice_get_within qs k x d in let o = c.0 in omega (arith, l, m, o))
             go (inr c) (inr d) = absurd (let m = c.0 in let o = d.0 in omega (arith, l, m, o))
 
-    pub is_queue : (qs : List (ℕ × ℕ)) → AreFirst (length n.wires) qs → IsQueueOf t n qs
-    is_queue qs h = record {
+    pub is_queue : (w : ℕ) (qs : List (ℕ × ℕ)) → AreFirst w qs → length n.wires ≤ w → IsQueueOf t n qs
+    is_queue w qs h last = record {
       pairs = λ k q e. (h.pairs k q e).0;
-      all = λ q a. (let v = whole.listed (Port q.0 0) (Port q.1 0) a.active in h.all v.0 (numbers_of q) (within v.0 (numbers_of q) v.1) a v.1);
+      all = λ q a. (let v = whole.listed (Port q.0 0) (Port q.1 0) a.active in h.all v.0 (numbers_of q) (let l = within v.0 (numbers_of q) v.1 in omega (arith, l, last)) a v.1);
       once = λ j k q e f. go j k q e f (let o : (j ≡ k) ⊎ (j < k) ⊎ (k < j) = grind arith in o);
     }
       where
@@ -102,3 +101,7 @@ module _ (t : Tables) (n : Parts) where
         go j k q e f (inl same) = same
         go j k q e f (inr (inl l)) = absurd (let r = (h.pairs j q e).1 in let m = h.order j k r.0 r.0 q q l e f r.2 r.2 in omega (arith, m))
         go j k q e f (inr (inr l)) = absurd (let r = (h.pairs j q e).1 in let m = h.order k j r.0 r.0 q q l f e r.2 r.2 in omega (arith, m))
+
+    -- the pairs of all wires are those of the net, in order
+    pub is_first : (w : ℕ) (qs : List (ℕ × ℕ)) → AreFirst w qs → length n.wires ≤ w → IsFirstQueue t n qs
+    is_first w qs h last = record { pairs = is_queue w qs h last; order = h.order }

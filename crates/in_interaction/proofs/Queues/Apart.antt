@@ -10,7 +10,7 @@ use Rattle.in_net.specs.Parts.{Parts, partner_in}
 use Rattle.in_net.proofs.ActivePairs.{flipped, one_partner}
 use Rattle.in_net.proofs.OneNet.{round_code, map_is}
 use Rattle.in_interaction.proofs.Stepping.Partners.{net_wire}
-use Rattle.in_run.specs.Machines.{agents_at, numbers_of}
+use Rattle.in_interaction.specs.Queues.{agents_at, numbers_of}
 
 -- the partner's partner, point by point of the code
 pub back_in : (t : Tables) (n : Parts) → IsNet (signature_of t) (net_of n) → (u v : Point) → partner_in n u ≡ Some v → partner_in n v ≡ Some u
