@@ -1,20 +1,22 @@
--- What the rule of a board says of claims: none is made twice, and none is left out once a seat is done.
-use Rattle.std.proofs.Common.{◌≡◌, inl, inr, ℕ, ◌≤◌, ◌<◌, min, true, false, cond, nat_lt, Some, List, [], ◌∷◌, map, length, get_or, sym, ap, subst, ◌∙◌, arith, eqb, Contains, count_by, slice_get}
+-- What the rule of a board says of claims: none is made twice, none is left out once a seat is done, and none was made where all seats are new.
+use Rattle.std.proofs.Common.{◌≡◌, inl, inr, ℕ, zero, suc, ◌≤◌, ◌<◌, min, true, false, cond, nat_lt, Some, List, [], ◌∷◌, map, length, get_or, replicate, refl, sym, ap, subst, ◌∙◌, arith, eqb, Contains, count_by, slice_get}
 use Rattle.std.proofs.Math.ListN.{get_or-eq_default}
 use Rattle.std.proofs.lemmas.Bool.{cases_lt, cases_eq}
 use Rattle.std.proofs.lemmas.Bool.Decides.{nat_tests}
 use Rattle.std.proofs.lemmas.Grind.{get_or_default_zero}
 use Rattle.std.proofs.lemmas.List.{get_or-map, length-map}
-use Rattle.std.proofs.lemmas.List.Sums.{get_or-le-sum_by}
+use Rattle.std.specs.List.{sum_by}
+use Rattle.std.proofs.lemmas.List.Sums.{sum_by-cons, get_or-le-sum_by}
 use Rattle.std.proofs.lemmas.Option.{slice_get_within, get_or_from_slice_get, slice_get-get_or}
 use Rattle.in_rounds.specs.declared.hands.Hand.{Hand}
 use Rattle.in_rounds.specs.Rule.{hand, times_claimed, done_count, AreClaims}
-use Rattle.in_rounds.specs.Laws.{numbers_of, ClaimsAreApart, ClaimsAreBelowTheLimit, DoneMeansAllClaimed, TwoSeatsShareTheNumbers}
+use Rattle.in_rounds.specs.Laws.{numbers_of, ClaimsAreApart, ClaimsAreBelowTheLimit, DoneMeansAllClaimed, NewBoardsAreUnclaimed, TwoSeatsShareTheNumbers}
+use Rattle.in_rounds.specs.Seats.{BoardView, fresh, hand_of}
 use Rattle.in_rounds.proofs.Sums.{if_below, two_of_sum, some_term, counted_at, stands_counted}
 
 -- it stands where there is no seat
 abbrev nobody : Hand
-nobody = hand 0 0 [] false
+nobody = hand 0 (record { limit = 0; seats = 0 }) [] false
 
 -- the hand of the seat of this number
 abbrev of_seat : List Hand → ℕ → Hand
@@ -140,3 +142,19 @@ shared limit word a b claims = (
       let claimed = all_claimed limit word (a ∷ b ∷ []) claims (omega (arith, is_done a one)) k lt in
       elim (cases_lt 0 (count k a.numbers)) [ inl some ↦ inl (contained k a.numbers some) | inr none ↦ inr (contained k b.numbers (omega (arith, claimed))) ]),
 )
+
+-- what is nothing at each new seat is nothing at all of them
+none_in_new : (f : Hand → ℕ) (board : BoardView) → f (hand_of (fresh board)) ≡ 0 → (n : ℕ) → sum_by f (map hand_of (replicate n (fresh board))) ≡ 0
+none_in_new f board none zero = refl
+none_in_new f board none (suc n) =
+    omega (arith, sum_by-cons f (hand_of (fresh board)) (map hand_of (replicate n (fresh board))), none, none_in_new f board none n)
+
+pub unclaimed : NewBoardsAreUnclaimed
+unclaimed board word claims =
+    let hands : List Hand = map hand_of (replicate board.seats (fresh board)) in
+    let none : times_claimed 0 hands ≡ 0 = none_in_new (λ (h : Hand). count 0 h.numbers) board refl board.seats in
+    let not_done : done_count hands ≡ 0 = none_in_new (λ (h : Hand). cond h.done 1 0) board refl board.seats in
+    elim (cases_lt 0 (min word board.limit)) [
+      | inl some ↦ absurd (omega (arith, counted_below 0 (min word board.limit) some, claims.once 0, none))
+      | inr ended ↦ omega (arith, claims.done, not_done)
+    ]

@@ -2,3 +2,4 @@ pub mod Apart
 pub mod Keeping
 pub mod Seated
 pub mod Sums
+pub mod Views

@@ -58,3 +58,9 @@ stands_counted xs i inside =
 -- a number that is counted as one below n is below it
 pub if_below : (k n : ℕ) → 1 ≤ cond (nat_lt k n) 1 0 → k < n
 if_below k n h = grind (arith, nat_tests)
+
+-- a list is at most as long as the sum of positive terms over it
+pub length_le_sum : {V : Type 0} (f : V → ℕ) (xs : List V) → All (λ v. 0 < f v) xs → length xs ≤ sum_by f xs
+length_le_sum f [] each = omega arith
+length_le_sum f (x ∷ xs) each =
+    omega (arith, sum_by-cons f x xs, each 0 x (omega arith), length_le_sum f xs (λ k d lt. each (suc k) d (omega arith)))

@@ -1,7 +1,8 @@
 -- What follows for whoever claims: no number twice, and none left out once a seat is done.
-use Rattle.std.specs.Prelude.{◌≡◌, ℕ, ◌<◌, ◌⊎◌, true, List, [], ◌∷◌, map, slice_index_or, Contains, Some, slice_get}
+use Rattle.std.specs.Prelude.{◌≡◌, ℕ, ◌<◌, ◌⊎◌, true, List, [], ◌∷◌, map, replicate, slice_index_or, Contains, Some, slice_get}
 use Rattle.in_rounds.specs.declared.hands.Hand.{Hand}
 use Rattle.in_rounds.specs.Rule.{AreClaims}
+use Rattle.in_rounds.specs.Seats.{BoardView, fresh, hand_of}
 
 -- the numbers that the seat of this number claimed; none where there is no such seat
 abbrev pub numbers_of : List Hand → ℕ → List ℕ
@@ -27,3 +28,7 @@ abbrev pub TwoSeatsShareTheNumbers : Type 0
 TwoSeatsShareTheNumbers = (limit word : ℕ) (a b : Hand) → AreClaims limit word (a ∷ b ∷ [])
     → ((k : ℕ) → Contains a.numbers k → Contains b.numbers k → ⊥)
     × (a.done ≡ true → b.done ≡ true → (k : ℕ) → k < limit → Contains a.numbers k ⊎ Contains b.numbers k)
+
+-- the seats of a new board have claimed nothing, and nobody else has
+abbrev pub NewBoardsAreUnclaimed : Type 0
+NewBoardsAreUnclaimed = (board : BoardView) (word : ℕ) → AreClaims board.limit word (map hand_of (replicate board.seats (fresh board))) → word ≡ 0

@@ -1,15 +1,31 @@
--- What contracts see of the fields of a seat, and what these fields keep.
-use Rattle.std.specs.Prelude.{◌≡◌, ◌<◌, []}
-use Rattle.std.specs.List.Sorted.{IsStrictlyIncreasing}
-use Rattle.in_rounds.specs.Seats.{SeatView}
-use Rattle.in_rounds.specs.declared.board.Seat.TheInside.{Inside}
+-- What contracts see of the fields of a board and of a seat, and what these fields keep.
+use Rattle.std.specs.Prelude.{◌≡◌, ◌<◌, ◌≤◌, false, List, [], ◌∷◌}
+use Rattle.in_rounds.specs.Rule.{hand}
+use Rattle.in_rounds.specs.Seats.{BoardView, SeatView, hand_of}
+use Rattle.in_rounds.specs.declared.hands.Hand.{Hand}
+use Rattle.in_rounds.specs.declared.board.Board.TheInside.{Inside as BoardFields}
+use Rattle.in_rounds.specs.declared.board.Seat.TheInside.{Inside as SeatFields}
 
-abbrev pub seat_view : Inside → SeatView
-seat_view s = record { board = record { table = s.inner.table_id; limit = s.inner.me.0.limit }; numbers = s.inner.me.0.numbers; done = s.done }
+abbrev pub board_view : BoardFields → BoardView
+board_view b = record { table = b.table.shared.table_id; limit = b.size.limit; seats = b.size.seats }
 
--- it holds no slot of the table, has a share, and its list rises
-pub record IsSitting (s : Inside) : Type 0 where
-  pub no_slot : s.inner.me.1 ≡ []
-  pub share : 0 < s.inner.me.0.shares
-  pub done_is : s.inner.me.0.done ≡ s.done
-  pub rises : IsStrictlyIncreasing s.inner.me.0.numbers
+-- its table has one word and is of its size, and it has 1 to 64 seats
+pub record IsBoard (b : BoardFields) : Type 0 where
+  pub one_word : b.table.shared.table_id.words ≡ 1
+  pub key_is : b.table.shared.key ≡ b.size
+  pub some_seat : 0 < b.size.seats
+  pub few_seats : b.size.seats ≤ 64
+
+-- the hand of a seat that has one
+abbrev pub only : List Hand → Hand
+only [] = hand 0 (record { limit = 0; seats = 0 }) [] false
+only (h ∷ hands) = h
+
+abbrev pub seat_view : SeatFields → SeatView
+seat_view s =
+    let h = only s.inner.me.0 in
+    record { board = record { table = s.inner.table_id; limit = h.size.limit; seats = h.size.seats }; numbers = h.numbers; done = s.done }
+
+-- the table has for it the hand that contracts see, alone and with one share, and no slot
+pub record IsSitting (s : SeatFields) : Type 0 where
+  pub me_is : s.inner.me ≡ (hand_of (seat_view s) ∷ [], [])

@@ -1,6 +1,24 @@
 //! Laws over the rule of a board, for whoever claims from several threads. No function here does anything.
 
-ghost use Rattle.in_rounds.specs.Laws.{ClaimsAreApart, ClaimsAreBelowTheLimit, DoneMeansAllClaimed, TwoSeatsShareTheNumbers};
+ghost use Rattle.std.specs.Prelude.{List, slice_index};
+ghost use Rattle.atomic_table.specs.Table.{State};
+ghost use Rattle.in_rounds.specs.Laws.{ClaimsAreApart, ClaimsAreBelowTheLimit, DoneMeansAllClaimed, NewBoardsAreUnclaimed, TwoSeatsShareTheNumbers};
+ghost use Rattle.in_rounds.specs.Rule.{AreClaims, all_hands};
+ghost use Rattle.in_rounds.specs.declared.hands.Hand.{Hand};
+ghost use Rattle.in_rounds.specs.declared.hands.Size.{Size};
+
+use crate::hands;
+use atomic_table::TableRule;
+
+/// Whatever the table of a board comes to, its word and its seats make the claims of the board.
+pub fn boards_keep_claims()
+    ensures { (size : Size) (s : State (Unit {0}) (List Hand)) → ⟦<hands::Claims as TableRule<(), hands::Hands, hands::Size>>⟧.holds size s → AreClaims size.limit (slice_index s.words 0) (all_hands s.views) }
+{}
+
+/// Where the seats of a board are as `Board::new` hands them out, no claim was made: the word is 0.
+pub fn new_boards_are_unclaimed()
+    ensures { NewBoardsAreUnclaimed }
+{}
 
 /// No number is claimed twice: not by two seats, nor by one.
 pub fn claims_are_apart()

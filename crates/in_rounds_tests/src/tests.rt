@@ -1,6 +1,7 @@
-use crate::claimers::{Claimer, claimers, ends, gets, two_seats};
+use crate::claimers::{
+    both_made, claim_in_threads, claimers, ends, gets, seats_and_lists, two_seats,
+};
 use in_rounds::{Board, Gate, NoGate};
-use std::alloc::{AllocError, Global};
 use std::process::Abort;
 use std::test::Fail;
 use std::thread;
@@ -13,13 +14,31 @@ fn two_seats_take_three_numbers_in_turn(rt: HostRuntime) -> Result<(), Fail> {
     gets(&rt, &board, &mut first, 2);
     ends(&rt, &board, &mut second);
     ends(&rt, &board, &mut first);
+    both_made(&rt, rt.alloc(), &board, (first, second), 5)?;
+    Ok(())
+}
+
+#[test]
+fn seats_that_come_back_after_one_claim(rt: HostRuntime) -> Result<(), Fail> {
+    let (board, first, mut second) = two_seats(rt.alloc(), 3)?;
+    gets(&rt, &board, &mut second, 0);
+    both_made(&rt, rt.alloc(), &board, (second, first), 1)?;
+    Ok(())
+}
+
+#[test]
+fn seats_that_come_back_as_they_were_made(rt: HostRuntime) -> Result<(), Fail> {
+    let (board, seats) = Board::new(rt.alloc(), 1000, 64)?;
+    assert_eq!(rt; seats.len(), 64);
+    assert_eq!(rt; board.take_back(seats), 0);
     Ok(())
 }
 
 #[test]
 fn a_board_without_numbers(rt: HostRuntime) -> Result<(), Fail> {
-    let (board, mut seat, _other) = two_seats(rt.alloc(), 0)?;
+    let (board, mut seat, other) = two_seats(rt.alloc(), 0)?;
     ends(&rt, &board, &mut seat);
+    both_made(&rt, rt.alloc(), &board, (other, seat), 1)?;
     Ok(())
 }
 
@@ -62,12 +81,13 @@ fn eight_threads_take_a_thousand_numbers(rt: HostRuntime) -> Result<(), Fail> {
     let (board, seats) = Board::new(alloc, 1000, 8)?;
     assert_eq!(rt; seats.len(), 8);
     let all = claimers(alloc, &board, seats)?;
-    let lists = thread::map_vec(&rt, all, &|claimer: Claimer<'_>| claimer.claim_all(alloc))?;
+    let back = claim_in_threads(&rt, alloc, &board, all)?;
+    let (seats, lists) = seats_and_lists(alloc, &board, back).ok_or("memory")?;
+    assert_eq!(rt; board.take_back(seats), 1008);
     assert_eq!(rt; lists.len(), 8);
     let mut times = vec![in alloc; 0u8; 1000]?;
     for list in &lists {
-        let numbers = list.as_ref().ok_or("memory")?;
-        note(&rt, numbers.as_slice(), times.as_mut_slice());
+        note(&rt, list.as_slice(), times.as_mut_slice());
     }
     assert!(rt; times.iter().all(|time| *time == 1));
     Ok(())

@@ -1,34 +1,49 @@
-use Rattle.std.proofs.Common.{◌+◌, ◌-◌, ◌≡◌, [], false, ap, ◌∙◌, arith}
-use Rattle.in_rounds.specs.Rule.{hand}
-use Rattle.in_rounds.specs.Seats.{BoardView}
+use Rattle.std.proofs.Common.{◌≡◌, ◌+◌, ◌-◌, ◌<◌, ◌≤◌, [], ◌∷◌, ◌++◌, List, map, false, refl, sym, subst, ap, ◌∙◌, arith}
+use Rattle.atomic_table.specs.Table.{Splits}
+use Rattle.in_rounds.specs.Rule.{hand, IsKept}
+use Rattle.in_rounds.specs.Seats.{BoardView, SeatView, fresh}
+use Rattle.in_rounds.specs.Sitting.{only}
+use Rattle.in_rounds.specs.declared.hands.Hand.{Hand}
+use Rattle.in_rounds.specs.declared.hands.Size.{Size}
 use Rattle.in_rounds.proofs.Keeping.{splits}
 use Rattle.in_rounds.proofs.Seated.{one_more_seat}
 use Rattle.in_rounds.proofs.board.Board.new.Goals as goal
 
 pub split_seat-inner-requires : goal.split_seat-inner-requires
 split_seat-inner-requires c =
-    let me = c.loop-made.invariant.me in
-    let shares : c.loop-made.first.me.0.shares ≡ 65 - c.loop-made._made = ap (λ m. m.0.shares) me in
-    let not_done : c.loop-made.first.me.0.done ≡ false = ap (λ m. m.0.done) me in
+    let size : Size = record { limit = c.args.limit; seats = c.args.seats } in
     let opened = c.in_ok-table.ensures in
-    (c.loop-made.invariant.of, omega (arith, opened.0), splits c.in_ok-table.table.shared.key c.loop-made.first.id c.loop-made.first.me.0 (omega arith) not_done)
+    let allowed : List Hand → Type 0 =
+    λ hands. Splits (IsKept c.in_ok-table.table.shared.key) c.loop-made.first.id hands (map (λ h. hand (h.shares - 1) h.size h.numbers h.done) hands) (map (λ h. hand 1 h.size [] false) hands)
+    in
+    let h : Hand = hand (c.args.seats + 1 - c.loop-made._made) size [] false in
+    let base : allowed (h ∷ []) = splits c.in_ok-table.table.shared.key c.loop-made.first.id h (omega arith) refl in
+    (c.loop-made.invariant.of, omega (arith, opened.0), subst allowed (sym (ap (λ m. m.0) c.loop-made.invariant.me)) base)
 
 pub loop-made-preserved : goal.loop-made-preserved
 loop-made-preserved c =
+    let size : Size = record { limit = c.args.limit; seats = c.args.seats } in
     let me = c.loop-made.invariant.me in
     let cut = c.split_seat-inner.ensures in
-    let left : (65 - c.loop-made._made) - 1 ≡ 65 - (c.loop-made._made + 1) = omega arith in
-    let board : BoardView = record { table = c.in_ok-table.table.shared.table_id; limit = c.args.limit } in
+    let left : c.args.seats + 1 - c.loop-made._made - 1 ≡ c.args.seats + 1 - (c.loop-made._made + 1) = omega arith in
+    let board : BoardView = record { table = c.in_ok-table.table.shared.table_id; limit = c.args.limit; seats = c.args.seats } in
+    let of = cut.3 ∙ c.loop-made.invariant.of in
+    let mine : c.split_seat-inner.result.me ≡ (hand 1 size [] false ∷ [], []) = cut.4 ∙ ap (λ m. (map (λ (h : Hand). hand 1 h.size [] false) m.0, [])) me in
+    let seat : Path SeatView _ (fresh board) =
+    λ i. record { board = record { table = of i; limit = (only (mine i).0).size.limit; seats = (only (mine i).0).size.seats }; numbers = (only (mine i).0).numbers; done = false }
+    in
     record {
-      made = c.in_ok-push.ensures.items ∙ one_more_seat c.loop-made.all.items board (c.loop-made._made - 1) _ _ _ c.loop-made.invariant.made
-          (cut.3 ∙ c.loop-made.invariant.of) (ap (λ m. m.0.limit) cut.4 ∙ ap (λ m. m.0.limit) me) (ap (λ m. m.0.numbers) cut.4) _ (omega arith);
+      made = c.in_ok-push.ensures.items ∙ one_more_seat c.loop-made.all.items board (c.loop-made._made - 1) _ c.loop-made.invariant.made seat _ (omega arith);
       of = cut.0 ∙ c.loop-made.invariant.of;
-      me = cut.2 ∙ ap (λ m. (hand (m.0.shares - 1) m.0.limit m.0.numbers m.0.done, m.1)) me ∙ ap (λ k. (hand k c.args.limit [] false, [])) left;
+      me = cut.2 ∙ ap (λ m. (map (λ (h : Hand). hand (h.shares - 1) h.size h.numbers h.done) m.0, m.1)) me ∙ ap (λ k. (hand k size [] false ∷ [], [])) left;
     }
 
 pub returns-clause-seats : goal.returns-clause-seats
 returns-clause-seats c =
     let me = c.loop-made.invariant.me in
-    let board : BoardView = record { table = c.in_ok-table.table.shared.table_id; limit = c.args.limit } in
-    c.in_ok-push-2.ensures.items ∙ one_more_seat c.loop-made.all.items board (c.loop-made._made - 1) _ _ _ c.loop-made.invariant.made
-    c.loop-made.invariant.of (ap (λ m. m.0.limit) me) (ap (λ m. m.0.numbers) me) _ (omega arith)
+    let of = c.loop-made.invariant.of in
+    let board : BoardView = record { table = c.in_ok-table.table.shared.table_id; limit = c.args.limit; seats = c.args.seats } in
+    let seat : Path SeatView _ (fresh board) =
+    λ i. record { board = record { table = of i; limit = (only (me i).0).size.limit; seats = (only (me i).0).size.seats }; numbers = (only (me i).0).numbers; done = false }
+    in
+    c.in_ok-push-2.ensures.items ∙ one_more_seat c.loop-made.all.items board (c.loop-made._made - 1) _ c.loop-made.invariant.made seat _ (omega arith)

@@ -1,11 +1,11 @@
-use Rattle.std.proofs.Common.{◌≡◌, ◌-◌, false, [], replicate}
+use Rattle.std.proofs.Common.{◌≡◌, ◌+◌, ◌-◌, false, [], ◌∷◌, replicate}
 use Rattle.in_rounds.specs.Rule.{hand}
 use Rattle.in_rounds.specs.Seats.{fresh}
 use Rattle.in_rounds.proofs.board.Board.new.Given as goal
 
 abbrev pub invariant-loop-made : goal.invariant-loop-made
 invariant-loop-made l = record {
-  made : l.all.items ≡ replicate (l._made - 1) (fresh (record { table = l.table.shared.table_id; limit = l.limit }));
+  made : l.all.items ≡ replicate (l._made - 1) (fresh (record { table = l.table.shared.table_id; limit = l.size.limit; seats = l.size.seats }));
   of : l.first.table_id ≡ l.table.shared.table_id;
-  me : l.first.me ≡ (hand (65 - l._made) l.limit [] false, []);
+  me : l.first.me ≡ (hand (l.seats + 1 - l._made) l.size [] false ∷ [], []);
 }
