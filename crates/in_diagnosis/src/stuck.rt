@@ -6,11 +6,25 @@ use in_reports::{Report, add_braces, help_apart, say_node_at, say_port_of};
 use in_syntax::{Place, Source, SourceSymbol};
 use std::alloc::{AllocError, Global};
 
-/// How many nodes stand on a line.
-const ON_A_LINE: usize = 6;
+/// The most nodes of a list that is told whole.
+const MOST_TOLD: usize = 6;
 
-/// How many lines of the text are shown for a circle.
-const MOST_SHOWN: usize = 6;
+/// How many of the first nodes of a longer list are told. Its last one is told too.
+const FIRST_TOLD: usize = 4;
+
+/// Whether the node of this number in a list of so many is told.
+fn is_told(index: usize, count: usize) -> bool {
+    count <= MOST_TOLD || index < FIRST_TOLD || index == count - 1
+}
+
+/// How many nodes of a list of so many are not told.
+fn left_out(count: usize) -> usize {
+    if count <= MOST_TOLD {
+        0
+    } else {
+        count - FIRST_TOLD - 1
+    }
+}
 
 /// The symbol of a node, and the class where it is a class node.
 fn symbol_of<'a>(
@@ -48,41 +62,51 @@ fn say_node(report: &mut Report, source: &Source, open: &OpenNet, node: u32) {
     }
 }
 
-/// What stands before the node of this number in a list.
-fn before_node(index: usize) -> &'static str {
+/// What stands before the node of this number in a list of so many.
+fn before_node(index: usize, count: usize) -> &'static str {
     if index == 0 {
         ""
-    } else if index % ON_A_LINE == 0 {
-        ",\n      "
+    } else if count > MOST_TOLD && index >= FIRST_TOLD {
+        ", and "
     } else {
         ", "
     }
 }
 
-/// The nodes of the part, in words.
+/// The nodes of the part, in words; of many nodes the first ones and the last one, and how many others there are.
 fn add_part(report: &mut Report, source: &Source, open: &OpenNet, nodes: &[u32]) {
+    let count = nodes.len();
     report.say("note: no node of this part can be built last: ");
     for (index, node) in nodes.iter().enumerate() {
-        report.say(before_node(index));
-        say_node(report, source, open, *node);
+        if is_told(index, count) {
+            report.say(before_node(index, count));
+            say_node(report, source, open, *node);
+        } else if index == FIRST_TOLD {
+            report.say_number(", ", left_out(count), " more");
+        }
     }
     report.end();
 }
 
-/// What stands before the node of this number on a way.
-fn before_passed(index: usize) -> &'static str {
-    if index > 0 && index % ON_A_LINE == 0 {
-        "\n      through "
+/// What stands before the node of this number on a way of so many.
+fn before_passed(index: usize, count: usize) -> &'static str {
+    if count > MOST_TOLD && index >= FIRST_TOLD {
+        " and through "
     } else {
         " through "
     }
 }
 
-/// The nodes on the way of a circle, in words.
+/// The nodes on the way of a circle, in words; of many nodes those that are told of a part.
 fn say_way(report: &mut Report, field: Field, way: &[u32]) {
+    let count = way.len();
     for (index, next) in way.iter().enumerate() {
-        report.say(before_passed(index));
-        say_node(report, field.source, field.open, *next);
+        if is_told(index, count) {
+            report.say(before_passed(index, count));
+            say_node(report, field.source, field.open, *next);
+        } else if index == FIRST_TOLD {
+            report.say_number(" through ", left_out(count), " more");
+        }
     }
 }
 
@@ -109,13 +133,12 @@ fn add_place(report: &mut Report, open: &OpenNet, node: u32) {
     }
 }
 
-/// The lines of the text in which the nodes of a circle stand.
+/// The lines of the text in which the nodes of a circle stand that are told.
 fn add_places(report: &mut Report, open: &OpenNet, way: &[u32]) {
     for (index, node) in way.iter().enumerate() {
-        if index == MOST_SHOWN {
-            break;
+        if is_told(index, way.len()) {
+            add_place(report, open, *node);
         }
-        add_place(report, open, *node);
     }
 }
 
@@ -151,7 +174,7 @@ fn add_passed(report: &mut Report, field: Field, way: (u32, u32, u32), shown: &m
     }
 }
 
-/// The same for the nodes on the way of a circle, each symbol once.
+/// The same for the nodes on the way of a circle that are told, each symbol once.
 fn add_braces_on_the_way(
     report: &mut Report,
     field: Field,
@@ -161,11 +184,10 @@ fn add_braces_on_the_way(
 ) {
     let mut from = node;
     for (index, next) in way.iter().enumerate() {
-        if index == MOST_SHOWN {
-            break;
+        if is_told(index, way.len()) {
+            let to = way.get(index + 1).copied().unwrap_or(node);
+            add_passed(report, field, (from, *next, to), shown);
         }
-        let to = way.get(index + 1).copied().unwrap_or(node);
-        add_passed(report, field, (from, *next, to), shown);
         from = *next;
     }
 }

@@ -118,15 +118,9 @@ pub(crate) fn add_unexpected(report: &mut Report, place: Place, expected: Expect
     report.help(help_with(expected, found));
 }
 
-/// A text of too many bytes.
+/// A text of too many bytes. How many is not known: who reads one stops past the limit.
 pub(crate) fn add_long_text(report: &mut Report, place: Place) {
-    report.say_number(
-        "error: the text has ",
-        report.text.len(),
-        " bytes, more than ",
-    );
-    report.put(&MAX_TEXT_BYTES);
-    report.end_at(place);
+    report.wrong_number(place, "the text has more than ", MAX_TEXT_BYTES, " bytes");
 }
 
 /// A word of too many characters.

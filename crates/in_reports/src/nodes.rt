@@ -10,8 +10,7 @@ fn say_class(report: &mut Report, class: Option<usize>) {
     }
 }
 
-/// Says what a node is, and where it stands: an agent of the symbol, or the class of that number of a head with the symbol. A thousand nodes
-/// may be told: few calls write one.
+/// Says what a node is, and where it stands: an agent of the symbol, or the class of that number of a head with the symbol.
 pub fn say_node_at(report: &mut Report, symbol: &SourceSymbol, class: Option<usize>, place: Place) {
     say_class(report, class);
     report.say_name("`", symbol.name.text.as_str(), "` at ");

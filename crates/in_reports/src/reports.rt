@@ -69,7 +69,7 @@ impl<'a> Report<'a> {
     }
 
     /// Goes on with a number between these words.
-    pub(crate) fn say_number(&mut self, before: &str, number: usize, after: &str) {
+    pub fn say_number(&mut self, before: &str, number: usize, after: &str) {
         self.say(before);
         self.put(&number);
         self.say(after);

@@ -23,6 +23,11 @@ impl<R> KeepingIn<R> {
         }
     }
 
+    /// The reader whose text it is.
+    pub fn reader(&self) -> &R {
+        &self.reader
+    }
+
     /// All that was read; nothing where a copy of it could not be had.
     pub fn kept(&self) -> Option<&[u8]> {
         if self.whole {

@@ -6,6 +6,8 @@ ghost use Rattle.std.specs.Prelude.{◌-◌, ◌<◌, ◌^◌};
 
 mod keeping;
 mod streams;
+#[cfg(test)]
+mod tests;
 
 use crate::keeping::KeepingIn;
 use crate::streams::{StreamIn, StreamOut};
@@ -15,16 +17,21 @@ use in_syntax::TextOut;
 use in_words::{Action, Usage, action_of};
 use std::alloc::Global;
 use std::env::Args;
-use std::io::{ErrorKind, Read, Write};
+use std::io::{Error, ErrorKind, Read, Write};
 use std::process::ExitCode;
 use std::{env, io};
 
 /// Why the program's words can't be had: want of memory, or a word that is no text.
-fn unreadable(alloc: Global, error: io::Error) -> Usage {
-    if error.kind() == ErrorKind::OutOfMemory {
-        return Usage::Memory;
-    }
-    match format!(in alloc; "error: {error}\n") {
+fn unreadable(alloc: Global, error: Error) -> Usage {
+    let told = match error.kind() {
+        ErrorKind::OutOfMemory => return Usage::Memory,
+        ErrorKind::InvalidData => String::from_str(
+            alloc,
+            "error: a word of the command line is not UTF-8\n",
+        ),
+        _ => format!(in alloc; "error: the command line can't be read: {error}\n"),
+    };
+    match told {
         Ok(text) => Usage::Wrong(text),
         Err(_) => Usage::Memory,
     }
@@ -41,19 +48,26 @@ fn action_asked(alloc: Global, words: io::Result<Args>) -> Result<Action, Usage>
 }
 
 /// Tells what is wrong with a text that is refused, in words for people. Where memory is wanted, or it can't be told, nothing is added.
-fn tell_diagnosis<E: Write + Drop>(alloc: Global, text: &[u8], mut errors: E) {
+fn tell_diagnosis<E: Write>(alloc: Global, text: &[u8], errors: &mut E) {
     if let Ok(Some(words)) = diagnosis(alloc, text) {
         let _ = errors.write_all(words.as_bytes());
     }
 }
 
-/// Does what the words ask for, and tells what is wrong with a text that is refused.
-fn answer<R: Read + Drop, W: TextOut, E: Write + Drop>(
+/// Tells what failed, and why. Where memory is wanted, or it can't be told, nothing is added.
+fn tell_failure<E: Write>(alloc: Global, what: &str, why: Error, errors: &mut E) {
+    if let Ok(words) = format!(in alloc; "error: {what}: {why}\n") {
+        let _ = errors.write_all(words.as_bytes());
+    }
+}
+
+/// Does what the words ask for, and tells what is wrong with a text that is refused, or why it can't be read.
+fn answer<R: Read + Drop, W: TextOut, E: Write>(
     alloc: Global,
     action: &Action,
     reader: R,
     output: &mut W,
-    errors: E,
+    errors: &mut E,
 ) -> Status
     requires { W.failures output.old < 2 ^ 64 - 1 }
 {
@@ -64,18 +78,38 @@ fn answer<R: Read + Drop, W: TextOut, E: Write + Drop>(
             tell_diagnosis(alloc, text, errors);
         }
     }
+    if let Some(why) = input.reader().failure() {
+        tell_failure(alloc, "standard input can't be read", why, errors);
+    }
+    status
+}
+
+/// Does what the program's words ask for, or tells why they ask for nothing; and tells why its output can't be written.
+fn serve<R: Read + Drop, W: Write + Drop, E: Write>(
+    alloc: Global,
+    words: io::Result<Args>,
+    reader: R,
+    writer: W,
+    errors: &mut E,
+) -> Status {
+    let mut output = StreamOut::new(writer);
+    let status = match action_asked(alloc, words) {
+        Ok(action) => answer(alloc, &action, reader, &mut output, errors),
+        Err(usage) => tell_usage(&usage, &mut output, &mut StreamOut::new(&mut *errors)),
+    };
+    if let Some(why) = output.failure() {
+        tell_failure(alloc, "standard output can't be written", why, errors);
+    }
     status
 }
 
 fn main(rt: HostRuntime) -> ExitCode {
-    let alloc = rt.alloc();
-    let mut output = StreamOut::new(io::writer(&rt));
-    let status = match action_asked(alloc, env::args(&rt)) {
-        Ok(action) => answer(alloc, &action, rt.reader(), &mut output, rt.stderr()),
-        Err(usage) => {
-            let mut errors = StreamOut::new(rt.stderr());
-            tell_usage(&usage, &mut output, &mut errors)
-        }
-    };
+    let status = serve(
+        rt.alloc(),
+        env::args(&rt),
+        rt.reader(),
+        io::writer(&rt),
+        &mut rt.stderr(),
+    );
     ExitCode::from(status.0)
 }

@@ -1,7 +1,7 @@
 ghost use Rattle.std.specs.Prelude.{◌≡◌, None};
 
 use in_syntax::{TextIn, TextOut};
-use std::io::{Read, Write};
+use std::io::{Error, ErrorKind, Read, Write};
 
 /// A text from a stream of the system, which tells its failures and no bytes.
 #[derive(Drop)]
@@ -10,6 +10,7 @@ pub struct StreamIn<R> {
     ended: bool,
     failures: u64,
     reads: u64,
+    failure: Option<Error>,
 }
 
 impl<R> StreamIn<R> {
@@ -22,7 +23,13 @@ impl<R> StreamIn<R> {
             ended: false,
             failures: 0,
             reads: 0,
+            failure: None,
         }
+    }
+
+    /// Why the last read that failed did.
+    pub fn failure(&self) -> Option<Error> {
+        self.failure
     }
 }
 
@@ -44,8 +51,9 @@ impl<R: Read> TextIn for StreamIn<R> {
                 }
                 Ok(n)
             }
-            Err(_) => {
+            Err(error) => {
                 self.failures += 1;
+                self.failure = Some(error);
                 Err(())
             }
         }
@@ -57,6 +65,7 @@ impl<R: Read> TextIn for StreamIn<R> {
 pub struct StreamOut<W> {
     writer: W,
     failures: u64,
+    failure: Option<Error>,
 }
 
 impl<W> StreamOut<W> {
@@ -67,7 +76,13 @@ impl<W> StreamOut<W> {
         StreamOut {
             writer,
             failures: 0,
+            failure: None,
         }
+    }
+
+    /// Why the last write that failed did.
+    pub fn failure(&self) -> Option<Error> {
+        self.failure
     }
 }
 
@@ -80,11 +95,13 @@ impl<W: Write> TextOut for StreamOut<W> {
         match self.writer.write(bytes) {
             Ok(0) if !bytes.is_empty() => {
                 self.failures += 1;
+                self.failure = Some(Error::from(ErrorKind::WriteZero));
                 Ok(0)
             }
             Ok(n) => Ok(n),
-            Err(_) => {
+            Err(error) => {
                 self.failures += 1;
+                self.failure = Some(error);
                 Err(())
             }
         }

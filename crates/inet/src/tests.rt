@@ -1,0 +1,87 @@
+//! What is told of words that can't be had, and of streams that fail.
+use crate::{serve, unreadable};
+use in_program::Status;
+use in_words::Usage;
+use std::alloc::{AllocError, Global};
+use std::env::Args;
+use std::io;
+use std::io::{Error, ErrorKind, Read, Write};
+use std::test::Fail;
+
+/// A stream that fails at once with an error of the system.
+#[derive(Clone, Copy)]
+struct Failing(i32);
+
+impl Read for Failing {
+    fn read(&mut self, _into: &mut [u8]) -> io::Result<usize> {
+        Err(Error::from_raw_os_error(self.0))
+    }
+}
+
+impl Write for Failing {
+    fn write(&mut self, _bytes: &[u8]) -> io::Result<usize> {
+        Err(Error::from_raw_os_error(self.0))
+    }
+
+    fn flush(&mut self) -> io::Result<()> {
+        Ok(())
+    }
+}
+
+/// The words of `inet` with this command.
+fn words(alloc: Global, command: &str) -> Result<Args, AllocError> {
+    let mut words = Vec::new(alloc);
+    words.push(String::from_str(alloc, "inet")?)?;
+    words.push(String::from_str(alloc, command)?)?;
+    Ok(words.into_iter())
+}
+
+/// Whether a command on these streams ends with status 6, and tells this on standard error.
+fn fails_with<R: Read + Drop, W: Write + Drop>(
+    alloc: Global,
+    command: &str,
+    streams: (R, W),
+    told: &str,
+) -> Result<bool, AllocError> {
+    let (reader, writer) = streams;
+    let mut errors = Vec::new(alloc);
+    let status = serve(
+        alloc,
+        Ok(words(alloc, command)?),
+        reader,
+        writer,
+        &mut errors,
+    );
+    Ok(status == Status(6) && errors.as_slice() == told.as_bytes())
+}
+
+#[test]
+fn a_failed_stream_is_told_with_its_error(rt: HostRuntime) -> Result<(), Fail> {
+    let alloc = rt.alloc();
+    let unread = "error: standard input can't be read: Input/output error (os error 5)\n";
+    assert!(rt; fails_with(alloc, "check", (Failing(5), io::sink()), unread)?);
+    let unwritten =
+        "error: standard output can't be written: No space left on device (os error 28)\n";
+    assert!(rt; fails_with(alloc, "check", (io::empty(), Failing(28)), unwritten)?);
+    assert!(rt; fails_with(alloc, "--help", (io::empty(), Failing(28)), unwritten)?);
+    Ok(())
+}
+
+/// Whether words that fail with this error are told so.
+fn is_told(alloc: Global, error: Error, told: &str) -> bool {
+    match unreadable(alloc, error) {
+        Usage::Wrong(text) => text.as_str() == told,
+        _ => false,
+    }
+}
+
+#[test]
+fn a_word_that_is_no_text_is_told(rt: HostRuntime) {
+    assert!(rt;
+        is_told(
+            rt.alloc(),
+            Error::from(ErrorKind::InvalidData),
+            "error: a word of the command line is not UTF-8\n"
+        )
+    );
+}
