@@ -29,8 +29,8 @@ use Rattle.in_syntax.specs.declared.states.TermOf.TheVariants.{Left, Right, Insi
 use Rattle.in_syntax.specs.declared.states.Nest.{Nest}
 use Rattle.in_syntax.specs.declared.states.Body.{Body}
 use Rattle.in_syntax.specs.declared.states.Body.TheVariants as body
-use Rattle.in_syntax.specs.Grammar.{Marked, marked, within, plain, separated, numbered, spell_auxiliary, spell_class, spell_classes, spell_symbol, spell_type, spell_types, spell_arguments, spell_term, spell_outermost, spell_head, named, word_at, spell_with, IsWith, spell_rule, spell_equation, spell_free, spell_net, max_types, max_depth, Item, types, symbol, rule, none_yet, counted, spell_items, IsItem, types_in, symbols_in, rules_in, Program, spelling}
-use Rattle.in_syntax.specs.Steps.{at_term_open, at_term_end, after_port, body_with, closed, step, at_state, with_types, with_symbol, with_rule, counts_of, between_items, start}
+use Rattle.in_syntax.specs.Grammar.{Marked, marked, within, plain, separated, numbered, spell_auxiliary, spell_class, spell_classes, spell_symbol, spell_type, spell_types, spell_arguments, spell_term, spell_outermost, spell_head, named, word_at, spell_with, StandAfterWord, spell_rule, spell_equation, spell_free, spell_net, max_types, max_depth, Item, types, symbol, rule, none_yet, counted, spell_items, IsItem, types_in, symbols_in, rules_in, Program, spelling}
+use Rattle.in_syntax.specs.Steps.{at_term_open, at_term_end, after_port, body_with, after_equations, step, at_state, with_types, with_symbol, with_rule, counts_of, between_items, start}
 use Rattle.in_syntax.specs.Trees.{bare, bare_head, bare_rule, with_argument, with_class, with_term}
 use Rattle.in_syntax.proofs.Separated.{ports_after, after}
 use Rattle.in_syntax.proofs.Paths.{turns, turn_of, turn, Path, join}
@@ -375,7 +375,7 @@ path_heads r f h =
     (path_head r First f) (at_state r (state.HeadName (Second f)), refl, path_head r (Second f) h)
 
 -- after the heads
-path_with : (r : Reader) (y : SourceRule) (w : Option Place) → IsWith w y.equations →
+path_with : (r : Reader) (y : SourceRule) (w : Option Place) → StandAfterWord w y.equations →
     Path (at_state r (state.HeadEnd (Second y.first) y.second)) (spell_with w y.equations ++ plain kind.Semicolon ∷ []) (with_rule r y)
 path_with r y None none = (with_rule r (bare_rule y.first y.second), refl, ap (λ z. with_rule r (record { first = y.first; second = y.second; equations = z })) (sym none))
 path_with r y (Some p) some = (
@@ -393,7 +393,7 @@ path_with r y (Some p) some = (
   ),
 )
 
-path_rule : (r : Reader) (w : Option Place) (y : SourceRule) → IsWith w y.equations → Path (at_state r state.Item) (spell_rule (length r.rules + 1) w y) (with_rule r y)
+path_rule : (r : Reader) (w : Option Place) (y : SourceRule) → StandAfterWord w y.equations → Path (at_state r state.Item) (spell_rule (length r.rules + 1) w y) (with_rule r y)
 path_rule r w y is = (
   at_state r (state.HeadName First),
   refl,

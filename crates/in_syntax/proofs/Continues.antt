@@ -30,7 +30,7 @@ use Rattle.in_syntax.specs.declared.states.Body.TheVariants as body_of
 use Rattle.in_syntax.specs.Grammar.{Marked, is_with}
 use Rattle.in_syntax.specs.Programs.{Begins, name_at, sign_at, sign_of, signs_of, signs, unmarked}
 use Rattle.in_syntax.specs.Expecting.{follows_term, takes, Section, between, types, symbol, ports, head, terms, free, free_port, body, after_body, further, section_from, section, IsAt, IsExpected, IsNotedOf}
-use Rattle.in_syntax.specs.Steps.{Step, goes, adds_types, adds_symbol, adds_rule, stuck, step, at_port_kind, at_with, at_head_end, closed, after_term, at_term_open, at_state, with_types, with_symbol, with_rule, counts_of, start, part_within, expected_in, Notes}
+use Rattle.in_syntax.specs.Steps.{Step, goes, adds_types, adds_symbol, adds_rule, stuck, step, at_port_kind, at_with, at_head_end, after_equations, after_term, at_term_open, at_state, with_types, with_symbol, with_rule, counts_of, start, part_within, expected_in, Notes}
 use Rattle.in_syntax.specs.Trees.{bare}
 use Rattle.in_syntax.proofs.Paths.{turns, turn_of, turn, Path}
 use Rattle.in_syntax.proofs.Outcomes.{signs_unmarked, begins_on, no_beginning, refused_outcome}
@@ -212,9 +212,9 @@ follows_with : (f h : Head) (n : Name) (b : Bool) → Follows terms (Named n) (a
 follows_with f h n true = refl
 follows_with f h n false = tt
 
-follows_closed : (b : Body) → section_of (closed b) ≡ after_body
-follows_closed (body_of.Net n) = refl
-follows_closed (body_of.Rule y p) = refl
+follows_equations : (b : Body) → section_of (after_equations b) ≡ after_body
+follows_equations (body_of.Net n) = refl
+follows_equations (body_of.Rule y p) = refl
 
 follows_head_end : (o : HeadOf) (h : Head) (x : Sign) → Follows terms x (at_head_end o h x)
 follows_head_end First h (Plain kind.Meets) = refl
@@ -310,7 +310,7 @@ follows c (state.FreeEnd fs) _ = tt
 follows c (state.BodyOpen fs) (Plain kind.OpenBrace) = refl
 follows c (state.BodyOpen fs) _ = tt
 follows c (state.Equation n) (Named m) = refl
-follows c (state.Equation n) (Plain kind.CloseBrace) = follows_closed n
+follows c (state.Equation n) (Plain kind.CloseBrace) = follows_equations n
 follows c (state.Equation n) _ = tt
 follows c (state.TermName b) (Named n) = stays_name b.of n
 follows c (state.TermName b) _ = tt

@@ -16,7 +16,7 @@ use Rattle.in_syntax.specs.declared.words.TokenKind.{TokenKind}
 use Rattle.in_syntax.specs.declared.words.TokenKind.TheVariants as kind
 use Rattle.in_syntax.specs.declared.signs.Sign.{Sign}
 use Rattle.in_syntax.specs.declared.signs.Sign.TheVariants.{Named, Tilde, Plain}
-use Rattle.in_syntax.specs.Grammar.{Marked, within, plain, separated, numbered, spell_arguments, spell_term, spell_outermost, spell_head, word_at, spell_with, IsWith, spell_rule, spell_equation, IsItem, spell_free, spell_net, Item, types, symbol, rule, none_yet, counted, spell_item, spell_items, Program, spelling, rules_in, source_of}
+use Rattle.in_syntax.specs.Grammar.{Marked, within, plain, separated, numbered, spell_arguments, spell_term, spell_outermost, spell_head, word_at, spell_with, StandAfterWord, spell_rule, spell_equation, IsItem, spell_free, spell_net, Item, types, symbol, rule, none_yet, counted, spell_item, spell_items, Program, spelling, rules_in, source_of}
 use Rattle.in_syntax.specs.Programs.{sign_at, signs_of, unmarked}
 use Rattle.in_syntax.specs.Parsing.{IsTreeOf, Parses}
 use Rattle.in_syntax.specs.Sizes.{total, names_in}
@@ -132,7 +132,7 @@ back_rising : (a b : List Marked) → Rising (a ++ b) → Rising b
 back_rising a b up = back_rises (places_of a) (places_of b) (subst Rises (places_append a b) up)
 
 -- a rule's names and ~ rise, where its signs do: the word `with` stands between them
-with_rising : (ps : List Place) (w : Option Place) (es : List Equation) → IsWith w es → Rises (ps ++ places_of (spell_with w es)) → Rises (ps ++ flat_map equation_places es)
+with_rising : (ps : List Place) (w : Option Place) (es : List Equation) → StandAfterWord w es → Rises (ps ++ places_of (spell_with w es)) → Rises (ps ++ flat_map equation_places es)
 with_rising ps None es none up = subst (λ z. Rises (ps ++ flat_map equation_places z)) (sym none) up
 with_rising ps (Some p) es some up = without ps (subst (λ z. Rises (ps ++ p ∷ z)) (places_closed (flat_map spell_equation es) kind.CloseBrace ∙ equations_placed es) up)
   where
@@ -144,7 +144,7 @@ with_rising ps (Some p) es some up = without ps (subst (λ z. Rises (ps ++ p ∷
       without ps up.1,
     )
 
-rule_rising : (number : ℕ) (w : Option Place) (y : SourceRule) → IsWith w y.equations → Rising (spell_rule number w y) → IsRuleInOrder y
+rule_rising : (number : ℕ) (w : Option Place) (y : SourceRule) → StandAfterWord w y.equations → Rising (spell_rule number w y) → IsRuleInOrder y
 rule_rising number w y is up =
     let heads : List Marked = spell_head y.first ++ plain kind.Meets ∷ spell_head y.second in
     with_rising (head_places y.first ++ head_places y.second) w y.equations is

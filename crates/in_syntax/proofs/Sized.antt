@@ -17,7 +17,7 @@ use Rattle.in_syntax.specs.declared.words.Token.{Token}
 use Rattle.in_syntax.specs.declared.words.TokenKind.TheVariants as kind
 use Rattle.in_syntax.specs.declared.signs.Sign.{Sign}
 use Rattle.in_syntax.specs.declared.signs.Sign.TheVariants.{Tilde}
-use Rattle.in_syntax.specs.Grammar.{Marked, within, plain, max_types, max_symbols, max_rules, max_free, max_ports, separated, numbered, spell_port, spell_auxiliary, spell_class, spell_classes, spell_symbol, spell_type, spell_arguments, spell_term, spell_outermost, spell_head, spell_with, IsWith, spell_rule, spell_equation, spell_free, spell_net, Item, types, symbol, rule, none_yet, counted, spell_item, spell_items, IsItem, Program, spelling, types_in, symbols_in, rules_in, source_of}
+use Rattle.in_syntax.specs.Grammar.{Marked, within, plain, max_types, max_symbols, max_rules, max_free, max_ports, separated, numbered, spell_port, spell_auxiliary, spell_class, spell_classes, spell_symbol, spell_type, spell_arguments, spell_term, spell_outermost, spell_head, spell_with, StandAfterWord, spell_rule, spell_equation, spell_free, spell_net, Item, types, symbol, rule, none_yet, counted, spell_item, spell_items, IsItem, Program, spelling, types_in, symbols_in, rules_in, source_of}
 use Rattle.in_syntax.specs.Programs.{sign_of, signs_of, unmarked}
 use Rattle.in_syntax.specs.Parsing.{IsTreeOf, Parses}
 use Rattle.in_syntax.specs.Sizes.{total, names_in, names_in_equation, names_in_equations, names_in_head, names_in_rule, names_in_rules, IsSizedSymbol, IsSized}
@@ -96,11 +96,11 @@ head_sum : (h : Head) → names_in_head h ≤ length (spell_head h)
 head_sum h =
     omega (arith, outermost_sum h.terms, length-append (separated (map spell_outermost h.terms)) (plain kind.CloseBracket ∷ []))
 
-with_sum : (w : Option Place) (es : List Equation) → IsWith w es → names_in_equations es ≤ length (spell_with w es)
+with_sum : (w : Option Place) (es : List Equation) → StandAfterWord w es → names_in_equations es ≤ length (spell_with w es)
 with_sum None es none = subst (λ z. names_in_equations z ≤ 0) (sym none) (omega arith)
 with_sum (Some p) es some = omega (arith, equations_sum es, length-append (flat_map spell_equation es) (plain kind.CloseBrace ∷ []))
 
-rule_sum : (number : ℕ) (w : Option Place) (y : SourceRule) → IsWith w y.equations → names_in_rule y ≤ length (spell_rule number w y)
+rule_sum : (number : ℕ) (w : Option Place) (y : SourceRule) → StandAfterWord w y.equations → names_in_rule y ≤ length (spell_rule number w y)
 rule_sum number w y is =
     omega (
       arith,

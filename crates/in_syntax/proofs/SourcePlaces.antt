@@ -18,7 +18,7 @@ use Rattle.in_syntax.specs.declared.tree.Term.{Term, out-Term}
 use Rattle.in_syntax.specs.declared.words.Token.{Token}
 use Rattle.in_syntax.specs.declared.words.TokenKind.{TokenKind}
 use Rattle.in_syntax.specs.declared.words.TokenKind.TheVariants as kind
-use Rattle.in_syntax.specs.Grammar.{Marked, within, plain, separated, numbered, spell_level, spell_arguments, spell_term, spell_outermost, spell_head, named, word_at, spell_with, IsWith, IsItem, spell_rule, spell_equation, spell_free, spell_net, spell_port, spell_auxiliary, spell_class, spell_classes, spell_symbol, spell_type, spell_types, Item, types, symbol, rule, none_yet, counted, spell_item, spell_items, types_in, symbols_in, rules_in, Program, spelling, source_of}
+use Rattle.in_syntax.specs.Grammar.{Marked, within, plain, separated, numbered, spell_level, spell_arguments, spell_term, spell_outermost, spell_head, named, word_at, spell_with, StandAfterWord, IsItem, spell_rule, spell_equation, spell_free, spell_net, spell_port, spell_auxiliary, spell_class, spell_classes, spell_symbol, spell_type, spell_types, Item, types, symbol, rule, none_yet, counted, spell_item, spell_items, types_in, symbols_in, rules_in, Program, spelling, source_of}
 use Rattle.in_syntax.specs.Order.{BeginApart, term_places, equation_places, head_places, symbol_places, rule_places, free_places, source_places}
 use Rattle.in_syntax.specs.Parsing.{IsTreeOf}
 use Rattle.in_syntax.specs.Programs.{sign_at, sign_of, signs_of, unmarked}
@@ -118,12 +118,12 @@ in_head h p (inr k) =
     let u = of_flat term_places h.terms p k in
     on _ _ p (on _ _ p (on_left (separated (map spell_outermost h.terms)) _ p (in_separated (map spell_outermost h.terms) (spell_outermost u.0) p (in_map spell_outermost h.terms u.0 u.1) (term 1 u.0 p u.2))))
 
-in_with : (w : Option Place) (es : List Equation) (p : Place) → IsWith w es → IsAmong p (flat_map equation_places es) → Spells (spell_with w es) p
+in_with : (w : Option Place) (es : List Equation) (p : Place) → StandAfterWord w es → IsAmong p (flat_map equation_places es) → Spells (spell_with w es) p
 in_with None es p none h = absurd (subst (λ z. IsAmong p (flat_map equation_places z)) none h)
 in_with (Some w) es p some h =
     on (named (word_at w)) _ p (on (plain kind.OpenBrace) _ p (on_left (flat_map spell_equation es) (plain kind.CloseBrace ∷ []) p (in_each spell_equation equation_places p (λ e a. in_equation e p a) es h)))
 
-in_rule : (k : ℕ) (w : Option Place) (r : SourceRule) (p : Place) → IsWith w r.equations → IsAmong p (rule_places r) → Spells (spell_rule k w r) p
+in_rule : (k : ℕ) (w : Option Place) (r : SourceRule) (p : Place) → StandAfterWord w r.equations → IsAmong p (rule_places r) → Spells (spell_rule k w r) p
 in_rule k w r p is h =
     on _ _ p (on_left (heads ++ spell_with w r.equations) (plain kind.Semicolon ∷ []) p (by_part (among_either p (head_places r.first ++ head_places r.second) (flat_map equation_places r.equations) h)))
   where

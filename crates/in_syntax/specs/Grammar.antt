@@ -148,9 +148,9 @@ spell_with None es = []
 spell_with (Some p) es = named (word_at p) ∷ plain kind.OpenBrace ∷ (flat_map spell_equation es ++ plain kind.CloseBrace ∷ [])
 
 -- there are equations only after that word
-abbrev pub IsWith : Option Place → List Equation → Type 0
-IsWith None es = es ≡ []
-IsWith (Some p) es = Unit {0}
+abbrev pub StandAfterWord : Option Place → List Equation → Type 0
+StandAfterWord None es = es ≡ []
+StandAfterWord (Some p) es = Unit {0}
 
 -- "rule" head "><" head [ "with" .. ] ";", of a rule by its number: the word `rule` of the 4,097th and of later ones passes the limit
 abbrev pub spell_rule : ℕ → Option Place → SourceRule → List Marked
@@ -201,7 +201,7 @@ spell_items c (i ∷ more) = spell_item c i ++ spell_items (counted c i) more
 abbrev pub IsItem : Item → Type 0
 IsItem (types names) = 0 < length names
 IsItem (symbol s) = AllByRecursion (λ c. 0 < length c) s.classes
-IsItem (rule w r) = IsWith w r.equations
+IsItem (rule w r) = StandAfterWord w r.equations
 
 -- program = item* net
 pub record Program : Type 0 where

@@ -170,13 +170,13 @@ at_body_open fs (Plain kind.OpenBrace) = on (state.Equation (body.Net (record { 
 at_body_open fs _ = stuck
 
 -- after the `}` of the equations
-abbrev pub closed : Body → State
-closed (body.Net n) = state.Done n
-closed (body.Rule y p) = state.RuleClose y p
+abbrev pub after_equations : Body → State
+after_equations (body.Net n) = state.Done n
+after_equations (body.Rule y p) = state.RuleClose y p
 
 abbrev pub at_equation : Body → Sign → Step
 at_equation b (Named m) = on (state.TermOpen (record { of = Left b; around = [] }) m)
-at_equation b (Plain kind.CloseBrace) = on (closed b)
+at_equation b (Plain kind.CloseBrace) = on (after_equations b)
 at_equation b _ = stuck
 
 abbrev pub at_term_name : Nest → Sign → Step

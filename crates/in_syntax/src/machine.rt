@@ -409,7 +409,7 @@ fn at_equation(alloc: Global, body: Body, sign: Sign) -> Move
             let around = Stack::new(alloc);
             Move::Goes(State::TermOpen(Nest { of, around }, name))
         }
-        Sign::Plain(TokenKind::CloseBrace) => Move::Goes(closed(body)),
+        Sign::Plain(TokenKind::CloseBrace) => Move::Goes(after_equations(body)),
         _ => {
             put_away_body(body);
             Move::Refuses(Code::E02)
@@ -418,8 +418,8 @@ fn at_equation(alloc: Global, body: Body, sign: Sign) -> Move
 }
 
 // After the `}` of the equations.
-fn closed(body: Body) -> State
-    ensures { result ≡ steps.closed body }
+fn after_equations(body: Body) -> State
+    ensures { result ≡ steps.after_equations body }
 {
     match body {
         Body::Net(net) => State::Done(net),
