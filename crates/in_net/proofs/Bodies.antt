@@ -15,7 +15,7 @@ use Rattle.in_net.specs.TextNet.{Body, body_of, heads_at}
 use Rattle.in_net.proofs.FirstFault.{IsReady}
 use Rattle.in_net.proofs.Known.{net_known, rule_known, free_differ}
 use Rattle.in_net.proofs.NetRead.{AreHeadsOf}
-use Rattle.in_net.proofs.Order.{net_rises, rule_rises}
+use Rattle.in_net.proofs.Order.{net_rises, rule_rises, rule_order}
 use Rattle.in_net.proofs.ReadFrom.{IsFew}
 use Rattle.in_base.proofs.Each.{all_at}
 
@@ -38,7 +38,7 @@ rule_ready t r known order =
     let d = symbol_of t r.second in
     let first : ℕ = cond (is_turned t (symbol_of t r.first) (symbol_of t r.second)) (arity_of t (symbol_of t r.second)) 0 in
     let second : ℕ = cond (is_turned t (symbol_of t r.first) (symbol_of t r.second)) 0 (arity_of t (symbol_of t r.first)) in
-    record { known = rule_known t r first second known; rises = rule_rises r first second order; order = rule_rises r first second order; differ = λ k l f g is_f is_g e. absurd (let wrong : None ≡ Some f = is_f in cc) }
+    record { known = rule_known t r first second known; rises = rule_rises r first second order; order = rule_order r order; differ = λ k l f g is_f is_g e. absurd (let wrong : None ≡ Some f = is_f in cc) }
 
 terms_fit : (t : Tables) (o : Option ℕ) (n : ℕ) → IsSome o → fits_arity t o n ≡ true → n ≡ arity_of t (unwrap_or o 0)
 terms_fit t None n some fits = cc
@@ -66,7 +66,7 @@ module _ (t : Tables) (r : SourceRule) (known : IsRuleKnown t.names r) (fits : a
       terms_fit t (number_in r.second.name.text t.names) (length r.second.terms) known.1.0 (and_parts _ _ both.0).0
 
   -- whichever of the heads has the first ends
-  ends_by : (turned : Bool) → AreHeadsOf t (record { free = []; heads = heads_at r (cond turned (arity_of t d) 0) (cond turned 0 (arity_of t c)); equations = [] })
+  ends_by : (turned : Bool) → AreHeadsOf t (record { free = []; heads = heads_at r (cond turned (arity_of t d) 0) (cond turned 0 (arity_of t c)); equations = r.equations })
   ends_by true = record {
     apart = (apart, (λ i j w. absurd (omega (arith, w)), tt));
     inside = inside;

@@ -44,8 +44,8 @@ equation_known t (x ∷ es) e h (inr among) = equation_known t es e h.1 among
 pub net_known : (source : Source) (t : Tables) → IsTabled source t → IsBodyKnown t (body_of source.net)
 net_known source t tabled = record { heads = tt; equations = tabled.heads }
 
-pub rule_known : (t : Tables) (r : SourceRule) (first second : ℕ) → IsRuleKnown t.names r → IsBodyKnown t (record { free = []; heads = heads_at r first second; equations = [] })
-rule_known t r first second known = record { heads = (known.0.1, (known.1.1, tt)); equations = tt }
+pub rule_known : (t : Tables) (r : SourceRule) (first second : ℕ) → IsRuleKnown t.names r → IsBodyKnown t (record { free = []; heads = heads_at r first second; equations = r.equations })
+rule_known t r first second known = record { heads = (known.0.1, (known.1.1, tt)); equations = known.2 }
 
 -- the free names of a body are different
 abbrev pub AreDifferent : Body → Type 0

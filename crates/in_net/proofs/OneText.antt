@@ -19,7 +19,7 @@ use Rattle.in_syntax.proofs.SourcePlaces.{part_small, texts_begin_apart}
 use Rattle.in_syntax.proofs.WholeTexts.{same_refusal}
 use Rattle.in_symbols.proofs.OneTables.{at_free, at_equations}
 use Rattle.in_net.specs.Laws.{NetsAreBuiltOnce, RulesAreBuiltOnce}
-use Rattle.in_syntax.specs.Order.{BeginApart, source_places, Rises, IsWrittenInOrder, IsRuleInOrder, term_places, equation_places, head_places}
+use Rattle.in_syntax.specs.Order.{BeginApart, source_places, Rises, IsWrittenInOrder, IsRuleInOrder, term_places, equation_places, head_places, rule_places}
 use Rattle.in_syntax.specs.Sizes.{IsSized, names_in}
 use Rattle.in_syntax.proofs.FirstFault.{both_first, IsOneOf, code_is}
 use Rattle.in_symbols.specs.Names.{number_in}
@@ -29,7 +29,7 @@ use Rattle.in_net.specs.declared.reading.Spot.TheVariants as spot
 use Rattle.in_syntax.specs.Answers.{IsOne}
 use Rattle.in_net.specs.Built.{Builds}
 use Rattle.in_net.specs.Building.{nth_agent, nth_spot}
-use Rattle.in_net.specs.NetFaults.{max_agents, max_member_agents, IsNetFaultAt, too_many, misfit, miscounted, HasNoNetFault, IsFirstNameFault, IsFirstNetFault, of_names, of_wires, IsMiscountedAt, only, third, missing, second, IsAgentMisfitAt, IsHeadMisfitAt}
+use Rattle.in_net.specs.NetFaults.{max_agents, max_member_agents, IsNetFaultAt, too_many, misfit, miscounted, HasNoNetFault, HasNoClosedWire, IsFirstNameFault, IsFirstNetFault, of_names, of_wires, IsMiscountedAt, only, third, missing, second, IsAgentMisfitAt, IsHeadMisfitAt}
 use Rattle.in_net.specs.Reading.{reading_of}
 use Rattle.in_net.specs.Rules.{RuleParts, BuildsRule, BuildsRuleOf, body_of_rule, IsReadable, IsRuleOf}
 use Rattle.in_net.specs.Searching.{first_fault}
@@ -209,51 +209,57 @@ text_apart b apart p q h k e = apart p q (in_text b p h) (in_text b q k) e
 closed_place : (t : Tables) (b : Body) (p : Place) → IsClosedWireOf t b p → IsAmong p (text_places b)
 closed_place t b p w = chain_place t b text.placed text.of_name w.through w.through w.places p w.chain w.place.0
 
-one_net_fault : (s : Source) (t : Tables) (c d : Code) (p q : Place) → BeginApart (all_places (body_of s.net)) → IsFirstNetFault t s.net c p → IsFirstNetFault t s.net d q → (c ≡ d) × (p ≡ q)
-one_net_fault s t _ _ _ _ apart (of_names c p h) (of_names d q k) = one_name_fault max_agents t (body_of s.net) c d p q apart h k
-one_net_fault s t _ _ _ _ apart (of_names c p h) (of_wires q none wire first) = absurd (none c p h.stands)
-one_net_fault s t _ _ _ _ apart (of_wires p none wire first) (of_names d q k) = absurd (none d q k.stands)
-one_net_fault s t _ _ _ _ apart (of_wires p none wire first) (of_wires q none1 wire1 first1) =
-    (refl, text_apart (body_of s.net) apart p q (closed_place t (body_of s.net) p wire) (closed_place t (body_of s.net) q wire1) (let a = first q wire1 in let c = first1 p wire in omega (arith, a, c)))
+one_net_fault : (most : ℕ) (t : Tables) (b : Body) (c d : Code) (p q : Place) → BeginApart (all_places b) → IsFirstNetFault most t b c p → IsFirstNetFault most t b d q → (c ≡ d) × (p ≡ q)
+one_net_fault most t b _ _ _ _ apart (of_names c p h) (of_names d q k) = one_name_fault most t b c d p q apart h k
+one_net_fault most t b _ _ _ _ apart (of_names c p h) (of_wires q none wire first) = absurd (none c p h.stands)
+one_net_fault most t b _ _ _ _ apart (of_wires p none wire first) (of_names d q k) = absurd (none d q k.stands)
+one_net_fault most t b _ _ _ _ apart (of_wires p none wire first) (of_wires q none1 wire1 first1) =
+    (refl, text_apart b apart p q (closed_place t b p wire) (closed_place t b q wire1) (let a = first q wire1 in let c = first1 p wire in omega (arith, a, c)))
 
-not_both : (s : Source) (t : Tables) (c : Code) (p : Place) → HasNoNetFault max_agents t (body_of s.net) → ((q : Place) → IsClosedWireOf t (body_of s.net) q → ⊥) → IsFirstNetFault t s.net c p → ⊥
-not_both s t _ _ none open_ (of_names c p h) = none c p h.stands
-not_both s t _ _ none open_ (of_wires p no_ wire first) = open_ p wire
+not_both : (most : ℕ) (t : Tables) (b : Body) (c : Code) (p : Place) → HasNoNetFault most t b → HasNoClosedWire t b → IsFirstNetFault most t b c p → ⊥
+not_both most t b _ _ none open_ (of_names c p h) = none c p h.stands
+not_both most t b _ _ none open_ (of_wires p no_ wire first) = open_ p wire
 
 pub one_built : (s : Source) (t : Tables) → IsSized s → IsWrittenInOrder s → BeginApart (all_places (body_of s.net)) → Tabulates s (Ok t) → IsOne (Builds s t)
 one_built s t sized order apart tabled (Ok n) (Ok m) h k =
     let good = good_net s t sized order tabled h.2 in
     same_net t s.net n m (single_wires t (body_of s.net) good (text_apart (body_of s.net) apart)) (agents_apart t (body_of s.net) good) h.1 k.1
-one_built s t sized order apart tabled (Ok n) (Err (Refused r)) h k = not_both s t r.code r.place h.2 h.3 k.0
+one_built s t sized order apart tabled (Ok n) (Err (Refused r)) h k = not_both max_agents t (body_of s.net) r.code r.place h.2 h.3 k.0
 one_built s t sized order apart tabled (Ok n) (Err (Memory e)) h k = tt
-one_built s t sized order apart tabled (Err (Refused q)) (Ok m) h k = not_both s t q.code q.place k.2 k.3 h.0
+one_built s t sized order apart tabled (Err (Refused q)) (Ok m) h k = not_both max_agents t (body_of s.net) q.code q.place k.2 k.3 h.0
 one_built s t sized order apart tabled (Err (Refused q)) (Err (Refused r)) h k =
-    let same = one_net_fault s t q.code r.code q.place r.place apart h.0 k.0 in same_refusal q r same.0 same.1 (h.1 ∙ sym k.1)
+    let same = one_net_fault max_agents t (body_of s.net) q.code r.code q.place r.place apart h.0 k.0 in same_refusal q r same.0 same.1 (h.1 ∙ sym k.1)
 one_built s t sized order apart tabled (Err (Refused q)) (Err (Memory e)) h k = tt
 one_built s t sized order apart tabled (Err (Memory e)) b h k = tt
 
 -- ---- a rule
 
--- the places of a rule are those of its heads
-rule_place : (t : Tables) (r : SourceRule) (p : Place) → IsAmong p (all_places (body_of_rule t r)) → IsAmong p (head_places r.first ++ head_places r.second)
+-- the places of a rule are those of its heads and equations
+rule_place : (t : Tables) (r : SourceRule) (p : Place) → IsAmong p (all_places (body_of_rule t r)) → IsAmong p (rule_places r)
 rule_place t r p (inl e) = inl e
-rule_place t r p (inr (inl e)) = inr (among_right p (flat_map term_places r.first.terms) (head_places r.second) (inl e))
-rule_place t r p (inr (inr h)) = inr (by_side (among_either p (flat_map term_places r.first.terms ++ (flat_map term_places r.second.terms ++ [])) [] h))
+rule_place t r p (inr (inl e)) = in_heads (among_right p (head_places r.first) (head_places r.second) (inl e))
   where
-    by_last : IsAmong p (flat_map term_places r.second.terms) ⊎ ⊥ → IsAmong p (flat_map term_places r.first.terms ++ head_places r.second)
-    by_last (inl c) = among_right p (flat_map term_places r.first.terms) (head_places r.second) (inr c)
+    in_heads : IsAmong p (head_places r.first ++ head_places r.second) → IsAmong p (rule_places r)
+    in_heads h = among_left p (head_places r.first ++ head_places r.second) (flat_map equation_places r.equations) h
+rule_place t r p (inr (inr h)) = by_side (among_either p (flat_map term_places r.first.terms ++ (flat_map term_places r.second.terms ++ [])) (flat_map equation_places r.equations) h)
+  where
+    in_heads : IsAmong p (head_places r.first ++ head_places r.second) → IsAmong p (rule_places r)
+    in_heads h = among_left p (head_places r.first ++ head_places r.second) (flat_map equation_places r.equations) h
+
+    by_last : IsAmong p (flat_map term_places r.second.terms) ⊎ ⊥ → IsAmong p (rule_places r)
+    by_last (inl c) = in_heads (among_right p (head_places r.first) (head_places r.second) (inr c))
     by_last (inr c) = absurd c
 
-    by_head : IsAmong p (flat_map term_places r.first.terms) ⊎ IsAmong p (flat_map term_places r.second.terms ++ []) → IsAmong p (flat_map term_places r.first.terms ++ head_places r.second)
-    by_head (inl a) = among_left p (flat_map term_places r.first.terms) (head_places r.second) a
+    by_head : IsAmong p (flat_map term_places r.first.terms) ⊎ IsAmong p (flat_map term_places r.second.terms ++ []) → IsAmong p (rule_places r)
+    by_head (inl a) = in_heads (among_left p (head_places r.first) (head_places r.second) (inr a))
     by_head (inr a) = by_last (among_either p (flat_map term_places r.second.terms) [] a)
 
-    by_side : IsAmong p (flat_map term_places r.first.terms ++ (flat_map term_places r.second.terms ++ [])) ⊎ ⊥ → IsAmong p (flat_map term_places r.first.terms ++ head_places r.second)
+    by_side : IsAmong p (flat_map term_places r.first.terms ++ (flat_map term_places r.second.terms ++ [])) ⊎ IsAmong p (flat_map equation_places r.equations) → IsAmong p (rule_places r)
     by_side (inl a) = by_head (among_either p (flat_map term_places r.first.terms) (flat_map term_places r.second.terms ++ []) a)
-    by_side (inr a) = absurd a
+    by_side (inr a) = among_right p (head_places r.first ++ head_places r.second) (flat_map equation_places r.equations) a
 
 rule_apart : (t : Tables) (r : SourceRule) → IsRuleInOrder r → BeginApart (all_places (body_of_rule t r))
-rule_apart t r order p q h k e = rising_apart (head_places r.first ++ head_places r.second) order p q (rule_place t r p h) (rule_place t r q k) e
+rule_apart t r order p q h k e = rising_apart (rule_places r) order p q (rule_place t r p h) (rule_place t r q k) e
 
 rule_is : (t : Tables) (r : SourceRule) (p q : RuleParts) → IsRuleOf t r p → IsRuleOf t r q → p.member ≡ q.member → p ≡ q
 rule_is t r p q h k e =
@@ -266,11 +272,11 @@ one_rule_of : (t : Tables) (r : SourceRule) → IsReadable t r → IsOne (Builds
 one_rule_of t r ready (Ok p) (Ok q) h k =
     let good = good_rule t r ready h.2 in
     rule_is t r p q h.1 k.1 (same_member t r p.member q.member (single_wires t (body_of_rule t r) good (text_apart (body_of_rule t r) (rule_apart t r ready.order))) (agents_apart t (body_of_rule t r) good) h.1.member k.1.member)
-one_rule_of t r ready (Ok p) (Err (Refused f)) h k = h.2 f.code f.place k.0.stands
+one_rule_of t r ready (Ok p) (Err (Refused f)) h k = not_both max_member_agents t (body_of_rule t r) f.code f.place h.2 h.3 k.0
 one_rule_of t r ready (Ok p) (Err (Memory e)) h k = tt
-one_rule_of t r ready (Err (Refused f)) (Ok q) h k = k.2 f.code f.place h.0.stands
+one_rule_of t r ready (Err (Refused f)) (Ok q) h k = not_both max_member_agents t (body_of_rule t r) f.code f.place k.2 k.3 h.0
 one_rule_of t r ready (Err (Refused f)) (Err (Refused g)) h k =
-    let same = one_name_fault max_member_agents t (body_of_rule t r) f.code g.code f.place g.place (rule_apart t r ready.order) h.0 k.0 in same_refusal f g same.0 same.1 (h.1 ∙ sym k.1)
+    let same = one_net_fault max_member_agents t (body_of_rule t r) f.code g.code f.place g.place (rule_apart t r ready.order) h.0 k.0 in same_refusal f g same.0 same.1 (h.1 ∙ sym k.1)
 one_rule_of t r ready (Err (Refused f)) (Err (Memory e)) h k = tt
 one_rule_of t r ready (Err (Memory e)) b h k = tt
 

@@ -9,7 +9,7 @@ use Rattle.in_syntax.specs.Sizes.{total, names_in}
 use Rattle.in_syntax.specs.declared.tree.SourceRule.{SourceRule}
 use Rattle.in_syntax.specs.declared.tree.SourceNet.{SourceNet}
 use Rattle.in_syntax.proofs.Ordered.{places_out, back_rises}
-use Rattle.in_syntax.specs.Order.{Rises, term_places, equation_places, IsInOrder, IsRuleInOrder}
+use Rattle.in_syntax.specs.Order.{Rises, term_places, equation_places, IsInOrder, IsRuleInOrder, head_places}
 use Rattle.in_symbols.specs.declared.symbols.SymbolNo.{SymbolNo}
 use Rattle.in_net.specs.declared.reading.Spot.{Spot}
 use Rattle.in_net.specs.declared.reading.Spot.TheVariants.{Port, Free, End, Occurrence}
@@ -171,12 +171,25 @@ roots_rise t b known order =
 pub net_rises : (n : SourceNet) → IsInOrder n → Rises (body_places (body_of n))
 net_rises n order = names_rise n.equations order
 
-pub rule_rises : (r : SourceRule) (first second : ℕ) → IsRuleInOrder r → Rises (body_places (record { free = []; heads = heads_at r first second; equations = [] }))
+regrouped : (a b c : List Place) → a ++ (b ++ c) ≡ (a ++ (b ++ [])) ++ c
+regrouped a b c = simp (append_assoc, append-nil)
+
+pub rule_rises : (r : SourceRule) (first second : ℕ) → IsRuleInOrder r → Rises (body_places (record { free = []; heads = heads_at r first second; equations = r.equations }))
 rule_rises r first second order =
-    let xs : List Place = flat_map term_places r.first.terms in
-    let ys : List Place = flat_map term_places r.second.terms in
-    let all : Rises (flat_map term_places r.first.terms ++ flat_map term_places r.second.terms) = without_middle (flat_map term_places r.first.terms) (flat_map term_places r.second.terms) r.second.name.place order.1 in
-    subst Rises (ap (λ z. flat_map term_places r.first.terms ++ z) (sym (append-nil (flat_map term_places r.second.terms))) ∙ sym (append-nil _)) all
+    let rest : Rises (name_places r.equations) = names_rise r.equations (back_rises (head_places r.first ++ head_places r.second) (flat_map equation_places r.equations) order) in
+    let names : Rises ((head_places r.first ++ head_places r.second) ++ name_places r.equations) =
+    rises_on (head_places r.first ++ head_places r.second) (flat_map equation_places r.equations) (name_places r.equations) (λ P k. all_names P r.equations k) rest order in
+    let all : Rises (flat_map term_places r.first.terms ++ (flat_map term_places r.second.terms ++ name_places r.equations)) =
+    without_middle (flat_map term_places r.first.terms) (flat_map term_places r.second.terms ++ name_places r.equations) r.second.name.place
+    (subst Rises (append_assoc (flat_map term_places r.first.terms) (head_places r.second) (name_places r.equations)) names.1) in
+    subst Rises (regrouped (flat_map term_places r.first.terms) (flat_map term_places r.second.terms) (name_places r.equations)) all
+
+-- .. and with the ~ of its equations
+pub rule_order : (r : SourceRule) → IsRuleInOrder r → Rises ((flat_map term_places r.first.terms ++ (flat_map term_places r.second.terms ++ [])) ++ flat_map equation_places r.equations)
+rule_order r order =
+    subst Rises (regrouped (flat_map term_places r.first.terms) (flat_map term_places r.second.terms) (flat_map equation_places r.equations))
+    (without_middle (flat_map term_places r.first.terms) (flat_map term_places r.second.terms ++ flat_map equation_places r.equations) r.second.name.place
+    (subst Rises (append_assoc (flat_map term_places r.first.terms) (head_places r.second) (flat_map equation_places r.equations)) order.1))
 
 -- ---- and so two names have different places
 

@@ -1,6 +1,6 @@
--- Where a text has no equation, each of its joints of places joins a term to the place that it stands at. So a right member holds no
--- active pair, and no wire of it is closed.
-use Rattle.std.proofs.Common.{◌≡◌, ℕ, zero, suc, List, [], Option, Some, None, refl, subst}
+-- Where a text has no equation, each of its joints of places joins a term to the place that it stands at. So such a right member holds no
+-- active pair.
+use Rattle.std.proofs.Common.{◌≡◌, ℕ, zero, suc, List, [], Option, Some, None, subst}
 use Rattle.in_syntax.specs.declared.places.Place.{Place}
 use Rattle.in_syntax.specs.declared.tree.SourceRule.{SourceRule}
 use Rattle.in_symbols.specs.Tables.{Tables}
@@ -10,7 +10,7 @@ use Rattle.in_net.specs.declared.nets.Point.TheVariants.{Port}
 use Rattle.in_net.specs.Parts.{Parts, partner_in}
 use Rattle.in_net.specs.Rules.{IsMemberOf, body_of_rule}
 use Rattle.in_net.specs.TextNet as text
-use Rattle.in_net.specs.TextNet.{Body, Spot, PlacedJoint, NameJoint, Chain, Kind, placed, of_name, IsOccurrence, IsClosedWireOf, IsWireOf, spot_of, spot_by, name_of, place_of}
+use Rattle.in_net.specs.TextNet.{Body, Spot, PlacedJoint, NameJoint, Chain, Kind, IsOccurrence, IsWireOf, spot_of, spot_by, name_of, place_of}
 
 -- the spot of a term
 abbrev IsRoot : Spot → Type 0
@@ -36,9 +36,6 @@ module _ (t : Tables) (b : Body) (none : b.equations ≡ []) where
   root_of (text.free_end k) h = absurd h
   root_of (text.occurrence p) h = tt
 
-  no_closed : (x : Spot) (ps : List Place) → IsOccurrence x → Chain t b placed of_name x x ps → ⊥
-  no_closed x _ h (Chain.then_name _ _ o _ p ps joint occurs rest) = not_both x o p joint (root_of x h) (root_of o occurs)
-
   port_unnamed : (p : Place) (i : ℕ) (y : Spot) → NameJoint t b (text.port_at p i) y → ⊥
   port_unnamed p i y joint = by_start (text.port_at p i) y joint tt
     where
@@ -62,10 +59,7 @@ module _ (t : Tables) (b : Body) (none : b.equations ≡ []) where
   no_pair _ _ p q _ (Chain.then_name _ _ o _ at ps joint occurs rest) = not_both (text.port_at p 0) o at joint tt (root_of o occurs)
   no_pair _ _ p q _ (Chain.then_placed _ _ o _ ps joint occurs rest) = port_unnamed p 0 o joint
 
-pub no_closed_wire : (t : Tables) (r : SourceRule) (p : Place) → IsClosedWireOf t (body_of_rule t r) p → ⊥
-no_closed_wire t r p h = no_closed t (body_of_rule t r) refl h.through h.places h.occurs h.chain
-
-pub no_active_pair : (t : Tables) (r : SourceRule) (m : Parts) (x y : AgentNo) → IsMemberOf t r m → partner_in m (Port x 0) ≡ Some (Port y 0) → ⊥
-no_active_pair t r m x y member e =
+pub no_active_pair : (t : Tables) (r : SourceRule) (m : Parts) (x y : AgentNo) → r.equations ≡ [] → IsMemberOf t r m → partner_in m (Port x 0) ≡ Some (Port y 0) → ⊥
+no_active_pair t r m x y none member e =
     let wire = member.wires.partners (Port x 0) (Port y 0) e in
-    no_pair t (body_of_rule t r) refl wire.1.first wire.1.last _ _ wire.1.places wire.1.chain
+    no_pair t (body_of_rule t r) none wire.1.first wire.1.last _ _ wire.1.places wire.1.chain

@@ -18,8 +18,8 @@ use Rattle.in_net.specs.Parts.{Parts, IsWhole}
 use Rattle.in_symbols.specs.Tables.{Tables, arity_of}
 use Rattle.in_net.specs.declared.nets.FreeEnd.{FreeEnd}
 use Rattle.in_net.specs.Building.{nth_spot, nth_agent, IsPointSpot, AreSmallSpots, ends_from, cells_of, wires_from}
-use Rattle.in_net.specs.TextNet.{body_of, IsNetOf, IsClosedWireOf}
-use Rattle.in_net.specs.NetFaults.{max_agents, IsFirstNetFault, HasNoNetFault}
+use Rattle.in_net.specs.TextNet.{body_of, IsNetOf}
+use Rattle.in_net.specs.NetFaults.{max_agents, IsFirstNetFault, HasNoNetFault, HasNoClosedWire}
 use Rattle.in_syntax.specs.declared.faults.Code.TheVariants.{E09}
 use Rattle.in_syntax.specs.declared.faults.Fault.TheVariants.{Refused, Memory}
 use Rattle.in_syntax.specs.Tokens.{text_limit}
@@ -96,12 +96,13 @@ IsCellOver t (Some c) = (c.symbol.0 < length t.names) × (length c.ends ≡ arit
 pub record IsOver (t : Tables) (n : Parts) : Type 0 where
   pub cells : AllByRecursion (IsCellOver t) n.cells
 
+-- the refusal of a net or a rule with a closed wire
 abbrev pub closed_at : Place → Fault
 closed_at p = Refused (refusal_of E09 p)
 
 -- where it is Ok, no fault of agents and names and no closed wire stands, and the net is over the program's tables, and is the net
 -- of the text; it is refused for the first such fault, or, where none stands, for the first closed wire
 abbrev pub Builds : Source → Tables → Result Parts Fault → Type 0
-Builds source t (Ok n) = IsOver t n × IsNetOf t source.net n × HasNoNetFault max_agents t (body_of source.net) × ((q : Place) → IsClosedWireOf t (body_of source.net) q → ⊥)
-Builds source t (Err (Refused r)) = IsFirstNetFault t source.net r.code r.place × (r.other ≡ None)
+Builds source t (Ok n) = IsOver t n × IsNetOf t source.net n × HasNoNetFault max_agents t (body_of source.net) × HasNoClosedWire t (body_of source.net)
+Builds source t (Err (Refused r)) = IsFirstNetFault max_agents t (body_of source.net) r.code r.place × (r.other ≡ None)
 Builds source t (Err (Memory e)) = Unit {0}

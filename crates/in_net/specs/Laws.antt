@@ -1,8 +1,7 @@
 -- Laws over the definitions of a net.
-use Rattle.std.specs.Prelude.{◌≡◌, ◌≢◌, ℕ, List, length, Option, Some, Ok}
+use Rattle.std.specs.Prelude.{◌≡◌, ◌≢◌, ℕ, List, [], length, Option, Some, Ok}
 use Rattle.in_syntax.specs.declared.tree.Source.{Source}
 use Rattle.in_syntax.specs.Parsing.{IsOfText}
-use Rattle.in_syntax.specs.declared.places.Place.{Place}
 use Rattle.in_syntax.specs.declared.tree.SourceNet.{SourceNet}
 use Rattle.in_syntax.specs.declared.tree.SourceRule.{SourceRule}
 use Rattle.in_net.specs.declared.nets.AgentNo.{AgentNo}
@@ -10,14 +9,14 @@ use Rattle.in_net.specs.declared.nets.Cell.{Cell}
 use Rattle.in_net.specs.declared.nets.Wire.{Wire}
 use Rattle.in_net.specs.declared.nets.Point.{Point}
 use Rattle.in_net.specs.declared.nets.Point.TheVariants.{Port}
-use Rattle.in_net.specs.Rules.{BuildsRule, IsMemberOf, body_of_rule}
+use Rattle.in_net.specs.Rules.{BuildsRule, IsMemberOf}
 use Rattle.in_symbols.specs.Tables.{Tables, Tabulates}
 use Rattle.in_syntax.specs.Answers.{IsOne}
 use Rattle.in_net.specs.Built.{IsOver, Builds}
 use Rattle.in_net.specs.Nets.{IsNet, net_of, signature_of}
 use Rattle.in_net.specs.Parts.{Parts, IsWhole, IsPointOf, partner_in, symbol_in, free_type_in, free_name_in}
 use Rattle.in_net.specs.Renewing.{IsRenewed}
-use Rattle.in_net.specs.TextNet.{IsNetOf, IsClosedWireOf, spot_at}
+use Rattle.in_net.specs.TextNet.{IsNetOf, spot_at}
 
 -- the partner of a point's partner is the point, and no point is its own partner
 abbrev pub PartnersLeadBack : Type 0
@@ -43,12 +42,9 @@ pub record AreOneNet (n m : Parts) : Type 0 where
 abbrev pub TextNetsAreOne : Type 0
 TextNetsAreOne = (t : Tables) (text : SourceNet) (n m : Parts) → IsNetOf t text n → IsNetOf t text m → AreOneNet n m
 
--- a right member as the grammar writes it holds no active pair, and no wire of its text is closed: both would need an equation
+-- a right member without equations holds no active pair; one with equations may hold some, so this is for those alone who ask for none
 abbrev pub MembersHoldNoPair : Type 0
-MembersHoldNoPair = (t : Tables) (r : SourceRule) (m : Parts) (x y : AgentNo) → IsMemberOf t r m → partner_in m (Port x 0) ≡ Some (Port y 0) → ⊥
-
-abbrev pub RulesHoldNoClosedWire : Type 0
-RulesHoldNoClosedWire = (t : Tables) (r : SourceRule) (p : Place) → IsClosedWireOf t (body_of_rule t r) p → ⊥
+MembersHoldNoPair = (t : Tables) (r : SourceRule) (m : Parts) (x y : AgentNo) → r.equations ≡ [] → IsMemberOf t r m → partner_in m (Port x 0) ≡ Some (Port y 0) → ⊥
 
 -- ---- one answer
 

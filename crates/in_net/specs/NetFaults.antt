@@ -6,13 +6,12 @@ use Rattle.in_syntax.specs.declared.faults.Code.{Code}
 use Rattle.in_syntax.specs.declared.faults.Code.TheVariants.{E03, E07, E08, E09}
 use Rattle.in_syntax.specs.declared.places.Place.{Place}
 use Rattle.in_syntax.specs.declared.tree.SourceFree.{SourceFree}
-use Rattle.in_syntax.specs.declared.tree.SourceNet.{SourceNet}
 use Rattle.in_syntax.specs.declared.tree.Term.{Term, out-Term}
 use Rattle.in_syntax.specs.Refusals.{IsFirstOf, HasNone}
 use Rattle.in_symbols.specs.Tables.{Tables, arity_of}
 use Rattle.in_symbols.specs.Names.{number_in}
 use Rattle.in_base.specs.Lists.{IsAmong}
-use Rattle.in_net.specs.TextNet.{Body, LeftHead, body_of, IsTermOf, IsAgent, IsVariable, name_of, place_of, Written, agents_of_body, IsClosedWireOf}
+use Rattle.in_net.specs.TextNet.{Body, LeftHead, IsTermOf, IsAgent, IsVariable, name_of, place_of, Written, agents_of_body, IsClosedWireOf}
 
 -- the most agents that the initial net may have, and the most that a right member may have
 abbrev pub max_agents : ℕ
@@ -80,7 +79,11 @@ HasNoNetFault most t b = HasNone (IsNetFaultAt most t b)
 abbrev pub IsFirstNameFault : ℕ → Tables → Body → Code → Place → Type 0
 IsFirstNameFault most t b = IsFirstOf (IsNetFaultAt most t b)
 
--- of a net's faults: the first one of agents and names; where there is none of these, the first closed wire
-pub data IsFirstNetFault (t : Tables) (n : SourceNet) : Code → Place → Type 0 where
-  of_names : (c : Code) (p : Place) → IsFirstNameFault max_agents t (body_of n) c p → IsFirstNetFault t n c p
-  of_wires : (p : Place) → HasNoNetFault max_agents t (body_of n) → IsClosedWireOf t (body_of n) p → ((q : Place) → IsClosedWireOf t (body_of n) q → p.from ≤ q.from) → IsFirstNetFault t n E09 p
+-- of the faults of a net or a rule: the first one of agents and names; where there is none of these, the first closed wire
+pub data IsFirstNetFault (most : ℕ) (t : Tables) (b : Body) : Code → Place → Type 0 where
+  of_names : (c : Code) (p : Place) → IsFirstNameFault most t b c p → IsFirstNetFault most t b c p
+  of_wires : (p : Place) → HasNoNetFault most t b → IsClosedWireOf t b p → ((q : Place) → IsClosedWireOf t b q → p.from ≤ q.from) → IsFirstNetFault most t b E09 p
+
+-- no wire of its text is closed
+abbrev pub HasNoClosedWire : Tables → Body → Type 0
+HasNoClosedWire t b = (q : Place) → IsClosedWireOf t b q → ⊥

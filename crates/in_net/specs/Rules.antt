@@ -1,6 +1,6 @@
 -- Rules. Lafont 1990: the left member of a rule is an active pair, written as its two symbols, each with a term for each of its
--- auxiliary ports; these terms are the right member, a net whose free ends are the auxiliary ports of the two symbols. How boundary
--- ends are numbered, the codes and the places are this project's own choice.
+-- auxiliary ports; these terms are the right member, a net whose free ends are the auxiliary ports of the two symbols. That a rule may
+-- have equations of its own, as a net has, is this project's own choice, and so are the numbers of boundary ends, the codes and the places.
 use Rattle.std.specs.Prelude.{◌≡◌, ℕ, zero, suc, ◌+◌, ◌≤◌, Bool, true, ◌&&◌, not, cond, List, [], ◌∷◌, ◌++◌, map, Some, None, unwrap_or, slice_get, Result, Ok, Err}
 use Rattle.in_syntax.specs.declared.faults.Fault.{Fault}
 use Rattle.in_syntax.specs.declared.faults.Fault.TheVariants.{Refused, Memory}
@@ -16,7 +16,7 @@ use Rattle.in_syntax.specs.Order.{IsRuleInOrder}
 use Rattle.in_syntax.specs.Sizes.{names_in_rule}
 use Rattle.in_symbols.specs.Tables.{Tables, IsSymbol, IsRuleKnown, arity_of, port_at, is_constructor, matching}
 use Rattle.in_net.specs.Built.{IsOver, HaveFewPorts}
-use Rattle.in_net.specs.NetFaults.{max_member_agents, HasNoNetFault, IsFirstNameFault}
+use Rattle.in_net.specs.NetFaults.{max_member_agents, HasNoNetFault, HasNoClosedWire, IsFirstNetFault}
 use Rattle.in_net.specs.Parts.{Parts, IsWhole}
 use Rattle.in_net.specs.TextNet.{Body, heads_at, HasAgentsOf, HasWiresOf}
 use Rattle.in_syntax.specs.Tokens.{text_limit}
@@ -55,7 +55,8 @@ module _ (t : Tables) (r : SourceRule) where
   abbrev pub heads_of : SymbolNo × SymbolNo
   heads_of = cond (is_turned t (symbol_of t r.first) (symbol_of t r.second)) (written_of.1, written_of.0) written_of
 
-  -- a rule's body: its heads as they are written. Boundary ends are numbered from 0, first those of the first of the two symbols
+  -- a rule's body: its heads as they are written, and its equations. Boundary ends are numbered from 0, first those of the first of the
+  -- two symbols
   abbrev pub body_of_rule : Body
   body_of_rule =
       let c = symbol_of t r.first in
@@ -63,7 +64,7 @@ module _ (t : Tables) (r : SourceRule) where
       record {
         free = [];
         heads = heads_at r (cond (is_turned t c d) (arity_of t d) 0) (cond (is_turned t c d) 0 (arity_of t c));
-        equations = [];
+        equations = r.equations;
       }
 
 -- the types at so many places from one on, and at all auxiliary places of a symbol
@@ -97,11 +98,11 @@ pub record IsRuleOver (t : Tables) (p : RuleParts) : Type 0 where
   pub member : IsOver t p.member
   pub built : p.member.built ≡ true
 
--- where it is Ok, no fault of agents and names stands, and the rule is over the program's tables, and is that of the text; else it is
--- refused for the first such fault
+-- where it is Ok, no fault of agents and names and no closed wire stands, and the rule is over the program's tables, and is that of the
+-- text; else it is refused for the first such fault, or, where none stands, for the first closed wire
 abbrev pub BuildsRuleOf : Tables → SourceRule → Result RuleParts Fault → Type 0
-BuildsRuleOf t r (Ok p) = IsRuleOver t p × IsRuleOf t r p × HasNoNetFault max_member_agents t (body_of_rule t r)
-BuildsRuleOf t r (Err (Refused f)) = IsFirstNameFault max_member_agents t (body_of_rule t r) f.code f.place × (f.other ≡ None)
+BuildsRuleOf t r (Ok p) = IsRuleOver t p × IsRuleOf t r p × HasNoNetFault max_member_agents t (body_of_rule t r) × HasNoClosedWire t (body_of_rule t r)
+BuildsRuleOf t r (Err (Refused f)) = IsFirstNetFault max_member_agents t (body_of_rule t r) f.code f.place × (f.other ≡ None)
 BuildsRuleOf t r (Err (Memory e)) = Unit {0}
 
 -- the same of the rule of that number

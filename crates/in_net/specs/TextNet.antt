@@ -31,7 +31,7 @@ pub record LeftHead : Type 0 where
   pub first : ℕ
   pub head : Head
 
--- what a text joins: the free names and the equations of a net, or the heads of a rule
+-- what a text joins: the free names and the equations of a net, or the heads and the equations of a rule
 pub record Body : Type 0 where
   pub free : List SourceFree
   pub heads : List LeftHead

@@ -193,8 +193,8 @@ pub(crate) fn assemble(
     Ok(Net::built(cells, free, wires, places))
 }
 
-/// The refusal of a net with a closed wire.
-fn closed_at(place: Place) -> Fault
+/// The refusal of a net or a rule with a closed wire.
+pub(crate) fn closed_at(place: Place) -> Fault
     ensures { result ≡ closed_at place }
 {
     Fault::Refused(Refusal::at(Code::E09, place))

@@ -10,7 +10,7 @@ ghost use Rattle.in_net.specs.TextNet.{body_of};
 use crate::counting::miscounted;
 use crate::reading::{Agent, Reading};
 use in_symbols::Symbols;
-use in_syntax::{Code, Head, Place, Refusal, SourceFree, SourceNet, SourceRule, Term};
+use in_syntax::{Code, Equation, Head, Place, Refusal, SourceFree, SourceNet, SourceRule, Term};
 use std::alloc::{AllocError, Global};
 
 /// The most agents that the initial net may have. This is this project's own choice.
@@ -51,12 +51,12 @@ fn misfit(symbols: &Symbols, term: &Term) -> Option<Place>
     found
 }
 
-/// The same of a net.
-fn misfit_in_net(symbols: &Symbols, net: &SourceNet) -> Option<Place>
-    ensures { result ≡ misfit_in_equations symbols.now net.now.equations }
+/// The same of equations.
+fn misfit_in_equations(symbols: &Symbols, equations: &[Equation]) -> Option<Place>
+    ensures { result ≡ misfit_in_equations symbols.now equations.now }
 {
     let mut found = None;
-    for equation in net.equations.as_slice() {
+    for equation in equations {
         let place = Place::earlier(
             misfit(symbols, &equation.left),
             misfit(symbols, &equation.right),
@@ -122,7 +122,7 @@ pub(crate) fn first_fault(
     fault_of(
         alloc,
         MAX_AGENTS,
-        misfit_in_net(symbols, net),
+        misfit_in_equations(symbols, net.equations.as_slice()),
         net.free.as_slice(),
         reading,
     )
@@ -138,9 +138,11 @@ pub(crate) fn first_rule_fault(
     requires { NamesInside (length reading.now.names) reading.now.spots }
     ensures { IfOk result (λ fault. fault ≡ first_fault max_member_agents symbols.now (body_of_rule symbols.now rule.now) reading.now) }
 {
-    let misfit = Place::earlier(
+    let heads = Place::earlier(
         misfit_in_head(symbols, &rule.first),
         misfit_in_head(symbols, &rule.second),
     );
+    let equations = misfit_in_equations(symbols, rule.equations.as_slice());
+    let misfit = Place::earlier(heads, equations);
     fault_of(alloc, MAX_MEMBER_AGENTS, misfit, &[], reading)
 }

@@ -1,6 +1,6 @@
 //! Laws over the definitions of a net, for whoever reasons above them. No function here does anything.
 
-ghost use Rattle.in_net.specs.Laws.{MembersHoldNoPair, NetsAreBuiltOnce, NetsAreRenewedOnce, RulesAreBuiltOnce, PartnersLeadBack, RulesHoldNoClosedWire, TextNetsAreOne, WholePartsAreNets};
+ghost use Rattle.in_net.specs.Laws.{MembersHoldNoPair, NetsAreBuiltOnce, NetsAreRenewedOnce, RulesAreBuiltOnce, PartnersLeadBack, TextNetsAreOne, WholePartsAreNets};
 
 /// In a net, the partner of a point's partner is the point, and no point is its own partner.
 pub fn partners_lead_back()
@@ -17,14 +17,9 @@ pub fn text_nets_are_one()
     ensures { TextNetsAreOne }
 {}
 
-/// A right member, as rules are written, holds no active pair.
+/// A right member without equations holds no active pair; one with equations may hold some.
 pub fn members_hold_no_pair()
     ensures { MembersHoldNoPair }
-{}
-
-/// No wire of a rule's text is closed.
-pub fn rules_hold_no_closed_wire()
-    ensures { RulesHoldNoClosedWire }
 {}
 
 /// What building the net of a text's program answers is one: two nets are equal, the numbers and places of their wires included.

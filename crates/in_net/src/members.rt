@@ -10,7 +10,7 @@ ghost use Rattle.in_net.specs.NetFaults.{max_member_agents};
 ghost use Rattle.in_net.specs.Reading.{reading_of};
 ghost use Rattle.in_net.specs.Searching.{first_fault};
 
-use crate::building::{assemble, partner};
+use crate::building::{assemble, closed_at, partner};
 use crate::faults::first_rule_fault;
 use crate::joining::{Link, join_all};
 use crate::nets::FreeEnd;
@@ -133,6 +133,7 @@ fn linked_rule(
     requires read { reading.now ≡ reading_of symbols.now (body_of_rule symbols.now rule.now) }
     requires clear { None ≡ first_fault max_member_agents symbols.now (body_of_rule symbols.now rule.now) reading.now }
     requires links { links.now ≡ (joined_spots reading.now).links }
+    requires whole { (joined_spots reading.now).closed ≡ None }
     ensures { BuildsRuleOf symbols.now rule.now result }
 {
     let written = (
@@ -165,7 +166,10 @@ fn joined_rule(
     ensures { BuildsRuleOf symbols.now rule.now result }
 {
     let joined = join_all(alloc, reading)?;
-    linked_rule(alloc, symbols, rule, reading, joined.links.as_slice())
+    match joined.closed {
+        Some(place) => Err(closed_at(place)),
+        None => linked_rule(alloc, symbols, rule, reading, joined.links.as_slice()),
+    }
 }
 
 /// The rule of what was read.
@@ -204,8 +208,9 @@ fn rule_of(alloc: Global, symbols: &Symbols, rule: &SourceRule) -> Result<Rule, 
 /// Refused for the first fault in the order of the text, at one place the lower code: E03 at the name of the agent that is one
 /// more than `MAX_MEMBER_AGENTS`, where the heads aren't counted; E07 at an agent's or a head's name, where its number of
 /// arguments or terms isn't its symbol's arity; E08 where a variable doesn't stand twice: at its only occurrence or its third one.
-/// Or for want of memory. Lafont 1990 writes a rule as two agents with terms at their auxiliary ports, in which each variable
-/// stands twice; the codes and their places are this project's own choice.
+/// Only where none of these stands, E09 for a closed wire, the first by the place of the wire. Or for want of memory. Lafont 1990
+/// writes a rule as two agents with terms at their auxiliary ports, in which each variable stands twice; the equations of a rule,
+/// the codes and their places are this project's own choice.
 pub fn build_rule(
     alloc: Global,
     source: &Source,

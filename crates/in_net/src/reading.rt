@@ -1,6 +1,6 @@
 ghost use Rattle.std.specs.Prelude.{◌≡◌, length, map, IfOk, unwrap_or};
 ghost use Rattle.in_symbols.specs.Names.{number_in};
-ghost use Rattle.in_net.specs.Reading.{nothing_read, with_name, with_agent, with_occurrence, with_ends, reader_of, reads_arguments, reads_equation, reads_heads, reads_free, reading_of};
+ghost use Rattle.in_net.specs.Reading.{nothing_read, with_name, with_agent, with_occurrence, with_ends, reader_of, reads_arguments, reads_equation, reads_equations, reads_heads, reads_free, reading_of};
 ghost use Rattle.in_net.specs.TextNet.{body_of, heads_at};
 
 use in_symbols::{Names, SymbolNo, Symbols};
@@ -173,6 +173,21 @@ fn read_free(alloc: Global, free: &[SourceFree]) -> Result<Reading, AllocError>
     Ok(reading)
 }
 
+/// Reads these equations.
+fn read_equations(
+    alloc: Global,
+    symbols: &Symbols,
+    equations: &[Equation],
+    reading: &mut Reading,
+) -> Result<(), AllocError>
+    ensures { IfOk result (λ _. reading.new ≡ reads_equations symbols.now equations.now reading.old) }
+{
+    for equation in equations {
+        read_equation(alloc, symbols, equation, reading)?;
+    }
+    Ok(())
+}
+
 /// Reads a net: its free ends, and then its equations.
 pub(crate) fn read_net(
     alloc: Global,
@@ -182,9 +197,7 @@ pub(crate) fn read_net(
     ensures { IfOk result (λ r. r ≡ reading_of symbols.now (body_of net.now)) }
 {
     let mut reading = read_free(alloc, net.free.as_slice())?;
-    for equation in net.equations.as_slice() {
-        read_equation(alloc, symbols, equation, &mut reading)?;
-    }
+    read_equations(alloc, symbols, net.equations.as_slice(), &mut reading)?;
     Ok(reading)
 }
 
@@ -221,8 +234,8 @@ fn read_head(
     Ok(())
 }
 
-/// Reads a rule, the boundary ends of whose heads begin at these numbers: so many boundary ends, and then the terms of each head
-/// in the order of the text.
+/// Reads a rule, the boundary ends of whose heads begin at these numbers: so many boundary ends, then the terms of each head in the
+/// order of the text, and then its equations.
 pub(crate) fn read_rule(
     alloc: Global,
     symbols: &Symbols,
@@ -231,10 +244,11 @@ pub(crate) fn read_rule(
     first: usize,
     second: usize,
 ) -> Result<Reading, AllocError>
-    ensures { IfOk result (λ r. r ≡ reads_heads symbols.now (heads_at rule.now first second) (with_ends nothing_read ends)) }
+    ensures { IfOk result (λ r. r ≡ reads_equations symbols.now rule.now.equations (reads_heads symbols.now (heads_at rule.now first second) (with_ends nothing_read ends))) }
 {
     let mut reading = read_ends(alloc, ends)?;
     read_head(alloc, symbols, &rule.first, first, &mut reading)?;
     read_head(alloc, symbols, &rule.second, second, &mut reading)?;
+    read_equations(alloc, symbols, rule.equations.as_slice(), &mut reading)?;
     Ok(reading)
 }

@@ -1,5 +1,5 @@
-use crate::pairs::Makes;
-use crate::texts::{FirstRule, TheNet, holds, refused_at, seen};
+use crate::pairs::{HoldsPairs, Makes};
+use crate::texts::{RuleAt, TheNet, holds, refused_at, seen};
 use in_net::{AgentNo, Net, Point, Rule};
 use in_symbols::SymbolNo;
 use in_syntax::Code;
@@ -7,6 +7,8 @@ use in_test_texts::{ADDITION, DUPLICATION, SUMS};
 use std::alloc::Global;
 use std::process::Abort;
 use std::test::Fail;
+
+const FIRST: RuleAt = RuleAt { number: 0 };
 
 /// The net of a sum, S(S(Z)) + S(Z).
 const SUM: &str = "net (r : nat+) { S(S(Z)) ~ Add(S(Z), r); }\n";
@@ -144,7 +146,7 @@ fn is_the_sum(rule: Option<&Rule>) -> bool {
 #[test]
 fn a_rule_is_read_back(rt: HostRuntime) -> Result<(), Fail> {
     let text = "rule S[Add(y, t)] >< Add[y, S(t)];\nnet () { }";
-    let rule = seen(rt.alloc(), &[SUMS, text], &FirstRule)?;
+    let rule = seen(rt.alloc(), &[SUMS, text], &FIRST)?;
     assert!(rt; is_the_sum(rule.as_ref()));
     Ok(())
 }
@@ -167,9 +169,205 @@ fn is_the_sum_turned(rule: Option<&Rule>) -> bool {
 #[test]
 fn the_ends_of_the_constructor_come_first(rt: HostRuntime) -> Result<(), Fail> {
     let text = "rule Add[y, S(t)] >< S[Add(y, t)];\nnet () { }";
-    let rule = seen(rt.alloc(), &[SUMS, text], &FirstRule)?;
+    let rule = seen(rt.alloc(), &[SUMS, text], &FIRST)?;
     assert!(rt; is_the_sum_turned(rule.as_ref()));
     Ok(())
+}
+
+/// Checks that each rule over numbers and sums is refused with this code at this column.
+fn expect_rule_refused(rt: &impl Abort, alloc: Global, cases: &[(&str, Code, u32)]) {
+    for (rule, code, col) in cases {
+        let answer = refused_at(seen(alloc, &[SUMS, *rule, "\nnet () { }"], &FIRST));
+        assert!(rt; answer == Some((*code, 5, *col)), "{rule}");
+    }
+}
+
+/// Rules with a fault in their equations, its code and its column.
+const FAULTS_OF_RULES: [(&str, Code, u32); 13] = [
+    ("rule Z[] >< Add[y, y] with { S ~ Z; };", Code::E07, 30),
+    (
+        "rule Z[] >< Add[y, y] with { Z ~ S(Z, Z); };",
+        Code::E07,
+        34,
+    ),
+    ("rule Z[] >< Add[y, y] with { x ~ Z; };", Code::E08, 30),
+    ("rule Z[] >< Add[y, y] with { Z ~ y; };", Code::E08, 34),
+    ("rule Z[] >< Add[x, y] with { x ~ Z; };", Code::E08, 20),
+    ("rule Z[] >< Add[y, y] with { x ~ x; };", Code::E09, 32),
+    (
+        "rule Z[] >< Add[y, y] with { x ~ z; z ~ x; };",
+        Code::E09,
+        39,
+    ),
+    (
+        "rule Z[] >< Add[y, y] with { x ~ v; z ~ z; x ~ v; };",
+        Code::E09,
+        39,
+    ),
+    (
+        "rule Z[] >< Add[y, y] with { x ~ x; z ~ z; };",
+        Code::E09,
+        32,
+    ),
+    (
+        "rule Z[] >< Add[y, y] with { x ~ x; S ~ Z; };",
+        Code::E07,
+        37,
+    ),
+    (
+        "rule Z[] >< Add[y, y] with { x ~ x; z ~ Z; };",
+        Code::E08,
+        37,
+    ),
+    (
+        "rule Z[] >< Add[y, y] with { x ~ x; x ~ Z; };",
+        Code::E08,
+        37,
+    ),
+    ("rule Z[] >< Add[y] with { x ~ x; };", Code::E07, 13),
+];
+
+#[test]
+fn each_fault_of_a_rule_is_answered_at_its_place(rt: HostRuntime) {
+    expect_rule_refused(&rt, rt.alloc(), &FAULTS_OF_RULES);
+}
+
+/// Ten equations, with twenty agents.
+const TEN: &str = " Z ~ Z; Z ~ Z; Z ~ Z; Z ~ Z; Z ~ Z; Z ~ Z; Z ~ Z; Z ~ Z; Z ~ Z; Z ~ Z;";
+
+/// Checks what each rule is answered that has these heads, sixty agents in its equations, and then these equations.
+fn expect_beside_sixty(rt: &impl Abort, alloc: Global, cases: &[(&str, &str, Option<u32>)]) {
+    for (heads, more, col) in cases {
+        let parts = [
+            SUMS,
+            *heads,
+            " with {",
+            TEN,
+            TEN,
+            TEN,
+            *more,
+            " };\nnet () { }",
+        ];
+        let answer = refused_at(seen(alloc, &parts, &FIRST));
+        assert!(rt;
+            answer == col.map(|col| (Code::E03, 5, col)),
+            "{heads} .. {more}"
+        );
+    }
+}
+
+/// Heads, the last equations, and the column of the 65th agent, if there is one.
+const BESIDE_SIXTY: [(&str, &str, Option<u32>); 5] = [
+    ("rule Z[] >< Add[y, y]", " Z ~ Z; Z ~ Z;", None),
+    ("rule Z[] >< Add[y, y]", " Z ~ Z; Z ~ S(Z);", Some(253)),
+    ("rule Z[] >< Add[Z, Z]", " Z ~ Z;", None),
+    ("rule Z[] >< Add[Z, Z]", " Z ~ Z; Z ~ x;", Some(247)),
+    ("rule Z[] >< Add[Z, Z]", " Z ~ Z; S ~ x;", Some(247)),
+];
+
+#[test]
+fn a_right_member_has_at_most_sixty_four_agents(rt: HostRuntime) {
+    expect_beside_sixty(&rt, rt.alloc(), &BESIDE_SIXTY);
+}
+
+/// A symbol that turns a number into two, and its rule for what comes after zero.
+const TWO: &str = "symbol Two : nat- {nat+};\nrule S[Two(t)] >< Two[t];\n";
+
+const FOURTH: RuleAt = RuleAt { number: 3 };
+
+/// Checks what each rule, the fourth one, is answered that stands in the ninth line.
+fn expect_fourth(rt: &impl Abort, alloc: Global, cases: &[(&str, Option<(Code, u32)>)]) {
+    for (rule, wanted) in cases {
+        let parts = [SUMS, ADDITION, TWO, *rule, "\nnet () { }"];
+        let answer = refused_at(seen(alloc, &parts, &FOURTH));
+        assert!(rt;
+            answer == wanted.map(|(code, col)| (code, 9, col)),
+            "{rule}"
+        );
+    }
+}
+
+/// Rules of zero and `Two`, with the code and the column of their fault, if they have one.
+const FOURTH_RULES: [(&str, Option<(Code, u32)>); 6] = [
+    ("rule Z[] >< Two[r] with { S(S(Z)) ~ Add(Z, r); };", None),
+    ("rule Z[] >< Two[Z] with { };", None),
+    ("rule Z[] >< Two[Z] with { x ~ x; };", Some((Code::E09, 29))),
+    ("rule Z[] >< Two[Z] with { Z ~ Z; };", None),
+    ("rule Z[] >< Two[Z] with { x ~ Add(Z, x); };", None),
+    (
+        "rule Z[] >< Two[r] with { r ~ x; x ~ y; };",
+        Some((Code::E08, 38)),
+    ),
+];
+
+#[test]
+fn a_rule_with_equations_is_built_or_refused(rt: HostRuntime) {
+    expect_fourth(&rt, rt.alloc(), &FOURTH_RULES);
+}
+
+/// The rule of zero and `Two` whose right member is a sum.
+const TWO_BY_A_SUM: &str = "rule Z[] >< Two[r] with { S(S(Z)) ~ Add(Z, r); };\nnet () { }";
+
+/// Whether the right member has the agents of two and of a sum, and one boundary end.
+fn has_agents_of_a_sum(member: &Net) -> bool {
+    is_built_with(member, 5, 1)
+        && member.symbol(AgentNo(0)) == Some(SymbolNo(1))
+        && member.symbol(AgentNo(1)) == Some(SymbolNo(1))
+        && member.symbol(AgentNo(2)) == Some(SymbolNo(0))
+        && member.symbol(AgentNo(3)) == Some(SymbolNo(2))
+        && member.symbol(AgentNo(4)) == Some(SymbolNo(0))
+}
+
+/// Whether its wires stand in the order of their places: inside S(S(Z)), the equation, inside Add(Z, r).
+fn has_wires_of_a_sum(member: &Net) -> bool {
+    is_built_with(member, 5, 1)
+        && member.wires() == 5
+        && member.wire(0) == (Point::Port(AgentNo(0), 1), Point::Port(AgentNo(1), 0))
+        && member.wire(2) == (Point::Port(AgentNo(0), 0), Point::Port(AgentNo(3), 0))
+        && member.wire(4) == (Point::Free(0), Point::Port(AgentNo(3), 2))
+        && member.wire_place(2).col == 35
+        && member.wire_place(4).col == 44
+}
+
+/// Whether it is that rule.
+fn is_two_by_a_sum(rule: Option<&Rule>) -> bool {
+    match rule {
+        Some(rule) => {
+            has_heads(rule, (0, 3), (0, 3), (6, 13))
+                && has_agents_of_a_sum(rule.member())
+                && has_wires_of_a_sum(rule.member())
+        }
+        None => false,
+    }
+}
+
+#[test]
+fn a_rule_with_equations_is_read_back(rt: HostRuntime) -> Result<(), Fail> {
+    let rule = seen(rt.alloc(), &[SUMS, ADDITION, TWO, TWO_BY_A_SUM], &FOURTH)?;
+    assert!(rt; is_two_by_a_sum(rule.as_ref()));
+    Ok(())
+}
+
+#[test]
+fn a_right_member_may_hold_an_active_pair(rt: HostRuntime) {
+    let look = HoldsPairs {
+        rule: 3,
+        pairs: &[(0, 3)],
+    };
+    assert!(rt; holds(rt.alloc(), &[SUMS, ADDITION, TWO, TWO_BY_A_SUM], &look));
+}
+
+/// The rule of zero and `Two` whose right member is two sums, of which the first one is printed destructor first.
+const TWO_BY_TWO_SUMS: &str =
+    "rule Z[] >< Two[r] with { Add(u, r) ~ S(Z); Z ~ Add(S(Z), u); };\nnet () { }";
+
+#[test]
+fn a_right_member_may_hold_several_active_pairs(rt: HostRuntime) {
+    let look = HoldsPairs {
+        rule: 3,
+        pairs: &[(1, 0), (3, 4)],
+    };
+    assert!(rt; holds(rt.alloc(), &[SUMS, ADDITION, TWO, TWO_BY_TWO_SUMS], &look));
 }
 
 #[test]

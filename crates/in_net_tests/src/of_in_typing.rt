@@ -58,19 +58,27 @@ fn types_and_signs_are_compared(rt: HostRuntime) {
 }
 
 /// Rules that are built and typed.
-const TYPED_RULES: [&str; 2] = [
+const TYPED_RULES: [&str; 3] = [
     "rule Z[] >< Add[y, y];",
     "rule S[Add(y, t)] >< Add[y, S(t)];",
+    "rule Z[] >< Add[y, r] with { Z ~ Add(y, r); };",
 ];
 
 /// Rules with a fault, its code and its column.
-const MISTYPED_RULES: [(&str, Code, u32); 6] = [
+const MISTYPED_RULES: [(&str, Code, u32); 9] = [
     ("rule Z[] >< Z[];", Code::E11, 13),
     ("rule S[Z] >< S[Z];", Code::E11, 14),
     ("rule Z[] >< Add[Z, Z];", Code::E10, 17),
     ("rule Z[] >< Add[y];", Code::E07, 13),
     ("rule Z[] >< Add[y, x];", Code::E08, 17),
     ("rule S[y] >< Add[y, y];", Code::E08, 21),
+    ("rule Z[] >< Add[y, y] with { Z ~ Z; };", Code::E10, 32),
+    (
+        "rule Z[] >< Add[y, y] with { Z ~ Z; x ~ x; };",
+        Code::E09,
+        39,
+    ),
+    ("rule Z[] >< Z[] with { x ~ x; };", Code::E09, 26),
 ];
 
 #[test]

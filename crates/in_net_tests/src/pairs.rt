@@ -1,4 +1,4 @@
-//! The active pairs that one interaction of a text's net makes.
+//! The active pairs of a right member, and those that one interaction of a text's net makes.
 ghost use Rattle.std.specs.Prelude.{IfOk, IfSome};
 ghost use Rattle.in_net.specs.ActivePairs.{AreActive};
 ghost use Rattle.in_net.specs.Built.{IsOver};
@@ -24,6 +24,36 @@ pub fn are_the_pairs(pairs: &[(AgentNo, AgentNo)], expected: &[(u32, u32)]) -> b
         }
     }
     true
+}
+
+/// Whether these are the active pairs of the rule's right member.
+fn member_holds(
+    alloc: Global,
+    symbols: &Symbols,
+    rule: &Rule,
+    expected: &[(u32, u32)],
+) -> Result<bool, AllocError>
+    requires { IsRuleOver symbols.now rule.now }
+{
+    let pairs = rule.member().active_pairs(alloc, symbols)?;
+    Ok(are_the_pairs(pairs.as_slice(), expected))
+}
+
+/// Whether these are the active pairs of the right member of the rule of this number.
+#[derive(Clone, Copy)]
+pub struct HoldsPairs<'a> {
+    pub rule: u32,
+    pub pairs: &'a [(u32, u32)],
+}
+
+impl Look<bool> for HoldsPairs<'_> {
+    fn look(&self, alloc: Global, source: &Source, symbols: &Symbols) -> Result<bool, Fault> {
+        if self.rule as usize >= source.rules.len() {
+            return Ok(false);
+        }
+        let rule = rule_in(alloc, source, symbols, self.rule)?;
+        Ok(member_holds(alloc, symbols, &rule, self.pairs)?)
+    }
 }
 
 /// Whether `made` answers these pairs, where the rule is the one for this active pair.

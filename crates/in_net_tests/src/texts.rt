@@ -98,20 +98,22 @@ impl Look<Net> for TheNet {
     }
 }
 
-/// The first rule, if there is one.
+/// The rule of this number, if there is one.
 #[derive(Clone, Copy)]
-pub struct FirstRule;
+pub struct RuleAt {
+    pub number: u32,
+}
 
-impl Look<Option<Rule>> for FirstRule {
+impl Look<Option<Rule>> for RuleAt {
     fn look(
         &self,
         alloc: Global,
         source: &Source,
         symbols: &Symbols,
     ) -> Result<Option<Rule>, Fault> {
-        if source.rules.len() == 0 {
+        if self.number as usize >= source.rules.len() {
             return Ok(None);
         }
-        Ok(Some(rule_in(alloc, source, symbols, 0)?))
+        Ok(Some(rule_in(alloc, source, symbols, self.number)?))
     }
 }

@@ -17,7 +17,7 @@ use Rattle.in_syntax.specs.declared.tree.Term.{Term, out-Term}
 use Rattle.in_syntax.specs.Order.{BeginApart, term_places, equation_places, head_places, symbol_places, rule_places, free_places, source_places}
 use Rattle.in_base.specs.Lists.{AnyByRecursion}
 use Rattle.in_syntax.proofs.FirstFault.{both_first, IsOneOf, code_is}
-use Rattle.in_symbols.specs.Faults.{IsSymbolName, IsRepeatedAt, IsDeclaredTwiceAt, type_twice, symbol_twice, free_twice, free_symbol, IsUntypedAt, IsUnknownTypeAt, of_principal, of_auxiliary, of_free, HasPart, itself, argument, IsUnknownHead, OfAHead, IsUnknownHeadAt, in_equation, of_head, in_head, IsFaultAt, declared_twice, unknown_type, unknown_symbol}
+use Rattle.in_symbols.specs.Faults.{IsSymbolName, HasPartIn, IsRepeatedAt, IsDeclaredTwiceAt, type_twice, symbol_twice, free_twice, free_symbol, IsUntypedAt, IsUnknownTypeAt, of_principal, of_auxiliary, of_free, HasPart, itself, argument, IsUnknownHead, OfAHead, IsUnknownHeadAt, in_equation, in_rule_equation, of_head, in_head, IsFaultAt, declared_twice, unknown_type, unknown_symbol}
 use Rattle.in_symbols.specs.Tables.{Tabulates}
 use Rattle.in_syntax.specs.Answers.{IsOne}
 use Rattle.in_base.specs.Lists.{IsAmong}
@@ -69,8 +69,8 @@ module _ (s : Source) where
   at_equations p h = at_net p (among_right p (flat_map free_places s.net.free) (flat_map equation_places s.net.equations) h)
 
   head_at : (r : SourceRule) (P : Head → Type 0) (p : Place) → IsAmong r s.rules → ((h : Head) → P h → IsAmong p (head_places h)) → OfAHead P r → IsAmong p (source_places s)
-  head_at r P p among on (inl h) = at_rule r p among (among_left p (head_places r.first) (head_places r.second) (on r.first h))
-  head_at r P p among on (inr h) = at_rule r p among (among_right p (head_places r.first) (head_places r.second) (on r.second h))
+  head_at r P p among on (inl h) = at_rule r p among (among_left p (head_places r.first ++ head_places r.second) (flat_map equation_places r.equations) (among_left p (head_places r.first) (head_places r.second) (on r.first h)))
+  head_at r P p among on (inr h) = at_rule r p among (among_left p (head_places r.first ++ head_places r.second) (flat_map equation_places r.equations) (among_right p (head_places r.first) (head_places r.second) (on r.second h)))
 
   twice : (p : Place) → IsDeclaredTwiceAt s p → IsAmong p (source_places s)
   twice p (type_twice h) =
@@ -104,6 +104,10 @@ module _ (s : Source) where
   headless p (in_equation h) =
       let e = any_among (λ (e : Equation). HasPart (IsUnknownHead s p) e.left ⊎ HasPart (IsUnknownHead s p) e.right) s.net.equations h in
       at_equations p (in_flat equation_places s.net.equations e.0 p e.1 (either e.0 p e.2))
+  headless p (in_rule_equation h) =
+      let r = any_among (λ (r : SourceRule). HasPartIn (IsUnknownHead s p) r.equations) s.rules h in
+      let e = any_among (λ (e : Equation). HasPart (IsUnknownHead s p) e.left ⊎ HasPart (IsUnknownHead s p) e.right) r.0.equations r.2 in
+      at_rule r.0 p r.1 (among_right p (head_places r.0.first ++ head_places r.0.second) (flat_map equation_places r.0.equations) (in_flat equation_places r.0.equations e.0 p e.1 (either e.0 p e.2)))
   headless p (of_head h) =
       let r = any_among (OfAHead (λ (h : Head). (IsSymbolName s h.name.text → ⊥) × (h.name.place ≡ p))) s.rules h in
       head_at r.0 (λ (h : Head). (IsSymbolName s h.name.text → ⊥) × (h.name.place ≡ p)) p r.1 (λ h k. inl k.1) r.2

@@ -7,7 +7,7 @@ use Rattle.in_syntax.specs.declared.tree.Equation.{Equation}
 use Rattle.in_syntax.specs.declared.tree.Source.{Source}
 use Rattle.in_syntax.specs.declared.tree.Term.{Term, out-Term}
 use Rattle.in_base.specs.Lists.{AnyByRecursion}
-use Rattle.in_symbols.specs.Faults.{IsSymbolName, HasPart, itself, argument, IsUnknownHead}
+use Rattle.in_symbols.specs.Faults.{IsSymbolName, HasPart, HasPartIn, itself, argument, IsUnknownHead}
 use Rattle.in_symbols.specs.Names.{number_in}
 use Rattle.in_syntax.specs.Refusals.{earlier, earliest}
 use Rattle.in_symbols.specs.Searching.{is_empty, unknown_here, unknown_in_term, unknown_in_equation, unknown_in_equations}
@@ -93,12 +93,12 @@ equation_least s names are e =
     least_earlier (λ q. HasPart (IsUnknownHead s q) e.left) (λ q. HasPart (IsUnknownHead s q) e.right) (unknown_in_term names e.left) (unknown_in_term names e.right)
     (term_least s names are e.left) (term_least s names are e.right)
 
-abbrev pub IsUnknownInNet : Source → Place → Type 0
-IsUnknownInNet s q = AnyByRecursion (λ e. HasPart (IsUnknownHead s q) e.left ⊎ HasPart (IsUnknownHead s q) e.right) s.net.equations
+abbrev pub IsUnknownInEquations : Source → List Equation → Place → Type 0
+IsUnknownInEquations s es q = HasPartIn (IsUnknownHead s q) es
 
-pub equations_least : (s : Source) (names : List (List ℕ)) → AreNamesOf (IsSymbolName s) names → IsLeast (IsUnknownInNet s) (unknown_in_equations names s.net.equations)
-equations_least s names are =
-    least_of_all (unknown_in_equation names) (λ e q. HasPart (IsUnknownHead s q) e.left ⊎ HasPart (IsUnknownHead s q) e.right) (equation_least s names are) s.net.equations
+pub equations_least : (s : Source) (names : List (List ℕ)) → AreNamesOf (IsSymbolName s) names → (es : List Equation) → IsLeast (IsUnknownInEquations s es) (unknown_in_equations names es)
+equations_least s names are es =
+    least_of_all (unknown_in_equation names) (λ e q. HasPart (IsUnknownHead s q) e.left ⊎ HasPart (IsUnknownHead s q) e.right) (equation_least s names are) es
 
 -- ---- where none is unknown, each is a symbol's
 

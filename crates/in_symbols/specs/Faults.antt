@@ -7,6 +7,7 @@ use Rattle.in_syntax.specs.declared.faults.Code.{Code}
 use Rattle.in_syntax.specs.declared.faults.Code.TheVariants.{E04, E05, E06}
 use Rattle.in_syntax.specs.Refusals.{IsFirstOf, HasNone}
 use Rattle.in_syntax.specs.declared.places.Place.{Place}
+use Rattle.in_syntax.specs.declared.tree.Equation.{Equation}
 use Rattle.in_syntax.specs.declared.tree.Head.{Head}
 use Rattle.in_syntax.specs.declared.tree.Name.{Name}
 use Rattle.in_syntax.specs.declared.tree.Source.{Source}
@@ -63,9 +64,15 @@ pub record IsUnknownHead (s : Source) (p : Place) (t : Term) : Type 0 where
 abbrev pub OfAHead : (Head → Type 0) → SourceRule → Type 0
 OfAHead P r = P r.first ⊎ P r.second
 
--- at the place stands a name before ( in the net, before [ in a rule, or before ( in a rule, that is no symbol's
+-- it holds of a term of one of the equations, or of a term within one
+abbrev pub HasPartIn : (Term → Type 0) → List Equation → Type 0
+HasPartIn P = AnyByRecursion (λ e. HasPart P e.left ⊎ HasPart P e.right)
+
+-- at the place stands a name that is no symbol's: before ( in an equation of the net or of a rule, before [ in a rule, or before ( in a
+-- term of a head
 pub data IsUnknownHeadAt (s : Source) (p : Place) : Type 0 where
-  in_equation : AnyByRecursion (λ e. HasPart (IsUnknownHead s p) e.left ⊎ HasPart (IsUnknownHead s p) e.right) s.net.equations → IsUnknownHeadAt s p
+  in_equation : HasPartIn (IsUnknownHead s p) s.net.equations → IsUnknownHeadAt s p
+  in_rule_equation : AnyByRecursion (λ r. HasPartIn (IsUnknownHead s p) r.equations) s.rules → IsUnknownHeadAt s p
   of_head : AnyByRecursion (OfAHead (λ h. (IsSymbolName s h.name.text → ⊥) × (h.name.place ≡ p))) s.rules → IsUnknownHeadAt s p
   in_head : AnyByRecursion (OfAHead (λ h. AnyByRecursion (HasPart (IsUnknownHead s p)) h.terms)) s.rules → IsUnknownHeadAt s p
 

@@ -83,7 +83,7 @@ abbrev pub unknown_in_head : List (List ℕ) → Head → Option Place
 unknown_in_head names h = earliest (unknown_name names h.name) (map (unknown_in_term names) h.terms)
 
 abbrev pub unknown_in_rule : List (List ℕ) → SourceRule → Option Place
-unknown_in_rule names r = earlier (unknown_in_head names r.first) (unknown_in_head names r.second)
+unknown_in_rule names r = earlier (earlier (unknown_in_head names r.first) (unknown_in_head names r.second)) (unknown_in_equations names r.equations)
 
 abbrev pub unknown_in_rules : List (List ℕ) → List SourceRule → Option Place
 unknown_in_rules names rs = earliest None (map (unknown_in_rule names) rs)

@@ -164,8 +164,9 @@ HeadsKnown names = AllByRecursion (λ e. (heads_known names e.left ≡ true) × 
 abbrev pub IsHeadKnown : List (List ℕ) → Head → Type 0
 IsHeadKnown names h = IsSome (number_in h.name.text names) × AllByRecursion (λ u. heads_known names u ≡ true) h.terms
 
+-- those of a rule's heads and equations are
 abbrev pub IsRuleKnown : List (List ℕ) → SourceRule → Type 0
-IsRuleKnown names r = IsHeadKnown names r.first × IsHeadKnown names r.second
+IsRuleKnown names r = IsHeadKnown names r.first × IsHeadKnown names r.second × HeadsKnown names r.equations
 
 -- the types of the free ends are declared
 abbrev pub FreeKnown : List (List ℕ) → List SourceFree → Type 0

@@ -95,6 +95,7 @@ fn unknown_in_term(symbols: &Names, term: &Term) -> Option<Place>
     found
 }
 
+/// Where the first name in the equations stands that has arguments and is no symbol's.
 fn unknown_in_equations(symbols: &Names, equations: &[Equation]) -> Option<Place>
     ensures { result ≡ unknown_in_equations symbols.now equations.now }
 {
@@ -121,12 +122,17 @@ fn unknown_in_head(symbols: &Names, head: &Head) -> Option<Place>
     found
 }
 
+/// The same of a rule's heads and its equations.
 fn unknown_in_rule(symbols: &Names, rule: &SourceRule) -> Option<Place>
     ensures { result ≡ unknown_in_rule symbols.now rule.now }
 {
-    Place::earlier(
+    let heads = Place::earlier(
         unknown_in_head(symbols, &rule.first),
         unknown_in_head(symbols, &rule.second),
+    );
+    Place::earlier(
+        heads,
+        unknown_in_equations(symbols, rule.equations.as_slice()),
     )
 }
 

@@ -10,6 +10,7 @@ use Rattle.in_syntax.specs.declared.tree.SourceSymbol.{SourceSymbol}
 use Rattle.in_syntax.specs.declared.tree.Head.{Head}
 use Rattle.in_syntax.specs.declared.tree.SourceFree.{SourceFree}
 use Rattle.in_syntax.specs.declared.tree.SourceNet.{SourceNet}
+use Rattle.in_syntax.specs.declared.tree.SourceRule.{SourceRule}
 use Rattle.in_syntax.specs.declared.tree.Term.{Term}
 use Rattle.in_syntax.specs.declared.reader.Reader.{Reader}
 use Rattle.in_syntax.specs.declared.states.State.{State}
@@ -21,9 +22,11 @@ use Rattle.in_syntax.specs.declared.states.HeadOf.TheVariants.{First, Second}
 use Rattle.in_syntax.specs.declared.states.TermOf.{TermOf}
 use Rattle.in_syntax.specs.declared.states.TermOf.TheVariants.{Left, Right, Inside}
 use Rattle.in_syntax.specs.declared.states.Nest.{Nest}
+use Rattle.in_syntax.specs.declared.states.Body.{Body}
+use Rattle.in_syntax.specs.declared.states.Body.TheVariants as body
 use Rattle.in_syntax.specs.Grammar.{Marked, marked, max_types, max_symbols, max_free, max_ports, max_depth}
-use Rattle.in_syntax.specs.Steps.{at_term_end, after_port, step, at_state, with_types, with_symbol, with_rule, counts_of}
-use Rattle.in_syntax.specs.Trees.{bare, bare_head, with_argument, with_class, with_equation, with_term}
+use Rattle.in_syntax.specs.Steps.{at_term_end, after_port, body_with, step, at_state, with_types, with_symbol, with_rule, counts_of}
+use Rattle.in_syntax.specs.Trees.{bare, bare_head, bare_rule, with_argument, with_class, with_term}
 use Rattle.in_syntax.proofs.Paths.{turns, turn_of, turn, Path}
 use Rattle.in_syntax.proofs.Complete.{IsPast, open_past}
 
@@ -49,12 +52,12 @@ at_done r n = record { more = []; last = at_state r (state.Done n); net = n; pat
 
 -- ---- the net
 
-at_equation : (r : Reader) (n : SourceNet) → CanEnd (at_state r (state.Equation n))
-at_equation r n = by_sign (at_state r (state.Equation n)) (at_state r (state.Done n)) false (Plain kind.CloseBrace) refl (at_done r n)
+at_net_equation : (r : Reader) (n : SourceNet) → CanEnd (at_state r (state.Equation (body.Net n)))
+at_net_equation r n = by_sign (at_state r (state.Equation (body.Net n))) (at_state r (state.Done n)) false (Plain kind.CloseBrace) refl (at_done r n)
 
 at_body_open : (r : Reader) (fs : List SourceFree) → CanEnd (at_state r (state.BodyOpen fs))
 at_body_open r fs =
-    by_sign (at_state r (state.BodyOpen fs)) (at_state r (state.Equation (record { free = fs; equations = [] }))) false (Plain kind.OpenBrace) refl (at_equation r (record { free = fs; equations = [] }))
+    by_sign (at_state r (state.BodyOpen fs)) (at_state r (state.Equation (body.Net (record { free = fs; equations = [] })))) false (Plain kind.OpenBrace) refl (at_net_equation r (record { free = fs; equations = [] }))
 
 at_free_end : (r : Reader) (fs : List SourceFree) → CanEnd (at_state r (state.FreeEnd fs))
 at_free_end r fs = by_sign (at_state r (state.FreeEnd fs)) (at_state r (state.BodyOpen fs)) false (Plain kind.CloseParenthesis) refl (at_body_open r fs)
@@ -117,7 +120,7 @@ at_type_name r names =
 
 at_second_end : (r : Reader) (f h : Head) → CanEnd (at_state r (state.HeadEnd (Second f) h))
 at_second_end r f h =
-    by_sign (at_state r (state.HeadEnd (Second f) h)) (with_rule r (record { first = f; second = h })) false (Plain kind.Semicolon) refl (at_item (with_rule r (record { first = f; second = h })))
+    by_sign (at_state r (state.HeadEnd (Second f) h)) (with_rule r (bare_rule f h)) false (Plain kind.Semicolon) refl (at_item (with_rule r (bare_rule f h)))
 
 at_second_first : (r : Reader) (f : Head) (n : Name) → CanEnd (at_state r (state.HeadFirst (Second f) n))
 at_second_first r f n =
@@ -143,6 +146,17 @@ at_head_open r o n = by_sign (at_state r (state.HeadOpen o n)) (at_state r (stat
 at_head_name : (r : Reader) (o : HeadOf) → CanEnd (at_state r (state.HeadName o))
 at_head_name r o = by_sign (at_state r (state.HeadName o)) (at_state r (state.HeadOpen o some_name)) false (Named some_name) refl (at_head_open r o some_name)
 
+at_rule_close : (r : Reader) (y : SourceRule) (p : Place) → CanEnd (at_state r (state.RuleClose y p))
+at_rule_close r y p = by_sign (at_state r (state.RuleClose y p)) (with_rule r y) false (Plain kind.Semicolon) refl (at_item (with_rule r y))
+
+at_equation : (r : Reader) (b : Body) → CanEnd (at_state r (state.Equation b))
+at_equation r (body.Net n) = at_net_equation r n
+at_equation r (body.Rule y p) = by_sign (at_state r (state.Equation (body.Rule y p))) (at_state r (state.RuleClose y p)) false (Plain kind.CloseBrace) refl (at_rule_close r y p)
+
+at_rule_open : (r : Reader) (f h : Head) (p : Place) → CanEnd (at_state r (state.RuleOpen f h p))
+at_rule_open r f h p =
+    by_sign (at_state r (state.RuleOpen f h p)) (at_state r (state.Equation (body.Rule (bare_rule f h) p))) false (Plain kind.OpenBrace) refl (at_equation r (body.Rule (bare_rule f h) p))
+
 -- ---- terms: a state after a whole term, which is left as its end is
 
 abbrev ActsAs : Reader → State → Nest → Term → Type 0
@@ -151,21 +165,21 @@ ActsAs r p b t = (x : Sign) → IsPast x → step (counts_of r) p x ≡ at_term_
 abbrev nest : TermOf → List Term → Nest
 nest of around = record { of = of; around = around }
 
-after_right : (r : Reader) (p : State) (n : SourceNet) (l t : Term) (tilde : Place) → ActsAs r p (nest (Right n l tilde) []) t → CanEnd (at_state r p)
-after_right r p n l t tilde acts =
-    by_sign (at_state r p) (at_state r (state.Equation (with_equation n (record { left = l; tilde = tilde; right = t })))) false (Plain kind.Semicolon)
-    (ap (turn_of r) (acts (Plain kind.Semicolon) tt)) (at_equation r (with_equation n (record { left = l; tilde = tilde; right = t })))
+after_right : (r : Reader) (p : State) (b : Body) (l t : Term) (tilde : Place) → ActsAs r p (nest (Right b l tilde) []) t → CanEnd (at_state r p)
+after_right r p b l t tilde acts =
+    by_sign (at_state r p) (at_state r (state.Equation (body_with b (record { left = l; tilde = tilde; right = t })))) false (Plain kind.Semicolon)
+    (ap (turn_of r) (acts (Plain kind.Semicolon) tt)) (at_equation r (body_with b (record { left = l; tilde = tilde; right = t })))
 
 -- a name on the right
-at_right : (r : Reader) (n : SourceNet) (l : Term) (tilde : Place) → CanEnd (at_state r (state.TermName (nest (Right n l tilde) [])))
-at_right r n l tilde =
-    by_sign (at_state r (state.TermName (nest (Right n l tilde) []))) (at_state r (state.TermOpen (nest (Right n l tilde) []) some_name)) false (Named some_name) refl
-    (after_right r (state.TermOpen (nest (Right n l tilde) []) some_name) n l (bare some_name) tilde (open_past (nest (Right n l tilde) []) some_name))
+at_right : (r : Reader) (b : Body) (l : Term) (tilde : Place) → CanEnd (at_state r (state.TermName (nest (Right b l tilde) [])))
+at_right r b l tilde =
+    by_sign (at_state r (state.TermName (nest (Right b l tilde) []))) (at_state r (state.TermOpen (nest (Right b l tilde) []) some_name)) false (Named some_name) refl
+    (after_right r (state.TermOpen (nest (Right b l tilde) []) some_name) b l (bare some_name) tilde (open_past (nest (Right b l tilde) []) some_name))
 
 after_outermost : (r : Reader) (p : State) (of : TermOf) (t : Term) → ActsAs r p (nest of []) t → CanEnd (at_state r p)
-after_outermost r p (Left n) t acts =
-    by_sign (at_state r p) (at_state r (state.TermName (nest (Right n t some_place) []))) false (Tilde some_place) (ap (turn_of r) (acts (Tilde some_place) tt)) (at_right r n t some_place)
-after_outermost r p (Right n l tilde) t acts = after_right r p n l t tilde acts
+after_outermost r p (Left b) t acts =
+    by_sign (at_state r p) (at_state r (state.TermName (nest (Right b t some_place) []))) false (Tilde some_place) (ap (turn_of r) (acts (Tilde some_place) tt)) (at_right r b t some_place)
+after_outermost r p (Right b l tilde) t acts = after_right r p b l t tilde acts
 after_outermost r p (Inside o h) t acts =
     by_sign (at_state r p) (at_state r (state.HeadEnd o (with_term h t))) false (Plain kind.CloseBracket) (ap (turn_of r) (acts (Plain kind.CloseBracket) tt)) (at_head_end r o (with_term h t))
 
@@ -195,13 +209,15 @@ can_end_at r (state.HeadName o) = at_head_name r o
 can_end_at r (state.HeadOpen o n) = at_head_open r o n
 can_end_at r (state.HeadFirst o n) = at_head_first r o n
 can_end_at r (state.HeadEnd o h) = at_head_end r o h
+can_end_at r (state.RuleOpen f h p) = at_rule_open r f h p
+can_end_at r (state.RuleClose y p) = at_rule_close r y p
 can_end_at r state.NetOpen = at_net_open r
 can_end_at r state.FreeFirst = at_free_first r
 can_end_at r (state.FreeName fs) = at_free_name r fs
 can_end_at r (state.FreeColon fs n) = at_free_colon r fs n
 can_end_at r (state.FreeEnd fs) = at_free_end r fs
 can_end_at r (state.BodyOpen fs) = at_body_open r fs
-can_end_at r (state.Equation n) = at_equation r n
+can_end_at r (state.Equation b) = at_equation r b
 can_end_at r (state.TermName b) = at_term_name r b
 can_end_at r (state.TermOpen b n) = at_term_opens r b n
 can_end_at r (state.TermEnd b t) = after_term b.around r (state.TermEnd b t) b.of t (λ x past. refl)

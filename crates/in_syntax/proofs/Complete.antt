@@ -1,5 +1,5 @@
 -- What is spelled is read.
-use Rattle.std.proofs.Common.{◌≡◌, ℕ, zero, suc, ◌+◌, ◌<◌, ◌≤◌, max, Bool, true, false, cond, nat_lt, List, [], ◌∷◌, ◌++◌, length, map, refl, sym, ◌∙◌, ap, subst, append_assoc, append-nil, length-append, arith}
+use Rattle.std.proofs.Common.{◌≡◌, ℕ, zero, suc, ◌+◌, ◌<◌, ◌≤◌, max, Bool, true, false, cond, nat_lt, List, [], ◌∷◌, ◌++◌, length, map, refl, sym, ◌∙◌, ap, subst, append_assoc, append-nil, length-append, arith, Option, Some, None}
 use Rattle.std.specs.List.{flat_map, AllByRecursion}
 use Rattle.in_syntax.specs.declared.words.TokenKind.TheVariants as kind
 use Rattle.in_syntax.specs.declared.signs.Sign.{Sign}
@@ -27,9 +27,11 @@ use Rattle.in_syntax.specs.declared.states.HeadOf.{HeadOf}
 use Rattle.in_syntax.specs.declared.states.HeadOf.TheVariants.{First, Second}
 use Rattle.in_syntax.specs.declared.states.TermOf.TheVariants.{Left, Right, Inside}
 use Rattle.in_syntax.specs.declared.states.Nest.{Nest}
-use Rattle.in_syntax.specs.Grammar.{Marked, marked, within, plain, separated, numbered, spell_auxiliary, spell_class, spell_classes, spell_symbol, spell_type, spell_types, spell_arguments, spell_term, spell_outermost, spell_head, spell_rule, spell_equation, spell_free, spell_net, max_types, max_depth, Item, types, symbol, rule, none_yet, counted, spell_items, IsItem, types_in, symbols_in, rules_in, Program, spelling}
-use Rattle.in_syntax.specs.Steps.{at_term_open, at_term_end, after_port, step, at_state, with_types, with_symbol, with_rule, counts_of, between_items, start}
-use Rattle.in_syntax.specs.Trees.{bare, bare_head, with_argument, with_class, with_equation, with_term}
+use Rattle.in_syntax.specs.declared.states.Body.{Body}
+use Rattle.in_syntax.specs.declared.states.Body.TheVariants as body
+use Rattle.in_syntax.specs.Grammar.{Marked, marked, within, plain, separated, numbered, spell_auxiliary, spell_class, spell_classes, spell_symbol, spell_type, spell_types, spell_arguments, spell_term, spell_outermost, spell_head, named, word_at, spell_with, StandAfterWord, spell_rule, spell_equation, spell_free, spell_net, max_types, max_depth, Item, types, symbol, rule, none_yet, counted, spell_items, IsItem, types_in, symbols_in, rules_in, Program, spelling}
+use Rattle.in_syntax.specs.Steps.{at_term_open, at_term_end, after_port, body_with, after_equations, step, at_state, with_types, with_symbol, with_rule, counts_of, between_items, start}
+use Rattle.in_syntax.specs.Trees.{bare, bare_head, bare_rule, with_argument, with_class, with_term}
 use Rattle.in_syntax.proofs.Separated.{ports_after, after}
 use Rattle.in_syntax.proofs.Paths.{turns, turn_of, turn, Path, join}
 use Rattle.in_syntax.proofs.Sound.{arguments_at, spell_out, counts_types, counts_symbol, counts_rule}
@@ -276,6 +278,52 @@ path_terms (suc h) t r b short =
 path_term : (t : Term) (r : Reader) (b : Nest) → Path (at_state r (state.TermName b)) (spell_term t (length b.around + 1)) (at_state r (ended b t))
 path_term t r b = path_terms (height t) t r b (omega arith)
 
+-- ---- equations
+
+abbrev left_of : Body → Nest
+left_of b = record { of = Left b; around = [] }
+
+abbrev right_of : Body → Term → Place → Nest
+right_of b l p = record { of = Right b l p; around = [] }
+
+path_left : (t : Term) (r : Reader) (b : Body) → Path (at_state r (state.Equation b)) (spell_term t 1) (at_state r (ended (left_of b) t))
+path_left t r b =
+    let p : Path (at_state r (state.TermName (left_of b))) (marked false (Named (out-Term t).name) ∷ spell_arguments (arguments_at 2 (out-Term t).args)) (at_state r (ended (left_of b) t)) =
+    subst (λ z. Path (at_state r (state.TermName (left_of b))) z (at_state r (ended (left_of b) t))) (spell_out t 1) (path_term t r (left_of b)) in
+    subst (λ z. Path (at_state r (state.Equation b)) z (at_state r (ended (left_of b) t))) (sym (spell_out t 1)) (p.0, p.1, p.2)
+
+path_equation : (e : Equation) (r : Reader) (b : Body) → Path (at_state r (state.Equation b)) (spell_equation e) (at_state r (state.Equation (body_with b e)))
+path_equation e r b =
+    join (spell_term e.left 1 ++ within (Tilde e.tilde) ∷ spell_term e.right 1) (plain kind.Semicolon ∷ []) (at_state r (state.Equation b)) (at_state r (ended (right_of b e.left e.tilde) e.right))
+    (at_state r (state.Equation (body_with b e)))
+    (join (spell_term e.left 1) (within (Tilde e.tilde) ∷ spell_term e.right 1) (at_state r (state.Equation b)) (at_state r (ended (left_of b) e.left)) (at_state r (ended (right_of b e.left e.tilde) e.right))
+    (path_left e.left r b)
+    (at_state r (state.TermName (right_of b e.left e.tilde)), ended_turn r (left_of b) e.left (Tilde e.tilde) tt, path_term e.right r (right_of b e.left e.tilde)))
+    (at_state r (state.Equation (body_with b e)), ended_turn r (right_of b e.left e.tilde) e.right (Plain kind.Semicolon) tt, refl)
+
+-- with these equations more
+abbrev body_and : Body → List Equation → Body
+body_and (body.Net n) es = body.Net (record { free = n.free; equations = n.equations ++ es })
+body_and (body.Rule y p) es = body.Rule (record { first = y.first; second = y.second; equations = y.equations ++ es }) p
+
+and_none : (b : Body) → b ≡ body_and b []
+and_none (body.Net n) = ap (λ z. body.Net (record { free = n.free; equations = z })) (sym (append-nil n.equations))
+and_none (body.Rule y p) = ap (λ z. body.Rule (record { first = y.first; second = y.second; equations = z }) p) (sym (append-nil y.equations))
+
+and_more : (b : Body) (e : Equation) (es : List Equation) → body_and (body_with b e) es ≡ body_and b (e ∷ es)
+and_more (body.Net n) e es = ap (λ z. body.Net (record { free = n.free; equations = z })) (append_assoc n.equations (e ∷ []) es)
+and_more (body.Rule y p) e es = ap (λ z. body.Rule (record { first = y.first; second = y.second; equations = z }) p) (append_assoc y.equations (e ∷ []) es)
+
+path_equations : (es : List Equation) (r : Reader) (b : Body) → Path (at_state r (state.Equation b)) (flat_map spell_equation es) (at_state r (state.Equation (body_and b es)))
+path_equations [] r b = ap (λ z. at_state r (state.Equation z)) (and_none b)
+path_equations (e ∷ es) r b =
+    join (spell_equation e) (flat_map spell_equation es) (at_state r (state.Equation b)) (at_state r (state.Equation (body_with b e)))
+    (at_state r (state.Equation (body_and b (e ∷ es))))
+    (path_equation e r b)
+    (to_state (at_state r (state.Equation (body_with b e))) r (flat_map spell_equation es) (state.Equation (body_and (body_with b e) es)) (state.Equation (body_and b (e ∷ es)))
+    (ap (λ z. state.Equation z) (and_more b e es))
+    (path_equations es r (body_with b e)))
+
 -- ---- rules
 
 abbrev nest_of : HeadOf → Head → Nest
@@ -320,16 +368,39 @@ path_head_terms (t ∷ more) r o n =
 path_head : (r : Reader) (o : HeadOf) (h : Head) → Path (at_state r (state.HeadName o)) (spell_head h) (at_state r (state.HeadEnd o h))
 path_head r o h = (at_state r (state.HeadOpen o h.name), refl, (at_state r (state.HeadFirst o h.name), refl, path_head_terms h.terms r o h.name))
 
-path_rule : (r : Reader) (y : SourceRule) → Path (at_state r state.Item) (spell_rule (length r.rules + 1) y) (with_rule r y)
-path_rule r y = (
+path_heads : (r : Reader) (f h : Head) → Path (at_state r (state.HeadName First)) (spell_head f ++ plain kind.Meets ∷ spell_head h) (at_state r (state.HeadEnd (Second f) h))
+path_heads r f h =
+    join (spell_head f) (plain kind.Meets ∷ spell_head h)
+    (at_state r (state.HeadName First)) (at_state r (state.HeadEnd First f)) (at_state r (state.HeadEnd (Second f) h))
+    (path_head r First f) (at_state r (state.HeadName (Second f)), refl, path_head r (Second f) h)
+
+-- after the heads
+path_with : (r : Reader) (y : SourceRule) (w : Option Place) → StandAfterWord w y.equations →
+    Path (at_state r (state.HeadEnd (Second y.first) y.second)) (spell_with w y.equations ++ plain kind.Semicolon ∷ []) (with_rule r y)
+path_with r y None none = (with_rule r (bare_rule y.first y.second), refl, ap (λ z. with_rule r (record { first = y.first; second = y.second; equations = z })) (sym none))
+path_with r y (Some p) some = (
+  at_state r (state.RuleOpen y.first y.second p),
+  refl,
+  (
+    at_state r (state.Equation (body.Rule (bare_rule y.first y.second) p)),
+    refl,
+    join (flat_map spell_equation y.equations ++ plain kind.CloseBrace ∷ []) (plain kind.Semicolon ∷ [])
+        (at_state r (state.Equation (body.Rule (bare_rule y.first y.second) p))) (at_state r (state.RuleClose y p)) (with_rule r y)
+        (join (flat_map spell_equation y.equations) (plain kind.CloseBrace ∷ [])
+        (at_state r (state.Equation (body.Rule (bare_rule y.first y.second) p))) (at_state r (state.Equation (body.Rule y p))) (at_state r (state.RuleClose y p))
+        (path_equations y.equations r (body.Rule (bare_rule y.first y.second) p)) (at_state r (state.RuleClose y p), refl, refl))
+        (with_rule r y, refl, refl),
+  ),
+)
+
+path_rule : (r : Reader) (w : Option Place) (y : SourceRule) → StandAfterWord w y.equations → Path (at_state r state.Item) (spell_rule (length r.rules + 1) w y) (with_rule r y)
+path_rule r w y is = (
   at_state r (state.HeadName First),
   refl,
-  join (spell_head y.first ++ plain kind.Meets ∷ spell_head y.second) (plain kind.Semicolon ∷ [])
+  subst (λ z. Path (at_state r (state.HeadName First)) z (with_rule r y)) (sym (append_assoc (spell_head y.first ++ plain kind.Meets ∷ spell_head y.second) (spell_with w y.equations) (plain kind.Semicolon ∷ [])))
+      (join (spell_head y.first ++ plain kind.Meets ∷ spell_head y.second) (spell_with w y.equations ++ plain kind.Semicolon ∷ [])
       (at_state r (state.HeadName First)) (at_state r (state.HeadEnd (Second y.first) y.second)) (with_rule r y)
-      (join (spell_head y.first) (plain kind.Meets ∷ spell_head y.second)
-      (at_state r (state.HeadName First)) (at_state r (state.HeadEnd First y.first)) (at_state r (state.HeadEnd (Second y.first) y.second))
-      (path_head r First y.first) (at_state r (state.HeadName (Second y.first)), refl, path_head r (Second y.first) y.second))
-      (with_rule r y, refl, refl),
+      (path_heads r y.first y.second) (path_with r y w is)),
 )
 
 -- ---- items
@@ -359,47 +430,14 @@ path_items (symbol s ∷ items) r each =
     (subst (λ c. Path (with_symbol r s) (spell_items c items) (with_items r (symbol s ∷ items))) (counts_symbol r s)
     (subst (λ z. Path (with_symbol r s) (spell_items (counts_of (with_symbol r s)) items) (between_items (r.types ++ flat_map types_in items) z (r.rules ++ flat_map rules_in items)))
     (append_assoc r.symbols (s ∷ []) (flat_map symbols_in items)) (path_items items (with_symbol r s) each.1)))
-path_items (rule y ∷ items) r each =
-    join (spell_rule (length r.rules + 1) y) (spell_items (counted (counts_of r) (rule y)) items) (at_state r state.Item) (with_rule r y) (with_items r (rule y ∷ items))
-    (path_rule r y)
-    (subst (λ c. Path (with_rule r y) (spell_items c items) (with_items r (rule y ∷ items))) (counts_rule r y)
+path_items (rule w y ∷ items) r each =
+    join (spell_rule (length r.rules + 1) w y) (spell_items (counted (counts_of r) (rule w y)) items) (at_state r state.Item) (with_rule r y) (with_items r (rule w y ∷ items))
+    (path_rule r w y each.0)
+    (subst (λ c. Path (with_rule r y) (spell_items c items) (with_items r (rule w y ∷ items))) (counts_rule r w y)
     (subst (λ z. Path (with_rule r y) (spell_items (counts_of (with_rule r y)) items) (between_items (r.types ++ flat_map types_in items) (r.symbols ++ flat_map symbols_in items) z))
     (append_assoc r.rules (y ∷ []) (flat_map rules_in items)) (path_items items (with_rule r y) each.1)))
 
 -- ---- the net
-
-abbrev left_of : SourceNet → Nest
-left_of n = record { of = Left n; around = [] }
-
-abbrev right_of : SourceNet → Term → Place → Nest
-right_of n l p = record { of = Right n l p; around = [] }
-
-path_left : (t : Term) (r : Reader) (n : SourceNet) → Path (at_state r (state.Equation n)) (spell_term t 1) (at_state r (ended (left_of n) t))
-path_left t r n =
-    let p : Path (at_state r (state.TermName (left_of n))) (marked false (Named (out-Term t).name) ∷ spell_arguments (arguments_at 2 (out-Term t).args)) (at_state r (ended (left_of n) t)) =
-    subst (λ z. Path (at_state r (state.TermName (left_of n))) z (at_state r (ended (left_of n) t))) (spell_out t 1) (path_term t r (left_of n)) in
-    subst (λ z. Path (at_state r (state.Equation n)) z (at_state r (ended (left_of n) t))) (sym (spell_out t 1)) (p.0, p.1, p.2)
-
-path_equation : (e : Equation) (r : Reader) (n : SourceNet) → Path (at_state r (state.Equation n)) (spell_equation e) (at_state r (state.Equation (with_equation n e)))
-path_equation e r n =
-    join (spell_term e.left 1 ++ within (Tilde e.tilde) ∷ spell_term e.right 1) (plain kind.Semicolon ∷ []) (at_state r (state.Equation n)) (at_state r (ended (right_of n e.left e.tilde) e.right))
-    (at_state r (state.Equation (with_equation n e)))
-    (join (spell_term e.left 1) (within (Tilde e.tilde) ∷ spell_term e.right 1) (at_state r (state.Equation n)) (at_state r (ended (left_of n) e.left)) (at_state r (ended (right_of n e.left e.tilde) e.right))
-    (path_left e.left r n)
-    (at_state r (state.TermName (right_of n e.left e.tilde)), ended_turn r (left_of n) e.left (Tilde e.tilde) tt, path_term e.right r (right_of n e.left e.tilde)))
-    (at_state r (state.Equation (with_equation n e)), ended_turn r (right_of n e.left e.tilde) e.right (Plain kind.Semicolon) tt, refl)
-
-path_equations : (es : List Equation) (r : Reader) (n : SourceNet) →
-    Path (at_state r (state.Equation n)) (flat_map spell_equation es) (at_state r (state.Equation (record { free = n.free; equations = n.equations ++ es })))
-path_equations [] r n = ap (λ z. at_state r (state.Equation (record { free = n.free; equations = z }))) (sym (append-nil n.equations))
-path_equations (e ∷ es) r n =
-    join (spell_equation e) (flat_map spell_equation es) (at_state r (state.Equation n)) (at_state r (state.Equation (with_equation n e)))
-    (at_state r (state.Equation (record { free = n.free; equations = n.equations ++ e ∷ es })))
-    (path_equation e r n)
-    (to_state (at_state r (state.Equation (with_equation n e))) r (flat_map spell_equation es) (state.Equation (record { free = n.free; equations = (n.equations ++ e ∷ []) ++ es }))
-    (state.Equation (record { free = n.free; equations = n.equations ++ e ∷ es }))
-    (ap (λ z. state.Equation (record { free = n.free; equations = z })) (append_assoc n.equations (e ∷ []) es))
-    (path_equations es r (with_equation n e)))
 
 path_free : (f : SourceFree) (r : Reader) (fs : List SourceFree) → Path (at_state r (state.FreeName fs)) (spell_free (1 + length fs) f) (at_state r (state.FreeEnd (fs ++ f ∷ [])))
 path_free f r fs = (
@@ -453,10 +491,10 @@ path_net n r = (
         (join (separated (numbered spell_free 1 n.free) ++ plain kind.CloseParenthesis ∷ []) (plain kind.OpenBrace ∷ (flat_map spell_equation n.equations ++ plain kind.CloseBrace ∷ []))
         (at_state r state.FreeFirst) (at_state r (state.BodyOpen n.free)) (at_state r (state.Done n))
         (path_all_frees n.free r) (
-          at_state r (state.Equation (no_equations n)),
+          at_state r (state.Equation (body.Net (no_equations n))),
           refl,
-          join (flat_map spell_equation n.equations) (plain kind.CloseBrace ∷ []) (at_state r (state.Equation (no_equations n))) (at_state r (state.Equation n)) (at_state r (state.Done n))
-              (path_equations n.equations r (no_equations n)) (at_state r (state.Done n), refl, refl),
+          join (flat_map spell_equation n.equations) (plain kind.CloseBrace ∷ []) (at_state r (state.Equation (body.Net (no_equations n)))) (at_state r (state.Equation (body.Net n))) (at_state r (state.Done n))
+              (path_equations n.equations r (body.Net (no_equations n))) (at_state r (state.Done n), refl, refl),
         )),
   ),
 )

@@ -13,6 +13,7 @@ use Rattle.in_syntax.specs.declared.counts.Counts.{Counts}
 use Rattle.in_syntax.specs.declared.places.Place.{Place}
 use Rattle.in_syntax.specs.declared.tree.Name.{Name}
 use Rattle.in_syntax.specs.declared.tree.Head.{Head}
+use Rattle.in_syntax.specs.declared.tree.SourceRule.{SourceRule}
 use Rattle.in_syntax.specs.declared.tree.Term.{Term}
 use Rattle.in_syntax.specs.declared.reader.Reader.{Reader}
 use Rattle.in_syntax.specs.declared.states.State.{State}
@@ -24,10 +25,12 @@ use Rattle.in_syntax.specs.declared.states.HeadOf.TheVariants.{First, Second}
 use Rattle.in_syntax.specs.declared.states.TermOf.{TermOf}
 use Rattle.in_syntax.specs.declared.states.TermOf.TheVariants.{Left, Right, Inside}
 use Rattle.in_syntax.specs.declared.states.Nest.{Nest}
-use Rattle.in_syntax.specs.Grammar.{Marked}
-use Rattle.in_syntax.specs.Programs.{Begins, sign_at, sign_of, signs_of, signs, unmarked}
-use Rattle.in_syntax.specs.Expecting.{follows_term, takes, Section, between, types, symbol, ports, head, terms, free, free_port, body, further, section_from, section, IsAt, IsExpected, IsNotedOf}
-use Rattle.in_syntax.specs.Steps.{Step, goes, adds_types, adds_symbol, adds_rule, stuck, step, at_port_kind, at_head_end, after_term, at_term_open, at_state, with_types, with_symbol, with_rule, counts_of, start, part_within, expected_in, Notes}
+use Rattle.in_syntax.specs.declared.states.Body.{Body}
+use Rattle.in_syntax.specs.declared.states.Body.TheVariants as body_of
+use Rattle.in_syntax.specs.Grammar.{Marked, is_with}
+use Rattle.in_syntax.specs.Programs.{Begins, name_at, sign_at, sign_of, signs_of, signs, unmarked}
+use Rattle.in_syntax.specs.Expecting.{follows_term, takes, Section, between, types, symbol, ports, head, terms, free, free_port, body, after_body, further, section_from, section, IsAt, IsExpected, IsNotedOf}
+use Rattle.in_syntax.specs.Steps.{Step, goes, adds_types, adds_symbol, adds_rule, stuck, step, at_port_kind, at_with, at_head_end, after_equations, after_term, at_term_open, at_state, with_types, with_symbol, with_rule, counts_of, start, part_within, expected_in, Notes}
 use Rattle.in_syntax.specs.Trees.{bare}
 use Rattle.in_syntax.proofs.Paths.{turns, turn_of, turn, Path}
 use Rattle.in_syntax.proofs.Outcomes.{signs_unmarked, begins_on, no_beginning, refused_outcome}
@@ -41,7 +44,7 @@ leads_on _ = true
 
 -- the tokens that are expected in a state are those with which a step leads on
 abbrev Tells : Counts → State → Type 0
-Tells c p = (text : List ℕ) (place : Place) (k : TokenKind) → takes (expected_in p) k ≡ leads_on (step c p (sign_at text k place))
+Tells c p = (text : List ℕ) (place : Place) (k : TokenKind) → takes (expected_in p) (sign_at text k place) ≡ leads_on (step c p (sign_at text k place))
 
 tells_port_kind : (c : Counts) (o : PortOf) → Tells c (state.PortKind o)
 tells_port_kind c (Principal n) text place kind.Name = refl
@@ -51,14 +54,19 @@ tells_port_kind c (Auxiliary s k number) text place _ = refl
 tells_port_kind c (Free fs n) text place kind.Name = refl
 tells_port_kind c (Free fs n) text place _ = refl
 
+tells_with : (f h : Head) (place : Place) (b : Bool) → b ≡ leads_on (at_with f h place b)
+tells_with f h place true = refl
+tells_with f h place false = refl
+
 tells_head_end : (c : Counts) (o : HeadOf) (h : Head) → Tells c (state.HeadEnd o h)
 tells_head_end c First h text place kind.Meets = refl
 tells_head_end c First h text place _ = refl
 tells_head_end c (Second f) h text place kind.Semicolon = refl
+tells_head_end c (Second f) h text place kind.Name = tells_with f h place (is_with (name_at text place))
 tells_head_end c (Second f) h text place _ = refl
 
 tells_after_term : (of : TermOf) (around : List Term) (t : Term) (text : List ℕ) (place : Place) (k : TokenKind) →
-    follows_term (part_within of around) k ≡ leads_on (after_term of around t (sign_at text k place))
+    follows_term (part_within of around) (sign_at text k place) ≡ leads_on (after_term of around t (sign_at text k place))
 tells_after_term (Left n) [] t text place kind.Tilde = refl
 tells_after_term (Left n) [] t text place _ = refl
 tells_after_term (Right n l p) [] t text place kind.Semicolon = refl
@@ -97,6 +105,10 @@ tells c (state.HeadOpen o n) text place _ = refl
 tells c (state.HeadFirst o n) text place kind.Name = refl
 tells c (state.HeadFirst o n) text place _ = refl
 tells c (state.HeadEnd o h) text place k = tells_head_end c o h text place k
+tells c (state.RuleOpen f h p) text place kind.Name = refl
+tells c (state.RuleOpen f h p) text place _ = refl
+tells c (state.RuleClose y p) text place kind.Name = refl
+tells c (state.RuleClose y p) text place _ = refl
 tells c state.NetOpen text place kind.Name = refl
 tells c state.NetOpen text place _ = refl
 tells c state.FreeFirst text place kind.Name = refl
@@ -155,6 +167,8 @@ section_of (state.HeadName o) = head
 section_of (state.HeadOpen o n) = terms
 section_of (state.HeadFirst o n) = terms
 section_of (state.HeadEnd o h) = terms
+section_of (state.RuleOpen f h p) = terms
+section_of (state.RuleClose y p) = after_body
 section_of state.NetOpen = free
 section_of state.FreeFirst = free
 section_of (state.FreeName fs) = free
@@ -165,7 +179,7 @@ section_of (state.Equation n) = body
 section_of (state.TermName b) = term_section b.of
 section_of (state.TermOpen b n) = term_section b.of
 section_of (state.TermEnd b t) = term_section b.of
-section_of (state.Done n) = body
+section_of (state.Done n) = after_body
 
 -- a step leads into the section that its sign leads to
 abbrev Follows : Section → Sign → Step → Type 0
@@ -194,10 +208,19 @@ follows_port_sign c (Free fs m) n (Plain kind.Plus) = refl
 follows_port_sign c (Free fs m) n (Plain kind.Minus) = refl
 follows_port_sign c (Free fs m) n _ = tt
 
+follows_with : (f h : Head) (n : Name) (b : Bool) → Follows terms (Named n) (at_with f h n.place b)
+follows_with f h n true = refl
+follows_with f h n false = tt
+
+follows_equations : (b : Body) → section_of (after_equations b) ≡ after_body
+follows_equations (body_of.Net n) = refl
+follows_equations (body_of.Rule y p) = refl
+
 follows_head_end : (o : HeadOf) (h : Head) (x : Sign) → Follows terms x (at_head_end o h x)
 follows_head_end First h (Plain kind.Meets) = refl
 follows_head_end First h _ = tt
 follows_head_end (Second f) h (Plain kind.Semicolon) = refl
+follows_head_end (Second f) h (Named n) = follows_with f h n (is_with n)
 follows_head_end (Second f) h _ = tt
 
 -- in the net's body, and between the signs that end a rule and its heads, terms stay where they are
@@ -268,6 +291,10 @@ follows c (state.HeadFirst o n) (Named m) = refl
 follows c (state.HeadFirst o n) (Plain kind.CloseBracket) = refl
 follows c (state.HeadFirst o n) _ = tt
 follows c (state.HeadEnd o h) x = follows_head_end o h x
+follows c (state.RuleOpen f h p) (Plain kind.OpenBrace) = refl
+follows c (state.RuleOpen f h p) _ = tt
+follows c (state.RuleClose y p) (Plain kind.Semicolon) = refl
+follows c (state.RuleClose y p) _ = tt
 follows c state.NetOpen (Plain kind.OpenParenthesis) = refl
 follows c state.NetOpen _ = tt
 follows c state.FreeFirst (Named n) = refl
@@ -283,7 +310,7 @@ follows c (state.FreeEnd fs) _ = tt
 follows c (state.BodyOpen fs) (Plain kind.OpenBrace) = refl
 follows c (state.BodyOpen fs) _ = tt
 follows c (state.Equation n) (Named m) = refl
-follows c (state.Equation n) (Plain kind.CloseBrace) = refl
+follows c (state.Equation n) (Plain kind.CloseBrace) = follows_equations n
 follows c (state.Equation n) _ = tt
 follows c (state.TermName b) (Named n) = stays_name b.of n
 follows c (state.TermName b) _ = tt
@@ -343,6 +370,7 @@ stands state.SymbolName = refl
 stands (state.PortKind o) = at_port o
 stands (state.HeadName o) = refl
 stands (state.HeadEnd o h) = at_head_end_of o h
+stands (state.RuleClose y p) = refl
 stands (state.FreeName fs) = refl
 stands (state.FreeEnd fs) = refl
 stands (state.TermName b) = at_term b.of
@@ -364,7 +392,7 @@ expected_after text front last path = record {
     here : Token → Step
     here t = step (counts_of last) last.state (sign_of text t)
 
-    told : (t : Token) → takes (expected_in last.state) t.kind ≡ leads_on (here t)
+    told : (t : Token) → takes (expected_in last.state) (sign_of text t) ≡ leads_on (here t)
     told t = tells (counts_of last) last.state text t.place t.kind
 
 take_signs : (text : List ℕ) (i : ℕ) (tokens : List Token) → signs_of text (take i tokens) ≡ take i (signs_of text tokens)

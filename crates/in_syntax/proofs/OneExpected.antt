@@ -13,9 +13,9 @@ use Rattle.in_syntax.specs.declared.signs.Sign.{Sign}
 use Rattle.in_syntax.specs.declared.words.Token.{Token}
 use Rattle.in_syntax.specs.declared.words.TokenKind.{TokenKind}
 use Rattle.in_syntax.specs.declared.words.TokenKind.TheVariants as kind
-use Rattle.in_syntax.specs.Expecting.{takes, Section, between, types, symbol, ports, head, terms, free, free_port, body, section, IsAt, IsExpected, IsNotedOf}
+use Rattle.in_syntax.specs.Expecting.{takes, Section, between, types, symbol, ports, head, terms, free, free_port, body, after_body, section, IsAt, IsExpected, IsNotedOf}
 use Rattle.in_syntax.specs.Laws.{OneExpected, TextsAreNotedOnce}
-use Rattle.in_syntax.specs.Programs.{fault, IsOutcome, signs_of}
+use Rattle.in_syntax.specs.Programs.{fault, IsOutcome, sign_at, signs_of}
 use Rattle.in_syntax.proofs.Outcomes.{one_outcome}
 use Rattle.in_syntax.proofs.TextLaws.{tokens_unique, not_both}
 
@@ -31,6 +31,7 @@ name_in terms = expected.Term
 name_in free = expected.FreeName
 name_in free_port = expected.PortType
 name_in body = expected.Term
+name_in after_body = expected.Nothing
 
 abbrev closing_in : Section → Expected
 closing_in free_port = expected.FreeEnd
@@ -38,6 +39,7 @@ closing_in s = expected.AfterTerm part.Agent
 
 abbrev ending_in : Section → Expected
 ending_in terms = expected.RuleEnd
+ending_in after_body = expected.RuleClose
 ending_in s = expected.AfterTerm part.Right
 
 abbrev by_name : (TokenKind → Bool) → Section → Expected
@@ -68,34 +70,39 @@ either : (f : Section → Expected) (e : Expected) (s a b : Section) → (s ≡ 
 either f e s a b (inl h) p q = ap f h ∙ p
 either f e s a b (inr h) p q = ap f h ∙ q
 
-told : (e : Expected) (s : Section) → IsAt e s → by_tokens (takes e) s ≡ e
-told expected.TypeName s h = ap name_in h
-told expected.SymbolName s h = ap name_in h
-told expected.PortType s h = either name_in expected.PortType s ports free_port h refl refl
-told expected.HeadName s h = ap name_in h
-told expected.FreeName s h = ap name_in h
-told expected.Term s h = either name_in expected.Term s terms body h refl refl
-told expected.RuleEnd s h = ap ending_in h
-told expected.FreeEnd s h = ap closing_in h
-told (expected.AfterTerm part.Left) s h = refl
-told (expected.AfterTerm part.Right) s h = ap ending_in h
-told (expected.AfterTerm part.Head) s h = refl
-told (expected.AfterTerm part.Agent) s h = either closing_in (expected.AfterTerm part.Agent) s terms body h refl refl
-told (expected.AfterName part.Left) s h = refl
-told (expected.AfterName part.Right) s h = refl
-told (expected.AfterName part.Head) s h = refl
-told (expected.AfterName part.Agent) s h = refl
-told _ s h = refl
-
 abbrev some_place : Place
 some_place = record { from = 0; to = 0; line = 0; col = 0 }
 
-same_tokens : (text : List ℕ) (front : List Sign) (d e : Expected) → IsExpected text front d → IsExpected text front e → (k : TokenKind) → takes d k ≡ takes e k
-same_tokens text front d e g h k = one_answer (takes d k) (takes e k) (g.tokens (record { kind = k; place = some_place })) (h.tokens (record { kind = k; place = some_place }))
+-- the kinds of tokens that are expected at a place without a name
+abbrev kinds : List ℕ → Expected → TokenKind → Bool
+kinds text e k = takes e (sign_at text k some_place)
+
+told : (text : List ℕ) (e : Expected) (s : Section) → IsAt e s → by_tokens (kinds text e) s ≡ e
+told text expected.TypeName s h = ap name_in h
+told text expected.SymbolName s h = ap name_in h
+told text expected.PortType s h = either name_in expected.PortType s ports free_port h refl refl
+told text expected.HeadName s h = ap name_in h
+told text expected.FreeName s h = ap name_in h
+told text expected.Term s h = either name_in expected.Term s terms body h refl refl
+told text expected.RuleEnd s h = ap ending_in h
+told text expected.RuleClose s h = ap ending_in h
+told text expected.FreeEnd s h = ap closing_in h
+told text (expected.AfterTerm part.Left) s h = refl
+told text (expected.AfterTerm part.Right) s h = ap ending_in h
+told text (expected.AfterTerm part.Head) s h = refl
+told text (expected.AfterTerm part.Agent) s h = either closing_in (expected.AfterTerm part.Agent) s terms body h refl refl
+told text (expected.AfterName part.Left) s h = refl
+told text (expected.AfterName part.Right) s h = refl
+told text (expected.AfterName part.Head) s h = refl
+told text (expected.AfterName part.Agent) s h = refl
+told text _ s h = refl
+
+same_tokens : (text : List ℕ) (front : List Sign) (d e : Expected) → IsExpected text front d → IsExpected text front e → (k : TokenKind) → kinds text d k ≡ kinds text e k
+same_tokens text front d e g h k = one_answer (kinds text d k) (kinds text e k) (g.tokens (record { kind = k; place = some_place })) (h.tokens (record { kind = k; place = some_place }))
 
 pub one_expected : OneExpected
 one_expected text front d e g h =
-    sym (told d (section front) g.sort) ∙ ap (λ f. by_tokens f (section front)) (fun_ext (same_tokens text front d e g h)) ∙ told e (section front) h.sort
+    sym (told text d (section front) g.sort) ∙ ap (λ f. by_tokens f (section front)) (fun_ext (same_tokens text front d e g h)) ∙ told text e (section front) h.sort
 
 -- ---- what is noted
 

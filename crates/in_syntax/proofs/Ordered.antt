@@ -1,5 +1,5 @@
 -- The names and the ~ of a tree stand in its text in the order in which the tree lists them.
-use Rattle.std.proofs.Common.{◌≡◌, ℕ, zero, suc, ◌+◌, ◌≤◌, ◌<◌, List, [], ◌∷◌, ◌++◌, map, refl, sym, ◌∙◌, ap, subst, arith, append_assoc, append-nil, Result, Ok, Err, IfOk}
+use Rattle.std.proofs.Common.{◌≡◌, ℕ, zero, suc, ◌+◌, ◌≤◌, ◌<◌, List, [], ◌∷◌, ◌++◌, map, refl, sym, ◌∙◌, ap, subst, arith, append_assoc, append-nil, Result, Ok, Err, IfOk, Option, Some, None}
 use Rattle.std.specs.List.{AllByRecursion, flat_map}
 use Rattle.in_syntax.specs.declared.places.Place.{Place}
 use Rattle.in_syntax.specs.declared.tree.Term.{Term, out-Term}
@@ -16,14 +16,14 @@ use Rattle.in_syntax.specs.declared.words.TokenKind.{TokenKind}
 use Rattle.in_syntax.specs.declared.words.TokenKind.TheVariants as kind
 use Rattle.in_syntax.specs.declared.signs.Sign.{Sign}
 use Rattle.in_syntax.specs.declared.signs.Sign.TheVariants.{Named, Tilde, Plain}
-use Rattle.in_syntax.specs.Grammar.{Marked, within, plain, separated, numbered, spell_arguments, spell_term, spell_outermost, spell_head, spell_rule, spell_equation, spell_free, spell_net, Item, types, symbol, rule, none_yet, counted, spell_item, spell_items, Program, spelling, rules_in, source_of}
+use Rattle.in_syntax.specs.Grammar.{Marked, within, plain, separated, numbered, spell_arguments, spell_term, spell_outermost, spell_head, word_at, spell_with, StandAfterWord, spell_rule, spell_equation, IsItem, spell_free, spell_net, Item, types, symbol, rule, none_yet, counted, spell_item, spell_items, Program, spelling, rules_in, source_of}
 use Rattle.in_syntax.specs.Programs.{sign_at, signs_of, unmarked}
 use Rattle.in_syntax.specs.Parsing.{IsTreeOf, Parses}
 use Rattle.in_syntax.specs.Sizes.{total, names_in}
-use Rattle.in_syntax.specs.Order.{Rises, term_places, equation_places, IsInOrder, head_places, IsRuleInOrder, IsWrittenInOrder}
+use Rattle.in_syntax.specs.Order.{Rises, term_places, equation_places, IsInOrder, head_places, rule_places, IsRuleInOrder, IsWrittenInOrder}
 use Rattle.in_syntax.specs.Tokens.{StandsIn, StandInOrder}
 use Rattle.in_syntax.proofs.Standing.{tokens_stand, tokens_in_order}
-use Rattle.in_base.proofs.Each.{all_left}
+use Rattle.in_base.proofs.Each.{all_left, all_right, all_append}
 use Rattle.in_syntax.proofs.Terms.{names_out, spell_out}
 use Rattle.in_syntax.proofs.Separated.{after}
 
@@ -108,10 +108,8 @@ outermost_placed (t ∷ ts) = both_places (spell_term t 1) (after (map spell_out
 head_placed : (h : Head) → places_of (spell_head h) ≡ head_places h
 head_placed h = ap (λ z. h.name.place ∷ z) (places_closed (separated (map spell_outermost h.terms)) kind.CloseBracket ∙ outermost_placed h.terms)
 
-rule_placed : (number : ℕ) (y : SourceRule) → places_of (spell_rule number y) ≡ head_places y.first ++ head_places y.second
-rule_placed number y =
-    places_closed (spell_head y.first ++ plain kind.Meets ∷ spell_head y.second) kind.Semicolon
-    ∙ both_places (spell_head y.first) (plain kind.Meets ∷ spell_head y.second) (head_places y.first) (head_places y.second) (head_placed y.first) (head_placed y.second)
+heads_placed : (f h : Head) → places_of (spell_head f ++ plain kind.Meets ∷ spell_head h) ≡ head_places f ++ head_places h
+heads_placed f h = both_places (spell_head f) (plain kind.Meets ∷ spell_head h) (head_places f) (head_places h) (head_placed f) (head_placed h)
 
 -- ---- parts of lists that rise
 
@@ -132,6 +130,26 @@ front_rising a b up = front_rises (places_of a) (places_of b) (subst Rises (plac
 
 back_rising : (a b : List Marked) → Rising (a ++ b) → Rising b
 back_rising a b up = back_rises (places_of a) (places_of b) (subst Rises (places_append a b) up)
+
+-- a rule's names and ~ rise, where its signs do: the word `with` stands between them
+with_rising : (ps : List Place) (w : Option Place) (es : List Equation) → StandAfterWord w es → Rises (ps ++ places_of (spell_with w es)) → Rises (ps ++ flat_map equation_places es)
+with_rising ps None es none up = subst (λ z. Rises (ps ++ flat_map equation_places z)) (sym none) up
+with_rising ps (Some p) es some up = without ps (subst (λ z. Rises (ps ++ p ∷ z)) (places_closed (flat_map spell_equation es) kind.CloseBrace ∙ equations_placed es) up)
+  where
+    without : (ps : List Place) → Rises (ps ++ p ∷ flat_map equation_places es) → Rises (ps ++ flat_map equation_places es)
+    without [] up = up.1
+    without (q ∷ ps) up = (
+      all_append (λ r. q.from < r.from) ps (flat_map equation_places es) (all_left (λ r. q.from < r.from) ps (p ∷ flat_map equation_places es) up.0)
+          (all_right (λ r. q.from < r.from) ps (p ∷ flat_map equation_places es) up.0).1,
+      without ps up.1,
+    )
+
+rule_rising : (number : ℕ) (w : Option Place) (y : SourceRule) → StandAfterWord w y.equations → Rising (spell_rule number w y) → IsRuleInOrder y
+rule_rising number w y is up =
+    let heads : List Marked = spell_head y.first ++ plain kind.Meets ∷ spell_head y.second in
+    with_rising (head_places y.first ++ head_places y.second) w y.equations is
+    (subst (λ z. Rises (z ++ places_of (spell_with w y.equations))) (heads_placed y.first y.second)
+    (subst Rises (places_append heads (spell_with w y.equations)) (front_rising (heads ++ spell_with w y.equations) (plain kind.Semicolon ∷ []) up)))
 
 -- ---- the places of tokens rise
 
@@ -167,13 +185,13 @@ tokens_rise text n (t ∷ ts) order all =
 
 -- ---- a whole program
 
-rules_in_order : (is : List Item) (c : Counts) → Rising (spell_items c is) → AllByRecursion IsRuleInOrder (flat_map rules_in is)
-rules_in_order [] c up = tt
-rules_in_order (types names ∷ is) c up = rules_in_order is (counted c (types names)) (back_rising (spell_item c (types names)) (spell_items (counted c (types names)) is) up)
-rules_in_order (symbol s ∷ is) c up = rules_in_order is (counted c (symbol s)) (back_rising (spell_item c (symbol s)) (spell_items (counted c (symbol s)) is) up)
-rules_in_order (rule y ∷ is) c up = (
-  subst Rises (rule_placed (c.rules + 1) y) (front_rising (spell_item c (rule y)) (spell_items (counted c (rule y)) is) up),
-  rules_in_order is (counted c (rule y)) (back_rising (spell_item c (rule y)) (spell_items (counted c (rule y)) is) up),
+rules_in_order : (is : List Item) (c : Counts) → AllByRecursion IsItem is → Rising (spell_items c is) → AllByRecursion IsRuleInOrder (flat_map rules_in is)
+rules_in_order [] c each up = tt
+rules_in_order (types names ∷ is) c each up = rules_in_order is (counted c (types names)) each.1 (back_rising (spell_item c (types names)) (spell_items (counted c (types names)) is) up)
+rules_in_order (symbol s ∷ is) c each up = rules_in_order is (counted c (symbol s)) each.1 (back_rising (spell_item c (symbol s)) (spell_items (counted c (symbol s)) is) up)
+rules_in_order (rule w y ∷ is) c each up = (
+  rule_rising (c.rules + 1) w y each.0 (front_rising (spell_item c (rule w y)) (spell_items (counted c (rule w y)) is) up),
+  rules_in_order is (counted c (rule w y)) each.1 (back_rising (spell_item c (rule w y)) (spell_items (counted c (rule w y)) is) up),
 )
 
 net_in_order : (n : SourceNet) → Rising (spell_net n) → IsInOrder n
@@ -184,7 +202,7 @@ net_in_order n up =
 
 program_in_order : (p : Program) → Rising (spelling p) → IsWrittenInOrder (source_of p)
 program_in_order p up = record {
-  rules = rules_in_order p.items none_yet (front_rising (spell_items none_yet p.items) (spell_net p.net) up);
+  rules = rules_in_order p.items none_yet p.each (front_rising (spell_items none_yet p.items) (spell_net p.net) up);
   net = net_in_order p.net (back_rising (spell_items none_yet p.items) (spell_net p.net) up);
 }
 

@@ -1,5 +1,5 @@
 -- A tree has no more names than its text has bytes.
-use Rattle.std.proofs.Common.{◌≡◌, ℕ, zero, suc, ◌+◌, ◌<◌, ◌≤◌, false, List, [], ◌∷◌, ◌++◌, length, map, refl, sym, ◌∙◌, ap, subst, arith, length-append, ltb-false, Result, Ok, Err, IfOk}
+use Rattle.std.proofs.Common.{◌≡◌, ℕ, zero, suc, ◌+◌, ◌<◌, ◌≤◌, false, List, [], ◌∷◌, ◌++◌, length, map, refl, sym, ◌∙◌, ap, subst, arith, length-append, ltb-false, Result, Ok, Err, IfOk, Option, Some, None}
 use Rattle.std.proofs.lemmas.List.{length-map}
 use Rattle.std.specs.List.{AllByRecursion, flat_map}
 use Rattle.in_syntax.specs.declared.tree.Term.{Term, out-Term}
@@ -11,12 +11,13 @@ use Rattle.in_syntax.specs.declared.tree.SourceSymbol.{SourceSymbol}
 use Rattle.in_syntax.specs.declared.tree.SourceRule.{SourceRule}
 use Rattle.in_syntax.specs.declared.tree.Head.{Head}
 use Rattle.in_syntax.specs.declared.counts.Counts.{Counts}
+use Rattle.in_syntax.specs.declared.places.Place.{Place}
 use Rattle.in_syntax.specs.declared.faults.Fault.{Fault}
 use Rattle.in_syntax.specs.declared.words.Token.{Token}
 use Rattle.in_syntax.specs.declared.words.TokenKind.TheVariants as kind
 use Rattle.in_syntax.specs.declared.signs.Sign.{Sign}
 use Rattle.in_syntax.specs.declared.signs.Sign.TheVariants.{Tilde}
-use Rattle.in_syntax.specs.Grammar.{Marked, within, plain, max_types, max_symbols, max_rules, max_free, max_ports, separated, numbered, spell_port, spell_auxiliary, spell_class, spell_classes, spell_symbol, spell_type, spell_arguments, spell_term, spell_outermost, spell_head, spell_rule, spell_equation, spell_free, spell_net, Item, types, symbol, rule, none_yet, counted, spell_item, spell_items, IsItem, Program, spelling, types_in, symbols_in, rules_in, source_of}
+use Rattle.in_syntax.specs.Grammar.{Marked, within, plain, max_types, max_symbols, max_rules, max_free, max_ports, separated, numbered, spell_port, spell_auxiliary, spell_class, spell_classes, spell_symbol, spell_type, spell_arguments, spell_term, spell_outermost, spell_head, spell_with, StandAfterWord, spell_rule, spell_equation, spell_free, spell_net, Item, types, symbol, rule, none_yet, counted, spell_item, spell_items, IsItem, Program, spelling, types_in, symbols_in, rules_in, source_of}
 use Rattle.in_syntax.specs.Programs.{sign_of, signs_of, unmarked}
 use Rattle.in_syntax.specs.Parsing.{IsTreeOf, Parses}
 use Rattle.in_syntax.specs.Sizes.{total, names_in, names_in_equation, names_in_equations, names_in_head, names_in_rule, names_in_rules, IsSizedSymbol, IsSized}
@@ -95,22 +96,28 @@ head_sum : (h : Head) → names_in_head h ≤ length (spell_head h)
 head_sum h =
     omega (arith, outermost_sum h.terms, length-append (separated (map spell_outermost h.terms)) (plain kind.CloseBracket ∷ []))
 
-rule_sum : (number : ℕ) (y : SourceRule) → names_in_rule y ≤ length (spell_rule number y)
-rule_sum number y =
+with_sum : (w : Option Place) (es : List Equation) → StandAfterWord w es → names_in_equations es ≤ length (spell_with w es)
+with_sum None es none = subst (λ z. names_in_equations z ≤ 0) (sym none) (omega arith)
+with_sum (Some p) es some = omega (arith, equations_sum es, length-append (flat_map spell_equation es) (plain kind.CloseBrace ∷ []))
+
+rule_sum : (number : ℕ) (w : Option Place) (y : SourceRule) → StandAfterWord w y.equations → names_in_rule y ≤ length (spell_rule number w y)
+rule_sum number w y is =
     omega (
       arith,
       head_sum y.first,
       head_sum y.second,
+      with_sum w y.equations is,
       length-append (spell_head y.first) (plain kind.Meets ∷ spell_head y.second),
-      length-append (spell_head y.first ++ plain kind.Meets ∷ spell_head y.second) (plain kind.Semicolon ∷ []),
+      length-append (spell_head y.first ++ plain kind.Meets ∷ spell_head y.second) (spell_with w y.equations),
+      length-append ((spell_head y.first ++ plain kind.Meets ∷ spell_head y.second) ++ spell_with w y.equations) (plain kind.Semicolon ∷ []),
     )
 
-items_sum : (is : List Item) (c : Counts) → names_in_rules (flat_map rules_in is) ≤ length (spell_items c is)
-items_sum [] c = omega arith
-items_sum (types names ∷ is) c = omega (arith, items_sum is (counted c (types names)), length-append (spell_item c (types names)) (spell_items (counted c (types names)) is))
-items_sum (symbol s ∷ is) c = omega (arith, items_sum is (counted c (symbol s)), length-append (spell_item c (symbol s)) (spell_items (counted c (symbol s)) is))
-items_sum (rule y ∷ is) c =
-    omega (arith, rule_sum (c.rules + 1) y, items_sum is (counted c (rule y)), length-append (spell_item c (rule y)) (spell_items (counted c (rule y)) is))
+items_sum : (is : List Item) (c : Counts) → AllByRecursion IsItem is → names_in_rules (flat_map rules_in is) ≤ length (spell_items c is)
+items_sum [] c each = omega arith
+items_sum (types names ∷ is) c each = omega (arith, items_sum is (counted c (types names)) each.1, length-append (spell_item c (types names)) (spell_items (counted c (types names)) is))
+items_sum (symbol s ∷ is) c each = omega (arith, items_sum is (counted c (symbol s)) each.1, length-append (spell_item c (symbol s)) (spell_items (counted c (symbol s)) is))
+items_sum (rule w y ∷ is) c each =
+    omega (arith, rule_sum (c.rules + 1) w y each.0, items_sum is (counted c (rule w y)) each.1, length-append (spell_item c (rule w y)) (spell_items (counted c (rule w y)) is))
 
 -- ---- lists without a mark
 
@@ -184,7 +191,7 @@ symbols_sized (symbol s ∷ is) c each all = (
   symbol_sized (c.symbols + 1) s each.0 (front_all (spell_item c (symbol s)) (spell_items (counted c (symbol s)) is) all),
   symbols_sized is (counted c (symbol s)) each.1 (back_all (spell_item c (symbol s)) (spell_items (counted c (symbol s)) is) all),
 )
-symbols_sized (rule y ∷ is) c each all = symbols_sized is (counted c (rule y)) each.1 (back_all (spell_item c (rule y)) (spell_items (counted c (rule y)) is) all)
+symbols_sized (rule w y ∷ is) c each all = symbols_sized is (counted c (rule w y)) each.1 (back_all (spell_item c (rule w y)) (spell_items (counted c (rule w y)) is) all)
 
 -- no list is longer than its limit
 record IsFew (c : Counts) : Type 0 where
@@ -198,7 +205,7 @@ item_few c (types names) few all =
     separated_within max_types spell_type type_within (c.types + 1) names (omega (arith, few.types)) (front_all (separated (numbered spell_type (c.types + 1) names)) (plain kind.Semicolon ∷ []) all.1) in
     record { types = omega (arith, n); symbols = few.symbols; rules = few.rules }
 item_few c (symbol s) few all = record { types = few.types; symbols = ltb-false max_symbols (c.symbols + 1) all.1.0; rules = few.rules }
-item_few c (rule y) few all = record { types = few.types; symbols = few.symbols; rules = ltb-false max_rules (c.rules + 1) all.0 }
+item_few c (rule w y) few all = record { types = few.types; symbols = few.symbols; rules = ltb-false max_rules (c.rules + 1) all.0 }
 
 items_few : (is : List Item) (c : Counts) → IsFew c → Unmarked (spell_items c is) → IsFew (counted_all c is)
 items_few [] c few all = few
@@ -209,19 +216,19 @@ count_types : (is : List Item) (c : Counts) → c.types + length (flat_map types
 count_types [] c = omega arith
 count_types (types names ∷ is) c = omega (arith, count_types is (counted c (types names)), length-append names (flat_map types_in is))
 count_types (symbol s ∷ is) c = count_types is (counted c (symbol s))
-count_types (rule y ∷ is) c = count_types is (counted c (rule y))
+count_types (rule w y ∷ is) c = count_types is (counted c (rule w y))
 
 count_symbols : (is : List Item) (c : Counts) → c.symbols + length (flat_map symbols_in is) ≡ (counted_all c is).symbols
 count_symbols [] c = omega arith
 count_symbols (types names ∷ is) c = count_symbols is (counted c (types names))
 count_symbols (symbol s ∷ is) c = omega (arith, count_symbols is (counted c (symbol s)))
-count_symbols (rule y ∷ is) c = count_symbols is (counted c (rule y))
+count_symbols (rule w y ∷ is) c = count_symbols is (counted c (rule w y))
 
 count_rules : (is : List Item) (c : Counts) → c.rules + length (flat_map rules_in is) ≡ (counted_all c is).rules
 count_rules [] c = omega arith
 count_rules (types names ∷ is) c = count_rules is (counted c (types names))
 count_rules (symbol s ∷ is) c = count_rules is (counted c (symbol s))
-count_rules (rule y ∷ is) c = omega (arith, count_rules is (counted c (rule y)))
+count_rules (rule w y ∷ is) c = omega (arith, count_rules is (counted c (rule w y)))
 
 -- ---- a whole program
 
@@ -255,7 +262,7 @@ program_sized p s is short =
       rules = omega (arith, few.rules, count_rules p.items none_yet);
       free = net_free p.net (back_all (spell_items none_yet p.items) (spell_net p.net) all);
       names = omega (arith, net_names p.net, size, whole, short);
-      heads = omega (arith, items_sum p.items none_yet, size, whole, short);
+      heads = omega (arith, items_sum p.items none_yet p.each, size, whole, short);
     }
 
 pub tree_sized : (text : List ℕ) (source : Source) → IsTreeOf text source → IsSized source

@@ -1,7 +1,8 @@
 -- What was read before a reader is spelled so.
-use Rattle.std.proofs.Common.{◌≡◌, ℕ, ◌+◌, ◌<◌, Bool, true, false, nat_lt, List, [], ◌∷◌, ◌++◌, length, map, refl, sym, ◌∙◌, ap, subst, append_assoc, append-nil, length-append, arith}
+use Rattle.std.proofs.Common.{◌≡◌, ℕ, ◌+◌, ◌<◌, Bool, true, false, nat_lt, List, [], ◌∷◌, ◌++◌, length, map, refl, sym, ◌∙◌, ap, subst, append_assoc, append-nil, length-append, arith, Option, Some, None}
 use Rattle.std.specs.List.{flat_map, AllByRecursion}
 use Rattle.std.proofs.lemmas.List.{map_push}
+use Rattle.std.proofs.lemmas.Slice.Eq.{bytes_eq-Decides}
 use Rattle.in_syntax.specs.declared.words.TokenKind.TheVariants as kind
 use Rattle.in_syntax.specs.declared.signs.Sign.{Sign}
 use Rattle.in_syntax.specs.declared.signs.Sign.TheVariants.{Named, Tilde, Plain}
@@ -28,9 +29,11 @@ use Rattle.in_syntax.specs.declared.states.HeadOf.TheVariants.{First, Second}
 use Rattle.in_syntax.specs.declared.states.TermOf.{TermOf}
 use Rattle.in_syntax.specs.declared.states.TermOf.TheVariants.{Left, Right, Inside}
 use Rattle.in_syntax.specs.declared.states.Nest.{Nest}
-use Rattle.in_syntax.specs.Grammar.{Marked, marked, within, named, plain, separated, numbered, spell_port, spell_auxiliary, spell_classes, spell_symbol, spell_type, spell_types, spell_arguments, spell_level, spell_term, spell_outermost, spell_head, spell_rule, spell_equation, spell_free, spell_net, max_symbols, max_rules, max_free, max_ports, max_depth, Item, types, symbol, rule, none_yet, counted, spell_item, spell_items, IsItem, types_in, symbols_in, rules_in}
-use Rattle.in_syntax.specs.Steps.{Step, goes, adds_types, adds_symbol, adds_rule, stuck, at_item, at_type_name, at_type_end, at_symbol_name, at_symbol_colon, at_port_kind, after_port, at_port_sign, at_symbol_end, at_class_end, at_head_name, at_head_open, at_head_first, at_head_end, at_net_open, at_free_first, at_free_name, at_free_colon, at_free_end, at_body_open, at_equation, at_term_name, after_argument, after_left, after_right, after_head_term, after_outermost, after_term, at_term_end, at_term_open, step, at_state, with_types, with_symbol, with_rule, counts_of, start}
-use Rattle.in_syntax.specs.Trees.{bare, bare_head, with_argument}
+use Rattle.in_syntax.specs.declared.states.Body.{Body}
+use Rattle.in_syntax.specs.declared.states.Body.TheVariants as body
+use Rattle.in_syntax.specs.Grammar.{Marked, marked, within, named, plain, separated, numbered, spell_port, spell_auxiliary, spell_classes, spell_symbol, spell_type, spell_types, spell_arguments, spell_level, spell_term, spell_outermost, spell_head, with_word, is_with, word_at, spell_with, StandAfterWord, spell_rule, spell_equation, spell_free, spell_net, max_symbols, max_rules, max_free, max_ports, max_depth, Item, types, symbol, rule, none_yet, counted, spell_item, spell_items, IsItem, types_in, symbols_in, rules_in}
+use Rattle.in_syntax.specs.Steps.{Step, goes, adds_types, adds_symbol, adds_rule, stuck, at_item, at_type_name, at_type_end, at_symbol_name, at_symbol_colon, at_port_kind, after_port, at_port_sign, at_symbol_end, at_class_end, at_head_name, at_head_open, at_head_first, at_with, at_head_end, at_rule_open, at_rule_close, at_net_open, at_free_first, at_free_name, at_free_colon, at_free_end, at_body_open, at_equation, at_term_name, after_argument, after_left, after_right, after_head_term, after_outermost, after_term, at_term_end, at_term_open, step, at_state, with_types, with_symbol, with_rule, counts_of, start}
+use Rattle.in_syntax.specs.Trees.{bare, bare_head, bare_rule, with_argument}
 use Rattle.in_syntax.proofs.Separated.{comma, before, separated_snoc, before_is, nonempty_snoc, flat_snoc, numbered_snoc, nonempty_numbered, ports_after, ports_after_snoc, classes_snoc, counted_all, counted_snoc, items_snoc}
 use Rattle.in_syntax.proofs.Paths.{turns, turn_of, Path}
 use Rattle.in_base.proofs.Each.{all_append}
@@ -76,10 +79,19 @@ free_name fs n = marked (nat_lt max_free (1 + length fs)) (Named n)
 abbrev pub net_front : SourceNet → List Marked
 net_front n = frees_front n.free ++ plain kind.CloseParenthesis ∷ plain kind.OpenBrace ∷ flat_map spell_equation n.equations
 
+-- a rule's heads
+abbrev pub heads_front : Counts → Head → Head → List Marked
+heads_front c f h = marked (nat_lt max_rules (c.rules + 1)) (Plain kind.Rule) ∷ (spell_head f ++ plain kind.Meets ∷ spell_head h)
+
+-- up to where the next equation begins
+abbrev pub body_front : Counts → Body → List Marked
+body_front c (body.Net n) = net_front n
+body_front c (body.Rule y p) = heads_front c y.first y.second ++ named (word_at p) ∷ plain kind.OpenBrace ∷ flat_map spell_equation y.equations
+
 -- what is read before a term and the terms that are open around it
 abbrev pub of_front : Counts → TermOf → List Marked
-of_front c (Left n) = net_front n
-of_front c (Right n l p) = net_front n ++ spell_term l 1 ++ within (Tilde p) ∷ []
+of_front c (Left b) = body_front c b
+of_front c (Right b l p) = body_front c b ++ spell_term l 1 ++ within (Tilde p) ∷ []
 of_front c (Inside o h) = head_before c o h
 
 abbrev pub nest_front : Counts → Nest → List Marked
@@ -117,13 +129,15 @@ spelled k (state.HeadName o) = head_of_front k o
 spelled k (state.HeadOpen o n) = head_of_front k o ++ named n ∷ []
 spelled k (state.HeadFirst o n) = head_of_front k o ++ named n ∷ plain kind.OpenBracket ∷ []
 spelled k (state.HeadEnd o h) = head_of_front k o ++ spell_head h
+spelled k (state.RuleOpen f h p) = heads_front k f h ++ named (word_at p) ∷ []
+spelled k (state.RuleClose y p) = heads_front k y.first y.second ++ spell_with (Some p) y.equations
 spelled k state.NetOpen = plain kind.Net ∷ []
 spelled k state.FreeFirst = plain kind.Net ∷ plain kind.OpenParenthesis ∷ []
 spelled k (state.FreeName fs) = frees_before fs
 spelled k (state.FreeColon fs n) = frees_before fs ++ free_name fs n ∷ []
 spelled k (state.FreeEnd fs) = frees_front fs
 spelled k (state.BodyOpen fs) = frees_front fs ++ plain kind.CloseParenthesis ∷ []
-spelled k (state.Equation n) = net_front n
+spelled k (state.Equation b) = body_front k b
 spelled k (state.TermName b) = nest_front k b
 spelled k (state.TermOpen b n) = nest_front k b ++ marked (nat_lt max_depth (length b.around + 1)) (Named n) ∷ []
 spelled k (state.TermEnd b t) = nest_front k b ++ spell_term t (length b.around + 1)
@@ -154,7 +168,7 @@ abbrev pub KeepsAll : Counts → List Marked → Sign → Step → Type 0
 KeepsAll k l x (goes past q) = IsFull q × (spelled k q ≡ l ++ marked past x ∷ [])
 KeepsAll k l x (adds_types names) = (0 < length names) × (spell_types (k.types + 1) names ≡ l ++ within x ∷ [])
 KeepsAll k l x (adds_symbol s) = AllByRecursion (λ c. 0 < length c) s.classes × (spell_symbol (k.symbols + 1) s ≡ l ++ within x ∷ [])
-KeepsAll k l x (adds_rule y) = spell_rule (k.rules + 1) y ≡ l ++ within x ∷ []
+KeepsAll k l x (adds_rule y) = (w : Option Place) × StandAfterWord w y.equations × (spell_rule (k.rules + 1) w y ≡ l ++ within x ∷ [])
 KeepsAll k l x stuck = Unit {0}
 
 abbrev pub Keeps : Counts → State → Sign → Step → Type 0
@@ -269,15 +283,33 @@ keeps_head_first k o n (Plain kind.CloseBracket) =
     (tt, sym (append_assoc (head_of_front k o) (named n ∷ plain kind.OpenBracket ∷ []) (plain kind.CloseBracket ∷ [])))
 keeps_head_first k o n _ = tt
 
+-- the heads, read one after the other
+heads_are : (k : Counts) (f h : Head) → heads_front k f h ≡ spelled k (state.HeadEnd (Second f) h)
+heads_are k f h = ap (λ z. marked (nat_lt max_rules (k.rules + 1)) (Plain kind.Rule) ∷ z) (sym (append_assoc (spell_head f) (plain kind.Meets ∷ []) (spell_head h)))
+
+-- a name that is the word `with` is spelled as that word
+is_word : (n : Name) → is_with n ≡ true → word_at n.place ≡ n
+is_word n e = ap (λ z. record { text = z; place = n.place }) (sym ((bytes_eq-Decides n.text with_word).0 e))
+
+keeps_with : (k : Counts) (f h : Head) (n : Name) (b : Bool) → is_with n ≡ b → Keeps k (state.HeadEnd (Second f) h) (Named n) (at_with f h n.place b)
+keeps_with k f h n true e = (tt, ap (λ z. z ++ named (word_at n.place) ∷ []) (heads_are k f h) ∙ ap (λ z. spelled k (state.HeadEnd (Second f) h) ++ named z ∷ []) (is_word n e))
+keeps_with k f h n false e = tt
+
 keeps_head_end : (k : Counts) (o : HeadOf) (h : Head) (x : Sign) → Keeps k (state.HeadEnd o h) x (at_head_end o h x)
 keeps_head_end k First h (Plain kind.Meets) = (tt, refl)
 keeps_head_end k (Second f) h (Plain kind.Semicolon) =
-    ap (λ z. marked (nat_lt max_rules (k.rules + 1)) (Plain kind.Rule) ∷ z) (regroup_rule (spell_head f) (plain kind.Meets ∷ []) (spell_head h) (plain kind.Semicolon ∷ []))
-  where
-    regroup_rule : (a b c d : List Marked) → (a ++ (b ++ c)) ++ d ≡ ((a ++ b) ++ c) ++ d
-    regroup_rule a b c d = simp append_assoc
+    (None, refl, ap (λ z. z ++ plain kind.Semicolon ∷ []) (append-nil (heads_front k f h) ∙ heads_are k f h))
+keeps_head_end k (Second f) h (Named n) = keeps_with k f h n (is_with n) refl
 keeps_head_end k First h _ = tt
 keeps_head_end k (Second f) h _ = tt
+
+keeps_rule_open : (k : Counts) (f h : Head) (p : Place) (x : Sign) → Keeps k (state.RuleOpen f h p) x (at_rule_open f h p x)
+keeps_rule_open k f h p (Plain kind.OpenBrace) = (tt, sym (append_assoc (heads_front k f h) (named (word_at p) ∷ []) (plain kind.OpenBrace ∷ [])))
+keeps_rule_open k f h p _ = tt
+
+keeps_rule_close : (k : Counts) (y : SourceRule) (p : Place) (x : Sign) → Keeps k (state.RuleClose y p) x (at_rule_close y x)
+keeps_rule_close k y p (Plain kind.Semicolon) = (Some p, tt, refl)
+keeps_rule_close k y p _ = tt
 
 -- ---- the net
 
@@ -308,10 +340,17 @@ keeps_body_open : (k : Counts) (fs : List SourceFree) (x : Sign) → Keeps k (st
 keeps_body_open k fs (Plain kind.OpenBrace) = (tt, simp append_assoc)
 keeps_body_open k fs _ = tt
 
-keeps_equation : (k : Counts) (n : SourceNet) (x : Sign) → Keeps k (state.Equation n) x (at_equation n x)
-keeps_equation k n (Named m) = (tt, ap (λ z. z ++ named m ∷ []) (append-nil (net_front n)))
-keeps_equation k n (Plain kind.CloseBrace) = (tt, simp append_assoc)
-keeps_equation k n _ = tt
+keeps_closing : (k : Counts) (b : Body) → Keeps k (state.Equation b) (Plain kind.CloseBrace) (at_equation b (Plain kind.CloseBrace))
+keeps_closing k (body.Net n) = (tt, simp append_assoc)
+keeps_closing k (body.Rule y p) = (
+  tt,
+  sym (append_assoc (heads_front k y.first y.second) (named (word_at p) ∷ plain kind.OpenBrace ∷ flat_map spell_equation y.equations) (plain kind.CloseBrace ∷ [])),
+)
+
+keeps_equation : (k : Counts) (b : Body) (x : Sign) → Keeps k (state.Equation b) x (at_equation b x)
+keeps_equation k b (Named m) = (tt, ap (λ z. z ++ named m ∷ []) (append-nil (body_front k b)))
+keeps_equation k b (Plain kind.CloseBrace) = keeps_closing k b
+keeps_equation k b _ = tt
 
 -- ---- terms
 
@@ -388,24 +427,31 @@ keeps_after_argument k of around outer t (Plain kind.CloseParenthesis) = (
 )
 keeps_after_argument k of around outer t _ = tt
 
-keeps_after_left : (k : Counts) (n : SourceNet) (t : Term) (x : Sign) → Keeps k (state.TermEnd (record { of = Left n; around = [] }) t) x (after_left n t x)
-keeps_after_left k n t (Tilde p) = (
+keeps_after_left : (k : Counts) (b : Body) (t : Term) (x : Sign) → Keeps k (state.TermEnd (record { of = Left b; around = [] }) t) x (after_left b t x)
+keeps_after_left k b t (Tilde p) = (
   tt,
-  append-nil ((net_front n ++ spell_term t 1) ++ within (Tilde p) ∷ [])
-      ∙ ap (λ z. (z ++ spell_term t 1) ++ within (Tilde p) ∷ []) (sym (append-nil (net_front n))),
+  append-nil ((body_front k b ++ spell_term t 1) ++ within (Tilde p) ∷ [])
+      ∙ ap (λ z. (z ++ spell_term t 1) ++ within (Tilde p) ∷ []) (sym (append-nil (body_front k b))),
 )
-keeps_after_left k n t _ = tt
+keeps_after_left k b t _ = tt
 
-keeps_after_right : (k : Counts) (n : SourceNet) (l : Term) (p : Place) (t : Term) (x : Sign) →
-    Keeps k (state.TermEnd (record { of = Right n l p; around = [] }) t) x (after_right n l p t x)
-keeps_after_right k n l p t (Plain kind.Semicolon) = (
+keeps_after_right : (k : Counts) (b : Body) (l : Term) (p : Place) (t : Term) (x : Sign) →
+    Keeps k (state.TermEnd (record { of = Right b l p; around = [] }) t) x (after_right b l p t x)
+keeps_after_right k (body.Net n) l p t (Plain kind.Semicolon) = (
   tt,
   ap (λ z. frees_front n.free ++ plain kind.CloseParenthesis ∷ plain kind.OpenBrace ∷ z)
       (flat_snoc spell_equation n.equations (record { left = l; tilde = p; right = t }))
       ∙ regroup_equation (frees_front n.free) (plain kind.CloseParenthesis ∷ plain kind.OpenBrace ∷ []) (flat_map spell_equation n.equations) (spell_term l 1) (within (Tilde p) ∷ []) (spell_term t 1) (plain kind.Semicolon ∷ [])
       ∙ ap (λ z. (z ++ spell_term t 1) ++ plain kind.Semicolon ∷ []) (sym (append-nil ((net_front n ++ spell_term l 1) ++ within (Tilde p) ∷ []))),
 )
-keeps_after_right k n l p t _ = tt
+keeps_after_right k (body.Rule y w) l p t (Plain kind.Semicolon) = (
+  tt,
+  ap (λ z. heads_front k y.first y.second ++ named (word_at w) ∷ plain kind.OpenBrace ∷ z)
+      (flat_snoc spell_equation y.equations (record { left = l; tilde = p; right = t }))
+      ∙ regroup_equation (heads_front k y.first y.second) (named (word_at w) ∷ plain kind.OpenBrace ∷ []) (flat_map spell_equation y.equations) (spell_term l 1) (within (Tilde p) ∷ []) (spell_term t 1) (plain kind.Semicolon ∷ [])
+      ∙ ap (λ z. (z ++ spell_term t 1) ++ plain kind.Semicolon ∷ []) (sym (append-nil ((body_front k (body.Rule y w) ++ spell_term l 1) ++ within (Tilde p) ∷ []))),
+)
+keeps_after_right k b l p t _ = tt
 
 regroup_term : (f h b t c : List Marked) → (f ++ (h ++ (b ++ (t ++ c)))) ++ [] ≡ (((f ++ (h ++ b)) ++ []) ++ t) ++ c
 regroup_term f h b t c = simp (append_assoc, append-nil)
@@ -430,8 +476,8 @@ keeps_after_head_term k o h t (Plain kind.CloseBracket) = (
 keeps_after_head_term k o h t _ = tt
 
 keeps_after_outermost : (k : Counts) (of : TermOf) (t : Term) (x : Sign) → Keeps k (state.TermEnd (record { of = of; around = [] }) t) x (after_outermost of t x)
-keeps_after_outermost k (Left n) t x = keeps_after_left k n t x
-keeps_after_outermost k (Right n l p) t x = keeps_after_right k n l p t x
+keeps_after_outermost k (Left b) t x = keeps_after_left k b t x
+keeps_after_outermost k (Right b l p) t x = keeps_after_right k b l p t x
 keeps_after_outermost k (Inside o h) t x = keeps_after_head_term k o h t x
 
 keeps_after_term : (k : Counts) (of : TermOf) (around : List Term) (t : Term) (x : Sign) →
@@ -467,13 +513,15 @@ keeps k (state.HeadName o) x full = keeps_head_name k o x
 keeps k (state.HeadOpen o n) x full = keeps_head_open k o n x
 keeps k (state.HeadFirst o n) x full = keeps_head_first k o n x
 keeps k (state.HeadEnd o h) x full = keeps_head_end k o h x
+keeps k (state.RuleOpen f h p) x full = keeps_rule_open k f h p x
+keeps k (state.RuleClose y p) x full = keeps_rule_close k y p x
 keeps k state.NetOpen x full = keeps_net_open k x
 keeps k state.FreeFirst x full = keeps_free_first k x
 keeps k (state.FreeName fs) x full = keeps_free_name k fs x
 keeps k (state.FreeColon fs n) x full = keeps_free_colon k fs n x
 keeps k (state.FreeEnd fs) x full = keeps_free_end k fs x full
 keeps k (state.BodyOpen fs) x full = keeps_body_open k fs x
-keeps k (state.Equation n) x full = keeps_equation k n x
+keeps k (state.Equation b) x full = keeps_equation k b x
 keeps k (state.TermName b) x full = keeps_term_name k b x
 keeps k (state.TermOpen b n) x full = keeps_term_open k b n x
 keeps k (state.TermEnd b t) x full = keeps_after_term k b.of b.around t x
@@ -487,8 +535,8 @@ counts_types r names = ap (λ z. record { types = z; symbols = length r.symbols;
 pub counts_symbol : (r : Reader) (s : SourceSymbol) → counts_of (with_symbol r s) ≡ counted (counts_of r) (symbol s)
 counts_symbol r s = ap (λ z. record { types = length r.types; symbols = z; rules = length r.rules }) (length-append r.symbols (s ∷ []))
 
-pub counts_rule : (r : Reader) (y : SourceRule) → counts_of (with_rule r y) ≡ counted (counts_of r) (rule y)
-counts_rule r y = ap (λ z. record { types = length r.types; symbols = length r.symbols; rules = z }) (length-append r.rules (y ∷ []))
+pub counts_rule : (r : Reader) (w : Option Place) (y : SourceRule) → counts_of (with_rule r y) ≡ counted (counts_of r) (rule w y)
+counts_rule r w y = ap (λ z. record { types = length r.types; symbols = length r.symbols; rules = z }) (length-append r.rules (y ∷ []))
 
 pub record HasRead (r : Reader) (m : List Marked) : Type 0 where
   pub items : List Item
@@ -564,18 +612,18 @@ reads_step r next m x past (adds_symbol s) h k e =
       full = tt;
       spells = with_item m (counts_of r) h.items (symbol s) (spelled (counts_of r) r.state) (within x) h.spells h.counts k.1;
     }))
-reads_step r next m x past (adds_rule y) h k e =
+reads_step r next m x past (adds_rule y) h (w, is_with, spells) e =
     let is : with_rule r y ≡ next = cc in
     let same : false ≡ past = cc in
     subst (λ z. HasRead z (m ++ marked past x ∷ [])) is (subst (λ z. HasRead (with_rule r y) (m ++ marked z x ∷ [])) same (record {
-      items = h.items ++ rule y ∷ [];
-      each = all_append IsItem h.items (rule y ∷ []) h.each (tt, tt);
-      types = none_more types_in r.types h.items (rule y) h.types refl;
-      symbols = none_more symbols_in r.symbols h.items (rule y) h.symbols refl;
-      rules = some_more rules_in r.rules (y ∷ []) h.items (rule y) h.rules refl;
-      counts = count_item (counts_of r) (counts_of (with_rule r y)) h.items (rule y) h.counts (counts_rule r y);
+      items = h.items ++ rule w y ∷ [];
+      each = all_append IsItem h.items (rule w y ∷ []) h.each (is_with, tt);
+      types = none_more types_in r.types h.items (rule w y) h.types refl;
+      symbols = none_more symbols_in r.symbols h.items (rule w y) h.symbols refl;
+      rules = some_more rules_in r.rules (y ∷ []) h.items (rule w y) h.rules refl;
+      counts = count_item (counts_of r) (counts_of (with_rule r y)) h.items (rule w y) h.counts (counts_rule r w y);
       full = tt;
-      spells = with_item m (counts_of r) h.items (rule y) (spelled (counts_of r) r.state) (within x) h.spells h.counts k;
+      spells = with_item m (counts_of r) h.items (rule w y) (spelled (counts_of r) r.state) (within x) h.spells h.counts spells;
     }))
 reads_step r next m x past stuck h k e = cc
 

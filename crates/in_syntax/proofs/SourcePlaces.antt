@@ -1,5 +1,5 @@
 -- What stands at one byte of a text is one name or ~.
-use Rattle.std.proofs.Common.{◌≡◌, ◌⊎◌, inl, inr, ℕ, zero, suc, ◌+◌, ◌≤◌, Bool, List, [], ◌∷◌, ◌++◌, length, map, refl, sym, ◌∙◌, ap, subst, arith}
+use Rattle.std.proofs.Common.{◌≡◌, ◌⊎◌, inl, inr, ℕ, zero, suc, ◌+◌, ◌≤◌, Bool, List, [], ◌∷◌, ◌++◌, length, map, refl, sym, ◌∙◌, ap, subst, arith, Option, Some, None}
 use Rattle.std.specs.List.{AllByRecursion, flat_map}
 use Rattle.in_syntax.specs.declared.counts.Counts.{Counts}
 use Rattle.in_syntax.specs.declared.places.Place.{Place}
@@ -18,7 +18,7 @@ use Rattle.in_syntax.specs.declared.tree.Term.{Term, out-Term}
 use Rattle.in_syntax.specs.declared.words.Token.{Token}
 use Rattle.in_syntax.specs.declared.words.TokenKind.{TokenKind}
 use Rattle.in_syntax.specs.declared.words.TokenKind.TheVariants as kind
-use Rattle.in_syntax.specs.Grammar.{Marked, within, plain, separated, numbered, spell_level, spell_arguments, spell_term, spell_outermost, spell_head, spell_rule, spell_equation, spell_free, spell_net, spell_port, spell_auxiliary, spell_class, spell_classes, spell_symbol, spell_type, spell_types, Item, types, symbol, rule, none_yet, counted, spell_item, spell_items, types_in, symbols_in, rules_in, Program, spelling, source_of}
+use Rattle.in_syntax.specs.Grammar.{Marked, within, plain, separated, numbered, spell_level, spell_arguments, spell_term, spell_outermost, spell_head, named, word_at, spell_with, StandAfterWord, IsItem, spell_rule, spell_equation, spell_free, spell_net, spell_port, spell_auxiliary, spell_class, spell_classes, spell_symbol, spell_type, spell_types, Item, types, symbol, rule, none_yet, counted, spell_item, spell_items, types_in, symbols_in, rules_in, Program, spelling, source_of}
 use Rattle.in_syntax.specs.Order.{BeginApart, term_places, equation_places, head_places, symbol_places, rule_places, free_places, source_places}
 use Rattle.in_syntax.specs.Parsing.{IsTreeOf}
 use Rattle.in_syntax.specs.Programs.{sign_at, sign_of, signs_of, unmarked}
@@ -26,7 +26,7 @@ use Rattle.in_syntax.specs.Sizes.{names_in, total}
 use Rattle.in_syntax.specs.Tokens.{StandsIn, StandInOrder}
 use Rattle.in_syntax.proofs.Standing.{tokens_stand, tokens_in_order}
 use Rattle.in_base.specs.Lists.{IsAmong}
-use Rattle.in_base.proofs.Among.{among_left, among_right, among_either, in_map, of_flat, of_map}
+use Rattle.in_base.proofs.Among.{among_left, among_right, among_either, among_all, in_map, of_flat, of_map}
 use Rattle.in_syntax.proofs.Ordered.{places_out}
 use Rattle.in_syntax.proofs.Terms.{names_out, spell_out}
 use Rattle.in_syntax.proofs.Separated.{after}
@@ -118,13 +118,25 @@ in_head h p (inr k) =
     let u = of_flat term_places h.terms p k in
     on _ _ p (on _ _ p (on_left (separated (map spell_outermost h.terms)) _ p (in_separated (map spell_outermost h.terms) (spell_outermost u.0) p (in_map spell_outermost h.terms u.0 u.1) (term 1 u.0 p u.2))))
 
-in_rule : (k : ℕ) (r : SourceRule) (p : Place) → IsAmong p (rule_places r) → Spells (spell_rule k r) p
-in_rule k r p h =
-    on _ _ p (on_left (spell_head r.first ++ plain kind.Meets ∷ spell_head r.second) (plain kind.Semicolon ∷ []) p (by_side (among_either p (head_places r.first) (head_places r.second) h)))
+in_with : (w : Option Place) (es : List Equation) (p : Place) → StandAfterWord w es → IsAmong p (flat_map equation_places es) → Spells (spell_with w es) p
+in_with None es p none h = absurd (subst (λ z. IsAmong p (flat_map equation_places z)) none h)
+in_with (Some w) es p some h =
+    on (named (word_at w)) _ p (on (plain kind.OpenBrace) _ p (on_left (flat_map spell_equation es) (plain kind.CloseBrace ∷ []) p (in_each spell_equation equation_places p (λ e a. in_equation e p a) es h)))
+
+in_rule : (k : ℕ) (w : Option Place) (r : SourceRule) (p : Place) → StandAfterWord w r.equations → IsAmong p (rule_places r) → Spells (spell_rule k w r) p
+in_rule k w r p is h =
+    on _ _ p (on_left (heads ++ spell_with w r.equations) (plain kind.Semicolon ∷ []) p (by_part (among_either p (head_places r.first ++ head_places r.second) (flat_map equation_places r.equations) h)))
   where
-    by_side : IsAmong p (head_places r.first) ⊎ IsAmong p (head_places r.second) → Spells (spell_head r.first ++ plain kind.Meets ∷ spell_head r.second) p
+    heads : List Marked
+    heads = spell_head r.first ++ plain kind.Meets ∷ spell_head r.second
+
+    by_side : IsAmong p (head_places r.first) ⊎ IsAmong p (head_places r.second) → Spells heads p
     by_side (inl a) = on_left (spell_head r.first) (plain kind.Meets ∷ spell_head r.second) p (in_head r.first p a)
     by_side (inr a) = on_right (spell_head r.first) (plain kind.Meets ∷ spell_head r.second) p (on (plain kind.Meets) (spell_head r.second) p (in_head r.second p a))
+
+    by_part : IsAmong p (head_places r.first ++ head_places r.second) ⊎ IsAmong p (flat_map equation_places r.equations) → Spells (heads ++ spell_with w r.equations) p
+    by_part (inl a) = on_left heads (spell_with w r.equations) p (by_side (among_either p (head_places r.first) (head_places r.second) a))
+    by_part (inr a) = on_right heads (spell_with w r.equations) p (in_with w r.equations p is a)
 
 in_port : (past : Bool) (q : SourcePort) → Spells (spell_port past q) q.kind.place
 in_port past q = here _ _ q.kind.place (inl refl)
@@ -179,19 +191,19 @@ in_items i p one (j ∷ is) (inr h) c = on_right (spell_item c j) (spell_items (
 type_item : (i : Item) (n : Name) → IsAmong n (types_in i) → (c : Counts) → Spells (spell_item c i) n.place
 type_item (types ns) n h c = in_types (c.types + 1) ns n.place (in_map (λ (n : Name). n.place) ns n h)
 type_item (symbol s) n h c = absurd h
-type_item (rule r) n h c = absurd h
+type_item (rule w r) n h c = absurd h
 
 symbol_item : (i : Item) (s : SourceSymbol) (p : Place) → IsAmong s (symbols_in i) → IsAmong p (symbol_places s) → (c : Counts) → Spells (spell_item c i) p
 symbol_item (types ns) s p h k c = absurd h
 symbol_item (symbol u) s p (inl e) k c = in_symbol (c.symbols + 1) u p (subst (λ s. IsAmong p (symbol_places s)) (sym e) k)
 symbol_item (symbol u) s p (inr h) k c = absurd h
-symbol_item (rule r) s p h k c = absurd h
+symbol_item (rule w r) s p h k c = absurd h
 
-rule_item : (i : Item) (r : SourceRule) (p : Place) → IsAmong r (rules_in i) → IsAmong p (rule_places r) → (c : Counts) → Spells (spell_item c i) p
-rule_item (types ns) r p h k c = absurd h
-rule_item (symbol s) r p h k c = absurd h
-rule_item (rule u) r p (inl e) k c = in_rule (c.rules + 1) u p (subst (λ r. IsAmong p (rule_places r)) (sym e) k)
-rule_item (rule u) r p (inr h) k c = absurd h
+rule_item : (i : Item) (r : SourceRule) (p : Place) → IsItem i → IsAmong r (rules_in i) → IsAmong p (rule_places r) → (c : Counts) → Spells (spell_item c i) p
+rule_item (types ns) r p is h k c = absurd h
+rule_item (symbol s) r p is h k c = absurd h
+rule_item (rule w u) r p is (inl e) k c = in_rule (c.rules + 1) w u p is (subst (λ r. IsAmong p (rule_places r)) (sym e) k)
+rule_item (rule w u) r p is (inr h) k c = absurd h
 
 in_program : (g : Program) (p : Place) → IsAmong p (source_places (source_of g)) → Spells (spelling g) p
 in_program g p h = by_types (among_either p (map (λ (n : Name). n.place) (flat_map types_in g.items)) _ h)
@@ -203,7 +215,7 @@ in_program g p h = by_types (among_either p (map (λ (n : Name). n.place) (flat_
     by_rules (inl a) =
         let r = of_flat rule_places (flat_map rules_in g.items) p a in
         let i = of_flat rules_in g.items r.0 r.1 in
-        front (in_items i.0 p (rule_item i.0 r.0 p i.2 r.2) g.items i.1 none_yet)
+        front (in_items i.0 p (rule_item i.0 r.0 p (among_all IsItem g.items i.0 g.each i.1) i.2 r.2) g.items i.1 none_yet)
     by_rules (inr a) = on_right (spell_items none_yet g.items) (spell_net g.net) p (in_net g.net p (among_either p (flat_map free_places g.net.free) (flat_map equation_places g.net.equations) a))
 
     by_symbols : IsAmong p (flat_map symbol_places (flat_map symbols_in g.items)) ⊎ IsAmong p (flat_map rule_places (flat_map rules_in g.items) ++ (flat_map free_places g.net.free ++ flat_map equation_places g.net.equations)) → Spells (spelling g) p

@@ -8,75 +8,77 @@ use Rattle.in_syntax.specs.declared.expecting.Part.TheVariants as part
 use Rattle.in_syntax.specs.declared.faults.Fault.{Fault}
 use Rattle.in_syntax.specs.declared.faults.Fault.TheVariants.{Refused, Memory}
 use Rattle.in_syntax.specs.declared.signs.Sign.{Sign}
-use Rattle.in_syntax.specs.declared.signs.Sign.TheVariants.{Plain}
+use Rattle.in_syntax.specs.declared.signs.Sign.TheVariants.{Named, Tilde, Plain}
 use Rattle.in_syntax.specs.declared.tree.Source.{Source}
 use Rattle.in_syntax.specs.declared.words.Token.{Token}
-use Rattle.in_syntax.specs.declared.words.TokenKind.{TokenKind}
 use Rattle.in_syntax.specs.declared.words.TokenKind.TheVariants as kind
+use Rattle.in_syntax.specs.Grammar.{is_with}
 use Rattle.in_syntax.specs.Programs.{Begins, IsOutcome, fault, sign_of, signs_of}
 use Rattle.in_syntax.specs.Tokens.{IsTokensOf, IsTokenFault}
 
 -- ---- tokens
 
 -- what may follow a whole term
-abbrev pub follows_term : Part → TokenKind → Bool
-follows_term part.Left kind.Tilde = true
-follows_term part.Right kind.Semicolon = true
-follows_term part.Head kind.Comma = true
-follows_term part.Head kind.CloseBracket = true
-follows_term part.Agent kind.Comma = true
-follows_term part.Agent kind.CloseParenthesis = true
-follows_term p k = false
+abbrev pub follows_term : Part → Sign → Bool
+follows_term part.Left (Tilde place) = true
+follows_term part.Right (Plain kind.Semicolon) = true
+follows_term part.Head (Plain kind.Comma) = true
+follows_term part.Head (Plain kind.CloseBracket) = true
+follows_term part.Agent (Plain kind.Comma) = true
+follows_term part.Agent (Plain kind.CloseParenthesis) = true
+follows_term p x = false
 
 -- what may follow a name alone: arguments, or what follows a whole term
-abbrev pub follows_name : Part → TokenKind → Bool
-follows_name p kind.OpenParenthesis = true
-follows_name p k = follows_term p k
+abbrev pub follows_name : Part → Sign → Bool
+follows_name p (Plain kind.OpenParenthesis) = true
+follows_name p x = follows_term p x
 
--- which tokens are expected
-abbrev pub takes : Expected → TokenKind → Bool
-takes expected.Item kind.Type = true
-takes expected.Item kind.Symbol = true
-takes expected.Item kind.Rule = true
-takes expected.Item kind.Net = true
-takes expected.TypeName kind.Name = true
-takes expected.TypeEnd kind.Comma = true
-takes expected.TypeEnd kind.Semicolon = true
-takes expected.SymbolName kind.Name = true
-takes expected.Colon kind.Colon = true
-takes expected.PortType kind.Name = true
-takes expected.PortSign kind.Plus = true
-takes expected.PortSign kind.Minus = true
-takes expected.SymbolEnd kind.OpenBrace = true
-takes expected.SymbolEnd kind.Semicolon = true
-takes expected.ClassEnd kind.Comma = true
-takes expected.ClassEnd kind.CloseBrace = true
-takes expected.HeadName kind.Name = true
-takes expected.HeadOpen kind.OpenBracket = true
-takes expected.HeadFirst kind.Name = true
-takes expected.HeadFirst kind.CloseBracket = true
-takes expected.Meets kind.Meets = true
-takes expected.RuleEnd kind.Semicolon = true
-takes expected.NetOpen kind.OpenParenthesis = true
-takes expected.FreeFirst kind.Name = true
-takes expected.FreeFirst kind.CloseParenthesis = true
-takes expected.FreeName kind.Name = true
-takes expected.FreeEnd kind.Comma = true
-takes expected.FreeEnd kind.CloseParenthesis = true
-takes expected.BodyOpen kind.OpenBrace = true
-takes expected.Equation kind.Name = true
-takes expected.Equation kind.CloseBrace = true
-takes expected.Term kind.Name = true
-takes (expected.AfterName p) k = follows_name p k
-takes (expected.AfterTerm p) k = follows_term p k
-takes e k = false
+-- which signs are expected
+abbrev pub takes : Expected → Sign → Bool
+takes expected.Item (Plain kind.Type) = true
+takes expected.Item (Plain kind.Symbol) = true
+takes expected.Item (Plain kind.Rule) = true
+takes expected.Item (Plain kind.Net) = true
+takes expected.TypeName (Named n) = true
+takes expected.TypeEnd (Plain kind.Comma) = true
+takes expected.TypeEnd (Plain kind.Semicolon) = true
+takes expected.SymbolName (Named n) = true
+takes expected.Colon (Plain kind.Colon) = true
+takes expected.PortType (Named n) = true
+takes expected.PortSign (Plain kind.Plus) = true
+takes expected.PortSign (Plain kind.Minus) = true
+takes expected.SymbolEnd (Plain kind.OpenBrace) = true
+takes expected.SymbolEnd (Plain kind.Semicolon) = true
+takes expected.ClassEnd (Plain kind.Comma) = true
+takes expected.ClassEnd (Plain kind.CloseBrace) = true
+takes expected.HeadName (Named n) = true
+takes expected.HeadOpen (Plain kind.OpenBracket) = true
+takes expected.HeadFirst (Named n) = true
+takes expected.HeadFirst (Plain kind.CloseBracket) = true
+takes expected.Meets (Plain kind.Meets) = true
+takes expected.RuleEnd (Plain kind.Semicolon) = true
+takes expected.RuleEnd (Named n) = is_with n
+takes expected.RuleClose (Plain kind.Semicolon) = true
+takes expected.NetOpen (Plain kind.OpenParenthesis) = true
+takes expected.FreeFirst (Named n) = true
+takes expected.FreeFirst (Plain kind.CloseParenthesis) = true
+takes expected.FreeName (Named n) = true
+takes expected.FreeEnd (Plain kind.Comma) = true
+takes expected.FreeEnd (Plain kind.CloseParenthesis) = true
+takes expected.BodyOpen (Plain kind.OpenBrace) = true
+takes expected.Equation (Named n) = true
+takes expected.Equation (Plain kind.CloseBrace) = true
+takes expected.Term (Named n) = true
+takes (expected.AfterName p) x = follows_name p x
+takes (expected.AfterTerm p) x = follows_term p x
+takes e x = false
 
 -- ---- sorts of names
 
 -- where in a program signs end, by the sort of a name that may come: between items, where none does; in a list of types; after the word
--- `symbol`; in a symbol's ports; before and in a head; before a free end and in its port; and in the equations of the net
+-- `symbol`; in a symbol's ports; before and in a head; before a free end and in its port; in the equations of a rule or of the net, and after them
 pub data Section : Type 0 where
-  between types symbol ports head terms free free_port body : Section
+  between types symbol ports head terms free free_port body after_body : Section
 
 -- where they end with one sign more
 abbrev pub further : Section → Sign → Section
@@ -90,6 +92,9 @@ further ports (Plain kind.Semicolon) = between
 further head x = terms
 further terms (Plain kind.Meets) = head
 further terms (Plain kind.Semicolon) = between
+further terms (Plain kind.OpenBrace) = body
+further body (Plain kind.CloseBrace) = after_body
+further after_body (Plain kind.Semicolon) = between
 further free (Plain kind.Colon) = free_port
 further free (Plain kind.OpenBrace) = body
 further free_port (Plain kind.Comma) = free
@@ -113,6 +118,7 @@ IsAt expected.HeadName s = s ≡ head
 IsAt expected.FreeName s = s ≡ free
 IsAt expected.Term s = (s ≡ terms) ⊎ (s ≡ body)
 IsAt expected.RuleEnd s = s ≡ terms
+IsAt expected.RuleClose s = s ≡ after_body
 IsAt expected.FreeEnd s = s ≡ free_port
 IsAt (expected.AfterTerm part.Right) s = s ≡ body
 IsAt (expected.AfterTerm part.Agent) s = (s ≡ terms) ⊎ (s ≡ body)
@@ -122,7 +128,7 @@ IsAt _ s = Unit {0}
 
 -- after these signs: just the tokens that are expected go on with some program, wherever they stand, and names are of the sort of this section
 pub record IsExpected (text : List ℕ) (front : List Sign) (e : Expected) : Type 0 where
-  pub tokens : (t : Token) → IsTrue (takes e t.kind) ↔ Begins (front ++ sign_of text t ∷ [])
+  pub tokens : (t : Token) → IsTrue (takes e (sign_of text t)) ↔ Begins (front ++ sign_of text t ∷ [])
   pub sort : IsAt e (section front)
 
 -- what is noted of tokens: nothing more where they are a program, and at a fault what is expected after the signs before it

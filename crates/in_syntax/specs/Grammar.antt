@@ -1,6 +1,9 @@
 -- The grammar of programs, as the spelling of their trees: Lafont's language (1990), in signs and with limits of this project's own choice.
-use Rattle.std.specs.Prelude.{ℕ, ◌+◌, ◌<◌, Bool, false, cond, nat_lt, List, [], ◌∷◌, ◌++◌, length, map}
+-- That a rule may have equations of its own, as the net has, is this project's own choice too.
+use Rattle.std.specs.Prelude.{ℕ, ◌+◌, ◌<◌, Bool, false, cond, nat_lt, List, [], ◌∷◌, ◌++◌, length, map, Option, Some, None, codes, ◌≡◌}
 use Rattle.std.specs.List.{flat_map, AllByRecursion}
+use Rattle.std.specs.Str.{bytes_eq}
+use Rattle.in_syntax.specs.declared.places.Place.{Place}
 use Rattle.in_syntax.specs.declared.counts.Counts.{Counts}
 use Rattle.in_syntax.specs.declared.tree.Name.{Name}
 use Rattle.in_syntax.specs.declared.tree.SourcePort.{SourcePort}
@@ -127,10 +130,33 @@ spell_outermost t = spell_term t 1
 abbrev pub spell_head : Head → List Marked
 spell_head h = named h.name ∷ plain kind.OpenBracket ∷ separated (map spell_outermost h.terms) ++ plain kind.CloseBracket ∷ []
 
--- "rule" head "><" head ";", of a rule by its number: the word of the 4,097th and of later ones passes the limit
-abbrev pub spell_rule : ℕ → SourceRule → List Marked
-spell_rule number r =
-    marked (nat_lt max_rules number) (Plain kind.Rule) ∷ spell_head r.first ++ plain kind.Meets ∷ spell_head r.second ++ plain kind.Semicolon ∷ []
+-- the word before the equations of a rule. It isn't reserved: after the heads of a rule it is this word, elsewhere a name as any other
+abbrev pub with_word : List ℕ
+with_word = codes "with"
+
+-- whether a name is that word
+abbrev pub is_with : Name → Bool
+is_with n = bytes_eq n.text with_word
+
+-- the word at a place
+abbrev pub word_at : Place → Name
+word_at p = record { text = with_word; place = p }
+
+-- [ "with" "{" (term "~" term ";")* "}" ]: the place of the word is given, where it is written
+abbrev pub spell_with : Option Place → List Equation → List Marked
+spell_with None es = []
+spell_with (Some p) es = named (word_at p) ∷ plain kind.OpenBrace ∷ (flat_map spell_equation es ++ plain kind.CloseBrace ∷ [])
+
+-- there are equations only after that word
+abbrev pub StandAfterWord : Option Place → List Equation → Type 0
+StandAfterWord None es = es ≡ []
+StandAfterWord (Some p) es = Unit {0}
+
+-- "rule" head "><" head [ "with" .. ] ";", of a rule by its number: the word `rule` of the 4,097th and of later ones passes the limit
+abbrev pub spell_rule : ℕ → Option Place → SourceRule → List Marked
+spell_rule number w r =
+    marked (nat_lt max_rules number) (Plain kind.Rule)
+    ∷ (((spell_head r.first ++ plain kind.Meets ∷ spell_head r.second) ++ spell_with w r.equations) ++ plain kind.Semicolon ∷ [])
 
 -- free = name ":" port, by its number: the name of the 257th and of later ones passes the limit
 abbrev pub spell_free : ℕ → SourceFree → List Marked
@@ -147,7 +173,8 @@ spell_net n =
 pub data Item : Type 0 where
   types : List Name → Item
   symbol : SourceSymbol → Item
-  rule : SourceRule → Item
+  -- with the place of its word `with`, if it has one
+  rule : Option Place → SourceRule → Item
 
 -- nothing is declared yet
 abbrev pub none_yet : Counts
@@ -157,24 +184,24 @@ none_yet = record { types = 0; symbols = 0; rules = 0 }
 abbrev pub counted : Counts → Item → Counts
 counted c (types names) = record { types = c.types + length names; symbols = c.symbols; rules = c.rules }
 counted c (symbol s) = record { types = c.types; symbols = c.symbols + 1; rules = c.rules }
-counted c (rule r) = record { types = c.types; symbols = c.symbols; rules = c.rules + 1 }
+counted c (rule w r) = record { types = c.types; symbols = c.symbols; rules = c.rules + 1 }
 
 -- item = "type" .. | "symbol" .. | "rule" .., where so much is declared before it
 abbrev pub spell_item : Counts → Item → List Marked
 spell_item c (types names) = spell_types (c.types + 1) names
 spell_item c (symbol s) = spell_symbol (c.symbols + 1) s
-spell_item c (rule r) = spell_rule (c.rules + 1) r
+spell_item c (rule w r) = spell_rule (c.rules + 1) w r
 
 -- item*
 abbrev pub spell_items : Counts → List Item → List Marked
 spell_items c [] = []
 spell_items c (i ∷ more) = spell_item c i ++ spell_items (counted c i) more
 
--- a list that the grammar writes with one element at least has one
+-- a list that the grammar writes with one element at least has one, and a rule has equations only after the word for them
 abbrev pub IsItem : Item → Type 0
 IsItem (types names) = 0 < length names
 IsItem (symbol s) = AllByRecursion (λ c. 0 < length c) s.classes
-IsItem (rule r) = Unit {0}
+IsItem (rule w r) = StandAfterWord w r.equations
 
 -- program = item* net
 pub record Program : Type 0 where
@@ -190,19 +217,19 @@ spelling p = spell_items none_yet p.items ++ spell_net p.net
 abbrev pub types_in : Item → List Name
 types_in (types names) = names
 types_in (symbol s) = []
-types_in (rule r) = []
+types_in (rule w r) = []
 
 -- the symbol that an item declares
 abbrev pub symbols_in : Item → List SourceSymbol
 symbols_in (types names) = []
 symbols_in (symbol s) = s ∷ []
-symbols_in (rule r) = []
+symbols_in (rule w r) = []
 
 -- the rule that an item is
 abbrev pub rules_in : Item → List SourceRule
 rules_in (types names) = []
 rules_in (symbol s) = []
-rules_in (rule r) = r ∷ []
+rules_in (rule w r) = r ∷ []
 
 -- the tree, which gathers the types, the symbols and the rules, each in the order of the text
 abbrev pub source_of : Program → Source

@@ -34,9 +34,13 @@ IsInOrder n = Rises (flat_map equation_places n.equations)
 abbrev pub head_places : Head → List Place
 head_places h = h.name.place ∷ flat_map term_places h.terms
 
--- the names of a rule stand one after another, as they are listed
+-- the names and the ~ of a rule
+abbrev pub rule_places : SourceRule → List Place
+rule_places r = (head_places r.first ++ head_places r.second) ++ flat_map equation_places r.equations
+
+-- they stand one after another, as they are listed
 abbrev pub IsRuleInOrder : SourceRule → Type 0
-IsRuleInOrder r = Rises (head_places r.first ++ head_places r.second)
+IsRuleInOrder r = Rises (rule_places r)
 
 -- the names and the ~ of each rule and of the net do
 pub record IsWrittenInOrder (s : Source) : Type 0 where
@@ -52,10 +56,6 @@ BeginApart ps = (p q : Place) → IsAmong p ps → IsAmong q ps → p.from ≡ q
 -- a declared symbol's name, and the names of its ports' types
 abbrev pub symbol_places : SourceSymbol → List Place
 symbol_places d = d.name.place ∷ d.port.kind.place ∷ flat_map (λ c. map (λ q. q.kind.place) c) d.classes
-
--- the names of a rule
-abbrev pub rule_places : SourceRule → List Place
-rule_places r = head_places r.first ++ head_places r.second
 
 -- a free name, and its type's name
 abbrev pub free_places : SourceFree → List Place

@@ -30,7 +30,7 @@ abbrev pub names_in_head : Head → ℕ
 names_in_head h = total (map names_in h.terms) + 1
 
 abbrev pub names_in_rule : SourceRule → ℕ
-names_in_rule r = names_in_head r.first + names_in_head r.second
+names_in_rule r = (names_in_head r.first + names_in_head r.second) + names_in_equations r.equations
 
 abbrev pub names_in_rules : List SourceRule → ℕ
 names_in_rules rs = total (map names_in_rule rs)

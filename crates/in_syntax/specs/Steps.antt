@@ -20,6 +20,7 @@ use Rattle.in_syntax.specs.declared.tree.SourceFree.{SourceFree}
 use Rattle.in_syntax.specs.declared.tree.SourceNet.{SourceNet}
 use Rattle.in_syntax.specs.declared.tree.Source.{Source}
 use Rattle.in_syntax.specs.declared.tree.Term.{Term}
+use Rattle.in_syntax.specs.declared.tree.Equation.{Equation}
 use Rattle.in_syntax.specs.declared.states.State.{State}
 use Rattle.in_syntax.specs.declared.states.State.TheVariants as state
 use Rattle.in_syntax.specs.declared.states.PortOf.{PortOf}
@@ -29,6 +30,8 @@ use Rattle.in_syntax.specs.declared.states.HeadOf.TheVariants.{First, Second}
 use Rattle.in_syntax.specs.declared.states.TermOf.{TermOf}
 use Rattle.in_syntax.specs.declared.states.TermOf.TheVariants.{Left, Right, Inside}
 use Rattle.in_syntax.specs.declared.states.Nest.{Nest}
+use Rattle.in_syntax.specs.declared.states.Body.{Body}
+use Rattle.in_syntax.specs.declared.states.Body.TheVariants as body
 use Rattle.in_syntax.specs.declared.expecting.Expected.{Expected}
 use Rattle.in_syntax.specs.declared.expecting.Expected.TheVariants as expected
 use Rattle.in_syntax.specs.declared.expecting.Part.{Part}
@@ -36,8 +39,8 @@ use Rattle.in_syntax.specs.declared.expecting.Part.TheVariants as part
 use Rattle.in_syntax.specs.declared.machine.Move.{Move}
 use Rattle.in_syntax.specs.declared.machine.Move.TheVariants as move
 use Rattle.in_syntax.specs.declared.reader.Reader.{Reader}
-use Rattle.in_syntax.specs.Grammar.{max_types, max_symbols, max_rules, max_free, max_ports, max_depth}
-use Rattle.in_syntax.specs.Trees.{bare, bare_head, with_argument, with_class, with_equation, with_term}
+use Rattle.in_syntax.specs.Grammar.{max_types, max_symbols, max_rules, max_free, max_ports, max_depth, is_with}
+use Rattle.in_syntax.specs.Trees.{bare, bare_head, bare_rule, with_argument, with_class, with_equation, rule_with_equation, with_term}
 use Rattle.in_syntax.specs.Programs.{signs_of, place_at}
 
 -- what a sign leads to, by the grammar alone
@@ -121,10 +124,24 @@ at_head_first o n (Named m) = on (state.TermOpen (record { of = Inside o (bare_h
 at_head_first o n (Plain kind.CloseBracket) = on (state.HeadEnd o (bare_head n))
 at_head_first o n _ = stuck
 
+-- at a name after the heads of a rule, which has to be the word `with`
+abbrev pub at_with : Head → Head → Place → Bool → Step
+at_with f h p true = on (state.RuleOpen f h p)
+at_with f h p false = stuck
+
 abbrev pub at_head_end : HeadOf → Head → Sign → Step
 at_head_end First h (Plain kind.Meets) = on (state.HeadName (Second h))
-at_head_end (Second f) h (Plain kind.Semicolon) = adds_rule (record { first = f; second = h })
+at_head_end (Second f) h (Plain kind.Semicolon) = adds_rule (bare_rule f h)
+at_head_end (Second f) h (Named n) = at_with f h n.place (is_with n)
 at_head_end _ h _ = stuck
+
+abbrev pub at_rule_open : Head → Head → Place → Sign → Step
+at_rule_open f h p (Plain kind.OpenBrace) = on (state.Equation (body.Rule (bare_rule f h) p))
+at_rule_open f h p _ = stuck
+
+abbrev pub at_rule_close : SourceRule → Sign → Step
+at_rule_close y (Plain kind.Semicolon) = adds_rule y
+at_rule_close y _ = stuck
 
 abbrev pub at_net_open : Sign → Step
 at_net_open (Plain kind.OpenParenthesis) = on state.FreeFirst
@@ -149,13 +166,18 @@ at_free_end fs (Plain kind.CloseParenthesis) = on (state.BodyOpen fs)
 at_free_end fs _ = stuck
 
 abbrev pub at_body_open : List SourceFree → Sign → Step
-at_body_open fs (Plain kind.OpenBrace) = on (state.Equation (record { free = fs; equations = [] }))
+at_body_open fs (Plain kind.OpenBrace) = on (state.Equation (body.Net (record { free = fs; equations = [] })))
 at_body_open fs _ = stuck
 
-abbrev pub at_equation : SourceNet → Sign → Step
-at_equation n (Named m) = on (state.TermOpen (record { of = Left n; around = [] }) m)
-at_equation n (Plain kind.CloseBrace) = on (state.Done n)
-at_equation n _ = stuck
+-- after the `}` of the equations
+abbrev pub after_equations : Body → State
+after_equations (body.Net n) = state.Done n
+after_equations (body.Rule y p) = state.RuleClose y p
+
+abbrev pub at_equation : Body → Sign → Step
+at_equation b (Named m) = on (state.TermOpen (record { of = Left b; around = [] }) m)
+at_equation b (Plain kind.CloseBrace) = on (after_equations b)
+at_equation b _ = stuck
 
 abbrev pub at_term_name : Nest → Sign → Step
 at_term_name b (Named n) = goes (nat_lt max_depth (length b.around + 1)) (state.TermOpen b n)
@@ -168,13 +190,18 @@ after_argument o around outer t (Plain kind.CloseParenthesis) =
     on (state.TermEnd (record { of = o; around = around }) (with_argument outer t))
 after_argument o around outer t _ = stuck
 
-abbrev pub after_left : SourceNet → Term → Sign → Step
-after_left n t (Tilde p) = on (state.TermName (record { of = Right n t p; around = [] }))
-after_left n t _ = stuck
+abbrev pub after_left : Body → Term → Sign → Step
+after_left b t (Tilde p) = on (state.TermName (record { of = Right b t p; around = [] }))
+after_left b t _ = stuck
 
-abbrev pub after_right : SourceNet → Term → Place → Term → Sign → Step
-after_right n l p t (Plain kind.Semicolon) = on (state.Equation (with_equation n (record { left = l; tilde = p; right = t })))
-after_right n l p t _ = stuck
+-- one more equation
+abbrev pub body_with : Body → Equation → Body
+body_with (body.Net n) e = body.Net (with_equation n e)
+body_with (body.Rule y p) e = body.Rule (rule_with_equation y e) p
+
+abbrev pub after_right : Body → Term → Place → Term → Sign → Step
+after_right b l p t (Plain kind.Semicolon) = on (state.Equation (body_with b (record { left = l; tilde = p; right = t })))
+after_right b l p t _ = stuck
 
 abbrev pub after_head_term : HeadOf → Head → Term → Sign → Step
 after_head_term o h t (Plain kind.Comma) = on (state.TermName (record { of = Inside o (with_term h t); around = [] }))
@@ -182,8 +209,8 @@ after_head_term o h t (Plain kind.CloseBracket) = on (state.HeadEnd o (with_term
 after_head_term o h t _ = stuck
 
 abbrev pub after_outermost : TermOf → Term → Sign → Step
-after_outermost (Left n) t x = after_left n t x
-after_outermost (Right n l p) t x = after_right n l p t x
+after_outermost (Left b) t x = after_left b t x
+after_outermost (Right b l p) t x = after_right b l p t x
 after_outermost (Inside o h) t x = after_head_term o h t x
 
 abbrev pub after_term : TermOf → List Term → Term → Sign → Step
@@ -211,13 +238,15 @@ step c (state.HeadName o) x = at_head_name o x
 step c (state.HeadOpen o n) x = at_head_open o n x
 step c (state.HeadFirst o n) x = at_head_first o n x
 step c (state.HeadEnd o h) x = at_head_end o h x
+step c (state.RuleOpen f h p) x = at_rule_open f h p x
+step c (state.RuleClose y p) x = at_rule_close y x
 step c state.NetOpen x = at_net_open x
 step c state.FreeFirst x = at_free_first x
 step c (state.FreeName fs) x = at_free_name fs x
 step c (state.FreeColon fs n) x = at_free_colon fs n x
 step c (state.FreeEnd fs) x = at_free_end fs x
 step c (state.BodyOpen fs) x = at_body_open fs x
-step c (state.Equation n) x = at_equation n x
+step c (state.Equation b) x = at_equation b x
 step c (state.TermName b) x = at_term_name b x
 step c (state.TermOpen b n) x = at_term_open b n x
 step c (state.TermEnd b t) x = at_term_end b t x
@@ -321,8 +350,8 @@ Gives text tokens end (Err (Memory e)) = Unit {0}
 
 -- what a term is a part of
 abbrev pub outermost_part : TermOf → Part
-outermost_part (Left n) = part.Left
-outermost_part (Right n l p) = part.Right
+outermost_part (Left b) = part.Left
+outermost_part (Right b l p) = part.Right
 outermost_part (Inside o h) = part.Head
 
 abbrev pub part_within : TermOf → List Term → Part
@@ -350,13 +379,15 @@ expected_in (state.HeadName o) = expected.HeadName
 expected_in (state.HeadOpen o n) = expected.HeadOpen
 expected_in (state.HeadFirst o n) = expected.HeadFirst
 expected_in (state.HeadEnd o h) = head_end o
+expected_in (state.RuleOpen f h p) = expected.BodyOpen
+expected_in (state.RuleClose y p) = expected.RuleClose
 expected_in state.NetOpen = expected.NetOpen
 expected_in state.FreeFirst = expected.FreeFirst
 expected_in (state.FreeName fs) = expected.FreeName
 expected_in (state.FreeColon fs n) = expected.Colon
 expected_in (state.FreeEnd fs) = expected.FreeEnd
 expected_in (state.BodyOpen fs) = expected.BodyOpen
-expected_in (state.Equation n) = expected.Equation
+expected_in (state.Equation b) = expected.Equation
 expected_in (state.TermName b) = expected.Term
 expected_in (state.TermOpen b n) = expected.AfterName (part_of b)
 expected_in (state.TermEnd b t) = expected.AfterTerm (part_of b)

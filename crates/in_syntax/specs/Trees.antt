@@ -4,6 +4,7 @@ use Rattle.in_syntax.specs.declared.tree.Name.{Name}
 use Rattle.in_syntax.specs.declared.tree.SourcePort.{SourcePort}
 use Rattle.in_syntax.specs.declared.tree.SourceSymbol.{SourceSymbol}
 use Rattle.in_syntax.specs.declared.tree.SourceNet.{SourceNet}
+use Rattle.in_syntax.specs.declared.tree.SourceRule.{SourceRule}
 use Rattle.in_syntax.specs.declared.tree.Equation.{Equation}
 use Rattle.in_syntax.specs.declared.tree.Head.{Head}
 use Rattle.in_syntax.specs.declared.tree.Term.{Term, out-Term, roll-Term}
@@ -28,6 +29,13 @@ with_term h t = record { name = h.name; terms = h.terms ++ t ∷ [] }
 abbrev pub with_class : SourceSymbol → List SourcePort → SourceSymbol
 with_class s c = record { name = s.name; port = s.port; classes = s.classes ++ c ∷ [] }
 
--- one more equation
+-- a rule without equations
+abbrev pub bare_rule : Head → Head → SourceRule
+bare_rule f h = record { first = f; second = h; equations = [] }
+
+-- one more equation, of the net or of a rule
 abbrev pub with_equation : SourceNet → Equation → SourceNet
 with_equation n e = record { free = n.free; equations = n.equations ++ e ∷ [] }
+
+abbrev pub rule_with_equation : SourceRule → Equation → SourceRule
+rule_with_equation r e = record { first = r.first; second = r.second; equations = r.equations ++ e ∷ [] }

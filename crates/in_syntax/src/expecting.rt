@@ -46,8 +46,10 @@ pub enum Expected {
     HeadFirst,
     /// `><`
     Meets,
-    /// `;` after a rule.
+    /// `;`, or the word `with`, after the heads of a rule.
     RuleEnd,
+    /// `;` after the `}` of a rule's equations.
+    RuleClose,
     /// `(` after `net`.
     NetOpen,
     /// The name of a free end, or `)`.
@@ -103,6 +105,8 @@ pub fn expected_in(state: &State) -> Expected
         State::HeadFirst(..) => Expected::HeadFirst,
         State::HeadEnd(HeadOf::First, _) => Expected::Meets,
         State::HeadEnd(HeadOf::Second(_), _) => Expected::RuleEnd,
+        State::RuleOpen(..) => Expected::BodyOpen,
+        State::RuleClose(..) => Expected::RuleClose,
         State::NetOpen => Expected::NetOpen,
         State::FreeFirst => Expected::FreeFirst,
         State::FreeName(_) => Expected::FreeName,

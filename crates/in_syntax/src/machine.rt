@@ -1,6 +1,7 @@
 ghost use Rattle.std.specs.Prelude.{◌≡◌, [], ◌∷◌, IfOk};
 ghost use Rattle.in_syntax.specs.Steps as steps;
 ghost use Rattle.in_syntax.specs.Steps.{move_of};
+ghost use Rattle.in_syntax.specs.Grammar as grammar;
 ghost use Rattle.in_syntax.specs.Trees.{with_argument};
 
 use crate::counts::Counts;
@@ -9,7 +10,8 @@ use crate::places::Place;
 use crate::signs::Sign;
 use crate::stack::Stack;
 use crate::states::{
-    HeadOf, Nest, PortOf, State, TermOf, put_away_head, put_away_nest, put_away_port, put_away_term,
+    Body, HeadOf, Nest, PortOf, State, TermOf, put_away_body, put_away_head, put_away_nest,
+    put_away_port, put_away_term,
 };
 use crate::tree::{
     Equation, Equations, Head, Name, Names, SourceClass, SourceClasses, SourceFree, SourceFrees,
@@ -68,14 +70,16 @@ pub fn step(alloc: Global, counts: Counts, state: State, sign: Sign) -> Result<M
         State::HeadName(head_of) => Ok(at_head_name(head_of, sign)),
         State::HeadOpen(head_of, name) => Ok(at_head_open(head_of, name, sign)),
         State::HeadFirst(head_of, name) => Ok(at_head_first(alloc, head_of, name, sign)),
-        State::HeadEnd(head_of, head) => Ok(at_head_end(head_of, head, sign)),
+        State::HeadEnd(head_of, head) => Ok(at_head_end(alloc, head_of, head, sign)),
+        State::RuleOpen(first, second, word) => Ok(at_rule_open(alloc, first, second, word, sign)),
+        State::RuleClose(rule, _) => Ok(at_rule_close(rule, sign)),
         State::NetOpen => Ok(at_net_open(sign)),
         State::FreeFirst => Ok(at_free_first(alloc, sign)),
         State::FreeName(frees) => Ok(at_free_name(frees, sign)),
         State::FreeColon(frees, name) => Ok(at_free_colon(frees, name, sign)),
         State::FreeEnd(frees) => Ok(at_free_end(frees, sign)),
         State::BodyOpen(frees) => Ok(at_body_open(alloc, frees, sign)),
-        State::Equation(net) => Ok(at_equation(alloc, net, sign)),
+        State::Equation(body) => Ok(at_equation(alloc, body, sign)),
         State::TermName(nest) => Ok(at_term_name(nest, sign)),
         State::TermOpen(nest, name) => at_term_open(alloc, nest, name, sign),
         State::TermEnd(nest, term) => at_term_end(nest, term, sign),
@@ -276,7 +280,7 @@ fn at_head_first(alloc: Global, head_of: HeadOf, name: Name, sign: Sign) -> Move
     }
 }
 
-fn at_head_end(head_of: HeadOf, head: Head, sign: Sign) -> Move
+fn at_head_end(alloc: Global, head_of: HeadOf, head: Head, sign: Sign) -> Move
     ensures { result ≡ move_of (steps.at_head_end head_of head sign) }
 {
     match (head_of, sign) {
@@ -284,11 +288,47 @@ fn at_head_end(head_of: HeadOf, head: Head, sign: Sign) -> Move
             Move::Goes(State::HeadName(HeadOf::Second(head)))
         }
         (HeadOf::Second(first), Sign::Plain(TokenKind::Semicolon)) => {
-            Move::Rule(SourceRule {
-                first,
-                second: head,
-            })
+            Move::Rule(SourceRule::bare(alloc, first, head))
         }
+        (HeadOf::Second(first), Sign::Named(name)) => at_with(first, head, name),
+        _ => Move::Refuses(Code::E02),
+    }
+}
+
+// Whether a name is the word before the equations of a rule.
+fn is_with(name: &Name) -> bool
+    ensures { result ≡ grammar.is_with name.now }
+{
+    name.text.as_str() == "with"
+}
+
+fn at_with(first: Head, second: Head, name: Name) -> Move
+    ensures { result ≡ move_of (steps.at_with first second name.place (grammar.is_with name)) }
+{
+    if is_with(&name) {
+        Move::Goes(State::RuleOpen(first, second, name.place))
+    } else {
+        Move::Refuses(Code::E02)
+    }
+}
+
+fn at_rule_open(alloc: Global, first: Head, second: Head, word: Place, sign: Sign) -> Move
+    ensures { result ≡ move_of (steps.at_rule_open first second word sign) }
+{
+    match sign {
+        Sign::Plain(TokenKind::OpenBrace) => {
+            let rule = SourceRule::bare(alloc, first, second);
+            Move::Goes(State::Equation(Body::Rule(rule, word)))
+        }
+        _ => Move::Refuses(Code::E02),
+    }
+}
+
+fn at_rule_close(rule: SourceRule, sign: Sign) -> Move
+    ensures { result ≡ move_of (steps.at_rule_close rule sign) }
+{
+    match sign {
+        Sign::Plain(TokenKind::Semicolon) => Move::Rule(rule),
         _ => Move::Refuses(Code::E02),
     }
 }
@@ -354,23 +394,36 @@ fn at_body_open(alloc: Global, free: SourceFrees, sign: Sign) -> Move
     match sign {
         Sign::Plain(TokenKind::OpenBrace) => {
             let equations = Equations::new(alloc);
-            Move::Goes(State::Equation(SourceNet { free, equations }))
+            Move::Goes(State::Equation(Body::Net(SourceNet { free, equations })))
         }
         _ => Move::Refuses(Code::E02),
     }
 }
 
-fn at_equation(alloc: Global, net: SourceNet, sign: Sign) -> Move
-    ensures { result ≡ move_of (steps.at_equation net sign) }
+fn at_equation(alloc: Global, body: Body, sign: Sign) -> Move
+    ensures { result ≡ move_of (steps.at_equation body sign) }
 {
     match sign {
         Sign::Named(name) => {
-            let of = TermOf::Left(net);
+            let of = TermOf::Left(body);
             let around = Stack::new(alloc);
             Move::Goes(State::TermOpen(Nest { of, around }, name))
         }
-        Sign::Plain(TokenKind::CloseBrace) => Move::Goes(State::Done(net)),
-        _ => Move::Refuses(Code::E02),
+        Sign::Plain(TokenKind::CloseBrace) => Move::Goes(after_equations(body)),
+        _ => {
+            put_away_body(body);
+            Move::Refuses(Code::E02)
+        }
+    }
+}
+
+// After the `}` of the equations.
+fn after_equations(body: Body) -> State
+    ensures { result ≡ steps.after_equations body }
+{
+    match body {
+        Body::Net(net) => State::Done(net),
+        Body::Rule(rule, word) => State::RuleClose(rule, word),
     }
 }
 
@@ -473,40 +526,56 @@ fn after_outermost(of: TermOf, around: Stack, term: Term, sign: Sign) -> Result<
     ensures { IfOk result (λ m. m ≡ move_of (steps.after_outermost of term sign)) }
 {
     match of {
-        TermOf::Left(net) => Ok(after_left(net, around, term, sign)),
-        TermOf::Right(net, left, tilde) => after_right(net, left, tilde, term, sign),
+        TermOf::Left(body) => Ok(after_left(body, around, term, sign)),
+        TermOf::Right(body, left, tilde) => after_right(body, left, tilde, term, sign),
         TermOf::Inside(head_of, head) => after_head_term(head_of, head, around, term, sign),
     }
 }
 
-fn after_left(net: SourceNet, around: Stack, term: Term, sign: Sign) -> Move
+fn after_left(body: Body, around: Stack, term: Term, sign: Sign) -> Move
     requires { around ≡ [] }
-    ensures { result ≡ move_of (steps.after_left net term sign) }
+    ensures { result ≡ move_of (steps.after_left body term sign) }
 {
     match sign {
         Sign::Tilde(tilde) => {
-            let of = TermOf::Right(net, term, tilde);
+            let of = TermOf::Right(body, term, tilde);
             Move::Goes(State::TermName(Nest { of, around }))
         }
-        _ => Move::Refuses(Code::E02),
+        _ => {
+            put_away_body(body);
+            Move::Refuses(Code::E02)
+        }
     }
 }
 
 fn after_right(
-    net: SourceNet,
+    body: Body,
     left: Term,
     tilde: Place,
     right: Term,
     sign: Sign,
 ) -> Result<Move, AllocError>
-    ensures { IfOk result (λ m. m ≡ move_of (steps.after_right net left tilde right sign)) }
+    ensures { IfOk result (λ m. m ≡ move_of (steps.after_right body left tilde right sign)) }
 {
     match sign {
         Sign::Plain(TokenKind::Semicolon) => {
             let equation = Equation { left, tilde, right };
-            Ok(Move::Goes(State::Equation(net.with_equation(equation)?)))
+            Ok(Move::Goes(State::Equation(body_with(body, equation)?)))
         }
-        _ => Ok(Move::Refuses(Code::E02)),
+        _ => {
+            put_away_body(body);
+            Ok(Move::Refuses(Code::E02))
+        }
+    }
+}
+
+// The equations with one more.
+fn body_with(body: Body, equation: Equation) -> Result<Body, AllocError>
+    ensures { IfOk result (λ b. b ≡ steps.body_with body equation) }
+{
+    match body {
+        Body::Net(net) => Ok(Body::Net(net.with_equation(equation)?)),
+        Body::Rule(rule, word) => Ok(Body::Rule(rule.with_equation(equation)?, word)),
     }
 }
 

@@ -22,7 +22,8 @@ use std::alloc::Global;
 ///   has depth 1, an argument one more than its agent. All limits are this project's own choice.
 ///
 /// Its other error is want of memory. The language is that of Lafont 1990: types, symbols with partitions, rules of two
-/// heads, agents and equations between terms, in signs of this project's own choice.
+/// heads, agents and equations between terms, in signs of this project's own choice. So are the equations of a rule, which
+/// stand after its heads and the word `with`; elsewhere that word is a name.
 pub fn parse(alloc: Global, text: &[u8]) -> Result<Source, Fault>
     ensures tree { Parses text.now result }
     ensures of_text { IfOk result IsOfText }

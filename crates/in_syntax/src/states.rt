@@ -1,6 +1,8 @@
 use crate::places::Place;
 use crate::stack::Stack;
-use crate::tree::{Head, Name, Names, SourceClass, SourceFrees, SourceNet, SourceSymbol, Term};
+use crate::tree::{
+    Head, Name, Names, SourceClass, SourceFrees, SourceNet, SourceRule, SourceSymbol, Term,
+};
 
 /// What a port's type is written for.
 #[derive(Drop)]
@@ -22,13 +24,22 @@ pub enum HeadOf {
     Second(Head),
 }
 
+/// What equations are written for, with those so far.
+#[derive(Drop)]
+pub enum Body {
+    /// The net.
+    Net(SourceNet),
+    /// A rule, with the place of its word `with`.
+    Rule(SourceRule, Place),
+}
+
 /// What a term is written for.
 #[derive(Drop)]
 pub enum TermOf {
-    /// The left side of an equation, after the net so far.
-    Left(SourceNet),
-    /// The right side of an equation, after the net so far, the left side and the `~`.
-    Right(SourceNet, Term, Place),
+    /// The left side of an equation, after those so far.
+    Left(Body),
+    /// The right side of an equation, after those so far, the left side and the `~`.
+    Right(Body, Term, Place),
     /// A head, after its terms so far.
     Inside(HeadOf, Head),
 }
@@ -69,6 +80,10 @@ pub enum State {
     HeadFirst(HeadOf, Name),
     /// After a head's `]`.
     HeadEnd(HeadOf, Head),
+    /// After the word `with` of a rule of these heads, with its place.
+    RuleOpen(Head, Head, Place),
+    /// After the `}` of a rule's equations, with the place of its word `with`.
+    RuleClose(SourceRule, Place),
     /// After `net`.
     NetOpen,
     /// After the `(` of the free names.
@@ -81,8 +96,8 @@ pub enum State {
     FreeEnd(SourceFrees),
     /// After the `)` of the free names.
     BodyOpen(SourceFrees),
-    /// An equation begins, or the net ends.
-    Equation(SourceNet),
+    /// An equation begins, or there are no more.
+    Equation(Body),
     /// A term comes.
     TermName(Nest),
     /// After a term's name.
@@ -99,10 +114,12 @@ pub fn put_away_port(_of: PortOf) {}
 
 pub fn put_away_head(_of: HeadOf) {}
 
+pub fn put_away_body(_body: Body) {}
+
 pub fn put_away_term(of: TermOf) {
     match of {
-        TermOf::Left(_net) => {}
-        TermOf::Right(_net, _left, _) => {}
+        TermOf::Left(body) => put_away_body(body),
+        TermOf::Right(body, _left, _) => put_away_body(body),
         TermOf::Inside(of, _head) => put_away_head(of),
     }
 }
@@ -127,9 +144,12 @@ pub fn put_away(state: State) {
         State::HeadName(of) => put_away_head(of),
         State::HeadOpen(of, _name) | State::HeadFirst(of, _name) => put_away_head(of),
         State::HeadEnd(of, _head) => put_away_head(of),
+        State::RuleOpen(_first, _second, _) => {}
+        State::RuleClose(_rule, _) => {}
         State::FreeName(_frees) | State::FreeEnd(_frees) | State::BodyOpen(_frees) => {}
         State::FreeColon(_frees, _name) => {}
-        State::Equation(_net) | State::Done(_net) => {}
+        State::Equation(body) => put_away_body(body),
+        State::Done(_net) => {}
         State::TermName(nest) => put_away_nest(nest),
         State::TermOpen(nest, _name) => put_away_nest(nest),
         State::TermEnd(nest, _term) => put_away_nest(nest),

@@ -1,5 +1,5 @@
 ghost use Rattle.std.specs.Prelude.{◌≡◌, IfOk};
-ghost use Rattle.in_syntax.specs.Trees.{bare, bare_head, with_argument, with_class, with_equation, with_term};
+ghost use Rattle.in_syntax.specs.Trees.{bare, bare_head, bare_rule, with_argument, with_class, with_equation, rule_with_equation, with_term};
 
 use crate::places::Place;
 use crate::text::Text;
@@ -84,10 +84,11 @@ impl SourceSymbol {
     }
 }
 
-/// A rule as it is written: its two heads.
+/// A rule as it is written: its two heads, and the equations after its word `with`, if it has that word.
 pub struct SourceRule {
     pub first: Head,
     pub second: Head,
+    pub equations: Equations,
 }
 
 // By hand, so that each drop is a call, as with `Source`.
@@ -96,7 +97,29 @@ impl Drop for SourceRule {
         let SourceRule {
             first: _,
             second: _,
+            equations: _,
         } = self;
+    }
+}
+
+impl SourceRule {
+    /// A rule without equations.
+    pub(crate) fn bare(alloc: Global, first: Head, second: Head) -> SourceRule
+        ensures { result ≡ bare_rule first second }
+    {
+        SourceRule {
+            first,
+            second,
+            equations: Equations::new(alloc),
+        }
+    }
+
+    /// The rule with one more equation, at the end. Its only error is want of memory.
+    pub(crate) fn with_equation(mut self, equation: Equation) -> Result<SourceRule, AllocError>
+        ensures { IfOk result (λ t. t ≡ rule_with_equation self equation) }
+    {
+        self.equations.push(equation)?;
+        Ok(self)
     }
 }
 

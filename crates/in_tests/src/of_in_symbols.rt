@@ -134,6 +134,57 @@ fn each_fault_stands_at_its_name(rt: HostRuntime) {
     expect_refused(&rt, rt.alloc(), &FAULTS);
 }
 
+/// Programs with a name before `(` that is no symbol's, in an equation of a rule, and perhaps others.
+const FAULTS_IN_EQUATIONS: [(&str, Code, u32, u32, &str); 6] = [
+    (
+        "rule Z[] >< Add[y, y] with { F(Z) ~ Z; }; net () { }",
+        Code::E06,
+        5,
+        30,
+        "F",
+    ),
+    (
+        "rule Z[] >< Add[y, y] with { Z ~ S(F(Z)); }; net () { }",
+        Code::E06,
+        5,
+        36,
+        "F",
+    ),
+    (
+        "rule Z[] >< Add[y, y] with { x ~ x; Z ~ F(Z); }; net () { G(Z) ~ x; }",
+        Code::E06,
+        5,
+        41,
+        "F",
+    ),
+    (
+        "rule Z[] >< F[y] with { G(Z) ~ Z; }; net () { }",
+        Code::E06,
+        5,
+        13,
+        "F",
+    ),
+    (
+        "rule Z[] >< Add[y, y] with { F(Z) ~ Z; }; rule G[] >< Z[]; net () { }",
+        Code::E06,
+        5,
+        30,
+        "F",
+    ),
+    (
+        "symbol with : nat+; net (with : nat+) { }",
+        Code::E04,
+        5,
+        26,
+        "with",
+    ),
+];
+
+#[test]
+fn names_in_equations_of_rules_are_looked_up(rt: HostRuntime) {
+    expect_refused(&rt, rt.alloc(), &FAULTS_IN_EQUATIONS);
+}
+
 /// Programs with several faults, and the first of them.
 const SEVERAL_FAULTS: [(&str, Code, u32, u32, &str); 9] = [
     (
@@ -206,6 +257,8 @@ fn types_and_symbols_are_two_spaces_of_names(rt: HostRuntime) {
         "symbol nat : nat+; net (r : nat+) { }",
         "symbol K : bit+; type bit; net (bit : nat+) { F ~ K; }",
         "rule Late[nat] >< Add[bit, F]; symbol Late : nat+ {nat-}; net () { }",
+        "rule Z[] >< Add[y, y] with { F ~ nat; Late ~ Z; }; symbol Late : nat+; net (F : nat+) { }",
+        "symbol with : nat+; rule with[] >< Add[y, y] with { with ~ y; }; net (r : nat+) { r ~ with; }",
     ];
     expect_no_refusal(&rt, rt.alloc(), &rows);
 }

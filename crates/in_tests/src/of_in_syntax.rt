@@ -2,7 +2,8 @@
 
 use crate::reading::{LookAtTree, tree_refused, tree_seen};
 use in_syntax::{
-    Code, Equation, Head, Name, Place, Source, SourceFree, SourcePort, SourceSymbol, Term,
+    Code, Equation, Head, Name, Place, Source, SourceFree, SourceNet, SourcePort, SourceRule,
+    SourceSymbol, Term,
 };
 use std::alloc::{AllocError, Global};
 use std::process::Abort;
@@ -185,6 +186,80 @@ fn rules(rt: HostRuntime) -> Result<(), Fail> {
     Ok(())
 }
 
+/// Whether the first of three rules has the two equations, and the others have none.
+#[derive(Clone, Copy)]
+struct HasEquations<'a> {
+    text: &'a str,
+}
+
+impl LookAtTree<bool> for HasEquations<'_> {
+    fn look(&self, source: &Source) -> bool {
+        let rules = source.rules.as_slice();
+        rules.len() == 3
+            && is_head(&rules[0].second, "T", 1)
+            && are_the_equations(self.text, rules[0].equations.as_slice(), 13)
+            && rules[1].equations.is_empty()
+            && rules[2].equations.is_empty()
+            && source.net.equations.len() == 1
+    }
+}
+
+#[test]
+fn equations_of_rules(rt: HostRuntime) -> Result<(), Fail> {
+    let text =
+        "rule S [ x ] >< T [ y ] with { x ~ Add ( Z , S ( y ) ) ; y ~ x ; } ; rule Z [ ] >< T [ y ] with { } ; rule Z [ ] >< E [ ] ; net ( ) { z ~ z ; }";
+    assert!(rt; tree_seen(rt.alloc(), text.as_bytes(), &HasEquations { text })?);
+    Ok(())
+}
+
+/// Whether the rule is of two symbols with this name, and has one equation between the name and a term of it.
+fn is_rule_of(rule: &SourceRule, name: &str) -> bool {
+    let equations = rule.equations.as_slice();
+    is_head(&rule.first, name, 1)
+        && is_head(&rule.second, name, 1)
+        && equations.len() == 1
+        && is_bare(&equations[0].left, name)
+        && is_of_one(&equations[0].right, name, name)
+}
+
+/// Whether the net has one free name, this one, and one equation between it and itself.
+fn is_net_of(net: &SourceNet, name: &str) -> bool {
+    let free = net.free.as_slice();
+    let equations = net.equations.as_slice();
+    free.len() == 1
+        && is_free(&free[0], name, name, true)
+        && equations.len() == 1
+        && is_bare(&equations[0].left, name)
+        && is_bare(&equations[0].right, name)
+}
+
+/// Whether each name of the program is this one.
+#[derive(Clone, Copy)]
+struct HasOneName<'a> {
+    name: &'a str,
+}
+
+impl LookAtTree<bool> for HasOneName<'_> {
+    fn look(&self, source: &Source) -> bool {
+        let symbols = source.symbols.as_slice();
+        let rules = source.rules.as_slice();
+        are_types(source.types.as_slice(), &[self.name])
+            && symbols.len() == 1
+            && is_symbol(&symbols[0], self.name, true, 0)
+            && rules.len() == 1
+            && is_rule_of(&rules[0], self.name)
+            && is_net_of(&source.net, self.name)
+    }
+}
+
+#[test]
+fn the_word_before_equations_is_a_name_elsewhere(rt: HostRuntime) -> Result<(), Fail> {
+    let text =
+        "type with ; symbol with : with + ; rule with [ with ] >< with [ with ( with ) ] with { with ~ with ( with ) ; } ; net ( with : with + ) { with ~ with ; }";
+    assert!(rt; tree_seen(rt.alloc(), text.as_bytes(), &HasOneName { name: "with" })?);
+    Ok(())
+}
+
 fn expect_fault(rt: &impl Abort, alloc: Global, text: &str, code: Code, at: usize) {
     assert!(rt; fault(alloc, text) == Some((code, at)), "{text}");
 }
@@ -221,6 +296,35 @@ const REFUSED: [(&str, usize); 19] = [
 #[test]
 fn refusals(rt: HostRuntime) {
     expect_faults(&rt, rt.alloc(), &REFUSED);
+}
+
+/// Texts that are refused as no program in what follows the heads of a rule, with the number of the word that is the fault.
+const REFUSED_AFTER_HEADS: [(&str, usize); 20] = [
+    ("rule S [ ] >< Z [ ] where { } ;", 8),
+    ("rule S [ ] >< Z [ ] With { } ;", 8),
+    ("rule S [ ] >< Z [ ] wit { } ;", 8),
+    ("rule S [ ] >< Z [ ] withs { } ;", 8),
+    ("rule S [ ] >< Z [ ] { } ;", 8),
+    ("rule S [ ] >< Z [ ] with ;", 9),
+    ("rule S [ ] >< Z [ ] with with { } ;", 9),
+    ("rule S [ ] >< Z [ ] with ( ) ;", 9),
+    ("rule S [ ] >< Z [ ] with { ; } ;", 10),
+    ("rule S [ ] >< Z [ ] with { x ; } ;", 11),
+    ("rule S [ ] >< Z [ ] with { x ~ ; } ;", 12),
+    ("rule S [ ] >< Z [ ] with { Z ( ) ~ x ; } ;", 12),
+    ("rule S [ ] >< Z [ ] with { x ~ y } ;", 13),
+    ("rule S [ ] >< Z [ ] with { x ~ y ~ z ; } ;", 13),
+    ("rule S [ ] >< Z [ ] with { x ~ y ; } net", 15),
+    ("rule S [ ] >< Z [ ] with { } with { } ;", 11),
+    ("rule S [ ] >< Z [ ] with", 8),
+    ("rule S [ ] >< Z [ ] with { x ~ y ; }", 14),
+    ("rule S [ ] with { } >< Z [ ] ;", 4),
+    ("net ( ) with { }", 3),
+];
+
+#[test]
+fn refusals_after_the_heads_of_a_rule(rt: HostRuntime) {
+    expect_faults(&rt, rt.alloc(), &REFUSED_AFTER_HEADS);
 }
 
 /// One more word in a text, once less than so often.
@@ -343,6 +447,20 @@ fn limits_of_rules(rt: HostRuntime) {
 }
 
 #[test]
+fn limits_of_rules_with_equations(rt: HostRuntime) {
+    let rules = ["type t ;", " net ( ) { }"];
+    expect_limit(
+        &rt,
+        rt.alloc(),
+        4096,
+        " rule s [ ] >< t [ ] with { x ~ x ; } ;",
+        rules,
+        [1, 0, 4096, 0, 0],
+        65539,
+    );
+}
+
+#[test]
 fn limits_of_free_names(rt: HostRuntime) {
     let free = ["net ( f : t +", " ) { }"];
     expect_limit(
@@ -388,6 +506,13 @@ fn limits_of_depth_in_heads(rt: HostRuntime) {
     let rule = ["rule s [ x ,", " ] >< t [ ] ; net ( ) { }"];
     assert_eq!(rt; deep_read(rt.alloc(), 200, rule), Some([0, 0, 1, 0, 0]));
     assert_eq!(rt; deep_fault(rt.alloc(), 201, rule), Some((Code::E03, 405)));
+}
+
+#[test]
+fn limits_of_depth_in_equations_of_rules(rt: HostRuntime) {
+    let rule = ["rule s [ ] >< t [ ] with { x ~", " ; } ; net ( ) { }"];
+    assert_eq!(rt; deep_read(rt.alloc(), 200, rule), Some([0, 0, 1, 0, 0]));
+    assert_eq!(rt; deep_fault(rt.alloc(), 201, rule), Some((Code::E03, 412)));
 }
 
 #[test]
@@ -447,13 +572,15 @@ fn expect_refused(rt: &impl Abort, alloc: Global, cases: &[(&[u8], Code, usize, 
 }
 
 /// Texts that are no programs, with the bytes of the first fault.
-const FAULTS: [(&[u8], Code, usize, usize); 10] = [
+const FAULTS: [(&[u8], Code, usize, usize); 12] = [
     (b"type type; .. $", Code::E01, 11, 11),
     (b"type type; # \xFF", Code::E01, 13, 13),
     (b"type type;", Code::E02, 5, 9),
     (b"rule S >< Z[];", Code::E02, 7, 9),
     (b"rule S[] >< Z[]; # no net\n ", Code::E02, 27, 27),
     (b"net(){} rule", Code::E02, 8, 12),
+    (b"rule S[] >< Z[] by {}; $", Code::E01, 23, 23),
+    (b"rule S[] >< Z[] by {};", Code::E02, 16, 18),
     (b"net(){} >", Code::E01, 8, 8),
     (b"net(){}\xEF\xBB\xBF", Code::E01, 7, 7),
     (b"\xEF\xBB\xBFnet(){}", Code::E01, 0, 0),

@@ -69,6 +69,32 @@ fn reads_each_kind(rt: HostRuntime) -> Result<(), Fail> {
 }
 
 #[test]
+fn the_word_before_the_equations_of_a_rule_is_a_name(rt: HostRuntime) -> Result<(), Fail> {
+    let text = b"rule S[x] >< E[] with { x ~ y; };";
+    let expected = [
+        TokenKind::Rule,
+        TokenKind::Name,
+        TokenKind::OpenBracket,
+        TokenKind::Name,
+        TokenKind::CloseBracket,
+        TokenKind::Meets,
+        TokenKind::Name,
+        TokenKind::OpenBracket,
+        TokenKind::CloseBracket,
+        TokenKind::Name,
+        TokenKind::OpenBrace,
+        TokenKind::Name,
+        TokenKind::Tilde,
+        TokenKind::Name,
+        TokenKind::Semicolon,
+        TokenKind::CloseBrace,
+        TokenKind::Semicolon,
+    ];
+    assert!(rt; are_of_kinds(&tokens_of(rt.alloc(), text)?, &expected));
+    Ok(())
+}
+
+#[test]
 fn counts_tokens(rt: HostRuntime) {
     assert!(rt; count(rt.alloc(), b"net () { }") == Ok(5));
     assert!(rt; count(rt.alloc(), b"") == Ok(0));

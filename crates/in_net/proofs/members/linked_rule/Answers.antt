@@ -13,7 +13,7 @@ use Rattle.in_net.proofs.Bodies.{rule_ready}
 use Rattle.in_net.proofs.FirstFault.{no_fault}
 use Rattle.in_net.proofs.Frees.{length-boundary, boundary_joined, boundary_types, boundary_unnamed}
 use Rattle.in_net.proofs.NetRead.{ends_in}
-use Rattle.in_net.proofs.TextWires.{read_joined, is_text_net}
+use Rattle.in_net.proofs.TextWires.{read_joined, read_none, is_text_net}
 use Rattle.in_net.proofs.FewAgents.{few_agents}
 use Rattle.in_net.proofs.GoodRules.{good, from, both_symbols, are_written, are_heads, count}
 use Rattle.in_net.proofs.members.linked_rule.Goals as goal
@@ -141,4 +141,5 @@ returns c =
         };
       },
       no_fault max_member_agents t (body_of_rule t r) q ready is clear,
+      read_none t (body_of_rule t r) g (sym (ap (λ r. (joining_of r).closed) is) ∙ c.requires.whole),
     )
