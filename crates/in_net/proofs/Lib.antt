@@ -43,7 +43,6 @@ pub mod Ports
 pub mod Read
 pub mod ReadFrom
 pub mod Rejoined
-pub mod RightMembers
 pub mod SameNet
 pub mod Single
 pub mod Small

@@ -1,15 +1,13 @@
 -- Laws over the definitions of a net.
-use Rattle.std.specs.Prelude.{◌≡◌, ◌≢◌, ℕ, List, [], length, Option, Some, Ok}
+use Rattle.std.specs.Prelude.{◌≡◌, ◌≢◌, ℕ, List, length, Option, Some, Ok}
 use Rattle.in_syntax.specs.declared.tree.Source.{Source}
 use Rattle.in_syntax.specs.Parsing.{IsOfText}
 use Rattle.in_syntax.specs.declared.tree.SourceNet.{SourceNet}
-use Rattle.in_syntax.specs.declared.tree.SourceRule.{SourceRule}
 use Rattle.in_net.specs.declared.nets.AgentNo.{AgentNo}
 use Rattle.in_net.specs.declared.nets.Cell.{Cell}
 use Rattle.in_net.specs.declared.nets.Wire.{Wire}
 use Rattle.in_net.specs.declared.nets.Point.{Point}
-use Rattle.in_net.specs.declared.nets.Point.TheVariants.{Port}
-use Rattle.in_net.specs.Rules.{BuildsRule, IsMemberOf}
+use Rattle.in_net.specs.Rules.{BuildsRule}
 use Rattle.in_symbols.specs.Tables.{Tables, Tabulates}
 use Rattle.in_syntax.specs.Answers.{IsOne}
 use Rattle.in_net.specs.Built.{IsOver, Builds}
@@ -41,10 +39,6 @@ pub record AreOneNet (n m : Parts) : Type 0 where
 
 abbrev pub TextNetsAreOne : Type 0
 TextNetsAreOne = (t : Tables) (text : SourceNet) (n m : Parts) → IsNetOf t text n → IsNetOf t text m → AreOneNet n m
-
--- a right member without equations holds no active pair; one with equations may hold some, so this is for those alone who ask for none
-abbrev pub MembersHoldNoPair : Type 0
-MembersHoldNoPair = (t : Tables) (r : SourceRule) (m : Parts) (x y : AgentNo) → r.equations ≡ [] → IsMemberOf t r m → partner_in m (Port x 0) ≡ Some (Port y 0) → ⊥
 
 -- ---- one answer
 

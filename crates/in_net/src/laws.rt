@@ -1,6 +1,6 @@
 //! Laws over the definitions of a net, for whoever reasons above them. No function here does anything.
 
-ghost use Rattle.in_net.specs.Laws.{MembersHoldNoPair, NetsAreBuiltOnce, NetsAreRenewedOnce, RulesAreBuiltOnce, PartnersLeadBack, TextNetsAreOne, WholePartsAreNets};
+ghost use Rattle.in_net.specs.Laws.{NetsAreBuiltOnce, NetsAreRenewedOnce, RulesAreBuiltOnce, PartnersLeadBack, TextNetsAreOne, WholePartsAreNets};
 
 /// In a net, the partner of a point's partner is the point, and no point is its own partner.
 pub fn partners_lead_back()
@@ -15,11 +15,6 @@ pub fn whole_parts_are_nets()
 /// A text has one net: two nets of one text have the same agents and free ends, and partners at the same spots of the text.
 pub fn text_nets_are_one()
     ensures { TextNetsAreOne }
-{}
-
-/// A right member without equations holds no active pair; one with equations may hold some.
-pub fn members_hold_no_pair()
-    ensures { MembersHoldNoPair }
 {}
 
 /// What building the net of a text's program answers is one: two nets are equal, the numbers and places of their wires included.

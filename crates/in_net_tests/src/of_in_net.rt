@@ -423,3 +423,27 @@ fn a_free_end_makes_no_pair(rt: HostRuntime) {
     let look = Makes { pairs: &[(2, 3)] };
     assert!(rt; holds(rt.alloc(), &[SUMS, DUPLICATION, FREE_COPIES], &look));
 }
+
+/// A rule whose right member holds two active pairs of its own and brings a successor to the wire outside, and a net.
+const OWN_PAIRS: &str =
+    "symbol Two : nat- {nat+};\nrule Z[] >< Two[S(u)] with { Add(v, u) ~ S(Z); Z ~ Add(Z, v); };\nnet (s : nat+) { Two(x) ~ Z; Add(Z, s) ~ x; }\n";
+
+#[test]
+fn the_right_members_own_pairs_come_after_those_over_ends(rt: HostRuntime) {
+    let look = Makes {
+        pairs: &[(4, 2), (6, 5), (8, 9)],
+    };
+    assert!(rt; holds(rt.alloc(), &[SUMS, OWN_PAIRS], &look));
+}
+
+/// The same, but that the last equation joins the two agents of the pair whose first one is written first.
+const PAIRS_BY_WIRES: &str =
+    "symbol Two : nat- {nat+};\nrule Z[] >< Two[S(u)] with { a ~ Add(Z, u); Z ~ Add(Z, v); a ~ S(v); };\nnet (s : nat+) { Two(x) ~ Z; Add(Z, s) ~ x; }\n";
+
+#[test]
+fn the_right_members_own_pairs_come_by_their_wires(rt: HostRuntime) {
+    let look = Makes {
+        pairs: &[(4, 2), (7, 8), (10, 5)],
+    };
+    assert!(rt; holds(rt.alloc(), &[SUMS, PAIRS_BY_WIRES], &look));
+}

@@ -35,7 +35,8 @@ fn words(expected: Expected) -> &'static str {
         Expected::HeadOpen => "`[`",
         Expected::HeadFirst => "a term or `]`",
         Expected::Meets => "`><`",
-        Expected::RuleEnd => "`;`",
+        Expected::RuleEnd => "`;` or `with`",
+        Expected::RuleClose => "`;`",
         Expected::NetOpen => "`(`",
         Expected::FreeFirst => "the name of a free end or `)`",
         Expected::FreeName => "the name of a free end",
@@ -85,6 +86,8 @@ fn help_with_other(expected: Expected, found: &str) -> &'static str {
             "a port is a type's name and `+` for an output, `-` for an input",
         (Expected::SymbolEnd, _) => "auxiliary ports stand in braces, one pair for each class",
         (Expected::Meets, _) => "a rule is two heads with `><` between them",
+        (Expected::RuleEnd, _) =>
+            "a rule ends with `;`, or goes on with `with { .. }` and its equations",
         (Expected::Item, "") => "a program ends with its net: `net (..) { .. }`",
         (Expected::Nothing, _) => "the net comes last, and there is one",
         (_, word) if is_reserved(word) => "a reserved word is no name",

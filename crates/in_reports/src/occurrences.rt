@@ -115,6 +115,7 @@ struct Places<'a> {
     name: &'a [u8],
     start: usize,
     in_rule: bool,
+    depth: usize,
     found: Vec<Place>,
 }
 
@@ -146,7 +147,13 @@ impl Reading for Places<'_> {
         if kind == TokenKind::Name && self.text.get(place.from..place.to) == Some(self.name) {
             self.found.push(place)?;
         }
-        Ok(self.in_rule && kind == TokenKind::Semicolon)
+        match kind {
+            TokenKind::OpenBrace => self.depth = self.depth.saturating_add(1),
+            TokenKind::CloseBrace => self.depth = self.depth.saturating_sub(1),
+            _ => (),
+        }
+        // A rule ends with the `;` after its equations, which stand in braces.
+        Ok(self.in_rule && self.depth == 0 && kind == TokenKind::Semicolon)
     }
 }
 
@@ -254,6 +261,7 @@ pub(crate) fn occurrences(
         name,
         start: start.from,
         in_rule: rule_at(source, at.from).is_some(),
+        depth: 0,
         found: Vec::new(alloc),
     };
     read_from(alloc, text, start, &mut places)?;

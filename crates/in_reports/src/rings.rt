@@ -1,4 +1,5 @@
 //! Closed wires: equations of bare names that lead back to the first.
+use crate::occurrences::rule_at;
 use crate::reports::Report;
 use in_syntax::{Equation, Place, Source};
 
@@ -73,13 +74,23 @@ fn ring_at(equations: &[Equation], place: Place) -> Option<(usize, &str)> {
     Some((first, name))
 }
 
+/// The equations among which a place stands: those of a rule, or those of the net.
+fn equations_around(source: &Source, place: Place) -> &[Equation] {
+    if let Some(number) = rule_at(source, place.from) {
+        if let Some(rule) = source.rules.as_slice().get(number) {
+            return rule.equations.as_slice();
+        }
+    }
+    source.net.equations.as_slice()
+}
+
 /// A wire that is joined to itself.
 pub(crate) fn add_closed(report: &mut Report, source: &Source, place: Place) {
     report.wrong(
         place,
         "this wire is closed: no agent and no free end is on it",
     );
-    let equations = source.net.equations.as_slice();
+    let equations = equations_around(source, place);
     if let Some((first, name)) = ring_at(equations, place) {
         add_ring(report, equations, first, name);
     }
