@@ -1,5 +1,6 @@
 -- What a call did to a reader, and to a writer: see `in_print`'s definitions of devices.
 use Rattle.std.specs.Prelude.{◌⊎◌, ℕ, ◌+◌, ◌<◌, ◌≤◌, Bool, IsTrue, List, length, Option}
+use Rattle.in_syntax.specs.Streams.{one_more}
 use Rattle.in_syntax.specs.Tokens.{text_limit}
 use Rattle.in_print.specs.Devices.{Device, device, Moves, Breaks, BreaksAt}
 use Rattle.in_program.specs.declared.reading.Input.{Input}
@@ -7,7 +8,7 @@ use Rattle.in_program.specs.declared.reading.Input.TheVariants as input
 
 -- ---- a reader
 
--- what it gave and how often it failed, how many reads there were, and whether one gave none of some bytes, so that the text has ended
+-- what it gave and how often it failed, how many reads there were, and whether the last one found the end of the text
 pub record Reader : Type 0 where
   pub device : Device
   pub reads : ℕ
@@ -20,8 +21,9 @@ reader_of bytes failures reads ended = record { device = device bytes failures; 
 abbrev pub most_reads : ℕ
 most_reads = text_limit + 1
 
--- each read but the last gave one of these bytes at least, and there were no more than a text needs
+-- there was a read, there was at most one more than there are bytes, and no more than a text needs
 pub record AreFewReads (old new : Reader) (bytes : List ℕ) : Type 0 where
+  pub some : one_more old.reads ≤ new.reads
   pub each : new.reads ≤ old.reads + length bytes + 1
   pub most : new.reads ≤ old.reads + most_reads
 

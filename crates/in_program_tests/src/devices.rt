@@ -56,14 +56,13 @@ impl TextIn for Tape<'_> {
     fn read(&mut self, into: &mut [u8]) -> Result<usize, ()> {
         self.reads = self.reads.saturating_add(1);
         if self.reads == self.failing {
+            self.ended = false;
             self.failures += 1;
             return Err(());
         }
         let text = self.text;
         let n = self.step.min(into.len()).min(text.len());
-        if n == 0 && !into.is_empty() {
-            self.ended = true;
-        }
+        self.ended = n == 0 && !into.is_empty();
         into[..n].copy_from_slice(&text[..n]);
         self.text = &text[n..];
         Ok(n)

@@ -1,5 +1,5 @@
 -- What one read or write moves, and when it has failed. This project's own choice.
-use Rattle.std.specs.Prelude.{◌≡◌, ℕ, zero, ◌+◌, ◌-◌, ◌^◌, min, Bool, true, List, ◌∷◌, take, Option, Result, Ok, Err}
+use Rattle.std.specs.Prelude.{◌≡◌, ℕ, zero, ◌+◌, ◌-◌, ◌^◌, min, Bool, true, false, List, ◌∷◌, take, Option, Result, Ok, Err}
 use Rattle.std.specs.Io.KnownBytes.{append_known}
 
 -- the front of the bytes that the answer names was moved, or nothing where the call failed
@@ -7,11 +7,11 @@ abbrev pub Moves : Option (List ℕ) → Option (List ℕ) → Result ℕ (Unit 
 Moves old new (Ok n) bytes = new ≡ append_known old (take n bytes)
 Moves old new (Err e) bytes = new ≡ old
 
--- a text has ended where a read gave none of some bytes, this one or one before
-abbrev pub ended_after : Bool → Result ℕ (Unit {0}) → List ℕ → Bool
-ended_after before (Ok zero) (b ∷ bytes) = true
-ended_after before (Ok n) bytes = before
-ended_after before (Err e) bytes = before
+-- a read finds the end of a text where it gives none of some bytes
+abbrev pub finds_end : Result ℕ (Unit {0}) → List ℕ → Bool
+finds_end (Ok zero) (b ∷ bytes) = true
+finds_end (Ok n) bytes = false
+finds_end (Err e) bytes = false
 
 -- a read fails where it answers an error
 abbrev pub fails_read : Result ℕ (Unit {0}) → ℕ

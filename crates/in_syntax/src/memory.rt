@@ -43,9 +43,7 @@ impl TextIn for MemoryIn<'_> {
         self.reads = self.reads.saturating_add(1);
         let left = self.text.len() - self.at;
         let n = left.min(into.len());
-        if n == 0 && !into.is_empty() {
-            self.ended = true;
-        }
+        self.ended = n == 0 && !into.is_empty();
         into[..n].copy_from_slice(&self.text[self.at..self.at + n]);
         self.at += n;
         Ok(n)

@@ -1,12 +1,12 @@
 ghost use Rattle.std.specs.Prelude.{◌≡◌, ℕ, ◌+◌, ◌-◌, ◌^◌, ◌<◌, ◌≤◌, Bool, List, Option, length, IfOk};
-ghost use Rattle.in_syntax.specs.Streams.{Moves, ended_after, fails_read, fails_write, one_more};
+ghost use Rattle.in_syntax.specs.Streams.{Moves, finds_end, fails_read, fails_write, one_more};
 
 /// Where a text comes from.
 pub trait TextIn {
     /// The bytes that it gave so far, or nothing where it doesn't tell.
     ghost given: { Self → Option (List ℕ) };
 
-    /// Whether a read gave none of some bytes that were asked for: then the text has ended.
+    /// Whether the last read gave none of some bytes that were asked for: then it found the end of the text.
     ghost ended: { Self → Bool };
 
     /// How many reads failed.
@@ -20,7 +20,7 @@ pub trait TextIn {
         requires { failures self.old < 2 ^ 64 - 1 }
         ensures within { IfOk result (λ n. n ≤ length into.new) }
         ensures given { Moves (given self.old) (given self.new) result into.new }
-        ensures ended { ended self.new ≡ ended_after (ended self.old) result into.new }
+        ensures ended { ended self.new ≡ finds_end result into.new }
         ensures failures { failures self.new ≡ failures self.old + fails_read result }
         ensures reads { reads self.new ≡ one_more (reads self.old) };
 }

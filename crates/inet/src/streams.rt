@@ -46,12 +46,11 @@ impl<R: Read> TextIn for StreamIn<R> {
         self.reads = self.reads.saturating_add(1);
         match self.reader.read(into) {
             Ok(n) => {
-                if n == 0 && !into.is_empty() {
-                    self.ended = true;
-                }
+                self.ended = n == 0 && !into.is_empty();
                 Ok(n)
             }
             Err(error) => {
+                self.ended = false;
                 self.failures += 1;
                 self.failure = Some(error);
                 Err(())

@@ -1,5 +1,6 @@
-use Rattle.std.proofs.Common.{◌++◌, take, length-append, ap, ◌∙◌, arith}
+use Rattle.std.proofs.Common.{◌≤◌, ◌++◌, take, length-append, sym, ap, subst, ◌∙◌, arith}
 use Rattle.std.specs.Io.KnownBytes.{append_known}
+use Rattle.in_syntax.specs.Streams.{one_more}
 use Rattle.in_print.proofs.Fronts.{append_known-twice}
 use Rattle.in_program.proofs.Known.{counted}
 use Rattle.in_program.proofs.reading.read_text.Goals as goal
@@ -16,6 +17,7 @@ returns-then-is_err g c =
           sound = omega (arith, c.in-Ok.ensures.failures, c.loop-turn.invariant.moves.sound);
         };
         few = record {
+          some = subst (λ z. one_more (g.R.TextIn.reads c.args.reader.now) ≤ z) (sym c.in-Ok.ensures.reads) c.loop-turn.invariant.some;
           each = omega (arith, more, one, c.loop-turn.invariant.reads, c.loop-turn.invariant.grows);
           most = omega (arith, one, c.loop-turn.invariant.reads);
         };
