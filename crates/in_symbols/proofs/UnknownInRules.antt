@@ -6,7 +6,7 @@ use Rattle.in_syntax.specs.declared.tree.Head.{Head}
 use Rattle.in_syntax.specs.declared.tree.Source.{Source}
 use Rattle.in_syntax.specs.declared.tree.SourceRule.{SourceRule}
 use Rattle.in_base.specs.Lists.{AnyByRecursion}
-use Rattle.in_symbols.specs.Faults.{IsSymbolName, HasPart, IsUnknownHead, OfAHead, HasPartIn, IsUnknownHeadAt, in_equation, in_rule_equation, of_head, in_head}
+use Rattle.in_symbols.specs.Faults.{IsSymbolName, HasPart, IsUnknownHead, OfAHead, IsUnknownHeadAt, in_equation, in_rule_equation, of_head, in_head}
 use Rattle.in_symbols.specs.Names.{number_in}
 use Rattle.in_syntax.specs.Refusals.{earlier}
 use Rattle.in_symbols.specs.Searching.{unknown_name, unknown_in_term, unknown_in_equations, unknown_in_head, unknown_in_rule, unknown_in_rules}

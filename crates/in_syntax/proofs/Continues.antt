@@ -13,7 +13,6 @@ use Rattle.in_syntax.specs.declared.counts.Counts.{Counts}
 use Rattle.in_syntax.specs.declared.places.Place.{Place}
 use Rattle.in_syntax.specs.declared.tree.Name.{Name}
 use Rattle.in_syntax.specs.declared.tree.Head.{Head}
-use Rattle.in_syntax.specs.declared.tree.SourceRule.{SourceRule}
 use Rattle.in_syntax.specs.declared.tree.Term.{Term}
 use Rattle.in_syntax.specs.declared.reader.Reader.{Reader}
 use Rattle.in_syntax.specs.declared.states.State.{State}

@@ -16,11 +16,11 @@ use Rattle.in_syntax.specs.declared.words.TokenKind.{TokenKind}
 use Rattle.in_syntax.specs.declared.words.TokenKind.TheVariants as kind
 use Rattle.in_syntax.specs.declared.signs.Sign.{Sign}
 use Rattle.in_syntax.specs.declared.signs.Sign.TheVariants.{Named, Tilde, Plain}
-use Rattle.in_syntax.specs.Grammar.{Marked, within, plain, separated, numbered, spell_arguments, spell_term, spell_outermost, spell_head, word_at, spell_with, StandAfterWord, spell_rule, spell_equation, IsItem, spell_free, spell_net, Item, types, symbol, rule, none_yet, counted, spell_item, spell_items, Program, spelling, rules_in, source_of}
+use Rattle.in_syntax.specs.Grammar.{Marked, within, plain, separated, numbered, spell_arguments, spell_term, spell_outermost, spell_head, spell_with, StandAfterWord, spell_rule, spell_equation, IsItem, spell_free, spell_net, Item, types, symbol, rule, none_yet, counted, spell_item, spell_items, Program, spelling, rules_in, source_of}
 use Rattle.in_syntax.specs.Programs.{sign_at, signs_of, unmarked}
 use Rattle.in_syntax.specs.Parsing.{IsTreeOf, Parses}
 use Rattle.in_syntax.specs.Sizes.{total, names_in}
-use Rattle.in_syntax.specs.Order.{Rises, term_places, equation_places, IsInOrder, head_places, rule_places, IsRuleInOrder, IsWrittenInOrder}
+use Rattle.in_syntax.specs.Order.{Rises, term_places, equation_places, IsInOrder, head_places, IsRuleInOrder, IsWrittenInOrder}
 use Rattle.in_syntax.specs.Tokens.{StandsIn, StandInOrder}
 use Rattle.in_syntax.proofs.Standing.{tokens_stand, tokens_in_order}
 use Rattle.in_base.proofs.Each.{all_left, all_right, all_append}

@@ -33,7 +33,7 @@ use Rattle.in_syntax.specs.declared.states.Body.{Body}
 use Rattle.in_syntax.specs.declared.states.Body.TheVariants as body
 use Rattle.in_syntax.specs.Grammar.{Marked, marked, within, named, plain, separated, numbered, spell_port, spell_auxiliary, spell_classes, spell_symbol, spell_type, spell_types, spell_arguments, spell_level, spell_term, spell_outermost, spell_head, with_word, is_with, word_at, spell_with, StandAfterWord, spell_rule, spell_equation, spell_free, spell_net, max_symbols, max_rules, max_free, max_ports, max_depth, Item, types, symbol, rule, none_yet, counted, spell_item, spell_items, IsItem, types_in, symbols_in, rules_in}
 use Rattle.in_syntax.specs.Steps.{Step, goes, adds_types, adds_symbol, adds_rule, stuck, at_item, at_type_name, at_type_end, at_symbol_name, at_symbol_colon, at_port_kind, after_port, at_port_sign, at_symbol_end, at_class_end, at_head_name, at_head_open, at_head_first, at_with, at_head_end, at_rule_open, at_rule_close, at_net_open, at_free_first, at_free_name, at_free_colon, at_free_end, at_body_open, at_equation, at_term_name, after_argument, after_left, after_right, after_head_term, after_outermost, after_term, at_term_end, at_term_open, step, at_state, with_types, with_symbol, with_rule, counts_of, start}
-use Rattle.in_syntax.specs.Trees.{bare, bare_head, bare_rule, with_argument}
+use Rattle.in_syntax.specs.Trees.{bare, bare_head, with_argument}
 use Rattle.in_syntax.proofs.Separated.{comma, before, separated_snoc, before_is, nonempty_snoc, flat_snoc, numbered_snoc, nonempty_numbered, ports_after, ports_after_snoc, classes_snoc, counted_all, counted_snoc, items_snoc}
 use Rattle.in_syntax.proofs.Paths.{turns, turn_of, Path}
 use Rattle.in_base.proofs.Each.{all_append}
