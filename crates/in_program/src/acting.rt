@@ -198,8 +198,8 @@ fn tell_reply<W: TextOut>(alloc: Global, writer: &mut W, action: &Action, text: 
 /// Does what the words ask for: reads a program's text, writes the lines on it, and answers the status. For `check` of an accepted
 /// program they are one line that counts what it has, for `derive` the steps that build its rules and its net; of a refused one they
 /// are the line of the refusal. For `run` they are the net that the run reaches, the count of its interactions and how it stopped, or the
-/// line of a net that doesn't fit the cells. Where memory is wanted they are the line `memory` alone. It makes at most 1,048,577 reads, each of
-/// which but the last brings a byte at least.
+/// line of a net that doesn't fit the cells. Where memory is wanted they are the line `memory` alone. It makes at most 1,048,577 reads, and at
+/// most one more than it is given bytes.
 pub fn act<R: TextIn, W: TextOut>(
     alloc: Global,
     action: &Action,

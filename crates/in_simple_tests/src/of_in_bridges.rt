@@ -1,0 +1,32 @@
+use in_bridges::on_rings;
+use sqlite_items::Items;
+use std::alloc::{AllocError, Global};
+
+/// Which of these edges of a graph of so many vertices are on a ring. Edges between other vertices are left out.
+fn rings(alloc: Global, count: usize, edges: &[(usize, usize)]) -> Result<Items<bool>, AllocError> {
+    let mut within = Items::new(alloc);
+    for (one, other) in edges {
+        if *one < count && *other < count {
+            within.push((*one, *other))?;
+        }
+    }
+    on_rings(alloc, count, &within)
+}
+
+#[test]
+fn rings_are_told_from_bridges(rt: HostRuntime) {
+    // a triangle, a bridge out of it, two edges side by side, a loop, and a bridge at the end
+    let edges = [
+        (0, 1),
+        (1, 2),
+        (2, 0),
+        (2, 3),
+        (3, 4),
+        (4, 3),
+        (4, 4),
+        (4, 5),
+    ];
+    let wanted = [true, true, true, false, true, true, true, false];
+    let found = rings(rt.alloc(), 6, &edges);
+    assert!(rt; matches!(&found, Ok(rings) if rings.as_slice() == wanted.as_slice()));
+}
