@@ -88,6 +88,8 @@ fn help_with_other(expected: Expected, found: &str) -> &'static str {
         (Expected::Meets, _) => "a rule is two heads with `><` between them",
         (Expected::RuleEnd, _) =>
             "a rule ends with `;`, or goes on with `with { .. }` and its equations",
+        (Expected::RuleClose, _) => "a rule with equations ends with `;` behind its closing brace",
+        (Expected::BodyOpen, _) => "equations stand in braces, each with `;` at its end",
         (Expected::Item, "") => "a program ends with its net: `net (..) { .. }`",
         (Expected::Nothing, _) => "the net comes last, and there is one",
         (_, word) if is_reserved(word) => "a reserved word is no name",
