@@ -8,10 +8,10 @@ ghost use Rattle.in_check.specs.Certificates.{Certifies, CertifiesNet, Certifies
 
 use crate::checked::Certificate;
 use crate::misfits::Misfit;
+use in_deriving::derive;
 use in_net::{Net, Rule};
 use in_open_nets::{OpenNet, Stuck, Undone};
 use in_opening::{open_net, open_rule};
-use in_deriving::derive;
 use in_symbols::Symbols;
 use in_syntax::{Code, Fault, Refusal};
 use sqlite_items::Items;

@@ -123,8 +123,7 @@ fn a_number_is_doubled_in_each_order(rt: HostRuntime) {
 
 #[test]
 fn sums_side_by_side_end_in_each_order(rt: HostRuntime) {
-    let net =
-        "net (r : nat+, s : nat+) { Add(x, r) ~ S(Z); Add(S(Z), x) ~ S(Z); s ~ Z; }\n";
+    let net = "net (r : nat+, s : nat+) { Add(x, r) ~ S(Z); Add(S(Z), x) ~ S(Z); s ~ Z; }\n";
     let look = EndsInEachOrder {
         count: 4,
         text: "S(S(S(Z)))\nZ\n",

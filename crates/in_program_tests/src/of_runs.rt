@@ -146,3 +146,102 @@ fn a_refused_program_is_not_run(rt: HostRuntime) {
     let text = [SUMS, ADDITION, "net () { S(Z) ~ S(Z); }\n"];
     expect(&rt, rt.alloc(), USUAL, &text, "refused E10 at 7:15: ~\n", 1);
 }
+
+/// A symbol whose right members have equations: what a number comes to when zero is left, which is two.
+const TWO: &str = "symbol Two : nat- {nat+};\nrule S[Two(t)] >< Two[t];\n";
+
+/// The rule of zero and that symbol, within how many interactions the net of one is run, what is printed, and the status.
+const WITH_EQUATIONS: [(&str, u64, &str, u8); 6] = [
+    (
+        "rule Z[] >< Two[r] with { S(S(Z)) ~ Add(Z, r); };\n",
+        1_000_000,
+        "r = S(S(Z))\ninteractions: 5\nstop: normal\n",
+        0,
+    ),
+    (
+        "rule Z[] >< Two[r] with { S(S(Z)) ~ Add(Z, r); };\n",
+        2,
+        "r = v1\nS(S(Z)) ~ Add(Z, v1)\ninteractions: 2\nstop: limit\n",
+        3,
+    ),
+    (
+        "rule Z[] >< Two[Z] with { };\n",
+        1_000_000,
+        "r = Z\ninteractions: 2\nstop: normal\n",
+        0,
+    ),
+    (
+        "rule Z[] >< Two[Z] with { x ~ x; };\n",
+        1_000_000,
+        "refused E09 at 9:29: ~\n",
+        1,
+    ),
+    (
+        "rule Z[] >< Two[Z] with { Z ~ Z; };\n",
+        1_000_000,
+        "refused E10 at 9:29: ~\n",
+        1,
+    ),
+    (
+        "rule Z[] >< Two[Z] with { x ~ Add(Z, x); };\n",
+        1_000_000,
+        "refused E12 at 9:31: Add\n",
+        1,
+    ),
+];
+
+/// Checks what `run` writes where the rule has these equations.
+fn expect_with_equations(rt: &impl Abort, alloc: Global, rows: &[(&str, u64, &str, u8)]) {
+    for (rule, limit, lines, status) in rows {
+        let text = [
+            SUMS,
+            ADDITION,
+            TWO,
+            *rule,
+            "net (r : nat+) { Two(r) ~ S(Z); }\n",
+        ];
+        expect(rt, alloc, (*limit, 65_536), &text, lines, *status);
+    }
+}
+
+#[test]
+fn rules_may_have_equations(rt: HostRuntime) {
+    expect_with_equations(&rt, rt.alloc(), &WITH_EQUATIONS);
+}
+
+/// A rule one piece of whose right member hangs on nothing, and the net of zero; within how many interactions, what is printed, and the
+/// status.
+const PIECE_BY_ITSELF: [(u64, &str, u8); 2] = [
+    (1_000_000, "r = Z\ninteractions: 3\nstop: normal\n", 0),
+    (1, "r = Z\nS(Z) ~ Era\ninteractions: 1\nstop: limit\n", 3),
+];
+
+#[test]
+fn a_piece_may_hang_on_nothing(rt: HostRuntime) {
+    let rule = "rule Z[] >< Two[Z] with { Era ~ S(Z); };\n";
+    let net = "net (r : nat+) { Two(r) ~ Z; }\n";
+    let text = [SUMS, ADDITION, ERASURE, TWO, rule, net];
+    expect_at_limits(&rt, rt.alloc(), &text, &PIECE_BY_ITSELF);
+}
+
+/// What is printed after one interaction that makes a pair over a boundary end, and brings two that the right member holds itself.
+const NEW_PAIRS: [(u64, &str, u8); 1] = [(
+    1,
+    "s = v1\nS(v2) ~ Add(Z, v1)\nZ ~ Add(Z, v3)\nS(v3) ~ Add(Z, v2)\ninteractions: 1\nstop: limit\n",
+    3,
+)];
+
+#[test]
+fn own_pairs_are_queued_after_those_over_ends(rt: HostRuntime) {
+    let rule = "rule Z[] >< Two[S(u)] with { a ~ Add(Z, u); Z ~ Add(Z, v); a ~ S(v); };\n";
+    let net = "net (s : nat+) { Two(x) ~ Z; Add(Z, s) ~ x; }\n";
+    let text = [SUMS, ADDITION, TWO, rule, net];
+    expect_at_limits(&rt, rt.alloc(), &text, &NEW_PAIRS);
+}
+
+#[test]
+fn with_is_a_name_elsewhere(rt: HostRuntime) {
+    let text = [SUMS, ADDITION, "net (with : nat+) { with ~ Z; }\n"];
+    let lines = "with = Z\ninteractions: 0\nstop: normal\n";
+    expect(&rt, rt.alloc(), USUAL, &text, lines, 0);
+}
