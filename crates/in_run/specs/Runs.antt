@@ -7,15 +7,14 @@ use Rattle.in_arena.specs.declared.content.CellClass.TheVariants.{Small, Large}
 use Rattle.in_symbols.specs.Tables.{Tables}
 use Rattle.in_net.specs.declared.nets.AgentNo.{AgentNo}
 use Rattle.in_net.specs.declared.nets.Cell.{Cell}
-use Rattle.in_net.specs.declared.nets.Point.TheVariants.{Port}
 use Rattle.in_net.specs.Built.{IsOver}
 use Rattle.in_net.specs.Nets.{net_of}
-use Rattle.in_net.specs.Parts.{Parts, IsWireBetween}
+use Rattle.in_net.specs.Parts.{Parts}
 use Rattle.in_net.specs.Rules.{RuleParts}
 use Rattle.in_check.specs.Plain.{IsPairAt, IsRuleAt, StepsAs}
 use Rattle.in_check.specs.Programs.{Program}
 use Rattle.in_check.specs.Runs.{IsRenamed}
-use Rattle.in_interaction.specs.Queues.{agents_at, numbers_of, both, IsQueueOf}
+use Rattle.in_interaction.specs.Queues.{agents_at, numbers_of, both, IsFirstQueue}
 use Rattle.in_run.specs.declared.cells.Need.{Need}
 use Rattle.in_run.specs.declared.stops.Stop.{Stop}
 use Rattle.in_run.specs.declared.stops.Stop.TheVariants.{Normal, Limit, Full}

@@ -24,7 +24,7 @@ loop-wire-preserved c =
         pairs =
             let q : AgentNo × AgentNo = (b.in-Some.one, b.in-Some.other) in
             let told = b.in-Some.ensures {u = tt} in
-            let active : IsActivePair t n q = subst (λ (m : Parts). IsActivePair t m q) c.net-net.ensures (subst (λ (s : Tables). IsActivePair s c.net-net.result.now q) b.symbols.ensures told.0) in
+            let active : IsActivePair t n q = subst (λ (m : Parts). IsActivePair t m q) c.net-net.ensures (subst (λ (s : Tables). IsActivePair s c.net-net.result.now q) c.symbols.ensures told.0) in
             let joins : JoinsAgents n w q = subst (λ (m : Parts). JoinsAgents m w q) c.net-net.ensures told.1 in
             subst (λ v. AreFirst t n (w + 1) v.items) (sym b.pairs-is)
             (subst (AreFirst t n (w + 1)) (sym (b.in_ok-push.ensures {u = tt}).items)
