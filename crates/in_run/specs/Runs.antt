@@ -9,7 +9,6 @@ use Rattle.in_net.specs.declared.nets.AgentNo.{AgentNo}
 use Rattle.in_net.specs.declared.nets.Cell.{Cell}
 use Rattle.in_net.specs.Built.{IsOver}
 use Rattle.in_net.specs.Nets.{net_of}
-use Rattle.in_net.specs.Parts.{Parts}
 use Rattle.in_net.specs.Rules.{RuleParts}
 use Rattle.in_check.specs.Plain.{IsPairAt, IsRuleAt, StepsAs}
 use Rattle.in_check.specs.Programs.{Program}
