@@ -1,5 +1,5 @@
 -- Seats as they are made, and as they are taken back.
-use Rattle.std.proofs.Common.{◌≡◌, ℕ, ◌+◌, ◌<◌, false, List, [], ◌∷◌, ◌++◌, length, map, All, sym, ap, ◌∙◌, replicate, arith}
+use Rattle.std.proofs.Common.{◌≡◌, ℕ, ◌+◌, ◌<◌, List, [], ◌∷◌, ◌++◌, length, map, All, sym, ap, ◌∙◌, replicate, arith}
 use Rattle.std.proofs.lemmas.List.{replicate_more, append_assoc, map_push}
 use Rattle.std.proofs.lemmas.List.Elements.{All-head}
 use Rattle.in_rounds.specs.Rule.{limit_of}

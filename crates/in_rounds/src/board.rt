@@ -10,8 +10,8 @@ use std::alloc::{AllocError, Global};
 use std::marker::Model;
 
 /// Hands out the numbers below a limit, each once, to whichever seat asks first. Contracts see which board it is, its limit, and how
-/// many seats it has. Boards are this project's own choice: Lafont 1990 lets active pairs be replaced in any order and at the same
-/// time, and says nothing of who takes which.
+/// many seats it has. Boards are this project's own choice: Lafont 1990 shows that interactions at different pairs can be done in either
+/// order, and says nothing of who does which.
 #[derive(Drop)]
 pub struct Board {
     table: Table<(), Hands, Size, Claims, Global>,

@@ -1,4 +1,5 @@
-//! Laws over the rule of a board, for whoever claims from several threads. No function here does anything.
+//! Laws over the rule of a board, for whoever claims from several threads. What they ask of hands, `Board::take_back` ensures of the seats
+//! that it takes. No function here does anything.
 
 ghost use Rattle.std.specs.Prelude.{List, slice_index};
 ghost use Rattle.atomic_table.specs.Table.{State};

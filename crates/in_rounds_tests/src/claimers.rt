@@ -1,5 +1,5 @@
 // Boards and seats as a test takes them.
-ghost use Rattle.std.specs.Prelude.{◌≡◌, ◌+◌, false, IfOk, IfSome, All, length};
+ghost use Rattle.std.specs.Prelude.{◌≡◌, ◌+◌, [], false, IfOk, IfSome, All, length};
 
 use in_rounds::{Board, Seat};
 use std::alloc::{AllocError, Global};
@@ -9,7 +9,8 @@ use std::thread::Threads;
 
 // A board with two seats.
 pub fn two_seats(alloc: Global, limit: u32) -> Result<(Board, Seat, Seat), AllocError>
-    ensures { IfOk result (λ r. (r.0.seats ≡ 2) × (r.1.board ≡ r.0) × (r.1.done ≡ false) × (r.2.board ≡ r.0) × (r.2.done ≡ false)) }
+    ensures seats { IfOk result (λ r. (r.0.seats ≡ 2) × (r.1.board ≡ r.0) × (r.1.done ≡ false) × (r.2.board ≡ r.0) × (r.2.done ≡ false)) }
+    ensures claims { IfOk result (λ r. (r.1.numbers ≡ []) × (r.2.numbers ≡ [])) }
 {
     let (board, mut seats) = Board::new(alloc, limit, 2)?;
     let second = seats.pop();

@@ -1,3 +1,4 @@
+use crate::callers::{a_claim_of_each, a_first_claim};
 use crate::claimers::{
     both_made, claim_in_threads, claimers, ends, gets, seats_and_lists, two_seats,
 };
@@ -39,6 +40,14 @@ fn a_board_without_numbers(rt: HostRuntime) -> Result<(), Fail> {
     let (board, mut seat, other) = two_seats(rt.alloc(), 0)?;
     ends(&rt, &board, &mut seat);
     both_made(&rt, rt.alloc(), &board, (other, seat), 1)?;
+    Ok(())
+}
+
+#[test]
+fn claims_that_a_caller_knows(rt: HostRuntime) -> Result<(), Fail> {
+    assert_eq!(rt; a_first_claim(rt.alloc(), 5)?, Some(0));
+    assert_eq!(rt; a_claim_of_each(rt.alloc(), 5)?, (Some(0), Some(1)));
+    assert_eq!(rt; a_claim_of_each(rt.alloc(), 1)?, (Some(0), None));
     Ok(())
 }
 

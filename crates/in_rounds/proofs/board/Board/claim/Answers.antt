@@ -1,4 +1,4 @@
-use Rattle.std.proofs.Common.{ℕ, ◌+◌, ◌%◌, ◌<◌, ◌^◌, ◌≡◌, false, List, [], ◌∷◌, map, All, sym, subst, ◌∙◌, ap, arith}
+use Rattle.std.proofs.Common.{◌+◌, ◌%◌, ◌≡◌, false, List, [], ◌∷◌, map, All, sym, subst, ◌∙◌, ap, arith}
 use Rattle.std.specs.List.Sorted.{IsStrictlyIncreasing}
 use Rattle.atomic_table.specs.Table.{Allows, Me}
 use Rattle.in_rounds.specs.Rule.{IsKept, drew}

@@ -1,4 +1,4 @@
-use Rattle.std.proofs.Common.{◌≡◌, ◌+◌, ◌-◌, ◌<◌, ◌≤◌, [], ◌∷◌, ◌++◌, List, map, false, refl, sym, subst, ap, ◌∙◌, arith}
+use Rattle.std.proofs.Common.{◌≡◌, ◌+◌, ◌-◌, [], ◌∷◌, List, map, false, refl, sym, subst, ap, ◌∙◌, arith}
 use Rattle.atomic_table.specs.Table.{Splits}
 use Rattle.in_rounds.specs.Rule.{hand, IsKept}
 use Rattle.in_rounds.specs.Seats.{BoardView, SeatView, fresh}

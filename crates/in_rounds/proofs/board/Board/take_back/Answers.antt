@@ -1,8 +1,8 @@
-use Rattle.std.proofs.Common.{◌≡◌, ℕ, ◌+◌, ◌<◌, ◌≤◌, List, [], ◌∷◌, ◌++◌, length, map, All, refl, sym, subst, ap, ◌∙◌, arith}
+use Rattle.std.proofs.Common.{◌≡◌, List, [], ◌∷◌, ◌++◌, length, map, sym, subst, ap, ◌∙◌, arith}
 use Rattle.std.specs.Option.{IfSome}
 use Rattle.std.proofs.lemmas.List.{length-map, nil_from_length}
 use Rattle.std.proofs.lemmas.List.Elements.{All-pop}
-use Rattle.atomic_table.specs.Table.{Allows, Joins, Me}
+use Rattle.atomic_table.specs.Table.{Allows, Me}
 use Rattle.in_rounds.specs.Rule.{AreClaims, IsKept, limit_of}
 use Rattle.in_rounds.specs.Seats.{SeatView, hand_of}
 use Rattle.in_rounds.specs.declared.hands.Hand.{Hand}
