@@ -16,7 +16,6 @@ pub enum Input {
 }
 
 /// Reads to the end, or until more bytes came than a text has.
-#[tactic(auto, using(crate::proofs::Known::counted_on))]
 pub fn read_text<R: TextIn>(alloc: Global, reader: &mut R) -> Input
     requires { R.failures reader.old < 2 ^ 64 - 1 }
     ensures { IsInput (reader_of (R.given reader.old) (R.failures reader.old) (R.reads reader.old) (R.ended reader.old)) (reader_of (R.given reader.new) (R.failures reader.new) (R.reads reader.new) (R.ended reader.new)) result }
