@@ -1,4 +1,4 @@
-//! What is told of words that can't be had, and of streams that fail.
+//! What is told of words that can't be had, of streams that fail, and of a text that is too long.
 use crate::{serve, unreadable};
 use in_program::Status;
 use in_words::Usage;
@@ -64,6 +64,22 @@ fn a_failed_stream_is_told_with_its_error(rt: HostRuntime) -> Result<(), Fail> {
         "error: standard output can't be written: No space left on device (os error 28)\n";
     assert!(rt; fails_with(alloc, "check", (io::empty(), Failing(28)), unwritten)?);
     assert!(rt; fails_with(alloc, "--help", (io::empty(), Failing(28)), unwritten)?);
+    Ok(())
+}
+
+/// Whether a text of so many bytes is refused, and what is told begins so.
+fn is_too_long(alloc: Global, bytes: usize, told: &str) -> Result<bool, AllocError> {
+    let text = vec![in alloc; b'#'; bytes]?;
+    let mut errors = Vec::new(alloc);
+    let words = Ok(words(alloc, "check")?);
+    let status = serve(alloc, words, text.as_slice(), io::sink(), &mut errors);
+    Ok(status == Status(1) && errors.as_slice().starts_with(told.as_bytes()))
+}
+
+#[test]
+fn a_text_that_is_too_long_is_told_by_the_limit(rt: HostRuntime) -> Result<(), Fail> {
+    let told = "error: the text has more than 1048576 bytes\n";
+    assert!(rt; is_too_long(rt.alloc(), 1_500_000, told)?);
     Ok(())
 }
 
