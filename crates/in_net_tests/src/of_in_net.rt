@@ -320,13 +320,21 @@ fn has_agents_of_a_sum(member: &Net) -> bool {
 
 /// Whether its wires stand in the order of their places: inside S(S(Z)), the equation, inside Add(Z, r).
 fn has_wires_of_a_sum(member: &Net) -> bool {
-    is_built_with(member, 5, 1)
-        && member.wires() == 5
+    member.wires() == 5
         && member.wire(0) == (Point::Port(AgentNo(0), 1), Point::Port(AgentNo(1), 0))
         && member.wire(2) == (Point::Port(AgentNo(0), 0), Point::Port(AgentNo(3), 0))
         && member.wire(4) == (Point::Free(0), Point::Port(AgentNo(3), 2))
-        && member.wire_place(2).col == 35
-        && member.wire_place(4).col == 44
+}
+
+/// Whether the equation and the last wire stand where they are written.
+fn has_places_of_a_sum(member: &Net) -> bool {
+    if !member.is_built() {
+        return false;
+    }
+    if member.wires() != 5 {
+        return false;
+    }
+    member.wire_place(2).col == 35 && member.wire_place(4).col == 44
 }
 
 /// Whether it is that rule.
@@ -336,6 +344,7 @@ fn is_two_by_a_sum(rule: Option<&Rule>) -> bool {
             has_heads(rule, (0, 3), (0, 3), (6, 13))
                 && has_agents_of_a_sum(rule.member())
                 && has_wires_of_a_sum(rule.member())
+                && has_places_of_a_sum(rule.member())
         }
         None => false,
     }
