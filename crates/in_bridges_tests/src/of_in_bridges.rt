@@ -1,14 +1,34 @@
+ghost use Rattle.std.specs.Prelude.{OnOk};
+ghost use Rattle.in_bridges.specs.Spans.{AreWithin};
+
 use in_bridges::on_rings;
 use sqlite_items::Items;
 use std::alloc::{AllocError, Global};
+
+/// Adds an edge between two of so many vertices; others are left out.
+fn add_within(
+    within: &mut Items<(usize, usize)>,
+    count: usize,
+    one: usize,
+    other: usize,
+) -> Result<(), AllocError>
+    requires { AreWithin count within.old }
+    ensures { OnOk result (AreWithin count within.new) }
+{
+    if one >= count {
+        return Ok(());
+    }
+    if other >= count {
+        return Ok(());
+    }
+    within.push((one, other))
+}
 
 /// Which of these edges of a graph of so many vertices are on a ring. Edges between other vertices are left out.
 fn rings(alloc: Global, count: usize, edges: &[(usize, usize)]) -> Result<Items<bool>, AllocError> {
     let mut within = Items::new(alloc);
     for (one, other) in edges {
-        if *one < count && *other < count {
-            within.push((*one, *other))?;
-        }
+        add_within(&mut within, count, *one, *other)?;
     }
     on_rings(alloc, count, &within)
 }
