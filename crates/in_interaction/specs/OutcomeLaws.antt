@@ -20,7 +20,7 @@ PairsAreListedOnce = (t : Tables) (n : Parts) (ps qs : List (AgentNo × AgentNo)
 
 -- .. and so is the list of the pairs that an interaction makes
 abbrev pub MadePairsAreListedOnce : Type 0
-MadePairsAreListedOnce = (t : Tables) (n : Parts) (r : RuleParts) (a b : AgentNo) (name : ℕ → ℕ) (ps qs : List (AgentNo × AgentNo)) → IsWhole r.member → AreMade t n r a b name ps → AreMade t n r a b name qs → ps ≡ qs
+MadePairsAreListedOnce = (t : Tables) (n : Parts) (r : RuleParts) (a b : AgentNo) (name : ℕ → ℕ) (ps qs : List (AgentNo × AgentNo)) → AreMade t n r a b name ps → AreMade t n r a b name qs → ps ≡ qs
 
 -- an active pair of two other agents than these
 abbrev pub IsOtherPair : Tables → Parts → AgentNo → AgentNo → AgentNo × AgentNo → Type 0

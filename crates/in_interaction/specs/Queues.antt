@@ -3,9 +3,8 @@
 use Rattle.std.specs.Prelude.{◌≡◌, ◌<◌, ℕ, List, Some, slice_get}
 use Rattle.in_symbols.specs.Tables.{Tables}
 use Rattle.in_net.specs.declared.nets.AgentNo.{AgentNo}
-use Rattle.in_net.specs.declared.nets.Point.TheVariants.{Port}
-use Rattle.in_net.specs.ActivePairs.{IsActivePair}
-use Rattle.in_net.specs.Parts.{Parts, IsWireBetween}
+use Rattle.in_net.specs.ActivePairs.{IsActivePair, JoinsAgents}
+use Rattle.in_net.specs.Parts.{Parts}
 
 -- a pair of numbers as a pair of agents, and back
 abbrev pub agents_at : ℕ × ℕ → AgentNo × AgentNo
@@ -28,7 +27,7 @@ pub record IsQueueOf (t : Tables) (n : Parts) (queue : List (ℕ × ℕ)) : Type
 
 -- the wire of that number joins the principal ports of the two
 abbrev pub JoinsPair : Parts → ℕ → ℕ × ℕ → Type 0
-JoinsPair n w q = IsWireBetween n w (Port (agents_at q).0 0) (Port (agents_at q).1 0)
+JoinsPair n w q = JoinsAgents n w (agents_at q)
 
 -- the wire of that number joins the principal ports of no two agents
 abbrev pub IsNoPair : Parts → ℕ → Type 0
@@ -38,7 +37,9 @@ IsNoPair n w = (q : ℕ × ℕ) → JoinsPair n w q → ⊥
 abbrev pub AreInOrder : Parts → List (ℕ × ℕ) → Type 0
 AreInOrder n queue = (j k v w : ℕ) (p q : ℕ × ℕ) → j < k → slice_get queue j ≡ Some p → slice_get queue k ≡ Some q → JoinsPair n v p → JoinsPair n w q → v < w
 
--- the active pairs of a program's net, or of a right member, each once, the constructor first, in the order of their wires
+-- the active pairs of a program's net, or of a right member, each once, the constructor first, each on a listed wire, and in the order of
+-- these
 pub record IsFirstQueue (t : Tables) (n : Parts) (queue : List (ℕ × ℕ)) : Type 0 where
   pub pairs : IsQueueOf t n queue
+  pub wires : (k : ℕ) (q : ℕ × ℕ) → slice_get queue k ≡ Some q → (w : ℕ) × JoinsPair n w q
   pub order : AreInOrder n queue

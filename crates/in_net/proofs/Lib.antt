@@ -56,3 +56,4 @@ pub mod Turned
 pub mod Ways
 pub mod Whole
 pub mod WireAt
+pub mod Within

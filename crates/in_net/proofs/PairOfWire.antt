@@ -8,7 +8,28 @@ use Rattle.in_net.specs.declared.nets.AgentNo.{AgentNo}
 use Rattle.in_net.specs.declared.nets.Point.{Point}
 use Rattle.in_net.specs.declared.nets.Point.TheVariants.{Port}
 use Rattle.in_net.specs.Parts.{Parts, IsWhole, symbol_in, partner_in, wire_in}
-use Rattle.in_net.proofs.ActivePairs.{differ, there}
+use Rattle.in_net.specs.Laws.{WiresJoinOnePair}
+use Rattle.in_net.proofs.ActivePairs.{differ, flipped, there}
+
+-- a wire joins the principal ports of two agents; as an active pair these have one order
+principal_same : (a b : AgentNo) → ◌≡◌ {A = Point} (Port a 0) (Port b 0) → a ≡ b
+principal_same a b e = cc
+
+one_agent : (a b x y : AgentNo) → ◌≡◌ {A = Point × Point} (Port a 0, Port b 0) (Port x 0, Port y 0) → ◌≡◌ {A = AgentNo × AgentNo} (a, b) (x, y)
+one_agent a b x y e =
+    ap (λ (z : AgentNo). (z, b)) (principal_same a x (ap (λ (u : Point × Point). u.0) e)) ∙ ap (λ (z : AgentNo). (x, z)) (principal_same b y (ap (λ (u : Point × Point). u.1) e))
+
+pub one_on_wire : WiresJoinOnePair
+one_on_wire t n w p q h k joins others = go joins others
+  where
+    same : (a b x y : AgentNo) → wire_in n w ≡ Some (Port a 0, Port b 0) → wire_in n w ≡ Some (Port x 0, Port y 0) → ◌≡◌ {A = AgentNo × AgentNo} (a, b) (x, y)
+    same a b x y e f = one_agent a b x y (some_same (wire_in n w) (Port a 0, Port b 0) (Port x 0, Port y 0) e f)
+
+    go : JoinsAgents n w p → JoinsAgents n w q → p ≡ q
+    go (inl e) (inl f) = same p.0 p.1 q.0 q.1 e f
+    go (inr e) (inr f) = ap (λ (z : AgentNo × AgentNo). (z.1, z.0)) (same p.1 p.0 q.1 q.0 e f)
+    go (inl e) (inr f) = absurd (flipped t n q.1 q.0 (subst (IsActivePair t n) (same p.0 p.1 q.1 q.0 e f) h) k)
+    go (inr e) (inl f) = absurd (flipped t n p.0 p.1 h (subst (IsActivePair t n) (sym (same p.1 p.0 q.0 q.1 e f)) k))
 
 module _ (t : Tables) (n : Parts) (w : ℕ) (p q : Point) (at : wire_in n w ≡ Some (p, q)) where
   same_wire : (x y : Point) → wire_in n w ≡ Some (x, y) → ◌≡◌ {A = Point × Point} (p, q) (x, y)

@@ -3,6 +3,7 @@ use Rattle.std.specs.Prelude.{◌≡◌, ◌≢◌, ℕ, List, length, Option, S
 use Rattle.in_syntax.specs.declared.tree.Source.{Source}
 use Rattle.in_syntax.specs.Parsing.{IsOfText}
 use Rattle.in_syntax.specs.declared.tree.SourceNet.{SourceNet}
+use Rattle.in_net.specs.ActivePairs.{IsActivePair, JoinsAgents}
 use Rattle.in_net.specs.declared.nets.AgentNo.{AgentNo}
 use Rattle.in_net.specs.declared.nets.Cell.{Cell}
 use Rattle.in_net.specs.declared.nets.Wire.{Wire}
@@ -49,6 +50,10 @@ NetsAreBuiltOnce = (s : Source) (t : Tables) → IsOfText s → Tabulates s (Ok 
 -- .. and a rule of it
 abbrev pub RulesAreBuiltOnce : Type 0
 RulesAreBuiltOnce = (s : Source) (t : Tables) (i : ℕ) → IsOfText s → Tabulates s (Ok t) → IsOne (BuildsRule s t i)
+
+-- a wire joins at most one active pair
+abbrev pub WiresJoinOnePair : Type 0
+WiresJoinOnePair = (t : Tables) (n : Parts) (w : ℕ) (p q : AgentNo × AgentNo) → IsActivePair t n p → IsActivePair t n q → JoinsAgents n w p → JoinsAgents n w q → p ≡ q
 
 -- .. and of what renewing a net makes of it
 abbrev pub NetsAreRenewedOnce : Type 0

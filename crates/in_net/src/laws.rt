@@ -1,6 +1,6 @@
 //! Laws over the definitions of a net, for whoever reasons above them. No function here does anything.
 
-ghost use Rattle.in_net.specs.Laws.{NetsAreBuiltOnce, NetsAreRenewedOnce, RulesAreBuiltOnce, PartnersLeadBack, TextNetsAreOne, WholePartsAreNets};
+ghost use Rattle.in_net.specs.Laws.{NetsAreBuiltOnce, NetsAreRenewedOnce, RulesAreBuiltOnce, PartnersLeadBack, TextNetsAreOne, WholePartsAreNets, WiresJoinOnePair};
 
 /// In a net, the partner of a point's partner is the point, and no point is its own partner.
 pub fn partners_lead_back()
@@ -30,4 +30,9 @@ pub fn rules_are_built_once()
 /// What a net becomes that gets other agents and wires, and its free ends other partners, is one.
 pub fn nets_are_renewed_once()
     ensures { NetsAreRenewedOnce }
+{}
+
+/// A wire joins at most one active pair, so that what is found on a wire is one. In any net, also one that no text has.
+pub fn wires_join_one_pair()
+    ensures { WiresJoinOnePair }
 {}

@@ -12,6 +12,7 @@ use Rattle.in_net.specs.Graphs.{class_of_symbol, graph_of}
 use Rattle.in_net.specs.Nets.{Port, IsPoint, net_of, signature_of, coded_point}
 use Rattle.in_net.specs.Parts.{Parts, IsWhole, partner_in, symbol_in}
 use Rattle.in_net.proofs.OneNet.{map_is, is_net}
+use Rattle.in_net.proofs.Within.{symbol_within}
 use Rattle.in_open_nets.specs.declared.open_nets.Node.{Node}
 use Rattle.in_open_nets.specs.declared.open_nets.Node.TheVariants.{AgentNode, ClassNode}
 use Rattle.in_open_nets.specs.declared.open_nets.OpenNode.{OpenNode}
@@ -22,13 +23,6 @@ use Rattle.in_opening.proofs.Opened.{listed}
 use Rattle.in_base.proofs.Places.{some_same}
 use Rattle.in_opening.proofs.Mapped.{circle_mapped}
 use Rattle.in_base.proofs.Each.{at_index}
-
-pub symbol_within : (n : Parts) (x : ℕ) (s : SymbolNo) → symbol_in n x ≡ Some s → x < length n.cells
-symbol_within n x s e = go (slice_get n.cells x) refl e
-  where
-    go : (y : Option (Option Cell)) → slice_get n.cells x ≡ y → option_map (λ (c : Cell). c.symbol) (option_and_then (λ (c : Option Cell). c) y) ≡ Some s → x < length n.cells
-    go None f h = cc
-    go (Some y) f h = slice_get_within n.cells x y f
 
 -- an agent's symbol, at a point of the net
 pub symbol_at : (t : Tables) (n : Parts) (x i : ℕ) → IsPoint (signature_of t) (net_of n) (Port x i) → (s : SymbolNo) × (symbol_in n x ≡ Some s) × (i ≤ arity_of t s.0)

@@ -24,12 +24,13 @@ use Rattle.in_opening.specs.Opening.{AreNumbered}
 use Rattle.in_opening.specs.OpeningRules.{agent_node, second_node, class_port, boundary_port, is_turned, rule_point, IsRuleWhole, OpensRule}
 use Rattle.in_open_nets.proofs.Grow.{pair_same}
 use Rattle.in_net.proofs.NumberTests.{lt_tells}
+use Rattle.in_net.proofs.Within.{symbol_within}
 use Rattle.in_opening.proofs.RulePoints.{same_agent, agent_within}
 use Rattle.in_opening.proofs.OpenedRules.{listed, points_open, agent_not_end, same_end, is_end, IsEnd, in_first, in_second, first_port, second_port, class_low}
 use Rattle.in_open_nets.proofs.Sums.{some_of}
 use Rattle.in_net.specs.Interactions.{Redex, redex_at, open_member, open_port, class_node}
 use Rattle.in_opening.proofs.Mapped.{circle_mapped}
-use Rattle.in_opening.proofs.OfNets.{symbol_at, symbol_within, class_of_node}
+use Rattle.in_opening.proofs.OfNets.{symbol_at, class_of_node}
 use Rattle.in_base.proofs.Each.{at_index}
 
 abbrev pair_of : opened.Point → ℕ × ℕ

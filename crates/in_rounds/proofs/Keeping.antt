@@ -15,7 +15,7 @@ use Rattle.atomic_table.specs.Table.{State, keeps, Allows, Splits, Joins}
 use Rattle.in_rounds.specs.declared.hands.Hand.{Hand}
 use Rattle.in_rounds.specs.declared.hands.Size.{Size}
 use Rattle.in_rounds.specs.Rule.{hand, drew, times_claimed, done_count, all_hands, limit_of, AreClaims, IsHandOf, IsKept}
-use Rattle.in_rounds.proofs.Sums.{at_get, if_below, sum_le, stands_counted, length_le_sum}
+use Rattle.in_rounds.proofs.Sums.{at_get, at_most_one, if_below, sum_le, stands_counted, length_le_sum}
 use Rattle.in_rounds.proofs.Views.{change, all_changed, all_at, all_in_view, alone}
 
 -- a number that is past all numbers of a rising list goes to its end
@@ -37,10 +37,6 @@ one_more k w = grind (arith, nat_tests)
 
 not_counted : (h : Hand) → h.done ≡ false → Path ℕ (cond h.done 1 0) 0
 not_counted h e = ap (λ b. cond b 1 0) e
-
-at_most_one : (b : Bool) → cond b 1 0 ≤ 1
-at_most_one true = omega arith
-at_most_one false = omega arith
 
 single : (P : Hand → Type 0) (h : Hand) → P h → All P (h ∷ [])
 single P h p = All-cons P h [] p (All-nil P)

@@ -1,5 +1,5 @@
 -- Sums over lists: two terms of one sum, a positive term of a positive sum, larger terms, and where a number stands that is counted.
-use Rattle.std.proofs.Common.{◌≡◌, ◌≢◌, inl, inr, ℕ, zero, suc, ◌+◌, ◌≤◌, ◌<◌, cond, List, [], ◌∷◌, length, get_or, take, sym, ap, arith, eqb, nat_lt, count_by, All}
+use Rattle.std.proofs.Common.{◌≡◌, ◌≢◌, inl, inr, ℕ, zero, suc, ◌+◌, ◌≤◌, ◌<◌, Bool, true, false, cond, List, [], ◌∷◌, length, get_or, take, sym, ap, arith, eqb, nat_lt, count_by, All}
 use Rattle.std.specs.List.{sum_by}
 use Rattle.std.proofs.lemmas.Bool.{cases_lt}
 use Rattle.std.proofs.lemmas.List.{get_or-take, length-take-le}
@@ -13,6 +13,11 @@ pub at_get : {V : Type 0} (l : List V) (i : ℕ) (v : V) → get_elem? l i ≡ s
 at_get [] i v e = absurd (some-ne-none v (sym e))
 at_get (x ∷ xs) zero v e = (omega arith, some-injective x v e)
 at_get (x ∷ xs) (suc i) v e = let t = at_get xs i v e in (omega (arith, t.0), t.1)
+
+-- what a test counts
+pub at_most_one : (b : Bool) → cond b 1 0 ≤ 1
+at_most_one true = omega arith
+at_most_one false = omega arith
 
 -- two terms are within the sum
 two_in_order : {V : Type 0} (f : V → ℕ) (xs : List V) (i j : ℕ) (d : V) → i < j → j < length xs → f (get_or xs i d) + f (get_or xs j d) ≤ sum_by f xs

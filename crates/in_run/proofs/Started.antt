@@ -8,7 +8,7 @@ use Rattle.in_check.specs.Plain.{PlainParts}
 use Rattle.in_check.specs.Programs.{Program}
 use Rattle.in_net.specs.Nets.{net_of}
 use Rattle.in_check.proofs.Reached.Plain.{renamed_self, starts}
-use Rattle.in_interaction.specs.Queues.{IsQueueOf, agents_at, both, AreInOrder}
+use Rattle.in_interaction.specs.Queues.{IsQueueOf, agents_at, both, IsFirstQueue}
 use Rattle.in_run.specs.Inside.{IsKept}
 use Rattle.in_run.specs.Limiting.{most_cells}
 use Rattle.in_run.specs.Machines.{MachineParts, IsMachine, HasCells, agents_of}
@@ -38,7 +38,7 @@ map_self (q ∷ qs) = ap (λ (zs : List (ℕ × ℕ)). q ∷ zs) (map_self qs)
 abbrev pub machine_at : Program → Parts → List (ℕ × ℕ) → ℕ → ℕ → MachineParts
 machine_at p n queue small large = record { program = p; agents = n.cells; free = n.free; queue = queue; small = small; large = large }
 
-module _ (text : List ℕ) (p : Program) (accepted : IsAccepted text p) (cells small large room : ℕ) (queue : List (ℕ × ℕ)) (few : cells ≤ most_cells) (reserved : cells ≤ room) (pairs : IsQueueOf p.tables p.net queue) (order : AreInOrder p.net queue)
+module _ (text : List ℕ) (p : Program) (accepted : IsAccepted text p) (cells small large room : ℕ) (queue : List (ℕ × ℕ)) (few : cells ≤ most_cells) (reserved : cells ≤ room) (pairs : IsFirstQueue p.tables p.net queue)
     (one : small ≡ agents_of p.tables Small p.net.cells) (two : large ≡ agents_of p.tables Large p.net.cells) (fits : small ≤ cells) (fits_too : large ≤ cells) where
   counted : HasCells cells (machine_at p p.net queue (cells - small) (cells - large))
   counted Small = omega (arith, one, fits)
@@ -48,7 +48,7 @@ module _ (text : List ℕ) (p : Program) (accepted : IsAccepted text p) (cells s
   is_machine = record {
     accepted = (text, accepted);
     plain = plain_bare p p.net (starts p (net_over text p accepted)).0;
-    queue = queue_bare p.tables p.net queue pairs;
+    queue = queue_bare p.tables p.net queue pairs.pairs;
     cells = (cells, few, counted);
   }
 
@@ -69,7 +69,7 @@ module _ (text : List ℕ) (p : Program) (accepted : IsAccepted text p) (cells s
           net = renamed_self (net_of p.net);
           names = refl;
           first = queue;
-          pairs = record { pairs = pairs; order = order };
+          pairs = pairs;
           queue = sym (map_self queue);
           counted = counted;
         })

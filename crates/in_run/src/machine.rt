@@ -1,7 +1,7 @@
 // A machine, and how it starts.
 ghost use Rattle.std.specs.Prelude.{◌≤◌, IfOk};
 ghost use Rattle.std.specs.VecDeque.{deque_capacity};
-ghost use Rattle.in_interaction.specs.Queues.{IsQueueOf, AreInOrder};
+ghost use Rattle.in_interaction.specs.Queues.{IsFirstQueue};
 ghost use Rattle.in_run.specs.Limiting.{least_cells, most_cells};
 ghost use Rattle.in_run.specs.Runs.{Starts};
 
@@ -56,8 +56,7 @@ fn first_queue(
     room: usize,
 ) -> Result<VecDeque<(u32, u32)>, AllocError>
     ensures room { IfOk result (λ q. room ≤ deque_capacity q) }
-    ensures pairs { IfOk result (λ q. IsQueueOf checked.now.tables checked.now.net q.items) }
-    ensures order { IfOk result (λ q. AreInOrder checked.now.net q.items) }
+    ensures pairs { IfOk result (λ q. IsFirstQueue checked.now.tables checked.now.net q.items) }
 {
     checked.is_accepted();
     let net = checked.net();

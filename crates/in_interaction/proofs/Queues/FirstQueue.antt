@@ -1,7 +1,7 @@
 -- The active pairs of a net, found wire by wire.
 use Rattle.std.proofs.Common.{◌≡◌, ◌⊎◌, inl, inr, ◌<◌, ◌≤◌, ◌+◌, ℕ, Option, Some, None, List, [], ◌∷◌, ◌++◌, length, slice_get, refl, sym, ap, subst, ◌∙◌, arith}
 use Rattle.std.specs.Prelude.{option_map}
-use Rattle.std.proofs.lemmas.Option.{same_Some, slice_get_within}
+use Rattle.std.proofs.lemmas.Option.{slice_get_within}
 use Rattle.in_symbols.specs.Tables.{Tables}
 use Rattle.in_net.specs.declared.nets.AgentNo.{AgentNo}
 use Rattle.in_net.specs.declared.nets.Point.{Point}
@@ -10,7 +10,8 @@ use Rattle.in_net.specs.ActivePairs.{IsActivePair}
 use Rattle.in_net.specs.declared.nets.Wire.{Wire}
 use Rattle.in_net.specs.Parts.{Parts, IsWhole, wire_in}
 use Rattle.in_base.proofs.Places.{last_at, kept_at, more_at}
-use Rattle.in_interaction.proofs.Queues.Apart.{apart, same_numbers}
+use Rattle.in_net.proofs.PairOfWire.{one_on_wire}
+use Rattle.in_interaction.proofs.Queues.Apart.{same_numbers}
 use Rattle.in_interaction.specs.Queues.{agents_at, numbers_of, IsQueueOf, JoinsPair, IsNoPair, AreInOrder, IsFirstQueue}
 
 module _ (t : Tables) (n : Parts) where
@@ -35,16 +36,6 @@ module _ (t : Tables) (n : Parts) where
       go v q a j (inr e) = absurd (none q (subst (λ z. JoinsPair n z q) e j))
 
   module _ (whole : IsWhole n) where
-    agent_there : (a b x y : AgentNo) → ◌≡◌ {A = Point × Point} (Port a 0, Port b 0) (Port x 0, Port y 0) → a ≡ x
-    agent_there a b x y e = let f : ◌≡◌ {A = Point} (Port a 0) (Port x 0) = ap (λ (u : Point × Point). u.0) e in cc
-
-    -- a wire joins one pair
-    one_pair : (w : ℕ) (p q : ℕ × ℕ) → IsActivePair t n (agents_at p) → IsActivePair t n (agents_at q) → JoinsPair n w p → JoinsPair n w q → p ≡ q
-    one_pair w p q h k (inl e) (inl f) = same_numbers p q (apart t n whole.back (agents_at p) (agents_at q) h k (inl (agent_there _ _ _ _ (same_Some _ _ (sym e ∙ f)))))
-    one_pair w p q h k (inl e) (inr f) = same_numbers p q (apart t n whole.back (agents_at p) (agents_at q) h k (inr (inl (agent_there _ _ _ _ (same_Some _ _ (sym e ∙ f))))))
-    one_pair w p q h k (inr e) (inl f) = same_numbers p q (apart t n whole.back (agents_at p) (agents_at q) h k (inr (inr (inl (agent_there _ _ _ _ (same_Some _ _ (sym e ∙ f)))))))
-    one_pair w p q h k (inr e) (inr f) = same_numbers p q (apart t n whole.back (agents_at p) (agents_at q) h k (inr (inr (inr (agent_there _ _ _ _ (same_Some _ _ (sym e ∙ f)))))))
-
     pub one_here : (w : ℕ) (qs : List (ℕ × ℕ)) (q : ℕ × ℕ) → AreFirst w qs → IsActivePair t n (agents_at q) → JoinsPair n w q → AreFirst (w + 1) (qs ++ q ∷ [])
     one_here w qs q h here joins = record { pairs = pairs; all = all; order = order }
       where
@@ -56,7 +47,7 @@ module _ (t : Tables) (n : Parts) where
 
         all_by : (v : ℕ) (p : ℕ × ℕ) → IsActivePair t n (agents_at p) → JoinsPair n v p → (v < w) ⊎ (v ≡ w) → (k : ℕ) × (slice_get (qs ++ q ∷ []) k ≡ Some p)
         all_by v p a j (inl l) = (let r = h.all v p l a j in (r.0, kept_at qs (q ∷ []) r.0 p r.1))
-        all_by v p a j (inr e) = (length qs, last_at qs q ∙ ap (λ (z : ℕ × ℕ). Some z) (one_pair w q p here a joins (subst (λ z. JoinsPair n z p) e j)))
+        all_by v p a j (inr e) = (length qs, last_at qs q ∙ ap (λ (z : ℕ × ℕ). Some z) (same_numbers q p (one_on_wire t n w (agents_at q) (agents_at p) here a joins (subst (λ z. JoinsPair n z p) e j))))
 
         all : (v : ℕ) (p : ℕ × ℕ) → v < w + 1 → IsActivePair t n (agents_at p) → JoinsPair n v p → (k : ℕ) × (slice_get (qs ++ q ∷ []) k ≡ Some p)
         all v p l a j = all_by v p a j (let o : (v < w) ⊎ (v ≡ w) = grind (arith, l) in o)
@@ -79,7 +70,7 @@ module _ (t : Tables) (n : Parts) where
             go (inr c) (inl d) = absurd (let m = slice_get_within qs k x d in let o = c.0 in omega (arith, l, m, o))
             go (inr c) (inr d) = absurd (let m = c.0 in let o = d.0 in omega (arith, l, m, o))
 
-    pub is_queue : (w : ℕ) (qs : List (ℕ × ℕ)) → AreFirst w qs → length n.wires ≤ w → IsQueueOf t n qs
+    is_queue : (w : ℕ) (qs : List (ℕ × ℕ)) → AreFirst w qs → length n.wires ≤ w → IsQueueOf t n qs
     is_queue w qs h last = record {
       pairs = λ k q e. (h.pairs k q e).0;
       all = λ q a. (let v = whole.listed (Port q.0 0) (Port q.1 0) a.active in h.all v.0 (numbers_of q) (let l = within v.0 (numbers_of q) v.1 in omega (arith, l, last)) a v.1);
@@ -104,4 +95,4 @@ module _ (t : Tables) (n : Parts) where
 
     -- the pairs of all wires are those of the net, in order
     pub is_first : (w : ℕ) (qs : List (ℕ × ℕ)) → AreFirst w qs → length n.wires ≤ w → IsFirstQueue t n qs
-    is_first w qs h last = record { pairs = is_queue w qs h last; order = h.order }
+    is_first w qs h last = record { pairs = is_queue w qs h last; wires = λ k q e. (let r = (h.pairs k q e).1 in (r.0, r.2)); order = h.order }

@@ -9,23 +9,17 @@ use Rattle.in_net.specs.ActivePairs.{IsActivePair, JoinsAgents}
 use Rattle.in_net.specs.declared.nets.AgentNo.{AgentNo}
 use Rattle.in_net.specs.declared.nets.Cell.{Cell}
 use Rattle.in_net.specs.Parts.{Parts, IsWhole, symbol_in}
+use Rattle.in_net.proofs.Within.{symbol_within}
 use Rattle.in_interaction.specs.Following.{SiteParts, IsSite}
 use Rattle.in_interaction.specs.Interacting.{unused}
 use Rattle.in_interaction.specs.Making.{renumbered, AddsOwn}
 use Rattle.in_interaction.specs.Queues.{agents_at, numbers_of}
 use Rattle.in_interaction.proofs.Queues.FirstQueue.{AreFirst, none_yet, not_here, one_here, is_first}
 
-member_within : (m : Parts) (k : ℕ) (c : SymbolNo) → symbol_in m k ≡ Some c → k < length m.cells
-member_within m k c e = go (slice_get m.cells k) refl e
-  where
-    go : (o : Option (Option Cell)) → slice_get m.cells k ≡ o → option_map {T = Cell} {U = SymbolNo} (λ d. d.symbol) (option_and_then (λ (z : Option Cell). z) o) ≡ Some c → k < length m.cells
-    go None is h = absurd (none-some c h)
-    go (Some d) is h = slice_get_within m.cells k d is
-
 -- an agent of the right member has its number in the site
 module _ (s : SiteParts) (site : IsSite s) (x : AgentNo) (c : SymbolNo) (there : symbol_in s.rule.member x.0 ≡ Some c) where
   pub in_names : x.0 < length s.names
-  in_names = let l = member_within s.rule.member x.0 c there in let m = site.many in omega (arith, l, m)
+  in_names = let l = symbol_within s.rule.member x.0 c there in let m = site.many in omega (arith, l, m)
 
   pub name_read : (ns : List AgentNo) → ns ≡ s.names → slice_index_or ns x.0 (record { 0 = 0 }) ≡ record { 0 = unused s.net.cells x.0 }
   name_read ns same =

@@ -3,8 +3,8 @@ use Rattle.in_symbols.specs.Tables.{Tables}
 use Rattle.in_net.specs.ActivePairs.{IsActivePair, JoinsAgents}
 use Rattle.in_net.specs.declared.nets.AgentNo.{AgentNo}
 use Rattle.in_net.specs.Parts.{Parts}
-use Rattle.in_interaction.specs.Queues.{agents_at, numbers_of, IsQueueOf}
-use Rattle.in_interaction.proofs.Queues.FirstQueue.{AreFirst, not_here, one_here, is_queue}
+use Rattle.in_interaction.specs.Queues.{agents_at, numbers_of, IsFirstQueue}
+use Rattle.in_interaction.proofs.Queues.FirstQueue.{AreFirst, not_here, one_here, is_first}
 use Rattle.in_run.proofs.Accepted.{net_over_at, net_whole}
 use Rattle.in_run.proofs.machine.first_queue.Goals as goal
 use Rattle.in_run.proofs.machine.first_queue.Goals.{in-Some+in_ok-push, in_default}
@@ -45,4 +45,4 @@ returns-clause-pairs c =
     let n = c.args.checked.now.net in
     let whole = net_whole c.is_accepted.ensures.0 c.args.checked.now c.is_accepted.ensures.1 in
     let last : length n.wires ≤ c.loop-wire.wire = subst (λ k. k ≤ c.loop-wire.wire) (c.wires-wire-end.ensures ∙ ap (λ (m : Parts). length m.wires) c.net-net.ensures) c.loop-wire-test.false in
-    subst (IsQueueOf t n) (sym c.from_vec.ensures.items) (is_queue t n whole c.loop-wire.wire c.loop-wire.pairs.items c.loop-wire.invariant.pairs last)
+    subst (IsFirstQueue t n) (sym c.from_vec.ensures.items) (is_first t n whole c.loop-wire.wire c.loop-wire.pairs.items c.loop-wire.invariant.pairs last)

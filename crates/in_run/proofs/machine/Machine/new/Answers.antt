@@ -24,7 +24,7 @@ invariant_of-result c =
     let p = c.args.checked.now in
     let one = c.agents_of-small.ensures ∙ ap (λ (t : Tables). agents_of t Small c.net-net.result.now.cells) c.symbols-symbols.ensures ∙ ap (λ (n : Parts). agents_of p.tables Small n.cells) c.net-net.ensures in
     let two = c.agents_of-large.ensures ∙ ap (λ (t : Tables). agents_of t Large c.net-net.result.now.cells) c.symbols-symbols.ensures ∙ ap (λ (n : Parts). agents_of p.tables Large n.cells) c.net-net.ensures in
-    is_kept c.is_accepted.ensures.0 p c.is_accepted.ensures.1 c.args.cells c.agents_of-small.result c.agents_of-large.result _ c.in_ok-queue.queue.items c.requires.most c.in_ok-queue.ensures.room c.in_ok-queue.ensures.pairs c.in_ok-queue.ensures.order
+    is_kept c.is_accepted.ensures.0 p c.is_accepted.ensures.1 c.args.cells c.agents_of-small.result c.agents_of-large.result _ c.in_ok-queue.queue.items c.requires.most c.in_ok-queue.ensures.room c.in_ok-queue.ensures.pairs
     one two (omega arith) (omega arith) c.in_ok-plain.plain c.in_ok-plain.ensures.starts.0 c.in_ok-plain.ensures.starts.1
 
 pub returns : goal.returns
@@ -32,5 +32,5 @@ returns c =
     let p = c.args.checked.now in
     let one = c.agents_of-small.ensures ∙ ap (λ (t : Tables). agents_of t Small c.net-net.result.now.cells) c.symbols-symbols.ensures ∙ ap (λ (n : Parts). agents_of p.tables Small n.cells) c.net-net.ensures in
     let two = c.agents_of-large.ensures ∙ ap (λ (t : Tables). agents_of t Large c.net-net.result.now.cells) c.symbols-symbols.ensures ∙ ap (λ (n : Parts). agents_of p.tables Large n.cells) c.net-net.ensures in
-    is_start c.is_accepted.ensures.0 p c.is_accepted.ensures.1 c.args.cells c.agents_of-small.result c.agents_of-large.result _ c.in_ok-queue.queue.items c.requires.most c.in_ok-queue.ensures.room c.in_ok-queue.ensures.pairs c.in_ok-queue.ensures.order
+    is_start c.is_accepted.ensures.0 p c.is_accepted.ensures.1 c.args.cells c.agents_of-small.result c.agents_of-large.result _ c.in_ok-queue.queue.items c.requires.most c.in_ok-queue.ensures.room c.in_ok-queue.ensures.pairs
     one two (omega arith) (omega arith) c.in_ok-plain.plain c.in_ok-plain.ensures.starts.0 c.in_ok-plain.ensures.starts.1
