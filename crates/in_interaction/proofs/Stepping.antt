@@ -1,4 +1,5 @@
 pub mod Cells
+pub mod Halves
 pub mod KeptOrMade
 pub mod Landing
 pub mod Making

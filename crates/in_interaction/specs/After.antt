@@ -1,6 +1,5 @@
 -- The agents and wires after an interaction, number by number. Words of the inner contracts of `interact`.
-use Rattle.std.specs.Prelude.{◌≡◌, ◌≢◌, ◌⊎◌, ◌<◌, ◌≤◌, ◌+◌, ◌-◌, ◌*◌, ℕ, List, length, count_by, is_some, Option, Some, option_and_then, slice_get}
-use Rattle.in_syntax.specs.Grammar.{max_ports}
+use Rattle.std.specs.Prelude.{◌≡◌, ◌≢◌, ◌⊎◌, ◌<◌, ◌≤◌, ◌+◌, ◌-◌, ℕ, List, length, Option, Some, option_and_then, slice_get}
 use Rattle.in_interaction.specs.declared.interacting.After.{After}
 use Rattle.in_net.specs.declared.nets.AgentNo.{AgentNo}
 use Rattle.in_net.specs.declared.nets.Cell.{Cell}
@@ -60,7 +59,6 @@ pub record IsAfter (s : SiteParts) (a : After) : Type 0 where
   pub count : length a.cells ≡ numbers_after s.net.cells (length s.rule.member.cells)
   pub cells : AreCellsAfter s a.cells
   pub ends : AreOuterEnds s a.ends
-  pub few : length a.wires ≤ length a.ends + (max_ports + 1) * count_by is_some a.cells
   pub listed : (free : List FreeEnd) → AreEndsOf a.ends free → AreListed (unlisted a.cells free) (λ p. Unit {0}) a.wires
 
 -- .. after these two interact: their site has so many auxiliary places of the first one, and these numbers for the new agents

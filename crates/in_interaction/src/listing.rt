@@ -49,8 +49,7 @@ fn add_wire(wires: &mut Items<Wire>, one: Point, other: Point) -> Result<(), All
 /// The wires that begin at free ends with these partners.
 fn wires_of_free(alloc: Global, ends: &[Point]) -> Result<Items<Wire>, AllocError>
     requires { length ends.now ≤ max_free }
-    ensures few { IfOk result (λ ws. length ws ≤ length ends.now) }
-    ensures listed { IfOk result (λ ws. (n : Parts) → AreEndsOf ends.now n.free → AreListed n (λ p. ComesBefore p (Free (length ends.now))) ws) }
+    ensures { IfOk result (λ ws. (n : Parts) → AreEndsOf ends.now n.free → AreListed n (λ p. ComesBefore p (Free (length ends.now))) ws) }
 {
     let mut wires = Items::new(alloc);
     for (number, end) in ends.iter().enumerate() {
@@ -62,8 +61,7 @@ fn wires_of_free(alloc: Global, ends: &[Point]) -> Result<Items<Wire>, AllocErro
 /// Adds the wires that begin at the ports of an agent.
 fn add_wires(wires: &mut Items<Wire>, agent: AgentNo, ends: &[Point]) -> Result<(), AllocError>
     requires { length ends.now ≤ max_ports + 1 }
-    ensures few { OnOk result (length wires.new ≤ length wires.old + length ends.now) }
-    ensures listed { OnOk result (AddsWires agent ends.now wires.old wires.new) }
+    ensures { OnOk result (AddsWires agent ends.now wires.old wires.new) }
 {
     for (place, end) in ends.iter().enumerate() {
         add_wire(wires, Point::Port(agent, place as u8), *end)?;
@@ -80,8 +78,7 @@ pub(crate) fn wires(
     requires ends { length ends.now ≤ max_free }
     requires cells { length cells.now < 2 ^ 32 }
     requires ports { HaveFewEnds cells.now }
-    ensures few { IfOk result (λ ws. length ws ≤ length ends.now + (max_ports + 1) * count_by is_some cells.now) }
-    ensures listed { IfOk result (λ ws. (free : List FreeEnd) → AreEndsOf ends.now free → AreListed (unlisted cells.now free) (λ p. Unit {0}) ws) }
+    ensures { IfOk result (λ ws. (free : List FreeEnd) → AreEndsOf ends.now free → AreListed (unlisted cells.now free) (λ p. Unit {0}) ws) }
 {
     let mut wires = wires_of_free(alloc, ends)?;
     for (number, cell) in cells.iter().enumerate() {

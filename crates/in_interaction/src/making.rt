@@ -129,7 +129,7 @@ impl<'a> Site<'a> {
     fn add_own(
         &self,
         symbols: &Symbols,
-        pairs: &mut SmallVec<(AgentNo, AgentNo), 16>,
+        pairs: &mut SmallVec<(AgentNo, AgentNo), 32>,
     ) -> Result<(), AllocError>
         requires over { Over self.now symbols.now }
         ensures { OnOk result (AddsOwn symbols.now self.now pairs.old.items pairs.new.items) }
@@ -158,7 +158,7 @@ pub fn made(
     rule: &Rule,
     a: AgentNo,
     b: AgentNo,
-) -> Result<SmallVec<(AgentNo, AgentNo), 16>, AllocError>
+) -> Result<SmallVec<(AgentNo, AgentNo), 32>, AllocError>
     requires may { MayInteract net.now rule.now a b }
     requires over { CanInteract symbols.now net.now rule.now a b }
     ensures { IfOk result (λ pairs. AreMade symbols.now net.now rule.now a b (unused net.now.cells) pairs.items) }

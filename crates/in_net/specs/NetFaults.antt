@@ -15,7 +15,7 @@ use Rattle.in_net.specs.TextNet.{Body, LeftHead, IsTermOf, IsAgent, IsVariable, 
 
 -- the most agents that the initial net may have, and the most that a right member may have
 abbrev pub max_agents : ℕ
-max_agents = 1000
+max_agents = 4000
 
 abbrev pub max_member_agents : ℕ
 max_member_agents = 64

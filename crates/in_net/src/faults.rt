@@ -14,7 +14,7 @@ use in_syntax::{Code, Equation, Head, Place, Refusal, SourceFree, SourceNet, Sou
 use std::alloc::{AllocError, Global};
 
 /// The most agents that the initial net may have. This is this project's own choice.
-pub const MAX_AGENTS: usize = 1_000;
+pub const MAX_AGENTS: usize = 4_000;
 
 /// The most agents that a right member may have. This is this project's own choice.
 pub const MAX_MEMBER_AGENTS: usize = 64;

@@ -37,7 +37,7 @@ max_free = 256
 
 -- the greatest number of a symbol's auxiliary ports
 abbrev pub max_ports : ℕ
-max_ports = 8
+max_ports = 16
 
 -- the greatest depth of a term
 abbrev pub max_depth : ℕ
@@ -78,7 +78,7 @@ numbered spell number (x ∷ more) = spell number x ∷ numbered spell (number +
 abbrev pub spell_port : Bool → SourcePort → List Marked
 spell_port past p = marked past (Named p.kind) ∷ plain (cond p.output kind.Plus kind.Minus) ∷ []
 
--- an auxiliary port by its number in the symbol: the ninth and later ones pass the limit
+-- an auxiliary port by its number in the symbol: the seventeenth and later ones pass the limit
 abbrev pub spell_auxiliary : ℕ → SourcePort → List Marked
 spell_auxiliary number p = spell_port (nat_lt max_ports number) p
 

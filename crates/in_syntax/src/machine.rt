@@ -33,7 +33,7 @@ pub const MAX_RULES: usize = 4096;
 pub const MAX_FREE_NAMES: usize = 256;
 
 /// The greatest number of auxiliary ports of a symbol.
-pub const MAX_PORTS: usize = 8;
+pub const MAX_PORTS: usize = 16;
 
 /// The greatest depth of a term.
 pub const MAX_DEPTH: usize = 200;

@@ -16,7 +16,7 @@ use std::alloc::Global;
 /// The first fault in the order of the tokens is answered:
 /// - E02, at the first token that no program continues with, or at `end` where a program only begins so;
 /// - E03, at the name of the 257th type or the 513th symbol, at the word `rule` of the 4,097th rule, at the type's name
-///   of a symbol's ninth auxiliary port, counted over all its classes, at the 257th free name, or at the first name of a
+///   of a symbol's seventeenth auxiliary port, counted over all its classes, at the 257th free name, or at the first name of a
 ///   term at depth 201. A term of an equation or of a head has depth 1, an argument one more than its agent.
 ///
 /// The grammar is that of Lafont's language ("Interaction nets", 1990) in this project's own signs; the limits and the equations

@@ -6,8 +6,8 @@ use Rattle.in_base.proofs.Among.{among_all, in_map, of_map}
 use Rattle.in_net.specs.Nets.{Net}
 use Rattle.in_interaction.specs.Pieces.{AreDifferent}
 use Rattle.in_base.specs.Lists.{IsAmong}
-use Rattle.in_interaction.proofs.Interactions.Ahead.{remove}
 use Rattle.in_interaction.proofs.Interactions.Alternating.{has_value}
+use Rattle.in_interaction.proofs.Stepping.Halves.{few}
 use Rattle.in_check.specs.Runs.{IsRenamed}
 use Rattle.in_check.specs.NetText.{AreAgents}
 use Rattle.in_check.proofs.Reached.Renaming.{is_some}
@@ -15,15 +15,6 @@ use Rattle.in_check.proofs.Reached.Renaming.{is_some}
 pub all_of : {X : Type 0} (P : X → Type 0) (xs : List X) → ((x : X) → IsAmong x xs → P x) → AllByRecursion P xs
 all_of P [] f = tt
 all_of P (x ∷ xs) f = (f x (inl refl), all_of P xs (λ y h. f y (inr h)))
-
--- different elements of a list are at most as many
-pub few : {X : Type 0} (xs ys : List X) → AreDifferent xs → ((x : X) → IsAmong x xs → IsAmong x ys) → length xs ≤ length ys
-few [] ys d h = omega arith
-few (x ∷ xs) ys d h =
-    let r = remove x ys (h x (inl refl)) in
-    let k : length xs ≤ length r.rest = few xs r.rest d.1 (λ y a. r.kept y (h y (inr a)) (λ e. among_all (λ y. x ≢ y) xs y d.0 a (sym e))) in
-    let s : length ys ≡ suc (length r.rest) = r.shorter in
-    omega arith
 
 different_map : {X Y : Type 0} (f : X → Y) (xs : List X) → AreDifferent (map f xs) → AreDifferent xs
 different_map f [] d = tt

@@ -7,7 +7,7 @@ use Rattle.in_interaction.proofs.Interactions.Alternating.{has_value}
 use Rattle.in_check.specs.Systems.{System}
 use Rattle.in_check.specs.NetText.{Words, TextPart, Bytes, Head, Variable, agent_term, term_at, term, text_parts, AreAgents, StandsTimes, IsQueue, IsAuxiliary}
 use Rattle.in_check.specs.Promises.{HoldsAll, LeadsOn}
-use Rattle.in_check.proofs.Reached.Counts.{few}
+use Rattle.in_interaction.proofs.Stepping.Halves.{few}
 use Rattle.in_check.proofs.Reached.SameText.{nat_test}
 use Rattle.in_check.proofs.Reached.Others.{pieces_of}
 use Rattle.in_check.proofs.Reached.Numbers.{number_twice, positive, one_wire}

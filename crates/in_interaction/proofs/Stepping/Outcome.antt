@@ -1,5 +1,5 @@
 -- The net after an interaction: it is the one of the definitions, over the same tables, and whole.
-use Rattle.std.proofs.Common.{◌≡◌, ◌≢◌, ◌⊎◌, inl, inr, ◌+◌, ◌*◌, ◌<◌, ◌≤◌, ℕ, zero, suc, false, cond, Option, Some, None, List, [], ◌∷◌, map, length, count_by, is_some, slice_get, refl, sym, ap, subst, ◌∙◌, arith}
+use Rattle.std.proofs.Common.{◌≡◌, ◌≢◌, ◌⊎◌, inl, inr, ◌+◌, ◌<◌, ◌≤◌, ℕ, zero, suc, false, cond, Option, Some, None, List, [], ◌∷◌, map, length, count_by, is_some, slice_get, refl, sym, ap, subst, ◌∙◌, arith}
 use Rattle.std.specs.Prelude.{option_map, option_and_then}
 use Rattle.std.specs.List.{AllByRecursion}
 use native.Mathlib.Decide.{ℕ_discrete}
@@ -29,6 +29,7 @@ use Rattle.in_interaction.proofs.Interactions.StaysNet as stays_net
 use Rattle.in_interaction.proofs.Stepping.Cells.{numbers_fit}
 use Rattle.in_net.proofs.ActivePairs.{symbol_known}
 use Rattle.in_net.proofs.Lists.{cell_within}
+use Rattle.in_interaction.proofs.Stepping.Halves.{half}
 use Rattle.in_interaction.proofs.Stepping.Partners.{net_wire}
 use Rattle.in_interaction.proofs.Stepping.Sites.{net, inside, redex, naming}
 use Rattle.in_interaction.proofs.Stepping.Unused.{counted}
@@ -259,7 +260,7 @@ module _ (s : SiteParts) (site : IsSite s) (cells : List (Option Cell)) (free : 
           let r = (after x).only d e in
           elim r.1 [ inl h ↦ inl (r.0, h.there) | inr h ↦ (let l = h.within in let n = site.many in inr (h.agent, omega (arith, l, n), h.name)) ]
 
-  module _ (listed : AreListed (unlisted cells free) (λ p. Unit {0}) wires) (few : length wires ≤ length free + (max_ports + 1) * count_by is_some cells) where
+  module _ (listed : AreListed (unlisted cells free) (λ p. Unit {0}) wires) where
     back : (p q : coded.Point) → partner_in m p ≡ Some q → partner_in m q ≡ Some p
     back p q e =
         let r = map_is (partner_in m (coded_point (point_of q))) (point_of p) ((is_net site.over.0 site.over.1).back (point_of p) (point_of q) (net_wire m p q e)) in
@@ -277,6 +278,15 @@ module _ (s : SiteParts) (site : IsSite s) (cells : List (Option Cell)) (free : 
       | inr same ↦ same
     ]
 
+    wire_is : (w : ℕ) (v : Wire) → slice_get wires w ≡ Some v → wire_in m w ≡ Some (v.one, v.other)
+    wire_is w v e = ap (option_map {T = Wire} {U = coded.Point × coded.Point} (λ v. (v.one, v.other))) e
+
+    told : (w : ℕ) (v : Wire) → slice_get wires w ≡ Some v → (partner_in m v.one ≡ Some v.other) × ComesBefore v.one v.other
+    told w v e = let r = listed.sound w v.one v.other (wire_is w v e) in (r.0, r.1)
+
+    begin_once : (j k : ℕ) (v w : Wire) → slice_get wires j ≡ Some v → slice_get wires k ≡ Some w → v.one ≡ w.one → j ≡ k
+    begin_once j k v w e f same = between j k v.one v.other w.one w.other (wire_is j v e) (wire_is k w f) same
+
     pub whole : IsWhole m
     whole = record {
       agents = let n = numbers_fit s site in omega (arith, n, numbers);
@@ -288,7 +298,8 @@ module _ (s : SiteParts) (site : IsSite s) (cells : List (Option Cell)) (free : 
           let c = site.few in
           let d = frees.many in
           let e = site.whole.ends in
-          omega (arith, few, a, b, c, d, e);
+          let n = half m back apart wires few_ends told begin_once in
+          omega (arith, n, a, b, c, d, e);
       back = back;
       apart = apart;
       listed = λ p q e. elim (before_or p q (λ same. apart p (e ∙ ap (λ (z : coded.Point). Some z) (sym same)))) [

@@ -1,8 +1,7 @@
 -- Wires listed by their first points, point by point.
-use Rattle.std.proofs.Common.{◌≡◌, ◌⊎◌, inl, inr, ◌+◌, ◌<◌, ◌≤◌, ℕ, zero, suc, Option, Some, None, List, [], ◌∷◌, ◌++◌, map, length, length-append, slice_get, get_or, take, count_by, is_some, refl, sym, ap, subst, ◌∙◌, arith}
+use Rattle.std.proofs.Common.{◌≡◌, ◌⊎◌, inl, inr, ◌+◌, ◌<◌, ◌≤◌, ℕ, zero, suc, Option, Some, None, List, [], ◌∷◌, ◌++◌, map, length, slice_get, get_or, refl, sym, ap, subst, ◌∙◌, arith}
 use Rattle.std.specs.Prelude.{option_and_then}
 use Rattle.std.proofs.lemmas.List.{length-map}
-use Rattle.std.proofs.lemmas.List.Sums.{count_by_more_yes, count_by_more_no}
 use Rattle.std.proofs.lemmas.Option.{slice_get_within, slice_get-get_or, slice_get-map}
 use Rattle.in_syntax.specs.declared.places.Place.{Place}
 use Rattle.in_interaction.specs.Listing.{AddsWire, AreEndsOf, AreListed, wire_at, wire_between}
@@ -199,10 +198,6 @@ all_agents n x ws last h = redone n (λ p. ComesBefore p (Port (record { 0 = x }
     there (Free l) y e d = tt
     there (Port b j) y e d = let c = port_there n b j y e in let l = cell_within n.cells b.0 c.0 c.1 in inl (omega (arith, l, last))
 
-pub at_most_one : (p q : Point) (ws new : List Wire) → AddsWire p q ws new → length new ≤ length ws + 1
-at_most_one p q ws new (inl a) = let n : length new ≡ length (ws ++ wire_between p q ∷ []) = ap length a.1 in omega (arith, n, length-append ws (wire_between p q ∷ []))
-at_most_one p q ws new (inr a) = let n : length new ≡ length ws = ap length a.1 in omega (arith, n)
-
 -- the next free end
 pub one_free : (n : Parts) (k : ℕ) (ends : List Point) (d : Point) (ws new : List Wire) → AreEndsOf ends n.free → k < length ends → AddsWire (Free k) (get_or ends k d) ws new → AreListed n (λ x. ComesBefore x (Free k)) ws →
     AreListed n (λ x. ComesBefore x (Free (k + 1))) new
@@ -216,23 +211,6 @@ pub one_port : (n : Parts) (c : Cell) (a : AgentNo) (i : ℕ) (ends : List Point
 one_port n c a i ends d ws new is same lt add h =
     let here : partner_in n (Port a i) ≡ Some (get_or ends i d) = ap (option_and_then (λ (c : Cell). slice_get c.ends i)) is ∙ ap (λ (es : List Point). slice_get es i) same ∙ slice_get-get_or ends i d lt in
     next_port n a i (get_or ends i d) ws new h here add
-
--- ---- how many
-
-pub counted_yes : (cs : List (Option Cell)) (i : ℕ) (o : Option Cell) (c : Cell) → i < length cs → o ≡ get_or cs i o → o ≡ Some c → count_by is_some (take (i + 1) cs) ≡ count_by is_some (take i cs) + 1
-counted_yes cs i o c lt e is = count_by_more_yes is_some cs i o lt (ap is_some (sym e) ∙ ap is_some is)
-
-pub counted_no : (cs : List (Option Cell)) (i : ℕ) (o : Option Cell) → i < length cs → o ≡ get_or cs i o → o ≡ None → count_by is_some (take (i + 1) cs) ≡ count_by is_some (take i cs)
-counted_no cs i o lt e is = count_by_more_no is_some cs i o lt (ap is_some (sym e) ∙ ap is_some is)
-
-pub all_taken : (cs : List (Option Cell)) (i : ℕ) → length cs ≤ i → count_by is_some (take i cs) ≡ count_by is_some cs
-all_taken cs i h = ap (count_by is_some) (taken cs i h)
-  where
-    taken : (cs : List (Option Cell)) (i : ℕ) → length cs ≤ i → take i cs ≡ cs
-    taken [] zero h = refl
-    taken [] (suc i) h = refl
-    taken (c ∷ cs) zero h = absurd (omega (arith, h))
-    taken (c ∷ cs) (suc i) h = ap (λ (xs : List (Option Cell)). c ∷ xs) (taken cs i (omega (arith, h)))
 
 pub none_at : (cs : List (Option Cell)) (x : ℕ) (d : Cell) → slice_get cs x ≡ Some None → option_and_then (λ (c : Option Cell). c) (slice_get cs x) ≡ Some d → length d.ends ≤ 0
 none_at cs x d e h = let z : ◌≡◌ {A = Option Cell} None (Some d) = sym (ap (option_and_then (λ (c : Option Cell). c)) e) ∙ h in cc

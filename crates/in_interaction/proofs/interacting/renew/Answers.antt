@@ -1,5 +1,4 @@
-use Rattle.std.proofs.Common.{◌≡◌, ◌≤◌, ◌+◌, ◌*◌, ℕ, false, List, [], length, count_by, is_some, sym, subst, ◌∙◌}
-use Rattle.in_syntax.specs.Grammar.{max_ports}
+use Rattle.std.proofs.Common.{◌≡◌, ℕ, false, List, [], sym, subst}
 use Rattle.in_interaction.specs.After.{IsAfter}
 use Rattle.in_net.specs.Renewing.{Rejoins}
 use Rattle.in_interaction.specs.Following.{SiteParts, IsSite}
@@ -18,9 +17,6 @@ use Rattle.in_interaction.proofs.interacting.renew.Goals as goal
 listed_of : (s : SiteParts) (a : After) (free : List FreeEnd) → IsAfter s a → Rejoins a.ends s.net.free free → AreListed (unlisted a.cells free) (λ p. Unit {0}) a.wires
 listed_of s a free after new = after.listed free (ends_rejoined a.ends s.net.free free after.ends.many new)
 
-few_of : (s : SiteParts) (a : After) (free : List FreeEnd) → IsAfter s a → Rejoins a.ends s.net.free free → length a.wires ≤ length free + (max_ports + 1) * count_by is_some a.cells
-few_of s a free after new = subst (λ (k : ℕ). length a.wires ≤ k + (max_ports + 1) * count_by is_some a.cells) (after.ends.many ∙ sym new.many) after.few
-
 abbrev site_of : Parts → RuleParts → AgentNo → AgentNo → ℕ → List AgentNo → SiteParts
 site_of n r a b first names = record { net = n; rule = r; one = a; two = b; first = first; names = names }
 
@@ -30,8 +26,7 @@ renewed : (s : SiteParts) (x : After) (free : List FreeEnd) → IsSite s → IsA
 renewed s x free site is new =
     let frees = all_rejoined s x.ends free is.ends new in
     let listed = listed_of s x free is new in
-    let few = few_of s x free is new in
-    (whole s site x.cells free x.wires is.count is.cells frees listed few, interacts s site x.cells free x.wires is.count is.cells frees listed few)
+    (whole s site x.cells free x.wires is.count is.cells frees listed, interacts s site x.cells free x.wires is.count is.cells frees listed)
 
 -- .. where the partners come as a slice of them
 rejoins : (ends slice : List Point) (old free : List FreeEnd) → slice ≡ ends → Rejoins slice old free → Rejoins ends old free

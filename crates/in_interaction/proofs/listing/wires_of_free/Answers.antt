@@ -1,31 +1,21 @@
-use Rattle.std.proofs.Common.{◌≡◌, ℕ, length, sym, ap, subst, arith}
+use Rattle.std.proofs.Common.{◌≡◌, ℕ, length, sym, subst, arith}
 use Rattle.in_interaction.specs.Listing.{AreListed}
 use Rattle.in_net.specs.TextNet.{ComesBefore}
 use Rattle.in_net.specs.declared.nets.Point.TheVariants.{Free}
-use Rattle.in_interaction.proofs.Stepping.Wires.{no_point, one_free, at_most_one}
+use Rattle.in_interaction.proofs.Stepping.Wires.{no_point, one_free}
 use Rattle.in_interaction.proofs.listing.wires_of_free.Goals as goal
 
 pub loop-number-init : goal.loop-number-init
-loop-number-init c = record {
-  few = let e : length c.new-wires.result ≡ 0 = ap length c.new-wires.ensures in omega (arith, e);
-  listed = λ n is. subst (AreListed n (λ p. ComesBefore p (Free 0))) (sym c.new-wires.ensures) (no_point n);
-}
+loop-number-init c = λ n is. subst (AreListed n (λ p. ComesBefore p (Free 0))) (sym c.new-wires.ensures) (no_point n)
 
 pub loop-number-preserved : goal.loop-number-preserved
 loop-number-preserved c =
     let k = c.loop-number.number in
     let added = c.in_ok-add_wire.ensures {u = tt} in
-    let most = at_most_one (Free k) _ c.loop-number.wires c.add_wire.new.wires added in
-    record {
-      few = let n = c.loop-number.invariant.few in omega (arith, most, n);
-      listed = λ n is. one_free n k c.args.ends.now _ c.loop-number.wires c.add_wire.new.wires is c.loop-number-test.true added (c.loop-number.invariant.listed n is);
-    }
+    λ n is. one_free n k c.args.ends.now _ c.loop-number.wires c.add_wire.new.wires is c.loop-number-test.true added (c.loop-number.invariant n is)
 
-pub returns-clause-few : goal.returns-clause-few
-returns-clause-few c = let n = c.loop-number.invariant.few in omega (arith, n, c.loop-number.auto.number-end)
-
-pub returns-clause-listed : goal.returns-clause-listed
-returns-clause-listed c = λ n is. (
+pub returns : goal.returns
+returns c = λ n is. (
     let last : c.loop-number.number ≡ length c.args.ends.now = omega (arith, c.loop-number.auto.number-end, c.loop-number-test.false) in
-    subst (λ (k : ℕ). AreListed n (λ p. ComesBefore p (Free k)) c.loop-number.wires) last (c.loop-number.invariant.listed n is)
+    subst (λ (k : ℕ). AreListed n (λ p. ComesBefore p (Free k)) c.loop-number.wires) last (c.loop-number.invariant n is)
     )

@@ -1,4 +1,3 @@
-use Rattle.std.proofs.Common.{◌≤◌, length}
 use Rattle.in_interaction.specs.Listing.{AreEndsOf, AreListed}
 use Rattle.in_net.specs.Parts.{Parts}
 use Rattle.in_net.specs.TextNet.{ComesBefore}
@@ -6,7 +5,4 @@ use Rattle.in_net.specs.declared.nets.Point.TheVariants.{Free}
 use Rattle.in_interaction.proofs.listing.wires_of_free.Given as goal
 
 abbrev pub invariant-loop-number : goal.invariant-loop-number
-invariant-loop-number l = record {
-  few : length l.wires ≤ l.number;
-  listed : (n : Parts) → AreEndsOf l.ends n.free → AreListed n (λ p. ComesBefore p (Free l.number)) l.wires;
-}
+invariant-loop-number l = (n : Parts) → AreEndsOf l.ends n.free → AreListed n (λ p. ComesBefore p (Free l.number)) l.wires

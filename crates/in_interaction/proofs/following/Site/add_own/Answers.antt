@@ -1,10 +1,9 @@
-use Rattle.std.proofs.Common.{◌≡◌, ◌≤◌, ◌+◌, ◌++◌, List, [], ◌∷◌, length, slice_index_or, sym, ap, subst, ◌∙◌}
+use Rattle.std.proofs.Common.{◌≡◌, ◌≤◌, ◌+◌, ◌++◌, [], ◌∷◌, length, slice_index_or, sym, ap, subst, ◌∙◌}
 use Rattle.in_net.specs.ActivePairs.{IsActivePair, JoinsAgents}
 use Rattle.in_net.specs.declared.nets.AgentNo.{AgentNo}
 use Rattle.in_net.specs.Parts.{Parts}
 use Rattle.in_interaction.specs.Following.{SiteParts, IsSite}
 use Rattle.in_interaction.specs.Interacting.{unused}
-use Rattle.in_interaction.specs.Queues.{numbers_of}
 use Rattle.in_interaction.proofs.Queues.OwnPairs.{AddsBelow, adds_no_more, adds_one_more, adds_all, name_read}
 use Rattle.in_interaction.proofs.following.Site.add_own.Goals as goal
 use Rattle.in_interaction.proofs.following.Site.add_own.Goals.{in-Some+in_ok-push, in_default}
