@@ -1,8 +1,16 @@
 pub mod Arenas
+pub mod Bags
+pub mod ByClass
+pub mod Changes
+pub mod Classes
 pub mod Crossing
 pub mod Filled
+pub mod Lending
 pub mod Memory
-pub mod Regions
+pub mod OneSack
+pub mod Parts
+pub mod OneRegion
 pub mod Rows
+pub mod Seen
 pub mod Sharing
 pub mod Walks

@@ -64,7 +64,7 @@ module _ (E : El) {M : Type 1} {𝓤 : Ura M} (𝓛 : Logic 𝓤) (b : ℕ) wher
       use2 𝓛 (‵ (Row (o + s) (set cs i c))) (cell_in (o + s) cs i at c (omega arith) (omega (arith, e, suc-mul i s))) $ move ! (1 ∷ 0 ∷ []) $ fjoin ! $ done !
 
   -- a row of another owner's cells takes nothing
-  none_here : (o n : ℕ) → ent 𝓤 (emp 𝓤) (sem 𝓛 (Row o (replicate n None)))
+  pub none_here : (o n : ℕ) → ent 𝓤 (emp 𝓤) (sem 𝓛 (Row o (replicate n None)))
   none_here o zero = id⊢ 𝓤 (emp 𝓤)
   none_here o (suc n) = qed 𝓛 [] ∵ use0 𝓛 (‵ (Row (o + s) (replicate n None))) (none_here (o + s) n) $ nothing ! $ fjoin ! $ done !
 

@@ -1,10 +1,17 @@
 pub mod Arenas
+pub mod BagInside
+pub mod Bags
+pub mod ByClass
+pub mod Changes
+pub mod Classes
 pub mod Contents
 pub mod Filling
 pub mod Inside
 pub mod Leases
+pub mod Lending
 pub mod Lends
 pub mod Ownership
 pub mod Places
 pub mod Regions
+pub mod Sacks
 pub mod States

@@ -1,8 +1,8 @@
 -- A region of cells of one width. What stands in its cells says which are free, leased or live.
-use Rattle.std.specs.Prelude.{◌≡◌, ◌≢◌, ◌≤◌, ◌<◌, ◌^◌, ℕ, zero, suc, List, [], ◌∷◌, length, map, take, sum_by, get_or, slice_set, replicate, Option, Some, None}
+use Rattle.std.specs.Prelude.{◌≡◌, ◌≢◌, ◌≤◌, ◌<◌, ◌+◌, ◌^◌, ℕ, zero, suc, List, [], ◌∷◌, length, map, take, sum_by, get_or, slice_set, replicate, count_by, Bool, true, false, Option, Some, None}
 use Rattle.std.specs.List.{AllByRecursion}
 use Rattle.in_arena.specs.Contents.{end_of}
-use Rattle.in_arena.specs.States.{State, Vacant, Leased, Live, IsLeased}
+use Rattle.in_arena.specs.States.{State, Vacant, Leased, Live, IsLeased, is_vacant}
 use Rattle.in_arena.specs.declared.content.Content.{Content}
 use Rattle.in_arena.specs.declared.content.Stored.{Stored}
 use Rattle.in_arena.specs.declared.region.Region.{Region}
@@ -21,10 +21,10 @@ module _ {W : ℕ} where
   abbrev pub state_in : Content W → State
   state_in c = with_ends c.count c.word c.ends
 
-  -- a cell that another owner has is leased
+  -- a cell that another owner has is leased, and one that was never used is free
   abbrev pub state_of : Option (Option (Content W)) → State
   state_of None = Leased
-  state_of (Some None) = Leased
+  state_of (Some None) = Vacant
   state_of (Some (Some c)) = state_in c
 
   -- the state of each cell by its place in the region
@@ -37,7 +37,7 @@ module _ {W : ℕ} where
 
   abbrev pub vacancy : Option (Option (Content W)) → ℕ
   vacancy None = 0
-  vacancy (Some None) = 0
+  vacancy (Some None) = 1
   vacancy (Some (Some c)) = one_if_zero c.count
 
   -- how many cells are free
@@ -53,21 +53,26 @@ module _ {W : ℕ} where
   abbrev pub LeadsOn : List (Option (Option (Content W))) → ℕ → (ℕ → Type 0) → Type 0
   LeadsOn cells f P = (k : ℕ) × IsVacantTo (get_or cells f None) k × P k
 
-  -- the free cells from this one on, each of which names the next one, and the last the end of the region
+  -- the used cells that are free from this one on, each of which names the next one, and the last the end of the region
   abbrev pub IsFreeList : List (Option (Option (Content W))) → ℕ → List ℕ → Type 0
   IsFreeList cells next [] = next ≡ length cells
   IsFreeList cells next (f ∷ fs) = (next ≡ f) × (f < length cells) × LeadsOn cells f (λ k. IsFreeList cells k fs)
 
-  -- a cell of the region is out, or a content of at most so many ends stands in it
+  -- a content that stands in a cell has at most so many ends
   abbrev pub IsCell : Option (Option (Content W)) → Type 0
   IsCell None = Unit {0}
-  IsCell (Some None) = ⊥
+  IsCell (Some None) = Unit {0}
   IsCell (Some (Some c)) = c.count ≤ W
 
 abbrev pub AreDifferent : List ℕ → Type 0
 AreDifferent [] = Unit {0}
 AreDifferent (x ∷ xs) = AllByRecursion (λ y. x ≢ y) xs × AreDifferent xs
 
+-- the cells from this one on were never used: they are here, and nothing was ever written in them
+abbrev pub AreNew : {W : ℕ} → List (Option (Option (Content W))) → ℕ → Type 0
+AreNew cells fresh = (i : ℕ) → fresh ≤ i → i < length cells → get_or cells i None ≡ Some None
+
+-- the free cells are those of the list, and all that were never used
 pub record IsRegion {W : ℕ} (r : Region W) : Type 0 where
   pub block : (r.cells.at ≡ r.base.ptr) × (r.deed.at ≡ r.base.ptr) × (r.deed.len ≡ r.size) × (r.deed.alloc ≡ r.alloc)
   pub size : (length r.cells.slots ≡ r.size) × (r.size < 2 ^ 31)
@@ -76,8 +81,9 @@ pub record IsRegion {W : ℕ} (r : Region W) : Type 0 where
   pub free : List ℕ
   pub listed : IsFreeList r.cells.slots r.next free
   pub once : AreDifferent free
-  pub all : vacancies r.cells.slots ≡ length free
-  pub count : r.free ≡ length free
+  pub unused : (r.fresh ≤ r.size) × AreNew r.cells.slots r.fresh
+  pub all : vacancies r.cells.slots + r.fresh ≡ length free + r.size
+  pub count : r.free + r.fresh ≡ length free + r.size
 
 -- it owns one cell of some region
 pub record IsHeld {W : ℕ} (l : Held W) : Type 0 where
@@ -105,9 +111,20 @@ pub record Becomes {W : ℕ} (r s : Region W) (i : ℕ) (x : State) : Type 0 whe
   pub memory : (s.cells.at ≡ r.cells.at) × (s.size ≡ r.size)
   pub states : states s ≡ slice_set (states r) i x
 
+-- the regions are of one memory, and each cell is what it was
+pub record IsSame {W : ℕ} (r s : Region W) : Type 0 where
+  pub region : IsRegion s
+  pub memory : (s.cells.at ≡ r.cells.at) × (s.size ≡ r.size)
+  pub states : states s ≡ states r
+
+-- the list has a cell; or none is free
+abbrev pub IsReady : {W : ℕ} → Region W → Bool → Region W → Type 0
+IsReady r true s = IsSame r s × (s.next ≡ s.size → ⊥)
+IsReady r false s = (count_by is_vacant (states r) ≡ 0) × (s ≡ r)
+
 -- a cell that was free is leased, and nothing is written in it; or none was free
 abbrev pub IsLeasedTo : {W : ℕ} → Region W → Region W → Option (Held W) → Type 0
-IsLeasedTo r s None = (vacancies r.cells.slots ≡ 0) × (s ≡ r)
+IsLeasedTo r s None = (count_by is_vacant (states r) ≡ 0) × (s ≡ r)
 IsLeasedTo r s (Some l) = (state_at r l.index ≡ Vacant) × Becomes r s l.index Leased × IsOf l s × (state l ≡ Vacant)
 
 -- no cell is leased
@@ -119,3 +136,7 @@ pub record IsSameCell {W : ℕ} (l m : Held W) : Type 0 where
   pub index : m.index ≡ l.index
   pub block : m.cells.at ≡ l.cells.at
   pub size : length m.cells.slots ≡ length l.cells.slots
+
+-- a region of so many cells, all of them free
+abbrev pub IsFresh : {W : ℕ} → ℕ → Region W → Type 0
+IsFresh cells r = IsRegion r × (states r ≡ replicate cells Vacant)

@@ -1,5 +1,5 @@
 -- What a cell is to contracts: free, leased, or live with a symbol word and its ends.
-use Rattle.std.specs.Prelude.{ℕ, Bool, true, false, List, length, slice_get, slice_set, Option, Some, None}
+use Rattle.std.specs.Prelude.{◌≡◌, ℕ, Bool, true, false, List, length, slice_get, slice_set, Option, Some, None}
 use Rattle.in_arena.specs.declared.content.End.{End}
 
 pub data State : Type 0 where
@@ -37,6 +37,10 @@ abbrev pub end_at : State → ℕ → Option End
 end_at Vacant place = None
 end_at Leased place = None
 end_at (Live word ends) place = slice_get ends place
+
+-- live with this symbol word and so many ends, which are open
+abbrev pub IsBegun : ℕ → ℕ → State → Type 0
+IsBegun word count x = (ends : List End) × (length ends ≡ count) × (x ≡ Live word ends)
 
 -- the same with this end at that place
 abbrev pub with_end : State → ℕ → End → State

@@ -1,20 +1,22 @@
-// An arena: a region of small cells, and one of large cells.
-ghost use Rattle.std.specs.Prelude.{◌≡◌, ◌+◌, ◌<◌, ◌≤◌, ◌^◌, Some, IfOk, replicate};
-ghost use Rattle.in_arena.specs.States.{Vacant, IsLive, word_of, end_at, places, with_end};
+// An arena: regions of cells, in which each cell has a number.
+ghost use Rattle.std.specs.Prelude.{◌≡◌, ◌*◌, ◌<◌, ◌≤◌, Some, IfOk, length, replicate};
+ghost use Rattle.in_arena.specs.States.{Vacant, Leased, IsLive, word_of, end_at, places, with_end};
 ghost use Rattle.in_arena.specs.Arenas.{Leases, IsOf, NoneLeased, state_at, changed, free_of};
+ghost use Rattle.in_arena.specs.Bags.{IsBagOf, IsIn, LeasesTo, empty_bag};
+ghost use Rattle.in_arena.specs.Classes.{classes};
+ghost use Rattle.in_arena.specs.Changes.{HasAllCells};
 
+use crate::bag::Bag;
 use crate::content::{CellClass, CellNo, End, SymbolWord};
-use crate::lease::{HeldCell, Lease};
-use crate::region::Region;
+use crate::lease::Lease;
+use crate::regions::{Regions, place_of};
 use std::alloc::{AllocError, Global};
 use std::marker::Model;
 
-/// So many cells of each class in raw memory, the small ones numbered from 0, the large ones after them. Contracts see what each cell is,
+/// So many cells of each class in raw memory, numbered class by class from 0. Contracts see what each cell is,
 /// by its number: free, leased, or live with a symbol word and its ends. It is dropped only while no cell is on lease.
 pub struct Arena {
-    small: Region<3>,
-    large: Region<9>,
-    cells: u32,
+    regions: Regions,
 }
 
 impl Model for Arena {
@@ -33,13 +35,8 @@ impl Drop for Arena {
     fn drop(self)
         requires { NoneLeased self }
     {
-        let Arena {
-            small,
-            large,
-            cells: _,
-        } = self;
-        small.close();
-        large.close();
+        let Arena { regions } = self;
+        regions.close();
     }
 }
 
@@ -47,124 +44,139 @@ impl Arena {
     /// An arena with so many cells of each class, all free. Refused for want of memory alone; no other call takes memory.
     pub fn new(alloc: Global, cells: u32) -> Result<Arena, AllocError>
         requires { cells ≤ 1048576 }
-        ensures { IfOk result (λ a. (a.cells ≡ cells) × (a.states ≡ replicate (cells + cells) Vacant)) }
+        ensures { IfOk result (λ a. (a.cells ≡ cells) × (a.states ≡ replicate (length classes * cells) Vacant)) }
     {
-        let small = Region::new(alloc, cells)?;
-        match Region::new(alloc, cells) {
-            Ok(large) => Ok(Arena {
-                small,
-                large,
-                cells,
-            }),
-            Err(error) => {
-                small.close();
-                Err(error)
-            }
-        }
+        let regions = Regions::new(alloc, cells)?;
+        Ok(Arena { regions })
+    }
+
+    /// How many cells of each class there are.
+    pub fn cells(&self) -> u32
+        ensures { (result ≡ self.now.cells) × HasAllCells self.now }
+    {
+        self.regions.cells
     }
 
     /// How many cells of a class are free.
     pub fn free_count(&self, class: CellClass) -> u32
         ensures { result ≡ free_of self.now class }
     {
-        match class {
-            CellClass::Small => self.small.free_count(),
-            CellClass::Large => self.large.free_count(),
-        }
+        self.regions.free_count(class)
     }
 
     /// A free cell of this class; nothing where none is free. Which free cell it is is open.
+    #[inline(always)]
     pub fn lease(&mut self, class: CellClass) -> Option<Lease>
         ensures { Leases self.old class result self.new }
     {
-        match class {
-            CellClass::Small => match self.small.lease() {
-                Some(held) => Some(Lease {
-                    number: held.index(),
-                    held: HeldCell::Small(held),
-                }),
-                None => None,
-            },
-            CellClass::Large => match self.large.lease() {
-                Some(held) => Some(Lease {
-                    number: self.cells + held.index(),
-                    held: HeldCell::Large(held),
-                }),
-                None => None,
-            },
-        }
+        let held = self.regions.lease(class)?;
+        Some(Lease {
+            number: class.number() * self.regions.cells + held.index(),
+            held,
+        })
     }
 
     /// The cell of the lease is live with what is written in it.
+    #[inline(always)]
     pub fn settle(&mut self, lease: Lease)
         requires of_this_arena { IsOf lease self.old }
         requires written { IsLive lease.state }
         ensures { self.new ≡ changed self.old lease.number lease.state }
     {
         let Lease { number: _, held } = lease;
-        match held {
-            HeldCell::Small(held) => self.small.settle(held),
-            HeldCell::Large(held) => self.large.settle(held),
-        }
+        self.regions.settle(held);
     }
 
     /// The cell of the lease is free.
+    #[inline(always)]
     pub fn give_back(&mut self, lease: Lease)
         requires { IsOf lease self.old }
         ensures { self.new ≡ changed self.old lease.number Vacant }
     {
         let Lease { number: _, held } = lease;
-        match held {
-            HeldCell::Small(held) => self.small.give_back(held),
-            HeldCell::Large(held) => self.large.give_back(held),
-        }
+        self.regions.give_back(held);
     }
 
     /// The symbol word of a live cell.
+    #[inline(always)]
     pub fn symbol(&self, cell: CellNo) -> SymbolWord
         requires { IsLive (state_at self.now cell.0) }
         ensures { word_of (state_at self.now cell.0) ≡ Some result }
     {
-        if cell.0 < self.cells {
-            self.small.symbol(cell.0)
-        } else {
-            self.large.symbol(cell.0 - self.cells)
-        }
+        let (class, index) = place_of(self.regions.cells, cell);
+        self.regions.symbol(class, index)
     }
 
     /// What a place of a live cell leads to, the principal port being place 0.
+    #[inline(always)]
     pub fn port(&self, cell: CellNo, place: u8) -> End
         requires { place < places (state_at self.now cell.0) }
         ensures { end_at (state_at self.now cell.0) place ≡ Some result }
     {
-        if cell.0 < self.cells {
-            self.small.port(cell.0, place)
-        } else {
-            self.large.port(cell.0 - self.cells, place)
-        }
+        let (class, index) = place_of(self.regions.cells, cell);
+        self.regions.port(class, index, place)
     }
 
     /// Writes what a place of a live cell leads to.
+    #[inline(always)]
     pub fn set_port(&mut self, cell: CellNo, place: u8, end: End)
         requires { place < places (state_at self.old cell.0) }
         ensures { self.new ≡ changed self.old cell.0 (with_end (state_at self.old cell.0) place end) }
     {
-        if cell.0 < self.cells {
-            self.small.set_port(cell.0, place, end);
-        } else {
-            self.large.set_port(cell.0 - self.cells, place, end);
-        }
+        let (class, index) = place_of(self.regions.cells, cell);
+        self.regions.set_port(class, index, place, end);
     }
 
     /// The live cell is free from now on.
+    #[inline(always)]
     pub fn retire(&mut self, cell: CellNo)
         requires { IsLive (state_at self.old cell.0) }
         ensures { self.new ≡ changed self.old cell.0 Vacant }
     {
-        if cell.0 < self.cells {
-            self.small.retire(cell.0);
-        } else {
-            self.large.retire(cell.0 - self.cells);
+        let (class, index) = place_of(self.regions.cells, cell);
+        self.regions.retire(class, index);
+    }
+
+    /// A bag of this arena that has no cell.
+    pub fn bag(&self) -> Bag
+        ensures { result ≡ empty_bag self.now }
+    {
+        Bag {
+            sacks: self.regions.none(),
         }
+    }
+
+    /// Leases a free cell of this class into a bag of this arena; nothing where none is free. Which free cell it is is open.
+    #[inline(always)]
+    pub fn lease_to(&mut self, class: CellClass, bag: &mut Bag) -> Option<CellNo>
+        requires { IsBagOf bag.old self.old }
+        ensures { LeasesTo self.old class bag.old result self.new bag.new }
+    {
+        let held = self.regions.lease(class)?;
+        let number = class.number() * self.regions.cells + held.index();
+        bag.sacks.put(held);
+        Some(CellNo(number))
+    }
+
+    /// The cell of the bag is live with what is written in it.
+    #[inline(always)]
+    pub fn settle_from(&mut self, bag: &mut Bag, cell: CellNo)
+        requires of_this_arena { IsBagOf bag.old self.old }
+        requires written { IsLive (state_at bag.old cell.0) }
+        ensures { (self.new ≡ changed self.old cell.0 (state_at bag.old cell.0)) × (bag.new ≡ changed bag.old cell.0 Leased) × IsBagOf bag.new self.new }
+    {
+        let (class, index) = place_of(bag.sacks.cells, cell);
+        self.regions.settle(bag.sacks.take(class, index));
+    }
+
+    /// The cell of the bag is free.
+    #[inline(always)]
+    pub fn give_back_from(&mut self, bag: &mut Bag, cell: CellNo)
+        requires of_this_arena { IsBagOf bag.old self.old }
+        requires is_in { IsIn bag.old cell.0 }
+        ensures { (self.new ≡ changed self.old cell.0 Vacant) × (bag.new ≡ changed bag.old cell.0 Leased) × IsBagOf bag.new self.new }
+    {
+        let (class, index) = place_of(bag.sacks.cells, cell);
+        self.regions.give_back(bag.sacks.take(class, index));
     }
 }

@@ -139,6 +139,13 @@ impl<T> Cells<T> {
         unsafe { &mut *base.ptr.add(index) }
     }
 
+    /// An owner of none of the row's cells.
+    pub fn none(&self) -> Cells<T>
+        ensures { (result.at ≡ self.now.at) × (result.slots ≡ replicate (length self.now.slots) None) }
+    {
+        Cells { mark: PhantomData }
+    }
+
     /// Takes one cell out, for an owner of its own.
     pub fn part(&mut self, index: usize) -> Cells<T>
         requires { index < length self.old.slots }

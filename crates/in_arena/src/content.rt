@@ -1,5 +1,6 @@
 // What stands in a cell.
 ghost use Rattle.std.specs.Prelude.{◌≡◌, replicate};
+ghost use Rattle.in_arena.specs.Classes.{class_no, width, least, holds};
 ghost use Rattle.in_arena.specs.Contents.{end_of};
 
 /// The number of a cell in its arena.
@@ -16,19 +17,67 @@ pub enum End {
     Free(u32),
 }
 
-/// The two sizes of cells: for agents of arity 0 to 2, and of arity 3 to 8.
+/// The sizes of cells: for agents of arity 0 to 2, of arity 3 to 8, and of arity 9 to 16.
 #[derive(Clone, Copy, Debug, PartialEq, Eq)]
 pub enum CellClass {
     Small,
     Large,
+    Wide,
 }
 
-/// An end as it is stored, in eight bytes.
+impl CellClass {
+    /// In their order, in which cells are numbered and free ones tested.
+    pub const ALL: [CellClass; 3] = [CellClass::Small, CellClass::Large, CellClass::Wide];
+
+    /// Its number.
+    pub fn number(self) -> u32
+        ensures { result ≡ class_no self }
+    {
+        match self {
+            CellClass::Small => 0,
+            CellClass::Large => 1,
+            CellClass::Wide => 2,
+        }
+    }
+
+    /// How many ends a cell of this class has room for, the principal port's among them.
+    pub fn width(self) -> u8
+        ensures { result ≡ width self }
+    {
+        match self {
+            CellClass::Small => 3,
+            CellClass::Large => 9,
+            CellClass::Wide => 17,
+        }
+    }
+
+    /// How many ends it is for at least: one, or more than a cell of the class before has room for.
+    pub fn least(self) -> u8
+        ensures { result ≡ least self }
+    {
+        match self {
+            CellClass::Small => 1,
+            CellClass::Large => CellClass::Small.width() + 1,
+            CellClass::Wide => CellClass::Large.width() + 1,
+        }
+    }
+
+    /// Whether a cell of this class is for so many ends, the principal port's among them.
+    pub fn holds(self, ends: usize) -> bool
+        ensures { result ≡ holds self ends }
+    {
+        self.least() as usize <= ends && ends <= self.width() as usize
+    }
+}
+
+// What stands in the place's word of a free end. A place is less.
+const FREE: u32 = 256;
+
+/// An end as it is stored, in two words: the number of its cell and the place there, or the number of a free end and 256.
 #[derive(Clone, Copy)]
 pub struct Stored {
     pub number: u32,
-    pub place: u8,
-    pub free: bool,
+    pub place: u32,
 }
 
 impl Stored {
@@ -38,13 +87,11 @@ impl Stored {
         match end {
             End::Cell(cell, place) => Stored {
                 number: cell.0,
-                place,
-                free: false,
+                place: u32::from(place),
             },
             End::Free(number) => Stored {
                 number,
-                place: 0,
-                free: true,
+                place: FREE,
             },
         }
     }
@@ -52,10 +99,10 @@ impl Stored {
     pub fn end(self) -> End
         ensures { result ≡ end_of self }
     {
-        if self.free {
+        if self.place == FREE {
             End::Free(self.number)
         } else {
-            End::Cell(CellNo(self.number), self.place)
+            End::Cell(CellNo(self.number), (self.place % 256) as u8)
         }
     }
 }
@@ -79,8 +126,7 @@ impl<const WIDTH: usize> Content<WIDTH> {
             count: 0,
             ends: [Stored {
                 number: 0,
-                place: 0,
-                free: true,
+                place: FREE,
             }; WIDTH],
         }
     }

@@ -1,10 +1,11 @@
 // The owner of one cell.
 ghost use Rattle.std.specs.Prelude.{◌≡◌, ◌<◌, length};
 ghost use Rattle.in_arena.specs.States.{Live, places, with_end};
-ghost use Rattle.in_arena.specs.Arenas.{Holds, written};
+ghost use Rattle.in_arena.specs.Arenas.{written};
+ghost use Rattle.in_arena.specs.Classes.{Holds};
 
 use crate::content::{CellClass, CellNo, End, SymbolWord};
-use crate::region::Held;
+use crate::regions::HeldCell;
 use std::marker::Model;
 
 /// Owns one cell of an arena, which no other part of the program reads or writes meanwhile; it may be moved to another thread. To be
@@ -14,13 +15,6 @@ use std::marker::Model;
 pub struct Lease {
     pub(crate) number: u32,
     pub(crate) held: HeldCell,
-}
-
-// The cell of a lease, by its class.
-#[derive(Drop)]
-pub enum HeldCell {
-    Small(Held<3>),
-    Large(Held<9>),
 }
 
 impl Model for Lease {
@@ -47,22 +41,15 @@ impl Lease {
     pub fn class(&self) -> CellClass
         ensures { result ≡ self.now.class }
     {
-        match &self.held {
-            HeldCell::Small(_) => CellClass::Small,
-            HeldCell::Large(_) => CellClass::Large,
-        }
+        self.held.class()
     }
 
-    /// Writes the symbol word and the ends at its places, the principal port first: one to three for a small cell, four to nine for a
-    /// large one.
+    /// Writes the symbol word and the ends at its places, the principal port first: as many as its class is for.
     pub fn write(&mut self, symbol: SymbolWord, ends: &[End])
         requires { Holds self.old.class (length ends.now) }
         ensures { self.new ≡ written self.old (Live symbol ends.now) }
     {
-        match &mut self.held {
-            HeldCell::Small(held) => held.write(symbol, ends),
-            HeldCell::Large(held) => held.write(symbol, ends),
-        }
+        self.held.write(symbol, ends);
     }
 
     /// Writes the end at a place of a cell that is written.
@@ -70,9 +57,6 @@ impl Lease {
         requires { place < places self.old.state }
         ensures { self.new ≡ written self.old (with_end self.old.state place end) }
     {
-        match &mut self.held {
-            HeldCell::Small(held) => held.set(place, end),
-            HeldCell::Large(held) => held.set(place, end),
-        }
+        self.held.set(place, end);
     }
 }

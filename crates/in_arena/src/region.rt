@@ -1,15 +1,17 @@
 // A region of cells of one width: free ones, leased ones and live ones.
-ghost use Rattle.std.specs.Prelude.{◌≡◌, ◌<◌, ◌≤◌, ◌^◌, length, map, replicate, Some, None, IfOk};
-ghost use Rattle.in_arena.specs.States.{Live, Vacant, IsLive, word_of, end_at, places, with_end};
-ghost use Rattle.in_arena.specs.Regions.{IsRegion, IsHeld, IsOf, Becomes, IsLeasedTo, IsSameCell, IsWhole, state, states, state_at, vacancies};
+ghost use Rattle.std.specs.Prelude.{◌≡◌, ◌<◌, ◌≤◌, ◌^◌, length, map, count_by, replicate, Some, None, IfOk};
+ghost use Rattle.in_arena.specs.States.{Live, Vacant, IsLive, IsLeased, is_vacant, word_of, end_at, places, with_end, IsBegun};
+ghost use Rattle.in_arena.specs.Regions.{IsRegion, IsHeld, IsOf, Becomes, IsReady, IsLeasedTo, IsSameCell, IsWhole, state, states, state_at};
 ghost use Rattle.in_arena.specs.Filling.{Fills};
+ghost use Rattle.in_arena.specs.Sacks.{IsSack, IsOfSack, SackBecomes, IsTakenFrom, IsEmptyOf, sack_state};
 
 use crate::cells::{Base, Cells, Deed, allocate, deallocate};
 use crate::content::{Content, End, Stored};
 use std::alloc::{AllocError, Global};
 use std_alloc::room::may_hold;
 
-// Cells of one width in one block. The free ones are a list through them.
+// Cells of one width in one block. Free are those of a list through the used ones, the last that was given back first, and all from
+// `fresh` on, which were never used: nothing was written in them yet.
 pub struct Region<const WIDTH: usize> {
     base: Base<Content<WIDTH>>,
     cells: Cells<Content<WIDTH>>,
@@ -17,6 +19,7 @@ pub struct Region<const WIDTH: usize> {
     alloc: Global,
     size: u32,
     next: u32,
+    fresh: u32,
     free: u32,
 }
 
@@ -24,6 +27,13 @@ pub struct Region<const WIDTH: usize> {
 #[derive(Drop)]
 pub struct Held<const WIDTH: usize> {
     index: u32,
+    base: Base<Content<WIDTH>>,
+    cells: Cells<Content<WIDTH>>,
+}
+
+// The owner of some cells of a region.
+#[derive(Drop)]
+pub struct Sack<const WIDTH: usize> {
     base: Base<Content<WIDTH>>,
     cells: Cells<Content<WIDTH>>,
 }
@@ -38,6 +48,13 @@ fn fill<const WIDTH: usize>(places: &mut [Stored; WIDTH], ends: &[End])
     }
 }
 
+// There are as many places as a cell has room for. The call does nothing.
+fn are_all<const WIDTH: usize>(places: &[Stored; WIDTH])
+    ensures { length places.now ≡ WIDTH }
+{
+    let _ = places;
+}
+
 impl<const WIDTH: usize> Region<WIDTH> {
     // So many cells, all free.
     pub fn new(alloc: Global, size: u32) -> Result<Region<WIDTH>, AllocError>
@@ -48,17 +65,15 @@ impl<const WIDTH: usize> Region<WIDTH> {
         if !may_hold::<Content<WIDTH>>(size as usize) {
             return Err(AllocError);
         }
-        let (base, mut cells, deed) = allocate(&alloc, size as usize)?;
-        for index in 0..size {
-            cells.write(base, index as usize, Content::free(index + 1));
-        }
+        let (base, cells, deed) = allocate(&alloc, size as usize)?;
         Ok(Region {
             base,
             cells,
             deed,
             alloc,
             size,
-            next: 0,
+            next: size,
+            fresh: 0,
             free: size,
         })
     }
@@ -74,25 +89,38 @@ impl<const WIDTH: usize> Region<WIDTH> {
             alloc,
             size,
             next: _,
+            fresh: _,
             free: _,
         } = self;
         deallocate(&alloc, base, size as usize, cells, deed);
     }
 
+    // An owner of none of the cells.
+    pub fn none(&self) -> Sack<WIDTH>
+        requires { IsRegion self.now }
+        ensures { IsEmptyOf self.now result }
+    {
+        Sack {
+            base: self.base,
+            cells: self.cells.none(),
+        }
+    }
+
     // How many cells are free.
     pub fn free_count(&self) -> u32
         requires { IsRegion self.now }
-        ensures { result ≡ vacancies self.now.cells.slots }
+        ensures { result ≡ count_by is_vacant (states self.now) }
     {
         self.free
     }
 
     // A free cell, where there is one.
+    #[inline(always)]
     pub fn lease(&mut self) -> Option<Held<WIDTH>>
         requires { IsRegion self.old }
         ensures { IsLeasedTo self.old self.new result }
     {
-        if self.next == self.size {
+        if !self.is_ready() {
             return None;
         }
         let index = self.next;
@@ -104,6 +132,35 @@ impl<const WIDTH: usize> Region<WIDTH> {
             base: self.base,
             cells,
         })
+    }
+
+    // Whether a cell is free. If so, one is the first of the list from then on.
+    #[inline(always)]
+    fn is_ready(&mut self) -> bool
+        requires { IsRegion self.old }
+        ensures { IsReady self.old result self.new }
+    {
+        if self.next != self.size {
+            return true;
+        }
+        self.list_new()
+    }
+
+    // Puts the first cell that was never used on the list, which is empty; no where all were used.
+    #[inline(always)]
+    fn list_new(&mut self) -> bool
+        requires { IsRegion self.old × (self.old.next ≡ self.old.size) }
+        ensures { IsReady self.old result self.new }
+    {
+        if self.fresh == self.size {
+            return false;
+        }
+        let index = self.fresh;
+        self.cells
+            .write(self.base, index as usize, Content::free(self.size));
+        self.next = index;
+        self.fresh += 1;
+        true
     }
 
     // The cell is live from now on.
@@ -198,6 +255,18 @@ impl<const WIDTH: usize> Held<WIDTH> {
         fill(&mut content.ends, ends);
     }
 
+    // Writes a symbol word, and how many ends there are, which are open.
+    pub fn begin(&mut self, word: u32, count: u32)
+        requires { IsHeld self.old × (0 < count) × (count ≤ WIDTH) }
+        ensures { IsHeld self.new × IsSameCell self.old self.new × IsBegun word count (state self.new) }
+    {
+        let base = self.base;
+        let content = self.cells.get_mut(base, self.index as usize);
+        are_all(&content.ends);
+        content.word = word;
+        content.count = count;
+    }
+
     // Writes the end at a place of the cell, which is written.
     pub fn set(&mut self, place: u8, end: End)
         requires { IsHeld self.old × (place < places (state self.old)) }
@@ -206,5 +275,32 @@ impl<const WIDTH: usize> Held<WIDTH> {
         let base = self.base;
         let stored = Stored::of(end);
         self.cells.get_mut(base, self.index as usize).ends[place as usize] = stored;
+    }
+}
+
+impl<const WIDTH: usize> Sack<WIDTH> {
+    // Takes in one cell more.
+    pub fn put(&mut self, held: Held<WIDTH>)
+        requires { IsSack self.old × IsOfSack held self.old }
+        ensures { SackBecomes self.old self.new held.entry.index (state held.entry) }
+    {
+        let Held {
+            index: _,
+            base: _,
+            cells,
+        } = held;
+        self.cells.join(cells);
+    }
+
+    // Hands one cell out.
+    pub fn take(&mut self, index: u32) -> Held<WIDTH>
+        requires { IsSack self.old × (IsLeased (sack_state self.old index) → ⊥) }
+        ensures { IsTakenFrom self.old index result self.new }
+    {
+        Held {
+            index,
+            base: self.base,
+            cells: self.cells.part(index as usize),
+        }
     }
 }

@@ -1,15 +1,17 @@
 -- What a turn changes of an arena, and how one becomes full.
-use Rattle.std.proofs.Common.{◌≡◌, ◌+◌, ◌-◌, ◌<◌, ◌≤◌, ◌⊎◌, inl, inr, ℕ, zero, suc, cond, List, [], ◌∷◌, length, set, get_or, take, drop, replicate, count_by, Some, sym, ap, ◌∙◌, subst, ⊎_elim, arith, length-set, get_or-set_same, get_or-set_other}
-use Rattle.std.proofs.lemmas.Bool.{cases_eq, cases_lt}
+use Rattle.std.proofs.Common.{◌≡◌, ◌+◌, ◌-◌, ◌*◌, ◌<◌, ◌≤◌, ◌⊎◌, inl, inr, ℕ, zero, suc, cond, List, [], ◌∷◌, length, set, get_or, drop, replicate, count_by, Some, sym, ap, ◌∙◌, subst, ⊎_elim, arith, length-set, get_or-set_same, get_or-set_other}
+use Rattle.std.proofs.lemmas.Bool.{cases_eq}
 use Rattle.std.proofs.lemmas.List.{set-set, get_or-replicate, length-replicate, get_or-take, get_or-drop}
 use Rattle.std.proofs.lemmas.List.Sums.{sum_by-cons}
-use Rattle.in_arena.specs.Arenas.{ArenaView, LeaseView, Leases, NoneLeased, free_of, changed, state_at, written}
+use Rattle.in_arena.specs.Arenas.{ArenaView, LeaseView, Leases, NoneLeased, part_of, changed, state_at, written}
+use Rattle.in_arena.specs.Classes.{classes, class_no}
 use Rattle.in_arena.specs.States.{State, Vacant, Leased, Live, IsLeased, is_vacant, places}
-use Rattle.in_arena.specs.declared.content.CellClass.TheVariants.{Small, Large}
 use Rattle.in_arena.specs.declared.content.CellClass.{CellClass}
 use Rattle.in_arena.specs.declared.content.End.{End}
 use Rattle.in_arena.proofs.Arenas.{vacant_inside}
-use Rattle.in_arena_bench.specs.Turns.{AreLive, AreFreeOrLive, Keeps}
+use Rattle.in_arena.proofs.Classes.{class_of_number}
+use Rattle.std.proofs.Math.Nat.{suc-mul}
+use Rattle.in_arena_bench.specs.Turns.{AreLive, AreFreeOrLive, NoneFree, Keeps}
 
 -- where all cells but one are live, it is the one that is leased
 pub renewed : (a r b d : ArenaView) (c : CellClass) (n k word : ℕ) (ends : List End) (l m : LeaseView) → AreLive a → r ≡ changed a n Vacant → Leases r c (Some l) b → m ≡ written l (Live word ends) → d ≡ changed b m.number m.state → 3 ≤ length ends → k ≡ m.number → AreLive d × Keeps a d × (k < length d.states)
@@ -65,12 +67,20 @@ vacant_counted (x ∷ xs) zero none e =
 vacant_counted (x ∷ xs) (suc i) none e =
     vacant_counted xs i (omega (arith, none, sum_by-cons (λ s. cond (is_vacant s) 1 0) x xs)) e
 
-pub all_live : (a : ArenaView) → AreFreeOrLive a → free_of a Small ≡ 0 → free_of a Large ≡ 0 → AreLive a
-all_live a all small large n lt =
+pub all_live : (a : ArenaView) → AreFreeOrLive a → NoneFree a → length a.states ≡ length classes * a.cells → AreLive a
+all_live a all none long n lt =
     ⊎_elim
-    (λ free. ⊎_elim
-    (λ low. absurd (vacant_counted (take a.cells a.states) n small (get_or-take a.cells a.states n Leased low ∙ free)))
-    (λ high. absurd (vacant_counted (drop a.cells a.states) (n - a.cells) large (get_or-drop a.cells a.states (n - a.cells) Leased ∙ ap (state_at a) (let back : a.cells + (n - a.cells) ≡ n = omega (arith, high) in back) ∙ free)))
-    (cases_lt n a.cells))
+    (λ free.
+    let found = class_of_number a.cells n (omega (arith, lt, long)) in let c = found.0 in
+    let start = class_no c * a.cells in let i = n - start in
+    let from = found.1.0 in let below = found.1.1 in let after = suc-mul (class_no c) a.cells in
+    let back : start + i ≡ n = omega (arith, from) in
+    let in_part : get_or (part_of a c) i Leased ≡ Vacant =
+    get_or-take a.cells (drop start a.states) i Leased (omega (arith, below, after, from, one_more (class_no c) a.cells)) ∙ get_or-drop start a.states i Leased ∙ ap (state_at a) back ∙ free
+    in
+    absurd (vacant_counted (part_of a c) i (none c) in_part))
     (λ live. live)
     (all n lt)
+  where
+    one_more : (k n : ℕ) → (k + 1) * n ≡ k * n + n
+    one_more k n = ap (λ m. m * n) (omega arith) ∙ suc-mul k n

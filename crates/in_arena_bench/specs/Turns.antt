@@ -1,7 +1,8 @@
 -- What a turn over an arena keeps.
 use Rattle.std.specs.Prelude.{◌≡◌, ◌<◌, ◌≤◌, ◌⊎◌, ℕ, length, Option, Some, None}
-use Rattle.in_arena.specs.Arenas.{ArenaView, state_at}
+use Rattle.in_arena.specs.Arenas.{ArenaView, state_at, free_of}
 use Rattle.in_arena.specs.States.{Vacant, places}
+use Rattle.in_arena.specs.declared.content.CellClass.{CellClass}
 use Rattle.in_arena.specs.declared.content.CellNo.{CellNo}
 
 -- all cells are live with three places or more
@@ -11,6 +12,9 @@ AreLive a = (n : ℕ) → n < length a.states → 3 ≤ places (state_at a n)
 -- each cell is free or live with three places or more
 abbrev pub AreFreeOrLive : ArenaView → Type 0
 AreFreeOrLive a = (n : ℕ) → n < length a.states → (state_at a n ≡ Vacant) ⊎ (3 ≤ places (state_at a n))
+
+abbrev pub NoneFree : ArenaView → Type 0
+NoneFree a = (c : CellClass) → free_of a c ≡ 0
 
 -- all cells of an arena of so many in all
 abbrev pub IsFull : ArenaView → ℕ → Type 0

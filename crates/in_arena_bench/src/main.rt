@@ -3,7 +3,7 @@
 #![tactic(auto)]
 
 ghost use Rattle.std.specs.Prelude.{◌≡◌, ◌≤◌, length};
-ghost use Rattle.in_arena.specs.Arenas.{Holds};
+ghost use Rattle.in_arena.specs.Classes.{Holds};
 
 mod turns;
 
@@ -31,7 +31,7 @@ fn measure(
     let start = Instant::now(rt);
     let read = turns(
         arena,
-        cells + cells,
+        3 * cells,
         class,
         first,
         cells.max(1) - 1,
@@ -56,7 +56,7 @@ fn measure_two(rt: &HostRuntime, name: &str, cells: u32, ends: &mut [End]) -> io
     let read = turns_of_two(
         one,
         other,
-        cells + cells,
+        3 * cells,
         CellClass::Small,
         cells.max(1) - 1,
         TURNS,

@@ -1,7 +1,7 @@
 // Turns over the cells of an arena, all of which are live.
-ghost use Rattle.std.specs.Prelude.{◌≡◌, ◌+◌, ◌<◌, ◌≤◌, length, IfOk, IfSome};
-ghost use Rattle.in_arena.specs.Arenas.{Holds};
-ghost use Rattle.in_arena_bench.specs.Turns.{AreLive, AreFreeOrLive, IsFull, Renews, Keeps, Turned};
+ghost use Rattle.std.specs.Prelude.{◌≡◌, ◌*◌, ◌<◌, ◌≤◌, length, IfOk, IfSome, IsTrue};
+ghost use Rattle.in_arena.specs.Classes.{Holds};
+ghost use Rattle.in_arena_bench.specs.Turns.{AreLive, AreFreeOrLive, NoneFree, IsFull, Renews, Keeps, Turned};
 
 use in_arena::{Arena, CellClass, CellNo, End};
 use std::alloc::{AllocError, Global};
@@ -42,7 +42,7 @@ pub fn mend(arena: &mut Arena, cell: CellNo) -> u32
 // One more live cell, where one is free.
 fn add(arena: &mut Arena, class: CellClass, ends: &[End])
     requires { AreFreeOrLive arena.old × Holds class (length ends.now) × (3 ≤ length ends.now) }
-    ensures { AreFreeOrLive arena.new × Keeps arena.old arena.new }
+    ensures { AreFreeOrLive arena.new × Keeps arena.old arena.new × (arena.new.cells ≡ arena.old.cells) }
 {
     if let Some(mut lease) = arena.lease(class) {
         lease.write(0, ends);
@@ -50,20 +50,31 @@ fn add(arena: &mut Arena, class: CellClass, ends: &[End])
     }
 }
 
+// Whether no cell is free.
+fn is_used_up(arena: &Arena) -> bool
+    ensures { IsTrue result → NoneFree arena.now }
+{
+    arena.free_count(CellClass::Small) == 0
+        && arena.free_count(CellClass::Large) == 0
+        && arena.free_count(CellClass::Wide) == 0
+}
+
 // An arena all of whose cells are live.
-#[tactic(auto, using(crate::proofs::Renewed::fresh, crate::proofs::Renewed::none_leased, crate::proofs::Renewed::all_live))]
+#[tactic(auto, using(crate::proofs::Renewed::fresh, crate::proofs::Renewed::none_leased))]
 pub fn full(alloc: Global, cells: u32) -> Result<Option<Arena>, AllocError>
     requires { cells ≤ 1048576 }
-    ensures { IfOk result (λ found. IfSome found (λ a. IsFull a (cells + cells))) }
+    ensures { IfOk result (λ found. IfSome found (λ a. IsFull a (3 * cells))) }
 {
     let mut arena = Arena::new(alloc, cells)?;
     let few = [End::Free(0); 3];
     let many = [End::Free(0); 9];
+    let most = [End::Free(0); 17];
     for _ in 0..cells {
         add(&mut arena, CellClass::Small, &few);
         add(&mut arena, CellClass::Large, &many);
+        add(&mut arena, CellClass::Wide, &most);
     }
-    if arena.free_count(CellClass::Small) == 0 && arena.free_count(CellClass::Large) == 0 {
+    if is_used_up(&arena) {
         Ok(Some(arena))
     } else {
         Ok(None)

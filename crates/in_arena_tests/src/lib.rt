@@ -2,6 +2,8 @@
 #![tactic(auto)]
 
 #[cfg(test)]
+mod bags;
+#[cfg(test)]
 mod steps;
 #[cfg(test)]
 mod tests;

@@ -1,7 +1,8 @@
 // Arenas as a test takes them.
 ghost use Rattle.std.specs.Prelude.{◌≡◌, ◌<◌, ◌≤◌, length, slice_set, IfOk};
 ghost use Rattle.in_arena.specs.States.{Live, IsLive, places};
-ghost use Rattle.in_arena.specs.Arenas.{NoneLeased, Holds, state_at, written};
+ghost use Rattle.in_arena.specs.Arenas.{NoneLeased, state_at, written};
+ghost use Rattle.in_arena.specs.Classes.{Holds};
 
 use in_arena::{Arena, CellClass, CellNo, End, Lease};
 use std::alloc::{AllocError, Global};
@@ -39,6 +40,26 @@ pub fn lease_all(
             assert_eq!(rt; count, 0);
             assert_eq!(rt; arena.free_count(others.0), others.1);
         }
+    }
+}
+
+// Leases all free cells of a class, which are so many, gives one of them back and leases it again.
+pub fn one_back(rt: &impl Abort, arena: &mut Arena, class: CellClass, count: u32)
+    ensures { arena.new ≡ arena.old }
+{
+    let Some(lease) = arena.lease(class) else {
+        assert_eq!(rt; count, 0);
+        return;
+    };
+    assert!(rt; count > 0);
+    if count == 1 {
+        lease_all(rt, arena, class, 0, (class, 0));
+        let cell = lease.cell();
+        arena.give_back(lease);
+        assert_eq!(rt; next_cell(rt, arena, class), cell);
+    } else {
+        one_back(rt, arena, class, count - 1);
+        arena.give_back(lease);
     }
 }
 
@@ -83,7 +104,7 @@ pub fn make(
 // Whether a live cell carries this symbol and has these ends.
 pub fn has(arena: &Arena, cell: CellNo, symbol: u32, ends: &[End]) -> bool
     requires live { IsLive (state_at arena.now cell.0) }
-    requires ends { (length ends.now ≤ 9) × (length ends.now ≤ places (state_at arena.now cell.0)) }
+    requires ends { (length ends.now ≤ 17) × (length ends.now ≤ places (state_at arena.now cell.0)) }
 {
     for place in 0..ends.len() {
         if arena.port(cell, place as u8) != ends[place] {

@@ -1,5 +1,5 @@
 use Rattle.std.proofs.Common.{◌≤◌, length}
-use Rattle.in_arena.specs.Arenas.{Holds}
+use Rattle.in_arena.specs.Classes.{Holds}
 use Rattle.in_arena_bench.specs.Turns.{IsFull}
 use Rattle.in_arena_bench.proofs.turns.turns_of_two.Given as goal
 

@@ -1,31 +1,19 @@
-use Rattle.std.proofs.Common.{◌≡◌, ◌∙◌, ap, sym, subst, arith, refl, lit<, length}
-use Rattle.in_arena.specs.Leases.{view_of, IsNumbered}
+use Rattle.std.proofs.Common.{◌∙◌, ap, refl, sym}
+use Rattle.in_arena.specs.ByClass.{cell_view, index_of}
 use Rattle.in_arena.specs.States.{Vacant}
-use Rattle.in_arena.proofs.Arenas.{changed_same, is_of_same, small_view, large_view, large_of}
+use Rattle.in_arena.proofs.Arenas.{changed_same, is_of_same}
+use Rattle.in_arena.proofs.ByClass.{cell_of, change_is, numbered}
 use Rattle.in_arena.proofs.arena.Arena.give_back.Goals as goal
 
-pub give_back-requires-in-Large : goal.give_back-requires-in-Large
-give_back-requires-in-Large c =
-    let a = c.self.inside in let h = c.self.invariant in let l = c.lease.inside in
-    let same = sym (ap (view_of l.number) (sym c.in-Large.is) ∙ c.lease.view_is) in
-    let numbered = subst (IsNumbered l.number) c.in-Large.is c.lease.invariant in
-    let of = is_of_same c.args.lease _ c.args.self.now _ same (sym c.self.view_is) c.requires in
-    (lit< tt, (lit< tt, (h.large, large_of a h c.in-Large.held l.number numbered of)))
+pub give_back-requires : goal.give_back-requires
+give_back-requires c =
+    let r = c.self.inside.regions in let h = c.self.invariant.regions in let l = c.lease.inside in let same = sym c.lease.view_is in
+    let of = is_of_same same (sym c.self.view_is) c.requires in
+    (h, cell_of r h l.held c.lease.invariant.held of)
 
-pub returns-in-Small : goal.returns-in-Small
-returns-in-Small c =
-    let a = c.self.inside in let l = c.lease.inside in let held = c.in-Small.held in
-    let same = sym (ap (view_of l.number) (sym c.in-Small.is) ∙ c.lease.view_is) in
-    let numbered = subst (IsNumbered l.number) c.in-Small.is c.lease.invariant in
-    let of = is_of_same c.args.lease _ c.args.self.now _ same (sym c.self.view_is) c.requires in
-    let long : length held.cells.slots ≡ a.cells = of.cells in
-    small_view a c.self.invariant c.give_back.new.self held.index (Vacant) c.give_back.ensures (omega (arith, numbered.0.index.0, long)) ∙ changed_same c.self.view_is (sym (ap (λ v. v.number) same ∙ numbered.1)) refl
-
-pub returns-in-Large : goal.returns-in-Large
-returns-in-Large c =
-    let a = c.self.inside in let l = c.lease.inside in let held = c.in-Large.held in
-    let same = sym (ap (view_of l.number) (sym c.in-Large.is) ∙ c.lease.view_is) in
-    let numbered = subst (IsNumbered l.number) c.in-Large.is c.lease.invariant in
-    let of = is_of_same c.args.lease _ c.args.self.now _ same (sym c.self.view_is) c.requires in
-    let long : length held.cells.slots ≡ a.cells = of.cells in
-    large_view a c.self.invariant c.give_back-in-Large.new.self l.number held.index (Vacant) (omega (arith, numbered.1, long)) c.give_back-in-Large.ensures ∙ changed_same c.self.view_is (sym (ap (λ v. v.number) same)) refl
+pub returns : goal.returns
+returns c =
+    let r = c.self.inside.regions in let h = c.self.invariant.regions in let l = c.lease.inside in let same = sym c.lease.view_is in
+    let of = is_of_same same (sym c.self.view_is) c.requires in let v = cell_view l.held in
+    change_is r h c.give_back.new.self v.number v.class (index_of l.held) Vacant (numbered r h l.held c.lease.invariant.held of.cells) c.give_back.ensures
+    ∙ changed_same c.self.view_is (sym (ap (λ v. v.number) same)) refl

@@ -3,7 +3,7 @@ use Rattle.in_arena.specs.Contents.{end_of}
 use Rattle.in_arena.specs.Regions.{state_of, state}
 use Rattle.in_arena.specs.States.{with_end}
 use Rattle.in_arena.specs.declared.content.Content.{Content}
-use Rattle.in_arena.proofs.Regions.{rewritten, end_written, held_cell, same_count}
+use Rattle.in_arena.proofs.OneRegion.{rewritten, end_written, held_cell, same_count}
 use Rattle.in_arena.proofs.region.Held.set.Goals as goal
 
 pub returns : goal.returns

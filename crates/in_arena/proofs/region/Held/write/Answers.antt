@@ -1,7 +1,7 @@
 use Rattle.std.proofs.Common.{◌∙◌, ◌*◌, ◌^◌, ◌<◌, ap, length, arith}
 use Rattle.in_arena.specs.States.{Live}
 use Rattle.in_arena.specs.declared.content.Content.{Content}
-use Rattle.in_arena.proofs.Regions.{rewritten, live_written}
+use Rattle.in_arena.proofs.OneRegion.{rewritten, live_written}
 use Rattle.in_arena.proofs.region.Held.write.Goals as goal
 
 pub overflow_cast-content : goal.overflow_cast-content

@@ -1,5 +1,5 @@
 use Rattle.std.proofs.Common.{subst, ◌<◌}
-use Rattle.in_arena.proofs.Regions.{all_here}
+use Rattle.in_arena.proofs.OneRegion.{all_here}
 use Rattle.in_arena.proofs.region.Region.close.Goals as goal
 
 pub deallocate-requires : goal.deallocate-requires

@@ -1,7 +1,7 @@
 use Rattle.std.proofs.Common.{◌∙◌, refl, ap, arith}
 use Rattle.in_arena.specs.Regions.{vacancy}
 use Rattle.in_arena.specs.declared.content.Content.{Content}
-use Rattle.in_arena.proofs.Regions.{freed, free_small, back, written}
+use Rattle.in_arena.proofs.OneRegion.{freed, free_small, back, written}
 use Rattle.in_arena.proofs.region.Region.give_back.Goals as goal
 
 pub overflow_add-self : goal.overflow_add-self

@@ -1,33 +1,18 @@
-use Rattle.std.proofs.Common.{◌≡◌, ℕ, List, Option, refl, sym, ap, ◌∙◌, arith, length, get_or, replicate, None, length-set, get_or-set_same}
-use Rattle.std.proofs.lemmas.List.{length-replicate}
-use Rattle.in_arena.specs.Regions.{state_of}
-use Rattle.in_arena.specs.declared.content.Content.{Content}
-use Rattle.in_arena.proofs.Regions.{none_free, first_free, taken, is_held, vacant_state, same_word}
+use Rattle.std.proofs.Common.{sym, ap, ◌∙◌, subst, length, set, replicate, None}
+use Rattle.in_arena.specs.Regions.{IsReady, state_of}
+use Rattle.in_arena.proofs.OneRegion.{first_free, taken, is_lent, leased_from, vacant_state, same_word}
 use Rattle.in_arena.proofs.region.Region.lease.Goals as goal
 
-pub returns-then-self : goal.returns-then-self
-returns-then-self g c = (none_free c.args.self.now c.requires c.if-self.true, refl)
-
 pub get-requires : goal.get-requires
-get-requires g c = let p = first_free c.args.self.now c.requires c.if-self.false in (sym c.requires.block.0, (p.cell, p.here))
-
-abbrev none_of : (W n : ℕ) → List (Option (Option (Content W)))
-none_of W n = replicate n None
-
-long_none : (W n : ℕ) → length (none_of W n) ≡ n
-long_none W n = length-replicate n None
+get-requires g c =
+    let ready = subst (λ b. IsReady c.args.self.now b c.is_ready.new.self) c.if-not-is_ready.false c.is_ready.ensures in
+    let p = first_free c.is_ready.new.self ready.0.region ready.1 in (sym ready.0.region.block.0, (p.cell, p.here))
 
 pub returns : goal.returns
 returns g c =
-    let r = c.args.self.now in let n = length r.cells.slots in let h = c.requires in let p = first_free r h c.if-self.false in let w = c.part-cells.ensures in
-    let seen = sym c.get.ensures ∙ p.here in (
-      ap state_of p.here ∙ vacant_state p.cell p.free,
-      taken r c.part-cells.new.self h p w.rest.0 w.rest.1 c.get.result.now.word (same_word c.get.result.now p.cell seen),
-      record {
-        held = is_held r c.part-cells.result h p w.one.0 w.one.1;
-        block = w.one.0 ∙ sym w.rest.0;
-        size = ap length w.one.1 ∙ length-set (replicate n None) r.next (get_or r.cells.slots r.next None) ∙ length-replicate n None ∙ sym (ap length w.rest.1 ∙ length-set r.cells.slots r.next None);
-        out = ap (λ l. get_or l r.next None) w.rest.1 ∙ get_or-set_same r.cells.slots r.next None None p.inside;
-      },
-      ap (λ cs. state_of (get_or cs r.next None)) w.one.1 ∙ ap state_of (get_or-set_same (none_of g.row.WIDTH n) r.next (get_or r.cells.slots r.next None) None (omega (arith, long_none g.row.WIDTH n, p.inside))) ∙ ap state_of p.here ∙ vacant_state p.cell p.free,
+    let ready = subst (λ b. IsReady c.args.self.now b c.is_ready.new.self) c.if-not-is_ready.false c.is_ready.ensures in
+    let r = c.is_ready.new.self in let h = ready.0.region in let p = first_free r h ready.1 in let w = c.part-cells.ensures in
+    leased_from c.args.self.now r _ _ ready.0 (
+    is_lent r _ c.part-cells.result r.next p.cell h p.inside p.free w.one.0 (w.one.1 ∙ ap (set (replicate (length r.cells.slots) None) r.next) p.here) (ap state_of p.here ∙ vacant_state p.cell p.free)
+    (taken r c.part-cells.new.self h p w.rest.0 w.rest.1 c.get.result.now.word (same_word c.get.result.now p.cell (sym c.get.ensures ∙ p.here))) w.rest.1
     )

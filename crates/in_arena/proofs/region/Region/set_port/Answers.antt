@@ -4,7 +4,7 @@ use Rattle.in_arena.specs.Lends.{with_slots}
 use Rattle.in_arena.specs.Regions.{Becomes, IsCell, vacancy, state_of, state_at}
 use Rattle.in_arena.specs.States.{with_end}
 use Rattle.in_arena.specs.declared.content.Content.{Content}
-use Rattle.in_arena.proofs.Regions.{with_cells, put, places_live, live_within, live_vacancy, end_written}
+use Rattle.in_arena.proofs.OneRegion.{with_cells, put, places_live, live_within, live_vacancy, end_written}
 use Rattle.in_arena.proofs.region.Region.set_port.Goals as goal
 
 pub returns : goal.returns
@@ -17,6 +17,6 @@ returns g c =
     let same : state_of (Some (Some new)) ≡ with_end (state_at r i) c.args.place c.args.end =
     end_written x.word x.count x.ends c.args.place s.result ∙ ap (λ t. with_end (state_of t) c.args.place (end_of s.result)) (sym is) ∙ ap (with_end (state_at r i) c.args.place) s.ensures
     in
-    subst (Becomes r (with_cells r cs r.next r.free) i) same (
+    subst (Becomes r (with_cells r cs r.next r.fresh r.free) i) same (
     put r cs i (Some (Some new)) c.requires.0 refl refl (live_within r.cells.slots i live) before (sym (ap vacancy is) ∙ before) (subst IsCell is (c.requires.0.cells i))
     )

@@ -1,0 +1,35 @@
+-- What follows of the numbers and widths of classes.
+use Rattle.std.proofs.Common.{◌≡◌, ◌<◌, ◌+◌, ◌*◌, ℕ, length, map, get_or, refl, ⊎_elim, arith}
+use Rattle.std.proofs.lemmas.Bool.{cases_lt}
+use Rattle.in_arena.specs.Classes.{classes, class_no, IsNumberOf}
+use Rattle.in_arena.specs.declared.content.CellClass.{CellClass}
+use Rattle.in_arena.specs.declared.content.CellClass.TheVariants.{Small, Large, Wide}
+
+pub known : (c : CellClass) → class_no c < length classes
+known Small = omega arith
+known Large = omega arith
+known Wide = omega arith
+
+-- the class of a number stands at that place of the list
+pub at_class : {A : Type 0} (f : CellClass → A) (d : A) (c : CellClass) → get_or (map f classes) (class_no c) d ≡ f c
+at_class f d Small = refl
+at_class f d Large = refl
+at_class f d Wide = refl
+
+pub class_of_number : (cells n : ℕ) → n < length classes * cells → (c : CellClass) × IsNumberOf cells c n
+class_of_number cells n lt =
+    ⊎_elim
+    (λ first. (Small, (omega arith, omega (arith, first))))
+    (λ after. ⊎_elim (λ second. (Large, (omega (arith, after), omega (arith, second)))) (λ third. (Wide, (omega (arith, third), omega (arith, lt)))) (cases_lt n (cells + cells)))
+    (cases_lt n cells)
+
+pub numbers_apart : (cells n : ℕ) (c d : CellClass) → IsNumberOf cells c n → IsNumberOf cells d n → c ≡ d
+numbers_apart cells n Small Small p q = refl
+numbers_apart cells n Small Large p q = let below = p.1 in let from = q.0 in absurd (omega (arith, below, from))
+numbers_apart cells n Small Wide p q = let below = p.1 in let from = q.0 in absurd (omega (arith, below, from))
+numbers_apart cells n Large Small p q = let from = p.0 in let below = q.1 in absurd (omega (arith, below, from))
+numbers_apart cells n Large Large p q = refl
+numbers_apart cells n Large Wide p q = let below = p.1 in let from = q.0 in absurd (omega (arith, below, from))
+numbers_apart cells n Wide Small p q = let from = p.0 in let below = q.1 in absurd (omega (arith, below, from))
+numbers_apart cells n Wide Large p q = let from = p.0 in let below = q.1 in absurd (omega (arith, below, from))
+numbers_apart cells n Wide Wide p q = refl

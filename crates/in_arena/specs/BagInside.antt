@@ -1,0 +1,12 @@
+-- What contracts see of the fields of a bag, and what these fields keep.
+use Rattle.std.specs.Prelude.{◌≤◌}
+use Rattle.in_arena.specs.Arenas.{ArenaView}
+use Rattle.in_arena.specs.ByClass.{sacks_view, IsSacks}
+use Rattle.in_arena.specs.declared.bag.Bag.TheInside.{Inside}
+
+abbrev pub bag_view : Inside → ArenaView
+bag_view b = sacks_view b.sacks
+
+pub record IsBag (b : Inside) : Type 0 where
+  pub sacks : IsSacks b.sacks
+  pub few : b.sacks.cells ≤ 1048576

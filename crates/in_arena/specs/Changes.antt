@@ -1,0 +1,67 @@
+-- What a change of a cell leaves of an arena's counts and of its leases.
+use Rattle.std.specs.Prelude.{◌≡◌, ◌+◌, ◌*◌, ℕ, cond, length, Some}
+use Rattle.in_arena.specs.Arenas.{ArenaView, LeaseView, IsOf, Leases, changed, free_of, state_at}
+use Rattle.in_arena.specs.Bags.{AreApart, IsBagOf, LeasesTo, empty_bag}
+use Rattle.in_arena.specs.Classes.{classes, IsNumberOf}
+use Rattle.in_arena.specs.States.{State, Vacant, Leased, is_vacant}
+use Rattle.in_arena.specs.declared.content.CellClass.{CellClass}
+use Rattle.in_arena.specs.declared.content.CellNo.{CellNo}
+
+-- it has so many cells of each class
+abbrev pub HasAllCells : ArenaView → Type 0
+HasAllCells a = length a.states ≡ length classes * a.cells
+
+abbrev pub one_if_free : State → ℕ
+one_if_free x = cond (is_vacant x) 1 0
+
+-- the free cells of the class of this cell are one more where it becomes free, and one fewer where it was; those of other classes are as many
+abbrev pub FreeCountsChange : Type 0
+FreeCountsChange = (a : ArenaView) (n : ℕ) (c : CellClass) (x : State) → HasAllCells a → IsNumberOf a.cells c n
+    → (free_of (changed a n x) c + one_if_free (state_at a n) ≡ free_of a c + one_if_free x) × ((d : CellClass) → (d ≡ c → ⊥) → free_of (changed a n x) d ≡ free_of a d)
+
+-- where a cell is leased, one fewer of its class is free, and as many of each other class
+abbrev pub LeaseTakesOne : Type 0
+LeaseTakesOne = (a b : ArenaView) (c : CellClass) (l : LeaseView) → HasAllCells a → Leases a c (Some l) b
+    → (free_of b c + 1 ≡ free_of a c) × ((d : CellClass) → (d ≡ c → ⊥) → free_of b d ≡ free_of a d)
+
+abbrev pub AllCellsStay : Type 0
+AllCellsStay = (a : ArenaView) (n : ℕ) (x : State) → HasAllCells a → HasAllCells (changed a n x)
+
+-- a lease stays one of its arena where another cell changes
+abbrev pub LeasesStay : Type 0
+LeasesStay = (a : ArenaView) (l : LeaseView) (n : ℕ) (x : State) → IsOf l a → (l.number ≡ n → ⊥) → IsOf l (changed a n x)
+
+-- .. and where one more cell is leased, which is another one
+abbrev pub LeasesDiffer : Type 0
+LeasesDiffer = (a b : ArenaView) (c : CellClass) (l m : LeaseView) → IsOf l a → Leases a c (Some m) b → (l.number ≡ m.number → ⊥) × IsOf l b
+
+-- ---- bags
+
+-- a bag without a cell is of its arena, and none of its cells is free
+abbrev pub EmptyBagIsOf : Type 0
+EmptyBagIsOf = (a : ArenaView) → IsBagOf (empty_bag a) a × HasAllCells (empty_bag a) × ((c : CellClass) → free_of (empty_bag a) c ≡ 0)
+
+-- a bag stays one of its arena where a cell changes that it doesn't have
+abbrev pub BagsStay : Type 0
+BagsStay = (a b : ArenaView) (n : ℕ) (x : State) → IsBagOf b a → state_at b n ≡ Leased → IsBagOf b (changed a n x)
+
+-- a free cell of an arena is in none of its bags
+abbrev pub FreeCellsAreInNoBag : Type 0
+FreeCellsAreInNoBag = (a b : ArenaView) (n : ℕ) → IsBagOf b a → state_at a n ≡ Vacant → state_at b n ≡ Leased
+
+-- where a cell is leased into a bag, one fewer of its class is free, and one more of the bag's has nothing written
+abbrev pub LeaseToTakesOne : Type 0
+LeaseToTakesOne = (a b a' b' : ArenaView) (c : CellClass) (n : CellNo) → HasAllCells a → HasAllCells b → IsBagOf b a → LeasesTo a c b (Some n) a' b'
+    → (free_of a' c + 1 ≡ free_of a c) × (free_of b' c ≡ free_of b c + 1) × ((d : CellClass) → (d ≡ c → ⊥) → (free_of a' d ≡ free_of a d) × (free_of b' d ≡ free_of b d))
+
+-- where a cell is leased into one of two bags that are apart, they stay apart, and the other one stays a bag of the arena
+abbrev pub BagsStayApart : Type 0
+BagsStayApart = (a b d a' b' : ArenaView) (c : CellClass) (n : CellNo) → IsBagOf d a → AreApart b d → LeasesTo a c b (Some n) a' b' → AreApart b' d × IsBagOf d a'
+
+-- .. and where a cell is moved from one to the other
+abbrev pub MovingKeepsApart : Type 0
+MovingKeepsApart = (b d : ArenaView) (n : ℕ) (x : State) → AreApart b d → AreApart (changed b n Leased) (changed d n x)
+
+-- a lease is of another cell than one that is leased into a bag while it is out, and stays a lease of the arena
+abbrev pub LeaseIsInNoBag : Type 0
+LeaseIsInNoBag = (a b a' b' : ArenaView) (c : CellClass) (l : LeaseView) (n : CellNo) → IsOf l a → LeasesTo a c b (Some n) a' b' → (l.number ≡ n.0 → ⊥) × IsOf l a'

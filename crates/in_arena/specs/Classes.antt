@@ -1,0 +1,52 @@
+-- The classes of cells. A class is a number and a width; all that is said of classes is said by these two. This project's own choice.
+use Rattle.std.specs.Prelude.{◌≡◌, ◌≤◌, ◌<◌, ◌+◌, ◌*◌, ℕ, Bool, ◌&&◌, nat_le, List, [], ◌∷◌, length}
+use Rattle.in_arena.specs.declared.content.CellClass.{CellClass}
+use Rattle.in_arena.specs.declared.content.CellClass.TheVariants.{Small, Large, Wide}
+
+-- in the order of their numbers, in which they are tested
+abbrev pub classes : List CellClass
+classes = Small ∷ Large ∷ Wide ∷ []
+
+abbrev pub class_no : CellClass → ℕ
+class_no Small = 0
+class_no Large = 1
+class_no Wide = 2
+
+-- how many ends a cell has room for, the principal port's among them
+abbrev pub width : CellClass → ℕ
+width Small = 3
+width Large = 9
+width Wide = 17
+
+-- how many it is for at least: one, or more than a cell of the class before has room for
+abbrev pub least : CellClass → ℕ
+least Small = 1
+least Large = width Small + 1
+least Wide = width Large + 1
+
+-- a cell of this class is for so many ends
+abbrev pub Holds : CellClass → ℕ → Type 0
+Holds c n = (least c ≤ n) × (n ≤ width c)
+
+abbrev pub holds : CellClass → ℕ → Bool
+holds c n = nat_le (least c) n && nat_le n (width c)
+
+-- where there are so many cells of each class, this is the number of one of that class: the cells of a class stand after those of the class before
+abbrev pub IsNumberOf : ℕ → CellClass → ℕ → Type 0
+IsNumberOf cells c n = (class_no c * cells ≤ n) × (n < (class_no c + 1) * cells)
+
+-- so many ends that some class holds are held by one class
+abbrev pub ClassesAreApart : Type 0
+ClassesAreApart = (n : ℕ) (c d : CellClass) → Holds c n → Holds d n → c ≡ d
+
+-- .. and each number up to the greatest width has one
+abbrev pub ClassesAreAll : Type 0
+ClassesAreAll = (n : ℕ) → 1 ≤ n → n ≤ width Wide → (c : CellClass) × Holds c n
+
+-- a number is that of a cell of one class
+abbrev pub NumbersAreApart : Type 0
+NumbersAreApart = (cells n : ℕ) (c d : CellClass) → IsNumberOf cells c n → IsNumberOf cells d n → c ≡ d
+
+-- .. and each number below that of all cells is
+abbrev pub NumbersAreAll : Type 0
+NumbersAreAll = (cells n : ℕ) → n < length classes * cells → (c : CellClass) × IsNumberOf cells c n

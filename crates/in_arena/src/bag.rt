@@ -1,0 +1,83 @@
+// The owner of several cells.
+ghost use Rattle.std.specs.Prelude.{◌≡◌, ◌<◌, Some, length};
+ghost use Rattle.in_arena.specs.States.{State, Live, Leased, IsBegun, places, with_end};
+ghost use Rattle.in_arena.specs.Arenas.{state_at, changed};
+ghost use Rattle.in_arena.specs.Bags.{IsIn, AreOfOne, IsFor};
+
+use crate::content::{CellNo, End, SymbolWord};
+use crate::regions::{Sacks, place_of};
+use std::marker::Model;
+
+/// Owns some cells of an arena, by their numbers, which no other part of the program reads or writes meanwhile; it takes no bytes for a
+/// cell, and may be moved to another thread. Contracts see it as they see an arena: a cell that it has is vacant where nothing is written in
+/// it, else live; one that it doesn't have is leased. Its cells are to be spent by `Arena::settle_from` or `Arena::give_back_from`: an arena
+/// with a cell in a bag can't be dropped.
+#[derive(Drop)]
+pub struct Bag {
+    pub(crate) sacks: Sacks,
+}
+
+impl Model for Bag {
+    ghost use Rattle.in_arena.specs.Arenas.{ArenaView};
+
+    ghost Value = { ArenaView };
+
+    ghost use Rattle.in_arena.specs.BagInside.{bag_view, IsBag};
+
+    ghost view = { bag_view };
+
+    ghost invariant = { IsBag };
+}
+
+impl Bag {
+    /// Writes the symbol word and the ends at the places of a cell, the principal port first: as many as its class is for.
+    #[inline(always)]
+    pub fn write(&mut self, cell: CellNo, symbol: SymbolWord, ends: &[End])
+        requires is_in { IsIn self.old cell.0 }
+        requires many { IsFor self.old.cells cell.0 (length ends.now) }
+        ensures { self.new ≡ changed self.old cell.0 (Live symbol ends.now) }
+    {
+        let (class, index) = place_of(self.sacks.cells, cell);
+        let mut held = self.sacks.take(class, index);
+        held.write(symbol, ends);
+        self.sacks.put(held);
+    }
+
+    /// Writes the symbol word of a cell, and how many ends it has, the principal port's among them: as many as its class is for. What the
+    /// ends are is open until they are set one by one, so that they needn't be gathered before.
+    pub fn begin(&mut self, cell: CellNo, symbol: SymbolWord, ends: u8)
+        requires is_in { IsIn self.old cell.0 }
+        requires many { IsFor self.old.cells cell.0 ends }
+        ensures { (x : State) × IsBegun symbol ends x × (self.new ≡ changed self.old cell.0 x) }
+    {
+        let (class, index) = place_of(self.sacks.cells, cell);
+        let mut held = self.sacks.take(class, index);
+        held.begin(symbol, u32::from(ends));
+        self.sacks.put(held);
+    }
+
+    /// Writes the end at a place of a cell that is written.
+    #[inline(always)]
+    pub fn set(&mut self, cell: CellNo, place: u8, end: End)
+        requires { place < places (state_at self.old cell.0) }
+        ensures { self.new ≡ changed self.old cell.0 (with_end (state_at self.old cell.0) place end) }
+    {
+        let (class, index) = place_of(self.sacks.cells, cell);
+        let mut held = self.sacks.take(class, index);
+        held.set(place, end);
+        self.sacks.put(held);
+    }
+
+    /// Moves a cell to another bag of the same arena, with what is written in it.
+    #[inline(always)]
+    pub fn move_to(&mut self, cell: CellNo, other: &mut Bag)
+        requires is_in { IsIn self.old cell.0 }
+        requires of_one { AreOfOne self.old other.old }
+        requires apart { state_at other.old cell.0 ≡ Leased }
+        ensures { (other.new ≡ changed other.old cell.0 (state_at self.old cell.0)) × (self.new ≡ changed self.old cell.0 Leased) }
+    {
+        let (class, index) = place_of(self.sacks.cells, cell);
+        let held = self.sacks.take(class, index);
+        other.sacks.put(held);
+    }
+}

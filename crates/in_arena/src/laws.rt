@@ -1,0 +1,105 @@
+// What follows of the classes of cells and of a change of an arena.
+ghost use Rattle.in_arena.specs.Classes.{ClassesAreApart, ClassesAreAll, NumbersAreApart, NumbersAreAll};
+ghost use Rattle.in_arena.specs.Changes.{FreeCountsChange, LeaseTakesOne, AllCellsStay, LeasesStay, LeasesDiffer, EmptyBagIsOf, BagsStay, FreeCellsAreInNoBag, LeaseToTakesOne, BagsStayApart, MovingKeepsApart, LeaseIsInNoBag};
+ghost use Rattle.in_arena.specs.Lending.{LeaseLends, LendingsJoin, LendingGoesBack, OthersStay};
+
+/// So many ends that some class holds are held by one class alone.
+pub fn classes_are_apart()
+    ensures { ClassesAreApart }
+{}
+
+/// Each number of ends up to the greatest width is held by some class.
+pub fn classes_are_all()
+    ensures { ClassesAreAll }
+{}
+
+/// A cell's number is that of one class alone.
+pub fn numbers_are_apart()
+    ensures { NumbersAreApart }
+{}
+
+/// Each number below that of all cells is that of a cell of some class.
+pub fn numbers_are_all()
+    ensures { NumbersAreAll }
+{}
+
+/// A cell that changes makes its class have one free cell more where it becomes free and one fewer where it was, and leaves other classes
+/// as many: so a lease takes one, `settle` and `set_port` none, `give_back` and `retire` give one.
+pub fn free_counts_change()
+    ensures { FreeCountsChange }
+{}
+
+/// A lease takes one free cell of its class.
+pub fn lease_takes_one()
+    ensures { LeaseTakesOne }
+{}
+
+/// A change of a cell leaves so many cells of each class.
+pub fn all_cells_stay()
+    ensures { AllCellsStay }
+{}
+
+/// A lease is one of its arena after another cell has changed.
+pub fn leases_stay()
+    ensures { LeasesStay }
+{}
+
+/// A lease is of another cell than one that is made while it is out, and stays a lease of the arena.
+pub fn leases_differ()
+    ensures { LeasesDiffer }
+{}
+
+/// A bag without a cell is of its arena.
+pub fn empty_bag_is_of()
+    ensures { EmptyBagIsOf }
+{}
+
+/// A bag is one of its arena after a cell has changed that it doesn't have.
+pub fn bags_stay()
+    ensures { BagsStay }
+{}
+
+/// A free cell of an arena is in none of its bags.
+pub fn free_cells_are_in_no_bag()
+    ensures { FreeCellsAreInNoBag }
+{}
+
+/// A lease into a bag takes one free cell of its class from the arena and gives the bag one more.
+pub fn lease_to_takes_one()
+    ensures { LeaseToTakesOne }
+{}
+
+/// Bags of one arena that have no cell in common stay so where a cell is leased into one of them.
+pub fn bags_stay_apart()
+    ensures { BagsStayApart }
+{}
+
+/// They stay so where a cell is moved from one to the other.
+pub fn moving_keeps_apart()
+    ensures { MovingKeepsApart }
+{}
+
+/// A lease is of another cell than one that is leased into a bag while it is out, and stays a lease of the arena.
+pub fn lease_is_in_no_bag()
+    ensures { LeaseIsInNoBag }
+{}
+
+/// A lease is a lending of one cell.
+pub fn lease_lends()
+    ensures { LeaseLends }
+{}
+
+/// One lending after another is one of both lists of leases.
+pub fn lendings_join()
+    ensures { LendingsJoin }
+{}
+
+/// Where all leases of a lending are given back, the arena is what it was.
+pub fn lending_goes_back()
+    ensures { LendingGoesBack }
+{}
+
+/// The other leases of an arena stay its leases where the cell of one becomes free or live.
+pub fn others_stay()
+    ensures { OthersStay }
+{}
