@@ -1,0 +1,46 @@
+-- What an accepted program's rules and its net are: over its tables, with an agent at each number, and one rule for each pair.
+use Rattle.std.proofs.Common.{◌≡◌, ◌≤◌, ℕ, List, Some, Ok, length, slice_get}
+use Rattle.in_syntax.specs.declared.tree.SourceRule.{SourceRule}
+use Rattle.in_net.specs.Built.{IsOver}
+use Rattle.in_net.specs.NetFaults.{max_agents}
+use Rattle.in_net.specs.Parts.{IsWhole}
+use Rattle.in_net.specs.TextNet.{body_of}
+use Rattle.in_net.proofs.FewAgents.{few_agents}
+use Rattle.in_net.specs.Rules.{RuleParts, BuildsRuleOf, IsRuleOver}
+use Rattle.in_cover.specs.Cover.{IsComplete}
+use Rattle.in_opening.specs.Opening.{AreAllThere}
+use Rattle.in_opening.specs.OpeningRules.{IsRuleWhole}
+use Rattle.in_opening.proofs.Counted.{text_net_there}
+use Rattle.in_opening.proofs.TextRules.{rule_whole}
+use Rattle.in_check.specs.Checking.{IsAccepted, IsProgramOf}
+use Rattle.in_check.specs.Programs.{Program}
+use Rattle.in_check.proofs.Chain.{program_of}
+
+module _ (text : List ℕ) (p : Program) (accepted : IsAccepted text p) where
+  of : IsProgramOf text p
+  of = program_of text p accepted
+
+  pub complete : IsComplete p.tables p.rules
+  complete = of.covers.0
+
+  pub net_over : IsOver p.tables p.net
+  net_over = of.builds.0
+
+  pub net_there : AreAllThere p.net
+  net_there = text_net_there p.tables of.source.net p.net of.builds.1
+
+  pub net_few : length p.net.cells ≤ max_agents
+  net_few = few_agents max_agents p.tables (body_of of.source.net) p.net.cells of.builds.2 of.builds.1.agents.agents
+
+  module _ (k : ℕ) (r : RuleParts) (stands : slice_get p.rules k ≡ Some r) where
+    written : (s : SourceRule) × (slice_get of.source.rules k ≡ Some s) × BuildsRuleOf p.tables s (Ok r)
+    written = of.builds_rules.each k r stands
+
+    pub rule_over : IsRuleOver p.tables r
+    rule_over = written.2.0
+
+    pub whole_rule : IsRuleWhole p.tables r
+    whole_rule = rule_whole p.tables written.0 r written.2
+
+    pub member_whole : IsWhole r.member
+    member_whole = written.2.1.member.whole

@@ -1,0 +1,17 @@
+pub mod Accepted
+pub mod AgentByAgent
+pub mod Back
+pub mod Classes
+pub mod Counting
+pub mod EndByEnd
+pub mod Held
+pub mod Laid
+pub mod Made
+pub mod Most
+pub mod Narrow
+pub mod Numbers
+pub mod OneTemplate
+pub mod Sound
+pub mod Standing
+pub mod Stocked
+pub mod Taken

@@ -1,0 +1,7 @@
+use Rattle.in_arena.specs.declared.content.CellClass.{CellClass}
+use Rattle.in_compile.specs.Cells.{count_of}
+use Rattle.in_compile.proofs.Most.{IsMostBelow}
+use Rattle.in_compile.proofs.compiling.largest_need.Given as goal
+
+abbrev pub invariant-loop-number : goal.invariant-loop-number
+invariant-loop-number l = (c : CellClass) → IsMostBelow l.templates c l.number (count_of l.largest c)

@@ -1,0 +1,5 @@
+use Rattle.in_compile.proofs.OneTemplate.{one_member}
+use Rattle.in_compile.proofs.laws.members_are_one.Goals as goal
+
+pub returns : goal.returns
+returns c = one_member

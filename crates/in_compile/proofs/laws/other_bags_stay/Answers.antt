@@ -1,0 +1,5 @@
+use Rattle.in_compile.proofs.Back.{other_stays}
+use Rattle.in_compile.proofs.laws.other_bags_stay.Goals as goal
+
+pub returns : goal.returns
+returns c = other_stays

@@ -1,0 +1,5 @@
+use Rattle.in_compile.proofs.Standing.{stands}
+use Rattle.in_compile.proofs.laws.settled_members_stand.Goals as goal
+
+pub returns : goal.returns
+returns c = stands

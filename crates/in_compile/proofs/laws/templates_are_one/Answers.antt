@@ -1,0 +1,5 @@
+use Rattle.in_compile.proofs.OneTemplate.{one_template}
+use Rattle.in_compile.proofs.laws.templates_are_one.Goals as goal
+
+pub returns : goal.returns
+returns c = one_template

@@ -1,0 +1,6 @@
+use Rattle.in_arena.specs.States.{IsLive}
+use Rattle.in_compile.specs.PlacingSteps.{AreOnTheWay}
+use Rattle.in_compile.proofs.placed.settle_all.Given as goal
+
+abbrev pub invariant-loop-number : goal.invariant-loop-number
+invariant-loop-number l = AreOnTheWay (λ x. x) IsLive l.numbers l.number l.fn.arena l.fn.bag l.arena l.bag

@@ -1,0 +1,13 @@
+pub mod Cells
+pub mod Laws
+pub mod Listing
+pub mod MemberInside
+pub mod Members
+pub mod PlacedInside
+pub mod Placing
+pub mod PlacingLaws
+pub mod PlacingSteps
+pub mod StockInside
+pub mod Stocks
+pub mod Storing
+pub mod Templates

@@ -1,0 +1,105 @@
+-- How members and templates are stored: no contract of a public call speaks of it. This project's own choice.
+use Rattle.std.specs.Prelude.{◌≡◌, ◌≢◌, ◌≤◌, ◌<◌, ◌+◌, ◌^◌, ◌*◌, ℕ, nat_eq, cond, true, List, ◌∷◌, [], ◌++◌, length, take, drop, map, Option, Some, None, slice_get}
+use Rattle.std.proofs.Common.{inl, inr, ap, sym, ◌∙◌}
+use Rattle.std.proofs.lemmas.Bool.Decides.{eqb_tells}
+use Rattle.in_symbols.specs.Tables.{Tables}
+use Rattle.in_net.specs.declared.nets.Cell.{Cell}
+use Rattle.in_net.specs.declared.nets.Point.{Point}
+use Rattle.in_net.specs.declared.nets.Point.TheVariants.{Port, Free}
+use Rattle.in_net.specs.NetFaults.{max_member_agents}
+use Rattle.in_net.specs.Parts.{Parts}
+use Rattle.in_syntax.specs.Grammar.{max_ports}
+use Rattle.in_cover.specs.declared.table.RuleNo.{RuleNo}
+use Rattle.in_compile.specs.declared.joints.Joint.{Joint}
+use Rattle.in_compile.specs.declared.joints.Joint.TheVariants.{ToAgent, ToBoundary}
+use Rattle.in_compile.specs.declared.member.MemberAgent.{MemberAgent}
+use Rattle.in_compile.specs.Cells.{is_of}
+use Rattle.in_compile.specs.Members.{AgentParts, MemberParts, joint_of}
+
+-- ---- joints in two words
+
+-- in place of a place: it leads to a boundary end
+abbrev pub at_boundary : ℕ
+at_boundary = 4294967295
+
+abbrev pub joint_from : ℕ → ℕ → Joint
+joint_from number place = cond (nat_eq place at_boundary) (ToBoundary number) (ToAgent number place)
+
+-- places and boundary ends are numbers of a byte
+abbrev pub FitsJoint : ℕ → ℕ → Type 0
+FitsJoint number place = (place ≡ at_boundary → number < 2 ^ 8) × (place ≢ at_boundary → place < 2 ^ 8)
+
+abbrev pub IsNarrow : Point → Type 0
+IsNarrow (Port x i) = Unit {0}
+IsNarrow (Free e) = e < 2 ^ 8
+
+abbrev pub AreNarrow : List Point → Type 0
+AreNarrow ps = (k : ℕ) (q : Point) → slice_get ps k ≡ Some q → IsNarrow q
+
+-- ---- numbers of rules in a word
+
+-- no rule has this number
+abbrev pub no_rule : ℕ
+no_rule = 4294967295
+
+abbrev pub rule_from : ℕ → Option RuleNo
+rule_from number = cond (nat_eq number no_rule) None (Some (record { 0 = number }))
+
+abbrev pub word_of : Option RuleNo → ℕ
+word_of None = no_rule
+word_of (Some k) = k.0
+
+-- so nothing is lost in the word
+pub word_back : (n : ℕ) → word_of (rule_from n) ≡ n
+word_back n = elim (eqb_tells n no_rule) [
+  | inl h ↦ ap (λ b. word_of (cond b None (Some (record { 0 = n })))) h.0 ∙ sym h.1
+  | inr h ↦ ap (λ b. word_of (cond b None (Some (record { 0 = n })))) h.0
+]
+
+-- ---- agents, and all joints of a member in one list, those of the boundary ends first
+
+-- an agent's joints stand in a row
+abbrev pub ends_from : List Joint → MemberAgent → List Joint
+ends_from joints a = take a.places (drop a.first joints)
+
+abbrev pub agent_from : List Joint → MemberAgent → AgentParts
+agent_from joints a = record { symbol = a.symbol; class = a.class; ends = ends_from joints a }
+
+abbrev pub agents_from : List Joint → List MemberAgent → List AgentParts
+agents_from joints agents = map (agent_from joints) agents
+
+-- what is read stands in the list, and numbers fit
+pub record IsLaidOut (agents : List MemberAgent) (joints : List Joint) (boundary : ℕ) (pairs : List (ℕ × ℕ)) : Type 0 where
+  pub ends : boundary ≤ length joints
+  pub places : (k : ℕ) (a : MemberAgent) → slice_get agents k ≡ Some a → a.first + a.places ≤ length joints
+  pub few : length agents < 2 ^ 32
+  pub few_ends : boundary < 2 ^ 16
+  pub few_pairs : length pairs < 2 ^ 32
+
+-- a right member's boundary ends are numbered in a byte, and its agents are few
+abbrev pub IsSmall : MemberParts → Type 0
+IsSmall m = (length m.joints < 2 ^ 8) × (length m.agents ≤ max_member_agents)
+
+-- ---- what compiling adds
+
+-- this agent stands for that one, and its joints lead where the ends do
+pub record IsAgentOf (t : Tables) (joints : List Joint) (c : Cell) (a : MemberAgent) : Type 0 where
+  pub symbol : a.symbol ≡ c.symbol
+  pub class : is_of t a.class c.symbol.0 ≡ true
+  pub within : a.first + a.places ≤ length joints
+  pub ends : ends_from joints a ≡ map joint_of c.ends
+
+-- one more agent, with its joints
+pub record AddsAgent (t : Tables) (c : Cell) (agents : List MemberAgent) (joints : List Joint) (more : List MemberAgent) (longer : List Joint) : Type 0 where
+  pub agent : MemberAgent
+  pub added : more ≡ agents ++ agent ∷ []
+  pub of : IsAgentOf t longer c agent
+  pub joints_are : longer ≡ joints ++ map joint_of c.ends
+
+-- the first so many agents of the net, with their joints after those of the boundary ends
+pub record AreLaidBelow (t : Tables) (n : Parts) (x : ℕ) (agents : List MemberAgent) (joints : List Joint) : Type 0 where
+  pub count : length agents ≡ x
+  pub rest : List Joint
+  pub ends : joints ≡ map (λ f. joint_of f.end) n.free ++ rest
+  pub each : (k : ℕ) (a : MemberAgent) → slice_get agents k ≡ Some a → (c : Cell) × (slice_get n.cells k ≡ Some (Some c)) × IsAgentOf t joints c a
+  pub long : length joints ≤ length n.free + (max_ports + 1) * x

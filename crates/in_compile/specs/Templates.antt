@@ -1,0 +1,65 @@
+-- Templates: a rule's right member, with what joins it in the place of an active pair.
+use Rattle.std.specs.Prelude.{◌≡◌, ◌⊎◌, ◌≤◌, ℕ, List, length, Option, Some, option_and_then, slice_get}
+use Rattle.in_arena.specs.declared.content.CellClass.{CellClass}
+use Rattle.in_symbols.specs.declared.symbols.SymbolNo.{SymbolNo}
+use Rattle.in_symbols.specs.Tables.{Tables, arity_of}
+use Rattle.in_net.specs.Rules.{RuleParts}
+use Rattle.in_cover.specs.Cover.{IsTableOf}
+use Rattle.in_cover.specs.Table as table
+use Rattle.in_check.specs.Programs.{Program}
+use Rattle.in_compile.specs.declared.cells.Need.{Need}
+use Rattle.in_compile.specs.Cells.{count_of}
+use Rattle.in_compile.specs.Members.{MemberParts, IsMemberOf}
+
+-- ---- a template
+
+-- the rule's two symbols; how many boundary ends are places of the first one, which come first; and the right member
+pub record TemplateParts : Type 0 where
+  pub heads : SymbolNo × SymbolNo
+  pub first_ends : ℕ
+  pub member : MemberParts
+
+-- the template is that of the rule, whose right member it has
+pub record IsTemplateOf (t : Tables) (r : RuleParts) (p : TemplateParts) : Type 0 where
+  pub heads : p.heads ≡ r.heads
+  pub first_ends : p.first_ends ≡ arity_of t r.heads.0.0
+  pub member : IsMemberOf t r.member p.member
+
+-- ---- the templates of a program
+
+-- those of the rules by number, the number of the rule of each two symbols, and the initial net
+pub record TemplatesParts : Type 0 where
+  pub templates : List TemplateParts
+  pub numbers : table.Cells
+  pub start : MemberParts
+
+-- the template for two symbols, whichever comes first
+abbrev pub template_at : TemplatesParts → ℕ → ℕ → Option TemplateParts
+template_at ts c d = option_and_then (λ k. slice_get ts.templates k.0) (table.rule_at ts.numbers c d)
+
+-- the template's two symbols are these, in either order
+abbrev pub HasHeads : TemplateParts → ℕ → ℕ → Type 0
+HasHeads p c d = ((p.heads.0.0 ≡ c) × (p.heads.1.0 ≡ d)) ⊎ ((p.heads.0.0 ≡ d) × (p.heads.1.0 ≡ c))
+
+-- each of the first so many rules has its template
+pub record HaveFirst (t : Tables) (rules : List RuleParts) (count : ℕ) (templates : List TemplateParts) : Type 0 where
+  pub count_is : length templates ≡ count
+  pub each : (k : ℕ) (r : RuleParts) (p : TemplateParts) → slice_get rules k ≡ Some r → slice_get templates k ≡ Some p → IsTemplateOf t r p
+
+-- each rule has
+abbrev pub HaveTemplates : Tables → List RuleParts → List TemplateParts → Type 0
+HaveTemplates t rules templates = HaveFirst t rules (length rules) templates
+
+-- of this class some template needs so much, and none more; where there are none, it is 0
+abbrev pub IsMost : List TemplateParts → CellClass → ℕ → Type 0
+IsMost templates c most = ((k : ℕ) (p : TemplateParts) → slice_get templates k ≡ Some p → count_of p.member.need c ≤ most)
+    × (((length templates ≡ 0) × (most ≡ 0)) ⊎ ((k : ℕ) × (p : TemplateParts) × (slice_get templates k ≡ Some p) × (count_of p.member.need c ≡ most)))
+
+abbrev pub IsLargestNeed : List TemplateParts → Need → Type 0
+IsLargestNeed templates need = (c : CellClass) → IsMost templates c (count_of need c)
+
+-- the templates of the program's rules, for two symbols exactly where it has a rule for them, and its net
+pub record AreTemplatesOf (p : Program) (ts : TemplatesParts) : Type 0 where
+  pub templates : HaveTemplates p.tables p.rules ts.templates
+  pub numbers : IsTableOf p.tables p.rules ts.numbers
+  pub start : IsMemberOf p.tables p.net ts.start

@@ -1,0 +1,105 @@
+// Cells by their classes: which an agent takes, and how many are needed.
+ghost use Rattle.std.specs.Prelude.{◌≡◌, ◌<◌, ◌^◌, length, max, MatchOption};
+ghost use Rattle.in_symbols.specs.Tables.{IsSymbol};
+ghost use Rattle.in_net.specs.Built.{IsOver};
+ghost use Rattle.in_opening.specs.Opening.{AreAllThere};
+ghost use Rattle.in_compile.specs.Cells.{is_of, agents_of, count_of, IsNeedOf, IsEnough, IsFirstShort};
+
+use in_arena::CellClass;
+use in_net::{AgentNo, Net};
+use in_symbols::{SymbolNo, Symbols};
+
+/// So many cells of each class: those that an interaction needs, or those that are free.
+#[derive(Clone, Copy, Debug, PartialEq, Eq)]
+pub struct Need {
+    pub small: u32,
+    pub large: u32,
+    pub wide: u32,
+}
+
+impl Need {
+    ghost use Rattle.in_arena.specs.declared.content.CellClass.{CellClass};
+
+    /// As many of each class.
+    pub fn each(count: u32) -> Need
+        ensures { (c : CellClass) → count_of result c ≡ count }
+    {
+        Need {
+            small: count,
+            large: count,
+            wide: count,
+        }
+    }
+
+    /// Of each class as many as the one that has more of it.
+    pub(crate) fn or_more(self, other: Need) -> Need
+        ensures { (c : CellClass) → count_of result c ≡ max (count_of self c) (count_of other c) }
+    {
+        Need {
+            small: self.small.max(other.small),
+            large: self.large.max(other.large),
+            wide: self.wide.max(other.wide),
+        }
+    }
+
+    /// How many of this class.
+    pub fn of(self, class: CellClass) -> u32
+        ensures { result ≡ count_of self class }
+    {
+        match class {
+            CellClass::Small => self.small,
+            CellClass::Large => self.large,
+            CellClass::Wide => self.wide,
+        }
+    }
+
+    /// The first class of which more are needed than are free; nothing where of each class as many are free.
+    pub fn first_short(self, free: Need) -> Option<CellClass>
+        ensures { MatchOption result (IsEnough (count_of self) (count_of free)) (IsFirstShort (count_of self) (count_of free)) }
+    {
+        for class in CellClass::ALL {
+            if free.of(class) < self.of(class) {
+                return Some(class);
+            }
+        }
+        None
+    }
+}
+
+/// Whether an agent of this symbol takes a cell of this class.
+pub fn is_of(symbols: &Symbols, class: CellClass, symbol: SymbolNo) -> bool
+    requires { IsSymbol symbols.now symbol.0 }
+    ensures { result ≡ is_of symbols.now class symbol.0 }
+{
+    class.holds(symbols.arity(symbol) as usize + 1)
+}
+
+/// How many agents of the net take a cell of this class. The net is as built: each of its numbers has an agent.
+fn agents_of(symbols: &Symbols, net: &Net, class: CellClass) -> u32
+    requires over { IsOver symbols.now net.now }
+    requires there { AreAllThere net.now }
+    ensures { result ≡ agents_of symbols.now class net.now.cells }
+{
+    let mut count = 0;
+    for number in 0..net.agents() {
+        if let Some(symbol) = net.symbol(AgentNo(number)) {
+            if is_of(symbols, class, symbol) {
+                count += 1;
+            }
+        }
+    }
+    count
+}
+
+/// How many cells of each class the agents of a net take, which is as built.
+pub fn need_of_net(symbols: &Symbols, net: &Net) -> Need
+    requires over { IsOver symbols.now net.now }
+    requires there { AreAllThere net.now }
+    ensures { IsNeedOf symbols.now net.now.cells result }
+{
+    Need {
+        small: agents_of(symbols, net, CellClass::Small),
+        large: agents_of(symbols, net, CellClass::Large),
+        wide: agents_of(symbols, net, CellClass::Wide),
+    }
+}

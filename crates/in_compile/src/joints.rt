@@ -1,0 +1,79 @@
+// Where the wires of a member lead.
+ghost use Rattle.std.specs.Prelude.{◌≡◌};
+ghost use Rattle.in_compile.specs.Members.{joint_of};
+ghost use Rattle.in_compile.specs.Storing.{IsNarrow};
+
+use in_net::Point;
+use std::marker::Model;
+
+/// Where a wire of a member leads: to a place of one of its agents, by the agent's number and the place, the principal port being 0; or
+/// to a boundary end.
+#[derive(Clone, Copy, Debug, PartialEq, Eq)]
+pub enum Joint {
+    ToAgent(u32, u8),
+    ToBoundary(u8),
+}
+
+impl Joint {
+    /// Where the wire leads whose other point this is, in a net.
+    pub(crate) fn of(point: Point) -> Joint
+        requires { IsNarrow point }
+        ensures { result ≡ joint_of point }
+    {
+        match point {
+            Point::Port(agent, place) => Joint::ToAgent(agent.0, place),
+            Point::Free(end) => Joint::ToBoundary(end as u8),
+        }
+    }
+}
+
+/// In a joint's second word: it leads to a boundary end.
+const AT_BOUNDARY: u32 = u32::MAX;
+
+/// A joint as it is stored: two words of one width, so that it is read and written as a whole. They are an agent's number and the place, or
+/// a boundary end and `AT_BOUNDARY`.
+#[derive(Drop)]
+pub(crate) struct StoredJoint {
+    number: u32,
+    place: u32,
+}
+
+impl Model for StoredJoint {
+    ghost use Rattle.in_compile.specs.declared.joints.Joint.{Joint};
+    ghost use Rattle.in_compile.specs.Storing.{joint_from, FitsJoint};
+
+    ghost Value = { Joint };
+
+    ghost view = { λ s. joint_from s.number s.place };
+
+    ghost invariant = { λ s. FitsJoint s.number s.place };
+}
+
+impl StoredJoint {
+    /// This joint, stored.
+    pub(crate) fn of(joint: Joint) -> StoredJoint
+        ensures { result ≡ joint }
+    {
+        match joint {
+            Joint::ToAgent(agent, place) => StoredJoint {
+                number: agent,
+                place: place as u32,
+            },
+            Joint::ToBoundary(end) => StoredJoint {
+                number: end as u32,
+                place: AT_BOUNDARY,
+            },
+        }
+    }
+
+    /// The joint that is stored here.
+    pub(crate) fn joint(&self) -> Joint
+        ensures { result ≡ self.now }
+    {
+        if self.place == AT_BOUNDARY {
+            Joint::ToBoundary(self.number as u8)
+        } else {
+            Joint::ToAgent(self.number, self.place as u8)
+        }
+    }
+}

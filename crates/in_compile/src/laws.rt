@@ -1,0 +1,55 @@
+//! Laws over templates, stocks and what is placed, for whoever reasons above them. No function here does anything.
+
+ghost use Rattle.in_compile.specs.Laws.{EachPairHasOneTemplate, TemplatesAreOne};
+ghost use Rattle.in_compile.specs.PlacingLaws.{MembersAreOne, LeasingKeepsAll, GivingBackKeepsAll, AllGoBack, PlacingLosesNone, PlacingSharesOut, OtherBagsStay, SettledMembersStand};
+
+/// Of an accepted program, each two symbols that match have exactly one template, whichever is named first, and it is that of their rule.
+pub fn each_pair_has_one_template()
+    ensures { EachPairHasOneTemplate }
+{}
+
+/// A rule has one template.
+pub fn templates_are_one()
+    ensures { TemplatesAreOne }
+{}
+
+/// A net has one member.
+pub fn members_are_one()
+    ensures { MembersAreOne }
+{}
+
+/// Leasing into a stock loses no cell: of each class as many are free or held as before.
+pub fn leasing_keeps_all()
+    ensures { LeasingKeepsAll }
+{}
+
+/// Nor does giving back: the cells of a bag in which nothing is written are all free again.
+pub fn giving_back_keeps_all()
+    ensures { GivingBackKeepsAll }
+{}
+
+/// A stock that is filled and spent leaves the arena as it was.
+pub fn all_go_back()
+    ensures { AllGoBack }
+{}
+
+/// Placing loses no cell: what is placed and what is left of the stock go back to where the stock would have.
+pub fn placing_loses_none()
+    ensures { PlacingLosesNone }
+{}
+
+/// What is placed and what is left of a stock are of the stock's arena, and have no cell in common.
+pub fn placing_shares_out()
+    ensures { PlacingSharesOut }
+{}
+
+/// A bag, as a stock's or that of what is placed, stays one of its arena where that regains the cells of another.
+pub fn other_bags_stay()
+    ensures { OtherBagsStay }
+{}
+
+/// A placed member that is settled is in the arena: its agents with their symbols and their inner wires, and at boundary ends the numbers of
+/// these.
+pub fn settled_members_stand()
+    ensures { SettledMembersStand }
+{}

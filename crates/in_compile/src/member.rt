@@ -1,0 +1,134 @@
+// A member, and what is read of it.
+ghost use Rattle.std.specs.Prelude.{◌≡◌, ◌<◌, length, Some, slice_get};
+ghost use Rattle.in_compile.specs.declared.joints.Joint.TheVariants.{ToAgent, ToBoundary};
+ghost use Rattle.in_compile.specs.Members.{symbol_at, class_at, places_at, joint_at, IsPlaceOf, IsSound};
+
+use crate::cells::Need;
+use crate::joints::{Joint, StoredJoint};
+use in_arena::CellClass;
+use in_symbols::SymbolNo;
+use sqlite_items::Items;
+use std::marker::Model;
+
+/// An agent as it is stored: its joints are so many from the first one on, in the member's list.
+#[derive(Clone, Copy)]
+pub(crate) struct MemberAgent {
+    pub(crate) symbol: SymbolNo,
+    pub(crate) first: u32,
+    pub(crate) class: CellClass,
+    pub(crate) places: u8,
+}
+
+/// The right member of a rule or the initial net of a program, as a machine over cells places it: its agents with their numbers in the
+/// net, where the wires at their places and at the boundary ends lead, and the active pairs among them. Boundary ends are the net's free
+/// ends, by their numbers from 0.
+///
+/// What a machine reads of it at each interaction stands in the first 64 bytes.
+#[derive(Drop)]
+pub struct Member {
+    pub(crate) agents: Items<MemberAgent>,
+    pub(crate) joints: Items<StoredJoint>,
+    pub(crate) need: Need,
+    pub(crate) boundary: u16,
+    pub(crate) pairs: Items<(u32, u32)>,
+}
+
+// Contracts see no layout: each agent has its joints, and so have the boundary ends.
+impl Model for Member {
+    ghost use Rattle.in_compile.specs.Members.{MemberParts};
+
+    ghost Value = { MemberParts };
+
+    ghost use Rattle.in_compile.specs.MemberInside.{member_view, IsMember};
+
+    ghost view = { member_view };
+
+    ghost invariant = { IsMember };
+}
+
+impl Member {
+    /// Its agents' cells hold their places, its wires lead both ways, and its need is that of its agents: what its proof rests on. The call
+    /// does nothing.
+    pub fn is_sound(&self)
+        ensures { IsSound self.now }
+    {
+        let _ = &self.agents;
+    }
+
+    /// How many cells of each class its agents take.
+    pub fn need(&self) -> Need
+        ensures { result ≡ self.now.need }
+    {
+        self.need
+    }
+
+    /// How many agents it has. They are numbered from 0, as in the net.
+    pub fn agents(&self) -> u32
+        ensures { result ≡ length self.now.agents }
+    {
+        self.agents.len() as u32
+    }
+
+    /// The symbol of the agent of that number.
+    pub fn symbol(&self, agent: u32) -> SymbolNo
+        requires { agent < length self.now.agents }
+        ensures { symbol_at self.now agent ≡ Some result }
+    {
+        self.agents.as_slice()[agent as usize].symbol
+    }
+
+    /// The class of the cell that this agent takes.
+    pub fn class(&self, agent: u32) -> CellClass
+        requires { agent < length self.now.agents }
+        ensures { class_at self.now agent ≡ Some result }
+    {
+        self.agents.as_slice()[agent as usize].class
+    }
+
+    /// How many places this agent has, its principal port among them.
+    pub fn places(&self, agent: u32) -> u8
+        requires { agent < length self.now.agents }
+        ensures { places_at self.now agent ≡ Some result }
+    {
+        self.agents.as_slice()[agent as usize].places
+    }
+
+    /// Where the wire at this place of this agent leads, the principal port being place 0.
+    pub fn end(&self, agent: u32, place: u8) -> Joint
+        requires { IsPlaceOf self.now agent place }
+        ensures { joint_at self.now (ToAgent agent place) ≡ Some result }
+    {
+        let first = self.agents.as_slice()[agent as usize].first;
+        self.joints.as_slice()[first as usize + place as usize].joint()
+    }
+
+    /// How many boundary ends it has.
+    pub fn boundary_ends(&self) -> u32
+        ensures { result ≡ length self.now.joints }
+    {
+        u32::from(self.boundary)
+    }
+
+    /// Where the wire at this boundary end leads.
+    pub fn joint(&self, end: u8) -> Joint
+        requires { end < length self.now.joints }
+        ensures { joint_at self.now (ToBoundary end) ≡ Some result }
+    {
+        self.joints.as_slice()[end as usize].joint()
+    }
+
+    /// How many active pairs its agents are.
+    pub fn pairs(&self) -> u32
+        ensures { result ≡ length self.now.pairs }
+    {
+        self.pairs.len() as u32
+    }
+
+    /// The active pair of that number, in the order of the pairs' wires in the text: its two agents, the constructor first.
+    pub fn pair(&self, number: u32) -> (u32, u32)
+        requires { number < length self.now.pairs }
+        ensures { slice_get self.now.pairs number ≡ Some result }
+    {
+        self.pairs.as_slice()[number as usize]
+    }
+}

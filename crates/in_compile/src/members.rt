@@ -1,0 +1,166 @@
+// From a net to its member, and from a rule to its template.
+ghost use Rattle.std.specs.Prelude.{◌≡◌, ◌+◌, ◌≤◌, ◌<◌, ◌^◌, ◌++◌, map, length, Some, IfOk, OnOk};
+ghost use Rattle.in_arena.specs.Classes.{Holds, width};
+ghost use Rattle.in_arena.specs.declared.content.CellClass.TheVariants.{Wide};
+ghost use Rattle.in_syntax.specs.Grammar.{max_ports};
+ghost use Rattle.in_net.specs.Built.{IsOver, IsCellOver};
+ghost use Rattle.in_net.specs.NetFaults.{max_agents};
+ghost use Rattle.in_net.specs.Parts.{IsWhole};
+ghost use Rattle.in_net.specs.Rules.{IsRuleOver};
+ghost use Rattle.in_interaction.specs.Queues.{IsFirstQueue};
+ghost use Rattle.in_opening.specs.Opening.{AreAllThere};
+ghost use Rattle.in_opening.specs.OpeningRules.{IsRuleWhole};
+ghost use Rattle.in_compile.specs.Storing.{AreNarrow, AddsAgent, AreLaidBelow};
+ghost use Rattle.in_compile.specs.Members.{joint_of, IsMemberOf};
+ghost use Rattle.in_compile.specs.Templates.{IsTemplateOf};
+
+use crate::cells::need_of_net;
+use crate::joints::{Joint, StoredJoint};
+use crate::member::{Member, MemberAgent};
+use crate::template::Template;
+use in_arena::CellClass;
+use in_net::{Cell, Net, Point, Rule};
+use in_symbols::Symbols;
+use sqlite_items::Items;
+use std::alloc::{AllocError, Global};
+
+/// The class of cells that are for so many ends, the principal port's among them.
+fn class_for(ends: usize) -> CellClass
+    requires some { 1 ≤ ends }
+    requires few { ends ≤ width Wide }
+    ensures { Holds result ends }
+{
+    if ends <= CellClass::Small.width() as usize {
+        CellClass::Small
+    } else if ends <= CellClass::Large.width() as usize {
+        CellClass::Large
+    } else {
+        CellClass::Wide
+    }
+}
+
+/// Adds where the wires lead whose other points these are.
+fn add_joints(joints: &mut Items<StoredJoint>, points: &[Point]) -> Result<(), AllocError>
+    requires { AreNarrow points.now }
+    ensures { OnOk result (joints.new ≡ joints.old ++ map joint_of points.now) }
+{
+    for number in 0..points.len() {
+        joints.push(StoredJoint::of(Joint::of(points[number])))?;
+    }
+    Ok(())
+}
+
+/// Where the wires at the boundary ends lead.
+fn boundary_joints(alloc: Global, net: &Net) -> Result<Items<StoredJoint>, AllocError>
+    requires { IsWhole net.now }
+    ensures { IfOk result (λ js. js ≡ map (λ f. joint_of f.end) net.now.free) }
+{
+    let mut joints = Items::new(alloc);
+    for end in 0..net.free_ends() {
+        joints.push(StoredJoint::of(Joint::of(net.partner(Point::Free(end)))))?;
+    }
+    Ok(joints)
+}
+
+/// Adds an agent, and its joints.
+fn add_agent(
+    symbols: &Symbols,
+    cell: &Cell,
+    agents: &mut Items<MemberAgent>,
+    joints: &mut Items<StoredJoint>,
+) -> Result<(), AllocError>
+    requires over { IsCellOver symbols.now (Some cell.now) }
+    requires narrow { AreNarrow cell.now.ends }
+    requires room { length joints.old < 2 ^ 32 }
+    ensures { OnOk result (AddsAgent symbols.now cell.now agents.old joints.old agents.new joints.new) }
+{
+    let first = joints.len() as u32;
+    let places = symbols.arity(cell.symbol) + 1;
+    add_joints(joints, cell.ends.as_slice())?;
+    agents.push(MemberAgent {
+        symbol: cell.symbol,
+        first,
+        class: class_for(places as usize),
+        places,
+    })
+}
+
+/// Adds all agents of a net, and their joints.
+fn add_agents(
+    symbols: &Symbols,
+    net: &Net,
+    agents: &mut Items<MemberAgent>,
+    joints: &mut Items<StoredJoint>,
+) -> Result<(), AllocError>
+    requires over { IsOver symbols.now net.now }
+    requires there { AreAllThere net.now }
+    requires few { length net.now.cells ≤ max_agents }
+    requires start { AreLaidBelow symbols.now net.now 0 agents.old joints.old }
+    ensures { OnOk result (AreLaidBelow symbols.now net.now (length net.now.cells) agents.new joints.new) }
+{
+    let cells = net.cells();
+    for number in 0..cells.len() {
+        if let Some(cell) = &cells[number] {
+            add_agent(symbols, cell, agents, joints)?;
+        }
+    }
+    Ok(())
+}
+
+/// The active pairs that a net holds itself, in the order of their wires.
+fn own_pairs(alloc: Global, symbols: &Symbols, net: &Net) -> Result<Items<(u32, u32)>, AllocError>
+    requires over { IsOver symbols.now net.now }
+    requires whole { IsWhole net.now }
+    ensures few { IfOk result (λ pairs. length pairs < 2 ^ 32) }
+    ensures pairs { IfOk result (λ pairs. IsFirstQueue symbols.now net.now pairs) }
+{
+    let mut pairs = Items::new(alloc);
+    for wire in 0..net.wires() {
+        if let Some((one, other)) = net.pair_of_wire(symbols, wire) {
+            pairs.push((one.0, other.0))?;
+        }
+    }
+    Ok(pairs)
+}
+
+/// The member that is a net, which is over these tables and as it was built.
+pub(crate) fn member_of(alloc: Global, symbols: &Symbols, net: &Net) -> Result<Member, AllocError>
+    requires over { IsOver symbols.now net.now }
+    requires there { AreAllThere net.now }
+    requires few { length net.now.cells ≤ max_agents }
+    ensures { IfOk result (λ m. IsMemberOf symbols.now net.now m) }
+{
+    let cells = net.cells();
+    let mut joints = boundary_joints(alloc, net)?;
+    let mut agents = Items::from_vec(Vec::with_capacity(alloc, cells.len())?);
+    add_agents(symbols, net, &mut agents, &mut joints)?;
+    let pairs = own_pairs(alloc, symbols, net)?;
+    Ok(Member {
+        agents,
+        joints,
+        need: need_of_net(symbols, net),
+        boundary: net.free_ends() as u16,
+        pairs,
+    })
+}
+
+/// The template of a rule, which is over these tables and as it was built.
+pub(crate) fn template(
+    alloc: Global,
+    symbols: &Symbols,
+    rule: &Rule,
+) -> Result<Template, AllocError>
+    requires over { IsRuleOver symbols.now rule.now }
+    requires whole { IsRuleWhole symbols.now rule.now }
+    ensures { IfOk result (λ t. IsTemplateOf symbols.now rule.now t) }
+{
+    let member = member_of(alloc, symbols, rule.member())?;
+    let (first, second) = rule.heads();
+    let first_ends = symbols.arity(first);
+    let _second_ends = symbols.arity(second);
+    Ok(Template {
+        member,
+        first_ends,
+        heads: (first, second),
+    })
+}

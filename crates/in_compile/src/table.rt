@@ -1,0 +1,118 @@
+// The numbers of the rules by their two symbols, in a word each.
+ghost use Rattle.std.specs.Prelude.{◌≡◌, ◌+◌, ◌*◌, ◌<◌, ◌^◌, length, IfOk, IsSome, Some, None};
+ghost use Rattle.in_cover.specs.Covering.{HasNoRule, Sets};
+ghost use Rattle.in_cover.specs.Table.{rule_at};
+ghost use Rattle.in_compile.specs.Storing.{no_rule};
+
+use in_cover::RuleNo;
+use in_symbols::SymbolNo;
+use sqlite_items::Items;
+use std::alloc::{AllocError, Global};
+use std::marker::Model;
+
+/// No rule has this number.
+const NO_RULE: u32 = u32::MAX;
+
+/// The number of a rule, or none.
+#[derive(Clone, Copy)]
+pub(crate) struct RuleWord {
+    number: u32,
+}
+
+impl Model for RuleWord {
+    ghost use Rattle.std.specs.Prelude.{Option};
+    ghost use Rattle.in_cover.specs.declared.table.RuleNo.{RuleNo};
+    ghost use Rattle.in_compile.specs.Storing.{rule_from, word_of, word_back};
+
+    ghost Value = { Option RuleNo };
+
+    ghost view = { λ w. rule_from w.number };
+
+    ghost inverse = { λ o. record { number = word_of o } };
+
+    ghost inverse_ok = { λ w h. λ i. record { number = word_back w.number i } };
+}
+
+impl RuleWord {
+    fn none() -> RuleWord
+        ensures { result ≡ None }
+    {
+        RuleWord { number: NO_RULE }
+    }
+
+    fn of(rule: RuleNo) -> RuleWord
+        requires { rule.0 < no_rule }
+        ensures { result ≡ Some rule }
+    {
+        RuleWord { number: rule.0 }
+    }
+
+    fn rule(&self) -> RuleNo
+        requires { IsSome self.now }
+        ensures { self.now ≡ Some result }
+    {
+        RuleNo(self.number)
+    }
+}
+
+/// The number of the rule of each two symbols, in either order, for so many symbols.
+#[derive(Drop)]
+pub(crate) struct NumberTable {
+    size: u32,
+    words: Items<RuleWord>,
+}
+
+// Contracts see the cells of `in_cover`'s table.
+impl Model for NumberTable {
+    ghost use Rattle.std.specs.Prelude.{◌≡◌, ◌*◌, length};
+    ghost use Rattle.in_cover.specs.Table.{Cells};
+
+    ghost Value = { Cells };
+
+    ghost view = { λ t. record { size = t.size; cells = t.words } };
+
+    ghost invariant = { λ t. length t.words ≡ t.size * t.size };
+}
+
+impl NumberTable {
+    /// A table without any rule.
+    pub(crate) fn empty(alloc: Global, size: u32) -> Result<NumberTable, AllocError>
+        ensures { IfOk result (λ t. HasNoRule size t) }
+    {
+        let mut words = Vec::new(alloc);
+        words.resize(size as usize * size as usize, RuleWord::none())?;
+        Ok(NumberTable {
+            size,
+            words: Items::from_vec(words),
+        })
+    }
+
+    /// The number of the rule for two symbols, whichever of them is named first.
+    pub(crate) fn rule(&self, c: SymbolNo, d: SymbolNo) -> RuleNo
+        requires { IsSome (rule_at self.now c.0 d.0) }
+        ensures { rule_at self.now c.0 d.0 ≡ Some result }
+    {
+        self.words.as_slice()[self.word(c, d)].rule()
+    }
+
+    /// Notes the rule for two symbols in this order.
+    pub(crate) fn set(&mut self, c: SymbolNo, d: SymbolNo, rule: RuleNo)
+        requires first { c.0 < self.old.size }
+        requires second { d.0 < self.old.size }
+        requires rule { rule.0 < no_rule }
+        ensures { Sets self.old c.0 d.0 rule self.new }
+    {
+        let word = self.word(c, d);
+        self.words.set(word, RuleWord::of(rule));
+    }
+
+    /// Where the word of two symbols stands.
+    fn word(&self, c: SymbolNo, d: SymbolNo) -> usize
+        requires first { c.0 < self.now.size }
+        requires second { d.0 < self.now.size }
+        ensures number { result ≡ c.0 * self.now.size + d.0 }
+        ensures within { result < length self.now.cells }
+    {
+        c.0 as usize * self.size as usize + d.0 as usize
+    }
+}

@@ -1,0 +1,131 @@
+// A template, and what is read of it.
+ghost use Rattle.std.specs.Prelude.{◌≡◌, ◌<◌, length, Some, slice_get};
+ghost use Rattle.in_compile.specs.declared.joints.Joint.TheVariants.{ToAgent, ToBoundary};
+ghost use Rattle.in_compile.specs.Members.{symbol_at, class_at, places_at, joint_at, IsPlaceOf};
+
+use crate::cells::Need;
+use crate::joints::Joint;
+use crate::member::Member;
+use in_arena::CellClass;
+use in_symbols::SymbolNo;
+use std::marker::Model;
+
+/// The right member of a rule, with what joins it in the place of the rule's active pair: its boundary ends are the auxiliary ports of the
+/// rule's two symbols, those of the first one first.
+#[derive(Drop)]
+pub struct Template {
+    pub(crate) member: Member,
+    pub(crate) first_ends: u8,
+    pub(crate) heads: (SymbolNo, SymbolNo),
+}
+
+// Contracts see its fields.
+impl Model for Template {
+    ghost use Rattle.in_compile.specs.Templates.{TemplateParts};
+    ghost use Rattle.in_compile.specs.Storing.{IsSmall};
+
+    ghost Value = { TemplateParts };
+
+    ghost view = { λ t. record { heads = t.heads; first_ends = t.first_ends; member = t.member } };
+
+    ghost invariant = { λ t. IsSmall t.member };
+}
+
+impl Template {
+    /// The rule's two symbols, the constructor first.
+    pub fn heads(&self) -> (SymbolNo, SymbolNo)
+        ensures { result ≡ self.now.heads }
+    {
+        self.heads
+    }
+
+    /// The right member.
+    pub fn member(&self) -> &Member
+        ensures { result.now ≡ self.now.member }
+    {
+        &self.member
+    }
+
+    /// How many cells of each class its agents take.
+    pub fn need(&self) -> Need
+        ensures { result ≡ self.now.member.need }
+    {
+        self.member.need()
+    }
+
+    /// How many agents it has, at most `in_net::MAX_MEMBER_AGENTS`. They are numbered from 0, as in the right member.
+    pub fn agents(&self) -> u32
+        ensures { result ≡ length self.now.member.agents }
+    {
+        self.member.agents()
+    }
+
+    /// The symbol of the agent of that number.
+    pub fn symbol(&self, agent: u32) -> SymbolNo
+        requires { agent < length self.now.member.agents }
+        ensures { symbol_at self.now.member agent ≡ Some result }
+    {
+        self.member.symbol(agent)
+    }
+
+    /// The class of the cell that this agent takes.
+    pub fn class(&self, agent: u32) -> CellClass
+        requires { agent < length self.now.member.agents }
+        ensures { class_at self.now.member agent ≡ Some result }
+    {
+        self.member.class(agent)
+    }
+
+    /// How many places this agent has, its principal port among them.
+    pub fn places(&self, agent: u32) -> u8
+        requires { agent < length self.now.member.agents }
+        ensures { places_at self.now.member agent ≡ Some result }
+    {
+        self.member.places(agent)
+    }
+
+    /// Where the wire at this place of this agent leads, the principal port being place 0.
+    pub fn end(&self, agent: u32, place: u8) -> Joint
+        requires { IsPlaceOf self.now.member agent place }
+        ensures { joint_at self.now.member (ToAgent agent place) ≡ Some result }
+    {
+        self.member.end(agent, place)
+    }
+
+    /// How many boundary ends it has: the auxiliary ports of its two symbols.
+    pub fn boundary_ends(&self) -> u8
+        ensures { result ≡ length self.now.member.joints }
+    {
+        self.member.boundary_ends() as u8
+    }
+
+    /// How many of these are ports of its first symbol: they come first, in the order of their places.
+    pub fn first_ends(&self) -> u8
+        ensures { result ≡ self.now.first_ends }
+    {
+        self.first_ends
+    }
+
+    /// Where the wire at this boundary end leads.
+    pub fn joint(&self, end: u8) -> Joint
+        requires { end < length self.now.member.joints }
+        ensures { joint_at self.now.member (ToBoundary end) ≡ Some result }
+    {
+        self.member.joint(end)
+    }
+
+    /// How many active pairs its agents are.
+    pub fn pairs(&self) -> u32
+        ensures { result ≡ length self.now.member.pairs }
+    {
+        self.member.pairs()
+    }
+
+    /// The active pair of that number, in the order of the pairs' wires in the text: its two agents, the constructor first.
+    pub fn pair(&self, number: u32) -> (u32, u32)
+        requires { number < length self.now.member.pairs }
+        ensures { slice_get self.now.member.pairs number ≡ Some result }
+    {
+        self.member.pair(number)
+    }
+}

@@ -1,0 +1,9 @@
+//! The tests of templates, over public calls.
+#![tactic(auto)]
+
+#[cfg(test)]
+mod of_in_compile;
+#[cfg(test)]
+mod showing;
+#[cfg(test)]
+mod stocking;
