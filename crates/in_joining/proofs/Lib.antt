@@ -1,0 +1,7 @@
+pub mod AllShown
+pub mod JointsMade
+pub mod Kept
+pub mod OneJoint
+pub mod OnTheWay
+pub mod Started
+pub mod Writes

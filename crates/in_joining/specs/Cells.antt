@@ -1,0 +1,24 @@
+-- What stays of an arena where only what places lead to is written.
+use Rattle.std.specs.Prelude.{◌≡◌, ℕ, map, Some}
+use Rattle.in_arena.specs.Arenas.{ArenaView, state_at, free_of}
+use Rattle.in_arena.specs.States.{State, Vacant, Leased, Live, word_of}
+use Rattle.in_arena.specs.declared.content.CellClass.{CellClass}
+use Rattle.in_arena.specs.declared.content.End.TheVariants as end
+use Rattle.in_symbols.specs.Tables.{Tables, IsSymbol}
+
+-- a cell but for what its places lead to
+abbrev pub outline : State → State
+outline Vacant = Vacant
+outline Leased = Leased
+outline (Live word ends) = Live word (map (λ x. end.Free 0) ends)
+
+-- each cell is free, leased or live as before, with the symbol word and as many places that it had
+pub record KeepsCells (old new : ArenaView) : Type 0 where
+  pub memory : new.memory ≡ old.memory
+  pub cells : new.cells ≡ old.cells
+  pub outlines : map outline new.states ≡ map outline old.states
+  pub free : (c : CellClass) → free_of new c ≡ free_of old c
+
+-- the symbol word of each live cell is the number of a symbol
+abbrev pub HasSymbols : Tables → ArenaView → Type 0
+HasSymbols t a = (y s : ℕ) → word_of (state_at a y) ≡ Some s → IsSymbol t s

@@ -1,0 +1,66 @@
+-- A net in cells. At each place of a cell, and in a list at the number of each free end, stands the end that it leads to.
+use Rattle.std.specs.Prelude.{◌≡◌, ◌⊎◌, ◌↔◌, ◌+◌, ◌<◌, ◌≤◌, ℕ, List, length, slice_get, slice_set, Option, Some, IsSome, option_map}
+use Rattle.in_arena.specs.Arenas.{ArenaView, state_at, changed}
+use Rattle.in_arena.specs.States.{word_of, places, end_at, with_end}
+use Rattle.in_arena.specs.declared.content.End.{End}
+use Rattle.in_arena.specs.declared.content.End.TheVariants as end
+use Rattle.in_net.specs.Nets.{Point, Port, Free, Net}
+
+-- the point that an end leads to, and back
+abbrev pub point_of : End → Point ℕ
+point_of (end.Cell c i) = Port c.0 i
+point_of (end.Free k) = Free k
+
+abbrev pub end_of : Point ℕ → End
+end_of (Port y i) = end.Cell (record { 0 = y }) i
+end_of (Free k) = end.Free k
+
+-- what stands at a point
+abbrev pub stands_at : ArenaView → List End → Point ℕ → Option End
+stands_at a ends (Port y i) = end_at (state_at a y) i
+stands_at a ends (Free k) = slice_get ends k
+
+-- the live cells are the net's agents, and its wires lead to what stands at their points
+pub record IsShown (a : ArenaView) (ends : List End) (m : Net ℕ) : Type 0 where
+  pub agents : (y : ℕ) → m.symbol y ≡ word_of (state_at a y)
+  pub wires : (u : Point ℕ) → m.partner u ≡ option_map point_of (stands_at a ends u)
+
+-- ---- writing
+
+-- there is something at this point, so that it can be written
+abbrev pub IsPlaceAt : ArenaView → List End → End → Type 0
+IsPlaceAt a ends (end.Cell c i) = i < places (state_at a c.0)
+IsPlaceAt a ends (end.Free k) = k < length ends
+
+-- the one end is written at the other
+abbrev pub IsWritten : End → End → ArenaView → List End → ArenaView → List End → Type 0
+IsWritten (end.Cell c i) x a ends b after = (b ≡ changed a c.0 (with_end (state_at a c.0) i x)) × (after ≡ ends)
+IsWritten (end.Free k) x a ends b after = (b ≡ a) × (after ≡ slice_set ends k x)
+
+-- of two ends each is written at the other
+pub record AreExchanged (x y : End) (a : ArenaView) (ends : List End) (b : ArenaView) (after : List End) : Type 0 where
+  pub middle : ArenaView
+  pub list : List End
+  pub first : IsWritten x y a ends middle list
+  pub second : IsWritten y x middle list b after
+
+-- ---- while boundary ends are joined
+
+-- a side of a boundary end below this one, where the net has so many free ends of its own and there are so many boundary ends: the outer
+-- sides are numbered after the net's own free ends, and the inner sides after these
+abbrev pub IsSideBelow : ℕ → ℕ → ℕ → Point ℕ → Type 0
+IsSideBelow own many e (Port y i) = ⊥
+IsSideBelow own many e (Free k) = (d : ℕ) × (d < e) × ((k ≡ own + d) ⊎ (k ≡ own + many + d))
+
+-- a place of a live cell, a free end of the net's own, or such a side
+abbrev pub IsPointUpTo : ArenaView → ℕ → ℕ → ℕ → Point ℕ → Type 0
+IsPointUpTo a own many e (Port y i) = i < places (state_at a y)
+IsPointUpTo a own many e (Free k) = (k < own) ⊎ IsSideBelow own many e (Free k)
+
+-- the net is shown but for what leads to sides of boundary ends below this one, which are not joined yet: nothing is said of what stands at
+-- a point that leads to such a side, unless it is one itself
+pub record IsShownUpTo (own many e : ℕ) (a : ArenaView) (ends : List End) (m : Net ℕ) : Type 0 where
+  pub agents : (y s : ℕ) → (m.symbol y ≡ Some s) ↔ (word_of (state_at a y) ≡ Some s)
+  pub points : (u : Point ℕ) → IsSome (m.partner u) ↔ IsPointUpTo a own many e u
+  pub wires : (u v : Point ℕ) → m.partner u ≡ Some v → IsSideBelow own many e u ⊎ (IsSideBelow own many e v → ⊥) → stands_at a ends u ≡ Some (end_of v)
+  pub room : own + many + many ≤ length ends

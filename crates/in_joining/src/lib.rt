@@ -1,0 +1,9 @@
+//! An interaction in cells: its boundary ends are joined one after another, in place.
+#![tactic(auto)]
+
+mod joining;
+pub mod laws;
+mod pairing;
+mod writing;
+
+pub use joining::join_all;
