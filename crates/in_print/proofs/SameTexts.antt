@@ -1,7 +1,7 @@
 -- Machines that are the same up to the numbers of their agents have one text.
 use Rattle.std.proofs.Common.{◌≡◌, ℕ, zero, suc, nat_eq, Option, List, [], ◌∷◌, map, count_by, is_some, slice_get, unwrap_or, refl, sym, ap, ◌∙◌, arith}
 use Rattle.std.specs.Prelude.{option_map}
-use Rattle.in_arena.specs.declared.content.CellClass.TheVariants.{Small, Large}
+use Rattle.in_arena.specs.declared.content.CellClass.TheVariants.{Small, Large, Wide}
 use Rattle.in_symbols.specs.Names.{name_in}
 use Rattle.in_symbols.specs.Tables.{Tables}
 use Rattle.in_net.specs.declared.nets.FreeEnd.{FreeEnd}
@@ -12,7 +12,8 @@ use Rattle.in_check.proofs.Reached.SameText.{nat_test, text_same}
 use Rattle.in_run.specs.Machines.{MachineParts, IsMachine, parts_of}
 use Rattle.in_run.specs.Same.{IsSameMachine}
 use Rattle.in_run.proofs.AsMany.{as_many_of}
-use Rattle.in_run.proofs.Queues.{both_classes, machine_queue, machine_promised}
+use Rattle.in_run.proofs.Accepted.{few_ports}
+use Rattle.in_run.proofs.Queues.{all_classes, machine_queue, machine_promised}
 use Rattle.in_run.specs.Texts.{words_of, text_of}
 
 named_at : (fs : List FreeEnd) (k : ℕ) → option_map (λ (f : FreeEnd). f.name) (slice_get fs k) ≡ slice_get (map (λ (f : FreeEnd). f.name) fs) k
@@ -29,11 +30,13 @@ module _ (m n : MachineParts) (machine : IsMachine m) (f : ℕ → ℕ) (same : 
 
   same_depth : count_by is_some n.agents ≡ count_by is_some m.agents
   same_depth =
-      let a = both_classes m.program.tables m.agents in
-      let b = both_classes m.program.tables n.agents in
+      let ports = few_ports machine.accepted.0 m.program machine.accepted.1 in
+      let a = all_classes m.program.tables ports m.agents in
+      let b = all_classes m.program.tables ports n.agents in
       let s = as_many_of m.program.tables Small f (parts_of m) (parts_of n) same.net in
       let l = as_many_of m.program.tables Large f (parts_of m) (parts_of n) same.net in
-      omega (arith, a, b, s, l)
+      let w = as_many_of m.program.tables Wide f (parts_of m) (parts_of n) same.net in
+      omega (arith, a, b, s, l, w)
 
   pub same_texts : text_of m ≡ text_of n
   same_texts = sym (

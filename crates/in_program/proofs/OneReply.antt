@@ -13,9 +13,11 @@ use Rattle.in_check.specs.Programs.{Program, counts_of}
 use Rattle.in_check.proofs.OneAnswer.{checked_once}
 use Rattle.in_program.specs.Acting.{Finding, counted, derived, ran, full, IsFinding, finding_lines, finding_status, stop_status, Report, accepted, refused, IsReport, lines_of, status_of}
 use Rattle.in_program.specs.Laws.{TextsAreAnsweredOnce}
-use Rattle.in_arena.specs.declared.content.CellClass.TheVariants.{Small, Large}
+use Rattle.in_arena.specs.declared.content.CellClass.{CellClass}
 use Rattle.in_check.specs.Checking.{IsAccepted}
 use Rattle.in_program.specs.Lines.{accepted_line, refused_line, run_lines, start_line}
+use Rattle.in_compile.specs.Cells.{agents_of}
+use Rattle.in_compile.proofs.Classes.{one_short, short_needed}
 use Rattle.in_program.proofs.OneRun.{one_run, starts_or_not, same_agents}
 use Rattle.in_program.specs.Steps.{derivation_lines, net_lines, rules_lines}
 
@@ -43,12 +45,11 @@ one_finding text (Run l) p q (ran m n j s) (ran o r k t) same valid h g =
     ((λ i. one.0 i ++ run_lines (one.1 i) (one.2 i)), ap stop_status one.2)
 one_finding text (Run l) p q (ran m n j s) (full c need free) same valid h g = absurd (starts_or_not p q same l.cells m c need free h.0 g)
 one_finding text (Run l) p q (full c need free) (ran o r k t) same valid h g = absurd (starts_or_not q p (turned p q same) l.cells o c need free g.0 h)
-one_finding text (Run l) p q (full Small need free) (full Small more less) same valid h g =
-    ((λ i. start_line Small ((h.0 ∙ same_agents p q same Small ∙ sym g.0) i) ((h.1 ∙ sym g.1) i)), refl)
-one_finding text (Run l) p q (full Large need free) (full Large more less) same valid h g =
-    ((λ i. start_line Large ((h.0 ∙ same_agents p q same Large ∙ sym g.0) i) ((h.1 ∙ sym g.1) i)), refl)
-one_finding text (Run l) p q (full Small need free) (full Large more less) same valid h g = (let a = same_agents p q same Small in absurd (omega (arith, a, h.0, h.1, h.2, g.3)))
-one_finding text (Run l) p q (full Large need free) (full Small more less) same valid h g = (let a = same_agents p q same Small in absurd (omega (arith, a, h.3, g.0, g.1, g.2)))
+one_finding text (Run l) p q (full c need free) (full d more less) same valid (short, is, all) (shorter, are, each) =
+    let needs : (e : CellClass) → agents_of q.tables e q.net.cells ≡ agents_of p.tables e p.net.cells = λ e. sym (same_agents p q same e) in
+    let class : c ≡ d = one_short (λ e. agents_of p.tables e p.net.cells) (λ e. l.cells) c d short (short_needed (λ e. agents_of q.tables e q.net.cells) (λ e. agents_of p.tables e p.net.cells) (λ e. l.cells) d needs shorter) in
+    let need_is : need ≡ more = is ∙ same_agents p q same c ∙ ap (λ (e : CellClass). agents_of q.tables e q.net.cells) class ∙ sym are in
+    ((λ i. start_line (class i) (need_is i) ((all ∙ sym each) i)), refl)
 one_finding text Check p q counted derived same valid h k = elim k [ ]
 one_finding text Check p q counted (ran o r _ t) same valid h k = elim k [ ]
 one_finding text Check p q counted (full c need free) same valid h k = elim k [ ]

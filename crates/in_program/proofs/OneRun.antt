@@ -1,7 +1,6 @@
 -- A program's run comes to one end: two accepted programs of one text differ at most in the table of their rules, of which a run says nothing.
 use Rattle.std.proofs.Common.{◌≡◌, ◌≤◌, ℕ, zero, suc, List, map, ap, ◌∙◌, subst, arith}
 use Rattle.in_arena.specs.declared.content.CellClass.{CellClass}
-use Rattle.in_arena.specs.declared.content.CellClass.TheVariants.{Small, Large}
 use Rattle.in_cover.specs.Table.{Cells}
 use Rattle.in_net.specs.declared.nets.AgentNo.{AgentNo}
 use Rattle.in_net.specs.Built.{IsOver}
@@ -15,11 +14,12 @@ use Rattle.in_check.specs.Plain.{IsPairAt, IsRuleAt}
 use Rattle.in_check.specs.Programs.{Program}
 use Rattle.in_check.specs.Runs.{IsRenamed}
 use Rattle.in_interaction.specs.Queues.{IsFirstQueue}
-use Rattle.in_run.specs.declared.cells.Need.{Need}
+use Rattle.in_compile.specs.declared.cells.Need.{Need}
 use Rattle.in_run.specs.declared.limits.Limits.{Limits}
 use Rattle.in_run.specs.declared.stops.Stop.{Stop}
 use Rattle.in_run.specs.declared.stops.Stop.TheVariants.{Normal, Limit, Full}
-use Rattle.in_run.specs.Machines.{MachineParts, parts_of, plain_of, agents_of}
+use Rattle.in_compile.specs.Cells.{agents_of}
+use Rattle.in_run.specs.Machines.{MachineParts, parts_of, plain_of}
 use Rattle.in_run.specs.Runs.{StepsAt, NeedsAt, Runs, at_start, then_step, IsStop, IsOutcome, IsStart, DoesNotFit}
 use Rattle.in_run.proofs.SameRun.{machine_runs, same_outcome}
 use Rattle.in_run.proofs.SameStart.{count_at, same_start, start_machine}
@@ -33,7 +33,7 @@ module _ (ns : Cells) where
   numbered p = record { tables = p.tables; rules = p.rules; net = p.net; numbers = ns; rule_certificates = p.rule_certificates; net_certificate = p.net_certificate }
 
   abbrev renumbered : MachineParts → MachineParts
-  renumbered m = record { program = numbered m.program; agents = m.agents; free = m.free; queue = m.queue; small = m.small; large = m.large }
+  renumbered m = record { program = numbered m.program; agents = m.agents; free = m.free; queue = m.queue; vacant = m.vacant }
 
   rule_kept : (m : MachineParts) (a b : AgentNo) (k : ℕ) (r : RuleParts) → IsRuleAt (plain_of m) a b k r → IsRuleAt (plain_of (renumbered m)) a b k r
   rule_kept m a b k r h = record { stands = h.stands; over = h.over; declared = h.declared; one = h.one; two = h.two }
@@ -49,7 +49,7 @@ module _ (ns : Cells) where
     pair = s.pair;
     stands = s.stands;
     active = pair_kept m _ _ s.active;
-    room = (s.room.0, need_kept m i s.room.0 s.room.1, s.room.2, s.room.3);
+    room = (s.room.0, need_kept m i s.room.0 s.room.1, s.room.2);
     name = s.name;
     step = record {
       number = s.step.number;
@@ -71,8 +71,7 @@ module _ (ns : Cells) where
   stop_kept : (limit : ℕ) (m : MachineParts) (k : ℕ) (s : Stop) → IsStop limit m k s → IsStop limit (renumbered m) k s
   stop_kept limit m k Normal h = h
   stop_kept limit m k Limit h = h
-  stop_kept limit m k (Full Small need free) h = (h.0, h.1, (h.2.0, need_kept m 0 h.2.0 h.2.1, h.2.2, h.2.3, h.2.4))
-  stop_kept limit m k (Full Large need free) h = (h.0, h.1, (h.2.0, need_kept m 0 h.2.0 h.2.1, h.2.2, h.2.3, h.2.4, h.2.5))
+  stop_kept limit m k (Full c need free) h = (h.0, h.1, (h.2.0, need_kept m 0 h.2.0 h.2.1, h.2.2, h.2.3, h.2.4))
 
   outcome_kept : (start : MachineParts) (limit : ℕ) (m : MachineParts) (k : ℕ) (s : Stop) → IsOutcome start limit m k s → IsOutcome (renumbered start) limit (renumbered m) k s
   outcome_kept start limit m k s h = record { run = runs_kept start m k h.run; within = h.within; stop = stop_kept limit m k s h.stop }
@@ -101,8 +100,7 @@ fits : (p : Program) (cells : ℕ) (m : MachineParts) (c : CellClass) → IsStar
 fits p cells m c h = let count = count_at p cells m h c in omega (arith, count)
 
 pub starts_or_not : (p q : Program) → AreOneProgram p q → (cells : ℕ) (m : MachineParts) (c : CellClass) (need free : ℕ) → IsStart p cells m → DoesNotFit q cells c need free → ⊥
-starts_or_not p q same cells m Small need free h (is, all, less) = let f = fits p cells m Small h in let a = same_agents p q same Small in omega (arith, is, all, less, f, a)
-starts_or_not p q same cells m Large need free h (is, all, less, small) = let f = fits p cells m Large h in let a = same_agents p q same Large in omega (arith, is, all, less, f, a)
+starts_or_not p q same cells m c need free h (short, is, all) = let f = fits p cells m c h in let a = same_agents p q same c in let s = short.0 in omega (arith, s, f, a)
 
 pub one_run : (text : List ℕ) (p q : Program) (l : Limits) (m n o r : MachineParts) (j k : ℕ) (s t : Stop) → AreOneProgram p q → IsAccepted text q → IsStart p l.cells m → IsOutcome m l.limit n j s → IsStart q l.cells o → IsOutcome o l.limit r k t
     → (text_of n ≡ text_of r) × (j ≡ k) × (s ≡ t)

@@ -6,7 +6,7 @@ use Rattle.in_syntax.specs.declared.faults.Code.{Code}
 use Rattle.in_syntax.specs.declared.faults.Code.TheVariants as code
 use Rattle.in_syntax.specs.declared.faults.Refusal.{Refusal}
 use Rattle.in_arena.specs.declared.content.CellClass.{CellClass}
-use Rattle.in_arena.specs.declared.content.CellClass.TheVariants.{Small, Large}
+use Rattle.in_arena.specs.declared.content.CellClass.TheVariants.{Small, Large, Wide}
 use Rattle.in_check.specs.declared.checked.Counts.{Counts}
 use Rattle.in_run.specs.declared.stops.Stop.{Stop}
 use Rattle.in_run.specs.declared.stops.Stop.TheVariants.{Normal, Limit, Full}
@@ -60,6 +60,7 @@ memory_line = codes "memory" ++ line_end
 abbrev pub class_name : CellClass → List ℕ
 class_name Small = codes "small"
 class_name Large = codes "large"
+class_name Wide = codes "wide"
 
 -- the cells of a class, how many are needed, and how many are free
 abbrev pub cells_text : CellClass → ℕ → ℕ → List ℕ

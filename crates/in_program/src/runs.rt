@@ -11,6 +11,7 @@ fn class_name(class: CellClass) -> &'static str
     match class {
         CellClass::Small => "small",
         CellClass::Large => "large",
+        CellClass::Wide => "wide",
     }
 }
 

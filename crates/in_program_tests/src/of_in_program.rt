@@ -279,10 +279,10 @@ fn expect_lines(rt: &impl Abort, alloc: Global, lines: usize, line: &str, status
 }
 
 #[test]
-fn a_thousand_agents_are_accepted_and_one_more_refused(rt: HostRuntime) {
-    let line = "accepted: 1 types, 4 symbols, 4 rules, 1000 agents\n";
-    expect_lines(&rt, rt.alloc(), 500, line, 0);
-    expect_lines(&rt, rt.alloc(), 501, "refused E03 at 511:1: Era\n", 1);
+fn four_thousand_agents_are_accepted_and_one_more_refused(rt: HostRuntime) {
+    let line = "accepted: 1 types, 4 symbols, 4 rules, 4000 agents\n";
+    expect_lines(&rt, rt.alloc(), 2_000, line, 0);
+    expect_lines(&rt, rt.alloc(), 2_001, "refused E03 at 2011:1: Era\n", 1);
 }
 
 /// Nets over the declarations of numbers, with the line and the status.

@@ -3,7 +3,7 @@ use crate::answers::is_written;
 use in_run::Limits;
 use in_test_texts::{ADDITION, DUPLICATION, ERASURE, SUMS};
 use in_words::Action;
-use std::alloc::Global;
+use std::alloc::{AllocError, Global};
 use std::process::Abort;
 
 /// Whether `run` writes these lines on a text, within so many interactions and so many cells, and ends with this status.
@@ -11,11 +11,27 @@ fn answers(
     alloc: Global,
     bounds: (u64, u32),
     parts: &[&str],
-    lines: &str,
+    lines: &[&str],
     status: u8,
 ) -> Option<bool> {
     let limits = Limits::new(bounds.0, bounds.1)?;
-    is_written(alloc, Action::Run(limits), parts, &[lines], status)
+    is_written(alloc, Action::Run(limits), parts, lines, status)
+}
+
+/// Checks the lines, which come in parts, and the status of `run` on a text, within so many interactions and so many cells.
+fn expect_parts(
+    rt: &impl Abort,
+    alloc: Global,
+    bounds: (u64, u32),
+    parts: &[&str],
+    lines: &[&str],
+    status: u8,
+) {
+    assert!(rt;
+        answers(alloc, bounds, parts, lines, status) == Some(true),
+        "{}",
+        lines.first().copied().unwrap_or("")
+    );
 }
 
 /// Checks the lines and the status of `run` on a text, within so many interactions and so many cells.
@@ -28,7 +44,7 @@ fn expect(
     status: u8,
 ) {
     assert!(rt;
-        answers(alloc, bounds, parts, lines, status) == Some(true),
+        answers(alloc, bounds, parts, &[lines], status) == Some(true),
         "{lines}"
     );
 }
@@ -139,6 +155,47 @@ fn expect_within_sixteen(rt: &impl Abort, alloc: Global, rows: &[(&str, &str, &s
 #[test]
 fn cells_may_be_too_few(rt: HostRuntime) {
     expect_within_sixteen(&rt, rt.alloc(), &WITHIN_SIXTEEN_CELLS);
+}
+
+/// Agents of nine auxiliary ports, one in another around zero; each has four variables of its own, at two ports each.
+fn wide_term(alloc: Global, agents: u8) -> Result<String, AllocError> {
+    let mut term = String::new(alloc);
+    for number in 0..agents {
+        let a = 4 * number as u32 + 1;
+        let (b, c, d) = (a + 1, a + 2, a + 3);
+        let agent = format!(in alloc; "V(v{a}, v{a}, v{b}, v{b}, v{c}, v{c}, v{d}, v{d}, ")?;
+        term.push_str(agent.as_str())?;
+    }
+    term.push_str("Z")?;
+    push_closed(&mut term, agents)?;
+    Ok(term)
+}
+
+/// So many closing parentheses after a text.
+fn push_closed(text: &mut String, count: u8) -> Result<(), AllocError> {
+    for _ in 0..count {
+        text.push_str(")")?;
+    }
+    Ok(())
+}
+
+/// The symbols of that term.
+const WIDE: &str =
+    "type nat;\nsymbol Z : nat+;\nsymbol V : nat+ {nat-, nat+, nat-, nat+, nat-, nat+, nat-, nat+} {nat-};\n";
+
+#[test]
+fn wide_cells_may_be_too_few(rt: HostRuntime) {
+    let alloc = rt.alloc();
+    if let (Ok(most), Ok(more)) = (wide_term(alloc, 16), wide_term(alloc, 17)) {
+        let text = [WIDE, "net (r : nat+) { r ~ ", more.as_str(), "; }\n"];
+        let line = "start: full wide need 17 free 16\n";
+        expect(&rt, alloc, (1_000_000, 16), &text, line, 4);
+        let text = [WIDE, "net (r : nat+) { r ~ ", most.as_str(), "; }\n"];
+        let lines = ["r = ", most.as_str(), "\ninteractions: 0\nstop: normal\n"];
+        expect_parts(&rt, alloc, (1_000_000, 16), &text, &lines, 0);
+    } else {
+        assert!(rt; false, "memory for two terms");
+    }
 }
 
 #[test]

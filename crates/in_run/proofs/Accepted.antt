@@ -1,20 +1,20 @@
 -- What an accepted program's net and rules are: over its tables, with an agent at each number, a right member without an active pair, and
 -- one rule for each pair.
-use Rattle.std.proofs.Common.{◌≡◌, ℕ, List, Option, Some, Ok, slice_get, refl, sym, ap, subst, inl, ◌∙◌}
+use Rattle.std.proofs.Common.{◌≡◌, ℕ, List, Option, Some, slice_get, refl, sym, ap, subst, inl, ◌∙◌}
 use Rattle.std.specs.Prelude.{option_map}
 use Rattle.std.proofs.lemmas.Option.{same_Some}
-use Rattle.in_syntax.specs.declared.tree.SourceRule.{SourceRule}
 use Rattle.in_symbols.specs.Tables.{Tables, IsSymbol}
 use Rattle.in_symbols.specs.declared.symbols.SymbolNo.{SymbolNo}
 use Rattle.in_net.specs.declared.nets.AgentNo.{AgentNo}
-use Rattle.in_net.specs.Built.{IsOver}
+use Rattle.in_net.specs.Built.{IsOver, HaveFewPorts}
 use Rattle.in_net.specs.Nets.{net_of}
 use Rattle.in_net.specs.Parts.{Parts, IsWhole, symbol_in}
-use Rattle.in_net.specs.Rules.{RuleParts, BuildsRuleOf}
+use Rattle.in_net.specs.Rules.{RuleParts, IsRuleOver}
+use Rattle.in_net.proofs.Small.{are_small}
+use Rattle.in_syntax.proofs.Sized.{tree_sized}
 use Rattle.in_cover.specs.Cover.{IsRuleFor}
 use Rattle.in_opening.specs.Opening.{AreAllThere}
 use Rattle.in_opening.proofs.Counted.{text_net_there}
-use Rattle.in_opening.proofs.TextRules.{rule_whole}
 use Rattle.in_check.specs.Checking.{IsAccepted, IsProgramOf}
 use Rattle.in_check.specs.Plain.{PlainParts, IsRuleAt}
 use Rattle.in_check.specs.Programs.{Program}
@@ -23,6 +23,7 @@ use Rattle.in_check.specs.Systems.{system_of}
 use Rattle.in_check.proofs.Chain.{program_of}
 use Rattle.in_check.proofs.Reached.FromText.{is_sound}
 use Rattle.in_check.proofs.Reached.Plain.{starts, promised}
+use Rattle.in_compile.proofs.Accepted as rules
 
 module _ (text : List ℕ) (p : Program) (accepted : IsAccepted text p) where
   of : IsProgramOf text p
@@ -37,6 +38,9 @@ module _ (text : List ℕ) (p : Program) (accepted : IsAccepted text p) where
   pub net_whole : IsWhole p.net
   net_whole = of.builds.1.whole
 
+  pub few_ports : HaveFewPorts p.tables
+  few_ports = are_small of.source p.tables (tree_sized text of.source of.parses) of.tabulates.0
+
   pub net_over_at : (t : Tables) (n : Parts) → t ≡ p.tables → n ≡ p.net → IsOver t n
   net_over_at t n e f = subst (λ (t : Tables). IsOver t n) (sym e) (subst (λ (n : Parts). IsOver p.tables n) (sym f) net_over)
 
@@ -50,20 +54,17 @@ module _ (text : List ℕ) (p : Program) (accepted : IsAccepted text p) where
   known_in_net x s e = (is_sound text p accepted).start.within x s.0 (ap (λ (o : Option SymbolNo). option_map (λ (s : SymbolNo). s.0) o) e)
 
   module _ (k : ℕ) (r : RuleParts) (stands : slice_get p.rules k ≡ Some r) where
-    written : (s : SourceRule) × (slice_get of.source.rules k ≡ Some s) × BuildsRuleOf p.tables s (Ok r)
-    written = of.builds_rules.each k r stands
-
-    pub heads_known : IsSymbol p.tables r.heads.0.0 × IsSymbol p.tables r.heads.1.0
-    heads_known = written.2.0.heads
+    rule_over : IsRuleOver p.tables r
+    rule_over = rules.rule_over text p accepted k r stands
 
     pub member_over : IsOver p.tables r.member
-    member_over = written.2.0.member
+    member_over = rule_over.member
 
     pub member_there : AreAllThere r.member
-    member_there = (rule_whole p.tables written.0 r written.2).there
+    member_there = (rules.whole_rule text p accepted k r stands).there
 
     pub member_whole : IsWhole r.member
-    member_whole = written.2.1.member.whole
+    member_whole = rules.member_whole text p accepted k r stands
 
     -- the same of equal tables and parts
     pub over_at : (t : Tables) (n : Parts) → t ≡ p.tables → n ≡ r.member → IsOver t n
@@ -72,8 +73,8 @@ module _ (text : List ℕ) (p : Program) (accepted : IsAccepted text p) where
     pub there_at : (n : Parts) → n ≡ r.member → AreAllThere n
     there_at n f = subst (λ (n : Parts). AreAllThere n) (sym f) member_there
 
-    pub known_at : (t : Tables) (s : SymbolNo × SymbolNo) → t ≡ p.tables → s ≡ r.heads → IsSymbol t s.0.0 × IsSymbol t s.1.0
-    known_at t s e f = subst (λ (t : Tables). IsSymbol t s.0.0 × IsSymbol t s.1.0) (sym e) (subst (λ (s : SymbolNo × SymbolNo). IsSymbol p.tables s.0.0 × IsSymbol p.tables s.1.0) (sym f) heads_known)
+    pub rule_over_at : (t : Tables) → t ≡ p.tables → IsRuleOver t r
+    rule_over_at t e = subst (λ (t : Tables). IsRuleOver t r) (sym e) rule_over
 
   -- the rule of two agents is one
   pub one_rule : (q : PlainParts) (a b : AgentNo) (j k : ℕ) (r s : RuleParts) → q.program ≡ p → IsRuleAt q a b j r → IsRuleAt q a b k s → r ≡ s

@@ -1,6 +1,5 @@
 pub mod Accepted
 pub mod AsMany
-pub mod Counting
 pub mod Ended
 pub mod ListedAgents
 pub mod OnItsWay

@@ -1,18 +1,22 @@
 -- The queue of a machine is one of its net, and no longer than half the number of its agents.
 use Rattle.std.proofs.Common.{◌≡◌, ◌≢◌, ◌⊎◌, inl, inr, ◌≤◌, ◌+◌, ◌*◌, ℕ, zero, suc, Bool, true, false, cond, Option, Some, None, List, [], ◌∷◌, length, count_by, is_some, slice_get, refl, sym, ap, subst, ◌∙◌, arith}
-use Rattle.std.specs.Prelude.{option_map, option_and_then, not}
+use Rattle.std.specs.Prelude.{option_map, option_and_then}
 use Rattle.std.specs.List.{AllByRecursion}
+use Rattle.std.proofs.lemmas.Bool.Decides.{nat_tests}
 use Rattle.std.proofs.lemmas.List.Sums.{sum_by-cons}
 use Rattle.std.proofs.lemmas.Option.{same_Some}
 use Rattle.in_base.specs.Lists.{IsAmong}
-use Rattle.in_arena.specs.declared.content.CellClass.TheVariants.{Small, Large}
-use Rattle.in_symbols.specs.Tables.{Tables, is_constructor}
+use Rattle.in_arena.specs.Classes.{classes, holds}
+use Rattle.in_arena.specs.declared.content.CellClass.TheVariants.{Small, Large, Wide}
+use Rattle.in_syntax.specs.Grammar.{max_ports}
+use Rattle.in_symbols.specs.Tables.{Tables, arity_of, is_constructor}
 use Rattle.in_symbols.specs.declared.symbols.SymbolNo.{SymbolNo}
 use Rattle.in_net.specs.declared.nets.AgentNo.{AgentNo}
 use Rattle.in_net.specs.declared.nets.Cell.{Cell}
 use Rattle.in_net.specs.declared.nets.Point as coded
 use Rattle.in_net.specs.declared.nets.Point.TheVariants as code
 use Rattle.in_net.specs.ActivePairs.{AreActive, IsActivePair}
+use Rattle.in_net.specs.Built.{HaveFewPorts}
 use Rattle.in_net.specs.Nets.{Port, IsNet, net_of, point_of, signature_of}
 use Rattle.in_net.specs.Parts.{Parts, cell_in, symbol_in, partner_in}
 use Rattle.in_interaction.specs.Pieces.{AreDifferent}
@@ -23,12 +27,14 @@ use Rattle.in_check.specs.NetText.{IsQueue, agents_of}
 use Rattle.in_check.specs.Programs.{Program}
 use Rattle.in_check.specs.Promises.{IsAsPromised}
 use Rattle.in_check.specs.Systems.{system_of}
-use Rattle.in_check.proofs.Reached.Counts.{few}
+use Rattle.in_interaction.proofs.Stepping.Halves.{few}
 use Rattle.in_check.proofs.Reached.Plain.{promised}
 use Rattle.in_interaction.specs.Queues.{IsQueueOf, agents_at}
-use Rattle.in_run.specs.Machines as machines
-use Rattle.in_run.specs.Machines.{MachineParts, IsMachine, takes, parts_of, plain_of}
+use Rattle.in_compile.specs.Cells as machines
+use Rattle.in_compile.specs.Cells.{takes}
+use Rattle.in_run.specs.Machines.{MachineParts, IsMachine, parts_of, plain_of}
 use Rattle.in_interaction.proofs.Queues.Apart.{apart, back_in, same_numbers}
+use Rattle.in_run.proofs.Accepted.{few_ports}
 use Rattle.in_run.proofs.Ordered.{stands, stands_other}
 
 -- ---- the agents of a net, by number
@@ -58,26 +64,28 @@ cell_of n x s e = go (cell_in n x) refl e
     go None is f = cc
     go (Some c) is f = (c, is)
 
--- each agent takes a small cell or a large one
-pub both_classes : (t : Tables) (cs : List (Option Cell)) → count_by is_some cs ≡ count_by (takes t Small) cs + count_by (takes t Large) cs
-both_classes t [] = refl
-both_classes t (None ∷ cs) =
-    let a = sum_by-cons (λ c. cond (is_some c) 1 0) None cs in
-    let b = sum_by-cons (λ c. cond (takes t Small c) 1 0) None cs in
-    let d = sum_by-cons (λ c. cond (takes t Large c) 1 0) None cs in
-    let e = both_classes t cs in
-    omega arith
-both_classes t (Some c ∷ cs) =
-    let a = sum_by-cons (λ c. cond (is_some c) 1 0) (Some c) cs in
-    let b = sum_by-cons (λ c. cond (takes t Small c) 1 0) (Some c) cs in
-    let d = sum_by-cons (λ c. cond (takes t Large c) 1 0) (Some c) cs in
-    let e = both_classes t cs in
-    let f = one_of (machines.is_of t Small c.symbol.0) in
-    omega arith
-  where
-    one_of : (b : Bool) → cond b 1 0 + cond (not b) 1 0 ≡ 1
-    one_of true = refl
-    one_of false = refl
+-- each agent takes a cell of one class
+module _ (t : Tables) (few : HaveFewPorts t) where
+  one_class : (n : ℕ) → n ≤ max_ports → cond (holds Small (n + 1)) 1 0 + cond (holds Large (n + 1)) 1 0 + cond (holds Wide (n + 1)) 1 0 ≡ 1
+  one_class n l = grind (arith, nat_tests, l)
+
+  pub all_classes : (cs : List (Option Cell)) → count_by is_some cs ≡ machines.agents_of t Small cs + machines.agents_of t Large cs + machines.agents_of t Wide cs
+  all_classes [] = refl
+  all_classes (None ∷ cs) =
+      let a = sum_by-cons (λ c. cond (is_some c) 1 0) None cs in
+      let b = sum_by-cons (λ c. cond (takes t Small c) 1 0) None cs in
+      let d = sum_by-cons (λ c. cond (takes t Large c) 1 0) None cs in
+      let f = sum_by-cons (λ c. cond (takes t Wide c) 1 0) None cs in
+      let e = all_classes cs in
+      omega arith
+  all_classes (Some c ∷ cs) =
+      let a = sum_by-cons (λ c. cond (is_some c) 1 0) (Some c) cs in
+      let b = sum_by-cons (λ c. cond (takes t Small c) 1 0) (Some c) cs in
+      let d = sum_by-cons (λ c. cond (takes t Large c) 1 0) (Some c) cs in
+      let f = sum_by-cons (λ c. cond (takes t Wide c) 1 0) (Some c) cs in
+      let e = all_classes cs in
+      let g = one_class (arity_of t c.symbol.0) (few c.symbol.0) in
+      omega arith
 
 -- ---- lists of pairs
 
@@ -211,8 +219,13 @@ module _ (m : MachineParts) (h : IsMachine m) where
   pub machine_queue : IsQueue (net_of (parts_of m)) m.queue
   machine_queue = is_queue m.program (parts_of m) machine_promised m.queue h.queue
 
-  pub few_agents : count_by is_some m.agents ≤ 2 * h.cells.0
-  few_agents = let a = both_classes m.program.tables m.agents in let s = h.cells.2 Small in let l = h.cells.2 Large in omega arith
+  pub few_agents : count_by is_some m.agents ≤ length classes * h.cells.0
+  few_agents =
+      let a = all_classes m.program.tables (few_ports h.accepted.0 m.program h.accepted.1) m.agents in
+      let s = h.cells.2 Small in
+      let l = h.cells.2 Large in
+      let w = h.cells.2 Wide in
+      omega arith
 
-  pub short_queue : length m.queue ≤ h.cells.0
+  pub short_queue : 2 * length m.queue ≤ length classes * h.cells.0
   short_queue = let a = few_agents in let b = half_of m.program (parts_of m) machine_promised m.queue h.queue in omega arith

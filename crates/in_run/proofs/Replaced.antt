@@ -17,8 +17,7 @@ use Rattle.in_net.specs.Nets.{net_of, signature_of}
 use Rattle.in_net.specs.Parts.{Parts, partner_in}
 use Rattle.in_net.specs.Rules.{RuleParts}
 use Rattle.in_interaction.proofs.Stepping.OneOutcome.{same_option, symbol_of}
-use Rattle.in_run.specs.Inside.{heads_taking}
-use Rattle.in_run.specs.Machines.{is_of, takes, agents_of}
+use Rattle.in_compile.specs.Cells.{is_of, takes, agents_of, heads_taking}
 
 -- ---- the cells of a net, with those of another one in the empty places
 

@@ -1,6 +1,6 @@
 -- A machine at its program's net.
-use Rattle.std.proofs.Common.{◌≡◌, ◌≤◌, ◌-◌, ℕ, List, [], ◌∷◌, map, refl, sym, ap, subst, arith}
-use Rattle.in_arena.specs.declared.content.CellClass.TheVariants.{Small, Large}
+use Rattle.std.proofs.Common.{◌≡◌, ◌≤◌, ◌+◌, ◌*◌, ℕ, List, [], ◌∷◌, length, map, refl, sym, ap, subst, arith}
+use Rattle.in_arena.specs.declared.content.CellClass.{CellClass}
 use Rattle.in_symbols.specs.Tables.{Tables}
 use Rattle.in_net.specs.Parts.{Parts}
 use Rattle.in_check.specs.Checking.{IsAccepted}
@@ -9,9 +9,12 @@ use Rattle.in_check.specs.Programs.{Program}
 use Rattle.in_net.specs.Nets.{net_of}
 use Rattle.in_check.proofs.Reached.Plain.{renamed_self, starts}
 use Rattle.in_interaction.specs.Queues.{IsQueueOf, agents_at, both, IsFirstQueue}
+use Rattle.in_arena.specs.Classes.{classes}
+use Rattle.in_compile.specs.declared.cells.Need.{Need}
+use Rattle.in_compile.specs.Cells.{count_of, IsNeedOf}
 use Rattle.in_run.specs.Inside.{IsKept}
 use Rattle.in_run.specs.Limiting.{most_cells}
-use Rattle.in_run.specs.Machines.{MachineParts, IsMachine, HasCells, agents_of}
+use Rattle.in_run.specs.Machines.{MachineParts, IsMachine, HasCells}
 use Rattle.in_run.specs.Runs.{IsStart}
 use Rattle.in_run.proofs.Accepted.{net_over, net_whole}
 use Rattle.in_run.proofs.Unlisted.{bare, over_bare, pair_bare, pair_full, plain_bare}
@@ -35,16 +38,15 @@ pub map_self : (qs : List (ℕ × ℕ)) → map (both (λ x. x)) qs ≡ qs
 map_self [] = refl
 map_self (q ∷ qs) = ap (λ (zs : List (ℕ × ℕ)). q ∷ zs) (map_self qs)
 
-abbrev pub machine_at : Program → Parts → List (ℕ × ℕ) → ℕ → ℕ → MachineParts
-machine_at p n queue small large = record { program = p; agents = n.cells; free = n.free; queue = queue; small = small; large = large }
+abbrev pub machine_at : Program → Parts → List (ℕ × ℕ) → Need → MachineParts
+machine_at p n queue vacant = record { program = p; agents = n.cells; free = n.free; queue = queue; vacant = vacant }
 
-module _ (text : List ℕ) (p : Program) (accepted : IsAccepted text p) (cells small large room : ℕ) (queue : List (ℕ × ℕ)) (few : cells ≤ most_cells) (reserved : cells ≤ room) (pairs : IsFirstQueue p.tables p.net queue)
-    (one : small ≡ agents_of p.tables Small p.net.cells) (two : large ≡ agents_of p.tables Large p.net.cells) (fits : small ≤ cells) (fits_too : large ≤ cells) where
-  counted : HasCells cells (machine_at p p.net queue (cells - small) (cells - large))
-  counted Small = omega (arith, one, fits)
-  counted Large = omega (arith, two, fits_too)
+module _ (text : List ℕ) (p : Program) (accepted : IsAccepted text p) (cells room : ℕ) (need left : Need) (queue : List (ℕ × ℕ)) (few : cells ≤ most_cells) (reserved : length classes * cells ≤ 2 * room + 1)
+    (pairs : IsFirstQueue p.tables p.net queue) (counts : IsNeedOf p.tables p.net.cells need) (rest : (c : CellClass) → count_of left c + count_of need c ≡ cells) where
+  counted : HasCells cells (machine_at p p.net queue left)
+  counted c = let e = counts c in let f = rest c in omega (arith, e, f)
 
-  is_machine : IsMachine (machine_at p p.net queue (cells - small) (cells - large))
+  is_machine : IsMachine (machine_at p p.net queue left)
   is_machine = record {
     accepted = (text, accepted);
     plain = plain_bare p p.net (starts p (net_over text p accepted)).0;
@@ -53,15 +55,15 @@ module _ (text : List ℕ) (p : Program) (accepted : IsAccepted text p) (cells s
   }
 
   module _ (plain : PlainParts) (program : plain.program ≡ p) (net : plain.net ≡ p.net) where
-    pub is_kept : IsKept (machine_at p plain.net queue (cells - small) (cells - large)) plain room
+    pub is_kept : IsKept (machine_at p plain.net queue left) plain room
     unfolding is_machine
     is_kept =
-        subst (λ (n : Parts). IsKept (machine_at p n queue (cells - small) (cells - large)) (record { program = plain.program; net = n }) room) (sym net)
+        subst (λ (n : Parts). IsKept (machine_at p n queue left) (record { program = plain.program; net = n }) room) (sym net)
         (record { machine = is_machine; program = program; whole = net_whole text p accepted; fits = reserved })
 
-    pub is_start : IsStart p cells (machine_at p plain.net queue (cells - small) (cells - large))
+    pub is_start : IsStart p cells (machine_at p plain.net queue left)
     is_start =
-        subst (λ (n : Parts). IsStart p cells (machine_at p n queue (cells - small) (cells - large))) (sym net)
+        subst (λ (n : Parts). IsStart p cells (machine_at p n queue left)) (sym net)
         (record {
           program = refl;
           over = over_bare p.tables p.net (net_over text p accepted);

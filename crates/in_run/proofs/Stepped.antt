@@ -1,10 +1,9 @@
 -- One interaction of a machine: what it leaves is a machine again.
-use Rattle.std.proofs.Common.{◌≡◌, ◌≤◌, ◌+◌, ℕ, suc, List, ◌++◌, length, length-append, map, remove, count_by, is_some, Some, slice_get, refl, sym, ap, subst, ◌∙◌, arith}
+use Rattle.std.proofs.Common.{◌≡◌, ◌≤◌, ◌+◌, ◌*◌, ℕ, suc, List, ◌++◌, length, length-append, map, remove, count_by, is_some, Some, slice_get, refl, sym, ap, subst, ◌∙◌, arith}
 use Rattle.std.proofs.lemmas.List.{length-map}
 use Rattle.std.proofs.lemmas.List.Edits.{length-remove}
 use Rattle.std.proofs.lemmas.Option.{same_Some, slice_get_within}
 use Rattle.in_arena.specs.declared.content.CellClass.{CellClass}
-use Rattle.in_arena.specs.declared.content.CellClass.TheVariants.{Small, Large}
 use Rattle.in_symbols.specs.Tables.{Tables}
 use Rattle.in_net.specs.declared.nets.AgentNo.{AgentNo}
 use Rattle.in_interaction.specs.Interacting.{unused, most_agents, CanInteract, Interacts, InteractsAs}
@@ -18,9 +17,12 @@ use Rattle.in_interaction.proofs.Queues.NewPairs.{made_numbers}
 use Rattle.in_interaction.proofs.Stepping.KeptOrMade.{least_are_names}
 use Rattle.in_check.proofs.Reached.Plain.{fits, steps}
 use Rattle.in_interaction.specs.Queues.{IsQueueOf, agents_at, both, numbers_of}
-use Rattle.in_run.specs.Inside.{IsKept, heads_taking}
+use Rattle.in_arena.specs.Classes.{classes}
+use Rattle.in_run.specs.Inside.{IsKept}
 use Rattle.in_run.specs.Limiting.{most_cells}
-use Rattle.in_run.specs.Machines.{MachineParts, IsMachine, HasCells, agents_of, free_of, plain_of}
+use Rattle.in_compile.specs.declared.cells.Need.{Need}
+use Rattle.in_compile.specs.Cells.{agents_of, count_of, heads_taking}
+use Rattle.in_run.specs.Machines.{MachineParts, IsMachine, HasCells, plain_of}
 use Rattle.in_interaction.specs.Made.{IsMade, AreMadeOverEnds, AreMade}
 use Rattle.in_run.specs.Runs.{HasRoomAt, StepsAt}
 use Rattle.in_run.proofs.Accepted.{member_whole, one_rule}
@@ -52,7 +54,7 @@ module _ (t : Tables) (n : Parts) (r : RuleParts) (a b : AgentNo) (name : ℕ �
 
 -- ---- the machine after
 
-module _ (text : List ℕ) (p : Program) (accepted : IsAccepted text p) (n m : Parts) (qs : List (ℕ × ℕ)) (small large i : ℕ) (a b : AgentNo) (h : IsMachine (machine_at p n qs small large)) (whole : IsWhole n)
+module _ (text : List ℕ) (p : Program) (accepted : IsAccepted text p) (n m : Parts) (qs : List (ℕ × ℕ)) (vacant : Need) (i : ℕ) (a b : AgentNo) (h : IsMachine (machine_at p n qs vacant)) (whole : IsWhole n)
     (stands : slice_get qs i ≡ Some (a.0, b.0)) (at : IsPairAt (with_net p (bare n)) a b) (k : ℕ) (r : RuleParts) (is : IsRuleAt (with_net p n) a b k r) where
   plain : IsPlain (with_net p n)
   plain = plain_full p n h.plain
@@ -63,19 +65,19 @@ module _ (text : List ℕ) (p : Program) (accepted : IsAccepted text p) (n m : P
   pub can : CanInteract p.tables n r a b
   can = fits (with_net p n) a b plain pair k r is
 
-  pub one_need : HasRoomAt (machine_at p n qs small large) i → (agents_of p.tables Small r.member.cells ≤ small) × (agents_of p.tables Large r.member.cells ≤ large)
-  one_need (need, at, s, l) =
+  pub one_need : HasRoomAt (machine_at p n qs vacant) i → (c : CellClass) → agents_of p.tables c r.member.cells ≤ count_of vacant c
+  one_need (need, at, enough) c =
       let same : at.pair ≡ (a.0, b.0) = same_Some at.pair (a.0, b.0) (sym at.stands ∙ stands) in
       let rule : at.rule ≡ r =
       one_rule text p accepted (with_net p n) a b at.number k at.rule r refl (subst (λ (q : ℕ × ℕ). IsRuleAt (with_net p n) (agents_at q).0 (agents_at q).1 at.number at.rule) same (rule_full p n (agents_at at.pair).0 (agents_at at.pair).1 at.number at.rule at.is_rule)) is in
-      let one : need.small ≡ agents_of p.tables Small r.member.cells = at.is_need.small ∙ ap (λ (z : RuleParts). agents_of p.tables Small z.member.cells) rule in
-      let two : need.large ≡ agents_of p.tables Large r.member.cells = at.is_need.large ∙ ap (λ (z : RuleParts). agents_of p.tables Large z.member.cells) rule in
-      (omega (arith, one, s), omega (arith, two, l))
+      let one : count_of need c ≡ agents_of p.tables c r.member.cells = at.is_need c ∙ ap (λ (z : RuleParts). agents_of p.tables c z.member.cells) rule in
+      let l = enough c in
+      omega (arith, one, l)
 
-  module _ (to : StepsTo (with_net p n) a b (with_net p m)) (made : List (AgentNo × AgentNo)) (are_made : AreMade p.tables n r a b (unused n.cells) made) (s l : ℕ)
-      (one : s + agents_of p.tables Small r.member.cells ≡ small + heads_taking p.tables Small r) (two : l + agents_of p.tables Large r.member.cells ≡ large + heads_taking p.tables Large r) where
+  module _ (to : StepsTo (with_net p n) a b (with_net p m)) (made : List (AgentNo × AgentNo)) (are_made : AreMade p.tables n r a b (unused n.cells) made) (left : Need)
+      (rest : (c : CellClass) → count_of left c + agents_of p.tables c r.member.cells ≡ count_of vacant c + heads_taking p.tables c r) where
     abbrev after : MachineParts
-    after = machine_at p m (remove qs i ++ map numbers_of made) s l
+    after = machine_at p m (remove qs i ++ map numbers_of made) left
 
     act : Interacts n r a b m
     act = subst (λ (z : RuleParts). Interacts n z a b m) (one_rule text p accepted (with_net p n) a b to.number k to.rule r refl to.is_rule is) to.acts
@@ -87,11 +89,10 @@ module _ (text : List ℕ) (p : Program) (accepted : IsAccepted text p) (n m : P
     by_kinds : remove qs i ++ (map numbers_of are_made.over ++ map (both (unused n.cells)) are_made.own) ≡ remove qs i ++ map numbers_of made
     by_kinds = ap (λ (z : List (ℕ × ℕ)). remove qs i ++ z) (sym (made_numbers p.tables n r a b (unused n.cells) made are_made))
 
-    cells_kept : (c : CellClass) → free_of after c + agents_of p.tables c m.cells ≡ free_of (machine_at p n qs small large) c + agents_of p.tables c n.cells
-    cells_kept Small = let e = counted p.tables n r a b m whole.apart can act Small in omega (arith, e, one)
-    cells_kept Large = let e = counted p.tables n r a b m whole.apart can act Large in omega (arith, e, two)
+    cells_kept : (c : CellClass) → count_of left c + agents_of p.tables c m.cells ≡ count_of vacant c + agents_of p.tables c n.cells
+    cells_kept c = let e = counted p.tables n r a b m whole.apart can act c in let f = rest c in omega (arith, e, f)
 
-    pub is_step : HasRoomAt (machine_at p n qs small large) i → StepsAt (machine_at p n qs small large) i after
+    pub is_step : HasRoomAt (machine_at p n qs vacant) i → StepsAt (machine_at p n qs vacant) i after
     is_step free = record {
       pair = (a.0, b.0);
       stands = stands;
@@ -111,7 +112,7 @@ module _ (text : List ℕ) (p : Program) (accepted : IsAccepted text p) (n m : P
     queued_after : IsQueueOf p.tables m (remove qs i ++ map numbers_of made)
     queued_after =
         subst (IsQueueOf p.tables m) by_kinds (is_queue_after p.tables n r a b (unused n.cells) m are_made.over are_made.own qs i (is_net p.tables n whole can.net) (is_net p.tables r.member (member_whole text p accepted k r is.stands) can.rule.member)
-        can acts (member_opposed (machine_at p n qs small large) h k r is.stands) are_made.are_over are_made.are_own.pairs (queue_full p.tables n qs h.queue) stands)
+        can acts (member_opposed (machine_at p n qs vacant) h k r is.stands) are_made.are_over are_made.are_own.pairs (queue_full p.tables n qs h.queue) stands)
 
     pub is_machine_after : IsMachine after
     is_machine_after = record {
@@ -125,16 +126,16 @@ module _ (text : List ℕ) (p : Program) (accepted : IsAccepted text p) (n m : P
     unfolding is_machine_after
     same_cells = refl
 
-    pub one_more : (j : ℕ) → IsReachedBy (plain_of (machine_at p n qs small large)) j → IsReachedBy (plain_of after) (suc j)
+    pub one_more : (j : ℕ) → IsReachedBy (plain_of (machine_at p n qs vacant)) j → IsReachedBy (plain_of after) (suc j)
     one_more j reached = (steps (with_net p n) (with_net p m) a b plain pair to).1 j reached
 
-    pub fits_room : length (remove qs i ++ map numbers_of made) ≤ h.cells.0
+    pub fits_room : 2 * length (remove qs i ++ map numbers_of made) ≤ length classes * h.cells.0
     unfolding is_machine_after
     fits_room = short_queue after is_machine_after
 
 -- ---- what the code of a step owes, from what its calls say
 
-module _ (p : Program) (plain : PlainParts) (qs : List (ℕ × ℕ)) (small large room i : ℕ) (h : IsKept (machine_at p plain.net qs small large) plain room) (now : MachineParts) (view : machine_at p plain.net qs small large ≡ now)
+module _ (p : Program) (plain : PlainParts) (qs : List (ℕ × ℕ)) (vacant : Need) (room i : ℕ) (h : IsKept (machine_at p plain.net qs vacant) plain room) (now : MachineParts) (view : machine_at p plain.net qs vacant ≡ now)
     (q : AgentNo × AgentNo) (stands : slice_get now.queue i ≡ Some (q.0.0, q.1.0)) (at : IsPairAt (plain_of now) q.0 q.1) where
   text : List ℕ
   text = h.machine.accepted.0
@@ -151,30 +152,27 @@ module _ (p : Program) (plain : PlainParts) (qs : List (ℕ × ℕ)) (small larg
   pub ready : (x : Parts) → x ≡ plain.net → IsPlain (with_net p x) × IsPairAt (with_net p x) q.0 q.1
   ready x e = subst (λ (x : Parts). IsPlain (with_net p x) × IsPairAt (with_net p x) q.0 q.1) (sym e) (plain_full p plain.net h.machine.plain, at_full p plain.net q.0 q.1 at_here)
 
-  pub few_small : small ≤ most_cells
-  few_small = let e = h.machine.cells.2 Small in let m = h.machine.cells.1 in omega (arith, e, m)
-
-  pub few_large : large ≤ most_cells
-  few_large = let e = h.machine.cells.2 Large in let m = h.machine.cells.1 in omega (arith, e, m)
+  pub few_free : (c : CellClass) → count_of vacant c ≤ most_cells
+  few_free c = let e = h.machine.cells.2 c in let m = h.machine.cells.1 in omega (arith, e, m)
 
   pub few_at : (x : Parts) → x ≡ plain.net → count_by is_some x.cells ≤ most_agents
-  few_at x e = subst (λ (x : Parts). count_by is_some x.cells ≤ most_agents) (sym e) (let f = few_agents (machine_at p plain.net qs small large) h.machine in let m = h.machine.cells.1 in omega (arith, f, m))
+  few_at x e = subst (λ (x : Parts). count_by is_some x.cells ≤ most_agents) (sym e) (let f = few_agents (machine_at p plain.net qs vacant) h.machine in let m = h.machine.cells.1 in omega (arith, f, m))
 
   module _ (k : ℕ) (r : RuleParts) (x : Parts) (same : x ≡ plain.net) (is_there : IsRuleAt (with_net p x) q.0 q.1 k r) where
     is : IsRuleAt (with_net p plain.net) q.0 q.1 k r
     is = subst (λ (x : Parts). IsRuleAt (with_net p x) q.0 q.1 k r) same is_there
 
-    pub both_free : HasRoomAt now i → (agents_of p.tables Small r.member.cells ≤ small) × (agents_of p.tables Large r.member.cells ≤ large)
-    both_free free =
-        one_need h.machine.accepted.0 p accepted plain.net plain.net qs small large i q.0 q.1 h.machine h.whole stands_here at_here k r is (subst (λ (m : MachineParts). HasRoomAt m i) (sym view) free)
+    pub all_free : HasRoomAt now i → (c : CellClass) → agents_of p.tables c r.member.cells ≤ count_of vacant c
+    all_free free =
+        one_need h.machine.accepted.0 p accepted plain.net plain.net qs vacant i q.0 q.1 h.machine h.whole stands_here at_here k r is (subst (λ (m : MachineParts). HasRoomAt m i) (sym view) free)
 
     pub can_at : (t : Tables) (y : Parts) → t ≡ p.tables → y ≡ plain.net → CanInteract t y r q.0 q.1
     can_at t y e f =
         subst (λ (t : Tables). CanInteract t y r q.0 q.1) (sym e)
-        (subst (λ (y : Parts). CanInteract p.tables y r q.0 q.1) (sym f) (can h.machine.accepted.0 p accepted plain.net plain.net qs small large i q.0 q.1 h.machine h.whole stands_here at_here k r is))
+        (subst (λ (y : Parts). CanInteract p.tables y r q.0 q.1) (sym f) (can h.machine.accepted.0 p accepted plain.net plain.net qs vacant i q.0 q.1 h.machine h.whole stands_here at_here k r is))
 
-    module _ (after : PlainParts) (to : StepsTo plain q.0 q.1 after) (made : List (AgentNo × AgentNo)) (t : Tables) (y : Parts) (e : t ≡ p.tables) (f : y ≡ plain.net) (made_there : AreMade t y r q.0 q.1 (unused y.cells) made) (s l : ℕ)
-        (one : s + agents_of p.tables Small r.member.cells ≡ small + heads_taking p.tables Small r) (two : l + agents_of p.tables Large r.member.cells ≡ large + heads_taking p.tables Large r) where
+    module _ (after : PlainParts) (to : StepsTo plain q.0 q.1 after) (made : List (AgentNo × AgentNo)) (t : Tables) (y : Parts) (e : t ≡ p.tables) (f : y ≡ plain.net) (made_there : AreMade t y r q.0 q.1 (unused y.cells) made) (left : Need)
+        (rest_of : (c : CellClass) → count_of left c + agents_of p.tables c r.member.cells ≡ count_of vacant c + heads_taking p.tables c r) where
       are_made : AreMade p.tables plain.net r q.0 q.1 (unused plain.net.cells) made
       are_made = subst (λ (t : Tables). AreMade t plain.net r q.0 q.1 (unused plain.net.cells) made) e (subst (λ (y : Parts). AreMade t y r q.0 q.1 (unused y.cells) made) f made_there)
 
@@ -186,7 +184,7 @@ module _ (p : Program) (plain : PlainParts) (qs : List (ℕ × ℕ)) (small larg
 
       pub room_after : length qs + length made ≤ room + 1
       room_after =
-          let fit = fits_room h.machine.accepted.0 p accepted plain.net after.net qs small large i q.0 q.1 h.machine h.whole stands_here at_here k r is steps_to made are_made s l one two in
+          let fit = fits_room h.machine.accepted.0 p accepted plain.net after.net qs vacant i q.0 q.1 h.machine h.whole stands_here at_here k r is steps_to made are_made left rest_of in
           let a = length-append (remove qs i) (map numbers_of made) in
           let b = length-map made numbers_of in
           let d = length-remove qs i (slice_get_within qs i _ stands_here) in
@@ -194,22 +192,22 @@ module _ (p : Program) (plain : PlainParts) (qs : List (ℕ × ℕ)) (small larg
           omega (arith, fit, a, b, d, g)
 
       module _ (rest : List (ℕ × ℕ)) (queued : rest ≡ remove qs i ++ map numbers_of made) where
-        pub kept_after : (whole : IsWhole after.net) (room_now : ℕ) → room_now ≡ room → IsKept (machine_at p after.net rest s l) after room_now
+        pub kept_after : (whole : IsWhole after.net) (room_now : ℕ) → room_now ≡ room → IsKept (machine_at p after.net rest left) after room_now
         kept_after whole room_now same =
-            subst (λ (z : ℕ). IsKept (machine_at p after.net rest s l) after z) (sym same)
-            (subst (λ (z : List (ℕ × ℕ)). IsKept (machine_at p after.net z s l) after room) (sym queued) (record {
-              machine = is_machine_after h.machine.accepted.0 p accepted plain.net after.net qs small large i q.0 q.1 h.machine h.whole stands_here at_here k r is steps_to made are_made s l one two;
+            subst (λ (z : ℕ). IsKept (machine_at p after.net rest left) after z) (sym same)
+            (subst (λ (z : List (ℕ × ℕ)). IsKept (machine_at p after.net z left) after room) (sym queued) (record {
+              machine = is_machine_after h.machine.accepted.0 p accepted plain.net after.net qs vacant i q.0 q.1 h.machine h.whole stands_here at_here k r is steps_to made are_made left rest_of;
               program = program;
               whole = whole;
-              fits = subst (λ z. z ≤ room) (sym (same_cells h.machine.accepted.0 p accepted plain.net after.net qs small large i q.0 q.1 h.machine h.whole stands_here at_here k r is steps_to made are_made s l one two)) h.fits;
+              fits = subst (λ z. length classes * z ≤ 2 * room + 1) (sym (same_cells h.machine.accepted.0 p accepted plain.net after.net qs vacant i q.0 q.1 h.machine h.whole stands_here at_here k r is steps_to made are_made left rest_of)) h.fits;
             }))
 
-        pub step_after : HasRoomAt now i → StepsAt now i (machine_at p after.net rest s l)
+        pub step_after : HasRoomAt now i → StepsAt now i (machine_at p after.net rest left)
         step_after free =
-            subst (λ (m : MachineParts). StepsAt m i (machine_at p after.net rest s l)) view
-            (subst (λ (z : List (ℕ × ℕ)). StepsAt (machine_at p plain.net qs small large) i (machine_at p after.net z s l)) (sym queued)
-            (is_step h.machine.accepted.0 p accepted plain.net after.net qs small large i q.0 q.1 h.machine h.whole stands_here at_here k r is steps_to made are_made s l one two (subst (λ (m : MachineParts). HasRoomAt m i) (sym view) free)))
+            subst (λ (m : MachineParts). StepsAt m i (machine_at p after.net rest left)) view
+            (subst (λ (z : List (ℕ × ℕ)). StepsAt (machine_at p plain.net qs vacant) i (machine_at p after.net z left)) (sym queued)
+            (is_step h.machine.accepted.0 p accepted plain.net after.net qs vacant i q.0 q.1 h.machine h.whole stands_here at_here k r is steps_to made are_made left rest_of (subst (λ (m : MachineParts). HasRoomAt m i) (sym view) free)))
 
-        pub counted_one : (j : ℕ) → IsReachedBy (plain_of now) j → IsReachedBy (plain_of (machine_at p after.net rest s l)) (suc j)
+        pub counted_one : (j : ℕ) → IsReachedBy (plain_of now) j → IsReachedBy (plain_of (machine_at p after.net rest left)) (suc j)
         counted_one j reached =
-            one_more h.machine.accepted.0 p accepted plain.net after.net qs small large i q.0 q.1 h.machine h.whole stands_here at_here k r is steps_to made are_made s l one two j (subst (λ (m : MachineParts). IsReachedBy (plain_of m) j) (sym view) reached)
+            one_more h.machine.accepted.0 p accepted plain.net after.net qs vacant i q.0 q.1 h.machine h.whole stands_here at_here k r is steps_to made are_made left rest_of j (subst (λ (m : MachineParts). IsReachedBy (plain_of m) j) (sym view) reached)

@@ -8,7 +8,7 @@ use Rattle.in_check.specs.Programs.{Program}
 use Rattle.in_check.specs.Promises.{IsAsPromised}
 use Rattle.in_check.specs.Systems.{system_of}
 use Rattle.in_order.specs.Ends.{EndsOnce}
-use Rattle.in_interaction.specs.Queues.{numbers_of, both}
+use Rattle.in_interaction.specs.Queues.{numbers_of}
 use Rattle.in_run.specs.declared.limits.Limits.{Limits}
 use Rattle.in_run.specs.declared.running.Outcome.{Outcome}
 use Rattle.in_run.specs.declared.stops.Stop.{Stop}

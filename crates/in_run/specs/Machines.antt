@@ -1,23 +1,21 @@
 -- What contracts see of a machine, and what each machine keeps. Lafont 1990 reduces a net by interactions of its active pairs, in any order;
--- the queue of pairs, and that an agent takes a cell of one of two sizes, is this project's own choice.
-use Rattle.std.specs.Prelude.{◌≡◌, ◌≤◌, ◌+◌, ℕ, nat_lt, Bool, false, not, List, Option, Some, None, count_by, slice_get}
+-- the queue of pairs and the cells are this project's own choice.
+use Rattle.std.specs.Prelude.{◌≡◌, ◌≤◌, ◌+◌, ℕ, List, Option}
 use Rattle.in_arena.specs.declared.content.CellClass.{CellClass}
-use Rattle.in_arena.specs.declared.content.CellClass.TheVariants.{Small, Large}
 use Rattle.in_arena.specs.declared.content.End.{End}
 use Rattle.in_arena.specs.declared.content.End.TheVariants as end
-use Rattle.in_symbols.specs.Tables.{Tables, arity_of}
-use Rattle.in_net.specs.declared.nets.AgentNo.{AgentNo}
 use Rattle.in_net.specs.declared.nets.Cell.{Cell}
 use Rattle.in_net.specs.declared.nets.FreeEnd.{FreeEnd}
 use Rattle.in_net.specs.declared.nets.Point as points
 use Rattle.in_net.specs.declared.nets.Point.TheVariants as point
-use Rattle.in_net.specs.ActivePairs.{IsActivePair}
 use Rattle.in_interaction.specs.Listing.{unlisted}
 use Rattle.in_interaction.specs.Queues.{IsQueueOf}
 use Rattle.in_net.specs.Parts.{Parts}
 use Rattle.in_check.specs.Checking.{IsAccepted}
 use Rattle.in_check.specs.Plain.{PlainParts, IsPlain}
 use Rattle.in_check.specs.Programs.{Program}
+use Rattle.in_compile.specs.declared.cells.Need.{Need}
+use Rattle.in_compile.specs.Cells.{agents_of, count_of}
 use Rattle.in_run.specs.Limiting.{most_cells}
 
 -- its program, the agent of each cell by number, the free ends, the active pairs in their order, and how many cells of each class are free
@@ -26,8 +24,7 @@ pub record MachineParts : Type 0 where
   pub agents : List (Option Cell)
   pub free : List FreeEnd
   pub queue : List (ℕ × ℕ)
-  pub small : ℕ
-  pub large : ℕ
+  pub vacant : Need
 
 -- the net that it shows; its wires are those of the agents' and free ends' partners
 abbrev pub parts_of : MachineParts → Parts
@@ -42,29 +39,9 @@ abbrev pub point_at : End → points.Point
 point_at (end.Cell c i) = point.Port (record { 0 = c.0 }) i
 point_at (end.Free k) = point.Free k
 
--- ---- cells
-
--- an agent with at most two auxiliary ports takes a small cell, each other one a large one
-abbrev pub is_of : Tables → CellClass → ℕ → Bool
-is_of t Small s = nat_lt (arity_of t s) 3
-is_of t Large s = not (nat_lt (arity_of t s) 3)
-
-abbrev pub takes : Tables → CellClass → Option Cell → Bool
-takes t c None = false
-takes t c (Some a) = is_of t c a.symbol.0
-
--- how many of these agents take a cell of this class
-abbrev pub agents_of : Tables → CellClass → List (Option Cell) → ℕ
-agents_of t c agents = count_by (takes t c) agents
-
--- how many cells of this class are free
-abbrev pub free_of : MachineParts → CellClass → ℕ
-free_of m Small = m.small
-free_of m Large = m.large
-
 -- of each class it has so many cells, free ones and those of its agents
 abbrev pub HasCells : ℕ → MachineParts → Type 0
-HasCells cells m = (c : CellClass) → free_of m c + agents_of m.program.tables c m.agents ≡ cells
+HasCells cells m = (c : CellClass) → count_of m.vacant c + agents_of m.program.tables c m.agents ≡ cells
 
 -- ---- what each machine keeps
 

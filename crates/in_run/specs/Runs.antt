@@ -1,12 +1,9 @@
 -- One interaction of a machine, runs of them, first in, first out, and how a run stops. Lafont 1990: an interaction replaces an active pair
 -- by the right member of its rule, and nets are taken up to the names of their agents. Which pair comes first, cells and stops are this
 -- project's own choice; which numbers agents have is left open.
-use Rattle.std.specs.Prelude.{◌≡◌, ◌≢◌, ◌<◌, ◌≤◌, ◌+◌, ℕ, zero, suc, List, [], ◌++◌, length, map, Option, Some, slice_get, remove, Result, Ok, Err}
+use Rattle.std.specs.Prelude.{◌≡◌, ◌≢◌, ◌<◌, ◌≤◌, ◌+◌, ℕ, zero, suc, List, [], ◌++◌, length, map, Some, slice_get, remove, Result, Ok, Err}
 use Rattle.in_arena.specs.declared.content.CellClass.{CellClass}
-use Rattle.in_arena.specs.declared.content.CellClass.TheVariants.{Small, Large}
-use Rattle.in_symbols.specs.Tables.{Tables}
 use Rattle.in_net.specs.declared.nets.AgentNo.{AgentNo}
-use Rattle.in_net.specs.declared.nets.Cell.{Cell}
 use Rattle.in_net.specs.Built.{IsOver}
 use Rattle.in_net.specs.Nets.{net_of}
 use Rattle.in_net.specs.Rules.{RuleParts}
@@ -14,20 +11,16 @@ use Rattle.in_check.specs.Plain.{IsPairAt, IsRuleAt, StepsAs}
 use Rattle.in_check.specs.Programs.{Program}
 use Rattle.in_check.specs.Runs.{IsRenamed}
 use Rattle.in_interaction.specs.Queues.{agents_at, numbers_of, both, IsFirstQueue}
-use Rattle.in_run.specs.declared.cells.Need.{Need}
+use Rattle.in_compile.specs.declared.cells.Need.{Need}
 use Rattle.in_run.specs.declared.stops.Stop.{Stop}
 use Rattle.in_run.specs.declared.stops.Stop.TheVariants.{Normal, Limit, Full}
 use Rattle.in_run.specs.declared.stops.StartFault.{StartFault}
 use Rattle.in_run.specs.declared.stops.StartFault.TheVariants as start
-use Rattle.in_run.specs.Machines.{MachineParts, parts_of, plain_of, agents_of, free_of, HasCells}
+use Rattle.in_compile.specs.Cells.{agents_of, count_of, IsNeedOf, IsEnough, IsFirstShort}
+use Rattle.in_run.specs.Machines.{MachineParts, parts_of, plain_of, HasCells}
 use Rattle.in_interaction.specs.Made.{AreMade}
 
 -- ---- what an interaction needs
-
--- so many of these agents take a small cell, and so many a large one
-pub record IsNeedOf (t : Tables) (agents : List (Option Cell)) (need : Need) : Type 0 where
-  pub small : need.small ≡ agents_of t Small agents
-  pub large : need.large ≡ agents_of t Large agents
 
 -- the agents of each class in the right member of the rule of that pair, which have to be free while the pair still stands
 pub record NeedsAt (m : MachineParts) (i : ℕ) (need : Need) : Type 0 where
@@ -40,12 +33,11 @@ pub record NeedsAt (m : MachineParts) (i : ℕ) (need : Need) : Type 0 where
 
 -- what that pair needs is free
 abbrev pub HasRoomAt : MachineParts → ℕ → Type 0
-HasRoomAt m i = (need : Need) × NeedsAt m i need × (need.small ≤ m.small) × (need.large ≤ m.large)
+HasRoomAt m i = (need : Need) × NeedsAt m i need × IsEnough (count_of need) (count_of m.vacant)
 
--- that pair needs more cells of a class than are free; of large ones only where the small ones suffice
+-- this is the first class of which that pair needs more cells than are free
 abbrev pub IsShortAt : MachineParts → ℕ → CellClass → ℕ → ℕ → Type 0
-IsShortAt m i Small need free = (n : Need) × NeedsAt m i n × (need ≡ n.small) × (free ≡ m.small) × (free < need)
-IsShortAt m i Large need free = (n : Need) × NeedsAt m i n × (need ≡ n.large) × (free ≡ m.large) × (free < need) × (n.small ≤ m.small)
+IsShortAt m i c need free = (n : Need) × NeedsAt m i n × IsFirstShort (count_of n) (count_of m.vacant) c × (need ≡ count_of n c) × (free ≡ count_of m.vacant c)
 
 -- ---- one interaction
 
@@ -61,7 +53,7 @@ pub record StepsAt (m : MachineParts) (i : ℕ) (after : MachineParts) : Type 0 
   pub made : List (AgentNo × AgentNo)
   pub new : AreMade m.program.tables (parts_of m) step.rule (agents_at pair).0 (agents_at pair).1 name made
   pub queue : after.queue ≡ remove m.queue i ++ map numbers_of made
-  pub cells : (c : CellClass) → free_of after c + agents_of m.program.tables c after.agents ≡ free_of m c + agents_of m.program.tables c m.agents
+  pub cells : (c : CellClass) → count_of after.vacant c + agents_of m.program.tables c after.agents ≡ count_of m.vacant c + agents_of m.program.tables c m.agents
 
 -- ---- a start
 
@@ -78,10 +70,9 @@ pub record IsStart (p : Program) (cells : ℕ) (m : MachineParts) : Type 0 where
   pub queue : m.queue ≡ map (both name) first
   pub counted : HasCells cells m
 
--- the program's net has more agents of a class than cells; of large ones only where the small ones fit
+-- this is the first class of which the program's net has more agents than there are cells
 abbrev pub DoesNotFit : Program → ℕ → CellClass → ℕ → ℕ → Type 0
-DoesNotFit p cells Small need free = (need ≡ agents_of p.tables Small p.net.cells) × (free ≡ cells) × (free < need)
-DoesNotFit p cells Large need free = (need ≡ agents_of p.tables Large p.net.cells) × (free ≡ cells) × (free < need) × (agents_of p.tables Small p.net.cells ≤ cells)
+DoesNotFit p cells c need free = IsFirstShort (λ d. agents_of p.tables d p.net.cells) (λ d. cells) c × (need ≡ agents_of p.tables c p.net.cells) × (free ≡ cells)
 
 abbrev pub IsNoStart : Program → ℕ → StartFault → Type 0
 IsNoStart p cells (start.Full c need free) = DoesNotFit p cells c need free

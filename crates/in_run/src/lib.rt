@@ -1,7 +1,6 @@
 //! A machine that runs a program: its net, its active pairs in a queue, and a number of cells for its agents.
 #![tactic(auto)]
 
-mod cells;
 pub mod laws;
 mod limits;
 mod looking;
@@ -11,8 +10,8 @@ mod running;
 mod stepping;
 mod stops;
 
-pub use cells::Need;
 pub use in_arena::{CellClass, CellNo, End};
+pub use in_compile::Need;
 pub use limits::Limits;
 pub use machine::Machine;
 pub use running::{Outcome, RunFault, run};

@@ -4,13 +4,14 @@ ghost use Rattle.in_symbols.specs.Names.{name_in};
 ghost use Rattle.in_symbols.specs.Tables.{arity_of};
 ghost use Rattle.in_net.specs.Parts.{IsPointOf, symbol_in, partner_in, free_name_in};
 ghost use Rattle.in_check.specs.Plain.{IsPairAt};
-ghost use Rattle.in_run.specs.Machines.{IsMachine, parts_of, plain_of, point_at, free_of};
+ghost use Rattle.in_compile.specs.Cells.{count_of};
+ghost use Rattle.in_run.specs.Machines.{IsMachine, parts_of, plain_of, point_at};
 ghost use Rattle.in_run.specs.Runs.{NeedsAt};
 
-use crate::cells::Need;
 use crate::machine::Machine;
 use crate::rules::{need_of, rule_of};
 use in_arena::{CellClass, CellNo, End};
+use in_compile::Need;
 use in_net::{AgentNo, Point};
 use in_symbols::SymbolNo;
 
@@ -55,12 +56,9 @@ impl<'a> Machine<'a> {
 
     /// How many cells of this class are free.
     pub fn free(&self, class: CellClass) -> u32
-        ensures { result ≡ free_of self.now class }
+        ensures { result ≡ count_of self.now.vacant class }
     {
-        match class {
-            CellClass::Small => self.small,
-            CellClass::Large => self.large,
-        }
+        self.vacant.of(class)
     }
 
     /// How many agents there are.

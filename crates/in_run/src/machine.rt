@@ -1,14 +1,16 @@
 // A machine, and how it starts.
-ghost use Rattle.std.specs.Prelude.{◌≤◌, IfOk};
+ghost use Rattle.std.specs.Prelude.{◌≡◌, ◌+◌, ◌≤◌, IfOk};
 ghost use Rattle.std.specs.VecDeque.{deque_capacity};
 ghost use Rattle.in_interaction.specs.Queues.{IsFirstQueue};
+ghost use Rattle.in_arena.specs.declared.content.CellClass.{CellClass};
+ghost use Rattle.in_compile.specs.Cells.{count_of};
 ghost use Rattle.in_run.specs.Limiting.{least_cells, most_cells};
 ghost use Rattle.in_run.specs.Runs.{Starts};
 
-use crate::cells::agents_of;
 use crate::stops::StartFault;
 use in_arena::CellClass;
 use in_check::{Checked, Plain};
+use in_compile::{Need, need_of_net};
 use std::alloc::{AllocError, Global};
 use std::collections::VecDeque;
 use std::marker::Model;
@@ -19,8 +21,7 @@ pub struct Machine<'a> {
     pub(crate) checked: &'a Checked,
     pub(crate) plain: Plain<'a>,
     pub(crate) queue: VecDeque<(u32, u32)>,
-    pub(crate) small: u32,
-    pub(crate) large: u32,
+    pub(crate) vacant: Need,
 }
 
 impl<'a> Model for Machine<'a> {
@@ -35,8 +36,7 @@ impl<'a> Model for Machine<'a> {
       agents = m.plain.net.cells;
       free = m.plain.net.free;
       queue = m.queue.items;
-      small = m.small;
-      large = m.large;
+      vacant = m.vacant;
     } };
 
     ghost invariant = { λ m. IsKept (record {
@@ -44,8 +44,7 @@ impl<'a> Model for Machine<'a> {
       agents = m.plain.net.cells;
       free = m.plain.net.free;
       queue = m.queue.items;
-      small = m.small;
-      large = m.large;
+      vacant = m.vacant;
     }) m.plain (deque_capacity m.queue) };
 }
 
@@ -69,12 +68,24 @@ fn first_queue(
     Ok(VecDeque::from_vec(pairs))
 }
 
+/// What is left of so many cells of each class.
+fn left_of(cells: u32, need: Need) -> Need
+    requires { (c : CellClass) → count_of need c ≤ cells }
+    ensures { (c : CellClass) → count_of result c + count_of need c ≡ cells }
+{
+    Need {
+        small: cells - need.small,
+        large: cells - need.large,
+        wide: cells - need.wide,
+    }
+}
+
 impl<'a> Machine<'a> {
     /// A machine with so many cells of each class, at the program's net. Its pairs are queued in the order of the places of their wires,
     /// which is this project's own choice, as are the sizes of cells.
     ///
-    /// Refused `Full` where the net has more agents of a class than cells, small ones tested first, or for want of memory. No other call
-    /// but `step` takes memory.
+    /// Refused `Full` where the net has more agents of a class than cells, tested in the order of the classes, or for want of memory. No
+    /// other call but `step` takes memory.
     pub fn new(alloc: Global, checked: &'a Checked, cells: u32) -> Result<Machine<'a>, StartFault>
         requires least { least_cells ≤ cells }
         requires most { cells ≤ most_cells }
@@ -83,30 +94,22 @@ impl<'a> Machine<'a> {
         checked.is_accepted();
         let symbols = checked.symbols();
         let net = checked.net();
-        let small = agents_of(symbols, net, CellClass::Small);
-        if cells < small {
+        let need = need_of_net(symbols, net);
+        if let Some(class) = need.first_short(Need::each(cells)) {
             return Err(StartFault::Full {
-                class: CellClass::Small,
-                need: small,
+                class,
+                need: need.of(class),
                 free: cells,
             });
         }
-        let large = agents_of(symbols, net, CellClass::Large);
-        if cells < large {
-            return Err(StartFault::Full {
-                class: CellClass::Large,
-                need: large,
-                free: cells,
-            });
-        }
-        let queue = first_queue(alloc, checked, cells as usize)?;
+        let room = CellClass::ALL.len() * cells as usize / 2;
+        let queue = first_queue(alloc, checked, room)?;
         let plain = Plain::new(alloc, checked)?;
         Ok(Machine {
             checked,
             plain,
             queue,
-            small: cells - small,
-            large: cells - large,
+            vacant: left_of(cells, need),
         })
     }
 }

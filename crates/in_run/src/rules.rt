@@ -1,15 +1,17 @@
 // The rule of an active pair, and the cells that it needs.
 ghost use Rattle.std.specs.Prelude.{◌≡◌, ◌+◌, ◌≤◌, ℕ, Some, slice_get};
 ghost use Rattle.in_check.specs.Plain.{IsRuleAt};
-ghost use Rattle.in_run.specs.Inside.{IsPairOf, heads_taking};
-ghost use Rattle.in_run.specs.Runs.{IsNeedOf};
+ghost use Rattle.in_net.specs.Rules.{IsRuleOver};
+ghost use Rattle.in_arena.specs.declared.content.CellClass.{CellClass};
+ghost use Rattle.in_compile.specs.Cells.{agents_of, count_of, heads_taking, IsNeedOf};
+ghost use Rattle.in_run.specs.Inside.{IsPairOf};
 ghost use Rattle.in_run.specs.Limiting.{most_cells};
-ghost use Rattle.in_run.specs.Machines.{agents_of};
 
-use crate::cells::{Need, agents_of, is_of};
 use in_arena::CellClass;
 use in_check::Checked;
+use in_compile::{Need, is_of, need_of_net};
 use in_net::{AgentNo, Net, Rule};
+use in_symbols::Symbols;
 
 /// The rule of two agents that are an active pair.
 pub(crate) fn rule_of<'a>(checked: &'a Checked, net: &Net, a: AgentNo, b: AgentNo) -> &'a Rule
@@ -29,26 +31,36 @@ pub(crate) fn need_of(checked: &Checked, rule: &Rule) -> Need
     ensures { IsNeedOf checked.now.tables rule.now.member.cells result }
 {
     checked.is_accepted();
-    let symbols = checked.symbols();
-    let member = rule.member();
-    Need {
-        small: agents_of(symbols, member, CellClass::Small),
-        large: agents_of(symbols, member, CellClass::Large),
-    }
+    need_of_net(checked.symbols(), rule.member())
 }
 
-/// How many cells of this class are free after an interaction by a rule, where so many were free before.
-pub(crate) fn free_after(checked: &Checked, rule: &Rule, class: CellClass, free: u32) -> u32
-    requires rule { (k : ℕ) × (slice_get checked.now.rules k ≡ Some rule.now) }
-    requires room { agents_of checked.now.tables class rule.now.member.cells ≤ free }
-    requires few { free ≤ most_cells }
-    ensures { result + agents_of checked.now.tables class rule.now.member.cells ≡ free + heads_taking checked.now.tables class rule.now }
+/// How many cells of a class are free after an interaction by a rule that needs so many, where so many were free before: those of the pair are
+/// free too, and those of the new agents aren't.
+fn class_after(symbols: &Symbols, rule: &Rule, need: Need, free: Need, class: CellClass) -> u32
+    requires over { IsRuleOver symbols.now rule.now }
+    requires enough { count_of need class ≤ count_of free class }
+    requires few { count_of free class ≤ most_cells }
+    ensures { result + count_of need class ≡ count_of free class + heads_taking symbols.now class rule.now }
 {
-    checked.is_accepted();
-    let symbols = checked.symbols();
     let (first, second) = rule.heads();
     let one = is_of(symbols, class, first) as u32;
     let two = is_of(symbols, class, second) as u32;
-    let member = rule.member();
-    free + one + two - agents_of(symbols, member, class)
+    free.of(class) + one + two - need.of(class)
+}
+
+/// How many cells of each class are free after an interaction by a rule, where so many were free before.
+pub(crate) fn free_after(checked: &Checked, rule: &Rule, free: Need) -> Need
+    requires rule { (k : ℕ) × (slice_get checked.now.rules k ≡ Some rule.now) }
+    requires room { (c : CellClass) → agents_of checked.now.tables c rule.now.member.cells ≤ count_of free c }
+    requires few { (c : CellClass) → count_of free c ≤ most_cells }
+    ensures { (c : CellClass) → count_of result c + agents_of checked.now.tables c rule.now.member.cells ≡ count_of free c + heads_taking checked.now.tables c rule.now }
+{
+    checked.is_accepted();
+    let symbols = checked.symbols();
+    let need = need_of(checked, rule);
+    Need {
+        small: class_after(symbols, rule, need, free, CellClass::Small),
+        large: class_after(symbols, rule, need, free, CellClass::Large),
+        wide: class_after(symbols, rule, need, free, CellClass::Wide),
+    }
 }

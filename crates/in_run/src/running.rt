@@ -8,7 +8,6 @@ ghost use Rattle.in_run.specs.Texts.{text_of};
 use crate::limits::Limits;
 use crate::machine::Machine;
 use crate::stops::{StartFault, Stop};
-use in_arena::CellClass;
 use in_check::Checked;
 use std::alloc::Global;
 
@@ -46,28 +45,19 @@ impl<'a> Machine<'a> {
             return Some(Stop::Limit);
         }
         let need = self.need_of(0);
-        if self.free(CellClass::Small) < need.small {
-            return Some(Stop::Full {
-                class: CellClass::Small,
-                need: need.small,
-                free: self.free(CellClass::Small),
-            });
-        }
-        if self.free(CellClass::Large) < need.large {
-            return Some(Stop::Full {
-                class: CellClass::Large,
-                need: need.large,
-                free: self.free(CellClass::Large),
-            });
-        }
-        None
+        let class = need.first_short(self.vacant)?;
+        Some(Stop::Full {
+            class,
+            need: need.of(class),
+            free: self.free(class),
+        })
     }
 }
 
 /// Runs a program, first in, first out: each interaction is at the first pair of the queue, and its new pairs come last.
 ///
 /// Before each interaction, in this order: where no pair is left the run stops as `Normal`; where it did as many interactions as are
-/// allowed, as `Limit`; where the first pair needs more cells of a class than are free, small ones tested first, as `Full`. Refused where no
+/// allowed, as `Limit`; where the first pair needs more cells of a class than are free, tested in the order of the classes, as `Full`. Refused where no
 /// machine starts, and for want of memory, and then the machine stands at the interactions counted so far.
 ///
 /// Where it stops as `Normal`, it has come to the one end of its program: each run that ends, its interactions in any order, has as many

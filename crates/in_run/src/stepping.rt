@@ -8,7 +8,6 @@ ghost use Rattle.in_run.specs.Runs.{StepsAt, HasRoomAt};
 
 use crate::machine::Machine;
 use crate::rules::{free_after, rule_of};
-use in_arena::CellClass;
 use in_interaction::made;
 use in_net::AgentNo;
 use std::alloc::{AllocError, Global};
@@ -43,14 +42,12 @@ impl<'a> Machine<'a> {
         let checked = self.checked;
         let (a, b) = self.agents_at(number);
         let rule = rule_of(checked, self.plain.net(), a, b);
-        let small = free_after(checked, rule, CellClass::Small, self.small);
-        let large = free_after(checked, rule, CellClass::Large, self.large);
+        let vacant = free_after(checked, rule, self.vacant);
         let pairs = made(alloc, checked.symbols(), self.plain.net(), rule, a, b)?;
         self.plain.step(alloc, a, b)?;
         self.plain.net().agents();
         requeue(&mut self.queue, number as usize, pairs.as_slice());
-        self.small = small;
-        self.large = large;
+        self.vacant = vacant;
         Ok(())
     }
 }

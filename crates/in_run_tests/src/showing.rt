@@ -6,11 +6,15 @@ use in_run::{CellClass, End, Limits, Machine, Outcome, run};
 use in_test_programs::Look;
 use std::alloc::{AllocError, Global};
 
-/// How many agents there are, and how many small and large cells are free.
+/// How many agents there are, and how many cells of each class are free.
 fn shown_cells(alloc: Global, machine: &Machine) -> Result<String, AllocError> {
     let small = machine.free(CellClass::Small);
     let large = machine.free(CellClass::Large);
-    format!(in alloc; "{} agents, {small} and {large} free", machine.agents())
+    let wide = machine.free(CellClass::Wide);
+    format!(in alloc;
+        "{} agents, {small}, {large} and {wide} free",
+        machine.agents()
+    )
 }
 
 /// A pair of the queue by its agents' cells, symbols and numbers of auxiliary ports.
@@ -92,8 +96,10 @@ fn step(alloc: Global, machine: &mut Machine) -> Result<(), AllocError> {
         return Ok(());
     }
     let need = machine.need_of(0);
-    if machine.free(CellClass::Small) < need.small || machine.free(CellClass::Large) < need.large {
-        return Ok(());
+    for class in CellClass::ALL {
+        if machine.free(class) < need.of(class) {
+            return Ok(());
+        }
     }
     machine.step(alloc, 0)
 }

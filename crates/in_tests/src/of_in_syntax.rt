@@ -476,10 +476,12 @@ fn limits_of_free_names(rt: HostRuntime) {
 
 #[test]
 fn limits_of_ports(rt: HostRuntime) {
-    let eight = "symbol x : t + { t + , t + , t + , t + } { t + , t + , t + , t + } ; net ( ) { }";
-    assert_eq!(rt; lengths(rt.alloc(), eight), Some([0, 1, 0, 0, 0]));
-    let nine = "symbol x : t + { t + , t + , t + , t + } { t + , t + , t + , t + , t + } ;";
-    expect_fault(&rt, rt.alloc(), nine, Code::E03, 31);
+    let sixteen =
+        "symbol x : t + { t + , t + , t + , t + , t + , t + , t + , t + } { t + , t + , t + , t + , t + , t + , t + , t + } ; net ( ) { }";
+    assert_eq!(rt; lengths(rt.alloc(), sixteen), Some([0, 1, 0, 0, 0]));
+    let seventeen =
+        "symbol x : t + { t + , t + , t + , t + , t + , t + , t + , t + } { t + , t + , t + , t + , t + , t + , t + , t + , t + } ;";
+    expect_fault(&rt, rt.alloc(), seventeen, Code::E03, 55);
 }
 
 /// How a text with a name at this depth is read.

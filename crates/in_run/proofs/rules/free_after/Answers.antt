@@ -1,14 +1,28 @@
-use Rattle.in_run.proofs.Accepted.{known_at, over_at, there_at}
+use Rattle.std.proofs.Common.{◌≡◌, ◌+◌, ap, arith}
+use Rattle.in_arena.specs.declared.content.CellClass.{CellClass}
+use Rattle.in_arena.specs.declared.content.CellClass.TheVariants.{Small, Large, Wide}
+use Rattle.in_symbols.specs.Tables.{Tables}
+use Rattle.in_compile.specs.Cells.{agents_of, count_of, heads_taking}
+use Rattle.in_run.proofs.Accepted.{rule_over_at}
 use Rattle.in_run.proofs.rules.free_after.Goals as goal
 
-pub is_of-one-requires : goal.is_of-one-requires
-is_of-one-requires c = (known_at c.is_accepted.ensures.0 c.args.checked.now c.is_accepted.ensures.1 c.requires.rule.0 c.args.rule.now c.requires.rule.1 _ c.heads.result c.symbols-symbols.ensures c.heads.ensures).0
+pub class_after-requires-clause-over : goal.class_after-requires-clause-over
+class_after-requires-clause-over c = rule_over_at c.is_accepted.ensures.0 c.args.checked.now c.is_accepted.ensures.1 c.requires.rule.0 c.args.rule.now c.requires.rule.1 c.symbols-symbols.result.now c.symbols-symbols.ensures
 
-pub is_of-two-requires : goal.is_of-two-requires
-is_of-two-requires c = (known_at c.is_accepted.ensures.0 c.args.checked.now c.is_accepted.ensures.1 c.requires.rule.0 c.args.rule.now c.requires.rule.1 _ c.heads.result c.symbols-symbols.ensures c.heads.ensures).1
+pub class_after-requires-2-clause-over : goal.class_after-requires-2-clause-over
+class_after-requires-2-clause-over c = rule_over_at c.is_accepted.ensures.0 c.args.checked.now c.is_accepted.ensures.1 c.requires.rule.0 c.args.rule.now c.requires.rule.1 c.symbols-symbols.result.now c.symbols-symbols.ensures
 
-pub agents_of-requires-clause-over : goal.agents_of-requires-clause-over
-agents_of-requires-clause-over c = over_at c.is_accepted.ensures.0 c.args.checked.now c.is_accepted.ensures.1 c.requires.rule.0 c.args.rule.now c.requires.rule.1 _ _ c.symbols-symbols.ensures c.member-member.ensures
+pub class_after-requires-3-clause-over : goal.class_after-requires-3-clause-over
+class_after-requires-3-clause-over c = rule_over_at c.is_accepted.ensures.0 c.args.checked.now c.is_accepted.ensures.1 c.requires.rule.0 c.args.rule.now c.requires.rule.1 c.symbols-symbols.result.now c.symbols-symbols.ensures
 
-pub agents_of-requires-clause-there : goal.agents_of-requires-clause-there
-agents_of-requires-clause-there c = there_at c.is_accepted.ensures.0 c.args.checked.now c.is_accepted.ensures.1 c.requires.rule.0 c.args.rule.now c.requires.rule.1 _ c.member-member.ensures
+pub returns : goal.returns
+returns c = left
+  where
+    heads : (class : CellClass) → heads_taking c.symbols-symbols.result.now class c.args.rule.now ≡ heads_taking c.args.checked.now.tables class c.args.rule.now
+    heads class = ap (λ (t : Tables). heads_taking t class c.args.rule.now) c.symbols-symbols.ensures
+
+    left : (class : CellClass) → count_of (record { small = c.class_after.result; large = c.class_after-2.result; wide = c.class_after-3.result }) class + agents_of c.args.checked.now.tables class c.args.rule.now.member.cells
+        ≡ count_of c.args.free class + heads_taking c.args.checked.now.tables class c.args.rule.now
+    left Small = let a = c.class_after.ensures in let n = c.need_of-need.ensures Small in let h = heads Small in omega (arith, a, n, h)
+    left Large = let a = c.class_after-2.ensures in let n = c.need_of-need.ensures Large in let h = heads Large in omega (arith, a, n, h)
+    left Wide = let a = c.class_after-3.ensures in let n = c.need_of-need.ensures Wide in let h = heads Wide in omega (arith, a, n, h)

@@ -3,7 +3,7 @@ use Rattle.in_net.specs.Parts.{Parts}
 use Rattle.in_check.specs.Plain.{IsRuleAt}
 use Rattle.in_interaction.specs.Queues.{numbers_of}
 use Rattle.in_run.specs.Machines.{MachineParts, plain_of}
-use Rattle.in_run.specs.Runs.{IsNeedOf}
+use Rattle.in_compile.specs.Cells.{IsNeedOf}
 use Rattle.in_run.proofs.Unlisted.{bare, rule_bare, with_net}
 use Rattle.in_run.proofs.machine.Machine.need_of.Goals as goal
 
