@@ -22,7 +22,7 @@ use Rattle.in_compile.proofs.Stocked.{not_leased, count_all, cells_all, memory_a
 -- ---- among some cells
 
 -- a cell is one of them, or is as it was
-one_or_same : (a : ArenaView) (ns : List CellNo) (x : State) (n : ℕ) → ((k : ℕ) × (slice_get ns k ≡ Some (record { 0 = n }))) ⊎ (state_at (with_all a ns x) n ≡ state_at a n)
+pub one_or_same : (a : ArenaView) (ns : List CellNo) (x : State) (n : ℕ) → ((k : ℕ) × (slice_get ns k ≡ Some (record { 0 = n }))) ⊎ (state_at (with_all a ns x) n ≡ state_at a n)
 one_or_same a [] x n = inr refl
 one_or_same a (m ∷ ns) x n = go (cases_eq n m.0) (one_or_same a ns x n)
   where
@@ -33,7 +33,7 @@ one_or_same a (m ∷ ns) x n = go (cases_eq n m.0) (one_or_same a ns x n)
     go (inr other) (inr same) = inr (get_or-set_other (with_all a ns x).states m.0 n x Leased other ∙ same)
 
 -- each of them is so
-one_of_all : (a : ArenaView) (ns : List CellNo) (x : State) (n : CellNo) (k : ℕ) → n.0 < length a.states → slice_get ns k ≡ Some n → state_at (with_all a ns x) n.0 ≡ x
+pub one_of_all : (a : ArenaView) (ns : List CellNo) (x : State) (n : CellNo) (k : ℕ) → n.0 < length a.states → slice_get ns k ≡ Some n → state_at (with_all a ns x) n.0 ≡ x
 one_of_all a [] x n k inside at = cc
 one_of_all a (m ∷ ns) x n zero inside at =
     let e : m ≡ n = (let f : Some m ≡ Some n = at in cc) in

@@ -10,7 +10,9 @@ pub mod Made
 pub mod Most
 pub mod Narrow
 pub mod Numbers
+pub mod OneAnswer
 pub mod OneTemplate
+pub mod Settled
 pub mod Sound
 pub mod Standing
 pub mod Stocked

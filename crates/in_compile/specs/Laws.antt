@@ -5,7 +5,8 @@ use Rattle.in_net.specs.Rules.{RuleParts}
 use Rattle.in_cover.specs.Cover.{IsPair, IsRuleFor}
 use Rattle.in_check.specs.Checking.{IsAccepted}
 use Rattle.in_check.specs.Programs.{Program}
-use Rattle.in_compile.specs.Templates.{TemplateParts, HasHeads, IsTemplateOf, TemplatesParts, template_at, AreTemplatesOf}
+use Rattle.in_compile.specs.declared.cells.Need.{Need}
+use Rattle.in_compile.specs.Templates.{TemplateParts, HasHeads, IsTemplateOf, TemplatesParts, template_at, IsLargestNeed, AreTemplatesOf}
 
 -- the rule for the two symbols and its template, which is found for them; no other template has these heads
 pub record HasOneTemplate (p : Program) (ts : TemplatesParts) (c d : ℕ) : Type 0 where
@@ -23,3 +24,17 @@ EachPairHasOneTemplate = (text : List ℕ) (p : Program) (ts : TemplatesParts) (
 -- a template is determined by its rule
 abbrev pub TemplatesAreOne : Type 0
 TemplatesAreOne = (t : Tables) (r : RuleParts) (p q : TemplateParts) → IsTemplateOf t r p → IsTemplateOf t r q → p ≡ q
+
+-- the same templates, by number and for each two symbols, and the same net. Their tables of numbers may differ in size, which nothing looks up
+pub record AreAlike (ts us : TemplatesParts) : Type 0 where
+  pub templates : ts.templates ≡ us.templates
+  pub start : ts.start ≡ us.start
+  pub found : (c d : ℕ) → template_at ts c d ≡ template_at us c d
+
+-- the templates of a program are determined by it
+abbrev pub TemplatesOfAreOne : Type 0
+TemplatesOfAreOne = (p : Program) (ts us : TemplatesParts) → AreTemplatesOf p ts → AreTemplatesOf p us → AreAlike ts us
+
+-- .. and the largest need by the templates
+abbrev pub LargestNeedsAreOne : Type 0
+LargestNeedsAreOne = (ts : List TemplateParts) (n m : Need) → IsLargestNeed ts n → IsLargestNeed ts m → n ≡ m

@@ -4,6 +4,7 @@ pub mod Listing
 pub mod MemberInside
 pub mod Members
 pub mod PlacedInside
+pub mod PlacedTemplates
 pub mod Placing
 pub mod PlacingLaws
 pub mod PlacingSteps

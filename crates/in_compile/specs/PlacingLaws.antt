@@ -39,6 +39,12 @@ abbrev pub PlacingLosesNone : Type 0
 PlacingLosesNone = (need : Need) (s s' : StockParts) (p : PlacedParts) (a a' a'' : ArenaView) → Takes need p.cells s s' → AreCellsOf p.bag p.cells
     → Regains (λ _. Vacant) a s'.bag a' → Regains (λ _. Vacant) a' p.bag a'' → Regains (λ _. Vacant) a s.bag a''
 
+-- .. and where what is placed is settled in the end, its cells are live, and the arena is else as it was before the stock was filled
+abbrev pub SettlingLosesNone : Type 0
+SettlingLosesNone = (count : CellClass → ℕ) (a a1 : ArenaView) (s : StockParts) → HasAllCells a → Adds count a (empty_bag a) a1 s.bag
+    → (need : Need) (s' : StockParts) (p : PlacedParts) (a2 a3 : ArenaView) → Takes need p.cells s s' → AreCellsOf p.bag p.cells
+    → Regains (λ _. Vacant) a1 s'.bag a2 → Regains (λ x. x) a2 p.bag a3 → Regains (λ x. x) a p.bag a3
+
 -- no cell is in both
 abbrev pub HaveNoneInCommon : ArenaView → ArenaView → Type 0
 HaveNoneInCommon b d = (n : ℕ) → IsIn b n → IsIn d n → ⊥

@@ -1,7 +1,7 @@
 //! Laws over templates, stocks and what is placed, for whoever reasons above them. No function here does anything.
 
-ghost use Rattle.in_compile.specs.Laws.{EachPairHasOneTemplate, TemplatesAreOne};
-ghost use Rattle.in_compile.specs.PlacingLaws.{MembersAreOne, LeasingKeepsAll, GivingBackKeepsAll, AllGoBack, PlacingLosesNone, PlacingSharesOut, OtherBagsStay, SettledMembersStand};
+ghost use Rattle.in_compile.specs.Laws.{EachPairHasOneTemplate, TemplatesAreOne, TemplatesOfAreOne, LargestNeedsAreOne};
+ghost use Rattle.in_compile.specs.PlacingLaws.{MembersAreOne, LeasingKeepsAll, GivingBackKeepsAll, AllGoBack, PlacingLosesNone, SettlingLosesNone, PlacingSharesOut, OtherBagsStay, SettledMembersStand};
 
 /// Of an accepted program, each two symbols that match have exactly one template, whichever is named first, and it is that of their rule.
 pub fn each_pair_has_one_template()
@@ -11,6 +11,16 @@ pub fn each_pair_has_one_template()
 /// A rule has one template.
 pub fn templates_are_one()
     ensures { TemplatesAreOne }
+{}
+
+/// The templates of a program are one: the same ones by number and for each two symbols, and the same initial net.
+pub fn templates_of_are_one()
+    ensures { TemplatesOfAreOne }
+{}
+
+/// Templates have one largest need.
+pub fn largest_needs_are_one()
+    ensures { LargestNeedsAreOne }
 {}
 
 /// A net has one member.
@@ -36,6 +46,12 @@ pub fn all_go_back()
 /// Placing loses no cell: what is placed and what is left of the stock go back to where the stock would have.
 pub fn placing_loses_none()
     ensures { PlacingLosesNone }
+{}
+
+/// Nor does settling: where the rest of the stock is spent and what is placed is settled, the arena has these agents, and is else as it was
+/// before the stock was filled.
+pub fn settling_loses_none()
+    ensures { SettlingLosesNone }
 {}
 
 /// What is placed and what is left of a stock are of the stock's arena, and have no cell in common.

@@ -4,6 +4,8 @@
 #[cfg(test)]
 mod of_in_compile;
 #[cfg(test)]
+mod placing;
+#[cfg(test)]
 mod showing;
 #[cfg(test)]
 mod stocking;

@@ -17,7 +17,7 @@ pub fn shown_need(alloc: Global, need: Need) -> Result<String, AllocError> {
 }
 
 /// A joint: an agent and its place, or a boundary end.
-fn push_joint(alloc: Global, joint: Joint, text: &mut String) -> Result<(), AllocError> {
+pub fn push_joint(alloc: Global, joint: Joint, text: &mut String) -> Result<(), AllocError> {
     let shown = match joint {
         Joint::ToAgent(agent, place) => format!(in alloc; " {agent}.{place}")?,
         Joint::ToBoundary(end) => format!(in alloc; " end {end}")?,

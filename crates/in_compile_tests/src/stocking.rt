@@ -12,7 +12,7 @@ use in_test_programs::Look;
 use std::alloc::{AllocError, Global};
 
 /// An arena of which no cell is on lease.
-fn fresh(alloc: Global, cells: u32) -> Result<Arena, AllocError>
+pub fn fresh(alloc: Global, cells: u32) -> Result<Arena, AllocError>
     requires { cells ≤ 1048576 }
     ensures { IfOk result (λ a. NoneLeased a) }
 {
@@ -20,7 +20,7 @@ fn fresh(alloc: Global, cells: u32) -> Result<Arena, AllocError>
 }
 
 /// How many cells of each class are free.
-fn free(arena: &Arena) -> Need {
+pub fn free(arena: &Arena) -> Need {
     Need {
         small: arena.free_count(CellClass::Small),
         large: arena.free_count(CellClass::Large),
@@ -29,7 +29,7 @@ fn free(arena: &Arena) -> Need {
 }
 
 /// Whether so many are.
-fn are_free(arena: &Arena, need: Need) -> bool
+pub fn are_free(arena: &Arena, need: Need) -> bool
     ensures { IsTrue result → IsEnough (count_of need) (free_of arena.now) }
 {
     if arena.free_count(CellClass::Small) < need.small {

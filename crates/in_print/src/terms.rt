@@ -1,7 +1,8 @@
 ghost use Rattle.std.specs.Prelude.{◌≡◌, ◌++◌, [], ◌∷◌, ℕ, IsSome, IfOk, OnOk, option_map};
 ghost use Rattle.in_net.specs.Nets.{Point};
 ghost use Rattle.in_net.specs.Parts.{symbol_in};
-ghost use Rattle.in_run.specs.Machines.{IsMachine, parts_of};
+ghost use Rattle.in_rounds.specs.Machines.{IsMachine};
+ghost use Rattle.in_reducer.specs.Machines.{parts_of};
 ghost use Rattle.in_print.specs.Points.{point_at};
 ghost use Rattle.in_print.specs.Terms.{term_in, Leads, IsShallow, GoesOn, last_point};
 ghost use Rattle.in_print.specs.Texts.{setting_of, IsPointAt, IsPrincipalAt, Wrote};

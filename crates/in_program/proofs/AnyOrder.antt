@@ -13,9 +13,10 @@ use Rattle.in_run.specs.declared.limits.Limits.{Limits}
 use Rattle.in_run.specs.declared.running.Outcome.{Outcome}
 use Rattle.in_run.specs.declared.stops.Stop.{Stop}
 use Rattle.in_run.specs.declared.stops.Stop.TheVariants.{Normal, Limit, Full}
-use Rattle.in_run.specs.Machines.{MachineParts}
-use Rattle.in_run.specs.Runs.{IsStart, IsOutcome}
-use Rattle.in_run.specs.Texts.{text_of}
+use Rattle.in_reducer.specs.Machines.{MachineParts}
+use Rattle.in_reducer.specs.Starts.{IsStart}
+use Rattle.in_run.specs.Stops.{IsOutcome}
+use Rattle.in_rounds.specs.Texts.{text_of}
 use Rattle.in_run.proofs.OneEnd.{normal_outcomes_are_one}
 use Rattle.in_words.specs.declared.action.Action.{Action}
 use Rattle.in_words.specs.declared.action.Action.TheVariants.{Check, Derive, Run}

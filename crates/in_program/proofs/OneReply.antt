@@ -1,5 +1,5 @@
 -- The program has one reply to a text.
-use Rattle.std.proofs.Common.{◌≡◌, ℕ, List, ◌++◌, length, count_by, is_some, Ok, Err, refl, sym, ◌∙◌, ap, arith}
+use Rattle.std.proofs.Common.{◌≡◌, ℕ, List, ◌++◌, length, count_by, is_some, Ok, Err, refl, sym, ◌∙◌, ap}
 use Rattle.in_syntax.specs.declared.faults.Fault.TheVariants.{Refused}
 use Rattle.in_symbols.specs.Tables.{Tables}
 use Rattle.in_net.specs.Parts.{Parts}

@@ -19,12 +19,17 @@ use Rattle.in_run.specs.declared.limits.Limits.{Limits}
 use Rattle.in_run.specs.declared.stops.Stop.{Stop}
 use Rattle.in_run.specs.declared.stops.Stop.TheVariants.{Normal, Limit, Full}
 use Rattle.in_compile.specs.Cells.{agents_of}
-use Rattle.in_run.specs.Machines.{MachineParts, parts_of, plain_of}
-use Rattle.in_run.specs.Runs.{StepsAt, NeedsAt, Runs, at_start, then_step, IsStop, IsOutcome, IsStart, DoesNotFit}
-use Rattle.in_run.proofs.SameRun.{machine_runs, same_outcome}
-use Rattle.in_run.proofs.SameStart.{count_at, same_start, start_machine}
+use Rattle.in_reducer.specs.Machines.{MachineParts, parts_of, plain_of}
+use Rattle.in_reducer.specs.Steps.{StepsAt, NeedsAt}
+use Rattle.in_rounds.specs.Runs.{Runs, at_start, then_step}
+use Rattle.in_run.specs.Stops.{IsStop, IsOutcome}
+use Rattle.in_reducer.specs.Starts.{IsStart}
+use Rattle.in_rounds.specs.Starts.{DoesNotFit}
+use Rattle.in_rounds.proofs.SameRun.{machine_runs}
+use Rattle.in_run.proofs.SameOutcome.{same_outcome}
+use Rattle.in_rounds.proofs.SameStart.{count_at, same_start, start_machine}
 use Rattle.in_print.proofs.SameTexts.{same_texts}
-use Rattle.in_run.specs.Texts.{text_of}
+use Rattle.in_rounds.specs.Texts.{text_of}
 
 -- ---- another table of rules
 

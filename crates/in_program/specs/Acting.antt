@@ -10,12 +10,14 @@ use Rattle.in_check.specs.Checking.{IsAccepted, IsRefused}
 use Rattle.in_check.specs.Programs.{Program, counts_of}
 use Rattle.in_arena.specs.declared.content.CellClass.{CellClass}
 use Rattle.in_print.specs.Devices.{Device, Moves}
-use Rattle.in_run.specs.Texts.{text_of}
+use Rattle.in_rounds.specs.Texts.{text_of}
 use Rattle.in_run.specs.declared.stops.Stop.{Stop}
 use Rattle.in_run.specs.declared.stops.Stop.TheVariants.{Normal, Limit, Full}
-use Rattle.in_run.specs.Machines.{MachineParts}
+use Rattle.in_reducer.specs.Machines.{MachineParts}
 use Rattle.in_order.specs.Ends.{Ends}
-use Rattle.in_run.specs.Runs.{IsStart, DoesNotFit, IsOutcome}
+use Rattle.in_reducer.specs.Starts.{IsStart}
+use Rattle.in_rounds.specs.Starts.{DoesNotFit}
+use Rattle.in_run.specs.Stops.{IsOutcome}
 use Rattle.in_program.specs.Devices.{Reader, Gives, Fails, BreaksWithin, IsEnough}
 use Rattle.in_program.specs.Lines.{accepted_line, refused_line, memory_line, run_lines, start_line}
 use Rattle.in_program.specs.Steps.{derivation_lines}

@@ -1,12 +1,12 @@
 ghost use Rattle.std.specs.Prelude.{ℕ, ◌≡◌, ◌-◌, ◌^◌, ◌<◌, ◌++◌, IfOk, OnErr};
 ghost use Rattle.in_print.specs.Devices.{device};
-ghost use Rattle.in_run.specs.Texts.{text_of};
+ghost use Rattle.in_rounds.specs.Texts.{text_of};
 ghost use Rattle.in_program.specs.Acting.{Acts, IsReply, Tells, TellsOne, TellsUsage, memory_status, AreFound, AreThese, status, stop_status};
 ghost use Rattle.in_program.specs.Devices.{reader_of};
 ghost use Rattle.in_program.specs.Lines.{memory_line, refused_line, run_lines, start_line};
 ghost use Rattle.in_arena.specs.declared.content.CellClass.{CellClass};
 ghost use Rattle.in_run.specs.declared.running.RunFault.TheVariants.{Start};
-ghost use Rattle.in_run.specs.declared.stops.StartFault.TheVariants.{Full};
+ghost use Rattle.in_rounds.specs.declared.starting.StartFault.TheVariants.{Full};
 ghost use Rattle.in_syntax.specs.declared.faults.Fault.TheVariants.{Refused};
 ghost use Rattle.in_syntax.specs.declared.faults.Refusal.{Refusal};
 ghost use Rattle.in_words.specs.declared.action.Action.TheVariants.{Run};

@@ -1,5 +1,14 @@
 pub mod Apart
+pub mod AsMany
 pub mod Keeping
+pub mod ListedAgents
+pub mod OneEnd
+pub mod Rounded
+pub mod SameKind
+pub mod SameRun
+pub mod SameStart
+pub mod SameStep
 pub mod Seated
+pub mod StepsOn
 pub mod Sums
 pub mod Views

@@ -6,11 +6,13 @@ use Rattle.in_check.specs.Plain.{IsReachedBy}
 use Rattle.in_check.specs.Programs.{Program}
 use Rattle.in_run.specs.declared.limits.Limits.{Limits}
 use Rattle.in_run.specs.declared.running.Outcome.{Outcome}
-use Rattle.in_run.specs.Machines.{IsMachine, plain_of}
+use Rattle.in_rounds.specs.Machines.{IsMachine}
+use Rattle.in_reducer.specs.Machines.{plain_of}
 use Rattle.in_run.specs.Outcomes.{RunsTo}
-use Rattle.in_run.specs.Same.{AreSame}
-use Rattle.in_run.proofs.SameRun.{machine_runs, run_keeps, same_outcome}
-use Rattle.in_run.proofs.SameStart.{same_start, start_machine, start_plain, start_reached}
+use Rattle.in_rounds.specs.Same.{AreSame}
+use Rattle.in_rounds.proofs.SameRun.{machine_runs, run_keeps}
+use Rattle.in_run.proofs.SameOutcome.{same_outcome}
+use Rattle.in_rounds.proofs.SameStart.{same_start, start_machine, start_plain, start_reached}
 
 module _ (text : List ℕ) (p : Program) (accepted : IsAccepted text p) where
   pub ended_reached : (l : Limits) (o : Outcome) → RunsTo p l (Ok o) → IsReachedBy (plain_of o.machine) o.interactions

@@ -1,9 +1,10 @@
 -- A run, step by step.
-use Rattle.std.proofs.Common.{◌≡◌, ◌<◌, ◌≤◌, ◌+◌, ℕ, suc, false, Result, Ok, Err, subst, arith}
-use Rattle.std.specs.Prelude.{OnOk, is_err}
+use Rattle.std.proofs.Common.{◌≡◌, ◌<◌, ◌≤◌, ◌+◌, ℕ, suc, subst, arith}
 use Rattle.in_check.specs.Programs.{Program}
-use Rattle.in_run.specs.Machines.{MachineParts}
-use Rattle.in_run.specs.Runs.{IsStart, Runs, at_start, then_step, StepsAt}
+use Rattle.in_reducer.specs.Machines.{MachineParts}
+use Rattle.in_reducer.specs.Starts.{IsStart}
+use Rattle.in_rounds.specs.Runs.{Runs, at_start, then_step}
+use Rattle.in_reducer.specs.Steps.{StepsAt}
 
 -- so many steps of a run from a start, within a limit
 pub record IsOnItsWay (p : Program) (cells limit k : ℕ) (m : MachineParts) : Type 0 where
@@ -22,7 +23,3 @@ goes_on p cells limit k m n h s l = record {
   run = subst (λ j. Runs h.start j n) (let z : suc k ≡ k + 1 = omega arith in z) (then_step h.start m n k h.run s);
   within = omega (arith, l);
 }
-
-pub not_err : {A E : Type 0} {P : Type 0} (r : Result A E) → false ≡ is_err r → OnOk r P → P
-not_err (Ok x) e h = h
-not_err (Err x) e h = cc

@@ -1,7 +1,8 @@
 -- Which limits there are.
 use Rattle.std.specs.Prelude.{◌≡◌, ◌≤◌, ℕ, Option, Some, None}
 use Rattle.in_run.specs.declared.limits.Limits.{Limits}
-use Rattle.in_run.specs.Limiting.{most_interactions, least_cells, most_cells}
+use Rattle.in_run.specs.Limiting.{most_interactions}
+use Rattle.in_reducer.specs.Limiting.{least_cells, most_cells}
 
 -- both numbers are in range
 abbrev pub AreInRange : ℕ → ℕ → Type 0

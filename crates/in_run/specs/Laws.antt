@@ -1,59 +1,19 @@
--- Laws over machines and their runs.
-use Rattle.std.specs.Prelude.{◌≡◌, ◌≢◌, ◌<◌, ◌≤◌, ◌+◌, ◌-◌, ◌++◌, ℕ, suc, List, [], length, map, drop, Ok}
-use Rattle.in_net.specs.Nets.{net_of}
+-- Laws over runs and what they come to.
+use Rattle.std.specs.Prelude.{◌≡◌, ℕ, List, Ok}
 use Rattle.in_check.specs.Checking.{IsAccepted}
-use Rattle.in_check.specs.NetText.{IsQueue}
 use Rattle.in_check.specs.Plain.{IsReachedBy}
 use Rattle.in_check.specs.Programs.{Program}
-use Rattle.in_check.specs.Promises.{IsAsPromised}
-use Rattle.in_check.specs.Systems.{system_of}
 use Rattle.in_order.specs.Ends.{EndsOnce}
-use Rattle.in_interaction.specs.Queues.{numbers_of}
 use Rattle.in_run.specs.declared.limits.Limits.{Limits}
 use Rattle.in_run.specs.declared.running.Outcome.{Outcome}
 use Rattle.in_run.specs.declared.stops.Stop.{Stop}
 use Rattle.in_run.specs.declared.stops.Stop.TheVariants.{Normal}
-use Rattle.in_run.specs.Limiting.{most_cells}
-use Rattle.in_run.specs.Machines.{MachineParts, IsMachine, parts_of, plain_of}
+use Rattle.in_reducer.specs.Machines.{MachineParts, plain_of}
+use Rattle.in_rounds.specs.Machines.{IsMachine}
 use Rattle.in_run.specs.Outcomes.{RunsTo}
-use Rattle.in_run.specs.Rounds.{HasRoomFor, jobs_of, IsRound}
-use Rattle.in_run.specs.Runs.{HasRoomAt, StepsAt, IsStart, Runs, IsStop, IsOutcome}
-use Rattle.in_run.specs.Same.{AreSame}
-use Rattle.in_run.specs.Texts.{text_of}
-
--- what a machine shows is as promised
-abbrev pub MachinesAsPromised : Type 0
-MachinesAsPromised = (m : MachineParts) → IsMachine m → IsAsPromised (system_of m.program) (net_of (parts_of m))
-
--- its queue is one of the net, as the text of a net has it
-abbrev pub QueuesAreQueues : Type 0
-QueuesAreQueues = (m : MachineParts) → IsMachine m → IsQueue (net_of (parts_of m)) m.queue
-
--- a run of k steps reaches by k interactions more
-abbrev pub RunsReach : Type 0
-RunsReach = (m n : MachineParts) (j k : ℕ) → IsMachine m → IsReachedBy (plain_of m) j → Runs m k n → IsReachedBy (plain_of n) (k + j)
-
--- an interaction of a machine leaves a machine
-abbrev pub StepsKeepMachines : Type 0
-StepsKeepMachines = (m o : MachineParts) (i : ℕ) → IsMachine m → StepsAt m i o → IsMachine o
-
--- being the same up to numbers is an equivalence of machines
-pub record AreSameIsAnEquivalence : Type 0 where
-  pub itself : (m : MachineParts) → AreSame m m
-  pub back : (m n : MachineParts) → IsMachine m → AreSame m n → AreSame n m
-  pub through : (m n o : MachineParts) → AreSame m n → AreSame n o → AreSame m o
-
--- an accepted program and a number of cells have one machine to start with, up to the numbers of its agents
-abbrev pub StartsAreSame : Type 0
-StartsAreSame = (text : List ℕ) (p : Program) (cells : ℕ) (m n : MachineParts) → IsAccepted text p → IsStart p cells m → IsStart p cells n → AreSame m n
-
--- of two machines that are the same up to numbers, so are those that an interaction of one pair leads to
-abbrev pub StepsKeepSame : Type 0
-StepsKeepSame = (m n o u : MachineParts) (i : ℕ) → IsMachine m → IsMachine n → AreSame m n → StepsAt m i o → StepsAt n i u → AreSame o u
-
--- .. and a run of so many
-abbrev pub RunsKeepSame : Type 0
-RunsKeepSame = (m n o u : MachineParts) (k : ℕ) → IsMachine m → IsMachine n → AreSame m n → Runs m k o → Runs n k u → AreSame o u
+use Rattle.in_run.specs.Stops.{IsStop, IsOutcome}
+use Rattle.in_rounds.specs.Same.{AreSame}
+use Rattle.in_rounds.specs.Texts.{text_of}
 
 -- .. and the one stops as the other
 abbrev pub StopsAreSame : Type 0
@@ -63,10 +23,6 @@ StopsAreSame = (m n : MachineParts) (limit k : ℕ) (s : Stop) → AreSame m n �
 abbrev pub OutcomesAreSame : Type 0
 OutcomesAreSame = (start other : MachineParts) (limit : ℕ) (m n : MachineParts) (j k : ℕ) (s t : Stop) → IsMachine start → IsMachine other → AreSame start other →
     IsOutcome start limit m j s → IsOutcome other limit n k t → AreSame m n × (j ≡ k) × (s ≡ t)
-
--- a start of an accepted program is a machine
-abbrev pub StartsAreMachines : Type 0
-StartsAreMachines = (text : List ℕ) (p : Program) (cells : ℕ) (m : MachineParts) → IsAccepted text p → cells ≤ most_cells → IsStart p cells m → IsMachine m
 
 -- a run's outcome is a machine
 abbrev pub OutcomesAreMachines : Type 0
@@ -81,32 +37,6 @@ abbrev pub ProgramsEndAlike : Type 0
 ProgramsEndAlike = (text : List ℕ) (p : Program) (l : Limits) (o u : Outcome) → IsAccepted text p → RunsTo p l (Ok o) → RunsTo p l (Ok u) →
     AreSame o.machine u.machine × (o.interactions ≡ u.interactions) × (o.stop ≡ u.stop)
 
--- ---- any order
-
--- a machine without active pairs is the one end of its program: each run that ends, its interactions in any order, has as many and its text
-abbrev pub NormalEndsAreOne : Type 0
-NormalEndsAreOne = (m : MachineParts) (k : ℕ) → IsMachine m → IsReachedBy (plain_of m) k → m.queue ≡ [] → EndsOnce m.program k (text_of m)
-
 -- where a run stops normally, it has come to that end
 abbrev pub NormalOutcomesAreOne : Type 0
 NormalOutcomesAreOne = (text : List ℕ) (p : Program) (l : Limits) (o : Outcome) → IsAccepted text p → RunsTo p l (Ok o) → o.stop ≡ Normal → EndsOnce p o.interactions (text_of o.machine)
-
--- ---- rounds
-
--- where there is room for the first so many pairs together, each of them has room when its turn comes
-abbrev pub RoomLasts : Type 0
-RoomLasts = (m n : MachineParts) (j k : ℕ) → IsMachine m → HasRoomFor m k → Runs m j n → j < k → HasRoomAt n 0
-
--- after so many interactions, first in, first out, the queue is what is left of it, and then new pairs; a further interaction adds its own
--- at its end
-abbrev pub QueuesMoveUp : Type 0
-QueuesMoveUp = (m n : MachineParts) (j : ℕ) → Runs m j n → j ≤ length m.queue → (new : List (ℕ × ℕ)) × (n.queue ≡ drop j m.queue ++ new)
-    × ((o : MachineParts) (s : StepsAt n 0 o) → suc j ≤ length m.queue → o.queue ≡ drop (suc j) m.queue ++ (new ++ map numbers_of s.made))
-
--- who takes the first pairs in turn until there are no more jobs, or no room for the next one, does a round
-abbrev pub RoundsEnd : Type 0
-RoundsEnd = (m n : MachineParts) (budget k : ℕ) → IsMachine m → Runs m k n → 1 ≤ k → k ≤ jobs_of m budget → (k ≢ jobs_of m budget → HasRoomAt n 0 → ⊥) → IsRound m budget n k
-
--- a round after a run is a longer run, within its limit
-abbrev pub RoundsRunOn : Type 0
-RoundsRunOn = (start m n : MachineParts) (limit j k : ℕ) → Runs start j m → j < limit → IsRound m (limit - j) n k → Runs start (k + j) n × (k + j ≤ limit) × (j < k + j)

@@ -1,10 +1,5 @@
 pub mod AllowedLimits
-pub mod Inside
 pub mod Laws
 pub mod Limiting
-pub mod Machines
 pub mod Outcomes
-pub mod Rounds
-pub mod Runs
-pub mod Same
-pub mod Texts
+pub mod Stops

@@ -5,8 +5,11 @@ use Rattle.in_run.specs.declared.limits.Limits.{Limits}
 use Rattle.in_run.specs.declared.running.Outcome.{Outcome}
 use Rattle.in_run.specs.declared.running.RunFault.{RunFault}
 use Rattle.in_run.specs.declared.running.RunFault.TheVariants.{Start, Memory}
-use Rattle.in_run.specs.Machines.{MachineParts}
-use Rattle.in_run.specs.Runs.{IsStart, IsNoStart, Runs, GoesOn, IsOutcome}
+use Rattle.in_reducer.specs.Machines.{MachineParts}
+use Rattle.in_reducer.specs.Starts.{IsStart}
+use Rattle.in_rounds.specs.Starts.{IsNoStart}
+use Rattle.in_rounds.specs.Runs.{Runs}
+use Rattle.in_run.specs.Stops.{GoesOn, IsOutcome}
 
 -- the outcome of the run from a start within the limits. Or there is no start; or memory was wanted after so many interactions of the run,
 -- where another one was next

@@ -1,47 +1,6 @@
-//! Laws over machines and their runs, for whoever reasons above them. No function here does anything.
+//! Laws over runs and what they come to, for whoever reasons above them. No function here does anything.
 
-ghost use Rattle.in_run.specs.Laws.{AreSameIsAnEquivalence, MachinesAsPromised, NormalEndsAreOne, NormalOutcomesAreOne, OutcomesAreMachines, OutcomesAreReached, OutcomesAreSame, ProgramsEndAlike, QueuesAreQueues, QueuesMoveUp, RoomLasts, RoundsEnd, RoundsRunOn, RunsKeepSame, RunsReach, StartsAreMachines, StartsAreSame, StepsKeepMachines, StepsKeepSame, StopsAreSame};
-
-/// What a machine shows is as promised: typed, with one rule for each active pair, without crossing circle or vicious one, with an end
-/// to each interaction, leading on from each agent, and written whole.
-pub fn machines_as_promised()
-    ensures { MachinesAsPromised }
-{}
-
-/// The queue of a machine holds each active pair of its net once, as the text of a net asks for.
-pub fn queues_are_queues()
-    ensures { QueuesAreQueues }
-{}
-
-/// A run of so many steps reaches its net by as many interactions more.
-pub fn runs_reach()
-    ensures { RunsReach }
-{}
-
-/// An interaction of a machine leaves a machine, whatever numbers the new agents have.
-pub fn steps_keep_machines()
-    ensures { StepsKeepMachines }
-{}
-
-/// Being the same up to the numbers of agents is an equivalence of machines.
-pub fn are_same_is_an_equivalence()
-    ensures { AreSameIsAnEquivalence }
-{}
-
-/// An accepted program and a number of cells have one machine to start with, up to the numbers of its agents.
-pub fn starts_are_same()
-    ensures { StartsAreSame }
-{}
-
-/// The same interaction of two machines that are the same up to the numbers of their agents leads to two that are.
-pub fn steps_keep_same()
-    ensures { StepsKeepSame }
-{}
-
-/// .. and so do runs of one length.
-pub fn runs_keep_same()
-    ensures { RunsKeepSame }
-{}
+ghost use Rattle.in_run.specs.Laws.{NormalOutcomesAreOne, OutcomesAreMachines, OutcomesAreReached, OutcomesAreSame, ProgramsEndAlike, StopsAreSame};
 
 /// Machines that are the same up to the numbers of their agents stop alike.
 pub fn stops_are_same()
@@ -51,11 +10,6 @@ pub fn stops_are_same()
 /// .. and have one outcome within a limit: one count, one stop, and a machine that is one up to the numbers of its agents.
 pub fn outcomes_are_same()
     ensures { OutcomesAreSame }
-{}
-
-/// A start of an accepted program is a machine: what is said of machines holds of it.
-pub fn starts_are_machines()
-    ensures { StartsAreMachines }
 {}
 
 /// A run's outcome is a machine, whatever its stop: what is said of machines holds of it.
@@ -73,34 +27,7 @@ pub fn programs_end_alike()
     ensures { ProgramsEndAlike }
 {}
 
-/// A machine without active pairs is the one end of its program: each run that ends, its interactions in any order, has as many interactions
-/// and the same text.
-pub fn normal_ends_are_one()
-    ensures { NormalEndsAreOne }
-{}
-
 /// Where a run stops normally, it has come to the one end of its program.
 pub fn normal_outcomes_are_one()
     ensures { NormalOutcomesAreOne }
-{}
-
-/// Where there is room for the first pairs of the queue together, each of them has room when its turn comes, first in, first out, whatever
-/// was made before.
-pub fn room_lasts()
-    ensures { RoomLasts }
-{}
-
-/// While pairs of the queue are left, interactions, first in, first out, take them in turn, and add the new ones behind them.
-pub fn queues_move_up()
-    ensures { QueuesMoveUp }
-{}
-
-/// Who takes the first pairs in turn until there are no more jobs, or no room for the next one, does a round.
-pub fn rounds_end()
-    ensures { RoundsEnd }
-{}
-
-/// A round after a run is a longer run, within its limit.
-pub fn rounds_run_on()
-    ensures { RoundsRunOn }
 {}

@@ -1,5 +1,6 @@
 ghost use Rattle.std.specs.Prelude.{◌≡◌, ◌≤◌};
-ghost use Rattle.in_run.specs.Limiting.{most_interactions, least_cells, most_cells};
+ghost use Rattle.in_run.specs.Limiting.{most_interactions};
+ghost use Rattle.in_reducer.specs.Limiting.{least_cells, most_cells};
 
 /// The most interactions that a run may be allowed.
 pub const MOST_INTERACTIONS: u64 = 1_000_000_000_000;

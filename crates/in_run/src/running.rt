@@ -1,14 +1,15 @@
 // A run: first in, first out.
-ghost use Rattle.std.specs.Prelude.{◌≡◌, IfOk};
+ghost use Rattle.std.specs.Prelude.{◌≡◌, ◌≤◌, IfOk, MatchOption};
 ghost use Rattle.in_order.specs.Ends.{EndsOnce};
 ghost use Rattle.in_run.specs.declared.stops.Stop.TheVariants.{Normal};
 ghost use Rattle.in_run.specs.Outcomes.{RunsTo};
-ghost use Rattle.in_run.specs.Texts.{text_of};
+ghost use Rattle.in_run.specs.Stops.{IsStop, GoesOn};
+ghost use Rattle.in_rounds.specs.Texts.{text_of};
 
 use crate::limits::Limits;
-use crate::machine::Machine;
-use crate::stops::{StartFault, Stop};
+use crate::stops::Stop;
 use in_check::Checked;
+use in_rounds::{CellClass, Machine, Need, StartFault};
 use std::alloc::Global;
 
 /// What a run came to: its machine, how many interactions it did, and how it stopped.
@@ -29,29 +30,35 @@ pub enum RunFault<'a> {
     },
 }
 
-impl<'a> Machine<'a> {
-    ghost use Rattle.std.specs.Prelude.{◌<◌, ◌≤◌, length, MatchOption};
-    ghost use Rattle.in_run.specs.Runs.{HasRoomAt, IsStop, GoesOn};
-
-    /// Why no interaction of the first pair is next, after so many interactions.
-    fn stop(&self, limit: u64, interactions: u64) -> Option<Stop>
-        requires { interactions ≤ limit }
-        ensures { MatchOption result (GoesOn limit self.now interactions) (IsStop limit self.now interactions) }
-    {
-        if self.pairs() == 0 {
-            return Some(Stop::Normal);
-        }
-        if interactions == limit {
-            return Some(Stop::Limit);
-        }
-        let need = self.need_of(0);
-        let class = need.first_short(self.vacant)?;
-        Some(Stop::Full {
-            class,
-            need: need.of(class),
-            free: self.free(class),
-        })
+/// How many cells of each class are free.
+fn vacant(machine: &Machine) -> Need
+    ensures { result ≡ machine.now.vacant }
+{
+    Need {
+        small: machine.free(CellClass::Small),
+        large: machine.free(CellClass::Large),
+        wide: machine.free(CellClass::Wide),
     }
+}
+
+/// Why no interaction of the first pair is next, after so many interactions.
+fn stop(machine: &Machine, limit: u64, interactions: u64) -> Option<Stop>
+    requires { interactions ≤ limit }
+    ensures { MatchOption result (GoesOn limit machine.now interactions) (IsStop limit machine.now interactions) }
+{
+    if machine.pairs() == 0 {
+        return Some(Stop::Normal);
+    }
+    if interactions == limit {
+        return Some(Stop::Limit);
+    }
+    let need = machine.need_of(0);
+    let class = need.first_short(vacant(machine))?;
+    Some(Stop::Full {
+        class,
+        need: need.of(class),
+        free: machine.free(class),
+    })
 }
 
 /// Runs a program, first in, first out: each interaction is at the first pair of the queue, and its new pairs come last.
@@ -77,19 +84,14 @@ pub fn run<'a>(
     };
     let mut interactions = 0;
     loop {
-        if let Some(stop) = machine.stop(limits.limit(), interactions) {
+        if let Some(stop) = stop(&machine, limits.limit(), interactions) {
             return Ok(Outcome {
                 machine,
                 interactions,
                 stop,
             });
         }
-        if machine.step(alloc, 0).is_err() {
-            return Err(RunFault::Memory {
-                machine,
-                interactions,
-            });
-        }
+        machine.step(0);
         interactions += 1;
     }
 }

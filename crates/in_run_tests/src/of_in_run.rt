@@ -22,15 +22,15 @@ const TOO_LARGE_SUM: &str =
 #[test]
 fn a_machine_shows_its_net(rt: HostRuntime) {
     let shown = sums(rt.alloc(), SUM, &After(0));
-    assert!(rt; shown.as_deref() == Some("6 agents, 10, 16 and 16 free\nS1 0 Add2 3\nr at 3.2"));
+    assert!(rt; shown.as_deref() == Some("6 agents, 10, 16 and 16 free\nS1 Add2\nr at Add.2"));
 }
 
 #[test]
 fn a_step_changes_pairs_and_cells(rt: HostRuntime) {
     let shown = sums(rt.alloc(), SUM, &After(1));
-    assert!(rt; shown.as_deref() == Some("6 agents, 10, 16 and 16 free\nS1 1 Add2 6\nr at 7.0"));
+    assert!(rt; shown.as_deref() == Some("6 agents, 10, 16 and 16 free\nS1 Add2\nr at S.0"));
     let shown = sums(rt.alloc(), SUM, &After(4));
-    assert!(rt; shown.as_deref() == Some("4 agents, 12, 16 and 16 free\nr at 7.0"));
+    assert!(rt; shown.as_deref() == Some("4 agents, 12, 16 and 16 free\nr at S.0"));
 }
 
 #[test]
@@ -39,25 +39,25 @@ fn pairs_are_queued_by_their_wires(rt: HostRuntime) {
     let shown = sums(rt.alloc(), net, &After(0));
     assert!(rt;
         shown.as_deref()
-            == Some("8 agents, 8, 16 and 16 free\nS1 0 Add2 2\nZ0 4 Add2 5\nr at 5.2\ns at 2.2")
+            == Some("8 agents, 8, 16 and 16 free\nS1 Add2\nZ0 Add2\nr at Add.2\ns at Add.2")
     );
 }
 
 #[test]
 fn a_run_ends_without_a_pair(rt: HostRuntime) {
     let shown = sums(rt.alloc(), SUM, &Ending(3, 16));
-    assert!(rt; shown.as_deref() == Some("3 Normal\n4 agents, 12, 16 and 16 free\nr at 7.0"));
+    assert!(rt; shown.as_deref() == Some("3 Normal\n4 agents, 12, 16 and 16 free\nr at S.0"));
 }
 
 #[test]
 fn a_run_stops_at_its_limit(rt: HostRuntime) {
     let shown = sums(rt.alloc(), SUM, &Ending(0, 16));
     assert!(rt;
-        shown.as_deref() == Some("0 Limit\n6 agents, 10, 16 and 16 free\nS1 0 Add2 3\nr at 3.2")
+        shown.as_deref() == Some("0 Limit\n6 agents, 10, 16 and 16 free\nS1 Add2\nr at Add.2")
     );
     let shown = sums(rt.alloc(), SUM, &Ending(1, 16));
     assert!(rt;
-        shown.as_deref() == Some("1 Limit\n6 agents, 10, 16 and 16 free\nS1 1 Add2 6\nr at 7.0")
+        shown.as_deref() == Some("1 Limit\n6 agents, 10, 16 and 16 free\nS1 Add2\nr at S.0")
     );
 }
 
@@ -67,7 +67,7 @@ fn a_run_stops_where_small_cells_are_short(rt: HostRuntime) {
     assert!(rt;
         shown.as_deref()
             == Some(
-                "0 Full { class: Small, need: 2, free: 1 }\n15 agents, 1, 16 and 16 free\nS1 0 Add2 7\nr at 7.2"
+                "0 Full { class: Small, need: 2, free: 1 }\n15 agents, 1, 16 and 16 free\nS1 Add2\nr at Add.2"
             )
     );
 }
@@ -82,12 +82,12 @@ fn a_run_stops_where_large_cells_are_short(rt: HostRuntime) {
     assert!(rt;
         shown.as_deref()
             == Some(
-                "0 Full { class: Large, need: 2, free: 1 }\n18 agents, 13, 1 and 16 free\nZ0 0 Make1 1\nr at 2.0\ns at 1.1"
+                "0 Full { class: Large, need: 2, free: 1 }\n18 agents, 13, 1 and 16 free\nZ0 Make1\nr at Row.0\ns at Make.1"
             )
     );
     let shown = seen(rt.alloc(), &[LARGE_AGENTS], &Ending(100, 17));
     assert!(rt;
-        shown.as_deref() == Some("1 Normal\n19 agents, 15, 0 and 17 free\nr at 2.0\ns at 18.0")
+        shown.as_deref() == Some("1 Normal\n19 agents, 15, 0 and 17 free\nr at Row.0\ns at Row.0")
     );
 }
 
@@ -101,12 +101,12 @@ fn a_run_stops_where_wide_cells_are_short(rt: HostRuntime) {
     assert!(rt;
         shown.as_deref()
             == Some(
-                "0 Full { class: Wide, need: 2, free: 1 }\n18 agents, 13, 16 and 1 free\nZ0 0 Make1 1\nr at 2.0\ns at 1.1"
+                "0 Full { class: Wide, need: 2, free: 1 }\n18 agents, 13, 16 and 1 free\nZ0 Make1\nr at Row.0\ns at Make.1"
             )
     );
     let shown = seen(rt.alloc(), &[WIDE_AGENTS], &Ending(100, 17));
     assert!(rt;
-        shown.as_deref() == Some("1 Normal\n19 agents, 15, 17 and 0 free\nr at 2.0\ns at 18.0")
+        shown.as_deref() == Some("1 Normal\n19 agents, 15, 17 and 0 free\nr at Row.0\ns at Row.0")
     );
 }
 

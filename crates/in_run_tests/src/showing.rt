@@ -17,34 +17,32 @@ fn shown_cells(alloc: Global, machine: &Machine) -> Result<String, AllocError> {
     )
 }
 
-/// A pair of the queue by its agents' cells, symbols and numbers of auxiliary ports.
+/// A pair of the queue by its agents' symbols and numbers of auxiliary ports. Which cells they have is open.
 fn shown_pair(alloc: Global, machine: &Machine, number: u32) -> Result<String, AllocError> {
     if number >= machine.pairs() {
         return Ok(String::new(alloc));
     }
     let (one, other) = machine.pair(number);
-    let first = format!(in alloc;
-        "{}{} {}",
-        machine.symbol_name(one),
-        machine.arity(one),
-        one.0
-    )?;
+    let first = format!(in alloc; "{}{}", machine.symbol_name(one), machine.arity(one))?;
     format!(in alloc;
-        "{first} {}{} {}",
+        "{first} {}{}",
         machine.symbol_name(other),
-        machine.arity(other),
-        other.0
+        machine.arity(other)
     )
 }
 
-/// A free end by its name and the port or free end that its wire leads to.
+/// A free end by its name and the port, of an agent by its symbol, or free end that its wire leads to.
 fn shown_free(alloc: Global, machine: &Machine, number: u32) -> Result<String, AllocError> {
     if number >= machine.free_ends() {
         return Ok(String::new(alloc));
     }
     match machine.partner(End::Free(number)) {
         End::Cell(cell, place) => {
-            format!(in alloc; "{} at {}.{place}", machine.free_name(number), cell.0)
+            format!(in alloc;
+                "{} at {}.{place}",
+                machine.free_name(number),
+                machine.symbol_name(cell)
+            )
         }
         End::Free(other) => format!(in alloc; "{} at end {other}", machine.free_name(number)),
     }
@@ -91,30 +89,29 @@ fn shown(alloc: Global, machine: &Machine) -> Result<String, AllocError> {
 }
 
 /// The interaction of the first pair, where there is one and its cells are free.
-fn step(alloc: Global, machine: &mut Machine) -> Result<(), AllocError> {
+fn step(machine: &mut Machine) {
     if machine.pairs() == 0 {
-        return Ok(());
+        return;
     }
     let need = machine.need_of(0);
     for class in CellClass::ALL {
         if machine.free(class) < need.of(class) {
-            return Ok(());
+            return;
         }
     }
-    machine.step(alloc, 0)
+    machine.step(0);
 }
 
 /// So many steps of the first pair.
-fn steps_of(alloc: Global, machine: &mut Machine, steps: u32) -> Result<(), AllocError> {
+fn steps_of(machine: &mut Machine, steps: u32) {
     for _ in 0..steps {
-        step(alloc, machine)?;
+        step(machine);
     }
-    Ok(())
 }
 
 /// What a machine shows after so many steps of the first pair.
 fn shown_after(alloc: Global, machine: &mut Machine, steps: u32) -> Option<String> {
-    steps_of(alloc, machine, steps).ok()?;
+    steps_of(machine, steps);
     shown(alloc, machine).ok()
 }
 

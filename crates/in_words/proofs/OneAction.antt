@@ -4,7 +4,8 @@ use Rattle.std.proofs.lemmas.Option.{same_Some}
 use Rattle.std.specs.Prelude.{codes}
 use Rattle.std.proofs.Math.Bridge.{le_prop}
 use Rattle.clap.specs.Words.{Row, Text}
-use Rattle.in_run.specs.Limiting.{least_cells, most_cells, most_interactions}
+use Rattle.in_reducer.specs.Limiting.{least_cells, most_cells}
+use Rattle.in_run.specs.Limiting.{most_interactions}
 use Rattle.in_run.specs.declared.limits.Limits.{Limits}
 use Rattle.in_words.specs.Asking.{Names}
 use Rattle.in_words.specs.Laws.{WordsAskForOneAction}

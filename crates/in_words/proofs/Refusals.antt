@@ -7,7 +7,8 @@ use Rattle.clap.specs.declared.builder.value_parser.ValueParser.TheVariants.{Uns
 use Rattle.clap.specs.declared.error.kind.ErrorKind.TheVariants.{ValueValidation}
 use Rattle.clap.proofs.OnLiterals.{clap_on_literals}
 use Rattle.clap.proofs.ValueTestLemmas.{accepts-Accepts}
-use Rattle.in_run.specs.Limiting.{least_cells, most_cells, most_interactions}
+use Rattle.in_reducer.specs.Limiting.{least_cells, most_cells}
+use Rattle.in_run.specs.Limiting.{most_interactions}
 use Rattle.in_words.specs.Asking.{Spells, faults}
 use Rattle.in_words.specs.Laws.{HelpIsAsked, NumbersOutOfRangeAreWrong, OtherWordsAreWrong}
 

@@ -3,7 +3,8 @@ use Rattle.std.specs.Prelude.{ℕ, true, [], ◌∷◌, Some, codes}
 use Rattle.clap.specs.Words.{App, Rule, Text, new_app, new_rule, with_rule, with_subcommand}
 use Rattle.clap.specs.declared.builder.action.ArgAction.TheVariants.{Set}
 use Rattle.clap.specs.declared.builder.value_parser.ValueParser.TheVariants.{Unsigned}
-use Rattle.in_run.specs.Limiting.{most_interactions, least_cells, most_cells}
+use Rattle.in_run.specs.Limiting.{most_interactions}
+use Rattle.in_reducer.specs.Limiting.{least_cells, most_cells}
 
 -- the option `--name N`, where N is a number from least to most; a command line without it has the usual text
 abbrev pub number_option : Text → Text → ℕ → ℕ → Rule

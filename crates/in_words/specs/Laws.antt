@@ -2,7 +2,8 @@
 use Rattle.std.specs.Prelude.{◌≡◌, ◌<◌, ◌⊎◌, ◌++◌, ℕ, List, [], ◌∷◌, codes}
 use Rattle.clap.specs.Words.{Text}
 use Rattle.clap.specs.declared.error.kind.ErrorKind.TheVariants.{ArgumentConflict, DisplayHelp, MissingSubcommand, UnknownArgument, ValueValidation}
-use Rattle.in_run.specs.Limiting.{least_cells, most_cells, most_interactions}
+use Rattle.in_reducer.specs.Limiting.{least_cells, most_cells}
+use Rattle.in_run.specs.Limiting.{most_interactions}
 use Rattle.in_run.specs.declared.limits.Limits.{Limits}
 use Rattle.in_words.specs.Asking.{AsksFor, Spells, faults}
 use Rattle.in_words.specs.declared.action.Action.{Action}

@@ -1,7 +1,7 @@
 use Rattle.std.proofs.Common.{◌<◌, ℕ, subst}
-use Rattle.in_run.specs.Runs.{IsStart}
+use Rattle.in_reducer.specs.Starts.{IsStart}
 use Rattle.in_run.proofs.OneEnd.{way_ended}
-use Rattle.in_run.proofs.OnItsWay.{begins, goes_on, not_err}
+use Rattle.in_run.proofs.OnItsWay.{begins, goes_on}
 use Rattle.in_run.proofs.running.run.Goals as goal
 
 pub loop-stop-init : goal.loop-stop-init
@@ -10,7 +10,7 @@ loop-stop-init c = begins c.args.checked.now c.args.limits.cells c.args.limits.l
 pub loop-stop-preserved : goal.loop-stop-preserved
 loop-stop-preserved c =
     goes_on c.args.checked.now c.args.limits.cells c.args.limits.limit c.loop-stop.interactions c.loop-stop.machine c.step.new.self c.loop-stop.invariant
-    (not_err c.step.result (c.if-is_err.ensures {u = tt}).value c.step.ensures.ok) (subst (λ (n : ℕ). c.loop-stop.interactions < n) c.limit.ensures.limit (c.in_default.ensures {u = tt}).1)
+    c.step.ensures.steps (subst (λ (n : ℕ). c.loop-stop.interactions < n) c.limit.ensures.limit (c.in_default.ensures {u = tt}).1)
 
 pub returns-in-Some-clause-order : goal.returns-in-Some-clause-order
 returns-in-Some-clause-order c = λ normal.

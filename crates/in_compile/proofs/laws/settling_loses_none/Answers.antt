@@ -1,0 +1,5 @@
+use Rattle.in_compile.proofs.Settled.{settled}
+use Rattle.in_compile.proofs.laws.settling_loses_none.Goals as goal
+
+pub returns : goal.returns
+returns c = settled

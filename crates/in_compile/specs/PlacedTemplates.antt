@@ -1,0 +1,11 @@
+-- Placed templates: the right member of a rule in leased cells, with the template that it is of.
+use Rattle.in_compile.specs.Placing.{PlacedParts, IsPlaced}
+use Rattle.in_compile.specs.Templates.{TemplateParts}
+
+pub record PlacedTemplateParts : Type 0 where
+  pub template : TemplateParts
+  pub placed : PlacedParts
+
+-- what is placed is the template's right member
+abbrev pub IsOfTemplate : PlacedTemplateParts → Type 0
+IsOfTemplate p = IsPlaced p.template.member p.placed

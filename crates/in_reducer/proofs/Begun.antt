@@ -1,0 +1,44 @@
+-- What a reducer begins with: tools that hold nothing, and what its free ends lead to.
+use Rattle.std.proofs.Common.{◌≡◌, ◌<◌, ◌≤◌, ◌+◌, ℕ, Some, List, [], ◌∷◌, ◌++◌, length, map, take, set, slice_get, vec_capacity, sym, ap, subst, ◌∙◌}
+use Rattle.std.proofs.lemmas.List.{take_more_set}
+use Rattle.in_arena.specs.Arenas.{ArenaView}
+use Rattle.in_arena.specs.Bags.{empty_bag}
+use Rattle.in_arena.specs.Changes.{HasAllCells}
+use Rattle.in_arena.specs.declared.content.CellNo.{CellNo}
+use Rattle.in_arena.specs.declared.content.End.{End}
+use Rattle.in_arena.proofs.Bags.{empty_is_of}
+use Rattle.in_net.specs.NetFaults.{max_member_agents}
+use Rattle.in_compile.specs.declared.cells.Need.{Need}
+use Rattle.in_compile.specs.declared.joints.Joint.{Joint}
+use Rattle.in_compile.specs.Placing.{PlacedParts}
+use Rattle.in_compile.specs.Stocks.{StockParts, empty_stock}
+use Rattle.in_compile.proofs.Stocked.{none_in_empty}
+use Rattle.in_compile.proofs.Taken.{mapped_more}
+use Rattle.in_reducer.specs.declared.tools.Tools.{Tools}
+use Rattle.in_reducer.specs.Inside.{AreTools, most_ends}
+use Rattle.in_reducer.specs.Placed.{IsNoneOf}
+use Rattle.in_reducer.specs.Sides.{inner_of}
+
+none_of : (b a : ArenaView) → b ≡ empty_bag a → IsNoneOf b a
+none_of b a e = subst (λ (v : ArenaView). IsNoneOf v a) (sym e) ((empty_is_of a).0, none_in_empty a)
+
+-- tools of an arena that hold nothing
+pub are_tools : (x : Tools) (a : ArenaView) (need : Need) (room : ℕ) → x.stock ≡ empty_stock a need → x.placed ≡ record { cells = []; bag = empty_bag a; room = room } → max_member_agents ≤ room →
+    x.made.items ≡ [] → most_ends ≤ vec_capacity x.made → AreTools x a
+are_tools x a need room stock placed fits none made = record {
+  stock = none_of x.stock.bag a stock_bag;
+  stock_all = subst (λ (v : ArenaView). HasAllCells v) (sym stock_bag) (empty_is_of a).1;
+  placed = none_of x.placed.bag a (ap (λ (p : PlacedParts). p.bag) placed);
+  room = subst (λ (n : ℕ). max_member_agents ≤ n) (sym (ap (λ (p : PlacedParts). p.room) placed)) fits;
+  made = none;
+  made_room = made;
+}
+  where
+    stock_bag : x.stock.bag ≡ empty_bag a
+    stock_bag = ap (λ (s : StockParts). s.bag) stock
+
+-- one free end more leads where its joint does
+pub one_more_end : (ns : List CellNo) (joints : List Joint) (k : ℕ) (j : Joint) (es : List End) (v : End) → slice_get joints k ≡ Some j → k < length es → v ≡ inner_of ns 0 j →
+    take k es ≡ map (inner_of ns 0) (take k joints) → take (k + 1) (set es k v) ≡ map (inner_of ns 0) (take (k + 1) joints)
+one_more_end ns joints k j es v stands low is before =
+    mapped_more (inner_of ns 0) joints k j [] (take k es) (take (k + 1) (set es k v)) stands before (take_more_set es k v low ∙ ap (λ (z : End). take k es ++ z ∷ []) is)

@@ -1,0 +1,81 @@
+-- What a reducer keeps of its fields, at its program's net.
+use Rattle.std.proofs.Common.{◌≡◌, ◌≤◌, ◌+◌, ◌*◌, ℕ, Some, List, length, map, take, replicate, slice_get, sym, subst, ◌∙◌, arith}
+use Rattle.std.specs.VecDeque.{deque_capacity}
+use Rattle.std.proofs.lemmas.Option.{slice_get_within}
+use Rattle.in_base.proofs.Each.{at_index}
+use Rattle.in_arena.specs.Arenas.{ArenaView}
+use Rattle.in_arena.specs.Classes.{classes}
+use Rattle.in_arena.specs.States.{Vacant, IsLeased}
+use Rattle.in_arena.specs.declared.content.CellClass.{CellClass}
+use Rattle.in_arena.specs.declared.content.CellNo.{CellNo}
+use Rattle.in_interaction.specs.Queues.{both}
+use Rattle.in_check.specs.Checking.{IsAccepted}
+use Rattle.in_check.specs.Programs.{Program}
+use Rattle.in_compile.specs.Cells.{count_of}
+use Rattle.in_compile.specs.Members.{MemberParts, IsMemberOf}
+use Rattle.in_compile.specs.Templates.{TemplateParts, TemplatesParts, AreTemplatesOf}
+use Rattle.in_reducer.specs.declared.reducer.Reducer.TheInside.{Inside}
+use Rattle.in_reducer.specs.Inside.{AreTools, AreToolsFor, IsKept, most_ends, reducer_view}
+use Rattle.in_reducer.specs.Interacting.{named}
+use Rattle.in_reducer.specs.Limiting.{most_cells}
+use Rattle.in_reducer.specs.Placed.{IsNoneOf, IsPut}
+use Rattle.in_reducer.specs.Sides.{inner_of}
+use Rattle.in_reducer.specs.Starts.{IsStart}
+use Rattle.in_reducer.proofs.StartNet.{cells_after, is_start, net_in_cells, own_many}
+use Rattle.in_reducer.proofs.Started.{start_reducer}
+
+-- what is read as the start is the member of the program's net
+pub member_is : (p : Program) (ts : TemplatesParts) (m : MemberParts) → AreTemplatesOf p ts → m ≡ ts.start → IsMemberOf p.tables p.net m
+member_is p ts m of e = subst (IsMemberOf p.tables p.net) (sym e) of.start
+
+module _ (text : List ℕ) (x : Inside) (accepted : IsAccepted text x.checked.now) (ts : TemplatesParts) (of : AreTemplatesOf x.checked.now ts) (m : MemberParts) (is : m ≡ ts.start) (cells : ℕ) (few : cells ≤ most_cells)
+    (a : ArenaView) (same : a.cells ≡ cells) (empty : a.states ≡ replicate (length classes * cells) Vacant) (ns : List CellNo) (put : IsPut m ns a x.arena)
+    (first : take (length m.joints) x.ends.items ≡ map (inner_of ns 0) m.joints) (long : length m.joints + most_ends + most_ends ≤ length x.ends.items) (queue : x.queue.items ≡ map (both (named ns)) m.pairs) where
+  member : IsMemberOf x.checked.now.tables x.checked.now.net m
+  member = member_is x.checked.now ts m of is
+
+  pub starts : IsStart x.checked.now cells (reducer_view x)
+  starts = is_start text x.checked.now accepted m member ns a x.arena cells same empty put x.ends.items first long x.queue.items queue
+
+  module _ (room : length classes * cells ≤ 2 * deque_capacity x.queue + 1) (tools : AreTools x.tools a) (fit : (k : ℕ) (p : TemplateParts) (c : CellClass) → slice_get ts.templates k ≡ Some p → count_of p.member.need c ≤ count_of x.tools.stock.room c) where
+    still_none : (b : ArenaView) → IsNoneOf b a → IsNoneOf b x.arena
+    still_none b h = (
+      record {
+        memory = h.0.memory ∙ sym put.memory;
+        cells = h.0.cells ∙ sym put.cells;
+        leased = λ n here. absurd (here (subst IsLeased (sym (h.1 n)) tt));
+      },
+      h.1,
+    )
+
+    tools_there : AreTools x.tools x.arena
+    tools_there = record {
+      stock = still_none x.tools.stock.bag tools.stock;
+      stock_all = tools.stock_all;
+      placed = still_none x.tools.placed.bag tools.placed;
+      room = tools.room;
+      made = tools.made;
+      made_room = tools.made_room;
+    }
+
+    tools_for : AreToolsFor x.checked.now x.tools
+    tools_for k r c e =
+        let l = slice_get_within x.checked.now.rules k r e in
+        let q = at_index ts.templates k (let n = of.templates.count_is in omega (arith, l, n)) in
+        let need = (of.templates.each k r q.0 e q.1).member.need c in
+        let f = fit k q.0 c q.1 in
+        omega (arith, need, f)
+
+    cells_there : x.arena.cells ≡ cells
+    cells_there = cells_after text x.checked.now accepted m member ns a x.arena cells same empty put
+
+    pub is_kept : IsKept x
+    is_kept = record {
+      reducer = start_reducer text x.checked.now accepted cells few (reducer_view x) starts;
+      net = net_in_cells text x.checked.now accepted m member ns a x.arena cells same empty put;
+      few = (let e = cells_there in omega (arith, e, few));
+      ends = (let e = own_many text x.checked.now accepted m member in omega (arith, e, long));
+      tools = tools_there;
+      tools_for = tools_for;
+      queue = (let e = cells_there in omega (arith, e, room));
+    }

@@ -1,0 +1,91 @@
+-- After an interaction no cell is on lease, and each live one is of the class of its agent's symbol.
+use Rattle.std.proofs.Common.{◌≡◌, inl, inr, ◌<◌, ◌*◌, ℕ, true, Some, None, List, length, get_or, refl, sym, ap, subst, ◌∙◌, get_or-set_same, get_or-set_other, arith}
+use Rattle.std.proofs.Math.ListN.{get_or-map}
+use Rattle.std.proofs.lemmas.List.{length-map}
+use native.Mathlib.Decide.{ℕ_discrete}
+use Rattle.in_arena.specs.Arenas.{ArenaView, changed, state_at}
+use Rattle.in_arena.specs.Changes.{HasAllCells}
+use Rattle.in_arena.specs.Classes.{classes, IsNumberOf}
+use Rattle.in_arena.specs.States.{State, Vacant, Leased, Live, IsLeased, IsLive, word_of}
+use Rattle.in_arena.specs.declared.content.CellClass.{CellClass}
+use Rattle.in_arena.specs.declared.content.CellNo.{CellNo}
+use Rattle.in_arena.proofs.Arenas.{state_inside}
+use Rattle.in_arena.proofs.Classes.{numbers_apart}
+use Rattle.in_symbols.specs.Tables.{Tables}
+use Rattle.in_net.specs.Built.{IsOver}
+use Rattle.in_net.specs.Parts.{Parts}
+use Rattle.in_joining.specs.Cells.{KeepsCells, outline}
+use Rattle.in_joining.proofs.Kept.{word_kept}
+use Rattle.in_compile.specs.Cells.{is_of}
+use Rattle.in_compile.specs.Members.{MemberParts, IsMemberOf}
+use Rattle.in_reducer.specs.Placed.{IsPut}
+use Rattle.in_reducer.specs.Standing.{IsNetIn}
+use Rattle.in_reducer.proofs.Laid as laid
+use Rattle.in_reducer.proofs.Laid.{in_or_out}
+
+-- what a cell is, as far as this asks
+abbrev IsGood : Tables → ArenaView → ℕ → State → Type 0
+IsGood t a n x = (IsLeased x → n < length a.states → ⊥) × ((c : CellClass) (s : ℕ) → IsNumberOf a.cells c n → word_of x ≡ Some s → is_of t c s ≡ true)
+
+pub net_in : (t : Tables) (a b : ArenaView) → HasAllCells a → b.cells ≡ a.cells → length b.states ≡ length a.states → ((n : ℕ) → IsGood t a n (state_at b n)) → IsNetIn t b
+net_in t a b all cells many good = record {
+  all = (let f = ap (λ (z : ℕ). length classes * z) cells in omega (arith, all, many, f));
+  none = λ n l leased. (good n).0 leased (subst (λ (z : ℕ). n < z) many l);
+  classed = λ c n s at w. (good n).1 c s (subst (λ (z : ℕ). IsNumberOf z c n) cells at) w;
+}
+
+good_of : (t : Tables) (a : ArenaView) → IsNetIn t a → (n : ℕ) → IsGood t a n (state_at a n)
+good_of t a h n = ((λ leased l. h.none n l leased), (λ c s at w. h.classed c n s at w))
+
+good_vacant : (t : Tables) (a : ArenaView) (n : ℕ) → IsGood t a n Vacant
+good_vacant t a n = ((λ leased l. absurd leased), (λ c s at w. absurd (let f : None ≡ Some s = w in cc)))
+
+-- a retired cell, and others as they were
+pub retired_good : (t : Tables) (a b : ArenaView) (y : ℕ) → length b.states ≡ length a.states → IsLive (state_at b y) → ((n : ℕ) → IsGood t a n (state_at b n)) → (n : ℕ) → IsGood t a n (state_at (changed b y Vacant) n)
+retired_good t a b y many live good n = elim (ℕ_discrete n y) [
+  | yes e ↦ subst (IsGood t a n) (sym (ap (state_at (changed b y Vacant)) e ∙ get_or-set_same b.states y Vacant Leased (state_inside b y (λ f. (subst IsLive f live))))) (good_vacant t a n)
+  | no ne ↦ subst (IsGood t a n) (sym (get_or-set_other b.states y n Vacant Leased ne)) (good n)
+]
+
+module _ (t : Tables) (n : Parts) (over : IsOver t n) (m : MemberParts) (of : IsMemberOf t n m) (ns : List CellNo) (a b : ArenaView) (put : IsPut m ns a b) (net : IsNetIn t a) where
+  pub put_good : (y : ℕ) → IsGood t a y (state_at b y)
+  put_good y = go (in_or_out ns y)
+    where
+      go : laid.InOrOut ns y → IsGood t a y (state_at b y)
+      go (inr out) = subst (IsGood t a y) (sym (put.others y out)) (good_of t a net y)
+      go (inl at) =
+          let x = laid.whose t n over m of ns a b put at.0 y at.1 in
+          let there = put.each at.0 x.0 (record { 0 = y }) x.1 at.1 in
+          let number : IsNumberOf a.cells x.0.class y = subst (λ (z : ℕ). IsNumberOf z x.0.class y) put.cells there.0 in (
+            (λ leased l. subst IsLeased there.2 leased),
+            (λ c s in_class w. (
+                let same : x.0.symbol.0 ≡ s = (let f : Some x.0.symbol.0 ≡ Some s = sym (ap word_of there.2) ∙ w in cc) in
+                let one : x.0.class ≡ c = numbers_apart a.cells y x.0.class c number in_class in
+                subst (λ (d : CellClass). is_of t d s ≡ true) one (subst (λ (z : ℕ). is_of t x.0.class z ≡ true) same (of.classes at.0 x.0 x.1))
+                )),
+          )
+
+-- ---- joining
+
+leased_outline : (x : State) → IsLeased x → outline x ≡ Leased
+leased_outline Vacant h = absurd h
+leased_outline Leased h = refl
+leased_outline (Live w es) h = absurd h
+
+outline_leased : (x : State) → outline x ≡ Leased → IsLeased x
+outline_leased Vacant e = absurd (subst IsLeased (sym e) tt)
+outline_leased Leased e = tt
+outline_leased (Live w es) e = absurd (subst IsLeased (sym e) tt)
+
+module _ (a b : ArenaView) (kept : KeepsCells a b) where
+  pub as_many : length b.states ≡ length a.states
+  as_many = sym (length-map b.states outline) ∙ ap length kept.outlines ∙ length-map a.states outline
+
+  same_outline : (n : ℕ) → outline (state_at b n) ≡ outline (state_at a n)
+  same_outline n = sym (get_or-map outline b.states n Leased) ∙ ap (λ (xs : List State). get_or xs n Leased) kept.outlines ∙ get_or-map outline a.states n Leased
+
+  pub kept_good : (t : Tables) (first : ArenaView) → ((n : ℕ) → IsGood t first n (state_at a n)) → (n : ℕ) → IsGood t first n (state_at b n)
+  kept_good t first good n = (
+    (λ leased l. (good n).0 (outline_leased (state_at a n) (sym (same_outline n) ∙ leased_outline (state_at b n) leased)) l),
+    (λ c s at w. (good n).1 c s at (sym (word_kept a b kept n) ∙ w)),
+  )

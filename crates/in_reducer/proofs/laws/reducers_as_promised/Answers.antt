@@ -1,0 +1,5 @@
+use Rattle.in_reducer.proofs.StepsOn as proved
+use Rattle.in_reducer.proofs.laws.reducers_as_promised.Goals as goal
+
+pub returns : goal.returns
+returns c = proved.reducers_as_promised

@@ -1,0 +1,5 @@
+use Rattle.in_reducer.proofs.StepsOn as proved
+use Rattle.in_reducer.proofs.laws.steps_keep_reducers.Goals as goal
+
+pub returns : goal.returns
+returns c = proved.steps_keep_reducers

@@ -1,0 +1,14 @@
+use Rattle.std.proofs.Common.{◌<◌, IsSome, length, sym, subst}
+use Rattle.in_net.specs.Parts.{symbol_in}
+use Rattle.in_reducer.specs.Inside.{reducer_view}
+use Rattle.in_reducer.specs.Machines.{MachineParts, parts_of}
+use Rattle.in_reducer.proofs.Looked.{read_at, have_symbols}
+use Rattle.in_reducer.proofs.reducer.Reducer.pair.Goals as goal
+
+pub returns-clause-agents : goal.returns-clause-agents
+returns-clause-agents c =
+    let k = c.args.number in
+    let q = c.index.result.now in
+    let low = subst (λ (m : MachineParts). k < length m.queue) (sym c.self.view_is) c.requires in
+    subst (λ (m : MachineParts). IsSome (symbol_in (parts_of m) q.0) × IsSome (symbol_in (parts_of m) q.1)) c.self.view_is
+    (have_symbols c.self.inside.checked.now.tables (parts_of (reducer_view c.self.inside)) q (c.self.invariant.reducer.queue.pairs k q (read_at c.self.inside.queue.items k q low c.index.ensures)))

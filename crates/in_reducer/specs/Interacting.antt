@@ -1,0 +1,49 @@
+-- One interaction over cells: what it is of, and what it leaves.
+use Rattle.std.specs.Prelude.{◌≡◌, ◌+◌, ◌≤◌, ℕ, List, length, take, slice_index_or}
+use Rattle.in_arena.specs.Arenas.{ArenaView}
+use Rattle.in_arena.specs.declared.content.CellNo.{CellNo}
+use Rattle.in_arena.specs.declared.content.End.{End}
+use Rattle.in_symbols.specs.Tables.{Tables}
+use Rattle.in_net.specs.declared.nets.AgentNo.{AgentNo}
+use Rattle.in_net.specs.Built.{IsOver}
+use Rattle.in_net.specs.Interactions.{IsRedex, redex_at}
+use Rattle.in_net.specs.Nets.{IsNet, net_of, signature_of}
+use Rattle.in_net.specs.Parts.{Parts}
+use Rattle.in_net.specs.Rules.{RuleParts}
+use Rattle.in_joining.specs.Between.{Interaction, IsDone, AddsMade}
+use Rattle.in_joining.specs.Shown.{IsShown}
+use Rattle.in_compile.specs.Templates.{TemplateParts, IsTemplateOf}
+use Rattle.in_reducer.specs.declared.sides.Pair.{Pair}
+
+-- a net, and two agents of it that interact by a rule
+pub record Setting : Type 0 where
+  pub net : Parts
+  pub rule : RuleParts
+  pub one : AgentNo
+  pub two : AgentNo
+
+-- the agents of a right member have the numbers of these cells
+abbrev pub named : List CellNo → ℕ → ℕ
+named ns k = (slice_index_or ns k (record { 0 = 0 })).0
+
+abbrev pub interaction_of : Setting → List CellNo → Interaction
+interaction_of s ns = record { net = s.net; rule = s.rule; one = s.one; two = s.two; name = named ns }
+
+-- the cells show the net, in which the pair is one, and the template is that of its rule
+pub record IsAbout (t : Tables) (s : Setting) (p : TemplateParts) (pair : Pair) (own : ℕ) (a : ArenaView) (ends : List End) : Type 0 where
+  pub net : IsNet (signature_of t) (net_of s.net)
+  pub over : IsOver t s.net
+  pub inside : IsNet (signature_of t) (net_of s.rule.member)
+  pub member_over : IsOver t s.rule.member
+  pub redex : IsRedex (signature_of t) (net_of s.net) (redex_at s.rule s.one.0 s.two.0)
+  pub template : IsTemplateOf t s.rule p
+  pub one : pair.one.0 ≡ s.one.0
+  pub two : pair.other.0 ≡ s.two.0
+  pub first_ends : pair.first_ends ≡ p.first_ends
+  pub own_ends : own ≡ length s.net.free
+  pub shown : IsShown a (take own ends) (net_of s.net)
+  pub room : own + length p.member.joints + length p.member.joints ≤ length ends
+
+-- the cells show the net after the interaction, and the pairs that it makes over boundary ends were added
+abbrev pub IsInteracted : Tables → Setting → ℕ → List CellNo → ArenaView → List End → List (ℕ × ℕ) → List (ℕ × ℕ) → Type 0
+IsInteracted t s own ns a ends old new = IsDone t (interaction_of s ns) own a ends × AddsMade t (interaction_of s ns) old new

@@ -1,0 +1,12 @@
+pub mod Inside
+pub mod Interacting
+pub mod Laws
+pub mod Limiting
+pub mod Machines
+pub mod Placed
+pub mod Reducers
+pub mod Sides
+pub mod Standing
+pub mod Starts
+pub mod Steps
+pub mod Templates

@@ -1,0 +1,41 @@
+-- What contracts see of a reducer, and of the machine around it. Lafont 1990 reduces a net by interactions of its active pairs, in any
+-- order; the queue of pairs and the cells are this project's own choice.
+use Rattle.std.specs.Prelude.{◌≡◌, ◌+◌, ℕ, List, Option}
+use Rattle.in_arena.specs.declared.content.CellClass.{CellClass}
+use Rattle.in_arena.specs.declared.content.End.{End}
+use Rattle.in_arena.specs.declared.content.End.TheVariants as end
+use Rattle.in_net.specs.declared.nets.Cell.{Cell}
+use Rattle.in_net.specs.declared.nets.FreeEnd.{FreeEnd}
+use Rattle.in_net.specs.declared.nets.Point as points
+use Rattle.in_net.specs.declared.nets.Point.TheVariants as point
+use Rattle.in_interaction.specs.Listing.{unlisted}
+use Rattle.in_net.specs.Parts.{Parts}
+use Rattle.in_check.specs.Plain.{PlainParts}
+use Rattle.in_check.specs.Programs.{Program}
+use Rattle.in_compile.specs.declared.cells.Need.{Need}
+use Rattle.in_compile.specs.Cells.{agents_of, count_of}
+
+-- its program, the agent of each cell by number, the free ends, the active pairs in their order, and how many cells of each class are free
+pub record MachineParts : Type 0 where
+  pub program : Program
+  pub agents : List (Option Cell)
+  pub free : List FreeEnd
+  pub queue : List (ℕ × ℕ)
+  pub vacant : Need
+
+-- the net that it shows; its wires are those of the agents' and free ends' partners
+abbrev pub parts_of : MachineParts → Parts
+parts_of m = unlisted m.agents m.free
+
+-- .. with its program
+abbrev pub plain_of : MachineParts → PlainParts
+plain_of m = record { program = m.program; net = parts_of m }
+
+-- the point that an end stands for, a cell having the number of its agent
+abbrev pub point_at : End → points.Point
+point_at (end.Cell c i) = point.Port (record { 0 = c.0 }) i
+point_at (end.Free k) = point.Free k
+
+-- of each class it has so many cells, free ones and those of its agents
+abbrev pub HasCells : ℕ → MachineParts → Type 0
+HasCells cells m = (c : CellClass) → count_of m.vacant c + agents_of m.program.tables c m.agents ≡ cells

@@ -1,0 +1,39 @@
+-- A net in cells: its agents are what live cells hold, and its free ends lead to the ends of a list.
+use Rattle.std.specs.Prelude.{◌≡◌, ℕ, true, List, [], ◌∷◌, map, Option, Some, None}
+use Rattle.in_arena.specs.Arenas.{ArenaView, NoneLeased, free_of, state_at}
+use Rattle.in_arena.specs.Changes.{HasAllCells}
+use Rattle.in_arena.specs.Classes.{IsNumberOf}
+use Rattle.in_arena.specs.States.{State, Vacant, Leased, Live, word_of}
+use Rattle.in_arena.specs.declared.content.CellClass.{CellClass}
+use Rattle.in_arena.specs.declared.content.CellClass.TheVariants.{Small, Large, Wide}
+use Rattle.in_arena.specs.declared.content.End.{End}
+use Rattle.in_symbols.specs.Tables.{Tables}
+use Rattle.in_net.specs.declared.nets.Cell.{Cell}
+use Rattle.in_net.specs.declared.nets.FreeEnd.{FreeEnd}
+use Rattle.in_compile.specs.declared.cells.Need.{Need}
+use Rattle.in_compile.specs.Cells.{is_of}
+use Rattle.in_reducer.specs.Machines.{point_at}
+
+-- the agent that a cell holds
+abbrev pub agent_in : State → Option Cell
+agent_in Vacant = None
+agent_in Leased = None
+agent_in (Live word ends) = Some (record { symbol = record { 0 = word }; ends = map point_at ends })
+
+abbrev pub agents_in : ArenaView → List (Option Cell)
+agents_in a = map agent_in a.states
+
+-- free ends with these names and types, that lead to the first of these ends in turn
+abbrev pub leading_to : List FreeEnd → List End → List FreeEnd
+leading_to [] es = []
+leading_to (f ∷ fs) [] = []
+leading_to (f ∷ fs) (e ∷ es) = record { name = f.name; kind = f.kind; end = point_at e } ∷ leading_to fs es
+
+abbrev pub vacant_in : ArenaView → Need
+vacant_in a = record { small = free_of a Small; large = free_of a Large; wide = free_of a Wide }
+
+-- no cell is on lease, and each live one is of the class of its agent's symbol
+pub record IsNetIn (t : Tables) (a : ArenaView) : Type 0 where
+  pub all : HasAllCells a
+  pub none : NoneLeased a
+  pub classed : (c : CellClass) (n s : ℕ) → IsNumberOf a.cells c n → word_of (state_at a n) ≡ Some s → is_of t c s ≡ true

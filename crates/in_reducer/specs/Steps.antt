@@ -1,0 +1,48 @@
+-- What an interaction needs, and what it does. Lafont 1990: an interaction replaces an active pair by the right member of its rule, and nets
+-- are taken up to the names of their agents. Which pair comes first, and cells, are this project's own choice; which numbers new agents have
+-- is left open.
+use Rattle.std.specs.Prelude.{◌≡◌, ◌+◌, ℕ, List, ◌++◌, map, Some, slice_get, remove}
+use Rattle.in_arena.specs.declared.content.CellClass.{CellClass}
+use Rattle.in_net.specs.declared.nets.AgentNo.{AgentNo}
+use Rattle.in_net.specs.Rules.{RuleParts}
+use Rattle.in_check.specs.Plain.{IsPairAt, IsRuleAt, StepsAs}
+use Rattle.in_interaction.specs.Made.{AreMade}
+use Rattle.in_interaction.specs.Queues.{agents_at, numbers_of}
+use Rattle.in_compile.specs.declared.cells.Need.{Need}
+use Rattle.in_compile.specs.Cells.{agents_of, count_of, IsNeedOf, IsEnough, IsFirstShort}
+use Rattle.in_reducer.specs.Machines.{MachineParts, parts_of, plain_of}
+
+-- ---- what an interaction needs
+
+-- the agents of each class in the right member of the rule of that pair, which have to be free while the pair still stands
+pub record NeedsAt (m : MachineParts) (i : ℕ) (need : Need) : Type 0 where
+  pub pair : ℕ × ℕ
+  pub stands : slice_get m.queue i ≡ Some pair
+  pub number : ℕ
+  pub rule : RuleParts
+  pub is_rule : IsRuleAt (plain_of m) (agents_at pair).0 (agents_at pair).1 number rule
+  pub is_need : IsNeedOf m.program.tables rule.member.cells need
+
+-- what that pair needs is free
+abbrev pub HasRoomAt : MachineParts → ℕ → Type 0
+HasRoomAt m i = (need : Need) × NeedsAt m i need × IsEnough (count_of need) (count_of m.vacant)
+
+-- this is the first class of which that pair needs more cells than are free
+abbrev pub IsShortAt : MachineParts → ℕ → CellClass → ℕ → ℕ → Type 0
+IsShortAt m i c need free = (n : Need) × NeedsAt m i n × IsFirstShort (count_of n) (count_of m.vacant) c × (need ≡ count_of n c) × (free ≡ count_of m.vacant c)
+
+-- ---- one interaction
+
+-- the interaction of the active pair of that number by its rule, where its cells are free: the new agents have any numbers that the net
+-- doesn't have. The pair leaves the queue, and the new pairs come last. Of each class there are as many cells after as before
+pub record StepsAt (m : MachineParts) (i : ℕ) (after : MachineParts) : Type 0 where
+  pub pair : ℕ × ℕ
+  pub stands : slice_get m.queue i ≡ Some pair
+  pub active : IsPairAt (plain_of m) (agents_at pair).0 (agents_at pair).1
+  pub room : HasRoomAt m i
+  pub name : ℕ → ℕ
+  pub step : StepsAs (plain_of m) (agents_at pair).0 (agents_at pair).1 name (plain_of after)
+  pub made : List (AgentNo × AgentNo)
+  pub new : AreMade m.program.tables (parts_of m) step.rule (agents_at pair).0 (agents_at pair).1 name made
+  pub queue : after.queue ≡ remove m.queue i ++ map numbers_of made
+  pub cells : (c : CellClass) → count_of after.vacant c + agents_of m.program.tables c after.agents ≡ count_of m.vacant c + agents_of m.program.tables c m.agents

@@ -1,0 +1,19 @@
+//! Laws over reducers, for whoever reasons above them. No function here does anything.
+
+ghost use Rattle.in_reducer.specs.Laws.{ReducersAsPromised, StepsKeepReducers, StartsAreReducers};
+
+/// What a reducer shows is as promised: typed, with one rule for each active pair, without crossing circle or vicious one, with an end
+/// to each interaction, leading on from each agent, and written whole.
+pub fn reducers_as_promised()
+    ensures { ReducersAsPromised }
+{}
+
+/// An interaction of a reducer leaves one, and is one interaction more of a run, whatever numbers the new agents have.
+pub fn steps_keep_reducers()
+    ensures { StepsKeepReducers }
+{}
+
+/// A start of an accepted program is a reducer: what is said of reducers holds of it.
+pub fn starts_are_reducers()
+    ensures { StartsAreReducers }
+{}

@@ -1,0 +1,82 @@
+// What a reducer shows.
+ghost use Rattle.std.specs.Prelude.{◌≡◌, ◌<◌, length, count_by, is_some, Some, IsSome, slice_get};
+ghost use Rattle.in_net.specs.Parts.{IsPointOf, symbol_in, partner_in};
+ghost use Rattle.in_compile.specs.Cells.{count_of};
+ghost use Rattle.in_reducer.specs.Machines.{parts_of, point_at};
+ghost use Rattle.in_reducer.specs.Reducers.{IsReducer};
+
+use crate::reducer::Reducer;
+use in_arena::{CellClass, CellNo, End};
+use in_check::Checked;
+use in_symbols::SymbolNo;
+
+impl<'a> Reducer<'a> {
+    /// Its program.
+    pub fn checked(&self) -> &'a Checked
+        ensures { result.now ≡ self.now.program }
+    {
+        self.checked
+    }
+
+    /// How many active pairs are left.
+    pub fn pairs(&self) -> u32
+        ensures count { result ≡ length self.now.queue }
+        ensures reducer { IsReducer self.now }
+    {
+        self.queue.len() as u32
+    }
+
+    /// The active pair of that number in the queue, the constructor first.
+    pub fn pair(&self, number: u32) -> (CellNo, CellNo)
+        requires { number < length self.now.queue }
+        ensures pair { slice_get self.now.queue number ≡ Some (result.0.0, result.1.0) }
+        ensures agents { IsSome (symbol_in (parts_of self.now) result.0.0) × IsSome (symbol_in (parts_of self.now) result.1.0) }
+    {
+        let (one, other) = self.queue[number as usize];
+        (CellNo(one), CellNo(other))
+    }
+
+    /// How many cells of this class are free.
+    pub fn free(&self, class: CellClass) -> u32
+        ensures { result ≡ count_of self.now.vacant class }
+    {
+        self.arena.free_count(class)
+    }
+
+    /// How many agents there are.
+    pub fn agents(&self) -> u32
+        ensures { result ≡ count_by is_some self.now.agents }
+    {
+        let mut agents = 0;
+        for class in CellClass::ALL {
+            agents += self.arena.cells() - self.arena.free_count(class);
+        }
+        agents
+    }
+
+    /// What a place of an agent leads to, the principal port being place 0, or what a free end leads to.
+    pub fn partner(&self, end: End) -> End
+        requires { IsPointOf (parts_of self.now) (point_at end) }
+        ensures { partner_in (parts_of self.now) (point_at end) ≡ Some (point_at result) }
+    {
+        match end {
+            End::Cell(cell, place) => self.arena.port(cell, place),
+            End::Free(number) => self.ends[number as usize],
+        }
+    }
+
+    /// The symbol of an agent.
+    pub fn symbol(&self, cell: CellNo) -> SymbolNo
+        requires { IsSome (symbol_in (parts_of self.now) cell.0) }
+        ensures { symbol_in (parts_of self.now) cell.0 ≡ Some result }
+    {
+        SymbolNo(self.arena.symbol(cell))
+    }
+
+    /// How many free ends the net has.
+    pub fn free_ends(&self) -> u32
+        ensures { result ≡ length self.now.free }
+    {
+        self.checked.net().free_ends()
+    }
+}

@@ -1,0 +1,31 @@
+// A member is placed in an arena.
+ghost use Rattle.std.specs.Prelude.{◌≡◌, ◌≤◌, length};
+ghost use Rattle.in_arena.specs.Arenas.{free_of};
+ghost use Rattle.in_arena.specs.Changes.{HasAllCells};
+ghost use Rattle.in_compile.specs.Cells.{count_of, IsEnough};
+ghost use Rattle.in_reducer.specs.Placed.{IsPut, IsNoneOf};
+
+use in_arena::Arena;
+use in_compile::{Member, Placed, Stock, place_into};
+
+/// Places a member in free cells of the arena, each agent in one of its class, with its wires to others of its agents and, at boundary
+/// ends, the numbers of these. Stock and placed cells are of this arena, without a cell, and have room for the member; so are they
+/// afterwards, and `placed` tells the cells. No memory is taken.
+#[inline(always)]
+pub(crate) fn put(member: &Member, arena: &mut Arena, stock: &mut Stock, placed: &mut Placed)
+    requires free { IsEnough (count_of member.now.need) (free_of arena.old) }
+    requires stock { IsNoneOf stock.old.bag arena.old }
+    requires stock_all { HasAllCells stock.old.bag }
+    requires stock_room { IsEnough (count_of member.now.need) (count_of stock.old.room) }
+    requires placed { IsNoneOf placed.old.bag arena.old }
+    requires room { length member.now.agents ≤ placed.old.room }
+    ensures put { IsPut member.now placed.new.cells arena.old arena.new }
+    ensures stock { IsNoneOf stock.new.bag arena.new × (stock.new.room ≡ stock.old.room) }
+    ensures stock_all { HasAllCells stock.new.bag }
+    ensures placed { IsNoneOf placed.new.bag arena.new × (placed.new.room ≡ placed.old.room) }
+{
+    arena.cells();
+    stock.add(arena, member.need());
+    place_into(member, stock, placed);
+    placed.settle(arena);
+}

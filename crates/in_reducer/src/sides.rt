@@ -1,0 +1,90 @@
+// The sides of boundary ends.
+ghost use Rattle.std.specs.Prelude.{◌≡◌, ◌≢◌, ◌≤◌, ◌<◌, ◌+◌, ◌^◌, ℕ, length, Some, slice_get};
+ghost use Rattle.in_arena.specs.declared.content.End.TheVariants.{Cell};
+ghost use Rattle.in_compile.specs.declared.joints.Joint.{Joint as Target};
+ghost use Rattle.in_reducer.specs.Sides.{port_at, end_there, outer_of, inner_of, AreSetBelow, HasPort, HasJoint};
+
+use in_arena::{Arena, CellNo, End};
+use in_compile::{Joint, Placed, Template};
+
+/// Two agents that interact, the one whose ports are the first boundary ends, and how many these are.
+#[derive(Clone, Copy)]
+pub(crate) struct Pair {
+    pub(crate) one: CellNo,
+    pub(crate) other: CellNo,
+    pub(crate) first_ends: u8,
+}
+
+impl Pair {
+    /// The port that is this boundary end.
+    #[inline(always)]
+    fn port(self, end: u8) -> (CellNo, u8)
+        requires { end < 32 }
+        ensures { result ≡ port_at self end }
+    {
+        if end < self.first_ends {
+            (self.one, end + 1)
+        } else {
+            (self.other, end - self.first_ends + 1)
+        }
+    }
+
+    /// The outer side of a boundary end at whose port this end stands, where the sides are numbered from here on.
+    #[inline(always)]
+    fn outer(self, from: u32, end: End) -> End
+        requires from { from < 2 ^ 31 }
+        requires one { end ≢ Cell self.one 0 }
+        requires other { end ≢ Cell self.other 0 }
+        ensures { result ≡ outer_of self from end }
+    {
+        let End::Cell(cell, place) = end else {
+            return end;
+        };
+        if cell == self.one {
+            return End::Free(from + (u32::from(place) - 1));
+        }
+        if cell == self.other {
+            return End::Free(from + u32::from(self.first_ends) + (u32::from(place) - 1));
+        }
+        end
+    }
+}
+
+/// Where a joint of the right member leads, whose agents have these cells.
+#[inline(always)]
+pub(crate) fn inner(placed: &Placed, from: u32, joint: Joint) -> End
+    requires from { from < 2 ^ 31 }
+    requires there { HasJoint placed.now.cells joint }
+    ensures { result ≡ inner_of placed.now.cells from joint }
+{
+    match joint {
+        Joint::ToAgent(agent, place) => End::Cell(placed.cell(agent), place),
+        Joint::ToBoundary(end) => End::Free(from + u32::from(end)),
+    }
+}
+
+/// Sets the sides of all boundary ends of a pair that still stands, after the net's `own` free ends: first the outer sides, then the inner
+/// ones.
+pub(crate) fn set_sides(
+    arena: &Arena,
+    pair: Pair,
+    template: &Template,
+    placed: &Placed,
+    own: u32,
+    ends: &mut [End],
+)
+    requires few { length template.now.member.joints ≤ 32 }
+    requires own { own ≤ 65536 }
+    requires ports { (e : ℕ) → e < length template.now.member.joints → HasPort arena.now pair e }
+    requires joints { (e : ℕ) (j : Target) → slice_get template.now.member.joints e ≡ Some j → HasJoint placed.now.cells j }
+    requires room { own + length template.now.member.joints + length template.now.member.joints ≤ length ends.old }
+    ensures { AreSetBelow pair arena.now template.now.member.joints placed.now.cells own (length template.now.member.joints) (length template.now.member.joints) ends.old ends.new }
+{
+    let many = template.boundary_ends();
+    let inner_sides = own + u32::from(many);
+    for end in 0..many {
+        let (cell, place) = pair.port(end);
+        ends[own as usize + end as usize] = pair.outer(own, arena.port(cell, place));
+        ends[inner_sides as usize + end as usize] = inner(placed, inner_sides, template.joint(end));
+    }
+}

@@ -1,0 +1,139 @@
+-- Starts of a program: each is a machine, and two with as many cells are the same up to the numbers of their agents.
+use Rattle.std.proofs.Common.{◌≡◌, ◌≤◌, ◌+◌, ℕ, zero, IsSome, List, map, refl, sym, ap, subst, ◌∙◌, arith}
+use Rattle.in_arena.specs.declared.content.CellClass.{CellClass}
+use Rattle.in_net.specs.Built.{IsOver}
+use Rattle.in_net.specs.Nets.{Point, Port, Free, Signature, Net, IsPoint, IsNet, net_of, signature_of}
+use Rattle.in_interaction.proofs.Interactions.Alternating.{has_value}
+use Rattle.in_check.specs.Checking.{IsAccepted}
+use Rattle.in_check.specs.Plain.{IsPlain, IsReachedBy}
+use Rattle.in_check.specs.Programs.{Program}
+use Rattle.in_check.specs.Runs.{renamed, IsRenamed, Reached, at_start}
+use Rattle.in_check.specs.Systems.{system_of}
+use Rattle.in_check.proofs.Reached.FromText.{is_sound}
+use Rattle.in_check.proofs.Reached.Moved.{name_after, after_new}
+use Rattle.in_check.proofs.Reached.Renaming.{is_some as there, live}
+use Rattle.in_check.proofs.Reached.Signs.{AreOpposed, opposed_in}
+use Rattle.in_interaction.specs.Queues.{IsQueueOf, both}
+use Rattle.in_reducer.specs.Limiting.{most_cells}
+use Rattle.in_compile.specs.Cells.{agents_of, count_of}
+use Rattle.in_reducer.specs.Machines.{MachineParts, parts_of, plain_of}
+use Rattle.in_rounds.specs.Machines.{IsMachine}
+use Rattle.in_reducer.specs.Starts.{IsStart}
+use Rattle.in_rounds.specs.Same.{AreSame}
+use Rattle.in_compile.proofs.Classes.{same_need}
+use Rattle.in_rounds.proofs.AsMany.{as_many_of}
+use Rattle.in_interaction.proofs.Queues.FirstPairs.{same_first}
+use Rattle.in_rounds.proofs.SameStep.{map_same, map_twice}
+use Rattle.in_reducer.proofs.Started.{lives, queue_moved}
+
+-- ---- a net under two kinds of names
+
+module _ (sig : Signature) (n m k : Net ℕ) (net : IsNet sig n) (h g : ℕ → ℕ) (one : IsRenamed h n m) (two : IsRenamed g n k) where
+  pub between : ℕ → ℕ
+  between = name_after n.symbol h g (λ y. y) net.agents
+
+  pub from_to : (x : ℕ) → IsSome (n.symbol x) → between (h x) ≡ g x
+  unfolding between
+  from_to x a =
+      let s = has_value (n.symbol x) a in
+      after_new n.symbol h g (λ y. y) net.agents x s.0 (net.all x a) s.1 (λ l t is same. one.apart l x (there (n.symbol l) t is) a same)
+
+  point_between : (p : Point ℕ) → IsPoint sig n p → renamed between (renamed h p) ≡ renamed g p
+  point_between (Port x i) a = ap (λ (y : ℕ). Port y i) (from_to x (live sig h n m net one x i a))
+  point_between (Free j) a = refl
+
+  pub renamed_between : IsRenamed between m k
+  renamed_between = record {
+    apart = λ x y a b e. (
+        let s = has_value (m.symbol x) a in
+        let t = has_value (m.symbol y) b in
+        let u = (one.agents x s.0).0 s.1 in
+        let v = (one.agents y t.0).0 t.1 in
+        let in_u = there (n.symbol u.0) s.0 u.2 in
+        let in_v = there (n.symbol v.0) t.0 v.2 in
+        let same : u.0 ≡ v.0 = two.apart u.0 v.0 in_u in_v (sym (from_to u.0 in_u) ∙ ap between u.1 ∙ e ∙ ap between (sym v.1) ∙ from_to v.0 in_v) in
+        sym u.1 ∙ ap h same ∙ v.1
+        );
+    agents = λ y s. (
+      (λ e. (let x = (two.agents y s).0 e in (h x.0, from_to x.0 (there (n.symbol x.0) s x.2) ∙ x.1, (one.agents (h x.0) s).1 (x.0, refl, x.2)))),
+      (λ x. (let z = (one.agents x.0 s).0 x.2 in (two.agents y s).1 (z.0, sym (from_to z.0 (there (n.symbol z.0) s z.2)) ∙ ap between z.1 ∙ x.1, z.2))),
+    );
+    wires = λ u v. (
+      (λ e. (
+          let w = (two.wires u v).0 e in
+          let near = net.points w.0 w.1 w.4 in
+          let far = net.points w.1 w.0 (net.back w.0 w.1 w.4) in
+          (renamed h w.0, renamed h w.1, point_between w.0 near ∙ w.2, point_between w.1 far ∙ w.3, (one.wires (renamed h w.0) (renamed h w.1)).1 (w.0, w.1, refl, refl, w.4))
+          )),
+      (λ x. (
+          let w = (one.wires x.0 x.1).0 x.4 in
+          let near = net.points w.0 w.1 w.4 in
+          let far = net.points w.1 w.0 (net.back w.0 w.1 w.4) in
+          (two.wires u v).1 (w.0, w.1, sym (point_between w.0 near) ∙ ap (renamed between) w.2 ∙ x.2, sym (point_between w.1 far) ∙ ap (renamed between) w.3 ∙ x.3, w.4)
+          )),
+    );
+    free = two.free ∙ sym one.free;
+  }
+
+-- ---- starts
+
+-- so many cells are free
+pub count_at : (p : Program) (cells : ℕ) (m : MachineParts) → IsStart p cells m → (c : CellClass) → count_of m.vacant c + agents_of p.tables c p.net.cells ≡ cells
+count_at p cells m h c = ap (λ (k : ℕ). count_of m.vacant c + k) (as_many_of p.tables c h.name p.net (parts_of m) h.net) ∙ ap (λ (q : Program). count_of m.vacant c + agents_of q.tables c m.agents) (sym h.program) ∙ h.counted c
+
+module _ (text : List ℕ) (p : Program) (accepted : IsAccepted text p) (cells : ℕ) where
+  net_at : IsNet (signature_of p.tables) (net_of p.net)
+  net_at = (is_sound text p accepted).start.net
+
+  opposed_at : AreOpposed p.tables p.net
+  opposed_at = opposed_in p.tables p.net (is_sound text p accepted).start.typed
+
+  module _ (m : MachineParts) (h : IsStart p cells m) where
+    pub start_reached : IsReachedBy (plain_of m) 0
+    start_reached = subst (λ (z : Program). Reached (system_of z) 0 (net_of (parts_of m))) (sym h.program) (at_start h.name (net_of (parts_of m)) h.net)
+
+    pub start_plain : IsPlain (plain_of m)
+    start_plain = record {
+      reached = (zero, start_reached);
+      over = subst (λ (z : Program). IsOver z.tables (parts_of m)) (sym h.program) h.over;
+      names = h.names ∙ ap (λ (z : Program). map (λ f. f.name) z.net.free) (sym h.program);
+    }
+
+    pub start_machine : cells ≤ most_cells → IsMachine m
+    start_machine few = record {
+      accepted = (text, subst (λ (z : Program). IsAccepted text z) (sym h.program) accepted);
+      plain = start_plain;
+      queue = subst (λ (z : Program). IsQueueOf z.tables (parts_of m) m.queue) (sym h.program)
+          (subst (IsQueueOf p.tables (parts_of m)) (sym h.queue) (queue_moved p.tables h.name p.net (parts_of m) net_at h.net opposed_at h.first h.pairs.pairs));
+      cells = (cells, few, h.counted);
+    }
+
+  module _ (m n : MachineParts) (h : IsStart p cells m) (g : IsStart p cells n) where
+    f : ℕ → ℕ
+    f = between (signature_of p.tables) (net_of p.net) (net_of (parts_of m)) (net_of (parts_of n)) net_at h.name g.name h.net g.net
+
+    queue_same : n.queue ≡ map (both f) m.queue
+    unfolding f
+    queue_same =
+        g.queue ∙ ap (map (both g.name)) (same_first p.tables p.net g.first h.first g.pairs h.pairs)
+        ∙ map_same (both g.name) (λ q. both f (both h.name q)) h.first (λ k q e. (
+        let z = h.pairs.pairs.pairs k q e in
+        let a = lives p.tables h.name p.net (parts_of m) net_at h.net opposed_at h.first h.pairs.pairs q z in
+        let one : g.name q.0 ≡ f (h.name q.0) = sym (from_to (signature_of p.tables) (net_of p.net) (net_of (parts_of m)) (net_of (parts_of n)) net_at h.name g.name h.net g.net q.0 a.0) in
+        let two : g.name q.1 ≡ f (h.name q.1) = sym (from_to (signature_of p.tables) (net_of p.net) (net_of (parts_of m)) (net_of (parts_of n)) net_at h.name g.name h.net g.net q.1 a.1) in
+        ap (λ (z : ℕ). let w : ℕ × ℕ = (z, g.name q.1) in w) one ∙ ap (λ (z : ℕ). let w : ℕ × ℕ = (f (h.name q.0), z) in w) two
+        ))
+        ∙ sym (map_twice (both f) (both h.name) h.first) ∙ ap (map (both f)) (sym h.queue)
+
+    pub same_start : AreSame m n
+    unfolding f
+    same_start = (
+      f,
+      record {
+        program = g.program ∙ sym h.program;
+        net = renamed_between (signature_of p.tables) (net_of p.net) (net_of (parts_of m)) (net_of (parts_of n)) net_at h.name g.name h.net g.net;
+        names = g.names ∙ sym h.names;
+        queue = queue_same;
+        vacant = same_need n.vacant m.vacant (λ c. (let x = count_at p cells m h c in let y = count_at p cells n g c in omega (arith, x, y)));
+      },
+    )
