@@ -65,3 +65,7 @@ HasMade t x e old new = (qs : List (AgentNo × AgentNo)) × (new ≡ old ++ map 
 -- those that it makes over boundary ends were added, the last one first
 abbrev pub AddsMade : Tables → Interaction → List (ℕ × ℕ) → List (ℕ × ℕ) → Type 0
 AddsMade t x old new = (qs : List (AgentNo × AgentNo)) × (new ≡ old ++ map numbers_of (reverse qs)) × AreMadeOverEnds t x.net x.rule x.one x.two x.name qs
+
+-- what is added is determined
+abbrev pub PairsAreAddedOnce : Type 0
+PairsAreAddedOnce = (t : Tables) (x : Interaction) (old new other : List (ℕ × ℕ)) → AddsMade t x old new → AddsMade t x old other → new ≡ other
