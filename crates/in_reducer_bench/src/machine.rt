@@ -107,7 +107,7 @@ impl Machine {
         self.set(other, one);
     }
 
-    /// Queues an active pair. There is room for it, since there are as many cells: so an `Err` is none that comes.
+    /// Queues an active pair. There is room for a pair for each cell of a size, so no `Err` comes.
     #[inline(always)]
     pub fn push(&mut self, constructor: u32, destructor: u32) {
         if self
