@@ -161,6 +161,15 @@ impl Machine {
         for end in 0..template.ends {
             self.join_end(template, placed, pair, end);
         }
+        // The pairs within the right member are queued behind those over boundary ends, as `inet run` does.
+        for number in 0..template.pairs {
+            if let Some(inner) = templates.pair(template, number) {
+                self.push(
+                    placed.cell(inner.constructor),
+                    placed.cell(inner.destructor),
+                );
+            }
+        }
         self.cells.retire(pair.constructor);
         self.cells.retire(pair.destructor);
     }

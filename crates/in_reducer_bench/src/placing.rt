@@ -61,8 +61,9 @@ impl Placed {
         }
     }
 
+    /// The cell of an agent of the template.
     #[inline(always)]
-    fn cell(&self, agent: u32) -> u32 {
+    pub fn cell(&self, agent: u32) -> u32 {
         self.numbers[agent as usize % MOST_AGENTS]
     }
 

@@ -6,7 +6,7 @@
 use crate::cells::{End, MOST_PORTS};
 use crate::numbers::Numbers;
 use crate::program::{Net, Program, Symbol, ports_of};
-use crate::templates::{Agent, Joint, MOST_ENDS, Template, Templates};
+use crate::templates::{Agent, InnerPair, Joint, MOST_ENDS, Template, Templates};
 use std::alloc::{AllocError, Global};
 
 /// In the table: no rule is for these two symbols.
@@ -48,18 +48,21 @@ fn agents_of(
     Ok((count, small))
 }
 
+// Whether an agent of the template is a constructor.
+fn is_constructor(template: &Template, agents: &[Agent], symbols: &[Symbol], agent: u32) -> bool {
+    match agents.get(template.first_agent.wrapping_add(agent) as usize) {
+        Some(agent) => match symbols.get(agent.symbol as usize) {
+            Some(symbol) => symbol.is_constructor,
+            None => false,
+        },
+        None => false,
+    }
+}
+
 // Notes at one end of a wire of a right member where the wire leads.
 fn note(template: &mut Template, agents: &mut [Agent], symbols: &[Symbol], from: End, to: End) {
     if from.is_free() {
-        let mut is_first = false;
-        if to.place == 0 {
-            let number = template.first_agent.wrapping_add(to.number);
-            if let Some(agent) = agents.get(number as usize) {
-                if let Some(symbol) = symbols.get(agent.symbol as usize) {
-                    is_first = symbol.is_constructor;
-                }
-            }
-        }
+        let is_first = to.place == 0 && is_constructor(template, agents, symbols, to.number);
         template.joints[from.number as usize % MOST_ENDS] = Joint { to, is_first };
     } else {
         let number = template.first_agent.wrapping_add(from.number);
@@ -71,7 +74,50 @@ fn note(template: &mut Template, agents: &mut [Agent], symbols: &[Symbol], from:
     }
 }
 
-// The template of two symbols.
+// The active pair of two ends that are principal ports.
+fn pair_of(
+    template: &Template,
+    agents: &[Agent],
+    symbols: &[Symbol],
+    one: End,
+    other: End,
+) -> InnerPair {
+    if is_constructor(template, agents, symbols, one.number) {
+        InnerPair {
+            constructor: one.number,
+            destructor: other.number,
+        }
+    } else {
+        InnerPair {
+            constructor: other.number,
+            destructor: one.number,
+        }
+    }
+}
+
+// The wires of a right member.
+fn read_wires(
+    numbers: &mut Numbers,
+    symbols: &[Symbol],
+    agents: &mut [Agent],
+    pairs: &mut Vec<InnerPair>,
+    template: &mut Template,
+) -> Result<(), AllocError> {
+    template.first_pair = u32::try_from(pairs.len()).unwrap_or(0);
+    for _ in 0..numbers.take() {
+        let one = numbers.end();
+        let other = numbers.end();
+        note(template, agents, symbols, one, other);
+        note(template, agents, symbols, other, one);
+        if one.place == 0 && other.place == 0 {
+            pairs.push(pair_of(template, agents, symbols, one, other))?;
+            template.pairs = template.pairs.wrapping_add(1);
+        }
+    }
+    Ok(())
+}
+
+// The template of two symbols, before its wires are read.
 fn template_of(
     numbers: &mut Numbers,
     symbols: &[Symbol],
@@ -86,7 +132,7 @@ fn template_of(
         to: End::free(0),
         is_first: false,
     };
-    let mut template = Template {
+    Ok(Template {
         first_agent,
         agents: count,
         small,
@@ -96,14 +142,9 @@ fn template_of(
             .wrapping_add(ports_of(symbols, destructor))
             .wrapping_sub(1),
         joints: [joint; MOST_ENDS],
-    };
-    for _ in 0..numbers.take() {
-        let one = numbers.end();
-        let other = numbers.end();
-        note(&mut template, agents, symbols, one, other);
-        note(&mut template, agents, symbols, other, one);
-    }
-    Ok(template)
+        first_pair: 0,
+        pairs: 0,
+    })
 }
 
 fn templates_of(
@@ -118,10 +159,13 @@ fn templates_of(
     }
     let mut all = Vec::new(alloc);
     let mut agents = Vec::new(alloc);
+    let mut pairs = Vec::new(alloc);
     for rule in 0..numbers.take() {
         let constructor = numbers.take();
         let destructor = numbers.take();
-        all.push(template_of(numbers, symbols, &mut agents, constructor, destructor)?)?;
+        let mut template = template_of(numbers, symbols, &mut agents, constructor, destructor)?;
+        read_wires(numbers, symbols, &mut agents, &mut pairs, &mut template)?;
+        all.push(template)?;
         let place = constructor.wrapping_mul(count).wrapping_add(destructor);
         if let Some(number) = table.get_mut(place as usize) {
             *number = rule;
@@ -130,6 +174,7 @@ fn templates_of(
     Ok(Templates {
         all,
         agents,
+        pairs,
         table,
         symbols: count,
     })

@@ -33,6 +33,13 @@ pub struct Joint {
     pub is_first: bool,
 }
 
+/// An active pair of a right member, by its agents' numbers.
+#[derive(Clone, Copy, Drop)]
+pub struct InnerPair {
+    pub constructor: u32,
+    pub destructor: u32,
+}
+
 /// The right member of a rule. The boundary ends are numbered from the constructor's first auxiliary port on.
 #[derive(Clone, Copy, Drop)]
 pub struct Template {
@@ -46,6 +53,9 @@ pub struct Template {
     pub constructor_ends: u32,
     pub ends: u32,
     pub joints: [Joint; MOST_ENDS],
+    /// The first of its active pairs, in the list that all templates share, and how many they are.
+    pub first_pair: u32,
+    pub pairs: u32,
 }
 
 impl Template {
@@ -61,6 +71,7 @@ impl Template {
 pub struct Templates {
     pub all: Vec<Template>,
     pub agents: Vec<Agent>,
+    pub pairs: Vec<InnerPair>,
     /// For each constructor and each destructor the number of their template.
     pub table: Vec<u32>,
     pub symbols: u32,
@@ -84,5 +95,12 @@ impl Templates {
     pub fn agent(&self, template: &Template, number: u32) -> Option<&Agent> {
         self.agents
             .get(template.first_agent.wrapping_add(number) as usize)
+    }
+
+    /// An active pair of a template.
+    #[inline(always)]
+    pub fn pair(&self, template: &Template, number: u32) -> Option<&InnerPair> {
+        self.pairs
+            .get(template.first_pair.wrapping_add(number) as usize)
     }
 }
