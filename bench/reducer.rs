@@ -5,6 +5,8 @@
 // alone took, by the least of the times, and by the first one, which is the first to touch the memory. With `net` it then prints the
 // net as `inet run` does.
 //
+// reducer numbers < TEXT      prints the text's program as the numbers that `crates/in_reducer_bench` reads and describes.
+//
 // The text is one that `inet check` accepts; nothing is checked here. All cells lie in one row of words, and an end is the number of a
 // word in it: joining two ends is two stores, whatever they are ends of.
 use std::alloc::{Layout, alloc_zeroed};
@@ -545,6 +547,37 @@ impl State {
     }
 }
 
+// ---- the program as numbers
+
+/// The body's symbols and wires, after what stands before them on the line.
+fn line_of(before: String, body: &Body) -> String {
+    let mut line = format!("{before}{}", body.agents.len());
+    for symbol in &body.agents {
+        write!(line, " {symbol}").unwrap();
+    }
+    write!(line, " {}", body.wires.len()).unwrap();
+    for point in body.wires.iter().flat_map(|wire| wire.1) {
+        match point {
+            Point::Agent(agent, place) => write!(line, " 0 {agent} {place}").unwrap(),
+            Point::End(end) => write!(line, " 1 {end}").unwrap(),
+            Point::Name(_) => unreachable!(),
+        }
+    }
+    line
+}
+
+fn print_numbers(symbols: &[Symbol], rules: &[([usize; 2], Body)], net: &Body) {
+    println!("{}", symbols.len());
+    for symbol in symbols {
+        println!("{} {}", symbol.ports.len() - 1, symbol.ports[0].output as u32);
+    }
+    println!("{}", rules.len());
+    for ([constructor, destructor], body) in rules {
+        println!("{}", line_of(format!("{constructor} {destructor} "), body));
+    }
+    println!("{}\n{}", line_of(String::new(), net), net.free.len());
+}
+
 // ---- the command
 
 unsafe extern "C" {
@@ -561,7 +594,6 @@ fn nanoseconds() -> i64 {
 
 fn main() {
     let arguments: Vec<String> = std::env::args().collect();
-    let (limit, times): (u64, u32) = (arguments[1].parse().unwrap(), arguments[2].parse().unwrap());
     let mut text = String::new();
     std::io::stdin().read_to_string(&mut text).unwrap();
     let (symbols, rules, free, equations) = Reader::new(&text).program();
@@ -571,6 +603,7 @@ fn main() {
     let words: Vec<u32> = symbols.iter().enumerate().map(word).collect();
     // Templates by the sum of the first words of constructor and destructor.
     let mut table: Vec<Option<Template>> = (0..(symbols.len() + 1) * (symbols.len() + 1)).map(|_| None).collect();
+    let mut bodies = vec![];
     for (heads, equations) in &rules {
         let mut pair = [numbers[heads[0].name], numbers[heads[1].name]];
         // The constructor's ends come first, whichever head is written first.
@@ -581,8 +614,13 @@ fn main() {
         }
         let body = Body::new(&numbers, &[], &[(first[0], &heads[0]), (first[1], &heads[1])], equations);
         table[(words[pair[0]] + words[pair[1]]) as usize] = Some(template(&symbols, &words, pair, &body));
+        bodies.push((pair, body));
     }
     let net = Body::new(&numbers, &free, &[], &equations);
+    if arguments[1] == "numbers" {
+        return print_numbers(&symbols, &bodies, &net);
+    }
+    let (limit, times): (u64, u32) = (arguments[1].parse().unwrap(), arguments[2].parse().unwrap());
     let mut state = State { words: row(END), free: [0; 3], fresh: 0, taken: [0; 3], queue: row(64), mask: 63, head: 0, tail: 0 };
     let (mut count, mut spent) = (0, vec![]);
     for _ in 0..times {
