@@ -9,7 +9,3 @@ mod of_in_check;
 mod of_plain;
 #[cfg(test)]
 mod only;
-#[cfg(test)]
-mod reducing;
-#[cfg(test)]
-mod showing;

@@ -1,5 +1,5 @@
-use crate::reducing::{Order, Reduced, ended, reduced, started};
 use in_check::Checked;
+use in_plain_runs::{Order, Reduced, ended, reduced, started};
 use in_test_programs::{Look, seen};
 use in_test_texts::{ADDITION, DUPLICATION, ERASURE, SORTING, SUMS};
 use std::alloc::{AllocError, Global};
@@ -115,7 +115,7 @@ impl<'a> EndsInEachOrder<'a> {
 fn a_number_is_doubled_in_each_order(rt: HostRuntime) {
     let look = EndsInEachOrder {
         count: 48,
-        text: "S(S(S(S(S(S(S(S(S(S(S(S(S(S(S(S(S(S(S(S(S(S(S(S(Z))))))))))))))))))))))))\n",
+        text: "r = S(S(S(S(S(S(S(S(S(S(S(S(S(S(S(S(S(S(S(S(S(S(S(S(Z))))))))))))))))))))))))\n",
     };
     let parts = [SUMS, ADDITION, DUPLICATION, DOUBLED];
     assert_eq!(rt; seen(rt.alloc(), &parts, &look), Some(true));
@@ -126,7 +126,7 @@ fn sums_side_by_side_end_in_each_order(rt: HostRuntime) {
     let net = "net (r : nat+, s : nat+) { Add(x, r) ~ S(Z); Add(S(Z), x) ~ S(Z); s ~ Z; }\n";
     let look = EndsInEachOrder {
         count: 4,
-        text: "S(S(S(Z)))\nZ\n",
+        text: "r = S(S(S(Z)))\ns = Z\n",
     };
     assert_eq!(rt; seen(rt.alloc(), &[SUMS, ADDITION, net], &look), Some(true));
 }
@@ -137,7 +137,7 @@ fn numbers_are_sorted_in_each_order(rt: HostRuntime) {
         "net (r : list+) { Cons(S(S(S(Z))), Cons(S(Z), Cons(Z, Cons(S(S(Z)), Nil)))) ~ Sort(r); }\n";
     let look = EndsInEachOrder {
         count: 31,
-        text: "Cons(Z, Cons(S(Z), Cons(S(S(Z)), Cons(S(S(S(Z))), Nil))))\n",
+        text: "r = Cons(Z, Cons(S(Z), Cons(S(S(Z)), Cons(S(S(S(Z))), Nil))))\n",
     };
     assert_eq!(rt; seen(rt.alloc(), &[SORTING, net], &look), Some(true));
 }

@@ -2,6 +2,10 @@
 #![tactic(auto)]
 
 #[cfg(test)]
+mod beside_plain;
+#[cfg(test)]
+mod of_both_reducers;
+#[cfg(test)]
 mod of_in_run;
 #[cfg(test)]
 mod showing;

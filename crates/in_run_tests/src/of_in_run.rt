@@ -73,7 +73,7 @@ fn a_run_stops_where_small_cells_are_short(rt: HostRuntime) {
 }
 
 /// Fifteen agents of three auxiliary ports, and a pair that makes two more.
-const LARGE_AGENTS: &str =
+pub const LARGE_AGENTS: &str =
     "type nat, row;\nsymbol Z : nat+;\nsymbol Make : nat- {row+};\nsymbol End : row+;\nsymbol Row : row+ {row-, row+} {row-};\nrule Z[] >< Make[Row(x, x, Row(y, y, End))];\nnet (r : row+, s : row+) {\n  Z ~ Make(s);\n  r ~ Row(a, a, Row(b, b, Row(c, c, Row(d, d, Row(e, e, Row(f, f, Row(g, g, Row(h, h, Row(i, i, Row(j, j, Row(k, k, Row(l, l, Row(m, m, Row(n, n, Row(o, o, End)))))))))))))));\n}\n";
 
 #[test]
@@ -92,7 +92,7 @@ fn a_run_stops_where_large_cells_are_short(rt: HostRuntime) {
 }
 
 /// Fifteen agents of nine auxiliary ports, and a pair that makes two more.
-const WIDE_AGENTS: &str =
+pub const WIDE_AGENTS: &str =
     "type nat, row;\nsymbol Z : nat+;\nsymbol Make : nat- {row+};\nsymbol End : row+;\nsymbol Row : row+ {row-, row+, row-, row+, row-, row+, row-, row+} {row-};\nrule Z[] >< Make[Row(x1, x1, x2, x2, x3, x3, x4, x4, Row(y1, y1, y2, y2, y3, y3, y4, y4, End))];\nnet (r : row+, s : row+) {\n  Z ~ Make(s);\n  r ~ Row(a1, a1, a2, a2, a3, a3, a4, a4, Row(b1, b1, b2, b2, b3, b3, b4, b4, Row(c1, c1, c2, c2, c3, c3, c4, c4, Row(d1, d1, d2, d2, d3, d3, d4, d4, Row(e1, e1, e2, e2, e3, e3, e4, e4, Row(f1, f1, f2, f2, f3, f3, f4, f4, Row(g1, g1, g2, g2, g3, g3, g4, g4, Row(h1, h1, h2, h2, h3, h3, h4, h4, Row(i1, i1, i2, i2, i3, i3, i4, i4, Row(j1, j1, j2, j2, j3, j3, j4, j4, Row(k1, k1, k2, k2, k3, k3, k4, k4, Row(l1, l1, l2, l2, l3, l3, l4, l4, Row(m1, m1, m2, m2, m3, m3, m4, m4, Row(n1, n1, n2, n2, n3, n3, n4, n4, Row(o1, o1, o2, o2, o3, o3, o4, o4, End)))))))))))))));\n}\n";
 
 #[test]

@@ -36,6 +36,8 @@ fn shown_free(alloc: Global, machine: &Machine, number: u32) -> Result<String, A
     if number >= machine.free_ends() {
         return Ok(String::new(alloc));
     }
+    // It is a machine, so that the agent which a wire leads to is there.
+    let _ = machine.pairs();
     match machine.partner(End::Free(number)) {
         End::Cell(cell, place) => {
             format!(in alloc;

@@ -4,7 +4,7 @@ use Rattle.in_symbols.specs.Tables.{Tables}
 use Rattle.in_net.specs.declared.nets.AgentNo.{AgentNo}
 use Rattle.in_net.specs.ActivePairs.{IsActivePair}
 use Rattle.in_net.specs.Parts.{Parts}
-use Rattle.in_check_tests.proofs.reducing.next_pair.Goals as goal
+use Rattle.in_plain_runs.proofs.reducing.next_pair.Goals as goal
 
 pub returns-in-Some : goal.returns-in-Some
 returns-in-Some c =

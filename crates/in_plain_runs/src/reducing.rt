@@ -2,14 +2,11 @@
 ghost use Rattle.std.specs.Prelude.{◌≡◌, IfOk, IfSome};
 ghost use Rattle.in_net.specs.ActivePairs.{IsActivePair};
 
+use crate::queueing::{Pair, first_pairs, waiting_after};
 use crate::showing::written;
 use in_check::{Checked, Plain};
 use in_interaction::MOST_AGENTS;
-use in_net::AgentNo;
 use std::alloc::{AllocError, Global};
-
-/// Two agents of an active pair, the constructor first.
-type Pair = (AgentNo, AgentNo);
 
 /// How many interactions there were until no active pair was left, and how many agents there are then; nothing where the turns were
 /// not enough.
@@ -21,22 +18,6 @@ pub enum Order {
     FirstInFirstOut,
     NewestFirst,
     Seeded(u32),
-}
-
-/// The pairs that waited and are still active, as they came, and then those that are new.
-fn waiting_now(alloc: Global, waiting: &[Pair], active: &[Pair]) -> Result<Vec<Pair>, AllocError> {
-    let mut now = Vec::new(alloc);
-    for pair in waiting {
-        if active.contains(pair) {
-            now.push(*pair)?;
-        }
-    }
-    for pair in active {
-        if !waiting.contains(pair) {
-            now.push(*pair)?;
-        }
-    }
-    Ok(now)
 }
 
 /// A number below the bound that a seed picks in this turn.
@@ -65,12 +46,12 @@ fn place_of(active: &[Pair], wanted: Option<Pair>) -> usize {
     active.len()
 }
 
-/// The next pair of the net, if there is one; those that wait are afterwards its active pairs.
+/// The next of the pairs that wait, if there is one. It is an active pair of the net.
 fn next_pair(
     alloc: Global,
     checked: &Checked,
     plain: &Plain,
-    waiting: &mut Vec<Pair>,
+    waiting: &[Pair],
     order: Order,
     turn: u32,
 ) -> Result<Option<Pair>, AllocError>
@@ -78,16 +59,15 @@ fn next_pair(
     ensures { IfOk result (λ found. IfSome found (λ q. IsActivePair checked.now.tables plain.now.net q)) }
 {
     let pairs = plain.net().active_pairs(alloc, checked.symbols())?;
-    *waiting = waiting_now(alloc, waiting.as_slice(), pairs.as_slice())?;
-    let at = place_of(pairs.as_slice(), next_of(waiting.as_slice(), order, turn));
+    let at = place_of(pairs.as_slice(), next_of(waiting, order, turn));
     match pairs.get(at) {
         Some(pair) => Ok(Some(*pair)),
         None => Ok(None),
     }
 }
 
-/// One interaction at the next pair; whether there was one.
-pub fn step(
+/// One interaction at the next pair; whether there was one. The pairs that wait are then those of the net after it.
+fn step(
     alloc: Global,
     checked: &Checked,
     plain: &mut Plain,
@@ -98,7 +78,7 @@ pub fn step(
     requires { plain.old.program ≡ checked.now }
     ensures { plain.new.program ≡ checked.now }
 {
-    let Some((a, b)) = next_pair(alloc, checked, plain, waiting, order, turn)? else {
+    let Some((a, b)) = next_pair(alloc, checked, plain, waiting.as_slice(), order, turn)? else {
         return Ok(false);
     };
     let Some(symbol) = plain.net().symbol(a) else {
@@ -107,6 +87,7 @@ pub fn step(
     if !checked.symbols().is_constructor(symbol) || plain.net().agents() > MOST_AGENTS {
         return Ok(false);
     }
+    *waiting = waiting_after(alloc, checked, plain, waiting.as_slice(), (a, b))?;
     plain.step(alloc, a, b)?;
     Ok(true)
 }
@@ -117,7 +98,7 @@ pub fn started(alloc: Global, checked: &Checked) -> Result<u32, AllocError> {
     Ok(plain.net().agents())
 }
 
-/// So many turns at most of a net. How many there were, and how many agents are left.
+/// So many turns at most. How many there were.
 fn turned(
     alloc: Global,
     checked: &Checked,
@@ -125,29 +106,56 @@ fn turned(
     waiting: &mut Vec<Pair>,
     order: Order,
     turns: u32,
-) -> Result<Reduced, AllocError>
+) -> Result<u32, AllocError>
     requires { plain.old.program ≡ checked.now }
 {
     for steps in 0..turns {
         if !step(alloc, checked, plain, waiting, order, steps)? {
-            return Ok(Some((steps, plain.net().agents())));
+            return Ok(steps);
         }
     }
-    Ok(None)
+    Ok(turns)
 }
 
-/// The same, and no pair has waited before.
-fn turned_anew(
+/// What a run of the slow reducer came to: how many interactions there were, how many agents and active pairs are left, and the text of
+/// the net, as a machine's is printed.
+#[derive(Drop)]
+pub struct PlainOutcome {
+    pub interactions: u32,
+    pub agents: u32,
+    pub pairs: usize,
+    pub text: String,
+}
+
+/// What so many turns at most come to.
+fn stopped_after(
     alloc: Global,
     checked: &Checked,
     plain: &mut Plain,
     order: Order,
     turns: u32,
-) -> Result<Reduced, AllocError>
+) -> Result<PlainOutcome, AllocError>
     requires { plain.old.program ≡ checked.now }
 {
-    let mut waiting = Vec::new(alloc);
-    turned(alloc, checked, plain, &mut waiting, order, turns)
+    let mut waiting = first_pairs(alloc, checked, plain)?;
+    let interactions = turned(alloc, checked, plain, &mut waiting, order, turns)?;
+    Ok(PlainOutcome {
+        interactions,
+        agents: plain.net().agents(),
+        pairs: waiting.len(),
+        text: written(alloc, checked, plain, waiting.as_slice())?,
+    })
+}
+
+/// Reduces the program's net for so many turns at most.
+pub fn stopped(
+    alloc: Global,
+    checked: &Checked,
+    order: Order,
+    turns: u32,
+) -> Result<PlainOutcome, AllocError> {
+    let mut plain = Plain::new(alloc, checked)?;
+    stopped_after(alloc, checked, &mut plain, order, turns)
 }
 
 /// How many interactions there were until no active pair was left, and the text of the net then; nothing where the turns were not enough.
@@ -157,20 +165,28 @@ pub fn ended(
     order: Order,
     turns: u32,
 ) -> Result<Option<(u32, String)>, AllocError> {
-    let mut plain = Plain::new(alloc, checked)?;
-    match turned_anew(alloc, checked, &mut plain, order, turns)? {
-        Some((count, _)) => Ok(Some((count, written(alloc, checked, &plain)?))),
-        None => Ok(None),
+    let PlainOutcome {
+        interactions,
+        agents: _,
+        pairs,
+        text,
+    } = stopped(alloc, checked, order, turns)?;
+    if pairs > 0 {
+        return Ok(None);
     }
+    Ok(Some((interactions, text)))
 }
 
-/// Reduces the program's net for so many turns at most.
+/// How many interactions there were until no active pair was left, and how many agents there are then.
 pub fn reduced(
     alloc: Global,
     checked: &Checked,
     order: Order,
     turns: u32,
 ) -> Result<Reduced, AllocError> {
-    let mut plain = Plain::new(alloc, checked)?;
-    turned_anew(alloc, checked, &mut plain, order, turns)
+    let end = stopped(alloc, checked, order, turns)?;
+    if end.pairs > 0 {
+        return Ok(None);
+    }
+    Ok(Some((end.interactions, end.agents)))
 }
