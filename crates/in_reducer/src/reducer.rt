@@ -6,7 +6,7 @@ use std::collections::VecDeque;
 use std::marker::Model;
 
 /// A sound net of a program over a number of cells: its active pairs are in a queue, and each interaction is done in place, without taking
-/// memory. It need not be one that the program reaches: a part of a net, whose cut wires are free ends, is reduced in the same way.
+/// memory. It need not be one that the program reaches, but its free ends are those of the program, with their names and types.
 ///
 /// What each free end leads to stands at its number in `ends`, and after that is room for the sides of the boundary ends of a pair.
 pub struct Reducer<'a> {
