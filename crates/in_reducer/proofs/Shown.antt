@@ -4,7 +4,7 @@ use Rattle.std.specs.Prelude.{option_map, option_and_then, IsSome, IsSomeAnd}
 use Rattle.std.specs.List.{AllByRecursion}
 use Rattle.std.proofs.lemmas.Bool.{cases_lt}
 use Rattle.std.proofs.lemmas.List.{length-map}
-use Rattle.std.proofs.lemmas.Option.{same_Some, slice_get_within}
+use Rattle.std.proofs.lemmas.Option.{same_Some}
 use Rattle.in_arena.specs.Arenas.{ArenaView, state_at}
 use Rattle.in_arena.specs.States.{State, Vacant, Leased, Live, word_of, end_at, places}
 use Rattle.in_arena.specs.declared.content.End.{End}
@@ -21,6 +21,7 @@ use Rattle.in_net.specs.Parts.{Parts}
 use Rattle.in_interaction.specs.Listing.{unlisted}
 use Rattle.in_interaction.proofs.Interactions.Alternating.{has_value}
 use Rattle.in_joining.specs.Shown.{point_of, stands_at, IsShown}
+use Rattle.in_joining.proofs.AllShown.{place_within}
 use Rattle.in_reducer.specs.Machines.{point_at}
 use Rattle.in_reducer.specs.Standing.{agent_in, agents_in, leading_to}
 
@@ -109,11 +110,6 @@ end_some (Live w es) i l = go es i l
     go (e ∷ es) zero l = refl
     go (e ∷ es) (suc i) l = go es i (omega (arith, l))
 
-end_within : (s : State) (i : ℕ) (e : End) → end_at s i ≡ Some e → i < places s
-end_within Vacant i e h = cc
-end_within Leased i e h = cc
-end_within (Live w es) i e h = slice_get_within es i e h
-
 -- what an option is mapped to is there where it is
 mapped : {X Y : Type 0} (f : X → Y) (o : Option X) → IsSome o → IsSome (option_map f o)
 mapped f (Some x) h = refl
@@ -147,7 +143,7 @@ module _ (t : Tables) (a : ArenaView) (fs : List FreeEnd) (es : List End) (net :
           let some = net.joined (Port y i) point in
           let there = unmapped point_of (end_at (state_at a y) i) (subst IsSome (partner_seen a fs es (Port y i)) some) in
           let v = has_value (end_at (state_at a y) i) there in
-          end_within (state_at a y) i v.0 v.1
+          place_within (state_at a y) i v.0 v.1
 
   over_here : (x : State) → ((s : ℕ) → word_of x ≡ Some s → (places x ≡ suc (arity_of t s)) × (s < length t.names)) → IsCellOver t (agent_in x)
   over_here Vacant h = tt

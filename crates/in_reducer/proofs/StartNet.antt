@@ -7,7 +7,7 @@ use Rattle.std.proofs.lemmas.Option.{same_Some, slice_get-map, slice_get_within}
 use Rattle.in_arena.specs.Arenas.{ArenaView, NoneLeased, free_of, state_at}
 use Rattle.in_arena.specs.Changes.{HasAllCells}
 use Rattle.in_arena.specs.Classes.{classes}
-use Rattle.in_arena.specs.States.{State, Vacant, Leased, Live, IsLeased, word_of, end_at, places}
+use Rattle.in_arena.specs.States.{State, Vacant, Leased, IsLeased, word_of, end_at, places}
 use Rattle.in_arena.specs.declared.content.CellClass.{CellClass}
 use Rattle.in_arena.specs.declared.content.CellClass.TheVariants.{Small, Large, Wide}
 use Rattle.in_arena.specs.declared.content.CellNo.{CellNo}
@@ -28,6 +28,7 @@ use Rattle.in_check.specs.Programs.{Program}
 use Rattle.in_check.specs.Runs.{renamed, IsRenamed}
 use Rattle.in_joining.specs.Shown as shown
 use Rattle.in_joining.specs.Shown.{end_of, stands_at}
+use Rattle.in_joining.proofs.AllShown.{place_within}
 use Rattle.in_compile.specs.declared.joints.Joint.{Joint}
 use Rattle.in_compile.specs.declared.joints.Joint.TheVariants.{ToAgent, ToBoundary}
 use Rattle.in_compile.specs.Cells.{agents_of, count_of, takes, IsEnough}
@@ -108,11 +109,6 @@ was_some : {X Y : Type 0} (f : X → Y) (o : Option X) (v : Y) → option_map f 
 was_some f None v h = absurd (let e : None ≡ Some v = h in cc)
 was_some f (Some w) v h = (w, refl)
 
-within : (x : State) (i : ℕ) (w : End) → end_at x i ≡ Some w → i < places x
-within Vacant i w h = cc
-within Leased i w h = cc
-within (Live s es) i w h = slice_get_within es i w h
-
 -- ---- the program's net
 
 module _ (text : List ℕ) (p : Program) (accepted : IsAccepted text p) (m : MemberParts) (of : IsMemberOf p.tables p.net m) where
@@ -191,7 +187,7 @@ module _ (text : List ℕ) (p : Program) (accepted : IsAccepted text p) (m : Mem
             let x = laid.whose p.tables p.net over m of ns a b put at.0 y at.1 in
             let is = laid.symbol_of p.tables p.net over m of at.0 x.0 x.1 in
             let many = laid.places_there p.tables p.net over m of ns a b put at.0 x.0.symbol.0 is in
-            let l = within (state_at b y) i e h in
+            let l = place_within (state_at b y) i e h in
             let f : places (state_at b y) ≡ places (state_at b (named ns at.0)) = ap (λ (z : ℕ). places (state_at b z)) (sym x.2) in
             let low : i ≤ arity_of p.tables x.0.symbol.0 = omega (arith, l, f, many) in
             (at.0, x.2, subst (λ (o : Option ℕ). IsSomeAnd o (λ s. i ≤ arity_of p.tables s)) (sym is) low)
