@@ -1,6 +1,4 @@
-pub mod Apart
 pub mod AsMany
-pub mod Keeping
 pub mod ListedAgents
 pub mod OneEnd
 pub mod Rounded
@@ -8,7 +6,4 @@ pub mod SameKind
 pub mod SameRun
 pub mod SameStart
 pub mod SameStep
-pub mod Seated
 pub mod StepsOn
-pub mod Sums
-pub mod Views

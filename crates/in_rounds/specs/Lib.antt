@@ -1,11 +1,7 @@
-pub mod Laws
 pub mod MachineLaws
 pub mod Machines
 pub mod Rounds
-pub mod Rule
 pub mod Runs
 pub mod Same
-pub mod Seats
-pub mod Sitting
 pub mod Starts
 pub mod Texts

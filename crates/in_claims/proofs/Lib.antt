@@ -1,0 +1,5 @@
+pub mod Apart
+pub mod Keeping
+pub mod Seated
+pub mod Sums
+pub mod Views

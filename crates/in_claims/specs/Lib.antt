@@ -1,0 +1,4 @@
+pub mod Laws
+pub mod Rule
+pub mod Seats
+pub mod Sitting

@@ -1,0 +1,42 @@
+//! Laws over the rule of a board, for whoever claims from several threads. What they ask of hands, `Board::take_back` ensures of the seats
+//! that it takes. No function here does anything.
+
+ghost use Rattle.std.specs.Prelude.{List, slice_index};
+ghost use Rattle.atomic_table.specs.Table.{State};
+ghost use Rattle.in_claims.specs.Laws.{ClaimsAreApart, ClaimsAreBelowTheLimit, DoneMeansAllClaimed, NewBoardsAreUnclaimed, TwoSeatsShareTheNumbers};
+ghost use Rattle.in_claims.specs.Rule.{AreClaims, all_hands};
+ghost use Rattle.in_claims.specs.declared.hands.Hand.{Hand};
+ghost use Rattle.in_claims.specs.declared.hands.Size.{Size};
+
+use crate::hands;
+use atomic_table::TableRule;
+
+/// Whatever the table of a board comes to, its word and its seats make the claims of the board.
+pub fn boards_keep_claims()
+    ensures { (size : Size) (s : State (Unit {0}) (List Hand)) → ⟦<hands::Claims as TableRule<(), hands::Hands, hands::Size>>⟧.holds size s → AreClaims size.limit (slice_index s.words 0) (all_hands s.views) }
+{}
+
+/// Where the seats of a board are as `Board::new` hands them out, no claim was made: the word is 0.
+pub fn new_boards_are_unclaimed()
+    ensures { NewBoardsAreUnclaimed }
+{}
+
+/// No number is claimed twice: not by two seats, nor by one.
+pub fn claims_are_apart()
+    ensures { ClaimsAreApart }
+{}
+
+/// Each claimed number is below the limit, and the word is past it.
+pub fn claims_are_below_the_limit()
+    ensures { ClaimsAreBelowTheLimit }
+{}
+
+/// Where a seat is done, and so where all are, the word is past the limit and each number below the limit is claimed.
+pub fn done_means_all_claimed()
+    ensures { DoneMeansAllClaimed }
+{}
+
+/// Of two seats of a board, no number is in both lists, and where both are done each number below the limit is in one.
+pub fn two_seats_share_the_numbers()
+    ensures { TwoSeatsShareTheNumbers }
+{}

@@ -1,0 +1,4 @@
+pub mod Dones
+pub mod Gathers
+pub mod Holding
+pub mod Laws

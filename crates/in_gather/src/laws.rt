@@ -1,0 +1,13 @@
+//! Laws over what is gathered, for whoever reasons above it. No function here does anything.
+
+ghost use Rattle.in_gather.specs.Laws.{PuttingLosesNone, TakingLosesNone};
+
+/// What is kept has the cells that it was put with, and those that were kept before.
+pub fn putting_loses_none()
+    ensures { PuttingLosesNone }
+{}
+
+/// What is taken and what is still kept have the cells that were kept.
+pub fn taking_loses_none()
+    ensures { TakingLosesNone }
+{}

@@ -1,5 +1,0 @@
-use Rattle.in_rounds.proofs.Apart.{below}
-use Rattle.in_rounds.proofs.laws.claims_are_below_the_limit.Goals as goal
-
-pub returns : goal.returns
-returns c = below

@@ -1,5 +1,0 @@
-use Rattle.in_rounds.proofs.Apart.{none_left}
-use Rattle.in_rounds.proofs.laws.done_means_all_claimed.Goals as goal
-
-pub returns : goal.returns
-returns c = none_left

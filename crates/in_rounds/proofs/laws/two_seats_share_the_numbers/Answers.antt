@@ -1,5 +1,0 @@
-use Rattle.in_rounds.proofs.Apart.{shared}
-use Rattle.in_rounds.proofs.laws.two_seats_share_the_numbers.Goals as goal
-
-pub returns : goal.returns
-returns c = shared

@@ -1,0 +1,5 @@
+pub mod Bringing
+pub mod Lending
+pub mod Plans
+pub mod Threads
+pub mod Works

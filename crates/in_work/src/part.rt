@@ -1,0 +1,13 @@
+// What a worker has in hand.
+use in_claims::Seat;
+use in_compile::{Placed, Stock};
+use in_gather::Done;
+
+/// A seat, a stock, room for so many jobs, and what was done.
+#[derive(Drop)]
+pub(crate) struct Part<'t> {
+    pub(crate) seat: Seat,
+    pub(crate) stock: Stock,
+    pub(crate) rooms: Vec<Placed>,
+    pub(crate) done: Vec<Done<'t>>,
+}

@@ -1,0 +1,59 @@
+// One worker's part of a round.
+ghost use Rattle.std.specs.Prelude.{◌≡◌, ◌<◌, ◌⊎◌, true, false, vec_len, length};
+ghost use Rattle.in_compile.specs.Cells.{count_of, IsEnough};
+ghost use Rattle.in_compile.specs.Stocks.{held};
+ghost use Rattle.in_work.specs.Works.{IsReady, IsWorked};
+
+use crate::part::Part;
+use crate::plan::Plan;
+use in_claims::{Board, Gate, Seat};
+use in_compile::{Need, Placed, Stock};
+use in_gather::Done;
+
+/// Whether a worker goes on: it is not done, its stock holds the most that a job can need, and there is room for one job more.
+fn goes_on(seat: &Seat, stock: &Stock, rooms: &Vec<Placed>, largest: Need) -> bool
+    ensures yes { result ≡ true → (seat.now.done ≡ false) × IsEnough (count_of largest) (held stock.now) × (0 < vec_len rooms.now) }
+    ensures ends { result ≡ false → (seat.now.done ≡ true) ⊎ ((IsEnough (count_of largest) (held stock.now) → ⊥) ⊎ (vec_len rooms.now ≡ 0)) }
+{
+    !seat.is_done() && stock.holds(largest) && !rooms.is_empty()
+}
+
+/// Claims jobs while it can, and places each after it has passed the gate. It takes no memory.
+pub(crate) fn worked<'t, G: Gate>(
+    plan: &Plan<'t>,
+    board: &Board,
+    gate: &G,
+    part: Part<'t>,
+) -> Part<'t>
+    requires { IsReady plan.now board.now part }
+    ensures { IsWorked plan.now part result }
+{
+    let Part {
+        mut seat,
+        mut stock,
+        mut rooms,
+        mut done,
+    } = part;
+    let largest = plan.templates.largest_need();
+    while goes_on(&seat, &stock, &rooms, largest) {
+        let room = rooms.take_last();
+        if let Some(job) = board.claim(&mut seat) {
+            gate.reached(job);
+            let (constructor, destructor) = plan.jobs[job as usize];
+            done.push_reserved(Done::make(
+                job,
+                constructor,
+                destructor,
+                plan.templates,
+                &mut stock,
+                room,
+            ));
+        }
+    }
+    Part {
+        seat,
+        stock,
+        rooms,
+        done,
+    }
+}
