@@ -1,21 +1,26 @@
 -- What a reducer begins with: tools that hold nothing, and what its free ends lead to.
-use Rattle.std.proofs.Common.{◌≡◌, ◌<◌, ◌≤◌, ◌+◌, ℕ, Some, List, [], ◌∷◌, ◌++◌, length, map, take, set, slice_get, vec_capacity, sym, ap, subst, ◌∙◌}
-use Rattle.std.proofs.lemmas.List.{take_more_set}
+use Rattle.std.proofs.Common.{◌≡◌, ◌<◌, ◌≤◌, ◌+◌, ℕ, zero, suc, Some, List, [], ◌∷◌, ◌++◌, length, map, take, set, slice_get, vec_capacity, sym, ap, subst, ◌∙◌}
+use Rattle.std.proofs.lemmas.List.{map-append, take_more, take_more_set}
+use Rattle.std.proofs.lemmas.Option.{same_Some}
 use Rattle.in_arena.specs.Arenas.{ArenaView}
 use Rattle.in_arena.specs.Bags.{empty_bag}
 use Rattle.in_arena.specs.Changes.{HasAllCells}
 use Rattle.in_arena.specs.declared.content.CellNo.{CellNo}
 use Rattle.in_arena.specs.declared.content.End.{End}
 use Rattle.in_arena.proofs.Bags.{empty_is_of}
+use Rattle.in_net.specs.declared.nets.FreeEnd.{FreeEnd}
 use Rattle.in_net.specs.NetFaults.{max_member_agents}
+use Rattle.in_check.specs.Programs.{Program}
 use Rattle.in_compile.specs.declared.cells.Need.{Need}
 use Rattle.in_compile.specs.declared.joints.Joint.{Joint}
 use Rattle.in_compile.specs.Placing.{PlacedParts}
 use Rattle.in_compile.specs.Stocks.{StockParts, empty_stock}
 use Rattle.in_compile.proofs.Stocked.{none_in_empty}
 use Rattle.in_compile.proofs.Taken.{mapped_more}
+use Rattle.in_reducer.specs.declared.body.OwnEnd.{OwnEnd}
+use Rattle.in_reducer.specs.declared.body.OwnEnd.TheVariants.{Named}
 use Rattle.in_reducer.specs.declared.tools.Tools.{Tools}
-use Rattle.in_reducer.specs.Inside.{AreTools, most_ends}
+use Rattle.in_reducer.specs.Inside.{AreTools, declared_as, most_ends}
 use Rattle.in_reducer.specs.Placed.{IsNoneOf}
 use Rattle.in_reducer.specs.Sides.{inner_of}
 
@@ -42,3 +47,17 @@ pub one_more_end : (ns : List CellNo) (joints : List Joint) (k : ℕ) (j : Joint
     take k es ≡ map (inner_of ns 0) (take k joints) → take (k + 1) (set es k v) ≡ map (inner_of ns 0) (take (k + 1) joints)
 one_more_end ns joints k j es v stands low is before =
     mapped_more (inner_of ns 0) joints k j [] (take k es) (take (k + 1) (set es k v)) stands before (take_more_set es k v low ∙ ap (λ (z : End). take k es ++ z ∷ []) is)
+
+-- ---- free ends
+
+-- what holds of each holds of one more
+pub each_push : {X : Type 0} (P : X → Type 0) (xs : List X) (x : X) → ((j : ℕ) (y : X) → slice_get xs j ≡ Some y → P y) → P x → (j : ℕ) (y : X) → slice_get (xs ++ x ∷ []) j ≡ Some y → P y
+each_push P [] x each here zero y e = subst P (same_Some x y e) here
+each_push P [] x each here (suc j) y e = cc
+each_push P (z ∷ zs) x each here zero y e = each zero y e
+each_push P (z ∷ zs) x each here (suc j) y e = each_push P zs x (λ k w f. each (suc k) w f) here j y e
+
+-- one free end of the program more
+pub one_more_free : (p : Program) (k : ℕ) (es more : List OwnEnd) → k < length p.net.free → map (declared_as p) es ≡ take k p.net.free → more ≡ es ++ Named k ∷ [] → map (declared_as p) more ≡ take (k + 1) p.net.free
+one_more_free p k es more low before is =
+    ap (map (declared_as p)) is ∙ map-append (declared_as p) es (Named k ∷ []) ∙ ap (λ (fs : List FreeEnd). fs ++ declared_as p (Named k) ∷ []) before ∙ sym (take_more p.net.free k _ low)

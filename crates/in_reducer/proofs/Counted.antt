@@ -1,5 +1,5 @@
 -- Where no cell is on lease, and each live one is of the class of its agent's symbol, free cells and agents of a class make up its cells.
-use Rattle.std.proofs.Common.{◌≡◌, ◌⊎◌, inl, inr, ◌<◌, ◌≤◌, ◌+◌, ◌*◌, ℕ, zero, suc, Bool, true, false, cond, Some, List, [], ◌∷◌, length, map, take, drop, get_or, count_by, refl, sym, ap, subst, ◌∙◌, length-drop, arith}
+use Rattle.std.proofs.Common.{◌≡◌, ◌⊎◌, inl, inr, ◌<◌, ◌≤◌, ◌+◌, ◌*◌, ℕ, zero, suc, Bool, true, false, cond, Option, Some, List, [], ◌∷◌, length, map, take, drop, get_or, count_by, refl, sym, ap, subst, ◌∙◌, length-drop, arith}
 use Rattle.std.proofs.lemmas.Bool.{cases_lt}
 use Rattle.std.proofs.lemmas.List.{get_or-drop}
 use Rattle.std.proofs.lemmas.List.Sums.{sum_by-cons}
@@ -9,11 +9,13 @@ use Rattle.in_arena.specs.States.{State, Vacant, Leased, Live, IsLeased, is_vaca
 use Rattle.in_arena.specs.declared.content.CellClass.{CellClass}
 use Rattle.in_arena.specs.declared.content.CellClass.TheVariants.{Small, Large, Wide}
 use Rattle.in_symbols.specs.Tables.{Tables}
+use Rattle.in_net.specs.declared.nets.Cell.{Cell}
 use Rattle.in_arena.proofs.Classes.{class_of_number}
 use Rattle.in_symbols.specs.Tables.{arity_of}
 use Rattle.in_compile.proofs.OneTemplate.{one_class}
 use Rattle.in_compile.specs.Cells.{is_of, takes, agents_of, count_of}
-use Rattle.in_reducer.specs.Standing.{agent_in, agents_in, vacant_in, IsNetIn}
+use Rattle.in_reducer.specs.Standing.{agent_in, agents_in, at_rest, vacant_in, IsNetIn}
+use Rattle.in_reducer.proofs.AtRest.{agents_same}
 
 -- ---- where something holds in a part of a list alone
 
@@ -162,3 +164,7 @@ module _ (t : Tables) (a : ArenaView) (h : IsNetIn t a) where
   has_cells Small = all_cells Small
   has_cells Large = all_cells Large
   has_cells Wide = all_cells Wide
+
+-- .. where a leased cell counts as free
+pub cells_at_rest : (t : Tables) (a : ArenaView) → IsNetIn t (at_rest a) → (c : CellClass) → count_of (vacant_in (at_rest a)) c + agents_of t c (agents_in a) ≡ a.cells
+cells_at_rest t a net c = subst (λ (xs : List (Option Cell)). count_of (vacant_in (at_rest a)) c + agents_of t c xs ≡ a.cells) (agents_same a) (has_cells t (at_rest a) net c)

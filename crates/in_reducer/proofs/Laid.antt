@@ -6,7 +6,7 @@ use Rattle.std.proofs.lemmas.Option.{same_Some, slice_get-map, slice_get_within}
 use native.Mathlib.Decide.{ℕ_discrete}
 use Rattle.in_base.proofs.Each.{all_at, at_index}
 use Rattle.in_arena.specs.Arenas.{ArenaView, state_at}
-use Rattle.in_arena.specs.States.{State, Vacant, word_of, end_at, places}
+use Rattle.in_arena.specs.States.{State, word_of, end_at, places}
 use Rattle.in_arena.specs.declared.content.CellNo.{CellNo}
 use Rattle.in_symbols.specs.Tables.{Tables, arity_of}
 use Rattle.in_symbols.specs.declared.symbols.SymbolNo.{SymbolNo}
@@ -121,7 +121,7 @@ module _ (t : Tables) (n : Parts) (over : IsOver t n) (m : MemberParts) (of : Is
     pub cell_there : (k : ℕ) (a : AgentParts) → slice_get m.agents k ≡ Some a → slice_get ns k ≡ Some (slice_index_or ns k (record { 0 = 0 }))
     cell_there k a e = read_at ns k (let l = slice_get_within m.agents k a e in let c = put.count in omega (arith, l, c))
 
-    pub was_free : (k : ℕ) (a : AgentParts) → slice_get m.agents k ≡ Some a → state_at old (named ns k) ≡ Vacant
+    pub was_free : (k : ℕ) (a : AgentParts) → slice_get m.agents k ≡ Some a → word_of (state_at old (named ns k)) ≡ None
     was_free k a e = (put.each k a (slice_index_or ns k (record { 0 = 0 })) e (cell_there k a e)).1
 
     pub stands_there : (k : ℕ) (a : AgentParts) → slice_get m.agents k ≡ Some a → state_at new (named ns k) ≡ content ns a

@@ -1,6 +1,8 @@
 pub mod Accepted
+pub mod AtRest
 pub mod Begun
 pub mod Counted
+pub mod Finished
 pub mod Found
 pub mod Laid
 pub mod Looked

@@ -75,6 +75,13 @@ free_leads (f ∷ fs) [] k e l h = absurd (omega (arith, l))
 free_leads (f ∷ fs) (d ∷ es) zero e l h = ap (option_map point_at) h
 free_leads (f ∷ fs) (d ∷ es) (suc k) e l h = free_leads fs es k e (omega (arith, l)) h
 
+-- .. and has its name
+pub free_named : (fs : List FreeEnd) (es : List End) (k : ℕ) → k < length (leading_to fs es) → option_map (λ (f : FreeEnd). f.name) (slice_get (leading_to fs es) k) ≡ option_map (λ (f : FreeEnd). f.name) (slice_get fs k)
+free_named [] es k l = absurd (omega (arith, l))
+free_named (f ∷ fs) [] k l = absurd (omega (arith, l))
+free_named (f ∷ fs) (e ∷ es) zero l = refl
+free_named (f ∷ fs) (e ∷ es) (suc k) l = free_named fs es k (omega (arith, l))
+
 -- ---- how many agents there are
 
 module _ (t : Tables) (a : ArenaView) (h : IsNetIn t a) where

@@ -1,12 +1,12 @@
 -- A member that is placed in an arena and settled at once.
-use Rattle.std.proofs.Common.{◌≡◌, ◌⊎◌, inl, inr, ◌<◌, ◌*◌, ℕ, zero, suc, Some, List, [], ◌∷◌, length, take, drop, get_or, count_by, slice_get, refl, sym, ap, subst, ◌∙◌, arith}
+use Rattle.std.proofs.Common.{◌≡◌, ◌⊎◌, inl, inr, ◌<◌, ◌*◌, ℕ, zero, suc, Some, None, List, [], ◌∷◌, length, take, drop, get_or, count_by, slice_get, refl, sym, ap, subst, ◌∙◌, arith}
 use Rattle.std.proofs.lemmas.List.Sums.{sum_by-cons}
 use Rattle.in_base.proofs.Each.{all_at}
 use Rattle.in_arena.specs.Arenas.{ArenaView, free_of, state_at}
 use Rattle.in_arena.specs.Bags.{IsBagOf, IsIn, AreOfOne}
 use Rattle.in_arena.specs.Changes.{HasAllCells, one_if_free}
 use Rattle.in_arena.specs.Classes.{classes, class_no, IsNumberOf}
-use Rattle.in_arena.specs.States.{State, Vacant, Leased, IsLeased, is_vacant}
+use Rattle.in_arena.specs.States.{State, Vacant, Leased, IsLeased, is_vacant, word_of}
 use Rattle.in_arena.specs.declared.content.CellClass.{CellClass}
 use Rattle.in_arena.specs.declared.content.CellNo.{CellNo}
 use Rattle.in_arena.proofs.Arenas.{vacant_inside}
@@ -158,12 +158,12 @@ module _ (m : MemberParts) (a a' : ArenaView) (s s' : StockParts) (p : PlacedPar
           not_more (inl at) = let j = is_placed_at n at.0 at.1 in absurd (out j.0 j.1)
           not_more (inr e) = e
 
-      agent_there : (k : ℕ) (x : AgentParts) (n : CellNo) → slice_get m.agents k ≡ Some x → slice_get p'.cells k ≡ Some n → IsNumberOf a''.cells x.class n.0 × (state_at a n.0 ≡ Vacant) × (state_at a'' n.0 ≡ content p'.cells x)
+      agent_there : (k : ℕ) (x : AgentParts) (n : CellNo) → slice_get m.agents k ≡ Some x → slice_get p'.cells k ≡ Some n → IsNumberOf a''.cells x.class n.0 × (word_of (state_at a n.0) ≡ None) × (state_at a'' n.0 ≡ content p'.cells x)
       agent_there k x n e at =
           let here = is.written.cells.each k n at in
           let z = is.each k x n e at in (
             subst (λ (v : ℕ). IsNumberOf v x.class n.0) (same.1 ∙ placed.0.cells ∙ sym cells_after) z.0,
-            free_before n.0 (placed_was n.0 here),
+            ap word_of (free_before n.0 (placed_was n.0 here)),
             back.back n.0 here ∙ z.1,
           )
 

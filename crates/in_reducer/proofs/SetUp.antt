@@ -77,8 +77,8 @@ module _ (t : Tables) (s : Setting) (p : TemplateParts) (pair : Pair) (own : ℕ
   is_live Leased w e = absurd (let f : None ≡ Some w = e in cc)
   is_live (Live v es) w e = tt
 
-  not_vacant : (y x : ℕ) → (net_of s.net).symbol y ≡ Some x → state_at old y ≡ Vacant → ⊥
-  not_vacant y x e v = let f : None ≡ Some x = sym (ap word_of v) ∙ live_word y x e in cc
+  not_vacant : (y x : ℕ) → (net_of s.net).symbol y ≡ Some x → word_of (state_at old y) ≡ None → ⊥
+  not_vacant y x e v = let f : None ≡ Some x = sym v ∙ live_word y x e in cc
 
   differ : pair.one.0 ≢ pair.other.0
   differ e = about.redex.differ (sym about.one ∙ e ∙ about.two)
@@ -89,7 +89,7 @@ module _ (t : Tables) (s : Setting) (p : TemplateParts) (pair : Pair) (own : ℕ
     fresh : (k x : ℕ) → (net_of s.rule.member).symbol k ≡ Some x → (net_of s.net).symbol (named ns k) ≡ None
     fresh k x e =
         let a = laid.agent_at t s.rule.member about.member_over p.member about.template.member k x e in
-        about.shown.agents (named ns k) ∙ ap word_of (laid.was_free t s.rule.member about.member_over p.member about.template.member ns old put is_put k a.0 a.1)
+        about.shown.agents (named ns k) ∙ laid.was_free t s.rule.member about.member_over p.member about.template.member ns old put is_put k a.0 a.1
 
     apart : (k l x y : ℕ) → (net_of s.rule.member).symbol k ≡ Some x → (net_of s.rule.member).symbol l ≡ Some y → named ns k ≡ named ns l → k ≡ l
     apart k l x y e f same =
@@ -108,7 +108,7 @@ module _ (t : Tables) (s : Setting) (p : TemplateParts) (pair : Pair) (own : ℕ
     stays : (y x : ℕ) → (net_of s.net).symbol y ≡ Some x → state_at put y ≡ state_at old y
     stays y x e = is_put.others y (λ k at. (
         let a = laid.whose t s.rule.member about.member_over p.member about.template.member ns old put is_put k y at in
-        not_vacant y x e (ap (state_at old) (sym a.2) ∙ laid.was_free t s.rule.member about.member_over p.member about.template.member ns old put is_put k a.0 a.1)
+        not_vacant y x e (ap (λ (z : ℕ). word_of (state_at old z)) (sym a.2) ∙ laid.was_free t s.rule.member about.member_over p.member about.template.member ns old put is_put k a.0 a.1)
         ))
 
     one_stays : state_at put pair.one.0 ≡ state_at old pair.one.0

@@ -40,16 +40,17 @@ use Rattle.in_reducer.specs.Inside.{most_ends}
 use Rattle.in_reducer.specs.Interacting.{named}
 use Rattle.in_reducer.specs.Placed.{IsPut}
 use Rattle.in_reducer.specs.Sides.{HasJoint, inner_of}
-use Rattle.in_reducer.specs.Standing.{agent_in, agents_in, leading_to, vacant_in, IsNetIn}
+use Rattle.in_reducer.specs.Standing.{agent_in, agents_in, at_rest, leading_to, vacant_in, IsNetIn}
 use Rattle.in_reducer.specs.Starts.{IsStart}
 use Rattle.in_reducer.proofs.Accepted.{few_ports, net_over, net_promised, net_whole}
-use Rattle.in_reducer.proofs.Counted.{all_cells, has_cells}
+use Rattle.in_reducer.proofs.AtRest.{all_at_rest, rests}
+use Rattle.in_reducer.proofs.Counted.{all_cells, cells_at_rest}
 use Rattle.in_reducer.proofs.Laid as laid
 use Rattle.in_reducer.proofs.Laid.{in_or_out}
 use Rattle.in_reducer.proofs.Queues.{all_classes, half_of}
 use Rattle.in_reducer.proofs.Shown.{is_over, partner_seen, same_kinds, same_names, seen, symbol_seen}
 use Rattle.in_reducer.proofs.Started.{net_at, sound_at}
-use Rattle.in_reducer.proofs.StillNet.{net_in, put_good}
+use Rattle.in_reducer.proofs.StillNet.{net_in, put_good, put_leased}
 
 -- ---- an empty arena
 
@@ -160,8 +161,15 @@ module _ (text : List ℕ) (p : Program) (accepted : IsAccepted text p) (m : Mem
   -- ---- placed
 
   module _ (ns : List CellNo) (a b : ArenaView) (cells : ℕ) (same : a.cells ≡ cells) (empty : a.states ≡ replicate (length classes * cells) Vacant) (put : IsPut m ns a b) where
-    pub net_in_cells : IsNetIn p.tables b
-    net_in_cells = net_in p.tables a b (empty_all a cells same empty) put.cells put.many (put_good p.tables p.net over m of ns a b put (empty_net a cells same empty p.tables))
+    empty_at_rest : IsNetIn p.tables (at_rest a)
+    empty_at_rest = subst (IsNetIn p.tables) (sym (rests a (empty_none a cells same empty))) (empty_net a cells same empty p.tables)
+
+    pub net_in_cells : IsNetIn p.tables (at_rest b)
+    net_in_cells = net_in p.tables a b (all_at_rest a (empty_all a cells same empty)) put.cells put.many (put_good p.tables p.net over m of ns a b put empty_at_rest)
+
+    -- no cell is on lease
+    pub none_after : NoneLeased b
+    none_after n l leased = empty_none a cells same empty n (subst (λ (z : ℕ). n < z) put.many l) (put_leased p.tables p.net over m of ns a b put empty_at_rest n leased)
 
     pub cells_after : b.cells ≡ cells
     cells_after = put.cells ∙ same
@@ -265,7 +273,7 @@ module _ (text : List ℕ) (p : Program) (accepted : IsAccepted text p) (m : Mem
       over_start = let s = sound_at text p accepted (named ns) start renamed_start in is_over p.tables b p.net.free es s.net s.within
 
       pub is_start : (queue : List (ℕ × ℕ)) → queue ≡ map (both (named ns)) m.pairs
-          → IsStart p cells (record { program = p; agents = agents_in b; free = leading_to p.net.free es; queue = queue; vacant = vacant_in b })
+          → IsStart p cells (record { program = p; agents = agents_in b; free = leading_to p.net.free es; queue = queue; vacant = vacant_in (at_rest b) })
       is_start queue is = record {
         program = refl;
         over = over_start;
@@ -275,5 +283,5 @@ module _ (text : List ℕ) (p : Program) (accepted : IsAccepted text p) (m : Mem
         first = m.pairs;
         pairs = of.pairs;
         queue = is;
-        counted = λ c. has_cells p.tables b net_in_cells c ∙ cells_after;
+        counted = λ c. cells_at_rest p.tables b net_in_cells c ∙ cells_after;
       }

@@ -4,7 +4,7 @@ use Rattle.std.specs.VecDeque.{deque_capacity}
 use Rattle.std.specs.Prelude.{option_map}
 use Rattle.std.proofs.lemmas.List.{length-map, length-reverse, map-append, reverse-append, reverse-reverse}
 use Rattle.std.proofs.lemmas.Option.{same_Some, slice_get_within}
-use Rattle.in_arena.specs.Arenas.{ArenaView, free_of}
+use Rattle.in_arena.specs.Arenas.{ArenaView, NoneLeased, free_of}
 use Rattle.in_arena.specs.declared.content.CellClass.{CellClass}
 use Rattle.in_arena.specs.declared.content.CellClass.TheVariants.{Small, Large, Wide}
 use Rattle.in_arena.specs.declared.content.CellNo.{CellNo}
@@ -17,7 +17,6 @@ use Rattle.in_net.specs.Interactions.{IsStep, redex_at}
 use Rattle.in_net.specs.NetFaults.{max_member_agents}
 use Rattle.in_net.specs.Nets.{net_of, point_of, signature_of}
 use Rattle.in_net.specs.Rules.{RuleParts}
-use Rattle.in_syntax.specs.Grammar.{max_free}
 use Rattle.in_interaction.specs.Interacting.{InteractsAs}
 use Rattle.in_interaction.specs.Made.{AreMade}
 use Rattle.in_interaction.specs.Queues.{agents_at, both, numbers_of}
@@ -33,17 +32,18 @@ use Rattle.in_compile.specs.Members.{AgentParts}
 use Rattle.in_compile.specs.Templates.{TemplateParts}
 use Rattle.in_compile.proofs.Accepted as rules
 use Rattle.in_compile.proofs.Sound as members
-use Rattle.in_reducer.specs.declared.reducer.Reducer.TheInside.{Inside}
+use Rattle.in_reducer.specs.declared.body.Body.{Body}
 use Rattle.in_reducer.specs.declared.sides.Pair.{Pair}
-use Rattle.in_reducer.specs.Inside.{IsKept, most_ends, reducer_view}
+use Rattle.in_reducer.specs.Inside.{AreToolsFor, KeepsNet, declared_as, most_ends, own_free, reducer_view}
 use Rattle.in_reducer.specs.Interacting.{IsAbout, IsInteracted, Setting, interaction_of, named}
 use Rattle.in_reducer.specs.Machines.{MachineParts, parts_of}
 use Rattle.in_reducer.specs.Reducers.{IsReducer}
-use Rattle.in_reducer.specs.Standing.{IsNetIn, agents_in, leading_to, vacant_in}
+use Rattle.in_reducer.specs.Standing.{IsNetIn, agents_in, at_rest, leading_to, vacant_in}
 use Rattle.in_reducer.specs.Steps.{HasRoomAt, StepsAt}
 use Rattle.in_reducer.specs.Templates.{IsTemplateAt}
-use Rattle.in_reducer.proofs.Accepted.{few_ports, net_whole}
-use Rattle.in_reducer.proofs.Counted.{has_cells}
+use Rattle.in_reducer.proofs.Accepted.{few_ports}
+use Rattle.in_reducer.proofs.AtRest.{rests}
+use Rattle.in_reducer.proofs.Counted.{cells_at_rest}
 use Rattle.in_reducer.proofs.Queues.{short_queue}
 use Rattle.in_reducer.proofs.Shown.{is_over, is_shown, same_kinds, same_many, same_names, seen}
 use Rattle.in_reducer.proofs.StepsOn as steps
@@ -59,14 +59,14 @@ map_reverse f (x ∷ xs) =
 pub turned_back : {X Y : Type 0} (f : X → Y) (xs : List X) → reverse (map f (reverse xs)) ≡ map f xs
 turned_back f xs = sym (map_reverse f (reverse xs)) ∙ ap (map f) (reverse-reverse xs)
 
-free_is : (a : ArenaView) (c : CellClass) → count_of (vacant_in a) c ≡ free_of a c
+pub free_is : (a : ArenaView) (c : CellClass) → count_of (vacant_in a) c ≡ free_of a c
 free_is a Small = refl
 free_is a Large = refl
 free_is a Wide = refl
 
 -- ---- before
 
-module _ (r : Inside) (k : IsKept r) (i : ℕ) (p : TemplateParts) (at : IsTemplateAt (reducer_view r) i p) where
+module _ (r : Body) (k : KeepsNet r) (i : ℕ) (p : TemplateParts) (at : IsTemplateAt (reducer_view r) i p) where
   abbrev t : Tables
   t = r.checked.now.tables
 
@@ -79,11 +79,12 @@ module _ (r : Inside) (k : IsKept r) (i : ℕ) (p : TemplateParts) (at : IsTempl
   abbrev pub setting : Setting
   setting = record { net = parts_of (reducer_view r); rule = at.rule; one = (agents_at at.pair).0; two = (agents_at at.pair).1 }
 
-  fits_ends : length r.checked.now.net.free ≤ length r.ends.items
-  fits_ends = let e = k.ends in omega (arith, e)
+  -- as many free ends as are told
+  pub own_many : length (own_free r) ≡ length r.free.items
+  own_many = length-map r.free.items (declared_as r.checked.now)
 
-  pub few_free : length r.checked.now.net.free ≤ max_free
-  few_free = (net_whole k.reducer.accepted.0 r.checked.now k.reducer.accepted.1).ends
+  fits_ends : length (own_free r) ≤ length r.ends.items
+  fits_ends = let e = k.ends in let m = own_many in omega (arith, e, m)
 
   pub few_agents : length p.member.agents ≤ max_member_agents
   few_agents = members.few_agents t at.rule.member p.member at.template.member max_member_agents (rules.whole_rule k.reducer.accepted.0 r.checked.now k.reducer.accepted.1 at.number at.rule at.is_rule.stands).few
@@ -96,7 +97,11 @@ module _ (r : Inside) (k : IsKept r) (i : ℕ) (p : TemplateParts) (at : IsTempl
       let b = few_ports k.reducer.accepted.0 r.checked.now k.reducer.accepted.1 at.rule.heads.1.0 in
       omega (arith, many, ends, a, b)
 
-  pub is_about : (tables : Tables) → tables ≡ t → (pair : Pair) → pair.one.0 ≡ one.0 → pair.other.0 ≡ two.0 → pair.first_ends ≡ p.first_ends → (own : ℕ) → own ≡ length r.checked.now.net.free → (ends : List End) → ends ≡ r.ends.items
+  -- there is room for the sides of the boundary ends
+  pub room_there : (own : ℕ) → own ≡ length (own_free r) → (ends : List End) → ends ≡ r.ends.items → own + length p.member.joints + length p.member.joints ≤ length ends
+  room_there own is_own ends is_ends = let l = ap length is_ends in let e = k.ends in let f = few_joints in let m = own_many in omega (arith, l, e, f, m, is_own)
+
+  pub is_about : (tables : Tables) → tables ≡ t → (pair : Pair) → pair.one.0 ≡ one.0 → pair.other.0 ≡ two.0 → pair.first_ends ≡ p.first_ends → (own : ℕ) → own ≡ length (own_free r) → (ends : List End) → ends ≡ r.ends.items
       → IsAbout tables setting p pair own r.arena ends
   is_about tables same pair is_one is_two is_first own is_own ends is_ends = subst (λ (u : Tables). IsAbout u setting p pair own r.arena ends) (sym same) (record {
     net = k.reducer.net.sound.net;
@@ -108,26 +113,26 @@ module _ (r : Inside) (k : IsKept r) (i : ℕ) (p : TemplateParts) (at : IsTempl
     one = is_one;
     two = is_two;
     first_ends = is_first;
-    own_ends = is_own ∙ sym (same_many r.checked.now.net.free r.ends.items fits_ends);
+    own_ends = is_own ∙ sym (same_many (own_free r) r.ends.items fits_ends);
     shown = subst (λ (n : ℕ). IsShown r.arena (take n ends) (net_of (parts_of (reducer_view r)))) (sym is_own)
-        (subst (λ (es : List End). IsShown r.arena (take (length r.checked.now.net.free) es) (net_of (parts_of (reducer_view r)))) (sym is_ends) (is_shown r.arena r.checked.now.net.free r.ends.items));
-    room = (let l = ap length is_ends in let e = k.ends in let f = few_joints in omega (arith, l, e, f, is_own));
+        (subst (λ (es : List End). IsShown r.arena (take (length (own_free r)) es) (net_of (parts_of (reducer_view r)))) (sym is_ends) (is_shown r.arena (own_free r) r.ends.items));
+    room = room_there own is_own ends is_ends;
   })
 
   -- what the template needs is free
-  pub enough : HasRoomAt (reducer_view r) i → (c : CellClass) → count_of p.member.need c ≤ free_of r.arena c
-  enough (need, needs, free) c =
+  pub enough : NoneLeased r.arena → HasRoomAt (reducer_view r) i → (c : CellClass) → count_of p.member.need c ≤ free_of r.arena c
+  enough none (need, needs, free) c =
       let pair : needs.pair ≡ at.pair = same_Some needs.pair at.pair (sym needs.stands ∙ at.stands) in
       let rule : needs.rule ≡ at.rule =
       steps.same_rule (reducer_view r) k.reducer needs.pair at.pair needs.number at.number needs.rule at.rule pair needs.is_rule at.is_rule in
       let a : count_of need c ≡ agents_of t c at.rule.member.cells = needs.is_need c ∙ ap (λ (z : RuleParts). agents_of t c z.member.cells) rule in
       let b = at.template.member.need c in
       let l = free c in
-      let e = free_is r.arena c in
+      let e = free_is (at_rest r.arena) c ∙ ap (λ (v : ArenaView). free_of v c) (rests r.arena none) in
       omega (arith, a, b, l, e)
 
-  pub stock_room : (c : CellClass) → count_of p.member.need c ≤ count_of r.tools.stock.room c
-  stock_room c = let a = k.tools_for at.number at.rule c at.is_rule.stands in let b = at.template.member.need c in omega (arith, a, b)
+  pub stock_room : AreToolsFor r.checked.now r.tools → (c : CellClass) → count_of p.member.need c ≤ count_of r.tools.stock.room c
+  stock_room tools_for c = let a = tools_for at.number at.rule c at.is_rule.stands in let b = at.template.member.need c in omega (arith, a, b)
 
   -- the pairs of the right member are of its agents
   pub pairs_there : (j : ℕ) (q : ℕ × ℕ) → slice_get p.member.pairs j ≡ Some q → (q.0 < length p.member.agents) × (q.1 < length p.member.agents)
@@ -144,20 +149,20 @@ module _ (r : Inside) (k : IsKept r) (i : ℕ) (p : TemplateParts) (at : IsTempl
 
   -- ---- after
 
-  module _ (free : HasRoomAt (reducer_view r) i) (own : ℕ) (is_own : own ≡ length r.checked.now.net.free) (ns : List CellNo) (a : ArenaView) (es : List End) (made : List (ℕ × ℕ)) (did : IsInteracted t setting own ns a es [] made) (net : IsNetIn t a) (cells : a.cells ≡ r.arena.cells) (long : length es ≡ length r.ends.items) where
+  module _ (free : HasRoomAt (reducer_view r) i) (own : ℕ) (is_own : own ≡ length (own_free r)) (ns : List CellNo) (a : ArenaView) (es : List End) (made : List (ℕ × ℕ)) (did : IsInteracted t setting own ns a es [] made) (net : IsNetIn t (at_rest a)) (cells : a.cells ≡ r.arena.cells) (long : length es ≡ length r.ends.items) where
     abbrev fs : List FreeEnd
-    fs = r.checked.now.net.free
+    fs = own_free r
 
-    still_fits : length r.checked.now.net.free ≤ length es
+    still_fits : length (own_free r) ≤ length es
     still_fits = let e = fits_ends in omega (arith, e, long)
 
-    shown : IsShown a (take own es) (net_of (seen a r.checked.now.net.free es))
-    shown = subst (λ (n : ℕ). IsShown a (take n es) (net_of (seen a r.checked.now.net.free es))) (sym is_own) (is_shown a r.checked.now.net.free es)
+    shown : IsShown a (take own es) (net_of (seen a (own_free r) es))
+    shown = subst (λ (n : ℕ). IsShown a (take n es) (net_of (seen a (own_free r) es))) (sym is_own) (is_shown a (own_free r) es)
 
-    step : IsStep (signature_of t) (net_of (parts_of (reducer_view r))) (redex_at at.rule one.0 two.0) (named ns) (net_of (seen a r.checked.now.net.free es))
-    step = shown_is_step t (interaction_of setting ns) own a es (net_of (seen a r.checked.now.net.free es)) did.0 shown (same_kinds fs es still_fits ∙ sym (same_kinds fs r.ends.items fits_ends))
+    step : IsStep (signature_of t) (net_of (parts_of (reducer_view r))) (redex_at at.rule one.0 two.0) (named ns) (net_of (seen a (own_free r) es))
+    step = shown_is_step t (interaction_of setting ns) own a es (net_of (seen a (own_free r) es)) did.0 shown (same_kinds fs es still_fits ∙ sym (same_kinds fs r.ends.items fits_ends))
 
-    act : IsInteraction (system_of r.checked.now) (net_of (parts_of (reducer_view r))) (redex_at at.rule one.0 two.0) (named ns) (net_of (seen a r.checked.now.net.free es))
+    act : IsInteraction (system_of r.checked.now) (net_of (parts_of (reducer_view r))) (redex_at at.rule one.0 two.0) (named ns) (net_of (seen a (own_free r) es))
     act = record {
       at = record {
         one = ap (option_map (λ (s : SymbolNo). s.0)) at.is_rule.one;
@@ -168,12 +173,12 @@ module _ (r : Inside) (k : IsKept r) (i : ℕ) (p : TemplateParts) (at : IsTempl
       step = step;
     }
 
-    sound : IsSound (system_of r.checked.now) (net_of (seen a r.checked.now.net.free es))
+    sound : IsSound (system_of r.checked.now) (net_of (seen a (own_free r) es))
     sound =
-        sound_steps (system_of r.checked.now) (net_of (parts_of (reducer_view r))) (redex_at at.rule one.0 two.0) (named ns) (net_of (seen a r.checked.now.net.free es))
+        sound_steps (system_of r.checked.now) (net_of (parts_of (reducer_view r))) (redex_at at.rule one.0 two.0) (named ns) (net_of (seen a (own_free r) es))
         (is_sound k.reducer.accepted.0 r.checked.now k.reducer.accepted.1) k.reducer.net.sound act
 
-    acts : InteractsAs t (parts_of (reducer_view r)) at.rule one two (named ns) (seen a r.checked.now.net.free es)
+    acts : InteractsAs t (parts_of (reducer_view r)) at.rule one two (named ns) (seen a (own_free r) es)
     acts = record {
       step = step;
       over = is_over t a fs es sound.net sound.within;
@@ -187,7 +192,7 @@ module _ (r : Inside) (k : IsKept r) (i : ℕ) (p : TemplateParts) (at : IsTempl
     are_made = record { over = did.1.0; own = p.member.pairs; are_over = did.1.2; are_own = at.template.member.pairs; listed = refl }
 
     abbrev pub after : List (ℕ × ℕ) → MachineParts
-    after queue = record { program = r.checked.now; agents = agents_in a; free = leading_to r.checked.now.net.free es; queue = queue; vacant = vacant_in a }
+    after queue = record { program = r.checked.now; agents = agents_in a; free = leading_to (own_free r) es; queue = queue; vacant = vacant_in (at_rest a) }
 
     abbrev pub final : List (ℕ × ℕ)
     final = remove r.queue.items i ++ map numbers_of news
@@ -203,7 +208,7 @@ module _ (r : Inside) (k : IsKept r) (i : ℕ) (p : TemplateParts) (at : IsTempl
       made = news;
       new = are_made;
       queue = refl;
-      cells = λ c. has_cells t a net c ∙ cells ∙ sym (has_cells t r.arena k.net c);
+      cells = λ c. cells_at_rest t a net c ∙ cells ∙ sym (cells_at_rest t r.arena k.net c);
     }
 
     pub reducer_after : IsReducer (after final)
@@ -222,7 +227,7 @@ module _ (r : Inside) (k : IsKept r) (i : ℕ) (p : TemplateParts) (at : IsTempl
     few_pairs =
         let short = short_queue (after final) reducer_after in
         let one = reducer_after.cells.2 Small in
-        let other = has_cells t a net Small in
+        let other = cells_at_rest t a net Small in
         let room = k.queue in
         omega (arith, short, one, other, cells, room)
 

@@ -1,34 +1,69 @@
 -- What contracts see of a reducer's fields, and what these fields keep.
-use Rattle.std.specs.Prelude.{◌≡◌, ◌+◌, ◌*◌, ◌≤◌, ℕ, [], length, Some, slice_get, vec_capacity}
+use Rattle.std.specs.Prelude.{◌≡◌, ◌+◌, ◌*◌, ◌≤◌, ◌<◌, ℕ, false, List, [], length, map, Some, slice_get, slice_index_or, vec_capacity}
 use Rattle.std.specs.VecDeque.{deque_capacity}
-use Rattle.in_arena.specs.Arenas.{ArenaView}
+use Rattle.in_arena.specs.Arenas.{ArenaView, NoneLeased}
 use Rattle.in_arena.specs.Changes.{HasAllCells}
 use Rattle.in_arena.specs.Classes.{classes}
 use Rattle.in_arena.specs.declared.content.CellClass.{CellClass}
+use Rattle.in_symbols.specs.declared.symbols.PortType.{PortType}
+use Rattle.in_net.specs.declared.nets.FreeEnd.{FreeEnd}
+use Rattle.in_net.specs.declared.nets.Point.TheVariants.{Free}
 use Rattle.in_net.specs.NetFaults.{max_member_agents}
 use Rattle.in_net.specs.Rules.{RuleParts}
 use Rattle.in_check.specs.Programs.{Program}
 use Rattle.in_compile.specs.Cells.{agents_of, count_of}
-use Rattle.in_reducer.specs.declared.reducer.Reducer.TheInside.{Inside}
+use Rattle.in_compile.specs.Templates.{TemplateParts}
+use Rattle.in_reducer.specs.declared.body.Body.{Body}
+use Rattle.in_reducer.specs.declared.body.OwnEnd.{OwnEnd}
+use Rattle.in_reducer.specs.declared.body.OwnEnd.TheVariants.{Named, Cut}
 use Rattle.in_reducer.specs.declared.tools.Tools.{Tools}
 use Rattle.in_reducer.specs.Limiting.{most_cells}
 use Rattle.in_reducer.specs.Machines.{MachineParts}
-use Rattle.in_reducer.specs.Placed.{IsNoneOf}
+use Rattle.in_reducer.specs.Placed.{IsNoneOf, IsPut}
 use Rattle.in_reducer.specs.Reducers.{IsReducer}
-use Rattle.in_reducer.specs.Standing.{agents_in, leading_to, vacant_in, IsNetIn}
+use Rattle.in_reducer.specs.Standing.{agents_in, at_rest, leading_to, vacant_in, IsNetIn}
+use Rattle.in_reducer.specs.Steps.{HasRoomAt}
+use Rattle.in_reducer.specs.Templates.{IsTemplateAt}
 
-abbrev pub reducer_view : Inside → MachineParts
+-- ---- free ends
+
+abbrev cut_end : PortType → FreeEnd
+cut_end kind = record { name = []; kind = kind; end = Free 0 }
+
+-- the name and type of a free end; where it leads is said elsewhere
+abbrev pub declared_as : Program → OwnEnd → FreeEnd
+declared_as p (Named k) = slice_index_or p.net.free k (cut_end (record { kind = 0; output = false }))
+declared_as p (Cut kind) = cut_end kind
+
+abbrev pub own_free : Body → List FreeEnd
+own_free r = map (declared_as r.checked.now) r.free.items
+
+-- a free end of the program is there
+abbrev pub IsOwnEnd : Program → OwnEnd → Type 0
+IsOwnEnd p (Named k) = k < length p.net.free
+IsOwnEnd p (Cut kind) = Unit {0}
+
+-- ---- what contracts see
+
+-- a cell that is on lease counts as free
+abbrev pub reducer_view : Body → MachineParts
 reducer_view r = record {
   program = r.checked.now;
   agents = agents_in r.arena;
-  free = leading_to r.checked.now.net.free r.ends.items;
+  free = leading_to (own_free r) r.ends.items;
   queue = r.queue.items;
-  vacant = vacant_in r.arena;
+  vacant = vacant_in (at_rest r.arena);
 }
+
+-- ---- what the fields keep
 
 -- the most boundary ends that a rule has
 abbrev pub most_ends : ℕ
 most_ends = 32
+
+-- the most free ends
+abbrev pub most_free : ℕ
+most_free = 65536
 
 -- the tools are of this arena, hold nothing, and have room for so many agents and pairs
 pub record AreTools (x : Tools) (a : ArenaView) : Type 0 where
@@ -43,20 +78,43 @@ pub record AreTools (x : Tools) (a : ArenaView) : Type 0 where
 abbrev pub AreToolsFor : Program → Tools → Type 0
 AreToolsFor p x = (k : ℕ) (r : RuleParts) (c : CellClass) → slice_get p.rules k ≡ Some r → agents_of p.tables c r.member.cells ≤ count_of x.stock.room c
 
-pub record IsKept (r : Inside) : Type 0 where
+-- what is kept of the net, of whatever tools
+pub record KeepsNet (r : Body) : Type 0 where
   pub reducer : IsReducer (reducer_view r)
-  pub net : IsNetIn r.checked.now.tables r.arena
+  pub net : IsNetIn r.checked.now.tables (at_rest r.arena)
   pub few : r.arena.cells ≤ most_cells
-  pub ends : length r.checked.now.net.free + most_ends + most_ends ≤ length r.ends.items
-  pub tools : AreTools r.tools r.arena
-  pub tools_for : AreToolsFor r.checked.now r.tools
+  pub few_free : length r.free.items ≤ most_free
+  pub free : (k : ℕ) (e : OwnEnd) → slice_get r.free.items k ≡ Some e → IsOwnEnd r.checked.now e
+  pub ends : length r.free.items + most_ends + most_ends ≤ length r.ends.items
   pub queue : length classes * r.arena.cells ≤ 2 * deque_capacity r.queue + 1
 
--- the tools are of this arena and hold nothing but new pairs, with the room that they had
-pub record AreUsed (old new : Tools) (a : ArenaView) : Type 0 where
-  pub stock : IsNoneOf new.stock.bag a
-  pub stock_all : HasAllCells new.stock.bag
-  pub placed : IsNoneOf new.placed.bag a
-  pub stock_room : new.stock.room ≡ old.stock.room
-  pub placed_room : new.placed.room ≡ old.placed.room
+-- .. while cells may be on lease
+pub record KeepsAll (r : Body) : Type 0 where
+  pub net : KeepsNet r
+  pub tools : AreTools r.tools r.arena
+  pub tools_for : AreToolsFor r.checked.now r.tools
+
+-- .. and between two calls none is
+pub record IsKept (r : Body) : Type 0 where
+  pub all : KeepsAll r
+  pub none : NoneLeased r.arena
+
+-- ---- while a right member stands beside its pair
+
+-- the same over this arena
+abbrev pub over : ArenaView → Body → Body
+over a r = record { checked = r.checked; arena = a; free = r.free; ends = r.ends; queue = r.queue; tools = r.tools }
+
+-- over that arena it was a reducer, with room for this pair, of whose template the right member stands beside it now
+pub record StandsBeside (r : Body) (a : ArenaView) (i : ℕ) (p : TemplateParts) : Type 0 where
+  pub net : KeepsNet (over a r)
+  pub at : IsTemplateAt (reducer_view (over a r)) i p
+  pub room : HasRoomAt (reducer_view (over a r)) i
+  pub put : IsPut p.member r.tools.placed.cells a r.arena
+
+-- the tools are those of before, but for the list of new pairs, which is empty and has the room that it had
+pub record AreAsBefore (old new : Tools) : Type 0 where
+  pub stock : new.stock ≡ old.stock
+  pub placed : new.placed ≡ old.placed
+  pub made : new.made.items ≡ []
   pub made_room : vec_capacity new.made ≡ vec_capacity old.made

@@ -14,6 +14,7 @@ use Rattle.in_joining.specs.Between.{Interaction, IsDone, AddsMade}
 use Rattle.in_joining.specs.Shown.{IsShown}
 use Rattle.in_compile.specs.Templates.{TemplateParts, IsTemplateOf}
 use Rattle.in_reducer.specs.declared.sides.Pair.{Pair}
+use Rattle.in_reducer.specs.Placed.{IsPut}
 
 -- a net, and two agents of it that interact by a rule
 pub record Setting : Type 0 where
@@ -47,3 +48,7 @@ pub record IsAbout (t : Tables) (s : Setting) (p : TemplateParts) (pair : Pair) 
 -- the cells show the net after the interaction, and the pairs that it makes over boundary ends were added
 abbrev pub IsInteracted : Tables → Setting → ℕ → List CellNo → ArenaView → List End → List (ℕ × ℕ) → List (ℕ × ℕ) → Type 0
 IsInteracted t s own ns a ends old new = IsDone t (interaction_of s ns) own a ends × AddsMade t (interaction_of s ns) old new
+
+-- .. and beside it stands the right member, in these cells, which showed none
+abbrev pub IsBeside : Tables → Setting → TemplateParts → Pair → ℕ → List CellNo → ArenaView → List End → Type 0
+IsBeside t s p pair own ns b ends = (a : ArenaView) × IsAbout t s p pair own a ends × IsPut p.member ns a b

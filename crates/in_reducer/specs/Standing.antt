@@ -1,9 +1,9 @@
 -- A net in cells: its agents are what live cells hold, and its free ends lead to the ends of a list.
-use Rattle.std.specs.Prelude.{◌≡◌, ℕ, true, List, [], ◌∷◌, map, Option, Some, None}
+use Rattle.std.specs.Prelude.{◌≡◌, ◌<◌, ℕ, true, List, [], ◌∷◌, length, map, Option, Some, None}
 use Rattle.in_arena.specs.Arenas.{ArenaView, NoneLeased, free_of, state_at}
 use Rattle.in_arena.specs.Changes.{HasAllCells}
 use Rattle.in_arena.specs.Classes.{IsNumberOf}
-use Rattle.in_arena.specs.States.{State, Vacant, Leased, Live, word_of}
+use Rattle.in_arena.specs.States.{State, Vacant, Leased, Live, IsLeased, word_of}
 use Rattle.in_arena.specs.declared.content.CellClass.{CellClass}
 use Rattle.in_arena.specs.declared.content.CellClass.TheVariants.{Small, Large, Wide}
 use Rattle.in_arena.specs.declared.content.End.{End}
@@ -29,6 +29,15 @@ leading_to [] es = []
 leading_to (f ∷ fs) [] = []
 leading_to (f ∷ fs) (e ∷ es) = record { name = f.name; kind = f.kind; end = point_at e } ∷ leading_to fs es
 
+-- the arena with each leased cell free: what it shows where no lease is out, and what counts as free while some are
+abbrev pub rested : State → State
+rested Vacant = Vacant
+rested Leased = Vacant
+rested (Live word ends) = Live word ends
+
+abbrev pub at_rest : ArenaView → ArenaView
+at_rest a = record { memory = a.memory; cells = a.cells; states = map rested a.states }
+
 abbrev pub vacant_in : ArenaView → Need
 vacant_in a = record { small = free_of a Small; large = free_of a Large; wide = free_of a Wide }
 
@@ -37,3 +46,11 @@ pub record IsNetIn (t : Tables) (a : ArenaView) : Type 0 where
   pub all : HasAllCells a
   pub none : NoneLeased a
   pub classed : (c : CellClass) (n s : ℕ) → IsNumberOf a.cells c n → word_of (state_at a n) ≡ Some s → is_of t c s ≡ true
+
+-- the same cells are on lease in both
+pub record AreLeasedAlike (a b : ArenaView) : Type 0 where
+  pub memory : b.memory ≡ a.memory
+  pub cells : b.cells ≡ a.cells
+  pub many : length b.states ≡ length a.states
+  pub stay : (n : ℕ) → IsLeased (state_at a n) → IsLeased (state_at b n)
+  pub none : (n : ℕ) → n < length a.states → IsLeased (state_at b n) → IsLeased (state_at a n)

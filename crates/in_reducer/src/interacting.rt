@@ -1,21 +1,18 @@
 // One interaction, over cells.
-ghost use Rattle.std.specs.Prelude.{◌≡◌, ◌≤◌, ◌+◌, length, List};
-ghost use Rattle.in_arena.specs.Arenas.{free_of};
-ghost use Rattle.in_compile.specs.Cells.{count_of, IsEnough};
-ghost use Rattle.in_reducer.specs.Inside.{AreTools, AreUsed, most_ends};
-ghost use Rattle.in_reducer.specs.Interacting.{Setting, IsAbout, IsInteracted};
-ghost use Rattle.in_reducer.specs.Standing.{IsNetIn};
+ghost use Rattle.std.specs.Prelude.{◌≡◌, ◌≤◌, ◌+◌, [], length, vec_capacity};
+ghost use Rattle.in_compile.specs.Members.{IsSound};
+ghost use Rattle.in_reducer.specs.Inside.{most_ends};
+ghost use Rattle.in_reducer.specs.Interacting.{Setting, IsBeside, IsInteracted};
+ghost use Rattle.in_reducer.specs.Standing.{IsNetIn, AreLeasedAlike, at_rest};
 
-use crate::placing::put;
 use crate::sides::{Pair, set_sides};
-use crate::tools::Tools;
 use in_arena::{Arena, End};
-use in_compile::Template;
+use in_compile::{Placed, Template};
 use in_joining::join_all;
 use in_symbols::Symbols;
 
-/// The interaction of a pair, in place: the right member is placed beside it, the sides of the boundary ends are set, the pair's cells are
-/// free from then on, and the ends are joined. What the template needs is free while the pair still stands. It takes no memory.
+/// The interaction of a pair beside which its right member stands: the sides of the boundary ends are set, the pair's cells are free from
+/// then on, and the ends are joined, by what stands at them now. It takes no memory, and other cells may be on lease.
 pub(crate) fn interact(
     symbols: &Symbols,
     template: &Template,
@@ -23,32 +20,23 @@ pub(crate) fn interact(
     own: u32,
     arena: &mut Arena,
     ends: &mut [End],
-    tools: &mut Tools,
+    placed: &Placed,
+    made: &mut Vec<(u32, u32)>,
 )
-    requires about { (s : Setting) × IsAbout symbols.now s template.now pair own arena.old ends.old }
-    requires net { IsNetIn symbols.now arena.old }
-    requires free { IsEnough (count_of template.now.member.need) (free_of arena.old) }
-    requires tools { AreTools tools.old arena.old }
-    requires stock_room { IsEnough (count_of template.now.member.need) (count_of tools.old.stock.room) }
-    requires room { length template.now.member.agents ≤ tools.old.placed.room }
+    requires beside { (s : Setting) × IsBeside symbols.now s template.now pair own placed.now.cells arena.old ends.old }
+    requires net { IsNetIn symbols.now (at_rest arena.old) }
     requires few { length template.now.member.joints ≤ most_ends }
     requires own { own ≤ 65536 }
-    ensures interacted { (s : Setting) → IsAbout symbols.now s template.now pair own arena.old ends.old → IsInteracted symbols.now s own tools.new.placed.cells arena.new ends.new tools.old.made.items tools.new.made.items }
-    ensures net { IsNetIn symbols.now arena.new }
-    ensures cells { arena.new.cells ≡ arena.old.cells }
+    requires room { own + length template.now.member.joints + length template.now.member.joints ≤ length ends.old }
+    requires made_room { length made.old.items + most_ends ≤ vec_capacity made.old }
+    ensures interacted { (s : Setting) → IsBeside symbols.now s template.now pair own placed.now.cells arena.old ends.old → IsInteracted symbols.now s own placed.now.cells arena.new ends.new made.old.items made.new.items }
+    ensures net { IsNetIn symbols.now (at_rest arena.new) }
+    ensures leased { AreLeasedAlike arena.old arena.new }
     ensures long { length ends.new ≡ length ends.old }
-    ensures tools { AreUsed tools.old tools.new arena.new }
-    ensures placed { length tools.new.placed.cells ≡ length template.now.member.agents }
+    ensures made_room { vec_capacity made.new ≡ vec_capacity made.old }
 {
     let many = u32::from(template.boundary_ends());
-    let member = template.member();
-    member.is_sound();
-    let Tools {
-        stock,
-        placed,
-        made,
-    } = tools;
-    put(member, arena, stock, placed);
+    template.member().is_sound();
     set_sides(arena, pair, template, placed, own, ends);
     arena.retire(pair.one);
     arena.retire(pair.other);

@@ -2,6 +2,7 @@
 //! and takes no memory.
 #![tactic(auto)]
 
+mod body;
 mod interacting;
 pub mod laws;
 mod looking;

@@ -1,10 +1,11 @@
 // What a reducer shows.
 ghost use Rattle.std.specs.Prelude.{◌≡◌, ◌<◌, length, count_by, is_some, Some, IsSome, slice_get};
-ghost use Rattle.in_net.specs.Parts.{IsPointOf, symbol_in, partner_in};
+ghost use Rattle.in_net.specs.Parts.{IsPointOf, symbol_in, partner_in, free_name_in};
 ghost use Rattle.in_compile.specs.Cells.{count_of};
 ghost use Rattle.in_reducer.specs.Machines.{parts_of, point_at};
 ghost use Rattle.in_reducer.specs.Reducers.{IsReducer};
 
+use crate::body::OwnEnd;
 use crate::reducer::Reducer;
 use in_arena::{CellClass, CellNo, End};
 use in_check::Checked;
@@ -15,7 +16,7 @@ impl<'a> Reducer<'a> {
     pub fn checked(&self) -> &'a Checked
         ensures { result.now ≡ self.now.program }
     {
-        self.checked
+        self.body.checked
     }
 
     /// How many active pairs are left.
@@ -23,7 +24,7 @@ impl<'a> Reducer<'a> {
         ensures count { result ≡ length self.now.queue }
         ensures reducer { IsReducer self.now }
     {
-        self.queue.len() as u32
+        self.body.queue.len() as u32
     }
 
     /// The active pair of that number in the queue, the constructor first.
@@ -32,7 +33,7 @@ impl<'a> Reducer<'a> {
         ensures pair { slice_get self.now.queue number ≡ Some (result.0.0, result.1.0) }
         ensures agents { IsSome (symbol_in (parts_of self.now) result.0.0) × IsSome (symbol_in (parts_of self.now) result.1.0) }
     {
-        let (one, other) = self.queue[number as usize];
+        let (one, other) = self.body.queue[number as usize];
         (CellNo(one), CellNo(other))
     }
 
@@ -40,7 +41,7 @@ impl<'a> Reducer<'a> {
     pub fn free(&self, class: CellClass) -> u32
         ensures { result ≡ count_of self.now.vacant class }
     {
-        self.arena.free_count(class)
+        self.body.arena.free_count(class)
     }
 
     /// How many agents there are.
@@ -49,7 +50,7 @@ impl<'a> Reducer<'a> {
     {
         let mut agents = 0;
         for class in CellClass::ALL {
-            agents += self.arena.cells() - self.arena.free_count(class);
+            agents += self.body.arena.cells() - self.body.arena.free_count(class);
         }
         agents
     }
@@ -60,8 +61,8 @@ impl<'a> Reducer<'a> {
         ensures { partner_in (parts_of self.now) (point_at end) ≡ Some (point_at result) }
     {
         match end {
-            End::Cell(cell, place) => self.arena.port(cell, place),
-            End::Free(number) => self.ends[number as usize],
+            End::Cell(cell, place) => self.body.arena.port(cell, place),
+            End::Free(number) => self.body.ends[number as usize],
         }
     }
 
@@ -70,13 +71,24 @@ impl<'a> Reducer<'a> {
         requires { IsSome (symbol_in (parts_of self.now) cell.0) }
         ensures { symbol_in (parts_of self.now) cell.0 ≡ Some result }
     {
-        SymbolNo(self.arena.symbol(cell))
+        self.body.symbol(cell)
     }
 
     /// How many free ends the net has.
     pub fn free_ends(&self) -> u32
         ensures { result ≡ length self.now.free }
     {
-        self.checked.net().free_ends()
+        self.body.free.len() as u32
+    }
+
+    /// The name of a free end; an end of a cut wire has none, and answers the empty text.
+    pub fn free_name(&self, number: u32) -> &str
+        requires { number < length self.now.free }
+        ensures { Some result.now ≡ free_name_in (parts_of self.now) number }
+    {
+        match self.body.free[number as usize] {
+            OwnEnd::Named(of_program) => self.body.checked.net().free_name(of_program),
+            OwnEnd::Cut(_) => "",
+        }
     }
 }

@@ -1,20 +1,12 @@
 // A net in cells that is reduced in place.
-use crate::tools::Tools;
-use in_arena::{Arena, End};
-use in_check::Checked;
-use std::collections::VecDeque;
+use crate::body::Body;
 use std::marker::Model;
 
 /// A sound net of a program over a number of cells: its active pairs are in a queue, and each interaction is done in place, without taking
-/// memory. It need not be one that the program reaches, but its free ends are those of the program, with their names and types.
-///
-/// What each free end leads to stands at its number in `ends`, and after that is room for the sides of the boundary ends of a pair.
+/// memory. It need not be one that the program reaches, and its free ends are its own: each is one of the program's, with its name and type,
+/// or an end of a wire that was cut, with its type and no name.
 pub struct Reducer<'a> {
-    pub(crate) checked: &'a Checked,
-    pub(crate) arena: Arena,
-    pub(crate) ends: Vec<End>,
-    pub(crate) queue: VecDeque<(u32, u32)>,
-    pub(crate) tools: Tools,
+    pub(crate) body: Body<'a>,
 }
 
 impl<'a> Model for Reducer<'a> {
@@ -24,20 +16,22 @@ impl<'a> Model for Reducer<'a> {
 
     ghost use Rattle.in_reducer.specs.Inside.{reducer_view, IsKept};
 
-    ghost view = { reducer_view };
+    ghost view = { λ r. reducer_view r.body };
 
-    ghost invariant = { IsKept };
+    ghost invariant = { λ r. IsKept r.body };
 }
 
 // Its arena can be dropped, since no cell is on lease between two calls.
 impl<'a> Drop for Reducer<'a> {
     fn drop(self) {
-        let Reducer {
+        let Reducer { body } = self;
+        let Body {
             checked: _,
             arena: _,
+            free: _,
             ends: _,
             queue: _,
             tools: _,
-        } = self;
+        } = body;
     }
 }

@@ -3,17 +3,20 @@ ghost use Rattle.std.specs.Prelude.{◌≡◌, ◌≤◌, ◌<◌, ◌+◌, ℕ,
 ghost use Rattle.std.specs.VecDeque.{deque_capacity};
 ghost use Rattle.in_arena.specs.declared.content.CellClass.{CellClass as Class};
 ghost use Rattle.in_arena.specs.Arenas.{free_of};
+ghost use Rattle.in_check.specs.Programs.{Program};
 ghost use Rattle.in_compile.specs.declared.joints.Joint.{Joint as Target};
 ghost use Rattle.in_compile.specs.Cells.{agents_of, count_of, IsEnough};
 ghost use Rattle.in_compile.specs.Templates.{AreTemplatesOf, TemplateParts};
 ghost use Rattle.in_interaction.specs.Queues.{both};
-ghost use Rattle.in_reducer.specs.Inside.{AreTools, AreToolsFor, most_ends};
+ghost use Rattle.in_reducer.specs.declared.body.OwnEnd.{OwnEnd as Own};
+ghost use Rattle.in_reducer.specs.Inside.{AreTools, AreToolsFor, IsOwnEnd, declared_as, most_ends};
 ghost use Rattle.in_reducer.specs.Interacting.{named};
 ghost use Rattle.in_reducer.specs.Limiting.{most_cells};
 ghost use Rattle.in_reducer.specs.Placed.{IsPut};
 ghost use Rattle.in_reducer.specs.Sides.{inner_of, HasJoint};
 ghost use Rattle.in_reducer.specs.Starts.{IsStart};
 
+use crate::body::{Body, OwnEnd};
 use crate::placing::put;
 use crate::queueing::queue_own;
 use crate::reducer::Reducer;
@@ -22,7 +25,7 @@ use crate::tools::Tools;
 use in_arena::{Arena, CellClass, End};
 use in_check::Checked;
 use in_compile::{Member, Placed, Stock, Templates};
-use in_net::MAX_MEMBER_AGENTS;
+use in_net::{MAX_MEMBER_AGENTS, Net};
 use std::alloc::{AllocError, Global};
 use std::collections::VecDeque;
 
@@ -51,6 +54,19 @@ fn place_start(alloc: Global, start: &Member, arena: &mut Arena) -> Result<Place
     let mut placed = Placed::empty(alloc, arena, start.agents())?;
     put(start, arena, &mut stock, &mut placed);
     Ok(placed)
+}
+
+/// The program's free ends.
+fn free_ends(alloc: Global, net: &Net) -> Result<Vec<OwnEnd>, AllocError>
+    ensures program { (p : Program) → p.net ≡ net.now → IfOk result (λ v. map (declared_as p) v.items ≡ p.net.free) }
+    ensures each { (p : Program) → p.net ≡ net.now → IfOk result (λ v. (k : ℕ) (e : Own) → slice_get v.items k ≡ Some e → IsOwnEnd p e) }
+{
+    let own = net.free_ends();
+    let mut free = Vec::with_capacity(alloc, own as usize)?;
+    for number in 0..own {
+        free.push_reserved(OwnEnd::Named(number));
+    }
+    Ok(free)
 }
 
 /// What the program's free ends lead to, and after that room for the sides of boundary ends.
@@ -105,15 +121,19 @@ impl<'a> Reducer<'a> {
         let tools = tools_for(alloc, templates, &arena)?;
         let start = templates.start();
         let placed = place_start(alloc, start, &mut arena)?;
+        let free = free_ends(alloc, checked.net())?;
         let ends = ends_of(alloc, start, &placed)?;
         let room = CellClass::ALL.len() * cells as usize / 2;
         let queue = queue_of(alloc, start, &placed, room)?;
         Ok(Reducer {
-            checked,
-            arena,
-            ends,
-            queue,
-            tools,
+            body: Body {
+                checked,
+                arena,
+                free,
+                ends,
+                queue,
+                tools,
+            },
         })
     }
 }

@@ -1,29 +1,113 @@
 // One interaction of a reducer.
-ghost use Rattle.std.specs.Prelude.{◌≡◌, ◌<◌, length};
+ghost use Rattle.std.specs.Prelude.{◌≡◌, ◌<◌, ◌≤◌, [], length, IsSome, Some, vec_capacity};
+ghost use Rattle.in_arena.specs.Arenas.{ArenaView};
 ghost use Rattle.in_compile.specs.Templates.{AreTemplatesOf};
-ghost use Rattle.in_reducer.specs.Reducers.{IsReducer};
+ghost use Rattle.in_net.specs.Parts.{symbol_in};
+ghost use Rattle.in_reducer.specs.Inside.{AreAsBefore, IsKept, KeepsNet, StandsBeside, most_ends, over, reducer_view};
+ghost use Rattle.in_reducer.specs.Machines.{parts_of};
+ghost use Rattle.in_reducer.specs.Standing.{AreLeasedAlike};
 ghost use Rattle.in_reducer.specs.Steps.{NeedsAt, HasRoomAt, StepsAt};
-ghost use Rattle.in_reducer.specs.Templates.{IsTemplateAt};
+ghost use Rattle.in_reducer.specs.Templates.{HasHeadsAt, IsTemplateAt};
 
+use crate::body::Body;
 use crate::interacting::interact;
+use crate::placing::put;
 use crate::queueing::{queue_made, queue_own, take_out};
 use crate::reducer::Reducer;
 use crate::sides::Pair;
+use crate::tools::Tools;
 use in_arena::CellNo;
 use in_compile::{Need, Template, Templates};
+use in_symbols::SymbolNo;
 
-impl<'a> Reducer<'a> {
-    /// The template of the pair of that number: its agents' symbols match, and match one rule.
-    fn template<'b>(&self, templates: &'b Templates, number: u32) -> &'b Template
-        requires templates { AreTemplatesOf self.now.program templates.now }
-        requires pair { number < length self.now.queue }
-        ensures { IsTemplateAt self.now number result.now }
+impl<'a> Body<'a> {
+    /// The symbol of an agent.
+    pub(crate) fn symbol(&self, cell: CellNo) -> SymbolNo
+        requires { IsSome (symbol_in (parts_of (reducer_view self.now)) cell.0) }
+        ensures { symbol_in (parts_of (reducer_view self.now)) cell.0 ≡ Some result }
     {
-        self.pairs();
-        let (one, other) = self.pair(number);
-        templates.of(self.symbol(one), self.symbol(other))
+        SymbolNo(self.arena.symbol(cell))
     }
 
+    /// The symbols of the pair of that number, in its order.
+    pub(crate) fn heads(&self, number: u32) -> (SymbolNo, SymbolNo)
+        requires net { KeepsNet self.now }
+        requires pair { number < length self.now.queue.items }
+        ensures { HasHeadsAt (reducer_view self.now) number result }
+    {
+        let (one, other) = self.queue[number as usize];
+        (self.symbol(CellNo(one)), self.symbol(CellNo(other)))
+    }
+
+    /// The template of the pair of that number: its agents' symbols match, and match one rule.
+    pub(crate) fn template<'b>(&self, templates: &'b Templates, number: u32) -> &'b Template
+        requires net { KeepsNet self.now }
+        requires templates { AreTemplatesOf self.now.checked.now templates.now }
+        requires pair { number < length self.now.queue.items }
+        ensures { IsTemplateAt (reducer_view self.now) number result.now }
+    {
+        let (constructor, destructor) = self.heads(number);
+        templates.of(constructor, destructor)
+    }
+
+    /// The interaction of the pair of that number, beside which the right member of its template stands in the cells that the tools tell.
+    /// The pair leaves the queue, and the new pairs come last: first those over boundary ends, by the lowest-numbered one on the path that
+    /// made each, then the right member's own. It takes no memory.
+    #[inline(always)]
+    pub(crate) fn finish(&mut self, template: &Template, number: u32)
+        requires beside { (a : ArenaView) × StandsBeside self.old a number template.now }
+        requires made { (self.old.tools.made.items ≡ []) × (most_ends ≤ vec_capacity self.old.tools.made) }
+        ensures steps { (a : ArenaView) → StandsBeside self.old a number template.now → StepsAt (reducer_view (over a self.old)) number (reducer_view self.new) }
+        ensures net { KeepsNet self.new }
+        ensures leased { AreLeasedAlike self.old.arena self.new.arena }
+        ensures tools { AreAsBefore self.old.tools self.new.tools }
+        ensures program { self.new.checked ≡ self.old.checked }
+    {
+        let (one, other) = self.queue[number as usize];
+        let pair = Pair {
+            one: CellNo(one),
+            other: CellNo(other),
+            first_ends: template.first_ends(),
+        };
+        let own = self.free.len() as u32;
+        take_out(&mut self.queue, number as usize);
+        interact(
+            self.checked.symbols(),
+            template,
+            pair,
+            own,
+            &mut self.arena,
+            self.ends.as_mut_slice(),
+            &self.tools.placed,
+            &mut self.tools.made,
+        );
+        queue_made(&mut self.tools.made, &mut self.queue);
+        queue_own(template.member(), &self.tools.placed, &mut self.queue);
+    }
+
+    /// The interaction of the pair of that number, by the rule of its symbols, as `Reducer::step` says.
+    #[inline(always)]
+    pub(crate) fn step(&mut self, templates: &Templates, number: u32)
+        requires kept { IsKept self.old }
+        requires templates { AreTemplatesOf self.old.checked.now templates.now }
+        requires pair { number < length self.old.queue.items }
+        requires room { HasRoomAt (reducer_view self.old) number }
+        ensures kept { IsKept self.new }
+        ensures steps { StepsAt (reducer_view self.old) number (reducer_view self.new) }
+        ensures program { self.new.checked ≡ self.old.checked }
+    {
+        let template = self.template(templates, number);
+        let Tools {
+            stock,
+            placed,
+            made: _,
+        } = &mut self.tools;
+        put(template.member(), &mut self.arena, stock, placed);
+        self.finish(template, number);
+    }
+}
+
+impl<'a> Reducer<'a> {
     /// How many cells of each class the interaction of the pair of that number needs: the agents of its rule's right member. They have to
     /// be free while the pair still stands. The templates are those of the program.
     pub fn need_of(&self, templates: &Templates, number: u32) -> Need
@@ -31,7 +115,8 @@ impl<'a> Reducer<'a> {
         requires pair { number < length self.now.queue }
         ensures { NeedsAt self.now number result }
     {
-        self.template(templates, number).need()
+        self.pairs();
+        self.body.template(templates, number).need()
     }
 
     /// The interaction of the pair of that number, by the rule of its symbols: Lafont 1990's, which replaces the pair by the right member.
@@ -44,27 +129,6 @@ impl<'a> Reducer<'a> {
         requires room { HasRoomAt self.old number }
         ensures { StepsAt self.old number self.new }
     {
-        let template = self.template(templates, number);
-        let (one, other) = self.queue[number as usize];
-        let pair = Pair {
-            one: CellNo(one),
-            other: CellNo(other),
-            first_ends: template.first_ends(),
-        };
-        take_out(&mut self.queue, number as usize);
-        self.checked.is_accepted();
-        let own = self.checked.net().free_ends();
-        let symbols = self.checked.symbols();
-        interact(
-            symbols,
-            template,
-            pair,
-            own,
-            &mut self.arena,
-            self.ends.as_mut_slice(),
-            &mut self.tools,
-        );
-        queue_made(&mut self.tools.made, &mut self.queue);
-        queue_own(template.member(), &self.tools.placed, &mut self.queue);
+        self.body.step(templates, number);
     }
 }

@@ -89,7 +89,7 @@ impl<'a> Machine<'a> {
         requires { number < length self.now.free }
         ensures { Some result.now ≡ free_name_in (parts_of self.now) number }
     {
-        self.reducer.checked().net().free_name(number)
+        self.reducer.free_name(number)
     }
 
     /// How many cells of each class the interaction of the pair of that number needs: the agents of its rule's right member. They have to

@@ -2,24 +2,30 @@ use Rattle.std.proofs.Common.{count_by, is_some, sym, ap, ◌∙◌, arith}
 use Rattle.in_reducer.specs.Machines.{MachineParts}
 use Rattle.in_reducer.specs.Standing.{agents_in}
 use Rattle.in_reducer.proofs.Accepted.{few_ports}
+use Rattle.in_reducer.proofs.AtRest.{net_rests}
 use Rattle.in_reducer.proofs.Looked.{one_more_class, no_more, all_counted}
 use Rattle.in_reducer.proofs.Queues.{all_classes}
 use Rattle.in_reducer.proofs.reducer.Reducer.agents.Goals as goal
 
 pub overflow_add-agents : goal.overflow_add-agents
 overflow_add-agents c =
-    let few = c.self.invariant.few in
-    let room = no_more c.self.inside.checked.now.tables c.self.inside.arena c.self.invariant.net c.loop-class.class-index c.loop-class.agents c.cells.result c.free_count.result c.loop-class-test.true c.loop-class.invariant c.cells.ensures.0 c.free_count.ensures in
+    let few = c.self.invariant.all.net.few in
+    let r = c.self.inside.body in
+    let net = net_rests r.checked.now.tables r.arena c.self.invariant.none c.self.invariant.all.net.net in
+    let room = no_more r.checked.now.tables r.arena net c.loop-class.class-index c.loop-class.agents c.cells.result c.free_count.result c.loop-class-test.true c.loop-class.invariant c.cells.ensures.0 c.free_count.ensures in
     omega (arith, few, room)
 
 pub loop-class-preserved : goal.loop-class-preserved
 loop-class-preserved c =
-    one_more_class c.self.inside.checked.now.tables c.self.inside.arena c.self.invariant.net c.loop-class.class-index c.loop-class.agents c.cells.result c.free_count.result c.loop-class-test.true c.loop-class.invariant c.cells.ensures.0 c.free_count.ensures
+    let r = c.self.inside.body in
+    let net = net_rests r.checked.now.tables r.arena c.self.invariant.none c.self.invariant.all.net.net in
+    one_more_class r.checked.now.tables r.arena net c.loop-class.class-index c.loop-class.agents c.cells.result c.free_count.result c.loop-class-test.true c.loop-class.invariant c.cells.ensures.0 c.free_count.ensures
 
 pub returns : goal.returns
 returns c =
-    let p = c.self.inside.checked.now in
-    let a = c.self.inside.arena in
-    let accepted = c.self.invariant.reducer.accepted in
-    all_counted p.tables a c.self.invariant.net c.loop-class.class-index c.loop-class.agents c.loop-class-test.false c.loop-class.invariant ∙ sym (all_classes p.tables (few_ports accepted.0 p accepted.1) (agents_in a))
+    let p = c.self.inside.body.checked.now in
+    let a = c.self.inside.body.arena in
+    let accepted = c.self.invariant.all.net.reducer.accepted in
+    let net = net_rests p.tables a c.self.invariant.none c.self.invariant.all.net.net in
+    all_counted p.tables a net c.loop-class.class-index c.loop-class.agents c.loop-class-test.false c.loop-class.invariant ∙ sym (all_classes p.tables (few_ports accepted.0 p accepted.1) (agents_in a))
     ∙ ap (λ (m : MachineParts). count_by is_some m.agents) c.self.view_is

@@ -11,4 +11,4 @@ returns-clause-agents c =
     let q = c.index.result.now in
     let low = subst (λ (m : MachineParts). k < length m.queue) (sym c.self.view_is) c.requires in
     subst (λ (m : MachineParts). IsSome (symbol_in (parts_of m) q.0) × IsSome (symbol_in (parts_of m) q.1)) c.self.view_is
-    (have_symbols c.self.inside.checked.now.tables (parts_of (reducer_view c.self.inside)) q (c.self.invariant.reducer.queue.pairs k q (read_at c.self.inside.queue.items k q low c.index.ensures)))
+    (have_symbols c.self.inside.body.checked.now.tables (parts_of (reducer_view c.self.inside.body)) q (c.self.invariant.all.net.reducer.queue.pairs k q (read_at c.self.inside.body.queue.items k q low c.index.ensures)))

@@ -1,0 +1,23 @@
+// What a reducer works with, also while cells of its arena are lent to the workers of a round.
+use crate::tools::Tools;
+use in_arena::{Arena, End};
+use in_check::Checked;
+use in_symbols::PortType;
+use std::collections::VecDeque;
+
+/// A free end: the program's of this number, or an end of a wire that was cut, which has a type and no name.
+#[derive(Clone, Copy)]
+pub(crate) enum OwnEnd {
+    Named(u32),
+    Cut(PortType),
+}
+
+/// What each free end leads to stands at its number in `ends`, and after that is room for the sides of the boundary ends of a pair.
+pub(crate) struct Body<'a> {
+    pub(crate) checked: &'a Checked,
+    pub(crate) arena: Arena,
+    pub(crate) free: Vec<OwnEnd>,
+    pub(crate) ends: Vec<End>,
+    pub(crate) queue: VecDeque<(u32, u32)>,
+    pub(crate) tools: Tools,
+}
