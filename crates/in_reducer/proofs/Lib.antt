@@ -1,6 +1,7 @@
 pub mod Accepted
 pub mod AtRest
 pub mod Begun
+pub mod Besides
 pub mod Counted
 pub mod Finished
 pub mod Found
@@ -12,6 +13,7 @@ pub mod Queued
 pub mod Queues
 pub mod Requeued
 pub mod SetUp
+pub mod Settled
 pub mod Shown
 pub mod Sided
 pub mod StartKept

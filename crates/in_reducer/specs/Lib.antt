@@ -1,10 +1,12 @@
 pub mod Inside
 pub mod Interacting
 pub mod Laws
+pub mod Lent
 pub mod Limiting
 pub mod Machines
 pub mod Placed
 pub mod Reducers
+pub mod Runs
 pub mod Sides
 pub mod Standing
 pub mod Starts

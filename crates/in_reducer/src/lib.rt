@@ -12,6 +12,7 @@ mod reducer;
 mod sides;
 mod starting;
 mod stepping;
+mod stitching;
 mod tools;
 
 pub use in_arena::{CellClass, CellNo, End};

@@ -10,7 +10,7 @@ use Rattle.in_check.specs.NetText.{Words, text, IsQueue}
 use Rattle.in_check.specs.Runs.{HasEnded}
 use Rattle.in_reducer.specs.Machines.{MachineParts, parts_of}
 use Rattle.in_rounds.specs.Machines.{IsMachine}
-use Rattle.in_rounds.specs.Runs.{Runs, at_start, then_step}
+use Rattle.in_reducer.specs.Runs.{Runs, at_start, then_step}
 use Rattle.in_reducer.proofs.Queues.{agent_numbers, as_many}
 use Rattle.in_rounds.proofs.StepsOn.{machine_queue}
 use Rattle.in_rounds.specs.Texts.{words_of, text_of}

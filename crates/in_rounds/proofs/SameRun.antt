@@ -10,7 +10,7 @@ use Rattle.in_compile.specs.Cells.{agents_of, count_of, IsEnough}
 use Rattle.in_reducer.specs.Machines.{MachineParts, plain_of}
 use Rattle.in_rounds.specs.Machines.{IsMachine}
 use Rattle.in_reducer.specs.Steps.{NeedsAt, HasRoomAt, StepsAt}
-use Rattle.in_rounds.specs.Runs.{Runs, at_start, then_step}
+use Rattle.in_reducer.specs.Runs.{Runs, at_start, then_step}
 use Rattle.in_rounds.specs.Same.{IsSameMachine, AreSame}
 use Rattle.in_reducer.proofs.Accepted.{one_rule}
 use Rattle.in_compile.proofs.Classes.{same_need}

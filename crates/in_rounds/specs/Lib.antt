@@ -1,7 +1,6 @@
 pub mod MachineLaws
 pub mod Machines
 pub mod Rounds
-pub mod Runs
 pub mod Same
 pub mod Starts
 pub mod Texts

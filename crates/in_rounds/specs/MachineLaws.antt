@@ -15,7 +15,7 @@ use Rattle.in_rounds.specs.Machines.{IsMachine}
 use Rattle.in_rounds.specs.Rounds.{HasRoomFor, jobs_of, IsRound}
 use Rattle.in_reducer.specs.Steps.{HasRoomAt, StepsAt}
 use Rattle.in_reducer.specs.Starts.{IsStart}
-use Rattle.in_rounds.specs.Runs.{Runs}
+use Rattle.in_reducer.specs.Runs.{Runs}
 use Rattle.in_rounds.specs.Same.{AreSame}
 use Rattle.in_rounds.specs.Texts.{text_of}
 

@@ -6,7 +6,7 @@ use Rattle.in_compile.specs.declared.cells.Need.{Need}
 use Rattle.in_compile.specs.Cells.{count_of, IsEnough}
 use Rattle.in_reducer.specs.Machines.{MachineParts}
 use Rattle.in_reducer.specs.Steps.{NeedsAt}
-use Rattle.in_rounds.specs.Runs.{Runs}
+use Rattle.in_reducer.specs.Runs.{Runs}
 
 -- the first so many pairs need so many cells of each class together
 pub data NeedTogether (m : MachineParts) : ℕ → (CellClass → ℕ) → Type 0 where
