@@ -6,6 +6,7 @@ pub mod Counted
 pub mod Finished
 pub mod Found
 pub mod Laid
+pub mod Lending
 pub mod Looked
 pub mod Ordered
 pub mod Putting

@@ -30,12 +30,12 @@ module _ (m : MemberParts) (p : PlacedParts) (is : IsPlaced m p) (a b : ArenaVie
   is_put ns e = subst (λ (ns : List CellNo). IsPut m ns a b) (sym e) (record {
     count = is.count;
     each = λ k x n at here. (
-      let there = is.each k x n at here in
-      let in_it = is.written.cells.each k n here in (
-        subst (λ (z : ℕ). IsNumberOf z x.class n.0) (of.cells ∙ sym back.cells) there.0,
-        ap word_of (of.leased n.0 in_it),
-        back.back n.0 in_it ∙ there.1,
-      ));
+        let there = is.each k x n at here in
+        let in_it = is.written.cells.each k n here in (
+          subst (λ (z : ℕ). IsNumberOf z x.class n.0) (of.cells ∙ sym back.cells) there.0,
+          ap word_of (of.leased n.0 in_it),
+          back.back n.0 in_it ∙ there.1,
+        ));
     once = is.written.cells.once;
     others = λ n out. back.others n (not_in n out (leased_or (state_at p.bag n)));
     memory = back.memory;

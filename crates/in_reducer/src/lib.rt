@@ -9,6 +9,7 @@ mod looking;
 mod placing;
 mod queueing;
 mod reducer;
+mod rounding;
 mod sides;
 mod starting;
 mod stepping;

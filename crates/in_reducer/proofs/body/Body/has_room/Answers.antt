@@ -1,0 +1,44 @@
+use Rattle.std.proofs.Common.{◌≡◌, ◌≤◌, Bool, true, false, Option, Some, None, refl, sym, ap, subst, ◌∙◌, arith}
+use Rattle.std.specs.Prelude.{MatchOption, is_some, not}
+use Rattle.in_arena.specs.Arenas.{ArenaView, free_of}
+use Rattle.in_arena.specs.declared.content.CellClass.{CellClass}
+use Rattle.in_compile.specs.declared.cells.Need.{Need}
+use Rattle.in_compile.specs.Cells.{IsEnough, IsFirstShort, count_of}
+use Rattle.in_reducer.specs.Standing.{at_rest}
+use Rattle.in_reducer.proofs.AtRest.{rests}
+use Rattle.in_reducer.proofs.Stepped as stepped
+use Rattle.in_reducer.proofs.body.Body.has_room.Goals as goal
+
+enough_if : (o : Option CellClass) (need free : Need) → MatchOption o (IsEnough (count_of need) (count_of free)) (IsFirstShort (count_of need) (count_of free)) → is_some o ≡ false → IsEnough (count_of need) (count_of free)
+enough_if None need free h e = h
+enough_if (Some c) need free h e = absurd (let f : true ≡ false = e in cc)
+
+short_if : (o : Option CellClass) (need free : Need) → MatchOption o (IsEnough (count_of need) (count_of free)) (IsFirstShort (count_of need) (count_of free)) → is_some o ≡ true → (c : CellClass) × IsFirstShort (count_of need) (count_of free) c
+short_if None need free h e = absurd (let f : false ≡ true = e in cc)
+short_if (Some c) need free h e = (c, h)
+
+pub returns-clause-room : goal.returns-clause-room
+returns-clause-room c e =
+    let r = c.args.self.now in
+    let at = c.template.ensures in
+    let enough = enough_if c.first_short-short.result c.need-need.result c.vacant.result c.first_short-short.ensures (c.is_none.ensures ∙ ap not e) in (
+      c.need-need.result,
+      record { pair = at.pair; stands = at.stands; number = at.number; rule = at.rule; is_rule = at.is_rule; is_need = λ d. ap (λ (n : Need). count_of n d) c.need-need.ensures ∙ at.template.member.need d },
+      λ d. (
+        let l = enough d in
+        let v = c.vacant.ensures d in
+        let s = stepped.free_is (at_rest r.arena) d ∙ ap (λ (a : ArenaView). free_of a d) (rests r.arena c.requires.kept.none) in
+        omega (arith, l, v, s)
+        ),
+    )
+
+pub returns-clause-none : goal.returns-clause-none
+returns-clause-none c e room =
+    let r = c.args.self.now in
+    let k = c.requires.kept in
+    let short = short_if c.first_short-short.result c.need-need.result c.vacant.result c.first_short-short.ensures (c.is_none.ensures ∙ ap not e) in
+    let enough = stepped.enough r k.all.net 0 c.template.result.now c.template.ensures k.none room short.0 in
+    let v = c.vacant.ensures short.0 in
+    let n = ap (λ (n : Need). count_of n short.0) c.need-need.ensures in
+    let s = short.1.0 in
+    omega (arith, enough, v, n, s)
