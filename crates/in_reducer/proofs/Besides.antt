@@ -1,5 +1,5 @@
 -- What a worker placed stands beside its pair once it is settled.
-use Rattle.std.proofs.Common.{◌≡◌, ◌≤◌, ℕ, List, refl, subst, sym, arith}
+use Rattle.std.proofs.Common.{◌≡◌, ℕ, List, refl, subst, sym, arith}
 use Rattle.in_arena.specs.Arenas.{ArenaView}
 use Rattle.in_arena.specs.Bags.{IsBagOf}
 use Rattle.in_arena.specs.declared.content.CellNo.{CellNo}

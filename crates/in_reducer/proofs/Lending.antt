@@ -1,16 +1,14 @@
 -- While cells of a reducer's arena are on lease: what it shows doesn't depend on which are, and each leased cell is in a bag of those kept.
-use Rattle.std.proofs.Common.{◌≡◌, ◌≢◌, ◌⊎◌, inl, inr, ◌<◌, ◌≤◌, ◌+◌, ◌*◌, ℕ, zero, suc, Some, List, [], ◌∷◌, ◌++◌, length, length-append, map, get_or, remove, set, slice_get, All, refl, sym, ap, subst, ◌∙◌, arith}
+use Rattle.std.proofs.Common.{◌≡◌, ◌⊎◌, inl, inr, ◌<◌, ◌≤◌, ℕ, zero, suc, Some, List, [], ◌∷◌, ◌++◌, length, length-append, map, get_or, remove, set, slice_get, All, refl, sym, ap, subst, ◌∙◌, arith}
 use Rattle.std.proofs.lemmas.List.Elements.{All-cons, All-head, All-tail}
 use Rattle.in_arena.specs.Arenas.{ArenaView, NoneLeased, state_at}
 use Rattle.in_arena.specs.Bags.{IsBagOf, IsIn}
 use Rattle.in_arena.specs.States.{State, Vacant, Leased, Live, IsLeased}
 use Rattle.in_arena.proofs.Bags.{leased_or}
-use Rattle.in_symbols.specs.Tables.{Tables}
-use Rattle.in_net.specs.declared.nets.Cell.{Cell}
 use Rattle.in_compile.specs.Stocks.{Regains}
 use Rattle.in_gather.specs.Dones.{DoneParts}
 use Rattle.in_gather.specs.Gathers.{bags_of}
-use Rattle.in_gather.specs.Holding.{AreBagsOf, HaveAllLeased, Returns, holders}
+use Rattle.in_gather.specs.Holding.{HaveAllLeased, Returns, holders}
 use Rattle.in_gather.specs.declared.gather.Slot.{Slot}
 use Rattle.in_gather.specs.declared.gather.Slot.TheVariants.{Fresh, Kept, Taken}
 use Rattle.in_gather.proofs.Holding.{holders-cons, in_one, leased_of, out_of_one}
@@ -21,7 +19,9 @@ use Rattle.in_reducer.specs.Lent.{AreSettled}
 use Rattle.in_reducer.specs.Machines.{MachineParts}
 use Rattle.in_reducer.specs.Placed.{IsNoneOf}
 use Rattle.in_reducer.specs.Reducers.{IsReducer}
+use Rattle.in_reducer.specs.Runs.{Runs, at_start, then_step}
 use Rattle.in_reducer.specs.Standing.{IsNetIn, agents_in, at_rest, rested, vacant_in}
+use Rattle.in_work.specs.Lending.{AreLentOut}
 use Rattle.in_reducer.proofs.AtRest.{agents_same}
 
 -- ---- at rest
@@ -146,6 +146,27 @@ module _ (bs : List ArenaView) (a b : ArenaView) (have : HaveAllLeased bs a) (ba
           let one = have.all n (let c = back.count in omega (arith, l, c)) (subst IsLeased (back.others n (sym none)) leased) in
           omega (arith, one, none)
 
+-- ---- lent out
+
+module _ (bs : List ArenaView) (a b : ArenaView) (lent : AreLentOut bs a b) where
+  one_or_none : (k : ℕ) → k ≤ 1 → (k ≡ 1) ⊎ (k ≡ 0)
+  one_or_none zero l = inr refl
+  one_or_none (suc k) l = inl (omega (arith, l))
+
+  pub lent_alike : (n : ℕ) → n < length a.states → IsAlike (state_at a n) (state_at b n)
+  lent_alike n l = go (one_or_none (holders n bs) (lent.bags.once n))
+    where
+      go : (holders n bs ≡ 1) ⊎ (holders n bs ≡ 0) → IsAlike (state_at a n) (state_at b n)
+      go (inl one) = inr (inr (lent.free n one, leased_of bs b n lent.bags (omega (arith, one))))
+      go (inr none) = inl (lent.others n none)
+
+  pub lent_have : NoneLeased a → HaveAllLeased bs b
+  lent_have none = record { bags = lent.bags; all = λ n l leased. go n l leased (one_or_none (holders n bs) (lent.bags.once n)) }
+    where
+      go : (n : ℕ) → n < length b.states → IsLeased (state_at b n) → (holders n bs ≡ 1) ⊎ (holders n bs ≡ 0) → holders n bs ≡ 1
+      go n l leased (inl one) = one
+      go n l leased (inr zero_is) = absurd (none n (let c = lent.count in omega (arith, l, c)) (subst IsLeased (lent.others n zero_is) leased))
+
 -- ---- taken
 
 -- what holds of each bag holds of that of what is kept
@@ -216,12 +237,12 @@ module _ (slots : List Slot) (j : ℕ) (d : DoneParts) (at : slice_get slots j �
         once = λ n. (let both = take_holders n slots j d at in let once = have.bags.once n in omega (arith, both, once));
       };
       all = λ n l leased. (
-        let was = settled.none n (let m = settled.many in omega (arith, l, m)) leased in
-        let one = have.all n (let m = settled.many in omega (arith, l, m)) was.0 in
-        let both = take_holders n slots j d at in
-        let none = out_of_one d.placed.placed.bag n was.1 in
-        omega (arith, one, both, none)
-        );
+          let was = settled.none n (let m = settled.many in omega (arith, l, m)) leased in
+          let one = have.all n (let m = settled.many in omega (arith, l, m)) was.0 in
+          let both = take_holders n slots j d at in
+          let none = out_of_one d.placed.placed.bag n was.1 in
+          omega (arith, one, both, none)
+          );
     }
 
 -- ---- queues
@@ -230,3 +251,9 @@ module _ (slots : List Slot) (j : ℕ) (d : DoneParts) (at : slice_get slots j �
 pub one_fewer : (xs zs ys : List (ℕ × ℕ)) → ys ≡ remove xs 0 ++ zs → length xs ≤ suc (length ys)
 one_fewer [] zs ys e = omega arith
 one_fewer (x ∷ xs) zs ys e = let f = ap length e in let g = length-append xs zs in omega (arith, f, g)
+
+-- ---- runs
+
+pub none_run : (m n : MachineParts) (k : ℕ) → Runs m k n → k ≡ 0 → n ≡ m
+none_run m n k (at_start start) e = refl
+none_run m n k (then_step start middle end j run step) e = absurd (omega (arith, e))

@@ -1,20 +1,17 @@
 -- A right member that was placed in leased cells and is settled stands beside its pair, and there was room for it.
-use Rattle.std.proofs.Common.{◌≡◌, ◌≢◌, ◌⊎◌, inl, inr, ◌<◌, ◌≤◌, ◌+◌, ℕ, zero, suc, Bool, true, false, cond, nat_eq, Some, None, List, [], ◌∷◌, length, map, get_or, count_by, slice_get, refl, sym, ap, subst, ◌∙◌, get_or-set_other, arith}
+use Rattle.std.proofs.Common.{◌≡◌, ◌⊎◌, inl, inr, ◌<◌, ◌≤◌, ◌+◌, ℕ, zero, suc, cond, nat_eq, Some, None, List, [], ◌∷◌, length, map, get_or, count_by, slice_get, refl, sym, ap, subst, ◌∙◌, get_or-set_other, arith}
 use Rattle.std.proofs.lemmas.List.{length-set}
-use Rattle.std.proofs.lemmas.Option.{slice_get_within}
 use Rattle.std.proofs.lemmas.List.Sums.{sum_by-cons}
-use Rattle.in_base.proofs.Each.{at_index}
 use Rattle.in_arena.specs.Arenas.{ArenaView, changed, free_of, state_at}
 use Rattle.in_arena.specs.Bags.{IsBagOf, IsIn}
 use Rattle.in_arena.specs.Changes.{HasAllCells, one_if_free}
 use Rattle.in_arena.specs.Classes.{class_no, IsNumberOf}
-use Rattle.in_arena.specs.States.{State, Vacant, Leased, Live, IsLeased, word_of}
+use Rattle.in_arena.specs.States.{State, Vacant, Leased, Live, word_of}
 use Rattle.in_arena.specs.declared.content.CellClass.{CellClass}
 use Rattle.in_arena.specs.declared.content.CellClass.TheVariants.{Small, Large, Wide}
 use Rattle.in_arena.specs.declared.content.CellNo.{CellNo}
 use Rattle.in_arena.proofs.Bags.{leased_or}
 use Rattle.in_arena.proofs.Changes.{counts_change, number_inside}
-use Rattle.in_symbols.specs.Tables.{Tables}
 use Rattle.in_compile.specs.Cells.{count_of}
 use Rattle.in_compile.specs.Members.{AgentParts, MemberParts, IsSound, has_class}
 use Rattle.in_compile.specs.Placing.{PlacedParts, IsPlaced}

@@ -8,11 +8,12 @@ ghost use Rattle.in_compile.specs.Templates.{AreTemplatesOf};
 ghost use Rattle.in_gather.specs.Gathers.{bags_of};
 ghost use Rattle.in_gather.specs.Holding.{HaveAllLeased};
 ghost use Rattle.in_reducer.specs.Inside.{IsKept, KeepsAll, KeepsNet, reducer_view};
-ghost use Rattle.in_reducer.specs.Lent.{AreSettled, AreMadeWith};
+ghost use Rattle.in_reducer.specs.Lent.{AreSettled};
 ghost use Rattle.in_reducer.specs.Machines.{MachineParts};
 ghost use Rattle.in_reducer.specs.Runs.{Runs};
 ghost use Rattle.in_reducer.specs.Steps.{HasRoomAt};
 ghost use Rattle.in_reducer.specs.Templates.{HasHeadsAt};
+ghost use Rattle.in_work.specs.Bringing.{AreMadeWith};
 
 use crate::body::Body;
 use in_arena::CellClass;
@@ -122,6 +123,7 @@ impl<'a> Body<'a> {
         requires left { jobs ≤ done + length self.old.queue.items }
         ensures kept { IsKept self.new }
         ensures runs { (m : MachineParts) → Runs m done (reducer_view self.old) → Runs m result (reducer_view self.new) }
+        ensures from { done ≤ result }
         ensures most { result ≤ jobs }
         ensures some { done < jobs → HasRoomAt (reducer_view self.old) 0 → done < result }
         ensures ends { (result ≡ jobs) ⊎ (HasRoomAt (reducer_view self.new) 0 → ⊥) }

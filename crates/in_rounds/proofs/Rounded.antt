@@ -14,9 +14,9 @@ use Rattle.in_compile.specs.declared.cells.Need.{Need}
 use Rattle.in_compile.specs.Cells.{agents_of, count_of, IsNeedOf}
 use Rattle.in_reducer.specs.Machines.{MachineParts, parts_of}
 use Rattle.in_rounds.specs.Machines.{IsMachine}
-use Rattle.in_rounds.specs.Rounds.{NeedTogether, none, then_next, HasRoomFor, jobs_of, IsRound}
+use Rattle.in_rounds.specs.Rounds.{NeedTogether, none, then_next, HasRoomFor, IsRound}
 use Rattle.in_reducer.specs.Steps.{NeedsAt, HasRoomAt, StepsAt}
-use Rattle.in_reducer.specs.Runs.{Runs, at_start, then_step}
+use Rattle.in_reducer.specs.Runs.{Runs, at_start, then_step, jobs_of}
 use Rattle.in_rounds.proofs.AsMany.{no_more_than}
 use Rattle.in_reducer.proofs.Requeued.{other_pair}
 use Rattle.in_rounds.proofs.SameRun.{rule_at}

@@ -12,10 +12,10 @@ use Rattle.in_interaction.specs.Queues.{numbers_of}
 use Rattle.in_reducer.specs.Limiting.{most_cells}
 use Rattle.in_reducer.specs.Machines.{MachineParts, parts_of, plain_of}
 use Rattle.in_rounds.specs.Machines.{IsMachine}
-use Rattle.in_rounds.specs.Rounds.{HasRoomFor, jobs_of, IsRound}
+use Rattle.in_rounds.specs.Rounds.{HasRoomFor, IsRound}
 use Rattle.in_reducer.specs.Steps.{HasRoomAt, StepsAt}
 use Rattle.in_reducer.specs.Starts.{IsStart}
-use Rattle.in_reducer.specs.Runs.{Runs}
+use Rattle.in_reducer.specs.Runs.{Runs, jobs_of}
 use Rattle.in_rounds.specs.Same.{AreSame}
 use Rattle.in_rounds.specs.Texts.{text_of}
 

@@ -1,12 +1,12 @@
 -- Several interactions at once, as workers do them: they are those of the first pairs of the queue, one after another. What is free for all
 -- of these pairs together is free for each in its turn. This project's own choice.
-use Rattle.std.specs.Prelude.{◌≡◌, ◌≤◌, ◌+◌, ℕ, zero, suc, min, length}
+use Rattle.std.specs.Prelude.{◌≡◌, ◌≤◌, ◌+◌, ℕ, zero, suc}
 use Rattle.in_arena.specs.declared.content.CellClass.{CellClass}
 use Rattle.in_compile.specs.declared.cells.Need.{Need}
 use Rattle.in_compile.specs.Cells.{count_of, IsEnough}
 use Rattle.in_reducer.specs.Machines.{MachineParts}
 use Rattle.in_reducer.specs.Steps.{NeedsAt}
-use Rattle.in_reducer.specs.Runs.{Runs}
+use Rattle.in_reducer.specs.Runs.{Runs, jobs_of}
 
 -- the first so many pairs need so many cells of each class together
 pub data NeedTogether (m : MachineParts) : ℕ → (CellClass → ℕ) → Type 0 where
@@ -16,10 +16,6 @@ pub data NeedTogether (m : MachineParts) : ℕ → (CellClass → ℕ) → Type 
 -- these are free
 abbrev pub HasRoomFor : MachineParts → ℕ → Type 0
 HasRoomFor m k = (sum : CellClass → ℕ) × NeedTogether m k sum × IsEnough sum (count_of m.vacant)
-
--- as many pairs as a round of at most so many interactions is for
-abbrev pub jobs_of : MachineParts → ℕ → ℕ
-jobs_of m budget = min (length m.queue) budget
 
 -- what a round did: so many interactions, first in, first out, one at least, and all of its jobs where there is room for them together
 pub record IsRound (m : MachineParts) (budget : ℕ) (after : MachineParts) (k : ℕ) : Type 0 where

@@ -1,4 +1,4 @@
-use Rattle.std.proofs.Common.{◌≡◌, ◌≤◌, Bool, true, false, Option, Some, None, refl, sym, ap, subst, ◌∙◌, arith}
+use Rattle.std.proofs.Common.{◌≡◌, true, false, Option, Some, None, ap, ◌∙◌, arith}
 use Rattle.std.specs.Prelude.{MatchOption, is_some, not}
 use Rattle.in_arena.specs.Arenas.{ArenaView, free_of}
 use Rattle.in_arena.specs.declared.content.CellClass.{CellClass}
@@ -25,11 +25,11 @@ returns-clause-room c e =
       c.need-need.result,
       record { pair = at.pair; stands = at.stands; number = at.number; rule = at.rule; is_rule = at.is_rule; is_need = λ d. ap (λ (n : Need). count_of n d) c.need-need.ensures ∙ at.template.member.need d },
       λ d. (
-        let l = enough d in
-        let v = c.vacant.ensures d in
-        let s = stepped.free_is (at_rest r.arena) d ∙ ap (λ (a : ArenaView). free_of a d) (rests r.arena c.requires.kept.none) in
-        omega (arith, l, v, s)
-        ),
+          let l = enough d in
+          let v = c.vacant.ensures d in
+          let s = stepped.free_is (at_rest r.arena) d ∙ ap (λ (a : ArenaView). free_of a d) (rests r.arena c.requires.kept.none) in
+          omega (arith, l, v, s)
+          ),
     )
 
 pub returns-clause-none : goal.returns-clause-none

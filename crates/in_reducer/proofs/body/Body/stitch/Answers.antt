@@ -1,4 +1,4 @@
-use Rattle.std.proofs.Common.{◌≡◌, refl, sym, ap, subst, ◌∙◌}
+use Rattle.std.proofs.Common.{◌≡◌, sym, ap, subst, ◌∙◌}
 use Rattle.in_compile.specs.Members.{IsSound}
 use Rattle.in_compile.specs.Placing.{PlacedParts}
 use Rattle.in_compile.specs.Templates.{TemplateParts}

@@ -1,8 +1,7 @@
-use Rattle.std.proofs.Common.{◌≡◌, ◌≤◌, ◌+◌, ℕ, suc, List, Some, length, slice_get, set, refl, sym, ap, subst, ◌∙◌, arith}
+use Rattle.std.proofs.Common.{◌≡◌, ◌+◌, ℕ, suc, List, Some, slice_get, set, refl, sym, ap, subst, ◌∙◌, arith}
 use Rattle.in_check.specs.Programs.{Program}
 use Rattle.in_compile.specs.PlacedTemplates.{PlacedTemplateParts}
 use Rattle.in_compile.specs.Templates.{TemplatesParts, AreTemplatesOf, template_at}
-use Rattle.in_gather.specs.Dones.{DoneParts}
 use Rattle.in_gather.specs.Gathers.{GatherParts, bags_of}
 use Rattle.in_gather.specs.Holding.{HaveAllLeased}
 use Rattle.in_gather.specs.declared.gather.Slot.{Slot}

@@ -3,8 +3,8 @@ use Rattle.in_compile.specs.Templates.{AreTemplatesOf}
 use Rattle.in_gather.specs.Gathers.{bags_of}
 use Rattle.in_gather.specs.Holding.{HaveAllLeased}
 use Rattle.in_reducer.specs.Inside.{KeepsAll, reducer_view}
-use Rattle.in_reducer.specs.Lent.{AreMadeWith}
 use Rattle.in_reducer.specs.Runs.{Runs}
+use Rattle.in_work.specs.Bringing.{AreMadeWith}
 use Rattle.in_reducer.proofs.body.Body.stitch_all.Given as goal
 
 abbrev pub invariant-loop-job : goal.invariant-loop-job

@@ -1,0 +1,67 @@
+use Rattle.std.proofs.Common.{◌≡◌, ◌⊎◌, inl, inr, ◌<◌, ◌≤◌, ℕ, zero, suc, length, refl, sym, ap, subst, ◌∙◌, arith}
+use Rattle.std.proofs.Math.Nat.{div-le_self}
+use Rattle.in_gather.specs.Gathers.{bags_of}
+use Rattle.in_reducer.specs.Inside.{over, reducer_view}
+use Rattle.in_reducer.specs.Machines.{MachineParts}
+use Rattle.in_reducer.specs.Runs.{Runs, jobs_of}
+use Rattle.in_reducer.specs.Steps.{HasRoomAt}
+use Rattle.in_reducer.proofs.Lending as lending
+use Rattle.in_reducer.proofs.Queues.{short_queue}
+use Rattle.in_reducer.proofs.reducer.Reducer.round.Goals as goal
+
+some_or_none : (k : ℕ) → (0 < k) ⊎ (k ≡ 0)
+some_or_none zero = inr refl
+some_or_none (suc k) = inl (omega arith)
+
+pub overflow_add-jobs : goal.overflow_add-jobs
+overflow_add-jobs g c =
+    let short = short_queue _ c.pairs.ensures.reducer in
+    let most = c.pairs.ensures.reducer.cells.1 in
+    let part = div-le_self c.min-jobs.result c.args.workers in
+    omega (arith, short, most, part, c.pairs.ensures.count, c.from.ensures, c.min-jobs.ensures)
+
+pub gather_jobs-requires-clause-few : goal.gather_jobs-requires-clause-few
+gather_jobs-requires-clause-few g c =
+    let short = short_queue _ c.pairs.ensures.reducer in
+    let most = c.pairs.ensures.reducer.cells.1 in
+    let long = ap (λ x. length x.jobs) c.new-plan.ensures in
+    let slice = ap length c.as_slice.ensures.value in
+    omega (arith, short, most, long, slice, c.in_ok-heads.ensures.count, c.pairs.ensures.count, c.from.ensures, c.min-jobs.ensures)
+
+pub stitch_all-stitched-requires-clause-all : goal.stitch_all-stitched-requires-clause-all
+stitch_all-stitched-requires-clause-all g c =
+    let r = c.self.inside.body in
+    let b = c.gather_jobs.new.arena in
+    let lent = c.in_ok-gather.ensures.lent in
+    lending.keeps_all r b lent.memory lent.cells lent.count (lending.lent_alike (bags_of c.in_ok-gather.gather.slots) r.arena b lent) c.self.invariant.all
+
+pub stitch_all-stitched-requires-clause-lent : goal.stitch_all-stitched-requires-clause-lent
+stitch_all-stitched-requires-clause-lent g c =
+    lending.lent_have (bags_of c.in_ok-gather.gather.slots) c.self.inside.body.arena c.gather_jobs.new.arena c.in_ok-gather.ensures.lent c.self.invariant.none
+
+pub returns-clause-front : goal.returns-clause-front
+returns-clause-front g c =
+    let r = c.self.inside.body in
+    let m = c.args.self.now in
+    let b = c.gather_jobs.new.arena in
+    let lent = c.in_ok-gather.ensures.lent in
+    let first : reducer_view (over b r) ≡ m = lending.view_same r b lent.memory lent.cells lent.count (lending.lent_alike (bags_of c.in_ok-gather.gather.slots) r.arena b lent) ∙ c.self.view_is in
+    let stitched = c.stitch_all-stitched.result in
+    let middle = reducer_view c.stitch_all-stitched.new.self in
+    let given = reducer_view c.give_back.new.self in
+    let ran : Runs m stitched middle = subst (λ (z : MachineParts). Runs z stitched middle) first c.stitch_all-stitched.ensures.runs in
+    let back : Runs m stitched given = subst (λ (z : MachineParts). Runs m stitched z) (sym c.give_back.ensures.same) ran in
+    let jobs : c.min-jobs.result ≡ jobs_of m c.args.budget = omega (arith, c.pairs.ensures.count, c.from.ensures, c.min-jobs.ensures) in
+    record {
+      run = c.step_on-interactions.ensures.runs m back;
+      some = one m c.args.budget stitched given c.step_on-interactions.result back c.requires.room (let p = c.requires.pair in let q = c.requires.budget in omega (arith, jobs, p, q)) c.step_on-interactions.ensures.from c.step_on-interactions.ensures.some;
+      most = (let l = c.step_on-interactions.ensures.most in omega (arith, l, jobs));
+      ends = elim c.step_on-interactions.ensures.ends [ inl e ↦ inl (e ∙ jobs) | inr none ↦ inr none ];
+    }
+  where
+    one : (m : MachineParts) (budget stitched : ℕ) (given : MachineParts) (count : ℕ) → Runs m stitched given → HasRoomAt m 0 → 0 < c.min-jobs.result → stitched ≤ count → (stitched < c.min-jobs.result → HasRoomAt given 0 → stitched < count) → 1 ≤ count
+    one m budget stitched given count run room jobs from more = go (some_or_none stitched)
+      where
+        go : (0 < stitched) ⊎ (stitched ≡ 0) → 1 ≤ count
+        go (inl l) = omega (arith, l, from)
+        go (inr e) = let l = more (omega (arith, e, jobs)) (subst (λ (z : MachineParts). HasRoomAt z 0) (sym (lending.none_run m given stitched run e)) room) in omega (arith, l)
