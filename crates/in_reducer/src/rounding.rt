@@ -1,9 +1,6 @@
 // The owner's part of a round: what the workers did is stitched in, one interaction at a time, and the rest is done as ever.
-ghost use Rattle.std.specs.Prelude.{◌≡◌, ◌≤◌, ◌<◌, ◌+◌, ◌⊎◌, true, false, ℕ, length, Some, slice_get};
-ghost use Rattle.in_arena.specs.declared.content.CellClass.{CellClass as Class};
-ghost use Rattle.in_arena.specs.Arenas.{free_of};
+ghost use Rattle.std.specs.Prelude.{◌≡◌, ◌≤◌, ◌<◌, ◌+◌, ◌⊎◌, true, ℕ, length, Some, slice_get};
 ghost use Rattle.in_arena.specs.Bags.{IsBagOf};
-ghost use Rattle.in_compile.specs.Cells.{count_of};
 ghost use Rattle.in_compile.specs.Templates.{AreTemplatesOf};
 ghost use Rattle.in_gather.specs.Gathers.{bags_of};
 ghost use Rattle.in_gather.specs.Holding.{HaveAllLeased};
@@ -16,22 +13,10 @@ ghost use Rattle.in_reducer.specs.Templates.{HasHeadsAt};
 ghost use Rattle.in_work.specs.Bringing.{AreMadeWith};
 
 use crate::body::Body;
-use in_arena::CellClass;
-use in_compile::{Need, Templates};
+use in_compile::Templates;
 use in_gather::{Done, Gather};
 
 impl<'a> Body<'a> {
-    /// How many cells of each class are free now.
-    pub(crate) fn vacant(&self) -> Need
-        ensures { (c : Class) → count_of result c ≡ free_of self.now.arena c }
-    {
-        Need {
-            small: self.arena.free_count(CellClass::Small),
-            large: self.arena.free_count(CellClass::Large),
-            wide: self.arena.free_count(CellClass::Wide),
-        }
-    }
-
     /// Whether this was done for the symbols of the first pair.
     fn is_for_first(&self, done: &Done) -> bool
         requires net { KeepsNet self.now }
@@ -101,19 +86,6 @@ impl<'a> Body<'a> {
         gather.spend(&mut self.arena);
     }
 
-    /// Whether what the first pair needs is free.
-    fn has_room(&self, templates: &Templates) -> bool
-        requires kept { IsKept self.now }
-        requires templates { AreTemplatesOf self.now.checked.now templates.now }
-        requires pair { 0 < length self.now.queue.items }
-        ensures room { result ≡ true → HasRoomAt (reducer_view self.now) 0 }
-        ensures none { result ≡ false → HasRoomAt (reducer_view self.now) 0 → ⊥ }
-    {
-        let need = self.template(templates, 0).need();
-        let short = need.first_short(self.vacant());
-        short.is_none()
-    }
-
     /// Does the jobs that are left after so many, each at the first pair of the queue, as `step` does; and ends at the first whose need isn't
     /// free. Says how many are done then.
     pub(crate) fn step_on(&mut self, templates: &Templates, jobs: u32, done: u32) -> u32
@@ -130,7 +102,7 @@ impl<'a> Body<'a> {
         ensures program { self.new.checked ≡ self.old.checked }
     {
         let mut count = done;
-        while count < jobs && self.has_room(templates) {
+        while count < jobs && self.has_room(templates, 0) {
             self.step(templates, 0);
             count += 1;
         }

@@ -1,6 +1,8 @@
 // One interaction of a reducer.
-ghost use Rattle.std.specs.Prelude.{◌≡◌, ◌<◌, ◌≤◌, [], length, IsSome, Some, vec_capacity};
-ghost use Rattle.in_arena.specs.Arenas.{ArenaView};
+ghost use Rattle.std.specs.Prelude.{◌≡◌, ◌<◌, ◌≤◌, ◌↔◌, true, false, IsTrue, [], length, IsSome, Some, vec_capacity};
+ghost use Rattle.in_arena.specs.declared.content.CellClass.{CellClass as Class};
+ghost use Rattle.in_arena.specs.Arenas.{ArenaView, free_of};
+ghost use Rattle.in_compile.specs.Cells.{count_of};
 ghost use Rattle.in_compile.specs.Templates.{AreTemplatesOf};
 ghost use Rattle.in_net.specs.Parts.{symbol_in};
 ghost use Rattle.in_reducer.specs.Inside.{AreAsBefore, IsKept, KeepsNet, StandsBeside, most_ends, over, reducer_view};
@@ -16,7 +18,7 @@ use crate::queueing::{queue_made, queue_own, take_out};
 use crate::reducer::Reducer;
 use crate::sides::Pair;
 use crate::tools::Tools;
-use in_arena::CellNo;
+use in_arena::{CellClass, CellNo};
 use in_compile::{Need, Template, Templates};
 use in_symbols::SymbolNo;
 
@@ -48,6 +50,30 @@ impl<'a> Body<'a> {
     {
         let (constructor, destructor) = self.heads(number);
         templates.of(constructor, destructor)
+    }
+
+    /// How many cells of each class are free now.
+    pub(crate) fn vacant(&self) -> Need
+        ensures { (c : Class) → count_of result c ≡ free_of self.now.arena c }
+    {
+        Need {
+            small: self.arena.free_count(CellClass::Small),
+            large: self.arena.free_count(CellClass::Large),
+            wide: self.arena.free_count(CellClass::Wide),
+        }
+    }
+
+    /// Whether what the pair of that number needs is free.
+    pub(crate) fn has_room(&self, templates: &Templates, number: u32) -> bool
+        requires kept { IsKept self.now }
+        requires templates { AreTemplatesOf self.now.checked.now templates.now }
+        requires pair { number < length self.now.queue.items }
+        ensures room { result ≡ true → HasRoomAt (reducer_view self.now) number }
+        ensures none { result ≡ false → HasRoomAt (reducer_view self.now) number → ⊥ }
+    {
+        let need = self.template(templates, number).need();
+        let short = need.first_short(self.vacant());
+        short.is_none()
     }
 
     /// The interaction of the pair of that number, beside which the right member of its template stands in the cells that the tools tell.
@@ -117,6 +143,15 @@ impl<'a> Reducer<'a> {
     {
         self.pairs();
         self.body.template(templates, number).need()
+    }
+
+    /// Whether what the pair of that number needs is free, so that `step` may do its interaction. The templates are those of the program.
+    pub fn has_room(&self, templates: &Templates, number: u32) -> bool
+        requires templates { AreTemplatesOf self.now.program templates.now }
+        requires pair { number < length self.now.queue }
+        ensures { IsTrue result ↔ HasRoomAt self.now number }
+    {
+        self.body.has_room(templates, number)
     }
 
     /// The interaction of the pair of that number, by the rule of its symbols: Lafont 1990's, which replaces the pair by the right member.

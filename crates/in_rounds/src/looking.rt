@@ -1,11 +1,11 @@
 // What a machine shows.
-ghost use Rattle.std.specs.Prelude.{◌≡◌, ◌<◌, length, count_by, is_some, Some, IsSome, slice_get, option_map};
+ghost use Rattle.std.specs.Prelude.{◌≡◌, ◌<◌, ◌↔◌, IsTrue, length, count_by, is_some, Some, IsSome, slice_get, option_map};
 ghost use Rattle.in_symbols.specs.Names.{name_in};
 ghost use Rattle.in_symbols.specs.Tables.{arity_of};
 ghost use Rattle.in_net.specs.Parts.{IsPointOf, symbol_in, partner_in, free_name_in};
 ghost use Rattle.in_compile.specs.Cells.{count_of};
 ghost use Rattle.in_reducer.specs.Machines.{parts_of, point_at};
-ghost use Rattle.in_reducer.specs.Steps.{NeedsAt};
+ghost use Rattle.in_reducer.specs.Steps.{NeedsAt, HasRoomAt};
 ghost use Rattle.in_rounds.specs.Machines.{IsMachine};
 
 use crate::machine::Machine;
@@ -99,5 +99,12 @@ impl<'a> Machine<'a> {
         ensures { NeedsAt self.now number result }
     {
         self.reducer.need_of(&self.templates, number)
+    }
+    /// Whether what the pair of that number needs is free, so that `step` may do its interaction.
+    pub fn has_room(&self, number: u32) -> bool
+        requires { number < length self.now.queue }
+        ensures { IsTrue result ↔ HasRoomAt self.now number }
+    {
+        self.reducer.has_room(&self.templates, number)
     }
 }

@@ -1,0 +1,9 @@
+//! Tests of rounds: that several threads place what is gathered, and that a round leaves what as many steps do.
+#![tactic(auto)]
+
+#[cfg(test)]
+mod gates;
+#[cfg(test)]
+mod of_rounds;
+#[cfg(test)]
+mod rounding;
