@@ -1,16 +1,14 @@
 -- A run, step by step and round by round.
-use Rattle.std.proofs.Common.{◌≡◌, ◌<◌, ◌≤◌, ◌+◌, ◌-◌, ℕ, zero, suc, List, Result, Ok, Err, refl, subst, ◌∙◌, arith}
+use Rattle.std.proofs.Common.{◌≡◌, ◌<◌, ◌≤◌, ◌+◌, ◌-◌, ℕ, zero, suc, List, Ok, Err, sym, subst, ◌∙◌, arith}
 use Rattle.in_check.specs.Checking.{IsAccepted}
 use Rattle.in_check.specs.Plain.{IsReachedBy}
 use Rattle.in_check.specs.Programs.{Program}
 use Rattle.in_compile.specs.Cells.{agents_of, count_of}
 use Rattle.in_run.specs.declared.limits.Limits.{Limits}
-use Rattle.in_run.specs.declared.running.Outcome.{Outcome}
-use Rattle.in_run.specs.declared.running.RunFault.{RunFault}
 use Rattle.in_run.specs.declared.running.RunFault.TheVariants.{Start, Memory}
 use Rattle.in_run.specs.declared.stops.Stop.{Stop}
 use Rattle.in_run.specs.Laws.{TurnsAreAllowed}
-use Rattle.in_run.specs.Outcomes.{ReachesWith, RunsInTurn, RunsTo}
+use Rattle.in_run.specs.Outcomes.{ReachesWith, RunsTo}
 use Rattle.in_run.specs.Stops.{GoesOn, IsStop}
 use Rattle.in_reducer.specs.Machines.{MachineParts, HasCells, plain_of}
 use Rattle.in_reducer.specs.Starts.{IsStart}
@@ -21,7 +19,7 @@ use Rattle.in_rounds.specs.Runs.{Runs, at_start, then_step}
 use Rattle.in_rounds.proofs.OneEnd.{program_kept}
 use Rattle.in_rounds.proofs.Rounded.{joined}
 use Rattle.in_rounds.proofs.SameRun.{machine_runs, run_keeps}
-use Rattle.in_rounds.proofs.SameStart.{start_machine, start_plain, start_reached}
+use Rattle.in_rounds.proofs.SameStart.{start_machine, start_reached}
 
 -- so many interactions of a program's run within these limits
 pub record IsOnItsWay (p : Program) (l : Limits) (k : ℕ) (m : MachineParts) : Type 0 where
@@ -36,7 +34,7 @@ pub record IsOnItsWay (p : Program) (l : Limits) (k : ℕ) (m : MachineParts) : 
 cells_kept : (m n : MachineParts) (k cells : ℕ) → Runs m k n → HasCells cells m → HasCells cells n
 cells_kept m n zero cells (at_start _) h = h
 cells_kept m o (suc k) cells (then_step _ n _ _ before s) h = λ c.
-    subst (λ (z : Program). count_of o.vacant c + agents_of z.tables c o.agents ≡ cells) (let z : n.program ≡ o.program = (λ i. s.step.program (~ i)) in z) (s.cells c ∙ cells_kept m n k cells before h c)
+    subst (λ (z : Program). count_of o.vacant c + agents_of z.tables c o.agents ≡ cells) (sym s.step.program) (s.cells c ∙ cells_kept m n k cells before h c)
 
 -- the interactions of a run in turn are some more
 reaches_on : (p : Program) (cells j k : ℕ) (m n : MachineParts) → ReachesWith p cells j m → Runs m k n → ReachesWith p cells (k + j) n
@@ -91,7 +89,7 @@ module _ (p : Program) (l : Limits) (k : ℕ) (m : MachineParts) (h : IsOnItsWay
 
   -- a round of as many as are left
   pub rounds_further : (n : MachineParts) (j : ℕ) → IsRound m (l.limit - k) n j → k < l.limit → IsOnItsWay p l (k + j) n
-  rounds_further n j round less = 
+  rounds_further n j round less =
       let most = round.most in
       subst (λ i. IsOnItsWay p l i n) (let z : j + k ≡ k + j = omega arith in z) (runs_further n j round.run (omega (arith, less, most)))
 

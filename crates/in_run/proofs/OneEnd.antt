@@ -1,6 +1,5 @@
 -- A run that stops normally has come to the one end of its program.
-use Rattle.std.proofs.Common.{◌≡◌, ℕ, List, [], subst}
-use Rattle.in_check.specs.Checking.{IsAccepted}
+use Rattle.std.proofs.Common.{◌≡◌, ℕ, [], subst}
 use Rattle.in_run.specs.declared.limits.Limits.{Limits}
 use Rattle.in_run.specs.declared.stops.Stop.{Stop}
 use Rattle.in_run.specs.declared.stops.Stop.TheVariants.{Normal}
