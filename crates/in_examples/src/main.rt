@@ -15,16 +15,23 @@ use in_test_programs::{Look, seen};
 use in_words::Action;
 use std::alloc::{AllocError, Global};
 use std::rt::Files;
+use std::sync::Wait;
+use std::thread::Threads;
 use std::{fs, str};
 
 /// Room for the lines on a program, in bytes.
 const ROOM: usize = 65_536;
 
 /// The lines that a command writes on a text.
-fn lines_on(alloc: Global, action: Action, text: &[u8]) -> Result<MemoryOut, AllocError> {
+fn lines_on(
+    rt: &(impl Threads + Wait),
+    alloc: Global,
+    action: Action,
+    text: &[u8],
+) -> Result<MemoryOut, AllocError> {
     let mut reader = MemoryIn::new(text);
     let mut writer = MemoryOut::new(alloc, ROOM)?;
-    let _ = act(alloc, &action, &mut reader, &mut writer);
+    let _ = act(rt, alloc, &action, &mut reader, &mut writer);
     Ok(writer)
 }
 
@@ -62,15 +69,21 @@ fn is_built(alloc: Global, text: &[u8]) -> Result<bool, AllocError> {
 }
 
 /// Whether this is what a command writes on a program.
-fn writes(alloc: Global, action: Action, text: &[u8], wanted: &[u8]) -> Result<bool, AllocError> {
-    let lines = lines_on(alloc, action, text)?;
+fn writes(
+    rt: &(impl Threads + Wait),
+    alloc: Global,
+    action: Action,
+    text: &[u8],
+    wanted: &[u8],
+) -> Result<bool, AllocError> {
+    let lines = lines_on(rt, alloc, action, text)?;
     Ok(lines.text() == wanted)
 }
 
 /// Whether what a command writes on a program is the text of a file beside it.
 fn is_written(rt: &HostRuntime, action: Action, text: &[u8], file: &str) -> Result<bool> {
     let wanted = fs::read(rt, file)?;
-    Ok(writes(rt.alloc(), action, text, wanted.as_slice())?)
+    Ok(writes(rt, rt.alloc(), action, text, wanted.as_slice())?)
 }
 
 /// Whether what a command writes on a program is the text of a file beside it, where there is one.
@@ -99,14 +112,14 @@ fn is_derived(rt: &HostRuntime, name: &str, text: &[u8]) -> Result<bool> {
     is_written_if_there(rt, Action::Derive, text, file.as_str())
 }
 
-/// `run` with the limits that it has where none are given.
-fn running() -> Option<Action> {
-    Some(Action::Run(Limits::new(1_000_000, 65_536)?))
+/// `run` with so many workers, and the limits that it has where none are given.
+fn running(workers: u32) -> Option<Action> {
+    Some(Action::Run(Limits::new(workers, 1_000_000, 65_536)?))
 }
 
-/// Whether `run` answers what stands beside a program, where something does.
-fn is_run(rt: &HostRuntime, name: &str, text: &[u8]) -> Result<bool> {
-    let Some(running) = running() else {
+/// Whether `run` with so many workers answers what stands beside a program, where something does.
+fn is_run(rt: &HostRuntime, name: &str, text: &[u8], workers: u32) -> Result<bool> {
+    let Some(running) = running(workers) else {
         return Ok(false);
     };
     let file = format!(in rt.alloc(); "{name}.run")?;
@@ -118,7 +131,8 @@ fn is_answered(rt: &HostRuntime, name: &str, text: &[u8]) -> Result<bool> {
     Ok(
         is_checked(rt, name, text)?
             && is_derived(rt, name, text)?
-            && is_run(rt, name, text)?
+            && is_run(rt, name, text, 1)?
+            && is_run(rt, name, text, 2)?
             && is_told(rt, name, text)?
             && is_built(rt.alloc(), text)?,
     )
