@@ -26,7 +26,8 @@ use Rattle.in_program.specs.declared.acting.Status.{Status}
 use Rattle.in_program.specs.Acting.{Acts, told, unread, unwritten, Says, IsReply, IsOfEachEnd, IsReport, IsFinding, counted, derived, ran, full, Report, accepted, refused, lines_of, status_of, status, stop_status}
 use Rattle.in_program.specs.Lines.{run_lines}
 use Rattle.in_program.specs.Devices.{Reader}
-use Rattle.in_program.specs.Laws.{Moved, NormalCallsAreOne, NormalLinesAreOne}
+use Rattle.in_program.specs.Laws.{CallsAreAnsweredOnce, IsAnswered, Moved, NormalCallsAreOne, NormalLinesAreOne}
+use Rattle.in_program.proofs.OneReply.{answered_once}
 
 -- two programs of one text have one end
 same_system : (p q : Program) → AreOneProgram p q → system_of p ≡ system_of q
@@ -99,18 +100,27 @@ moved_once d d' bytes more moves (before, is, after) =
     append_cancel_left before bytes more
     (same_Some (before ++ bytes) (before ++ more) (sym (ap (λ (z : Option (List ℕ)). append_known z bytes) is) ∙ sym moves.moved ∙ after))
 
--- what a call with status 0 wrote is a reply to what it read
-reply_of : (a : Action) (r r' : Reader) (w w' : Device) (input lines : List ℕ) → Acts a r r' w w' (status 0) → Moved r.device r'.device input → Moved w w' lines → IsReply a input lines (status 0)
-reply_of a r r' w w' input lines (told read written gives says moves) given taken =
-    subst (λ t. IsReply a t lines (status 0)) (moved_once r.device r'.device read input gives.moves given)
-    (subst (λ t. IsReply a read t (status 0)) (moved_once w w' written lines moves taken) (said says))
+-- what a call wrote, where memory was not wanted and no device failed, is a reply to what it read
+reply_of : (a : Action) (r r' : Reader) (w w' : Device) (input lines : List ℕ) (s : Status) → Acts a r r' w w' s → IsAnswered s → Moved r.device r'.device input → Moved w w' lines → IsReply a input lines s
+reply_of a r r' w w' input lines s (told read written gives says moves) answered given taken =
+    subst (λ t. IsReply a t lines s) (moved_once r.device r'.device read input gives.moves given)
+    (subst (λ t. IsReply a read t s) (moved_once w w' written lines moves taken) (said says))
   where
-    said : Says a r'.ended read written (status 0) → IsReply a read written (status 0)
+    said : Says a r'.ended read written s → IsReply a read written s
     said (inl h) = h.1
-    said (inr h) = absurd (let z : 0 ≡ 5 = ap (λ s. s.0) h.1 in cc)
-reply_of a r r' w w' input lines (unread read fails same is) given taken = absurd (let z : 0 ≡ 6 = ap (λ s. s.0) is in cc)
-reply_of a r r' w w' input lines (unwritten read written t gives says breaks is) given taken = absurd (let z : 0 ≡ 6 = ap (λ s. s.0) is in cc)
+    said (inr h) = absurd (answered.0 h.1)
+reply_of a r r' w w' input lines s (unread read fails same is) answered given taken = absurd (answered.1 is)
+reply_of a r r' w w' input lines s (unwritten read written t gives says breaks is) answered given taken = absurd (answered.1 is)
+
+normal_is_answered : IsAnswered (status 0)
+normal_is_answered = (λ e. (let z : 0 ≡ 5 = ap (λ (s : Status). s.0) e in cc), λ e. (let z : 0 ≡ 6 = ap (λ (s : Status). s.0) e in cc))
 
 pub normal_calls_are_one : NormalCallsAreOne
 normal_calls_are_one l m input lines more r r' u u' w w' v v' one given taken other gives takes =
-    normal_lines_are_one l m input lines more (reply_of (Run l) r r' w w' input lines one given taken) (reply_of (Run m) u u' v v' input more other gives takes)
+    normal_lines_are_one l m input lines more
+    (reply_of (Run l) r r' w w' input lines (status 0) one normal_is_answered given taken)
+    (reply_of (Run m) u u' v v' input more (status 0) other normal_is_answered gives takes)
+
+pub calls_answered_once : CallsAreAnsweredOnce
+calls_answered_once a input lines more s t r r' u u' w w' v v' turns one answered given taken other answers gives takes =
+    answered_once a input lines more s t turns (reply_of a r r' w w' input lines s one answered given taken) (reply_of a u u' v v' input more t other answers gives takes)
