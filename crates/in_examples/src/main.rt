@@ -15,16 +15,23 @@ use in_test_programs::{Look, seen};
 use in_words::Action;
 use std::alloc::{AllocError, Global};
 use std::rt::Files;
+use std::sync::Wait;
+use std::thread::Threads;
 use std::{fs, str};
 
 /// Room for the lines on a program, in bytes.
 const ROOM: usize = 65_536;
 
 /// The lines that a command writes on a text.
-fn lines_on(alloc: Global, action: Action, text: &[u8]) -> Result<MemoryOut, AllocError> {
+fn lines_on(
+    threads: &(impl Threads + Wait),
+    alloc: Global,
+    action: Action,
+    text: &[u8],
+) -> Result<MemoryOut, AllocError> {
     let mut reader = MemoryIn::new(text);
     let mut writer = MemoryOut::new(alloc, ROOM)?;
-    let _ = act(alloc, &action, &mut reader, &mut writer);
+    let _ = act(threads, alloc, &action, &mut reader, &mut writer);
     Ok(writer)
 }
 
@@ -62,20 +69,38 @@ fn is_built(alloc: Global, text: &[u8]) -> Result<bool, AllocError> {
 }
 
 /// Whether this is what a command writes on a program.
-fn writes(alloc: Global, action: Action, text: &[u8], wanted: &[u8]) -> Result<bool, AllocError> {
-    let lines = lines_on(alloc, action, text)?;
+fn writes(
+    threads: &(impl Threads + Wait),
+    alloc: Global,
+    action: Action,
+    text: &[u8],
+    wanted: &[u8],
+) -> Result<bool, AllocError> {
+    let lines = lines_on(threads, alloc, action, text)?;
     Ok(lines.text() == wanted)
 }
 
 /// Whether what a command writes on a program is the text of a file beside it.
-fn is_written(rt: &HostRuntime, action: Action, text: &[u8], file: &str) -> Result<bool> {
+fn is_written(
+    rt: &HostRuntime,
+    threads: &(impl Threads + Wait),
+    action: Action,
+    text: &[u8],
+    file: &str,
+) -> Result<bool> {
     let wanted = fs::read(rt, file)?;
-    Ok(writes(rt.alloc(), action, text, wanted.as_slice())?)
+    Ok(writes(threads, rt.alloc(), action, text, wanted.as_slice())?)
 }
 
 /// Whether what a command writes on a program is the text of a file beside it, where there is one.
-fn is_written_if_there(rt: &HostRuntime, action: Action, text: &[u8], file: &str) -> Result<bool> {
-    Ok(!fs::exists(rt, file)? || is_written(rt, action, text, file)?)
+fn is_written_if_there(
+    rt: &HostRuntime,
+    threads: &(impl Threads + Wait),
+    action: Action,
+    text: &[u8],
+    file: &str,
+) -> Result<bool> {
+    Ok(!fs::exists(rt, file)? || is_written(rt, threads, action, text, file)?)
 }
 
 /// Whether the diagnosis of a program is what stands beside it, and nothing stands there where it is accepted.
@@ -88,37 +113,59 @@ fn is_told(rt: &HostRuntime, name: &str, text: &[u8]) -> Result<bool> {
 }
 
 /// Whether `check` answers what stands beside a program.
-fn is_checked(rt: &HostRuntime, name: &str, text: &[u8]) -> Result<bool> {
+fn is_checked(
+    rt: &HostRuntime,
+    threads: &(impl Threads + Wait),
+    name: &str,
+    text: &[u8],
+) -> Result<bool> {
     let file = format!(in rt.alloc(); "{name}.check")?;
-    is_written(rt, Action::Check, text, file.as_str())
+    is_written(rt, threads, Action::Check, text, file.as_str())
 }
 
 /// Whether `derive` answers what stands beside a program, where something does.
-fn is_derived(rt: &HostRuntime, name: &str, text: &[u8]) -> Result<bool> {
+fn is_derived(
+    rt: &HostRuntime,
+    threads: &(impl Threads + Wait),
+    name: &str,
+    text: &[u8],
+) -> Result<bool> {
     let file = format!(in rt.alloc(); "{name}.derive")?;
-    is_written_if_there(rt, Action::Derive, text, file.as_str())
+    is_written_if_there(rt, threads, Action::Derive, text, file.as_str())
 }
 
-/// `run` with the limits that it has where none are given.
-fn running() -> Option<Action> {
-    Some(Action::Run(Limits::new(1_000_000, 65_536)?))
+/// `run` with so many workers, and the limits that it has where none are given.
+fn running(workers: u32) -> Option<Action> {
+    Some(Action::Run(Limits::new(workers, 1_000_000, 65_536)?))
 }
 
-/// Whether `run` answers what stands beside a program, where something does.
-fn is_run(rt: &HostRuntime, name: &str, text: &[u8]) -> Result<bool> {
-    let Some(running) = running() else {
+/// Whether `run` with so many workers answers what stands beside a program, where something does.
+fn is_run(
+    rt: &HostRuntime,
+    threads: &(impl Threads + Wait),
+    name: &str,
+    text: &[u8],
+    workers: u32,
+) -> Result<bool> {
+    let Some(running) = running(workers) else {
         return Ok(false);
     };
     let file = format!(in rt.alloc(); "{name}.run")?;
-    is_written_if_there(rt, running, text, file.as_str())
+    is_written_if_there(rt, threads, running, text, file.as_str())
 }
 
 /// Whether a program's answers are as they stand beside it, and its steps build it.
-fn is_answered(rt: &HostRuntime, name: &str, text: &[u8]) -> Result<bool> {
+fn is_answered(
+    rt: &HostRuntime,
+    threads: &(impl Threads + Wait),
+    name: &str,
+    text: &[u8],
+) -> Result<bool> {
     Ok(
-        is_checked(rt, name, text)?
-            && is_derived(rt, name, text)?
-            && is_run(rt, name, text)?
+        is_checked(rt, threads, name, text)?
+            && is_derived(rt, threads, name, text)?
+            && is_run(rt, threads, name, text, 1)?
+            && is_run(rt, threads, name, text, 2)?
             && is_told(rt, name, text)?
             && is_built(rt.alloc(), text)?,
     )
@@ -131,9 +178,9 @@ fn text_of(rt: &HostRuntime, name: &str) -> Result<Vec<u8>> {
 }
 
 /// The same of the program's name.
-fn is_as_written(rt: &HostRuntime, name: &str) -> Result<bool> {
+fn is_as_written(rt: &HostRuntime, threads: &(impl Threads + Wait), name: &str) -> Result<bool> {
     let text = text_of(rt, name)?;
-    is_answered(rt, name, text.as_slice())
+    is_answered(rt, threads, name, text.as_slice())
 }
 
 /// One more name, where it is a program's.
@@ -161,10 +208,14 @@ fn programs(rt: &HostRuntime) -> Result<Vec<String>> {
 }
 
 /// Whether there are programs and all are answered as is written beside them; each that isn't is told.
-fn are_as_written(rt: &HostRuntime, names: &[String]) -> Result<bool> {
+fn are_as_written(
+    rt: &HostRuntime,
+    threads: &(impl Threads + Wait),
+    names: &[String],
+) -> Result<bool> {
     let mut right = !names.is_empty();
     for name in names {
-        if !is_as_written(rt, name.as_str())? {
+        if !is_as_written(rt, threads, name.as_str())? {
             right = false;
             println!(rt; "{name}: what is written on it is not what stands beside it")?;
         }
@@ -174,7 +225,7 @@ fn are_as_written(rt: &HostRuntime, names: &[String]) -> Result<bool> {
 
 fn main(rt: HostRuntime) -> Result<()> {
     let names = programs(&rt)?;
-    if are_as_written(&rt, names.as_slice())? {
+    if are_as_written(&rt, &rt, names.as_slice())? {
         println!(rt; "each example is answered as is written beside it")?;
     }
     Ok(())

@@ -1,5 +1,8 @@
 -- What `run` tells with status 0 is of the one end of its program.
-use Rattle.std.proofs.Common.{◌≡◌, ℕ, nat_eq, List, [], ◌++◌, map, length, Ok, refl, sym, subst, ap, ◌∙◌}
+use Rattle.std.proofs.Common.{◌≡◌, inl, inr, ℕ, nat_eq, List, [], ◌++◌, map, length, Option, Ok, refl, sym, subst, ap, ◌∙◌}
+use Rattle.std.proofs.lemmas.List.{append_cancel_left}
+use Rattle.std.proofs.lemmas.Option.{same_Some}
+use Rattle.std.specs.Io.KnownBytes.{append_known}
 use Rattle.in_net.specs.Nets.{net_of, signature_of}
 use Rattle.in_check.specs.Checking.{IsAccepted}
 use Rattle.in_check.specs.Laws.{AreOneProgram}
@@ -14,16 +17,17 @@ use Rattle.in_run.specs.declared.running.Outcome.{Outcome}
 use Rattle.in_run.specs.declared.stops.Stop.{Stop}
 use Rattle.in_run.specs.declared.stops.Stop.TheVariants.{Normal, Limit, Full}
 use Rattle.in_reducer.specs.Machines.{MachineParts}
-use Rattle.in_reducer.specs.Starts.{IsStart}
-use Rattle.in_run.specs.Stops.{IsOutcome}
+use Rattle.in_print.specs.Devices.{Device, Moves}
 use Rattle.in_rounds.specs.Texts.{text_of}
 use Rattle.in_run.proofs.OneEnd.{normal_outcomes_are_one}
 use Rattle.in_words.specs.declared.action.Action.{Action}
 use Rattle.in_words.specs.declared.action.Action.TheVariants.{Check, Derive, Run}
 use Rattle.in_program.specs.declared.acting.Status.{Status}
-use Rattle.in_program.specs.Acting.{IsReply, IsOfEachEnd, IsReport, IsFinding, counted, derived, ran, full, Report, accepted, refused, lines_of, status_of, status, stop_status}
+use Rattle.in_program.specs.Acting.{Acts, told, unread, unwritten, Says, IsReply, IsOfEachEnd, IsReport, IsFinding, counted, derived, ran, full, Report, accepted, refused, lines_of, status_of, status, stop_status}
 use Rattle.in_program.specs.Lines.{run_lines}
-use Rattle.in_program.specs.Laws.{NormalLinesAreOne}
+use Rattle.in_program.specs.Devices.{Reader}
+use Rattle.in_program.specs.Laws.{CallsAreAnsweredOnce, IsAnswered, Moved, NormalCallsAreOne, NormalLinesAreOne}
+use Rattle.in_program.proofs.OneReply.{answered_once}
 
 -- two programs of one text have one end
 same_system : (p q : Program) → AreOneProgram p q → system_of p ≡ system_of q
@@ -51,20 +55,20 @@ record IsNormal (l : Limits) (input lines : List ℕ) : Type 0 where
   once : EndsOnce program count written
   lines_are : lines ≡ written ++ run_lines count Normal
 
-ended : (l : Limits) (input : List ℕ) (q : Program) → IsAccepted input q → (start m : MachineParts) (k : ℕ) → IsStart q l.cells start → IsOutcome start l.limit m k Normal → EndsOnce q k (text_of m)
-ended l input q valid start m k starts outcome =
-    let o : Outcome = record { machine = m; interactions = k; stop = Normal } in normal_outcomes_are_one input q l o valid (start, starts, outcome) refl
+ended : (l : Limits) (input : List ℕ) (q : Program) → IsAccepted input q → (m : MachineParts) (k : ℕ) → IsFinding (Run l) q (ran m k Normal) → EndsOnce q k (text_of m)
+ended l input q valid m k runs =
+    let o : Outcome = record { machine = m; interactions = k; stop = Normal } in normal_outcomes_are_one input q l o valid runs refl
 
 normal : (l : Limits) (input lines : List ℕ) (s : Status) (r : Report) → IsReport (Run l) input r → lines ≡ lines_of input r → s ≡ status_of r → s ≡ status 0 → IsNormal l input lines
 normal l input lines s r so e is zero = go r so e (sym zero ∙ is)
   where
-    stopped : (q : Program) (start m : MachineParts) (k : ℕ) (s : Stop) → IsAccepted input q → IsFinding (Run l) q (ran start m k s) → lines ≡ text_of m ++ run_lines k s → status 0 ≡ stop_status s → IsNormal l input lines
-    stopped q start m k Normal valid h e is = record { program = q; valid = valid; count = k; written = text_of m; once = ended l input q valid start m k h.0 h.1; lines_are = e }
-    stopped q start m k Limit valid h e is = absurd (let z : 0 ≡ 3 = ap (λ s. s.0) is in cc)
-    stopped q start m k (Full c need free) valid h e is = absurd (let z : 0 ≡ 4 = ap (λ s. s.0) is in cc)
+    stopped : (q : Program) (m : MachineParts) (k : ℕ) (s : Stop) → IsAccepted input q → IsFinding (Run l) q (ran m k s) → lines ≡ text_of m ++ run_lines k s → status 0 ≡ stop_status s → IsNormal l input lines
+    stopped q m k Normal valid h e is = record { program = q; valid = valid; count = k; written = text_of m; once = ended l input q valid m k h; lines_are = e }
+    stopped q m k Limit valid h e is = absurd (let z : 0 ≡ 3 = ap (λ s. s.0) is in cc)
+    stopped q m k (Full c need free) valid h e is = absurd (let z : 0 ≡ 4 = ap (λ s. s.0) is in cc)
 
     go : (r : Report) → IsReport (Run l) input r → lines ≡ lines_of input r → status 0 ≡ status_of r → IsNormal l input lines
-    go (accepted q (ran start m k s)) h e is = stopped q start m k s h.0 h.1 e is
+    go (accepted q (ran m k s)) h e is = stopped q m k s h.0 h.1 e is
     go (accepted q (full c need free)) h e is = absurd (let z : 0 ≡ 4 = ap (λ s. s.0) is in cc)
     go (accepted q counted) h e is = elim h.1 [ ]
     go (accepted q derived) h e is = elim h.1 [ ]
@@ -82,8 +86,41 @@ of_each_end (Run l) input lines s r so e is = λ zero p valid k written ends.
 pub replied : (a : Action) (input lines : List ℕ) (s : Status) (r : Report) → IsReport a input r → lines ≡ lines_of input r → s ≡ status_of r → IsReply a input lines s
 replied a input lines s r so e is = record { report = r; so = so; lines_are = e; status_is = is; any_order = of_each_end a input lines s r so e is }
 
--- two calls of `run` on one text that end normally write the same, whatever their limits are
+-- two replies of `run` to one text that end normally are the same, whatever their limits are
 pub normal_lines_are_one : NormalLinesAreOne
 normal_lines_are_one l m input lines more one other =
     let n = normal m input more (status 0) other.report other.so other.lines_are other.status_is refl in
     one.any_order refl n.program n.valid n.count n.written n.once.0 ∙ sym n.lines_are
+
+-- ---- calls
+
+-- bytes that are known were moved once
+moved_once : (d d' : Device) (bytes more : List ℕ) → Moves d d' bytes → Moved d d' more → bytes ≡ more
+moved_once d d' bytes more moves (before, is, after) =
+    append_cancel_left before bytes more
+    (same_Some (before ++ bytes) (before ++ more) (sym (ap (λ (z : Option (List ℕ)). append_known z bytes) is) ∙ sym moves.moved ∙ after))
+
+-- what a call wrote, where memory was not wanted and no device failed, is a reply to what it read
+reply_of : (a : Action) (r r' : Reader) (w w' : Device) (input lines : List ℕ) (s : Status) → Acts a r r' w w' s → IsAnswered s → Moved r.device r'.device input → Moved w w' lines → IsReply a input lines s
+reply_of a r r' w w' input lines s (told read written gives says moves) answered given taken =
+    subst (λ t. IsReply a t lines s) (moved_once r.device r'.device read input gives.moves given)
+    (subst (λ t. IsReply a read t s) (moved_once w w' written lines moves taken) (said says))
+  where
+    said : Says a r'.ended read written s → IsReply a read written s
+    said (inl h) = h.1
+    said (inr h) = absurd (answered.0 h.1)
+reply_of a r r' w w' input lines s (unread read fails same is) answered given taken = absurd (answered.1 is)
+reply_of a r r' w w' input lines s (unwritten read written t gives says breaks is) answered given taken = absurd (answered.1 is)
+
+normal_is_answered : IsAnswered (status 0)
+normal_is_answered = (λ e. (let z : 0 ≡ 5 = ap (λ (s : Status). s.0) e in cc), λ e. (let z : 0 ≡ 6 = ap (λ (s : Status). s.0) e in cc))
+
+pub normal_calls_are_one : NormalCallsAreOne
+normal_calls_are_one l m input lines more r r' u u' w w' v v' one given taken other gives takes =
+    normal_lines_are_one l m input lines more
+    (reply_of (Run l) r r' w w' input lines (status 0) one normal_is_answered given taken)
+    (reply_of (Run m) u u' v v' input more (status 0) other normal_is_answered gives takes)
+
+pub calls_answered_once : CallsAreAnsweredOnce
+calls_answered_once a input lines more s t r r' u u' w w' v v' turns one answered given taken other answers gives takes =
+    answered_once a input lines more s t turns (reply_of a r r' w w' input lines s one answered given taken) (reply_of a u u' v v' input more t other answers gives takes)

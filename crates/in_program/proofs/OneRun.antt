@@ -21,7 +21,7 @@ use Rattle.in_run.specs.declared.stops.Stop.TheVariants.{Normal, Limit, Full}
 use Rattle.in_compile.specs.Cells.{agents_of}
 use Rattle.in_reducer.specs.Machines.{MachineParts, parts_of, plain_of}
 use Rattle.in_reducer.specs.Steps.{StepsAt, NeedsAt}
-use Rattle.in_rounds.specs.Runs.{Runs, at_start, then_step}
+use Rattle.in_reducer.specs.Runs.{Runs, at_start, then_step}
 use Rattle.in_run.specs.Stops.{IsStop, IsOutcome}
 use Rattle.in_reducer.specs.Starts.{IsStart}
 use Rattle.in_rounds.specs.Starts.{DoesNotFit}

@@ -1,5 +1,5 @@
 -- What the program does: the lines that it writes on the text that it reads, and its status.
-use Rattle.std.specs.Prelude.{◌≡◌, ◌⊎◌, ◌++◌, ℕ, Bool, List, string_bytes}
+use Rattle.std.specs.Prelude.{◌≡◌, ◌⊎◌, ◌++◌, ℕ, Bool, true, false, List, Ok, string_bytes}
 use Rattle.in_syntax.specs.declared.faults.Refusal.{Refusal}
 use Rattle.in_words.specs.declared.action.Action.{Action}
 use Rattle.in_words.specs.declared.action.Action.TheVariants.{Check, Derive, Run}
@@ -15,9 +15,8 @@ use Rattle.in_run.specs.declared.stops.Stop.{Stop}
 use Rattle.in_run.specs.declared.stops.Stop.TheVariants.{Normal, Limit, Full}
 use Rattle.in_reducer.specs.Machines.{MachineParts}
 use Rattle.in_order.specs.Ends.{Ends}
-use Rattle.in_reducer.specs.Starts.{IsStart}
 use Rattle.in_rounds.specs.Starts.{DoesNotFit}
-use Rattle.in_run.specs.Stops.{IsOutcome}
+use Rattle.in_run.specs.Outcomes.{RunsTo}
 use Rattle.in_program.specs.Devices.{Reader, Gives, Fails, BreaksWithin, IsEnough}
 use Rattle.in_program.specs.Lines.{accepted_line, refused_line, memory_line, run_lines, start_line}
 use Rattle.in_program.specs.Steps.{derivation_lines}
@@ -33,19 +32,19 @@ fault_status = status 6
 abbrev pub memory_status : Status
 memory_status = status 5
 
--- what is found of an accepted program: what it has; the steps that build it; where its net's run comes to, from this machine; or that
--- its net doesn't fit the cells
+-- what is found of an accepted program: what it has; the steps that build it; to which machine its net's run comes, by how many
+-- interactions, and how it stops; or that its net doesn't fit the cells
 pub data Finding : Type 0 where
   counted : Finding
   derived : Finding
-  ran : MachineParts → MachineParts → ℕ → Stop → Finding
+  ran : MachineParts → ℕ → Stop → Finding
   full : CellClass → ℕ → ℕ → Finding
 
 -- it is what this action asks for, and it is so
 abbrev pub IsFinding : Action → Program → Finding → Type 0
 IsFinding Check p counted = Unit {0}
 IsFinding Derive p derived = Unit {0}
-IsFinding (Run l) p (ran start m k s) = IsStart p l.cells start × IsOutcome start l.limit m k s
+IsFinding (Run l) p (ran m k s) = RunsTo p l (Ok (record { machine = m; interactions = k; stop = s }))
 IsFinding (Run l) p (full c need free) = DoesNotFit p l.cells c need free
 IsFinding _ p _ = ⊥
 
@@ -53,7 +52,7 @@ IsFinding _ p _ = ⊥
 abbrev pub finding_lines : Program → Finding → List ℕ
 finding_lines p counted = accepted_line (counts_of p)
 finding_lines p derived = derivation_lines p
-finding_lines p (ran start m k s) = text_of m ++ run_lines k s
+finding_lines p (ran m k s) = text_of m ++ run_lines k s
 finding_lines p (full c need free) = start_line c need free
 
 abbrev pub stop_status : Stop → Status
@@ -64,7 +63,7 @@ stop_status (Full c need free) = status 4
 abbrev pub finding_status : Finding → Status
 finding_status counted = status 0
 finding_status derived = status 0
-finding_status (ran start m k s) = stop_status s
+finding_status (ran m k s) = stop_status s
 finding_status (full c need free) = status 4
 
 -- what the program says of a text
@@ -106,6 +105,11 @@ WantsMemory lines s = (lines ≡ memory_line) × (s ≡ memory_status)
 -- what may be said once these bytes are read: what is so of them, if they are enough, or that memory is wanted
 abbrev pub Says : Action → Bool → List ℕ → List ℕ → Status → Type 0
 Says a ended text lines s = (IsEnough ended text × IsReply a text lines s) ⊎ WantsMemory lines s
+
+-- what `report` is called for
+abbrev pub report_action : Bool → Action
+report_action true = Derive
+report_action false = Check
 
 -- what a call for this action did, from a reader r and a writer w to what they are after it
 pub data Acts (a : Action) (r r' : Reader) (w w' : Device) (s : Status) : Type 0 where

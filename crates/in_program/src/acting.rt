@@ -1,7 +1,7 @@
 ghost use Rattle.std.specs.Prelude.{ℕ, ◌≡◌, ◌-◌, ◌^◌, ◌<◌, ◌++◌, IfOk, OnErr};
 ghost use Rattle.in_print.specs.Devices.{device};
 ghost use Rattle.in_rounds.specs.Texts.{text_of};
-ghost use Rattle.in_program.specs.Acting.{Acts, IsReply, Tells, TellsOne, TellsUsage, memory_status, AreFound, AreThese, status, stop_status};
+ghost use Rattle.in_program.specs.Acting.{Acts, IsReply, Tells, TellsOne, TellsUsage, memory_status, AreFound, AreThese, report_action, status, stop_status};
 ghost use Rattle.in_program.specs.Devices.{reader_of};
 ghost use Rattle.in_program.specs.Lines.{memory_line, refused_line, run_lines, start_line};
 ghost use Rattle.in_arena.specs.declared.content.CellClass.{CellClass};
@@ -17,10 +17,12 @@ use crate::runs::{run_lines, start_line};
 use crate::steps::derivation_lines;
 use in_check::{Checked, check};
 use in_print::{PrintFault, write_all, write_net};
-use in_run::{Limits, Machine, Outcome, RunFault, StartFault, Stop, run};
+use in_run::{Limits, Machine, NoGate, Outcome, RunFault, StartFault, Stop, run};
 use in_syntax::{Fault, TextIn, TextOut};
 use in_words::{Action, Usage};
 use std::alloc::{AllocError, Global};
+use std::sync::Wait;
+use std::thread::Threads;
 
 /// The exit status of the program. The numbers are this project's own choice: 0 accepted, run to its end, or help; 1 refused; 2 wrong
 /// words; 3 a run that stopped at its limit; 4 cells that were too few; 5 want of memory; 6 a read or a write that failed.
@@ -131,11 +133,17 @@ fn tell_run_fault<W: TextOut>(alloc: Global, writer: &mut W, fault: &RunFault) -
 }
 
 /// Runs an accepted program, and writes what its run came to, or that its net doesn't fit.
-fn tell_run<W: TextOut>(alloc: Global, writer: &mut W, checked: &Checked, limits: Limits) -> Status
+fn tell_run<T: Threads + Wait, W: TextOut>(
+    rt: &T,
+    alloc: Global,
+    writer: &mut W,
+    checked: &Checked,
+    limits: Limits,
+) -> Status
     requires { W.failures writer.old < 2 ^ 64 - 1 }
     ensures { TellsOne (AreFound (Run limits) checked.now) (device (W.taken writer.old) (W.failures writer.old)) (device (W.taken writer.new) (W.failures writer.new)) result }
 {
-    match run(alloc, checked, limits) {
+    match run(rt, alloc, checked, limits, &NoGate) {
         Ok(outcome) => {
             let status = tell_outcome(alloc, writer, &outcome);
             drop(outcome);
@@ -149,20 +157,15 @@ fn tell_run<W: TextOut>(alloc: Global, writer: &mut W, checked: &Checked, limits
     }
 }
 
-/// Writes what is found of an accepted program.
-fn tell_found<W: TextOut>(
-    alloc: Global,
-    writer: &mut W,
-    action: &Action,
-    checked: &Checked,
-) -> Status
+/// Writes what an accepted program has, or by which steps it is built.
+fn tell_found<W: TextOut>(alloc: Global, writer: &mut W, derive: bool, checked: &Checked) -> Status
     requires { W.failures writer.old < 2 ^ 64 - 1 }
-    ensures { TellsOne (AreFound action.now checked.now) (device (W.taken writer.old) (W.failures writer.old)) (device (W.taken writer.new) (W.failures writer.new)) result }
+    ensures { TellsOne (AreFound (report_action derive) checked.now) (device (W.taken writer.old) (W.failures writer.old)) (device (W.taken writer.new) (W.failures writer.new)) result }
 {
-    match action {
-        Action::Check => tell_lines(writer, accepted_line(alloc, checked.counts()), ACCEPTED),
-        Action::Derive => tell_lines(writer, derivation_lines(alloc, checked), ACCEPTED),
-        Action::Run(limits) => tell_run(alloc, writer, checked, *limits),
+    if derive {
+        tell_lines(writer, derivation_lines(alloc, checked), ACCEPTED)
+    } else {
+        tell_lines(writer, accepted_line(alloc, checked.counts()), ACCEPTED)
     }
 }
 
@@ -180,14 +183,14 @@ fn tell_fault<W: TextOut>(alloc: Global, writer: &mut W, text: &[u8], fault: Fau
     }
 }
 
-/// Writes the answer to a text.
-fn tell_reply<W: TextOut>(alloc: Global, writer: &mut W, action: &Action, text: &[u8]) -> Status
+/// Writes what `check` or `derive` says of a text.
+fn tell_report<W: TextOut>(alloc: Global, writer: &mut W, derive: bool, text: &[u8]) -> Status
     requires { W.failures writer.old < 2 ^ 64 - 1 }
-    ensures { TellsOne (IsReply action.now text.now) (device (W.taken writer.old) (W.failures writer.old)) (device (W.taken writer.new) (W.failures writer.new)) result }
+    ensures { TellsOne (IsReply (report_action derive) text.now) (device (W.taken writer.old) (W.failures writer.old)) (device (W.taken writer.new) (W.failures writer.new)) result }
 {
     match check(alloc, text) {
         Ok(checked) => {
-            let status = tell_found(alloc, writer, action, &checked);
+            let status = tell_found(alloc, writer, derive, &checked);
             drop(checked);
             status
         }
@@ -195,12 +198,72 @@ fn tell_reply<W: TextOut>(alloc: Global, writer: &mut W, action: &Action, text: 
     }
 }
 
-/// Does what the words ask for: reads a program's text, writes the lines on it, and answers the status. For `check` of an accepted
+/// Writes what `run` says of a text.
+fn tell_reply<T: Threads + Wait, W: TextOut>(
+    rt: &T,
+    alloc: Global,
+    writer: &mut W,
+    limits: Limits,
+    text: &[u8],
+) -> Status
+    requires { W.failures writer.old < 2 ^ 64 - 1 }
+    ensures { TellsOne (IsReply (Run limits) text.now) (device (W.taken writer.old) (W.failures writer.old)) (device (W.taken writer.new) (W.failures writer.new)) result }
+{
+    match check(alloc, text) {
+        Ok(checked) => {
+            let status = tell_run(rt, alloc, writer, &checked, limits);
+            drop(checked);
+            status
+        }
+        Err(fault) => tell_fault(alloc, writer, text, fault),
+    }
+}
+
+/// Reads a program's text, writes the lines of `check` on it, or those of `derive`, and answers the status. For `check` of an accepted
 /// program they are one line that counts what it has, for `derive` the steps that build its rules and its net; of a refused one they
-/// are the line of the refusal. For `run` they are the net that the run reaches, the count of its interactions and how it stopped, or the
-/// line of a net that doesn't fit the cells. Where memory is wanted they are the line `memory` alone. It makes at most 1,048,577 reads, and at
-/// most one more than it is given bytes.
-pub fn act<R: TextIn, W: TextOut>(
+/// are the line of the refusal. Where memory is wanted they are the line `memory` alone. It makes at most 1,048,577 reads, and at most one
+/// more than it is given bytes. It waits for nobody.
+pub fn report<R: TextIn, W: TextOut>(
+    alloc: Global,
+    derive: bool,
+    reader: &mut R,
+    writer: &mut W,
+) -> Status
+    requires reader { R.failures reader.old < 2 ^ 64 - 1 }
+    requires writer { W.failures writer.old < 2 ^ 64 - 1 }
+    ensures { Acts (report_action derive) (reader_of (R.given reader.old) (R.failures reader.old) (R.reads reader.old) (R.ended reader.old)) (reader_of (R.given reader.new) (R.failures reader.new) (R.reads reader.new) (R.ended reader.new)) (device (W.taken writer.old) (W.failures writer.old)) (device (W.taken writer.new) (W.failures writer.new)) result }
+{
+    match read_text(alloc, reader) {
+        Input::Text(text) => tell_report(alloc, writer, derive, text.as_slice()),
+        Input::Memory => tell(writer, MEMORY_LINE, MEMORY),
+        Input::Failed => FAULT,
+    }
+}
+
+/// The same for `run`.
+fn report_run<T: Threads + Wait, R: TextIn, W: TextOut>(
+    rt: &T,
+    alloc: Global,
+    limits: Limits,
+    reader: &mut R,
+    writer: &mut W,
+) -> Status
+    requires reader { R.failures reader.old < 2 ^ 64 - 1 }
+    requires writer { W.failures writer.old < 2 ^ 64 - 1 }
+    ensures { Acts (Run limits) (reader_of (R.given reader.old) (R.failures reader.old) (R.reads reader.old) (R.ended reader.old)) (reader_of (R.given reader.new) (R.failures reader.new) (R.reads reader.new) (R.ended reader.new)) (device (W.taken writer.old) (W.failures writer.old)) (device (W.taken writer.new) (W.failures writer.new)) result }
+{
+    match read_text(alloc, reader) {
+        Input::Text(text) => tell_reply(rt, alloc, writer, limits, text.as_slice()),
+        Input::Memory => tell(writer, MEMORY_LINE, MEMORY),
+        Input::Failed => FAULT,
+    }
+}
+
+/// Does what the words ask for: for `check` and `derive` as `report` does. For `run` the lines on an accepted program are the net that the
+/// run reaches, the count of its interactions and how it stopped, or the line of a net that doesn't fit the cells; the rest is as
+/// there.
+pub fn act<T: Threads + Wait, R: TextIn, W: TextOut>(
+    rt: &T,
     alloc: Global,
     action: &Action,
     reader: &mut R,
@@ -210,10 +273,10 @@ pub fn act<R: TextIn, W: TextOut>(
     requires writer { W.failures writer.old < 2 ^ 64 - 1 }
     ensures { Acts action.now (reader_of (R.given reader.old) (R.failures reader.old) (R.reads reader.old) (R.ended reader.old)) (reader_of (R.given reader.new) (R.failures reader.new) (R.reads reader.new) (R.ended reader.new)) (device (W.taken writer.old) (W.failures writer.old)) (device (W.taken writer.new) (W.failures writer.new)) result }
 {
-    match read_text(alloc, reader) {
-        Input::Text(text) => tell_reply(alloc, writer, action, text.as_slice()),
-        Input::Memory => tell(writer, MEMORY_LINE, MEMORY),
-        Input::Failed => FAULT,
+    match action {
+        Action::Check => report(alloc, false, reader, writer),
+        Action::Derive => report(alloc, true, reader, writer),
+        Action::Run(limits) => report_run(rt, alloc, *limits, reader, writer),
     }
 }
 

@@ -8,4 +8,4 @@ mod reading;
 mod runs;
 mod steps;
 
-pub use acting::{Status, act, tell_usage};
+pub use acting::{Status, act, report, tell_usage};

@@ -7,18 +7,27 @@ use in_syntax::{MemoryIn, MemoryOut};
 use in_test_texts::joined;
 use in_words::Action;
 use std::alloc::Global;
+use std::sync::Wait;
+use std::thread::Threads;
 
 /// The status of a command.
-fn status_of(alloc: Global, action: Action, text: &[u8], writer: &mut MemoryOut) -> Status
+fn status_of(
+    rt: &(impl Threads + Wait),
+    alloc: Global,
+    action: Action,
+    text: &[u8],
+    writer: &mut MemoryOut,
+) -> Status
     requires { writer.old.failures ≡ 0 }
 {
     let mut reader = MemoryIn::new(text);
-    act(alloc, &action, &mut reader, writer)
+    act(rt, alloc, &action, &mut reader, writer)
 }
 
 /// Whether a command writes these lines on a text and ends with this status. Nothing for want of
 /// memory.
 pub fn is_answer(
+    rt: &(impl Threads + Wait),
     alloc: Global,
     action: Action,
     text: &[u8],
@@ -26,12 +35,13 @@ pub fn is_answer(
     status: u8,
 ) -> Option<bool> {
     let mut writer = MemoryOut::new(alloc, 4096).ok()?;
-    let answer = status_of(alloc, action, text, &mut writer);
+    let answer = status_of(rt, alloc, action, text, &mut writer);
     Some(answer == Status(status) && writer.text() == lines.as_bytes())
 }
 
 /// The same of lines that come in parts.
 fn is_answer_in_parts(
+    rt: &(impl Threads + Wait),
     alloc: Global,
     action: Action,
     text: &[u8],
@@ -39,11 +49,12 @@ fn is_answer_in_parts(
     status: u8,
 ) -> Option<bool> {
     let lines = joined(alloc, lines).ok()?;
-    is_answer(alloc, action, text, lines.as_str(), status)
+    is_answer(rt, alloc, action, text, lines.as_str(), status)
 }
 
 /// The same of a text and lines that come in parts.
 pub fn is_written(
+    rt: &(impl Threads + Wait),
     alloc: Global,
     action: Action,
     parts: &[&str],
@@ -51,5 +62,5 @@ pub fn is_written(
     status: u8,
 ) -> Option<bool> {
     let text = joined(alloc, parts).ok()?;
-    is_answer_in_parts(alloc, action, text.as_bytes(), lines, status)
+    is_answer_in_parts(rt, alloc, action, text.as_bytes(), lines, status)
 }

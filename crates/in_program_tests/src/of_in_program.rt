@@ -2,18 +2,20 @@ ghost use Rattle.std.specs.Prelude.{◌≡◌};
 
 use crate::answers::{is_answer, is_written};
 use crate::devices::{Paper, Stop, Tape};
-use in_program::{Status, act, tell_usage};
+use in_program::{Status, report, tell_usage};
 use in_test_texts::{ADDITION, DUPLICATION, ERASURE, NUMBERS, SUMS, joined};
 use in_words::{Action, Usage};
 use std::alloc::{AllocError, Global};
 use std::process::Abort;
+use std::sync::Wait;
 use std::test::Fail;
+use std::thread::Threads;
 
 const ACCEPTED: &str = "accepted: 1 types, 2 symbols, 0 rules, 3 agents\n";
 
 /// Checks the lines and the status of a command on a text.
 fn expect_of(
-    rt: &impl Abort,
+    rt: &(impl Abort + Threads + Wait),
     alloc: Global,
     action: Action,
     parts: &[&str],
@@ -21,18 +23,29 @@ fn expect_of(
     status: u8,
 ) {
     assert!(rt;
-        is_written(alloc, action, parts, lines, status) == Some(true),
+        is_written(rt, alloc, action, parts, lines, status) == Some(true),
         "{lines:?}"
     );
 }
 
 /// Checks the line and the status of `check`.
-fn expect(rt: &impl Abort, alloc: Global, parts: &[&str], line: &str, status: u8) {
+fn expect(
+    rt: &(impl Abort + Threads + Wait),
+    alloc: Global,
+    parts: &[&str],
+    line: &str,
+    status: u8,
+) {
     expect_of(rt, alloc, Action::Check, parts, &[line], status);
 }
 
 /// Checks the line and the status of `check` on each of these, within the other parts of a text.
-fn expect_each(rt: &impl Abort, alloc: Global, around: [&str; 3], rows: &[(&str, &str, u8)]) {
+fn expect_each(
+    rt: &(impl Abort + Threads + Wait),
+    alloc: Global,
+    around: [&str; 3],
+    rows: &[(&str, &str, u8)],
+) {
     for (rest, line, status) in rows {
         let parts = [around[0], around[1], *rest, around[2]];
         expect(rt, alloc, &parts, line, *status);
@@ -40,7 +53,12 @@ fn expect_each(rt: &impl Abort, alloc: Global, around: [&str; 3], rows: &[(&str,
 }
 
 /// Checks that `check` refuses each of these, within the other parts of a text, with this line.
-fn expect_refused(rt: &impl Abort, alloc: Global, around: [&str; 3], rows: &[(&str, &str)]) {
+fn expect_refused(
+    rt: &(impl Abort + Threads + Wait),
+    alloc: Global,
+    around: [&str; 3],
+    rows: &[(&str, &str)],
+) {
     for (rest, line) in rows {
         let parts = [around[0], around[1], *rest, around[2]];
         expect(rt, alloc, &parts, line, 1);
@@ -211,7 +229,13 @@ fn push_often(text: &mut String, word: &str, count: usize) -> Result<(), AllocEr
 }
 
 /// Checks the line and the status on a rule of so many agents.
-fn expect_agents(rt: &impl Abort, alloc: Global, agents: usize, line: &str, status: u8) {
+fn expect_agents(
+    rt: &(impl Abort + Threads + Wait),
+    alloc: Global,
+    agents: usize,
+    line: &str,
+    status: u8,
+) {
     match text_of_agents(alloc, agents) {
         Ok(text) => expect(rt, alloc, &[text.as_str()], line, status),
         Err(_) => assert!(rt; false, "memory for {line}"),
@@ -271,7 +295,13 @@ fn text_of_lines(alloc: Global, lines: usize) -> Result<String, AllocError> {
 }
 
 /// Checks the line and the status on a net of so many lines.
-fn expect_lines(rt: &impl Abort, alloc: Global, lines: usize, line: &str, status: u8) {
+fn expect_lines(
+    rt: &(impl Abort + Threads + Wait),
+    alloc: Global,
+    lines: usize,
+    line: &str,
+    status: u8,
+) {
     match text_of_lines(alloc, lines) {
         Ok(text) => expect(rt, alloc, &[text.as_str()], line, status),
         Err(_) => assert!(rt; false, "memory for {line}"),
@@ -313,6 +343,7 @@ fn padded(alloc: Global, program: &[u8], length: usize) -> Result<Vec<u8>, Alloc
 
 /// Whether this is the line, and this the status, on a program with blanks after it.
 fn is_answer_to_padded(
+    rt: &(impl Threads + Wait),
     alloc: Global,
     program: &str,
     length: usize,
@@ -320,19 +351,19 @@ fn is_answer_to_padded(
     status: u8,
 ) -> Option<bool> {
     let text = padded(alloc, program.as_bytes(), length).ok()?;
-    is_answer(alloc, Action::Check, text.as_slice(), line, status)
+    is_answer(rt, alloc, Action::Check, text.as_slice(), line, status)
 }
 
 /// Checks the line and the status on a program with blanks after it.
 fn expect_padded(
-    rt: &impl Abort,
+    rt: &(impl Abort + Threads + Wait),
     alloc: Global,
     program: &str,
     length: usize,
     line: &str,
     status: u8,
 ) {
-    let found = is_answer_to_padded(alloc, program, length, line, status);
+    let found = is_answer_to_padded(rt, alloc, program, length, line, status);
     assert!(rt; found == Some(true), "{length}");
 }
 
@@ -346,11 +377,11 @@ fn a_text_may_fill_the_limit_and_not_pass_it(rt: HostRuntime) -> Result<(), Fail
     Ok(())
 }
 
-/// The status of `check`.
+/// The status of `check`, which waits for nobody.
 fn checked(alloc: Global, reader: &mut Tape, writer: &mut Paper) -> Status
     requires { (reader.old.failures ≡ 0) × (writer.old.failures ≡ 0) }
 {
-    act(alloc, &Action::Check, reader, writer)
+    report(alloc, false, reader, writer)
 }
 
 /// Whether this is the line, and this the status, where a text comes byte by byte and one read
@@ -539,7 +570,7 @@ const NOT_BUILT_BY_STEPS: [(&str, &str, &str, &str); 4] = [
 
 /// Checks that the command refuses each of these with this line.
 fn expect_not_built(
-    rt: &impl Abort,
+    rt: &(impl Abort + Threads + Wait),
     alloc: Global,
     action: Action,
     rows: &[(&str, &str, &str, &str)],
@@ -597,6 +628,14 @@ fn ports_of_one_class_are_grafted_to_one_step(rt: HostRuntime) {
     );
 }
 
+/// Whether this is what is reported of how a text is built, with status 0.
+fn is_derived(alloc: Global, text: &str, lines: &str) -> bool {
+    let mut reader = Tape::new(text.as_bytes());
+    let mut writer = Paper::new(alloc);
+    let answer = report(alloc, true, &mut reader, &mut writer);
+    answer == Status(0) && writer.has(lines.as_bytes())
+}
+
 #[test]
 fn a_wire_between_free_ends_is_a_link(rt: HostRuntime) {
     let text = "type nat;\nnet (a : nat+, b : nat-) { a ~ b; }\n";
@@ -608,4 +647,5 @@ fn a_wire_between_free_ends_is_a_link(rt: HostRuntime) {
         &["net\n0 link\n"],
         0,
     );
+    assert!(rt; is_derived(rt.alloc(), text, "net\n0 link\n"));
 }

@@ -43,10 +43,12 @@ fn the_words_check_and_derive_are_actions(rt: HostRuntime) {
     assert!(rt; action(rt.alloc(), &["inet", "derive"]) == Some(Action::Derive));
 }
 
-/// Whether the words ask for a run within so many interactions and so many cells.
-fn is_run(alloc: Global, words: &[&str], limit: u64, cells: u32) -> bool {
+/// Whether the words ask for a run of so many workers within so many interactions and so many cells.
+fn is_run(alloc: Global, words: &[&str], workers: u32, limit: u64, cells: u32) -> bool {
     match action(alloc, words) {
-        Some(Action::Run(limits)) => limits.limit() == limit && limits.cells() == cells,
+        Some(Action::Run(limits)) => {
+            limits.workers() == workers && limits.limit() == limit && limits.cells() == cells
+        }
         _ => false,
     }
 }
@@ -54,11 +56,21 @@ fn is_run(alloc: Global, words: &[&str], limit: u64, cells: u32) -> bool {
 #[test]
 fn run_takes_its_limits_or_the_usual_ones(rt: HostRuntime) {
     let alloc = rt.alloc();
-    assert!(rt; is_run(alloc, &["inet", "run"], 1_000_000, 65_536));
+    assert!(rt; is_run(alloc, &["inet", "run"], 1, 1_000_000, 65_536));
     assert!(rt;
         is_run(
             alloc,
-            &["inet", "run", "--limit", "0", "--cells", "16"],
+            &[
+                "inet",
+                "run",
+                "--workers",
+                "64",
+                "--limit",
+                "0",
+                "--cells",
+                "16"
+            ],
+            64,
             0,
             16
         )
@@ -67,6 +79,7 @@ fn run_takes_its_limits_or_the_usual_ones(rt: HostRuntime) {
         is_run(
             alloc,
             &["inet", "run", "--cells", "1048576"],
+            1,
             1_000_000,
             1_048_576
         )
@@ -75,10 +88,12 @@ fn run_takes_its_limits_or_the_usual_ones(rt: HostRuntime) {
         is_run(
             alloc,
             &["inet", "run", "--limit", "1000000000000"],
+            1,
             1_000_000_000_000,
             65_536
         )
     );
+    assert!(rt; is_run(alloc, &["inet", "run", "--workers=1"], 1, 1_000_000, 65_536));
 }
 
 #[test]
@@ -87,7 +102,8 @@ fn numbers_out_of_range_are_wrong(rt: HostRuntime) {
     assert!(rt; is_wrong(alloc, &["inet", "run", "--limit", "1000000000001"]));
     assert!(rt; is_wrong(alloc, &["inet", "run", "--cells", "15"]));
     assert!(rt; is_wrong(alloc, &["inet", "run", "--cells", "1048577"]));
-    assert!(rt; is_wrong(alloc, &["inet", "run", "--workers", "1"]));
+    assert!(rt; is_wrong(alloc, &["inet", "run", "--workers", "0"]));
+    assert!(rt; is_wrong(alloc, &["inet", "run", "--workers", "65"]));
 }
 
 #[test]
@@ -97,6 +113,7 @@ fn other_words_are_wrong(rt: HostRuntime) {
     assert!(rt; is_wrong(alloc, &["inet"]));
     assert!(rt; is_wrong(alloc, &["inet", "check", "check"]));
     assert!(rt; is_wrong(alloc, &["inet", "check", "--limit", "1"]));
+    assert!(rt; is_wrong(alloc, &["inet", "check", "--workers", "1"]));
     assert!(rt; is_wrong(alloc, &["inet", "derive", "check"]));
     assert!(rt; is_wrong(alloc, &["inet", "Check"]));
     assert!(rt; is_wrong(alloc, &["inet", "Derive"]));

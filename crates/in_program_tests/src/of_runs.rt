@@ -5,51 +5,55 @@ use in_test_texts::{ADDITION, DUPLICATION, ERASURE, SUMS};
 use in_words::Action;
 use std::alloc::{AllocError, Global};
 use std::process::Abort;
+use std::sync::Wait;
+use std::thread::Threads;
 
-/// Whether `run` writes these lines on a text, within so many interactions and so many cells, and ends with this status.
+/// Whether `run` writes these lines on a text, with so many workers, within so many interactions and so many cells, and ends with this
+/// status.
 fn answers(
+    rt: &(impl Threads + Wait),
     alloc: Global,
-    bounds: (u64, u32),
+    bounds: (u32, u64, u32),
     parts: &[&str],
     lines: &[&str],
     status: u8,
 ) -> Option<bool> {
-    let limits = Limits::new(bounds.0, bounds.1)?;
-    is_written(alloc, Action::Run(limits), parts, lines, status)
+    let limits = Limits::new(bounds.0, bounds.1, bounds.2)?;
+    is_written(rt, alloc, Action::Run(limits), parts, lines, status)
 }
 
-/// Checks the lines, which come in parts, and the status of `run` on a text, within so many interactions and so many cells.
+/// Checks the lines, which come in parts, and the status of `run` on a text, with so many workers, within so many interactions and so many cells.
 fn expect_parts(
-    rt: &impl Abort,
+    rt: &(impl Abort + Threads + Wait),
     alloc: Global,
-    bounds: (u64, u32),
+    bounds: (u32, u64, u32),
     parts: &[&str],
     lines: &[&str],
     status: u8,
 ) {
     assert!(rt;
-        answers(alloc, bounds, parts, lines, status) == Some(true),
+        answers(rt, alloc, bounds, parts, lines, status) == Some(true),
         "{}",
         lines.first().copied().unwrap_or("")
     );
 }
 
-/// Checks the lines and the status of `run` on a text, within so many interactions and so many cells.
+/// Checks the lines and the status of `run` on a text, with so many workers, within so many interactions and so many cells.
 fn expect(
-    rt: &impl Abort,
+    rt: &(impl Abort + Threads + Wait),
     alloc: Global,
-    bounds: (u64, u32),
+    bounds: (u32, u64, u32),
     parts: &[&str],
     lines: &str,
     status: u8,
 ) {
     assert!(rt;
-        answers(alloc, bounds, parts, &[lines], status) == Some(true),
+        answers(rt, alloc, bounds, parts, &[lines], status) == Some(true),
         "{lines}"
     );
 }
 
-const USUAL: (u64, u32) = (1_000_000, 65_536);
+const USUAL: (u32, u64, u32) = (1, 1_000_000, 65_536);
 
 /// What is printed of a sum at each limit, and the status.
 const AT_LIMITS: [(u64, &str, u8); 5] = [
@@ -73,9 +77,14 @@ const AT_LIMITS: [(u64, &str, u8); 5] = [
 ];
 
 /// Checks the lines and the status of `run` on a text at each limit.
-fn expect_at_limits(rt: &impl Abort, alloc: Global, parts: &[&str], rows: &[(u64, &str, u8)]) {
+fn expect_at_limits(
+    rt: &(impl Abort + Threads + Wait),
+    alloc: Global,
+    parts: &[&str],
+    rows: &[(u64, &str, u8)],
+) {
     for (limit, lines, status) in rows {
-        expect(rt, alloc, (*limit, 65_536), parts, lines, *status);
+        expect(rt, alloc, (1, *limit, 65_536), parts, lines, *status);
     }
 }
 
@@ -111,17 +120,24 @@ const RUN: [(&str, &str); 6] = [
     ),
 ];
 
-/// Checks the lines of `run` on each net of numbers.
-fn expect_runs(rt: &impl Abort, alloc: Global, rows: &[(&str, &str)]) {
+/// Checks the lines of `run` with so many workers on each net of numbers.
+fn expect_runs(
+    rt: &(impl Abort + Threads + Wait),
+    alloc: Global,
+    workers: u32,
+    rows: &[(&str, &str)],
+) {
     for (net, lines) in rows {
         let text = [SUMS, ADDITION, DUPLICATION, ERASURE, *net, "\n"];
-        expect(rt, alloc, USUAL, &text, lines, 0);
+        expect(rt, alloc, (workers, 1_000_000, 65_536), &text, lines, 0);
     }
 }
 
 #[test]
-fn nets_of_numbers_are_run(rt: HostRuntime) {
-    expect_runs(&rt, rt.alloc(), &RUN);
+fn nets_of_numbers_are_run_by_any_number_of_workers(rt: HostRuntime) {
+    for workers in [1, 2, 3, 64] {
+        expect_runs(&rt, rt.alloc(), workers, &RUN);
+    }
 }
 
 /// What stands around a number of eleven in a sum, what is printed within sixteen cells, and the status.
@@ -142,13 +158,17 @@ const WITHIN_SIXTEEN_CELLS: [(&str, &str, &str, u8); 3] = [
 ];
 
 /// Checks the lines and the status of `run` within sixteen cells.
-fn expect_within_sixteen(rt: &impl Abort, alloc: Global, rows: &[(&str, &str, &str, u8)]) {
+fn expect_within_sixteen(
+    rt: &(impl Abort + Threads + Wait),
+    alloc: Global,
+    rows: &[(&str, &str, &str, u8)],
+) {
     let begin = "net (r : nat+) { ";
     let eleven = "S(S(S(S(S(S(S(S(S(S(S(Z)))))))))))";
     for (more, close, lines, status) in rows {
         let end = " ~ Add(Z, r); }\n";
         let text = [SUMS, ADDITION, begin, *more, eleven, *close, end];
-        expect(rt, alloc, (1_000_000, 16), &text, lines, *status);
+        expect(rt, alloc, (1, 1_000_000, 16), &text, lines, *status);
     }
 }
 
@@ -189,10 +209,10 @@ fn wide_cells_may_be_too_few(rt: HostRuntime) {
     if let (Ok(most), Ok(more)) = (wide_term(alloc, 16), wide_term(alloc, 17)) {
         let text = [WIDE, "net (r : nat+) { r ~ ", more.as_str(), "; }\n"];
         let line = "start: full wide need 17 free 16\n";
-        expect(&rt, alloc, (1_000_000, 16), &text, line, 4);
+        expect(&rt, alloc, (1, 1_000_000, 16), &text, line, 4);
         let text = [WIDE, "net (r : nat+) { r ~ ", most.as_str(), "; }\n"];
         let lines = ["r = ", most.as_str(), "\ninteractions: 0\nstop: normal\n"];
-        expect_parts(&rt, alloc, (1_000_000, 16), &text, &lines, 0);
+        expect_parts(&rt, alloc, (1, 1_000_000, 16), &text, &lines, 0);
     } else {
         assert!(rt; false, "memory for two terms");
     }
@@ -248,7 +268,11 @@ const WITH_EQUATIONS: [(&str, u64, &str, u8); 6] = [
 ];
 
 /// Checks what `run` writes where the rule has these equations.
-fn expect_with_equations(rt: &impl Abort, alloc: Global, rows: &[(&str, u64, &str, u8)]) {
+fn expect_with_equations(
+    rt: &(impl Abort + Threads + Wait),
+    alloc: Global,
+    rows: &[(&str, u64, &str, u8)],
+) {
     for (rule, limit, lines, status) in rows {
         let text = [
             SUMS,
@@ -257,7 +281,7 @@ fn expect_with_equations(rt: &impl Abort, alloc: Global, rows: &[(&str, u64, &st
             *rule,
             "net (r : nat+) { Two(r) ~ S(Z); }\n",
         ];
-        expect(rt, alloc, (*limit, 65_536), &text, lines, *status);
+        expect(rt, alloc, (1, *limit, 65_536), &text, lines, *status);
     }
 }
 

@@ -1,6 +1,6 @@
--- What a run of an accepted program comes to: it is a machine, its net is reached by as many interactions as were counted, and it is one up
--- to the numbers of its agents.
-use Rattle.std.proofs.Common.{◌≡◌, ◌+◌, ℕ, List, Ok, subst, arith}
+-- What a run of an accepted program comes to: it is a machine, its net is reached by as many interactions as were counted, and with one
+-- worker it is one up to the numbers of its agents.
+use Rattle.std.proofs.Common.{◌≡◌, ℕ, List, Ok}
 use Rattle.in_check.specs.Checking.{IsAccepted}
 use Rattle.in_check.specs.Plain.{IsReachedBy}
 use Rattle.in_check.specs.Programs.{Program}
@@ -10,20 +10,20 @@ use Rattle.in_rounds.specs.Machines.{IsMachine}
 use Rattle.in_reducer.specs.Machines.{plain_of}
 use Rattle.in_run.specs.Outcomes.{RunsTo}
 use Rattle.in_rounds.specs.Same.{AreSame}
-use Rattle.in_rounds.proofs.SameRun.{machine_runs, run_keeps}
 use Rattle.in_run.proofs.SameOutcome.{same_outcome}
-use Rattle.in_rounds.proofs.SameStart.{same_start, start_machine, start_plain, start_reached}
+use Rattle.in_rounds.proofs.SameStart.{same_start, start_machine}
 
-module _ (text : List ℕ) (p : Program) (accepted : IsAccepted text p) where
-  pub ended_reached : (l : Limits) (o : Outcome) → RunsTo p l (Ok o) → IsReachedBy (plain_of o.machine) o.interactions
-  ended_reached l o (start, h, outcome) =
-      subst (λ k. IsReachedBy (plain_of o.machine) k) (let z : o.interactions + 0 ≡ o.interactions = omega arith in z)
-      (run_keeps start o.machine 0 o.interactions (start_plain text p accepted l.cells start h) (start_reached text p accepted l.cells start h) outcome.run).1
+module _ (p : Program) (l : Limits) (o : Outcome) (h : RunsTo p l (Ok o)) where
+  pub ended_reached : IsReachedBy (plain_of o.machine) o.interactions
+  ended_reached = h.0.0.reached
 
-  pub ended_machine : (l : Limits) (o : Outcome) → RunsTo p l (Ok o) → IsMachine o.machine
-  ended_machine l o (start, h, outcome) = machine_runs start o.machine o.interactions (start_machine text p accepted l.cells start h l.most) outcome.run
+  pub ended_machine : IsMachine o.machine
+  ended_machine = h.0.0.machine
 
-  pub ended_alike : (l : Limits) (o u : Outcome) → RunsTo p l (Ok o) → RunsTo p l (Ok u) → AreSame o.machine u.machine × (o.interactions ≡ u.interactions) × (o.stop ≡ u.stop)
-  ended_alike l o u (start, h, x) (other, g, y) =
-      same_outcome start other (start_machine text p accepted l.cells start h l.most) (start_machine text p accepted l.cells other g l.most) (same_start text p accepted l.cells start other h g)
-      l.limit o.machine u.machine o.interactions u.interactions o.stop u.stop x y
+pub ended_alike : (text : List ℕ) (p : Program) → IsAccepted text p → (l : Limits) → l.workers ≡ 1 → (o u : Outcome) → RunsTo p l (Ok o) → RunsTo p l (Ok u)
+    → AreSame o.machine u.machine × (o.interactions ≡ u.interactions) × (o.stop ≡ u.stop)
+ended_alike text p accepted l one o u h g =
+    let x = h.1 one in
+    let y = g.1 one in
+    same_outcome x.0 y.0 (start_machine text p accepted l.cells x.0 x.1 l.most) (start_machine text p accepted l.cells y.0 y.1 l.most) (same_start text p accepted l.cells x.0 y.0 x.1 y.1)
+    l.limit o.machine u.machine o.interactions u.interactions o.stop u.stop x.2 y.2

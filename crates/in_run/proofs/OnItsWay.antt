@@ -1,25 +1,113 @@
--- A run, step by step.
-use Rattle.std.proofs.Common.{◌≡◌, ◌<◌, ◌≤◌, ◌+◌, ℕ, suc, subst, arith}
+-- A run, step by step and round by round.
+use Rattle.std.proofs.Common.{◌≡◌, ◌<◌, ◌≤◌, ◌+◌, ◌-◌, ℕ, zero, suc, List, Ok, Err, sym, subst, ◌∙◌, arith}
+use Rattle.in_check.specs.Checking.{IsAccepted}
+use Rattle.in_check.specs.Plain.{IsReachedBy}
 use Rattle.in_check.specs.Programs.{Program}
-use Rattle.in_reducer.specs.Machines.{MachineParts}
+use Rattle.in_compile.specs.Cells.{agents_of, count_of}
+use Rattle.in_run.specs.declared.limits.Limits.{Limits}
+use Rattle.in_run.specs.declared.running.RunFault.TheVariants.{Start, Memory}
+use Rattle.in_run.specs.declared.stops.Stop.{Stop}
+use Rattle.in_run.specs.Laws.{TurnsAreAllowed}
+use Rattle.in_run.specs.Outcomes.{ReachesWith, RunsTo}
+use Rattle.in_run.specs.Stops.{GoesOn, IsStop}
+use Rattle.in_reducer.specs.Machines.{MachineParts, HasCells, plain_of}
 use Rattle.in_reducer.specs.Starts.{IsStart}
-use Rattle.in_rounds.specs.Runs.{Runs, at_start, then_step}
 use Rattle.in_reducer.specs.Steps.{StepsAt}
+use Rattle.in_rounds.specs.Machines.{IsMachine}
+use Rattle.in_rounds.specs.Rounds.{IsRound}
+use Rattle.in_reducer.specs.Runs.{Runs, at_start, then_step}
+use Rattle.in_rounds.proofs.OneEnd.{program_kept}
+use Rattle.in_rounds.proofs.Rounded.{joined}
+use Rattle.in_rounds.proofs.SameRun.{machine_runs, run_keeps}
+use Rattle.in_rounds.proofs.SameStart.{start_machine, start_reached}
 
--- so many steps of a run from a start, within a limit
-pub record IsOnItsWay (p : Program) (cells limit k : ℕ) (m : MachineParts) : Type 0 where
+-- so many interactions of a program's run within these limits
+pub record IsOnItsWay (p : Program) (l : Limits) (k : ℕ) (m : MachineParts) : Type 0 where
   pub start : MachineParts
-  pub starts : IsStart p cells start
-  pub run : Runs start k m
-  pub within : k ≤ limit
+  pub starts : IsStart p l.cells start
+  pub reaches : ReachesWith p l.cells k m
+  pub in_turn : l.workers ≡ 1 → Runs start k m
+  pub within : k ≤ l.limit
 
-pub begins : (p : Program) (cells limit : ℕ) (m : MachineParts) → IsStart p cells m → IsOnItsWay p cells limit 0 m
-begins p cells limit m h = record { start = m; starts = h; run = at_start m; within = omega arith }
+-- ---- in turn
 
-pub goes_on : (p : Program) (cells limit k : ℕ) (m n : MachineParts) → IsOnItsWay p cells limit k m → StepsAt m 0 n → k < limit → IsOnItsWay p cells limit (k + 1) n
-goes_on p cells limit k m n h s l = record {
+cells_kept : (m n : MachineParts) (k cells : ℕ) → Runs m k n → HasCells cells m → HasCells cells n
+cells_kept m n zero cells (at_start _) h = h
+cells_kept m o (suc k) cells (then_step _ n _ _ before s) h = λ c.
+    subst (λ (z : Program). count_of o.vacant c + agents_of z.tables c o.agents ≡ cells) (sym s.step.program) (s.cells c ∙ cells_kept m n k cells before h c)
+
+-- the interactions of a run in turn are some more
+reaches_on : (p : Program) (cells j k : ℕ) (m n : MachineParts) → ReachesWith p cells j m → Runs m k n → ReachesWith p cells (k + j) n
+reaches_on p cells j k m n h run = record {
   start = h.start;
-  starts = h.starts;
-  run = subst (λ j. Runs h.start j n) (let z : suc k ≡ k + 1 = omega arith in z) (then_step h.start m n k h.run s);
-  within = omega (arith, l);
+  machine = machine_runs m n k h.machine run;
+  program = program_kept m n k run ∙ h.program;
+  counted = cells_kept m n k cells run h.counted;
+  reached = (run_keeps m n j k h.machine.plain h.reached run).1;
 }
+
+-- a start is reached by none
+module _ (text : List ℕ) (p : Program) (l : Limits) (accepted : IsAccepted text p) (m : MachineParts) (h : IsStart p l.cells m) where
+  at_first : ReachesWith p l.cells 0 m
+  at_first = record {
+    start = (m, h);
+    machine = start_machine text p accepted l.cells m h l.most;
+    program = h.program;
+    counted = h.counted;
+    reached = start_reached text p accepted l.cells m h;
+  }
+
+  pub begins : IsOnItsWay p l 0 m
+  begins = record { start = m; starts = h; reaches = at_first; in_turn = λ _. at_start m; within = omega arith }
+
+  pub reaches_in_turn : (k : ℕ) (n : MachineParts) → Runs m k n → ReachesWith p l.cells k n
+  reaches_in_turn k n run = subst (λ j. ReachesWith p l.cells j n) (let z : k + 0 ≡ k = omega arith in z) (reaches_on p l.cells 0 k m n at_first run)
+
+pub turns_are_allowed : TurnsAreAllowed
+turns_are_allowed text p l (Ok o) accepted h = ((reaches_in_turn text p l accepted h.0 h.1 o.interactions o.machine h.2.run, h.2.within, h.2.stop), λ _. h)
+turns_are_allowed text p l (Err (Start f)) accepted h = (h, λ _. h)
+turns_are_allowed text p l (Err (Memory m k)) accepted h = ((reaches_in_turn text p l accepted h.0 h.1 k m h.2, h.3), λ _. h)
+
+-- ---- further on
+
+module _ (p : Program) (l : Limits) (k : ℕ) (m : MachineParts) (h : IsOnItsWay p l k m) where
+  -- more interactions in turn
+  runs_further : (n : MachineParts) (j : ℕ) → Runs m j n → j + k ≤ l.limit → IsOnItsWay p l (j + k) n
+  runs_further n j run fits = record {
+    start = h.start;
+    starts = h.starts;
+    reaches = reaches_on p l.cells k j m n h.reaches run;
+    in_turn = λ one. joined h.start m n k j (h.in_turn one) run;
+    within = fits;
+  }
+
+  -- one more
+  pub steps_further : (n : MachineParts) → StepsAt m 0 n → k < l.limit → IsOnItsWay p l (k + 1) n
+  steps_further n s less =
+      subst (λ j. IsOnItsWay p l j n) (let z : 1 + k ≡ k + 1 = omega arith in z)
+      (runs_further n 1 (then_step m m n 0 (at_start m) s) (omega (arith, less)))
+
+  -- a round of as many as are left
+  pub rounds_further : (n : MachineParts) (j : ℕ) → IsRound m (l.limit - k) n j → k < l.limit → IsOnItsWay p l (k + j) n
+  rounds_further n j round less =
+      let most = round.most in
+      subst (λ i. IsOnItsWay p l i n) (let z : j + k ≡ k + j = omega arith in z) (runs_further n j round.run (omega (arith, less, most)))
+
+  -- of several workers, more interactions in any order
+  pub goes_further : (n : MachineParts) (j : ℕ) → (l.workers ≡ 1 → ⊥) → IsMachine n → n.program ≡ m.program → HasCells l.cells n
+      → (IsReachedBy (plain_of m) k → IsReachedBy (plain_of n) (k + j)) → k + j ≤ l.limit → IsOnItsWay p l (k + j) n
+  goes_further n j several machine program counted on fits = record {
+    start = h.start;
+    starts = h.starts;
+    reaches = record { start = h.reaches.start; machine = machine; program = program ∙ h.reaches.program; counted = counted; reached = on h.reaches.reached };
+    in_turn = λ one. absurd (several one);
+    within = fits;
+  }
+
+  -- ---- its outcome
+
+  pub ends_so : (s : Stop) → IsStop l.limit m k s → RunsTo p l (Ok (record { machine = m; interactions = k; stop = s }))
+  ends_so s stop = ((h.reaches, h.within, stop), λ one. (h.start, h.starts, record { run = h.in_turn one; within = h.within; stop = stop }))
+
+  pub wants_memory : GoesOn l.limit m k → RunsTo p l (Err (Memory m k))
+  wants_memory goes = ((h.reaches, goes), λ one. (h.start, h.starts, h.in_turn one, goes))

@@ -9,7 +9,7 @@ use Rattle.in_compile.specs.Cells.{count_of, IsFirstShort}
 use Rattle.in_reducer.specs.Machines.{MachineParts}
 use Rattle.in_rounds.specs.Machines.{IsMachine}
 use Rattle.in_reducer.specs.Steps.{HasRoomAt, IsShortAt}
-use Rattle.in_rounds.specs.Runs.{Runs}
+use Rattle.in_reducer.specs.Runs.{Runs}
 use Rattle.in_run.specs.Stops.{IsStop, IsOutcome}
 use Rattle.in_rounds.specs.Same.{IsSameMachine, AreSame}
 use Rattle.in_compile.proofs.Classes.{one_short}

@@ -1,16 +1,17 @@
 -- Laws over runs and what they come to.
-use Rattle.std.specs.Prelude.{◌≡◌, ℕ, List, Ok}
+use Rattle.std.specs.Prelude.{◌≡◌, ℕ, List, Result, Ok}
 use Rattle.in_check.specs.Checking.{IsAccepted}
 use Rattle.in_check.specs.Plain.{IsReachedBy}
 use Rattle.in_check.specs.Programs.{Program}
 use Rattle.in_order.specs.Ends.{EndsOnce}
 use Rattle.in_run.specs.declared.limits.Limits.{Limits}
 use Rattle.in_run.specs.declared.running.Outcome.{Outcome}
+use Rattle.in_run.specs.declared.running.RunFault.{RunFault}
 use Rattle.in_run.specs.declared.stops.Stop.{Stop}
 use Rattle.in_run.specs.declared.stops.Stop.TheVariants.{Normal}
 use Rattle.in_reducer.specs.Machines.{MachineParts, plain_of}
 use Rattle.in_rounds.specs.Machines.{IsMachine}
-use Rattle.in_run.specs.Outcomes.{RunsTo}
+use Rattle.in_run.specs.Outcomes.{RunsInTurn, RunsTo}
 use Rattle.in_run.specs.Stops.{IsStop, IsOutcome}
 use Rattle.in_rounds.specs.Same.{AreSame}
 use Rattle.in_rounds.specs.Texts.{text_of}
@@ -32,11 +33,15 @@ OutcomesAreMachines = (text : List ℕ) (p : Program) (l : Limits) (o : Outcome)
 abbrev pub OutcomesAreReached : Type 0
 OutcomesAreReached = (text : List ℕ) (p : Program) (l : Limits) (o : Outcome) → IsAccepted text p → RunsTo p l (Ok o) → IsReachedBy (plain_of o.machine) o.interactions
 
--- an accepted program and limits have one outcome, up to the numbers of agents
+-- what is done in turn may be done by any number of workers
+abbrev pub TurnsAreAllowed : Type 0
+TurnsAreAllowed = (text : List ℕ) (p : Program) (l : Limits) (r : Result Outcome RunFault) → IsAccepted text p → RunsInTurn p l r → RunsTo p l r
+
+-- with one worker an accepted program and limits have one outcome, up to the numbers of agents
 abbrev pub ProgramsEndAlike : Type 0
-ProgramsEndAlike = (text : List ℕ) (p : Program) (l : Limits) (o u : Outcome) → IsAccepted text p → RunsTo p l (Ok o) → RunsTo p l (Ok u) →
+ProgramsEndAlike = (text : List ℕ) (p : Program) (l : Limits) (o u : Outcome) → IsAccepted text p → l.workers ≡ 1 → RunsTo p l (Ok o) → RunsTo p l (Ok u) →
     AreSame o.machine u.machine × (o.interactions ≡ u.interactions) × (o.stop ≡ u.stop)
 
--- where a run stops normally, it has come to that end
+-- where a run stops normally, it has come to the one end of its program, whatever workers and limits it has
 abbrev pub NormalOutcomesAreOne : Type 0
 NormalOutcomesAreOne = (text : List ℕ) (p : Program) (l : Limits) (o : Outcome) → IsAccepted text p → RunsTo p l (Ok o) → o.stop ≡ Normal → EndsOnce p o.interactions (text_of o.machine)

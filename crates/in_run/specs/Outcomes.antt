@@ -1,19 +1,45 @@
 -- What `run` answers.
-use Rattle.std.specs.Prelude.{Result, Ok, Err}
+use Rattle.std.specs.Prelude.{◌≡◌, ◌≤◌, ℕ, Result, Ok, Err}
+use Rattle.in_check.specs.Plain.{IsReachedBy}
 use Rattle.in_check.specs.Programs.{Program}
 use Rattle.in_run.specs.declared.limits.Limits.{Limits}
 use Rattle.in_run.specs.declared.running.Outcome.{Outcome}
 use Rattle.in_run.specs.declared.running.RunFault.{RunFault}
 use Rattle.in_run.specs.declared.running.RunFault.TheVariants.{Start, Memory}
-use Rattle.in_reducer.specs.Machines.{MachineParts}
+use Rattle.in_reducer.specs.Machines.{MachineParts, HasCells, plain_of}
 use Rattle.in_reducer.specs.Starts.{IsStart}
+use Rattle.in_rounds.specs.Machines.{IsMachine}
 use Rattle.in_rounds.specs.Starts.{IsNoStart}
-use Rattle.in_rounds.specs.Runs.{Runs}
-use Rattle.in_run.specs.Stops.{GoesOn, IsOutcome}
+use Rattle.in_reducer.specs.Runs.{Runs}
+use Rattle.in_run.specs.Stops.{GoesOn, IsOutcome, IsStop}
 
--- the outcome of the run from a start within the limits. Or there is no start; or memory was wanted after so many interactions of the run,
--- where another one was next
+-- ---- in any order
+
+-- so many interactions of the program, from a start with so many cells of each class: they come in any order, and the program reaches the
+-- net by exactly as many
+pub record ReachesWith (p : Program) (cells k : ℕ) (m : MachineParts) : Type 0 where
+  pub start : (s : MachineParts) × IsStart p cells s
+  pub machine : IsMachine m
+  pub program : m.program ≡ p
+  pub counted : HasCells cells m
+  pub reached : IsReachedBy (plain_of m) k
+
+-- what a run comes to within the limits. Or there is no start; or memory was wanted after so many interactions, where another one was next
+abbrev pub RunsInAnyOrder : Program → Limits → Result Outcome RunFault → Type 0
+RunsInAnyOrder p l (Ok o) = ReachesWith p l.cells o.interactions o.machine × (o.interactions ≤ l.limit) × IsStop l.limit o.machine o.interactions o.stop
+RunsInAnyOrder p l (Err (Start f)) = IsNoStart p l.cells f
+RunsInAnyOrder p l (Err (Memory m k)) = ReachesWith p l.cells k m × GoesOn l.limit m k
+
+-- ---- in turn
+
+-- the same of interactions that are first in, first out
+abbrev pub RunsInTurn : Program → Limits → Result Outcome RunFault → Type 0
+RunsInTurn p l (Ok o) = (start : MachineParts) × IsStart p l.cells start × IsOutcome start l.limit o.machine o.interactions o.stop
+RunsInTurn p l (Err (Start f)) = IsNoStart p l.cells f
+RunsInTurn p l (Err (Memory m k)) = (start : MachineParts) × IsStart p l.cells start × Runs start k m × GoesOn l.limit m k
+
+-- ---- as the limits say
+
+-- how several workers share the interactions, and so in which order these come, is open; one worker does them in turn
 abbrev pub RunsTo : Program → Limits → Result Outcome RunFault → Type 0
-RunsTo p l (Ok o) = (start : MachineParts) × IsStart p l.cells start × IsOutcome start l.limit o.machine o.interactions o.stop
-RunsTo p l (Err (Start f)) = IsNoStart p l.cells f
-RunsTo p l (Err (Memory m k)) = (start : MachineParts) × IsStart p l.cells start × Runs start k m × GoesOn l.limit m k
+RunsTo p l r = RunsInAnyOrder p l r × (l.workers ≡ 1 → RunsInTurn p l r)

@@ -1,6 +1,6 @@
 //! Laws over runs and what they come to, for whoever reasons above them. No function here does anything.
 
-ghost use Rattle.in_run.specs.Laws.{NormalOutcomesAreOne, OutcomesAreMachines, OutcomesAreReached, OutcomesAreSame, ProgramsEndAlike, StopsAreSame};
+ghost use Rattle.in_run.specs.Laws.{NormalOutcomesAreOne, OutcomesAreMachines, OutcomesAreReached, OutcomesAreSame, ProgramsEndAlike, StopsAreSame, TurnsAreAllowed};
 
 /// Machines that are the same up to the numbers of their agents stop alike.
 pub fn stops_are_same()
@@ -22,12 +22,18 @@ pub fn outcomes_are_reached()
     ensures { OutcomesAreReached }
 {}
 
-/// An accepted program and limits have one outcome, up to the numbers of agents.
+/// A run whose interactions are first in, first out is one that any number of workers may do. One worker does no other, by the contract of
+/// `run`.
+pub fn turns_are_allowed()
+    ensures { TurnsAreAllowed }
+{}
+
+/// With one worker an accepted program and limits have one outcome, up to the numbers of agents.
 pub fn programs_end_alike()
     ensures { ProgramsEndAlike }
 {}
 
-/// Where a run stops normally, it has come to the one end of its program.
+/// Where a run stops normally, it has come to the one end of its program, whatever workers and limits it has.
 pub fn normal_outcomes_are_one()
     ensures { NormalOutcomesAreOne }
 {}

@@ -6,7 +6,7 @@ mod limits;
 mod running;
 mod stops;
 
-pub use in_rounds::{CellClass, CellNo, End, Machine, Need, StartFault};
+pub use in_rounds::{CellClass, CellNo, End, Gate, Machine, Need, NoGate, StartFault};
 pub use limits::Limits;
 pub use running::{Outcome, RunFault, run};
 pub use stops::Stop;

@@ -1,4 +1,4 @@
-// A run: first in, first out.
+// A run: with one worker first in, first out.
 ghost use Rattle.std.specs.Prelude.{◌≡◌, ◌≤◌, IfOk, MatchOption};
 ghost use Rattle.in_order.specs.Ends.{EndsOnce};
 ghost use Rattle.in_run.specs.declared.stops.Stop.TheVariants.{Normal};
@@ -9,8 +9,10 @@ ghost use Rattle.in_rounds.specs.Texts.{text_of};
 use crate::limits::Limits;
 use crate::stops::Stop;
 use in_check::Checked;
-use in_rounds::{CellClass, Machine, Need, StartFault};
+use in_rounds::{CellClass, Gate, Machine, Need, StartFault};
 use std::alloc::Global;
+use std::sync::Wait;
+use std::thread::Threads;
 
 /// What a run came to: its machine, how many interactions it did, and how it stopped.
 #[derive(Drop)]
@@ -61,7 +63,8 @@ fn stop(machine: &Machine, limit: u64, interactions: u64) -> Option<Stop>
     })
 }
 
-/// Runs a program, first in, first out: each interaction is at the first pair of the queue, and its new pairs come last.
+/// Runs a program. With one worker it does so first in, first out: each interaction is at the first pair of the queue, and its new pairs come
+/// last. How several workers share the interactions is open; so far one thread does them all, in the same order.
 ///
 /// Before each interaction, in this order: where no pair is left the run stops as `Normal`; where it did as many interactions as are
 /// allowed, as `Limit`; where the first pair needs more cells of a class than are free, tested in the order of the classes, as `Full`. Refused where no
@@ -69,10 +72,12 @@ fn stop(machine: &Machine, limit: u64, interactions: u64) -> Option<Stop>
 ///
 /// Where it stops as `Normal`, it has come to the one end of its program: each run that ends, its interactions in any order, has as many
 /// interactions and the same text.
-pub fn run<'a>(
+pub fn run<'a, R: Threads + Wait, G: Gate + Sync>(
+    _rt: &R,
     alloc: Global,
     checked: &'a Checked,
     limits: Limits,
+    _gate: &G,
 ) -> Result<Outcome<'a>, RunFault<'a>>
     ensures runs { RunsTo checked.now limits result }
     ensures order { IfOk result (λ o. o.stop ≡ Normal → EndsOnce checked.now o.interactions (text_of o.machine)) }

@@ -3,10 +3,12 @@
 use in_check::Checked;
 use in_plain_runs::{Order, PlainOutcome, stopped};
 use in_print::write_net;
-use in_run::{Limits, Machine, Outcome, run};
+use in_run::{Limits, Machine, NoGate, Outcome, run};
 use in_syntax::MemoryOut;
 use in_test_programs::Look;
 use std::alloc::Global;
+use std::sync::Wait;
+use std::thread::Threads;
 
 /// Room for a printed net, in bytes.
 const ROOM: usize = 65_536;
@@ -31,20 +33,27 @@ fn are_alike(alloc: Global, outcome: &Outcome, plain: &PlainOutcome) -> Option<b
 }
 
 /// Whether the run of a program within these limits comes to this.
-fn runs_to(alloc: Global, program: &Checked, limits: Limits, plain: &PlainOutcome) -> Option<bool> {
-    let outcome = run(alloc, program, limits).ok()?;
+fn runs_to(
+    rt: &(impl Threads + Wait),
+    alloc: Global,
+    program: &Checked,
+    limits: Limits,
+    plain: &PlainOutcome,
+) -> Option<bool> {
+    let outcome = run(rt, alloc, program, limits, &NoGate).ok()?;
     are_alike(alloc, &outcome, plain)
 }
 
-/// Whether both reducers come to one outcome within so many interactions, the pair that has waited longest first.
-#[derive(Clone, Copy)]
-pub struct AlikeWithin(pub u32);
+/// Whether the run of so many workers and the slow reducer, which takes the pair that has waited longest first, come to one outcome within so
+/// many interactions.
+#[derive(Drop)]
+pub struct AlikeWithin<'a, R: Threads + Wait>(pub &'a R, pub u32, pub u32);
 
-impl Look<bool> for AlikeWithin {
+impl<R: Threads + Wait> Look<bool> for AlikeWithin<'_, R> {
     fn look(&self, alloc: Global, program: &Checked) -> Option<bool> {
-        let limits = Limits::new(self.0 as u64, CELLS)?;
-        let plain = stopped(alloc, program, Order::FirstInFirstOut, self.0).ok()?;
-        runs_to(alloc, program, limits, &plain)
+        let limits = Limits::new(self.1, self.2 as u64, CELLS)?;
+        let plain = stopped(alloc, program, Order::FirstInFirstOut, self.2).ok()?;
+        runs_to(self.0, alloc, program, limits, &plain)
     }
 }
 

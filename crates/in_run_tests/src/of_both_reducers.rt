@@ -4,23 +4,38 @@ use in_test_programs::seen;
 use in_test_texts::{ADDITION, DUPLICATION, ERASURE, SORTING, SUMS};
 use std::alloc::Global;
 use std::process::Abort;
+use std::sync::Wait;
+use std::thread::Threads;
 
-/// Checks that both reducers come to one outcome within so many interactions.
-fn expect_alike_within(rt: &impl Abort, alloc: Global, parts: &[&str], limit: u32, told: &str) {
-    let look = AlikeWithin(limit);
-    assert!(rt; seen(alloc, parts, &look) == Some(true), "{limit}: {told}");
+/// Checks that both reducers come to one outcome, so many workers of the one, within so many interactions.
+fn expect_alike_within<R: Abort + Threads + Wait>(
+    rt: &R,
+    alloc: Global,
+    parts: &[&str],
+    bounds: (u32, u32),
+    told: &str,
+) {
+    let (workers, limit) = bounds;
+    let look = AlikeWithin(rt, workers, limit);
+    assert!(rt;
+        seen(alloc, parts, &look) == Some(true),
+        "{workers}, {limit}: {told}"
+    );
 }
 
-/// Checks that both reducers come to one outcome within each number of interactions, at first few and then enough.
-fn expect_alike(rt: &impl Abort, alloc: Global, parts: &[&str], told: &str) {
+/// Checks that both reducers come to one outcome, one worker within each number of interactions, at first few and then enough, and
+/// several where they are enough.
+fn expect_alike<R: Abort + Threads + Wait>(rt: &R, alloc: Global, parts: &[&str], told: &str) {
     for limit in 0..20 {
-        expect_alike_within(rt, alloc, parts, limit, told);
+        expect_alike_within(rt, alloc, parts, (1, limit), told);
     }
     assert!(rt;
         seen(alloc, parts, &EndsWithin(400)) == Some(true),
         "{told}"
     );
-    expect_alike_within(rt, alloc, parts, 400, told);
+    for workers in [1, 2, 64] {
+        expect_alike_within(rt, alloc, parts, (workers, 400), told);
+    }
 }
 
 /// What a program of numbers, sums, copies and erasers has beside them, and its net.
@@ -84,7 +99,7 @@ const OF_NUMBERS: [(&str, &str); 13] = [
 ];
 
 /// Checks that both reducers come to one outcome of each program.
-fn expect_each_alike(rt: &impl Abort, alloc: Global, rows: &[(&str, &str)]) {
+fn expect_each_alike<R: Abort + Threads + Wait>(rt: &R, alloc: Global, rows: &[(&str, &str)]) {
     for (more, net) in rows {
         let parts = [SUMS, ADDITION, DUPLICATION, ERASURE, *more, *net, "\n"];
         expect_alike(rt, alloc, &parts, net);

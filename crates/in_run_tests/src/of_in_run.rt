@@ -45,17 +45,25 @@ fn pairs_are_queued_by_their_wires(rt: HostRuntime) {
 
 #[test]
 fn a_run_ends_without_a_pair(rt: HostRuntime) {
-    let shown = sums(rt.alloc(), SUM, &Ending(3, 16));
+    let shown = sums(rt.alloc(), SUM, &Ending(&rt, 1, 3, 16));
     assert!(rt; shown.as_deref() == Some("3 Normal\n4 agents, 12, 16 and 16 free\nr at S.0"));
 }
 
 #[test]
+fn several_workers_come_to_the_same_end(rt: HostRuntime) {
+    for workers in [2, 3, 64] {
+        let shown = sums(rt.alloc(), SUM, &Ending(&rt, workers, 3, 16));
+        assert!(rt; shown.as_deref() == Some("3 Normal\n4 agents, 12, 16 and 16 free\nr at S.0"));
+    }
+}
+
+#[test]
 fn a_run_stops_at_its_limit(rt: HostRuntime) {
-    let shown = sums(rt.alloc(), SUM, &Ending(0, 16));
+    let shown = sums(rt.alloc(), SUM, &Ending(&rt, 1, 0, 16));
     assert!(rt;
         shown.as_deref() == Some("0 Limit\n6 agents, 10, 16 and 16 free\nS1 Add2\nr at Add.2")
     );
-    let shown = sums(rt.alloc(), SUM, &Ending(1, 16));
+    let shown = sums(rt.alloc(), SUM, &Ending(&rt, 1, 1, 16));
     assert!(rt;
         shown.as_deref() == Some("1 Limit\n6 agents, 10, 16 and 16 free\nS1 Add2\nr at S.0")
     );
@@ -63,7 +71,7 @@ fn a_run_stops_at_its_limit(rt: HostRuntime) {
 
 #[test]
 fn a_run_stops_where_small_cells_are_short(rt: HostRuntime) {
-    let shown = sums(rt.alloc(), LARGE_SUM, &Ending(100, 16));
+    let shown = sums(rt.alloc(), LARGE_SUM, &Ending(&rt, 1, 100, 16));
     assert!(rt;
         shown.as_deref()
             == Some(
@@ -78,14 +86,14 @@ pub const LARGE_AGENTS: &str =
 
 #[test]
 fn a_run_stops_where_large_cells_are_short(rt: HostRuntime) {
-    let shown = seen(rt.alloc(), &[LARGE_AGENTS], &Ending(100, 16));
+    let shown = seen(rt.alloc(), &[LARGE_AGENTS], &Ending(&rt, 1, 100, 16));
     assert!(rt;
         shown.as_deref()
             == Some(
                 "0 Full { class: Large, need: 2, free: 1 }\n18 agents, 13, 1 and 16 free\nZ0 Make1\nr at Row.0\ns at Make.1"
             )
     );
-    let shown = seen(rt.alloc(), &[LARGE_AGENTS], &Ending(100, 17));
+    let shown = seen(rt.alloc(), &[LARGE_AGENTS], &Ending(&rt, 1, 100, 17));
     assert!(rt;
         shown.as_deref() == Some("1 Normal\n19 agents, 15, 0 and 17 free\nr at Row.0\ns at Row.0")
     );
@@ -97,14 +105,14 @@ pub const WIDE_AGENTS: &str =
 
 #[test]
 fn a_run_stops_where_wide_cells_are_short(rt: HostRuntime) {
-    let shown = seen(rt.alloc(), &[WIDE_AGENTS], &Ending(100, 16));
+    let shown = seen(rt.alloc(), &[WIDE_AGENTS], &Ending(&rt, 1, 100, 16));
     assert!(rt;
         shown.as_deref()
             == Some(
                 "0 Full { class: Wide, need: 2, free: 1 }\n18 agents, 13, 16 and 1 free\nZ0 Make1\nr at Row.0\ns at Make.1"
             )
     );
-    let shown = seen(rt.alloc(), &[WIDE_AGENTS], &Ending(100, 17));
+    let shown = seen(rt.alloc(), &[WIDE_AGENTS], &Ending(&rt, 1, 100, 17));
     assert!(rt;
         shown.as_deref() == Some("1 Normal\n19 agents, 15, 17 and 0 free\nr at Row.0\ns at Row.0")
     );
@@ -120,9 +128,11 @@ fn a_net_has_to_fit(rt: HostRuntime) {
 
 #[test]
 fn limits_are_in_range(rt: HostRuntime) {
-    assert!(rt; Limits::new(0, 16).is_some());
-    assert!(rt; Limits::new(1_000_000_000_000, 1_048_576).is_some());
-    assert!(rt; Limits::new(0, 15).is_none());
-    assert!(rt; Limits::new(0, 1_048_577).is_none());
-    assert!(rt; Limits::new(1_000_000_000_001, 16).is_none());
+    assert!(rt; Limits::new(1, 0, 16).is_some());
+    assert!(rt; Limits::new(64, 1_000_000_000_000, 1_048_576).is_some());
+    assert!(rt; Limits::new(0, 0, 16).is_none());
+    assert!(rt; Limits::new(65, 0, 16).is_none());
+    assert!(rt; Limits::new(1, 0, 15).is_none());
+    assert!(rt; Limits::new(1, 0, 1_048_577).is_none());
+    assert!(rt; Limits::new(1, 1_000_000_000_001, 16).is_none());
 }

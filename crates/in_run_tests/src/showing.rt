@@ -2,9 +2,11 @@
 ghost use Rattle.std.specs.Prelude.{◌≤◌};
 
 use in_check::Checked;
-use in_run::{CellClass, End, Limits, Machine, Outcome, run};
+use in_run::{CellClass, End, Limits, Machine, NoGate, Outcome, run};
 use in_test_programs::Look;
 use std::alloc::{AllocError, Global};
+use std::sync::Wait;
+use std::thread::Threads;
 
 /// How many agents there are, and how many cells of each class are free.
 fn shown_cells(alloc: Global, machine: &Machine) -> Result<String, AllocError> {
@@ -135,14 +137,14 @@ fn shown_end(alloc: Global, outcome: &Outcome) -> Result<String, AllocError> {
     format!(in alloc; "{} {:?}\n{machine}", outcome.interactions, outcome.stop)
 }
 
-/// How the run of a program ends, within so many interactions and so many cells of each class.
-#[derive(Clone, Copy)]
-pub struct Ending(pub u64, pub u32);
+/// How the run of a program ends, with so many workers, within so many interactions and so many cells of each class.
+#[derive(Drop)]
+pub struct Ending<'a, R: Threads + Wait>(pub &'a R, pub u32, pub u64, pub u32);
 
-impl Look<String> for Ending {
+impl<R: Threads + Wait> Look<String> for Ending<'_, R> {
     fn look(&self, alloc: Global, program: &Checked) -> Option<String> {
-        let limits = Limits::new(self.0, self.1)?;
-        let outcome = run(alloc, program, limits).ok()?;
+        let limits = Limits::new(self.1, self.2, self.3)?;
+        let outcome = run(self.0, alloc, program, limits, &NoGate).ok()?;
         shown_end(alloc, &outcome).ok()
     }
 }
@@ -153,7 +155,7 @@ pub struct Start(pub u32);
 
 impl Look<String> for Start {
     fn look(&self, alloc: Global, program: &Checked) -> Option<String> {
-        let limits = Limits::new(0, self.0)?;
+        let limits = Limits::new(1, 0, self.0)?;
         start_over(alloc, program, limits.cells())
     }
 }

@@ -9,7 +9,7 @@ use Rattle.clap.specs.declared.parser.matches.ValueSource.TheVariants.{DefaultVa
 use Rattle.clap.proofs.OnLiterals.{clap_on_literals}
 use Rattle.clap.proofs.ValueTestLemmas.{Accepts-accepts}
 use Rattle.in_reducer.specs.Limiting.{least_cells, most_cells}
-use Rattle.in_run.specs.Limiting.{most_interactions}
+use Rattle.in_run.specs.Limiting.{most_interactions, most_workers}
 use Rattle.in_words.specs.Asking.{Spells, faults}
 use Rattle.in_words.specs.CommandLine.{command_line}
 use Rattle.in_words.proofs.Options.{new_row}
@@ -24,14 +24,14 @@ derive_words = codes "inet" ∷ codes "derive" ∷ []
 abbrev run_words : List Text
 run_words = codes "inet" ∷ codes "run" ∷ []
 
-abbrev given_words : Text → Text → List Text
-given_words limit cells = codes "inet" ∷ codes "run" ∷ (codes "--limit=" ++ limit) ∷ (codes "--cells=" ++ cells) ∷ []
+abbrev given_words : Text → Text → Text → List Text
+given_words workers limit cells = codes "inet" ∷ codes "run" ∷ (codes "--workers=" ++ workers) ∷ (codes "--limit=" ++ limit) ∷ (codes "--cells=" ++ cells) ∷ []
 
 abbrev usual_rows : List Row
-usual_rows = new_row (codes "limit") (codes "1000000") DefaultValue ∷ new_row (codes "cells") (codes "65536") DefaultValue ∷ []
+usual_rows = new_row (codes "workers") (codes "1") DefaultValue ∷ new_row (codes "limit") (codes "1000000") DefaultValue ∷ new_row (codes "cells") (codes "65536") DefaultValue ∷ []
 
-abbrev given_rows : Text → Text → List Row
-given_rows limit cells = new_row (codes "limit") limit CommandLine ∷ new_row (codes "cells") cells CommandLine ∷ []
+abbrev given_rows : Text → Text → Text → List Row
+given_rows workers limit cells = new_row (codes "workers") workers CommandLine ∷ new_row (codes "limit") limit CommandLine ∷ new_row (codes "cells") cells CommandLine ∷ []
 
 check_taken : faults check_words ≡ []
 unfolding clap_on_literals
@@ -57,13 +57,13 @@ run_given : subcommand_of command_line run_words ≡ Some (codes "run", usual_ro
 unfolding clap_on_literals
 run_given = refl
 
-both_taken : (limit cells : Text) → accepts false (Unsigned 0 most_interactions) limit ≡ true → accepts false (Unsigned least_cells most_cells) cells ≡ true → faults (given_words limit cells) ≡ []
+all_taken : (workers limit cells : Text) → accepts false (Unsigned 1 most_workers) workers ≡ true → accepts false (Unsigned 0 most_interactions) limit ≡ true → accepts false (Unsigned least_cells most_cells) cells ≡ true → faults (given_words workers limit cells) ≡ []
 unfolding clap_on_literals
-both_taken limit cells is are = rw (is, are) refl
+all_taken workers limit cells has is are = rw has (rw is (rw are refl))
 
-both_given : (limit cells : Text) → subcommand_of command_line (given_words limit cells) ≡ Some (codes "run", given_rows limit cells)
+all_given : (workers limit cells : Text) → subcommand_of command_line (given_words workers limit cells) ≡ Some (codes "run", given_rows workers limit cells)
 unfolding clap_on_literals
-both_given limit cells = refl
+all_given workers limit cells = refl
 
 accepted : (least most n : ℕ) (text : Text) → Spells text n → least ≤ n → n ≤ most → most < 2 ^ 64 → accepts false (Unsigned least most) text ≡ true
 accepted least most n text spells above below few =
@@ -76,19 +76,19 @@ named_ask = (
 )
 
 pub usual_asks : RunAsksForTheUsual
-usual_asks l limit cells = record {
+usual_asks l workers limit cells = record {
   name = codes "run";
   options = usual_rows;
   taken = run_taken;
   given = run_given;
-  named = (refl, ((codes "1000000", refl, ((omega arith, search rules), limit)), (codes "65536", refl, ((omega arith, search rules), cells))));
+  named = (refl, ((codes "1", refl, ((omega arith, search rules), workers)), (codes "1000000", refl, ((omega arith, search rules), limit)), (codes "65536", refl, ((omega arith, search rules), cells))));
 }
 
 pub given_asks : RunAsksForTheGiven
-given_asks limit cells l is are = record {
+given_asks workers limit cells l has is are = record {
   name = codes "run";
-  options = given_rows limit cells;
-  taken = both_taken limit cells (accepted 0 most_interactions l.limit limit is (omega arith) l.limit_in_range (omega arith)) (accepted least_cells most_cells l.cells cells are l.least l.most (omega arith));
-  given = both_given limit cells;
-  named = (refl, ((limit, refl, is), (cells, refl, are)));
+  options = given_rows workers limit cells;
+  taken = all_taken workers limit cells (accepted 1 most_workers l.workers workers has l.some_worker l.few_workers (omega arith)) (accepted 0 most_interactions l.limit limit is (omega arith) l.limit_in_range (omega arith)) (accepted least_cells most_cells l.cells cells are l.least l.most (omega arith));
+  given = all_given workers limit cells;
+  named = (refl, ((workers, refl, has), (limit, refl, is), (cells, refl, are)));
 }

@@ -33,11 +33,12 @@ number_refused f name refused n fits (t, is, (digits, value)) =
     refused t (one_text-rows f name ∙ is) (digits, subst (λ (k : ℕ). k < 2 ^ 64) value fits)
 
 -- the limits of two numbers are those of the options
-pub limits_given : (options : List Row) (limit cells : ℕ) (r : Option Limits) → AreLimits limit cells r
-    → IsNumber (codes "limit") options limit → IsNumber (codes "cells") options cells → AreGiven options r
-limits_given options limit cells (Some l) made is are =
-    (subst (IsNumber (codes "limit") options) (sym made.1) is, subst (IsNumber (codes "cells") options) (sym made.2) are)
-limits_given options limit cells None made is are = λ l h.
-    let same : l.limit ≡ limit = number_once (codes "limit") options l.limit limit h.0 is in
-    let alike : l.cells ≡ cells = number_once (codes "cells") options l.cells cells h.1 are in
-    made (omega (arith, same, l.limit_in_range), omega (arith, alike, l.least), omega (arith, alike, l.most))
+pub limits_given : (options : List Row) (workers limit cells : ℕ) (r : Option Limits) → AreLimits workers limit cells r
+    → IsNumber (codes "workers") options workers → IsNumber (codes "limit") options limit → IsNumber (codes "cells") options cells → AreGiven options r
+limits_given options workers limit cells (Some l) made has is are =
+    (subst (IsNumber (codes "workers") options) (sym made.1) has, subst (IsNumber (codes "limit") options) (sym made.2) is, subst (IsNumber (codes "cells") options) (sym made.3) are)
+limits_given options workers limit cells None made has is are = λ l h.
+    let as_many : l.workers ≡ workers = number_once (codes "workers") options l.workers workers h.0 has in
+    let same : l.limit ≡ limit = number_once (codes "limit") options l.limit limit h.1 is in
+    let alike : l.cells ≡ cells = number_once (codes "cells") options l.cells cells h.2 are in
+    made (omega (arith, as_many, l.some_worker), omega (arith, as_many, l.few_workers), omega (arith, same, l.limit_in_range), omega (arith, alike, l.least), omega (arith, alike, l.most))

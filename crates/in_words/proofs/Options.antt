@@ -20,7 +20,7 @@ use Rattle.clap.specs.declared.parser.matches.ValueSource.{ValueSource}
 use Rattle.clap.specs.declared.parser.matches.ValueSource.TheVariants.{DefaultValue, CommandLine}
 use Rattle.clap.proofs.ValueTestLemmas.{accepts-Accepts}
 use Rattle.in_reducer.specs.Limiting.{least_cells, most_cells}
-use Rattle.in_run.specs.Limiting.{most_interactions}
+use Rattle.in_run.specs.Limiting.{most_interactions, most_workers}
 use Rattle.in_run.specs.declared.limits.Limits.{Limits}
 use Rattle.in_words.specs.Asking.{HasLimits, IsNumber}
 use Rattle.in_words.specs.CommandLine.{command_line, number_option, run_command}
@@ -45,7 +45,7 @@ each_at P id change missing (r ∷ rs) changed new h = go (bytes_eq r.id id) (ea
     go true later = each_append P (change r) rs (changed r h.0) h.1
     go false later = (h.0, later)
 
--- ---- the rows of the two options
+-- ---- the rows of the three options
 
 -- the row has a text between these bounds, as it was written
 pub record Fits (least most : ℕ) (r : Row) : Type 0 where
@@ -57,6 +57,9 @@ pub record Fits (least most : ℕ) (r : Row) : Type 0 where
 -- an option that takes a number, as a command that is built has it
 abbrev pub number_rule : Text → Text → ℕ → ℕ → Rule
 number_rule name usual least most = with_index 1 (filled (number_option name usual least most))
+
+abbrev pub workers_rule : Rule
+workers_rule = number_rule (codes "workers") (codes "1") 1 most_workers
 
 abbrev pub limit_rule : Rule
 limit_rule = number_rule (codes "limit") (codes "1000000") 0 most_interactions
@@ -73,7 +76,7 @@ run_shape = built_leaf (inherited (built command_line).top run_command.top)
 
 -- the row of an option has what that option takes
 abbrev pub IsGood : Row → Type 0
-IsGood r = (bytes_eq r.id (codes "limit") ≡ true → Fits 0 most_interactions r) × (bytes_eq r.id (codes "cells") ≡ true → Fits least_cells most_cells r)
+IsGood r = (bytes_eq r.id (codes "workers") ≡ true → Fits 1 most_workers r) × (bytes_eq r.id (codes "limit") ≡ true → Fits 0 most_interactions r) × (bytes_eq r.id (codes "cells") ≡ true → Fits least_cells most_cells r)
 
 abbrev pub Good : List Row → Type 0
 Good rows = Each IsGood rows
@@ -90,7 +93,7 @@ values_keep : (id : Text) (how : Reading) (s : ValueSource) (values : List Text)
     → IsGood (record { id = id; values = values; count = None; source = Some s; reading = how }) → Good rows → Good (with_values id how s values rows)
 values_keep id how s values rows new h =
     each_at IsGood id (more_values s values) _ rows
-    (λ r g. ((λ e. fits_more _ _ values r _ (g.0 e), λ e. fits_more _ _ values r _ (g.1 e)), tt)) (new, tt) h
+    (λ r g. ((λ e. fits_more _ _ values r _ (g.0 e), λ e. fits_more _ _ values r _ (g.1 e), λ e. fits_more _ _ values r _ (g.2 e)), tt)) (new, tt) h
 
 without_keeps : (id : Text) (rows : List Row) → Good rows → Good (without id rows)
 without_keeps id rows h = each_at IsGood id (λ _. []) [] rows (λ r g. tt) tt h
@@ -127,20 +130,24 @@ number_keeps name usual least most new again (v ∷ []) rows good none =
     let passed = first_none (value_kinds false (Unsigned least most) v) [] set.1 in
     values_keep name AsWritten CommandLine (v ∷ []) (without name rows) (new v (is_taken (Unsigned least most) v passed.0)) (without_keeps name rows good)
 
+workers_row : (s : ValueSource) (text : Text) → accepts false (Unsigned 1 most_workers) text ≡ true → IsGood (new_row (codes "workers") text s)
+workers_row s text fits = (λ _. record { text = text; reading = refl; first = refl; passes = fits }, λ e. cc, λ e. cc)
+
 limit_row : (s : ValueSource) (text : Text) → accepts false (Unsigned 0 most_interactions) text ≡ true → IsGood (new_row (codes "limit") text s)
-limit_row s text fits = (λ _. record { text = text; reading = refl; first = refl; passes = fits }, λ e. cc)
+limit_row s text fits = (λ e. cc, λ _. record { text = text; reading = refl; first = refl; passes = fits }, λ e. cc)
 
 cells_row : (s : ValueSource) (text : Text) → accepts false (Unsigned least_cells most_cells) text ≡ true → IsGood (new_row (codes "cells") text s)
-cells_row s text fits = (λ e. cc, λ _. record { text = text; reading = refl; first = refl; passes = fits })
+cells_row s text fits = (λ e. cc, λ e. cc, λ _. record { text = text; reading = refl; first = refl; passes = fits })
 
-pub options_keep : AllKeep Good (limit_rule ∷ cells_rule ∷ help_flag ∷ [])
-options_keep f a is = go (f limit_rule) (f cells_rule) (f help_flag) is
+pub options_keep : AllKeep Good (workers_rule ∷ limit_rule ∷ cells_rule ∷ help_flag ∷ [])
+options_keep f a is = go (f workers_rule) (f limit_rule) (f cells_rule) (f help_flag) is
   where
-    go : (x y z : Bool) → cond x (Some limit_rule) (cond y (Some cells_rule) (cond z (Some help_flag) None)) ≡ Some a → Keeps Good a
-    go true y z e = subst (Keeps Good) (same_Some _ _ e) (number_keeps (codes "limit") (codes "1000000") 0 most_interactions (limit_row CommandLine))
-    go false true z e = subst (Keeps Good) (same_Some _ _ e) (number_keeps (codes "cells") (codes "65536") least_cells most_cells (cells_row CommandLine))
-    go false false true e = subst (Keeps Good) (same_Some _ _ e) (λ again values rows good none. good)
-    go false false false e = cc
+    go : (w x y z : Bool) → cond w (Some workers_rule) (cond x (Some limit_rule) (cond y (Some cells_rule) (cond z (Some help_flag) None))) ≡ Some a → Keeps Good a
+    go true x y z e = subst (Keeps Good) (same_Some _ _ e) (number_keeps (codes "workers") (codes "1") 1 most_workers (workers_row CommandLine))
+    go false true y z e = subst (Keeps Good) (same_Some _ _ e) (number_keeps (codes "limit") (codes "1000000") 0 most_interactions (limit_row CommandLine))
+    go false false true z e = subst (Keeps Good) (same_Some _ _ e) (number_keeps (codes "cells") (codes "65536") least_cells most_cells (cells_row CommandLine))
+    go false false false true e = subst (Keeps Good) (same_Some _ _ e) (λ again values rows good none. good)
+    go false false false false e = cc
 
 -- ---- the usual texts, where an option is missing
 
@@ -228,13 +235,20 @@ limits_asked args none =
     let walked = walk_keeps Good run_shape options_keep [] args (walk_from nothing_held) tt first.0 in
     let rows = (settled run_shape.rules end).rows in
     let good = settled_keeps Good run_shape.rules options_keep run_shape.args_override_self end walked second.0 in
-    let with_limit = with_default rows limit_rule in
-    let with_both = with_default with_limit cells_rule in
-    let good_limit = default_keeps (codes "limit") (codes "1000000") 0 most_interactions (limit_row DefaultValue (codes "1000000") refl) rows good in
-    let good_both = default_keeps (codes "cells") (codes "65536") least_cells most_cells (cells_row DefaultValue (codes "65536") refl) with_limit good_limit in
-    let has_limit = has_still (codes "limit") (codes "cells") (codes "65536") least_cells most_cells with_limit (has_default (codes "limit") (codes "1000000") 0 most_interactions rows refl) in
+    let with_workers = with_default rows workers_rule in
+    let with_limit = with_default with_workers limit_rule in
+    let with_all = with_default with_limit cells_rule in
+    let good_workers = default_keeps (codes "workers") (codes "1") 1 most_workers (workers_row DefaultValue (codes "1") refl) rows good in
+    let good_limit = default_keeps (codes "limit") (codes "1000000") 0 most_interactions (limit_row DefaultValue (codes "1000000") refl) with_workers good_workers in
+    let good_all = default_keeps (codes "cells") (codes "65536") least_cells most_cells (cells_row DefaultValue (codes "65536") refl) with_limit good_limit in
+    let workers_first = has_default (codes "workers") (codes "1") 1 most_workers rows refl in
+    let workers_then = has_still (codes "workers") (codes "limit") (codes "1000000") 0 most_interactions with_workers workers_first in
+    let has_workers = has_still (codes "workers") (codes "cells") (codes "65536") least_cells most_cells with_limit workers_then in
+    let limit_first = has_default (codes "limit") (codes "1000000") 0 most_interactions with_workers refl in
+    let has_limit = has_still (codes "limit") (codes "cells") (codes "65536") least_cells most_cells with_limit limit_first in
     let has_cells = has_default (codes "cells") (codes "65536") least_cells most_cells with_limit refl in
-    let limit = read_number (codes "limit") 0 most_interactions (λ r g. g.0) with_both good_both has_limit in
-    let cells = read_number (codes "cells") least_cells most_cells (λ r g. g.1) with_both good_both has_cells in
-    let l : Limits = record { limit = limit.0; cells = cells.0; limit_in_range = limit.3; least = cells.2; most = cells.3 } in
-    (l, subst (λ (rs : List Row). HasLimits rs l) (sym (with_help with_both)) (limit.1, cells.1))
+    let workers = read_number (codes "workers") 1 most_workers (λ r g. g.0) with_all good_all has_workers in
+    let limit = read_number (codes "limit") 0 most_interactions (λ r g. g.1) with_all good_all has_limit in
+    let cells = read_number (codes "cells") least_cells most_cells (λ r g. g.2) with_all good_all has_cells in
+    let l : Limits = record { workers = workers.0; limit = limit.0; cells = cells.0; some_worker = workers.2; few_workers = workers.3; limit_in_range = limit.3; least = cells.2; most = cells.3 } in
+    (l, subst (λ (rs : List Row). HasLimits rs l) (sym (with_help with_all)) (workers.1, limit.1, cells.1))

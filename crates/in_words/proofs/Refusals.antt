@@ -8,7 +8,7 @@ use Rattle.clap.specs.declared.error.kind.ErrorKind.TheVariants.{ValueValidation
 use Rattle.clap.proofs.OnLiterals.{clap_on_literals}
 use Rattle.clap.proofs.ValueTestLemmas.{accepts-Accepts}
 use Rattle.in_reducer.specs.Limiting.{least_cells, most_cells}
-use Rattle.in_run.specs.Limiting.{most_interactions}
+use Rattle.in_run.specs.Limiting.{most_interactions, most_workers}
 use Rattle.in_words.specs.Asking.{Spells, faults}
 use Rattle.in_words.specs.Laws.{HelpIsAsked, NumbersOutOfRangeAreWrong, OtherWordsAreWrong}
 
@@ -33,6 +33,10 @@ unaccepted least most n text spells out = go (accepts false (Unsigned least most
           | inr many ↦ absurd (omega (arith, spells.1, a.3, many))
         ]
 
+workers_wrong : (text : Text) → accepts false (Unsigned 1 most_workers) text ≡ false → faults (codes "inet" ∷ codes "run" ∷ (codes "--workers=" ++ text) ∷ []) ≡ ValueValidation ∷ []
+unfolding clap_on_literals
+workers_wrong text is = rw is refl
+
 limit_wrong : (text : Text) → accepts false (Unsigned 0 most_interactions) text ≡ false → faults (codes "inet" ∷ codes "run" ∷ (codes "--limit=" ++ text) ∷ []) ≡ ValueValidation ∷ []
 unfolding clap_on_literals
 limit_wrong text is = rw is refl
@@ -43,6 +47,7 @@ cells_wrong text is = rw is refl
 
 pub numbers_wrong : NumbersOutOfRangeAreWrong
 numbers_wrong text n spells = (
+  λ out. workers_wrong text (unaccepted 1 most_workers n text spells out),
   λ many. limit_wrong text (unaccepted 0 most_interactions n text spells (inr many)),
   λ out. cells_wrong text (unaccepted least_cells most_cells n text spells out),
 )

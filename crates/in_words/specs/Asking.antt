@@ -1,5 +1,5 @@
 -- What the words of a command line ask for.
-use Rattle.std.specs.Prelude.{◌≡◌, ◌≢◌, ℕ, List, [], Option, Some, None, codes}
+use Rattle.std.specs.Prelude.{◌≡◌, ◌≢◌, ◌<◌, ◌^◌, ℕ, List, [], Option, Some, None, codes}
 use Rattle.std.specs.Str.Parse.{IsNumeral, without_leading_plus, digits_value}
 use Rattle.clap.specs.Words.{IsAmong, Kinds, Row, Text, fault_of, one_of, subcommand_of}
 use Rattle.clap.specs.declared.error.kind.ErrorKind.{ErrorKind}
@@ -23,9 +23,9 @@ Spells text n = IsNumeral 10 (without_leading_plus text) × (n ≡ digits_value 
 abbrev pub IsNumber : Text → List Row → ℕ → Type 0
 IsNumber name options n = (text : Text) × (one_of name options ≡ Some text) × Spells text n
 
--- the options `--limit` and `--cells` have these numbers
+-- the options `--workers`, `--limit` and `--cells` have these numbers
 abbrev pub HasLimits : List Row → Limits → Type 0
-HasLimits options l = IsNumber (codes "limit") options l.limit × IsNumber (codes "cells") options l.cells
+HasLimits options l = IsNumber (codes "workers") options l.workers × IsNumber (codes "limit") options l.limit × IsNumber (codes "cells") options l.cells
 
 -- a subcommand with these options asks for the action
 abbrev pub Names : Text → List Row → Action → Type 0
@@ -54,6 +54,11 @@ abbrev pub IsTold : ErrorKind → Usage → Type 0
 IsTold kind (Help text) = kind ≡ DisplayHelp
 IsTold kind (Wrong text) = (kind ≢ DisplayHelp) × (kind ≢ OutOfMemory)
 IsTold kind Memory = Unit {0}
+
+-- the number that the option of this name gives, if it gives one of 32 bits
+abbrev pub IsGiven : Text → List Row → Option ℕ → Type 0
+IsGiven name options (Some n) = IsNumber name options n
+IsGiven name options None = (n : ℕ) → n < 2 ^ 32 → IsNumber name options n → ⊥
 
 -- the limits that the options give, if they give any
 abbrev pub AreGiven : List Row → Option Limits → Type 0

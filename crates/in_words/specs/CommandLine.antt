@@ -3,7 +3,7 @@ use Rattle.std.specs.Prelude.{ℕ, true, [], ◌∷◌, Some, codes}
 use Rattle.clap.specs.Words.{App, Rule, Text, new_app, new_rule, with_rule, with_subcommand}
 use Rattle.clap.specs.declared.builder.action.ArgAction.TheVariants.{Set}
 use Rattle.clap.specs.declared.builder.value_parser.ValueParser.TheVariants.{Unsigned}
-use Rattle.in_run.specs.Limiting.{most_interactions}
+use Rattle.in_run.specs.Limiting.{most_interactions, most_workers}
 use Rattle.in_reducer.specs.Limiting.{least_cells, most_cells}
 
 -- the option `--name N`, where N is a number from least to most; a command line without it has the usual text
@@ -16,6 +16,10 @@ number_option name usual least most = record (new_rule name) {
   defaults = usual ∷ [];
 }
 
+-- how many workers: 1 where it isn't said
+abbrev pub workers_option : Rule
+workers_option = number_option (codes "workers") (codes "1") 1 most_workers
+
 -- how many interactions at most: 1,000,000 where it isn't said
 abbrev pub limit_option : Rule
 limit_option = number_option (codes "limit") (codes "1000000") 0 most_interactions
@@ -25,12 +29,12 @@ abbrev pub cells_option : Rule
 cells_option = number_option (codes "cells") (codes "65536") least_cells most_cells
 
 abbrev pub run_command : App
-run_command = with_rule (with_rule (new_app (codes "run")) limit_option) cells_option
+run_command = with_rule (with_rule (with_rule (new_app (codes "run")) workers_option) limit_option) cells_option
 
 abbrev pub needs_subcommand : App → App
 needs_subcommand a = record a { top = record a.top { subcommand_required = true } }
 
--- `inet check`, `inet derive` and `inet run` with its two options
+-- `inet check`, `inet derive` and `inet run` with its three options
 abbrev pub command_line : App
 command_line = with_subcommand (with_subcommand (with_subcommand
     (needs_subcommand (new_app (codes "inet")))

@@ -3,7 +3,7 @@ use Rattle.std.specs.Prelude.{◌≡◌, ◌<◌, ◌⊎◌, ◌++◌, ℕ, List
 use Rattle.clap.specs.Words.{Text}
 use Rattle.clap.specs.declared.error.kind.ErrorKind.TheVariants.{ArgumentConflict, DisplayHelp, MissingSubcommand, UnknownArgument, ValueValidation}
 use Rattle.in_reducer.specs.Limiting.{least_cells, most_cells}
-use Rattle.in_run.specs.Limiting.{most_interactions}
+use Rattle.in_run.specs.Limiting.{most_interactions, most_workers}
 use Rattle.in_run.specs.declared.limits.Limits.{Limits}
 use Rattle.in_words.specs.Asking.{AsksFor, Spells, faults}
 use Rattle.in_words.specs.declared.action.Action.{Action}
@@ -21,14 +21,14 @@ FaultlessWordsAsk = (words : List Text) → faults words ≡ [] → (a : Action)
 abbrev pub SubcommandsAsk : Type 0
 SubcommandsAsk = AsksFor (codes "inet" ∷ codes "check" ∷ []) Check × AsksFor (codes "inet" ∷ codes "derive" ∷ []) Derive
 
--- `inet run` asks for a run within the usual limits
+-- `inet run` asks for a run within the usual limits, of one worker
 abbrev pub RunAsksForTheUsual : Type 0
-RunAsksForTheUsual = (l : Limits) → l.limit ≡ 1000000 → l.cells ≡ 65536 → AsksFor (codes "inet" ∷ codes "run" ∷ []) (Run l)
+RunAsksForTheUsual = (l : Limits) → l.workers ≡ 1 → l.limit ≡ 1000000 → l.cells ≡ 65536 → AsksFor (codes "inet" ∷ codes "run" ∷ []) (Run l)
 
--- .. and with both options for one within the limits that their texts spell
+-- .. and with its options for one within the limits that their texts spell
 abbrev pub RunAsksForTheGiven : Type 0
-RunAsksForTheGiven = (limit cells : Text) (l : Limits) → Spells limit l.limit → Spells cells l.cells
-    → AsksFor (codes "inet" ∷ codes "run" ∷ (codes "--limit=" ++ limit) ∷ (codes "--cells=" ++ cells) ∷ []) (Run l)
+RunAsksForTheGiven = (workers limit cells : Text) (l : Limits) → Spells workers l.workers → Spells limit l.limit → Spells cells l.cells
+    → AsksFor (codes "inet" ∷ codes "run" ∷ (codes "--workers=" ++ workers) ∷ (codes "--limit=" ++ limit) ∷ (codes "--cells=" ++ cells) ∷ []) (Run l)
 
 -- `-h` and `--help` ask for help, alone and with a subcommand
 abbrev pub HelpIsAsked : Type 0
@@ -45,5 +45,6 @@ OtherWordsAreWrong = (faults (codes "inet" ∷ []) ≡ MissingSubcommand ∷ [])
 -- .. and a number that is out of range
 abbrev pub NumbersOutOfRangeAreWrong : Type 0
 NumbersOutOfRangeAreWrong = (text : Text) (n : ℕ) → Spells text n
-    → (most_interactions < n → faults (codes "inet" ∷ codes "run" ∷ (codes "--limit=" ++ text) ∷ []) ≡ ValueValidation ∷ [])
+    → ((n < 1) ⊎ (most_workers < n) → faults (codes "inet" ∷ codes "run" ∷ (codes "--workers=" ++ text) ∷ []) ≡ ValueValidation ∷ [])
+    × (most_interactions < n → faults (codes "inet" ∷ codes "run" ∷ (codes "--limit=" ++ text) ∷ []) ≡ ValueValidation ∷ [])
     × ((n < least_cells) ⊎ (most_cells < n) → faults (codes "inet" ∷ codes "run" ∷ (codes "--cells=" ++ text) ∷ []) ≡ ValueValidation ∷ [])

@@ -2,8 +2,8 @@ ghost use Rattle.std.specs.Prelude.{codes, ◌≡◌, IfErr, IfOk, false};
 ghost use Rattle.clap.specs.Words.{app_of, found_of, kind_of, new_app, rows_of, rule_of, subcommand_rows_of, with_subcommand};
 ghost use Rattle.clap.specs.Walk.{texts};
 ghost use Rattle.clap.specs.declared.builder.command.Command.TheViews.{out-Command};
-ghost use Rattle.in_words.specs.Asking.{AreGiven, AsksFor, IsNamed, IsRefused, IsTold};
-ghost use Rattle.in_words.specs.CommandLine.{cells_option, command_line, limit_option, needs_subcommand, run_command};
+ghost use Rattle.in_words.specs.Asking.{AreGiven, AsksFor, IsGiven, IsNamed, IsRefused, IsTold};
+ghost use Rattle.in_words.specs.CommandLine.{cells_option, command_line, limit_option, needs_subcommand, run_command, workers_option};
 
 use clap::error::ErrorKind;
 use clap::{Arg, ArgAction, ArgMatches, Command, value_parser};
@@ -46,6 +46,20 @@ impl From<AllocError> for Usage {
     }
 }
 
+/// The option `--workers`: how many workers, 1 where it isn't said.
+fn workers_option<'a>(alloc: Global) -> Arg<'a>
+    ensures rule { rule_of result ≡ workers_option }
+    ensures local { result.global ≡ false }
+{
+    Arg::new(alloc, "workers")
+        .long("workers")
+        .value_name("N")
+        .help("The workers that share the interactions, 1 to 64")
+        .action(ArgAction::Set)
+        .value_parser(value_parser!(u64).range(1..=64))
+        .default_value("1")
+}
+
 /// The option `--limit`: how many interactions at most, 1,000,000 where it isn't said.
 fn limit_option<'a>(alloc: Global) -> Arg<'a>
     ensures rule { rule_of result ≡ limit_option }
@@ -81,6 +95,7 @@ fn run_command<'a>(alloc: Global) -> Result<Command<'a>, AllocError>
 {
     Command::new(alloc, "run")
         .about("Reduces the net of the program on standard input, and prints it")
+        .arg(workers_option(alloc))?
         .arg(limit_option(alloc))?
         .arg(cells_option(alloc))
 }
@@ -130,16 +145,25 @@ fn usage_of(alloc: Global, error: clap::Error) -> Usage
     }
 }
 
+/// The number of an option, nothing where it has none of 32 bits.
+fn number_of(options: &ArgMatches, name: &str) -> Option<u32>
+    ensures { IsGiven name.now (rows_of (found_of options.now)) result }
+{
+    let number = options.get_one::<u64>(name)?;
+    match u32::try_from(number) {
+        Ok(number) => Some(number),
+        Err(_) => None,
+    }
+}
+
 /// The limits of a run, nothing where they are no numbers within their bounds.
 fn limits_of(options: &ArgMatches) -> Option<Limits>
     ensures { AreGiven (rows_of (found_of options.now)) result }
 {
+    let workers = number_of(options, "workers")?;
     let limit = options.get_one::<u64>("limit")?;
-    let cells = options.get_one::<u64>("cells")?;
-    match u32::try_from(cells) {
-        Ok(cells) => Limits::new(limit, cells),
-        Err(_) => None,
-    }
+    let cells = number_of(options, "cells")?;
+    Limits::new(workers, limit, cells)
 }
 
 /// The action that a match names, nothing where it names none.

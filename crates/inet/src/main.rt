@@ -19,6 +19,8 @@ use std::alloc::Global;
 use std::env::Args;
 use std::io::{Error, ErrorKind, Read, Write};
 use std::process::ExitCode;
+use std::sync::Wait;
+use std::thread::Threads;
 use std::{env, io};
 
 /// Why the program's words can't be had: want of memory, or a word that is no text.
@@ -62,7 +64,8 @@ fn tell_failure<E: Write>(alloc: Global, what: &str, why: Error, errors: &mut E)
 }
 
 /// Does what the words ask for, and tells what is wrong with a text that is refused, or why it can't be read.
-fn answer<R: Read + Drop, W: TextOut, E: Write>(
+fn answer<T: Threads + Wait, R: Read + Drop, W: TextOut, E: Write>(
+    rt: &T,
     alloc: Global,
     action: &Action,
     reader: R,
@@ -72,7 +75,7 @@ fn answer<R: Read + Drop, W: TextOut, E: Write>(
     requires { W.failures output.old < 2 ^ 64 - 1 }
 {
     let mut input = KeepingIn::new(alloc, StreamIn::new(reader));
-    let status = act(alloc, action, &mut input, output);
+    let status = act(rt, alloc, action, &mut input, output);
     if status == Status(1) {
         if let Some(text) = input.kept() {
             tell_diagnosis(alloc, text, errors);
@@ -85,7 +88,8 @@ fn answer<R: Read + Drop, W: TextOut, E: Write>(
 }
 
 /// Does what the program's words ask for, or tells why they ask for nothing; and tells why its output can't be written.
-fn serve<R: Read + Drop, W: Write + Drop, E: Write>(
+fn serve<T: Threads + Wait, R: Read + Drop, W: Write + Drop, E: Write>(
+    rt: &T,
     alloc: Global,
     words: io::Result<Args>,
     reader: R,
@@ -94,7 +98,7 @@ fn serve<R: Read + Drop, W: Write + Drop, E: Write>(
 ) -> Status {
     let mut output = StreamOut::new(writer);
     let status = match action_asked(alloc, words) {
-        Ok(action) => answer(alloc, &action, reader, &mut output, errors),
+        Ok(action) => answer(rt, alloc, &action, reader, &mut output, errors),
         Err(usage) => tell_usage(&usage, &mut output, &mut StreamOut::new(&mut *errors)),
     };
     if let Some(why) = output.failure() {
@@ -105,6 +109,7 @@ fn serve<R: Read + Drop, W: Write + Drop, E: Write>(
 
 fn main(rt: HostRuntime) -> ExitCode {
     let status = serve(
+        &rt,
         rt.alloc(),
         env::args(&rt),
         rt.reader(),

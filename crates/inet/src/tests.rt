@@ -6,7 +6,9 @@ use std::alloc::{AllocError, Global};
 use std::env::Args;
 use std::io;
 use std::io::{Error, ErrorKind, Read, Write};
+use std::sync::Wait;
 use std::test::Fail;
+use std::thread::Threads;
 
 /// A stream that fails at once with an error of the system.
 #[derive(Clone, Copy)]
@@ -37,7 +39,8 @@ fn words(alloc: Global, command: &str) -> Result<Args, AllocError> {
 }
 
 /// Whether a command on these streams ends with status 6, and tells this on standard error.
-fn fails_with<R: Read + Drop, W: Write + Drop>(
+fn fails_with<T: Threads + Wait, R: Read + Drop, W: Write + Drop>(
+    rt: &T,
     alloc: Global,
     command: &str,
     streams: (R, W),
@@ -46,6 +49,7 @@ fn fails_with<R: Read + Drop, W: Write + Drop>(
     let (reader, writer) = streams;
     let mut errors = Vec::new(alloc);
     let status = serve(
+        rt,
         alloc,
         Ok(words(alloc, command)?),
         reader,
@@ -59,27 +63,32 @@ fn fails_with<R: Read + Drop, W: Write + Drop>(
 fn a_failed_stream_is_told_with_its_error(rt: HostRuntime) -> Result<(), Fail> {
     let alloc = rt.alloc();
     let unread = "error: standard input can't be read: Input/output error (os error 5)\n";
-    assert!(rt; fails_with(alloc, "check", (Failing(5), io::sink()), unread)?);
+    assert!(rt; fails_with(&rt, alloc, "check", (Failing(5), io::sink()), unread)?);
     let unwritten =
         "error: standard output can't be written: No space left on device (os error 28)\n";
-    assert!(rt; fails_with(alloc, "check", (io::empty(), Failing(28)), unwritten)?);
-    assert!(rt; fails_with(alloc, "--help", (io::empty(), Failing(28)), unwritten)?);
+    assert!(rt; fails_with(&rt, alloc, "check", (io::empty(), Failing(28)), unwritten)?);
+    assert!(rt; fails_with(&rt, alloc, "--help", (io::empty(), Failing(28)), unwritten)?);
     Ok(())
 }
 
 /// Whether a text of so many bytes is refused, and what is told begins so.
-fn is_too_long(alloc: Global, bytes: usize, told: &str) -> Result<bool, AllocError> {
+fn is_too_long(
+    rt: &(impl Threads + Wait),
+    alloc: Global,
+    bytes: usize,
+    told: &str,
+) -> Result<bool, AllocError> {
     let text = vec![in alloc; b'#'; bytes]?;
     let mut errors = Vec::new(alloc);
     let words = Ok(words(alloc, "check")?);
-    let status = serve(alloc, words, text.as_slice(), io::sink(), &mut errors);
+    let status = serve(rt, alloc, words, text.as_slice(), io::sink(), &mut errors);
     Ok(status == Status(1) && errors.as_slice().starts_with(told.as_bytes()))
 }
 
 #[test]
 fn a_text_that_is_too_long_is_told_by_the_limit(rt: HostRuntime) -> Result<(), Fail> {
     let told = "error: the text has more than 1048576 bytes\n";
-    assert!(rt; is_too_long(rt.alloc(), 1_500_000, told)?);
+    assert!(rt; is_too_long(&rt, rt.alloc(), 1_500_000, told)?);
     Ok(())
 }
 

@@ -1,13 +1,10 @@
-use Rattle.std.proofs.Common.{refl}
-use Rattle.in_program.specs.Acting.{unread}
-use Rattle.in_program.proofs.Told.{tells_reply, wants_memory}
 use Rattle.in_program.proofs.acting.act.Goals as goal
 
-pub returns-in-Text : goal.returns-in-Text
-returns-in-Text g c = tells_reply c.args.action.now _ _ _ _ c.in-Text.text.items _ _ c.as_slice.ensures.value c.in-Text.ensures c.tell_reply.ensures
+pub returns-in-Check : goal.returns-in-Check
+returns-in-Check g c = rw c.in-Check.is c.report.ensures
 
-pub returns-in-Memory : goal.returns-in-Memory
-returns-in-Memory g c = let read = c.in-Memory.ensures {u = tt} in wants_memory c.args.action.now _ _ _ _ read.0 _ read.1 c.tell.ensures
+pub returns-in-Derive : goal.returns-in-Derive
+returns-in-Derive g c = rw c.in-Derive.is c.report-in-Derive.ensures
 
-pub returns-in-Failed : goal.returns-in-Failed
-returns-in-Failed g c = let read = c.in-Failed.ensures {u = tt} in unread read.0 read.1 refl refl
+pub returns-in-Run : goal.returns-in-Run
+returns-in-Run g c = rw c.in-Run.is c.report_run.ensures

@@ -5,9 +5,9 @@ use Rattle.in_program.proofs.acting.tell_run.Goals as goal
 pub returns-in-Ok : goal.returns-in-Ok
 returns-in-Ok g c =
     let o = c.in-Ok.outcome in
-    told_as _ _ _ _ _ (λ lines s h. (ran c.in-Ok.ensures.runs.0 o.machine o.interactions o.stop, (c.in-Ok.ensures.runs.1, c.in-Ok.ensures.runs.2), h.0, h.1)) c.tell_outcome-status.ensures
+    told_as _ _ _ _ _ (λ lines s h. (ran o.machine o.interactions o.stop, c.in-Ok.ensures.runs, h.0, h.1)) c.tell_outcome-status.ensures
 
 pub returns-in-Err : goal.returns-in-Err
 returns-in-Err g c =
     let e = c.in-Err in
-    told_as _ _ _ _ _ (λ lines s (class, need, free, is, these). (full class need free, rw is at e.ensures.runs, these.0, these.1)) c.tell_run_fault-status.ensures
+    told_as _ _ _ _ _ (λ lines s (class, need, free, is, these). (full class need free, rw is at e.ensures.runs.0, these.0, these.1)) c.tell_run_fault-status.ensures

@@ -1,17 +1,25 @@
 use Rattle.std.proofs.Common.{◌<◌, ℕ, subst}
 use Rattle.in_reducer.specs.Starts.{IsStart}
+use Rattle.in_run.specs.Stops.{IsStop}
 use Rattle.in_run.proofs.OneEnd.{way_ended}
-use Rattle.in_run.proofs.OnItsWay.{begins, goes_on}
+use Rattle.in_run.proofs.OnItsWay.{begins, ends_so, steps_further}
 use Rattle.in_run.proofs.running.run.Goals as goal
 
 pub loop-stop-init : goal.loop-stop-init
-loop-stop-init c = begins c.args.checked.now c.args.limits.cells c.args.limits.limit c.in-Ok.machine (subst (λ (n : ℕ). IsStart c.args.checked.now n c.in-Ok.machine) c.cells.ensures.cells (c.in-Ok.ensures {u = tt}))
+loop-stop-init g c =
+    begins c.is_accepted.ensures.0 c.args.checked.now c.args.limits c.is_accepted.ensures.1 c.in-Ok.machine
+    (subst (λ (n : ℕ). IsStart c.args.checked.now n c.in-Ok.machine) c.cells.ensures.cells (c.in-Ok.ensures {u = tt}))
 
 pub loop-stop-preserved : goal.loop-stop-preserved
-loop-stop-preserved c =
-    goes_on c.args.checked.now c.args.limits.cells c.args.limits.limit c.loop-stop.interactions c.loop-stop.machine c.step.new.self c.loop-stop.invariant
+loop-stop-preserved g c =
+    steps_further c.args.checked.now c.args.limits c.loop-stop.interactions c.loop-stop.machine c.loop-stop.invariant c.step.new.self
     c.step.ensures.steps (subst (λ (n : ℕ). c.loop-stop.interactions < n) c.limit.ensures.limit (c.in_default.ensures {u = tt}).1)
 
+pub returns-in-Some-clause-runs : goal.returns-in-Some-clause-runs
+returns-in-Some-clause-runs g c =
+    ends_so c.args.checked.now c.args.limits c.loop-stop.interactions c.loop-stop.machine c.loop-stop.invariant c.in-Some.stop
+    (subst (λ (n : ℕ). IsStop n c.loop-stop.machine c.loop-stop.interactions c.in-Some.stop) c.limit.ensures.limit (c.in-Some.ensures {u = tt}))
+
 pub returns-in-Some-clause-order : goal.returns-in-Some-clause-order
-returns-in-Some-clause-order c = λ normal.
-    way_ended c.is_accepted.ensures.0 c.args.checked.now c.args.limits c.loop-stop.machine c.loop-stop.interactions c.is_accepted.ensures.1 c.loop-stop.invariant _ c.in-Some.stop (c.in-Some.ensures {u = tt}) normal
+returns-in-Some-clause-order g c = λ normal.
+    way_ended c.args.checked.now c.args.limits c.loop-stop.machine c.loop-stop.interactions c.loop-stop.invariant _ c.in-Some.stop (c.in-Some.ensures {u = tt}) normal

@@ -3,7 +3,7 @@ use Rattle.in_run.proofs.OnItsWay.{IsOnItsWay}
 use Rattle.in_run.proofs.running.run.Given as goal
 
 abbrev pub invariant-loop-stop : goal.invariant-loop-stop
-invariant-loop-stop l = IsOnItsWay l.checked l.limits.cells l.limits.limit l.interactions l.machine
+invariant-loop-stop g l = IsOnItsWay l.checked l.limits l.interactions l.machine
 
 abbrev pub decreases-loop-stop : goal.decreases-loop-stop
-decreases-loop-stop l = l.limits.limit - l.interactions
+decreases-loop-stop g l = l.limits.limit - l.interactions
