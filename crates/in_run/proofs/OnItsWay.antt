@@ -1,5 +1,5 @@
 -- A run, step by step and round by round.
-use Rattle.std.proofs.Common.{◌≡◌, ◌<◌, ◌≤◌, ◌+◌, ◌-◌, ℕ, zero, suc, List, Ok, Err, sym, subst, ◌∙◌, arith}
+use Rattle.std.proofs.Common.{◌≡◌, ◌≤◌, ◌+◌, ℕ, zero, suc, List, Ok, Err, sym, subst, ◌∙◌, arith}
 use Rattle.in_check.specs.Checking.{IsAccepted}
 use Rattle.in_check.specs.Plain.{IsReachedBy}
 use Rattle.in_check.specs.Programs.{Program}
@@ -12,9 +12,7 @@ use Rattle.in_run.specs.Outcomes.{ReachesWith, RunsTo}
 use Rattle.in_run.specs.Stops.{GoesOn, IsStop}
 use Rattle.in_reducer.specs.Machines.{MachineParts, HasCells, plain_of}
 use Rattle.in_reducer.specs.Starts.{IsStart}
-use Rattle.in_reducer.specs.Steps.{StepsAt}
 use Rattle.in_rounds.specs.Machines.{IsMachine}
-use Rattle.in_rounds.specs.Rounds.{IsRound}
 use Rattle.in_reducer.specs.Runs.{Runs, at_start, then_step}
 use Rattle.in_rounds.proofs.OneEnd.{program_kept}
 use Rattle.in_rounds.proofs.Rounded.{joined}
@@ -81,17 +79,9 @@ module _ (p : Program) (l : Limits) (k : ℕ) (m : MachineParts) (h : IsOnItsWay
     within = fits;
   }
 
-  -- one more
-  pub steps_further : (n : MachineParts) → StepsAt m 0 n → k < l.limit → IsOnItsWay p l (k + 1) n
-  steps_further n s less =
-      subst (λ j. IsOnItsWay p l j n) (let z : 1 + k ≡ k + 1 = omega arith in z)
-      (runs_further n 1 (then_step m m n 0 (at_start m) s) (omega (arith, less)))
-
-  -- a round of as many as are left
-  pub rounds_further : (n : MachineParts) (j : ℕ) → IsRound m (l.limit - k) n j → k < l.limit → IsOnItsWay p l (k + j) n
-  rounds_further n j round less =
-      let most = round.most in
-      subst (λ i. IsOnItsWay p l i n) (let z : j + k ≡ k + j = omega arith in z) (runs_further n j round.run (omega (arith, less, most)))
+  -- some more, first in, first out
+  pub advances_further : (n : MachineParts) (j : ℕ) → Runs m j n → j + k ≤ l.limit → IsOnItsWay p l (k + j) n
+  advances_further n j run fits = subst (λ i. IsOnItsWay p l i n) (let z : j + k ≡ k + j = omega arith in z) (runs_further n j run fits)
 
   -- of several workers, more interactions in any order
   pub goes_further : (n : MachineParts) (j : ℕ) → (l.workers ≡ 1 → ⊥) → IsMachine n → n.program ≡ m.program → HasCells l.cells n

@@ -1,3 +1,4 @@
+pub mod Advancing
 pub mod AllowedLimits
 pub mod Laws
 pub mod Limiting

@@ -1,6 +1,7 @@
 //! Runs of a machine within limits. The machine is that of `in_rounds`, which is given out again here.
 #![tactic(auto)]
 
+mod advancing;
 pub mod laws;
 mod limits;
 mod running;

@@ -6,6 +6,7 @@ ghost use Rattle.in_run.specs.Outcomes.{RunsTo};
 ghost use Rattle.in_run.specs.Stops.{IsStop, GoesOn};
 ghost use Rattle.in_rounds.specs.Texts.{text_of};
 
+use crate::advancing::advance;
 use crate::limits::Limits;
 use crate::stops::Stop;
 use in_check::Checked;
@@ -64,7 +65,8 @@ fn stop(machine: &Machine, limit: u64, interactions: u64) -> Option<Stop>
 }
 
 /// Runs a program. With one worker it does so first in, first out: each interaction is at the first pair of the queue, and its new pairs come
-/// last. How several workers share the interactions is open; so far one thread does them all, in the same order.
+/// last. How several workers share the interactions is open: where the queue is long and its pairs need many agents they do rounds, else one
+/// thread does them all.
 ///
 /// Before each interaction, in this order: where no pair is left the run stops as `Normal`; where it did as many interactions as are
 /// allowed, as `Limit`; where the first pair needs more cells of a class than are free, tested in the order of the classes, as `Full`. Refused where no
@@ -73,11 +75,11 @@ fn stop(machine: &Machine, limit: u64, interactions: u64) -> Option<Stop>
 /// Where it stops as `Normal`, it has come to the one end of its program: each run that ends, its interactions in any order, has as many
 /// interactions and the same text.
 pub fn run<'a, R: Threads + Wait, G: Gate + Sync>(
-    _rt: &R,
+    rt: &R,
     alloc: Global,
     checked: &'a Checked,
     limits: Limits,
-    _gate: &G,
+    gate: &G,
 ) -> Result<Outcome<'a>, RunFault<'a>>
     ensures runs { RunsTo checked.now limits result }
     ensures order { IfOk result (λ o. o.stop ≡ Normal → EndsOnce checked.now o.interactions (text_of o.machine)) }
@@ -88,6 +90,7 @@ pub fn run<'a, R: Threads + Wait, G: Gate + Sync>(
         Err(fault) => return Err(RunFault::Start(fault)),
     };
     let mut interactions = 0;
+    let mut look_at = 0;
     loop {
         if let Some(stop) = stop(&machine, limits.limit(), interactions) {
             return Ok(Outcome {
@@ -96,7 +99,23 @@ pub fn run<'a, R: Threads + Wait, G: Gate + Sync>(
                 stop,
             });
         }
-        machine.step(0);
-        interactions += 1;
+        let done = advance(
+            rt,
+            alloc,
+            &mut machine,
+            limits,
+            interactions,
+            &mut look_at,
+            gate,
+        );
+        match done {
+            Ok(more) => interactions += more,
+            Err(_) => {
+                return Err(RunFault::Memory {
+                    machine,
+                    interactions,
+                });
+            }
+        }
     }
 }
