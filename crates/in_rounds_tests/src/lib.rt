@@ -5,5 +5,4 @@
 mod gates;
 #[cfg(test)]
 mod of_rounds;
-#[cfg(test)]
-mod rounding;
+pub mod rounding;

@@ -1,4 +1,4 @@
-// Rounds of machines of tests.
+//! Rounds of machines of tests, and what they leave.
 use in_check::Checked;
 use in_print::write_net;
 use in_rounds::{Gate, Machine, NoGate, Round, round};
