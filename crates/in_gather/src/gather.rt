@@ -96,7 +96,7 @@ fn is_fresh(slots: &[Slot], job: u32) -> bool
 /// Gives back what is kept.
 fn spend_all(mut slots: Vec<Slot>, arena: &mut Arena)
     requires { AreBagsOf (bags_of slots.items) arena.old }
-    ensures { Returns (bags_of slots.items) [] arena.old arena.new }
+    ensures { Returns (bags_of slots.entry.items) [] arena.old arena.new }
 {
     while let Some(slot) = slots.pop() {
         if let Slot::Kept(done) = slot {
@@ -119,7 +119,7 @@ impl<'t> Gather<'t> {
     /// Keeps what was done for its job. Refused, and handed back, where the list has no job of its number with its symbols (`Stranger`,
     /// tested first), and where one of that job was put before (`Double`), also if that was taken.
     pub fn put(&mut self, done: Done<'t>) -> Result<(), (Done<'t>, Why)>
-        ensures { Puts self.old done result self.new }
+        ensures { Puts self.old done.entry result self.new }
     {
         if !has_job(self.jobs.as_slice(), &done) {
             return Err((done, Why::Stranger));
@@ -153,7 +153,7 @@ impl<'t> Gather<'t> {
     /// Gives back the cells of all that was put and not taken: they are free. These have to be of this arena. It takes no memory.
     pub fn spend(self, arena: &mut Arena)
         requires { AreBagsOf (bags_of self.slots) arena.old }
-        ensures { Returns (bags_of self.slots) [] arena.old arena.new }
+        ensures { Returns (bags_of self.entry.slots) [] arena.old arena.new }
     {
         let Gather { jobs: _, slots } = self;
         spend_all(slots, arena);
