@@ -1,6 +1,6 @@
 -- Bags that cells are in, and what is given back of them.
 use Rattle.std.proofs.Common.{◌≡◌, ◌⊎◌, inl, inr, ◌≤◌, ◌<◌, ◌+◌, ℕ, cond, List, [], ◌∷◌, ◌++◌, length, All, refl, sym, ap, subst, ◌∙◌, arith}
-use Rattle.std.proofs.lemmas.List.Elements.{All-cons, All-head, All-tail}
+use Rattle.std.proofs.lemmas.List.Elements.{All-append, All-cons, All-head, All-tail}
 use Rattle.std.proofs.lemmas.List.Sums.{sum_by-append}
 use Rattle.in_arena.specs.Arenas.{ArenaView, NoneLeased, state_at}
 use Rattle.in_arena.specs.Bags.{IsBagOf, IsIn, AreOfOne}
@@ -85,6 +85,38 @@ first_is_bag b bs a of = All-head (λ b. IsBagOf b a) b bs of.each
 pub no_bags : (a : ArenaView) → AreBagsOf [] a
 no_bags a = record { each = λ i d lt. absurd (omega (arith, lt)); once = λ n. omega arith }
 
+all_left : (P : ArenaView → Type 0) (bs cs : List ArenaView) → All P (bs ++ cs) → All P bs
+all_left P [] cs all = λ i d lt. absurd (omega (arith, lt))
+all_left P (b ∷ bs) cs all = All-cons P b bs (All-head P b (bs ++ cs) all) (all_left P bs cs (All-tail P b (bs ++ cs) all))
+
+all_right : (P : ArenaView → Type 0) (bs cs : List ArenaView) → All P (bs ++ cs) → All P cs
+all_right P [] cs all = all
+all_right P (b ∷ bs) cs all = all_right P bs cs (All-tail P b (bs ++ cs) all)
+
+pub front_are_bags : (bs cs : List ArenaView) (a : ArenaView) → AreBagsOf (bs ++ cs) a → AreBagsOf bs a
+front_are_bags bs cs a of = are_bags_by (bs ++ cs) bs a of (all_left (AreOfOne a) bs cs (bags_are_of_one (bs ++ cs) a of)) (λ n. let split = holders-append n bs cs in omega (arith, split))
+
+pub end_are_bags : (bs cs : List ArenaView) (a : ArenaView) → AreBagsOf (bs ++ cs) a → AreBagsOf cs a
+end_are_bags bs cs a of = are_bags_by (bs ++ cs) cs a of (all_right (AreOfOne a) bs cs (bags_are_of_one (bs ++ cs) a of)) (λ n. let split = holders-append n bs cs in omega (arith, split))
+
+-- a bag between others goes to the front
+pub holders-first : (n : ℕ) (bs cs : List ArenaView) (b : ArenaView) → holders n (b ∷ (bs ++ cs)) ≡ holders n ((bs ++ b ∷ []) ++ cs)
+holders-first n bs cs b =
+    let first = holders-cons n b (bs ++ cs) in
+    let others = holders-append n bs cs in
+    let whole = holders-append n (bs ++ b ∷ []) cs in
+    let front = holders-append n bs (b ∷ []) in
+    omega (arith, first, others, whole, front)
+
+pub first_are_bags : (bs cs : List ArenaView) (b a : ArenaView) → AreBagsOf ((bs ++ b ∷ []) ++ cs) a → AreBagsOf (b ∷ (bs ++ cs)) a
+first_are_bags bs cs b a of =
+    let one = bags_are_of_one ((bs ++ b ∷ []) ++ cs) a of in
+    let front = all_left (AreOfOne a) (bs ++ b ∷ []) cs one in
+    are_bags_by ((bs ++ b ∷ []) ++ cs) (b ∷ (bs ++ cs)) a of
+    (All-cons (AreOfOne a) b (bs ++ cs) (All-head (AreOfOne a) b [] (all_right (AreOfOne a) bs (b ∷ []) front))
+    (All-append (AreOfOne a) bs cs (all_left (AreOfOne a) bs (b ∷ []) front) (all_right (AreOfOne a) (bs ++ b ∷ []) cs one)))
+    (λ n. let e = holders-first n bs cs b in omega (arith, e))
+
 -- ---- what is given back
 
 pub none_returned : (bs cs : List ArenaView) (a : ArenaView) → ((n : ℕ) → holders n cs ≡ holders n bs) → Returns bs cs a a
@@ -118,7 +150,7 @@ returns_beside ds bs cs a a' r = record {
   others = λ n same. let e = holders-append n ds bs in let f = holders-append n ds cs in r.others n (omega (arith, e, f, same));
 }
 
-fewer_or_same : (m n : ℕ) → m ≤ n → (m < n) ⊎ (m ≡ n)
+pub fewer_or_same : (m n : ℕ) → m ≤ n → (m < n) ⊎ (m ≡ n)
 fewer_or_same m n le = grind arith
 
 module _ (bs cs ds : List ArenaView) (a a' a'' : ArenaView) (r : Returns bs cs a a') (s : Returns cs ds a' a'') where
@@ -158,18 +190,25 @@ module _ (b : ArenaView) (bs : List ArenaView) (a a' : ArenaView) (back : Regain
     others = λ n e. others_one n (in_or_out b n) e;
   }
 
+pub of_one_by : (a a' : ArenaView) (cs : List ArenaView) → a'.memory ≡ a.memory → a'.cells ≡ a.cells → All (AreOfOne a) cs → All (AreOfOne a') cs
+of_one_by a a' [] memory cells all = λ i d lt. absurd (omega (arith, lt))
+of_one_by a a' (c ∷ cs) memory cells all =
+    let here = All-head (AreOfOne a) c cs all in
+    All-cons (AreOfOne a') c cs (here.0 ∙ sym memory, here.1 ∙ sym cells) (of_one_by a a' cs memory cells (All-tail (AreOfOne a) c cs all))
+
 -- bags that are left are of the arena
 pub left_are_bags : (bs cs : List ArenaView) (a a' : ArenaView) → AreBagsOf bs a → All (AreOfOne a) cs → Returns bs cs a a' → AreBagsOf cs a'
 left_are_bags bs cs a a' of one r = record {
-  each = each_of a' cs (all_of_one cs one) (λ n some. let f = r.fewer n in let o = of.once n in r.others n (omega (arith, f, o, some)) ∙ leased_of bs a n of (omega (arith, some, f)));
+  each = each_of a' cs (of_one_by a a' cs r.memory r.cells one) (λ n some. let f = r.fewer n in let o = of.once n in r.others n (omega (arith, f, o, some)) ∙ leased_of bs a n of (omega (arith, some, f)));
   once = λ n. let f = r.fewer n in let o = of.once n in omega (arith, f, o);
 }
-  where
-    all_of_one : (cs : List ArenaView) → All (AreOfOne a) cs → All (AreOfOne a') cs
-    all_of_one [] all = λ i d lt. absurd (omega (arith, lt))
-    all_of_one (c ∷ cs) all =
-        let here = All-head (AreOfOne a) c cs all in
-        All-cons (AreOfOne a') c cs (here.0 ∙ sym r.memory, here.1 ∙ sym r.cells) (all_of_one cs (All-tail (AreOfOne a) c cs all))
+
+-- .. also beside others
+pub beside_are_bags : (ds bs cs : List ArenaView) (a a' : ArenaView) → AreBagsOf (ds ++ bs) a → Returns bs cs a a' → AreBagsOf cs a' → AreBagsOf (ds ++ cs) a'
+beside_are_bags ds bs cs a a' of r left =
+    left_are_bags (ds ++ bs) (ds ++ cs) a a' of
+    (All-append (AreOfOne a) ds cs (all_left (AreOfOne a) ds bs (bags_are_of_one (ds ++ bs) a of)) (of_one_by a' a cs (sym r.memory) (sym r.cells) (bags_are_of_one cs a' left)))
+    (returns_beside ds bs cs a a' r)
 
 -- .. and where each leased cell was in one, each still is
 pub left_have_all : (bs cs : List ArenaView) (a a' : ArenaView) → HaveAllLeased bs a → All (AreOfOne a) cs → Returns bs cs a a' → HaveAllLeased cs a'

@@ -2,7 +2,7 @@
 use Rattle.std.proofs.Common.{◌≡◌, ◌+◌, ℕ, zero, suc, List, [], ◌∷◌, ◌++◌, Option, Some, slice_get, set, All, refl, sym, ap, subst, ◌∙◌, arith}
 use Rattle.std.specs.Option.{option_to_list}
 use Rattle.std.proofs.lemmas.List.{append-nil}
-use Rattle.std.proofs.lemmas.List.Elements.{All-cons, All-pop}
+use Rattle.std.proofs.lemmas.List.Elements.{All-cons, All-head, All-pop, All-tail}
 use Rattle.in_arena.specs.Arenas.{ArenaView}
 use Rattle.in_arena.specs.Bags.{IsBagOf}
 use Rattle.in_arena.specs.States.{Vacant}
@@ -33,6 +33,16 @@ put_holders n (Kept e ∷ slots) (suc j) d at =
     let old = holders-cons n e.placed.placed.bag (bags_of slots) in
     omega (arith, rest, new, old)
 put_holders n (Taken ∷ slots) (suc j) d at = put_holders n slots j d at
+
+pub put_all : (P : ArenaView → Type 0) (slots : List Slot) (j : ℕ) (d : DoneParts) → P d.placed.placed.bag → All P (bags_of slots) → All P (bags_of (set slots j (Kept d)))
+put_all P [] j d one all = all
+put_all P (Fresh ∷ slots) zero d one all = All-cons P d.placed.placed.bag (bags_of slots) one all
+put_all P (Kept e ∷ slots) zero d one all = All-cons P d.placed.placed.bag (bags_of slots) one (All-tail P e.placed.placed.bag (bags_of slots) all)
+put_all P (Taken ∷ slots) zero d one all = All-cons P d.placed.placed.bag (bags_of slots) one all
+put_all P (Fresh ∷ slots) (suc j) d one all = put_all P slots j d one all
+put_all P (Kept e ∷ slots) (suc j) d one all =
+    All-cons P e.placed.placed.bag (bags_of (set slots j (Kept d))) (All-head P e.placed.placed.bag (bags_of slots) all) (put_all P slots j d one (All-tail P e.placed.placed.bag (bags_of slots) all))
+put_all P (Taken ∷ slots) (suc j) d one all = put_all P slots j d one all
 
 -- what is taken
 pub take_holders : (n : ℕ) (slots : List Slot) (j : ℕ) (d : DoneParts) → slice_get slots j ≡ Some (Kept d) → holders n (bags_of slots) ≡ holders n (d.placed.placed.bag ∷ []) + holders n (bags_of (set slots j Taken))

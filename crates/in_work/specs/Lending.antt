@@ -1,10 +1,9 @@
 -- What the workers of a round are lent, and what is left with the owner after it.
-use Rattle.std.specs.Prelude.{◌≡◌, ◌≤◌, ◌+◌, ◌*◌, ℕ, List, [], length, vec_len, vec_capacity}
+use Rattle.std.specs.Prelude.{◌≡◌, ◌≤◌, ◌*◌, ℕ, List, [], length}
 use Rattle.in_arena.specs.Arenas.{ArenaView, state_at}
-use Rattle.in_arena.specs.Bags.{empty_bag}
 use Rattle.in_arena.specs.States.{Vacant}
 use Rattle.in_arena.specs.declared.content.CellClass.{CellClass}
-use Rattle.in_claims.specs.Seats.{BoardView, fresh}
+use Rattle.in_claims.specs.Seats.{BoardView}
 use Rattle.in_compile.specs.declared.cells.Need.{Need}
 use Rattle.in_compile.specs.Cells.{count_of}
 use Rattle.in_compile.specs.Stocks.{empty_stock}

@@ -1,5 +1,4 @@
 pub mod Bringing
 pub mod Lending
 pub mod Plans
-pub mod Threads
 pub mod Works

@@ -1,5 +1,5 @@
 -- What a worker has when it begins and when it ends.
-use Rattle.std.specs.Prelude.{◌≡◌, ◌<◌, ◌≤◌, ◌+◌, ◌⊎◌, true, ℕ, List, [], ◌∷◌, ◌++◌, map, length, All, Some, slice_get, vec_len, vec_capacity}
+use Rattle.std.specs.Prelude.{◌≡◌, ◌≤◌, ◌+◌, ◌⊎◌, true, ℕ, List, [], ◌∷◌, ◌++◌, map, length, All, Some, slice_get, vec_len, vec_capacity}
 use Rattle.in_arena.specs.Arenas.{ArenaView}
 use Rattle.in_arena.specs.Bags.{AreOfOne}
 use Rattle.in_claims.specs.Seats.{BoardView}

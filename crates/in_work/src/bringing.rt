@@ -13,7 +13,7 @@ use in_gather::Gather;
 fn bring<'t>(part: Part<'t>, templates: &Templates, gather: &mut Gather<'t>, arena: &mut Arena)
     requires bags { AreBagsOf (hand part ++ bags_of gather.old.slots) arena.old }
     requires made { IsPartMadeWith templates.now part × AreMadeWith templates.now gather.old.slots }
-    ensures returns { Returns (hand part ++ bags_of gather.old.slots) (bags_of gather.new.slots) arena.old arena.new }
+    ensures returns { Returns (hand part.entry ++ bags_of gather.old.slots) (bags_of gather.new.slots) arena.old arena.new }
     ensures bags { AreBagsOf (bags_of gather.new.slots) arena.new }
     ensures jobs { gather.new.jobs ≡ gather.old.jobs }
     ensures made { AreMadeWith templates.now gather.new.slots }
@@ -41,7 +41,7 @@ pub(crate) fn bring_all<'t>(
 )
     requires bags { AreBagsOf (hands parts.items ++ bags_of gather.old.slots) arena.old }
     requires made { PartsAreMadeWith templates.now parts.items × AreMadeWith templates.now gather.old.slots }
-    ensures returns { Returns (hands parts.items ++ bags_of gather.old.slots) (bags_of gather.new.slots) arena.old arena.new }
+    ensures returns { Returns (hands parts.entry.items ++ bags_of gather.old.slots) (bags_of gather.new.slots) arena.old arena.new }
     ensures bags { AreBagsOf (bags_of gather.new.slots) arena.new }
     ensures jobs { gather.new.jobs ≡ gather.old.jobs }
     ensures made { AreMadeWith templates.now gather.new.slots }

@@ -9,6 +9,7 @@ use crate::bringing::bring_all;
 use crate::lending::{lend, parts};
 use crate::plan::Plan;
 use crate::threads::all;
+use crate::working::Worker;
 use in_arena::Arena;
 use in_claims::{Board, Gate};
 use in_compile::Need;
@@ -48,13 +49,18 @@ pub fn gather_jobs<'t, R: Threads + Wait, G: Gate + Sync>(
     let mut gather = Gather::new(alloc, plan.jobs)?;
     let fresh = parts(alloc, plan, &board, arena, seats, share, jobs / workers + 1)?;
     let lent = Vec::with_capacity(alloc, workers as usize)?;
-    let begun = Vec::with_capacity(alloc, workers as usize)?;
     let back = Vec::with_capacity(alloc, workers as usize)?;
+    let begun = Vec::with_capacity(alloc, workers as usize)?;
     let mut others = lend(fresh, lent, plan, &board, share, arena);
     let Some(mine) = others.pop() else {
         unreachable!()
     };
-    let (back, threads) = all(rt, plan, &board, gate, mine, others, begun, back);
+    let worker = Worker {
+        plan,
+        board: &board,
+        gate,
+    };
+    let (back, threads) = all(rt, &worker, mine, others, begun, back);
     bring_all(back, plan.templates, &mut gather, arena);
     Ok((gather, threads))
 }

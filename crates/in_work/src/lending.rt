@@ -97,8 +97,9 @@ pub(crate) fn lend<'t>(
     ensures lent { AreLentOut (hands result.items) arena.old arena.new }
     ensures ready { All (IsReady plan.now board.now) result.items }
     ensures none_done { All (λ p. p.done.items ≡ []) result.items }
-    ensures count { vec_len result ≡ vec_len parts }
+    ensures count { vec_len result ≡ vec_len parts.entry }
 {
+    arena.cells();
     while let Some(mut part) = parts.pop() {
         part.stock.add(arena, share);
         lent.push_reserved(part);

@@ -6,6 +6,7 @@ ghost use Rattle.in_work.specs.Works.{IsReady, IsWorked};
 
 use crate::part::Part;
 use crate::plan::Plan;
+use crate::threads::Work;
 use in_claims::{Board, Gate, Seat};
 use in_compile::{Need, Placed, Stock};
 use in_gather::Done;
@@ -26,7 +27,7 @@ pub(crate) fn worked<'t, G: Gate>(
     part: Part<'t>,
 ) -> Part<'t>
     requires { IsReady plan.now board.now part }
-    ensures { IsWorked plan.now part result }
+    ensures { IsWorked plan.now part.entry result }
 {
     let Part {
         mut seat,
@@ -55,5 +56,25 @@ pub(crate) fn worked<'t, G: Gate>(
         stock,
         rooms,
         done,
+    }
+}
+
+/// A worker: it claims jobs of a plan from a board, passes the gate, and places them.
+#[derive(Drop)]
+pub(crate) struct Worker<'a, 't, G> {
+    pub(crate) plan: &'a Plan<'t>,
+    pub(crate) board: &'a Board,
+    pub(crate) gate: &'a G,
+}
+
+impl<'a, 't, G: Gate> Work<Part<'t>> for Worker<'a, 't, G> {
+    ghost use Rattle.in_work.specs.Works.{IsReady, IsWorked};
+
+    ghost is_ready = { λ w p. IsReady w.plan.now w.board.now p };
+
+    ghost is_worked = { λ w p q. IsWorked w.plan.now p q };
+
+    fn work(&self, part: Part<'t>) -> Part<'t> {
+        worked(self.plan, self.board, self.gate, part)
     }
 }

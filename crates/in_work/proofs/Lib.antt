@@ -1,0 +1,5 @@
+pub mod Brought
+pub mod Gathered
+pub mod Lent
+pub mod Threading
+pub mod Worked

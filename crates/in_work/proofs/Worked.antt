@@ -1,0 +1,136 @@
+-- One job more, or none.
+use Rattle.std.proofs.Common.{◌≡◌, ◌⊎◌, inl, inr, ◌<◌, ◌≤◌, ◌+◌, ℕ, true, get_or, vec_len, [], ◌∷◌, ◌++◌, length, cond, Some, slice_get, sym, ap, ◌∙◌, subst, arith}
+use Rattle.std.proofs.lemmas.List.{append-nil, append_assoc, map-append}
+use Rattle.std.proofs.lemmas.List.Elements.{All-nil, All-push}
+use Rattle.std.proofs.lemmas.Option.{option_and_then_some, slice_get-get_or}
+use Rattle.in_base.proofs.Each.{all_at}
+use Rattle.in_arena.specs.Arenas.{ArenaView, state_at}
+use Rattle.in_arena.specs.Bags.{IsIn, AreOfOne}
+use Rattle.in_arena.specs.States.{Vacant, Leased, IsLeased}
+use Rattle.in_arena.specs.declared.content.CellNo.{CellNo}
+use Rattle.in_arena.proofs.Arenas.{vacant_inside}
+use Rattle.in_symbols.specs.declared.symbols.SymbolNo.{SymbolNo}
+use Rattle.in_claims.specs.Seats.{SeatView}
+use Rattle.in_cover.specs.Table.{rule_at}
+use Rattle.in_cover.specs.declared.table.RuleNo.{RuleNo}
+use Rattle.in_compile.specs.declared.cells.Need.{Need}
+use Rattle.in_compile.specs.Placing.{PlacedParts, AreCellsOf, Takes}
+use Rattle.in_compile.specs.Cells.{count_of, IsEnough}
+use Rattle.in_compile.specs.Stocks.{StockParts, held, with_all}
+use Rattle.in_compile.specs.Templates.{TemplateParts, TemplatesParts, IsLargestNeed, template_at}
+use Rattle.in_compile.proofs.Back.{one_or_same, one_of_all}
+use Rattle.in_compile.proofs.Stocked.{cells_all, memory_all}
+use Rattle.in_gather.specs.Dones.{DoneParts}
+use Rattle.in_gather.specs.Holding.{holders, is_own}
+use Rattle.in_gather.proofs.Holding.{InOrOut, in_or_out, in_one, out_of_one, holders-cons, holders-append}
+use Rattle.in_gather.proofs.Holding.InOrOut.{IsHere, IsOut}
+use Rattle.in_work.specs.Plans.{PlanParts}
+use Rattle.in_work.specs.Works.{IsDone, Stops, bags, jobs, Works}
+use Rattle.in_work.specs.declared.part.Part.{Part}
+
+-- ---- placing
+
+module _ (need : Need) (s s' : StockParts) (p : PlacedParts) (takes : Takes need p.cells s s') (cells : AreCellsOf p.bag p.cells) where
+  -- a placed cell was the stock's, and no longer is
+  was : (n : ℕ) → IsIn p.bag n → state_at s.bag n ≡ Vacant
+  was n in_it = let at = cells.only n in_it in all_at (λ (m : CellNo). state_at s.bag m.0 ≡ Vacant) p.cells at.0 (record { 0 = n }) takes.were at.1
+
+  gone : (n : ℕ) → IsIn p.bag n → state_at s'.bag n ≡ Leased
+  gone n in_it =
+      let at = cells.only n in_it in
+      ap (λ v. state_at v n) takes.bag ∙ one_of_all s.bag p.cells Leased (record { 0 = n }) at.0 (vacant_inside s.bag n (was n in_it)) at.1
+
+  -- another cell is the stock's where it was
+  left : (n : ℕ) → state_at p.bag n ≡ Leased → ((k : ℕ) × (slice_get p.cells k ≡ Some (record { 0 = n }))) ⊎ (state_at (with_all s.bag p.cells Leased) n ≡ state_at s.bag n) → state_at s'.bag n ≡ state_at s.bag n
+  left n out (inl at) = absurd (cells.each at.0 (record { 0 = n }) at.1 (subst IsLeased (sym out) tt))
+  left n out (inr same) = ap (λ v. state_at v n) takes.bag ∙ same
+
+  count_by : (n : ℕ) → InOrOut p.bag n → holders n (s'.bag ∷ []) + holders n (p.bag ∷ []) ≡ holders n (s.bag ∷ [])
+  count_by n (IsHere in_it one) =
+      let none = out_of_one s'.bag n (gone n in_it) in
+      let had = in_one s.bag n (λ leased. subst IsLeased (was n in_it) leased) in
+      omega (arith, none, one, had)
+  count_by n (IsOut out none) =
+      let same = ap (λ x. cond {A = ℕ} (is_own x) 1 0) (left n out (one_or_same s.bag p.cells Leased n)) in omega (arith, none, same)
+
+  pub placed_count : (n : ℕ) → holders n (s'.bag ∷ []) + holders n (p.bag ∷ []) ≡ holders n (s.bag ∷ [])
+  placed_count n = count_by n (in_or_out p.bag n)
+
+  pub stays_of_one : AreOfOne s.bag s'.bag
+  stays_of_one = (ap (λ v. v.memory) takes.bag ∙ memory_all s.bag p.cells Leased, ap (λ v. v.cells) takes.bag ∙ cells_all s.bag p.cells Leased)
+
+pub one_of_one : (a b c : ArenaView) → AreOfOne a b → AreOfOne b c → AreOfOne a c
+one_of_one a b c ab bc = (bc.0 ∙ ab.0, bc.1 ∙ ab.1)
+
+-- ---- jobs
+
+-- a template that is found is one of the templates
+pub template_in : (ts : TemplatesParts) (c d : ℕ) (t : TemplateParts) → template_at ts c d ≡ Some t → (k : ℕ) × (slice_get ts.templates k ≡ Some t)
+template_in ts c d t e = option_and_then_some (λ (k : RuleNo). slice_get ts.templates k.0) (rule_at ts.numbers c d) t e (λ k is at. (k.0, at))
+
+pub no_work : (plan : PlanParts) (p q : Part) → q.done.items ≡ p.done.items → q.seat ≡ p.seat → q.stock ≡ p.stock → Works plan p q
+no_work plan p q done seat stock = record {
+  more = [];
+  list = done ∙ sym (append-nil p.done.items);
+  board = ap (λ (s : SeatView). s.board) seat;
+  claimed = ap (λ (s : SeatView). s.numbers) seat ∙ sym (append-nil p.seat.numbers);
+  each = All-nil (IsDone plan);
+  one = ((ap (λ (s : StockParts). s.bag.memory) stock, ap (λ (s : StockParts). s.bag.cells) stock), All-nil (λ (d : DoneParts). AreOfOne p.stock.bag d.placed.placed.bag));
+  cells = λ n. ap (λ (s : StockParts). holders n (s.bag ∷ [])) stock;
+}
+
+-- a job that was claimed and placed
+module _ (plan : PlanParts) (p q r : Part) (d : DoneParts) (need : Need) (w : Works plan p q) (done : r.done.items ≡ q.done.items ++ d ∷ []) (board : r.seat.board ≡ q.seat.board) (numbers : r.seat.numbers ≡ q.seat.numbers ++ d.job ∷ []) (is : IsDone plan d) (takes : Takes need d.placed.placed.cells q.stock r.stock) (cells : AreCellsOf d.placed.placed.bag d.placed.placed.cells) (one : AreOfOne p.stock.bag d.placed.placed.bag) where
+  pub one_done : Works plan p r
+  one_done = record {
+    more = w.more ++ d ∷ [];
+    list = done ∙ ap (λ l. l ++ d ∷ []) w.list ∙ append_assoc p.done.items w.more (d ∷ []);
+    board = board ∙ w.board;
+    claimed = numbers ∙ ap (λ l. l ++ d.job ∷ []) w.claimed ∙ append_assoc p.seat.numbers (jobs w.more) (d.job ∷ []) ∙ ap (λ l. p.seat.numbers ++ l) (sym (map-append (λ (e : DoneParts). e.job) w.more (d ∷ [])));
+    each = All-push (IsDone plan) w.more d w.each is;
+    one = (
+      one_of_one p.stock.bag q.stock.bag r.stock.bag w.one.0 (stays_of_one need q.stock r.stock d.placed.placed takes cells),
+      All-push (λ (e : DoneParts). AreOfOne p.stock.bag e.placed.placed.bag) w.more d w.one.1 one,
+    );
+    cells = λ n.
+        let bag = d.placed.placed.bag in
+        let placed = placed_count need q.stock r.stock d.placed.placed takes cells n in
+        let before = w.cells n in
+        let old = holders-cons n q.stock.bag (bags w.more) in
+        let new = holders-cons n r.stock.bag (bags (w.more ++ d ∷ [])) in
+        let split = ap (holders n) (map-append (λ (e : DoneParts). e.placed.placed.bag) w.more (d ∷ [])) ∙ holders-append n (bags w.more) (bag ∷ []) in
+        omega (arith, placed, before, old, new, split);
+  }
+
+-- a claim that found nothing
+pub none_done : (plan : PlanParts) (p q r : Part) → Works plan p q → r.done.items ≡ q.done.items → r.seat.board ≡ q.seat.board → r.seat.numbers ≡ q.seat.numbers → r.stock ≡ q.stock → Works plan p r
+none_done plan p q r w done board numbers stock = record {
+  more = w.more;
+  list = done ∙ w.list;
+  board = board ∙ w.board;
+  claimed = numbers ∙ w.claimed;
+  each = w.each;
+  one = (one_of_one p.stock.bag q.stock.bag r.stock.bag w.one.0 (ap (λ (s : StockParts). s.bag.memory) stock, ap (λ (s : StockParts). s.bag.cells) stock), w.one.1);
+  cells = λ n. ap (λ (s : StockParts). holders n (s.bag ∷ bags w.more)) stock ∙ w.cells n;
+}
+
+-- a claimed number is that of a job of the plan
+pub job_at : (inside plan : PlanParts) (limit job : ℕ) → inside ≡ plan → job < limit → limit ≤ length plan.jobs → slice_get inside.jobs job ≡ Some (get_or inside.jobs job (record { 0 = 0 }, record { 0 = 0 }))
+job_at inside plan limit job is below most =
+    slice_get-get_or inside.jobs job (record { 0 = 0 }, record { 0 = 0 }) (let same = ap (λ (p : PlanParts). length p.jobs) is in omega (arith, below, most, same))
+
+pub is_done : (inside plan : PlanParts) (d : DoneParts) (job : ℕ) (heads : SymbolNo × SymbolNo) → inside ≡ plan → slice_get inside.jobs job ≡ Some heads → d.job ≡ job → d.heads ≡ heads → d.templates ≡ inside.templates → IsDone plan d
+is_done inside plan d job heads is at number symbols templates = record {
+  templates = templates ∙ ap (λ (p : PlanParts). p.templates) is;
+  job = ap (λ (p : PlanParts). slice_get p.jobs d.job) (sym is) ∙ ap (slice_get inside.jobs) number ∙ at ∙ ap (λ (h : SymbolNo × SymbolNo). Some h) (sym symbols);
+}
+
+-- the stock holds what any template needs
+pub holds_any : (ts : TemplatesParts) (largest : Need) (s : StockParts) (c d : ℕ) (t : TemplateParts) → IsLargestNeed ts.templates largest → IsEnough (count_of largest) (held s) → template_at ts c d ≡ Some t → IsEnough (count_of t.member.need) (held s)
+holds_any ts largest s c d t most enough at class =
+    let k = template_in ts c d t at in let m = (most class).0 k.0 t k.1 in let e = enough class in omega (arith, m, e)
+
+pub stops : (inside plan : PlanParts) (q : Part) (largest : Need) → inside ≡ plan → IsLargestNeed inside.templates.templates largest → (q.seat.done ≡ true) ⊎ ((IsEnough (count_of largest) (held q.stock) → ⊥) ⊎ (vec_len q.rooms ≡ 0)) → Stops plan q
+stops inside plan q largest is most (inl done) = inl done
+stops inside plan q largest is most (inr (inl short)) = inr (inl (largest, subst (λ (p : PlanParts). IsLargestNeed p.templates.templates largest) is most, short))
+stops inside plan q largest is most (inr (inr none)) = inr (inr none)
