@@ -60,6 +60,19 @@ take_holders n (Kept e ∷ slots) (suc j) d at =
     omega (arith, rest, new, old)
 take_holders n (Taken ∷ slots) (suc j) d at = take_holders n slots j d at
 
+pub take_all : (P : ArenaView → Type 0) (slots : List Slot) (j : ℕ) (d : DoneParts) → slice_get slots j ≡ Some (Kept d) → All P (bags_of slots) → P d.placed.placed.bag × All P (bags_of (set slots j Taken))
+take_all P [] j d at all = cc
+take_all P (Fresh ∷ slots) zero d at all = absurd (let f : Some Fresh ≡ Some (Kept d) = at in cc)
+take_all P (Kept e ∷ slots) zero d at all =
+    let same : e ≡ d = (let f : Some (Kept e) ≡ Some (Kept d) = at in cc) in
+    (subst (λ (z : DoneParts). P z.placed.placed.bag) same (All-head P e.placed.placed.bag (bags_of slots) all), All-tail P e.placed.placed.bag (bags_of slots) all)
+take_all P (Taken ∷ slots) zero d at all = absurd (let f : Some Taken ≡ Some (Kept d) = at in cc)
+take_all P (Fresh ∷ slots) (suc j) d at all = take_all P slots j d at all
+take_all P (Kept e ∷ slots) (suc j) d at all =
+    let rest = take_all P slots j d at (All-tail P e.placed.placed.bag (bags_of slots) all) in
+    (rest.0, All-cons P e.placed.placed.bag (bags_of (set slots j Taken)) (All-head P e.placed.placed.bag (bags_of slots) all) rest.1)
+take_all P (Taken ∷ slots) (suc j) d at all = take_all P slots j d at all
+
 -- ---- the last slot
 
 pub last_slot : (slots rest : List Slot) (popped : Option Slot) (s t : Slot) → slots ≡ rest ++ option_to_list popped → popped ≡ Some s → s ≡ t → slots ≡ rest ++ t ∷ []
