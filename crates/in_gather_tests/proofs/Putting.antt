@@ -10,18 +10,9 @@ use Rattle.in_gather.specs.Gathers.{GatherParts, Puts, Takes, bags_of}
 use Rattle.in_gather.specs.Holding.{HaveAllLeased, Returns, holders}
 use Rattle.in_gather.specs.Laws.{Shares}
 use Rattle.in_gather.specs.declared.gather.Slot.{Slot}
-use Rattle.in_gather.proofs.Holding.{bags_are_of_one, holders-cons, left_have_all, none_leased_by, none_returned, one_returned, rest_are_bags}
+use Rattle.in_gather.proofs.Holding.{same_have_all, one_less, bags_are_of_one, holders-cons, left_have_all, none_leased_by, none_returned, one_returned, rest_are_bags}
 use Rattle.in_gather.proofs.Keeping.{put_all, put_holders, take_all, take_holders}
 use Rattle.in_gather.proofs.Placing.{one_of_one}
-
--- the first bag is given back
-pub one_less : (b : ArenaView) (bs : List ArenaView) (a a' : ArenaView) → HaveAllLeased (b ∷ bs) a → Regains (λ _. Vacant) a b a' → HaveAllLeased bs a'
-one_less b bs a a' have back =
-    left_have_all (b ∷ bs) bs a a' have (bags_are_of_one bs a (rest_are_bags b bs a have.bags)) (one_returned b bs a a' back)
-
--- bags with the same cells
-same_have_all : (bs cs : List ArenaView) (a : ArenaView) → HaveAllLeased bs a → All (AreOfOne a) cs → ((n : ℕ) → holders n cs ≡ holders n bs) → HaveAllLeased cs a
-same_have_all bs cs a have one same = left_have_all bs cs a a have one (none_returned bs cs a same)
 
 module _ (s s' : StockParts) (d : DoneParts) (g : GatherParts) (a : ArenaView) (have : HaveAllLeased (s.bag ∷ bags_of g.slots) a) (shares : Shares (s'.bag ∷ []) (d.placed.placed.bag ∷ []) (s.bag ∷ [])) (of_stock : AreOfOne s.bag s'.bag) (of_done : AreOfOne s.bag d.placed.placed.bag) where
   one : All (AreOfOne a) (s.bag ∷ bags_of g.slots)
