@@ -1,5 +1,5 @@
 -- A stock, a gather and what is in hand have all cells that are on lease.
-use Rattle.std.proofs.Common.{◌≡◌, ℕ, List, [], ◌∷◌, All, Some, Ok, sym, ap, ◌∙◌, subst, arith}
+use Rattle.std.proofs.Common.{ℕ, List, [], ◌∷◌, All, Some, Ok, sym, ap, ◌∙◌, subst, arith}
 use Rattle.std.proofs.lemmas.List.Elements.{All-cons, All-head, All-nil, All-tail}
 use Rattle.in_arena.specs.Arenas.{ArenaView, NoneLeased}
 use Rattle.in_arena.specs.Bags.{AreOfOne}
@@ -10,7 +10,7 @@ use Rattle.in_gather.specs.Gathers.{GatherParts, Puts, Takes, bags_of}
 use Rattle.in_gather.specs.Holding.{HaveAllLeased, Returns, holders}
 use Rattle.in_gather.specs.Laws.{Shares}
 use Rattle.in_gather.specs.declared.gather.Slot.{Slot}
-use Rattle.in_gather.proofs.Holding.{same_have_all, one_less, bags_are_of_one, holders-cons, left_have_all, none_leased_by, none_returned, one_returned, rest_are_bags}
+use Rattle.in_gather.proofs.Holding.{same_have_all, one_less, bags_are_of_one, holders-cons, left_have_all, none_leased_by}
 use Rattle.in_gather.proofs.Keeping.{put_all, put_holders, take_all, take_holders}
 use Rattle.in_gather.proofs.Placing.{one_of_one}
 
