@@ -221,6 +221,15 @@ left_have_all bs cs a a' have one r = record {
     go n lt leased (inl less) = absurd (subst IsLeased (r.free n less) leased)
     go n lt leased (inr e) = e ∙ have.all n (let c = r.count in omega (arith, lt, c)) (subst IsLeased (r.others n e) leased)
 
+-- the first bag is given back
+pub one_less : (b : ArenaView) (bs : List ArenaView) (a a' : ArenaView) → HaveAllLeased (b ∷ bs) a → Regains (λ _. Vacant) a b a' → HaveAllLeased bs a'
+one_less b bs a a' have back =
+    left_have_all (b ∷ bs) bs a a' have (bags_are_of_one bs a (rest_are_bags b bs a have.bags)) (one_returned b bs a a' back)
+
+-- bags with the same cells
+pub same_have_all : (bs cs : List ArenaView) (a : ArenaView) → HaveAllLeased bs a → All (AreOfOne a) cs → ((n : ℕ) → holders n cs ≡ holders n bs) → HaveAllLeased cs a
+same_have_all bs cs a have one same = left_have_all bs cs a a have one (none_returned bs cs a same)
+
 pub none_leased_by : (a : ArenaView) → HaveAllLeased [] a → NoneLeased a
 none_leased_by a have = λ n lt leased. let one : 0 ≡ 1 = have.all n lt leased in omega (arith, one)
 

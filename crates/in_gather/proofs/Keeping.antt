@@ -1,18 +1,18 @@
 -- The bags of what is kept, as one is put, taken or given back.
-use Rattle.std.proofs.Common.{◌≡◌, ◌+◌, ℕ, zero, suc, List, [], ◌∷◌, ◌++◌, Option, Some, slice_get, set, All, refl, sym, ap, subst, ◌∙◌, arith}
+use Rattle.std.proofs.Common.{◌≡◌, ◌+◌, ℕ, zero, suc, List, [], ◌∷◌, ◌++◌, Option, Some, Ok, slice_get, set, All, refl, sym, ap, subst, ◌∙◌, arith}
 use Rattle.std.specs.Option.{option_to_list}
 use Rattle.std.proofs.lemmas.List.{append-nil}
 use Rattle.std.proofs.lemmas.List.Elements.{All-cons, All-head, All-pop, All-tail}
 use Rattle.in_arena.specs.Arenas.{ArenaView}
-use Rattle.in_arena.specs.Bags.{IsBagOf}
+use Rattle.in_arena.specs.Bags.{AreOfOne, IsBagOf}
 use Rattle.in_arena.specs.States.{Vacant}
 use Rattle.in_compile.specs.Stocks.{Regains}
 use Rattle.in_gather.specs.Dones.{DoneParts}
-use Rattle.in_gather.specs.Gathers.{bags_of}
-use Rattle.in_gather.specs.Holding.{holders, AreBagsOf, Returns}
+use Rattle.in_gather.specs.Gathers.{GatherParts, Puts, Takes, bags_of}
+use Rattle.in_gather.specs.Holding.{holders, AreBagsOf, HaveAllLeased, Returns}
 use Rattle.in_gather.specs.declared.gather.Slot.{Slot}
 use Rattle.in_gather.specs.declared.gather.Slot.TheVariants.{Fresh, Kept, Taken}
-use Rattle.in_gather.proofs.Holding.{holders-append, holders-cons, bags_are_of_one, first_is_bag, rest_are_bags, left_are_bags, one_returned, returns_by, returns_both}
+use Rattle.in_gather.proofs.Holding.{same_have_all, holders-append, holders-cons, bags_are_of_one, first_is_bag, rest_are_bags, left_are_bags, one_returned, returns_by, returns_both}
 
 pub bags_of-append : (xs ys : List Slot) → bags_of (xs ++ ys) ≡ bags_of xs ++ bags_of ys
 bags_of-append [] ys = refl
@@ -59,6 +59,45 @@ take_holders n (Kept e ∷ slots) (suc j) d at =
     let old = holders-cons n e.placed.placed.bag (bags_of slots) in
     omega (arith, rest, new, old)
 take_holders n (Taken ∷ slots) (suc j) d at = take_holders n slots j d at
+
+pub take_all : (P : ArenaView → Type 0) (slots : List Slot) (j : ℕ) (d : DoneParts) → slice_get slots j ≡ Some (Kept d) → All P (bags_of slots) → P d.placed.placed.bag × All P (bags_of (set slots j Taken))
+take_all P [] j d at all = cc
+take_all P (Fresh ∷ slots) zero d at all = absurd (let f : Some Fresh ≡ Some (Kept d) = at in cc)
+take_all P (Kept e ∷ slots) zero d at all =
+    let same : e ≡ d = (let f : Some (Kept e) ≡ Some (Kept d) = at in cc) in
+    (subst (λ (z : DoneParts). P z.placed.placed.bag) same (All-head P e.placed.placed.bag (bags_of slots) all), All-tail P e.placed.placed.bag (bags_of slots) all)
+take_all P (Taken ∷ slots) zero d at all = absurd (let f : Some Taken ≡ Some (Kept d) = at in cc)
+take_all P (Fresh ∷ slots) (suc j) d at all = take_all P slots j d at all
+take_all P (Kept e ∷ slots) (suc j) d at all =
+    let rest = take_all P slots j d at (All-tail P e.placed.placed.bag (bags_of slots) all) in
+    (rest.0, All-cons P e.placed.placed.bag (bags_of (set slots j Taken)) (All-head P e.placed.placed.bag (bags_of slots) all) rest.1)
+take_all P (Taken ∷ slots) (suc j) d at all = take_all P slots j d at all
+
+-- where each cell that is on lease was kept or in hand, it still is once it is taken
+pub taken_have_all : (d : DoneParts) (g h : GatherParts) (job : ℕ) (a : ArenaView) → HaveAllLeased (bags_of g.slots) a → Takes g job (Some d) h → HaveAllLeased (d.placed.placed.bag ∷ bags_of h.slots) a
+taken_have_all d g h job a have takes =
+    let bag = d.placed.placed.bag in
+    let slots = ap (λ (z : GatherParts). z.slots) takes.1 in
+    let parts = take_all (AreOfOne a) g.slots job d takes.0 (bags_are_of_one (bags_of g.slots) a have.bags) in
+    same_have_all (bags_of g.slots) (bag ∷ bags_of h.slots) a have (All-cons (AreOfOne a) bag (bags_of h.slots) parts.0 (subst (λ (z : List Slot). All (AreOfOne a) (bags_of z)) (sym slots) parts.1))
+    (λ n.
+    let take = take_holders n g.slots job d takes.0 in
+    let now = ap (λ (z : List Slot). holders n (bags_of z)) slots in
+    let first = holders-cons n bag (bags_of h.slots) in
+    omega (arith, take, now, first))
+
+-- .. and once it is put
+pub put_have_all : (d : DoneParts) (g h : GatherParts) (u : Unit {0}) (a : ArenaView) → HaveAllLeased (d.placed.placed.bag ∷ bags_of g.slots) a → Puts g d (Ok u) h → HaveAllLeased (bags_of h.slots) a
+put_have_all d g h u a have puts =
+    let bag = d.placed.placed.bag in
+    let slots = ap (λ (z : GatherParts). z.slots) puts.2 in
+    let one = bags_are_of_one (bag ∷ bags_of g.slots) a have.bags in
+    same_have_all (bag ∷ bags_of g.slots) (bags_of h.slots) a have
+    (subst (λ (z : List Slot). All (AreOfOne a) (bags_of z)) (sym slots) (put_all (AreOfOne a) g.slots d.job d (All-head (AreOfOne a) bag (bags_of g.slots) one) (All-tail (AreOfOne a) bag (bags_of g.slots) one)))
+    (λ n.
+    let put = ap (λ (z : List Slot). holders n (bags_of z)) slots ∙ put_holders n g.slots d.job d puts.1 in
+    let first = holders-cons n bag (bags_of g.slots) in
+    omega (arith, put, first))
 
 -- ---- the last slot
 

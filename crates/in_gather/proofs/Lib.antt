@@ -1,2 +1,4 @@
+pub mod Filling
 pub mod Holding
 pub mod Keeping
+pub mod Placing

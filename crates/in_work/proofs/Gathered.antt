@@ -1,14 +1,15 @@
 -- What the workers have together once they are back, and what is lent out once it is gathered.
-use Rattle.std.proofs.Common.{◌≡◌, ◌⊎◌, inl, inr, ◌<◌, ℕ, zero, suc, List, [], ◌∷◌, ◌++◌, replicate, All, Some, refl, sym, ap, ◌∙◌, subst, arith}
+use Rattle.std.proofs.Common.{◌≡◌, ◌⊎◌, inl, inr, ◌<◌, ℕ, zero, suc, List, [], ◌∷◌, ◌++◌, length, replicate, All, Some, refl, sym, ap, ◌∙◌, subst, arith}
 use Rattle.std.specs.List.{AllZip}
 use Rattle.std.proofs.lemmas.List.{append-nil}
 use Rattle.std.proofs.lemmas.List.Elements.{All-append, All-cons, All-head, All-map, All-nil, All-tail, All-weaker}
-use Rattle.in_arena.specs.Arenas.{ArenaView, state_at}
+use Rattle.in_arena.specs.Arenas.{ArenaView, NoneLeased, state_at}
 use Rattle.in_arena.specs.Bags.{AreOfOne}
+use Rattle.in_arena.specs.States.{IsLeased}
 use Rattle.in_compile.specs.Templates.{TemplatesParts}
 use Rattle.in_gather.specs.Dones.{DoneParts}
 use Rattle.in_gather.specs.Gathers.{bags_of}
-use Rattle.in_gather.specs.Holding.{AreBagsOf, Returns, holders}
+use Rattle.in_gather.specs.Holding.{AreBagsOf, HaveAllLeased, Returns, holders}
 use Rattle.in_gather.specs.declared.gather.Slot.{Slot}
 use Rattle.in_gather.specs.declared.gather.Slot.TheVariants.{Fresh, Kept}
 use Rattle.in_gather.proofs.Holding.{are_bags_by, bags_are_of_one, fewer_or_same, holders-append}
@@ -19,7 +20,7 @@ use Rattle.in_work.specs.Works.{IsDone, IsWorked, bags}
 use Rattle.in_work.specs.declared.part.Part.{Part}
 use Rattle.in_work.proofs.Lent.{hands-append}
 use Rattle.in_work.proofs.Threading.{last_of, all_but_last}
-use Rattle.in_work.proofs.Worked.{one_of_one}
+use Rattle.in_gather.proofs.Placing.{one_of_one}
 
 -- ---- one worker
 
@@ -145,3 +146,12 @@ module _ (bs cs ds : List ArenaView) (a a' a'' : ArenaView) (out : AreLentOut bs
     free = λ n e. out.free n (one_by n e);
     others = λ n e. others_by n (fewer_or_same (holders n ds) (holders n cs) (back.fewer n)) e;
   }
+
+-- .. and where no cell was on lease before, all that are now are in these bags
+pub lent_have_all : (bs : List ArenaView) (a a' : ArenaView) → NoneLeased a → AreLentOut bs a a' → HaveAllLeased bs a'
+lent_have_all bs a a' whole out = record { bags = out.bags; all = λ n inside leased. go n inside leased (fewer_or_same (holders n bs) 1 (out.bags.once n)) }
+  where
+    go : (n : ℕ) → n < length a'.states → IsLeased (state_at a' n) → (holders n bs < 1) ⊎ (holders n bs ≡ 1) → holders n bs ≡ 1
+    go n inside leased (inl less) =
+        absurd (whole n (let c = out.count in omega (arith, inside, c)) (subst IsLeased (out.others n (omega (arith, less))) leased))
+    go n inside leased (inr one) = one

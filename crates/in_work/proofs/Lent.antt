@@ -1,25 +1,23 @@
 -- Cells that are lent to one worker more.
-use Rattle.std.proofs.Common.{◌≡◌, ◌⊎◌, inl, inr, ◌≤◌, ◌<◌, ◌+◌, ◌*◌, ℕ, zero, suc, List, [], ◌∷◌, ◌++◌, length, All, Some, slice_get, refl, sym, ap, ◌∙◌, subst, arith}
+use Rattle.std.proofs.Common.{◌≡◌, ◌≤◌, ◌<◌, ◌+◌, ◌*◌, ℕ, zero, suc, List, [], ◌∷◌, ◌++◌, length, All, refl, sym, ap, ◌∙◌, subst, arith}
 use Rattle.std.proofs.lemmas.List.{append_assoc}
 use Rattle.std.proofs.lemmas.List.Elements.{All-append, All-cons, All-nil, All-weaker}
-use Rattle.in_base.proofs.Each.{all_at}
 use Rattle.in_arena.specs.Arenas.{ArenaView, free_of, state_at}
-use Rattle.in_arena.specs.Bags.{AreOfOne, empty_bag}
+use Rattle.in_arena.specs.Bags.{AreOfOne}
 use Rattle.in_arena.specs.Changes.{HasAllCells}
 use Rattle.in_arena.specs.States.{Vacant, Leased, IsLeased}
 use Rattle.in_arena.specs.declared.content.CellClass.{CellClass}
-use Rattle.in_arena.specs.declared.content.CellNo.{CellNo}
-use Rattle.in_arena.proofs.Arenas.{vacant_inside}
 use Rattle.in_arena.proofs.Bags.{empty_is_of}
 use Rattle.in_compile.specs.declared.cells.Need.{Need}
 use Rattle.in_compile.specs.Cells.{count_of}
 use Rattle.in_compile.specs.Placing.{PlacedParts}
-use Rattle.in_compile.specs.Stocks.{StockParts, AddsTo, HasRoom, IsStockOf, empty_stock, with_all}
-use Rattle.in_compile.proofs.Back.{one_or_same, one_of_all}
+use Rattle.in_compile.specs.Stocks.{StockParts, AddsTo, HasRoom, IsStockOf, empty_stock}
 use Rattle.in_compile.proofs.Stocked.{count_all, cells_all, memory_all, none_in_empty}
 use Rattle.in_claims.specs.Seats.{BoardView}
 use Rattle.in_gather.specs.Holding.{holders}
-use Rattle.in_gather.proofs.Holding.{in_one, out_of_one, leased_of, each_of, bags_are_of_one, no_bags, of_one_by, holders-append}
+use Rattle.in_gather.proofs.Filling.{Change, change}
+use Rattle.in_gather.proofs.Filling.Change.{Lends, Stays}
+use Rattle.in_gather.proofs.Holding.{leased_of, each_of, bags_are_of_one, no_bags, of_one_by, holders-append}
 use Rattle.in_work.specs.Bringing.{hand, hands}
 use Rattle.in_work.specs.Lending.{AreLentOut, IsFresh, IsShare}
 use Rattle.in_work.specs.Plans.{PlanParts}
@@ -47,27 +45,8 @@ no_more (suc k) never = absurd (never (omega arith))
 -- ---- one more share
 
 module _ (bs : List ArenaView) (share : Need) (a a' a'' : ArenaView) (s : StockParts) (all : HasAllCells a) (lent : AreLentOut bs a a') (adds : AddsTo share a' (empty_stock a share) a'' s) where
-  -- a cell is lent now, or stays as it was
-  data Change (n : ℕ) : Type 0 where
-    Lends : state_at a' n ≡ Vacant → state_at a'' n ≡ Leased → holders n (s.bag ∷ []) ≡ 1 → Change n
-    Stays : state_at a'' n ≡ state_at a' n → holders n (s.bag ∷ []) ≡ 0 → Change n
-
-  lends : (n k : ℕ) → slice_get adds.0.cells k ≡ Some (record { 0 = n }) → Change n
-  lends n k at =
-      let free : state_at a' n ≡ Vacant = all_at (λ (m : CellNo). state_at a' m.0 ≡ Vacant) adds.0.cells k (record { 0 = n }) adds.0.free at in
-      let inside = vacant_inside a' n free in
-      let room = (empty_is_of a).1 in let count = lent.count in
-      let held : state_at s.bag n ≡ Vacant = ap (λ v. state_at v n) adds.0.bag ∙ one_of_all (empty_bag a) adds.0.cells Vacant (record { 0 = n }) k (omega (arith, inside, room, count, all)) at in
-      Lends free (ap (λ v. state_at v n) adds.0.arena ∙ one_of_all a' adds.0.cells Leased (record { 0 = n }) k inside at) (in_one s.bag n (λ leased. subst IsLeased held leased))
-
-  change_by : (n : ℕ) → ((k : ℕ) × (slice_get adds.0.cells k ≡ Some (record { 0 = n }))) ⊎ (state_at (with_all a' adds.0.cells Leased) n ≡ state_at a' n)
-      → ((k : ℕ) × (slice_get adds.0.cells k ≡ Some (record { 0 = n }))) ⊎ (state_at (with_all (empty_bag a) adds.0.cells Vacant) n ≡ state_at (empty_bag a) n) → Change n
-  change_by n (inl at) other = lends n at.0 at.1
-  change_by n (inr same) (inl at) = lends n at.0 at.1
-  change_by n (inr same) (inr none) = Stays (ap (λ v. state_at v n) adds.0.arena ∙ same) (out_of_one s.bag n (ap (λ v. state_at v n) adds.0.bag ∙ none ∙ none_in_empty a n))
-
-  change : (n : ℕ) → Change n
-  change n = change_by n (one_or_same a' adds.0.cells Leased n) (one_or_same (empty_bag a) adds.0.cells Vacant n)
+  changes : (n : ℕ) → Change a' a'' s n
+  changes n = change share a a' a'' s all lent.count adds n
 
   -- what is free is in no bag
   no_holder : (n : ℕ) → state_at a' n ≡ Vacant → (0 < holders n bs) → ⊥
@@ -83,19 +62,19 @@ module _ (bs : List ArenaView) (share : Need) (a a' a'' : ArenaView) (s : StockP
     none_before : (n : ℕ) → state_at a' n ≡ Vacant → holders n bs ≡ 0
     none_before n free = no_more (holders n bs) (no_holder n free)
 
-    leased_by : (n : ℕ) → Change n → 0 < holders n cs → state_at a'' n ≡ Leased
+    leased_by : (n : ℕ) → Change a' a'' s n → 0 < holders n cs → state_at a'' n ≡ Leased
     leased_by n (Lends free leased one) some = leased
     leased_by n (Stays same none) some = same ∙ leased_of bs a' n lent.bags (let e = split n in omega (arith, e, none, some))
 
-    once_by : (n : ℕ) → Change n → holders n cs ≤ 1
+    once_by : (n : ℕ) → Change a' a'' s n → holders n cs ≤ 1
     once_by n (Lends free leased one) = let e = split n in let none = none_before n free in omega (arith, e, none, one)
     once_by n (Stays same none) = let e = split n in let o = lent.bags.once n in omega (arith, e, none, o)
 
-    free_by : (n : ℕ) → Change n → holders n cs ≡ 1 → state_at a n ≡ Vacant
+    free_by : (n : ℕ) → Change a' a'' s n → holders n cs ≡ 1 → state_at a n ≡ Vacant
     free_by n (Lends free leased one) e = sym (lent.others n (none_before n free)) ∙ free
     free_by n (Stays same none) e = lent.free n (let f = split n in omega (arith, e, f, none))
 
-    others_by : (n : ℕ) → Change n → holders n cs ≡ 0 → state_at a'' n ≡ state_at a n
+    others_by : (n : ℕ) → Change a' a'' s n → holders n cs ≡ 0 → state_at a'' n ≡ state_at a n
     others_by n (Lends free leased one) e = absurd (let f = split n in omega (arith, e, f, one))
     others_by n (Stays same none) e = same ∙ lent.others n (let f = split n in omega (arith, e, f))
 
@@ -104,9 +83,9 @@ module _ (bs : List ArenaView) (share : Need) (a a' a'' : ArenaView) (s : StockP
       memory = memory ∙ lent.memory;
       cells = cells ∙ lent.cells;
       count = ap (λ v. length v.states) adds.0.arena ∙ count_all a' adds.0.cells Leased ∙ lent.count;
-      bags = record { each = each_of a'' cs one (λ n some. leased_by n (change n) some); once = λ n. once_by n (change n) };
-      free = λ n e. free_by n (change n) e;
-      others = λ n e. others_by n (change n) e;
+      bags = record { each = each_of a'' cs one (λ n some. leased_by n (changes n) some); once = λ n. once_by n (changes n) };
+      free = λ n e. free_by n (changes n) e;
+      others = λ n e. others_by n (changes n) e;
     }
 
 -- ---- one more part

@@ -1,5 +1,6 @@
 pub mod Brought
 pub mod Gathered
 pub mod Lent
+pub mod Planned
 pub mod Threading
 pub mod Worked
