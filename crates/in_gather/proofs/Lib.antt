@@ -2,3 +2,4 @@ pub mod Filling
 pub mod Holding
 pub mod Keeping
 pub mod Placing
+pub mod OneAnswer
