@@ -160,13 +160,6 @@ module _ (bs : List ArenaView) (a b : ArenaView) (lent : AreLentOut bs a b) wher
       go (inl one) = inr (inr (lent.free n one, leased_of bs b n lent.bags (omega (arith, one))))
       go (inr none) = inl (lent.others n none)
 
-  pub lent_have : NoneLeased a → HaveAllLeased bs b
-  lent_have none = record { bags = lent.bags; all = λ n l leased. go n l leased (one_or_none (holders n bs) (lent.bags.once n)) }
-    where
-      go : (n : ℕ) → n < length b.states → IsLeased (state_at b n) → (holders n bs ≡ 1) ⊎ (holders n bs ≡ 0) → holders n bs ≡ 1
-      go n l leased (inl one) = one
-      go n l leased (inr zero_is) = absurd (none n (let c = lent.count in omega (arith, l, c)) (subst IsLeased (lent.others n zero_is) leased))
-
 -- ---- taken
 
 -- what holds of each bag holds of that of what is kept

@@ -9,7 +9,6 @@ pub mod Laid
 pub mod Lending
 pub mod Looked
 pub mod Ordered
-pub mod Planned
 pub mod Putting
 pub mod Queued
 pub mod Queues

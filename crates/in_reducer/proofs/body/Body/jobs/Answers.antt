@@ -4,7 +4,7 @@ use Rattle.in_compile.specs.Templates.{template_at}
 use Rattle.in_reducer.specs.Inside.{reducer_view}
 use Rattle.in_reducer.proofs.Begun.{each_push}
 use Rattle.in_reducer.proofs.Found as found
-use Rattle.in_reducer.proofs.Planned as planned
+use Rattle.in_work.proofs.Planned.{templates_are_small}
 use Rattle.in_reducer.proofs.body.Body.jobs.Goals as goal
 
 pub loop-number-init : goal.loop-number-init
@@ -16,7 +16,7 @@ loop-number-init c =
       count = ap length c.in_ok-jobs.ensures.items;
       plan = record {
         rules = λ k h at. absurd (let e : None ≡ Some h = ap (λ zs. slice_get zs k) (sym c.in_ok-jobs.ensures.items) ∙ at in cc);
-        small = planned.small accepted.0 r.checked.now accepted.1 c.args.templates.now c.requires.templates;
+        small = templates_are_small accepted.0 r.checked.now c.args.templates.now accepted.1 c.requires.templates;
       };
     }
 

@@ -5,6 +5,7 @@ use Rattle.in_reducer.specs.Inside.{over, reducer_view}
 use Rattle.in_reducer.specs.Machines.{MachineParts}
 use Rattle.in_reducer.specs.Runs.{Runs, jobs_of}
 use Rattle.in_reducer.specs.Steps.{HasRoomAt}
+use Rattle.in_work.proofs.Gathered.{lent_have_all}
 use Rattle.in_reducer.proofs.Lending as lending
 use Rattle.in_reducer.proofs.Queues.{short_queue}
 use Rattle.in_reducer.proofs.reducer.Reducer.round.Goals as goal
@@ -37,7 +38,7 @@ stitch_all-stitched-requires-clause-all g c =
 
 pub stitch_all-stitched-requires-clause-lent : goal.stitch_all-stitched-requires-clause-lent
 stitch_all-stitched-requires-clause-lent g c =
-    lending.lent_have (bags_of c.in_ok-gather.gather.slots) c.self.inside.body.arena c.gather_jobs.new.arena c.in_ok-gather.ensures.lent c.self.invariant.none
+    lent_have_all (bags_of c.in_ok-gather.gather.slots) c.self.inside.body.arena c.gather_jobs.new.arena c.self.invariant.none c.in_ok-gather.ensures.lent
 
 pub returns-clause-front : goal.returns-clause-front
 returns-clause-front g c =
