@@ -3,7 +3,7 @@
 //! can't be started.
 #![tactic(auto)]
 
-use in_rounds::NoGate;
+use in_rounds_tests::gates::Together;
 use in_rounds_tests::rounding::RoundOf;
 use in_test_programs::seen;
 use in_test_texts::{ADDITION, SUMS};
@@ -13,9 +13,10 @@ use std::io;
 const TWO_SUMS: &str = "net (r : nat+, s : nat+) { Add(x, r) ~ S(Z); Add(S(Z), x) ~ S(Z); s ~ Z; }";
 
 fn main(rt: HostRuntime) -> io::Result<()> {
+    let gate = Together::of(1);
     let look = RoundOf {
         rt: &rt,
-        gate: &NoGate,
+        gate: &gate,
         cells: 65_536,
         workers: 2,
         budget: 2,

@@ -1,4 +1,4 @@
-// A gate that holds jobs back.
+//! A gate that holds jobs back.
 use in_rounds::Gate;
 use std::sync::atomic::{AtomicU64, Ordering};
 
@@ -15,7 +15,7 @@ pub struct Together {
 }
 
 impl Together {
-    /// For so many jobs.
+    /// For so many jobs; for one it stands open.
     pub fn of(jobs: u32) -> Together {
         Together {
             jobs,

@@ -1,8 +1,7 @@
 //! Tests of rounds: that several threads place what is gathered, and that a round leaves what as many steps do.
 #![tactic(auto)]
 
-#[cfg(test)]
-mod gates;
+pub mod gates;
 #[cfg(test)]
 mod of_rounds;
 pub mod rounding;

@@ -1,6 +1,5 @@
 use crate::gates::Together;
 use crate::rounding::{LikeSteps, RoundOf, Rounded};
-use in_rounds::{Gate, NoGate};
 use in_test_programs::seen;
 use in_test_texts::{ADDITION, DUPLICATION, ERASURE, SORTING, SUMS};
 use std::process::Abort;
@@ -68,9 +67,10 @@ fn three_workers_meet_at_the_gate(rt: HostRuntime) {
 
 #[test]
 fn a_budget_leaves_the_last_pair(rt: HostRuntime) {
+    let gate = Together::of(1);
     let look = RoundOf {
         rt: &rt,
-        gate: &NoGate,
+        gate: &gate,
         cells: 65_536,
         workers: 3,
         budget: 2,
@@ -89,9 +89,10 @@ fn a_budget_leaves_the_last_pair(rt: HostRuntime) {
 
 #[test]
 fn one_worker_starts_no_thread(rt: HostRuntime) {
+    let gate = Together::of(1);
     let look = RoundOf {
         rt: &rt,
-        gate: &NoGate,
+        gate: &gate,
         cells: 65_536,
         workers: 1,
         budget: 1_000,

@@ -1,4 +1,5 @@
 //! Rounds of machines of tests, and what they leave.
+use crate::gates::Together;
 use in_check::Checked;
 use in_print::write_net;
 use in_rounds::{Gate, Machine, NoGate, Round, round};
@@ -61,39 +62,42 @@ fn steps(machine: &mut Machine, count: u32) {
 
 /// A round of a new machine of a program over so many cells of each class, and so many steps after it.
 #[derive(Clone, Copy)]
-pub struct RoundOf<'r, R, G> {
+pub struct RoundOf<'r, R> {
     pub rt: &'r R,
-    pub gate: &'r G,
+    pub gate: &'r Together,
     pub cells: u32,
     pub workers: u32,
     pub budget: u64,
     pub steps: u32,
 }
 
-impl<'r, R: Threads + Wait, G: Gate + Sync> RoundOf<'r, R, G> {
-    fn of_machine(&self, alloc: Global, machine: &mut Machine) -> Option<Rounded> {
-        let round = one_round(
-            self.rt,
-            alloc,
-            machine,
-            self.workers,
-            self.budget,
-            self.gate,
-        )?;
-        let pairs = machine.pairs();
-        steps(machine, self.steps);
-        let text = printed(alloc, machine)?;
-        Some(Rounded { round, pairs, text })
-    }
+/// A round of a machine and so many steps after it.
+fn round_and_steps<R: Threads + Wait>(
+    alloc: Global,
+    machine: &mut Machine,
+    asked: &RoundOf<R>,
+) -> Option<Rounded> {
+    let round = one_round(
+        asked.rt,
+        alloc,
+        machine,
+        asked.workers,
+        asked.budget,
+        asked.gate,
+    )?;
+    let pairs = machine.pairs();
+    steps(machine, asked.steps);
+    let text = printed(alloc, machine)?;
+    Some(Rounded { round, pairs, text })
 }
 
-impl<'r, R: Threads + Wait, G: Gate + Sync> Look<Rounded> for RoundOf<'r, R, G> {
+impl<'r, R: Threads + Wait> Look<Rounded> for RoundOf<'r, R> {
     fn look(&self, alloc: Global, program: &Checked) -> Option<Rounded> {
         if self.cells < 16 || self.cells > 1_048_576 {
             return None;
         }
         let mut machine = Machine::new(alloc, program, self.cells).ok()?;
-        self.of_machine(alloc, &mut machine)
+        round_and_steps(alloc, &mut machine, self)
     }
 }
 
