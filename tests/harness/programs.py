@@ -69,7 +69,9 @@ class Program:
     """The built program, and a folder for the texts that it reads."""
 
     def __init__(self, path, room):
-        self.path = os.path.abspath(path)
+        # Help names the program as it is called.
+        self.path = os.path.join(room, "inet")
+        os.symlink(os.path.abspath(path), self.path)
         self.room = room
         self.texts = {}
         self.lock = threading.Lock()

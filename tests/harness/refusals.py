@@ -20,6 +20,8 @@ NOTHING, REQUEST, THREAD_START = range(3)
 ONE_BYTE = {"ONE_BYTE": "1"}
 # Sizes of address spaces, in kilobytes: too small for the most cells, and large enough.
 SPACES = (20_000, 40_000, 60_000, 80_000, 100_000, 120_000, 150_000, 200_000, 300_000, 500_000, 1_000_000)
+# The line that is printed asks for no more memory than so often.
+LINE = 20
 # How a write is refused: by an error, or by taking nothing.
 WAYS = ("fail", "nothing")
 
@@ -64,18 +66,17 @@ class Refuser:
         return self.refusing(*refused, **asked)[0]
 
 
-def wrong_without_memory(answer, report, usual, may_answer):
-    """What is wrong where a request for memory was refused: `memory` is the answer, unless only a thread's start was refused.
+def wrong_without_memory(answer, usual, may_answer, may_want):
+    """What is wrong where a request for memory was refused: the answer is the usual one, or `memory`, as far as each is right.
 
-    Where the usual answer has come and only what is told on standard error wants memory, nothing is told. And the usual answer is right
-    where the program may answer without that request.
+    Where the usual answer has come and only what is told on standard error wants memory, nothing is told.
     """
-    as_usual = (answer.status, answer.output) == (usual.status, usual.output)
-    if as_usual and usual.status in (REFUSED, WRONG_WORDS):
-        return None if answer.errors in (b"", usual.errors) else f"a part of a diagnosis: {answer.errors!r}"
-    if report.refused != REQUEST or may_answer and as_usual:
-        return differing(answer, usual.status, usual.output)
-    return differing(answer, MEMORY, b"memory\n")
+    if (answer.status, answer.output) == (usual.status, usual.output):
+        if usual.status in (REFUSED, WRONG_WORDS):
+            return None if answer.errors in (b"", usual.errors) else f"a part of a diagnosis: {answer.errors!r}"
+        if may_answer:
+            return None
+    return differing(answer, MEMORY, b"memory\n") if may_want else differing(answer, usual.status, usual.output)
 
 
 def wrong_beginning(answer, usual):
@@ -84,18 +85,20 @@ def wrong_beginning(answer, usual):
     return wrong_stream(answer, "output", answer.output if begun else b"a beginning of " + usual.output)
 
 
-def refused_memory(refuser, words, text, usual, counts):
-    """Each request for memory, by itself and with all that follow.
+def refused_memory(refuser, words, text, usual, counts, first=1):
+    """Each request for memory, from the first one of these on, by itself and with all that follow.
 
-    By itself it may be followed by one that asks for less, when a list that grows is content with the room that it needs; and what a
-    thread's start asks for besides the C library can't be told from other requests.
+    A request by itself may be followed by one that asks for less, when a list that grows is content with the room that it needs. What a
+    thread's start asks for besides the C library can't be told from other requests; by itself, what the C library asks for it is no fault.
     """
 
     def wrong(number, asked):
         answer, report = refuser.refusing(words, text, "memory", number, **asked)
-        return wrong_without_memory(answer, report, usual, may_answer=not asked or counts.threads > 0)
+        may_answer = not asked or counts.threads > 0 or report.refused == NOTHING
+        may_want = report.refused == REQUEST or bool(asked) and report.refused == THREAD_START
+        return wrong_without_memory(answer, usual, may_answer, may_want)
 
-    for number in range(1, counts.memory + 1):
+    for number in range(first, counts.memory + 1):
         yield f"memory refused at request {number}", partial(wrong, number, {})
         yield f"memory refused from request {number} on", partial(wrong, number, {"REFUSE_ON": "1"})
 
@@ -134,16 +137,20 @@ def refusals(program):
 
 
 def threads(program):
-    """A run that starts threads: it does start them, and no refused start or request changes what it answers but to `memory`."""
+    """A run that starts threads: it does start them, and no refused start or request changes what it answers but to `memory`.
+
+    Only what it asks for after the check is refused.
+    """
     refuser = Refuser(program)
     text = text_of(WITH_THREADS, ROWS)
     one = program.run(["run", "--cells", "200000"], text)
+    checked = refuser.run(["check"], text)[1].memory
     for workers in (2, 64):
         words = ["run", "--cells", "200000", "--workers", str(workers)]
         usual, counts = refuser.run(words, text)
         yield f"{workers} workers start threads", lambda counts=counts: None if counts.threads else "no thread was started"
         yield f"{workers} workers answer as one", answering(partial(program.run, words, text), one.status, one.output)
-        for what, trial in refused_memory(refuser, words, text, usual, counts):
+        for what, trial in refused_memory(refuser, words, text, usual, counts, checked - LINE):
             yield f"{workers} workers: {what}", trial
 
 
@@ -172,10 +179,10 @@ def wrong_in_small_space(answer, usual):
 
 
 def address_spaces(program):
-    """Real want of memory: the most cells in small address spaces."""
-    text = text_of("sum")
-    usual = program.run(["run"], text)
-    for kilobytes, workers in itertools.product(SPACES, ("1", "2", "64")):
-        words = ["run", "--cells", "1048576", "--workers", workers]
-        run = partial(program.run_in_shell, f'ulimit -v {kilobytes}; exec "$@"', words, text)
-        yield f"{kilobytes} kilobytes, {workers} workers", lambda run=run: wrong_in_small_space(run(), usual)
+    """Real want of memory, in small address spaces: for the most cells, and for the stacks of threads."""
+    for text, count in ((text_of("sum"), "1048576"), (text_of(WITH_THREADS, ROWS), "200000")):
+        usual = program.run(["run", "--cells", count], text)
+        for kilobytes, workers in itertools.product(SPACES, ("1", "2", "64")):
+            words = ["run", "--cells", count, "--workers", workers]
+            run = partial(program.run_in_shell, f'ulimit -v {kilobytes}; exec "$@"', words, text)
+            yield f"{kilobytes} kilobytes: {' '.join(words)}", lambda run=run, usual=usual: wrong_in_small_space(run(), usual)
