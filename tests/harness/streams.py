@@ -1,0 +1,228 @@
+"""Standard streams that are closed, full, cut off, endless or of the wrong kind."""
+import fcntl
+import itertools
+import os
+import subprocess
+import threading
+from functools import partial
+
+from harness.programs import COMMANDS, MOST_BYTES, REFUSED, ROWS, STREAM, WRONG_WORDS, answering, failing, text_of, wrong_stream
+
+# A file descriptor command of Linux: how many bytes a pipe holds.
+SET_PIPE_SIZE = 1031
+SMALL_PIPE = 4096
+# A program that is accepted and one that is refused.
+EXAMPLES = ("sum", "waits_for_itself")
+TOO_LONG = b"refused E03 at 1:1\n"
+TOO_SHORT = b"refused E02 at 1:1\n"
+
+
+def closed_pipe():
+    """The writing end of a pipe that nobody reads any more."""
+    reader, writer = os.pipe()
+    os.close(reader)
+    return writer
+
+
+def full_pipe():
+    """Both ends of a pipe that is full, whose writer doesn't wait."""
+    reader, writer = os.pipe()
+    os.set_blocking(writer, False)
+    try:
+        while True:
+            os.write(writer, bytes(SMALL_PIPE))
+    except BlockingIOError:
+        return reader, writer
+
+
+def with_closed_pipe(program, words, text):
+    writer = closed_pipe()
+    try:
+        return program.run(words, text, stdout=writer)
+    finally:
+        os.close(writer)
+
+
+def with_full_pipe(program, words, text):
+    reader, writer = full_pipe()
+    try:
+        return program.run(words, text, stdout=writer)
+    finally:
+        os.close(reader)
+        os.close(writer)
+
+
+def with_device(program, words, text):
+    with open("/dev/full", "wb") as device:
+        return program.run(words, text, stdout=device)
+
+
+def with_closed_output(program, words, text):
+    return program.run_in_shell('exec "$@" >&-', words, text)
+
+
+def with_read_only_output(program, words, text):
+    with open(os.devnull, "rb") as file:
+        return program.run(words, text, stdout=file)
+
+
+OUTPUTS = {
+    "closed": with_closed_output,
+    "a device that is full": with_device,
+    "a pipe without a reader": with_closed_pipe,
+    "a full pipe that doesn't wait": with_full_pipe,
+    "a file that is only read": with_read_only_output,
+}
+
+
+def outputs(program):
+    """Standard output that takes nothing: status 6, and why on standard error; wrong words need no output."""
+    for kind, run in OUTPUTS.items():
+        for name, words in itertools.product(EXAMPLES, COMMANDS):
+            yield f"output {kind}: {name}: {' '.join(words)}", failing(partial(run, program, words, text_of(name)), "output")
+        yield f"output {kind}: help", failing(partial(run, program, ["--help"], b""), "output")
+        yield f"output {kind}: wrong words", answering(partial(run, program, ["walk"], b""), WRONG_WORDS, b"")
+
+
+def read_a_beginning(program, words, text, size):
+    """Runs the program into a small pipe, whose reader closes it after so many bytes: the status, what was read, standard error."""
+    reader, writer = os.pipe()
+    fcntl.fcntl(writer, SET_PIPE_SIZE, SMALL_PIPE)
+    got = []
+
+    def read():
+        got.append(os.read(reader, size))
+        os.close(reader)
+
+    thread = threading.Thread(target=read)
+    thread.start()
+    try:
+        return program.run(words, text, stdout=writer), got
+    finally:
+        os.close(writer)
+        thread.join()
+
+
+def wrong_early_end(program, words, text, size, usual):
+    """What is wrong where the reader closes the pipe after so many bytes of an output that is much longer than the pipe."""
+    answer, got = read_a_beginning(program, words, text, size)
+    if len(usual.output) < 3 * SMALL_PIPE or not got[0] or not usual.output.startswith(got[0]):
+        return f"read {got[0]!r} of {len(usual.output)} bytes"
+    return wrong_stream(answer, "output", b"")
+
+
+def early_ends(program):
+    """A reader that ends early, of an output that no pipe of its size holds."""
+    text = text_of("net_with_the_most_agents", ROWS)
+    for words in (["derive"], ["run", "--limit", "0"], ["run", "--limit", "0", "--workers", "64"]):
+        usual = program.run(words, text)
+        for size in (1, 100, 2000):
+            yield f"{' '.join(words)}: the reader closes after {size} bytes", partial(
+                wrong_early_end, program, words, text, size, usual
+            )
+
+
+def from_folder(program, words):
+    folder = os.open(program.room, os.O_RDONLY)
+    try:
+        return program.run(words, stdin=folder)
+    finally:
+        os.close(folder)
+
+
+def from_written_file(program, words):
+    with open(os.devnull, "wb") as file:
+        return program.run(words, stdin=file)
+
+
+def from_closed(program, words):
+    return program.run_in_shell('exec "$@" <&-', words)
+
+
+def from_pipe_that_does_not_wait(program, words):
+    reader, writer = os.pipe()
+    os.set_blocking(reader, False)
+    try:
+        return program.run(words, stdin=reader)
+    finally:
+        os.close(reader)
+        os.close(writer)
+
+
+INPUTS = {
+    "closed": from_closed,
+    "a folder": from_folder,
+    "a file that is only written": from_written_file,
+    "an empty pipe that doesn't wait": from_pipe_that_does_not_wait,
+}
+
+
+def from_pipe(program, words, pieces):
+    """Runs the program on a pipe that gets these pieces, until it is closed at the other end."""
+    reader, writer = os.pipe()
+
+    def write():
+        try:
+            for piece in pieces:
+                os.write(writer, piece)
+        except BrokenPipeError:
+            pass
+        finally:
+            os.close(writer)
+
+    thread = threading.Thread(target=write)
+    thread.start()
+    try:
+        return program.run(words, stdin=reader)
+    finally:
+        os.close(reader)
+        thread.join()
+
+
+def endless():
+    """Lines of a comment without end."""
+    while True:
+        yield b"# no end\n" * 100
+
+
+def in_pieces(text, size):
+    return [text[at : at + size] for at in range(0, len(text), size)]
+
+
+def inputs(program):
+    """Standard input that can't be read (status 6), that has too much or no end (refused), that is empty, or that comes in pieces."""
+    for words in COMMANDS:
+        said = " ".join(words)
+        for kind, run in INPUTS.items():
+            yield f"input {kind}: {said}", failing(partial(run, program, words), "input")
+        for size in (MOST_BYTES + 1, 5 * MOST_BYTES):
+            yield f"input of {size} bytes: {said}", answering(partial(program.run, words, b" " * size), REFUSED, TOO_LONG)
+        from_device = partial(program.run_in_shell, 'exec "$@" </dev/zero', words)
+        yield f"input without end, from a device: {said}", answering(from_device, REFUSED, TOO_LONG)
+        yield f"input without end, from a pipe: {said}", answering(
+            partial(from_pipe, program, words, endless()), REFUSED, TOO_LONG
+        )
+        yield f"input empty: {said}", answering(partial(program.run, words), REFUSED, TOO_SHORT)
+        for name in EXAMPLES:
+            usual = program.run(words, text_of(name))
+            pieces = in_pieces(text_of(name), 7)
+            yield f"input in pieces: {name}: {said}", answering(
+                partial(from_pipe, program, words, pieces), usual.status, usual.output
+            )
+
+
+def errors(program):
+    """Standard error that takes nothing changes no answer; with all streams closed the status still says so."""
+    for name, words in itertools.product(EXAMPLES, [*COMMANDS, ["walk"], ["--help"]]):
+        usual = program.run(words, text_of(name))
+        for kind, script in (("closed", 'exec "$@" 2>&-'), ("full", 'exec "$@" 2>/dev/full')):
+            run = partial(program.run_in_shell, script, words, text_of(name))
+            yield f"standard error {kind}: {name}: {' '.join(words)}", answering(run, usual.status, usual.output)
+    for words in COMMANDS:
+        run = partial(program.run_in_shell, 'exec "$@" <&- >&- 2>&-', words, stderr=subprocess.DEVNULL)
+        yield f"all streams closed: {' '.join(words)}", answering(run, STREAM, b"")
+
+
+def streams(program):
+    for group in (outputs, early_ends, inputs, errors):
+        yield from group(program)
