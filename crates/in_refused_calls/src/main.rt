@@ -72,7 +72,7 @@ const COPIES: Small = Small {
 
 /// A tree of copies, at each of whose leaves a pair needs many agents: its run does rounds.
 const LEAVES: [&str; 3] = [
-    "type nat;\nsymbol Z : nat+;\nsymbol S : nat+ {nat-};\nsymbol Era : nat-;\nsymbol Grow : nat-;\nrule S[Era] >< Era[];\nrule Z[] >< Era[];\nrule S[Dup(a, b)] >< Grow[] with { a ~ Grow; b ~ Grow; };\nrule Z[] >< Grow[] with { Era ~ S(S(S(S(S(S(S(S(S(S(S(S(S(S(S(S(S(S(S(S(S(S(S(S(S(S(S(S(S(S(S(S(S(S(S(S(S(S(S(S(Z)))))))))))))))))))))))))))))))))))))))); Era ~ S(S(S(S(S(S(S(S(S(S(S(S(S(S(S(S(S(S(S(S(S(S(S(S(S(S(S(S(S(S(S(S(S(S(S(S(S(S(S(S(Z)))))))))))))))))))))))))))))))))))))))); };\n",
+    "type nat;\nsymbol Z : nat+;\nsymbol S : nat+ {nat-};\nsymbol Era : nat-;\nsymbol Grow : nat-;\nrule S[Era] >< Era[];\nrule Z[] >< Era[];\nrule S[Dup(a, b)] >< Grow[] with { a ~ Grow; b ~ Grow; };\nrule Z[] >< Grow[] with { Era ~ S(S(S(S(S(S(S(S(S(S(S(S(S(S(S(S(S(S(S(S(S(S(S(S(S(S(S(S(S(S(Z)))))))))))))))))))))))))))))); Era ~ S(S(S(S(S(S(S(S(S(S(S(S(S(S(S(S(S(S(S(S(S(S(S(S(S(S(S(S(S(S(Z)))))))))))))))))))))))))))))); };\n",
     DUPLICATION,
     "net () { Grow ~ S(S(S(S(S(S(S(S(S(S(S(S(Z)))))))))))); }\n",
 ];
