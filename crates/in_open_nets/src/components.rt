@@ -1,4 +1,4 @@
-ghost use Rattle.std.specs.Prelude.{◌≡◌, ◌<◌, length, IfOk, IsTrue, OnOk, false, ℕ};
+ghost use Rattle.std.specs.Prelude.{◌≡◌, ◌<◌, length, IfOk, IsTrue, OnOk, OnErr, false, ℕ};
 ghost use Rattle.in_open_nets.specs.Members.{IsUnion, missing, nodes_in};
 ghost use Rattle.in_open_nets.specs.Constructions.{IsIn};
 ghost use Rattle.in_open_nets.specs.Pieces.{IsLeftOf, IsPiece};
@@ -158,6 +158,7 @@ impl Done {
     pub fn clear(&mut self) -> Result<(), AllocError>
         ensures size { length self.new ≡ length self.old }
         ensures none { OnOk result ((n : ℕ) → nodes_in self.new n ≡ false) }
+        ensures refused { OnErr result (self.new ≡ self.old) }
     {
         self.tried = false;
         self.nodes.clear()
@@ -210,6 +211,7 @@ impl Done {
         ensures size { IfOk result (λ c. length c ≡ length part.now.wired.now.nodes) }
         ensures reached { IfOk result (IsReached part.now.wired.now part.now.nodes.now from) }
         ensures union { IfOk result (λ c. IsUnion c self.old self.new) }
+        ensures refused { OnErr result (self.new ≡ self.old) }
     {
         let is_piece = self.is_piece(alloc, part, node)?;
         let component = component(alloc, part, is_piece, &mut self.reached, from)?;

@@ -1,5 +1,5 @@
 //! Sets that are made once for a whole run, and emptied at one stroke.
-ghost use Rattle.std.specs.Prelude.{◌≡◌, ◌<◌, length, slice_set, IfOk, OnOk, false, true, ℕ};
+ghost use Rattle.std.specs.Prelude.{◌≡◌, ◌<◌, length, slice_set, IfOk, OnOk, OnErr, false, true, ℕ};
 ghost use Rattle.in_open_nets.specs.Members.{missing, nodes_in};
 
 use sqlite_items::Items;
@@ -101,6 +101,7 @@ impl Scratch {
     pub(crate) fn clear(&mut self) -> Result<(), AllocError>
         ensures size { length self.new ≡ length self.old }
         ensures none { OnOk result ((n : ℕ) → nodes_in self.new n ≡ false) }
+        ensures refused { OnErr result (self.new ≡ self.old) }
     {
         match self.last.checked_add(1) {
             Some(next) => {

@@ -1,4 +1,4 @@
-ghost use Rattle.std.specs.Prelude.{◌≡◌, ◌≤◌, length, map, None, Some};
+ghost use Rattle.std.specs.Prelude.{◌≡◌, ◌≤◌, ◌<◌, length, map, None, Some};
 ghost use Rattle.in_syntax.specs.Grammar.{max_ports};
 ghost use Rattle.in_syntax.specs.Parsing.{IsOfText};
 ghost use Rattle.in_symbols.specs.Names.{name_in};
@@ -118,6 +118,14 @@ impl Symbols {
         ensures { result ≡ length self.now.types }
     {
         self.types.len() as u32
+    }
+
+    /// The name of the type of this number.
+    pub fn type_name(&self, kind: u32) -> &str
+        requires { kind < length self.now.types }
+        ensures { result.now ≡ name_in kind self.now.types }
+    {
+        self.types.name(kind as usize)
     }
 
     /// How many symbols are declared.
