@@ -1,4 +1,4 @@
-ghost use Rattle.std.specs.Prelude.{Err, IfOk, IsTrue, MatchOption, Ok};
+ghost use Rattle.std.specs.Prelude.{◌≡◌, Err, IfOk, IsTrue, MatchOption, Ok, OnErr};
 ghost use Rattle.std.specs.List.{AllByRecursion};
 ghost use Rattle.in_syntax.specs.Order.{IsWrittenInOrder};
 ghost use Rattle.in_syntax.specs.Parsing.{IsOfText};
@@ -302,18 +302,23 @@ pub fn check(alloc: Global, text: &[u8]) -> Result<Checked, Fault>
 
 /// Why a program is refused, of which the tree is given: as `check` refuses a text of that tree; nothing where it is accepted. What was at
 /// hand then is put into `evidence`: the two ends of a wire whose types don't fit, or the open net that no steps build, with its first part
-/// in which no node splits. The only error is want of memory.
+/// in which no node splits. The only error is want of memory, and then `evidence` is as it was.
 pub fn refusal_of(
     alloc: Global,
     source: &Source,
     evidence: &mut Option<Evidence>,
 ) -> Result<Option<Refusal>, AllocError>
     requires { IsOfText source.now }
-    ensures { IfOk result (λ found. MatchOption found ((p : Program) × ChecksNames source.now (Ok p)) (λ r. ChecksNames source.now (Err (Refused r)))) }
+    ensures found { IfOk result (λ found. MatchOption found ((p : Program) × ChecksNames source.now (Ok p)) (λ r. ChecksNames source.now (Err (Refused r)))) }
+    ensures refused { OnErr result (evidence.new ≡ evidence.old) }
 {
-    match check_names(alloc, source, evidence).err() {
+    let mut at_hand = None;
+    match check_names(alloc, source, &mut at_hand).err() {
         None => Ok(None),
-        Some(Fault::Refused(refusal)) => Ok(Some(refusal)),
+        Some(Fault::Refused(refusal)) => {
+            *evidence = at_hand;
+            Ok(Some(refusal))
+        }
         Some(Fault::Memory(error)) => Err(error),
     }
 }

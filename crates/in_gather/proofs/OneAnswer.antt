@@ -1,9 +1,9 @@
 -- What is put and what is taken has one answer.
-use Rattle.std.proofs.Common.{◌≡◌, ℕ, Some, None, Ok, Err, slice_get, refl, sym, ap, ◌∙◌}
+use Rattle.std.proofs.Common.{◌≡◌, inl, inr, ℕ, Some, None, Ok, Err, slice_get, refl, sym, ap, ◌∙◌}
 use Rattle.in_gather.specs.Dones.{DoneParts}
 use Rattle.in_gather.specs.Gathers.{GatherParts, IsRefused}
 use Rattle.in_gather.specs.Laws.{PutsAreOne, TakesAreOne}
-use Rattle.in_gather.specs.declared.gather.Slot.TheVariants.{Fresh, Kept}
+use Rattle.in_gather.specs.declared.gather.Slot.TheVariants.{Fresh, Kept, Taken}
 use Rattle.in_gather.specs.declared.gather.Why.{Why}
 use Rattle.in_gather.specs.declared.gather.Why.TheVariants.{Double, Stranger}
 
@@ -15,7 +15,8 @@ one_why g d Double Stranger h k = absurd (k h.0)
 
 not_both : (g : GatherParts) (d : DoneParts) (w : Why) → IsRefused g d w → (slice_get g.jobs d.job ≡ Some d.heads) → (slice_get g.slots d.job ≡ Some Fresh) → ⊥
 not_both g d Stranger h has fresh = h has
-not_both g d Double h has fresh = h.1 fresh
+not_both g d Double (h, inl (e, kept)) has fresh = let f : Some Fresh ≡ Some (Kept e) = sym fresh ∙ kept in cc
+not_both g d Double (h, inr taken) has fresh = let f : Some Fresh ≡ Some Taken = sym fresh ∙ taken in cc
 
 pub puts_are_one : PutsAreOne
 puts_are_one g h i d (Ok u) (Ok v) a b = (refl, a.2 ∙ sym b.2)

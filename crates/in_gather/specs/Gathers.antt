@@ -1,5 +1,5 @@
 -- What was done for a job, what is kept for each job of a list, and what the calls change.
-use Rattle.std.specs.Prelude.{◌≡◌, ℕ, List, [], ◌∷◌, length, replicate, slice_get, slice_set, Option, Some, None, Result, Ok, Err}
+use Rattle.std.specs.Prelude.{◌≡◌, ◌⊎◌, ℕ, List, [], ◌∷◌, length, replicate, slice_get, slice_set, Option, Some, None, Result, Ok, Err}
 use Rattle.in_symbols.specs.declared.symbols.SymbolNo.{SymbolNo}
 use Rattle.in_arena.specs.Arenas.{ArenaView}
 use Rattle.in_gather.specs.declared.gather.Slot.{Slot}
@@ -34,6 +34,10 @@ HasJob g d = slice_get g.jobs d.job ≡ Some d.heads
 abbrev pub IsFresh : GatherParts → ℕ → Type 0
 IsFresh g job = slice_get g.slots job ≡ Some Fresh
 
+-- what was put for this job is kept, or was taken
+abbrev pub WasPut : GatherParts → ℕ → Type 0
+WasPut g job = ((d : DoneParts) × (slice_get g.slots job ≡ Some (Kept d))) ⊎ (slice_get g.slots job ≡ Some Taken)
+
 abbrev pub with_slot : GatherParts → ℕ → Slot → GatherParts
 with_slot g job s = record { jobs = g.jobs; slots = slice_set g.slots job s }
 
@@ -42,7 +46,7 @@ with_slot g job s = record { jobs = g.jobs; slots = slice_set g.slots job s }
 -- why it isn't kept: the list has no such job, which is tested first; or one of that job was put before
 abbrev pub IsRefused : GatherParts → DoneParts → Why → Type 0
 IsRefused g d Stranger = HasJob g d → ⊥
-IsRefused g d Double = HasJob g d × (IsFresh g d.job → ⊥)
+IsRefused g d Double = HasJob g d × WasPut g d.job
 
 -- it is kept where the list has its job and none of that job was put before; else it comes back, and nothing changes
 abbrev pub Puts : GatherParts → DoneParts → Result (Unit {0}) (DoneParts × Why) → GatherParts → Type 0

@@ -1,6 +1,7 @@
 // Where what was done is kept, by the numbers of the jobs.
-ghost use Rattle.std.specs.Prelude.{◌≡◌, true, false, [], IfOk, replicate, length, Some, slice_get};
-ghost use Rattle.in_gather.specs.declared.gather.Slot.TheVariants.{Fresh};
+ghost use Rattle.std.specs.Prelude.{◌≡◌, ◌⊎◌, ◌<◌, true, false, [], IfOk, replicate, length, Some, slice_get};
+ghost use Rattle.in_gather.specs.declared.gather.Slot.TheVariants.{Fresh, Kept, Taken};
+ghost use Rattle.in_gather.specs.Dones.{DoneParts};
 ghost use Rattle.in_gather.specs.Gathers.{bags_of, new_gather, Puts, Takes};
 ghost use Rattle.in_gather.specs.Holding.{AreBagsOf, Returns};
 
@@ -84,12 +85,13 @@ fn has_job(jobs: &[(SymbolNo, SymbolNo)], done: &Done) -> bool
 
 /// Whether nothing was put for the job, which is in the list.
 fn is_fresh(slots: &[Slot], job: u32) -> bool
+    requires { job < length slots.now }
     ensures yes { result ≡ true → slice_get slots.now job ≡ Some Fresh }
-    ensures other { result ≡ false → slice_get slots.now job ≡ Some Fresh → ⊥ }
+    ensures other { result ≡ false → ((d : DoneParts) × (slice_get slots.now job ≡ Some (Kept d))) ⊎ (slice_get slots.now job ≡ Some Taken) }
 {
-    match slots.get(job as usize) {
-        Some(Slot::Fresh) => true,
-        _ => false,
+    match &slots[job as usize] {
+        Slot::Fresh => true,
+        Slot::Kept(_) | Slot::Taken => false,
     }
 }
 

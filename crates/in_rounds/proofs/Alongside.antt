@@ -1,11 +1,9 @@
 -- What a run leaves of a machine: it is one, of the same program, which reaches its net by as many interactions more.
-use Rattle.std.proofs.Common.{◌≡◌, inl, inr, ◌+◌, ℕ, zero, suc, refl, subst, ◌∙◌, arith}
+use Rattle.std.proofs.Common.{◌≡◌, ◌+◌, ℕ, zero, suc, refl, subst, ◌∙◌, arith}
 use Rattle.in_check.specs.Plain.{IsReachedBy}
 use Rattle.in_reducer.specs.Machines.{MachineParts, plain_of}
-use Rattle.in_reducer.specs.Runs.{IsFront, Runs, at_start, then_step}
+use Rattle.in_reducer.specs.Runs.{Runs, at_start, then_step}
 use Rattle.in_rounds.specs.Machines.{IsMachine}
-use Rattle.in_rounds.specs.Rounds.{IsRound}
-use Rattle.in_rounds.proofs.Rounded.{rounds_end}
 use Rattle.in_rounds.proofs.StepsOn.{machine_on, steps_on}
 
 pub record Along (m n : MachineParts) (k : ℕ) : Type 0 where
@@ -22,7 +20,3 @@ along m o (suc k) h (then_step _ n _ _ before s) =
       program = s.step.program ∙ a.program;
       reached = λ j r. subst (IsReachedBy (plain_of o)) (let z : suc (k + j) ≡ suc k + j = omega arith in z) ((steps_on n o 0 a.machine s).1 (k + j) (a.reached j r));
     }
-
--- who does the first pairs in turn does a round
-pub is_round : (m n : MachineParts) (budget k : ℕ) → IsMachine m → IsFront m budget n k → IsRound m budget n k
-is_round m n budget k h f = rounds_end m n budget k h f.run f.some f.most (λ other room. elim f.ends [ inl e ↦ other e | inr none ↦ none room ])

@@ -4,6 +4,7 @@ pub mod ListedAgents
 pub mod OneEnd
 pub mod Rounded
 pub mod SameKind
+pub mod SameRound
 pub mod SameRun
 pub mod SameStart
 pub mod SameStep

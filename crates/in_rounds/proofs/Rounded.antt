@@ -1,5 +1,5 @@
 -- Rounds: while the first pairs of a queue are taken in turn, those behind them stay as they are, and their cells stay free.
-use Rattle.std.proofs.Common.{◌≡◌, ◌≢◌, ◌⊎◌, inl, inr, ◌<◌, ◌≤◌, ◌+◌, ◌-◌, ℕ, zero, suc, Some, List, [], ◌∷◌, ◌++◌, length, map, drop, remove, slice_get, append_assoc, refl, sym, ap, subst, ◌∙◌, arith}
+use Rattle.std.proofs.Common.{◌≡◌, ◌⊎◌, inl, inr, ◌<◌, ◌≤◌, ◌+◌, ◌-◌, ℕ, zero, suc, Some, List, [], ◌∷◌, ◌++◌, length, map, drop, remove, slice_get, append_assoc, refl, sym, ap, subst, ◌∙◌, arith}
 use Rattle.std.proofs.lemmas.List.{append-nil}
 use Rattle.std.proofs.lemmas.Option.{slice_get_within}
 use Rattle.in_arena.specs.declared.content.CellClass.{CellClass}
@@ -16,7 +16,7 @@ use Rattle.in_reducer.specs.Machines.{MachineParts, parts_of}
 use Rattle.in_rounds.specs.Machines.{IsMachine}
 use Rattle.in_rounds.specs.Rounds.{NeedTogether, none, then_next, HasRoomFor, IsRound}
 use Rattle.in_reducer.specs.Steps.{NeedsAt, HasRoomAt, StepsAt}
-use Rattle.in_reducer.specs.Runs.{Runs, at_start, then_step, jobs_of}
+use Rattle.in_reducer.specs.Runs.{IsFront, Runs, at_start, then_step, jobs_of}
 use Rattle.in_rounds.proofs.AsMany.{no_more_than}
 use Rattle.in_reducer.proofs.Requeued.{other_pair}
 use Rattle.in_rounds.proofs.SameRun.{rule_at}
@@ -178,16 +178,14 @@ pub joined : (a b c : MachineParts) (j k : ℕ) → Runs a j b → Runs b k c �
 joined a b c j zero run (at_start _) = subst (λ (i : ℕ). Runs a i b) (let z : j ≡ 0 + j = omega arith in z) run
 joined a b c j (suc k) run (then_step _ n _ _ before s) = subst (λ (i : ℕ). Runs a i c) (let z : suc (k + j) ≡ suc k + j = omega arith in z) (then_step a n c (k + j) (joined a b n j k run before) s)
 
-pub rounds_end : (m n : MachineParts) (budget k : ℕ) → IsMachine m → Runs m k n → 1 ≤ k → k ≤ jobs_of m budget → (k ≢ jobs_of m budget → HasRoomAt n 0 → ⊥) → IsRound m budget n k
-rounds_end m n budget k h run some most stopped = record {
-  run = run;
-  some = some;
-  most = most;
-  all = λ room. elim (let c : (k < jobs_of m budget) ⊎ (k ≡ jobs_of m budget) = grind (arith, most) in c) [
-    | inl less ↦ absurd (stopped (λ e. omega (arith, e, less)) (room_lasts m n k (jobs_of m budget) h room run less))
-    | inr e ↦ e
-  ];
-}
+pub rounds_end : (m n : MachineParts) (budget k : ℕ) → IsMachine m → IsFront m budget n k → IsRound m budget n k
+rounds_end m n budget k h f = record { front = f; all = λ room. (elim f.ends [ inl e ↦ e | inr none ↦ ended room none ]) }
+  where
+    ended : HasRoomFor m (jobs_of m budget) → (HasRoomAt n 0 → ⊥) → k ≡ jobs_of m budget
+    ended room none = let most = f.most in elim (let c : (k < jobs_of m budget) ⊎ (k ≡ jobs_of m budget) = grind (arith, most) in c) [
+      | inl less ↦ absurd (none (room_lasts m n k (jobs_of m budget) h room f.run less))
+      | inr e ↦ e
+    ]
 
 pub runs_on : (start m n : MachineParts) (limit j k : ℕ) → Runs start j m → j < limit → IsRound m (limit - j) n k → Runs start (k + j) n × (k + j ≤ limit) × (j < k + j)
-runs_on start m n limit j k run l h = (joined start m n j k run h.run, (let a = h.most in omega (arith, a, l)), (let b = h.some in omega (arith, b)))
+runs_on start m n limit j k run l h = (joined start m n j k run h.front.run, (let a = h.front.most in omega (arith, a, l)), (let b = h.front.some in omega (arith, b)))

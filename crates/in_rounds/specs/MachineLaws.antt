@@ -1,5 +1,5 @@
 -- Laws over machines and their runs.
-use Rattle.std.specs.Prelude.{◌≡◌, ◌≢◌, ◌<◌, ◌≤◌, ◌+◌, ◌-◌, ◌++◌, ℕ, suc, List, [], length, map, drop}
+use Rattle.std.specs.Prelude.{◌≡◌, ◌<◌, ◌≤◌, ◌+◌, ◌-◌, ◌++◌, ℕ, suc, List, [], length, map, drop}
 use Rattle.in_net.specs.Nets.{net_of}
 use Rattle.in_check.specs.Checking.{IsAccepted}
 use Rattle.in_check.specs.NetText.{IsQueue}
@@ -15,7 +15,7 @@ use Rattle.in_rounds.specs.Machines.{IsMachine}
 use Rattle.in_rounds.specs.Rounds.{HasRoomFor, IsRound}
 use Rattle.in_reducer.specs.Steps.{HasRoomAt, StepsAt}
 use Rattle.in_reducer.specs.Starts.{IsStart}
-use Rattle.in_reducer.specs.Runs.{Runs, jobs_of}
+use Rattle.in_reducer.specs.Runs.{IsFront, Runs}
 use Rattle.in_rounds.specs.Same.{AreSame}
 use Rattle.in_rounds.specs.Texts.{text_of}
 
@@ -73,7 +73,12 @@ QueuesMoveUp = (m n : MachineParts) (j : ℕ) → Runs m j n → j ≤ length m.
 
 -- who takes the first pairs in turn until there are no more jobs, or no room for the next one, does a round
 abbrev pub RoundsEnd : Type 0
-RoundsEnd = (m n : MachineParts) (budget k : ℕ) → IsMachine m → Runs m k n → 1 ≤ k → k ≤ jobs_of m budget → (k ≢ jobs_of m budget → HasRoomAt n 0 → ⊥) → IsRound m budget n k
+RoundsEnd = (m n : MachineParts) (budget k : ℕ) → IsMachine m → IsFront m budget n k → IsRound m budget n k
+
+-- rounds of machines that are the same up to numbers, with one budget, have one count, and leave machines that are the same
+abbrev pub RoundsAreSame : Type 0
+RoundsAreSame = (start other m n : MachineParts) (budget j k : ℕ) → IsMachine start → IsMachine other → AreSame start other → IsRound start budget m j → IsRound other budget n k →
+    AreSame m n × (j ≡ k)
 
 -- a round after a run is a longer run, within its limit
 abbrev pub RoundsRunOn : Type 0

@@ -1,12 +1,12 @@
 -- Several interactions at once, as workers do them: they are those of the first pairs of the queue, one after another. What is free for all
 -- of these pairs together is free for each in its turn. This project's own choice.
-use Rattle.std.specs.Prelude.{◌≡◌, ◌≤◌, ◌+◌, ℕ, zero, suc}
+use Rattle.std.specs.Prelude.{◌≡◌, ◌+◌, ℕ, zero, suc}
 use Rattle.in_arena.specs.declared.content.CellClass.{CellClass}
 use Rattle.in_compile.specs.declared.cells.Need.{Need}
 use Rattle.in_compile.specs.Cells.{count_of, IsEnough}
 use Rattle.in_reducer.specs.Machines.{MachineParts}
 use Rattle.in_reducer.specs.Steps.{NeedsAt}
-use Rattle.in_reducer.specs.Runs.{Runs, jobs_of}
+use Rattle.in_reducer.specs.Runs.{IsFront, jobs_of}
 
 -- the first so many pairs need so many cells of each class together
 pub data NeedTogether (m : MachineParts) : ℕ → (CellClass → ℕ) → Type 0 where
@@ -17,9 +17,8 @@ pub data NeedTogether (m : MachineParts) : ℕ → (CellClass → ℕ) → Type 
 abbrev pub HasRoomFor : MachineParts → ℕ → Type 0
 HasRoomFor m k = (sum : CellClass → ℕ) × NeedTogether m k sum × IsEnough sum (count_of m.vacant)
 
--- what a round did: so many interactions, first in, first out, one at least, and all of its jobs where there is room for them together
+-- what a round did: the first so many pairs of the queue in turn, until no job was left, or no room for the next one; and so all of its
+-- jobs where there is room for them together
 pub record IsRound (m : MachineParts) (budget : ℕ) (after : MachineParts) (k : ℕ) : Type 0 where
-  pub run : Runs m k after
-  pub some : 1 ≤ k
-  pub most : k ≤ jobs_of m budget
+  pub front : IsFront m budget after k
   pub all : HasRoomFor m (jobs_of m budget) → k ≡ jobs_of m budget

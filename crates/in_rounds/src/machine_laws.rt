@@ -1,6 +1,6 @@
 //! Laws over machines and their runs, for whoever reasons above them. No function here does anything.
 
-ghost use Rattle.in_rounds.specs.MachineLaws.{AreSameIsAnEquivalence, MachinesAsPromised, NormalEndsAreOne, QueuesAreQueues, QueuesMoveUp, RoomLasts, RoundsEnd, RoundsRunOn, RunsKeepSame, RunsReach, StartsAreMachines, StartsAreSame, StepsKeepMachines, StepsKeepSame};
+ghost use Rattle.in_rounds.specs.MachineLaws.{AreSameIsAnEquivalence, MachinesAsPromised, NormalEndsAreOne, QueuesAreQueues, QueuesMoveUp, RoomLasts, RoundsAreSame, RoundsEnd, RoundsRunOn, RunsKeepSame, RunsReach, StartsAreMachines, StartsAreSame, StepsKeepMachines, StepsKeepSame};
 
 /// What a machine shows is as promised: typed, with one rule for each active pair, without crossing circle or vicious one, with an end
 /// to each interaction, leading on from each agent, and written whole.
@@ -68,6 +68,11 @@ pub fn queues_move_up()
 /// Who takes the first pairs in turn until there are no more jobs, or no room for the next one, does a round.
 pub fn rounds_end()
     ensures { RoundsEnd }
+{}
+
+/// Rounds of machines that are the same up to the numbers of their agents, with one budget, have one count, and leave machines that are.
+pub fn rounds_are_same()
+    ensures { RoundsAreSame }
 {}
 
 /// A round after a run is a longer run, within its limit.

@@ -7,7 +7,8 @@ use Rattle.in_reducer.specs.Machines.{MachineParts, plain_of}
 use Rattle.in_reducer.specs.Runs.{IsFront}
 use Rattle.in_rounds.specs.Machines.{IsMachine}
 use Rattle.in_rounds.specs.Rounds.{IsRound}
-use Rattle.in_rounds.proofs.Alongside.{along, is_round}
+use Rattle.in_rounds.proofs.Alongside.{along}
+use Rattle.in_rounds.proofs.Rounded.{rounds_end}
 use Rattle.in_rounds.proofs.rounds.round.Goals as goal
 
 -- what is kept, whether the round was done or not
@@ -16,7 +17,7 @@ kept m n ts budget (Ok r) h of front same = let a = along m n r.interactions h f
 kept m n ts budget (Err e) h of front same = subst (λ (z : MachineParts). IsMachine z × AreTemplatesOf z.program ts) (sym same) (h, of)
 
 round_by : {E : Type 0} (m n : MachineParts) (budget : ℕ) (o : Result Round E) → IsMachine m → IfOk o (λ r. IsFront m budget n r.interactions) → IfOk o (λ r. IsRound m budget n r.interactions)
-round_by m n budget (Ok r) h front = is_round m n budget r.interactions h front
+round_by m n budget (Ok r) h front = rounds_end m n budget r.interactions h front
 round_by m n budget (Err e) h front = tt
 
 counted_by : {E : Type 0} (m n : MachineParts) (budget : ℕ) (o : Result Round E) → IsMachine m → IfOk o (λ r. IsFront m budget n r.interactions)
