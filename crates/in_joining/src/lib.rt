@@ -7,3 +7,5 @@ mod pairing;
 mod writing;
 
 pub use joining::join_all;
+pub use pairing::add_pair;
+pub use writing::exchange;

@@ -9,3 +9,4 @@ mod runs;
 mod steps;
 
 pub use acting::{Status, act, report, tell_usage};
+pub use runs::{run_lines, start_line};

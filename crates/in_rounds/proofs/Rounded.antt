@@ -179,11 +179,11 @@ joined a b c j zero run (at_start _) = subst (λ (i : ℕ). Runs a i b) (let z :
 joined a b c j (suc k) run (then_step _ n _ _ before s) = subst (λ (i : ℕ). Runs a i c) (let z : suc (k + j) ≡ suc k + j = omega arith in z) (then_step a n c (k + j) (joined a b n j k run before) s)
 
 pub rounds_end : (m n : MachineParts) (budget k : ℕ) → IsMachine m → IsFront m budget n k → IsRound m budget n k
-rounds_end m n budget k h f = record { front = f; all = λ room. (elim f.ends [ inl e ↦ e | inr none ↦ ended room none ]) }
+rounds_end m n budget k h f = record { front = f; all = λ room. (elim f.ends [ inl e ↦ e | inr stuck ↦ ended room stuck ]) }
   where
     ended : HasRoomFor m (jobs_of m budget) → (HasRoomAt n 0 → ⊥) → k ≡ jobs_of m budget
-    ended room none = let most = f.most in elim (let c : (k < jobs_of m budget) ⊎ (k ≡ jobs_of m budget) = grind (arith, most) in c) [
-      | inl less ↦ absurd (none (room_lasts m n k (jobs_of m budget) h room f.run less))
+    ended room stuck = let most = f.most in elim (let c : (k < jobs_of m budget) ⊎ (k ≡ jobs_of m budget) = grind (arith, most) in c) [
+      | inl less ↦ absurd (stuck (room_lasts m n k (jobs_of m budget) h room f.run less))
       | inr e ↦ e
     ]
 

@@ -13,7 +13,7 @@ use Rattle.in_rounds.proofs.SameKind.{an_equivalence}
 use Rattle.in_rounds.proofs.SameRun.{machine_runs, passes, room_moved, same_run}
 
 same_jobs : (m n : MachineParts) (budget : ℕ) → AreSame m n → jobs_of m budget ≡ jobs_of n budget
-same_jobs m n budget (f, same) = ap (λ (z : ℕ). min z budget) (sym (ap length same.queue ∙ length-map (both f) m.queue))
+same_jobs m n budget (f, same) = ap (λ (z : ℕ). min z budget) (sym (ap length same.queue ∙ length-map m.queue (both f)))
 
 -- a front is no shorter than another one of a machine that is the same
 not_shorter : (start other m n : MachineParts) (budget j k : ℕ) → IsMachine start → IsMachine other → AreSame start other → IsFront start budget m j → IsFront other budget n k → j < k → ⊥

@@ -8,12 +8,13 @@ use Rattle.in_run.specs.declared.limits.Limits.{Limits}
 use Rattle.in_run.specs.declared.running.RunFault.TheVariants.{Start, Memory}
 use Rattle.in_run.specs.declared.stops.Stop.{Stop}
 use Rattle.in_run.specs.Laws.{TurnsAreAllowed}
-use Rattle.in_run.specs.Outcomes.{ReachesWith, RunsTo}
+use Rattle.in_run.specs.Outcomes.{ReachesWith, RunsInTurn, RunsTo}
 use Rattle.in_run.specs.Stops.{GoesOn, IsStop}
 use Rattle.in_reducer.specs.Machines.{MachineParts, HasCells, plain_of}
 use Rattle.in_reducer.specs.Starts.{IsStart}
 use Rattle.in_rounds.specs.Machines.{IsMachine}
 use Rattle.in_reducer.specs.Runs.{Runs, at_start, then_step}
+use Rattle.in_reducer.specs.Steps.{StepsAt}
 use Rattle.in_rounds.proofs.OneEnd.{program_kept}
 use Rattle.in_rounds.proofs.Rounded.{joined}
 use Rattle.in_rounds.proofs.SameRun.{machine_runs, run_keeps}
@@ -101,3 +102,26 @@ module _ (p : Program) (l : Limits) (k : ℕ) (m : MachineParts) (h : IsOnItsWay
 
   pub wants_memory : GoesOn l.limit m k → RunsTo p l (Err (Memory m k))
   wants_memory goes = ((h.reaches, goes), λ one. (h.start, h.starts, h.in_turn one, goes))
+
+-- ---- in turn, whatever workers there are
+
+pub record IsInTurn (p : Program) (l : Limits) (k : ℕ) (m : MachineParts) : Type 0 where
+  pub start : MachineParts
+  pub starts : IsStart p l.cells start
+  pub run : Runs start k m
+  pub within : k ≤ l.limit
+
+pub begins_in_turn : (p : Program) (l : Limits) (m : MachineParts) → IsStart p l.cells m → IsInTurn p l 0 m
+begins_in_turn p l m h = record { start = m; starts = h; run = at_start m; within = omega arith }
+
+pub ends_in_turn : (p : Program) (l : Limits) (k : ℕ) (m : MachineParts) → IsInTurn p l k m → (s : Stop) → IsStop l.limit m k s → RunsInTurn p l (Ok (record { machine = m; interactions = k; stop = s }))
+ends_in_turn p l k m h s stop = (h.start, h.starts, record { run = h.run; within = h.within; stop = stop })
+
+-- one interaction more, where one is next
+pub steps_in_turn : (p : Program) (l : Limits) (k : ℕ) (m n : MachineParts) → IsInTurn p l k m → (limit : ℕ) → limit ≡ l.limit → GoesOn limit m k → StepsAt m 0 n → IsInTurn p l (k + 1) n
+steps_in_turn p l k m n h limit is goes s = record {
+  start = h.start;
+  starts = h.starts;
+  run = subst (λ i. Runs h.start i n) (let z : suc k ≡ k + 1 = omega arith in z) (then_step h.start m n k h.run s);
+  within = (let g = goes.1 in omega (arith, g, is));
+}

@@ -10,6 +10,7 @@ use Rattle.in_reducer.specs.Machines.{MachineParts, HasCells, plain_of}
 use Rattle.in_reducer.specs.Starts.{IsStart}
 use Rattle.in_rounds.specs.Machines.{IsMachine}
 use Rattle.in_rounds.specs.Starts.{IsNoStart}
+use Rattle.in_rounds.specs.declared.starting.StartFault.{StartFault}
 use Rattle.in_reducer.specs.Runs.{Runs}
 use Rattle.in_run.specs.Stops.{GoesOn, IsOutcome, IsStop}
 
@@ -43,3 +44,8 @@ RunsInTurn p l (Err (Memory m k)) = (start : MachineParts) × IsStart p l.cells 
 -- how several workers share the interactions, and so in which order these come, is open; one worker does them in turn
 abbrev pub RunsTo : Program → Limits → Result Outcome RunFault → Type 0
 RunsTo p l r = RunsInAnyOrder p l r × (l.workers ≡ 1 → RunsInTurn p l r)
+
+-- what is refused at its start alone
+abbrev pub at_start : Result Outcome StartFault → Result Outcome RunFault
+at_start (Ok o) = Ok o
+at_start (Err f) = Err (Start f)

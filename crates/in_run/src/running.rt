@@ -1,16 +1,16 @@
 // A run: with one worker first in, first out.
-ghost use Rattle.std.specs.Prelude.{◌≡◌, ◌≤◌, IfOk, MatchOption};
+ghost use Rattle.std.specs.Prelude.{◌≡◌, IfOk};
 ghost use Rattle.in_order.specs.Ends.{EndsOnce};
 ghost use Rattle.in_run.specs.declared.stops.Stop.TheVariants.{Normal};
 ghost use Rattle.in_run.specs.Outcomes.{RunsTo};
-ghost use Rattle.in_run.specs.Stops.{IsStop, GoesOn};
 ghost use Rattle.in_rounds.specs.Texts.{text_of};
 
 use crate::advancing::advance;
 use crate::limits::Limits;
+use crate::next::stop;
 use crate::stops::Stop;
 use in_check::Checked;
-use in_rounds::{CellClass, Gate, Machine, Need, StartFault};
+use in_rounds::{Gate, Machine, StartFault};
 use std::alloc::Global;
 use std::sync::Wait;
 use std::thread::Threads;
@@ -31,37 +31,6 @@ pub enum RunFault<'a> {
         machine: Machine<'a>,
         interactions: u64,
     },
-}
-
-/// How many cells of each class are free.
-fn vacant(machine: &Machine) -> Need
-    ensures { result ≡ machine.now.vacant }
-{
-    Need {
-        small: machine.free(CellClass::Small),
-        large: machine.free(CellClass::Large),
-        wide: machine.free(CellClass::Wide),
-    }
-}
-
-/// Why no interaction of the first pair is next, after so many interactions.
-fn stop(machine: &Machine, limit: u64, interactions: u64) -> Option<Stop>
-    requires { interactions ≤ limit }
-    ensures { MatchOption result (GoesOn limit machine.now interactions) (IsStop limit machine.now interactions) }
-{
-    if machine.pairs() == 0 {
-        return Some(Stop::Normal);
-    }
-    if interactions == limit {
-        return Some(Stop::Limit);
-    }
-    let need = machine.need_of(0);
-    let class = need.first_short(vacant(machine))?;
-    Some(Stop::Full {
-        class,
-        need: need.of(class),
-        free: machine.free(class),
-    })
 }
 
 /// Runs a program. With one worker it does so first in, first out: each interaction is at the first pair of the queue, and its new pairs come

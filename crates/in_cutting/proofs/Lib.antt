@@ -1,0 +1,2 @@
+pub mod CutInCells
+pub mod JoinedInCells

@@ -1,0 +1,40 @@
+// A run without threads: first in, first out.
+ghost use Rattle.std.specs.Prelude.{◌≡◌, IfOk};
+ghost use Rattle.in_order.specs.Ends.{EndsOnce};
+ghost use Rattle.in_run.specs.declared.stops.Stop.TheVariants.{Normal};
+ghost use Rattle.in_run.specs.Outcomes.{RunsInTurn, RunsTo, at_start};
+ghost use Rattle.in_rounds.specs.Texts.{text_of};
+
+use crate::limits::Limits;
+use crate::next::stop;
+use crate::running::Outcome;
+use in_check::Checked;
+use in_rounds::{Machine, StartFault};
+use std::alloc::Global;
+
+/// Runs a program first in, first out, as `run` does with one worker, whatever number of workers the limits have: for who has no runtime to
+/// start threads with. It stops as `run` does. Refused only where no machine starts, since an interaction takes no memory.
+pub fn run_in_turn<'a>(
+    alloc: Global,
+    checked: &'a Checked,
+    limits: Limits,
+) -> Result<Outcome<'a>, StartFault>
+    ensures turn { RunsInTurn checked.now limits (at_start result) }
+    ensures runs { RunsTo checked.now limits (at_start result) }
+    ensures order { IfOk result (λ o. o.stop ≡ Normal → EndsOnce checked.now o.interactions (text_of o.machine)) }
+{
+    checked.is_accepted();
+    let mut machine = Machine::new(alloc, checked, limits.cells())?;
+    let mut interactions = 0;
+    loop {
+        if let Some(stop) = stop(&machine, limits.limit(), interactions) {
+            return Ok(Outcome {
+                machine,
+                interactions,
+                stop,
+            });
+        }
+        machine.step(0);
+        interactions += 1;
+    }
+}
