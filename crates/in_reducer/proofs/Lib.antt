@@ -3,6 +3,7 @@ pub mod AtRest
 pub mod Begun
 pub mod Besides
 pub mod Counted
+pub mod CutOff
 pub mod Finished
 pub mod Found
 pub mod Laid
@@ -12,6 +13,7 @@ pub mod Ordered
 pub mod Putting
 pub mod Queued
 pub mod Queues
+pub mod Rejoined
 pub mod Requeued
 pub mod SetUp
 pub mod Settled
@@ -23,3 +25,4 @@ pub mod Started
 pub mod Stepped
 pub mod StepsOn
 pub mod StillNet
+pub mod Undone

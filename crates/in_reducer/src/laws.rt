@@ -1,5 +1,6 @@
 //! Laws over reducers, for whoever reasons above them. No function here does anything.
 
+ghost use Rattle.in_reducer.specs.Cutting.{JointsUndoCuts};
 ghost use Rattle.in_reducer.specs.Laws.{ReducersAsPromised, StepsKeepReducers, StartsAreReducers};
 
 /// What a reducer shows is as promised: typed, with one rule for each active pair, without crossing circle or vicious one, with an end
@@ -16,4 +17,10 @@ pub fn steps_keep_reducers()
 /// A start of an accepted program is a reducer: what is said of reducers holds of it.
 pub fn starts_are_reducers()
     ensures { StartsAreReducers }
+{}
+
+/// Where a wire is cut, and only interactions are done since, the two ends can be joined again, and the net before the cut leads to what that
+/// makes, by as many interactions: so `join_last` may be called, and the count stays right.
+pub fn joints_undo_cuts()
+    ensures { JointsUndoCuts }
 {}

@@ -3,12 +3,14 @@
 #![tactic(auto)]
 
 mod body;
+mod cutting;
 mod interacting;
 pub mod laws;
 mod looking;
 mod placing;
 mod queueing;
 mod reducer;
+mod rejoining;
 mod round;
 mod rounding;
 mod sides;
