@@ -7,8 +7,11 @@ use in_reports::{Braces, Report, declaration_with, text_with};
 use in_syntax::{Fault, SourceSymbol};
 use std::alloc::{AllocError, Global};
 
-/// How many declarations are tried at most. Each takes a check.
+/// How many declarations are tried at most. Each takes a check, which may go further than the one that refused the text.
 pub(crate) const MOST_TRIED: usize = 4;
+
+/// How many bytes are checked at most for all that are tried, so that a diagnosis takes no more than some checks.
+const MOST_CHECKED: usize = 32_768;
 
 /// A symbol with other braces.
 #[derive(Clone, Copy)]
@@ -94,10 +97,18 @@ fn first_that_helps(
     Ok(None)
 }
 
-/// What helps where no declaration that was tried does.
-fn help_without(remedies: &[Remedy]) -> &'static str {
-    if remedies.is_empty() {
+/// Of some remedies those that are tried of a text.
+fn tried<'r, 'a>(text: &[u8], remedies: &'r [Remedy<'a>]) -> &'r [Remedy<'a>] {
+    let most = MOST_CHECKED.checked_div(text.len()).unwrap_or(0);
+    remedies.get(..most).unwrap_or(remedies)
+}
+
+/// What helps where no declaration does, of so many remedies and so many that were tried.
+fn help_without(remedies: usize, tried: usize) -> &'static str {
+    if remedies == 0 {
         "no braces mend this circle: join ports of different braces to parts that have nothing to do with each other"
+    } else if tried == 0 {
+        "join ports of different braces to parts that have nothing to do with each other"
     } else {
         "no braces that were tried mend this circle: join ports of different braces to parts that have nothing to do with each other"
     }
@@ -105,7 +116,8 @@ fn help_without(remedies: &[Remedy]) -> &'static str {
 
 /// Adds what helps: the first of these remedies with which the text is accepted, what no steps build being this.
 pub(crate) fn add_help(report: &mut Report, remedies: &[Remedy], what: &str) {
-    match first_that_helps(report.alloc, report.text(), remedies) {
+    let tried = tried(report.text(), remedies);
+    match first_that_helps(report.alloc, report.text(), tried) {
         Ok(Some(declaration)) => {
             report.say("help: with `symbol ");
             report.say(declaration.as_str());
@@ -113,7 +125,7 @@ pub(crate) fn add_help(report: &mut Report, remedies: &[Remedy], what: &str) {
             report.say(what);
             report.say(" is built, and the program is accepted\n");
         }
-        Ok(None) => report.help(help_without(remedies)),
+        Ok(None) => report.help(help_without(remedies.len(), tried.len())),
         Err(error) => report.fail(error),
     }
 }
