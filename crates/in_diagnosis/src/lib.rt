@@ -3,6 +3,7 @@
 #![tactic(auto)]
 
 mod circles;
+mod remedies;
 mod stuck;
 mod telling;
 mod wires;

@@ -1,8 +1,9 @@
 //! Rules and nets that no steps build: the first part in which no node splits, and a circle in it.
 use crate::circles::{Circle, Field, Wires};
+use crate::remedies::{MOST_TRIED, Remedy, add_help, add_remedy};
 use in_check::StuckPart;
 use in_open_nets::{Node, OpenNet};
-use in_reports::{Report, add_braces, help_apart, say_node_at, say_port_of};
+use in_reports::{Report, add_braces, changed_braces, say_node_at, say_port_of};
 use in_syntax::{Place, Source, SourceSymbol};
 use std::alloc::{AllocError, Global};
 
@@ -11,6 +12,9 @@ const MOST_TOLD: usize = 6;
 
 /// How many of the first nodes of a longer list are told. Its last one is told too.
 const FIRST_TOLD: usize = 4;
+
+/// On a way of so many nodes the line of the text is shown for each.
+const MOST_SHOWN: usize = 3;
 
 /// Whether the node of this number in a list of so many is told.
 fn is_told(index: usize, count: usize) -> bool {
@@ -73,10 +77,9 @@ fn before_node(index: usize, count: usize) -> &'static str {
     }
 }
 
-/// The nodes of the part, in words; of many nodes the first ones and the last one, and how many others there are.
-fn add_part(report: &mut Report, source: &Source, open: &OpenNet, nodes: &[u32]) {
+/// Nodes, in words; of many nodes the first ones and the last one, and how many others there are.
+fn say_nodes(report: &mut Report, source: &Source, open: &OpenNet, nodes: &[u32]) {
     let count = nodes.len();
-    report.say("note: no node of this part can be built last: ");
     for (index, node) in nodes.iter().enumerate() {
         if is_told(index, count) {
             report.say(before_node(index, count));
@@ -85,42 +88,31 @@ fn add_part(report: &mut Report, source: &Source, open: &OpenNet, nodes: &[u32])
             report.say_number(", ", left_out(count), " more");
         }
     }
+}
+
+/// The nodes of the part.
+fn add_part(report: &mut Report, source: &Source, open: &OpenNet, nodes: &[u32]) {
+    report.say("note: none of these can be built last: ");
+    say_nodes(report, source, open, nodes);
     report.end();
 }
 
-/// What stands before the node of this number on a way of so many.
-fn before_passed(index: usize, count: usize) -> &'static str {
-    if count > MOST_TOLD && index >= FIRST_TOLD {
-        " and through "
-    } else {
-        " through "
-    }
-}
-
-/// The nodes on the way of a circle, in words; of many nodes those that are told of a part.
-fn say_way(report: &mut Report, field: Field, way: &[u32]) {
-    let count = way.len();
-    for (index, next) in way.iter().enumerate() {
-        if is_told(index, count) {
-            report.say(before_passed(index, count));
-            say_node(report, field.source, field.open, *next);
-        } else if index == FIRST_TOLD {
-            report.say_number(" through ", left_out(count), " more");
-        }
-    }
+/// The nodes on the way of a circle, in words.
+fn add_way_words(report: &mut Report, field: Field, way: &[u32]) {
+    report.say("note: on its way are ");
+    say_nodes(report, field.source, field.open, way);
+    report.end();
 }
 
 /// A circle through a node of this symbol, in words.
 fn add_circle_words(
     report: &mut Report,
-    field: Field,
     symbol: &SourceSymbol,
     class: Option<usize>,
     circle: &Circle,
 ) {
     report.say("note: a circle leads from ");
     say_port_of(report, symbol, class, circle.first);
-    say_way(report, field, circle.way.as_slice());
     report.say(" back to ");
     say_port_of(report, symbol, class, circle.second);
     report.end();
@@ -133,12 +125,19 @@ fn add_place(report: &mut Report, open: &OpenNet, node: u32) {
     }
 }
 
-/// The lines of the text in which the nodes of a circle stand that are told.
+/// The lines of the text in which the nodes on the way of a circle stand.
 fn add_places(report: &mut Report, open: &OpenNet, way: &[u32]) {
-    for (index, node) in way.iter().enumerate() {
-        if is_told(index, way.len()) {
-            add_place(report, open, *node);
-        }
+    for node in way {
+        add_place(report, open, *node);
+    }
+}
+
+/// The nodes on the way of a circle: where they are few, with the lines of the text in which they stand.
+fn add_way(report: &mut Report, field: Field, way: &[u32]) {
+    if way.len() <= MOST_SHOWN {
+        add_places(report, field.open, way);
+    } else {
+        add_way_words(report, field, way);
     }
 }
 
@@ -223,35 +222,86 @@ fn others(
     Ok(part)
 }
 
+/// One more remedy to try: other braces for the symbol of a node that is passed by these ports.
+fn add_remedy_at<'a>(
+    remedies: &mut Vec<Remedy<'a>>,
+    source: &'a Source,
+    open: &OpenNet,
+    node: u32,
+    ports: (u8, u8),
+) -> Result<(), AllocError> {
+    if let Some((symbol, class)) = symbol_of(source, open, node) {
+        if let Some(braces) = changed_braces(symbol, class, ports) {
+            add_remedy(remedies, Remedy { symbol, braces })?;
+        }
+    }
+    Ok(())
+}
+
+/// The remedies to try for a circle through a node: other braces for each node that it passes, as far as there is room.
+fn remedies_for<'a>(
+    alloc: Global,
+    field: Field<'a>,
+    node: u32,
+    circle: &Circle,
+) -> Result<Vec<Remedy<'a>>, AllocError> {
+    let mut remedies = Vec::new(alloc);
+    let ports = (circle.first, circle.second);
+    add_remedy_at(&mut remedies, field.source, field.open, node, ports)?;
+    let mut from = node;
+    for (index, next) in circle.way.iter().enumerate() {
+        let to = circle.way.get(index + 1).copied().unwrap_or(node);
+        if let Some(ports) = field.passed(from, *next, to) {
+            add_remedy_at(&mut remedies, field.source, field.open, *next, ports)?;
+        }
+        if remedies.len() == MOST_TRIED {
+            break;
+        }
+        from = *next;
+    }
+    Ok(remedies)
+}
+
+/// What helps against a circle through a node.
+fn add_help_for(report: &mut Report, field: Field, node: u32, circle: &Circle, what: &str) {
+    match remedies_for(report.alloc, field, node, circle) {
+        Ok(remedies) => add_help(report, remedies.as_slice(), what),
+        Err(error) => report.fail(error),
+    }
+}
+
 /// A circle through a node.
-fn add_found(report: &mut Report, field: Field, node: u32, circle: &Circle) {
+fn add_found(report: &mut Report, field: Field, node: u32, circle: &Circle, what: &str) {
     if let Some((symbol, class)) = symbol_of(field.source, field.open, node) {
-        add_circle_words(report, field, symbol, class, circle);
-        add_places(report, field.open, circle.way.as_slice());
+        add_circle_words(report, symbol, class, circle);
+        add_way(report, field, circle.way.as_slice());
         add_braces(report, symbol, class, (circle.first, circle.second));
         add_reasons(report, field, node, symbol, circle);
-        report.help(help_apart(class));
+        add_help_for(report, field, node, circle, what);
     }
 }
 
 /// A circle through a node, where there is one.
-fn add_circle(report: &mut Report, field: Field, node: u32) {
+fn add_circle(report: &mut Report, field: Field, node: u32, what: &str) {
     match field.circle(report.alloc, node) {
-        Ok(Some(circle)) => add_found(report, field, node, &circle),
+        Ok(Some(circle)) => add_found(report, field, node, &circle, what),
         Ok(None) => (),
         Err(error) => report.fail(error),
     }
 }
 
-/// A circle through a node of a part.
+/// A circle through the first node of a part.
 fn add_circle_of(
     report: &mut Report,
     source: &Source,
     open: &OpenNet,
     wires: &Wires,
     nodes: &[u32],
-    node: u32,
+    what: &str,
 ) {
+    let Some(node) = nodes.first().copied() else {
+        return;
+    };
     match others(report.alloc, open, nodes, node) {
         Ok(inside) => {
             let part = inside.as_slice();
@@ -261,24 +311,23 @@ fn add_circle_of(
                 wires,
                 part,
             };
-            add_circle(report, field, node);
+            add_circle(report, field, node, what);
         }
         Err(error) => report.fail(error),
     }
 }
 
-/// A circle through a node of a part of an open net.
-fn add_circle_in(report: &mut Report, source: &Source, open: &OpenNet, nodes: &[u32], node: u32) {
+/// A circle through the first node of a part of an open net.
+fn add_first_circle(
+    report: &mut Report,
+    source: &Source,
+    open: &OpenNet,
+    nodes: &[u32],
+    what: &str,
+) {
     match Wires::of(report.alloc, open) {
-        Ok(wires) => add_circle_of(report, source, open, &wires, nodes, node),
+        Ok(wires) => add_circle_of(report, source, open, &wires, nodes, what),
         Err(error) => report.fail(error),
-    }
-}
-
-/// A circle through the first node of a part.
-fn add_first_circle(report: &mut Report, source: &Source, open: &OpenNet, nodes: &[u32]) {
-    if let Some(node) = nodes.first() {
-        add_circle_in(report, source, open, nodes, *node);
     }
 }
 
@@ -294,6 +343,6 @@ pub(crate) fn add_stuck(
     if let Some(StuckPart { open, stuck }) = part {
         let nodes = stuck.nodes.as_slice();
         add_part(report, source, open, nodes);
-        add_first_circle(report, source, open, nodes);
+        add_first_circle(report, source, open, nodes, what);
     }
 }

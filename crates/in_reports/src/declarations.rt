@@ -98,7 +98,7 @@ pub(crate) fn place_in(symbol: &SourceSymbol, class: usize, number: usize) -> us
 }
 
 /// The sign of a port's type.
-fn sign(port: &SourcePort) -> &'static str {
+pub(crate) fn sign(port: &SourcePort) -> &'static str {
     if port.output { "+" } else { "-" }
 }
 

@@ -1,5 +1,6 @@
 //! The two ends of a wire, which don't fit.
-use crate::declarations::{port, say_port, say_type};
+use crate::declarations::{arity, port, say_port, say_type};
+use crate::pairs::{letter, say_letters};
 use crate::reports::Report;
 use in_syntax::{Place, Source, SourcePort, SourceSymbol};
 
@@ -113,6 +114,133 @@ fn say_misfit(report: &mut Report, one: &End, other: &End) {
     }
 }
 
+/// A symbol whose agents take something at their principal port and give something of this type at the auxiliary port of that number.
+#[derive(Clone, Copy)]
+struct Giving<'a> {
+    symbol: &'a SourceSymbol,
+    output: usize,
+    kind: &'a str,
+}
+
+/// The number of the first auxiliary port of a symbol that is an output of this type.
+fn output_of(symbol: &SourceSymbol, kind: &str) -> Option<usize> {
+    for number in 1..=arity(symbol) {
+        if let Some((_, port)) = port(symbol, number) {
+            if port.output && port.kind.text.as_str() == kind {
+                return Some(number);
+            }
+        }
+    }
+    None
+}
+
+/// Where an agent gives what may be wanted from this end of it, where a term of it may have been taken for that: at its principal port, or
+/// at an output, an agent whose principal port takes something and that has an output of the wire's type.
+fn result_at<'a>(end: &End<'a>) -> Option<Giving<'a>> {
+    let Owner::Agent(symbol, number) = end.owner else {
+        return None;
+    };
+    if symbol.port.output || (number > 0 && !end.output) {
+        return None;
+    }
+    let kind = end.port.kind.text.as_str();
+    let output = output_of(symbol, kind)?;
+    Some(Giving {
+        symbol,
+        output,
+        kind,
+    })
+}
+
+/// Says an agent with a letter for each of its ports, joined by its principal port.
+fn say_lettered(report: &mut Report, symbol: &SourceSymbol) {
+    report.say_name("`a ~ ", symbol.name.text.as_str(), "(");
+    say_letters(report, 1, arity(symbol));
+    report.say(");`");
+}
+
+/// What helps where a term is taken for what its agent gives.
+fn help_with_result(report: &mut Report, giving: Giving) {
+    let Giving {
+        symbol,
+        output,
+        kind,
+    } = giving;
+    let name = symbol.name.text.as_str();
+    report.say_name(
+        "help: the term stands for the principal port of `",
+        name,
+        "`, which takes a `",
+    );
+    report.say_name("", symbol.port.kind.text.as_str(), "`\n");
+    report.say_name("help: the `", kind, "` that it gives is at auxiliary port ");
+    report.say_number("", output, ": `");
+    report.push(letter(output));
+    report.say("` in ");
+    say_lettered(report, symbol);
+    report.end();
+}
+
+/// What helps where a free end has the wrong sign: these words and its declaration with the other one.
+fn help_with_free_end(report: &mut Report, before: &str, name: &str, port: &SourcePort) {
+    report.say_name(before, name, " : ");
+    report.say_name(
+        "",
+        port.kind.text.as_str(),
+        if port.output { "-`\n" } else { "+`\n" },
+    );
+}
+
+/// The free end that one of two ends is, and the port that belongs there; nothing where both are free ends.
+fn free_end_of<'a>(one: &End<'a>, other: &End<'a>) -> Option<(&'a str, &'a SourcePort)> {
+    match (one.owner, other.owner) {
+        (Owner::Free(_), Owner::Free(_)) => None,
+        (Owner::Free(name), _) => Some((name, one.port)),
+        (_, Owner::Free(name)) => Some((name, other.port)),
+        _ => None,
+    }
+}
+
+/// Where an agent gives what may be wanted from one of these ends.
+fn result_of<'a>(one: &End<'a>, other: &End<'a>) -> Option<Giving<'a>> {
+    match result_at(one) {
+        Some(result) => Some(result),
+        None => result_at(other),
+    }
+}
+
+/// Whether one of these ends is a principal port.
+fn has_principal(one: &End, other: &End) -> bool {
+    matches!(one.owner, Owner::Agent(_, 0)) || matches!(other.owner, Owner::Agent(_, 0))
+}
+
+/// What helps where both ends are outputs of one type, or both inputs: a port of an agent may have been taken for another one, or a free end
+/// may have the wrong sign. Says whether anything does.
+fn add_turned(report: &mut Report, one: &End, other: &End) -> bool {
+    let free = free_end_of(one, other);
+    let result = result_of(one, other);
+    match (free, result) {
+        (Some((name, port)), Some(result)) if has_principal(one, other) => {
+            help_with_result(report, result);
+            help_with_free_end(
+                report,
+                "help: or, where the net is to take it, declare `",
+                name,
+                port,
+            );
+        }
+        (Some((name, port)), _) => help_with_free_end(report, "help: declare `", name, port),
+        (None, Some(result)) => help_with_result(report, result),
+        (None, None) => return false,
+    }
+    true
+}
+
+/// Whether the types of two ends have one name.
+fn are_of_one_type(one: &End, other: &End) -> bool {
+    one.port.kind.text.as_str() == other.port.kind.text.as_str()
+}
+
 /// Adds that the two ends of the wire at a place of the text don't fit: their types differ, or both are outputs or both inputs. Then what
 /// stands at each end, and what helps.
 pub fn add_ends(report: &mut Report, place: Place, one: &End, other: &End) {
@@ -120,7 +248,9 @@ pub fn add_ends(report: &mut Report, place: Place, one: &End, other: &End) {
     report.end_at(place);
     add_end(report, one);
     add_end(report, other);
-    report.help(
-        "a wire joins an output `+` to an input `-` of the same type: look at the declarations",
-    );
+    if !are_of_one_type(one, other) || !add_turned(report, one, other) {
+        report.help(
+            "a wire joins an output `+` to an input `-` of the same type: look at the declarations",
+        );
+    }
 }

@@ -33,8 +33,20 @@ fn meant(c: char) -> Option<&'static str> {
     })
 }
 
-/// What helps where the text goes on with this character and that one.
-fn help_with(first: char, second: Option<char>) -> &'static str {
+/// What helps where an arrow stands.
+const NO_ARROW: &str =
+    "a rule has no arrow: it is two heads with `><` between them, and ends with `;`";
+
+/// What helps where the text goes on with this character and that one, after a character.
+fn help_with(before: Option<u8>, first: char, second: Option<char>) -> &'static str {
+    match (before, first, second) {
+        (_, '=', Some('>')) | (Some(b'-' | b'='), '>', _) | (_, '\u{21D2}', _) => NO_ARROW,
+        _ => help_with_character(first, second),
+    }
+}
+
+/// What helps where the text goes on with this character and that one, which are no arrow.
+fn help_with_character(first: char, second: Option<char>) -> &'static str {
     if let Some(help) = meant(first) {
         return help;
     }
@@ -94,12 +106,18 @@ fn say_letter(report: &mut Report, c: char) {
     }
 }
 
+/// The byte before this one.
+fn byte_before(text: &[u8], at: usize) -> Option<u8> {
+    let byte = text.get(at.checked_sub(1)?)?;
+    Some(*byte)
+}
+
 /// A character with which no token begins, and the one after it.
 fn add_letter(report: &mut Report, place: Place, first: char, second: Option<char>) {
     report.say("error: no token begins with ");
     say_letter(report, first);
     report.end_at(place);
-    report.help(help_with(first, second));
+    report.help(help_with(byte_before(report.text, place.from), first, second));
 }
 
 /// What stands at the place, where there is something.

@@ -2,6 +2,8 @@
 //! rules and its wires. Nothing here builds a net.
 #![tactic(auto)]
 
+mod before;
+mod braces;
 mod declarations;
 mod ends;
 mod excerpts;
@@ -15,10 +17,12 @@ mod pairs;
 mod refusals;
 mod reports;
 mod rings;
+mod single;
 
+pub use braces::{Braces, changed_braces, declaration_with, text_with};
 pub use declarations::port;
 pub use ends::{End, add_ends, agent_end, free_end, head_end};
-pub use nodes::{add_braces, help_apart, say_node_at, say_port_of};
+pub use nodes::{add_braces, say_node_at, say_port_of};
 pub use occurrences::rule_at;
 pub use refusals::{add_text_fault, add_tree_fault};
 pub use reports::Report;

@@ -3,6 +3,7 @@ use crate::declarations::{Declared, arity, first_of, is_among, symbol_named};
 use crate::near::add_near;
 use crate::occurrences::{arguments, occurrences, rule_at};
 use crate::reports::Report;
+use crate::single::add_single;
 use in_syntax::{Name, Place, Source, SourceSymbol};
 
 /// Where the first of these names stands that is this one.
@@ -49,9 +50,9 @@ pub(crate) fn add_declared_twice(report: &mut Report, source: &Source, place: Pl
     }
 }
 
-/// The declared symbols that are near.
-fn add_near_symbols(report: &mut Report, source: &Source, name: &str) {
-    let _ = add_near(report, name, source.symbols.as_slice());
+/// Adds the declared symbols that are near; says whether there are any.
+fn add_near_symbols(report: &mut Report, source: &Source, name: &str) -> bool {
+    add_near(report, name, source.symbols.as_slice())
 }
 
 /// A type that isn't declared.
@@ -67,7 +68,7 @@ pub(crate) fn add_unknown_type(report: &mut Report, source: &Source, place: Plac
 pub(crate) fn add_unknown_symbol(report: &mut Report, source: &Source, place: Place) {
     let name = report.at(place);
     report.wrong_name(place, "no symbol `", name, "` is declared");
-    add_near_symbols(report, source, name);
+    let _ = add_near_symbols(report, source, name);
     report.help("a name before `(` or `[` is that of a declared symbol");
 }
 
@@ -95,16 +96,22 @@ fn arity_help(ports: usize) -> &'static str {
     }
 }
 
+/// Where a symbol with so many auxiliary ports is declared.
+fn where_ports_stand(ports: usize) -> &'static str {
+    if ports == 0 {
+        "it is declared here, without auxiliary ports"
+    } else {
+        "its auxiliary ports stand in braces here"
+    }
+}
+
 /// So many arguments of a symbol, other than its arity.
 fn add_count(report: &mut Report, symbol: &SourceSymbol, count: usize, place: Place) {
     let ports = arity(symbol);
     report.say_name("error: `", report.at(place), "");
     say_counts(report, count, ports);
     report.end_at(place);
-    report.note(
-        symbol.name.place,
-        "its auxiliary ports stand in braces here",
-    );
+    report.note(symbol.name.place, where_ports_stand(ports));
     report.help(arity_help(ports));
 }
 
@@ -133,6 +140,23 @@ fn add_others(report: &mut Report, places: &[Place], place: Place) {
     }
 }
 
+/// What helps where a variable of this name occurs once, and no other name is near.
+fn erasing_help(name: &str) -> &'static str {
+    if name == "_" {
+        "`_` is a name like others: what isn't needed is joined to an agent that erases it, with rules of its own"
+    } else {
+        "what isn't needed is joined to an agent that erases it, with rules of its own"
+    }
+}
+
+/// Adds what helps where a variable occurs once, and no symbol is near: it may be another end of the same wire.
+fn help_once(report: &mut Report, source: &Source, name: &str, place: Place) {
+    if add_single(report, source, place, name, "` occurs once too") {
+        report.help("if they are the two ends of one wire, write one name for both");
+    }
+    report.help(erasing_help(name));
+}
+
 /// A variable that occurs once.
 fn add_once(report: &mut Report, source: &Source, name: &str, place: Place) {
     report.wrong_name(
@@ -141,8 +165,20 @@ fn add_once(report: &mut Report, source: &Source, name: &str, place: Place) {
         name,
         "` occurs once; a wire has two ends",
     );
-    add_near_symbols(report, source, name);
-    report.help("what isn't needed is joined to an agent that erases it, with rules of its own");
+    if add_near_symbols(report, source, name) {
+        report.help("a name that is no symbol's is a variable");
+    } else {
+        help_once(report, source, name, place);
+    }
+}
+
+/// What helps where a variable of this name occurs a third time.
+fn copying_help(name: &str) -> &'static str {
+    if name == "_" {
+        "`_` is a name like others: what isn't needed is joined to an agent that erases it, with rules of its own"
+    } else {
+        "what is needed twice is joined to an agent that copies it, with rules of its own"
+    }
 }
 
 /// A variable that occurs a third time.
@@ -154,12 +190,19 @@ fn add_third(report: &mut Report, name: &str, places: &[Place], place: Place) {
         "` occurs a third time; a wire has two ends",
     );
     add_others(report, places, place);
-    report.help("what is needed twice is joined to an agent that copies it, with rules of its own");
+    report.help(copying_help(name));
 }
 
 /// A free end that occurs nowhere in the body.
-fn add_unjoined(report: &mut Report, name: &str, place: Place) {
+fn add_unjoined(report: &mut Report, source: &Source, name: &str, place: Place) {
     report.wrong_name(place, "nothing is joined to the free end `", name, "`");
+    let _ = add_single(
+        report,
+        source,
+        place,
+        name,
+        "` occurs once, and is no free end",
+    );
     report.help("its name occurs exactly once in the equations of the net");
 }
 
@@ -173,10 +216,10 @@ fn add_second_time(report: &mut Report, name: &str, places: &[Place], place: Pla
 }
 
 /// A free end that occurs nowhere in the body, or a second time.
-fn add_free(report: &mut Report, declared: &Name, places: &[Place], place: Place) {
+fn add_free(report: &mut Report, source: &Source, declared: &Name, places: &[Place], place: Place) {
     let name = declared.text.as_str();
     if declared.place.from == place.from {
-        add_unjoined(report, name, place);
+        add_unjoined(report, source, name, place);
     } else {
         add_second_time(report, name, places, place);
     }
@@ -194,7 +237,7 @@ fn free_end_at<'a>(source: &'a Source, name: &str, place: Place) -> Option<&'a N
 fn add_places(report: &mut Report, source: &Source, places: &[Place], place: Place) {
     let name = report.at(place);
     match free_end_at(source, name, place) {
-        Some(end) => add_free(report, end, places, place),
+        Some(end) => add_free(report, source, end, places, place),
         None if places.len() < 2 => add_once(report, source, name, place),
         None => add_third(report, name, places, place),
     }

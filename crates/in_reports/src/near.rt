@@ -14,7 +14,11 @@ fn most(characters: usize) -> usize {
 }
 
 /// By how many characters a declared name differs from this one, where it is near to it.
-fn distance(alloc: Global, name: &str, declared: &str) -> Result<Option<usize>, AllocError> {
+pub(crate) fn distance(
+    alloc: Global,
+    name: &str,
+    declared: &str,
+) -> Result<Option<usize>, AllocError> {
     if name.eq_ignore_ascii_case(declared) {
         return Ok(Some(0));
     }

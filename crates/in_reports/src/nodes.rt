@@ -40,30 +40,20 @@ fn add_apart(report: &mut Report, symbol: &SourceSymbol, ports: (u8, u8)) {
     report.end_at(symbol.name.place);
 }
 
-/// Adds where the symbol of a node is declared, whose braces keep two ports of an agent apart, or ports of a class of a head together.
+/// Adds where the symbol of a node is declared, whose braces keep two auxiliary ports of an agent apart, or ports of a class of a head
+/// together. Of a principal port, which stands in no braces, nothing is told.
 pub fn add_braces(
     report: &mut Report,
     symbol: &SourceSymbol,
     class: Option<usize>,
     ports: (u8, u8),
 ) {
-    match class {
-        Some(_) => report.note(
+    match (class, ports) {
+        (Some(_), _) => report.note(
             symbol.name.place,
             "ports in one pair of braces may be joined outside of the rule",
         ),
-        None => add_apart(report, symbol, ports),
-    }
-}
-
-/// What helps where a circle goes through an agent, or through a class of a head.
-pub fn help_apart(class: Option<usize>) -> &'static str {
-    match class {
-        Some(_) => {
-            "give each of these ports a pair of braces of its own, or join them to parts that have nothing to do with each other"
-        }
-        None => {
-            "join ports of different braces to parts that have nothing to do with each other; or put two auxiliary ports into one pair of braces, if the rules of the symbol allow it"
-        }
+        (None, (0, _) | (_, 0)) => (),
+        (None, _) => add_apart(report, symbol, ports),
     }
 }

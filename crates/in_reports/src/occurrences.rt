@@ -90,8 +90,8 @@ fn is_end(text: &[u8], index: usize) -> bool {
     }
 }
 
-/// The tokens of a line of a text that was read before, so only memory may be wanted.
-fn tokens_of(alloc: Global, line: &[u8]) -> Result<Vec<Token>, AllocError> {
+/// The tokens of a part of a text whose tokens have no fault, so only memory may be wanted.
+pub(crate) fn tokens_of(alloc: Global, line: &[u8]) -> Result<Vec<Token>, AllocError> {
     match tokens(alloc, line) {
         Ok(tokens) => Ok(tokens),
         Err(Fault::Refused(_)) => Ok(Vec::new(alloc)),
@@ -100,7 +100,7 @@ fn tokens_of(alloc: Global, line: &[u8]) -> Result<Vec<Token>, AllocError> {
 }
 
 /// What looks at the tokens of a part of a text, one after another.
-trait Reading {
+pub(crate) trait Reading {
     /// Whether a line with these bytes has to be read at all.
     fn needs(&self, line: &[u8]) -> bool;
 
@@ -108,14 +108,52 @@ trait Reading {
     fn read(&mut self, kind: TokenKind, place: Place) -> Result<bool, AllocError>;
 }
 
+/// A rule, or the body of the net, of which the tokens are read one after another.
+#[derive(Clone, Copy)]
+pub(crate) struct Extent {
+    start: Place,
+    in_rule: bool,
+    depth: usize,
+}
+
+impl Extent {
+    /// That in which a place stands, before its first token.
+    pub(crate) fn around(source: &Source, at: Place) -> Extent {
+        Extent {
+            start: part_start(source, at),
+            in_rule: rule_at(source, at.from).is_some(),
+            depth: 0,
+        }
+    }
+
+    /// Where it begins.
+    pub(crate) fn start(&self) -> Place {
+        self.start
+    }
+
+    /// Whether it is a rule.
+    pub(crate) fn is_rule(&self) -> bool {
+        self.in_rule
+    }
+
+    /// Goes on with a token; says whether it is the last one.
+    pub(crate) fn ends_with(&mut self, kind: TokenKind) -> bool {
+        match kind {
+            TokenKind::OpenBrace => self.depth = self.depth.saturating_add(1),
+            TokenKind::CloseBrace => self.depth = self.depth.saturating_sub(1),
+            _ => (),
+        }
+        // A rule ends with the `;` after its equations, which stand in braces.
+        self.in_rule && self.depth == 0 && kind == TokenKind::Semicolon
+    }
+}
+
 /// Where a name stands.
 #[derive(Drop)]
 struct Places<'a> {
     text: &'a [u8],
     name: &'a [u8],
-    start: usize,
-    in_rule: bool,
-    depth: usize,
+    extent: Extent,
     found: Vec<Place>,
 }
 
@@ -137,23 +175,17 @@ fn holds(line: &[u8], name: &[u8]) -> bool {
 
 impl Reading for Places<'_> {
     fn needs(&self, line: &[u8]) -> bool {
-        self.in_rule || holds(line, self.name)
+        self.extent.is_rule() || holds(line, self.name)
     }
 
     fn read(&mut self, kind: TokenKind, place: Place) -> Result<bool, AllocError> {
-        if place.from < self.start {
+        if place.from < self.extent.start().from {
             return Ok(false);
         }
         if kind == TokenKind::Name && self.text.get(place.from..place.to) == Some(self.name) {
             self.found.push(place)?;
         }
-        match kind {
-            TokenKind::OpenBrace => self.depth = self.depth.saturating_add(1),
-            TokenKind::CloseBrace => self.depth = self.depth.saturating_sub(1),
-            _ => (),
-        }
-        // A rule ends with the `;` after its equations, which stand in braces.
-        Ok(self.in_rule && self.depth == 0 && kind == TokenKind::Semicolon)
+        Ok(self.extent.ends_with(kind))
     }
 }
 
@@ -228,7 +260,7 @@ fn read_line<R: Reading>(
 }
 
 /// Reads a text from the line of a place on, until the last token.
-fn read_from<R: Reading>(
+pub(crate) fn read_from<R: Reading>(
     alloc: Global,
     text: &[u8],
     place: Place,
@@ -255,16 +287,14 @@ pub(crate) fn occurrences(
     at: Place,
     name: &[u8],
 ) -> Result<Vec<Place>, AllocError> {
-    let start = part_start(source, at);
+    let extent = Extent::around(source, at);
     let mut places = Places {
         text,
         name,
-        start: start.from,
-        in_rule: rule_at(source, at.from).is_some(),
-        depth: 0,
+        extent,
         found: Vec::new(alloc),
     };
-    read_from(alloc, text, start, &mut places)?;
+    read_from(alloc, text, extent.start(), &mut places)?;
     let Places { found, .. } = places;
     Ok(found)
 }

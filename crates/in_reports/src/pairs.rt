@@ -110,7 +110,7 @@ pub(crate) fn add_second_rule(report: &mut Report, source: &Source, place: Place
 }
 
 /// The letter of this number.
-fn letter(number: usize) -> char {
+pub(crate) fn letter(number: usize) -> char {
     let letter = number % 26;
     char::from(b'a' + letter as u8)
 }
@@ -121,7 +121,7 @@ fn comma(number: usize) -> &'static str {
 }
 
 /// A name for each of so many terms, from this number on, as they stand in a head.
-fn say_letters(report: &mut Report, first: usize, count: usize) {
+pub(crate) fn say_letters(report: &mut Report, first: usize, count: usize) {
     for number in 0..count {
         report.say(comma(number));
         report.push(letter(first.saturating_add(number)));

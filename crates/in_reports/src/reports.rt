@@ -26,6 +26,11 @@ impl<'a> Report<'a> {
         }
     }
 
+    /// The text.
+    pub fn text(&self) -> &'a [u8] {
+        self.text
+    }
+
     /// What stands at a place of the text.
     pub(crate) fn at(&self, place: Place) -> &'a str {
         between(self.text, place.from, place.to)

@@ -131,11 +131,33 @@ fn command<'a>(alloc: Global) -> Result<Command<'a>, AllocError>
     }
 }
 
-/// How an error of `clap` is told.
-fn usage_of(alloc: Global, error: clap::Error) -> Usage
+/// The command and the file in these words, where the last word is a file's name and the program was to be read from there.
+fn file_in<'a>(kind: ErrorKind, words: &[&'a str]) -> Option<(&'a str, &'a str)> {
+    let (file, before) = words.split_last()?;
+    match kind {
+        ErrorKind::UnknownArgument if !file.starts_with('-') => {
+            Some((before.get(1).copied()?, *file))
+        }
+        ErrorKind::InvalidSubcommand if file.ends_with(".inet") => Some(("run", *file)),
+        _ => None,
+    }
+}
+
+/// What `clap` says of an error; and where the program comes from, where a file's name is among the words.
+fn text_of(alloc: Global, error: &clap::Error, words: &[&str]) -> Result<String, AllocError> {
+    match file_in(error.kind(), words) {
+        Some((command, file)) => format!(in alloc;
+            "{error}\nThe program comes on standard input: inet {command} < {file}\n"
+        ),
+        None => format!(in alloc; "{error}"),
+    }
+}
+
+/// How an error of `clap` in these words is told.
+fn usage_of(alloc: Global, error: clap::Error, words: &[&str]) -> Usage
     ensures { IsTold (kind_of error) result }
 {
-    match format!(in alloc; "{error}") {
+    match text_of(alloc, &error, words) {
         Ok(text) => match error.kind() {
             ErrorKind::OutOfMemory => Usage::Memory,
             ErrorKind::DisplayHelp => Usage::Help(text),
@@ -182,7 +204,7 @@ fn action_named(matches: &ArgMatches) -> Option<Action>
 /// What the words ask for; the first is the program's name. That is the subcommand which `clap` gives for them, with the numbers of the
 /// texts of its options, or the usual ones where an option is missing.
 ///
-/// Refused with the text of `clap` where it finds an error in the words: as `Help` where `-h`, `--help` or `help` stands, and else as
+/// Refused with the text of `clap` where it finds an error in the words, and a line more where one of them is a file's name: as `Help` where `-h`, `--help` or `help` stands, and else as
 /// `Wrong`, as where they name no command, have more than one needs, or give a number that is out of range. Refused as `Memory` for want
 /// of memory.
 pub fn action_of(alloc: Global, words: &[&str]) -> Result<Action, Usage>
@@ -195,6 +217,6 @@ pub fn action_of(alloc: Global, words: &[&str]) -> Result<Action, Usage>
             // Words in which `clap` finds no error ask for an action: see `laws`.
             None => unreachable!(),
         },
-        Err(error) => Err(usage_of(alloc, error)),
+        Err(error) => Err(usage_of(alloc, error, words)),
     }
 }

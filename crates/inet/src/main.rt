@@ -1,5 +1,5 @@
 //! The program `inet`: checks a program of interaction nets (Lafont 1990) that comes on standard input, and writes one line on
-//! what it found, or the steps that build its rules and its net.
+//! what it found; the steps that build its rules and its net; or what its net comes to when it is run.
 #![tactic(auto)]
 
 ghost use Rattle.std.specs.Prelude.{◌-◌, ◌<◌, ◌^◌};

@@ -1,4 +1,4 @@
-//! What is told of words that can't be had, of streams that fail, and of a text that is too long.
+//! What is told of words that can't be had, of a file's name among them, of streams that fail, and of a text that is too long.
 use crate::{serve, unreadable};
 use in_program::Status;
 use in_words::Usage;
@@ -89,6 +89,41 @@ fn is_too_long(
 fn a_text_that_is_too_long_is_told_by_the_limit(rt: HostRuntime) -> Result<(), Fail> {
     let told = "error: the text has more than 1048576 bytes\n";
     assert!(rt; is_too_long(&rt, rt.alloc(), 1_500_000, told)?);
+    Ok(())
+}
+
+/// The words of `inet` with these after it.
+fn words_with(alloc: Global, further: &[&str]) -> Result<Args, AllocError> {
+    let mut words = Vec::new(alloc);
+    words.push(String::from_str(alloc, "inet")?)?;
+    for word in further {
+        words.push(String::from_str(alloc, word)?)?;
+    }
+    Ok(words.into_iter())
+}
+
+/// Whether these words are wrong, and what is told ends so.
+fn is_wrong(
+    rt: &(impl Threads + Wait),
+    alloc: Global,
+    further: &[&str],
+    told: &str,
+) -> Result<bool, AllocError> {
+    let mut errors = Vec::new(alloc);
+    let words = Ok(words_with(alloc, further)?);
+    let status = serve(rt, alloc, words, io::empty(), io::sink(), &mut errors);
+    Ok(status == Status(2) && errors.as_slice().ends_with(told.as_bytes()))
+}
+
+#[test]
+fn a_file_among_the_words_is_told_to_come_on_standard_input(rt: HostRuntime) -> Result<(), Fail> {
+    let alloc = rt.alloc();
+    let checked = "\nThe program comes on standard input: inet check < sum.inet\n";
+    assert!(rt; is_wrong(&rt, alloc, &["check", "sum.inet"], checked)?);
+    let run = "\nThe program comes on standard input: inet run < sum.inet\n";
+    assert!(rt; is_wrong(&rt, alloc, &["run", "--limit", "5", "sum.inet"], run)?);
+    assert!(rt; is_wrong(&rt, alloc, &["sum.inet"], run)?);
+    assert!(rt; is_wrong(&rt, alloc, &["check", "--all"], "try '--help'.\n")?);
     Ok(())
 }
 

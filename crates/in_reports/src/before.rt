@@ -1,0 +1,79 @@
+//! What stands before a place at which the grammar refuses a text.
+use crate::occurrences::tokens_of;
+use crate::reports::Report;
+use in_syntax::{Place, Token, TokenKind};
+use std::alloc::AllocError;
+
+/// The tokens before a place of a text whose tokens have no fault.
+pub(crate) fn tokens_before(report: &Report, place: Place) -> Result<Vec<Token>, AllocError> {
+    let front = report.text.get(..place.from).unwrap_or(&[]);
+    tokens_of(report.alloc, front)
+}
+
+/// Whether a token opens brackets.
+fn opens(kind: TokenKind) -> bool {
+    matches!(
+        kind,
+        TokenKind::OpenBrace | TokenKind::OpenParenthesis | TokenKind::OpenBracket
+    )
+}
+
+/// Whether a token closes brackets.
+fn closes(kind: TokenKind) -> bool {
+    matches!(
+        kind,
+        TokenKind::CloseBrace | TokenKind::CloseParenthesis | TokenKind::CloseBracket
+    )
+}
+
+/// The last bracket of these tokens that is not closed among them.
+pub(crate) fn open_bracket(tokens: &[Token]) -> Option<Token> {
+    let mut closed: usize = 0;
+    for token in tokens.iter().rev() {
+        if closes(token.kind) {
+            closed = closed.saturating_add(1);
+        } else if opens(token.kind) {
+            if closed == 0 {
+                return Some(*token);
+            }
+            closed = closed.saturating_sub(1);
+        }
+    }
+    None
+}
+
+/// The kind of the last of these tokens.
+pub(crate) fn last_kind(tokens: &[Token]) -> Option<TokenKind> {
+    let token = tokens.last()?;
+    Some(token.kind)
+}
+
+/// Whether the last two of these tokens begin the declaration of a symbol.
+pub(crate) fn begin_symbol(tokens: &[Token]) -> bool {
+    let Some(before) = tokens.len().checked_sub(2) else {
+        return false;
+    };
+    match tokens.get(before) {
+        Some(token) => token.kind == TokenKind::Symbol,
+        None => false,
+    }
+}
+
+/// Whether these tokens end with a name, right before this byte.
+pub(crate) fn end_with_name_at(tokens: &[Token], at: usize) -> bool {
+    match tokens.last() {
+        Some(token) => token.kind == TokenKind::Name && token.place.to == at,
+        None => false,
+    }
+}
+
+/// The place right after the last of these tokens. Only its line and its bytes are told, so its column is the token's.
+pub(crate) fn place_after(tokens: &[Token]) -> Option<Place> {
+    let Place { to, line, col, .. } = tokens.last()?.place;
+    Some(Place {
+        from: to,
+        to,
+        line,
+        col,
+    })
+}

@@ -1,0 +1,125 @@
+//! Declarations of symbols with other braces.
+use crate::declarations::{arity, place_in, port, sign};
+use crate::occurrences::{Reading, read_from};
+use in_syntax::{Place, SourceSymbol, TokenKind};
+use std::alloc::{AllocError, Global};
+
+/// Other braces for the auxiliary ports of a symbol, whose order stays as it is.
+#[derive(Clone, Copy, Debug, PartialEq, Eq)]
+pub enum Braces {
+    /// The ports from that of the first number to that of the second one are in one pair.
+    Together(usize, usize),
+    /// The port of this number begins a pair.
+    Apart(usize),
+}
+
+/// Braces with which a circle no longer passes a node by two ports, by their numbers at the node: those of an agent are put together, those of
+/// a class of a head apart. Nothing where one of them is a principal port, which stands in no braces.
+pub fn changed_braces(
+    symbol: &SourceSymbol,
+    class: Option<usize>,
+    ports: (u8, u8),
+) -> Option<Braces> {
+    let (first, second) = (ports.0.min(ports.1), ports.0.max(ports.1));
+    match class {
+        Some(class) => Some(Braces::Apart(place_in(symbol, class, second as usize))),
+        None if first == 0 => None,
+        None => Some(Braces::Together(first as usize, second as usize)),
+    }
+}
+
+/// The class of the auxiliary port of that number.
+fn class_of(symbol: &SourceSymbol, number: usize) -> usize {
+    match port(symbol, number) {
+        Some((class, _)) => class,
+        None => 0,
+    }
+}
+
+/// Whether a pair of braces begins with the auxiliary port of that number, which is not the first one.
+fn begins(symbol: &SourceSymbol, braces: Braces, number: usize) -> bool {
+    match braces {
+        Braces::Together(first, last) if first < number && number <= last => false,
+        Braces::Apart(at) if at == number => true,
+        _ => class_of(symbol, number) != class_of(symbol, number.saturating_sub(1)),
+    }
+}
+
+/// What stands before the auxiliary port of that number.
+fn before_port(symbol: &SourceSymbol, braces: Braces, number: usize) -> &'static str {
+    if number == 1 {
+        " {"
+    } else if begins(symbol, braces, number) {
+        "} {"
+    } else {
+        ", "
+    }
+}
+
+/// Adds the port of that number of a symbol, as it is declared.
+fn add_port(words: &mut String, symbol: &SourceSymbol, number: usize) -> Result<(), AllocError> {
+    if let Some((_, port)) = port(symbol, number) {
+        words.push_str(port.kind.text.as_str())?;
+        words.push_str(sign(port))?;
+    }
+    Ok(())
+}
+
+/// What a symbol is declared as with these braces, without the word `symbol` and the `;`.
+pub fn declaration_with(
+    alloc: Global,
+    symbol: &SourceSymbol,
+    braces: Braces,
+) -> Result<String, AllocError> {
+    let mut words = String::from_str(alloc, symbol.name.text.as_str())?;
+    words.push_str(" : ")?;
+    add_port(&mut words, symbol, 0)?;
+    let ports = arity(symbol);
+    for number in 1..=ports {
+        words.push_str(before_port(symbol, braces, number))?;
+        add_port(&mut words, symbol, number)?;
+    }
+    if ports > 0 {
+        words.push_str("}")?;
+    }
+    Ok(words)
+}
+
+/// Where the declaration ends whose name stands at a place.
+#[derive(Clone, Copy)]
+struct End {
+    name: Place,
+    found: Option<usize>,
+}
+
+impl Reading for End {
+    fn needs(&self, _line: &[u8]) -> bool {
+        true
+    }
+
+    fn read(&mut self, kind: TokenKind, place: Place) -> Result<bool, AllocError> {
+        if place.from < self.name.from || kind != TokenKind::Semicolon {
+            return Ok(false);
+        }
+        self.found = Some(place.from);
+        Ok(true)
+    }
+}
+
+/// A text in which a symbol is declared so: these words stand in the place of its declaration, without the word `symbol` and the `;`.
+pub fn text_with(
+    alloc: Global,
+    text: &[u8],
+    symbol: &SourceSymbol,
+    declaration: &str,
+) -> Result<Vec<u8>, AllocError> {
+    let name = symbol.name.place;
+    let mut end = End { name, found: None };
+    read_from(alloc, text, name, &mut end)?;
+    let after = end.found.unwrap_or(text.len());
+    let mut changed = Vec::new(alloc);
+    changed.extend_from_slice(text.get(..name.from).unwrap_or(&[]))?;
+    changed.extend_from_slice(declaration.as_bytes())?;
+    changed.extend_from_slice(text.get(after..).unwrap_or(&[]))?;
+    Ok(changed)
+}

@@ -1,0 +1,208 @@
+//! Variables that stand once in a rule or in the net.
+use crate::declarations::{first_of, symbol_named};
+use crate::excerpts::between;
+use crate::near::distance;
+use crate::occurrences::{Extent, Reading, read_from};
+use crate::reports::Report;
+use in_syntax::{Place, Source, TokenKind};
+use std::alloc::{AllocError, Global};
+
+/// How many of them are looked at.
+const MOST_LOOKED_AT: usize = 64;
+
+/// How many of them are told.
+const MOST_TOLD: usize = 3;
+
+/// A name that is followed by no bracket, and where it stands.
+#[derive(Clone, Copy)]
+struct Bare<'a> {
+    name: &'a str,
+    place: Place,
+}
+
+/// The names of a part that no bracket follows: variables, free ends, and agents without auxiliary ports.
+#[derive(Drop)]
+struct BareNames<'a> {
+    text: &'a [u8],
+    extent: Extent,
+    last: Option<Place>,
+    found: Vec<Bare<'a>>,
+}
+
+/// Whether a name before this token is that of an agent, of a head, or the word before equations.
+fn opens(kind: TokenKind) -> bool {
+    matches!(
+        kind,
+        TokenKind::OpenBrace | TokenKind::OpenParenthesis | TokenKind::OpenBracket
+    )
+}
+
+impl BareNames<'_> {
+    /// Keeps the name before a token of this kind, if there is one and it isn't followed by a bracket.
+    fn keep_last(&mut self, kind: TokenKind) -> Result<(), AllocError> {
+        match self.last {
+            Some(place) if !opens(kind) => {
+                let name = between(self.text, place.from, place.to);
+                self.found.push(Bare { name, place })?;
+            }
+            _ => (),
+        }
+        self.last = None;
+        Ok(())
+    }
+}
+
+impl Reading for BareNames<'_> {
+    fn needs(&self, _line: &[u8]) -> bool {
+        true
+    }
+
+    fn read(&mut self, kind: TokenKind, place: Place) -> Result<bool, AllocError> {
+        if place.from < self.extent.start().from {
+            return Ok(false);
+        }
+        self.keep_last(kind)?;
+        if kind == TokenKind::Name {
+            self.last = Some(place);
+        }
+        Ok(self.extent.ends_with(kind))
+    }
+}
+
+/// The bare names of the rule or of the net in which a place stands.
+fn bare_names<'a>(
+    alloc: Global,
+    text: &'a [u8],
+    source: &Source,
+    at: Place,
+) -> Result<Vec<Bare<'a>>, AllocError> {
+    let extent = Extent::around(source, at);
+    let mut names = BareNames {
+        text,
+        extent,
+        last: None,
+        found: Vec::new(alloc),
+    };
+    read_from(alloc, text, extent.start(), &mut names)?;
+    let BareNames { found, .. } = names;
+    Ok(found)
+}
+
+/// Whether the name of this number is another one than that.
+fn differs(sorted: &[Bare], index: Option<usize>, name: &str) -> bool {
+    match index {
+        Some(index) => match sorted.get(index) {
+            Some(other) => other.name != name,
+            None => true,
+        },
+        None => true,
+    }
+}
+
+/// Whether a name is no symbol's, and in the net no free end's.
+fn is_variable(source: &Source, at: Place, name: &str) -> bool {
+    symbol_named(source, name).is_none()
+        && (Extent::around(source, at).is_rule()
+            || first_of(source.net.free.as_slice(), name).is_none())
+}
+
+/// Of names that are sorted, the first variables that stand once, but for that of a place.
+fn single_variables<'a>(
+    alloc: Global,
+    source: &Source,
+    at: Place,
+    sorted: &[Bare<'a>],
+) -> Result<Vec<Bare<'a>>, AllocError> {
+    let mut single = Vec::new(alloc);
+    for (index, bare) in sorted.iter().enumerate() {
+        let stands_once = differs(sorted, index.checked_sub(1), bare.name)
+            && differs(sorted, Some(index + 1), bare.name);
+        let other = bare.place.from != at.from;
+        if single.len() < MOST_LOOKED_AT
+            && stands_once
+            && other
+            && is_variable(source, at, bare.name)
+        {
+            single.push(*bare)?;
+        }
+    }
+    Ok(single)
+}
+
+/// The variables that stand once in the rule or in the net in which a place stands, but for that of the place, in the order of the text: 64 at most.
+fn single_in<'a>(
+    alloc: Global,
+    text: &'a [u8],
+    source: &Source,
+    at: Place,
+) -> Result<Vec<Bare<'a>>, AllocError> {
+    let mut names = bare_names(alloc, text, source, at)?;
+    names.sort_by_key(|bare| bare.name)?;
+    let mut single = single_variables(alloc, source, at, names.as_slice())?;
+    single.sort_by_key(|bare| bare.place.from)?;
+    Ok(single)
+}
+
+/// What is told of them: those that are near to a name, or the others.
+#[derive(Clone, Copy)]
+struct Wanted<'a> {
+    name: &'a str,
+    near: bool,
+    further: &'static str,
+}
+
+/// Adds those that are wanted, where so many are told already; answers how many are told now.
+fn add_wanted(report: &mut Report, single: &[Bare], wanted: Wanted, told: usize) -> usize {
+    let mut count = told;
+    for bare in single {
+        let near = match distance(report.alloc, wanted.name, bare.name) {
+            Ok(found) => found.is_some(),
+            Err(error) => {
+                report.fail(error);
+                false
+            }
+        };
+        if near == wanted.near && count < MOST_TOLD {
+            report.note_name(bare.place, "`", bare.name, wanted.further);
+            count += 1;
+        }
+    }
+    count
+}
+
+/// Adds these, the near ones first; answers how many are told.
+fn add_all(report: &mut Report, single: &[Bare], name: &str, further: &'static str) -> usize {
+    let near = Wanted {
+        name,
+        near: true,
+        further,
+    };
+    let told = add_wanted(report, single, near, 0);
+    add_wanted(
+        report,
+        single,
+        Wanted {
+            near: false,
+            ..near
+        },
+        told,
+    )
+}
+
+/// Adds the variables that stand once in the rule or in the net of a place, but for that of the place: those that are near to a name first.
+/// Says whether there are any.
+pub(crate) fn add_single(
+    report: &mut Report,
+    source: &Source,
+    at: Place,
+    name: &str,
+    further: &'static str,
+) -> bool {
+    match single_in(report.alloc, report.text, source, at) {
+        Ok(single) => add_all(report, single.as_slice(), name, further) > 0,
+        Err(error) => {
+            report.fail(error);
+            false
+        }
+    }
+}
