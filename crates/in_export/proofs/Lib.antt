@@ -1,0 +1,4 @@
+pub mod Active
+pub mod ActiveWires
+pub mod Arrays
+pub mod OneLine

@@ -1,0 +1,29 @@
+-- A text has one line.
+use Rattle.std.proofs.Common.{◌≡◌, ℕ, List, Ok, Err, sym, ◌∙◌}
+use Rattle.in_syntax.specs.declared.faults.Fault.{Fault}
+use Rattle.in_syntax.specs.declared.faults.Fault.TheVariants.{Refused, Memory}
+use Rattle.in_check.specs.Checking.{IsChecked}
+use Rattle.in_check.specs.Laws.{AreOneProgram}
+use Rattle.in_check.specs.Programs.{Program}
+use Rattle.in_check.proofs.OneAnswer.{checked_once}
+use Rattle.in_export.specs.Programs.{program_line}
+use Rattle.in_export.specs.Exporting.{Exports, TextsAreExportedOnce}
+
+-- the line says nothing of the table of rules
+same_line : (p q : Program) → AreOneProgram p q → program_line p ≡ program_line q
+same_line p q same =
+    λ i. program_line (record { tables = same.tables i; rules = same.rules i; net = same.net i; numbers = p.numbers; rule_certificates = same.rule_certificates i; net_certificate = same.net_certificate i })
+
+pub exported_once : TextsAreExportedOnce
+exported_once text (Ok one) (Ok other) (p, valid, is) (q, too, was) = is ∙ same_line p q (checked_once text (Ok p) (Ok q) valid too) ∙ sym was
+exported_once text (Ok one) (Err (Refused r)) (p, valid, is) refused = checked_once text (Ok p) (Err (Refused r)) valid refused
+exported_once text (Ok one) (Err (Memory e)) l r = tt
+exported_once text (Err (Refused q)) (Ok other) refused (p, valid, is) = checked_once text (Err (Refused q)) (Ok p) refused valid
+exported_once text (Err (Refused q)) (Err (Refused r)) l r2 = checked_once text (Err (Refused q)) (Err (Refused r)) l r2
+exported_once text (Err (Refused q)) (Err (Memory e)) l r = tt
+exported_once text (Err (Memory e)) b l r = tt
+
+-- what the check refuses is refused
+pub refused_so : (text : List ℕ) (f : Fault) → IsChecked text (Err f) → Exports text (Err f)
+refused_so text (Refused r) h = h
+refused_so text (Memory e) h = tt

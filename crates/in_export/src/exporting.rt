@@ -1,0 +1,19 @@
+ghost use Rattle.in_export.specs.Exporting.{Exports, as_bytes};
+
+use crate::programs::line_of;
+use in_check::check;
+use in_syntax::Fault;
+use std::alloc::Global;
+
+/// The line of a text's program, where the text is accepted: one JSON object and a line feed, in UTF-8, whose numbers are those that `check`
+/// answers (`specs/Programs.antt` has each byte). Else the text is refused as `check` refuses it, at the first fault of the first pass that
+/// finds one; or memory is wanted. The form is this project's own choice.
+pub fn export(alloc: Global, text: &[u8]) -> Result<Vec<u8>, Fault>
+    ensures { Exports text.now (as_bytes result) }
+{
+    let checked = check(alloc, text)?;
+    match line_of(alloc, &checked) {
+        Ok(line) => Ok(line),
+        Err(error) => Err(Fault::Memory(error)),
+    }
+}

@@ -1,0 +1,15 @@
+//! Laws over the exported line. No function here does anything.
+
+ghost use Rattle.in_export.specs.Exporting.{TextsAreExportedOnce};
+ghost use Rattle.in_export.specs.Queues.{ActiveWiresAreTheQueue};
+
+/// The line is a function of the text: two answers to one text are one line, or one refusal. Nothing is said where memory was wanted.
+pub fn texts_are_exported_once()
+    ensures { TextsAreExportedOnce }
+{}
+
+/// The active wires of a net, in their order, join the active pairs of the queue with which its reduction begins; those of a right member the
+/// pairs that it brings itself.
+pub fn active_wires_are_the_queue()
+    ensures { ActiveWiresAreTheQueue }
+{}
