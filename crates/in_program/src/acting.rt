@@ -37,13 +37,13 @@ const WRONG_WORDS: Status = Status(2);
 
 const LIMIT: Status = Status(3);
 
-const FULL: Status = Status(4);
+pub(crate) const FULL: Status = Status(4);
 
-const MEMORY: Status = Status(5);
+pub(crate) const MEMORY: Status = Status(5);
 
 const FAULT: Status = Status(6);
 
-const MEMORY_LINE: &[u8] = b"memory\n";
+pub(crate) const MEMORY_LINE: &[u8] = b"memory\n";
 
 fn stop_status(stop: Stop) -> Status
     ensures { result ≡ stop_status stop }
@@ -56,7 +56,7 @@ fn stop_status(stop: Stop) -> Status
 }
 
 /// Writes a text, and answers the status, or that of a fault where the writer failed.
-fn tell<W: TextOut>(writer: &mut W, text: &[u8], status: Status) -> Status
+pub(crate) fn tell<W: TextOut>(writer: &mut W, text: &[u8], status: Status) -> Status
     requires { W.failures writer.old < 2 ^ 64 - 1 }
     ensures { Tells (device (W.taken writer.old) (W.failures writer.old)) (device (W.taken writer.new) (W.failures writer.new)) text.now status result }
 {
@@ -67,7 +67,7 @@ fn tell<W: TextOut>(writer: &mut W, text: &[u8], status: Status) -> Status
 }
 
 /// Writes lines, where they could be had.
-fn tell_lines<W: TextOut>(
+pub(crate) fn tell_lines<W: TextOut>(
     writer: &mut W,
     lines: Result<Vec<u8>, AllocError>,
     status: Status,
@@ -101,7 +101,7 @@ fn tell_net<W: TextOut>(
 }
 
 /// Writes what a run came to.
-fn tell_outcome<W: TextOut>(alloc: Global, writer: &mut W, outcome: &Outcome) -> Status
+pub(crate) fn tell_outcome<W: TextOut>(alloc: Global, writer: &mut W, outcome: &Outcome) -> Status
     requires { W.failures writer.old < 2 ^ 64 - 1 }
     ensures { TellsOne (AreThese (text_of outcome.now.machine ++ run_lines outcome.now.interactions outcome.now.stop) (stop_status outcome.now.stop))
         (device (W.taken writer.old) (W.failures writer.old)) (device (W.taken writer.new) (W.failures writer.new)) result }
@@ -170,7 +170,12 @@ fn tell_found<W: TextOut>(alloc: Global, writer: &mut W, derive: bool, checked: 
 }
 
 /// Writes why a text is refused, or that memory is wanted.
-fn tell_fault<W: TextOut>(alloc: Global, writer: &mut W, text: &[u8], fault: Fault) -> Status
+pub(crate) fn tell_fault<W: TextOut>(
+    alloc: Global,
+    writer: &mut W,
+    text: &[u8],
+    fault: Fault,
+) -> Status
     requires { W.failures writer.old < 2 ^ 64 - 1 }
     ensures { TellsOne (λ lines s. (r : Refusal) × (fault ≡ Refused r) × AreThese (refused_line text.now r) (status 1) lines s)
         (device (W.taken writer.old) (W.failures writer.old)) (device (W.taken writer.new) (W.failures writer.new)) result }
@@ -183,8 +188,8 @@ fn tell_fault<W: TextOut>(alloc: Global, writer: &mut W, text: &[u8], fault: Fau
     }
 }
 
-/// Writes what `check` or `derive` says of a text.
-fn tell_report<W: TextOut>(alloc: Global, writer: &mut W, derive: bool, text: &[u8]) -> Status
+/// Writes what `check` says of a text in memory, or what `derive` does, and answers the status: as `report` of a text that it reads.
+pub fn report_text<W: TextOut>(alloc: Global, writer: &mut W, derive: bool, text: &[u8]) -> Status
     requires { W.failures writer.old < 2 ^ 64 - 1 }
     ensures { TellsOne (IsReply (report_action derive) text.now) (device (W.taken writer.old) (W.failures writer.old)) (device (W.taken writer.new) (W.failures writer.new)) result }
 {
@@ -234,7 +239,7 @@ pub fn report<R: TextIn, W: TextOut>(
     ensures { Acts (report_action derive) (reader_of (R.given reader.old) (R.failures reader.old) (R.reads reader.old) (R.ended reader.old)) (reader_of (R.given reader.new) (R.failures reader.new) (R.reads reader.new) (R.ended reader.new)) (device (W.taken writer.old) (W.failures writer.old)) (device (W.taken writer.new) (W.failures writer.new)) result }
 {
     match read_text(alloc, reader) {
-        Input::Text(text) => tell_report(alloc, writer, derive, text.as_slice()),
+        Input::Text(text) => report_text(alloc, writer, derive, text.as_slice()),
         Input::Memory => tell(writer, MEMORY_LINE, MEMORY),
         Input::Failed => FAULT,
     }

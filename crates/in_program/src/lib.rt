@@ -2,11 +2,12 @@
 #![tactic(auto)]
 
 mod acting;
+mod in_turn;
 pub mod laws;
 mod lines;
 mod reading;
 mod runs;
 mod steps;
 
-pub use acting::{Status, act, report, tell_usage};
-pub use runs::{run_lines, start_line};
+pub use acting::{Status, act, report, report_text, tell_usage};
+pub use in_turn::run_text;

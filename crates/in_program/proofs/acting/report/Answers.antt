@@ -4,7 +4,7 @@ use Rattle.in_program.proofs.Told.{tells_reply, wants_memory}
 use Rattle.in_program.proofs.acting.report.Goals as goal
 
 pub returns-in-Text : goal.returns-in-Text
-returns-in-Text g c = tells_reply (report_action c.args.derive) _ _ _ _ c.in-Text.text.items _ _ c.as_slice.ensures.value c.in-Text.ensures c.tell_report.ensures
+returns-in-Text g c = tells_reply (report_action c.args.derive) _ _ _ _ c.in-Text.text.items _ _ c.as_slice.ensures.value c.in-Text.ensures c.report_text.ensures
 
 pub returns-in-Memory : goal.returns-in-Memory
 returns-in-Memory g c = let read = c.in-Memory.ensures {u = tt} in wants_memory (report_action c.args.derive) _ _ _ _ read.0 _ read.1 c.tell.ensures
