@@ -1,0 +1,4 @@
+mod Given
+mod LongTexts
+mod Refused
+mod Said
