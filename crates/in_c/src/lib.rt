@@ -11,10 +11,8 @@ mod answers;
 mod collecting;
 mod diagnosing;
 mod giving;
-mod lines;
 mod reading;
 mod reporting;
-mod running;
 mod telling;
 
 use crate::diagnosing::told;

@@ -5,18 +5,15 @@ ghost use Rattle.in_program.specs.Acting.{AreFound, AreThese, memory_status, sta
 ghost use Rattle.in_program.specs.Lines.{memory_line, run_lines, start_line};
 ghost use Rattle.in_rounds.specs.Texts.{text_of};
 ghost use Rattle.in_rounds.specs.declared.starting.StartFault.TheVariants.{Full};
-ghost use Rattle.in_run.specs.declared.running.RunFault.TheVariants.{Start};
 ghost use Rattle.in_words.specs.declared.action.Action.TheVariants.{Run};
 
 use crate::answers::{ACCEPTED, Answer, FULL, LIMIT, WRONG_WORDS};
 use crate::collecting::Collected;
-use crate::lines::{run_lines, start_line};
 use crate::reporting::reported;
-use crate::running::run;
 use in_check::{Checked, check};
 use in_print::write_net;
-use in_program::Status;
-use in_run::{Limits, Machine, Outcome, RunFault, StartFault, Stop};
+use in_program::{Status, run_lines, start_line};
+use in_run::{Limits, Machine, Outcome, StartFault, Stop, run_in_turn};
 use in_syntax::Fault;
 use std::alloc::{AllocError, Global};
 
@@ -56,15 +53,15 @@ fn outcome_said(alloc: Global, outcome: &Outcome) -> Result<Answer, AllocError>
 }
 
 /// What is said of a net that doesn't fit the cells; else memory is wanted.
-fn fault_said(alloc: Global, fault: &RunFault) -> Result<Answer, AllocError>
-    ensures { IfOk result (λ a. (c : CellClass) × (need : ℕ) × (free : ℕ) × (fault.now ≡ Start (Full c need free)) × AreThese (start_line c need free) (status 4) a.bytes.items a.status) }
+fn fault_said(alloc: Global, fault: StartFault) -> Result<Answer, AllocError>
+    ensures { IfOk result (λ a. (c : CellClass) × (need : ℕ) × (free : ℕ) × (fault ≡ Full c need free) × AreThese (start_line c need free) (status 4) a.bytes.items a.status) }
 {
     match fault {
-        RunFault::Start(StartFault::Full { class, need, free }) => Ok(Answer {
-            bytes: start_line(alloc, *class, *need, *free)?,
+        StartFault::Full { class, need, free } => Ok(Answer {
+            bytes: start_line(alloc, class, need, free)?,
             status: FULL,
         }),
-        _ => Err(AllocError),
+        StartFault::Memory(error) => Err(error),
     }
 }
 
@@ -72,17 +69,13 @@ fn fault_said(alloc: Global, fault: &RunFault) -> Result<Answer, AllocError>
 fn run_said(alloc: Global, checked: &Checked, limits: Limits) -> Result<Answer, AllocError>
     ensures { IfOk result (λ a. AreFound (Run limits) checked.now a.bytes.items a.status) }
 {
-    match run(alloc, checked, limits) {
+    match run_in_turn(alloc, checked, limits) {
         Ok(outcome) => {
             let said = outcome_said(alloc, &outcome);
             drop(outcome);
             said
         }
-        Err(fault) => {
-            let said = fault_said(alloc, &fault);
-            drop(fault);
-            said
-        }
+        Err(fault) => fault_said(alloc, fault),
     }
 }
 
