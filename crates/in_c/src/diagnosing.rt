@@ -1,0 +1,25 @@
+ghost use Rattle.in_c.specs.Answers.{IsDiagnosis};
+
+use crate::answers::{ACCEPTED, Answer, MEMORY, REFUSED};
+use in_diagnosis::diagnosis;
+use std::alloc::Global;
+
+/// What is told of a text that is refused.
+pub fn told(alloc: Global, text: &[u8]) -> Answer
+    ensures { IsDiagnosis text.now result.bytes.items result.status }
+{
+    match diagnosis(alloc, text) {
+        Ok(Some(words)) => Answer {
+            bytes: words.into_bytes(),
+            status: REFUSED,
+        },
+        Ok(None) => Answer {
+            bytes: Vec::new(alloc),
+            status: ACCEPTED,
+        },
+        Err(_) => Answer {
+            bytes: Vec::new(alloc),
+            status: MEMORY,
+        },
+    }
+}

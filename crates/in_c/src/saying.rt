@@ -1,0 +1,56 @@
+// What the program says of a text in memory.
+ghost use Rattle.std.specs.Prelude.{◌≡◌, ◌≢◌, IfOk, OnErr};
+ghost use Rattle.in_c.specs.Answers.{IsSaid, IsRunSaid};
+ghost use Rattle.in_program.specs.Acting.{fault_status, memory_status, report_action};
+ghost use Rattle.in_program.specs.Lines.{memory_line};
+ghost use Rattle.in_words.specs.declared.action.Action.TheVariants.{Run};
+
+use crate::answers::{Answer, FAULT, WRONG_WORDS};
+use crate::collecting::Collected;
+use in_program::{Status, report_text, run_text};
+use in_run::Limits;
+use std::alloc::{AllocError, Global};
+
+/// What was written with this status. A write fails only for want of memory, and then there is no answer.
+fn answer(writer: Collected, status: Status) -> Result<Answer, AllocError>
+    ensures { IfOk result (λ a. (a.bytes ≡ writer.bytes) × (a.status ≡ status) × (status ≢ fault_status)) }
+{
+    let bytes = writer.into_bytes();
+    if status == FAULT {
+        return Err(AllocError);
+    }
+    Ok(Answer { bytes, status })
+}
+
+/// What `check`, or `derive`, says of a text. Its only error is want of memory.
+pub fn reported(alloc: Global, derive: bool, text: &[u8]) -> Result<Answer, AllocError>
+    ensures { IfOk result (λ a. IsSaid (report_action derive) text.now a.bytes.items a.status) }
+{
+    let mut writer = Collected::new(alloc);
+    let status = report_text(alloc, &mut writer, derive, text);
+    answer(writer, status)
+}
+
+/// What `run` says of a text, within limits, in turn.
+fn run_said(alloc: Global, limits: Limits, text: &[u8]) -> Result<Answer, AllocError>
+    ensures { IfOk result (λ a. IsSaid (Run limits) text.now a.bytes.items a.status) }
+{
+    let mut writer = Collected::new(alloc);
+    let status = run_text(alloc, &mut writer, limits, text);
+    answer(writer, status)
+}
+
+/// What `run` with one worker says of a text, with so many interactions at most and so many cells of each class; that the words are wrong where
+/// one of the two is out of range. Its only error is want of memory, which comes only where both are in range.
+pub fn ran(alloc: Global, limit: u64, cells: u32, text: &[u8]) -> Result<Answer, AllocError>
+    ensures ok { IfOk result (λ a. IsRunSaid limit cells text.now a.bytes.items a.status) }
+    ensures err { OnErr result (IsRunSaid limit cells text.now memory_line memory_status) }
+{
+    match Limits::new(1, limit, cells) {
+        Some(limits) => run_said(alloc, limits, text),
+        None => Ok(Answer {
+            bytes: Vec::new(alloc),
+            status: WRONG_WORDS,
+        }),
+    }
+}

@@ -1,0 +1,198 @@
+/* Calls the library on the texts of the named files.
+ *
+ *   library threads FILE..   first by one thread, then by eight at once, each of which makes all the calls on each text: a line on each
+ *                            answer that differs, or that isn't given as include/inet.h says in rooms of several sizes; nothing else.
+ *                            Exit status 1 where there is a line.
+ *   library time CALL FILE.. what a call of check, derive, run or diagnose takes on each text: its bytes, and microseconds
+ *   library stack CALL KIB FILE..   the call by a thread with a stack of so many KiB
+ */
+#include "inet.h"
+
+#include <pthread.h>
+#include <stdatomic.h>
+#include <stdio.h>
+#include <stdlib.h>
+#include <string.h>
+#include <time.h>
+
+enum { THREADS = 8, CALLS = 4, MOST_FILES = 512, CANARY = 0xA5, LIMIT = 20000, CELLS = 4096 };
+
+struct answer {
+    uint8_t status;
+    size_t length;
+    uint8_t *bytes;
+};
+
+struct text {
+    const char *name;
+    size_t length;
+    uint8_t *bytes;
+    struct answer answers[CALLS];
+};
+
+static const char *const names[CALLS] = {"check", "derive", "run", "diagnose"};
+static struct text texts[MOST_FILES];
+static int text_count;
+static atomic_int wrong;
+
+static void *taken(size_t size)
+{
+    void *it = malloc(size ? size : 1);
+    if (!it)
+        exit(70);
+    return it;
+}
+
+static uint8_t call(int which, const struct text *text, uint8_t *room, size_t room_size, size_t *length)
+{
+    switch (which) {
+    case 0: return inet_check(text->bytes, text->length, room, room_size, length);
+    case 1: return inet_derive(text->bytes, text->length, room, room_size, length);
+    case 2: return inet_run(text->bytes, text->length, LIMIT, CELLS, room, room_size, length);
+    default: return inet_diagnose(text->bytes, text->length, room, room_size, length);
+    }
+}
+
+static struct answer whole(int which, const struct text *text)
+{
+    struct answer answer = {0, 0, taken(1)};
+    call(which, text, answer.bytes, 0, &answer.length);
+    free(answer.bytes);
+    answer.bytes = taken(answer.length);
+    answer.status = call(which, text, answer.bytes, answer.length, &answer.length);
+    return answer;
+}
+
+/* Asks with a room of this size, with bytes before and behind it that have to stay. */
+static void try_room(int which, const struct text *text, size_t size)
+{
+    const struct answer *wanted = &text->answers[which];
+    size_t length = 0, given = wanted->length < size ? wanted->length : size;
+    uint8_t *room = taken(size + 2);
+    memset(room, CANARY, size + 2);
+    uint8_t status = call(which, text, room + 1, size, &length);
+    int good = status == wanted->status && length == wanted->length && room[0] == CANARY && !memcmp(room + 1, wanted->bytes, given);
+    for (size_t at = given; at <= size; at++)
+        good = good && room[at + 1] == CANARY;
+    if (!good) {
+        wrong = 1;
+        printf("%s of %s in a room of %zu: status %d, %zu bytes; wanted: %d, %zu\n", names[which], text->name, size, status, length, wanted->status, wanted->length);
+    }
+    free(room);
+}
+
+static void *calls_on_all(void *number)
+{
+    for (int turn = 0; turn < text_count; turn++) {
+        const struct text *text = &texts[(turn + (int)(size_t)number * text_count / THREADS) % text_count];
+        for (int which = 0; which < CALLS; which++) {
+            size_t length = text->answers[which].length;
+            try_room(which, text, length + 3);
+            if ((size_t)number != (size_t)which)
+                continue;
+            try_room(which, text, 0);
+            try_room(which, text, length);
+            if (length)
+                try_room(which, text, length - 1);
+        }
+    }
+    return 0;
+}
+
+static int by_threads(void)
+{
+    pthread_t threads[THREADS];
+    for (int at = 0; at < text_count; at++)
+        for (int which = 0; which < CALLS; which++)
+            texts[at].answers[which] = whole(which, &texts[at]);
+    for (size_t number = 0; number < THREADS; number++)
+        if (pthread_create(&threads[number], 0, calls_on_all, (void *)number))
+            return 70;
+    for (int number = 0; number < THREADS; number++)
+        pthread_join(threads[number], 0);
+    return wrong;
+}
+
+static int call_named(const char *name)
+{
+    for (int which = 0; which < CALLS; which++)
+        if (!strcmp(names[which], name))
+            return which;
+    exit(70);
+}
+
+static double now(void)
+{
+    struct timespec it;
+    clock_gettime(CLOCK_MONOTONIC, &it);
+    return it.tv_sec * 1e6 + it.tv_nsec / 1e3;
+}
+
+/* The least of several means, each over a tenth of a second at least. */
+static void tell_time(int which, const struct text *text)
+{
+    static uint8_t room[1 << 24];
+    double least = 0;
+    size_t length;
+    uint8_t status = 0;
+    for (int turn = 0; turn < 7; turn++) {
+        double begun = now(), spent = 0;
+        long count = 0;
+        for (; spent < 1e5; count++, spent = now() - begun)
+            status = call(which, text, room, sizeof room, &length);
+        least = turn && least < spent / count ? least : spent / count;
+    }
+    printf("%s %s: %zu bytes, status %d, %.1f microseconds\n", names[which], text->name, text->length, status, least);
+}
+
+static int stack_call;
+
+static void *call_once(void *text)
+{
+    struct answer answer = whole(stack_call, text);
+    printf("%s %s: status %d\n", names[stack_call], ((struct text *)text)->name, answer.status);
+    return 0;
+}
+
+static void on_stack(size_t size, struct text *text)
+{
+    pthread_t thread;
+    pthread_attr_t attributes;
+    pthread_attr_init(&attributes);
+    if (pthread_attr_setstacksize(&attributes, size) || pthread_create(&thread, &attributes, call_once, text))
+        exit(70);
+    pthread_join(thread, 0);
+}
+
+static void read_file(const char *name)
+{
+    FILE *file = fopen(name, "rb");
+    struct text *text = &texts[text_count++];
+    if (!file || fseek(file, 0, SEEK_END) || text_count == MOST_FILES)
+        exit(70);
+    long size = ftell(file);
+    rewind(file);
+    text->name = name;
+    text->bytes = taken(size);
+    text->length = fread(text->bytes, 1, size, file);
+    fclose(file);
+}
+
+int main(int count, char **words)
+{
+    const char *what = count > 1 ? words[1] : "";
+    int first = !strcmp(what, "threads") ? 2 : !strcmp(what, "time") ? 3 : !strcmp(what, "stack") ? 4 : 70;
+    if (count <= first)
+        return 70;
+    for (int at = first; at < count; at++)
+        read_file(words[at]);
+    if (first == 2)
+        return by_threads();
+    int which = stack_call = call_named(words[2]);
+    for (int at = 0; at < text_count; at++)
+        if (first == 3)
+            tell_time(which, &texts[at]);
+        else
+            on_stack((size_t)atol(words[3]) * 1024, &texts[at]);
+    return 0;
+}
