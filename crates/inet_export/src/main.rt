@@ -6,13 +6,12 @@ ghost use Rattle.std.specs.Prelude.{◌-◌, ◌<◌, ◌^◌};
 
 mod streams;
 
-use crate::streams::{StreamIn, StreamOut};
+use crate::streams::StreamOut;
 use in_export::export;
 use in_print::write_all;
-use in_program::{Status, report};
+use in_program::{Status, report_text};
 use in_syntax::{Fault, MAX_TEXT_BYTES, TextOut};
 use std::alloc::Global;
-use std::env::Args;
 use std::io::{Error, ErrorKind, Read, Write};
 use std::process::ExitCode;
 use std::{env, io};
@@ -68,7 +67,7 @@ fn tell_program<W: TextOut>(alloc: Global, writer: &mut W, text: &[u8]) -> Statu
 {
     match export(alloc, text) {
         Ok(line) => tell(writer, line.as_slice(), WRITTEN),
-        Err(Fault::Refused(_)) => report(alloc, false, &mut StreamIn::new(text), writer),
+        Err(Fault::Refused(_)) => report_text(alloc, writer, false, text),
         Err(Fault::Memory(_)) => tell(writer, MEMORY_LINE, MEMORY),
     }
 }
@@ -97,21 +96,23 @@ fn answer<R: Read, W: Write + Drop, E: Write>(
     status
 }
 
-/// Whether there are no words but the program's name; words that can't be had are some.
-fn is_alone(words: io::Result<Args>) -> bool {
-    match words {
-        Ok(words) => words.count() <= 1,
-        Err(_) => false,
-    }
+/// Tells how the program is called.
+fn tell_usage<E: Write>(errors: &mut E) -> Status {
+    let _ = errors.write_all(USAGE);
+    WRONG_WORDS
 }
 
 fn main(rt: HostRuntime) -> ExitCode {
     let mut errors = rt.stderr();
-    let status = if is_alone(env::args(&rt)) {
-        answer(rt.alloc(), &mut rt.reader(), io::writer(&rt), &mut errors)
-    } else {
-        let _ = errors.write_all(USAGE);
-        WRONG_WORDS
+    let status = match env::args(&rt) {
+        // The first word is the program's name.
+        Ok(words) if words.len() <= 1 => {
+            answer(rt.alloc(), &mut rt.reader(), io::writer(&rt), &mut errors)
+        }
+        Err(error) if error.kind() == ErrorKind::OutOfMemory => {
+            tell(&mut StreamOut::new(io::writer(&rt)), MEMORY_LINE, MEMORY)
+        }
+        _ => tell_usage(&mut errors),
     };
     ExitCode::from(status.0)
 }

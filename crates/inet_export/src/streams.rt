@@ -1,63 +1,7 @@
 ghost use Rattle.std.specs.Prelude.{◌≡◌, None};
 
-use in_syntax::{TextIn, TextOut};
-use std::io::{Error, ErrorKind, Read, Write};
-
-/// A text from a stream of the system, which tells its failures and no bytes.
-#[derive(Drop)]
-pub struct StreamIn<R> {
-    reader: R,
-    ended: bool,
-    failures: u64,
-    reads: u64,
-    failure: Option<Error>,
-}
-
-impl<R> StreamIn<R> {
-    /// The stream, which was not read yet.
-    pub fn new(reader: R) -> StreamIn<R>
-        ensures { (result.failures ≡ 0) × (result.reads ≡ 0) }
-    {
-        StreamIn {
-            reader,
-            ended: false,
-            failures: 0,
-            reads: 0,
-            failure: None,
-        }
-    }
-
-    /// Why the last read that failed did.
-    pub fn failure(&self) -> Option<Error> {
-        self.failure
-    }
-}
-
-impl<R: Read> TextIn for StreamIn<R> {
-    ghost given = { λ _. None };
-
-    ghost ended = { λ s. s.ended };
-
-    ghost failures = { λ s. s.failures };
-
-    ghost reads = { λ s. s.reads };
-
-    fn read(&mut self, into: &mut [u8]) -> Result<usize, ()> {
-        self.reads = self.reads.saturating_add(1);
-        match self.reader.read(into) {
-            Ok(n) => {
-                self.ended = n == 0 && !into.is_empty();
-                Ok(n)
-            }
-            Err(error) => {
-                self.ended = false;
-                self.failures += 1;
-                self.failure = Some(error);
-                Err(())
-            }
-        }
-    }
-}
+use in_syntax::TextOut;
+use std::io::{Error, ErrorKind, Write};
 
 /// A text to a stream of the system, which tells its failures and no bytes.
 #[derive(Drop)]
