@@ -48,7 +48,7 @@ uint8_t inet_derive(const uint8_t *text, size_t text_length, uint8_t *room, size
 
 /* What `inet run` with one worker writes: the net that it comes to, the count of interactions and why it stopped, or the line of the
  * refusal. `limit` is how many interactions there are at most, 0 to 1,000,000,000,000; `cells` how many cells of each of three sizes,
- * 16 to 1,048,576: about 300 bytes are taken for each. (The program's usual numbers are 1,000,000 and 65,536.) */
+ * 16 to 1,048,576: about 270 bytes are taken for each. (The program's usual numbers are 1,000,000 and 65,536.) */
 uint8_t inet_run(const uint8_t *text, size_t text_length, uint64_t limit, uint32_t cells, uint8_t *room, size_t room_size, size_t *length);
 
 /* The diagnosis that `inet` writes to standard error on a text that is refused: several lines for people, whose words may change. It has no

@@ -163,7 +163,7 @@ def by_threads(program, library):
     if shutil.which("valgrind"):
         commands |= {f"valgrind: {what}": ([*words, plain], some) for what, words in VALGRIND.items()}
     for what, (command, files) in commands.items():
-        yield f"eight threads: {what}", answering(partial(program.run_command, [*command, "threads", *files]), 0, b"")
+        yield f"eight threads: {what}", answering(partial(program.run_command, [*command, "threads", *files], b""), 0, b"")
 
 
 def library(program):
