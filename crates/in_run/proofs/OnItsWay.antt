@@ -1,12 +1,15 @@
 -- A run, step by step and round by round.
-use Rattle.std.proofs.Common.{◌≡◌, ◌≤◌, ◌+◌, ℕ, zero, suc, List, Ok, Err, sym, subst, ◌∙◌, arith}
+use Rattle.std.proofs.Common.{◌≡◌, ◌≤◌, ◌+◌, ℕ, zero, suc, List, Ok, Err, refl, sym, subst, ◌∙◌, arith}
 use Rattle.in_check.specs.Checking.{IsAccepted}
 use Rattle.in_check.specs.Plain.{IsReachedBy}
 use Rattle.in_check.specs.Programs.{Program}
+use Rattle.in_check.proofs.Reached.Plain.{steps_under_names}
+use Rattle.in_interaction.specs.Queues.{agents_at}
 use Rattle.in_compile.specs.Cells.{agents_of, count_of}
 use Rattle.in_run.specs.declared.limits.Limits.{Limits}
 use Rattle.in_run.specs.declared.running.RunFault.TheVariants.{Start, Memory}
 use Rattle.in_run.specs.declared.stops.Stop.{Stop}
+use Rattle.in_run.specs.Advancing.{RunsAnyhow, no_step, then_any}
 use Rattle.in_run.specs.Laws.{TurnsAreAllowed}
 use Rattle.in_run.specs.Outcomes.{ReachesWith, RunsInTurn, RunsTo}
 use Rattle.in_run.specs.Stops.{GoesOn, IsStop}
@@ -15,9 +18,8 @@ use Rattle.in_reducer.specs.Starts.{IsStart}
 use Rattle.in_rounds.specs.Machines.{IsMachine}
 use Rattle.in_reducer.specs.Runs.{Runs, at_start, then_step}
 use Rattle.in_reducer.specs.Steps.{StepsAt}
-use Rattle.in_rounds.proofs.OneEnd.{program_kept}
 use Rattle.in_rounds.proofs.Rounded.{joined}
-use Rattle.in_rounds.proofs.SameRun.{machine_runs, run_keeps}
+use Rattle.in_rounds.proofs.StepsOn.{machine_on}
 use Rattle.in_rounds.proofs.SameStart.{start_machine, start_reached}
 
 -- so many interactions of a program's run within these limits
@@ -28,21 +30,40 @@ pub record IsOnItsWay (p : Program) (l : Limits) (k : ℕ) (m : MachineParts) : 
   pub in_turn : l.workers ≡ 1 → Runs start k m
   pub within : k ≤ l.limit
 
--- ---- in turn
+-- ---- in any order
 
-cells_kept : (m n : MachineParts) (k cells : ℕ) → Runs m k n → HasCells cells m → HasCells cells n
-cells_kept m n zero cells (at_start _) h = h
-cells_kept m o (suc k) cells (then_step _ n _ _ before s) h = λ c.
+pub runs_anyhow : (m n : MachineParts) (k : ℕ) → Runs m k n → RunsAnyhow m k n
+runs_anyhow m n zero (at_start _) = no_step m
+runs_anyhow m o (suc k) (then_step _ n _ _ before s) = then_any m n o k 0 (runs_anyhow m n k before) s
+
+program_kept : (m n : MachineParts) (k : ℕ) → RunsAnyhow m k n → n.program ≡ m.program
+program_kept m n zero (no_step _) = refl
+program_kept m o (suc k) (then_any _ n _ _ i before s) = s.step.program ∙ program_kept m n k before
+
+cells_kept : (m n : MachineParts) (k cells : ℕ) → RunsAnyhow m k n → HasCells cells m → HasCells cells n
+cells_kept m n zero cells (no_step _) h = h
+cells_kept m o (suc k) cells (then_any _ n _ _ i before s) h = λ c.
     subst (λ (z : Program). count_of o.vacant c + agents_of z.tables c o.agents ≡ cells) (sym s.step.program) (s.cells c ∙ cells_kept m n k cells before h c)
 
--- the interactions of a run in turn are some more
-reaches_on : (p : Program) (cells j k : ℕ) (m n : MachineParts) → ReachesWith p cells j m → Runs m k n → ReachesWith p cells (k + j) n
+machine_kept : (m n : MachineParts) (k : ℕ) → RunsAnyhow m k n → IsMachine m → IsMachine n
+machine_kept m n zero (no_step _) h = h
+machine_kept m o (suc k) (then_any _ n _ _ i before s) h = machine_on n o i (machine_kept m n k before h) s
+
+reached_on : (m n : MachineParts) (j k : ℕ) → RunsAnyhow m k n → IsMachine m → IsReachedBy (plain_of m) j → IsReachedBy (plain_of n) (k + j)
+reached_on m n j zero (no_step _) h reached = subst (λ z. IsReachedBy (plain_of m) z) (let z : j ≡ 0 + j = omega arith in z) reached
+reached_on m o j (suc k) (then_any _ n _ _ i before s) h reached =
+    subst (λ z. IsReachedBy (plain_of o) z) (let z : suc (k + j) ≡ suc k + j = omega arith in z)
+    ((steps_under_names (plain_of n) (plain_of o) (agents_at s.pair).0 (agents_at s.pair).1 s.name (machine_kept m n k before h).plain s.active s.step).1 (k + j)
+    (reached_on m n j k before h reached))
+
+-- the interactions of a run are some more
+reaches_on : (p : Program) (cells j k : ℕ) (m n : MachineParts) → ReachesWith p cells j m → RunsAnyhow m k n → ReachesWith p cells (k + j) n
 reaches_on p cells j k m n h run = record {
   start = h.start;
-  machine = machine_runs m n k h.machine run;
+  machine = machine_kept m n k run h.machine;
   program = program_kept m n k run ∙ h.program;
   counted = cells_kept m n k cells run h.counted;
-  reached = (run_keeps m n j k h.machine.plain h.reached run).1;
+  reached = reached_on m n j k run h.machine h.reached;
 }
 
 -- a start is reached by none
@@ -60,7 +81,7 @@ module _ (text : List ℕ) (p : Program) (l : Limits) (accepted : IsAccepted tex
   begins = record { start = m; starts = h; reaches = at_first; in_turn = λ _. at_start m; within = omega arith }
 
   pub reaches_in_turn : (k : ℕ) (n : MachineParts) → Runs m k n → ReachesWith p l.cells k n
-  reaches_in_turn k n run = subst (λ j. ReachesWith p l.cells j n) (let z : k + 0 ≡ k = omega arith in z) (reaches_on p l.cells 0 k m n at_first run)
+  reaches_in_turn k n run = subst (λ j. ReachesWith p l.cells j n) (let z : k + 0 ≡ k = omega arith in z) (reaches_on p l.cells 0 k m n at_first (runs_anyhow m n k run))
 
 pub turns_are_allowed : TurnsAreAllowed
 turns_are_allowed text p l (Ok o) accepted h = ((reaches_in_turn text p l accepted h.0 h.1 o.interactions o.machine h.2.run, h.2.within, h.2.stop), λ _. h)
@@ -70,30 +91,18 @@ turns_are_allowed text p l (Err (Memory m k)) accepted h = ((reaches_in_turn tex
 -- ---- further on
 
 module _ (p : Program) (l : Limits) (k : ℕ) (m : MachineParts) (h : IsOnItsWay p l k m) where
-  -- more interactions in turn
-  runs_further : (n : MachineParts) (j : ℕ) → Runs m j n → j + k ≤ l.limit → IsOnItsWay p l (j + k) n
-  runs_further n j run fits = record {
+  -- more interactions in any order, and in turn where there is one worker
+  runs_further : (n : MachineParts) (j : ℕ) → RunsAnyhow m j n → (l.workers ≡ 1 → Runs m j n) → j + k ≤ l.limit → IsOnItsWay p l (j + k) n
+  runs_further n j run turn fits = record {
     start = h.start;
     starts = h.starts;
     reaches = reaches_on p l.cells k j m n h.reaches run;
-    in_turn = λ one. joined h.start m n k j (h.in_turn one) run;
+    in_turn = λ one. joined h.start m n k j (h.in_turn one) (turn one);
     within = fits;
   }
 
-  -- some more, first in, first out
-  pub advances_further : (n : MachineParts) (j : ℕ) → Runs m j n → j + k ≤ l.limit → IsOnItsWay p l (k + j) n
-  advances_further n j run fits = subst (λ i. IsOnItsWay p l i n) (let z : j + k ≡ k + j = omega arith in z) (runs_further n j run fits)
-
-  -- of several workers, more interactions in any order
-  pub goes_further : (n : MachineParts) (j : ℕ) → (l.workers ≡ 1 → ⊥) → IsMachine n → n.program ≡ m.program → HasCells l.cells n
-      → (IsReachedBy (plain_of m) k → IsReachedBy (plain_of n) (k + j)) → k + j ≤ l.limit → IsOnItsWay p l (k + j) n
-  goes_further n j several machine program counted on fits = record {
-    start = h.start;
-    starts = h.starts;
-    reaches = record { start = h.reaches.start; machine = machine; program = program ∙ h.reaches.program; counted = counted; reached = on h.reaches.reached };
-    in_turn = λ one. absurd (several one);
-    within = fits;
-  }
+  pub advances_further : (n : MachineParts) (j : ℕ) → RunsAnyhow m j n → (l.workers ≡ 1 → Runs m j n) → j + k ≤ l.limit → IsOnItsWay p l (k + j) n
+  advances_further n j run turn fits = subst (λ i. IsOnItsWay p l i n) (let z : j + k ≡ k + j = omega arith in z) (runs_further n j run turn fits)
 
   -- ---- its outcome
 

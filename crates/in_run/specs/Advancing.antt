@@ -1,9 +1,15 @@
 -- What the next interactions of a run are.
-use Rattle.std.specs.Prelude.{◌≡◌, ◌≤◌, ◌+◌, ℕ, Result, Ok, Err}
+use Rattle.std.specs.Prelude.{◌≡◌, ◌≤◌, ◌+◌, ℕ, zero, suc, Result, Ok, Err}
 use Rattle.in_reducer.specs.Machines.{MachineParts}
 use Rattle.in_reducer.specs.Runs.{Runs}
+use Rattle.in_reducer.specs.Steps.{StepsAt}
 
--- some interactions more, first in, first out, and within the limit; or for want of memory none
-abbrev pub Advances : {E : Type 0} → ℕ → ℕ → MachineParts → Result ℕ E → MachineParts → Type 0
-Advances limit k m (Ok j) n = Runs m j n × (1 ≤ j) × (j + k ≤ limit)
-Advances limit k m (Err e) n = n ≡ m
+-- so many interactions one after another, each at any pair of the queue
+pub data RunsAnyhow : MachineParts → ℕ → MachineParts → Type 0 where
+  no_step : (m : MachineParts) → RunsAnyhow m zero m
+  then_any : (m n o : MachineParts) (k i : ℕ) → RunsAnyhow m k n → StepsAt n i o → RunsAnyhow m (suc k) o
+
+-- some interactions more, within the limit, and of one worker first in, first out; or for want of memory none
+abbrev pub Advances : {E : Type 0} → ℕ → ℕ → ℕ → MachineParts → Result ℕ E → MachineParts → Type 0
+Advances workers limit k m (Ok j) n = RunsAnyhow m j n × (workers ≡ 1 → Runs m j n) × (1 ≤ j) × (j + k ≤ limit)
+Advances workers limit k m (Err e) n = n ≡ m

@@ -1,10 +1,12 @@
 // The next interactions of a run.
-ghost use Rattle.std.specs.Prelude.{◌≤◌, ◌<◌, ◌^◌, length};
-ghost use Rattle.in_run.specs.Advancing.{Advances};
+ghost use Rattle.std.specs.Prelude.{◌≡◌, ◌≤◌, ◌<◌, ◌+◌, ◌^◌, ℕ, length};
+ghost use Rattle.in_reducer.specs.Machines.{MachineParts};
+ghost use Rattle.in_run.specs.Advancing.{Advances, RunsAnyhow};
 ghost use Rattle.in_run.specs.Stops.{GoesOn};
+ghost use Rattle.in_reducer.specs.Runs.{Runs};
 
 use crate::limits::Limits;
-use in_rounds::{Gate, Machine, Need, round};
+use in_rounds::{CellClass, Gate, Machine, Need, round};
 use std::alloc::{AllocError, Global};
 use std::sync::Wait;
 use std::thread::Threads;
@@ -17,6 +19,12 @@ const ROUND_AGENTS: u64 = 48 * 2_048;
 
 /// How many jobs a round has for each worker at most, so that its cells stay in the cache.
 const WORKER_JOBS: u32 = 1_024;
+
+/// From how many interactions on several workers take the newest pairs first: a shorter run is over before that could pay.
+const NEWEST_FROM: u64 = 16_384;
+
+/// How many of the newest pairs are taken before the oldest one has its turn.
+const NEWEST_TURN: u64 = 1_024;
 
 /// How many agents there are in the right member that a pair needs.
 fn agents(need: Need) -> u64
@@ -56,7 +64,7 @@ fn by_round<R: Threads + Wait, G: Gate + Sync>(
     gate: &G,
 ) -> Result<u64, AllocError>
     requires { GoesOn limits.limit machine.old interactions }
-    ensures { Advances limits.limit interactions machine.old result machine.new }
+    ensures { Advances limits.workers limits.limit interactions machine.old result machine.new }
 {
     let workers = limits.workers();
     let jobs = u64::from(workers) * u64::from(WORKER_JOBS);
@@ -65,8 +73,53 @@ fn by_round<R: Threads + Wait, G: Gate + Sync>(
     Ok(u64::from(done.interactions))
 }
 
-/// The next interactions, first in, first out, where one is next: a round where there are several workers and it pays, else one interaction.
-/// Says how many they were; for want of memory nothing is done.
+/// Whether half of so many cells of each class are free: enough that the order in which pairs are taken is no reason to stop.
+#[inline(always)]
+fn has_plenty(machine: &Machine, cells: u32) -> bool {
+    let half = cells / 2;
+    machine.free(CellClass::Small) >= half
+        && machine.free(CellClass::Large) >= half
+        && machine.free(CellClass::Wide) >= half
+}
+
+/// Interactions of the newest pairs, at most so many, while half of the cells are free and so is what the newest pair needs. Says how many
+/// they were. What was made last is still in the cache, and a net that is reduced from there stays small.
+fn take_newest(machine: &mut Machine, cells: u32, most: u64) -> u64
+    ensures goes { (m : MachineParts) (k : ℕ) → RunsAnyhow m k machine.old → RunsAnyhow m (result + k) machine.new }
+    ensures most { result ≤ most }
+{
+    let mut count = 0;
+    while count < most && has_plenty(machine, cells) {
+        let pairs = machine.pairs();
+        if pairs == 0 || !machine.has_room(pairs - 1) {
+            return count;
+        }
+        machine.step(pairs - 1);
+        count += 1;
+    }
+    count
+}
+
+/// The interaction of the oldest pair, which has to have room, and of several workers' long runs those of newest ones after it, at most up to
+/// the limit. Says how many they were.
+#[inline(always)]
+fn by_steps(machine: &mut Machine, limits: Limits, interactions: u64) -> u64
+    requires { GoesOn limits.limit machine.old interactions }
+    ensures goes { RunsAnyhow machine.old result machine.new }
+    ensures turn { limits.workers ≡ 1 → Runs machine.old result machine.new }
+    ensures some { 1 ≤ result }
+    ensures most { result + interactions ≤ limits.limit }
+{
+    machine.step(0);
+    if limits.workers() == 1 || interactions < NEWEST_FROM {
+        return 1;
+    }
+    let most = NEWEST_TURN.min(limits.limit() - interactions - 1);
+    1 + take_newest(machine, limits.cells(), most)
+}
+
+/// The next interactions, where one is next: a round where there are several workers and it pays, else one interaction after another. Of one
+/// worker they are first in, first out. Says how many they were; for want of memory nothing is done.
 #[inline(always)]
 pub(crate) fn advance<R: Threads + Wait, G: Gate + Sync>(
     rt: &R,
@@ -78,12 +131,11 @@ pub(crate) fn advance<R: Threads + Wait, G: Gate + Sync>(
     gate: &G,
 ) -> Result<u64, AllocError>
     requires { GoesOn limits.limit machine.old interactions }
-    ensures { Advances limits.limit interactions machine.old result machine.new }
+    ensures { Advances limits.workers limits.limit interactions machine.old result machine.new }
 {
     let workers = limits.workers();
     if workers > 1 && wants_round(machine, workers, interactions, look_at) {
         return by_round(rt, alloc, machine, limits, interactions, gate);
     }
-    machine.step(0);
-    Ok(1)
+    Ok(by_steps(machine, limits, interactions))
 }

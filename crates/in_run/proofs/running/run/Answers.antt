@@ -16,7 +16,7 @@ loop-stop-init g c =
 pub loop-stop-preserved : goal.loop-stop-preserved
 loop-stop-preserved g c =
     let h = c.in-Ok-done.ensures in
-    advances_further c.args.checked.now c.args.limits c.loop-stop.interactions c.loop-stop.machine c.loop-stop.invariant c.advance-done.new.machine c.in-Ok-done.more h.0 h.2
+    advances_further c.args.checked.now c.args.limits c.loop-stop.interactions c.loop-stop.machine c.loop-stop.invariant c.advance-done.new.machine c.in-Ok-done.more h.0 h.1 h.3
 
 pub returns-in-Some-clause-runs : goal.returns-in-Some-clause-runs
 returns-in-Some-clause-runs g c =
