@@ -263,7 +263,7 @@ module _ (sig : Signature) (one two : Net ℕ) (name : ℕ → ℕ) (ends : List
   abbrev both : ℕ → Net ℕ
   both = two_parts one two
 
-  abbrev loose : Cuts
+  abbrev pub loose : Cuts
   loose = record { across = no_joint; outer = ends }
 
   is_end : (i e : ℕ) (u : Point ℕ) → (both i).partner (Free e) ≡ Some u → e < length (both i).free

@@ -1,2 +1,4 @@
 pub mod Leading
 pub mod CutOnce
+pub mod CutDown
+pub mod BesideSound

@@ -1,8 +1,8 @@
 -- Nets that are cut, reduced apart and glued again, over whole runs: what the parts do is a run of the whole. Agents may have other names
 -- after each step, as where agents are moved from one memory to another. That nets are reduced in parts is this project's own choice.
-use Rattle.std.specs.Prelude.{◌≡◌, ◌+◌, ◌<◌, ℕ, suc, List, [], ◌∷◌, ◌++◌, length, map, Some, slice_get}
+use Rattle.std.specs.Prelude.{◌≡◌, ◌+◌, ◌<◌, ℕ, zero, suc, List, [], ◌∷◌, ◌++◌, length, map, Some, slice_get}
 use Rattle.in_symbols.specs.declared.symbols.PortType.{PortType}
-use Rattle.in_net.specs.Nets.{Point, Net}
+use Rattle.in_net.specs.Nets.{Point, Net, IsNet}
 use Rattle.in_typing.specs.TypedNets.{type_in}
 use Rattle.in_check.specs.Runs.{Reached}
 use Rattle.in_check.specs.Systems.{System, IsSound, IsSoundSystem}
@@ -57,6 +57,26 @@ CutOnceIsSound = (p : System) (w m : Net ℕ) → IsSound p w → IsCutOnce p w 
 abbrev pub CutLeadsAreJoined : Type 0
 CutLeadsAreJoined = (p : System) (k : ℕ) (w m n o : Net ℕ) → IsSoundSystem p → IsSound p w → IsCutOnce p w m → Leads p k m n → IsJoinedOnce n o → Leads p k w o
 
+-- ---- wires that are cut one after another, and joined in the opposite order
+
+-- so many wires are cut, one after another
+pub data IsCutDown (p : System) : ℕ → Net ℕ → Net ℕ → Type 0 where
+  uncut : (n : Net ℕ) → IsCutDown p zero n n
+  then_cut : (w : ℕ) (n m o : Net ℕ) → IsCutDown p w n m → IsCutOnce p m o → IsCutDown p (suc w) n o
+
+-- so often the last two free ends are joined
+pub data IsJoinedUp : ℕ → Net ℕ → Net ℕ → Type 0 where
+  unjoined : (n : Net ℕ) → IsJoinedUp zero n n
+  joined_first : (w : ℕ) (n m o : Net ℕ) → IsJoinedOnce n m → IsJoinedUp w m o → IsJoinedUp (suc w) n o
+
+-- a sound net stays sound where wires are cut
+abbrev pub CutDownIsSound : Type 0
+CutDownIsSound = (p : System) (w : ℕ) (n m : Net ℕ) → IsSound p n → IsCutDown p w n m → IsSound p m
+
+-- what a net leads to in which wires are cut, with as many pairs of ends joined again, the net itself leads to
+abbrev pub CutDownLeadsAreJoinedUp : Type 0
+CutDownLeadsAreJoinedUp = (p : System) (w k : ℕ) (n m o q : Net ℕ) → IsSoundSystem p → IsSound p n → IsCutDown p w n m → Leads p k m o → IsJoinedUp w o q → Leads p k n q
+
 -- ---- nets side by side
 
 -- one net is the other two side by side: those of the first keep their names, those of the second have these, and the free ends are these
@@ -73,3 +93,12 @@ pub record StandBeside (one two : Net ℕ) (name : ℕ → ℕ) (ends : List (�
 abbrev pub BesideLeads : Type 0
 BesideLeads = (p : System) (j k : ℕ) (one two one_after two_after n m : Net ℕ) (before after : ℕ → ℕ) (ends : List (ℕ × ℕ)) → IsSoundSystem p → IsSound p n → IsSound p one → IsSound p two →
     StandBeside one two before ends n → Leads p j one one_after → Leads p k two two_after → StandBeside one_after two_after after ends m → Leads p (j + k) n m
+
+-- what stands side by side in a sound net is sound
+abbrev pub BesidePartsAreSound : Type 0
+BesidePartsAreSound = (p : System) (one two n : Net ℕ) (name : ℕ → ℕ) (ends : List (ℕ × ℕ)) → IsSound p n → IsNet p.symbols one → IsNet p.symbols two →
+    StandBeside one two name ends n → IsSound p one × IsSound p two
+
+-- .. and sound nets side by side are a sound net
+abbrev pub BesideSoundIsSound : Type 0
+BesideSoundIsSound = (p : System) (one two n : Net ℕ) (name : ℕ → ℕ) (ends : List (ℕ × ℕ)) → IsSound p one → IsSound p two → StandBeside one two name ends n → IsSound p n

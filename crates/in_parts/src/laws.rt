@@ -1,5 +1,5 @@
 //! Laws over the definitions alone. No function here does anything.
-ghost use Rattle.in_parts.specs.Leading.{BesideLeads, CutLeadsAreJoined, CutOnceIsSound, LeadsGoOn, PartsLeadTheWhole};
+ghost use Rattle.in_parts.specs.Leading.{BesideLeads, BesidePartsAreSound, BesideSoundIsSound, CutDownIsSound, CutDownLeadsAreJoinedUp, CutLeadsAreJoined, CutOnceIsSound, LeadsGoOn, PartsLeadTheWhole};
 
 /// A run goes on where one ended: the counts are added.
 pub fn leads_go_on()
@@ -26,4 +26,24 @@ pub fn cut_leads_are_joined()
 /// What two nets lead to by themselves, side by side, the two side by side lead to.
 pub fn beside_leads()
     ensures { BesideLeads }
+{}
+
+/// A sound net stays sound where wires are cut, one after another.
+pub fn cut_down_is_sound()
+    ensures { CutDownIsSound }
+{}
+
+/// What a net leads to in which wires are cut one after another, with the ends joined again in the opposite order, the net itself leads to.
+pub fn cut_down_leads_are_joined_up()
+    ensures { CutDownLeadsAreJoinedUp }
+{}
+
+/// Nets that stand side by side in a sound net are sound.
+pub fn beside_parts_are_sound()
+    ensures { BesidePartsAreSound }
+{}
+
+/// Sound nets that stand side by side are a sound net.
+pub fn beside_sound_is_sound()
+    ensures { BesideSoundIsSound }
 {}

@@ -26,3 +26,5 @@ pub mod Stepped
 pub mod StepsOn
 pub mod StillNet
 pub mod Undone
+pub mod Appended
+pub mod QueueBeside

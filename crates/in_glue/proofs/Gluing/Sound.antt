@@ -64,7 +64,7 @@ sound_steps p n x name after good h act =
 
 -- ---- parts of a sound net
 
-at_outer : {T Y : Type 0} (xs : List T) (ys : List Y) (g : Y → Option T) → map (λ t. Some t) xs ≡ map g ys → (k : ℕ) (y : Y) → slice_get ys k ≡ Some y → slice_get xs k ≡ g y
+pub at_outer : {T Y : Type 0} (xs : List T) (ys : List Y) (g : Y → Option T) → map (λ t. Some t) xs ≡ map g ys → (k : ℕ) (y : Y) → slice_get ys k ≡ Some y → slice_get xs k ≡ g y
 at_outer xs [] g e k y h = cc
 at_outer [] (z ∷ zs) g e k y h = cc
 at_outer (x ∷ xs) (z ∷ zs) g e zero y h =
