@@ -142,8 +142,7 @@ module _ (p : System) (one two m : Net ℕ) (name : ℕ → ℕ) (ends : List (�
     whose : (u : Point ℕ) → IsPoint p.symbols m u → Whose u
     whose (Port y k) g =
         let s = symbol_of p.symbols (m.symbol y) k g in
-        let a = (h.beside.agents y s.0).0 s.1 in
-        (
+        let a = (h.beside.agents y s.0).0 s.1 in (
           a.0,
           Port a.1 k,
           ap (λ (z : ℕ). Port z k) a.2,
@@ -160,6 +159,12 @@ module _ (p : System) (one two m : Net ℕ) (name : ℕ → ℕ) (ends : List (�
             outside (q ∷ qs) (suc k) l e = outside qs k (omega (arith, l)) e
         go (Some q) e = (q.0, Free q.1, ap (λ (z : ℕ). Free z) (h.numbered k q e), end_there k q e)
 
+    abbrev one_agents : List ℕ
+    one_agents = sound_one.net.agents
+
+    abbrev two_agents : List ℕ
+    two_agents = sound_two.net.agents
+
     all_among : (y : ℕ) → IsSome (m.symbol y) → IsAmong y (one_agents ++ map name two_agents)
     all_among y g = go (has_value (m.symbol y) g)
       where
@@ -172,12 +177,6 @@ module _ (p : System) (one two m : Net ℕ) (name : ℕ → ℕ) (ends : List (�
                 among_right y one_agents (map name two_agents)
                 (subst (λ (z : ℕ). IsAmong z (map name two_agents)) e (in_map name two_agents x (sound_two.net.all x (is_some (two.symbol x) s.0 f))))
             among (suc (suc i), x, e, f) = cc
-
-    abbrev one_agents : List ℕ
-    one_agents = sound_one.net.agents
-
-    abbrev two_agents : List ℕ
-    two_agents = sound_two.net.agents
 
     whole_net : IsNet p.symbols m
     whole_net = record {
