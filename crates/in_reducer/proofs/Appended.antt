@@ -1,9 +1,9 @@
 -- A reducer after the net of another one was added to it.
 use Rattle.std.proofs.Common.{◌≡◌, ◌≢◌, ◌⊎◌, inl, inr, ◌<◌, ◌≤◌, ◌+◌, ◌*◌, ℕ, zero, suc, Bool, true, false, cond, Option, Some, None, IsSome, List, [], ◌∷◌, ◌++◌, length, map, take, get_or, count_by, slice_get, refl, sym, ap, subst, ◌∙◌, length-append, arith}
 use Rattle.std.specs.Prelude.{option_map}
+use Rattle.std.specs.VecDeque.{deque_capacity}
 use Rattle.std.proofs.Math.Seq.{take-append_seam, take-length}
 use Rattle.std.proofs.lemmas.List.{length-map, length-take-le, map-append}
-use Rattle.std.proofs.lemmas.List.Sums.{sum_by-cons}
 use Rattle.std.proofs.lemmas.Bool.Decides.{nat_tests}
 use Rattle.std.proofs.lemmas.Option.{same_Some}
 use native.Mathlib.Decide.{ℕ_discrete}
@@ -14,26 +14,31 @@ use Rattle.in_arena.specs.declared.content.CellClass.{CellClass}
 use Rattle.in_arena.specs.declared.content.CellClass.TheVariants.{Small, Large, Wide}
 use Rattle.in_arena.specs.declared.content.CellNo.{CellNo}
 use Rattle.in_arena.specs.declared.content.End.{End}
+use Rattle.in_arena.specs.declared.content.End.TheVariants as end
+use Rattle.in_arena.proofs.Arenas.{state_inside}
 use Rattle.in_arena.proofs.Classes.{numbers_apart}
 use Rattle.in_symbols.specs.declared.symbols.PortType.{PortType}
 use Rattle.in_symbols.specs.Tables.{Tables, arity_of}
 use Rattle.in_net.specs.declared.nets.Cell.{Cell}
 use Rattle.in_net.specs.declared.nets.FreeEnd.{FreeEnd}
-use Rattle.in_net.specs.Nets.{Net}
+use Rattle.in_net.specs.Nets.{Port, Free, Net, signature_of}
+use Rattle.in_net.specs.Parts.{symbol_in}
+use Rattle.in_net.proofs.PairPorts.{symbol_of}
 use Rattle.in_interaction.specs.Queues.{IsQueueOf, both}
 use Rattle.in_check.specs.Programs.{Program}
 use Rattle.in_check.specs.Systems.{System, IsSound, system_of}
 use Rattle.in_check.proofs.Reached.Signs.{AreOpposed, opposed_in}
 use Rattle.in_compile.specs.Cells.{agents_of, count_of, is_of, takes}
-use Rattle.in_joining.specs.Shown.{IsShown}
-use Rattle.in_moving.specs.Copying.{AreClosed, HasRoom, IsCopied, is_for, moved, moved_end, name_in, number_in}
+use Rattle.in_interaction.proofs.Stepping.KeptOrMade.{symbol_number}
+use Rattle.in_joining.specs.Shown.{IsShown, point_of}
+use Rattle.in_moving.specs.Copying.{AreClosed, HasRoom, IsCopied, IsListOfLive, IsWithin, is_for, moved, moved_end, name_in, number_in}
 use Rattle.in_moving.specs.Laws.{Shows, one_after_other}
-use Rattle.in_moving.proofs.Beside.{all_are_closed, copies_stand_beside}
+use Rattle.in_moving.proofs.Shown.{all_are_closed, copies_stand_beside}
 use Rattle.in_parts.specs.Leading.{StandBeside}
 use Rattle.in_parts.proofs.BesideSound.{beside_sound_is_sound}
 use Rattle.in_reducer.specs.declared.body.Body.{Body}
 use Rattle.in_reducer.specs.declared.body.OwnEnd.{OwnEnd}
-use Rattle.in_reducer.specs.Appending.{Appends, AreLiveCells, CanAppend, is_live_for}
+use Rattle.in_reducer.specs.Appending.{Appends, CanAppend}
 use Rattle.in_reducer.specs.Cutting.{net_in}
 use Rattle.in_reducer.specs.Inside.{IsOwnEnd, KeepsNet, declared_as, most_ends, own_free, reducer_view}
 use Rattle.in_reducer.specs.Machines.{MachineParts, parts_of}
@@ -41,27 +46,11 @@ use Rattle.in_reducer.specs.Reducers.{IsReducer}
 use Rattle.in_reducer.specs.Standing.{AreLeasedAlike, IsNetIn, agent_in, agents_in, at_rest, leading_to, vacant_in}
 use Rattle.in_reducer.proofs.AtRest.{rests}
 use Rattle.in_reducer.proofs.Counted.{cells_at_rest}
+use Rattle.in_reducer.proofs.LiveCounted.{agents_listed}
 use Rattle.in_reducer.proofs.QueueBeside.{queue_beside}
-use Rattle.in_reducer.proofs.Shown.{is_over, is_shown, places_seen, same_kinds, same_many, same_names}
+use Rattle.in_reducer.proofs.Queues.{short_queue}
+use Rattle.in_reducer.proofs.Shown.{is_over, is_shown, partner_seen, places_seen, same_kinds, same_many, same_names, symbol_seen}
 use Rattle.in_reducer.proofs.StillNet.{IsGood, good_of, net_in as net_stays}
-
--- ---- counting
-
--- a cell is counted as its agent is
-module _ (t : Tables) (c : CellClass) where
-  counted_here : (x : State) → ((s : ℕ) → word_of x ≡ Some s → places x ≡ suc (arity_of t s)) → is_live_for c x ≡ takes t c (agent_in x)
-  counted_here Vacant h = refl
-  counted_here Leased h = refl
-  counted_here (Live word ends) h = let e = h word refl in ap (holds c) (let z : length ends ≡ arity_of t word + 1 = omega (arith, e) in z)
-
-  counted : (xs : List State) → ((i s : ℕ) → word_of (get_or xs i Leased) ≡ Some s → places (get_or xs i Leased) ≡ suc (arity_of t s)) → count_by (is_live_for c) xs ≡ agents_of t c (map agent_in xs)
-  counted [] h = refl
-  counted (x ∷ xs) h =
-      let here : cond (is_live_for c x) 1 0 ≡ cond (takes t c (agent_in x)) 1 0 = ap (λ (b : Bool). cond b 1 0) (counted_here x (h 0)) in
-      let rest = counted xs (λ i. h (suc i)) in
-      let one = sum_by-cons (λ y. cond (is_live_for c y) 1 0) x xs in
-      let other = sum_by-cons (λ y. cond (takes t c y) 1 0) (agent_in x) (map agent_in xs) in
-      omega (arith, here, rest, one, other)
 
 -- ---- names
 
@@ -71,15 +60,15 @@ IsNamed agents names n = (j : ℕ) × (c : CellNo) × (slice_get agents j ≡ So
 
 named_or_not : (agents names : List CellNo) (n : ℕ) → IsNamed agents names n ⊎ ((j : ℕ) (c : CellNo) → slice_get agents j ≡ Some c → name_in names c.0 ≡ n → ⊥)
 named_or_not [] names n = inr (λ j c e h. cc)
-named_or_not (a ∷ as) names n = go (ℕ_discrete (name_in names a.0) n) (named_or_not as names n)
+named_or_not (a ∷ more) names n = go (ℕ_discrete (name_in names a.0) n) (named_or_not more names n)
   where
-    go : Dec (name_in names a.0 ≡ n) → IsNamed as names n ⊎ ((j : ℕ) (c : CellNo) → slice_get as j ≡ Some c → name_in names c.0 ≡ n → ⊥)
-        → IsNamed (a ∷ as) names n ⊎ ((j : ℕ) (c : CellNo) → slice_get (a ∷ as) j ≡ Some c → name_in names c.0 ≡ n → ⊥)
+    go : Dec (name_in names a.0 ≡ n) → IsNamed more names n ⊎ ((j : ℕ) (c : CellNo) → slice_get more j ≡ Some c → name_in names c.0 ≡ n → ⊥)
+        → IsNamed (a ∷ more) names n ⊎ ((j : ℕ) (c : CellNo) → slice_get (a ∷ more) j ≡ Some c → name_in names c.0 ≡ n → ⊥)
     go (yes e) other = inl (0, a, refl, e)
     go (no d) (inl r) = inl (suc r.0, r.1, r.2, r.3)
     go (no d) (inr g) = inr at
       where
-        at : (j : ℕ) (c : CellNo) → slice_get (a ∷ as) j ≡ Some c → name_in names c.0 ≡ n → ⊥
+        at : (j : ℕ) (c : CellNo) → slice_get (a ∷ more) j ≡ Some c → name_in names c.0 ≡ n → ⊥
         at zero c e h = d (ap (λ (z : CellNo). name_in names z.0) (same_Some a c e) ∙ h)
         at (suc j) c e h = g j c e h
 
@@ -122,7 +111,7 @@ module _ (r o : Body) (k : KeepsNet r) (l : KeepsNet o) (can : CanAppend (reduce
   many : length fs ≡ length r.free.items
   many = length-map r.free.items (declared_as r.checked.now)
 
-  many_more : length gs ≡ length o.free.items
+  pub many_more : length gs ≡ length o.free.items
   many_more = length-map o.free.items (declared_as o.checked.now)
 
   fits : length fs ≤ length r.ends.items
@@ -153,9 +142,36 @@ module _ (r o : Body) (k : KeepsNet r) (l : KeepsNet o) (can : CanAppend (reduce
   places_more : (y s : ℕ) → word_of (state_at o.arena y) ≡ Some s → places (state_at o.arena y) ≡ suc (arity_of t s)
   places_more y s e = places_seen t o.arena gs o.ends.items sound_more.net sound_more.within y s e
 
-  module _ (agents : List CellNo) (live : AreLiveCells o.arena agents) where
+  -- ---- bounds
+
+  word_inside : (y s : ℕ) → word_of (state_at o.arena y) ≡ Some s → y < length o.arena.states
+  word_inside y s e = state_inside o.arena y (λ f. (let g : word_of Leased ≡ Some s = sym (ap word_of f) ∙ e in cc))
+
+  symbol_inside : (y s : ℕ) → n.symbol y ≡ Some s → y < length o.arena.states
+  symbol_inside y s e = word_inside y s (sym (symbol_seen o.arena gs o.ends.items y) ∙ e)
+
+  -- a free end leads within the net
+  pub end_within : (j : ℕ) (e : End) → slice_get (take (length gs) o.ends.items) j ≡ Some e → IsWithin (length o.arena.states) (length o.free.items) e
+  end_within j e at = go e (sound_more.net.back (Free j) (point_of e) (partner_seen o.arena gs o.ends.items (Free j) ∙ ap (option_map point_of) at))
+    where
+      go : (e : End) → n.partner (point_of e) ≡ Some (Free j) → IsWithin (length o.arena.states) (length o.free.items) e
+      go (end.Cell c i) h = let s = symbol_of (signature_of t) (n.symbol c.0) i (sound_more.net.points (Port c.0 i) (Free j) h) in symbol_inside c.0 s.0 s.1
+      go (end.Free k) h =
+          let low : k < length n.free = sound_more.net.points (Free k) (Free j) h in
+          let many = length-map (leading_to gs o.ends.items) (λ (f : FreeEnd). f.kind) ∙ same_many gs o.ends.items fits_more in
+          let f = many_more in
+          let z : k < length o.free.items = omega (arith, low, many, f) in
+          z
+
+  -- .. and a pair is of agents that are there
+  pub pair_within : (j : ℕ) (q : ℕ × ℕ) → slice_get o.queue.items j ≡ Some q → (q.0 < length o.arena.states) × (q.1 < length o.arena.states)
+  pair_within j q at =
+      let h = l.reducer.queue.pairs j q at in
+      (symbol_inside q.0 h.first.0 (symbol_number (symbol_in (parts_of (reducer_view o)) q.0) h.first h.one), symbol_inside q.1 h.second.0 (symbol_number (symbol_in (parts_of (reducer_view o)) q.1) h.second h.two))
+
+  module _ (agents : List CellNo) (live : IsListOfLive o.arena agents) where
     counted_more : (c : CellClass) → count_by (is_for o.arena c) agents ≡ agents_of t c (agents_in o.arena)
-    counted_more c = live.counted c ∙ counted t c o.arena.states (λ i s e. places_more i s e)
+    counted_more c = agents_listed t c o.arena agents live places_more
 
     pub closed : (many : ℕ) → many ≡ length o.free.items → AreClosed o.arena agents many
     closed w is = subst (AreClosed o.arena agents) (length-take-le (length gs) o.ends.items fits_more ∙ many_more ∙ sym is) (all_are_closed o.arena agents (take (length gs) o.ends.items) n shows_more.shown shows_more.back live.all)
@@ -183,7 +199,7 @@ module _ (r o : Body) (k : KeepsNet r) (l : KeepsNet o) (can : CanAppend (reduce
         where
           go : IsIn y ⊎ ((j : ℕ) (c : CellNo) → slice_get agents j ≡ Some c → name_in names c.0 ≡ y → ⊥) → IsGood t r.arena y (state_at b y)
           go (inr out) = subst (IsGood t r.arena y) (sym (copied.others y out)) (good_of t r.arena k.net y)
-          go (inl at) d s in_class w =
+          go (inl at) = λ d s in_class w. (
               let c = at.1 in
               let state : state_at b y ≡ moved (name_in names) (number_in numbers) (state_at o.arena c.0) = ap (state_at b) (sym at.3) ∙ (copied.each at.0 c at.2).1 in
               let word : word_of (state_at o.arena c.0) ≡ Some s = sym (word_moved (name_in names) (number_in numbers) (state_at o.arena c.0)) ∙ sym (ap word_of state) ∙ w in
@@ -192,6 +208,7 @@ module _ (r o : Body) (k : KeepsNet r) (l : KeepsNet o) (can : CanAppend (reduce
               let many = places_more c.0 s word in
               let fit : holds own.0 (arity_of t s + 1) ≡ true = ap (holds own.0) (let z : arity_of t s + 1 ≡ places (state_at o.arena c.0) = omega (arith, many) in z) ∙ holds_true own.0 (places (state_at o.arena c.0)) own.1 in
               subst (λ (z : CellClass). is_of t z s ≡ true) same fit
+              )
 
       pub still_net : IsNetIn t (at_rest b)
       still_net = net_stays t r.arena b k.net.all copied.cells copied.many good
@@ -273,12 +290,12 @@ module _ (r o : Body) (k : KeepsNet r) (l : KeepsNet o) (can : CanAppend (reduce
         stand : StandBeside m n (name_in names) (one_after_other m n) w
         stand = copies_stand_beside o.arena r.arena b agents names numbers (take (length gs) o.ends.items) (take (length fs) r.ends.items) n m w shows_more shows live.part live.all
             (λ j low. (
-                let e = length-take-le (length gs) o.ends.items fits_more in
-                let f = length-take-le (length fs) r.ends.items fits in
-                let g = many in
-                let h = many_more in
-                number j (omega (arith, low, e, h)) ∙ ap (λ (z : ℕ). z + j) (let z : length r.free.items ≡ length (take (length fs) r.ends.items) = omega (arith, f, g) in z)
-                ))
+            let e = length-take-le (length gs) o.ends.items fits_more in
+            let f = length-take-le (length fs) r.ends.items fits in
+            let g = many in
+            let h = many_more in
+            number j (omega (arith, low, e, h)) ∙ ap (λ (z : ℕ). z + j) (let z : length r.free.items ≡ length (take (length fs) r.ends.items) = omega (arith, f, g) in z)
+            ))
             copied shown kinds
 
         sound : IsSound p w
@@ -290,7 +307,7 @@ module _ (r o : Body) (k : KeepsNet r) (l : KeepsNet o) (can : CanAppend (reduce
         queue_after : IsQueueOf t (parts_of after) queue
         queue_after = subst (IsQueueOf t (parts_of after)) (sym is_queue)
             (queue_beside t (parts_of (reducer_view r)) (parts_of (reducer_view o)) (parts_of after) (name_in names) (one_after_other m n) k.reducer.net.sound.net sound_more.net stand
-              (opposed_in t (parts_of (reducer_view o)) sound_more.typed) r.queue.items o.queue.items k.reducer.queue queue_more)
+            (opposed_in t (parts_of (reducer_view o)) sound_more.typed) r.queue.items o.queue.items k.reducer.queue queue_more)
 
         pub is_reducer : IsReducer after
         is_reducer = record {
@@ -299,6 +316,25 @@ module _ (r o : Body) (k : KeepsNet r) (l : KeepsNet o) (can : CanAppend (reduce
           queue = queue_after;
           cells = (b.cells, (let e = copied.cells in let f = k.few in omega (arith, e, f)), λ d. cells_at_rest t b still_net d);
         }
+
+        -- there is room after the free ends
+        pub enough_ends : length sides ≡ most_ends + most_ends → length new + most_ends + most_ends ≤ length list
+        enough_ends many_sides =
+            let e = ap length is_shown_list ∙ length-append shown_ends sides in
+            let f = many_shown in
+            let g = length-map new (declared_as r.checked.now) in
+            omega (arith, e, f, g, many_sides)
+
+        -- the queue has room for all pairs
+        pub few_pairs : length r.queue.items + length o.queue.items ≤ deque_capacity r.queue
+        unfolding is_reducer
+        few_pairs =
+            let short = short_queue after is_reducer in
+            let e = k.queue in
+            let f = copied.cells in
+            let g = ap length is_queue ∙ length-append r.queue.items (map (both (name_in names)) o.queue.items) in
+            let h = length-map o.queue.items (both (name_in names)) in
+            omega (arith, short, e, f, g, h)
 
         pub appends : NoneLeased r.arena → Appends (reducer_view r) (reducer_view o) after
         appends none = record {

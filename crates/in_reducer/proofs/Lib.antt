@@ -28,3 +28,5 @@ pub mod StillNet
 pub mod Undone
 pub mod Appended
 pub mod QueueBeside
+pub mod LiveCounted
+pub mod Short

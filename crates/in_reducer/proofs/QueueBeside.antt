@@ -142,10 +142,7 @@ module _ (t : Tables) (n m w : Parts) (f : ℕ → ℕ) (ends : List (ℕ × ℕ
   once : StandOnce (qs ++ map (both f) rs)
   once j k q e d = go (in_either qs (map (both f) rs) j q e) (in_either qs (map (both f) rs) k q d)
     where
-      abbrev Among : ℕ → Type 0
-      Among i = (slice_get qs i ≡ Some q) ⊎ ((l : ℕ) × (i ≡ length qs + l) × (slice_get (map (both f) rs) l ≡ Some q))
-
-      go : Among j → Among k → j ≡ k
+      go : (slice_get qs j ≡ Some q) ⊎ ((l : ℕ) × (j ≡ length qs + l) × (slice_get (map (both f) rs) l ≡ Some q)) → (slice_get qs k ≡ Some q) ⊎ ((l : ℕ) × (k ≡ length qs + l) × (slice_get (map (both f) rs) l ≡ Some q)) → j ≡ k
       go (inl a) (inl b) = queue_n.once j k q a b
       go (inl a) (inr b) = let z = of_mapped (both f) rs b.0 q b.2 in absurd (differ q z.0 (queue_n.pairs j q a) (queue_m.pairs b.0 z.0 z.1) z.2)
       go (inr a) (inl b) = let z = of_mapped (both f) rs a.0 q a.2 in absurd (differ q z.0 (queue_n.pairs k q b) (queue_m.pairs a.0 z.0 z.1) z.2)

@@ -1,15 +1,10 @@
 -- The net of one reducer is added to that of another, beside it: how a part of a net that was reduced by itself comes back. That nets are
 -- reduced in parts is this project's own choice.
-use Rattle.std.specs.Prelude.{◌≡◌, ◌+◌, ◌≤◌, ℕ, Bool, false, List, ◌++◌, count_by, length, map}
-use Rattle.in_arena.specs.Arenas.{ArenaView}
-use Rattle.in_arena.specs.Classes.{holds}
-use Rattle.in_arena.specs.States.{State, Vacant, Leased, Live}
+use Rattle.std.specs.Prelude.{◌≡◌, ◌+◌, ◌≤◌, ℕ, List, ◌++◌, map}
 use Rattle.in_arena.specs.declared.content.CellClass.{CellClass}
-use Rattle.in_arena.specs.declared.content.CellNo.{CellNo}
 use Rattle.in_compile.specs.Cells.{agents_of, count_of}
 use Rattle.in_interaction.specs.Queues.{both}
-use Rattle.in_moving.specs.Copying.{ArePart, is_for}
-use Rattle.in_moving.specs.Laws.{AreAllLive, one_after_other}
+use Rattle.in_moving.specs.Laws.{one_after_other}
 use Rattle.in_parts.specs.Leading.{StandBeside}
 use Rattle.in_reducer.specs.Cutting.{net_in}
 use Rattle.in_reducer.specs.Machines.{MachineParts}
@@ -27,17 +22,3 @@ pub record Appends (m other after : MachineParts) : Type 0 where
   pub names : map (λ f. f.name) after.free ≡ map (λ f. f.name) m.free ++ map (λ f. f.name) other.free
   pub queue : after.queue ≡ m.queue ++ map (both name) other.queue
   pub vacant : (c : CellClass) → count_of after.vacant c + agents_of m.program.tables c other.agents ≡ count_of m.vacant c
-
--- ---- what is copied
-
--- the cell is live, and of this class
-abbrev pub is_live_for : CellClass → State → Bool
-is_live_for c Vacant = false
-is_live_for c Leased = false
-is_live_for c (Live word ends) = holds c (length ends)
-
--- these are the live cells, each once, and so many of each class
-pub record AreLiveCells (a : ArenaView) (agents : List CellNo) : Type 0 where
-  pub part : ArePart a agents
-  pub all : AreAllLive a agents
-  pub counted : (c : CellClass) → count_by (is_for a c) agents ≡ count_by (is_live_for c) a.states

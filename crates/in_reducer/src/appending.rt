@@ -1,35 +1,22 @@
 // The net of another reducer beside this one's.
-ghost use Rattle.std.specs.Prelude.{◌≡◌, ◌≤◌, ◌<◌, ◌+◌, ℕ, List, ◌++◌, ◌↔◌, IsTrue, length, map, IfOk, OnErr, OnOk, vec_len, vec_capacity, slice_get, Some};
+ghost use Rattle.std.specs.Prelude.{◌≡◌, ◌≤◌, ◌<◌, ◌+◌, ℕ, List, ◌++◌, ◌↔◌, true, false, IsTrue, length, map, IfOk, OnErr, OnOk, vec_len, vec_capacity, slice_get, Some};
 ghost use Rattle.std.specs.VecDeque.{deque_len, deque_capacity};
-ghost use Rattle.in_arena.specs.Arenas.{NoneLeased};
+ghost use Rattle.in_arena.specs.declared.content.CellClass.{CellClass as Class};
 ghost use Rattle.in_arena.specs.declared.content.End.{End as Target};
 ghost use Rattle.in_compile.specs.Cells.{agents_of, count_of};
 ghost use Rattle.in_interaction.specs.Queues.{both};
-ghost use Rattle.in_moving.specs.Copying.{name_in, number_in};
-ghost use Rattle.in_reducer.specs.Appending.{Appends, AreLiveCells, CanAppend};
+ghost use Rattle.in_moving.specs.Copying.{IsListOfLive, name_in, number_in};
+ghost use Rattle.in_reducer.specs.Appending.{Appends, CanAppend};
 ghost use Rattle.in_reducer.specs.Inside.{IsKept, most_ends, most_free, reducer_view};
 
 use crate::body::{Body, OwnEnd};
 use crate::reducer::Reducer;
 use crate::starting::MOST_ENDS;
-use in_arena::{Arena, CellClass, CellNo, End};
-use in_moving::{add_ends, copy};
+use in_arena::{CellClass, CellNo, End};
+use in_compile::Need;
+use in_moving::{add_ends, copy, live_cells};
 use std::alloc::{AllocError, Global};
 use std::collections::VecDeque;
-
-/// The live cells of an arena of which none is on lease, in the order of their numbers. Refused for want of memory alone.
-fn live_cells(alloc: Global, arena: &Arena) -> Result<Vec<CellNo>, AllocError>
-    requires { NoneLeased arena.now }
-    ensures { IfOk result (λ v. AreLiveCells arena.now v.items) }
-{
-    let mut cells = Vec::new(alloc);
-    for number in 0..CellClass::ALL.len() as u32 * arena.cells() {
-        if arena.is_live(CellNo(number)) {
-            cells.push(CellNo(number))?;
-        }
-    }
-    Ok(cells)
-}
 
 /// So many numbers from one on.
 fn numbers_from(alloc: Global, first: u32, count: u32) -> Result<Vec<u32>, AllocError>
@@ -74,7 +61,7 @@ fn add_sides(ends: &mut Vec<End>)
     ensures items { (room : List Target) × (length room ≡ most_ends + most_ends) × (ends.new.items ≡ ends.old.items ++ room) }
     ensures room { vec_capacity ends.new ≡ vec_capacity ends.old }
 {
-    for _ in 0..2 * MOST_ENDS {
+    for _side in 0..2 * MOST_ENDS {
         ends.push_reserved(End::Free(0));
     }
 }
@@ -88,15 +75,15 @@ struct Luggage {
 }
 
 /// That, where its free ends come after so many.
-fn luggage(alloc: Global, other: &Body, first: u32) -> Result<Luggage, AllocError>
+fn pack(alloc: Global, other: &Body, first: u32) -> Result<Luggage, AllocError>
     requires kept { IsKept other.now }
     requires few { first + length other.now.free.items ≤ most_free }
-    ensures agents { IfOk result (λ l. AreLiveCells other.now.arena l.agents.items) }
+    ensures agents { IfOk result (λ l. IsListOfLive other.now.arena l.agents.items) }
     ensures many { IfOk result (λ l. length l.numbers.items ≡ length other.now.free.items) }
     ensures numbers { IfOk result (λ l. (k : ℕ) → k < length other.now.free.items → number_in l.numbers.items k ≡ first + k) }
     ensures names { IfOk result (λ l. length l.names.items ≡ length other.now.arena.states) }
 {
-    let cells = CellClass::ALL.len() * other.arena.cells() as usize;
+    let cells = other.arena.all_cells() as usize;
     Ok(Luggage {
         agents: live_cells(alloc, &other.arena)?,
         numbers: numbers_from(alloc, first, other.free.len() as u32)?,
@@ -105,13 +92,29 @@ fn luggage(alloc: Global, other: &Body, first: u32) -> Result<Luggage, AllocErro
 }
 
 impl<'a> Body<'a> {
-    /// Whether as many cells of this class are free as the other's agents take.
-    fn has_room_of(&self, other: &Body, class: CellClass) -> bool
+    /// How many cells of each class its agents take.
+    fn taken(&self) -> Need
+        requires { IsKept self.now }
+        ensures { (c : Class) → count_of result c ≡ agents_of self.now.checked.now.tables c (reducer_view self.now).agents }
+    {
+        let cells = self.arena.cells();
+        Need {
+            small: cells - self.arena.free_count(CellClass::Small),
+            large: cells - self.arena.free_count(CellClass::Large),
+            wide: cells - self.arena.free_count(CellClass::Wide),
+        }
+    }
+
+    /// Whether as many cells of each class are free as the other's agents take.
+    fn has_room_for(&self, other: &Body) -> bool
         requires kept { IsKept self.now }
         requires other { IsKept other.now }
-        ensures { IsTrue result ↔ (agents_of other.now.checked.now.tables class (reducer_view other.now).agents ≤ count_of (reducer_view self.now).vacant class) }
+        requires program { other.now.checked.now ≡ self.now.checked.now }
+        ensures room { result ≡ true → CanAppend (reducer_view self.now) (reducer_view other.now) }
+        ensures none { result ≡ false → CanAppend (reducer_view self.now) (reducer_view other.now) → ⊥ }
     {
-        other.arena.cells() - other.arena.free_count(class) <= self.arena.free_count(class)
+        let short = other.taken().first_short(self.vacant());
+        short.is_none()
     }
 
     /// Room for so many free ends more, and for the sides of boundary ends after them.
@@ -136,7 +139,7 @@ impl<'a> Body<'a> {
         requires few { length self.old.free.items + length other.now.free.items ≤ most_free }
         requires free { vec_len self.old.free + length other.now.free.items ≤ vec_capacity self.old.free }
         requires ends { vec_len self.old.ends + length other.now.free.items + most_ends + most_ends ≤ vec_capacity self.old.ends }
-        requires agents { AreLiveCells other.now.arena taken.old.agents.items }
+        requires agents { IsListOfLive other.now.arena taken.old.agents.items }
         requires many { length taken.old.numbers.items ≡ length other.now.free.items }
         requires numbers { (k : ℕ) → k < length other.now.free.items → number_in taken.old.numbers.items k ≡ length self.old.free.items + k }
         requires names { length taken.old.names.items ≡ length other.now.arena.states }
@@ -173,9 +176,7 @@ impl<'a> Reducer<'a> {
         requires { other.now.program ≡ self.now.program }
         ensures { IsTrue result ↔ CanAppend self.now other.now }
     {
-        self.body.has_room_of(&other.body, CellClass::Small)
-            && self.body.has_room_of(&other.body, CellClass::Large)
-            && self.body.has_room_of(&other.body, CellClass::Wide)
+        self.body.has_room_for(&other.body)
     }
 
     /// Adds the net of another reducer of the same program, which stays as it is: a copy of it stands beside what was there, its free ends and
@@ -188,7 +189,7 @@ impl<'a> Reducer<'a> {
         ensures refused { OnErr result (self.new ≡ self.old) }
     {
         let own = self.body.free.len() as u32;
-        let mut taken = luggage(alloc, &other.body, own)?;
+        let mut taken = pack(alloc, &other.body, own)?;
         self.body.make_room_for(other.body.free.len())?;
         self.body.add(&other.body, &mut taken);
         Ok(())
