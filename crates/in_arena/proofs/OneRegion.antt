@@ -1,7 +1,7 @@
 -- What a change of one cell leaves of a region.
 use Rattle.std.proofs.Common.{◌≡◌, ◌≢◌, ℕ, zero, suc, ◌+◌, ◌-◌, ◌<◌, ◌≤◌, ◌^◌, List, [], ◌∷◌, map, take, length, set, get_or, replicate, cond, count_by, Option, Some, None, refl, sym, ap, ◌∙◌, subst, inl, inr, arith, length-set, get_or-set_same, get_or-set_other}
 use Rattle.std.proofs.lemmas.Bool.{cases_eq, cases_lt}
-use Rattle.std.proofs.lemmas.List.{length-replicate, get_or-replicate, map-set, set-get_or}
+use Rattle.std.proofs.lemmas.List.{length-map, length-replicate, length-take-le, get_or-replicate, map-set, set-get_or}
 use Rattle.std.proofs.Math.ListN.{get_or-map}
 use Rattle.std.proofs.lemmas.List.Sums.{sum_by-set, sum_by-cons}
 use Rattle.std.specs.List.{AllByRecursion}
@@ -412,6 +412,44 @@ module _ {W : ℕ} where
   pub free_small : (r : Region W) → IsRegion r → r.free + 1 < 2 ^ 32
   free_small r h = let few = h.unused.0 in omega (arith, h.count, h.all, few, vacancies_few r.cells.slots, h.size.0, h.size.1)
 
+  -- ---- which cells were used
+
+  new_counted : (xs : Slots W) (fresh : ℕ) → AreNew xs fresh → length xs ≤ vacancies xs + fresh
+  new_counted [] fresh new = omega arith
+  new_counted (x ∷ xs) zero new =
+      let one : vacancy x ≡ 1 = ap vacancy (new 0 (omega arith) (omega arith)) in
+      let rest = new_counted xs zero (λ i le lt. new (suc i) (omega arith) (omega (arith, lt))) in
+      omega (arith, one, rest, sum_by-cons vacancy x xs)
+  new_counted (x ∷ xs) (suc k) new =
+      let rest = new_counted xs k (λ i le lt. new (suc i) (omega (arith, le)) (omega (arith, lt))) in
+      omega (arith, rest, sum_by-cons vacancy x xs)
+
+  -- as many are free as are listed and were never used, or more
+  free_counted : (xs : Slots W) (fresh next : ℕ) (fs : List ℕ) → IsFreeList xs next fs → AreDifferent fs → AreNew xs fresh → length fs + length xs ≤ vacancies xs + fresh
+  free_counted xs fresh next [] h once new = omega (arith, new_counted xs fresh new)
+  free_counted xs fresh next (f ∷ fs) h once new =
+      let v = vacant_cell (get_or xs f None) h.2.0 h.2.1 in
+      let rest = free_counted (set xs f None) fresh h.2.0 fs (list_set xs f None h.2.0 fs once.0 h.2.2) once.1 (new_set xs f fresh None (filled_used (get_or xs f None) v.0 v.1) new) in
+      let inside = h.1 in
+      omega (arith, rest, length-set xs f None, sum_by-set vacancy xs f None None inside, vacant_one (get_or xs f None) h.2.0 h.2.1)
+
+  -- so each cell before those that were never used was used
+  pub used : (r : Region W) → IsRegion r → (i : ℕ) → i < r.fresh → get_or r.cells.slots i None ≡ Some None → ⊥
+  used r h i lt new =
+      let xs = r.cells.slots in let few = h.unused.0 in
+      let inside : i < length xs = omega (arith, lt, few, h.size.0) in
+      let apart = not_listed xs i (λ k at. subst (λ s. IsVacantTo s k) new at) r.next h.free h.listed in
+      let still : AreNew (set xs i None) r.fresh = λ j le below. get_or-set_other xs i j None None (λ e. omega (arith, e, le, lt)) ∙ h.unused.1 j le (omega (arith, below, length-set xs i None)) in
+      let counted = free_counted (set xs i None) r.fresh r.next h.free (list_set xs i None r.next h.free apart h.listed) h.once still in
+      let one : vacancy (get_or xs i None) ≡ 1 = ap vacancy new in
+      omega (arith, counted, length-set xs i None, sum_by-set vacancy xs i None None inside, one, h.all, h.size.0)
+
+  -- .. and has a content where it isn't on lease
+  pub used_cell : (s : Slot W) → (IsLeased (state_of s) → ⊥) → (s ≡ Some None → ⊥) → (c : Content W) × (s ≡ Some (Some c))
+  used_cell None out new = absurd (out tt)
+  used_cell (Some None) out new = absurd (new refl)
+  used_cell (Some (Some c)) out new = (c, refl)
+
   -- ---- a live cell
 
   pub live_cell : (s : Slot W) → IsLive (state_of s) → (c : Content W) × (s ≡ Some (Some c))
@@ -440,6 +478,14 @@ end_written w (suc n) es p e = ap (λ l. Live w (map end_of l)) (take_set (suc n
 pub live_written : (w n : ℕ) (es : List Stored) → 0 < n → with_ends n w es ≡ Live w (map end_of (take n es))
 live_written w zero es lt = absurd (omega arith)
 live_written w (suc n) es lt = refl
+
+pub places_written : (w n : ℕ) (es : List Stored) → IsLive (with_ends n w es) → n ≤ length es → (places (with_ends n w es) ≡ n) × (1 ≤ n)
+places_written w zero es live few = absurd live
+places_written w (suc n) es live few = (length-map (take (suc n) es) end_of ∙ length-take-le (suc n) es few, omega arith)
+
+pub live_or : (w n : ℕ) (es : List Stored) → (n ≡ 0 → IsLive (with_ends n w es) → ⊥) × ((n ≡ 0 → ⊥) → IsLive (with_ends n w es))
+live_or w zero es = (λ e live. live, λ some. absurd (some refl))
+live_or w (suc n) es = (λ e live. omega (arith, e), λ some. tt)
 
 -- ---- a new region
 

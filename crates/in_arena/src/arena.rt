@@ -1,9 +1,10 @@
 // An arena: regions of cells, in which each cell has a number.
-ghost use Rattle.std.specs.Prelude.{◌≡◌, ◌*◌, ◌<◌, ◌≤◌, Some, IfOk, length, replicate};
-ghost use Rattle.in_arena.specs.States.{Vacant, Leased, IsLive, word_of, end_at, places, with_end};
+ghost use Rattle.std.specs.Prelude.{◌≡◌, ◌*◌, ◌<◌, ◌≤◌, ◌↔◌, IsTrue, Some, IfOk, length, replicate};
+ghost use Rattle.in_arena.specs.States.{Vacant, Leased, IsLive, IsLeased, word_of, end_at, places, with_end};
 ghost use Rattle.in_arena.specs.Arenas.{Leases, IsOf, NoneLeased, state_at, changed, free_of};
 ghost use Rattle.in_arena.specs.Bags.{IsBagOf, IsIn, LeasesTo, empty_bag};
-ghost use Rattle.in_arena.specs.Classes.{classes};
+ghost use Rattle.in_arena.specs.Classes.{Holds, classes};
+ghost use Rattle.in_arena.specs.declared.content.CellClass.{CellClass as Class};
 ghost use Rattle.in_arena.specs.Changes.{HasAllCells};
 
 use crate::bag::Bag;
@@ -57,6 +58,13 @@ impl Arena {
         self.regions.cells
     }
 
+    /// How many cells there are of all classes: each number below is that of a cell.
+    pub fn all_cells(&self) -> u32
+        ensures { result ≡ length self.now.states }
+    {
+        self.regions.cells * CellClass::ALL.len() as u32
+    }
+
     /// How many cells of a class are free.
     pub fn free_count(&self, class: CellClass) -> u32
         ensures { result ≡ free_of self.now class }
@@ -95,6 +103,26 @@ impl Arena {
     {
         let Lease { number: _, held } = lease;
         self.regions.give_back(held);
+    }
+
+    /// Whether a cell, which is none on lease, is live.
+    pub fn is_live(&self, cell: CellNo) -> bool
+        requires there { cell.0 < length self.now.states }
+        requires not_leased { IsLeased (state_at self.now cell.0) → ⊥ }
+        ensures { IsTrue result ↔ IsLive (state_at self.now cell.0) }
+    {
+        let (class, index) = place_of(self.regions.cells, cell);
+        self.regions.is_live(class, index)
+    }
+
+    /// How many places a live cell has, the principal one among them. Some class of cells is for so many.
+    pub fn places(&self, cell: CellNo) -> u8
+        requires { IsLive (state_at self.now cell.0) }
+        ensures places { result ≡ places (state_at self.now cell.0) }
+        ensures held { (c : Class) × Holds c result }
+    {
+        let (class, index) = place_of(self.regions.cells, cell);
+        self.regions.places(class, index)
     }
 
     /// The symbol word of a live cell.

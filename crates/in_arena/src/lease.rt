@@ -1,6 +1,6 @@
 // The owner of one cell.
 ghost use Rattle.std.specs.Prelude.{◌≡◌, ◌<◌, length};
-ghost use Rattle.in_arena.specs.States.{Live, places, with_end};
+ghost use Rattle.in_arena.specs.States.{State, Live, IsBegun, places, with_end};
 ghost use Rattle.in_arena.specs.Arenas.{written};
 ghost use Rattle.in_arena.specs.Classes.{Holds};
 
@@ -50,6 +50,15 @@ impl Lease {
         ensures { self.new ≡ written self.old (Live symbol ends.now) }
     {
         self.held.write(symbol, ends);
+    }
+
+    /// Writes the symbol word, and how many ends there are, the principal port's among them: as many as its class is for. What the ends are is
+    /// open until they are written.
+    pub fn begin(&mut self, symbol: SymbolWord, ends: u8)
+        requires { Holds self.old.class ends }
+        ensures { (x : State) × IsBegun symbol ends x × (self.new ≡ written self.old x) }
+    {
+        self.held.begin(symbol, u32::from(ends));
     }
 
     /// Writes the end at a place of a cell that is written.

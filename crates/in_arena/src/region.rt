@@ -1,5 +1,5 @@
 // A region of cells of one width: free ones, leased ones and live ones.
-ghost use Rattle.std.specs.Prelude.{◌≡◌, ◌<◌, ◌≤◌, ◌^◌, length, map, count_by, replicate, Some, None, IfOk};
+ghost use Rattle.std.specs.Prelude.{◌≡◌, ◌<◌, ◌≤◌, ◌^◌, ◌↔◌, IsTrue, length, map, count_by, replicate, Some, None, IfOk};
 ghost use Rattle.in_arena.specs.States.{Live, Vacant, IsLive, IsLeased, is_vacant, word_of, end_at, places, with_end, IsBegun};
 ghost use Rattle.in_arena.specs.Regions.{IsRegion, IsHeld, IsOf, Becomes, IsReady, IsLeasedTo, IsSameCell, IsWhole, state, states, state_at};
 ghost use Rattle.in_arena.specs.Filling.{Fills};
@@ -192,6 +192,29 @@ impl<const WIDTH: usize> Region<WIDTH> {
         self.cells.join(cells);
         self.next = index;
         self.free += 1;
+    }
+
+    // Whether a cell, which is none on lease, is live. What was never used is free, and isn't read.
+    pub fn is_live(&self, index: u32) -> bool
+        requires region { IsRegion self.now }
+        requires there { index < self.now.size }
+        requires not_leased { IsLeased (state_at self.now index) → ⊥ }
+        ensures { IsTrue result ↔ IsLive (state_at self.now index) }
+    {
+        if self.fresh <= index {
+            return false;
+        }
+        self.cells.get(self.base, index as usize).count != 0
+    }
+
+    // How many places a live cell has.
+    pub fn places(&self, index: u32) -> u32
+        requires { IsRegion self.now × IsLive (state_at self.now index) }
+        ensures { (result ≡ places (state_at self.now index)) × (1 ≤ result) × (result ≤ WIDTH) }
+    {
+        let content = self.cells.get(self.base, index as usize);
+        are_all(&content.ends);
+        content.count
     }
 
     // The symbol word of a live cell.

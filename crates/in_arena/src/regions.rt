@@ -1,8 +1,9 @@
 // What there is for each class of cells: a region, the owner of one of its cells and the owner of some of them.
-ghost use Rattle.std.specs.Prelude.{◌≡◌, ◌*◌, ◌<◌, ◌≤◌, length, count_by, IfOk};
+ghost use Rattle.std.specs.Prelude.{◌≡◌, ◌*◌, ◌<◌, ◌≤◌, ◌↔◌, IsTrue, length, count_by, IfOk};
 ghost use Rattle.in_arena.specs.States.{State, Live, Vacant, IsLive, IsLeased, IsBegun, is_vacant, word_of, end_at, places, with_end};
 ghost use Rattle.in_arena.specs.Arenas.{written};
-ghost use Rattle.in_arena.specs.Classes.{Holds, classes};
+ghost use Rattle.in_arena.specs.Classes.{Holds, classes, width};
+ghost use Rattle.in_arena.specs.declared.content.CellClass.TheVariants.{Wide as Widest};
 ghost use Rattle.in_arena.specs.Regions.{IsFresh};
 ghost use Rattle.in_arena.specs.ByClass.{IsRegions, AreWhole, AreFresh, Become, Lend, IsCellOf, IsHeldCell, IsPlace, IsSacks, IsOut, SacksBecome, HandOut, AreEmpty, row_of, cell_at, cell_view, index_of, sack_cell};
 
@@ -169,6 +170,32 @@ impl Regions {
             HeldCell::Small(held) => self.small.give_back(held),
             HeldCell::Large(held) => self.large.give_back(held),
             HeldCell::Wide(held) => self.wide.give_back(held),
+        }
+    }
+
+    // Whether a cell, which is none on lease, is live.
+    pub fn is_live(&self, class: CellClass, index: u32) -> bool
+        requires regions { IsRegions self.now }
+        requires there { index < self.now.cells }
+        requires not_leased { IsLeased (cell_at self.now class index) → ⊥ }
+        ensures { IsTrue result ↔ IsLive (cell_at self.now class index) }
+    {
+        match class {
+            CellClass::Small => self.small.is_live(index),
+            CellClass::Large => self.large.is_live(index),
+            CellClass::Wide => self.wide.is_live(index),
+        }
+    }
+
+    // How many places a live cell has.
+    pub fn places(&self, class: CellClass, index: u32) -> u8
+        requires { IsRegions self.now × IsLive (cell_at self.now class index) }
+        ensures { (result ≡ places (cell_at self.now class index)) × (1 ≤ result) × (result ≤ width Widest) }
+    {
+        match class {
+            CellClass::Small => self.small.places(index) as u8,
+            CellClass::Large => self.large.places(index) as u8,
+            CellClass::Wide => self.wide.places(index) as u8,
         }
     }
 

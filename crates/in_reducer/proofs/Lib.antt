@@ -26,3 +26,7 @@ pub mod Stepped
 pub mod StepsOn
 pub mod StillNet
 pub mod Undone
+pub mod Appended
+pub mod QueueBeside
+pub mod LiveCounted
+pub mod Short

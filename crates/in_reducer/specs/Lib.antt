@@ -1,3 +1,4 @@
+pub mod Appending
 pub mod Cutting
 pub mod Inside
 pub mod Interacting

@@ -2,6 +2,7 @@
 //! and takes no memory.
 #![tactic(auto)]
 
+mod appending;
 mod body;
 mod cutting;
 mod interacting;

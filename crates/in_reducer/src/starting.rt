@@ -30,7 +30,7 @@ use std::alloc::{AllocError, Global};
 use std::collections::VecDeque;
 
 /// The most boundary ends that a rule has.
-const MOST_ENDS: usize = 32;
+pub(crate) const MOST_ENDS: usize = 32;
 
 /// Tools for the program's rules.
 fn tools_for(alloc: Global, templates: &Templates, arena: &Arena) -> Result<Tools, AllocError>

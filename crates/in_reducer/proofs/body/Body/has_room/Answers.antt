@@ -1,21 +1,13 @@
-use Rattle.std.proofs.Common.{◌≡◌, true, false, Option, Some, None, ap, ◌∙◌, arith}
-use Rattle.std.specs.Prelude.{MatchOption, is_some, not}
+use Rattle.std.proofs.Common.{ap, ◌∙◌, arith}
+use Rattle.std.specs.Prelude.{not}
 use Rattle.in_arena.specs.Arenas.{ArenaView, free_of}
-use Rattle.in_arena.specs.declared.content.CellClass.{CellClass}
 use Rattle.in_compile.specs.declared.cells.Need.{Need}
-use Rattle.in_compile.specs.Cells.{IsEnough, IsFirstShort, count_of}
+use Rattle.in_compile.specs.Cells.{count_of}
 use Rattle.in_reducer.specs.Standing.{at_rest}
 use Rattle.in_reducer.proofs.AtRest.{rests}
+use Rattle.in_reducer.proofs.Short.{enough_if, short_if}
 use Rattle.in_reducer.proofs.Stepped as stepped
 use Rattle.in_reducer.proofs.body.Body.has_room.Goals as goal
-
-enough_if : (o : Option CellClass) (need free : Need) → MatchOption o (IsEnough (count_of need) (count_of free)) (IsFirstShort (count_of need) (count_of free)) → is_some o ≡ false → IsEnough (count_of need) (count_of free)
-enough_if None need free h e = h
-enough_if (Some c) need free h e = absurd (let f : true ≡ false = e in cc)
-
-short_if : (o : Option CellClass) (need free : Need) → MatchOption o (IsEnough (count_of need) (count_of free)) (IsFirstShort (count_of need) (count_of free)) → is_some o ≡ true → (c : CellClass) × IsFirstShort (count_of need) (count_of free) c
-short_if None need free h e = absurd (let f : false ≡ true = e in cc)
-short_if (Some c) need free h e = (c, h)
 
 pub returns-clause-room : goal.returns-clause-room
 returns-clause-room c e =

@@ -1,0 +1,3 @@
+pub mod Shown
+pub mod Taken
+pub mod Written

@@ -1,0 +1,3 @@
+pub mod Copying
+pub mod CopyingSteps
+pub mod Laws

@@ -1,0 +1,22 @@
+//! Laws over the definitions alone. No function here does anything.
+ghost use Rattle.in_moving.specs.Laws.{CopiesAreShown, NoneIsLeased, AllAreClosed, CopiesStandBeside};
+
+/// What the cells show afterwards has the copied agents under their new names, with their wires, beside all that was there.
+pub fn copies_are_shown()
+    ensures { CopiesAreShown }
+{}
+
+/// Where no cell was on lease none is afterwards.
+pub fn none_is_leased()
+    ensures { NoneIsLeased }
+{}
+
+/// All agents of a net lead to each other and to its free ends.
+pub fn all_are_closed()
+    ensures { AllAreClosed }
+{}
+
+/// Where all agents of a net are copied, and its free ends are added behind those that were there, both nets stand side by side.
+pub fn copies_stand_beside()
+    ensures { CopiesStandBeside }
+{}

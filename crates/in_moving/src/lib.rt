@@ -1,0 +1,14 @@
+//! Agents of a net in cells are copied to another arena, under the numbers of the cells that they get there: how a part of a net becomes one
+//! by itself, which shares nothing with the rest, and how it comes back.
+#![tactic(auto)]
+
+mod copying;
+mod ends;
+pub mod laws;
+mod listing;
+mod taking;
+mod writing;
+
+pub use copying::copy;
+pub use ends::add_ends;
+pub use listing::live_cells;

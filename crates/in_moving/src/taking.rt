@@ -1,0 +1,57 @@
+// Cells are taken for agents that are to be copied.
+ghost use Rattle.std.specs.Prelude.{◌≡◌, ◌≤◌, ◌<◌, length};
+ghost use Rattle.in_arena.specs.Arenas.{free_of, state_at};
+ghost use Rattle.in_arena.specs.Changes.{HasAllCells};
+ghost use Rattle.in_arena.specs.Classes.{Holds};
+ghost use Rattle.in_arena.specs.States.{IsLive, places};
+ghost use Rattle.in_arena.specs.declared.content.CellClass.{CellClass as Class};
+ghost use Rattle.in_moving.specs.Copying.{ArePart, HasRoom};
+ghost use Rattle.in_moving.specs.CopyingSteps.{TakesCell, AreTakenBelow};
+
+use in_arena::{Arena, CellClass, CellNo};
+
+// The class of a cell with so many places, which some class is for.
+fn class_for(places: u8) -> CellClass
+    requires { (c : Class) × Holds c places }
+    ensures { Holds result places }
+{
+    if places <= CellClass::Small.width() {
+        CellClass::Small
+    } else if places <= CellClass::Large.width() {
+        CellClass::Large
+    } else {
+        CellClass::Wide
+    }
+}
+
+// Takes a cell for an agent. Its symbol word is written, and its ends are open.
+fn take_cell(from: &Arena, cell: CellNo, to: &mut Arena) -> CellNo
+    requires live { IsLive (state_at from.now cell.0) }
+    requires all { HasAllCells to.old }
+    requires free { (c : Class) → Holds c (places (state_at from.now cell.0)) → 0 < free_of to.old c }
+    ensures { TakesCell (state_at from.now cell.0) to.old result.0 to.new }
+{
+    let places = from.places(cell);
+    let Some(mut lease) = to.lease(class_for(places)) else {
+        unreachable!()
+    };
+    lease.begin(from.symbol(cell), places);
+    let new = lease.cell();
+    to.settle(lease);
+    new
+}
+
+/// Takes a cell for each agent, and notes its number at that of the agent.
+pub fn take_cells(from: &Arena, agents: &[CellNo], to: &mut Arena, names: &mut [CellNo])
+    requires part { ArePart from.now agents.now }
+    requires all { HasAllCells to.old }
+    requires room { HasRoom from.now agents.now to.old }
+    requires names { length from.now.states ≤ length names.old }
+    ensures taken { AreTakenBelow from.now agents.now to.old (length agents.now) to.new names.new }
+    ensures names { length names.new ≡ length names.old }
+{
+    for number in 0..agents.len() {
+        let agent = agents[number];
+        names[agent.0 as usize] = take_cell(from, agent, to);
+    }
+}
