@@ -33,7 +33,7 @@ use Rattle.in_interaction.proofs.Stepping.KeptOrMade.{symbol_number}
 use Rattle.in_joining.specs.Shown.{IsShown, point_of}
 use Rattle.in_moving.specs.Copying.{AreClosed, HasRoom, IsCopied, IsListOfLive, IsWithin, is_for, moved, moved_end, name_in, number_in}
 use Rattle.in_moving.specs.Laws.{Shows, one_after_other}
-use Rattle.in_moving.proofs.Shown.{all_are_closed, copies_stand_beside}
+use Rattle.in_moving.proofs.Shown.{all_are_closed, copies_follow}
 use Rattle.in_parts.specs.Leading.{StandBeside}
 use Rattle.in_parts.proofs.BesideSound.{beside_sound_is_sound}
 use Rattle.in_reducer.specs.declared.body.Body.{Body}
@@ -127,14 +127,12 @@ module _ (r o : Body) (k : KeepsNet r) (l : KeepsNet o) (can : CanAppend (reduce
   shows : Shows r.arena (take (length fs) r.ends.items) m
   shows = record {
     shown = is_shown r.arena fs r.ends.items;
-    back = (k.reducer.net.sound.net.back, k.reducer.net.sound.net.apart);
     many = length-take-le (length fs) r.ends.items fits ∙ sym (length-map (leading_to fs r.ends.items) (λ (f : FreeEnd). f.kind) ∙ same_many fs r.ends.items fits);
   }
 
   shows_more : Shows o.arena (take (length gs) o.ends.items) n
   shows_more = record {
     shown = is_shown o.arena gs o.ends.items;
-    back = (l.reducer.net.sound.net.back, l.reducer.net.sound.net.apart);
     many = length-take-le (length gs) o.ends.items fits_more ∙ sym (length-map (leading_to gs o.ends.items) (λ (f : FreeEnd). f.kind) ∙ same_many gs o.ends.items fits_more);
   }
 
@@ -174,7 +172,7 @@ module _ (r o : Body) (k : KeepsNet r) (l : KeepsNet o) (can : CanAppend (reduce
     counted_more c = agents_listed t c o.arena agents live places_more
 
     pub closed : (many : ℕ) → many ≡ length o.free.items → AreClosed o.arena agents many
-    closed w is = subst (AreClosed o.arena agents) (length-take-le (length gs) o.ends.items fits_more ∙ many_more ∙ sym is) (all_are_closed o.arena agents (take (length gs) o.ends.items) n shows_more.shown shows_more.back live.all)
+    closed w is = subst (AreClosed o.arena agents) (length-take-le (length gs) o.ends.items fits_more ∙ many_more ∙ sym is) (all_are_closed o.arena agents (take (length gs) o.ends.items) n shows_more.shown (l.reducer.net.sound.net.back, l.reducer.net.sound.net.apart) live.all)
 
     pub room : NoneLeased r.arena → HasRoom o.arena agents r.arena
     room none c =
@@ -288,7 +286,7 @@ module _ (r o : Body) (k : KeepsNet r) (l : KeepsNet o) (can : CanAppend (reduce
             ∙ ap (λ (ts : List PortType). ts ++ map (λ (f : FreeEnd). f.kind) gs) (sym (same_kinds fs r.ends.items fits)) ∙ ap (λ (ts : List PortType). m.free ++ ts) (sym (same_kinds gs o.ends.items fits_more))
 
         stand : StandBeside m n (name_in names) (one_after_other m n) w
-        stand = copies_stand_beside o.arena r.arena b agents names numbers (take (length gs) o.ends.items) (take (length fs) r.ends.items) n m w shows_more shows live.part live.all
+        stand = copies_follow o.arena r.arena b agents names numbers (take (length gs) o.ends.items) (take (length fs) r.ends.items) n m w shows_more shows live.all
             (λ j low. (
             let e = length-take-le (length gs) o.ends.items fits_more in
             let f = length-take-le (length fs) r.ends.items fits in
