@@ -112,7 +112,7 @@ none_written from agents names ends first = record {
   many = refl;
 }
 
-moved_live : (name number : ℕ → ℕ) (x : State) → IsLive x → IsLive (moved name number x)
+pub moved_live : (name number : ℕ → ℕ) (x : State) → IsLive x → IsLive (moved name number x)
 moved_live name number Vacant live = live
 moved_live name number Leased live = live
 moved_live name number (Live w es) live = tt
