@@ -11,15 +11,17 @@ use Rattle.in_arena.specs.States.{State, Vacant, Leased, Live, IsLive, end_at, w
 use Rattle.in_arena.specs.declared.content.CellNo.{CellNo}
 use Rattle.in_arena.specs.declared.content.End.{End}
 use Rattle.in_arena.specs.declared.content.End.TheVariants.{Cell, Free as FreeEnd}
+use Rattle.in_arena.proofs.Arenas.{word_live}
 use Rattle.in_net.specs.Nets.{Point, Port, Free, Net}
 use Rattle.in_glue.specs.AsGluing.{old_and_new, two_parts}
 use Rattle.in_glue.specs.Joining.{IsAtNumber, IsBeside}
 use Rattle.in_glue.specs.Laws.{KeepsApart}
+use Rattle.in_glue.proofs.Gluing.Points.{mapped}
 use Rattle.in_joining.specs.Shown.{IsShown, point_of}
 use Rattle.in_parts.specs.Leading.{StandBeside}
 use Rattle.in_moving.specs.Copying.{AreAllLive, IsCopied, moved, moved_end, name_in, number_in}
 use Rattle.in_moving.specs.Laws.{moved_point, Shows, AreNumbered, number_of, leads_to, AreEndsOf, CopiesStandBeside, ends_of, one_after_other, CopiesFollow}
-use Rattle.in_moving.proofs.Shown.{word_moved, end_moved, point_moved, there, end_live, word_live, NamedOr, named_or}
+use Rattle.in_moving.proofs.Shown.{word_moved, end_moved, point_moved, end_live, NamedOr, named_or}
 use Rattle.in_moving.proofs.Written.{moved_live}
 
 -- ---- side by side
@@ -58,7 +60,7 @@ module _ (from before old new : ArenaView) (agents names : List CellNo) (numbers
   agent_of x s e = all x (word_live (state_at from x) s (sym (shows_n.shown.agents x) ∙ e))
 
   wired_agent : (x i : ℕ) (q : Point ℕ) → n.partner (Port x i) ≡ Some q → (k : ℕ) × (slice_get agents k ≡ Some (record { 0 = x }))
-  wired_agent x i q e = let t = there point_of (end_at (state_at from x) i) q (sym (shows_n.shown.wires (Port x i)) ∙ e) in all x (end_live (state_at from x) i t.0 t.1)
+  wired_agent x i q e = let t = mapped point_of (end_at (state_at from x) i) q (sym (shows_n.shown.wires (Port x i)) ∙ e) in all x (end_live (state_at from x) i t.0 t.1)
 
   -- an agent that was there has no copy's name
   no_name : (y : ℕ) → IsLive (state_at before y) → (k : ℕ) (c : CellNo) → slice_get agents k ≡ Some c → name c.0 ≡ y → ⊥
@@ -68,7 +70,7 @@ module _ (from before old new : ArenaView) (agents names : List CellNo) (numbers
   old_live y s e = word_live (state_at before y) s (sym (shows_m.shown.agents y) ∙ e)
 
   old_wired : (y i : ℕ) (q : Point ℕ) → m.partner (Port y i) ≡ Some q → IsLive (state_at before y)
-  old_wired y i q e = let t = there point_of (end_at (state_at before y) i) q (sym (shows_m.shown.wires (Port y i)) ∙ e) in end_live (state_at before y) i t.0 t.1
+  old_wired y i q e = let t = mapped point_of (end_at (state_at before y) i) q (sym (shows_m.shown.wires (Port y i)) ∙ e) in end_live (state_at before y) i t.0 t.1
 
   -- ---- what the cells show at an agent
 
@@ -113,12 +115,12 @@ module _ (from before old new : ArenaView) (agents names : List CellNo) (numbers
 
   old_wire : (p u v : Point ℕ) → placed number name 0 p ≡ u → option_map kept (m.partner p) ≡ Some v → IsWire u v
   old_wire p u v at e =
-      let t = there kept (m.partner p) v e in
+      let t = mapped kept (m.partner p) v e in
       (0, p, t.0, subst (IsAtNumber number (old_and_new name) 0 p) at (at_placed number name 0 p), subst (IsAtNumber number (old_and_new name) 0 t.0) (sym (is_kept t.0) ∙ t.2) (at_placed number name 0 t.0), t.1)
 
   new_wire : (p u v : Point ℕ) → placed number name 1 p ≡ u → option_map to (n.partner p) ≡ Some v → IsWire u v
   new_wire p u v at e =
-      let t = there to (n.partner p) v e in
+      let t = mapped to (n.partner p) v e in
       (1, p, t.0, subst (IsAtNumber number (old_and_new name) 1 p) at (at_placed number name 1 p), subst (IsAtNumber number (old_and_new name) 1 t.0) (sym (is_copied t.0) ∙ t.2) (at_placed number name 1 t.0), t.1)
 
   wire_there : (u v : Point ℕ) → w.partner u ≡ Some v → IsWire u v
@@ -130,7 +132,7 @@ module _ (from before old new : ArenaView) (agents names : List CellNo) (numbers
   wire_there (Free k) v e = go at.0.0 at.0.1 at.1
     where
       here : (x : End) × (slice_get of_new k ≡ Some x) × (point_of x ≡ v)
-      here = there point_of (slice_get of_new k) v (sym (shows_w.wires (Free k)) ∙ e)
+      here = mapped point_of (slice_get of_new k) v (sym (shows_w.wires (Free k)) ∙ e)
 
       at : (p : ℕ × ℕ) × (slice_get ends k ≡ Some p)
       at = at_index ends k (let l = slice_get_within of_new k here.0 here.1 in let m = lists.many in omega (arith, l, m))
@@ -143,14 +145,14 @@ module _ (from before old new : ArenaView) (agents names : List CellNo) (numbers
   old_back : (p q : Point ℕ) → m.partner p ≡ Some q → w.partner (placed number name 0 p) ≡ Some (placed number name 0 q)
   old_back (Port y i) q e = wire_kept y i (no_name y (old_wired y i q e)) ∙ ap (option_map kept) e ∙ ap (λ (z : Point ℕ). Some z) (is_kept q)
   old_back (Free f) q e =
-      let t = there point_of (slice_get of_before f) q (sym (shows_m.shown.wires (Free f)) ∙ e) in
+      let t = mapped point_of (slice_get of_before f) q (sym (shows_m.shown.wires (Free f)) ∙ e) in
       let at = lists.all 0 f (let l = slice_get_within of_before f t.0 t.1 in let m = shows_m.many in omega (arith, l, m)) in
       free_kept (own f) f at ∙ ap (option_map kept) e ∙ ap (λ (z : Point ℕ). Some z) (is_kept q)
 
   new_back : (p q : Point ℕ) → n.partner p ≡ Some q → w.partner (placed number name 1 p) ≡ Some (placed number name 1 q)
   new_back (Port x i) q e = let k = wired_agent x i q e in wire_copied k.0 i (record { 0 = x }) k.1 ∙ ap (option_map to) e ∙ ap (λ (z : Point ℕ). Some z) (is_copied q)
   new_back (Free f) q e =
-      let t = there point_of (slice_get of_from f) q (sym (shows_n.shown.wires (Free f)) ∙ e) in
+      let t = mapped point_of (slice_get of_from f) q (sym (shows_n.shown.wires (Free f)) ∙ e) in
       let at = lists.all 1 f (let l = slice_get_within of_from f t.0 t.1 in let m = shows_n.many in omega (arith, l, m)) in
       free_copied (number_in numbers f) f at ∙ ap (option_map to) e ∙ ap (λ (z : Point ℕ). Some z) (is_copied q)
 

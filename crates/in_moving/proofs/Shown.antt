@@ -9,6 +9,7 @@ use Rattle.in_arena.specs.declared.content.CellNo.{CellNo}
 use Rattle.in_arena.specs.declared.content.End.{End}
 use Rattle.in_arena.specs.declared.content.End.TheVariants.{Cell, Free as FreeEnd}
 use Rattle.in_net.specs.Nets.{Point, Port, Net}
+use Rattle.in_glue.proofs.Gluing.Points.{mapped}
 use Rattle.in_glue.specs.Joining.{WiresLeadBack}
 use Rattle.in_joining.specs.Shown.{IsShown, point_of, stands_at}
 use Rattle.in_moving.specs.Copying.{LeadsInto, moved, moved_end, name_in, number_in}
@@ -31,19 +32,10 @@ point_moved name number None = refl
 point_moved name number (Some (Cell c i)) = refl
 point_moved name number (Some (FreeEnd k)) = refl
 
-pub there : {X Y : Type 0} (f : X → Y) (o : Option X) (y : Y) → option_map f o ≡ Some y → (x : X) × (o ≡ Some x) × (f x ≡ y)
-there f None y h = absurd (let e : None ≡ Some y = h in cc)
-there f (Some x) y h = (x, refl, same_Some (f x) y h)
-
 pub end_live : (x : State) (i : ℕ) (e : End) → end_at x i ≡ Some e → IsLive x
 end_live Vacant i e h = let f : None ≡ Some e = h in cc
 end_live Leased i e h = let f : None ≡ Some e = h in cc
 end_live (Live w es) i e h = tt
-
-pub word_live : (x : State) (s : ℕ) → word_of x ≡ Some s → IsLive x
-word_live Vacant s h = let f : None ≡ Some s = h in cc
-word_live Leased s h = let f : None ≡ Some s = h in cc
-word_live (Live w es) s h = tt
 
 -- ---- some agents
 
@@ -67,7 +59,7 @@ copies_are_shown from old new agents names ends of_from of_old of_new n m w show
 module _ (a : ArenaView) (of_a : List End) (n : Net ℕ) (shown : IsShown a of_a n) (back : WiresLeadBack n) where
   -- at each point that a wire leads to something stands
   leads_back : (u v : Point ℕ) → n.partner u ≡ Some v → (e : End) × (stands_at a of_a v ≡ Some e)
-  leads_back u v h = let t = there point_of (stands_at a of_a v) u (sym (shown.wires v) ∙ back.0 u v h) in (t.0, t.1)
+  leads_back u v h = let t = mapped point_of (stands_at a of_a v) u (sym (shown.wires v) ∙ back.0 u v h) in (t.0, t.1)
 
 pub all_are_closed : AllAreClosed
 all_are_closed a agents of_a n shown back all k i c e s at = go e (leads_back a of_a n shown back (Port c.0 i) (point_of e) (shown.wires (Port c.0 i) ∙ ap (option_map point_of) at))

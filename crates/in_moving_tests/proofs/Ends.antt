@@ -16,10 +16,7 @@ module _ (x : State) (P : End → Type 0) where
       go (inl same) = subst P (same_Some e f (sym at ∙ ap (end_at x) (sym same) ∙ stands)) is
       go (inr other) = h i f (omega (arith, less, other)) stands
 
-within : (x : State) (i : ℕ) (e : End) → end_at x i ≡ Some e → i < places x
-within Vacant i e h = let f : None ≡ Some e = h in cc
-within Leased i e h = let f : None ≡ Some e = h in cc
-within (Live w es) i e h = slice_get_within es i e h
-
 pub so_all : (x : State) (P : End → Type 0) (p : ℕ) → places x ≤ p → IsSoBelow x P p → (i : ℕ) (e : End) → end_at x i ≡ Some e → P e
-so_all x P p le h i e stands = h i e (let l = within x i e stands in omega (arith, l, le)) stands
+so_all Vacant P p le h i e stands = let f : None ≡ Some e = stands in cc
+so_all Leased P p le h i e stands = let f : None ≡ Some e = stands in cc
+so_all (Live w es) P p le h i e stands = h i e (let l = slice_get_within es i e stands in omega (arith, l, le)) stands
