@@ -1,9 +1,9 @@
 -- What the state of a cell says of its number.
-use Rattle.std.proofs.Common.{◌≡◌, ℕ, ◌<◌, length, subst, ⊎_elim, sym, ap, ◌∙◌, arith}
+use Rattle.std.proofs.Common.{◌≡◌, ℕ, ◌<◌, Some, None, length, subst, ⊎_elim, sym, ap, ◌∙◌, arith}
 use Rattle.std.proofs.lemmas.List.{get_or_past}
 use Rattle.std.proofs.lemmas.Bool.{cases_lt}
 use Rattle.in_arena.specs.Arenas.{ArenaView, LeaseView, state_at, changed, IsOf}
-use Rattle.in_arena.specs.States.{State, Vacant, Leased, IsLeased, IsLive, places}
+use Rattle.in_arena.specs.States.{State, Vacant, Leased, Live, IsLeased, IsLive, places, word_of}
 
 -- a cell that isn't leased is none past the last one
 pub state_inside : (a : ArenaView) (n : ℕ) → (state_at a n ≡ Leased → ⊥) → n < length a.states
@@ -15,6 +15,14 @@ vacant_inside a n free = state_inside a n (λ e. subst IsLeased (sym e ∙ free)
 -- a live cell isn't leased
 pub live_here : (x : State) → IsLive x → x ≡ Leased → ⊥
 live_here x live e = subst IsLive e live
+
+pub live_inside : (a : ArenaView) (n : ℕ) → IsLive (state_at a n) → n < length a.states
+live_inside a n live = state_inside a n (live_here (state_at a n) live)
+
+pub word_live : (x : State) (s : ℕ) → word_of x ≡ Some s → IsLive x
+word_live Vacant s h = let f : None ≡ Some s = h in cc
+word_live Leased s h = let f : None ≡ Some s = h in cc
+word_live (Live w es) s h = tt
 
 pub placed_here : (x : State) (p : ℕ) → p < places x → x ≡ Leased → ⊥
 placed_here x p lt e = let none : places x ≡ 0 = ap places e in omega (arith, lt, none)

@@ -1,3 +1,4 @@
+pub mod Beside
 pub mod Shown
 pub mod Taken
 pub mod Written

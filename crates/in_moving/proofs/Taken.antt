@@ -1,10 +1,11 @@
 -- Cells are taken for agents, one after another.
 use Rattle.std.proofs.Common.{◌≡◌, ◌≢◌, ◌⊎◌, inl, inr, ◌<◌, ◌+◌, ℕ, Bool, true, false, cond, Some, None, List, length, take, set, get_or, count_by, slice_get, refl, sym, ap, subst, ◌∙◌, get_or-set_same, get_or-set_other, arith}
-use Rattle.std.specs.Prelude.{◌&&◌, nat_le}
+use Rattle.std.specs.Prelude.{nat_le}
 use Rattle.std.proofs.lemmas.Bool.{cases_eq, le-leb, leb-true}
 use Rattle.std.proofs.lemmas.List.{length-set}
 use Rattle.std.proofs.lemmas.List.Sums.{sum_by_more, sum_by_more_le}
 use Rattle.std.proofs.lemmas.Option.{same_Some, slice_get_within, get_or_from_slice_get}
+use Rattle.std.specs.Cmp.{first_so, second_so}
 use Rattle.std.specs.Cmp.Derive.{both_true}
 use Rattle.in_arena.specs.Arenas.{ArenaView, LeaseView, Leases, changed, free_of, state_at, written}
 use Rattle.in_arena.specs.Changes.{HasAllCells, one_if_free}
@@ -13,7 +14,7 @@ use Rattle.in_arena.specs.States.{State, Vacant, Leased, Live, IsBegun, IsLive, 
 use Rattle.in_arena.specs.declared.content.CellClass.{CellClass}
 use Rattle.in_arena.specs.declared.content.CellClass.TheVariants.{Small, Large, Wide}
 use Rattle.in_arena.specs.declared.content.CellNo.{CellNo}
-use Rattle.in_arena.proofs.Arenas.{changed_same, live_here, state_inside, vacant_inside}
+use Rattle.in_arena.proofs.Arenas.{changed_same, vacant_inside}
 use Rattle.in_arena.proofs.Bags.{changed_twice}
 use Rattle.in_arena.proofs.Changes.{counts_change}
 use Rattle.in_moving.specs.Copying.{ArePart, AreAlike, HasRoom, is_for, name_in}
@@ -38,17 +39,12 @@ one_if b = cond b 1 0
 one_for : (c : CellClass) (n : ℕ) → Holds c n → one_if (holds c n) ≡ 1
 one_for c n h = ap one_if (both_true (le-leb (least c) n h.0) (le-leb n (width c) h.1))
 
-two_tests : (a b : Bool) → (a && b) ≡ true → (a ≡ true) × (b ≡ true)
-two_tests true true e = (refl, refl)
-two_tests true false e = absurd (let f : false ≡ true = e in cc)
-two_tests false b e = absurd (let f : false ≡ true = e in cc)
-
 -- so many places are for this class, or for another one
 which : (c : CellClass) (n : ℕ) → Holds c n ⊎ (one_if (holds c n) ≡ 0)
 which c n = go (holds c n) refl
   where
     go : (b : Bool) → holds c n ≡ b → Holds c n ⊎ (one_if (holds c n) ≡ 0)
-    go true e = let t = two_tests (nat_le (least c) n) (nat_le n (width c)) e in inl (leb-true (least c) n t.0, leb-true n (width c) t.1)
+    go true e = let one = nat_le (least c) n in let two = nat_le n (width c) in inl (leb-true (least c) n (first_so one two e), leb-true n (width c) (second_so one two e))
     go false e = inr (ap one_if e)
 
 -- ---- states
@@ -220,7 +216,3 @@ cells_for from agents old now names h = record {
   each = λ k c s. (h.each k c (slice_get_within agents k c s) s).alike;
   once = λ j k c d s r. h.once j k c d (slice_get_within agents j c s) (slice_get_within agents k d r) s r;
 }
-
--- a live cell's number is below that of all cells
-pub live_inside : (a : ArenaView) (n : ℕ) → IsLive (state_at a n) → n < length a.states
-live_inside a n live = state_inside a n (live_here (state_at a n) live)

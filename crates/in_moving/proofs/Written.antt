@@ -14,9 +14,9 @@ use Rattle.in_arena.specs.declared.content.End.TheVariants.{Cell, Free}
 use Rattle.in_arena.proofs.Bags.{changed_twice}
 use Rattle.in_arena.proofs.Changes.{counts_change}
 use Rattle.in_arena.proofs.Classes.{class_of_number}
+use Rattle.in_arena.proofs.Arenas.{live_inside}
 use Rattle.in_moving.specs.Copying.{ArePart, LeadsInto, IsWithin, AreAlike, is_for, moved, moved_end, name_in, number_in, IsCopied}
 use Rattle.in_moving.specs.CopyingSteps.{AreTakenBelow, AreCellsFor, IsBeingWritten, AreWrittenBelow}
-use Rattle.in_moving.proofs.Taken.{live_inside}
 
 -- ---- states
 
@@ -112,7 +112,7 @@ none_written from agents names ends first = record {
   many = refl;
 }
 
-moved_live : (name number : ℕ → ℕ) (x : State) → IsLive x → IsLive (moved name number x)
+pub moved_live : (name number : ℕ → ℕ) (x : State) → IsLive x → IsLive (moved name number x)
 moved_live name number Vacant live = live
 moved_live name number Leased live = live
 moved_live name number (Live w es) live = tt

@@ -73,13 +73,17 @@ HasRoom a agents b = (d : CellClass) → count_by (is_for a d) agents ≤ free_o
 
 -- ---- the copies
 
+-- different agents have different new numbers
+abbrev pub HaveOwnNames : List CellNo → List CellNo → Type 0
+HaveOwnNames agents names = (j k : ℕ) (c d : CellNo) → slice_get agents j ≡ Some c → slice_get agents k ≡ Some d → name_in names c.0 ≡ name_in names d.0 → j ≡ k
+
 -- each agent stands in a cell of its own, which was free and is of the class for its places, with what it leads to under the new numbers; all
 -- other cells are as they were
 pub record IsCopied (from : ArenaView) (agents : List CellNo) (ends : List ℕ) (names : List CellNo) (old new : ArenaView) : Type 0 where
   pub each : (k : ℕ) (c : CellNo) → slice_get agents k ≡ Some c
       → (state_at old (name_in names c.0) ≡ Vacant) × (state_at new (name_in names c.0) ≡ moved (name_in names) (number_in ends) (state_at from c.0))
   pub classes : (k : ℕ) (c : CellNo) → slice_get agents k ≡ Some c → (d : CellClass) × Holds d (places (state_at from c.0)) × IsNumberOf new.cells d (name_in names c.0)
-  pub once : (j k : ℕ) (c d : CellNo) → slice_get agents j ≡ Some c → slice_get agents k ≡ Some d → name_in names c.0 ≡ name_in names d.0 → j ≡ k
+  pub once : HaveOwnNames agents names
   pub others : (n : ℕ) → ((k : ℕ) (c : CellNo) → slice_get agents k ≡ Some c → name_in names c.0 ≡ n → ⊥) → state_at new n ≡ state_at old n
   pub free : (d : CellClass) → free_of new d + count_by (is_for from d) agents ≡ free_of old d
   pub memory : new.memory ≡ old.memory

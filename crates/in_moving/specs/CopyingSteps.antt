@@ -6,7 +6,7 @@ use Rattle.in_arena.specs.States.{State, Vacant, Live, IsLive, places}
 use Rattle.in_arena.specs.declared.content.CellClass.{CellClass}
 use Rattle.in_arena.specs.declared.content.CellNo.{CellNo}
 use Rattle.in_arena.specs.declared.content.End.{End}
-use Rattle.in_moving.specs.Copying.{AreAlike, is_for, moved, moved_end, name_in, number_in}
+use Rattle.in_moving.specs.Copying.{AreAlike, HaveOwnNames, is_for, moved, moved_end, name_in, number_in}
 
 -- the live cells of the first so many are these
 pub record AreListedBelow (a : ArenaView) (x : ℕ) (cells : List CellNo) : Type 0 where
@@ -45,7 +45,7 @@ pub record AreTakenBelow (from : ArenaView) (agents : List CellNo) (old : ArenaV
 -- each agent has a cell of its own, in which it is to be written
 pub record AreCellsFor (from : ArenaView) (agents names : List CellNo) (now : ArenaView) : Type 0 where
   pub each : (k : ℕ) (c : CellNo) → slice_get agents k ≡ Some c → AreAlike (state_at from c.0) (state_at now (name_in names c.0))
-  pub once : (j k : ℕ) (c d : CellNo) → slice_get agents j ≡ Some c → slice_get agents k ≡ Some d → name_in names c.0 ≡ name_in names d.0 → j ≡ k
+  pub once : HaveOwnNames agents names
 
 -- what stands in a cell, its first so many ends being written
 pub record IsBeingWritten (name number : ℕ → ℕ) (x : State) (n i : ℕ) (first now : ArenaView) : Type 0 where

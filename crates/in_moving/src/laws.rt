@@ -1,5 +1,5 @@
 //! Laws over the definitions alone. No function here does anything.
-ghost use Rattle.in_moving.specs.Laws.{CopiesAreShown, NoneIsLeased, AllAreClosed, CopiesStandBeside};
+ghost use Rattle.in_moving.specs.Laws.{CopiesAreShown, NoneIsLeased, AllAreClosed, CopiesStandBeside, CopiesFollow};
 
 /// What the cells show afterwards has the copied agents under their new names, with their wires, beside all that was there.
 pub fn copies_are_shown()
@@ -16,7 +16,12 @@ pub fn all_are_closed()
     ensures { AllAreClosed }
 {}
 
-/// Where all agents of a net are copied, and its free ends are added behind those that were there, both nets stand side by side.
+/// Where all agents of a net are copied to the cells of another one, both nets stand side by side, whatever the order of their free ends.
 pub fn copies_stand_beside()
     ensures { CopiesStandBeside }
+{}
+
+/// .. as where the free ends of the copied net follow those that were there.
+pub fn copies_follow()
+    ensures { CopiesFollow }
 {}

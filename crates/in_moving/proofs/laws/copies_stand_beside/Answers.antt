@@ -1,4 +1,4 @@
-use Rattle.in_moving.proofs.Shown as proved
+use Rattle.in_moving.proofs.Beside as proved
 use Rattle.in_moving.proofs.laws.copies_stand_beside.Goals as goal
 
 pub returns : goal.returns

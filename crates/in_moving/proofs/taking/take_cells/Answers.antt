@@ -1,7 +1,8 @@
 use Rattle.std.proofs.Common.{◌∙◌, length-set, arith}
 use Rattle.std.specs.Prelude.{slice_index_or}
 use Rattle.std.proofs.lemmas.Option.{slice_get-get_or}
-use Rattle.in_moving.proofs.Taken.{live_inside, one_more_taken, some_free}
+use Rattle.in_arena.proofs.Arenas.{live_inside}
+use Rattle.in_moving.proofs.Taken.{one_more_taken, some_free}
 use Rattle.in_moving.proofs.taking.take_cells.Goals as goal
 
 pub take_cell-requires-clause-free : goal.take_cell-requires-clause-free
