@@ -33,7 +33,8 @@ use Rattle.in_interaction.proofs.Stepping.KeptOrMade.{symbol_number}
 use Rattle.in_joining.specs.Shown.{IsShown, point_of}
 use Rattle.in_moving.specs.Copying.{AreClosed, HasRoom, IsCopied, IsListOfLive, IsWithin, is_for, moved, moved_end, name_in, number_in}
 use Rattle.in_moving.specs.Laws.{Shows, one_after_other}
-use Rattle.in_moving.proofs.Shown.{all_are_closed, copies_follow}
+use Rattle.in_moving.proofs.Beside.{copies_follow}
+use Rattle.in_moving.proofs.Shown.{all_are_closed}
 use Rattle.in_parts.specs.Leading.{StandBeside}
 use Rattle.in_parts.proofs.BesideSound.{beside_sound_is_sound}
 use Rattle.in_reducer.specs.declared.body.Body.{Body}
