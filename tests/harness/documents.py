@@ -1,4 +1,5 @@
-"""The documents: each link and each path in README.md and docs/ leads to a file, and each command on an example prints what is shown.
+"""The documents: each link and path in README.md and docs/ leads to a file, each crate named there is one, and each command on an example
+prints what is shown.
 
 A command stands in a block as `$ ./inet WORDS < FILE` or `$ cat FILE`, and the lines up to the next command are what it prints, those on
 standard error last. Other commands aren't tried.
@@ -18,6 +19,7 @@ ANY = {"NAME", "LAW", "FOLDER", "MODULE", "CALL", "F"}
 BLOCK = re.compile(r"^```[a-z]*\n(.*?)^```$", re.MULTILINE | re.DOTALL)
 LINK = re.compile(r"\]\(([^)\s]+)\)")
 WORD = re.compile(r"`([^`\n]+)`")
+CRATE = re.compile(r"`(in_\w+)(?:::[^`\n]*)?`")
 COMMAND = re.compile(r"\$ (?:\./)?(inet|cat)\b(?: (.*?))?(?: ?< (\S+))?$")
 
 
@@ -67,6 +69,12 @@ def wrong_path(path):
     return None if any(glob.glob(os.path.join(TOP, path + ending)) for ending in ("", ".antt")) else f"no file {path}"
 
 
+def wrong_crate(name):
+    """What is wrong with a name that begins as those of crates do, and may be that of a mutant."""
+    found = os.path.isdir(os.path.join(TOP, "crates", name)) or any(glob.glob(os.path.join(TOP, "crates", "*", "*", name + ".edit")))
+    return None if found else f"no crate {name}"
+
+
 def commands(text):
     """The commands that a page's blocks show, each with its words, its file and what it prints."""
     for block in BLOCK.findall(text):
@@ -96,6 +104,8 @@ def documents(program):
                 yield f"{page}: link to {target}", partial(wrong_link, page, target)
         for path in sorted({path for word in WORD.findall(outside) if (path := path_in(word))}):
             yield f"{page}: {path}", partial(wrong_path, path)
+        for name in sorted(set(CRATE.findall(outside))):
+            yield f"{page}: {name}", partial(wrong_crate, name)
         for line, name, words, file, shown in commands(text):
             if file or name == "cat":
                 yield f"{page}: {line}", partial(wrong_print, program, name, words, file, shown)
