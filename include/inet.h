@@ -1,7 +1,7 @@
 /* The checker and the runner `inet` for programs of interaction nets, in the process of whoever calls them.
  *
- * Each call goes from a program's text to the bytes that the program `inet` writes on it. docs/LIBRARY.md says what is proved of a call,
- * docs/LANGUAGE.md what is written. The library is crates/in_c/out/libin_c.a, and needs the kit's c/liblibc_c.a beside it.
+ * Each call goes from a program's text to the bytes that the program `inet` writes on it. docs/use/LIBRARY.md says what is proved of a call,
+ * docs/use/OUTPUT.md what is written. The library is crates/in_c/out/libin_c.a, and needs the kit's c/liblibc_c.a beside it.
  *
  * Buffers. `text` points to `text_length` bytes, which need not be well-formed UTF-8 nor end with a zero byte. The answer goes to `room`,
  * of `room_size` bytes, and `*length` says how many bytes the whole answer has, whether there is room for them or not:

@@ -1,6 +1,6 @@
 """Programs as `inet_export` writes them, and nets that are reduced by their rules: what the tools of this folder share.
 
-docs/EXPORT.md has the format. A point is a tuple: (agent, place) for an agent's port, place 0 being the principal one, and (number,) for
+docs/use/EXPORT.md has the format. A point is a tuple: (agent, place) for an agent's port, place 0 being the principal one, and (number,) for
 a free end. An active pair is a tuple of two agents, the constructor first.
 """
 import json

@@ -3,7 +3,7 @@
 
 Usage: inet_export < PROGRAM.inet | tools/reduce.py [--order queue|stack|random] [--seed N] [--limit N]
 
-An independent reader of the export: it knows nothing of `inet` but docs/EXPORT.md. Where no active pair is left, the text and the count
+An independent reader of the export: it knows nothing of `inet` but docs/use/EXPORT.md. Where no active pair is left, the text and the count
 are the same in each order.
 """
 import argparse

@@ -4,7 +4,7 @@
 Usage: inet_export < PROGRAM.inet | tools/steps.py
 
 Prints `yes` and how many steps there are, or for each rule or net that isn't built by its steps a line that says why, and ends with
-status 1. The steps are Lafont 1990's constructions; docs/EXPORT.md says what each one builds.
+status 1. The steps are Lafont 1990's constructions; docs/use/EXPORT.md says what each one builds.
 """
 import sys
 from collections import Counter

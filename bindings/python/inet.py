@@ -1,5 +1,5 @@
 #!/usr/bin/env python3
-"""The checker and the runner `inet` for Python, over the shared object that is linked from the static library (docs/LIBRARY.md).
+"""The checker and the runner `inet` for Python, over the shared object that is linked from the static library (docs/use/LIBRARY.md).
 
 Usage: inet.py check|derive|run [LIMIT [CELLS]]     with a program's text on standard input, as `inet` has it; or, from Python:
 

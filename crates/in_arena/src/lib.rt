@@ -1,4 +1,13 @@
 //! The cells of a net in raw memory: an arena has cells of a few widths, each free, leased or live with a symbol and its ends.
+//!
+//! It needs `std_alloc` and `core`. From below: `cells`, a row of raw cells with several owners and the right to free it (the only
+//! `unsafe` code); `content`, the classes of cells and what a cell holds; `region`, cells of one width; `regions`, a region for each
+//! class, which is said in this file and nowhere else; `lease`, the owner of one cell; `bag`, the owner of several cells by their
+//! numbers, which takes no bytes for a cell; `arena`.
+//!
+//! An arena is made without being written. Free are the cells that were given back, a list through the cells, the last one first, and
+//! after them all that were never used. A free cell has no ends, and its word is the number of the next one. A retired cell comes first,
+//! so that a lease and the write after it touch one line of the cache.
 #![tactic(auto)]
 
 mod arena;

@@ -1,4 +1,4 @@
-//! The tests of edges on rings.
+//! The tests of edges on cycles.
 #![tactic(auto)]
 
 #[cfg(test)]

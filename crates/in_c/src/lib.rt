@@ -2,6 +2,11 @@
 //! `inet` writes on it, and its status. `include/inet.h` says how it is called from C.
 //!
 //! Nothing is kept from call to call, so that several threads may call at once, each on a text and a room of its own.
+//!
+//! There is an export for each call. It has its answer made in memory (`saying`, `diagnosing`) by a writer that keeps what it takes
+//! (`collecting`), and gives it to the caller's room (`giving`). What is said is `in_program`'s `report_text` and `run_text`: the latter
+//! runs in turn, since an export has no runtime to give to `act`. No crate can use a static library, so its tests are `tests/run --only
+//! library`. `docs/use/LIBRARY.md` has the page for users.
 #![tactic(auto)]
 
 ghost use Rattle.in_c.specs.Answers.{Answers, AnswersRun, Diagnoses};

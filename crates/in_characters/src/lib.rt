@@ -1,4 +1,6 @@
 //! The names of characters that begin no name of a program: signs, digits, marks, spaces and what isn't seen.
+//!
+//! There is one call, and a table of some 14,000 lines, which `bench/characters` writes from the data of Unicode 18.
 #![tactic(auto)]
 
 mod tables;

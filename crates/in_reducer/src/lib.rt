@@ -1,5 +1,28 @@
 //! A net in raw cells that is reduced in place: each interaction places the right member of its rule in free cells and joins it end by end,
 //! and takes no memory.
+//!
+//! A `Reducer` has a net in an arena: live cells are the agents, their ends the wires, and a list has what the free ends lead to. What
+//! contracts see of it is one value (`specs/Machines.antt`): the program, the agent of each cell by number, the free ends, the queue, the
+//! free counts. It keeps that its net is *sound* (typed, of the program's symbols, without crossing circle), and not that the program
+//! reaches it, so that a part of a net can be reduced in the same way; soundness is all that an interaction needs. Its free ends are its
+//! own: each is one of its program's, or an end of a wire that was cut, which has a type and no name.
+//!
+//! `starting` places the program's net, `looking` reads it, `stepping` does one interaction: the template of the pair is found by the two
+//! symbols, `placing` puts the right member into free cells while the pair is still there, `sides` writes what is at the two sides of
+//! each boundary end behind the free ends in the list, the pair's cells are retired, `in_joining` joins end by end, and `queueing` adds
+//! the new pairs. The room for all this (`tools`: a stock, a list of cells, a list of pairs; the queue; the list of ends) is taken at the
+//! start, so that an interaction takes no memory and can't be refused.
+//!
+//! No cell is on lease between two calls, so that the arena can be dropped. During a round cells are on lease, and what the reducer works
+//! with (`body`) is reduced all the same: for contracts a leased cell counts as free (`at_rest` in `specs/Standing.antt`), so that what
+//! is shown doesn't depend on which are out.
+//!
+//! A **round** (`round`): the first pairs of the queue are its jobs, told by their symbols. `in_work::gather_jobs` lends each worker its
+//! share of the free cells, lets each claim jobs from a board and place their templates, in a thread of its own, takes all back by value,
+//! gives back what wasn't used, and answers a `Gather` of what was placed. Then the owner (`rounding`) goes through the jobs in rising
+//! number: what was gathered is settled and stitched in (`stitching`), which is the second half of a step (`finish`), by what is at the
+//! pair's ports now. At the first job for which nothing is there, the rest of the gather goes back, and the jobs that are left are done
+//! by plain steps while what they need is free. So the jobs done are the first ones, whatever the schedule.
 #![tactic(auto)]
 
 mod appending;

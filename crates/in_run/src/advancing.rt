@@ -11,7 +11,7 @@ use std::alloc::{AllocError, Global};
 use std::sync::Wait;
 use std::thread::Threads;
 
-/// From how many pairs on a round of several workers can pay, as measured (`docs/SPEED.md`).
+/// From how many pairs on a round of several workers can pay, as measured (`docs/work/SPEED.md`).
 const ROUND_PAIRS: u32 = 2_048;
 
 /// .. and from how many agents on, that these pairs need together.

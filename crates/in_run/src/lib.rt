@@ -1,4 +1,7 @@
 //! Runs of a machine within limits. The machine is that of `in_rounds`, which is given out again here.
+//!
+//! `running` is the loop, with the three stops tested in their order. With several workers `advancing` looks whether the queue is so
+//! long, and its pairs need so many agents, that a round pays, and else does one step.
 #![tactic(auto)]
 
 mod advancing;

@@ -1,4 +1,8 @@
 //! The text of a program: its tokens, its tree, and the first fault in either.
+//!
+//! `characters` and `lexer` go over the text one character at a time. `parser` takes one token at a time into `reader`, a machine whose
+//! `states` say where in a program the next token is, with a `stack` for the terms that are open: no call is deeper for a deeper text.
+//! `specs/Steps.antt` has the machine's steps as definitions; the proofs show that it reads exactly what the grammar spells.
 #![tactic(auto)]
 
 mod characters;

@@ -1,5 +1,9 @@
 //! The program `inet`: checks a program of interaction nets (Lafont 1990) that comes on standard input, and writes one line on
 //! what it found; the steps that build its rules and its net; or what its net comes to when it is run.
+//!
+//! It has the words read and calls `in_program::act` over the standard streams. A reader that keeps a copy of what it passes on
+//! (`keeping`) gives it the text again after a refusal, for the diagnosis. The streams (`streams`) keep why a read or a write failed, and
+//! `serve` tells it.
 #![tactic(auto)]
 
 ghost use Rattle.std.specs.Prelude.{◌-◌, ◌<◌, ◌^◌};

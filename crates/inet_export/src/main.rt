@@ -1,5 +1,7 @@
 //! The program `inet_export`: writes the program of interaction nets (Lafont 1990) that comes on standard input as data, one JSON object
 //! on one line, for programs that go on with it. Where it is refused, it prints the line that `inet check` prints.
+//!
+//! Where the text is refused, it lets `in_program::report` write what `inet check` writes.
 #![tactic(auto)]
 
 ghost use Rattle.std.specs.Prelude.{◌-◌, ◌<◌, ◌^◌};
