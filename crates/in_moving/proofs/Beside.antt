@@ -27,15 +27,15 @@ use Rattle.in_moving.proofs.Written.{moved_live}
 -- ---- side by side
 
 -- the point that a part's point is
-abbrev placed : (ℕ × ℕ → ℕ) → (ℕ → ℕ) → ℕ → Point ℕ → Point ℕ
+abbrev pub placed : (ℕ × ℕ → ℕ) → (ℕ → ℕ) → ℕ → Point ℕ → Point ℕ
 placed number name i (Port x k) = Port (old_and_new name i x) k
 placed number name i (Free e) = Free (number (i, e))
 
-is_placed : (number : ℕ × ℕ → ℕ) (name : ℕ → ℕ) (i : ℕ) (p u : Point ℕ) → IsAtNumber number (old_and_new name) i p u → u ≡ placed number name i p
+pub is_placed : (number : ℕ × ℕ → ℕ) (name : ℕ → ℕ) (i : ℕ) (p u : Point ℕ) → IsAtNumber number (old_and_new name) i p u → u ≡ placed number name i p
 is_placed number name i (Port x k) u e = e
 is_placed number name i (Free k) u e = e
 
-at_placed : (number : ℕ × ℕ → ℕ) (name : ℕ → ℕ) (i : ℕ) (p : Point ℕ) → IsAtNumber number (old_and_new name) i p (placed number name i p)
+pub at_placed : (number : ℕ × ℕ → ℕ) (name : ℕ → ℕ) (i : ℕ) (p : Point ℕ) → IsAtNumber number (old_and_new name) i p (placed number name i p)
 at_placed number name i (Port x k) = refl
 at_placed number name i (Free k) = refl
 

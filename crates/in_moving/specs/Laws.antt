@@ -2,7 +2,9 @@
 use Rattle.std.specs.Prelude.{◌≡◌, ◌<◌, ◌+◌, ℕ, zero, suc, List, [], ◌∷◌, ◌++◌, length, map, Option, Some, None, slice_get, option_map}
 use Rattle.in_arena.specs.Arenas.{ArenaView, NoneLeased, state_at}
 use Rattle.in_arena.specs.declared.content.CellNo.{CellNo}
+use Rattle.in_arena.specs.States.{Vacant, end_at, word_of}
 use Rattle.in_arena.specs.declared.content.End.{End}
+use Rattle.in_arena.specs.declared.content.End.TheVariants as end
 use Rattle.in_net.specs.Nets.{Point, Port, Free, Net}
 use Rattle.in_glue.specs.AsGluing.{two_parts}
 use Rattle.in_glue.specs.Joining.{WiresLeadBack}
@@ -90,3 +92,37 @@ CopiesFollow = (from old new : ArenaView) (agents names : List CellNo) (ends : L
     AreAllLive from agents → ((k : ℕ) → k < length of_from → number_in ends k ≡ length of_old + k) →
     IsCopied from agents ends names old new → IsShown new (of_old ++ map (moved_end (name_in names) (number_in ends)) of_from) w → w.free ≡ m.free ++ n.free →
     StandBeside m n (name_in names) (one_after_other m n) w
+
+-- ---- agents that are taken out
+
+-- these agents are gone, and the others are the same, where free ends have these numbers
+pub record AreTakenOut (agents : List CellNo) (own : ℕ → ℕ) (a b : ArenaView) : Type 0 where
+  pub gone : (k : ℕ) (c : CellNo) → slice_get agents k ≡ Some c → state_at b c.0 ≡ Vacant
+  pub others : (y : ℕ) → ((k : ℕ) → slice_get agents k ≡ Some (record { 0 = y }) → ⊥) → state_at b y ≡ moved (λ z. z) own (state_at a y)
+
+-- an end of the net leads into the part: to one of these agents, or to a free end that is one of part 1
+abbrev pub LeadsIntoPart : List CellNo → List (ℕ × ℕ) → End → Type 0
+LeadsIntoPart agents ends (end.Cell c i) = (k : ℕ) × (slice_get agents k ≡ Some c)
+LeadsIntoPart agents ends (end.Free f) = (e : ℕ) × (slice_get ends f ≡ Some (1, e))
+
+-- each free end of the net is one of the rest, part 0, or of the part, part 1, and there it leads to what it leads to in the net
+pub record AreEndsSplit (one two : Net ℕ) (agents : List CellNo) (name own number : ℕ → ℕ) (place : ℕ → ℕ → ℕ) (of_both of_one of_two : List End) (ends : List (ℕ × ℕ)) : Type 0 where
+  pub many : length of_both ≡ length ends
+  pub places : (k i e : ℕ) → slice_get ends k ≡ Some (i, e) → place i e ≡ k
+  pub all : (i e : ℕ) → e < length (two_parts one two i).free → slice_get ends (place i e) ≡ Some (i, e)
+  pub rest : (k e : ℕ) → slice_get ends k ≡ Some (0, e) → (own k ≡ e) × (slice_get of_one e ≡ option_map (moved_end (λ z. z) own) (slice_get of_both k))
+  pub part : (k e : ℕ) → slice_get ends k ≡ Some (1, e) → (number k ≡ e) × (slice_get of_two e ≡ option_map (moved_end name number) (slice_get of_both k))
+  pub only_two : (k i e : ℕ) → slice_get ends k ≡ Some (i, e) → i < 2
+  pub apart : (k e : ℕ) (x : End) → slice_get ends k ≡ Some (0, e) → slice_get of_both k ≡ Some x → LeadsIntoPart agents ends x → ⊥
+  pub closed : (k e : ℕ) (x : End) → slice_get ends k ≡ Some (1, e) → slice_get of_both k ≡ Some x → LeadsIntoPart agents ends x
+
+-- where agents that lead to each other and to free ends of their own are copied to cells that show no agent, and are taken out, the net before
+-- is the rest and the part side by side: the agents of the part had these names there
+abbrev pub PartStandsBeside : Type 0
+PartStandsBeside = (from left old new : ArenaView) (agents names : List CellNo) (numbers : List ℕ) (own origin : ℕ → ℕ) (place : ℕ → ℕ → ℕ) (of_from of_left of_new : List End) (ends : List (ℕ × ℕ)) (n m p : Net ℕ) →
+    Shows from of_from n → WiresLeadBack n → Shows left of_left m → Shows new of_new p →
+    IsCopied from agents numbers names old new → ((y : ℕ) → word_of (state_at old y) ≡ None) → AreTakenOut agents own from left →
+    ((k : ℕ) (c : CellNo) → slice_get agents k ≡ Some c → origin (name_in names c.0) ≡ c.0) →
+    ((k i : ℕ) (c : CellNo) (x : End) → slice_get agents k ≡ Some c → end_at (state_at from c.0) i ≡ Some x → LeadsIntoPart agents ends x) →
+    AreEndsSplit m p agents (name_in names) own (number_in numbers) place of_from of_left of_new ends →
+    map (λ t. Some t) n.free ≡ map (λ q. slice_get (two_parts m p q.0).free q.1) ends → StandBeside m p origin ends n
