@@ -10,6 +10,7 @@ pub mod Memory
 pub mod OneSack
 pub mod Parts
 pub mod OneRegion
+pub mod Public
 pub mod Rows
 pub mod Seen
 pub mod Sharing

@@ -8,8 +8,7 @@ use Rattle.in_arena.specs.Classes.{classes, class_no}
 use Rattle.in_arena.specs.States.{State, Vacant, Leased, Live, IsLeased, is_vacant, places}
 use Rattle.in_arena.specs.declared.content.CellClass.{CellClass}
 use Rattle.in_arena.specs.declared.content.End.{End}
-use Rattle.in_arena.proofs.Arenas.{vacant_inside}
-use Rattle.in_arena.proofs.Classes.{class_of_number}
+use Rattle.in_arena.proofs.Public.{vacant_inside, class_of_number}
 use Rattle.std.proofs.Math.Nat.{suc-mul}
 use Rattle.in_arena_bench.specs.Turns.{AreLive, AreFreeOrLive, NoneFree, Keeps}
 

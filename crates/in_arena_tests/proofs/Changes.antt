@@ -10,8 +10,7 @@ use Rattle.in_arena.specs.States.{State, Vacant, Leased, Live, IsLeased}
 use Rattle.in_arena.specs.declared.content.CellClass.{CellClass}
 use Rattle.in_arena.specs.declared.content.End.{End}
 use Rattle.in_arena.specs.declared.content.CellNo.{CellNo}
-use Rattle.in_arena.proofs.Arenas.{vacant_inside}
-use Rattle.in_arena.proofs.Changes.{number_inside}
+use Rattle.in_arena.proofs.Public.{vacant_inside, number_inside}
 
 -- a cell that was lent and given back
 pub given_back : (a b d : ArenaView) (c : CellClass) (r : Option LeaseView) (l : LeaseView) → Leases a c r b → r ≡ Some l → d ≡ changed b l.number Vacant → d ≡ a

@@ -4,11 +4,11 @@ use Rattle.in_program.specs.declared.acting.Status.{Status}
 use Rattle.in_program.specs.Acting.{memory_status, status}
 use Rattle.in_program.specs.Lines.{memory_line}
 use Rattle.in_c.specs.declared.answers.Answer.{Answer}
-use Rattle.in_c.specs.Answers.{Gives}
+use Rattle.in_c.specs.Answers.{GivesAnswer}
 use Rattle.in_c.specs.Giving.{IsGiven}
 
 pub gives : {E : Type 0} (So : List ℕ → Status → Type 0) (r : Result Answer E) (old new : List ℕ) (count s : ℕ) → IfOk r (λ a. So a.bytes.items a.status) → OnErr r (So memory_line memory_status) →
-    IfOk r (λ a. IsGiven a.bytes.items old new count × (a.status ≡ status s)) → OnErr r (IsGiven memory_line old new count × (status s ≡ memory_status)) → Gives So old new count s
+    IfOk r (λ a. IsGiven a.bytes.items old new count × (a.status ≡ status s)) → OnErr r (IsGiven memory_line old new count × (status s ≡ memory_status)) → GivesAnswer So old new count s
 gives So (Ok a) old new count s so wants (given, is) none = (a.bytes.items, subst (So a.bytes.items) is so, given)
 gives So (Err e) old new count s so wants none (given, is) = (memory_line, subst (So memory_line) (sym is) wants, given)
 

@@ -3,8 +3,8 @@ use Rattle.std.specs.Prelude.{◌≡◌, ◌⊎◌, ℕ, true, false, List, [], 
 use Rattle.in_diagnosis.specs.Programs.{IsTold}
 use Rattle.in_run.specs.AllowedLimits.{AreLimits}
 use Rattle.in_run.specs.declared.limits.Limits.{Limits}
-use Rattle.in_words.specs.declared.action.Action.{Action}
-use Rattle.in_words.specs.declared.action.Action.TheVariants.{Run}
+use Rattle.in_command_line.specs.declared.action.Action.{Action}
+use Rattle.in_command_line.specs.declared.action.Action.TheVariants.{Run}
 use Rattle.in_program.specs.declared.acting.Status.{Status}
 use Rattle.in_program.specs.Acting.{IsReply, WantsMemory, memory_status, status}
 use Rattle.in_c.specs.Giving.{IsGiven}
@@ -25,16 +25,16 @@ pub data IsDiagnosis (text words : List ℕ) (s : Status) : Type 0 where
   wanting : words ≡ [] → s ≡ memory_status → IsDiagnosis text words s
 
 -- so many bytes and this status, of which this is so, are given
-abbrev pub Gives : (List ℕ → Status → Type 0) → List ℕ → List ℕ → ℕ → ℕ → Type 0
-Gives So old new count s = (bytes : List ℕ) × So bytes (status s) × IsGiven bytes old new count
+abbrev pub GivesAnswer : (List ℕ → Status → Type 0) → List ℕ → List ℕ → ℕ → ℕ → Type 0
+GivesAnswer So old new count s = (bytes : List ℕ) × So bytes (status s) × IsGiven bytes old new count
 
 -- ---- what each call answers
 
 abbrev pub Answers : Action → List ℕ → List ℕ → List ℕ → ℕ → ℕ → Type 0
-Answers a text old new count s = Gives (IsSaid a text) old new count s
+Answers a text old new count s = GivesAnswer (IsSaid a text) old new count s
 
 abbrev pub AnswersRun : ℕ → ℕ → List ℕ → List ℕ → List ℕ → ℕ → ℕ → Type 0
-AnswersRun limit cells text old new count s = Gives (IsRunSaid limit cells text) old new count s
+AnswersRun limit cells text old new count s = GivesAnswer (IsRunSaid limit cells text) old new count s
 
 abbrev pub Diagnoses : List ℕ → List ℕ → List ℕ → ℕ → ℕ → Type 0
-Diagnoses text old new count s = Gives (IsDiagnosis text) old new count s
+Diagnoses text old new count s = GivesAnswer (IsDiagnosis text) old new count s

@@ -10,7 +10,7 @@
 #![tactic(auto)]
 
 ghost use Rattle.in_c.specs.Answers.{Answers, AnswersRun, Diagnoses};
-ghost use Rattle.in_words.specs.declared.action.Action.TheVariants.{Check, Derive};
+ghost use Rattle.in_command_line.specs.declared.action.Action.TheVariants.{Check, Derive};
 
 mod answers;
 mod collecting;

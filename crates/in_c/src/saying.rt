@@ -3,7 +3,7 @@ ghost use Rattle.std.specs.Prelude.{◌≡◌, ◌≢◌, IfOk, OnErr};
 ghost use Rattle.in_c.specs.Answers.{IsSaid, IsRunSaid};
 ghost use Rattle.in_program.specs.Acting.{fault_status, memory_status, report_action};
 ghost use Rattle.in_program.specs.Lines.{memory_line};
-ghost use Rattle.in_words.specs.declared.action.Action.TheVariants.{Run};
+ghost use Rattle.in_command_line.specs.declared.action.Action.TheVariants.{Run};
 
 use crate::answers::{Answer, FAULT, WRONG_WORDS};
 use crate::collecting::Collected;

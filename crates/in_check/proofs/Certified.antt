@@ -8,8 +8,8 @@ use Rattle.in_syntax.specs.declared.tree.Source.{Source}
 use Rattle.in_symbols.specs.Tables.{Tables}
 use Rattle.in_net.specs.Rules.{RuleParts}
 use Rattle.in_open_nets.specs.OpenNets.{OpenNet}
-use Rattle.in_opening.specs.OpeningRules.{IsRuleWhole}
-use Rattle.in_opening.proofs.TextRules.{rule_whole}
+use Rattle.in_open_nets_of_programs.specs.OpeningRules.{IsRuleWhole}
+use Rattle.in_open_nets_of_programs.proofs.Public.{rule_whole}
 use Rattle.in_check.specs.declared.checked.Certificate.{Certificate}
 use Rattle.in_check.specs.Certificates.{Certifies, CertifiesRule, CertifiesRules, CertifiesSome}
 use Rattle.in_check.specs.Checking.{BuildsRules}

@@ -7,7 +7,7 @@ use Rattle.in_syntax.specs.declared.faults.Fault.TheVariants.{Refused, Memory}
 use Rattle.in_syntax.specs.Answers.{Then}
 use Rattle.in_syntax.specs.declared.tree.Source.{Source}
 use Rattle.in_syntax.specs.Parsing.{IsOfText, Parses}
-use Rattle.in_syntax.proofs.Sized.{tree_sized}
+use Rattle.in_syntax.proofs.Public.{tree_sized}
 use Rattle.in_symbols.specs.Tables.{Tables}
 use Rattle.in_net.specs.Rules.{RuleParts}
 use Rattle.in_check.specs.Checking.{BuildsRules, ChecksNames, IsAccepted, IsChecked, IsProgramOf}

@@ -3,4 +3,5 @@ pub mod Chain
 pub mod OneAnswer
 pub mod OnePass
 pub mod Passes
+pub mod Public
 pub mod Reached

@@ -5,36 +5,30 @@ use Rattle.in_syntax.specs.declared.faults.Fault.TheVariants.{Refused, Memory}
 use Rattle.in_syntax.specs.declared.tree.Source.{Source}
 use Rattle.in_syntax.specs.Answers.{AgreeBy, IsOneBy}
 use Rattle.in_syntax.specs.Parsing.{IsOfText, Parses}
-use Rattle.in_syntax.proofs.ThenOne.{then_same, then_two}
-use Rattle.in_syntax.proofs.SourcePlaces.{texts_begin_apart}
-use Rattle.in_syntax.proofs.WholeTexts.{parsed_once}
+use Rattle.in_syntax.proofs.Public.{then_same, then_two, texts_begin_apart, parsed_once}
 use Rattle.in_symbols.specs.Tables.{Tables, Tabulates}
-use Rattle.in_symbols.proofs.OneTables.{one_tables}
+use Rattle.in_symbols.proofs.Public.{one_tables}
 use Rattle.in_net.specs.Parts.{Parts}
 use Rattle.in_net.specs.Built.{Builds}
 use Rattle.in_net.specs.Rules.{RuleParts, BuildsRule}
-use Rattle.in_net.proofs.OneText.{nets_once, rules_once}
+use Rattle.in_net.proofs.Public.{nets_once, rules_once}
 use Rattle.in_open_nets.specs.OpenNets.{OpenNet, IsOpenNet}
-use Rattle.in_opening.specs.Opening.{Opens}
-use Rattle.in_opening.specs.OpeningRules.{OpensRule}
-use Rattle.in_opening.proofs.Classes.{tables_numbered}
-use Rattle.in_opening.proofs.RuleLaws.{opened_once, rules_open}
-use Rattle.in_opening.proofs.OneOpening.{one_open_net}
-use Rattle.in_opening.proofs.Opened.{is_open_net}
-use Rattle.in_opening.proofs.TextRules.{rule_whole}
+use Rattle.in_open_nets_of_programs.specs.Opening.{Opens}
+use Rattle.in_open_nets_of_programs.specs.OpeningRules.{OpensRule}
+use Rattle.in_open_nets_of_programs.proofs.Public.{tables_numbered, opened_once, rules_open, one_open_net, is_open_net, rule_whole}
 use Rattle.in_cover.specs.Table.{Cells}
 use Rattle.in_cover.specs.Cover.{Covers}
 use Rattle.in_cover.specs.Laws.{AreOneTable}
-use Rattle.in_cover.proofs.OneTable.{covered_once}
+use Rattle.in_cover.proofs.Public.{covered_once}
 use Rattle.in_syntax.specs.declared.faults.Code.TheVariants.{E12, E13}
 use Rattle.in_check.specs.declared.checked.Certificate.{Certificate}
 use Rattle.in_check.specs.Certificates.{CertifiesRules, CertifiesNet}
-use Rattle.in_check.specs.Checking.{BuildsRules, ChecksNames, ChecksNet, ChecksNetSteps, ChecksPairs, ChecksRules, ChecksRuleSteps, ChecksTypes, IsChecked, Keeps, TypePasses}
+use Rattle.in_check.specs.Checking.{BuildsRules, ChecksNames, ChecksNet, ChecksNetSteps, ChecksPairs, ChecksRules, ChecksRuleSteps, ChecksTypes, IsChecked, KeepsAnswers, TypePasses}
 use Rattle.in_check.specs.Laws.{AreOneProgram, TextsAreCheckedOnce}
 use Rattle.in_check.specs.Programs.{Program}
 use Rattle.in_check.proofs.OnePass.{AllOne, one_certified, one_rules, one_rules_steps, one_types}
 
-kept : (t : Tables) (rules : List RuleParts) (n : Parts) (a b : Cells) (cs : List Certificate) (c : Certificate) → AreOneTable a b → (x y : Result Program Fault) → Keeps t rules n a cs c x → Keeps t rules n b cs c y → AgreeBy AreOneProgram x y
+kept : (t : Tables) (rules : List RuleParts) (n : Parts) (a b : Cells) (cs : List Certificate) (c : Certificate) → AreOneTable a b → (x y : Result Program Fault) → KeepsAnswers t rules n a cs c x → KeepsAnswers t rules n b cs c y → AgreeBy AreOneProgram x y
 kept t rules n a b cs c e (Ok p) (Ok q) h k =
     subst (λ p. AreOneProgram p q) (sym h) (subst (AreOneProgram (record { tables = t; rules = rules; net = n; numbers = a; rule_certificates = cs; net_certificate = c })) (sym k)
     (record { tables = refl; rules = refl; net = refl; numbers = e; rule_certificates = refl; net_certificate = refl }))
@@ -66,8 +60,8 @@ module _ (s : Source) (t : Tables) (of_text : IsOfText s) (tabled : Tabulates s 
     where
       net_steps : (cs : List Certificate) (x y : Result Program Fault) → ChecksNetSteps t rules n a cs x → ChecksNetSteps t rules n b cs y → AgreeBy AreOneProgram x y
       net_steps cs =
-          then_two (λ c d. c ≡ d) AreOneProgram (CertifiesNet t n) (Keeps t rules n a cs) (Keeps t rules n b cs) (one_certified (Opens t n) E13 (λ o opens. net_opens s t n o tabled net opens) (λ o u l r. one_open_net t n o u l r))
-          (λ c d g h k x y l r. kept t rules n a b cs c e x y l (subst (λ d. Keeps t rules n b cs d y) (sym g) r))
+          then_two (λ c d. c ≡ d) AreOneProgram (CertifiesNet t n) (KeepsAnswers t rules n a cs) (KeepsAnswers t rules n b cs) (one_certified (Opens t n) E13 (λ o opens. net_opens s t n o tabled net opens) (λ o u l r. one_open_net t n o u l r))
+          (λ c d g h k x y l r. kept t rules n a b cs c e x y l (subst (λ d. KeepsAnswers t rules n b cs d y) (sym g) r))
 
   pub rules_and_net_once : IsOneBy AreOneProgram (ChecksRules s t)
   rules_and_net_once =

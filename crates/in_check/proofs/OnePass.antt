@@ -7,18 +7,18 @@ use Rattle.in_syntax.specs.declared.faults.Fault.TheVariants.{Refused, Memory}
 use Rattle.in_syntax.specs.declared.faults.Refusal.{Refusal}
 use Rattle.in_syntax.specs.declared.tree.Source.{Source}
 use Rattle.in_syntax.specs.Answers.{IsOne, IsOneBy}
-use Rattle.in_syntax.proofs.WholeTexts.{same_refusal}
+use Rattle.in_syntax.proofs.Public.{same_refusal}
 use Rattle.in_symbols.specs.Tables.{Tables}
 use Rattle.in_net.specs.Parts.{Parts}
 use Rattle.in_net.specs.Rules.{RuleParts, BuildsRule}
 use Rattle.in_typing.specs.Typed.{TypesRule, IsRuleMistyped}
-use Rattle.in_typing.proofs.OneFault.{one_mistyped, one_rule_mistyped, rule_not_both}
+use Rattle.in_typing.proofs.Public.{one_mistyped, one_rule_mistyped, rule_not_both}
 use Rattle.in_open_nets.specs.OpenNets.{OpenNet, IsOpenNet}
 use Rattle.in_open_nets.specs.Derivations.{IsDerivation}
-use Rattle.in_deriving.specs.TakenOrder.{AreTaken}
-use Rattle.in_deriving.proofs.OneAnswer.{derived_once, one_stuck_place}
-use Rattle.in_opening.proofs.OneOpening.{by_elements}
-use Rattle.in_open_nets.proofs.Whole.{derivation_builds}
+use Rattle.in_simple_deriving.specs.TakenOrder.{AreTaken}
+use Rattle.in_simple_deriving.proofs.Public.{derived_once, one_stuck_place}
+use Rattle.in_open_nets_of_programs.proofs.Public.{by_elements}
+use Rattle.in_open_nets.proofs.Public.{derivation_builds}
 use Rattle.in_check.specs.declared.checked.Certificate.{Certificate}
 use Rattle.in_check.specs.Certificates.{IsCertificate, IsRefusedAt, CertifiesRule, CertifiesRules, CertifiesSome}
 use Rattle.in_check.specs.Checking.{BuildsRules, TypesRules, TypePasses}

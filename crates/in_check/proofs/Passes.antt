@@ -9,7 +9,7 @@ use Rattle.in_symbols.specs.Tables.{Tables}
 use Rattle.in_net.specs.Rules.{RuleParts, BuildsRule, IsRuleOver}
 use Rattle.in_base.proofs.Places.{more_at}
 use Rattle.in_typing.specs.Typed.{TypesRule}
-use Rattle.in_cover.specs.Cover.{IsOfPair}
+use Rattle.in_cover.specs.Cover.{IsRuleOfPair}
 use Rattle.in_check.specs.Checking.{BuildsRules, TypesRules}
 use Rattle.in_base.proofs.Each.{at_index}
 
@@ -50,6 +50,6 @@ both_all : {X : Type 0} (P Q R : X → Type 0) → ((x : X) → P x → Q x → 
 both_all P Q R f [] h g = tt
 both_all P Q R f (x ∷ xs) h g = (f x h.0 g.0, both_all P Q R f xs h.1 g.1)
 
-pub rules_paired : (t : Tables) (rules : List RuleParts) → AllByRecursion (IsRuleOver t) rules → TypesRules t rules (Ok tt) → AllByRecursion (IsOfPair t) rules
+pub rules_paired : (t : Tables) (rules : List RuleParts) → AllByRecursion (IsRuleOver t) rules → TypesRules t rules (Ok tt) → AllByRecursion (IsRuleOfPair t) rules
 rules_paired t rules over typed =
-    both_all (IsRuleOver t) (λ p. TypesRule t p (Ok tt)) (IsOfPair t) (λ p o y. record { first = o.heads.0; second = o.heads.1; matched = y.0 }) rules over typed
+    both_all (IsRuleOver t) (λ p. TypesRule t p (Ok tt)) (IsRuleOfPair t) (λ p o y. record { first = o.heads.0; second = o.heads.1; matched = y.0 }) rules over typed

@@ -11,10 +11,10 @@ use Rattle.in_net.specs.Parts.{Parts}
 use Rattle.in_net.specs.Rules.{RuleParts}
 use Rattle.in_open_nets.specs.Derivations.{IsDerivation}
 use Rattle.in_open_nets.specs.OpenNets.{OpenNet, IsDerivable}
-use Rattle.in_opening.specs.Opening.{Opens}
-use Rattle.in_opening.specs.OpeningRules.{OpensRule}
+use Rattle.in_open_nets_of_programs.specs.Opening.{Opens}
+use Rattle.in_open_nets_of_programs.specs.OpeningRules.{OpensRule}
 use Rattle.in_open_nets.specs.Stuck.{IsStuckAt}
-use Rattle.in_deriving.specs.TakenOrder.{AreTaken}
+use Rattle.in_simple_deriving.specs.TakenOrder.{AreTaken}
 use Rattle.in_check.specs.declared.checked.Certificate.{Certificate}
 
 -- ---- an open net

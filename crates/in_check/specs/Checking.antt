@@ -64,14 +64,14 @@ TypePasses t rules n (Err (Memory e)) = ⊥
 
 module _ (t : Tables) (rules : List RuleParts) (n : Parts) where
   -- what the passes answered is kept
-  abbrev pub Keeps : Cells → List Certificate → Certificate → Result Program Fault → Type 0
-  Keeps numbers cs c (Ok p) = p ≡ record { tables = t; rules = rules; net = n; numbers = numbers; rule_certificates = cs; net_certificate = c }
-  Keeps numbers cs c (Err (Refused r)) = ⊥
-  Keeps numbers cs c (Err (Memory e)) = Unit {0}
+  abbrev pub KeepsAnswers : Cells → List Certificate → Certificate → Result Program Fault → Type 0
+  KeepsAnswers numbers cs c (Ok p) = p ≡ record { tables = t; rules = rules; net = n; numbers = numbers; rule_certificates = cs; net_certificate = c }
+  KeepsAnswers numbers cs c (Err (Refused r)) = ⊥
+  KeepsAnswers numbers cs c (Err (Memory e)) = Unit {0}
 
   -- the steps of the net
   abbrev pub ChecksNetSteps : Cells → List Certificate → Result Program Fault → Type 0
-  ChecksNetSteps numbers cs = Then (CertifiesNet t n) (Keeps numbers cs)
+  ChecksNetSteps numbers cs = Then (CertifiesNet t n) (KeepsAnswers numbers cs)
 
   -- the steps of the rules, and the rest
   abbrev pub ChecksRuleSteps : Cells → Result Program Fault → Type 0

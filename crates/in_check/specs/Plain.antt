@@ -10,7 +10,7 @@ use Rattle.in_interaction.specs.Interacting.{most_agents, Interacts, InteractsAs
 use Rattle.in_net.specs.Nets.{net_of}
 use Rattle.in_net.specs.Parts.{Parts, IsWhole, symbol_in, partner_in}
 use Rattle.in_net.specs.Rules.{RuleParts, IsRuleOver, auxiliary_types}
-use Rattle.in_cover.specs.Cover.{IsPair, IsFor}
+use Rattle.in_cover.specs.Cover.{IsPair, IsRuleOfSymbols}
 use Rattle.in_check.specs.Checking.{IsAccepted}
 use Rattle.in_check.specs.Programs.{Program}
 use Rattle.in_check.specs.Promises.{IsAsPromised}
@@ -87,7 +87,7 @@ PlainStepsAreOne = (text : List ℕ) (p q r : PlainParts) (a b : AgentNo) → Is
 -- of an accepted program, each active pair matches, and each rule that is for its symbols, in whichever order, is for them in this one
 abbrev pub PairsHaveTheirRule : Type 0
 PairsHaveTheirRule = (text : List ℕ) (p : PlainParts) (a b : AgentNo) → IsAccepted text p.program → IsPlain p → (at : IsPairAt p a b) →
-    IsPair p.program.tables at.first.0 at.second.0 × ((i : ℕ) (r : RuleParts) → slice_get p.program.rules i ≡ Some r → IsFor r at.first.0 at.second.0 → IsRuleAt p a b i r)
+    IsPair p.program.tables at.first.0 at.second.0 × ((i : ℕ) (r : RuleParts) → slice_get p.program.rules i ≡ Some r → IsRuleOfSymbols r at.first.0 at.second.0 → IsRuleAt p a b i r)
 
 -- .. and what is reached is as promised
 abbrev pub PlainAsPromised : Type 0

@@ -20,9 +20,9 @@ pub record Program : Type 0 where
   pub net_certificate : Certificate
 
 -- a rule's number is one of the rules
-abbrev pub IsItem : Program → Item → Type 0
-IsItem p (RuleItem k) = k.0 < length p.rules
-IsItem p NetItem = Unit {0}
+abbrev pub IsItemOf : Program → Item → Type 0
+IsItemOf p (RuleItem k) = k.0 < length p.rules
+IsItemOf p NetItem = Unit {0}
 
 abbrev pub certificate_of : Program → Item → Option Certificate
 certificate_of p (RuleItem k) = slice_get p.rule_certificates k.0

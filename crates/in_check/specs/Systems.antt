@@ -39,12 +39,12 @@ abbrev pub IsMatching : Signature → ℕ → ℕ → Type 0
 IsMatching sig c d = ((sig.type_of c 0).output ≡ true) × ((sig.type_of d 0).output ≡ false) × ((sig.type_of c 0).kind ≡ (sig.type_of d 0).kind)
 
 -- the rule of this number is for these two symbols
-abbrev pub IsRuleOf : System → ℕ → ℕ → ℕ → Type 0
-IsRuleOf p c d i = (r : SystemRule) × (slice_get p.rules i ≡ Some r) × (r.first ≡ c) × (r.second ≡ d)
+abbrev pub IsNumberOfRule : System → ℕ → ℕ → ℕ → Type 0
+IsNumberOfRule p c d i = (r : SystemRule) × (slice_get p.rules i ≡ Some r) × (r.first ≡ c) × (r.second ≡ d)
 
 -- exactly one rule is, and none is for the two in the other order
 abbrev pub HasOneRule : System → ℕ → ℕ → Type 0
-HasOneRule p c d = (i : ℕ) × (IsRuleOf p c d i) × ((j : ℕ) → IsRuleOf p c d j → j ≡ i) × ((j : ℕ) → IsRuleOf p d c j → ⊥)
+HasOneRule p c d = (i : ℕ) × (IsNumberOfRule p c d i) × ((j : ℕ) → IsNumberOfRule p c d j → j ≡ i) × ((j : ℕ) → IsNumberOfRule p d c j → ⊥)
 
 -- ---- a sound system
 

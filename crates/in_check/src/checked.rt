@@ -1,8 +1,9 @@
 ghost use Rattle.std.specs.Prelude.{◌≡◌, ◌<◌, ℕ, List, length, slice_get, option_map, Some};
 ghost use Rattle.in_check.specs.Checking.{IsAccepted};
 ghost use Rattle.in_cover.specs.Cover.{IsPair, IsRuleFor};
-ghost use Rattle.in_check.specs.Programs.{IsItem, certificate_of, counts_of};
+ghost use Rattle.in_check.specs.Programs.{IsItemOf, certificate_of, counts_of};
 
+use in_base::use_invariant;
 use in_cover::{RuleNo, RuleTable};
 use in_net::{Net, Rule};
 use in_open_nets::{Derivation, OpenNet};
@@ -88,7 +89,7 @@ impl Checked {
     pub fn is_accepted(&self)
         ensures { (text : List ℕ) × IsAccepted text self.now }
     {
-        let _ = &self.passed;
+        use_invariant!(self.passed);
     }
 
     /// The tables of the program's names.
@@ -131,7 +132,7 @@ impl Checked {
 
     /// The open net of a rule or of the net, with its steps.
     fn certified(&self, item: Item) -> &Certificate
-        requires { IsItem self.now item }
+        requires { IsItemOf self.now item }
         ensures { certificate_of self.now item ≡ Some result.now }
     {
         match item {
@@ -142,7 +143,7 @@ impl Checked {
 
     /// The open net of a rule or of the net.
     pub fn shape(&self, item: Item) -> &OpenNet
-        requires { IsItem self.now item }
+        requires { IsItemOf self.now item }
         ensures { option_map (λ c. c.shape) (certificate_of self.now item) ≡ Some result.now }
     {
         &self.certified(item).shape
@@ -150,7 +151,7 @@ impl Checked {
 
     /// The steps that build the open net of a rule or of the net.
     pub fn certificate(&self, item: Item) -> &Derivation
-        requires { IsItem self.now item }
+        requires { IsItemOf self.now item }
         ensures { option_map (λ c. c.derivation) (certificate_of self.now item) ≡ Some result.now }
     {
         &self.certified(item).derivation

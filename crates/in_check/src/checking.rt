@@ -1,3 +1,18 @@
+//! The passes of `check`, in the order in which they run. The first fault of the first pass that finds one refuses the program.
+//!
+//! | Pass | Its call | Takes | Gives | Refuses with |
+//! |---|---|---|---|---|
+//! | `check_tree` | `parse` | the text | its tree, `Source` | E01, E02, E03 |
+//! | `check_names` | `Symbols::build` | the tree | the tables of names, `Symbols` | E04, E05, E06 |
+//! | `check_rules` | `build_rule` of each rule | the tree, the tables | each `Rule`: two heads and a right member | E03, E07, E08, E09 |
+//! | `check_net` | `build_net` | the tree, the tables | the `Net`, and with what came before `Declared` | E03, E07, E08, E09 |
+//! | `check_types` | `type_rule` of each rule, `type_net` | `Declared` | nothing: its types fit | E11, E10 |
+//! | `check_pairs` | `cover` | the tables, the rules | the number of the rule of each pair, `RuleTable` | E14, E15 |
+//! | `check_rule_steps` | `open_rule` and `derive` of each rule | the tables, the rules | the steps of each rule, `Certificate` | E12 |
+//! | `check_net_steps` | `open_net` and `derive` | the tables, the net | the steps of the net, and with all that was given `Passed` | E13 |
+//!
+//! A pass makes its call and then the next pass, to which it hands all that was given so far. Where it refuses, it drops that by itself: the
+//! prover goes through a function way by way, and few ways then lead out. Each call but those on types may also end for want of memory.
 ghost use Rattle.std.specs.Prelude.{◌≡◌, Err, IfOk, IsTrue, MatchOption, Ok, OnErr};
 ghost use Rattle.std.specs.List.{AllByRecursion};
 ghost use Rattle.in_syntax.specs.Order.{IsWrittenInOrder};
@@ -7,7 +22,7 @@ ghost use Rattle.in_syntax.specs.declared.faults.Fault.TheVariants.{Refused};
 ghost use Rattle.in_symbols.specs.Tables.{IsTabled, Tabulates};
 ghost use Rattle.in_net.specs.Built.{IsOver};
 ghost use Rattle.in_net.specs.Rules.{IsRuleOver};
-ghost use Rattle.in_cover.specs.Cover.{IsOfPair};
+ghost use Rattle.in_cover.specs.Cover.{IsRuleOfPair};
 ghost use Rattle.in_check.specs.Certificates.{CertifiesRules};
 ghost use Rattle.in_check.specs.Programs.{Program};
 ghost use Rattle.in_check.specs.Promises.{ReachesAsPromised};
@@ -160,7 +175,7 @@ fn check_pairs(
     evidence: &mut Option<Evidence>,
 ) -> Result<Passed, Fault>
     requires text { AreOfText declared.symbols declared.rules declared.net }
-    requires pairs { AllByRecursion (IsOfPair declared.symbols) declared.rules }
+    requires pairs { AllByRecursion (IsRuleOfPair declared.symbols) declared.rules }
     ensures { ChecksPairs declared.symbols declared.rules declared.net result }
 {
     match cover(alloc, &declared.symbols, declared.rules.as_slice()) {

@@ -62,6 +62,7 @@ impl<'a> Plain<'a> {
         let checked = self.checked;
         checked.is_accepted();
         let (Some(one), Some(two)) = (self.net.symbol(a), self.net.symbol(b)) else {
+            // Both are agents of the net, since they are an active pair.
             unreachable!()
         };
         let rule = checked.rule(checked.rule_of(one, two));

@@ -1,11 +1,11 @@
 use in_check::{Checked, Counts, Item};
 use in_cover::RuleNo;
-use in_open_nets::{Derivation, Node, OpenNet, Point, Step};
+use in_open_nets::{Derivation, Node, OpenNet, OpenPoint, Step};
+use in_simple_verifying::verify;
 use in_symbols::SymbolNo;
 use in_syntax::Code;
 use in_test_programs::{Look, refusal_of, seen};
 use in_test_texts::{ADDITION, DUPLICATION, SUMS};
-use in_verify::verify;
 use sqlite_items::Items;
 use std::alloc::{AllocError, Global};
 
@@ -33,12 +33,12 @@ fn has_nodes(shape: &OpenNet, nodes: &[(Node, u32, u32)]) -> bool {
 }
 
 /// Whether these are the two points of a wire, in either order.
-fn is_between(wire: (Point, Point), points: (Point, Point)) -> bool {
+fn is_between(wire: (OpenPoint, OpenPoint), points: (OpenPoint, OpenPoint)) -> bool {
     wire == points || wire == (points.1, points.0)
 }
 
 /// Whether these are the wires.
-fn has_wires(shape: &OpenNet, wires: &[(Point, Point)]) -> bool {
+fn has_wires(shape: &OpenNet, wires: &[(OpenPoint, OpenPoint)]) -> bool {
     if shape.wires() != wires.len() {
         return false;
     }
@@ -61,7 +61,7 @@ fn is_built(
     shape: &OpenNet,
     steps: &Derivation,
     nodes: &[(Node, u32, u32)],
-    wires: &[(Point, Point)],
+    wires: &[(OpenPoint, OpenPoint)],
 ) -> Option<bool> {
     let builds = do_build(alloc, steps, shape)?;
     Some(builds && has_nodes(shape, nodes) && has_wires(shape, wires))
@@ -72,7 +72,7 @@ fn is_built(
 struct RuleIs<'a> {
     number: u32,
     nodes: &'a [(Node, u32, u32)],
-    wires: &'a [(Point, Point)],
+    wires: &'a [(OpenPoint, OpenPoint)],
 }
 
 impl Look<bool> for RuleIs<'_> {
@@ -90,7 +90,7 @@ impl Look<bool> for RuleIs<'_> {
 #[derive(Clone, Copy)]
 struct NetIs<'a> {
     nodes: &'a [(Node, u32, u32)],
-    wires: &'a [(Point, Point)],
+    wires: &'a [(OpenPoint, OpenPoint)],
 }
 
 impl Look<bool> for NetIs<'_> {
@@ -163,10 +163,10 @@ fn a_class_of_a_head_is_a_node(rt: HostRuntime) {
         (Node::AgentNode(S), 5, 29),
     ];
     let wires = [
-        (Point::Port(0, 0), Point::Port(1, 0)),
-        (Point::Port(2, 0), Point::Port(1, 1)),
-        (Point::Port(3, 0), Point::Port(4, 0)),
-        (Point::Port(1, 2), Point::Port(4, 1)),
+        (OpenPoint::Port(0, 0), OpenPoint::Port(1, 0)),
+        (OpenPoint::Port(2, 0), OpenPoint::Port(1, 1)),
+        (OpenPoint::Port(3, 0), OpenPoint::Port(4, 0)),
+        (OpenPoint::Port(1, 2), OpenPoint::Port(4, 1)),
     ];
     let look = RuleIs {
         number: 0,
@@ -183,7 +183,7 @@ fn a_rule_without_agents_has_class_nodes(rt: HostRuntime) {
         (Node::ClassNode(ADD, 1), 6, 13),
         (Node::ClassNode(ADD, 2), 6, 13),
     ];
-    let wires = [(Point::Port(0, 0), Point::Port(1, 0))];
+    let wires = [(OpenPoint::Port(0, 0), OpenPoint::Port(1, 0))];
     let look = RuleIs {
         number: 1,
         nodes: &nodes,
@@ -203,11 +203,11 @@ fn places_of_one_class_are_ports_of_one_node(rt: HostRuntime) {
         (Node::AgentNode(S), 8, 32),
     ];
     let wires = [
-        (Point::Port(0, 0), Point::Port(1, 0)),
-        (Point::Port(2, 0), Point::Port(3, 0)),
-        (Point::Port(1, 1), Point::Port(3, 1)),
-        (Point::Port(2, 1), Point::Port(4, 0)),
-        (Point::Port(1, 2), Point::Port(4, 1)),
+        (OpenPoint::Port(0, 0), OpenPoint::Port(1, 0)),
+        (OpenPoint::Port(2, 0), OpenPoint::Port(3, 0)),
+        (OpenPoint::Port(1, 1), OpenPoint::Port(3, 1)),
+        (OpenPoint::Port(2, 1), OpenPoint::Port(4, 0)),
+        (OpenPoint::Port(1, 2), OpenPoint::Port(4, 1)),
     ];
     let look = RuleIs {
         number: 2,
@@ -226,8 +226,8 @@ fn a_symbol_without_places_has_no_class_node(rt: HostRuntime) {
         (Node::AgentNode(Z), 9, 20),
     ];
     let wires = [
-        (Point::Port(0, 0), Point::Port(1, 0)),
-        (Point::Port(0, 1), Point::Port(2, 0)),
+        (OpenPoint::Port(0, 0), OpenPoint::Port(1, 0)),
+        (OpenPoint::Port(0, 1), OpenPoint::Port(2, 0)),
     ];
     let look = RuleIs {
         number: 3,
@@ -250,10 +250,10 @@ fn the_first_head_of_the_text_comes_first(rt: HostRuntime) {
         (Node::AgentNode(ADD), 5, 24),
     ];
     let wires = [
-        (Point::Port(1, 0), Point::Port(2, 0)),
-        (Point::Port(3, 0), Point::Port(4, 0)),
-        (Point::Port(0, 0), Point::Port(4, 1)),
-        (Point::Port(2, 1), Point::Port(4, 2)),
+        (OpenPoint::Port(1, 0), OpenPoint::Port(2, 0)),
+        (OpenPoint::Port(3, 0), OpenPoint::Port(4, 0)),
+        (OpenPoint::Port(0, 0), OpenPoint::Port(4, 1)),
+        (OpenPoint::Port(2, 1), OpenPoint::Port(4, 2)),
     ];
     let look = RuleIs {
         number: 0,
@@ -274,9 +274,9 @@ fn the_net_is_kept_with_its_open_net(rt: HostRuntime) {
         (Node::AgentNode(Z), 10, 30),
     ];
     let wires = [
-        (Point::Port(0, 1), Point::Port(1, 0)),
-        (Point::Free(0), Point::Port(0, 2)),
-        (Point::Port(0, 0), Point::Port(2, 0)),
+        (OpenPoint::Port(0, 1), OpenPoint::Port(1, 0)),
+        (OpenPoint::Free(0), OpenPoint::Port(0, 2)),
+        (OpenPoint::Port(0, 0), OpenPoint::Port(2, 0)),
     ];
     let look = NetIs {
         nodes: &nodes,

@@ -102,6 +102,7 @@ impl Board {
         let shared = &self.table.shared;
         let mut rest = seats;
         let Some(last) = rest.pop() else {
+            // All seats are given back, and a board has one at least.
             unreachable!()
         };
         let Seat {

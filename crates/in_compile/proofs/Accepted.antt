@@ -5,16 +5,15 @@ use Rattle.in_net.specs.Built.{IsOver}
 use Rattle.in_net.specs.NetFaults.{max_agents}
 use Rattle.in_net.specs.Parts.{IsWhole}
 use Rattle.in_net.specs.TextNet.{body_of}
-use Rattle.in_net.proofs.FewAgents.{few_agents}
+use Rattle.in_net.proofs.Public.{few_agents}
 use Rattle.in_net.specs.Rules.{RuleParts, BuildsRuleOf, IsRuleOver}
 use Rattle.in_cover.specs.Cover.{IsComplete}
-use Rattle.in_opening.specs.Opening.{AreAllThere}
-use Rattle.in_opening.specs.OpeningRules.{IsRuleWhole}
-use Rattle.in_opening.proofs.Counted.{text_net_there}
-use Rattle.in_opening.proofs.TextRules.{rule_whole}
+use Rattle.in_open_nets_of_programs.specs.Opening.{AreAllThere}
+use Rattle.in_open_nets_of_programs.specs.OpeningRules.{IsRuleWhole}
+use Rattle.in_open_nets_of_programs.proofs.Public.{text_net_there, rule_whole}
 use Rattle.in_check.specs.Checking.{IsAccepted, IsProgramOf}
 use Rattle.in_check.specs.Programs.{Program}
-use Rattle.in_check.proofs.Chain.{program_of}
+use Rattle.in_check.proofs.Public.{program_of}
 
 module _ (text : List ℕ) (p : Program) (accepted : IsAccepted text p) where
   of : IsProgramOf text p

@@ -14,13 +14,12 @@ use Rattle.in_arena.specs.Classes.{IsNumberOf}
 use Rattle.in_arena.specs.States.{State, Vacant, Leased, IsLeased, IsLive}
 use Rattle.in_arena.specs.declared.content.CellClass.{CellClass}
 use Rattle.in_arena.specs.declared.content.CellNo.{CellNo}
-use Rattle.in_arena.proofs.ByClass.{stays}
-use Rattle.in_arena.proofs.Changes.{number_inside}
+use Rattle.in_arena.proofs.Public.{stays, number_inside}
 use Rattle.in_compile.specs.declared.cells.Need.{Need}
 use Rattle.in_compile.specs.Cells.{count_of, IsEnough}
 use Rattle.in_compile.specs.Listing.{of_class, IsListing}
-use Rattle.in_compile.specs.Members.{AgentParts, MemberParts, has_class, class_at, IsSound}
-use Rattle.in_compile.specs.Placing.{content, IsPlaced}
+use Rattle.in_compile.specs.Members.{AgentParts, MemberParts, has_class, class_at, IsSoundMember}
+use Rattle.in_compile.specs.Placing.{content, IsPlacedMember}
 use Rattle.in_compile.specs.PlacingSteps.{TakesOne, AreTakenBelow, AreWrittenBelow}
 use Rattle.in_compile.specs.Stocks.{StockParts, held, with_all}
 use Rattle.in_compile.proofs.Held.{cell_changed, cell_put}
@@ -84,7 +83,7 @@ module _ (m : MemberParts) (old : StockParts) (first : ArenaView) (x : ℕ) (s :
       ∙ ap (λ (e : CellClass). of_class e 1 d) agent.2
 
   -- so there is a cell of its class
-  pub some_left : IsSound m → IsEnough (count_of m.need) (held old) → 0 < held s c
+  pub some_left : IsSoundMember m → IsEnough (count_of m.need) (held old) → 0 < held s c
   some_left sound enough =
       let within = sum_by_more_le (λ (a : AgentParts). cond (has_class c a) 1 0) m.agents x agent.0 inside in
       let one = counted c in
@@ -166,7 +165,7 @@ module _ (m : MemberParts) (ns : List CellNo) (first : ArenaView) (x : ℕ) (b :
 
 -- all agents have their cells, and all are written
 pub placed : (m : MemberParts) (old : StockParts) (start first : ArenaView) (s : StockParts) (ns : List CellNo) (b : ArenaView) (room : ℕ) → AreTakenBelow m old start (length m.agents) s ns first → AreWrittenBelow m ns first (length m.agents) b
-    → IsPlaced m (record { cells = ns; bag = b; room = room })
+    → IsPlacedMember m (record { cells = ns; bag = b; room = room })
 placed m old start first s ns b room t w = record {
   count = t.count;
   each = λ k a n stands at. (subst (λ c. IsNumberOf c a.class n.0) (sym w.same.1) (t.classes k a n stands at), w.each k a n (slice_get_within m.agents k a stands) stands at);

@@ -11,9 +11,7 @@ use Rattle.in_arena.specs.Classes.{classes, class_no}
 use Rattle.in_arena.specs.States.{State, Vacant, Leased, Live, IsLeased, IsLive, is_vacant}
 use Rattle.in_arena.specs.declared.content.CellClass.{CellClass}
 use Rattle.in_arena.specs.declared.content.CellNo.{CellNo}
-use Rattle.in_arena.proofs.Arenas.{vacant_inside}
-use Rattle.in_arena.proofs.Bags.{leased_or, empty_is_of}
-use Rattle.in_arena.proofs.ByClass.{stays}
+use Rattle.in_arena.proofs.Public.{vacant_inside, leased_or, empty_is_of, stays}
 use Rattle.in_compile.specs.declared.cells.Need.{Need}
 use Rattle.in_compile.specs.Placing.{PlacedParts, AreCellsOf, Takes}
 use Rattle.in_compile.specs.Stocks.{StockParts, Adds, Regains, IsStockOf, with_all}

@@ -8,17 +8,17 @@ use Rattle.in_arena.specs.Bags.{IsIn}
 use Rattle.in_arena.specs.States.{State, Leased, Live, IsBegun, places, with_end}
 use Rattle.in_arena.specs.declared.content.CellNo.{CellNo}
 use Rattle.in_arena.specs.declared.content.End.{End}
-use Rattle.in_arena.proofs.Bags.{changed_twice}
+use Rattle.in_arena.proofs.Public.{changed_twice}
 use Rattle.in_compile.specs.declared.joints.Joint.{Joint}
 use Rattle.in_compile.specs.declared.joints.Joint.TheVariants.{ToAgent, ToBoundary}
-use Rattle.in_compile.specs.Members.{AgentParts, MemberParts, joint_at, places_at, IsSound}
+use Rattle.in_compile.specs.Members.{AgentParts, MemberParts, joint_at, places_at, IsSoundMember}
 use Rattle.in_compile.specs.Placing.{end_in, content}
 use Rattle.in_compile.specs.PlacingSteps.{IsBeingWritten, IsInside}
 use Rattle.in_compile.proofs.Stocked.{in_range}
 use Rattle.in_compile.proofs.Taken.{mapped_more}
 
 -- a joint leads to an agent that is there
-module _ (m : MemberParts) (sound : IsSound m) where
+module _ (m : MemberParts) (sound : IsSoundMember m) where
   there : (l p : ℕ) (i : Joint) (o : Option AgentParts) → slice_get m.agents l ≡ o → option_and_then (λ (a : AgentParts). slice_get a.ends p) o ≡ Some i → l < length m.agents
   there l p i None e h = let f : None ≡ Some i = h in cc
   there l p i (Some a) e h = slice_get_within m.agents l a e

@@ -8,8 +8,7 @@ use Rattle.in_arena.specs.Arenas.{ArenaView, changed, state_at}
 use Rattle.in_arena.specs.Bags.{IsBagOf, IsIn}
 use Rattle.in_arena.specs.States.{State, Leased, IsLeased}
 use Rattle.in_arena.specs.declared.content.CellNo.{CellNo}
-use Rattle.in_arena.proofs.Bags.{leased_or}
-use Rattle.in_arena.proofs.ByClass.{stays}
+use Rattle.in_arena.proofs.Public.{leased_or, stays}
 use Rattle.in_compile.specs.Placing.{AreCellsOf, HasNoCell}
 use Rattle.in_compile.specs.PlacingSteps.{AreOnTheWay}
 use Rattle.in_compile.specs.Stocks.{Regains}

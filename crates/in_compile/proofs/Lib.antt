@@ -12,6 +12,7 @@ pub mod Narrow
 pub mod Numbers
 pub mod OneAnswer
 pub mod OneTemplate
+pub mod Public
 pub mod Settled
 pub mod Sound
 pub mod Standing

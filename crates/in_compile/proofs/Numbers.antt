@@ -7,8 +7,7 @@ use Rattle.in_cover.specs.declared.table.RuleNo.{RuleNo}
 use Rattle.in_cover.specs.Cover.{IsComplete, IsRuleFor, Numbers, IsTableOf}
 use Rattle.in_cover.specs.Covering.{HoldsBelow, Sets}
 use Rattle.in_cover.specs.Table.{Cells, rule_at}
-use Rattle.in_cover.proofs.Numbered.{one_more}
-use Rattle.in_cover.proofs.Written.{sets_both}
+use Rattle.in_cover.proofs.Public.{one_more, sets_both}
 
 module _ (t : Tables) (rules : List RuleParts) (complete : IsComplete t rules) where
   module _ (i : ℕ) (r : RuleParts) (stands : slice_get rules i ≡ Some r) (old : Cells) (holds : HoldsBelow rules i old) where

@@ -3,7 +3,7 @@ use Rattle.std.proofs.Common.{◌≡◌, ◌⊎◌, inl, inr, ℕ, Option, Some,
 use Rattle.std.specs.Prelude.{option_and_then}
 use Rattle.std.proofs.lemmas.Option.{slice_get_within}
 use Rattle.in_arena.specs.declared.content.CellClass.{CellClass}
-use Rattle.in_net.proofs.SameNet.{all_same}
+use Rattle.in_net.proofs.Public.{all_same}
 use Rattle.in_base.proofs.Each.{at_index}
 use Rattle.in_cover.specs.declared.table.RuleNo.{RuleNo}
 use Rattle.in_cover.specs.Laws.{AreOneTable}

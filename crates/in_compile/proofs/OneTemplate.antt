@@ -12,10 +12,10 @@ use Rattle.in_symbols.specs.declared.symbols.SymbolNo.{SymbolNo}
 use Rattle.in_net.specs.declared.nets.Point.TheVariants.{Port, Free}
 use Rattle.in_net.specs.Parts.{Parts}
 use Rattle.in_net.specs.Rules.{RuleParts}
-use Rattle.in_net.proofs.SameNet.{all_same}
-use Rattle.in_interaction.proofs.Queues.FirstPairs.{same_first}
+use Rattle.in_net.proofs.Public.{all_same}
+use Rattle.in_interaction.proofs.Public.{same_first}
 use Rattle.in_cover.specs.declared.table.RuleNo.{RuleNo}
-use Rattle.in_cover.specs.Cover.{IsPair, IsFor, IsRuleFor, IsComplete}
+use Rattle.in_cover.specs.Cover.{IsPair, IsRuleOfSymbols, IsRuleFor, IsComplete}
 use Rattle.in_cover.specs.Table.{rule_at}
 use Rattle.in_check.specs.Programs.{Program}
 use Rattle.in_compile.specs.Cells.{is_of}
@@ -133,7 +133,7 @@ module _ (p : Program) (ts : TemplatesParts) (h : AreTemplatesOf p ts) where
   has_template c d pair = found_by c d (rule_at ts.numbers c d) refl (h.numbers.pairs c d pair)
 
   module _ (complete : IsComplete p.tables p.rules) (c d : ℕ) (pair : IsPair p.tables c d) where
-    heads_for : (r : RuleParts) (x : TemplateParts) → x.heads ≡ r.heads → HasHeads x c d → IsFor r c d
+    heads_for : (r : RuleParts) (x : TemplateParts) → x.heads ≡ r.heads → HasHeads x c d → IsRuleOfSymbols r c d
     heads_for r x e has = subst (λ (z : SymbolNo × SymbolNo). ((z.0.0 ≡ c) × (z.1.0 ≡ d)) ⊎ ((z.0.0 ≡ d) × (z.1.0 ≡ c))) e has
 
     pub one_for : HasOneTemplate p ts c d

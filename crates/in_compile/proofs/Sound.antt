@@ -17,12 +17,12 @@ use Rattle.in_net.specs.declared.nets.FreeEnd.{FreeEnd}
 use Rattle.in_net.specs.declared.nets.Point.{Point}
 use Rattle.in_net.specs.declared.nets.Point.TheVariants.{Port, Free}
 use Rattle.in_net.specs.Parts.{Parts, IsWhole, cell_in, partner_in}
-use Rattle.in_net.proofs.SameNet.{all_same}
-use Rattle.in_opening.specs.Opening.{AreAllThere}
+use Rattle.in_net.proofs.Public.{all_same}
+use Rattle.in_open_nets_of_programs.specs.Opening.{AreAllThere}
 use Rattle.in_compile.specs.declared.joints.Joint.{Joint}
 use Rattle.in_compile.specs.declared.joints.Joint.TheVariants.{ToAgent, ToBoundary}
 use Rattle.in_compile.specs.Cells.{is_of, takes, count_of}
-use Rattle.in_compile.specs.Members.{AgentParts, MemberParts, joint_of, joint_at, has_class, IsMemberOf, IsSound}
+use Rattle.in_compile.specs.Members.{AgentParts, MemberParts, joint_of, joint_at, has_class, IsMemberOf, IsSoundMember}
 use Rattle.in_compile.proofs.Laid.{end_joint}
 use Rattle.in_compile.proofs.OneTemplate.{held, one_class}
 
@@ -152,5 +152,5 @@ module _ (t : Tables) (n : Parts) (m : MemberParts) (whole : IsWhole n) (over : 
     counts : count_of m.need c ≡ count_by (has_class c) m.agents
     counts = of.need c ∙ sym (same_count (has_class c) (takes t c) m.agents n.cells (λ k. taken_by k (slice_get m.agents k) (slice_get n.cells k) refl refl))
 
-  pub sound : IsSound m
+  pub sound : IsSoundMember m
   sound = record { fits = fits; back = back; counts = counts; few = (let l = few_agents t n m of max_agents few in omega (arith, l)) }

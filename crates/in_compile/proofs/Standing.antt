@@ -10,11 +10,11 @@ use Rattle.in_symbols.specs.declared.symbols.SymbolNo.{SymbolNo}
 use Rattle.in_compile.specs.declared.joints.Joint.{Joint}
 use Rattle.in_compile.specs.declared.joints.Joint.TheVariants.{ToAgent, ToBoundary}
 use Rattle.in_compile.specs.Members.{AgentParts, MemberParts}
-use Rattle.in_compile.specs.Placing.{PlacedParts, IsPlaced, end_in, content}
-use Rattle.in_compile.specs.PlacingLaws.{StandsIn}
+use Rattle.in_compile.specs.Placing.{PlacedParts, IsPlacedMember, end_in, content}
+use Rattle.in_compile.specs.PlacingLaws.{StandsInCells}
 use Rattle.in_compile.specs.Stocks.{Regains}
 
-module _ (m : MemberParts) (p : PlacedParts) (a a' : ArenaView) (h : IsPlaced m p) (back : Regains (λ x. x) a p.bag a') where
+module _ (m : MemberParts) (p : PlacedParts) (a a' : ArenaView) (h : IsPlacedMember m p) (back : Regains (λ x. x) a p.bag a') where
   -- each cell is as it was written
   written : (k : ℕ) (e : AgentParts) (n : CellNo) → slice_get m.agents k ≡ Some e → slice_get p.cells k ≡ Some n → state_at a' n.0 ≡ content p.cells e
   written k e n stands at = back.back n.0 (h.written.cells.each k n at) ∙ (h.each k e n stands at).1
@@ -27,7 +27,7 @@ module _ (m : MemberParts) (p : PlacedParts) (a a' : ArenaView) (h : IsPlaced m 
   by_joint k i j n None stands is at = let f : None ≡ Some j = is in cc
   by_joint k i j n (Some e) stands is at = ap (λ (x : State). end_at x i) (written k e n stands at) ∙ slice_get-map (end_in p.cells) e.ends i ∙ ap (option_map (end_in p.cells)) is
 
-  pub stands : StandsIn m p.cells a'
+  pub stands : StandsInCells m p.cells a'
   stands = record {
     agents = λ k s n is at. by_symbol k s n (slice_get m.agents k) refl is at;
     wires = λ k i l j n o is at to.

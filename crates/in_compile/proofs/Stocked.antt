@@ -13,10 +13,7 @@ use Rattle.in_arena.specs.States.{State, Vacant, Leased, Live, IsLeased}
 use Rattle.in_arena.specs.declared.content.CellClass.{CellClass}
 use Rattle.in_arena.specs.declared.content.CellClass.TheVariants.{Small, Large, Wide}
 use Rattle.in_arena.specs.declared.content.CellNo.{CellNo}
-use Rattle.in_arena.proofs.Bags.{empty_is_of, lease_to_takes_one, leased_or}
-use Rattle.in_arena.proofs.ByClass.{stays}
-use Rattle.in_arena.proofs.Changes.{counts_change, number_inside}
-use Rattle.in_arena.proofs.Classes.{numbers_apart}
+use Rattle.in_arena.proofs.Public.{empty_is_of, lease_to_takes_one, leased_or, stays, counts_change, number_inside, numbers_apart}
 use Rattle.in_compile.specs.Listing.{of_class, IsListing, once_back, IsOnTheWay}
 use Rattle.in_compile.specs.Stocks.{with_all, Adds, Regains}
 

@@ -1,6 +1,6 @@
 -- What contracts see of the fields of a member, and what these fields keep.
 use Rattle.std.specs.Prelude.{take}
-use Rattle.in_compile.specs.Members.{MemberParts, IsSound}
+use Rattle.in_compile.specs.Members.{MemberParts, IsSoundMember}
 use Rattle.in_compile.specs.Storing.{agents_from, IsLaidOut}
 use Rattle.in_compile.specs.declared.member.Member.TheInside.{Inside}
 
@@ -9,4 +9,4 @@ member_view m = record { agents = agents_from m.joints m.agents; joints = take m
 
 pub record IsMember (m : Inside) : Type 0 where
   pub laid : IsLaidOut m.agents m.joints m.boundary m.pairs
-  pub sound : IsSound (member_view m)
+  pub sound : IsSoundMember (member_view m)

@@ -69,7 +69,7 @@ has_class c a = nat_eq (class_no a.class) (class_no c)
 
 -- each agent's cell is for its places; a wire leads back from where it leads to; of each class so many cells are needed as agents take one;
 -- and numbers fit
-pub record IsSound (m : MemberParts) : Type 0 where
+pub record IsSoundMember (m : MemberParts) : Type 0 where
   pub fits : (k : ℕ) (a : AgentParts) → slice_get m.agents k ≡ Some a → Holds a.class (length a.ends)
   pub back : (i j : Joint) → joint_at m i ≡ Some j → joint_at m j ≡ Some i
   pub counts : (c : CellClass) → count_of m.need c ≡ count_by (has_class c) m.agents

@@ -1,5 +1,5 @@
 -- Placed templates: the right member of a rule in leased cells, with the template that it is of.
-use Rattle.in_compile.specs.Placing.{PlacedParts, IsPlaced}
+use Rattle.in_compile.specs.Placing.{PlacedParts, IsPlacedMember}
 use Rattle.in_compile.specs.Templates.{TemplateParts}
 
 pub record PlacedTemplateParts : Type 0 where
@@ -8,4 +8,4 @@ pub record PlacedTemplateParts : Type 0 where
 
 -- what is placed is the template's right member
 abbrev pub IsOfTemplate : PlacedTemplateParts → Type 0
-IsOfTemplate p = IsPlaced p.template.member p.placed
+IsOfTemplate p = IsPlacedMember p.template.member p.placed

@@ -48,7 +48,7 @@ abbrev pub content : List CellNo → AgentParts → State
 content ns a = Live a.symbol.0 (map (end_in ns) a.ends)
 
 -- each agent is written in a cell of its class, and nothing else is in the bag
-pub record IsPlaced (m : MemberParts) (p : PlacedParts) : Type 0 where
+pub record IsPlacedMember (m : MemberParts) (p : PlacedParts) : Type 0 where
   pub count : length p.cells ≡ length m.agents
   pub each : (k : ℕ) (a : AgentParts) (n : CellNo) → slice_get m.agents k ≡ Some a → slice_get p.cells k ≡ Some n
       → IsNumberOf p.bag.cells a.class n.0 × (state_at p.bag n.0 ≡ content p.cells a)

@@ -13,7 +13,7 @@ use Rattle.in_net.specs.Parts.{Parts}
 use Rattle.in_compile.specs.declared.cells.Need.{Need}
 use Rattle.in_compile.specs.declared.joints.Joint.TheVariants.{ToAgent, ToBoundary}
 use Rattle.in_compile.specs.Members.{MemberParts, IsMemberOf, symbol_at, joint_at}
-use Rattle.in_compile.specs.Placing.{PlacedParts, AreCellsOf, IsPlaced, Takes}
+use Rattle.in_compile.specs.Placing.{PlacedParts, AreCellsOf, IsPlacedMember, Takes}
 use Rattle.in_compile.specs.Stocks.{StockParts, Adds, Regains, IsStockOf}
 
 -- a member is determined by its net
@@ -61,10 +61,10 @@ OtherBagsStay = (f : State → State) (a b d a' : ArenaView) → Regains f a b a
 -- ---- a settled member
 
 -- the cells hold the agents, with their inner wires, and at boundary ends these ends' numbers
-pub record StandsIn (m : MemberParts) (cells : List CellNo) (a : ArenaView) : Type 0 where
+pub record StandsInCells (m : MemberParts) (cells : List CellNo) (a : ArenaView) : Type 0 where
   pub agents : (k : ℕ) (s : SymbolNo) (n : CellNo) → symbol_at m k ≡ Some s → slice_get cells k ≡ Some n → word_of (state_at a n.0) ≡ Some s.0
   pub wires : (k i l j : ℕ) (n o : CellNo) → joint_at m (ToAgent k i) ≡ Some (ToAgent l j) → slice_get cells k ≡ Some n → slice_get cells l ≡ Some o → end_at (state_at a n.0) i ≡ Some (Cell o j)
   pub ends : (k i e : ℕ) (n : CellNo) → joint_at m (ToAgent k i) ≡ Some (ToBoundary e) → slice_get cells k ≡ Some n → end_at (state_at a n.0) i ≡ Some (Free e)
 
 abbrev pub SettledMembersStand : Type 0
-SettledMembersStand = (m : MemberParts) (p : PlacedParts) (a a' : ArenaView) → IsPlaced m p → Regains (λ x. x) a p.bag a' → StandsIn m p.cells a'
+SettledMembersStand = (m : MemberParts) (p : PlacedParts) (a a' : ArenaView) → IsPlacedMember m p → Regains (λ x. x) a p.bag a' → StandsInCells m p.cells a'

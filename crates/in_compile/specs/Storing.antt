@@ -77,8 +77,8 @@ pub record IsLaidOut (agents : List MemberAgent) (joints : List Joint) (boundary
   pub few_pairs : length pairs < 2 ^ 32
 
 -- a right member's boundary ends are numbered in a byte, and its agents are few
-abbrev pub IsSmall : MemberParts → Type 0
-IsSmall m = (length m.joints < 2 ^ 8) × (length m.agents ≤ max_member_agents)
+abbrev pub IsSmallMember : MemberParts → Type 0
+IsSmallMember m = (length m.joints < 2 ^ 8) × (length m.agents ≤ max_member_agents)
 
 -- ---- what compiling adds
 

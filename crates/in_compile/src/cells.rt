@@ -2,7 +2,7 @@
 ghost use Rattle.std.specs.Prelude.{◌≡◌, ◌<◌, ◌^◌, length, max, MatchOption};
 ghost use Rattle.in_symbols.specs.Tables.{IsSymbol};
 ghost use Rattle.in_net.specs.Built.{IsOver};
-ghost use Rattle.in_opening.specs.Opening.{AreAllThere};
+ghost use Rattle.in_open_nets_of_programs.specs.Opening.{AreAllThere};
 ghost use Rattle.in_compile.specs.Cells.{is_of, agents_of, count_of, IsNeedOf, IsEnough, IsFirstShort};
 
 use in_arena::CellClass;

@@ -1,11 +1,12 @@
 // A member, and what is read of it.
 ghost use Rattle.std.specs.Prelude.{◌≡◌, ◌<◌, length, Some, slice_get};
 ghost use Rattle.in_compile.specs.declared.joints.Joint.TheVariants.{ToAgent, ToBoundary};
-ghost use Rattle.in_compile.specs.Members.{symbol_at, class_at, places_at, joint_at, IsPlaceOf, IsSound};
+ghost use Rattle.in_compile.specs.Members.{symbol_at, class_at, places_at, joint_at, IsPlaceOf, IsSoundMember};
 
 use crate::cells::Need;
 use crate::joints::{Joint, StoredJoint};
 use in_arena::CellClass;
+use in_base::use_invariant;
 use in_symbols::SymbolNo;
 use sqlite_items::Items;
 use std::marker::Model;
@@ -50,9 +51,9 @@ impl Member {
     /// Its agents' cells hold their places, its wires lead both ways, and its need is that of its agents: what its proof rests on. The call
     /// does nothing.
     pub fn is_sound(&self)
-        ensures { IsSound self.now }
+        ensures { IsSoundMember self.now }
     {
-        let _ = &self.agents;
+        use_invariant!(self.agents);
     }
 
     /// How many cells of each class its agents take.

@@ -8,8 +8,8 @@ ghost use Rattle.in_net.specs.NetFaults.{max_agents};
 ghost use Rattle.in_net.specs.Parts.{IsWhole};
 ghost use Rattle.in_net.specs.Rules.{IsRuleOver};
 ghost use Rattle.in_interaction.specs.Queues.{IsFirstQueue};
-ghost use Rattle.in_opening.specs.Opening.{AreAllThere};
-ghost use Rattle.in_opening.specs.OpeningRules.{IsRuleWhole};
+ghost use Rattle.in_open_nets_of_programs.specs.Opening.{AreAllThere};
+ghost use Rattle.in_open_nets_of_programs.specs.OpeningRules.{IsRuleWhole};
 ghost use Rattle.in_compile.specs.Storing.{AreNarrow, AddsAgent, AreLaidBelow};
 ghost use Rattle.in_compile.specs.Members.{joint_of, IsMemberOf};
 ghost use Rattle.in_compile.specs.Templates.{IsTemplateOf};
@@ -19,6 +19,7 @@ use crate::joints::{Joint, StoredJoint};
 use crate::member::{Member, MemberAgent};
 use crate::template::Template;
 use in_arena::CellClass;
+use in_base::use_promise;
 use in_net::{Cell, Net, Point, Rule};
 use in_symbols::Symbols;
 use sqlite_items::Items;
@@ -157,7 +158,7 @@ pub(crate) fn template(
     let member = member_of(alloc, symbols, rule.member())?;
     let (first, second) = rule.heads();
     let first_ends = symbols.arity(first);
-    let _second_ends = symbols.arity(second);
+    use_promise!(symbols.arity(second));
     Ok(Template {
         member,
         first_ends,

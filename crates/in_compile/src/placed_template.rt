@@ -6,7 +6,7 @@ ghost use Rattle.in_compile.specs.declared.joints.Joint.TheVariants.{ToBoundary}
 ghost use Rattle.in_compile.specs.Cells.{count_of, IsEnough};
 ghost use Rattle.in_compile.specs.Members.{joint_at};
 ghost use Rattle.in_compile.specs.PlacedTemplates.{IsOfTemplate};
-ghost use Rattle.in_compile.specs.Placing.{IsPlaced, Takes, HasNoCell};
+ghost use Rattle.in_compile.specs.Placing.{IsPlacedMember, Takes, HasNoCell};
 ghost use Rattle.in_compile.specs.Stocks.{held, Regains};
 
 use crate::joints::Joint;
@@ -15,6 +15,7 @@ use crate::placing::place_into;
 use crate::stock::Stock;
 use crate::template::Template;
 use in_arena::{Arena, CellNo};
+use in_base::use_invariant;
 use std::marker::Model;
 
 /// A template with its right member in leased cells, all of it and nothing else, so that no caller has to show that the two belong together.
@@ -26,14 +27,14 @@ pub struct PlacedTemplate<'a> {
 }
 
 impl<'a> Model for PlacedTemplate<'a> {
-    ghost use Rattle.in_compile.specs.Placing.{IsPlaced};
+    ghost use Rattle.in_compile.specs.Placing.{IsPlacedMember};
     ghost use Rattle.in_compile.specs.PlacedTemplates.{PlacedTemplateParts};
 
     ghost Value = { PlacedTemplateParts };
 
     ghost view = { λ p. record { template = p.template.now; placed = p.placed } };
 
-    ghost invariant = { λ p. IsPlaced p.template.now.member p.placed };
+    ghost invariant = { λ p. IsPlacedMember p.template.now.member p.placed };
 }
 
 /// Places the right member of a template, as `place_into` does. The stock has to hold the template's need; `room` has to have no cells, to be
@@ -44,7 +45,7 @@ pub fn place<'a>(template: &'a Template, stock: &mut Stock, room: Placed) -> Pla
     requires of_one { AreOfOne stock.old.bag room.bag }
     requires empty { HasNoCell room.bag }
     ensures template { result.template ≡ template.now }
-    ensures placed { IsPlaced template.now.member result.placed }
+    ensures placed { IsPlacedMember template.now.member result.placed }
     ensures takes { Takes template.now.member.need result.placed.cells stock.old stock.new }
     ensures same { AreOfOne room.bag result.placed.bag × (result.placed.room ≡ room.room) }
 {
@@ -58,7 +59,7 @@ impl<'a> PlacedTemplate<'a> {
     pub fn is_of_template(&self)
         ensures { IsOfTemplate self.now }
     {
-        let _ = &self.template;
+        use_invariant!(self.template);
     }
 
     /// The template.

@@ -7,7 +7,7 @@ ghost use Rattle.in_arena.specs.Classes.{IsNumberOf};
 ghost use Rattle.in_arena.specs.declared.content.CellNo.{CellNo as Number};
 ghost use Rattle.in_compile.specs.Cells.{count_of, IsEnough};
 ghost use Rattle.in_compile.specs.Members.{AgentParts};
-ghost use Rattle.in_compile.specs.Placing.{AreCellsOf, IsPlaced, Takes, HasNoCell, end_in, content};
+ghost use Rattle.in_compile.specs.Placing.{AreCellsOf, IsPlacedMember, Takes, HasNoCell, end_in, content};
 ghost use Rattle.in_compile.specs.PlacingSteps.{AreTakenBelow, AreWrittenBelow, IsInside};
 ghost use Rattle.in_compile.specs.Stocks.{held};
 
@@ -86,7 +86,7 @@ pub fn place_into(member: &Member, stock: &mut Stock, placed: &mut Placed)
     requires room { length member.now.agents ≤ placed.old.room }
     requires of_one { AreOfOne stock.old.bag placed.old.bag }
     requires empty { HasNoCell placed.old.bag }
-    ensures placed { IsPlaced member.now placed.new }
+    ensures placed { IsPlacedMember member.now placed.new }
     ensures takes { Takes member.now.need placed.new.cells stock.old stock.new }
     ensures same { AreOfOne placed.old.bag placed.new.bag × (placed.new.room ≡ placed.old.room) }
 {

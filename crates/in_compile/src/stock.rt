@@ -51,6 +51,7 @@ fn lease_more(lists: &mut Lists, bag: &mut Bag, arena: &mut Arena, class: CellCl
     for _turn in 0..count {
         match arena.lease_to(class, bag) {
             Some(cell) => lists.push(class, cell),
+            // As many cells of the class are free.
             None => unreachable!(),
         }
     }

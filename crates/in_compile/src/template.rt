@@ -22,13 +22,13 @@ pub struct Template {
 // Contracts see its fields.
 impl Model for Template {
     ghost use Rattle.in_compile.specs.Templates.{TemplateParts};
-    ghost use Rattle.in_compile.specs.Storing.{IsSmall};
+    ghost use Rattle.in_compile.specs.Storing.{IsSmallMember};
 
     ghost Value = { TemplateParts };
 
     ghost view = { λ t. record { heads = t.heads; first_ends = t.first_ends; member = t.member } };
 
-    ghost invariant = { λ t. IsSmall t.member };
+    ghost invariant = { λ t. IsSmallMember t.member };
 }
 
 impl Template {

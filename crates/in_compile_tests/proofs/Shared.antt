@@ -5,13 +5,11 @@ use Rattle.in_arena.specs.Bags.{IsBagOf, IsIn, AreOfOne, empty_bag}
 use Rattle.in_arena.specs.Changes.{HasAllCells}
 use Rattle.in_arena.specs.States.{Vacant, Leased, IsLeased}
 use Rattle.in_arena.specs.declared.content.CellClass.{CellClass}
-use Rattle.in_arena.proofs.Bags.{leased_or}
+use Rattle.in_arena.proofs.Public.{leased_or}
 use Rattle.in_compile.specs.declared.cells.Need.{Need}
 use Rattle.in_compile.specs.Placing.{PlacedParts, AreCellsOf, Takes}
 use Rattle.in_compile.specs.Stocks.{StockParts, Adds, Regains, IsStockOf}
-use Rattle.in_compile.proofs.Back.{all_back, both_back, other_stays, shared_out}
-use Rattle.in_compile.proofs.Settled.{settled}
-use Rattle.in_compile.proofs.Stocked.{memory_all, cells_all}
+use Rattle.in_compile.proofs.Public.{all_back, both_back, other_stays, shared_out, settled, memory_all, cells_all}
 
 -- an empty bag of an arena is of it
 pub is_empty : (a b : ArenaView) → b ≡ empty_bag a → AreOfOne (empty_bag a) b

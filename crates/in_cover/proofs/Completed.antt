@@ -6,9 +6,9 @@ use Rattle.std.proofs.lemmas.Option.{none-some, same_Some, slice_get_within}
 use Rattle.in_syntax.specs.declared.faults.Refusal.{Refusal}
 use Rattle.in_symbols.specs.Tables.{Tables, port_at, is_constructor, are_opposite, matching}
 use Rattle.in_net.specs.Rules.{RuleParts}
-use Rattle.in_net.proofs.NumberTests.{equal_turned}
+use Rattle.in_net.proofs.Public.{equal_turned}
 use Rattle.in_cover.specs.declared.table.RuleNo.{RuleNo}
-use Rattle.in_cover.specs.Cover.{IsPair, IsOfPair, IsRuleFor, IsComplete, Numbers, IsTableOf, IsMissing, IsMissingAt, IsFirstMissing}
+use Rattle.in_cover.specs.Cover.{IsPair, IsRuleOfPair, IsRuleFor, IsComplete, Numbers, IsTableOf, IsMissing, IsMissingAt, IsFirstMissing}
 use Rattle.in_cover.specs.Covering.{HoldsBelow, IsGap, HasNoGapBelow, HasNoGapIn}
 use Rattle.in_cover.specs.Table.{Cells, rule_at}
 use Rattle.in_cover.proofs.Numbered.{turn_rule}
@@ -40,7 +40,7 @@ no_pair t c d same h =
 
 -- ---- the whole table
 
-module _ (t : Tables) (rules : List RuleParts) (table : Cells) (pairs : AllByRecursion (IsOfPair t) rules) (holds : HoldsBelow rules (length rules) table) where
+module _ (t : Tables) (rules : List RuleParts) (table : Cells) (pairs : AllByRecursion (IsRuleOfPair t) rules) (holds : HoldsBelow rules (length rules) table) where
   number : Numbers table rules
   number c d k = ((λ e. ((holds c d k).0 e).1), (λ h. (holds c d k).1 (slice_get_within rules k.0 h.rule h.stands, h)))
 
@@ -72,7 +72,7 @@ module _ (t : Tables) (rules : List RuleParts) (table : Cells) (pairs : AllByRec
           let other : RuleNo = record { 0 = k } in
           ap (λ (n : RuleNo). n.0) (same_Some one other (sym ((number c d one).1 h) ∙ (number c d other).1 i));
       pairs_alone = λ c d k h.
-          let own : IsPair t h.rule.heads.0.0 h.rule.heads.1.0 = all_at (IsOfPair t) rules k h.rule pairs h.stands in
+          let own : IsPair t h.rule.heads.0.0 h.rule.heads.1.0 = all_at (IsRuleOfPair t) rules k h.rule pairs h.stands in
           elim h.symbols [
             | inl e ↦ subst (λ x. IsPair t x d) e.0 (subst (λ y. IsPair t h.rule.heads.0.0 y) e.1 own)
             | inr e ↦ turn_pair t d c (subst (λ x. IsPair t x c) e.0 (subst (λ y. IsPair t h.rule.heads.0.0 y) e.1 own))

@@ -2,4 +2,5 @@ pub mod Completed
 pub mod FirstFault
 pub mod Numbered
 pub mod OneTable
+pub mod Public
 pub mod Written

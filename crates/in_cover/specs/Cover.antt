@@ -18,18 +18,18 @@ pub record IsPair (t : Tables) (c d : ℕ) : Type 0 where
   pub matched : matching t c d ≡ true
 
 -- the rule's symbols are a pair
-abbrev pub IsOfPair : Tables → RuleParts → Type 0
-IsOfPair t r = IsPair t r.heads.0.0 r.heads.1.0
+abbrev pub IsRuleOfPair : Tables → RuleParts → Type 0
+IsRuleOfPair t r = IsPair t r.heads.0.0 r.heads.1.0
 
 -- the rule's symbols are these two, in either order
-abbrev pub IsFor : RuleParts → ℕ → ℕ → Type 0
-IsFor r c d = ((r.heads.0.0 ≡ c) × (r.heads.1.0 ≡ d)) ⊎ ((r.heads.0.0 ≡ d) × (r.heads.1.0 ≡ c))
+abbrev pub IsRuleOfSymbols : RuleParts → ℕ → ℕ → Type 0
+IsRuleOfSymbols r c d = ((r.heads.0.0 ≡ c) × (r.heads.1.0 ≡ d)) ⊎ ((r.heads.0.0 ≡ d) × (r.heads.1.0 ≡ c))
 
 -- the rule of that number is for these two symbols
 pub record IsRuleFor (rules : List RuleParts) (k c d : ℕ) : Type 0 where
   pub rule : RuleParts
   pub stands : slice_get rules k ≡ Some rule
-  pub symbols : IsFor rule c d
+  pub symbols : IsRuleOfSymbols rule c d
 
 -- each pair has exactly one rule, and no two other symbols have one
 pub record IsComplete (t : Tables) (rules : List RuleParts) : Type 0 where

@@ -26,9 +26,9 @@ pub record SetsBoth (old : Cells) (c d : ℕ) (k : RuleNo) (new : Cells) : Type 
   pub turned : rule_at new d c ≡ Some k
   pub elsewhere : (x y : ℕ) → ((x ≡ c) × (y ≡ d) → ⊥) → ((x ≡ d) × (y ≡ c) → ⊥) → rule_at new x y ≡ rule_at old x y
 
-abbrev pub Adds : Cells → RuleNo → ℕ → ℕ → Cells → Bool → Type 0
-Adds old k c d new true = (rule_at old c d ≡ None) × SetsBoth old c d k new
-Adds old k c d new false = IsSome (rule_at old c d) × (new ≡ old)
+abbrev pub AddsRule : Cells → RuleNo → ℕ → ℕ → Cells → Bool → Type 0
+AddsRule old k c d new true = (rule_at old c d ≡ None) × SetsBoth old c d k new
+AddsRule old k c d new false = IsSome (rule_at old c d) × (new ≡ old)
 
 -- the first so many rules are in the table, and no others
 abbrev pub HoldsBelow : List RuleParts → ℕ → Cells → Type 0

@@ -1,8 +1,8 @@
 ghost use Rattle.std.specs.Prelude.{◌≡◌, ◌<◌, ◌^◌, length};
 ghost use Rattle.std.specs.List.{AllByRecursion};
 ghost use Rattle.in_symbols.specs.Tables.{IsSymbol};
-ghost use Rattle.in_cover.specs.Cover.{IsOfPair, Covers, second_at, IsMissingAt};
-ghost use Rattle.in_cover.specs.Covering.{Adds, NumbersRules, FindsGapBelow, FindsGap};
+ghost use Rattle.in_cover.specs.Cover.{IsRuleOfPair, Covers, second_at, IsMissingAt};
+ghost use Rattle.in_cover.specs.Covering.{AddsRule, NumbersRules, FindsGapBelow, FindsGap};
 
 use crate::table::{RuleNo, RuleTable};
 use in_net::Rule;
@@ -14,7 +14,7 @@ use std::alloc::Global;
 fn add(table: &mut RuleTable, number: RuleNo, rule: &Rule) -> bool
     requires first { rule.now.heads.0.0 < table.old.size }
     requires second { rule.now.heads.1.0 < table.old.size }
-    ensures { Adds table.old number rule.now.heads.0.0 rule.now.heads.1.0 table.new result }
+    ensures { AddsRule table.old number rule.now.heads.0.0 rule.now.heads.1.0 table.new result }
 {
     let (c, d) = rule.heads();
     if table.find(c, d).is_some() {
@@ -35,7 +35,7 @@ fn second(rule: &Rule) -> Refusal
 /// The numbers of the rules; refused for the first rule that is the second one for its two symbols.
 fn numbers(alloc: Global, symbols: &Symbols, rules: &[Rule]) -> Result<RuleTable, Fault>
     requires few { length rules.now < 2 ^ 32 }
-    requires pairs { AllByRecursion (IsOfPair symbols.now) rules.now }
+    requires pairs { AllByRecursion (IsRuleOfPair symbols.now) rules.now }
     ensures { NumbersRules symbols.now rules.now result }
 {
     let mut table = RuleTable::empty(alloc, symbols.symbols())?;
@@ -98,7 +98,7 @@ fn missing(symbols: &Symbols, later: SymbolNo, earlier: SymbolNo) -> Refusal
 /// choice.
 pub fn cover(alloc: Global, symbols: &Symbols, rules: &[Rule]) -> Result<RuleTable, Fault>
     requires few { length rules.now < 2 ^ 32 }
-    requires pairs { AllByRecursion (IsOfPair symbols.now) rules.now }
+    requires pairs { AllByRecursion (IsRuleOfPair symbols.now) rules.now }
     ensures { Covers symbols.now rules.now result }
 {
     let table = numbers(alloc, symbols, rules)?;

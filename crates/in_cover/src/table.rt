@@ -50,6 +50,7 @@ impl RuleTable {
     {
         match self.find(c, d) {
             Some(rule) => rule,
+            // The two symbols have a rule: it is asked for.
             None => unreachable!(),
         }
     }

@@ -8,13 +8,11 @@ use Rattle.in_arena.specs.States.{end_at}
 use Rattle.in_arena.specs.declared.content.End.{End}
 use Rattle.in_arena.specs.declared.content.End.TheVariants as end
 use Rattle.in_net.specs.Nets.{Point, Port, Free, Net, IsPoint, Signature}
-use Rattle.in_glue.proofs.Gluing.Cutting.{same_point}
-use Rattle.in_glue.proofs.Gluing.Points.{same_free}
+use Rattle.in_glue.proofs.Public.{same_point, same_free}
 use Rattle.in_joining.specs.Cells.{KeepsCells}
 use Rattle.in_joining.specs.Shown.{point_of, stands_at, IsPlaceAt, IsShown, AreExchanged}
-use Rattle.in_joining.proofs.AllShown.{take_at, place_within}
-use Rattle.in_joining.proofs.Kept.{keep_on, word_kept}
-use Rattle.in_joining.proofs.Writes.{exchange_keeps, place_stays, stands_one, stands_two, stands_still}
+use Rattle.in_joining.proofs.Public.{take_at, place_within, keep_on, word_kept, exchange_keeps, place_stays, stands_one, stands_two}
+use Rattle.in_joining.proofs.Public.{stands_still}
 use Rattle.in_cutting.specs.Cutting.{Shows, IsCutAt}
 
 -- where a point leads, something stands

@@ -6,15 +6,13 @@ use Rattle.std.proofs.lemmas.Option.{same_Some, slice_get_within}
 use Rattle.in_arena.specs.Arenas.{ArenaView, state_at}
 use Rattle.in_arena.specs.States.{State, Vacant, Leased, Live, places, end_at}
 use Rattle.in_arena.specs.declared.content.End.{End}
-use Rattle.in_interaction.proofs.Interactions.Alternating.{has_value}
+use Rattle.in_interaction.proofs.Public.{has_value}
 use Rattle.in_net.specs.Nets.{Point, Port, Free, Net, Signature}
 use Rattle.in_glue.specs.Joining.{JoinsEnds, WiresLeadBack}
-use Rattle.in_glue.proofs.Gluing.Cutting.{join_exists}
+use Rattle.in_glue.proofs.Public.{join_exists}
 use Rattle.in_joining.specs.Cells.{KeepsCells}
 use Rattle.in_joining.specs.Shown.{point_of, end_of, stands_at, IsPointUpTo, IsShown, IsShownUpTo, AreExchanged}
-use Rattle.in_joining.proofs.AllShown.{place_within, shown_all, take_at}
-use Rattle.in_joining.proofs.OneJoint.{AreAtSides, shown_next, sides_at}
-use Rattle.in_joining.proofs.Writes.{exchange_keeps, point_end}
+use Rattle.in_joining.proofs.Public.{place_within, shown_all, take_at, AreAtSides, shown_next, sides_at, exchange_keeps, point_end}
 use Rattle.in_cutting.specs.Cutting.{Shows}
 use Rattle.in_cutting.proofs.CutInCells.{stands_some}
 

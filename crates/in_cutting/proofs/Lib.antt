@@ -1,2 +1,3 @@
 pub mod CutInCells
 pub mod JoinedInCells
+pub mod Public

@@ -6,7 +6,7 @@ use Rattle.in_syntax.specs.declared.faults.Fault.TheVariants.{Refused}
 use Rattle.in_syntax.specs.declared.tree.Source.{Source}
 use Rattle.in_syntax.specs.Parsing.{Parses}
 use Rattle.in_check.specs.Checking.{ChecksNames}
-use Rattle.in_check.proofs.Chain.{chain_of, then_refused, then_rest}
+use Rattle.in_check.proofs.Public.{chain_of, then_refused, then_rest}
 use Rattle.in_diagnosis.specs.Programs.{IsTold, IsToldOfTree}
 
 -- what is told of a tree is told of its text

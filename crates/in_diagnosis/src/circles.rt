@@ -1,6 +1,6 @@
 //! A circle through nodes of an open net.
-use in_open_nets::{Node, OpenNet, Point};
-use in_reports::port;
+use in_diagnosis_words::port;
+use in_open_nets::{Node, OpenNet, OpenPoint};
 use in_syntax::{MAX_PORTS, Source};
 use std::alloc::{AllocError, Global};
 
@@ -44,7 +44,7 @@ impl Wires {
         };
         for number in 0..open.wires() {
             let (one, other) = open.wire(number);
-            if let (Point::Port(a, p), Point::Port(b, q)) = (one, other) {
+            if let (OpenPoint::Port(a, p), OpenPoint::Port(b, q)) = (one, other) {
                 wires.set((a, p), (b, q));
                 wires.set((b, q), (a, p));
             }

@@ -7,7 +7,7 @@
 //! table, net or rule is built for the diagnosis alone.
 //!
 //! `wires` tells the ends of a wire, `circles` finds a circle through a part in which nothing splits, `stuck` tells it, and `remedies`
-//! tries declarations with other braces (`braces` of `in_reports` writes them) and tells the first with which the program is accepted.
+//! tries declarations with other braces (`braces` of `in_diagnosis_words` writes them) and tells the first with which the program is accepted.
 #![tactic(auto)]
 
 mod circles;

@@ -3,7 +3,7 @@ ghost use Rattle.std.specs.Prelude.{IfOk};
 ghost use Rattle.in_diagnosis.specs.Programs.{IsTold};
 
 use in_check::check;
-use in_reports::{Braces, Report, declaration_with, text_with};
+use in_diagnosis_words::{Braces, Report, declaration_with, text_with};
 use in_syntax::{Fault, SourceSymbol};
 use std::alloc::{AllocError, Global};
 

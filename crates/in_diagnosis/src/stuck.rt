@@ -2,8 +2,8 @@
 use crate::circles::{Circle, Field, Wires};
 use crate::remedies::{MOST_TRIED, Remedy, add_help, add_remedy};
 use in_check::StuckPart;
+use in_diagnosis_words::{Report, add_braces, changed_braces, say_node_at, say_port_of};
 use in_open_nets::{Node, OpenNet};
-use in_reports::{Report, add_braces, changed_braces, say_node_at, say_port_of};
 use in_syntax::{Place, Source, SourceSymbol};
 use std::alloc::{AllocError, Global};
 

@@ -6,8 +6,8 @@ ghost use Rattle.in_diagnosis.specs.Programs.{IsTold, IsToldOfTree};
 use crate::stuck::add_stuck;
 use crate::wires::add_misfit;
 use in_check::{Evidence, Misfit, StuckPart, refusal_of};
+use in_diagnosis_words::{Report, add_text_fault, add_tree_fault, rule_at};
 use in_net::{MAX_AGENTS, MAX_MEMBER_AGENTS};
-use in_reports::{Report, add_text_fault, add_tree_fault, rule_at};
 use in_syntax::{Code, Expected, Fault, Place, Refusal, Source, parse_expecting};
 use std::alloc::{AllocError, Global};
 

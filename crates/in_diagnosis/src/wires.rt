@@ -1,6 +1,6 @@
 //! Wires whose two ends don't fit.
 use in_check::{Misfit, WireEnd};
-use in_reports::{End, Report, add_ends, agent_end, free_end, head_end};
+use in_diagnosis_words::{Report, ToldEnd, add_ends, agent_end, free_end, head_end};
 use in_symbols::SymbolNo;
 use in_syntax::{Place, Source, SourceSymbol};
 
@@ -10,7 +10,7 @@ fn declared(source: &Source, symbol: SymbolNo) -> Option<&SourceSymbol> {
 }
 
 /// An end of a wire as it is told.
-fn told<'a>(source: &'a Source, end: WireEnd) -> Option<End<'a>> {
+fn told<'a>(source: &'a Source, end: WireEnd) -> Option<ToldEnd<'a>> {
     match end {
         WireEnd::Agent {
             symbol,
@@ -27,7 +27,10 @@ fn told<'a>(source: &'a Source, end: WireEnd) -> Option<End<'a>> {
 }
 
 /// The two ends of a wire as they are told.
-fn told_both<'a>(source: &'a Source, misfit: Option<&Misfit>) -> Option<(End<'a>, End<'a>)> {
+fn told_both<'a>(
+    source: &'a Source,
+    misfit: Option<&Misfit>,
+) -> Option<(ToldEnd<'a>, ToldEnd<'a>)> {
     let misfit = misfit?;
     Some((told(source, misfit.one)?, told(source, misfit.other)?))
 }

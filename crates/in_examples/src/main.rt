@@ -5,6 +5,7 @@
 
 use anyhow::Result;
 use in_check::{Checked, Item};
+use in_command_line::Action;
 use in_cover::RuleNo;
 use in_diagnosis::diagnosis;
 use in_program::act;
@@ -12,7 +13,6 @@ use in_run::Limits;
 use in_simple::verify;
 use in_syntax::{MemoryIn, MemoryOut};
 use in_test_programs::{Look, seen};
-use in_words::Action;
 use std::alloc::{AllocError, Global};
 use std::rt::Files;
 use std::sync::Wait;

@@ -12,8 +12,8 @@ use Rattle.in_net.specs.declared.nets.Point.{Point}
 use Rattle.in_net.specs.declared.nets.Point.TheVariants.{Port, Free}
 use Rattle.in_net.specs.declared.nets.Wire.{Wire}
 use Rattle.in_net.specs.Parts.{Parts, IsWhole, symbol_in, wire_in}
-use Rattle.in_net.proofs.PairOfWire.{in_their_order, first_there, second_there, two_agents}
-use Rattle.in_interaction.specs.Queues.{agents_at, numbers_of, JoinsPair, IsNoPair, AreInOrder}
+use Rattle.in_net.proofs.Public.{in_their_order, first_there, second_there, two_agents}
+use Rattle.in_interaction.specs.Queues.{agents_at, numbers_of, JoinsPair, JoinsNoPair, AreInOrder}
 use Rattle.in_export.specs.Parts.{is_principal, joins_principals, active_from}
 use Rattle.in_export.specs.Queues.{AreOnWires, ActiveWiresAreTheQueue}
 
@@ -67,7 +67,7 @@ module _ (t : Tables) (n : Parts) (whole : IsWhole n) where
               (numbers_of z.0, made.0, made.1)
 
   -- .. and any other one joins none
-  none_on : (w : ℕ) → joins_principals (wire_in n w) ≡ false → IsNoPair n w
+  none_on : (w : ℕ) → joins_principals (wire_in n w) ≡ false → JoinsNoPair n w
   none_on w e q (inl at) = let wrong : true ≡ false = ap joins_principals (sym at) ∙ e in cc
   none_on w e q (inr at) = let wrong : true ≡ false = ap joins_principals (sym at) ∙ e in cc
 
@@ -94,7 +94,7 @@ module _ (t : Tables) (n : Parts) (whole : IsWhole n) where
   same_wire v w q a b = whole.once v w (Port (agents_at q).0 0) (Port (agents_at q).1 0) a b
 
   -- the wire joins no pair
-  passed : (w : ℕ) (qs : List (ℕ × ℕ)) → IsNoPair n w → AreAfter w qs → AreAfter (w + 1) qs
+  passed : (w : ℕ) (qs : List (ℕ × ℕ)) → JoinsNoPair n w → AreAfter w qs → AreAfter (w + 1) qs
   passed w qs none h = record {
     on = λ k q e. (let r = h.on k q e in (r.0, later r.0 q r.1 r.2, r.2));
     all = λ v q l a j. h.all v q (omega (arith, l)) a j;

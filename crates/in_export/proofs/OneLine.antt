@@ -5,7 +5,7 @@ use Rattle.in_syntax.specs.declared.faults.Fault.TheVariants.{Refused, Memory}
 use Rattle.in_check.specs.Checking.{IsChecked}
 use Rattle.in_check.specs.Laws.{AreOneProgram}
 use Rattle.in_check.specs.Programs.{Program}
-use Rattle.in_check.proofs.OneAnswer.{checked_once}
+use Rattle.in_check.proofs.Public.{checked_once}
 use Rattle.in_export.specs.Programs.{program_line}
 use Rattle.in_export.specs.Exporting.{Exports, TextsAreExportedOnce}
 

@@ -1,5 +1,5 @@
 ghost use Rattle.std.specs.Prelude.{◌≡◌, ◌<◌, ◌++◌, length, slice_get, IfOk, OnOk};
-ghost use Rattle.in_check.specs.Programs.{IsItem};
+ghost use Rattle.in_check.specs.Programs.{IsItemOf};
 ghost use Rattle.in_export.specs.Programs.{both_members_text, ends_text, heads_text, item_text, net_text, program_line, rule_text, rules_text, rules_and_net_text, tables_text};
 
 use crate::json::{add_comma, add_key, add_number};
@@ -45,7 +45,7 @@ fn add_item(
     checked: &Checked,
     item: Item,
 ) -> Result<(), AllocError>
-    requires { IsItem checked.now item }
+    requires { IsItemOf checked.now item }
     ensures { OnOk result (bytes.new.items ≡ bytes.old.items ++ item_text checked.now item) }
 {
     add_certificate(bytes, alloc, checked.shape(item), checked.certificate(item))

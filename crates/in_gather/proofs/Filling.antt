@@ -7,12 +7,10 @@ use Rattle.in_arena.specs.Bags.{IsBagOf, empty_bag}
 use Rattle.in_arena.specs.Changes.{HasAllCells}
 use Rattle.in_arena.specs.States.{Vacant, Leased, IsLeased}
 use Rattle.in_arena.specs.declared.content.CellNo.{CellNo}
-use Rattle.in_arena.proofs.Arenas.{vacant_inside}
-use Rattle.in_arena.proofs.Bags.{empty_is_of}
+use Rattle.in_arena.proofs.Public.{vacant_inside, empty_is_of}
 use Rattle.in_compile.specs.declared.cells.Need.{Need}
 use Rattle.in_compile.specs.Stocks.{StockParts, AddsTo, empty_stock, with_all}
-use Rattle.in_compile.proofs.Back.{one_or_same, one_of_all}
-use Rattle.in_compile.proofs.Stocked.{count_all, none_in_empty}
+use Rattle.in_compile.proofs.Public.{one_or_same, one_of_all, count_all, none_in_empty}
 use Rattle.in_gather.specs.Holding.{HaveAllLeased, holders}
 use Rattle.in_gather.proofs.Holding.{InOrOut, in_or_out, in_one, out_of_one}
 use Rattle.in_gather.proofs.Holding.InOrOut.{IsHere, IsOut}

@@ -3,3 +3,4 @@ pub mod Holding
 pub mod Keeping
 pub mod Placing
 pub mod OneAnswer
+pub mod Public

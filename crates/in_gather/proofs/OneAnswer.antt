@@ -1,19 +1,19 @@
 -- What is put and what is taken has one answer.
 use Rattle.std.proofs.Common.{◌≡◌, inl, inr, ℕ, Some, None, Ok, Err, slice_get, refl, sym, ap, ◌∙◌}
 use Rattle.in_gather.specs.Dones.{DoneParts}
-use Rattle.in_gather.specs.Gathers.{GatherParts, IsRefused}
+use Rattle.in_gather.specs.Gathers.{GatherParts, IsPutRefused}
 use Rattle.in_gather.specs.Laws.{PutsAreOne, TakesAreOne}
 use Rattle.in_gather.specs.declared.gather.Slot.TheVariants.{Fresh, Kept, Taken}
 use Rattle.in_gather.specs.declared.gather.Why.{Why}
 use Rattle.in_gather.specs.declared.gather.Why.TheVariants.{Double, Stranger}
 
-one_why : (g : GatherParts) (d : DoneParts) (v w : Why) → IsRefused g d v → IsRefused g d w → v ≡ w
+one_why : (g : GatherParts) (d : DoneParts) (v w : Why) → IsPutRefused g d v → IsPutRefused g d w → v ≡ w
 one_why g d Stranger Stranger h k = refl
 one_why g d Double Double h k = refl
 one_why g d Stranger Double h k = absurd (h k.0)
 one_why g d Double Stranger h k = absurd (k h.0)
 
-not_both : (g : GatherParts) (d : DoneParts) (w : Why) → IsRefused g d w → (slice_get g.jobs d.job ≡ Some d.heads) → (slice_get g.slots d.job ≡ Some Fresh) → ⊥
+not_both : (g : GatherParts) (d : DoneParts) (w : Why) → IsPutRefused g d w → (slice_get g.jobs d.job ≡ Some d.heads) → (slice_get g.slots d.job ≡ Some Fresh) → ⊥
 not_both g d Stranger h has fresh = h has
 not_both g d Double (h, inl (e, kept)) has fresh = let f : Some Fresh ≡ Some (Kept e) = sym fresh ∙ kept in cc
 not_both g d Double (h, inr taken) has fresh = let f : Some Fresh ≡ Some Taken = sym fresh ∙ taken in cc

@@ -6,7 +6,7 @@ use Rattle.in_arena.specs.Arenas.{ArenaView, state_at}
 use Rattle.in_arena.specs.Bags.{IsIn, AreOfOne}
 use Rattle.in_arena.specs.States.{Vacant, Leased, IsLeased}
 use Rattle.in_arena.specs.declared.content.CellNo.{CellNo}
-use Rattle.in_arena.proofs.Arenas.{vacant_inside}
+use Rattle.in_arena.proofs.Public.{vacant_inside}
 use Rattle.in_cover.specs.Table.{rule_at}
 use Rattle.in_cover.specs.declared.table.RuleNo.{RuleNo}
 use Rattle.in_compile.specs.declared.cells.Need.{Need}
@@ -14,8 +14,7 @@ use Rattle.in_compile.specs.Cells.{count_of, IsEnough}
 use Rattle.in_compile.specs.Placing.{PlacedParts, AreCellsOf, Takes}
 use Rattle.in_compile.specs.Stocks.{StockParts, held, with_all}
 use Rattle.in_compile.specs.Templates.{TemplateParts, TemplatesParts, IsLargestNeed, template_at}
-use Rattle.in_compile.proofs.Back.{one_or_same, one_of_all}
-use Rattle.in_compile.proofs.Stocked.{cells_all, memory_all}
+use Rattle.in_compile.proofs.Public.{one_or_same, one_of_all, cells_all, memory_all}
 use Rattle.in_gather.specs.Holding.{holders, is_own}
 use Rattle.in_gather.proofs.Holding.{InOrOut, in_or_out, in_one, out_of_one}
 use Rattle.in_gather.proofs.Holding.InOrOut.{IsHere, IsOut}

@@ -44,14 +44,14 @@ with_slot g job s = record { jobs = g.jobs; slots = slice_set g.slots job s }
 -- ---- what the calls change
 
 -- why it isn't kept: the list has no such job, which is tested first; or one of that job was put before
-abbrev pub IsRefused : GatherParts → DoneParts → Why → Type 0
-IsRefused g d Stranger = HasJob g d → ⊥
-IsRefused g d Double = HasJob g d × WasPut g d.job
+abbrev pub IsPutRefused : GatherParts → DoneParts → Why → Type 0
+IsPutRefused g d Stranger = HasJob g d → ⊥
+IsPutRefused g d Double = HasJob g d × WasPut g d.job
 
 -- it is kept where the list has its job and none of that job was put before; else it comes back, and nothing changes
 abbrev pub Puts : GatherParts → DoneParts → Result (Unit {0}) (DoneParts × Why) → GatherParts → Type 0
 Puts old d (Ok _) new = HasJob old d × IsFresh old d.job × (new ≡ with_slot old d.job (Kept d))
-Puts old d (Err e) new = (e.0 ≡ d) × IsRefused old d e.1 × (new ≡ old)
+Puts old d (Err e) new = (e.0 ≡ d) × IsPutRefused old d e.1 × (new ≡ old)
 
 -- what was kept for that job is kept no more, but stays put; or none is kept for it, and nothing changes
 abbrev pub Takes : GatherParts → ℕ → Option DoneParts → GatherParts → Type 0

@@ -9,6 +9,7 @@ ghost use Rattle.in_compile.specs.Templates.{template_at, TemplateParts};
 ghost use Rattle.in_gather.specs.Dones.{IsItsTemplate};
 
 use in_arena::Arena;
+use in_base::use_invariant;
 use in_compile::{Placed, PlacedTemplate, Stock, Templates, place};
 use in_symbols::SymbolNo;
 use std::marker::Model;
@@ -88,7 +89,7 @@ impl<'t> Done<'t> {
     pub fn is_its_template(&self)
         ensures { IsItsTemplate self.now }
     {
-        let _ = &self.placed;
+        use_invariant!(self.placed);
     }
 
     /// What is placed.

@@ -145,6 +145,7 @@ impl<'t> Gather<'t> {
         if let Slot::Kept(_) = &self.slots[index] {
             match mem::replace(&mut self.slots[index], Slot::Taken) {
                 Slot::Kept(done) => Some(done),
+                // The slot was looked at just now, and it keeps one.
                 _ => unreachable!(),
             }
         } else {

@@ -10,9 +10,8 @@ use Rattle.in_gather.specs.Gathers.{GatherParts, Puts, Takes, bags_of}
 use Rattle.in_gather.specs.Holding.{HaveAllLeased, Returns, holders}
 use Rattle.in_gather.specs.Laws.{Shares}
 use Rattle.in_gather.specs.declared.gather.Slot.{Slot}
-use Rattle.in_gather.proofs.Holding.{same_have_all, one_less, bags_are_of_one, holders-cons, left_have_all, none_leased_by}
-use Rattle.in_gather.proofs.Keeping.{put_all, put_holders, take_all, take_holders}
-use Rattle.in_gather.proofs.Placing.{one_of_one}
+use Rattle.in_gather.proofs.Public.{same_have_all, one_less, bags_are_of_one, holders-cons, left_have_all, none_leased_by, put_all}
+use Rattle.in_gather.proofs.Public.{put_holders, take_all, take_holders, one_of_one}
 
 module _ (s s' : StockParts) (d : DoneParts) (g : GatherParts) (a : ArenaView) (have : HaveAllLeased (s.bag ∷ bags_of g.slots) a) (shares : Shares (s'.bag ∷ []) (d.placed.placed.bag ∷ []) (s.bag ∷ [])) (of_stock : AreOfOne s.bag s'.bag) (of_done : AreOfOne s.bag d.placed.placed.bag) where
   one : All (AreOfOne a) (s.bag ∷ bags_of g.slots)

@@ -6,7 +6,7 @@ use Rattle.in_net.specs.Nets.{Net, net_of}
 use Rattle.in_net.specs.Parts.{IsWhole}
 use Rattle.in_net.specs.Rules.{RuleParts}
 use Rattle.in_interaction.specs.Interacting.{most_agents}
-use Rattle.in_cover.specs.Cover.{IsPair, IsFor}
+use Rattle.in_cover.specs.Cover.{IsPair, IsRuleOfSymbols}
 use Rattle.in_check.specs.Checking.{IsAccepted}
 use Rattle.in_check.specs.Plain.{PlainParts, IsPlain, StepsTo, StepsAs, IsPairAt, IsRuleAt}
 use Rattle.in_check.specs.Promises.{IsAsPromised}
@@ -35,7 +35,7 @@ ReducibleStepsUnderNames = (text : List ℕ) (p q : PlainParts) (a b : AgentNo) 
 -- each active pair matches, and each rule that is for its symbols, in whichever order, is for them in this one
 abbrev pub ReduciblePairsHaveTheirRule : Type 0
 ReduciblePairsHaveTheirRule = (text : List ℕ) (p : PlainParts) (a b : AgentNo) → IsAccepted text p.program → IsReducible p → (at : IsPairAt p a b) →
-    IsPair p.program.tables at.first.0 at.second.0 × ((i : ℕ) (r : RuleParts) → slice_get p.program.rules i ≡ Some r → IsFor r at.first.0 at.second.0 → IsRuleAt p a b i r)
+    IsPair p.program.tables at.first.0 at.second.0 × ((i : ℕ) (r : RuleParts) → slice_get p.program.rules i ≡ Some r → IsRuleOfSymbols r at.first.0 at.second.0 → IsRuleAt p a b i r)
 
 -- what a step leads to is one
 abbrev pub ReducibleStepsAreOne : Type 0

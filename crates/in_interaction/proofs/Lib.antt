@@ -1,3 +1,4 @@
 pub mod Interactions
+pub mod Public
 pub mod Queues
 pub mod Stepping

@@ -86,9 +86,9 @@ IsSymbolAfter s y None = (z : SymbolNo) → HasSymbolAfter s.net s.rule s.one s.
 IsSymbolAfter s y (Some z) = HasSymbolAfter s.net s.rule s.one s.two (unused s.net.cells) y z
 
 -- the one pair whose lowest boundary end this is, if there is one
-abbrev pub IsPairAt : Tables → SiteParts → ℕ → Option (AgentNo × AgentNo) → Type 0
-IsPairAt t s e None = (q : AgentNo × AgentNo) → IsMade t s.net s.rule s.one s.two (unused s.net.cells) e q → ⊥
-IsPairAt t s e (Some p) = IsMade t s.net s.rule s.one s.two (unused s.net.cells) e p × ((q : AgentNo × AgentNo) → IsMade t s.net s.rule s.one s.two (unused s.net.cells) e q → q ≡ p)
+abbrev pub IsPairAtEnd : Tables → SiteParts → ℕ → Option (AgentNo × AgentNo) → Type 0
+IsPairAtEnd t s e None = (q : AgentNo × AgentNo) → IsMade t s.net s.rule s.one s.two (unused s.net.cells) e q → ⊥
+IsPairAtEnd t s e (Some p) = IsMade t s.net s.rule s.one s.two (unused s.net.cells) e p × ((q : AgentNo × AgentNo) → IsMade t s.net s.rule s.one s.two (unused s.net.cells) e q → q ≡ p)
 
 -- the pairs that are made with lowest boundary ends below this one, in their order
 pub record AreMadeBelow (t : Tables) (s : SiteParts) (end : ℕ) (qs : List (AgentNo × AgentNo)) : Type 0 where

@@ -30,8 +30,8 @@ abbrev pub JoinsPair : Parts → ℕ → ℕ × ℕ → Type 0
 JoinsPair n w q = JoinsAgents n w (agents_at q)
 
 -- the wire of that number joins the principal ports of no two agents
-abbrev pub IsNoPair : Parts → ℕ → Type 0
-IsNoPair n w = (q : ℕ × ℕ) → JoinsPair n w q → ⊥
+abbrev pub JoinsNoPair : Parts → ℕ → Type 0
+JoinsNoPair n w = (q : ℕ × ℕ) → JoinsPair n w q → ⊥
 
 -- these pairs stand in the order of their wires. (The wires of a net as built stand in the order of their places.)
 abbrev pub AreInOrder : Parts → List (ℕ × ℕ) → Type 0

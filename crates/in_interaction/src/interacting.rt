@@ -6,6 +6,7 @@ ghost use Rattle.in_net.specs.declared.nets.Cell.{Cell};
 
 use crate::following::Site;
 use crate::listing::wires;
+use in_base::use_invariant;
 use in_net::{AgentNo, Cell, Net, Point, Rule, Wire};
 use sqlite_items::Items;
 use std::alloc::{AllocError, Global};
@@ -64,7 +65,7 @@ impl<'a> Site<'a> {
         requires { StaysAt self.now agent.0 cell.now }
         ensures { IfOk result (IsAgentAfter self.now agent.0 cell.now) }
     {
-        let _ = &self.first;
+        use_invariant!(self.first);
         let mut ends = Items::new(alloc);
         for place in 0..cell.ends.len() {
             ends.push(self.outer(Point::Port(agent, place as u8)))?;
@@ -80,7 +81,7 @@ impl<'a> Site<'a> {
         requires { cell_in self.now.rule.member agent.0 ≡ Some cell.now }
         ensures { IfOk result (IsAgentAfter self.now (unused self.now.net.cells agent.0) cell.now) }
     {
-        let _ = &self.first;
+        use_invariant!(self.first);
         let mut ends = Items::new(alloc);
         for place in 0..cell.ends.len() {
             ends.push(self.inner(agent, place as u8))?;
@@ -108,7 +109,7 @@ impl<'a> Site<'a> {
         requires { cell_in self.now.net number.0 ≡ None }
         ensures { IfOk result (IsCellAfter self.now number.0) }
     {
-        let _ = &self.first;
+        use_invariant!(self.first);
         match self.named(number) {
             Some(agent) => match &self.rule.member().cells()[agent.0 as usize] {
                 Some(cell) => Ok(Some(self.fresh(alloc, agent, cell)?)),
@@ -149,7 +150,7 @@ impl<'a> Site<'a> {
     fn cells(&self, alloc: Global) -> Result<Items<Option<Cell>>, AllocError>
         ensures { IfOk result (λ cells. (length cells ≡ numbers_after self.now.net.cells (length self.now.rule.member.cells)) × AreCellsAfter self.now cells) }
     {
-        let _ = &self.first;
+        use_invariant!(self.first);
         let mut cells = Items::new(alloc);
         for number in 0..self.numbers() {
             cells.push(self.cell(alloc, AgentNo(number as u32))?)?;
@@ -161,7 +162,7 @@ impl<'a> Site<'a> {
     fn free_ends(&self, alloc: Global) -> Result<Items<Point>, AllocError>
         ensures { IfOk result (AreOuterEnds self.now) }
     {
-        let _ = &self.first;
+        use_invariant!(self.first);
         let mut ends = Items::new(alloc);
         for number in 0..self.net.free_ends() {
             ends.push(self.outer(Point::Free(number)))?;
@@ -173,7 +174,7 @@ impl<'a> Site<'a> {
     fn after(&self, alloc: Global) -> Result<After, AllocError>
         ensures { IfOk result (IsAfter self.now) }
     {
-        let _ = &self.first;
+        use_invariant!(self.first);
         let cells = self.cells(alloc)?;
         let ends = self.free_ends(alloc)?;
         let wires = wires(alloc, cells.as_slice(), ends.as_slice())?;
@@ -188,6 +189,7 @@ pub(crate) fn arity(net: &Net, agent: AgentNo) -> u32
 {
     match &net.cells()[agent.0 as usize] {
         Some(cell) => cell.ends.len() as u32 - 1,
+        // The agent is there: it is asked for.
         None => unreachable!(),
     }
 }

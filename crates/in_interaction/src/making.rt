@@ -2,10 +2,11 @@ ghost use Rattle.std.specs.Prelude.{◌≡◌, ◌≢◌, ◌<◌, length, IfOk,
 ghost use Rattle.in_interaction.specs.Interacting.{unused, MayInteract, CanInteract};
 ghost use Rattle.in_net.specs.Interactions.{other};
 ghost use Rattle.in_interaction.specs.Made.{AreMade};
-ghost use Rattle.in_interaction.specs.Making.{side_of, Over, LeadsTo, IsLanding, principal_of, IsSymbolAfter, IsPairAt, AddsOwn};
+ghost use Rattle.in_interaction.specs.Making.{side_of, Over, LeadsTo, IsLanding, principal_of, IsSymbolAfter, IsPairAtEnd, AddsOwn};
 
 use crate::following::Site;
 use crate::interacting::{arity, unused};
+use in_base::use_invariant;
 use in_net::{AgentNo, Net, Point, Rule, in_order};
 use in_symbols::{SymbolNo, Symbols};
 use in_syntax::MAX_PORTS;
@@ -78,7 +79,7 @@ impl<'a> Site<'a> {
         requires { end < length self.now.rule.member.free }
         ensures { IsLanding self.now (side_of side) end result }
     {
-        let _ = &self.first;
+        use_invariant!(self.first);
         let mut by = side;
         let mut at = end;
         for wire in 0..MOST_WIRES {
@@ -102,7 +103,7 @@ impl<'a> Site<'a> {
         requires two { agent ≢ self.now.two }
         ensures { IsSymbolAfter self.now agent result }
     {
-        let _ = &self.first;
+        use_invariant!(self.first);
         match self.net.symbol(agent) {
             Some(symbol) => Some(symbol),
             None => self.rule.member().symbol(self.named(agent)?),
@@ -113,9 +114,9 @@ impl<'a> Site<'a> {
     fn pair_through(&self, symbols: &Symbols, end: u32) -> Option<(AgentNo, AgentNo)>
         requires over { Over self.now symbols.now }
         requires end { end < length self.now.rule.member.free }
-        ensures { IsPairAt symbols.now self.now end result }
+        ensures { IsPairAtEnd symbols.now self.now end result }
     {
-        let _ = &self.first;
+        use_invariant!(self.first);
         let one = principal(self.landing(Side::Outer, end)?)?;
         let other = principal(self.landing(Side::Inner, end)?)?;
         let first = self.symbol_after(one)?;
@@ -134,7 +135,7 @@ impl<'a> Site<'a> {
         requires over { Over self.now symbols.now }
         ensures { OnOk result (AddsOwn symbols.now self.now pairs.old.items pairs.new.items) }
     {
-        let _ = &self.first;
+        use_invariant!(self.first);
         let right = self.rule.member();
         for wire in 0..right.wires() {
             if let Some((one, other)) = right.pair_of_wire(symbols, wire) {

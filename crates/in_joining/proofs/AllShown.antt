@@ -5,12 +5,12 @@ use Rattle.std.proofs.lemmas.List.{length-take-le}
 use Rattle.in_arena.specs.Arenas.{ArenaView, state_at}
 use Rattle.in_arena.specs.States.{State, Vacant, Leased, Live, places, word_of, end_at}
 use Rattle.in_arena.specs.declared.content.End.{End}
-use Rattle.in_check.proofs.Reached.Renaming.{is_some as some_here}
-use Rattle.in_interaction.proofs.Interactions.Alternating.{has_value}
+use Rattle.in_check.proofs.Public.{is_some as some_here}
+use Rattle.in_interaction.proofs.Public.{has_value}
 use Rattle.in_net.specs.Nets.{Point, Port, Free, Net, signature_of}
 use Rattle.in_symbols.specs.Tables.{Tables}
 use Rattle.in_glue.specs.AsGluing.{ends_from}
-use Rattle.in_glue.proofs.Gluing.EndByEnd.{ends_from_none_to_all, all_joined_is_step}
+use Rattle.in_glue.proofs.Public.{ends_from_none_to_all, all_joined_is_step}
 use Rattle.in_joining.specs.Between.{Interaction, before, redex_of, IsBetween, IsDone}
 use Rattle.in_joining.specs.Shown.{point_of, stands_at, IsSideBelow, IsPointUpTo, IsShown, IsShownUpTo}
 use Rattle.in_joining.specs.Start.{ShownIsStep}

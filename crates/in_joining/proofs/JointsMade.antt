@@ -17,13 +17,10 @@ use Rattle.in_glue.specs.AsGluing.{ends_from, two_parts, old_and_new}
 use Rattle.in_glue.specs.EndByEnd.{outer_end, inner_end}
 use Rattle.in_glue.specs.Joining.{JoinsEnds}
 use Rattle.in_glue.specs.MadeByJoining as made
-use Rattle.in_glue.proofs.Gluing.AsGluing.{agent_back}
-use Rattle.in_glue.proofs.Gluing.Cutting.{join_exists}
-use Rattle.in_glue.proofs.Gluing.EndByEnd.{ends_are_joined_in_turn, ends_from_have_one_more, ends_from_none_to_all}
-use Rattle.in_glue.proofs.Gluing.MadeByJoining.{pairs_are_made_where_joined, none_is_made_first, one_more_is_made, no_more_is_made, all_made_are_over_ends}
-use Rattle.in_glue.proofs.Gluing.Points.{mapped}
-use Rattle.in_glue.proofs.Gluing.TakenApart.{taken_apart_has_joined_none}
-use Rattle.in_opening.proofs.TextRules.{same_symbol}
+use Rattle.in_glue.proofs.Public.{agent_back, join_exists, ends_are_joined_in_turn, ends_from_have_one_more, ends_from_none_to_all}
+use Rattle.in_glue.proofs.Public.{pairs_are_made_where_joined, none_is_made_first, one_more_is_made, no_more_is_made}
+use Rattle.in_glue.proofs.Public.{all_made_are_over_ends, mapped, taken_apart_has_joined_none}
+use Rattle.in_open_nets_of_programs.proofs.Public.{same_symbol}
 use Rattle.in_joining.specs.Between.{Interaction, before, redex_of, IsWith, IsReady, IsBetween, HasMade, AddsMade}
 use Rattle.in_joining.specs.Cells.{KeepsCells}
 use Rattle.in_joining.specs.Pairs.{IsPrincipal, IsPairOf, IsNoPair, AddsPair}

@@ -4,7 +4,7 @@ use Rattle.std.proofs.lemmas.Option.{get_or_from_slice_get}
 use Rattle.in_arena.specs.Arenas.{ArenaView, state_at}
 use Rattle.in_arena.specs.declared.content.End.{End}
 use Rattle.in_arena.specs.declared.content.End.TheVariants as end
-use Rattle.in_arena.proofs.OneRegion.{places_live}
+use Rattle.in_arena.proofs.Public.{places_live}
 use Rattle.in_symbols.specs.Tables.{Tables}
 use Rattle.in_joining.specs.Between.{Interaction, IsReady, IsBetween, IsDone, HasMade, AddsMade}
 use Rattle.in_joining.specs.Cells.{KeepsCells, HasSymbols}

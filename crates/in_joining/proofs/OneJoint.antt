@@ -5,12 +5,11 @@ use Rattle.std.specs.Prelude.{IsSome}
 use Rattle.in_base.proofs.Places.{some_same}
 use Rattle.in_arena.specs.Arenas.{ArenaView}
 use Rattle.in_arena.specs.declared.content.End.{End}
-use Rattle.in_check.proofs.Reached.Renaming.{is_some as some_here}
-use Rattle.in_interaction.proofs.Interactions.Alternating.{has_value}
+use Rattle.in_check.proofs.Public.{is_some as some_here}
+use Rattle.in_interaction.proofs.Public.{has_value}
 use Rattle.in_net.specs.Nets.{Point, Port, Free, Net}
 use Rattle.in_glue.specs.Joining.{JoinsEnds, WiresLeadBack, IsNeither, ArePartnersAfter}
-use Rattle.in_glue.proofs.Gluing.Cutting.{same_point}
-use Rattle.in_glue.proofs.Gluing.Points.{same_free}
+use Rattle.in_glue.proofs.Public.{same_point, same_free}
 use Rattle.in_joining.specs.Cells.{KeepsCells}
 use Rattle.in_joining.specs.Shown.{end_of, stands_at, IsPlaceAt, IsSideBelow, IsPointUpTo, IsShownUpTo, AreExchanged}
 use Rattle.in_joining.proofs.Kept.{word_kept, places_kept}

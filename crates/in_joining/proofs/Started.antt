@@ -7,22 +7,18 @@ use Rattle.in_arena.specs.Arenas.{ArenaView, state_at}
 use Rattle.in_arena.specs.States.{State, Vacant, Leased, Live, places, word_of, end_at}
 use Rattle.in_arena.specs.declared.content.End.{End}
 use Rattle.in_arena.specs.declared.content.End.TheVariants as end
-use Rattle.in_check.proofs.Reached.Renaming.{is_some as some_here}
-use Rattle.in_interaction.proofs.Interactions.Alternating.{has_value}
+use Rattle.in_check.proofs.Public.{is_some as some_here}
+use Rattle.in_interaction.proofs.Public.{has_value}
 use Rattle.in_net.specs.Interactions.{Redex, Outer}
 use Rattle.in_net.specs.Nets.{Point, Port, Free, Signature, Net, IsPoint, net_of, signature_of}
-use Rattle.in_net.proofs.PairPorts.{symbol_of}
+use Rattle.in_net.proofs.Public.{symbol_of, symbol_known}
 use Rattle.in_symbols.specs.Tables.{Tables, IsSymbol}
 use Rattle.in_symbols.specs.declared.symbols.SymbolNo.{SymbolNo}
 use Rattle.in_net.specs.Built.{IsOver}
 use Rattle.in_net.specs.Parts.{Parts, symbol_in}
-use Rattle.in_net.proofs.ActivePairs.{symbol_known}
 use Rattle.in_glue.specs.AsGluing.{IsInRest, IsRestOf, CanStep, boundary_port}
 use Rattle.in_glue.specs.EndByEnd.{outer_end, inner_end, IsOuterAt, IsInnerAt, IsTakenApart}
-use Rattle.in_glue.proofs.Gluing.Boundary.{next_outer, at_end}
-use Rattle.in_glue.proofs.Gluing.Points.{mapped}
-use Rattle.in_glue.proofs.Gluing.Rest.{rest_exists}
-use Rattle.in_glue.proofs.Gluing.Standing.{taken_apart_exists}
+use Rattle.in_glue.proofs.Public.{next_outer, at_end, mapped, rest_exists, taken_apart_exists}
 use Rattle.in_joining.specs.Between.{Interaction, before, redex_of}
 use Rattle.in_joining.specs.Shown.{point_of, end_of, stands_at, IsSideBelow, IsPointUpTo, IsShownUpTo}
 use Rattle.in_joining.specs.Start.{IsNew, AreSet, SetHasSymbols, SetIsReady}

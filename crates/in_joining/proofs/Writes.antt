@@ -6,7 +6,7 @@ use Rattle.in_arena.specs.Arenas.{ArenaView, state_at, changed}
 use Rattle.in_arena.specs.States.{State, Vacant, Leased, Live, places, end_at, with_end}
 use Rattle.in_arena.specs.declared.content.End.{End}
 use Rattle.in_arena.specs.declared.content.End.TheVariants as end
-use Rattle.in_arena.proofs.Arenas.{state_inside, placed_here}
+use Rattle.in_arena.proofs.Public.{state_inside, placed_here}
 use Rattle.in_net.specs.Nets.{Point, Port, Free}
 use Rattle.in_joining.specs.Cells.{KeepsCells}
 use Rattle.in_joining.specs.Shown.{point_of, end_of, stands_at, IsPlaceAt, IsWritten, AreExchanged}

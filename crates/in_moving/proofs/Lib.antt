@@ -1,4 +1,5 @@
 pub mod Beside
+pub mod Public
 pub mod Shown
 pub mod Split
 pub mod Taken

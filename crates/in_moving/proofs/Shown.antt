@@ -9,7 +9,7 @@ use Rattle.in_arena.specs.declared.content.CellNo.{CellNo}
 use Rattle.in_arena.specs.declared.content.End.{End}
 use Rattle.in_arena.specs.declared.content.End.TheVariants.{Cell, Free as FreeEnd}
 use Rattle.in_net.specs.Nets.{Point, Port, Net}
-use Rattle.in_glue.proofs.Gluing.Points.{mapped}
+use Rattle.in_glue.proofs.Public.{mapped}
 use Rattle.in_glue.specs.Joining.{WiresLeadBack}
 use Rattle.in_joining.specs.Shown.{IsShown, point_of, stands_at}
 use Rattle.in_moving.specs.Copying.{LeadsInto, moved, moved_end, name_in, number_in}

@@ -8,12 +8,12 @@ use Rattle.in_arena.specs.States.{State, Vacant, Leased, Live, IsLive, end_at, w
 use Rattle.in_arena.specs.declared.content.CellNo.{CellNo}
 use Rattle.in_arena.specs.declared.content.End.{End}
 use Rattle.in_arena.specs.declared.content.End.TheVariants.{Cell, Free as FreeEnd}
-use Rattle.in_arena.proofs.Arenas.{word_live}
+use Rattle.in_arena.proofs.Public.{word_live}
 use Rattle.in_net.specs.Nets.{Point, Port, Free, Net}
 use Rattle.in_glue.specs.AsGluing.{old_and_new, two_parts}
 use Rattle.in_glue.specs.Joining.{IsAtNumber, IsBeside, WiresLeadBack}
 use Rattle.in_glue.specs.Laws.{KeepsApart}
-use Rattle.in_glue.proofs.Gluing.Points.{mapped}
+use Rattle.in_glue.proofs.Public.{mapped}
 use Rattle.in_joining.specs.Shown.{point_of}
 use Rattle.in_parts.specs.Leading.{StandBeside}
 use Rattle.in_moving.specs.Copying.{IsCopied, name_in, number_in}

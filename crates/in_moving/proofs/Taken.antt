@@ -14,9 +14,7 @@ use Rattle.in_arena.specs.States.{State, Vacant, Leased, Live, IsBegun, IsLive, 
 use Rattle.in_arena.specs.declared.content.CellClass.{CellClass}
 use Rattle.in_arena.specs.declared.content.CellClass.TheVariants.{Small, Large, Wide}
 use Rattle.in_arena.specs.declared.content.CellNo.{CellNo}
-use Rattle.in_arena.proofs.Arenas.{changed_same, vacant_inside}
-use Rattle.in_arena.proofs.Bags.{changed_twice}
-use Rattle.in_arena.proofs.Changes.{counts_change}
+use Rattle.in_arena.proofs.Public.{changed_same, vacant_inside, changed_twice, counts_change}
 use Rattle.in_moving.specs.Copying.{ArePart, AreAlike, HasRoom, is_for, name_in}
 use Rattle.in_moving.specs.CopyingSteps.{TakesCell, HasCell, AreTakenBelow, AreCellsFor}
 

@@ -11,10 +11,7 @@ use Rattle.in_arena.specs.declared.content.CellClass.{CellClass}
 use Rattle.in_arena.specs.declared.content.CellNo.{CellNo}
 use Rattle.in_arena.specs.declared.content.End.{End}
 use Rattle.in_arena.specs.declared.content.End.TheVariants.{Cell, Free}
-use Rattle.in_arena.proofs.Bags.{changed_twice}
-use Rattle.in_arena.proofs.Changes.{counts_change}
-use Rattle.in_arena.proofs.Classes.{class_of_number}
-use Rattle.in_arena.proofs.Arenas.{live_inside}
+use Rattle.in_arena.proofs.Public.{changed_twice, counts_change, class_of_number, live_inside}
 use Rattle.in_moving.specs.Copying.{ArePart, LeadsInto, IsWithin, AreAlike, is_for, moved, moved_end, name_in, number_in, IsCopied}
 use Rattle.in_moving.specs.CopyingSteps.{AreTakenBelow, AreCellsFor, IsBeingWritten, AreWrittenBelow}
 

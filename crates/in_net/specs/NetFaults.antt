@@ -11,7 +11,7 @@ use Rattle.in_syntax.specs.Refusals.{IsFirstOf, HasNone}
 use Rattle.in_symbols.specs.Tables.{Tables, arity_of}
 use Rattle.in_symbols.specs.Names.{number_in}
 use Rattle.in_base.specs.Lists.{IsAmong}
-use Rattle.in_net.specs.TextNet.{Body, LeftHead, IsTermOf, IsAgent, IsVariable, name_of, place_of, Written, agents_of_body, IsClosedWireOf}
+use Rattle.in_net.specs.TextNet.{Body, LeftHead, IsTermOf, IsAgentOfTerm, IsVariable, name_of, place_of, Written, agents_of_body, IsClosedWireOf}
 
 -- the most agents that the initial net may have, and the most that a right member may have
 abbrev pub max_agents : ℕ
@@ -29,7 +29,7 @@ pub record IsAgentMisfitAt (t : Tables) (b : Body) (p : Place) : Type 0 where
   pub term : Term
   pub there : IsTermOf b term
   pub symbol : ℕ
-  pub agent : IsAgent t term symbol
+  pub agent : IsAgentOfTerm t term symbol
   pub apart : length (out-Term term).args ≢ arity_of t symbol
   pub place : place_of term ≡ p
 

@@ -50,26 +50,26 @@ with_joint r one port other place = record r { joints = r.joints ++ record { one
 -- ---- a term is read name by name, each agent before its arguments
 
 -- how a term is read, with the place of its first token: what is read then, and the number of its spot
-pub record Reader : Type 0 where
+pub record TermReader : Type 0 where
   pub place : Place
   pub reads : Reading → Reading × ℕ
 
 -- each argument in turn: it is joined to the spot of its agent's place, at its first token
-abbrev pub reads_arguments : ℕ → List Reader → ℕ → Reading → Reading
+abbrev pub reads_arguments : ℕ → List TermReader → ℕ → Reading → Reading
 reads_arguments first [] port r = r
 reads_arguments first (a ∷ more) port r =
     let there = a.reads r in
     reads_arguments first more (port + 1) (with_joint there.0 first port there.1 a.place)
 
-abbrev pub reads_name : Tables → Term-F Reader → Option ℕ → Reading → Reading × ℕ
+abbrev pub reads_name : Tables → Term-F TermReader → Option ℕ → Reading → Reading × ℕ
 reads_name t f None r = (with_occurrence r f.name, length r.spots)
 reads_name t f (Some s) r = (reads_arguments (length r.spots) f.args 1 (with_agent r (record { 0 = s }) (arity_of t s) f.name.place), length r.spots)
 
-abbrev pub reader_step : Tables → Term-F Reader → Reader
+abbrev pub reader_step : Tables → Term-F TermReader → TermReader
 reader_step t f = record { place = f.name.place; reads = reads_name t f (number_in f.name.text t.names) }
 
-abbrev pub reader_of : Tables → Term → Reader
-reader_of t = fold-Term Reader (reader_step t)
+abbrev pub reader_of : Tables → Term → TermReader
+reader_of t = fold-Term TermReader (reader_step t)
 
 -- both terms, joined at the ~
 abbrev pub reads_equation : Tables → Equation → Reading → Reading

@@ -77,7 +77,7 @@ auxiliary_types t s = types_from t s 1 (arity_of t s)
 
 -- the right member: the agents and wires of the rule's text, and as free ends the auxiliary places of the two symbols, each declared
 -- with that place's type and without a name; each point is in exactly one of these wires
-pub record IsMemberOf (t : Tables) (r : SourceRule) (m : Parts) : Type 0 where
+pub record IsRightMemberOf (t : Tables) (r : SourceRule) (m : Parts) : Type 0 where
   pub agents : HasAgentsOf t (body_of_rule t r) m
   pub types : map (λ f. f.kind) m.free ≡ auxiliary_types t (heads_of t r).0.0 ++ auxiliary_types t (heads_of t r).1.0
   pub unnamed : AllByRecursion (λ f. f.name ≡ []) m.free
@@ -89,7 +89,7 @@ pub record IsRuleOf (t : Tables) (r : SourceRule) (p : RuleParts) : Type 0 where
   pub written : p.written ≡ written_of t r
   pub heads : p.heads ≡ heads_of t r
   pub head_places : p.head_places ≡ (r.first.name.place, r.second.name.place)
-  pub member : IsMemberOf t r p.member
+  pub member : IsRightMemberOf t r p.member
 
 -- the rule is over these tables: its symbols are declared, and the right member is a net over them, as built
 pub record IsRuleOver (t : Tables) (p : RuleParts) : Type 0 where

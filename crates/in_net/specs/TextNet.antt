@@ -58,8 +58,8 @@ abbrev pub place_of : Term → Place
 place_of u = (out-Term u).name.place
 
 -- an agent: its name is that symbol's, wherever it is declared
-abbrev pub IsAgent : Tables → Term → ℕ → Type 0
-IsAgent t u s = number_in (name_of u) t.names ≡ Some s
+abbrev pub IsAgentOfTerm : Tables → Term → ℕ → Type 0
+IsAgentOfTerm t u s = number_in (name_of u) t.names ≡ Some s
 
 -- a variable or a free name: its name is no symbol's
 abbrev pub IsVariable : Tables → Term → Type 0

@@ -43,6 +43,7 @@ pub(crate) fn partner(spots: &[Spot], links: &[Link], at: usize) -> Point
 {
     match point_of(spots[links[at].to]) {
         Some(point) => point,
+        // Once all is joined, no spot is joined to an occurrence.
         None => unreachable!(),
     }
 }
@@ -133,6 +134,7 @@ fn wire_from(spots: &[Spot], links: &[Link], at: usize) -> Option<Wire>
             other: partner(spots, links, at),
             place: link.place,
         }),
+        // Once all is joined, an occurrence is joined to no later spot.
         None => unreachable!(),
     }
 }

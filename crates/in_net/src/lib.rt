@@ -16,7 +16,7 @@
 //!
 //! `pairs` finds each active pair at its lower number; `copying` copies a net. `renewing` puts other agents and wires into a net, whose
 //! free ends stay and get their new partners (`rejoin`). What an interaction is (`specs/Interactions.antt`) is defined here as well,
-//! since `in_opening` and `in_typing` speak of it, which are proved beside `in_interaction`.
+//! since `in_open_nets_of_programs` and `in_typing` speak of it, which are proved beside `in_interaction`.
 #![tactic(auto)]
 
 mod building;

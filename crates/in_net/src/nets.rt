@@ -148,6 +148,7 @@ impl Net {
         match point {
             Point::Port(agent, place) => match &self.cells.as_slice()[agent.0 as usize] {
                 Some(cell) => cell.ends.as_slice()[place as usize],
+                // A point of the net is a port of an agent that is there.
                 None => unreachable!(),
             },
             Point::Free(number) => self.free.as_slice()[number as usize].end,

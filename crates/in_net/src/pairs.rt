@@ -5,6 +5,7 @@ ghost use Rattle.in_net.specs.Built.{IsOver};
 ghost use Rattle.in_net.specs.declared.nets.AgentNo.{AgentNo};
 
 use crate::nets::{AgentNo, Net, Point};
+use in_base::use_invariant;
 use in_symbols::{SymbolNo, Symbols};
 use std::alloc::{AllocError, Global};
 
@@ -35,7 +36,7 @@ impl Net {
         requires { IsOver symbols.now self.now }
         ensures { MatchOption result ((b : AgentNo) → AreActive self.now agent b → b.0 < agent.0) (λ q. IsActivePair symbols.now self.now q × (lower_of q ≡ agent.0)) }
     {
-        let _ = &self.cells;
+        use_invariant!(self.cells);
         let first = self.symbol(agent)?;
         match self.partner(Point::Port(agent, 0)) {
             Point::Port(other, 0) if agent.0 < other.0 => {
@@ -52,7 +53,7 @@ impl Net {
         requires wire { wire < length self.now.wires }
         ensures { MatchOption result ((q : AgentNo × AgentNo) → JoinsAgents self.now wire q → ⊥) (λ q. IsActivePair symbols.now self.now q × JoinsAgents self.now wire q) }
     {
-        let _ = &self.cells;
+        use_invariant!(self.cells);
         let (from, to) = self.wire(wire);
         let one = from.principal()?;
         let other = to.principal()?;
@@ -72,7 +73,7 @@ impl Net {
         requires { IsOver symbols.now self.now }
         ensures { IfOk result (λ pairs. ArePairsOf symbols.now self.now pairs.items) }
     {
-        let _ = &self.cells;
+        use_invariant!(self.cells);
         let mut pairs = Vec::new(alloc);
         for number in 0..self.cells().len() {
             if let Some(pair) = self.pair_at(symbols, AgentNo(number as u32)) {

@@ -4,6 +4,7 @@ ghost use Rattle.in_net.specs.Parts.{IsWhole};
 ghost use Rattle.in_net.specs.Rules.{place_of_head};
 
 use crate::nets::{Cell, Net};
+use in_base::use_invariant;
 use in_symbols::SymbolNo;
 use in_syntax::Place;
 use std::marker::Model;
@@ -72,7 +73,7 @@ impl Rule {
         ensures few { length self.now.member.cells ≤ max_member_agents }
         ensures whole { IsWhole self.now.member }
     {
-        let _ = &self.member;
+        use_invariant!(self.member);
         self.member.cells()
     }
 }

@@ -15,8 +15,8 @@ abbrev pub IsRead : Source → Type 0
 IsRead s = IsOfText s × IsSized s × IsWrittenInOrder s
 
 -- a tree that was read, with its tables
-abbrev pub IsProgram : Source → Tables → Type 0
-IsProgram s t = IsSized s × IsWrittenInOrder s × IsTabled s t × IsFaultless s
+abbrev pub IsReadProgram : Source → Tables → Type 0
+IsReadProgram s t = IsSized s × IsWrittenInOrder s × IsTabled s t × IsFaultless s
 
 -- a net as built
 abbrev pub IsBuilt : Tables → Parts → Type 0

@@ -3,7 +3,7 @@ ghost use Rattle.std.specs.Prelude.{IfOk, IfSome};
 ghost use Rattle.in_net.specs.ActivePairs.{AreActive};
 ghost use Rattle.in_net.specs.Built.{IsOver};
 ghost use Rattle.in_net.specs.Rules.{IsRuleOver};
-ghost use Rattle.in_net_tests.specs.Texts.{IsProgram, HasTypesOfHeads};
+ghost use Rattle.in_net_tests.specs.Texts.{IsReadProgram, HasTypesOfHeads};
 
 use crate::texts::{Look, net_in, rule_in};
 use in_interaction::{MOST_AGENTS, made};
@@ -120,7 +120,7 @@ fn makes_first(
     net: &Net,
     expected: &[(u32, u32)],
 ) -> Result<bool, Fault>
-    requires program { IsProgram source.now symbols.now }
+    requires program { IsReadProgram source.now symbols.now }
     requires over { IsOver symbols.now net.now }
 {
     if source.rules.len() == 0 {

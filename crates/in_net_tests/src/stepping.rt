@@ -3,7 +3,7 @@ ghost use Rattle.std.specs.Prelude.{IfOk, IfSome, OnOk};
 ghost use Rattle.in_net.specs.ActivePairs.{AreActive};
 ghost use Rattle.in_net.specs.Built.{IsOver};
 ghost use Rattle.in_net.specs.Rules.{IsRuleOver};
-ghost use Rattle.in_net_tests.specs.Texts.{IsProgram, IsBuiltRule, HasTypesOfHeads};
+ghost use Rattle.in_net_tests.specs.Texts.{IsReadProgram, IsBuiltRule, HasTypesOfHeads};
 
 use crate::pairs::are_the_pairs;
 use crate::texts::{Look, net_in, rule_in};
@@ -22,7 +22,7 @@ fn rule_for(
     net: &Net,
     pair: (AgentNo, AgentNo),
 ) -> Result<Option<Rule>, Fault>
-    requires { IsProgram source.now symbols.now }
+    requires { IsReadProgram source.now symbols.now }
     ensures { IfOk result (λ found. IfSome found (IsBuiltRule symbols.now)) }
 {
     for number in 0..source.rules.len() as u32 {
@@ -70,7 +70,7 @@ fn step(
     net: &mut Net,
     last: bool,
 ) -> Result<bool, Fault>
-    requires program { IsProgram source.now symbols.now }
+    requires program { IsReadProgram source.now symbols.now }
     requires over { IsOver symbols.now net.old }
     ensures { OnOk result (IsOver symbols.now net.new) }
 {
@@ -105,7 +105,7 @@ fn steps(
     net: &mut Net,
     last: bool,
 ) -> Result<(Items<u32>, bool), Fault>
-    requires program { IsProgram source.now symbols.now }
+    requires program { IsReadProgram source.now symbols.now }
     requires over { IsOver symbols.now net.old }
 {
     let mut counts = Items::new(alloc);
@@ -127,7 +127,7 @@ fn counted(
     symbols: &Symbols,
     last: bool,
 ) -> Result<(Items<u32>, bool), Fault>
-    requires { IsProgram source.now symbols.now }
+    requires { IsReadProgram source.now symbols.now }
 {
     let mut net = net_in(alloc, source, symbols)?;
     steps(alloc, source, symbols, &mut net, last)
@@ -187,7 +187,7 @@ fn before_step(
     symbols: &Symbols,
     net: &mut Net,
 ) -> Result<Net, Fault>
-    requires program { IsProgram source.now symbols.now }
+    requires program { IsReadProgram source.now symbols.now }
     requires over { IsOver symbols.now net.old }
 {
     let before = copy_alone(alloc, net)?;

@@ -3,7 +3,7 @@
 //! prover much at each way out of a function, so `seen_in` and `seen_of` alone own them, and
 //! tests look at them.
 ghost use Rattle.std.specs.Prelude.{◌<◌, length, IfOk};
-ghost use Rattle.in_net_tests.specs.Texts.{IsRead, IsProgram, IsBuilt, IsBuiltRule};
+ghost use Rattle.in_net_tests.specs.Texts.{IsRead, IsReadProgram, IsBuilt, IsBuiltRule};
 
 use in_net::{Net, Rule, build_net, build_rule};
 use in_symbols::Symbols;
@@ -15,7 +15,7 @@ use std::alloc::Global;
 pub trait Look<A> {
     /// Its answer, or the refusal of the text.
     fn look(&self, alloc: Global, source: &Source, symbols: &Symbols) -> Result<A, Fault>
-        requires { IsProgram source.now symbols.now };
+        requires { IsReadProgram source.now symbols.now };
 }
 
 /// The tree of a text, or its refusal.
@@ -28,7 +28,7 @@ fn tree_of(alloc: Global, text: &str) -> Result<Source, Fault>
 /// The tables of a tree, or its refusal.
 fn tables_of(alloc: Global, source: &Source) -> Result<Symbols, Fault>
     requires { IsRead source.now }
-    ensures { IfOk result (IsProgram source.now) }
+    ensures { IfOk result (IsReadProgram source.now) }
 {
     Symbols::build(alloc, source)
 }
@@ -68,7 +68,7 @@ pub fn refused_at<A: Drop>(answer: Result<A, Fault>) -> Option<(Code, u32, u32)>
 
 /// The net of a program, or its refusal.
 pub fn net_in(alloc: Global, source: &Source, symbols: &Symbols) -> Result<Net, Fault>
-    requires { IsProgram source.now symbols.now }
+    requires { IsReadProgram source.now symbols.now }
     ensures { IfOk result (IsBuilt symbols.now) }
 {
     build_net(alloc, source, symbols)
@@ -81,7 +81,7 @@ pub fn rule_in(
     symbols: &Symbols,
     number: u32,
 ) -> Result<Rule, Fault>
-    requires program { IsProgram source.now symbols.now }
+    requires program { IsReadProgram source.now symbols.now }
     requires number { number < length source.now.rules }
     ensures { IfOk result (IsBuiltRule symbols.now) }
 {

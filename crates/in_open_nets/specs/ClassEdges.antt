@@ -2,8 +2,8 @@
 use Rattle.std.specs.Prelude.{◌≡◌, ◌⊎◌, ℕ, ◌+◌, ◌*◌, ◌<◌, ◌≤◌, Bool, List, length, slice_get, slice_index_or, Some}
 use Rattle.in_open_nets.specs.declared.class_graphs.HubNumbers.{HubNumbers}
 use Rattle.in_open_nets.specs.declared.class_graphs.ClassGraph.{ClassGraph}
-use Rattle.in_open_nets.specs.declared.open_nets.Point.TheVariants.{Port}
-use Rattle.in_bridges.specs.Spans.{AreWithin}
+use Rattle.in_open_nets.specs.declared.open_nets.OpenPoint.TheVariants.{Port}
+use Rattle.in_simple_bridges.specs.Spans.{AreWithin}
 use Rattle.in_open_nets.specs.Constructions.{IsIn}
 use Rattle.in_open_nets.specs.OpenNets.{OpenNet, IsWire, class_in, open_graph}
 use Rattle.in_open_nets.specs.Members.{nodes_in}

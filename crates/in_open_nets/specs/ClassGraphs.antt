@@ -2,7 +2,7 @@
 -- and the wires between the classes of their ports. This project's own: by its bridges it is decided which nodes split the set.
 use Rattle.std.specs.Prelude.{◌≡◌, ◌⊎◌, ℕ, suc, ◌<◌, Bool, List, length, slice_get, Option, Some, None}
 use Rattle.in_base.specs.Graphs.{Graph}
-use Rattle.in_bridges.specs.Ways.{Way, Joins, IsOnRing}
+use Rattle.in_simple_bridges.specs.Ways.{Way, HasTwoEnds, IsOnRing}
 use Rattle.in_open_nets.specs.declared.open_nets.Node.TheVariants.{AgentNode, ClassNode}
 use Rattle.in_open_nets.specs.declared.open_nets.OpenNode.{OpenNode}
 use Rattle.in_open_nets.specs.Constructions.{IsIn}
@@ -13,8 +13,8 @@ pub data Vertex (V : Type 0) : Type 0 where
   Class : V → ℕ → Vertex V
 
 -- which numbers are classes of a node, those of its wired ports among them
-abbrev pub AreClasses : (g : Graph) → (g.Node → ℕ → Type 0) → Type 0
-AreClasses g Has = (m : g.Node) (i : ℕ) (q : g.Node × ℕ) → g.Wire (m, i) q → Has m (g.class m i)
+abbrev pub AreNodeClasses : (g : Graph) → (g.Node → ℕ → Type 0) → Type 0
+AreNodeClasses g Has = (m : g.Node) (i : ℕ) (q : g.Node × ℕ) → g.Wire (m, i) q → Has m (g.class m i)
 
 -- the edge from the hub of m to its class k, where that isn't the one from n to c
 abbrev pub OtherHubEdge : (g : Graph) → (g.Node → ℕ → Type 0) → (g.Node → Bool) → g.Node → ℕ → g.Node → ℕ → Type 0
@@ -41,7 +41,7 @@ IsVertex g Has s (Class m k) = IsIn m s × Has m k
 pub record IsClassGraph (g : Graph) (Has : g.Node → ℕ → Type 0) (s : g.Node → Bool) (number : Vertex g.Node → ℕ) (hub_edge : g.Node → ℕ → ℕ) (es : List (ℕ × ℕ)) : Type 0 where
   pub apart : (u v : Vertex g.Node) → IsVertex g Has s u → IsVertex g Has s v → number u ≡ number v → u ≡ v
   pub hub : (m : g.Node) (k : ℕ) → IsIn m s → Has m k → slice_get es (hub_edge m k) ≡ Some (number (Hub m), number (Class m k))
-  pub wire : (l m : g.Node) (i j : ℕ) → IsIn l s → IsIn m s → g.Wire (l, i) (m, j) → (e : ℕ) × Joins es e (number (Class l (g.class l i))) (number (Class m (g.class m j)))
+  pub wire : (l m : g.Node) (i j : ℕ) → IsIn l s → IsIn m s → g.Wire (l, i) (m, j) → (e : ℕ) × HasTwoEnds es e (number (Class l (g.class l i))) (number (Class m (g.class m j)))
   pub only : (e a b : ℕ) → slice_get es e ≡ Some (a, b) → ((m : g.Node) × (k : ℕ) × IsIn m s × Has m k × (e ≡ hub_edge m k))
       ⊎ ((l : g.Node) × (m : g.Node) × (i : ℕ) × (j : ℕ) × IsIn l s × IsIn m s × g.Wire (l, i) (m, j) × (a ≡ number (Class l (g.class l i))) × (b ≡ number (Class m (g.class m j))))
 

@@ -2,8 +2,8 @@
 use Rattle.std.specs.Prelude.{◌≡◌, ℕ, suc, ◌+◌, ◌-◌, ◌<◌, Bool, false, cond, ◌||◌, nat_eq, List, [], ◌∷◌, length, slice_get, Some}
 pub use Rattle.in_open_nets.specs.declared.derivations.Step.{Step}
 pub use Rattle.in_open_nets.specs.declared.derivations.Step.TheVariants.{Empty, Link, Given, Graft, Cut, Mix}
-use Rattle.in_open_nets.specs.declared.open_nets.Point.{Point}
-use Rattle.in_open_nets.specs.declared.open_nets.Point.TheVariants.{Port, Free}
+use Rattle.in_open_nets.specs.declared.open_nets.OpenPoint.{OpenPoint}
+use Rattle.in_open_nets.specs.declared.open_nets.OpenPoint.TheVariants.{Port, Free}
 use Rattle.in_open_nets.specs.Constructions.{IsIn}
 use Rattle.in_open_nets.specs.OpenNets.{OpenNet, IsAgent, IsClass, class_in, classes_of, IsWire}
 
@@ -36,25 +36,25 @@ own_links (Mix a b) = []
 pub record Part : Type 0 where
   pub nodes : ℕ → Bool
   pub links : ℕ → Bool
-  pub ends : Point → ℕ
+  pub ends : OpenPoint → ℕ
 
 abbrev pub one_if : ℕ → ℕ → ℕ
 one_if n m = cond (nat_eq n m) 1 0
 
 -- a port of a node of s; the principal port of n; another port of n; a free end
-abbrev pub is_port_in : (ℕ → Bool) → Point → ℕ
+abbrev pub is_port_in : (ℕ → Bool) → OpenPoint → ℕ
 is_port_in s (Port n i) = cond (s n) 1 0
 is_port_in s (Free k) = 0
 
-abbrev pub is_principal : ℕ → Point → ℕ
+abbrev pub is_principal : ℕ → OpenPoint → ℕ
 is_principal n (Port m i) = cond (nat_eq i 0) (one_if n m) 0
 is_principal n (Free k) = 0
 
-abbrev pub is_auxiliary : ℕ → Point → ℕ
+abbrev pub is_auxiliary : ℕ → OpenPoint → ℕ
 is_auxiliary n (Port m i) = cond (nat_eq i 0) 0 (one_if n m)
 is_auxiliary n (Free k) = 0
 
-abbrev pub is_free : Point → ℕ
+abbrev pub is_free : OpenPoint → ℕ
 is_free (Port n i) = 0
 is_free (Free k) = 1
 
@@ -71,7 +71,7 @@ abbrev pub links_of : List Part → ℕ → Bool
 links_of [] w = false
 links_of (x ∷ xs) w = x.links w || links_of xs w
 
-abbrev pub ends_of : List Part → Point → ℕ
+abbrev pub ends_of : List Part → OpenPoint → ℕ
 ends_of [] p = 0
 ends_of (x ∷ xs) p = x.ends p + ends_of xs p
 
@@ -95,8 +95,8 @@ AreEarlier parts k (i ∷ is) (x ∷ xs) = (i < k) × (slice_get parts i ≡ Som
 
 -- the end of a for q, where p is a's own port, and the end of b for p
 pub record IsCut (o : OpenNet) (w : ℕ) (a b : Part) : Type 0 where
-  pub p : Point
-  pub q : Point
+  pub p : OpenPoint
+  pub q : OpenPoint
   pub wire : IsWire o w p q
   pub own : is_port_in a.nodes p ≡ 1
   pub first : 0 < a.ends q
@@ -106,21 +106,21 @@ pub record IsCut (o : OpenNet) (w : ℕ) (a b : Part) : Type 0 where
 pub record IsGrafted (o : OpenNet) (n : ℕ) (xs : List Part) : Type 0 where
   pub agent : IsAgent o n
   pub many : length xs ≡ classes_of o n
-  pub each : (w i c : ℕ) (q : Point) (x : Part) → IsWire o w (Port n i) q → class_in o n i ≡ suc c → slice_get xs c ≡ Some x → 0 < x.ends (Port n i)
+  pub each : (w i c : ℕ) (q : OpenPoint) (x : Part) → IsWire o w (Port n i) q → class_in o n i ≡ suc c → slice_get xs c ≡ Some x → 0 < x.ends (Port n i)
 
 -- at each wire {p, q}, by number w: the ends for q
 abbrev pub Joins : OpenNet → Step → List Part → Part → Type 0
-Joins o Empty xs x = (w : ℕ) (p q : Point) → IsWire o w p q → x.ends q ≡ 0
-Joins o (Link v) xs x = ((p q : Point) × IsWire o v p q) × ((w : ℕ) (p q : Point) → IsWire o w p q → x.ends q ≡ one_if w v)
-Joins o (Given n) xs x = IsClass o n × ((w : ℕ) (p q : Point) → IsWire o w p q → x.ends q ≡ is_port_in (λ m. nat_eq m n) p)
-Joins o (Graft n steps) xs x = IsGrafted o n xs × ((w : ℕ) (p q : Point) → IsWire o w p q → x.ends q + is_auxiliary n q ≡ ends_of xs q + is_principal n p)
+Joins o Empty xs x = (w : ℕ) (p q : OpenPoint) → IsWire o w p q → x.ends q ≡ 0
+Joins o (Link v) xs x = ((p q : OpenPoint) × IsWire o v p q) × ((w : ℕ) (p q : OpenPoint) → IsWire o w p q → x.ends q ≡ one_if w v)
+Joins o (Given n) xs x = IsClass o n × ((w : ℕ) (p q : OpenPoint) → IsWire o w p q → x.ends q ≡ is_port_in (λ m. nat_eq m n) p)
+Joins o (Graft n steps) xs x = IsGrafted o n xs × ((w : ℕ) (p q : OpenPoint) → IsWire o w p q → x.ends q + is_auxiliary n q ≡ ends_of xs q + is_principal n p)
 Joins o (Cut v a b) [] x = ⊥
 Joins o (Cut v a b) (y ∷ []) x = ⊥
-Joins o (Cut v a b) (y ∷ z ∷ zs) x = IsCut o v y z × ((w : ℕ) (p q : Point) → IsWire o w p q → x.ends q + one_if w v ≡ y.ends q + z.ends q)
-Joins o (Mix a b) xs x = (w : ℕ) (p q : Point) → IsWire o w p q → x.ends q ≡ ends_of xs q
+Joins o (Cut v a b) (y ∷ z ∷ zs) x = IsCut o v y z × ((w : ℕ) (p q : OpenPoint) → IsWire o w p q → x.ends q + one_if w v ≡ y.ends q + z.ends q)
+Joins o (Mix a b) xs x = (w : ℕ) (p q : OpenPoint) → IsWire o w p q → x.ends q ≡ ends_of xs q
 
 -- step k builds x out of the parts of the steps that it names
-pub record Builds (o : OpenNet) (parts : List Part) (k : ℕ) (step : Step) (x : Part) : Type 0 where
+pub record BuildsPart (o : OpenNet) (parts : List Part) (k : ℕ) (step : Step) (x : Part) : Type 0 where
   pub from : List Part
   pub earlier : AreEarlier parts k (named step) from
   pub different : AreDifferent (named step)
@@ -140,7 +140,7 @@ times_in f n (x ∷ xs) = times n (f x) + times_in f n xs
 
 -- each step builds its part of those of the steps before it
 abbrev pub EachBuilds : OpenNet → List Step → List Part → Type 0
-EachBuilds o steps parts = (k : ℕ) (step : Step) → slice_get steps k ≡ Some step → (x : Part) × (slice_get parts k ≡ Some x) × Builds o parts k step x
+EachBuilds o steps parts = (k : ℕ) (step : Step) → slice_get steps k ≡ Some step → (x : Part) × (slice_get parts k ≡ Some x) × BuildsPart o parts k step x
 
 -- the steps build the open net
 pub record IsDerivation (o : OpenNet) (steps : List Step) : Type 0 where
@@ -149,4 +149,4 @@ pub record IsDerivation (o : OpenNet) (steps : List Step) : Type 0 where
   pub named_once : (k : ℕ) → suc k < length steps → times_in named k steps ≡ 1
   pub node_once : (n : ℕ) → n < length o.nodes → times_in own_nodes n steps ≡ 1
   pub some : 0 < length steps
-  pub ends : (x : Part) → slice_get parts (length steps - 1) ≡ Some x → (w : ℕ) (p q : Point) → IsWire o w p q → x.ends q ≡ is_free q
+  pub ends : (x : Part) → slice_get parts (length steps - 1) ≡ Some x → (w : ℕ) (p q : OpenPoint) → IsWire o w p q → x.ends q ≡ is_free q

@@ -7,8 +7,8 @@ use Rattle.in_base.specs.Graphs.{Graph}
 use Rattle.in_open_nets.specs.declared.open_nets.Node.{Node}
 use Rattle.in_open_nets.specs.declared.open_nets.Node.TheVariants.{AgentNode, ClassNode}
 use Rattle.in_open_nets.specs.declared.open_nets.OpenNode.{OpenNode}
-use Rattle.in_open_nets.specs.declared.open_nets.Point.{Point}
-use Rattle.in_open_nets.specs.declared.open_nets.Point.TheVariants.{Port, Free}
+use Rattle.in_open_nets.specs.declared.open_nets.OpenPoint.{OpenPoint}
+use Rattle.in_open_nets.specs.declared.open_nets.OpenPoint.TheVariants.{Port, Free}
 use Rattle.in_open_nets.specs.Constructions.{IsIn, Built}
 use Rattle.in_open_nets.specs.Splitting.{Splits}
 use Rattle.in_syntax.specs.Grammar.{max_ports}
@@ -16,11 +16,11 @@ use Rattle.in_syntax.specs.Grammar.{max_ports}
 -- the nodes in order, each wire by its two points, and the number of free ends. A node is known by its place in the list
 pub record OpenNet : Type 0 where
   pub nodes : List OpenNode
-  pub wires : List (Point × Point)
+  pub wires : List (OpenPoint × OpenPoint)
   pub free : ℕ
 
 -- the open net of these parts
-abbrev pub open_of : List OpenNode → List (Point × Point) → ℕ → OpenNet
+abbrev pub open_of : List OpenNode → List (OpenPoint × OpenPoint) → ℕ → OpenNet
 open_of nodes wires free = record { nodes = nodes; wires = wires; free = free }
 
 abbrev pub IsNode : OpenNet → ℕ → Type 0
@@ -50,22 +50,22 @@ class_in o n i = class_at (slice_get o.nodes n) i
 abbrev pub classes_of : OpenNet → ℕ → ℕ
 classes_of o n = elim (slice_get o.nodes n) [ None ↦ 0 | Some m ↦ m.classes ]
 
-abbrev pub IsPointOf : OpenNet → Point → Type 0
-IsPointOf o (Port n i) = IsSomeAnd (slice_get o.nodes n) (λ m. i < length m.class_of)
-IsPointOf o (Free k) = k < o.free
+abbrev pub IsOpenPoint : OpenNet → OpenPoint → Type 0
+IsOpenPoint o (Port n i) = IsSomeAnd (slice_get o.nodes n) (λ m. i < length m.class_of)
+IsOpenPoint o (Free k) = k < o.free
 
 -- wire w has the points p and q
-abbrev pub IsWire : OpenNet → ℕ → Point → Point → Type 0
+abbrev pub IsWire : OpenNet → ℕ → OpenPoint → OpenPoint → Type 0
 IsWire o w p q = (slice_get o.wires w ≡ Some (p, q)) ⊎ (slice_get o.wires w ≡ Some (q, p))
 
 -- each point is in exactly one wire, and an agent's principal port is the one place of class 0
 pub record IsOpenNet (o : OpenNet) : Type 0 where
-  pub points : (w : ℕ) (p q : Point) → IsWire o w p q → IsPointOf o p
-  pub joined : (p : Point) → IsPointOf o p → (w : ℕ) × (q : Point) × IsWire o w p q
-  pub once : (w v : ℕ) (p q r : Point) → IsWire o w p q → IsWire o v p r → (w ≡ v) × (q ≡ r)
-  pub apart : (w : ℕ) (p q : Point) → IsWire o w p q → p ≢ q
-  pub principal : (n i : ℕ) → IsAgent o n → IsPointOf o (Port n i) → (class_in o n i ≡ 0) ↔ (i ≡ 0)
-  pub classes : (n i : ℕ) → IsAgent o n → IsPointOf o (Port n i) → class_in o n i ≤ classes_of o n
+  pub points : (w : ℕ) (p q : OpenPoint) → IsWire o w p q → IsOpenPoint o p
+  pub joined : (p : OpenPoint) → IsOpenPoint o p → (w : ℕ) × (q : OpenPoint) × IsWire o w p q
+  pub once : (w v : ℕ) (p q r : OpenPoint) → IsWire o w p q → IsWire o v p r → (w ≡ v) × (q ≡ r)
+  pub apart : (w : ℕ) (p q : OpenPoint) → IsWire o w p q → p ≢ q
+  pub principal : (n i : ℕ) → IsAgent o n → IsOpenPoint o (Port n i) → (class_in o n i ≡ 0) ↔ (i ≡ 0)
+  pub classes : (n i : ℕ) → IsAgent o n → IsOpenPoint o (Port n i) → class_in o n i ≤ classes_of o n
 
 abbrev pub ports_in : Option OpenNode → ℕ
 ports_in None = 0
@@ -77,7 +77,7 @@ pub record IsOrderly (o : OpenNet) : Type 0 where
   pub wires : length o.wires < 2 ^ 32
   pub ports : (n : ℕ) → ports_in (slice_get o.nodes n) ≤ max_ports + 1
   pub net : IsOpenNet o
-  pub ordered : (n i j : ℕ) → IsAgent o n → IsPointOf o (Port n j) → 0 < i → i ≤ j → class_in o n i ≤ class_in o n j
+  pub ordered : (n i j : ℕ) → IsAgent o n → IsOpenPoint o (Port n j) → 0 < i → i ≤ j → class_in o n i ≤ class_in o n j
 
 -- the nodes, the classes of their ports, and the wires between them
 abbrev pub open_graph : OpenNet → Graph

@@ -1,7 +1,7 @@
 -- Parts of open nets: the wires by port, the nodes that a search reaches, and what splits a part. Sets of nodes are lists of tests, node by node.
 use Rattle.std.specs.Prelude.{◌≡◌, ◌⊎◌, ◌↔◌, ℕ, ◌+◌, ◌*◌, ◌<◌, ◌≤◌, Bool, true, false, List, [], ◌∷◌, ◌++◌, length, drop, slice_set, slice_index_or, Option, Some, None, MatchOption}
-use Rattle.in_open_nets.specs.declared.open_nets.Point.{Point}
-use Rattle.in_open_nets.specs.declared.open_nets.Point.TheVariants.{Port, Free}
+use Rattle.in_open_nets.specs.declared.open_nets.OpenPoint.{OpenPoint}
+use Rattle.in_open_nets.specs.declared.open_nets.OpenPoint.TheVariants.{Port, Free}
 use Rattle.in_open_nets.specs.declared.wired.Target.{Target}
 use Rattle.in_open_nets.specs.declared.wired.Target.TheVariants.{Nowhere, ToPort, ToFree}
 use Rattle.in_open_nets.specs.Constructions.{IsIn}
@@ -15,7 +15,7 @@ use Rattle.in_syntax.specs.Grammar.{max_ports}
 
 -- the wire at a port and its other point; a node has a slot for each port that an agent may have
 abbrev pub Slot : Type 0
-Slot = Option (ℕ × Point)
+Slot = Option (ℕ × OpenPoint)
 
 -- .. as it is kept
 abbrev pub slot_of : ℕ → ℕ → ℕ → Target → Slot
@@ -27,20 +27,20 @@ abbrev pub slot_at : List Slot → ℕ → ℕ → Slot
 slot_at slots n i = slice_index_or slots (n * (max_ports + 1) + i) None
 
 -- a port has a slot
-abbrev pub HasSlot : List Slot → Point → Type 0
+abbrev pub HasSlot : List Slot → OpenPoint → Type 0
 HasSlot slots (Port n i) = n * (max_ports + 1) + i < length slots
 HasSlot slots (Free k) = Unit {0}
 
 -- the slot of a port has this
-abbrev pub led : List Slot → ℕ → Point → Point → List Slot
+abbrev pub led : List Slot → ℕ → OpenPoint → OpenPoint → List Slot
 led slots w (Port n i) q = slice_set slots (n * (max_ports + 1) + i) (Some (w, q))
 led slots w (Free k) q = slots
 
 -- the slots have wires of the open net, and all those below b
 pub record AreLed (o : OpenNet) (b : ℕ) (slots : List Slot) : Type 0 where
   pub all : length slots ≡ length o.nodes * (max_ports + 1)
-  pub right : (n i w : ℕ) (q : Point) → n < length o.nodes → i < max_ports + 1 → slot_at slots n i ≡ Some (w, q) → IsWire o w (Port n i) q
-  pub some : (n i w : ℕ) (q : Point) → w < b → n < length o.nodes → i < max_ports + 1 → IsWire o w (Port n i) q → slot_at slots n i ≡ None → ⊥
+  pub right : (n i w : ℕ) (q : OpenPoint) → n < length o.nodes → i < max_ports + 1 → slot_at slots n i ≡ Some (w, q) → IsWire o w (Port n i) q
+  pub some : (n i w : ℕ) (q : OpenPoint) → w < b → n < length o.nodes → i < max_ports + 1 → IsWire o w (Port n i) q → slot_at slots n i ≡ None → ⊥
 
 abbrev pub IsWired : OpenNet → List Slot → Type 0
 IsWired o slots = AreLed o (length o.wires) slots
@@ -81,8 +81,8 @@ pub record SpreadsOver (o : OpenNet) (within : List Bool) (n b : ℕ) (reached :
   pub each : (place : ℕ) → place ≤ length found → Spreads o within n b reached (drop place found) reached' (drop place found')
 
 -- these are the nodes that are reached
-abbrev pub AreFound : List Bool → List ℕ → Type 0
-AreFound reached found = (n : ℕ) → IsIn n (nodes_in reached) ↔ Among n found
+abbrev pub AreReachedNodes : List Bool → List ℕ → Type 0
+AreReachedNodes reached found = (n : ℕ) → IsIn n (nodes_in reached) ↔ Among n found
 
 -- what a search from a node has reached, and of what it has not looked at the neighbours yet
 pub record IsSearch (o : OpenNet) (within : List Bool) (from : ℕ) (reached : List Bool) (queue : List ℕ) : Type 0 where

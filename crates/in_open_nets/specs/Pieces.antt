@@ -1,6 +1,6 @@
 -- Sets of nodes that are in one piece. What a node leaves of such a set is in one piece too, where its neighbours are joined without it.
 use Rattle.std.specs.Prelude.{◌≡◌, ℕ, ◌<◌, Bool, List, length}
-use Rattle.in_open_nets.specs.declared.open_nets.Point.TheVariants.{Port}
+use Rattle.in_open_nets.specs.declared.open_nets.OpenPoint.TheVariants.{Port}
 use Rattle.in_open_nets.specs.Constructions.{IsIn}
 use Rattle.in_open_nets.specs.Members.{missing, nodes_in}
 use Rattle.in_open_nets.specs.OpenNets.{OpenNet, IsWire, open_graph}
@@ -9,16 +9,16 @@ use Rattle.in_open_nets.specs.Splitting.{Linked}
 
 module _ (o : OpenNet) (within : List Bool) where
   -- joined through nodes of the set
-  abbrev pub AreJoined : ℕ → ℕ → Type 0
-  AreJoined = Linked (open_graph o) (λ m. IsIn m (nodes_in within))
+  abbrev pub AreJoinedWithin : ℕ → ℕ → Type 0
+  AreJoinedWithin = Linked (open_graph o) (λ m. IsIn m (nodes_in within))
 
   -- .. any two of these
   abbrev pub AreTogether : List Bool → Type 0
-  AreTogether these = (k l : ℕ) → IsIn k (nodes_in these) → IsIn l (nodes_in these) → AreJoined k l
+  AreTogether these = (k l : ℕ) → IsIn k (nodes_in these) → IsIn l (nodes_in these) → AreJoinedWithin k l
 
   -- .. from and one of these
   abbrev pub IsJoinedTo : ℕ → List Bool → Type 0
-  IsJoinedTo from these = (k : ℕ) × IsIn k (nodes_in these) × AreJoined from k
+  IsJoinedTo from these = (k : ℕ) × IsIn k (nodes_in these) × AreJoinedWithin from k
 
   -- the neighbour of n in the set, at port i, is one of these
   abbrev pub IsMetAt : ℕ → ℕ → List Bool → Type 0
@@ -34,7 +34,7 @@ module _ (o : OpenNet) (within : List Bool) where
 
   -- any two neighbours of n in the set are joined
   abbrev pub AreNeighboursJoined : ℕ → Type 0
-  AreNeighboursJoined n = (k l : ℕ) → IsNeighbourOf n k → IsNeighbourOf n l → AreJoined k l
+  AreNeighboursJoined n = (k l : ℕ) → IsNeighbourOf n k → IsNeighbourOf n l → AreJoinedWithin k l
 
 -- any two nodes of the set are joined through it
 abbrev pub IsPiece : OpenNet → List Bool → Type 0
@@ -49,5 +49,5 @@ abbrev pub IsLeftOf : OpenNet → ℕ → List Bool → Type 0
 IsLeftOf o n s = (set : List Bool) × (length set ≡ length s) × IsRest n set s × IsPieceOrWhole o set
 
 -- a port of n leads to one of these
-abbrev pub LeadsTo : OpenNet → ℕ → List Bool → Type 0
-LeadsTo o n these = (i : ℕ) × (w : ℕ) × (l : ℕ) × (j : ℕ) × IsWire o w (Port n i) (Port l j) × IsIn l (nodes_in these)
+abbrev pub HasPortTo : OpenNet → ℕ → List Bool → Type 0
+HasPortTo o n these = (i : ℕ) × (w : ℕ) × (l : ℕ) × (j : ℕ) × IsWire o w (Port n i) (Port l j) × IsIn l (nodes_in these)

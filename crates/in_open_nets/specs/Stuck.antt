@@ -6,7 +6,7 @@ use Rattle.in_open_nets.specs.declared.derivations.Stuck.{Stuck as StuckNet}
 use Rattle.in_open_nets.specs.declared.derivations.Undone.{Undone}
 use Rattle.in_open_nets.specs.declared.derivations.Undone.TheVariants.{Stuck, Memory}
 use Rattle.in_open_nets.specs.declared.open_nets.Node.TheVariants.{AgentNode, ClassNode}
-use Rattle.in_open_nets.specs.declared.open_nets.Point.TheVariants.{Port}
+use Rattle.in_open_nets.specs.declared.open_nets.OpenPoint.TheVariants.{Port}
 use Rattle.in_open_nets.specs.Constructions.{IsIn}
 use Rattle.in_open_nets.specs.Splitting.{Without, IsComponent, IsFirstSplitting, Splits, IsStuck}
 use Rattle.in_open_nets.specs.OpenNets.{OpenNet, IsDerivable, IsNode, IsWire, node_place_in, open_graph}
@@ -59,12 +59,12 @@ Among n [] = ⊥
 Among n (m ∷ ms) = (n ≡ m) ⊎ Among n ms
 
 -- the numbers rise, and are those of the set
-abbrev pub Rises : ℕ → List ℕ → Type 0
-Rises low [] = Unit {0}
-Rises low (n ∷ ns) = (low ≤ n) × Rises (suc n) ns
+abbrev pub RisesThrough : ℕ → List ℕ → Type 0
+RisesThrough low [] = Unit {0}
+RisesThrough low (n ∷ ns) = (low ≤ n) × RisesThrough (suc n) ns
 
 pub record IsListed (set : ℕ → Bool) (ns : List ℕ) : Type 0 where
-  pub rises : Rises 0 ns
+  pub rises : RisesThrough 0 ns
   pub all : (n : ℕ) → IsIn n set ↔ Among n ns
 
 -- there is no derivation, and the nodes are those of the first stuck sub-net

@@ -2,7 +2,7 @@
 use Rattle.std.specs.Prelude.{◌≡◌, ◌≢◌, ℕ, ◌<◌, Bool, cond, nat_eq, List, slice_get, slice_index_or, Option, Some, None, MatchOption, IsSomeAnd, length}
 use Rattle.in_open_nets.specs.declared.labels.Labels.{Labels}
 use Rattle.in_open_nets.specs.declared.labels.Mark.{Mark}
-use Rattle.in_open_nets.specs.declared.open_nets.Point.TheVariants.{Port}
+use Rattle.in_open_nets.specs.declared.open_nets.OpenPoint.TheVariants.{Port}
 use Rattle.in_open_nets.specs.Constructions.{IsIn}
 use Rattle.in_open_nets.specs.Splitting.{Linked, Without}
 use Rattle.in_open_nets.specs.OpenNets.{OpenNet, IsWire, class_in, open_graph}

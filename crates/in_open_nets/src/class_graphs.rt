@@ -6,9 +6,10 @@ ghost use Rattle.in_open_nets.specs.OpenNets.{class_in};
 ghost use Rattle.in_open_nets.specs.Members.{nodes_in};
 ghost use Rattle.in_open_nets.specs.Stuck.{ports_of};
 
-use crate::open_nets::Point;
+use crate::open_nets::OpenPoint;
 use crate::parts::Part;
 use crate::wired::Wired;
+use in_base::use_promise;
 use sqlite_items::Items;
 use std::alloc::{AllocError, Global};
 
@@ -126,7 +127,7 @@ impl ClassGraph {
         ensures { MatchOption result (ListsNone part.now.wired.now part.now.nodes.now node port) (IsEdgeOf part.now.wired.now part.now.nodes.now self.now.hubs node port) }
     {
         match part.wired.partner(node, port) {
-            (_, Point::Port(near, place)) => {
+            (_, OpenPoint::Port(near, place)) => {
                 let other = near as usize;
                 let far = place as usize;
                 if comes_first(node, port, other, far) && part.nodes.has(other) {
@@ -138,7 +139,7 @@ impl ClassGraph {
                     None
                 }
             }
-            (_, Point::Free(_)) => None,
+            (_, OpenPoint::Free(_)) => None,
         }
     }
 
@@ -163,7 +164,7 @@ impl ClassGraph {
     pub(crate) fn list(&mut self, alloc: Global, part: &Part) -> Result<(), AllocError>
         ensures { OnOk result (IsGraphOf part.now.wired.now part.now.nodes.now self.new) }
     {
-        let _count = part.wired.nodes();
+        use_promise!(part.wired.nodes());
         self.list_hubs(alloc, part)?;
         for member in part.nodes.members() {
             self.add_edges(part, *member as usize)?;

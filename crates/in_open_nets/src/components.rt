@@ -2,14 +2,15 @@ ghost use Rattle.std.specs.Prelude.{◌≡◌, ◌<◌, length, IfOk, IsTrue, On
 ghost use Rattle.in_open_nets.specs.Members.{IsUnion, missing, nodes_in};
 ghost use Rattle.in_open_nets.specs.Constructions.{IsIn};
 ghost use Rattle.in_open_nets.specs.Pieces.{IsLeftOf, IsPiece};
-ghost use Rattle.in_open_nets.specs.Parts.{AreFound, IsNeighbour, IsReached, SpreadsOver};
+ghost use Rattle.in_open_nets.specs.Parts.{AreReachedNodes, IsNeighbour, IsReached, SpreadsOver};
 ghost use Rattle.in_open_nets.specs.Stuck.{ports_of};
 
 use crate::nodes::NodeList;
-use crate::open_nets::Point;
+use crate::open_nets::OpenPoint;
 use crate::parts::Part;
 use crate::pieces::joins_neighbours;
 use crate::scratch::Scratch;
+use in_base::use_promise;
 use std::alloc::{AllocError, Global};
 use std::marker::Model;
 
@@ -20,14 +21,14 @@ pub(crate) fn neighbour(part: &Part, node: usize, port: usize) -> Option<u32>
     ensures { IsNeighbour part.now.wired.now part.now.nodes.now node port result }
 {
     match part.wired.partner(node, port) {
-        (_, Point::Port(near, _)) => {
+        (_, OpenPoint::Port(near, _)) => {
             if part.nodes.has(near as usize) {
                 Some(near)
             } else {
                 None
             }
         }
-        (_, Point::Free(_)) => None,
+        (_, OpenPoint::Free(_)) => None,
     }
 }
 
@@ -45,13 +46,13 @@ pub(crate) fn spread(
 {
     for port in 0..part.wired.ports(node) {
         match part.wired.partner(node, port) {
-            (_, Point::Port(near, _)) => {
+            (_, OpenPoint::Port(near, _)) => {
                 if !reached.has(near as usize) && part.nodes.has(near as usize) {
                     reached.insert(near as usize);
                     found.push(near)?;
                 }
             }
-            (_, Point::Free(_)) => {}
+            (_, OpenPoint::Free(_)) => {}
         }
     }
     Ok(())
@@ -68,9 +69,9 @@ fn reach_from(
     requires here { IsIn from (nodes_in part.now.nodes.now) }
     ensures size { length reached.new ≡ length reached.old }
     ensures reached { OnOk result (IsReached part.now.wired.now part.now.nodes.now from reached.new) }
-    ensures found { IfOk result (λ found. AreFound reached.new found.items) }
+    ensures found { IfOk result (λ found. AreReachedNodes reached.new found.items) }
 {
-    let _count = part.wired.nodes();
+    use_promise!(part.wired.nodes());
     reached.clear()?;
     let mut found = Vec::new(alloc);
     reached.insert(from as usize);
@@ -110,7 +111,7 @@ fn component(
 }
 
 /// The nodes that are derived, whether short searches were tried for them, and two sets to search with.
-pub struct Done {
+pub struct DoneNodes {
     nodes: Scratch,
     reached: Scratch,
     near: Scratch,
@@ -118,9 +119,9 @@ pub struct Done {
 }
 
 // By hand, so that each drop is a call: a derived one is written out in each proof, at each way out.
-impl Drop for Done {
+impl Drop for DoneNodes {
     fn drop(self) {
-        let Done {
+        let DoneNodes {
             nodes: _,
             reached: _,
             near: _,
@@ -130,7 +131,7 @@ impl Drop for Done {
 }
 
 // Contracts see a test for each node of the net.
-impl Model for Done {
+impl Model for DoneNodes {
     ghost use Rattle.std.specs.Prelude.{◌≡◌, length, Bool, List};
 
     ghost Value = { List Bool };
@@ -140,13 +141,13 @@ impl Model for Done {
     ghost invariant = { λ d. (length d.reached ≡ length d.nodes) × (length d.near ≡ length d.nodes) };
 }
 
-impl Done {
+impl DoneNodes {
     /// None of so many.
-    pub fn new(alloc: Global, count: usize) -> Result<Done, AllocError>
+    pub fn new(alloc: Global, count: usize) -> Result<DoneNodes, AllocError>
         ensures size { IfOk result (λ done. length done ≡ count) }
         ensures none { IfOk result (λ done. (n : ℕ) → nodes_in done n ≡ false) }
     {
-        Ok(Done {
+        Ok(DoneNodes {
             nodes: Scratch::new(alloc, count)?,
             reached: Scratch::new(alloc, count)?,
             near: Scratch::new(alloc, count)?,

@@ -5,7 +5,7 @@ ghost use Rattle.in_open_nets.specs.Stuck.{ports_of};
 ghost use Rattle.in_open_nets.specs.Tries.{AreLabelled, LabelsSpread, LeadToLabels, LeadsToLabel, HasLabel, mark_in};
 
 use crate::components::neighbour;
-use crate::open_nets::Point;
+use crate::open_nets::OpenPoint;
 use crate::parts::Candidate;
 use sqlite_items::Items;
 
@@ -90,7 +90,7 @@ fn leads_to_label(candidate: &Candidate, labels: &Labels, port: usize) -> bool
     let wired = candidate.part.wired;
     let class = wired.class(candidate.node, port);
     match wired.partner(candidate.node, port) {
-        (_, Point::Port(near, place)) => {
+        (_, OpenPoint::Port(near, place)) => {
             if near as usize == candidate.node {
                 wired.class(near as usize, place as usize) == class
             } else if candidate.part.nodes.has(near as usize) {
@@ -99,7 +99,7 @@ fn leads_to_label(candidate: &Candidate, labels: &Labels, port: usize) -> bool
                 true
             }
         }
-        (_, Point::Free(_)) => true,
+        (_, OpenPoint::Free(_)) => true,
     }
 }
 

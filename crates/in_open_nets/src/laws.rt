@@ -40,12 +40,12 @@ pub fn first_splitting_is_one()
     ensures { FirstSplittingIsOne }
 {}
 
-/// The component that `Done::add` answers is one.
+/// The component that `DoneNodes::add` answers is one.
 pub fn component_is_one()
     ensures { ComponentIsOne }
 {}
 
-/// The set of the nodes that are derived after `Done::add` is one.
+/// The set of the nodes that are derived after `DoneNodes::add` is one.
 pub fn union_is_one()
     ensures { UnionIsOne }
 {}

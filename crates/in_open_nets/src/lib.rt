@@ -14,7 +14,7 @@
 //! come, or it reaches all that it can, and `labels` checks that no two labels are adjacent.
 //!
 //! Only where this takes too long, `class_graphs` lists the part's class graph (a hub for each node, a vertex for each of its classes, a
-//! hub edge between the two, and the wires between classes), `in_bridges` tells which of its edges are on a cycle, and the first node
+//! hub edge between the two, and the wires between classes), `in_simple_bridges` tells which of its edges are on a cycle, and the first node
 //! none of whose hub edges is on a cycle splits the part.
 //!
 //! Each part that is derived, except the whole net, is a component, and so connected. What a node leaves of such a part is connected too
@@ -26,7 +26,7 @@
 //! beside it that tells in constant time which nodes are in it (`NodeSet`). Such a set (`scratch`: `Scratch`, a mark for each node of the
 //! net; the members are those with the last mark, so that the next mark empties it in constant time) is made once for the whole run and
 //! lent to one part after another (`Room`; `Opened` while a part is looked at), as are the sets of what is reached and of what is derived
-//! (`Done`) and the table of the class graph's numbers.
+//! (`DoneNodes`) and the table of the class graph's numbers.
 #![tactic(auto)]
 
 mod class_graphs;
@@ -45,10 +45,10 @@ mod stuck;
 mod trials;
 mod wired;
 
-pub use components::Done;
+pub use components::DoneNodes;
 pub use derivations::{Derivation, Step, Stuck, Undone};
 pub use nodes::{NodeList, NodeSet};
-pub use open_nets::{Node, OpenNet, OpenNode, Point};
+pub use open_nets::{Node, OpenNet, OpenNode, OpenPoint};
 pub use parts::Part;
 pub use rings::Rings;
 pub use scratch::Scratch;

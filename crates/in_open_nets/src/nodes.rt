@@ -2,7 +2,7 @@
 ghost use Rattle.std.specs.Prelude.{◌≡◌, ◌<◌, length, IfOk, false, true, ℕ};
 ghost use Rattle.in_open_nets.specs.Members.{IsUnion, missing, nodes_in};
 ghost use Rattle.in_open_nets.specs.Constructions.{IsIn};
-ghost use Rattle.in_open_nets.specs.Parts.{AreFound, IsRest};
+ghost use Rattle.in_open_nets.specs.Parts.{AreReachedNodes, IsRest};
 ghost use Rattle.in_open_nets.specs.Stuck.{IsListed};
 
 use crate::scratch::Scratch;
@@ -76,7 +76,7 @@ impl NodeList {
 
     /// The nodes of a set, which were found in some order.
     fn sorted(tests: &Scratch, found: Vec<u32>) -> NodeList
-        requires { AreFound tests.now found.items }
+        requires { AreReachedNodes tests.now found.items }
         ensures { result ≡ tests.now }
     {
         let mut members = found;
@@ -204,7 +204,7 @@ impl NodeSet {
     ) -> Result<NodeList, AllocError>
         requires size { length tests.now ≡ length self.now }
         requires within { (n : ℕ) → IsIn n (nodes_in tests.now) → IsIn n (nodes_in self.now) }
-        requires found { AreFound tests.now found.items }
+        requires found { AreReachedNodes tests.now found.items }
         ensures { IfOk result (λ set. set ≡ tests.now) }
     {
         // Mostly what a node is taken out of is of one component. All of these are gone over only for a good part of them.

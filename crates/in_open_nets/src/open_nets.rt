@@ -19,7 +19,7 @@ pub enum Node {
 
 /// A port of a node, by its place, or a free end by its number. Nodes are numbered from 0.
 #[derive(Clone, Copy, Debug, PartialEq, Eq)]
-pub enum Point {
+pub enum OpenPoint {
     Port(u32, u8),
     Free(u32),
 }
@@ -37,7 +37,7 @@ pub struct OpenNode {
 #[derive(Drop)]
 pub struct OpenNet {
     pub(crate) nodes: Items<OpenNode>,
-    pub(crate) wires: Items<(Point, Point)>,
+    pub(crate) wires: Items<(OpenPoint, OpenPoint)>,
     pub(crate) free: u32,
 }
 
@@ -55,7 +55,7 @@ impl Model for OpenNet {
 impl OpenNet {
     /// The open net of these nodes, these wires and so many free ends: each point is in exactly one wire, an agent's principal port is the
     /// one place of class 0, and its other classes stand in order.
-    pub fn new(nodes: Items<OpenNode>, wires: Items<(Point, Point)>, free: u32) -> OpenNet
+    pub fn new(nodes: Items<OpenNode>, wires: Items<(OpenPoint, OpenPoint)>, free: u32) -> OpenNet
         requires { IsOrderly (open_of nodes wires free) }
         ensures { result ≡ open_of nodes wires free }
     {
@@ -95,7 +95,7 @@ impl OpenNet {
     }
 
     /// The two points of the wire of that number. Wires are numbered from 0, as those of the net or the right member.
-    pub fn wire(&self, number: usize) -> (Point, Point)
+    pub fn wire(&self, number: usize) -> (OpenPoint, OpenPoint)
         requires { number < length self.now.wires }
         ensures { slice_get self.now.wires number ≡ Some result }
     {

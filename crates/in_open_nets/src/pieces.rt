@@ -1,14 +1,15 @@
 //! Whether a part stays in one piece when a node is taken out: short searches join the node's neighbours to one another.
 ghost use Rattle.std.specs.Prelude.{◌≡◌, ◌<◌, length, IfOk, IfSome, IsTrue, OnOk, ℕ};
 ghost use Rattle.in_open_nets.specs.Constructions.{IsIn};
-ghost use Rattle.in_open_nets.specs.Pieces.{AreNeighboursJoined, AreTogether, IsJoinedTo, IsMetAt, LeadsTo};
+ghost use Rattle.in_open_nets.specs.Pieces.{AreNeighboursJoined, AreTogether, IsJoinedTo, IsMetAt, HasPortTo};
 ghost use Rattle.in_open_nets.specs.Members.{nodes_in};
 ghost use Rattle.in_open_nets.specs.Stuck.{ports_of};
 
 use crate::components::{neighbour, spread};
-use crate::open_nets::Point;
+use crate::open_nets::OpenPoint;
 use crate::parts::Part;
 use crate::scratch::Scratch;
+use in_base::use_promise;
 use std::alloc::{AllocError, Global};
 
 /// How many nodes a search finds in a small part before it goes no further, and for how many nodes of a part it finds one more.
@@ -19,10 +20,10 @@ const SHARE: usize = 16;
 /// Whether a port of a node leads to one of these.
 fn leads_to(part: &Part, node: usize, these: &Scratch) -> bool
     requires { node < length part.now.wired.now.nodes }
-    ensures { IsTrue result → LeadsTo part.now.wired.now node these.now }
+    ensures { IsTrue result → HasPortTo part.now.wired.now node these.now }
 {
     for port in 0..part.wired.ports(node) {
-        if let (_, Point::Port(near, _)) = part.wired.partner(node, port) {
+        if let (_, OpenPoint::Port(near, _)) = part.wired.partner(node, port) {
             if these.has(near as usize) {
                 return true;
             }
@@ -45,7 +46,7 @@ fn gather(
     ensures here { OnOk result (IsIn from (nodes_in these.new)) }
     ensures together { OnOk result (AreTogether part.now.wired.now part.now.nodes.now these.new) }
 {
-    let _count = part.wired.nodes();
+    use_promise!(part.wired.nodes());
     these.clear()?;
     let mut found = Vec::new(alloc);
     these.insert(from as usize);
@@ -77,7 +78,7 @@ fn meets(
     ensures size { length reached.new ≡ length reached.old }
     ensures joined { IfOk result (λ met. IsTrue met → IsJoinedTo part.now.wired.now part.now.nodes.now from these.now) }
 {
-    let _count = part.wired.nodes();
+    use_promise!(part.wired.nodes());
     reached.clear()?;
     let mut found = Vec::new(alloc);
     reached.insert(from as usize);
@@ -118,7 +119,7 @@ fn joins_at(
     ensures together { AreTogether part.now.wired.now part.now.nodes.now these.new }
     ensures met { IfOk result (λ joined. IsTrue joined → IsMetAt part.now.wired.now part.now.nodes.now node port these.new) }
 {
-    let _count = part.wired.nodes();
+    use_promise!(part.wired.nodes());
     match neighbour(part, node, port) {
         Some(near) => {
             if these.has(near as usize) {
@@ -164,7 +165,7 @@ fn joins_all(
     ensures reached { length reached.new ≡ length reached.old }
     ensures joined { IfOk result (λ joined. IsTrue joined → AreNeighboursJoined part.now.wired.now part.now.nodes.now node) }
 {
-    let _count = part.wired.nodes();
+    use_promise!(part.wired.nodes());
     let enough = FEW + part.nodes.count() / SHARE;
     gather(alloc, part, first, enough, these)?;
     for port in 0..part.wired.ports(node) {

@@ -1,7 +1,7 @@
 ghost use Rattle.std.specs.Prelude.{◌≡◌, ◌<◌, [], length, IfOk, IfSome, IsTrue};
 ghost use Rattle.in_open_nets.specs.Tries.{AreIn, AreNone, KeepsWhole};
 
-use crate::open_nets::Point;
+use crate::open_nets::OpenPoint;
 use crate::parts::Part;
 use crate::wired::Wired;
 use sqlite_items::Items;
@@ -52,7 +52,7 @@ fn comes_back(
             None => wired.class(at, port),
         };
         match wired.partner(at, port) {
-            (_, Point::Port(near, place)) => {
+            (_, OpenPoint::Port(near, place)) => {
                 if near as usize == from {
                     return Ok(wired.class(near as usize, place as usize) != class);
                 }
@@ -60,7 +60,7 @@ fn comes_back(
                 at = near as usize;
                 begun = Some(class);
             }
-            (_, Point::Free(_)) => return Ok(false),
+            (_, OpenPoint::Free(_)) => return Ok(false),
         }
     }
     Ok(false)

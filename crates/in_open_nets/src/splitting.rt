@@ -1,5 +1,5 @@
 ghost use Rattle.std.specs.Prelude.{◌≡◌, ◌<◌, ◌↔◌, length, IfOk, IsTrue};
-ghost use Rattle.in_bridges.specs.Rings.{AreRings};
+ghost use Rattle.in_simple_bridges.specs.Rings.{AreRings};
 ghost use Rattle.in_open_nets.specs.ClassEdges.{IsGraphOf};
 ghost use Rattle.in_open_nets.specs.OpenNets.{IsOrderly};
 ghost use Rattle.in_open_nets.specs.Tries.{AreTried, IsFirstIn, IsTried};
@@ -9,7 +9,8 @@ use crate::class_graphs::ClassGraph;
 use crate::components::neighbour;
 use crate::parts::{Candidate, Part};
 use crate::trials::Trials;
-use in_bridges::on_rings;
+use in_base::use_promise;
+use in_simple_bridges::on_rings;
 use sqlite_items::Items;
 use std::alloc::{AllocError, Global};
 
@@ -54,7 +55,7 @@ fn first_off_rings(part: &Part, graph: &ClassGraph, rings: &Items<bool>) -> Opti
     ensures net { IsOrderly part.now.wired.now }
     ensures found { IsFirstIn part.now.wired.now part.now.nodes.now result }
 {
-    let _count = part.wired.nodes();
+    use_promise!(part.wired.nodes());
     for member in part.nodes.members() {
         let node = *member as usize;
         if splits(part, graph, rings, node) {
@@ -104,7 +105,7 @@ fn first_by_trials(
     ensures net { IfOk result (λ found. IsOrderly part.now.wired.now) }
     ensures found { IfOk result (AreTried part.now.wired.now part.now.nodes.now) }
 {
-    let _count = part.wired.nodes();
+    use_promise!(part.wired.nodes());
     for member in part.nodes.members() {
         let node = *member as usize;
         let candidate = Candidate { part: *part, node };

@@ -6,7 +6,7 @@ ghost use Rattle.in_open_nets.specs.Tries.{IsTried};
 use crate::class_graphs::ClassGraph;
 use crate::labels::{Labels, Mark, show_splitting};
 use crate::nodes::NodeSet;
-use crate::open_nets::Point;
+use crate::open_nets::OpenPoint;
 use crate::parts::Candidate;
 use crate::rings::{Rings, are_in};
 use crate::wired::Wired;
@@ -136,10 +136,10 @@ impl Search {
         requires port { port < ports_of candidate.now.part.wired.now at }
     {
         match candidate.part.wired.partner(at, port) {
-            (_, Point::Port(near, _)) => {
+            (_, OpenPoint::Port(near, _)) => {
                 !candidate.part.nodes.has(near as usize) || self.labels.has(near as usize, class)
             }
-            (_, Point::Free(_)) => true,
+            (_, OpenPoint::Free(_)) => true,
         }
     }
 
@@ -157,7 +157,7 @@ impl Search {
     {
         let part = candidate.part;
         match part.wired.partner(at, port) {
-            (_, Point::Port(near, place)) => {
+            (_, OpenPoint::Port(near, place)) => {
                 let left = port as u8;
                 if near as usize == candidate.node {
                     if part.wired.class(near as usize, place as usize) != class {
@@ -188,7 +188,7 @@ impl Search {
                     }
                 }
             }
-            (_, Point::Free(_)) => {}
+            (_, OpenPoint::Free(_)) => {}
         }
         Ok(None)
     }

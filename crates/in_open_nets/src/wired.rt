@@ -1,12 +1,13 @@
 ghost use Rattle.std.specs.Prelude.{◌≡◌, ◌<◌, ◌≤◌, ◌^◌, ◌*◌, ◌+◌, length, slice_index_or, Some, None, IsTrue, false, IfOk, OnOk, ℕ};
 ghost use Rattle.in_syntax.specs.Grammar.{max_ports};
 ghost use Rattle.in_open_nets.specs.ClassGraphs.{width_of};
-ghost use Rattle.in_open_nets.specs.OpenNets.{IsAgent, IsClass, IsOrderly, IsPointOf, IsWire, class_in, classes_of};
+ghost use Rattle.in_open_nets.specs.OpenNets.{IsAgent, IsClass, IsOrderly, IsOpenPoint, IsWire, class_in, classes_of};
 ghost use Rattle.in_open_nets.specs.Parts.{led, ArePorts, HasSlot, IsWired};
 ghost use Rattle.in_open_nets.specs.Stuck.{ports_of};
-ghost use Rattle.in_open_nets.specs.declared.open_nets.Point.TheVariants.{Port};
+ghost use Rattle.in_open_nets.specs.declared.open_nets.OpenPoint.TheVariants.{Port};
 
-use crate::open_nets::{OpenNet, Point};
+use crate::open_nets::{OpenNet, OpenPoint};
+use in_base::use_invariant;
 use in_syntax::MAX_PORTS;
 use sqlite_items::Items;
 use std::alloc::{AllocError, Global};
@@ -55,17 +56,17 @@ impl Slot {
     }
 
     /// The wire leads to this point.
-    fn to(wire: u32, point: Point) -> Slot
+    fn to(wire: u32, point: OpenPoint) -> Slot
         ensures { result ≡ Some (wire, point) }
     {
         match point {
-            Point::Port(number, place) => Slot {
+            OpenPoint::Port(number, place) => Slot {
                 wire,
                 number,
                 place,
                 target: Target::ToPort,
             },
-            Point::Free(number) => Slot {
+            OpenPoint::Free(number) => Slot {
                 wire,
                 number,
                 place: 0,
@@ -75,13 +76,13 @@ impl Slot {
     }
 
     /// The wire and its other point.
-    fn get(&self) -> Option<(u32, Point)>
+    fn get(&self) -> Option<(u32, OpenPoint)>
         ensures { result ≡ self.now }
     {
         match self.target {
             Target::Nowhere => None,
-            Target::ToPort => Some((self.wire, Point::Port(self.number, self.place))),
-            Target::ToFree => Some((self.wire, Point::Free(self.number))),
+            Target::ToPort => Some((self.wire, OpenPoint::Port(self.number, self.place))),
+            Target::ToFree => Some((self.wire, OpenPoint::Free(self.number))),
         }
     }
 }
@@ -142,18 +143,18 @@ fn empty(alloc: Global, count: usize) -> Result<Items<Slot>, AllocError>
 }
 
 /// From this point the wire leads to that one.
-fn lead(slots: &mut Items<Slot>, wire: u32, from: Point, to: Point)
+fn lead(slots: &mut Items<Slot>, wire: u32, from: OpenPoint, to: OpenPoint)
     requires { HasSlot slots.old from }
     ensures { slots.new ≡ led slots.old wire from to }
 {
     match from {
-        Point::Port(node, place) => {
+        OpenPoint::Port(node, place) => {
             slots.set(
                 node as usize * MOST_PORTS + place as usize,
                 Slot::to(wire, to),
             );
         }
-        Point::Free(_) => {}
+        OpenPoint::Free(_) => {}
     }
 }
 
@@ -176,7 +177,7 @@ impl<'a> Wired<'a> {
     pub fn of(alloc: Global, open: &'a OpenNet) -> Result<Wired<'a>, AllocError>
         ensures { IfOk result (λ wired. wired ≡ «open».now) }
     {
-        let _ = &open.nodes;
+        use_invariant!(open.nodes);
         let ports = ports(alloc, open)?;
         Ok(Wired {
             open,
@@ -242,15 +243,16 @@ impl<'a> Wired<'a> {
     }
 
     /// The wire at a port, and its other point.
-    pub fn partner(&self, node: usize, port: usize) -> (u32, Point)
+    pub fn partner(&self, node: usize, port: usize) -> (u32, OpenPoint)
         requires node { node < length self.now.nodes }
         requires port { port < ports_of self.now node }
         ensures wire { IsWire self.now result.0 (Port node port) result.1 }
-        ensures point { IsPointOf self.now result.1 }
+        ensures point { IsOpenPoint self.now result.1 }
         ensures net { IsOrderly self.now }
     {
         match self.slots.as_slice()[node * MOST_PORTS + port].get() {
             Some(found) => found,
+            // Each port has a wire: so an open net is.
             None => unreachable!(),
         }
     }

@@ -10,19 +10,18 @@ use Rattle.in_base.specs.Lists.{IsAmong}
 use Rattle.in_base.proofs.Among.{among_left, among_right, in_map}
 use Rattle.in_net.specs.Graphs.{class_of_symbol, graph_of}
 use Rattle.in_net.specs.Nets.{Point, Port, Free, Net, IsPoint, IsNet}
-use Rattle.in_net.proofs.PairPorts.{symbol_of, port_agent, port_place}
-use Rattle.in_interaction.proofs.Interactions.Alternating.{has_value}
+use Rattle.in_net.proofs.Public.{symbol_of, port_agent, port_place}
+use Rattle.in_interaction.proofs.Public.{has_value}
 use Rattle.in_typing.specs.Typed.{opposite}
 use Rattle.in_typing.specs.TypedNets.{type_in, IsTypedNet}
-use Rattle.in_typing.proofs.TypedAlong.{port_type}
-use Rattle.in_check.proofs.Reached.Renaming.{is_some}
+use Rattle.in_typing.proofs.Public.{port_type}
+use Rattle.in_check.proofs.Public.{is_some}
 use Rattle.in_check.specs.Systems.{System, IsSound}
 use Rattle.in_glue.specs.AsGluing.{empty, old_and_new, two_parts}
 use Rattle.in_glue.specs.Gluing.{Cuts, IsJointEndAt, AreCuts}
 use Rattle.in_glue.specs.Joining.{IsAtNumber}
 use Rattle.in_glue.specs.PartRuns.{AreTypedAtCuts}
-use Rattle.in_glue.proofs.Gluing.Names.{parts_are_sound_by_names}
-use Rattle.in_glue.proofs.Gluing.Sound.{at_outer}
+use Rattle.in_glue.proofs.Public.{parts_are_sound_by_names, at_outer}
 use Rattle.in_parts.specs.Leading.{StandBeside, BesidePartsAreSound, BesideSoundIsSound}
 use Rattle.in_parts.proofs.CutOnce.{loose, stand_glued}
 use Rattle.in_parts.proofs.Leading.{empty_sound, no_wire}

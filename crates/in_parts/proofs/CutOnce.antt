@@ -6,8 +6,7 @@ use Rattle.in_symbols.specs.declared.symbols.PortType.{PortType}
 use Rattle.std.proofs.lemmas.Option.{same_Some}
 use Rattle.in_net.specs.Nets.{Point, Port, Free, Signature, Net, IsNet}
 use Rattle.in_check.specs.Runs.{Reached, at_start, then_step, then_renamed}
-use Rattle.in_check.proofs.Reached.Kept.{sound_reached}
-use Rattle.in_check.proofs.Reached.Plain.{renamed_self}
+use Rattle.in_check.proofs.Public.{sound_reached, renamed_self}
 use Rattle.in_order.specs.Laws.{from_net}
 use Rattle.in_check.specs.Systems.{System, IsSound, IsSoundSystem}
 use Rattle.in_glue.specs.AsGluing.{empty, old_and_new, two_parts}
@@ -15,13 +14,9 @@ use Rattle.in_glue.specs.Gluing.{Cuts, IsGlued}
 use Rattle.in_glue.specs.Joining.{HasOwnNumber, IsInUse, IsAtNumber, IsBeside, IsJoinedBy, IsOneMore, IsNeither, IsRenumbered, JoinsEnds, WiresLeadBack}
 use Rattle.in_glue.specs.Laws.{KeepsApart}
 use Rattle.in_parts.specs.Leading.{Leads, StandBeside, CutOnceIsSound, CutLeadsAreJoined, BesideLeads}
-use Rattle.in_glue.proofs.Gluing.Beside.{beside_joins_none, all_joined_is_glued}
-use Rattle.in_glue.proofs.Gluing.Cutting.{cuts_are_joined}
-use Rattle.in_glue.proofs.Gluing.Joining.{joins_next}
+use Rattle.in_glue.proofs.Public.{beside_joins_none, all_joined_is_glued, cuts_are_joined, joins_next, none_some, sound_is_start}
+use Rattle.in_glue.proofs.Public.{cuts_keep_sound}
 use Rattle.in_parts.proofs.Leading.{empty_sound, no_wire, parts_lead_the_whole}
-use Rattle.in_glue.proofs.Gluing.Points.{none_some}
-use Rattle.in_glue.proofs.Gluing.Sound.{sound_is_start}
-use Rattle.in_glue.proofs.Gluing.SoundCuts.{cuts_keep_sound}
 
 pub cut_once_is_sound : CutOnceIsSound
 cut_once_is_sound p w m sound c = cuts_keep_sound p w c.one c.other c.first c.second m sound c.wire c.type_one c.type_other c.free c.cut

@@ -7,24 +7,19 @@ use Rattle.in_base.specs.Graphs as graphs
 use Rattle.in_base.specs.Graphs.{Passage, entered, left}
 use Rattle.in_net.specs.Graphs.{graph_of}
 use Rattle.in_net.specs.Nets.{Point, Port, Free, Net, IsPoint, IsNet}
-use Rattle.in_net.proofs.PairPorts.{symbol_of}
-use Rattle.in_interaction.proofs.Interactions.StepExists.{step_exists}
+use Rattle.in_net.proofs.Public.{symbol_of}
+use Rattle.in_interaction.proofs.Public.{step_exists}
 use Rattle.in_check.specs.Runs.{renamed, IsRenamed, moved, rule_of, IsPairWithRule, IsInteraction, at_start, then_step, then_renamed}
 use Rattle.in_check.specs.Systems.{System, IsSound, IsSoundSystem}
-use Rattle.in_check.proofs.Reached.Kept.{redex_of}
-use Rattle.in_check.proofs.Reached.Moved.{agents_before, path_map, renamed_steps}
-use Rattle.in_check.proofs.Reached.Plain.{renamed_self}
-use Rattle.in_check.proofs.Reached.Renaming.{is_some}
+use Rattle.in_check.proofs.Public.{redex_of, agents_before, path_map, renamed_steps, renamed_self, is_some}
 use Rattle.in_order.specs.Laws.{from_net}
-use Rattle.in_order.proofs.Orders.EndAlike.{runs_are_joined}
-use Rattle.in_order.proofs.Orders.Names.{composed, new_names, are_new}
+use Rattle.in_order.proofs.Public.{runs_are_joined, composed, new_names, are_new}
 use Rattle.in_glue.specs.AsGluing.{empty, two_parts}
 use Rattle.in_glue.specs.Gluing.{Cuts, IsJointEndAt, IsJointEnd, glue_wire, AreLinked, IsPlaced, IsGlued}
 use Rattle.in_glue.specs.Laws.{KeepsApart}
 use Rattle.in_parts.specs.Leading.{Leads, LeadsGoOn, PartsLeadTheWhole}
 use Rattle.in_glue.specs.PartRuns.{Run, none, one_more, total}
-use Rattle.in_glue.proofs.Gluing.Names.{cut_run_and_glued, runs_keep_sound}
-use Rattle.in_glue.proofs.Gluing.Sound.{sound_is_start, with_start}
+use Rattle.in_glue.proofs.Public.{cut_run_and_glued, runs_keep_sound, sound_is_start, with_start}
 
 pub leads_go_on : LeadsGoOn
 leads_go_on p j k l n m first on = runs_are_joined (from_net p l) j k n m first on

@@ -2,3 +2,4 @@ pub mod Leading
 pub mod CutOnce
 pub mod CutDown
 pub mod BesideSound
+pub mod Public

@@ -4,7 +4,7 @@ use Rattle.in_symbols.specs.declared.symbols.SymbolNo.{SymbolNo}
 use Rattle.in_net.specs.Rules.{RuleParts, IsRuleOver, auxiliary_types}
 use Rattle.in_check.specs.Checking.{IsAccepted}
 use Rattle.in_check.specs.Programs.{Program}
-use Rattle.in_check.proofs.Chain.{program_of}
+use Rattle.in_check.proofs.Public.{program_of}
 use Rattle.in_plain_runs.specs.RuleTypes.{HasTypesOfHeads}
 
 module _ (text : List ℕ) (p : Program) (accepted : IsAccepted text p) (i : ℕ) (r : RuleParts) (stands : slice_get p.rules i ≡ Some r) where

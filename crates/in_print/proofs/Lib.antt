@@ -4,5 +4,6 @@ mod LineByLine
 mod Looking
 mod Numbering
 mod Remaining
+pub mod Public
 pub mod SameTexts
 mod Texts

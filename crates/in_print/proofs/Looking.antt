@@ -9,12 +9,12 @@ use Rattle.in_symbols.specs.declared.symbols.SymbolNo.{SymbolNo}
 use Rattle.in_net.specs.declared.nets.Point as points
 use Rattle.in_net.specs.Nets.{Point, Port, IsNet, net_of, signature_of, point_of, coded_point}
 use Rattle.in_net.specs.Parts.{IsPointOf, symbol_in, partner_in}
-use Rattle.in_net.proofs.WireAt.{has_partner}
+use Rattle.in_net.proofs.Public.{has_partner}
 use Rattle.in_check.specs.NetText.{symbol_name}
 use Rattle.in_check.specs.NetText as text
 use Rattle.in_check.specs.Promises.{IsAsPromised}
 use Rattle.in_check.specs.Systems.{system_of}
-use Rattle.in_check.proofs.Reached.Plain.{promised}
+use Rattle.in_check.proofs.Public.{promised}
 use Rattle.in_reducer.specs.Machines.{MachineParts, parts_of, plain_of}
 use Rattle.in_rounds.specs.Machines.{IsMachine}
 use Rattle.in_reducer.specs.Machines as machines

@@ -12,7 +12,7 @@ use Rattle.in_arena.specs.declared.content.End.{End}
 use Rattle.in_arena.specs.declared.content.End.TheVariants as end
 use Rattle.in_arena.specs.contracts.content.EndPartialEq.TheImpl.{eq-value}
 use Rattle.in_net.specs.Nets.{Point}
-use Rattle.in_net.proofs.NumberTests.{equal_turned}
+use Rattle.in_net.proofs.Public.{equal_turned}
 use Rattle.in_check.specs.NetText.{same_point, number_of}
 use Rattle.in_print.specs.Points.{point_at}
 use Rattle.in_print.specs.Writings.{number_at, met_after}

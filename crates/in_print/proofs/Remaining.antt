@@ -5,7 +5,7 @@ use Rattle.in_check.specs.NetText.{TextPart, Bytes, Head, Variable, arity_of, li
 use Rattle.in_arena.specs.declared.content.CellNo.{CellNo}
 use Rattle.in_print.specs.declared.terms.Frame.{Frame}
 use Rattle.in_print.specs.Writings.{Setting, Written, with_parts}
-use Rattle.in_print.specs.Terms.{arity_at, term_in, rest_of, Leads, remaining, last_point, IsInHand, IsShallow, GoesOn}
+use Rattle.in_print.specs.Terms.{arity_at, term_in, rest_of, Leads, remaining, last_point, IsInHand, IsShallow, WritesOn}
 use Rattle.in_print.proofs.Texts.{with_parts_join}
 
 abbrev pub frame : CellNo → ℕ → Frame
@@ -80,7 +80,7 @@ last_push p (g ∷ fs) f = last_push (Port g.cell.0 g.place) fs f
 
 -- these parts were written
 step : (s : Setting) (d : ℕ) (p : Point ℕ) (w : Written) (fs gs : List Frame) (x y : Option (Point ℕ)) (done : List (TextPart ℕ)) → 0 < length done → remaining s d fs x ≡ done ++ remaining s d gs y → Leads s p gs → IsInHand p gs y
-    → GoesOn s d p w fs x (with_parts s w done) gs y
+    → WritesOn s d p w fs x (with_parts s w done) gs y
 step s d p w fs gs x y done some e h f =
     record { text = sym (with_parts_join s w done (remaining s d gs y)) ∙ ap (with_parts s w) (sym e); fewer = omega (arith, ap length e, length-append done (remaining s d gs y), some); leads = h; in_hand = f }
 
@@ -98,7 +98,7 @@ variable_term s zero p q e h = ap (term_at (λ y. []) p) e ∙ variable_at (λ y
 variable_term s (suc k) p q e h = ap (term_at (agent_term s.symbols s.net (term_in s k)) p) e ∙ variable_at (agent_term s.symbols s.net (term_in s k)) p q h
 
 pub writes_variable : (s : Setting) (d : ℕ) (p : Point ℕ) (w : Written) (fs : List Frame) (x q : Point ℕ) → IsShallow s d p → Leads s p fs → s.net.partner x ≡ Some q → IsAuxiliary q
-    → GoesOn s d p w fs (Some x) (with_parts s w (Variable x q ∷ [])) fs None
+    → WritesOn s d p w fs (Some x) (with_parts s w (Variable x q ∷ [])) fs None
 writes_variable s d p w fs x q shallow h e aux =
     step s d p w fs fs (Some x) None (Variable x q ∷ []) (omega arith) (leaf s d fs x (Variable x q) (shallow fs h).0 (λ k i. variable_term s k x q e aux)) h tt
 
@@ -107,7 +107,7 @@ head_term s zero p y e a lt = absurd (omega (arith, lt))
 head_term s (suc k) p y e a lt = agent_at s k p y e ∙ closed_term s k y a
 
 pub writes_head : (s : Setting) (d : ℕ) (p : Point ℕ) (w : Written) (fs : List Frame) (x : Point ℕ) (y : CellNo) → IsShallow s d p → Leads s p fs → x ≡ last_point p fs → s.net.partner x ≡ Some (Port y.0 0) → arity_at s y.0 ≡ 0
-    → GoesOn s d p w fs (Some x) (with_parts s w (Head y.0 ∷ [])) fs None
+    → WritesOn s d p w fs (Some x) (with_parts s w (Head y.0 ∷ [])) fs None
 writes_head s d p w fs x y shallow h at e a =
     let lt : length fs < d = (shallow fs h).1 y.0 (ap s.net.partner (sym at) ∙ e) in
     step s d p w fs fs (Some x) None (Head y.0 ∷ []) (omega arith) (leaf s d fs x (Head y.0) (omega (arith, lt)) (λ k i. head_term s k x y.0 e a (omega (arith, i, lt)))) h tt
@@ -117,7 +117,7 @@ pred_of zero lt = absurd (omega (arith, lt))
 pred_of (suc k) lt = (k, refl)
 
 pub writes_agent : (s : Setting) (d : ℕ) (p : Point ℕ) (w : Written) (fs : List Frame) (x : Point ℕ) (y : CellNo) → IsShallow s d p → Leads s p fs → x ≡ last_point p fs → s.net.partner x ≡ Some (Port y.0 0) → 0 < arity_at s y.0
-    → GoesOn s d p w fs (Some x) (with_parts s w (Head y.0 ∷ Bytes (40 ∷ []) ∷ [])) (fs ++ frame y 1 ∷ []) (Some (Port y.0 1))
+    → WritesOn s d p w fs (Some x) (with_parts s w (Head y.0 ∷ Bytes (40 ∷ []) ∷ [])) (fs ++ frame y 1 ∷ []) (Some (Port y.0 1))
 writes_agent s d p w fs x y shallow h at e lt =
     let more = leads_push s p fs (frame y 1) h (ap s.net.partner (sym at) ∙ e) (omega arith) (omega (arith, lt)) in
     let a = pred_of (arity_at s y.0) lt in
@@ -125,12 +125,12 @@ writes_agent s d p w fs x y shallow h at e lt =
     (opened s d fs x y a.0 (deeper s d p fs (frame y 1) shallow more) e a.1) more (sym (last_push p fs (frame y 1)))
 
 pub writes_close : (s : Setting) (d : ℕ) (p : Point ℕ) (w : Written) (fs : List Frame) (f : Frame) → IsShallow s d p → Leads s p (fs ++ f ∷ []) → arity_at s f.cell.0 ≤ f.place
-    → GoesOn s d p w (fs ++ f ∷ []) None (with_parts s w (Bytes (41 ∷ []) ∷ [])) fs None
+    → WritesOn s d p w (fs ++ f ∷ []) None (with_parts s w (Bytes (41 ∷ []) ∷ [])) fs None
 writes_close s d p w fs f shallow h le =
     step s d p w (fs ++ f ∷ []) fs None None (Bytes (41 ∷ []) ∷ []) (omega arith) (closed s d fs f (deeper s d p fs f shallow h) (omega (arith, le))) (leads_pop s p fs f h).0 tt
 
 pub writes_comma : (s : Setting) (d : ℕ) (p : Point ℕ) (w : Written) (fs : List Frame) (y : CellNo) (i : ℕ) → IsShallow s d p → Leads s p (fs ++ frame y i ∷ []) → i < arity_at s y.0
-    → GoesOn s d p w (fs ++ frame y i ∷ []) None (with_parts s w (Bytes (44 ∷ 32 ∷ []) ∷ [])) (fs ++ frame y (i + 1) ∷ []) (Some (Port y.0 (i + 1)))
+    → WritesOn s d p w (fs ++ frame y i ∷ []) None (with_parts s w (Bytes (44 ∷ 32 ∷ []) ∷ [])) (fs ++ frame y (i + 1) ∷ []) (Some (Port y.0 (i + 1)))
 writes_comma s d p w fs y i shallow h lt =
     let old = leads_pop s p fs (frame y i) h in
     step s d p w (fs ++ frame y i ∷ []) (fs ++ frame y (i + 1) ∷ []) None (Some (Port y.0 (i + 1))) (Bytes (44 ∷ 32 ∷ []) ∷ []) (omega arith)

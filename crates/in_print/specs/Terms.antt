@@ -43,7 +43,7 @@ abbrev pub IsShallow : Setting → ℕ → Point ℕ → Type 0
 IsShallow s d p = (fs : List Frame) → Leads s p fs → (length fs ≤ d) × ((y : ℕ) → s.net.partner (last_point p fs) ≡ Some (Port y 0) → length fs < d)
 
 -- some of it was written, and less is still to be written
-pub record GoesOn (s : Setting) (d : ℕ) (p : Point ℕ) (old : Written) (fs : List Frame) (x : Option (Point ℕ)) (new : Written) (gs : List Frame) (y : Option (Point ℕ)) : Type 0 where
+pub record WritesOn (s : Setting) (d : ℕ) (p : Point ℕ) (old : Written) (fs : List Frame) (x : Option (Point ℕ)) (new : Written) (gs : List Frame) (y : Option (Point ℕ)) : Type 0 where
   pub text : with_parts s new (remaining s d gs y) ≡ with_parts s old (remaining s d fs x)
   pub fewer : length (remaining s d gs y) < length (remaining s d fs x)
   pub leads : Leads s p gs

@@ -4,7 +4,7 @@ ghost use Rattle.in_net.specs.Parts.{symbol_in};
 ghost use Rattle.in_rounds.specs.Machines.{IsMachine};
 ghost use Rattle.in_reducer.specs.Machines.{parts_of};
 ghost use Rattle.in_print.specs.Points.{point_at};
-ghost use Rattle.in_print.specs.Terms.{term_in, Leads, IsShallow, GoesOn, last_point};
+ghost use Rattle.in_print.specs.Terms.{term_in, Leads, IsShallow, WritesOn, last_point};
 ghost use Rattle.in_print.specs.Texts.{setting_of, IsPointAt, IsPrincipalAt, Wrote};
 
 use crate::sheet::Sheet;
@@ -40,7 +40,7 @@ fn begin(
     requires machine { IsMachine machine.now }
     requires point { IsPointAt machine.now end }
     ensures { IfOk result (λ x. (d : ℕ) (p : Point ℕ) → IsShallow (setting_of machine.now) d p → Leads (setting_of machine.now) p stack.old.items → point_at end ≡ last_point p stack.old.items →
-        GoesOn (setting_of machine.now) d p sheet.old stack.old.items (Some (point_at end)) sheet.new stack.new.items (option_map point_at x)) }
+        WritesOn (setting_of machine.now) d p sheet.old stack.old.items (Some (point_at end)) sheet.new stack.new.items (option_map point_at x)) }
 {
     let partner = machine.partner(end);
     let Some(cell) = agent_at(partner) else {
@@ -66,7 +66,7 @@ fn go_on(
 ) -> Result<Option<End>, AllocError>
     requires { IsSome (symbol_in (parts_of machine.now) frame.cell.0) }
     ensures { IfOk result (λ x. (d : ℕ) (p : Point ℕ) → IsShallow (setting_of machine.now) d p → Leads (setting_of machine.now) p (stack.old.items ++ frame ∷ []) →
-        GoesOn (setting_of machine.now) d p sheet.old (stack.old.items ++ frame ∷ []) None sheet.new stack.new.items (option_map point_at x)) }
+        WritesOn (setting_of machine.now) d p sheet.old (stack.old.items ++ frame ∷ []) None sheet.new stack.new.items (option_map point_at x)) }
 {
     let Frame { cell, place } = frame;
     if place >= machine.arity(cell) {

@@ -10,7 +10,7 @@ use Rattle.in_check.specs.NetText.{text}
 use Rattle.in_check.specs.Programs.{Program}
 use Rattle.in_check.specs.Runs.{Reached}
 use Rattle.in_check.specs.Systems.{System, rule_in, system_of}
-use Rattle.in_check.proofs.OneAnswer.{checked_once}
+use Rattle.in_check.proofs.Public.{checked_once}
 use Rattle.in_order.specs.Ends.{words_in, Ends, EndsOnce}
 use Rattle.in_run.specs.declared.limits.Limits.{Limits}
 use Rattle.in_run.specs.declared.running.Outcome.{Outcome}
@@ -19,9 +19,9 @@ use Rattle.in_run.specs.declared.stops.Stop.TheVariants.{Normal, Limit, Full}
 use Rattle.in_reducer.specs.Machines.{MachineParts}
 use Rattle.in_print.specs.Devices.{Device, Moves}
 use Rattle.in_rounds.specs.Texts.{text_of}
-use Rattle.in_run.proofs.OneEnd.{normal_outcomes_are_one}
-use Rattle.in_words.specs.declared.action.Action.{Action}
-use Rattle.in_words.specs.declared.action.Action.TheVariants.{Check, Derive, Run}
+use Rattle.in_run.proofs.Public.{normal_outcomes_are_one}
+use Rattle.in_command_line.specs.declared.action.Action.{Action}
+use Rattle.in_command_line.specs.declared.action.Action.TheVariants.{Check, Derive, Run}
 use Rattle.in_program.specs.declared.acting.Status.{Status}
 use Rattle.in_program.specs.Acting.{Acts, told, unread, unwritten, Says, IsReply, IsOfEachEnd, IsReport, IsFinding, counted, derived, ran, full, Report, accepted, refused, lines_of, status_of, status, stop_status}
 use Rattle.in_program.specs.Lines.{run_lines}

@@ -4,20 +4,20 @@ use Rattle.in_syntax.specs.declared.faults.Fault.TheVariants.{Refused}
 use Rattle.in_symbols.specs.Tables.{Tables}
 use Rattle.in_net.specs.Parts.{Parts}
 use Rattle.in_net.specs.Rules.{RuleParts}
-use Rattle.in_words.specs.declared.action.Action.{Action}
-use Rattle.in_words.specs.declared.action.Action.TheVariants.{Check, Derive, Run}
+use Rattle.in_command_line.specs.declared.action.Action.{Action}
+use Rattle.in_command_line.specs.declared.action.Action.TheVariants.{Check, Derive, Run}
 use Rattle.in_check.specs.declared.checked.Certificate.{Certificate}
 use Rattle.in_check.specs.declared.checked.Counts.{Counts}
 use Rattle.in_check.specs.Laws.{AreOneProgram}
 use Rattle.in_check.specs.Programs.{Program, counts_of}
-use Rattle.in_check.proofs.OneAnswer.{checked_once}
+use Rattle.in_check.proofs.Public.{checked_once}
 use Rattle.in_program.specs.Acting.{Finding, counted, derived, ran, full, IsFinding, finding_lines, finding_status, stop_status, Report, accepted, refused, IsReport, lines_of, status_of}
 use Rattle.in_program.specs.Laws.{TakesTurns, TextsAreAnsweredOnce}
 use Rattle.in_arena.specs.declared.content.CellClass.{CellClass}
 use Rattle.in_check.specs.Checking.{IsAccepted}
 use Rattle.in_program.specs.Lines.{accepted_line, refused_line, run_lines, start_line}
 use Rattle.in_compile.specs.Cells.{agents_of}
-use Rattle.in_compile.proofs.Classes.{one_short, short_needed}
+use Rattle.in_compile.proofs.Public.{one_short, short_needed}
 use Rattle.in_program.proofs.OneRun.{one_run, starts_or_not, same_agents}
 use Rattle.in_program.specs.Steps.{derivation_lines, net_lines, rules_lines}
 

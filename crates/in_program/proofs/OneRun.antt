@@ -25,10 +25,9 @@ use Rattle.in_reducer.specs.Runs.{Runs, at_start, then_step}
 use Rattle.in_run.specs.Stops.{IsStop, IsOutcome}
 use Rattle.in_reducer.specs.Starts.{IsStart}
 use Rattle.in_rounds.specs.Starts.{DoesNotFit}
-use Rattle.in_rounds.proofs.SameRun.{machine_runs}
-use Rattle.in_run.proofs.SameOutcome.{same_outcome}
-use Rattle.in_rounds.proofs.SameStart.{count_at, same_start, start_machine}
-use Rattle.in_print.proofs.SameTexts.{same_texts}
+use Rattle.in_rounds.proofs.Public.{machine_runs, count_at, same_start, start_machine}
+use Rattle.in_run.proofs.Public.{same_outcome}
+use Rattle.in_print.proofs.Public.{same_texts}
 use Rattle.in_rounds.specs.Texts.{text_of}
 
 -- ---- another table of rules

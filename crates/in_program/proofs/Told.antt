@@ -1,11 +1,11 @@
 -- What telling lines on a text does.
 use Rattle.std.proofs.Common.{◌≡◌, ◌<◌, ◌+◌, List, ◌++◌, [], ◌∷◌, length, take, ℕ, zero, suc, sym, subst, ap, ◌∙◌, refl, inl, inr, arith, length-append, Result, Ok, Err, IfOk, OnErr, Vec, Global}
 use Rattle.std.specs.Io.KnownBytes.{append_known}
-use Rattle.in_print.proofs.Fronts.{append_known-twice}
-use Rattle.in_words.specs.declared.action.Action.{Action}
+use Rattle.in_print.proofs.Public.{append_known-twice}
+use Rattle.in_command_line.specs.declared.action.Action.{Action}
 use Rattle.in_program.specs.declared.acting.Status.{Status}
 use Rattle.in_print.specs.Devices.{Device, Moves, BreaksAt}
-use Rattle.in_program.specs.Devices.{Reader, Gives, IsEnough}
+use Rattle.in_program.specs.Devices.{Reader, Gives, IsEnoughText}
 use Rattle.in_program.specs.Lines.{memory_line}
 use Rattle.in_program.specs.Acting.{Acts, told, unwritten, memory_status, fault_status, IsReply, Says, Tells, TellsOne}
 
@@ -17,7 +17,7 @@ tells a r r' w w' text line s answer read says (inl (wrote, is)) =
 tells a r r' w w' text line s answer read says (inr (breaks, is)) = unwritten text line s read says breaks is
 
 -- what is told of the text, where it is seen through another
-pub tells_reply : (a : Action) (r r' : Reader) (w w' : Device) (text seen : List ℕ) (answer : Status) → seen ≡ text → (Gives r r' text × IsEnough r'.ended text) → TellsOne (IsReply a seen) w w' answer → Acts a r r' w w' answer
+pub tells_reply : (a : Action) (r r' : Reader) (w w' : Device) (text seen : List ℕ) (answer : Status) → seen ≡ text → (Gives r r' text × IsEnoughText r'.ended text) → TellsOne (IsReply a seen) w w' answer → Acts a r r' w w' answer
 tells_reply a r r' w w' text seen answer of_text (read, enough) (lines, s, inl reply, tell) =
     let P : List ℕ → Type 0 = λ z. IsReply a z lines s in
     tells a r r' w w' text lines s answer read (inl (enough, subst P of_text reply)) tell

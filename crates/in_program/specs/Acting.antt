@@ -1,10 +1,10 @@
 -- What the program does: the lines that it writes on the text that it reads, and its status.
 use Rattle.std.specs.Prelude.{◌≡◌, ◌⊎◌, ◌++◌, ℕ, Bool, true, false, List, Ok, string_bytes}
 use Rattle.in_syntax.specs.declared.faults.Refusal.{Refusal}
-use Rattle.in_words.specs.declared.action.Action.{Action}
-use Rattle.in_words.specs.declared.action.Action.TheVariants.{Check, Derive, Run}
-use Rattle.in_words.specs.declared.action.Usage.{Usage}
-use Rattle.in_words.specs.declared.action.Usage.TheVariants.{Wrong, Help, Memory}
+use Rattle.in_command_line.specs.declared.action.Action.{Action}
+use Rattle.in_command_line.specs.declared.action.Action.TheVariants.{Check, Derive, Run}
+use Rattle.in_command_line.specs.declared.action.Usage.{Usage}
+use Rattle.in_command_line.specs.declared.action.Usage.TheVariants.{Wrong, Help, Memory}
 use Rattle.in_program.specs.declared.acting.Status.{Status}
 use Rattle.in_check.specs.Checking.{IsAccepted, IsRefused}
 use Rattle.in_check.specs.Programs.{Program, counts_of}
@@ -17,7 +17,7 @@ use Rattle.in_reducer.specs.Machines.{MachineParts}
 use Rattle.in_order.specs.Ends.{Ends}
 use Rattle.in_rounds.specs.Starts.{DoesNotFit}
 use Rattle.in_run.specs.Outcomes.{RunsTo}
-use Rattle.in_program.specs.Devices.{Reader, Gives, Fails, BreaksWithin, IsEnough}
+use Rattle.in_program.specs.Devices.{Reader, Gives, Fails, BreaksWithin, IsEnoughText}
 use Rattle.in_program.specs.Lines.{accepted_line, refused_line, memory_line, run_lines, start_line}
 use Rattle.in_program.specs.Steps.{derivation_lines}
 
@@ -104,7 +104,7 @@ WantsMemory lines s = (lines ≡ memory_line) × (s ≡ memory_status)
 
 -- what may be said once these bytes are read: what is so of them, if they are enough, or that memory is wanted
 abbrev pub Says : Action → Bool → List ℕ → List ℕ → Status → Type 0
-Says a ended text lines s = (IsEnough ended text × IsReply a text lines s) ⊎ WantsMemory lines s
+Says a ended text lines s = (IsEnoughText ended text × IsReply a text lines s) ⊎ WantsMemory lines s
 
 -- what `report` is called for
 abbrev pub report_action : Bool → Action

@@ -44,11 +44,11 @@ abbrev pub BreaksWithin : Device → Device → List ℕ → Type 0
 BreaksWithin old new bytes = (count : ℕ) × BreaksAt old new bytes count
 
 -- the bytes are the text up to its end, or more of it than a text may have
-abbrev pub IsEnough : Bool → List ℕ → Type 0
-IsEnough ended bytes = IsTrue ended ⊎ (text_limit < length bytes)
+abbrev pub IsEnoughText : Bool → List ℕ → Type 0
+IsEnoughText ended bytes = IsTrue ended ⊎ (text_limit < length bytes)
 
 -- how reading a text ended
 abbrev pub IsInput : Reader → Reader → Input → Type 0
-IsInput old new (input.Text text) = Gives old new text.items × IsEnough new.ended text.items
+IsInput old new (input.Text text) = Gives old new text.items × IsEnoughText new.ended text.items
 IsInput old new input.Failed = (bytes : List ℕ) × Fails old new bytes
 IsInput old new input.Memory = (bytes : List ℕ) × Gives old new bytes

@@ -5,7 +5,7 @@ ghost use Rattle.in_print.specs.Devices.{device};
 ghost use Rattle.in_program.specs.Acting.{AreFound, AreThese, IsReply, TellsOne, status};
 ghost use Rattle.in_program.specs.Lines.{start_line};
 ghost use Rattle.in_rounds.specs.declared.starting.StartFault.TheVariants.{Full};
-ghost use Rattle.in_words.specs.declared.action.Action.TheVariants.{Run};
+ghost use Rattle.in_command_line.specs.declared.action.Action.TheVariants.{Run};
 
 use crate::acting::{
     FULL, MEMORY, MEMORY_LINE, Status, tell, tell_fault, tell_lines, tell_outcome,

@@ -37,5 +37,6 @@ pub fn read_text<R: TextIn>(alloc: Global, reader: &mut R) -> Input
             }
         }
     }
+    // By now the text has ended, or has more bytes than a text may have.
     unreachable!()
 }

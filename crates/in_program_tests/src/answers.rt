@@ -2,10 +2,10 @@
 //! is small, since each way out of it costs the prover.
 ghost use Rattle.std.specs.Prelude.{◌≡◌};
 
+use in_command_line::Action;
 use in_program::{Status, act};
 use in_syntax::{MemoryIn, MemoryOut};
 use in_test_texts::joined;
-use in_words::Action;
 use std::alloc::Global;
 use std::sync::Wait;
 use std::thread::Threads;

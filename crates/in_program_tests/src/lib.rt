@@ -6,8 +6,8 @@ mod answers;
 #[cfg(test)]
 mod devices;
 #[cfg(test)]
-mod of_in_program;
+mod of_in_command_line;
 #[cfg(test)]
-mod of_in_words;
+mod of_in_program;
 #[cfg(test)]
 mod of_runs;

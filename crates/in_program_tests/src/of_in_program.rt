@@ -2,9 +2,9 @@ ghost use Rattle.std.specs.Prelude.{◌≡◌};
 
 use crate::answers::{is_answer, is_written};
 use crate::devices::{Paper, Stop, Tape};
+use in_command_line::{Action, Usage};
 use in_program::{Status, report, tell_usage};
 use in_test_texts::{ADDITION, DUPLICATION, ERASURE, NUMBERS, SUMS, joined};
-use in_words::{Action, Usage};
 use std::alloc::{AllocError, Global};
 use std::process::Abort;
 use std::sync::Wait;

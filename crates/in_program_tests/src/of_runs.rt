@@ -1,8 +1,8 @@
 //! What `inet run` writes.
 use crate::answers::is_written;
+use in_command_line::Action;
 use in_run::Limits;
 use in_test_texts::{ADDITION, DUPLICATION, ERASURE, SUMS};
-use in_words::Action;
 use std::alloc::{AllocError, Global};
 use std::process::Abort;
 use std::sync::Wait;

@@ -10,20 +10,18 @@ use Rattle.in_net.specs.Built.{IsOver, HaveFewPorts}
 use Rattle.in_net.specs.Nets.{net_of}
 use Rattle.in_net.specs.Parts.{Parts, IsWhole, symbol_in}
 use Rattle.in_net.specs.Rules.{RuleParts, IsRuleOver}
-use Rattle.in_net.proofs.Small.{are_small}
-use Rattle.in_syntax.proofs.Sized.{tree_sized}
+use Rattle.in_net.proofs.Public.{are_small}
+use Rattle.in_syntax.proofs.Public.{tree_sized}
 use Rattle.in_cover.specs.Cover.{IsRuleFor}
-use Rattle.in_opening.specs.Opening.{AreAllThere}
-use Rattle.in_opening.proofs.Counted.{text_net_there}
+use Rattle.in_open_nets_of_programs.specs.Opening.{AreAllThere}
+use Rattle.in_open_nets_of_programs.proofs.Public.{text_net_there}
 use Rattle.in_check.specs.Checking.{IsAccepted, IsProgramOf}
 use Rattle.in_check.specs.Plain.{PlainParts, IsRuleAt}
 use Rattle.in_check.specs.Programs.{Program}
 use Rattle.in_check.specs.Promises.{IsAsPromised}
 use Rattle.in_check.specs.Systems.{system_of}
-use Rattle.in_check.proofs.Chain.{program_of}
-use Rattle.in_check.proofs.Reached.FromText.{is_sound}
-use Rattle.in_check.proofs.Reached.Plain.{starts, promised}
-use Rattle.in_compile.proofs.Accepted as rules
+use Rattle.in_check.proofs.Public.{program_of, is_sound, starts, promised}
+use Rattle.in_compile.proofs.Public.Accepted as rules
 
 module _ (text : List ℕ) (p : Program) (accepted : IsAccepted text p) where
   of : IsProgramOf text p

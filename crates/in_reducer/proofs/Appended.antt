@@ -15,28 +15,26 @@ use Rattle.in_arena.specs.declared.content.CellClass.TheVariants.{Small, Large, 
 use Rattle.in_arena.specs.declared.content.CellNo.{CellNo}
 use Rattle.in_arena.specs.declared.content.End.{End}
 use Rattle.in_arena.specs.declared.content.End.TheVariants as end
-use Rattle.in_arena.proofs.Arenas.{state_inside}
-use Rattle.in_arena.proofs.Classes.{numbers_apart}
+use Rattle.in_arena.proofs.Public.{state_inside, numbers_apart}
 use Rattle.in_symbols.specs.declared.symbols.PortType.{PortType}
 use Rattle.in_symbols.specs.Tables.{Tables, arity_of}
 use Rattle.in_net.specs.declared.nets.Cell.{Cell}
 use Rattle.in_net.specs.declared.nets.FreeEnd.{FreeEnd}
 use Rattle.in_net.specs.Nets.{Port, Free, Net, signature_of}
 use Rattle.in_net.specs.Parts.{symbol_in}
-use Rattle.in_net.proofs.PairPorts.{symbol_of}
+use Rattle.in_net.proofs.Public.{symbol_of}
 use Rattle.in_interaction.specs.Queues.{IsQueueOf, both}
 use Rattle.in_check.specs.Programs.{Program}
 use Rattle.in_check.specs.Systems.{System, IsSound, system_of}
-use Rattle.in_check.proofs.Reached.Signs.{AreOpposed, opposed_in}
+use Rattle.in_check.proofs.Public.{AreOpposed, opposed_in}
 use Rattle.in_compile.specs.Cells.{agents_of, count_of, is_of, takes}
-use Rattle.in_interaction.proofs.Stepping.KeptOrMade.{symbol_number}
+use Rattle.in_interaction.proofs.Public.{symbol_number}
 use Rattle.in_joining.specs.Shown.{IsShown, point_of}
 use Rattle.in_moving.specs.Copying.{AreClosed, HasRoom, IsCopied, IsListOfLive, IsWithin, is_for, moved, moved_end, name_in, number_in}
 use Rattle.in_moving.specs.Laws.{Shows, one_after_other}
-use Rattle.in_moving.proofs.Beside.{copies_follow}
-use Rattle.in_moving.proofs.Shown.{all_are_closed}
+use Rattle.in_moving.proofs.Public.{copies_follow, all_are_closed}
 use Rattle.in_parts.specs.Leading.{StandBeside}
-use Rattle.in_parts.proofs.BesideSound.{beside_sound_is_sound}
+use Rattle.in_parts.proofs.Public.{beside_sound_is_sound}
 use Rattle.in_reducer.specs.declared.body.Body.{Body}
 use Rattle.in_reducer.specs.declared.body.OwnEnd.{OwnEnd}
 use Rattle.in_reducer.specs.Appending.{Appends, CanAppend}

@@ -7,7 +7,7 @@ use Rattle.in_arena.specs.Bags.{empty_bag}
 use Rattle.in_arena.specs.Changes.{HasAllCells}
 use Rattle.in_arena.specs.declared.content.CellNo.{CellNo}
 use Rattle.in_arena.specs.declared.content.End.{End}
-use Rattle.in_arena.proofs.Bags.{empty_is_of}
+use Rattle.in_arena.proofs.Public.{empty_is_of}
 use Rattle.in_net.specs.declared.nets.FreeEnd.{FreeEnd}
 use Rattle.in_net.specs.NetFaults.{max_member_agents}
 use Rattle.in_check.specs.Programs.{Program}
@@ -15,8 +15,7 @@ use Rattle.in_compile.specs.declared.cells.Need.{Need}
 use Rattle.in_compile.specs.declared.joints.Joint.{Joint}
 use Rattle.in_compile.specs.Placing.{PlacedParts}
 use Rattle.in_compile.specs.Stocks.{StockParts, empty_stock}
-use Rattle.in_compile.proofs.Stocked.{none_in_empty}
-use Rattle.in_compile.proofs.Taken.{mapped_more}
+use Rattle.in_compile.proofs.Public.{none_in_empty, mapped_more}
 use Rattle.in_reducer.specs.declared.body.OwnEnd.{OwnEnd}
 use Rattle.in_reducer.specs.declared.body.OwnEnd.TheVariants.{Named}
 use Rattle.in_reducer.specs.declared.tools.Tools.{Tools}

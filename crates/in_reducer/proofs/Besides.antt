@@ -3,8 +3,8 @@ use Rattle.std.proofs.Common.{◌≡◌, ℕ, List, refl, subst, sym, arith}
 use Rattle.in_arena.specs.Arenas.{ArenaView}
 use Rattle.in_arena.specs.Bags.{IsBagOf}
 use Rattle.in_arena.specs.declared.content.CellNo.{CellNo}
-use Rattle.in_compile.specs.Members.{IsSound}
-use Rattle.in_compile.specs.Placing.{PlacedParts, IsPlaced}
+use Rattle.in_compile.specs.Members.{IsSoundMember}
+use Rattle.in_compile.specs.Placing.{PlacedParts, IsPlacedMember}
 use Rattle.in_compile.specs.Stocks.{Regains}
 use Rattle.in_compile.specs.Templates.{TemplateParts}
 use Rattle.in_reducer.specs.declared.body.Body.{Body}
@@ -17,7 +17,7 @@ use Rattle.in_reducer.specs.Templates.{IsTemplateAt}
 use Rattle.in_reducer.proofs.Settled as settled
 use Rattle.in_reducer.proofs.Stepped.{free_is}
 
-module _ (r : Body) (k : KeepsNet r) (i : ℕ) (p : TemplateParts) (at : IsTemplateAt (reducer_view r) i p) (sound : IsSound p.member) (d : PlacedParts) (is : IsPlaced p.member d) (of : IsBagOf d.bag r.arena) (b : ArenaView) (back : Regains (λ x. x) r.arena d.bag b) where
+module _ (r : Body) (k : KeepsNet r) (i : ℕ) (p : TemplateParts) (at : IsTemplateAt (reducer_view r) i p) (sound : IsSoundMember p.member) (d : PlacedParts) (is : IsPlacedMember p.member d) (of : IsBagOf d.bag r.arena) (b : ArenaView) (back : Regains (λ x. x) r.arena d.bag b) where
   put : IsPut p.member d.cells r.arena b
   put = settled.is_put p.member d is r.arena b of back d.cells refl
 

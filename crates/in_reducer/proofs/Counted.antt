@@ -10,9 +10,9 @@ use Rattle.in_arena.specs.declared.content.CellClass.{CellClass}
 use Rattle.in_arena.specs.declared.content.CellClass.TheVariants.{Small, Large, Wide}
 use Rattle.in_symbols.specs.Tables.{Tables}
 use Rattle.in_net.specs.declared.nets.Cell.{Cell}
-use Rattle.in_arena.proofs.Classes.{class_of_number}
+use Rattle.in_arena.proofs.Public.{class_of_number}
 use Rattle.in_symbols.specs.Tables.{arity_of}
-use Rattle.in_compile.proofs.OneTemplate.{one_class}
+use Rattle.in_compile.proofs.Public.{one_class}
 use Rattle.in_compile.specs.Cells.{is_of, takes, agents_of, count_of}
 use Rattle.in_reducer.specs.Standing.{agent_in, agents_in, at_rest, vacant_in, IsNetIn}
 use Rattle.in_reducer.proofs.AtRest.{agents_same}

@@ -17,23 +17,21 @@ use Rattle.in_net.specs.declared.nets.Point.TheVariants as code
 use Rattle.in_net.specs.ActivePairs.{IsActivePair}
 use Rattle.in_net.specs.Nets.{Point, Port, Free, Net, signature_of}
 use Rattle.in_net.specs.Parts.{symbol_in, partner_in}
-use Rattle.in_net.proofs.OneNet.{map_is}
-use Rattle.in_net.proofs.PairPorts.{symbol_of}
+use Rattle.in_net.proofs.Public.{map_is, symbol_of}
 use Rattle.in_typing.specs.Typed.{opposite}
 use Rattle.in_typing.specs.TypedNets.{type_in}
 use Rattle.in_interaction.specs.Listing.{unlisted}
 use Rattle.in_interaction.specs.Queues.{IsQueueOf, agents_at}
-use Rattle.in_interaction.proofs.Stepping.Partners.{net_wire}
+use Rattle.in_interaction.proofs.Public.{net_wire}
 use Rattle.in_check.specs.Systems.{System, IsSound, system_of}
 use Rattle.in_glue.specs.Joining.{CutsWire}
 use Rattle.in_joining.specs.Cells.{KeepsCells}
 use Rattle.in_joining.specs.Shown.{IsShown}
-use Rattle.in_joining.proofs.AllShown.{place_within}
-use Rattle.in_joining.proofs.Kept.{word_kept}
+use Rattle.in_joining.proofs.Public.{place_within, word_kept}
 use Rattle.in_cutting.specs.Cutting.{IsCutAt, Shows}
-use Rattle.in_cutting.proofs.CutInCells.{stands_some}
+use Rattle.in_cutting.proofs.Public.{stands_some}
 use Rattle.in_parts.specs.Leading.{IsCutOnce}
-use Rattle.in_parts.proofs.CutOnce.{cut_once_is_sound}
+use Rattle.in_parts.proofs.Public.{cut_once_is_sound}
 use Rattle.in_reducer.specs.declared.body.Body.{Body}
 use Rattle.in_reducer.specs.declared.body.OwnEnd.{OwnEnd}
 use Rattle.in_reducer.specs.declared.body.OwnEnd.TheVariants.{Cut}

@@ -10,7 +10,7 @@ use Rattle.in_interaction.specs.Queues.{both}
 use Rattle.in_compile.specs.Templates.{TemplateParts}
 use Rattle.in_reducer.specs.declared.body.Body.{Body}
 use Rattle.in_reducer.specs.Inside.{StandsBeside, most_ends, over, own_free, reducer_view}
-use Rattle.in_reducer.specs.Interacting.{IsBeside, IsInteracted, Setting, named}
+use Rattle.in_reducer.specs.Interacting.{HasBeside, IsInteracted, PairSetting, named}
 use Rattle.in_reducer.specs.Machines.{MachineParts}
 use Rattle.in_reducer.specs.Reducers.{IsReducer}
 use Rattle.in_reducer.specs.Standing.{IsNetIn, agents_in, at_rest, leading_to, vacant_in}
@@ -26,7 +26,7 @@ module _ (r : Body) (a : ArenaView) (i : ℕ) (p : TemplateParts) (sb : StandsBe
   abbrev ns : List CellNo
   ns = r.tools.placed.cells
 
-  abbrev pub setting : Setting
+  abbrev pub setting : PairSetting
   setting = stepped.setting (over a r) sb.net i p sb.at
 
   pub low : i < length r.queue.items
@@ -46,7 +46,7 @@ module _ (r : Body) (a : ArenaView) (i : ℕ) (p : TemplateParts) (sb : StandsBe
   room own e ends f = stepped.room_there (over a r) sb.net i p sb.at own (own_is own e) ends f
 
   pub beside : (q : ℕ × ℕ) → q ≡ get_or r.queue.items i q → (tables : Tables) → tables ≡ r.checked.now.tables → (first : ℕ) → first ≡ p.first_ends → (own : ℕ) → own ≡ length r.free.items → (ends : List End) → ends ≡ r.ends.items
-      → IsBeside tables (stepped.setting (over a r) sb.net i p sb.at) p (record { one = record { 0 = q.0 }; other = record { 0 = q.1 }; first_ends = first }) own r.tools.placed.cells r.arena ends
+      → HasBeside tables (stepped.setting (over a r) sb.net i p sb.at) p (record { one = record { 0 = q.0 }; other = record { 0 = q.1 }; first_ends = first }) own r.tools.placed.cells r.arena ends
   beside q read tables same first is_first own is_own ends is_ends =
       let same_pair : sb.at.pair ≡ q = same_Some sb.at.pair q (sym sb.at.stands ∙ read_at r.queue.items i q low read) in (
         a,

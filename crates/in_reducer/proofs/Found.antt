@@ -3,16 +3,15 @@ use Rattle.std.proofs.Common.{◌≡◌, ℕ, Some, IsSome, slice_get, sym, ap, 
 use Rattle.std.proofs.lemmas.Option.{same_Some}
 use Rattle.in_symbols.specs.declared.symbols.SymbolNo.{SymbolNo}
 use Rattle.in_net.specs.Parts.{symbol_in}
-use Rattle.in_cover.specs.Cover.{IsPair, IsFor}
+use Rattle.in_cover.specs.Cover.{IsPair, IsRuleOfSymbols}
 use Rattle.in_net.specs.Rules.{RuleParts}
 use Rattle.in_check.specs.Plain.{IsPairAt, IsRuleAt}
-use Rattle.in_check.proofs.Reached.Renaming.{is_some as there}
-use Rattle.in_glue.proofs.Gluing.Reducible.{reducible_pairs_have_their_rule}
+use Rattle.in_check.proofs.Public.{is_some as there}
+use Rattle.in_glue.proofs.Public.{reducible_pairs_have_their_rule}
 use Rattle.in_interaction.specs.Queues.{agents_at}
 use Rattle.in_compile.specs.Laws.{HasOneTemplate}
 use Rattle.in_compile.specs.Templates.{TemplateParts, TemplatesParts, IsTemplateOf, AreTemplatesOf, template_at}
-use Rattle.in_compile.proofs.Accepted.{complete}
-use Rattle.in_compile.proofs.OneTemplate.{one_for}
+use Rattle.in_compile.proofs.Public.{complete, one_for}
 use Rattle.in_reducer.specs.Machines.{MachineParts, parts_of, plain_of}
 use Rattle.in_reducer.specs.Reducers.{IsReducer}
 use Rattle.in_reducer.specs.Templates.{IsTemplateAt}
@@ -30,7 +29,7 @@ module _ (m : MachineParts) (h : IsReducer m) (i : ℕ) (q : ℕ × ℕ) (stands
     second : at_pair.second ≡ d
     second = same_Some at_pair.second d (sym at_pair.two ∙ two)
 
-    its : IsPair m.program.tables at_pair.first.0 at_pair.second.0 × ((k : ℕ) (r : RuleParts) → slice_get m.program.rules k ≡ Some r → IsFor r at_pair.first.0 at_pair.second.0 → IsRuleAt (plain_of m) (agents_at q).0 (agents_at q).1 k r)
+    its : IsPair m.program.tables at_pair.first.0 at_pair.second.0 × ((k : ℕ) (r : RuleParts) → slice_get m.program.rules k ≡ Some r → IsRuleOfSymbols r at_pair.first.0 at_pair.second.0 → IsRuleAt (plain_of m) (agents_at q).0 (agents_at q).1 k r)
     its = reducible_pairs_have_their_rule h.accepted.0 (plain_of m) (agents_at q).0 (agents_at q).1 h.accepted.1 h.net at_pair
 
     its_template : HasOneTemplate m.program ts at_pair.first.0 at_pair.second.0

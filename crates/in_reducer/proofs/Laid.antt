@@ -21,7 +21,7 @@ use Rattle.in_compile.specs.declared.joints.Joint.{Joint}
 use Rattle.in_compile.specs.declared.joints.Joint.TheVariants.{ToAgent, ToBoundary}
 use Rattle.in_compile.specs.Members.{AgentParts, MemberParts, IsMemberOf, joint_of, joint_at}
 use Rattle.in_compile.specs.Placing.{end_in, content}
-use Rattle.in_compile.proofs.AgentByAgent.{read_at}
+use Rattle.in_compile.proofs.Public.{read_at}
 use Rattle.in_reducer.specs.Interacting.{named}
 use Rattle.in_reducer.specs.Placed.{IsPut}
 

@@ -4,15 +4,14 @@ use Rattle.std.proofs.lemmas.List.Elements.{All-cons, All-head, All-tail}
 use Rattle.in_arena.specs.Arenas.{ArenaView, NoneLeased, state_at}
 use Rattle.in_arena.specs.Bags.{IsBagOf, IsIn}
 use Rattle.in_arena.specs.States.{State, Vacant, Leased, Live, IsLeased}
-use Rattle.in_arena.proofs.Bags.{leased_or}
+use Rattle.in_arena.proofs.Public.{leased_or}
 use Rattle.in_compile.specs.Stocks.{Regains}
 use Rattle.in_gather.specs.Dones.{DoneParts}
 use Rattle.in_gather.specs.Gathers.{bags_of}
 use Rattle.in_gather.specs.Holding.{HaveAllLeased, Returns, holders}
 use Rattle.in_gather.specs.declared.gather.Slot.{Slot}
 use Rattle.in_gather.specs.declared.gather.Slot.TheVariants.{Fresh, Kept, Taken}
-use Rattle.in_gather.proofs.Holding.{holders-cons, in_one, leased_of, out_of_one}
-use Rattle.in_gather.proofs.Keeping.{take_holders}
+use Rattle.in_gather.proofs.Public.{holders-cons, in_one, leased_of, out_of_one, take_holders}
 use Rattle.in_reducer.specs.declared.body.Body.{Body}
 use Rattle.in_reducer.specs.Inside.{KeepsAll, KeepsNet, over, reducer_view}
 use Rattle.in_reducer.specs.Lent.{AreSettled}

@@ -10,6 +10,7 @@ pub mod Laid
 pub mod Lending
 pub mod Looked
 pub mod Ordered
+pub mod Public
 pub mod Putting
 pub mod Queued
 pub mod Queues

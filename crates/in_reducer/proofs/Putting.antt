@@ -9,16 +9,12 @@ use Rattle.in_arena.specs.Classes.{classes, class_no, IsNumberOf}
 use Rattle.in_arena.specs.States.{State, Vacant, Leased, IsLeased, is_vacant, word_of}
 use Rattle.in_arena.specs.declared.content.CellClass.{CellClass}
 use Rattle.in_arena.specs.declared.content.CellNo.{CellNo}
-use Rattle.in_arena.proofs.Arenas.{vacant_inside}
-use Rattle.in_arena.proofs.Bags.{leased_or}
-use Rattle.in_arena.proofs.Changes.{counts_change}
-use Rattle.in_arena.proofs.Classes.{class_of_number}
+use Rattle.in_arena.proofs.Public.{vacant_inside, leased_or, counts_change, class_of_number}
 use Rattle.in_compile.specs.Cells.{count_of}
 use Rattle.in_compile.specs.Members.{AgentParts, MemberParts}
-use Rattle.in_compile.specs.Placing.{PlacedParts, HasNoCell, IsPlaced, Takes, content}
+use Rattle.in_compile.specs.Placing.{PlacedParts, HasNoCell, IsPlacedMember, Takes, content}
 use Rattle.in_compile.specs.Stocks.{StockParts, AddsTo, Regains, held, with_all}
-use Rattle.in_compile.proofs.Back.{one_or_same, one_of_all, shared_out}
-use Rattle.in_compile.proofs.Stocked.{all_stay, cells_all, count_all, memory_all}
+use Rattle.in_compile.proofs.Public.{one_or_same, one_of_all, shared_out, all_stay, cells_all, count_all, memory_all}
 use Rattle.in_reducer.specs.Placed.{IsPut, IsNoneOf}
 
 -- ---- what a bag without a cell counts
@@ -95,7 +91,7 @@ module _ (m : MemberParts) (a a' : ArenaView) (s s' : StockParts) (p : PlacedPar
           )
       go (inr same) = inr (ap (λ v. state_at v n) adds.0.bag ∙ same ∙ stock.1 n)
 
-  module _ (s'' : StockParts) (p' : PlacedParts) (is : IsPlaced m p') (takes : Takes m.need p'.cells s' s'') (same : AreOfOne p.bag p'.bag) where
+  module _ (s'' : StockParts) (p' : PlacedParts) (is : IsPlacedMember m p') (takes : Takes m.need p'.cells s' s'') (same : AreOfOne p.bag p'.bag) where
     one_placed : AreOfOne s'.bag p'.bag
     one_placed = (same.0 ∙ of_one.0, same.1 ∙ of_one.1)
 

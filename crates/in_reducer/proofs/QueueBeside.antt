@@ -9,18 +9,14 @@ use Rattle.in_net.specs.declared.nets.Point.TheVariants as code
 use Rattle.in_net.specs.ActivePairs.{IsActivePair}
 use Rattle.in_net.specs.Nets.{Point, Port, Free, Net, IsNet, net_of, signature_of}
 use Rattle.in_net.specs.Parts.{Parts, symbol_in, partner_in}
-use Rattle.in_net.proofs.OneNet.{map_is}
-use Rattle.in_net.proofs.PairPorts.{symbol_of, port_agent, port_place}
+use Rattle.in_net.proofs.Public.{map_is, symbol_of, port_agent, port_place}
 use Rattle.in_interaction.specs.Queues.{IsQueueOf, agents_at, both, numbers_of}
-use Rattle.in_interaction.proofs.Stepping.KeptOrMade.{symbol_is, symbol_number}
-use Rattle.in_interaction.proofs.Stepping.Partners.{net_wire}
-use Rattle.in_check.proofs.Reached.FromText.{of_mapped, to_mapped}
-use Rattle.in_check.proofs.Reached.Renaming.{is_some as there}
-use Rattle.in_check.proofs.Reached.Signs.{AreOpposed, stands_anywhere}
+use Rattle.in_interaction.proofs.Public.{symbol_is, symbol_number, net_wire}
+use Rattle.in_check.proofs.Public.{of_mapped, to_mapped, is_some as there, AreOpposed, stands_anywhere}
 use Rattle.in_glue.specs.AsGluing.{old_and_new, two_parts}
 use Rattle.in_glue.specs.Joining.{IsAtNumber}
 use Rattle.in_parts.specs.Leading.{StandBeside}
-use Rattle.in_parts.proofs.Leading.{no_wire}
+use Rattle.in_parts.proofs.Public.{no_wire}
 use Rattle.in_reducer.proofs.Requeued.{StandOnce}
 
 -- ---- lists

@@ -3,7 +3,7 @@ use Rattle.std.proofs.Common.{◌≡◌, ◌+◌, ℕ, Some, List, [], ◌∷◌
 use Rattle.std.proofs.lemmas.Option.{get_or_from_slice_get}
 use Rattle.in_arena.specs.declared.content.CellNo.{CellNo}
 use Rattle.in_interaction.specs.Queues.{both}
-use Rattle.in_compile.proofs.Taken.{mapped_more}
+use Rattle.in_compile.proofs.Public.{mapped_more}
 use Rattle.in_reducer.specs.Interacting.{named}
 
 -- a pair goes by the cells that its agents have

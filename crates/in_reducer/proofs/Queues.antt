@@ -20,21 +20,18 @@ use Rattle.in_net.specs.Built.{HaveFewPorts}
 use Rattle.in_net.specs.Nets.{Port, IsNet, net_of, point_of, signature_of}
 use Rattle.in_net.specs.Parts.{Parts, cell_in, symbol_in, partner_in}
 use Rattle.in_interaction.specs.Pieces.{AreDifferent}
-use Rattle.in_net.proofs.PairPorts.{symbol_of}
-use Rattle.in_net.proofs.OneNet.{map_is}
-use Rattle.in_interaction.proofs.Stepping.Partners.{net_wire}
+use Rattle.in_net.proofs.Public.{symbol_of, map_is}
+use Rattle.in_interaction.proofs.Public.{net_wire, few, apart, back_in, same_numbers}
 use Rattle.in_check.specs.NetText.{IsQueue, agents_of}
 use Rattle.in_check.specs.Programs.{Program}
 use Rattle.in_check.specs.Promises.{IsAsPromised}
 use Rattle.in_check.specs.Systems.{system_of}
-use Rattle.in_interaction.proofs.Stepping.Halves.{few}
-use Rattle.in_glue.proofs.Gluing.Reducible.{reducible_as_promised}
+use Rattle.in_glue.proofs.Public.{reducible_as_promised}
 use Rattle.in_interaction.specs.Queues.{IsQueueOf, agents_at}
 use Rattle.in_compile.specs.Cells as machines
 use Rattle.in_compile.specs.Cells.{takes}
 use Rattle.in_reducer.specs.Machines.{MachineParts, parts_of, plain_of}
 use Rattle.in_reducer.specs.Reducers.{IsReducer}
-use Rattle.in_interaction.proofs.Queues.Apart.{apart, back_in, same_numbers}
 use Rattle.in_reducer.proofs.Accepted.{few_ports}
 use Rattle.in_reducer.proofs.Ordered.{stands, stands_other}
 

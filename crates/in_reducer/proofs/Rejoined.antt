@@ -17,19 +17,16 @@ use Rattle.in_net.specs.declared.nets.Point.TheVariants as code
 use Rattle.in_net.specs.ActivePairs.{IsActivePair, StandsFirst}
 use Rattle.in_net.specs.Nets.{Port, Free, Net, net_of, signature_of}
 use Rattle.in_net.specs.Parts.{symbol_in, partner_in}
-use Rattle.in_net.proofs.OneNet.{map_is}
-use Rattle.in_net.proofs.PairPorts.{port_agent}
+use Rattle.in_net.proofs.Public.{map_is, port_agent}
 use Rattle.in_interaction.specs.Queues.{IsQueueOf, agents_at, numbers_of}
-use Rattle.in_interaction.proofs.Queues.Apart.{apart, back_in}
-use Rattle.in_interaction.proofs.Stepping.Partners.{net_wire}
+use Rattle.in_interaction.proofs.Public.{apart, back_in, net_wire}
 use Rattle.in_check.specs.Systems.{System, IsSound, system_of}
 use Rattle.in_glue.specs.Joining.{JoinsEnds}
 use Rattle.in_joining.specs.Cells.{HasSymbols, KeepsCells}
 use Rattle.in_joining.specs.Pairs.{AddsPair, IsNoPair, IsPairOf}
 use Rattle.in_joining.specs.Shown.{IsShown}
 use Rattle.in_joining.specs.Shown as shown_point
-use Rattle.in_joining.proofs.AllShown.{take_at}
-use Rattle.in_joining.proofs.Writes.{end_point, point_end}
+use Rattle.in_joining.proofs.Public.{take_at, writes_end_point as end_point, point_end}
 use Rattle.in_cutting.specs.Cutting.{Shows}
 use Rattle.in_parts.specs.Leading.{IsJoinedOnce}
 use Rattle.in_reducer.specs.declared.body.Body.{Body}

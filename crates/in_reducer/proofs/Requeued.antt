@@ -13,13 +13,10 @@ use Rattle.in_net.specs.Nets.{Port, IsNet, net_of, signature_of}
 use Rattle.in_net.specs.Parts.{Parts, symbol_in}
 use Rattle.in_net.specs.Rules.{RuleParts}
 use Rattle.in_base.proofs.Places.{kept_at}
-use Rattle.in_check.proofs.Reached.FromText.{of_mapped, to_mapped}
-use Rattle.in_check.proofs.Reached.Signs.{AreOpposed, stands_anywhere}
+use Rattle.in_check.proofs.Public.{of_mapped, to_mapped, AreOpposed, stands_anywhere}
 use Rattle.in_interaction.specs.Made.{AreMadeOverEnds, IsOwn}
 use Rattle.in_interaction.specs.OutcomeLaws.{IsOtherPair}
-use Rattle.in_interaction.proofs.Queues.Apart.{apart, back_in}
-use Rattle.in_interaction.proofs.Stepping.KeptOrMade.{kept_or_made, not_made}
-use Rattle.in_interaction.proofs.Stepping.Partners.{net_wire}
+use Rattle.in_interaction.proofs.Public.{apart, back_in, kept_or_made, not_made, net_wire}
 use Rattle.in_interaction.specs.Queues.{agents_at, numbers_of, both, IsQueueOf}
 
 -- ---- lists

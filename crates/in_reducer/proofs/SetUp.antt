@@ -9,13 +9,13 @@ use Rattle.in_arena.specs.States.{State, Vacant, Leased, Live, IsLive, word_of, 
 use Rattle.in_arena.specs.declared.content.CellNo.{CellNo}
 use Rattle.in_arena.specs.declared.content.End.{End}
 use Rattle.in_arena.specs.declared.content.End.TheVariants as end
-use Rattle.in_arena.proofs.Arenas.{state_inside}
+use Rattle.in_arena.proofs.Public.{state_inside}
 use Rattle.in_symbols.specs.Tables.{Tables, arity_of}
 use Rattle.in_net.specs.declared.nets.Point as coded
 use Rattle.in_net.specs.declared.nets.Point.TheVariants as code
 use Rattle.in_net.specs.Interactions.{redex_at, end_agent, end_place}
 use Rattle.in_net.specs.Nets.{Point, Port, Free, net_of, point_of, signature_of}
-use Rattle.in_interaction.proofs.Interactions.Alternating.{has_value}
+use Rattle.in_interaction.proofs.Public.{has_value}
 use Rattle.in_glue.specs.AsGluing.{boundary_port}
 use Rattle.in_glue.specs.EndByEnd.{IsOuterAt, IsInnerAt}
 use Rattle.in_glue.specs.MadeByJoining.{CanStepAt}
@@ -24,15 +24,14 @@ use Rattle.in_joining.specs.Cells.{HasSymbols}
 use Rattle.in_joining.specs.Shown as shown
 use Rattle.in_joining.specs.Shown.{end_of, stands_at}
 use Rattle.in_joining.specs.Start.{AreLaid, AreSet, IsNew}
-use Rattle.in_joining.proofs.Started.{set_has_symbols, set_is_ready, end_point}
+use Rattle.in_joining.proofs.Public.{set_has_symbols, set_is_ready, started_end_point as end_point}
 use Rattle.in_compile.specs.declared.joints.Joint.{Joint}
 use Rattle.in_compile.specs.declared.joints.Joint.TheVariants.{ToAgent, ToBoundary}
-use Rattle.in_compile.specs.Members.{IsSound, joint_of}
+use Rattle.in_compile.specs.Members.{IsSoundMember, joint_of}
 use Rattle.in_compile.specs.Templates.{TemplateParts}
-use Rattle.in_compile.proofs.EndByEnd.{inside_of}
-use Rattle.in_compile.proofs.Sound.{joints_many}
+use Rattle.in_compile.proofs.Public.{inside_of, joints_many}
 use Rattle.in_reducer.specs.declared.sides.Pair.{Pair}
-use Rattle.in_reducer.specs.Interacting.{Setting, IsAbout, interaction_of, named}
+use Rattle.in_reducer.specs.Interacting.{PairSetting, IsAbout, interaction_of, named}
 use Rattle.in_reducer.specs.Placed.{IsPut}
 use Rattle.in_reducer.specs.Sides.{AreSetBelow, HasJoint, HasPort, end_there, inner_of, outer_of, port_at}
 use Rattle.in_reducer.proofs.Laid as laid
@@ -53,7 +52,7 @@ module _ (p : Pair) (first : ℕ) (one two : ℕ) (is_one : p.one.0 ≡ one) (is
       go true = (is_one, refl)
       go false = (is_two, refl)
 
-module _ (t : Tables) (s : Setting) (p : TemplateParts) (pair : Pair) (own : ℕ) (old : ArenaView) (ends : List End) (about : IsAbout t s p pair own old ends) where
+module _ (t : Tables) (s : PairSetting) (p : TemplateParts) (pair : Pair) (own : ℕ) (old : ArenaView) (ends : List End) (about : IsAbout t s p pair own old ends) where
   abbrev many : ℕ
   many = length p.member.joints
 
@@ -177,7 +176,7 @@ module _ (t : Tables) (s : Setting) (p : TemplateParts) (pair : Pair) (own : ℕ
             above true f = omega (arith, f)
             above false f = let n : ℕ = e - arity_of t s.rule.heads.0.0 in let g : 0 ≡ suc n = f in omega (arith, g)
 
-    pub has_joint : IsSound p.member → (e : ℕ) (j : Joint) → slice_get p.member.joints e ≡ Some j → HasJoint ns j
+    pub has_joint : IsSoundMember p.member → (e : ℕ) (j : Joint) → slice_get p.member.joints e ≡ Some j → HasJoint ns j
     has_joint sound e (ToAgent k i) h = let l = inside_of p.member sound (ToBoundary e) (ToAgent k i) h in let c = is_put.count in let z : k < length ns = omega (arith, l, c) in z
     has_joint sound e (ToBoundary f) h = tt
 

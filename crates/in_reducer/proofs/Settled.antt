@@ -10,11 +10,10 @@ use Rattle.in_arena.specs.States.{State, Vacant, Leased, Live, word_of}
 use Rattle.in_arena.specs.declared.content.CellClass.{CellClass}
 use Rattle.in_arena.specs.declared.content.CellClass.TheVariants.{Small, Large, Wide}
 use Rattle.in_arena.specs.declared.content.CellNo.{CellNo}
-use Rattle.in_arena.proofs.Bags.{leased_or}
-use Rattle.in_arena.proofs.Changes.{counts_change, number_inside}
+use Rattle.in_arena.proofs.Public.{leased_or, counts_change, number_inside}
 use Rattle.in_compile.specs.Cells.{count_of}
-use Rattle.in_compile.specs.Members.{AgentParts, MemberParts, IsSound, has_class}
-use Rattle.in_compile.specs.Placing.{PlacedParts, IsPlaced}
+use Rattle.in_compile.specs.Members.{AgentParts, MemberParts, IsSoundMember, has_class}
+use Rattle.in_compile.specs.Placing.{PlacedParts, IsPlacedMember}
 use Rattle.in_compile.specs.Stocks.{Regains}
 use Rattle.in_reducer.specs.Placed.{IsPut}
 use Rattle.in_reducer.specs.Standing.{at_rest, rested}
@@ -22,7 +21,7 @@ use Rattle.in_reducer.proofs.AtRest.{as_many}
 
 -- ---- settled
 
-module _ (m : MemberParts) (p : PlacedParts) (is : IsPlaced m p) (a b : ArenaView) (of : IsBagOf p.bag a) (back : Regains (λ x. x) a p.bag b) where
+module _ (m : MemberParts) (p : PlacedParts) (is : IsPlacedMember m p) (a b : ArenaView) (of : IsBagOf p.bag a) (back : Regains (λ x. x) a p.bag b) where
   pub is_put : (ns : List CellNo) → ns ≡ p.cells → IsPut m ns a b
   is_put ns e = subst (λ (ns : List CellNo). IsPut m ns a b) (sym e) (record {
     count = is.count;
@@ -89,7 +88,7 @@ they_fit a all (x ∷ xs) (n ∷ ns) count each once c =
         (there.0, get_or-set_other a.states n.0 m.0 Leased Leased (λ same. (let g = once (suc k) 0 m f (ap (λ (z : ℕ). Some (record { 0 = z })) (sym same)) in omega (arith, g))) ∙ there.1)
 
 -- where a right member stands beside its pair, there was room for it
-module _ (m : MemberParts) (sound : IsSound m) (ns : List CellNo) (a b : ArenaView) (put : IsPut m ns a b) (all : HasAllCells (at_rest a)) where
+module _ (m : MemberParts) (sound : IsSoundMember m) (ns : List CellNo) (a b : ArenaView) (put : IsPut m ns a b) (all : HasAllCells (at_rest a)) where
   rested_there : (k : ℕ) (x : AgentParts) (n : CellNo) → slice_get m.agents k ≡ Some x → slice_get ns k ≡ Some n → IsNumberOf a.cells x.class n.0 × (state_at (at_rest a) n.0 ≡ Vacant)
   rested_there k x n e f =
       let there = put.each k x n e f in

@@ -19,23 +19,21 @@ use Rattle.in_net.specs.declared.nets.FreeEnd.{FreeEnd}
 use Rattle.in_net.specs.Built.{IsOver}
 use Rattle.in_net.specs.Nets.{Point, Port, Free, IsPoint, IsNet, coded_point, net_of, signature_of}
 use Rattle.in_net.specs.Parts.{Parts, partner_in}
-use Rattle.in_net.proofs.OneNet.{map_is}
+use Rattle.in_net.proofs.Public.{map_is}
 use Rattle.in_interaction.specs.Queues.{both}
-use Rattle.in_interaction.proofs.Interactions.Alternating.{has_value}
-use Rattle.in_interaction.proofs.Stepping.KeptOrMade.{symbol_number}
+use Rattle.in_interaction.proofs.Public.{has_value, symbol_number}
 use Rattle.in_check.specs.Checking.{IsAccepted}
 use Rattle.in_check.specs.Programs.{Program}
 use Rattle.in_check.specs.Runs.{renamed, IsRenamed}
 use Rattle.in_joining.specs.Shown as shown
 use Rattle.in_joining.specs.Shown.{end_of, stands_at}
-use Rattle.in_joining.proofs.AllShown.{place_within}
+use Rattle.in_joining.proofs.Public.{place_within}
 use Rattle.in_compile.specs.declared.joints.Joint.{Joint}
 use Rattle.in_compile.specs.declared.joints.Joint.TheVariants.{ToAgent, ToBoundary}
 use Rattle.in_compile.specs.Cells.{agents_of, count_of, takes, IsEnough}
-use Rattle.in_compile.specs.Members.{MemberParts, IsMemberOf, IsSound, joint_at, joint_of}
-use Rattle.in_compile.proofs.Accepted as accepting
-use Rattle.in_compile.proofs.EndByEnd.{inside_of}
-use Rattle.in_compile.proofs.Sound.{joints_many, sound}
+use Rattle.in_compile.specs.Members.{MemberParts, IsMemberOf, IsSoundMember, joint_at, joint_of}
+use Rattle.in_compile.proofs.Public.Accepted as accepting
+use Rattle.in_compile.proofs.Public.{inside_of, joints_many, sound}
 use Rattle.in_reducer.specs.Inside.{most_ends}
 use Rattle.in_reducer.specs.Interacting.{named}
 use Rattle.in_reducer.specs.Placed.{IsPut}
@@ -142,7 +140,7 @@ module _ (text : List ℕ) (p : Program) (accepted : IsAccepted text p) (m : Mem
   module _ (ns : List CellNo) (count : length ns ≡ length m.agents) where
     pub has_joint : (e : ℕ) (j : Joint) → slice_get m.joints e ≡ Some j → HasJoint ns j
     has_joint e (ToAgent k i) h =
-        let s : IsSound m = sound p.tables p.net m (net_whole text p accepted) over (accepting.net_there text p accepted) (accepting.net_few text p accepted) of in
+        let s : IsSoundMember m = sound p.tables p.net m (net_whole text p accepted) over (accepting.net_there text p accepted) (accepting.net_few text p accepted) of in
         let l = inside_of m s (ToBoundary e) (ToAgent k i) h in
         let z : k < length ns = omega (arith, l, count) in
         z

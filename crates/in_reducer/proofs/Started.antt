@@ -10,20 +10,15 @@ use Rattle.in_net.specs.ActivePairs.{AreActive, IsActivePair}
 use Rattle.in_net.specs.Built.{IsOver}
 use Rattle.in_net.specs.Nets.{Port, IsNet, net_of, signature_of}
 use Rattle.in_net.specs.Parts.{Parts, symbol_in, partner_in}
-use Rattle.in_net.proofs.OneNet.{map_is}
-use Rattle.in_net.proofs.PairPorts.{symbol_of}
+use Rattle.in_net.proofs.Public.{map_is, symbol_of}
 use Rattle.in_interaction.specs.Queues.{IsQueueOf, agents_at, both, numbers_of}
-use Rattle.in_interaction.proofs.Stepping.KeptOrMade.{symbol_is, symbol_number}
-use Rattle.in_interaction.proofs.Stepping.Partners.{net_wire}
+use Rattle.in_interaction.proofs.Public.{symbol_is, symbol_number, net_wire}
 use Rattle.in_check.specs.Checking.{IsAccepted}
 use Rattle.in_check.specs.Programs.{Program}
 use Rattle.in_check.specs.Runs.{IsRenamed, at_start}
 use Rattle.in_check.specs.Systems.{IsSound, system_of}
-use Rattle.in_check.proofs.Reached.FromText.{is_sound, of_mapped, to_mapped}
-use Rattle.in_check.proofs.Reached.Kept.{sound_reached}
-use Rattle.in_check.proofs.Reached.Moved.{agents_before}
-use Rattle.in_check.proofs.Reached.Renaming.{is_some as there}
-use Rattle.in_check.proofs.Reached.Signs.{AreOpposed, opposed_in, stands_anywhere}
+use Rattle.in_check.proofs.Public.{is_sound, of_mapped, to_mapped, sound_reached, agents_before, is_some as there, AreOpposed, opposed_in}
+use Rattle.in_check.proofs.Public.{stands_anywhere}
 use Rattle.in_reducer.specs.Laws.{StartsAreReducers}
 use Rattle.in_reducer.specs.Limiting.{most_cells}
 use Rattle.in_reducer.specs.Machines.{MachineParts, parts_of}

@@ -20,22 +20,22 @@ use Rattle.in_net.specs.Rules.{RuleParts}
 use Rattle.in_interaction.specs.Interacting.{InteractsAs}
 use Rattle.in_interaction.specs.Made.{AreMade}
 use Rattle.in_interaction.specs.Queues.{agents_at, both, numbers_of}
-use Rattle.in_interaction.proofs.Queues.NewPairs.{made_numbers}
+use Rattle.in_interaction.proofs.Public.{made_numbers}
 use Rattle.in_check.specs.Runs.{IsInteraction}
 use Rattle.in_check.specs.Systems.{IsSound, rule_in, system_of}
-use Rattle.in_check.proofs.Reached.FromText.{is_sound, to_mapped}
-use Rattle.in_glue.proofs.Gluing.Sound.{sound_steps}
+use Rattle.in_check.proofs.Public.{is_sound, to_mapped}
+use Rattle.in_glue.proofs.Public.{sound_steps}
 use Rattle.in_joining.specs.Shown.{IsShown}
-use Rattle.in_joining.proofs.AllShown.{shown_is_step}
+use Rattle.in_joining.proofs.Public.{shown_is_step}
 use Rattle.in_compile.specs.Cells.{agents_of, count_of}
 use Rattle.in_compile.specs.Members.{AgentParts}
 use Rattle.in_compile.specs.Templates.{TemplateParts}
-use Rattle.in_compile.proofs.Accepted as rules
-use Rattle.in_compile.proofs.Sound as members
+use Rattle.in_compile.proofs.Public.Accepted as rules
+use Rattle.in_compile.proofs.Public.Sound as members
 use Rattle.in_reducer.specs.declared.body.Body.{Body}
 use Rattle.in_reducer.specs.declared.sides.Pair.{Pair}
 use Rattle.in_reducer.specs.Inside.{AreToolsFor, KeepsNet, declared_as, most_ends, own_free, reducer_view}
-use Rattle.in_reducer.specs.Interacting.{IsAbout, IsInteracted, Setting, interaction_of, named}
+use Rattle.in_reducer.specs.Interacting.{IsAbout, IsInteracted, PairSetting, interaction_of, named}
 use Rattle.in_reducer.specs.Machines.{MachineParts, parts_of}
 use Rattle.in_reducer.specs.Reducers.{IsReducer}
 use Rattle.in_reducer.specs.Standing.{IsNetIn, agents_in, at_rest, leading_to, vacant_in}
@@ -76,7 +76,7 @@ module _ (r : Body) (k : KeepsNet r) (i : ℕ) (p : TemplateParts) (at : IsTempl
   abbrev two : AgentNo
   two = (agents_at at.pair).1
 
-  abbrev pub setting : Setting
+  abbrev pub setting : PairSetting
   setting = record { net = parts_of (reducer_view r); rule = at.rule; one = (agents_at at.pair).0; two = (agents_at at.pair).1 }
 
   -- as many free ends as are told

@@ -5,17 +5,15 @@ use Rattle.in_net.specs.Interactions.{IsRedex, redex_at}
 use Rattle.in_net.specs.Nets.{Net, IsNet, net_of, signature_of}
 use Rattle.in_net.specs.Rules.{RuleParts}
 use Rattle.in_interaction.specs.Interacting.{CanInteract}
-use Rattle.in_interaction.proofs.Queues.NewPairs.{made_numbers}
-use Rattle.in_interaction.proofs.Stepping.Sites.{redex_in}
+use Rattle.in_interaction.proofs.Public.{made_numbers, redex_in}
 use Rattle.in_check.specs.Checking.{IsAccepted}
 use Rattle.in_check.specs.Programs.{Program}
 use Rattle.in_check.specs.Systems.{IsSoundRule, rule_in, system_of}
 use Rattle.in_check.specs.Plain.{IsRuleAt, IsPairAt}
-use Rattle.in_check.proofs.Reached.FromText.{is_sound, to_mapped}
-use Rattle.in_check.proofs.Reached.Signs.{AreOpposed, opposed_in}
+use Rattle.in_check.proofs.Public.{is_sound, to_mapped, AreOpposed, opposed_in}
 use Rattle.in_glue.specs.PartRuns.{Run}
 use Rattle.in_glue.specs.Reducible.{IsReducible}
-use Rattle.in_glue.proofs.Gluing.Reducible.{reducible_as_promised, reducible_steps_under_names}
+use Rattle.in_glue.proofs.Public.{reducible_as_promised, reducible_steps_under_names}
 use Rattle.in_interaction.specs.Queues.{IsQueueOf, agents_at, numbers_of, both}
 use Rattle.in_compile.specs.Cells.{agents_of, count_of}
 use Rattle.in_reducer.specs.Laws.{ReducersAsPromised, StepsKeepReducers}

@@ -10,13 +10,12 @@ use Rattle.in_arena.specs.Classes.{classes, IsNumberOf}
 use Rattle.in_arena.specs.States.{State, Vacant, Leased, Live, IsLeased, IsLive, word_of}
 use Rattle.in_arena.specs.declared.content.CellClass.{CellClass}
 use Rattle.in_arena.specs.declared.content.CellNo.{CellNo}
-use Rattle.in_arena.proofs.Arenas.{state_inside}
-use Rattle.in_arena.proofs.Classes.{numbers_apart}
+use Rattle.in_arena.proofs.Public.{state_inside, numbers_apart}
 use Rattle.in_symbols.specs.Tables.{Tables}
 use Rattle.in_net.specs.Built.{IsOver}
 use Rattle.in_net.specs.Parts.{Parts}
 use Rattle.in_joining.specs.Cells.{KeepsCells, outline}
-use Rattle.in_joining.proofs.Kept.{word_kept}
+use Rattle.in_joining.proofs.Public.{word_kept}
 use Rattle.in_compile.specs.Cells.{is_of}
 use Rattle.in_compile.specs.Members.{MemberParts, IsMemberOf}
 use Rattle.in_reducer.specs.Placed.{IsNoneOf, IsPut}

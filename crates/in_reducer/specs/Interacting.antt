@@ -17,7 +17,7 @@ use Rattle.in_reducer.specs.declared.sides.Pair.{Pair}
 use Rattle.in_reducer.specs.Placed.{IsPut}
 
 -- a net, and two agents of it that interact by a rule
-pub record Setting : Type 0 where
+pub record PairSetting : Type 0 where
   pub net : Parts
   pub rule : RuleParts
   pub one : AgentNo
@@ -27,11 +27,11 @@ pub record Setting : Type 0 where
 abbrev pub named : List CellNo → ℕ → ℕ
 named ns k = (slice_index_or ns k (record { 0 = 0 })).0
 
-abbrev pub interaction_of : Setting → List CellNo → Interaction
+abbrev pub interaction_of : PairSetting → List CellNo → Interaction
 interaction_of s ns = record { net = s.net; rule = s.rule; one = s.one; two = s.two; name = named ns }
 
 -- the cells show the net, in which the pair is one, and the template is that of its rule
-pub record IsAbout (t : Tables) (s : Setting) (p : TemplateParts) (pair : Pair) (own : ℕ) (a : ArenaView) (ends : List End) : Type 0 where
+pub record IsAbout (t : Tables) (s : PairSetting) (p : TemplateParts) (pair : Pair) (own : ℕ) (a : ArenaView) (ends : List End) : Type 0 where
   pub net : IsNet (signature_of t) (net_of s.net)
   pub over : IsOver t s.net
   pub inside : IsNet (signature_of t) (net_of s.rule.member)
@@ -46,9 +46,9 @@ pub record IsAbout (t : Tables) (s : Setting) (p : TemplateParts) (pair : Pair) 
   pub room : own + length p.member.joints + length p.member.joints ≤ length ends
 
 -- the cells show the net after the interaction, and the pairs that it makes over boundary ends were added
-abbrev pub IsInteracted : Tables → Setting → ℕ → List CellNo → ArenaView → List End → List (ℕ × ℕ) → List (ℕ × ℕ) → Type 0
+abbrev pub IsInteracted : Tables → PairSetting → ℕ → List CellNo → ArenaView → List End → List (ℕ × ℕ) → List (ℕ × ℕ) → Type 0
 IsInteracted t s own ns a ends old new = IsDone t (interaction_of s ns) own a ends × AddsMade t (interaction_of s ns) old new
 
 -- .. and beside it stands the right member, in these cells, which showed none
-abbrev pub IsBeside : Tables → Setting → TemplateParts → Pair → ℕ → List CellNo → ArenaView → List End → Type 0
-IsBeside t s p pair own ns b ends = (a : ArenaView) × IsAbout t s p pair own a ends × IsPut p.member ns a b
+abbrev pub HasBeside : Tables → PairSetting → TemplateParts → Pair → ℕ → List CellNo → ArenaView → List End → Type 0
+HasBeside t s p pair own ns b ends = (a : ArenaView) × IsAbout t s p pair own a ends × IsPut p.member ns a b

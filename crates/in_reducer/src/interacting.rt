@@ -1,8 +1,8 @@
 // One interaction, over cells.
 ghost use Rattle.std.specs.Prelude.{◌≡◌, ◌≤◌, ◌+◌, [], length, vec_capacity};
-ghost use Rattle.in_compile.specs.Members.{IsSound};
+ghost use Rattle.in_compile.specs.Members.{IsSoundMember};
 ghost use Rattle.in_reducer.specs.Inside.{most_ends};
-ghost use Rattle.in_reducer.specs.Interacting.{Setting, IsBeside, IsInteracted};
+ghost use Rattle.in_reducer.specs.Interacting.{PairSetting, HasBeside, IsInteracted};
 ghost use Rattle.in_reducer.specs.Standing.{IsNetIn, AreLeasedAlike, at_rest};
 
 use crate::sides::{Pair, set_sides};
@@ -23,13 +23,13 @@ pub(crate) fn interact(
     placed: &Placed,
     made: &mut Vec<(u32, u32)>,
 )
-    requires beside { (s : Setting) × IsBeside symbols.now s template.now pair own placed.now.cells arena.old ends.old }
+    requires beside { (s : PairSetting) × HasBeside symbols.now s template.now pair own placed.now.cells arena.old ends.old }
     requires net { IsNetIn symbols.now (at_rest arena.old) }
     requires few { length template.now.member.joints ≤ most_ends }
     requires own { own ≤ 65536 }
     requires room { own + length template.now.member.joints + length template.now.member.joints ≤ length ends.old }
     requires made_room { length made.old.items + most_ends ≤ vec_capacity made.old }
-    ensures interacted { (s : Setting) → IsBeside symbols.now s template.now pair own placed.now.cells arena.old ends.old → IsInteracted symbols.now s own placed.now.cells arena.new ends.new made.old.items made.new.items }
+    ensures interacted { (s : PairSetting) → HasBeside symbols.now s template.now pair own placed.now.cells arena.old ends.old → IsInteracted symbols.now s own placed.now.cells arena.new ends.new made.old.items made.new.items }
     ensures net { IsNetIn symbols.now (at_rest arena.new) }
     ensures leased { AreLeasedAlike arena.old arena.new }
     ensures long { length ends.new ≡ length ends.old }

@@ -2,6 +2,7 @@ pub mod Alongside
 pub mod AsMany
 pub mod ListedAgents
 pub mod OneEnd
+pub mod Public
 pub mod Rounded
 pub mod SameKind
 pub mod SameRound

@@ -5,9 +5,9 @@ use Rattle.in_interaction.specs.Pieces.{AreDifferent}
 use Rattle.in_net.specs.declared.nets.Cell.{Cell}
 use Rattle.in_net.specs.Nets.{net_of}
 use Rattle.in_check.specs.NetText.{AreAgents}
-use Rattle.in_check.proofs.Reached.Counts.{all_of}
+use Rattle.in_check.proofs.Public.{all_of}
 use Rattle.in_reducer.specs.Machines.{MachineParts, parts_of}
-use Rattle.in_reducer.proofs.Queues.{agent_numbers, numbered}
+use Rattle.in_reducer.proofs.Public.{agent_numbers, numbered}
 
 pub cell_there : (m : MachineParts) (x : ℕ) → IsSome ((net_of (parts_of m)).symbol x) → (c : Cell) × (slice_get m.agents x ≡ Some (Some c))
 cell_there m x h = by (slice_get m.agents x) refl h

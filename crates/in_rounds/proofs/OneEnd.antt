@@ -11,12 +11,12 @@ use Rattle.in_check.specs.Runs.{HasEnded}
 use Rattle.in_reducer.specs.Machines.{MachineParts, parts_of}
 use Rattle.in_rounds.specs.Machines.{IsMachine}
 use Rattle.in_reducer.specs.Runs.{Runs, at_start, then_step}
-use Rattle.in_reducer.proofs.Queues.{agent_numbers, as_many}
+use Rattle.in_reducer.proofs.Public.{agent_numbers, as_many}
 use Rattle.in_rounds.proofs.StepsOn.{machine_queue}
 use Rattle.in_rounds.specs.Texts.{words_of, text_of}
 use Rattle.in_rounds.proofs.ListedAgents.{agents_listed}
 use Rattle.in_order.specs.Ends.{words_in}
-use Rattle.in_order.proofs.Orders.OneEnd.{programs_have_one_end}
+use Rattle.in_order.proofs.Public.{programs_have_one_end}
 use Rattle.in_rounds.specs.MachineLaws.{NormalEndsAreOne}
 
 -- a net whose queue is empty has no active pair

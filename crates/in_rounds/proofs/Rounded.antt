@@ -6,7 +6,7 @@ use Rattle.in_arena.specs.declared.content.CellClass.{CellClass}
 use Rattle.in_symbols.specs.declared.symbols.SymbolNo.{SymbolNo}
 use Rattle.in_net.specs.Parts.{symbol_in}
 use Rattle.in_net.specs.Rules.{RuleParts}
-use Rattle.in_interaction.proofs.Stepping.KeptOrMade.{has_symbol}
+use Rattle.in_interaction.proofs.Public.{has_symbol}
 use Rattle.in_check.specs.Plain.{IsRuleAt}
 use Rattle.in_check.specs.Programs.{Program}
 use Rattle.in_interaction.specs.Queues.{agents_at, numbers_of}
@@ -18,7 +18,7 @@ use Rattle.in_rounds.specs.Rounds.{NeedTogether, none, then_next, HasRoomFor, Is
 use Rattle.in_reducer.specs.Steps.{NeedsAt, HasRoomAt, StepsAt}
 use Rattle.in_reducer.specs.Runs.{IsFront, Runs, at_start, then_step, jobs_of}
 use Rattle.in_rounds.proofs.AsMany.{no_more_than}
-use Rattle.in_reducer.proofs.Requeued.{other_pair}
+use Rattle.in_reducer.proofs.Public.{other_pair}
 use Rattle.in_rounds.proofs.SameRun.{rule_at}
 use Rattle.in_rounds.proofs.StepsOn.{net_at, can_at, inside_at, machine_on}
 

@@ -2,10 +2,8 @@
 use Rattle.std.proofs.Common.{◌≡◌, ℕ, IsSome, List, [], ◌∷◌, map, refl, sym, ap, ◌∙◌}
 use Rattle.in_net.specs.Nets.{Point, Port, Free, Net, net_of, signature_of}
 use Rattle.in_check.specs.Runs.{renamed, IsRenamed}
-use Rattle.in_check.proofs.Reached.Plain.{renamed_self}
-use Rattle.in_check.proofs.Reached.Renaming.{is_some as there}
-use Rattle.in_interaction.proofs.Interactions.Alternating.{has_value}
-use Rattle.in_interaction.proofs.Stepping.KeptOrMade.{symbol_number}
+use Rattle.in_check.proofs.Public.{renamed_self, is_some as there}
+use Rattle.in_interaction.proofs.Public.{has_value, symbol_number}
 use Rattle.in_net.specs.Parts.{symbol_in}
 use Rattle.in_interaction.specs.Queues.{both}
 use Rattle.in_rounds.specs.MachineLaws.{AreSameIsAnEquivalence}

@@ -3,7 +3,7 @@ use Rattle.std.proofs.Common.{◌≡◌, ◌⊎◌, inl, inr, ◌<◌, ◌+◌, 
 use Rattle.std.proofs.lemmas.Option.{same_Some}
 use Rattle.in_net.specs.Rules.{RuleParts}
 use Rattle.in_check.specs.Plain.{IsPlain, IsReachedBy, IsRuleAt}
-use Rattle.in_check.proofs.Reached.Plain.{steps_under_names}
+use Rattle.in_check.proofs.Public.{steps_under_names}
 use Rattle.in_interaction.specs.Queues.{agents_at}
 use Rattle.in_compile.specs.declared.cells.Need.{Need}
 use Rattle.in_compile.specs.Cells.{agents_of, count_of, IsEnough}
@@ -12,8 +12,8 @@ use Rattle.in_rounds.specs.Machines.{IsMachine}
 use Rattle.in_reducer.specs.Steps.{NeedsAt, HasRoomAt, StepsAt}
 use Rattle.in_reducer.specs.Runs.{Runs, at_start, then_step}
 use Rattle.in_rounds.specs.Same.{IsSameMachine, AreSame}
-use Rattle.in_reducer.proofs.Accepted.{one_rule}
-use Rattle.in_compile.proofs.Classes.{same_need}
+use Rattle.in_reducer.proofs.Public.{one_rule}
+use Rattle.in_compile.proofs.Public.{same_need}
 use Rattle.in_rounds.proofs.SameStep.{need_moved, same_step}
 use Rattle.in_rounds.proofs.StepsOn.{machine_on}
 

@@ -3,16 +3,13 @@ use Rattle.std.proofs.Common.{◌≡◌, ◌≤◌, ◌+◌, ℕ, zero, IsSome, 
 use Rattle.in_arena.specs.declared.content.CellClass.{CellClass}
 use Rattle.in_net.specs.Built.{IsOver}
 use Rattle.in_net.specs.Nets.{Point, Port, Free, Signature, Net, IsPoint, IsNet, net_of, signature_of}
-use Rattle.in_interaction.proofs.Interactions.Alternating.{has_value}
+use Rattle.in_interaction.proofs.Public.{has_value, same_first}
 use Rattle.in_check.specs.Checking.{IsAccepted}
 use Rattle.in_check.specs.Plain.{IsPlain, IsReachedBy}
 use Rattle.in_check.specs.Programs.{Program}
 use Rattle.in_check.specs.Runs.{renamed, IsRenamed, Reached, at_start}
 use Rattle.in_check.specs.Systems.{system_of}
-use Rattle.in_check.proofs.Reached.FromText.{is_sound}
-use Rattle.in_check.proofs.Reached.Moved.{name_after, after_new}
-use Rattle.in_check.proofs.Reached.Renaming.{is_some as there, live}
-use Rattle.in_check.proofs.Reached.Signs.{AreOpposed, opposed_in}
+use Rattle.in_check.proofs.Public.{is_sound, name_after, after_new, is_some as there, live, AreOpposed, opposed_in}
 use Rattle.in_interaction.specs.Queues.{IsQueueOf, both}
 use Rattle.in_reducer.specs.Limiting.{most_cells}
 use Rattle.in_compile.specs.Cells.{agents_of, count_of}
@@ -20,11 +17,10 @@ use Rattle.in_reducer.specs.Machines.{MachineParts, parts_of, plain_of}
 use Rattle.in_rounds.specs.Machines.{IsMachine}
 use Rattle.in_reducer.specs.Starts.{IsStart}
 use Rattle.in_rounds.specs.Same.{AreSame}
-use Rattle.in_compile.proofs.Classes.{same_need}
+use Rattle.in_compile.proofs.Public.{same_need}
 use Rattle.in_rounds.proofs.AsMany.{as_many_of}
-use Rattle.in_interaction.proofs.Queues.FirstPairs.{same_first}
 use Rattle.in_rounds.proofs.SameStep.{map_same, map_twice}
-use Rattle.in_reducer.proofs.Started.{lives, queue_moved}
+use Rattle.in_reducer.proofs.Public.{lives, queue_moved}
 
 -- ---- a net under two kinds of names
 

@@ -11,22 +11,16 @@ use Rattle.in_net.specs.Interactions.{IsRedex, redex_at}
 use Rattle.in_net.specs.Nets.{Port, IsNet, net_of, signature_of}
 use Rattle.in_net.specs.Parts.{symbol_in, partner_in}
 use Rattle.in_net.specs.Rules.{RuleParts}
-use Rattle.in_net.proofs.OneNet.{map_is}
-use Rattle.in_net.proofs.PairPorts.{symbol_of}
+use Rattle.in_net.proofs.Public.{map_is, symbol_of}
 use Rattle.in_interaction.specs.Interacting.{CanInteract, InteractsAs}
 use Rattle.in_interaction.specs.Made.{IsMade, AreMadeOverEnds}
-use Rattle.in_interaction.proofs.Stepping.KeptOrMade.{symbol_after, has_symbol, symbol_number, stays_after}
-use Rattle.in_interaction.proofs.Stepping.Making.{end_once}
-use Rattle.in_interaction.proofs.Stepping.OneOutcome.{one_made_over_ends}
-use Rattle.in_interaction.proofs.Stepping.Sites.{redex_in}
+use Rattle.in_interaction.proofs.Public.{symbol_after, has_symbol, symbol_number, stays_after, end_once, one_made_over_ends, redex_in}
+use Rattle.in_interaction.proofs.Public.{same_first}
 use Rattle.in_check.specs.Plain.{IsRuleAt}
 use Rattle.in_check.specs.Programs.{Program}
 use Rattle.in_check.specs.Runs.{IsRenamed}
-use Rattle.in_check.proofs.Reached.FromText.{of_mapped, to_mapped}
-use Rattle.in_check.proofs.Reached.Moved as moving
-use Rattle.in_check.proofs.Reached.Moved.{agents_before}
-use Rattle.in_check.proofs.Reached.Renaming.{is_some as there}
-use Rattle.in_check.proofs.Reached.Signs.{AreOpposed, stands_anywhere}
+use Rattle.in_check.proofs.Public.{of_mapped, to_mapped, agents_before, is_some as there, AreOpposed, stands_anywhere}
+use Rattle.in_check.proofs.Public.Moved as moving
 use Rattle.in_interaction.specs.Queues.{IsQueueOf, agents_at, numbers_of, both, IsFirstQueue}
 use Rattle.in_compile.specs.declared.cells.Need.{Need}
 use Rattle.in_compile.specs.Cells.{agents_of, count_of, IsNeedOf}
@@ -34,12 +28,9 @@ use Rattle.in_reducer.specs.Machines.{MachineParts, parts_of, plain_of}
 use Rattle.in_rounds.specs.Machines.{IsMachine}
 use Rattle.in_reducer.specs.Steps.{NeedsAt, StepsAt}
 use Rattle.in_rounds.specs.Same.{IsSameMachine}
-use Rattle.in_reducer.proofs.Accepted.{one_rule}
-use Rattle.in_compile.proofs.Classes.{same_need}
+use Rattle.in_reducer.proofs.Public.{one_rule, was_there, symbol_moved, symbol_back}
+use Rattle.in_compile.proofs.Public.{same_need}
 use Rattle.in_rounds.proofs.AsMany.{as_many_of}
-use Rattle.in_interaction.proofs.Queues.FirstPairs.{same_first}
-use Rattle.in_reducer.proofs.Requeued.{was_there}
-use Rattle.in_reducer.proofs.Started.{symbol_moved, symbol_back}
 use Rattle.in_rounds.proofs.StepsOn.{net_at, opposed_at, can_at, inside_at, queue_by_kinds, machine_on}
 
 -- ---- lists under a map

@@ -9,14 +9,13 @@ use Rattle.in_check.specs.NetText.{IsQueue}
 use Rattle.in_check.specs.Plain.{IsPlain, IsReachedBy}
 use Rattle.in_check.specs.Promises.{IsAsPromised}
 use Rattle.in_check.specs.Systems.{system_of}
-use Rattle.in_check.proofs.Reached.Plain.{steps_under_names}
-use Rattle.in_check.proofs.Reached.Signs.{AreOpposed}
-use Rattle.in_glue.proofs.Gluing.Reducible.{plain_is_reducible}
+use Rattle.in_check.proofs.Public.{steps_under_names, AreOpposed}
+use Rattle.in_glue.proofs.Public.{plain_is_reducible}
 use Rattle.in_reducer.specs.Machines.{MachineParts, parts_of, plain_of}
 use Rattle.in_reducer.specs.Reducers.{IsReducer}
 use Rattle.in_reducer.specs.Steps.{StepsAt}
-use Rattle.in_reducer.proofs.Queues.{reducer_promised, reducer_queue}
-use Rattle.in_reducer.proofs.StepsOn as reducers
+use Rattle.in_reducer.proofs.Public.{reducer_promised, reducer_queue}
+use Rattle.in_reducer.proofs.Public.StepsOn as reducers
 use Rattle.in_rounds.specs.Machines.{IsMachine}
 
 -- ---- a machine is a reducer, and its program reaches its net

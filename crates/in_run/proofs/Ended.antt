@@ -11,7 +11,7 @@ use Rattle.in_reducer.specs.Machines.{plain_of}
 use Rattle.in_run.specs.Outcomes.{RunsTo}
 use Rattle.in_rounds.specs.Same.{AreSame}
 use Rattle.in_run.proofs.SameOutcome.{same_outcome}
-use Rattle.in_rounds.proofs.SameStart.{same_start, start_machine}
+use Rattle.in_rounds.proofs.Public.{same_start, start_machine}
 
 module _ (p : Program) (l : Limits) (o : Outcome) (h : RunsTo p l (Ok o)) where
   pub ended_reached : IsReachedBy (plain_of o.machine) o.interactions

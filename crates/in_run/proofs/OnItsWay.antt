@@ -3,7 +3,7 @@ use Rattle.std.proofs.Common.{◌≡◌, ◌≤◌, ◌+◌, ℕ, zero, suc, Lis
 use Rattle.in_check.specs.Checking.{IsAccepted}
 use Rattle.in_check.specs.Plain.{IsReachedBy}
 use Rattle.in_check.specs.Programs.{Program}
-use Rattle.in_check.proofs.Reached.Plain.{steps_under_names}
+use Rattle.in_check.proofs.Public.{steps_under_names}
 use Rattle.in_interaction.specs.Queues.{agents_at}
 use Rattle.in_compile.specs.Cells.{agents_of, count_of}
 use Rattle.in_run.specs.declared.limits.Limits.{Limits}
@@ -18,9 +18,7 @@ use Rattle.in_reducer.specs.Starts.{IsStart}
 use Rattle.in_rounds.specs.Machines.{IsMachine}
 use Rattle.in_reducer.specs.Runs.{Runs, at_start, then_step}
 use Rattle.in_reducer.specs.Steps.{StepsAt}
-use Rattle.in_rounds.proofs.Rounded.{joined}
-use Rattle.in_rounds.proofs.StepsOn.{machine_on}
-use Rattle.in_rounds.proofs.SameStart.{start_machine, start_reached}
+use Rattle.in_rounds.proofs.Public.{joined, machine_on, start_machine, start_reached}
 
 -- so many interactions of a program's run within these limits
 pub record IsOnItsWay (p : Program) (l : Limits) (k : ℕ) (m : MachineParts) : Type 0 where

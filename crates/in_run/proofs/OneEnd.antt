@@ -11,7 +11,7 @@ use Rattle.in_run.proofs.OnItsWay.{IsOnItsWay}
 use Rattle.in_rounds.specs.Texts.{text_of}
 use Rattle.in_order.specs.Ends.{EndsOnce}
 use Rattle.in_run.specs.Laws.{NormalOutcomesAreOne}
-use Rattle.in_rounds.proofs.OneEnd.{normal_ends_are_one}
+use Rattle.in_rounds.proofs.Public.{normal_ends_are_one}
 
 no_pair : (limit : ℕ) (m : MachineParts) (k : ℕ) (s : Stop) → IsStop limit m k s → s ≡ Normal → m.queue ≡ []
 no_pair limit m k s h e = subst (IsStop limit m k) e h

@@ -12,9 +12,8 @@ use Rattle.in_reducer.specs.Steps.{HasRoomAt, IsShortAt}
 use Rattle.in_reducer.specs.Runs.{Runs}
 use Rattle.in_run.specs.Stops.{IsStop, IsOutcome}
 use Rattle.in_rounds.specs.Same.{IsSameMachine, AreSame}
-use Rattle.in_compile.proofs.Classes.{one_short}
-use Rattle.in_rounds.proofs.SameStep.{need_moved, pair_moved}
-use Rattle.in_rounds.proofs.SameRun.{machine_runs, one_need, passes, room_moved, same_run}
+use Rattle.in_compile.proofs.Public.{one_short}
+use Rattle.in_rounds.proofs.Public.{need_moved, pair_moved, machine_runs, one_need, passes, room_moved, same_run}
 
 -- ---- one machine
 

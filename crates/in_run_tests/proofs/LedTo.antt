@@ -9,7 +9,7 @@ use Rattle.in_net.specs.Nets.{Port, Free, net_of, point_of}
 use Rattle.in_net.specs.Parts.{symbol_in, partner_in}
 use Rattle.in_check.specs.Promises.{IsAsPromised}
 use Rattle.in_check.specs.Systems.{system_of}
-use Rattle.in_check.proofs.Reached.Plain.{promised}
+use Rattle.in_check.proofs.Public.{promised}
 use Rattle.in_reducer.specs.Machines.{MachineParts, parts_of, plain_of, point_at}
 use Rattle.in_rounds.specs.Machines.{IsMachine}
 

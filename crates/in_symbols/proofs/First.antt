@@ -11,8 +11,7 @@ use Rattle.in_base.specs.Lists.{AnyByRecursion}
 use Rattle.in_symbols.specs.Faults.{IsTypeName, IsSymbolName, IsRepeatedAt, IsDeclaredTwiceAt, type_twice, symbol_twice, free_twice, free_symbol, IsUnknownTypeAt, IsUnknownHeadAt, IsFaultAt, declared_twice, unknown_type, unknown_symbol, IsFirstFault, IsFaultless}
 use Rattle.in_syntax.specs.Refusals.{earlier, refused, earlier_refusal}
 use Rattle.in_symbols.specs.Searching.{undeclared, declares_all, declares_all_free, untyped_in_symbols, untyped_in_free, unknown_in_rules, unknown_in_equations, first_fault}
-use Rattle.in_syntax.proofs.Least.{IsLeast, least_same, least_earlier}
-use Rattle.in_syntax.proofs.FirstFault.{IsFirst, Of, first_same, first_of_three, first_as}
+use Rattle.in_syntax.proofs.Public.{IsLeast, least_same, least_earlier, IsFirst, Of, first_same, first_of_three, first_as}
 use Rattle.in_symbols.proofs.Named.{IsIn, AreNamesOf}
 use Rattle.in_symbols.proofs.Repeated.{all_names, repeats_least, free_least}
 use Rattle.in_symbols.proofs.UnknownInRules.{unknown_least}

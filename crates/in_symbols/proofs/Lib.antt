@@ -4,6 +4,7 @@ pub mod Heads
 pub mod Maps
 pub mod Named
 pub mod OneTables
+pub mod Public
 pub mod Repeated
 pub mod Searches
 pub mod Shapes

@@ -16,14 +16,12 @@ use Rattle.in_syntax.specs.declared.tree.SourceSymbol.{SourceSymbol}
 use Rattle.in_syntax.specs.declared.tree.Term.{Term, out-Term}
 use Rattle.in_syntax.specs.Order.{BeginApart, term_places, equation_places, head_places, symbol_places, rule_places, free_places, source_places}
 use Rattle.in_base.specs.Lists.{AnyByRecursion}
-use Rattle.in_syntax.proofs.FirstFault.{both_first, IsOneOf, code_is}
+use Rattle.in_syntax.proofs.Public.{both_first, IsOneOf, code_is, places_out, same_refusal}
 use Rattle.in_symbols.specs.Faults.{IsSymbolName, HasPartIn, IsRepeatedAt, IsDeclaredTwiceAt, type_twice, symbol_twice, free_twice, free_symbol, IsUntypedAt, IsUnknownTypeAt, of_principal, of_auxiliary, of_free, HasPart, itself, argument, IsUnknownHead, OfAHead, IsUnknownHeadAt, in_equation, in_rule_equation, of_head, in_head, IsFaultAt, declared_twice, unknown_type, unknown_symbol}
 use Rattle.in_symbols.specs.Tables.{Tabulates}
 use Rattle.in_syntax.specs.Answers.{IsOne}
 use Rattle.in_base.specs.Lists.{IsAmong}
 use Rattle.in_base.proofs.Among.{among_left, among_right, in_flat, in_map, of_map}
-use Rattle.in_syntax.proofs.Ordered.{places_out}
-use Rattle.in_syntax.proofs.WholeTexts.{same_refusal}
 
 pub any_among : {X : Type 0} (P : X → Type 0) (xs : List X) → AnyByRecursion P xs → (x : X) × IsAmong x xs × P x
 any_among P [] h = absurd h

@@ -7,7 +7,7 @@ use Rattle.in_base.specs.Lists.{AnyByRecursion}
 use Rattle.in_symbols.specs.Faults.{IsRepeatedAt}
 use Rattle.in_symbols.specs.Names.{number_in, has_name}
 use Rattle.in_symbols.specs.Searching.{undeclared, repeats, declares, declares_all, declares_free, declares_all_free}
-use Rattle.in_syntax.proofs.Least.{IsLeast, least_same, least_earlier, earlier_none}
+use Rattle.in_syntax.proofs.Public.{IsLeast, least_same, least_earlier, earlier_none}
 use Rattle.in_symbols.proofs.Named.{IsIn, there, not_there, has_number, no_number}
 use Rattle.in_base.proofs.Each.{any_of, any_either, any_in_end, any_in_front, any_before_end}
 

@@ -14,7 +14,7 @@ use Rattle.in_syntax.specs.Refusals.{earlier, refused, earlier_refusal}
 use Rattle.in_symbols.specs.Searching.{undeclared, declares_all, declares_all_free, untyped_in_symbols, untyped_in_free, unknown_in_rules, unknown_in_equations, first_fault}
 use Rattle.in_symbols.specs.Tables.{Tables, IsTabled, KnowsAll, type_names, symbol_names, shapes_of}
 use Rattle.in_symbols.proofs.First.{is_faultless}
-use Rattle.in_syntax.proofs.Least.{earlier_none}
+use Rattle.in_syntax.proofs.Public.{earlier_none}
 use Rattle.in_symbols.proofs.Repeated.{all_kept}
 use Rattle.in_symbols.proofs.Unknown.{equations_known}
 use Rattle.in_symbols.proofs.UnknownInRules.{rules_known}

@@ -13,11 +13,11 @@ use Rattle.in_syntax.specs.Refusals.{earlier, earliest}
 use Rattle.in_symbols.specs.Searching.{is_empty, unknown_here, unknown_in_term, unknown_in_equation, unknown_in_equations}
 use Rattle.in_symbols.specs.Tables.{is_none, all_true, heads_known, HeadsKnown}
 use Rattle.in_symbols.proofs.Heads.{heads_out, unknown_out}
-use Rattle.in_syntax.proofs.Least.{IsLeast, left, shift, shift_back, least_same, least_earlier, least_of_all, earlier_none, earliest_none}
+use Rattle.in_syntax.proofs.Public.{IsLeast, left, shift, shift_back, least_same, least_earlier, least_of_all, earlier_none, earliest_none}
+use Rattle.in_syntax.proofs.Public.{names_out}
 use Rattle.in_symbols.proofs.Named.{AreNamesOf, has_number, no_number}
 use Rattle.in_base.proofs.Each.{any_of}
 use Rattle.std.proofs.lemmas.Bool.{and_from}
-use Rattle.in_syntax.proofs.Terms.{names_out}
 
 -- ---- one term
 

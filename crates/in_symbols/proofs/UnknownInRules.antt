@@ -11,7 +11,7 @@ use Rattle.in_symbols.specs.Names.{number_in}
 use Rattle.in_syntax.specs.Refusals.{earlier}
 use Rattle.in_symbols.specs.Searching.{unknown_name, unknown_in_term, unknown_in_equations, unknown_in_head, unknown_in_rule, unknown_in_rules}
 use Rattle.in_symbols.specs.Tables.{heads_known, IsHeadKnown, IsRuleKnown}
-use Rattle.in_syntax.proofs.Least.{IsLeast, least_same, least_earlier, least_earliest, least_of_all, earlier_none, earliest_none}
+use Rattle.in_syntax.proofs.Public.{IsLeast, least_same, least_earlier, least_earliest, least_of_all, earlier_none, earliest_none}
 use Rattle.in_symbols.proofs.Named.{AreNamesOf, has_number, no_number, known_by}
 use Rattle.in_symbols.proofs.Unknown.{IsUnknownInEquations, term_least, equations_least, term_known, equations_known}
 use Rattle.in_base.proofs.Each.{any_of, any_either}

@@ -12,7 +12,7 @@ use Rattle.in_symbols.specs.Names.{number_in}
 use Rattle.in_syntax.specs.Refusals.{earlier}
 use Rattle.in_symbols.specs.Searching.{untyped, untyped_in_class, untyped_in_symbol, untyped_in_symbols, untyped_in_free}
 use Rattle.in_symbols.specs.Tables.{Knows, KnowsAll, FreeKnown}
-use Rattle.in_syntax.proofs.Least.{IsLeast, least_same, least_earlier, least_earliest, least_of_all, earliest_none}
+use Rattle.in_syntax.proofs.Public.{IsLeast, least_same, least_earlier, least_earliest, least_of_all, earliest_none}
 use Rattle.in_symbols.proofs.Named.{AreNamesOf, has_number, no_number, known_by}
 use Rattle.in_base.proofs.Each.{any_of, any_either}
 

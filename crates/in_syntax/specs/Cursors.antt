@@ -45,7 +45,7 @@ pub record IsWithin (s : Spot) (rest : List ℕ) : Type 0 where
   pub col : s.col ≤ s.at + 1
 
 -- from a spot, the text is some characters that pass the test, and after them, at the second spot, the rest
-pub record Runs (passes : ℕ → Bool) (s : Spot) (text w : List ℕ) (t : Spot) (rest : List ℕ) : Type 0 where
+pub record RunsThrough (passes : ℕ → Bool) (s : Spot) (text w : List ℕ) (t : Spot) (rest : List ℕ) : Type 0 where
   pub split : chars text ≡ w ++ chars rest
   pub all : list_all passes w ≡ true
   pub end : t ≡ past_all s w
@@ -55,7 +55,7 @@ pub record Runs (passes : ℕ → Bool) (s : Spot) (text w : List ℕ) (t : Spot
 
 -- the longest such run, whose characters are counted
 pub record IsRun (passes : ℕ → Bool) (s : Spot) (text w : List ℕ) (r : ℕ × Spot × List ℕ) : Type 0 where
-  pub runs : Runs passes s text w r.1 r.2
+  pub runs : RunsThrough passes s text w r.1 r.2
   pub count : r.0 ≡ length w
   pub longest : FirstFails passes (chars r.2)
 

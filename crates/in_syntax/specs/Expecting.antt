@@ -3,8 +3,8 @@
 use Rattle.std.specs.Prelude.{◌≡◌, ◌↔◌, ◌⊎◌, ℕ, Bool, true, false, List, [], ◌∷◌, ◌++◌, take, IsTrue, Result, Ok, Err}
 use Rattle.in_syntax.specs.declared.expecting.Expected.{Expected}
 use Rattle.in_syntax.specs.declared.expecting.Expected.TheVariants as expected
-use Rattle.in_syntax.specs.declared.expecting.Part.{Part}
-use Rattle.in_syntax.specs.declared.expecting.Part.TheVariants as part
+use Rattle.in_syntax.specs.declared.expecting.PartOf.{PartOf}
+use Rattle.in_syntax.specs.declared.expecting.PartOf.TheVariants as part
 use Rattle.in_syntax.specs.declared.faults.Fault.{Fault}
 use Rattle.in_syntax.specs.declared.faults.Fault.TheVariants.{Refused, Memory}
 use Rattle.in_syntax.specs.declared.signs.Sign.{Sign}
@@ -13,13 +13,13 @@ use Rattle.in_syntax.specs.declared.tree.Source.{Source}
 use Rattle.in_syntax.specs.declared.words.Token.{Token}
 use Rattle.in_syntax.specs.declared.words.TokenKind.TheVariants as kind
 use Rattle.in_syntax.specs.Grammar.{is_with}
-use Rattle.in_syntax.specs.Programs.{Begins, IsOutcome, fault, sign_of, signs_of}
+use Rattle.in_syntax.specs.Programs.{Begins, IsOutcomeOfSigns, fault, sign_of, signs_of}
 use Rattle.in_syntax.specs.Tokens.{IsTokensOf, IsTokenFault}
 
 -- ---- tokens
 
 -- what may follow a whole term
-abbrev pub follows_term : Part → Sign → Bool
+abbrev pub follows_term : PartOf → Sign → Bool
 follows_term part.Left (Tilde place) = true
 follows_term part.Right (Plain kind.Semicolon) = true
 follows_term part.Head (Plain kind.Comma) = true
@@ -29,7 +29,7 @@ follows_term part.Agent (Plain kind.CloseParenthesis) = true
 follows_term p x = false
 
 -- what may follow a name alone: arguments, or what follows a whole term
-abbrev pub follows_name : Part → Sign → Bool
+abbrev pub follows_name : PartOf → Sign → Bool
 follows_name p (Plain kind.OpenParenthesis) = true
 follows_name p x = follows_term p x
 
@@ -135,7 +135,7 @@ pub record IsExpected (text : List ℕ) (front : List Sign) (e : Expected) : Typ
 abbrev pub IsNotedOf : List ℕ → List Token → Result Source Fault → Expected → Type 0
 IsNotedOf text tokens (Ok source) e = e ≡ expected.Nothing
 IsNotedOf text tokens (Err (Refused r)) e =
-    (at : ℕ) × IsOutcome (signs_of text tokens) (fault r.code at) × IsExpected text (take at (signs_of text tokens)) e
+    (at : ℕ) × IsOutcomeOfSigns (signs_of text tokens) (fault r.code at) × IsExpected text (take at (signs_of text tokens)) e
 IsNotedOf text tokens (Err (Memory m)) e = Unit {0}
 
 -- what is noted of a text, and was before: it is the same where tokens are at fault, and that of its tokens where it has some; nothing is

@@ -2,11 +2,11 @@
 use Rattle.std.specs.Prelude.{◌≡◌, ◌↔◌, ℕ, ◌≤◌, List, length, take}
 use Rattle.in_syntax.specs.declared.signs.Sign.{Sign}
 use Rattle.in_syntax.specs.Grammar.{Program, spelling, source_of}
-use Rattle.in_syntax.specs.Programs.{signs, BeginsWithin, Outcome, tree, fault, IsOutcome}
+use Rattle.in_syntax.specs.Programs.{signs, BeginsWithin, Outcome, tree, fault, IsOutcomeOfSigns}
 
 -- every list of signs has exactly one outcome: one tree, or one first fault
 abbrev pub OneOutcome : Type 0
-OneOutcome = (s : List Sign) → (o : Outcome) × IsOutcome s o × ((p : Outcome) → IsOutcome s p → p ≡ o)
+OneOutcome = (s : List Sign) → (o : Outcome) × IsOutcomeOfSigns s o × ((p : Outcome) → IsOutcomeOfSigns s p → p ≡ o)
 
 -- two programs with the same signs have one tree, and pass the limits at the same signs
 abbrev pub OneTree : Type 0
@@ -19,4 +19,4 @@ before_fault s (fault code i) = i
 
 -- a program begins, within the limits, with just those prefixes of the signs that end before the first fault
 abbrev pub PrefixesBegin : Type 0
-PrefixesBegin = (s : List Sign) (o : Outcome) → IsOutcome s o → (n : ℕ) → n ≤ length s → BeginsWithin (take n s) ↔ (n ≤ before_fault s o)
+PrefixesBegin = (s : List Sign) (o : Outcome) → IsOutcomeOfSigns s o → (n : ℕ) → n ≤ length s → BeginsWithin (take n s) ↔ (n ≤ before_fault s o)

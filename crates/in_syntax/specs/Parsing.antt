@@ -7,7 +7,7 @@ use Rattle.in_syntax.specs.declared.tree.Source.{Source}
 use Rattle.in_syntax.specs.declared.words.Token.{Token}
 use Rattle.in_syntax.specs.Places.{end_place}
 use Rattle.in_syntax.specs.Tokens.{IsTokensOf, IsTokenFault}
-use Rattle.in_syntax.specs.Programs.{signs_of, IsTree, IsOutcome, fault, place_at}
+use Rattle.in_syntax.specs.Programs.{signs_of, IsTree, IsOutcomeOfSigns, fault, place_at}
 
 -- the text has tokens, and the grammar relates them to this tree
 pub record IsTreeOf (text : List ℕ) (source : Source) : Type 0 where
@@ -25,7 +25,7 @@ pub record IsGrammarFault (text : List ℕ) (r : Refusal) : Type 0 where
   pub tokens : List Token
   pub read : IsTokensOf text tokens
   pub at : ℕ
-  pub first : IsOutcome (signs_of text tokens) (fault r.code at)
+  pub first : IsOutcomeOfSigns (signs_of text tokens) (fault r.code at)
   pub place : r.place ≡ place_at (drop at tokens) (end_place text)
   pub other : r.other ≡ None
 

@@ -92,9 +92,9 @@ pub data Outcome : Type 0 where
   fault : Code → ℕ → Outcome
 
 -- what signs are: a program within the limits, or none, with its first fault
-abbrev pub IsOutcome : List Sign → Outcome → Type 0
-IsOutcome s (tree source) = IsTree s source
-IsOutcome s (fault code i) = (i ≤ length s) × IsFault code (take i s) (drop i s)
+abbrev pub IsOutcomeOfSigns : List Sign → Outcome → Type 0
+IsOutcomeOfSigns s (tree source) = IsTree s source
+IsOutcomeOfSigns s (fault code i) = (i ≤ length s) × IsFault code (take i s) (drop i s)
 
 -- the place of the first of the tokens, or the end
 abbrev pub place_at : List Token → Place → Place
@@ -103,7 +103,7 @@ place_at (t ∷ ts) end = t.place
 
 -- what is answered of a text's tokens
 abbrev pub IsParsing : (text : List ℕ) (tokens : List Token) (end : Place) → Result Source Fault → Type 0
-IsParsing text tokens end (Ok source) = IsOutcome (signs_of text tokens) (tree source)
+IsParsing text tokens end (Ok source) = IsOutcomeOfSigns (signs_of text tokens) (tree source)
 IsParsing text tokens end (Err (Refused r)) =
-    (i : ℕ) × IsOutcome (signs_of text tokens) (fault r.code i) × (r.place ≡ place_at (drop i tokens) end) × (r.other ≡ None)
+    (i : ℕ) × IsOutcomeOfSigns (signs_of text tokens) (fault r.code i) × (r.place ≡ place_at (drop i tokens) end) × (r.other ≡ None)
 IsParsing text tokens end (Err (Memory e)) = Unit {0}

@@ -34,8 +34,8 @@ use Rattle.in_syntax.specs.declared.states.Body.{Body}
 use Rattle.in_syntax.specs.declared.states.Body.TheVariants as body
 use Rattle.in_syntax.specs.declared.expecting.Expected.{Expected}
 use Rattle.in_syntax.specs.declared.expecting.Expected.TheVariants as expected
-use Rattle.in_syntax.specs.declared.expecting.Part.{Part}
-use Rattle.in_syntax.specs.declared.expecting.Part.TheVariants as part
+use Rattle.in_syntax.specs.declared.expecting.PartOf.{PartOf}
+use Rattle.in_syntax.specs.declared.expecting.PartOf.TheVariants as part
 use Rattle.in_syntax.specs.declared.machine.Move.{Move}
 use Rattle.in_syntax.specs.declared.machine.Move.TheVariants as move
 use Rattle.in_syntax.specs.declared.reader.Reader.{Reader}
@@ -333,32 +333,32 @@ Takes r x place (Err (Refused f)) = ((s : List Sign) → run r (x ∷ s) ≡ ref
 Takes r x place (Err (Memory e)) = Unit {0}
 
 -- what the end of the text makes of it
-abbrev pub Ends : Reader → Place → Result Source Fault → Type 0
-Ends r end (Ok source) = run r [] ≡ reads source
-Ends r end (Err (Refused f)) = (run r [] ≡ refused f.code []) × (f.place ≡ end) × (f.other ≡ None)
-Ends r end (Err (Memory e)) = Unit {0}
+abbrev pub EndsText : Reader → Place → Result Source Fault → Type 0
+EndsText r end (Ok source) = run r [] ≡ reads source
+EndsText r end (Err (Refused f)) = (run r [] ≡ refused f.code []) × (f.place ≡ end) × (f.other ≡ None)
+EndsText r end (Err (Memory e)) = Unit {0}
 
 -- what the code's run gives
-abbrev pub Gives : List ℕ → List Token → Place → Result Source Fault → Type 0
-Gives text tokens end (Ok source) = run start (signs_of text tokens) ≡ reads source
-Gives text tokens end (Err (Refused r)) =
+abbrev pub GivesSource : List ℕ → List Token → Place → Result Source Fault → Type 0
+GivesSource text tokens end (Ok source) = run start (signs_of text tokens) ≡ reads source
+GivesSource text tokens end (Err (Refused r)) =
     (i : ℕ) × (i ≤ length tokens) × (run start (signs_of text tokens) ≡ refused r.code (signs_of text (drop i tokens)))
     × (r.place ≡ place_at (drop i tokens) end) × (r.other ≡ None)
-Gives text tokens end (Err (Memory e)) = Unit {0}
+GivesSource text tokens end (Err (Memory e)) = Unit {0}
 
 -- ---- what is expected in a state
 
 -- what a term is a part of
-abbrev pub outermost_part : TermOf → Part
+abbrev pub outermost_part : TermOf → PartOf
 outermost_part (Left b) = part.Left
 outermost_part (Right b l p) = part.Right
 outermost_part (Inside o h) = part.Head
 
-abbrev pub part_within : TermOf → List Term → Part
+abbrev pub part_within : TermOf → List Term → PartOf
 part_within of [] = outermost_part of
 part_within of (outer ∷ around) = part.Agent
 
-abbrev pub part_of : Nest → Part
+abbrev pub part_of : Nest → PartOf
 part_of b = part_within b.of b.around
 
 abbrev pub head_end : HeadOf → Expected

@@ -3,9 +3,9 @@ use Rattle.std.specs.Prelude.{◌≡◌, ℕ, zero, ◌+◌, ◌-◌, ◌^◌, m
 use Rattle.std.specs.Io.KnownBytes.{append_known}
 
 -- the front of the bytes that the answer names was moved, or nothing where the call failed
-abbrev pub Moves : Option (List ℕ) → Option (List ℕ) → Result ℕ (Unit {0}) → List ℕ → Type 0
-Moves old new (Ok n) bytes = new ≡ append_known old (take n bytes)
-Moves old new (Err e) bytes = new ≡ old
+abbrev pub MovesFront : Option (List ℕ) → Option (List ℕ) → Result ℕ (Unit {0}) → List ℕ → Type 0
+MovesFront old new (Ok n) bytes = new ≡ append_known old (take n bytes)
+MovesFront old new (Err e) bytes = new ≡ old
 
 -- a read finds the end of a text where it gives none of some bytes
 abbrev pub finds_end : Result ℕ (Unit {0}) → List ℕ → Bool

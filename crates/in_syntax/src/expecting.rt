@@ -6,7 +6,7 @@ use crate::states::{HeadOf, Nest, State, TermOf};
 
 /// What a term is a part of.
 #[derive(Clone, Copy, Debug, PartialEq, Eq)]
-pub enum Part {
+pub enum PartOf {
     /// The left side of an equation.
     Left,
     /// The right side of an equation.
@@ -65,24 +65,24 @@ pub enum Expected {
     /// A term.
     Term,
     /// What goes on after a name alone: `(`, or what follows a whole term.
-    AfterName(Part),
+    AfterName(PartOf),
     /// What goes on after a whole term.
-    AfterTerm(Part),
+    AfterTerm(PartOf),
     /// Nothing: the program is whole.
     Nothing,
 }
 
 /// What a term of this nest is a part of.
-fn part_of(nest: &Nest) -> Part
+fn part_of(nest: &Nest) -> PartOf
     ensures { result ≡ steps.part_of nest.now }
 {
     if nest.around.len() > 0 {
-        return Part::Agent;
+        return PartOf::Agent;
     }
     match &nest.of {
-        TermOf::Left(_) => Part::Left,
-        TermOf::Right(..) => Part::Right,
-        TermOf::Inside(..) => Part::Head,
+        TermOf::Left(_) => PartOf::Left,
+        TermOf::Right(..) => PartOf::Right,
+        TermOf::Inside(..) => PartOf::Head,
     }
 }
 

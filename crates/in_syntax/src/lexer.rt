@@ -208,6 +208,7 @@ fn front(text: &[u8]) -> &str
         Ok(front) => front,
         Err(error) => match str::from_utf8(&text[..error.valid_up_to()]) {
             Ok(front) => front,
+            // Up to there the text is well formed, as the error says.
             Err(_) => unreachable!(),
         },
     }

@@ -25,7 +25,7 @@ mod text;
 mod tree;
 mod words;
 
-pub use expecting::{Expected, Part};
+pub use expecting::{Expected, PartOf};
 pub use faults::{Code, Fault, Refusal};
 pub use lexer::{MAX_NAME_CHARACTERS, MAX_TEXT_BYTES, tokens};
 pub use machine::{MAX_DEPTH, MAX_FREE_NAMES, MAX_PORTS, MAX_RULES, MAX_SYMBOLS, MAX_TYPES};
@@ -35,8 +35,8 @@ pub use places::Place;
 pub use streams::{TextIn, TextOut};
 pub use text::Text;
 pub use tree::{
-    Equation, Equations, Head, Name, Names, Source, SourceClass, SourceClasses, SourceFree,
-    SourceFrees, SourceNet, SourcePort, SourceRule, SourceRules, SourceSymbol, SourceSymbols, Term,
-    Terms,
+    Equation, Equations, Head, Name, Source, SourceClass, SourceClasses, SourceFree, SourceFrees,
+    SourceNet, SourcePort, SourceRule, SourceRules, SourceSymbol, SourceSymbols, Term, Terms,
+    TypeNames,
 };
 pub use words::{Token, TokenKind};

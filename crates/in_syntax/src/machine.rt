@@ -14,8 +14,8 @@ use crate::states::{
     put_away_port, put_away_term,
 };
 use crate::tree::{
-    Equation, Equations, Head, Name, Names, SourceClass, SourceClasses, SourceFree, SourceFrees,
-    SourceNet, SourcePort, SourceRule, SourceSymbol, Term,
+    Equation, Equations, Head, Name, SourceClass, SourceClasses, SourceFree, SourceFrees,
+    SourceNet, SourcePort, SourceRule, SourceSymbol, Term, TypeNames,
 };
 use crate::words::TokenKind;
 use std::alloc::{AllocError, Global};
@@ -44,7 +44,7 @@ pub enum Move {
     /// The next token stands there.
     Goes(State),
     /// A `type` item is whole.
-    Types(Names),
+    Types(TypeNames),
     /// A `symbol` item is whole.
     Symbol(SourceSymbol),
     /// A `rule` item is whole.
@@ -91,7 +91,7 @@ fn at_item(alloc: Global, counts: Counts, sign: Sign) -> Move
     ensures { result ≡ move_of (steps.at_item counts sign) }
 {
     match sign {
-        Sign::Plain(TokenKind::Type) => Move::Goes(State::TypeName(Names::new(alloc))),
+        Sign::Plain(TokenKind::Type) => Move::Goes(State::TypeName(TypeNames::new(alloc))),
         Sign::Plain(TokenKind::Symbol) => Move::Goes(State::SymbolName),
         Sign::Plain(TokenKind::Rule) => {
             if counts.rules >= MAX_RULES {
@@ -105,7 +105,7 @@ fn at_item(alloc: Global, counts: Counts, sign: Sign) -> Move
     }
 }
 
-fn at_type_name(counts: Counts, mut names: Names, sign: Sign) -> Result<Move, AllocError>
+fn at_type_name(counts: Counts, mut names: TypeNames, sign: Sign) -> Result<Move, AllocError>
     ensures { IfOk result (λ m. m ≡ move_of (steps.at_type_name counts names sign)) }
 {
     match sign {
@@ -120,7 +120,7 @@ fn at_type_name(counts: Counts, mut names: Names, sign: Sign) -> Result<Move, Al
     }
 }
 
-fn at_type_end(names: Names, sign: Sign) -> Move
+fn at_type_end(names: TypeNames, sign: Sign) -> Move
     ensures { result ≡ move_of (steps.at_type_end names sign) }
 {
     match sign {

@@ -1,5 +1,5 @@
 ghost use Rattle.std.specs.Prelude.{◌≡◌, ◌+◌, ◌-◌, ◌^◌, ◌<◌, ◌≤◌, min, false, true, Some, Ok, take, length, IfOk};
-ghost use Rattle.in_syntax.specs.Streams.{Moves, fails_write};
+ghost use Rattle.in_syntax.specs.Streams.{MovesFront, fails_write};
 
 use crate::streams::{TextIn, TextOut};
 use std::alloc::{AllocError, Global};
@@ -88,7 +88,7 @@ impl TextOut for MemoryOut {
     fn write(&mut self, bytes: &[u8]) -> Result<usize, ()>
         requires { self.old.failures < 2 ^ 64 - 1 }
         ensures within { IfOk result (λ n. n ≤ length bytes.now) }
-        ensures taken { Moves (Some (take self.old.taken self.old.room.items)) (Some (take self.new.taken self.new.room.items)) result bytes.now }
+        ensures taken { MovesFront (Some (take self.old.taken self.old.room.items)) (Some (take self.new.taken self.new.room.items)) result bytes.now }
         ensures failures { self.new.failures ≡ self.old.failures + fails_write result bytes.now }
         ensures fits { result ≡ Ok (min (length bytes.now) (length self.old.room.items - self.old.taken)) }
         ensures room { length self.new.room.items ≡ length self.old.room.items }

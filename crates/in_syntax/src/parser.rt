@@ -1,6 +1,6 @@
 ghost use Rattle.in_syntax.specs.Expecting.{IsNotedOf};
 ghost use Rattle.in_syntax.specs.Programs.{HasTexts, IsParsing};
-ghost use Rattle.in_syntax.specs.Steps.{Gives, Notes};
+ghost use Rattle.in_syntax.specs.Steps.{GivesSource, Notes};
 
 use crate::expecting::{Expected, expected_in};
 use crate::faults::Fault;
@@ -45,7 +45,7 @@ fn program_by_steps(
     expected: &mut Expected,
 ) -> Result<Source, Fault>
     requires { HasTexts text.now tokens.now }
-    ensures gives { Gives text.now tokens.now end result }
+    ensures gives { GivesSource text.now tokens.now end result }
     ensures expected { Notes text.now tokens.now result expected.new }
 {
     let mut reader = Reader::new(alloc);

@@ -1,6 +1,6 @@
 ghost use Rattle.std.specs.Prelude.{◌≡◌};
 ghost use Rattle.in_syntax.specs.Programs.{HasText, sign_of};
-ghost use Rattle.in_syntax.specs.Steps.{start, Takes, Ends};
+ghost use Rattle.in_syntax.specs.Steps.{start, Takes, EndsText};
 ghost use Rattle.in_syntax.specs.Steps as steps;
 
 use crate::counts::Counts;
@@ -9,14 +9,14 @@ use crate::machine::{Move, step};
 use crate::places::Place;
 use crate::signs::{Sign, read_sign};
 use crate::states::{State, put_away};
-use crate::tree::{Names, Source, SourceNet, SourceRules, SourceSymbols};
+use crate::tree::{Source, SourceNet, SourceRules, SourceSymbols, TypeNames};
 use crate::words::Token;
 use std::alloc::Global;
 
 /// What was read of a program, between two tokens.
 #[derive(Drop)]
 pub struct Reader {
-    pub types: Names,
+    pub types: TypeNames,
     pub symbols: SourceSymbols,
     pub rules: SourceRules,
     pub state: State,
@@ -27,7 +27,7 @@ impl Reader {
         ensures { result ≡ start }
     {
         Reader {
-            types: Names::new(alloc),
+            types: TypeNames::new(alloc),
             symbols: SourceSymbols::new(alloc),
             rules: SourceRules::new(alloc),
             state: State::Item,
@@ -88,7 +88,7 @@ impl Reader {
 
     /// The program, where the text ends here.
     pub fn finish(self, end: Place) -> Result<Source, Fault>
-        ensures { Ends self end result }
+        ensures { EndsText self end result }
     {
         let Reader {
             types,
@@ -108,7 +108,7 @@ impl Reader {
     }
 }
 
-fn between_items(types: Names, symbols: SourceSymbols, rules: SourceRules) -> Reader
+fn between_items(types: TypeNames, symbols: SourceSymbols, rules: SourceRules) -> Reader
     ensures { result ≡ steps.between_items types symbols rules }
 {
     Reader {

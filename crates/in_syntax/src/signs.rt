@@ -37,6 +37,7 @@ fn name_at(alloc: Global, text: &[u8], place: Place) -> Result<Name, AllocError>
             text: Text::from_str(alloc, text)?,
             place,
         }),
+        // The place of a name cuts no character: it is asked for.
         Err(_) => unreachable!(),
     }
 }

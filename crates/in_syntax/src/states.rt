@@ -1,7 +1,7 @@
 use crate::places::Place;
 use crate::stack::Stack;
 use crate::tree::{
-    Head, Name, Names, SourceClass, SourceFrees, SourceNet, SourceRule, SourceSymbol, Term,
+    Head, Name, SourceClass, SourceFrees, SourceNet, SourceRule, SourceSymbol, Term, TypeNames,
 };
 
 /// What a port's type is written for.
@@ -57,9 +57,9 @@ pub enum State {
     /// An item or the net begins.
     Item,
     /// After `type`, or after a `,` in its list.
-    TypeName(Names),
+    TypeName(TypeNames),
     /// After a name of that list.
-    TypeEnd(Names),
+    TypeEnd(TypeNames),
     /// After `symbol`.
     SymbolName,
     /// After the symbol's name.

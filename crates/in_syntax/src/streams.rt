@@ -1,5 +1,5 @@
 ghost use Rattle.std.specs.Prelude.{◌≡◌, ℕ, ◌+◌, ◌-◌, ◌^◌, ◌<◌, ◌≤◌, Bool, List, Option, length, IfOk};
-ghost use Rattle.in_syntax.specs.Streams.{Moves, finds_end, fails_read, fails_write, one_more};
+ghost use Rattle.in_syntax.specs.Streams.{MovesFront, finds_end, fails_read, fails_write, one_more};
 
 /// Where a text comes from.
 pub trait TextIn {
@@ -19,7 +19,7 @@ pub trait TextIn {
     fn read(&mut self, into: &mut [u8]) -> Result<usize, ()>
         requires { failures self.old < 2 ^ 64 - 1 }
         ensures within { IfOk result (λ n. n ≤ length into.new) }
-        ensures given { Moves (given self.old) (given self.new) result into.new }
+        ensures given { MovesFront (given self.old) (given self.new) result into.new }
         ensures ended { ended self.new ≡ finds_end result into.new }
         ensures failures { failures self.new ≡ failures self.old + fails_read result }
         ensures reads { reads self.new ≡ one_more (reads self.old) };
@@ -37,6 +37,6 @@ pub trait TextOut {
     fn write(&mut self, bytes: &[u8]) -> Result<usize, ()>
         requires { failures self.old < 2 ^ 64 - 1 }
         ensures within { IfOk result (λ n. n ≤ length bytes.now) }
-        ensures taken { Moves (taken self.old) (taken self.new) result bytes.now }
+        ensures taken { MovesFront (taken self.old) (taken self.new) result bytes.now }
         ensures failures { failures self.new ≡ failures self.old + fails_write result bytes.now };
 }

@@ -6,7 +6,7 @@ use crate::text::Text;
 use sqlite_items::Items;
 use std::alloc::{AllocError, Global};
 
-pub type Names = Items<Name>;
+pub type TypeNames = Items<Name>;
 
 pub type SourceSymbols = Items<SourceSymbol>;
 
@@ -24,7 +24,7 @@ pub type Terms = Items<Term>;
 
 /// A program as it is written, each list in the order of the text.
 pub struct Source {
-    pub types: Names,
+    pub types: TypeNames,
     pub symbols: SourceSymbols,
     pub rules: SourceRules,
     pub net: SourceNet,

@@ -3,7 +3,7 @@ use Rattle.std.proofs.Common.{◌≡◌, ◌⊎◌, inl, inr, ◌<◌, Ok, Err, 
 use Rattle.std.proofs.lemmas.Bool.{cases_order}
 use Rattle.std.proofs.lemmas.Option.{same_Some}
 use Rattle.in_syntax.specs.declared.faults.Refusal.{Refusal}
-use Rattle.in_syntax.proofs.WholeTexts.{same_refusal}
+use Rattle.in_syntax.proofs.Public.{same_refusal}
 use Rattle.in_symbols.specs.Tables.{Tables}
 use Rattle.in_net.specs.Parts.{Parts, wire_place_in}
 use Rattle.in_net.specs.Rules.{RuleParts}

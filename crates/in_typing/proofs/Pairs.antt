@@ -10,7 +10,7 @@ use Rattle.in_net.specs.declared.nets.Point.{Point}
 use Rattle.in_net.specs.declared.nets.Point.TheVariants.{Port}
 use Rattle.in_net.specs.Parts.{Parts, IsWhole, IsWireBetween, cell_in, symbol_in}
 use Rattle.in_typing.specs.Typed.{opposite, type_at, IsTyped}
-use Rattle.in_typing.specs.Laws.{IsActivePair, AreOpposite}
+use Rattle.in_typing.specs.Laws.{AreActivePair, AreOpposite}
 
 -- an agent with a partner has a symbol
 has_symbol : (n : Parts) (x i : ℕ) (q : Point) (o : Option Cell) → cell_in n x ≡ o → option_and_then (λ c. slice_get c.ends i) o ≡ Some q → (s : SymbolNo) × (symbol_in n x ≡ Some s)
@@ -26,7 +26,7 @@ not_not true false e = refl
 not_not false true e = refl
 not_not false false e = cc
 
-pub pairs_match : (t : Tables) (n : Parts) (x y : AgentNo) → IsWhole n → IsTyped t n → IsActivePair n x y → AreOpposite t n x y
+pub pairs_match : (t : Tables) (n : Parts) (x y : AgentNo) → IsWhole n → IsTyped t n → AreActivePair n x y → AreOpposite t n x y
 pairs_match t n x y whole typed pair =
     let one = has_symbol n x.0 0 (Port y 0) (cell_in n x.0) refl pair in
     let other = has_symbol n y.0 0 (Port x 0) (cell_in n y.0) refl (whole.back (Port x 0) (Port y 0) pair) in

@@ -6,7 +6,7 @@ use Rattle.in_typing.specs.Typed.{opposite}
 use Rattle.in_typing.specs.TypedNets.{type_in, IsTypedNet, HasType}
 use Rattle.in_net.specs.Interactions.{Redex, IsRedex, IsNaming, Side, Outer, Inner, Alternates, stands_for, wire_of, IsOfPair, AreJoined, IsStep, end_agent, end_symbol, end_place}
 use Rattle.in_typing.proofs.TypedParts.{opposite_twice}
-use Rattle.in_net.proofs.PairPorts.{end_has, port_agent, port_place, symbol_of, end_of_pair, end_of, stands_one, first_wire}
+use Rattle.in_net.proofs.Public.{end_has, port_agent, port_place, symbol_of, end_of_pair, end_of, stands_one, first_wire}
 use Rattle.in_base.proofs.Each.{at_index}
 
 -- the type of a port, by its agent's symbol, and the symbol that it comes from

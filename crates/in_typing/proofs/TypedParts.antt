@@ -8,7 +8,7 @@ use Rattle.in_symbols.specs.Tables.{Tables, port_at}
 use Rattle.in_net.specs.declared.nets.FreeEnd.{FreeEnd}
 use Rattle.in_net.specs.Nets.{Point, Port, Free, net_of, signature_of, coded_point}
 use Rattle.in_net.specs.Parts.{Parts, IsWhole, IsWireBetween, partner_in, symbol_in}
-use Rattle.in_net.proofs.OneNet.{map_is}
+use Rattle.in_net.proofs.Public.{map_is}
 use Rattle.in_typing.specs.Typed.{opposite, type_at, IsTyped}
 use Rattle.in_typing.specs.TypedNets.{type_in, IsTypedNet}
 

@@ -14,8 +14,8 @@ use Rattle.in_typing.specs.Typed.{IsTyped, Types, TypesRule, opposite}
 use Rattle.in_typing.specs.TypedNets.{IsTypedNet, HasType}
 
 -- two agents whose principal ports are one wire: Lafont 1990 calls them an active pair
-abbrev pub IsActivePair : Parts → AgentNo → AgentNo → Type 0
-IsActivePair n x y = partner_in n (Port x 0) ≡ Some (Port y 0)
+abbrev pub AreActivePair : Parts → AgentNo → AgentNo → Type 0
+AreActivePair n x y = partner_in n (Port x 0) ≡ Some (Port y 0)
 
 -- the symbols of the two are a constructor and a destructor of one type
 pub record AreOpposite (t : Tables) (n : Parts) (x y : AgentNo) : Type 0 where
@@ -27,7 +27,7 @@ pub record AreOpposite (t : Tables) (n : Parts) (x y : AgentNo) : Type 0 where
   pub sign : is_constructor t one.0 ≡ not (is_constructor t other.0)
 
 abbrev pub TypedPairsMatch : Type 0
-TypedPairsMatch = (t : Tables) (n : Parts) (x y : AgentNo) → IsWhole n → IsTyped t n → IsActivePair n x y → AreOpposite t n x y
+TypedPairsMatch = (t : Tables) (n : Parts) (x y : AgentNo) → IsWhole n → IsTyped t n → AreActivePair n x y → AreOpposite t n x y
 
 -- what typing a net may answer is one, and what typing a rule may
 abbrev pub NetsAreTypedOnce : Type 0

@@ -27,6 +27,7 @@ fn type_at(symbols: &Symbols, net: &Net, point: Point) -> PortType
     match point {
         Point::Port(agent, place) => match net.symbol(agent) {
             Some(symbol) => symbols.port(symbol, place),
+            // A point of the net is a port of an agent that is there.
             None => unreachable!(),
         },
         Point::Free(number) => opposite(net.free_type(number)),

@@ -15,8 +15,9 @@ use Rattle.in_gather.specs.Gathers.{bags_of}
 use Rattle.in_gather.specs.Holding.{AreBagsOf, Returns, holders}
 use Rattle.in_gather.specs.declared.gather.Slot.{Slot}
 use Rattle.in_gather.specs.declared.gather.Slot.TheVariants.{Fresh, Kept}
-use Rattle.in_gather.proofs.Holding.{are_bags_by, bags_are_of_one, beside_are_bags, end_are_bags, first_are_bags, first_is_bag, front_are_bags, holders-append, holders-cons, holders-first, left_are_bags, none_returned, one_returned, rest_are_bags, returns_beside, returns_both, returns_by}
-use Rattle.in_gather.proofs.Keeping.{put_all, put_holders}
+use Rattle.in_gather.proofs.Public.{are_bags_by, bags_are_of_one, beside_are_bags, end_are_bags, first_are_bags, first_is_bag}
+use Rattle.in_gather.proofs.Public.{front_are_bags, holders-append, holders-cons, holders-first, left_are_bags, none_returned, one_returned}
+use Rattle.in_gather.proofs.Public.{rest_are_bags, returns_beside, returns_both, returns_by, put_all, put_holders}
 use Rattle.in_work.specs.Bringing.{hand, hands, AreMadeWith}
 use Rattle.in_work.specs.Works.{bags}
 use Rattle.in_work.specs.declared.part.Part.{Part}

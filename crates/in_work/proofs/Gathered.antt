@@ -12,15 +12,14 @@ use Rattle.in_gather.specs.Gathers.{bags_of}
 use Rattle.in_gather.specs.Holding.{AreBagsOf, HaveAllLeased, Returns, holders}
 use Rattle.in_gather.specs.declared.gather.Slot.{Slot}
 use Rattle.in_gather.specs.declared.gather.Slot.TheVariants.{Fresh, Kept}
-use Rattle.in_gather.proofs.Holding.{are_bags_by, bags_are_of_one, fewer_or_same, holders-append}
+use Rattle.in_gather.proofs.Public.{are_bags_by, bags_are_of_one, fewer_or_same, holders-append, one_of_one}
 use Rattle.in_work.specs.Bringing.{hand, hands, AreMadeWith, IsPartMadeWith, PartsAreMadeWith}
 use Rattle.in_work.specs.Lending.{AreLentOut}
 use Rattle.in_work.specs.Plans.{PlanParts}
-use Rattle.in_work.specs.Works.{IsDone, IsWorked, bags}
+use Rattle.in_work.specs.Works.{IsDoneJob, IsWorked, bags}
 use Rattle.in_work.specs.declared.part.Part.{Part}
 use Rattle.in_work.proofs.Lent.{hands-append}
 use Rattle.in_work.proofs.Threading.{last_of, all_but_last}
-use Rattle.in_gather.proofs.Placing.{one_of_one}
 
 -- ---- one worker
 
@@ -39,7 +38,7 @@ module _ (plan : PlanParts) (p q : Part) (w : IsWorked plan p q) (none : p.done.
       (All-weaker (λ (d : DoneParts). AreOfOne p.stock.bag d.placed.placed.bag) (λ (d : DoneParts). AreOfOne a d.placed.placed.bag) (λ d of. one_of_one a p.stock.bag d.placed.placed.bag one of) w.works.more w.works.one.1)))
 
   made_with : IsPartMadeWith plan.templates q
-  made_with = subst (All (λ (d : DoneParts). d.templates ≡ plan.templates)) (sym all_its_own) (All-weaker (IsDone plan) (λ (d : DoneParts). d.templates ≡ plan.templates) (λ d is. is.templates) w.works.more w.works.each)
+  made_with = subst (All (λ (d : DoneParts). d.templates ≡ plan.templates)) (sym all_its_own) (All-weaker (IsDoneJob plan) (λ (d : DoneParts). d.templates ≡ plan.templates) (λ d is. is.templates) w.works.more w.works.each)
 
 -- ---- all
 

@@ -7,17 +7,15 @@ use Rattle.in_arena.specs.Bags.{AreOfOne}
 use Rattle.in_arena.specs.Changes.{HasAllCells}
 use Rattle.in_arena.specs.States.{Vacant, Leased, IsLeased}
 use Rattle.in_arena.specs.declared.content.CellClass.{CellClass}
-use Rattle.in_arena.proofs.Bags.{empty_is_of}
+use Rattle.in_arena.proofs.Public.{empty_is_of}
 use Rattle.in_compile.specs.declared.cells.Need.{Need}
 use Rattle.in_compile.specs.Cells.{count_of}
 use Rattle.in_compile.specs.Placing.{PlacedParts}
 use Rattle.in_compile.specs.Stocks.{StockParts, AddsTo, HasRoom, IsStockOf, empty_stock}
-use Rattle.in_compile.proofs.Stocked.{count_all, cells_all, memory_all, none_in_empty}
+use Rattle.in_compile.proofs.Public.{count_all, cells_all, memory_all, none_in_empty}
 use Rattle.in_claims.specs.Seats.{BoardView}
 use Rattle.in_gather.specs.Holding.{holders}
-use Rattle.in_gather.proofs.Filling.{Change, change}
-use Rattle.in_gather.proofs.Filling.Change.{Lends, Stays}
-use Rattle.in_gather.proofs.Holding.{leased_of, each_of, bags_are_of_one, no_bags, of_one_by, holders-append}
+use Rattle.in_gather.proofs.Public.{Change, change, Lends, Stays, leased_of, each_of, bags_are_of_one, no_bags, of_one_by, holders-append}
 use Rattle.in_work.specs.Bringing.{hand, hands}
 use Rattle.in_work.specs.Lending.{AreLentOut, IsFresh, IsShare}
 use Rattle.in_work.specs.Plans.{PlanParts}

@@ -7,9 +7,8 @@ use Rattle.in_net.specs.NetFaults.{max_member_agents}
 use Rattle.in_check.specs.Checking.{IsAccepted}
 use Rattle.in_check.specs.Programs.{Program}
 use Rattle.in_compile.specs.Templates.{TemplateParts, TemplatesParts, AreTemplatesOf, template_at}
-use Rattle.in_compile.proofs.Accepted.{whole_rule}
-use Rattle.in_compile.proofs.Sound.{few_agents}
-use Rattle.in_gather.proofs.Placing.{template_in}
+use Rattle.in_compile.proofs.Public.{whole_rule, few_agents}
+use Rattle.in_gather.proofs.Public.{template_in}
 use Rattle.in_work.specs.Plans.{IsPlan}
 
 pub templates_are_small : (text : List ℕ) (p : Program) (ts : TemplatesParts) → IsAccepted text p → AreTemplatesOf p ts → (c d : ℕ) (t : TemplateParts) → template_at ts c d ≡ Some t → length t.member.agents ≤ max_member_agents

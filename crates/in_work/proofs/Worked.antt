@@ -13,10 +13,9 @@ use Rattle.in_compile.specs.Stocks.{StockParts, held}
 use Rattle.in_compile.specs.Templates.{IsLargestNeed}
 use Rattle.in_gather.specs.Dones.{DoneParts}
 use Rattle.in_gather.specs.Holding.{holders}
-use Rattle.in_gather.proofs.Holding.{holders-cons, holders-append}
-use Rattle.in_gather.proofs.Placing.{placed_count, stays_of_one, one_of_one}
+use Rattle.in_gather.proofs.Public.{holders-cons, holders-append, placed_count, stays_of_one, one_of_one}
 use Rattle.in_work.specs.Plans.{PlanParts}
-use Rattle.in_work.specs.Works.{IsDone, Stops, bags, jobs, Works}
+use Rattle.in_work.specs.Works.{IsDoneJob, StopsWorking, bags, jobs, Works}
 use Rattle.in_work.specs.declared.part.Part.{Part}
 
 -- ---- jobs
@@ -27,20 +26,20 @@ no_work plan p q done seat stock = record {
   list = done ∙ sym (append-nil p.done.items);
   board = ap (λ (s : SeatView). s.board) seat;
   claimed = ap (λ (s : SeatView). s.numbers) seat ∙ sym (append-nil p.seat.numbers);
-  each = All-nil (IsDone plan);
+  each = All-nil (IsDoneJob plan);
   one = ((ap (λ (s : StockParts). s.bag.memory) stock, ap (λ (s : StockParts). s.bag.cells) stock), All-nil (λ (d : DoneParts). AreOfOne p.stock.bag d.placed.placed.bag));
   cells = λ n. ap (λ (s : StockParts). holders n (s.bag ∷ [])) stock;
 }
 
 -- a job that was claimed and placed
-module _ (plan : PlanParts) (p q r : Part) (d : DoneParts) (need : Need) (w : Works plan p q) (done : r.done.items ≡ q.done.items ++ d ∷ []) (board : r.seat.board ≡ q.seat.board) (numbers : r.seat.numbers ≡ q.seat.numbers ++ d.job ∷ []) (is : IsDone plan d) (takes : Takes need d.placed.placed.cells q.stock r.stock) (cells : AreCellsOf d.placed.placed.bag d.placed.placed.cells) (one : AreOfOne p.stock.bag d.placed.placed.bag) where
+module _ (plan : PlanParts) (p q r : Part) (d : DoneParts) (need : Need) (w : Works plan p q) (done : r.done.items ≡ q.done.items ++ d ∷ []) (board : r.seat.board ≡ q.seat.board) (numbers : r.seat.numbers ≡ q.seat.numbers ++ d.job ∷ []) (is : IsDoneJob plan d) (takes : Takes need d.placed.placed.cells q.stock r.stock) (cells : AreCellsOf d.placed.placed.bag d.placed.placed.cells) (one : AreOfOne p.stock.bag d.placed.placed.bag) where
   pub one_done : Works plan p r
   one_done = record {
     more = w.more ++ d ∷ [];
     list = done ∙ ap (λ l. l ++ d ∷ []) w.list ∙ append_assoc p.done.items w.more (d ∷ []);
     board = board ∙ w.board;
     claimed = numbers ∙ ap (λ l. l ++ d.job ∷ []) w.claimed ∙ append_assoc p.seat.numbers (jobs w.more) (d.job ∷ []) ∙ ap (λ l. p.seat.numbers ++ l) (sym (map-append (λ (e : DoneParts). e.job) w.more (d ∷ [])));
-    each = All-push (IsDone plan) w.more d w.each is;
+    each = All-push (IsDoneJob plan) w.more d w.each is;
     one = (
       one_of_one p.stock.bag q.stock.bag r.stock.bag w.one.0 (stays_of_one need q.stock r.stock d.placed.placed takes cells),
       All-push (λ (e : DoneParts). AreOfOne p.stock.bag e.placed.placed.bag) w.more d w.one.1 one,
@@ -72,13 +71,13 @@ pub job_at : (inside plan : PlanParts) (limit job : ℕ) → inside ≡ plan →
 job_at inside plan limit job is below most =
     slice_get-get_or inside.jobs job (record { 0 = 0 }, record { 0 = 0 }) (let same = ap (λ (p : PlanParts). length p.jobs) is in omega (arith, below, most, same))
 
-pub is_done : (inside plan : PlanParts) (d : DoneParts) (job : ℕ) (heads : SymbolNo × SymbolNo) → inside ≡ plan → slice_get inside.jobs job ≡ Some heads → d.job ≡ job → d.heads ≡ heads → d.templates ≡ inside.templates → IsDone plan d
+pub is_done : (inside plan : PlanParts) (d : DoneParts) (job : ℕ) (heads : SymbolNo × SymbolNo) → inside ≡ plan → slice_get inside.jobs job ≡ Some heads → d.job ≡ job → d.heads ≡ heads → d.templates ≡ inside.templates → IsDoneJob plan d
 is_done inside plan d job heads is at number symbols templates = record {
   templates = templates ∙ ap (λ (p : PlanParts). p.templates) is;
   job = ap (λ (p : PlanParts). slice_get p.jobs d.job) (sym is) ∙ ap (slice_get inside.jobs) number ∙ at ∙ ap (λ (h : SymbolNo × SymbolNo). Some h) (sym symbols);
 }
 
-pub stops : (inside plan : PlanParts) (q : Part) (largest : Need) → inside ≡ plan → IsLargestNeed inside.templates.templates largest → (q.seat.done ≡ true) ⊎ ((IsEnough (count_of largest) (held q.stock) → ⊥) ⊎ (vec_len q.rooms ≡ 0)) → Stops plan q
+pub stops : (inside plan : PlanParts) (q : Part) (largest : Need) → inside ≡ plan → IsLargestNeed inside.templates.templates largest → (q.seat.done ≡ true) ⊎ ((IsEnough (count_of largest) (held q.stock) → ⊥) ⊎ (vec_len q.rooms ≡ 0)) → StopsWorking plan q
 stops inside plan q largest is most (inl done) = inl done
 stops inside plan q largest is most (inr (inl short)) = inr (inl (largest, subst (λ (p : PlanParts). IsLargestNeed p.templates.templates largest) is most, short))
 stops inside plan q largest is most (inr (inr none)) = inr (inr none)

@@ -15,7 +15,7 @@ use Rattle.in_work.specs.Plans.{PlanParts}
 use Rattle.in_work.specs.declared.part.Part.{Part}
 
 -- the template of a job of the plan is placed
-pub record IsDone (plan : PlanParts) (d : DoneParts) : Type 0 where
+pub record IsDoneJob (plan : PlanParts) (d : DoneParts) : Type 0 where
   pub templates : d.templates ≡ plan.templates
   pub job : slice_get plan.jobs d.job ≡ Some d.heads
 
@@ -40,8 +40,8 @@ pub record IsReady (plan : PlanParts) (board : BoardView) (p : Part) : Type 0 wh
   pub list : vec_len p.done + vec_len p.rooms ≤ vec_capacity p.done
 
 -- it is done, or its stock doesn't hold the most that a job can need, or there is no more room
-abbrev pub Stops : PlanParts → Part → Type 0
-Stops plan p = (p.seat.done ≡ true) ⊎ (((largest : Need) × IsLargestNeed plan.templates.templates largest × (IsEnough (count_of largest) (held p.stock) → ⊥)) ⊎ (vec_len p.rooms ≡ 0))
+abbrev pub StopsWorking : PlanParts → Part → Type 0
+StopsWorking plan p = (p.seat.done ≡ true) ⊎ (((largest : Need) × IsLargestNeed plan.templates.templates largest × (IsEnough (count_of largest) (held p.stock) → ⊥)) ⊎ (vec_len p.rooms ≡ 0))
 
 -- it has done these jobs besides, which its seat claimed; their cells and those of its stock are those that it had
 pub record Works (plan : PlanParts) (old new : Part) : Type 0 where
@@ -49,10 +49,10 @@ pub record Works (plan : PlanParts) (old new : Part) : Type 0 where
   pub list : new.done.items ≡ old.done.items ++ more
   pub board : new.seat.board ≡ old.seat.board
   pub claimed : new.seat.numbers ≡ old.seat.numbers ++ jobs more
-  pub each : All (IsDone plan) more
+  pub each : All (IsDoneJob plan) more
   pub one : AreOfOne old.stock.bag new.stock.bag × All (λ d. AreOfOne old.stock.bag d.placed.placed.bag) more
   pub cells : (n : ℕ) → holders n (new.stock.bag ∷ bags more) ≡ holders n (old.stock.bag ∷ [])
 
 pub record IsWorked (plan : PlanParts) (old new : Part) : Type 0 where
   pub works : Works plan old new
-  pub stops : Stops plan new
+  pub stops : StopsWorking plan new

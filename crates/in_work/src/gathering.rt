@@ -53,6 +53,7 @@ pub fn gather_jobs<'t, R: Threads + Wait, G: Gate + Sync>(
     let begun = Vec::with_capacity(alloc, workers as usize)?;
     let mut others = lend(fresh, lent, plan, &board, share, arena);
     let Some(mine) = others.pop() else {
+        // There is one worker at least, and each has its part.
         unreachable!()
     };
     let worker = Worker {

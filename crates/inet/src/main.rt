@@ -15,10 +15,10 @@ mod tests;
 
 use crate::keeping::KeepingIn;
 use crate::streams::{StreamIn, StreamOut};
+use in_command_line::{Action, Usage, action_of};
 use in_diagnosis::diagnosis;
 use in_program::{Status, act, tell_usage};
 use in_syntax::TextOut;
-use in_words::{Action, Usage, action_of};
 use std::alloc::Global;
 use std::env::Args;
 use std::io::{Error, ErrorKind, Read, Write};

@@ -1,7 +1,7 @@
 //! What is told of words that can't be had, of a file's name among them, of streams that fail, and of a text that is too long.
 use crate::{serve, unreadable};
+use in_command_line::Usage;
 use in_program::Status;
-use in_words::Usage;
 use std::alloc::{AllocError, Global};
 use std::env::Args;
 use std::io;

@@ -1,5 +1,5 @@
 use Rattle.std.proofs.Common.{inr, refl}
-use Rattle.in_words.specs.declared.action.Action.TheVariants.{Derive}
+use Rattle.in_command_line.specs.declared.action.Action.TheVariants.{Derive}
 use Rattle.in_c.specs.Answers.{IsSaid}
 use Rattle.in_c.proofs.Given.{anyway, gives}
 use Rattle.in_c.proofs.inet_derive.Goals as goal

@@ -6,8 +6,7 @@ use Rattle.in_base.proofs.Among.{among_all, in_map, of_map}
 use Rattle.in_net.specs.Nets.{Net}
 use Rattle.in_interaction.specs.Pieces.{AreDifferent}
 use Rattle.in_base.specs.Lists.{IsAmong}
-use Rattle.in_interaction.proofs.Interactions.Alternating.{has_value}
-use Rattle.in_interaction.proofs.Stepping.Halves.{few}
+use Rattle.in_interaction.proofs.Public.{has_value, few}
 use Rattle.in_check.specs.Runs.{IsRenamed}
 use Rattle.in_check.specs.NetText.{AreAgents}
 use Rattle.in_check.proofs.Reached.Renaming.{is_some}

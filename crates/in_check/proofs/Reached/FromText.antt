@@ -18,21 +18,15 @@ use Rattle.in_net.specs.Nets.{AreClasses, net_of, signature_of}
 use Rattle.in_net.specs.Parts.{IsWhole}
 use Rattle.in_net.specs.Rules as written
 use Rattle.in_net.specs.Rules.{RuleParts, IsRuleOf, IsRuleOver, types_from, auxiliary_types}
-use Rattle.in_net.proofs.OneNet.{is_net}
-use Rattle.in_net.proofs.BoundaryTypes.{declared_at}
+use Rattle.in_net.proofs.Public.{is_net, declared_at}
 use Rattle.in_typing.specs.Typed.{TypesRule}
-use Rattle.in_typing.proofs.TypedParts.{net_typed}
+use Rattle.in_typing.proofs.Public.{net_typed}
 use Rattle.in_cover.specs.Cover.{IsComplete}
-use Rattle.in_opening.specs.Opening.{AreNumbered}
-use Rattle.in_open_nets.proofs.Both.{derivable_no_circle}
-use Rattle.in_opening.proofs.Classes.{class_between, of_map, tables_numbered}
-use Rattle.in_open_nets.proofs.Links.{at_most}
-use Rattle.in_opening.proofs.OfNets.{net_circle}
-use Rattle.in_opening.proofs.OfRules.{rule_circle}
-use Rattle.in_opening.proofs.RuleLaws.{rules_open, no_circle}
-use Rattle.in_opening.proofs.Opened as opened_nets
-use Rattle.in_opening.proofs.TextRules.{rule_whole}
-use Rattle.in_open_nets.proofs.Whole.{derivation_builds}
+use Rattle.in_open_nets_of_programs.specs.Opening.{AreNumbered}
+use Rattle.in_open_nets.proofs.Public.{derivable_no_circle, at_most, derivation_builds}
+use Rattle.in_open_nets_of_programs.proofs.Public.{class_between, of_map, tables_numbered, net_circle, rule_circle, rules_open, no_circle}
+use Rattle.in_open_nets_of_programs.proofs.Public.{rule_whole}
+use Rattle.in_open_nets_of_programs.proofs.Public.Opened as opened_nets
 use Rattle.in_check.specs.Certificates.{CertifiesRule}
 use Rattle.in_check.specs.Checking.{IsAccepted, IsProgramOf}
 use Rattle.in_check.specs.Programs.{Program}

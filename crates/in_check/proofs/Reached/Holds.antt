@@ -8,7 +8,7 @@ use Rattle.in_interaction.specs.Pieces.{AreDifferent}
 use Rattle.in_net.specs.Nets.{Point, Port, Free, Signature, Net, IsPoint, IsNet}
 use Rattle.in_base.specs.Lists.{IsAmong}
 use Rattle.in_interaction.specs.Ahead.{MeetsPair, pair, pair_later, WaitsAt, free, free_later}
-use Rattle.in_net.proofs.PairPorts.{port_agent, port_place, symbol_of}
+use Rattle.in_net.proofs.Public.{port_agent, port_place, symbol_of}
 use Rattle.in_check.specs.NetText.{Words, TextPart, Bytes, Head, Variable, listed, bracketed, arity_of, agent_term, term_at, term, free_lines, pair_lines, text_parts, StandsTimes, agents_of, IsQueue, IsAuxiliary}
 use Rattle.in_check.proofs.Reached.Renaming.{is_some}
 use Rattle.in_check.proofs.Reached.Counts.{all_of}

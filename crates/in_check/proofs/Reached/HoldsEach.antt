@@ -3,11 +3,10 @@ use Rattle.std.proofs.Common.{◌≡◌, ◌≢◌, ◌⊎◌, ◌≤◌, ℕ, n
 use Rattle.in_net.specs.Nets.{Point, Port, Free, Signature, Net, IsPoint, IsNet}
 use Rattle.in_interaction.specs.Ahead.{MeetsPair, WaitsAt}
 use Rattle.std.proofs.lemmas.Option.{same_Some}
-use Rattle.in_interaction.proofs.Interactions.Alternating.{has_value}
+use Rattle.in_interaction.proofs.Public.{has_value, few}
 use Rattle.in_check.specs.Systems.{System}
 use Rattle.in_check.specs.NetText.{Words, TextPart, Bytes, Head, Variable, agent_term, term_at, term, text_parts, AreAgents, StandsTimes, IsQueue, IsAuxiliary}
 use Rattle.in_check.specs.Promises.{HoldsAll, LeadsOn}
-use Rattle.in_interaction.proofs.Stepping.Halves.{few}
 use Rattle.in_check.proofs.Reached.SameText.{nat_test}
 use Rattle.in_check.proofs.Reached.Others.{pieces_of}
 use Rattle.in_check.proofs.Reached.Numbers.{number_twice, positive, one_wire}

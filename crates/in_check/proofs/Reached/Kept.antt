@@ -4,15 +4,9 @@ use mathlib.Core.HLevel.{Discrete}
 use native.Mathlib.Decide.{ℕ_discrete}
 use Rattle.in_net.specs.Interactions.{Redex, IsRedex, IsNaming, ClosedPath}
 use Rattle.in_net.specs.Nets.{Port, Net, IsNet}
-use Rattle.in_interaction.proofs.Interactions.Ahead.{each_leads_on}
-use Rattle.in_interaction.proofs.Interactions.ClosedPath.{no_closed_path}
-use Rattle.in_interaction.proofs.Interactions.Names.{class_discrete}
-use Rattle.in_interaction.proofs.Interactions.NoNewCircle.{no_new_circle}
-use Rattle.in_interaction.proofs.Interactions.StaysNet.{is_net}
-use Rattle.in_interaction.proofs.Interactions.StepExists.{step_exists}
-use Rattle.in_interaction.proofs.Interactions.Vicious.{crossing_circle}
+use Rattle.in_interaction.proofs.Public.{each_leads_on, no_closed_path, class_discrete, no_new_circle, is_net, step_exists, crossing_circle}
 use Rattle.in_typing.specs.Typed.{opposite}
-use Rattle.in_typing.proofs.TypedAlong.{port_type, typed_after}
+use Rattle.in_typing.proofs.Public.{port_type, typed_after}
 use Rattle.in_check.specs.Promises.{IsAsPromised, ReachesAsPromised}
 use Rattle.in_check.specs.Runs.{rule_of, IsRenamed, IsPairWithRule, IsInteraction, Reached, at_start, then_step, then_renamed}
 use Rattle.in_check.specs.Systems.{System, IsMatching, HasOneRule, IsSound, IsSoundSystem}

@@ -6,7 +6,7 @@ use native.Mathlib.Decide.{ℕ_discrete}
 use Rattle.in_base.specs.Lists.{IsAmong}
 use Rattle.in_net.specs.Nets.{Point, Port, Free, Signature, Net, IsNet}
 use Rattle.in_interaction.specs.Pieces.{AreDifferent}
-use Rattle.in_net.proofs.PairPorts.{symbol_of, port_agent, port_place}
+use Rattle.in_net.proofs.Public.{symbol_of, port_agent, port_place}
 use Rattle.in_check.specs.NetText.{AreAgents, IsQueue, agents_of}
 use Rattle.in_check.proofs.Reached.Counts.{all_of}
 use Rattle.in_check.proofs.Reached.Renaming.{is_some}

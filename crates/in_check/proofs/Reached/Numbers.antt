@@ -6,7 +6,7 @@ use Rattle.std.proofs.lemmas.Option.{same_Some}
 use Rattle.std.proofs.lemmas.Bool.{or_parts, or_cases, cases_Bool, and_parts}
 use Rattle.in_net.specs.Nets.{Point, Port, Free, Signature, Net, IsNet}
 use Rattle.in_base.specs.Lists.{IsAmong}
-use Rattle.in_net.proofs.PairPorts.{port_agent, port_place}
+use Rattle.in_net.proofs.Public.{port_agent, port_place}
 use Rattle.in_check.specs.NetText.{TextPart, Bytes, Head, Variable, same_point, number_of, numbers, numbered, StandsTimes, IsAuxiliary, IsOfNet}
 use Rattle.in_check.proofs.Reached.SameText.{IsTest, nat_test}
 

@@ -2,7 +2,7 @@
 use Rattle.std.proofs.Common.{◌≡◌, ℕ, zero, suc, Option, Some, None, IsSome, List, [], ◌∷◌, ◌++◌, length, refl}
 use Rattle.std.specs.List.{AllByRecursion}
 use Rattle.in_net.specs.Nets.{Point, Port, Free, Signature, Net, IsNet}
-use Rattle.in_net.proofs.PairPorts.{symbol_of}
+use Rattle.in_net.proofs.Public.{symbol_of}
 use Rattle.in_check.specs.NetText.{Words, TextPart, Bytes, listed, bracketed, arity_of, agent_term, term_at, term, free_lines, pair_lines, text_parts, IsQueue, IsAuxiliary, IsOfNet}
 use Rattle.in_check.proofs.Reached.Renaming.{is_some}
 use Rattle.in_base.proofs.Each.{all_append}

@@ -2,15 +2,15 @@
 use Rattle.std.proofs.Common.{◌≡◌, ◌≤◌, ◌<◌, ℕ, Option, Some, None, IsSome, IsSomeAnd, List, [], ◌∷◌, map, length, slice_get, refl, sym, subst, ap, ◌∙◌}
 use mathlib.Core.HLevel.{Discrete}
 use Rattle.in_base.proofs.Among.{in_map}
-use Rattle.in_typing.proofs.TypedAlong.{port_type}
+use Rattle.in_typing.proofs.Public.{port_type}
 use Rattle.in_base.specs.Graphs.{Passage, entered, CrossingCircle}
 use Rattle.in_net.specs.Graphs.{class_of_symbol, graph_of}
 use Rattle.in_net.specs.Nets.{Point, Port, Free, Signature, Net, IsPoint, IsNet}
 use Rattle.in_base.specs.Lists.{IsAmong}
 use Rattle.in_typing.specs.Typed.{opposite}
 use Rattle.in_typing.specs.TypedNets.{type_in, IsTypedNet}
-use Rattle.in_interaction.proofs.Interactions.Alternating.{has_value}
-use Rattle.in_net.proofs.PairPorts.{symbol_of, port_agent, port_place}
+use Rattle.in_interaction.proofs.Public.{has_value}
+use Rattle.in_net.proofs.Public.{symbol_of, port_agent, port_place}
 use Rattle.in_base.proofs.Circuits.{Walk, Circuit, IsEntered, IsLeft, crossings_separate, circuit_of, shorten}
 use Rattle.in_check.specs.Systems.{HasSymbolsBelow}
 use Rattle.in_check.specs.Runs.{renamed, IsRenamed}

@@ -4,9 +4,9 @@ use Rattle.std.specs.List.{AllByRecursion}
 use Rattle.std.proofs.lemmas.List.{map-append, length-map}
 use Rattle.std.proofs.lemmas.Bool.{eq-eqb, eqb-true}
 use Rattle.in_net.specs.Nets.{Point, Port, Free, Signature, Net, IsPoint, IsNet}
-use Rattle.in_open_nets.proofs.Sums.{same_test}
-use Rattle.in_net.proofs.PairPorts.{port_agent, port_place}
-use Rattle.in_interaction.proofs.Interactions.Alternating.{has_value}
+use Rattle.in_open_nets.proofs.Public.{same_test}
+use Rattle.in_net.proofs.Public.{port_agent, port_place}
+use Rattle.in_interaction.proofs.Public.{has_value}
 use Rattle.in_check.specs.Runs.{renamed, IsRenamed}
 use Rattle.in_check.specs.NetText.{Words, TextPart, Bytes, Head, Variable, listed, bracketed, arity_of, agent_term, term_at, term, free_lines, pair_lines, text_parts, same_point, number_of, symbol_name, variable_name, numbers, bytes_of, text, IsQueue, IsOfNet}
 use Rattle.in_check.proofs.Reached.Renaming.{symbol_kept, wire_kept, live}

@@ -7,7 +7,7 @@ use Rattle.in_net.specs.declared.nets.AgentNo.{AgentNo}
 use Rattle.in_interaction.specs.Interacting.{CanInteract, Interacts}
 use Rattle.in_net.specs.Parts.{Parts, symbol_in}
 use Rattle.in_net.specs.Rules.{RuleParts}
-use Rattle.in_cover.specs.Cover.{IsPair, IsFor, IsRuleFor}
+use Rattle.in_cover.specs.Cover.{IsPair, IsRuleOfSymbols, IsRuleFor}
 use Rattle.in_check.specs.Checking.{IsAccepted}
 use Rattle.in_check.specs.Plain.{PlainParts, IsPlain, IsPairAt, IsRuleAt, StepsTo}
 use Rattle.in_check.proofs.Reached.Plain.{fits, have_their_rule}
@@ -22,9 +22,9 @@ module _ (text : List ℕ) (p : PlainParts) (a b : AgentNo) (accepted : IsAccept
       (k : ℕ) (r : RuleParts) → IsRuleFor p.program.rules k c.0 d.0 → slice_get p.program.rules k ≡ Some r → IsRuleAt p a b k r
   rule_is c d e f k r found stands =
       let same : found.rule ≡ r = same_Some found.rule r (sym found.stands ∙ stands) in
-      let here : IsFor r c.0 d.0 = subst (λ (z : RuleParts). IsFor z c.0 d.0) same found.symbols in
-      let first : IsFor r at.first.0 d.0 = subst (λ (z : SymbolNo). IsFor r z.0 d.0) (same_Some c at.first (sym e ∙ at.one)) here in
-      let both : IsFor r at.first.0 at.second.0 = subst (λ (z : SymbolNo). IsFor r at.first.0 z.0) (same_Some d at.second (sym f ∙ at.two)) first in
+      let here : IsRuleOfSymbols r c.0 d.0 = subst (λ (z : RuleParts). IsRuleOfSymbols z c.0 d.0) same found.symbols in
+      let first : IsRuleOfSymbols r at.first.0 d.0 = subst (λ (z : SymbolNo). IsRuleOfSymbols r z.0 d.0) (same_Some c at.first (sym e ∙ at.one)) here in
+      let both : IsRuleOfSymbols r at.first.0 at.second.0 = subst (λ (z : SymbolNo). IsRuleOfSymbols r at.first.0 z.0) (same_Some d at.second (sym f ∙ at.two)) first in
       (have_their_rule text p a b accepted h at).1 k r stands both
 
   pub can : (k : ℕ) (r : RuleParts) → IsRuleAt p a b k r → CanInteract p.program.tables p.net r a b

@@ -2,7 +2,7 @@
 use Rattle.std.proofs.Common.{◌≡◌, ℕ, nat_eq, Some, subst, ◌∙◌}
 use native.Mathlib.Decide.{ℕ_discrete}
 use Rattle.in_net.specs.Nets.{Point, Port, Free, Net}
-use Rattle.in_net.proofs.PairPorts.{port_place}
+use Rattle.in_net.proofs.Public.{port_place}
 use Rattle.in_check.specs.Promises.{RenamingChangesNothing}
 use Rattle.in_check.specs.Runs.{renamed, then_renamed, HasEnded}
 use Rattle.in_check.proofs.Reached.Counts.{agents_before, one_count}

@@ -5,9 +5,9 @@ use Rattle.std.proofs.lemmas.Option.{same_Some}
 use Rattle.in_symbols.specs.declared.symbols.PortType.{PortType}
 use Rattle.in_net.specs.Interactions.{Redex, Side, Outer, Inner, Alternates, wire_of, IsOfPair, AreJoined, IsStep, end_agent, end_place}
 use Rattle.in_net.specs.Nets.{Point, Port, Free, Signature, Net}
-use Rattle.in_net.proofs.PairPorts.{end_of_pair}
+use Rattle.in_net.proofs.Public.{end_of_pair}
 use Rattle.in_typing.specs.Typed.{opposite}
-use Rattle.in_interaction.proofs.Interactions.Through.{pt_same, through_ends}
+use Rattle.in_interaction.proofs.Public.{pt_same, through_ends}
 use Rattle.in_glue.specs.Gluing.{Cuts, IsPlaced, AreLinked, IsGlued}
 use Rattle.in_glue.specs.AsGluing.{IsRestOf, two_parts, old_and_new, own_ends, boundary, ends_from, CanStep, InteractionsAreGluings}
 use Rattle.in_glue.proofs.Gluing.Frame.{map_some}

@@ -2,7 +2,7 @@
 use Rattle.std.proofs.Common.{◌≡◌, ℕ, Some, None, List, [], ◌∷◌, slice_get, refl, sym, subst, ap, ◌∙◌}
 use Rattle.in_net.specs.Interactions.{Side, Outer, Inner, Alternates}
 use Rattle.in_net.specs.Nets.{Point, Port, Free, Net}
-use Rattle.in_interaction.proofs.Interactions.Alternating.{has_value}
+use Rattle.in_interaction.proofs.Public.{has_value}
 use Rattle.in_glue.specs.Gluing.{Cuts, IsJointEndAt, IsJointEnd, glue_wire, IsPlaced, IsGlued}
 use Rattle.in_glue.specs.Joining.{HasOwnNumber, IsAtNumber, IsJoinedBy, IsBeside, BesideJoinsNone, IsRenumbered, Renumbers, AllJoinedIsGlued}
 use Rattle.in_glue.proofs.Gluing.Joining.{UsedAt, used_first, used_last}

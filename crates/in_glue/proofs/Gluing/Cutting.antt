@@ -3,7 +3,7 @@ use Rattle.std.proofs.Common.{◌≡◌, ◌≢◌, ◌⊎◌, ◌+◌, ℕ, Opt
 use native.Mathlib.Decide.{ℕ_discrete}
 use Rattle.std.proofs.lemmas.Option.{same_Some}
 use Rattle.in_net.specs.Nets.{Point, Port, Free, Net}
-use Rattle.in_net.proofs.PairPorts.{port_agent, port_place}
+use Rattle.in_net.proofs.Public.{port_agent, port_place}
 use Rattle.in_check.specs.Runs.{Reached, then_step}
 use Rattle.in_glue.specs.Joining.{ArePartnersAfter, IsNeither, JoinsEnds, WiresLeadBack, JoinExists, CutsWire, CutsAreJoined}
 use Rattle.in_glue.specs.PartRuns.{Run, none, one_more, RunsGoOn, RunsLeadOn}

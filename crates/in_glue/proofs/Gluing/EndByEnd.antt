@@ -8,7 +8,7 @@ use Rattle.in_base.proofs.Among.{among_all}
 use Rattle.in_interaction.specs.Pieces.{AreDifferent}
 use Rattle.in_net.specs.Interactions.{Redex, Side, Outer, Inner, other, IsStep}
 use Rattle.in_net.specs.Nets.{Point, Port, Free, Signature, Net}
-use Rattle.in_net.proofs.PairPorts.{port_agent, port_place, symbol_of}
+use Rattle.in_net.proofs.Public.{port_agent, port_place, symbol_of}
 use Rattle.in_glue.specs.Gluing.{Cuts, IsJointEnd}
 use Rattle.in_glue.specs.Joining.{HasOwnNumber, JoinsEnds, IsAtNumber, IsOneMore, IsBeside, IsRenumbered, Renumbers, WiresLeadBack}
 use Rattle.in_glue.specs.AsGluing.{IsRestOf, two_parts, old_and_new, across_at, boundary, ends_from, CanStep}

@@ -5,11 +5,11 @@ use mathlib.Core.Path.{fun_ext}
 use Rattle.std.proofs.lemmas.Option.{same_Some}
 use Rattle.in_net.specs.Interactions.{Redex, Side, Outer, Inner, of_first, end_place, Alternates, stands_for, InnerWire, wire_of, IsOfPair, AreJoined, IsNaming, IsStep}
 use Rattle.in_net.specs.Nets.{Point, Port, Free, Signature, Net}
-use Rattle.in_net.proofs.PairPorts.{port_agent, port_place}
+use Rattle.in_net.proofs.Public.{port_agent, port_place}
 use Rattle.in_glue.specs.Gluing.{Cuts, IsJointEndAt, IsJointEnd, glue_wire, AreLinked, IsPlaced, AreAllApart, IsGlued, placed_pair, AreOthers}
 use Rattle.in_glue.specs.Laws.{FramesStep, FramesGlue}
 use Rattle.in_glue.proofs.Gluing.Points.{same_free, turned}
-use Rattle.in_order.proofs.Orders.Commute.{Way, AreIndependent, After_x, Then_y, AtOnce, join, split}
+use Rattle.in_order.proofs.Public.{Way, AreIndependent, After_x, Then_y, AtOnce, join, split}
 
 -- the specification's paths are ways
 pub to_way : {P : Type 0} (wire : Side → P → P → Type 0) (End : P → Type 0) (s : Side) (u : P) (es : List P) (v : P) → Alternates wire End s u es v → (t : Side) × Way (wire Outer) (wire Inner) End s u es t v

@@ -3,11 +3,11 @@ use Rattle.std.proofs.Common.{◌≡◌, ◌≢◌, ◌⊎◌, ℕ, Some, List, 
 use Rattle.std.proofs.lemmas.Option.{same_Some}
 use Rattle.in_net.specs.Interactions.{Side, Outer, Inner, other, Alternates}
 use Rattle.in_net.specs.Nets.{Point, Port, Free, Net}
-use Rattle.in_interaction.proofs.Interactions.Alternating.{has_value}
-use Rattle.in_check.proofs.Reached.Renaming.{is_some}
+use Rattle.in_interaction.proofs.Public.{has_value}
+use Rattle.in_check.proofs.Public.{is_some}
 use Rattle.in_glue.specs.Gluing.{Cuts, IsJointEndAt, IsJointEnd, glue_wire, AreLinked}
 use Rattle.in_glue.specs.Joining.{IsInUse, HasOwnNumber, IsAtNumber, IsJoinedBy, IsOneMore, IsNeither, ArePartnersAfter, JoinsEnds, JoinsNext}
-use Rattle.in_order.proofs.Orders.Commute.{Way, AreIndependent, After_x, Then_y, AtOnce, join, split}
+use Rattle.in_order.proofs.Public.{Way, AreIndependent, After_x, Then_y, AtOnce, join, split}
 use Rattle.in_glue.proofs.Gluing.Points.{none_some, same_free, turned}
 use Rattle.in_glue.proofs.Gluing.Frame.{to_way, from_way}
 

@@ -12,12 +12,10 @@ use Rattle.in_net.specs.Interactions.{Redex, Side, Outer, Inner, other, Alternat
 use Rattle.in_net.specs.Nets.{Point, Port, Free, Signature, Net, net_of, signature_of}
 use Rattle.in_net.specs.Parts.{Parts, symbol_in}
 use Rattle.in_net.specs.Rules.{RuleParts}
-use Rattle.in_net.proofs.ActivePairs.{no_both}
-use Rattle.in_net.proofs.PairPorts.{port_agent}
+use Rattle.in_net.proofs.Public.{no_both, port_agent}
 use Rattle.in_interaction.specs.Made.{IsLowestEnd, HasSymbolAfter, IsMade}
-use Rattle.in_interaction.proofs.Interactions.Alternating.{one_wire}
-use Rattle.in_interaction.proofs.Interactions.Through as through
-use Rattle.in_interaction.proofs.Stepping.Making.{agent_same, end_once, stays_as}
+use Rattle.in_interaction.proofs.Public.{one_wire, agent_same, end_once, stays_as}
+use Rattle.in_interaction.proofs.Public.Through as through
 use Rattle.in_glue.specs.Joining.{IsAtNumber, IsNeither, JoinsEnds}
 use Rattle.in_glue.specs.AsGluing.{boundary_port, old_and_new, ends_from, CanStep}
 use Rattle.in_glue.specs.EndByEnd.{outer_end, inner_end, HasJoined}

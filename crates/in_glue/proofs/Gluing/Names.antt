@@ -4,12 +4,11 @@ use native.Mathlib.Decide.{ℕ_discrete}
 use Rattle.in_base.specs.Lists.{IsAmong}
 use Rattle.in_net.specs.Interactions.{Side, Outer, Inner, other, Alternates}
 use Rattle.in_net.specs.Nets.{Point, Port, Free, Signature, Net, IsPoint, IsNet}
-use Rattle.in_net.proofs.PairPorts.{symbol_of}
-use Rattle.in_interaction.proofs.Interactions.Alternating.{has_value}
+use Rattle.in_net.proofs.Public.{symbol_of}
+use Rattle.in_interaction.proofs.Public.{has_value}
 use Rattle.in_check.specs.Runs.{renamed, IsRenamed, then_renamed}
 use Rattle.in_check.specs.Systems.{System, IsSound}
-use Rattle.in_check.proofs.Reached.Kept.{sound_reached}
-use Rattle.in_check.proofs.Reached.Renaming.{is_some, net_renamed, below_renamed, typed_renamed, circle_renamed}
+use Rattle.in_check.proofs.Public.{sound_reached, is_some, net_renamed, below_renamed, typed_renamed, circle_renamed}
 use Rattle.in_glue.specs.Gluing.{Cuts, IsJointEnd, glue_wire, AreLinked, IsPlaced, AreAllApart, IsGlued}
 use Rattle.in_glue.specs.PartRuns.{none, one_more, total}
 use Rattle.in_glue.specs.Laws.{KeepsApart, RenamedExists, GluedOnce, RunsKeepSound, CutRunAndGlued, PartsAreSoundByNames}

@@ -2,8 +2,8 @@
 use Rattle.std.proofs.Common.{◌≡◌, ◌⊎◌, ℕ, Some, List, [], ◌∷◌, refl, sym, subst, ap, ◌∙◌, inl, inr}
 use Rattle.in_net.specs.Interactions.{Side, Outer, Inner, Alternates}
 use Rattle.in_net.specs.Nets.{Point, Port, Free, Net}
-use Rattle.in_net.proofs.PairPorts.{port_agent, port_place}
-use Rattle.in_check.proofs.Reached.Renaming.{is_some}
+use Rattle.in_net.proofs.Public.{port_agent, port_place}
+use Rattle.in_check.proofs.Public.{is_some}
 use Rattle.in_glue.specs.Gluing.{Cuts, IsJointEndAt, IsJointEnd, glue_wire, AreLinked, IsPlaced, IsGlued}
 use Rattle.in_glue.specs.PartRuns.{MeetByJoints, joint, joint_later}
 use Rattle.in_glue.specs.Laws.{IsPairOfPart, IsPairAcross, PairsAreOfPartsOrMade}

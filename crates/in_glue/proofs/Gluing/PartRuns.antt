@@ -5,10 +5,10 @@ use mathlib.Core.Path.{fun_ext}
 use Rattle.std.proofs.lemmas.Bool.{cases_order}
 use Rattle.in_net.specs.Interactions.{Redex, Outer}
 use Rattle.in_net.specs.Nets.{Port, Net, IsNet}
-use Rattle.in_interaction.proofs.Interactions.StepExists.{step_exists}
+use Rattle.in_interaction.proofs.Public.{step_exists}
 use Rattle.in_check.specs.Runs.{rule_of, IsInteraction, IsPairWithRule, Reached, then_step}
 use Rattle.in_check.specs.Systems.{System, IsSoundSystem}
-use Rattle.in_check.proofs.Reached.Kept.{redex_of, sound_reached}
+use Rattle.in_check.proofs.Public.{redex_of, sound_reached}
 use Rattle.in_glue.specs.Gluing.{Cuts, AreAllApart, IsGlued, placed_pair, AreOthers}
 use Rattle.in_glue.specs.PartRuns.{Run, none, one_more, total}
 use Rattle.in_glue.specs.Laws.{RunsAreGlued}

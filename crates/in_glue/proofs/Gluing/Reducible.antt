@@ -12,19 +12,16 @@ use Rattle.in_net.specs.Interactions.{redex_at}
 use Rattle.in_net.specs.Nets.{Port, net_of, signature_of, point_of}
 use Rattle.in_net.specs.Parts.{Parts, IsWhole, symbol_in}
 use Rattle.in_net.specs.Rules.{RuleParts, auxiliary_types}
-use Rattle.in_cover.specs.Cover.{IsPair, IsFor}
+use Rattle.in_cover.specs.Cover.{IsPair, IsRuleOfSymbols}
 use Rattle.std.proofs.lemmas.Option.{same_Some}
-use Rattle.in_interaction.proofs.Stepping.KeptOrMade.{least_are_names}
-use Rattle.in_interaction.proofs.Stepping.OneOutcome.{one_outcome}
-use Rattle.in_opening.proofs.TextRules.{same_symbol}
+use Rattle.in_interaction.proofs.Public.{least_are_names, one_outcome}
+use Rattle.in_open_nets_of_programs.proofs.Public.{same_symbol}
 use Rattle.in_check.specs.Checking.{IsAccepted, IsProgramOf}
 use Rattle.in_check.specs.Programs.{Program}
 use Rattle.in_check.specs.Plain.{PlainParts, StepsTo, StepsAs, IsPairAt, IsRuleAt}
 use Rattle.in_check.specs.Runs.{IsInteraction}
-use Rattle.in_check.specs.Systems.{IsSound, IsMatching, IsRuleOf, IsSoundSystem, rule_in, system_of}
-use Rattle.in_check.proofs.Chain.{program_of}
-use Rattle.in_check.proofs.Reached.FromText.{is_matching, is_sound, to_mapped}
-use Rattle.in_check.proofs.Reached.Kept.{sound_reached}
+use Rattle.in_check.specs.Systems.{IsSound, IsMatching, IsNumberOfRule, IsSoundSystem, rule_in, system_of}
+use Rattle.in_check.proofs.Public.{program_of, is_matching, is_sound, to_mapped, sound_reached}
 use Rattle.in_glue.specs.PartRuns.{one_more}
 use Rattle.in_glue.specs.Reducible.{IsReducible, PlainIsReducible, ReducibleSteps, ReducibleStepsUnderNames, ReduciblePairsHaveTheirRule, ReducibleStepsAreOne, ReducibleAsPromised}
 use Rattle.in_glue.proofs.Gluing.Sound.{sound_is_promised, sound_steps}
@@ -89,7 +86,7 @@ module _ (text : List ℕ) (p : PlainParts) (a b : AgentNo) (accepted : IsAccept
     | inr r ↦ absurd (let z : true ≡ false = sym at.constructor ∙ r.0.1 in cc)
   ]
 
-  rule_at : (i : ℕ) (r : RuleParts) → slice_get p.program.rules i ≡ Some r → IsFor r at.first.0 at.second.0 → IsRuleAt p a b i r
+  rule_at : (i : ℕ) (r : RuleParts) → slice_get p.program.rules i ≡ Some r → IsRuleOfSymbols r at.first.0 at.second.0 → IsRuleAt p a b i r
   rule_at i r e for =
       let program : IsProgramOf text p.program = program_of text p.program accepted in
       let b = program.builds_rules.each i r e in
@@ -102,7 +99,7 @@ module _ (text : List ℕ) (p : PlainParts) (a b : AgentNo) (accepted : IsAccept
         two = at.two ∙ ap Some (same_symbol at.second r.heads.1 (sym heads.1));
       }
     where
-      in_order : IsFor r at.first.0 at.second.0 → (r.heads.0.0 ≡ at.first.0) × (r.heads.1.0 ≡ at.second.0)
+      in_order : IsRuleOfSymbols r at.first.0 at.second.0 → (r.heads.0.0 ≡ at.first.0) × (r.heads.1.0 ≡ at.second.0)
       in_order (inl f) = f
       in_order (inr f) =
           let m = (good.rule i (rule_in r) (to_mapped rule_in p.program.rules i r e)).matching in
@@ -115,7 +112,7 @@ module _ (text : List ℕ) (p : PlainParts) (a b : AgentNo) (accepted : IsAccept
   is_pair = record { first = below a.0 at.first at.one; second = below b.0 at.second at.two; matched = is_matching p.program.tables at.first.0 at.second.0 matches }
 
   -- the rule of the pair is one
-  is_rule_of : (i : ℕ) (r : RuleParts) → IsRuleAt p a b i r → IsRuleOf (system_of p.program) at.first.0 at.second.0 i
+  is_rule_of : (i : ℕ) (r : RuleParts) → IsRuleAt p a b i r → IsNumberOfRule (system_of p.program) at.first.0 at.second.0 i
   is_rule_of i r is = (
     rule_in r,
     to_mapped rule_in p.program.rules i r is.stands,

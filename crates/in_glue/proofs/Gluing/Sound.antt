@@ -8,14 +8,13 @@ use Rattle.in_base.specs.Graphs.{Passage, entered, left, Leads, IsCrossing, AreA
 use Rattle.in_net.specs.Graphs.{class_of_symbol, graph_of}
 use Rattle.in_net.specs.Interactions.{Redex, Outer}
 use Rattle.in_net.specs.Nets.{Point, Port, Free, Net, IsPoint, IsNet}
-use Rattle.in_interaction.proofs.Stepping.OneOutcome.{same_option}
+use Rattle.in_interaction.proofs.Public.{same_option}
 use Rattle.in_typing.specs.Typed.{opposite}
 use Rattle.in_typing.specs.TypedNets.{type_in, IsTypedNet}
-use Rattle.in_typing.proofs.TypedParts.{opposite_twice}
+use Rattle.in_typing.proofs.Public.{opposite_twice}
 use Rattle.in_check.specs.Runs.{IsPairWithRule, Reached, at_start, then_step}
 use Rattle.in_check.specs.Systems.{System, IsSound}
-use Rattle.in_check.proofs.Reached.Plain.{renamed_self}
-use Rattle.in_check.proofs.Reached.Kept.{each_promised, sound_reached}
+use Rattle.in_check.proofs.Public.{renamed_self, each_promised, sound_reached}
 use Rattle.in_glue.specs.Gluing.{Cuts, IsJointEndAt, IsPlaced, AreAllApart, IsGlued, AreCuts}
 use Rattle.in_order.specs.Laws.{from_net}
 use Rattle.in_glue.specs.PartRuns.{AreTypedAtCuts}

@@ -2,8 +2,8 @@
 use Rattle.std.proofs.Common.{◌≡◌, ◌⊎◌, ◌+◌, ◌-◌, ◌<◌, ◌≤◌, ℕ, zero, suc, Option, Some, None, option_map, length, refl, sym, subst, ap, ◌∙◌, inl, inr, arith}
 use Rattle.in_net.specs.Interactions.{Redex}
 use Rattle.in_net.specs.Nets.{Point, Port, Free, Signature, Net, IsNet}
-use Rattle.in_net.proofs.PairPorts.{symbol_of}
-use Rattle.in_interaction.proofs.Interactions.Alternating.{has_value}
+use Rattle.in_net.proofs.Public.{symbol_of}
+use Rattle.in_interaction.proofs.Public.{has_value}
 use Rattle.in_check.specs.Runs.{renamed, IsRenamed}
 use Rattle.in_glue.specs.Joining.{IsAtNumber, IsBeside}
 use Rattle.in_glue.specs.AsGluing.{IsRestOf, two_parts, old_and_new, CanStep}

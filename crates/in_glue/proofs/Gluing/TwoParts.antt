@@ -5,12 +5,11 @@ use Rattle.in_symbols.specs.declared.symbols.PortType.{PortType}
 use Rattle.in_base.proofs.Places.{kept_at, some_same}
 use Rattle.in_net.specs.Interactions.{Redex, Side, Outer, Inner, other, end_agent, end_place}
 use Rattle.in_net.specs.Nets.{Point, Port, Free, Signature, Net, IsPoint, IsNet}
-use Rattle.in_net.proofs.PairPorts.{symbol_of}
+use Rattle.in_net.proofs.Public.{symbol_of}
 use Rattle.in_typing.specs.Typed.{opposite}
-use Rattle.in_typing.proofs.TypedParts.{opposite_twice}
-use Rattle.in_interaction.proofs.Interactions.Alternating.{has_value}
-use Rattle.in_check.proofs.Reached.FromText.{to_mapped}
-use Rattle.in_check.proofs.Reached.Renaming.{is_some}
+use Rattle.in_typing.proofs.Public.{opposite_twice}
+use Rattle.in_interaction.proofs.Public.{has_value}
+use Rattle.in_check.proofs.Public.{to_mapped, is_some}
 use Rattle.in_glue.specs.Gluing.{AreCuts}
 use Rattle.in_glue.specs.AsGluing.{IsInRest, IsRestOf, two_parts, across_at, boundary, all_ends, CanStep, RestIsNet, BoundaryIsCut}
 use Rattle.in_glue.proofs.Gluing.AsGluing.{from_is, is_from, own_at, at_own}

@@ -4,7 +4,7 @@ use Rattle.std.proofs.lemmas.Option.{same_Some}
 use Rattle.in_net.specs.Nets.{Point, Port, Free, Signature, Net, IsPoint, IsNet}
 use Rattle.in_net.specs.Interactions.{Redex, IsRedex, Side, Outer, Inner, other, Alternates, stands_for, InnerWire, wire_of, IsOfPair, AreJoined, IsNaming}
 use Rattle.in_interaction.proofs.Interactions.Paths.{other_twice}
-use Rattle.in_net.proofs.PairPorts.{symbol_of, not_old, end_of_pair, stands_one, first_wire}
+use Rattle.in_net.proofs.Public.{symbol_of, not_old, end_of_pair, stands_one, first_wire}
 
 module _ {P : Type 0} (wire : Side → P → P → Type 0) (End : P → Type 0) where
   one_path : ((s : Side) (p q r : P) → wire s p q → wire s p r → q ≡ r) → (s : Side) (u : P) (es fs : List P) (v w : P) → (End v → ⊥) → (End w → ⊥) → Alternates wire End s u es v → Alternates wire End s u fs w → v ≡ w

@@ -8,7 +8,7 @@ use Rattle.in_interaction.proofs.Interactions.Places.{Place, Old, New, Boundary,
 use Rattle.in_net.specs.Interactions.{Redex, IsRedex, of_first, end_agent, end_symbol, end_place, class_node, open_port}
 use Rattle.in_interaction.proofs.Interactions.Places.{IsBefore, IsInside, wires}
 use Rattle.in_interaction.proofs.Interactions.Paths.{AreWires}
-use Rattle.in_net.proofs.PairPorts.{port_agent, port_place, cond_cases, cond_same, end_same, end_has}
+use Rattle.in_net.proofs.Public.{port_agent, port_place, cond_cases, cond_same, end_same, end_has}
 use Rattle.in_interaction.proofs.Interactions.Compress.{Sides, AreSides, outer_port, inner_port, IsOn}
 
 -- the net before and the open right member, as the two sides

@@ -4,7 +4,7 @@ use Rattle.in_net.specs.Nets.{Point, Port, Free, Signature, Net, IsPoint, IsNet}
 use Rattle.in_net.specs.Interactions.{Redex, IsRedex, Side, Outer, Inner, Alternates, stands_for, wire_of, IsOfPair, AreJoined, IsNaming, IsStep}
 use Rattle.in_interaction.proofs.Interactions.Places.{Place, Old, New, Boundary, Loose, Path, Stays, IsJoined, IsBefore, IsInside, wires, HasSymbol, IsAfter, IsByPlaces}
 use Rattle.in_interaction.specs.Pieces.{name_after}
-use Rattle.in_net.proofs.PairPorts.{end_of_pair, end_of}
+use Rattle.in_net.proofs.Public.{end_of_pair, end_of}
 
 module _ {A B : Type 0} (sig : Signature) (n : Net A) (x : Redex A B) (name : B → A) (net : IsNet sig n) (inside : IsNet sig x.member) (redex : IsRedex sig n x) (naming : IsNaming n x name) where
   -- where a path of places ends

@@ -12,7 +12,7 @@ use Rattle.in_interaction.proofs.Interactions.Paths.{other_twice, other_side}
 use Rattle.in_interaction.proofs.Interactions.Stops.{ClosedTour}
 use Rattle.in_interaction.proofs.Interactions.Compress.{AreOneWay, circle_of_tour}
 use Rattle.in_interaction.proofs.Interactions.AtNets.{sides, are_sides}
-use Rattle.in_net.proofs.PairPorts.{end_same, port_agent, port_place}
+use Rattle.in_net.proofs.Public.{end_same, port_agent, port_place}
 
 -- wires between boundary ends: one from each end on a side, there and back, and none from an end to itself
 record AreEndWires (wire : Side → ℕ → ℕ → Type 0) : Type 0 where

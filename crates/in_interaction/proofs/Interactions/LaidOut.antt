@@ -8,7 +8,7 @@ use Rattle.in_interaction.proofs.Interactions.Places.{Place, Old, New, Boundary,
 use Rattle.in_net.specs.Interactions.{Redex, IsRedex}
 use Rattle.in_interaction.proofs.Interactions.Places.{wires, HasSymbol, IsAfter, IsByPlaces}
 use Rattle.in_interaction.proofs.Interactions.Compress.{Sides}
-use Rattle.in_net.proofs.PairPorts.{symbol_of, port_agent, port_place}
+use Rattle.in_net.proofs.Public.{symbol_of, port_agent, port_place}
 use Rattle.in_interaction.proofs.Interactions.Paths.{joined_back}
 use Rattle.in_base.proofs.Circuits.{Walk, AreSeparate, Circuit, IsEntered, IsLeft, circuit_of, crossings_separate}
 use Rattle.std.specs.List.{AllByRecursion}

@@ -8,7 +8,7 @@ use Rattle.in_net.specs.Nets.{Point, Port, Free, Signature, Net, IsPoint, IsNet}
 use Rattle.in_base.specs.Lists.{IsAmong}
 use Rattle.in_net.specs.Interactions.{Redex, IsRedex, Side, Outer, Inner, other, Alternates, wire_of, IsOfPair, AreJoined, IsNaming, of_first, end_agent, end_place}
 use Rattle.in_interaction.proofs.Interactions.Paths.{other_twice}
-use Rattle.in_net.proofs.PairPorts.{end_has, end_of_pair, not_pair, stands_one}
+use Rattle.in_net.proofs.Public.{end_has, end_of_pair, not_pair, stands_one}
 use Rattle.in_interaction.proofs.Interactions.Alternating.{has_value, wire_back, one_wire}
 use Rattle.in_interaction.proofs.Interactions.Ahead.{few}
 

@@ -6,7 +6,7 @@ use Rattle.in_base.specs.Lists.{IsAmong}
 use Rattle.in_base.proofs.Among.{among_left, among_right, in_map}
 use Rattle.in_net.specs.Interactions.{Redex, IsRedex, Side, Outer, Inner, other, Alternates, stands_for, wire_of, IsOfPair, AreJoined, IsStep}
 use Rattle.in_interaction.proofs.Interactions.Paths.{other_twice, other_side}
-use Rattle.in_net.proofs.PairPorts.{symbol_of, stands_one, first_wire, end_of_pair}
+use Rattle.in_net.proofs.Public.{symbol_of, stands_one, first_wire, end_of_pair}
 use Rattle.in_interaction.proofs.Interactions.Alternating.{wire_back, one_wire, both_sides, joined_back}
 use Rattle.in_interaction.proofs.Interactions.EachJoined.{each_joined}
 

@@ -4,7 +4,7 @@ use mathlib.Core.HLevel.{Discrete}
 use Rattle.in_net.specs.Nets.{Point, Port, Free, Signature, Net, IsNet}
 use Rattle.in_base.specs.Lists.{IsAmong}
 use Rattle.in_net.specs.Interactions.{Redex, IsRedex, Side, Outer, Inner, stands_for, InnerWire, wire_of, IsOfPair, AreJoined, IsNaming, IsStep}
-use Rattle.in_net.proofs.PairPorts.{port_agent, port_place, symbol_of, first_wire, end_of_pair}
+use Rattle.in_net.proofs.Public.{port_agent, port_place, symbol_of, first_wire, end_of_pair}
 use Rattle.in_interaction.proofs.Interactions.Alternating.{joined_once}
 use Rattle.in_interaction.proofs.Interactions.PathEnds.{joined_outer, joined_inner}
 

@@ -5,7 +5,7 @@ use Rattle.in_base.specs.Lists.{IsAmong}
 use Rattle.in_net.specs.Nets.{Point, Port, Signature, Net, IsPoint, IsNet}
 use Rattle.in_net.specs.Interactions.{Redex, IsRedex, Side, Outer, Inner, other, Alternates, stands_for, InnerWire, wire_of, IsOfPair, IsNaming, end_agent, end_place}
 use Rattle.in_interaction.proofs.Interactions.Alternating.{wire_back, one_wire, both_sides}
-use Rattle.in_net.proofs.PairPorts.{first_wire, end_of, port_agent, port_place, end_same}
+use Rattle.in_net.proofs.Public.{first_wire, end_of, port_agent, port_place, end_same}
 use Rattle.in_interaction.proofs.Interactions.PathEnds.{ends}
 use Rattle.in_interaction.proofs.Interactions.Paths.{other_twice}
 

@@ -4,7 +4,7 @@ use Rattle.std.specs.List.{AllByRecursion}
 use Rattle.in_base.specs.Graphs.{Passage, entered, left, Leads, IsCrossing, IsFromPrincipal, CrossingCircle, ViciousCircle}
 use Rattle.in_net.specs.Graphs.{class_of_symbol, graph_of}
 use Rattle.in_net.specs.Nets.{Port, Signature, AreClasses, Net, IsPoint, IsNet}
-use Rattle.in_net.proofs.PairPorts.{symbol_of}
+use Rattle.in_net.proofs.Public.{symbol_of}
 
 module _ {A : Type 0} (sig : Signature) (classed : AreClasses sig) (n : Net A) (net : IsNet sig n) where
   auxiliary : (s i : ℕ) → i ≢ 0 → sig.class_of s i ≢ sig.class_of s 0

@@ -7,8 +7,7 @@ use Rattle.in_net.specs.declared.nets.Point.TheVariants.{Port}
 use Rattle.in_net.specs.ActivePairs.{AreActive, IsActivePair}
 use Rattle.in_net.specs.Nets.{IsNet, net_of, point_of, coded_point, signature_of}
 use Rattle.in_net.specs.Parts.{Parts, partner_in}
-use Rattle.in_net.proofs.ActivePairs.{flipped, one_partner}
-use Rattle.in_net.proofs.OneNet.{round_code, map_is}
+use Rattle.in_net.proofs.Public.{flipped, one_partner, round_code, map_is}
 use Rattle.in_interaction.proofs.Stepping.Partners.{net_wire}
 use Rattle.in_interaction.specs.Queues.{agents_at, numbers_of}
 

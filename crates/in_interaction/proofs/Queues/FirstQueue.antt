@@ -9,9 +9,9 @@ use Rattle.in_net.specs.ActivePairs.{IsActivePair}
 use Rattle.in_net.specs.declared.nets.Wire.{Wire}
 use Rattle.in_net.specs.Parts.{Parts, IsWhole, wire_in}
 use Rattle.in_base.proofs.Places.{last_at, kept_at, more_at}
-use Rattle.in_net.proofs.PairOfWire.{one_on_wire}
+use Rattle.in_net.proofs.Public.{one_on_wire}
 use Rattle.in_interaction.proofs.Queues.Apart.{same_numbers}
-use Rattle.in_interaction.specs.Queues.{agents_at, numbers_of, IsQueueOf, JoinsPair, IsNoPair, AreInOrder, IsFirstQueue}
+use Rattle.in_interaction.specs.Queues.{agents_at, numbers_of, IsQueueOf, JoinsPair, JoinsNoPair, AreInOrder, IsFirstQueue}
 
 module _ (t : Tables) (n : Parts) where
   -- the pairs on the wires below one
@@ -23,7 +23,7 @@ module _ (t : Tables) (n : Parts) where
   pub none_yet : AreFirst 0 []
   none_yet = record { pairs = λ k q e. cc; all = λ v q l h j. absurd (omega (arith, l)); order = λ j k v w p q l e f. cc }
 
-  pub not_here : (w : ℕ) (qs : List (ℕ × ℕ)) → AreFirst w qs → IsNoPair n w → AreFirst (w + 1) qs
+  pub not_here : (w : ℕ) (qs : List (ℕ × ℕ)) → AreFirst w qs → JoinsNoPair n w → AreFirst (w + 1) qs
   not_here w qs h none = record {
     pairs = λ k q e. (let r = h.pairs k q e in (r.0, (r.1.0, (let l = r.1.1 in omega (arith, l)), r.1.2)));
     all = λ v q l a j. go v q a j (let o : (v < w) ⊎ (v ≡ w) = grind (arith, l) in o);

@@ -7,7 +7,7 @@ use Rattle.in_symbols.specs.declared.symbols.SymbolNo.{SymbolNo}
 use Rattle.in_net.specs.ActivePairs.{IsActivePair, JoinsAgents}
 use Rattle.in_net.specs.declared.nets.AgentNo.{AgentNo}
 use Rattle.in_net.specs.Parts.{IsWhole, symbol_in}
-use Rattle.in_net.proofs.Within.{symbol_within}
+use Rattle.in_net.proofs.Public.{symbol_within}
 use Rattle.in_interaction.specs.Following.{SiteParts, IsSite}
 use Rattle.in_interaction.specs.Interacting.{unused}
 use Rattle.in_interaction.specs.Making.{renumbered, AddsOwn}

@@ -14,7 +14,7 @@ use Rattle.in_net.specs.declared.nets.Cell.{Cell}
 use Rattle.in_net.specs.declared.nets.FreeEnd.{FreeEnd}
 use Rattle.in_net.specs.declared.nets.Point.{Point}
 use Rattle.in_base.proofs.Places.{more_at, last_at}
-use Rattle.in_net.proofs.Lists.{cell_within}
+use Rattle.in_net.proofs.Public.{cell_within}
 use Rattle.in_base.proofs.Places.{some_same}
 use Rattle.in_interaction.proofs.Stepping.Unused.{few_unused, unused_rises, unused_free, unused_apart}
 use Rattle.in_base.proofs.Each.{at_index}

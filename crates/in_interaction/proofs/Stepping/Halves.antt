@@ -16,7 +16,7 @@ use Rattle.in_net.specs.declared.nets.FreeEnd.{FreeEnd}
 use Rattle.in_net.specs.declared.nets.Point.{Point}
 use Rattle.in_net.specs.declared.nets.Point.TheVariants.{Port, Free}
 use Rattle.in_net.specs.declared.nets.Wire.{Wire}
-use Rattle.in_net.proofs.SameNet.{not_both}
+use Rattle.in_net.proofs.Public.{not_both}
 use Rattle.in_interaction.proofs.Interactions.Ahead.{remove}
 use Rattle.in_interaction.proofs.Stepping.Unused.{counted}
 

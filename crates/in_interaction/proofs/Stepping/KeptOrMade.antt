@@ -15,12 +15,10 @@ use Rattle.in_net.specs.Parts.{Parts, IsWhole, symbol_in, partner_in}
 use Rattle.in_net.specs.Rules.{RuleParts}
 use Rattle.in_net.specs.declared.nets.AgentNo.{AgentNo}
 use Rattle.in_net.specs.declared.nets.Point.TheVariants as code
-use Rattle.in_net.proofs.PairPorts.{symbol_of, end_of_pair, port_agent, port_place}
+use Rattle.in_net.proofs.Public.{symbol_of, end_of_pair, port_agent, port_place, map_is, one_partner, flipped}
 use Rattle.in_interaction.proofs.Interactions.Through as through
-use Rattle.in_net.proofs.OneNet.{map_is}
 use Rattle.in_interaction.proofs.Stepping.Making.{agent_same, stays_as}
 use Rattle.in_interaction.proofs.Stepping.Sites.{redex_in}
-use Rattle.in_net.proofs.ActivePairs.{one_partner, flipped}
 use Rattle.in_interaction.proofs.Stepping.Partners.{net_wire}
 
 -- ---- an agent is in one pair

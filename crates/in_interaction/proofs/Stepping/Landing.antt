@@ -11,10 +11,8 @@ use Rattle.in_net.specs.Interactions.{Redex, redex_at, IsRedex, Outer, Inner, Al
 use Rattle.in_interaction.specs.Following.{SiteParts, end_of, end_by, port_of, most_turns, OnInner, OnEnd, Lands}
 use Rattle.in_net.specs.Rules.{RuleParts}
 use Rattle.in_syntax.specs.Grammar.{max_ports}
-use Rattle.in_net.proofs.PairPorts.{stands_one, not_pair, end_of_pair}
+use Rattle.in_net.proofs.Public.{stands_one, not_pair, end_of_pair, map_is, lt_tells}
 use Rattle.in_interaction.proofs.Interactions.PathEnds.{outer_next, not_principal, Ended, ends}
-use Rattle.in_net.proofs.OneNet.{map_is}
-use Rattle.in_net.proofs.NumberTests.{lt_tells}
 
 abbrev pub agent_no : ℕ → AgentNo
 agent_no k = record { 0 = k }

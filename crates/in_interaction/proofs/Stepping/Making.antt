@@ -20,13 +20,12 @@ use Rattle.in_net.specs.Rules.{RuleParts}
 use Rattle.in_net.specs.declared.nets.AgentNo.{AgentNo}
 use Rattle.in_net.specs.declared.nets.Cell.{Cell}
 use Rattle.in_net.specs.declared.nets.FreeEnd.{FreeEnd}
-use Rattle.in_net.proofs.PairPorts.{end_of_pair, not_pair}
+use Rattle.in_net.proofs.Public.{end_of_pair, not_pair, below_or, no_both, symbol_known}
 use Rattle.in_interaction.proofs.Interactions.Alternating.{one_wire}
 use Rattle.in_interaction.proofs.Interactions.StaysNet as stays_net
 use Rattle.in_interaction.proofs.Interactions.StepExists.{step_exists}
 use Rattle.in_interaction.proofs.Interactions.Through as through
 use Rattle.in_base.proofs.Places.{last_at, kept_at, more_at}
-use Rattle.in_net.proofs.ActivePairs.{below_or, no_both, symbol_known}
 use Rattle.in_interaction.proofs.Stepping.Sites as sites
 use Rattle.in_base.proofs.Places.{some_same}
 use Rattle.in_interaction.proofs.Stepping.Unused.{unused_free, unused_apart}

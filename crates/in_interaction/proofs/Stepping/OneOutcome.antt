@@ -20,8 +20,7 @@ use Rattle.in_net.specs.declared.nets.FreeEnd.{FreeEnd}
 use Rattle.in_net.specs.declared.nets.Point as coded
 use Rattle.in_net.specs.declared.nets.Point.TheVariants as code
 use Rattle.in_net.specs.declared.nets.Wire.{Wire}
-use Rattle.in_net.proofs.OneNet.{round_code, map_is}
-use Rattle.in_net.proofs.SameNet.{all_same, not_both}
+use Rattle.in_net.proofs.Public.{round_code, map_is, all_same, not_both}
 use Rattle.in_interaction.proofs.Stepping.Making.{end_once}
 use Rattle.in_interaction.proofs.Stepping.Partners.{net_wire}
 use Rattle.in_interaction.proofs.Stepping.Wires.{both_ends}

@@ -21,14 +21,10 @@ use Rattle.in_net.specs.declared.nets.FreeEnd.{FreeEnd}
 use Rattle.in_net.specs.declared.nets.Point as coded
 use Rattle.in_net.specs.declared.nets.Point.TheVariants as code
 use Rattle.in_net.specs.declared.nets.Wire.{Wire}
-use Rattle.in_net.proofs.OneNet.{round_point, round_code, map_is, cell_over}
-use Rattle.in_net.proofs.SameNet.{not_both}
-use Rattle.in_net.proofs.PairPorts.{first_wire, end_of_pair}
+use Rattle.in_net.proofs.Public.{round_point, round_code, map_is, cell_over, not_both, first_wire, end_of_pair, symbol_known, cell_within}
 use Rattle.in_interaction.proofs.Interactions.Alternating.{joined_once}
 use Rattle.in_interaction.proofs.Interactions.StaysNet as stays_net
 use Rattle.in_interaction.proofs.Stepping.Cells.{numbers_fit}
-use Rattle.in_net.proofs.ActivePairs.{symbol_known}
-use Rattle.in_net.proofs.Lists.{cell_within}
 use Rattle.in_interaction.proofs.Stepping.Halves.{half}
 use Rattle.in_interaction.proofs.Stepping.Partners.{net_wire}
 use Rattle.in_interaction.proofs.Stepping.Sites.{net, inside, redex, naming}

@@ -13,9 +13,7 @@ use Rattle.in_interaction.specs.Interacting.{unused, CanInteract}
 use Rattle.in_net.specs.Interactions.{AreJoined, redex_at}
 use Rattle.in_net.specs.Nets.{Point, Port, Free, IsPoint, IsNet, net_of, signature_of, point_of, coded_point}
 use Rattle.in_net.specs.Parts.{Parts, cell_in, partner_in}
-use Rattle.in_net.proofs.WireAt.{has_partner}
-use Rattle.in_net.proofs.Lists.{cell_within}
-use Rattle.in_net.proofs.OneNet.{round_point, round_code, map_is}
+use Rattle.in_net.proofs.Public.{has_partner, cell_within, round_point, round_code, map_is}
 use Rattle.in_interaction.proofs.Stepping.Sites.{net, inside, redex, naming, first_is, agent_ends}
 use Rattle.in_interaction.proofs.Stepping.Landing as landing
 

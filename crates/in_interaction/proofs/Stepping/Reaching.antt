@@ -11,25 +11,23 @@ use Rattle.in_interaction.specs.Following.{SiteParts, IsSite, end_of, port_of}
 use Rattle.in_interaction.specs.Interacting.{unused, CanInteract}
 use Rattle.in_net.specs.Interactions.{Side, Outer, Inner, other, IsOfPair}
 use Rattle.in_interaction.specs.Made.{HasSymbolAfter, IsMade}
-use Rattle.in_interaction.specs.Making.{IsSymbolAfter, IsPairAt, SiteWire, Leaves, LandsAt, LandsNowhere, NoneLower, IsOnWay, end_point, redex_of, most_wires, principal_of}
+use Rattle.in_interaction.specs.Making.{IsSymbolAfter, IsPairAtEnd, SiteWire, Leaves, LandsAt, LandsNowhere, NoneLower, IsOnWay, end_point, redex_of, most_wires, principal_of}
 use Rattle.in_net.specs.Nets.{Point, Port, Free, IsPoint, net_of, signature_of, point_of, coded_point}
 use Rattle.in_net.specs.Parts.{IsPointOf, symbol_in, partner_in}
 use Rattle.in_net.specs.declared.nets.AgentNo.{AgentNo}
 use Rattle.in_net.specs.declared.nets.FreeEnd.{FreeEnd}
 use Rattle.in_net.specs.declared.nets.Point as coded
 use Rattle.in_net.specs.declared.nets.Point.TheVariants as code
-use Rattle.in_net.proofs.PairPorts.{not_pair, end_of_pair}
+use Rattle.in_net.proofs.Public.{not_pair, end_of_pair, round_code, map_is, has_partner}
 use Rattle.in_interaction.proofs.Interactions.Alternating.{one_wire}
 use Rattle.in_interaction.proofs.Interactions.PathEnds.{outer_next, outer_at, not_principal}
 use Rattle.in_interaction.proofs.Interactions.Through as through
-use Rattle.in_net.proofs.OneNet.{round_code, map_is}
 use Rattle.in_interaction.proofs.Stepping.Landing as landing
 use Rattle.in_interaction.proofs.Stepping.Making as making
 use Rattle.in_interaction.proofs.Stepping.Partners.{net_wire, named}
 use Rattle.in_interaction.proofs.Stepping.Sites.{net, inside, redex, naming, first_is}
 use Rattle.in_base.proofs.Places.{some_same}
 use Rattle.in_interaction.proofs.Stepping.Unused.{unused_apart}
-use Rattle.in_net.proofs.WireAt.{has_partner}
 
 port_agent_of : (x y : AgentNo) (i j : ℕ) → ◌≡◌ {A = coded.Point} (code.Port x i) (code.Port y j) → x ≡ y
 port_agent_of x y i j e = cc
@@ -267,8 +265,8 @@ principal_is (code.Free k) o x is e = cc
 
 -- ---- what is answered at a boundary end
 
-pub no_pair : (t : Tables) (s : SiteParts) (e : ℕ) (o : Option (AgentNo × AgentNo)) → o ≡ None → ((q : AgentNo × AgentNo) → IsMade t s.net s.rule s.one s.two (unused s.net.cells) e q → ⊥) → IsPairAt t s e o
-no_pair t s e o is h = subst (IsPairAt t s e) (sym is) h
+pub no_pair : (t : Tables) (s : SiteParts) (e : ℕ) (o : Option (AgentNo × AgentNo)) → o ≡ None → ((q : AgentNo × AgentNo) → IsMade t s.net s.rule s.one s.two (unused s.net.cells) e q → ⊥) → IsPairAtEnd t s e o
+no_pair t s e o is h = subst (IsPairAtEnd t s e) (sym is) h
 
 pub lands_there : (s : SiteParts) (side : Side) (e : ℕ) (p : coded.Point) (o : Option AgentNo) (x : AgentNo) → LandsAt s side e p → o ≡ principal_of p → o ≡ Some x → LandsAt s side e (code.Port x 0)
 lands_there s side e p o x at is found = subst (LandsAt s side e) (principal_is p o x is found) at

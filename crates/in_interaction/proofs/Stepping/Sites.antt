@@ -16,8 +16,7 @@ use Rattle.in_net.specs.Interactions.{IsRedex, IsNaming, redex_at}
 use Rattle.in_net.specs.Nets.{Port, IsNet, net_of, signature_of, point_of}
 use Rattle.in_net.specs.Parts.{Parts, IsWhole, cell_in, symbol_in}
 use Rattle.in_net.specs.Rules.{RuleParts, auxiliary_types}
-use Rattle.in_net.proofs.OneNet.{is_net, cell_over}
-use Rattle.in_net.proofs.BoundaryTypes.{types_many, declared_at}
+use Rattle.in_net.proofs.Public.{is_net, cell_over, types_many, declared_at}
 use Rattle.in_interaction.proofs.Stepping.Unused.{unused_free, unused_apart}
 
 -- the pair is one of the definitions, in any net

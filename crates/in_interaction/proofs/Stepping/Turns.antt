@@ -6,7 +6,7 @@ use Rattle.in_net.specs.declared.nets.AgentNo.{AgentNo}
 use Rattle.in_net.specs.declared.nets.Point.{Point}
 use Rattle.in_net.specs.declared.nets.Point.TheVariants.{Port, Free}
 use Rattle.in_net.specs.Parts.{IsWhole, partner_in}
-use Rattle.in_net.proofs.WireAt.{has_partner}
+use Rattle.in_net.proofs.Public.{has_partner}
 use Rattle.in_interaction.specs.Following.{SiteParts, end_of, port_of, most_turns, OnInner, OnEnd, Lands}
 
 module _ (s : SiteParts) where

@@ -13,8 +13,7 @@ use Rattle.in_net.specs.declared.nets.FreeEnd.{FreeEnd}
 use Rattle.in_net.specs.declared.nets.Point.{Point}
 use Rattle.in_net.specs.declared.nets.Point.TheVariants.{Port, Free}
 use Rattle.in_net.specs.declared.nets.Wire.{Wire}
-use Rattle.in_net.proofs.WireAt.{has_partner}
-use Rattle.in_net.proofs.Lists.{cell_within}
+use Rattle.in_net.proofs.Public.{has_partner, cell_within}
 use Rattle.in_base.proofs.Places.{some_same}
 
 -- ---- one more wire

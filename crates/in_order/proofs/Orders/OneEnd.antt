@@ -1,7 +1,7 @@
 -- An accepted program has one end.
 use Rattle.std.proofs.Common.{sym, ◌∙◌}
 use Rattle.in_check.specs.Systems.{system_of}
-use Rattle.in_check.proofs.Reached.FromText.{is_sound}
+use Rattle.in_check.proofs.Public.{is_sound}
 use Rattle.in_order.specs.Ends.{words_in, ProgramsHaveOneEnd}
 use Rattle.in_order.proofs.Orders.EndAlike.{runs_end_alike}
 

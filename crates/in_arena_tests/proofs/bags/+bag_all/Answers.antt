@@ -2,7 +2,7 @@ use Rattle.std.proofs.Common.{◌∙◌, ap, subst}
 use Rattle.in_arena.specs.Arenas.{changed, state_at}
 use Rattle.in_arena.specs.Bags.{LeasesTo}
 use Rattle.in_arena.specs.States.{Vacant, Leased, IsLeased}
-use Rattle.in_arena.proofs.Bags.{vacant_apart, changed_twice}
+use Rattle.in_arena.proofs.Public.{vacant_apart, changed_twice}
 use Rattle.in_arena_tests.proofs.Changes.{same_again}
 use Rattle.in_arena_tests.proofs.bags.+bag_all.Goals as goal
 

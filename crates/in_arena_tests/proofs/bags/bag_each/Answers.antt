@@ -1,7 +1,7 @@
 use Rattle.std.proofs.Common.{◌≡◌, ◌∙◌, sym, subst}
 use Rattle.in_arena.specs.Arenas.{ArenaView}
 use Rattle.in_arena.specs.Bags.{IsBagOf, empty_bag}
-use Rattle.in_arena.proofs.Bags.{empty_is_of}
+use Rattle.in_arena.proofs.Public.{empty_is_of}
 use Rattle.in_arena_tests.proofs.bags.bag_each.Goals as goal
 
 bag_of : (a b c d : ArenaView) → b ≡ empty_bag a → c ≡ a → d ≡ b → IsBagOf d c

@@ -1,5 +1,5 @@
 use Rattle.std.proofs.Common.{inl, inr, refl}
-use Rattle.in_words.specs.declared.action.Action.TheVariants.{Run}
+use Rattle.in_command_line.specs.declared.action.Action.TheVariants.{Run}
 use Rattle.in_c.specs.Answers.{IsRunSaid, IsSaid}
 use Rattle.in_c.proofs.Given.{anyway, so_that}
 use Rattle.in_c.proofs.saying.ran.Goals as goal

@@ -1,4 +1,4 @@
-use Rattle.in_words.specs.declared.action.Action.TheVariants.{Run}
+use Rattle.in_command_line.specs.declared.action.Action.TheVariants.{Run}
 use Rattle.in_program.specs.Acting.{IsReply}
 use Rattle.in_c.proofs.Said.{answered, begins}
 use Rattle.in_c.proofs.saying.run_said.Goals as goal

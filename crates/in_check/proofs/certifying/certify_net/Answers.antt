@@ -1,5 +1,5 @@
 use Rattle.in_syntax.specs.declared.faults.Code.TheVariants.{E13}
-use Rattle.in_opening.specs.Opening.{Opens}
+use Rattle.in_open_nets_of_programs.specs.Opening.{Opens}
 use Rattle.in_check.proofs.Certified.{certified}
 use Rattle.in_check.proofs.certifying.certify_net.Goals as goal
 

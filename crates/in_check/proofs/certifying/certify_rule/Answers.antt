@@ -1,5 +1,5 @@
 use Rattle.in_syntax.specs.declared.faults.Code.TheVariants.{E12}
-use Rattle.in_opening.specs.OpeningRules.{OpensRule}
+use Rattle.in_open_nets_of_programs.specs.OpeningRules.{OpensRule}
 use Rattle.in_check.proofs.Certified.{certified}
 use Rattle.in_check.proofs.certifying.certify_rule.Goals as goal
 

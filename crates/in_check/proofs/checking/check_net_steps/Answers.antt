@@ -1,5 +1,4 @@
-use Rattle.in_opening.proofs.Classes.{tables_numbered}
-use Rattle.in_opening.proofs.Counted.{text_net_there}
+use Rattle.in_open_nets_of_programs.proofs.Public.{tables_numbered, text_net_there}
 use Rattle.in_check.proofs.checking.check_net_steps.Goals as goal
 
 pub certify_net-requires-clause-there : goal.certify_net-requires-clause-there

@@ -1,5 +1,4 @@
-use Rattle.in_syntax.proofs.Ordered.{tree_in_order}
-use Rattle.in_syntax.proofs.Sized.{tree_sized}
+use Rattle.in_syntax.proofs.Public.{tree_in_order, tree_sized}
 use Rattle.in_check.proofs.checking.check_rules.Goals as goal
 
 pub build_rules-requires-clause-sized : goal.build_rules-requires-clause-sized

@@ -1,8 +1,8 @@
 use Rattle.std.proofs.Common.{sym, subst}
 use Rattle.std.specs.List.{AllByRecursion}
 use Rattle.in_net.specs.Rules.{IsRuleOver}
-use Rattle.in_opening.specs.OpeningRules.{IsRuleWhole}
-use Rattle.in_opening.proofs.Classes.{tables_numbered}
+use Rattle.in_open_nets_of_programs.specs.OpeningRules.{IsRuleWhole}
+use Rattle.in_open_nets_of_programs.proofs.Public.{tables_numbered}
 use Rattle.in_check.proofs.Passes.{rules_over}
 use Rattle.in_check.proofs.Certified.{rules_whole}
 use Rattle.in_check.proofs.checking.rule_steps.Goals as goal

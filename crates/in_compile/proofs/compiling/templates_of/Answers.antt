@@ -1,7 +1,7 @@
 use Rattle.std.proofs.Common.{sym, subst}
 use Rattle.in_symbols.specs.Tables.{Tables}
 use Rattle.in_net.specs.Rules.{IsRuleOver}
-use Rattle.in_opening.specs.OpeningRules.{IsRuleWhole}
+use Rattle.in_open_nets_of_programs.specs.OpeningRules.{IsRuleWhole}
 use Rattle.in_compile.specs.Templates.{IsTemplateOf}
 use Rattle.in_compile.proofs.Accepted.{rule_over, whole_rule}
 use Rattle.in_compile.proofs.Made.{one_more}

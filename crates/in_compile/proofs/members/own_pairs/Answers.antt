@@ -1,7 +1,7 @@
 use Rattle.std.proofs.Common.{◌≤◌, ◌+◌, [], ◌∷◌, length, length-append, sym, ap, subst, ◌∙◌, arith}
 use Rattle.in_net.specs.declared.nets.AgentNo.{AgentNo}
 use Rattle.in_interaction.specs.Queues.{agents_at, numbers_of}
-use Rattle.in_interaction.proofs.Queues.FirstQueue.{AreFirst, not_here, one_here, is_first}
+use Rattle.in_interaction.proofs.Public.{AreFirst, not_here, one_here, is_first}
 use Rattle.in_compile.proofs.members.own_pairs.Goals as goal
 use Rattle.in_compile.proofs.members.own_pairs.Goals.{in-Some+in_ok-push, in_default}
 

@@ -1,5 +1,5 @@
 use Rattle.std.proofs.Common.{◌≤◌, length}
-use Rattle.in_interaction.proofs.Queues.FirstQueue.{AreFirst}
+use Rattle.in_interaction.proofs.Public.{AreFirst}
 use Rattle.in_compile.proofs.members.own_pairs.Given as goal
 
 abbrev pub invariant-loop-wire : goal.invariant-loop-wire

@@ -16,7 +16,7 @@ invariant_of-result c =
     let many = joints_many t r.member m of in
     let ends = c.requires.whole.ends in
     let a = c.arity-first_ends.ensures.arity ∙ ap (λ (h : SymbolNo × SymbolNo). arity_of t h.0.0) c.heads.ensures in
-    let b = c.arity-second_ends.ensures.arity ∙ ap (λ (h : SymbolNo × SymbolNo). arity_of t h.1.0) c.heads.ensures in
+    let b = c.arity.ensures.arity ∙ ap (λ (h : SymbolNo × SymbolNo). arity_of t h.1.0) c.heads.ensures in
     let f = c.arity-first_ends.ensures.few in
-    let g = c.arity-second_ends.ensures.few in
+    let g = c.arity.ensures.few in
     (omega (arith, many, ends, a, b, f, g), few_agents t r.member m of max_member_agents c.requires.whole.few)

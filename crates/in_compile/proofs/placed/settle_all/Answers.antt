@@ -2,7 +2,7 @@ use Rattle.std.proofs.Common.{refl, arith}
 use Rattle.std.specs.Prelude.{slice_index_or}
 use Rattle.in_arena.specs.Arenas.{state_at}
 use Rattle.in_arena.specs.States.{IsLive}
-use Rattle.in_arena.proofs.Bags.{live_in}
+use Rattle.in_arena.proofs.Public.{live_in}
 use Rattle.in_compile.proofs.Held.{one_more_back}
 use Rattle.in_compile.proofs.AgentByAgent.{read_at}
 use Rattle.in_compile.proofs.placed.settle_all.Goals as goal

@@ -1,6 +1,6 @@
 use Rattle.std.proofs.Common.{length, sym, ap, ◌∙◌, arith}
 use Rattle.in_symbols.specs.Tables.{Tables, matching}
-use Rattle.in_compile.proofs.OneTemplate.{has_template}
+use Rattle.in_compile.proofs.Public.{has_template}
 use Rattle.in_compile_tests.proofs.showing.template_of.Goals as goal
 
 pub of-requires : goal.of-requires

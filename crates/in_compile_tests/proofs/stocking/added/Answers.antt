@@ -1,9 +1,9 @@
 use Rattle.std.proofs.Common.{◌≤◌, ◌+◌, sym, subst, arith}
 use Rattle.in_arena.specs.declared.content.CellClass.{CellClass}
-use Rattle.in_arena.proofs.Bags.{empty_is_of}
+use Rattle.in_arena.proofs.Public.{empty_is_of}
 use Rattle.in_compile.specs.Cells.{count_of}
 use Rattle.in_compile.specs.Stocks.{StockParts, Adds, HasRoom, IsStockOf, empty_stock, held}
-use Rattle.in_compile.proofs.Back.{all_back}
+use Rattle.in_compile.proofs.Public.{all_back}
 use Rattle.in_compile_tests.proofs.stocking.added.Goals as goal
 
 pub add-requires-clause-of : goal.add-requires-clause-of

@@ -7,8 +7,7 @@ use Rattle.in_symbols.specs.Tables.{Tables}
 use Rattle.in_joining.specs.Cells.{KeepsCells}
 use Rattle.in_joining.specs.Pairs.{AddsPair}
 use Rattle.in_joining.specs.Shown.{point_of, end_of, IsPlaceAt, AreExchanged}
-use Rattle.in_joining.proofs.OnTheWay.{live_after, symbols_kept}
-use Rattle.in_joining.proofs.Writes.{end_point}
+use Rattle.in_joining.proofs.Public.{live_after, symbols_kept, writes_end_point as end_point}
 use Rattle.in_cutting.specs.Cutting.{Shows}
 use Rattle.in_cutting.proofs.JoinedInCells as cells
 use Rattle.in_cutting.proofs.joining.join_last.Goals as goal

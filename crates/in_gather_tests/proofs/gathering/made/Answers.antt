@@ -1,6 +1,6 @@
 use Rattle.std.proofs.Common.{ap, sym, ◌∙◌}
 use Rattle.in_compile.specs.Placing.{PlacedParts}
-use Rattle.in_gather.proofs.Placing.{placed_count, stays_of_one}
+use Rattle.in_gather.proofs.Public.{placed_count, stays_of_one}
 use Rattle.in_gather_tests.proofs.gathering.made.Goals as goal
 
 pub returns : goal.returns

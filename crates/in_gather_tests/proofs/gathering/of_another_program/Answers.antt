@@ -1,8 +1,7 @@
 use Rattle.std.proofs.Common.{◌≡◌, [], ◌∷◌, ap, sym, subst}
 use Rattle.in_gather.specs.Gathers.{GatherParts, bags_of}
 use Rattle.in_gather.specs.Holding.{HaveAllLeased}
-use Rattle.in_gather.proofs.Filling.{filled_has_all}
-use Rattle.in_gather.proofs.Holding.{first_is_bag}
+use Rattle.in_gather.proofs.Public.{filled_has_all, first_is_bag}
 use Rattle.in_gather_tests.proofs.Putting.{gather_has_all, none_left}
 use Rattle.in_gather_tests.proofs.gathering.of_another_program.Goals as goal
 

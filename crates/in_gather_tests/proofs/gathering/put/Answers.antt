@@ -5,7 +5,7 @@ use Rattle.in_compile.specs.Stocks.{Regains}
 use Rattle.in_gather.specs.Dones.{DoneParts}
 use Rattle.in_gather.specs.Gathers.{GatherParts, bags_of}
 use Rattle.in_gather.specs.Holding.{HaveAllLeased}
-use Rattle.in_gather.proofs.Holding.{first_is_bag, one_less}
+use Rattle.in_gather.proofs.Public.{first_is_bag, one_less}
 use Rattle.in_gather_tests.proofs.Putting.{in_hand, kept}
 use Rattle.in_gather_tests.proofs.gathering.put.Goals as goal
 

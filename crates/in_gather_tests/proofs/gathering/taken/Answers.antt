@@ -1,6 +1,6 @@
 use Rattle.std.proofs.Common.{◌∷◌}
 use Rattle.in_gather.specs.Gathers.{bags_of}
-use Rattle.in_gather.proofs.Holding.{first_is_bag, one_less}
+use Rattle.in_gather.proofs.Public.{first_is_bag, one_less}
 use Rattle.in_gather_tests.proofs.Putting.{taken_in_hand}
 use Rattle.in_gather_tests.proofs.gathering.taken.Goals as goal
 

@@ -1,7 +1,7 @@
 use Rattle.std.proofs.Common.{◌≡◌, Option, Some, None, List, length, slice_index_or, sym, ap, subst, ◌∙◌, arith}
 use Rattle.in_net.specs.Parts.{cell_in}
 use Rattle.in_net.specs.declared.nets.Cell.{Cell}
-use Rattle.in_net.proofs.Lists.{there_read}
+use Rattle.in_net.proofs.Public.{there_read}
 use Rattle.in_base.proofs.Places.{some_same}
 use Rattle.in_interaction.proofs.interacting.arity.Goals as goal
 

@@ -1,5 +1,5 @@
 use Rattle.std.proofs.Common.{◌≡◌, ◌<◌, ◌≤◌, ℕ, ◌+◌, length, sym, subst, inl, inr, arith}
-use Rattle.in_net.proofs.Lists.{none_read, some_read}
+use Rattle.in_net.proofs.Public.{none_read, some_read}
 use Rattle.in_interaction.proofs.Stepping.Unused.{AreFound, none_yet, one_found, not_found, all_found}
 use Rattle.in_interaction.proofs.interacting.empty_numbers.Goals as goal
 use Rattle.in_interaction.proofs.interacting.empty_numbers.Goals.{then-is_none+then-len-count+in_ok-push, else-is_none, else-is_none-via-then-is_none+else-len-count, else-is_none-via-else-is_none}

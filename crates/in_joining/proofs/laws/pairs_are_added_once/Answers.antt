@@ -1,7 +1,7 @@
 use Rattle.std.proofs.Common.{List, ◌++◌, map, reverse, sym, ap, ◌∙◌}
 use Rattle.in_net.specs.declared.nets.AgentNo.{AgentNo}
 use Rattle.in_interaction.specs.Queues.{numbers_of}
-use Rattle.in_interaction.proofs.Stepping.OneOutcome.{one_made_over_ends}
+use Rattle.in_interaction.proofs.Public.{one_made_over_ends}
 use Rattle.in_joining.proofs.laws.pairs_are_added_once.Goals as goal
 
 pub returns : goal.returns

@@ -1,7 +1,7 @@
 use Rattle.std.proofs.Common.{◌∙◌, length-set, arith}
 use Rattle.std.specs.Prelude.{slice_index_or}
 use Rattle.std.proofs.lemmas.Option.{slice_get-get_or}
-use Rattle.in_arena.proofs.Arenas.{live_inside}
+use Rattle.in_arena.proofs.Public.{live_inside}
 use Rattle.in_moving.proofs.Taken.{one_more_taken, some_free}
 use Rattle.in_moving.proofs.taking.take_cells.Goals as goal
 

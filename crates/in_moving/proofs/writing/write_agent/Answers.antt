@@ -1,7 +1,7 @@
 use Rattle.std.proofs.Common.{◌∙◌, ap}
 use Rattle.in_arena.specs.Arenas.{changed, state_at}
 use Rattle.in_arena.specs.States.{with_end}
-use Rattle.in_arena.proofs.Arenas.{live_inside}
+use Rattle.in_arena.proofs.Public.{live_inside}
 use Rattle.in_moving.specs.Copying.{name_in, number_in}
 use Rattle.in_moving.proofs.Written.{alike_live, begun, one_more_end}
 use Rattle.in_moving.proofs.writing.write_agent.Goals as goal

@@ -1,7 +1,7 @@
 use Rattle.std.proofs.Common.{length, arith}
 use Rattle.std.specs.Prelude.{slice_index_or}
 use Rattle.std.proofs.lemmas.Option.{slice_get-get_or}
-use Rattle.in_arena.proofs.Arenas.{live_inside}
+use Rattle.in_arena.proofs.Public.{live_inside}
 use Rattle.in_moving.proofs.Written.{alike, one_more_written, within_list}
 use Rattle.in_moving.proofs.writing.write_agents.Goals as goal
 

@@ -2,7 +2,7 @@ use Rattle.std.proofs.Common.{◌≡◌, ◌∙◌, ap, map, subst, sym, length}
 use Rattle.in_net.specs.Building.{cells_of, wires_from}
 use Rattle.in_net.specs.Built.{AreListedOf}
 use Rattle.in_net.specs.Parts.{IsWhole, as_built}
-use Rattle.in_net.proofs.Whole.{whole}
+use Rattle.in_net.proofs.WholeNets.Whole.{whole}
 use Rattle.in_net.proofs.building.assemble.Goals as goal
 
 pub built-requires : goal.built-requires

@@ -1,5 +1,5 @@
 use Rattle.std.proofs.Common.{arith, ◌∙◌, ap, ◌++◌, ◌∷◌, []}
-use Rattle.in_net.proofs.Steps.{one_end}
+use Rattle.in_net.proofs.WholeNets.Steps.{one_end}
 use Rattle.in_net.proofs.building.cell.Goals as goal
 
 pub loop-port-preserved : goal.loop-port-preserved

@@ -1,7 +1,7 @@
 use Rattle.std.proofs.Common.{get_or}
 use Rattle.in_net.specs.Building.{no_agent}
-use Rattle.in_net.proofs.Links.{all_rest}
-use Rattle.in_net.proofs.Steps.{one_cell, cell_is}
+use Rattle.in_net.proofs.Wiring.Links.{all_rest}
+use Rattle.in_net.proofs.WholeNets.Steps.{one_cell, cell_is}
 use Rattle.in_net.proofs.building.cells.Goals as goal
 
 pub loop-agent-preserved : goal.loop-agent-preserved

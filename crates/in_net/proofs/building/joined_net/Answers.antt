@@ -5,12 +5,12 @@ use Rattle.in_net.specs.Built.{Builds}
 use Rattle.in_net.specs.NetFaults.{max_agents, of_wires}
 use Rattle.in_net.specs.Reading.{reading_of}
 use Rattle.in_net.specs.TextNet.{body_of}
-use Rattle.in_net.proofs.Bodies.{net_ready}
-use Rattle.in_net.proofs.Known.{net_known}
-use Rattle.in_net.proofs.FirstFault.{no_fault, names_inside}
-use Rattle.in_net.proofs.ReadFrom as read_from
-use Rattle.in_net.proofs.TextWires.{read, read_closed, read_first}
-use Rattle.in_net.proofs.GoodNets.{good}
+use Rattle.in_net.proofs.Texts.Bodies.{net_ready}
+use Rattle.in_net.proofs.Texts.Known.{net_known}
+use Rattle.in_net.proofs.Refusals.FirstFault.{no_fault, names_inside}
+use Rattle.in_net.proofs.Texts.ReadFrom as read_from
+use Rattle.in_net.proofs.Wiring.TextWires.{read, read_closed, read_first}
+use Rattle.in_net.proofs.Refusals.GoodNets.{good}
 use Rattle.in_net.proofs.building.joined_net.Goals as goal
 
 pub join_all-requires-clause-joints : goal.join_all-requires-clause-joints

@@ -5,14 +5,14 @@ use Rattle.in_net.specs.Built.{ArePointsAt, AreJoinedTo, IsReadFrom}
 use Rattle.in_net.specs.NetFaults.{max_agents}
 use Rattle.in_net.specs.Reading.{reading_of}
 use Rattle.in_net.specs.TextNet.{body_of, AreFreeOf}
-use Rattle.in_net.proofs.Agents.{free_for}
-use Rattle.in_net.proofs.Frees.{length-free, free_joined}
-use Rattle.in_net.proofs.NetRead.{ends_in}
-use Rattle.in_net.proofs.Bodies.{net_ready, net_few}
-use Rattle.in_net.proofs.FirstFault.{no_fault}
-use Rattle.in_net.proofs.ReadFrom as read_from
-use Rattle.in_net.proofs.TextWires.{read, read_joined, read_none, is_text_net}
-use Rattle.in_net.proofs.GoodNets.{good}
+use Rattle.in_net.proofs.Texts.Agents.{free_for}
+use Rattle.in_net.proofs.WholeNets.Frees.{length-free, free_joined}
+use Rattle.in_net.proofs.Texts.NetRead.{ends_in}
+use Rattle.in_net.proofs.Texts.Bodies.{net_ready, net_few}
+use Rattle.in_net.proofs.Refusals.FirstFault.{no_fault}
+use Rattle.in_net.proofs.Texts.ReadFrom as read_from
+use Rattle.in_net.proofs.Wiring.TextWires.{read, read_joined, read_none, is_text_net}
+use Rattle.in_net.proofs.Refusals.GoodNets.{good}
 use Rattle.in_net.proofs.building.linked_net.Goals as goal
 
 pub free_ends-requires-clause-free : goal.free_ends-requires-clause-free

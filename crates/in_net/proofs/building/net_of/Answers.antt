@@ -2,9 +2,9 @@ use Rattle.std.proofs.Common.{◌∙◌, sym, subst, length}
 use Rattle.in_net.specs.Counting.{NamesInside}
 use Rattle.in_net.specs.NetFaults.{max_agents, of_names}
 use Rattle.in_net.specs.TextNet.{body_of}
-use Rattle.in_net.proofs.Bodies.{net_ready}
-use Rattle.in_net.proofs.Known.{net_known}
-use Rattle.in_net.proofs.FirstFault.{is_first, names_inside}
+use Rattle.in_net.proofs.Texts.Bodies.{net_ready}
+use Rattle.in_net.proofs.Texts.Known.{net_known}
+use Rattle.in_net.proofs.Refusals.FirstFault.{is_first, names_inside}
 use Rattle.in_net.proofs.building.net_of.Goals as goal
 
 pub first_fault-requires : goal.first_fault-requires

@@ -3,7 +3,7 @@ use Rattle.std.proofs.lemmas.List.Sorted.{IsNonDecreasingBy-from_sort_by_key}
 use Rattle.in_net.specs.declared.nets.Wire.{Wire}
 use Rattle.in_net.specs.Building.{wires_from}
 use Rattle.in_net.specs.Built.{AreListedOf}
-use Rattle.in_net.proofs.Steps.{one_wire}
+use Rattle.in_net.proofs.WholeNets.Steps.{one_wire}
 use Rattle.in_net.proofs.building.wires.Goals as goal
 
 pub loop-at-preserved : goal.loop-at-preserved

@@ -1,8 +1,8 @@
 use Rattle.std.proofs.Common.{◌∙◌, ◌+◌, sym, ap, length, drop, None}
 use Rattle.in_net.specs.Counting.{IsNameInside, counts_from}
 use Rattle.in_net.specs.Building.{no_spot, nth_spot}
-use Rattle.in_net.proofs.Links.{from_place, all_rest}
-use Rattle.in_net.proofs.Joins.{length-none_seen, length-counts_spot}
+use Rattle.in_net.proofs.Wiring.Links.{from_place, all_rest}
+use Rattle.in_net.proofs.Wiring.Joins.{length-none_seen, length-counts_spot}
 use Rattle.in_net.proofs.counting.counts.Goals as goal
 
 pub loop-at-init : goal.loop-at-init

@@ -1,4 +1,4 @@
-use Rattle.in_net.proofs.Joins.{one_unseen}
+use Rattle.in_net.proofs.Wiring.Joins.{one_unseen}
 use Rattle.in_net.proofs.counting.unseen.Goals as goal
 
 pub loop-preserved : goal.loop-preserved

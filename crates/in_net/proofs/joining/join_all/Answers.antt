@@ -2,8 +2,8 @@ use Rattle.std.proofs.Common.{◌≡◌, ◌∙◌, sym, ap, subst, length, arit
 use Rattle.std.specs.List.{AllByRecursion}
 use Rattle.in_net.specs.Counting.{NamesInside}
 use Rattle.in_net.specs.Joining.{JointsInside, self_links, with_joints, IsJoiningInside}
-use Rattle.in_net.proofs.Links.{length-self_links, length-with_joints, within_self, within_joints}
-use Rattle.in_net.proofs.Joins.{length-none_seen, none_inside}
+use Rattle.in_net.proofs.Wiring.Links.{length-self_links, length-with_joints, within_self, within_joints}
+use Rattle.in_net.proofs.Wiring.Joins.{length-none_seen, none_inside}
 use Rattle.in_net.proofs.joining.join_all.Goals as goal
 
 pub join_joints-requires-clause-joints : goal.join_joints-requires-clause-joints

@@ -1,6 +1,6 @@
 use Rattle.std.proofs.Common.{arith, length, ◌+◌, ◌<◌}
 use Rattle.in_net.specs.declared.reading.Joint.{Joint}
-use Rattle.in_net.proofs.Links.{all_here}
+use Rattle.in_net.proofs.Wiring.Links.{all_here}
 use Rattle.in_net.proofs.joining.join_joints.Goals as goal
 
 pub overflow_add-joint : goal.overflow_add-joint

@@ -2,8 +2,8 @@ use Rattle.std.proofs.Common.{◌∙◌, ◌+◌, sym, ap, subst, arith, length,
 use Rattle.in_net.specs.Counting.{IsNameInside}
 use Rattle.in_net.specs.Building.{no_spot, nth_spot}
 use Rattle.in_net.specs.Joining.{joins_from, IsJoiningInside}
-use Rattle.in_net.proofs.Links.{from_place, all_here, all_rest}
-use Rattle.in_net.proofs.Joins.{kept}
+use Rattle.in_net.proofs.Wiring.Links.{from_place, all_here, all_rest}
+use Rattle.in_net.proofs.Wiring.Joins.{kept}
 use Rattle.in_net.proofs.joining.join_names.Goals as goal
 
 pub loop-at-preserved : goal.loop-at-preserved

@@ -1,4 +1,4 @@
-use Rattle.in_net.proofs.Links.{one_more}
+use Rattle.in_net.proofs.Wiring.Links.{one_more}
 use Rattle.in_net.proofs.joining.unlinked.Goals as goal
 
 pub loop-to-preserved : goal.loop-to-preserved

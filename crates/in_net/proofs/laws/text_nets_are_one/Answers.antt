@@ -1,4 +1,4 @@
-use Rattle.in_net.proofs.OneNet.{one_net}
+use Rattle.in_net.proofs.WholeNets.OneNet.{one_net}
 use Rattle.in_net.proofs.laws.text_nets_are_one.Goals as goal
 
 pub returns : goal.returns

@@ -1,4 +1,4 @@
-use Rattle.in_net.proofs.OneNet.{is_net}
+use Rattle.in_net.proofs.WholeNets.OneNet.{is_net}
 use Rattle.in_net.proofs.laws.whole_parts_are_nets.Goals as goal
 
 pub returns : goal.returns

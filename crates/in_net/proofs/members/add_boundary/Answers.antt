@@ -2,7 +2,7 @@ use Rattle.std.proofs.Common.{◌≡◌, ◌∙◌, ◌+◌, ◌-◌, ◌++◌, 
 use Rattle.in_net.specs.Building.{partner_of, boundary_from}
 use Rattle.in_net.specs.declared.nets.FreeEnd.{FreeEnd}
 use Rattle.in_symbols.specs.Tables.{port_at}
-use Rattle.in_net.proofs.Frees.{one_boundary}
+use Rattle.in_net.proofs.WholeNets.Frees.{one_boundary}
 use Rattle.in_net.proofs.members.add_boundary.Goals as goal
 
 pub loop-place-preserved : goal.loop-place-preserved

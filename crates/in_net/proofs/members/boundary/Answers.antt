@@ -1,7 +1,7 @@
 use Rattle.std.proofs.Common.{◌≡◌, ◌∙◌, ◌+◌, ◌<◌, ◌++◌, length, ap, subst, arith}
 use Rattle.in_net.specs.Building.{nth_spot, IsPointSpot, boundary_of}
 use Rattle.in_symbols.specs.Tables.{arity_of}
-use Rattle.in_net.proofs.Frees.{length-boundary}
+use Rattle.in_net.proofs.WholeNets.Frees.{length-boundary}
 use Rattle.in_net.proofs.members.boundary.Goals as goal
 
 pub add_boundary-requires-2-clause-points : goal.add_boundary-requires-2-clause-points

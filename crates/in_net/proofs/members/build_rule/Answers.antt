@@ -1,7 +1,7 @@
 use Rattle.std.proofs.Common.{◌≡◌, ◌<◌, ℕ, List, length, get_or, sym, ◌∙◌, ap, slice_get, Some}
 use Rattle.std.proofs.lemmas.Option.{slice_get-get_or}
 use Rattle.in_syntax.specs.declared.tree.SourceRule.{SourceRule}
-use Rattle.in_net.proofs.Bodies.{readable}
+use Rattle.in_net.proofs.Texts.Bodies.{readable}
 use Rattle.in_net.proofs.members.build_rule.Goals as goal
 
 found : (rules items : List SourceRule) (i : ℕ) (r : SourceRule) → items ≡ rules → i < length rules → r ≡ get_or items i r → slice_get rules i ≡ Some r

@@ -4,11 +4,11 @@ use Rattle.in_net.specs.Joining.{JointsInside, joining_of}
 use Rattle.in_net.specs.NetFaults.{max_member_agents, of_wires}
 use Rattle.in_net.specs.Reading.{reading_of}
 use Rattle.in_net.specs.Rules.{body_of_rule, BuildsRuleOf}
-use Rattle.in_net.proofs.Bodies.{rule_ready}
-use Rattle.in_net.proofs.FirstFault.{no_fault, names_inside}
-use Rattle.in_net.proofs.ReadFrom as read_from
-use Rattle.in_net.proofs.TextWires.{read, read_closed, read_first}
-use Rattle.in_net.proofs.GoodRules.{good}
+use Rattle.in_net.proofs.Texts.Bodies.{rule_ready}
+use Rattle.in_net.proofs.Refusals.FirstFault.{no_fault, names_inside}
+use Rattle.in_net.proofs.Texts.ReadFrom as read_from
+use Rattle.in_net.proofs.Wiring.TextWires.{read, read_closed, read_first}
+use Rattle.in_net.proofs.Refusals.GoodRules.{good}
 use Rattle.in_net.proofs.members.joined_rule.Goals as goal
 
 pub join_all-requires-clause-joints : goal.join_all-requires-clause-joints

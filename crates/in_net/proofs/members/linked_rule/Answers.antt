@@ -9,13 +9,13 @@ use Rattle.in_net.specs.Built.{ArePointsAt, AreJoinedTo, IsReadFrom}
 use Rattle.in_net.specs.NetFaults.{max_member_agents}
 use Rattle.in_net.specs.Reading.{reading_of}
 use Rattle.in_net.specs.Rules.{body_of_rule, auxiliary_types}
-use Rattle.in_net.proofs.Bodies.{rule_ready}
-use Rattle.in_net.proofs.FirstFault.{no_fault}
-use Rattle.in_net.proofs.Frees.{length-boundary, boundary_joined, boundary_types, boundary_unnamed}
-use Rattle.in_net.proofs.NetRead.{ends_in}
-use Rattle.in_net.proofs.TextWires.{read_joined, read_none, is_text_net}
-use Rattle.in_net.proofs.FewAgents.{few_agents}
-use Rattle.in_net.proofs.GoodRules.{good, from, both_symbols, are_written, are_heads, count}
+use Rattle.in_net.proofs.Texts.Bodies.{rule_ready}
+use Rattle.in_net.proofs.Refusals.FirstFault.{no_fault}
+use Rattle.in_net.proofs.WholeNets.Frees.{length-boundary, boundary_joined, boundary_types, boundary_unnamed}
+use Rattle.in_net.proofs.Texts.NetRead.{ends_in}
+use Rattle.in_net.proofs.Wiring.TextWires.{read_joined, read_none, is_text_net}
+use Rattle.in_net.proofs.Refusals.FewAgents.{few_agents}
+use Rattle.in_net.proofs.Refusals.GoodRules.{good, from, both_symbols, are_written, are_heads, count}
 use Rattle.in_net.proofs.members.linked_rule.Goals as goal
 
 pub boundary-requires-clause-points : goal.boundary-requires-clause-points

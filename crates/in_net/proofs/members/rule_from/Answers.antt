@@ -2,8 +2,8 @@ use Rattle.std.proofs.Common.{◌∙◌, sym, subst, length}
 use Rattle.in_net.specs.Counting.{NamesInside}
 use Rattle.in_net.specs.NetFaults.{max_member_agents, of_names}
 use Rattle.in_net.specs.Rules.{body_of_rule}
-use Rattle.in_net.proofs.Bodies.{rule_ready}
-use Rattle.in_net.proofs.FirstFault.{is_first, names_inside}
+use Rattle.in_net.proofs.Texts.Bodies.{rule_ready}
+use Rattle.in_net.proofs.Refusals.FirstFault.{is_first, names_inside}
 use Rattle.in_net.proofs.members.rule_from.Goals as goal
 
 pub first_rule_fault-requires : goal.first_rule_fault-requires

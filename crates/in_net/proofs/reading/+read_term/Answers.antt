@@ -1,7 +1,7 @@
 use Rattle.std.proofs.Common.{◌∙◌, ap}
 use Rattle.in_syntax.specs.declared.tree.Term.{out-Term}
 use Rattle.in_symbols.specs.Tables.{symbol_numbered}
-use Rattle.in_net.proofs.Folds.{numbered, read_whole}
+use Rattle.in_net.proofs.Texts.Folds.{numbered, read_whole}
 use Rattle.in_net.proofs.reading.+read_term.Goals as goal
 
 pub returns : goal.returns

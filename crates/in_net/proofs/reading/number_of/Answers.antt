@@ -1,5 +1,5 @@
 use Rattle.std.proofs.Common.{◌∙◌, sym, ap, unwrap_or, length}
-use Rattle.in_net.proofs.Absent.{added}
+use Rattle.in_net.proofs.Texts.Absent.{added}
 use Rattle.in_net.proofs.reading.number_of.Goals as goal
 
 pub returns : goal.returns

@@ -1,4 +1,4 @@
-use Rattle.in_net.proofs.Rejoined.{none_rejoined, one_rejoined, rejoins}
+use Rattle.in_net.proofs.WholeNets.Rejoined.{none_rejoined, one_rejoined, rejoins}
 use Rattle.in_net.proofs.renewing.rejoin.Goals as goal
 
 pub loop-number-init : goal.loop-number-init

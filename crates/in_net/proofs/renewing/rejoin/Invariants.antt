@@ -1,4 +1,4 @@
-use Rattle.in_net.proofs.Rejoined.{AreRejoinedTo}
+use Rattle.in_net.proofs.WholeNets.Rejoined.{AreRejoinedTo}
 use Rattle.in_net.proofs.renewing.rejoin.Given as goal
 
 abbrev pub invariant-loop-number : goal.invariant-loop-number

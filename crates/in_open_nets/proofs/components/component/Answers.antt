@@ -3,9 +3,9 @@ use Rattle.in_open_nets.specs.Constructions.{IsIn}
 use Rattle.in_open_nets.specs.OpenNets.{open_graph}
 use Rattle.in_open_nets.specs.Members.{nodes_in}
 use Rattle.in_open_nets.specs.Parts.{IsReached}
-use Rattle.in_open_nets.proofs.Links.{link_last}
-use Rattle.in_open_nets.proofs.OkValues.{if_ok}
-use Rattle.in_open_nets.proofs.OnePiece.{piece_reached}
+use Rattle.in_open_nets.proofs.Reached.Links.{link_last}
+use Rattle.in_open_nets.proofs.Splits.OkValues.{if_ok}
+use Rattle.in_open_nets.proofs.Reached.OnePiece.{piece_reached}
 use Rattle.in_open_nets.proofs.components.component.Goals as goal
 
 pub narrowed-requires : goal.narrowed-requires

@@ -1,7 +1,7 @@
 use Rattle.std.proofs.Common.{◌∙◌, sym, subst}
-use Rattle.in_open_nets.specs.declared.open_nets.Point.TheVariants.{Port}
+use Rattle.in_open_nets.specs.declared.open_nets.OpenPoint.TheVariants.{Port}
 use Rattle.in_open_nets.specs.OpenNets.{IsWire}
-use Rattle.in_open_nets.proofs.Slots.{neighbour_free, neighbour_out}
+use Rattle.in_open_nets.proofs.PartsOf.Slots.{neighbour_free, neighbour_out}
 use Rattle.in_open_nets.proofs.components.neighbour.Goals as goal
 
 pub returns-else-has : goal.returns-else-has

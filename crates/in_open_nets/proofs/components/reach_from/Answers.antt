@@ -1,9 +1,9 @@
 use Rattle.std.proofs.Common.{arith, ◌≤◌, ◌<◌, ◌+◌, ◌∙◌, ◌∷◌, ◌++◌, [], drop, true, sym, subst, ap, refl, inl, inr}
 use Rattle.std.proofs.Math.ListN.{set}
 use Rattle.in_open_nets.specs.Stuck.{ports_of}
-use Rattle.in_open_nets.specs.Parts.{AreFound, IsSearch}
+use Rattle.in_open_nets.specs.Parts.{AreReachedNodes, IsSearch}
 use Rattle.in_open_nets.specs.Members.{missing}
-use Rattle.in_open_nets.proofs.Reaching.{drop_all, found_first, found_more, in_length, next_found, search_start, search_step, search_over, search_end}
+use Rattle.in_open_nets.proofs.Reached.Reaching.{drop_all, found_first, found_more, in_length, next_found, search_start, search_step, search_over, search_end}
 use Rattle.in_open_nets.proofs.components.reach_from.Goals as goal
 
 pub loop-place-init : goal.loop-place-init
@@ -19,9 +19,9 @@ loop-place-init c =
     record {
       search = subst (λ z. IsSearch o nodes from z c.push.new.self.items) (sym c.insert.ensures)
           (subst (λ z. IsSearch o nodes from (set none from true) z) (sym e)
-          (search_start o c.nodes-count.ensures.net.net nodes from c.requires.here none (set none from true) (from ∷ []) size small off (inr (off from, refl, refl))));
-      found = subst (λ z. AreFound z c.push.new.self.items) (sym c.insert.ensures)
-          (subst (AreFound (set none from true)) (sym e) (found_first none from off (omega arith)));
+          (search_start o c.nodes.ensures.net.net nodes from c.requires.here none (set none from true) (from ∷ []) size small off (inr (off from, refl, refl))));
+      found = subst (λ z. AreReachedNodes z c.push.new.self.items) (sym c.insert.ensures)
+          (subst (AreReachedNodes (set none from true)) (sym e) (found_first none from off (omega arith)));
     }
 
 pub spread-requires-clause-node : goal.spread-requires-clause-node
@@ -36,7 +36,7 @@ loop-place-preserved c =
     let o = c.args.part.now.wired.now in
     let nodes = c.args.part.now.nodes.now in
     let from = c.args.from in
-    let net = c.nodes-count.ensures.net.net in
+    let net = c.nodes.ensures.net.net in
     let here = c.requires.here in
     let found = c.loop-place.found.items in
     let place = c.loop-place.place in
@@ -59,7 +59,7 @@ returns-then-absent-clause-reached c =
     let nodes = c.args.part.now.nodes.now in
     let search = c.loop-place.invariant.search in
     let few : missing c.loop-place.reached ≤ missing nodes = let a = c.absent.ensures in let b = c.absent-in-loop-place.ensures in let f = c.if-absent.true in omega arith in
-    search_over o c.nodes-count.ensures.net.net nodes c.args.from c.requires.here c.loop-place.reached (drop c.loop-place.place c.loop-place.found.items) search (search.size ∙ sym c.args.part.now.size) few
+    search_over o c.nodes.ensures.net.net nodes c.args.from c.requires.here c.loop-place.reached (drop c.loop-place.place c.loop-place.found.items) search (search.size ∙ sym c.args.part.now.size) few
 
 pub returns-clause-reached : goal.returns-clause-reached
 returns-clause-reached c =
@@ -67,5 +67,5 @@ returns-clause-reached c =
     let nodes = c.args.part.now.nodes.now in
     let l = c.loop-place-test.false in
     let n = c.len.ensures in
-    search_end o c.nodes-count.ensures.net.net nodes c.args.from c.requires.here c.loop-place.reached
+    search_end o c.nodes.ensures.net.net nodes c.args.from c.requires.here c.loop-place.reached
     (subst (λ z. IsSearch o nodes c.args.from c.loop-place.reached z) (drop_all c.loop-place.place c.loop-place.found.items (omega arith)) c.loop-place.invariant.search)

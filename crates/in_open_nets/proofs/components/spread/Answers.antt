@@ -1,8 +1,8 @@
 use Rattle.std.proofs.Common.{◌+◌, ◌++◌, ◌∷◌, [], true, ◌∙◌, sym, subst, ap}
 use Rattle.std.proofs.Math.ListN.{set}
-use Rattle.in_open_nets.specs.declared.open_nets.Point.TheVariants.{Port}
-use Rattle.in_open_nets.specs.OpenNets.{IsPointOf, IsWire}
-use Rattle.in_open_nets.proofs.Spreading.{over_same, over_new, over_old, over_out, over_free}
+use Rattle.in_open_nets.specs.declared.open_nets.OpenPoint.TheVariants.{Port}
+use Rattle.in_open_nets.specs.OpenNets.{IsOpenPoint, IsWire}
+use Rattle.in_open_nets.proofs.Reached.Spreading.{over_same, over_new, over_old, over_out, over_free}
 use Rattle.in_open_nets.proofs.components.spread.Goals as goal
 use Rattle.in_open_nets.proofs.components.spread.Goals.{in_default-Port+then-not-has+then-has+in_ok-push-in_default-Port, in_default-Port+else-not-has, else-not-has-via-then-not-has+else-has, else-not-has-via-else-not-has, in_default-Free}
 
@@ -26,14 +26,14 @@ loop-port-preserved c =
           let l = w.in_default-Port.near in
           let j = w.in_default-Port.field-1-1 in
           over_same o nodes n (b + 1) r q (set r' l true) (q' ++ l ∷ []) m.reached m.found.items (w.reached-is ∙ w.insert.ensures) (ap (λ z. z.items) w.found-is ∙ w.in_ok-push-in_default-Port.ensures.items)
-          (over_new o e.net nodes n b r q c.requires.reached r' q' i v l j (subst (λ z. IsWire o v p z) w.in_default-Port.is-1 e.wire) (subst (IsPointOf o) w.in_default-Port.is-1 e.point) (sym w.has.ensures ∙ w.if-not-has.true) (sym w.has-then-not-has.ensures ∙ w.if-has.true))
+          (over_new o e.net nodes n b r q c.requires.reached r' q' i v l j (subst (λ z. IsWire o v p z) w.in_default-Port.is-1 e.wire) (subst (IsOpenPoint o) w.in_default-Port.is-1 e.point) (sym w.has.ensures ∙ w.if-not-has.true) (sym w.has-then-not-has.ensures ∙ w.if-has.true))
       | in_default-Port+else-not-has w ↦
           let l = w.in_default-Port.near in
           let j = w.in_default-Port.field-1-1 in
           let wire = subst (λ z. IsWire o v p z) w.in_default-Port.is-1 e.wire in
           over_same o nodes n (b + 1) r q r' q' m.reached m.found.items w.reached-is (ap (λ z. z.items) w.found-is) (elim w.else-not-has.branch [
             | else-not-has-via-then-not-has+else-has x ↦ over_out o e.net nodes n b r q c.requires.reached r' q' i v l j wire (sym x.has-then-not-has.ensures ∙ x.if-has.false)
-            | else-not-has-via-else-not-has x ↦ over_old o e.net nodes n b r q c.requires.reached r' q' i v l j wire (subst (IsPointOf o) w.in_default-Port.is-1 e.point) (sym w.has.ensures ∙ x.if-not-has.false)
+            | else-not-has-via-else-not-has x ↦ over_old o e.net nodes n b r q c.requires.reached r' q' i v l j wire (subst (IsOpenPoint o) w.in_default-Port.is-1 e.point) (sym w.has.ensures ∙ x.if-not-has.false)
           ])
       | in_default-Free w ↦
           over_same o nodes n (b + 1) r q r' q' m.reached m.found.items w.reached-is (ap (λ z. z.items) w.found-is)

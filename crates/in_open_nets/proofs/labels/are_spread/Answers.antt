@@ -1,9 +1,9 @@
 use Rattle.std.proofs.Common.{◌≡◌, ◌<◌, ◌∙◌, ℕ, length, sym, subst, arith}
 use Rattle.in_open_nets.specs.Members.{nodes_in}
 use Rattle.in_open_nets.specs.Tries.{LabelSpreads}
-use Rattle.in_open_nets.proofs.Members.{holds_all, holds_next, next_in, past}
-use Rattle.in_open_nets.proofs.Reaching.{in_length}
-use Rattle.in_open_nets.proofs.Tried.{spread_none, spread_some}
+use Rattle.in_open_nets.proofs.PartsOf.Members.{holds_all, holds_next, next_in, past}
+use Rattle.in_open_nets.proofs.Reached.Reaching.{in_length}
+use Rattle.in_open_nets.proofs.Splits.Tried.{spread_none, spread_some}
 use Rattle.in_open_nets.proofs.labels.are_spread.Goals as goal
 use Rattle.in_open_nets.proofs.labels.are_spread.Goals.{in-Some+else-not-is_spread, in_default}
 

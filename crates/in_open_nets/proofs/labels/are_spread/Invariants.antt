@@ -1,6 +1,6 @@
 use Rattle.std.proofs.Common.{◌<◌, ℕ}
 use Rattle.in_open_nets.specs.Tries.{LabelSpreads}
-use Rattle.in_open_nets.proofs.Members.{past}
+use Rattle.in_open_nets.proofs.PartsOf.Members.{past}
 use Rattle.in_open_nets.proofs.labels.are_spread.Given as goal
 
 abbrev pub invariant-loop-node : goal.invariant-loop-node

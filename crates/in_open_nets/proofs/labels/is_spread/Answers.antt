@@ -1,7 +1,7 @@
 use Rattle.std.proofs.Common.{◌≡◌, subst, arith}
 use Rattle.in_open_nets.specs.Stuck.{ports_of}
 use Rattle.in_open_nets.specs.Tries.{AreLabelled}
-use Rattle.in_open_nets.proofs.Tried.{labelled_past, labelled_more}
+use Rattle.in_open_nets.proofs.Splits.Tried.{labelled_past, labelled_more}
 use Rattle.in_open_nets.proofs.labels.is_spread.Goals as goal
 use Rattle.in_open_nets.proofs.labels.is_spread.Goals.{in-Some+else-near-candidate, else-near-candidate-via-then-near-candidate+else-not-has, else-near-candidate-via-else-near-candidate, in_default}
 

@@ -1,7 +1,7 @@
 use Rattle.std.proofs.Common.{◌≡◌, sym, subst, inl, inr, arith}
 use Rattle.in_open_nets.specs.Stuck.{ports_of}
 use Rattle.in_open_nets.specs.Tries.{LeadsToLabel, LeadToLabels}
-use Rattle.in_open_nets.proofs.Links.{same_nat}
+use Rattle.in_open_nets.proofs.Reached.Links.{same_nat}
 use Rattle.in_open_nets.proofs.labels.lead_to_labels.Goals as goal
 
 pub loop-port-preserved : goal.loop-port-preserved

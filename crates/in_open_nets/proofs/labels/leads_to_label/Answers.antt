@@ -1,10 +1,10 @@
 use Rattle.std.proofs.Common.{◌≡◌, ◌∙◌, sym, subst, eqb-true}
-use Rattle.in_open_nets.specs.declared.open_nets.Point.TheVariants.{Port}
+use Rattle.in_open_nets.specs.declared.open_nets.OpenPoint.TheVariants.{Port}
 use Rattle.in_open_nets.specs.OpenNets.{IsWire, class_in}
 use Rattle.in_open_nets.specs.Members.{nodes_in}
 use Rattle.in_open_nets.specs.Tries.{HasLabel}
-use Rattle.in_open_nets.proofs.Sums.{not_both}
-use Rattle.in_open_nets.proofs.Tried.{leads_own, leads_other, leads_free}
+use Rattle.in_open_nets.proofs.PartsOf.Sums.{not_both}
+use Rattle.in_open_nets.proofs.Splits.Tried.{leads_own, leads_other, leads_free}
 use Rattle.in_open_nets.proofs.labels.leads_to_label.Goals as goal
 
 pub returns-then-near-candidate : goal.returns-then-near-candidate

@@ -1,4 +1,4 @@
-use Rattle.in_open_nets.proofs.Tried.{labels_split}
+use Rattle.in_open_nets.proofs.Splits.Tried.{labels_split}
 use Rattle.in_open_nets.proofs.labels.show_splitting.Goals as goal
 
 pub returns-then-leads : goal.returns-then-leads

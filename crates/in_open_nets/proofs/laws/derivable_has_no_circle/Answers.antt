@@ -1,4 +1,4 @@
-use Rattle.in_open_nets.proofs.Both.{derivable_no_circle}
+use Rattle.in_open_nets.proofs.Built.Both.{derivable_no_circle}
 use Rattle.in_open_nets.proofs.laws.derivable_has_no_circle.Goals as goal
 
 pub returns : goal.returns

@@ -1,4 +1,4 @@
-use Rattle.in_open_nets.proofs.OneAnswer.{same_members}
+use Rattle.in_open_nets.proofs.Splits.OneAnswer.{same_members}
 use Rattle.in_open_nets.proofs.laws.set_is_its_members.Goals as goal
 
 pub returns : goal.returns

@@ -1,4 +1,4 @@
-use Rattle.in_open_nets.proofs.ClassWays.{net_off_rings}
+use Rattle.in_open_nets.proofs.Graphs.ClassWays.{net_off_rings}
 use Rattle.in_open_nets.proofs.laws.splits_off_rings.Goals as goal
 
 pub returns : goal.returns

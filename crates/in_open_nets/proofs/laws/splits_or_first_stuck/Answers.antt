@@ -1,4 +1,4 @@
-use Rattle.in_open_nets.proofs.Both.{splits_or_first_stuck}
+use Rattle.in_open_nets.proofs.Built.Both.{splits_or_first_stuck}
 use Rattle.in_open_nets.proofs.laws.splits_or_first_stuck.Goals as goal
 
 pub returns : goal.returns

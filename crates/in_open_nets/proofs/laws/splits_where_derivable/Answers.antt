@@ -1,4 +1,4 @@
-use Rattle.in_open_nets.proofs.Both.{derivable_splits, splits_derivable}
+use Rattle.in_open_nets.proofs.Built.Both.{derivable_splits, splits_derivable}
 use Rattle.in_open_nets.proofs.laws.splits_where_derivable.Goals as goal
 
 pub returns : goal.returns

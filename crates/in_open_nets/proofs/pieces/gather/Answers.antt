@@ -1,8 +1,8 @@
 use Rattle.std.proofs.Common.{arith, ◌<◌, ◌+◌, ◌∙◌, ◌∷◌, ◌++◌, [], drop, true, sym, subst, ap, refl, inl, inr}
 use Rattle.std.proofs.Math.ListN.{set}
 use Rattle.in_open_nets.specs.Parts.{IsSearch}
-use Rattle.in_open_nets.proofs.OnePiece.{search_together}
-use Rattle.in_open_nets.proofs.Reaching.{in_length, next_found, search_start, search_step}
+use Rattle.in_open_nets.proofs.Reached.OnePiece.{search_together}
+use Rattle.in_open_nets.proofs.Reached.Reaching.{in_length, next_found, search_start, search_step}
 use Rattle.in_open_nets.proofs.pieces.gather.Goals as goal
 
 pub loop-place-init : goal.loop-place-init
@@ -17,7 +17,7 @@ loop-place-init c =
     let e = c.in_ok-push.ensures.items ∙ ap (λ z. z ++ from ∷ []) c.new-found.ensures.items in
     subst (λ z. IsSearch o nodes from z c.push.new.self.items) (sym c.insert.ensures)
     (subst (λ z. IsSearch o nodes from (set none from true) z) (sym e)
-    (search_start o c.nodes-count.ensures.net.net nodes from c.requires.here none (set none from true) (from ∷ []) size small off (inr (off from, refl, refl))))
+    (search_start o c.nodes.ensures.net.net nodes from c.requires.here none (set none from true) (from ∷ []) size small off (inr (off from, refl, refl))))
 
 pub spread-requires-clause-node : goal.spread-requires-clause-node
 spread-requires-clause-node c =
@@ -38,7 +38,7 @@ loop-place-preserved c =
     let n = c.len.ensures in
     let e = next_found found place node (omega arith) c.index-node.ensures in
     let r = c.loop-place.these in
-    search_step o c.nodes-count.ensures.net.net nodes from c.requires.here node r (drop (place + 1) found) c.spread.new.reached (drop (place + 1) c.spread.new.found.items)
+    search_step o c.nodes.ensures.net.net nodes from c.requires.here node r (drop (place + 1) found) c.spread.new.reached (drop (place + 1) c.spread.new.found.items)
     (subst (IsSearch o nodes from r) e c.loop-place.invariant) (c.in_ok-spread.ensures.spreads.each (place + 1) (omega arith))
 
 pub returns-then-len-enough-clause-together : goal.returns-then-len-enough-clause-together

@@ -1,7 +1,7 @@
 use Rattle.std.proofs.Common.{◌∙◌, inl, inr, sym, subst, arith}
 use Rattle.in_open_nets.specs.Pieces.{IsMetAt}
-use Rattle.in_open_nets.proofs.Links.{same_nat}
-use Rattle.in_open_nets.proofs.OnePiece.{neighbours_joined}
+use Rattle.in_open_nets.proofs.Reached.Links.{same_nat}
+use Rattle.in_open_nets.proofs.Reached.OnePiece.{neighbours_joined}
 use Rattle.in_open_nets.proofs.pieces.joins_all.Goals as goal
 
 pub loop-port-preserved : goal.loop-port-preserved
@@ -30,4 +30,4 @@ returns-clause-joined c t =
     let i = c.loop-port.invariant in
     let end = c.ports-port-end.ensures.ports in
     let over = c.loop-port-test.false in
-    neighbours_joined o nodes c.nodes-count.ensures.net.net n c.loop-port.these (λ k l. i.met k (omega arith)) i.together
+    neighbours_joined o nodes c.nodes.ensures.net.net n c.loop-port.these (λ k l. i.met k (omega arith)) i.together

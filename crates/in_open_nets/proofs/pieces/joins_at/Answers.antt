@@ -4,7 +4,7 @@ use Rattle.in_open_nets.specs.Constructions.{IsIn}
 use Rattle.in_open_nets.specs.Pieces.{AreTogether}
 use Rattle.in_open_nets.specs.Parts.{IsNeighbour}
 use Rattle.in_open_nets.specs.Members.{nodes_in}
-use Rattle.in_open_nets.proofs.OnePiece.{met_here, met_none, together_inside, together_more}
+use Rattle.in_open_nets.proofs.Reached.OnePiece.{met_here, met_none, together_inside, together_more}
 use Rattle.in_open_nets.proofs.pieces.joins_at.Goals as goal
 
 pub returns-then-has-clause-met : goal.returns-then-has-clause-met
@@ -12,7 +12,7 @@ returns-then-has-clause-met c t =
     let o = c.args.part.now.wired.now in
     let nodes = c.args.part.now.nodes.now in
     let h = subst (IsNeighbour o nodes c.args.node c.args.port) c.in-Some.is c.neighbour.ensures in
-    met_here o nodes c.args.node c.args.port c.args.these.now c.nodes-count.ensures.net.net c.in-Some.near h (sym c.has.ensures ∙ c.if-has.true)
+    met_here o nodes c.args.node c.args.port c.args.these.now c.nodes.ensures.net.net c.in-Some.near h (sym c.has.ensures ∙ c.if-has.true)
 
 pub meets-requires-clause-within : goal.meets-requires-clause-within
 meets-requires-clause-within c = together_inside c.args.part.now.wired.now c.args.part.now.nodes.now c.args.these.now c.requires.together
@@ -34,7 +34,7 @@ returns-then-met-clause-met c t =
     let h = subst (IsNeighbour o nodes c.args.node c.args.port) c.in-Some.is c.neighbour.ensures in
     let small = h.4 in
     let size = c.requires.these in
-    met_here o nodes c.args.node c.args.port c.insert.new.self c.nodes-count.ensures.net.net near h
+    met_here o nodes c.args.node c.args.port c.insert.new.self c.nodes.ensures.net.net near h
     (subst (λ z. IsIn near (nodes_in z)) (sym c.insert.ensures) (get_or-set_same c.args.these.now near true false (omega arith)))
 
 pub returns-in-None-clause-met : goal.returns-in-None-clause-met

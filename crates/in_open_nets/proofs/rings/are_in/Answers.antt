@@ -3,7 +3,7 @@ use Rattle.std.proofs.lemmas.List.{take_more}
 use Rattle.in_open_nets.specs.Constructions.{IsIn}
 use Rattle.in_open_nets.specs.Members.{nodes_in}
 use Rattle.in_open_nets.specs.Stuck.{Among}
-use Rattle.in_open_nets.proofs.Reaching.{among_cases}
+use Rattle.in_open_nets.proofs.Reached.Reaching.{among_cases}
 use Rattle.in_open_nets.proofs.rings.are_in.Goals as goal
 
 pub loop-node-preserved : goal.loop-node-preserved

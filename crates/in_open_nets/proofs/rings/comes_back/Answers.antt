@@ -1,11 +1,11 @@
 use Rattle.std.proofs.Common.{◌≡◌, ◌∙◌, ℕ, nat_eq, ap, sym, subst, eq-eqb, inl, inr, Some}
 use Rattle.std.specs.Bool.{IsTrue}
 use Rattle.std.specs.Prelude.{not}
-use Rattle.in_open_nets.specs.OpenNets.{IsPointOf}
+use Rattle.in_open_nets.specs.OpenNets.{IsOpenPoint}
 use Rattle.in_open_nets.specs.Tries.{AreIn}
-use Rattle.in_open_nets.proofs.Reaching.{among_left, among_last}
-use Rattle.in_open_nets.proofs.Slots.{place}
-use Rattle.in_open_nets.proofs.Tried.{walk_on, walk_back}
+use Rattle.in_open_nets.proofs.Reached.Reaching.{among_left, among_last}
+use Rattle.in_open_nets.proofs.PartsOf.Slots.{place}
+use Rattle.in_open_nets.proofs.Splits.Tried.{walk_on, walk_back}
 use Rattle.in_open_nets.proofs.rings.comes_back.Goals as goal
 use Rattle.in_open_nets.proofs.rings.comes_back.Goals.{in-Some, in-None}
 
@@ -26,7 +26,7 @@ loop-step-preserved c =
     let o = c.args.wired.now in
     let near = c.in_default-Port.near in
     let k = c.in_default-Port.place in (
-      (place o c.partner.ensures.net near k (subst (IsPointOf o) c.in_default-Port.is-1 c.partner.ensures.point)).0,
+      (place o c.partner.ensures.net near k (subst (IsOpenPoint o) c.in_default-Port.is-1 c.partner.ensures.point)).0,
       λ part inside.
           let all = subst (AreIn part) c.in_ok-push-in_default-Port.ensures.ok inside in
           walk_on o part c.args.from c.loop-step.begun c.loop-step.at _ c.partner.result.0 near k c.match-begun.class c.partner.result.1 (c.loop-step.invariant.1 part (λ m a. all m (among_left c.loop-step.nodes m near a))) c.partner.ensures.wire

@@ -1,8 +1,8 @@
 use Rattle.std.proofs.Common.{◌∙◌, Some, subst, ap, arith}
 use Rattle.in_open_nets.specs.Members.{nodes_in}
 use Rattle.in_open_nets.specs.Tries.{IsTried}
-use Rattle.in_open_nets.proofs.FirstMembers.{first_next, next_small, none_next, none_splits}
-use Rattle.in_open_nets.proofs.Members.{next_in}
+use Rattle.in_open_nets.proofs.PartsOf.FirstMembers.{first_next, next_small, none_next, none_splits}
+use Rattle.in_open_nets.proofs.PartsOf.Members.{next_in}
 use Rattle.in_open_nets.proofs.splitting.first_by_trials.Goals as goal
 
 pub invariant_of-candidate : goal.invariant_of-candidate

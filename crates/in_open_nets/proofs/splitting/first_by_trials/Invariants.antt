@@ -1,5 +1,5 @@
 use Rattle.std.proofs.Common.{◌≡◌}
-use Rattle.in_open_nets.proofs.Members.{past}
+use Rattle.in_open_nets.proofs.PartsOf.Members.{past}
 use Rattle.in_open_nets.specs.Parts.{NoneSplits}
 use Rattle.in_open_nets.proofs.splitting.first_by_trials.Given as goal
 

@@ -1,6 +1,6 @@
 use Rattle.std.proofs.Common.{arith}
-use Rattle.in_open_nets.proofs.FirstMembers.{first_next, next_small, none_next, none_splits}
-use Rattle.in_open_nets.proofs.Sums.{not_both}
+use Rattle.in_open_nets.proofs.PartsOf.FirstMembers.{first_next, next_small, none_next, none_splits}
+use Rattle.in_open_nets.proofs.PartsOf.Sums.{not_both}
 use Rattle.in_open_nets.proofs.splitting.first_off_rings.Goals as goal
 
 pub splits-requires-clause-node : goal.splits-requires-clause-node

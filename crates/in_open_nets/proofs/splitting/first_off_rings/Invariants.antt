@@ -1,4 +1,4 @@
-use Rattle.in_open_nets.proofs.Members.{past}
+use Rattle.in_open_nets.proofs.PartsOf.Members.{past}
 use Rattle.in_open_nets.specs.Parts.{NoneSplits}
 use Rattle.in_open_nets.proofs.splitting.first_off_rings.Given as goal
 

@@ -1,8 +1,8 @@
 use Rattle.std.proofs.Common.{◌∙◌, ◌<◌, sym, subst}
 use Rattle.in_open_nets.specs.Members.{nodes_in}
 use Rattle.in_open_nets.specs.ClassEdges.{vertex_in, hub_edge_in}
-use Rattle.in_open_nets.proofs.ClassWays.{net_off_rings}
-use Rattle.in_open_nets.proofs.ClassEdges.{hub_edge_small, off_rings}
+use Rattle.in_open_nets.proofs.Graphs.ClassWays.{net_off_rings}
+use Rattle.in_open_nets.proofs.Graphs.ClassEdges.{hub_edge_small, off_rings}
 use Rattle.in_open_nets.proofs.splitting.splits.Goals as goal
 
 pub is_off_rings-requires-clause-edges : goal.is_off_rings-requires-clause-edges

@@ -1,7 +1,7 @@
 use Rattle.std.proofs.Common.{◌≡◌, ◌∙◌, ◌+◌, sym, subst, arith}
 use Rattle.in_open_nets.specs.Parts.{AreOfClass}
 use Rattle.in_open_nets.specs.Stuck.{ports_of}
-use Rattle.in_open_nets.proofs.SplittingPorts.{class_past, class_met, one_class}
+use Rattle.in_open_nets.proofs.Splits.SplittingPorts.{class_past, class_met, one_class}
 use Rattle.in_open_nets.proofs.splitting.touches_by_one_class.Goals as goal
 use Rattle.in_open_nets.proofs.splitting.touches_by_one_class.Goals.{then-is_some+else-unwrap_or-class, else-is_some}
 

@@ -1,6 +1,6 @@
 use Rattle.std.proofs.Common.{◌≡◌, ◌+◌, ◌∙◌, length, ap, sym, subst, inl, inr, arith}
 use Rattle.in_open_nets.specs.Parts.{AreLed, HasSlot, led}
-use Rattle.in_open_nets.proofs.Slots.{has_slot, length_led, led_nothing, led_more, wire_read}
+use Rattle.in_open_nets.proofs.PartsOf.Slots.{has_slot, length_led, led_nothing, led_more, wire_read}
 use Rattle.in_open_nets.proofs.wired.slots.Goals as goal
 
 pub loop-wire-init : goal.loop-wire-init

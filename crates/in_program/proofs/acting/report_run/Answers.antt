@@ -1,5 +1,5 @@
 use Rattle.std.proofs.Common.{refl}
-use Rattle.in_words.specs.declared.action.Action.TheVariants.{Run}
+use Rattle.in_command_line.specs.declared.action.Action.TheVariants.{Run}
 use Rattle.in_program.specs.Acting.{unread}
 use Rattle.in_program.proofs.Told.{tells_reply, wants_memory}
 use Rattle.in_program.proofs.acting.report_run.Goals as goal

@@ -1,4 +1,4 @@
-use Rattle.in_words.specs.declared.action.Action.TheVariants.{Run}
+use Rattle.in_command_line.specs.declared.action.Action.TheVariants.{Run}
 use Rattle.in_program.specs.Acting.{accepted, refused}
 use Rattle.in_program.proofs.AnyOrder.{replied}
 use Rattle.in_program.proofs.Told.{told_as}

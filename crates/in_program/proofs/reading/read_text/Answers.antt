@@ -1,7 +1,7 @@
 use Rattle.std.proofs.Common.{◌≤◌, ◌++◌, take, length-append, sym, ap, subst, ◌∙◌, arith}
 use Rattle.std.specs.Io.KnownBytes.{append_known}
 use Rattle.in_syntax.specs.Streams.{one_more}
-use Rattle.in_print.proofs.Fronts.{append_known-twice}
+use Rattle.in_print.proofs.Public.{append_known-twice}
 use Rattle.in_program.proofs.Known.{counted}
 use Rattle.in_program.proofs.reading.read_text.Goals as goal
 

@@ -4,7 +4,7 @@ use Rattle.in_arena.specs.Arenas.{ArenaView, changed, state_at}
 use Rattle.in_arena.specs.States.{Vacant, IsLive}
 use Rattle.in_joining.specs.Between.{IsReady}
 use Rattle.in_joining.specs.Cells.{KeepsCells}
-use Rattle.in_compile.specs.Members.{IsSound}
+use Rattle.in_compile.specs.Members.{IsSoundMember}
 use Rattle.in_reducer.specs.Interacting.{interaction_of}
 use Rattle.in_reducer.proofs.SetUp as ready
 use Rattle.in_reducer.proofs.StillNet as still
@@ -24,7 +24,7 @@ set_sides-requires-clause-joints c =
     let a = c.requires.beside.1.0 in
     let about = c.requires.beside.1.1 in
     let put = c.requires.beside.1.2 in
-    let sound = subst IsSound c.member.ensures c.is_sound.ensures in
+    let sound = subst IsSoundMember c.member.ensures c.is_sound.ensures in
     ready.has_joint c.args.symbols.now s c.args.template.now c.args.pair c.args.own a c.args.ends.now about c.args.placed.now.cells c.args.arena.now put sound
 
 pub retire-requires : goal.retire-requires

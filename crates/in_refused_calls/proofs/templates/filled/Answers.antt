@@ -1,5 +1,5 @@
 use Rattle.in_compile.specs.Cells.{count_of}
-use Rattle.in_compile.proofs.Back.{all_back}
+use Rattle.in_compile.proofs.Public.{all_back}
 use Rattle.in_refused_calls.proofs.templates.filled.Goals as goal
 
 pub returns-in-Ok : goal.returns-in-Ok

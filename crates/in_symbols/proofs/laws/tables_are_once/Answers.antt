@@ -1,4 +1,4 @@
-use Rattle.in_syntax.proofs.SourcePlaces.{texts_begin_apart}
+use Rattle.in_syntax.proofs.Public.{texts_begin_apart}
 use Rattle.in_symbols.proofs.OneTables.{one_tables}
 use Rattle.in_symbols.proofs.laws.tables_are_once.Goals as goal
 

@@ -1,6 +1,6 @@
 use Rattle.std.proofs.Common.{sym, ◌∙◌, ap, ◌++◌}
 use Rattle.std.specs.Char.{encode_utf8}
-use Rattle.in_syntax.proofs.Cursors.{begins_with}
+use Rattle.in_syntax.proofs.Lexing.Cursors.{begins_with}
 use Rattle.in_syntax.proofs.characters.first_char.Goals as goal
 
 pub returns : goal.returns

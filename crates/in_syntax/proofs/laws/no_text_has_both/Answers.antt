@@ -1,4 +1,4 @@
-use Rattle.in_syntax.proofs.TextLaws.{not_both}
+use Rattle.in_syntax.proofs.Lexing.TextLaws.{not_both}
 use Rattle.in_syntax.proofs.laws.no_text_has_both.Goals as goal
 
 pub returns : goal.returns

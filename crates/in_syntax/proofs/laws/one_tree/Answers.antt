@@ -1,4 +1,4 @@
-use Rattle.in_syntax.proofs.Outcomes as outcomes
+use Rattle.in_syntax.proofs.Grammar.Outcomes as outcomes
 use Rattle.in_syntax.proofs.laws.one_tree.Goals as goal
 
 pub returns : goal.returns

@@ -1,4 +1,4 @@
-use Rattle.in_syntax.proofs.Prefixes as laws
+use Rattle.in_syntax.proofs.Grammar.Prefixes as laws
 use Rattle.in_syntax.proofs.laws.prefixes_begin.Goals as goal
 
 pub returns : goal.returns

@@ -1,4 +1,4 @@
-use Rattle.in_syntax.proofs.TextLaws.{tokens_or_fault}
+use Rattle.in_syntax.proofs.Lexing.TextLaws.{tokens_or_fault}
 use Rattle.in_syntax.proofs.laws.texts_have_tokens_or_fault.Goals as goal
 
 pub returns : goal.returns

@@ -1,4 +1,4 @@
-use Rattle.in_syntax.proofs.TextLaws.{tokens_unique}
+use Rattle.in_syntax.proofs.Lexing.TextLaws.{tokens_unique}
 use Rattle.in_syntax.proofs.laws.tokens_are_unique.Goals as goal
 
 pub returns : goal.returns

@@ -2,7 +2,7 @@ use Rattle.std.proofs.Common.{◌≡◌, ℕ, List, ap, sym, ◌∙◌}
 use Rattle.std.specs.Str.{chars, encode_utf8_all}
 use Rattle.std.specs.Char.{encode_utf8}
 use Rattle.std.proofs.lemmas.Str.{encodes-chars}
-use Rattle.in_syntax.proofs.Lexemes.{word_kind-name}
+use Rattle.in_syntax.proofs.Lexing.Lexemes.{word_kind-name}
 use Rattle.in_syntax.specs.Tokens.{word_kind}
 use Rattle.in_syntax.proofs.lexer.kind_of_word.Goals as goal
 

@@ -1,5 +1,5 @@
 use Rattle.std.proofs.Common.{sym, ◌∙◌}
-use Rattle.in_syntax.proofs.Moves.{blank_goes}
+use Rattle.in_syntax.proofs.Lexing.Moves.{blank_goes}
 use Rattle.in_syntax.proofs.lexer.next.Goals as goal
 
 pub returns-then-is_blank : goal.returns-then-is_blank

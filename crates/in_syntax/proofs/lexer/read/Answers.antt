@@ -5,7 +5,7 @@ use Rattle.std.proofs.lemmas.List.{append-nil}
 use Rattle.in_syntax.specs.Places.{start}
 use Rattle.in_syntax.specs.Tokens.{Reads, ends, goes_on, here, later}
 use Rattle.in_syntax.specs.Cursors.{RefusedBy, IsStopOf}
-use Rattle.in_syntax.proofs.TokenSteps.{passes_end}
+use Rattle.in_syntax.proofs.Lexing.TokenSteps.{passes_end}
 use Rattle.in_syntax.proofs.lexer.read.Goals as goal
 
 pub returns-in-End-clause-tokens : goal.returns-in-End-clause-tokens

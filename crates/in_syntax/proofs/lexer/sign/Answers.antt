@@ -1,7 +1,7 @@
 use Rattle.std.proofs.Common.{inl, inr, ◌==◌, sym, ◌∙◌, subst}
 use Rattle.std.proofs.lemmas.Bool.{ne_eqb}
 use Rattle.in_syntax.specs.Cursors.{FirstFails}
-use Rattle.in_syntax.proofs.Moves.{mark_goes, meets_goes, sign_wrong}
+use Rattle.in_syntax.proofs.Lexing.Moves.{mark_goes, meets_goes, sign_wrong}
 use Rattle.in_syntax.proofs.lexer.sign.Goals as goal
 use Rattle.in_syntax.proofs.lexer.sign.Goals.{then-first-eq62+in-Some-first_char+else-second-eq60, then-first-eq62+in_default-first_char, else-first-eq62}
 

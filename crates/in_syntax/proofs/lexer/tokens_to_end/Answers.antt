@@ -2,8 +2,8 @@ use Rattle.std.proofs.Common.{sym, subst}
 use Rattle.std.proofs.lemmas.Result.{err_from_is_err_and}
 use Rattle.in_syntax.specs.Tokens.{IsTokenFault, long_text}
 use Rattle.in_syntax.specs.Cursors.{RefusedBy}
-use Rattle.in_syntax.proofs.TokenSteps.{stop_is_fault, end_is_fault, end_is_whole}
-use Rattle.in_syntax.proofs.Standing.{tokens_stand}
+use Rattle.in_syntax.proofs.Lexing.TokenSteps.{stop_is_fault, end_is_fault, end_is_whole}
+use Rattle.in_syntax.proofs.Lexing.Standing.{tokens_stand}
 use Rattle.in_syntax.proofs.lexer.tokens_to_end.Goals as goal
 
 pub returns-then-text-gt-MAX_TEXT_BYTES-clause-fault : goal.returns-then-text-gt-MAX_TEXT_BYTES-clause-fault

@@ -1,7 +1,7 @@
 use Rattle.std.proofs.Common.{◌≡◌, ◌-◌, take, length, arith, ◌∙◌, ap}
 use Rattle.std.specs.Str.{chars}
 use Rattle.in_syntax.specs.Tokens.{word_kind}
-use Rattle.in_syntax.proofs.Moves.{word_goes, word_wrong, boundary, chars_front}
+use Rattle.in_syntax.proofs.Lexing.Moves.{word_goes, word_wrong, boundary, chars_front}
 use Rattle.in_syntax.proofs.lexer.word.Goals as goal
 
 pub returns-then-count-gt-MAX_NAME_CHARACTERS : goal.returns-then-count-gt-MAX_NAME_CHARACTERS

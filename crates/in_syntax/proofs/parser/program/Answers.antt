@@ -1,5 +1,5 @@
-use Rattle.in_syntax.proofs.Continues.{noted}
-use Rattle.in_syntax.proofs.Outcomes.{parsing}
+use Rattle.in_syntax.proofs.Grammar.Continues.{noted}
+use Rattle.in_syntax.proofs.Grammar.Outcomes.{parsing}
 use Rattle.in_syntax.proofs.parser.program.Goals as goal
 
 pub returns-clause-parsing : goal.returns-clause-parsing

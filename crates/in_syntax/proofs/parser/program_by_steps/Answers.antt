@@ -9,9 +9,9 @@ use Rattle.in_syntax.specs.declared.reader.Reader.{Reader}
 use Rattle.in_syntax.specs.declared.tree.Source.{Source}
 use Rattle.in_syntax.specs.declared.words.Token.{Token}
 use Rattle.in_syntax.specs.Programs.{signs_of, place_at}
-use Rattle.in_syntax.specs.Steps.{run, start, refused, Ends, Gives, Leads, Notes, expected_in}
-use Rattle.in_syntax.proofs.Reading.{texts_after, goes_on, leads_after}
-use Rattle.in_syntax.proofs.Outcomes.{whole_expects}
+use Rattle.in_syntax.specs.Steps.{run, start, refused, EndsText, GivesSource, Leads, Notes, expected_in}
+use Rattle.in_syntax.proofs.Lexing.Reading.{texts_after, goes_on, leads_after}
+use Rattle.in_syntax.proofs.Grammar.Outcomes.{whole_expects}
 use Rattle.in_syntax.proofs.parser.program_by_steps.Goals as goal
 
 pub loop-token-preserved : goal.loop-token-preserved
@@ -32,7 +32,7 @@ refused_at_end text i tokens reader c past e is =
 
 -- what the reader makes of the end, once it has read all tokens
 ended : (text : List ℕ) (i : ℕ) (tokens : List Token) (end : Place) (reader : Reader) (r : Result Source Fault) → length tokens ≤ i →
-    run reader (signs_of text (drop i tokens)) ≡ run start (signs_of text tokens) → Ends reader end r → Gives text tokens end r
+    run reader (signs_of text (drop i tokens)) ≡ run start (signs_of text tokens) → EndsText reader end r → GivesSource text tokens end r
 ended text i tokens end reader (Ok source) past e h = sym e ∙ ap (λ (ts : List Token). run reader (signs_of text ts)) (drop_all i tokens past) ∙ h
 ended text i tokens end reader (Err (Refused f)) past e h = (
   length tokens,
@@ -45,7 +45,7 @@ ended text i tokens end reader (Err (Memory m)) past e h = tt
 
 -- and what is noted then
 noted_at_end : (text : List ℕ) (i : ℕ) (tokens : List Token) (end : Place) (reader : Reader) (e : Expected) (r : Result Source Fault) → length tokens ≤ i →
-    Leads start (signs_of text (take i tokens)) reader → e ≡ expected_in reader.state → run reader (signs_of text (drop i tokens)) ≡ run start (signs_of text tokens) → Ends reader end r →
+    Leads start (signs_of text (take i tokens)) reader → e ≡ expected_in reader.state → run reader (signs_of text (drop i tokens)) ≡ run start (signs_of text tokens) → EndsText reader end r →
     Notes text tokens r e
 noted_at_end text i tokens end reader e (Ok source) past leads is same h = is ∙ whole_expects reader source h
 noted_at_end text i tokens end reader e (Err (Refused f)) past leads is same h = (

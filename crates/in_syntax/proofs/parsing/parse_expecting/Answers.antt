@@ -1,9 +1,9 @@
 use Rattle.std.proofs.Common.{sym, subst}
 use Rattle.in_syntax.specs.Programs.{HasTexts, IsParsing}
 use Rattle.in_syntax.specs.Expecting.{IsNotedOf}
-use Rattle.in_syntax.proofs.Parsed.{has_texts, of_text_when, parsed, noted_when}
-use Rattle.in_syntax.proofs.Ordered.{in_order_when}
-use Rattle.in_syntax.proofs.Sized.{sized_when}
+use Rattle.in_syntax.proofs.Grammar.Parsed.{has_texts, of_text_when, parsed, noted_when}
+use Rattle.in_syntax.proofs.Trees.Ordered.{in_order_when}
+use Rattle.in_syntax.proofs.Trees.Sized.{sized_when}
 use Rattle.in_syntax.proofs.parsing.parse_expecting.Goals as goal
 
 pub program-requires : goal.program-requires

@@ -5,7 +5,7 @@ use Rattle.in_arena.specs.States.{Vacant}
 use Rattle.in_compile.specs.Stocks.{Regains}
 use Rattle.in_gather.specs.Dones.{DoneParts}
 use Rattle.in_gather.specs.Gathers.{GatherParts, bags_of}
-use Rattle.in_gather.proofs.Holding.{first_is_bag}
+use Rattle.in_gather.proofs.Public.{first_is_bag}
 use Rattle.in_gather.specs.Holding.{AreBagsOf, Returns}
 use Rattle.in_work.specs.Bringing.{hand, AreMadeWith}
 use Rattle.in_work.specs.Works.{bags}

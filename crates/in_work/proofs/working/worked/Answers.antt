@@ -7,7 +7,7 @@ use Rattle.in_work.specs.Works.{IsEmptyRoom}
 use Rattle.in_work.specs.declared.part.Part.{Part}
 use Rattle.in_work.proofs.Threading.{last_of, all_but_last}
 use Rattle.in_work.proofs.Worked.{no_work, one_done, none_done, job_at, is_done, stops}
-use Rattle.in_gather.proofs.Placing.{holds_any, one_of_one}
+use Rattle.in_gather.proofs.Public.{holds_any, one_of_one}
 use Rattle.in_work.proofs.working.worked.Goals as goal
 
 pub loop-plan-init : goal.loop-plan-init

@@ -5,9 +5,8 @@ use Rattle.in_arena.specs.Bags.{AreOfOne}
 use Rattle.in_symbols.specs.declared.symbols.SymbolNo.{SymbolNo}
 use Rattle.in_compile.specs.Templates.{template_at}
 use Rattle.in_gather.specs.Gathers.{bags_of}
-use Rattle.in_gather.proofs.Holding.{left_have_all, none_leased_by}
-use Rattle.in_work.proofs.Gathered.{lent_have_all}
-use Rattle.in_work.proofs.Planned.{is_plan}
+use Rattle.in_gather.proofs.Public.{left_have_all, none_leased_by}
+use Rattle.in_work.proofs.Public.{lent_have_all, is_plan}
 use Rattle.in_work_tests.proofs.rounds.done.Goals as goal
 
 pub new-plan-requires : goal.new-plan-requires

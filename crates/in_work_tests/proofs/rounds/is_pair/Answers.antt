@@ -1,6 +1,6 @@
 use Rattle.std.proofs.Common.{length, sym, ap, ◌∙◌, arith}
 use Rattle.in_symbols.specs.Tables.{Tables, matching}
-use Rattle.in_compile.proofs.OneTemplate.{has_template}
+use Rattle.in_compile.proofs.Public.{has_template}
 use Rattle.in_work_tests.proofs.rounds.is_pair.Goals as goal
 
 pub returns : goal.returns

@@ -1,6 +1,5 @@
 use Rattle.in_gather.specs.Gathers.{bags_of}
-use Rattle.in_gather.proofs.Holding.{first_is_bag, one_less}
-use Rattle.in_gather.proofs.Keeping.{taken_have_all}
+use Rattle.in_gather.proofs.Public.{first_is_bag, one_less, taken_have_all}
 use Rattle.in_work_tests.proofs.rounds.taken.Goals as goal
 
 pub spend-requires : goal.spend-requires

@@ -1,6 +1,6 @@
 use Rattle.std.proofs.Common.{◌≤◌, ◌+◌, sym, subst, arith}
 use Rattle.in_arena.specs.declared.content.CellClass.{CellClass}
-use Rattle.in_arena.proofs.Bags.{empty_is_of}
+use Rattle.in_arena.proofs.Public.{empty_is_of}
 use Rattle.in_compile.specs.Cells.{count_of}
 use Rattle.in_compile.specs.Stocks.{StockParts, HasRoom, empty_stock, held}
 use Rattle.in_compile.proofs.stock.Stock.fill.Goals as goal

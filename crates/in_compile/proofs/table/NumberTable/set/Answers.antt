@@ -1,4 +1,4 @@
-use Rattle.in_cover.proofs.Written.{sets_cell}
+use Rattle.in_cover.proofs.Public.{sets_cell}
 use Rattle.std.proofs.Common.{ap, set, ◌∙◌}
 use Rattle.in_compile.proofs.table.NumberTable.set.Goals as goal
 

@@ -8,7 +8,7 @@ use Rattle.in_net.specs.Parts.{Parts, IsPointOf, partner_in}
 use Rattle.in_net.specs.declared.nets.AgentNo.{AgentNo}
 use Rattle.in_net.specs.declared.nets.Point.{Point}
 use Rattle.in_net.specs.declared.nets.Point.TheVariants.{Port, Free}
-use Rattle.in_net.proofs.WireAt.{has_partner}
+use Rattle.in_net.proofs.Public.{has_partner}
 use Rattle.in_interaction.proofs.Stepping.Partners.{name_at, inner_port, inner_free, partner_is}
 use Rattle.in_base.proofs.Places.{some_same}
 use Rattle.in_interaction.proofs.following.Site.inner.Goals as goal

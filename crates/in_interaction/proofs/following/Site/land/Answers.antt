@@ -4,7 +4,7 @@ use Rattle.in_interaction.specs.Following.{SiteParts, IsSite, Lands, port_of, mo
 use Rattle.in_net.specs.Parts.{Parts, IsPointOf, partner_in}
 use Rattle.in_net.specs.declared.nets.AgentNo.{AgentNo}
 use Rattle.in_net.specs.declared.nets.Point.TheVariants.{Free}
-use Rattle.in_net.proofs.WireAt.{has_partner}
+use Rattle.in_net.proofs.Public.{has_partner}
 use Rattle.in_base.proofs.Places.{some_same}
 use Rattle.in_interaction.proofs.Stepping.Turns.{no_more, at_none, end_within, to_agent, to_end, name_is, back_within}
 use Rattle.in_interaction.proofs.following.Site.land.Goals as goal

@@ -9,7 +9,7 @@ use Rattle.in_interaction.specs.declared.making.Reached.TheVariants.{End, Stayin
 use Rattle.in_interaction.specs.declared.making.Side.{Side}
 use Rattle.in_net.specs.declared.nets.AgentNo.{AgentNo}
 use Rattle.in_net.specs.declared.nets.Point.TheVariants.{Port, Free}
-use Rattle.in_net.proofs.WireAt.{has_partner}
+use Rattle.in_net.proofs.Public.{has_partner}
 use Rattle.in_interaction.proofs.Stepping.Reaching.{port_is_point, outer_end, end_wire, outer_stays, inner_end, inner_named, inner_stays}
 use Rattle.in_interaction.proofs.following.Site.reached.Goals as goal
 

@@ -1,7 +1,7 @@
 use Rattle.std.proofs.Common.{◌≤◌, ◌+◌, length, Option, List, sym, subst}
 use Rattle.in_net.specs.Parts.{IsWhole}
 use Rattle.in_net.specs.declared.nets.Cell.{Cell}
-use Rattle.in_net.proofs.ActivePairs.{AreFirstPairs, none_yet, none_here, one_here, all_pairs}
+use Rattle.in_net.proofs.AtPairs.ActivePairs.{AreFirstPairs, none_yet, none_here, one_here, all_pairs}
 use Rattle.in_net.proofs.nets.Net.active_pairs.Goals as goal
 use Rattle.in_net.proofs.nets.Net.active_pairs.Goals.{in-Some+in_ok-push, in_default}
 

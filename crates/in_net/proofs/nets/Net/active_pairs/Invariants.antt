@@ -1,4 +1,4 @@
-use Rattle.in_net.proofs.ActivePairs.{AreFirstPairs}
+use Rattle.in_net.proofs.AtPairs.ActivePairs.{AreFirstPairs}
 use Rattle.in_net.proofs.nets.Net.active_pairs.Given as goal
 
 abbrev pub invariant-loop-number : goal.invariant-loop-number

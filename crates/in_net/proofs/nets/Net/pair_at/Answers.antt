@@ -3,7 +3,7 @@ use Rattle.in_net.specs.ActivePairs.{AreActive}
 use Rattle.in_net.specs.Parts.{IsWhole, symbol_in}
 use Rattle.in_net.specs.declared.nets.AgentNo.{AgentNo}
 use Rattle.in_net.specs.declared.nets.Point.TheVariants.{Port}
-use Rattle.in_net.proofs.ActivePairs.{one_partner, there, not_below, symbol_known, ordered_pair}
+use Rattle.in_net.proofs.AtPairs.ActivePairs.{one_partner, there, not_below, symbol_known, ordered_pair}
 use Rattle.in_net.proofs.nets.Net.pair_at.Goals as goal
 
 pub returns-in_err-second-in-Port-default-eq0 : goal.returns-in_err-second-in-Port-default-eq0

@@ -1,6 +1,6 @@
 use Rattle.std.proofs.Common.{sym, subst, ◌∙◌}
 use Rattle.in_net.specs.Parts.{IsWhole}
-use Rattle.in_net.proofs.PairOfWire.{in_their_order}
+use Rattle.in_net.proofs.AtPairs.PairOfWire.{in_their_order}
 use Rattle.in_net.proofs.nets.Net.pair_of_wire.Goals as goal
 
 pub returns : goal.returns

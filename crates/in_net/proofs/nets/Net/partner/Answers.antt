@@ -6,7 +6,7 @@ use Rattle.in_net.specs.Parts.{Parts, IsPointOf, partner_in}
 use Rattle.in_net.specs.declared.nets.Cell.{Cell}
 use Rattle.in_net.specs.declared.nets.Point.{Point}
 use Rattle.in_net.specs.declared.nets.Point.TheVariants.{Port}
-use Rattle.in_net.proofs.Lists.{there_read, cell_within}
+use Rattle.in_net.proofs.Texts.Lists.{there_read, cell_within}
 use Rattle.in_base.proofs.Places.{some_same}
 use Rattle.in_net.proofs.nets.Net.partner.Goals as goal
 

@@ -1,4 +1,4 @@
-use Rattle.in_net.proofs.WireAt.{points_of}
+use Rattle.in_net.proofs.WholeNets.WireAt.{points_of}
 use Rattle.in_net.proofs.nets.Net.wire.Goals as goal
 
 pub returns-clause-points : goal.returns-clause-points

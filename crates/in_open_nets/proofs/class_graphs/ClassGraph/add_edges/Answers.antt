@@ -3,8 +3,8 @@ use Rattle.in_open_nets.specs.declared.class_graphs.ClassGraph.{ClassGraph}
 use Rattle.in_open_nets.specs.ClassEdges.{AreEdges, HaveNumbers}
 use Rattle.in_open_nets.specs.OpenNets.{OpenNet}
 use Rattle.in_open_nets.specs.Stuck.{ports_of}
-use Rattle.in_open_nets.proofs.ClassEdges.{wire_in, wire_out}
-use Rattle.in_open_nets.proofs.HubMembers.{wires_node}
+use Rattle.in_open_nets.proofs.Graphs.ClassEdges.{wire_in, wire_out}
+use Rattle.in_open_nets.proofs.Graphs.HubMembers.{wires_node}
 use Rattle.in_open_nets.proofs.class_graphs.ClassGraph.add_edges.Goals as goal
 use Rattle.in_open_nets.proofs.class_graphs.ClassGraph.add_edges.Goals.{in-Some+in_ok-push, in_default}
 

@@ -1,6 +1,6 @@
 use Rattle.std.proofs.Common.{◌+◌, refl, sym, subst}
 use Rattle.in_open_nets.specs.ClassEdges.{AreHubEdges, HaveNumbers}
-use Rattle.in_open_nets.proofs.ClassEdges.{edges_in, numbers_in}
+use Rattle.in_open_nets.proofs.Graphs.ClassEdges.{edges_in, numbers_in}
 use Rattle.in_open_nets.proofs.class_graphs.ClassGraph.add_node.Goals as goal
 
 pub returns-clause-numbers : goal.returns-clause-numbers

@@ -1,9 +1,9 @@
 use Rattle.std.proofs.Common.{arith}
 use Rattle.in_open_nets.specs.Members.{nodes_in}
-use Rattle.in_open_nets.proofs.ClassEdges.{class_graph, graph_within, wires_start}
-use Rattle.in_open_nets.proofs.FirstMembers.{next_small}
-use Rattle.in_open_nets.proofs.HubMembers.{wires_all, wires_next, wires_past}
-use Rattle.in_open_nets.proofs.Members.{next_in}
+use Rattle.in_open_nets.proofs.Graphs.ClassEdges.{class_graph, graph_within, wires_start}
+use Rattle.in_open_nets.proofs.PartsOf.FirstMembers.{next_small}
+use Rattle.in_open_nets.proofs.Graphs.HubMembers.{wires_all, wires_next, wires_past}
+use Rattle.in_open_nets.proofs.PartsOf.Members.{next_in}
 use Rattle.in_open_nets.proofs.class_graphs.ClassGraph.list.Goals as goal
 
 pub loop-member-init : goal.loop-member-init
@@ -38,7 +38,7 @@ returns c =
     let o = c.args.part.now.wired.now in
     let part = c.args.part.now.nodes.now in
     let size = c.args.part.now.size in
-    let net = c.nodes-count.ensures.net.net in
+    let net = c.nodes.ensures.net.net in
     let f = c.loop-member-test.false in
     let a = c.loop-member.auto in
     let g = c.loop-member.self in

@@ -1,6 +1,6 @@
 use Rattle.std.proofs.Common.{length}
 use Rattle.in_open_nets.specs.ClassEdges.{AreEdges, HaveNumbers}
-use Rattle.in_open_nets.proofs.Members.{past}
+use Rattle.in_open_nets.proofs.PartsOf.Members.{past}
 use Rattle.in_open_nets.proofs.class_graphs.ClassGraph.list.Given as goal
 
 abbrev pub invariant-loop-member : goal.invariant-loop-member

@@ -1,10 +1,10 @@
 use Rattle.std.proofs.Common.{◌≤◌, length, sym, subst, arith}
 use Rattle.in_open_nets.specs.ClassEdges.{AreHubEdges}
 use Rattle.in_open_nets.specs.Members.{nodes_in}
-use Rattle.in_open_nets.proofs.ClassEdges.{edges_start, numbers_start}
-use Rattle.in_open_nets.proofs.FirstMembers.{next_small}
-use Rattle.in_open_nets.proofs.HubMembers.{edges_all, edges_next, edges_past, numbers_all, numbers_next, numbers_past}
-use Rattle.in_open_nets.proofs.Members.{next_in}
+use Rattle.in_open_nets.proofs.Graphs.ClassEdges.{edges_start, numbers_start}
+use Rattle.in_open_nets.proofs.PartsOf.FirstMembers.{next_small}
+use Rattle.in_open_nets.proofs.Graphs.HubMembers.{edges_all, edges_next, edges_past, numbers_all, numbers_next, numbers_past}
+use Rattle.in_open_nets.proofs.PartsOf.Members.{next_in}
 use Rattle.in_open_nets.proofs.class_graphs.ClassGraph.list_hubs.Goals as goal
 
 pub loop-member-init : goal.loop-member-init

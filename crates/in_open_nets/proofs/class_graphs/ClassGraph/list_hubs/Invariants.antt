@@ -1,5 +1,5 @@
 use Rattle.in_open_nets.specs.ClassEdges.{HaveNumbers, AreHubEdges}
-use Rattle.in_open_nets.proofs.Members.{past}
+use Rattle.in_open_nets.proofs.PartsOf.Members.{past}
 use Rattle.in_open_nets.proofs.class_graphs.ClassGraph.list_hubs.Given as goal
 
 abbrev pub invariant-loop-member : goal.invariant-loop-member

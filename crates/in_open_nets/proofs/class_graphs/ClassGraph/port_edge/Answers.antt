@@ -1,12 +1,12 @@
 use Rattle.std.proofs.Common.{◌∙◌, sym, subst}
-use Rattle.in_open_nets.specs.declared.open_nets.Point.TheVariants.{Port}
+use Rattle.in_open_nets.specs.declared.open_nets.OpenPoint.TheVariants.{Port}
 use Rattle.in_open_nets.specs.ClassEdges.{ComesFirst}
 use Rattle.in_open_nets.specs.OpenNets.{IsWire}
-use Rattle.in_open_nets.proofs.Balance.{wire_turn}
-use Rattle.in_open_nets.proofs.ClassEdges.{class_small}
-use Rattle.in_open_nets.proofs.Slots.{neighbour_free, neighbour_out}
-use Rattle.in_open_nets.proofs.Sound.{port_place}
-use Rattle.in_open_nets.proofs.Sums.{not_both}
+use Rattle.in_open_nets.proofs.Built.Balance.{wire_turn}
+use Rattle.in_open_nets.proofs.Graphs.ClassEdges.{class_small}
+use Rattle.in_open_nets.proofs.PartsOf.Slots.{neighbour_free, neighbour_out}
+use Rattle.in_open_nets.proofs.Built.Sound.{port_place}
+use Rattle.in_open_nets.proofs.PartsOf.Sums.{not_both}
 use Rattle.in_open_nets.proofs.class_graphs.ClassGraph.port_edge.Goals as goal
 use Rattle.in_open_nets.proofs.class_graphs.ClassGraph.port_edge.Goals.{else-comes_first-via-then-comes_first+else-has, else-comes_first-via-else-comes_first}
 

@@ -2,7 +2,7 @@ use Rattle.std.proofs.Common.{ℕ, List, ◌<◌, length, sym, subst, ap, ◌∙
 use Rattle.in_open_nets.specs.declared.open_nets.OpenNode.{OpenNode}
 use Rattle.in_open_nets.specs.OpenNets.{OpenNet, IsOrderly}
 use Rattle.in_open_nets.specs.Stuck.{IsStuckAt}
-use Rattle.in_open_nets.proofs.StuckNodes.{some_stuck, stuck_below, stuck_read}
+use Rattle.in_open_nets.proofs.Splits.StuckNodes.{some_stuck, stuck_below, stuck_read}
 use Rattle.in_open_nets.proofs.derivations.Stuck.place.Goals as goal
 
 pub bounds-as_slice-0 : goal.bounds-as_slice-0

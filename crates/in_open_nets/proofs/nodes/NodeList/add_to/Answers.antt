@@ -1,6 +1,6 @@
 use Rattle.std.proofs.Common.{◌≡◌, ◌+◌, length, sym, subst, arith}
-use Rattle.in_open_nets.proofs.Members.{past, unite_next, unite_small, unite_end}
-use Rattle.in_open_nets.proofs.Places.{IsUnitedTo}
+use Rattle.in_open_nets.proofs.PartsOf.Members.{past, unite_next, unite_small, unite_end}
+use Rattle.in_open_nets.proofs.PartsOf.Places.{IsUnitedTo}
 use Rattle.in_open_nets.proofs.nodes.NodeList.add_to.Goals as goal
 
 pub insert-requires : goal.insert-requires

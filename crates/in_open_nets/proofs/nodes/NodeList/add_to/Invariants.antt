@@ -1,5 +1,5 @@
-use Rattle.in_open_nets.proofs.Members.{past}
-use Rattle.in_open_nets.proofs.Places.{IsUnitedTo}
+use Rattle.in_open_nets.proofs.PartsOf.Members.{past}
+use Rattle.in_open_nets.proofs.PartsOf.Places.{IsUnitedTo}
 use Rattle.in_open_nets.proofs.nodes.NodeList.add_to.Given as goal
 
 abbrev pub invariant-loop-node : goal.invariant-loop-node

@@ -1,6 +1,6 @@
 use Rattle.std.proofs.Common.{◌<◌, ◌+◌, sym, subst, inl, inr, arith}
-use Rattle.in_open_nets.proofs.Links.{same_nat}
-use Rattle.in_open_nets.proofs.Members.{Lists, lists_more, tests_in, tests_listed, tests_many}
+use Rattle.in_open_nets.proofs.Reached.Links.{same_nat}
+use Rattle.in_open_nets.proofs.PartsOf.Members.{Lists, lists_more, tests_in, tests_listed, tests_many}
 use Rattle.in_open_nets.proofs.nodes.NodeList.all.Goals as goal
 
 pub loop-node-preserved : goal.loop-node-preserved

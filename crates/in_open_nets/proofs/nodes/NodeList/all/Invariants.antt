@@ -1,5 +1,5 @@
 use Rattle.std.proofs.Common.{◌<◌}
-use Rattle.in_open_nets.proofs.Members.{Lists}
+use Rattle.in_open_nets.proofs.PartsOf.Members.{Lists}
 use Rattle.in_open_nets.proofs.nodes.NodeList.all.Given as goal
 
 abbrev pub invariant-loop-node : goal.invariant-loop-node

@@ -1,6 +1,6 @@
 use Rattle.std.proofs.Common.{◌≡◌, ◌+◌, ◌∙◌, length, sym, subst, arith}
 use Rattle.in_open_nets.specs.Members.{nodes_in}
-use Rattle.in_open_nets.proofs.Members.{IsBefore, Lists, list_next, list_past, list_end, tests_are}
+use Rattle.in_open_nets.proofs.PartsOf.Members.{IsBefore, Lists, list_next, list_past, list_end, tests_are}
 use Rattle.in_open_nets.proofs.nodes.NodeList.narrowed.Goals as goal
 use Rattle.in_open_nets.proofs.nodes.NodeList.narrowed.Goals.{then-has+in_ok-push, else-has}
 

@@ -2,8 +2,8 @@ use Rattle.std.proofs.Common.{◌∙◌, sym, subst}
 use Rattle.std.proofs.lemmas.List.Filters.{dedup_is}
 use Rattle.in_open_nets.specs.Members.{nodes_in}
 use Rattle.in_open_nets.specs.Stuck.{IsListed}
-use Rattle.in_open_nets.proofs.Members.{tests_are}
-use Rattle.in_open_nets.proofs.SortedMembers.{sorted_listed}
+use Rattle.in_open_nets.proofs.PartsOf.Members.{tests_are}
+use Rattle.in_open_nets.proofs.PartsOf.SortedMembers.{sorted_listed}
 use Rattle.in_open_nets.proofs.nodes.NodeList.sorted.Goals as goal
 
 pub invariant_of-result : goal.invariant_of-result

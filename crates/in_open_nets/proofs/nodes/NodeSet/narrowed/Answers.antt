@@ -1,8 +1,8 @@
 use Rattle.std.proofs.Common.{◌≡◌, ◌≤◌, ◌∙◌, sym, arith}
 use Rattle.in_open_nets.specs.Members.{missing}
-use Rattle.in_open_nets.proofs.Absent.{has_all}
-use Rattle.in_open_nets.proofs.Members.{lists_equal}
-use Rattle.in_open_nets.proofs.OkValues.{if_ok}
+use Rattle.in_open_nets.proofs.PartsOf.Absent.{has_all}
+use Rattle.in_open_nets.proofs.PartsOf.Members.{lists_equal}
+use Rattle.in_open_nets.proofs.Splits.OkValues.{if_ok}
 use Rattle.in_open_nets.proofs.nodes.NodeSet.narrowed.Goals as goal
 
 pub returns-then-absent : goal.returns-then-absent

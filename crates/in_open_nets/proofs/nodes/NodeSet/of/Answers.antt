@@ -1,5 +1,5 @@
 use Rattle.std.proofs.Common.{◌∙◌, sym}
-use Rattle.in_open_nets.proofs.Members.{filled}
+use Rattle.in_open_nets.proofs.PartsOf.Members.{filled}
 use Rattle.in_open_nets.proofs.nodes.NodeSet.of.Goals as goal
 
 pub returns : goal.returns

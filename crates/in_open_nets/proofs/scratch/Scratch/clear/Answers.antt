@@ -1,6 +1,6 @@
 use Rattle.std.proofs.Common.{◌≡◌, ◌+◌, false, sym, subst, arith}
 use Rattle.in_open_nets.specs.Members.{AreMarks, marked, nodes_in}
-use Rattle.in_open_nets.proofs.Marks.{marks_next, none_marked}
+use Rattle.in_open_nets.proofs.PartsOf.Marks.{marks_next, none_marked}
 use Rattle.in_open_nets.proofs.scratch.Scratch.clear.Goals as goal
 
 pub invariant_of-self : goal.invariant_of-self

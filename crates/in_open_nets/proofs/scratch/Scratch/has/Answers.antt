@@ -1,6 +1,6 @@
 use Rattle.std.proofs.Common.{◌≡◌, false, sym, subst}
 use Rattle.in_open_nets.specs.Members.{nodes_in}
-use Rattle.in_open_nets.proofs.Marks.{no_mark}
+use Rattle.in_open_nets.proofs.PartsOf.Marks.{no_mark}
 use Rattle.in_open_nets.proofs.scratch.Scratch.has.Goals as goal
 
 pub returns-in-None : goal.returns-in-None

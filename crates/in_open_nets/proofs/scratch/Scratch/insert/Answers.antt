@@ -1,7 +1,7 @@
 use Rattle.std.proofs.Common.{◌≡◌, ◌-◌, ◌∙◌, true, false, sym, subst, ap, arith}
 use Rattle.std.proofs.Math.ListN.{set}
 use Rattle.in_open_nets.specs.Members.{AreMarks, marked, nodes_in}
-use Rattle.in_open_nets.proofs.Marks.{fewer, has_mark, marked_in, put_in, same_set}
+use Rattle.in_open_nets.proofs.PartsOf.Marks.{fewer, has_mark, marked_in, put_in, same_set}
 use Rattle.in_open_nets.proofs.scratch.Scratch.insert.Goals as goal
 
 pub overflow_sub-self : goal.overflow_sub-self

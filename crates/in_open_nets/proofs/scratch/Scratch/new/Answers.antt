@@ -2,8 +2,8 @@ use Rattle.std.proofs.Common.{◌≡◌, ◌≤◌, ◌-◌, ◌++◌, ◌∙◌
 use Rattle.std.proofs.Math.ListN.{take}
 use Rattle.std.proofs.lemmas.List.{length-replicate}
 use Rattle.std.specs.Vec.{vec_len}
-use Rattle.in_open_nets.proofs.Absent.{resized}
-use Rattle.in_open_nets.proofs.Marks.{marks_first, none_marked}
+use Rattle.in_open_nets.proofs.PartsOf.Absent.{resized}
+use Rattle.in_open_nets.proofs.PartsOf.Marks.{marks_first, none_marked}
 use Rattle.in_open_nets.proofs.scratch.Scratch.new.Goals as goal
 
 zeros : (n i : ℕ) → get_or (replicate n 0) i 0 ≤ 0

@@ -2,9 +2,9 @@ use Rattle.std.proofs.Common.{◌≡◌, ◌+◌, ◌∙◌, true, false, sym, s
 use Rattle.std.proofs.Math.ListN.{set}
 use Rattle.std.proofs.lemmas.List.{length-set}
 use Rattle.in_open_nets.specs.Members.{AreMarks, marked, nodes_in}
-use Rattle.in_open_nets.proofs.Absent.{missing_within}
-use Rattle.in_open_nets.proofs.Marks.{has_mark, marked_many, marked_out, more, put_out, same_set}
-use Rattle.in_open_nets.proofs.Reaching.{in_length}
+use Rattle.in_open_nets.proofs.PartsOf.Absent.{missing_within}
+use Rattle.in_open_nets.proofs.PartsOf.Marks.{has_mark, marked_many, marked_out, more, put_out, same_set}
+use Rattle.in_open_nets.proofs.Reached.Reaching.{in_length}
 use Rattle.in_open_nets.proofs.scratch.Scratch.take.Goals as goal
 
 pub overflow_add-self : goal.overflow_add-self

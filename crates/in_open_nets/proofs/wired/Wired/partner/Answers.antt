@@ -1,11 +1,11 @@
 use Rattle.std.proofs.Common.{◌≡◌, sym, subst, ◌∙◌, ap, get_or, length, ℕ, None, ◌<◌, ◌+◌, ◌*◌, List}
 use Rattle.std.proofs.lemmas.List.{get_or_default}
 use Rattle.in_open_nets.specs.OpenNets.{OpenNet, IsOrderly}
-use Rattle.in_open_nets.specs.declared.open_nets.Point.TheVariants.{Port}
+use Rattle.in_open_nets.specs.declared.open_nets.OpenPoint.TheVariants.{Port}
 use Rattle.in_open_nets.specs.Parts.{IsWired, Slot}
 use Rattle.in_open_nets.specs.Stuck.{ports_of}
-use Rattle.in_open_nets.proofs.Balance.{wire_turn}
-use Rattle.in_open_nets.proofs.Slots.{has_slot, port_point, slot_there, slot_right}
+use Rattle.in_open_nets.proofs.Built.Balance.{wire_turn}
+use Rattle.in_open_nets.proofs.PartsOf.Slots.{has_slot, port_point, slot_there, slot_right}
 use Rattle.in_open_nets.proofs.wired.Wired.partner.Goals as goal
 use Rattle.in_syntax.specs.Grammar.{max_ports}
 

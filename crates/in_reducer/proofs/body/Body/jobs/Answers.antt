@@ -4,7 +4,7 @@ use Rattle.in_compile.specs.Templates.{template_at}
 use Rattle.in_reducer.specs.Inside.{reducer_view}
 use Rattle.in_reducer.proofs.Begun.{each_push}
 use Rattle.in_reducer.proofs.Found as found
-use Rattle.in_work.proofs.Planned.{templates_are_small}
+use Rattle.in_work.proofs.Public.{templates_are_small}
 use Rattle.in_reducer.proofs.body.Body.jobs.Goals as goal
 
 pub loop-number-init : goal.loop-number-init

@@ -1,5 +1,5 @@
 use Rattle.std.proofs.Common.{◌≡◌, sym, ap, subst, ◌∙◌}
-use Rattle.in_compile.specs.Members.{IsSound}
+use Rattle.in_compile.specs.Members.{IsSoundMember}
 use Rattle.in_compile.specs.Placing.{PlacedParts}
 use Rattle.in_compile.specs.Templates.{TemplateParts}
 use Rattle.in_reducer.specs.declared.body.Body.{Body}
@@ -13,7 +13,7 @@ finish-requires-clause-beside c =
     let r = c.args.self.now in
     let p = c.args.done.template in
     let same : c.template-template.result.now ≡ p = c.template-template.ensures in
-    let sound = subst IsSound (c.member.ensures ∙ ap (λ (z : TemplateParts). z.member) same) c.is_sound.ensures in
+    let sound = subst IsSoundMember (c.member.ensures ∙ ap (λ (z : TemplateParts). z.member) same) c.is_sound.ensures in
     let x : Tools = record { stock = r.tools.stock; placed = c.replace-own.new.dest; made = r.tools.made } in
     let o : Body = record { checked = r.checked; arena = c.settle-settled.new.arena; free = r.free; ends = r.ends; queue = r.queue; tools = x } in
     let cells = ap (λ (z : PlacedParts). z.cells) c.replace-own.ensures.after ∙ c.settle-settled.ensures.numbers.0 in
@@ -24,7 +24,7 @@ returns-clause-steps c =
     let r = c.args.self.now in
     let p = c.args.done.template in
     let same : c.template-template.result.now ≡ p = c.template-template.ensures in
-    let sound = subst IsSound (c.member.ensures ∙ ap (λ (z : TemplateParts). z.member) same) c.is_sound.ensures in
+    let sound = subst IsSoundMember (c.member.ensures ∙ ap (λ (z : TemplateParts). z.member) same) c.is_sound.ensures in
     let x : Tools = record { stock = r.tools.stock; placed = c.replace-own.new.dest; made = r.tools.made } in
     let o : Body = record { checked = r.checked; arena = c.settle-settled.new.arena; free = r.free; ends = r.ends; queue = r.queue; tools = x } in
     let cells = ap (λ (z : PlacedParts). z.cells) c.replace-own.ensures.after ∙ c.settle-settled.ensures.numbers.0 in

@@ -5,7 +5,7 @@ use Rattle.in_reducer.specs.Inside.{over, reducer_view}
 use Rattle.in_reducer.specs.Machines.{MachineParts}
 use Rattle.in_reducer.specs.Runs.{Runs, jobs_of}
 use Rattle.in_reducer.specs.Steps.{HasRoomAt}
-use Rattle.in_work.proofs.Gathered.{lent_have_all}
+use Rattle.in_work.proofs.Public.{lent_have_all}
 use Rattle.in_reducer.proofs.Lending as lending
 use Rattle.in_reducer.proofs.Queues.{short_queue}
 use Rattle.in_reducer.proofs.reducer.Reducer.round.Goals as goal

@@ -4,7 +4,7 @@ use Rattle.in_net.specs.Parts.{Parts}
 use Rattle.in_check.specs.Programs.{Program}
 use Rattle.in_compile.specs.Cells.{agents_of}
 use Rattle.in_compile.specs.Templates.{AreTemplatesOf}
-use Rattle.in_reducer.proofs.Accepted.{net_over_at, net_there_at}
+use Rattle.in_reducer.proofs.Public.{net_over_at, net_there_at}
 use Rattle.in_rounds.proofs.SameStart.{start_machine}
 use Rattle.in_rounds.proofs.machine.Machine.new.Goals as goal
 

@@ -3,7 +3,7 @@ use Rattle.std.proofs.lemmas.List.{length-map}
 use Rattle.in_syntax.specs.declared.tree.Source.{Source}
 use Rattle.in_syntax.specs.Parsing.{IsOfText}
 use Rattle.in_syntax.specs.Sizes.{IsSized}
-use Rattle.in_syntax.proofs.Sized.{tree_sized}
+use Rattle.in_syntax.proofs.Public.{tree_sized}
 use Rattle.in_symbols.specs.Tables.{AreShapes, shape_of}
 use Rattle.in_symbols.proofs.Shapes.{are_shapes}
 use Rattle.in_symbols.proofs.Tabled.{is_clear, types_kept, symbols_kept, ports_known, is_tabled}

@@ -1,5 +1,5 @@
 use Rattle.std.proofs.Common.{Some, drop, ap, arith}
-use Rattle.in_syntax.proofs.Known.{copied}
+use Rattle.in_syntax.proofs.Lexing.Known.{copied}
 use Rattle.in_syntax.proofs.memory.MemoryInTextIn.read.Goals as goal
 
 pub returns-clause-given : goal.returns-clause-given

@@ -1,6 +1,0 @@
-pub mod Ways
-pub mod Forests
-pub mod Widening
-pub mod Chains
-pub mod Growth
-pub mod Marks

@@ -1,0 +1,44 @@
+-- What the typed getter of `clap` reads, as the number of an option.
+use Rattle.std.proofs.Common.{◌≡◌, ℕ, ◌<◌, ◌^◌, Option, Some, None, refl, sym, ◌∙◌, subst, ap, arith, List}
+use Rattle.std.proofs.lemmas.Option.{same_Some}
+use Rattle.std.specs.Prelude.{codes}
+use Rattle.std.specs.Str.Parse.{IsNumeral, without_leading_plus, digits_value}
+use Rattle.clap.specs.Words.{Row, Text, one_text, rows_of}
+use Rattle.clap.specs.declared.parser.matches.Found.{Found}
+use Rattle.clap.proofs.WalkLemmas.{one_text-rows}
+use Rattle.in_run.specs.AllowedLimits.{AreLimits}
+use Rattle.in_run.specs.declared.limits.Limits.{Limits}
+use Rattle.in_command_line.specs.Asking.{AreGiven, IsNumber, Spells}
+
+-- an option has one number
+pub number_once : (name : Text) (options : List Row) (n m : ℕ) → IsNumber name options n → IsNumber name options m → n ≡ m
+number_once name options n m (t, is, (digits, value)) (u, are, (more, other)) =
+    value ∙ ap (λ (x : Text). digits_value 10 (without_leading_plus x)) (same_Some t u (sym is ∙ are)) ∙ sym other
+
+-- a number that was read is that of the option
+pub number_read : (f : Found) (name : Text) (n : ℕ) → (one_text f name ≡ None → ◌≡◌ {A = Option ℕ} (Some n) None)
+    → ((t : Text) → one_text f name ≡ Some t → Spells t n)
+    → IsNumber name (rows_of f) n
+number_read f name n none value = go (one_text f name) refl
+  where
+    go : (o : Option Text) → one_text f name ≡ o → IsNumber name (rows_of f) n
+    go None e = let bad : ◌≡◌ {A = Option ℕ} (Some n) None = none e in absurd cc
+    go (Some t) e = let h = value t e in (t, sym (one_text-rows f name) ∙ e, h)
+
+-- .. and where none was read, the option has none that fits
+pub number_refused : (f : Found) (name : Text)
+    → ((t : Text) → one_text f name ≡ Some t → IsNumeral 10 (without_leading_plus t) × (digits_value 10 (without_leading_plus t) < 2 ^ 64) → ⊥)
+    → (n : ℕ) → n < 2 ^ 64 → IsNumber name (rows_of f) n → ⊥
+number_refused f name refused n fits (t, is, (digits, value)) =
+    refused t (one_text-rows f name ∙ is) (digits, subst (λ (k : ℕ). k < 2 ^ 64) value fits)
+
+-- the limits of two numbers are those of the options
+pub limits_given : (options : List Row) (workers limit cells : ℕ) (r : Option Limits) → AreLimits workers limit cells r
+    → IsNumber (codes "workers") options workers → IsNumber (codes "limit") options limit → IsNumber (codes "cells") options cells → AreGiven options r
+limits_given options workers limit cells (Some l) made has is are =
+    (subst (IsNumber (codes "workers") options) (sym made.1) has, subst (IsNumber (codes "limit") options) (sym made.2) is, subst (IsNumber (codes "cells") options) (sym made.3) are)
+limits_given options workers limit cells None made has is are = λ l h.
+    let as_many : l.workers ≡ workers = number_once (codes "workers") options l.workers workers h.0 has in
+    let same : l.limit ≡ limit = number_once (codes "limit") options l.limit limit h.1 is in
+    let alike : l.cells ≡ cells = number_once (codes "cells") options l.cells cells h.2 are in
+    made (omega (arith, as_many, l.some_worker), omega (arith, as_many, l.few_workers), omega (arith, same, l.limit_in_range), omega (arith, alike, l.least), omega (arith, alike, l.most))

@@ -1,0 +1,5 @@
+use Rattle.in_command_line.proofs.Examples.{given_asks, named_ask, usual_asks}
+use Rattle.in_command_line.proofs.laws.subcommands_ask.Goals as goal
+
+pub returns : goal.returns
+returns c = record { named = named_ask; usual = usual_asks; given = given_asks }

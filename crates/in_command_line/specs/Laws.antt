@@ -1,0 +1,50 @@
+-- Laws over what the words of a command line ask for.
+use Rattle.std.specs.Prelude.{◌≡◌, ◌<◌, ◌⊎◌, ◌++◌, ℕ, List, [], ◌∷◌, codes}
+use Rattle.clap.specs.Words.{Text}
+use Rattle.clap.specs.declared.error.kind.ErrorKind.TheVariants.{ArgumentConflict, DisplayHelp, MissingSubcommand, UnknownArgument, ValueValidation}
+use Rattle.in_reducer.specs.Limiting.{least_cells, most_cells}
+use Rattle.in_run.specs.Limiting.{most_interactions, most_workers}
+use Rattle.in_run.specs.declared.limits.Limits.{Limits}
+use Rattle.in_command_line.specs.Asking.{AsksFor, Spells, faults}
+use Rattle.in_command_line.specs.declared.action.Action.{Action}
+use Rattle.in_command_line.specs.declared.action.Action.TheVariants.{Check, Derive, Run}
+
+-- words ask for one action at most
+abbrev pub WordsAskForOneAction : Type 0
+WordsAskForOneAction = (words : List Text) (a b : Action) → AsksFor words a → AsksFor words b → a ≡ b
+
+-- words in which `clap` finds no error ask for an action
+abbrev pub FaultlessWordsAsk : Type 0
+FaultlessWordsAsk = (words : List Text) → faults words ≡ [] → (a : Action) × AsksFor words a
+
+-- `inet check` and `inet derive` ask for those actions
+abbrev pub SubcommandsAsk : Type 0
+SubcommandsAsk = AsksFor (codes "inet" ∷ codes "check" ∷ []) Check × AsksFor (codes "inet" ∷ codes "derive" ∷ []) Derive
+
+-- `inet run` asks for a run within the usual limits, of one worker
+abbrev pub RunAsksForTheUsual : Type 0
+RunAsksForTheUsual = (l : Limits) → l.workers ≡ 1 → l.limit ≡ 1000000 → l.cells ≡ 65536 → AsksFor (codes "inet" ∷ codes "run" ∷ []) (Run l)
+
+-- .. and with its options for one within the limits that their texts spell
+abbrev pub RunAsksForTheGiven : Type 0
+RunAsksForTheGiven = (workers limit cells : Text) (l : Limits) → Spells workers l.workers → Spells limit l.limit → Spells cells l.cells
+    → AsksFor (codes "inet" ∷ codes "run" ∷ (codes "--workers=" ++ workers) ∷ (codes "--limit=" ++ limit) ∷ (codes "--cells=" ++ cells) ∷ []) (Run l)
+
+-- `-h` and `--help` ask for help, alone and with a subcommand
+abbrev pub HelpIsAsked : Type 0
+HelpIsAsked = (faults (codes "inet" ∷ codes "-h" ∷ []) ≡ DisplayHelp ∷ [])
+    × (faults (codes "inet" ∷ codes "--help" ∷ []) ≡ DisplayHelp ∷ [])
+    × (faults (codes "inet" ∷ codes "run" ∷ codes "--help" ∷ []) ≡ DisplayHelp ∷ [])
+
+-- wrong are `inet` alone, a word too many and an option that stands twice
+abbrev pub OtherWordsAreWrong : Type 0
+OtherWordsAreWrong = (faults (codes "inet" ∷ []) ≡ MissingSubcommand ∷ [])
+    × (faults (codes "inet" ∷ codes "check" ∷ codes "check" ∷ []) ≡ UnknownArgument ∷ [])
+    × (faults (codes "inet" ∷ codes "run" ∷ codes "--limit=1" ∷ codes "--limit=1" ∷ []) ≡ ArgumentConflict ∷ [])
+
+-- .. and a number that is out of range
+abbrev pub NumbersOutOfRangeAreWrong : Type 0
+NumbersOutOfRangeAreWrong = (text : Text) (n : ℕ) → Spells text n
+    → ((n < 1) ⊎ (most_workers < n) → faults (codes "inet" ∷ codes "run" ∷ (codes "--workers=" ++ text) ∷ []) ≡ ValueValidation ∷ [])
+    × (most_interactions < n → faults (codes "inet" ∷ codes "run" ∷ (codes "--limit=" ++ text) ∷ []) ≡ ValueValidation ∷ [])
+    × ((n < least_cells) ⊎ (most_cells < n) → faults (codes "inet" ∷ codes "run" ∷ (codes "--cells=" ++ text) ∷ []) ≡ ValueValidation ∷ [])

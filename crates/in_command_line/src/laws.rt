@@ -1,0 +1,28 @@
+//! Laws over what the words of a command line ask for. No function here does anything.
+
+ghost use Rattle.in_command_line.specs.Laws.{FaultlessWordsAsk, HelpIsAsked, NumbersOutOfRangeAreWrong, OtherWordsAreWrong, RunAsksForTheGiven, RunAsksForTheUsual, SubcommandsAsk, WordsAskForOneAction};
+
+/// Words ask for one action at most.
+pub fn words_ask_for_one_action()
+    ensures { WordsAskForOneAction }
+{}
+
+/// Words in which `clap` finds no error ask for an action, so none of them is refused as wrong.
+pub fn faultless_words_ask()
+    ensures { FaultlessWordsAsk }
+{}
+
+/// What each subcommand asks for: `check` and `derive` by their names, `run` with the numbers of its options, or the usual ones.
+pub fn subcommands_ask()
+    ensures named { SubcommandsAsk }
+    ensures usual { RunAsksForTheUsual }
+    ensures given { RunAsksForTheGiven }
+{}
+
+/// Which words are refused: help where it is asked for, and as wrong no subcommand, a word too many, an option that stands twice and a
+/// number that is out of range.
+pub fn words_are_refused()
+    ensures help { HelpIsAsked }
+    ensures wrong { OtherWordsAreWrong }
+    ensures range { NumbersOutOfRangeAreWrong }
+{}

@@ -1,5 +1,0 @@
-use Rattle.in_deriving.proofs.OneAnswer.{derived_once}
-use Rattle.in_deriving.proofs.laws.nets_are_derived_once.Goals as goal
-
-pub returns : goal.returns
-returns c = derived_once

@@ -1,0 +1,40 @@
+//! What a diagnosis is written with: excerpts of the text, names that are near, and words for what is wrong with a text, its names, its
+//! rules and its wires. Nothing here builds a net.
+//!
+//! This is what is told by the text and its tree alone, so that it is proved beside the passes. `refusals` picks what is told of a code,
+//! which is in the file of its kind: `letters` (characters, with their names from `in_diagnosis_characters::name_of`), `grammar` (what was
+//! expected; limits), `names`, `rings` (closed wires), `pairs`.
+//!
+//! `declarations` looks into the tree, `occurrences` at the tokens of those lines in which a name occurs (a line can be read by itself,
+//! since no token and no comment goes on over its end), `before` at those before a place where the grammar refuses; `single` finds the
+//! variables that occur once, `near` the names that may have been meant (`strsim`). `ends` has the two ends of a wire that don't fit,
+//! `nodes` the nodes of a circle, and `braces` declarations with other braces, in words.
+//!
+//! `reports` and `excerpts` write it: lines of the text with marks under them. A `Report` keeps that memory ran out, and `into_text`
+//! answers it.
+#![tactic(auto)]
+
+mod before;
+mod braces;
+mod declarations;
+mod ends;
+mod excerpts;
+mod grammar;
+mod letters;
+mod names;
+mod near;
+mod nodes;
+mod occurrences;
+mod pairs;
+mod refusals;
+mod reports;
+mod rings;
+mod single;
+
+pub use braces::{Braces, changed_braces, declaration_with, text_with};
+pub use declarations::port;
+pub use ends::{ToldEnd, add_ends, agent_end, free_end, head_end};
+pub use nodes::{add_braces, say_node_at, say_port_of};
+pub use occurrences::rule_at;
+pub use refusals::{add_text_fault, add_tree_fault};
+pub use reports::Report;

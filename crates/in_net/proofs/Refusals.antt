@@ -1,0 +1,11 @@
+-- What is refused, and what holds where nothing is.
+pub mod Counts
+pub mod FewAgents
+pub mod FirstFault
+pub mod GoodNets
+pub mod GoodRules
+pub mod Miscounted
+pub mod Miscounts
+pub mod Misfits
+pub mod NumberTests
+pub mod Standing

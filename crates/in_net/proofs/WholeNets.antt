@@ -1,0 +1,14 @@
+-- The parts of a net are whole, and the net of a text is one.
+pub mod Frees
+pub mod OneNet
+pub mod OneText
+pub mod PlacesApart
+pub mod Points
+pub mod Ports
+pub mod Rejoined
+pub mod SameNet
+pub mod Steps
+pub mod Turned
+pub mod Whole
+pub mod WireAt
+pub mod Within

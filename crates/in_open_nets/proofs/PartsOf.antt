@@ -1,0 +1,9 @@
+-- Parts, as sets of nodes with their ports.
+pub mod Absent
+pub mod FirstMembers
+pub mod Marks
+pub mod Members
+pub mod Places
+pub mod Slots
+pub mod SortedMembers
+pub mod Sums

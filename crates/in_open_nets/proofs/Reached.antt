@@ -1,0 +1,5 @@
+-- What is reached in a part.
+pub mod Links
+pub mod OnePiece
+pub mod Reaching
+pub mod Spreading

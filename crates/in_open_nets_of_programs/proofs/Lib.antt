@@ -1,0 +1,13 @@
+pub mod Classes
+pub mod Counted
+pub mod Mapped
+pub mod OfNets
+pub mod OfRules
+pub mod OneOpening
+pub mod Opened
+pub mod OpenedRules
+pub mod Public
+pub mod RuleLaws
+pub mod RuleNodes
+pub mod RulePoints
+pub mod TextRules

@@ -1,0 +1,15 @@
+//! The open nets of nets and of rules, of which can be asked whether they are semi-simple (Lafont 1990).
+//!
+//! `opening` makes the open net of a net that was built (`BuiltNet`: the net and the tables of its symbols), `opening_rules` that of a
+//! rule, by a `Layout`, which says where the class nodes and the agents of the rule have their numbers. `OpenNet::new` asks that each
+//! point is in exactly one wire.
+//!
+//! It needs `in_open_nets` alone of the crates of open nets, so that it is proved beside `in_simple_deriving` and `in_simple_verifying`.
+#![tactic(auto)]
+
+pub mod laws;
+mod opening;
+mod opening_rules;
+
+pub use opening::open_net;
+pub use opening_rules::open_rule;

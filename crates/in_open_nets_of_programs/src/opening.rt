@@ -1,0 +1,125 @@
+ghost use Rattle.std.specs.Prelude.{◌≡◌, ◌+◌, ◌<◌, ◌≤◌, ◌^◌, length, IsTrue, Some, option_map, IfOk};
+ghost use Rattle.in_syntax.specs.Grammar.{max_ports};
+ghost use Rattle.in_symbols.specs.Tables.{IsSymbol};
+ghost use Rattle.in_net.specs.Built.{IsOver};
+ghost use Rattle.in_net.specs.Parts.{IsWhole, wire_in};
+ghost use Rattle.in_open_nets_of_programs.specs.Opening.{AreAllThere, AreClassesOf, Each, AreNumbered, IsNodeOf, open_point, open_wire, AreNodesOf, AreWiresOf, Opens};
+
+use in_net::{AgentNo, Net};
+use in_open_nets::{Node, OpenNet, OpenNode, OpenPoint};
+use in_symbols::{SymbolNo, Symbols};
+use sqlite_items::Items;
+use std::alloc::{AllocError, Global};
+use std::marker::Model;
+
+/// The classes of a symbol's places.
+fn classes(alloc: Global, symbols: &Symbols, symbol: SymbolNo) -> Result<Items<u8>, AllocError>
+    requires { IsSymbol symbols.now symbol.0 }
+    ensures classes { IfOk result (AreClassesOf symbols.now symbol) }
+    ensures few { IfOk result (λ classes. length classes ≤ max_ports + 1) }
+{
+    let mut classes = Items::new(alloc);
+    let arity = symbols.arity(symbol);
+    for place in 0..=arity {
+        classes.push(symbols.class_of(symbol, place))?;
+    }
+    Ok(classes)
+}
+
+/// A net or a right member as it was built, with the tables of its symbols.
+#[derive(Drop)]
+pub(crate) struct BuiltNet<'a> {
+    pub(crate) symbols: &'a Symbols,
+    pub(crate) net: &'a Net,
+}
+
+// Contracts see the tables and the net.
+impl<'a> Model for BuiltNet<'a> {
+    ghost use Rattle.in_open_nets_of_programs.specs.Opening.{IsBuiltOver, Member};
+
+    ghost Value = { Member };
+
+    ghost view = { λ m. record { tables = m.symbols.now; net = m.net.now } };
+
+    ghost invariant = { λ m. IsBuiltOver m.symbols.now m.net.now };
+}
+
+/// The node of an agent.
+pub(crate) fn node(alloc: Global, built: &BuiltNet, agent: AgentNo) -> Result<OpenNode, AllocError>
+    requires { agent.0 < length built.now.net.cells }
+    ensures node { IfOk result (IsNodeOf built.now.tables built.now.net agent.0) }
+    ensures few { IfOk result (λ node. length node.class_of ≤ max_ports + 1) }
+{
+    match built.net.symbol(agent) {
+        Some(symbol) => Ok(OpenNode {
+            node: Node::AgentNode(symbol),
+            place: built.net.agent_place(agent),
+            classes: built.symbols.classes(symbol),
+            class_of: classes(alloc, built.symbols, symbol)?,
+        }),
+        // In a net that is built, no number is without an agent.
+        None => unreachable!(),
+    }
+}
+
+/// The nodes of the agents.
+fn nodes(alloc: Global, built: &BuiltNet) -> Result<Items<OpenNode>, AllocError>
+    ensures nodes { IfOk result (AreNodesOf built.now.tables built.now.net) }
+    ensures small { IfOk result (λ nodes. length nodes < 2 ^ 32) }
+    ensures few { IfOk result (Each (λ n node. length node.class_of ≤ max_ports + 1)) }
+    ensures whole { IsWhole built.now.net }
+{
+    let mut nodes = Items::new(alloc);
+    let count = built.net.agents();
+    for agent in 0..count {
+        nodes.push(node(alloc, built, AgentNo(agent))?)?;
+    }
+    Ok(nodes)
+}
+
+/// A point of the net as one of its open net.
+fn open_point(point: in_net::Point) -> OpenPoint
+    ensures { result ≡ open_point point }
+{
+    match point {
+        in_net::Point::Port(agent, place) => OpenPoint::Port(agent.0, place),
+        in_net::Point::Free(number) => OpenPoint::Free(number),
+    }
+}
+
+/// A wire of the net between the points of its open net.
+fn wire(net: &Net, number: u32) -> (OpenPoint, OpenPoint)
+    requires { number < length net.now.wires }
+    ensures { option_map open_wire (wire_in net.now number) ≡ Some result }
+{
+    let (one, other) = net.wire(number);
+    (open_point(one), open_point(other))
+}
+
+/// The wires between the nodes.
+fn wires(alloc: Global, net: &Net) -> Result<Items<(OpenPoint, OpenPoint)>, AllocError>
+    ensures { IfOk result (AreWiresOf net.now) }
+{
+    let mut wires = Items::new(alloc);
+    let count = net.wires();
+    for number in 0..count {
+        wires.push(wire(net, number))?;
+    }
+    Ok(wires)
+}
+
+/// The open net of an initial net, as built: a node for each agent, in order and with the classes of its symbol, a wire for each
+/// wire, by number, and the free ends. Refused for want of memory alone. The tables are to number classes from 1, which those of a
+/// program do. Lafont 1990 asks of a net that it is semi-simple; the open net has what is needed to say so.
+pub fn open_net(alloc: Global, symbols: &Symbols, net: &Net) -> Result<OpenNet, AllocError>
+    requires over { IsOver symbols.now net.now }
+    requires built { IsTrue net.now.built }
+    requires there { AreAllThere net.now }
+    requires numbered { AreNumbered symbols.now }
+    ensures { IfOk result (Opens symbols.now net.now) }
+{
+    let built = BuiltNet { symbols, net };
+    let nodes = nodes(alloc, &built)?;
+    let wires = wires(alloc, net)?;
+    Ok(OpenNet::new(nodes, wires, net.free_ends()))
+}

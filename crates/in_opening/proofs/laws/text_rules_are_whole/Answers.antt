@@ -1,5 +1,0 @@
-use Rattle.in_opening.proofs.TextRules.{rule_whole}
-use Rattle.in_opening.proofs.laws.text_rules_are_whole.Goals as goal
-
-pub returns : goal.returns
-returns c = λ t text p h. rule_whole t text p h

@@ -1,6 +1,0 @@
-use Rattle.std.proofs.Common.{◌≡◌, length}
-use Rattle.in_opening.specs.Opening.{Each}
-use Rattle.in_opening.proofs.opening_rules.ports.Given as goal
-
-abbrev pub invariant-loop-port : goal.invariant-loop-port
-invariant-loop-port l = record { size : length l.ports ≡ l.port; numbers : Each (λ i k. k ≡ i) l.ports }

@@ -1,0 +1,5 @@
+//! The tests of edges on cycles.
+#![tactic(auto)]
+
+#[cfg(test)]
+mod of_in_simple_bridges;

@@ -1,0 +1,16 @@
+pub mod ClassNets
+pub mod Derives
+pub mod Fates
+pub mod Finishing
+pub mod Joining
+pub mod Make
+pub mod Nets
+pub mod OneAnswer
+pub mod OneOrder
+pub mod Planning
+pub mod Public
+pub mod Stacking
+pub mod Stages
+pub mod Taking
+pub mod Waiting
+pub mod Working

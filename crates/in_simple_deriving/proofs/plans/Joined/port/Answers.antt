@@ -1,0 +1,21 @@
+use Rattle.std.proofs.Common.{◌≡◌, ◌<◌, ◌+◌, sym, subst}
+use Rattle.in_simple_deriving.specs.Progress.{PlansNet, Progress}
+use Rattle.in_open_nets.specs.OpenNets.{IsAgent}
+use Rattle.in_open_nets.specs.Stuck.{ports_of, turn}
+use Rattle.in_simple_deriving.proofs.Stages.{joins_port}
+use Rattle.in_simple_deriving.proofs.plans.Joined.port.Goals as goal
+
+pub invariant_of-result : goal.invariant_of-result
+invariant_of-result c =
+    let o = c.self.inside.wired.now in
+    let n = c.self.inside.node in
+    let i = c.args.port in
+    let p = c.self.inside.plan in
+    let r = c.in_ok-plan.plan in
+    let same = sym c.self.view_is in
+    let e : c.self.inside.turn ≡ turn o n i = subst (λ (s : Progress). s.next ≡ turn s.net s.node i) same c.requires.turn in
+    let lt : i < ports_of o n = subst (λ (s : Progress). i < ports_of s.net s.node) same c.requires.port in
+    let principal : IsAgent o n → i ≡ 0 = subst (λ (s : Progress). IsAgent s.net s.node → i ≡ 0) same c.requires.principal in
+    let x = subst (λ z. PlansNet o n z p) e c.self.invariant in
+    let on = joins_port o n i c.partner-wire.result.0 c.partner-wire.result.1 p r c.fate_at-fate.result x lt principal c.partner-wire.ensures.wire c.fate_at-fate.ensures c.in_ok-plan.ensures in
+    subst (λ z. PlansNet o n (z + 1) r) (sym e) on.0

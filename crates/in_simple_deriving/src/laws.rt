@@ -1,0 +1,18 @@
+//! Laws over the definitions of deriving, for whoever reasons above them. No function here does anything.
+
+ghost use Rattle.in_simple_deriving.specs.Laws.{DerivationWhereDerivable, NetsAreDerivedOnce, OneStuckPlace};
+
+/// There is a list of steps that builds an open net exactly where it is derivable.
+pub fn derivation_where_derivable()
+    ensures { DerivationWhereDerivable }
+{}
+
+/// What deriving an open net answers is one: there are steps, in their order, or one sub-net is stuck; never both.
+pub fn nets_are_derived_once()
+    ensures { NetsAreDerivedOnce }
+{}
+
+/// A stuck open net is refused at one place.
+pub fn one_stuck_place()
+    ensures { OneStuckPlace }
+{}

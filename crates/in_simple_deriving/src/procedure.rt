@@ -1,0 +1,315 @@
+ghost use Rattle.std.specs.Prelude.{◌≡◌, ◌<◌, ◌-◌, ◌++◌, ◌∷◌, [], drop, length, map, reverse, true, IfOk, OnOk, MatchOption, MatchResult};
+ghost use Rattle.in_open_nets.specs.Derivations.{IsDerivation};
+ghost use Rattle.in_open_nets.specs.Stuck.{IsStuckNet, IsUndone};
+ghost use Rattle.in_simple_deriving.specs.Procedure.{AreFewer, AreMakes, HasRoomForNodes, IsWork, PassesSteps, StartsWork};
+ghost use Rattle.in_simple_deriving.specs.Outcomes.{IsDerivingOutcome};
+ghost use Rattle.in_simple_deriving.specs.Stacks.{AdvancesTasks, AreLast, EndsInWhole, IsLastLeft, IsUnderWay, MakesStep, loose_in};
+ghost use Rattle.in_simple_deriving.specs.TakenOrder.{AreTaken, links_from};
+ghost use Rattle.in_simple_deriving.specs.declared.plans.Task.TheVariants.{Derive, Make};
+
+use crate::plans::{Joint, Room, Task, tasks_of};
+use in_base::use_promise;
+use in_open_nets::{
+    Derivation, NodeList, OpenNet, OpenPoint, Part, Step, Stuck, Trials, Undone, Wired,
+    first_splitting,
+};
+use sqlite_items::Items;
+use std::alloc::{AllocError, Global};
+
+/// The tasks that are left, the first one last, the steps so far, and those of them that no step names yet.
+#[derive(Drop)]
+pub(crate) struct Work {
+    pub(crate) tasks: Items<Task>,
+    pub(crate) steps: Items<Step>,
+    pub(crate) roots: Items<u32>,
+}
+
+/// The last of these, in their order.
+fn last_of(alloc: Global, roots: &Items<u32>, count: usize) -> Result<Items<u32>, AllocError>
+    ensures { IfOk result (λ last. last ≡ drop (length roots.now - count) roots.now) }
+{
+    let mut last = Items::new(alloc);
+    let first = roots.len() - count.min(roots.len());
+    for root in first..roots.len() {
+        last.push(roots.as_slice()[root])?;
+    }
+    Ok(last)
+}
+
+impl Work {
+    /// The tasks come first.
+    fn expand(&mut self, tasks: Items<Task>) -> Result<(), AllocError>
+        ensures tasks { OnOk result (reverse self.new.tasks ≡ tasks ++ reverse self.old.tasks) }
+        ensures steps { self.new.steps ≡ self.old.steps }
+        ensures roots { self.new.roots ≡ self.old.roots }
+    {
+        let mut left = tasks;
+        while let Some(task) = left.pop() {
+            self.tasks.push(task)?;
+        }
+        Ok(())
+    }
+
+    /// One more step. More than 4,294,967,296 of them are no memory.
+    fn push(&mut self, step: Step) -> Result<(), AllocError>
+        ensures tasks { self.new.tasks ≡ self.old.tasks }
+        ensures steps { OnOk result (self.new.steps ≡ self.old.steps ++ step ∷ []) }
+        ensures roots { OnOk result (self.new.roots ≡ self.old.roots ++ length self.old.steps ∷ []) }
+    {
+        match u32::try_from(self.steps.len()) {
+            Ok(number) => {
+                self.steps.push(step)?;
+                self.roots.push(number)
+            }
+            Err(_) => Err(AllocError),
+        }
+    }
+
+    /// The last step that none names.
+    fn pop(&mut self) -> u32
+        ensures tasks { self.new.tasks ≡ self.old.tasks }
+        ensures steps { self.new.steps ≡ self.old.steps }
+        ensures roots { IsLastLeft result self.old.roots self.new.roots }
+    {
+        self.roots.pop().unwrap_or(0)
+    }
+
+    /// Forgets the last steps that none names.
+    fn forget(&mut self, count: usize)
+        ensures tasks { self.new.tasks ≡ self.old.tasks }
+        ensures steps { self.new.steps ≡ self.old.steps }
+        ensures roots { AreLast count self.old.roots self.new.roots }
+    {
+        for root in 0..count {
+            self.pop();
+        }
+    }
+
+    /// A step over the last ones that none names.
+    fn make(&mut self, alloc: Global, joint: Joint) -> Result<(), AllocError>
+        ensures tasks { self.new.tasks ≡ self.old.tasks }
+        ensures made { OnOk result (MakesStep joint self.old.steps self.old.roots self.new.steps self.new.roots) }
+    {
+        match joint {
+            Joint::Empty => self.push(Step::Empty),
+            Joint::Link(wire) => self.push(Step::Link { wire }),
+            Joint::Given(node) => self.push(Step::Given { node }),
+            Joint::Graft(node, count) => {
+                let classes = last_of(alloc, &self.roots, count)?;
+                self.forget(count);
+                self.push(Step::Graft { node, classes })
+            }
+            Joint::Cut(wire) => {
+                let b = self.pop();
+                let a = self.pop();
+                self.push(Step::Cut { wire, a, b })
+            }
+            Joint::Mix => {
+                let b = self.pop();
+                let a = self.pop();
+                self.push(Step::Mix { a, b })
+            }
+        }
+    }
+
+    /// Makes steps until a part is to be derived.
+    fn next_part(&mut self, alloc: Global) -> Result<Option<NodeList>, AllocError>
+        ensures tasks { IfOk result (λ next. MatchOption next
+            (PassesSteps (reverse self.old.tasks) [])
+            (λ part. PassesSteps (reverse self.old.tasks) (Derive part ∷ reverse self.new.tasks))) }
+        ensures steps { IfOk result (λ next. MatchOption next
+            (AdvancesTasks (reverse self.old.tasks) self.old.steps self.old.roots [] self.new.steps self.new.roots)
+            (λ part. AdvancesTasks (reverse self.old.tasks) self.old.steps self.old.roots (Derive part ∷ reverse self.new.tasks) self.new.steps self.new.roots)) }
+    {
+        while let Some(task) = self.tasks.pop() {
+            match task {
+                Task::Derive(part) => return Ok(Some(part)),
+                Task::Make(joint) => self.make(alloc, joint)?,
+            }
+        }
+        Ok(None)
+    }
+}
+
+/// Whether the wire is between two free ends.
+fn is_loose(open: &OpenNet, wire: usize) -> bool
+    requires { wire < length «open».now.wires }
+    ensures { result ≡ loose_in «open».now wire }
+{
+    matches!(open.wire(wire), (OpenPoint::Free(_), OpenPoint::Free(_)))
+}
+
+/// A Link of each wire between free ends, beside what came so far; or the empty net, where nothing comes.
+fn loose(alloc: Global, open: &OpenNet, begun: bool) -> Result<Items<Task>, AllocError>
+    ensures makes { IfOk result AreMakes }
+    ensures steps { IfOk result (EndsInWhole «open».now begun) }
+    ensures order { IfOk result (λ tasks. tasks ≡ map Make (links_from «open».now begun 0 (length «open».now.wires))) }
+{
+    let mut tasks = Items::new(alloc);
+    let mut some = begun;
+    for wire in 0..open.wires() {
+        if is_loose(open, wire) {
+            tasks.push(Task::Make(Joint::Link(wire as u32)))?;
+            if some {
+                tasks.push(Task::Make(Joint::Mix))?;
+            }
+            some = true;
+        }
+    }
+    if !some {
+        tasks.push(Task::Make(Joint::Empty))?;
+    }
+    Ok(tasks)
+}
+
+/// The tasks of the whole open net.
+fn start(alloc: Global, open: &OpenNet) -> Result<Items<Task>, AllocError>
+    ensures work { IfOk result (StartsWork (length «open».now.nodes)) }
+    ensures steps { IfOk result (λ tasks. IsUnderWay «open».now tasks [] []) }
+{
+    let count = open.nodes();
+    if count > 0 {
+        let mut tasks = Items::new(alloc);
+        tasks.push(Task::Derive(NodeList::all(alloc, count)?))?;
+        tasks.append(loose(alloc, open, true)?)?;
+        Ok(tasks)
+    } else {
+        loose(alloc, open, false)
+    }
+}
+
+/// The tasks of the whole open net, and no step yet.
+fn begin(alloc: Global, open: &OpenNet) -> Result<Work, AllocError>
+    ensures work { IfOk result (λ work. IsWork «open».now (reverse work.tasks)) }
+    ensures steps { IfOk result (λ work. IsUnderWay «open».now (reverse work.tasks) work.steps work.roots) }
+{
+    let tasks = start(alloc, open)?;
+    let mut work = Work {
+        tasks: Items::new(alloc),
+        steps: Items::new(alloc),
+        roots: Items::new(alloc),
+    };
+    work.expand(tasks)?;
+    Ok(work)
+}
+
+/// Takes the first node that splits the part of these nodes out of it; or answers the part, where there is none.
+fn take(
+    alloc: Global,
+    wired: &Wired,
+    work: &mut Work,
+    trials: &mut Trials,
+    list: NodeList,
+    room: Room,
+) -> Result<(Option<Stuck>, Room), AllocError>
+    requires work { IsWork wired.now (Derive list ∷ reverse work.old.tasks) }
+    requires steps { IsUnderWay wired.now (Derive list ∷ reverse work.old.tasks) work.old.steps work.old.roots }
+    requires rings { trials.old.rings ≡ wired.now }
+    requires room { HasRoomForNodes wired.now room }
+    ensures rings { trials.new.rings ≡ trials.old.rings }
+    ensures room { IfOk result (λ r. HasRoomForNodes wired.now r.1) }
+    ensures found { IfOk result (λ r. MatchOption r.0
+        (IsWork wired.now (reverse work.new.tasks) × AreFewer wired.now (Derive list ∷ reverse work.old.tasks) (reverse work.new.tasks) × IsUnderWay wired.now (reverse work.new.tasks) work.new.steps work.new.roots)
+        (IsStuckNet wired.now)) }
+{
+    let opened = room.open(list)?;
+    let part = Part {
+        wired: &*wired,
+        nodes: &opened.nodes,
+    };
+    match first_splitting(alloc, &part, trials)? {
+        Some(node) => {
+            let (tasks, room) = tasks_of(alloc, wired, opened, node)?;
+            work.expand(tasks)?;
+            Ok((None, room))
+        }
+        None => {
+            let nodes = Items::from_slice(alloc, opened.nodes.members())?;
+            Ok((Some(Stuck { nodes }), opened.close()))
+        }
+    }
+}
+
+/// Goes on until nothing is left, or a part is stuck.
+fn finish(
+    alloc: Global,
+    wired: &Wired,
+    work: &mut Work,
+    trials: &mut Trials,
+    room: Room,
+) -> Result<Option<Stuck>, AllocError>
+    requires work { IsWork wired.now (reverse work.old.tasks) }
+    requires steps { IsUnderWay wired.now (reverse work.old.tasks) work.old.steps work.old.roots }
+    requires rings { trials.old.rings ≡ wired.now }
+    requires room { HasRoomForNodes wired.now room }
+    ensures { IfOk result (λ found. MatchOption found (IsDerivation wired.now work.new.steps × AreTaken wired.now work.new.steps) (IsStuckNet wired.now)) }
+{
+    let mut lent = room;
+    while let Some(part) = work.next_part(alloc)? {
+        let (stuck, room) = take(alloc, wired, work, trials, part, lent)?;
+        if stuck.is_some() {
+            return Ok(stuck);
+        }
+        lent = room;
+    }
+    use_promise!(wired.nodes());
+    Ok(None)
+}
+
+/// A derivation, or the first stuck sub-net.
+#[derive(Drop)]
+enum Outcome {
+    Derived(Derivation),
+    First(Stuck),
+}
+
+/// What the procedure comes to, with the wires by port.
+fn come_to(
+    alloc: Global,
+    open: &OpenNet,
+    wired: &Wired,
+    trials: &mut Trials,
+    room: Room,
+) -> Result<Outcome, AllocError>
+    requires net { wired.now ≡ «open».now }
+    requires rings { trials.old.rings ≡ wired.now }
+    requires room { HasRoomForNodes wired.now room }
+    ensures { IfOk result (IsDerivingOutcome «open».now) }
+{
+    let mut work = begin(alloc, open)?;
+    match finish(alloc, wired, &mut work, trials, room)? {
+        None => {
+            let Work {
+                tasks: _,
+                steps,
+                roots: _,
+            } = work;
+            Ok(Outcome::Derived(Derivation { steps }))
+        }
+        Some(stuck) => Ok(Outcome::First(stuck)),
+    }
+}
+
+/// What the procedure comes to.
+fn attempt(alloc: Global, open: &OpenNet) -> Result<Outcome, AllocError>
+    ensures { IfOk result (IsDerivingOutcome «open».now) }
+{
+    let wired = Wired::of(alloc, open)?;
+    let mut trials = Trials::new(alloc, &wired)?;
+    let room = Room::new(alloc, wired.nodes())?;
+    come_to(alloc, open, &wired, &mut trials, room)
+}
+
+/// The steps that build the open net: the first node in order that splits it is taken out, then each component that is left is
+/// derived, and they are joined, in one order, which determines the steps. Refused with the first stuck sub-net in that order, or for want of memory. Lafont 1990 asks
+/// whether a net is semi-simple; the order is this project's own choice.
+pub fn derive(alloc: Global, open: &OpenNet) -> Result<Derivation, Undone>
+    ensures steps { MatchResult result (λ derivation. IsDerivation «open».now derivation.steps) (IsUndone «open».now) }
+    ensures order { IfOk result (λ derivation. AreTaken «open».now derivation.steps) }
+{
+    match attempt(alloc, open) {
+        Ok(Outcome::Derived(derivation)) => Ok(derivation),
+        Ok(Outcome::First(stuck)) => Err(Undone::Stuck(stuck)),
+        Err(error) => Err(Undone::Memory(error)),
+    }
+}

@@ -1,0 +1,3 @@
+-- The first of several faults.
+pub mod FirstFault
+pub mod Least

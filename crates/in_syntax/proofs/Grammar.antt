@@ -1,0 +1,13 @@
+-- From tokens to a program, and what is expected.
+pub mod Closing
+pub mod Complete
+pub mod Continues
+pub mod OneExpected
+pub mod Outcomes
+pub mod Parsed
+pub mod Paths
+pub mod Prefixes
+pub mod Separated
+pub mod Sound
+pub mod ThenOne
+pub mod WholeTexts

@@ -1,0 +1,5 @@
+-- The tree, in its text.
+pub mod Ordered
+pub mod Sized
+pub mod SourcePlaces
+pub mod Terms

@@ -1,5 +1,0 @@
-use Rattle.in_words.proofs.Naming.{faultless_asks}
-use Rattle.in_words.proofs.laws.faultless_words_ask.Goals as goal
-
-pub returns : goal.returns
-returns c = faultless_asks

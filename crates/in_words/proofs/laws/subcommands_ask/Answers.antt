@@ -1,5 +1,0 @@
-use Rattle.in_words.proofs.Examples.{given_asks, named_ask, usual_asks}
-use Rattle.in_words.proofs.laws.subcommands_ask.Goals as goal
-
-pub returns : goal.returns
-returns c = record { named = named_ask; usual = usual_asks; given = given_asks }

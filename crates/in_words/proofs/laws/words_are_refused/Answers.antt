@@ -1,5 +1,0 @@
-use Rattle.in_words.proofs.Refusals.{help_asked, numbers_wrong, others_wrong}
-use Rattle.in_words.proofs.laws.words_are_refused.Goals as goal
-
-pub returns : goal.returns
-returns c = record { help = help_asked; wrong = others_wrong; range = numbers_wrong }

@@ -1,0 +1,53 @@
+"""What no proof says of the house: which lemmas a crate may cite of another, and how many names of types have two homes."""
+import glob
+import os
+import re
+from collections import defaultdict
+
+HERE = os.path.dirname(os.path.abspath(__file__))
+CRATES = os.path.join(HERE, "..", "..", "crates")
+# The lemmas on lists and graphs are for everybody: this crate has them by subject, in no module Public.
+FOR_EVERYBODY = {"in_base"}
+CITED = re.compile(r"^\s*(?:unfoldable )?(?:pub )?use (?:package\.)?Rattle\.(in\w+)\.proofs\.(\w+)", re.MULTILINE)
+TYPE = re.compile(r"^\s*(?:pattern |unfoldable |abbrev )*pub (?:data |record )?([A-Z]\w*)", re.MULTILINE)
+# So many names of types have more than one home in specs/. The number may only fall: one name, one home.
+MOST_WITH_TWO_HOMES = 15
+
+
+def texts_of(folder):
+    """The crate, the path in it and the text of each file that lies in such a folder of a crate."""
+    for path in sorted(glob.glob(os.path.join(CRATES, "*", folder, "**", "*.antt"), recursive=True)):
+        with open(path, encoding="utf-8") as file:
+            crate, name = os.path.relpath(path, CRATES).split(os.sep, 1)
+            yield crate, name, file.read()
+
+
+def wrong_citations():
+    """Lemmas of another crate that don't come by its module Public."""
+    wrong = []
+    for folder in ("proofs", "specs"):
+        for crate, name, text in texts_of(folder):
+            others = {cited for cited in CITED.findall(text) if cited[0] != crate and cited[0] not in FOR_EVERYBODY}
+            wrong += [f"crates/{crate}/{name} cites {other}.proofs.{module}" for other, module in sorted(others) if module != "Public"]
+    return "; ".join(wrong)
+
+
+def wrong_homes():
+    """More names with several homes than there were."""
+    homes = defaultdict(set)
+    for crate, name, text in texts_of("specs"):
+        for declared in TYPE.findall(text):
+            homes[declared].add(f"{crate}/{name}")
+    several = {name: sorted(files) for name, files in homes.items() if len(files) > 1}
+    if len(several) == MOST_WITH_TWO_HOMES:
+        return None
+    told = f"{len(several)} names of types have several homes, and MOST_WITH_TWO_HOMES says {MOST_WITH_TWO_HOMES}"
+    if len(several) < MOST_WITH_TWO_HOMES:
+        return f"{told}: lower it"
+    return f"{told}: {'; '.join(f'{name} in {chr(44).join(files)}' for name, files in sorted(several.items()))}"
+
+
+def house(_program):
+    """The group: it needs no program."""
+    yield "only Public is cited across crates", wrong_citations
+    yield "one name, one home", wrong_homes
