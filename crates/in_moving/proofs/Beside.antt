@@ -20,7 +20,7 @@ use Rattle.in_glue.proofs.Public.{mapped}
 use Rattle.in_joining.specs.Shown.{IsShown, point_of}
 use Rattle.in_parts.specs.Leading.{StandBeside}
 use Rattle.in_moving.specs.Copying.{AreAllLive, IsCopied, moved, moved_end, name_in, number_in}
-use Rattle.in_moving.specs.Laws.{moved_point, Shows, AreNumbered, number_of, leads_to, AreEndsOf, CopiesStandBeside, ends_of, one_after_other, CopiesFollow}
+use Rattle.in_moving.specs.Laws.{moved_point, ShowsAll, AreRenumbered, number_of, leads_to, AreEndsOfBoth, CopiesStandBeside, ends_of, one_after_other, CopiesFollow}
 use Rattle.in_moving.proofs.Shown.{word_moved, end_moved, point_moved, end_live, NamedOr, named_or}
 use Rattle.in_moving.proofs.Written.{moved_live}
 
@@ -39,8 +39,8 @@ pub at_placed : (number : ℕ × ℕ → ℕ) (name : ℕ → ℕ) (i : ℕ) (p 
 at_placed number name i (Port x k) = refl
 at_placed number name i (Free k) = refl
 
-module _ (from before old new : ArenaView) (agents names : List CellNo) (numbers : List ℕ) (own : ℕ → ℕ) (of_from of_before of_new : List End) (ends : List (ℕ × ℕ)) (n m w : Net ℕ) (shows_n : Shows from of_from n) (shows_m : Shows before of_before m)
-    (all : AreAllLive from agents) (numbered : AreNumbered own before old) (copied : IsCopied from agents numbers names old new) (lists : AreEndsOf m n (name_in names) own (number_in numbers) of_before of_from ends of_new) (shows_w : IsShown new of_new w) where
+module _ (from before old new : ArenaView) (agents names : List CellNo) (numbers : List ℕ) (own : ℕ → ℕ) (of_from of_before of_new : List End) (ends : List (ℕ × ℕ)) (n m w : Net ℕ) (shows_n : ShowsAll from of_from n) (shows_m : ShowsAll before of_before m)
+    (all : AreAllLive from agents) (numbered : AreRenumbered own before old) (copied : IsCopied from agents numbers names old new) (lists : AreEndsOfBoth m n (name_in names) own (number_in numbers) of_before of_from ends of_new) (shows_w : IsShown new of_new w) where
   abbrev name : ℕ → ℕ
   name = name_in names
 
@@ -319,7 +319,7 @@ module _ (name : ℕ → ℕ) (numbers : List ℕ) (of_from of_old : List End) (
       ap (slice_get (front ++ more)) at ∙ past_first front more e ∙ ends_there 1 0 (length n.free) e less ∙ ap (λ (z : ℕ). Some (1, z)) (let f : 0 + e ≡ e = omega arith in f)
   all_ends (suc (suc i)) e less = absurd (omega (arith, less))
 
-  are_ends : AreEndsOf m n name (λ z. z) (number_in numbers) of_old of_from (front ++ more) both
+  are_ends : AreEndsOfBoth m n name (λ z. z) (number_in numbers) of_old of_from (front ++ more) both
   are_ends = record {
     many = (
         length-append of_old (map (moved_end name (number_in numbers)) of_from) ∙ ap (λ z. length of_old + z) (length-map of_from (moved_end name (number_in numbers)))

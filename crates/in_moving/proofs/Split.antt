@@ -17,7 +17,7 @@ use Rattle.in_glue.proofs.Public.{mapped}
 use Rattle.in_joining.specs.Shown.{point_of}
 use Rattle.in_parts.specs.Leading.{StandBeside}
 use Rattle.in_moving.specs.Copying.{IsCopied, name_in, number_in}
-use Rattle.in_moving.specs.Laws.{moved_point, Shows, AreTakenOut, LeadsIntoPart, AreEndsSplit, PartStandsBeside}
+use Rattle.in_moving.specs.Laws.{moved_point, ShowsAll, AreTakenOut, LeadsIntoPart, AreEndsSplit, PartStandsBeside}
 use Rattle.in_moving.proofs.Shown.{word_moved, end_moved, point_moved, end_live, NamedOr, named_or}
 use Rattle.in_moving.proofs.Beside.{placed, is_placed, at_placed}
 
@@ -27,8 +27,8 @@ live_word_there Vacant live e = live
 live_word_there Leased live e = live
 live_word_there (Live w es) live e = let f : Some w ≡ None = e in cc
 
-module _ (from left old new : ArenaView) (agents names : List CellNo) (numbers : List ℕ) (own origin : ℕ → ℕ) (place : ℕ → ℕ → ℕ) (of_from of_left of_new : List End) (ends : List (ℕ × ℕ)) (n m p : Net ℕ) (shows_n : Shows from of_from n) (back : WiresLeadBack n)
-    (shows_m : Shows left of_left m) (shows_p : Shows new of_new p) (copied : IsCopied from agents numbers names old new) (empty : (y : ℕ) → word_of (state_at old y) ≡ None) (out : AreTakenOut agents own from left)
+module _ (from left old new : ArenaView) (agents names : List CellNo) (numbers : List ℕ) (own origin : ℕ → ℕ) (place : ℕ → ℕ → ℕ) (of_from of_left of_new : List End) (ends : List (ℕ × ℕ)) (n m p : Net ℕ) (shows_n : ShowsAll from of_from n) (back : WiresLeadBack n)
+    (shows_m : ShowsAll left of_left m) (shows_p : ShowsAll new of_new p) (copied : IsCopied from agents numbers names old new) (empty : (y : ℕ) → word_of (state_at old y) ≡ None) (out : AreTakenOut agents own from left)
     (from_where : (k : ℕ) (c : CellNo) → slice_get agents k ≡ Some c → origin (name_in names c.0) ≡ c.0)
     (closed : (k i : ℕ) (c : CellNo) (x : End) → slice_get agents k ≡ Some c → end_at (state_at from c.0) i ≡ Some x → LeadsIntoPart agents ends x) (split : AreEndsSplit m p agents (name_in names) own (number_in numbers) place of_from of_left of_new ends) where
   abbrev name : ℕ → ℕ

@@ -15,8 +15,8 @@ use Rattle.in_arena.specs.declared.content.CellClass.{CellClass}
 use Rattle.in_arena.specs.declared.content.CellClass.TheVariants.{Small, Large, Wide}
 use Rattle.in_arena.specs.declared.content.CellNo.{CellNo}
 use Rattle.in_arena.proofs.Public.{changed_same, vacant_inside, changed_twice, counts_change}
-use Rattle.in_moving.specs.Copying.{ArePart, AreAlike, HasRoom, is_for, name_in}
-use Rattle.in_moving.specs.CopyingSteps.{TakesCell, HasCell, AreTakenBelow, AreCellsFor}
+use Rattle.in_moving.specs.Copying.{ArePart, LooksLike, HasCellsFor, is_for, name_in}
+use Rattle.in_moving.specs.CopyingSteps.{TakesCell, HasCell, HaveCellsBelow, HaveOwnCells}
 
 -- ---- classes
 
@@ -108,7 +108,7 @@ module _ (old : ArenaView) (all : HasAllCells old) (y : State) (d : CellClass) (
 
 -- ---- one agent after another
 
-pub none_taken : (from : ArenaView) (agents : List CellNo) (old : ArenaView) (names : List CellNo) → AreTakenBelow from agents old 0 old names
+pub none_taken : (from : ArenaView) (agents : List CellNo) (old : ArenaView) (names : List CellNo) → HaveCellsBelow from agents old 0 old names
 none_taken from agents old names = record {
   each = λ k c less. absurd (omega (arith, less));
   once = λ j k c d less. absurd (omega (arith, less));
@@ -119,12 +119,12 @@ none_taken from agents old names = record {
   many = refl;
 }
 
-module _ (from : ArenaView) (agents : List CellNo) (old : ArenaView) (x : ℕ) (now : ArenaView) (names : List CellNo) (part : ArePart from agents) (h : AreTakenBelow from agents old x now names) (c : CellNo) (at : slice_get agents x ≡ Some c) where
+module _ (from : ArenaView) (agents : List CellNo) (old : ArenaView) (x : ℕ) (now : ArenaView) (names : List CellNo) (part : ArePart from agents) (h : HaveCellsBelow from agents old x now names) (c : CellNo) (at : slice_get agents x ≡ Some c) where
   -- the agent counts for the class for its places
   counted : (d : CellClass) → one_if (is_for from d (get_or agents x c)) ≡ one_if (holds d (places (state_at from c.0)))
   counted d = ap (λ (a : CellNo). one_if (is_for from d a)) (get_or_from_slice_get agents x c c at)
 
-  pub some_free : HasRoom from agents old → (d : CellClass) → Holds d (places (state_at from c.0)) → 0 < free_of now d
+  pub some_free : HasCellsFor from agents old → (d : CellClass) → Holds d (places (state_at from c.0)) → 0 < free_of now d
   some_free room d held =
       let within = sum_by_more_le (λ (a : CellNo). one_if (is_for from d a)) agents x c (slice_get_within agents x c at) in
       let one = counted d ∙ one_for d (places (state_at from c.0)) held in
@@ -155,7 +155,7 @@ module _ (from : ArenaView) (agents : List CellNo) (old : ArenaView) (x : ℕ) (
     has_cell : HasCell (state_at from c.0) old now' n.0
     has_cell = record {
       was = sym (h.others n.0 other) ∙ t.was;
-      alike = subst (AreAlike (state_at from c.0)) (sym at_new) t.alike;
+      alike = subst (LooksLike (state_at from c.0)) (sym at_new) t.alike;
       class = (t.class, t.held, subst (λ z. IsNumberOf z t.class n.0) h.cells t.at);
     }
 
@@ -168,7 +168,7 @@ module _ (from : ArenaView) (agents : List CellNo) (old : ArenaView) (x : ℕ) (
         let g = h.each k d before s in
         subst (HasCell (state_at from d.0) old now') (sym (kept k d before s)) (record {
           was = g.was;
-          alike = subst (AreAlike (state_at from d.0)) (sym (at_other (name_in names d.0) (other k d before s))) g.alike;
+          alike = subst (LooksLike (state_at from d.0)) (sym (at_other (name_in names d.0) (other k d before s))) g.alike;
           class = g.class;
         })
 
@@ -197,7 +197,7 @@ module _ (from : ArenaView) (agents : List CellNo) (old : ArenaView) (x : ℕ) (
         let more = t.left d in
         omega (arith, sum, one, so_far, more)
 
-    pub one_more_taken : AreTakenBelow from agents old (x + 1) now' names'
+    pub one_more_taken : HaveCellsBelow from agents old (x + 1) now' names'
     one_more_taken = record {
       each = λ k d less s. each_by k d (cases_eq k x) less s;
       once = λ j k a b lj lk s r same. once_by j k a b (cases_eq j x) (cases_eq k x) lj lk s r same;
@@ -209,7 +209,7 @@ module _ (from : ArenaView) (agents : List CellNo) (old : ArenaView) (x : ℕ) (
     }
 
 -- all have their cells
-pub cells_for : (from : ArenaView) (agents : List CellNo) (old now : ArenaView) (names : List CellNo) → AreTakenBelow from agents old (length agents) now names → AreCellsFor from agents names now
+pub cells_for : (from : ArenaView) (agents : List CellNo) (old now : ArenaView) (names : List CellNo) → HaveCellsBelow from agents old (length agents) now names → HaveOwnCells from agents names now
 cells_for from agents old now names h = record {
   each = λ k c s. (h.each k c (slice_get_within agents k c s) s).alike;
   once = λ j k c d s r. h.once j k c d (slice_get_within agents j c s) (slice_get_within agents k d r) s r;

@@ -12,12 +12,12 @@ use Rattle.in_arena.specs.declared.content.CellNo.{CellNo}
 use Rattle.in_arena.specs.declared.content.End.{End}
 use Rattle.in_arena.specs.declared.content.End.TheVariants.{Cell, Free}
 use Rattle.in_arena.proofs.Public.{changed_twice, counts_change, class_of_number, live_inside}
-use Rattle.in_moving.specs.Copying.{ArePart, LeadsInto, IsWithin, AreAlike, is_for, moved, moved_end, name_in, number_in, IsCopied}
-use Rattle.in_moving.specs.CopyingSteps.{AreTakenBelow, AreCellsFor, IsBeingWritten, AreWrittenBelow}
+use Rattle.in_moving.specs.Copying.{ArePart, LeadsInto, IsEndWithin, LooksLike, is_for, moved, moved_end, name_in, number_in, IsCopied}
+use Rattle.in_moving.specs.CopyingSteps.{HaveCellsBelow, HaveOwnCells, IsBeingMoved, AreMovedBelow}
 
 -- ---- states
 
-pub alike_live : (x y : State) → IsLive x → AreAlike x y → IsLive y
+pub alike_live : (x y : State) → IsLive x → LooksLike x y → IsLive y
 alike_live Vacant y live e = absurd live
 alike_live Leased y live e = absurd live
 alike_live (Live w es) Vacant live e = let f : None ≡ Some w = e.0 in cc
@@ -30,7 +30,7 @@ parts Leased live = absurd live
 parts (Live w es) live = (w, es, refl)
 
 -- what is alike to that has as many ends
-like_parts : (w : ℕ) (es : List End) (y : State) → AreAlike (Live w es) y → (ds : List End) × (y ≡ Live w ds) × (length ds ≡ length es)
+like_parts : (w : ℕ) (es : List End) (y : State) → LooksLike (Live w es) y → (ds : List End) × (y ≡ Live w ds) × (length ds ≡ length es)
 like_parts w es Vacant e = absurd (let f : None ≡ Some w = e.0 in cc)
 like_parts w es Leased e = absurd (let f : None ≡ Some w = e.0 in cc)
 like_parts w es (Live v ds) e = (ds, ap (λ z. Live z ds) (same_Some v w e.0), e.1)
@@ -41,10 +41,10 @@ same_cell a n = λ i. record { memory = a.memory; cells = a.cells; states = set-
 -- ---- end by end
 
 module _ (name number : ℕ → ℕ) (x : State) (n : ℕ) (first : ArenaView) where
-  pub begun : IsLive x → AreAlike x (state_at first n) → IsBeingWritten name number x n 0 first first
+  pub begun : IsLive x → LooksLike x (state_at first n) → IsBeingMoved name number x n 0 first first
   begun live alike =
       let p = parts x live in
-      let q = like_parts p.0 p.1 (state_at first n) (subst (λ z. AreAlike z (state_at first n)) p.2 alike) in
+      let q = like_parts p.0 p.1 (state_at first n) (subst (λ z. LooksLike z (state_at first n)) p.2 alike) in
       record {
         word = p.0;
         all = p.1;
@@ -55,7 +55,7 @@ module _ (name number : ℕ → ℕ) (x : State) (n : ℕ) (first : ArenaView) w
         so_far = refl;
       }
 
-  module _ (i : ℕ) (now : ArenaView) (h : IsBeingWritten name number x n i first now) (inside : n < length first.states) where
+  module _ (i : ℕ) (now : ArenaView) (h : IsBeingMoved name number x n i first now) (inside : n < length first.states) where
     stands : state_at now n ≡ Live h.word h.ends
     stands = ap (λ v. state_at v n) h.arena ∙ get_or-set_same first.states n (Live h.word h.ends) Leased inside
 
@@ -65,7 +65,7 @@ module _ (name number : ℕ → ℕ) (x : State) (n : ℕ) (first : ArenaView) w
     pub has_place : i < places x → i < places (state_at now n)
     has_place less = subst (λ z. i < places z) (sym stands) (let c = h.count in let m = many in omega (arith, less, c, m))
 
-    pub one_more_end : (e : End) (now' : ArenaView) → end_at x i ≡ Some e → now' ≡ changed now n (with_end (state_at now n) i (moved_end name number e)) → IsBeingWritten name number x n (i + 1) first now'
+    pub one_more_end : (e : End) (now' : ArenaView) → end_at x i ≡ Some e → now' ≡ changed now n (with_end (state_at now n) i (moved_end name number e)) → IsBeingMoved name number x n (i + 1) first now'
     one_more_end e now' at change =
         let here : slice_get h.all i ≡ Some e = sym (ap (λ z. end_at z i) h.is) ∙ at in
         let less = slice_get_within h.all i e here in
@@ -84,7 +84,7 @@ module _ (name number : ℕ → ℕ) (x : State) (n : ℕ) (first : ArenaView) w
               ∙ sym (ap (map (moved_end name number)) more);
         }
 
-  pub all_written : (i : ℕ) (now : ArenaView) → IsBeingWritten name number x n i first now → places x ≤ i → now ≡ changed first n (moved name number x)
+  pub all_written : (i : ℕ) (now : ArenaView) → IsBeingMoved name number x n i first now → places x ≤ i → now ≡ changed first n (moved name number x)
   all_written i now h le =
       let m : places x ≡ length h.all = ap places h.is in
       let c = h.count in
@@ -95,11 +95,11 @@ module _ (name number : ℕ → ℕ) (x : State) (n : ℕ) (first : ArenaView) w
 -- ---- one agent after another
 
 -- an end that leads to an agent of a list has numbers within
-pub within_list : (from : ArenaView) (agents : List CellNo) (many cells : ℕ) → ArePart from agents → length from.states ≤ cells → (e : End) → LeadsInto agents many e → IsWithin cells many e
+pub within_list : (from : ArenaView) (agents : List CellNo) (many cells : ℕ) → ArePart from agents → length from.states ≤ cells → (e : End) → LeadsInto agents many e → IsEndWithin cells many e
 within_list from agents many cells part le (Cell c i) at = let l = live_inside from c.0 (part.live at.0 c at.1) in omega (arith, l, le)
 within_list from agents many cells part le (Free k) at = at
 
-pub none_written : (from : ArenaView) (agents names : List CellNo) (ends : List ℕ) (first : ArenaView) → AreWrittenBelow from agents names ends first 0 first
+pub none_written : (from : ArenaView) (agents names : List CellNo) (ends : List ℕ) (first : ArenaView) → AreMovedBelow from agents names ends first 0 first
 none_written from agents names ends first = record {
   each = λ k c less. absurd (omega (arith, less));
   others = λ n out. refl;
@@ -127,7 +127,7 @@ number_or cells d n = go (cases_lt n (class_no d * cells)) (cases_lt n ((class_n
     go (inr l) (inl k) = inl (l, k)
     go (inr l) (inr k) = inr (λ h. (let a = h.1 in omega (arith, k, a)))
 
-module _ (from : ArenaView) (agents names : List CellNo) (ends : List ℕ) (first : ArenaView) (all : HasAllCells first) (part : ArePart from agents) (cells : AreCellsFor from agents names first) (x : ℕ) (now : ArenaView) (h : AreWrittenBelow from agents names ends first x now) (c : CellNo) (at : slice_get agents x ≡ Some c) where
+module _ (from : ArenaView) (agents names : List CellNo) (ends : List ℕ) (first : ArenaView) (all : HasAllCells first) (part : ArePart from agents) (cells : HaveOwnCells from agents names first) (x : ℕ) (now : ArenaView) (h : AreMovedBelow from agents names ends first x now) (c : CellNo) (at : slice_get agents x ≡ Some c) where
   abbrev n : ℕ
   n = name_in names c.0
 
@@ -141,8 +141,8 @@ module _ (from : ArenaView) (agents names : List CellNo) (ends : List ℕ) (firs
   untouched = h.others n other
 
   -- its cell is still as it was taken
-  pub alike : AreAlike (state_at from c.0) (state_at now n)
-  alike = subst (AreAlike (state_at from c.0)) (sym untouched) (cells.each x c at)
+  pub alike : LooksLike (state_at from c.0) (state_at now n)
+  alike = subst (LooksLike (state_at from c.0)) (sym untouched) (cells.each x c at)
 
   live_now : IsLive (state_at now n)
   live_now = alike_live (state_at from c.0) (state_at now n) (part.live x c at) alike
@@ -180,7 +180,7 @@ module _ (from : ArenaView) (agents names : List CellNo) (ends : List ℕ) (firs
         subst (λ (z : CellNo). state_at now' (name_in names z.0) ≡ moved (name_in names) (number_in ends) (state_at from z.0)) is at_new
     each_by k d (inr ne) less s = let before : k < x = omega (arith, less, ne) in at_other (name_in names d.0) (other k d before s) ∙ h.each k d before s
 
-    pub one_more_written : AreWrittenBelow from agents names ends first (x + 1) now'
+    pub one_more_written : AreMovedBelow from agents names ends first (x + 1) now'
     one_more_written = record {
       each = λ k d less s. each_by k d (cases_eq k x) less s;
       others = λ m out. at_other m (λ e. out x c (omega arith) at (sym e)) ∙ h.others m (λ k d less s. out k d (omega (arith, less)) s);
@@ -192,7 +192,7 @@ module _ (from : ArenaView) (agents names : List CellNo) (ends : List ℕ) (firs
 
 -- ---- all of them
 
-pub all_copied : (from : ArenaView) (agents names : List CellNo) (ends : List ℕ) (old first new : ArenaView) → AreTakenBelow from agents old (length agents) first names → AreWrittenBelow from agents names ends first (length agents) new
+pub all_copied : (from : ArenaView) (agents names : List CellNo) (ends : List ℕ) (old first new : ArenaView) → HaveCellsBelow from agents old (length agents) first names → AreMovedBelow from agents names ends first (length agents) new
     → IsCopied from agents ends names old new
 all_copied from agents names ends old first new t w = record {
   each = λ k c s. (let l = slice_get_within agents k c s in ((t.each k c l s).was, w.each k c l s));

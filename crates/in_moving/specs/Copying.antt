@@ -29,8 +29,8 @@ moved name number Leased = Leased
 moved name number (Live word ends) = Live word (map (moved_end name number) ends)
 
 -- the same symbol word and as many places
-abbrev pub AreAlike : State → State → Type 0
-AreAlike x y = (word_of y ≡ word_of x) × (places y ≡ places x)
+abbrev pub LooksLike : State → State → Type 0
+LooksLike x y = (word_of y ≡ word_of x) × (places y ≡ places x)
 
 -- ---- what is copied
 
@@ -59,17 +59,17 @@ abbrev pub AreClosed : ArenaView → List CellNo → ℕ → Type 0
 AreClosed a agents many = (k i : ℕ) (c : CellNo) (e : End) → slice_get agents k ≡ Some c → end_at (state_at a c.0) i ≡ Some e → LeadsInto agents many e
 
 -- the numbers of an end are below these
-abbrev pub IsWithin : ℕ → ℕ → End → Type 0
-IsWithin cells many (Cell c i) = c.0 < cells
-IsWithin cells many (Free k) = k < many
+abbrev pub IsEndWithin : ℕ → ℕ → End → Type 0
+IsEndWithin cells many (Cell c i) = c.0 < cells
+IsEndWithin cells many (Free k) = k < many
 
 -- the agent takes a cell of this class
 abbrev pub is_for : ArenaView → CellClass → CellNo → Bool
 is_for a d c = holds d (places (state_at a c.0))
 
 -- of each class as many cells are free as these agents take
-abbrev pub HasRoom : ArenaView → List CellNo → ArenaView → Type 0
-HasRoom a agents b = (d : CellClass) → count_by (is_for a d) agents ≤ free_of b d
+abbrev pub HasCellsFor : ArenaView → List CellNo → ArenaView → Type 0
+HasCellsFor a agents b = (d : CellClass) → count_by (is_for a d) agents ≤ free_of b d
 
 -- ---- the copies
 

@@ -6,7 +6,7 @@ use Rattle.in_arena.specs.States.{State, Vacant, Live, IsLive, places}
 use Rattle.in_arena.specs.declared.content.CellClass.{CellClass}
 use Rattle.in_arena.specs.declared.content.CellNo.{CellNo}
 use Rattle.in_arena.specs.declared.content.End.{End}
-use Rattle.in_moving.specs.Copying.{AreAlike, HaveOwnNames, is_for, moved, moved_end, name_in, number_in}
+use Rattle.in_moving.specs.Copying.{LooksLike, HaveOwnNames, is_for, moved, moved_end, name_in, number_in}
 
 -- the live cells of the first so many are these
 pub record AreListedBelow (a : ArenaView) (x : ℕ) (cells : List CellNo) : Type 0 where
@@ -22,18 +22,18 @@ pub record TakesCell (x : State) (old : ArenaView) (n : ℕ) (new : ArenaView) :
   pub at : IsNumberOf old.cells class n
   pub was : state_at old n ≡ Vacant
   pub state : State
-  pub alike : AreAlike x state
+  pub alike : LooksLike x state
   pub arena : new ≡ changed old n state
   pub left : (d : CellClass) → free_of new d + cond (holds d (places x)) 1 0 ≡ free_of old d
 
 -- the agent has a cell of its class, which was free
 pub record HasCell (x : State) (old now : ArenaView) (n : ℕ) : Type 0 where
   pub was : state_at old n ≡ Vacant
-  pub alike : AreAlike x (state_at now n)
+  pub alike : LooksLike x (state_at now n)
   pub class : (d : CellClass) × Holds d (places x) × IsNumberOf old.cells d n
 
 -- the first so many agents have their cells
-pub record AreTakenBelow (from : ArenaView) (agents : List CellNo) (old : ArenaView) (x : ℕ) (now : ArenaView) (names : List CellNo) : Type 0 where
+pub record HaveCellsBelow (from : ArenaView) (agents : List CellNo) (old : ArenaView) (x : ℕ) (now : ArenaView) (names : List CellNo) : Type 0 where
   pub each : (k : ℕ) (c : CellNo) → k < x → slice_get agents k ≡ Some c → HasCell (state_at from c.0) old now (name_in names c.0)
   pub once : (j k : ℕ) (c d : CellNo) → j < x → k < x → slice_get agents j ≡ Some c → slice_get agents k ≡ Some d → name_in names c.0 ≡ name_in names d.0 → j ≡ k
   pub others : (n : ℕ) → ((k : ℕ) (c : CellNo) → k < x → slice_get agents k ≡ Some c → name_in names c.0 ≡ n → ⊥) → state_at now n ≡ state_at old n
@@ -43,12 +43,12 @@ pub record AreTakenBelow (from : ArenaView) (agents : List CellNo) (old : ArenaV
   pub many : length now.states ≡ length old.states
 
 -- each agent has a cell of its own, in which it is to be written
-pub record AreCellsFor (from : ArenaView) (agents names : List CellNo) (now : ArenaView) : Type 0 where
-  pub each : (k : ℕ) (c : CellNo) → slice_get agents k ≡ Some c → AreAlike (state_at from c.0) (state_at now (name_in names c.0))
+pub record HaveOwnCells (from : ArenaView) (agents names : List CellNo) (now : ArenaView) : Type 0 where
+  pub each : (k : ℕ) (c : CellNo) → slice_get agents k ≡ Some c → LooksLike (state_at from c.0) (state_at now (name_in names c.0))
   pub once : HaveOwnNames agents names
 
 -- what stands in a cell, its first so many ends being written
-pub record IsBeingWritten (name number : ℕ → ℕ) (x : State) (n i : ℕ) (first now : ArenaView) : Type 0 where
+pub record IsBeingMoved (name number : ℕ → ℕ) (x : State) (n i : ℕ) (first now : ArenaView) : Type 0 where
   pub word : ℕ
   pub all : List End
   pub is : x ≡ Live word all
@@ -58,7 +58,7 @@ pub record IsBeingWritten (name number : ℕ → ℕ) (x : State) (n i : ℕ) (f
   pub so_far : take i ends ≡ map (moved_end name number) (take i all)
 
 -- the first so many agents are written in their cells
-pub record AreWrittenBelow (from : ArenaView) (agents names : List CellNo) (ends : List ℕ) (first : ArenaView) (x : ℕ) (now : ArenaView) : Type 0 where
+pub record AreMovedBelow (from : ArenaView) (agents names : List CellNo) (ends : List ℕ) (first : ArenaView) (x : ℕ) (now : ArenaView) : Type 0 where
   pub each : (k : ℕ) (c : CellNo) → k < x → slice_get agents k ≡ Some c → state_at now (name_in names c.0) ≡ moved (name_in names) (number_in ends) (state_at from c.0)
   pub others : (n : ℕ) → ((k : ℕ) (c : CellNo) → k < x → slice_get agents k ≡ Some c → name_in names c.0 ≡ n → ⊥) → state_at now n ≡ state_at first n
   pub free : (d : CellClass) → free_of now d ≡ free_of first d

@@ -44,13 +44,13 @@ abbrev pub AllAreClosed : Type 0
 AllAreClosed = (a : ArenaView) (agents : List CellNo) (of_a : List End) (n : Net ℕ) → IsShown a of_a n → WiresLeadBack n → AreAllLive a agents → AreClosed a agents (length of_a)
 
 -- the cells show the net, and the list is of its free ends
-pub record Shows (a : ArenaView) (ends : List End) (n : Net ℕ) : Type 0 where
+pub record ShowsAll (a : ArenaView) (ends : List End) (n : Net ℕ) : Type 0 where
   pub shown : IsShown a ends n
   pub many : length ends ≡ length n.free
 
 -- the same cells, where free ends have these numbers
-abbrev pub AreNumbered : (ℕ → ℕ) → ArenaView → ArenaView → Type 0
-AreNumbered own a b = (y : ℕ) → state_at b y ≡ moved (λ z. z) own (state_at a y)
+abbrev pub AreRenumbered : (ℕ → ℕ) → ArenaView → ArenaView → Type 0
+AreRenumbered own a b = (y : ℕ) → state_at b y ≡ moved (λ z. z) own (state_at a y)
 
 -- the number of a free end of a part, where those of part 0 have these numbers and those of part 1 those
 abbrev pub number_of : (ℕ → ℕ) → (ℕ → ℕ) → ℕ → ℕ → ℕ
@@ -64,7 +64,7 @@ leads_to name own number of_one of_two (suc zero) e = option_map (moved_end name
 leads_to name own number of_one of_two (suc (suc i)) e = None
 
 -- the list has what each free end of both parts leads to, in this order of free ends
-pub record AreEndsOf (one two : Net ℕ) (name own number : ℕ → ℕ) (of_one of_two : List End) (ends : List (ℕ × ℕ)) (of_both : List End) : Type 0 where
+pub record AreEndsOfBoth (one two : Net ℕ) (name own number : ℕ → ℕ) (of_one of_two : List End) (ends : List (ℕ × ℕ)) (of_both : List End) : Type 0 where
   pub many : length of_both ≡ length ends
   pub each : (k i e : ℕ) → slice_get ends k ≡ Some (i, e) → (number_of own number i e ≡ k) × (slice_get of_both k ≡ leads_to name own number of_one of_two i e)
   pub all : (i e : ℕ) → e < length (two_parts one two i).free → slice_get ends (number_of own number i e) ≡ Some (i, e)
@@ -73,8 +73,8 @@ pub record AreEndsOf (one two : Net ℕ) (name own number : ℕ → ℕ) (of_one
 -- by side, whatever the order of the free ends
 abbrev pub CopiesStandBeside : Type 0
 CopiesStandBeside = (from before old new : ArenaView) (agents names : List CellNo) (numbers : List ℕ) (own : ℕ → ℕ) (of_from of_before of_new : List End) (ends : List (ℕ × ℕ)) (n m w : Net ℕ) →
-    Shows from of_from n → Shows before of_before m → AreAllLive from agents → AreNumbered own before old → IsCopied from agents numbers names old new →
-    AreEndsOf m n (name_in names) own (number_in numbers) of_before of_from ends of_new → IsShown new of_new w →
+    ShowsAll from of_from n → ShowsAll before of_before m → AreAllLive from agents → AreRenumbered own before old → IsCopied from agents numbers names old new →
+    AreEndsOfBoth m n (name_in names) own (number_in numbers) of_before of_from ends of_new → IsShown new of_new w →
     map (λ t. Some t) w.free ≡ map (λ p. slice_get (two_parts m n p.0).free p.1) ends → StandBeside m n (name_in names) ends w
 
 -- so many free ends of this part, from this one on
@@ -88,7 +88,7 @@ one_after_other m n = ends_of 0 0 (length m.free) ++ ends_of 1 0 (length n.free)
 
 -- .. as where the free ends of the copied net are added behind those that were there, which keep their numbers
 abbrev pub CopiesFollow : Type 0
-CopiesFollow = (from old new : ArenaView) (agents names : List CellNo) (ends : List ℕ) (of_from of_old : List End) (n m w : Net ℕ) → Shows from of_from n → Shows old of_old m →
+CopiesFollow = (from old new : ArenaView) (agents names : List CellNo) (ends : List ℕ) (of_from of_old : List End) (n m w : Net ℕ) → ShowsAll from of_from n → ShowsAll old of_old m →
     AreAllLive from agents → ((k : ℕ) → k < length of_from → number_in ends k ≡ length of_old + k) →
     IsCopied from agents ends names old new → IsShown new (of_old ++ map (moved_end (name_in names) (number_in ends)) of_from) w → w.free ≡ m.free ++ n.free →
     StandBeside m n (name_in names) (one_after_other m n) w
@@ -120,7 +120,7 @@ pub record AreEndsSplit (one two : Net ℕ) (agents : List CellNo) (name own num
 -- is the rest and the part side by side: the agents of the part had these names there
 abbrev pub PartStandsBeside : Type 0
 PartStandsBeside = (from left old new : ArenaView) (agents names : List CellNo) (numbers : List ℕ) (own origin : ℕ → ℕ) (place : ℕ → ℕ → ℕ) (of_from of_left of_new : List End) (ends : List (ℕ × ℕ)) (n m p : Net ℕ) →
-    Shows from of_from n → WiresLeadBack n → Shows left of_left m → Shows new of_new p →
+    ShowsAll from of_from n → WiresLeadBack n → ShowsAll left of_left m → ShowsAll new of_new p →
     IsCopied from agents numbers names old new → ((y : ℕ) → word_of (state_at old y) ≡ None) → AreTakenOut agents own from left →
     ((k : ℕ) (c : CellNo) → slice_get agents k ≡ Some c → origin (name_in names c.0) ≡ c.0) →
     ((k i : ℕ) (c : CellNo) (x : End) → slice_get agents k ≡ Some c → end_at (state_at from c.0) i ≡ Some x → LeadsIntoPart agents ends x) →

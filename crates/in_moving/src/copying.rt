@@ -1,6 +1,6 @@
 // Agents of one arena are copied to another.
 ghost use Rattle.std.specs.Prelude.{◌≡◌, ◌≤◌, length};
-ghost use Rattle.in_moving.specs.Copying.{ArePart, AreClosed, HasRoom, IsCopied};
+ghost use Rattle.in_moving.specs.Copying.{ArePart, AreClosed, HasCellsFor, IsCopied};
 
 use crate::taking::take_cells;
 use crate::writing::write_agents;
@@ -13,7 +13,7 @@ use in_arena::{Arena, CellNo};
 pub fn copy(from: &Arena, agents: &[CellNo], ends: &[u32], to: &mut Arena, names: &mut [CellNo])
     requires part { ArePart from.now agents.now }
     requires closed { AreClosed from.now agents.now (length ends.now) }
-    requires room { HasRoom from.now agents.now to.old }
+    requires room { HasCellsFor from.now agents.now to.old }
     requires names { length from.now.states ≤ length names.old }
     ensures copied { IsCopied from.now agents.now ends.now names.new to.old to.new }
     ensures names { length names.new ≡ length names.old }

@@ -5,8 +5,8 @@ ghost use Rattle.in_arena.specs.Changes.{HasAllCells};
 ghost use Rattle.in_arena.specs.Classes.{Holds};
 ghost use Rattle.in_arena.specs.States.{IsLive, places};
 ghost use Rattle.in_arena.specs.declared.content.CellClass.{CellClass as Class};
-ghost use Rattle.in_moving.specs.Copying.{ArePart, HasRoom};
-ghost use Rattle.in_moving.specs.CopyingSteps.{TakesCell, AreTakenBelow};
+ghost use Rattle.in_moving.specs.Copying.{ArePart, HasCellsFor};
+ghost use Rattle.in_moving.specs.CopyingSteps.{TakesCell, HaveCellsBelow};
 
 use in_arena::{Arena, CellClass, CellNo};
 
@@ -45,9 +45,9 @@ fn take_cell(from: &Arena, cell: CellNo, to: &mut Arena) -> CellNo
 pub fn take_cells(from: &Arena, agents: &[CellNo], to: &mut Arena, names: &mut [CellNo])
     requires part { ArePart from.now agents.now }
     requires all { HasAllCells to.old }
-    requires room { HasRoom from.now agents.now to.old }
+    requires room { HasCellsFor from.now agents.now to.old }
     requires names { length from.now.states ≤ length names.old }
-    ensures taken { AreTakenBelow from.now agents.now to.old (length agents.now) to.new names.new }
+    ensures taken { HaveCellsBelow from.now agents.now to.old (length agents.now) to.new names.new }
     ensures names { length names.new ≡ length names.old }
 {
     for number in 0..agents.len() {

@@ -4,8 +4,8 @@ ghost use Rattle.in_arena.specs.Arenas.{changed, state_at};
 ghost use Rattle.in_arena.specs.Changes.{HasAllCells};
 ghost use Rattle.in_arena.specs.States.{IsLive, end_at};
 ghost use Rattle.in_arena.specs.declared.content.End.{End as EndOf};
-ghost use Rattle.in_moving.specs.Copying.{ArePart, AreClosed, IsWithin, AreAlike, moved, name_in, number_in};
-ghost use Rattle.in_moving.specs.CopyingSteps.{AreCellsFor, AreWrittenBelow};
+ghost use Rattle.in_moving.specs.Copying.{ArePart, AreClosed, IsEndWithin, LooksLike, moved, name_in, number_in};
+ghost use Rattle.in_moving.specs.CopyingSteps.{HaveOwnCells, AreMovedBelow};
 
 use crate::ends::moved_end;
 use in_arena::{Arena, CellNo};
@@ -14,8 +14,8 @@ use in_arena::{Arena, CellNo};
 fn write_agent(from: &Arena, cell: CellNo, names: &[CellNo], ends: &[u32], to: &mut Arena)
     requires live { IsLive (state_at from.now cell.0) }
     requires named { cell.0 < length names.now }
-    requires begun { AreAlike (state_at from.now cell.0) (state_at to.old (name_in names.now cell.0)) }
-    requires within { (i : ℕ) (e : EndOf) → end_at (state_at from.now cell.0) i ≡ Some e → IsWithin (length names.now) (length ends.now) e }
+    requires begun { LooksLike (state_at from.now cell.0) (state_at to.old (name_in names.now cell.0)) }
+    requires within { (i : ℕ) (e : EndOf) → end_at (state_at from.now cell.0) i ≡ Some e → IsEndWithin (length names.now) (length ends.now) e }
     ensures { to.new ≡ changed to.old (name_in names.now cell.0) (moved (name_in names.now) (number_in ends.now) (state_at from.now cell.0)) }
 {
     let new = names[cell.0 as usize];
@@ -31,8 +31,8 @@ pub fn write_agents(from: &Arena, agents: &[CellNo], names: &[CellNo], ends: &[u
     requires closed { AreClosed from.now agents.now (length ends.now) }
     requires names { length from.now.states ≤ length names.now }
     requires all { HasAllCells to.old }
-    requires cells { AreCellsFor from.now agents.now names.now to.old }
-    ensures { AreWrittenBelow from.now agents.now names.now ends.now to.old (length agents.now) to.new }
+    requires cells { HaveOwnCells from.now agents.now names.now to.old }
+    ensures { AreMovedBelow from.now agents.now names.now ends.now to.old (length agents.now) to.new }
 {
     for number in 0..agents.len() {
         write_agent(from, agents[number], names, ends, to);

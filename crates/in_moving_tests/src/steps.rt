@@ -4,7 +4,7 @@ ghost use Rattle.in_arena.specs.Arenas.{NoneLeased, state_at};
 ghost use Rattle.in_arena.specs.Classes.{Holds};
 ghost use Rattle.in_arena.specs.States.{IsLive, end_at};
 ghost use Rattle.in_arena.specs.declared.content.End.{End as EndOf};
-ghost use Rattle.in_moving.specs.Copying.{ArePart, AreAllLive, AreClosed, HasRoom, LeadsInto};
+ghost use Rattle.in_moving.specs.Copying.{ArePart, AreAllLive, AreClosed, HasCellsFor, LeadsInto};
 
 use in_arena::{Arena, CellClass, CellNo, End};
 use in_moving::{copy, live_cells};
@@ -79,7 +79,7 @@ fn expect_closed(rt: &impl Abort, from: &Arena, agents: &[CellNo], many: usize)
 
 // Of each class as many cells are free as there are agents.
 fn expect_room(rt: &impl Abort, from: &Arena, agents: &[CellNo], to: &Arena)
-    ensures { HasRoom from.now agents.now to.now }
+    ensures { HasCellsFor from.now agents.now to.now }
 {
     let _ = from;
     assert!(rt; agents.len() <= to.free_count(CellClass::Small) as usize);

@@ -30,8 +30,8 @@ use Rattle.in_check.proofs.Public.{AreOpposed, opposed_in}
 use Rattle.in_compile.specs.Cells.{agents_of, count_of, is_of, takes}
 use Rattle.in_interaction.proofs.Public.{symbol_number}
 use Rattle.in_joining.specs.Shown.{IsShown, point_of}
-use Rattle.in_moving.specs.Copying.{AreClosed, HasRoom, IsCopied, IsListOfLive, IsWithin, is_for, moved, moved_end, name_in, number_in}
-use Rattle.in_moving.specs.Laws.{Shows, one_after_other}
+use Rattle.in_moving.specs.Copying.{AreClosed, HasCellsFor, IsCopied, IsListOfLive, IsEndWithin, is_for, moved, moved_end, name_in, number_in}
+use Rattle.in_moving.specs.Laws.{ShowsAll, one_after_other}
 use Rattle.in_moving.proofs.Public.{copies_follow, all_are_closed}
 use Rattle.in_parts.specs.Leading.{StandBeside}
 use Rattle.in_parts.proofs.Public.{beside_sound_is_sound}
@@ -123,13 +123,13 @@ module _ (r o : Body) (k : KeepsNet r) (l : KeepsNet o) (can : CanAppend (reduce
   sound_more : IsSound p n
   sound_more = subst (λ (z : Program). IsSound (system_of z) n) can.program l.reducer.net.sound
 
-  shows : Shows r.arena (take (length fs) r.ends.items) m
+  shows : ShowsAll r.arena (take (length fs) r.ends.items) m
   shows = record {
     shown = is_shown r.arena fs r.ends.items;
     many = length-take-le (length fs) r.ends.items fits ∙ sym (length-map (leading_to fs r.ends.items) (λ (f : FreeEnd). f.kind) ∙ same_many fs r.ends.items fits);
   }
 
-  shows_more : Shows o.arena (take (length gs) o.ends.items) n
+  shows_more : ShowsAll o.arena (take (length gs) o.ends.items) n
   shows_more = record {
     shown = is_shown o.arena gs o.ends.items;
     many = length-take-le (length gs) o.ends.items fits_more ∙ sym (length-map (leading_to gs o.ends.items) (λ (f : FreeEnd). f.kind) ∙ same_many gs o.ends.items fits_more);
@@ -148,10 +148,10 @@ module _ (r o : Body) (k : KeepsNet r) (l : KeepsNet o) (can : CanAppend (reduce
   symbol_inside y s e = word_inside y s (sym (symbol_seen o.arena gs o.ends.items y) ∙ e)
 
   -- a free end leads within the net
-  pub end_within : (j : ℕ) (e : End) → slice_get (take (length gs) o.ends.items) j ≡ Some e → IsWithin (length o.arena.states) (length o.free.items) e
+  pub end_within : (j : ℕ) (e : End) → slice_get (take (length gs) o.ends.items) j ≡ Some e → IsEndWithin (length o.arena.states) (length o.free.items) e
   end_within j e at = go e (sound_more.net.back (Free j) (point_of e) (partner_seen o.arena gs o.ends.items (Free j) ∙ ap (option_map point_of) at))
     where
-      go : (e : End) → n.partner (point_of e) ≡ Some (Free j) → IsWithin (length o.arena.states) (length o.free.items) e
+      go : (e : End) → n.partner (point_of e) ≡ Some (Free j) → IsEndWithin (length o.arena.states) (length o.free.items) e
       go (end.Cell c i) h = let s = symbol_of (signature_of t) (n.symbol c.0) i (sound_more.net.points (Port c.0 i) (Free j) h) in symbol_inside c.0 s.0 s.1
       go (end.Free k) h =
           let low : k < length n.free = sound_more.net.points (Free k) (Free j) h in
@@ -173,7 +173,7 @@ module _ (r o : Body) (k : KeepsNet r) (l : KeepsNet o) (can : CanAppend (reduce
     pub closed : (many : ℕ) → many ≡ length o.free.items → AreClosed o.arena agents many
     closed w is = subst (AreClosed o.arena agents) (length-take-le (length gs) o.ends.items fits_more ∙ many_more ∙ sym is) (all_are_closed o.arena agents (take (length gs) o.ends.items) n shows_more.shown (l.reducer.net.sound.net.back, l.reducer.net.sound.net.apart) live.all)
 
-    pub room : NoneLeased r.arena → HasRoom o.arena agents r.arena
+    pub room : NoneLeased r.arena → HasCellsFor o.arena agents r.arena
     room none c =
         let e = counted_more c in
         let f = can.room c in

@@ -6,7 +6,7 @@ use Rattle.std.proofs.lemmas.Option.{get_or_from_slice_get}
 use Rattle.in_arena.specs.declared.content.CellNo.{CellNo}
 use Rattle.in_arena.specs.declared.content.End.{End}
 use Rattle.in_interaction.specs.Queues.{both}
-use Rattle.in_moving.specs.Copying.{AreClosed, HasRoom, IsCopied, IsWithin, moved_end, name_in, number_in}
+use Rattle.in_moving.specs.Copying.{AreClosed, HasCellsFor, IsCopied, IsEndWithin, moved_end, name_in, number_in}
 use Rattle.in_reducer.specs.declared.body.OwnEnd.{OwnEnd}
 use Rattle.in_reducer.proofs.Appended as appended
 use Rattle.in_reducer.proofs.StillNet as still
@@ -27,7 +27,7 @@ copy-requires-clause-room c =
     let o = c.args.other.now in
     let k = c.requires.kept.all.net in
     let l = c.requires.other.all.net in
-    subst (λ (z : List CellNo). HasRoom o.arena z r.arena) (sym c.as_slice.ensures.value) (appended.room r o k l c.requires.can c.args.taken.now.agents.items c.requires.agents c.requires.kept.none)
+    subst (λ (z : List CellNo). HasCellsFor o.arena z r.arena) (sym c.as_slice.ensures.value) (appended.room r o k l c.requires.can c.args.taken.now.agents.items c.requires.agents c.requires.kept.none)
 
 -- what holds of each element holds by number
 by_number : {X : Type 0} (P : X → Type 0) (xs : List X) → ((j : ℕ) (e : X) → slice_get xs j ≡ Some e → P e) → (k : ℕ) (d : X) → k < length xs → P (slice_index_or xs k d)
@@ -50,8 +50,8 @@ add_ends-requires-clause-within c =
     let many : length c.as_slice-4.result.now ≡ length o.arena.states = ap length (c.as_slice-4.ensures.value ∙ items) ∙ long ∙ c.requires.names in
     let numbered : length c.as_slice-5.result.now ≡ length o.free.items = ap length c.as_slice-5.ensures.value ∙ c.requires.many in
     let same : take c.len-more.result c.as_slice-3.result.now ≡ take (length o.free.items) o.ends.items = (λ i. take (more i) (c.as_slice-3.ensures.value i)) in
-    by_number (IsWithin (length c.as_slice-4.result.now) (length c.as_slice-5.result.now)) (take c.len-more.result c.as_slice-3.result.now)
-    (λ j e at. subst (λ (z : ℕ). IsWithin z (length c.as_slice-5.result.now) e) (sym many) (subst (λ (z : ℕ). IsWithin (length o.arena.states) z e) (sym numbered)
+    by_number (IsEndWithin (length c.as_slice-4.result.now) (length c.as_slice-5.result.now)) (take c.len-more.result c.as_slice-3.result.now)
+    (λ j e at. subst (λ (z : ℕ). IsEndWithin z (length c.as_slice-5.result.now) e) (sym many) (subst (λ (z : ℕ). IsEndWithin (length o.arena.states) z e) (sym numbered)
     (appended.end_within r o k l c.requires.can j e (ap (λ (z : List End). slice_get z j) (sym (same ∙ ap (λ (z : ℕ). take z o.ends.items) (sym (appended.many_more r o k l c.requires.can)))) ∙ at))))
 
 pub add_pairs-requires-clause-within : goal.add_pairs-requires-clause-within
