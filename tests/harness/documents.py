@@ -71,7 +71,7 @@ def wrong_path(path):
 
 def wrong_crate(name):
     """What is wrong with a name that begins as those of crates do, and may be that of a mutant."""
-    found = os.path.isdir(os.path.join(TOP, "crates", name)) or any(glob.glob(os.path.join(TOP, "crates", "*", "*", name + ".edit")))
+    found = os.path.isdir(os.path.join(TOP, "crates", name, "src")) or any(glob.glob(os.path.join(TOP, "crates", "*", "*", name + ".edit")))
     return None if found else f"no crate {name}"
 
 
