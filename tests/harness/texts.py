@@ -1,4 +1,4 @@
-"""Texts that are cut, filled up, badly encoded, or have long names."""
+"""Texts that are cut, filled up, badly encoded, have long names, or as many free names as may be."""
 import itertools
 from functools import partial
 
@@ -14,6 +14,7 @@ BAD_BYTES = [b"\xc0\x80", b"\xed\xa0\x80", b"\xf5\x80\x80\x80", b"\xe2\x82"]
 # Letters of one to four bytes, and the sign that is one too.
 LETTERS = ["a", "_", "\u00e9", "\u4e2d", "\U0001d4b3"]
 MOST_CHARACTERS = 64
+MOST_FREE_NAMES = 256
 
 
 def accepted(program, words, text, output):
@@ -112,6 +113,31 @@ def names(program):
             )
 
 
+def turned(count):
+    """A program with so many free names, each with an active pair that leaves one agent at it."""
+    ends = [f"end{number}" for number in range(count)]
+    declared = ",\n  ".join(f"{end} : t+" for end in ends)
+    joints = "\n".join(f"  Turn({end}) ~ Z;" for end in ends)
+    text = f"type t;\nsymbol Z : t+;\nsymbol Turn : t- {{t+}};\nrule Z[] >< Turn[Z];\nnet (\n  {declared}) {{\n{joints}\n}}\n"
+    return text.encode(), "".join(f"{end} = Z\n" for end in ends)
+
+
+def free_names(program):
+    """The most free names, and one more."""
+    text, net = turned(MOST_FREE_NAMES)
+    counts = f"1 types, 2 symbols, 1 rules, {2 * MOST_FREE_NAMES} agents"
+    yield f"check: {MOST_FREE_NAMES} free names", accepted(program, ["check"], text, f"accepted: {counts}\n".encode())
+    for workers in ("1", "2", "64"):
+        words = ["run", "--workers", workers]
+        outcome = f"{net}interactions: {MOST_FREE_NAMES}\nstop: normal\n"
+        yield f"{' '.join(words)}: {MOST_FREE_NAMES} free names", accepted(program, words, text, outcome.encode())
+    text, _ = turned(MOST_FREE_NAMES + 1)
+    # The first free name is in line 6, and each has a line.
+    line = f"refused E03 at {6 + MOST_FREE_NAMES}:3: end{MOST_FREE_NAMES}"
+    for words in COMMANDS:
+        yield f"{words[0]}: {MOST_FREE_NAMES + 1} free names", refused(program, words, text, line)
+
+
 def texts(program):
-    for group in (cuts, encodings, sizes, names):
+    for group in (cuts, encodings, sizes, names, free_names):
         yield from group(program)
