@@ -89,7 +89,7 @@ named_or (d ∷ agents) name y = elim (ℕ_discrete (name d.0) y) [
         later zero c e f = ne (ap (λ (z : CellNo). name z.0) (same_Some d c e) ∙ f)
         later (suc k) c e f = out k c e f
 
-not_leased : (name number : ℕ → ℕ) (x : State) → IsLive x → IsLeased (moved name number x) → ⊥
+pub not_leased : (name number : ℕ → ℕ) (x : State) → IsLive x → IsLeased (moved name number x) → ⊥
 not_leased name number Vacant live leased = live
 not_leased name number Leased live leased = live
 not_leased name number (Live w es) live leased = leased

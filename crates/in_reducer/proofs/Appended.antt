@@ -32,7 +32,7 @@ use Rattle.in_interaction.proofs.Public.{symbol_number}
 use Rattle.in_joining.specs.Shown.{IsShown, point_of}
 use Rattle.in_moving.specs.Copying.{AreClosed, HasCellsFor, IsCopied, IsListOfLive, IsEndWithin, is_for, moved, moved_end, name_in, number_in}
 use Rattle.in_moving.specs.Laws.{ShowsAll, one_after_other}
-use Rattle.in_moving.proofs.Public.{copies_follow, all_are_closed}
+use Rattle.in_moving.proofs.Public.{all_are_closed, copies_follow, not_leased, word_moved}
 use Rattle.in_parts.specs.Leading.{StandBeside}
 use Rattle.in_parts.proofs.Public.{beside_sound_is_sound}
 use Rattle.in_reducer.specs.declared.body.Body.{Body}
@@ -75,16 +75,6 @@ holds_true : (c : CellClass) (n : ℕ) → Holds c n → holds c n ≡ true
 holds_true Small n h = let a = h.0 in let b = h.1 in grind (arith, nat_tests, a, b)
 holds_true Large n h = let a = h.0 in let b = h.1 in grind (arith, nat_tests, a, b)
 holds_true Wide n h = let a = h.0 in let b = h.1 in grind (arith, nat_tests, a, b)
-
-word_moved : (name number : ℕ → ℕ) (x : State) → word_of (moved name number x) ≡ word_of x
-word_moved name number Vacant = refl
-word_moved name number Leased = refl
-word_moved name number (Live word ends) = refl
-
-live_moved : (name number : ℕ → ℕ) (x : State) → IsLive x → IsLeased (moved name number x) → ⊥
-live_moved name number Vacant h l = h
-live_moved name number Leased h l = h
-live_moved name number (Live word ends) h l = l
 
 -- ---- two reducers
 
@@ -223,7 +213,7 @@ module _ (r o : Body) (k : KeepsNet r) (l : KeepsNet o) (can : CanAppend (reduce
           | inr out ↦ subst IsLeased (sym (copied.others y out)) leased
         ];
         none = λ y low leased. elim (named_or_not agents names y) [
-          | inl at ↦ absurd (live_moved (name_in names) (number_in numbers) (state_at o.arena at.1.0) (live.part.live at.0 at.1 at.2)
+          | inl at ↦ absurd (not_leased (name_in names) (number_in numbers) (state_at o.arena at.1.0) (live.part.live at.0 at.1 at.2)
               (subst IsLeased (ap (state_at b) (sym at.3) ∙ (copied.each at.0 at.1 at.2).1) leased))
           | inr out ↦ subst IsLeased (copied.others y out) leased
         ];
