@@ -1,8 +1,8 @@
 #!/usr/bin/env python3
-"""The kit's command `rt` with these words, but that it sums up the sources of each crate once.
+"""The kit's command `rt` with these words, but that it asks once of each crate what crates are below it, and what its sources sum up to.
 
-To see what has to be built anew, `rt` sums up a crate with all crates below it, each of these anew for each way that leads to it: of this
-repository's chain of crates that takes minutes. Where the kit's command is not one that this knows, it is called as it is.
+To see what has to be built anew, `rt` goes from a crate to all below it, anew for each way that leads to one: in this repository's chain of
+crates that takes minutes. Where the kit's command is not one that this knows, it is called as it is.
 """
 import importlib.util
 import os
@@ -12,17 +12,23 @@ from functools import wraps
 from importlib.machinery import SourceFileLoader
 
 
-def once(method):
-    """The method, asked once of each crate's folder."""
+def once(method, key):
+    """The method, asked once of each crate with this key."""
     answers = {}
 
     @wraps(method)
     def asked(crate):
-        if crate.folder not in answers:
-            answers[crate.folder] = method(crate)
-        return answers[crate.folder]
+        # The crate is kept beside its answer, so that its key stays its own.
+        if key(crate) not in answers:
+            answers[key(crate)] = method(crate), crate
+        return answers[key(crate)][0]
 
     return asked
+
+
+def copied(method):
+    """The method that gives a new list of what this one gives."""
+    return lambda crate: list(method(crate))
 
 
 def main():
@@ -36,7 +42,9 @@ def main():
         loader = SourceFileLoader("rt", source)
         rt = importlib.util.module_from_spec(importlib.util.spec_from_loader("rt", loader))
         loader.exec_module(rt)
-        rt.rtlib.Crate.stamp = once(rt.rtlib.Crate.stamp)
+        crates = rt.rtlib.Crate
+        crates.stamp = once(crates.stamp, lambda crate: crate.folder)
+        crates.below = copied(once(crates.below, id))
         call = rt.main
     except (AttributeError, ImportError, SyntaxError, ValueError):
         os.execv(command, [command, *sys.argv[1:]])
