@@ -1,8 +1,9 @@
 #!/usr/bin/env python3
-"""The kit's command `rt` with these words, but that it asks once of each crate what crates are below it, and what its sources sum up to.
+"""The kit's command `rt` with these words, but for two things that take minutes in this repository's chain of crates.
 
-To see what has to be built anew, `rt` goes from a crate to all below it, anew for each way that leads to one: in this repository's chain of
-crates that takes minutes. Where the kit's command is not one that this knows, it is called as it is.
+To see what has to be built anew, `rt` goes from a crate to all below it, anew for each way that leads to one: here once for each crate. And
+where libraries are yet to be built, it first compiles the sources of all at once, so that an error shows early: here that is left out, since
+each crate is checked by itself anyway. Where the kit's command is not one that this knows, it is called as it is.
 """
 import importlib.util
 import os
@@ -45,6 +46,8 @@ def main():
         crates = rt.rtlib.Crate
         crates.stamp = once(crates.stamp, lambda crate: crate.folder)
         crates.below = copied(once(crates.below, id))
+        if hasattr(crates, "front_end"):
+            crates.front_end = lambda crate: 0
         call = rt.main
     except (AttributeError, ImportError, SyntaxError, ValueError):
         os.execv(command, [command, *sys.argv[1:]])
