@@ -17,7 +17,7 @@ pub struct Sizes {
 }
 
 /// That of a reducer's net.
-fn sizes(reducer: &Reducer) -> Sizes {
+fn sizes_of(reducer: &Reducer) -> Sizes {
     Sizes {
         agents: reducer.agents(),
         pairs: reducer.pairs(),
@@ -66,8 +66,8 @@ impl Look<(Sizes, u32, Sizes)> for Twice {
             return None;
         }
         one.append(alloc, &other).ok()?;
-        let before = sizes(&one);
+        let before = sizes_of(&one);
         let interactions = reduce(&mut one, &templates);
-        Some((before, interactions, sizes(&one)))
+        Some((before, interactions, sizes_of(&one)))
     }
 }
