@@ -1,3 +1,4 @@
 pub mod Copying
 pub mod CopyingSteps
 pub mod Laws
+pub mod TakingOut

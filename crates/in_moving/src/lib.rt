@@ -6,9 +6,13 @@ mod copying;
 mod ends;
 pub mod laws;
 mod listing;
+mod numbering;
+mod retiring;
 mod taking;
 mod writing;
 
 pub use copying::copy;
-pub use ends::add_ends;
+pub use ends::{add_ends, moved_end};
 pub use listing::live_cells;
+pub use numbering::number_anew;
+pub use retiring::retire_all;

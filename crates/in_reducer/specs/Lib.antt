@@ -6,6 +6,8 @@ pub mod Laws
 pub mod Lent
 pub mod Limiting
 pub mod Machines
+pub mod Parting
+pub mod PartingLaws
 pub mod Placed
 pub mod Reducers
 pub mod Runs

@@ -32,7 +32,7 @@ fn numbers_from(alloc: Global, first: u32, count: u32) -> Result<Vec<u32>, Alloc
 }
 
 /// The pairs of a queue at the end of another, their agents under these numbers. No memory is taken.
-fn add_pairs(pairs: &VecDeque<(u32, u32)>, names: &[CellNo], queue: &mut VecDeque<(u32, u32)>)
+pub(crate) fn add_pairs(pairs: &VecDeque<(u32, u32)>, names: &[CellNo], queue: &mut VecDeque<(u32, u32)>)
     requires within { (k : ℕ) (q : ℕ × ℕ) → slice_get pairs.now.items k ≡ Some q → (q.0 < length names.now) × (q.1 < length names.now) }
     requires room { deque_len queue.old + deque_len pairs.now ≤ deque_capacity queue.old }
     ensures items { queue.new.items ≡ queue.old.items ++ map (both (name_in names.now)) pairs.now.items }
@@ -56,7 +56,7 @@ fn add_free(more: &[OwnEnd], free: &mut Vec<OwnEnd>)
 }
 
 /// Room for the sides of boundary ends, after what the free ends lead to. No memory is taken.
-fn add_sides(ends: &mut Vec<End>)
+pub(crate) fn add_sides(ends: &mut Vec<End>)
     requires room { vec_len ends.old + most_ends + most_ends ≤ vec_capacity ends.old }
     ensures items { (room : List Target) × (length room ≡ most_ends + most_ends) × (ends.new.items ≡ ends.old.items ++ room) }
     ensures room { vec_capacity ends.new ≡ vec_capacity ends.old }

@@ -2,6 +2,7 @@
 
 ghost use Rattle.in_reducer.specs.Cutting.{JointsUndoCuts};
 ghost use Rattle.in_reducer.specs.Laws.{ReducersAsPromised, StepsKeepReducers, StartsAreReducers};
+ghost use Rattle.in_reducer.specs.PartingLaws.{CutsAreUndone, PartsReduceTheWhole, ReductionsGoOn, StaysReduce, StepsReduce};
 
 /// What a reducer shows is as promised: typed, with one rule for each active pair, without crossing circle or vicious one, with an end
 /// to each interaction, leading on from each agent, and written whole.
@@ -23,4 +24,30 @@ pub fn starts_are_reducers()
 /// makes, by as many interactions: so `join_last` may be called, and the count stays right.
 pub fn joints_undo_cuts()
     ensures { JointsUndoCuts }
+{}
+
+/// A net is reduced to itself by no interaction.
+pub fn stays_reduce()
+    ensures { StaysReduce }
+{}
+
+/// An interaction of a reducer reduces its net by one.
+pub fn steps_reduce()
+    ensures { StepsReduce }
+{}
+
+/// What is reduced further is reduced by both counts together.
+pub fn reductions_go_on()
+    ensures { ReductionsGoOn }
+{}
+
+/// Where a part is split off, both are reduced each by itself, and the part is glued on again, the whole is reduced by both counts together.
+pub fn parts_reduce_the_whole()
+    ensures { PartsReduceTheWhole }
+{}
+
+/// Where a wire is cut, and only interactions are done since, the two ends can be joined again, and the net before the cut is reduced to what
+/// that makes, by as many interactions.
+pub fn cuts_are_undone()
+    ensures { CutsAreUndone }
 {}
