@@ -7,9 +7,9 @@ ghost use Rattle.in_reducer.specs.Parting.{IsGluedOn};
 
 use crate::appending::{add_pairs, add_sides};
 use crate::body::Body;
+use crate::numbered::numbered_end;
 use crate::reducer::Reducer;
 use crate::seam::Seam;
-use crate::splitting::numbered_end;
 use in_arena::CellNo;
 use in_moving::{copy, moved_end, number_anew};
 

@@ -7,6 +7,7 @@ ghost use Rattle.in_reducer.specs.Parting.{CanSplit, IsSplitOff};
 
 use crate::appending::add_sides;
 use crate::body::{Body, OwnEnd};
+use crate::numbered::numbered_end;
 use crate::reducer::Reducer;
 use crate::starting::{MOST_ENDS, tools_for};
 use crate::tools::Tools;
@@ -53,14 +54,6 @@ fn part_numbers(alloc: Global, own: u32, cuts: u32) -> Result<Vec<u32>, AllocErr
         numbers.push_reserved(if number < own { 0 } else { (number - own) / 2 });
     }
     Ok(numbers)
-}
-
-/// The end under the new numbers of free ends, where cells keep theirs.
-pub(crate) fn numbered_end(numbers: &[u32], end: End) -> End {
-    match end {
-        End::Cell(_, _) => end,
-        End::Free(number) => End::Free(numbers[number as usize]),
-    }
 }
 
 /// All of that, for a part with so many cells of each class, of a net in so many cells.
