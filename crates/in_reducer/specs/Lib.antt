@@ -16,3 +16,4 @@ pub mod Standing
 pub mod Starts
 pub mod Steps
 pub mod Templates
+pub mod Splitting
