@@ -32,3 +32,4 @@ pub mod QueueBeside
 pub mod LiveCounted
 pub mod Short
 pub mod TwoEnds
+pub mod QueueSplit
