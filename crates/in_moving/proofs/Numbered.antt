@@ -197,6 +197,11 @@ places_moved name number Vacant = refl
 places_moved name number Leased = refl
 places_moved name number (Live w es) = length-map es (moved_end name number)
 
+leased_after : (name number : ℕ → ℕ) (x : State) → IsLeased x → IsLeased (moved name number x)
+leased_after name number Vacant leased = leased
+leased_after name number Leased leased = leased
+leased_after name number (Live w es) leased = leased
+
 leased_before : (name number : ℕ → ℕ) (x : State) → IsLeased (moved name number x) → IsLeased x
 leased_before name number Vacant leased = leased
 leased_before name number Leased leased = leased
@@ -215,8 +220,14 @@ module _ (number : ℕ → ℕ) (a b : ArenaView) (h : AreNumbered number a b) w
   pub numbered_places : (y : ℕ) → places (state_at b y) ≡ places (state_at a y)
   numbered_places y = ap places (h.each y) ∙ places_moved (λ z. z) number (state_at a y)
 
+  pub numbered_leased_stays : (n : ℕ) → IsLeased (state_at a n) → IsLeased (state_at b n)
+  numbered_leased_stays n leased = subst IsLeased (sym (h.each n)) (leased_after (λ z. z) number (state_at a n) leased)
+
+  pub numbered_was_leased : (n : ℕ) → IsLeased (state_at b n) → IsLeased (state_at a n)
+  numbered_was_leased n leased = leased_before (λ z. z) number (state_at a n) (subst IsLeased (h.each n) leased)
+
   pub numbered_none_leased : NoneLeased a → NoneLeased b
-  numbered_none_leased none n less leased = none n (let m = h.many in omega (arith, less, m)) (leased_before (λ z. z) number (state_at a n) (subst IsLeased (h.each n) leased))
+  numbered_none_leased none n less leased = none n (let m = h.many in omega (arith, less, m)) (numbered_was_leased n leased)
 
   pub numbered_part : (agents : List CellNo) → ArePart a agents → ArePart b agents
   numbered_part agents part = record { live = λ k c s. numbered_live c.0 (part.live k c s); once = part.once }
@@ -230,9 +241,21 @@ module _ (number : ℕ → ℕ) (a b : ArenaView) (h : AreNumbered number a b) w
   pub numbered_taken_out : (agents : List CellNo) (c : ArenaView) → AreRetired agents b c → AreTakenOut agents number a c
   numbered_taken_out agents c out = record { gone = out.gone; others = λ y none. out.others y none ∙ h.each y }
 
-pub retired_none_leased : (agents : List CellNo) (b c : ArenaView) → AreRetired agents b c → NoneLeased b → NoneLeased c
-retired_none_leased agents b c out none n less leased = go (named_or agents (λ z. z) n)
-  where
-    go : NamedOr agents (λ z. z) n → ⊥
-    go (inl at) = subst IsLeased (ap (state_at c) (sym at.3) ∙ out.gone at.0 at.1 at.2) leased
-    go (inr other) = none n (let m = out.many in omega (arith, less, m)) (subst IsLeased (out.others n (λ k s. other k (record { 0 = n }) s refl)) leased)
+module _ (agents : List CellNo) (b c : ArenaView) (out : AreRetired agents b c) where
+  pub retired_leased_stays : ArePart b agents → (n : ℕ) → IsLeased (state_at b n) → IsLeased (state_at c n)
+  retired_leased_stays part n leased = subst IsLeased (sym (out.others n (λ k s. both_not (state_at b n) (part.live k (record { 0 = n }) s) leased))) leased
+    where
+      both_not : (x : State) → IsLive x → IsLeased x → ⊥
+      both_not Vacant live is = live
+      both_not Leased live is = live
+      both_not (Live w es) live is = is
+
+  pub retired_was_leased : (n : ℕ) → IsLeased (state_at c n) → IsLeased (state_at b n)
+  retired_was_leased n leased = go (named_or agents (λ z. z) n)
+    where
+      go : NamedOr agents (λ z. z) n → IsLeased (state_at b n)
+      go (inl at) = absurd (subst IsLeased (ap (state_at c) (sym at.3) ∙ out.gone at.0 at.1 at.2) leased)
+      go (inr other) = subst IsLeased (out.others n (λ k s. other k (record { 0 = n }) s refl)) leased
+
+  pub retired_none_leased : NoneLeased b → NoneLeased c
+  retired_none_leased none n less leased = none n (let m = out.many in omega (arith, less, m)) (retired_was_leased n leased)
