@@ -33,3 +33,4 @@ pub mod LiveCounted
 pub mod Short
 pub mod TwoEnds
 pub mod QueueSplit
+pub mod SplitBefore
