@@ -34,3 +34,6 @@ pub mod Short
 pub mod TwoEnds
 pub mod QueueSplit
 pub mod SplitBefore
+pub mod SplitCells
+pub mod SplitNets
+pub mod SplitKept
