@@ -15,6 +15,7 @@ pub mod Public
 pub mod Putting
 pub mod Queued
 pub mod Queues
+pub mod Reduced
 pub mod Rejoined
 pub mod Requeued
 pub mod SetUp
