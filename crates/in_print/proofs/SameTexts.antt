@@ -12,7 +12,8 @@ use Rattle.in_check.proofs.Public.{nat_test, text_same}
 use Rattle.in_reducer.specs.Machines.{MachineParts, parts_of}
 use Rattle.in_rounds.specs.Machines.{IsMachine}
 use Rattle.in_rounds.specs.Same.{IsSameMachine}
-use Rattle.in_rounds.proofs.Public.{as_many_of, machine_queue, machine_promised}
+use Rattle.in_reducer.proofs.Public.{as_many_of}
+use Rattle.in_rounds.proofs.Public.{machine_queue, machine_promised}
 use Rattle.in_reducer.proofs.Public.{few_ports, all_classes}
 use Rattle.in_rounds.specs.Texts.{words_of, text_of}
 

@@ -1,4 +1,5 @@
 pub mod Accepted
+pub mod AsMany
 pub mod AtRest
 pub mod Begun
 pub mod Besides
@@ -25,6 +26,7 @@ pub mod StartKept
 pub mod StartNet
 pub mod Started
 pub mod Stepped
+pub mod TakesNeed
 pub mod StepsOn
 pub mod StillNet
 pub mod Undone

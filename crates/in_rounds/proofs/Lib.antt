@@ -1,5 +1,4 @@
 pub mod Alongside
-pub mod AsMany
 pub mod ListedAgents
 pub mod OneEnd
 pub mod Public

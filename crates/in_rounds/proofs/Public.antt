@@ -1,5 +1,4 @@
 -- The lemmas that proofs of other crates cite. They import this module alone, so all others may be renamed and cut anew.
-pub use Rattle.in_rounds.proofs.AsMany.{as_many_of}
 pub use Rattle.in_rounds.proofs.ListedAgents.{agents_listed, cell_there}
 pub use Rattle.in_rounds.proofs.OneEnd.{normal_ends_are_one}
 pub use Rattle.in_rounds.proofs.Rounded.{joined}

@@ -17,10 +17,8 @@ use Rattle.in_rounds.specs.Machines.{IsMachine}
 use Rattle.in_rounds.specs.Rounds.{NeedTogether, none, then_next, HasRoomFor, IsRound}
 use Rattle.in_reducer.specs.Steps.{NeedsAt, HasRoomAt, StepsAt}
 use Rattle.in_reducer.specs.Runs.{IsFront, Runs, at_start, then_step, jobs_of}
-use Rattle.in_rounds.proofs.AsMany.{no_more_than}
-use Rattle.in_reducer.proofs.Public.{other_pair}
-use Rattle.in_rounds.proofs.SameRun.{rule_at}
-use Rattle.in_rounds.proofs.StepsOn.{net_at, can_at, inside_at, machine_on}
+use Rattle.in_reducer.proofs.Public.{other_pair, takes_its_need}
+use Rattle.in_rounds.proofs.StepsOn.{net_at, can_at, inside_at, as_reducer, machine_on}
 
 -- ---- queues
 
@@ -145,16 +143,6 @@ need_lasts m n j r x h =
       is_need = subst (λ (z : Program). IsNeedOf z.tables h.rule.member.cells x) (sym r.program) h.is_need;
     }
 
--- an interaction takes no more cells than its pair needs
-takes_its_need : (n o : MachineParts) → (h : IsMachine n) → StepsAt n 0 o → (x : Need) → NeedsAt n 0 x → (c : CellClass) → count_of n.vacant c ≤ count_of o.vacant c + count_of x c
-takes_its_need n o h s x at c =
-    let t = n.program.tables in
-    let rule : at.rule ≡ s.step.rule = rule_at n h 0 at.pair s.pair at.number s.step.number at.rule s.step.rule at.stands s.stands at.is_rule s.step.is_rule in
-    let need : count_of x c ≡ agents_of t c s.step.rule.member.cells = at.is_need c ∙ ap (λ (z : RuleParts). agents_of t c z.member.cells) rule in
-    let a = no_more_than t c (parts_of n) (parts_of o) s.step.rule s.pair.0 s.pair.1 s.name s.step.acts.step in
-    let d = s.cells c in
-    omega (arith, need, a, d)
-
 -- what the pairs that are gone needed together is all that is gone
 left_free : (m n : MachineParts) (j : ℕ) → IsMachine m → Runs m j n → (sum : CellClass → ℕ) → NeedTogether m j sum → (c : CellClass) → count_of m.vacant c ≤ count_of n.vacant c + sum c
 left_free m n zero h (at_start _) sum together c = omega arith
@@ -162,7 +150,7 @@ left_free m o (suc j) h (then_step _ n _ _ before s) _ (then_next _ sum need res
     let r = left_free m n j h before sum rest c in
     let l = slice_get_within m.queue j at.pair at.stands in
     let on = stands_on m n j h before (omega (arith, l)) in
-    let step = takes_its_need n o on.machine s need (need_lasts m n j on need at) c in
+    let step = takes_its_need n o 0 (as_reducer n on.machine) s need (need_lasts m n j on need at) c in
     omega (arith, r, step)
 
 pub room_lasts : (m n : MachineParts) (j k : ℕ) → IsMachine m → HasRoomFor m k → Runs m j n → j < k → HasRoomAt n 0

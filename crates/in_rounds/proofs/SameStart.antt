@@ -18,7 +18,7 @@ use Rattle.in_rounds.specs.Machines.{IsMachine}
 use Rattle.in_reducer.specs.Starts.{IsStart}
 use Rattle.in_rounds.specs.Same.{AreSame}
 use Rattle.in_compile.proofs.Public.{same_need}
-use Rattle.in_rounds.proofs.AsMany.{as_many_of}
+use Rattle.in_reducer.proofs.Public.{as_many_of}
 use Rattle.in_rounds.proofs.SameStep.{map_same, map_twice}
 use Rattle.in_reducer.proofs.Public.{lives, queue_moved}
 

@@ -30,7 +30,7 @@ use Rattle.in_reducer.specs.Steps.{NeedsAt, StepsAt}
 use Rattle.in_rounds.specs.Same.{IsSameMachine}
 use Rattle.in_reducer.proofs.Public.{one_rule, was_there, symbol_moved, symbol_back}
 use Rattle.in_compile.proofs.Public.{same_need}
-use Rattle.in_rounds.proofs.AsMany.{as_many_of}
+use Rattle.in_reducer.proofs.Public.{as_many_of}
 use Rattle.in_rounds.proofs.StepsOn.{net_at, opposed_at, can_at, inside_at, queue_by_kinds, machine_on}
 
 -- ---- lists under a map
