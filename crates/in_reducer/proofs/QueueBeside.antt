@@ -1,13 +1,13 @@
 -- The active pairs of two nets side by side are those of both.
-use Rattle.std.proofs.Common.{◌≡◌, ◌⊎◌, inl, inr, ◌<◌, ◌≤◌, ◌+◌, ℕ, zero, suc, Option, Some, None, IsSome, List, [], ◌∷◌, ◌++◌, length, map, slice_get, refl, sym, ap, subst, ◌∙◌, arith}
-use Rattle.std.proofs.lemmas.Option.{same_Some, slice_get_within}
+use Rattle.std.proofs.Common.{◌≡◌, ◌⊎◌, inl, inr, ◌+◌, ℕ, zero, suc, Some, IsSome, List, [], ◌∷◌, ◌++◌, length, map, slice_get, refl, sym, ap, subst, ◌∙◌, arith}
+use Rattle.std.proofs.lemmas.Option.{same_Some}
 use Rattle.in_base.proofs.Places.{kept_at}
 use Rattle.in_symbols.specs.Tables.{Tables}
 use Rattle.in_symbols.specs.declared.symbols.SymbolNo.{SymbolNo}
 use Rattle.in_net.specs.declared.nets.AgentNo.{AgentNo}
 use Rattle.in_net.specs.declared.nets.Point.TheVariants as code
 use Rattle.in_net.specs.ActivePairs.{IsActivePair}
-use Rattle.in_net.specs.Nets.{Point, Port, Free, Net, IsNet, net_of, signature_of}
+use Rattle.in_net.specs.Nets.{Point, Port, Free, IsNet, net_of, signature_of}
 use Rattle.in_net.specs.Parts.{Parts, symbol_in, partner_in}
 use Rattle.in_net.proofs.Public.{map_is, symbol_of, port_agent, port_place}
 use Rattle.in_interaction.specs.Queues.{IsQueueOf, agents_at, both, numbers_of}

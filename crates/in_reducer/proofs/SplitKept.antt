@@ -1,13 +1,11 @@
 -- The rest and the part are reducers, once a part is split off.
-use Rattle.std.proofs.Common.{◌≡◌, ◌⊎◌, inl, inr, ◌<◌, ◌≤◌, ◌+◌, ◌*◌, ℕ, Bool, true, false, Option, Some, None, IsSome, List, length, map, slice_get, refl, sym, ap, subst, ◌∙◌, arith}
+use Rattle.std.proofs.Common.{◌≡◌, ◌⊎◌, inl, inr, ◌≤◌, ◌+◌, ◌*◌, ℕ, true, false, Option, Some, None, IsSome, List, length, map, slice_get, refl, sym, ap, subst, ◌∙◌, arith}
 use Rattle.std.specs.List.{filter}
 use Rattle.std.proofs.lemmas.List.{length-map}
 use Rattle.std.proofs.lemmas.Option.{slice_get_within}
-use Rattle.in_base.proofs.Each.{at_index}
 use Rattle.in_arena.specs.Arenas.{ArenaView, NoneLeased, state_at}
 use Rattle.in_arena.specs.Classes.{classes}
 use Rattle.in_arena.specs.States.{State, Vacant, Leased, Live, IsLive, word_of}
-use Rattle.in_arena.specs.declared.content.CellClass.{CellClass}
 use Rattle.in_arena.specs.declared.content.CellNo.{CellNo}
 use Rattle.in_arena.proofs.Public.{word_live}
 use Rattle.in_symbols.specs.Tables.{Tables}
@@ -16,22 +14,21 @@ use Rattle.in_net.specs.Nets.{net_of}
 use Rattle.in_net.specs.Parts.{Parts}
 use Rattle.in_interaction.specs.Queues.{IsQueueOf, both}
 use Rattle.in_interaction.proofs.Public.{has_value}
-use Rattle.in_check.proofs.Public.{AreOpposed, opposed_in, is_some as there}
+use Rattle.in_check.proofs.Public.{AreOpposed, opposed_in}
 use Rattle.in_check.specs.Programs.{Program}
-use Rattle.in_compile.specs.Cells.{agents_of, count_of}
-use Rattle.in_moving.specs.Copying.{moved_end, name_in, number_in}
+use Rattle.in_moving.specs.Copying.{name_in, number_in}
 use Rattle.in_moving.proofs.Public.{NamedOr, named_or, word_moved}
 use Rattle.in_reducer.specs.declared.body.Body.{Body}
 use Rattle.in_reducer.specs.declared.body.OwnEnd.{OwnEnd}
 use Rattle.in_reducer.specs.declared.tools.Tools.{Tools}
 use Rattle.in_reducer.specs.Cutting.{net_in}
-use Rattle.in_reducer.specs.Inside.{AreTools, IsOwnEnd, KeepsNet, declared_as, most_ends, most_free, own_free, reducer_view}
+use Rattle.in_reducer.specs.Inside.{AreTools, IsOwnEnd, KeepsNet, declared_as, most_free, own_free, reducer_view}
 use Rattle.in_reducer.specs.Limiting.{most_cells}
 use Rattle.in_reducer.specs.Machines.{parts_of}
 use Rattle.in_reducer.specs.Parting.{CanSplit, IsSplitOff, ends_of_two}
 use Rattle.in_reducer.specs.Reducers.{IsReducer}
 use Rattle.in_reducer.specs.Splitting.{ArePicked, goes, is_gone, is_there, stays}
-use Rattle.in_reducer.specs.Standing.{AreLeasedAlike, agents_in, at_rest, vacant_in}
+use Rattle.in_reducer.specs.Standing.{AreLeasedAlike}
 use Rattle.in_reducer.proofs.Counted.{cells_at_rest}
 use Rattle.in_reducer.proofs.Queues.{short_queue}
 use Rattle.in_reducer.proofs.QueueSplit as queues

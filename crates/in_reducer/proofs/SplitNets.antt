@@ -1,21 +1,20 @@
 -- The rest and the part stand side by side in the net that was split.
-use Rattle.std.proofs.Common.{◌≡◌, ◌≢◌, ◌⊎◌, inl, inr, ◌<◌, ◌≤◌, ◌+◌, ◌*◌, ℕ, zero, suc, Option, Some, None, IsSome, List, [], ◌∷◌, ◌++◌, length, map, take, replicate, slice_get, refl, sym, ap, subst, ◌∙◌, length-append, arith}
+use Rattle.std.proofs.Common.{◌≡◌, ◌⊎◌, inl, inr, ◌<◌, ◌≤◌, ◌+◌, ◌*◌, ℕ, zero, suc, Option, Some, None, List, [], ◌∷◌, length, map, take, replicate, slice_get, refl, sym, ap, subst, ◌∙◌, length-append, arith}
 use Rattle.std.specs.Prelude.{option_map}
 use Rattle.std.proofs.Math.Seq.{take-append_seam}
 use Rattle.std.proofs.lemmas.Bool.{cases_lt}
 use Rattle.std.proofs.lemmas.List.{length-map}
-use Rattle.std.proofs.lemmas.Option.{same_Some, slice_get-map, slice_get_past, slice_get_within}
+use Rattle.std.proofs.lemmas.Option.{same_Some, slice_get-map, slice_get_past}
 use native.Mathlib.Decide.{ℕ_discrete}
 use Rattle.in_base.proofs.Each.{at_index}
-use Rattle.in_arena.specs.Arenas.{ArenaView, state_at}
+use Rattle.in_arena.specs.Arenas.{ArenaView}
 use Rattle.in_arena.specs.Classes.{classes}
-use Rattle.in_arena.specs.States.{Vacant, end_at}
+use Rattle.in_arena.specs.States.{Vacant}
 use Rattle.in_arena.specs.declared.content.CellNo.{CellNo}
 use Rattle.in_arena.specs.declared.content.End.{End}
 use Rattle.in_arena.specs.declared.content.End.TheVariants as end
-use Rattle.in_symbols.specs.declared.symbols.PortType.{PortType}
 use Rattle.in_net.specs.declared.nets.FreeEnd.{FreeEnd}
-use Rattle.in_net.specs.Nets.{Point, Port, Free, Net, IsNet, net_of, signature_of}
+use Rattle.in_net.specs.Nets.{Free, Net, IsNet, net_of, signature_of}
 use Rattle.in_check.specs.Programs.{Program}
 use Rattle.in_check.specs.Systems.{IsSound, system_of}
 use Rattle.in_glue.specs.AsGluing.{two_parts}
@@ -36,7 +35,7 @@ use Rattle.in_reducer.specs.Standing.{agents_in, at_rest, leading_to, vacant_in}
 use Rattle.in_reducer.proofs.Shown.{is_shown, partner_seen, same_kinds, same_many, same_names, seen}
 use Rattle.in_reducer.proofs.SplitBefore as before
 use Rattle.in_reducer.proofs.StartNet.{no_word}
-use Rattle.in_reducer.proofs.TwoEnds.{OneOfTwo, first_of_two, many_of_two, of_first, of_own, of_second, part_of_two, places_of_two, rest_of_two, same_list, which_of_two}
+use Rattle.in_reducer.proofs.TwoEnds.{first_of_two, many_of_two, of_first, of_own, of_second, part_of_two, places_of_two, rest_of_two, same_list, which_of_two}
 
 -- ---- lists
 

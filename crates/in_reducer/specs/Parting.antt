@@ -1,15 +1,15 @@
 -- A net in two parts: a part is split off from a reducer, as a reducer by itself that shares nothing with the rest, and glued on again. Wires
 -- between the two are cut before. That nets are reduced in parts is this project's own choice.
-use Rattle.std.specs.Prelude.{◌≡◌, ◌+◌, ◌-◌, ◌<◌, ◌≤◌, ℕ, zero, suc, nat_lt, cond, List, [], ◌∷◌, ◌++◌, length, map, Option, Some, IsSome, slice_get}
+use Rattle.std.specs.Prelude.{◌≡◌, ◌+◌, ◌-◌, ◌<◌, ℕ, zero, suc, nat_lt, cond, List, [], ◌∷◌, ◌++◌, length, map, Option, Some, IsSome, slice_get}
 use Rattle.in_arena.specs.declared.content.CellClass.{CellClass}
 use Rattle.in_arena.specs.declared.content.CellNo.{CellNo}
 use Rattle.in_net.specs.Nets.{Point, Port, Free}
 use Rattle.in_compile.specs.Cells.{agents_of, count_of}
-use Rattle.in_check.specs.Systems.{System, system_of}
+use Rattle.in_check.specs.Systems.{system_of}
 use Rattle.in_moving.specs.Laws.{ends_of}
-use Rattle.in_parts.specs.Leading.{IsCutDown, Leads, StandBeside}
+use Rattle.in_parts.specs.Leading.{Leads, StandBeside}
 use Rattle.in_reducer.specs.Cutting.{net_in}
-use Rattle.in_reducer.specs.Machines.{MachineParts, HasCells, parts_of}
+use Rattle.in_reducer.specs.Machines.{MachineParts, HasCells}
 
 abbrev pub names_of : MachineParts → List (List ℕ)
 names_of m = map (λ f. f.name) m.free

@@ -38,10 +38,7 @@ impl<'a> Body<'a> {
     fn glue_ends(&self, part: &Body, own: u32, cuts: u32, seam: &mut Seam) {
         for number in 0..own {
             seam.free.push_reserved(self.free[number as usize]);
-            seam.ends.push_reserved(numbered_end(
-                seam.rest.as_slice(),
-                self.ends[number as usize],
-            ));
+            seam.ends.push_reserved(numbered_end(seam.rest.as_slice(), self.ends[number as usize]));
         }
         for cut in 0..cuts {
             seam.free.push_reserved(part.free[cut as usize]);

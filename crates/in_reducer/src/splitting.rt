@@ -196,10 +196,7 @@ fn pick_rest_ends(all: &[End], own: u32, cuts: u32, numbers: &[u32], ends: &mut 
     ensures { ArePickedWithRoom (moved_end (λ z. z) (number_in numbers.now)) (place_of_two own 0) (own + cuts) all.now ends.new.items }
 {
     for number in 0..own + cuts {
-        ends.push_reserved(numbered_end(
-            numbers,
-            all[rest_place(own, number) as usize],
-        ));
+        ends.push_reserved(numbered_end(numbers, all[rest_place(own, number) as usize]));
     }
     add_sides(ends);
 }
@@ -221,11 +218,7 @@ fn pick_part_ends(
     ensures { ArePickedWithRoom (moved_end (name_in names.now) (number_in numbers.now)) (place_of_two own 1) cuts all.now ends.new.items }
 {
     for number in 0..cuts {
-        ends.push_reserved(moved_end(
-            names,
-            numbers,
-            all[(own + 2 * number) as usize],
-        ));
+        ends.push_reserved(moved_end(names, numbers, all[(own + 2 * number) as usize]));
     }
     add_sides(ends);
 }
@@ -245,14 +238,7 @@ fn fill_rest(free: &[OwnEnd], ends: &[End], own: u32, cuts: u32, rest: &mut List
 }
 
 /// Fills those of the part, whose agents have these numbers.
-fn fill_part(
-    free: &[OwnEnd],
-    ends: &[End],
-    own: u32,
-    cuts: u32,
-    names: &[CellNo],
-    part: &mut Lists,
-)
+fn fill_part(free: &[OwnEnd], ends: &[End], own: u32, cuts: u32, names: &[CellNo], part: &mut Lists)
     requires free { length free.now ≡ own + (cuts + cuts) }
     requires ends { length ends.now ≡ own + (cuts + cuts) }
     requires few { own + (cuts + cuts) ≤ most_free }
@@ -337,12 +323,7 @@ impl<'a> Body<'a> {
         let free = self.free.as_slice();
         fill_rest(free, ends, own, cuts, &mut rest);
         fill_part(free, ends, own, cuts, names.as_slice(), &mut part);
-        split_queue(
-            &self.arena,
-            names.as_slice(),
-            &mut self.queue,
-            &mut queue,
-        );
+        split_queue(&self.arena, names.as_slice(), &mut self.queue, &mut queue);
         self.free = rest.free;
         self.ends = rest.ends;
         Body {

@@ -1,7 +1,5 @@
-use Rattle.std.proofs.Common.{◌≡◌, ◌+◌, count_by, ◌∙◌, arith}
-use Rattle.in_arena.specs.Arenas.{free_of, state_at}
+use Rattle.std.proofs.Common.{◌≡◌, count_by, ◌∙◌, arith}
 use Rattle.in_arena.specs.Classes.{holds}
-use Rattle.in_arena.specs.States.{places}
 use Rattle.in_moving.specs.Copying.{is_for, number_in}
 use Rattle.in_moving.proofs.Public.{numbered_classed, numbered_places, numbered_taken_out}
 use Rattle.in_reducer.proofs.splitting.move_cells.Goals as goal

@@ -1,4 +1,4 @@
-use Rattle.std.proofs.Common.{◌≡◌, ◌≤◌, ◌<◌, ◌+◌, ◌-◌, ◌/◌, ℕ, vec_len, vec_capacity}
+use Rattle.std.proofs.Common.{◌≡◌, ◌≤◌, ◌<◌, ◌-◌, ◌/◌, ℕ, vec_len, vec_capacity}
 use Rattle.in_moving.specs.Copying.{number_in}
 use Rattle.in_reducer.proofs.splitting.part_numbers.Given as goal
 

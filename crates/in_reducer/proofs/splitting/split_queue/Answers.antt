@@ -1,8 +1,8 @@
-use Rattle.std.proofs.Common.{◌≡◌, ◌⊎◌, inl, inr, ◌<◌, ◌+◌, ℕ, suc, Bool, true, false, cond, Some, List, [], ◌∷◌, ◌++◌, length, length-append, map, take, drop, slice_get, refl, sym, ap, subst, ◌∙◌, append_assoc, arith}
+use Rattle.std.proofs.Common.{◌≡◌, ◌<◌, ◌+◌, ℕ, suc, Bool, true, false, cond, List, [], ◌∷◌, ◌++◌, length, map, take, drop, refl, sym, ap, ◌∙◌, append_assoc, arith}
 use Rattle.std.specs.List.{filter}
 use Rattle.std.specs.VecDeque.{deque_capacity}
 use Rattle.std.proofs.lemmas.List.{append-nil, length-map, map-append}
-use Rattle.in_arena.specs.Arenas.{ArenaView, state_at}
+use Rattle.in_arena.specs.Arenas.{state_at}
 use Rattle.in_arena.specs.States.{State, Vacant, Leased, Live, IsLive}
 use Rattle.in_interaction.specs.Queues.{both}
 use Rattle.in_moving.specs.Copying.{name_in}
