@@ -53,11 +53,11 @@ pub record CanSplit (m : MachineParts) (agents : List CellNo) (own cuts : ℕ) :
   pub ends : (j : ℕ) (q : Point ℕ) → j < cuts → (net_in m).partner (Free (own + (j + j))) ≡ Some q → IsInPart agents own cuts q
 
 -- the part has so many cells of each class, and those of its agents are free in the rest
-pub record IsSplitOff (m : MachineParts) (own cuts cells : ℕ) (rest part : MachineParts) : Type 0 where
+pub record IsSplitOff (m : MachineParts) (own cuts size : ℕ) (rest part : MachineParts) : Type 0 where
   pub two : IsOfTwo m rest part own cuts
   pub many_rest : length rest.free ≡ own + cuts
   pub many_part : length part.free ≡ cuts
-  pub part_cells : HasCells cells part
+  pub part_cells : HasCells size part
   pub vacant : (c : CellClass) → count_of rest.vacant c ≡ count_of m.vacant c + agents_of m.program.tables c part.agents
   pub cells : (c : CellClass) → count_of rest.vacant c + agents_of m.program.tables c rest.agents ≡ count_of m.vacant c + agents_of m.program.tables c m.agents
 

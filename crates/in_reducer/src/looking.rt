@@ -1,5 +1,6 @@
 // What a reducer shows.
-ghost use Rattle.std.specs.Prelude.{◌≡◌, ◌<◌, length, count_by, is_some, Some, IsSome, slice_get};
+ghost use Rattle.std.specs.Prelude.{◌≡◌, ◌<◌, length, count_by, is_some, Some, IsSome, slice_get, option_map};
+ghost use Rattle.in_symbols.specs.Tables.{arity_of};
 ghost use Rattle.in_net.specs.Parts.{IsPointOf, symbol_in, partner_in, free_name_in};
 ghost use Rattle.in_compile.specs.Cells.{count_of};
 ghost use Rattle.in_reducer.specs.Machines.{parts_of, point_at};
@@ -44,6 +45,13 @@ impl<'a> Reducer<'a> {
         self.body.arena.free_count(class)
     }
 
+    /// How many numbers there are for agents: those of all cells, whether free or not.
+    pub fn numbers(&self) -> u32
+        ensures { result ≡ length self.now.agents }
+    {
+        self.body.arena.all_cells()
+    }
+
     /// How many agents there are.
     pub fn agents(&self) -> u32
         ensures { result ≡ count_by is_some self.now.agents }
@@ -64,6 +72,14 @@ impl<'a> Reducer<'a> {
             End::Cell(cell, place) => self.body.arena.port(cell, place),
             End::Free(number) => self.body.ends[number as usize],
         }
+    }
+
+    /// How many auxiliary ports an agent has.
+    pub fn arity(&self, cell: CellNo) -> u8
+        requires { IsSome (symbol_in (parts_of self.now) cell.0) }
+        ensures { option_map (λ s. arity_of self.now.program.tables s.0) (symbol_in (parts_of self.now) cell.0) ≡ Some result }
+    {
+        self.body.checked.symbols().arity(self.symbol(cell))
     }
 
     /// The symbol of an agent.

@@ -1,12 +1,13 @@
 //! A machine over raw cells, and rounds of several workers on its queue.
 //!
 //! A `Machine` is a reducer with its templates, and keeps besides that its program reaches the net; that is all that it adds. Its `round`
-//! is the reducer's. `specs/Same.antt` says when two machines differ in numbers alone. `in_run` gives the machine out again.
+//! is the reducer's, and its `phase` reduces the net in parts, as `in_phases` does. `specs/Same.antt` says when two machines differ in numbers alone. `in_run` gives the machine out again.
 #![tactic(auto)]
 
 mod looking;
 mod machine;
 pub mod machine_laws;
+mod phases;
 mod rounds;
 mod starting;
 
@@ -14,7 +15,9 @@ pub use in_arena::{CellClass, CellNo, End};
 pub use in_claims::{Board, Gate, NoGate, Seat};
 pub use in_compile::Need;
 pub use in_gather::{Done, Gather, Why};
+pub use in_phases::{Sharing, Worked};
 pub use in_reducer::Round;
 pub use machine::Machine;
+pub use phases::phase;
 pub use rounds::round;
 pub use starting::StartFault;

@@ -3,11 +3,13 @@ use Rattle.std.specs.Prelude.{◌≡◌, ◌≤◌, ◌+◌, ℕ, zero, suc, Res
 use Rattle.in_reducer.specs.Machines.{MachineParts}
 use Rattle.in_reducer.specs.Runs.{Runs}
 use Rattle.in_reducer.specs.Steps.{StepsAt}
+use Rattle.in_rounds.specs.Phases.{IsPhase}
 
--- so many interactions one after another, each at any pair of the queue
+-- so many interactions one after another, each at any pair of the queue, and phases
 pub data RunsAnyhow : MachineParts → ℕ → MachineParts → Type 0 where
   no_step : (m : MachineParts) → RunsAnyhow m zero m
   then_any : (m n o : MachineParts) (k i : ℕ) → RunsAnyhow m k n → StepsAt n i o → RunsAnyhow m (suc k) o
+  then_phase : (m n o : MachineParts) (k j : ℕ) → RunsAnyhow m k n → IsPhase n j o → RunsAnyhow m (j + k) o
 
 -- some interactions more, within the limit, and of one worker first in, first out; or for want of memory none
 abbrev pub Advances : {E : Type 0} → ℕ → ℕ → ℕ → MachineParts → Result ℕ E → MachineParts → Type 0

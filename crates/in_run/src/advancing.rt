@@ -6,7 +6,8 @@ ghost use Rattle.in_run.specs.Stops.{GoesOn};
 ghost use Rattle.in_reducer.specs.Runs.{Runs};
 
 use crate::limits::Limits;
-use in_rounds::{CellClass, Gate, Machine, Need, round};
+use crate::pace::{PHASES_FROM, Pace, sharing};
+use in_rounds::{CellClass, Gate, Machine, Need, phase, round};
 use std::alloc::{AllocError, Global};
 use std::sync::Wait;
 use std::thread::Threads;
@@ -20,11 +21,8 @@ const ROUND_AGENTS: u64 = 48 * 2_048;
 /// How many jobs a round has for each worker at most, so that its cells stay in the cache.
 const WORKER_JOBS: u32 = 1_024;
 
-/// From how many interactions on several workers take the newest pairs first: a shorter run is over before that could pay.
-const NEWEST_FROM: u64 = 16_384;
-
-/// How many of the newest pairs are taken before the oldest one has its turn.
-const NEWEST_TURN: u64 = 1_024;
+/// How many pairs are taken before it is looked again whether a phase pays.
+const TURN: u64 = 1_024;
 
 /// How many agents there are in the right member that a pair needs.
 fn agents(need: Need) -> u64
@@ -44,13 +42,13 @@ fn pays(machine: &Machine) -> bool
     sum >= ROUND_AGENTS
 }
 
-/// Whether a round is worth its threads now. `look_at` says from how many interactions on that is looked at, so that a queue for which none is
+/// Whether a round is worth its threads now. The pace says from how many interactions on that is looked at, so that a queue for which none is
 /// isn't looked through each time. When a round pays is this project's own choice, and no contract speaks of it.
-fn wants_round(machine: &Machine, workers: u32, interactions: u64, look_at: &mut u64) -> bool {
-    if workers == 1 || interactions < *look_at || machine.pairs() < ROUND_PAIRS {
+fn wants_round(machine: &Machine, interactions: u64, pace: &mut Pace) -> bool {
+    if interactions < pace.round_from || machine.pairs() < ROUND_PAIRS {
         return false;
     }
-    *look_at = interactions.saturating_add(u64::from(ROUND_PAIRS));
+    pace.round_from = interactions.saturating_add(u64::from(ROUND_PAIRS));
     pays(machine)
 }
 
@@ -100,10 +98,61 @@ fn take_newest(machine: &mut Machine, cells: u32, most: u64) -> u64
     count
 }
 
-/// The interaction of the oldest pair, which has to have room, and of several workers' long runs those of newest ones after it, at most up to
-/// the limit. Says how many they were.
+/// Interactions of the oldest pairs, at most so many, while what the oldest pair needs is free. Says how many they were. They make the queue
+/// long, and what its pairs lead to independent of each other.
+fn take_oldest(machine: &mut Machine, most: u64) -> u64
+    ensures goes { (m : MachineParts) (k : ℕ) → RunsAnyhow m k machine.old → RunsAnyhow m (result + k) machine.new }
+    ensures most { result ≤ most }
+{
+    let mut count = 0;
+    while count < most {
+        if machine.pairs() == 0 || !machine.has_room(0) {
+            return count;
+        }
+        machine.step(0);
+        count += 1;
+    }
+    count
+}
+
+/// Interactions of several workers' long run, of which so many are left: a phase where it pays, else those of some pairs by this thread, the
+/// newest ones first while no phase is tried. Says how many they were.
+fn by_parts<R: Threads>(
+    rt: &R,
+    alloc: Global,
+    machine: &mut Machine,
+    limits: Limits,
+    interactions: u64,
+    left: u64,
+    pace: &mut Pace,
+) -> u64
+    requires { left < 2 ^ 60 }
+    ensures goes { (m : MachineParts) (k : ℕ) → RunsAnyhow m k machine.old → RunsAnyhow m (result + k) machine.new }
+    ensures most { result ≤ left }
+{
+    if pace.waits(interactions) {
+        return take_newest(machine, limits.cells(), TURN.min(left));
+    }
+    let Some(sharing) = sharing(machine, limits, left) else {
+        return take_oldest(machine, TURN.min(left));
+    };
+    let agents = machine.agents();
+    let worked = phase(rt, alloc, machine, sharing);
+    pace.note(worked, agents, interactions.saturating_add(worked.interactions));
+    worked.interactions
+}
+
+/// The interaction of the oldest pair, which has to have room, and of several workers' long runs some more after it, at most up to the limit.
+/// Says how many they were.
 #[inline(always)]
-fn by_steps(machine: &mut Machine, limits: Limits, interactions: u64) -> u64
+fn by_steps<R: Threads>(
+    rt: &R,
+    alloc: Global,
+    machine: &mut Machine,
+    limits: Limits,
+    interactions: u64,
+    pace: &mut Pace,
+) -> u64
     requires { GoesOn limits.limit machine.old interactions }
     ensures goes { RunsAnyhow machine.old result machine.new }
     ensures turn { limits.workers ≡ 1 → Runs machine.old result machine.new }
@@ -111,15 +160,15 @@ fn by_steps(machine: &mut Machine, limits: Limits, interactions: u64) -> u64
     ensures most { result + interactions ≤ limits.limit }
 {
     machine.step(0);
-    if limits.workers() == 1 || interactions < NEWEST_FROM {
+    if limits.workers() == 1 || interactions < PHASES_FROM {
         return 1;
     }
-    let most = NEWEST_TURN.min(limits.limit() - interactions - 1);
-    1 + take_newest(machine, limits.cells(), most)
+    let left = limits.limit() - interactions - 1;
+    1 + by_parts(rt, alloc, machine, limits, interactions, left, pace)
 }
 
-/// The next interactions, where one is next: a round where there are several workers and it pays, else one interaction after another. Of one
-/// worker they are first in, first out. Says how many they were; for want of memory nothing is done.
+/// The next interactions, where one is next: of several workers a round where it pays, a phase where it pays, else one interaction after another.
+/// Of one worker they are first in, first out. Says how many they were; for want of memory nothing is done.
 #[inline(always)]
 pub(crate) fn advance<R: Threads + Wait, G: Gate + Sync>(
     rt: &R,
@@ -127,15 +176,14 @@ pub(crate) fn advance<R: Threads + Wait, G: Gate + Sync>(
     machine: &mut Machine,
     limits: Limits,
     interactions: u64,
-    look_at: &mut u64,
+    pace: &mut Pace,
     gate: &G,
 ) -> Result<u64, AllocError>
     requires { GoesOn limits.limit machine.old interactions }
     ensures { Advances limits.workers limits.limit interactions machine.old result machine.new }
 {
-    let workers = limits.workers();
-    if workers > 1 && wants_round(machine, workers, interactions, look_at) {
+    if limits.workers() > 1 && wants_round(machine, interactions, pace) {
         return by_round(rt, alloc, machine, limits, interactions, gate);
     }
-    Ok(by_steps(machine, limits, interactions))
+    Ok(by_steps(rt, alloc, machine, limits, interactions, pace))
 }

@@ -1,7 +1,7 @@
 //! Runs of a machine within limits. The machine is that of `in_rounds`, which is given out again here.
 //!
-//! `running` is the loop, with the three stops tested in their order. With several workers `advancing` looks whether the queue is so
-//! long, and its pairs need so many agents, that a round pays, and else does one step.
+//! `running` is the loop, with the three stops tested in their order. With several workers `advancing` looks whether a round pays, and in a
+//! long run whether a phase does, in which each worker reduces a part of the net by itself (`pace`); else it does some steps.
 #![tactic(auto)]
 
 mod advancing;
@@ -9,6 +9,7 @@ mod in_turn;
 pub mod laws;
 mod limits;
 mod next;
+mod pace;
 mod running;
 mod stops;
 

@@ -8,6 +8,7 @@ ghost use Rattle.in_rounds.specs.Texts.{text_of};
 use crate::advancing::advance;
 use crate::limits::Limits;
 use crate::next::stop;
+use crate::pace::Pace;
 use crate::stops::Stop;
 use in_check::Checked;
 use in_rounds::{Gate, Machine, StartFault};
@@ -34,8 +35,7 @@ pub enum RunFault<'a> {
 }
 
 /// Runs a program. With one worker it does so first in, first out: each interaction is at the first pair of the queue, and its new pairs come
-/// last. How several workers share the interactions is open: where the queue is long and its pairs need many agents they do rounds, else one
-/// thread does them all.
+/// last. How several workers share the interactions is open: in a long run they reduce the net in parts that share nothing.
 ///
 /// Before each interaction, in this order: where no pair is left the run stops as `Normal`; where it did as many interactions as are
 /// allowed, as `Limit`; where the first pair needs more cells of a class than are free, tested in the order of the classes, as `Full`. Refused where no
@@ -59,7 +59,7 @@ pub fn run<'a, R: Threads + Wait, G: Gate + Sync>(
         Err(fault) => return Err(RunFault::Start(fault)),
     };
     let mut interactions = 0;
-    let mut look_at = 0;
+    let mut pace = Pace::begin();
     loop {
         if let Some(stop) = stop(&machine, limits.limit(), interactions) {
             return Ok(Outcome {
@@ -74,7 +74,7 @@ pub fn run<'a, R: Threads + Wait, G: Gate + Sync>(
             &mut machine,
             limits,
             interactions,
-            &mut look_at,
+            &mut pace,
             gate,
         );
         match done {

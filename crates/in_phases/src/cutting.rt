@@ -1,0 +1,86 @@
+// The wires that lead out of a part are cut, and cuts are undone.
+ghost use Rattle.std.specs.Prelude.{◌≡◌, ◌<◌, ◌≤◌, ◌+◌, ℕ, true, length, Some, IsSome};
+ghost use Rattle.in_joining.specs.Shown.{point_of};
+ghost use Rattle.in_net.specs.Parts.{IsPointOf, symbol_in};
+ghost use Rattle.in_phases.specs.Branches.{IsBranch};
+ghost use Rattle.in_reducer.specs.Cutting.{CanCut};
+ghost use Rattle.in_reducer.specs.Inside.{most_free};
+ghost use Rattle.in_reducer.specs.Machines.{MachineParts, parts_of};
+ghost use Rattle.in_reducer.specs.Parting.{IsInPart, ReducesTo};
+ghost use Rattle.in_reducer.specs.PartingLaws.{IsCutTimes};
+ghost use Rattle.in_reducer.specs.Reducers.{IsReducer};
+
+use crate::branch::Branch;
+use in_reducer::{CellNo, End, Reducer};
+
+/// The most free ends that a net may have.
+const MOST_FREE_ENDS: u32 = 65_536;
+
+/// Whether the wire at this place of an agent leads out of the branch. That of a pair doesn't count, of which the branch has both agents or
+/// none.
+fn leads_out(reducer: &Reducer, branch: &Branch, cell: CellNo, place: u8) -> bool
+    requires branch { IsBranch reducer.now branch.now }
+    requires there { IsPointOf (parts_of reducer.now) (Port (record { 0 = cell.0 }) place) }
+    ensures { result ≡ true → CanCut reducer.now cell.0 place }
+{
+    reducer.pairs();
+    match reducer.partner(End::Cell(cell, place)) {
+        End::Cell(other, at) => !branch.has(other) && (place != 0 || at != 0),
+        End::Free(_) => true,
+    }
+}
+
+/// Cuts the wire at this place of an agent, where it leads out of the branch. Says how many cuts that were: none where memory or numbers of free
+/// ends are wanted.
+fn cut_place(reducer: &mut Reducer, branch: &Branch, cell: CellNo, place: u8) -> u32
+    requires branch { IsBranch reducer.old branch.now }
+    requires there { IsPointOf (parts_of reducer.old) (Port (record { 0 = cell.0 }) place) }
+    ensures cuts { IsCutTimes reducer.old result reducer.new }
+{
+    if !leads_out(reducer, branch, cell, place) || reducer.free_ends() > MOST_FREE_ENDS - 2 {
+        return 0;
+    }
+    match reducer.cut(cell, place) {
+        Ok(()) => 1,
+        Err(_) => 0,
+    }
+}
+
+/// Cuts those of the wires at an agent that lead out of the branch, and says how many.
+fn cut_agent(reducer: &mut Reducer, branch: &Branch, cell: CellNo) -> u32
+    requires branch { IsBranch reducer.old branch.now }
+    requires there { IsSome (symbol_in (parts_of reducer.old) cell.0) }
+    ensures cuts { IsCutTimes reducer.old result reducer.new }
+    ensures few { result ≤ 255 }
+{
+    let mut cuts = 0;
+    let places = u32::from(reducer.arity(cell)) + 1;
+    for place in 0..places {
+        cuts += cut_place(reducer, branch, cell, place as u8);
+    }
+    cuts
+}
+
+/// Cuts all wires that lead out of the branch, and says how many. Where memory or numbers of free ends are wanted, some are left.
+pub(crate) fn cut_off(reducer: &mut Reducer, branch: &Branch) -> u32
+    requires branch { IsBranch reducer.old branch.now }
+    ensures cuts { IsCutTimes reducer.old result reducer.new }
+{
+    let mut cuts = 0;
+    for number in 0..branch.agents.len() {
+        cuts += cut_agent(reducer, branch, branch.agents[number]);
+    }
+    cuts
+}
+
+/// Joins the ends of so many cuts again, the last one first: what was before the cuts is reduced to that by as many interactions as were done
+/// since.
+pub(crate) fn join_up(reducer: &mut Reducer, cuts: u32)
+    requires { (m cut : MachineParts) (k : ℕ) × IsReducer m × IsCutTimes m cuts cut × ReducesTo cut k reducer.old }
+    ensures reduces { (m cut : MachineParts) (k : ℕ) → IsReducer m → IsCutTimes m cuts cut → ReducesTo cut k reducer.old → ReducesTo m k reducer.new }
+    ensures vacant { reducer.new.vacant ≡ reducer.old.vacant }
+{
+    for _cut in 0..cuts {
+        reducer.join_last();
+    }
+}

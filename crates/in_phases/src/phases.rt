@@ -1,0 +1,102 @@
+// A net is reduced in parts.
+ghost use Rattle.std.specs.Prelude.{◌≡◌, ◌<◌, ◌≤◌, ◌+◌, length};
+ghost use Rattle.in_compile.specs.Templates.{AreTemplatesOf};
+ghost use Rattle.in_phases.specs.Phases.{HasFree};
+ghost use Rattle.in_reducer.specs.Limiting.{most_cells};
+ghost use Rattle.in_reducer.specs.Parting.{ReducesTo};
+
+use crate::reducing::reduce_newest;
+use crate::taking::{bring_back, take_part};
+use in_compile::Templates;
+use in_reducer::Reducer;
+use std::alloc::Global;
+use std::thread::{Threads, join_mut};
+
+/// How a net is shared out: into at most so many parts, the rest among them; each part gets so many free cells of each class besides those of
+/// its agents; so many cells of each class stay free in the rest; and at most so many interactions are done together.
+#[derive(Clone, Copy, Debug, PartialEq, Eq)]
+pub struct Sharing {
+    pub parts: u32,
+    pub share: u32,
+    pub floor: u32,
+    pub most: u64,
+}
+
+/// What was done: how many interactions, the most that one part did, and how many parts there were, the rest among them.
+#[derive(Clone, Copy, Debug, PartialEq, Eq)]
+pub struct Worked {
+    pub interactions: u64,
+    pub longest: u64,
+    pub parts: u32,
+}
+
+/// Reduces a net by one thread.
+fn alone(reducer: &mut Reducer, templates: &Templates, sharing: Sharing) -> Worked
+    requires templates { AreTemplatesOf reducer.old.program templates.now }
+    requires floor { HasFree reducer.old sharing.floor }
+    ensures reduces { ReducesTo reducer.old result.interactions reducer.new }
+    ensures most { result.interactions ≤ sharing.most }
+    ensures floor { HasFree reducer.new sharing.floor }
+    ensures parts { result.parts ≡ 1 }
+{
+    let interactions = reduce_newest(reducer, templates, sharing.floor, sharing.most);
+    Worked {
+        interactions,
+        longest: interactions,
+        parts: 1,
+    }
+}
+
+/// Reduces a net in parts, each in a thread of its own but the rest: newest pairs first. It is never refused: where memory or cells are wanted
+/// there are fewer parts, and where a thread can't be started its part is reduced after the rest. Which agents are whose is open. There is at
+/// least one part, and as many cells are free as are to stay so.
+pub fn reduce_in_parts<R: Threads>(
+    rt: &R,
+    alloc: Global,
+    reducer: &mut Reducer,
+    templates: &Templates,
+    sharing: Sharing,
+) -> Worked
+    requires templates { AreTemplatesOf reducer.old.program templates.now }
+    requires parts { 1 ≤ sharing.parts }
+    requires share { sharing.share ≤ most_cells }
+    requires floor { HasFree reducer.old sharing.floor }
+    ensures reduces { ReducesTo reducer.old result.interactions reducer.new }
+    ensures most { result.interactions ≤ sharing.most }
+    ensures floor { HasFree reducer.new sharing.floor }
+    ensures parts { result.parts ≤ sharing.parts }
+{
+    let pairs = reducer.pairs() / sharing.parts;
+    if sharing.parts == 1 || pairs == 0 {
+        return alone(reducer, templates, sharing);
+    }
+    let Some(mut taken) = take_part(
+        alloc,
+        reducer,
+        templates,
+        pairs,
+        sharing.share,
+        sharing.floor,
+    ) else {
+        return alone(reducer, templates, sharing);
+    };
+    let own_most = sharing.most / u64::from(sharing.parts);
+    let rest = Sharing {
+        parts: sharing.parts - 1,
+        share: sharing.share,
+        floor: sharing.floor + taken.cells,
+        most: sharing.most - own_most,
+    };
+    let part = &mut taken.part;
+    let (one, others) = join_mut(
+        rt,
+        &mut || reduce_newest(part, templates, 0, own_most),
+        &mut || reduce_in_parts(rt, alloc, reducer, templates, rest),
+    );
+    bring_back(reducer, taken);
+    Worked {
+        interactions: one + others.interactions,
+        longest: others.longest.max(one),
+        parts: others.parts + 1,
+    }
+}

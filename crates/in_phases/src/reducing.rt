@@ -1,0 +1,66 @@
+// A net is reduced by one thread, the newest pair first.
+ghost use Rattle.std.specs.Prelude.{◌≡◌, ◌<◌, ◌≤◌, ◌+◌, true, length};
+ghost use Rattle.in_arena.specs.declared.content.CellClass.{CellClass as Class};
+ghost use Rattle.in_compile.specs.Cells.{count_of};
+ghost use Rattle.in_compile.specs.Templates.{AreTemplatesOf};
+ghost use Rattle.in_phases.specs.Phases.{HasFree};
+ghost use Rattle.in_reducer.specs.Parting.{ReducesTo};
+
+use in_compile::Templates;
+use in_reducer::{CellClass, Need, Reducer};
+
+/// How many cells of each class are free.
+fn vacant(reducer: &Reducer) -> Need
+    ensures { (c : Class) → count_of result c ≡ count_of reducer.now.vacant c }
+{
+    Need {
+        small: reducer.free(CellClass::Small),
+        large: reducer.free(CellClass::Large),
+        wide: reducer.free(CellClass::Wide),
+    }
+}
+
+/// Whether so many cells more than the floor are free.
+fn is_above(free: u32, need: u32, floor: u32) -> bool
+    ensures { result ≡ true → floor + need ≤ free }
+{
+    u64::from(need) + u64::from(floor) <= u64::from(free)
+}
+
+/// Whether what a pair needs is free, and so many cells of each class besides.
+fn has_room_above(free: Need, need: Need, floor: u32) -> bool
+    ensures { result ≡ true → (c : Class) → floor + count_of need c ≤ count_of free c }
+{
+    is_above(free.small, need.small, floor)
+        && is_above(free.large, need.large, floor)
+        && is_above(free.wide, need.wide, floor)
+}
+
+/// Interactions of the newest pairs, at most so many, while as many cells of each class as are to be left stay free. Says how many they were.
+/// What was made last is still in the cache, and a net that is reduced from there stays small.
+pub(crate) fn reduce_newest(
+    reducer: &mut Reducer,
+    templates: &Templates,
+    floor: u32,
+    most: u64,
+) -> u64
+    requires templates { AreTemplatesOf reducer.old.program templates.now }
+    ensures reduces { ReducesTo reducer.old result reducer.new }
+    ensures most { result ≤ most }
+    ensures floor { HasFree reducer.old floor → HasFree reducer.new floor }
+{
+    let mut count = 0;
+    while count < most {
+        let pairs = reducer.pairs();
+        if pairs == 0 {
+            return count;
+        }
+        let need = reducer.need_of(templates, pairs - 1);
+        if !has_room_above(vacant(reducer), need, floor) {
+            return count;
+        }
+        reducer.step(templates, pairs - 1);
+        count += 1;
+    }
+    count
+}

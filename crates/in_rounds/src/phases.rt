@@ -1,0 +1,38 @@
+// A machine's net is reduced in parts.
+ghost use Rattle.std.specs.Prelude.{◌≤◌};
+ghost use Rattle.in_phases.specs.Phases.{HasFree};
+ghost use Rattle.in_reducer.specs.Limiting.{most_cells};
+ghost use Rattle.in_rounds.specs.Phases.{IsPhase};
+
+use crate::machine::Machine;
+use in_phases::{Sharing, Worked, reduce_in_parts};
+use std::alloc::Global;
+use std::thread::Threads;
+
+/// A phase: the net is reduced in parts that share nothing, each in a thread of its own but the rest, which the caller reduces. Which
+/// interactions are done, and in which order, is open; there are at most so many, and of each class at least so many cells are free afterwards.
+/// The net is one that the program reaches by as many interactions more.
+///
+/// There is at least one part, and so many cells are free. It is never refused: where memory is wanted there are fewer parts, and where a
+/// thread can't be started the caller does its part. It waits for its threads.
+pub fn phase<R: Threads>(
+    rt: &R,
+    alloc: Global,
+    machine: &mut Machine,
+    sharing: Sharing,
+) -> Worked
+    requires parts { 1 ≤ sharing.parts }
+    requires share { sharing.share ≤ most_cells }
+    requires floor { HasFree machine.old sharing.floor }
+    ensures phase { IsPhase machine.old result.interactions machine.new }
+    ensures most { result.interactions ≤ sharing.most }
+    ensures free { HasFree machine.new sharing.floor }
+{
+    reduce_in_parts(
+        rt,
+        alloc,
+        &mut machine.reducer,
+        &machine.templates,
+        sharing,
+    )
+}

@@ -1,0 +1,112 @@
+// When several workers reduce a net in parts, and how it is shared out. This project's own choice, as measured (`docs/work/SPEED.md`): no
+// contract speaks of it. It counts interactions, agents and pairs alone, so that a run is the same each time.
+ghost use Rattle.std.specs.Prelude.{◌≡◌, ◌≤◌, IfSome};
+ghost use Rattle.in_phases.specs.Phases.{HasFree};
+ghost use Rattle.in_reducer.specs.Limiting.{most_cells};
+
+use crate::limits::Limits;
+use in_rounds::{CellClass, Machine, Sharing, Worked};
+
+/// From how many interactions on a phase is tried: a shorter run is over before it could pay, and the pairs are spread far by then.
+pub(crate) const PHASES_FROM: u64 = 16_384;
+
+/// From how many pairs on.
+const PHASE_PAIRS: u32 = 512;
+
+/// .. and how many for each part.
+const PART_PAIRS: u32 = 64;
+
+/// The most parts, the rest among them.
+const MOST_PARTS: u32 = 16;
+
+/// The least interactions that are left for a phase.
+const LEAST_LEFT: u64 = 27_200;
+
+/// A part of the cells: less than this part of the half that is not kept back is too little for a phase.
+const LEAST_SPARE: u32 = 16;
+
+/// How many interactions a part does at most, for each agent of the net, and besides: one that runs on alone is stopped then.
+const MOST_FOR_EACH_AGENT: u64 = 16;
+const MOST_BESIDES: u64 = 32_768;
+
+/// What a phase costs beside copying agents, for each thread: as much as so many interactions.
+const COST_OF_A_THREAD: u64 = 1_700;
+
+/// How long is waited after a phase that hasn't paid, in what it cost; twice as long after each further one.
+const FIRST_WAIT: u64 = 4;
+
+/// What a run of several workers keeps from one look at its machine to the next: from how many interactions on a round and a phase are looked
+/// at, and how many times its cost is waited after the next phase that doesn't pay.
+#[derive(Clone, Copy, Debug)]
+pub(crate) struct Pace {
+    pub(crate) round_from: u64,
+    phase_from: u64,
+    wait: u64,
+}
+
+impl Pace {
+    /// That of the beginning of a run.
+    pub(crate) fn begin() -> Pace {
+        Pace {
+            round_from: 0,
+            phase_from: PHASES_FROM,
+            wait: FIRST_WAIT,
+        }
+    }
+
+    /// Whether it waits, after a phase that hasn't paid.
+    pub(crate) fn waits(&self, interactions: u64) -> bool {
+        interactions < self.phase_from
+    }
+
+    /// Notes what a phase brought, of a net with so many agents, after which so many interactions are done. It has paid where what the other
+    /// parts did beside the longest one is at least twice what it cost, and a quarter of all.
+    pub(crate) fn note(&mut self, worked: Worked, agents: u32, interactions: u64) {
+        let gain = worked.interactions.saturating_sub(worked.longest);
+        let cost = u64::from(agents) + COST_OF_A_THREAD * u64::from(worked.parts);
+        if gain >= 2 * cost && gain >= worked.interactions / 4 {
+            self.wait = FIRST_WAIT;
+        } else {
+            self.phase_from = interactions.saturating_add(self.wait.saturating_mul(cost));
+            self.wait = self.wait.saturating_mul(2);
+        }
+    }
+}
+
+/// The least number of free cells of a class.
+fn least_free(machine: &Machine) -> u32
+    ensures { HasFree machine.now result }
+{
+    let small = machine.free(CellClass::Small);
+    let large = machine.free(CellClass::Large);
+    let wide = machine.free(CellClass::Wide);
+    small.min(large).min(wide)
+}
+
+/// How a machine's net is shared out among so many workers, where so many interactions are left; nothing where a phase can't pay. Half of the
+/// cells are kept back, so that the order in which pairs are taken is no reason to stop.
+pub(crate) fn sharing(machine: &Machine, limits: Limits, left: u64) -> Option<Sharing>
+    ensures parts { IfSome result (λ s. 1 ≤ s.parts) }
+    ensures share { IfSome result (λ s. s.share ≤ most_cells) }
+    ensures floor { IfSome result (λ s. HasFree machine.now s.floor) }
+    ensures most { IfSome result (λ s. s.most ≤ left) }
+{
+    let pairs = machine.pairs();
+    let parts = limits.workers().min(MOST_PARTS).min(pairs / PART_PAIRS);
+    let floor = limits.cells() / 2;
+    let free = least_free(machine);
+    if pairs < PHASE_PAIRS || parts < 2 || left < LEAST_LEFT || free < floor {
+        return None;
+    }
+    let spare = free - floor;
+    if spare < floor / LEAST_SPARE {
+        return None;
+    }
+    let most = MOST_FOR_EACH_AGENT * u64::from(machine.agents()) + MOST_BESIDES;
+    Some(Sharing {
+        parts,
+        share: spare / parts,
+        floor,
+        most: left.min(most * u64::from(parts)),
+    })
+}
