@@ -12,6 +12,7 @@ pub fn number_anew(arena: &mut Arena, ends: &[End], numbers: &[u32])
     requires numbers { length ends.now ≤ length numbers.now }
     ensures { AreNumbered (number_in numbers.now) arena.old arena.new }
 {
+    arena.cells();
     for number in 0..ends.len() {
         if let End::Cell(cell, place) = ends[number] {
             arena.set_port(cell, place, End::Free(numbers[number]));
