@@ -31,3 +31,4 @@ pub mod Appended
 pub mod QueueBeside
 pub mod LiveCounted
 pub mod Short
+pub mod TwoEnds
