@@ -32,3 +32,6 @@ pub mod QueueBeside
 pub mod LiveCounted
 pub mod Short
 pub mod TwoEnds
+pub mod Together
+pub mod Turns
+pub mod Glued

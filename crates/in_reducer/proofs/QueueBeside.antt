@@ -22,12 +22,12 @@ use Rattle.in_reducer.proofs.Requeued.{StandOnce}
 -- ---- lists
 
 -- what stands in two lists, one after the other
-pub in_either : {X : Type 0} (xs ys : List X) (k : ℕ) (x : X) → slice_get (xs ++ ys) k ≡ Some x → (slice_get xs k ≡ Some x) ⊎ ((j : ℕ) × (k ≡ length xs + j) × (slice_get ys j ≡ Some x))
+in_either : {X : Type 0} (xs ys : List X) (k : ℕ) (x : X) → slice_get (xs ++ ys) k ≡ Some x → (slice_get xs k ≡ Some x) ⊎ ((j : ℕ) × (k ≡ length xs + j) × (slice_get ys j ≡ Some x))
 in_either [] ys k x e = inr (k, (let z : k ≡ 0 + k = omega arith in z), e)
 in_either (y ∷ xs) ys zero x e = inl e
 in_either (y ∷ xs) ys (suc k) x e = elim (in_either xs ys k x e) [ inl h ↦ inl h | inr h ↦ inr (h.0, (let f = h.1 in let z : suc k ≡ suc (length xs) + h.0 = omega (arith, f) in z), h.2) ]
 
-pub after_at : {X : Type 0} (xs ys : List X) (k : ℕ) (x : X) → slice_get ys k ≡ Some x → slice_get (xs ++ ys) (length xs + k) ≡ Some x
+after_at : {X : Type 0} (xs ys : List X) (k : ℕ) (x : X) → slice_get ys k ≡ Some x → slice_get (xs ++ ys) (length xs + k) ≡ Some x
 after_at [] ys k x e = ap (slice_get ys) (let z : 0 + k ≡ k = omega arith in z) ∙ e
 after_at (y ∷ xs) ys k x e = ap (slice_get (y ∷ (xs ++ ys))) (let z : suc (length xs) + k ≡ suc (length xs + k) = omega arith in z) ∙ after_at xs ys k x e
 

@@ -1,14 +1,10 @@
 -- Lists that are glued: the first so many of one list, and then by turns an element of the other and of this one.
-use Rattle.std.proofs.Common.{◌≡◌, ◌⊎◌, inl, inr, ◌<◌, ◌≤◌, ◌+◌, ◌-◌, ℕ, zero, suc, Option, Some, None, List, [], ◌∷◌, ◌++◌, length, map, take, drop, get_or, slice_get, refl, sym, ap, subst, ◌∙◌, length-append, length-drop, append_assoc, arith}
-use Rattle.std.proofs.lemmas.Bool.{cases_lt}
-use Rattle.std.proofs.lemmas.Bool.Decides.{nat_tests}
+use Rattle.std.proofs.Common.{◌≡◌, ◌<◌, ◌≤◌, ◌+◌, ◌-◌, ℕ, zero, suc, Option, Some, None, List, [], ◌∷◌, ◌++◌, length, map, take, drop, get_or, slice_get, refl, sym, ap, ◌∙◌, length-append, length-drop, append_assoc, arith}
 use Rattle.std.proofs.lemmas.List.{drop-map, length-map, length-take-le, map-append, map_more, take-map, take_more, take_rest}
-use Rattle.std.proofs.lemmas.Option.{same_Some, slice_get_within}
-use Rattle.in_base.proofs.Places.{kept_at}
+use Rattle.std.proofs.lemmas.Option.{same_Some}
 use Rattle.in_moving.specs.Laws.{ends_of}
-use Rattle.in_reducer.specs.Gluing.{glued, in_turn, part_number, rest_number}
+use Rattle.in_reducer.specs.Gluing.{glued, in_turn}
 use Rattle.in_reducer.specs.Parting.{by_turns, ends_of_two}
-use Rattle.in_reducer.proofs.QueueBeside.{in_either, after_at}
 
 -- ---- lists by turns
 
@@ -121,107 +117,3 @@ told_at {X} f [] (q ∷ ends) k p same at = absurd (let g : ◌≡◌ {A = List 
 told_at {X} f (x ∷ xs) [] k p same at = absurd (let g : None ≡ Some p = at in cc)
 told_at {X} f (x ∷ xs) (q ∷ ends) zero p same at = (let g : ◌≡◌ {A = List (Option X)} (Some x ∷ map (λ t. Some t) xs) (f q ∷ map f ends) = same in let h : Some x ≡ f q = cc in h) ∙ ap f (same_Some q p at)
 told_at {X} f (x ∷ xs) (q ∷ ends) (suc k) p same at = told_at f xs ends k p (let g : ◌≡◌ {A = List (Option X)} (Some x ∷ map (λ t. Some t) xs) (f q ∷ map f ends) = same in cc) at
-
--- ---- the places of the free ends of two
-
-length-ends_of : (i k n : ℕ) → length (ends_of i k n) ≡ n
-length-ends_of i k zero = refl
-length-ends_of i k (suc n) = ap suc (length-ends_of i (suc k) n)
-
-length-by_turns : (own j w : ℕ) → length (by_turns own j w) ≡ w + w
-length-by_turns own j zero = refl
-length-by_turns own j (suc w) = let h = length-by_turns own (suc j) w in omega (arith, h)
-
-pub length-ends_of_two : (own w : ℕ) → length (ends_of_two own w) ≡ own + (w + w)
-length-ends_of_two own w =
-    let a = length-append (ends_of 0 0 own) (by_turns own 0 w) in
-    let b = length-ends_of 0 0 own in
-    let c = length-by_turns own 0 w in
-    omega (arith, a, b, c)
-
-ends_there : (i k n j : ℕ) → j < n → slice_get (ends_of i k n) j ≡ Some (i, k + j)
-ends_there i k zero j low = absurd (omega (arith, low))
-ends_there i k (suc n) zero low = ap (λ (z : ℕ). Some (i, z)) (let e : k ≡ k + 0 = omega arith in e)
-ends_there i k (suc n) (suc j) low = ends_there i (suc k) n j (omega (arith, low)) ∙ ap (λ (z : ℕ). Some (i, z)) (let e : suc k + j ≡ k + suc j = omega arith in e)
-
-turn_of_part : (own j w i : ℕ) → i < w → slice_get (by_turns own j w) (i + i) ≡ Some (1, j + i)
-turn_of_part own j zero i low = absurd (omega (arith, low))
-turn_of_part own j (suc w) zero low = ap (λ (z : ℕ). Some (1, z)) (let e : j ≡ j + 0 = omega arith in e)
-turn_of_part own j (suc w) (suc i) low =
-    ap (slice_get (by_turns own j (suc w))) (let e : suc i + suc i ≡ suc (suc (i + i)) = omega arith in e) ∙ turn_of_part own (suc j) w i (omega (arith, low)) ∙ ap (λ (z : ℕ). Some (1, z)) (let e : suc j + i ≡ j + suc i = omega arith in e)
-
-turn_of_rest : (own j w i : ℕ) → i < w → slice_get (by_turns own j w) (suc (i + i)) ≡ Some (0, own + (j + i))
-turn_of_rest own j zero i low = absurd (omega (arith, low))
-turn_of_rest own j (suc w) zero low = ap (λ (z : ℕ). Some (0, z)) (let e : own + j ≡ own + (j + 0) = omega arith in e)
-turn_of_rest own j (suc w) (suc i) low =
-    ap (slice_get (by_turns own j (suc w))) (let e : suc (suc i + suc i) ≡ suc (suc (suc (i + i))) = omega arith in e) ∙ turn_of_rest own (suc j) w i (omega (arith, low))
-    ∙ ap (λ (z : ℕ). Some (0, z)) (let e : own + (suc j + i) ≡ own + (j + suc i) = omega arith in e)
-
--- the number of a free end of the rest
-pub rest_number_low : (own k : ℕ) → k < own → rest_number own k ≡ k
-rest_number_low own k low = grind (arith, nat_tests, low)
-
-pub rest_number_high : (own j : ℕ) → rest_number own (own + j) ≡ own + suc (j + j)
-rest_number_high own j = grind (arith, nat_tests)
-
--- a free end of the rest, and one of the part, stand at their numbers
-pub rest_there : (own w e : ℕ) → e < own + w → slice_get (ends_of_two own w) (rest_number own e) ≡ Some (0, e)
-rest_there own w e low = go (cases_lt e own)
-  where
-    go : (e < own) ⊎ (own ≤ e) → slice_get (ends_of_two own w) (rest_number own e) ≡ Some (0, e)
-    go (inl l) =
-        ap (slice_get (ends_of_two own w)) (rest_number_low own e l) ∙ kept_at (ends_of 0 0 own) (by_turns own 0 w) e (0, 0 + e) (ends_there 0 0 own e l)
-        ∙ ap (λ (z : ℕ). Some (0, z)) (let f : 0 + e ≡ e = omega arith in f)
-    go (inr l) =
-        let is : own + (e - own) ≡ e = omega (arith, l) in
-        let long = length-ends_of 0 0 own in
-        let j = e - own in
-        ap (slice_get (ends_of_two own w)) (ap (rest_number own) (sym is) ∙ rest_number_high own j ∙ ap (λ (z : ℕ). z + suc (j + j)) (sym long))
-            ∙ after_at (ends_of 0 0 own) (by_turns own 0 w) (suc (j + j)) (0, own + (0 + j)) (turn_of_rest own 0 w j (omega (arith, low, l)))
-            ∙ ap (λ (z : ℕ). Some (0, z)) (let f : own + (0 + j) ≡ e = omega (arith, is) in f)
-
-pub part_there : (own w e : ℕ) → e < w → slice_get (ends_of_two own w) (part_number own e) ≡ Some (1, e)
-part_there own w e low =
-    ap (λ (z : ℕ). slice_get (ends_of_two own w) (z + (e + e))) (sym (length-ends_of 0 0 own)) ∙ after_at (ends_of 0 0 own) (by_turns own 0 w) (e + e) (1, 0 + e) (turn_of_part own 0 w e low)
-    ∙ ap (λ (z : ℕ). Some (1, z)) (let f : 0 + e ≡ e = omega arith in f)
-
--- .. and nothing else stands there
-abbrev pub IsPlaced : ℕ → ℕ → ℕ → ℕ × ℕ → Type 0
-IsPlaced own w k (zero, e) = (e < own + w) × (rest_number own e ≡ k)
-IsPlaced own w k (suc zero, e) = (e < w) × (part_number own e ≡ k)
-IsPlaced own w k (suc (suc i), e) = ⊥
-
-abbrev IsTurn : ℕ → ℕ → ℕ → ℕ → ℕ × ℕ → Type 0
-IsTurn own j w k (zero, e) = (i : ℕ) × (i < w) × (e ≡ own + (j + i)) × (k ≡ suc (i + i))
-IsTurn own j w k (suc zero, e) = (i : ℕ) × (i < w) × (e ≡ j + i) × (k ≡ i + i)
-IsTurn own j w k (suc (suc i), e) = ⊥
-
-next_turn : (own j w k : ℕ) (p : ℕ × ℕ) → IsTurn own (suc j) w k p → IsTurn own j (suc w) (suc (suc k)) p
-next_turn own j w k (zero, e) (i, low, is, at) = (suc i, omega (arith, low), omega (arith, is), omega (arith, at))
-next_turn own j w k (suc zero, e) (i, low, is, at) = (suc i, omega (arith, low), omega (arith, is), omega (arith, at))
-next_turn own j w k (suc (suc i), e) h = h
-
-is_turn : (own j w k : ℕ) (p : ℕ × ℕ) → slice_get (by_turns own j w) k ≡ Some p → IsTurn own j w k p
-is_turn own j zero k p at = absurd (let g : None ≡ Some p = at in cc)
-is_turn own j (suc w) zero p at = subst (IsTurn own j (suc w) zero) (same_Some (1, j) p at) (0, omega arith, omega arith, refl)
-is_turn own j (suc w) (suc zero) p at = subst (IsTurn own j (suc w) (suc zero)) (same_Some (0, own + j) p at) (0, omega arith, omega arith, refl)
-is_turn own j (suc w) (suc (suc k)) p at = next_turn own j w k p (is_turn own (suc j) w k p at)
-
-placed_later : (own w k : ℕ) (p : ℕ × ℕ) → IsTurn own 0 w k p → IsPlaced own w (own + k) p
-placed_later own w k (zero, e) (i, low, is, at) =
-    let f : e ≡ own + i = omega (arith, is) in
-    (omega (arith, low, f), ap (rest_number own) f ∙ rest_number_high own i ∙ (let g : own + suc (i + i) ≡ own + k = omega (arith, at) in g))
-placed_later own w k (suc zero, e) (i, low, is, at) = (omega (arith, low, is), omega (arith, is, at))
-placed_later own w k (suc (suc i), e) h = h
-
-pub is_placed : (own w k : ℕ) (p : ℕ × ℕ) → slice_get (ends_of_two own w) k ≡ Some p → IsPlaced own w k p
-is_placed own w k p at = go (in_either (ends_of 0 0 own) (by_turns own 0 w) k p at)
-  where
-    go : (slice_get (ends_of 0 0 own) k ≡ Some p) ⊎ ((j : ℕ) × (k ≡ length (ends_of 0 0 own) + j) × (slice_get (by_turns own 0 w) j ≡ Some p)) → IsPlaced own w k p
-    go (inl h) =
-        let low : k < own = (let l = slice_get_within (ends_of 0 0 own) k p h in let g = length-ends_of 0 0 own in omega (arith, l, g)) in
-        let is : (0, k) ≡ p = same_Some (0, k) p (ap (λ (z : ℕ). Some (0, z)) (let f : k ≡ 0 + k = omega arith in f) ∙ sym (ends_there 0 0 own k low) ∙ h) in
-        subst (IsPlaced own w k) is (omega (arith, low), rest_number_low own k low)
-    go (inr h) =
-        let is : own + h.0 ≡ k = (let f = h.1 in let g = length-ends_of 0 0 own in omega (arith, f, g)) in
-        subst (λ (z : ℕ). IsPlaced own w z p) is (placed_later own w h.0 p (is_turn own 0 w h.0 p h.2))

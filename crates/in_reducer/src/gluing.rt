@@ -5,9 +5,9 @@ ghost use Rattle.in_arena.specs.declared.content.CellClass.{CellClass as Class};
 ghost use Rattle.in_compile.specs.Cells.{agents_of, count_of};
 ghost use Rattle.in_moving.specs.Copying.{IsEndWithin, IsListOfLive, moved_end, name_in, number_in};
 ghost use Rattle.in_reducer.specs.Appending.{CanAppend};
-ghost use Rattle.in_reducer.specs.Gluing.{IsFreeWithin, glued, in_turn, part_number, rest_number};
+ghost use Rattle.in_reducer.specs.Gluing.{IsFreeWithin, glued, in_turn};
 ghost use Rattle.in_reducer.specs.Inside.{IsKept, most_free, reducer_view};
-ghost use Rattle.in_reducer.specs.Parting.{IsGluedOn};
+ghost use Rattle.in_reducer.specs.Parting.{IsGluedOn, place_of_two};
 
 use crate::appending::{add_free, add_pairs, add_sides};
 use crate::body::{Body, OwnEnd};
@@ -20,12 +20,12 @@ use in_moving::{copy, moved_end, number_anew};
 /// The number in the whole of a free end of the rest, which had so many before the cuts.
 fn rest_number(own: u32, number: u32) -> u32
     requires { number ≤ most_free }
-    ensures { result ≡ rest_number own number }
+    ensures { result ≡ place_of_two own 0 number }
 {
     if number < own {
         number
     } else {
-        number + (number - own) + 1
+        own + 2 * (number - own) + 1
     }
 }
 
@@ -35,7 +35,7 @@ fn list_rest_numbers(own: u32, many: u32, numbers: &mut Vec<u32>)
     requires none { numbers.old.items ≡ [] }
     requires room { many ≤ vec_capacity numbers.old }
     ensures many { length numbers.new.items ≡ many }
-    ensures each { (k : ℕ) → k < many → number_in numbers.new.items k ≡ rest_number own k }
+    ensures each { (k : ℕ) → k < many → number_in numbers.new.items k ≡ place_of_two own 0 k }
 {
     for number in 0..many {
         numbers.push_reserved(rest_number(own, number));
@@ -48,7 +48,7 @@ fn list_part_numbers(own: u32, cuts: u32, numbers: &mut Vec<u32>)
     requires none { numbers.old.items ≡ [] }
     requires room { cuts ≤ vec_capacity numbers.old }
     ensures many { length numbers.new.items ≡ cuts }
-    ensures each { (k : ℕ) → k < cuts → number_in numbers.new.items k ≡ part_number own k }
+    ensures each { (k : ℕ) → k < cuts → number_in numbers.new.items k ≡ place_of_two own 1 k }
 {
     for cut in 0..cuts {
         numbers.push_reserved(own + 2 * cut);
@@ -147,6 +147,7 @@ fn glue_ends(
     requires room { length part.now + length rest.now ≤ vec_capacity ends.old }
     ensures items { (own : ℕ) → length rest.now ≡ own + length part.now → ends.new.items
         ≡ glued own (map (moved_end (λ z. z) (number_in rest_numbers.now)) rest.now) (map (moved_end (name_in names.now) (number_in part_numbers.now)) part.now) }
+    ensures many { vec_len ends.new ≡ length part.now + length rest.now }
     ensures room { vec_capacity ends.new ≡ vec_capacity ends.old }
 {
     let own = rest.len() - part.len();
