@@ -1,6 +1,5 @@
 -- A reducer after a part was glued on: the free ends of its own, and then by turns one of the part and one of the rest.
-use Rattle.std.proofs.Common.{◌≡◌, ◌<◌, ◌≤◌, ◌+◌, ℕ, zero, suc, Option, Some, None, List, [], ◌∷◌, ◌++◌, length, map, take, slice_get, refl, sym, ap, subst, ◌∙◌, arith}
-use Rattle.std.specs.Prelude.{option_map}
+use Rattle.std.proofs.Common.{◌≡◌, ◌<◌, ◌≤◌, ◌+◌, ℕ, zero, suc, Option, Some, List, ◌++◌, length, map, take, slice_get, refl, sym, ap, subst, ◌∙◌, arith}
 use Rattle.std.specs.VecDeque.{deque_capacity}
 use Rattle.std.proofs.lemmas.List.{length-map, length-take-le}
 use Rattle.std.proofs.lemmas.Option.{slice_get-map, slice_get_within}
@@ -28,7 +27,6 @@ use Rattle.in_reducer.specs.Inside.{IsOwnEnd, KeepsNet, declared_as, most_ends, 
 use Rattle.in_reducer.specs.Machines.{MachineParts}
 use Rattle.in_reducer.specs.Parting.{IsGluedOn, ends_of_two, names_of, names_of_two, place_of_two}
 use Rattle.in_reducer.specs.Reducers.{IsReducer}
-use Rattle.in_reducer.specs.Standing.{leading_to}
 use Rattle.in_reducer.proofs.Shown.{same_kinds, same_names}
 use Rattle.in_reducer.proofs.Together as together
 use Rattle.in_reducer.proofs.Together.{in_cells}

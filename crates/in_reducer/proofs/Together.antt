@@ -1,5 +1,5 @@
 -- The nets of two reducers in the cells of one of them, side by side, whatever the order of their free ends.
-use Rattle.std.proofs.Common.{◌≡◌, ◌≢◌, ◌⊎◌, inl, inr, ◌<◌, ◌≤◌, ◌+◌, ℕ, zero, suc, Bool, true, false, cond, Option, Some, None, IsSome, List, [], ◌∷◌, ◌++◌, length, map, take, get_or, count_by, slice_get, refl, sym, ap, subst, ◌∙◌, length-append, arith}
+use Rattle.std.proofs.Common.{◌≡◌, ◌⊎◌, inl, inr, ◌<◌, ◌≤◌, ◌+◌, ℕ, zero, suc, true, Some, List, [], ◌∷◌, ◌++◌, length, map, take, get_or, count_by, slice_get, refl, sym, ap, subst, ◌∙◌, length-append, arith}
 use Rattle.std.specs.Prelude.{All, option_map}
 use Rattle.std.specs.VecDeque.{deque_capacity}
 use Rattle.std.proofs.Math.Seq.{take-append_seam}
@@ -9,14 +9,13 @@ use Rattle.std.proofs.lemmas.Option.{same_Some}
 use native.Mathlib.Decide.{ℕ_discrete}
 use Rattle.in_arena.specs.Arenas.{ArenaView, NoneLeased, free_of, state_at}
 use Rattle.in_arena.specs.Classes.{Holds, holds, IsNumberOf}
-use Rattle.in_arena.specs.States.{State, Vacant, Leased, Live, IsLeased, IsLive, places, word_of}
+use Rattle.in_arena.specs.States.{Vacant, Leased, IsLeased, places, word_of}
 use Rattle.in_arena.specs.declared.content.CellClass.{CellClass}
 use Rattle.in_arena.specs.declared.content.CellClass.TheVariants.{Small, Large, Wide}
 use Rattle.in_arena.specs.declared.content.CellNo.{CellNo}
 use Rattle.in_arena.specs.declared.content.End.{End}
 use Rattle.in_arena.specs.declared.content.End.TheVariants as end
 use Rattle.in_arena.proofs.Public.{state_inside, numbers_apart}
-use Rattle.in_symbols.specs.declared.symbols.PortType.{PortType}
 use Rattle.in_symbols.specs.Tables.{Tables, arity_of}
 use Rattle.in_net.specs.declared.nets.FreeEnd.{FreeEnd}
 use Rattle.in_net.specs.Nets.{Port, Free, Net, signature_of}

@@ -1,4 +1,4 @@
-use Rattle.std.proofs.Common.{◌≡◌, ◌<◌, ◌≤◌, ◌+◌, ◌*◌, ◌++◌, ℕ, List, [], length, map, take, refl, sym, ap, subst, ◌∙◌, arith}
+use Rattle.std.proofs.Common.{◌≡◌, ◌≤◌, ◌+◌, ◌*◌, ◌++◌, ℕ, List, length, map, take, refl, sym, ap, subst, ◌∙◌, arith}
 use Rattle.std.specs.Prelude.{All}
 use Rattle.std.specs.Vec.{with_items}
 use Rattle.std.proofs.lemmas.List.{length-take-le, with_items_is}
@@ -6,13 +6,12 @@ use Rattle.in_arena.specs.Classes.{classes}
 use Rattle.in_arena.specs.declared.content.CellNo.{CellNo}
 use Rattle.in_arena.specs.declared.content.End.{End}
 use Rattle.in_interaction.specs.Queues.{both}
-use Rattle.in_moving.specs.Copying.{AreClosed, ArePart, HasCellsFor, IsCopied, IsEndWithin, IsListOfLive, moved_end, name_in, number_in}
+use Rattle.in_moving.specs.Copying.{AreClosed, HasCellsFor, IsCopied, IsEndWithin, moved_end, name_in, number_in}
 use Rattle.in_moving.specs.TakingOut.{AreLedTo, AreNumbered}
 use Rattle.in_reducer.specs.declared.body.Body.{Body}
 use Rattle.in_reducer.specs.declared.body.OwnEnd.{OwnEnd}
 use Rattle.in_reducer.specs.Gluing.{IsFreeWithin, glued}
 use Rattle.in_reducer.specs.Inside.{IsKept, KeepsNet}
-use Rattle.in_reducer.specs.Parting.{place_of_two}
 use Rattle.in_reducer.proofs.AtRest.{as_many}
 use Rattle.in_reducer.proofs.Glued as glue
 use Rattle.in_reducer.proofs.StillNet as still
@@ -60,10 +59,10 @@ are_glued : (r o : Body) → KeepsNet r → KeepsNet o → (own cuts : ℕ) → 
 are_glued r o k l own cuts many_rest many_part rest_numbers part_numbers names rest part of_rest of_part named ends sides list is_rest is_part is_of_rest is_of_part is_named h is_list =
     is_list ∙ ap (λ zs. zs ++ sides)
     (h own (
-        let e = ap length is_rest in let f = ap length is_part in let g = k.ends in let i = l.ends in
-        let a = length-take-le (own + cuts) rest (let j = many_rest in omega (arith, e, g, j)) in let b = length-take-le cuts part (let j = many_part in omega (arith, f, i, j)) in
-        omega (arith, a, b)
-        )
+    let e = ap length is_rest in let f = ap length is_part in let g = k.ends in let i = l.ends in
+    let a = length-take-le (own + cuts) rest (let j = many_rest in omega (arith, e, g, j)) in let b = length-take-le cuts part (let j = many_part in omega (arith, f, i, j)) in
+    omega (arith, a, b)
+    )
     ∙ (λ i. glued own (map (moved_end (λ z. z) (number_in (is_of_rest i))) (take (own + cuts) (is_rest i))) (map (moved_end (name_in (is_named i)) (number_in (is_of_part i))) (take cuts (is_part i)))))
 
 pub glue_ends-requires-clause-part : goal.glue_ends-requires-clause-part
@@ -88,7 +87,6 @@ glue_ends-requires-clause-rest c =
     subst (λ (z : List End). All (IsFreeWithin (length c.as_slice-10.result.now)) (take (c.args.own + c.args.cuts) z)) (sym c.as_slice.ensures.value)
     (subst (λ (z : ℕ). All (IsFreeWithin z) (take (c.args.own + c.args.cuts) r.ends.items)) (sym (ap length c.as_slice-10.ensures.value ∙ c.list_rest_numbers.ensures.many))
     (together.all_free_within r c.requires.kept.all.net (c.args.own + c.args.cuts) (sym c.requires.rest)))
-
 
 pub add_pairs-requires-clause-within : goal.add_pairs-requires-clause-within
 add_pairs-requires-clause-within c = λ j q at.
