@@ -40,3 +40,6 @@ pub mod SplitBefore
 pub mod SplitCells
 pub mod SplitNets
 pub mod SplitKept
+pub mod Together
+pub mod Turns
+pub mod Glued

@@ -1,5 +1,6 @@
 pub mod Appending
 pub mod Cutting
+pub mod Gluing
 pub mod Inside
 pub mod Interacting
 pub mod Laws

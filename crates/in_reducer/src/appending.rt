@@ -49,7 +49,7 @@ pub(crate) fn add_pairs(
 }
 
 /// Free ends at the end of others. No memory is taken.
-fn add_free(more: &[OwnEnd], free: &mut Vec<OwnEnd>)
+pub(crate) fn add_free(more: &[OwnEnd], free: &mut Vec<OwnEnd>)
     requires room { vec_len free.old + length more.now ≤ vec_capacity free.old }
     ensures items { free.new.items ≡ free.old.items ++ more.now }
     ensures room { vec_capacity free.new ≡ vec_capacity free.old }
