@@ -14,7 +14,12 @@ fn parts_come_to_what_turns_come_to(rt: HostRuntime) {
     for parts in [1, 2, 3, 8] {
         for most in [1, 2, 3, 5, 1000] {
             for between in [0, 1, 2] {
-                let look = Parted { rt, parts, most, between };
+                let look = Parted {
+                    rt,
+                    parts,
+                    most,
+                    between,
+                };
                 let found = seen(rt.alloc(), &[SUMS, ADDITION, SUMS_OF_SUMS], &look);
                 let came = found.expect(&rt, "it is accepted and fits");
                 println!(rt; "{parts} {most} {between}: {came:?}").expect(&rt, "print");

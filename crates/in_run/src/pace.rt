@@ -27,6 +27,7 @@ const LEAST_SPARE: u32 = 16;
 
 /// How many interactions a part does at most, for each agent of the net, and besides: one that runs on alone is stopped then.
 const MOST_FOR_EACH_AGENT: u64 = 16;
+
 const MOST_BESIDES: u64 = 32_768;
 
 /// What a phase costs beside copying agents, for each thread: as much as so many interactions.

@@ -27,8 +27,7 @@ cut_place-cuts-requires-clause-there c =
 pub loop-place-preserved : goal.loop-place-preserved
 loop-place-preserved c =
     let few = c.cut_place-cuts.ensures.few in
-    let sofar = c.loop-place.invariant.1 in
-    (
+    let sofar = c.loop-place.invariant.1 in (
       times_on c.args.reducer.now c.loop-place.reducer c.cut_place-cuts.new.reducer c.loop-place.cuts c.cut_place-cuts.result c.loop-place.invariant.0 c.cut_place-cuts.ensures.cuts,
       omega (arith, few, sofar),
     )
