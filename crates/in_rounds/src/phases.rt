@@ -28,11 +28,13 @@ pub fn phase<R: Threads>(
     ensures most { result.interactions ≤ sharing.most }
     ensures free { HasFree machine.new sharing.floor }
 {
-    reduce_in_parts(
+    let worked = reduce_in_parts(
         rt,
         alloc,
         &mut machine.reducer,
         &machine.templates,
         sharing,
-    )
+    );
+    machine.reducer.pairs();
+    worked
 }

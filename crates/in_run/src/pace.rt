@@ -4,7 +4,7 @@ ghost use Rattle.std.specs.Prelude.{◌≡◌, ◌≤◌, IfSome};
 ghost use Rattle.in_phases.specs.Phases.{HasFree};
 ghost use Rattle.in_reducer.specs.Limiting.{most_cells};
 
-use crate::limits::Limits;
+use crate::limits::{Limits, MOST_CELLS};
 use in_rounds::{CellClass, Machine, Sharing, Worked};
 
 /// From how many interactions on a phase is tried: a shorter run is over before it could pay, and the pairs are spread far by then.
@@ -105,7 +105,7 @@ pub(crate) fn sharing(machine: &Machine, limits: Limits, left: u64) -> Option<Sh
     let most = MOST_FOR_EACH_AGENT * u64::from(machine.agents()) + MOST_BESIDES;
     Some(Sharing {
         parts,
-        share: spare / parts,
+        share: MOST_CELLS.min(spare / parts),
         floor,
         most: left.min(most * u64::from(parts)),
     })
