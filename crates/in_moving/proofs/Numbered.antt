@@ -17,7 +17,7 @@ use Rattle.in_glue.specs.Joining.{WiresLeadBack}
 use Rattle.in_joining.specs.Shown.{IsShown, point_of}
 use Rattle.in_moving.specs.Copying.{ArePart, moved, moved_end}
 use Rattle.in_moving.specs.Laws.{AreRenumbered, AreTakenOut}
-use Rattle.in_moving.specs.TakingOut.{AreClassed, AreLedTo, AreNumbered, AreRetired}
+use Rattle.in_moving.specs.TakingOut.{AreClassed, AreLedTo, AreNumberedAnew, AreRetired}
 use Rattle.in_moving.specs.TakingOutSteps.{number_below}
 use Rattle.in_moving.proofs.Shown.{NamedOr, named_or, end_live, word_moved}
 use Rattle.in_moving.proofs.Written.{live_keeps_free, moved_live}
@@ -99,7 +99,7 @@ state_same Vacant = refl
 state_same Leased = refl
 state_same (Live w es) = ap (Live w) (ends_same es)
 
-pub none_numbered : (number : ℕ → ℕ) (old : ArenaView) → AreNumbered (number_below number 0) old old
+pub none_numbered : (number : ℕ → ℕ) (old : ArenaView) → AreNumberedAnew (number_below number 0) old old
 none_numbered number old = record {
   each = λ y. state_same (state_at old y) ∙ state_agrees (λ z. z) (number_below number 0) (state_at old y) (λ i k h. sym (number_stays number 0 k (omega arith)));
   free = λ d. refl;
@@ -109,7 +109,7 @@ none_numbered number old = record {
 }
 
 module _ (number : ℕ → ℕ) (old : ArenaView) (ends : List End) (led : AreLedTo old ends) where
-  pub all_numbered : (new : ArenaView) → AreNumbered (number_below number (length ends)) old new → AreNumbered number old new
+  pub all_numbered : (new : ArenaView) → AreNumberedAnew (number_below number (length ends)) old new → AreNumberedAnew number old new
   all_numbered new h = record {
     each = λ y. h.each y ∙ state_agrees (number_below number (length ends)) number (state_at old y) (λ i k s. (let at = led.all y i k s in number_is number (length ends) k (slice_get_within ends k (Cell (record { 0 = y }) i) at)));
     free = h.free;
@@ -118,9 +118,9 @@ module _ (number : ℕ → ℕ) (old : ArenaView) (ends : List End) (led : AreLe
     many = h.many;
   }
 
-  module _ (x : ℕ) (now : ArenaView) (h : AreNumbered (number_below number x) old now) where
+  module _ (x : ℕ) (now : ArenaView) (h : AreNumberedAnew (number_below number x) old now) where
     -- no place leads to a free end that leads to another one
-    pub none_to_number : (e : End) → slice_get ends x ≡ Some e → ((c : CellNo) (i : ℕ) → e ≡ Cell c i → ⊥) → AreNumbered (number_below number (x + 1)) old now
+    pub none_to_number : (e : End) → slice_get ends x ≡ Some e → ((c : CellNo) (i : ℕ) → e ≡ Cell c i → ⊥) → AreNumberedAnew (number_below number (x + 1)) old now
     none_to_number e at none = record {
       each = λ y. h.each y ∙ state_agrees (number_below number x) (number_below number (x + 1)) (state_at old y) (λ i k s. number_next number x k (other y i k s));
       free = h.free;
@@ -176,7 +176,7 @@ module _ (number : ℕ → ℕ) (old : ArenaView) (ends : List End) (led : AreLe
             ap (λ v. state_at v y) e ∙ get_or-set_other now.states c.0 y new Leased ne ∙ h.each y
             ∙ state_agrees (number_below number x) (number_below number (x + 1)) (state_at old y) (λ i k s. number_next number x k (λ f. ne (alone y i (s ∙ ap (λ (z : ℕ). Some (FreeEnd z)) f)).0))
 
-        pub one_more_numbered : AreNumbered (number_below number (x + 1)) old now'
+        pub one_more_numbered : AreNumberedAnew (number_below number (x + 1)) old now'
         one_more_numbered = record {
           each = λ y. each_by y (cases_eq y c.0);
           free = λ d. ap (λ v. free_of v d) e ∙ live_keeps_free now c.0 new all_now live_now new_live d ∙ h.free d;
@@ -207,7 +207,7 @@ leased_before name number Vacant leased = leased
 leased_before name number Leased leased = leased
 leased_before name number (Live w es) leased = leased
 
-module _ (number : ℕ → ℕ) (a b : ArenaView) (h : AreNumbered number a b) where
+module _ (number : ℕ → ℕ) (a b : ArenaView) (h : AreNumberedAnew number a b) where
   pub numbered_live : (y : ℕ) → IsLive (state_at a y) → IsLive (state_at b y)
   numbered_live y live = subst IsLive (sym (h.each y)) (moved_live (λ z. z) number (state_at a y) live)
 

@@ -17,7 +17,7 @@ use Rattle.in_glue.specs.Joining.{IsAtNumber, IsBeside, WiresLeadBack}
 use Rattle.in_glue.specs.Laws.{KeepsApart}
 use Rattle.in_glue.proofs.Public.{mapped}
 use Rattle.in_joining.specs.Shown.{point_of}
-use Rattle.in_parts.specs.Leading.{IsThere, IsWired, StandBeside}
+use Rattle.in_parts.specs.Leading.{IsThere, IsWiredWithin, StandBeside}
 use Rattle.in_parts.proofs.Public.{beside_parts_are_nets}
 use Rattle.in_check.specs.Systems.{System}
 use Rattle.in_moving.specs.Copying.{IsCopied, name_in, number_in}
@@ -336,7 +336,7 @@ module _ (from left old new : ArenaView) (agents names : List CellNo) (numbers :
           let same : w.1 ≡ w.0 = in_place w.1 (stays_in w.0 w.1 w.2 w.4) ∙ ap (placed number origin 1) (sym w.5 ∙ w.3) ∙ sym (in_place w.0 w.2) in
           back.1 w.0 (w.4 ∙ ap (λ (z : Point ℕ). Some z) same)
 
-  left_wired : (all : List ℕ) → ((x : ℕ) → IsSome (n.symbol x) → IsAmong x all) → IsWired m
+  left_wired : (all : List ℕ) → ((x : ℕ) → IsSome (n.symbol x) → IsAmong x all) → IsWiredWithin m
   left_wired all among = record {
     agents = all;
     all = λ x g. (let s = symbol_of (m.symbol x) g in among x (subst IsSome (symbol_left x (left_agent x s.0 s.1)) g));
@@ -344,7 +344,7 @@ module _ (from left old new : ArenaView) (agents names : List CellNo) (numbers :
     back = back_left;
   }
 
-  part_wired : IsWired p
+  part_wired : IsWiredWithin p
   part_wired = record {
     agents = map (λ (c : CellNo). name c.0) agents;
     all = λ z g. (

@@ -29,7 +29,7 @@ pub record AreLedTo (a : ArenaView) (ends : List End) : Type 0 where
   pub all : (y i k : ℕ) → end_at (state_at a y) i ≡ Some (Free k) → slice_get ends k ≡ Some (Cell (record { 0 = y }) i)
 
 -- each place that leads to a free end leads to it under its new number, and all else is as it was
-pub record AreNumbered (number : ℕ → ℕ) (old new : ArenaView) : Type 0 where
+pub record AreNumberedAnew (number : ℕ → ℕ) (old new : ArenaView) : Type 0 where
   pub each : (y : ℕ) → state_at new y ≡ moved (λ z. z) number (state_at old y)
   pub free : (d : CellClass) → free_of new d ≡ free_of old d
   pub memory : new.memory ≡ old.memory

@@ -5,7 +5,7 @@ use Rattle.in_interaction.proofs.Public.{has_value}
 use Rattle.in_check.proofs.Public.{is_some}
 use Rattle.in_check.specs.Systems.{System}
 use Rattle.in_glue.specs.AsGluing.{two_parts}
-use Rattle.in_parts.specs.Leading.{IsThere, IsWired, StandBeside, BesidePartsAreNets}
+use Rattle.in_parts.specs.Leading.{IsThere, IsWiredWithin, StandBeside, BesidePartsAreNets}
 use Rattle.in_parts.proofs.BesideSound.{image, is_image, wire_kept, symbol_kept, point_kept, there_of, one_place}
 
 module _ (p : System) (one two m : Net ℕ) (name : ℕ → ℕ) (ends : List (ℕ × ℕ)) (h : StandBeside one two name ends m) (net : IsNet p.symbols m) where
@@ -30,7 +30,7 @@ module _ (p : System) (one two m : Net ℕ) (name : ℕ → ℕ) (ends : List (�
         (net.points (at i (Port x k)) (at i r) (wire_kept p one two m name ends h i (Port x k) r e))
     points (Free k) r e = wired i (Free k) r e
 
-  module _ (wired_one : IsWired one) (wired_two : IsWired two) where
+  module _ (wired_one : IsWiredWithin one) (wired_two : IsWiredWithin two) where
     wires_there : (j : ℕ) (u v : Point ℕ) → (both j).partner u ≡ Some v → IsThere (both j) u
     wires_there zero u v e = wired_one.there u v e
     wires_there (suc zero) u v e = wired_two.there u v e

@@ -102,7 +102,7 @@ IsThere m (Free k) = k < length m.free
 
 -- finitely many agents, and wires that lead from points that are there, and back: a net, but that a point may be in no wire, and a place may be
 -- one that its agent's symbol doesn't have
-pub record IsWired (m : Net ℕ) : Type 0 where
+pub record IsWiredWithin (m : Net ℕ) : Type 0 where
   pub agents : List ℕ
   pub all : (x : ℕ) → IsSome (m.symbol x) → IsAmong x agents
   pub there : (u v : Point ℕ) → m.partner u ≡ Some v → IsThere m u
@@ -110,7 +110,7 @@ pub record IsWired (m : Net ℕ) : Type 0 where
 
 -- what stands side by side in a net is a net
 abbrev pub BesidePartsAreNets : Type 0
-BesidePartsAreNets = (p : System) (one two n : Net ℕ) (name : ℕ → ℕ) (ends : List (ℕ × ℕ)) → IsNet p.symbols n → IsWired one → IsWired two →
+BesidePartsAreNets = (p : System) (one two n : Net ℕ) (name : ℕ → ℕ) (ends : List (ℕ × ℕ)) → IsNet p.symbols n → IsWiredWithin one → IsWiredWithin two →
     StandBeside one two name ends n → IsNet p.symbols one × IsNet p.symbols two
 
 -- what stands side by side in a sound net is sound

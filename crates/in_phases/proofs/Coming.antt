@@ -11,7 +11,7 @@ use Rattle.in_reducer.specs.Reducers.{IsReducer}
 use Rattle.in_reducer.specs.PartingLaws.{IsCutTimes}
 use Rattle.in_reducer.proofs.Public.{parts_reduce_the_whole, stays_reduce}
 use Rattle.in_phases.specs.declared.taking.Taken.{Taken}
-use Rattle.in_phases.specs.Phases.{CanComeBack, HasFree, IsSplitBy, IsTaken}
+use Rattle.in_phases.specs.Phases.{CanComeBack, HasFree, IsSplitBy, IsTakenOut}
 use Rattle.in_phases.proofs.Undoing.{IsCutAndReduced}
 
 -- as many free ends as before
@@ -89,7 +89,7 @@ comes_at_once m cut now t of of_cut cuts times same split = record {
 }
 
 -- .. and what has been reduced since
-pub comes_reduced : (m rest now part : MachineParts) (t : Taken) (i j floor : ℕ) → IsTaken m t.cuts t.cells t.seam t.part rest → ReducesTo rest i now → ReducesTo t.part j part → HasFree now (floor + t.cells)
+pub comes_reduced : (m rest now part : MachineParts) (t : Taken) (i j floor : ℕ) → IsTakenOut m t.cuts t.cells t.seam t.part rest → ReducesTo rest i now → ReducesTo t.part j part → HasFree now (floor + t.cells)
     → CanComeBack m (i + j) (record { part = part; seam = t.seam; cuts = t.cuts; cells = t.cells }) now
 comes_reduced m rest now part t i j floor taken of_rest of_part free = record {
   rest = rest;

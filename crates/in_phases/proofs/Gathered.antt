@@ -9,9 +9,9 @@ use Rattle.in_net.specs.Parts.{symbol_in}
 use Rattle.in_net.proofs.Public.{symbol_within}
 use Rattle.in_interaction.proofs.Public.{has_value}
 use Rattle.in_reducer.specs.Machines.{MachineParts, parts_of}
-use Rattle.in_phases.specs.Branches.{AreGathered, IsAgent}
+use Rattle.in_phases.specs.Branches.{AreOfBranch, HasAgent}
 
-pub none_gathered : (m : MachineParts) (n : ℕ) → n ≡ length m.agents → AreGathered m [] (replicate n false)
+pub none_gathered : (m : MachineParts) (n : ℕ) → n ≡ length m.agents → AreOfBranch m [] (replicate n false)
 none_gathered m n many = record {
   there = λ k c at. cc;
   once = λ j k c at also. cc;
@@ -34,7 +34,7 @@ none_gathered m n many = record {
     all_long zero = refl
     all_long (suc n) = ap suc (all_long n)
 
-module _ (m : MachineParts) (agents : List CellNo) (marks : List Bool) (h : AreGathered m agents marks) (c : CellNo) (there : IsAgent m c.0) (fresh : slice_get marks c.0 ≡ Some false) where
+module _ (m : MachineParts) (agents : List CellNo) (marks : List Bool) (h : AreOfBranch m agents marks) (c : CellNo) (there : HasAgent m c.0) (fresh : slice_get marks c.0 ≡ Some false) where
   not_listed : (k : ℕ) (d : CellNo) → slice_get agents k ≡ Some d → d.0 ≢ c.0
   not_listed k d at same = let e : Some true ≡ Some false = sym (h.marked k d at) ∙ ap (slice_get marks) same ∙ fresh in cc
 
@@ -44,11 +44,11 @@ module _ (m : MachineParts) (agents : List CellNo) (marks : List Bool) (h : AreG
   same_place j k d (inr a) (inl b) = absurd (not_listed k d b (ap (λ (z : CellNo). z.0) (sym a.1)))
   same_place j k d (inr a) (inr b) = a.0 ∙ sym b.0
 
-  pub one_more_gathered : AreGathered m (agents ++ c ∷ []) (set marks c.0 true)
+  pub one_more_gathered : AreOfBranch m (agents ++ c ∷ []) (set marks c.0 true)
   one_more_gathered = record {
     there = λ k d at. elim (more_at agents c d k at) [
       | inl old ↦ h.there k d old
-      | inr new ↦ subst (λ (z : CellNo). IsAgent m z.0) new.1 there
+      | inr new ↦ subst (λ (z : CellNo). HasAgent m z.0) new.1 there
     ];
     once = λ j k d a b. same_place j k d (more_at agents c d j a) (more_at agents c d k b);
     marked = λ k d at. elim (more_at agents c d k at) [
@@ -63,7 +63,7 @@ module _ (m : MachineParts) (agents : List CellNo) (marks : List Bool) (h : AreG
   }
 
 -- what is gathered depends on which agents there are, and on nothing else
-pub gathered_still : (m n : MachineParts) (agents : List CellNo) (marks : List Bool) → ((y : ℕ) → IsAgent m y → IsAgent n y) → ((y : ℕ) → IsAgent n y → IsAgent m y) → AreGathered m agents marks → AreGathered n agents marks
+pub gathered_still : (m n : MachineParts) (agents : List CellNo) (marks : List Bool) → ((y : ℕ) → HasAgent m y → HasAgent n y) → ((y : ℕ) → HasAgent n y → HasAgent m y) → AreOfBranch m agents marks → AreOfBranch n agents marks
 gathered_still m n agents marks on back h = record {
   there = λ k c at. on c.0 (h.there k c at);
   once = h.once;

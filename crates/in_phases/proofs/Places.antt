@@ -14,7 +14,7 @@ use Rattle.in_net.proofs.Public.{has_partner}
 use Rattle.in_reducer.specs.Cutting.{net_in}
 use Rattle.in_reducer.specs.Machines.{MachineParts, parts_of, point_at}
 use Rattle.in_reducer.specs.Reducers.{IsReducer}
-use Rattle.in_phases.specs.Branches.{IsAgent, IsPlaceOf, LeadsSomewhere}
+use Rattle.in_phases.specs.Branches.{HasAgent, HasPlace, LeadsSomewhere}
 
 -- the point of an end, in the code's words and back
 end_point : (e : End) → coded_point (joining.point_of e) ≡ point_at e
@@ -34,17 +34,17 @@ module _ (m : MachineParts) where
   partner_shown e f h = ap (λ p. option_map point_of (partner_in (parts_of m) p)) (end_point e) ∙ ap (option_map point_of) h ∙ ap (λ p. Some p) (back_point f)
 
   -- an agent of the net has a symbol, and the other way round
-  pub agent_in_net : (y : ℕ) → IsAgent m y → IsSome ((net_in m).symbol y)
+  pub agent_in_net : (y : ℕ) → HasAgent m y → IsSome ((net_in m).symbol y)
   agent_in_net y h = by (symbol_in (parts_of m) y) refl h
     where
       by : (o : Option SymbolNo) → symbol_in (parts_of m) y ≡ o → IsSome o → IsSome ((net_in m).symbol y)
       by None e k = cc
       by (Some s) e k = ap is_some (ap (option_map (λ (s : SymbolNo). s.0)) e)
 
-  pub agent_of_net : (y : ℕ) → IsSome ((net_in m).symbol y) → IsAgent m y
+  pub agent_of_net : (y : ℕ) → IsSome ((net_in m).symbol y) → HasAgent m y
   agent_of_net y h = by (symbol_in (parts_of m) y) refl
     where
-      by : (o : Option SymbolNo) → symbol_in (parts_of m) y ≡ o → IsAgent m y
+      by : (o : Option SymbolNo) → symbol_in (parts_of m) y ≡ o → HasAgent m y
       by None e = absurd (no_value (option_map (λ s. s.0) (symbol_in (parts_of m) y)) (ap (option_map (λ s. s.0)) e) h)
       by (Some s) e = ap is_some e
 
@@ -53,14 +53,14 @@ module _ (m : MachineParts) where
     net = h.net.sound.net
 
     -- an agent has a point at each of its places
-    pub place_there : (c i a : ℕ) → option_map (λ s. arity_of m.program.tables s.0) (symbol_in (parts_of m) c) ≡ Some a → i < a + 1 → IsPlaceOf m c i
+    pub place_there : (c i a : ℕ) → option_map (λ s. arity_of m.program.tables s.0) (symbol_in (parts_of m) c) ≡ Some a → i < a + 1 → HasPlace m c i
     place_there c i a e low = by (symbol_in (parts_of m) c) refl e
       where
-        there : (o : Option points.Point) → partner_in (parts_of m) (point.Port (record { 0 = c }) i) ≡ o → IsSome ((net_in m).partner (Port c i)) → IsPlaceOf m c i
+        there : (o : Option points.Point) → partner_in (parts_of m) (point.Port (record { 0 = c }) i) ≡ o → IsSome ((net_in m).partner (Port c i)) → HasPlace m c i
         there None k g = absurd (no_value ((net_in m).partner (Port c i)) (ap (option_map point_of) k) g)
         there (Some q) k g = has_partner (parts_of m) (point.Port (record { 0 = c }) i) q k
 
-        by : (o : Option SymbolNo) → symbol_in (parts_of m) c ≡ o → option_map (λ s. arity_of m.program.tables s.0) o ≡ Some a → IsPlaceOf m c i
+        by : (o : Option SymbolNo) → symbol_in (parts_of m) c ≡ o → option_map (λ s. arity_of m.program.tables s.0) o ≡ Some a → HasPlace m c i
         by None k f = cc
         by (Some s) k f =
             let same : arity_of m.program.tables s.0 ≡ a = same_Some (arity_of m.program.tables s.0) a f in

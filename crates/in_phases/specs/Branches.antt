@@ -9,24 +9,24 @@ use Rattle.in_phases.specs.declared.branch.Branch.{Branch}
 use Rattle.in_reducer.specs.Machines.{MachineParts, parts_of}
 
 -- the agent is there, and so is this place of it
-abbrev pub IsAgent : MachineParts → ℕ → Type 0
-IsAgent m c = IsSome (symbol_in (parts_of m) c)
+abbrev pub HasAgent : MachineParts → ℕ → Type 0
+HasAgent m c = IsSome (symbol_in (parts_of m) c)
 
-abbrev pub IsPlaceOf : MachineParts → ℕ → ℕ → Type 0
-IsPlaceOf m c i = IsPointOf (parts_of m) (point.Port (record { 0 = c }) i)
+abbrev pub HasPlace : MachineParts → ℕ → ℕ → Type 0
+HasPlace m c i = IsPointOf (parts_of m) (point.Port (record { 0 = c }) i)
 
 -- an end leads to no agent that isn't there
 abbrev pub LeadsSomewhere : MachineParts → End → Type 0
-LeadsSomewhere m (Cell c i) = IsAgent m c.0
+LeadsSomewhere m (Cell c i) = HasAgent m c.0
 LeadsSomewhere m (Free k) = Unit {0}
 
 -- these are agents of the net, each listed once, and the marks are set at their numbers alone
-pub record AreGathered (m : MachineParts) (agents : List CellNo) (marks : List Bool) : Type 0 where
-  pub there : (k : ℕ) (c : CellNo) → slice_get agents k ≡ Some c → IsAgent m c.0
+pub record AreOfBranch (m : MachineParts) (agents : List CellNo) (marks : List Bool) : Type 0 where
+  pub there : (k : ℕ) (c : CellNo) → slice_get agents k ≡ Some c → HasAgent m c.0
   pub once : (j k : ℕ) (c : CellNo) → slice_get agents j ≡ Some c → slice_get agents k ≡ Some c → j ≡ k
   pub marked : (k : ℕ) (c : CellNo) → slice_get agents k ≡ Some c → slice_get marks c.0 ≡ Some true
   pub listed : (y : ℕ) → slice_get marks y ≡ Some true → (k : ℕ) × (slice_get agents k ≡ Some (record { 0 = y }))
-  pub inside : (y : ℕ) → IsAgent m y → y < length marks
+  pub inside : (y : ℕ) → HasAgent m y → y < length marks
 
 abbrev pub IsBranch : MachineParts → Branch → Type 0
-IsBranch m b = AreGathered m b.agents.items b.marks.items
+IsBranch m b = AreOfBranch m b.agents.items b.marks.items

@@ -23,7 +23,7 @@ pub record IsSplitBy (cut : MachineParts) (cuts size : ℕ) (seam : Seam) (part 
   pub of_part : IsReducer part
 
 -- wires were cut, and a part was split off there
-pub record IsTaken (m : MachineParts) (cuts size : ℕ) (seam : Seam) (part rest : MachineParts) : Type 0 where
+pub record IsTakenOut (m : MachineParts) (cuts size : ℕ) (seam : Seam) (part rest : MachineParts) : Type 0 where
   pub reducer : IsReducer m
   pub cut : MachineParts
   pub times : IsCutTimes m cuts cut
@@ -34,7 +34,7 @@ pub record IsTaken (m : MachineParts) (cuts size : ℕ) (seam : Seam) (part rest
 pub record CanComeBack (m : MachineParts) (k : ℕ) (t : Taken) (now : MachineParts) : Type 0 where
   pub rest : MachineParts
   pub part : MachineParts
-  pub taken : IsTaken m t.cuts t.cells t.seam part rest
+  pub taken : IsTakenOut m t.cuts t.cells t.seam part rest
   pub by_rest : ℕ
   pub by_part : ℕ
   pub rest_reduced : ReducesTo rest by_rest now

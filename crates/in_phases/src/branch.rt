@@ -1,6 +1,6 @@
 // The agents of a part.
 ghost use Rattle.std.specs.Prelude.{◌≡◌, ◌<◌, ◌≤◌, length, IfOk, OnOk, Some, slice_get};
-ghost use Rattle.in_phases.specs.Branches.{IsAgent, IsBranch};
+ghost use Rattle.in_phases.specs.Branches.{HasAgent, IsBranch};
 
 use in_reducer::{CellNo, End, Reducer};
 use std::alloc::{AllocError, Global};
@@ -34,7 +34,7 @@ impl Branch {
     /// Takes an agent in, where it isn't yet.
     fn take_in(&mut self, reducer: &Reducer, cell: CellNo) -> Result<(), AllocError>
         requires branch { IsBranch reducer.now self.old }
-        requires there { IsAgent reducer.now cell.0 }
+        requires there { HasAgent reducer.now cell.0 }
         ensures { OnOk result (IsBranch reducer.now self.new) }
     {
         let _ = reducer;
@@ -62,7 +62,7 @@ impl Branch {
     /// Takes in each agent whose principal port is joined to an auxiliary port of this one.
     fn take_behind(&mut self, reducer: &Reducer, cell: CellNo) -> Result<(), AllocError>
         requires branch { IsBranch reducer.now self.old }
-        requires there { IsAgent reducer.now cell.0 }
+        requires there { HasAgent reducer.now cell.0 }
         ensures { OnOk result (IsBranch reducer.now self.new) }
     {
         reducer.pairs();

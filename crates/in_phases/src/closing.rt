@@ -2,7 +2,7 @@
 ghost use Rattle.std.specs.Prelude.{◌≡◌, ◌<◌, ◌≤◌, ◌+◌, ℕ, true, length, Some, slice_get};
 ghost use Rattle.in_arena.specs.declared.content.CellNo.{CellNo as Number};
 ghost use Rattle.in_net.specs.Nets.{Point, Port, Free};
-ghost use Rattle.in_phases.specs.Branches.{IsAgent, IsBranch, LeadsSomewhere};
+ghost use Rattle.in_phases.specs.Branches.{HasAgent, IsBranch, LeadsSomewhere};
 ghost use Rattle.in_reducer.specs.Cutting.{net_in};
 ghost use Rattle.in_reducer.specs.Parting.{CanSplit, IsInPart};
 ghost use Rattle.in_joining.specs.Shown.{point_of};
@@ -38,7 +38,7 @@ fn is_inside(reducer: &Reducer, branch: &Branch, own: u32, cuts: u32, end: End) 
 /// Whether all places of an agent lead inside.
 fn is_agent_closed(reducer: &Reducer, branch: &Branch, own: u32, cuts: u32, cell: CellNo) -> bool
     requires branch { IsBranch reducer.now branch.now }
-    requires there { IsAgent reducer.now cell.0 }
+    requires there { HasAgent reducer.now cell.0 }
     ensures { result ≡ true → (i : ℕ) (q : Point ℕ) → (net_in reducer.now).partner (Port cell.0 i) ≡ Some q → IsInPart branch.now.agents.items own cuts q }
 {
     reducer.pairs();

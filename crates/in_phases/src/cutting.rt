@@ -1,6 +1,6 @@
 // The wires that lead out of a part are cut, and cuts are undone.
 ghost use Rattle.std.specs.Prelude.{◌≡◌, ◌<◌, ◌≤◌, ◌+◌, ℕ, true};
-ghost use Rattle.in_phases.specs.Branches.{IsAgent, IsBranch, IsPlaceOf};
+ghost use Rattle.in_phases.specs.Branches.{HasAgent, IsBranch, HasPlace};
 ghost use Rattle.in_reducer.specs.Cutting.{CanCut};
 ghost use Rattle.in_reducer.specs.Machines.{MachineParts};
 ghost use Rattle.in_reducer.specs.Parting.{ReducesTo};
@@ -17,7 +17,7 @@ pub(crate) const MOST_FREE_ENDS: u32 = 65_536;
 /// none.
 fn leads_out(reducer: &Reducer, branch: &Branch, cell: CellNo, place: u8) -> bool
     requires branch { IsBranch reducer.now branch.now }
-    requires there { IsPlaceOf reducer.now cell.0 place }
+    requires there { HasPlace reducer.now cell.0 place }
     ensures { result ≡ true → CanCut reducer.now cell.0 place }
 {
     reducer.pairs();
@@ -31,7 +31,7 @@ fn leads_out(reducer: &Reducer, branch: &Branch, cell: CellNo, place: u8) -> boo
 /// ends are wanted.
 fn cut_place(reducer: &mut Reducer, branch: &Branch, cell: CellNo, place: u8) -> u32
     requires branch { IsBranch reducer.old branch.now }
-    requires there { IsPlaceOf reducer.old cell.0 place }
+    requires there { HasPlace reducer.old cell.0 place }
     ensures cuts { IsCutTimes reducer.old result reducer.new }
     ensures few { result ≤ 1 }
 {
@@ -48,7 +48,7 @@ fn cut_place(reducer: &mut Reducer, branch: &Branch, cell: CellNo, place: u8) ->
 /// Cuts those of the wires at an agent that lead out of the branch, and says how many.
 fn cut_agent(reducer: &mut Reducer, branch: &Branch, cell: CellNo) -> u32
     requires branch { IsBranch reducer.old branch.now }
-    requires there { IsAgent reducer.old cell.0 }
+    requires there { HasAgent reducer.old cell.0 }
     ensures cuts { IsCutTimes reducer.old result reducer.new }
 {
     let mut cuts = 0;

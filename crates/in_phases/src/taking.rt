@@ -4,7 +4,7 @@ ghost use Rattle.in_arena.specs.declared.content.CellClass.{CellClass as Class};
 ghost use Rattle.in_compile.specs.Cells.{agents_of, count_of};
 ghost use Rattle.in_compile.specs.Templates.{AreTemplatesOf};
 ghost use Rattle.in_phases.specs.Branches.{IsBranch};
-ghost use Rattle.in_phases.specs.Phases.{CanComeBack, HasFree, IsSplitBy, IsTaken};
+ghost use Rattle.in_phases.specs.Phases.{CanComeBack, HasFree, IsSplitBy, IsTakenOut};
 ghost use Rattle.in_reducer.specs.Inside.{most_free};
 ghost use Rattle.in_reducer.specs.Limiting.{most_cells};
 ghost use Rattle.in_reducer.specs.Machines.{MachineParts};
@@ -110,7 +110,7 @@ pub(crate) fn take_part<'a>(
     requires pairs { pairs ≤ length reducer.old.queue }
     requires share { share ≤ most_cells }
     requires floor { HasFree reducer.old floor }
-    ensures taken { MatchOption result (ReducesTo reducer.old 0 reducer.new × HasFree reducer.new floor) (λ t. IsTaken reducer.old t.cuts t.cells t.seam t.part reducer.new × HasFree reducer.new (floor + t.cells)) }
+    ensures taken { MatchOption result (ReducesTo reducer.old 0 reducer.new × HasFree reducer.new floor) (λ t. IsTakenOut reducer.old t.cuts t.cells t.seam t.part reducer.new × HasFree reducer.new (floor + t.cells)) }
     ensures templates { AreTemplatesOf reducer.new.program templates.now }
     ensures part_templates { IfSome result (λ t. AreTemplatesOf t.part.program templates.now) }
 {

@@ -14,7 +14,7 @@ use Rattle.in_interaction.specs.Queues.{both}
 use Rattle.in_check.specs.Programs.{Program}
 use Rattle.in_moving.specs.Copying.{IsCopied, IsListOfLive, moved, moved_end, name_in, number_in}
 use Rattle.in_moving.specs.Laws.{one_after_other}
-use Rattle.in_moving.specs.TakingOut.{AreNumbered}
+use Rattle.in_moving.specs.TakingOut.{AreNumberedAnew}
 use Rattle.in_moving.proofs.Public.{copies_follow}
 use Rattle.in_parts.specs.Leading.{StandBeside}
 use Rattle.in_reducer.specs.declared.body.Body.{Body}
@@ -59,7 +59,7 @@ module _ (r o : Body) (k : KeepsNet r) (l : KeepsNet o) (can : CanAppend (reduce
   module _ (agents : List CellNo) (live : IsListOfLive o.arena agents) (numbers : List ℕ) (names : List CellNo) (b : ArenaView) (copied : IsCopied o.arena agents numbers names r.arena b)
       (number : (j : ℕ) → j < length o.free.items → number_in numbers j ≡ length r.free.items + j) where
     -- the free ends that were there keep their numbers
-    same : AreNumbered (λ z. z) r.arena r.arena
+    same : AreNumberedAnew (λ z. z) r.arena r.arena
     same = record { each = λ y. same_state (state_at r.arena y); free = λ d. refl; memory = refl; cells = refl; many = refl }
 
     pub still_net : IsNetIn r.checked.now.tables (at_rest b)

@@ -15,7 +15,7 @@ use Rattle.in_check.specs.Programs.{Program}
 use Rattle.in_glue.specs.AsGluing.{two_parts}
 use Rattle.in_moving.specs.Copying.{IsCopied, IsListOfLive, moved_end, name_in, number_in}
 use Rattle.in_moving.specs.Laws.{AreEndsOfBoth, leads_to, number_of}
-use Rattle.in_moving.specs.TakingOut.{AreLedTo, AreNumbered}
+use Rattle.in_moving.specs.TakingOut.{AreLedTo, AreNumberedAnew}
 use Rattle.in_moving.proofs.Public.{copies_stand_beside, led_to, numbered_anew}
 use Rattle.in_parts.specs.Leading.{StandBeside}
 use Rattle.in_reducer.specs.declared.body.Body.{Body}
@@ -83,7 +83,7 @@ module _ (r o : Body) (k : KeepsNet r) (l : KeepsNet o) (can : CanAppend (reduce
         glued_are from own cuts (map f fs) (map f gs) (length-map fs f ∙ together.many_free r k ∙ many_rest) (length-map gs f ∙ together.many_free o l ∙ many_part) of_rest of_part
 
   module _ (agents : List CellNo) (live : IsListOfLive o.arena agents) (rest_numbers : List ℕ) (each_rest : (e : ℕ) → e < own + cuts → number_in rest_numbers e ≡ place_of_two own 0 e) (part_numbers : List ℕ) (each_part : (e : ℕ) → e < cuts → number_in part_numbers e ≡ place_of_two own 1 e)
-      (a : ArenaView) (anew : AreNumbered (number_in rest_numbers) r.arena a) (names : List CellNo) (b : ArenaView) (copied : IsCopied o.arena agents part_numbers names a b) where
+      (a : ArenaView) (anew : AreNumberedAnew (number_in rest_numbers) r.arena a) (names : List CellNo) (b : ArenaView) (copied : IsCopied o.arena agents part_numbers names a b) where
     abbrev name : ℕ → ℕ
     name = name_in names
 

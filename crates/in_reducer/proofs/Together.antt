@@ -31,7 +31,7 @@ use Rattle.in_glue.specs.Joining.{WiresLeadBack}
 use Rattle.in_joining.specs.Shown.{IsShown, point_of}
 use Rattle.in_moving.specs.Copying.{AreClosed, HasCellsFor, IsCopied, IsListOfLive, IsEndWithin, is_for, moved, name_in, number_in}
 use Rattle.in_moving.specs.Laws.{ShowsAll}
-use Rattle.in_moving.specs.TakingOut.{AreNumbered}
+use Rattle.in_moving.specs.TakingOut.{AreNumberedAnew}
 use Rattle.in_moving.proofs.Public.{all_are_closed, not_leased, numbered_leased_stays, numbered_was_leased, numbered_word, word_moved}
 use Rattle.in_parts.specs.Leading.{StandBeside}
 use Rattle.in_parts.proofs.Public.{beside_sound_is_sound}
@@ -227,7 +227,7 @@ module _ (r o : Body) (k : KeepsNet r) (l : KeepsNet o) (can : CanAppend (reduce
         omega (arith, e, f, g)
 
     -- free ends get other numbers first, and then the other's agents are copied
-    module _ (own : ℕ → ℕ) (a : ArenaView) (anew : AreNumbered own r.arena a) (numbers : List ℕ) (names : List CellNo) (b : ArenaView) (copied : IsCopied o.arena agents numbers names a b) where
+    module _ (own : ℕ → ℕ) (a : ArenaView) (anew : AreNumberedAnew own r.arena a) (numbers : List ℕ) (names : List CellNo) (b : ArenaView) (copied : IsCopied o.arena agents numbers names a b) where
       abbrev IsIn : ℕ → Type 0
       IsIn = IsNamed agents names
 

@@ -34,7 +34,7 @@ pub record AreNumbersOfTwo (own cuts i many : ℕ) (numbers : List ℕ) : Type 0
   pub each : (e : ℕ) → e < many → number_in numbers (place_of_two own i e) ≡ e
 
 -- the lists are empty, and have room for so many free ends
-pub record HasRoom (many : ℕ) (l : Lists) : Type 0 where
+pub record HasRoomForEnds (many : ℕ) (l : Lists) : Type 0 where
   pub free : l.free.items ≡ []
   pub free_room : many ≤ vec_capacity l.free
   pub ends : l.ends.items ≡ []
@@ -49,8 +49,8 @@ pub record IsTakenFor (own cuts all size : ℕ) (f : Fresh) : Type 0 where
   pub queue_room : length classes * size ≤ 2 * deque_capacity f.queue + 1
   pub rest_numbers : AreNumbersOfTwo own cuts 0 (own + cuts) f.rest.numbers.items
   pub part_numbers : AreNumbersOfTwo own cuts 1 cuts f.part.numbers.items
-  pub rest : HasRoom (own + cuts) f.rest
-  pub part : HasRoom cuts f.part
+  pub rest : HasRoomForEnds (own + cuts) f.rest
+  pub part : HasRoomForEnds cuts f.part
   pub names : length f.names.items ≡ all
 
 -- ---- cells

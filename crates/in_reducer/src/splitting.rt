@@ -14,7 +14,7 @@ ghost use Rattle.in_moving.specs.TakingOut.{AreClassed, AreLedTo};
 ghost use Rattle.in_reducer.specs.Inside.{AreToolsFor, IsKept, most_ends, most_free, reducer_view};
 ghost use Rattle.in_reducer.specs.Limiting.{most_cells};
 ghost use Rattle.in_reducer.specs.Parting.{CanSplit, IsSplitOff, place_of_two};
-ghost use Rattle.in_reducer.specs.Splitting.{AreNumbersOfTwo, ArePicked, ArePickedWithRoom, HasRoom, IsTakenFor, LosesPart, goes, stays};
+ghost use Rattle.in_reducer.specs.Splitting.{AreNumbersOfTwo, ArePicked, ArePickedWithRoom, HasRoomForEnds, IsTakenFor, LosesPart, goes, stays};
 
 use crate::appending::add_sides;
 use crate::body::{Body, OwnEnd};
@@ -77,7 +77,7 @@ fn part_numbers(alloc: Global, own: u32, cuts: u32) -> Result<Vec<u32>, AllocErr
 /// Lists for so many free ends, with these numbers.
 fn lists_for(alloc: Global, numbers: Vec<u32>, many: u32) -> Result<Lists, AllocError>
     requires { many ≤ most_free }
-    ensures room { IfOk result (HasRoom many) }
+    ensures room { IfOk result (HasRoomForEnds many) }
     ensures numbers { IfOk result (λ l. l.numbers ≡ numbers) }
 {
     let many = many as usize;
@@ -229,7 +229,7 @@ fn fill_rest(free: &[OwnEnd], ends: &[End], own: u32, cuts: u32, rest: &mut List
     requires ends { length ends.now ≡ own + (cuts + cuts) }
     requires few { own + (cuts + cuts) ≤ most_free }
     requires within { (k n : ℕ) → slice_get ends.now k ≡ Some (end.Free n) → n < length rest.old.numbers.items }
-    requires room { HasRoom (own + cuts) rest.old }
+    requires room { HasRoomForEnds (own + cuts) rest.old }
     ensures free { ArePicked (λ x. x) (place_of_two own 0) (own + cuts) free.now rest.new.free.items }
     ensures ends { ArePickedWithRoom (moved_end (λ z. z) (number_in rest.old.numbers.items)) (place_of_two own 0) (own + cuts) ends.now rest.new.ends.items }
 {
@@ -243,7 +243,7 @@ fn fill_part(free: &[OwnEnd], ends: &[End], own: u32, cuts: u32, names: &[CellNo
     requires ends { length ends.now ≡ own + (cuts + cuts) }
     requires few { own + (cuts + cuts) ≤ most_free }
     requires within { (k : ℕ) (e : Target) → slice_get ends.now k ≡ Some e → IsEndWithin (length names.now) (length part.old.numbers.items) e }
-    requires room { HasRoom cuts part.old }
+    requires room { HasRoomForEnds cuts part.old }
     ensures free { ArePicked (λ x. x) (place_of_two own 1) cuts free.now part.new.free.items }
     ensures ends { ArePickedWithRoom (moved_end (name_in names.now) (number_in part.old.numbers.items)) (place_of_two own 1) cuts ends.now part.new.ends.items }
 {

@@ -7,7 +7,7 @@ use Rattle.in_arena.specs.declared.content.CellNo.{CellNo}
 use Rattle.in_arena.specs.declared.content.End.{End}
 use Rattle.in_interaction.specs.Queues.{both}
 use Rattle.in_moving.specs.Copying.{AreClosed, HasCellsFor, IsCopied, IsEndWithin, moved_end, name_in, number_in}
-use Rattle.in_moving.specs.TakingOut.{AreLedTo, AreNumbered}
+use Rattle.in_moving.specs.TakingOut.{AreLedTo, AreNumberedAnew}
 use Rattle.in_reducer.specs.declared.body.Body.{Body}
 use Rattle.in_reducer.specs.declared.body.OwnEnd.{OwnEnd}
 use Rattle.in_reducer.specs.Gluing.{IsFreeWithin, glued}
@@ -125,7 +125,7 @@ add_pairs-requires-clause-room c =
     let each_rest = c.list_rest_numbers.ensures.each in
     let each_part = c.list_part_numbers.ensures.each in
     let a = c.number_anew.new.arena in
-    let anew : AreNumbered (number_in rest_numbers) r.arena a = subst (λ (z : List ℕ). AreNumbered (number_in z) r.arena a) c.as_slice-2.ensures.value c.number_anew.ensures in
+    let anew : AreNumberedAnew (number_in rest_numbers) r.arena a = subst (λ (z : List ℕ). AreNumberedAnew (number_in z) r.arena a) c.as_slice-2.ensures.value c.number_anew.ensures in
     let b = c.copy.new.to in
     let copied : IsCopied o.arena agents part_numbers ns a b = subst (λ (z : List ℕ). IsCopied o.arena agents z ns a b) c.as_slice-4.ensures.value (subst (λ (z : List CellNo). IsCopied o.arena z c.as_slice-4.result.now ns a b) c.as_slice-3.ensures.value c.copy.ensures.copied) in
     let new = c.glue_free.new.free.items in
@@ -155,7 +155,7 @@ returns-clause-kept c =
     let each_rest = c.list_rest_numbers.ensures.each in
     let each_part = c.list_part_numbers.ensures.each in
     let a = c.number_anew.new.arena in
-    let anew : AreNumbered (number_in rest_numbers) r.arena a = subst (λ (z : List ℕ). AreNumbered (number_in z) r.arena a) c.as_slice-2.ensures.value c.number_anew.ensures in
+    let anew : AreNumberedAnew (number_in rest_numbers) r.arena a = subst (λ (z : List ℕ). AreNumberedAnew (number_in z) r.arena a) c.as_slice-2.ensures.value c.number_anew.ensures in
     let b = c.copy.new.to in
     let copied : IsCopied o.arena agents part_numbers ns a b = subst (λ (z : List ℕ). IsCopied o.arena agents z ns a b) c.as_slice-4.ensures.value (subst (λ (z : List CellNo). IsCopied o.arena z c.as_slice-4.result.now ns a b) c.as_slice-3.ensures.value c.copy.ensures.copied) in
     let new = c.glue_free.new.free.items in
@@ -210,7 +210,7 @@ returns-clause-glued c =
     let each_rest = c.list_rest_numbers.ensures.each in
     let each_part = c.list_part_numbers.ensures.each in
     let a = c.number_anew.new.arena in
-    let anew : AreNumbered (number_in rest_numbers) r.arena a = subst (λ (z : List ℕ). AreNumbered (number_in z) r.arena a) c.as_slice-2.ensures.value c.number_anew.ensures in
+    let anew : AreNumberedAnew (number_in rest_numbers) r.arena a = subst (λ (z : List ℕ). AreNumberedAnew (number_in z) r.arena a) c.as_slice-2.ensures.value c.number_anew.ensures in
     let b = c.copy.new.to in
     let copied : IsCopied o.arena agents part_numbers ns a b = subst (λ (z : List ℕ). IsCopied o.arena agents z ns a b) c.as_slice-4.ensures.value (subst (λ (z : List CellNo). IsCopied o.arena z c.as_slice-4.result.now ns a b) c.as_slice-3.ensures.value c.copy.ensures.copied) in
     let new = c.glue_free.new.free.items in
