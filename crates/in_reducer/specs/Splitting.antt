@@ -40,8 +40,8 @@ pub record HasRoomForEnds (many : ℕ) (l : Lists) : Type 0 where
   pub ends : l.ends.items ≡ []
   pub ends_room : many + most_ends + most_ends ≤ vec_capacity l.ends
 
--- what is taken for a part with so many cells of each class, of a net in so many cells
-pub record IsTakenFor (own cuts all size : ℕ) (f : Fresh) : Type 0 where
+-- what is taken for a part with so many cells of each class
+pub record IsTakenFor (own cuts size : ℕ) (f : Fresh) : Type 0 where
   pub cells : f.arena.cells ≡ size
   pub empty : f.arena.states ≡ replicate (length classes * size) Vacant
   pub tools : AreTools f.tools f.arena
@@ -51,7 +51,6 @@ pub record IsTakenFor (own cuts all size : ℕ) (f : Fresh) : Type 0 where
   pub part_numbers : AreNumbersOfTwo own cuts 1 cuts f.part.numbers.items
   pub rest : HasRoomForEnds (own + cuts) f.rest
   pub part : HasRoomForEnds cuts f.part
-  pub names : length f.names.items ≡ all
 
 -- ---- cells
 

@@ -23,6 +23,7 @@ use crate::reducer::Reducer;
 use crate::starting::{MOST_ENDS, tools_for};
 use crate::tools::Tools;
 use in_arena::{Arena, CellClass, CellNo, End};
+use in_base::use_invariant;
 use in_compile::Templates;
 use in_moving::{copy, moved_end, number_anew, retire_all};
 use std::alloc::{AllocError, Global};
@@ -36,15 +37,13 @@ struct Lists {
     ends: Vec<End>,
 }
 
-/// What is taken before anything changes: an arena for the part, with what its interactions use and a list for its pairs; the lists of both;
-/// room for the new numbers of cells.
+/// What is taken before anything changes: an arena for the part, with what its interactions use and a list for its pairs; the lists of both.
 struct Fresh {
     arena: Arena,
     tools: Tools,
     queue: VecDeque<(u32, u32)>,
     part: Lists,
     rest: Lists,
-    names: Vec<CellNo>,
 }
 
 /// The numbers of the free ends in the rest: those that were there before the cuts keep theirs, and then come the second ends of the cuts.
@@ -90,23 +89,21 @@ fn lists_for(alloc: Global, numbers: Vec<u32>, many: u32) -> Result<Lists, Alloc
     })
 }
 
-/// All that is taken, for a part with so many cells of each class, of a net in so many cells.
+/// All that is taken, for a part with so many cells of each class.
 fn take_room(
     alloc: Global,
     templates: &Templates,
-    all: u32,
     own: u32,
     cuts: u32,
     cells: u32,
 ) -> Result<Fresh, AllocError>
     requires few { own + (cuts + cuts) ≤ most_free }
     requires cells { cells ≤ most_cells }
-    ensures taken { IfOk result (IsTakenFor own cuts all cells) }
+    ensures taken { IfOk result (IsTakenFor own cuts cells) }
     ensures fit { IfOk result (λ f. (k : ℕ) (p : TemplateParts) (c : Class) → slice_get templates.now.templates k ≡ Some p → count_of p.member.need c ≤ count_of f.tools.stock.room c) }
 {
     let rest = lists_for(alloc, rest_numbers(alloc, own, cuts)?, own + cuts)?;
     let part = lists_for(alloc, part_numbers(alloc, own, cuts)?, cuts)?;
-    let names = vec![in alloc; CellNo(0); all as usize]?;
     let room = CellClass::ALL.len() * cells as usize / 2;
     let queue = VecDeque::with_capacity(alloc, room)?;
     let arena = Arena::new(alloc, cells)?;
@@ -117,7 +114,6 @@ fn take_room(
         queue,
         part,
         rest,
-        names,
     })
 }
 
@@ -289,17 +285,26 @@ fn split_queue(
 
 impl<'a> Body<'a> {
     /// Splits these agents off, for which everything was taken.
-    fn split(&mut self, agents: &[CellNo], own: u32, cuts: u32, fresh: Fresh) -> Body<'a>
+    fn split(
+        &mut self,
+        agents: &[CellNo],
+        own: u32,
+        cuts: u32,
+        names: &mut [CellNo],
+        fresh: Fresh,
+    ) -> Body<'a>
         requires kept { IsKept self.old }
         requires can { CanSplit (reducer_view self.old) agents.now own cuts }
         requires few { own + (cuts + cuts) ≤ most_free }
-        requires taken { IsTakenFor own cuts (length self.old.arena.states) fresh.arena.cells fresh }
+        requires names { length names.old ≡ length self.old.arena.states }
+        requires taken { IsTakenFor own cuts fresh.arena.cells fresh }
         requires tools { AreToolsFor self.old.checked.now fresh.tools }
         requires fits { length agents.now ≤ fresh.arena.cells }
         requires cells { fresh.arena.cells ≤ most_cells }
         ensures kept { IsKept self.new }
         ensures part { IsKept result }
         ensures split { IsSplitOff (reducer_view self.old) own cuts fresh.arena.cells (reducer_view self.new) (reducer_view result) }
+        ensures names { length names.new ≡ length names.old }
     {
         let Fresh {
             mut arena,
@@ -307,7 +312,6 @@ impl<'a> Body<'a> {
             mut queue,
             mut part,
             mut rest,
-            mut names,
         } = fresh;
         let many = (own + 2 * cuts) as usize;
         let ends = &self.ends.as_slice()[..many];
@@ -318,12 +322,12 @@ impl<'a> Body<'a> {
             rest.numbers.as_slice(),
             part.numbers.as_slice(),
             &mut arena,
-            names.as_mut_slice(),
+            names,
         );
         let free = self.free.as_slice();
         fill_rest(free, ends, own, cuts, &mut rest);
-        fill_part(free, ends, own, cuts, names.as_slice(), &mut part);
-        split_queue(&self.arena, names.as_slice(), &mut self.queue, &mut queue);
+        fill_part(free, ends, own, cuts, names, &mut part);
+        split_queue(&self.arena, names, &mut self.queue, &mut queue);
         self.free = rest.free;
         self.ends = rest.ends;
         Body {
@@ -340,8 +344,9 @@ impl<'a> Body<'a> {
 impl<'a> Reducer<'a> {
     /// Splits these agents off, as a reducer by itself with so many cells of each class, which shares nothing with the rest. They and the first
     /// ends of so many cuts, which came after `own` free ends, are to lead to each other alone, so that both agents of a pair go or stay. The
-    /// part has the first ends of the cuts, in their order, and the rest the others. The templates are those of the program. Refused for want
-    /// of memory alone, and then the reducer is as it was.
+    /// part has the first ends of the cuts, in their order, and the rest the others. The templates are those of the program. The new numbers of
+    /// the agents are written in `names`, which is as long as there are numbers. Refused for want of memory alone, and then the reducer is as
+    /// it was.
     pub fn split_off(
         &mut self,
         alloc: Global,
@@ -350,17 +355,20 @@ impl<'a> Reducer<'a> {
         own: u32,
         cuts: u32,
         cells: u32,
+        names: &mut [CellNo],
     ) -> Result<Reducer<'a>, AllocError>
         requires templates { AreTemplatesOf self.old.program templates.now }
         requires can { CanSplit self.old agents.now own cuts }
         requires fits { length agents.now ≤ cells }
         requires cells { cells ≤ most_cells }
+        requires names { length names.old ≡ length self.old.agents }
         ensures split { IfOk result (λ part. IsSplitOff self.old own cuts cells self.new part) }
+        ensures names { length names.new ≡ length names.old }
         ensures refused { OnErr result (self.new ≡ self.old) }
     {
-        let all = self.body.arena.all_cells();
-        let fresh = take_room(alloc, templates, all, own, cuts, cells)?;
-        let part = self.body.split(agents, own, cuts, fresh);
+        use_invariant!(self.body);
+        let fresh = take_room(alloc, templates, own, cuts, cells)?;
+        let part = self.body.split(agents, own, cuts, names, fresh);
         Ok(Reducer { body: part })
     }
 }

@@ -1,7 +1,6 @@
 use Rattle.std.proofs.Common.{◌≡◌, ◌<◌, ◌+◌, ◌*◌, ℕ, List, length, map, take, slice_get, refl, sym, ap, subst, ◌∙◌, arith}
 use Rattle.std.specs.List.{filter}
-use Rattle.std.specs.Vec.{with_items}
-use Rattle.std.proofs.lemmas.List.{length-take-le, with_items_is}
+use Rattle.std.proofs.lemmas.List.{length-take-le}
 use Rattle.in_arena.specs.declared.content.CellNo.{CellNo}
 use Rattle.in_arena.specs.declared.content.End.{End}
 use Rattle.in_arena.specs.declared.content.End.TheVariants.{Free}
@@ -107,11 +106,9 @@ fill_part-requires-clause-within c = λ j e at. (
     let k = c.requires.kept.all.net in
     let f = c.args.fresh in
     let ns = c.move_cells.new.names in
-    let long : length ns ≡ length f.names.items = c.move_cells.ensures.names ∙ ap length c.as_mut_slice.ensures.value in
-    let items : (with_items f.names ns).items ≡ ns = with_items_is f.names ns (let ok = f.names.ok.0 in omega (arith, ok, long)) in
     let whole = before.whole r k c.args.agents.now c.args.own c.args.cuts c.requires.can in
     let same = first_ends c.args.own c.args.cuts c.as_slice.result.now r.ends.items c.as_slice.ensures.value ∙ ap (λ (z : ℕ). take z r.ends.items) (sym whole) in
-    let many : length c.as_slice-4.result.now ≡ length r.arena.states = ap length (c.as_slice-4.ensures.value ∙ items) ∙ long ∙ c.requires.taken.names in
+    let many : length ns ≡ length r.arena.states = c.move_cells.ensures.names ∙ c.requires.names in
     let numbered : length f.part.numbers.items ≡ length r.free.items = c.requires.taken.part_numbers.count ∙ sym whole ∙ before.many r k in
     subst (λ (z : ℕ). IsEndWithin z (length f.part.numbers.items) e) (sym many) (subst (λ (z : ℕ). IsEndWithin (length r.arena.states) z e) (sym numbered) (before.end_within r k j e (ap (λ (zs : List End). slice_get zs j) (sym same) ∙ at)))
     )
@@ -138,9 +135,6 @@ split_queue-requires-clause-room c =
     let cuts = c.args.cuts in
     let f = c.args.fresh in
     let ns = c.move_cells.new.names in
-    let long : length ns ≡ length f.names.items = c.move_cells.ensures.names ∙ ap length c.as_mut_slice.ensures.value in
-    let items : (with_items f.names ns).items ≡ ns = with_items_is f.names ns (let ok = f.names.ok.0 in omega (arith, ok, long)) in
-    let names_are : c.as_slice-4.result.now ≡ ns = c.as_slice-4.ensures.value ∙ items in
     let first = first_ends own cuts c.as_slice.result.now r.ends.items c.as_slice.ensures.value in
     let x : Pieces = record {
       size = f.arena.cells;
@@ -165,7 +159,7 @@ split_queue-requires-clause-room c =
       rest_free = subst (λ (z : List OwnEnd). ArePicked (λ y. y) (place_of_two own 0) (own + cuts) z x.rest_free) c.as_slice-free.ensures.value c.fill_rest.ensures.free;
       part_free = subst (λ (z : List OwnEnd). ArePicked (λ y. y) (place_of_two own 1) cuts z x.part_free) c.as_slice-free.ensures.value c.fill_part.ensures.free;
       rest_ends = subst (λ (z : List End). ArePickedWithRoom (moved_end (λ y. y) (number_in x.rest_numbers)) (place_of_two own 0) (own + cuts) z x.rest_ends) first c.fill_rest.ensures.ends;
-      part_ends = subst (λ (z : List End). ArePickedWithRoom (moved_end (name_in ns) (number_in x.numbers)) (place_of_two own 1) cuts z x.part_ends) first (subst (λ (z : List CellNo). ArePickedWithRoom (moved_end (name_in z) (number_in x.numbers)) (place_of_two own 1) cuts (take (own + 2 * cuts) c.as_slice.result.now) x.part_ends) names_are c.fill_part.ensures.ends);
+      part_ends = subst (λ (z : List End). ArePickedWithRoom (moved_end (name_in ns) (number_in x.numbers)) (place_of_two own 1) cuts z x.part_ends) first c.fill_part.ensures.ends;
     } in
     kept.few_pairs r k a own cuts c.requires.can x h c.requires.cells _ c.requires.taken.queue_room
 
@@ -178,9 +172,6 @@ returns c =
     let cuts = c.args.cuts in
     let f = c.args.fresh in
     let ns = c.move_cells.new.names in
-    let long : length ns ≡ length f.names.items = c.move_cells.ensures.names ∙ ap length c.as_mut_slice.ensures.value in
-    let items : (with_items f.names ns).items ≡ ns = with_items_is f.names ns (let ok = f.names.ok.0 in omega (arith, ok, long)) in
-    let names_are : c.as_slice-4.result.now ≡ ns = c.as_slice-4.ensures.value ∙ items in
     let first = first_ends own cuts c.as_slice.result.now r.ends.items c.as_slice.ensures.value in
     let x : Pieces = record {
       size = f.arena.cells;
@@ -205,12 +196,11 @@ returns c =
       rest_free = subst (λ (z : List OwnEnd). ArePicked (λ y. y) (place_of_two own 0) (own + cuts) z x.rest_free) c.as_slice-free.ensures.value c.fill_rest.ensures.free;
       part_free = subst (λ (z : List OwnEnd). ArePicked (λ y. y) (place_of_two own 1) cuts z x.part_free) c.as_slice-free.ensures.value c.fill_part.ensures.free;
       rest_ends = subst (λ (z : List End). ArePickedWithRoom (moved_end (λ y. y) (number_in x.rest_numbers)) (place_of_two own 0) (own + cuts) z x.rest_ends) first c.fill_rest.ensures.ends;
-      part_ends = subst (λ (z : List End). ArePickedWithRoom (moved_end (name_in ns) (number_in x.numbers)) (place_of_two own 1) cuts z x.part_ends) first (subst (λ (z : List CellNo). ArePickedWithRoom (moved_end (name_in z) (number_in x.numbers)) (place_of_two own 1) cuts (take (own + 2 * cuts) c.as_slice.result.now) x.part_ends) names_are c.fill_part.ensures.ends);
+      part_ends = subst (λ (z : List End). ArePickedWithRoom (moved_end (name_in ns) (number_in x.numbers)) (place_of_two own 1) cuts z x.part_ends) first c.fill_part.ensures.ends;
     } in
     let can = c.requires.can in
     let q = c.split_queue.new.queue.items in
     let o = c.split_queue.new.part.items in
-    let is_part = c.split_queue.ensures.part ∙ ap (λ (z : List CellNo). map (both (name_in z)) (filter (goes x.left) r.queue.items)) (c.as_slice-5.ensures.value ∙ items) in
     record {
       kept = record {
         all = record {
@@ -231,7 +221,7 @@ returns c =
       part = record {
         all = record {
           net = record {
-            reducer = kept.part_reducer r k a own cuts can x h c.requires.cells o is_part;
+            reducer = kept.part_reducer r k a own cuts can x h c.requires.cells o c.split_queue.ensures.part;
             net = cells.part_net r k a own cuts can x.numbers x.names x.size x.first x.new h.same h.empty h.copied;
             few = (let e = h.copied.cells in let l = c.requires.cells in omega (arith, e, l));
             few_free = kept.part_few r k a own cuts can x h;
@@ -245,4 +235,5 @@ returns c =
         none = cells.part_none r k a own cuts can x.numbers x.names x.size x.first x.new h.same h.empty h.copied;
       };
       split = kept.split_off r k a own cuts can x h c.requires.kept.none q o;
+      names = c.move_cells.ensures.names;
     }
