@@ -1,7 +1,9 @@
 -- A net from which agents were taken out is what is left and their copies side by side.
-use Rattle.std.proofs.Common.{◌≡◌, ◌⊎◌, inl, inr, ℕ, zero, suc, true, false, Option, Some, None, List, map, slice_get, refl, sym, ap, subst, ◌∙◌, arith}
+use Rattle.std.proofs.Common.{◌≡◌, ◌⊎◌, ◌<◌, inl, inr, ℕ, zero, suc, true, false, Option, Some, None, List, map, slice_get, refl, sym, ap, subst, ◌∙◌, arith}
 use Rattle.std.specs.Prelude.{option_map, IsSome}
 use Rattle.std.proofs.lemmas.Option.{same_Some, slice_get_within}
+use Rattle.in_base.specs.Lists.{IsAmong}
+use Rattle.in_base.proofs.Among.{among_at, in_map}
 use Rattle.in_base.proofs.Each.{at_index}
 use Rattle.in_arena.specs.Arenas.{ArenaView, state_at}
 use Rattle.in_arena.specs.States.{State, Vacant, Leased, Live, IsLive, end_at, word_of}
@@ -9,13 +11,15 @@ use Rattle.in_arena.specs.declared.content.CellNo.{CellNo}
 use Rattle.in_arena.specs.declared.content.End.{End}
 use Rattle.in_arena.specs.declared.content.End.TheVariants.{Cell, Free as FreeEnd}
 use Rattle.in_arena.proofs.Public.{word_live}
-use Rattle.in_net.specs.Nets.{Point, Port, Free, Net}
+use Rattle.in_net.specs.Nets.{Point, Port, Free, Net, IsNet}
 use Rattle.in_glue.specs.AsGluing.{old_and_new, two_parts}
 use Rattle.in_glue.specs.Joining.{IsAtNumber, IsBeside, WiresLeadBack}
 use Rattle.in_glue.specs.Laws.{KeepsApart}
 use Rattle.in_glue.proofs.Public.{mapped}
 use Rattle.in_joining.specs.Shown.{point_of}
-use Rattle.in_parts.specs.Leading.{StandBeside}
+use Rattle.in_parts.specs.Leading.{IsThere, IsWiredWithin, StandBeside}
+use Rattle.in_parts.proofs.Public.{beside_parts_are_nets}
+use Rattle.in_check.specs.Systems.{System}
 use Rattle.in_moving.specs.Copying.{IsCopied, name_in, number_in}
 use Rattle.in_moving.specs.Laws.{moved_point, ShowsAll, AreTakenOut, LeadsIntoPart, AreEndsSplit, PartStandsBeside}
 use Rattle.in_moving.proofs.Shown.{word_moved, end_moved, point_moved, end_live, NamedOr, named_or}
@@ -26,6 +30,20 @@ live_word_there : (x : State) → IsLive x → word_of x ≡ None → ⊥
 live_word_there Vacant live e = live
 live_word_there Leased live e = live
 live_word_there (Live w es) live e = let f : Some w ≡ None = e in cc
+
+live_has_word : (x : State) → IsLive x → IsSome (word_of x)
+live_has_word Vacant live = absurd live
+live_has_word Leased live = absurd live
+live_has_word (Live w es) live = refl
+
+-- what has a wire is there
+shown_there : (a : ArenaView) (of_a : List End) (n : Net ℕ) → ShowsAll a of_a n → (u v : Point ℕ) → n.partner u ≡ Some v → IsThere n u
+shown_there a of_a n shows (Port y i) v e =
+    let t = mapped point_of (end_at (state_at a y) i) v (sym (shows.shown.wires (Port y i)) ∙ e) in
+    subst IsSome (sym (shows.shown.agents y)) (live_has_word (state_at a y) (end_live (state_at a y) i t.0 t.1))
+shown_there a of_a n shows (Free k) v e =
+    let t = mapped point_of (slice_get of_a k) v (sym (shows.shown.wires (Free k)) ∙ e) in
+    subst (λ l. k < l) shows.many (slice_get_within of_a k t.0 t.1)
 
 module _ (from left old new : ArenaView) (agents names : List CellNo) (numbers : List ℕ) (own origin : ℕ → ℕ) (place : ℕ → ℕ → ℕ) (of_from of_left of_new : List End) (ends : List (ℕ × ℕ)) (n m p : Net ℕ) (shows_n : ShowsAll from of_from n) (back : WiresLeadBack n)
     (shows_m : ShowsAll left of_left m) (shows_p : ShowsAll new of_new p) (copied : IsCopied from agents numbers names old new) (empty : (y : ℕ) → word_of (state_at old y) ≡ None) (out : AreTakenOut agents own from left)
@@ -280,6 +298,79 @@ module _ (from left old new : ArenaView) (agents names : List CellNo) (numbers :
     apart = kept_apart;
   }
 
+  -- ---- each of the two by itself
+
+  back_left : WiresLeadBack m
+  back_left = (back_at, apart_at)
+    where
+      leads : (q r : Point ℕ) → m.partner q ≡ Some r → (u v : Point ℕ) × IsOut u × (q ≡ kept u) × (n.partner u ≡ Some v) × (r ≡ kept v)
+      leads q r e =
+          let x = from_out q r e in
+          let t = mapped kept (n.partner x.0) r (sym (partner_out x.0 x.1) ∙ ap m.partner (sym x.2) ∙ e) in
+          (x.0, t.0, x.1, x.2, t.1, sym t.2)
+
+      back_at : (q r : Point ℕ) → m.partner q ≡ Some r → m.partner r ≡ Some q
+      back_at q r e = let w = leads q r e in ap m.partner w.5 ∙ partner_out w.1 (stays_out w.0 w.1 w.2 w.4) ∙ ap (option_map kept) (back.0 w.0 w.1 w.4) ∙ ap (λ (z : Point ℕ). Some z) (sym w.3)
+
+      apart_at : (q : Point ℕ) → m.partner q ≡ Some q → ⊥
+      apart_at q e =
+          let w = leads q q e in
+          let same : w.1 ≡ w.0 = out_place w.1 (stays_out w.0 w.1 w.2 w.4) ∙ ap (placed number origin 0) (sym w.5 ∙ w.3) ∙ sym (out_place w.0 w.2) in
+          back.1 w.0 (w.4 ∙ ap (λ (z : Point ℕ). Some z) same)
+
+  back_part : WiresLeadBack p
+  back_part = (back_at, apart_at)
+    where
+      leads : (q r : Point ℕ) → p.partner q ≡ Some r → (u v : Point ℕ) × IsIn u × (q ≡ to u) × (n.partner u ≡ Some v) × (r ≡ to v)
+      leads q r e =
+          let x = from_in q r e in
+          let t = mapped to (n.partner x.0) r (sym (partner_in x.0 x.1) ∙ ap p.partner (sym x.2) ∙ e) in
+          (x.0, t.0, x.1, x.2, t.1, sym t.2)
+
+      back_at : (q r : Point ℕ) → p.partner q ≡ Some r → p.partner r ≡ Some q
+      back_at q r e = let w = leads q r e in ap p.partner w.5 ∙ partner_in w.1 (stays_in w.0 w.1 w.2 w.4) ∙ ap (option_map to) (back.0 w.0 w.1 w.4) ∙ ap (λ (z : Point ℕ). Some z) (sym w.3)
+
+      apart_at : (q : Point ℕ) → p.partner q ≡ Some q → ⊥
+      apart_at q e =
+          let w = leads q q e in
+          let same : w.1 ≡ w.0 = in_place w.1 (stays_in w.0 w.1 w.2 w.4) ∙ ap (placed number origin 1) (sym w.5 ∙ w.3) ∙ sym (in_place w.0 w.2) in
+          back.1 w.0 (w.4 ∙ ap (λ (z : Point ℕ). Some z) same)
+
+  left_wired : (all : List ℕ) → ((x : ℕ) → IsSome (n.symbol x) → IsAmong x all) → IsWiredWithin m
+  left_wired all among = record {
+    agents = all;
+    all = λ x g. (let s = symbol_of (m.symbol x) g in among x (subst IsSome (symbol_left x (left_agent x s.0 s.1)) g));
+    there = λ u v e. shown_there left of_left m shows_m u v e;
+    back = back_left;
+  }
+
+  part_wired : IsWiredWithin p
+  part_wired = record {
+    agents = map (λ (c : CellNo). name c.0) agents;
+    all = λ z g. (
+        let s = symbol_of (p.symbol z) g in
+        let a = part_agent z s.0 s.1 in
+        subst (λ (x : ℕ). IsAmong x (map (λ (c : CellNo). name c.0) agents)) a.2 (in_map (λ (c : CellNo). name c.0) agents (record { 0 = a.0 }) (among_at agents a.1.0 (record { 0 = a.0 }) a.1.1))
+        );
+    there = λ u v e. shown_there new of_new p shows_p u v e;
+    back = back_part;
+  }
+
 pub part_stands_beside : PartStandsBeside
 part_stands_beside from left old new agents names numbers own origin place of_from of_left of_new ends n m p shows_n back shows_m shows_p copied empty out from_where closed split free =
     stand from left old new agents names numbers own origin place of_from of_left of_new ends n m p shows_n back shows_m shows_p copied empty out from_where closed split free
+
+-- .. and both are nets, where it is one
+pub split_are_nets : (sys : System) (from left old new : ArenaView) (agents names : List CellNo) (numbers : List ℕ) (own origin : ℕ → ℕ) (place : ℕ → ℕ → ℕ) (of_from of_left of_new : List End) (ends : List (ℕ × ℕ)) (n m p : Net ℕ) →
+    IsNet sys.symbols n → ShowsAll from of_from n → ShowsAll left of_left m → ShowsAll new of_new p →
+    IsCopied from agents numbers names old new → ((y : ℕ) → word_of (state_at old y) ≡ None) → AreTakenOut agents own from left →
+    ((k : ℕ) (c : CellNo) → slice_get agents k ≡ Some c → origin (name_in names c.0) ≡ c.0) →
+    ((k i : ℕ) (c : CellNo) (x : End) → slice_get agents k ≡ Some c → end_at (state_at from c.0) i ≡ Some x → LeadsIntoPart agents ends x) →
+    AreEndsSplit m p agents (name_in names) own (number_in numbers) place of_from of_left of_new ends →
+    map (λ t. Some t) n.free ≡ map (λ q. slice_get (two_parts m p q.0).free q.1) ends → IsNet sys.symbols m × IsNet sys.symbols p
+split_are_nets sys from left old new agents names numbers own origin place of_from of_left of_new ends n m p net shows_n shows_m shows_p copied empty out from_where closed split free =
+    let back : WiresLeadBack n = (net.back, net.apart) in
+    beside_parts_are_nets sys m p n origin ends net
+    (left_wired from left old new agents names numbers own origin place of_from of_left of_new ends n m p shows_n back shows_m shows_p copied empty out from_where closed split net.agents net.all)
+    (part_wired from left old new agents names numbers own origin place of_from of_left of_new ends n m p shows_n back shows_m shows_p copied empty out from_where closed split)
+    (stand from left old new agents names numbers own origin place of_from of_left of_new ends n m p shows_n back shows_m shows_p copied empty out from_where closed split free)

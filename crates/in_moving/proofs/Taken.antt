@@ -20,7 +20,7 @@ use Rattle.in_moving.specs.CopyingSteps.{TakesCell, HasCell, HaveCellsBelow, Hav
 
 -- ---- classes
 
-apart : (n : ℕ) (c d : CellClass) → Holds c n → Holds d n → d ≡ c
+pub apart : (n : ℕ) (c d : CellClass) → Holds c n → Holds d n → d ≡ c
 apart n Small Small h k = refl
 apart n Small Large h k = absurd (let a = h.1 in let b = k.0 in omega (arith, a, b))
 apart n Small Wide h k = absurd (let a = h.1 in let b = k.0 in omega (arith, a, b))
@@ -31,14 +31,14 @@ apart n Wide Small h k = absurd (let a = h.0 in let b = k.1 in omega (arith, a, 
 apart n Wide Large h k = absurd (let a = h.0 in let b = k.1 in omega (arith, a, b))
 apart n Wide Wide h k = refl
 
-abbrev one_if : Bool → ℕ
+abbrev pub one_if : Bool → ℕ
 one_if b = cond b 1 0
 
-one_for : (c : CellClass) (n : ℕ) → Holds c n → one_if (holds c n) ≡ 1
+pub one_for : (c : CellClass) (n : ℕ) → Holds c n → one_if (holds c n) ≡ 1
 one_for c n h = ap one_if (both_true (le-leb (least c) n h.0) (le-leb n (width c) h.1))
 
 -- so many places are for this class, or for another one
-which : (c : CellClass) (n : ℕ) → Holds c n ⊎ (one_if (holds c n) ≡ 0)
+pub which : (c : CellClass) (n : ℕ) → Holds c n ⊎ (one_if (holds c n) ≡ 0)
 which c n = go (holds c n) refl
   where
     go : (b : Bool) → holds c n ≡ b → Holds c n ⊎ (one_if (holds c n) ≡ 0)

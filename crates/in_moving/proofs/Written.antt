@@ -114,7 +114,7 @@ moved_live name number Vacant live = live
 moved_live name number Leased live = live
 moved_live name number (Live w es) live = tt
 
-not_free : (x : State) → IsLive x → one_if_free x ≡ 0
+pub not_free : (x : State) → IsLive x → one_if_free x ≡ 0
 not_free Vacant live = absurd live
 not_free Leased live = absurd live
 not_free (Live w es) live = refl
@@ -126,6 +126,18 @@ number_or cells d n = go (cases_lt n (class_no d * cells)) (cases_lt n ((class_n
     go (inl l) k = inr (λ h. (let a = h.0 in omega (arith, l, a)))
     go (inr l) (inl k) = inl (l, k)
     go (inr l) (inr k) = inr (λ h. (let a = h.1 in omega (arith, k, a)))
+
+-- a cell that is live before and after is none of those that are free
+pub live_keeps_free : (a : ArenaView) (n : ℕ) (x : State) → HasAllCells a → IsLive (state_at a n) → IsLive x → (d : CellClass) → free_of (changed a n x) d ≡ free_of a d
+live_keeps_free a n x all was is d = go (class_of_number a.cells n (let i = live_inside a n was in omega (arith, i, all))) (number_or a.cells d n)
+  where
+    go : (b : CellClass) × IsNumberOf a.cells b n → IsNumberOf a.cells d n ⊎ (IsNumberOf a.cells d n → ⊥) → free_of (changed a n x) d ≡ free_of a d
+    go b (inl here) =
+        let f = (counts_change a n d x all here).0 in
+        let before = not_free (state_at a n) was in
+        let after = not_free x is in
+        omega (arith, f, before, after)
+    go b (inr out) = (counts_change a n b.0 x all b.1).1 d (λ e. out (subst (λ (z : CellClass). IsNumberOf a.cells z n) (sym e) b.1))
 
 module _ (from : ArenaView) (agents names : List CellNo) (ends : List ℕ) (first : ArenaView) (all : HasAllCells first) (part : ArePart from agents) (cells : HaveOwnCells from agents names first) (x : ℕ) (now : ArenaView) (h : AreMovedBelow from agents names ends first x now) (c : CellNo) (at : slice_get agents x ≡ Some c) where
   abbrev n : ℕ
@@ -160,19 +172,8 @@ module _ (from : ArenaView) (agents names : List CellNo) (ends : List ℕ) (firs
     all_now : HasAllCells now
     all_now = h.many ∙ all ∙ ap (λ (z : ℕ). length classes * z) (sym h.cells)
 
-    -- a cell that is live before and after is none of those that are free
-    same_free : (d b : CellClass) → IsNumberOf now.cells d n ⊎ (IsNumberOf now.cells d n → ⊥) → IsNumberOf now.cells b n → free_of (changed now n new) d ≡ free_of now d
-    same_free d b (inl is) here =
-        let f = (counts_change now n d new all_now is).0 in
-        let before = not_free (state_at now n) live_now in
-        let after = not_free new (moved_live (name_in names) (number_in ends) (state_at from c.0) (part.live x c at)) in
-        omega (arith, f, before, after)
-    same_free d b (inr out) here = (counts_change now n b new all_now here).1 d (λ e. out (subst (λ (z : CellClass). IsNumberOf now.cells z n) (sym e) here))
-
     free : (d : CellClass) → free_of now' d ≡ free_of now d
-    free d =
-        let b = class_of_number now.cells n (let i = inside in let a = all_now in omega (arith, i, a)) in
-        ap (λ v. free_of v d) e ∙ same_free d b.0 (number_or now.cells d n) b.1
+    free d = ap (λ v. free_of v d) e ∙ live_keeps_free now n new all_now live_now (moved_live (name_in names) (number_in ends) (state_at from c.0) (part.live x c at)) d
 
     each_by : (k : ℕ) (d : CellNo) → (k ≡ x) ⊎ (k ≢ x) → k < x + 1 → slice_get agents k ≡ Some d → state_at now' (name_in names d.0) ≡ moved (name_in names) (number_in ends) (state_at from d.0)
     each_by k d (inl same) less s =

@@ -2,3 +2,4 @@ pub mod Copying
 pub mod CopyingSteps
 pub mod Laws
 pub mod TakingOut
+pub mod TakingOutSteps

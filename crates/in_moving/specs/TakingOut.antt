@@ -1,6 +1,6 @@
 -- Agents that leave an arena, and free ends that get other numbers in it: how a part of a net is taken out, and how what is left is numbered
 -- anew. This project's own choice.
-use Rattle.std.specs.Prelude.{◌≡◌, ◌+◌, ℕ, nat_lt, cond, List, length, count_by, Some, slice_get}
+use Rattle.std.specs.Prelude.{◌≡◌, ◌+◌, ℕ, List, length, count_by, Some, slice_get}
 use Rattle.in_arena.specs.Arenas.{ArenaView, free_of, state_at}
 use Rattle.in_arena.specs.Classes.{Holds, IsNumberOf}
 use Rattle.in_arena.specs.States.{Vacant, end_at, places}
@@ -28,12 +28,8 @@ pub record AreLedTo (a : ArenaView) (ends : List End) : Type 0 where
   pub back : (k i : ℕ) (c : CellNo) → slice_get ends k ≡ Some (Cell c i) → end_at (state_at a c.0) i ≡ Some (Free k)
   pub all : (y i k : ℕ) → end_at (state_at a y) i ≡ Some (Free k) → slice_get ends k ≡ Some (Cell (record { 0 = y }) i)
 
--- free ends below this number have new numbers
-abbrev pub number_below : (ℕ → ℕ) → ℕ → ℕ → ℕ
-number_below number x k = cond (nat_lt k x) (number k) k
-
 -- each place that leads to a free end leads to it under its new number, and all else is as it was
-pub record AreNumbered (number : ℕ → ℕ) (old new : ArenaView) : Type 0 where
+pub record AreNumberedAnew (number : ℕ → ℕ) (old new : ArenaView) : Type 0 where
   pub each : (y : ℕ) → state_at new y ≡ moved (λ z. z) number (state_at old y)
   pub free : (d : CellClass) → free_of new d ≡ free_of old d
   pub memory : new.memory ≡ old.memory

@@ -1,7 +1,7 @@
 // Free ends get other numbers.
 ghost use Rattle.std.specs.Prelude.{◌≤◌, length};
 ghost use Rattle.in_moving.specs.Copying.{number_in};
-ghost use Rattle.in_moving.specs.TakingOut.{AreLedTo, AreNumbered};
+ghost use Rattle.in_moving.specs.TakingOut.{AreLedTo, AreNumberedAnew};
 
 use in_arena::{Arena, End};
 
@@ -10,8 +10,9 @@ use in_arena::{Arena, End};
 pub fn number_anew(arena: &mut Arena, ends: &[End], numbers: &[u32])
     requires led { AreLedTo arena.old ends.now }
     requires numbers { length ends.now ≤ length numbers.now }
-    ensures { AreNumbered (number_in numbers.now) arena.old arena.new }
+    ensures { AreNumberedAnew (number_in numbers.now) arena.old arena.new }
 {
+    arena.cells();
     for number in 0..ends.len() {
         if let End::Cell(cell, place) = ends[number] {
             arena.set_port(cell, place, End::Free(numbers[number]));

@@ -10,6 +10,7 @@ pub fn retire_all(arena: &mut Arena, agents: &[CellNo])
     requires classed { AreClassed arena.old agents.now }
     ensures { AreRetired agents.now arena.old arena.new }
 {
+    arena.cells();
     for number in 0..agents.len() {
         arena.retire(agents[number]);
     }

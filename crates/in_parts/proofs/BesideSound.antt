@@ -1,5 +1,5 @@
 -- Nets side by side are sound exactly if the net that they are is.
-use Rattle.std.proofs.Common.{◌≡◌, ◌≢◌, ◌⊎◌, ◌<◌, ◌≤◌, ◌+◌, ℕ, zero, suc, Option, Some, None, IsSome, IsSomeAnd, List, [], ◌∷◌, ◌++◌, map, length, slice_get, refl, sym, subst, ap, ◌∙◌, inl, inr, arith}
+use Rattle.std.proofs.Common.{◌≡◌, ◌≢◌, ◌<◌, ◌≤◌, ℕ, zero, suc, Option, Some, None, IsSome, IsSomeAnd, List, [], ◌∷◌, ◌++◌, map, length, slice_get, refl, sym, subst, ap, ◌∙◌, arith}
 use Rattle.std.specs.List.{AllByRecursion}
 use Rattle.std.proofs.lemmas.List.{length-map}
 use Rattle.std.proofs.lemmas.Option.{same_Some, slice_get_within}
@@ -17,14 +17,13 @@ use Rattle.in_typing.specs.TypedNets.{type_in, IsTypedNet}
 use Rattle.in_typing.proofs.Public.{port_type}
 use Rattle.in_check.proofs.Public.{is_some}
 use Rattle.in_check.specs.Systems.{System, IsSound}
-use Rattle.in_glue.specs.AsGluing.{empty, old_and_new, two_parts}
-use Rattle.in_glue.specs.Gluing.{Cuts, IsJointEndAt, AreCuts}
+use Rattle.in_glue.specs.AsGluing.{old_and_new, two_parts}
+use Rattle.in_glue.specs.Gluing.{IsJointEndAt, AreCuts}
 use Rattle.in_glue.specs.Joining.{IsAtNumber}
-use Rattle.in_glue.specs.PartRuns.{AreTypedAtCuts}
 use Rattle.in_glue.proofs.Public.{parts_are_sound_by_names, at_outer}
-use Rattle.in_parts.specs.Leading.{StandBeside, BesidePartsAreSound, BesideSoundIsSound}
+use Rattle.in_parts.specs.Leading.{IsThere, StandBeside, BesidePartsAreSound, BesideSoundIsSound}
 use Rattle.in_parts.proofs.CutOnce.{loose, stand_glued}
-use Rattle.in_parts.proofs.Leading.{empty_sound, no_wire}
+use Rattle.in_parts.proofs.Leading.{empty_sound}
 
 module _ (p : System) (one two m : Net ℕ) (name : ℕ → ℕ) (ends : List (ℕ × ℕ)) (h : StandBeside one two name ends m) where
   abbrev both : ℕ → Net ℕ
@@ -50,6 +49,60 @@ module _ (p : System) (one two m : Net ℕ) (name : ℕ → ℕ) (ends : List (�
       got [] k l = absurd (omega (arith, l))
       got (x ∷ xs) zero l = (x, refl)
       got (x ∷ xs) (suc k) l = got xs k (omega (arith, l))
+
+  -- ---- where the points of the parts are
+
+  -- where a part's point is
+  abbrev pub image : ℕ → Point ℕ → Point ℕ
+  image i (Port x k) = Port (in_whole i x) k
+  image i (Free e) = Free (h.number (i, e))
+
+  pub is_image : (i : ℕ) (q u : Point ℕ) → IsAtNumber h.number in_whole i q u → u ≡ image i q
+  is_image i (Port x k) u e = e
+  is_image i (Free k) u e = e
+
+  at_image : (i : ℕ) (q : Point ℕ) → IsAtNumber h.number in_whole i q (image i q)
+  at_image i (Port x k) = refl
+  at_image i (Free k) = refl
+
+  pub wire_kept : (i : ℕ) (q r : Point ℕ) → (both i).partner q ≡ Some r → m.partner (image i q) ≡ Some (image i r)
+  wire_kept i q r e = (h.beside.wires (image i q) (image i r)).1 (i, q, r, at_image i q, at_image i r, e)
+
+  pub symbol_kept : (i x s : ℕ) → (both i).symbol x ≡ Some s → m.symbol (in_whole i x) ≡ Some s
+  symbol_kept i x s e = (h.beside.agents (in_whole i x) s).1 (i, x, refl, e)
+
+  live : (i x k : ℕ) → IsPoint p.symbols (both i) (Port x k) → IsSome ((both i).symbol x)
+  live i x k g = let s = symbol_of p.symbols ((both i).symbol x) k g in is_some ((both i).symbol x) s.0 s.1
+
+  pub point_kept : (i : ℕ) (q : Point ℕ) → IsPoint p.symbols (both i) q → IsPoint p.symbols m (image i q)
+  point_kept i (Port x k) g =
+      let s = symbol_of p.symbols ((both i).symbol x) k g in
+      subst (λ (o : Option ℕ). IsSomeAnd o (λ s. k ≤ p.symbols.arity s)) (s.1 ∙ sym (symbol_kept i x s.0 s.1)) g
+  point_kept i (Free e) g =
+      let l = slice_get_within ends (h.number (i, e)) (i, e) (h.all i e g) in
+      let z : h.number (i, e) < length m.free = (let f = many_ends in omega (arith, l, f)) in
+      z
+
+  pub there_of : (i : ℕ) (q : Point ℕ) → IsPoint p.symbols (both i) q → IsThere (both i) q
+  there_of i (Port x k) g = live i x k g
+  there_of i (Free k) g = g
+
+  -- different points are at different ones
+  pub one_place : (i j : ℕ) (q r : Point ℕ) → IsThere (both i) q → IsThere (both j) r → image i q ≡ image j r → (i ≡ j) × (q ≡ r)
+  one_place i j (Port x k) (Port y l) a b e =
+      let same = h.apart i j x y a b (port_agent (in_whole i x) (in_whole j y) k l e) in
+      let agent : x ≡ y = same.1 in
+      let place : k ≡ l = port_place (in_whole i x) (in_whole j y) k l e in
+      (same.0, cc)
+  one_place i j (Port x k) (Free l) a b e = cc
+  one_place i j (Free k) (Port y l) a b e = cc
+  one_place i j (Free k) (Free l) a b e =
+      let same : h.number (i, k) ≡ h.number (j, l) = cc in
+      let pairs : ◌≡◌ {A = ℕ × ℕ} (i, k) (j, l) = same_Some (i, k) (j, l) (sym (h.all i k a) ∙ ap (slice_get ends) same ∙ h.all j l b) in
+      (ap (λ (z : ℕ × ℕ). z.0) pairs, ap (λ (z : ℕ × ℕ). Free z.1) pairs)
+
+  one_point : (i : ℕ) (q r : Point ℕ) → IsPoint p.symbols (both i) q → IsPoint p.symbols (both i) r → image i q ≡ image i r → q ≡ r
+  one_point i q r a b e = (one_place i i q r (there_of i q a) (there_of i r b) e).1
 
   -- ---- the parts of a sound net
 
@@ -90,50 +143,6 @@ module _ (p : System) (one two m : Net ℕ) (name : ℕ → ℕ) (ends : List (�
 
     net_part : (i : ℕ) → IsNet p.symbols (both i)
     net_part i = (sound_part i).net
-
-    -- where a part's point is
-    abbrev image : ℕ → Point ℕ → Point ℕ
-    image i (Port x k) = Port (in_whole i x) k
-    image i (Free e) = Free (h.number (i, e))
-
-    is_image : (i : ℕ) (q u : Point ℕ) → IsAtNumber h.number in_whole i q u → u ≡ image i q
-    is_image i (Port x k) u e = e
-    is_image i (Free k) u e = e
-
-    at_image : (i : ℕ) (q : Point ℕ) → IsAtNumber h.number in_whole i q (image i q)
-    at_image i (Port x k) = refl
-    at_image i (Free k) = refl
-
-    wire_kept : (i : ℕ) (q r : Point ℕ) → (both i).partner q ≡ Some r → m.partner (image i q) ≡ Some (image i r)
-    wire_kept i q r e = (h.beside.wires (image i q) (image i r)).1 (i, q, r, at_image i q, at_image i r, e)
-
-    symbol_kept : (i x s : ℕ) → (both i).symbol x ≡ Some s → m.symbol (in_whole i x) ≡ Some s
-    symbol_kept i x s e = (h.beside.agents (in_whole i x) s).1 (i, x, refl, e)
-
-    live : (i x k : ℕ) → IsPoint p.symbols (both i) (Port x k) → IsSome ((both i).symbol x)
-    live i x k g = let s = symbol_of p.symbols ((both i).symbol x) k g in is_some ((both i).symbol x) s.0 s.1
-
-    point_kept : (i : ℕ) (q : Point ℕ) → IsPoint p.symbols (both i) q → IsPoint p.symbols m (image i q)
-    point_kept i (Port x k) g =
-        let s = symbol_of p.symbols ((both i).symbol x) k g in
-        subst (λ (o : Option ℕ). IsSomeAnd o (λ s. k ≤ p.symbols.arity s)) (s.1 ∙ sym (symbol_kept i x s.0 s.1)) g
-    point_kept i (Free e) g =
-        let l = slice_get_within ends (h.number (i, e)) (i, e) (h.all i e g) in
-        let z : h.number (i, e) < length m.free = (let f = many_ends in omega (arith, l, f)) in
-        z
-
-    -- different points are at different ones
-    one_point : (i : ℕ) (q r : Point ℕ) → IsPoint p.symbols (both i) q → IsPoint p.symbols (both i) r → image i q ≡ image i r → q ≡ r
-    one_point i (Port x k) (Port y l) a b e =
-        let same : x ≡ y = (h.apart i i x y (live i x k a) (live i y l b) (port_agent (in_whole i x) (in_whole i y) k l e)).1 in
-        let place : k ≡ l = port_place (in_whole i x) (in_whole i y) k l e in
-        cc
-    one_point i (Port x k) (Free l) a b e = cc
-    one_point i (Free k) (Port y l) a b e = cc
-    one_point i (Free k) (Free l) a b e =
-        let same : h.number (i, k) ≡ h.number (i, l) = cc in
-        let pairs : ◌≡◌ {A = ℕ × ℕ} (i, k) (i, l) = same_Some (i, k) (i, l) (sym (h.all i k a) ∙ ap (slice_get ends) same ∙ h.all i l b) in
-        ap (λ (z : ℕ × ℕ). Free z.1) pairs
 
     abbrev Whose : Point ℕ → Type 0
     Whose u = (i : ℕ) × (q : Point ℕ) × (image i q ≡ u) × IsPoint p.symbols (both i) q

@@ -1,8 +1,6 @@
 -- Wires that are cut one after another, and joined in the opposite order.
-use Rattle.std.proofs.Common.{ℕ, zero, suc}
-use Rattle.in_net.specs.Nets.{Net}
-use Rattle.in_check.specs.Systems.{System, IsSound}
-use Rattle.in_parts.specs.Leading.{IsCutDown, uncut, then_cut, unjoined, joined_first, CutDownIsSound, CutDownLeadsAreJoinedUp}
+use Rattle.std.proofs.Common.{zero, suc}
+use Rattle.in_parts.specs.Leading.{uncut, then_cut, unjoined, joined_first, CutDownIsSound, CutDownLeadsAreJoinedUp}
 use Rattle.in_parts.proofs.CutOnce.{cut_once_is_sound, cut_leads_are_joined}
 
 pub cut_down_is_sound : CutDownIsSound

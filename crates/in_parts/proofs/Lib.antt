@@ -2,4 +2,5 @@ pub mod Leading
 pub mod CutOnce
 pub mod CutDown
 pub mod BesideSound
+pub mod BesideNets
 pub mod Public

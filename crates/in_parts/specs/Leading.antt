@@ -1,15 +1,16 @@
 -- Nets that are cut, reduced apart and glued again, over whole runs: what the parts do is a run of the whole. Agents may have other names
 -- after each step, as where agents are moved from one memory to another. That nets are reduced in parts is this project's own choice.
-use Rattle.std.specs.Prelude.{◌≡◌, ◌+◌, ◌<◌, ℕ, zero, suc, List, [], ◌∷◌, ◌++◌, length, map, Some, slice_get}
+use Rattle.std.specs.Prelude.{◌≡◌, ◌+◌, ◌<◌, ℕ, zero, suc, List, [], ◌∷◌, ◌++◌, length, map, Some, IsSome, slice_get}
+use Rattle.in_base.specs.Lists.{IsAmong}
 use Rattle.in_symbols.specs.declared.symbols.PortType.{PortType}
-use Rattle.in_net.specs.Nets.{Point, Net, IsNet}
+use Rattle.in_net.specs.Nets.{Point, Port, Free, Net, IsNet}
 use Rattle.in_typing.specs.TypedNets.{type_in}
 use Rattle.in_check.specs.Runs.{Reached}
 use Rattle.in_check.specs.Systems.{System, IsSound, IsSoundSystem}
 use Rattle.in_order.specs.Laws.{from_net}
 use Rattle.in_glue.specs.AsGluing.{old_and_new, two_parts}
 use Rattle.in_glue.specs.Gluing.{Cuts, IsGlued}
-use Rattle.in_glue.specs.Joining.{CutsWire, IsBeside, JoinsEnds}
+use Rattle.in_glue.specs.Joining.{CutsWire, IsBeside, JoinsEnds, WiresLeadBack}
 use Rattle.in_glue.specs.Laws.{KeepsApart}
 
 -- so many interactions lead from the one net to the other
@@ -93,6 +94,24 @@ pub record StandBeside (one two : Net ℕ) (name : ℕ → ℕ) (ends : List (�
 abbrev pub BesideLeads : Type 0
 BesideLeads = (p : System) (j k : ℕ) (one two one_after two_after n m : Net ℕ) (before after : ℕ → ℕ) (ends : List (ℕ × ℕ)) → IsSoundSystem p → IsSound p n → IsSound p one → IsSound p two →
     StandBeside one two before ends n → Leads p j one one_after → Leads p k two two_after → StandBeside one_after two_after after ends m → Leads p (j + k) n m
+
+-- the point is a place of an agent that is there, or a free end that is
+abbrev pub IsThere : Net ℕ → Point ℕ → Type 0
+IsThere m (Port x i) = IsSome (m.symbol x)
+IsThere m (Free k) = k < length m.free
+
+-- finitely many agents, and wires that lead from points that are there, and back: a net, but that a point may be in no wire, and a place may be
+-- one that its agent's symbol doesn't have
+pub record IsWiredWithin (m : Net ℕ) : Type 0 where
+  pub agents : List ℕ
+  pub all : (x : ℕ) → IsSome (m.symbol x) → IsAmong x agents
+  pub there : (u v : Point ℕ) → m.partner u ≡ Some v → IsThere m u
+  pub back : WiresLeadBack m
+
+-- what stands side by side in a net is a net
+abbrev pub BesidePartsAreNets : Type 0
+BesidePartsAreNets = (p : System) (one two n : Net ℕ) (name : ℕ → ℕ) (ends : List (ℕ × ℕ)) → IsNet p.symbols n → IsWiredWithin one → IsWiredWithin two →
+    StandBeside one two name ends n → IsNet p.symbols one × IsNet p.symbols two
 
 -- what stands side by side in a sound net is sound
 abbrev pub BesidePartsAreSound : Type 0

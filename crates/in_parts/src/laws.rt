@@ -1,5 +1,5 @@
 //! Laws over the definitions alone. No function here does anything.
-ghost use Rattle.in_parts.specs.Leading.{BesideLeads, BesidePartsAreSound, BesideSoundIsSound, CutDownIsSound, CutDownLeadsAreJoinedUp, CutLeadsAreJoined, CutOnceIsSound, LeadsGoOn, PartsLeadTheWhole};
+ghost use Rattle.in_parts.specs.Leading.{BesideLeads, BesidePartsAreNets, BesidePartsAreSound, BesideSoundIsSound, CutDownIsSound, CutDownLeadsAreJoinedUp, CutLeadsAreJoined, CutOnceIsSound, LeadsGoOn, PartsLeadTheWhole};
 
 /// A run goes on where one ended: the counts are added.
 pub fn leads_go_on()
@@ -36,6 +36,11 @@ pub fn cut_down_is_sound()
 /// What a net leads to in which wires are cut one after another, with the ends joined again in the opposite order, the net itself leads to.
 pub fn cut_down_leads_are_joined_up()
     ensures { CutDownLeadsAreJoinedUp }
+{}
+
+/// What stands side by side in a net is a net, if it has finitely many agents, and its wires lead back and from points that are there.
+pub fn beside_parts_are_nets()
+    ensures { BesidePartsAreNets }
 {}
 
 /// Nets that stand side by side in a sound net are sound.

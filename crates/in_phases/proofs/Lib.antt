@@ -1,1 +1,5 @@
-
+mod Coming
+mod CutTimes
+mod Gathered
+mod Places
+mod Undoing

@@ -1,8 +1,9 @@
 -- A net that is reduced in parts. This project's own choice.
-use Rattle.std.specs.Prelude.{◌≡◌, ◌+◌, ◌≤◌, ℕ, Option, Some, None}
+use Rattle.std.specs.Prelude.{◌≡◌, ◌+◌, ◌≤◌, ℕ}
 use Rattle.in_arena.specs.declared.content.CellClass.{CellClass}
-use Rattle.in_compile.specs.Cells.{count_of}
+use Rattle.in_compile.specs.Cells.{agents_of, count_of}
 use Rattle.in_phases.specs.declared.taking.Taken.{Taken}
+use Rattle.in_reducer.specs.declared.seam.Seam.{Seam}
 use Rattle.in_reducer.specs.Machines.{MachineParts}
 use Rattle.in_reducer.specs.Parting.{IsSplitOff, ReducesTo}
 use Rattle.in_reducer.specs.PartingLaws.{IsCutTimes}
@@ -12,17 +13,31 @@ use Rattle.in_reducer.specs.Reducers.{IsReducer}
 abbrev pub HasFree : MachineParts → ℕ → Type 0
 HasFree m count = (c : CellClass) → count ≤ count_of m.vacant c
 
--- wires were cut, and a part was split off there; the seam has room for it to come back
-pub record IsTaken (m : MachineParts) (t : Taken) (rest : MachineParts) : Type 0 where
-  pub cut : MachineParts
-  pub cuts : IsCutTimes m t.cuts cut
-  pub reducer : IsReducer cut
+-- a part was split off where so many wires were cut, and the seam has room for it to come back
+pub record IsSplitBy (cut : MachineParts) (cuts size : ℕ) (seam : Seam) (part rest : MachineParts) : Type 0 where
   pub own : ℕ
-  pub split : IsSplitOff cut own t.cuts t.cells rest t.part
-  pub ends : t.seam.most ≡ own + (t.cuts + t.cuts)
-  pub cells : t.seam.cells ≡ t.cells
+  pub split : IsSplitOff cut own cuts size rest part
+  pub ends : seam.most ≡ own + (cuts + cuts)
+  pub cells : seam.cells ≡ size
+  pub of_rest : IsReducer rest
+  pub of_part : IsReducer part
 
--- a part was taken, and so many cells stay free besides those that it may come back with; or none was, and all is as it was but for numbers
-abbrev pub Takes : MachineParts → ℕ → Option Taken → MachineParts → Type 0
-Takes m floor (Some t) rest = IsTaken m t rest × HasFree rest (floor + t.cells)
-Takes m floor None rest = ReducesTo m 0 rest × (rest.vacant ≡ m.vacant)
+-- wires were cut, and a part was split off there
+pub record IsTakenOut (m : MachineParts) (cuts size : ℕ) (seam : Seam) (part rest : MachineParts) : Type 0 where
+  pub reducer : IsReducer m
+  pub cut : MachineParts
+  pub times : IsCutTimes m cuts cut
+  pub of_cut : IsReducer cut
+  pub split : IsSplitBy cut cuts size seam part rest
+
+-- a part that was taken out has been reduced since, and so was the rest, by so many interactions together; there is room for its agents
+pub record CanComeBack (m : MachineParts) (k : ℕ) (t : Taken) (now : MachineParts) : Type 0 where
+  pub rest : MachineParts
+  pub part : MachineParts
+  pub taken : IsTakenOut m t.cuts t.cells t.seam part rest
+  pub by_rest : ℕ
+  pub by_part : ℕ
+  pub rest_reduced : ReducesTo rest by_rest now
+  pub part_reduced : ReducesTo part by_part t.part
+  pub together : by_rest + by_part ≡ k
+  pub room : (c : CellClass) → agents_of now.program.tables c t.part.agents ≤ count_of now.vacant c

@@ -1,8 +1,6 @@
 // The agents of a part.
-ghost use Rattle.std.specs.Prelude.{◌≡◌, ◌<◌, ◌≤◌, length, IfOk, OnOk, Some, IsSome, slice_get};
-ghost use Rattle.in_net.specs.Parts.{symbol_in};
-ghost use Rattle.in_phases.specs.Branches.{IsBranch};
-ghost use Rattle.in_reducer.specs.Machines.{parts_of};
+ghost use Rattle.std.specs.Prelude.{◌≡◌, ◌<◌, ◌≤◌, length, IfOk, OnOk, Some, slice_get};
+ghost use Rattle.in_phases.specs.Branches.{HasAgent, IsBranch};
 
 use in_reducer::{CellNo, End, Reducer};
 use std::alloc::{AllocError, Global};
@@ -36,7 +34,7 @@ impl Branch {
     /// Takes an agent in, where it isn't yet.
     fn take_in(&mut self, reducer: &Reducer, cell: CellNo) -> Result<(), AllocError>
         requires branch { IsBranch reducer.now self.old }
-        requires there { IsSome (symbol_in (parts_of reducer.now) cell.0) }
+        requires there { HasAgent reducer.now cell.0 }
         ensures { OnOk result (IsBranch reducer.now self.new) }
     {
         let _ = reducer;
@@ -64,7 +62,7 @@ impl Branch {
     /// Takes in each agent whose principal port is joined to an auxiliary port of this one.
     fn take_behind(&mut self, reducer: &Reducer, cell: CellNo) -> Result<(), AllocError>
         requires branch { IsBranch reducer.now self.old }
-        requires there { IsSome (symbol_in (parts_of reducer.now) cell.0) }
+        requires there { HasAgent reducer.now cell.0 }
         ensures { OnOk result (IsBranch reducer.now self.new) }
     {
         reducer.pairs();

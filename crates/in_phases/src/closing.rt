@@ -1,34 +1,44 @@
 // Whether a branch can be split off.
-ghost use Rattle.std.specs.Prelude.{◌≡◌, ◌<◌, ◌≤◌, ◌+◌, ℕ, true, length, Some, IsSome, slice_get};
+ghost use Rattle.std.specs.Prelude.{◌≡◌, ◌<◌, ◌≤◌, ◌+◌, ℕ, true, length, Some, slice_get};
 ghost use Rattle.in_arena.specs.declared.content.CellNo.{CellNo as Number};
 ghost use Rattle.in_net.specs.Nets.{Point, Port, Free};
-ghost use Rattle.in_net.specs.Parts.{symbol_in};
-ghost use Rattle.in_phases.specs.Branches.{IsBranch};
+ghost use Rattle.in_phases.specs.Branches.{HasAgent, IsBranch, LeadsSomewhere};
 ghost use Rattle.in_reducer.specs.Cutting.{net_in};
-ghost use Rattle.in_reducer.specs.Machines.{parts_of};
 ghost use Rattle.in_reducer.specs.Parting.{CanSplit, IsInPart};
 ghost use Rattle.in_joining.specs.Shown.{point_of};
 
 use crate::branch::Branch;
 use in_reducer::{CellNo, End, Reducer};
 
+/// Whether this is the number of the first end of one of so many cuts, which came after `own` free ends.
+fn is_first_end(own: u32, cuts: u32, number: u32) -> bool
+    ensures { result ≡ true → (j : ℕ) × (j < cuts) × (number ≡ own + (j + j)) }
+{
+    if number < own {
+        return false;
+    }
+    let after = number - own;
+    let cut = after / 2;
+    after == 2 * cut && cut < cuts
+}
+
 /// Whether an end leads to an agent of the branch, or to the first end of one of so many cuts, which came after `own` free ends.
 fn is_inside(reducer: &Reducer, branch: &Branch, own: u32, cuts: u32, end: End) -> bool
     requires branch { IsBranch reducer.now branch.now }
-    requires there { IsThere reducer.now end }
+    requires there { LeadsSomewhere reducer.now end }
     ensures { result ≡ true → IsInPart branch.now.agents.items own cuts (point_of end) }
 {
     let _ = reducer;
     match end {
         End::Cell(cell, _) => branch.has(cell),
-        End::Free(number) => number >= own && (number - own) % 2 == 0 && (number - own) / 2 < cuts,
+        End::Free(number) => is_first_end(own, cuts, number),
     }
 }
 
 /// Whether all places of an agent lead inside.
 fn is_agent_closed(reducer: &Reducer, branch: &Branch, own: u32, cuts: u32, cell: CellNo) -> bool
     requires branch { IsBranch reducer.now branch.now }
-    requires there { IsSome (symbol_in (parts_of reducer.now) cell.0) }
+    requires there { HasAgent reducer.now cell.0 }
     ensures { result ≡ true → (i : ℕ) (q : Point ℕ) → (net_in reducer.now).partner (Port cell.0 i) ≡ Some q → IsInPart branch.now.agents.items own cuts q }
 {
     reducer.pairs();
@@ -61,6 +71,7 @@ fn are_ends_closed(reducer: &Reducer, branch: &Branch, own: u32, cuts: u32) -> b
     ensures { result ≡ true → (j : ℕ) (q : Point ℕ) → j < cuts → (net_in reducer.now).partner (Free (own + (j + j))) ≡ Some q → IsInPart branch.now.agents.items own cuts q }
 {
     reducer.pairs();
+    reducer.free_ends();
     for cut in 0..cuts {
         let end = reducer.partner(End::Free(own + 2 * cut));
         if !is_inside(reducer, branch, own, cuts, end) {

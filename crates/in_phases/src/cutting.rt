@@ -1,12 +1,9 @@
 // The wires that lead out of a part are cut, and cuts are undone.
-ghost use Rattle.std.specs.Prelude.{◌≡◌, ◌<◌, ◌≤◌, ◌+◌, ℕ, true, length, Some, IsSome};
-ghost use Rattle.in_joining.specs.Shown.{point_of};
-ghost use Rattle.in_net.specs.Parts.{IsPointOf, symbol_in};
-ghost use Rattle.in_phases.specs.Branches.{IsBranch};
+ghost use Rattle.std.specs.Prelude.{◌≡◌, ◌<◌, ◌≤◌, ◌+◌, ℕ, true};
+ghost use Rattle.in_phases.specs.Branches.{HasAgent, IsBranch, HasPlace};
 ghost use Rattle.in_reducer.specs.Cutting.{CanCut};
-ghost use Rattle.in_reducer.specs.Inside.{most_free};
-ghost use Rattle.in_reducer.specs.Machines.{MachineParts, parts_of};
-ghost use Rattle.in_reducer.specs.Parting.{IsInPart, ReducesTo};
+ghost use Rattle.in_reducer.specs.Machines.{MachineParts};
+ghost use Rattle.in_reducer.specs.Parting.{ReducesTo};
 ghost use Rattle.in_reducer.specs.PartingLaws.{IsCutTimes};
 ghost use Rattle.in_reducer.specs.Reducers.{IsReducer};
 
@@ -14,13 +11,13 @@ use crate::branch::Branch;
 use in_reducer::{CellNo, End, Reducer};
 
 /// The most free ends that a net may have.
-const MOST_FREE_ENDS: u32 = 65_536;
+pub(crate) const MOST_FREE_ENDS: u32 = 65_536;
 
 /// Whether the wire at this place of an agent leads out of the branch. That of a pair doesn't count, of which the branch has both agents or
 /// none.
 fn leads_out(reducer: &Reducer, branch: &Branch, cell: CellNo, place: u8) -> bool
     requires branch { IsBranch reducer.now branch.now }
-    requires there { IsPointOf (parts_of reducer.now) (Port (record { 0 = cell.0 }) place) }
+    requires there { HasPlace reducer.now cell.0 place }
     ensures { result ≡ true → CanCut reducer.now cell.0 place }
 {
     reducer.pairs();
@@ -34,9 +31,11 @@ fn leads_out(reducer: &Reducer, branch: &Branch, cell: CellNo, place: u8) -> boo
 /// ends are wanted.
 fn cut_place(reducer: &mut Reducer, branch: &Branch, cell: CellNo, place: u8) -> u32
     requires branch { IsBranch reducer.old branch.now }
-    requires there { IsPointOf (parts_of reducer.old) (Port (record { 0 = cell.0 }) place) }
+    requires there { HasPlace reducer.old cell.0 place }
     ensures cuts { IsCutTimes reducer.old result reducer.new }
+    ensures few { result ≤ 1 }
 {
+    reducer.pairs();
     if !leads_out(reducer, branch, cell, place) || reducer.free_ends() > MOST_FREE_ENDS - 2 {
         return 0;
     }
@@ -49,13 +48,13 @@ fn cut_place(reducer: &mut Reducer, branch: &Branch, cell: CellNo, place: u8) ->
 /// Cuts those of the wires at an agent that lead out of the branch, and says how many.
 fn cut_agent(reducer: &mut Reducer, branch: &Branch, cell: CellNo) -> u32
     requires branch { IsBranch reducer.old branch.now }
-    requires there { IsSome (symbol_in (parts_of reducer.old) cell.0) }
+    requires there { HasAgent reducer.old cell.0 }
     ensures cuts { IsCutTimes reducer.old result reducer.new }
-    ensures few { result ≤ 255 }
 {
     let mut cuts = 0;
     let places = u32::from(reducer.arity(cell)) + 1;
     for place in 0..places {
+        reducer.pairs();
         cuts += cut_place(reducer, branch, cell, place as u8);
     }
     cuts
@@ -68,7 +67,9 @@ pub(crate) fn cut_off(reducer: &mut Reducer, branch: &Branch) -> u32
 {
     let mut cuts = 0;
     for number in 0..branch.agents.len() {
-        cuts += cut_agent(reducer, branch, branch.agents[number]);
+        let more = cut_agent(reducer, branch, branch.agents[number]);
+        reducer.free_ends();
+        cuts += more;
     }
     cuts
 }
@@ -76,11 +77,11 @@ pub(crate) fn cut_off(reducer: &mut Reducer, branch: &Branch) -> u32
 /// Joins the ends of so many cuts again, the last one first: what was before the cuts is reduced to that by as many interactions as were done
 /// since.
 pub(crate) fn join_up(reducer: &mut Reducer, cuts: u32)
-    requires { (m cut : MachineParts) (k : ℕ) × IsReducer m × IsCutTimes m cuts cut × ReducesTo cut k reducer.old }
+    requires cut { (m : MachineParts) × (cut : MachineParts) × (k : ℕ) × IsReducer m × IsCutTimes m cuts cut × ReducesTo cut k reducer.old }
     ensures reduces { (m cut : MachineParts) (k : ℕ) → IsReducer m → IsCutTimes m cuts cut → ReducesTo cut k reducer.old → ReducesTo m k reducer.new }
     ensures vacant { reducer.new.vacant ≡ reducer.old.vacant }
 {
-    for _cut in 0..cuts {
+    for _undone in 0..cuts {
         reducer.join_last();
     }
 }

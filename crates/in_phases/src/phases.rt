@@ -47,9 +47,46 @@ fn alone(reducer: &mut Reducer, templates: &Templates, sharing: Sharing) -> Work
     }
 }
 
+/// Reduces a part in a thread of its own, and what is left in parts, at once. Says what both did.
+#[cycle(phases)]
+fn at_once<R: Threads>(
+    rt: &R,
+    alloc: Global,
+    part: &mut Reducer,
+    most: u64,
+    reducer: &mut Reducer,
+    templates: &Templates,
+    rest: Sharing,
+) -> (u64, Worked)
+    requires part_templates { AreTemplatesOf part.old.program templates.now }
+    requires templates { AreTemplatesOf reducer.old.program templates.now }
+    requires parts { 1 ≤ rest.parts }
+    requires share { rest.share ≤ most_cells }
+    requires floor { HasFree reducer.old rest.floor }
+    ensures part_reduces { ReducesTo part.old result.0 part.new }
+    ensures part_most { result.0 ≤ most }
+    ensures reduces { ReducesTo reducer.old result.1.interactions reducer.new }
+    ensures most { result.1.interactions ≤ rest.most }
+    ensures floor { HasFree reducer.new rest.floor }
+    ensures parts { result.1.parts ≤ rest.parts }
+{
+    join_mut(
+        rt,
+        &mut || -> u64
+            requires { AreTemplatesOf part.now.program templates.now }
+            ensures { ReducesTo part.entry.now result part.exit.now × (result ≤ most) }
+        { reduce_newest(part, templates, 0, most) },
+        &mut || -> Worked
+            requires { AreTemplatesOf reducer.now.program templates.now × (1 ≤ rest.parts) × (rest.share ≤ most_cells) × HasFree reducer.now rest.floor }
+            ensures { ReducesTo reducer.entry.now result.interactions reducer.exit.now × (result.interactions ≤ rest.most) × HasFree reducer.exit.now rest.floor × (result.parts ≤ rest.parts) }
+        { reduce_in_parts(rt, alloc, reducer, templates, rest) },
+    )
+}
+
 /// Reduces a net in parts, each in a thread of its own but the rest: newest pairs first. It is never refused: where memory or cells are wanted
 /// there are fewer parts, and where a thread can't be started its part is reduced after the rest. Which agents are whose is open. There is at
 /// least one part, and as many cells are free as are to stay so.
+#[cycle(phases)]
 pub fn reduce_in_parts<R: Threads>(
     rt: &R,
     alloc: Global,
@@ -87,11 +124,14 @@ pub fn reduce_in_parts<R: Threads>(
         floor: sharing.floor + taken.cells,
         most: sharing.most - own_most,
     };
-    let part = &mut taken.part;
-    let (one, others) = join_mut(
+    let (one, others) = at_once(
         rt,
-        &mut || reduce_newest(part, templates, 0, own_most),
-        &mut || reduce_in_parts(rt, alloc, reducer, templates, rest),
+        alloc,
+        &mut taken.part,
+        own_most,
+        reducer,
+        templates,
+        rest,
     );
     bring_back(reducer, taken);
     Worked {

@@ -1,15 +1,18 @@
 // A part is taken out of a net, and brought back.
-ghost use Rattle.std.specs.Prelude.{◌≡◌, ◌<◌, ◌≤◌, ◌+◌, ℕ, true, length, IfSome, OnOk, OnErr, IfOk};
+ghost use Rattle.std.specs.Prelude.{◌≡◌, ◌≤◌, ◌+◌, ℕ, true, length, MatchOption, IfSome};
+ghost use Rattle.in_arena.specs.declared.content.CellClass.{CellClass as Class};
+ghost use Rattle.in_compile.specs.Cells.{agents_of, count_of};
 ghost use Rattle.in_compile.specs.Templates.{AreTemplatesOf};
 ghost use Rattle.in_phases.specs.Branches.{IsBranch};
-ghost use Rattle.in_phases.specs.Phases.{HasFree, IsTaken, Takes};
+ghost use Rattle.in_phases.specs.Phases.{CanComeBack, HasFree, IsSplitBy, IsTakenOut};
+ghost use Rattle.in_reducer.specs.Inside.{most_free};
 ghost use Rattle.in_reducer.specs.Limiting.{most_cells};
 ghost use Rattle.in_reducer.specs.Machines.{MachineParts};
-ghost use Rattle.in_reducer.specs.Parting.{CanSplit, IsSplitOff, ReducesTo};
+ghost use Rattle.in_reducer.specs.Parting.{ReducesTo};
 
 use crate::branch::Branch;
 use crate::closing::is_closed;
-use crate::cutting::{cut_off, join_up};
+use crate::cutting::{MOST_FREE_ENDS, cut_off, join_up};
 use in_compile::Templates;
 use in_reducer::{CellClass, Reducer, Seam};
 use std::alloc::Global;
@@ -35,7 +38,8 @@ fn has_free(reducer: &Reducer, count: u32) -> bool
         && reducer.free(CellClass::Wide) >= count
 }
 
-/// Splits the branch off, where its wires are cut, with room for it to come back. Nothing where it can't be split off.
+/// Splits the branch off, where its wires are cut, with room for it to come back. Nothing where it can't be split off, and then the reducer is
+/// as it was.
 fn split<'a>(
     alloc: Global,
     reducer: &mut Reducer<'a>,
@@ -43,18 +47,29 @@ fn split<'a>(
     branch: &Branch,
     cuts: u32,
     share: u32,
-) -> Option<Taken<'a>> {
+) -> Option<Taken<'a>>
+    requires templates { AreTemplatesOf reducer.old.program templates.now }
+    requires branch { IsBranch reducer.old branch.now }
+    requires cuts { cuts + cuts ≤ length reducer.old.free }
+    requires share { share ≤ most_cells }
+    ensures { MatchOption result (reducer.new ≡ reducer.old) (λ t. (t.cuts ≡ cuts) × IsSplitBy reducer.old t.cuts t.cells t.seam t.part reducer.new) }
+{
+    let all = reducer.free_ends();
+    let own = all - 2 * cuts;
     let cells = branch.agents.len() + share as usize;
-    let own = reducer.free_ends() - 2 * cuts;
-    if cells > MOST_CELLS || !is_closed(reducer, branch, own, cuts) {
+    if cells > MOST_CELLS || all > MOST_FREE_ENDS || !is_closed(reducer, branch, own, cuts) {
         return None;
     }
     let cells = cells as u32;
-    let seam = Seam::new(alloc, own + 2 * cuts, cells).ok()?;
+    let Ok(seam) = Seam::new(alloc, all, cells) else {
+        return None;
+    };
     let agents = branch.agents.as_slice();
-    let part = reducer
-        .split_off(alloc, templates, agents, own, cuts, cells)
-        .ok()?;
+    let Ok(part) = reducer.split_off(alloc, templates, agents, own, cuts, cells) else {
+        return None;
+    };
+    reducer.pairs();
+    part.pairs();
     Some(Taken {
         part,
         seam,
@@ -63,8 +78,13 @@ fn split<'a>(
     })
 }
 
-/// Glues a part on again, and joins the ends of the cuts.
-pub(crate) fn bring_back(reducer: &mut Reducer, taken: Taken) {
+/// Glues a part on again, and joins the ends of the cuts: what was there before it was taken out is reduced to that by as many interactions as
+/// the part and the rest did together.
+pub(crate) fn bring_back(reducer: &mut Reducer, taken: Taken)
+    requires back { (m : MachineParts) × (k : ℕ) × CanComeBack m k taken reducer.old }
+    ensures reduces { (m : MachineParts) (k : ℕ) → CanComeBack m k taken.entry reducer.old → ReducesTo m k reducer.new }
+    ensures vacant { (c : Class) → count_of reducer.new.vacant c + agents_of reducer.old.program.tables c taken.entry.part.agents ≡ count_of reducer.old.vacant c }
+{
     let Taken {
         part,
         seam,
@@ -85,9 +105,21 @@ pub(crate) fn take_part<'a>(
     pairs: u32,
     share: u32,
     floor: u32,
-) -> Option<Taken<'a>> {
-    let branch = Branch::behind(alloc, reducer, pairs).ok()?;
+) -> Option<Taken<'a>>
+    requires templates { AreTemplatesOf reducer.old.program templates.now }
+    requires pairs { pairs ≤ length reducer.old.queue }
+    requires share { share ≤ most_cells }
+    requires floor { HasFree reducer.old floor }
+    ensures taken { MatchOption result (ReducesTo reducer.old 0 reducer.new × HasFree reducer.new floor) (λ t. IsTakenOut reducer.old t.cuts t.cells t.seam t.part reducer.new × HasFree reducer.new (floor + t.cells)) }
+    ensures templates { AreTemplatesOf reducer.new.program templates.now }
+    ensures part_templates { IfSome result (λ t. AreTemplatesOf t.part.program templates.now) }
+{
+    reducer.pairs();
+    let Ok(branch) = Branch::behind(alloc, reducer, pairs) else {
+        return None;
+    };
     let cuts = cut_off(reducer, &branch);
+    reducer.pairs();
     let Some(taken) = split(alloc, reducer, templates, &branch, cuts, share) else {
         join_up(reducer, cuts);
         return None;

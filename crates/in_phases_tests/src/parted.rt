@@ -1,20 +1,21 @@
 // A program that is reduced in parts as often as it goes.
-ghost use Rattle.std.specs.Prelude.{◌≡◌, IfSome};
+ghost use Rattle.std.specs.Prelude.{◌≡◌, ◌≤◌, IfSome};
 ghost use Rattle.in_compile.specs.Templates.{AreTemplatesOf};
+ghost use Rattle.in_phases.specs.Phases.{HasFree};
 
 use in_check::Checked;
 use in_compile::{Need, Templates, compile, need_of_net};
-use in_phases::{Sharing, reduce_in_parts};
-use in_reducer::Reducer;
+use in_phases::{Sharing, Worked, reduce_in_parts};
+use in_reducer::{CellClass, Reducer};
 use in_test_programs::Look;
 use std::alloc::Global;
 use std::thread::Threads;
 
-/// What a run came to: how many interactions, phases with more than one part, agents, pairs and free ends.
+/// What a run came to: how many interactions; phases with more than one part; agents, pairs and free ends.
 #[derive(Clone, Copy, Debug, PartialEq, Eq)]
 pub struct Came {
     pub interactions: u64,
-    pub phases: u32,
+    pub phases: u64,
     pub agents: u32,
     pub pairs: u32,
     pub free_ends: u32,
@@ -36,6 +37,7 @@ fn start<'a>(alloc: Global, program: &'a Checked, templates: &Templates) -> Opti
 /// Interactions first in, first out, so many at most. Says how many.
 fn turns(reducer: &mut Reducer, templates: &Templates, most: u64) -> u64
     requires { AreTemplatesOf reducer.old.program templates.now }
+    ensures { AreTemplatesOf reducer.new.program templates.now }
 {
     let mut interactions = 0;
     while interactions < most {
@@ -48,37 +50,67 @@ fn turns(reducer: &mut Reducer, templates: &Templates, most: u64) -> u64
     interactions
 }
 
-/// A program that is reduced in so many parts, by so many interactions in each phase, after so many ones in turn each time.
-#[derive(Drop)]
-pub struct Parted<R> {
-    pub rt: R,
+/// So many cells of each class are free, and no more than a thousand.
+fn floor_of(reducer: &Reducer) -> u32
+    ensures { HasFree reducer.now result }
+{
+    let small = reducer.free(CellClass::Small);
+    let large = reducer.free(CellClass::Large);
+    let wide = reducer.free(CellClass::Wide);
+    small.min(large).min(wide).min(1000)
+}
+
+/// How it is shared out: into so many parts, one at least, with so many interactions together; and how many are done in turn before.
+#[derive(Clone, Copy, Debug)]
+pub struct Shares {
     pub parts: u32,
     pub most: u64,
     pub between: u64,
+}
+
+/// A phase.
+fn phase<R: Threads>(
+    rt: &R,
+    alloc: Global,
+    reducer: &mut Reducer,
+    templates: &Templates,
+    shares: Shares,
+) -> Worked
+    requires { AreTemplatesOf reducer.old.program templates.now }
+    ensures { AreTemplatesOf reducer.new.program templates.now }
+{
+    let sharing = Sharing {
+        parts: shares.parts.max(1),
+        share: 100,
+        floor: floor_of(reducer),
+        most: shares.most,
+    };
+    reduce_in_parts(rt, alloc, reducer, templates, sharing)
+}
+
+/// A program that is reduced so, until no pair is left, or after 200 phases.
+#[derive(Drop)]
+pub struct Parted<R> {
+    pub rt: R,
+    pub shares: Shares,
 }
 
 impl<R: Threads + Drop> Look<Came> for Parted<R> {
     fn look(&self, alloc: Global, program: &Checked) -> Option<Came> {
         let templates = compile(alloc, program).ok()?;
         let mut reducer = start(alloc, program, &templates)?;
-        let mut interactions = 0;
-        let mut phases = 0;
+        let mut interactions = 0u64;
+        let mut phases = 0u64;
         for _phase in 0..200 {
             if reducer.pairs() == 0 {
                 break;
             }
-            interactions += turns(&mut reducer, &templates, self.between);
-            let sharing = Sharing {
-                parts: self.parts,
-                share: 100,
-                floor: 1000,
-                most: self.most,
-            };
-            let worked = reduce_in_parts(&self.rt, alloc, &mut reducer, &templates, sharing);
-            interactions += worked.interactions;
-            if worked.parts > 1 {
-                phases += 1;
-            }
+            let in_turn = turns(&mut reducer, &templates, self.shares.between);
+            let worked = phase(&self.rt, alloc, &mut reducer, &templates, self.shares);
+            interactions = interactions
+                .saturating_add(in_turn)
+                .saturating_add(worked.interactions);
+            phases = phases.saturating_add(u64::from(worked.parts > 1));
         }
         Some(Came {
             interactions,

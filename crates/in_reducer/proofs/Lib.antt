@@ -15,6 +15,7 @@ pub mod Public
 pub mod Putting
 pub mod Queued
 pub mod Queues
+pub mod Reduced
 pub mod Rejoined
 pub mod Requeued
 pub mod SetUp
@@ -33,3 +34,12 @@ pub mod Appended
 pub mod QueueBeside
 pub mod LiveCounted
 pub mod Short
+pub mod TwoEnds
+pub mod QueueSplit
+pub mod SplitBefore
+pub mod SplitCells
+pub mod SplitNets
+pub mod SplitKept
+pub mod Together
+pub mod Turns
+pub mod Glued

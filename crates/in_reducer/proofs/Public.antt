@@ -2,6 +2,7 @@
 pub use Rattle.in_reducer.proofs.AsMany.{as_many_of}
 pub use Rattle.in_reducer.proofs.Accepted.{few_ports, net_over_at, net_there_at, one_rule}
 pub use Rattle.in_reducer.proofs.Queues.{agent_numbers, all_classes, as_many, numbered, reducer_promised, reducer_queue}
+pub use Rattle.in_reducer.proofs.Reduced.{cuts_are_undone, parts_reduce_the_whole, reductions_go_on, stays_reduce, steps_reduce}
 pub use Rattle.in_reducer.proofs.Requeued.{other_pair, was_there}
 pub use Rattle.in_reducer.proofs.Started.{lives, queue_moved, symbol_back, symbol_moved}
 pub use Rattle.in_reducer.proofs.StepsOn

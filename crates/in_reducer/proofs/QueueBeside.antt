@@ -1,13 +1,13 @@
 -- The active pairs of two nets side by side are those of both.
-use Rattle.std.proofs.Common.{◌≡◌, ◌⊎◌, inl, inr, ◌<◌, ◌≤◌, ◌+◌, ℕ, zero, suc, Option, Some, None, IsSome, List, [], ◌∷◌, ◌++◌, length, map, slice_get, refl, sym, ap, subst, ◌∙◌, arith}
-use Rattle.std.proofs.lemmas.Option.{same_Some, slice_get_within}
+use Rattle.std.proofs.Common.{◌≡◌, ◌⊎◌, inl, inr, ◌+◌, ℕ, zero, suc, Some, IsSome, List, [], ◌∷◌, ◌++◌, length, map, slice_get, refl, sym, ap, subst, ◌∙◌, arith}
+use Rattle.std.proofs.lemmas.Option.{same_Some}
 use Rattle.in_base.proofs.Places.{kept_at}
 use Rattle.in_symbols.specs.Tables.{Tables}
 use Rattle.in_symbols.specs.declared.symbols.SymbolNo.{SymbolNo}
 use Rattle.in_net.specs.declared.nets.AgentNo.{AgentNo}
 use Rattle.in_net.specs.declared.nets.Point.TheVariants as code
 use Rattle.in_net.specs.ActivePairs.{IsActivePair}
-use Rattle.in_net.specs.Nets.{Point, Port, Free, Net, IsNet, net_of, signature_of}
+use Rattle.in_net.specs.Nets.{Point, Port, Free, IsNet, net_of, signature_of}
 use Rattle.in_net.specs.Parts.{Parts, symbol_in, partner_in}
 use Rattle.in_net.proofs.Public.{map_is, symbol_of, port_agent, port_place}
 use Rattle.in_interaction.specs.Queues.{IsQueueOf, agents_at, both, numbers_of}
@@ -34,14 +34,14 @@ after_at (y ∷ xs) ys k x e = ap (slice_get (y ∷ (xs ++ ys))) (let z : suc (l
 -- ---- pairs
 
 module _ (t : Tables) (n m w : Parts) (f : ℕ → ℕ) (ends : List (ℕ × ℕ)) (net_n : IsNet (signature_of t) (net_of n)) (net_m : IsNet (signature_of t) (net_of m)) (stand : StandBeside (net_of n) (net_of m) f ends (net_of w))
-    (opposed : AreOpposed t m) (qs rs : List (ℕ × ℕ)) (queue_n : IsQueueOf t n qs) (queue_m : IsQueueOf t m rs) where
+    (opposed : AreOpposed t m) where
   own_symbol : (x : ℕ) (s : SymbolNo) → symbol_in n x ≡ Some s → symbol_in w x ≡ Some s
   own_symbol x s e = symbol_is (symbol_in w x) s ((stand.beside.agents x s.0).1 (0, x, refl, symbol_number (symbol_in n x) s e))
 
   their_symbol : (x : ℕ) (s : SymbolNo) → symbol_in m x ≡ Some s → symbol_in w (f x) ≡ Some s
   their_symbol x s e = symbol_is (symbol_in w (f x)) s ((stand.beside.agents (f x) s.0).1 (1, x, refl, symbol_number (symbol_in m x) s e))
 
-  own_pair : (q : AgentNo × AgentNo) → IsActivePair t n q → IsActivePair t w q
+  pub own_pair : (q : AgentNo × AgentNo) → IsActivePair t n q → IsActivePair t w q
   own_pair q h = record {
     active = map_is (partner_in w (code.Port q.0 0)) (Port q.1.0 0) ((stand.beside.wires (Port q.0.0 0) (Port q.1.0 0)).1 (0, Port q.0.0 0, Port q.1.0 0, refl, refl, net_wire n (code.Port q.0 0) (code.Port q.1 0) h.active));
     first = h.first;
@@ -51,7 +51,7 @@ module _ (t : Tables) (n m w : Parts) (f : ℕ → ℕ) (ends : List (ℕ × ℕ
     order = h.order;
   }
 
-  their_pair : (q : ℕ × ℕ) → IsActivePair t m (agents_at q) → IsActivePair t w (agents_at (both f q))
+  pub their_pair : (q : ℕ × ℕ) → IsActivePair t m (agents_at q) → IsActivePair t w (agents_at (both f q))
   their_pair q h =
       let z = agents_at (both f q) in
       record {
@@ -69,10 +69,10 @@ module _ (t : Tables) (n m w : Parts) (f : ℕ → ℕ) (ends : List (ℕ × ℕ
       let same : k ≡ s.0 = same_Some k s.0 (sym g ∙ symbol_number (symbol_in w y) s h) in
       symbol_is (symbol_in a x) s (e ∙ ap (λ (z : ℕ). Some z) same)
 
-  abbrev Whose : AgentNo × AgentNo → Type 0
+  abbrev pub Whose : AgentNo × AgentNo → Type 0
   Whose q = IsActivePair t n q ⊎ ((z : ℕ × ℕ) × (both f z ≡ numbers_of q) × IsActivePair t m (agents_at z))
 
-  whose : (q : AgentNo × AgentNo) → IsActivePair t w q → Whose q
+  pub whose : (q : AgentNo × AgentNo) → IsActivePair t w q → Whose q
   whose q h = let r = (stand.beside.wires (Port q.0.0 0) (Port q.1.0 0)).0 (net_wire w (code.Port q.0 0) (code.Port q.1 0) h.active) in go r.0 r.1 r.2 r.3 r.4 r.5
     where
       own : (net_of n).partner (Port q.0.0 0) ≡ Some (Port q.1.0 0) → IsActivePair t n q
@@ -119,14 +119,14 @@ module _ (t : Tables) (n m w : Parts) (f : ℕ → ℕ) (ends : List (ℕ × ℕ
           )
       go (suc (suc i)) (Port x k) (Port y l) a b e = absurd (no_wire (Port x k) (Port y l) e)
 
-  own_lives : (q : ℕ × ℕ) → IsActivePair t n (agents_at q) → IsSome ((net_of n).symbol q.0)
+  pub own_lives : (q : ℕ × ℕ) → IsActivePair t n (agents_at q) → IsSome ((net_of n).symbol q.0)
   own_lives q h = there ((net_of n).symbol q.0) h.first.0 (symbol_number (symbol_in n q.0) h.first h.one)
 
-  lives : (q : ℕ × ℕ) → IsActivePair t m (agents_at q) → IsSome ((net_of m).symbol q.0) × IsSome ((net_of m).symbol q.1)
+  pub lives : (q : ℕ × ℕ) → IsActivePair t m (agents_at q) → IsSome ((net_of m).symbol q.0) × IsSome ((net_of m).symbol q.1)
   lives q h = (there ((net_of m).symbol q.0) h.first.0 (symbol_number (symbol_in m q.0) h.first h.one), there ((net_of m).symbol q.1) h.second.0 (symbol_number (symbol_in m q.1) h.second h.two))
 
   -- a pair of the one net is none of the other
-  differ : (q z : ℕ × ℕ) → IsActivePair t n (agents_at q) → IsActivePair t m (agents_at z) → both f z ≡ q → ⊥
+  pub differ : (q z : ℕ × ℕ) → IsActivePair t n (agents_at q) → IsActivePair t m (agents_at z) → both f z ≡ q → ⊥
   differ q z h g e = let zero_one : 0 ≡ 1 = (stand.apart 0 1 q.0 z.0 (own_lives q h) (lives z g).0 (sym (ap (λ (x : ℕ × ℕ). x.0) e))).0 in omega (arith, zero_one)
 
   same_pair : (x y : ℕ × ℕ) → IsActivePair t m (agents_at x) → IsActivePair t m (agents_at y) → both f x ≡ both f y → x ≡ y
@@ -135,32 +135,33 @@ module _ (t : Tables) (n m w : Parts) (f : ℕ → ℕ) (ends : List (ℕ × ℕ
       let two = (stand.apart 1 1 x.1 y.1 (lives x h).1 (lives y g).1 (ap (λ (z : ℕ × ℕ). z.1) e)).1 in
       λ i. (one i, two i)
 
-  once : StandOnce (qs ++ map (both f) rs)
-  once j k q e d = go (in_either qs (map (both f) rs) j q e) (in_either qs (map (both f) rs) k q d)
-    where
-      go : (slice_get qs j ≡ Some q) ⊎ ((l : ℕ) × (j ≡ length qs + l) × (slice_get (map (both f) rs) l ≡ Some q)) → (slice_get qs k ≡ Some q) ⊎ ((l : ℕ) × (k ≡ length qs + l) × (slice_get (map (both f) rs) l ≡ Some q)) → j ≡ k
-      go (inl a) (inl b) = queue_n.once j k q a b
-      go (inl a) (inr b) = let z = of_mapped (both f) rs b.0 q b.2 in absurd (differ q z.0 (queue_n.pairs j q a) (queue_m.pairs b.0 z.0 z.1) z.2)
-      go (inr a) (inl b) = let z = of_mapped (both f) rs a.0 q a.2 in absurd (differ q z.0 (queue_n.pairs k q b) (queue_m.pairs a.0 z.0 z.1) z.2)
-      go (inr a) (inr b) =
-          let x = of_mapped (both f) rs a.0 q a.2 in
-          let y = of_mapped (both f) rs b.0 q b.2 in
-          let same = same_pair x.0 y.0 (queue_m.pairs a.0 x.0 x.1) (queue_m.pairs b.0 y.0 y.1) (x.2 ∙ sym y.2) in
-          let l = queue_m.once a.0 b.0 y.0 (x.1 ∙ ap (λ (z : ℕ × ℕ). Some z) same) y.1 in
-          a.1 ∙ ap (λ (z : ℕ). length qs + z) l ∙ sym b.1
+  module _ (qs rs : List (ℕ × ℕ)) (queue_n : IsQueueOf t n qs) (queue_m : IsQueueOf t m rs) where
+    once : StandOnce (qs ++ map (both f) rs)
+    once j k q e d = go (in_either qs (map (both f) rs) j q e) (in_either qs (map (both f) rs) k q d)
+      where
+        go : (slice_get qs j ≡ Some q) ⊎ ((l : ℕ) × (j ≡ length qs + l) × (slice_get (map (both f) rs) l ≡ Some q)) → (slice_get qs k ≡ Some q) ⊎ ((l : ℕ) × (k ≡ length qs + l) × (slice_get (map (both f) rs) l ≡ Some q)) → j ≡ k
+        go (inl a) (inl b) = queue_n.once j k q a b
+        go (inl a) (inr b) = let z = of_mapped (both f) rs b.0 q b.2 in absurd (differ q z.0 (queue_n.pairs j q a) (queue_m.pairs b.0 z.0 z.1) z.2)
+        go (inr a) (inl b) = let z = of_mapped (both f) rs a.0 q a.2 in absurd (differ q z.0 (queue_n.pairs k q b) (queue_m.pairs a.0 z.0 z.1) z.2)
+        go (inr a) (inr b) =
+            let x = of_mapped (both f) rs a.0 q a.2 in
+            let y = of_mapped (both f) rs b.0 q b.2 in
+            let same = same_pair x.0 y.0 (queue_m.pairs a.0 x.0 x.1) (queue_m.pairs b.0 y.0 y.1) (x.2 ∙ sym y.2) in
+            let l = queue_m.once a.0 b.0 y.0 (x.1 ∙ ap (λ (z : ℕ × ℕ). Some z) same) y.1 in
+            a.1 ∙ ap (λ (z : ℕ). length qs + z) l ∙ sym b.1
 
-  pub queue_beside : IsQueueOf t w (qs ++ map (both f) rs)
-  queue_beside = record {
-    pairs = λ k q e. elim (in_either qs (map (both f) rs) k q e) [
-      | inl a ↦ own_pair (agents_at q) (queue_n.pairs k q a)
-      | inr a ↦ (let z = of_mapped (both f) rs a.0 q a.2 in subst (λ (v : ℕ × ℕ). IsActivePair t w (agents_at v)) z.2 (their_pair z.0 (queue_m.pairs a.0 z.0 z.1)))
-    ];
-    all = λ q h. elim (whose q h) [
-      | inl a ↦ (let k = queue_n.all q a in (k.0, kept_at qs (map (both f) rs) k.0 (numbers_of q) k.1))
-      | inr a ↦ (
-          let k = queue_m.all (agents_at a.0) a.2 in
-          (length qs + k.0, after_at qs (map (both f) rs) k.0 (numbers_of q) (to_mapped (both f) rs k.0 a.0 k.1 ∙ ap (λ (z : ℕ × ℕ). Some z) a.1))
-          )
-    ];
-    once = once;
-  }
+    pub queue_beside : IsQueueOf t w (qs ++ map (both f) rs)
+    queue_beside = record {
+      pairs = λ k q e. elim (in_either qs (map (both f) rs) k q e) [
+        | inl a ↦ own_pair (agents_at q) (queue_n.pairs k q a)
+        | inr a ↦ (let z = of_mapped (both f) rs a.0 q a.2 in subst (λ (v : ℕ × ℕ). IsActivePair t w (agents_at v)) z.2 (their_pair z.0 (queue_m.pairs a.0 z.0 z.1)))
+      ];
+      all = λ q h. elim (whose q h) [
+        | inl a ↦ (let k = queue_n.all q a in (k.0, kept_at qs (map (both f) rs) k.0 (numbers_of q) k.1))
+        | inr a ↦ (
+            let k = queue_m.all (agents_at a.0) a.2 in
+            (length qs + k.0, after_at qs (map (both f) rs) k.0 (numbers_of q) (to_mapped (both f) rs k.0 a.0 k.1 ∙ ap (λ (z : ℕ × ℕ). Some z) a.1))
+            )
+      ];
+      once = once;
+    }

@@ -18,6 +18,7 @@ use Rattle.in_compile.specs.Templates.{TemplateParts, TemplatesParts, AreTemplat
 use Rattle.in_net.specs.declared.nets.FreeEnd.{FreeEnd}
 use Rattle.in_reducer.specs.declared.body.Body.{Body}
 use Rattle.in_reducer.specs.declared.body.OwnEnd.{OwnEnd}
+use Rattle.in_reducer.specs.declared.tools.Tools.{Tools}
 use Rattle.in_reducer.specs.Inside.{AreTools, AreToolsFor, IsKept, IsOwnEnd, declared_as, most_ends, own_free, reducer_view}
 use Rattle.in_reducer.specs.Interacting.{named}
 use Rattle.in_reducer.specs.Limiting.{most_cells}
@@ -31,6 +32,15 @@ use Rattle.in_reducer.proofs.Started.{start_reducer}
 -- what is read as the start is the member of the program's net
 pub member_is : (p : Program) (ts : TemplatesParts) (m : MemberParts) → AreTemplatesOf p ts → m ≡ ts.start → IsMemberOf p.tables p.net m
 member_is p ts m of e = subst (IsMemberOf p.tables p.net) (sym e) of.start
+
+-- tools with room for the templates' members are for the program's rules
+pub tools_fit : (p : Program) (ts : TemplatesParts) (x : Tools) → AreTemplatesOf p ts → ((k : ℕ) (q : TemplateParts) (c : CellClass) → slice_get ts.templates k ≡ Some q → count_of q.member.need c ≤ count_of x.stock.room c) → AreToolsFor p x
+tools_fit p ts x of fit k r c e =
+    let l = slice_get_within p.rules k r e in
+    let q = at_index ts.templates k (let n = of.templates.count_is in omega (arith, l, n)) in
+    let need = (of.templates.each k r q.0 e q.1).member.need c in
+    let f = fit k q.0 c q.1 in
+    omega (arith, need, f)
 
 module _ (text : List ℕ) (x : Body) (accepted : IsAccepted text x.checked.now) (ts : TemplatesParts) (of : AreTemplatesOf x.checked.now ts) (m : MemberParts) (is : m ≡ ts.start) (cells : ℕ) (few : cells ≤ most_cells)
     (a : ArenaView) (same : a.cells ≡ cells) (empty : a.states ≡ replicate (length classes * cells) Vacant) (ns : List CellNo) (put : IsPut m ns a x.arena)
@@ -64,12 +74,7 @@ module _ (text : List ℕ) (x : Body) (accepted : IsAccepted text x.checked.now)
     }
 
     tools_for : AreToolsFor x.checked.now x.tools
-    tools_for k r c e =
-        let l = slice_get_within x.checked.now.rules k r e in
-        let q = at_index ts.templates k (let n = of.templates.count_is in omega (arith, l, n)) in
-        let need = (of.templates.each k r q.0 e q.1).member.need c in
-        let f = fit k q.0 c q.1 in
-        omega (arith, need, f)
+    tools_for = tools_fit x.checked.now ts x.tools of fit
 
     cells_there : x.arena.cells ≡ cells
     cells_there = cells_after text x.checked.now accepted m member ns a x.arena cells same empty put

@@ -73,7 +73,7 @@ module _ (a : ArenaView) (cells : ℕ) (same : a.cells ≡ cells) (empty : a.sta
   pub empty_none : NoneLeased a
   empty_none n l leased = elim (vacant_or_past n) [ inl e ↦ subst IsLeased e leased | inr h ↦ (let m = h.0 in omega (arith, l, m)) ]
 
-  no_word : (n : ℕ) → word_of (state_at a n) ≡ None
+  pub no_word : (n : ℕ) → word_of (state_at a n) ≡ None
   no_word n = elim (vacant_or_past n) [ inl e ↦ ap word_of e | inr h ↦ ap word_of h.1 ]
 
   no_end : (n i : ℕ) → end_at (state_at a n) i ≡ None

@@ -38,7 +38,7 @@ net_in t a b all cells many good = record {
 pub good_of : (t : Tables) (a : ArenaView) → IsNetIn t (at_rest a) → (n : ℕ) → IsGood t a n (state_at a n)
 good_of t a h n c s at w = h.classed c n s at (rest.word_at a n ∙ w)
 
-good_vacant : (t : Tables) (a : ArenaView) (n : ℕ) → IsGood t a n Vacant
+pub good_vacant : (t : Tables) (a : ArenaView) (n : ℕ) → IsGood t a n Vacant
 good_vacant t a n c s at w = absurd (let f : None ≡ Some s = w in cc)
 
 -- a retired cell, and others as they were

@@ -1,6 +1,6 @@
 -- The net of one reducer is added to that of another, beside it: how a part of a net that was reduced by itself comes back. That nets are
 -- reduced in parts is this project's own choice.
-use Rattle.std.specs.Prelude.{◌≡◌, ◌+◌, ◌≤◌, ℕ, List, ◌++◌, map}
+use Rattle.std.specs.Prelude.{◌≡◌, ◌+◌, ◌≤◌, ℕ, ◌++◌, map}
 use Rattle.in_arena.specs.declared.content.CellClass.{CellClass}
 use Rattle.in_compile.specs.Cells.{agents_of, count_of}
 use Rattle.in_interaction.specs.Queues.{both}

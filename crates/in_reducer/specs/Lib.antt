@@ -1,5 +1,6 @@
 pub mod Appending
 pub mod Cutting
+pub mod Gluing
 pub mod Inside
 pub mod Interacting
 pub mod Laws
@@ -16,3 +17,4 @@ pub mod Standing
 pub mod Starts
 pub mod Steps
 pub mod Templates
+pub mod Splitting

@@ -1,15 +1,15 @@
 -- A net in two parts: a part is split off from a reducer, as a reducer by itself that shares nothing with the rest, and glued on again. Wires
 -- between the two are cut before. That nets are reduced in parts is this project's own choice.
-use Rattle.std.specs.Prelude.{◌≡◌, ◌+◌, ◌<◌, ◌≤◌, ℕ, zero, suc, List, [], ◌∷◌, ◌++◌, length, map, Option, Some, IsSome, slice_get}
+use Rattle.std.specs.Prelude.{◌≡◌, ◌+◌, ◌-◌, ◌<◌, ℕ, zero, suc, nat_lt, cond, List, [], ◌∷◌, ◌++◌, length, map, Option, Some, IsSome, slice_get}
 use Rattle.in_arena.specs.declared.content.CellClass.{CellClass}
 use Rattle.in_arena.specs.declared.content.CellNo.{CellNo}
 use Rattle.in_net.specs.Nets.{Point, Port, Free}
 use Rattle.in_compile.specs.Cells.{agents_of, count_of}
-use Rattle.in_check.specs.Systems.{System, system_of}
+use Rattle.in_check.specs.Systems.{system_of}
 use Rattle.in_moving.specs.Laws.{ends_of}
-use Rattle.in_parts.specs.Leading.{IsCutDown, Leads, StandBeside}
+use Rattle.in_parts.specs.Leading.{Leads, StandBeside}
 use Rattle.in_reducer.specs.Cutting.{net_in}
-use Rattle.in_reducer.specs.Machines.{MachineParts, HasCells, parts_of}
+use Rattle.in_reducer.specs.Machines.{MachineParts, HasCells}
 
 abbrev pub names_of : MachineParts → List (List ℕ)
 names_of m = map (λ f. f.name) m.free
@@ -24,6 +24,11 @@ by_turns own j (suc w) = (1, j) ∷ (0, own + j) ∷ by_turns own (suc j) w
 -- of a net that had so many free ends before so many wires were cut: the first end of each cut is one of the part, the second one of the rest
 abbrev pub ends_of_two : ℕ → ℕ → List (ℕ × ℕ)
 ends_of_two own cuts = ends_of 0 0 own ++ by_turns own 0 cuts
+
+-- the number in it of this free end of the rest (part 0) or the part (part 1)
+abbrev pub place_of_two : ℕ → ℕ → ℕ → ℕ
+place_of_two own zero e = cond (nat_lt e own) e (own + suc ((e - own) + (e - own)))
+place_of_two own (suc i) e = own + (e + e)
 
 abbrev pub names_of_two : List (List ℕ) → List (List ℕ) → ℕ × ℕ → Option (List ℕ)
 names_of_two rest part (zero, e) = slice_get rest e

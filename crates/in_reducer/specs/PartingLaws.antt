@@ -1,5 +1,5 @@
 -- Laws on reducers that are reduced, cut, split and glued.
-use Rattle.std.specs.Prelude.{◌≡◌, ◌+◌, ◌≤◌, ℕ, zero, suc, length}
+use Rattle.std.specs.Prelude.{◌+◌, ◌≤◌, ℕ, zero, suc, length}
 use Rattle.in_reducer.specs.Cutting.{CanJoin, CutsAt, JoinsLast}
 use Rattle.in_reducer.specs.Machines.{MachineParts}
 use Rattle.in_reducer.specs.Parting.{IsGluedOn, IsSplitOff, ReducesTo}

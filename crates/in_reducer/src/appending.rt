@@ -32,7 +32,11 @@ fn numbers_from(alloc: Global, first: u32, count: u32) -> Result<Vec<u32>, Alloc
 }
 
 /// The pairs of a queue at the end of another, their agents under these numbers. No memory is taken.
-pub(crate) fn add_pairs(pairs: &VecDeque<(u32, u32)>, names: &[CellNo], queue: &mut VecDeque<(u32, u32)>)
+pub(crate) fn add_pairs(
+    pairs: &VecDeque<(u32, u32)>,
+    names: &[CellNo],
+    queue: &mut VecDeque<(u32, u32)>,
+)
     requires within { (k : ℕ) (q : ℕ × ℕ) → slice_get pairs.now.items k ≡ Some q → (q.0 < length names.now) × (q.1 < length names.now) }
     requires room { deque_len queue.old + deque_len pairs.now ≤ deque_capacity queue.old }
     ensures items { queue.new.items ≡ queue.old.items ++ map (both (name_in names.now)) pairs.now.items }
@@ -45,7 +49,7 @@ pub(crate) fn add_pairs(pairs: &VecDeque<(u32, u32)>, names: &[CellNo], queue: &
 }
 
 /// Free ends at the end of others. No memory is taken.
-fn add_free(more: &[OwnEnd], free: &mut Vec<OwnEnd>)
+pub(crate) fn add_free(more: &[OwnEnd], free: &mut Vec<OwnEnd>)
     requires room { vec_len free.old + length more.now ≤ vec_capacity free.old }
     ensures items { free.new.items ≡ free.old.items ++ more.now }
     ensures room { vec_capacity free.new ≡ vec_capacity free.old }

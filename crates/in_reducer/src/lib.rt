@@ -32,6 +32,7 @@ mod gluing;
 mod interacting;
 pub mod laws;
 mod looking;
+mod numbered;
 mod placing;
 mod queueing;
 mod reducer;

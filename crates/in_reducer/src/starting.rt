@@ -33,7 +33,11 @@ use std::collections::VecDeque;
 pub(crate) const MOST_ENDS: usize = 32;
 
 /// Tools for the program's rules.
-pub(crate) fn tools_for(alloc: Global, templates: &Templates, arena: &Arena) -> Result<Tools, AllocError>
+pub(crate) fn tools_for(
+    alloc: Global,
+    templates: &Templates,
+    arena: &Arena,
+) -> Result<Tools, AllocError>
     ensures tools { IfOk result (λ x. AreTools x arena.now) }
     ensures fit { IfOk result (λ x. (k : ℕ) (p : TemplateParts) (c : Class) → slice_get templates.now.templates k ≡ Some p → count_of p.member.need c ≤ count_of x.stock.room c) }
 {

@@ -1,6 +1,7 @@
 pub mod Alongside
 pub mod ListedAgents
 pub mod OneEnd
+pub mod Phased
 pub mod Public
 pub mod Rounded
 pub mod SameKind

@@ -1,7 +1,8 @@
 //! A machine over raw cells, and rounds of several workers on its queue.
 //!
 //! A `Machine` is a reducer with its templates, and keeps besides that its program reaches the net; that is all that it adds. Its `round`
-//! is the reducer's, and its `phase` reduces the net in parts, as `in_phases` does. `specs/Same.antt` says when two machines differ in numbers alone. `in_run` gives the machine out again.
+//! is the reducer's, and its `phase` reduces the net in parts, as `in_phases` does. `specs/Same.antt` says when two machines differ in
+//! numbers alone. `in_run` gives the machine out again.
 #![tactic(auto)]
 
 mod looking;

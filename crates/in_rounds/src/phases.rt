@@ -15,12 +15,7 @@ use std::thread::Threads;
 ///
 /// There is at least one part, and so many cells are free. It is never refused: where memory is wanted there are fewer parts, and where a
 /// thread can't be started the caller does its part. It waits for its threads.
-pub fn phase<R: Threads>(
-    rt: &R,
-    alloc: Global,
-    machine: &mut Machine,
-    sharing: Sharing,
-) -> Worked
+pub fn phase<R: Threads>(rt: &R, alloc: Global, machine: &mut Machine, sharing: Sharing) -> Worked
     requires parts { 1 ≤ sharing.parts }
     requires share { sharing.share ≤ most_cells }
     requires floor { HasFree machine.old sharing.floor }
@@ -28,11 +23,7 @@ pub fn phase<R: Threads>(
     ensures most { result.interactions ≤ sharing.most }
     ensures free { HasFree machine.new sharing.floor }
 {
-    reduce_in_parts(
-        rt,
-        alloc,
-        &mut machine.reducer,
-        &machine.templates,
-        sharing,
-    )
+    let worked = reduce_in_parts(rt, alloc, &mut machine.reducer, &machine.templates, sharing);
+    machine.reducer.pairs();
+    worked
 }

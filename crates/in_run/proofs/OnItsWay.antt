@@ -9,7 +9,7 @@ use Rattle.in_compile.specs.Cells.{agents_of, count_of}
 use Rattle.in_run.specs.declared.limits.Limits.{Limits}
 use Rattle.in_run.specs.declared.running.RunFault.TheVariants.{Start, Memory}
 use Rattle.in_run.specs.declared.stops.Stop.{Stop}
-use Rattle.in_run.specs.Advancing.{RunsAnyhow, no_step, then_any}
+use Rattle.in_run.specs.Advancing.{RunsAnyhow, no_step, then_any, then_phase}
 use Rattle.in_run.specs.Laws.{TurnsAreAllowed}
 use Rattle.in_run.specs.Outcomes.{ReachesWith, RunsInTurn, RunsTo}
 use Rattle.in_run.specs.Stops.{GoesOn, IsStop}
@@ -37,15 +37,19 @@ runs_anyhow m o (suc k) (then_step _ n _ _ before s) = then_any m n o k 0 (runs_
 program_kept : (m n : MachineParts) (k : ℕ) → RunsAnyhow m k n → n.program ≡ m.program
 program_kept m n zero (no_step _) = refl
 program_kept m o (suc k) (then_any _ n _ _ i before s) = s.step.program ∙ program_kept m n k before
+program_kept m o _ (then_phase _ n _ k j before p) = p.program ∙ program_kept m n k before
 
 cells_kept : (m n : MachineParts) (k cells : ℕ) → RunsAnyhow m k n → HasCells cells m → HasCells cells n
 cells_kept m n zero cells (no_step _) h = h
 cells_kept m o (suc k) cells (then_any _ n _ _ i before s) h = λ c.
     subst (λ (z : Program). count_of o.vacant c + agents_of z.tables c o.agents ≡ cells) (sym s.step.program) (s.cells c ∙ cells_kept m n k cells before h c)
+cells_kept m o _ cells (then_phase _ n _ k j before p) h = λ c.
+    subst (λ (z : Program). count_of o.vacant c + agents_of z.tables c o.agents ≡ cells) (sym p.program) (p.cells c ∙ cells_kept m n k cells before h c)
 
 machine_kept : (m n : MachineParts) (k : ℕ) → RunsAnyhow m k n → IsMachine m → IsMachine n
 machine_kept m n zero (no_step _) h = h
 machine_kept m o (suc k) (then_any _ n _ _ i before s) h = machine_on n o i (machine_kept m n k before h) s
+machine_kept m o _ (then_phase _ n _ k j before p) h = p.machine
 
 reached_on : (m n : MachineParts) (j k : ℕ) → RunsAnyhow m k n → IsMachine m → IsReachedBy (plain_of m) j → IsReachedBy (plain_of n) (k + j)
 reached_on m n j zero (no_step _) h reached = subst (λ z. IsReachedBy (plain_of m) z) (let z : j ≡ 0 + j = omega arith in z) reached
@@ -53,6 +57,8 @@ reached_on m o j (suc k) (then_any _ n _ _ i before s) h reached =
     subst (λ z. IsReachedBy (plain_of o) z) (let z : suc (k + j) ≡ suc k + j = omega arith in z)
     ((steps_under_names (plain_of n) (plain_of o) (agents_at s.pair).0 (agents_at s.pair).1 s.name (machine_kept m n k before h).plain s.active s.step).1 (k + j)
     (reached_on m n j k before h reached))
+reached_on m o j _ (then_phase _ n _ k i before p) h reached =
+    subst (λ z. IsReachedBy (plain_of o) z) (let z : i + (k + j) ≡ i + k + j = omega arith in z) (p.reached (k + j) (reached_on m n j k before h reached))
 
 -- the interactions of a run are some more
 reaches_on : (p : Program) (cells j k : ℕ) (m n : MachineParts) → ReachesWith p cells j m → RunsAnyhow m k n → ReachesWith p cells (k + j) n

@@ -138,7 +138,11 @@ fn by_parts<R: Threads>(
     };
     let agents = machine.agents();
     let worked = phase(rt, alloc, machine, sharing);
-    pace.note(worked, agents, interactions.saturating_add(worked.interactions));
+    pace.note(
+        worked,
+        agents,
+        interactions.saturating_add(worked.interactions),
+    );
     worked.interactions
 }
 

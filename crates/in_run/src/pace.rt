@@ -4,7 +4,7 @@ ghost use Rattle.std.specs.Prelude.{◌≡◌, ◌≤◌, IfSome};
 ghost use Rattle.in_phases.specs.Phases.{HasFree};
 ghost use Rattle.in_reducer.specs.Limiting.{most_cells};
 
-use crate::limits::Limits;
+use crate::limits::{Limits, MOST_CELLS};
 use in_rounds::{CellClass, Machine, Sharing, Worked};
 
 /// From how many interactions on a phase is tried: a shorter run is over before it could pay, and the pairs are spread far by then.
@@ -27,6 +27,7 @@ const LEAST_SPARE: u32 = 16;
 
 /// How many interactions a part does at most, for each agent of the net, and besides: one that runs on alone is stopped then.
 const MOST_FOR_EACH_AGENT: u64 = 16;
+
 const MOST_BESIDES: u64 = 32_768;
 
 /// What a phase costs beside copying agents, for each thread: as much as so many interactions.
@@ -105,7 +106,7 @@ pub(crate) fn sharing(machine: &Machine, limits: Limits, left: u64) -> Option<Sh
     let most = MOST_FOR_EACH_AGENT * u64::from(machine.agents()) + MOST_BESIDES;
     Some(Sharing {
         parts,
-        share: spare / parts,
+        share: MOST_CELLS.min(spare / parts),
         floor,
         most: left.min(most * u64::from(parts)),
     })

@@ -1,8 +1,7 @@
-use Rattle.std.proofs.Common.{◌≡◌, ◌<◌, ◌≤◌, ◌+◌, ℕ, zero, suc, Some, List, [], ◌∷◌, ◌++◌, length, map, take, slice_get, refl, sym, ap, subst, ◌∙◌, length-append, arith}
+use Rattle.std.proofs.Common.{◌≡◌, ◌<◌, ℕ, zero, suc, Some, List, [], ◌∷◌, ◌++◌, length, map, take, slice_get, refl, sym, ap, subst, ◌∙◌, length-append, arith}
 use Rattle.std.specs.Vec.{with_items}
 use Rattle.std.specs.Prelude.{slice_index_or}
 use Rattle.std.proofs.lemmas.List.{with_items_is}
-use Rattle.std.proofs.lemmas.Option.{get_or_from_slice_get}
 use Rattle.in_arena.specs.declared.content.CellNo.{CellNo}
 use Rattle.in_arena.specs.declared.content.End.{End}
 use Rattle.in_interaction.specs.Queues.{both}
@@ -10,6 +9,7 @@ use Rattle.in_moving.specs.Copying.{AreClosed, HasCellsFor, IsCopied, IsEndWithi
 use Rattle.in_reducer.specs.declared.body.OwnEnd.{OwnEnd}
 use Rattle.in_reducer.proofs.Appended as appended
 use Rattle.in_reducer.proofs.StillNet as still
+use Rattle.in_reducer.proofs.Together as together
 use Rattle.in_reducer.proofs.body.Body.add.Goals as goal
 
 pub copy-requires-clause-closed : goal.copy-requires-clause-closed
@@ -19,7 +19,7 @@ copy-requires-clause-closed c =
     let k = c.requires.kept.all.net in
     let l = c.requires.other.all.net in
     subst (λ (z : List CellNo). AreClosed o.arena z (length c.as_slice-2.result.now)) (sym c.as_slice.ensures.value)
-    (appended.closed r o k l c.requires.can c.args.taken.now.agents.items c.requires.agents (length c.as_slice-2.result.now) (ap length c.as_slice-2.ensures.value ∙ c.requires.many))
+    (together.closed r o k l c.requires.can c.args.taken.now.agents.items c.requires.agents (length c.as_slice-2.result.now) (ap length c.as_slice-2.ensures.value ∙ c.requires.many))
 
 pub copy-requires-clause-room : goal.copy-requires-clause-room
 copy-requires-clause-room c =
@@ -27,7 +27,7 @@ copy-requires-clause-room c =
     let o = c.args.other.now in
     let k = c.requires.kept.all.net in
     let l = c.requires.other.all.net in
-    subst (λ (z : List CellNo). HasCellsFor o.arena z r.arena) (sym c.as_slice.ensures.value) (appended.room r o k l c.requires.can c.args.taken.now.agents.items c.requires.agents c.requires.kept.none)
+    subst (λ (z : List CellNo). HasCellsFor o.arena z r.arena) (sym c.as_slice.ensures.value) (together.room r o k l c.requires.can c.args.taken.now.agents.items c.requires.agents c.requires.kept.none)
 
 -- what holds of each element holds by number
 by_number : {X : Type 0} (P : X → Type 0) (xs : List X) → ((j : ℕ) (e : X) → slice_get xs j ≡ Some e → P e) → (k : ℕ) (d : X) → k < length xs → P (slice_index_or xs k d)
@@ -52,7 +52,7 @@ add_ends-requires-clause-within c =
     let same : take c.len-more.result c.as_slice-3.result.now ≡ take (length o.free.items) o.ends.items = (λ i. take (more i) (c.as_slice-3.ensures.value i)) in
     by_number (IsEndWithin (length c.as_slice-4.result.now) (length c.as_slice-5.result.now)) (take c.len-more.result c.as_slice-3.result.now)
     (λ j e at. subst (λ (z : ℕ). IsEndWithin z (length c.as_slice-5.result.now) e) (sym many) (subst (λ (z : ℕ). IsEndWithin (length o.arena.states) z e) (sym numbered)
-    (appended.end_within r o k l c.requires.can j e (ap (λ (z : List End). slice_get z j) (sym (same ∙ ap (λ (z : ℕ). take z o.ends.items) (sym (appended.many_more r o k l c.requires.can)))) ∙ at))))
+    (together.end_within o l j e (ap (λ (z : List End). slice_get z j) (sym (same ∙ ap (λ (z : ℕ). take z o.ends.items) (sym (together.many_free o l)))) ∙ at))))
 
 pub add_pairs-requires-clause-within : goal.add_pairs-requires-clause-within
 add_pairs-requires-clause-within c = λ j q at.
@@ -67,7 +67,7 @@ add_pairs-requires-clause-within c = λ j q at.
     let long : length ns ≡ length x.names.items = c.copy.ensures.names ∙ ap length c.as_mut_slice.ensures.value in
     let items : (with_items x.names ns).items ≡ ns = with_items_is x.names ns (let ok = x.names.ok.0 in omega (arith, ok, long)) in
     let many : length c.as_slice-7.result.now ≡ length o.arena.states = ap length (c.as_slice-7.ensures.value ∙ items) ∙ long ∙ c.requires.names in
-    let h = appended.pair_within r o k l c.requires.can j q at in
+    let h = together.pair_within o l j q at in
     (subst (λ (z : ℕ). q.0 < z) (sym many) h.0, subst (λ (z : ℕ). q.1 < z) (sym many) h.1)
     )
 

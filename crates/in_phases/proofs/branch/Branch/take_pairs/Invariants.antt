@@ -1,0 +1,5 @@
+use Rattle.in_phases.specs.Branches.{IsBranch}
+use Rattle.in_phases.proofs.branch.Branch.take_pairs.Given as goal
+
+abbrev pub invariant-loop-number : goal.invariant-loop-number
+invariant-loop-number l = IsBranch l.reducer l.self

@@ -1,0 +1,65 @@
+use Rattle.std.proofs.Common.{◌≡◌, ◌+◌, ℕ, ap, sym, subst, ◌∙◌, arith}
+use Rattle.in_arena.specs.declared.content.CellClass.TheVariants.{Small}
+use Rattle.in_check.specs.Programs.{Program}
+use Rattle.in_compile.specs.Cells.{agents_of}
+use Rattle.in_reducer.specs.Parting.{ReducesTo}
+use Rattle.in_reducer.proofs.Public.{reductions_go_on}
+use Rattle.in_phases.proofs.Coming.{comes_reduced}
+use Rattle.in_phases.proofs.phases.+phases.Goals as goal
+
+pub reduce_in_parts-returns-in_default-clause-reduces : goal.reduce_in_parts-returns-in_default-clause-reduces
+reduce_in_parts-returns-in_default-clause-reduces g t c =
+    let k = c.alone-in_default.result.interactions in
+    let n = c.alone-in_default.new.reducer in
+    subst (λ (z : ℕ). ReducesTo c.args.reducer.now z n) (let z : 0 + k ≡ k = omega arith in z)
+    (reductions_go_on c.args.reducer.now c.take_part.new.reducer n 0 k c.in_default.ensures.taken.0 c.alone-in_default.ensures.reduces)
+
+pub reduce_in_parts-overflow_add-rest : goal.reduce_in_parts-overflow_add-rest
+reduce_in_parts-overflow_add-rest g t c =
+    let taken = c.in-Some.ensures.taken in
+    let of = taken.0.split.of_rest.cells in
+    let free = taken.1 Small in
+    let all = of.2 Small in
+    let few = of.1 in
+    omega (arith, free, all, few)
+
+pub reduce_in_parts-bring_back-requires : goal.reduce_in_parts-bring_back-requires
+reduce_in_parts-bring_back-requires g t c =
+    let m = c.args.reducer.now in
+    let taken = c.in-Some.ensures.taken in
+    let i = c.at_once-one.result.1.interactions in
+    let j = c.at_once-one.result.0 in
+    record {
+      back = (
+        m,
+        i + j,
+        comes_reduced m c.take_part.new.reducer c.at_once-one.new.reducer c.at_once-one.new.part c.in-Some.taken i j c.args.sharing.floor taken.0 c.at_once-one.ensures.reduces c.at_once-one.ensures.part_reduces
+            c.at_once-one.ensures.floor,
+      );
+    }
+
+pub reduce_in_parts-returns-clause-reduces : goal.reduce_in_parts-returns-clause-reduces
+reduce_in_parts-returns-clause-reduces g t c =
+    let m = c.args.reducer.now in
+    let taken = c.in-Some.ensures.taken in
+    let i = c.at_once-one.result.1.interactions in
+    let j = c.at_once-one.result.0 in
+    subst (λ (z : ℕ). ReducesTo m z c.bring_back.new.reducer) (let z : i + j ≡ j + i = omega arith in z)
+    (c.bring_back.ensures.reduces m (i + j)
+    (comes_reduced m c.take_part.new.reducer c.at_once-one.new.reducer c.at_once-one.new.part c.in-Some.taken i j c.args.sharing.floor taken.0 c.at_once-one.ensures.reduces c.at_once-one.ensures.part_reduces
+    c.at_once-one.ensures.floor))
+
+pub reduce_in_parts-returns-clause-floor : goal.reduce_in_parts-returns-clause-floor
+reduce_in_parts-returns-clause-floor g t c = λ d.
+    (
+    let taken = c.in-Some.ensures.taken in
+    let back = c.bring_back.ensures.vacant d in
+    let free = c.at_once-one.ensures.floor d in
+    let many = c.at_once-one.ensures.part_reduces.cells d in
+    let size = taken.0.split.split.part_cells d in
+    let split = taken.0.split.split.two in
+    let rest = c.at_once-one.ensures.reduces.program in
+    let part = c.at_once-one.new.part in
+    let tables = ap (λ (p : Program). agents_of p.tables d part.agents) (rest ∙ split.program_rest ∙ sym split.program_part) in
+    omega (arith, back, free, many, size, tables)
+    )

@@ -1,0 +1,224 @@
+use Rattle.std.proofs.Common.{◌≡◌, ◌≤◌, ◌+◌, ◌*◌, ◌++◌, ℕ, List, length, map, take, refl, sym, ap, subst, ◌∙◌, arith}
+use Rattle.std.specs.Prelude.{All}
+use Rattle.std.specs.Vec.{with_items}
+use Rattle.std.proofs.lemmas.List.{length-take-le, with_items_is}
+use Rattle.in_arena.specs.Classes.{classes}
+use Rattle.in_arena.specs.declared.content.CellNo.{CellNo}
+use Rattle.in_arena.specs.declared.content.End.{End}
+use Rattle.in_interaction.specs.Queues.{both}
+use Rattle.in_moving.specs.Copying.{AreClosed, HasCellsFor, IsCopied, IsEndWithin, moved_end, name_in, number_in}
+use Rattle.in_moving.specs.TakingOut.{AreLedTo, AreNumberedAnew}
+use Rattle.in_reducer.specs.declared.body.Body.{Body}
+use Rattle.in_reducer.specs.declared.body.OwnEnd.{OwnEnd}
+use Rattle.in_reducer.specs.Gluing.{IsFreeWithin, glued}
+use Rattle.in_reducer.specs.Inside.{IsKept, KeepsNet}
+use Rattle.in_reducer.proofs.AtRest.{as_many}
+use Rattle.in_reducer.proofs.Glued as glue
+use Rattle.in_reducer.proofs.StillNet as still
+use Rattle.in_reducer.proofs.Together as together
+use Rattle.in_reducer.proofs.body.Body.glue.Goals as goal
+
+-- how many cells there are
+all_cells : (r : Body) → IsKept r → length r.arena.states ≡ length classes * r.arena.cells
+all_cells r k = sym (as_many r.arena) ∙ k.all.net.net.all
+
+pub number_anew-requires-clause-led : goal.number_anew-requires-clause-led
+number_anew-requires-clause-led c =
+    let r = c.args.self.now in
+    subst (λ (z : List End). AreLedTo r.arena (take (c.args.own + c.args.cuts) z)) (sym c.as_slice.ensures.value) (glue.are_led_to r c.requires.kept.all.net (c.args.own + c.args.cuts) (sym c.requires.rest))
+
+pub copy-requires-clause-closed : goal.copy-requires-clause-closed
+copy-requires-clause-closed c =
+    let r = c.args.self.now in
+    let o = c.args.part.now in
+    let k = c.requires.kept.all.net in
+    let l = c.requires.part.all.net in
+    subst (λ (z : List CellNo). AreClosed o.arena z (length c.as_slice-4.result.now)) (sym c.as_slice-3.ensures.value)
+    (together.closed r o k l c.requires.can c.list_live.new.cells.items c.list_live.ensures (length c.as_slice-4.result.now) (ap length c.as_slice-4.ensures.value ∙ c.list_part_numbers.ensures.many ∙ sym c.requires.cuts))
+
+pub copy-requires-clause-room : goal.copy-requires-clause-room
+copy-requires-clause-room c =
+    let r = c.args.self.now in
+    let o = c.args.part.now in
+    let k = c.requires.kept.all.net in
+    let l = c.requires.part.all.net in
+    let enough : HasCellsFor o.arena c.list_live.new.cells.items r.arena = together.room r o k l c.requires.can c.list_live.new.cells.items c.list_live.ensures c.requires.kept.none in
+    subst (λ (z : List CellNo). HasCellsFor o.arena z c.number_anew.new.arena) (sym c.as_slice-3.ensures.value) (λ d. (let e = enough d in let f = c.number_anew.ensures.free d in omega (arith, e, f)))
+
+-- what the lists are glued of, whatever slices they were
+is_glued : (r o : Body) (own cuts : ℕ) → length r.free.items ≡ own + cuts → length o.free.items ≡ cuts → (rest part new : List OwnEnd) → rest ≡ r.free.items → part ≡ o.free.items →
+    ((n : ℕ) → length rest ≡ n + length part → new ≡ glued n rest part) → new ≡ glued own r.free.items o.free.items
+is_glued r o own cuts many_rest many_part rest part new of_rest of_part h =
+    h own (ap length of_rest ∙ many_rest ∙ ap (λ (z : ℕ). own + z) (sym many_part ∙ sym (ap length of_part))) ∙ (λ i. glued own (of_rest i) (of_part i))
+
+are_glued : (r o : Body) → KeepsNet r → KeepsNet o → (own cuts : ℕ) → length r.free.items ≡ own + cuts → length o.free.items ≡ cuts → (rest_numbers part_numbers : List ℕ) (names : List CellNo) (rest part : List End) (of_rest of_part : List ℕ) (named : List CellNo) (ends sides list : List End) →
+    rest ≡ r.ends.items → part ≡ o.ends.items → of_rest ≡ rest_numbers → of_part ≡ part_numbers → named ≡ names →
+    ((n : ℕ) → length (take (own + cuts) rest) ≡ n + length (take cuts part) → ends ≡ glued n (map (moved_end (λ z. z) (number_in of_rest)) (take (own + cuts) rest)) (map (moved_end (name_in named) (number_in of_part)) (take cuts part))) →
+    list ≡ ends ++ sides →
+    list ≡ glued own (map (moved_end (λ z. z) (number_in rest_numbers)) (take (own + cuts) r.ends.items)) (map (moved_end (name_in names) (number_in part_numbers)) (take cuts o.ends.items)) ++ sides
+are_glued r o k l own cuts many_rest many_part rest_numbers part_numbers names rest part of_rest of_part named ends sides list is_rest is_part is_of_rest is_of_part is_named h is_list =
+    is_list ∙ ap (λ zs. zs ++ sides)
+    (h own (
+    let e = ap length is_rest in let f = ap length is_part in let g = k.ends in let i = l.ends in
+    let a = length-take-le (own + cuts) rest (let j = many_rest in omega (arith, e, g, j)) in let b = length-take-le cuts part (let j = many_part in omega (arith, f, i, j)) in
+    omega (arith, a, b)
+    )
+    ∙ (λ i. glued own (map (moved_end (λ z. z) (number_in (is_of_rest i))) (take (own + cuts) (is_rest i))) (map (moved_end (name_in (is_named i)) (number_in (is_of_part i))) (take cuts (is_part i)))))
+
+pub glue_ends-requires-clause-part : goal.glue_ends-requires-clause-part
+glue_ends-requires-clause-part c =
+    let r = c.args.self.now in
+    let o = c.args.part.now in
+    let k = c.requires.kept.all.net in
+    let l = c.requires.part.all.net in
+    let x = c.args.seam in
+    let ns = c.copy.new.names in
+    let long : length ns ≡ length x.names.items = c.copy.ensures.names ∙ ap length c.as_mut_slice.ensures.value in
+    let items : (with_items x.names ns).items ≡ ns = with_items_is x.names ns (let ok = x.names.ok.0 in omega (arith, ok, long)) in
+    let room : length o.arena.states ≤ length ns = (let ok = x.names.ok.0 in let e = all_cells o c.requires.part in let f = x.names_there in let g = c.requires.cells in omega (arith, ok, e, f, g, long)) in
+    let named : c.as_slice-7.result.now ≡ ns = c.as_slice-7.ensures.value ∙ items in
+    subst (λ (z : List End). All (IsEndWithin (length c.as_slice-7.result.now) (length c.as_slice-8.result.now)) (take c.args.cuts z)) (sym c.as_slice-9.ensures.value)
+    (subst (λ (z : ℕ). All (IsEndWithin (length c.as_slice-7.result.now) z) (take c.args.cuts o.ends.items)) (sym (ap length c.as_slice-8.ensures.value ∙ c.list_part_numbers.ensures.many))
+    (together.all_within o l (length c.as_slice-7.result.now) c.args.cuts (let e = ap length named in omega (arith, e, room)) (sym c.requires.cuts)))
+
+pub glue_ends-requires-clause-rest : goal.glue_ends-requires-clause-rest
+glue_ends-requires-clause-rest c =
+    let r = c.args.self.now in
+    subst (λ (z : List End). All (IsFreeWithin (length c.as_slice-10.result.now)) (take (c.args.own + c.args.cuts) z)) (sym c.as_slice.ensures.value)
+    (subst (λ (z : ℕ). All (IsFreeWithin z) (take (c.args.own + c.args.cuts) r.ends.items)) (sym (ap length c.as_slice-10.ensures.value ∙ c.list_rest_numbers.ensures.many))
+    (together.all_free_within r c.requires.kept.all.net (c.args.own + c.args.cuts) (sym c.requires.rest)))
+
+pub add_pairs-requires-clause-within : goal.add_pairs-requires-clause-within
+add_pairs-requires-clause-within c = λ j q at.
+    (
+    let r = c.args.self.now in
+    let o = c.args.part.now in
+    let k = c.requires.kept.all.net in
+    let l = c.requires.part.all.net in
+    let x = c.args.seam in
+    let ns = c.copy.new.names in
+    let long : length ns ≡ length x.names.items = c.copy.ensures.names ∙ ap length c.as_mut_slice.ensures.value in
+    let items : (with_items x.names ns).items ≡ ns = with_items_is x.names ns (let ok = x.names.ok.0 in omega (arith, ok, long)) in
+    let room : length o.arena.states ≤ length ns = (let ok = x.names.ok.0 in let e = all_cells o c.requires.part in let f = x.names_there in let g = c.requires.cells in omega (arith, ok, e, f, g, long)) in
+    let named : c.as_slice-11.result.now ≡ ns = c.as_slice-11.ensures.value ∙ items in
+    let many = ap length named in
+    let h = together.pair_within o l j q at in
+    let one = h.0 in
+    let two = h.1 in
+    (omega (arith, one, many, room), omega (arith, two, many, room))
+    )
+
+pub add_pairs-requires-clause-room : goal.add_pairs-requires-clause-room
+add_pairs-requires-clause-room c =
+    let r = c.args.self.now in
+    let o = c.args.part.now in
+    let k = c.requires.kept.all.net in
+    let l = c.requires.part.all.net in
+    let x = c.args.seam in
+    let ns = c.copy.new.names in
+    let long : length ns ≡ length x.names.items = c.copy.ensures.names ∙ ap length c.as_mut_slice.ensures.value in
+    let items : (with_items x.names ns).items ≡ ns = with_items_is x.names ns (let ok = x.names.ok.0 in omega (arith, ok, long)) in
+    let agents = c.list_live.new.cells.items in
+    let live = c.list_live.ensures in
+    let rest_numbers = c.list_rest_numbers.new.numbers.items in
+    let part_numbers = c.list_part_numbers.new.numbers.items in
+    let each_rest = c.list_rest_numbers.ensures.each in
+    let each_part = c.list_part_numbers.ensures.each in
+    let a = c.number_anew.new.arena in
+    let anew : AreNumberedAnew (number_in rest_numbers) r.arena a = subst (λ (z : List ℕ). AreNumberedAnew (number_in z) r.arena a) c.as_slice-2.ensures.value c.number_anew.ensures in
+    let b = c.copy.new.to in
+    let copied : IsCopied o.arena agents part_numbers ns a b = subst (λ (z : List ℕ). IsCopied o.arena agents z ns a b) c.as_slice-4.ensures.value (subst (λ (z : List CellNo). IsCopied o.arena z c.as_slice-4.result.now ns a b) c.as_slice-3.ensures.value c.copy.ensures.copied) in
+    let new = c.glue_free.new.free.items in
+    let is_new = is_glued r o c.args.own c.args.cuts c.requires.rest c.requires.cuts _ _ new c.as_slice-5.ensures.value c.as_slice-6.ensures.value c.glue_free.ensures in
+    let sides = c.add_sides.ensures.items.0 in
+    let list = c.add_sides.new.ends.items in
+    let is_list = are_glued r o k l c.args.own c.args.cuts c.requires.rest c.requires.cuts rest_numbers part_numbers ns _ _ _ _ _ c.glue_ends.new.ends.items sides list c.as_slice.ensures.value c.as_slice-9.ensures.value c.as_slice-10.ensures.value c.as_slice-8.ensures.value
+    (c.as_slice-7.ensures.value ∙ items) c.glue_ends.ensures.items c.add_sides.ensures.items.2 in
+    let few = glue.few_pairs r o k l c.requires.can c.args.own c.args.cuts c.requires.rest c.requires.cuts agents live rest_numbers each_rest part_numbers each_part a anew ns b copied new is_new sides list is_list
+    (r.queue.items ++ map (both (name_in ns)) o.queue.items) refl in
+    omega (arith, few)
+
+pub returns-clause-kept : goal.returns-clause-kept
+returns-clause-kept c =
+    let r = c.args.self.now in
+    let o = c.args.part.now in
+    let k = c.requires.kept.all.net in
+    let l = c.requires.part.all.net in
+    let x = c.args.seam in
+    let ns = c.copy.new.names in
+    let long : length ns ≡ length x.names.items = c.copy.ensures.names ∙ ap length c.as_mut_slice.ensures.value in
+    let items : (with_items x.names ns).items ≡ ns = with_items_is x.names ns (let ok = x.names.ok.0 in omega (arith, ok, long)) in
+    let agents = c.list_live.new.cells.items in
+    let live = c.list_live.ensures in
+    let rest_numbers = c.list_rest_numbers.new.numbers.items in
+    let part_numbers = c.list_part_numbers.new.numbers.items in
+    let each_rest = c.list_rest_numbers.ensures.each in
+    let each_part = c.list_part_numbers.ensures.each in
+    let a = c.number_anew.new.arena in
+    let anew : AreNumberedAnew (number_in rest_numbers) r.arena a = subst (λ (z : List ℕ). AreNumberedAnew (number_in z) r.arena a) c.as_slice-2.ensures.value c.number_anew.ensures in
+    let b = c.copy.new.to in
+    let copied : IsCopied o.arena agents part_numbers ns a b = subst (λ (z : List ℕ). IsCopied o.arena agents z ns a b) c.as_slice-4.ensures.value (subst (λ (z : List CellNo). IsCopied o.arena z c.as_slice-4.result.now ns a b) c.as_slice-3.ensures.value c.copy.ensures.copied) in
+    let new = c.glue_free.new.free.items in
+    let is_new = is_glued r o c.args.own c.args.cuts c.requires.rest c.requires.cuts _ _ new c.as_slice-5.ensures.value c.as_slice-6.ensures.value c.glue_free.ensures in
+    let sides = c.add_sides.ensures.items.0 in
+    let list = c.add_sides.new.ends.items in
+    let is_list = are_glued r o k l c.args.own c.args.cuts c.requires.rest c.requires.cuts rest_numbers part_numbers ns _ _ _ _ _ c.glue_ends.new.ends.items sides list c.as_slice.ensures.value c.as_slice-9.ensures.value c.as_slice-10.ensures.value c.as_slice-8.ensures.value
+    (c.as_slice-7.ensures.value ∙ items) c.glue_ends.ensures.items c.add_sides.ensures.items.2 in
+    let queue = c.add_pairs.new.queue.items in
+    let is_queue = c.add_pairs.ensures.items ∙ ap (λ (z : List CellNo). r.queue.items ++ map (both (name_in z)) o.queue.items) (c.as_slice-11.ensures.value ∙ items) in
+    let tools = c.requires.kept.all.tools in
+    let alike = together.alike r o k l c.requires.can agents live (number_in rest_numbers) a anew part_numbers ns b copied in
+    record {
+      all = record {
+        net = record {
+          reducer = glue.is_reducer r o k l c.requires.can c.args.own c.args.cuts c.requires.rest c.requires.cuts agents live rest_numbers each_rest part_numbers each_part a anew ns b copied new is_new sides list is_list queue is_queue;
+          net = together.still_net r o k l c.requires.can agents live (number_in rest_numbers) a anew part_numbers ns b copied;
+          few = (let e = copied.cells in let g = anew.cells in let f = k.few in omega (arith, e, f, g));
+          few_free = glue.few_free r o k l c.requires.can c.args.own c.args.cuts c.requires.rest c.requires.cuts agents live rest_numbers each_rest part_numbers each_part a anew ns b copied new is_new sides list is_list queue is_queue
+              (let e = c.requires.ends in let f = x.few_free in omega (arith, e, f));
+          free = glue.glued_own_ends r.checked.now o.checked.now c.args.own c.args.cuts r.free.items o.free.items new c.requires.can.program is_new c.requires.rest c.requires.cuts k.free l.free;
+          ends = glue.enough_ends r o k l c.requires.can c.args.own c.args.cuts c.requires.rest c.requires.cuts agents live rest_numbers each_rest part_numbers each_part a anew ns b copied new is_new sides list is_list queue is_queue c.add_sides.ensures.items.1;
+          queue = (let f = k.queue in let e = copied.cells in let h = anew.cells in let g = c.add_pairs.ensures.room in omega (arith, e, f, g, h));
+        };
+        tools = record {
+          stock = still.still_none r.tools.stock.bag r.arena b alike tools.stock;
+          stock_all = tools.stock_all;
+          placed = still.still_none r.tools.placed.bag r.arena b alike tools.placed;
+          room = tools.room;
+          made = tools.made;
+          made_room = tools.made_room;
+        };
+        tools_for = c.requires.kept.all.tools_for;
+      };
+      none = together.none_after r o k l c.requires.can agents live (number_in rest_numbers) a anew part_numbers ns b copied c.requires.kept.none;
+    }
+
+pub returns-clause-glued : goal.returns-clause-glued
+returns-clause-glued c =
+    let r = c.args.self.now in
+    let o = c.args.part.now in
+    let k = c.requires.kept.all.net in
+    let l = c.requires.part.all.net in
+    let x = c.args.seam in
+    let ns = c.copy.new.names in
+    let long : length ns ≡ length x.names.items = c.copy.ensures.names ∙ ap length c.as_mut_slice.ensures.value in
+    let items : (with_items x.names ns).items ≡ ns = with_items_is x.names ns (let ok = x.names.ok.0 in omega (arith, ok, long)) in
+    let agents = c.list_live.new.cells.items in
+    let live = c.list_live.ensures in
+    let rest_numbers = c.list_rest_numbers.new.numbers.items in
+    let part_numbers = c.list_part_numbers.new.numbers.items in
+    let each_rest = c.list_rest_numbers.ensures.each in
+    let each_part = c.list_part_numbers.ensures.each in
+    let a = c.number_anew.new.arena in
+    let anew : AreNumberedAnew (number_in rest_numbers) r.arena a = subst (λ (z : List ℕ). AreNumberedAnew (number_in z) r.arena a) c.as_slice-2.ensures.value c.number_anew.ensures in
+    let b = c.copy.new.to in
+    let copied : IsCopied o.arena agents part_numbers ns a b = subst (λ (z : List ℕ). IsCopied o.arena agents z ns a b) c.as_slice-4.ensures.value (subst (λ (z : List CellNo). IsCopied o.arena z c.as_slice-4.result.now ns a b) c.as_slice-3.ensures.value c.copy.ensures.copied) in
+    let new = c.glue_free.new.free.items in
+    let is_new = is_glued r o c.args.own c.args.cuts c.requires.rest c.requires.cuts _ _ new c.as_slice-5.ensures.value c.as_slice-6.ensures.value c.glue_free.ensures in
+    let sides = c.add_sides.ensures.items.0 in
+    let list = c.add_sides.new.ends.items in
+    let is_list = are_glued r o k l c.args.own c.args.cuts c.requires.rest c.requires.cuts rest_numbers part_numbers ns _ _ _ _ _ c.glue_ends.new.ends.items sides list c.as_slice.ensures.value c.as_slice-9.ensures.value c.as_slice-10.ensures.value c.as_slice-8.ensures.value
+    (c.as_slice-7.ensures.value ∙ items) c.glue_ends.ensures.items c.add_sides.ensures.items.2 in
+    let queue = c.add_pairs.new.queue.items in
+    let is_queue = c.add_pairs.ensures.items ∙ ap (λ (z : List CellNo). r.queue.items ++ map (both (name_in z)) o.queue.items) (c.as_slice-11.ensures.value ∙ items) in
+    glue.glued_on r o k l c.requires.can c.args.own c.args.cuts c.requires.rest c.requires.cuts agents live rest_numbers each_rest part_numbers each_part a anew ns b copied new is_new sides list is_list queue is_queue c.requires.kept.none

@@ -1,0 +1,5 @@
+use Rattle.in_reducer.proofs.Reduced as proved
+use Rattle.in_reducer.proofs.laws.reductions_go_on.Goals as goal
+
+pub returns : goal.returns
+returns c = proved.reductions_go_on

@@ -1,0 +1,10 @@
+use Rattle.std.proofs.Common.{◌≡◌, ◌≤◌, ◌<◌, ◌+◌, ◌-◌, ◌/◌, ℕ, min, vec_len, vec_capacity}
+use Rattle.in_moving.specs.Copying.{number_in}
+use Rattle.in_reducer.proofs.splitting.rest_numbers.Given as goal
+
+abbrev pub invariant-loop-number : goal.invariant-loop-number
+invariant-loop-number l = record {
+  long : vec_len l.numbers ≡ l.number;
+  each : (k : ℕ) → k < l.number → number_in l.numbers.items k ≡ min k l.own + (k - l.own) / 2;
+  capacity : l.many ≤ vec_capacity l.numbers;
+}

@@ -1,0 +1,18 @@
+-- How a part is glued on: the order of the free ends of both. This project's own choice.
+use Rattle.std.specs.Prelude.{◌≡◌, ◌<◌, ℕ, List, [], ◌∷◌, ◌++◌, take, drop}
+use Rattle.in_arena.specs.declared.content.End.{End}
+use Rattle.in_arena.specs.declared.content.End.TheVariants.{Free}
+
+-- by turns an element of the one list and one of the other
+abbrev pub in_turn : {X : Type 0} → List X → List X → List X
+in_turn [] xs = []
+in_turn (y ∷ ys) [] = []
+in_turn (y ∷ ys) (x ∷ xs) = y ∷ x ∷ in_turn ys xs
+
+-- what the rest had before the cuts, and then by turns what the part and the rest have of each cut
+abbrev pub glued : {X : Type 0} → ℕ → List X → List X → List X
+glued own rest part = take own rest ++ in_turn part (drop own rest)
+
+-- where the end leads to a free end, it is one of so many
+abbrev pub IsFreeWithin : ℕ → End → Type 0
+IsFreeWithin many e = (k : ℕ) → e ≡ Free k → k < many

@@ -1,0 +1,83 @@
+-- How a part is split off, step by step. No contract of a public call speaks of it. This project's own choice.
+use Rattle.std.specs.Prelude.{◌≡◌, ◌+◌, ◌*◌, ◌<◌, ◌≤◌, ℕ, Bool, true, false, List, [], ◌++◌, length, count_by, option_map, replicate, slice_get, vec_capacity}
+use Rattle.std.specs.VecDeque.{deque_capacity}
+use Rattle.in_arena.specs.Arenas.{ArenaView, free_of, state_at}
+use Rattle.in_arena.specs.Classes.{classes}
+use Rattle.in_arena.specs.States.{State, Vacant, Leased, Live}
+use Rattle.in_arena.specs.declared.content.CellClass.{CellClass}
+use Rattle.in_arena.specs.declared.content.CellNo.{CellNo}
+use Rattle.in_moving.specs.Copying.{is_for, number_in}
+use Rattle.in_moving.specs.Laws.{AreTakenOut}
+use Rattle.in_reducer.specs.declared.splitting.Fresh.{Fresh}
+use Rattle.in_reducer.specs.declared.splitting.Lists.{Lists}
+use Rattle.in_reducer.specs.Inside.{AreTools, most_ends}
+use Rattle.in_reducer.specs.Parting.{place_of_two}
+
+-- ---- lists
+
+-- so many elements, each what stands at its place in the other list, or what this makes of it
+pub record ArePicked {X Y : Type 0} (f : X → Y) (place : ℕ → ℕ) (many : ℕ) (all : List X) (picked : List Y) : Type 0 where
+  pub count : length picked ≡ many
+  pub each : (e : ℕ) → e < many → slice_get picked e ≡ option_map f (slice_get all (place e))
+
+-- .. and after them is room for the sides of boundary ends
+pub record ArePickedWithRoom {X Y : Type 0} (f : X → Y) (place : ℕ → ℕ) (many : ℕ) (all : List X) (list : List Y) : Type 0 where
+  pub picked : List Y
+  pub room : List Y
+  pub are : ArePicked f place many all picked
+  pub sides : length room ≡ most_ends + most_ends
+  pub list_is : list ≡ picked ++ room
+
+-- the number that a free end of the whole has in the rest (part 0) or the part (part 1), where that has so many
+pub record AreNumbersOfTwo (own cuts i many : ℕ) (numbers : List ℕ) : Type 0 where
+  pub count : length numbers ≡ own + (cuts + cuts)
+  pub each : (e : ℕ) → e < many → number_in numbers (place_of_two own i e) ≡ e
+
+-- the lists are empty, and have room for so many free ends
+pub record HasRoomForEnds (many : ℕ) (l : Lists) : Type 0 where
+  pub free : l.free.items ≡ []
+  pub free_room : many ≤ vec_capacity l.free
+  pub ends : l.ends.items ≡ []
+  pub ends_room : many + most_ends + most_ends ≤ vec_capacity l.ends
+
+-- what is taken for a part with so many cells of each class, of a net in so many cells
+pub record IsTakenFor (own cuts all size : ℕ) (f : Fresh) : Type 0 where
+  pub cells : f.arena.cells ≡ size
+  pub empty : f.arena.states ≡ replicate (length classes * size) Vacant
+  pub tools : AreTools f.tools f.arena
+  pub queue : f.queue.items ≡ []
+  pub queue_room : length classes * size ≤ 2 * deque_capacity f.queue + 1
+  pub rest_numbers : AreNumbersOfTwo own cuts 0 (own + cuts) f.rest.numbers.items
+  pub part_numbers : AreNumbersOfTwo own cuts 1 cuts f.part.numbers.items
+  pub rest : HasRoomForEnds (own + cuts) f.rest
+  pub part : HasRoomForEnds cuts f.part
+  pub names : length f.names.items ≡ all
+
+-- ---- cells
+
+-- the agents are taken out, their cells are free, and the free ends have these numbers
+pub record LosesPart (agents : List CellNo) (own : ℕ → ℕ) (old new : ArenaView) : Type 0 where
+  pub out : AreTakenOut agents own old new
+  pub free : (d : CellClass) → free_of new d ≡ free_of old d + count_by (is_for old d) agents
+  pub memory : new.memory ≡ old.memory
+  pub cells : new.cells ≡ old.cells
+  pub many : length new.states ≡ length old.states
+
+-- ---- pairs
+
+-- the first agent of the pair stands in the arena, or is gone
+abbrev pub is_there : State → Bool
+is_there Vacant = false
+is_there Leased = false
+is_there (Live word ends) = true
+
+abbrev pub is_gone : State → Bool
+is_gone Vacant = true
+is_gone Leased = true
+is_gone (Live word ends) = false
+
+abbrev pub stays : ArenaView → ℕ × ℕ → Bool
+stays a q = is_there (state_at a q.0)
+
+abbrev pub goes : ArenaView → ℕ × ℕ → Bool
+goes a q = is_gone (state_at a q.0)

@@ -1,0 +1,5 @@
+use Rattle.in_run.specs.Advancing.{then_phase}
+use Rattle.in_run.proofs.advancing.by_parts.Goals as goal
+
+pub returns-clause-goes : goal.returns-clause-goes
+returns-clause-goes g c = λ m k run. then_phase m c.args.machine.now c.phase-worked.new.machine k c.phase-worked.result.interactions run c.phase-worked.ensures.phase
