@@ -20,8 +20,9 @@ BETWEEN = (0, 1, 7)
 MOST = (0, 1, 5, 1000)
 FORCED = [by for by in itertools.product(PARTS, BETWEEN, MOST) if by[1] or by[2]]
 CELLS = 2_000
-# A text with more bytes may have more agents, and so may a run with more interactions, which is forced into so many phases at most.
-LARGE_TEXT, LARGE_RUN, LARGE_CELLS = 4_000, 2_000, 200_000
+# A text with more bytes may have more agents, and so may a run with more interactions. No run is forced into more phases than so many.
+LARGE_TEXT, CELLS_OF_LARGE_TEXT = 4_000, 10_000
+LONG_RUN, CELLS_OF_LONG_RUN = 2_000, 200_000
 MOST_PHASES = 500
 NO_LIMIT = 1_000_000
 # So many generated programs, and so many of the ways above for each.
@@ -95,6 +96,13 @@ def wrong_end(program, text, usual, net, count):
     return None if (end, count + more) == usual else f"{count} and {more} interactions, {end!r}; wanted: {usual[1]}, {usual[0]!r}"
 
 
+def cells_for(text, count):
+    """So many cells of each class as a forced run of so many interactions gets, which are enough in any order."""
+    if count > LONG_RUN:
+        return CELLS_OF_LONG_RUN
+    return CELLS_OF_LARGE_TEXT if len(text) > LARGE_TEXT else CELLS
+
+
 class Forced:
     """The program that does phases at every chance, beside `inet`."""
 
@@ -111,8 +119,7 @@ class Forced:
 
     def wrong_run(self, text, way, usual):
         """What is wrong with a run to the end."""
-        cells = LARGE_CELLS if len(text) > LARGE_TEXT or usual[1] > LARGE_RUN else CELLS
-        net, count, phases = parted(self.forcing.run(self.words(way, cells, NO_LIMIT), text))
+        net, count, phases = parted(self.forcing.run(self.words(way, cells_for(text, usual[1]), NO_LIMIT), text))
         if phases and way[0] == 1:
             return f"{phases} phases of more than one part"
         return None if (net, count) == usual else f"{count} interactions, {net!r}; wanted: {usual[1]}, {usual[0]!r}"
@@ -196,13 +203,15 @@ def wrong_refused(refuser, words, text, usual, number, asked):
 
 
 def forced_refusals(forced):
-    """A run in parts with each request for memory refused, by itself and with all that follow; and that there are several phases in it."""
+    """A run in parts with each request for memory after the check refused, by itself and with all that follow; there are several phases in it."""
     refuser = Refuser(forced.forcing)
-    words, text = forced.words(REFUSED_WAY, CELLS, NO_LIMIT), generated.program(REFUSED_FORCED).encode()
+    text = generated.program(REFUSED_FORCED).encode()
+    checked = refuser.run(forced.words(REFUSED_WAY, CELLS, 0), text)[1].memory
+    words = forced.words(REFUSED_WAY, CELLS, NO_LIMIT)
     answer, counts = refuser.run(words, text)
     usual = parted(answer)
     yield "a forced run has several phases", lambda: None if usual[2] >= 2 else str(answer)
-    for number, asked in itertools.product(range(1, counts.memory + 1), ({}, {"REFUSE_ON": "1"})):
+    for number, asked in itertools.product(range(checked - LINE, counts.memory + 1), ({}, {"REFUSE_ON": "1"})):
         said = f"memory refused {'from' if asked else 'at'} request {number}"
         yield f"a forced run: {said}", partial(wrong_refused, refuser, words, text, usual, number, asked)
 
