@@ -1,5 +1,5 @@
 -- Agents are gathered, one after another.
-use Rattle.std.proofs.Common.{◌≡◌, ◌≢◌, ◌⊎◌, inl, inr, ◌<◌, ◌+◌, ℕ, zero, suc, Bool, true, false, Option, Some, None, IsSome, List, [], ◌∷◌, ◌++◌, length, set, replicate, slice_get, refl, sym, ap, subst, ◌∙◌, length-set, arith}
+use Rattle.std.proofs.Common.{◌≡◌, ◌≢◌, ◌⊎◌, inl, inr, ◌<◌, ◌≤◌, ℕ, zero, suc, Bool, true, false, Option, Some, None, IsSome, List, [], ◌∷◌, ◌++◌, length, set, slice_get, refl, sym, ap, subst, ◌∙◌, length-set, arith}
 use Rattle.std.proofs.lemmas.Option.{same_Some, slice_get_within}
 use Rattle.in_base.proofs.Places.{last_at, kept_at, more_at, set_here, set_there}
 use native.Mathlib.Decide.{ℕ_discrete}
@@ -9,30 +9,48 @@ use Rattle.in_net.specs.Parts.{symbol_in}
 use Rattle.in_net.proofs.Public.{symbol_within}
 use Rattle.in_interaction.proofs.Public.{has_value}
 use Rattle.in_reducer.specs.Machines.{MachineParts, parts_of}
-use Rattle.in_phases.specs.Branches.{AreOfBranch, HasAgent}
+use Rattle.in_phases.specs.Branches.{AreOfBranch, HasAgent, MarksAreListed}
 
-pub none_gathered : (m : MachineParts) (n : ℕ) → n ≡ length m.agents → AreOfBranch m [] (replicate n false)
-none_gathered m n many = record {
+-- a branch that has forgotten its agents
+pub none_gathered : (m : MachineParts) (marks : List Bool) → length marks ≡ length m.agents → MarksAreListed [] marks → AreOfBranch m [] marks
+none_gathered m marks many listed = record {
   there = λ k c at. cc;
   once = λ j k c at also. cc;
   marked = λ k c at. cc;
-  listed = λ y at. absurd (not_set n y at);
+  listed = listed;
   inside = λ y there. (
       let s = has_value (symbol_in (parts_of m) y) there in
       let low = symbol_within (parts_of m) y s.0 s.1 in
-      let long = all_long n in
-      omega (arith, low, many, long)
+      omega (arith, low, many)
       );
 }
-  where
-    not_set : (n y : ℕ) → slice_get (replicate n false) y ≡ Some true → ⊥
-    not_set zero y e = cc
-    not_set (suc n) zero e = cc
-    not_set (suc n) (suc y) e = not_set n y e
 
-    all_long : (n : ℕ) → length (replicate n false) ≡ n
-    all_long zero = refl
-    all_long (suc n) = ap suc (all_long n)
+-- the last agent is forgotten, and its mark is taken away
+pub one_forgotten : (agents : List CellNo) (c : CellNo) (marks : List Bool) → MarksAreListed (agents ++ c ∷ []) marks → MarksAreListed agents (set marks c.0 false)
+one_forgotten agents c marks listed y at = elim (ℕ_discrete y c.0) [
+  | yes same ↦ absurd (unset marks c.0 (subst (λ (z : ℕ). slice_get (set marks c.0 false) z ≡ Some true) same at))
+  | no other ↦ (
+      let old = listed y (sym (set_there marks c.0 y false other) ∙ at) in
+      elim (more_at agents c (record { 0 = y }) old.0 old.1) [
+        | inl kept ↦ (old.0, kept)
+        | inr last ↦ absurd (other (ap (λ (z : CellNo). z.0) (sym last.1)))
+      ]
+      )
+]
+  where
+    unset : (marks : List Bool) (n : ℕ) → slice_get (set marks n false) n ≡ Some true → ⊥
+    unset [] n e = cc
+    unset (b ∷ bs) zero e = cc
+    unset (b ∷ bs) (suc n) e = unset bs n e
+
+-- .. or there is none at its number
+pub none_forgotten : (agents : List CellNo) (c : CellNo) (marks : List Bool) → MarksAreListed (agents ++ c ∷ []) marks → length marks ≤ c.0 → MarksAreListed agents marks
+none_forgotten agents c marks listed past y at =
+    let old = listed y at in
+    elim (more_at agents c (record { 0 = y }) old.0 old.1) [
+      | inl kept ↦ (old.0, kept)
+      | inr last ↦ absurd (let low = slice_get_within marks y true at in let same : c.0 ≡ y = ap (λ (z : CellNo). z.0) last.1 in omega (arith, low, past, same))
+    ]
 
 module _ (m : MachineParts) (agents : List CellNo) (marks : List Bool) (h : AreOfBranch m agents marks) (c : CellNo) (there : HasAgent m c.0) (fresh : slice_get marks c.0 ≡ Some false) where
   not_listed : (k : ℕ) (d : CellNo) → slice_get agents k ≡ Some d → d.0 ≢ c.0

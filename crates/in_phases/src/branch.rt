@@ -1,28 +1,47 @@
 // The agents of a part.
-ghost use Rattle.std.specs.Prelude.{◌≡◌, ◌<◌, ◌≤◌, length, IfOk, OnOk, Some, slice_get};
-ghost use Rattle.in_phases.specs.Branches.{HasAgent, IsBranch};
+ghost use Rattle.std.specs.Prelude.{◌≡◌, ◌<◌, ◌≤◌, true, [], length, OnOk, Some, slice_get};
+ghost use Rattle.in_phases.specs.Branches.{HasAgent, IsBranch, MarksAreListed};
 
 use in_reducer::{CellNo, End, Reducer};
 use std::alloc::{AllocError, Global};
 
-/// Agents of a net, each once, and for each number whether it is that of one of them.
+/// Agents of a net, each once, and for each number whether it is that of one of them. It is used for one part after another.
 #[derive(Drop)]
 pub(crate) struct Branch {
     pub(crate) agents: Vec<CellNo>,
     pub(crate) marks: Vec<bool>,
+    ghost listed: { MarksAreListed agents.items marks.items },
 }
 
-/// No agents of a net.
-fn empty(alloc: Global, reducer: &Reducer) -> Result<Branch, AllocError>
-    ensures { IfOk result (IsBranch reducer.now) }
-{
+/// A branch without agents, for nets with so many numbers.
+pub(crate) fn empty(alloc: Global, numbers: u32) -> Result<Branch, AllocError> {
     Ok(Branch {
         agents: Vec::new(alloc),
-        marks: vec![in alloc; false; reducer.numbers() as usize]?,
+        marks: vec![in alloc; false; numbers as usize]?,
     })
 }
 
 impl Branch {
+    /// Whether it is for nets with so many numbers.
+    pub(crate) fn is_for(&self, numbers: u32) -> bool
+        ensures { result ≡ true → length self.now.marks.items ≡ numbers }
+    {
+        self.marks.len() == numbers as usize
+    }
+
+    /// Forgets all agents.
+    fn clear(&mut self)
+        ensures none { self.new.agents.items ≡ [] }
+        ensures many { length self.new.marks.items ≡ length self.old.marks.items }
+    {
+        while let Some(cell) = self.agents.pop() {
+            let number = cell.0 as usize;
+            if number < self.marks.len() {
+                self.marks[number] = false;
+            }
+        }
+    }
+
     /// Whether this agent is one of them.
     pub(crate) fn has(&self, cell: CellNo) -> bool
         requires { cell.0 < length self.now.marks.items }
@@ -89,15 +108,15 @@ impl Branch {
         Ok(())
     }
 
-    /// The trees behind the first so many pairs: both agents of each, each agent whose principal port is joined to an auxiliary port of one of
-    /// them, and so on. Few wires lead out of them. Refused for want of memory alone.
-    pub(crate) fn behind(alloc: Global, reducer: &Reducer, pairs: u32) -> Result<Branch, AllocError>
+    /// Forgets what it had, and gathers the trees behind the first so many pairs: both agents of each, each agent whose principal port is joined
+    /// to an auxiliary port of one of them, and so on. Few wires lead out of them. Refused for want of memory alone.
+    pub(crate) fn gather(&mut self, reducer: &Reducer, pairs: u32) -> Result<(), AllocError>
+        requires many { length self.old.marks.items ≡ length reducer.now.agents }
         requires pairs { pairs ≤ length reducer.now.queue }
-        ensures { IfOk result (IsBranch reducer.now) }
+        ensures { OnOk result (IsBranch reducer.now self.new) }
     {
-        let mut branch = empty(alloc, reducer)?;
-        branch.take_pairs(reducer, pairs)?;
-        branch.take_trees(reducer)?;
-        Ok(branch)
+        self.clear();
+        self.take_pairs(reducer, pairs)?;
+        self.take_trees(reducer)
     }
 }

@@ -11,6 +11,8 @@ mod closing;
 mod cutting;
 mod phases;
 mod reducing;
+mod room;
 mod taking;
 
 pub use phases::{Sharing, Worked, reduce_in_parts};
+pub use room::Room;

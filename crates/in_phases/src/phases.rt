@@ -6,6 +6,7 @@ ghost use Rattle.in_reducer.specs.Limiting.{most_cells};
 ghost use Rattle.in_reducer.specs.Parting.{ReducesTo};
 
 use crate::reducing::reduce_newest;
+use crate::room::Room;
 use crate::taking::{bring_back, take_part};
 use in_compile::Templates;
 use in_reducer::Reducer;
@@ -57,6 +58,7 @@ fn at_once<R: Threads>(
     reducer: &mut Reducer,
     templates: &Templates,
     rest: Sharing,
+    room: &mut Room,
 ) -> (u64, Worked)
     requires part_templates { AreTemplatesOf part.old.program templates.now }
     requires templates { AreTemplatesOf reducer.old.program templates.now }
@@ -69,6 +71,7 @@ fn at_once<R: Threads>(
     ensures most { result.1.interactions ≤ rest.most }
     ensures floor { HasFree reducer.new rest.floor }
     ensures parts { result.1.parts ≤ rest.parts }
+    ensures names { length room.new.names.items ≡ length room.old.names.items }
 {
     join_mut(
         rt,
@@ -78,14 +81,14 @@ fn at_once<R: Threads>(
         { reduce_newest(part, templates, 0, most) },
         &mut || -> Worked
             requires { AreTemplatesOf reducer.now.program templates.now × (1 ≤ rest.parts) × (rest.share ≤ most_cells) × HasFree reducer.now rest.floor }
-            ensures { ReducesTo reducer.entry.now result.interactions reducer.exit.now × (result.interactions ≤ rest.most) × HasFree reducer.exit.now rest.floor × (result.parts ≤ rest.parts) }
-        { reduce_in_parts(rt, alloc, reducer, templates, rest) },
+            ensures { ReducesTo reducer.entry.now result.interactions reducer.exit.now × (result.interactions ≤ rest.most) × HasFree reducer.exit.now rest.floor × (result.parts ≤ rest.parts) × (length room.exit.now.names.items ≡ length room.entry.now.names.items) }
+        { reduce_in_parts(rt, alloc, reducer, templates, rest, room) },
     )
 }
 
 /// Reduces a net in parts, each in a thread of its own but the rest: newest pairs first. It is never refused: where memory or cells are wanted
-/// there are fewer parts, and where a thread can't be started its part is reduced after the rest. Which agents are whose is open. There is at
-/// least one part, and as many cells are free as are to stay so.
+/// there are fewer parts, and where a thread can't be started its part is reduced after the rest. Which agents are whose is open. The room is
+/// for the reducer's numbers; it is used again. There is at least one part, and as many cells are free as are to stay so.
 #[cycle(phases)]
 pub fn reduce_in_parts<R: Threads>(
     rt: &R,
@@ -93,6 +96,7 @@ pub fn reduce_in_parts<R: Threads>(
     reducer: &mut Reducer,
     templates: &Templates,
     sharing: Sharing,
+    room: &mut Room,
 ) -> Worked
     requires templates { AreTemplatesOf reducer.old.program templates.now }
     requires parts { 1 ≤ sharing.parts }
@@ -102,6 +106,7 @@ pub fn reduce_in_parts<R: Threads>(
     ensures most { result.interactions ≤ sharing.most }
     ensures floor { HasFree reducer.new sharing.floor }
     ensures parts { result.parts ≤ sharing.parts }
+    ensures names { length room.new.names.items ≡ length room.old.names.items }
 {
     let pairs = reducer.pairs() / sharing.parts;
     if sharing.parts == 1 || pairs == 0 {
@@ -114,6 +119,7 @@ pub fn reduce_in_parts<R: Threads>(
         pairs,
         sharing.share,
         sharing.floor,
+        room,
     ) else {
         return alone(reducer, templates, sharing);
     };
@@ -132,8 +138,9 @@ pub fn reduce_in_parts<R: Threads>(
         reducer,
         templates,
         rest,
+        room,
     );
-    bring_back(reducer, taken);
+    bring_back(reducer, taken, room.names.as_mut_slice());
     Worked {
         interactions: one + others.interactions,
         longest: others.longest.max(one),

@@ -1,11 +1,11 @@
 // A part is taken out of a net, and brought back.
-ghost use Rattle.std.specs.Prelude.{◌≡◌, ◌≤◌, ◌+◌, ℕ, true, length, MatchOption, IfSome};
+ghost use Rattle.std.specs.Prelude.{◌≡◌, ◌≤◌, ◌+◌, ◌*◌, ℕ, true, length, MatchOption, IfSome};
 ghost use Rattle.in_arena.specs.declared.content.CellClass.{CellClass as Class};
+ghost use Rattle.in_arena.specs.Classes.{classes};
 ghost use Rattle.in_compile.specs.Cells.{agents_of, count_of};
 ghost use Rattle.in_compile.specs.Templates.{AreTemplatesOf};
 ghost use Rattle.in_phases.specs.Branches.{IsBranch};
 ghost use Rattle.in_phases.specs.Phases.{CanComeBack, HasFree, IsSplitBy, IsTakenOut};
-ghost use Rattle.in_reducer.specs.Inside.{most_free};
 ghost use Rattle.in_reducer.specs.Limiting.{most_cells};
 ghost use Rattle.in_reducer.specs.Machines.{MachineParts};
 ghost use Rattle.in_reducer.specs.Parting.{ReducesTo};
@@ -13,8 +13,9 @@ ghost use Rattle.in_reducer.specs.Parting.{ReducesTo};
 use crate::branch::Branch;
 use crate::closing::is_closed;
 use crate::cutting::{MOST_FREE_ENDS, cut_off, join_up};
+use crate::room::Room;
 use in_compile::Templates;
-use in_reducer::{CellClass, Reducer, Seam};
+use in_reducer::{CellClass, CellNo, Reducer, Seam};
 use std::alloc::Global;
 
 /// A part that was split off, and the seam at which it comes back; how many cuts there were, and how many cells of each class it has.
@@ -47,17 +48,24 @@ fn split<'a>(
     branch: &Branch,
     cuts: u32,
     share: u32,
+    names: &mut [CellNo],
 ) -> Option<Taken<'a>>
     requires templates { AreTemplatesOf reducer.old.program templates.now }
     requires branch { IsBranch reducer.old branch.now }
     requires cuts { cuts + cuts ≤ length reducer.old.free }
     requires share { share ≤ most_cells }
-    ensures { MatchOption result (reducer.new ≡ reducer.old) (λ t. (t.cuts ≡ cuts) × IsSplitBy reducer.old t.cuts t.cells t.seam t.part reducer.new) }
+    requires names { length names.old ≡ length reducer.old.agents }
+    ensures split { MatchOption result (reducer.new ≡ reducer.old) (λ t. (t.cuts ≡ cuts) × IsSplitBy reducer.old t.cuts t.cells t.seam t.part reducer.new) }
+    ensures names { length names.new ≡ length names.old }
+    ensures fits { IfSome result (λ t. length classes * t.cells ≤ length names.new) }
 {
     let all = reducer.free_ends();
     let own = all - 2 * cuts;
     let cells = branch.agents.len() + share as usize;
-    if cells > MOST_CELLS || all > MOST_FREE_ENDS || !is_closed(reducer, branch, own, cuts) {
+    if cells > MOST_CELLS || 3 * cells > names.len() || all > MOST_FREE_ENDS {
+        return None;
+    }
+    if !is_closed(reducer, branch, own, cuts) {
         return None;
     }
     let cells = cells as u32;
@@ -65,7 +73,7 @@ fn split<'a>(
         return None;
     };
     let agents = branch.agents.as_slice();
-    let Ok(part) = reducer.split_off(alloc, templates, agents, own, cuts, cells) else {
+    let Ok(part) = reducer.split_off(alloc, templates, agents, own, cuts, cells, names) else {
         return None;
     };
     reducer.pairs();
@@ -80,10 +88,12 @@ fn split<'a>(
 
 /// Glues a part on again, and joins the ends of the cuts: what was there before it was taken out is reduced to that by as many interactions as
 /// the part and the rest did together.
-pub(crate) fn bring_back(reducer: &mut Reducer, taken: Taken)
+pub(crate) fn bring_back(reducer: &mut Reducer, taken: Taken, names: &mut [CellNo])
+    requires names { length classes * taken.cells ≤ length names.old }
     requires back { (m : MachineParts) × (k : ℕ) × CanComeBack m k taken reducer.old }
     ensures reduces { (m : MachineParts) (k : ℕ) → CanComeBack m k taken.entry reducer.old → ReducesTo m k reducer.new }
     ensures vacant { (c : Class) → count_of reducer.new.vacant c + agents_of reducer.old.program.tables c taken.entry.part.agents ≡ count_of reducer.old.vacant c }
+    ensures names { length names.new ≡ length names.old }
 {
     let Taken {
         part,
@@ -91,7 +101,7 @@ pub(crate) fn bring_back(reducer: &mut Reducer, taken: Taken)
         cuts,
         cells: _,
     } = taken;
-    reducer.glue_on(&part, seam);
+    reducer.glue_on(&part, seam, names);
     join_up(reducer, cuts);
 }
 
@@ -105,6 +115,7 @@ pub(crate) fn take_part<'a>(
     pairs: u32,
     share: u32,
     floor: u32,
+    room: &mut Room,
 ) -> Option<Taken<'a>>
     requires templates { AreTemplatesOf reducer.old.program templates.now }
     requires pairs { pairs ≤ length reducer.old.queue }
@@ -113,20 +124,23 @@ pub(crate) fn take_part<'a>(
     ensures taken { MatchOption result (ReducesTo reducer.old 0 reducer.new × HasFree reducer.new floor) (λ t. IsTakenOut reducer.old t.cuts t.cells t.seam t.part reducer.new × HasFree reducer.new (floor + t.cells)) }
     ensures templates { AreTemplatesOf reducer.new.program templates.now }
     ensures part_templates { IfSome result (λ t. AreTemplatesOf t.part.program templates.now) }
+    ensures names { length room.new.names.items ≡ length room.old.names.items }
+    ensures fits { IfSome result (λ t. length classes * t.cells ≤ length room.new.names.items) }
 {
     reducer.pairs();
-    let Ok(branch) = Branch::behind(alloc, reducer, pairs) else {
+    if !room.is_for(reducer.numbers()) || room.branch.gather(reducer, pairs).is_err() {
         return None;
-    };
-    let cuts = cut_off(reducer, &branch);
+    }
+    let cuts = cut_off(reducer, &room.branch);
     reducer.pairs();
-    let Some(taken) = split(alloc, reducer, templates, &branch, cuts, share) else {
+    let names = room.names.as_mut_slice();
+    let Some(taken) = split(alloc, reducer, templates, &room.branch, cuts, share, names) else {
         join_up(reducer, cuts);
         return None;
     };
     if has_free(reducer, floor + taken.cells) {
         return Some(taken);
     }
-    bring_back(reducer, taken);
+    bring_back(reducer, taken, room.names.as_mut_slice());
     None
 }

@@ -1,0 +1,32 @@
+// Lists that are used for one part after another.
+ghost use Rattle.std.specs.Prelude.{◌≡◌, true, length};
+
+use crate::branch::{Branch, empty};
+use in_reducer::CellNo;
+use std::alloc::{AllocError, Global};
+
+/// Lists as long as there are numbers for agents, by which parts are gathered and moved: they are taken once, and serve all phases of a run.
+#[derive(Drop)]
+pub struct Room {
+    pub(crate) branch: Branch,
+    pub(crate) names: Vec<CellNo>,
+}
+
+impl Room {
+    /// Room for reducers with so many numbers for agents (`Reducer::numbers`); of one with another number `reduce_in_parts` makes no parts.
+    /// Refused for want of memory alone.
+    pub fn new(alloc: Global, numbers: u32) -> Result<Room, AllocError> {
+        Ok(Room {
+            branch: empty(alloc, numbers)?,
+            names: vec![in alloc; CellNo(0); numbers as usize]?,
+        })
+    }
+
+    /// Whether it is for a reducer with so many numbers.
+    pub(crate) fn is_for(&self, numbers: u32) -> bool
+        ensures marks { result ≡ true → length self.now.branch.marks.items ≡ numbers }
+        ensures names { result ≡ true → length self.now.names.items ≡ numbers }
+    {
+        self.branch.is_for(numbers) && self.names.len() == numbers as usize
+    }
+}
