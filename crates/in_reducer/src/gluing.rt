@@ -156,8 +156,9 @@ fn glue_ends(
 }
 
 impl<'a> Body<'a> {
-    /// Glues the part on, which has the first end of each of so many cuts. The rest has the second ones, after its own free ends.
-    fn glue(&mut self, part: &Body, own: u32, cuts: u32, seam: Seam)
+    /// Glues the part on, which has the first end of each of so many cuts. The rest has the second ones, after its own free ends. The new
+    /// numbers of the part's cells are written in `names`, which is as long as it has cells.
+    fn glue(&mut self, part: &Body, own: u32, cuts: u32, seam: Seam, names: &mut [CellNo])
         requires kept { IsKept self.old }
         requires part { IsKept part.now }
         requires can { CanAppend (reducer_view self.old) (reducer_view part.now) }
@@ -165,8 +166,10 @@ impl<'a> Body<'a> {
         requires cuts { length part.now.free.items ≡ cuts }
         requires ends { own + cuts + cuts ≤ seam.most }
         requires cells { part.now.arena.cells ≤ seam.cells }
+        requires names { length part.now.arena.states ≤ length names.old }
         ensures kept { IsKept self.new }
         ensures glued { IsGluedOn (reducer_view self.old) (reducer_view part.now) own cuts (reducer_view self.new) }
+        ensures names { length names.new ≡ length names.old }
     {
         let Seam {
             most: _,
@@ -174,7 +177,6 @@ impl<'a> Body<'a> {
             mut free,
             mut ends,
             mut agents,
-            mut names,
             rest: mut rest_numbers,
             part: mut part_numbers,
         } = seam;
@@ -188,11 +190,11 @@ impl<'a> Body<'a> {
             agents.as_slice(),
             part_numbers.as_slice(),
             &mut self.arena,
-            names.as_mut_slice(),
+            names,
         );
         glue_free(self.free.as_slice(), part.free.as_slice(), &mut free);
         glue_ends(
-            names.as_slice(),
+            names,
             part_numbers.as_slice(),
             &part.ends.as_slice()[..cuts as usize],
             rest_numbers.as_slice(),
@@ -200,7 +202,7 @@ impl<'a> Body<'a> {
             &mut ends,
         );
         add_sides(&mut ends);
-        add_pairs(&part.queue, names.as_slice(), &mut self.queue);
+        add_pairs(&part.queue, names, &mut self.queue);
         self.free = free;
         self.ends = ends;
     }
@@ -209,17 +211,19 @@ impl<'a> Body<'a> {
 impl<'a> Reducer<'a> {
     /// Glues a part on, which has as many free ends as there were cuts when it was split off: these come by turns between those that the rest
     /// has of the cuts, so that the two ends of a cut stand side by side again, the last ones last, and `join_last` undoes the cuts. Of each
-    /// class as many cells have to be free as the part has agents. It takes no memory: the seam has all that is wanted, for so many free ends
-    /// and cells.
-    pub fn glue_on(&mut self, part: &Reducer, seam: Seam)
+    /// class as many cells have to be free as the part has agents. The new numbers of the part's cells are written in `names`, which is as long
+    /// as the part has numbers. It takes no memory: the seam has all else that is wanted, for so many free ends and cells.
+    pub fn glue_on(&mut self, part: &Reducer, seam: Seam, names: &mut [CellNo])
         requires can { CanAppend self.old part.now }
         requires fewer { length part.now.free ≤ length self.old.free }
         requires ends { length self.old.free + length part.now.free ≤ seam.most }
         requires cells { (c : Class) → count_of part.now.vacant c + agents_of part.now.program.tables c part.now.agents ≤ seam.cells }
-        ensures { (own : ℕ) → length self.old.free ≡ own + length part.now.free → IsGluedOn self.old part.now own (length part.now.free) self.new }
+        requires names { length part.now.agents ≤ length names.old }
+        ensures glued { (own : ℕ) → length self.old.free ≡ own + length part.now.free → IsGluedOn self.old part.now own (length part.now.free) self.new }
+        ensures names { length names.new ≡ length names.old }
     {
         let cuts = part.free_ends();
         let own = self.free_ends() - cuts;
-        self.body.glue(&part.body, own, cuts, seam);
+        self.body.glue(&part.body, own, cuts, seam, names);
     }
 }

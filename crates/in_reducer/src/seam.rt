@@ -1,5 +1,5 @@
 // Room for a part that comes back.
-ghost use Rattle.std.specs.Prelude.{◌≡◌, ◌≤◌, ◌*◌, ◌+◌, IfOk, [], length, vec_len, vec_capacity};
+ghost use Rattle.std.specs.Prelude.{◌≡◌, ◌≤◌, ◌*◌, ◌+◌, IfOk, [], length, vec_capacity};
 ghost use Rattle.in_arena.specs.Classes.{classes};
 ghost use Rattle.in_reducer.specs.Inside.{most_ends, most_free};
 ghost use Rattle.in_reducer.specs.Limiting.{most_cells};
@@ -9,8 +9,8 @@ use crate::starting::MOST_ENDS;
 use in_arena::{CellClass, CellNo, End};
 use std::alloc::{AllocError, Global};
 
-/// All memory that gluing a part on takes, so that it can't be refused then: for a net of at most so many free ends afterwards, and a part with
-/// at most so many cells of each class.
+/// All memory that gluing a part on takes, besides the list of new numbers that is lent to it, so that it can't be refused then: for a net of at
+/// most so many free ends afterwards, and a part with at most so many cells of each class.
 #[derive(Drop)]
 pub struct Seam {
     pub(crate) most: u32,
@@ -18,7 +18,6 @@ pub struct Seam {
     pub(crate) free: Vec<OwnEnd>,
     pub(crate) ends: Vec<End>,
     pub(crate) agents: Vec<CellNo>,
-    pub(crate) names: Vec<CellNo>,
     pub(crate) rest: Vec<u32>,
     pub(crate) part: Vec<u32>,
     ghost few_free: { most ≤ most_free },
@@ -26,7 +25,6 @@ pub struct Seam {
     ghost free_room: { (free.items ≡ []) × (most ≤ vec_capacity free) },
     ghost ends_room: { (ends.items ≡ []) × (most + most_ends + most_ends ≤ vec_capacity ends) },
     ghost agents_room: { (agents.items ≡ []) × (length classes * cells ≤ vec_capacity agents) },
-    ghost names_there: { vec_len names ≡ length classes * cells },
     ghost rest_room: { (rest.items ≡ []) × (most ≤ vec_capacity rest) },
     ghost part_room: { (part.items ≡ []) × (most ≤ vec_capacity part) },
 }
@@ -45,7 +43,6 @@ impl Seam {
             free: Vec::with_capacity(alloc, most as usize)?,
             ends: Vec::with_capacity(alloc, most as usize + 2 * MOST_ENDS)?,
             agents: Vec::with_capacity(alloc, all)?,
-            names: vec![in alloc; CellNo(0); all]?,
             rest: Vec::with_capacity(alloc, most as usize)?,
             part: Vec::with_capacity(alloc, most as usize)?,
         })

@@ -1,8 +1,6 @@
-use Rattle.std.proofs.Common.{◌≡◌, ◌≤◌, ◌+◌, ◌*◌, ◌++◌, ℕ, List, length, map, take, refl, sym, ap, subst, ◌∙◌, arith}
+use Rattle.std.proofs.Common.{◌≡◌, ◌≤◌, ◌+◌, ◌++◌, ℕ, List, length, map, take, refl, sym, ap, subst, ◌∙◌, arith}
 use Rattle.std.specs.Prelude.{All}
-use Rattle.std.specs.Vec.{with_items}
-use Rattle.std.proofs.lemmas.List.{length-take-le, with_items_is}
-use Rattle.in_arena.specs.Classes.{classes}
+use Rattle.std.proofs.lemmas.List.{length-take-le}
 use Rattle.in_arena.specs.declared.content.CellNo.{CellNo}
 use Rattle.in_arena.specs.declared.content.End.{End}
 use Rattle.in_interaction.specs.Queues.{both}
@@ -11,16 +9,11 @@ use Rattle.in_moving.specs.TakingOut.{AreLedTo, AreNumberedAnew}
 use Rattle.in_reducer.specs.declared.body.Body.{Body}
 use Rattle.in_reducer.specs.declared.body.OwnEnd.{OwnEnd}
 use Rattle.in_reducer.specs.Gluing.{IsFreeWithin, glued}
-use Rattle.in_reducer.specs.Inside.{IsKept, KeepsNet}
-use Rattle.in_reducer.proofs.AtRest.{as_many}
+use Rattle.in_reducer.specs.Inside.{KeepsNet}
 use Rattle.in_reducer.proofs.Glued as glue
 use Rattle.in_reducer.proofs.StillNet as still
 use Rattle.in_reducer.proofs.Together as together
 use Rattle.in_reducer.proofs.body.Body.glue.Goals as goal
-
--- how many cells there are
-all_cells : (r : Body) → IsKept r → length r.arena.states ≡ length classes * r.arena.cells
-all_cells r k = sym (as_many r.arena) ∙ k.all.net.net.all
 
 pub number_anew-requires-clause-led : goal.number_anew-requires-clause-led
 number_anew-requires-clause-led c =
@@ -71,21 +64,17 @@ glue_ends-requires-clause-part c =
     let o = c.args.part.now in
     let k = c.requires.kept.all.net in
     let l = c.requires.part.all.net in
-    let x = c.args.seam in
     let ns = c.copy.new.names in
-    let long : length ns ≡ length x.names.items = c.copy.ensures.names ∙ ap length c.as_mut_slice.ensures.value in
-    let items : (with_items x.names ns).items ≡ ns = with_items_is x.names ns (let ok = x.names.ok.0 in omega (arith, ok, long)) in
-    let room : length o.arena.states ≤ length ns = (let ok = x.names.ok.0 in let e = all_cells o c.requires.part in let f = x.names_there in let g = c.requires.cells in omega (arith, ok, e, f, g, long)) in
-    let named : c.as_slice-7.result.now ≡ ns = c.as_slice-7.ensures.value ∙ items in
-    subst (λ (z : List End). All (IsEndWithin (length c.as_slice-7.result.now) (length c.as_slice-8.result.now)) (take c.args.cuts z)) (sym c.as_slice-9.ensures.value)
-    (subst (λ (z : ℕ). All (IsEndWithin (length c.as_slice-7.result.now) z) (take c.args.cuts o.ends.items)) (sym (ap length c.as_slice-8.ensures.value ∙ c.list_part_numbers.ensures.many))
-    (together.all_within o l (length c.as_slice-7.result.now) c.args.cuts (let e = ap length named in omega (arith, e, room)) (sym c.requires.cuts)))
+    let room : length o.arena.states ≤ length ns = (let e = c.requires.names in let f = c.copy.ensures.names in omega (arith, e, f)) in
+    subst (λ (z : List End). All (IsEndWithin (length ns) (length c.as_slice-7.result.now)) (take c.args.cuts z)) (sym c.as_slice-8.ensures.value)
+    (subst (λ (z : ℕ). All (IsEndWithin (length ns) z) (take c.args.cuts o.ends.items)) (sym (ap length c.as_slice-7.ensures.value ∙ c.list_part_numbers.ensures.many))
+    (together.all_within o l (length ns) c.args.cuts room (sym c.requires.cuts)))
 
 pub glue_ends-requires-clause-rest : goal.glue_ends-requires-clause-rest
 glue_ends-requires-clause-rest c =
     let r = c.args.self.now in
-    subst (λ (z : List End). All (IsFreeWithin (length c.as_slice-10.result.now)) (take (c.args.own + c.args.cuts) z)) (sym c.as_slice.ensures.value)
-    (subst (λ (z : ℕ). All (IsFreeWithin z) (take (c.args.own + c.args.cuts) r.ends.items)) (sym (ap length c.as_slice-10.ensures.value ∙ c.list_rest_numbers.ensures.many))
+    subst (λ (z : List End). All (IsFreeWithin (length c.as_slice-9.result.now)) (take (c.args.own + c.args.cuts) z)) (sym c.as_slice.ensures.value)
+    (subst (λ (z : ℕ). All (IsFreeWithin z) (take (c.args.own + c.args.cuts) r.ends.items)) (sym (ap length c.as_slice-9.ensures.value ∙ c.list_rest_numbers.ensures.many))
     (together.all_free_within r c.requires.kept.all.net (c.args.own + c.args.cuts) (sym c.requires.rest)))
 
 pub add_pairs-requires-clause-within : goal.add_pairs-requires-clause-within
@@ -95,17 +84,12 @@ add_pairs-requires-clause-within c = λ j q at.
     let o = c.args.part.now in
     let k = c.requires.kept.all.net in
     let l = c.requires.part.all.net in
-    let x = c.args.seam in
     let ns = c.copy.new.names in
-    let long : length ns ≡ length x.names.items = c.copy.ensures.names ∙ ap length c.as_mut_slice.ensures.value in
-    let items : (with_items x.names ns).items ≡ ns = with_items_is x.names ns (let ok = x.names.ok.0 in omega (arith, ok, long)) in
-    let room : length o.arena.states ≤ length ns = (let ok = x.names.ok.0 in let e = all_cells o c.requires.part in let f = x.names_there in let g = c.requires.cells in omega (arith, ok, e, f, g, long)) in
-    let named : c.as_slice-11.result.now ≡ ns = c.as_slice-11.ensures.value ∙ items in
-    let many = ap length named in
+    let room : length o.arena.states ≤ length ns = (let e = c.requires.names in let f = c.copy.ensures.names in omega (arith, e, f)) in
     let h = together.pair_within o l j q at in
     let one = h.0 in
     let two = h.1 in
-    (omega (arith, one, many, room), omega (arith, two, many, room))
+    (omega (arith, one, room), omega (arith, two, room))
     )
 
 pub add_pairs-requires-clause-room : goal.add_pairs-requires-clause-room
@@ -114,10 +98,7 @@ add_pairs-requires-clause-room c =
     let o = c.args.part.now in
     let k = c.requires.kept.all.net in
     let l = c.requires.part.all.net in
-    let x = c.args.seam in
     let ns = c.copy.new.names in
-    let long : length ns ≡ length x.names.items = c.copy.ensures.names ∙ ap length c.as_mut_slice.ensures.value in
-    let items : (with_items x.names ns).items ≡ ns = with_items_is x.names ns (let ok = x.names.ok.0 in omega (arith, ok, long)) in
     let agents = c.list_live.new.cells.items in
     let live = c.list_live.ensures in
     let rest_numbers = c.list_rest_numbers.new.numbers.items in
@@ -132,8 +113,8 @@ add_pairs-requires-clause-room c =
     let is_new = is_glued r o c.args.own c.args.cuts c.requires.rest c.requires.cuts _ _ new c.as_slice-5.ensures.value c.as_slice-6.ensures.value c.glue_free.ensures in
     let sides = c.add_sides.ensures.items.0 in
     let list = c.add_sides.new.ends.items in
-    let is_list = are_glued r o k l c.args.own c.args.cuts c.requires.rest c.requires.cuts rest_numbers part_numbers ns _ _ _ _ _ c.glue_ends.new.ends.items sides list c.as_slice.ensures.value c.as_slice-9.ensures.value c.as_slice-10.ensures.value c.as_slice-8.ensures.value
-    (c.as_slice-7.ensures.value ∙ items) c.glue_ends.ensures.items c.add_sides.ensures.items.2 in
+    let is_list = are_glued r o k l c.args.own c.args.cuts c.requires.rest c.requires.cuts rest_numbers part_numbers ns _ _ _ _ _ c.glue_ends.new.ends.items sides list c.as_slice.ensures.value c.as_slice-8.ensures.value c.as_slice-9.ensures.value c.as_slice-7.ensures.value
+    refl c.glue_ends.ensures.items c.add_sides.ensures.items.2 in
     let few = glue.few_pairs r o k l c.requires.can c.args.own c.args.cuts c.requires.rest c.requires.cuts agents live rest_numbers each_rest part_numbers each_part a anew ns b copied new is_new sides list is_list
     (r.queue.items ++ map (both (name_in ns)) o.queue.items) refl in
     omega (arith, few)
@@ -146,8 +127,6 @@ returns-clause-kept c =
     let l = c.requires.part.all.net in
     let x = c.args.seam in
     let ns = c.copy.new.names in
-    let long : length ns ≡ length x.names.items = c.copy.ensures.names ∙ ap length c.as_mut_slice.ensures.value in
-    let items : (with_items x.names ns).items ≡ ns = with_items_is x.names ns (let ok = x.names.ok.0 in omega (arith, ok, long)) in
     let agents = c.list_live.new.cells.items in
     let live = c.list_live.ensures in
     let rest_numbers = c.list_rest_numbers.new.numbers.items in
@@ -162,10 +141,10 @@ returns-clause-kept c =
     let is_new = is_glued r o c.args.own c.args.cuts c.requires.rest c.requires.cuts _ _ new c.as_slice-5.ensures.value c.as_slice-6.ensures.value c.glue_free.ensures in
     let sides = c.add_sides.ensures.items.0 in
     let list = c.add_sides.new.ends.items in
-    let is_list = are_glued r o k l c.args.own c.args.cuts c.requires.rest c.requires.cuts rest_numbers part_numbers ns _ _ _ _ _ c.glue_ends.new.ends.items sides list c.as_slice.ensures.value c.as_slice-9.ensures.value c.as_slice-10.ensures.value c.as_slice-8.ensures.value
-    (c.as_slice-7.ensures.value ∙ items) c.glue_ends.ensures.items c.add_sides.ensures.items.2 in
+    let is_list = are_glued r o k l c.args.own c.args.cuts c.requires.rest c.requires.cuts rest_numbers part_numbers ns _ _ _ _ _ c.glue_ends.new.ends.items sides list c.as_slice.ensures.value c.as_slice-8.ensures.value c.as_slice-9.ensures.value c.as_slice-7.ensures.value
+    refl c.glue_ends.ensures.items c.add_sides.ensures.items.2 in
     let queue = c.add_pairs.new.queue.items in
-    let is_queue = c.add_pairs.ensures.items ∙ ap (λ (z : List CellNo). r.queue.items ++ map (both (name_in z)) o.queue.items) (c.as_slice-11.ensures.value ∙ items) in
+    let is_queue = c.add_pairs.ensures.items in
     let tools = c.requires.kept.all.tools in
     let alike = together.alike r o k l c.requires.can agents live (number_in rest_numbers) a anew part_numbers ns b copied in
     record {
@@ -199,10 +178,7 @@ returns-clause-glued c =
     let o = c.args.part.now in
     let k = c.requires.kept.all.net in
     let l = c.requires.part.all.net in
-    let x = c.args.seam in
     let ns = c.copy.new.names in
-    let long : length ns ≡ length x.names.items = c.copy.ensures.names ∙ ap length c.as_mut_slice.ensures.value in
-    let items : (with_items x.names ns).items ≡ ns = with_items_is x.names ns (let ok = x.names.ok.0 in omega (arith, ok, long)) in
     let agents = c.list_live.new.cells.items in
     let live = c.list_live.ensures in
     let rest_numbers = c.list_rest_numbers.new.numbers.items in
@@ -217,8 +193,8 @@ returns-clause-glued c =
     let is_new = is_glued r o c.args.own c.args.cuts c.requires.rest c.requires.cuts _ _ new c.as_slice-5.ensures.value c.as_slice-6.ensures.value c.glue_free.ensures in
     let sides = c.add_sides.ensures.items.0 in
     let list = c.add_sides.new.ends.items in
-    let is_list = are_glued r o k l c.args.own c.args.cuts c.requires.rest c.requires.cuts rest_numbers part_numbers ns _ _ _ _ _ c.glue_ends.new.ends.items sides list c.as_slice.ensures.value c.as_slice-9.ensures.value c.as_slice-10.ensures.value c.as_slice-8.ensures.value
-    (c.as_slice-7.ensures.value ∙ items) c.glue_ends.ensures.items c.add_sides.ensures.items.2 in
+    let is_list = are_glued r o k l c.args.own c.args.cuts c.requires.rest c.requires.cuts rest_numbers part_numbers ns _ _ _ _ _ c.glue_ends.new.ends.items sides list c.as_slice.ensures.value c.as_slice-8.ensures.value c.as_slice-9.ensures.value c.as_slice-7.ensures.value
+    refl c.glue_ends.ensures.items c.add_sides.ensures.items.2 in
     let queue = c.add_pairs.new.queue.items in
-    let is_queue = c.add_pairs.ensures.items ∙ ap (λ (z : List CellNo). r.queue.items ++ map (both (name_in z)) o.queue.items) (c.as_slice-11.ensures.value ∙ items) in
+    let is_queue = c.add_pairs.ensures.items in
     glue.glued_on r o k l c.requires.can c.args.own c.args.cuts c.requires.rest c.requires.cuts agents live rest_numbers each_rest part_numbers each_part a anew ns b copied new is_new sides list is_list queue is_queue c.requires.kept.none
