@@ -1,5 +1,4 @@
 // Lists that are used for one part after another.
-ghost use Rattle.std.specs.Prelude.{◌≡◌, true, length};
 
 use crate::branch::{Branch, empty};
 use in_reducer::CellNo;
@@ -20,13 +19,5 @@ impl Room {
             branch: empty(alloc, numbers)?,
             names: vec![in alloc; CellNo(0); numbers as usize]?,
         })
-    }
-
-    /// Whether it is for a reducer with so many numbers.
-    pub(crate) fn is_for(&self, numbers: u32) -> bool
-        ensures marks { result ≡ true → length self.now.branch.marks.items ≡ numbers }
-        ensures names { result ≡ true → length self.now.names.items ≡ numbers }
-    {
-        self.branch.is_for(numbers) && self.names.len() == numbers as usize
     }
 }

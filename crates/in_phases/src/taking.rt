@@ -54,7 +54,6 @@ fn split<'a>(
     requires branch { IsBranch reducer.old branch.now }
     requires cuts { cuts + cuts ≤ length reducer.old.free }
     requires share { share ≤ most_cells }
-    requires names { length names.old ≡ length reducer.old.agents }
     ensures split { MatchOption result (reducer.new ≡ reducer.old) (λ t. (t.cuts ≡ cuts) × IsSplitBy reducer.old t.cuts t.cells t.seam t.part reducer.new) }
     ensures names { length names.new ≡ length names.old }
     ensures fits { IfSome result (λ t. length classes * t.cells ≤ length names.new) }
@@ -62,10 +61,10 @@ fn split<'a>(
     let all = reducer.free_ends();
     let own = all - 2 * cuts;
     let cells = branch.agents.len() + share as usize;
-    if cells > MOST_CELLS || 3 * cells > names.len() || all > MOST_FREE_ENDS {
+    if names.len() != reducer.numbers() as usize || 3 * cells > names.len() {
         return None;
     }
-    if !is_closed(reducer, branch, own, cuts) {
+    if cells > MOST_CELLS || all > MOST_FREE_ENDS || !is_closed(reducer, branch, own, cuts) {
         return None;
     }
     let cells = cells as u32;
@@ -128,7 +127,10 @@ pub(crate) fn take_part<'a>(
     ensures fits { IfSome result (λ t. length classes * t.cells ≤ length room.new.names.items) }
 {
     reducer.pairs();
-    if !room.is_for(reducer.numbers()) || room.branch.gather(reducer, pairs).is_err() {
+    if !room.branch.is_for(reducer.numbers()) {
+        return None;
+    }
+    if room.branch.gather(reducer, pairs).is_err() {
         return None;
     }
     let cuts = cut_off(reducer, &room.branch);

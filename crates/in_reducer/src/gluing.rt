@@ -1,7 +1,8 @@
 // A part is glued on.
-ghost use Rattle.std.specs.Prelude.{◌≡◌, ◌≤◌, ◌<◌, ◌+◌, ◌++◌, ℕ, [], length, map, All, vec_len, vec_capacity};
+ghost use Rattle.std.specs.Prelude.{◌≡◌, ◌*◌, ◌≤◌, ◌<◌, ◌+◌, ◌++◌, ℕ, [], length, map, All, vec_len, vec_capacity};
 ghost use Rattle.in_arena.specs.Arenas.{NoneLeased};
 ghost use Rattle.in_arena.specs.declared.content.CellClass.{CellClass as Class};
+ghost use Rattle.in_arena.specs.Classes.{classes};
 ghost use Rattle.in_compile.specs.Cells.{agents_of, count_of};
 ghost use Rattle.in_moving.specs.Copying.{IsEndWithin, IsListOfLive, moved_end, name_in, number_in};
 ghost use Rattle.in_reducer.specs.Appending.{CanAppend};
@@ -212,13 +213,13 @@ impl<'a> Reducer<'a> {
     /// Glues a part on, which has as many free ends as there were cuts when it was split off: these come by turns between those that the rest
     /// has of the cuts, so that the two ends of a cut stand side by side again, the last ones last, and `join_last` undoes the cuts. Of each
     /// class as many cells have to be free as the part has agents. The new numbers of the part's cells are written in `names`, which is as long
-    /// as the part has numbers. It takes no memory: the seam has all else that is wanted, for so many free ends and cells.
+    /// as there are numbers where the seam is for so many cells. It takes no memory: the seam has all else that is wanted, for so many free ends and cells.
     pub fn glue_on(&mut self, part: &Reducer, seam: Seam, names: &mut [CellNo])
         requires can { CanAppend self.old part.now }
         requires fewer { length part.now.free ≤ length self.old.free }
         requires ends { length self.old.free + length part.now.free ≤ seam.most }
         requires cells { (c : Class) → count_of part.now.vacant c + agents_of part.now.program.tables c part.now.agents ≤ seam.cells }
-        requires names { length part.now.agents ≤ length names.old }
+        requires names { length classes * seam.cells ≤ length names.old }
         ensures glued { (own : ℕ) → length self.old.free ≡ own + length part.now.free → IsGluedOn self.old part.now own (length part.now.free) self.new }
         ensures names { length names.new ≡ length names.old }
     {

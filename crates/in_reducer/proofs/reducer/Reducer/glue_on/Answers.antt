@@ -1,7 +1,10 @@
-use Rattle.std.proofs.Common.{◌+◌, ℕ, length, ap, arith}
+use Rattle.std.proofs.Common.{◌≡◌, ◌+◌, ◌*◌, ℕ, length, sym, ap, ◌∙◌, arith}
+use Rattle.std.proofs.lemmas.List.{length-map}
 use Rattle.in_arena.specs.declared.content.CellClass.TheVariants.{Small}
+use Rattle.in_arena.specs.Classes.{classes}
 use Rattle.in_compile.specs.Cells.{agents_of, count_of}
 use Rattle.in_reducer.specs.Machines.{MachineParts}
+use Rattle.in_reducer.specs.Standing.{rested}
 use Rattle.in_reducer.proofs.Counted.{cells_at_rest}
 use Rattle.in_reducer.proofs.CutOff.{free_many}
 use Rattle.in_reducer.proofs.reducer.Reducer.glue_on.Goals as goal
@@ -35,3 +38,14 @@ glue-requires-clause-cells c =
     let v = ap small_cells c.part.view_is in
     let few = c.requires.cells Small in
     omega (arith, all, v, few)
+
+pub glue-requires-clause-names : goal.glue-requires-clause-names
+glue-requires-clause-names c =
+    let r = c.part.inside.body in
+    let net = c.part.invariant.all.net.net in
+    let many : length r.arena.states ≡ length classes * r.arena.cells = sym (length-map r.arena.states rested) ∙ net.all in
+    let all = cells_at_rest r.checked.now.tables r.arena net Small in
+    let v = ap small_cells c.part.view_is in
+    let few = c.requires.cells Small in
+    let names = c.requires.names in
+    omega (arith, all, v, few, many, names)
