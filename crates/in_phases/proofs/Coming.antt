@@ -1,6 +1,7 @@
 -- A part comes back.
-use Rattle.std.proofs.Common.{◌≡◌, ◌+◌, ◌≤◌, ℕ, length, refl, sym, ap, subst, ◌∙◌, arith}
-use Rattle.std.proofs.lemmas.List.{length-map}
+use Rattle.std.proofs.Common.{◌≡◌, ◌+◌, ◌≤◌, ℕ, List, Vec, length, refl, sym, ap, subst, ◌∙◌, arith}
+use Rattle.std.specs.Vec.{with_items}
+use Rattle.std.proofs.lemmas.List.{length-map, with_items_is}
 use Rattle.in_arena.specs.declared.content.CellClass.{CellClass}
 use Rattle.in_check.specs.Programs.{Program}
 use Rattle.in_compile.specs.Cells.{agents_of, count_of}
@@ -109,3 +110,7 @@ comes_reduced m rest now part t i j floor taken of_rest of_part free = record {
       omega (arith, there, many, size, tables, first)
       );
 }
+
+-- a list that was lent as a slice is as long as before
+pub lent_back : {X Z : Type 0} (v : Vec X Z) (ws : List X) → length ws ≡ length v.items → length (with_items v ws).items ≡ length v.items
+lent_back v ws long = ap length (with_items_is v ws (let ok = v.ok.0 in omega (arith, ok, long))) ∙ long

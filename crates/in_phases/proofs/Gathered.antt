@@ -9,15 +9,16 @@ use Rattle.in_net.specs.Parts.{symbol_in}
 use Rattle.in_net.proofs.Public.{symbol_within}
 use Rattle.in_interaction.proofs.Public.{has_value}
 use Rattle.in_reducer.specs.Machines.{MachineParts, parts_of}
-use Rattle.in_phases.specs.Branches.{AreOfBranch, HasAgent, MarksAreListed}
+use Rattle.in_phases.specs.Branches.{AreOfBranch, HasAgent}
+use Rattle.in_phases.specs.Marks.{NoOtherIsMarked}
 
 -- a branch that has forgotten its agents
-pub none_gathered : (m : MachineParts) (marks : List Bool) → length marks ≡ length m.agents → MarksAreListed [] marks → AreOfBranch m [] marks
-none_gathered m marks many listed = record {
+pub none_gathered : (m : MachineParts) (marks : List Bool) → length marks ≡ length m.agents → NoOtherIsMarked [] marks → AreOfBranch m [] marks
+none_gathered m marks many no_other = record {
   there = λ k c at. cc;
   once = λ j k c at also. cc;
   marked = λ k c at. cc;
-  listed = listed;
+  listed = λ y at. absurd (no_other y (λ k e. cc) at);
   inside = λ y there. (
       let s = has_value (symbol_in (parts_of m) y) there in
       let low = symbol_within (parts_of m) y s.0 s.1 in
@@ -25,17 +26,18 @@ none_gathered m marks many listed = record {
       );
 }
 
+-- what is gathered marks no other
+pub gathered_marks : (m : MachineParts) (agents : List CellNo) (marks : List Bool) → AreOfBranch m agents marks → NoOtherIsMarked agents marks
+gathered_marks m agents marks h y none at = let k = h.listed y at in none k.0 k.1
+
 -- the last agent is forgotten, and its mark is taken away
-pub one_forgotten : (agents : List CellNo) (c : CellNo) (marks : List Bool) → MarksAreListed (agents ++ c ∷ []) marks → MarksAreListed agents (set marks c.0 false)
-one_forgotten agents c marks listed y at = elim (ℕ_discrete y c.0) [
-  | yes same ↦ absurd (unset marks c.0 (subst (λ (z : ℕ). slice_get (set marks c.0 false) z ≡ Some true) same at))
-  | no other ↦ (
-      let old = listed y (sym (set_there marks c.0 y false other) ∙ at) in
-      elim (more_at agents c (record { 0 = y }) old.0 old.1) [
-        | inl kept ↦ (old.0, kept)
-        | inr last ↦ absurd (other (ap (λ (z : CellNo). z.0) (sym last.1)))
-      ]
-      )
+pub one_forgotten : (agents : List CellNo) (c : CellNo) (marks : List Bool) → NoOtherIsMarked (agents ++ c ∷ []) marks → NoOtherIsMarked agents (set marks c.0 false)
+one_forgotten agents c marks no_other y none at = elim (ℕ_discrete y c.0) [
+  | yes same ↦ unset marks c.0 (subst (λ (z : ℕ). slice_get (set marks c.0 false) z ≡ Some true) same at)
+  | no other ↦ no_other y (λ k e. elim (more_at agents c (record { 0 = y }) k e) [
+      | inl kept ↦ none k kept
+      | inr last ↦ other (ap (λ (z : CellNo). z.0) (sym last.1))
+    ]) (sym (set_there marks c.0 y false other) ∙ at)
 ]
   where
     unset : (marks : List Bool) (n : ℕ) → slice_get (set marks n false) n ≡ Some true → ⊥
@@ -44,13 +46,11 @@ one_forgotten agents c marks listed y at = elim (ℕ_discrete y c.0) [
     unset (b ∷ bs) (suc n) e = unset bs n e
 
 -- .. or there is none at its number
-pub none_forgotten : (agents : List CellNo) (c : CellNo) (marks : List Bool) → MarksAreListed (agents ++ c ∷ []) marks → length marks ≤ c.0 → MarksAreListed agents marks
-none_forgotten agents c marks listed past y at =
-    let old = listed y at in
-    elim (more_at agents c (record { 0 = y }) old.0 old.1) [
-      | inl kept ↦ (old.0, kept)
-      | inr last ↦ absurd (let low = slice_get_within marks y true at in let same : c.0 ≡ y = ap (λ (z : CellNo). z.0) last.1 in omega (arith, low, past, same))
-    ]
+pub none_forgotten : (agents : List CellNo) (c : CellNo) (marks : List Bool) → NoOtherIsMarked (agents ++ c ∷ []) marks → length marks ≤ c.0 → NoOtherIsMarked agents marks
+none_forgotten agents c marks no_other past y none at = no_other y (λ k e. elim (more_at agents c (record { 0 = y }) k e) [
+  | inl kept ↦ none k kept
+  | inr last ↦ (let low = slice_get_within marks y true at in let same : c.0 ≡ y = ap (λ (z : CellNo). z.0) last.1 in absurd (omega (arith, low, past, same)))
+]) at
 
 module _ (m : MachineParts) (agents : List CellNo) (marks : List Bool) (h : AreOfBranch m agents marks) (c : CellNo) (there : HasAgent m c.0) (fresh : slice_get marks c.0 ≡ Some false) where
   not_listed : (k : ℕ) (d : CellNo) → slice_get agents k ≡ Some d → d.0 ≢ c.0

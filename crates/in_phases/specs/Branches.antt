@@ -20,16 +20,12 @@ abbrev pub LeadsSomewhere : MachineParts → End → Type 0
 LeadsSomewhere m (Cell c i) = HasAgent m c.0
 LeadsSomewhere m (Free k) = Unit {0}
 
--- a mark is set at the numbers of these agents alone
-abbrev pub MarksAreListed : List CellNo → List Bool → Type 0
-MarksAreListed agents marks = (y : ℕ) → slice_get marks y ≡ Some true → (k : ℕ) × (slice_get agents k ≡ Some (record { 0 = y }))
-
 -- these are agents of the net, each listed once, and the marks are set at their numbers alone
 pub record AreOfBranch (m : MachineParts) (agents : List CellNo) (marks : List Bool) : Type 0 where
   pub there : (k : ℕ) (c : CellNo) → slice_get agents k ≡ Some c → HasAgent m c.0
   pub once : (j k : ℕ) (c : CellNo) → slice_get agents j ≡ Some c → slice_get agents k ≡ Some c → j ≡ k
   pub marked : (k : ℕ) (c : CellNo) → slice_get agents k ≡ Some c → slice_get marks c.0 ≡ Some true
-  pub listed : MarksAreListed agents marks
+  pub listed : (y : ℕ) → slice_get marks y ≡ Some true → (k : ℕ) × (slice_get agents k ≡ Some (record { 0 = y }))
   pub inside : (y : ℕ) → HasAgent m y → y < length marks
 
 abbrev pub IsBranch : MachineParts → Branch → Type 0

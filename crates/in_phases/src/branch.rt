@@ -1,122 +1,12 @@
 // The agents of a part.
-ghost use Rattle.std.specs.Prelude.{◌≡◌, ◌<◌, ◌≤◌, true, [], length, OnOk, Some, slice_get};
-ghost use Rattle.in_phases.specs.Branches.{HasAgent, IsBranch, MarksAreListed};
+ghost use Rattle.in_phases.specs.Marks.{NoOtherIsMarked};
 
-use in_reducer::{CellNo, End, Reducer};
-use std::alloc::{AllocError, Global};
+use in_reducer::CellNo;
 
 /// Agents of a net, each once, and for each number whether it is that of one of them. It is used for one part after another.
 #[derive(Drop)]
 pub(crate) struct Branch {
     pub(crate) agents: Vec<CellNo>,
     pub(crate) marks: Vec<bool>,
-    ghost listed: { MarksAreListed agents.items marks.items },
-}
-
-/// A branch without agents, for nets with so many numbers.
-pub(crate) fn empty(alloc: Global, numbers: u32) -> Result<Branch, AllocError> {
-    Ok(Branch {
-        agents: Vec::new(alloc),
-        marks: vec![in alloc; false; numbers as usize]?,
-    })
-}
-
-impl Branch {
-    /// Whether it is for nets with so many numbers.
-    pub(crate) fn is_for(&self, numbers: u32) -> bool
-        ensures { result ≡ true → length self.now.marks.items ≡ numbers }
-    {
-        self.marks.len() == numbers as usize
-    }
-
-    /// Forgets all agents.
-    fn clear(&mut self)
-        ensures none { self.new.agents.items ≡ [] }
-        ensures many { length self.new.marks.items ≡ length self.old.marks.items }
-    {
-        while let Some(cell) = self.agents.pop() {
-            let number = cell.0 as usize;
-            if number < self.marks.len() {
-                self.marks[number] = false;
-            }
-        }
-    }
-
-    /// Whether this agent is one of them.
-    pub(crate) fn has(&self, cell: CellNo) -> bool
-        requires { cell.0 < length self.now.marks.items }
-        ensures { slice_get self.now.marks.items cell.0 ≡ Some result }
-    {
-        self.marks[cell.0 as usize]
-    }
-
-    /// Takes an agent in, where it isn't yet.
-    fn take_in(&mut self, reducer: &Reducer, cell: CellNo) -> Result<(), AllocError>
-        requires branch { IsBranch reducer.now self.old }
-        requires there { HasAgent reducer.now cell.0 }
-        ensures { OnOk result (IsBranch reducer.now self.new) }
-    {
-        let _ = reducer;
-        if !self.has(cell) {
-            self.agents.push(cell)?;
-            self.marks[cell.0 as usize] = true;
-        }
-        Ok(())
-    }
-
-    /// Takes in both agents of each of the first so many pairs.
-    fn take_pairs(&mut self, reducer: &Reducer, pairs: u32) -> Result<(), AllocError>
-        requires branch { IsBranch reducer.now self.old }
-        requires pairs { pairs ≤ length reducer.now.queue }
-        ensures { OnOk result (IsBranch reducer.now self.new) }
-    {
-        for number in 0..pairs {
-            let (one, other) = reducer.pair(number);
-            self.take_in(reducer, one)?;
-            self.take_in(reducer, other)?;
-        }
-        Ok(())
-    }
-
-    /// Takes in each agent whose principal port is joined to an auxiliary port of this one.
-    fn take_behind(&mut self, reducer: &Reducer, cell: CellNo) -> Result<(), AllocError>
-        requires branch { IsBranch reducer.now self.old }
-        requires there { HasAgent reducer.now cell.0 }
-        ensures { OnOk result (IsBranch reducer.now self.new) }
-    {
-        reducer.pairs();
-        for port in 0..reducer.arity(cell) {
-            if let End::Cell(behind, 0) = reducer.partner(End::Cell(cell, port + 1)) {
-                self.take_in(reducer, behind)?;
-            }
-        }
-        Ok(())
-    }
-
-    /// Takes in the agents behind each one that it has, and behind those, and so on.
-    fn take_trees(&mut self, reducer: &Reducer) -> Result<(), AllocError>
-        requires branch { IsBranch reducer.now self.old }
-        ensures { OnOk result (IsBranch reducer.now self.new) }
-    {
-        for number in 0..reducer.numbers() as usize {
-            if number >= self.agents.len() {
-                return Ok(());
-            }
-            let cell = self.agents[number];
-            self.take_behind(reducer, cell)?;
-        }
-        Ok(())
-    }
-
-    /// Forgets what it had, and gathers the trees behind the first so many pairs: both agents of each, each agent whose principal port is joined
-    /// to an auxiliary port of one of them, and so on. Few wires lead out of them. Refused for want of memory alone.
-    pub(crate) fn gather(&mut self, reducer: &Reducer, pairs: u32) -> Result<(), AllocError>
-        requires many { length self.old.marks.items ≡ length reducer.now.agents }
-        requires pairs { pairs ≤ length reducer.now.queue }
-        ensures { OnOk result (IsBranch reducer.now self.new) }
-    {
-        self.clear();
-        self.take_pairs(reducer, pairs)?;
-        self.take_trees(reducer)
-    }
+    ghost no_other: { NoOtherIsMarked agents.items marks.items },
 }

@@ -1,6 +1,7 @@
 // Lists that are used for one part after another.
 
-use crate::branch::{Branch, empty};
+use crate::branch::Branch;
+use crate::gathering::empty;
 use in_reducer::CellNo;
 use std::alloc::{AllocError, Global};
 

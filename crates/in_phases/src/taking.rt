@@ -61,10 +61,10 @@ fn split<'a>(
     let all = reducer.free_ends();
     let own = all - 2 * cuts;
     let cells = branch.agents.len() + share as usize;
-    if names.len() != reducer.numbers() as usize || 3 * cells > names.len() {
+    if cells > MOST_CELLS || all > MOST_FREE_ENDS || !is_closed(reducer, branch, own, cuts) {
         return None;
     }
-    if cells > MOST_CELLS || all > MOST_FREE_ENDS || !is_closed(reducer, branch, own, cuts) {
+    if names.len() != reducer.numbers() as usize || 3 * cells > names.len() {
         return None;
     }
     let cells = cells as u32;
@@ -130,9 +130,9 @@ pub(crate) fn take_part<'a>(
     if !room.branch.is_for(reducer.numbers()) {
         return None;
     }
-    if room.branch.gather(reducer, pairs).is_err() {
+    let Ok(()) = room.branch.gather(reducer, pairs) else {
         return None;
-    }
+    };
     let cuts = cut_off(reducer, &room.branch);
     reducer.pairs();
     let names = room.names.as_mut_slice();

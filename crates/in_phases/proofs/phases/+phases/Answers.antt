@@ -1,4 +1,4 @@
-use Rattle.std.proofs.Common.{◌≡◌, ◌+◌, ℕ, ap, sym, subst, ◌∙◌, arith}
+use Rattle.std.proofs.Common.{◌≡◌, ◌+◌, ℕ, length, ap, sym, subst, ◌∙◌, arith}
 use Rattle.in_arena.specs.declared.content.CellClass.TheVariants.{Small}
 use Rattle.in_check.specs.Programs.{Program}
 use Rattle.in_compile.specs.Cells.{agents_of}
@@ -30,6 +30,12 @@ reduce_in_parts-bring_back-requires g t c =
     let i = c.at_once-one.result.1.interactions in
     let j = c.at_once-one.result.0 in
     record {
+      names = (
+          let fits = c.in-Some.ensures.fits in
+          let same = c.at_once-one.ensures.names in
+          let lent = ap length c.as_mut_slice.ensures.value in
+          omega (arith, fits, same, lent)
+          );
       back = (
         m,
         i + j,

@@ -16,13 +16,13 @@ glue_on-requires-clause-cells c = let r = c.requires.back in cells_fit r.0 r.1 c
 pub join_up-requires : goal.join_up-requires
 join_up-requires c =
     let r = c.requires.back in
-    let x = comes_back r.0 r.1 c.args.taken c.args.reducer.now c.glue_on.new.self r.2 c.glue_on.ensures in
+    let x = comes_back r.0 r.1 c.args.taken c.args.reducer.now c.glue_on.new.self r.2 c.glue_on.ensures.glued in
     record { cut = (r.0, x.cut, r.1, r.2.taken.reducer, x.times, x.reduced) }
 
 pub returns-clause-reduces : goal.returns-clause-reduces
 returns-clause-reduces c = λ m k h.
     (
-    let x = comes_back m k c.args.taken c.args.reducer.now c.glue_on.new.self h c.glue_on.ensures in
+    let x = comes_back m k c.args.taken c.args.reducer.now c.glue_on.new.self h c.glue_on.ensures.glued in
     c.join_up.ensures.reduces m x.cut k h.taken.reducer x.times x.reduced
     )
 
@@ -31,5 +31,5 @@ returns-clause-vacant c = λ d.
     (
     let r = c.requires.back in
     ap (λ (n : Need). count_of n d + agents_of c.args.reducer.now.program.tables d c.args.taken.part.agents) c.join_up.ensures.vacant
-    ∙ room_back r.0 r.1 c.args.taken c.args.reducer.now c.glue_on.new.self r.2 c.glue_on.ensures d
+    ∙ room_back r.0 r.1 c.args.taken c.args.reducer.now c.glue_on.new.self r.2 c.glue_on.ensures.glued d
     )

@@ -9,7 +9,8 @@ use Rattle.in_reducer.specs.Machines.{MachineParts}
 use Rattle.in_reducer.specs.Parting.{ReducesTo}
 use Rattle.in_reducer.proofs.Public.{stays_reduce}
 use Rattle.in_phases.specs.Phases.{CanComeBack, HasFree}
-use Rattle.in_phases.proofs.Coming.{comes_at_once}
+use Rattle.std.specs.Vec.{with_items}
+use Rattle.in_phases.proofs.Coming.{comes_at_once, lent_back}
 use Rattle.in_phases.proofs.CutTimes.{ends_more, gathered_on, times_stay}
 use Rattle.in_phases.proofs.taking.take_part.Goals as goal
 
@@ -20,7 +21,7 @@ split-requires-clause-templates c =
 
 pub split-requires-clause-branch : goal.split-requires-clause-branch
 split-requires-clause-branch c =
-    let b = c.in-Ok.branch in
+    let b = c.gather.new.self in
     gathered_on c.args.reducer.now c.cut_off-cuts.new.reducer (times_stay c.args.reducer.now c.cut_off-cuts.new.reducer c.cut_off-cuts.result c.cut_off-cuts.ensures.cuts) b.agents.items b.marks.items
     c.in-Ok.ensures
 
@@ -30,26 +31,28 @@ split-requires-clause-cuts c =
     omega (arith, more)
 
 pub returns-in_default : goal.returns-in_default
-returns-in_default c = record { taken = (stays_reduce c.args.reducer.now, c.requires.floor); templates = c.requires.templates; part_templates = tt }
+returns-in_default c = record { taken = (stays_reduce c.args.reducer.now, c.requires.floor); templates = c.requires.templates; part_templates = tt; names = refl; fits = tt }
 
 pub join_up-requires : goal.join_up-requires
 join_up-requires c =
     let m = c.args.reducer.now in
     let cut = c.cut_off-cuts.new.reducer in
-    let same : c.split.new.reducer ≡ cut = c.in_default-split.ensures in
+    let same : c.split.new.reducer ≡ cut = c.in_default-split.ensures.split in
     record { cut = (m, cut, 0, c.pairs.ensures.reducer, c.cut_off-cuts.ensures.cuts, subst (λ (z : MachineParts). ReducesTo cut 0 z) (sym same) (stays_reduce cut)) }
 
 pub returns-in_default-split : goal.returns-in_default-split
 returns-in_default-split c =
     let m = c.args.reducer.now in
     let cut = c.cut_off-cuts.new.reducer in
-    let same : c.split.new.reducer ≡ cut = c.in_default-split.ensures in
+    let same : c.split.new.reducer ≡ cut = c.in_default-split.ensures.split in
     let vacant = c.join_up.ensures.vacant ∙ ap (λ (z : MachineParts). z.vacant) same ∙ (times_stay m cut c.cut_off-cuts.result c.cut_off-cuts.ensures.cuts).vacant in
     let reduced = c.join_up.ensures.reduces m cut 0 c.pairs.ensures.reducer c.cut_off-cuts.ensures.cuts (subst (λ (z : MachineParts). ReducesTo cut 0 z) (sym same) (stays_reduce cut)) in
     record {
       taken = (reduced, subst (λ (n : Need). (d : CellClass) → c.args.floor ≤ count_of n d) (sym vacant) c.requires.floor);
       templates = subst (λ (p : Program). AreTemplatesOf p c.args.templates.now) (sym reduced.program) c.requires.templates;
       part_templates = tt;
+      names = lent_back c.args.room.now.names c.split.new.names (c.in_default-split.ensures.names ∙ ap length c.as_mut_slice-names.ensures.value);
+      fits = tt;
     }
 
 pub overflow_add-floor : goal.overflow_add-floor
@@ -58,7 +61,7 @@ overflow_add-floor c =
     let floor = c.requires.floor Small in
     let all = of.2 Small in
     let most = of.1 in
-    let split = c.in-Some.ensures.1 in
+    let split = c.in-Some.ensures.split.1 in
     let part = split.of_part.cells in
     let there = part.2 Small in
     let size = split.split.part_cells Small in
@@ -70,7 +73,11 @@ bring_back-requires c =
     let m = c.args.reducer.now in
     let cut = c.cut_off-cuts.new.reducer in
     let t = c.in-Some.taken in
-    record { back = (m, 0, comes_at_once m cut c.split.new.reducer t c.pairs.ensures.reducer c.pairs-2.ensures.reducer c.cut_off-cuts.result c.cut_off-cuts.ensures.cuts c.in-Some.ensures.0 c.in-Some.ensures.1) }
+    let once = lent_back c.args.room.now.names c.split.new.names (c.in-Some.ensures.names ∙ ap length c.as_mut_slice-names.ensures.value) in
+    let same = ap length c.as_mut_slice.ensures.value in
+    let long = c.in-Some.ensures.names ∙ ap length c.as_mut_slice-names.ensures.value in
+    let fits = c.in-Some.ensures.fits in
+    record { names = omega (arith, once, same, long, fits); back = (m, 0, comes_at_once m cut c.split.new.reducer t c.pairs.ensures.reducer c.pairs-2.ensures.reducer c.cut_off-cuts.result c.cut_off-cuts.ensures.cuts c.in-Some.ensures.split.0 c.in-Some.ensures.split.1) }
 
 pub returns : goal.returns
 returns c =
@@ -78,8 +85,8 @@ returns c =
     let cut = c.cut_off-cuts.new.reducer in
     let now = c.split.new.reducer in
     let t = c.in-Some.taken in
-    let split = c.in-Some.ensures.1 in
-    let reduced = c.bring_back.ensures.reduces m 0 (comes_at_once m cut now t c.pairs.ensures.reducer c.pairs-2.ensures.reducer c.cut_off-cuts.result c.cut_off-cuts.ensures.cuts c.in-Some.ensures.0 split) in
+    let split = c.in-Some.ensures.split.1 in
+    let reduced = c.bring_back.ensures.reduces m 0 (comes_at_once m cut now t c.pairs.ensures.reducer c.pairs-2.ensures.reducer c.cut_off-cuts.result c.cut_off-cuts.ensures.cuts c.in-Some.ensures.split.0 split) in
     record {
       taken = (
         reduced,
@@ -94,17 +101,24 @@ returns c =
       );
       templates = subst (λ (p : Program). AreTemplatesOf p c.args.templates.now) (sym reduced.program) c.requires.templates;
       part_templates = tt;
+      names =
+          lent_back (with_items c.args.room.now.names c.split.new.names) c.bring_back.new.names (c.bring_back.ensures.names ∙ ap length c.as_mut_slice.ensures.value)
+          ∙ lent_back c.args.room.now.names c.split.new.names (c.in-Some.ensures.names ∙ ap length c.as_mut_slice-names.ensures.value);
+      fits = tt;
     }
 
 -- a part and the rest are of the program
 pub returns-then-has_free-clause-templates : goal.returns-then-has_free-clause-templates
 returns-then-has_free-clause-templates c =
-    let split = c.in-Some.ensures.1.split.two in
+    let split = c.in-Some.ensures.split.1.split.two in
     let s = times_stay c.args.reducer.now c.cut_off-cuts.new.reducer c.cut_off-cuts.result c.cut_off-cuts.ensures.cuts in
     subst (λ (p : Program). AreTemplatesOf p c.args.templates.now) (sym (split.program_rest ∙ s.program)) c.requires.templates
 
 pub returns-then-has_free-clause-part_templates : goal.returns-then-has_free-clause-part_templates
 returns-then-has_free-clause-part_templates c =
-    let split = c.in-Some.ensures.1.split.two in
+    let split = c.in-Some.ensures.split.1.split.two in
     let s = times_stay c.args.reducer.now c.cut_off-cuts.new.reducer c.cut_off-cuts.result c.cut_off-cuts.ensures.cuts in
     subst (λ (p : Program). AreTemplatesOf p c.args.templates.now) (sym (split.program_part ∙ s.program)) c.requires.templates
+
+pub returns-then-not-is_for-clause-taken : goal.returns-then-not-is_for-clause-taken
+returns-then-not-is_for-clause-taken c = (stays_reduce c.args.reducer.now, c.requires.floor)

@@ -1,10 +1,10 @@
 use Rattle.std.proofs.Common.{◌≡◌, length, vec_len}
-use Rattle.in_phases.specs.Branches.{MarksAreListed}
+use Rattle.in_phases.specs.Marks.{NoOtherIsMarked}
 use Rattle.in_phases.proofs.branch.Branch.clear.Given as goal
 
 abbrev pub invariant-loop-cell : goal.invariant-loop-cell
 invariant-loop-cell l = record {
-  listed : MarksAreListed l.self.agents.items l.self.marks.items;
+  no_other : NoOtherIsMarked l.self.agents.items l.self.marks.items;
   many : length l.self.marks.items ≡ length l.fn.self.marks.items;
 }
 
