@@ -4,7 +4,7 @@ ghost use Rattle.std.specs.Prelude.{◌≤◌};
 use crate::asked::Asked;
 use in_check::Checked;
 use in_print::write_net;
-use in_rounds::{CellClass, Machine, Sharing, Worked, phase};
+use in_rounds::{CellClass, Machine, Room, Sharing, Worked, phase};
 use in_syntax::MemoryOut;
 use in_test_programs::Look;
 use std::alloc::Global;
@@ -60,6 +60,7 @@ fn one_phase<R: Threads>(
     machine: &mut Machine,
     parts: u32,
     most: u64,
+    room: &mut Room,
 ) -> Worked {
     let parts = parts.max(1);
     let sharing = Sharing {
@@ -68,7 +69,7 @@ fn one_phase<R: Threads>(
         floor: 0,
         most,
     };
-    phase(rt, alloc, machine, sharing)
+    phase(rt, alloc, machine, sharing, room)
 }
 
 /// So many interactions in turn as are asked for, and a phase, within what is left.
@@ -78,10 +79,11 @@ fn turns_and_phase<R: Threads>(
     machine: &mut Machine,
     asked: Asked,
     left: u64,
+    room: &mut Room,
 ) -> Count {
     let turned = turns(machine, asked.between.min(left));
     let most = asked.most.min(left.saturating_sub(turned));
-    let worked = one_phase(rt, alloc, machine, asked.parts, most);
+    let worked = one_phase(rt, alloc, machine, asked.parts, most, room);
     Count {
         interactions: turned.saturating_add(worked.interactions),
         phases: if worked.parts > 1 { 1 } else { 0 },
@@ -89,7 +91,13 @@ fn turns_and_phase<R: Threads>(
 }
 
 /// The whole run. Each time but the last there is an interaction, so as many times as interactions are allowed are enough.
-fn all<R: Threads>(rt: &R, alloc: Global, machine: &mut Machine, asked: Asked) -> Count {
+fn all<R: Threads>(
+    rt: &R,
+    alloc: Global,
+    machine: &mut Machine,
+    asked: Asked,
+    room: &mut Room,
+) -> Count {
     let mut all = Count {
         interactions: 0,
         phases: 0,
@@ -99,7 +107,7 @@ fn all<R: Threads>(rt: &R, alloc: Global, machine: &mut Machine, asked: Asked) -
         if left == 0 || machine.pairs() == 0 {
             return all;
         }
-        let more = turns_and_phase(rt, alloc, machine, asked, left);
+        let more = turns_and_phase(rt, alloc, machine, asked, left, room);
         if more.interactions == 0 {
             return all;
         }
@@ -119,7 +127,8 @@ fn printed(alloc: Global, machine: &Machine) -> Option<String> {
 
 /// What the run of a machine comes to.
 fn came_of<R: Threads>(rt: &R, alloc: Global, machine: &mut Machine, asked: Asked) -> Option<Came> {
-    let count = all(rt, alloc, machine, asked);
+    let mut room = Room::new(alloc, machine.numbers()).ok()?;
+    let count = all(rt, alloc, machine, asked, &mut room);
     let text = printed(alloc, machine)?;
     Some(Came {
         text,

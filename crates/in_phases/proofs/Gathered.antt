@@ -35,9 +35,9 @@ pub one_forgotten : (agents : List CellNo) (c : CellNo) (marks : List Bool) → 
 one_forgotten agents c marks no_other y none at = elim (ℕ_discrete y c.0) [
   | yes same ↦ unset marks c.0 (subst (λ (z : ℕ). slice_get (set marks c.0 false) z ≡ Some true) same at)
   | no other ↦ no_other y (λ k e. elim (more_at agents c (record { 0 = y }) k e) [
-      | inl kept ↦ none k kept
-      | inr last ↦ other (ap (λ (z : CellNo). z.0) (sym last.1))
-    ]) (sym (set_there marks c.0 y false other) ∙ at)
+    | inl kept ↦ none k kept
+    | inr last ↦ other (ap (λ (z : CellNo). z.0) (sym last.1))
+  ]) (sym (set_there marks c.0 y false other) ∙ at)
 ]
   where
     unset : (marks : List Bool) (n : ℕ) → slice_get (set marks n false) n ≡ Some true → ⊥

@@ -5,7 +5,7 @@ ghost use Rattle.in_phases.specs.Phases.{HasFree};
 
 use in_check::Checked;
 use in_compile::{Need, Templates, compile, need_of_net};
-use in_phases::{Sharing, Worked, reduce_in_parts};
+use in_phases::{Room, Sharing, Worked, reduce_in_parts};
 use in_reducer::{CellClass, Reducer};
 use in_test_programs::Look;
 use std::alloc::Global;
@@ -31,7 +31,10 @@ fn start<'a>(alloc: Global, program: &'a Checked, templates: &Templates) -> Opti
     if let Some(_class) = need.first_short(Need::each(4096)) {
         return None;
     }
-    Reducer::new(alloc, program, templates, 4096).ok()
+    match Reducer::new(alloc, program, templates, 4096) {
+        Ok(reducer) => Some(reducer),
+        Err(_) => None,
+    }
 }
 
 /// Interactions first in, first out, so many at most. Says how many.
@@ -75,6 +78,7 @@ fn phase<R: Threads>(
     reducer: &mut Reducer,
     templates: &Templates,
     shares: Shares,
+    room: &mut Room,
 ) -> Worked
     requires { AreTemplatesOf reducer.old.program templates.now }
     ensures { AreTemplatesOf reducer.new.program templates.now }
@@ -85,7 +89,7 @@ fn phase<R: Threads>(
         floor: floor_of(reducer),
         most: shares.most,
     };
-    reduce_in_parts(rt, alloc, reducer, templates, sharing)
+    reduce_in_parts(rt, alloc, reducer, templates, sharing, room)
 }
 
 /// A program that is reduced so, until no pair is left, or after 200 phases.
@@ -97,8 +101,15 @@ pub struct Parted<R> {
 
 impl<R: Threads + Drop> Look<Came> for Parted<R> {
     fn look(&self, alloc: Global, program: &Checked) -> Option<Came> {
-        let templates = compile(alloc, program).ok()?;
-        let mut reducer = start(alloc, program, &templates)?;
+        let Ok(templates) = compile(alloc, program) else {
+            return None;
+        };
+        let Some(mut reducer) = start(alloc, program, &templates) else {
+            return None;
+        };
+        let Ok(mut room) = Room::new(alloc, reducer.numbers()) else {
+            return None;
+        };
         let mut interactions = 0u64;
         let mut phases = 0u64;
         for _phase in 0..200 {
@@ -106,7 +117,14 @@ impl<R: Threads + Drop> Look<Came> for Parted<R> {
                 break;
             }
             let in_turn = turns(&mut reducer, &templates, self.shares.between);
-            let worked = phase(&self.rt, alloc, &mut reducer, &templates, self.shares);
+            let worked = phase(
+                &self.rt,
+                alloc,
+                &mut reducer,
+                &templates,
+                self.shares,
+                &mut room,
+            );
             interactions = interactions
                 .saturating_add(in_turn)
                 .saturating_add(worked.interactions);

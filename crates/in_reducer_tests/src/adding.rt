@@ -35,7 +35,10 @@ fn start<'a>(alloc: Global, program: &'a Checked, templates: &Templates) -> Opti
     if let Some(_class) = need.first_short(Need::each(64)) {
         return None;
     }
-    Reducer::new(alloc, program, templates, 64).ok()
+    match Reducer::new(alloc, program, templates, 64) {
+        Ok(reducer) => Some(reducer),
+        Err(_) => None,
+    }
 }
 
 /// Interactions of the newest pairs, a hundred at most. Says how many they were.
@@ -59,14 +62,22 @@ pub struct Twice;
 
 impl Look<(Sizes, u32, Sizes)> for Twice {
     fn look(&self, alloc: Global, program: &Checked) -> Option<(Sizes, u32, Sizes)> {
-        let templates = compile(alloc, program).ok()?;
-        let mut one = start(alloc, program, &templates)?;
-        let other = start(alloc, program, &templates)?;
+        let Ok(templates) = compile(alloc, program) else {
+            return None;
+        };
+        let Some(mut one) = start(alloc, program, &templates) else {
+            return None;
+        };
+        let Some(other) = start(alloc, program, &templates) else {
+            return None;
+        };
         let free_ends = u64::from(one.free_ends()) + u64::from(other.free_ends());
         if free_ends > 65_536 || !one.has_room_for(&other) {
             return None;
         }
-        one.append(alloc, &other).ok()?;
+        let Ok(()) = one.append(alloc, &other) else {
+            return None;
+        };
         let before = sizes_of(&one);
         let interactions = reduce(&mut one, &templates);
         Some((before, interactions, sizes_of(&one)))

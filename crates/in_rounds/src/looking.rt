@@ -45,6 +45,13 @@ impl<'a> Machine<'a> {
         self.reducer.agents()
     }
 
+    /// How many numbers there are for agents: those of all cells, whether free or not.
+    pub fn numbers(&self) -> u32
+        ensures { result ≡ length self.now.agents }
+    {
+        self.reducer.numbers()
+    }
+
     /// What a place of an agent leads to, the principal port being place 0, or what a free end leads to.
     pub fn partner(&self, end: End) -> End
         requires { IsPointOf (parts_of self.now) (point_at end) }
@@ -100,6 +107,7 @@ impl<'a> Machine<'a> {
     {
         self.reducer.need_of(&self.templates, number)
     }
+
     /// Whether what the pair of that number needs is free, so that `step` may do its interaction.
     pub fn has_room(&self, number: u32) -> bool
         requires { number < length self.now.queue }

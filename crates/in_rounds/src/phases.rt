@@ -5,7 +5,7 @@ ghost use Rattle.in_reducer.specs.Limiting.{most_cells};
 ghost use Rattle.in_rounds.specs.Phases.{IsPhase};
 
 use crate::machine::Machine;
-use in_phases::{Sharing, Worked, reduce_in_parts};
+use in_phases::{Room, Sharing, Worked, reduce_in_parts};
 use std::alloc::Global;
 use std::thread::Threads;
 
@@ -13,9 +13,15 @@ use std::thread::Threads;
 /// interactions are done, and in which order, is open; there are at most so many, and of each class at least so many cells are free afterwards.
 /// The net is one that the program reaches by as many interactions more.
 ///
-/// There is at least one part, and so many cells are free. It is never refused: where memory is wanted there are fewer parts, and where a
-/// thread can't be started the caller does its part. It waits for its threads.
-pub fn phase<R: Threads>(rt: &R, alloc: Global, machine: &mut Machine, sharing: Sharing) -> Worked
+/// There is at least one part, and so many cells are free. The room is for the machine's numbers, and is used again. A phase is never refused:
+/// where memory is wanted there are fewer parts, and where a thread can't be started the caller does its part. It waits for its threads.
+pub fn phase<R: Threads>(
+    rt: &R,
+    alloc: Global,
+    machine: &mut Machine,
+    sharing: Sharing,
+    room: &mut Room,
+) -> Worked
     requires parts { 1 ≤ sharing.parts }
     requires share { sharing.share ≤ most_cells }
     requires floor { HasFree machine.old sharing.floor }
@@ -23,7 +29,14 @@ pub fn phase<R: Threads>(rt: &R, alloc: Global, machine: &mut Machine, sharing: 
     ensures most { result.interactions ≤ sharing.most }
     ensures free { HasFree machine.new sharing.floor }
 {
-    let worked = reduce_in_parts(rt, alloc, &mut machine.reducer, &machine.templates, sharing);
+    let worked = reduce_in_parts(
+        rt,
+        alloc,
+        &mut machine.reducer,
+        &machine.templates,
+        sharing,
+        room,
+    );
     machine.reducer.pairs();
     worked
 }

@@ -115,8 +115,8 @@ fn take_oldest(machine: &mut Machine, most: u64) -> u64
     count
 }
 
-/// Interactions of several workers' long run, of which so many are left: a phase where it pays, else those of some pairs by this thread, the
-/// newest ones first while no phase is tried. Says how many they were.
+/// Interactions of several workers' long run, of which so many are left: a phase where it pays and there is memory for its room, else those of
+/// some pairs by this thread, the newest ones first while no phase is tried. Says how many they were.
 fn by_parts<R: Threads>(
     rt: &R,
     alloc: Global,
@@ -136,8 +136,12 @@ fn by_parts<R: Threads>(
     let Some(sharing) = sharing(machine, limits, left) else {
         return take_oldest(machine, TURN.min(left));
     };
+    let Some(mut room) = pace.take_room(alloc, machine) else {
+        return take_newest(machine, limits.cells(), TURN.min(left));
+    };
     let agents = machine.agents();
-    let worked = phase(rt, alloc, machine, sharing);
+    let worked = phase(rt, alloc, machine, sharing, &mut room);
+    pace.room = Some(room);
     pace.note(
         worked,
         agents,

@@ -5,7 +5,8 @@ ghost use Rattle.in_phases.specs.Phases.{HasFree};
 ghost use Rattle.in_reducer.specs.Limiting.{most_cells};
 
 use crate::limits::{Limits, MOST_CELLS};
-use in_rounds::{CellClass, Machine, Sharing, Worked};
+use in_rounds::{CellClass, Machine, Room, Sharing, Worked};
+use std::alloc::Global;
 
 /// From how many interactions on a phase is tried: a shorter run is over before it could pay, and the pairs are spread far by then.
 pub(crate) const PHASES_FROM: u64 = 16_384;
@@ -37,12 +38,13 @@ const COST_OF_A_THREAD: u64 = 1_700;
 const FIRST_WAIT: u64 = 4;
 
 /// What a run of several workers keeps from one look at its machine to the next: from how many interactions on a round and a phase are looked
-/// at, and how many times its cost is waited after the next phase that doesn't pay.
-#[derive(Clone, Copy, Debug)]
+/// at, how many times its cost is waited after the next phase that doesn't pay, and the room for phases, from the first one on.
+#[derive(Drop)]
 pub(crate) struct Pace {
     pub(crate) round_from: u64,
     phase_from: u64,
     wait: u64,
+    pub(crate) room: Option<Room>,
 }
 
 impl Pace {
@@ -52,6 +54,15 @@ impl Pace {
             round_from: 0,
             phase_from: PHASES_FROM,
             wait: FIRST_WAIT,
+            room: None,
+        }
+    }
+
+    /// Takes the room for phases out, which is made the first time; none for want of memory.
+    pub(crate) fn take_room(&mut self, alloc: Global, machine: &Machine) -> Option<Room> {
+        match self.room.take() {
+            Some(room) => Some(room),
+            None => Room::new(alloc, machine.numbers()).ok(),
         }
     }
 
