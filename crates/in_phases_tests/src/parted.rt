@@ -92,6 +92,34 @@ fn phase<R: Threads>(
     reduce_in_parts(rt, alloc, reducer, templates, sharing, room)
 }
 
+/// So many phases as it takes until no pair is left, 200 at most. Says how many interactions there were, and how many phases in more than one
+/// part.
+fn phases<R: Threads>(
+    rt: &R,
+    alloc: Global,
+    reducer: &mut Reducer,
+    templates: &Templates,
+    shares: Shares,
+    room: &mut Room,
+) -> (u64, u64)
+    requires { AreTemplatesOf reducer.old.program templates.now }
+{
+    let mut interactions = 0u64;
+    let mut phases = 0u64;
+    for _phase in 0..200 {
+        if reducer.pairs() == 0 {
+            return (interactions, phases);
+        }
+        let in_turn = turns(reducer, templates, shares.between);
+        let worked = phase(rt, alloc, reducer, templates, shares, room);
+        interactions = interactions
+            .saturating_add(in_turn)
+            .saturating_add(worked.interactions);
+        phases = phases.saturating_add(u64::from(worked.parts > 1));
+    }
+    (interactions, phases)
+}
+
 /// A program that is reduced so, until no pair is left, or after 200 phases.
 #[derive(Drop)]
 pub struct Parted<R> {
@@ -110,26 +138,14 @@ impl<R: Threads + Drop> Look<Came> for Parted<R> {
         let Ok(mut room) = Room::new(alloc, reducer.numbers()) else {
             return None;
         };
-        let mut interactions = 0u64;
-        let mut phases = 0u64;
-        for _phase in 0..200 {
-            if reducer.pairs() == 0 {
-                break;
-            }
-            let in_turn = turns(&mut reducer, &templates, self.shares.between);
-            let worked = phase(
-                &self.rt,
-                alloc,
-                &mut reducer,
-                &templates,
-                self.shares,
-                &mut room,
-            );
-            interactions = interactions
-                .saturating_add(in_turn)
-                .saturating_add(worked.interactions);
-            phases = phases.saturating_add(u64::from(worked.parts > 1));
-        }
+        let (interactions, phases) = phases(
+            &self.rt,
+            alloc,
+            &mut reducer,
+            &templates,
+            self.shares,
+            &mut room,
+        );
         Some(Came {
             interactions,
             phases,
