@@ -54,7 +54,7 @@ module _ (m : MachineParts) (k : ℕ) (t : Taken) (now : MachineParts) (h : CanC
       cut = h.taken.cut;
       times = h.taken.times;
       reduced = subst (λ (z : ℕ). ReducesTo h.taken.cut z after) h.together
-          (parts_reduce_the_whole h.taken.cut h.rest h.part now t.part after h.taken.split.own t.cuts t.cells h.by_rest h.by_part h.taken.of_cut h.taken.split.of_rest h.taken.split.of_part
+          (parts_reduce_the_whole h.taken.cut h.rest h.part now t.part after h.taken.split.agents h.taken.split.own t.cuts t.cells h.by_rest h.by_part h.taken.of_cut h.taken.split.of_rest h.taken.split.of_part
           h.taken.split.split h.rest_reduced h.part_reduced glued);
     }
 

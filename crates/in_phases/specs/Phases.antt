@@ -1,6 +1,7 @@
 -- A net that is reduced in parts. This project's own choice.
-use Rattle.std.specs.Prelude.{◌≡◌, ◌+◌, ◌≤◌, ℕ}
+use Rattle.std.specs.Prelude.{◌≡◌, ◌+◌, ◌≤◌, ℕ, List}
 use Rattle.in_arena.specs.declared.content.CellClass.{CellClass}
+use Rattle.in_arena.specs.declared.content.CellNo.{CellNo}
 use Rattle.in_compile.specs.Cells.{agents_of, count_of}
 use Rattle.in_phases.specs.declared.taking.Taken.{Taken}
 use Rattle.in_reducer.specs.declared.seam.Seam.{Seam}
@@ -13,10 +14,11 @@ use Rattle.in_reducer.specs.Reducers.{IsReducer}
 abbrev pub HasFree : MachineParts → ℕ → Type 0
 HasFree m count = (c : CellClass) → count ≤ count_of m.vacant c
 
--- a part was split off where so many wires were cut, and the seam has room for it to come back
+-- some agents were split off where so many wires were cut, and the seam has room for it to come back
 pub record IsSplitBy (cut : MachineParts) (cuts size : ℕ) (seam : Seam) (part rest : MachineParts) : Type 0 where
+  pub agents : List CellNo
   pub own : ℕ
-  pub split : IsSplitOff cut own cuts size rest part
+  pub split : IsSplitOff cut agents own cuts size rest part
   pub ends : seam.most ≡ own + (cuts + cuts)
   pub cells : seam.cells ≡ size
   pub of_rest : IsReducer rest

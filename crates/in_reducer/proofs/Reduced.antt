@@ -6,6 +6,7 @@ use Rattle.std.proofs.lemmas.List.Sums.{sum_by-cons}
 use Rattle.std.proofs.lemmas.Option.{same_Some}
 use Rattle.std.proofs.Math.Seq.{take-append_seam}
 use Rattle.in_arena.specs.declared.content.CellClass.{CellClass}
+use Rattle.in_arena.specs.declared.content.CellNo.{CellNo}
 use Rattle.in_symbols.specs.Tables.{Tables}
 use Rattle.in_net.specs.declared.nets.Cell.{Cell}
 use Rattle.in_net.specs.Nets.{Net}
@@ -72,7 +73,7 @@ somes_same xs ys e = sym (back xs) ∙ ap (map (without_some [])) e ∙ back ys
     back [] = refl
     back (z ∷ zs) = ap (λ ws. z ∷ ws) (back zs)
 
-module _ (m rest part rest_after part_after after : MachineParts) (own cuts size j k : ℕ) (h : IsReducer m) (h_rest : IsReducer rest) (h_part : IsReducer part) (off : IsSplitOff m own cuts size rest part)
+module _ (m rest part rest_after part_after after : MachineParts) (agents : List CellNo) (own cuts size j k : ℕ) (h : IsReducer m) (h_rest : IsReducer rest) (h_part : IsReducer part) (off : IsSplitOff m agents own cuts size rest part)
     (first : ReducesTo rest j rest_after) (second : ReducesTo part k part_after) (glued : IsGluedOn rest_after part_after own cuts after) where
   good : IsSoundSystem (system_of m.program)
   good = is_sound h.accepted.0 m.program h.accepted.1
@@ -94,11 +95,11 @@ module _ (m rest part rest_after part_after after : MachineParts) (own cuts size
       counted_over after.program m.program after rest_after c whole_program (glued.cells c) ∙ counted_over rest.program m.program rest_after rest c off.two.program_rest (first.cells c) ∙ off.cells c
 
 pub parts_reduce_the_whole : PartsReduceTheWhole
-parts_reduce_the_whole m rest part rest_after part_after after own cuts size j k h h_rest h_part off first second glued = record {
-  program = whole_program m rest part rest_after part_after after own cuts size j k h h_rest h_part off first second glued;
-  leads = whole_leads m rest part rest_after part_after after own cuts size j k h h_rest h_part off first second glued;
-  names = whole_names m rest part rest_after part_after after own cuts size j k h h_rest h_part off first second glued;
-  cells = whole_cells m rest part rest_after part_after after own cuts size j k h h_rest h_part off first second glued;
+parts_reduce_the_whole m rest part rest_after part_after after agents own cuts size j k h h_rest h_part off first second glued = record {
+  program = whole_program m rest part rest_after part_after after agents own cuts size j k h h_rest h_part off first second glued;
+  leads = whole_leads m rest part rest_after part_after after agents own cuts size j k h h_rest h_part off first second glued;
+  names = whole_names m rest part rest_after part_after after agents own cuts size j k h h_rest h_part off first second glued;
+  cells = whole_cells m rest part rest_after part_after after agents own cuts size j k h h_rest h_part off first second glued;
 }
 
 -- ---- the same agents, at each number

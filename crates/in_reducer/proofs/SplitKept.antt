@@ -183,8 +183,15 @@ module _ (r : Body) (k : KeepsNet r) (agents : List CellNo) (own cuts : ℕ) (ca
       let same = length-map (filter (goes x.left) r.queue.items) (both (name_in x.names)) in
       omega (arith, short, same, wide)
 
-  pub split_off : NoneLeased r.arena → (q o : List (ℕ × ℕ)) → IsSplitOff (reducer_view r) own cuts x.size (nets.rest r k agents own cuts can x h q) (nets.part r k agents own cuts can x h o)
+  pub split_off : NoneLeased r.arena → (q o : List (ℕ × ℕ)) → IsSplitOff (reducer_view r) agents own cuts x.size (nets.rest r k agents own cuts can x h q) (nets.part r k agents own cuts can x h o)
   split_off none q o = record {
+    of_rest = record {
+      gone = λ j c at. symbol_seen x.left rest_fs x.rest_ends c.0 ∙ ap word_of (h.lost.out.gone j c at);
+      others = λ y out. (
+          symbol_seen x.left rest_fs x.rest_ends y ∙ ap word_of (h.lost.out.others y out) ∙ word_moved (λ z. z) (number_in x.rest_numbers) (state_at r.arena y)
+          ∙ sym (symbol_seen r.arena (own_free r) r.ends.items y)
+          );
+    };
     two = record { program_rest = refl; program_part = refl; name = nets.origin r k agents own cuts can x h; beside = nets.stand r k agents own cuts can x h; names = nets.names_are r k agents own cuts can x h q o };
     many_rest = nets.rest_many r k agents own cuts can x h;
     many_part = nets.part_many r k agents own cuts can x h;

@@ -1,6 +1,6 @@
 -- A net in two parts: a part is split off from a reducer, as a reducer by itself that shares nothing with the rest, and glued on again. Wires
 -- between the two are cut before. That nets are reduced in parts is this project's own choice.
-use Rattle.std.specs.Prelude.{◌≡◌, ◌+◌, ◌-◌, ◌<◌, ℕ, zero, suc, nat_lt, cond, List, [], ◌∷◌, ◌++◌, length, map, Option, Some, IsSome, slice_get}
+use Rattle.std.specs.Prelude.{◌≡◌, ◌+◌, ◌-◌, ◌<◌, ℕ, zero, suc, nat_lt, cond, List, [], ◌∷◌, ◌++◌, length, map, Option, Some, None, IsSome, slice_get}
 use Rattle.in_arena.specs.declared.content.CellClass.{CellClass}
 use Rattle.in_arena.specs.declared.content.CellNo.{CellNo}
 use Rattle.in_net.specs.Nets.{Point, Port, Free}
@@ -57,8 +57,14 @@ pub record CanSplit (m : MachineParts) (agents : List CellNo) (own cuts : ℕ) :
   pub closed : (k i : ℕ) (c : CellNo) (q : Point ℕ) → slice_get agents k ≡ Some c → (net_in m).partner (Port c.0 i) ≡ Some q → IsInPart agents own cuts q
   pub ends : (j : ℕ) (q : Point ℕ) → j < cuts → (net_in m).partner (Free (own + (j + j))) ≡ Some q → IsInPart agents own cuts q
 
--- the part has so many cells of each class, and those of its agents are free in the rest
-pub record IsSplitOff (m : MachineParts) (own cuts size : ℕ) (rest part : MachineParts) : Type 0 where
+-- the rest has none of these agents, and all others of the net
+pub record HasOthers (m : MachineParts) (agents : List CellNo) (rest : MachineParts) : Type 0 where
+  pub gone : (k : ℕ) (c : CellNo) → slice_get agents k ≡ Some c → (net_in rest).symbol c.0 ≡ None
+  pub others : (y : ℕ) → ((k : ℕ) → slice_get agents k ≡ Some (record { 0 = y }) → ⊥) → (net_in rest).symbol y ≡ (net_in m).symbol y
+
+-- these agents are the part, which has so many cells of each class, and theirs are free in the rest
+pub record IsSplitOff (m : MachineParts) (agents : List CellNo) (own cuts size : ℕ) (rest part : MachineParts) : Type 0 where
+  pub of_rest : HasOthers m agents rest
   pub two : IsOfTwo m rest part own cuts
   pub many_rest : length rest.free ≡ own + cuts
   pub many_part : length part.free ≡ cuts

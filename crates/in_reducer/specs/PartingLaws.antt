@@ -1,5 +1,6 @@
 -- Laws on reducers that are reduced, cut, split and glued.
-use Rattle.std.specs.Prelude.{◌+◌, ◌≤◌, ℕ, zero, suc, length}
+use Rattle.std.specs.Prelude.{◌+◌, ◌≤◌, ℕ, zero, suc, List, length}
+use Rattle.in_arena.specs.declared.content.CellNo.{CellNo}
 use Rattle.in_reducer.specs.Cutting.{CanJoin, CutsAt, JoinsLast}
 use Rattle.in_reducer.specs.Machines.{MachineParts}
 use Rattle.in_reducer.specs.Parting.{IsGluedOn, IsSplitOff, ReducesTo}
@@ -19,8 +20,8 @@ ReductionsGoOn = (l m n : MachineParts) (j k : ℕ) → ReducesTo l j m → Redu
 
 -- a part that is split off, reduced by itself while the rest is, and glued on again: the whole is reduced by both counts together
 abbrev pub PartsReduceTheWhole : Type 0
-PartsReduceTheWhole = (m rest part rest_after part_after after : MachineParts) (own cuts cells j k : ℕ) → IsReducer m → IsReducer rest → IsReducer part →
-    IsSplitOff m own cuts cells rest part → ReducesTo rest j rest_after → ReducesTo part k part_after → IsGluedOn rest_after part_after own cuts after → ReducesTo m (j + k) after
+PartsReduceTheWhole = (m rest part rest_after part_after after : MachineParts) (agents : List CellNo) (own cuts cells j k : ℕ) → IsReducer m → IsReducer rest → IsReducer part →
+    IsSplitOff m agents own cuts cells rest part → ReducesTo rest j rest_after → ReducesTo part k part_after → IsGluedOn rest_after part_after own cuts after → ReducesTo m (j + k) after
 
 -- where a wire is cut, and only interactions are done since, the two ends can be joined, and what was before the cut is reduced to that
 abbrev pub CutsAreUndone : Type 0

@@ -303,7 +303,7 @@ impl<'a> Body<'a> {
         requires cells { fresh.arena.cells ≤ most_cells }
         ensures kept { IsKept self.new }
         ensures part { IsKept result }
-        ensures split { IsSplitOff (reducer_view self.old) own cuts fresh.arena.cells (reducer_view self.new) (reducer_view result) }
+        ensures split { IsSplitOff (reducer_view self.old) agents.now own cuts fresh.arena.cells (reducer_view self.new) (reducer_view result) }
         ensures names { length names.new ≡ length names.old }
     {
         let Fresh {
@@ -362,7 +362,7 @@ impl<'a> Reducer<'a> {
         requires fits { length agents.now ≤ cells }
         requires cells { cells ≤ most_cells }
         requires names { length names.old ≡ length self.old.agents }
-        ensures split { IfOk result (λ part. IsSplitOff self.old own cuts cells self.new part) }
+        ensures split { IfOk result (λ part. IsSplitOff self.old agents.now own cuts cells self.new part) }
         ensures names { length names.new ≡ length names.old }
         ensures refused { OnErr result (self.new ≡ self.old) }
     {
