@@ -1,10 +1,13 @@
 -- What was written to a writer that took nothing before is what was said.
 use Rattle.std.proofs.Common.{◌≡◌, ◌≢◌, ◌⊎◌, List, ℕ, Vec, Global, [], Option, Some, IfOk, Result, Ok, Err, sym, subst, ap, ◌∙◌, inl, inr}
 use Rattle.std.proofs.lemmas.Option.{same_Some}
-use Rattle.in_print.specs.Devices.{Device, device}
+use Rattle.in_syntax.specs.Streams.{Device}
 use Rattle.in_program.specs.declared.acting.Status.{Status}
 use Rattle.in_program.specs.Acting.{TellsOne, WantsMemory, fault_status}
 use Rattle.in_c.specs.declared.answers.Answer.{Answer}
+
+abbrev device : Option (List ℕ) → ℕ → Device
+device bytes failures = record { bytes = bytes; failures = failures }
 
 -- nothing was taken yet, and no write failed
 abbrev fresh : Device

@@ -31,9 +31,7 @@ impl Collected {
 }
 
 impl TextOut for Collected {
-    ghost taken = { λ s. Some s.bytes.items };
-
-    ghost failures = { λ s. s.failures };
+    ghost device = { λ s. record { bytes = Some s.bytes.items; failures = s.failures } };
 
     fn write(&mut self, bytes: &[u8]) -> Result<usize, ()> {
         match self.bytes.extend_from_slice(bytes) {

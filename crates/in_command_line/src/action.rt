@@ -7,7 +7,7 @@ ghost use Rattle.in_command_line.specs.CommandLine.{cells_option, command_line, 
 
 use clap::error::ErrorKind;
 use clap::{Arg, ArgAction, ArgMatches, Command, value_parser};
-use in_run::Limits;
+use in_run::{LEAST_CELLS, Limits, MOST_CELLS, MOST_INTERACTIONS, MOST_WORKERS};
 use std::alloc::{AllocError, Global};
 use thiserror::Error;
 
@@ -56,7 +56,7 @@ fn workers_option<'a>(alloc: Global) -> Arg<'a>
         .value_name("N")
         .help("The workers that share the interactions, 1 to 64")
         .action(ArgAction::Set)
-        .value_parser(value_parser!(u64).range(1..=64))
+        .value_parser(value_parser!(u64).range(1..=MOST_WORKERS as u64))
         .default_value("1")
 }
 
@@ -70,7 +70,7 @@ fn limit_option<'a>(alloc: Global) -> Arg<'a>
         .value_name("N")
         .help("The most interactions, 0 to 1000000000000")
         .action(ArgAction::Set)
-        .value_parser(value_parser!(u64).range(0..=1_000_000_000_000))
+        .value_parser(value_parser!(u64).range(0..=MOST_INTERACTIONS))
         .default_value("1000000")
 }
 
@@ -84,7 +84,7 @@ fn cells_option<'a>(alloc: Global) -> Arg<'a>
         .value_name("N")
         .help("The cells for agents of each size, 16 to 1048576")
         .action(ArgAction::Set)
-        .value_parser(value_parser!(u64).range(16..=1_048_576))
+        .value_parser(value_parser!(u64).range(LEAST_CELLS as u64..=MOST_CELLS as u64))
         .default_value("65536")
 }
 

@@ -5,11 +5,10 @@
 
 use anyhow::Result;
 use in_check::{Checked, Item};
-use in_command_line::Action;
+use in_command_line::{Action, action_of};
 use in_cover::RuleNo;
 use in_diagnosis::diagnosis;
 use in_program::act;
-use in_run::Limits;
 use in_simple::verify;
 use in_syntax::{MemoryIn, MemoryOut};
 use in_test_programs::{Look, seen};
@@ -135,8 +134,8 @@ fn is_derived(
 }
 
 /// `run` with so many workers, and the limits that it has where none are given.
-fn running(workers: u32) -> Option<Action> {
-    Some(Action::Run(Limits::new(workers, 1_000_000, 65_536)?))
+fn running(alloc: Global, workers: &str) -> Option<Action> {
+    action_of(alloc, &["inet", "run", "--workers", workers]).ok()
 }
 
 /// Whether `run` with so many workers answers what stands beside a program, where something does.
@@ -145,9 +144,9 @@ fn is_run(
     threads: &(impl Threads + Wait),
     name: &str,
     text: &[u8],
-    workers: u32,
+    workers: &str,
 ) -> Result<bool> {
-    let Some(running) = running(workers) else {
+    let Some(running) = running(rt.alloc(), workers) else {
         return Ok(false);
     };
     let file = format!(in rt.alloc(); "{name}.run")?;
@@ -164,8 +163,8 @@ fn is_answered(
     Ok(
         is_checked(rt, threads, name, text)?
             && is_derived(rt, threads, name, text)?
-            && is_run(rt, threads, name, text, 1)?
-            && is_run(rt, threads, name, text, 2)?
+            && is_run(rt, threads, name, text, "1")?
+            && is_run(rt, threads, name, text, "2")?
             && is_told(rt, name, text)?
             && is_built(rt.alloc(), text)?,
     )

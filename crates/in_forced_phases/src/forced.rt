@@ -4,7 +4,9 @@ ghost use Rattle.std.specs.Prelude.{◌≤◌};
 use crate::asked::Asked;
 use in_check::Checked;
 use in_print::write_net;
-use in_rounds::{CellClass, Machine, Room, Sharing, Worked, phase};
+use in_rounds::{
+    CellClass, LEAST_CELLS, MOST_CELLS, Machine, Room, Sharing, Worked, phase,
+};
 use in_syntax::MemoryOut;
 use in_test_programs::Look;
 use std::alloc::Global;
@@ -146,7 +148,7 @@ pub struct Forced<'r, R> {
 
 impl<'r, R: Threads> Look<Came> for Forced<'r, R> {
     fn look(&self, alloc: Global, program: &Checked) -> Option<Came> {
-        if self.asked.cells < 16 || self.asked.cells > 1_048_576 {
+        if self.asked.cells < LEAST_CELLS || self.asked.cells > MOST_CELLS {
             return None;
         }
         let mut machine = Machine::new(alloc, program, self.asked.cells).ok()?;

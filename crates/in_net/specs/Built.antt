@@ -2,7 +2,9 @@
 use Rattle.std.specs.Prelude.{◌≡◌, ℕ, ◌+◌, ◌*◌, ◌<◌, ◌≤◌, true, List, length, map, Result, Ok, Err, Option, Some, None, IsPermutation}
 use Rattle.std.specs.List.{AllByRecursion}
 use Rattle.std.specs.List.Sorted.{IsNonDecreasingBy}
+use Rattle.in_syntax.specs.Order.{IsWrittenInOrder}
 use Rattle.in_syntax.specs.Refusals.{refusal_of}
+use Rattle.in_syntax.specs.Sizes.{IsSized}
 use Rattle.in_syntax.specs.declared.faults.Fault.{Fault}
 use Rattle.in_syntax.specs.declared.places.Place.{Place}
 use Rattle.in_syntax.specs.declared.tree.Source.{Source}
@@ -15,7 +17,8 @@ use Rattle.in_net.specs.declared.joining.Link.{Link}
 use Rattle.in_net.specs.declared.nets.Cell.{Cell}
 use Rattle.in_net.specs.declared.nets.Wire.{Wire}
 use Rattle.in_net.specs.Parts.{Parts, IsWhole}
-use Rattle.in_symbols.specs.Tables.{Tables, arity_of}
+use Rattle.in_symbols.specs.Faults.{IsFaultless}
+use Rattle.in_symbols.specs.Tables.{Tables, IsTabled, arity_of}
 use Rattle.in_net.specs.declared.nets.FreeEnd.{FreeEnd}
 use Rattle.in_net.specs.Building.{nth_spot, nth_agent, IsPointSpot, AreSmallSpots, ends_from, cells_of, wires_from}
 use Rattle.in_net.specs.TextNet.{body_of, IsNetOf}
@@ -23,6 +26,13 @@ use Rattle.in_net.specs.NetFaults.{max_agents, IsFirstNetFault, HasNoNetFault, H
 use Rattle.in_syntax.specs.declared.faults.Code.TheVariants.{E09}
 use Rattle.in_syntax.specs.declared.faults.Fault.TheVariants.{Refused, Memory}
 use Rattle.in_syntax.specs.Tokens.{text_limit}
+
+-- the tree of a text, and its tables, without fault in its names: its net can be read
+pub record IsReadableNet (source : Source) (t : Tables) : Type 0 where
+  pub sized : IsSized source
+  pub order : IsWrittenInOrder source
+  pub tabled : IsTabled source t
+  pub faultless : IsFaultless source
 
 -- so many spots from one on are points
 abbrev pub ArePointsAt : List Spot → ℕ → ℕ → Type 0

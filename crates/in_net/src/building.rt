@@ -1,15 +1,12 @@
 ghost use Rattle.std.specs.Prelude.{◌≡◌, ◌+◌, ◌<◌, ◌++◌, true, length, map, option_to_list, None, IfOk, OnOk};
-ghost use Rattle.in_syntax.specs.Sizes.{IsSized};
-ghost use Rattle.in_syntax.specs.Order.{IsWrittenInOrder};
-ghost use Rattle.in_symbols.specs.Faults.{IsFaultless};
-ghost use Rattle.in_symbols.specs.Tables.{FreeKnown, IsTabled};
+ghost use Rattle.in_symbols.specs.Tables.{FreeKnown};
 ghost use Rattle.in_net.specs.Building.{point_of, IsSmall, AreSmallSpots, IsJoined, nth_spot, IsPointSpot, partner_of, ends_from, cells_of, free_ends_from, wire_of, wires_from};
 ghost use Rattle.in_net.specs.Joining.{joined_spots};
 ghost use Rattle.in_net.specs.NetFaults.{max_agents};
 ghost use Rattle.in_net.specs.Reading.{reading_of};
 ghost use Rattle.in_net.specs.Searching.{first_fault};
 ghost use Rattle.in_net.specs.TextNet.{body_of};
-ghost use Rattle.in_net.specs.Built.{closed_at, Builds, Assembles, IsReadFrom, ArePointsAt, AgentsOf, AreJoinedTo, AreListedOf};
+ghost use Rattle.in_net.specs.Built.{closed_at, IsReadableNet, Builds, Assembles, IsReadFrom, ArePointsAt, AgentsOf, AreJoinedTo, AreListedOf};
 
 use crate::faults::first_fault;
 use crate::joining::{Link, join_all};
@@ -210,10 +207,7 @@ fn linked_net(
     reading: &Reading,
     links: &[Link],
 ) -> Result<Net, Fault>
-    requires sized { IsSized source.now }
-    requires order { IsWrittenInOrder source.now }
-    requires tabled { IsTabled source.now symbols.now }
-    requires faultless { IsFaultless source.now }
+    requires readable { IsReadableNet source.now symbols.now }
     requires read { reading.now ≡ reading_of symbols.now (body_of source.now.net) }
     requires clear { None ≡ first_fault max_agents symbols.now (body_of source.now.net) reading.now }
     requires links { links.now ≡ (joined_spots reading.now).links }
@@ -232,10 +226,7 @@ fn joined_net(
     symbols: &Symbols,
     reading: &Reading,
 ) -> Result<Net, Fault>
-    requires sized { IsSized source.now }
-    requires order { IsWrittenInOrder source.now }
-    requires tabled { IsTabled source.now symbols.now }
-    requires faultless { IsFaultless source.now }
+    requires readable { IsReadableNet source.now symbols.now }
     requires read { reading.now ≡ reading_of symbols.now (body_of source.now.net) }
     requires clear { None ≡ first_fault max_agents symbols.now (body_of source.now.net) reading.now }
     ensures { Builds source.now symbols.now result }
@@ -254,10 +245,7 @@ fn net_of(
     symbols: &Symbols,
     reading: &Reading,
 ) -> Result<Net, Fault>
-    requires sized { IsSized source.now }
-    requires order { IsWrittenInOrder source.now }
-    requires tabled { IsTabled source.now symbols.now }
-    requires faultless { IsFaultless source.now }
+    requires readable { IsReadableNet source.now symbols.now }
     requires read { reading.now ≡ reading_of symbols.now (body_of source.now.net) }
     ensures { Builds source.now symbols.now result }
 {
@@ -276,10 +264,7 @@ fn net_of(
 /// by the place of the wire. Or for want of memory. Lafont 1990 writes a net as equations between terms, in which each variable
 /// stands twice; the codes and their places are this project's own choice.
 pub fn build_net(alloc: Global, source: &Source, symbols: &Symbols) -> Result<Net, Fault>
-    requires sized { IsSized source.now }
-    requires order { IsWrittenInOrder source.now }
-    requires tabled { IsTabled source.now symbols.now }
-    requires faultless { IsFaultless source.now }
+    requires { IsReadableNet source.now symbols.now }
     ensures { Builds source.now symbols.now result }
 {
     let reading = read_net(alloc, symbols, &source.net)?;

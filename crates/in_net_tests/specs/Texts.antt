@@ -3,9 +3,8 @@ use Rattle.std.specs.Prelude.{◌≡◌, ◌++◌, map, IsTrue}
 use Rattle.in_syntax.specs.Order.{IsWrittenInOrder}
 use Rattle.in_syntax.specs.Parsing.{IsOfText}
 use Rattle.in_syntax.specs.Sizes.{IsSized}
-use Rattle.in_symbols.specs.Faults.{IsFaultless}
-use Rattle.in_symbols.specs.Tables.{Tables, IsTabled}
-use Rattle.in_net.specs.Built.{IsOver}
+use Rattle.in_symbols.specs.Tables.{Tables}
+use Rattle.in_net.specs.Built.{IsOver, IsReadableNet}
 use Rattle.in_net.specs.Parts.{Parts}
 use Rattle.in_net.specs.Rules.{RuleParts, IsRuleOver, auxiliary_types}
 use Rattle.in_syntax.specs.declared.tree.Source.{Source}
@@ -16,7 +15,7 @@ IsRead s = IsOfText s × IsSized s × IsWrittenInOrder s
 
 -- a tree that was read, with its tables
 abbrev pub IsReadProgram : Source → Tables → Type 0
-IsReadProgram s t = IsSized s × IsWrittenInOrder s × IsTabled s t × IsFaultless s
+IsReadProgram s t = IsReadableNet s t
 
 -- a net as built
 abbrev pub IsBuilt : Tables → Parts → Type 0

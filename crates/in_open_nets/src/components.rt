@@ -2,7 +2,7 @@ ghost use Rattle.std.specs.Prelude.{◌≡◌, ◌<◌, length, IfOk, IsTrue, On
 ghost use Rattle.in_open_nets.specs.Members.{IsUnion, missing, nodes_in};
 ghost use Rattle.in_open_nets.specs.Constructions.{IsIn};
 ghost use Rattle.in_open_nets.specs.Pieces.{IsLeftOf, IsPiece};
-ghost use Rattle.in_open_nets.specs.Parts.{AreReachedNodes, IsNeighbour, IsReached, SpreadsOver};
+ghost use Rattle.in_open_nets.specs.Parts.{AreReachedNodes, IsNeighbour, IsReached, IsSearch, SpreadsOver};
 ghost use Rattle.in_open_nets.specs.Stuck.{ports_of};
 
 use crate::nodes::NodeList;
@@ -58,6 +58,27 @@ pub(crate) fn spread(
     Ok(())
 }
 
+/// Begins a search from a node of the part: it is the first one that is reached and listed.
+pub(crate) fn begin(
+    alloc: Global,
+    part: &Part,
+    from: u32,
+    reached: &mut Scratch,
+) -> Result<Vec<u32>, AllocError>
+    requires size { length reached.old ≡ length part.now.wired.now.nodes }
+    requires here { IsIn from (nodes_in part.now.nodes.now) }
+    ensures size { length reached.new ≡ length reached.old }
+    ensures search { IfOk result (λ found. IsSearch part.now.wired.now part.now.nodes.now from reached.new found.items) }
+    ensures found { IfOk result (λ found. AreReachedNodes reached.new found.items) }
+{
+    use_promise!(part.wired.nodes());
+    reached.clear()?;
+    let mut found = Vec::new(alloc);
+    reached.insert(from as usize);
+    found.push(from)?;
+    Ok(found)
+}
+
 /// Reaches the nodes of the component of a node of the part, and lists them. Once they are all of the part, nothing is left to be looked for.
 fn reach_from(
     alloc: Global,
@@ -72,10 +93,7 @@ fn reach_from(
     ensures found { IfOk result (λ found. AreReachedNodes reached.new found.items) }
 {
     use_promise!(part.wired.nodes());
-    reached.clear()?;
-    let mut found = Vec::new(alloc);
-    reached.insert(from as usize);
-    found.push(from)?;
+    let mut found = begin(alloc, part, from, reached)?;
     let mut place = 0;
     while place < found.len() {
         if reached.absent() <= part.nodes.absent() {

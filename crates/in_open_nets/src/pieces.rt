@@ -5,7 +5,7 @@ ghost use Rattle.in_open_nets.specs.Pieces.{AreNeighboursJoined, AreTogether, Is
 ghost use Rattle.in_open_nets.specs.Members.{nodes_in};
 ghost use Rattle.in_open_nets.specs.Stuck.{ports_of};
 
-use crate::components::{neighbour, spread};
+use crate::components::{begin, neighbour, spread};
 use crate::open_nets::OpenPoint;
 use crate::parts::Part;
 use crate::scratch::Scratch;
@@ -47,10 +47,7 @@ fn gather(
     ensures together { OnOk result (AreTogether part.now.wired.now part.now.nodes.now these.new) }
 {
     use_promise!(part.wired.nodes());
-    these.clear()?;
-    let mut found = Vec::new(alloc);
-    these.insert(from as usize);
-    found.push(from)?;
+    let mut found = begin(alloc, part, from, these)?;
     let mut place = 0;
     while place < found.len() {
         if found.len() >= enough {
@@ -79,10 +76,7 @@ fn meets(
     ensures joined { IfOk result (λ met. IsTrue met → IsJoinedTo part.now.wired.now part.now.nodes.now from these.now) }
 {
     use_promise!(part.wired.nodes());
-    reached.clear()?;
-    let mut found = Vec::new(alloc);
-    reached.insert(from as usize);
-    found.push(from)?;
+    let mut found = begin(alloc, part, from, reached)?;
     let mut place = 0;
     while place < found.len() {
         let node = found[place];

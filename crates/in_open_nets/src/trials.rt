@@ -156,41 +156,31 @@ impl Search {
         requires port { port < ports_of candidate.now.part.wired.now at }
     {
         let part = candidate.part;
-        match part.wired.partner(at, port) {
-            (_, OpenPoint::Port(near, place)) => {
-                let left = port as u8;
-                if near as usize == candidate.node {
-                    if part.wired.class(near as usize, place as usize) != class {
-                        return Ok(Some(Meeting {
-                            from,
-                            port: left,
-                            to: None,
-                        }));
-                    }
-                } else if part.nodes.has(near as usize) {
-                    match self.labels.mark(near as usize) {
-                        Some(mark) => {
-                            if mark.class != class {
-                                return Ok(Some(Meeting {
-                                    from,
-                                    port: left,
-                                    to: Some(mark.place),
-                                }));
-                            }
-                        }
-                        None => self.reach(Reached {
-                            node: near as usize,
-                            class,
-                            before: from,
-                            left,
-                            entered: place,
-                        })?,
-                    }
-                }
-            }
-            (_, OpenPoint::Free(_)) => {}
+        let (_, OpenPoint::Port(near, place)) = part.wired.partner(at, port) else {
+            return Ok(None);
+        };
+        let node = near as usize;
+        let left = port as u8;
+        if node == candidate.node {
+            let to = None;
+            let apart = part.wired.class(node, place as usize) != class;
+            return Ok(apart.then_some(Meeting { from, port: left, to }));
         }
-        Ok(None)
+        if !part.nodes.has(node) {
+            return Ok(None);
+        }
+        let Some(mark) = self.labels.mark(node) else {
+            self.reach(Reached {
+                node,
+                class,
+                before: from,
+                left,
+                entered: place,
+            })?;
+            return Ok(None);
+        };
+        let to = Some(mark.place);
+        Ok((mark.class != class).then_some(Meeting { from, port: left, to }))
     }
 
     /// Reaches what the ports of the candidate lead to, each by its class.

@@ -36,10 +36,10 @@ module _ (p : System) (one two m : Net ℕ) (name : ℕ → ℕ) (ends : List (�
   many_ends : length m.free ≡ length ends
   many_ends = sym (length-map m.free (λ (t : PortType). Some t)) ∙ ap length h.free ∙ length-map ends (λ (q : ℕ × ℕ). slice_get (both q.0).free q.1)
 
-  end_type : (k : ℕ) (q : ℕ × ℕ) → slice_get ends k ≡ Some q → slice_get m.free k ≡ slice_get (both q.0).free q.1
+  pub end_type : (k : ℕ) (q : ℕ × ℕ) → slice_get ends k ≡ Some q → slice_get m.free k ≡ slice_get (both q.0).free q.1
   end_type k q at = at_outer m.free ends (λ (z : ℕ × ℕ). slice_get (both z.0).free z.1) h.free k q at
 
-  end_there : (k : ℕ) (q : ℕ × ℕ) → slice_get ends k ≡ Some q → q.1 < length (both q.0).free
+  pub end_there : (k : ℕ) (q : ℕ × ℕ) → slice_get ends k ≡ Some q → q.1 < length (both q.0).free
   end_there k q at =
       let low : k < length m.free = (let l = slice_get_within ends k q at in let e = many_ends in omega (arith, l, e)) in
       let t = got m.free k low in

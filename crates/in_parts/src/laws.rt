@@ -1,5 +1,5 @@
 //! Laws over the definitions alone. No function here does anything.
-ghost use Rattle.in_parts.specs.Leading.{BesideLeads, BesidePartsAreNets, BesidePartsAreSound, BesideSoundIsSound, CutDownIsSound, CutDownLeadsAreJoinedUp, CutLeadsAreJoined, CutOnceIsSound, LeadsGoOn, PartsLeadTheWhole};
+ghost use Rattle.in_parts.specs.Leading.{BesideIsOne, BesideLeads, BesidePartsAreAlike, BesidePartsAreNets, BesidePartsAreSound, BesideSoundIsSound, CutDownIsSound, CutDownLeadsAreJoinedUp, CutLeadsAreJoined, CutOnceIsSound, LeadsGoOn, PartsLeadTheWhole};
 
 /// A run goes on where one ended: the counts are added.
 pub fn leads_go_on()
@@ -51,4 +51,15 @@ pub fn beside_parts_are_sound()
 /// Sound nets that stand side by side are a sound net.
 pub fn beside_sound_is_sound()
     ensures { BesideSoundIsSound }
+{}
+
+/// Which nets stand side by side in a net is determined by the symbols of the first one, but for the numbers that agents of the second have by
+/// themselves.
+pub fn beside_parts_are_alike()
+    ensures { BesidePartsAreAlike }
+{}
+
+/// What two nets are side by side is one net, up to the names of its agents.
+pub fn beside_is_one()
+    ensures { BesideIsOne }
 {}

@@ -1,3 +1,4 @@
 pub mod Branches
 pub mod Marks
 pub mod Phases
+pub mod Rooms

@@ -8,10 +8,7 @@ ghost use Rattle.in_reducer.specs.PartingLaws.{IsCutTimes};
 ghost use Rattle.in_reducer.specs.Reducers.{IsReducer};
 
 use crate::branch::Branch;
-use in_reducer::{CellNo, End, Reducer};
-
-/// The most free ends that a net may have.
-pub(crate) const MOST_FREE_ENDS: u32 = 65_536;
+use in_reducer::{CellNo, End, MOST_FREE_ENDS, Reducer};
 
 /// Whether the wire at this place of an agent leads out of the branch. That of a pair doesn't count, of which the branch has both agents or
 /// none.

@@ -1,5 +1,5 @@
 // The agents of a part are gathered.
-ghost use Rattle.std.specs.Prelude.{◌≡◌, ◌<◌, ◌≤◌, true, [], length, OnOk, Some, slice_get};
+ghost use Rattle.std.specs.Prelude.{◌≡◌, ◌<◌, ◌≤◌, true, [], length, IfOk, OnOk, Some, slice_get};
 ghost use Rattle.in_phases.specs.Branches.{HasAgent, IsBranch};
 
 use crate::branch::Branch;
@@ -7,7 +7,9 @@ use in_reducer::{CellNo, End, Reducer};
 use std::alloc::{AllocError, Global};
 
 /// A branch without agents, for nets with so many numbers.
-pub(crate) fn empty(alloc: Global, numbers: u32) -> Result<Branch, AllocError> {
+pub(crate) fn empty(alloc: Global, numbers: u32) -> Result<Branch, AllocError>
+    ensures { IfOk result (λ b. length b.marks.items ≡ numbers) }
+{
     Ok(Branch {
         agents: Vec::new(alloc),
         marks: vec![in alloc; false; numbers as usize]?,
@@ -47,7 +49,8 @@ impl Branch {
     fn take_in(&mut self, reducer: &Reducer, cell: CellNo) -> Result<(), AllocError>
         requires branch { IsBranch reducer.now self.old }
         requires there { HasAgent reducer.now cell.0 }
-        ensures { OnOk result (IsBranch reducer.now self.new) }
+        ensures branch { OnOk result (IsBranch reducer.now self.new) }
+        ensures many { length self.new.marks.items ≡ length self.old.marks.items }
     {
         let _ = reducer;
         if !self.has(cell) {
@@ -61,7 +64,8 @@ impl Branch {
     fn take_pairs(&mut self, reducer: &Reducer, pairs: u32) -> Result<(), AllocError>
         requires branch { IsBranch reducer.now self.old }
         requires pairs { pairs ≤ length reducer.now.queue }
-        ensures { OnOk result (IsBranch reducer.now self.new) }
+        ensures branch { OnOk result (IsBranch reducer.now self.new) }
+        ensures many { length self.new.marks.items ≡ length self.old.marks.items }
     {
         for number in 0..pairs {
             let (one, other) = reducer.pair(number);
@@ -75,7 +79,8 @@ impl Branch {
     fn take_behind(&mut self, reducer: &Reducer, cell: CellNo) -> Result<(), AllocError>
         requires branch { IsBranch reducer.now self.old }
         requires there { HasAgent reducer.now cell.0 }
-        ensures { OnOk result (IsBranch reducer.now self.new) }
+        ensures branch { OnOk result (IsBranch reducer.now self.new) }
+        ensures many { length self.new.marks.items ≡ length self.old.marks.items }
     {
         reducer.pairs();
         for port in 0..reducer.arity(cell) {
@@ -89,7 +94,8 @@ impl Branch {
     /// Takes in the agents behind each one that it has, and behind those, and so on.
     fn take_trees(&mut self, reducer: &Reducer) -> Result<(), AllocError>
         requires branch { IsBranch reducer.now self.old }
-        ensures { OnOk result (IsBranch reducer.now self.new) }
+        ensures branch { OnOk result (IsBranch reducer.now self.new) }
+        ensures many { length self.new.marks.items ≡ length self.old.marks.items }
     {
         for number in 0..reducer.numbers() as usize {
             if number >= self.agents.len() {
@@ -106,7 +112,8 @@ impl Branch {
     pub(crate) fn gather(&mut self, reducer: &Reducer, pairs: u32) -> Result<(), AllocError>
         requires many { length self.old.marks.items ≡ length reducer.now.agents }
         requires pairs { pairs ≤ length reducer.now.queue }
-        ensures { OnOk result (IsBranch reducer.now self.new) }
+        ensures branch { OnOk result (IsBranch reducer.now self.new) }
+        ensures many { length self.new.marks.items ≡ length self.old.marks.items }
     {
         self.clear();
         self.take_pairs(reducer, pairs)?;

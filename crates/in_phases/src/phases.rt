@@ -1,7 +1,8 @@
 // A net is reduced in parts.
-ghost use Rattle.std.specs.Prelude.{◌≡◌, ◌<◌, ◌≤◌, ◌+◌, length};
+ghost use Rattle.std.specs.Prelude.{◌≡◌, ◌<◌, ◌≤◌, ◌+◌};
 ghost use Rattle.in_compile.specs.Templates.{AreTemplatesOf};
 ghost use Rattle.in_phases.specs.Phases.{HasFree};
+ghost use Rattle.in_phases.specs.Rooms.{IsForAsMany};
 ghost use Rattle.in_reducer.specs.Limiting.{most_cells};
 ghost use Rattle.in_reducer.specs.Parting.{ReducesTo};
 
@@ -71,7 +72,7 @@ fn at_once<R: Threads>(
     ensures most { result.1.interactions ≤ rest.most }
     ensures floor { HasFree reducer.new rest.floor }
     ensures parts { result.1.parts ≤ rest.parts }
-    ensures names { length room.new.names.items ≡ length room.old.names.items }
+    ensures room { IsForAsMany room.old room.new }
 {
     join_mut(
         rt,
@@ -81,7 +82,7 @@ fn at_once<R: Threads>(
         { reduce_newest(part, templates, 0, most) },
         &mut || -> Worked
             requires { AreTemplatesOf reducer.now.program templates.now × (1 ≤ rest.parts) × (rest.share ≤ most_cells) × HasFree reducer.now rest.floor }
-            ensures { ReducesTo reducer.entry.now result.interactions reducer.exit.now × (result.interactions ≤ rest.most) × HasFree reducer.exit.now rest.floor × (result.parts ≤ rest.parts) × (length room.exit.now.names.items ≡ length room.entry.now.names.items) }
+            ensures { ReducesTo reducer.entry.now result.interactions reducer.exit.now × (result.interactions ≤ rest.most) × HasFree reducer.exit.now rest.floor × (result.parts ≤ rest.parts) × IsForAsMany room.entry.now room.exit.now }
         { reduce_in_parts(rt, alloc, reducer, templates, rest, room) },
     )
 }
@@ -106,7 +107,7 @@ pub fn reduce_in_parts<R: Threads>(
     ensures most { result.interactions ≤ sharing.most }
     ensures floor { HasFree reducer.new sharing.floor }
     ensures parts { result.parts ≤ sharing.parts }
-    ensures names { length room.new.names.items ≡ length room.old.names.items }
+    ensures room { IsForAsMany room.old room.new }
 {
     let pairs = reducer.pairs() / sharing.parts;
     if sharing.parts == 1 || pairs == 0 {

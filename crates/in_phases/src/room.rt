@@ -1,4 +1,6 @@
 // Lists that are used for one part after another.
+ghost use Rattle.std.specs.Prelude.{IfOk};
+ghost use Rattle.in_phases.specs.Rooms.{IsRoomFor};
 
 use crate::branch::Branch;
 use crate::gathering::empty;
@@ -15,7 +17,9 @@ pub struct Room {
 impl Room {
     /// Room for reducers with so many numbers for agents (`Reducer::numbers`); of one with another number `reduce_in_parts` makes no parts.
     /// Refused for want of memory alone.
-    pub fn new(alloc: Global, numbers: u32) -> Result<Room, AllocError> {
+    pub fn new(alloc: Global, numbers: u32) -> Result<Room, AllocError>
+        ensures { IfOk result (IsRoomFor numbers) }
+    {
         Ok(Room {
             branch: empty(alloc, numbers)?,
             names: vec![in alloc; CellNo(0); numbers as usize]?,

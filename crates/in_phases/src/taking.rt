@@ -6,16 +6,17 @@ ghost use Rattle.in_compile.specs.Cells.{agents_of, count_of};
 ghost use Rattle.in_compile.specs.Templates.{AreTemplatesOf};
 ghost use Rattle.in_phases.specs.Branches.{IsBranch};
 ghost use Rattle.in_phases.specs.Phases.{CanComeBack, HasFree, IsSplitBy, IsTakenOut};
+ghost use Rattle.in_phases.specs.Rooms.{IsForAsMany};
 ghost use Rattle.in_reducer.specs.Limiting.{most_cells};
 ghost use Rattle.in_reducer.specs.Machines.{MachineParts};
 ghost use Rattle.in_reducer.specs.Parting.{ReducesTo};
 
 use crate::branch::Branch;
 use crate::closing::is_closed;
-use crate::cutting::{MOST_FREE_ENDS, cut_off, join_up};
+use crate::cutting::{cut_off, join_up};
 use crate::room::Room;
 use in_compile::Templates;
-use in_reducer::{CellClass, CellNo, Reducer, Seam};
+use in_reducer::{CellClass, CellNo, MOST_CELLS, MOST_FREE_ENDS, Reducer, Seam};
 use std::alloc::Global;
 
 /// A part that was split off, and the seam at which it comes back; how many cuts there were, and how many cells of each class it has.
@@ -26,9 +27,6 @@ pub(crate) struct Taken<'a> {
     pub(crate) cuts: u32,
     pub(crate) cells: u32,
 }
-
-/// The most cells of each class that a reducer may have.
-const MOST_CELLS: usize = 1_048_576;
 
 /// Whether at least so many cells of each class are free.
 fn has_free(reducer: &Reducer, count: u32) -> bool
@@ -61,7 +59,7 @@ fn split<'a>(
     let all = reducer.free_ends();
     let own = all - 2 * cuts;
     let cells = branch.agents.len() + share as usize;
-    if cells > MOST_CELLS || all > MOST_FREE_ENDS || !is_closed(reducer, branch, own, cuts) {
+    if cells > MOST_CELLS as usize || all > MOST_FREE_ENDS || !is_closed(reducer, branch, own, cuts) {
         return None;
     }
     if names.len() != reducer.numbers() as usize || 3 * cells > names.len() {
@@ -123,7 +121,7 @@ pub(crate) fn take_part<'a>(
     ensures taken { MatchOption result (ReducesTo reducer.old 0 reducer.new × HasFree reducer.new floor) (λ t. IsTakenOut reducer.old t.cuts t.cells t.seam t.part reducer.new × HasFree reducer.new (floor + t.cells)) }
     ensures templates { AreTemplatesOf reducer.new.program templates.now }
     ensures part_templates { IfSome result (λ t. AreTemplatesOf t.part.program templates.now) }
-    ensures names { length room.new.names.items ≡ length room.old.names.items }
+    ensures room { IsForAsMany room.old room.new }
     ensures fits { IfSome result (λ t. length classes * t.cells ≤ length room.new.names.items) }
 {
     reducer.pairs();

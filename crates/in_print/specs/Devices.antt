@@ -1,16 +1,9 @@
 -- What a call did to a reader or a writer.
-use Rattle.std.specs.Prelude.{◌≡◌, ℕ, ◌+◌, ◌<◌, List, length, take, Option, Result, Ok, Err}
+use Rattle.std.specs.Prelude.{◌≡◌, ℕ, ◌+◌, ◌<◌, List, length, take, Result, Ok, Err}
 use Rattle.std.specs.Io.KnownBytes.{append_known}
+use Rattle.in_syntax.specs.Streams.{Device}
 use Rattle.in_print.specs.declared.writing.PrintFault.{PrintFault}
 use Rattle.in_print.specs.declared.writing.PrintFault.TheVariants.{Memory, Write}
-
--- a reader or a writer: the bytes that it moved so far, or nothing where it doesn't tell them, and how many of its calls failed
-pub record Device : Type 0 where
-  pub bytes : Option (List ℕ)
-  pub failures : ℕ
-
-abbrev pub device : Option (List ℕ) → ℕ → Device
-device bytes failures = record { bytes = bytes; failures = failures }
 
 -- these bytes were moved, and no call failed
 pub record Moves (old new : Device) (bytes : List ℕ) : Type 0 where

@@ -3,6 +3,7 @@ use Rattle.std.proofs.Common.{◌≡◌, inl, inr, ℕ, nat_eq, List, [], ◌++�
 use Rattle.std.proofs.lemmas.List.{append_cancel_left}
 use Rattle.std.proofs.lemmas.Option.{same_Some}
 use Rattle.std.specs.Io.KnownBytes.{append_known}
+use Rattle.in_syntax.specs.Streams.{Device, Reader}
 use Rattle.in_net.specs.Nets.{net_of, signature_of}
 use Rattle.in_check.specs.Checking.{IsAccepted}
 use Rattle.in_check.specs.Laws.{AreOneProgram}
@@ -17,7 +18,7 @@ use Rattle.in_run.specs.declared.running.Outcome.{Outcome}
 use Rattle.in_run.specs.declared.stops.Stop.{Stop}
 use Rattle.in_run.specs.declared.stops.Stop.TheVariants.{Normal, Limit, Full}
 use Rattle.in_reducer.specs.Machines.{MachineParts}
-use Rattle.in_print.specs.Devices.{Device, Moves}
+use Rattle.in_print.specs.Devices.{Moves}
 use Rattle.in_rounds.specs.Texts.{text_of}
 use Rattle.in_run.proofs.Public.{normal_outcomes_are_one}
 use Rattle.in_command_line.specs.declared.action.Action.{Action}
@@ -25,7 +26,6 @@ use Rattle.in_command_line.specs.declared.action.Action.TheVariants.{Check, Deri
 use Rattle.in_program.specs.declared.acting.Status.{Status}
 use Rattle.in_program.specs.Acting.{Acts, told, unread, unwritten, Says, IsReply, IsOfEachEnd, IsReport, IsFinding, counted, derived, ran, full, Report, accepted, refused, lines_of, status_of, status, stop_status}
 use Rattle.in_program.specs.Lines.{run_lines}
-use Rattle.in_program.specs.Devices.{Reader}
 use Rattle.in_program.specs.Laws.{CallsAreAnsweredOnce, IsAnswered, Moved, NormalCallsAreOne, NormalLinesAreOne}
 use Rattle.in_program.proofs.OneReply.{answered_once}
 

@@ -1,11 +1,12 @@
 -- What telling lines on a text does.
 use Rattle.std.proofs.Common.{◌≡◌, ◌<◌, ◌+◌, List, ◌++◌, [], ◌∷◌, length, take, ℕ, zero, suc, sym, subst, ap, ◌∙◌, refl, inl, inr, arith, length-append, Result, Ok, Err, IfOk, OnErr, Vec, Global}
 use Rattle.std.specs.Io.KnownBytes.{append_known}
+use Rattle.in_syntax.specs.Streams.{Device, Reader}
 use Rattle.in_print.proofs.Public.{append_known-twice}
 use Rattle.in_command_line.specs.declared.action.Action.{Action}
 use Rattle.in_program.specs.declared.acting.Status.{Status}
-use Rattle.in_print.specs.Devices.{Device, Moves, BreaksAt}
-use Rattle.in_program.specs.Devices.{Reader, Gives, IsEnoughText}
+use Rattle.in_print.specs.Devices.{Moves, BreaksAt}
+use Rattle.in_program.specs.Devices.{Gives, IsEnoughText}
 use Rattle.in_program.specs.Lines.{memory_line}
 use Rattle.in_program.specs.Acting.{Acts, told, unwritten, memory_status, fault_status, IsReply, Says, Tells, TellsOne}
 

@@ -1,5 +1,6 @@
 -- What the program does: the lines that it writes on the text that it reads, and its status.
 use Rattle.std.specs.Prelude.{◌≡◌, ◌⊎◌, ◌++◌, ℕ, Bool, true, false, List, Ok, string_bytes}
+use Rattle.in_syntax.specs.Streams.{Device, Reader}
 use Rattle.in_syntax.specs.declared.faults.Refusal.{Refusal}
 use Rattle.in_command_line.specs.declared.action.Action.{Action}
 use Rattle.in_command_line.specs.declared.action.Action.TheVariants.{Check, Derive, Run}
@@ -9,7 +10,7 @@ use Rattle.in_program.specs.declared.acting.Status.{Status}
 use Rattle.in_check.specs.Checking.{IsAccepted, IsRefused}
 use Rattle.in_check.specs.Programs.{Program, counts_of}
 use Rattle.in_arena.specs.declared.content.CellClass.{CellClass}
-use Rattle.in_print.specs.Devices.{Device, Moves}
+use Rattle.in_print.specs.Devices.{Moves}
 use Rattle.in_rounds.specs.Texts.{text_of}
 use Rattle.in_run.specs.declared.stops.Stop.{Stop}
 use Rattle.in_run.specs.declared.stops.Stop.TheVariants.{Normal, Limit, Full}
@@ -17,7 +18,7 @@ use Rattle.in_reducer.specs.Machines.{MachineParts}
 use Rattle.in_order.specs.Ends.{Ends}
 use Rattle.in_rounds.specs.Starts.{DoesNotFit}
 use Rattle.in_run.specs.Outcomes.{RunsTo}
-use Rattle.in_program.specs.Devices.{Reader, Gives, Fails, BreaksWithin, IsEnoughText}
+use Rattle.in_program.specs.Devices.{Gives, Fails, BreaksWithin, IsEnoughText}
 use Rattle.in_program.specs.Lines.{accepted_line, refused_line, memory_line, run_lines, start_line}
 use Rattle.in_program.specs.Steps.{derivation_lines}
 

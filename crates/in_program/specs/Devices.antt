@@ -1,21 +1,12 @@
 -- What a call did to a reader, and to a writer: see `in_print`'s definitions of devices.
-use Rattle.std.specs.Prelude.{◌⊎◌, ℕ, ◌+◌, ◌<◌, ◌≤◌, Bool, IsTrue, List, length, Option}
-use Rattle.in_syntax.specs.Streams.{one_more}
+use Rattle.std.specs.Prelude.{◌⊎◌, ℕ, ◌+◌, ◌<◌, ◌≤◌, Bool, IsTrue, List, length}
+use Rattle.in_syntax.specs.Streams.{Device, Reader, one_more}
 use Rattle.in_syntax.specs.Tokens.{text_limit}
-use Rattle.in_print.specs.Devices.{Device, device, Moves, Breaks, BreaksAt}
+use Rattle.in_print.specs.Devices.{Moves, Breaks, BreaksAt}
 use Rattle.in_program.specs.declared.reading.Input.{Input}
 use Rattle.in_program.specs.declared.reading.Input.TheVariants as input
 
 -- ---- a reader
-
--- what it gave and how often it failed, how many reads there were, and whether the last one found the end of the text
-pub record Reader : Type 0 where
-  pub device : Device
-  pub reads : ℕ
-  pub ended : Bool
-
-abbrev pub reader_of : Option (List ℕ) → ℕ → ℕ → Bool → Reader
-reader_of bytes failures reads ended = record { device = device bytes failures; reads = reads; ended = ended }
 
 -- as many reads are enough for a text: one for each of its bytes, and one that finds its end
 abbrev pub most_reads : ℕ

@@ -1,8 +1,6 @@
 ghost use Rattle.std.specs.Prelude.{ℕ, ◌≡◌, ◌-◌, ◌^◌, ◌<◌, ◌++◌, IfOk, OnErr};
-ghost use Rattle.in_print.specs.Devices.{device};
 ghost use Rattle.in_rounds.specs.Texts.{text_of};
 ghost use Rattle.in_program.specs.Acting.{Acts, IsReply, Tells, TellsOne, TellsUsage, memory_status, AreFound, AreThese, report_action, status, stop_status};
-ghost use Rattle.in_program.specs.Devices.{reader_of};
 ghost use Rattle.in_program.specs.Lines.{memory_line, refused_line, run_lines, start_line};
 ghost use Rattle.in_arena.specs.declared.content.CellClass.{CellClass};
 ghost use Rattle.in_run.specs.declared.running.RunFault.TheVariants.{Start};
@@ -57,8 +55,8 @@ fn stop_status(stop: Stop) -> Status
 
 /// Writes a text, and answers the status, or that of a fault where the writer failed.
 pub(crate) fn tell<W: TextOut>(writer: &mut W, text: &[u8], status: Status) -> Status
-    requires { W.failures writer.old < 2 ^ 64 - 1 }
-    ensures { Tells (device (W.taken writer.old) (W.failures writer.old)) (device (W.taken writer.new) (W.failures writer.new)) text.now status result }
+    requires { (W.device writer.old).failures < 2 ^ 64 - 1 }
+    ensures { Tells (W.device writer.old) (W.device writer.new) text.now status result }
 {
     match write_all(writer, text) {
         Ok(()) => status,
@@ -72,9 +70,9 @@ pub(crate) fn tell_lines<W: TextOut>(
     lines: Result<Vec<u8>, AllocError>,
     status: Status,
 ) -> Status
-    requires { W.failures writer.old < 2 ^ 64 - 1 }
-    ensures ok { IfOk lines (λ v. Tells (device (W.taken writer.old) (W.failures writer.old)) (device (W.taken writer.new) (W.failures writer.new)) v.items status result) }
-    ensures err { OnErr lines (Tells (device (W.taken writer.old) (W.failures writer.old)) (device (W.taken writer.new) (W.failures writer.new)) memory_line memory_status result) }
+    requires { (W.device writer.old).failures < 2 ^ 64 - 1 }
+    ensures ok { IfOk lines (λ v. Tells (W.device writer.old) (W.device writer.new) v.items status result) }
+    ensures err { OnErr lines (Tells (W.device writer.old) (W.device writer.new) memory_line memory_status result) }
 {
     match lines {
         Ok(lines) => tell(writer, lines.as_slice(), status),
@@ -90,8 +88,8 @@ fn tell_net<W: TextOut>(
     lines: &[u8],
     status: Status,
 ) -> Status
-    requires { W.failures writer.old < 2 ^ 64 - 1 }
-    ensures { TellsOne (AreThese (text_of machine.now ++ lines.now) status) (device (W.taken writer.old) (W.failures writer.old)) (device (W.taken writer.new) (W.failures writer.new)) result }
+    requires { (W.device writer.old).failures < 2 ^ 64 - 1 }
+    ensures { TellsOne (AreThese (text_of machine.now ++ lines.now) status) (W.device writer.old) (W.device writer.new) result }
 {
     match write_net(alloc, machine, writer) {
         Ok(_) => tell(writer, lines, status),
@@ -102,9 +100,9 @@ fn tell_net<W: TextOut>(
 
 /// Writes what a run came to.
 pub(crate) fn tell_outcome<W: TextOut>(alloc: Global, writer: &mut W, outcome: &Outcome) -> Status
-    requires { W.failures writer.old < 2 ^ 64 - 1 }
+    requires { (W.device writer.old).failures < 2 ^ 64 - 1 }
     ensures { TellsOne (AreThese (text_of outcome.now.machine ++ run_lines outcome.now.interactions outcome.now.stop) (stop_status outcome.now.stop))
-        (device (W.taken writer.old) (W.failures writer.old)) (device (W.taken writer.new) (W.failures writer.new)) result }
+        (W.device writer.old) (W.device writer.new) result }
 {
     match run_lines(alloc, outcome.interactions, outcome.stop) {
         Ok(lines) => tell_net(
@@ -120,9 +118,9 @@ pub(crate) fn tell_outcome<W: TextOut>(alloc: Global, writer: &mut W, outcome: &
 
 /// Writes that a net doesn't fit the cells, or that memory is wanted.
 fn tell_run_fault<W: TextOut>(alloc: Global, writer: &mut W, fault: &RunFault) -> Status
-    requires { W.failures writer.old < 2 ^ 64 - 1 }
+    requires { (W.device writer.old).failures < 2 ^ 64 - 1 }
     ensures { TellsOne (λ lines s. (c : CellClass) × (need : ℕ) × (free : ℕ) × (fault.now ≡ Start (Full c need free)) × AreThese (start_line c need free) (status 4) lines s)
-        (device (W.taken writer.old) (W.failures writer.old)) (device (W.taken writer.new) (W.failures writer.new)) result }
+        (W.device writer.old) (W.device writer.new) result }
 {
     match fault {
         RunFault::Start(StartFault::Full { class, need, free }) => {
@@ -140,8 +138,8 @@ fn tell_run<T: Threads + Wait, W: TextOut>(
     checked: &Checked,
     limits: Limits,
 ) -> Status
-    requires { W.failures writer.old < 2 ^ 64 - 1 }
-    ensures { TellsOne (AreFound (Run limits) checked.now) (device (W.taken writer.old) (W.failures writer.old)) (device (W.taken writer.new) (W.failures writer.new)) result }
+    requires { (W.device writer.old).failures < 2 ^ 64 - 1 }
+    ensures { TellsOne (AreFound (Run limits) checked.now) (W.device writer.old) (W.device writer.new) result }
 {
     match run(rt, alloc, checked, limits, &NoGate) {
         Ok(outcome) => {
@@ -159,8 +157,8 @@ fn tell_run<T: Threads + Wait, W: TextOut>(
 
 /// Writes what an accepted program has, or by which steps it is built.
 fn tell_found<W: TextOut>(alloc: Global, writer: &mut W, derive: bool, checked: &Checked) -> Status
-    requires { W.failures writer.old < 2 ^ 64 - 1 }
-    ensures { TellsOne (AreFound (report_action derive) checked.now) (device (W.taken writer.old) (W.failures writer.old)) (device (W.taken writer.new) (W.failures writer.new)) result }
+    requires { (W.device writer.old).failures < 2 ^ 64 - 1 }
+    ensures { TellsOne (AreFound (report_action derive) checked.now) (W.device writer.old) (W.device writer.new) result }
 {
     if derive {
         tell_lines(writer, derivation_lines(alloc, checked), ACCEPTED)
@@ -176,9 +174,9 @@ pub(crate) fn tell_fault<W: TextOut>(
     text: &[u8],
     fault: Fault,
 ) -> Status
-    requires { W.failures writer.old < 2 ^ 64 - 1 }
+    requires { (W.device writer.old).failures < 2 ^ 64 - 1 }
     ensures { TellsOne (λ lines s. (r : Refusal) × (fault ≡ Refused r) × AreThese (refused_line text.now r) (status 1) lines s)
-        (device (W.taken writer.old) (W.failures writer.old)) (device (W.taken writer.new) (W.failures writer.new)) result }
+        (W.device writer.old) (W.device writer.new) result }
 {
     match fault {
         Fault::Refused(refusal) => {
@@ -190,8 +188,8 @@ pub(crate) fn tell_fault<W: TextOut>(
 
 /// Writes what `check` says of a text in memory, or what `derive` does, and answers the status: as `report` of a text that it reads.
 pub fn report_text<W: TextOut>(alloc: Global, writer: &mut W, derive: bool, text: &[u8]) -> Status
-    requires { W.failures writer.old < 2 ^ 64 - 1 }
-    ensures { TellsOne (IsReply (report_action derive) text.now) (device (W.taken writer.old) (W.failures writer.old)) (device (W.taken writer.new) (W.failures writer.new)) result }
+    requires { (W.device writer.old).failures < 2 ^ 64 - 1 }
+    ensures { TellsOne (IsReply (report_action derive) text.now) (W.device writer.old) (W.device writer.new) result }
 {
     match check(alloc, text) {
         Ok(checked) => {
@@ -211,8 +209,8 @@ fn tell_reply<T: Threads + Wait, W: TextOut>(
     limits: Limits,
     text: &[u8],
 ) -> Status
-    requires { W.failures writer.old < 2 ^ 64 - 1 }
-    ensures { TellsOne (IsReply (Run limits) text.now) (device (W.taken writer.old) (W.failures writer.old)) (device (W.taken writer.new) (W.failures writer.new)) result }
+    requires { (W.device writer.old).failures < 2 ^ 64 - 1 }
+    ensures { TellsOne (IsReply (Run limits) text.now) (W.device writer.old) (W.device writer.new) result }
 {
     match check(alloc, text) {
         Ok(checked) => {
@@ -234,9 +232,9 @@ pub fn report<R: TextIn, W: TextOut>(
     reader: &mut R,
     writer: &mut W,
 ) -> Status
-    requires reader { R.failures reader.old < 2 ^ 64 - 1 }
-    requires writer { W.failures writer.old < 2 ^ 64 - 1 }
-    ensures { Acts (report_action derive) (reader_of (R.given reader.old) (R.failures reader.old) (R.reads reader.old) (R.ended reader.old)) (reader_of (R.given reader.new) (R.failures reader.new) (R.reads reader.new) (R.ended reader.new)) (device (W.taken writer.old) (W.failures writer.old)) (device (W.taken writer.new) (W.failures writer.new)) result }
+    requires reader { (R.reader reader.old).device.failures < 2 ^ 64 - 1 }
+    requires writer { (W.device writer.old).failures < 2 ^ 64 - 1 }
+    ensures { Acts (report_action derive) (R.reader reader.old) (R.reader reader.new) (W.device writer.old) (W.device writer.new) result }
 {
     match read_text(alloc, reader) {
         Input::Text(text) => report_text(alloc, writer, derive, text.as_slice()),
@@ -253,9 +251,9 @@ fn report_run<T: Threads + Wait, R: TextIn, W: TextOut>(
     reader: &mut R,
     writer: &mut W,
 ) -> Status
-    requires reader { R.failures reader.old < 2 ^ 64 - 1 }
-    requires writer { W.failures writer.old < 2 ^ 64 - 1 }
-    ensures { Acts (Run limits) (reader_of (R.given reader.old) (R.failures reader.old) (R.reads reader.old) (R.ended reader.old)) (reader_of (R.given reader.new) (R.failures reader.new) (R.reads reader.new) (R.ended reader.new)) (device (W.taken writer.old) (W.failures writer.old)) (device (W.taken writer.new) (W.failures writer.new)) result }
+    requires reader { (R.reader reader.old).device.failures < 2 ^ 64 - 1 }
+    requires writer { (W.device writer.old).failures < 2 ^ 64 - 1 }
+    ensures { Acts (Run limits) (R.reader reader.old) (R.reader reader.new) (W.device writer.old) (W.device writer.new) result }
 {
     match read_text(alloc, reader) {
         Input::Text(text) => tell_reply(rt, alloc, writer, limits, text.as_slice()),
@@ -274,9 +272,9 @@ pub fn act<T: Threads + Wait, R: TextIn, W: TextOut>(
     reader: &mut R,
     writer: &mut W,
 ) -> Status
-    requires reader { R.failures reader.old < 2 ^ 64 - 1 }
-    requires writer { W.failures writer.old < 2 ^ 64 - 1 }
-    ensures { Acts action.now (reader_of (R.given reader.old) (R.failures reader.old) (R.reads reader.old) (R.ended reader.old)) (reader_of (R.given reader.new) (R.failures reader.new) (R.reads reader.new) (R.ended reader.new)) (device (W.taken writer.old) (W.failures writer.old)) (device (W.taken writer.new) (W.failures writer.new)) result }
+    requires reader { (R.reader reader.old).device.failures < 2 ^ 64 - 1 }
+    requires writer { (W.device writer.old).failures < 2 ^ 64 - 1 }
+    ensures { Acts action.now (R.reader reader.old) (R.reader reader.new) (W.device writer.old) (W.device writer.new) result }
 {
     match action {
         Action::Check => report(alloc, false, reader, writer),
@@ -288,9 +286,9 @@ pub fn act<T: Threads + Wait, R: TextIn, W: TextOut>(
 /// Tells why the words name no action: help as output, what is wrong with them as an error, want of memory as output.
 /// That wrong words can't be told changes nothing.
 pub fn tell_usage<W: TextOut, E: TextOut>(usage: &Usage, output: &mut W, errors: &mut E) -> Status
-    requires output { W.failures output.old < 2 ^ 64 - 1 }
-    requires errors { E.failures errors.old < 2 ^ 64 - 1 }
-    ensures { TellsUsage (device (W.taken output.old) (W.failures output.old)) (device (W.taken output.new) (W.failures output.new)) (device (E.taken errors.old) (E.failures errors.old)) (device (E.taken errors.new) (E.failures errors.new)) usage.now result }
+    requires output { (W.device output.old).failures < 2 ^ 64 - 1 }
+    requires errors { (E.device errors.old).failures < 2 ^ 64 - 1 }
+    ensures { TellsUsage (W.device output.old) (W.device output.new) (E.device errors.old) (E.device errors.new) usage.now result }
 {
     match usage {
         Usage::Help(text) => tell(output, text.as_bytes(), ACCEPTED),

@@ -1,7 +1,6 @@
 // What is said of a text in memory, without threads.
 ghost use Rattle.std.specs.Prelude.{ℕ, ◌≡◌, ◌-◌, ◌^◌, ◌<◌};
 ghost use Rattle.in_arena.specs.declared.content.CellClass.{CellClass};
-ghost use Rattle.in_print.specs.Devices.{device};
 ghost use Rattle.in_program.specs.Acting.{AreFound, AreThese, IsReply, TellsOne, status};
 ghost use Rattle.in_program.specs.Lines.{start_line};
 ghost use Rattle.in_rounds.specs.declared.starting.StartFault.TheVariants.{Full};
@@ -18,9 +17,9 @@ use std::alloc::Global;
 
 /// Writes why there is no start: a net that doesn't fit the cells, or want of memory.
 fn tell_no_start<W: TextOut>(alloc: Global, writer: &mut W, fault: StartFault) -> Status
-    requires { W.failures writer.old < 2 ^ 64 - 1 }
+    requires { (W.device writer.old).failures < 2 ^ 64 - 1 }
     ensures { TellsOne (λ lines s. (c : CellClass) × (need : ℕ) × (free : ℕ) × (fault ≡ Full c need free) × AreThese (start_line c need free) (status 4) lines s)
-        (device (W.taken writer.old) (W.failures writer.old)) (device (W.taken writer.new) (W.failures writer.new)) result }
+        (W.device writer.old) (W.device writer.new) result }
 {
     match fault {
         StartFault::Full { class, need, free } => {
@@ -37,8 +36,8 @@ fn tell_run_in_turn<W: TextOut>(
     checked: &Checked,
     limits: Limits,
 ) -> Status
-    requires { W.failures writer.old < 2 ^ 64 - 1 }
-    ensures { TellsOne (AreFound (Run limits) checked.now) (device (W.taken writer.old) (W.failures writer.old)) (device (W.taken writer.new) (W.failures writer.new)) result }
+    requires { (W.device writer.old).failures < 2 ^ 64 - 1 }
+    ensures { TellsOne (AreFound (Run limits) checked.now) (W.device writer.old) (W.device writer.new) result }
 {
     match run_in_turn(alloc, checked, limits) {
         Ok(outcome) => {
@@ -52,8 +51,8 @@ fn tell_run_in_turn<W: TextOut>(
 
 /// Writes what `run` with one worker says of a text in memory, and answers the status: as `act` of a text that it reads. It starts no thread.
 pub fn run_text<W: TextOut>(alloc: Global, writer: &mut W, limits: Limits, text: &[u8]) -> Status
-    requires { W.failures writer.old < 2 ^ 64 - 1 }
-    ensures { TellsOne (IsReply (Run limits) text.now) (device (W.taken writer.old) (W.failures writer.old)) (device (W.taken writer.new) (W.failures writer.new)) result }
+    requires { (W.device writer.old).failures < 2 ^ 64 - 1 }
+    ensures { TellsOne (IsReply (Run limits) text.now) (W.device writer.old) (W.device writer.new) result }
 {
     match check(alloc, text) {
         Ok(checked) => {

@@ -2,7 +2,8 @@
 //!
 //! `reading` reads the text; it is checked, and all its lines are made in memory (`lines`, `steps`, `runs`) before one is written, so
 //! that running out of memory comes before the first byte. A printed net is written by `write_net` once the lines after it are there.
-//! `acting` has the calls, `in_turn` the one that runs a text in memory without threads.
+//! `acting` has the calls, `in_turn` the one that runs a text in memory without threads. The streams of the system (`streams`) are a reader
+//! and a writer that keep why a read or a write failed.
 #![tactic(auto)]
 
 mod acting;
@@ -12,6 +13,8 @@ mod lines;
 mod reading;
 mod runs;
 mod steps;
+mod streams;
 
 pub use acting::{Status, act, report, report_text, tell_usage};
 pub use in_turn::run_text;
+pub use streams::{StreamIn, StreamOut};

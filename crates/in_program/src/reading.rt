@@ -1,5 +1,5 @@
 ghost use Rattle.std.specs.Prelude.{◌-◌, ◌^◌, ◌<◌};
-ghost use Rattle.in_program.specs.Devices.{reader_of, IsInput};
+ghost use Rattle.in_program.specs.Devices.{IsInput};
 
 use in_syntax::{MAX_TEXT_BYTES, TextIn};
 use std::alloc::Global;
@@ -17,8 +17,8 @@ pub enum Input {
 
 /// Reads to the end, or until more bytes came than a text has.
 pub fn read_text<R: TextIn>(alloc: Global, reader: &mut R) -> Input
-    requires { R.failures reader.old < 2 ^ 64 - 1 }
-    ensures { IsInput (reader_of (R.given reader.old) (R.failures reader.old) (R.reads reader.old) (R.ended reader.old)) (reader_of (R.given reader.new) (R.failures reader.new) (R.reads reader.new) (R.ended reader.new)) result }
+    requires { (R.reader reader.old).device.failures < 2 ^ 64 - 1 }
+    ensures { IsInput (R.reader reader.old) (R.reader reader.new) result }
 {
     let mut text = Vec::new(alloc);
     let mut buffer = [0u8; 4096];

@@ -45,13 +45,7 @@ impl<'a> Tape<'a> {
 }
 
 impl TextIn for Tape<'_> {
-    ghost given = { λ _. None };
-
-    ghost ended = { λ s. s.ended };
-
-    ghost failures = { λ s. s.failures };
-
-    ghost reads = { λ s. s.reads };
+    ghost reader = { λ s. record { device = record { bytes = None; failures = s.failures }; reads = s.reads; ended = s.ended } };
 
     fn read(&mut self, into: &mut [u8]) -> Result<usize, ()> {
         self.reads = self.reads.saturating_add(1);
@@ -112,9 +106,7 @@ impl Paper {
 }
 
 impl TextOut for Paper {
-    ghost taken = { λ _. None };
-
-    ghost failures = { λ s. s.failures };
+    ghost device = { λ s. record { bytes = None; failures = s.failures } };
 
     fn write(&mut self, bytes: &[u8]) -> Result<usize, ()> {
         let n = bytes.len().min(self.step).min(self.room);

@@ -66,7 +66,7 @@ abbrev without_some : {X : Type 0} → X → Option X → X
 without_some x None = x
 without_some x (Some y) = y
 
-somes_same : (xs ys : List (List ℕ)) → map (λ n. Some n) xs ≡ map (λ n. Some n) ys → xs ≡ ys
+pub somes_same : (xs ys : List (List ℕ)) → map (λ n. Some n) xs ≡ map (λ n. Some n) ys → xs ≡ ys
 somes_same xs ys e = sym (back xs) ∙ ap (map (without_some [])) e ∙ back ys
   where
     back : (zs : List (List ℕ)) → map (without_some []) (map (λ n. Some n) zs) ≡ zs
@@ -142,7 +142,7 @@ same_option None None same = refl
 same_option None (Some s) same = (same s).1 refl
 same_option (Some s) p same = sym ((same s).0 refl)
 
-same_agents : (t : Tables) (c : CellClass) (a b : MachineParts) → ((y s : ℕ) → ((net_in a).symbol y ≡ Some s) ↔ ((net_in b).symbol y ≡ Some s)) → agents_of t c a.agents ≡ agents_of t c b.agents
+pub same_agents : (t : Tables) (c : CellClass) (a b : MachineParts) → ((y s : ℕ) → ((net_in a).symbol y ≡ Some s) ↔ ((net_in b).symbol y ≡ Some s)) → agents_of t c a.agents ≡ agents_of t c b.agents
 same_agents t c a b same = agents_alike t c a.agents b.agents (λ y. same_option ((net_in a).symbol y) ((net_in b).symbol y) (same y))
 
 -- ---- cuts and joints

@@ -1,7 +1,7 @@
 // One interaction, over cells.
 ghost use Rattle.std.specs.Prelude.{◌≡◌, ◌≤◌, ◌+◌, [], length, vec_capacity};
 ghost use Rattle.in_compile.specs.Members.{IsSoundMember};
-ghost use Rattle.in_reducer.specs.Inside.{most_ends};
+ghost use Rattle.in_reducer.specs.Inside.{most_ends, most_free};
 ghost use Rattle.in_reducer.specs.Interacting.{PairSetting, HasBeside, IsInteracted};
 ghost use Rattle.in_reducer.specs.Standing.{IsNetIn, AreLeasedAlike, at_rest};
 
@@ -26,7 +26,7 @@ pub(crate) fn interact(
     requires beside { (s : PairSetting) × HasBeside symbols.now s template.now pair own placed.now.cells arena.old ends.old }
     requires net { IsNetIn symbols.now (at_rest arena.old) }
     requires few { length template.now.member.joints ≤ most_ends }
-    requires own { own ≤ 65536 }
+    requires own { own ≤ most_free }
     requires room { own + length template.now.member.joints + length template.now.member.joints ≤ length ends.old }
     requires made_room { length made.old.items + most_ends ≤ vec_capacity made.old }
     ensures interacted { (s : PairSetting) → HasBeside symbols.now s template.now pair own placed.now.cells arena.old ends.old → IsInteracted symbols.now s own placed.now.cells arena.new ends.new made.old.items made.new.items }

@@ -2,7 +2,7 @@
 
 ghost use Rattle.in_reducer.specs.Cutting.{JointsUndoCuts};
 ghost use Rattle.in_reducer.specs.Laws.{ReducersAsPromised, StepsKeepReducers, StartsAreReducers};
-ghost use Rattle.in_reducer.specs.PartingLaws.{CutsAreUndone, PartsReduceTheWhole, ReductionsGoOn, StaysReduce, StepsReduce};
+ghost use Rattle.in_reducer.specs.PartingLaws.{CutsAreUndone, GluingsAreAlike, PartsReduceTheWhole, ReductionsGoOn, SplitsAreAlike, StaysReduce, StepsReduce};
 
 /// What a reducer shows is as promised: typed, with one rule for each active pair, without crossing circle or vicious one, with an end
 /// to each interaction, leading on from each agent, and written whole.
@@ -44,6 +44,16 @@ pub fn reductions_go_on()
 /// Where a part is split off, both are reduced each by itself, and the part is glued on again, the whole is reduced by both counts together.
 pub fn parts_reduce_the_whole()
     ensures { PartsReduceTheWhole }
+{}
+
+/// What is split off is determined by the net, the agents and the cuts, but for the numbers that the agents get and the order of the queues.
+pub fn splits_are_alike()
+    ensures { SplitsAreAlike }
+{}
+
+/// What is glued on is determined by the rest, the part and the cuts, but for the numbers that the agents get and the order of the queue.
+pub fn gluings_are_alike()
+    ensures { GluingsAreAlike }
 {}
 
 /// Where a wire is cut, and only interactions are done since, the two ends can be joined again, and the net before the cut is reduced to what

@@ -31,6 +31,7 @@ mod cutting;
 mod gluing;
 mod interacting;
 pub mod laws;
+mod limits;
 mod looking;
 mod numbered;
 mod placing;
@@ -49,6 +50,7 @@ mod tools;
 
 pub use in_arena::{CellClass, CellNo, End};
 pub use in_compile::Need;
+pub use limits::{LEAST_CELLS, MOST_CELLS, MOST_FREE_ENDS};
 pub use reducer::Reducer;
 pub use round::Round;
 pub use seam::Seam;

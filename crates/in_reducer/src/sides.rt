@@ -2,6 +2,7 @@
 ghost use Rattle.std.specs.Prelude.{◌≡◌, ◌≢◌, ◌≤◌, ◌<◌, ◌+◌, ◌^◌, ℕ, length, Some, slice_get};
 ghost use Rattle.in_arena.specs.declared.content.End.TheVariants.{Cell};
 ghost use Rattle.in_compile.specs.declared.joints.Joint.{Joint as Target};
+ghost use Rattle.in_reducer.specs.Inside.{most_free};
 ghost use Rattle.in_reducer.specs.Sides.{port_at, end_there, outer_of, inner_of, AreSetBelow, HasPort, HasJoint};
 
 use in_arena::{Arena, CellNo, End};
@@ -74,7 +75,7 @@ pub(crate) fn set_sides(
     ends: &mut [End],
 )
     requires few { length template.now.member.joints ≤ 32 }
-    requires own { own ≤ 65536 }
+    requires own { own ≤ most_free }
     requires ports { (e : ℕ) → e < length template.now.member.joints → HasPort arena.now pair e }
     requires joints { (e : ℕ) (j : Target) → slice_get template.now.member.joints e ≡ Some j → HasJoint placed.now.cells j }
     requires room { own + length template.now.member.joints + length template.now.member.joints ≤ length ends.old }

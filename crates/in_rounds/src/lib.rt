@@ -17,7 +17,7 @@ pub use in_claims::{Board, Gate, NoGate, Seat};
 pub use in_compile::Need;
 pub use in_gather::{Done, Gather, Why};
 pub use in_phases::{Room, Sharing, Worked};
-pub use in_reducer::Round;
+pub use in_reducer::{LEAST_CELLS, MOST_CELLS, Round};
 pub use machine::Machine;
 pub use phases::phase;
 pub use rounds::round;

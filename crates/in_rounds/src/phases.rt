@@ -1,6 +1,7 @@
 // A machine's net is reduced in parts.
 ghost use Rattle.std.specs.Prelude.{◌≤◌};
 ghost use Rattle.in_phases.specs.Phases.{HasFree};
+ghost use Rattle.in_phases.specs.Rooms.{IsForAsMany};
 ghost use Rattle.in_reducer.specs.Limiting.{most_cells};
 ghost use Rattle.in_rounds.specs.Phases.{IsPhase};
 
@@ -28,6 +29,7 @@ pub fn phase<R: Threads>(
     ensures phase { IsPhase machine.old result.interactions machine.new }
     ensures most { result.interactions ≤ sharing.most }
     ensures free { HasFree machine.new sharing.floor }
+    ensures room { IsForAsMany room.old room.new }
 {
     let worked = reduce_in_parts(
         rt,

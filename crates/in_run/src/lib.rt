@@ -13,8 +13,10 @@ mod pace;
 mod running;
 mod stops;
 
-pub use in_rounds::{CellClass, CellNo, End, Gate, Machine, Need, NoGate, StartFault};
+pub use in_rounds::{
+    CellClass, CellNo, End, Gate, LEAST_CELLS, MOST_CELLS, Machine, Need, NoGate, StartFault,
+};
 pub use in_turn::run_in_turn;
-pub use limits::Limits;
+pub use limits::{Limits, MOST_INTERACTIONS, MOST_WORKERS};
 pub use running::{Outcome, RunFault, run};
 pub use stops::Stop;

@@ -2,17 +2,13 @@ ghost use Rattle.std.specs.Prelude.{◌≡◌, ◌≤◌};
 ghost use Rattle.in_run.specs.Limiting.{most_interactions, most_workers};
 ghost use Rattle.in_reducer.specs.Limiting.{least_cells, most_cells};
 
+use in_rounds::{LEAST_CELLS, MOST_CELLS};
+
 /// The most workers that a run may have.
 pub const MOST_WORKERS: u32 = 64;
 
 /// The most interactions that a run may be allowed.
 pub const MOST_INTERACTIONS: u64 = 1_000_000_000_000;
-
-/// The least cells of each class that a machine may have.
-pub const LEAST_CELLS: u32 = 16;
-
-/// The most cells of each class that a machine may have.
-pub const MOST_CELLS: u32 = 1_048_576;
 
 /// How many workers a run has, how many interactions it may do, and how many cells of each class its machine has.
 #[derive(Clone, Copy, Debug, PartialEq, Eq)]

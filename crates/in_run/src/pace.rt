@@ -4,8 +4,8 @@ ghost use Rattle.std.specs.Prelude.{◌≡◌, ◌≤◌, IfSome};
 ghost use Rattle.in_phases.specs.Phases.{HasFree};
 ghost use Rattle.in_reducer.specs.Limiting.{most_cells};
 
-use crate::limits::{Limits, MOST_CELLS};
-use in_rounds::{CellClass, Machine, Room, Sharing, Worked};
+use crate::limits::Limits;
+use in_rounds::{CellClass, MOST_CELLS, Machine, Room, Sharing, Worked};
 use std::alloc::Global;
 
 /// From how many interactions on a phase is tried: a shorter run is over before it could pay, and the pairs are spread far by then.

@@ -1,6 +1,18 @@
--- What one read or write moves, and when it has failed. This project's own choice.
+-- What readers and writers tell of themselves, what one read or write moves, and when it has failed. This project's own choice.
 use Rattle.std.specs.Prelude.{◌≡◌, ℕ, zero, ◌+◌, ◌-◌, ◌^◌, min, Bool, true, false, List, ◌∷◌, take, Option, Result, Ok, Err}
 use Rattle.std.specs.Io.KnownBytes.{append_known}
+
+-- a reader or a writer: the bytes that it moved so far, or nothing where it doesn't tell them, and how many of its calls failed
+pub record Device : Type 0 where
+  pub bytes : Option (List ℕ)
+  pub failures : ℕ
+
+-- a reader: what it gave and how often it failed, how many reads there were, as a number of 64 bits that stays at its greatest value, and
+-- whether the last one gave none of some bytes that were asked for, and so found the end of the text
+pub record Reader : Type 0 where
+  pub device : Device
+  pub reads : ℕ
+  pub ended : Bool
 
 -- the front of the bytes that the answer names was moved, or nothing where the call failed
 abbrev pub MovesFront : Option (List ℕ) → Option (List ℕ) → Result ℕ (Unit {0}) → List ℕ → Type 0

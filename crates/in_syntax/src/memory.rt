@@ -31,13 +31,7 @@ impl<'a> MemoryIn<'a> {
 }
 
 impl TextIn for MemoryIn<'_> {
-    ghost given = { λ s. Some (take s.at s.text.now) };
-
-    ghost ended = { λ s. s.ended };
-
-    ghost failures = { λ s. 0 };
-
-    ghost reads = { λ s. s.reads };
+    ghost reader = { λ s. record { device = record { bytes = Some (take s.at s.text.now); failures = 0 }; reads = s.reads; ended = s.ended } };
 
     fn read(&mut self, into: &mut [u8]) -> Result<usize, ()> {
         self.reads = self.reads.saturating_add(1);
@@ -81,9 +75,7 @@ impl MemoryOut {
 }
 
 impl TextOut for MemoryOut {
-    ghost taken = { λ s. Some (take s.taken s.room.items) };
-
-    ghost failures = { λ s. s.failures };
+    ghost device = { λ s. record { bytes = Some (take s.taken s.room.items); failures = s.failures } };
 
     fn write(&mut self, bytes: &[u8]) -> Result<usize, ()>
         requires { self.old.failures < 2 ^ 64 - 1 }

@@ -39,13 +39,7 @@ impl<R> KeepingIn<R> {
 }
 
 impl<R: TextIn> TextIn for KeepingIn<R> {
-    ghost given = { λ s. R.given s.reader };
-
-    ghost ended = { λ s. R.ended s.reader };
-
-    ghost failures = { λ s. R.failures s.reader };
-
-    ghost reads = { λ s. R.reads s.reader };
+    ghost reader = { λ s. R.reader s.reader };
 
     fn read(&mut self, into: &mut [u8]) -> Result<usize, ()> {
         let read = self.reader.read(into)?;

@@ -2,22 +2,20 @@
 //! what it found; the steps that build its rules and its net; or what its net comes to when it is run.
 //!
 //! It has the words read and calls `in_program::act` over the standard streams. A reader that keeps a copy of what it passes on
-//! (`keeping`) gives it the text again after a refusal, for the diagnosis. The streams (`streams`) keep why a read or a write failed, and
-//! `serve` tells it.
+//! (`keeping`) gives it the text again after a refusal, for the diagnosis. The streams keep why a read or a write failed, and `serve`
+//! tells it.
 #![tactic(auto)]
 
 ghost use Rattle.std.specs.Prelude.{◌-◌, ◌<◌, ◌^◌};
 
 mod keeping;
-mod streams;
 #[cfg(test)]
 mod tests;
 
 use crate::keeping::KeepingIn;
-use crate::streams::{StreamIn, StreamOut};
 use in_command_line::{Action, Usage, action_of};
 use in_diagnosis::diagnosis;
-use in_program::{Status, act, tell_usage};
+use in_program::{Status, StreamIn, StreamOut, act, tell_usage};
 use in_syntax::TextOut;
 use std::alloc::Global;
 use std::env::Args;
@@ -76,7 +74,7 @@ fn answer<T: Threads + Wait, R: Read + Drop, W: TextOut, E: Write>(
     output: &mut W,
     errors: &mut E,
 ) -> Status
-    requires { W.failures output.old < 2 ^ 64 - 1 }
+    requires { (W.device output.old).failures < 2 ^ 64 - 1 }
 {
     let mut input = KeepingIn::new(alloc, StreamIn::new(reader));
     let status = act(rt, alloc, action, &mut input, output);

@@ -6,12 +6,9 @@
 
 ghost use Rattle.std.specs.Prelude.{◌-◌, ◌<◌, ◌^◌};
 
-mod streams;
-
-use crate::streams::StreamOut;
 use in_export::export;
 use in_print::write_all;
-use in_program::{Status, report_text};
+use in_program::{Status, StreamOut, report_text};
 use in_syntax::{Fault, MAX_TEXT_BYTES, TextOut};
 use std::alloc::Global;
 use std::io::{Error, ErrorKind, Read, Write};
@@ -55,7 +52,7 @@ fn tell_failure<E: Write>(alloc: Global, what: &str, why: Error, errors: &mut E)
 
 /// Writes these bytes, and answers the status, or that of a fault where the writer failed.
 fn tell<W: TextOut>(writer: &mut W, bytes: &[u8], status: Status) -> Status
-    requires { W.failures writer.old < 2 ^ 64 - 1 }
+    requires { (W.device writer.old).failures < 2 ^ 64 - 1 }
 {
     match write_all(writer, bytes) {
         Ok(()) => status,
@@ -65,7 +62,7 @@ fn tell<W: TextOut>(writer: &mut W, bytes: &[u8], status: Status) -> Status
 
 /// Writes the line of a text's program; where the text is refused, what `inet check` writes on it; or that memory is wanted.
 fn tell_program<W: TextOut>(alloc: Global, writer: &mut W, text: &[u8]) -> Status
-    requires { W.failures writer.old < 2 ^ 64 - 1 }
+    requires { (W.device writer.old).failures < 2 ^ 64 - 1 }
 {
     match export(alloc, text) {
         Ok(line) => tell(writer, line.as_slice(), WRITTEN),

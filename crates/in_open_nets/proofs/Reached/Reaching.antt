@@ -54,6 +54,16 @@ next_found found place node l e =
     subst (λ z. drop place found ≡ node ∷ drop z found) (sym (add-one place))
     (subst (λ z. drop place found ≡ z ∷ drop (suc place) found) (sym (e ∙ any_default found place node 0 l)) (drop_here found place l))
 
+-- a search goes on from the next node that was found
+pub next_node : (o : OpenNet) (within r : List Bool) (from : ℕ) (found : List ℕ) (place node : ℕ) → place < length found → node ≡ get_or found place node →
+    IsSearch o within from r (drop place found) → IsSearch o within from r (node ∷ drop (place + 1) found)
+next_node o within r from found place node l e s = subst (λ (q : List ℕ). IsSearch o within from r q) (next_found found place node l e) s
+
+-- .. which is one of the net
+pub next_there : (o : OpenNet) (within r : List Bool) (from : ℕ) (found : List ℕ) (place node : ℕ) → place < length found → node ≡ get_or found place node →
+    IsSearch o within from r (drop place found) → node < length o.nodes
+next_there o within r from found place node l e s = let n = next_node o within r from found place node l e s in let there = (n.pending node (inl refl)).1 in there
+
 pub missing_set : (bits : List Bool) (l : ℕ) → l < length bits → nodes_in bits l ≡ false → missing (set bits l true) + 1 ≡ missing bits
 missing_set [] l h e = absurd (omega arith)
 missing_set (true ∷ bs) zero h e = cc

@@ -1,8 +1,13 @@
 use Rattle.in_syntax.proofs.Public.{tree_in_order, tree_sized}
 use Rattle.in_check.proofs.checking.check_net.Goals as goal
 
-pub build_net-requires-clause-sized : goal.build_net-requires-clause-sized
-build_net-requires-clause-sized c = tree_sized c.requires.tree.text c.args.source.now c.requires.tree.tree
-
-pub build_net-requires-clause-order : goal.build_net-requires-clause-order
-build_net-requires-clause-order c = tree_in_order c.requires.tree.text c.args.source.now c.requires.tree.tree
+pub build_net-requires : goal.build_net-requires
+build_net-requires c =
+    let text = c.requires.tree.text in
+    let tree = c.requires.tree.tree in
+    record {
+      sized = tree_sized text c.args.source.now tree;
+      order = tree_in_order text c.args.source.now tree;
+      tabled = c.requires.tables.0;
+      faultless = c.requires.tables.1;
+    }

@@ -17,11 +17,11 @@ pub join_all-requires-clause-joints : goal.join_all-requires-clause-joints
 join_all-requires-clause-joints c =
     let source = c.args.source.now in
     let t = c.args.symbols.now in
-    let g = good source t c.args.reading.now c.requires.sized c.requires.order c.requires.tabled c.requires.faultless c.requires.read c.requires.clear in
+    let g = good source t c.args.reading.now c.requires.readable c.requires.read c.requires.clear in
     subst (λ r. JointsInside (length r.spots) r.joints) (sym c.requires.read) (read_from.joints t (body_of source.net) (read t (body_of source.net) g))
 
 pub join_all-requires-clause-names : goal.join_all-requires-clause-names
-join_all-requires-clause-names c = subst (λ r. NamesInside (length r.names) r.spots) (sym c.requires.read) (names_inside c.args.symbols.now (body_of c.args.source.now.net) (net_known c.args.source.now c.args.symbols.now c.requires.tabled))
+join_all-requires-clause-names c = subst (λ r. NamesInside (length r.names) r.spots) (sym c.requires.read) (names_inside c.args.symbols.now (body_of c.args.source.now.net) (net_known c.args.source.now c.args.symbols.now c.requires.readable.tabled))
 
 pub returns-in-Some : goal.returns-in-Some
 returns-in-Some c =
@@ -29,8 +29,8 @@ returns-in-Some c =
     let t = c.args.symbols.now in
     let is = c.requires.read in
     let clear = c.requires.clear in
-    let ready = net_ready source t c.requires.tabled c.requires.faultless c.requires.order in
-    let g = good source t c.args.reading.now c.requires.sized c.requires.order c.requires.tabled c.requires.faultless is clear in
+    let ready = net_ready source t c.requires.readable.tabled c.requires.readable.faultless c.requires.readable.order in
+    let g = good source t c.args.reading.now c.requires.readable.sized c.requires.readable.order c.requires.readable.tabled c.requires.readable.faultless is clear in
     let closed : (joining_of c.args.reading.now).closed ≡ Some c.in-Some.place = sym (ap (λ j. j.closed) c.in_ok-joined.ensures) ∙ c.in-Some.is in
     let found : (joining_of (reading_of t (body_of source.net))).closed ≡ Some c.in-Some.place = sym (ap (λ r. (joining_of r).closed) is) ∙ closed in
     subst (λ f. Builds source t (Err f)) (sym c.closed_at.ensures) (

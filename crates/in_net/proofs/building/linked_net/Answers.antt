@@ -19,8 +19,8 @@ pub free_ends-requires-clause-free : goal.free_ends-requires-clause-free
 free_ends-requires-clause-free c =
     let source = c.args.source.now in
     let t = c.args.symbols.now in
-    let g = good source t c.args.reading.now c.requires.sized c.requires.order c.requires.tabled c.requires.faultless c.requires.read c.requires.clear in
-    let from = read_from.read_from t (body_of source.net) (read t (body_of source.net) g) g.small (net_few source t c.requires.sized) in
+    let g = good source t c.args.reading.now c.requires.readable c.requires.read c.requires.clear in
+    let from = read_from.read_from t (body_of source.net) (read t (body_of source.net) g) g.small (net_few source t c.requires.readable.sized) in
     let zero_on : ends_in t (body_of source.net) ≡ length source.net.free = omega arith in
     subst (λ spots. ArePointsAt spots 0 (length c.as_slice.result.now)) (sym (c.as_slice-spots.ensures ∙ ap (λ r. r.spots) c.requires.read))
     (subst (ArePointsAt (reading_of t (body_of source.net)).spots 0) (zero_on ∙ sym (ap length c.as_slice.ensures)) from.free_points)
@@ -29,7 +29,7 @@ pub free_ends-requires-clause-joined : goal.free_ends-requires-clause-joined
 free_ends-requires-clause-joined c =
     let source = c.args.source.now in
     let t = c.args.symbols.now in
-    let g = good source t c.args.reading.now c.requires.sized c.requires.order c.requires.tabled c.requires.faultless c.requires.read c.requires.clear in
+    let g = good source t c.args.reading.now c.requires.readable c.requires.read c.requires.clear in
     subst (λ spots. IsJoined spots c.args.links.now) (sym (c.as_slice-spots.ensures ∙ ap (λ r. r.spots) c.requires.read))
     (subst (IsJoined (reading_of t (body_of source.net)).spots) (sym (c.requires.links ∙ ap (λ r. (joining_of r).links) c.requires.read)) (read_joined t (body_of source.net) g))
 
@@ -37,16 +37,16 @@ pub free_ends-requires-clause-small : goal.free_ends-requires-clause-small
 free_ends-requires-clause-small c =
     let source = c.args.source.now in
     let t = c.args.symbols.now in
-    let g = good source t c.args.reading.now c.requires.sized c.requires.order c.requires.tabled c.requires.faultless c.requires.read c.requires.clear in
-    let from = read_from.read_from t (body_of source.net) (read t (body_of source.net) g) g.small (net_few source t c.requires.sized) in
+    let g = good source t c.args.reading.now c.requires.readable c.requires.read c.requires.clear in
+    let from = read_from.read_from t (body_of source.net) (read t (body_of source.net) g) g.small (net_few source t c.requires.readable.sized) in
     subst AreSmallSpots (sym (c.as_slice-spots.ensures ∙ ap (λ r. r.spots) c.requires.read)) from.small
 
 pub assemble-requires-clause-read : goal.assemble-requires-clause-read
 assemble-requires-clause-read c =
     let source = c.args.source.now in
     let t = c.args.symbols.now in
-    let g = good source t c.args.reading.now c.requires.sized c.requires.order c.requires.tabled c.requires.faultless c.requires.read c.requires.clear in
-    let from = read_from.read_from t (body_of source.net) (read t (body_of source.net) g) g.small (net_few source t c.requires.sized) in
+    let g = good source t c.args.reading.now c.requires.readable c.requires.read c.requires.clear in
+    let from = read_from.read_from t (body_of source.net) (read t (body_of source.net) g) g.small (net_few source t c.requires.readable.sized) in
     let count : ends_in t (body_of source.net) ≡ length c.in_ok-free.free.items =
     (let e : ends_in t (body_of source.net) ≡ length source.net.free = omega arith in e)
     ∙ sym (ap length c.as_slice.ensures) ∙ sym (ap length c.in_ok-free.ensures ∙ length-free t c.as_slice-spots.result.now c.args.links.now 0 c.as_slice.result.now) in
@@ -56,7 +56,7 @@ pub assemble-requires-clause-joined : goal.assemble-requires-clause-joined
 assemble-requires-clause-joined c =
     let source = c.args.source.now in
     let t = c.args.symbols.now in
-    let g = good source t c.args.reading.now c.requires.sized c.requires.order c.requires.tabled c.requires.faultless c.requires.read c.requires.clear in
+    let g = good source t c.args.reading.now c.requires.readable c.requires.read c.requires.clear in
     subst (λ spots. IsJoined spots c.args.links.now) (sym (ap (λ r. r.spots) c.requires.read))
     (subst (IsJoined (reading_of t (body_of source.net)).spots) (sym (c.requires.links ∙ ap (λ r. (joining_of r).links) c.requires.read)) (read_joined t (body_of source.net) g))
 
@@ -74,8 +74,8 @@ returns c =
     let r = c.args.reading.now in
     let is = c.requires.read in
     let clear = c.requires.clear in
-    let ready = net_ready source t c.requires.tabled c.requires.faultless c.requires.order in
-    let g = good source t r c.requires.sized c.requires.order c.requires.tabled c.requires.faultless is clear in
+    let ready = net_ready source t c.requires.readable.tabled c.requires.readable.faultless c.requires.readable.order in
+    let g = good source t r c.requires.readable is clear in
     let links = c.requires.links in
     let fs : free_ends_from t c.args.reading.now.spots c.args.links.now 0 source.net.free ≡ c.in_ok-free.free.items =
     sym (c.in_ok-free.ensures ∙ ap (λ z. free_ends_from t z c.args.links.now 0 c.as_slice.result.now) c.as_slice-spots.ensures ∙ ap (free_ends_from t c.args.reading.now.spots c.args.links.now 0) c.as_slice.ensures) in

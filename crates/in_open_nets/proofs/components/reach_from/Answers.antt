@@ -1,35 +1,16 @@
-use Rattle.std.proofs.Common.{arith, ◌≤◌, ◌<◌, ◌+◌, ◌∙◌, ◌∷◌, ◌++◌, [], drop, true, sym, subst, ap, refl, inl, inr}
-use Rattle.std.proofs.Math.ListN.{set}
+use Rattle.std.proofs.Common.{arith, ◌≤◌, ◌+◌, ◌∙◌, drop, sym, subst}
 use Rattle.in_open_nets.specs.Stuck.{ports_of}
-use Rattle.in_open_nets.specs.Parts.{AreReachedNodes, IsSearch}
+use Rattle.in_open_nets.specs.Parts.{IsSearch}
 use Rattle.in_open_nets.specs.Members.{missing}
-use Rattle.in_open_nets.proofs.Reached.Reaching.{drop_all, found_first, found_more, in_length, next_found, search_start, search_step, search_over, search_end}
+use Rattle.in_open_nets.proofs.Reached.Reaching.{drop_all, found_more, next_node, next_there, search_step, search_over, search_end}
 use Rattle.in_open_nets.proofs.components.reach_from.Goals as goal
-
-pub loop-place-init : goal.loop-place-init
-loop-place-init c =
-    let o = c.args.part.now.wired.now in
-    let nodes = c.args.part.now.nodes.now in
-    let from = c.args.from in
-    let none = c.clear.new.self in
-    let off = c.in_ok-clear.ensures.none in
-    let size = c.in_ok-clear.ensures.size ∙ c.requires.size in
-    let small = subst (λ z. from < z) c.args.part.now.size (in_length nodes from c.requires.here) in
-    let e = c.in_ok-push.ensures.items ∙ ap (λ z. z ++ from ∷ []) c.new-found.ensures.items in
-    record {
-      search = subst (λ z. IsSearch o nodes from z c.push.new.self.items) (sym c.insert.ensures)
-          (subst (λ z. IsSearch o nodes from (set none from true) z) (sym e)
-          (search_start o c.nodes.ensures.net.net nodes from c.requires.here none (set none from true) (from ∷ []) size small off (inr (off from, refl, refl))));
-      found = subst (λ z. AreReachedNodes z c.push.new.self.items) (sym c.insert.ensures)
-          (subst (AreReachedNodes (set none from true)) (sym e) (found_first none from off (omega arith)));
-    }
 
 pub spread-requires-clause-node : goal.spread-requires-clause-node
 spread-requires-clause-node c =
     let l = c.loop-place-test.true in
     let n = c.len.ensures in
-    let e = next_found c.loop-place.found.items c.loop-place.place c.index-node.result.now (omega arith) c.index-node.ensures in
-    ((subst (λ z. IsSearch c.args.part.now.wired.now c.args.part.now.nodes.now c.args.from c.loop-place.reached z) e c.loop-place.invariant.search).pending c.index-node.result.now (inl refl)).1
+    next_there c.args.part.now.wired.now c.args.part.now.nodes.now c.loop-place.reached c.args.from c.loop-place.found.items c.loop-place.place c.index-node.result.now (omega arith) c.index-node.ensures
+    c.loop-place.invariant.search
 
 pub loop-place-preserved : goal.loop-place-preserved
 loop-place-preserved c =
@@ -43,13 +24,13 @@ loop-place-preserved c =
     let node = c.index-node.result.now in
     let l = c.loop-place-test.true in
     let n = c.len.ensures in
-    let e = next_found found place node (omega arith) c.index-node.ensures in
+    let s = next_node o nodes c.loop-place.reached from found place node (omega arith) c.index-node.ensures c.loop-place.invariant.search in
     let r = c.loop-place.reached in
     let r' = c.spread.new.reached in
     let found' = c.spread.new.found.items in
     let over = c.in_ok-spread.ensures.spreads.each in
     record {
-      search = search_step o net nodes from here node r (drop (place + 1) found) r' (drop (place + 1) found') (subst (IsSearch o nodes from r) e c.loop-place.invariant.search) (over (place + 1) (omega arith));
+      search = search_step o net nodes from here node r (drop (place + 1) found) r' (drop (place + 1) found') s (over (place + 1) (omega arith));
       found = found_more o net nodes from here node (ports_of o node) r found r' found' (over 0 (omega arith)) c.loop-place.invariant.found;
     }
 

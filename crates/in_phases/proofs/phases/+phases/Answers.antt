@@ -32,7 +32,7 @@ reduce_in_parts-bring_back-requires g t c =
     record {
       names = (
           let fits = c.in-Some.ensures.fits in
-          let same = c.at_once-one.ensures.names in
+          let same = c.at_once-one.ensures.room.1 in
           let lent = ap length c.as_mut_slice.ensures.value in
           omega (arith, fits, same, lent)
           );

@@ -31,7 +31,7 @@ split-requires-clause-cuts c =
     omega (arith, more)
 
 pub returns-in_default : goal.returns-in_default
-returns-in_default c = record { taken = (stays_reduce c.args.reducer.now, c.requires.floor); templates = c.requires.templates; part_templates = tt; names = refl; fits = tt }
+returns-in_default c = record { taken = (stays_reduce c.args.reducer.now, c.requires.floor); templates = c.requires.templates; part_templates = tt; room = (c.gather.ensures.many, refl); fits = tt }
 
 pub join_up-requires : goal.join_up-requires
 join_up-requires c =
@@ -51,7 +51,7 @@ returns-in_default-split c =
       taken = (reduced, subst (λ (n : Need). (d : CellClass) → c.args.floor ≤ count_of n d) (sym vacant) c.requires.floor);
       templates = subst (λ (p : Program). AreTemplatesOf p c.args.templates.now) (sym reduced.program) c.requires.templates;
       part_templates = tt;
-      names = lent_back c.args.room.now.names c.split.new.names (c.in_default-split.ensures.names ∙ ap length c.as_mut_slice-names.ensures.value);
+      room = (c.gather.ensures.many, lent_back c.args.room.now.names c.split.new.names (c.in_default-split.ensures.names ∙ ap length c.as_mut_slice-names.ensures.value));
       fits = tt;
     }
 
@@ -101,9 +101,11 @@ returns c =
       );
       templates = subst (λ (p : Program). AreTemplatesOf p c.args.templates.now) (sym reduced.program) c.requires.templates;
       part_templates = tt;
-      names =
-          lent_back (with_items c.args.room.now.names c.split.new.names) c.bring_back.new.names (c.bring_back.ensures.names ∙ ap length c.as_mut_slice.ensures.value)
-          ∙ lent_back c.args.room.now.names c.split.new.names (c.in-Some.ensures.names ∙ ap length c.as_mut_slice-names.ensures.value);
+      room = (
+        c.gather.ensures.many,
+        lent_back (with_items c.args.room.now.names c.split.new.names) c.bring_back.new.names (c.bring_back.ensures.names ∙ ap length c.as_mut_slice.ensures.value)
+        ∙ lent_back c.args.room.now.names c.split.new.names (c.in-Some.ensures.names ∙ ap length c.as_mut_slice-names.ensures.value),
+      );
       fits = tt;
     }
 

@@ -12,7 +12,7 @@ loop-done-preserved g c =
       moves = record {
         moved = c.in-Ok.ensures.taken ∙ ap (λ z. append_known z (take c.in-Ok.n rest)) c.loop-done.invariant.moves.moved
             ∙ append_known-twice _ (take c.loop-done.done c.args.bytes.now) (take c.in-Ok.n rest)
-            ∙ ap (append_known (g.W.TextOut.taken c.args.writer.now)) (written c.loop-done.done c.in-Ok.n c.args.bytes.now);
+            ∙ ap (append_known (g.W.TextOut.device c.args.writer.now).bytes) (written c.loop-done.done c.in-Ok.n c.args.bytes.now);
         sound = omega (arith, c.in-Ok.ensures.failures, none, c.loop-done.invariant.moves.sound);
       };
       within = omega (arith, simp (length-take, length-drop) at fits);

@@ -17,7 +17,7 @@ returns-then-is_err g c =
           sound = omega (arith, c.in-Ok.ensures.failures, c.loop-turn.invariant.moves.sound);
         };
         few = record {
-          some = subst (λ z. one_more (g.R.TextIn.reads c.args.reader.now) ≤ z) (sym c.in-Ok.ensures.reads) c.loop-turn.invariant.some;
+          some = subst (λ z. one_more (g.R.TextIn.reader c.args.reader.now).reads ≤ z) (sym c.in-Ok.ensures.reads) c.loop-turn.invariant.some;
           each = omega (arith, more, one, c.loop-turn.invariant.reads, c.loop-turn.invariant.grows);
           most = omega (arith, one, c.loop-turn.invariant.reads);
         };

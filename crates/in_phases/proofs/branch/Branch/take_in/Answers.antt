@@ -4,8 +4,8 @@ use Rattle.in_phases.specs.Branches.{AreOfBranch}
 use Rattle.in_phases.proofs.Gathered.{one_more_gathered}
 use Rattle.in_phases.proofs.branch.Branch.take_in.Goals as goal
 
-pub returns-in_ok-push : goal.returns-in_ok-push
-returns-in_ok-push c =
+pub returns-in_ok-push-clause-branch : goal.returns-in_ok-push-clause-branch
+returns-in_ok-push-clause-branch c =
     let m = c.args.reducer.now in
     let b = c.args.self.now in
     let fresh : slice_get b.marks.items c.args.cell.0 ≡ Some false = c.has.ensures ∙ ap (λ (z : Bool). Some z) c.if-not-has.true in

@@ -34,13 +34,7 @@ impl<R> StreamIn<R> {
 }
 
 impl<R: Read> TextIn for StreamIn<R> {
-    ghost given = { λ _. None };
-
-    ghost ended = { λ s. s.ended };
-
-    ghost failures = { λ s. s.failures };
-
-    ghost reads = { λ s. s.reads };
+    ghost reader = { λ s. record { device = record { bytes = None; failures = s.failures }; reads = s.reads; ended = s.ended } };
 
     fn read(&mut self, into: &mut [u8]) -> Result<usize, ()> {
         self.reads = self.reads.saturating_add(1);
@@ -86,9 +80,7 @@ impl<W> StreamOut<W> {
 }
 
 impl<W: Write> TextOut for StreamOut<W> {
-    ghost taken = { λ _. None };
-
-    ghost failures = { λ s. s.failures };
+    ghost device = { λ s. record { bytes = None; failures = s.failures } };
 
     fn write(&mut self, bytes: &[u8]) -> Result<usize, ()> {
         match self.writer.write(bytes) {
