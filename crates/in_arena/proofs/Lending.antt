@@ -56,7 +56,7 @@ pub all_set-append : (xs : List State) (ns ms : List ℕ) (x : State) → all_se
 all_set-append xs [] ms x = refl
 all_set-append xs (n ∷ ns) ms x = all_set-append (set xs n x) ns ms x
 
-set_twice : (xs : List State) (n m : ℕ) (x : State) → set (set xs n x) m x ≡ set (set xs m x) n x
+pub set_twice : (xs : List State) (n m : ℕ) (x : State) → set (set xs n x) m x ≡ set (set xs m x) n x
 set_twice xs n m x = ⊎_elim (λ (e : n ≡ m). ap (λ k. set (set xs n x) k x) (sym e) ∙ ap (λ k. set (set xs k x) n x) e) (λ (ne : n ≢ m). set_comm xs n m x x ne) (cases_eq n m)
 
 -- the last of the places may as well be the first

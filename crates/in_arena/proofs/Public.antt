@@ -5,3 +5,4 @@ pub use Rattle.in_arena.proofs.ByClass.{stays}
 pub use Rattle.in_arena.proofs.Changes.{counts_change, number_inside}
 pub use Rattle.in_arena.proofs.Classes.{class_of_number, numbers_apart}
 pub use Rattle.in_arena.proofs.OneRegion.{places_live}
+pub use Rattle.in_arena.proofs.Lending.{set_twice}

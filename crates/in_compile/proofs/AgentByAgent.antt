@@ -14,7 +14,7 @@ use Rattle.in_arena.specs.Classes.{IsNumberOf}
 use Rattle.in_arena.specs.States.{State, Vacant, Leased, IsLeased, IsLive}
 use Rattle.in_arena.specs.declared.content.CellClass.{CellClass}
 use Rattle.in_arena.specs.declared.content.CellNo.{CellNo}
-use Rattle.in_arena.proofs.Public.{stays, number_inside}
+use Rattle.in_arena.proofs.Public.{stays, number_inside, set_twice}
 use Rattle.in_compile.specs.declared.cells.Need.{Need}
 use Rattle.in_compile.specs.Cells.{count_of, IsEnough}
 use Rattle.in_compile.specs.Listing.{of_class, IsListing}
@@ -27,15 +27,8 @@ use Rattle.in_compile.proofs.Stocked.{of_itself, same_or_other, in_range, not_le
 
 -- ---- the same for one cell more
 
-set_swap : (xs : List State) (i j : ℕ) (x : State) → set (set xs i x) j x ≡ set (set xs j x) i x
-set_swap [] i j x = refl
-set_swap (y ∷ ys) zero zero x = refl
-set_swap (y ∷ ys) zero (suc j) x = refl
-set_swap (y ∷ ys) (suc i) zero x = refl
-set_swap (y ∷ ys) (suc i) (suc j) x = ap (λ (zs : List State). y ∷ zs) (set_swap ys i j x)
-
 changed_swap : (a : ArenaView) (i j : ℕ) (x : State) → changed (changed a i x) j x ≡ changed (changed a j x) i x
-changed_swap a i j x = λ k. record { memory = a.memory; cells = a.cells; states = set_swap a.states i j x k }
+changed_swap a i j x = λ k. record { memory = a.memory; cells = a.cells; states = set_twice a.states i j x k }
 
 first_last : (a : ArenaView) (n : CellNo) (ns : List CellNo) (x : State) → with_all (changed a n.0 x) ns x ≡ changed (with_all a ns x) n.0 x
 first_last a n [] x = refl

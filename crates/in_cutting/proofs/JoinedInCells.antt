@@ -17,7 +17,7 @@ use Rattle.in_cutting.specs.Cutting.{Shows}
 use Rattle.in_cutting.proofs.CutInCells.{stands_some}
 
 -- at a place of a cell something stands
-end_there : (s : State) (i : ℕ) → i < places s → IsSome (end_at s i)
+pub end_there : (s : State) (i : ℕ) → i < places s → IsSome (end_at s i)
 end_there Vacant i l = absurd (omega (arith, l))
 end_there Leased i l = absurd (omega (arith, l))
 end_there (Live w es) i l = at es i l
@@ -32,7 +32,7 @@ there_at [] i l = absurd (omega (arith, l))
 there_at (e ∷ es) zero l = refl
 there_at (e ∷ es) (suc i) l = there_at es i (omega (arith, l))
 
-mapped_some : {X Y : Type 0} (f : X → Y) (o : Option X) → IsSome o → IsSome (option_map f o)
+pub mapped_some : {X Y : Type 0} (f : X → Y) (o : Option X) → IsSome o → IsSome (option_map f o)
 mapped_some f (Some x) h = refl
 mapped_some f None h = h
 

@@ -23,6 +23,8 @@ use Rattle.in_moving.specs.Copying.{AreAllLive, IsCopied, moved, moved_end, name
 use Rattle.in_moving.specs.Laws.{moved_point, ShowsAll, AreRenumbered, number_of, leads_to, AreEndsOfBoth, CopiesStandBeside, ends_of, one_after_other, CopiesFollow}
 use Rattle.in_moving.proofs.Shown.{word_moved, end_moved, point_moved, end_live, NamedOr, named_or}
 use Rattle.in_moving.proofs.Written.{moved_live}
+use Rattle.in_moving.proofs.Numbered.{state_same}
+use Rattle.in_interaction.proofs.Public.{has_value}
 
 -- ---- side by side
 
@@ -184,20 +186,16 @@ module _ (from before old new : ArenaView) (agents names : List CellNo) (numbers
     wires = λ u v. (wire_there u v, λ t. wire_back u v t.0 t.1 t.2 t.3 t.4 t.5);
   }
 
-  some : (o : Option ℕ) → IsSome o → (x : ℕ) × (o ≡ Some x)
-  some None e = absurd (let f : false ≡ true = e in cc)
-  some (Some x) e = (x, refl)
-
   kept_apart : KeepsApart (two_parts m n) (old_and_new name)
   kept_apart zero zero x y sx sy e = (refl, e)
   kept_apart zero (suc zero) x y sx sy e =
-      let s = some (m.symbol x) sx in let t = some (n.symbol y) sy in let k = agent_of y t.0 t.1 in
+      let s = has_value (m.symbol x) sx in let t = has_value (n.symbol y) sy in let k = agent_of y t.0 t.1 in
       absurd (no_name x (old_live x s.0 s.1) k.0 (record { 0 = y }) k.1 (sym e))
   kept_apart (suc zero) zero x y sx sy e =
-      let s = some (m.symbol y) sy in let t = some (n.symbol x) sx in let k = agent_of x t.0 t.1 in
+      let s = has_value (m.symbol y) sy in let t = has_value (n.symbol x) sx in let k = agent_of x t.0 t.1 in
       absurd (no_name y (old_live y s.0 s.1) k.0 (record { 0 = x }) k.1 e)
   kept_apart (suc zero) (suc zero) x y sx sy e =
-      let s = some (n.symbol x) sx in let t = some (n.symbol y) sy in let j = agent_of x s.0 s.1 in let k = agent_of y t.0 t.1 in
+      let s = has_value (n.symbol x) sx in let t = has_value (n.symbol y) sy in let j = agent_of x s.0 s.1 in let k = agent_of y t.0 t.1 in
       (refl, ap (λ (z : CellNo). z.0) (same_Some (record { 0 = x }) (record { 0 = y }) (sym j.1 ∙ ap (slice_get agents) (copied.once j.0 k.0 (record { 0 = x }) (record { 0 = y }) j.1 k.1 e) ∙ k.1)))
   kept_apart (suc (suc i)) j x y sx sy e = absurd (let f : false ≡ true = sx in cc)
   kept_apart zero (suc (suc j)) x y sx sy e = absurd (let f : false ≡ true = sy in cc)
@@ -219,11 +217,11 @@ copies_stand_beside from before old new agents names numbers own of_from of_befo
 
 -- ---- free ends behind those that were there
 
-length-ends_of : (i first count : ℕ) → length (ends_of i first count) ≡ count
+pub length-ends_of : (i first count : ℕ) → length (ends_of i first count) ≡ count
 length-ends_of i first zero = refl
 length-ends_of i first (suc count) = ap suc (length-ends_of i (suc first) count)
 
-ends_there : (i first count k : ℕ) → k < count → slice_get (ends_of i first count) k ≡ Some (i, first + k)
+pub ends_there : (i first count k : ℕ) → k < count → slice_get (ends_of i first count) k ≡ Some (i, first + k)
 ends_there i first zero k less = absurd (omega (arith, less))
 ends_there i first (suc count) zero less = ap (λ (z : ℕ). Some (i, z)) (let e : first ≡ first + 0 = omega arith in e)
 ends_there i first (suc count) (suc k) less = ends_there i (suc first) count k (omega (arith, less)) ∙ ap (λ (z : ℕ). Some (i, z)) (let e : suc first + k ≡ first + suc k = omega arith in e)
@@ -235,7 +233,7 @@ ends_are {T} f i first (x ∷ xs) h =
     let rest = ends_are f i (suc first) xs (λ k. ap (λ (z : ℕ). f (i, z)) (let e : suc first + k ≡ first + suc k = omega arith in e) ∙ h (suc k)) in
     ap (λ (z : Option T). z ∷ map f (ends_of i (suc first) (length xs))) one ∙ ap (λ zs. Some x ∷ zs) rest
 
-past_first : {X : Type 0} (xs ys : List X) (j : ℕ) → slice_get (xs ++ ys) (length xs + j) ≡ slice_get ys j
+pub past_first : {X : Type 0} (xs ys : List X) (j : ℕ) → slice_get (xs ++ ys) (length xs + j) ≡ slice_get ys j
 past_first [] ys j = ap (slice_get ys) (let e : 0 + j ≡ j = omega arith in e)
 past_first (x ∷ xs) ys j = ap (slice_get (x ∷ xs ++ ys)) (let e : suc (length xs) + j ≡ suc (length xs + j) = omega arith in e) ∙ past_first xs ys j
 
@@ -254,11 +252,6 @@ same_ends (e ∷ es) = ap (λ (z : End). z ∷ map (moved_end (λ z. z) (λ z. z
 same_option : (o : Option End) → o ≡ option_map (moved_end (λ z. z) (λ z. z)) o
 same_option None = refl
 same_option (Some e) = ap (λ (z : End). Some z) (sym (same_end e))
-
-same_state : (x : State) → x ≡ moved (λ z. z) (λ z. z) x
-same_state Vacant = refl
-same_state Leased = refl
-same_state (Live w es) = ap (Live w) (sym (same_ends es))
 
 module _ (name : ℕ → ℕ) (numbers : List ℕ) (of_from of_old : List End) (n m : Net ℕ) (many_n : length of_from ≡ length n.free) (many_m : length of_old ≡ length m.free) (after : (k : ℕ) → k < length of_from → number_in numbers k ≡ length of_old + k) where
   abbrev first : ℕ
@@ -339,5 +332,5 @@ module _ (name : ℕ → ℕ) (numbers : List ℕ) (of_from of_old : List End) (
 
 pub copies_follow : CopiesFollow
 copies_follow from old new agents names numbers of_from of_old n m w shows_n shows_m all after copied shows_w is_free =
-    stands from old old new agents names numbers (λ z. z) of_from of_old (of_old ++ map (moved_end (name_in names) (number_in numbers)) of_from) (one_after_other m n) n m w shows_n shows_m all (λ y. same_state (state_at old y)) copied
+    stands from old old new agents names numbers (λ z. z) of_from of_old (of_old ++ map (moved_end (name_in names) (number_in numbers)) of_from) (one_after_other m n) n m w shows_n shows_m all (λ y. state_same (state_at old y)) copied
     (are_ends (name_in names) numbers of_from of_old n m shows_n.many shows_m.many after) shows_w (types (name_in names) numbers of_from of_old n m shows_n.many shows_m.many after w is_free)

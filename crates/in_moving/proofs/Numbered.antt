@@ -10,7 +10,7 @@ use Rattle.in_arena.specs.States.{State, Vacant, Leased, Live, IsLive, IsLeased,
 use Rattle.in_arena.specs.declared.content.CellNo.{CellNo}
 use Rattle.in_arena.specs.declared.content.End.{End}
 use Rattle.in_arena.specs.declared.content.End.TheVariants.{Cell, Free as FreeEnd}
-use Rattle.in_arena.proofs.Public.{live_inside}
+use Rattle.in_arena.proofs.Public.{live_inside, live_in}
 use Rattle.in_net.specs.Nets.{Port, Free, Net}
 use Rattle.in_glue.proofs.Public.{mapped}
 use Rattle.in_glue.specs.Joining.{WiresLeadBack}
@@ -89,12 +89,12 @@ number_next number x k ne = go (cases_lt k x)
 
 -- ---- one free end after another
 
-ends_same : (es : List End) → es ≡ map (moved_end (λ z. z) (λ z. z)) es
+pub ends_same : (es : List End) → es ≡ map (moved_end (λ z. z) (λ z. z)) es
 ends_same [] = refl
 ends_same (Cell c i ∷ es) = ap (λ ds. Cell c i ∷ ds) (ends_same es)
 ends_same (FreeEnd k ∷ es) = ap (λ ds. FreeEnd k ∷ ds) (ends_same es)
 
-state_same : (x : State) → x ≡ moved (λ z. z) (λ z. z) x
+pub state_same : (x : State) → x ≡ moved (λ z. z) (λ z. z) x
 state_same Vacant = refl
 state_same Leased = refl
 state_same (Live w es) = ap (Live w) (ends_same es)
@@ -197,12 +197,12 @@ places_moved name number Vacant = refl
 places_moved name number Leased = refl
 places_moved name number (Live w es) = length-map es (moved_end name number)
 
-leased_after : (name number : ℕ → ℕ) (x : State) → IsLeased x → IsLeased (moved name number x)
+pub leased_after : (name number : ℕ → ℕ) (x : State) → IsLeased x → IsLeased (moved name number x)
 leased_after name number Vacant leased = leased
 leased_after name number Leased leased = leased
 leased_after name number (Live w es) leased = leased
 
-leased_before : (name number : ℕ → ℕ) (x : State) → IsLeased (moved name number x) → IsLeased x
+pub leased_before : (name number : ℕ → ℕ) (x : State) → IsLeased (moved name number x) → IsLeased x
 leased_before name number Vacant leased = leased
 leased_before name number Leased leased = leased
 leased_before name number (Live w es) leased = leased
@@ -243,12 +243,7 @@ module _ (number : ℕ → ℕ) (a b : ArenaView) (h : AreNumberedAnew number a 
 
 module _ (agents : List CellNo) (b c : ArenaView) (out : AreRetired agents b c) where
   pub retired_leased_stays : ArePart b agents → (n : ℕ) → IsLeased (state_at b n) → IsLeased (state_at c n)
-  retired_leased_stays part n leased = subst IsLeased (sym (out.others n (λ k s. both_not (state_at b n) (part.live k (record { 0 = n }) s) leased))) leased
-    where
-      both_not : (x : State) → IsLive x → IsLeased x → ⊥
-      both_not Vacant live is = live
-      both_not Leased live is = live
-      both_not (Live w es) live is = is
+  retired_leased_stays part n leased = subst IsLeased (sym (out.others n (λ k s. live_in (state_at b n) (part.live k (record { 0 = n }) s) leased))) leased
 
   pub retired_was_leased : (n : ℕ) → IsLeased (state_at c n) → IsLeased (state_at b n)
   retired_was_leased n leased = go (named_or agents (λ z. z) n)

@@ -24,6 +24,7 @@ use Rattle.in_moving.specs.Copying.{IsCopied, name_in, number_in}
 use Rattle.in_moving.specs.Laws.{moved_point, ShowsAll, AreTakenOut, LeadsIntoPart, AreEndsSplit, PartStandsBeside}
 use Rattle.in_moving.proofs.Shown.{word_moved, end_moved, point_moved, end_live, NamedOr, named_or}
 use Rattle.in_moving.proofs.Beside.{placed, is_placed, at_placed}
+use Rattle.in_interaction.proofs.Public.{has_value}
 
 -- what was live has a word
 live_word_there : (x : State) → IsLive x → word_of x ≡ None → ⊥
@@ -31,7 +32,7 @@ live_word_there Vacant live e = live
 live_word_there Leased live e = live
 live_word_there (Live w es) live e = let f : Some w ≡ None = e in cc
 
-live_has_word : (x : State) → IsLive x → IsSome (word_of x)
+pub live_has_word : (x : State) → IsLive x → IsSome (word_of x)
 live_has_word Vacant live = absurd live
 live_has_word Leased live = absurd live
 live_has_word (Live w es) live = refl
@@ -269,20 +270,16 @@ module _ (from left old new : ArenaView) (agents names : List CellNo) (numbers :
     wires = λ u v. (wire_there u v, λ t. wire_back u v t.0 t.1 t.2 t.3 t.4 t.5);
   }
 
-  symbol_of : (o : Option ℕ) → IsSome o → (x : ℕ) × (o ≡ Some x)
-  symbol_of None e = absurd (let f : false ≡ true = e in cc)
-  symbol_of (Some x) e = (x, refl)
-
   kept_apart : KeepsApart (two_parts m p) (old_and_new origin)
   kept_apart zero zero x y sx sy e = (refl, e)
   kept_apart zero (suc zero) x y sx sy e =
-      let s = symbol_of (m.symbol x) sx in let t = symbol_of (p.symbol y) sy in let a = part_agent y t.0 t.1 in
+      let s = has_value (m.symbol x) sx in let t = has_value (p.symbol y) sy in let a = part_agent y t.0 t.1 in
       absurd (left_agent x s.0 s.1 a.1.0 (a.1.1 ∙ ap (λ (z : ℕ). Some (record { 0 = z })) (sym (e ∙ was y a))))
   kept_apart (suc zero) zero x y sx sy e =
-      let s = symbol_of (m.symbol y) sy in let t = symbol_of (p.symbol x) sx in let a = part_agent x t.0 t.1 in
+      let s = has_value (m.symbol y) sy in let t = has_value (p.symbol x) sx in let a = part_agent x t.0 t.1 in
       absurd (left_agent y s.0 s.1 a.1.0 (a.1.1 ∙ ap (λ (z : ℕ). Some (record { 0 = z })) (sym (was x a) ∙ e)))
   kept_apart (suc zero) (suc zero) x y sx sy e =
-      let s = symbol_of (p.symbol x) sx in let t = symbol_of (p.symbol y) sy in let a = part_agent x s.0 s.1 in let b = part_agent y t.0 t.1 in
+      let s = has_value (p.symbol x) sx in let t = has_value (p.symbol y) sy in let a = part_agent x s.0 s.1 in let b = part_agent y t.0 t.1 in
       (refl, sym a.2 ∙ ap name (sym (was x a) ∙ e ∙ was y b) ∙ b.2)
   kept_apart (suc (suc i)) j x y sx sy e = absurd (let f : false ≡ true = sx in cc)
   kept_apart zero (suc (suc j)) x y sx sy e = absurd (let f : false ≡ true = sy in cc)
@@ -339,7 +336,7 @@ module _ (from left old new : ArenaView) (agents names : List CellNo) (numbers :
   left_wired : (all : List ℕ) → ((x : ℕ) → IsSome (n.symbol x) → IsAmong x all) → IsWiredWithin m
   left_wired all among = record {
     agents = all;
-    all = λ x g. (let s = symbol_of (m.symbol x) g in among x (subst IsSome (symbol_left x (left_agent x s.0 s.1)) g));
+    all = λ x g. (let s = has_value (m.symbol x) g in among x (subst IsSome (symbol_left x (left_agent x s.0 s.1)) g));
     there = λ u v e. shown_there left of_left m shows_m u v e;
     back = back_left;
   }
@@ -348,7 +345,7 @@ module _ (from left old new : ArenaView) (agents names : List CellNo) (numbers :
   part_wired = record {
     agents = map (λ (c : CellNo). name c.0) agents;
     all = λ z g. (
-        let s = symbol_of (p.symbol z) g in
+        let s = has_value (p.symbol z) g in
         let a = part_agent z s.0 s.1 in
         subst (λ (x : ℕ). IsAmong x (map (λ (c : CellNo). name c.0) agents)) a.2 (in_map (λ (c : CellNo). name c.0) agents (record { 0 = a.0 }) (among_at agents a.1.0 (record { 0 = a.0 }) a.1.1))
         );

@@ -24,6 +24,7 @@ use Rattle.in_glue.proofs.Public.{parts_are_sound_by_names, at_outer}
 use Rattle.in_parts.specs.Leading.{IsThere, StandBeside, BesidePartsAreSound, BesideSoundIsSound}
 use Rattle.in_parts.proofs.CutOnce.{loose, stand_glued}
 use Rattle.in_parts.proofs.Leading.{empty_sound}
+use Rattle.in_base.proofs.Each.{at_index}
 
 module _ (p : System) (one two m : Net ℕ) (name : ℕ → ℕ) (ends : List (ℕ × ℕ)) (h : StandBeside one two name ends m) where
   abbrev both : ℕ → Net ℕ
@@ -42,13 +43,8 @@ module _ (p : System) (one two m : Net ℕ) (name : ℕ → ℕ) (ends : List (�
   pub end_there : (k : ℕ) (q : ℕ × ℕ) → slice_get ends k ≡ Some q → q.1 < length (both q.0).free
   end_there k q at =
       let low : k < length m.free = (let l = slice_get_within ends k q at in let e = many_ends in omega (arith, l, e)) in
-      let t = got m.free k low in
+      let t = at_index m.free k low in
       slice_get_within (both q.0).free q.1 t.0 (sym (end_type k q at) ∙ t.1)
-    where
-      got : {X : Type 0} (xs : List X) (k : ℕ) → k < length xs → (x : X) × (slice_get xs k ≡ Some x)
-      got [] k l = absurd (omega (arith, l))
-      got (x ∷ xs) zero l = (x, refl)
-      got (x ∷ xs) (suc k) l = got xs k (omega (arith, l))
 
   -- ---- where the points of the parts are
 

@@ -8,7 +8,7 @@ use Rattle.in_base.specs.Graphs.{Passage, entered, left}
 use Rattle.in_net.specs.Graphs.{graph_of}
 use Rattle.in_net.specs.Nets.{Point, Port, Free, Net, IsPoint, IsNet}
 use Rattle.in_net.proofs.Public.{symbol_of}
-use Rattle.in_interaction.proofs.Public.{step_exists}
+use Rattle.in_interaction.proofs.Public.{step_exists, has_value}
 use Rattle.in_check.specs.Runs.{renamed, IsRenamed, moved, rule_of, IsPairWithRule, IsInteraction, at_start, then_step, then_renamed}
 use Rattle.in_check.specs.Systems.{System, IsSound, IsSoundSystem}
 use Rattle.in_check.proofs.Public.{redex_of, agents_before, path_map, renamed_steps, renamed_self, is_some}
@@ -181,16 +181,12 @@ module _ (parts other_parts : ℕ → Net ℕ) (f : ℕ → ℕ → ℕ) (named 
   pub apart_before : KeepsApart other_parts name → KeepsApart parts (λ i x. name i (f i x))
   apart_before apart i j x y here there e =
       let kept : (i x : ℕ) → IsSome ((parts i).symbol x) → IsSome ((other_parts i).symbol (f i x)) = λ i x k. (
-      let s = symbol_there ((parts i).symbol x) k in
+      let s = has_value ((parts i).symbol x) k in
       is_some ((other_parts i).symbol (f i x)) s.0 (((named i).agents (f i x) s.0).1 (x, refl, s.1))
       ) in
       let r = apart i j (f i x) (f j y) (kept i x here) (kept j y there) e in
       let point : f i x ≡ f i y = r.1 ∙ ap (λ j. f j y) (sym r.0) in
       (r.0, (named i).apart x y here (subst (λ j. IsSome ((parts j).symbol y)) (sym r.0) there) point)
-    where
-      symbol_there : (o : Option ℕ) → IsSome o → (s : ℕ) × (o ≡ Some s)
-      symbol_there None k = cc
-      symbol_there (Some s) k = (s, refl)
 
 -- ---- two parts
 

@@ -14,6 +14,7 @@ use Rattle.in_reducer.specs.Reducers.{IsReducer}
 use Rattle.in_phases.specs.Branches.{AreOfBranch, HasAgent}
 use Rattle.in_phases.proofs.Places.{agent_in_net, agent_of_net}
 use Rattle.in_phases.proofs.Gathered.{gathered_still}
+use Rattle.in_interaction.proofs.Public.{has_value}
 
 -- what a cut leaves: the program, the agents' symbols, what is free
 pub record Stays (m n : MachineParts) : Type 0 where
@@ -46,16 +47,12 @@ times_stay m o (suc w) (then_cut _ _ n _ c i before reducer cut) =
     }
 
 -- an option with a value
-got : (o : Option ℕ) → IsSome o → (s : ℕ) × (o ≡ Some s)
-got None h = cc
-got (Some s) h = (s, refl)
-
 module _ (m n : MachineParts) (h : Stays m n) where
   pub agent_on : (y : ℕ) → HasAgent m y → HasAgent n y
-  agent_on y there = let s = got ((net_in m).symbol y) (agent_in_net m y there) in agent_of_net n y (ap is_some (h.on y s.0 s.1))
+  agent_on y there = let s = has_value ((net_in m).symbol y) (agent_in_net m y there) in agent_of_net n y (ap is_some (h.on y s.0 s.1))
 
   agent_back : (y : ℕ) → HasAgent n y → HasAgent m y
-  agent_back y there = let s = got ((net_in n).symbol y) (agent_in_net n y there) in agent_of_net m y (ap is_some (h.back y s.0 s.1))
+  agent_back y there = let s = has_value ((net_in n).symbol y) (agent_in_net n y there) in agent_of_net m y (ap is_some (h.back y s.0 s.1))
 
   pub gathered_on : (agents : List CellNo) (marks : List Bool) → AreOfBranch m agents marks → AreOfBranch n agents marks
   gathered_on agents marks = gathered_still m n agents marks agent_on agent_back

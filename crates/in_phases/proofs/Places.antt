@@ -15,6 +15,7 @@ use Rattle.in_reducer.specs.Cutting.{net_in}
 use Rattle.in_reducer.specs.Machines.{MachineParts, parts_of, point_at}
 use Rattle.in_reducer.specs.Reducers.{IsReducer}
 use Rattle.in_phases.specs.Branches.{HasAgent, HasPlace, LeadsSomewhere}
+use Rattle.in_glue.proofs.Public.{not_some}
 
 -- the point of an end, in the code's words and back
 end_point : (e : End) → coded_point (joining.point_of e) ≡ point_at e
@@ -24,9 +25,6 @@ end_point (end.Free k) = refl
 back_point : (e : End) → point_of (point_at e) ≡ joining.point_of e
 back_point (end.Cell c i) = refl
 back_point (end.Free k) = refl
-
-no_value : {X : Type 0} (o : Option X) → o ≡ None → IsSome o → ⊥
-no_value o e h = absurd (true≢false (sym (subst IsSome e h)))
 
 module _ (m : MachineParts) where
   -- what a looking call answers is the net's partner
@@ -45,7 +43,7 @@ module _ (m : MachineParts) where
   agent_of_net y h = by (symbol_in (parts_of m) y) refl
     where
       by : (o : Option SymbolNo) → symbol_in (parts_of m) y ≡ o → HasAgent m y
-      by None e = absurd (no_value (option_map (λ s. s.0) (symbol_in (parts_of m) y)) (ap (option_map (λ s. s.0)) e) h)
+      by None e = absurd (not_some (option_map (λ s. s.0) (symbol_in (parts_of m) y)) (ap (option_map (λ s. s.0)) e) h)
       by (Some s) e = ap is_some e
 
   module _ (h : IsReducer m) where
@@ -57,7 +55,7 @@ module _ (m : MachineParts) where
     place_there c i a e low = by (symbol_in (parts_of m) c) refl e
       where
         there : (o : Option points.Point) → partner_in (parts_of m) (point.Port (record { 0 = c }) i) ≡ o → IsSome ((net_in m).partner (Port c i)) → HasPlace m c i
-        there None k g = absurd (no_value ((net_in m).partner (Port c i)) (ap (option_map point_of) k) g)
+        there None k g = absurd (not_some ((net_in m).partner (Port c i)) (ap (option_map point_of) k) g)
         there (Some q) k g = has_partner (parts_of m) (point.Port (record { 0 = c }) i) q k
 
         by : (o : Option SymbolNo) → symbol_in (parts_of m) c ≡ o → option_map (λ s. arity_of m.program.tables s.0) o ≡ Some a → HasPlace m c i

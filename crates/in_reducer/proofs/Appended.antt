@@ -15,7 +15,7 @@ use Rattle.in_check.specs.Programs.{Program}
 use Rattle.in_moving.specs.Copying.{IsCopied, IsListOfLive, moved, moved_end, name_in, number_in}
 use Rattle.in_moving.specs.Laws.{one_after_other}
 use Rattle.in_moving.specs.TakingOut.{AreNumberedAnew}
-use Rattle.in_moving.proofs.Public.{copies_follow}
+use Rattle.in_moving.proofs.Public.{copies_follow, state_same}
 use Rattle.in_parts.specs.Leading.{StandBeside}
 use Rattle.in_reducer.specs.declared.body.Body.{Body}
 use Rattle.in_reducer.specs.declared.body.OwnEnd.{OwnEnd}
@@ -30,16 +30,6 @@ use Rattle.in_reducer.proofs.Together as together
 use Rattle.in_reducer.proofs.Together.{in_cells}
 
 -- ---- free ends that keep their numbers
-
-same_ends : (es : List End) → es ≡ map (moved_end (λ z. z) (λ z. z)) es
-same_ends [] = refl
-same_ends (Cell c i ∷ es) = ap (λ zs. Cell c i ∷ zs) (same_ends es)
-same_ends (Free k ∷ es) = ap (λ zs. Free k ∷ zs) (same_ends es)
-
-same_state : (x : State) → x ≡ moved (λ z. z) (λ z. z) x
-same_state Vacant = refl
-same_state Leased = refl
-same_state (Live w es) = ap (Live w) (same_ends es)
 
 -- ---- two reducers
 
@@ -60,7 +50,7 @@ module _ (r o : Body) (k : KeepsNet r) (l : KeepsNet o) (can : CanAppend (reduce
       (number : (j : ℕ) → j < length o.free.items → number_in numbers j ≡ length r.free.items + j) where
     -- the free ends that were there keep their numbers
     same : AreNumberedAnew (λ z. z) r.arena r.arena
-    same = record { each = λ y. same_state (state_at r.arena y); free = λ d. refl; memory = refl; cells = refl; many = refl }
+    same = record { each = λ y. state_same (state_at r.arena y); free = λ d. refl; memory = refl; cells = refl; many = refl }
 
     pub still_net : IsNetIn r.checked.now.tables (at_rest b)
     still_net = together.still_net r o k l can agents live (λ z. z) r.arena same numbers names b copied

@@ -23,6 +23,7 @@ use Rattle.in_compile.specs.Cells.{agents_of}
 use Rattle.in_reducer.specs.Machines.{point_at}
 use Rattle.in_reducer.specs.Standing.{agent_in, agents_in, leading_to, IsNetIn}
 use Rattle.in_reducer.proofs.Counted.{all_cells}
+use Rattle.in_reducer.proofs.Shown.{same_many}
 
 -- what is read at a number that is there
 pub read_at : {X : Type 0} (xs : List X) (k : ℕ) (x : X) → k < length xs → x ≡ get_or xs k x → slice_get xs k ≡ Some x
@@ -56,11 +57,6 @@ have_symbols t n q h = (ap is_some h.one, ap is_some h.two)
 -- ---- free ends
 
 -- there are as many
-pub as_many_free : (fs : List FreeEnd) (es : List End) → length fs ≤ length es → length (leading_to fs es) ≡ length fs
-as_many_free [] es l = refl
-as_many_free (f ∷ fs) [] l = absurd (omega (arith, l))
-as_many_free (f ∷ fs) (e ∷ es) l = ap suc (as_many_free fs es (omega (arith, l)))
-
 -- .. and none leads past them
 pub free_below : (fs : List FreeEnd) (es : List End) (k : ℕ) → k < length (leading_to fs es) → k < length es
 free_below [] es k l = absurd (omega (arith, l))

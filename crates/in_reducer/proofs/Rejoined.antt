@@ -42,6 +42,8 @@ use Rattle.in_reducer.proofs.CutOff.{symbol_by, symbols_stay}
 use Rattle.in_reducer.proofs.Queues.{short_queue}
 use Rattle.in_reducer.proofs.Shown.{is_over, is_shown, partner_seen, same_kinds, same_many, same_names, seen, symbol_seen}
 use Rattle.in_reducer.proofs.StillNet.{as_many, good_of, kept_alike, kept_good, net_in as net_stays}
+use Rattle.in_base.proofs.Places.{last_at}
+use Rattle.in_base.proofs.Each.{at_index}
 
 -- ---- lists
 
@@ -64,15 +66,6 @@ snoc_front : {X : Type 0} (xs : List X) (x : X) (j : ℕ) (z : X) → slice_get 
 snoc_front [] x j z e = cc
 snoc_front (y ∷ xs) x zero z e = e
 snoc_front (y ∷ xs) x (suc j) z e = snoc_front xs x j z e
-
-snoc_last : {X : Type 0} (xs : List X) (x : X) → slice_get (xs ++ x ∷ []) (length xs) ≡ Some x
-snoc_last [] x = refl
-snoc_last (y ∷ xs) x = snoc_last xs x
-
-some_at : {X : Type 0} (xs : List X) (j : ℕ) → j < length xs → (x : X) × (slice_get xs j ≡ Some x)
-some_at [] j l = absurd (omega (arith, l))
-some_at (x ∷ xs) zero l = (x, refl)
-some_at (x ∷ xs) (suc j) l = some_at xs j (omega (arith, l))
 
 same_agent : (x y : ℕ) → shown_point.end_of (Port x 0) ≡ shown_point.end_of (Port y 0) → x ≡ y
 same_agent x y e = port_agent x y 0 0 (sym (end_point (Port x 0)) ∙ ap shown_point.point_of e ∙ end_point (Port y 0))
@@ -111,10 +104,10 @@ module _ (r : Body) (k : KeepsNet r) (two : 2 ≤ length r.free.items) (own : �
 
   -- what stands at the two free ends
   pub first_end : (e : End) × (slice_get es0 own ≡ Some e)
-  first_end = some_at es0 own (let e = k.ends in omega (arith, e, is_own))
+  first_end = at_index es0 own (let e = k.ends in omega (arith, e, is_own))
 
   pub last_end : (e : End) × (slice_get es0 (suc own) ≡ Some e)
-  last_end = some_at es0 (suc own) (let e = k.ends in omega (arith, e, is_own))
+  last_end = at_index es0 (suc own) (let e = k.ends in omega (arith, e, is_own))
 
   pub has_symbols : (tables : Tables) → tables ≡ t → HasSymbols tables r.arena
   has_symbols tables same y s e = subst (λ (u : Tables). IsSymbol u s) (sym same) (k.reducer.net.sound.within y s (symbol_seen r.arena fs es0 y ∙ e))
@@ -316,7 +309,7 @@ module _ (r : Body) (k : KeepsNet r) (two : 2 ≤ length r.free.items) (own : �
           pairs = λ j z e. (elim (snoc_at queue (numbers_of q) j z e) [ inl h ↦ old_is_new (agents_at z) (k.reducer.queue.pairs j z h) | inr h ↦ subst (λ (z : ℕ × ℕ). New (agents_at z)) h.1 is_new_pair ]);
           all = λ z h. (elim (new_or_old z h) [
             | inl o ↦ (let j = k.reducer.queue.all z o in (j.0, snoc_front queue (numbers_of q) j.0 (numbers_of z) j.1))
-            | inr a ↦ (length queue, snoc_last queue (numbers_of q) ∙ ap (λ (z : AgentNo × AgentNo). Some (numbers_of z)) (sym (across_is z h a)))
+            | inr a ↦ (length queue, last_at queue (numbers_of q) ∙ ap (λ (z : AgentNo × AgentNo). Some (numbers_of z)) (sym (across_is z h a)))
           ]);
           once = λ i j z e f. once_by i j z (snoc_at queue (numbers_of q) i z e) (snoc_at queue (numbers_of q) j z f);
         }

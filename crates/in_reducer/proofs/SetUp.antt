@@ -9,7 +9,7 @@ use Rattle.in_arena.specs.States.{State, Vacant, Leased, Live, IsLive, word_of, 
 use Rattle.in_arena.specs.declared.content.CellNo.{CellNo}
 use Rattle.in_arena.specs.declared.content.End.{End}
 use Rattle.in_arena.specs.declared.content.End.TheVariants as end
-use Rattle.in_arena.proofs.Public.{state_inside}
+use Rattle.in_arena.proofs.Public.{state_inside, live_inside, word_live}
 use Rattle.in_symbols.specs.Tables.{Tables, arity_of}
 use Rattle.in_net.specs.declared.nets.Point as coded
 use Rattle.in_net.specs.declared.nets.Point.TheVariants as code
@@ -71,11 +71,6 @@ module _ (t : Tables) (s : PairSetting) (p : TemplateParts) (pair : Pair) (own :
   live_word : (y x : ℕ) → (net_of s.net).symbol y ≡ Some x → word_of (state_at old y) ≡ Some x
   live_word y x e = sym (about.shown.agents y) ∙ e
 
-  is_live : (x : State) (w : ℕ) → word_of x ≡ Some w → IsLive x
-  is_live Vacant w e = absurd (let f : None ≡ Some w = e in cc)
-  is_live Leased w e = absurd (let f : None ≡ Some w = e in cc)
-  is_live (Live v es) w e = tt
-
   not_vacant : (y x : ℕ) → (net_of s.net).symbol y ≡ Some x → word_of (state_at old y) ≡ None → ⊥
   not_vacant y x e v = let f : None ≡ Some x = sym v ∙ live_word y x e in cc
 
@@ -117,16 +112,13 @@ module _ (t : Tables) (s : PairSetting) (p : TemplateParts) (pair : Pair) (own :
     two_stays = stays pair.other.0 s.rule.heads.1.0 (ap (net_of s.net).symbol about.two ∙ about.redex.two)
 
     pub one_live : IsLive (state_at put pair.one.0)
-    one_live = subst IsLive (sym one_stays) (is_live (state_at old pair.one.0) s.rule.heads.0.0 (live_word pair.one.0 s.rule.heads.0.0 (ap (net_of s.net).symbol about.one ∙ about.redex.one)))
+    one_live = subst IsLive (sym one_stays) (word_live (state_at old pair.one.0) s.rule.heads.0.0 (live_word pair.one.0 s.rule.heads.0.0 (ap (net_of s.net).symbol about.one ∙ about.redex.one)))
 
     two_live : IsLive (state_at put pair.other.0)
-    two_live = subst IsLive (sym two_stays) (is_live (state_at old pair.other.0) s.rule.heads.1.0 (live_word pair.other.0 s.rule.heads.1.0 (ap (net_of s.net).symbol about.two ∙ about.redex.two)))
+    two_live = subst IsLive (sym two_stays) (word_live (state_at old pair.other.0) s.rule.heads.1.0 (live_word pair.other.0 s.rule.heads.1.0 (ap (net_of s.net).symbol about.two ∙ about.redex.two)))
 
     pub other_live : IsLive (state_at (changed put pair.one.0 Vacant) pair.other.0)
     other_live = subst IsLive (sym (get_or-set_other put.states pair.one.0 pair.other.0 Vacant Leased (λ e. differ (sym e)))) two_live
-
-    inside_of_live : (b : ArenaView) (y : ℕ) → IsLive (state_at b y) → y < length b.states
-    inside_of_live b y live = state_inside b y (λ e. (subst IsLive e live))
 
     -- a boundary end's port, as it stands
     port_stays : (e : ℕ) → end_there put (port_at pair e) ≡ end_at (state_at old (end_agent (signature_of t) (redex_at s.rule s.one.0 s.two.0) e)) (end_place (signature_of t) (redex_at s.rule s.one.0 s.two.0) e)
@@ -187,12 +179,12 @@ module _ (t : Tables) (s : PairSetting) (p : TemplateParts) (pair : Pair) (own :
       one_gone =
           ap (λ (b : ArenaView). state_at b s.one.0) retired ∙ ap (state_at (changed (changed put pair.one.0 Vacant) pair.other.0 Vacant)) (sym about.one)
           ∙ get_or-set_other (changed put pair.one.0 Vacant).states pair.other.0 pair.one.0 Vacant Leased differ
-          ∙ get_or-set_same put.states pair.one.0 Vacant Leased (inside_of_live put pair.one.0 one_live)
+          ∙ get_or-set_same put.states pair.one.0 Vacant Leased (live_inside put pair.one.0 one_live)
 
       two_gone : state_at after s.two.0 ≡ Vacant
       two_gone =
           ap (λ (b : ArenaView). state_at b s.two.0) retired ∙ ap (state_at (changed (changed put pair.one.0 Vacant) pair.other.0 Vacant)) (sym about.two)
-          ∙ get_or-set_same (changed put pair.one.0 Vacant).states pair.other.0 Vacant Leased (inside_of_live (changed put pair.one.0 Vacant) pair.other.0 other_live)
+          ∙ get_or-set_same (changed put pair.one.0 Vacant).states pair.other.0 Vacant Leased (live_inside (changed put pair.one.0 Vacant) pair.other.0 other_live)
 
       pub as_put : (y : ℕ) → y ≢ s.one.0 → y ≢ s.two.0 → state_at after y ≡ state_at put y
       as_put y f g =

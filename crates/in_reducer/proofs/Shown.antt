@@ -24,6 +24,7 @@ use Rattle.in_joining.specs.Shown.{point_of, stands_at, IsShown}
 use Rattle.in_joining.proofs.Public.{place_within}
 use Rattle.in_reducer.specs.Machines.{point_at}
 use Rattle.in_reducer.specs.Standing.{agent_in, agents_in, leading_to}
+use Rattle.in_cutting.proofs.Public.{end_there, mapped_some}
 
 -- ---- cells
 
@@ -100,21 +101,7 @@ length_by n m f g = go (cases_lt n m) (cases_lt m n)
     go (inr l) (inl k) = absurd (let z = f m k in omega (arith, z))
     go (inr l) (inr k) = omega (arith, l, k)
 
-end_some : (s : State) (i : ℕ) → i < places s → IsSome (end_at s i)
-end_some Vacant i l = absurd (omega (arith, l))
-end_some Leased i l = absurd (omega (arith, l))
-end_some (Live w es) i l = go es i l
-  where
-    go : (es : List End) (i : ℕ) → i < length es → IsSome (slice_get es i)
-    go [] i l = absurd (omega (arith, l))
-    go (e ∷ es) zero l = refl
-    go (e ∷ es) (suc i) l = go es i (omega (arith, l))
-
--- what an option is mapped to is there where it is
-mapped : {X Y : Type 0} (f : X → Y) (o : Option X) → IsSome o → IsSome (option_map f o)
-mapped f (Some x) h = refl
-mapped f None h = h
-
+-- what is mapped is there where its image is
 unmapped : {X Y : Type 0} (f : X → Y) (o : Option X) → IsSome (option_map f o) → IsSome o
 unmapped f (Some x) h = refl
 unmapped f None h = h
@@ -128,7 +115,7 @@ module _ (t : Tables) (a : ArenaView) (fs : List FreeEnd) (es : List End) (net :
 
       forth : (i : ℕ) → i < places (state_at a y) → i < suc (arity_of t s)
       forth i l =
-          let some : IsSome ((net_of (seen a fs es)).partner (Port y i)) = subst IsSome (sym (partner_seen a fs es (Port y i))) (mapped point_of (end_at (state_at a y) i) (end_some (state_at a y) i l)) in
+          let some : IsSome ((net_of (seen a fs es)).partner (Port y i)) = subst IsSome (sym (partner_seen a fs es (Port y i))) (mapped_some point_of (end_at (state_at a y) i) (end_there (state_at a y) i l)) in
           let v = has_value ((net_of (seen a fs es)).partner (Port y i)) some in
           let p = net.points (Port y i) v.0 v.1 in
           go ((net_of (seen a fs es)).symbol y) symbol p

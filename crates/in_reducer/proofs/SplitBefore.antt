@@ -34,9 +34,7 @@ use Rattle.in_reducer.specs.Standing.{leading_to}
 use Rattle.in_reducer.proofs.Shown.{is_shown, partner_seen, places_seen, same_many, symbol_seen}
 use Rattle.in_reducer.proofs.StillNet.{good_of}
 use Rattle.in_reducer.proofs.TwoEnds.{first_of_two}
-
-held : (c : CellClass) (n : ℕ) → holds c n ≡ true → Holds c n
-held c n h = let one = nat_le (least c) n in let two = nat_le n (width c) in (leb-true (least c) n (first_so one two h), leb-true n (width c) (second_so one two h))
+use Rattle.in_compile.proofs.Public.{held}
 
 module _ (r : Body) (k : KeepsNet r) where
   abbrev t : Tables

@@ -8,11 +8,11 @@ use Rattle.in_arena.specs.States.{State, Vacant, Leased, Live, IsLeased, IsLive,
 use Rattle.in_arena.specs.declared.content.CellClass.{CellClass}
 use Rattle.in_arena.specs.declared.content.CellClass.TheVariants.{Small, Large, Wide}
 use Rattle.in_arena.specs.declared.content.CellNo.{CellNo}
-use Rattle.in_arena.proofs.Public.{numbers_apart}
+use Rattle.in_arena.proofs.Public.{numbers_apart, live_in}
 use Rattle.in_symbols.specs.Tables.{Tables, arity_of}
 use Rattle.in_compile.specs.Cells.{agents_of, count_of, is_of}
 use Rattle.in_moving.specs.Copying.{IsCopied, is_for, moved, name_in, number_in}
-use Rattle.in_moving.proofs.Public.{NamedOr, named_or, not_leased, word_moved}
+use Rattle.in_moving.proofs.Public.{NamedOr, named_or, not_leased, word_moved, leased_before, leased_after}
 use Rattle.in_reducer.specs.declared.body.Body.{Body}
 use Rattle.in_reducer.specs.Inside.{KeepsNet, reducer_view}
 use Rattle.in_reducer.specs.Parting.{CanSplit}
@@ -25,7 +25,7 @@ use Rattle.in_reducer.proofs.StartNet.{all_free, empty_all, empty_none, no_word}
 use Rattle.in_reducer.proofs.StillNet.{IsGood, good_of, good_vacant, net_in as net_stays}
 
 -- the free cells of an arena without leases
-vacant_is : (a : ArenaView) → NoneLeased a → (c : CellClass) → count_of (vacant_in (at_rest a)) c ≡ free_of a c
+pub vacant_is : (a : ArenaView) → NoneLeased a → (c : CellClass) → count_of (vacant_in (at_rest a)) c ≡ free_of a c
 vacant_is a none c = ap (λ (b : ArenaView). count_of (vacant_in b) c) (rests a none) ∙ free_is c
   where
     free_is : (c : CellClass) → count_of (vacant_in a) c ≡ free_of a c
@@ -33,22 +33,7 @@ vacant_is a none c = ap (λ (b : ArenaView). count_of (vacant_in b) c) (rests a 
     free_is Large = refl
     free_is Wide = refl
 
-leased_before : (name number : ℕ → ℕ) (x : State) → IsLeased (moved name number x) → IsLeased x
-leased_before name number Vacant leased = leased
-leased_before name number Leased leased = leased
-leased_before name number (Live w es) leased = leased
-
-leased_after : (name number : ℕ → ℕ) (x : State) → IsLeased x → IsLeased (moved name number x)
-leased_after name number Vacant leased = leased
-leased_after name number Leased leased = leased
-leased_after name number (Live w es) leased = leased
-
-not_both : (x : State) → IsLive x → IsLeased x → ⊥
-not_both Vacant h k = h
-not_both Leased h k = h
-not_both (Live w es) h k = k
-
-to_holds : (c : CellClass) (n : ℕ) → Holds c n → holds c n ≡ true
+pub to_holds : (c : CellClass) (n : ℕ) → Holds c n → holds c n ≡ true
 to_holds c n h = both_true (le-leb (least c) n h.0) (le-leb n (width c) h.1)
 
 module _ (r : Body) (k : KeepsNet r) (agents : List CellNo) (own cuts : ℕ) (can : CanSplit (reducer_view r) agents own cuts) where
@@ -154,7 +139,7 @@ module _ (r : Body) (k : KeepsNet r) (agents : List CellNo) (own cuts : ℕ) (ca
       cells = lost.cells;
       many = lost.many;
       stay = λ y leased. elim (listed_or y) [
-        | inl at ↦ absurd (not_both (state_at r.arena y) (was_live y at.0 at.1 at.2 at.3) leased)
+        | inl at ↦ absurd (live_in (state_at r.arena y) (was_live y at.0 at.1 at.2 at.3) leased)
         | inr out ↦ subst IsLeased (sym (stays y out)) (leased_after (λ z. z) number (state_at r.arena y) leased)
       ];
       none = λ y low leased. rest_leased y leased;

@@ -35,7 +35,8 @@ use Rattle.in_reducer.specs.Standing.{agents_in, at_rest, leading_to, vacant_in}
 use Rattle.in_reducer.proofs.Shown.{is_shown, partner_seen, same_kinds, same_many, same_names, seen}
 use Rattle.in_reducer.proofs.SplitBefore as before
 use Rattle.in_reducer.proofs.StartNet.{no_word}
-use Rattle.in_reducer.proofs.TwoEnds.{first_of_two, many_of_two, of_first, of_own, of_second, part_of_two, places_of_two, rest_of_two, same_list, which_of_two}
+use Rattle.in_reducer.proofs.TwoEnds.{first_of_two, many_of_two, of_first, of_own, of_second, part_of_two, places_of_two, rest_of_two, which_of_two}
+use Rattle.in_net.proofs.Public.{all_same}
 
 -- ---- lists
 
@@ -68,7 +69,7 @@ few_of_two own cuts k i e at = elim (which_of_two own cuts k i e at) [
 -- a list is made up of two, in the order of the free ends of two parts
 made_of_two : {X : Type 0} (own cuts : ℕ) (all : List X) (of : ℕ × ℕ → Option X) → length all ≡ own + (cuts + cuts) → ((e : ℕ) → e < own + cuts → of (0, e) ≡ slice_get all (place_of_two own 0 e)) →
     ((e : ℕ) → e < cuts → of (1, e) ≡ slice_get all (place_of_two own 1 e)) → map (λ t. Some t) all ≡ map of (ends_of_two own cuts)
-made_of_two {X} own cuts all of many rest part = same_list (map (λ t. Some t) all) (map of (ends_of_two own cuts)) at
+made_of_two {X} own cuts all of many rest part = all_same (map (λ t. Some t) all) (map of (ends_of_two own cuts)) at
   where
     long : length (ends_of_two own cuts) ≡ own + (cuts + cuts)
     long = many_of_two own cuts

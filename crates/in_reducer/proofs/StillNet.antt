@@ -10,7 +10,7 @@ use Rattle.in_arena.specs.Classes.{classes, IsNumberOf}
 use Rattle.in_arena.specs.States.{State, Vacant, Leased, Live, IsLeased, IsLive, word_of}
 use Rattle.in_arena.specs.declared.content.CellClass.{CellClass}
 use Rattle.in_arena.specs.declared.content.CellNo.{CellNo}
-use Rattle.in_arena.proofs.Public.{state_inside, numbers_apart}
+use Rattle.in_arena.proofs.Public.{state_inside, numbers_apart, live_in}
 use Rattle.in_symbols.specs.Tables.{Tables}
 use Rattle.in_net.specs.Built.{IsOver}
 use Rattle.in_net.specs.Parts.{Parts}
@@ -83,11 +83,6 @@ alike_through a b c h k = record {
   none = λ n low l. h.none n low (k.none n (subst (λ (z : ℕ). n < z) (sym h.many) low) l);
 }
 
-not_both : (x : State) → IsLive x → IsLeased x → ⊥
-not_both Vacant h k = h
-not_both Leased h k = h
-not_both (Live w es) h k = k
-
 -- a retired cell was none of them, and is none
 pub retired_alike : (a b : ArenaView) (y : ℕ) → IsLive (state_at a y) → b ≡ changed a y Vacant → AreLeasedAlike a b
 retired_alike a b y live e = subst (AreLeasedAlike a) (sym e) (record {
@@ -99,7 +94,7 @@ retired_alike a b y live e = subst (AreLeasedAlike a) (sym e) (record {
 })
   where
     go : (n : ℕ) → IsLeased (state_at a n) → (n ≡ y) ⊎ (n ≢ y) → IsLeased (state_at (changed a y Vacant) n)
-    go n l (inl same) = absurd (not_both (state_at a y) live (subst (λ (z : ℕ). IsLeased (state_at a z)) same l))
+    go n l (inl same) = absurd (live_in (state_at a y) live (subst (λ (z : ℕ). IsLeased (state_at a z)) same l))
     go n l (inr ne) = subst IsLeased (sym (get_or-set_other a.states y n Vacant Leased ne)) l
 
     back : (n : ℕ) → IsLeased (state_at (changed a y Vacant) n) → (n ≡ y) ⊎ (n ≢ y) → IsLeased (state_at a n)

@@ -52,6 +52,7 @@ use Rattle.in_reducer.proofs.Queues.{short_queue}
 use Rattle.in_reducer.proofs.Shown.{is_over, is_shown, partner_seen, places_seen, same_kinds, same_many, same_names, symbol_seen}
 use Rattle.in_reducer.proofs.Stepped.{free_is}
 use Rattle.in_reducer.proofs.StillNet.{IsGood, good_of, net_in as net_stays}
+use Rattle.in_reducer.proofs.SplitCells.{vacant_is, to_holds}
 
 -- ---- names
 
@@ -72,11 +73,6 @@ named_or_not (a ∷ more) names n = go (ℕ_discrete (name_in names a.0) n) (nam
         at : (j : ℕ) (c : CellNo) → slice_get (a ∷ more) j ≡ Some c → name_in names c.0 ≡ n → ⊥
         at zero c e h = d (ap (λ (z : CellNo). name_in names z.0) (same_Some a c e) ∙ h)
         at (suc j) c e h = g j c e h
-
-holds_true : (c : CellClass) (n : ℕ) → Holds c n → holds c n ≡ true
-holds_true Small n h = let a = h.0 in let b = h.1 in grind (arith, nat_tests, a, b)
-holds_true Large n h = let a = h.0 in let b = h.1 in grind (arith, nat_tests, a, b)
-holds_true Wide n h = let a = h.0 in let b = h.1 in grind (arith, nat_tests, a, b)
 
 -- ---- ends within bounds
 
@@ -216,9 +212,6 @@ module _ (r o : Body) (k : KeepsNet r) (l : KeepsNet o) (can : CanAppend (reduce
     pub closed : (many : ℕ) → many ≡ length o.free.items → AreClosed o.arena agents many
     closed w is = subst (AreClosed o.arena agents) (length-take-le (length gs) o.ends.items (fits o l) ∙ many_free o l ∙ sym is) (all_are_closed o.arena agents (take (length gs) o.ends.items) n (shows o l).shown (leads_back o l) live.all)
 
-    vacant_is : (a : ArenaView) → NoneLeased a → (c : CellClass) → count_of (vacant_in (at_rest a)) c ≡ free_of a c
-    vacant_is a none c = ap (λ (z : ArenaView). count_of (vacant_in z) c) (rests a none) ∙ free_is a c
-
     pub room : NoneLeased r.arena → HasCellsFor o.arena agents r.arena
     room none c =
         let e = counted_more c in
@@ -243,7 +236,7 @@ module _ (r o : Body) (k : KeepsNet r) (l : KeepsNet o) (can : CanAppend (reduce
               let class = copied.classes at.0 c at.2 in
               let same : class.0 ≡ d = numbers_apart r.arena.cells y class.0 d (subst (λ (z : ℕ). IsNumberOf z class.0 y) (copied.cells ∙ anew.cells) (subst (IsNumberOf b.cells class.0) at.3 class.2)) in_class in
               let many = places_more c.0 s word in
-              let fit : holds class.0 (arity_of t s + 1) ≡ true = ap (holds class.0) (let z : arity_of t s + 1 ≡ places (state_at o.arena c.0) = omega (arith, many) in z) ∙ holds_true class.0 (places (state_at o.arena c.0)) class.1 in
+              let fit : holds class.0 (arity_of t s + 1) ≡ true = ap (holds class.0) (let z : arity_of t s + 1 ≡ places (state_at o.arena c.0) = omega (arith, many) in z) ∙ to_holds class.0 (places (state_at o.arena c.0)) class.1 in
               subst (λ (z : CellClass). is_of t z s ≡ true) same fit
               )
 

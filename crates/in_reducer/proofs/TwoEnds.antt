@@ -6,31 +6,13 @@ use Rattle.std.proofs.lemmas.Option.{same_Some, slice_get_within}
 use Rattle.in_base.proofs.Places.{kept_at}
 use Rattle.in_moving.specs.Laws.{ends_of}
 use Rattle.in_reducer.specs.Parting.{by_turns, ends_of_two, place_of_two}
+use Rattle.in_moving.proofs.Public.{length-ends_of, ends_there, past_first}
 
 -- ---- lists
 
 -- what stands in the second of two lists
-pub in_second : {X : Type 0} (xs ys : List X) (k : ℕ) → slice_get (xs ++ ys) (length xs + k) ≡ slice_get ys k
-in_second [] ys k = ap (slice_get ys) (let z : 0 + k ≡ k = omega arith in z)
-in_second (x ∷ xs) ys k = ap (slice_get (x ∷ (xs ++ ys))) (let z : suc (length xs) + k ≡ suc (length xs + k) = omega arith in z) ∙ in_second xs ys k
-
 -- lists with the same elements at the same places are one
-pub same_list : {X : Type 0} (xs ys : List X) → ((k : ℕ) → slice_get xs k ≡ slice_get ys k) → xs ≡ ys
-same_list [] [] h = refl
-same_list [] (y ∷ ys) h = let f : None ≡ Some y = h 0 in cc
-same_list (x ∷ xs) [] h = let f : Some x ≡ None = h 0 in cc
-same_list {X} (x ∷ xs) (y ∷ ys) h = ap (λ (z : X). z ∷ xs) (same_Some x y (h 0)) ∙ ap (λ (zs : List X). y ∷ zs) (same_list xs ys (λ k. h (suc k)))
-
 -- ---- the two lists
-
-length-ends_of : (i first w : ℕ) → length (ends_of i first w) ≡ w
-length-ends_of i first zero = refl
-length-ends_of i first (suc w) = ap suc (length-ends_of i (suc first) w)
-
-at_ends_of : (i first w k : ℕ) → k < w → slice_get (ends_of i first w) k ≡ Some (i, first + k)
-at_ends_of i first zero k l = absurd (omega (arith, l))
-at_ends_of i first (suc w) zero l = ap (λ (z : ℕ). let p : ℕ × ℕ = (i, z) in Some p) (let z : first ≡ first + 0 = omega arith in z)
-at_ends_of i first (suc w) (suc k) l = at_ends_of i (suc first) w k (omega (arith, l)) ∙ ap (λ (z : ℕ). let p : ℕ × ℕ = (i, z) in Some p) (let z : suc first + k ≡ first + suc k = omega arith in z)
 
 length-by_turns : (own j w : ℕ) → length (by_turns own j w) ≡ w + w
 length-by_turns own j zero = refl
@@ -60,13 +42,13 @@ many_of_two own cuts =
     omega (arith, e, f, g)
 
 after_own : (own cuts k : ℕ) → slice_get (ends_of_two own cuts) (own + k) ≡ slice_get (by_turns own 0 cuts) k
-after_own own cuts k = ap (λ (z : ℕ). slice_get (ends_of_two own cuts) (z + k)) (sym (length-ends_of 0 0 own)) ∙ in_second (ends_of 0 0 own) (by_turns own 0 cuts) k
+after_own own cuts k = ap (λ (z : ℕ). slice_get (ends_of_two own cuts) (z + k)) (sym (length-ends_of 0 0 own)) ∙ past_first (ends_of 0 0 own) (by_turns own 0 cuts) k
 
 -- those that were there before the cuts
 pub own_of_two : (own cuts k : ℕ) → k < own → slice_get (ends_of_two own cuts) k ≡ Some (0, k)
 own_of_two own cuts k l =
     kept_at (ends_of 0 0 own) (by_turns own 0 cuts) k (0, k)
-    (at_ends_of 0 0 own k l ∙ ap (λ (z : ℕ). let p : ℕ × ℕ = (0, z) in Some p) (let z : 0 + k ≡ k = omega arith in z))
+    (ends_there 0 0 own k l ∙ ap (λ (z : ℕ). let p : ℕ × ℕ = (0, z) in Some p) (let z : 0 + k ≡ k = omega arith in z))
 
 -- the first end of a cut, and the second one
 pub first_of_two : (own cuts j : ℕ) → j < cuts → slice_get (ends_of_two own cuts) (own + (j + j)) ≡ Some (1, j)

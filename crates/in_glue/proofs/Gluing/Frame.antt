@@ -9,28 +9,10 @@ use Rattle.in_net.proofs.Public.{port_agent, port_place}
 use Rattle.in_glue.specs.Gluing.{Cuts, IsJointEndAt, IsJointEnd, glue_wire, AreLinked, IsPlaced, AreAllApart, IsGlued, placed_pair, AreOthers}
 use Rattle.in_glue.specs.Laws.{FramesStep, FramesGlue}
 use Rattle.in_glue.proofs.Gluing.Points.{same_free, turned}
-use Rattle.in_order.proofs.Public.{Way, AreIndependent, After_x, Then_y, AtOnce, join, split}
+use Rattle.in_order.proofs.Public.{Way, AreIndependent, After_x, Then_y, AtOnce, join, split, to_way, from_way, way_map}
 
 -- the specification's paths are ways
-pub to_way : {P : Type 0} (wire : Side → P → P → Type 0) (End : P → Type 0) (s : Side) (u : P) (es : List P) (v : P) → Alternates wire End s u es v → (t : Side) × Way (wire Outer) (wire Inner) End s u es t v
-to_way wire End Outer u [] v w = (Outer, (refl, w))
-to_way wire End Inner u [] v w = (Inner, (refl, w))
-to_way wire End Outer u (e ∷ es) v w = let r = to_way wire End Inner e es v w.2 in (r.0, (w.0, w.1, r.1))
-to_way wire End Inner u (e ∷ es) v w = let r = to_way wire End Outer e es v w.2 in (r.0, (w.0, w.1, r.1))
-
-pub from_way : {P : Type 0} (wire : Side → P → P → Type 0) (End : P → Type 0) (s : Side) (u : P) (es : List P) (t : Side) (v : P) → Way (wire Outer) (wire Inner) End s u es t v → Alternates wire End s u es v
-from_way wire End Outer u [] t v w = w.1
-from_way wire End Inner u [] t v w = w.1
-from_way wire End Outer u (e ∷ es) t v w = (w.0, w.1, from_way wire End Inner e es t v w.2)
-from_way wire End Inner u (e ∷ es) t v w = (w.0, w.1, from_way wire End Outer e es t v w.2)
-
 -- outer wires may be replaced
-way_map : {P : Type 0} (O O' I : P → P → Type 0) (End : P → Type 0) → ((u v : P) → O u v → O' u v) → (s : Side) (u : P) (es : List P) (t : Side) (v : P) → Way O I End s u es t v → Way O' I End s u es t v
-way_map O O' I End f Outer u [] t v w = (w.0, f u v w.1)
-way_map O O' I End f Inner u [] t v w = w
-way_map O O' I End f Outer u (e ∷ es) t v w = (f u e w.0, w.1, way_map O O' I End f Inner e es t v w.2)
-way_map O O' I End f Inner u (e ∷ es) t v w = (w.0, w.1, way_map O O' I End f Outer e es t v w.2)
-
 swap_way : {P : Type 0} (W X Y : P → P → Type 0) (EX EY : P → Type 0) (s : Side) (u : P) (es : List P) (t : Side) (v : P) → Way W (λ u v. X u v ⊎ Y u v) (λ u. EX u ⊎ EY u) s u es t v → Way W (λ u v. Y u v ⊎ X u v) (λ u. EY u ⊎ EX u) s u es t v
 swap_way W X Y EX EY Outer u [] t v w = w
 swap_way W X Y EX EY Inner u [] t v w = (w.0, turned w.1)

@@ -7,9 +7,8 @@ use Rattle.in_interaction.proofs.Public.{has_value}
 use Rattle.in_check.proofs.Public.{is_some}
 use Rattle.in_glue.specs.Gluing.{Cuts, IsJointEndAt, IsJointEnd, glue_wire, AreLinked}
 use Rattle.in_glue.specs.Joining.{IsInUse, HasOwnNumber, IsAtNumber, IsJoinedBy, IsOneMore, IsNeither, ArePartnersAfter, JoinsEnds, JoinsNext}
-use Rattle.in_order.proofs.Public.{Way, AreIndependent, After_x, Then_y, AtOnce, join, split}
+use Rattle.in_order.proofs.Public.{Way, AreIndependent, After_x, Then_y, AtOnce, join, split, from_way, to_way}
 use Rattle.in_glue.proofs.Gluing.Points.{none_some, same_free, turned}
-use Rattle.in_glue.proofs.Gluing.Frame.{to_way, from_way}
 
 alt_map : {P : Type 0} (wire wire' : Side → P → P → Type 0) (End End' : P → Type 0) → ((s : Side) (u v : P) → wire s u v → wire' s u v) → ((u : P) → End u → End' u) → (s : Side) (u : P) (es : List P) (v : P) → Alternates wire End s u es v → Alternates wire' End' s u es v
 alt_map wire wire' End End' f g s u [] v w = f s u v w

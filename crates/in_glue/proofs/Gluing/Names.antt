@@ -21,7 +21,7 @@ some_or_none : {X : Type 0} (o : Option X) → IsSome o ⊎ (o ≡ None)
 some_or_none None = inr refl
 some_or_none (Some x) = inl refl
 
-not_some : {X : Type 0} (o : Option X) → o ≡ None → IsSome o → ⊥
+pub not_some : {X : Type 0} (o : Option X) → o ≡ None → IsSome o → ⊥
 not_some None e h = cc
 not_some (Some x) e h = cc
 

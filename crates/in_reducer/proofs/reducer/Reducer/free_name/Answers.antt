@@ -9,8 +9,9 @@ use Rattle.in_reducer.specs.declared.body.OwnEnd.TheVariants.{Named}
 use Rattle.in_reducer.specs.Inside.{IsOwnEnd, declared_as, own_free}
 use Rattle.in_reducer.specs.Machines.{MachineParts, parts_of}
 use Rattle.in_reducer.specs.Standing.{leading_to}
-use Rattle.in_reducer.proofs.Looked.{read_at, as_many_free, free_named}
+use Rattle.in_reducer.proofs.Looked.{read_at, free_named}
 use Rattle.in_reducer.proofs.reducer.Reducer.free_name.Goals as goal
+use Rattle.in_reducer.proofs.Shown.{same_many}
 
 pub index-requires : goal.index-requires
 index-requires c =
@@ -18,7 +19,7 @@ index-requires c =
     let es = r.ends.items in
     let room = c.self.invariant.all.net.ends in
     let many = length-map r.free.items (declared_as r.checked.now) in
-    let same = as_many_free (own_free r) es (omega (arith, room, many)) in
+    let same = same_many (own_free r) es (omega (arith, room, many)) in
     let low = subst (λ (m : MachineParts). c.args.number < length m.free) (sym c.self.view_is) c.requires in
     omega (arith, many, same, low, r.free.ok.0)
 
@@ -28,7 +29,7 @@ free_name-requires c =
     let es = r.ends.items in
     let room = c.self.invariant.all.net.ends in
     let many = length-map r.free.items (declared_as r.checked.now) in
-    let same = as_many_free (own_free r) es (omega (arith, room, many)) in
+    let same = same_many (own_free r) es (omega (arith, room, many)) in
     let low = subst (λ (m : MachineParts). c.args.number < length m.free) (sym c.self.view_is) c.requires in
     let at = read_at r.free.items c.args.number c.index.result.now (omega (arith, many, same, low)) c.index.ensures in
     let own = c.self.invariant.all.net.free c.args.number c.index.result.now at in
@@ -43,7 +44,7 @@ returns-in-Named c =
     let j = c.in-Named.of_program in
     let room = c.self.invariant.all.net.ends in
     let many = length-map r.free.items (declared_as p) in
-    let same = as_many_free (own_free r) es (omega (arith, room, many)) in
+    let same = same_many (own_free r) es (omega (arith, room, many)) in
     let low : k < length (leading_to (own_free r) es) = subst (λ (m : MachineParts). k < length m.free) (sym c.self.view_is) c.requires in
     let at : slice_get r.free.items k ≡ Some (Named j) = read_at r.free.items k c.index.result.now (omega (arith, many, same, low)) c.index.ensures ∙ ap (λ (e : OwnEnd). Some e) c.in-Named.is in
     let own : j < length p.net.free = c.self.invariant.all.net.free k (Named j) at in
@@ -60,7 +61,7 @@ returns-in-Cut c =
     let k = c.args.number in
     let room = c.self.invariant.all.net.ends in
     let many = length-map r.free.items (declared_as p) in
-    let same = as_many_free (own_free r) es (omega (arith, room, many)) in
+    let same = same_many (own_free r) es (omega (arith, room, many)) in
     let low : k < length (leading_to (own_free r) es) = subst (λ (m : MachineParts). k < length m.free) (sym c.self.view_is) c.requires in
     let at = read_at r.free.items k c.index.result.now (omega (arith, many, same, low)) c.index.ensures ∙ ap (λ (e : OwnEnd). Some e) c.in-Cut.is in
     let here = slice_get-map (declared_as p) r.free.items k ∙ ap (option_map (declared_as p)) at in
