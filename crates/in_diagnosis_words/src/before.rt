@@ -1,8 +1,16 @@
 //! What stands before a place at which the grammar refuses a text.
-use crate::occurrences::tokens_of;
 use crate::reports::Report;
-use in_syntax::{Place, Token, TokenKind};
-use std::alloc::AllocError;
+use in_syntax::{Fault, Place, Token, TokenKind, tokens};
+use std::alloc::{AllocError, Global};
+
+/// The tokens of a part of a text whose tokens have no fault, so only memory may be wanted.
+pub(crate) fn tokens_of(alloc: Global, part: &[u8]) -> Result<Vec<Token>, AllocError> {
+    match tokens(alloc, part) {
+        Ok(tokens) => Ok(tokens),
+        Err(Fault::Refused(_)) => Ok(Vec::new(alloc)),
+        Err(Fault::Memory(error)) => Err(error),
+    }
+}
 
 /// The tokens before a place of a text whose tokens have no fault.
 pub(crate) fn tokens_before(report: &Report, place: Place) -> Result<Vec<Token>, AllocError> {

@@ -1,6 +1,6 @@
 //! Declarations of symbols with other braces.
+use crate::before::tokens_of;
 use crate::declarations::{arity, place_in, port, sign};
-use crate::occurrences::{Reading, read_from};
 use in_syntax::{Place, SourceSymbol, TokenKind};
 use std::alloc::{AllocError, Global};
 
@@ -85,25 +85,15 @@ pub fn declaration_with(
     Ok(words)
 }
 
-/// Where the declaration ends whose name stands at a place.
-#[derive(Clone, Copy)]
-struct End {
-    name: Place,
-    found: Option<usize>,
-}
-
-impl Reading for End {
-    fn needs(&self, _line: &[u8]) -> bool {
-        true
-    }
-
-    fn read(&mut self, kind: TokenKind, place: Place) -> Result<bool, AllocError> {
-        if place.from < self.name.from || kind != TokenKind::Semicolon {
-            return Ok(false);
+/// Where the declaration ends whose name stands at a place: at its `;`, which the tree doesn't have.
+fn declaration_end(alloc: Global, text: &[u8], name: Place) -> Result<usize, AllocError> {
+    let tokens = tokens_of(alloc, text.get(name.from..).unwrap_or(&[]))?;
+    for token in tokens.as_slice() {
+        if token.kind == TokenKind::Semicolon {
+            return Ok(name.from.saturating_add(token.place.from));
         }
-        self.found = Some(place.from);
-        Ok(true)
     }
+    Ok(text.len())
 }
 
 /// A text in which a symbol is declared so: these words stand in the place of its declaration, without the word `symbol` and the `;`.
@@ -114,9 +104,7 @@ pub fn text_with(
     declaration: &str,
 ) -> Result<Vec<u8>, AllocError> {
     let name = symbol.name.place;
-    let mut end = End { name, found: None };
-    read_from(alloc, text, name, &mut end)?;
-    let after = end.found.unwrap_or(text.len());
+    let after = declaration_end(alloc, text, name)?;
     let mut changed = Vec::new(alloc);
     changed.extend_from_slice(text.get(..name.from).unwrap_or(&[]))?;
     changed.extend_from_slice(declaration.as_bytes())?;

@@ -44,17 +44,6 @@ struct Line<'a> {
     after: &'a str,
 }
 
-/// Where the line begins in which a byte stands.
-pub(crate) fn line_start(text: &[u8], at: usize) -> usize {
-    for before in 0..at {
-        let index = at - before;
-        if text.get(index - 1) == Some(&b'\n') {
-            return index;
-        }
-    }
-    0
-}
-
 /// Whether the byte there goes on with a character.
 fn goes_on(text: &[u8], index: usize) -> bool {
     matches!(text.get(index), Some(0x80..=0xBF))

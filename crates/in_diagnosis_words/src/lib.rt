@@ -5,10 +5,10 @@
 //! which is in the file of its kind: `letters` (characters, with their names from `in_diagnosis_characters::name_of`), `grammar` (what was
 //! expected; limits), `names`, `rings` (closed wires), `pairs`.
 //!
-//! `declarations` looks into the tree, `occurrences` at the tokens of those lines in which a name occurs (a line can be read by itself,
-//! since no token and no comment goes on over its end), `before` at those before a place where the grammar refuses; `single` finds the
+//! `declarations` and `occurrences` look into the tree, the latter where a name stands in a rule or in the net; `single` finds the
 //! variables that occur once, `near` the names that may have been meant (`strsim`). `ends` has the two ends of a wire that don't fit,
-//! `nodes` the nodes of a circle, and `braces` declarations with other braces, in words.
+//! `nodes` the nodes of a circle, and `braces` declarations with other braces, in words. Tokens are read again in `before` alone: those
+//! before a place where the grammar refuses, where there is no tree, and for `braces` those of a declaration, whose `;` no tree has.
 //!
 //! `reports` and `excerpts` write it: lines of the text with marks under them. A `Report` keeps that memory ran out, and `into_text`
 //! answers it.

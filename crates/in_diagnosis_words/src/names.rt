@@ -1,7 +1,7 @@
 //! Names: declared twice, not declared, with another number of arguments, or in another number of places.
 use crate::declarations::{Declared, arity, first_of, is_among, symbol_named};
 use crate::near::add_near;
-use crate::occurrences::{arguments, occurrences, rule_at};
+use crate::occurrences::{arguments, occurrences, rule_around};
 use crate::reports::Report;
 use crate::single::add_single;
 use in_syntax::{Name, Place, Source, SourceSymbol};
@@ -116,16 +116,16 @@ fn add_count(report: &mut Report, symbol: &SourceSymbol, count: usize, place: Pl
 }
 
 /// So many arguments, other than the arity of the symbol, where it is declared.
-fn add_arguments(report: &mut Report, source: &Source, count: usize, place: Place) {
-    match symbol_named(source, report.at(place)) {
-        Some(symbol) => add_count(report, symbol, count, place),
-        None => report.wrong(place, "another number of arguments than auxiliary ports"),
+fn add_arguments(report: &mut Report, source: &Source, count: Option<usize>, place: Place) {
+    match (symbol_named(source, report.at(place)), count) {
+        (Some(symbol), Some(count)) => add_count(report, symbol, count, place),
+        _ => report.wrong(place, "another number of arguments than auxiliary ports"),
     }
 }
 
 /// An agent or a head with another number of arguments than its symbol's arity.
 pub(crate) fn add_other_arity(report: &mut Report, source: &Source, place: Place) {
-    match arguments(report.alloc, report.text, place) {
+    match arguments(report.alloc, source, place) {
         Ok(count) => add_arguments(report, source, count, place),
         Err(error) => report.fail(error),
     }
@@ -227,7 +227,7 @@ fn add_free(report: &mut Report, source: &Source, declared: &Name, places: &[Pla
 
 /// The free end of this name, where a place is in the net.
 fn free_end_at<'a>(source: &'a Source, name: &str, place: Place) -> Option<&'a Name> {
-    match rule_at(source, place.from) {
+    match rule_around(source, place) {
         Some(_) => None,
         None => first_of(source.net.free.as_slice(), name),
     }

@@ -1,5 +1,5 @@
 //! Closed wires: equations of bare names that lead back to the first.
-use crate::occurrences::rule_at;
+use crate::occurrences::rule_around;
 use crate::reports::Report;
 use in_syntax::{Equation, Place, Source};
 
@@ -76,12 +76,10 @@ fn ring_at(equations: &[Equation], place: Place) -> Option<(usize, &str)> {
 
 /// The equations among which a place stands: those of a rule, or those of the net.
 fn equations_around(source: &Source, place: Place) -> &[Equation] {
-    if let Some(number) = rule_at(source, place.from) {
-        if let Some(rule) = source.rules.as_slice().get(number) {
-            return rule.equations.as_slice();
-        }
+    match rule_around(source, place) {
+        Some(rule) => rule.equations.as_slice(),
+        None => source.net.equations.as_slice(),
     }
-    source.net.equations.as_slice()
 }
 
 /// A wire that is joined to itself.

@@ -2,9 +2,9 @@
 use crate::declarations::{first_of, symbol_named};
 use crate::excerpts::between;
 use crate::near::distance;
-use crate::occurrences::{Extent, Reading, read_from};
+use crate::occurrences::{names_around, rule_around};
 use crate::reports::Report;
-use in_syntax::{Place, Source, TokenKind};
+use in_syntax::{NameUse, Place, Source};
 use std::alloc::{AllocError, Global};
 
 /// How many of them are looked at.
@@ -13,78 +13,34 @@ const MOST_LOOKED_AT: usize = 64;
 /// How many of them are told.
 const MOST_TOLD: usize = 3;
 
-/// A name that is followed by no bracket, and where it stands.
+/// A name that no bracket follows, and where it stands.
 #[derive(Clone, Copy)]
 struct Bare<'a> {
     name: &'a str,
     place: Place,
 }
 
-/// The names of a part that no bracket follows: variables, free ends, and agents without auxiliary ports.
-#[derive(Drop)]
-struct BareNames<'a> {
-    text: &'a [u8],
-    extent: Extent,
-    last: Option<Place>,
-    found: Vec<Bare<'a>>,
+/// Whether no bracket follows a name: it is a variable's, a free end's, or that of an agent without auxiliary ports.
+fn is_bare(name: &NameUse) -> bool {
+    !name.is_head && name.arguments == 0
 }
 
-/// Whether a name before this token is that of an agent, of a head, or the word before equations.
-fn opens(kind: TokenKind) -> bool {
-    matches!(
-        kind,
-        TokenKind::OpenBrace | TokenKind::OpenParenthesis | TokenKind::OpenBracket
-    )
-}
-
-impl BareNames<'_> {
-    /// Keeps the name before a token of this kind, if there is one and it isn't followed by a bracket.
-    fn keep_last(&mut self, kind: TokenKind) -> Result<(), AllocError> {
-        match self.last {
-            Some(place) if !opens(kind) => {
-                let name = between(self.text, place.from, place.to);
-                self.found.push(Bare { name, place })?;
-            }
-            _ => (),
-        }
-        self.last = None;
-        Ok(())
-    }
-}
-
-impl Reading for BareNames<'_> {
-    fn needs(&self, _line: &[u8]) -> bool {
-        true
-    }
-
-    fn read(&mut self, kind: TokenKind, place: Place) -> Result<bool, AllocError> {
-        if place.from < self.extent.start().from {
-            return Ok(false);
-        }
-        self.keep_last(kind)?;
-        if kind == TokenKind::Name {
-            self.last = Some(place);
-        }
-        Ok(self.extent.ends_with(kind))
-    }
-}
-
-/// The bare names of the rule or of the net in which a place stands.
+/// The bare names of the rule in which a place stands, or of the net's equations.
 fn bare_names<'a>(
     alloc: Global,
     text: &'a [u8],
     source: &Source,
     at: Place,
 ) -> Result<Vec<Bare<'a>>, AllocError> {
-    let extent = Extent::around(source, at);
-    let mut names = BareNames {
-        text,
-        extent,
-        last: None,
-        found: Vec::new(alloc),
-    };
-    read_from(alloc, text, extent.start(), &mut names)?;
-    let BareNames { found, .. } = names;
+    let names = names_around(alloc, source, at)?;
+    let mut found = Vec::new(alloc);
+    for name in names.as_slice() {
+        if is_bare(name) {
+            let place = name.place;
+            let name = between(text, place.from, place.to);
+            found.push(Bare { name, place })?;
+        }
+    }
     Ok(found)
 }
 
@@ -102,7 +58,7 @@ fn differs(sorted: &[Bare], index: Option<usize>, name: &str) -> bool {
 /// Whether a name is no symbol's, and in the net no free end's.
 fn is_variable(source: &Source, at: Place, name: &str) -> bool {
     symbol_named(source, name).is_none()
-        && (Extent::around(source, at).is_rule()
+        && (rule_around(source, at).is_some()
             || first_of(source.net.free.as_slice(), name).is_none())
 }
 

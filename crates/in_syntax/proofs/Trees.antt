@@ -3,3 +3,4 @@ pub mod Ordered
 pub mod Sized
 pub mod SourcePlaces
 pub mod Terms
+pub mod Uses

@@ -3,6 +3,8 @@
 //! `characters` and `lexer` go over the text one character at a time. `parser` takes one token at a time into `reader`, a machine whose
 //! `states` say where in a program the next token is, with a `stack` for the terms that are open: no call is deeper for a deeper text.
 //! `specs/Steps.antt` has the machine's steps as definitions; the proofs show that it reads exactly what the grammar spells.
+//!
+//! `uses` goes down a tree, one call deeper for each term within a term, and lists where the names of a rule or of the net stand.
 #![tactic(auto)]
 
 mod characters;
@@ -23,6 +25,7 @@ mod states;
 mod streams;
 mod text;
 mod tree;
+mod uses;
 mod words;
 
 pub use expecting::{Expected, PartOf};
@@ -39,4 +42,5 @@ pub use tree::{
     SourceNet, SourcePort, SourceRule, SourceRules, SourceSymbol, SourceSymbols, Term, Terms,
     TypeNames,
 };
+pub use uses::{NameUse, names_of_body, names_of_rule};
 pub use words::{Token, TokenKind};

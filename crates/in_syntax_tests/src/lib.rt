@@ -12,3 +12,5 @@ mod of_in_syntax;
 mod reading;
 #[cfg(test)]
 mod tokens;
+#[cfg(test)]
+mod uses;

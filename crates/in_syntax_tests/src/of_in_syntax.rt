@@ -1,4 +1,4 @@
-//! The tests of `in_syntax::parse`; those of `tokens` stand in a module of that name.
+//! The tests of `in_syntax::parse`; those of its other calls stand in `tokens` and `uses`.
 
 use crate::reading::{LookAtTree, tree_refused, tree_seen};
 use in_syntax::{
@@ -10,7 +10,7 @@ use std::process::Abort;
 use std::test::Fail;
 
 /// How many blanks come before a place: in a text of words between single blanks, the number of the word that stands there.
-fn word_at(text: &str, place: Place) -> usize {
+pub(crate) fn word_at(text: &str, place: Place) -> usize {
     let front = text.as_bytes().iter().take(place.from);
     front.filter(|byte| **byte == b' ').count()
 }
