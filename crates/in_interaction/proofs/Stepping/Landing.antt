@@ -98,6 +98,10 @@ module _ (here : Site) where
     abbrev To : ℕ → coded.Point → coded.Point → Type 0
     To k p v = Lands site k p v
 
+    -- the port of a new agent to which a boundary end leads
+    new_port : (e l j : ℕ) → (net_of member).partner (Free e) ≡ Some (Port l j) → IsPoint sig (net_of member) (Port l j)
+    new_port e l j w = (inside here).points (Port l j) (Free e) ((inside here).back (Free e) (Port l j) w)
+
     -- it has landed
     landed : (k : ℕ) (v : Point ℕ) → Stays v → To (suc k) (coded_point v) (coded_point v)
     unfolding Lands
@@ -116,18 +120,18 @@ module _ (here : Site) where
 
     to_agent : (k e : ℕ) (v : Point ℕ) (q : Point ℕ) → (net_of member).partner (Free e) ≡ Some q → stands_for sig at name q ≡ v → Stays v → To (suc k) (coded_point (pt e)) (coded_point v)
     to_agent k e v (Port l j) w is h =
-        enters k e (coded_point v) (Port l j) w (agent_no (name l), named l j ((inside here).points (Port l j) (Free e) ((inside here).back (Free e) (Port l j) w)), ap coded_point is)
+        enters k e (coded_point v) (Port l j) w (agent_no (name l), named l j (new_port e l j w), ap coded_point is)
     to_agent k e v (Free f) w is h = absurd (h (subst (IsOfPair at) is (known here end_of_pair f)))
 
     -- .. that is left outside again
     to_end : (k e : ℕ) (v : coded.Point) (f r q : Point ℕ) → (net_of member).partner (Free e) ≡ Some q → stands_for sig at name q ≡ f → IsOfPair at f → (net_of n).partner f ≡ Some r → To k (coded_point r) v → To (suc k) (coded_point (pt e)) v
-    to_end k e v f r (Port l j) w is h out more = absurd (known here not_pair l j ((inside here).points (Port l j) (Free e) ((inside here).back (Free e) (Port l j) w)) (subst (IsOfPair at) (sym is) h))
+    to_end k e v f r (Port l j) w is h out more = absurd (known here not_pair l j (new_port e l j w) (subst (IsOfPair at) (sym is) h))
     to_end k e v f r (Free g) w is h out more =
         enters k e v (Free g) w (coded_point r, ap (partner_in n) (port_is g) ∙ outer_code (pt g) r (ap (net_of n).partner is ∙ out), more)
 
     -- the boundary end that an outer wire of one leads to
     next_end : (e : ℕ) (f g q : Point ℕ) → (net_of member).partner (Free e) ≡ Some q → stands_for sig at name q ≡ f → IsOfPair at f → (net_of n).partner f ≡ Some g → IsOfPair at g → (h : ℕ) × (h < both) × (g ≡ pt h)
-    next_end e f g (Port l j) w is h out k = absurd (known here not_pair l j ((inside here).points (Port l j) (Free e) ((inside here).back (Free e) (Port l j) w)) (subst (IsOfPair at) (sym is) h))
+    next_end e f g (Port l j) w is h out k = absurd (known here not_pair l j (new_port e l j w) (subst (IsOfPair at) (sym is) h))
     next_end e f g (Free m) w is h out k =
         elim (known here outer_next ℕ_discrete f g out (λ s. known here not_principal ℕ_discrete m one (is ∙ s)) (λ s. known here not_principal ℕ_discrete m two (is ∙ s))) [
           | inl r ↦ absurd (r k)
@@ -201,6 +205,11 @@ module _ (here : Site) where
               | inr m ↦ (
                 v,
                 (stays, h, (Inner, pt e ∷ f ∷ es, (wire, known here end_of_pair e, a))),
-                (f, a.0, subst (λ (z : Point ℕ). To most_turns (coded_point z) (coded_point v)) (sym m.2) (lands (2 * max_ports) m.0 es v m.1 (omega arith) (subst (λ (z : Point ℕ). Way Inner z es v) m.2 a.2) h)),
+                (
+                  f,
+                  a.0,
+                  subst (λ (z : Point ℕ). To most_turns (coded_point z) (coded_point v)) (sym m.2)
+                      (lands (2 * max_ports) m.0 es v m.1 (omega arith) (subst (λ (z : Point ℕ). Way Inner z es v) m.2 a.2) h),
+                ),
               )
             ]

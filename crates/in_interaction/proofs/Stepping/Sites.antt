@@ -87,7 +87,8 @@ module _ (here : Site) where
 -- what a lemma on any interaction says here
 pub known : {Fact : (sig : Signature) (n : Net ℕ) (x : Redex ℕ ℕ) (name : ℕ → ℕ) → IsNet sig n → IsNet sig x.member → IsRedex sig n x → IsNaming n x name → Type 0} →
     (here : Site) →
-    ((sig : Signature) (n : Net ℕ) (x : Redex ℕ ℕ) (name : ℕ → ℕ) (net : IsNet sig n) (inside : IsNet sig x.member) (redex : IsRedex sig n x) (naming : IsNaming n x name) → Fact sig n x name net inside redex naming) →
+    ((sig : Signature) (n : Net ℕ) (x : Redex ℕ ℕ) (name : ℕ → ℕ) →
+    (net : IsNet sig n) (inside : IsNet sig x.member) (redex : IsRedex sig n x) (naming : IsNaming n x name) → Fact sig n x name net inside redex naming) →
     Fact (signature_of here.t) (net_of here.n) (redex_at here.r here.a.0 here.b.0) (unused here.n.cells) (net here) (inside here) (redex here) (naming here)
 known here lemma = lemma (signature_of here.t) (net_of here.n) (redex_at here.r here.a.0 here.b.0) (unused here.n.cells) (net here) (inside here) (redex here) (naming here)
 
