@@ -124,13 +124,15 @@ module _ (here : Site) where
     to_agent k e v (Free f) w is h = absurd (h (subst (IsOfPair at) is (known here end_of_pair f)))
 
     -- .. that is left outside again
-    to_end : (k e : ℕ) (v : coded.Point) (f r q : Point ℕ) → (net_of member).partner (Free e) ≡ Some q → stands_for sig at name q ≡ f → IsOfPair at f → (net_of n).partner f ≡ Some r → To k (coded_point r) v → To (suc k) (coded_point (pt e)) v
+    to_end : (k e : ℕ) (v : coded.Point) (f r q : Point ℕ) → (net_of member).partner (Free e) ≡ Some q → stands_for sig at name q ≡ f → IsOfPair at f → (net_of n).partner f ≡ Some r →
+        To k (coded_point r) v → To (suc k) (coded_point (pt e)) v
     to_end k e v f r (Port l j) w is h out more = absurd (known here not_pair l j (new_port e l j w) (subst (IsOfPair at) (sym is) h))
     to_end k e v f r (Free g) w is h out more =
         enters k e v (Free g) w (coded_point r, ap (partner_in n) (port_is g) ∙ outer_code (pt g) r (ap (net_of n).partner is ∙ out), more)
 
     -- the boundary end that an outer wire of one leads to
-    next_end : (e : ℕ) (f g q : Point ℕ) → (net_of member).partner (Free e) ≡ Some q → stands_for sig at name q ≡ f → IsOfPair at f → (net_of n).partner f ≡ Some g → IsOfPair at g → (h : ℕ) × (h < both) × (g ≡ pt h)
+    next_end : (e : ℕ) (f g q : Point ℕ) → (net_of member).partner (Free e) ≡ Some q → stands_for sig at name q ≡ f → IsOfPair at f → (net_of n).partner f ≡ Some g → IsOfPair at g →
+        (h : ℕ) × (h < both) × (g ≡ pt h)
     next_end e f g (Port l j) w is h out k = absurd (known here not_pair l j (new_port e l j w) (subst (IsOfPair at) (sym is) h))
     next_end e f g (Free m) w is h out k =
         elim (known here outer_next ℕ_discrete f g out (λ s. known here not_principal ℕ_discrete m one (is ∙ s)) (λ s. known here not_principal ℕ_discrete m two (is ∙ s))) [

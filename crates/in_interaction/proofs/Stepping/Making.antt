@@ -12,7 +12,7 @@ use Rattle.in_interaction.specs.Following.{SiteParts}
 use Rattle.in_interaction.specs.Interacting.{unused, CanInteract}
 use Rattle.in_net.specs.Interactions.{Redex, IsRedex, IsNaming, Side, Outer, Inner, other, Alternates, wire_of, IsOfPair, AreJoined, end_agent, end_place, redex_at}
 use Rattle.in_interaction.specs.Made.{PassesEnd, HasSymbolAfter, IsMade, AreMadeOverEnds}
-use Rattle.in_interaction.specs.Making.{AreMadeBelow, most_wires}
+use Rattle.in_interaction.specs.Making.{Over, AreMadeBelow, most_wires}
 use Rattle.in_net.specs.Nets.{Point, Port, IsPoint, IsNet, net_of, signature_of}
 use Rattle.in_net.specs.Parts.{Parts, IsWhole, symbol_in}
 use Rattle.in_net.specs.Rules.{RuleParts}
@@ -146,8 +146,7 @@ module _ (here : Site) where
 
   -- from a boundary end by one side one path goes to a point that stays
   pub one_from : (s : Side) (e : ℕ) (u v : Point ℕ) (es fs : List (Point ℕ)) → Stays u → Stays v → Way s (pt e) es u → Way s (pt e) fs v → (es ≡ fs) × (u ≡ v)
-  one_from s e u v es fs hu hv x y =
-      through.same_path Wire (IsOfPair pair) (known here one_wire) s (pt e) es fs u v hu hv x y
+  one_from s e u v es fs hu hv x y = through.same_path Wire (IsOfPair pair) (known here one_wire) s (pt e) es fs u v hu hv x y
 
   half_once : (s : Side) (e : ℕ) (z w : AgentNo) → Half s e z → Half s e w → z ≡ w
   half_once s e z w h g = agent_same z w (port_same z.0 w.0 0 0 (one_from s e (Port z.0 0) (Port w.0 0) h.ends g.ends (stays_after z h.symbol h.has) (stays_after w g.symbol g.has) h.way g.way).1)
@@ -198,13 +197,12 @@ module _ (here : Site) where
   }
     where
       j : through.Joins Wire (IsOfPair pair) (pt e) es fs (Port x.0 0) (Port y.0 0)
-      j =
-          known here through.join_at s (pt e) es (Port x.0 0) (known here end_of_pair e) h fs (Port y.0 0) g
+      j = known here through.join_at s (pt e) es (Port x.0 0) (known here end_of_pair e) h fs (Port y.0 0) g
 
       lowest : (l : ℕ) → PassesEnd (signature_of t) (net_of n) pair name l (Port x.0 0) (Port y.0 0) → e ≤ l
       lowest l p =
-          let same =
-          (known here through.one_way p.0 j.side (Port x.0 0) (Port y.0 0) (Port y.0 0) p.1 j.ends (stays_after x c one) (stays_after y d two) (stays_after y d two) p.2 j.path).0 in
+          let two_stays = stays_after y d two in
+          let same = (known here through.one_way p.0 j.side (Port x.0 0) (Port y.0 0) (Port y.0 0) p.1 j.ends (stays_after x c one) two_stays two_stays p.2 j.path).0 in
           elim (j.only (pt l) (subst (IsAmong (pt l)) same p.3)) [
             | inl k ↦ let m = known here through.pt_same e l k in omega (arith, m)
             | inr k ↦ elim k [ inl i ↦ low_h l i | inr i ↦ low_g l i ]
@@ -213,8 +211,7 @@ module _ (here : Site) where
   pub end_within : (e : ℕ) → e < arity_of t r.heads.0.0 + arity_of t r.heads.1.0 → e < length r.member.free
   end_within e lt =
       let many = length-map r.member.free (λ (f : FreeEnd). f.kind) in
-      let ends = redex here in
-      let all = ends.ends in
+      let all = (redex here).ends in
       omega (arith, lt, many, all)
 
   -- a lowest end of a pair is a boundary end
@@ -279,7 +276,8 @@ module _ (t : Tables) (s : SiteParts) where
       rising j k d c x y lt m i (inr f) (inl g) = let l = slice_get_within qs k y g in let n = f.0 in absurd (omega (arith, l, n, lt))
       rising j k d c x y lt m i (inr f) (inr g) = let l = g.0 in let n = f.0 in absurd (omega (arith, l, n, lt))
 
-  pub all_ends : (e : ℕ) (qs : List (AgentNo × AgentNo)) → IsWhole s.net → IsWhole s.rule.member → CanInteract t s.net s.rule s.one s.two → AreMadeBelow t s e qs → length s.rule.member.free ≤ e → AreMadeOverEnds t s.net s.rule s.one s.two (unused s.net.cells) qs
+  pub all_ends : (e : ℕ) (qs : List (AgentNo × AgentNo)) → IsWhole s.net → IsWhole s.rule.member → Over s t → AreMadeBelow t s e qs → length s.rule.member.free ≤ e →
+      AreMadeOverEnds t s.net s.rule s.one s.two (unused s.net.cells) qs
   all_ends e qs whole small can h le = record {
     each = λ k q f. (let r = h.each k q f in (r.0, r.2));
     all = λ d q m. h.all d q (let l = made_within here d q m in omega (arith, l, le)) m;

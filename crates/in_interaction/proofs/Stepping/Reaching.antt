@@ -75,7 +75,8 @@ module _ (s : SiteParts) (site : IsSite s) where
         found : end_of s.one s.two s.first (coded_point (point_of p)) ≡ Some f
         found = ap (end_of s.one s.two s.first) (round_code p) ∙ is
 
-        go : Stays (point_of p) ⊎ ((d : ℕ) × (d < length s.rule.member.free) × (point_of p ≡ end_point t s d)) → (f < length s.rule.member.free) × SiteWire t s Outer (end_point t s e) (end_point t s f)
+        go : Stays (point_of p) ⊎ ((d : ℕ) × (d < length s.rule.member.free) × (point_of p ≡ end_point t s d)) →
+            (f < length s.rule.member.free) × SiteWire t s Outer (end_point t s e) (end_point t s f)
         go (inl h) = absurd (none-some f (sym (no_end (point_of p) h) ∙ found))
         go (inr d) =
             let same : d.0 ≡ f = some_same (end_of s.one s.two s.first (coded_point (point_of p))) d.0 f (ap (λ (z : Point ℕ). end_of s.one s.two s.first (coded_point z)) d.2 ∙ end_there d.0) found in
@@ -99,7 +100,8 @@ module _ (s : SiteParts) (site : IsSite s) where
     pub inner_named : (e i : ℕ) (k : AgentNo) → partner_in s.rule.member (code.Free e) ≡ Some (code.Port k i) → slice_get s.names k.0 ≡ Some (record { 0 = unused s.net.cells k.0 })
     inner_named e i k w = named s site t k.0 i (agent_there e i k w)
 
-    pub inner_stays : (e i : ℕ) (k y : AgentNo) → partner_in s.rule.member (code.Free e) ≡ Some (code.Port k i) → record { 0 = unused s.net.cells k.0 } ≡ y → SiteWire t s Inner (end_point t s e) (Port y.0 i) × Stays (Port y.0 i)
+    pub inner_stays : (e i : ℕ) (k y : AgentNo) → partner_in s.rule.member (code.Free e) ≡ Some (code.Port k i) → record { 0 = unused s.net.cells k.0 } ≡ y →
+        SiteWire t s Inner (end_point t s e) (Port y.0 i) × Stays (Port y.0 i)
     inner_stays e i k y w same = subst (λ (z : AgentNo). SiteWire t s Inner (end_point t s e) (Port z.0 i) × Stays (Port z.0 i)) same (
       (Free e, Port k.0 i, refl, refl, net_wire s.rule.member (code.Free e) (code.Port k i) w),
       known here not_pair k.0 i (agent_there e i k w),
@@ -112,7 +114,8 @@ module _ (s : SiteParts) (site : IsSite s) where
     one_wire_at = known here one_wire
 
     -- a path from a boundary end whose wire leads to another goes on from there
-    pub goes_on : (side : Side) (e f : ℕ) (es : List (Point ℕ)) (v : Point ℕ) → SiteWire t s side (end_point t s e) (end_point t s f) → Leaves t s side e es v → (fs : List (Point ℕ)) × (es ≡ end_point t s f ∷ fs) × Leaves t s (other side) f fs v
+    pub goes_on : (side : Side) (e f : ℕ) (es : List (Point ℕ)) (v : Point ℕ) → SiteWire t s side (end_point t s e) (end_point t s f) → Leaves t s side e es v →
+        (fs : List (Point ℕ)) × (es ≡ end_point t s f ∷ fs) × Leaves t s (other side) f fs v
     goes_on side e f [] v w h = absurd (h.1 (subst (IsOfPair (redex_of s)) (one_wire_at side (end_point t s e) (end_point t s f) v w h.0) (is_pair_end f)))
     goes_on side e f (g ∷ fs) v w h =
         let same : g ≡ end_point t s f = one_wire_at side (end_point t s e) g (end_point t s f) h.0.0 w in
@@ -151,7 +154,8 @@ module _ (s : SiteParts) (site : IsSite s) where
     behind = λ t can fs v h low. on.behind t can (end_point t s f ∷ fs) v ((to.1 t can, is_pair_end t can f, h.0), h.1) (low_more t can e f fs le low);
   }
     where
-      ahead : (t : Tables) → Over s t → (es : List (Point ℕ)) (v : Point ℕ) → (gs : List (Point ℕ)) × Leaves t s by at gs v × (length gs + count ≤ length es) × ((p : Point ℕ) → IsAmong p gs → IsAmong p es) →
+      ahead : (t : Tables) → Over s t → (es : List (Point ℕ)) (v : Point ℕ) →
+          (gs : List (Point ℕ)) × Leaves t s by at gs v × (length gs + count ≤ length es) × ((p : Point ℕ) → IsAmong p gs → IsAmong p es) →
           (fs : List (Point ℕ)) × Leaves t s (other by) f fs v × (length fs + (count + 1) ≤ length es) × ((p : Point ℕ) → IsAmong p fs → IsAmong p es)
       ahead t can es v g =
           let r = goes_on t can by at f g.0 v (to.1 t can) g.1 in

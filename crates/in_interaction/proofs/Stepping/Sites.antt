@@ -84,7 +84,7 @@ module _ (here : Site) where
       let m = whole.ports b.0 y.0 y.1 in
       omega (arith, l, m, x.3, y.3)
 
--- what a lemma on any interaction says here
+-- what a lemma on interactions says here: it is given the net, the pair and the names, and what is known of them
 pub known : {Fact : (sig : Signature) (n : Net ℕ) (x : Redex ℕ ℕ) (name : ℕ → ℕ) → IsNet sig n → IsNet sig x.member → IsRedex sig n x → IsNaming n x name → Type 0} →
     (here : Site) →
     ((sig : Signature) (n : Net ℕ) (x : Redex ℕ ℕ) (name : ℕ → ℕ) →
