@@ -7,9 +7,9 @@ use Rattle.in_symbols.specs.Tables.{Tables}
 use Rattle.in_symbols.specs.declared.symbols.SymbolNo.{SymbolNo}
 use Rattle.in_net.specs.ActivePairs.{AreActive, IsActivePair}
 use Rattle.in_interaction.specs.Interacting.{unused, CanInteract, Interacts, InteractsAs}
-use Rattle.in_net.specs.Interactions.{Side, Outer, Inner, Alternates, stands_for, InnerWire, wire_of, IsOfPair, IsNaming, IsRedex, AreJoined, IsStep, end_agent, end_place, redex_at}
+use Rattle.in_net.specs.Interactions.{Redex, Side, Outer, Inner, Alternates, stands_for, InnerWire, wire_of, IsOfPair, IsNaming, IsRedex, AreJoined, IsStep, end_agent, end_place, redex_at}
 use Rattle.in_interaction.specs.Made.{PassesEnd, HasSymbolAfter, IsMade, AreMadeOverEnds, IsOwn}
-use Rattle.in_net.specs.Nets.{Point, Port, Free, IsNet, net_of, signature_of, coded_point}
+use Rattle.in_net.specs.Nets.{Point, Port, Free, Signature, IsNet, net_of, signature_of, coded_point}
 use Rattle.in_interaction.specs.OutcomeLaws.{IsOtherPair}
 use Rattle.in_net.specs.Parts.{Parts, IsWhole, symbol_in, partner_in}
 use Rattle.in_net.specs.Rules.{RuleParts}
@@ -56,22 +56,31 @@ pub symbol_number : (o : Option SymbolNo) (s : SymbolNo) → o ≡ Some s → op
 symbol_number o s e = ap (option_map (λ (s : SymbolNo). s.0)) e
 
 module _ (t : Tables) (n : Parts) (r : RuleParts) (a b : AgentNo) (name : ℕ → ℕ) (m : Parts) (net : IsNet (signature_of t) (net_of n)) (inside : IsNet (signature_of t) (net_of r.member)) (can : CanInteract t n r a b) (h : InteractsAs t n r a b name m) where
+  abbrev sig : Signature
+  sig = signature_of t
+
+  abbrev pair : Redex ℕ ℕ
+  pair = redex_at r a.0 b.0
+
   abbrev Joined : Point ℕ → Point ℕ → Type 0
-  Joined = AreJoined (signature_of t) (net_of n) (redex_at r a.0 b.0) name
+  Joined = AreJoined sig (net_of n) pair name
 
   abbrev Way : Side → Point ℕ → List (Point ℕ) → Point ℕ → Type 0
-  Way = Alternates (wire_of (signature_of t) (net_of n) (redex_at r a.0 b.0) name) (IsOfPair (redex_at r a.0 b.0))
+  Way = Alternates (wire_of sig (net_of n) pair name) (IsOfPair pair)
+
+  abbrev Stays : Point ℕ → Type 0
+  Stays u = IsOfPair pair u → ⊥
 
   abbrev pt : ℕ → Point ℕ
-  pt e = Port (end_agent (signature_of t) (redex_at r a.0 b.0) e) (end_place (signature_of t) (redex_at r a.0 b.0) e)
+  pt e = Port (end_agent sig pair e) (end_place sig pair e)
 
-  abbrev step : IsStep (signature_of t) (net_of n) (redex_at r a.0 b.0) name (net_of m)
+  abbrev step : IsStep sig (net_of n) pair name (net_of m)
   step = h.step
 
-  abbrev naming : IsNaming (net_of n) (redex_at r a.0 b.0) name
+  abbrev naming : IsNaming (net_of n) pair name
   naming = h.step.naming
 
-  redex : IsRedex (signature_of t) (net_of n) (redex_at r a.0 b.0)
+  redex : IsRedex sig (net_of n) pair
   redex = redex_in t n r a b net can
 
   pub stays_after : (y : AgentNo) (s : SymbolNo) → HasSymbolAfter n r a b name y s → IsOfPair (redex_at r a.0 b.0) (Port y.0 0) → ⊥
@@ -99,14 +108,14 @@ module _ (t : Tables) (n : Parts) (r : RuleParts) (a b : AgentNo) (name : ℕ �
   old_symbol : (x y : AgentNo) (s : SymbolNo) → AreActive n x y → HasSymbolAfter n r a b name x s → (x ≢ a) × (x ≢ b) × (symbol_in n x.0 ≡ Some s)
   old_symbol x y s act (inl k) = k
   old_symbol x y s act (inr k) =
-      let p = symbol_of (signature_of t) ((net_of n).symbol x.0) 0 (net.points (Port x.0 0) (Port y.0 0) (net_wire n (code.Port x 0) (code.Port y 0) act)) in
+      let p = symbol_of sig ((net_of n).symbol x.0) 0 (net.points (Port x.0 0) (Port y.0 0) (net_wire n (code.Port x 0) (code.Port y 0) act)) in
       let none : (net_of n).symbol x.0 ≡ None = ap (net_of n).symbol (sym k.1) ∙ naming.fresh k.0 s.0 (symbol_number (symbol_in r.member k.0) s k.2) in
       absurd (none-some p.0 (sym none ∙ p.1))
 
   -- .. and one with a wire of the right member is no old one
   new_symbol : (k : ℕ) (i : ℕ) (q : Point ℕ) (x : AgentNo) (s : SymbolNo) → (net_of r.member).partner (Port k i) ≡ Some q → name k ≡ x.0 → HasSymbolAfter n r a b name x s → symbol_in r.member k ≡ Some s
   new_symbol k i q x s e is o =
-      let p = symbol_of (signature_of t) ((net_of r.member).symbol k) i (inside.points (Port k i) q e) in
+      let p = symbol_of sig ((net_of r.member).symbol k) i (inside.points (Port k i) q e) in
       elim o [
         | inl g ↦ (
             let none : (net_of n).symbol x.0 ≡ None = ap (net_of n).symbol (sym is) ∙ naming.fresh k p.0 p.1 in
@@ -123,17 +132,17 @@ module _ (t : Tables) (n : Parts) (r : RuleParts) (a b : AgentNo) (name : ℕ �
     IsThere q = IsOtherPair t n a b q ⊎ ((k : ℕ) × (slice_get made k ≡ Some q)) ⊎ IsOwn t r name q
 
     -- a wire of the right member between two principal ports is of new agents
-    inner : (x y : AgentNo) → (IsOfPair (redex_at r a.0 b.0) (Port x.0 0) → ⊥) → (IsOfPair (redex_at r a.0 b.0) (Port y.0 0) → ⊥) → InnerWire (signature_of t) (redex_at r a.0 b.0) name (Port x.0 0) (Port y.0 0) →
+    inner : (x y : AgentNo) → Stays (Port x.0 0) → Stays (Port y.0 0) → InnerWire sig pair name (Port x.0 0) (Port y.0 0) →
         (k l : AgentNo) × (name k.0 ≡ x.0) × (name l.0 ≡ y.0) × AreActive r.member k l
     inner x y hx hy w = go w.0 w.1 w.2 w.3 w.4
       where
-        pair_end : (e : ℕ) → IsOfPair (redex_at r a.0 b.0) (stands_for (signature_of t) (redex_at r a.0 b.0) name (Free e))
-        pair_end e = end_of_pair (signature_of t) (net_of n) (redex_at r a.0 b.0) name net inside redex naming e
+        pair_end : (e : ℕ) → IsOfPair pair (stands_for sig pair name (Free e))
+        pair_end e = end_of_pair sig (net_of n) pair name net inside redex naming e
 
-        go : (p q : Point ℕ) → stands_for (signature_of t) (redex_at r a.0 b.0) name p ≡ Port x.0 0 → stands_for (signature_of t) (redex_at r a.0 b.0) name q ≡ Port y.0 0 → (net_of r.member).partner p ≡ Some q →
+        go : (p q : Point ℕ) → stands_for sig pair name p ≡ Port x.0 0 → stands_for sig pair name q ≡ Port y.0 0 → (net_of r.member).partner p ≡ Some q →
             (k l : AgentNo) × (name k.0 ≡ x.0) × (name l.0 ≡ y.0) × AreActive r.member k l
-        go (Free e) q is_p is_q e_p = absurd (hx (subst (IsOfPair (redex_at r a.0 b.0)) is_p (pair_end e)))
-        go (Port k i) (Free e) is_p is_q e_p = absurd (hy (subst (IsOfPair (redex_at r a.0 b.0)) is_q (pair_end e)))
+        go (Free e) q is_p is_q e_p = absurd (hx (subst (IsOfPair pair) is_p (pair_end e)))
+        go (Port k i) (Free e) is_p is_q e_p = absurd (hy (subst (IsOfPair pair) is_q (pair_end e)))
         go (Port k i) (Port l j) is_p is_q e_p =
             let one : i ≡ 0 = port_place (name k) x.0 i 0 is_p in
             let two : j ≡ 0 = port_place (name l) y.0 j 0 is_q in
@@ -158,7 +167,7 @@ module _ (t : Tables) (n : Parts) (r : RuleParts) (a b : AgentNo) (name : ℕ �
             let y = old_symbol q.1 q.0 g.second (back q.0 q.1 act) two in
             inl (record { active = act; first = g.first; second = g.second; one = x.2; two = y.2; order = g.order }, x.0, x.1, y.0, y.1)
 
-        own : InnerWire (signature_of t) (redex_at r a.0 b.0) name (Port q.0.0 0) (Port q.1.0 0) → IsThere q
+        own : InnerWire sig pair name (Port q.0.0 0) (Port q.1.0 0) → IsThere q
         own w =
             let k = inner q.0 q.1 j.0 j.1 w in
             let forth = net_wire r.member (code.Port k.0 0) (code.Port k.1 0) k.4 in
@@ -180,15 +189,15 @@ module _ (t : Tables) (n : Parts) (r : RuleParts) (a b : AgentNo) (name : ℕ �
         through_end : (s : Side) (es : List (Point ℕ)) → Way s (Port q.0.0 0) es (Port q.1.0 0) → (e : ℕ) → IsAmong (pt e) es → ((d : ℕ) → IsAmong (pt d) es → e ≤ d) → IsThere q
         through_end s es w e i low = inr (inl (are.all e q (record { first = g.first; second = g.second; one = one; two = two; path = record { passed = (s, es, w, i); lowest = lowest }; order = g.order })))
           where
-            lowest : (d : ℕ) → PassesEnd (signature_of t) (net_of n) (redex_at r a.0 b.0) name d (Port q.0.0 0) (Port q.1.0 0) → e ≤ d
+            lowest : (d : ℕ) → PassesEnd sig (net_of n) pair name d (Port q.0.0 0) (Port q.1.0 0) → e ≤ d
             lowest d p =
-                let same = through.one_way (signature_of t) (net_of n) (redex_at r a.0 b.0) name net inside redex naming p.0 s (Port q.0.0 0) (Port q.1.0 0) (Port q.1.0 0) p.1 es j.0 j.1 j.1 p.2 w in
+                let same = through.one_way sig (net_of n) pair name net inside redex naming p.0 s (Port q.0.0 0) (Port q.1.0 0) (Port q.1.0 0) p.1 es j.0 j.1 j.1 p.2 w in
                 low d (subst (IsAmong (pt d)) same.0 p.3)
 
         go : (s : Side) (es : List (Point ℕ)) → Way s (Port q.0.0 0) es (Port q.1.0 0) → IsThere q
         go s es w =
-            let ends = through.through_ends (signature_of t) (net_of n) (redex_at r a.0 b.0) name net inside redex naming s (Port q.0.0 0) es (Port q.1.0 0) w in
-            elim (through.lowest (signature_of t) (net_of n) (redex_at r a.0 b.0) name net inside redex naming es ends) [
+            let ends = through.through_ends sig (net_of n) pair name net inside redex naming s (Port q.0.0 0) es (Port q.1.0 0) w in
+            elim (through.lowest sig (net_of n) pair name net inside redex naming es ends) [
               | inl alone ↦ single s (subst (λ zs. Way s (Port q.0.0 0) zs (Port q.1.0 0)) alone w)
               | inr e ↦ through_end s es w e.0 e.1 e.2
             ]
@@ -226,7 +235,7 @@ module _ (t : Tables) (n : Parts) (r : RuleParts) (a b : AgentNo) (name : ℕ �
         own g =
             let one : HasSymbolAfter n r a b name q.0 g.first = inr (g.inner.0.0, g.named.0, g.one) in
             let two : HasSymbolAfter n r a b name q.1 g.second = inr (g.inner.1.0, g.named.1, g.two) in
-            let wire : InnerWire (signature_of t) (redex_at r a.0 b.0) name (Port q.0.0 0) (Port q.1.0 0) =
+            let wire : InnerWire sig pair name (Port q.0.0 0) (Port q.1.0 0) =
             (Port g.inner.0.0 0, Port g.inner.1.0 0, ap (λ (z : ℕ). Port z 0) g.named.0, ap (λ (z : ℕ). Port z 0) g.named.1, net_wire r.member (code.Port g.inner.0 0) (code.Port g.inner.1 0) g.active) in
             record {
               active = active_after q.0 q.1 (stays_after q.0 g.first one, stays_after q.1 g.second two, (Inner, [], wire));
@@ -243,7 +252,7 @@ module _ (t : Tables) (n : Parts) (r : RuleParts) (a b : AgentNo) (name : ℕ �
       let p = g.path.passed in
       let hx = stays_after q.0 g.first g.one in
       let hy = stays_after q.1 g.second g.two in
-      let same = through.one_way (signature_of t) (net_of n) (redex_at r a.0 b.0) name net inside redex naming p.0 s (Port q.0.0 0) (Port q.1.0 0) (Port q.1.0 0) p.1 [] hx hy hy p.2 w in
+      let same = through.one_way sig (net_of n) pair name net inside redex naming p.0 s (Port q.0.0 0) (Port q.1.0 0) (Port q.1.0 0) p.1 [] hx hy hy p.2 w in
       subst (IsAmong (pt e)) same.0 p.3
 
 pub kept_or_made : (t : Tables) (n : Parts) (r : RuleParts) (a b : AgentNo) (name : ℕ → ℕ) (m : Parts) (made : List (AgentNo × AgentNo)) → IsNet (signature_of t) (net_of n) → IsNet (signature_of t) (net_of r.member) → CanInteract t n r a b → InteractsAs t n r a b name m → AreMadeOverEnds t n r a b name made →

@@ -5,7 +5,6 @@ use native.Mathlib.Decide.{ℕ_discrete}
 use Rattle.std.proofs.lemmas.List.{length-map}
 use Rattle.std.proofs.lemmas.Option.{none-some, slice_get_within}
 use Rattle.in_base.specs.Lists.{IsAmong}
-use Rattle.in_syntax.specs.Grammar.{max_ports}
 use Rattle.in_symbols.specs.Tables.{Tables, arity_of, IsSymbol}
 use Rattle.in_symbols.specs.declared.symbols.SymbolNo.{SymbolNo}
 use Rattle.in_net.specs.ActivePairs.{StandsFirst}
@@ -13,7 +12,7 @@ use Rattle.in_interaction.specs.Following.{SiteParts}
 use Rattle.in_interaction.specs.Interacting.{unused, CanInteract}
 use Rattle.in_net.specs.Interactions.{Redex, IsRedex, IsNaming, Side, Outer, Inner, other, Alternates, wire_of, IsOfPair, AreJoined, end_agent, end_place, redex_at}
 use Rattle.in_interaction.specs.Made.{PassesEnd, HasSymbolAfter, IsMade, AreMadeOverEnds}
-use Rattle.in_interaction.specs.Making.{AreMadeBelow, most_wires}
+use Rattle.in_interaction.specs.Making.{Over, AreMadeBelow, most_wires}
 use Rattle.in_net.specs.Nets.{Point, Port, IsPoint, IsNet, net_of, signature_of}
 use Rattle.in_net.specs.Parts.{Parts, IsWhole, symbol_in}
 use Rattle.in_net.specs.Rules.{RuleParts}
@@ -26,7 +25,7 @@ use Rattle.in_interaction.proofs.Interactions.StaysNet as stays_net
 use Rattle.in_interaction.proofs.Interactions.StepExists.{step_exists}
 use Rattle.in_interaction.proofs.Interactions.Through as through
 use Rattle.in_base.proofs.Places.{last_at, kept_at, more_at}
-use Rattle.in_interaction.proofs.Stepping.Sites as sites
+use Rattle.in_interaction.proofs.Stepping.Sites.{Site, net, inside, redex, naming, few_places, known}
 use Rattle.in_base.proofs.Places.{some_same}
 use Rattle.in_interaction.proofs.Stepping.Unused.{unused_free, unused_apart}
 
@@ -65,50 +64,40 @@ stays_as t n r a b name net inside redex naming y s (inr h) =
     subst (λ (o : Option SymbolNo). IsSomeAnd (option_map (λ (s : SymbolNo). s.0) o) (λ s. 0 ≤ arity_of t s)) (sym h.2) (omega arith) in
     λ o. not_pair (signature_of t) (net_of n) (redex_at r a.0 b.0) name net inside redex naming h.0 0 there (subst (λ z. IsOfPair (redex_at r a.0 b.0) (Port z 0)) (sym h.1) o)
 
-module _ (t : Tables) (n : Parts) (r : RuleParts) (a b : AgentNo) (whole : IsWhole n) (small : IsWhole r.member) (can : CanInteract t n r a b) where
-  abbrev at : Redex ℕ ℕ
-  at = redex_at r a.0 b.0
+module _ (here : Site) where
+  open here use {t, n, r, a, b}
+
+  abbrev pair : Redex ℕ ℕ
+  pair = redex_at r a.0 b.0
 
   abbrev name : ℕ → ℕ
   name = unused n.cells
 
   abbrev pub pt : ℕ → Point ℕ
-  pt e = Port (end_agent (signature_of t) (redex_at r a.0 b.0) e) (end_place (signature_of t) (redex_at r a.0 b.0) e)
+  pt e = Port (end_agent (signature_of t) pair e) (end_place (signature_of t) pair e)
+
+  abbrev HasSymbol : AgentNo → SymbolNo → Type 0
+  HasSymbol = HasSymbolAfter n r a b name
+
+  abbrev Makes : ℕ → AgentNo × AgentNo → Type 0
+  Makes = IsMade t n r a b name
+
+  abbrev Wire : Side → Point ℕ → Point ℕ → Type 0
+  Wire = wire_of (signature_of t) (net_of n) pair name
 
   abbrev pub Way : Side → Point ℕ → List (Point ℕ) → Point ℕ → Type 0
-  Way = Alternates (wire_of (signature_of t) (net_of n) (redex_at r a.0 b.0) (unused n.cells)) (IsOfPair (redex_at r a.0 b.0))
-
-  -- the premises of the lemmas on paths
-  abbrev pub net : IsNet (signature_of t) (net_of n)
-  net = sites.net t n r a b whole small can
-
-  abbrev pub inside : IsNet (signature_of t) (net_of r.member)
-  inside = sites.inside t n r a b whole small can
-
-  abbrev pub redex : IsRedex (signature_of t) (net_of n) (redex_at r a.0 b.0)
-  redex = sites.redex t n r a b whole small can
-
-  abbrev pub naming : IsNaming (net_of n) (redex_at r a.0 b.0) (unused n.cells)
-  naming = sites.naming t n r a b whole small can
+  Way = Alternates Wire (IsOfPair pair)
 
   abbrev pub Stays : Point ℕ → Type 0
-  Stays u = IsOfPair (redex_at r a.0 b.0) u → ⊥
+  Stays u = IsOfPair pair u → ⊥
 
-  pub stays_after : (y : AgentNo) (s : SymbolNo) → HasSymbolAfter n r a b (unused n.cells) y s → Stays (Port y.0 0)
-  stays_after = stays_as t n r a b (unused n.cells) net inside redex naming
-
-  few_ends : arity_of t r.heads.0.0 + arity_of t r.heads.1.0 ≤ 2 * max_ports
-  few_ends =
-      let x = sites.agent_ends t n can.net a.0 r.heads.0 can.one in
-      let y = sites.agent_ends t n can.net b.0 r.heads.1 can.two in
-      let l = whole.ports a.0 x.0 x.1 in
-      let m = whole.ports b.0 y.0 y.1 in
-      omega (arith, l, m, x.3, y.3)
+  pub stays_after : (y : AgentNo) (s : SymbolNo) → HasSymbol y s → Stays (Port y.0 0)
+  stays_after = stays_as t n r a b name (net here) (inside here) (redex here) (naming here)
 
   -- the path from a boundary end by one side ends at this agent's principal port
   pub record Half (side : Side) (e : ℕ) (z : AgentNo) : Type 0 where
     pub symbol : SymbolNo
-    pub has : HasSymbolAfter n r a b (unused n.cells) z symbol
+    pub has : HasSymbol z symbol
     pub ends : List (Point ℕ)
     pub way : Way side (pt e) ends (Port z.0 0)
     pub few : length ends < most_wires
@@ -122,32 +111,32 @@ module _ (t : Tables) (n : Parts) (r : RuleParts) (a b : AgentNo) (whole : IsWho
     pub inner : Half Inner e two
     pub are : (q ≡ (one, two)) ⊎ (q ≡ (two, one))
 
-  pub halves : (e : ℕ) (q : AgentNo × AgentNo) → IsMade t n r a b (unused n.cells) e q → Halves e q
+  pub halves : (e : ℕ) (q : AgentNo × AgentNo) → Makes e q → Halves e q
   halves e q h = by c.side c.front c.rear c.ahead c.behind c.front_of c.rear_of c.short
     where
       es : List (Point ℕ)
       es = h.path.passed.1
 
-      c : through.Cut (wire_of (signature_of t) (net_of n) (redex_at r a.0 b.0) (unused n.cells)) (IsOfPair (redex_at r a.0 b.0)) (Port q.0.0 0) (Port q.1.0 0) (pt e) es
-      c = through.cut_at (signature_of t) (net_of n) (redex_at r a.0 b.0) (unused n.cells) net inside redex naming h.path.passed.0 (Port q.0.0 0) es (Port q.1.0 0) h.path.passed.2 (pt e) h.path.passed.3
+      c : through.Cut Wire (IsOfPair pair) (Port q.0.0 0) (Port q.1.0 0) (pt e) es
+      c = known here through.cut_at h.path.passed.0 (Port q.0.0 0) es (Port q.1.0 0) h.path.passed.2 (pt e) h.path.passed.3
 
       most : length es ≤ 2 * (arity_of t r.heads.0.0 + arity_of t r.heads.1.0) + 1
       most =
-          through.short_way (signature_of t) (net_of n) (redex_at r a.0 b.0) (unused n.cells) net inside redex naming ℕ_discrete h.path.passed.0 (Port q.0.0 0) es (Port q.1.0 0) (stays_after q.0 h.first h.one) (stays_after q.1 h.second h.two) h.path.passed.2
+          known here through.short_way ℕ_discrete h.path.passed.0 (Port q.0.0 0) es (Port q.1.0 0) (stays_after q.0 h.first h.one) (stays_after q.1 h.second h.two) h.path.passed.2
 
       low : (fs : List (Point ℕ)) → ((p : Point ℕ) → IsAmong p fs → IsAmong p es) → (d : ℕ) → IsAmong (pt d) fs → e ≤ d
       low fs into d i = h.path.lowest d (h.path.passed.0, es, h.path.passed.2, into (pt d) i)
 
       by : (s : Side) (front rear : List (Point ℕ)) → Way s (pt e) front (Port q.1.0 0) → Way (other s) (pt e) rear (Port q.0.0 0) → ((p : Point ℕ) → IsAmong p front → IsAmong p es) → ((p : Point ℕ) → IsAmong p rear → IsAmong p es) →
           length front + length rear < length es → Halves e q
-      by Outer front rear x y f g less = let k = few_ends in let m = most in record {
+      by Outer front rear x y f g less = let k = few_places here in let m = most in record {
         one = q.1;
         two = q.0;
         outer = record { symbol = h.second; has = h.two; ends = front; way = x; few = omega (arith, less, k, m); low = low front f };
         inner = record { symbol = h.first; has = h.one; ends = rear; way = y; few = omega (arith, less, k, m); low = low rear g };
         are = inr refl;
       }
-      by Inner front rear x y f g less = let k = few_ends in let m = most in record {
+      by Inner front rear x y f g less = let k = few_places here in let m = most in record {
         one = q.0;
         two = q.1;
         outer = record { symbol = h.first; has = h.one; ends = rear; way = y; few = omega (arith, less, k, m); low = low rear g };
@@ -157,21 +146,20 @@ module _ (t : Tables) (n : Parts) (r : RuleParts) (a b : AgentNo) (whole : IsWho
 
   -- from a boundary end by one side one path goes to a point that stays
   pub one_from : (s : Side) (e : ℕ) (u v : Point ℕ) (es fs : List (Point ℕ)) → Stays u → Stays v → Way s (pt e) es u → Way s (pt e) fs v → (es ≡ fs) × (u ≡ v)
-  one_from s e u v es fs hu hv x y =
-      through.same_path (wire_of (signature_of t) (net_of n) (redex_at r a.0 b.0) (unused n.cells)) (IsOfPair (redex_at r a.0 b.0)) (one_wire (signature_of t) (net_of n) (redex_at r a.0 b.0) (unused n.cells) net inside redex naming) s (pt e) es fs u v hu hv x y
+  one_from s e u v es fs hu hv x y = through.same_path Wire (IsOfPair pair) (known here one_wire) s (pt e) es fs u v hu hv x y
 
   half_once : (s : Side) (e : ℕ) (z w : AgentNo) → Half s e z → Half s e w → z ≡ w
   half_once s e z w h g = agent_same z w (port_same z.0 w.0 0 0 (one_from s e (Port z.0 0) (Port w.0 0) h.ends g.ends (stays_after z h.symbol h.has) (stays_after w g.symbol g.has) h.way g.way).1)
 
   -- not both ways round
-  not_turned : (x y : AgentNo) (d e : ℕ) → IsMade t n r a b (unused n.cells) d (x, y) → IsMade t n r a b (unused n.cells) e (y, x) → ⊥
+  not_turned : (x y : AgentNo) (d e : ℕ) → Makes d (x, y) → Makes e (y, x) → ⊥
   not_turned x y d e h g =
       let one = symbol_once n r a b x h.first g.second h.one g.two in
       let two = symbol_once n r a b y h.second g.first h.two g.one in
       no_both t x y h.first h.second h.order (subst (λ (s : SymbolNo). StandsFirst t h.second s y x) (sym one) (subst (λ (s : SymbolNo). StandsFirst t s g.second y x) (sym two) g.order))
 
   -- a boundary end is the lowest of one pair
-  pub pair_once : (e : ℕ) (p q : AgentNo × AgentNo) → IsMade t n r a b (unused n.cells) e p → IsMade t n r a b (unused n.cells) e q → p ≡ q
+  pub pair_once : (e : ℕ) (p q : AgentNo × AgentNo) → Makes e p → Makes e q → p ≡ q
   pair_once e p q h g = go x.are y.are
     where
       x : Halves e p
@@ -191,14 +179,14 @@ module _ (t : Tables) (n : Parts) (r : RuleParts) (a b : AgentNo) (whole : IsWho
       go (inr u) (inr v) = u ∙ ap (λ (z : AgentNo). let w : AgentNo × AgentNo = (z, x.one) in w) two ∙ ap (λ (z : AgentNo). let w : AgentNo × AgentNo = (y.two, z) in w) one ∙ sym v
       go (inl u) (inr v) =
           let turned : q ≡ (x.two, x.one) = v ∙ ap (λ (z : AgentNo). let w : AgentNo × AgentNo = (z, y.one) in w) (sym two) ∙ ap (λ (z : AgentNo). let w : AgentNo × AgentNo = (x.two, z) in w) (sym one) in
-          absurd (not_turned x.one x.two e e (subst (IsMade t n r a b (unused n.cells) e) u h) (subst (IsMade t n r a b (unused n.cells) e) turned g))
+          absurd (not_turned x.one x.two e e (subst (Makes e) u h) (subst (Makes e) turned g))
       go (inr u) (inl v) =
           let turned : q ≡ (x.one, x.two) = v ∙ ap (λ (z : AgentNo). let w : AgentNo × AgentNo = (z, y.two) in w) (sym one) ∙ ap (λ (z : AgentNo). let w : AgentNo × AgentNo = (x.one, z) in w) (sym two) in
-          absurd (not_turned x.one x.two e e (subst (IsMade t n r a b (unused n.cells) e) turned g) (subst (IsMade t n r a b (unused n.cells) e) u h))
+          absurd (not_turned x.one x.two e e (subst (Makes e) turned g) (subst (Makes e) u h))
 
   -- two halves without a lower end make a pair, in its order
   pub is_made : (s : Side) (e : ℕ) (x y : AgentNo) (c d : SymbolNo) (es fs : List (Point ℕ)) → Way s (pt e) es (Port x.0 0) → ((l : ℕ) → IsAmong (pt l) es → e ≤ l) → Way (other s) (pt e) fs (Port y.0 0) → ((l : ℕ) → IsAmong (pt l) fs → e ≤ l) →
-      HasSymbolAfter n r a b (unused n.cells) x c → HasSymbolAfter n r a b (unused n.cells) y d → StandsFirst t c d x y → IsMade t n r a b (unused n.cells) e (x, y)
+      HasSymbol x c → HasSymbol y d → StandsFirst t c d x y → Makes e (x, y)
   is_made s e x y c d es fs h low_h g low_g one two order = record {
     first = c;
     second = d;
@@ -208,41 +196,39 @@ module _ (t : Tables) (n : Parts) (r : RuleParts) (a b : AgentNo) (whole : IsWho
     order = order;
   }
     where
-      j : through.Joins (wire_of (signature_of t) (net_of n) (redex_at r a.0 b.0) (unused n.cells)) (IsOfPair (redex_at r a.0 b.0)) (pt e) es fs (Port x.0 0) (Port y.0 0)
-      j =
-          through.join_at (signature_of t) (net_of n) (redex_at r a.0 b.0) (unused n.cells) net inside redex naming s (pt e) es (Port x.0 0) (end_of_pair (signature_of t) (net_of n) (redex_at r a.0 b.0) (unused n.cells) net inside redex naming e) h fs (Port y.0 0) g
+      j : through.Joins Wire (IsOfPair pair) (pt e) es fs (Port x.0 0) (Port y.0 0)
+      j = known here through.join_at s (pt e) es (Port x.0 0) (known here end_of_pair e) h fs (Port y.0 0) g
 
-      lowest : (l : ℕ) → PassesEnd (signature_of t) (net_of n) (redex_at r a.0 b.0) (unused n.cells) l (Port x.0 0) (Port y.0 0) → e ≤ l
+      lowest : (l : ℕ) → PassesEnd (signature_of t) (net_of n) pair name l (Port x.0 0) (Port y.0 0) → e ≤ l
       lowest l p =
-          let same =
-          (through.one_way (signature_of t) (net_of n) (redex_at r a.0 b.0) (unused n.cells) net inside redex naming p.0 j.side (Port x.0 0) (Port y.0 0) (Port y.0 0) p.1 j.ends (stays_after x c one) (stays_after y d two) (stays_after y d two) p.2 j.path).0 in
+          let two_stays = stays_after y d two in
+          let same = (known here through.one_way p.0 j.side (Port x.0 0) (Port y.0 0) (Port y.0 0) p.1 j.ends (stays_after x c one) two_stays two_stays p.2 j.path).0 in
           elim (j.only (pt l) (subst (IsAmong (pt l)) same p.3)) [
-            | inl k ↦ let m = through.pt_same (signature_of t) (net_of n) (redex_at r a.0 b.0) (unused n.cells) net inside redex naming e l k in omega (arith, m)
+            | inl k ↦ let m = known here through.pt_same e l k in omega (arith, m)
             | inr k ↦ elim k [ inl i ↦ low_h l i | inr i ↦ low_g l i ]
           ]
 
   pub end_within : (e : ℕ) → e < arity_of t r.heads.0.0 + arity_of t r.heads.1.0 → e < length r.member.free
   end_within e lt =
       let many = length-map r.member.free (λ (f : FreeEnd). f.kind) in
-      let ends = sites.redex t n r a b whole small can in
-      let all = ends.ends in
+      let all = (redex here).ends in
       omega (arith, lt, many, all)
 
   -- a lowest end of a pair is a boundary end
-  pub made_within : (e : ℕ) (q : AgentNo × AgentNo) → IsMade t n r a b (unused n.cells) e q → e < length r.member.free
+  pub made_within : (e : ℕ) (q : AgentNo × AgentNo) → Makes e q → e < length r.member.free
   made_within e q h =
-      let d = through.through_ends (signature_of t) (net_of n) (redex_at r a.0 b.0) (unused n.cells) net inside redex naming h.path.passed.0 (Port q.0.0 0) h.path.passed.1 (Port q.1.0 0) h.path.passed.2 (pt e) h.path.passed.3 in
-      let same = through.pt_same (signature_of t) (net_of n) (redex_at r a.0 b.0) (unused n.cells) net inside redex naming e d.0 d.2 in
+      let d = known here through.through_ends h.path.passed.0 (Port q.0.0 0) h.path.passed.1 (Port q.1.0 0) h.path.passed.2 (pt e) h.path.passed.3 in
+      let same = known here through.pt_same e d.0 d.2 in
       let many = length-map r.member.free (λ (f : FreeEnd). f.kind) in
       let l = d.1 in
       omega (arith, same, l, many)
 
   -- two principal ports that are joined are those of two agents
-  pub agents_differ : (x y : AgentNo) → AreJoined (signature_of t) (net_of n) (redex_at r a.0 b.0) (unused n.cells) (Port x.0 0) (Port y.0 0) → x ≢ y
+  pub agents_differ : (x y : AgentNo) → AreJoined (signature_of t) (net_of n) pair name (Port x.0 0) (Port y.0 0) → x ≢ y
   agents_differ x y j same =
-      let after = step_exists (signature_of t) (net_of n) (redex_at r a.0 b.0) (unused n.cells) net inside redex naming ℕ_discrete in
-      let is_net = stays_net.is_net (signature_of t) (net_of n) (redex_at r a.0 b.0) (unused n.cells) after.0 net inside redex after.1 ℕ_discrete in
-      is_net.apart (Port x.0 0) ((after.1.wires (Port x.0 0) (Port x.0 0)).1 (subst (λ (z : AgentNo). AreJoined (signature_of t) (net_of n) (redex_at r a.0 b.0) (unused n.cells) (Port x.0 0) (Port z.0 0)) (sym same) j))
+      let after = known here step_exists ℕ_discrete in
+      let is_net = stays_net.is_net (signature_of t) (net_of n) pair name after.0 (net here) (inside here) (redex here) after.1 ℕ_discrete in
+      is_net.apart (Port x.0 0) ((after.1.wires (Port x.0 0) (Port x.0 0)).1 (subst (λ (z : AgentNo). AreJoined (signature_of t) (net_of n) pair name (Port x.0 0) (Port z.0 0)) (sym same) j))
 
 -- ---- end by end
 
@@ -253,7 +239,7 @@ module _ (t : Tables) (s : SiteParts) where
   pub none_below : AreMadeBelow t s 0 []
   none_below = record { each = λ k q e. cc; all = λ e q lt h. absurd (omega (arith, lt)); rising = λ j k d e p q lt f g h i. cc }
 
-  pub none_more : (e : ℕ) (qs : List (AgentNo × AgentNo)) → AreMadeBelow t s e qs → ((q : AgentNo × AgentNo) → IsMade t s.net s.rule s.one s.two (unused s.net.cells) e q → ⊥) → AreMadeBelow t s (e + 1) qs
+  pub none_more : (e : ℕ) (qs : List (AgentNo × AgentNo)) → AreMadeBelow t s e qs → ((q : AgentNo × AgentNo) → Made e q → ⊥) → AreMadeBelow t s (e + 1) qs
   none_more e qs h none = record {
     each = λ k q f. (let r = h.each k q f in (r.0, (let l = r.1 in omega (arith, l)), r.2));
     all = λ d q lt m. all d q m (below_or d e lt);
@@ -264,7 +250,7 @@ module _ (t : Tables) (s : SiteParts) where
       all d q m (inl lt) = h.all d q lt m
       all d q m (inr same) = absurd (none q (subst (λ (z : ℕ). Made z q) same m))
 
-  pub one_more : (e : ℕ) (qs : List (AgentNo × AgentNo)) (p : AgentNo × AgentNo) → AreMadeBelow t s e qs → IsMade t s.net s.rule s.one s.two (unused s.net.cells) e p → ((q : AgentNo × AgentNo) → IsMade t s.net s.rule s.one s.two (unused s.net.cells) e q → q ≡ p) → AreMadeBelow t s (e + 1) (qs ++ p ∷ [])
+  pub one_more : (e : ℕ) (qs : List (AgentNo × AgentNo)) (p : AgentNo × AgentNo) → AreMadeBelow t s e qs → Made e p → ((q : AgentNo × AgentNo) → Made e q → q ≡ p) → AreMadeBelow t s (e + 1) (qs ++ p ∷ [])
   one_more e qs p h made once = record {
     each = λ k q f. each k q (more_at qs p q k f);
     all = λ d q lt m. all d q m (below_or d e lt);
@@ -290,9 +276,13 @@ module _ (t : Tables) (s : SiteParts) where
       rising j k d c x y lt m i (inr f) (inl g) = let l = slice_get_within qs k y g in let n = f.0 in absurd (omega (arith, l, n, lt))
       rising j k d c x y lt m i (inr f) (inr g) = let l = g.0 in let n = f.0 in absurd (omega (arith, l, n, lt))
 
-  pub all_ends : (e : ℕ) (qs : List (AgentNo × AgentNo)) → IsWhole s.net → IsWhole s.rule.member → CanInteract t s.net s.rule s.one s.two → AreMadeBelow t s e qs → length s.rule.member.free ≤ e → AreMadeOverEnds t s.net s.rule s.one s.two (unused s.net.cells) qs
+  pub all_ends : (e : ℕ) (qs : List (AgentNo × AgentNo)) → IsWhole s.net → IsWhole s.rule.member → Over s t → AreMadeBelow t s e qs → length s.rule.member.free ≤ e →
+      AreMadeOverEnds t s.net s.rule s.one s.two (unused s.net.cells) qs
   all_ends e qs whole small can h le = record {
     each = λ k q f. (let r = h.each k q f in (r.0, r.2));
-    all = λ d q m. h.all d q (let l = made_within t s.net s.rule s.one s.two whole small can d q m in omega (arith, l, le)) m;
+    all = λ d q m. h.all d q (let l = made_within here d q m in omega (arith, l, le)) m;
     rising = h.rising;
   }
+    where
+      here : Site
+      here = record { t = t; n = s.net; r = s.rule; a = s.one; b = s.two; whole = whole; small = small; can = can }

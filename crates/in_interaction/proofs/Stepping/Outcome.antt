@@ -11,8 +11,9 @@ use Rattle.in_interaction.specs.After.{AreCellsAfter, IsAgentAfter, StaysAt, IsN
 use Rattle.in_net.specs.Built.{IsOver, IsCellOver}
 use Rattle.in_interaction.specs.Following.{SiteParts, IsSite}
 use Rattle.in_interaction.specs.Interacting.{unused, numbers_after, CanInteract, Interacts}
-use Rattle.in_net.specs.Interactions.{IsStep, AreJoined, IsOfPair, InnerWire, Side, Outer, Inner, wire_of, stands_for, redex_at}
+use Rattle.in_net.specs.Interactions.{IsStep, AreJoined, IsOfPair, InnerWire, Side, Outer, Inner, wire_of, stands_for}
 use Rattle.in_interaction.specs.Listing.{unlisted, AreListed, HaveFewEnds}
+use Rattle.in_interaction.specs.Making.{redex_of}
 use Rattle.in_net.specs.Nets.{Point, Port, Free, IsNet, net_of, signature_of, point_of, coded_point}
 use Rattle.in_net.specs.Parts.{Parts, IsWhole, IsWireBetween, cell_in, partner_in, wire_in}
 use Rattle.in_net.specs.TextNet.{ComesBefore}
@@ -27,7 +28,7 @@ use Rattle.in_interaction.proofs.Interactions.StaysNet as stays_net
 use Rattle.in_interaction.proofs.Stepping.Cells.{numbers_fit}
 use Rattle.in_interaction.proofs.Stepping.Halves.{half}
 use Rattle.in_interaction.proofs.Stepping.Partners.{net_wire}
-use Rattle.in_interaction.proofs.Stepping.Sites.{net, inside, redex, naming}
+use Rattle.in_interaction.proofs.Stepping.Sites.{Site, at_site, net, inside, redex, naming, known}
 use Rattle.in_interaction.proofs.Stepping.Unused.{counted}
 use Rattle.in_base.proofs.Each.{at_index}
 
@@ -117,14 +118,20 @@ module _ (s : SiteParts) (site : IsSite s) (cells : List (Option Cell)) (free : 
           omega (arith, many, most)
 
   module _ (t : Tables) (can : CanInteract t s.net s.rule s.one s.two) where
-    abbrev Joined : Point ℕ → Point ℕ → Type 0
-    Joined u v = AreJoined (signature_of t) (net_of s.net) (redex_at s.rule s.one.0 s.two.0) (unused s.net.cells) u v
+    abbrev here : Site
+    here = at_site s site t can
 
-    agents_from : (y i : ℕ) → ((net_of m).symbol y ≡ Some i) → ((y ≢ s.one.0) × (y ≢ s.two.0) × ((net_of s.net).symbol y ≡ Some i)) ⊎ ((k : ℕ) × (unused s.net.cells k ≡ y) × ((net_of s.rule.member).symbol k ≡ Some i))
+    abbrev Joined : Point ℕ → Point ℕ → Type 0
+    Joined = AreJoined (signature_of t) (net_of s.net) (redex_of s) (unused s.net.cells)
+
+    -- it stays, or is new
+    abbrev IsAgent : ℕ → ℕ → Type 0
+    IsAgent y i = ((y ≢ s.one.0) × (y ≢ s.two.0) × ((net_of s.net).symbol y ≡ Some i)) ⊎ ((k : ℕ) × (unused s.net.cells k ≡ y) × ((net_of s.rule.member).symbol k ≡ Some i))
+
+    agents_from : (y i : ℕ) → ((net_of m).symbol y ≡ Some i) → IsAgent y i
     agents_from y i e = go (cell_at cells y) refl e
       where
-        go : (o : Option Cell) → cell_at cells y ≡ o → option_map (λ (s : SymbolNo). s.0) (option_map (λ (c : Cell). c.symbol) o) ≡ Some i →
-            ((y ≢ s.one.0) × (y ≢ s.two.0) × ((net_of s.net).symbol y ≡ Some i)) ⊎ ((k : ℕ) × (unused s.net.cells k ≡ y) × ((net_of s.rule.member).symbol k ≡ Some i))
+        go : (o : Option Cell) → cell_at cells y ≡ o → option_map (λ (s : SymbolNo). s.0) (option_map (λ (c : Cell). c.symbol) o) ≡ Some i → IsAgent y i
         go None is e = cc
         go (Some d) is e =
             let r = (after y).only d is in
@@ -146,7 +153,7 @@ module _ (s : SiteParts) (site : IsSite s) (cells : List (Option Cell)) (free : 
     shown : (y i : ℕ) (c : Cell) → c.symbol.0 ≡ i → (d : Cell) × (cell_at cells y ≡ Some d) × IsAgentAfter s y c d → (net_of m).symbol y ≡ Some i
     shown y i c e r = ap (λ (o : Option Cell). option_map (λ (s : SymbolNo). s.0) (option_map (λ (c : Cell). c.symbol) o)) r.1 ∙ ap (λ (s : SymbolNo). Some s.0) r.2.symbol ∙ ap (λ (z : ℕ). Some z) e
 
-    agents_to : (y i : ℕ) → ((y ≢ s.one.0) × (y ≢ s.two.0) × ((net_of s.net).symbol y ≡ Some i)) ⊎ ((k : ℕ) × (unused s.net.cells k ≡ y) × ((net_of s.rule.member).symbol k ≡ Some i)) → (net_of m).symbol y ≡ Some i
+    agents_to : (y i : ℕ) → IsAgent y i → (net_of m).symbol y ≡ Some i
     agents_to y i (inl h) = let c = cell_of s.net y i h.2 in shown y i c.0 c.2 ((after y).stays c.0 (record { there = c.1; one = h.0; two = h.1 }))
     agents_to y i (inr h) =
         let c = cell_of s.rule.member h.0 i h.2 in
@@ -182,7 +189,7 @@ module _ (s : SiteParts) (site : IsSite s) (cells : List (Option Cell)) (free : 
         go None is e = cc
         go (Some c) is e = (c, is, slice_get_within c.ends i (coded_point w) e)
 
-    outer_there : (u w : Point ℕ) → (IsOfPair (redex_at s.rule s.one.0 s.two.0) u → ⊥) → (net_of s.net).partner u ≡ Some w → (v : Point ℕ) × ((net_of m).partner u ≡ Some v)
+    outer_there : (u w : Point ℕ) → (IsOfPair (redex_of s) u → ⊥) → (net_of s.net).partner u ≡ Some w → (v : Point ℕ) × ((net_of m).partner u ≡ Some v)
     outer_there (Port y i) w stays e =
         let c = port_cell s.net y i w e in
         ends_there y i c.0 c.2 ((after y).stays c.0 (record { there = c.1; one = λ z. stays (inl z); two = λ z. stays (inr z) }))
@@ -195,34 +202,29 @@ module _ (s : SiteParts) (site : IsSite s) (cells : List (Option Cell)) (free : 
             let g = at_index free k (let l = slice_get_within s.net.free k f is in omega (arith, l, many)) in
             (point_of g.0.end, ap (λ (o : Option FreeEnd). option_map point_of (option_map (λ (f : FreeEnd). f.end) o)) g.1)
 
-    inner_there : (u w : Point ℕ) → (IsOfPair (redex_at s.rule s.one.0 s.two.0) u → ⊥) → InnerWire (signature_of t) (redex_at s.rule s.one.0 s.two.0) (unused s.net.cells) u w → (v : Point ℕ) × ((net_of m).partner u ≡ Some v)
+    inner_there : (u w : Point ℕ) → (IsOfPair (redex_of s) u → ⊥) → InnerWire (signature_of t) (redex_of s) (unused s.net.cells) u w → (v : Point ℕ) × ((net_of m).partner u ≡ Some v)
     inner_there u w stays h = go h.0 h.2 h.4
       where
-        go : (p : Point ℕ) → stands_for (signature_of t) (redex_at s.rule s.one.0 s.two.0) (unused s.net.cells) p ≡ u → (net_of s.rule.member).partner p ≡ Some h.1 → (v : Point ℕ) × ((net_of m).partner u ≡ Some v)
+        go : (p : Point ℕ) → stands_for (signature_of t) (redex_of s) (unused s.net.cells) p ≡ u → (net_of s.rule.member).partner p ≡ Some h.1 → (v : Point ℕ) × ((net_of m).partner u ≡ Some v)
         go (Port k i) is e =
             let c = port_cell s.rule.member k i h.1 e in
             subst (λ (z : Point ℕ). (v : Point ℕ) × ((net_of m).partner z ≡ Some v)) is (ends_there (unused s.net.cells k) i c.0 c.2 ((after (unused s.net.cells k)).fresh c.0 (new_at k c.0 c.1)))
         go (Free e) is f =
-            absurd (stays (subst (IsOfPair (redex_at s.rule s.one.0 s.two.0)) is (end_of_pair (signature_of t) (net_of s.net) (redex_at s.rule s.one.0 s.two.0) (unused s.net.cells) (net t s.net s.rule s.one s.two site.whole site.member can) (inside t s.net s.rule s.one s.two site.whole site.member can)
-            (redex t s.net s.rule s.one s.two site.whole site.member can) (naming t s.net s.rule s.one s.two site.whole site.member can) e)))
+            absurd (stays (subst (IsOfPair (redex_of s)) is (known here end_of_pair e)))
 
     wires_to : (u v : Point ℕ) → Joined u v → (net_of m).partner u ≡ Some v
     wires_to u v j =
-        let a = net t s.net s.rule s.one s.two site.whole site.member can in
-        let b = inside t s.net s.rule s.one s.two site.whole site.member can in
-        let x = redex t s.net s.rule s.one s.two site.whole site.member can in
-        let n = naming t s.net s.rule s.one s.two site.whole site.member can in
-        let first = first_wire (signature_of t) (net_of s.net) (redex_at s.rule s.one.0 s.two.0) (unused s.net.cells) a b x n j.2.0 u j.2.1 v j.2.2 in
+        let first = known here first_wire j.2.0 u j.2.1 v j.2.2 in
         let w : (w : Point ℕ) × ((net_of m).partner u ≡ Some w) = by_side j.2.0 first.0 first.1 in
-        w.1 ∙ ap (λ (z : Point ℕ). Some z) (joined_once (signature_of t) (net_of s.net) (redex_at s.rule s.one.0 s.two.0) (unused s.net.cells) a b x n u w.0 v (wires_from u w.0 w.1) j)
+        w.1 ∙ ap (λ (z : Point ℕ). Some z) (known here joined_once u w.0 v (wires_from u w.0 w.1) j)
       where
-        by_side : (side : Side) (w : Point ℕ) → wire_of (signature_of t) (net_of s.net) (redex_at s.rule s.one.0 s.two.0) (unused s.net.cells) side u w → (w : Point ℕ) × ((net_of m).partner u ≡ Some w)
+        by_side : (side : Side) (w : Point ℕ) → wire_of (signature_of t) (net_of s.net) (redex_of s) (unused s.net.cells) side u w → (w : Point ℕ) × ((net_of m).partner u ≡ Some w)
         by_side Outer w h = outer_there u w j.0 h
         by_side Inner w h = inner_there u w j.0 h
 
-    pub step : IsStep (signature_of t) (net_of s.net) (redex_at s.rule s.one.0 s.two.0) (unused s.net.cells) (net_of m)
+    pub step : IsStep (signature_of t) (net_of s.net) (redex_of s) (unused s.net.cells) (net_of m)
     step = record {
-      naming = naming t s.net s.rule s.one s.two site.whole site.member can;
+      naming = naming here;
       agents = λ y i. (agents_from y i, agents_to y i);
       wires = λ u v. (wires_from u v, wires_to u v);
       free = map_same (λ (f : FreeEnd). f.kind) free s.net.free frees.many (λ k g f a b. (frees.each k f g a b).kind);
@@ -242,9 +244,7 @@ module _ (s : SiteParts) (site : IsSite s) (cells : List (Option Cell)) (free : 
             (subst (λ (z : SymbolNo). z.0 < length t.names) same before.0, r.2.many ∙ before.1 ∙ ap (λ (z : SymbolNo). arity_of t z.0 + 1) same)
 
     is_net : IsNet (signature_of t) (net_of m)
-    is_net =
-        stays_net.is_net (signature_of t) (net_of s.net) (redex_at s.rule s.one.0 s.two.0) (unused s.net.cells) (net_of m) (net t s.net s.rule s.one s.two site.whole site.member can) (inside t s.net s.rule s.one s.two site.whole site.member can)
-        (redex t s.net s.rule s.one s.two site.whole site.member can) step ℕ_discrete
+    is_net = stays_net.is_net (signature_of t) (net_of s.net) (redex_of s) (unused s.net.cells) (net_of m) (net here) (inside here) (redex here) step ℕ_discrete
 
   -- ---- it is whole
 

@@ -1,7 +1,6 @@
 -- The partners of points that stay and of new agents' ports, as the paths land.
-use Rattle.std.proofs.Common.{◌≡◌, ◌<◌, ◌≤◌, ◌+◌, ◌*◌, ℕ, Option, Some, None, IsSomeAnd, length, slice_get, refl, sym, subst, ap, ◌∙◌, arith}
+use Rattle.std.proofs.Common.{◌≡◌, ◌<◌, ◌≤◌, ℕ, Option, Some, None, IsSomeAnd, length, slice_get, refl, sym, subst, ap, ◌∙◌, arith}
 use Rattle.std.specs.Prelude.{option_map}
-use Rattle.in_syntax.specs.Grammar.{max_ports}
 use Rattle.in_symbols.specs.Tables.{Tables, arity_of}
 use Rattle.in_symbols.specs.declared.symbols.SymbolNo.{SymbolNo}
 use Rattle.in_net.specs.declared.nets.AgentNo.{AgentNo}
@@ -10,21 +9,23 @@ use Rattle.in_net.specs.declared.nets.Point as coded
 use Rattle.in_net.specs.declared.nets.Point.TheVariants as code
 use Rattle.in_interaction.specs.Following.{SiteParts, IsSite, IsOld, Lands, most_turns, port_of}
 use Rattle.in_interaction.specs.Interacting.{unused, CanInteract}
-use Rattle.in_net.specs.Interactions.{AreJoined, redex_at}
-use Rattle.in_net.specs.Nets.{Point, Port, Free, IsPoint, IsNet, net_of, signature_of, point_of, coded_point}
+use Rattle.in_net.specs.Interactions.{AreJoined}
+use Rattle.in_interaction.specs.Making.{end_point, redex_of}
+use Rattle.in_net.specs.Nets.{Point, Port, Free, IsPoint, net_of, signature_of, point_of, coded_point}
 use Rattle.in_net.specs.Parts.{Parts, cell_in, partner_in}
 use Rattle.in_net.proofs.Public.{has_partner, cell_within, round_point, round_code, map_is}
-use Rattle.in_interaction.proofs.Stepping.Sites.{net, inside, redex, naming, first_is, agent_ends}
+use Rattle.in_interaction.proofs.Stepping.Sites.{Site, at_site, first_is}
 use Rattle.in_interaction.proofs.Stepping.Landing as landing
 
 -- partners of the code are partners of the net
 pub net_wire : (n : Parts) (p q : coded.Point) → partner_in n p ≡ Some q → (net_of n).partner (point_of p) ≡ Some (point_of q)
 net_wire n p q e = ap (λ (z : coded.Point). option_map point_of (partner_in n z)) (round_code p) ∙ ap (option_map point_of) e
 
-module _ (s : SiteParts) (site : IsSite s) where
-  abbrev name : ℕ → ℕ
-  name = unused s.net.cells
+-- joined by an alternating path
+abbrev Joined : Tables → SiteParts → Point ℕ → Point ℕ → Type 0
+Joined t s = AreJoined (signature_of t) (net_of s.net) (redex_of s) (unused s.net.cells)
 
+module _ (s : SiteParts) (site : IsSite s) where
   pub named : (t : Tables) (k i : ℕ) → IsPoint (signature_of t) (net_of s.rule.member) (Port k i) → slice_get s.names k ≡ Some (record { 0 = unused s.net.cells k })
   named t k i h = go (cell_in s.rule.member k) refl h
     where
@@ -41,50 +42,36 @@ module _ (s : SiteParts) (site : IsSite s) where
       go (Some c) is h = let m = cell_within s.rule.member.cells l.0 c is in let n = site.many in site.names l.0 (omega (arith, m, n))
 
   module _ (t : Tables) (can : CanInteract t s.net s.rule s.one s.two) where
-    small : arity_of t s.rule.heads.0.0 + arity_of t s.rule.heads.1.0 ≤ 2 * max_ports
-    small =
-        let a = agent_ends t s.net can.net s.one.0 s.rule.heads.0 can.one in
-        let b = agent_ends t s.net can.net s.two.0 s.rule.heads.1 can.two in
-        let l = site.whole.ports s.one.0 a.0 a.1 in
-        let m = site.whole.ports s.two.0 b.0 b.1 in
-        omega (arith, l, m, a.3, b.3)
-
-    abbrev is_net : IsNet (signature_of t) (net_of s.net)
-    is_net = net t s.net s.rule s.one s.two site.whole site.member can
+    abbrev here : Site
+    here = at_site s site t can
 
     -- .. as the landing lemmas have it
-    pub outer_at : (p q : coded.Point) → IsOld s p → partner_in s.net p ≡ Some q → (v : Point ℕ) × AreJoined (signature_of t) (net_of s.net) (redex_at s.rule s.one.0 s.two.0) (unused s.net.cells) (point_of p) v × Lands s most_turns q (coded_point v)
+    pub outer_at : (p q : coded.Point) → IsOld s p → partner_in s.net p ≡ Some q → (v : Point ℕ) × Joined t s (point_of p) v × Lands s most_turns q (coded_point v)
     outer_at p q old e =
-        let r = landing.outer_lands (signature_of t) s.net s.rule s.one.0 s.two.0 s.names (unused s.net.cells) (net t s.net s.rule s.one s.two site.whole site.member can) (inside t s.net s.rule s.one s.two site.whole site.member can)
-        (redex t s.net s.rule s.one s.two site.whole site.member can) (naming t s.net s.rule s.one s.two site.whole site.member can) (named t) small (point_of p) (point_of q) old.1 (net_wire s.net p q e) in
-        let here : Lands s most_turns (coded_point (point_of q)) (coded_point r.0) =
-        subst (λ (z : ℕ). Lands (record { net = s.net; rule = s.rule; one = s.one; two = s.two; first = z; names = s.names }) most_turns (coded_point (point_of q)) (coded_point r.0)) (first_is s site t can) r.2 in
-        (r.0, r.1, subst (λ (z : coded.Point). Lands s most_turns z (coded_point r.0)) (round_code q) here)
+        let r = landing.outer_lands here s.names (named t) (point_of p) (point_of q) old.1 (net_wire s.net p q e) in
+        let lands : Lands s most_turns (coded_point (point_of q)) (coded_point r.0) =
+        subst (λ (z : ℕ). Lands (record s { first = z }) most_turns (coded_point (point_of q)) (coded_point r.0)) (first_is s site t can) r.2 in
+        (r.0, r.1, subst (λ (z : coded.Point). Lands s most_turns z (coded_point r.0)) (round_code q) lands)
 
-    pub inner_port : (k l : AgentNo) (i j : ℕ) → partner_in s.rule.member (code.Port k i) ≡ Some (code.Port l j) →
-        AreJoined (signature_of t) (net_of s.net) (redex_at s.rule s.one.0 s.two.0) (unused s.net.cells) (Port (unused s.net.cells k.0) i) (Port (unused s.net.cells l.0) j)
+    pub inner_port : (k l : AgentNo) (i j : ℕ) → partner_in s.rule.member (code.Port k i) ≡ Some (code.Port l j) → Joined t s (Port (unused s.net.cells k.0) i) (Port (unused s.net.cells l.0) j)
     inner_port k l i j e =
-        let r = landing.inner_lands (signature_of t) s.net s.rule s.one.0 s.two.0 s.names (unused s.net.cells) (net t s.net s.rule s.one s.two site.whole site.member can) (inside t s.net s.rule s.one s.two site.whole site.member can)
-        (redex t s.net s.rule s.one s.two site.whole site.member can) (naming t s.net s.rule s.one s.two site.whole site.member can) (named t) small k.0 i (Port l.0 j) (net_wire s.rule.member (code.Port k i) (code.Port l j) e) in
-        subst (AreJoined (signature_of t) (net_of s.net) (redex_at s.rule s.one.0 s.two.0) (unused s.net.cells) (Port (unused s.net.cells k.0) i)) (sym r.2) r.1
+        let r = landing.inner_lands here s.names (named t) k.0 i (Port l.0 j) (net_wire s.rule.member (code.Port k i) (code.Port l j) e) in
+        subst (Joined t s (Port (unused s.net.cells k.0) i)) (sym r.2) r.1
 
     pub inner_free : (k : AgentNo) (i e : ℕ) → partner_in s.rule.member (code.Port k i) ≡ Some (code.Free e) →
-        (v : Point ℕ) × AreJoined (signature_of t) (net_of s.net) (redex_at s.rule s.one.0 s.two.0) (unused s.net.cells) (Port (unused s.net.cells k.0) i) v
+        (v : Point ℕ) × Joined t s (Port (unused s.net.cells k.0) i) v
         × ((r : coded.Point) × (partner_in s.net (port_of s.one s.two s.first e) ≡ Some r) × Lands s most_turns r (coded_point v))
     inner_free k i e w =
-        let r = landing.inner_lands (signature_of t) s.net s.rule s.one.0 s.two.0 s.names (unused s.net.cells) (net t s.net s.rule s.one s.two site.whole site.member can) (inside t s.net s.rule s.one s.two site.whole site.member can)
-        (redex t s.net s.rule s.one s.two site.whole site.member can) (naming t s.net s.rule s.one s.two site.whole site.member can) (named t) small k.0 i (Free e) (net_wire s.rule.member (code.Port k i) (code.Free e) w) in
-        let port = landing.port_is (signature_of t) s.net s.rule s.one.0 s.two.0 s.names (unused s.net.cells) (net t s.net s.rule s.one s.two site.whole site.member can) (inside t s.net s.rule s.one s.two site.whole site.member can)
-        (redex t s.net s.rule s.one s.two site.whole site.member can) (naming t s.net s.rule s.one s.two site.whole site.member can) (named t) e in
+        let r = landing.inner_lands here s.names (named t) k.0 i (Free e) (net_wire s.rule.member (code.Port k i) (code.Free e) w) in
+        let port = landing.port_is here e in
         let first = first_is s site t can in
         let out : partner_in s.net (port_of s.one s.two s.first e) ≡ Some (coded_point r.2.0) =
-        ap (λ (z : ℕ). partner_in s.net (port_of s.one s.two z e)) (sym first) ∙ ap (partner_in s.net) port ∙ map_is (partner_in s.net (coded_point (landing.pt (signature_of t) s.net s.rule s.one.0 s.two.0 s.names (unused s.net.cells) e))) r.2.0 r.2.1 in (
+        ap (λ (z : ℕ). partner_in s.net (port_of s.one s.two z e)) (sym first) ∙ ap (partner_in s.net) port ∙ map_is (partner_in s.net (coded_point (end_point t s e))) r.2.0 r.2.1 in (
           r.0,
           r.1,
-          (coded_point r.2.0, out, subst (λ (z : ℕ). Lands (record { net = s.net; rule = s.rule; one = s.one; two = s.two; first = z; names = s.names }) most_turns (coded_point r.2.0) (coded_point r.0)) first r.2.2),
+          (coded_point r.2.0, out, subst (λ (z : ℕ). Lands (record s { first = z }) most_turns (coded_point r.2.0) (coded_point r.0)) first r.2.2),
         )
 
 -- the point at which a path lands is that one's partner
-pub partner_is : (s : SiteParts) (t : Tables) (u v : Point ℕ) (p : coded.Point) → p ≡ coded_point v → AreJoined (signature_of t) (net_of s.net) (redex_at s.rule s.one.0 s.two.0) (unused s.net.cells) u v →
-    AreJoined (signature_of t) (net_of s.net) (redex_at s.rule s.one.0 s.two.0) (unused s.net.cells) u (point_of p)
-partner_is s t u v p e h = subst (AreJoined (signature_of t) (net_of s.net) (redex_at s.rule s.one.0 s.two.0) (unused s.net.cells) u) (sym (ap point_of e ∙ round_point v)) h
+pub partner_is : (s : SiteParts) (t : Tables) (u v : Point ℕ) (p : coded.Point) → p ≡ coded_point v → Joined t s u v → Joined t s u (point_of p)
+partner_is s t u v p e h = subst (Joined t s u) (sym (ap point_of e ∙ round_point v)) h

@@ -8,12 +8,13 @@ use Rattle.in_symbols.specs.Tables.{Tables}
 use Rattle.in_symbols.specs.declared.symbols.SymbolNo.{SymbolNo}
 use Rattle.in_net.specs.ActivePairs.{IsOrdered}
 use Rattle.in_interaction.specs.Following.{SiteParts, IsSite, end_of, port_of}
-use Rattle.in_interaction.specs.Interacting.{unused, CanInteract}
+use Rattle.in_interaction.specs.Interacting.{unused}
 use Rattle.in_net.specs.Interactions.{Side, Outer, Inner, other, IsOfPair}
 use Rattle.in_interaction.specs.Made.{HasSymbolAfter, IsMade}
-use Rattle.in_interaction.specs.Making.{IsSymbolAfter, IsPairAtEnd, SiteWire, Leaves, LandsAt, LandsNowhere, NoneLower, IsOnWay, end_point, redex_of, most_wires, principal_of}
+use Rattle.in_interaction.specs.Making.{IsSymbolAfter, IsPairAtEnd, SiteWire, Leaves, Over, LeadsTo, LandsAt, LandsNowhere, NoneLower, IsOnWay, end_point, redex_of, most_wires, principal_of}
 use Rattle.in_net.specs.Nets.{Point, Port, Free, IsPoint, net_of, signature_of, point_of, coded_point}
 use Rattle.in_net.specs.Parts.{IsPointOf, symbol_in, partner_in}
+use Rattle.in_interaction.specs.declared.making.Reached.TheVariants.{End, Staying}
 use Rattle.in_net.specs.declared.nets.AgentNo.{AgentNo}
 use Rattle.in_net.specs.declared.nets.FreeEnd.{FreeEnd}
 use Rattle.in_net.specs.declared.nets.Point as coded
@@ -25,7 +26,7 @@ use Rattle.in_interaction.proofs.Interactions.Through as through
 use Rattle.in_interaction.proofs.Stepping.Landing as landing
 use Rattle.in_interaction.proofs.Stepping.Making as making
 use Rattle.in_interaction.proofs.Stepping.Partners.{net_wire, named}
-use Rattle.in_interaction.proofs.Stepping.Sites.{net, inside, redex, naming, first_is}
+use Rattle.in_interaction.proofs.Stepping.Sites.{Site, at_site, inside, redex, known, first_is}
 use Rattle.in_base.proofs.Places.{some_same}
 use Rattle.in_interaction.proofs.Stepping.Unused.{unused_apart}
 
@@ -33,56 +34,56 @@ port_agent_of : (x y : AgentNo) (i j : ℕ) → ◌≡◌ {A = coded.Point} (cod
 port_agent_of x y i j e = cc
 
 module _ (s : SiteParts) (site : IsSite s) where
-  module _ (t : Tables) (can : CanInteract t s.net s.rule s.one s.two) where
+  abbrev Stays : Point ℕ → Type 0
+  Stays u = IsOfPair (redex_of s) u → ⊥
+
+  abbrev HasSymbol : AgentNo → SymbolNo → Type 0
+  HasSymbol = HasSymbolAfter s.net s.rule s.one s.two (unused s.net.cells)
+
+  -- the outer wire of a boundary end, as the code looks for it
+  abbrev HasOuter : ℕ → coded.Point → Type 0
+  HasOuter e p = partner_in s.net (port_of s.one s.two s.first e) ≡ Some p
+
+  module _ (t : Tables) (can : Over s t) where
+    abbrev here : Site
+    here = at_site s site t can
+
     port_there : (e : ℕ) → port_of s.one s.two s.first e ≡ coded_point (end_point t s e)
-    port_there e =
-        ap (λ (z : ℕ). port_of s.one s.two z e) (sym (first_is s site t can))
-        ∙ landing.port_is (signature_of t) s.net s.rule s.one.0 s.two.0 s.names (unused s.net.cells) (net t s.net s.rule s.one s.two site.whole site.member can) (inside t s.net s.rule s.one s.two site.whole site.member can)
-        (redex t s.net s.rule s.one s.two site.whole site.member can) (naming t s.net s.rule s.one s.two site.whole site.member can) (named s site t) e
+    port_there e = ap (λ (z : ℕ). port_of s.one s.two z e) (sym (first_is s site t can)) ∙ landing.port_is here e
 
     end_there : (e : ℕ) → end_of s.one s.two s.first (coded_point (end_point t s e)) ≡ Some e
-    end_there e =
-        ap (λ (z : ℕ). end_of s.one s.two z (coded_point (end_point t s e))) (sym (first_is s site t can))
-        ∙ landing.end_at (signature_of t) s.net s.rule s.one.0 s.two.0 s.names (unused s.net.cells) (net t s.net s.rule s.one s.two site.whole site.member can) (inside t s.net s.rule s.one s.two site.whole site.member can)
-        (redex t s.net s.rule s.one s.two site.whole site.member can) (naming t s.net s.rule s.one s.two site.whole site.member can) (named s site t) e
+    end_there e = ap (λ (z : ℕ). end_of s.one s.two z (coded_point (end_point t s e))) (sym (first_is s site t can)) ∙ landing.end_at here e
 
-    no_end : (v : Point ℕ) → (IsOfPair (redex_of s) v → ⊥) → end_of s.one s.two s.first (coded_point v) ≡ None
-    no_end v h =
-        ap (λ (z : ℕ). end_of s.one s.two z (coded_point v)) (sym (first_is s site t can))
-        ∙ landing.end_none (signature_of t) s.net s.rule s.one.0 s.two.0 s.names (unused s.net.cells) (net t s.net s.rule s.one s.two site.whole site.member can) (inside t s.net s.rule s.one s.two site.whole site.member can)
-        (redex t s.net s.rule s.one s.two site.whole site.member can) (naming t s.net s.rule s.one s.two site.whole site.member can) (named s site t) v h
+    no_end : (v : Point ℕ) → Stays v → end_of s.one s.two s.first (coded_point v) ≡ None
+    no_end v h = ap (λ (z : ℕ). end_of s.one s.two z (coded_point v)) (sym (first_is s site t can)) ∙ landing.end_none here v h
 
-    pub end_wire : (e : ℕ) (p : coded.Point) → partner_in s.net (port_of s.one s.two s.first e) ≡ Some p → SiteWire t s Outer (end_point t s e) (point_of p)
+    pub end_wire : (e : ℕ) (p : coded.Point) → HasOuter e p → SiteWire t s Outer (end_point t s e) (point_of p)
     end_wire e p w = net_wire s.net (coded_point (end_point t s e)) p (ap (partner_in s.net) (sym (port_there e)) ∙ w)
 
     -- the outer wire of a boundary end leads to a point that stays, or to another boundary end
-    next_outer : (e : ℕ) (p : coded.Point) → partner_in s.net (port_of s.one s.two s.first e) ≡ Some p → (IsOfPair (redex_of s) (point_of p) → ⊥) ⊎ ((d : ℕ) × (d < length s.rule.member.free) × (point_of p ≡ end_point t s d))
+    next_outer : (e : ℕ) (p : coded.Point) → HasOuter e p → Stays (point_of p) ⊎ ((d : ℕ) × (d < length s.rule.member.free) × (point_of p ≡ end_point t s d))
     next_outer e p w =
-        let n = net t s.net s.rule s.one s.two site.whole site.member can in
-        let i = inside t s.net s.rule s.one s.two site.whole site.member can in
-        let x = redex t s.net s.rule s.one s.two site.whole site.member can in
-        let m = naming t s.net s.rule s.one s.two site.whole site.member can in
-        elim (outer_next (signature_of t) (net_of s.net) (redex_of s) (unused s.net.cells) n i x m ℕ_discrete (end_point t s e) (point_of p) (end_wire e p w)
-        (not_principal (signature_of t) (net_of s.net) (redex_of s) (unused s.net.cells) n i x m ℕ_discrete e s.one.0)
-        (not_principal (signature_of t) (net_of s.net) (redex_of s) (unused s.net.cells) n i x m ℕ_discrete e s.two.0)) [
+        let port = known here not_principal ℕ_discrete e in
+        elim (known here outer_next ℕ_discrete (end_point t s e) (point_of p) (end_wire e p w) (port s.one.0) (port s.two.0)) [
           | inl h ↦ inl h
-          | inr d ↦ inr (d.0, making.end_within t s.net s.rule s.one s.two site.whole site.member can d.0 d.1, d.2)
+          | inr d ↦ inr (d.0, making.end_within here d.0 d.1, d.2)
         ]
 
-    pub outer_end : (e f : ℕ) (p : coded.Point) → partner_in s.net (port_of s.one s.two s.first e) ≡ Some p → end_of s.one s.two s.first p ≡ Some f → (f < length s.rule.member.free) × SiteWire t s Outer (end_point t s e) (end_point t s f)
+    pub outer_end : (e f : ℕ) (p : coded.Point) → HasOuter e p → end_of s.one s.two s.first p ≡ Some f → (f < length s.rule.member.free) × SiteWire t s Outer (end_point t s e) (end_point t s f)
     outer_end e f p w is = go (next_outer e p w)
       where
-        here : end_of s.one s.two s.first (coded_point (point_of p)) ≡ Some f
-        here = ap (end_of s.one s.two s.first) (round_code p) ∙ is
+        found : end_of s.one s.two s.first (coded_point (point_of p)) ≡ Some f
+        found = ap (end_of s.one s.two s.first) (round_code p) ∙ is
 
-        go : (IsOfPair (redex_of s) (point_of p) → ⊥) ⊎ ((d : ℕ) × (d < length s.rule.member.free) × (point_of p ≡ end_point t s d)) → (f < length s.rule.member.free) × SiteWire t s Outer (end_point t s e) (end_point t s f)
-        go (inl h) = absurd (none-some f (sym (no_end (point_of p) h) ∙ here))
+        go : Stays (point_of p) ⊎ ((d : ℕ) × (d < length s.rule.member.free) × (point_of p ≡ end_point t s d)) →
+            (f < length s.rule.member.free) × SiteWire t s Outer (end_point t s e) (end_point t s f)
+        go (inl h) = absurd (none-some f (sym (no_end (point_of p) h) ∙ found))
         go (inr d) =
-            let same : d.0 ≡ f = some_same (end_of s.one s.two s.first (coded_point (point_of p))) d.0 f (ap (λ (z : Point ℕ). end_of s.one s.two s.first (coded_point z)) d.2 ∙ end_there d.0) here in
+            let same : d.0 ≡ f = some_same (end_of s.one s.two s.first (coded_point (point_of p))) d.0 f (ap (λ (z : Point ℕ). end_of s.one s.two s.first (coded_point z)) d.2 ∙ end_there d.0) found in
             let l = d.1 in
             (omega (arith, l, same), subst (SiteWire t s Outer (end_point t s e)) (d.2 ∙ ap (end_point t s) same) (end_wire e p w))
 
-    pub outer_stays : (e : ℕ) (p : coded.Point) → partner_in s.net (port_of s.one s.two s.first e) ≡ Some p → end_of s.one s.two s.first p ≡ None → IsOfPair (redex_of s) (point_of p) → ⊥
+    pub outer_stays : (e : ℕ) (p : coded.Point) → HasOuter e p → end_of s.one s.two s.first p ≡ None → Stays (point_of p)
     outer_stays e p w is = elim (next_outer e p w) [
       | inl h ↦ h
       | inr d ↦ absurd (none-some d.0 (sym is ∙ ap (end_of s.one s.two s.first) (sym (round_code p)) ∙ ap (λ (z : Point ℕ). end_of s.one s.two s.first (coded_point z)) d.2 ∙ end_there d.0))
@@ -93,40 +94,35 @@ module _ (s : SiteParts) (site : IsSite s) where
 
     agent_there : (e i : ℕ) (k : AgentNo) → partner_in s.rule.member (code.Free e) ≡ Some (code.Port k i) → IsPoint (signature_of t) (net_of s.rule.member) (Port k.0 i)
     agent_there e i k w =
-        let n = inside t s.net s.rule s.one s.two site.whole site.member can in
+        let n = inside here in
         n.points (Port k.0 i) (Free e) (n.back (Free e) (Port k.0 i) (net_wire s.rule.member (code.Free e) (code.Port k i) w))
 
     pub inner_named : (e i : ℕ) (k : AgentNo) → partner_in s.rule.member (code.Free e) ≡ Some (code.Port k i) → slice_get s.names k.0 ≡ Some (record { 0 = unused s.net.cells k.0 })
     inner_named e i k w = named s site t k.0 i (agent_there e i k w)
 
-    pub inner_stays : (e i : ℕ) (k y : AgentNo) → partner_in s.rule.member (code.Free e) ≡ Some (code.Port k i) → record { 0 = unused s.net.cells k.0 } ≡ y → SiteWire t s Inner (end_point t s e) (Port y.0 i) × (IsOfPair (redex_of s) (Port y.0 i) → ⊥)
-    inner_stays e i k y w same = subst (λ (z : AgentNo). SiteWire t s Inner (end_point t s e) (Port z.0 i) × (IsOfPair (redex_of s) (Port z.0 i) → ⊥)) same (
+    pub inner_stays : (e i : ℕ) (k y : AgentNo) → partner_in s.rule.member (code.Free e) ≡ Some (code.Port k i) → record { 0 = unused s.net.cells k.0 } ≡ y →
+        SiteWire t s Inner (end_point t s e) (Port y.0 i) × Stays (Port y.0 i)
+    inner_stays e i k y w same = subst (λ (z : AgentNo). SiteWire t s Inner (end_point t s e) (Port z.0 i) × Stays (Port z.0 i)) same (
       (Free e, Port k.0 i, refl, refl, net_wire s.rule.member (code.Free e) (code.Port k i) w),
-      not_pair (signature_of t) (net_of s.net) (redex_of s) (unused s.net.cells) (net t s.net s.rule s.one s.two site.whole site.member can) (inside t s.net s.rule s.one s.two site.whole site.member can)
-          (redex t s.net s.rule s.one s.two site.whole site.member can) (naming t s.net s.rule s.one s.two site.whole site.member can) k.0 i (agent_there e i k w),
+      known here not_pair k.0 i (agent_there e i k w),
     )
 
     pub is_pair_end : (e : ℕ) → IsOfPair (redex_of s) (end_point t s e)
-    is_pair_end e =
-        end_of_pair (signature_of t) (net_of s.net) (redex_of s) (unused s.net.cells) (net t s.net s.rule s.one s.two site.whole site.member can) (inside t s.net s.rule s.one s.two site.whole site.member can)
-        (redex t s.net s.rule s.one s.two site.whole site.member can) (naming t s.net s.rule s.one s.two site.whole site.member can) e
+    is_pair_end e = known here end_of_pair e
 
     one_wire_at : (side : Side) (u v w : Point ℕ) → SiteWire t s side u v → SiteWire t s side u w → v ≡ w
-    one_wire_at =
-        one_wire (signature_of t) (net_of s.net) (redex_of s) (unused s.net.cells) (net t s.net s.rule s.one s.two site.whole site.member can) (inside t s.net s.rule s.one s.two site.whole site.member can)
-        (redex t s.net s.rule s.one s.two site.whole site.member can) (naming t s.net s.rule s.one s.two site.whole site.member can)
+    one_wire_at = known here one_wire
 
     -- a path from a boundary end whose wire leads to another goes on from there
-    pub goes_on : (side : Side) (e f : ℕ) (es : List (Point ℕ)) (v : Point ℕ) → SiteWire t s side (end_point t s e) (end_point t s f) → Leaves t s side e es v → (fs : List (Point ℕ)) × (es ≡ end_point t s f ∷ fs) × Leaves t s (other side) f fs v
+    pub goes_on : (side : Side) (e f : ℕ) (es : List (Point ℕ)) (v : Point ℕ) → SiteWire t s side (end_point t s e) (end_point t s f) → Leaves t s side e es v →
+        (fs : List (Point ℕ)) × (es ≡ end_point t s f ∷ fs) × Leaves t s (other side) f fs v
     goes_on side e f [] v w h = absurd (h.1 (subst (IsOfPair (redex_of s)) (one_wire_at side (end_point t s e) (end_point t s f) v w h.0) (is_pair_end f)))
     goes_on side e f (g ∷ fs) v w h =
         let same : g ≡ end_point t s f = one_wire_at side (end_point t s e) g (end_point t s f) h.0.0 w in
-        (fs, ap (λ (z : Point ℕ). z ∷ fs) same, subst (λ (z : Point ℕ). Leaves t s (other side) f fs v) same (subst (λ (z : Point ℕ). making.Way t s.net s.rule s.one s.two site.whole site.member can (other side) z fs v) same h.0.2, h.1))
+        (fs, ap (λ (z : Point ℕ). z ∷ fs) same, subst (λ (z : Point ℕ). Leaves t s (other side) f fs v) same (subst (λ (z : Point ℕ). making.Way here (other side) z fs v) same h.0.2, h.1))
 
     end_same : (d e : ℕ) → end_point t s d ≡ end_point t s e → d ≡ e
-    end_same =
-        through.pt_same (signature_of t) (net_of s.net) (redex_of s) (unused s.net.cells) (net t s.net s.rule s.one s.two site.whole site.member can) (inside t s.net s.rule s.one s.two site.whole site.member can)
-        (redex t s.net s.rule s.one s.two site.whole site.member can) (naming t s.net s.rule s.one s.two site.whole site.member can)
+    end_same = known here through.pt_same
 
     pub low_more : (e f : ℕ) (fs : List (Point ℕ)) → e ≤ f → NoneLower t s e fs → NoneLower t s e (end_point t s f ∷ fs)
     low_more e f fs le low d (inl same) = let k = end_same f d same in omega (arith, k, le)
@@ -137,11 +133,9 @@ module _ (s : SiteParts) (site : IsSite s) where
   port_is_point e lt =
       let t = site.over.0 in
       let can = site.over.1 in
-      let x = redex t s.net s.rule s.one s.two site.whole site.member can in
       let many = length-map s.rule.member.free (λ (f : FreeEnd). f.kind) in
-      let all = x.ends in
-      let r = outer_at (signature_of t) (net_of s.net) (redex_of s) (unused s.net.cells) (net t s.net s.rule s.one s.two site.whole site.member can) (inside t s.net s.rule s.one s.two site.whole site.member can) x
-      (naming t s.net s.rule s.one s.two site.whole site.member can) ℕ_discrete e (omega (arith, lt, many, all)) in
+      let all = (redex (here t can)).ends in
+      let r = known (here t can) outer_at ℕ_discrete e (omega (arith, lt, many, all)) in
       subst (IsPointOf s.net) (sym (port_there t can e)) (has_partner s.net (coded_point (end_point t s e)) (coded_point r.0) (map_is (partner_in s.net (coded_point (end_point t s e))) r.0 r.1))
 
   -- ---- wire by wire
@@ -153,15 +147,15 @@ module _ (s : SiteParts) (site : IsSite s) where
     behind = λ t can fs v h low. (fs, h, low);
   }
 
-  pub next_turn : (side by : Side) (e at count f : ℕ) → IsOnWay s side e by at count → (f < length s.rule.member.free) × ((t : Tables) → CanInteract t s.net s.rule s.one s.two → SiteWire t s by (end_point t s at) (end_point t s f)) → e ≤ f →
-      IsOnWay s side e (other by) f (count + 1)
+  pub next_turn : (side by : Side) (e at count f : ℕ) → IsOnWay s side e by at count → LeadsTo s by at (End f) → e ≤ f → IsOnWay s side e (other by) f (count + 1)
   next_turn side by e at count f on to le = record {
     within = to.0;
     ahead = λ t can es v h. ahead t can es v (on.ahead t can es v h);
     behind = λ t can fs v h low. on.behind t can (end_point t s f ∷ fs) v ((to.1 t can, is_pair_end t can f, h.0), h.1) (low_more t can e f fs le low);
   }
     where
-      ahead : (t : Tables) → CanInteract t s.net s.rule s.one s.two → (es : List (Point ℕ)) (v : Point ℕ) → (gs : List (Point ℕ)) × Leaves t s by at gs v × (length gs + count ≤ length es) × ((p : Point ℕ) → IsAmong p gs → IsAmong p es) →
+      ahead : (t : Tables) → Over s t → (es : List (Point ℕ)) (v : Point ℕ) →
+          (gs : List (Point ℕ)) × Leaves t s by at gs v × (length gs + count ≤ length es) × ((p : Point ℕ) → IsAmong p gs → IsAmong p es) →
           (fs : List (Point ℕ)) × Leaves t s (other by) f fs v × (length fs + (count + 1) ≤ length es) × ((p : Point ℕ) → IsAmong p fs → IsAmong p es)
       ahead t can es v g =
           let r = goes_on t can by at f g.0 v (to.1 t can) g.1 in
@@ -170,11 +164,11 @@ module _ (s : SiteParts) (site : IsSite s) where
           (r.0, r.2, omega (arith, many, most), (λ p i. g.3 p (subst (IsAmong p) (sym r.1) (inr i))))
 
   -- it has come to a point that stays
-  pub has_landed : (side by : Side) (e at count : ℕ) (p : coded.Point) → IsOnWay s side e by at count → ((t : Tables) → CanInteract t s.net s.rule s.one s.two → SiteWire t s by (end_point t s at) (point_of p) × (IsOfPair (redex_of s) (point_of p) → ⊥)) → LandsAt s side e p
+  pub has_landed : (side by : Side) (e at count : ℕ) (p : coded.Point) → IsOnWay s side e by at count → LeadsTo s by at (Staying p) → LandsAt s side e p
   has_landed side by e at count p on to = λ t can. on.behind t can [] (point_of p) (to t can) (λ d i. absurd i)
 
   -- .. to a lower end
-  pub too_low : (side by : Side) (e at count f : ℕ) → IsOnWay s side e by at count → (f < length s.rule.member.free) × ((t : Tables) → CanInteract t s.net s.rule s.one s.two → SiteWire t s by (end_point t s at) (end_point t s f)) → f < e → LandsNowhere s side e
+  pub too_low : (side by : Side) (e at count f : ℕ) → IsOnWay s side e by at count → LeadsTo s by at (End f) → f < e → LandsNowhere s side e
   too_low side by e at count f on to lt = λ t can es v h few. (
       let g = on.ahead t can es v h in
       let r = goes_on t can by at f g.0 v (to.1 t can) g.1 in
@@ -197,19 +191,19 @@ module _ (s : SiteParts) (site : IsSite s) where
 
   -- ---- the pair of a boundary end
 
-  module _ (t : Tables) (can : CanInteract t s.net s.rule s.one s.two) where
+  module _ (t : Tables) (can : Over s t) where
     abbrev Made : ℕ → AgentNo × AgentNo → Type 0
     Made = IsMade t s.net s.rule s.one s.two (unused s.net.cells)
 
     abbrev Half : Side → ℕ → AgentNo → Type 0
-    Half = making.Half t s.net s.rule s.one s.two site.whole site.member can
+    Half = making.Half (here t can)
 
     half_of : (side : Side) (e : ℕ) (q : AgentNo × AgentNo) → Made e q → (z : AgentNo) × Half side e z
-    half_of Outer e q h = let r = making.halves t s.net s.rule s.one s.two site.whole site.member can e q h in (r.one, r.outer)
-    half_of Inner e q h = let r = making.halves t s.net s.rule s.one s.two site.whole site.member can e q h in (r.two, r.inner)
+    half_of Outer e q h = let r = making.halves (here t can) e q h in (r.one, r.outer)
+    half_of Inner e q h = let r = making.halves (here t can) e q h in (r.two, r.inner)
 
-    stays : (y : AgentNo) (z : SymbolNo) → HasSymbolAfter s.net s.rule s.one s.two (unused s.net.cells) y z → IsOfPair (redex_of s) (Port y.0 0) → ⊥
-    stays = making.stays_after t s.net s.rule s.one s.two site.whole site.member can
+    stays : (y : AgentNo) (z : SymbolNo) → HasSymbol y z → Stays (Port y.0 0)
+    stays = making.stays_after (here t can)
 
     pub nowhere : (side : Side) (e : ℕ) → LandsNowhere s side e → (q : AgentNo × AgentNo) → Made e q → ⊥
     nowhere side e lost q h =
@@ -222,7 +216,7 @@ module _ (s : SiteParts) (site : IsSite s) where
     landed : (side : Side) (e : ℕ) (p : coded.Point) → LandsAt s side e p → (z : AgentNo) → Half side e z → p ≡ code.Port z 0
     landed side e p at z h =
         let l = at t can in
-        let one = (making.one_from t s.net s.rule s.one s.two site.whole site.member can side e (point_of p) (Port z.0 0) l.0 h.ends l.1.1 (stays z h.symbol h.has) l.1.0 h.way).1 in
+        let one = (making.one_from (here t can) side e (point_of p) (Port z.0 0) l.0 h.ends l.1.1 (stays z h.symbol h.has) l.1.0 h.way).1 in
         sym (round_code p) ∙ ap coded_point one
 
     pub not_principal_port : (side : Side) (e : ℕ) (p : coded.Point) → LandsAt s side e p → principal_of p ≡ None → (q : AgentNo × AgentNo) → Made e q → ⊥
@@ -230,33 +224,32 @@ module _ (s : SiteParts) (site : IsSite s) where
         let r = half_of side e q h in
         none-some r.0 (sym none ∙ ap principal_of (landed side e p at r.0 r.1))
 
-    pub no_symbol_there : (side : Side) (e : ℕ) (x : AgentNo) → LandsAt s side e (code.Port x 0) → ((z : SymbolNo) → HasSymbolAfter s.net s.rule s.one s.two (unused s.net.cells) x z → ⊥) → (q : AgentNo × AgentNo) → Made e q → ⊥
+    pub no_symbol_there : (side : Side) (e : ℕ) (x : AgentNo) → LandsAt s side e (code.Port x 0) → ((z : SymbolNo) → HasSymbol x z → ⊥) → (q : AgentNo × AgentNo) → Made e q → ⊥
     no_symbol_there side e x at none q h =
         let r = half_of side e q h in
         let same = port_agent_of x r.0 0 0 (landed side e (code.Port x 0) at r.0 r.1) in
-        none r.1.symbol (subst (λ (y : AgentNo). HasSymbolAfter s.net s.rule s.one s.two (unused s.net.cells) y r.1.symbol) (sym same) r.1.has)
+        none r.1.symbol (subst (λ (y : AgentNo). HasSymbol y r.1.symbol) (sym same) r.1.has)
 
     pub differ : (e : ℕ) (x y : AgentNo) → LandsAt s Outer e (code.Port x 0) → LandsAt s Inner e (code.Port y 0) → x ≢ y
     differ e x y outer inner =
         let o = outer t can in
         let i = inner t can in
-        let j = through.join_at (signature_of t) (net_of s.net) (redex_of s) (unused s.net.cells) (net t s.net s.rule s.one s.two site.whole site.member can) (inside t s.net s.rule s.one s.two site.whole site.member can)
-        (redex t s.net s.rule s.one s.two site.whole site.member can) (naming t s.net s.rule s.one s.two site.whole site.member can) Outer (end_point t s e) o.0 (Port x.0 0) (is_pair_end t can e) o.1.0 i.0 (Port y.0 0) i.1.0 in
-        making.agents_differ t s.net s.rule s.one s.two site.whole site.member can x y (o.1.1, i.1.1, (j.side, j.ends, j.path))
+        let j = known (here t can) through.join_at Outer (end_point t s e) o.0 (Port x.0 0) (is_pair_end t can e) o.1.0 i.0 (Port y.0 0) i.1.0 in
+        making.agents_differ (here t can) x y (o.1.1, i.1.1, (j.side, j.ends, j.path))
 
-    pub pair_there : (e : ℕ) (x y : AgentNo) (c d : SymbolNo) (q : AgentNo × AgentNo) → LandsAt s Outer e (code.Port x 0) → LandsAt s Inner e (code.Port y 0) → HasSymbolAfter s.net s.rule s.one s.two (unused s.net.cells) x c → HasSymbolAfter s.net s.rule s.one s.two (unused s.net.cells) y d →
+    pub pair_there : (e : ℕ) (x y : AgentNo) (c d : SymbolNo) (q : AgentNo × AgentNo) → LandsAt s Outer e (code.Port x 0) → LandsAt s Inner e (code.Port y 0) → HasSymbol x c → HasSymbol y d →
         IsOrdered t (x, c) (y, d) q → Made e q × ((p : AgentNo × AgentNo) → Made e p → p ≡ q)
-    pair_there e x y c d q outer inner one two order = (here order, (λ p h. making.pair_once t s.net s.rule s.one s.two site.whole site.member can e p q h (here order)))
+    pair_there e x y c d q outer inner one two order = (made order, (λ p h. making.pair_once (here t can) e p q h (made order)))
       where
-        here : IsOrdered t (x, c) (y, d) q → Made e q
-        here (inl h) =
+        made : IsOrdered t (x, c) (y, d) q → Made e q
+        made (inl h) =
             let o = outer t can in
             let i = inner t can in
-            subst (Made e) (sym h.0) (making.is_made t s.net s.rule s.one s.two site.whole site.member can Outer e x y c d o.0 i.0 o.1.0 o.2 i.1.0 i.2 one two h.1)
-        here (inr h) =
+            subst (Made e) (sym h.0) (making.is_made (here t can) Outer e x y c d o.0 i.0 o.1.0 o.2 i.1.0 i.2 one two h.1)
+        made (inr h) =
             let o = outer t can in
             let i = inner t can in
-            subst (Made e) (sym h.0) (making.is_made t s.net s.rule s.one s.two site.whole site.member can Inner e y x d c i.0 o.0 i.1.0 i.2 o.1.0 o.2 two one h.1)
+            subst (Made e) (sym h.0) (making.is_made (here t can) Inner e y x d c i.0 o.0 i.1.0 i.2 o.1.0 o.2 two one h.1)
 
 pub principal_is : (p : coded.Point) (o : Option AgentNo) (x : AgentNo) → o ≡ principal_of p → o ≡ Some x → p ≡ code.Port x 0
 principal_is (code.Port y zero) o x is e = let same : y ≡ x = cc in ap (λ (z : AgentNo). code.Port z 0) same
@@ -265,7 +258,7 @@ principal_is (code.Free k) o x is e = cc
 
 -- ---- what is answered at a boundary end
 
-pub no_pair : (t : Tables) (s : SiteParts) (e : ℕ) (o : Option (AgentNo × AgentNo)) → o ≡ None → ((q : AgentNo × AgentNo) → IsMade t s.net s.rule s.one s.two (unused s.net.cells) e q → ⊥) → IsPairAtEnd t s e o
+pub no_pair : (t : Tables) (s : SiteParts) (e : ℕ) (o : Option (AgentNo × AgentNo)) → o ≡ None → IsPairAtEnd t s e None → IsPairAtEnd t s e o
 no_pair t s e o is h = subst (IsPairAtEnd t s e) (sym is) h
 
 pub lands_there : (s : SiteParts) (side : Side) (e : ℕ) (p : coded.Point) (o : Option AgentNo) (x : AgentNo) → LandsAt s side e p → o ≡ principal_of p → o ≡ Some x → LandsAt s side e (code.Port x 0)

@@ -1,5 +1,5 @@
 -- The active pair of a listed wire.
-use Rattle.std.proofs.Common.{◌≡◌, ◌≢◌, ◌⊎◌, inl, inr, ℕ, Some, None, sym, ap, subst, ◌∙◌}
+use Rattle.std.proofs.Common.{◌≡◌, ◌≢◌, inl, inr, ℕ, Some, None, sym, ap, subst, ◌∙◌}
 use Rattle.in_base.proofs.Places.{some_same}
 use Rattle.in_symbols.specs.Tables.{Tables}
 use Rattle.in_symbols.specs.declared.symbols.SymbolNo.{SymbolNo}
@@ -7,7 +7,7 @@ use Rattle.in_net.specs.ActivePairs.{AreActive, IsOrdered, IsActivePair, JoinsAg
 use Rattle.in_net.specs.declared.nets.AgentNo.{AgentNo}
 use Rattle.in_net.specs.declared.nets.Point.{Point}
 use Rattle.in_net.specs.declared.nets.Point.TheVariants.{Port}
-use Rattle.in_net.specs.Parts.{Parts, IsWhole, symbol_in, partner_in, wire_in}
+use Rattle.in_net.specs.Parts.{Parts, IsWhole, symbol_in, wire_in}
 use Rattle.in_net.specs.Laws.{WiresJoinOnePair}
 use Rattle.in_net.proofs.AtPairs.ActivePairs.{differ, flipped, there}
 

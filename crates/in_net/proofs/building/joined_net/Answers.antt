@@ -30,7 +30,7 @@ returns-in-Some c =
     let is = c.requires.read in
     let clear = c.requires.clear in
     let ready = net_ready source t c.requires.readable.tabled c.requires.readable.faultless c.requires.readable.order in
-    let g = good source t c.args.reading.now c.requires.readable.sized c.requires.readable.order c.requires.readable.tabled c.requires.readable.faultless is clear in
+    let g = good source t c.args.reading.now c.requires.readable is clear in
     let closed : (joining_of c.args.reading.now).closed ≡ Some c.in-Some.place = sym (ap (λ j. j.closed) c.in_ok-joined.ensures) ∙ c.in-Some.is in
     let found : (joining_of (reading_of t (body_of source.net))).closed ≡ Some c.in-Some.place = sym (ap (λ r. (joining_of r).closed) is) ∙ closed in
     subst (λ f. Builds source t (Err f)) (sym c.closed_at.ensures) (
