@@ -56,7 +56,7 @@ fn workers_option<'a>(alloc: Global) -> Arg<'a>
         .value_name("N")
         .help("The workers that share the interactions, 1 to 64")
         .action(ArgAction::Set)
-        .value_parser(value_parser!(u64).range(1..=MOST_WORKERS as u64))
+        .value_parser(value_parser!(u64).range(1..=MOST_WORKERS as i64))
         .default_value("1")
 }
 
@@ -70,7 +70,7 @@ fn limit_option<'a>(alloc: Global) -> Arg<'a>
         .value_name("N")
         .help("The most interactions, 0 to 1000000000000")
         .action(ArgAction::Set)
-        .value_parser(value_parser!(u64).range(0..=MOST_INTERACTIONS))
+        .value_parser(value_parser!(u64).range(0..=MOST_INTERACTIONS as i64))
         .default_value("1000000")
 }
 
@@ -84,7 +84,7 @@ fn cells_option<'a>(alloc: Global) -> Arg<'a>
         .value_name("N")
         .help("The cells for agents of each size, 16 to 1048576")
         .action(ArgAction::Set)
-        .value_parser(value_parser!(u64).range(LEAST_CELLS as u64..=MOST_CELLS as u64))
+        .value_parser(value_parser!(u64).range(LEAST_CELLS as i64..=MOST_CELLS as i64))
         .default_value("65536")
 }
 

@@ -4,9 +4,7 @@ ghost use Rattle.std.specs.Prelude.{◌≤◌};
 use crate::asked::Asked;
 use in_check::Checked;
 use in_print::write_net;
-use in_rounds::{
-    CellClass, LEAST_CELLS, MOST_CELLS, Machine, Room, Sharing, Worked, phase,
-};
+use in_rounds::{CellClass, LEAST_CELLS, MOST_CELLS, Machine, Room, Sharing, Worked, phase};
 use in_syntax::MemoryOut;
 use in_test_programs::Look;
 use std::alloc::Global;

@@ -162,9 +162,12 @@ impl Search {
         let node = near as usize;
         let left = port as u8;
         if node == candidate.node {
-            let to = None;
             let apart = part.wired.class(node, place as usize) != class;
-            return Ok(apart.then_some(Meeting { from, port: left, to }));
+            return Ok(apart.then_some(Meeting {
+                from,
+                port: left,
+                to: None,
+            }));
         }
         if !part.nodes.has(node) {
             return Ok(None);
@@ -179,8 +182,12 @@ impl Search {
             })?;
             return Ok(None);
         };
-        let to = Some(mark.place);
-        Ok((mark.class != class).then_some(Meeting { from, port: left, to }))
+        let apart = mark.class != class;
+        Ok(apart.then_some(Meeting {
+            from,
+            port: left,
+            to: Some(mark.place),
+        }))
     }
 
     /// Reaches what the ports of the candidate lead to, each by its class.
