@@ -1,13 +1,13 @@
 -- A net whose agents were copied stands beside the net that was there.
 use Rattle.std.proofs.Common.{◌≡◌, ◌⊎◌, inl, inr, ◌≤◌, ◌<◌, ◌+◌, ◌-◌, ℕ, zero, suc, true, false, Option, Some, None, List, [], ◌∷◌, ◌++◌, length, map, slice_get, refl, sym, ap, subst, ◌∙◌, length-append, arith}
-use Rattle.std.specs.Prelude.{option_map, IsSome}
+use Rattle.std.specs.Prelude.{option_map}
 use Rattle.std.proofs.lemmas.Bool.{cases_lt}
 use Rattle.std.proofs.lemmas.List.{length-map, map-append}
 use Rattle.std.proofs.lemmas.Option.{same_Some, slice_get-map, slice_get_within}
 use Rattle.in_base.proofs.Each.{at_index}
 use Rattle.in_base.proofs.Places.{kept_at}
 use Rattle.in_arena.specs.Arenas.{ArenaView, state_at}
-use Rattle.in_arena.specs.States.{State, Vacant, Leased, Live, IsLive, end_at, word_of}
+use Rattle.in_arena.specs.States.{IsLive, end_at, word_of}
 use Rattle.in_arena.specs.declared.content.CellNo.{CellNo}
 use Rattle.in_arena.specs.declared.content.End.{End}
 use Rattle.in_arena.specs.declared.content.End.TheVariants.{Cell, Free as FreeEnd}
@@ -19,7 +19,7 @@ use Rattle.in_glue.specs.Laws.{KeepsApart}
 use Rattle.in_glue.proofs.Public.{mapped}
 use Rattle.in_joining.specs.Shown.{IsShown, point_of}
 use Rattle.in_parts.specs.Leading.{StandBeside}
-use Rattle.in_moving.specs.Copying.{AreAllLive, IsCopied, moved, moved_end, name_in, number_in}
+use Rattle.in_moving.specs.Copying.{AreAllLive, IsCopied, moved_end, name_in, number_in}
 use Rattle.in_moving.specs.Laws.{moved_point, ShowsAll, AreRenumbered, number_of, leads_to, AreEndsOfBoth, CopiesStandBeside, ends_of, one_after_other, CopiesFollow}
 use Rattle.in_moving.proofs.Shown.{word_moved, end_moved, point_moved, end_live, NamedOr, named_or}
 use Rattle.in_moving.proofs.Written.{moved_live}

@@ -128,7 +128,7 @@ abbrev pub BesidePartsAreAlike : Type 0
 BesidePartsAreAlike = (p : System) (one two one_too two_too n : Net ℕ) (name name_too : ℕ → ℕ) (ends : List (ℕ × ℕ)) →
     IsNet p.symbols one → IsNet p.symbols two → IsNet p.symbols one_too → IsNet p.symbols two_too →
     StandBeside one two name ends n → StandBeside one_too two_too name_too ends n → ((y : ℕ) → one.symbol y ≡ one_too.symbol y) →
-    IsRenamed (λ y. y) one one_too × ((f : ℕ → ℕ) × IsRenamed f two two_too)
+    IsRenamed (λ y. y) one one_too × (f : ℕ → ℕ) × IsRenamed f two two_too
 
 -- what two nets are side by side is one net, up to the names of its agents
 abbrev pub BesideIsOne : Type 0

@@ -3,16 +3,14 @@ use Rattle.std.proofs.Common.{◌≡◌, ◌<◌, ◌≤◌, ◌+◌, ℕ, zero,
 use Rattle.std.specs.VecDeque.{deque_capacity}
 use Rattle.std.proofs.lemmas.List.{length-map, length-take-le, map-append}
 use Rattle.in_arena.specs.Arenas.{ArenaView, NoneLeased, state_at}
-use Rattle.in_arena.specs.States.{State, Vacant, Leased, Live}
 use Rattle.in_arena.specs.declared.content.CellNo.{CellNo}
 use Rattle.in_arena.specs.declared.content.End.{End}
-use Rattle.in_arena.specs.declared.content.End.TheVariants.{Cell, Free}
 use Rattle.in_symbols.specs.declared.symbols.PortType.{PortType}
 use Rattle.in_net.specs.declared.nets.FreeEnd.{FreeEnd}
 use Rattle.in_net.specs.Nets.{Net}
 use Rattle.in_interaction.specs.Queues.{both}
 use Rattle.in_check.specs.Programs.{Program}
-use Rattle.in_moving.specs.Copying.{IsCopied, IsListOfLive, moved, moved_end, name_in, number_in}
+use Rattle.in_moving.specs.Copying.{IsCopied, IsListOfLive, moved_end, name_in, number_in}
 use Rattle.in_moving.specs.Laws.{one_after_other}
 use Rattle.in_moving.specs.TakingOut.{AreNumberedAnew}
 use Rattle.in_moving.proofs.Public.{copies_follow, state_same}

@@ -23,7 +23,6 @@ use Rattle.in_compile.specs.Cells.{agents_of}
 use Rattle.in_reducer.specs.Machines.{point_at}
 use Rattle.in_reducer.specs.Standing.{agent_in, agents_in, leading_to, IsNetIn}
 use Rattle.in_reducer.proofs.Counted.{all_cells}
-use Rattle.in_reducer.proofs.Shown.{same_many}
 
 -- what is read at a number that is there
 pub read_at : {X : Type 0} (xs : List X) (k : ℕ) (x : X) → k < length xs → x ≡ get_or xs k x → slice_get xs k ≡ Some x

@@ -5,11 +5,11 @@ use Rattle.std.proofs.lemmas.Bool.Decides.{eqb_tells, nat_tests}
 use Rattle.std.proofs.lemmas.List.{length-map}
 use Rattle.std.proofs.lemmas.Option.{same_Some}
 use Rattle.in_arena.specs.Arenas.{ArenaView, changed, state_at}
-use Rattle.in_arena.specs.States.{State, Vacant, Leased, Live, IsLive, word_of, end_at, places}
+use Rattle.in_arena.specs.States.{State, Vacant, Leased, IsLive, word_of, end_at, places}
 use Rattle.in_arena.specs.declared.content.CellNo.{CellNo}
 use Rattle.in_arena.specs.declared.content.End.{End}
 use Rattle.in_arena.specs.declared.content.End.TheVariants as end
-use Rattle.in_arena.proofs.Public.{state_inside, live_inside, word_live}
+use Rattle.in_arena.proofs.Public.{live_inside, word_live}
 use Rattle.in_symbols.specs.Tables.{Tables, arity_of}
 use Rattle.in_net.specs.declared.nets.Point as coded
 use Rattle.in_net.specs.declared.nets.Point.TheVariants as code

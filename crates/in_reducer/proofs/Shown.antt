@@ -24,7 +24,7 @@ use Rattle.in_joining.specs.Shown.{point_of, stands_at, IsShown}
 use Rattle.in_joining.proofs.Public.{place_within}
 use Rattle.in_reducer.specs.Machines.{point_at}
 use Rattle.in_reducer.specs.Standing.{agent_in, agents_in, leading_to}
-use Rattle.in_cutting.proofs.Public.{end_there, mapped_some}
+use Rattle.in_cutting.proofs.Public.{end_there as end_some, mapped_some}
 
 -- ---- cells
 
@@ -115,7 +115,7 @@ module _ (t : Tables) (a : ArenaView) (fs : List FreeEnd) (es : List End) (net :
 
       forth : (i : ℕ) → i < places (state_at a y) → i < suc (arity_of t s)
       forth i l =
-          let some : IsSome ((net_of (seen a fs es)).partner (Port y i)) = subst IsSome (sym (partner_seen a fs es (Port y i))) (mapped_some point_of (end_at (state_at a y) i) (end_there (state_at a y) i l)) in
+          let some : IsSome ((net_of (seen a fs es)).partner (Port y i)) = subst IsSome (sym (partner_seen a fs es (Port y i))) (mapped_some point_of (end_at (state_at a y) i) (end_some (state_at a y) i l)) in
           let v = has_value ((net_of (seen a fs es)).partner (Port y i)) some in
           let p = net.points (Port y i) v.0 v.1 in
           go ((net_of (seen a fs es)).symbol y) symbol p

@@ -1,14 +1,13 @@
 -- What is split off, and what is glued on, is determined but for the numbers that agents get.
-use Rattle.std.proofs.Common.{◌≡◌, ◌⊎◌, inl, inr, ◌+◌, ◌<◌, ℕ, zero, suc, Option, Some, None, List, [], ◌∷◌, length, map, slice_get, refl, sym, subst, ap, ◌∙◌, arith}
+use Rattle.std.proofs.Common.{◌≡◌, inl, inr, ◌+◌, ◌<◌, ℕ, Option, Some, None, List, length, map, slice_get, refl, sym, subst, ap, ◌∙◌, arith}
 use Rattle.std.proofs.lemmas.List.{length-map}
 use Rattle.std.proofs.lemmas.Option.{slice_get_within}
 use Rattle.in_arena.specs.declared.content.CellClass.{CellClass}
 use Rattle.in_arena.specs.declared.content.CellNo.{CellNo}
-use Rattle.in_net.specs.Nets.{Net, IsNet}
+use Rattle.in_net.specs.Nets.{IsNet}
 use Rattle.in_net.proofs.Public.{all_same}
 use Rattle.in_check.specs.Programs.{Program}
-use Rattle.in_check.specs.Runs.{IsRenamed}
-use Rattle.in_check.specs.Systems.{System, system_of}
+use Rattle.in_check.specs.Systems.{system_of}
 use Rattle.in_compile.specs.Cells.{agents_of, count_of}
 use Rattle.in_glue.proofs.Public.{at_outer}
 use Rattle.in_moving.proofs.Public.{NamedOr, named_or}
@@ -31,7 +30,7 @@ same_below {X} xs ys w many many_too at = all_same xs ys (λ e. go e (slice_get 
     go e None None f g = f ∙ sym g
 
 module _ (m rest part rest_too part_too : MachineParts) (agents : List CellNo) (own cuts size : ℕ) (off : IsSplitOff m agents own cuts size rest part) (off_too : IsSplitOff m agents own cuts size rest_too part_too) where
-  ends : List (ℕ × ℕ)
+  abbrev ends : List (ℕ × ℕ)
   ends = ends_of_two own cuts
 
   same_symbol : (y : ℕ) → (net_in rest).symbol y ≡ (net_in rest_too).symbol y

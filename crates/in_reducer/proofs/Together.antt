@@ -4,14 +4,12 @@ use Rattle.std.specs.Prelude.{All, option_map}
 use Rattle.std.specs.VecDeque.{deque_capacity}
 use Rattle.std.proofs.Math.Seq.{take-append_seam}
 use Rattle.std.proofs.lemmas.List.{length-map, length-take-le}
-use Rattle.std.proofs.lemmas.Bool.Decides.{nat_tests}
 use Rattle.std.proofs.lemmas.Option.{same_Some}
 use native.Mathlib.Decide.{ℕ_discrete}
-use Rattle.in_arena.specs.Arenas.{ArenaView, NoneLeased, free_of, state_at}
-use Rattle.in_arena.specs.Classes.{Holds, holds, IsNumberOf}
+use Rattle.in_arena.specs.Arenas.{ArenaView, NoneLeased, state_at}
+use Rattle.in_arena.specs.Classes.{holds, IsNumberOf}
 use Rattle.in_arena.specs.States.{Vacant, Leased, IsLeased, places, word_of}
 use Rattle.in_arena.specs.declared.content.CellClass.{CellClass}
-use Rattle.in_arena.specs.declared.content.CellClass.TheVariants.{Small, Large, Wide}
 use Rattle.in_arena.specs.declared.content.CellNo.{CellNo}
 use Rattle.in_arena.specs.declared.content.End.{End}
 use Rattle.in_arena.specs.declared.content.End.TheVariants as end
@@ -44,13 +42,11 @@ use Rattle.in_reducer.specs.Inside.{KeepsNet, declared_as, most_ends, own_free, 
 use Rattle.in_reducer.specs.Machines.{MachineParts, parts_of}
 use Rattle.in_reducer.specs.Reducers.{IsReducer}
 use Rattle.in_reducer.specs.Standing.{AreLeasedAlike, IsNetIn, agents_in, at_rest, leading_to, vacant_in}
-use Rattle.in_reducer.proofs.AtRest.{rests}
 use Rattle.in_reducer.proofs.Counted.{cells_at_rest}
 use Rattle.in_reducer.proofs.LiveCounted.{agents_listed}
 use Rattle.in_reducer.proofs.QueueBeside.{queue_beside}
 use Rattle.in_reducer.proofs.Queues.{short_queue}
 use Rattle.in_reducer.proofs.Shown.{is_over, is_shown, partner_seen, places_seen, same_kinds, same_many, same_names, symbol_seen}
-use Rattle.in_reducer.proofs.Stepped.{free_is}
 use Rattle.in_reducer.proofs.StillNet.{IsGood, good_of, net_in as net_stays}
 use Rattle.in_reducer.proofs.SplitCells.{vacant_is, to_holds}
 

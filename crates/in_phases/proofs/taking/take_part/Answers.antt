@@ -23,7 +23,7 @@ pub split-requires-clause-branch : goal.split-requires-clause-branch
 split-requires-clause-branch c =
     let b = c.gather.new.self in
     gathered_on c.args.reducer.now c.cut_off-cuts.new.reducer (times_stay c.args.reducer.now c.cut_off-cuts.new.reducer c.cut_off-cuts.result c.cut_off-cuts.ensures.cuts) b.agents.items b.marks.items
-    c.in-Ok.ensures
+    c.in-Ok.ensures.branch
 
 pub split-requires-clause-cuts : goal.split-requires-clause-cuts
 split-requires-clause-cuts c =

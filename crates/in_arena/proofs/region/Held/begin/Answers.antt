@@ -1,4 +1,4 @@
-use Rattle.std.proofs.Common.{◌≡◌, ◌∙◌, ◌≤◌, map, take, length, ap, arith}
+use Rattle.std.proofs.Common.{◌∙◌, map, take, arith}
 use Rattle.std.proofs.lemmas.List.{length-map, length-take-le}
 use Rattle.in_arena.specs.Contents.{end_of}
 use Rattle.in_arena.specs.declared.content.Content.{Content}

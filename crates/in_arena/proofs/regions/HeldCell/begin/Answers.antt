@@ -1,5 +1,5 @@
 use Rattle.std.proofs.Common.{◌≡◌, ◌+◌, ◌*◌, ℕ, length, sym, ap, ◌∙◌}
-use Rattle.in_arena.specs.Arenas.{LeaseView, written}
+use Rattle.in_arena.specs.Arenas.{written}
 use Rattle.in_arena.specs.ByClass.{held_view, cell_view}
 use Rattle.in_arena.specs.Classes.{class_no}
 use Rattle.in_arena.specs.Regions.{IsSameCell, state}

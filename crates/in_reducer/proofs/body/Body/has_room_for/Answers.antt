@@ -1,4 +1,4 @@
-use Rattle.std.proofs.Common.{◌≡◌, ap, ◌∙◌, arith}
+use Rattle.std.proofs.Common.{ap, ◌∙◌, arith}
 use Rattle.std.specs.Prelude.{not}
 use Rattle.in_arena.specs.Arenas.{ArenaView, free_of}
 use Rattle.in_check.specs.Programs.{Program}

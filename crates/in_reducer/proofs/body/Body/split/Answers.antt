@@ -1,14 +1,11 @@
-use Rattle.std.proofs.Common.{◌≡◌, ◌<◌, ◌+◌, ◌*◌, ℕ, List, length, map, take, slice_get, refl, sym, ap, subst, ◌∙◌, arith}
-use Rattle.std.specs.List.{filter}
+use Rattle.std.proofs.Common.{◌≡◌, ◌<◌, ◌+◌, ◌*◌, ℕ, List, length, take, slice_get, refl, sym, ap, subst, ◌∙◌, arith}
 use Rattle.std.proofs.lemmas.List.{length-take-le}
-use Rattle.in_arena.specs.declared.content.CellNo.{CellNo}
 use Rattle.in_arena.specs.declared.content.End.{End}
 use Rattle.in_arena.specs.declared.content.End.TheVariants.{Free}
-use Rattle.in_interaction.specs.Queues.{both}
 use Rattle.in_moving.specs.Copying.{IsCopied, IsEndWithin, moved_end, name_in, number_in}
 use Rattle.in_reducer.specs.declared.body.OwnEnd.{OwnEnd}
 use Rattle.in_reducer.specs.Parting.{place_of_two}
-use Rattle.in_reducer.specs.Splitting.{ArePicked, ArePickedWithRoom, LosesPart, goes}
+use Rattle.in_reducer.specs.Splitting.{ArePicked, ArePickedWithRoom, LosesPart}
 use Rattle.in_reducer.proofs.SplitBefore as before
 use Rattle.in_reducer.proofs.SplitCells as cells
 use Rattle.in_reducer.proofs.SplitKept as kept

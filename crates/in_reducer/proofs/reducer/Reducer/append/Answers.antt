@@ -1,5 +1,4 @@
-use Rattle.std.proofs.Common.{◌≡◌, ◌<◌, ◌+◌, ℕ, length, sym, ap, ◌∙◌, arith}
-use Rattle.in_moving.specs.Copying.{number_in}
+use Rattle.std.proofs.Common.{◌≡◌, ◌+◌, ℕ, length, ap, ◌∙◌, arith}
 use Rattle.in_reducer.specs.Machines.{MachineParts}
 use Rattle.in_reducer.proofs.CutOff.{free_many}
 use Rattle.in_reducer.proofs.reducer.Reducer.append.Goals as goal
