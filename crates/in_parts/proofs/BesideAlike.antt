@@ -123,10 +123,10 @@ module _ (p : System) (m : Net ℕ) (ends : List (ℕ × ℕ)) where
           );
       agents = λ y s. (
         (λ e. (
-            back i y,
-            port_agent (over i (back i y)) y 0 0 (back_and_over i (Port y 0) (is_some ((part b i).symbol y) s e)),
-            (agent_over b a turned i y s e).1
-            )),
+          back i y,
+          port_agent (over i (back i y)) y 0 0 (back_and_over i (Port y 0) (is_some ((part b i).symbol y) s e)),
+          (agent_over b a turned i y s e).1,
+        )),
         (λ w. sym (ap (part b i).symbol w.1) ∙ (agent_over a b same i w.0 s w.2).1),
       );
       wires = λ u v. (

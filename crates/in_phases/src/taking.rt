@@ -59,7 +59,10 @@ fn split<'a>(
     let all = reducer.free_ends();
     let own = all - 2 * cuts;
     let cells = branch.agents.len() + share as usize;
-    if cells > MOST_CELLS as usize || all > MOST_FREE_ENDS || !is_closed(reducer, branch, own, cuts) {
+    if cells > MOST_CELLS as usize
+        || all > MOST_FREE_ENDS
+        || !is_closed(reducer, branch, own, cuts)
+    {
         return None;
     }
     if names.len() != reducer.numbers() as usize || 3 * cells > names.len() {

@@ -56,19 +56,19 @@ module _ (m rest part rest_too part_too : MachineParts) (agents : List CellNo) (
   same_rest_names =
       same_below (names_of rest) (names_of rest_too) (own + cuts) (many_names rest (own + cuts) off.many_rest) (many_names rest_too (own + cuts) off_too.many_rest)
       (λ e l. (
-          let at = rest_of_two own cuts e l in
-          let k = place_of_two own 0 e in
-          sym (name_kept rest part off.two.names k (0, e) at) ∙ name_kept rest_too part_too off_too.two.names k (0, e) at
-          ))
+      let at = rest_of_two own cuts e l in
+      let k = place_of_two own 0 e in
+      sym (name_kept rest part off.two.names k (0, e) at) ∙ name_kept rest_too part_too off_too.two.names k (0, e) at
+      ))
 
   same_part_names : names_of part ≡ names_of part_too
   same_part_names =
       same_below (names_of part) (names_of part_too) cuts (many_names part cuts off.many_part) (many_names part_too cuts off_too.many_part)
       (λ e l. (
-          let at = part_of_two own cuts e l in
-          let k = place_of_two own 1 e in
-          sym (name_kept rest part off.two.names k (1, e) at) ∙ name_kept rest_too part_too off_too.two.names k (1, e) at
-          ))
+      let at = part_of_two own cuts e l in
+      let k = place_of_two own 1 e in
+      sym (name_kept rest part off.two.names k (1, e) at) ∙ name_kept rest_too part_too off_too.two.names k (1, e) at
+      ))
 
   -- ---- free cells
 
@@ -99,12 +99,11 @@ module _ (m rest part rest_too part_too : MachineParts) (agents : List CellNo) (
     alike : AreOneByNumbers rest rest_too × AreAlike part part_too
     alike =
         let nets =
-            beside_parts_are_alike (system_of m.program) (net_in rest) (net_in part) (net_in rest_too) (net_in part_too) (net_in m) off.two.name off_too.two.name ends
-            (net_over rest off.two.program_rest h_rest) (net_over part off.two.program_part h_part) (net_over rest_too off_too.two.program_rest h_rest_too)
-            (net_over part_too off_too.two.program_part h_part_too) off.two.beside off_too.two.beside same_symbol in
+        beside_parts_are_alike (system_of m.program) (net_in rest) (net_in part) (net_in rest_too) (net_in part_too) (net_in m) off.two.name off_too.two.name ends
+        (net_over rest off.two.program_rest h_rest) (net_over part off.two.program_part h_part) (net_over rest_too off_too.two.program_rest h_rest_too)
+        (net_over part_too off_too.two.program_part h_part_too) off.two.beside off_too.two.beside same_symbol in
         let rests : AreAlike rest rest_too =
-            record { number = λ y. y; net = nets.0; program = off.two.program_rest ∙ sym off_too.two.program_rest; names = same_rest_names; vacant = same_rest_vacant } in
-        (
+        record { number = λ y. y; net = nets.0; program = off.two.program_rest ∙ sym off_too.two.program_rest; names = same_rest_names; vacant = same_rest_vacant } in (
           record { net = nets.0; alike = rests },
           record { number = nets.1; net = nets.2; program = off.two.program_part ∙ sym off_too.two.program_part; names = same_part_names; vacant = same_part_vacant },
         )

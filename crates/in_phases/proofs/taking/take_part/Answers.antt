@@ -104,7 +104,7 @@ returns c =
       room = (
         c.gather.ensures.many,
         lent_back (with_items c.args.room.now.names c.split.new.names) c.bring_back.new.names (c.bring_back.ensures.names ∙ ap length c.as_mut_slice.ensures.value)
-        ∙ lent_back c.args.room.now.names c.split.new.names (c.in-Some.ensures.names ∙ ap length c.as_mut_slice-names.ensures.value),
+            ∙ lent_back c.args.room.now.names c.split.new.names (c.in-Some.ensures.names ∙ ap length c.as_mut_slice-names.ensures.value),
       );
       fits = tt;
     }
