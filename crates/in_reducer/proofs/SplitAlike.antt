@@ -15,7 +15,7 @@ use Rattle.in_parts.proofs.Public.{beside_is_one, beside_parts_are_alike}
 use Rattle.in_reducer.specs.Cutting.{net_in}
 use Rattle.in_reducer.specs.Machines.{MachineParts}
 use Rattle.in_reducer.specs.Parting.{IsSplitOff, ends_of_two, names_of, names_of_two, place_of_two}
-use Rattle.in_reducer.specs.PartingLaws.{AreAlike, AreOneByNumbers, GluingsAreAlike, SplitsAreAlike}
+use Rattle.in_reducer.specs.PartingLaws.{DifferInNumbers, DifferInOrder, GluingsAreAlike, SplitsAreAlike}
 use Rattle.in_reducer.specs.Reducers.{IsReducer}
 use Rattle.in_reducer.proofs.Reduced.{same_agents, somes_same}
 use Rattle.in_reducer.proofs.TwoEnds.{part_of_two, rest_of_two}
@@ -96,13 +96,13 @@ module _ (m rest part rest_too part_too : MachineParts) (agents : List CellNo) (
     net_over : (a : MachineParts) → a.program ≡ m.program → IsReducer a → IsNet (system_of m.program).symbols (net_in a)
     net_over a same h = subst (λ (p : Program). IsNet (system_of p).symbols (net_in a)) same h.net.sound.net
 
-    alike : AreOneByNumbers rest rest_too × AreAlike part part_too
+    alike : DifferInOrder rest rest_too × DifferInNumbers part part_too
     alike =
         let nets =
         beside_parts_are_alike (system_of m.program) (net_in rest) (net_in part) (net_in rest_too) (net_in part_too) (net_in m) off.two.name off_too.two.name ends
         (net_over rest off.two.program_rest h_rest) (net_over part off.two.program_part h_part) (net_over rest_too off_too.two.program_rest h_rest_too)
         (net_over part_too off_too.two.program_part h_part_too) off.two.beside off_too.two.beside same_symbol in
-        let rests : AreAlike rest rest_too =
+        let rests : DifferInNumbers rest rest_too =
         record { number = λ y. y; net = nets.0; program = off.two.program_rest ∙ sym off_too.two.program_rest; names = same_rest_names; vacant = same_rest_vacant } in (
           record { net = nets.0; alike = rests },
           record { number = nets.1; net = nets.2; program = off.two.program_part ∙ sym off_too.two.program_part; names = same_part_names; vacant = same_part_vacant },

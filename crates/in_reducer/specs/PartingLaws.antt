@@ -27,7 +27,7 @@ PartsReduceTheWhole = (m rest part rest_after part_after after : MachineParts) (
     IsSplitOff m agents own cuts cells rest part → ReducesTo rest j rest_after → ReducesTo part k part_after → IsGluedOn rest_after part_after own cuts after → ReducesTo m (j + k) after
 
 -- two reducers are the same but for the numbers of their agents, and the order of their queues
-pub record AreAlike (m m_too : MachineParts) : Type 0 where
+pub record DifferInNumbers (m m_too : MachineParts) : Type 0 where
   pub number : ℕ → ℕ
   pub net : IsRenamed number (net_in m) (net_in m_too)
   pub program : m.program ≡ m_too.program
@@ -35,18 +35,18 @@ pub record AreAlike (m m_too : MachineParts) : Type 0 where
   pub vacant : (c : CellClass) → count_of m.vacant c ≡ count_of m_too.vacant c
 
 -- .. and the agents of both have the same numbers
-pub record AreOneByNumbers (m m_too : MachineParts) : Type 0 where
+pub record DifferInOrder (m m_too : MachineParts) : Type 0 where
   pub net : IsRenamed (λ y. y) (net_in m) (net_in m_too)
-  pub alike : AreAlike m m_too
+  pub alike : DifferInNumbers m m_too
 
 -- what is split off is determined by the net, the agents and the cuts
 abbrev pub SplitsAreAlike : Type 0
 SplitsAreAlike = (m rest part rest_too part_too : MachineParts) (agents : List CellNo) (own cuts cells : ℕ) → IsReducer rest → IsReducer part → IsReducer rest_too → IsReducer part_too →
-    IsSplitOff m agents own cuts cells rest part → IsSplitOff m agents own cuts cells rest_too part_too → AreOneByNumbers rest rest_too × AreAlike part part_too
+    IsSplitOff m agents own cuts cells rest part → IsSplitOff m agents own cuts cells rest_too part_too → DifferInOrder rest rest_too × DifferInNumbers part part_too
 
 -- what is glued is determined by the rest, the part and the cuts
 abbrev pub GluingsAreAlike : Type 0
-GluingsAreAlike = (rest part m m_too : MachineParts) (own cuts : ℕ) → IsReducer rest → IsReducer part → IsGluedOn rest part own cuts m → IsGluedOn rest part own cuts m_too → AreAlike m m_too
+GluingsAreAlike = (rest part m m_too : MachineParts) (own cuts : ℕ) → IsReducer rest → IsReducer part → IsGluedOn rest part own cuts m → IsGluedOn rest part own cuts m_too → DifferInNumbers m m_too
 
 -- where a wire is cut, and only interactions are done since, the two ends can be joined, and what was before the cut is reduced to that
 abbrev pub CutsAreUndone : Type 0
