@@ -169,29 +169,36 @@ pub(crate) struct Field<'a> {
 }
 
 impl Field<'_> {
-    /// The ports by which a wire leads from one node to the other, where there is one.
-    fn ports_between(&self, one: u32, other: u32) -> Option<(u8, u8)> {
+    /// Whether a port is joined to this node.
+    fn leads_to(&self, at: Port, to: u32) -> bool {
+        matches!(self.wires.end(at), Some((node, _)) if node == to)
+    }
+
+    /// A port of a node, of another class than this one of it, that is joined to a node.
+    fn leaving(&self, at: Port, to: u32) -> Option<u8> {
+        let (node, _) = at;
+        let class = class_of(self.source, self.open, at);
         for place in 0..MOST_PORTS as u8 {
-            if let Some((next, end)) = self.wires.end((one, place)) {
-                if next == other {
-                    return Some((place, end));
-                }
+            if self.leads_to((node, place), to)
+                && class_of(self.source, self.open, (node, place)) != class
+            {
+                return Some(place);
             }
         }
         None
     }
 
-    /// The ports by which a way from one node over a second one to a third one passes the second, where they are of different classes.
+    /// The ports by which a way from one node over a second one to a third one passes the second, where some are of different classes: the
+    /// first and the third may be one node, to which two wires lead.
     pub(crate) fn passed(&self, from: u32, node: u32, to: u32) -> Option<(u8, u8)> {
-        let (_, first) = self.ports_between(from, node)?;
-        let (second, _) = self.ports_between(node, to)?;
-        if class_of(self.source, self.open, (node, first))
-            == class_of(self.source, self.open, (node, second))
-        {
-            None
-        } else {
-            Some((first, second))
+        for first in 0..MOST_PORTS as u8 {
+            if self.leads_to((node, first), from) {
+                if let Some(second) = self.leaving((node, first), to) {
+                    return Some((first, second));
+                }
+            }
         }
+        None
     }
 
     /// A port of the node, of another class than this one, that is joined to the node itself or to a node that is reached.

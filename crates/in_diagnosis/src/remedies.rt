@@ -1,10 +1,10 @@
 //! Other braces with which a program that no steps build is accepted: each is tried before it is told.
-ghost use Rattle.std.specs.Prelude.{IfOk};
-ghost use Rattle.in_diagnosis.specs.Programs.{IsTold};
+ghost use Rattle.std.specs.Prelude.{◌<◌, IfOk, IsTrue};
+ghost use Rattle.in_diagnosis.specs.Remedies.{IsOutcome};
 
 use in_check::check;
 use in_diagnosis_words::{Braces, Report, declaration_with, text_with};
-use in_syntax::{Fault, SourceSymbol};
+use in_syntax::{Code, Fault, Place, Refusal, SourceSymbol};
 use std::alloc::{AllocError, Global};
 
 /// How many declarations are tried at most. Each takes a check, which may go further than the one that refused the text.
@@ -46,55 +46,95 @@ pub(crate) fn add_remedy<'a>(
     Ok(())
 }
 
-/// Whether `in_check::check` refuses a text.
-fn is_refused(alloc: Global, text: &[u8]) -> Result<bool, AllocError>
-    ensures { IfOk result (IsTold text.now) }
+/// What `in_check::check` answers a text with other braces.
+enum Outcome {
+    /// It is accepted.
+    Accepted,
+    /// What was refused is built, and the text is refused further on.
+    Built,
+    /// It is refused as before, or earlier.
+    Refused,
+}
+
+/// Whether a text is refused at a rule or the net that no steps build, which begins behind this byte.
+fn is_refused_behind(refusal: Refusal, at: usize) -> bool
+    ensures { IsTrue result → at < refusal.place.from }
+{
+    matches!(refusal.code, Code::E12 | Code::E13) && refusal.place.from > at
+}
+
+/// What `in_check::check` answers a text in which what was refused begins at this byte.
+fn answer_to(alloc: Global, text: &[u8], at: usize) -> Result<Outcome, AllocError>
+    ensures { IfOk result (IsOutcome text.now at) }
 {
     match check(alloc, text) {
-        Ok(_program) => Ok(false),
-        Err(Fault::Refused(_)) => Ok(true),
+        Ok(_program) => Ok(Outcome::Accepted),
+        Err(Fault::Refused(refusal)) if is_refused_behind(refusal, at) => Ok(Outcome::Built),
+        Err(Fault::Refused(_)) => Ok(Outcome::Refused),
         Err(Fault::Memory(error)) => Err(error),
     }
 }
 
-/// Whether a text with this declaration in the place of a symbol's is accepted.
-fn helps(
-    alloc: Global,
-    text: &[u8],
-    symbol: &SourceSymbol,
-    declaration: &str,
-) -> Result<bool, AllocError> {
-    let changed = text_with(alloc, text, symbol, declaration)?;
-    Ok(!is_refused(alloc, changed.as_slice())?)
+/// What is tried of a text: in which a rule or the net, which begins at a place, is refused.
+#[derive(Clone, Copy)]
+struct Trial<'a> {
+    text: &'a [u8],
+    place: Place,
 }
 
-/// The declaration of a remedy, where the text with it is accepted.
-fn declaration_that_helps(
-    alloc: Global,
-    text: &[u8],
-    remedy: &Remedy,
-) -> Result<Option<String>, AllocError> {
+impl Trial<'_> {
+    /// Where the refused part begins once so many bytes are the text. The declarations come before it.
+    fn moved(&self, bytes: usize) -> usize {
+        let end = self.place.from.saturating_add(bytes);
+        end.saturating_sub(self.text.len())
+    }
+
+    /// What the text with this declaration in the place of a symbol's is answered.
+    fn with(
+        &self,
+        alloc: Global,
+        symbol: &SourceSymbol,
+        declaration: &str,
+    ) -> Result<Outcome, AllocError> {
+        let changed = text_with(alloc, self.text, symbol, declaration)?;
+        answer_to(alloc, changed.as_slice(), self.moved(changed.len()))
+    }
+}
+
+/// A declaration that mends a circle, and whether the program is accepted with it.
+#[derive(Drop)]
+struct Mend {
+    declaration: String,
+    accepted: bool,
+}
+
+/// The declaration of a remedy, where it mends the circle.
+fn mend_by(alloc: Global, trial: Trial, remedy: &Remedy) -> Result<Option<Mend>, AllocError> {
     let Remedy { symbol, braces } = *remedy;
     let declaration = declaration_with(alloc, symbol, braces)?;
-    if helps(alloc, text, symbol, declaration.as_str())? {
-        Ok(Some(declaration))
-    } else {
-        Ok(None)
-    }
+    let accepted = match trial.with(alloc, symbol, declaration.as_str())? {
+        Outcome::Accepted => true,
+        Outcome::Built => false,
+        Outcome::Refused => return Ok(None),
+    };
+    Ok(Some(Mend {
+        declaration,
+        accepted,
+    }))
 }
 
-/// The declaration of the first of these remedies with which the text is accepted, where there is one.
-fn first_that_helps(
-    alloc: Global,
-    text: &[u8],
-    remedies: &[Remedy],
-) -> Result<Option<String>, AllocError> {
+/// The first of these remedies with which the text is accepted; where there is none, the first that mends the circle.
+fn best_mend(alloc: Global, trial: Trial, remedies: &[Remedy]) -> Result<Option<Mend>, AllocError> {
+    let mut best = None;
     for remedy in remedies {
-        if let Some(declaration) = declaration_that_helps(alloc, text, remedy)? {
-            return Ok(Some(declaration));
+        let mend = mend_by(alloc, trial, remedy)?;
+        match mend {
+            Some(Mend { accepted: true, .. }) => return Ok(mend),
+            Some(_) if best.is_none() => best = mend,
+            _ => (),
         }
     }
-    Ok(None)
+    Ok(best)
 }
 
 /// Of some remedies those that are tried of a text.
@@ -114,17 +154,29 @@ fn help_without(remedies: usize, tried: usize) -> &'static str {
     }
 }
 
-/// Adds what helps: the first of these remedies with which the text is accepted, what no steps build being this.
-pub(crate) fn add_help(report: &mut Report, remedies: &[Remedy], what: &str) {
+/// A declaration with which this is built.
+fn say_mend(report: &mut Report, mend: &Mend, what: &str) {
+    report.say("help: with `symbol ");
+    report.say(mend.declaration.as_str());
+    report.say(";` ");
+    report.say(what);
+    report.say(if mend.accepted {
+        " is built, and the program is accepted\n"
+    } else {
+        " is built, and the program is refused further on\n"
+    });
+}
+
+/// Adds what helps: the first of these remedies with which the text is accepted, or else one with which what no steps build, which is this at a
+/// place, is built.
+pub(crate) fn add_help(report: &mut Report, remedies: &[Remedy], what: &str, place: Place) {
     let tried = tried(report.text(), remedies);
-    match first_that_helps(report.alloc, report.text(), tried) {
-        Ok(Some(declaration)) => {
-            report.say("help: with `symbol ");
-            report.say(declaration.as_str());
-            report.say(";` ");
-            report.say(what);
-            report.say(" is built, and the program is accepted\n");
-        }
+    let trial = Trial {
+        text: report.text(),
+        place,
+    };
+    match best_mend(report.alloc, trial, tried) {
+        Ok(Some(mend)) => say_mend(report, &mend, what),
         Ok(None) => report.help(help_without(remedies.len(), tried.len())),
         Err(error) => report.fail(error),
     }

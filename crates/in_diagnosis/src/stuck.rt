@@ -7,6 +7,13 @@ use in_open_nets::{Node, OpenNet};
 use in_syntax::{Place, Source, SourceSymbol};
 use std::alloc::{AllocError, Global};
 
+/// What is refused, a rule or the net, and where.
+#[derive(Clone, Copy)]
+struct Refused<'a> {
+    what: &'a str,
+    place: Place,
+}
+
 /// The most nodes of a list that is told whole.
 const MOST_TOLD: usize = 6;
 
@@ -263,28 +270,28 @@ fn remedies_for<'a>(
 }
 
 /// What helps against a circle through a node.
-fn add_help_for(report: &mut Report, field: Field, node: u32, circle: &Circle, what: &str) {
+fn add_help_for(report: &mut Report, field: Field, node: u32, circle: &Circle, refused: Refused) {
     match remedies_for(report.alloc, field, node, circle) {
-        Ok(remedies) => add_help(report, remedies.as_slice(), what),
+        Ok(remedies) => add_help(report, remedies.as_slice(), refused.what, refused.place),
         Err(error) => report.fail(error),
     }
 }
 
 /// A circle through a node.
-fn add_found(report: &mut Report, field: Field, node: u32, circle: &Circle, what: &str) {
+fn add_found(report: &mut Report, field: Field, node: u32, circle: &Circle, refused: Refused) {
     if let Some((symbol, class)) = symbol_of(field.source, field.open, node) {
         add_circle_words(report, symbol, class, circle);
         add_way(report, field, circle.way.as_slice());
         add_braces(report, symbol, class, (circle.first, circle.second));
         add_reasons(report, field, node, symbol, circle);
-        add_help_for(report, field, node, circle, what);
+        add_help_for(report, field, node, circle, refused);
     }
 }
 
 /// A circle through a node, where there is one.
-fn add_circle(report: &mut Report, field: Field, node: u32, what: &str) {
+fn add_circle(report: &mut Report, field: Field, node: u32, refused: Refused) {
     match field.circle(report.alloc, node) {
-        Ok(Some(circle)) => add_found(report, field, node, &circle, what),
+        Ok(Some(circle)) => add_found(report, field, node, &circle, refused),
         Ok(None) => (),
         Err(error) => report.fail(error),
     }
@@ -297,7 +304,7 @@ fn add_circle_of(
     open: &OpenNet,
     wires: &Wires,
     nodes: &[u32],
-    what: &str,
+    refused: Refused,
 ) {
     let Some(node) = nodes.first().copied() else {
         return;
@@ -311,7 +318,7 @@ fn add_circle_of(
                 wires,
                 part,
             };
-            add_circle(report, field, node, what);
+            add_circle(report, field, node, refused);
         }
         Err(error) => report.fail(error),
     }
@@ -323,10 +330,10 @@ fn add_first_circle(
     source: &Source,
     open: &OpenNet,
     nodes: &[u32],
-    what: &str,
+    refused: Refused,
 ) {
     match Wires::of(report.alloc, open) {
-        Ok(wires) => add_circle_of(report, source, open, &wires, nodes, what),
+        Ok(wires) => add_circle_of(report, source, open, &wires, nodes, refused),
         Err(error) => report.fail(error),
     }
 }
@@ -343,6 +350,6 @@ pub(crate) fn add_stuck(
     if let Some(StuckPart { open, stuck }) = part {
         let nodes = stuck.nodes.as_slice();
         add_part(report, source, open, nodes);
-        add_first_circle(report, source, open, nodes, what);
+        add_first_circle(report, source, open, nodes, Refused { what, place });
     }
 }

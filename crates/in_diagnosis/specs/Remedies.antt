@@ -1,0 +1,12 @@
+-- What is answered of a text with other braces, in which what was refused begins at this byte.
+use Rattle.std.specs.Prelude.{◌<◌, ℕ, List}
+use Rattle.in_syntax.specs.declared.faults.Refusal.{Refusal}
+use Rattle.in_check.specs.Checking.{IsAccepted, IsRefused}
+use Rattle.in_check.specs.Programs.{Program}
+use Rattle.in_diagnosis.specs.declared.remedies.Outcome.{Outcome}
+use Rattle.in_diagnosis.specs.declared.remedies.Outcome.TheVariants.{Accepted, Built, Refused}
+
+abbrev pub IsOutcome : List ℕ → ℕ → Outcome → Type 0
+IsOutcome text at Accepted = (p : Program) × IsAccepted text p
+IsOutcome text at Built = (r : Refusal) × IsRefused text r × (at < r.place.from)
+IsOutcome text at Refused = (r : Refusal) × IsRefused text r
