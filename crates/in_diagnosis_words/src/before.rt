@@ -1,4 +1,4 @@
-//! What stands before a place at which the grammar refuses a text.
+//! What stands before a place at which the grammar refuses a text, and right after it.
 use crate::reports::Report;
 use in_syntax::{Fault, Place, Token, TokenKind, tokens};
 use std::alloc::{AllocError, Global};
@@ -16,6 +16,16 @@ pub(crate) fn tokens_of(alloc: Global, part: &[u8]) -> Result<Vec<Token>, AllocE
 pub(crate) fn tokens_before(report: &Report, place: Place) -> Result<Vec<Token>, AllocError> {
     let front = report.text.get(..place.from).unwrap_or(&[]);
     tokens_of(report.alloc, front)
+}
+
+/// The kind of the token right after a place of a text whose tokens have no fault.
+pub(crate) fn kind_after(report: &Report, place: Place) -> Result<Option<TokenKind>, AllocError> {
+    let rest = report.text.get(place.to..).unwrap_or(&[]);
+    let tokens = tokens_of(report.alloc, rest)?;
+    match tokens.first() {
+        Some(token) => Ok(Some(token.kind)),
+        None => Ok(None),
+    }
 }
 
 /// Whether a token opens brackets.
@@ -72,6 +82,16 @@ pub(crate) fn end_with_name_at(tokens: &[Token], at: usize) -> bool {
     match tokens.last() {
         Some(token) => token.kind == TokenKind::Name && token.place.to == at,
         None => false,
+    }
+}
+
+/// The place of the last of these tokens, where it is a name.
+pub(crate) fn last_name(tokens: &[Token]) -> Option<Place> {
+    let token = tokens.last()?;
+    if token.kind == TokenKind::Name {
+        Some(token.place)
+    } else {
+        None
     }
 }
 

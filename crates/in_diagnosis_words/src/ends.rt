@@ -58,25 +58,29 @@ pub fn free_end(source: &Source, number: u32) -> Option<ToldEnd<'_>> {
     })
 }
 
-/// What an end is.
+/// The word for an output, or for an input.
+fn direction(output: bool) -> &'static str {
+    if output { "output" } else { "input" }
+}
+
+/// What an end is, and what it counts as.
 fn say_end(report: &mut Report, end: &ToldEnd) {
+    let direction = direction(end.output);
     match end.owner {
         Owner::Agent(symbol, number) => {
             say_port(report, symbol, number);
-            say_type(report, " is `", end.port, "`");
+            report.say_name(" is an ", direction, "");
+            say_type(report, ", `", end.port, "`");
         }
         Owner::Head(symbol, number) => {
-            say_type(report, "here a port of type `", end.port, "` replaces ");
             say_port(report, symbol, number);
+            say_type(report, ", `", end.port, "`, counts");
+            report.say_name(" as an ", direction, " in the right member");
         }
         Owner::Free(name) => {
-            say_type(
-                report,
-                "a port of type `",
-                end.port,
-                "` belongs at the free end `",
-            );
-            report.say_name(name, "`", "");
+            report.say_name("the free end `", name, " : ");
+            say_type(report, "", end.port, "` counts");
+            report.say_name(" as an ", direction, " in the net");
         }
     }
 }
@@ -114,24 +118,40 @@ fn say_misfit(report: &mut Report, one: &ToldEnd, other: &ToldEnd) {
     }
 }
 
-/// A symbol whose agents take something at their principal port and give something of this type at the auxiliary port of that number.
+/// A symbol whose agents give something of this type, and how many of their auxiliary ports do.
 #[derive(Clone, Copy)]
 struct Giving<'a> {
     symbol: &'a SourceSymbol,
-    output: usize,
     kind: &'a str,
+    auxiliary: usize,
 }
 
-/// The number of the first auxiliary port of a symbol that is an output of this type.
-fn output_of(symbol: &SourceSymbol, kind: &str) -> Option<usize> {
+/// Whether the port of that number of a symbol is an output of this type.
+fn gives(symbol: &SourceSymbol, kind: &str, number: usize) -> bool {
+    match port(symbol, number) {
+        Some((_, port)) => port.output && port.kind.text.as_str() == kind,
+        None => false,
+    }
+}
+
+/// How many auxiliary ports of a symbol are outputs of this type.
+fn outputs(symbol: &SourceSymbol, kind: &str) -> usize {
+    let mut count: usize = 0;
     for number in 1..=arity(symbol) {
-        if let Some((_, port)) = port(symbol, number) {
-            if port.output && port.kind.text.as_str() == kind {
-                return Some(number);
-            }
+        if gives(symbol, kind, number) {
+            count = count.saturating_add(1);
         }
     }
-    None
+    count
+}
+
+/// What agents of a symbol give of this type.
+fn giving_of<'a>(symbol: &'a SourceSymbol, kind: &'a str) -> Giving<'a> {
+    Giving {
+        symbol,
+        kind,
+        auxiliary: outputs(symbol, kind),
+    }
 }
 
 /// Where an agent gives what may be wanted from this end of it, where a term of it may have been taken for that: at its principal port, or
@@ -143,13 +163,83 @@ fn result_at<'a>(end: &ToldEnd<'a>) -> Option<Giving<'a>> {
     if symbol.port.output || (number > 0 && !end.output) {
         return None;
     }
-    let kind = end.port.kind.text.as_str();
-    let output = output_of(symbol, kind)?;
-    Some(Giving {
-        symbol,
-        output,
-        kind,
-    })
+    let giving = giving_of(symbol, end.port.kind.text.as_str());
+    if giving.auxiliary > 0 {
+        Some(giving)
+    } else {
+        None
+    }
+}
+
+/// Where an agent gives what may be wanted from this end of it: at an auxiliary port that takes something, an agent that has an output of
+/// the wire's type at another port.
+fn result_beside<'a>(end: &ToldEnd<'a>) -> Option<Giving<'a>> {
+    let Owner::Agent(symbol, number) = end.owner else {
+        return None;
+    };
+    if number == 0 || end.output {
+        return None;
+    }
+    let giving = giving_of(symbol, end.port.kind.text.as_str());
+    if giving.auxiliary > 0 || gives(symbol, giving.kind, 0) {
+        Some(giving)
+    } else {
+        None
+    }
+}
+
+/// What stands before the next one of so many, where so many are told.
+fn separator(told: usize, count: usize) -> &'static str {
+    if told == 0 {
+        ""
+    } else if told.saturating_add(1) == count {
+        " and "
+    } else {
+        ", "
+    }
+}
+
+/// Says the auxiliary ports at which it is given, by their numbers.
+fn say_auxiliary(report: &mut Report, giving: Giving) {
+    let several = giving.auxiliary > 1;
+    report.say(if several {
+        "auxiliary ports "
+    } else {
+        "auxiliary port "
+    });
+    let mut told: usize = 0;
+    for number in 1..=arity(giving.symbol) {
+        if gives(giving.symbol, giving.kind, number) {
+            report.say_number(separator(told, giving.auxiliary), number, "");
+            told = told.saturating_add(1);
+        }
+    }
+}
+
+/// Says the ports at which it is given.
+fn say_outputs(report: &mut Report, giving: Giving, principal: bool) {
+    if principal {
+        report.say("the principal port");
+    }
+    if principal && giving.auxiliary > 0 {
+        report.say(" and ");
+    }
+    if giving.auxiliary > 0 {
+        say_auxiliary(report, giving);
+    }
+}
+
+/// Says the letters of so many ports at which it is given.
+fn say_output_letters(report: &mut Report, giving: Giving, count: usize) {
+    let mut told: usize = 0;
+    for number in 0..=arity(giving.symbol) {
+        if gives(giving.symbol, giving.kind, number) {
+            report.say_name(separator(told, count), "`", "");
+            report.push(letter(number));
+            report.say("`");
+            told = told.saturating_add(1);
+        }
+    }
 }
 
 /// Says an agent with a letter for each of its ports, joined by its principal port.
@@ -159,26 +249,38 @@ fn say_lettered(report: &mut Report, symbol: &SourceSymbol) {
     report.say(");`");
 }
 
+/// Says at which ports it is given, and ends the sentence.
+fn end_with_outputs(report: &mut Report, giving: Giving) {
+    let principal = gives(giving.symbol, giving.kind, 0);
+    let count = giving
+        .auxiliary
+        .saturating_add(if principal { 1 } else { 0 });
+    say_outputs(report, giving, principal);
+    report.say(": ");
+    say_output_letters(report, giving, count);
+    report.say(" in ");
+    say_lettered(report, giving.symbol);
+    report.end();
+}
+
 /// What helps where a term is taken for what its agent gives.
 fn help_with_result(report: &mut Report, giving: Giving) {
-    let Giving {
-        symbol,
-        output,
-        kind,
-    } = giving;
-    let name = symbol.name.text.as_str();
+    let symbol = giving.symbol;
     report.say_name(
         "help: the term stands for the principal port of `",
-        name,
+        symbol.name.text.as_str(),
         "`, which takes a `",
     );
     report.say_name("", symbol.port.kind.text.as_str(), "`\n");
-    report.say_name("help: the `", kind, "` that it gives is at auxiliary port ");
-    report.say_number("", output, ": `");
-    report.push(letter(output));
-    report.say("` in ");
-    say_lettered(report, symbol);
-    report.end();
+    report.say_name("help: the `", giving.kind, "` that it gives is at ");
+    end_with_outputs(report, giving);
+}
+
+/// What helps where a port of an agent is taken for another one, at which it gives something.
+fn help_with_port(report: &mut Report, giving: Giving) {
+    report.say_name("help: the `", giving.kind, "` that `");
+    report.say_name("", giving.symbol.name.text.as_str(), "` gives is at ");
+    end_with_outputs(report, giving);
 }
 
 /// What helps where a free end has the wrong sign: these words and its declaration with the other one.
@@ -201,11 +303,19 @@ fn free_end_of<'a>(one: &ToldEnd<'a>, other: &ToldEnd<'a>) -> Option<(&'a str, &
     }
 }
 
-/// Where an agent gives what may be wanted from one of these ends.
+/// Where an agent gives what may be wanted from one of these ends, of which a term may have been taken for that.
 fn result_of<'a>(one: &ToldEnd<'a>, other: &ToldEnd<'a>) -> Option<Giving<'a>> {
     match result_at(one) {
         Some(result) => Some(result),
         None => result_at(other),
+    }
+}
+
+/// Where an agent gives what may be wanted from one of these ends, which may have been taken for that.
+fn port_of<'a>(one: &ToldEnd<'a>, other: &ToldEnd<'a>) -> Option<Giving<'a>> {
+    match result_beside(one) {
+        Some(result) => Some(result),
+        None => result_beside(other),
     }
 }
 
@@ -214,22 +324,28 @@ fn has_principal(one: &ToldEnd, other: &ToldEnd) -> bool {
     matches!(one.owner, Owner::Agent(_, 0)) || matches!(other.owner, Owner::Agent(_, 0))
 }
 
+/// Adds where the agent at one of these ends gives what may be wanted at the free end that the other one is; says whether there is such a port.
+fn add_other_port(report: &mut Report, one: &ToldEnd, other: &ToldEnd) -> bool {
+    match (result_of(one, other), port_of(one, other)) {
+        (Some(result), _) if has_principal(one, other) => help_with_result(report, result),
+        (_, Some(result)) => help_with_port(report, result),
+        _ => return false,
+    }
+    true
+}
+
 /// What helps where both ends are outputs of one type, or both inputs: a port of an agent may have been taken for another one, or a free end
 /// may have the wrong sign. Says whether anything does.
 fn add_turned(report: &mut Report, one: &ToldEnd, other: &ToldEnd) -> bool {
-    let free = free_end_of(one, other);
-    let result = result_of(one, other);
-    match (free, result) {
-        (Some((name, port)), Some(result)) if has_principal(one, other) => {
-            help_with_result(report, result);
-            help_with_free_end(
-                report,
-                "help: or, where the net is to take it, declare `",
-                name,
-                port,
-            );
+    match (free_end_of(one, other), result_of(one, other)) {
+        (Some((name, port)), _) => {
+            let before = if add_other_port(report, one, other) {
+                "help: or, where the net is to take it, declare `"
+            } else {
+                "help: declare `"
+            };
+            help_with_free_end(report, before, name, port);
         }
-        (Some((name, port)), _) => help_with_free_end(report, "help: declare `", name, port),
         (None, Some(result)) => help_with_result(report, result),
         (None, None) => return false,
     }

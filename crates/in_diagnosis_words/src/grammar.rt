@@ -1,12 +1,15 @@
 //! What the grammar expects, and its limits.
 use crate::before::{
-    begin_symbol, end_with_name_at, last_kind, open_bracket, place_after, tokens_before,
+    begin_symbol, end_with_name_at, kind_after, last_kind, last_name, open_bracket, place_after,
+    tokens_before,
 };
+use crate::near::distance;
 use crate::reports::Report;
 use in_syntax::{
     Expected, MAX_DEPTH, MAX_FREE_NAMES, MAX_NAME_CHARACTERS, MAX_PORTS, MAX_RULES, MAX_SYMBOLS,
     MAX_TEXT_BYTES, MAX_TYPES, PartOf, Place, Token, TokenKind,
 };
+use std::alloc::{AllocError, Global};
 
 /// What may follow a name alone, or a whole term.
 fn after_term(part: PartOf, name: bool) -> &'static str {
@@ -58,6 +61,16 @@ fn is_reserved(word: &str) -> bool {
     matches!(word, "type" | "symbol" | "rule" | "net")
 }
 
+/// The word that the grammar has for itself and that is near to this one.
+fn reserved_near(alloc: Global, found: &str) -> Result<Option<&'static str>, AllocError> {
+    for word in ["type", "symbol", "rule", "net"] {
+        if distance(alloc, found, word)?.is_some() {
+            return Ok(Some(word));
+        }
+    }
+    Ok(None)
+}
+
 /// Whether a token is a sign of the grammar, and no word.
 fn is_sign(token: &str) -> bool {
     matches!(
@@ -73,6 +86,7 @@ struct Unexpected<'a> {
     found: &'a str,
     expected: Expected,
     before: &'a [Token],
+    after: Option<TokenKind>,
 }
 
 impl Unexpected<'_> {
@@ -134,6 +148,24 @@ impl Unexpected<'_> {
             && end_with_name_at(self.before, self.place.from)
     }
 
+    /// The name before it, where it begins brackets with nothing in them, as a head has them.
+    fn bare_name(&self) -> Option<Place> {
+        match (self.expected, self.found, self.after) {
+            (Expected::AfterName(_), "[", Some(TokenKind::CloseBracket)) => last_name(self.before),
+            _ => None,
+        }
+    }
+
+    /// The word of the grammar that may have been meant, where one is expected.
+    fn meant(&self, alloc: Global) -> Result<Option<&'static str>, AllocError> {
+        match (self.expected, self.after) {
+            (Expected::Item, Some(TokenKind::Name | TokenKind::OpenParenthesis)) => {
+                reserved_near(alloc, self.found)
+            }
+            _ => Ok(None),
+        }
+    }
+
     /// What helps where brackets close after a comma, or with nothing in them.
     fn help_with_closing(&self) -> Option<&'static str> {
         match (self.expected, last_kind(self.before)?) {
@@ -184,6 +216,24 @@ impl Unexpected<'_> {
         }
     }
 
+    /// What helps where it was found in the place of a section, or after the last one.
+    fn help_with_section(&self) -> Option<&'static str> {
+        match (self.expected, self.found, self.after) {
+            (Expected::Item, "", _) => Some("a program ends with its net: `net (..) { .. }`"),
+            (Expected::Item, _, Some(TokenKind::OpenBracket)) if !is_sign(self.found) => {
+                Some("a rule begins with the word `rule`")
+            }
+            (Expected::Item, _, _) => {
+                Some(
+                    "equations stand in the braces of the net, or of a rule behind the word `with`",
+                )
+            }
+            (Expected::Nothing, ";", _) => Some("no `;` stands after the net"),
+            (Expected::Nothing, _, _) => Some("the net comes last, and there is one"),
+            _ => None,
+        }
+    }
+
     /// What helps where it was found in the place of something else.
     fn help_with_other(&self) -> &'static str {
         match (self.expected, self.found) {
@@ -215,11 +265,6 @@ impl Unexpected<'_> {
             | (Expected::AfterName(_) | Expected::AfterTerm(_), _) => {
                 "what stands in brackets is separated by `,`"
             }
-            (Expected::Item, "") => "a program ends with its net: `net (..) { .. }`",
-            (Expected::Item, _) => {
-                "equations stand in the braces of the net, or of a rule behind the word `with`"
-            }
-            (Expected::Nothing, _) => "the net comes last, and there is one",
             _ => "look at what stands before it: most often a `;`, a `~` or a bracket is missing",
         }
     }
@@ -228,6 +273,9 @@ impl Unexpected<'_> {
     fn help(&self) -> &'static str {
         if self.cuts_name() {
             return "a name has letters, digits and `_`, and no `-`";
+        }
+        if let Some(help) = self.help_with_section() {
+            return help;
         }
         if let Some(help) = self.help_with_brackets() {
             return help;
@@ -280,6 +328,31 @@ fn open_before(unexpected: &Unexpected) -> Option<Token> {
     }
 }
 
+/// What helps, where a word of the grammar may have been meant.
+fn help_with_word(report: &mut Report, unexpected: &Unexpected, word: Option<&str>) {
+    match word {
+        Some(word) => report.say_name("help: did you mean `", word, "`?\n"),
+        None => report.help(unexpected.help()),
+    }
+}
+
+/// What helps.
+fn add_help(report: &mut Report, unexpected: &Unexpected) {
+    if let Some(name) = unexpected.bare_name() {
+        let name = report.at(name);
+        report.say_name(
+            "help: write `",
+            name,
+            "` without brackets: `[]` is for heads of rules\n",
+        );
+        return;
+    }
+    match unexpected.meant(report.alloc) {
+        Ok(word) => help_with_word(report, unexpected, word),
+        Err(error) => report.fail(error),
+    }
+}
+
 /// Adds what belongs to a token with which no program goes on, and what helps.
 fn add_reasons(report: &mut Report, unexpected: &Unexpected) {
     if unexpected.misses_semicolon() {
@@ -287,8 +360,15 @@ fn add_reasons(report: &mut Report, unexpected: &Unexpected) {
     }
     match open_before(unexpected) {
         Some(bracket) => add_open(report, bracket),
-        None => report.help(unexpected.help()),
+        None => add_help(report, unexpected),
     }
+}
+
+/// What stands before a place, and right after it.
+fn around(report: &Report, place: Place) -> Result<(Vec<Token>, Option<TokenKind>), AllocError> {
+    let before = tokens_before(report, place)?;
+    let after = kind_after(report, place)?;
+    Ok((before, after))
 }
 
 /// No program goes on so, where this is expected.
@@ -297,14 +377,15 @@ pub(crate) fn add_unexpected(report: &mut Report, place: Place, expected: Expect
     say_found(report, found);
     report.say_name(", where ", words(expected), " is expected");
     report.end_at(place);
-    match tokens_before(report, place) {
-        Ok(before) => add_reasons(
+    match around(report, place) {
+        Ok((before, after)) => add_reasons(
             report,
             &Unexpected {
                 place,
                 found,
                 expected,
                 before: before.as_slice(),
+                after,
             },
         ),
         Err(error) => report.fail(error),

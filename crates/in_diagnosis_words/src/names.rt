@@ -1,10 +1,11 @@
 //! Names: declared twice, not declared, with another number of arguments, or in another number of places.
 use crate::declarations::{Declared, arity, first_of, is_among, symbol_named};
 use crate::near::add_near;
-use crate::occurrences::{arguments, occurrences, rule_around};
+use crate::occurrences::{arguments, names_around, occurrences, rule_around};
+use crate::pairs::add_unmet;
 use crate::reports::Report;
 use crate::single::add_single;
-use in_syntax::{Name, Place, Source, SourceSymbol};
+use in_syntax::{Name, NameUse, Place, Source, SourceSymbol};
 
 /// Where the first of these names stands that is this one.
 fn note_first<D: Declared>(report: &mut Report, declared: &[D], name: &str) {
@@ -131,6 +132,70 @@ pub(crate) fn add_other_arity(report: &mut Report, source: &Source, place: Place
     }
 }
 
+/// A name with another number of arguments than its symbol has auxiliary ports.
+#[derive(Clone, Copy)]
+struct Miscounted<'a> {
+    symbol: &'a SourceSymbol,
+    arguments: usize,
+    place: Place,
+}
+
+/// The first of these names that has another number of arguments than its symbol has auxiliary ports.
+fn first_miscounted<'a>(
+    report: &Report,
+    source: &'a Source,
+    names: &[NameUse],
+) -> Option<Miscounted<'a>> {
+    for NameUse {
+        place,
+        arguments,
+        ..
+    } in names {
+        if let Some(symbol) = symbol_named(source, report.at(*place)) {
+            if *arguments != arity(symbol) {
+                return Some(Miscounted {
+                    symbol,
+                    arguments: *arguments,
+                    place: *place,
+                });
+            }
+        }
+    }
+    None
+}
+
+/// Adds how many arguments such a name has, and what helps.
+fn note_miscounted(report: &mut Report, name: Miscounted) {
+    let ports = arity(name.symbol);
+    report.say_name("note: `", report.at(name.place), "");
+    say_counts(report, name.arguments, ports);
+    report.end_at(name.place);
+    report.help(arity_help(ports));
+}
+
+/// Adds the first of these names that is such a one; says whether any is.
+fn add_first_miscounted(report: &mut Report, source: &Source, names: &[NameUse]) -> bool {
+    match first_miscounted(report, source, names) {
+        Some(name) => {
+            note_miscounted(report, name);
+            true
+        }
+        None => false,
+    }
+}
+
+/// Adds the first such name of the rule in which a place stands, or of the net's equations: a term that is forgotten there leaves a
+/// variable with one place, or a free end with none. Says whether there is one.
+fn add_miscounted(report: &mut Report, source: &Source, at: Place) -> bool {
+    match names_around(report.alloc, source, at) {
+        Ok(names) => add_first_miscounted(report, source, names.as_slice()),
+        Err(error) => {
+            report.fail(error);
+            false
+        }
+    }
+}
+
 /// The other places of a variable.
 fn add_others(report: &mut Report, places: &[Place], place: Place) {
     for other in places {
@@ -149,12 +214,18 @@ fn erasing_help(name: &str) -> &'static str {
     }
 }
 
-/// Adds what helps where a variable occurs once, and no symbol is near: it may be another end of the same wire.
+/// Adds what helps where a variable occurs once, and no symbol is near: its rule may be one that is never used, it may be another end of the
+/// same wire, or its other end may be a term that is forgotten.
 fn help_once(report: &mut Report, source: &Source, name: &str, place: Place) {
+    if add_unmet(report, source, place) {
+        return;
+    }
     if add_single(report, source, place, name, "` occurs once too") {
         report.help("if they are the two ends of one wire, write one name for both");
     }
-    report.help(erasing_help(name));
+    if !add_miscounted(report, source, place) {
+        report.help(erasing_help(name));
+    }
 }
 
 /// A variable that occurs once.
@@ -203,6 +274,7 @@ fn add_unjoined(report: &mut Report, source: &Source, name: &str, place: Place) 
         name,
         "` occurs once, and is no free end",
     );
+    let _ = add_miscounted(report, source, place);
     report.help("its name occurs exactly once in the equations of the net");
 }
 

@@ -3,7 +3,7 @@ use crate::declarations::Declared;
 use crate::reports::Report;
 use in_syntax::Name;
 use std::alloc::{AllocError, Global};
-use strsim::levenshtein;
+use strsim::osa_distance;
 
 /// How many characters may differ in a near name at most.
 const FARTHEST: usize = 3;
@@ -13,7 +13,7 @@ fn most(characters: usize) -> usize {
     (characters / 3).min(FARTHEST)
 }
 
-/// By how many characters a declared name differs from this one, where it is near to it.
+/// By how many characters a declared name differs from this one, where it is near to it. Two that are swapped count as one.
 pub(crate) fn distance(
     alloc: Global,
     name: &str,
@@ -24,7 +24,7 @@ pub(crate) fn distance(
     }
     let characters = name.chars().count();
     let others = declared.chars().count();
-    let found = levenshtein(alloc, name, declared)?;
+    let found = osa_distance(alloc, name, declared)?;
     Ok(if found <= most(characters.min(others)) {
         Some(found)
     } else {

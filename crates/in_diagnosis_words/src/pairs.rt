@@ -1,5 +1,6 @@
 //! Rules: of heads that can't meet, a second one for two symbols, and one that is missing.
 use crate::declarations::{arity, say_type, symbol_named};
+use crate::occurrences::rule_around;
 use crate::reports::Report;
 use in_syntax::{Name, Place, Source, SourceRule, SourceSymbol};
 
@@ -46,15 +47,50 @@ fn add_heads(report: &mut Report, source: &Source, rule: &SourceRule) {
     }
 }
 
+/// What helps where heads can't meet.
+const MEETING: &str =
+    "a rule is for a constructor and a destructor whose principal ports are of one type";
+
 /// Heads that can't meet.
 pub(crate) fn add_unmatched(report: &mut Report, source: &Source, place: Place) {
     report.wrong(place, "the two heads of this rule can't meet");
     if let Some(rule) = rule_with(source, place) {
         add_heads(report, source, rule);
     }
-    report.help(
-        "a rule is for a constructor and a destructor whose principal ports are of one type",
+    report.help(MEETING);
+}
+
+/// Whether two symbols can meet: a constructor and a destructor, with principal ports of one type.
+fn can_meet(one: &SourceSymbol, other: &SourceSymbol) -> bool {
+    one.port.output != other.port.output
+        && one.port.kind.text.as_str() == other.port.kind.text.as_str()
+}
+
+/// Whether the symbols of a rule's heads are declared, and can't meet.
+fn is_unmet(source: &Source, rule: &SourceRule) -> bool {
+    let first = symbol_named(source, rule.first.name.text.as_str());
+    let second = symbol_named(source, rule.second.name.text.as_str());
+    match (first, second) {
+        (Some(first), Some(second)) => !can_meet(first, second),
+        _ => false,
+    }
+}
+
+/// Adds that the heads of the rule in which a place stands can't meet, and what helps; says whether they can't.
+pub(crate) fn add_unmet(report: &mut Report, source: &Source, place: Place) -> bool {
+    let Some(rule) = rule_around(source, place) else {
+        return false;
+    };
+    if !is_unmet(source, rule) {
+        return false;
+    }
+    report.note(
+        rule.second.name.place,
+        "the two heads of this rule can't meet",
     );
+    add_heads(report, source, rule);
+    report.help(MEETING);
+    true
 }
 
 /// Whether the heads of a rule are of these symbols, in this order.
