@@ -6,7 +6,7 @@ use Rattle.in_check.specs.Programs.{Program}
 use Rattle.in_diagnosis.specs.declared.remedies.Outcome.{Outcome}
 use Rattle.in_diagnosis.specs.declared.remedies.Outcome.TheVariants.{Accepted, Built, Refused}
 
-abbrev pub IsOutcome : List ℕ → ℕ → Outcome → Type 0
-IsOutcome text at Accepted = (p : Program) × IsAccepted text p
-IsOutcome text at Built = (r : Refusal) × IsRefused text r × (at < r.place.from)
-IsOutcome text at Refused = (r : Refusal) × IsRefused text r
+abbrev pub IsAnsweredWith : List ℕ → ℕ → Outcome → Type 0
+IsAnsweredWith text at Accepted = (p : Program) × IsAccepted text p
+IsAnsweredWith text at Built = (r : Refusal) × IsRefused text r × (at < r.place.from)
+IsAnsweredWith text at Refused = (r : Refusal) × IsRefused text r

@@ -1,6 +1,6 @@
 //! Other braces with which a program that no steps build is accepted: each is tried before it is told.
 ghost use Rattle.std.specs.Prelude.{◌<◌, IfOk, IsTrue};
-ghost use Rattle.in_diagnosis.specs.Remedies.{IsOutcome};
+ghost use Rattle.in_diagnosis.specs.Remedies.{IsAnsweredWith};
 
 use in_check::check;
 use in_diagnosis_words::{Braces, Report, declaration_with, text_with};
@@ -65,7 +65,7 @@ fn is_refused_behind(refusal: Refusal, at: usize) -> bool
 
 /// What `in_check::check` answers a text in which what was refused begins at this byte.
 fn answer_to(alloc: Global, text: &[u8], at: usize) -> Result<Outcome, AllocError>
-    ensures { IfOk result (IsOutcome text.now at) }
+    ensures { IfOk result (IsAnsweredWith text.now at) }
 {
     match check(alloc, text) {
         Ok(_program) => Ok(Outcome::Accepted),
