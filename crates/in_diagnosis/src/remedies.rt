@@ -1,6 +1,6 @@
 //! Other braces with which a program that no steps build is accepted: each is tried before it is told.
-ghost use Rattle.std.specs.Prelude.{◌<◌, IfOk, IsTrue};
-ghost use Rattle.in_diagnosis.specs.Remedies.{IsAnsweredWith};
+ghost use Rattle.std.specs.Prelude.{◌≡◌, IfOk};
+ghost use Rattle.in_diagnosis.specs.Remedies.{IsAnsweredWith, is_stuck_behind};
 
 use in_check::check;
 use in_diagnosis_words::{Braces, Report, declaration_with, text_with};
@@ -58,9 +58,12 @@ enum Outcome {
 
 /// Whether a text is refused at a rule or the net that no steps build, which begins behind this byte.
 fn is_refused_behind(refusal: Refusal, at: usize) -> bool
-    ensures { IsTrue result → at < refusal.place.from }
+    ensures { result ≡ is_stuck_behind at refusal }
 {
-    matches!(refusal.code, Code::E12 | Code::E13) && refusal.place.from > at
+    match refusal.code {
+        Code::E12 | Code::E13 => at < refusal.place.from,
+        _ => false,
+    }
 }
 
 /// What `in_check::check` answers a text in which what was refused begins at this byte.
