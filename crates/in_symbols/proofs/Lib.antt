@@ -1,6 +1,7 @@
 pub mod Absent
 pub mod First
 pub mod Heads
+pub mod Looking
 pub mod Maps
 pub mod Named
 pub mod OneTables

@@ -1,5 +1,6 @@
 -- A search through a list for the earliest place, one element at a time.
-use Rattle.std.proofs.Common.{◌≡◌, ◌<◌, ◌≤◌, ◌+◌, ◌∷◌, ℕ, List, Option, drop, map, length, get_or, sym, ap, ◌∙◌}
+use Rattle.std.proofs.Common.{◌≡◌, ◌<◌, ◌≤◌, ◌+◌, [], ◌∷◌, ℕ, Bool, true, false, List, Option, Some, None, if◌then◌else◌, nat_lt, drop, map, length, get_or, refl, sym, ap, ◌∙◌, arith}
+use Rattle.std.proofs.lemmas.Bool.{ltb-true, ltb-false, lt-ltb, le-ltb}
 use Rattle.std.proofs.lemmas.List.{drop_more, drop_all}
 use Rattle.in_syntax.specs.Refusals.{earlier, earliest}
 use Rattle.in_syntax.specs.declared.places.Place.{Place}
@@ -14,3 +15,28 @@ one_more {X} f xs i x found next whole lt is now before =
 -- all are looked at
 pub all_done : {X : Type 0} (f : X → Option Place) (xs : List X) (i : ℕ) (found whole : Option Place) → length xs ≤ i → earliest found (map f (drop i xs)) ≡ whole → found ≡ whole
 all_done {X} f xs i found whole past before = ap (λ (ys : List X). earliest found (map f ys)) (sym (drop_all i xs past)) ∙ before
+
+-- ---- where something was found before
+
+some_earlier : (p q r : Place) (b c : Bool) → nat_lt q.from p.from ≡ b → nat_lt r.from q.from ≡ c →
+    earlier (if b then Some q else Some p) (Some r) ≡ earlier (Some p) (if c then Some r else Some q)
+some_earlier p q r true true qp rq = ap (λ b. if b then Some r else Some q) rq ∙ sym (ap (λ b. if b then Some r else Some p) (lt-ltb r.from p.from (omega (arith, ltb-true q.from p.from qp, ltb-true r.from q.from rq))))
+some_earlier p q r true false qp rq = ap (λ b. if b then Some r else Some q) rq ∙ sym (ap (λ b. if b then Some q else Some p) qp)
+some_earlier p q r false true qp rq = refl
+some_earlier p q r false false qp rq =
+    ap (λ b. if b then Some r else Some p) (le-ltb r.from p.from (omega (arith, ltb-false q.from p.from qp, ltb-false r.from q.from rq))) ∙ sym (ap (λ b. if b then Some q else Some p) qp)
+
+-- which of three is the earliest doesn't depend on which two are compared first
+pub earlier_assoc : (a b c : Option Place) → earlier (earlier a b) c ≡ earlier a (earlier b c)
+earlier_assoc None b c = refl
+earlier_assoc (Some p) None c = refl
+earlier_assoc (Some p) (Some q) None = with_none p q (nat_lt q.from p.from)
+  where
+    with_none : (p q : Place) (b : Bool) → earlier (if b then Some q else Some p) None ≡ (if b then Some q else Some p)
+    with_none p q true = refl
+    with_none p q false = refl
+earlier_assoc (Some p) (Some q) (Some r) = some_earlier p q r (nat_lt q.from p.from) (nat_lt r.from q.from) refl refl
+
+pub earliest_from : (a b : Option Place) (ps : List (Option Place)) → earliest (earlier a b) ps ≡ earlier a (earliest b ps)
+earliest_from a b [] = refl
+earliest_from a b (p ∷ ps) = ap (λ o. earliest o ps) (earlier_assoc a b p) ∙ earliest_from a (earlier b p) ps

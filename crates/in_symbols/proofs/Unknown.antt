@@ -55,7 +55,7 @@ as_part : (P : Term → Type 0) (t : Term) → P t ⊎ AnyByRecursion (HasPart P
 as_part P t (inl h) = itself t h
 as_part P t (inr h) = one_part P t (out-Term t).args (λ a k. k) h
 
-empty_map : {X Y : Type 0} (f : X → Y) (xs : List X) → is_empty (map f xs) ≡ is_empty xs
+pub empty_map : {X Y : Type 0} (f : X → Y) (xs : List X) → is_empty (map f xs) ≡ is_empty xs
 empty_map f [] = refl
 empty_map f (x ∷ xs) = refl
 

@@ -1,5 +1,5 @@
 -- How the code searches for the first fault: what it has found after each name, port and term.
-use Rattle.std.specs.Prelude.{ℕ, Bool, true, false, List, [], ◌∷◌, ◌++◌, map, Option, Some, None, is_some, if◌then◌else◌}
+use Rattle.std.specs.Prelude.{ℕ, Bool, true, false, List, [], ◌∷◌, ◌++◌, map, Option, Some, None, is_some, if◌then◌else◌, nat_eq, ⊤}
 use Rattle.in_syntax.specs.declared.faults.Code.TheVariants.{E04, E05, E06}
 use Rattle.in_syntax.specs.declared.faults.Refusal.{Refusal}
 use Rattle.in_syntax.specs.declared.places.Place.{Place}
@@ -13,7 +13,9 @@ use Rattle.in_syntax.specs.declared.tree.SourceRule.{SourceRule}
 use Rattle.in_syntax.specs.declared.tree.SourceSymbol.{SourceSymbol}
 use Rattle.in_syntax.specs.declared.tree.Term.{Term}
 use Rattle.in_syntax.specs.declared.tree.Term.TheFolds.{fold-Term}
+use Rattle.in_syntax.specs.Walks.{Visits}
 use Rattle.in_symbols.specs.declared.declaring.Declared.{Declared}
+use Rattle.in_symbols.specs.declared.searching.Lookup.{Lookup}
 use Rattle.in_syntax.specs.Refusals.{earlier, earliest, refused, earlier_refusal}
 use Rattle.in_symbols.specs.Names.{number_in, has_name}
 
@@ -88,6 +90,22 @@ unknown_in_rule names r = earlier (earlier (unknown_in_head names r.first) (unkn
 abbrev pub unknown_in_rules : List (List ℕ) → List SourceRule → Option Place
 unknown_in_rules names rs = earliest None (map (unknown_in_rule names) rs)
 
+-- in the rules and in the net
+abbrev pub unknown_in : List (List ℕ) → Source → Option Place
+unknown_in names s = earlier (unknown_in_rules names s.rules) (unknown_in_equations names s.net.equations)
+
+-- what is found, where this is met
+abbrev pub finds : Lookup → Option Place → Lookup
+finds l here = record l { found = earlier l.found here }
+
+-- a walk looks up each name that has arguments
+abbrev pub looking : Visits Lookup ⊤
+looking = record {
+  name = λ u n arguments. (finds u (unknown_here u.symbols.now (nat_eq arguments 0) n), tt);
+  argument = λ u of number argument. u;
+  equation = λ u left right tilde. u;
+}
+
 -- ---- the first fault
 
 -- the first fault, where these types and symbols were declared
@@ -96,5 +114,4 @@ first_fault s types symbols =
     let free = declares_all_free symbols.names undeclared (map (λ f. f.name) s.net.free) in
     let twice = earlier (earlier types.repeat symbols.repeat) free.repeat in
     let untyped = earlier (untyped_in_symbols types.names s.symbols) (untyped_in_free types.names s.net.free) in
-    let unknown = earlier (unknown_in_rules symbols.names s.rules) (unknown_in_equations symbols.names s.net.equations) in
-    earlier_refusal (earlier_refusal (refused E04 twice) (refused E05 untyped)) (refused E06 unknown)
+    earlier_refusal (earlier_refusal (refused E04 twice) (refused E05 untyped)) (refused E06 (unknown_in symbols.names s))

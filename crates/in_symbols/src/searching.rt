@@ -1,13 +1,12 @@
-ghost use Rattle.std.specs.Prelude.{◌≡◌, IfOk};
-ghost use Rattle.in_syntax.specs.declared.tree.Term.{out-Term};
+ghost use Rattle.std.specs.Prelude.{◌≡◌, IfOk, OnOk};
 ghost use Rattle.in_syntax.specs.Refusals.{earlier, earlier_refusal, refused};
-ghost use Rattle.in_symbols.specs.Searching.{untyped, untyped_in_class, untyped_in_symbol, untyped_in_symbols, untyped_in_free, unknown_name, unknown_here, unknown_in_term, unknown_in_equations, unknown_in_head, unknown_in_rule, unknown_in_rules, first_fault, is_empty};
+ghost use Rattle.in_symbols.specs.Searching.{untyped, untyped_in_class, untyped_in_symbol, untyped_in_symbols, untyped_in_free, unknown_name, unknown_in_head, unknown_in_equations, unknown_in_rule, unknown_in_rules, unknown_in, finds, looking, first_fault};
 
 use crate::declaring::{Declared, free_names_of};
 use crate::names::Names;
 use in_syntax::{
     Code, Equation, Head, Name, Place, Refusal, Source, SourceFree, SourcePort, SourceRule,
-    SourceSymbol, Term,
+    SourceSymbol, Visitor, walk_equations, walk_terms,
 };
 use std::alloc::{AllocError, Global};
 
@@ -62,88 +61,92 @@ fn untyped_in_free(types: &Names, frees: &[SourceFree]) -> Option<Place>
     found
 }
 
-/// Where the name stands, if it is no symbol's.
-fn unknown_name(symbols: &Names, name: &Name) -> Option<Place>
-    ensures { result ≡ unknown_name symbols.now name.now }
-{
-    if symbols.number_of(name.text.as_str()).is_some() {
-        None
-    } else {
-        Some(name.place)
+/// What is searched for a name that has to be a symbol's and isn't, and where the first of these stands that was met so far.
+#[derive(Drop)]
+struct Lookup<'a> {
+    symbols: &'a Names,
+    found: Option<Place>,
+}
+
+impl Lookup<'_> {
+    /// A name that has to be a symbol's.
+    fn look_up(&mut self, name: &Name)
+        ensures { self.new ≡ finds self.old (unknown_name (self.old).symbols.now name.now) }
+    {
+        if self.symbols.number_of(name.text.as_str()).is_none() {
+            self.found = Place::earlier(self.found, Some(name.place));
+        }
     }
 }
 
-/// Where the term's own name stands, if it has arguments and is no symbol's.
-fn unknown_here(symbols: &Names, term: &Term) -> Option<Place>
-    ensures { result ≡ unknown_here symbols.now (is_empty (out-Term term.now).args) (out-Term term.now).name }
-{
-    if term.args.is_empty() {
-        None
-    } else {
-        unknown_name(symbols, &term.name)
+// A name without arguments may be a variable's.
+impl Visitor for Lookup<'_> {
+    type Known = ();
+
+    ghost visits = { looking };
+
+    fn name(&mut self, name: &Name, arguments: usize) -> Result<(), AllocError> {
+        if arguments != 0 {
+            self.look_up(name);
+        }
+        Ok(())
+    }
+
+    fn argument(&mut self, _of: (), _number: usize, _argument: ()) -> Result<(), AllocError> {
+        Ok(())
+    }
+
+    fn equation(&mut self, _left: (), _right: (), _tilde: Place) -> Result<(), AllocError> {
+        Ok(())
     }
 }
 
-/// Where the first name in the term stands that has arguments and is no symbol's.
-fn unknown_in_term(symbols: &Names, term: &Term) -> Option<Place>
-    ensures { result ≡ unknown_in_term symbols.now term.now }
+/// Looks in a head: at its own name, and then in its terms.
+fn look_in_head(lookup: &mut Lookup, head: &Head) -> Result<(), AllocError>
+    ensures { OnOk result (lookup.new ≡ finds lookup.old (unknown_in_head (lookup.old).symbols.now head.now)) }
 {
-    let mut found = unknown_here(symbols, term);
-    for argument in term.args.as_slice() {
-        found = Place::earlier(found, unknown_in_term(symbols, argument));
-    }
-    found
+    lookup.look_up(&head.name);
+    walk_terms(lookup, (), head.terms.as_slice())
 }
 
-/// Where the first name in the equations stands that has arguments and is no symbol's.
-fn unknown_in_equations(symbols: &Names, equations: &[Equation]) -> Option<Place>
-    ensures { result ≡ unknown_in_equations symbols.now equations.now }
+/// Looks in these equations.
+fn look_in_equations(lookup: &mut Lookup, equations: &[Equation]) -> Result<(), AllocError>
+    ensures { OnOk result (lookup.new ≡ finds lookup.old (unknown_in_equations (lookup.old).symbols.now equations.now)) }
 {
-    let mut found = None;
-    for equation in equations {
-        let Equation { left, right, .. } = equation;
-        let place = Place::earlier(
-            unknown_in_term(symbols, left),
-            unknown_in_term(symbols, right),
-        );
-        found = Place::earlier(found, place);
-    }
-    found
+    walk_equations(lookup, equations)
 }
 
-/// Where the first name in the head stands that has to be a symbol's and isn't: the head's own, or one that has arguments.
-fn unknown_in_head(symbols: &Names, head: &Head) -> Option<Place>
-    ensures { result ≡ unknown_in_head symbols.now head.now }
+/// Looks in a rule's heads and its equations.
+fn look_in_rule(lookup: &mut Lookup, rule: &SourceRule) -> Result<(), AllocError>
+    ensures { OnOk result (lookup.new ≡ finds lookup.old (unknown_in_rule (lookup.old).symbols.now rule.now)) }
 {
-    let mut found = unknown_name(symbols, &head.name);
-    for term in head.terms.as_slice() {
-        found = Place::earlier(found, unknown_in_term(symbols, term));
-    }
-    found
+    look_in_head(lookup, &rule.first)?;
+    look_in_head(lookup, &rule.second)?;
+    look_in_equations(lookup, rule.equations.as_slice())
 }
 
-/// The same of a rule's heads and its equations.
-fn unknown_in_rule(symbols: &Names, rule: &SourceRule) -> Option<Place>
-    ensures { result ≡ unknown_in_rule symbols.now rule.now }
+/// Looks in these rules.
+fn look_in_rules(lookup: &mut Lookup, rules: &[SourceRule]) -> Result<(), AllocError>
+    ensures { OnOk result (lookup.new ≡ finds lookup.old (unknown_in_rules (lookup.old).symbols.now rules.now)) }
 {
-    let heads = Place::earlier(
-        unknown_in_head(symbols, &rule.first),
-        unknown_in_head(symbols, &rule.second),
-    );
-    Place::earlier(
-        heads,
-        unknown_in_equations(symbols, rule.equations.as_slice()),
-    )
-}
-
-fn unknown_in_rules(symbols: &Names, rules: &[SourceRule]) -> Option<Place>
-    ensures { result ≡ unknown_in_rules symbols.now rules.now }
-{
-    let mut found = None;
     for rule in rules {
-        found = Place::earlier(found, unknown_in_rule(symbols, rule));
+        look_in_rule(lookup, rule)?;
     }
-    found
+    Ok(())
+}
+
+/// Where the first name in the rules or in the net's equations stands that has to be a symbol's and isn't: a head's, or one that has
+/// arguments.
+fn first_unknown(symbols: &Names, source: &Source) -> Result<Option<Place>, AllocError>
+    ensures { IfOk result (λ found. found ≡ unknown_in symbols.now source.now) }
+{
+    let mut lookup = Lookup {
+        symbols,
+        found: None,
+    };
+    look_in_rules(&mut lookup, source.rules.as_slice())?;
+    look_in_equations(&mut lookup, source.net.equations.as_slice())?;
+    Ok(lookup.found)
 }
 
 /// The first fault of the names in the order of the text. At one place the lower code comes first.
@@ -161,10 +164,7 @@ pub(crate) fn first_fault(
         untyped_in_symbols(&types.names, source.symbols.as_slice()),
         untyped_in_free(&types.names, source.net.free.as_slice()),
     );
-    let unknown = Place::earlier(
-        unknown_in_rules(&symbols.names, source.rules.as_slice()),
-        unknown_in_equations(&symbols.names, source.net.equations.as_slice()),
-    );
+    let unknown = first_unknown(&symbols.names, source)?;
     let fault = Refusal::earlier(
         Refusal::found(Code::E04, twice),
         Refusal::found(Code::E05, untyped),

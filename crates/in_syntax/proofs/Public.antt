@@ -5,6 +5,7 @@ pub use Rattle.in_syntax.proofs.FirstFaults.Least.{least_same, left, shift, shif
 pub use Rattle.in_syntax.proofs.Trees.Ordered.{back_rises, front_rises, places_out, tree_in_order}
 pub use Rattle.in_syntax.proofs.Trees.Sized.{tree_sized}
 pub use Rattle.in_syntax.proofs.Trees.SourcePlaces.{part_small, texts_begin_apart}
-pub use Rattle.in_syntax.proofs.Trees.Terms.{names_out}
+pub use Rattle.in_syntax.proofs.Trees.Terms.{names_out, term_by_arguments, terms_by_arguments}
+pub use Rattle.in_syntax.proofs.Trees.Walks.{walk_out}
 pub use Rattle.in_syntax.proofs.Grammar.ThenOne.{then_same, then_two}
 pub use Rattle.in_syntax.proofs.Grammar.WholeTexts.{parsed_once, same_refusal}

@@ -4,3 +4,4 @@ pub mod Sized
 pub mod SourcePlaces
 pub mod Terms
 pub mod Uses
+pub mod Walks

@@ -1,5 +1,5 @@
 -- Where the names of a rule and of the net's equations stand, in the order of the text, each with how many terms stand in brackets after it.
-use Rattle.std.specs.Prelude.{ℕ, Bool, true, false, List, ◌∷◌, ◌++◌, length}
+use Rattle.std.specs.Prelude.{ℕ, Bool, true, false, List, [], ◌∷◌, ◌++◌, length, ⊤}
 use Rattle.std.specs.List.{flat_map}
 use Rattle.in_syntax.specs.declared.tree.Name.{Name}
 use Rattle.in_syntax.specs.declared.tree.Term.{Term}
@@ -9,6 +9,8 @@ use Rattle.in_syntax.specs.declared.tree.Head.{Head}
 use Rattle.in_syntax.specs.declared.tree.SourceNet.{SourceNet}
 use Rattle.in_syntax.specs.declared.tree.SourceRule.{SourceRule}
 use Rattle.in_syntax.specs.declared.uses.NameUse.{NameUse}
+use Rattle.in_syntax.specs.declared.uses.Listed.{Listed}
+use Rattle.in_syntax.specs.Walks.{Visits}
 
 -- a name with so many terms after it, which may be a head's
 abbrev pub use_of : Name → ℕ → Bool → NameUse
@@ -32,3 +34,16 @@ uses_of_rule r = (uses_of_head r.first ++ uses_of_head r.second) ++ flat_map use
 -- the names of the net's equations
 abbrev pub uses_of_body : SourceNet → List NameUse
 uses_of_body n = flat_map uses_of_equation n.equations
+
+-- ---- how a walk lists them: no public contract names this
+
+abbrev pub lists : Listed → List NameUse → Listed
+lists l more = record { uses = l.uses ++ more }
+
+-- each name goes last
+abbrev pub listing : Visits Listed ⊤
+listing = record {
+  name = λ l n terms. (lists l (use_of n terms false ∷ []), tt);
+  argument = λ l of number argument. l;
+  equation = λ l left right tilde. l;
+}

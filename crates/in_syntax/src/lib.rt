@@ -26,6 +26,7 @@ mod streams;
 mod text;
 mod tree;
 mod uses;
+mod walks;
 mod words;
 
 pub use expecting::{Expected, PartOf};
@@ -43,4 +44,5 @@ pub use tree::{
     TypeNames,
 };
 pub use uses::{NameUse, names_of_body, names_of_rule};
+pub use walks::{Visitor, walk_equations, walk_term, walk_terms};
 pub use words::{Token, TokenKind};

@@ -1,9 +1,11 @@
-ghost use Rattle.std.specs.Prelude.{◌≡◌, ◌++◌, IfOk, OnOk, length, false, true};
+ghost use Rattle.std.specs.Prelude.{◌≡◌, ◌++◌, ◌∷◌, [], IfOk, OnOk, false};
 ghost use Rattle.std.specs.List.{flat_map};
-ghost use Rattle.in_syntax.specs.Uses.{use_of, uses_of_term, uses_of_head, uses_of_equation, uses_of_rule, uses_of_body};
+ghost use Rattle.in_syntax.specs.Uses.{use_of, uses_of_head, uses_of_rule, uses_of_equation, uses_of_body, listing, lists};
 
 use crate::places::Place;
-use crate::tree::{Equation, Head, Name, SourceNet, SourceRule, Term};
+use crate::tree::{Equation, Head, Name, SourceNet, SourceRule};
+use crate::walks::{Visitor, walk_equations, walk_terms};
+use sqlite_items::Items;
 use std::alloc::{AllocError, Global};
 
 /// Where a name stands in a rule or in an equation of the net, and how many terms stand in brackets after it.
@@ -29,64 +31,69 @@ impl NameUse {
     }
 }
 
-/// Adds the names of a term: its own, and then those of its arguments.
-fn add_term(uses: &mut Vec<NameUse>, term: &Term) -> Result<(), AllocError>
-    ensures { OnOk result (uses.new.items ≡ uses.old.items ++ uses_of_term term.now) }
-{
-    uses.push(NameUse::of(&term.name, term.args.len(), false))?;
-    for argument in term.args.as_slice() {
-        add_term(uses, argument)?;
-    }
-    Ok(())
+/// The uses of names that were met so far.
+#[derive(Drop)]
+struct Listed {
+    uses: Items<NameUse>,
 }
 
-/// Adds the names of a head: its own, and then those of its terms.
-fn add_head(uses: &mut Vec<NameUse>, head: &Head) -> Result<(), AllocError>
-    ensures { OnOk result (uses.new.items ≡ uses.old.items ++ uses_of_head head.now) }
-{
-    uses.push(NameUse::of(&head.name, head.terms.len(), true))?;
-    for term in head.terms.as_slice() {
-        add_term(uses, term)?;
+impl Visitor for Listed {
+    type Known = ();
+
+    ghost visits = { listing };
+
+    fn name(&mut self, name: &Name, arguments: usize) -> Result<(), AllocError> {
+        self.uses.push(NameUse::of(name, arguments, false))
     }
-    Ok(())
+
+    fn argument(&mut self, _of: (), _number: usize, _argument: ()) -> Result<(), AllocError> {
+        Ok(())
+    }
+
+    fn equation(&mut self, _left: (), _right: (), _tilde: Place) -> Result<(), AllocError> {
+        Ok(())
+    }
 }
 
-/// Adds the names of both terms of an equation.
-fn add_equation(uses: &mut Vec<NameUse>, equation: &Equation) -> Result<(), AllocError>
-    ensures { OnOk result (uses.new.items ≡ uses.old.items ++ uses_of_equation equation.now) }
+/// Lists the names of a head: its own, and then those of its terms.
+fn list_head(listed: &mut Listed, head: &Head) -> Result<(), AllocError>
+    ensures { OnOk result (listed.new ≡ lists listed.old (uses_of_head head.now)) }
 {
-    add_term(uses, &equation.left)?;
-    add_term(uses, &equation.right)
+    listed
+        .uses
+        .push(NameUse::of(&head.name, head.terms.len(), true))?;
+    walk_terms(listed, (), head.terms.as_slice())
 }
 
-/// Adds the names of these equations.
-fn add_equations(uses: &mut Vec<NameUse>, equations: &[Equation]) -> Result<(), AllocError>
-    ensures { OnOk result (uses.new.items ≡ uses.old.items ++ flat_map uses_of_equation equations.now) }
+/// Lists the names of these equations.
+fn list_equations(listed: &mut Listed, equations: &[Equation]) -> Result<(), AllocError>
+    ensures { OnOk result (listed.new ≡ lists listed.old (flat_map uses_of_equation equations.now)) }
 {
-    for equation in equations {
-        add_equation(uses, equation)?;
-    }
-    Ok(())
+    walk_equations(listed, equations)
 }
 
 /// Where the names of a rule stand, in the order of the text: of its first head, of its second one, and of its equations. The word
 /// before its equations is no name. The only error is want of memory.
-pub fn names_of_rule(alloc: Global, rule: &SourceRule) -> Result<Vec<NameUse>, AllocError>
-    ensures { IfOk result (λ uses. uses.items ≡ uses_of_rule rule.now) }
+pub fn names_of_rule(alloc: Global, rule: &SourceRule) -> Result<Items<NameUse>, AllocError>
+    ensures { IfOk result (λ uses. uses ≡ uses_of_rule rule.now) }
 {
-    let mut uses = Vec::new(alloc);
-    add_head(&mut uses, &rule.first)?;
-    add_head(&mut uses, &rule.second)?;
-    add_equations(&mut uses, rule.equations.as_slice())?;
-    Ok(uses)
+    let mut listed = Listed {
+        uses: Items::new(alloc),
+    };
+    list_head(&mut listed, &rule.first)?;
+    list_head(&mut listed, &rule.second)?;
+    list_equations(&mut listed, rule.equations.as_slice())?;
+    Ok(listed.uses)
 }
 
 /// Where the names of the net's equations stand, in the order of the text; those that declare its free ends are not among them. The
 /// only error is want of memory.
-pub fn names_of_body(alloc: Global, net: &SourceNet) -> Result<Vec<NameUse>, AllocError>
-    ensures { IfOk result (λ uses. uses.items ≡ uses_of_body net.now) }
+pub fn names_of_body(alloc: Global, net: &SourceNet) -> Result<Items<NameUse>, AllocError>
+    ensures { IfOk result (λ uses. uses ≡ uses_of_body net.now) }
 {
-    let mut uses = Vec::new(alloc);
-    add_equations(&mut uses, net.equations.as_slice())?;
-    Ok(uses)
+    let mut listed = Listed {
+        uses: Items::new(alloc),
+    };
+    list_equations(&mut listed, net.equations.as_slice())?;
+    Ok(listed.uses)
 }
