@@ -16,3 +16,4 @@ pub mod ReadFrom
 pub mod Small
 pub mod Terms
 pub mod TextPlaces
+pub mod Walked

@@ -1,5 +1,5 @@
 -- How a net is read from its text, term by term: no public contract names this.
-use Rattle.std.specs.Prelude.{ℕ, zero, suc, ◌+◌, List, [], ◌∷◌, ◌++◌, length, map, Option, Some, None, unwrap_or, cond, is_some}
+use Rattle.std.specs.Prelude.{ℕ, zero, suc, ◌+◌, List, [], ◌∷◌, ◌++◌, length, map, Option, Some, None, unwrap_or, cond, is_some, false, if◌then◌else◌}
 use Rattle.in_syntax.specs.declared.places.Place.{Place}
 use Rattle.in_syntax.specs.declared.tree.Name.{Name}
 use Rattle.in_syntax.specs.declared.tree.Term.{Term}
@@ -11,6 +11,9 @@ use Rattle.in_symbols.specs.declared.symbols.SymbolNo.{SymbolNo}
 use Rattle.in_net.specs.declared.reading.Spot.{Spot}
 use Rattle.in_net.specs.declared.reading.Spot.TheVariants.{Port, Free, End, Occurrence}
 use Rattle.in_net.specs.declared.reading.Reading.{Reading}
+use Rattle.in_net.specs.declared.reading.NetReader.{NetReader}
+use Rattle.in_net.specs.declared.reading.ReadTerm.{ReadTerm}
+use Rattle.in_syntax.specs.Walks.{Visits}
 use Rattle.in_symbols.specs.Names.{number_in}
 use Rattle.in_symbols.specs.Tables.{Tables, arity_of}
 use Rattle.in_net.specs.TextNet.{Body, LeftHead}
@@ -119,3 +122,28 @@ ends_of t (h ∷ hs) = head_arity t h + ends_of t hs
 -- what is read of a body
 abbrev pub reading_of : Tables → Body → Reading
 reading_of t b = reads_equations t b.equations (reads_heads t b.heads (with_ends (reads_free b.free) (ends_of t b.heads)))
+
+-- ---- how a walk reads it
+
+-- the reading is that one now
+abbrev pub reads_on : NetReader → Reading → NetReader
+reads_on n r = record n { reading = r }
+
+-- a symbol's name is that of an agent, another one that of a variable or a free end
+abbrev pub with_named : Tables → Reading → Name → Option ℕ → Reading
+with_named t r n None = with_occurrence r n
+with_named t r n (Some s) = with_agent r (record { 0 = s }) (arity_of t s) n.place
+
+-- an agent's first argument is at its place 1, a head's first term at its first boundary end
+abbrev pub port_of : ReadTerm → ℕ → ℕ
+port_of of number = if of.is_head then number else number + 1
+
+abbrev pub read_at : ℕ → Place → ReadTerm
+read_at spot at = record { spot = spot; place = at; is_head = false }
+
+abbrev pub reading_names : Visits NetReader ReadTerm
+reading_names = record {
+  name = λ n name arguments. (reads_on n (with_named n.symbols.now n.reading name (number_in name.text n.symbols.now.names)), read_at (length n.reading.spots) name.place);
+  argument = λ n of number argument. reads_on n (with_joint n.reading of.spot (port_of of number) argument.spot argument.place);
+  equation = λ n left right tilde. reads_on n (with_joint n.reading left.spot 0 right.spot tilde);
+}

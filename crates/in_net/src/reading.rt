@@ -1,10 +1,15 @@
-ghost use Rattle.std.specs.Prelude.{◌≡◌, length, map, IfOk, unwrap_or};
+ghost use Rattle.std.specs.Prelude.{◌≡◌, true, length, map, IfOk, OnOk, unwrap_or};
+ghost use Rattle.std.specs.List.{AllByRecursion};
 ghost use Rattle.in_symbols.specs.Names.{number_in};
-ghost use Rattle.in_net.specs.Reading.{nothing_read, with_name, with_agent, with_occurrence, with_ends, reader_of, reads_arguments, reads_equation, reads_equations, reads_heads, reads_free, reading_of};
+ghost use Rattle.in_symbols.specs.Tables.{heads_known, HeadsKnown, IsRuleKnown};
+ghost use Rattle.in_net.specs.Reading.{nothing_read, with_name, with_agent, with_occurrence, with_ends, reader_of, reads_arguments, reads_equations, reads_heads, reads_free, reads_on, reading_names, reading_of};
 ghost use Rattle.in_net.specs.TextNet.{body_of, heads_at};
 
 use in_symbols::{Names, SymbolNo, Symbols};
-use in_syntax::{Equation, Head, Name, Place, SourceFree, SourceNet, SourceRule, Term};
+use in_syntax::{
+    Equation, Head, Name, Place, SourceFree, SourceNet, SourceRule, Visitor, walk_equations,
+    walk_terms,
+};
 use sqlite_items::Items;
 use std::alloc::{AllocError, Global};
 
@@ -117,48 +122,77 @@ fn add_occurrence(alloc: Global, reading: &mut Reading, name: &Name) -> Result<u
     Ok(spot)
 }
 
-/// Reads a term, each agent before its arguments, and answers the number of its spot.
-fn read_term(
-    alloc: Global,
-    symbols: &Symbols,
-    term: &Term,
-    reading: &mut Reading,
-) -> Result<usize, AllocError>
-    ensures { IfOk result (λ spot. (reading.new, spot) ≡ (reader_of symbols.now term.now).reads reading.old) }
-{
-    let Some(symbol) = symbols.number_of(term.name.text.as_str()) else {
-        return add_occurrence(alloc, reading, &term.name);
-    };
-    let first = add_agent(reading, symbol, symbols.arity(symbol), term.name.place)?;
-    for (index, argument) in term.args.as_slice().iter().enumerate() {
-        let other = read_term(alloc, symbols, argument, reading)?;
-        reading.joints.push(Joint {
-            one: first,
-            port: index + 1,
-            other,
-            place: argument.name.place,
-        })?;
-    }
-    Ok(first)
+/// A term that was read: its spot, or a head's first boundary end; and where its name stands.
+#[derive(Clone, Copy)]
+struct ReadTerm {
+    spot: usize,
+    place: Place,
+    is_head: bool,
 }
 
-/// Reads both terms of an equation.
-fn read_equation(
+/// What is read of the names that it is told of, each agent before its arguments.
+#[derive(Drop)]
+struct NetReader<'a> {
     alloc: Global,
-    symbols: &Symbols,
-    equation: &Equation,
-    reading: &mut Reading,
-) -> Result<(), AllocError>
-    ensures { IfOk result (λ _. reading.new ≡ reads_equation symbols.now equation.now reading.old) }
+    symbols: &'a Symbols,
+    reading: Reading,
+}
+
+impl Visitor for NetReader<'_> {
+    type Known = ReadTerm;
+
+    ghost visits = { reading_names };
+
+    fn name(&mut self, name: &Name, _arguments: usize) -> Result<ReadTerm, AllocError> {
+        let spot = match self.symbols.number_of(name.text.as_str()) {
+            Some(symbol) => {
+                let arity = self.symbols.arity(symbol);
+                add_agent(&mut self.reading, symbol, arity, name.place)?
+            }
+            None => add_occurrence(self.alloc, &mut self.reading, name)?,
+        };
+        Ok(ReadTerm {
+            spot,
+            place: name.place,
+            is_head: false,
+        })
+    }
+
+    fn argument(
+        &mut self,
+        of: ReadTerm,
+        number: usize,
+        argument: ReadTerm,
+    ) -> Result<(), AllocError> {
+        self.reading.joints.push(Joint {
+            one: of.spot,
+            port: if of.is_head { number } else { number + 1 },
+            other: argument.spot,
+            place: argument.place,
+        })
+    }
+
+    fn equation(
+        &mut self,
+        left: ReadTerm,
+        right: ReadTerm,
+        tilde: Place,
+    ) -> Result<(), AllocError> {
+        self.reading.joints.push(Joint {
+            one: left.spot,
+            port: 0,
+            other: right.spot,
+            place: tilde,
+        })
+    }
+}
+
+/// Reads these equations.
+fn read_equations(reader: &mut NetReader, equations: &[Equation]) -> Result<(), AllocError>
+    requires { HeadsKnown (reader.old).symbols.now.names equations.now }
+    ensures { OnOk result (reader.new ≡ reads_on reader.old (reads_equations (reader.old).symbols.now equations.now (reader.old).reading)) }
 {
-    let one = read_term(alloc, symbols, &equation.left, reading)?;
-    let other = read_term(alloc, symbols, &equation.right, reading)?;
-    reading.joints.push(Joint {
-        one,
-        port: 0,
-        other,
-        place: equation.tilde,
-    })
+    walk_equations(reader, equations)
 }
 
 /// Reads the free ends.
@@ -173,32 +207,23 @@ fn read_free(alloc: Global, free: &[SourceFree]) -> Result<Reading, AllocError>
     Ok(reading)
 }
 
-/// Reads these equations.
-fn read_equations(
-    alloc: Global,
-    symbols: &Symbols,
-    equations: &[Equation],
-    reading: &mut Reading,
-) -> Result<(), AllocError>
-    ensures { IfOk result (λ _. reading.new ≡ reads_equations symbols.now equations.now reading.old) }
-{
-    for equation in equations {
-        read_equation(alloc, symbols, equation, reading)?;
-    }
-    Ok(())
-}
-
 /// Reads a net: its free ends, and then its equations.
 pub(crate) fn read_net(
     alloc: Global,
     symbols: &Symbols,
     net: &SourceNet,
 ) -> Result<Reading, AllocError>
+    requires { HeadsKnown symbols.now.names net.now.equations }
     ensures { IfOk result (λ r. r ≡ reading_of symbols.now (body_of net.now)) }
 {
-    let mut reading = read_free(alloc, net.free.as_slice())?;
-    read_equations(alloc, symbols, net.equations.as_slice(), &mut reading)?;
-    Ok(reading)
+    let reading = read_free(alloc, net.free.as_slice())?;
+    let mut reader = NetReader {
+        alloc,
+        symbols,
+        reading,
+    };
+    read_equations(&mut reader, net.equations.as_slice())?;
+    Ok(reader.reading)
 }
 
 /// Reads so many boundary ends.
@@ -213,25 +238,16 @@ fn read_ends(alloc: Global, count: usize) -> Result<Reading, AllocError>
 }
 
 /// Reads the terms of a head, the first boundary end of which has that number.
-fn read_head(
-    alloc: Global,
-    symbols: &Symbols,
-    head: &Head,
-    first: usize,
-    reading: &mut Reading,
-) -> Result<(), AllocError>
-    ensures { IfOk result (λ _. reading.new ≡ reads_arguments first (map (reader_of symbols.now) head.now.terms) 0 reading.old) }
+fn read_head(reader: &mut NetReader, head: &Head, first: usize) -> Result<(), AllocError>
+    requires { AllByRecursion (λ t. heads_known (reader.old).symbols.now.names t ≡ true) head.now.terms }
+    ensures { OnOk result (reader.new ≡ reads_on reader.old (reads_arguments first (map (reader_of (reader.old).symbols.now) head.now.terms) 0 (reader.old).reading)) }
 {
-    for (index, term) in head.terms.as_slice().iter().enumerate() {
-        let other = read_term(alloc, symbols, term, reading)?;
-        reading.joints.push(Joint {
-            one: first,
-            port: index,
-            other,
-            place: term.name.place,
-        })?;
-    }
-    Ok(())
+    let first = ReadTerm {
+        spot: first,
+        place: head.name.place,
+        is_head: true,
+    };
+    walk_terms(reader, first, head.terms.as_slice())
 }
 
 /// Reads a rule, the boundary ends of whose heads begin at these numbers: so many boundary ends, then the terms of each head in the
@@ -244,11 +260,17 @@ pub(crate) fn read_rule(
     first: usize,
     second: usize,
 ) -> Result<Reading, AllocError>
+    requires { IsRuleKnown symbols.now.names rule.now }
     ensures { IfOk result (λ r. r ≡ reads_equations symbols.now rule.now.equations (reads_heads symbols.now (heads_at rule.now first second) (with_ends nothing_read ends))) }
 {
-    let mut reading = read_ends(alloc, ends)?;
-    read_head(alloc, symbols, &rule.first, first, &mut reading)?;
-    read_head(alloc, symbols, &rule.second, second, &mut reading)?;
-    read_equations(alloc, symbols, rule.equations.as_slice(), &mut reading)?;
-    Ok(reading)
+    let reading = read_ends(alloc, ends)?;
+    let mut reader = NetReader {
+        alloc,
+        symbols,
+        reading,
+    };
+    read_head(&mut reader, &rule.first, first)?;
+    read_head(&mut reader, &rule.second, second)?;
+    read_equations(&mut reader, rule.equations.as_slice())?;
+    Ok(reader.reading)
 }
