@@ -1,5 +1,6 @@
 //! Where a name stands in a rule or in the net.
 use in_syntax::{NameUse, Place, Source, SourceNet, SourceRule, names_of_body, names_of_rule};
+use sqlite_items::Items;
 use std::alloc::{AllocError, Global};
 
 /// Where the net's names begin.
@@ -38,7 +39,7 @@ pub(crate) fn names_around(
     alloc: Global,
     source: &Source,
     at: Place,
-) -> Result<Vec<NameUse>, AllocError> {
+) -> Result<Items<NameUse>, AllocError> {
     match rule_around(source, at) {
         Some(rule) => names_of_rule(alloc, rule),
         None => names_of_body(alloc, &source.net),
