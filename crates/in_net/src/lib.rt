@@ -1,9 +1,9 @@
 //! Nets of agents: the net and the rules of a text, their active pairs, a copy of a net, a net whose agents and wires are exchanged.
 //!
-//! A net and a rule are read alike, as a *body* (`specs/TextNet.antt`): free names, heads with their terms, equations. `reading` goes
-//! over the terms in the order of the text and numbers the *spots*: the free or boundary ends, which are the first ones, the ports of
-//! each agent, and the occurrences of variables and free names. `faults` then looks for the first fault: it counts the agents and their
-//! arguments, and `counting` counts how often each name occurs.
+//! A net and a rule are read alike, as a *body* (`specs/TextNet.antt`): free names, heads with their terms, equations. `reading` is told
+//! of the terms' names by a walk, in the order of the text, and numbers the *spots*: the free or boundary ends, which are the first
+//! ones, the ports of each agent, and the occurrences of variables and free names. `faults` then looks for the first fault: it counts
+//! the agents and their arguments, and `counting` counts how often each name occurs.
 //!
 //! Where there is no fault, `joining` first joins the spots of equations, arguments and heads' terms, and then takes the names one by
 //! one: what the two spots of a name are joined to is joined, at the later of the two places. So a chain of any length costs its length,

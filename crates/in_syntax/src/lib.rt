@@ -4,7 +4,8 @@
 //! `states` say where in a program the next token is, with a `stack` for the terms that are open: no call is deeper for a deeper text.
 //! `specs/Steps.antt` has the machine's steps as definitions; the proofs show that it reads exactly what the grammar spells.
 //!
-//! `uses` goes down a tree, one call deeper for each term within a term, and lists where the names of a rule or of the net stand.
+//! `walks` goes down terms, one call deeper for each term within a term, and tells a `Visitor` of each name, each argument and each
+//! equation; `uses` is one that lists where the names of a rule or of the net stand. `in_symbols` and `in_net` have others.
 #![tactic(auto)]
 
 mod characters;
