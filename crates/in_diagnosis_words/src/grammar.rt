@@ -220,6 +220,7 @@ impl Unexpected<'_> {
     fn help_with_section(&self) -> Option<&'static str> {
         match (self.expected, self.found, self.after) {
             (Expected::Item, "", _) => Some("a program ends with its net: `net (..) { .. }`"),
+            (Expected::Item, ";", _) => Some("a declaration or a rule ends with one `;`"),
             (Expected::Item, _, Some(TokenKind::OpenBracket)) if !is_sign(self.found) => {
                 Some("a rule begins with the word `rule`")
             }
@@ -258,6 +259,7 @@ impl Unexpected<'_> {
             (Expected::RuleClose, _) => {
                 "a rule with equations ends with `;` behind its closing brace"
             }
+            (Expected::Equation, ";") => "an equation ends with one `;`",
             (Expected::BodyOpen | Expected::Equation, _) => {
                 "equations stand in braces, each with `;` at its end"
             }

@@ -122,15 +122,15 @@ BesidePartsAreSound = (p : System) (one two n : Net ℕ) (name : ℕ → ℕ) (e
 abbrev pub BesideSoundIsSound : Type 0
 BesideSoundIsSound = (p : System) (one two n : Net ℕ) (name : ℕ → ℕ) (ends : List (ℕ × ℕ)) → IsSound p one → IsSound p two → StandBeside one two name ends n → IsSound p n
 
--- which nets stand side by side in a net is determined by the symbols of the first one, but for the numbers that agents of the second have
--- by themselves
+-- which nets stand side by side in a net is determined by the symbols of the first one, but for the numbers that agents of the second
+-- have by themselves
 abbrev pub BesidePartsAreAlike : Type 0
-BesidePartsAreAlike = (p : System) (one two one_too two_too n : Net ℕ) (name name_too : ℕ → ℕ) (ends : List (ℕ × ℕ)) →
-    IsNet p.symbols one → IsNet p.symbols two → IsNet p.symbols one_too → IsNet p.symbols two_too →
+BesidePartsAreAlike = (one two one_too two_too n : Net ℕ) (name name_too : ℕ → ℕ) (ends : List (ℕ × ℕ)) →
+    IsWiredWithin one → IsWiredWithin two → IsWiredWithin one_too → IsWiredWithin two_too →
     StandBeside one two name ends n → StandBeside one_too two_too name_too ends n → ((y : ℕ) → one.symbol y ≡ one_too.symbol y) →
     IsRenamed (λ y. y) one one_too × (f : ℕ → ℕ) × IsRenamed f two two_too
 
 -- what two nets are side by side is one net, up to the names of its agents
 abbrev pub BesideIsOne : Type 0
-BesideIsOne = (p : System) (one two n n_too : Net ℕ) (name name_too : ℕ → ℕ) (ends : List (ℕ × ℕ)) → IsNet p.symbols one → IsNet p.symbols two →
+BesideIsOne = (one two n n_too : Net ℕ) (name name_too : ℕ → ℕ) (ends : List (ℕ × ℕ)) → IsWiredWithin one → IsWiredWithin two →
     StandBeside one two name ends n → StandBeside one two name_too ends n_too → (f : ℕ → ℕ) × IsRenamed f n n_too

@@ -18,6 +18,7 @@ use Rattle.in_moving.specs.Laws.{AreEndsOfBoth, leads_to, number_of}
 use Rattle.in_moving.specs.TakingOut.{AreLedTo, AreNumberedAnew}
 use Rattle.in_moving.proofs.Public.{copies_stand_beside, led_to, numbered_anew}
 use Rattle.in_parts.specs.Leading.{StandBeside}
+use Rattle.in_parts.proofs.Public.{net_within}
 use Rattle.in_reducer.specs.declared.body.Body.{Body}
 use Rattle.in_reducer.specs.declared.body.OwnEnd.{OwnEnd}
 use Rattle.in_reducer.specs.Appending.{CanAppend}
@@ -201,7 +202,7 @@ module _ (r o : Body) (k : KeepsNet r) (l : KeepsNet o) (can : CanAppend (reduce
 
       pub glued_on : NoneLeased r.arena → IsGluedOn (reducer_view r) (reducer_view o) own cuts after
       glued_on none = record {
-        two = record { program_rest = refl; program_part = can.program; name = name; beside = stand; names = names_told };
+        two = record { program_rest = refl; program_part = can.program; name = name; beside = stand; within_rest = net_within _ _ k.reducer.net.sound.net; within_part = net_within _ _ l.reducer.net.sound.net; names = names_told };
         vacant = together.vacant_after r o k l can agents live (number_in rest_numbers) a anew part_numbers names b copied none;
         cells = together.cells_after r o k l can agents live (number_in rest_numbers) a anew part_numbers names b copied;
       }

@@ -15,7 +15,7 @@ use Rattle.in_check.specs.Runs.{at_start, then_step}
 use Rattle.in_check.specs.Systems.{System, IsSound, IsSoundSystem, system_of}
 use Rattle.in_check.proofs.Public.{is_sound, renamed_self}
 use Rattle.in_glue.specs.PartRuns.{Run, none, one_more}
-use Rattle.in_glue.proofs.Public.{with_start}
+use Rattle.in_glue.proofs.Public.{map_some, with_start}
 use Rattle.in_compile.specs.Cells.{agents_of, count_of, is_of, takes}
 use Rattle.in_parts.specs.Leading.{Leads}
 use Rattle.in_parts.proofs.Public.{beside_leads, leads_go_on}
@@ -62,17 +62,6 @@ reductions_go_on l m n j k first on = record {
 
 -- ---- parts
 
-abbrev without_some : {X : Type 0} → X → Option X → X
-without_some x None = x
-without_some x (Some y) = y
-
-pub somes_same : (xs ys : List (List ℕ)) → map (λ n. Some n) xs ≡ map (λ n. Some n) ys → xs ≡ ys
-somes_same xs ys e = sym (back xs) ∙ ap (map (without_some [])) e ∙ back ys
-  where
-    back : (zs : List (List ℕ)) → map (without_some []) (map (λ n. Some n) zs) ≡ zs
-    back [] = refl
-    back (z ∷ zs) = ap (λ ws. z ∷ ws) (back zs)
-
 module _ (m rest part rest_after part_after after : MachineParts) (agents : List CellNo) (own cuts size j k : ℕ) (h : IsReducer m) (h_rest : IsReducer rest) (h_part : IsReducer part) (off : IsSplitOff m agents own cuts size rest part)
     (first : ReducesTo rest j rest_after) (second : ReducesTo part k part_after) (glued : IsGluedOn rest_after part_after own cuts after) where
   good : IsSoundSystem (system_of m.program)
@@ -88,7 +77,7 @@ module _ (m rest part rest_after part_after after : MachineParts) (agents : List
       (leads_over rest.program m.program j (net_in rest) (net_in rest_after) off.two.program_rest first.leads) (leads_over part.program m.program k (net_in part) (net_in part_after) off.two.program_part second.leads) glued.two.beside
 
   whole_names : names_of after ≡ names_of m
-  whole_names = somes_same (names_of after) (names_of m) (glued.two.names ∙ (λ i. map (names_of_two (first.names i) (second.names i)) (ends_of_two own cuts)) ∙ sym off.two.names)
+  whole_names = map_some (names_of after) (names_of m) (glued.two.names ∙ (λ i. map (names_of_two (first.names i) (second.names i)) (ends_of_two own cuts)) ∙ sym off.two.names)
 
   whole_cells : (c : CellClass) → count_of after.vacant c + agents_of m.program.tables c after.agents ≡ count_of m.vacant c + agents_of m.program.tables c m.agents
   whole_cells c =

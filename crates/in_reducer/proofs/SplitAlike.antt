@@ -4,20 +4,17 @@ use Rattle.std.proofs.lemmas.List.{length-map}
 use Rattle.std.proofs.lemmas.Option.{slice_get_within}
 use Rattle.in_arena.specs.declared.content.CellClass.{CellClass}
 use Rattle.in_arena.specs.declared.content.CellNo.{CellNo}
-use Rattle.in_net.specs.Nets.{IsNet}
 use Rattle.in_net.proofs.Public.{all_same}
 use Rattle.in_check.specs.Programs.{Program}
-use Rattle.in_check.specs.Systems.{system_of}
 use Rattle.in_compile.specs.Cells.{agents_of, count_of}
-use Rattle.in_glue.proofs.Public.{at_outer}
+use Rattle.in_glue.proofs.Public.{at_outer, map_some}
 use Rattle.in_moving.proofs.Public.{NamedOr, named_or}
 use Rattle.in_parts.proofs.Public.{beside_is_one, beside_parts_are_alike}
 use Rattle.in_reducer.specs.Cutting.{net_in}
 use Rattle.in_reducer.specs.Machines.{MachineParts}
 use Rattle.in_reducer.specs.Parting.{IsSplitOff, ends_of_two, names_of, names_of_two, place_of_two}
 use Rattle.in_reducer.specs.PartingLaws.{DifferInNumbers, DifferInOrder, GluingsAreAlike, SplitsAreAlike}
-use Rattle.in_reducer.specs.Reducers.{IsReducer}
-use Rattle.in_reducer.proofs.Reduced.{same_agents, somes_same}
+use Rattle.in_reducer.proofs.Reduced.{same_agents}
 use Rattle.in_reducer.proofs.TwoEnds.{part_of_two, rest_of_two}
 
 -- two lists of one length are one where they have the same at each place
@@ -92,36 +89,29 @@ module _ (m rest part rest_too part_too : MachineParts) (agents : List CellNo) (
 
   -- ---- nets
 
-  module _ (h_rest : IsReducer rest) (h_part : IsReducer part) (h_rest_too : IsReducer rest_too) (h_part_too : IsReducer part_too) where
-    net_over : (a : MachineParts) → a.program ≡ m.program → IsReducer a → IsNet (system_of m.program).symbols (net_in a)
-    net_over a same h = subst (λ (p : Program). IsNet (system_of p).symbols (net_in a)) same h.net.sound.net
-
-    alike : DifferInOrder rest rest_too × DifferInNumbers part part_too
-    alike =
-        let nets =
-        beside_parts_are_alike (system_of m.program) (net_in rest) (net_in part) (net_in rest_too) (net_in part_too) (net_in m) off.two.name off_too.two.name ends
-        (net_over rest off.two.program_rest h_rest) (net_over part off.two.program_part h_part) (net_over rest_too off_too.two.program_rest h_rest_too)
-        (net_over part_too off_too.two.program_part h_part_too) off.two.beside off_too.two.beside same_symbol in
-        let rests : DifferInNumbers rest rest_too =
-        record { number = λ y. y; net = nets.0; program = off.two.program_rest ∙ sym off_too.two.program_rest; names = same_rest_names; vacant = same_rest_vacant } in (
-          record { net = nets.0; alike = rests },
-          record { number = nets.1; net = nets.2; program = off.two.program_part ∙ sym off_too.two.program_part; names = same_part_names; vacant = same_part_vacant },
-        )
+  alike : DifferInOrder rest rest_too × DifferInNumbers part part_too
+  alike =
+      let nets =
+      beside_parts_are_alike (net_in rest) (net_in part) (net_in rest_too) (net_in part_too) (net_in m) off.two.name off_too.two.name ends
+      off.two.within_rest off.two.within_part off_too.two.within_rest off_too.two.within_part off.two.beside off_too.two.beside same_symbol in
+      let rests : DifferInNumbers rest rest_too =
+      record { number = λ y. y; net = nets.0; program = off.two.program_rest ∙ sym off_too.two.program_rest; names = same_rest_names; vacant = same_rest_vacant } in (
+        record { net = nets.0; alike = rests },
+        record { number = nets.1; net = nets.2; program = off.two.program_part ∙ sym off_too.two.program_part; names = same_part_names; vacant = same_part_vacant },
+      )
 
 pub splits_are_alike : SplitsAreAlike
-splits_are_alike m rest part rest_too part_too agents own cuts size h_rest h_part h_rest_too h_part_too off off_too =
-    alike m rest part rest_too part_too agents own cuts size off off_too h_rest h_part h_rest_too h_part_too
+splits_are_alike m rest part rest_too part_too agents own cuts size off off_too = alike m rest part rest_too part_too agents own cuts size off off_too
 
 pub gluings_are_alike : GluingsAreAlike
-gluings_are_alike rest part m m_too own cuts h_rest h_part on on_too =
-    let net_part = subst (λ (p : Program). IsNet (system_of p).symbols (net_in part)) (on.two.program_part ∙ sym on.two.program_rest) h_part.net.sound.net in
-    let nets = beside_is_one (system_of rest.program) (net_in rest) (net_in part) (net_in m) (net_in m_too) on.two.name on_too.two.name (ends_of_two own cuts) h_rest.net.sound.net net_part on.two.beside on_too.two.beside in
+gluings_are_alike rest part m m_too own cuts on on_too =
+    let nets = beside_is_one (net_in rest) (net_in part) (net_in m) (net_in m_too) on.two.name on_too.two.name (ends_of_two own cuts) on.two.within_rest on.two.within_part on.two.beside on_too.two.beside in
     let program : m.program ≡ m_too.program = sym on.two.program_rest ∙ on_too.two.program_rest in
     record {
       number = nets.0;
       net = nets.1;
       program = program;
-      names = somes_same (names_of m) (names_of m_too) (on.two.names ∙ sym on_too.two.names);
+      names = map_some (names_of m) (names_of m_too) (on.two.names ∙ sym on_too.two.names);
       vacant = λ c. (
           let a = on.vacant c in
           let b = on_too.vacant c in

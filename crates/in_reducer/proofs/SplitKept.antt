@@ -17,7 +17,8 @@ use Rattle.in_interaction.proofs.Public.{has_value}
 use Rattle.in_check.proofs.Public.{AreOpposed, opposed_in}
 use Rattle.in_check.specs.Programs.{Program}
 use Rattle.in_moving.specs.Copying.{name_in, number_in}
-use Rattle.in_moving.proofs.Public.{NamedOr, named_or, word_moved}
+use Rattle.in_moving.proofs.Public.{NamedOr, live_has_word, named_or, word_moved}
+use Rattle.in_parts.proofs.Public.{net_within}
 use Rattle.in_reducer.specs.declared.body.Body.{Body}
 use Rattle.in_reducer.specs.declared.body.OwnEnd.{OwnEnd}
 use Rattle.in_reducer.specs.declared.tools.Tools.{Tools}
@@ -56,11 +57,6 @@ gone_dead : (x : State) → is_gone x ≡ true → IsLive x → ⊥
 gone_dead Vacant e h = h
 gone_dead Leased e h = h
 gone_dead (Live w es) e h = let f : false ≡ true = e in cc
-
-live_word : (x : State) → IsLive x → IsSome (word_of x)
-live_word Vacant h = absurd h
-live_word Leased h = absurd h
-live_word (Live w es) h = refl
 
 word_live_some : (x : State) → IsSome (word_of x) → IsLive x
 word_live_some x h = let w = has_value (word_of x) h in word_live x w.0 w.1
@@ -124,7 +120,7 @@ module _ (r : Body) (k : KeepsNet r) (agents : List CellNo) (own cuts : ℕ) (ca
       go (inl still) = absurd (gone_dead (state_at x.left y) gone still)
       go (inr at) = (
         name y,
-        word_live_some (state_at x.new (name y)) (subst IsSome (sym (ap word_of (h.copied.each at.0 (record { 0 = y }) at.1).1 ∙ word_moved name (number_in x.numbers) (state_at r.arena y))) (live_word (state_at r.arena y) live)),
+        word_live_some (state_at x.new (name y)) (subst IsSome (sym (ap word_of (h.copied.each at.0 (record { 0 = y }) at.1).1 ∙ word_moved name (number_in x.numbers) (state_at r.arena y))) (live_has_word (state_at r.arena y) live)),
         nets.from_where r k agents own cuts can x h at.0 (record { 0 = y }) at.1,
       )
 
@@ -134,10 +130,10 @@ module _ (r : Body) (k : KeepsNet r) (agents : List CellNo) (own cuts : ℕ) (ca
     where
       go : NamedOr agents name z → name (nets.origin r k agents own cuts can x h z) ≡ z
       go (inl at) = ap (λ (v : ℕ). name (nets.origin r k agents own cuts can x h v)) (sym at.3) ∙ ap name (nets.from_where r k agents own cuts can x h at.0 at.1 at.2) ∙ at.3
-      go (inr out) = absurd (let w = live_word (state_at x.new z) live in let f : false ≡ true = subst IsSome (ap word_of (h.copied.others z out) ∙ no_word x.first x.size h.same h.empty z) w in cc)
+      go (inr out) = absurd (let w = live_has_word (state_at x.new z) live in let f : false ≡ true = subst IsSome (ap word_of (h.copied.others z out) ∙ no_word x.first x.size h.same h.empty z) w in cc)
 
   whole_alive : (q : ℕ × ℕ) → goes x.left q ≡ true → IsSome ((net_in (reducer_view r)).symbol q.0) → (y : ℕ) × IsSome ((net_of part_parts).symbol y) × (nets.origin r k agents own cuts can x h y ≡ q.0)
-  whole_alive q gone s = let z = part_agent q.0 gone (agent_live q.0 s) in (z.0, subst IsSome (sym (symbol_seen x.new part_fs x.part_ends z.0)) (live_word (state_at x.new z.0) z.1), z.2)
+  whole_alive q gone s = let z = part_agent q.0 gone (agent_live q.0 s) in (z.0, subst IsSome (sym (symbol_seen x.new part_fs x.part_ends z.0)) (live_has_word (state_at x.new z.0) z.1), z.2)
 
   named_again : (y : ℕ) → IsSome ((net_of part_parts).symbol y) → name (nets.origin r k agents own cuts can x h y) ≡ y
   named_again y s = named y (word_live_some (state_at x.new y) (subst IsSome (symbol_seen x.new part_fs x.part_ends y) s))
@@ -192,7 +188,7 @@ module _ (r : Body) (k : KeepsNet r) (agents : List CellNo) (own cuts : ℕ) (ca
           ∙ sym (symbol_seen r.arena (own_free r) r.ends.items y)
           );
     };
-    two = record { program_rest = refl; program_part = refl; name = nets.origin r k agents own cuts can x h; beside = nets.stand r k agents own cuts can x h; names = nets.names_are r k agents own cuts can x h q o };
+    two = record { program_rest = refl; program_part = refl; name = nets.origin r k agents own cuts can x h; beside = nets.stand r k agents own cuts can x h; within_rest = net_within _ _ (nets.sound r k agents own cuts can x h).0.net; within_part = net_within _ _ (nets.sound r k agents own cuts can x h).1.net; names = nets.names_are r k agents own cuts can x h q o };
     many_rest = nets.rest_many r k agents own cuts can x h;
     many_part = nets.part_many r k agents own cuts can x h;
     part_cells = λ d. cells.part_cells r k agents own cuts can x.numbers x.names x.size x.first x.new h.same h.empty h.copied d;

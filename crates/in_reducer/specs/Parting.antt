@@ -7,7 +7,7 @@ use Rattle.in_net.specs.Nets.{Point, Port, Free}
 use Rattle.in_compile.specs.Cells.{agents_of, count_of}
 use Rattle.in_check.specs.Systems.{system_of}
 use Rattle.in_moving.specs.Laws.{ends_of}
-use Rattle.in_parts.specs.Leading.{Leads, StandBeside}
+use Rattle.in_parts.specs.Leading.{IsWiredWithin, Leads, StandBeside}
 use Rattle.in_reducer.specs.Cutting.{net_in}
 use Rattle.in_reducer.specs.Machines.{MachineParts, HasCells}
 
@@ -34,12 +34,15 @@ abbrev pub names_of_two : List (List ℕ) → List (List ℕ) → ℕ × ℕ →
 names_of_two rest part (zero, e) = slice_get rest e
 names_of_two rest part (suc i, e) = slice_get part e
 
--- the net is the rest and the part side by side, the agents of the part under these names, with the free ends in that order
+-- the net is the rest and the part side by side, the agents of the part under these names, with the free ends in that order; the wires of
+-- either lead between what it has
 pub record IsOfTwo (m rest part : MachineParts) (own cuts : ℕ) : Type 0 where
   pub program_rest : rest.program ≡ m.program
   pub program_part : part.program ≡ m.program
   pub name : ℕ → ℕ
   pub beside : StandBeside (net_in rest) (net_in part) name (ends_of_two own cuts) (net_in m)
+  pub within_rest : IsWiredWithin (net_in rest)
+  pub within_part : IsWiredWithin (net_in part)
   pub names : map (λ n. Some n) (names_of m) ≡ map (names_of_two (names_of rest) (names_of part)) (ends_of_two own cuts)
 
 -- ---- split off

@@ -41,12 +41,12 @@ pub record DifferInOrder (m m_too : MachineParts) : Type 0 where
 
 -- what is split off is determined by the net, the agents and the cuts
 abbrev pub SplitsAreAlike : Type 0
-SplitsAreAlike = (m rest part rest_too part_too : MachineParts) (agents : List CellNo) (own cuts cells : ℕ) → IsReducer rest → IsReducer part → IsReducer rest_too → IsReducer part_too →
+SplitsAreAlike = (m rest part rest_too part_too : MachineParts) (agents : List CellNo) (own cuts cells : ℕ) →
     IsSplitOff m agents own cuts cells rest part → IsSplitOff m agents own cuts cells rest_too part_too → DifferInOrder rest rest_too × DifferInNumbers part part_too
 
 -- what is glued is determined by the rest, the part and the cuts
 abbrev pub GluingsAreAlike : Type 0
-GluingsAreAlike = (rest part m m_too : MachineParts) (own cuts : ℕ) → IsReducer rest → IsReducer part → IsGluedOn rest part own cuts m → IsGluedOn rest part own cuts m_too → DifferInNumbers m m_too
+GluingsAreAlike = (rest part m m_too : MachineParts) (own cuts : ℕ) → IsGluedOn rest part own cuts m → IsGluedOn rest part own cuts m_too → DifferInNumbers m m_too
 
 -- where a wire is cut, and only interactions are done since, the two ends can be joined, and what was before the cut is reduced to that
 abbrev pub CutsAreUndone : Type 0
