@@ -7,7 +7,7 @@ use Rattle.in_check.specs.Programs.{Program}
 use Rattle.in_compile.specs.Cells.{agents_of, count_of}
 use Rattle.in_reducer.specs.Appending.{CanAppend}
 use Rattle.in_reducer.specs.Machines.{MachineParts}
-use Rattle.in_reducer.specs.Parting.{IsGluedOn, ReducesTo, names_of}
+use Rattle.in_reducer.specs.Parting.{IsGluedOn, ReducesTo}
 use Rattle.in_reducer.specs.Reducers.{IsReducer}
 use Rattle.in_reducer.specs.PartingLaws.{IsCutTimes}
 use Rattle.in_reducer.proofs.Public.{parts_reduce_the_whole, stays_reduce}

@@ -1,5 +1,5 @@
 -- Wires that are cut, one after another.
-use Rattle.std.proofs.Common.{◌≡◌, ◌+◌, ℕ, zero, suc, Bool, Option, Some, None, IsSome, List, [], ◌∷◌, ◌++◌, length, map, option_map, refl, sym, ap, subst, ◌∙◌, is_some, arith}
+use Rattle.std.proofs.Common.{◌≡◌, ◌+◌, ℕ, zero, suc, Bool, Option, Some, None, List, [], ◌∷◌, length, map, option_map, refl, sym, ap, subst, ◌∙◌, is_some, arith}
 use Rattle.std.proofs.lemmas.List.{length-append, length-map}
 use Rattle.std.proofs.lemmas.Option.{same_Some}
 use Rattle.in_arena.specs.declared.content.CellNo.{CellNo}
@@ -10,7 +10,6 @@ use Rattle.in_check.specs.Programs.{Program}
 use Rattle.in_reducer.specs.Cutting.{CutsAt, net_in}
 use Rattle.in_reducer.specs.Machines.{MachineParts, parts_of}
 use Rattle.in_reducer.specs.PartingLaws.{IsCutTimes, uncut, then_cut}
-use Rattle.in_reducer.specs.Reducers.{IsReducer}
 use Rattle.in_phases.specs.Branches.{AreOfBranch, HasAgent}
 use Rattle.in_phases.proofs.Places.{agent_in_net, agent_of_net}
 use Rattle.in_phases.proofs.Gathered.{gathered_still}

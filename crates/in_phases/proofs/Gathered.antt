@@ -1,10 +1,9 @@
 -- Agents are gathered, one after another.
-use Rattle.std.proofs.Common.{◌≡◌, ◌≢◌, ◌⊎◌, inl, inr, ◌<◌, ◌≤◌, ℕ, zero, suc, Bool, true, false, Option, Some, None, IsSome, List, [], ◌∷◌, ◌++◌, length, set, slice_get, refl, sym, ap, subst, ◌∙◌, length-set, arith}
-use Rattle.std.proofs.lemmas.Option.{same_Some, slice_get_within}
+use Rattle.std.proofs.Common.{◌≡◌, ◌≢◌, ◌⊎◌, inl, inr, ◌≤◌, ℕ, zero, suc, Bool, true, false, Some, List, [], ◌∷◌, ◌++◌, length, set, slice_get, sym, ap, subst, ◌∙◌, length-set, arith}
+use Rattle.std.proofs.lemmas.Option.{slice_get_within}
 use Rattle.in_base.proofs.Places.{last_at, kept_at, more_at, set_here, set_there}
 use native.Mathlib.Decide.{ℕ_discrete}
 use Rattle.in_arena.specs.declared.content.CellNo.{CellNo}
-use Rattle.in_symbols.specs.declared.symbols.SymbolNo.{SymbolNo}
 use Rattle.in_net.specs.Parts.{symbol_in}
 use Rattle.in_net.proofs.Public.{symbol_within}
 use Rattle.in_interaction.proofs.Public.{has_value}

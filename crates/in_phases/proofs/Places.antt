@@ -1,5 +1,5 @@
 -- Which points of a reducer's net there are, and where they lead.
-use Rattle.std.proofs.Common.{◌≡◌, ◌≤◌, ◌<◌, ◌+◌, ℕ, Option, Some, None, IsSome, IsSomeAnd, option_map, refl, sym, ap, ◌∙◌, subst, is_some, true≢false, arith}
+use Rattle.std.proofs.Common.{◌≡◌, ◌≤◌, ◌<◌, ◌+◌, ℕ, Option, Some, None, IsSome, IsSomeAnd, option_map, refl, sym, ap, ◌∙◌, subst, is_some, arith}
 use Rattle.std.proofs.lemmas.Option.{same_Some}
 use Rattle.in_arena.specs.declared.content.End.{End}
 use Rattle.in_arena.specs.declared.content.End.TheVariants as end
@@ -8,8 +8,8 @@ use Rattle.in_symbols.specs.Tables.{arity_of}
 use Rattle.in_symbols.specs.declared.symbols.SymbolNo.{SymbolNo}
 use Rattle.in_net.specs.declared.nets.Point as points
 use Rattle.in_net.specs.declared.nets.Point.TheVariants as point
-use Rattle.in_net.specs.Nets.{Point, Port, Free, IsNet, net_of, signature_of, point_of, coded_point}
-use Rattle.in_net.specs.Parts.{IsPointOf, symbol_in, partner_in}
+use Rattle.in_net.specs.Nets.{Point, Port, Free, IsNet, signature_of, point_of, coded_point}
+use Rattle.in_net.specs.Parts.{symbol_in, partner_in}
 use Rattle.in_net.proofs.Public.{has_partner}
 use Rattle.in_reducer.specs.Cutting.{net_in}
 use Rattle.in_reducer.specs.Machines.{MachineParts, parts_of, point_at}

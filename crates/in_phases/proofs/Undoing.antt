@@ -1,10 +1,9 @@
 -- Cuts are undone, the last one first.
-use Rattle.std.proofs.Common.{◌≡◌, ◌+◌, ◌-◌, ◌≤◌, ◌<◌, ℕ, zero, suc, length, refl, subst, arith}
+use Rattle.std.proofs.Common.{◌≤◌, ℕ, suc, length}
 use Rattle.in_reducer.specs.Cutting.{CanJoin, JoinsLast}
 use Rattle.in_reducer.specs.Machines.{MachineParts}
 use Rattle.in_reducer.specs.Parting.{ReducesTo}
 use Rattle.in_reducer.specs.PartingLaws.{IsCutTimes, uncut, then_cut}
-use Rattle.in_reducer.specs.Reducers.{IsReducer}
 use Rattle.in_reducer.proofs.Public.{cuts_are_undone}
 
 -- what was there is cut so many times, and is reduced to this since

@@ -1,6 +1,6 @@
 -- A machine whose net is reduced in parts is one of the same program.
-use Rattle.std.proofs.Common.{◌≡◌, ◌+◌, ℕ, List, map, sym, ap, subst, ◌∙◌, arith}
-use Rattle.in_net.specs.Nets.{Net, net_of}
+use Rattle.std.proofs.Common.{◌≡◌, ◌+◌, ℕ, map, sym, ap, subst, ◌∙◌, arith}
+use Rattle.in_net.specs.Nets.{net_of}
 use Rattle.in_check.specs.Plain.{IsPlain, IsReachedBy}
 use Rattle.in_check.specs.Programs.{Program}
 use Rattle.in_check.specs.Runs.{Reached}

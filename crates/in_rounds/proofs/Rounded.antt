@@ -5,13 +5,12 @@ use Rattle.std.proofs.lemmas.Option.{slice_get_within}
 use Rattle.in_arena.specs.declared.content.CellClass.{CellClass}
 use Rattle.in_symbols.specs.declared.symbols.SymbolNo.{SymbolNo}
 use Rattle.in_net.specs.Parts.{symbol_in}
-use Rattle.in_net.specs.Rules.{RuleParts}
 use Rattle.in_interaction.proofs.Public.{has_symbol}
 use Rattle.in_check.specs.Plain.{IsRuleAt}
 use Rattle.in_check.specs.Programs.{Program}
 use Rattle.in_interaction.specs.Queues.{agents_at, numbers_of}
 use Rattle.in_compile.specs.declared.cells.Need.{Need}
-use Rattle.in_compile.specs.Cells.{agents_of, count_of, IsNeedOf}
+use Rattle.in_compile.specs.Cells.{count_of, IsNeedOf}
 use Rattle.in_reducer.specs.Machines.{MachineParts, parts_of}
 use Rattle.in_rounds.specs.Machines.{IsMachine}
 use Rattle.in_rounds.specs.Rounds.{NeedTogether, none, then_next, HasRoomFor, IsRound}

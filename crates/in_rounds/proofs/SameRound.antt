@@ -4,10 +4,8 @@ use Rattle.std.proofs.lemmas.List.{length-map}
 use Rattle.in_interaction.specs.Queues.{both}
 use Rattle.in_reducer.specs.Machines.{MachineParts}
 use Rattle.in_reducer.specs.Runs.{IsFront, Runs, jobs_of}
-use Rattle.in_reducer.specs.Steps.{HasRoomAt}
 use Rattle.in_rounds.specs.MachineLaws.{RoundsAreSame}
 use Rattle.in_rounds.specs.Machines.{IsMachine}
-use Rattle.in_rounds.specs.Rounds.{IsRound}
 use Rattle.in_rounds.specs.Same.{AreSame}
 use Rattle.in_rounds.proofs.SameKind.{an_equivalence}
 use Rattle.in_rounds.proofs.SameRun.{machine_runs, passes, room_moved, same_run}

@@ -1,4 +1,4 @@
-use Rattle.std.proofs.Common.{◌≡◌, ◌+◌, ◌%◌, ◌^◌, subst, arith}
+use Rattle.std.proofs.Common.{arith}
 use Rattle.in_arena.specs.declared.content.End.TheVariants as end
 use Rattle.in_joining.specs.Shown.{point_of}
 use Rattle.in_phases.proofs.Places.{leads_somewhere, partner_shown, place_below}

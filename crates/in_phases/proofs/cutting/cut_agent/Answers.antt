@@ -1,7 +1,4 @@
-use Rattle.std.proofs.Common.{◌≡◌, ◌<◌, ◌+◌, ℕ, Some, IsSome, List, length, slice_get, option_map, sym, ap, subst, ◌∙◌, arith}
-use Rattle.in_symbols.specs.Tables.{Tables, arity_of}
-use Rattle.in_net.specs.Parts.{symbol_in}
-use Rattle.in_reducer.specs.Machines.{MachineParts, parts_of}
+use Rattle.std.proofs.Common.{arith}
 use Rattle.in_reducer.specs.PartingLaws.{uncut}
 use Rattle.in_phases.proofs.CutTimes.{arity_stays, gathered_on, times_on, times_stay}
 use Rattle.in_phases.proofs.Places.{place_there}

@@ -1,5 +1,4 @@
 use Rattle.std.proofs.Common.{◌≤◌}
-use Rattle.in_phases.specs.Branches.{IsBranch}
 use Rattle.in_reducer.specs.PartingLaws.{IsCutTimes}
 use Rattle.in_phases.proofs.cutting.cut_agent.Given as goal
 

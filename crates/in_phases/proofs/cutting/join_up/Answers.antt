@@ -1,4 +1,4 @@
-use Rattle.std.proofs.Common.{◌≡◌, ◌-◌, ◌+◌, ◌<◌, ℕ, suc, subst, sym, ◌∙◌, arith}
+use Rattle.std.proofs.Common.{◌≡◌, ◌-◌, ◌+◌, ◌<◌, ℕ, suc, subst, ◌∙◌, arith}
 use Rattle.in_reducer.specs.Machines.{MachineParts}
 use Rattle.in_phases.proofs.Undoing.{CanUndo, IsCutAndReduced, all_undone, can_undo}
 use Rattle.in_phases.proofs.cutting.join_up.Goals as goal

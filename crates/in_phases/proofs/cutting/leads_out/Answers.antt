@@ -1,10 +1,8 @@
-use Rattle.std.proofs.Common.{◌≡◌, ◌≢◌, ℕ, Bool, true, false, Some, nat_eq, sym, ap, subst, ◌∙◌}
+use Rattle.std.proofs.Common.{◌≡◌, ℕ, true, nat_eq, sym, ap, subst, ◌∙◌}
 use mathlib.Core.Bool.{not}
-use Rattle.in_arena.specs.declared.content.End.{End}
 use Rattle.in_arena.specs.declared.content.End.TheVariants as end
 use Rattle.in_joining.specs.Shown.{point_of}
 use Rattle.in_net.specs.Nets.{Point, Port, Free}
-use Rattle.in_reducer.specs.Cutting.{CanCut, net_in}
 use Rattle.in_phases.specs.Branches.{LeadsSomewhere}
 use Rattle.in_phases.proofs.Places.{leads_somewhere, partner_shown}
 use Rattle.in_phases.proofs.cutting.leads_out.Goals as goal

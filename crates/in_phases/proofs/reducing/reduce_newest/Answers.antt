@@ -1,4 +1,4 @@
-use Rattle.std.proofs.Common.{◌≡◌, ◌+◌, ◌-◌, refl, sym, subst, arith}
+use Rattle.std.proofs.Common.{◌-◌, refl, sym, subst, arith}
 use Rattle.in_check.specs.Programs.{Program}
 use Rattle.in_compile.specs.Templates.{AreTemplatesOf}
 use Rattle.in_reducer.proofs.Public.{reductions_go_on, stays_reduce, steps_reduce, takes_its_need}

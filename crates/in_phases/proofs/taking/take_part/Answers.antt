@@ -1,4 +1,4 @@
-use Rattle.std.proofs.Common.{◌≡◌, ◌+◌, ◌≤◌, ℕ, List, Bool, length, refl, sym, ap, subst, ◌∙◌, arith}
+use Rattle.std.proofs.Common.{◌≡◌, ◌≤◌, length, refl, sym, ap, subst, ◌∙◌, arith}
 use Rattle.in_check.specs.Programs.{Program}
 use Rattle.in_arena.specs.declared.content.CellClass.{CellClass}
 use Rattle.in_arena.specs.declared.content.CellClass.TheVariants.{Small}
@@ -8,7 +8,6 @@ use Rattle.in_compile.specs.Templates.{AreTemplatesOf}
 use Rattle.in_reducer.specs.Machines.{MachineParts}
 use Rattle.in_reducer.specs.Parting.{ReducesTo}
 use Rattle.in_reducer.proofs.Public.{stays_reduce}
-use Rattle.in_phases.specs.Phases.{CanComeBack, HasFree}
 use Rattle.std.specs.Vec.{with_items}
 use Rattle.in_phases.proofs.Coming.{comes_at_once, lent_back}
 use Rattle.in_phases.proofs.CutTimes.{ends_more, gathered_on, times_stay}

@@ -1,5 +1,4 @@
-use Rattle.std.proofs.Common.{◌≡◌, ◌+◌, ap, subst}
-use Rattle.in_arena.specs.declared.content.End.{End}
+use Rattle.std.proofs.Common.{◌+◌, subst}
 use Rattle.in_arena.specs.declared.content.End.TheVariants.{Cell}
 use Rattle.in_joining.specs.Shown.{point_of}
 use Rattle.in_phases.specs.Branches.{LeadsSomewhere}

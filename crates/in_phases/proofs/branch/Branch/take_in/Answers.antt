@@ -1,4 +1,4 @@
-use Rattle.std.proofs.Common.{◌≡◌, ◌∷◌, [], ◌++◌, List, Bool, true, false, set, Some, slice_get, sym, ap, subst, ◌∙◌}
+use Rattle.std.proofs.Common.{◌≡◌, List, Bool, true, false, set, Some, slice_get, sym, ap, subst, ◌∙◌}
 use Rattle.in_arena.specs.declared.content.CellNo.{CellNo}
 use Rattle.in_phases.specs.Branches.{AreOfBranch}
 use Rattle.in_phases.proofs.Gathered.{one_more_gathered}
