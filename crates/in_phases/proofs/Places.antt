@@ -8,7 +8,7 @@ use Rattle.in_symbols.specs.Tables.{arity_of}
 use Rattle.in_symbols.specs.declared.symbols.SymbolNo.{SymbolNo}
 use Rattle.in_net.specs.declared.nets.Point as points
 use Rattle.in_net.specs.declared.nets.Point.TheVariants as point
-use Rattle.in_net.specs.Nets.{Point, Port, Free, IsNet, signature_of, point_of, coded_point}
+use Rattle.in_net.specs.Nets.{Point, Port, IsNet, signature_of, point_of, coded_point}
 use Rattle.in_net.specs.Parts.{symbol_in, partner_in}
 use Rattle.in_net.proofs.Public.{has_partner}
 use Rattle.in_reducer.specs.Cutting.{net_in}

@@ -1,4 +1,4 @@
-use Rattle.std.proofs.Common.{◌-◌, ◌/◌, true, arith}
+use Rattle.std.proofs.Common.{◌-◌, ◌/◌, arith}
 use Rattle.std.proofs.lemmas.Bool.{ltb-true}
 use Rattle.in_phases.proofs.closing.is_first_end.Goals as goal
 
