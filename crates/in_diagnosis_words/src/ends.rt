@@ -188,6 +188,31 @@ fn result_beside<'a>(end: &ToldEnd<'a>) -> Option<Giving<'a>> {
     }
 }
 
+/// Whether the port of that number of a symbol is an input of this type.
+fn takes(symbol: &SourceSymbol, kind: &str, number: usize) -> bool {
+    match port(symbol, number) {
+        Some((_, port)) => !port.output && port.kind.text.as_str() == kind,
+        None => false,
+    }
+}
+
+/// The agent of which an end is an auxiliary output, and its first auxiliary port that is an input of the same type, for which the end may
+/// have been taken.
+fn input_beside<'a>(end: &ToldEnd<'a>) -> Option<(&'a SourceSymbol, usize)> {
+    let Owner::Agent(symbol, number) = end.owner else {
+        return None;
+    };
+    if number == 0 || !end.output {
+        return None;
+    }
+    for number in 1..=arity(symbol) {
+        if takes(symbol, end.port.kind.text.as_str(), number) {
+            return Some((symbol, number));
+        }
+    }
+    None
+}
+
 /// What stands before the next one of so many, where so many are told.
 fn separator(told: usize, count: usize) -> &'static str {
     if told == 0 {
@@ -319,6 +344,24 @@ fn port_of<'a>(one: &ToldEnd<'a>, other: &ToldEnd<'a>) -> Option<Giving<'a>> {
     }
 }
 
+/// What helps besides where an auxiliary output of an agent, joined to no principal port, was taken for an auxiliary input.
+fn add_input(report: &mut Report, one: &ToldEnd, other: &ToldEnd) {
+    if has_principal(one, other) {
+        return;
+    }
+    let Some((symbol, number)) = input_beside(one).or(input_beside(other)) else {
+        return;
+    };
+    report.say_name(
+        "help: or, where `",
+        symbol.name.text.as_str(),
+        "` is to take what comes here: it takes a `",
+    );
+    report.say_name("", one.port.kind.text.as_str(), "` at auxiliary port ");
+    report.say_number("", number, "");
+    report.end();
+}
+
 /// Whether one of these ends is a principal port.
 fn has_principal(one: &ToldEnd, other: &ToldEnd) -> bool {
     matches!(one.owner, Owner::Agent(_, 0)) || matches!(other.owner, Owner::Agent(_, 0))
@@ -346,7 +389,10 @@ fn add_turned(report: &mut Report, one: &ToldEnd, other: &ToldEnd) -> bool {
             };
             help_with_free_end(report, before, name, port);
         }
-        (None, Some(result)) => help_with_result(report, result),
+        (None, Some(result)) => {
+            help_with_result(report, result);
+            add_input(report, one, other);
+        }
         (None, None) => return false,
     }
     true
