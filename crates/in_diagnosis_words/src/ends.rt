@@ -126,12 +126,17 @@ struct Giving<'a> {
     auxiliary: usize,
 }
 
-/// Whether the port of that number of a symbol is an output of this type.
-fn gives(symbol: &SourceSymbol, kind: &str, number: usize) -> bool {
+/// Whether the port of that number of a symbol is of this type, an output or else an input.
+fn has_port(symbol: &SourceSymbol, number: usize, kind: &str, output: bool) -> bool {
     match port(symbol, number) {
-        Some((_, port)) => port.output && port.kind.text.as_str() == kind,
+        Some((_, port)) => port.output == output && port.kind.text.as_str() == kind,
         None => false,
     }
+}
+
+/// Whether the port of that number of a symbol is an output of this type.
+fn gives(symbol: &SourceSymbol, kind: &str, number: usize) -> bool {
+    has_port(symbol, number, kind, true)
 }
 
 /// How many auxiliary ports of a symbol are outputs of this type.
@@ -188,14 +193,6 @@ fn result_beside<'a>(end: &ToldEnd<'a>) -> Option<Giving<'a>> {
     }
 }
 
-/// Whether the port of that number of a symbol is an input of this type.
-fn takes(symbol: &SourceSymbol, kind: &str, number: usize) -> bool {
-    match port(symbol, number) {
-        Some((_, port)) => !port.output && port.kind.text.as_str() == kind,
-        None => false,
-    }
-}
-
 /// The agent of which an end is an auxiliary output, and its first auxiliary port that is an input of the same type, for which the end may
 /// have been taken.
 fn input_beside<'a>(end: &ToldEnd<'a>) -> Option<(&'a SourceSymbol, usize)> {
@@ -206,7 +203,7 @@ fn input_beside<'a>(end: &ToldEnd<'a>) -> Option<(&'a SourceSymbol, usize)> {
         return None;
     }
     for number in 1..=arity(symbol) {
-        if takes(symbol, end.port.kind.text.as_str(), number) {
+        if has_port(symbol, number, end.port.kind.text.as_str(), false) {
             return Some((symbol, number));
         }
     }
