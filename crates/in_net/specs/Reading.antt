@@ -64,12 +64,17 @@ reads_arguments first (a ∷ more) port r =
     let there = a.reads r in
     reads_arguments first more (port + 1) (with_joint there.0 first port there.1 a.place)
 
-abbrev pub reads_name : Tables → Term-F TermReader → Option ℕ → Reading → Reading × ℕ
-reads_name t f None r = (with_occurrence r f.name, length r.spots)
-reads_name t f (Some s) r = (reads_arguments (length r.spots) f.args 1 (with_agent r (record { 0 = s }) (arity_of t s) f.name.place), length r.spots)
+-- a symbol's name is an agent's, another one a variable's or a free end's
+abbrev pub with_named : Tables → Reading → Name → Option ℕ → Reading
+with_named t r n None = with_occurrence r n
+with_named t r n (Some s) = with_agent r (record { 0 = s }) (arity_of t s) n.place
 
+-- the name, and then its arguments from port 1 on
 abbrev pub reader_step : Tables → Term-F TermReader → TermReader
-reader_step t f = record { place = f.name.place; reads = reads_name t f (number_in f.name.text t.names) }
+reader_step t f = record {
+  place = f.name.place;
+  reads = λ r. (reads_arguments (length r.spots) f.args 1 (with_named t r f.name (number_in f.name.text t.names)), length r.spots);
+}
 
 abbrev pub reader_of : Tables → Term → TermReader
 reader_of t = fold-Term TermReader (reader_step t)
@@ -128,11 +133,6 @@ reading_of t b = reads_equations t b.equations (reads_heads t b.heads (with_ends
 -- the reading is that one now
 abbrev pub reads_on : NetReader → Reading → NetReader
 reads_on n r = record n { reading = r }
-
--- a symbol's name is that of an agent, another one that of a variable or a free end
-abbrev pub with_named : Tables → Reading → Name → Option ℕ → Reading
-with_named t r n None = with_occurrence r n
-with_named t r n (Some s) = with_agent r (record { 0 = s }) (arity_of t s) n.place
 
 -- an agent's first argument is at its place 1, a head's first term at its first boundary end
 abbrev pub port_of : ReadTerm → ℕ → ℕ

@@ -63,7 +63,6 @@ fn read(
 ) -> Result<Reading, AllocError>
     requires first { IsSymbol symbols.now written.0.0 }
     requires second { IsSymbol symbols.now written.1.0 }
-    requires known { IsRuleKnown symbols.now.names rule.now }
     requires symbols { (written.0.0 ≡ symbol_of symbols.now rule.now.first) × (written.1.0 ≡ symbol_of symbols.now rule.now.second) }
     requires turned { turned ≡ is_turned symbols.now written.0.0 written.1.0 }
     ensures { IfOk result (λ r. r ≡ reading_of symbols.now (body_of_rule symbols.now rule.now)) }

@@ -1,7 +1,5 @@
-ghost use Rattle.std.specs.Prelude.{◌≡◌, true, length, map, IfOk, OnOk, unwrap_or};
-ghost use Rattle.std.specs.List.{AllByRecursion};
+ghost use Rattle.std.specs.Prelude.{◌≡◌, length, map, IfOk, OnOk, unwrap_or};
 ghost use Rattle.in_symbols.specs.Names.{number_in};
-ghost use Rattle.in_symbols.specs.Tables.{heads_known, HeadsKnown, IsRuleKnown};
 ghost use Rattle.in_net.specs.Reading.{nothing_read, with_name, with_agent, with_occurrence, with_ends, reader_of, reads_arguments, reads_equations, reads_heads, reads_free, reads_on, reading_names, reading_of};
 ghost use Rattle.in_net.specs.TextNet.{body_of, heads_at};
 
@@ -189,7 +187,6 @@ impl Visitor for NetReader<'_> {
 
 /// Reads these equations.
 fn read_equations(reader: &mut NetReader, equations: &[Equation]) -> Result<(), AllocError>
-    requires { HeadsKnown (reader.old).symbols.now.names equations.now }
     ensures { OnOk result (reader.new ≡ reads_on reader.old (reads_equations (reader.old).symbols.now equations.now (reader.old).reading)) }
 {
     walk_equations(reader, equations)
@@ -213,7 +210,6 @@ pub(crate) fn read_net(
     symbols: &Symbols,
     net: &SourceNet,
 ) -> Result<Reading, AllocError>
-    requires { HeadsKnown symbols.now.names net.now.equations }
     ensures { IfOk result (λ r. r ≡ reading_of symbols.now (body_of net.now)) }
 {
     let reading = read_free(alloc, net.free.as_slice())?;
@@ -239,7 +235,6 @@ fn read_ends(alloc: Global, count: usize) -> Result<Reading, AllocError>
 
 /// Reads the terms of a head, the first boundary end of which has that number.
 fn read_head(reader: &mut NetReader, head: &Head, first: usize) -> Result<(), AllocError>
-    requires { AllByRecursion (λ t. heads_known (reader.old).symbols.now.names t ≡ true) head.now.terms }
     ensures { OnOk result (reader.new ≡ reads_on reader.old (reads_arguments first (map (reader_of (reader.old).symbols.now) head.now.terms) 0 (reader.old).reading)) }
 {
     let first = ReadTerm {
@@ -260,7 +255,6 @@ pub(crate) fn read_rule(
     first: usize,
     second: usize,
 ) -> Result<Reading, AllocError>
-    requires { IsRuleKnown symbols.now.names rule.now }
     ensures { IfOk result (λ r. r ≡ reads_equations symbols.now rule.now.equations (reads_heads symbols.now (heads_at rule.now first second) (with_ends nothing_read ends))) }
 {
     let reading = read_ends(alloc, ends)?;

@@ -60,8 +60,8 @@ pub found_first : (most : ℕ) (t : Tables) (b : Body) → IsReady t b → IsFir
 found_first most t b ready =
     let r : Reading = reading_of t b in
     first_of most t b (searching.too_many most r.agents) (misfit_in_body t b) (counting.miscounted (length r.names) r.spots b.free)
-    (agents_least most t b ready.known) (arities_least t b)
-    (names_least t b r (names_read t b ready.known) (roots_rise t b ready.known ready.rises) (names_apart t b) ready.differ)
+    (agents_least most t b) (arities_least t b)
+    (names_least t b r (names_read t b) (roots_rise t b ready.rises) (names_apart t b) ready.differ)
 
 -- a fault that is found is the first one
 pub is_first : (most : ℕ) (t : Tables) (b : Body) (reading : Reading) (r : Refusal) → IsReady t b → reading ≡ reading_of t b → Some r ≡ first_fault most t b reading →
@@ -86,9 +86,9 @@ pub none_miscounted : (most : ℕ) (t : Tables) (b : Body) → IsReady t b → N
 none_miscounted most t b ready is =
     let r : Reading = reading_of t b in
     let all = refusal_none (earlier_refusal (refused E03 (searching.too_many most r.agents)) (refused E07 (misfit_in_body t b))) (refused E08 (counting.miscounted (length r.names) r.spots b.free)) (sym is) in
-    all_stand_twice t b r (names_read t b ready.known) (roots_rise t b ready.known ready.rises) (names_apart t b) ready.differ
+    all_stand_twice t b r (names_read t b) (roots_rise t b ready.rises) (names_apart t b) ready.differ
     (refused_none E08 (counting.miscounted (length r.names) r.spots b.free) all.1)
 
 -- the names that are read are in range, whatever the numbers of arguments
-pub names_inside : (t : Tables) (b : Body) → IsBodyKnown t b → NamesInside (length (reading_of t b).names) (reading_of t b).spots
-names_inside t b known = all_map _ _ (λ s h. name_inside t b (reading_of t b).names s h) (reading_of t b).spots (names_read t b known).named_as
+pub names_inside : (t : Tables) (b : Body) → NamesInside (length (reading_of t b).names) (reading_of t b).spots
+names_inside t b = all_map _ _ (λ s h. name_inside t b (reading_of t b).names s h) (reading_of t b).spots (names_read t b).named_as

@@ -22,7 +22,6 @@ use Rattle.in_net.specs.Searching.{too_many, misfit_here, misfit, misfit_in_equa
 use Rattle.in_base.specs.Lists.{IsAmong}
 use Rattle.in_net.specs.TextNet.{Body, LeftHead, IsTermOf, IsPartOf, IsAgentOfTerm, place_of, Written, agents_of_body}
 use Rattle.in_net.proofs.Texts.Agents.{as_written, body_agents}
-use Rattle.in_net.proofs.Texts.Known.{IsBodyKnown}
 use Rattle.in_net.proofs.Texts.Folds.{fits_out}
 
 -- ---- too many agents
@@ -39,9 +38,9 @@ places_same [] k = refl
 places_same (a ∷ as_) zero = refl
 places_same (a ∷ as_) (suc k) = places_same as_ k
 
-pub agents_least : (most : ℕ) (t : Tables) (b : Body) → IsBodyKnown t b → IsLeast (IsTooManyAt most t b) (too_many most (reading_of t b).agents)
-agents_least most t b known =
-    subst (IsLeast (IsTooManyAt most t b)) (sym (places_same (reading_of t b).agents most ∙ ap (λ ws. option_map (λ (w : Written). w.place) (slice_get ws most)) (body_agents t b known)))
+pub agents_least : (most : ℕ) (t : Tables) (b : Body) → IsLeast (IsTooManyAt most t b) (too_many most (reading_of t b).agents)
+agents_least most t b =
+    subst (IsLeast (IsTooManyAt most t b)) (sym (places_same (reading_of t b).agents most ∙ ap (λ ws. option_map (λ (w : Written). w.place) (slice_get ws most)) (body_agents t b)))
     (too_many_by most t b (slice_get (agents_of_body t b) most) refl)
 
 -- ---- numbers of arguments

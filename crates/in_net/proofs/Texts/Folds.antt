@@ -1,5 +1,5 @@
 -- What is said of a term by a fold, at one term.
-use Rattle.std.proofs.Common.{◌≡◌, ℕ, Bool, true, ◌&&◌, length, map, Option, Some, None, sym, ◌∙◌, ap, subst}
+use Rattle.std.proofs.Common.{◌≡◌, ℕ, Bool, true, ◌&&◌, [], length, map, Option, Some, None, sym, ◌∙◌, ap, subst}
 use Rattle.std.proofs.lemmas.Bool.{eqb-true, and_parts}
 use Rattle.std.proofs.lemmas.List.{length-map}
 use Rattle.in_syntax.specs.declared.tree.Term.{Term, out-Term}
@@ -9,7 +9,7 @@ use Rattle.in_symbols.specs.Names.{number_in}
 use Rattle.in_symbols.specs.Tables.{Tables, arity_of, all_true}
 use Rattle.in_net.specs.Arities.{fits_arity, arities_fit}
 use Rattle.in_net.specs.declared.reading.Reading.{Reading}
-use Rattle.in_net.specs.Reading.{TermReader, reader_step, reads_name, reads_arguments, with_agent, with_occurrence, reader_of}
+use Rattle.in_net.specs.Reading.{TermReader, reader_step, reads_arguments, with_named, with_agent, with_occurrence, reader_of}
 
 pub fits_out : (t : Tables) (u : Term) →
     arities_fit t u ≡ (fits_arity t (number_in (out-Term u).name.text t.names) (length (map (arities_fit t) (out-Term u).args)) && all_true (map (arities_fit t) (out-Term u).args))
@@ -30,11 +30,17 @@ module _ (t : Tables) (u : Term) (r : Reading) where
   pub place_read : (reader_of t u).place ≡ (out-Term u).name.place
   place_read = ap (λ (x : TermReader). x.place) out
 
-  read_by : (o : Option ℕ) → number_in (out-Term u).name.text t.names ≡ o → (reader_of t u).reads r ≡ reads_name t (record { name = (out-Term u).name; args = map (reader_of t) (out-Term u).args }) o r
-  read_by o is = ap (λ (x : TermReader). x.reads r) out ∙ ap (λ o. reads_name t (record { name = (out-Term u).name; args = map (reader_of t) (out-Term u).args }) o r) is
+  abbrev with_arguments : Option ℕ → Reading
+  with_arguments o = reads_arguments (length r.spots) (map (reader_of t) (out-Term u).args) 1 (with_named t r (out-Term u).name o)
 
-  pub read_occurrence : number_in (out-Term u).name.text t.names ≡ None → (reader_of t u).reads r ≡ (with_occurrence r (out-Term u).name, length r.spots)
-  read_occurrence is = read_by None is
+  pub read_named : (reader_of t u).reads r ≡ (with_arguments (number_in (out-Term u).name.text t.names), length r.spots)
+  read_named = ap (λ (x : TermReader). x.reads r) out
+
+  pub read_by : (o : Option ℕ) → number_in (out-Term u).name.text t.names ≡ o → (reader_of t u).reads r ≡ (with_arguments o, length r.spots)
+  read_by o is = read_named ∙ ap (λ o. (with_arguments o, length r.spots)) is
+
+  pub read_occurrence : number_in (out-Term u).name.text t.names ≡ None → (out-Term u).args ≡ [] → (reader_of t u).reads r ≡ (with_occurrence r (out-Term u).name, length r.spots)
+  read_occurrence is none = read_by None is ∙ ap (λ us. (reads_arguments (length r.spots) (map (reader_of t) us) 1 (with_occurrence r (out-Term u).name), length r.spots)) none
 
   pub read_agent : (s : SymbolNo) → number_in (out-Term u).name.text t.names ≡ Some s.0 →
       (reader_of t u).reads r ≡ (reads_arguments (length r.spots) (map (reader_of t) (out-Term u).args) 1 (with_agent r s (arity_of t s.0) (out-Term u).name.place), length r.spots)

@@ -1,8 +1,6 @@
 -- Where each name before ( and [ is a symbol's, in a whole body.
-use Rattle.std.proofs.Common.{◌≡◌, ◌≢◌, ◌⊎◌, inl, inr, ℕ, zero, suc, ◌<◌, ◌≤◌, true, List, [], ◌∷◌, map, Some, None, slice_get, refl, sym, ◌∙◌, ap, subst, arith}
+use Rattle.std.proofs.Common.{◌≡◌, ◌≢◌, ◌⊎◌, inl, inr, ℕ, zero, suc, ◌<◌, ◌≤◌, true, List, [], ◌∷◌, map, Some, None, slice_get, sym, ◌∙◌, ap, arith}
 use Rattle.std.specs.List.{AllByRecursion}
-use Rattle.in_syntax.specs.declared.tree.Term.{Term}
-use Rattle.in_syntax.specs.declared.tree.Equation.{Equation}
 use Rattle.in_syntax.specs.declared.tree.Source.{Source}
 use Rattle.in_syntax.specs.declared.faults.Code.TheVariants.{E04}
 use Rattle.in_syntax.specs.declared.tree.Name.{Name}
@@ -10,10 +8,9 @@ use Rattle.in_syntax.specs.declared.tree.SourceFree.{SourceFree}
 use Rattle.in_syntax.specs.declared.tree.SourceRule.{SourceRule}
 use Rattle.in_base.specs.Lists.{AnyByRecursion}
 use Rattle.in_symbols.specs.Faults.{IsRepeatedAt, IsDeclaredTwiceAt, declared_twice, IsFaultless}
-use Rattle.in_symbols.specs.Tables.{Tables, all_true, heads_known, HeadsKnown, IsRuleKnown, IsTabled}
-use Rattle.in_base.specs.Lists.{IsAmong}
+use Rattle.in_symbols.specs.Tables.{Tables, heads_known, HeadsKnown, IsRuleKnown, IsTabled}
 use Rattle.in_net.specs.TextNet.{Body, LeftHead, body_of, heads_at}
-use Rattle.std.proofs.lemmas.Bool.{and_from, cases_eq, cases_lt}
+use Rattle.std.proofs.lemmas.Bool.{cases_eq, cases_lt}
 
 abbrev pub AreHeadsKnown : Tables → List LeftHead → Type 0
 AreHeadsKnown t = AllByRecursion (λ h. AllByRecursion (λ u. heads_known t.names u ≡ true) h.head.terms)
@@ -21,25 +18,6 @@ AreHeadsKnown t = AllByRecursion (λ h. AllByRecursion (λ u. heads_known t.name
 pub record IsBodyKnown (t : Tables) (b : Body) : Type 0 where
   pub heads : AreHeadsKnown t b.heads
   pub equations : HeadsKnown t.names b.equations
-
-pub all_known : (t : Tables) (us : List Term) → AllByRecursion (λ u. heads_known t.names u ≡ true) us → all_true (map (heads_known t.names) us) ≡ true
-all_known t [] h = refl
-all_known t (u ∷ us) h = and_from (heads_known t.names u) (all_true (map (heads_known t.names) us)) h.0 (all_known t us h.1)
-
-pub one_known : (t : Tables) (us : List Term) (u : Term) → AllByRecursion (λ u. heads_known t.names u ≡ true) us → IsAmong u us → heads_known t.names u ≡ true
-one_known t [] u h among = absurd among
-one_known t (v ∷ us) u h (inl e) = subst (λ u. heads_known t.names u ≡ true) e h.0
-one_known t (v ∷ us) u h (inr among) = one_known t us u h.1 among
-
-pub head_known : (t : Tables) (hs : List LeftHead) (h : LeftHead) (u : Term) → AreHeadsKnown t hs → IsAmong h hs → IsAmong u h.head.terms → heads_known t.names u ≡ true
-head_known t [] h u all among inside = absurd among
-head_known t (g ∷ hs) h u all (inl e) inside = one_known t g.head.terms u all.0 (subst (λ h. IsAmong u h.head.terms) (sym e) inside)
-head_known t (g ∷ hs) h u all (inr among) inside = head_known t hs h u all.1 among inside
-
-pub equation_known : (t : Tables) (es : List Equation) (e : Equation) → HeadsKnown t.names es → IsAmong e es → (heads_known t.names e.left ≡ true) × (heads_known t.names e.right ≡ true)
-equation_known t [] e h among = absurd among
-equation_known t (x ∷ es) e h (inl same) = subst (λ e. (heads_known t.names e.left ≡ true) × (heads_known t.names e.right ≡ true)) same h.0
-equation_known t (x ∷ es) e h (inr among) = equation_known t es e h.1 among
 
 pub net_known : (source : Source) (t : Tables) → IsTabled source t → IsBodyKnown t (body_of source.net)
 net_known source t tabled = record { heads = tt; equations = tabled.heads }

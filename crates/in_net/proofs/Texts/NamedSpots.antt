@@ -1,33 +1,29 @@
 -- The spots of names are those of the text's variables and free names, whatever the numbers of arguments.
-use Rattle.std.proofs.Common.{◌≡◌, ◌⊎◌, inl, inr, ℕ, zero, suc, ◌+◌, ◌<◌, ◌≤◌, true, List, [], ◌∷◌, ◌++◌, length, length-append, map, Option, Some, None, refl, sym, ◌∙◌, ap, subst, arith, append_assoc, append-nil}
+use Rattle.std.proofs.Common.{◌≡◌, ◌⊎◌, inl, inr, ℕ, zero, suc, ◌+◌, ◌<◌, List, [], ◌∷◌, ◌++◌, length, length-append, map, Option, Some, None, refl, sym, ◌∙◌, ap, subst, arith, append_assoc, append-nil}
 use Rattle.std.specs.List.{AllByRecursion}
 use Rattle.in_syntax.specs.declared.places.Place.{Place}
 use Rattle.in_syntax.specs.declared.tree.Term.{Term, out-Term}
 use Rattle.in_syntax.specs.declared.tree.Equation.{Equation}
 use Rattle.in_syntax.specs.declared.tree.SourceFree.{SourceFree}
-use Rattle.in_syntax.specs.Sizes.{total, names_in}
 use Rattle.in_symbols.specs.declared.symbols.SymbolNo.{SymbolNo}
 use Rattle.in_symbols.specs.Names.{number_in, name_in}
-use Rattle.in_symbols.specs.Tables.{Tables, arity_of, all_true, heads_known, HeadsKnown}
+use Rattle.in_symbols.specs.Tables.{Tables, arity_of}
 use Rattle.in_net.specs.declared.reading.Spot.{Spot}
 use Rattle.in_net.specs.declared.reading.Spot.TheVariants.{Port, Free, End, Occurrence}
 use Rattle.in_net.specs.declared.reading.Reading.{Reading}
-use Rattle.in_net.specs.Reading.{with_agent, with_joint, with_occurrence, number_with, ports_from, reader_of, reads_arguments, reads_equation, reads_equations, reads_heads, with_ends, boundary_spots, ends_of, reads_free, reads_free_from, reads_free_end, nothing_read, reading_of}
+use Rattle.in_net.specs.Reading.{with_agent, with_joint, with_named, with_occurrence, number_with, ports_from, reader_of, reads_arguments, reads_equation, reads_equations, reads_heads, with_ends, boundary_spots, ends_of, reads_free, reads_free_from, reads_free_end, nothing_read, reading_of}
 use Rattle.in_net.specs.Building.{no_spot, nth_spot}
 use Rattle.in_net.specs.Built.{IsEnd}
 use Rattle.in_base.specs.Lists.{IsAmong}
 use Rattle.in_net.specs.TextNet.{Body, LeftHead, IsTermOf, IsPartOf, IsVariable}
-use Rattle.in_net.proofs.Texts.Known.{AreHeadsKnown, IsBodyKnown, all_known}
-use Rattle.in_net.proofs.Texts.Folds.{read_agent, read_occurrence}
-use Rattle.in_net.proofs.Texts.HeadsOf.{arguments_known, no_arguments}
+use Rattle.in_net.proofs.Texts.Folds.{read_by}
 use Rattle.in_net.proofs.Texts.Kept.{IsHeldAt}
 use Rattle.in_net.proofs.Wiring.Linked.{front_or_back, at_front, at_back}
 use Rattle.in_net.proofs.Wiring.Links.{all_at}
 use Rattle.in_net.proofs.Texts.NetRead.{nothing, free_read}
 use Rattle.in_net.proofs.Texts.Read.{IsNamed, name_there, grows_by, all_still_named, ports_named}
-use Rattle.std.proofs.lemmas.Bool.{and_parts}
 use Rattle.in_base.proofs.Each.{all_append}
-use Rattle.in_syntax.proofs.Public.{names_out}
+use Rattle.in_syntax.proofs.Public.{term_by_arguments, terms_by_arguments}
 
 abbrev pub IsBound : Spot → Type 0
 IsBound (Port a i p) = Unit {0}
@@ -95,27 +91,26 @@ adds_agent t b r s place = record {
 -- a term, and its variables
 pub record TermAdds (t : Tables) (b : Body) (u : Term) (before after : Reading) : Type 0 where
   pub adds : Adds t b before after
-  pub held : heads_known t.names u ≡ true → (v : Term) → IsPartOf v u → IsVariable t v → IsHeldAt after v
+  pub held : (v : Term) → IsPartOf v u → IsVariable t v → IsHeldAt after v
 
-abbrev TermsAdd : Tables → Body → ℕ → Type 0
-TermsAdd t b h = (u : Term) (r : Reading) → names_in u ≤ h → ((v : Term) → IsPartOf v u → IsTermOf b v) → TermAdds t b u r ((reader_of t u).reads r).0
+abbrev TermsAdd : Tables → Body → Term → Type 0
+TermsAdd t b u = (r : Reading) → ((v : Term) → IsPartOf v u → IsTermOf b v) → TermAdds t b u r ((reader_of t u).reads r).0
 
 pub record ArgumentsAdd (t : Tables) (b : Body) (us : List Term) (before after : Reading) : Type 0 where
   pub adds : Adds t b before after
-  pub held : all_true (map (heads_known t.names) us) ≡ true → (u v : Term) → IsAmong u us → IsPartOf v u → IsVariable t v → IsHeldAt after v
+  pub held : (u v : Term) → IsAmong u us → IsPartOf v u → IsVariable t v → IsHeldAt after v
 
-arguments_add : (t : Tables) (b : Body) (h : ℕ) → TermsAdd t b h → (us : List Term) (first port : ℕ) (r : Reading) → total (map names_in us) ≤ h → ((u v : Term) → IsAmong u us → IsPartOf v u → IsTermOf b v) →
+arguments_add : (t : Tables) (b : Body) (us : List Term) → AllByRecursion (TermsAdd t b) us → (first port : ℕ) (r : Reading) → ((u v : Term) → IsAmong u us → IsPartOf v u → IsTermOf b v) →
     ArgumentsAdd t b us r (reads_arguments first (map (reader_of t) us) port r)
-arguments_add t b h ih [] first port r short terms = record { adds = adds_nothing t b r; held = λ heads u v among. absurd among }
-arguments_add t b h ih (u ∷ us) first port r short terms =
-    let there : Reading × ℕ = (reader_of t u).reads r in
+arguments_add t b [] all first port r terms = record { adds = adds_nothing t b r; held = λ u v among. absurd among }
+arguments_add t b (u ∷ us) all first port r terms =
     let joined : Reading = with_joint ((reader_of t u).reads r).0 first port ((reader_of t u).reads r).1 (reader_of t u).place in
-    let one = ih u r (omega (arith, short)) (λ v part. terms u v (inl refl) part) in
-    let rest = arguments_add t b h ih us first (port + 1) joined (omega (arith, short)) (λ x v among part. terms x v (inr among) part) in
+    let one = all.0 r (λ v part. terms u v (inl refl) part) in
+    let rest = arguments_add t b us all.1 first (port + 1) joined (λ x v among part. terms x v (inr among) part) in
     let same : Adds t b r joined = record { more = one.adds.more; spots = one.adds.spots; more_names = one.adds.more_names; names_on = one.adds.names_on; bound = one.adds.bound; named_as = one.adds.named_as } in
     record {
       adds = adds_both t b r joined _ same rest.adds;
-      held = λ heads x v among part variable. by_place x v among part variable heads one.held rest.adds rest.held;
+      held = λ x v among part variable. by_place x v among part variable one.held rest.adds rest.held;
     }
   where
     joined : Reading
@@ -124,80 +119,84 @@ arguments_add t b h ih (u ∷ us) first port r short terms =
     after : Reading
     after = reads_arguments first (map (reader_of t) us) (port + 1) (with_joint ((reader_of t u).reads r).0 first port ((reader_of t u).reads r).1 (reader_of t u).place)
 
-    by_place : (x v : Term) → IsAmong x (u ∷ us) → IsPartOf v x → IsVariable t v → all_true (map (heads_known t.names) (u ∷ us)) ≡ true → (heads_known t.names u ≡ true → (v : Term) → IsPartOf v u → IsVariable t v → IsHeldAt ((reader_of t u).reads r).0 v) →
-        Adds t b joined after → (all_true (map (heads_known t.names) us) ≡ true → (u v : Term) → IsAmong u us → IsPartOf v u → IsVariable t v → IsHeldAt after v) → IsHeldAt after v
-    by_place x v (inl e) part variable heads here adds others =
-        let at = here (and_parts (heads_known t.names u) (all_true (map (heads_known t.names) us)) heads).0 v (subst (IsPartOf v) (sym e) part) variable in
+    by_place : (x v : Term) → IsAmong x (u ∷ us) → IsPartOf v x → IsVariable t v → ((v : Term) → IsPartOf v u → IsVariable t v → IsHeldAt ((reader_of t u).reads r).0 v) →
+        Adds t b joined after → ((u v : Term) → IsAmong u us → IsPartOf v u → IsVariable t v → IsHeldAt after v) → IsHeldAt after v
+    by_place x v (inl e) part variable here adds others =
+        let at = here v (subst (IsPartOf v) (sym e) part) variable in
         held_on t b joined after v adds (record { spot = at.spot; number = at.number; inside = at.inside; is = at.is; known = at.known; name = at.name })
-    by_place x v (inr among) part variable heads here adds others = others (and_parts (heads_known t.names u) (all_true (map (heads_known t.names) us)) heads).1 x v among part variable
+    by_place x v (inr among) part variable here adds others = others x v among part variable
 
-term_adds : (t : Tables) (b : Body) (h : ℕ) → TermsAdd t b h → (u : Term) (r : Reading) → names_in u ≤ suc h → ((v : Term) → IsPartOf v u → IsTermOf b v) → (o : Option ℕ) → number_in (out-Term u).name.text t.names ≡ o →
-    TermAdds t b u r ((reader_of t u).reads r).0
-term_adds t b h ih u r short terms None is =
-    let grown = grows_by r.names (out-Term u).name.text (number_in (out-Term u).name.text r.names) refl in
-    let at = name_there r.names (out-Term u).name.text (number_in (out-Term u).name.text r.names) refl in
-    let spot : Spot = Occurrence (number_with r.names (out-Term u).name.text) (out-Term u).name.place in
-    let zero_on : length r.spots ≡ length r.spots + 0 = omega arith in
-    let last : nth_spot (r.spots ++ spot ∷ []) (length r.spots) ≡ spot = ap (nth_spot (r.spots ++ spot ∷ [])) zero_on ∙ at_back r.spots (spot ∷ []) 0 no_spot in
-    let here : IsHeldAt (with_occurrence r (out-Term u).name) u = record { spot = length r.spots; number = number_with r.names (out-Term u).name.text; inside = let e = length-append r.spots (spot ∷ []) in omega (arith, e); is = last; known = at.0; name = at.1 } in
-    subst (λ (p : Reading × ℕ). TermAdds t b u r p.0) (sym (read_occurrence t u r is))
-    (record {
-      adds = record {
+-- a name that is no symbol's
+module _ (t : Tables) (b : Body) (u : Term) (r : Reading) (is : number_in (out-Term u).name.text t.names ≡ None) where
+  abbrev spot : Spot
+  spot = Occurrence (number_with r.names (out-Term u).name.text) (out-Term u).name.place
+
+  adds_occurrence : IsTermOf b u → Adds t b r (with_occurrence r (out-Term u).name)
+  adds_occurrence there =
+      let grown = grows_by r.names (out-Term u).name.text (number_in (out-Term u).name.text r.names) refl in
+      let at = name_there r.names (out-Term u).name.text (number_in (out-Term u).name.text r.names) refl in
+      record {
         more = spot ∷ [];
         spots = refl;
         more_names = grown.0;
         names_on = grown.1;
         bound = (tt, tt);
         named_as = λ named.
-            all_append _ r.spots (spot ∷ []) (all_still_named t b r.names (out-Term u).name.text r.spots named)
-            (record { term = u; there = terms u (IsPartOf.itself u); variable = is; place = refl; name = at.1; inside = at.0 }, tt);
-      };
-      held = λ heads v part variable. by_part heads v part here;
-    })
-  where
-    by_part : heads_known t.names u ≡ true → (v : Term) → IsPartOf v u → IsHeldAt (with_occurrence r (out-Term u).name) u → IsHeldAt (with_occurrence r (out-Term u).name) v
-    by_part heads _ (IsPartOf.itself _) here = here
-    by_part heads v (IsPartOf.deeper _ w _ among part) here = absurd (subst (IsAmong w) (no_arguments t.names u heads is) among)
-term_adds t b h ih u r short terms (Some s) is =
-    let symbol : SymbolNo = record { 0 = s } in
-    let begun : Reading = with_agent r symbol (arity_of t s) (out-Term u).name.place in
-    let out = names_out u in
-    let rest = arguments_add t b h ih (out-Term u).args (length r.spots) 1 begun (omega (arith, out, short)) (λ x v among part. terms v (IsPartOf.deeper v x u among part)) in
-    subst (λ (p : Reading × ℕ). TermAdds t b u r p.0) (sym (read_agent t u r symbol is))
-    (record {
-      adds = adds_both t b r begun _ (adds_agent t b r symbol (out-Term u).name.place) rest.adds;
-      held = λ heads v part variable. by_part v part variable (rest.held (arguments_known t.names u heads));
-    })
-  where
-    after : Reading
-    after = reads_arguments (length r.spots) (map (reader_of t) (out-Term u).args) 1 (with_agent r (record { 0 = s }) (arity_of t s) (out-Term u).name.place)
+            all_append _ r.spots (spot ∷ []) (all_still_named t b r.names (out-Term u).name.text r.spots named) (record { term = u; there = there; variable = is; place = refl; name = at.1; inside = at.0 }, tt);
+      }
 
-    by_part : (v : Term) → IsPartOf v u → IsVariable t v → ((x v : Term) → IsAmong x (out-Term u).args → IsPartOf v x → IsVariable t v → IsHeldAt after v) → IsHeldAt after v
-    by_part _ (IsPartOf.itself _) variable held = absurd (let wrong : None ≡ Some s = sym variable ∙ is in cc)
-    by_part v (IsPartOf.deeper _ x _ among part) variable held = held x v among part variable
+  held_there : IsHeldAt (with_occurrence r (out-Term u).name) u
+  held_there =
+      let at = name_there r.names (out-Term u).name.text (number_in (out-Term u).name.text r.names) refl in
+      let zero_on : length r.spots ≡ length r.spots + 0 = omega arith in
+      let last : nth_spot (r.spots ++ spot ∷ []) (length r.spots) ≡ spot = ap (nth_spot (r.spots ++ spot ∷ [])) zero_on ∙ at_back r.spots (spot ∷ []) 0 no_spot in
+      record { spot = length r.spots; number = number_with r.names (out-Term u).name.text; inside = let e = length-append r.spots (spot ∷ []) in omega (arith, e); is = last; known = at.0; name = at.1 }
 
-terms_add : (t : Tables) (b : Body) (h : ℕ) → TermsAdd t b h
-terms_add t b zero u r short terms = absurd (omega (arith, names_out u, short))
-terms_add t b (suc h) u r short terms = term_adds t b h (λ v q a c. terms_add t b h v q a c) u r short terms (number_in (out-Term u).name.text t.names) refl
+of_arguments : (t : Tables) (b : Body) (u : Term) → AllByRecursion (TermsAdd t b) (out-Term u).args → TermsAdd t b u
+of_arguments t b u all r terms = by_number (number_in (out-Term u).name.text t.names) refl
+  where
+    begun : Option ℕ → Reading
+    begun o = with_named t r (out-Term u).name o
+
+    after : Option ℕ → Reading
+    after o = reads_arguments (length r.spots) (map (reader_of t) (out-Term u).args) 1 (with_named t r (out-Term u).name o)
+
+    adds_name : (o : Option ℕ) → number_in (out-Term u).name.text t.names ≡ o → Adds t b r (begun o)
+    adds_name None is = adds_occurrence t b u r is (terms u (IsPartOf.itself u))
+    adds_name (Some s) is = adds_agent t b r (record { 0 = s }) (out-Term u).name.place
+
+    held_by : (o : Option ℕ) → number_in (out-Term u).name.text t.names ≡ o → (v : Term) → IsPartOf v u → IsVariable t v → ArgumentsAdd t b (out-Term u).args (begun o) (after o) → IsHeldAt (after o) v
+    held_by None is _ (IsPartOf.itself _) variable rest = held_on t b (begun None) (after None) u rest.adds (held_there t b u r is)
+    held_by (Some s) is _ (IsPartOf.itself _) variable rest = absurd (let wrong : None ≡ Some s = sym variable ∙ is in cc)
+    held_by o is v (IsPartOf.deeper _ x _ among part) variable rest = rest.held x v among part variable
+
+    by_number : (o : Option ℕ) → number_in (out-Term u).name.text t.names ≡ o → TermAdds t b u r ((reader_of t u).reads r).0
+    by_number o is =
+        let rest = arguments_add t b (out-Term u).args all (length r.spots) 1 (begun o) (λ x v among part. terms v (IsPartOf.deeper v x u among part)) in
+        subst (λ (p : Reading × ℕ). TermAdds t b u r p.0) (sym (read_by t u r o is))
+        (record { adds = adds_both t b r (begun o) (after o) (adds_name o is) rest.adds; held = λ v part variable. held_by o is v part variable rest })
+
+terms_add : (t : Tables) (b : Body) (u : Term) → TermsAdd t b u
+terms_add t b = term_by_arguments (TermsAdd t b) (of_arguments t b)
 
 -- equations, and a net
 pub record EquationsAdd (t : Tables) (b : Body) (es : List Equation) (before after : Reading) : Type 0 where
   pub adds : Adds t b before after
-  pub held : HeadsKnown t.names es → (e : Equation) (v : Term) → IsAmong e es → IsPartOf v e.left ⊎ IsPartOf v e.right → IsVariable t v → IsHeldAt after v
+  pub held : (e : Equation) (v : Term) → IsAmong e es → IsPartOf v e.left ⊎ IsPartOf v e.right → IsVariable t v → IsHeldAt after v
 
 equations_add : (t : Tables) (b : Body) (es : List Equation) (r : Reading) → ((e : Equation) → IsAmong e es → IsAmong e b.equations) → EquationsAdd t b es r (reads_equations t es r)
-equations_add t b [] r among = record { adds = adds_nothing t b r; held = λ heads e v h. absurd h }
+equations_add t b [] r among = record { adds = adds_nothing t b r; held = λ e v h. absurd h }
 equations_add t b (e ∷ es) r among =
     let r1 : Reading = ((reader_of t e.left).reads r).0 in
     let r2 : Reading = ((reader_of t e.right).reads ((reader_of t e.left).reads r).0).0 in
-    let one = terms_add t b (names_in e.left) e.left r (omega arith) (λ v part. IsTermOf.in_left e (among e (inl refl)) part) in
-    let other = terms_add t b (names_in e.right) e.right r1 (omega arith) (λ v part. IsTermOf.in_right e (among e (inl refl)) part) in
+    let one = terms_add t b e.left r (λ v part. IsTermOf.in_left e (among e (inl refl)) part) in
+    let other = terms_add t b e.right r1 (λ v part. IsTermOf.in_right e (among e (inl refl)) part) in
     let both = adds_both t b r r1 r2 one.adds other.adds in
     let here : Adds t b r (reads_equation t e r) = record { more = both.more; spots = both.spots; more_names = both.more_names; names_on = both.names_on; bound = both.bound; named_as = both.named_as } in
     let rest = equations_add t b es (reads_equation t e r) (λ x h. among x (inr h)) in
     record {
       adds = adds_both t b r (reads_equation t e r) _ here rest.adds;
-      held = λ heads x v h part variable. by_place x v h part variable heads one.held other.adds other.held rest.adds rest.held;
+      held = λ x v h part variable. by_place x v h part variable one.held other.adds other.held rest.adds rest.held;
     }
   where
     r1 : Reading
@@ -212,37 +211,37 @@ equations_add t b (e ∷ es) r among =
     joined : (v : Term) → IsHeldAt r2 v → IsHeldAt (reads_equation t e r) v
     joined v at = record { spot = at.spot; number = at.number; inside = at.inside; is = at.is; known = at.known; name = at.name }
 
-    by_place : (x : Equation) (v : Term) → IsAmong x (e ∷ es) → IsPartOf v x.left ⊎ IsPartOf v x.right → IsVariable t v → HeadsKnown t.names (e ∷ es) → (heads_known t.names e.left ≡ true → (v : Term) → IsPartOf v e.left → IsVariable t v → IsHeldAt r1 v) → Adds t b r1 r2 →
-        (heads_known t.names e.right ≡ true → (v : Term) → IsPartOf v e.right → IsVariable t v → IsHeldAt r2 v) → Adds t b (reads_equation t e r) after →
-        (HeadsKnown t.names es → (x : Equation) (v : Term) → IsAmong x es → IsPartOf v x.left ⊎ IsPartOf v x.right → IsVariable t v → IsHeldAt after v) → IsHeldAt after v
-    by_place x v (inl same) (inl part) variable heads left on right adds others = held_on t b (reads_equation t e r) after v adds (joined v (held_on t b r1 r2 v on (left heads.0.0 v (subst (λ x. IsPartOf v x.left) (sym same) part) variable)))
-    by_place x v (inl same) (inr part) variable heads left on right adds others = held_on t b (reads_equation t e r) after v adds (joined v (right heads.0.1 v (subst (λ x. IsPartOf v x.right) (sym same) part) variable))
-    by_place x v (inr h) part variable heads left on right adds others = others heads.1 x v h part variable
+    by_place : (x : Equation) (v : Term) → IsAmong x (e ∷ es) → IsPartOf v x.left ⊎ IsPartOf v x.right → IsVariable t v → ((v : Term) → IsPartOf v e.left → IsVariable t v → IsHeldAt r1 v) → Adds t b r1 r2 →
+        ((v : Term) → IsPartOf v e.right → IsVariable t v → IsHeldAt r2 v) → Adds t b (reads_equation t e r) after →
+        ((x : Equation) (v : Term) → IsAmong x es → IsPartOf v x.left ⊎ IsPartOf v x.right → IsVariable t v → IsHeldAt after v) → IsHeldAt after v
+    by_place x v (inl same) (inl part) variable left on right adds others = held_on t b (reads_equation t e r) after v adds (joined v (held_on t b r1 r2 v on (left v (subst (λ x. IsPartOf v x.left) (sym same) part) variable)))
+    by_place x v (inl same) (inr part) variable left on right adds others = held_on t b (reads_equation t e r) after v adds (joined v (right v (subst (λ x. IsPartOf v x.right) (sym same) part) variable))
+    by_place x v (inr h) part variable left on right adds others = others x v h part variable
 
 -- heads, and boundary ends
 pub record HeadsAdd (t : Tables) (b : Body) (hs : List LeftHead) (before after : Reading) : Type 0 where
   pub adds : Adds t b before after
-  pub held : AreHeadsKnown t hs → (h : LeftHead) (u v : Term) → IsAmong h hs → IsAmong u h.head.terms → IsPartOf v u → IsVariable t v → IsHeldAt after v
+  pub held : (h : LeftHead) (u v : Term) → IsAmong h hs → IsAmong u h.head.terms → IsPartOf v u → IsVariable t v → IsHeldAt after v
 
 heads_add : (t : Tables) (b : Body) (hs : List LeftHead) (r : Reading) → ((h : LeftHead) → IsAmong h hs → IsAmong h b.heads) → HeadsAdd t b hs r (reads_heads t hs r)
-heads_add t b [] r among = record { adds = adds_nothing t b r; held = λ known h u v x. absurd x }
+heads_add t b [] r among = record { adds = adds_nothing t b r; held = λ h u v x. absurd x }
 heads_add t b (h ∷ hs) r among =
-    let one = arguments_add t b (total (map names_in h.head.terms)) (terms_add t b (total (map names_in h.head.terms))) h.head.terms h.first 0 r (omega arith) (λ u v x part. IsTermOf.in_head h u (among h (inl refl)) x part) in
+    let one = arguments_add t b h.head.terms (terms_by_arguments (TermsAdd t b) (of_arguments t b) h.head.terms) h.first 0 r (λ u v x part. IsTermOf.in_head h u (among h (inl refl)) x part) in
     let more = heads_add t b hs (reads_arguments h.first (map (reader_of t) h.head.terms) 0 r) (λ g x. among g (inr x)) in
     record {
       adds = adds_both t b r _ _ one.adds more.adds;
-      held = λ known g u v x inside part variable. by_place known g u v x inside part variable one.held more.adds more.held;
+      held = λ g u v x inside part variable. by_place g u v x inside part variable one.held more.adds more.held;
     }
   where
     q : Reading
     q = reads_arguments h.first (map (reader_of t) h.head.terms) 0 r
 
-    by_place : AreHeadsKnown t (h ∷ hs) → (g : LeftHead) (u v : Term) → IsAmong g (h ∷ hs) → IsAmong u g.head.terms → IsPartOf v u → IsVariable t v →
-        (all_true (map (heads_known t.names) h.head.terms) ≡ true → (u v : Term) → IsAmong u h.head.terms → IsPartOf v u → IsVariable t v → IsHeldAt q v) → Adds t b q (reads_heads t hs q) →
-        (AreHeadsKnown t hs → (g : LeftHead) (u v : Term) → IsAmong g hs → IsAmong u g.head.terms → IsPartOf v u → IsVariable t v → IsHeldAt (reads_heads t hs q) v) → IsHeldAt (reads_heads t hs q) v
-    by_place known g u v (inl e) inside part variable here adds others =
-        held_on t b q (reads_heads t hs q) v adds (here (all_known t h.head.terms known.0) u v (subst (λ g. IsAmong u g.head.terms) (sym e) inside) part variable)
-    by_place known g u v (inr x) inside part variable here adds others = others known.1 g u v x inside part variable
+    by_place : (g : LeftHead) (u v : Term) → IsAmong g (h ∷ hs) → IsAmong u g.head.terms → IsPartOf v u → IsVariable t v →
+        ((u v : Term) → IsAmong u h.head.terms → IsPartOf v u → IsVariable t v → IsHeldAt q v) → Adds t b q (reads_heads t hs q) →
+        ((g : LeftHead) (u v : Term) → IsAmong g hs → IsAmong u g.head.terms → IsPartOf v u → IsVariable t v → IsHeldAt (reads_heads t hs q) v) → IsHeldAt (reads_heads t hs q) v
+    by_place g u v (inl e) inside part variable here adds others =
+        held_on t b q (reads_heads t hs q) v adds (here u v (subst (λ g. IsAmong u g.head.terms) (sym e) inside) part variable)
+    by_place g u v (inr x) inside part variable here adds others = others g u v x inside part variable
 
 ends_bound : (k n : ℕ) → AllByRecursion IsBound (boundary_spots k n)
 ends_bound k zero = tt
@@ -276,8 +275,8 @@ free_spot t b names (Free j m) k h f = (m, ap (λ j. Free j m) h)
 free_spot t b names (End j) k h f = absurd f
 free_spot t b names (Occurrence m p) k h f = absurd f
 
-pub names_read : (t : Tables) (b : Body) → IsBodyKnown t b → AreNamesRead t b (reading_of t b)
-names_read t b known =
+pub names_read : (t : Tables) (b : Body) → AreNamesRead t b (reading_of t b)
+names_read t b =
     let free = free_read t b [] b.free nothing_read refl (nothing t b) in
     let start : Reading = with_ends (reads_free b.free) (ends_of t b.heads) in
     let heads = heads_add t b b.heads (with_ends (reads_free b.free) (ends_of t b.heads)) (λ h x. x) in
@@ -287,7 +286,7 @@ names_read t b known =
     let frees = free_spots 0 b.free nothing_read tt in
     record {
       named_as = all.named_as free.read.named_as;
-      held = λ u there variable. by_term u there variable (heads.held known.heads) equations.adds (equations.held known.equations);
+      held = λ u there variable. by_term u there variable heads.held equations.adds equations.held;
       ends = λ k lt.
           let old = free.read.numbered.ends k lt in
           let spot = free_spot t b (reads_free b.free).names (nth_spot (reads_free b.free).spots k) k old.1 (all_at IsFreeSpot (reads_free b.free).spots k no_spot frees old.0) in (

@@ -1,22 +1,22 @@
 -- No name is read twice into the names of a net.
-use Rattle.std.proofs.Common.{◌≡◌, ◌≢◌, ◌⊎◌, inl, inr, ℕ, zero, suc, ◌+◌, ◌<◌, ◌≤◌, true, false, List, [], ◌∷◌, ◌++◌, length, length-append, map, Option, Some, None, refl, sym, ◌∙◌, ap, subst, arith, get_or, is_some, cond}
-use Rattle.std.specs.List.{list_any}
+use Rattle.std.proofs.Common.{◌≡◌, ◌≢◌, ◌⊎◌, inl, inr, ℕ, zero, suc, ◌+◌, ◌<◌, true, false, List, [], ◌∷◌, ◌++◌, length, length-append, map, Option, Some, None, refl, sym, ◌∙◌, ap, subst, arith, get_or, is_some, cond}
+use Rattle.std.specs.List.{AllByRecursion, list_any}
 use Rattle.std.specs.Str.{bytes_eq}
 use Rattle.std.proofs.lemmas.Slice.Eq.{bytes_eq-Decides}
 use Rattle.in_syntax.specs.declared.tree.Term.{Term, out-Term}
 use Rattle.in_syntax.specs.declared.tree.Equation.{Equation}
 use Rattle.in_syntax.specs.declared.tree.SourceFree.{SourceFree}
-use Rattle.in_syntax.specs.Sizes.{total, names_in}
+use Rattle.in_syntax.specs.declared.tree.Name.{Name}
 use Rattle.in_symbols.specs.Names.{number_in, name_in}
-use Rattle.in_symbols.specs.Tables.{Tables, arity_of}
+use Rattle.in_symbols.specs.Tables.{Tables}
 use Rattle.in_symbols.proofs.Public.{absent}
 use Rattle.in_net.specs.declared.reading.Reading.{Reading}
-use Rattle.in_net.specs.Reading.{with_agent, with_joint, with_name, reader_of, reads_arguments, reads_equation, reads_equations, reads_heads, with_ends, ends_of, reads_free, reads_free_from, reads_free_end, nothing_read, reading_of}
+use Rattle.in_net.specs.Reading.{with_named, with_joint, with_name, reader_of, reads_arguments, reads_equation, reads_equations, reads_heads, with_ends, ends_of, reads_free, reads_free_from, reads_free_end, nothing_read, reading_of}
 use Rattle.in_net.specs.TextNet.{Body, LeftHead}
-use Rattle.in_net.proofs.Texts.Folds.{read_agent, read_occurrence}
+use Rattle.in_net.proofs.Texts.Folds.{read_named}
 use Rattle.in_net.proofs.Wiring.Linked.{front_or_back, at_front, at_back}
 use Rattle.std.proofs.lemmas.Bool.{or_parts}
-use Rattle.in_syntax.proofs.Public.{names_out}
+use Rattle.in_syntax.proofs.Public.{term_by_arguments, terms_by_arguments}
 
 abbrev pub AreApart : List (List ℕ) → Type 0
 AreApart names = (m n : ℕ) → m < length names → n < length names → name_in m names ≡ name_in n names → m ≡ n
@@ -54,30 +54,31 @@ with_name_by names name (Some k) is apart =
 with_name_apart : (names : List (List ℕ)) (name : List ℕ) → AreApart names → AreApart (with_name names name)
 with_name_apart names name apart = with_name_by names name (number_in name names) refl apart
 
-abbrev NamesRead : Tables → ℕ → Type 0
-NamesRead t h = (u : Term) (r : Reading) → names_in u ≤ h → AreApart r.names → AreApart ((reader_of t u).reads r).0.names
+named_apart : (t : Tables) (r : Reading) (n : Name) (o : Option ℕ) → AreApart r.names → AreApart (with_named t r n o).names
+named_apart t r n None apart = with_name_apart r.names n.text apart
+named_apart t r n (Some s) apart = apart
 
-arguments_apart : (t : Tables) (h : ℕ) → NamesRead t h → (us : List Term) (first port : ℕ) (r : Reading) → total (map names_in us) ≤ h → AreApart r.names → AreApart (reads_arguments first (map (reader_of t) us) port r).names
-arguments_apart t h ih [] first port r short apart = apart
-arguments_apart t h ih (u ∷ us) first port r short apart =
+abbrev NamesRead : Tables → Term → Type 0
+NamesRead t u = (r : Reading) → AreApart r.names → AreApart ((reader_of t u).reads r).0.names
+
+arguments_apart : (t : Tables) (us : List Term) → AllByRecursion (NamesRead t) us → (first port : ℕ) (r : Reading) → AreApart r.names → AreApart (reads_arguments first (map (reader_of t) us) port r).names
+arguments_apart t [] all first port r apart = apart
+arguments_apart t (u ∷ us) all first port r apart =
     let there : Reading × ℕ = (reader_of t u).reads r in
-    arguments_apart t h ih us first (port + 1) (with_joint there.0 first port there.1 (reader_of t u).place) (omega (arith, short)) (ih u r (omega (arith, short)) apart)
+    arguments_apart t us all.1 first (port + 1) (with_joint there.0 first port there.1 (reader_of t u).place) (all.0 r apart)
 
-term_apart : (t : Tables) (h : ℕ) → NamesRead t h → (u : Term) (r : Reading) → names_in u ≤ suc h → AreApart r.names → (o : Option ℕ) → number_in (out-Term u).name.text t.names ≡ o → AreApart ((reader_of t u).reads r).0.names
-term_apart t h ih u r short apart None is = subst (λ (p : Reading × ℕ). AreApart p.0.names) (sym (read_occurrence t u r is)) (with_name_apart r.names (out-Term u).name.text apart)
-term_apart t h ih u r short apart (Some s) is =
-    let out = names_out u in
-    subst (λ (p : Reading × ℕ). AreApart p.0.names) (sym (read_agent t u r (record { 0 = s }) is))
-    (arguments_apart t h ih (out-Term u).args (length r.spots) 1 (with_agent r (record { 0 = s }) (arity_of t s) (out-Term u).name.place) (omega (arith, out, short)) apart)
+of_arguments : (t : Tables) (u : Term) → AllByRecursion (NamesRead t) (out-Term u).args → NamesRead t u
+of_arguments t u all r apart =
+    let name = (out-Term u).name in
+    let o = number_in name.text t.names in
+    subst (λ (p : Reading × ℕ). AreApart p.0.names) (sym (read_named t u r)) (arguments_apart t (out-Term u).args all (length r.spots) 1 (with_named t r name o) (named_apart t r name o apart))
 
-terms_apart : (t : Tables) (h : ℕ) → NamesRead t h
-terms_apart t zero u r short apart = absurd (omega (arith, names_out u, short))
-terms_apart t (suc h) u r short apart = term_apart t h (λ v q a b. terms_apart t h v q a b) u r short apart (number_in (out-Term u).name.text t.names) refl
+terms_apart : (t : Tables) (u : Term) → NamesRead t u
+terms_apart t = term_by_arguments (NamesRead t) (of_arguments t)
 
 equations_apart : (t : Tables) (es : List Equation) (r : Reading) → AreApart r.names → AreApart (reads_equations t es r).names
 equations_apart t [] r apart = apart
-equations_apart t (e ∷ es) r apart =
-    equations_apart t es (reads_equation t e r) (terms_apart t (names_in e.right) e.right ((reader_of t e.left).reads r).0 (omega arith) (terms_apart t (names_in e.left) e.left r (omega arith) apart))
+equations_apart t (e ∷ es) r apart = equations_apart t es (reads_equation t e r) (terms_apart t e.right ((reader_of t e.left).reads r).0 (terms_apart t e.left r apart))
 
 free_apart : (k : ℕ) (fs : List SourceFree) (r : Reading) → AreApart r.names → AreApart (reads_free_from k fs r).names
 free_apart k [] r apart = apart
@@ -86,8 +87,7 @@ free_apart k (f ∷ fs) r apart = free_apart (k + 1) fs (reads_free_end k f r) (
 heads_apart : (t : Tables) (hs : List LeftHead) (r : Reading) → AreApart r.names → AreApart (reads_heads t hs r).names
 heads_apart t [] r apart = apart
 heads_apart t (h ∷ hs) r apart =
-    heads_apart t hs (reads_arguments h.first (map (reader_of t) h.head.terms) 0 r)
-    (arguments_apart t (total (map names_in h.head.terms)) (terms_apart t (total (map names_in h.head.terms))) h.head.terms h.first 0 r (omega arith) apart)
+    heads_apart t hs (reads_arguments h.first (map (reader_of t) h.head.terms) 0 r) (arguments_apart t h.head.terms (terms_by_arguments (NamesRead t) (of_arguments t) h.head.terms) h.first 0 r apart)
 
 ends_apart : (r : Reading) (n : ℕ) → AreApart r.names → AreApart (with_ends r n).names
 ends_apart r zero apart = apart

@@ -1,7 +1,7 @@
 -- A whole net or rule is read: its free ends are joined to nothing yet, all else is.
 use Rattle.std.proofs.Common.{◌≡◌, ◌≢◌, ◌⊎◌, inl, inr, ℕ, zero, suc, ◌+◌, ◌<◌, ◌≤◌, true, ◌&&◌, List, [], ◌∷◌, ◌++◌, length, map, Some, refl, sym, ◌∙◌, ap, subst, arith, slice_get, length-append, append_assoc, append-nil}
 use Rattle.std.proofs.lemmas.Option.{none-some}
-use Rattle.std.specs.List.{list_all}
+use Rattle.std.specs.List.{AllByRecursion, list_all}
 use Rattle.in_syntax.specs.declared.tree.Term.{Term}
 use Rattle.in_syntax.specs.declared.tree.Equation.{Equation}
 use Rattle.in_syntax.specs.declared.tree.SourceFree.{SourceFree}
@@ -10,7 +10,7 @@ use Rattle.in_net.specs.declared.joining.Link.{Link}
 use Rattle.in_net.specs.declared.reading.Spot.{Spot}
 use Rattle.in_net.specs.declared.reading.Spot.TheVariants.{Port, Free, End, Occurrence}
 use Rattle.in_net.specs.declared.reading.Reading.{Reading}
-use Rattle.in_symbols.specs.Tables.{Tables, heads_known}
+use Rattle.in_symbols.specs.Tables.{Tables, heads_known, HeadsKnown}
 use Rattle.in_symbols.specs.Names.{number_in}
 use Rattle.in_net.specs.Arities.{fits_arity, arities_fit, equation_fits, head_fits, all_arities_fit}
 use Rattle.in_net.specs.Reading.{with_joint, with_ends, boundary_spots, number_with, reader_of, reads_arguments, reads_equation, reads_equations, reads_heads, reads_free_end, reads_free_from, reads_free, nothing_read, ends_of, reading_of}
@@ -24,6 +24,7 @@ use Rattle.in_net.proofs.Wiring.Sound.{named}
 use Rattle.in_net.specs.Built.{HaveFewPorts, IsEnd}
 use Rattle.in_net.proofs.Texts.Folds.{place_read}
 use Rattle.in_net.proofs.Texts.Read.{IsRead, with_joint_read, more_names, free_end_read, boundary_end_read}
+use Rattle.in_net.proofs.Texts.Known.{AreHeadsKnown, IsBodyKnown}
 use Rattle.in_net.proofs.Texts.Kept.{IsSettled, Keeps, keeps_both, keeps_itself, keeps_joint, settled_joint}
 use Rattle.in_net.proofs.Texts.Terms.{IsHeldIn, IsReadOn, held_stays, reads_on, among_middle, middle}
 use Rattle.std.proofs.lemmas.Bool.{and_parts, cases_eq, cases_lt}
@@ -49,11 +50,11 @@ pub record IsNetRead (t : Tables) (b : Body) (free count : ℕ) (r : Reading) : 
 -- the joint of an equation and those in its terms stand among the spots
 pub record IsEquationHeld (t : Tables) (e : Equation) (r : Reading) : Type 0 where
   pub joint : IsSettled r (spot_of t e.left) (spot_of t e.right) e.tilde
-  pub left : heads_known t.names e.left ≡ true → IsHeldIn t e.left r
-  pub right : heads_known t.names e.right ≡ true → IsHeldIn t e.right r
+  pub left : IsHeldIn t e.left r
+  pub right : IsHeldIn t e.right r
 
 equation_stays : (t : Tables) (e : Equation) (r q : Reading) → Keeps r q → IsEquationHeld t e r → IsEquationHeld t e q
-equation_stays t e r q keeps h = record { joint = keeps.settled _ _ _ h.joint; left = λ heads. held_stays t e.left r q keeps (h.left heads); right = λ heads. held_stays t e.right r q keeps (h.right heads) }
+equation_stays t e r q keeps h = record { joint = keeps.settled _ _ _ h.joint; left = held_stays t e.left r q keeps h.left; right = held_stays t e.right r q keeps h.right }
 
 -- what reading an equation does
 pub record IsEquationRead (t : Tables) (b : Body) (free count : ℕ) (waits : ℕ → Type 0) (e : Equation) (before after : Reading) : Type 0 where
@@ -61,15 +62,16 @@ pub record IsEquationRead (t : Tables) (b : Body) (free count : ℕ) (waits : �
   pub keeps : Keeps before after
   pub held : IsEquationHeld t e after
 
-pub equation_read : (t : Tables) (b : Body) (free count : ℕ) (waits : ℕ → Type 0) → HaveFewPorts t → (e : Equation) (r : Reading) → IsAmong e b.equations → arities_fit t e.left ≡ true → arities_fit t e.right ≡ true → IsReadBut t b free count waits r →
+pub equation_read : (t : Tables) (b : Body) (free count : ℕ) (waits : ℕ → Type 0) → HaveFewPorts t → (e : Equation) (r : Reading) → IsAmong e b.equations → arities_fit t e.left ≡ true → arities_fit t e.right ≡ true →
+    (heads_known t.names e.left ≡ true) × (heads_known t.names e.right ≡ true) → IsReadBut t b free count waits r →
     IsEquationRead t b free (count + names_in_equation e) waits e r (reads_equation t e r)
-equation_read t b free count waits small e r among fits_left fits_right net =
+equation_read t b free count waits small e r among fits_left fits_right known net =
     let r1 : Reading = ((reader_of t e.left).reads r).0 in
     let one : ℕ = ((reader_of t e.left).reads r).1 in
     let r2 : Reading = ((reader_of t e.right).reads ((reader_of t e.left).reads r).0).0 in
     let other : ℕ = ((reader_of t e.right).reads ((reader_of t e.left).reads r).0).1 in
-    let a = reads_on t b free small (names_in e.left) e.left count r (omega arith) fits_left (λ v part. IsTermOf.in_left e among part) net.read in
-    let c = reads_on t b free small (names_in e.right) e.right (count + names_in e.left) ((reader_of t e.left).reads r).0 (omega arith) fits_right (λ v part. IsTermOf.in_right e among part) a.read in
+    let a = reads_on t b free small e.left count r fits_left known.0 (λ v part. IsTermOf.in_left e among part) net.read in
+    let c = reads_on t b free small e.right (count + names_in e.left) ((reader_of t e.left).reads r).0 fits_right known.1 (λ v part. IsTermOf.in_right e among part) a.read in
     let wide_1 = ap length a.spots ∙ length-append r.spots a.more in
     let wide_2 = ap length c.spots ∙ length-append r1.spots c.more in
     let zero_on : one + 0 ≡ one = omega arith in
@@ -109,8 +111,8 @@ equation_read t b free count waits small e r among fits_left fits_right net =
       keeps = keeps_both r r1 _ a.keeps (keeps_both r1 r2 _ c.keeps keeps_joined);
       held = record {
         joint = subst (λ s. IsSettled (with_joint r2 one 0 other e.tilde) s (spot_of t e.right) e.tilde) one_is (subst (λ s. IsSettled (with_joint r2 one 0 other e.tilde) (named (nth_spot r2.spots (one + 0))) s e.tilde) c.stands settled);
-        left = λ heads. held_stays t e.left r1 _ (keeps_both r1 r2 _ c.keeps keeps_joined) (a.held heads);
-        right = λ heads. held_stays t e.right r2 _ keeps_joined (c.held heads);
+        left = held_stays t e.left r1 _ (keeps_both r1 r2 _ c.keeps keeps_joined) a.held;
+        right = held_stays t e.right r2 _ keeps_joined c.held;
       };
     }
   where
@@ -162,17 +164,17 @@ pub record AreEquationsRead (t : Tables) (b : Body) (free count : ℕ) (waits : 
   pub held : (e : Equation) → IsAmong e es → IsEquationHeld t e after
 
 pub equations_read : (t : Tables) (b : Body) (free count : ℕ) (waits : ℕ → Type 0) → HaveFewPorts t → (es : List Equation) (r : Reading) → ((e : Equation) → IsAmong e es → IsAmong e b.equations) →
-    list_all (equation_fits t) es ≡ true → IsReadBut t b free count waits r → AreEquationsRead t b free (count + names_in_equations es) waits es r (reads_equations t es r)
-equations_read t b free count waits small [] r among fits net = record {
+    list_all (equation_fits t) es ≡ true → HeadsKnown t.names es → IsReadBut t b free count waits r → AreEquationsRead t b free (count + names_in_equations es) waits es r (reads_equations t es r)
+equations_read t b free count waits small [] r among fits known net = record {
   net = record { read = more_names t b free count (count + names_in_equations []) r (omega arith) net.read; wide = net.wide; first = net.first; alone = net.alone; joined = net.joined };
   keeps = keeps_itself r;
   held = λ e h. absurd h;
 }
-equations_read t b free count waits small (e ∷ es) r among fits net =
+equations_read t b free count waits small (e ∷ es) r among fits known net =
     let both = and_parts (arities_fit t e.left && arities_fit t e.right) (list_all (equation_fits t) es) fits in
     let here = and_parts (arities_fit t e.left) (arities_fit t e.right) both.0 in
-    let one = equation_read t b free count waits small e r (among e (inl refl)) here.0 here.1 net in
-    let all = equations_read t b free (count + names_in_equation e) waits small es (reads_equation t e r) (λ x h. among x (inr h)) both.1 one.net in
+    let one = equation_read t b free count waits small e r (among e (inl refl)) here.0 here.1 known.0 net in
+    let all = equations_read t b free (count + names_in_equation e) waits small es (reads_equation t e r) (λ x h. among x (inr h)) both.1 known.1 one.net in
     record {
       net = record { read = more_names t b free (count + names_in_equation e + names_in_equations es) (count + names_in_equations (e ∷ es)) _ (omega arith) all.net.read; wide = all.net.wide; first = all.net.first; alone = all.net.alone; joined = all.net.joined };
       keeps = keeps_both r (reads_equation t e r) _ one.keeps all.keeps;
@@ -191,7 +193,7 @@ pub record IsPlaceRead (t : Tables) (b : Body) (free count : ℕ) (waits : ℕ �
   pub net : IsReadBut t b free count waits after
   pub keeps : Keeps before after
   pub settled : IsSettled after (text.free_end at) (spot_of t v) (place_of v)
-  pub held : heads_known t.names v ≡ true → IsHeldIn t v after
+  pub held : IsHeldIn t v after
 
 end_named : (u : Spot) (k : ℕ) → IsEnd u k → named u ≡ text.free_end k
 end_named (Port a i p) k h = absurd h
@@ -201,7 +203,7 @@ end_named (Occurrence m p) k h = absurd h
 
 -- one end that waited is joined to a term
 module _ (t : Tables) (b : Body) (free count : ℕ) (waits then_ : ℕ → Type 0) (small : HaveFewPorts t) (v : Term) (r : Reading) (first port : ℕ)
-    (terms : (u : Term) → IsPartOf u v → IsTermOf b u) (fits : arities_fit t v ≡ true) (joint : PlacedJoint t b (text.free_end (first + port)) (spot_of t v) (place_of v))
+    (terms : (u : Term) → IsPartOf u v → IsTermOf b u) (fits : arities_fit t v ≡ true) (known : heads_known t.names v ≡ true) (joint : PlacedJoint t b (text.free_end (first + port)) (spot_of t v) (place_of v))
     (waited : waits (first + port)) (still : (i : ℕ) → then_ i → waits i) (done : then_ (first + port) → ⊥) (others : (i : ℕ) → waits i → (i ≡ first + port) ⊎ then_ i) (net : IsReadBut t b free count waits r) where
   abbrev r1 : Reading
   r1 = ((reader_of t v).reads r).0
@@ -213,7 +215,7 @@ module _ (t : Tables) (b : Body) (free count : ℕ) (waits then_ : ℕ → Type 
   r2 = with_joint r1 first port other (reader_of t v).place
 
   on : IsReadOn t b free (count + names_in v) v r r1 other
-  on = reads_on t b free small (names_in v) v count r (omega arith) fits terms net.read
+  on = reads_on t b free small v count r fits known terms net.read
 
   wider : length r1.spots ≡ length r.spots + length on.more
   wider = ap length on.spots ∙ length-append r.spots on.more
@@ -298,7 +300,7 @@ module _ (t : Tables) (b : Body) (free count : ℕ) (waits then_ : ℕ → Type 
             subst (λ p. IsSettled r2 (text.free_end (first + port)) (spot_of t v) p) (place_read t v r1)
             (subst (λ s. IsSettled r2 (text.free_end (first + port)) s (reader_of t v).place) on.stands
             (subst (λ s. IsSettled r2 s (named (nth_spot r1.spots other)) (reader_of t v).place) here settled));
-        held = λ heads. held_stays t v r1 r2 keeps_one (on.held heads);
+        held = held_stays t v r1 r2 keeps_one on.held;
       }
 
 -- what reading the terms of a head does, from one place on
@@ -306,7 +308,7 @@ pub record ArePlacesRead (t : Tables) (b : Body) (free count : ℕ) (waits : ℕ
   pub net : IsReadBut t b free count waits after
   pub keeps : Keeps before after
   pub settled : (j : ℕ) (v : Term) → slice_get vs j ≡ Some v → IsSettled after (text.free_end (first + (port + j))) (spot_of t v) (place_of v)
-  pub held : (v : Term) → IsAmong v vs → heads_known t.names v ≡ true → IsHeldIn t v after
+  pub held : (v : Term) → IsAmong v vs → IsHeldIn t v after
 
 -- the ends of a head from one place on, or others
 abbrev Waits : (first port n : ℕ) → (ℕ → Type 0) → ℕ → Type 0
@@ -322,9 +324,9 @@ but_same t b free count W V r to back h = record {
 }
 
 places_read : (t : Tables) (b : Body) (free count : ℕ) (rest : ℕ → Type 0) → HaveFewPorts t → (h : LeftHead) → IsAmong h b.heads → (done vs : List Term) → done ++ vs ≡ h.head.terms → (port : ℕ) → port ≡ length done → (r : Reading) →
-    list_all (arities_fit t) vs ≡ true → ((i j : ℕ) → rest i → j < length h.head.terms → i ≢ h.first + j) → IsReadBut t b free count (Waits h.first port (length vs) rest) r →
+    list_all (arities_fit t) vs ≡ true → AllByRecursion (λ u. heads_known t.names u ≡ true) vs → ((i j : ℕ) → rest i → j < length h.head.terms → i ≢ h.first + j) → IsReadBut t b free count (Waits h.first port (length vs) rest) r →
     ArePlacesRead t b free (count + total (map names_in vs)) rest h.first port vs r (reads_arguments h.first (map (reader_of t) vs) port r)
-places_read t b free count rest small h among done [] all port at r fits differ net =
+places_read t b free count rest small h among done [] all port at r fits known differ net =
     let none : (i : ℕ) → Waits h.first port 0 rest i → rest i = λ i w. elim w [ inl x ↦ absurd (omega (arith, x.1)) | inr x ↦ x ] in
     let same = but_same t b free count (Waits h.first port 0 rest) rest r (λ i w. inr w) none net in
     record {
@@ -333,7 +335,7 @@ places_read t b free count rest small h among done [] all port at r fits differ 
       settled = λ j v e. absurd (none-some v e);
       held = λ v x. absurd x;
     }
-places_read t b free count rest small h among done (v ∷ vs) all port at r fits differ net =
+places_read t b free count rest small h among done (v ∷ vs) all port at r fits known differ net =
     let both = and_parts (arities_fit t v) (list_all (arities_fit t) vs) fits in
     let there : slice_get h.head.terms (length done) ≡ Some v = subst (λ z. slice_get z (length done) ≡ Some v) all (middle done vs v) in
     let in_head : IsAmong v h.head.terms = subst (IsAmong v) all (among_middle done vs v) in
@@ -342,10 +344,10 @@ places_read t b free count rest small h among done (v ∷ vs) all port at r fits
     subst (λ k. PlacedJoint t b (text.free_end (h.first + k)) (spot_of t v) (place_of v)) (sym at) (PlacedJoint.of_head h v (length done) among there) in
     let then_ : ℕ → Type 0 = Waits h.first (port + 1) (length vs) rest in
     let one =
-    place_joined t b free count (Waits h.first port (suc (length vs)) rest) (Waits h.first (port + 1) (length vs) rest) small v r h.first port (λ u part. IsTermOf.in_head h v among in_head part) both.0 joint
+    place_joined t b free count (Waits h.first port (suc (length vs)) rest) (Waits h.first (port + 1) (length vs) rest) small v r h.first port (λ u part. IsTermOf.in_head h v among in_head part) both.0 known.0 joint
     (inl (0, omega arith, omega arith)) later
     (λ w. not_again size w) sooner net in
-    let more = places_read t b free (count + names_in v) rest small h among (done ++ v ∷ []) vs (append_assoc done (v ∷ []) vs ∙ all) (port + 1) (omega (arith, at, length-append done (v ∷ []))) _ both.1 differ one.net in
+    let more = places_read t b free (count + names_in v) rest small h among (done ++ v ∷ []) vs (append_assoc done (v ∷ []) vs ∙ all) (port + 1) (omega (arith, at, length-append done (v ∷ []))) _ both.1 known.1 differ one.net in
     record {
       net = record {
         read = more_names t b free (count + names_in v + total (map names_in vs)) (count + total (map names_in (v ∷ vs))) _ (omega arith) more.net.read;
@@ -356,7 +358,7 @@ places_read t b free count rest small h among done (v ∷ vs) all port at r fits
       };
       keeps = keeps_both r _ _ one.keeps more.keeps;
       settled = λ j u e. settled_by j u e one.settled more.keeps more.settled;
-      held = λ u x heads. held_by u x heads one.held more.keeps more.held;
+      held = λ u x. held_by u x one.held more.keeps more.held;
     }
   where
     q : Reading
@@ -386,19 +388,19 @@ places_read t b free count rest small h among done (v ∷ vs) all port at r fits
         subst (λ k. IsSettled after (text.free_end k) (spot_of t u) (place_of u)) n (subst (λ x. IsSettled after (text.free_end (h.first + port)) (spot_of t x) (place_of x)) same (keeps.settled _ _ _ here))
     settled_by (suc j) u e here keeps more = let n : h.first + (port + 1 + j) ≡ h.first + (port + suc j) = omega arith in subst (λ k. IsSettled after (text.free_end k) (spot_of t u) (place_of u)) n (more j u e)
 
-    held_by : (u : Term) → IsAmong u (v ∷ vs) → heads_known t.names u ≡ true → (heads_known t.names v ≡ true → IsHeldIn t v q) → Keeps q after → ((u : Term) → IsAmong u vs → heads_known t.names u ≡ true → IsHeldIn t u after) → IsHeldIn t u after
-    held_by u (inl e) heads here keeps more = held_stays t u q after keeps (subst (λ u. IsHeldIn t u q) e (here (subst (λ u. heads_known t.names u ≡ true) (sym e) heads)))
-    held_by u (inr x) heads here keeps more = more u x heads
+    held_by : (u : Term) → IsAmong u (v ∷ vs) → IsHeldIn t v q → Keeps q after → ((u : Term) → IsAmong u vs → IsHeldIn t u after) → IsHeldIn t u after
+    held_by u (inl e) here keeps more = held_stays t u q after keeps (subst (λ u. IsHeldIn t u q) e here)
+    held_by u (inr x) here keeps more = more u x
 
 -- ---- heads
 
 -- a head's ends are joined to its terms, and so is all in its terms
 pub record IsHeadHeld (t : Tables) (h : LeftHead) (r : Reading) : Type 0 where
   pub settled : (i : ℕ) (v : Term) → slice_get h.head.terms i ≡ Some v → IsSettled r (text.free_end (h.first + i)) (spot_of t v) (place_of v)
-  pub held : (v : Term) → IsAmong v h.head.terms → heads_known t.names v ≡ true → IsHeldIn t v r
+  pub held : (v : Term) → IsAmong v h.head.terms → IsHeldIn t v r
 
 head_stays : (t : Tables) (h : LeftHead) (r q : Reading) → Keeps r q → IsHeadHeld t h r → IsHeadHeld t h q
-head_stays t h r q keeps x = record { settled = λ i v e. keeps.settled _ _ _ (x.settled i v e); held = λ v among heads. held_stays t v r q keeps (x.held v among heads) }
+head_stays t h r q keeps x = record { settled = λ i v e. keeps.settled _ _ _ (x.settled i v e); held = λ v among. held_stays t v r q keeps (x.held v among) }
 
 -- the ends of some heads, or others
 abbrev pub AtHeads : List LeftHead → (ℕ → Type 0) → ℕ → Type 0
@@ -419,20 +421,20 @@ pub record AreHeadsRead (t : Tables) (b : Body) (free count : ℕ) (waits : ℕ 
 abbrev pub names_in_heads : List LeftHead → ℕ
 names_in_heads hs = total (map (λ h. total (map names_in h.head.terms)) hs)
 
-heads_read : (t : Tables) (b : Body) (free count : ℕ) (rest : ℕ → Type 0) → HaveFewPorts t → (hs : List LeftHead) → ((h : LeftHead) → IsAmong h hs → IsAmong h b.heads) → (r : Reading) → list_all (head_fits t) hs ≡ true → AreHeadsApart hs rest →
+heads_read : (t : Tables) (b : Body) (free count : ℕ) (rest : ℕ → Type 0) → HaveFewPorts t → (hs : List LeftHead) → ((h : LeftHead) → IsAmong h hs → IsAmong h b.heads) → (r : Reading) → list_all (head_fits t) hs ≡ true → AreHeadsKnown t hs → AreHeadsApart hs rest →
     IsReadBut t b free count (AtHeads hs rest) r → AreHeadsRead t b free (count + names_in_heads hs) rest hs r (reads_heads t hs r)
-heads_read t b free count rest small [] among r fits apart net = record {
+heads_read t b free count rest small [] among r fits known apart net = record {
   net = record { read = more_names t b free count (count + names_in_heads []) r (omega arith) net.read; wide = net.wide; first = net.first; alone = net.alone; joined = net.joined };
   keeps = keeps_itself r;
   held = λ h x. absurd x;
 }
-heads_read t b free count rest small (h ∷ hs) among r fits apart net =
+heads_read t b free count rest small (h ∷ hs) among r fits known apart net =
     let both = and_parts (head_fits t h) (list_all (head_fits t) hs) fits in
     let here = and_parts (fits_arity t (number_in h.head.name.text t.names) (length h.head.terms)) (list_all (arities_fit t) h.head.terms) both.0 in
     let W : ℕ → Type 0 = Waits h.first 0 (length h.head.terms) (AtHeads hs rest) in
     let ready = but_same t b free count (AtHeads (h ∷ hs) rest) (Waits h.first 0 (length h.head.terms) (AtHeads hs rest)) r to back net in
-    let one = places_read t b free count (AtHeads hs rest) small h (among h (inl refl)) [] h.head.terms refl 0 refl r here.1 apart.0 ready in
-    let more = heads_read t b free (count + total (map names_in h.head.terms)) rest small hs (λ g x. among g (inr x)) (reads_arguments h.first (map (reader_of t) h.head.terms) 0 r) both.1 apart.1 one.net in
+    let one = places_read t b free count (AtHeads hs rest) small h (among h (inl refl)) [] h.head.terms refl 0 refl r here.1 known.0 apart.0 ready in
+    let more = heads_read t b free (count + total (map names_in h.head.terms)) rest small hs (λ g x. among g (inr x)) (reads_arguments h.first (map (reader_of t) h.head.terms) 0 r) both.1 known.1 apart.1 one.net in
     record {
       net = record {
         read = more_names t b free (count + total (map names_in h.head.terms) + names_in_heads hs) (count + names_in_heads (h ∷ hs)) _ (omega arith) more.net.read;
@@ -457,7 +459,7 @@ heads_read t b free count rest small (h ∷ hs) among r fits apart net =
     back i (inr w) = inr w
 
     held_by : (g : LeftHead) → IsAmong g (h ∷ hs) → ((j : ℕ) (v : Term) → slice_get h.head.terms j ≡ Some v → IsSettled q (text.free_end (h.first + (0 + j))) (spot_of t v) (place_of v)) →
-        ((v : Term) → IsAmong v h.head.terms → heads_known t.names v ≡ true → IsHeldIn t v q) → Keeps q (reads_heads t hs q) → ((g : LeftHead) → IsAmong g hs → IsHeadHeld t g (reads_heads t hs q)) → IsHeadHeld t g (reads_heads t hs q)
+        ((v : Term) → IsAmong v h.head.terms → IsHeldIn t v q) → Keeps q (reads_heads t hs q) → ((g : LeftHead) → IsAmong g hs → IsHeadHeld t g (reads_heads t hs q)) → IsHeadHeld t g (reads_heads t hs q)
     held_by g (inl e) settled held keeps others =
         let here : IsHeadHeld t h q = record {
           settled = λ i v f. let n : h.first + (0 + i) ≡ h.first + i = omega arith in subst (λ k. IsSettled q (text.free_end k) (spot_of t v) (place_of v)) n (settled i v f);
@@ -567,13 +569,13 @@ pub record IsBodyRead (t : Tables) (b : Body) (r : Reading) : Type 0 where
   pub heads : (h : LeftHead) → IsAmong h b.heads → IsHeadHeld t h r
   pub equations : (e : Equation) → IsAmong e b.equations → IsEquationHeld t e r
 
-pub body_read : (t : Tables) (b : Body) → HaveFewPorts t → AreHeadsOf t b → all_arities_fit t b ≡ true → IsBodyRead t b (reading_of t b)
-body_read t b small ends fits =
+pub body_read : (t : Tables) (b : Body) → HaveFewPorts t → AreHeadsOf t b → all_arities_fit t b ≡ true → IsBodyKnown t b → IsBodyRead t b (reading_of t b)
+body_read t b small ends fits known =
     let both = and_parts (list_all (head_fits t) b.heads) (list_all (equation_fits t) b.equations) fits in
     let free = free_read t b [] b.free nothing_read refl (nothing t b) in
     let start : AreFreeRead t b (ends_in t b) (with_ends (reads_free b.free) (ends_of t b.heads)) = with_ends_read t b (ends_of t b.heads) (reads_free b.free) free in
-    let heads = heads_read t b (ends_in t b) 0 (AtFree b) small b.heads (λ h x. x) (with_ends (reads_free b.free) (ends_of t b.heads)) both.0 ends.apart (begun t b (with_ends (reads_free b.free) (ends_of t b.heads)) ends start) in
-    let all = equations_read t b (ends_in t b) (0 + names_in_heads b.heads) (AtFree b) small b.equations (reads_heads t b.heads (with_ends (reads_free b.free) (ends_of t b.heads))) (λ e x. x) both.1 heads.net in
+    let heads = heads_read t b (ends_in t b) 0 (AtFree b) small b.heads (λ h x. x) (with_ends (reads_free b.free) (ends_of t b.heads)) both.0 known.heads ends.apart (begun t b (with_ends (reads_free b.free) (ends_of t b.heads)) ends start) in
+    let all = equations_read t b (ends_in t b) (0 + names_in_heads b.heads) (AtFree b) small b.equations (reads_heads t b.heads (with_ends (reads_free b.free) (ends_of t b.heads))) (λ e x. x) both.1 known.equations heads.net in
     let count : 0 + names_in_heads b.heads + names_in_equations b.equations ≡ names_in_body b = omega arith in
     let net = subst (λ k. IsReadBut t b (ends_in t b) k (AtFree b) (reading_of t b)) count all.net in
     record {

@@ -1,28 +1,25 @@
 -- The spots of names stand in the order of the text.
-use Rattle.std.proofs.Common.{◌≡◌, ◌≢◌, ◌⊎◌, inl, inr, ℕ, zero, suc, ◌+◌, ◌<◌, ◌≤◌, true, List, [], ◌∷◌, ◌++◌, length, map, Option, Some, None, refl, sym, ◌∙◌, ap, subst, arith, append_assoc, append-nil}
+use Rattle.std.proofs.Common.{◌≡◌, ◌≢◌, ◌⊎◌, inl, inr, ℕ, zero, suc, ◌+◌, ◌<◌, ◌≤◌, List, [], ◌∷◌, ◌++◌, length, map, Option, Some, None, refl, sym, ◌∙◌, ap, subst, arith, append_assoc, append-nil}
 use Rattle.std.specs.List.{AllByRecursion, flat_map}
 use Rattle.in_syntax.specs.declared.places.Place.{Place}
 use Rattle.in_syntax.specs.declared.tree.Term.{Term, out-Term}
 use Rattle.in_syntax.specs.declared.tree.Equation.{Equation}
 use Rattle.in_syntax.specs.declared.tree.SourceFree.{SourceFree}
-use Rattle.in_syntax.specs.Sizes.{total, names_in}
+use Rattle.in_syntax.specs.declared.tree.Name.{Name}
 use Rattle.in_syntax.specs.declared.tree.SourceRule.{SourceRule}
 use Rattle.in_syntax.specs.declared.tree.SourceNet.{SourceNet}
-use Rattle.in_syntax.proofs.Public.{places_out, back_rises, names_out}
+use Rattle.in_syntax.proofs.Public.{places_out, back_rises, term_by_arguments, terms_by_arguments}
 use Rattle.in_syntax.specs.Order.{Rises, term_places, equation_places, IsInOrder, IsRuleInOrder, head_places}
-use Rattle.in_symbols.specs.declared.symbols.SymbolNo.{SymbolNo}
 use Rattle.in_net.specs.declared.reading.Spot.{Spot}
 use Rattle.in_net.specs.declared.reading.Spot.TheVariants.{Port, Free, End, Occurrence}
 use Rattle.in_net.specs.declared.reading.Reading.{Reading}
 use Rattle.in_symbols.specs.Names.{number_in}
-use Rattle.in_symbols.specs.Tables.{Tables, arity_of, all_true, heads_known, HeadsKnown}
+use Rattle.in_symbols.specs.Tables.{Tables, arity_of}
 use Rattle.in_net.specs.Building.{nth_spot}
-use Rattle.in_net.specs.Reading.{with_agent, with_joint, with_ends, boundary_spots, number_with, ports_from, reader_of, reads_arguments, reads_equation, reads_equations, reads_heads, reads_free_from, reads_free, reads_free_end, nothing_read, ends_of, reading_of}
+use Rattle.in_net.specs.Reading.{with_named, with_joint, with_ends, boundary_spots, number_with, ports_from, reader_of, reads_arguments, reads_equation, reads_equations, reads_heads, reads_free_from, reads_free, reads_free_end, nothing_read, ends_of, reading_of}
 use Rattle.in_net.specs.TextNet.{Body, LeftHead, body_of, heads_at}
-use Rattle.in_net.proofs.Texts.Folds.{read_agent, read_occurrence}
-use Rattle.in_net.proofs.Texts.HeadsOf.{arguments_known, no_arguments}
-use Rattle.in_net.proofs.Texts.Known.{AreHeadsKnown, IsBodyKnown, all_known}
-use Rattle.std.proofs.lemmas.Bool.{and_parts, cases_eq, cases_lt}
+use Rattle.in_net.proofs.Texts.Folds.{read_named}
+use Rattle.std.proofs.lemmas.Bool.{cases_eq, cases_lt}
 use Rattle.in_base.proofs.Each.{all_left, all_right, all_append}
 
 -- the place of a name, at the spot of its occurrence or of its agent's principal port
@@ -51,52 +48,47 @@ one_root agent at n =
     let e : n + 1 ≡ suc n = omega arith in
     ap (λ k. root_places (ports_from agent at 0 k)) e ∙ ap (λ z. at ∷ z) (no_roots agent at 0 n)
 
-abbrev RootsRead : Tables → ℕ → Type 0
-RootsRead t h = (u : Term) (r : Reading) → names_in u ≤ h → heads_known t.names u ≡ true → root_places ((reader_of t u).reads r).0.spots ≡ root_places r.spots ++ term_places u
+named_roots : (t : Tables) (r : Reading) (n : Name) (o : Option ℕ) → root_places (with_named t r n o).spots ≡ root_places r.spots ++ n.place ∷ []
+named_roots t r n None = roots_append r.spots (Occurrence (number_with r.names n.text) n.place ∷ [])
+named_roots t r n (Some s) =
+    roots_append r.spots (ports_from (length r.agents) n.place 0 (arity_of t s + 1)) ∙ ap (λ z. root_places r.spots ++ z) (one_root (length r.agents) n.place (arity_of t s))
 
-arguments_roots : (t : Tables) (h : ℕ) → RootsRead t h → (us : List Term) (first port : ℕ) (r : Reading) → total (map names_in us) ≤ h → all_true (map (heads_known t.names) us) ≡ true →
+abbrev RootsRead : Tables → Term → Type 0
+RootsRead t u = (r : Reading) → root_places ((reader_of t u).reads r).0.spots ≡ root_places r.spots ++ term_places u
+
+arguments_roots : (t : Tables) (us : List Term) → AllByRecursion (RootsRead t) us → (first port : ℕ) (r : Reading) →
     root_places (reads_arguments first (map (reader_of t) us) port r).spots ≡ root_places r.spots ++ flat_map (λ ps. ps) (map term_places us)
-arguments_roots t h ih [] first port r short heads = sym (append-nil (root_places r.spots))
-arguments_roots t h ih (u ∷ us) first port r short heads =
+arguments_roots t [] all first port r = sym (append-nil (root_places r.spots))
+arguments_roots t (u ∷ us) all first port r =
     let there : Reading × ℕ = (reader_of t u).reads r in
-    let both = and_parts (heads_known t.names u) (all_true (map (heads_known t.names) us)) heads in
-    arguments_roots t h ih us first (port + 1) (with_joint there.0 first port there.1 (reader_of t u).place) (omega (arith, short)) both.1
-    ∙ ap (λ z. z ++ flat_map (λ ps. ps) (map term_places us)) (ih u r (omega (arith, short)) both.0)
+    arguments_roots t us all.1 first (port + 1) (with_joint there.0 first port there.1 (reader_of t u).place)
+    ∙ ap (λ z. z ++ flat_map (λ ps. ps) (map term_places us)) (all.0 r)
     ∙ append_assoc (root_places r.spots) (term_places u) (flat_map (λ ps. ps) (map term_places us))
 
-term_roots : (t : Tables) (h : ℕ) → RootsRead t h → (u : Term) (r : Reading) → names_in u ≤ suc h → heads_known t.names u ≡ true → (o : Option ℕ) → number_in (out-Term u).name.text t.names ≡ o →
-    root_places ((reader_of t u).reads r).0.spots ≡ root_places r.spots ++ term_places u
-term_roots t h ih u r short heads None is =
-    let none = no_arguments t.names u heads is in
-    let spot : Spot = Occurrence (number_with r.names (out-Term u).name.text) (out-Term u).name.place in
-    ap (λ (p : Reading × ℕ). root_places p.0.spots) (read_occurrence t u r is) ∙ roots_append r.spots (spot ∷ [])
-    ∙ ap (λ z. root_places r.spots ++ z) (sym (places_out u ∙ ap (λ us. (out-Term u).name.place ∷ flat_map (λ ps. ps) (map term_places us)) none))
-term_roots t h ih u r short heads (Some s) is =
-    let symbol : SymbolNo = record { 0 = s } in
-    let place : Place = (out-Term u).name.place in
-    let ports : List Spot = ports_from (length r.agents) (out-Term u).name.place 0 (arity_of t s + 1) in
-    let out = names_out u in
-    let known = arguments_known t.names u heads in
-    ap (λ (p : Reading × ℕ). root_places p.0.spots) (read_agent t u r symbol is)
-    ∙ arguments_roots t h ih (out-Term u).args (length r.spots) 1 (with_agent r symbol (arity_of t s) place) (omega (arith, out, short)) known
-    ∙ ap (λ z. z ++ flat_map (λ ps. ps) (map term_places (out-Term u).args)) (roots_append r.spots ports ∙ ap (λ z. root_places r.spots ++ z) (one_root (length r.agents) place (arity_of t s)))
-    ∙ append_assoc (root_places r.spots) (place ∷ []) (flat_map (λ ps. ps) (map term_places (out-Term u).args))
+of_arguments : (t : Tables) (u : Term) → AllByRecursion (RootsRead t) (out-Term u).args → RootsRead t u
+of_arguments t u all r =
+    let name = (out-Term u).name in
+    let o = number_in name.text t.names in
+    let rest : List Place = flat_map (λ ps. ps) (map term_places (out-Term u).args) in
+    ap (λ (p : Reading × ℕ). root_places p.0.spots) (read_named t u r)
+    ∙ arguments_roots t (out-Term u).args all (length r.spots) 1 (with_named t r name o)
+    ∙ ap (λ z. z ++ rest) (named_roots t r name o)
+    ∙ append_assoc (root_places r.spots) (name.place ∷ []) rest
     ∙ ap (λ z. root_places r.spots ++ z) (sym (places_out u))
 
-roots_read : (t : Tables) (h : ℕ) → RootsRead t h
-roots_read t zero u r short heads = absurd (omega (arith, names_out u, short))
-roots_read t (suc h) u r short heads = term_roots t h (λ v q a b. roots_read t h v q a b) u r short heads (number_in (out-Term u).name.text t.names) refl
+roots_read : (t : Tables) (u : Term) → RootsRead t u
+roots_read t = term_by_arguments (RootsRead t) (of_arguments t)
 
 -- without the ~
 abbrev pub name_places : List Equation → List Place
 name_places = flat_map (λ e. term_places e.left ++ term_places e.right)
 
-equations_roots : (t : Tables) (es : List Equation) (r : Reading) → HeadsKnown t.names es → root_places (reads_equations t es r).spots ≡ root_places r.spots ++ name_places es
-equations_roots t [] r heads = sym (append-nil (root_places r.spots))
-equations_roots t (e ∷ es) r heads =
-    equations_roots t es (reads_equation t e r) heads.1
+equations_roots : (t : Tables) (es : List Equation) (r : Reading) → root_places (reads_equations t es r).spots ≡ root_places r.spots ++ name_places es
+equations_roots t [] r = sym (append-nil (root_places r.spots))
+equations_roots t (e ∷ es) r =
+    equations_roots t es (reads_equation t e r)
     ∙ ap (λ z. z ++ name_places es)
-    (roots_read t (names_in e.right) e.right ((reader_of t e.left).reads r).0 (omega arith) heads.0.1 ∙ ap (λ z. z ++ term_places e.right) (roots_read t (names_in e.left) e.left r (omega arith) heads.0.0)
+    (roots_read t e.right ((reader_of t e.left).reads r).0 ∙ ap (λ z. z ++ term_places e.right) (roots_read t e.left r)
     ∙ append_assoc (root_places r.spots) (term_places e.left) (term_places e.right))
     ∙ append_assoc (root_places r.spots) (term_places e.left ++ term_places e.right) (name_places es)
 
@@ -140,12 +132,12 @@ all_places : (us : List Term) → flat_map (λ ps. ps) (map term_places us) ≡ 
 all_places [] = refl
 all_places (u ∷ us) = ap (λ z. term_places u ++ z) (all_places us)
 
-heads_roots : (t : Tables) (hs : List LeftHead) (r : Reading) → AreHeadsKnown t hs → root_places (reads_heads t hs r).spots ≡ root_places r.spots ++ name_places_in hs
-heads_roots t [] r known = sym (append-nil (root_places r.spots))
-heads_roots t (h ∷ hs) r known =
-    heads_roots t hs (reads_arguments h.first (map (reader_of t) h.head.terms) 0 r) known.1
+heads_roots : (t : Tables) (hs : List LeftHead) (r : Reading) → root_places (reads_heads t hs r).spots ≡ root_places r.spots ++ name_places_in hs
+heads_roots t [] r = sym (append-nil (root_places r.spots))
+heads_roots t (h ∷ hs) r =
+    heads_roots t hs (reads_arguments h.first (map (reader_of t) h.head.terms) 0 r)
     ∙ ap (λ z. z ++ name_places_in hs)
-    (arguments_roots t (total (map names_in h.head.terms)) (roots_read t (total (map names_in h.head.terms))) h.head.terms h.first 0 r (omega arith) (all_known t h.head.terms known.0) ∙ ap (λ z. root_places r.spots ++ z) (all_places h.head.terms))
+    (arguments_roots t h.head.terms (terms_by_arguments (RootsRead t) (of_arguments t) h.head.terms) h.first 0 r ∙ ap (λ z. root_places r.spots ++ z) (all_places h.head.terms))
     ∙ append_assoc (root_places r.spots) (flat_map term_places h.head.terms) (name_places_in hs)
 
 ends_rootless : (k n : ℕ) → root_places (boundary_spots k n) ≡ []
@@ -161,11 +153,11 @@ abbrev pub body_places : Body → List Place
 body_places b = name_places_in b.heads ++ name_places b.equations
 
 -- what is read of a body stands in the order of its text
-pub roots_rise : (t : Tables) (b : Body) → IsBodyKnown t b → Rises (body_places b) → Rises (root_places (reading_of t b).spots)
-roots_rise t b known order =
+pub roots_rise : (t : Tables) (b : Body) → Rises (body_places b) → Rises (root_places (reading_of t b).spots)
+roots_rise t b order =
     let ends : Reading = with_ends (reads_free b.free) (ends_of t b.heads) in
     let none : root_places (with_ends (reads_free b.free) (ends_of t b.heads)).spots ≡ [] = roots_ends (reads_free b.free) (ends_of t b.heads) ∙ free_roots 0 b.free nothing_read in
-    subst Rises (sym (equations_roots t b.equations (reads_heads t b.heads ends) known.equations ∙ ap (λ z. z ++ name_places b.equations) (heads_roots t b.heads ends known.heads ∙ ap (λ z. z ++ name_places_in b.heads) none))) order
+    subst Rises (sym (equations_roots t b.equations (reads_heads t b.heads ends) ∙ ap (λ z. z ++ name_places b.equations) (heads_roots t b.heads ends ∙ ap (λ z. z ++ name_places_in b.heads) none))) order
 
 pub net_rises : (n : SourceNet) → IsInOrder n → Rises (body_places (body_of n))
 net_rises n order = names_rise n.equations order

@@ -1,6 +1,7 @@
 -- A term is read: what is added is joined, but for the term's own spot.
 use Rattle.std.proofs.Common.{◌≡◌, ◌≢◌, ◌⊎◌, inl, inr, ℕ, zero, suc, ◌+◌, ◌<◌, ◌≤◌, true, List, [], ◌∷◌, ◌++◌, length, map, Option, Some, None, IsSome, refl, sym, ◌∙◌, ap, subst, arith, slice_get, length-append, append_assoc, append-nil}
 use Rattle.std.proofs.lemmas.Option.{none-some}
+use Rattle.std.specs.List.{AllByRecursion}
 use Rattle.std.specs.Str.{bytes_eq}
 use Rattle.std.proofs.lemmas.List.Quantifiers.{position-Some}
 use Rattle.in_syntax.specs.declared.tree.Term.{Term, out-Term}
@@ -27,7 +28,7 @@ use Rattle.in_net.proofs.Texts.HeadsOf.{arguments_known, no_arguments}
 use Rattle.in_net.proofs.Texts.Kept.{IsSettled, IsHeldAt, Keeps, keeps_both, keeps_itself, keeps_more, keeps_joint, settled_joint}
 use Rattle.in_net.proofs.Texts.Read.{name_there, grows_by, IsRead, with_agent_read, with_occurrence_read, with_joint_read, more_names, new_spot, wider_agent}
 use Rattle.std.proofs.lemmas.Bool.{and_parts, cases_eq, cases_lt}
-use Rattle.in_syntax.proofs.Public.{names_out}
+use Rattle.in_syntax.proofs.Public.{names_out, term_by_arguments}
 
 -- the joints of a term's arguments and its variables stand among the spots
 pub record IsHeldIn (t : Tables) (u : Term) (r : Reading) : Type 0 where
@@ -51,7 +52,7 @@ pub record IsReadOn (t : Tables) (b : Body) (free count : ℕ) (u : Term) (befor
   pub more_names : List (List ℕ)
   pub names_on : after.names ≡ before.names ++ more_names
   pub keeps : Keeps before after
-  pub held : heads_known t.names u ≡ true → IsHeldIn t u after
+  pub held : IsHeldIn t u after
 
 -- what is joined of an agent that begins at a spot, before the argument at that port is read
 pub record IsPast (first arity port : ℕ) (q : Reading) : Type 0 where
@@ -70,12 +71,12 @@ pub record AreReadOn (t : Tables) (b : Body) (free count first port : ℕ) (u : 
   pub more_names : List (List ℕ)
   pub names_on : after.names ≡ before.names ++ more_names
   pub keeps : Keeps before after
-  pub held : all_true (map (heads_known t.names) args) ≡ true → (w : Term) → IsAmong w args → IsHeldIn t w after
+  pub held : (w : Term) → IsAmong w args → IsHeldIn t w after
   pub settled : (j : ℕ) (w : Term) → slice_get args j ≡ Some w → IsSettled after (text.port_at (place_of u) (port + j)) (spot_of t w) (place_of w)
 
-abbrev ReadsOn : Tables → Body → ℕ → ℕ → Type 0
-ReadsOn t b free h =
-    (u : Term) (count : ℕ) (r : Reading) → names_in u ≤ h → arities_fit t u ≡ true → ((v : Term) → IsPartOf v u → IsTermOf b v) → IsRead t b free count r →
+abbrev ReadsOn : Tables → Body → ℕ → Term → Type 0
+ReadsOn t b free u =
+    (count : ℕ) (r : Reading) → arities_fit t u ≡ true → heads_known t.names u ≡ true → ((v : Term) → IsPartOf v u → IsTermOf b v) → IsRead t b free count r →
     IsReadOn t b free (count + names_in u) u r ((reader_of t u).reads r).0 ((reader_of t u).reads r).1
 
 pub among_middle : {X : Type 0} (done rest : List X) (v : X) → IsAmong v (done ++ v ∷ rest)
@@ -189,11 +190,11 @@ module _ (t : Tables) (b : Body) (free count first arity port agent : ℕ) (u v 
   pub ports_still : (j : ℕ) → j ≤ arity → nth_spot q1.spots (first + j) ≡ Port agent j (place_of u)
   ports_still j to_ = still (first + j) (omega (arith, room, to_)) ∙ ports j to_
 
-reads_all : (t : Tables) (b : Body) (free h : ℕ) → ReadsOn t b free h → (u : Term) (done args : List Term) (first arity port agent count : ℕ) (q : Reading) → total (map names_in args) ≤ h → all_true (map (arities_fit t) args) ≡ true →
+reads_all : (t : Tables) (b : Body) (free : ℕ) (u : Term) (done args : List Term) → AllByRecursion (ReadsOn t b free) args → (first arity port agent count : ℕ) (q : Reading) → all_true (map (arities_fit t) args) ≡ true → all_true (map (heads_known t.names) args) ≡ true →
     IsSome (number_in (name_of u) t.names) → ((v : Term) → IsPartOf v u → IsTermOf b v) → done ++ args ≡ (out-Term u).args → port ≡ length done + 1 → port + length args ≡ arity + 1 → first + arity < length q.spots →
     ((j : ℕ) → j ≤ arity → nth_spot q.spots (first + j) ≡ Port agent j (place_of u)) → IsPast first arity port q → IsRead t b free count q →
     AreReadOn t b free (count + total (map names_in args)) first port u args q (reads_arguments first (map (reader_of t) args) port q)
-reads_all t b free h ih u done [] first arity port agent count q short fits symbol terms all at rest room ports past read = record {
+reads_all t b free u done [] each first arity port agent count q fits known symbol terms all at rest room ports past read = record {
   read = more_names t b free count (count + total (map names_in [])) q (omega arith) read;
   more = [];
   spots = sym (append-nil q.spots);
@@ -203,19 +204,20 @@ reads_all t b free h ih u done [] first arity port agent count q short fits symb
   more_names = [];
   names_on = sym (append-nil q.names);
   keeps = keeps_itself q;
-  held = λ heads w among. absurd among;
+  held = λ w among. absurd among;
   settled = λ j w e. absurd (none-some w e);
 }
   where
     side : (i : ℕ) → (i < first + port) ⊎ (first + port ≤ i) → (i < first + port) ⊎ (first + arity < i)
     side i (inl a) = inl a
     side i (inr a) = inr (omega (arith, a, rest))
-reads_all t b free h ih u done (v ∷ args) first arity port agent count q short fits symbol terms all at rest room ports past read =
+reads_all t b free u done (v ∷ args) each first arity port agent count q fits known symbol terms all at rest room ports past read =
     let both = and_parts (arities_fit t v) (all_true (map (arities_fit t) args)) fits in
+    let known_both = and_parts (heads_known t.names v) (all_true (map (heads_known t.names) args)) known in
     let q1 : Reading = ((reader_of t v).reads q).0 in
     let other : ℕ = ((reader_of t v).reads q).1 in
     let among : IsAmong v (out-Term u).args = subst (IsAmong v) all (among_middle done args v) in
-    let on = ih v count q (omega (arith, short)) both.0 (λ w part. terms w (IsPartOf.deeper w v u among part)) read in
+    let on = each.0 count q both.0 known_both.0 (λ w part. terms w (IsPartOf.deeper w v u among part)) read in
     let le : port ≤ arity = omega (arith, rest) in
     let there = terms u (IsPartOf.itself u) in
     let q2 : Reading = with_joint ((reader_of t v).reads q).0 first port ((reader_of t v).reads q).1 (reader_of t v).place in
@@ -226,7 +228,7 @@ reads_all t b free h ih u done (v ∷ args) first arity port agent count q short
     let keeps_one = keeps_it t b free (count + names_in v) first arity port agent u v done args q q1 other symbol there all at le room ports past on in
     let settled_one = settles_it t b free (count + names_in v) first arity port agent u v done args q q1 other symbol there all at le room ports past on in
     let all_on : (done ++ v ∷ []) ++ args ≡ (out-Term u).args = append_assoc done (v ∷ []) args ∙ all in
-    let more = reads_all t b free h ih u (done ++ v ∷ []) args first arity (port + 1) agent (count + names_in v) q2 (omega (arith, short)) both.1 symbol terms all_on (omega (arith, at, length-append done (v ∷ []))) (omega (arith, rest))
+    let more = reads_all t b free u (done ++ v ∷ []) args each.1 first arity (port + 1) agent (count + names_in v) q2 both.1 known_both.1 symbol terms all_on (omega (arith, at, length-append done (v ∷ []))) (omega (arith, rest))
     (omega (arith, room, grown)) still then_ joined in
     record {
       read = more_names t b free (count + names_in v + total (map names_in args)) (count + total (map names_in (v ∷ args))) _ (omega arith) more.read;
@@ -240,17 +242,16 @@ reads_all t b free h ih u done (v ∷ args) first arity port agent count q short
       more_names = on.more_names ++ more.more_names;
       names_on = more.names_on ∙ ap (λ z. z ++ more.more_names) on.names_on ∙ append_assoc q.names on.more_names more.more_names;
       keeps = keeps_both q q1 _ on.keeps (keeps_both q1 q2 _ keeps_one more.keeps);
-      held = λ heads w among_. held_by heads w among_ on.held (keeps_both q1 q2 _ keeps_one more.keeps) more.held;
+      held = λ w among_. held_by w among_ on.held (keeps_both q1 q2 _ keeps_one more.keeps) more.held;
       settled = λ j w e. settled_by j w e settled_one more.keeps more.settled;
     }
   where
     after : Reading
     after = reads_arguments first (map (reader_of t) args) (port + 1) (with_joint ((reader_of t v).reads q).0 first port ((reader_of t v).reads q).1 (reader_of t v).place)
 
-    held_by : all_true (map (heads_known t.names) (v ∷ args)) ≡ true → (w : Term) → IsAmong w (v ∷ args) → (heads_known t.names v ≡ true → IsHeldIn t v ((reader_of t v).reads q).0) → Keeps ((reader_of t v).reads q).0 after →
-        (all_true (map (heads_known t.names) args) ≡ true → (w : Term) → IsAmong w args → IsHeldIn t w after) → IsHeldIn t w after
-    held_by heads w (inl e) here keeps others = subst (λ w. IsHeldIn t w after) e (held_stays t v ((reader_of t v).reads q).0 after keeps (here (and_parts (heads_known t.names v) (all_true (map (heads_known t.names) args)) heads).0))
-    held_by heads w (inr h) here keeps others = others (and_parts (heads_known t.names v) (all_true (map (heads_known t.names) args)) heads).1 w h
+    held_by : (w : Term) → IsAmong w (v ∷ args) → IsHeldIn t v ((reader_of t v).reads q).0 → Keeps ((reader_of t v).reads q).0 after → ((w : Term) → IsAmong w args → IsHeldIn t w after) → IsHeldIn t w after
+    held_by w (inl e) here keeps others = subst (λ w. IsHeldIn t w after) e (held_stays t v ((reader_of t v).reads q).0 after keeps here)
+    held_by w (inr h) here keeps others = others w h
 
     settled_by : (j : ℕ) (w : Term) → slice_get (v ∷ args) j ≡ Some w → IsSettled (with_joint ((reader_of t v).reads q).0 first port ((reader_of t v).reads q).1 (reader_of t v).place) (text.port_at (place_of u) port) (spot_of t v) (place_of v) →
         Keeps (with_joint ((reader_of t v).reads q).0 first port ((reader_of t v).reads q).1 (reader_of t v).place) after →
@@ -265,9 +266,9 @@ some_is : (o : Option ℕ) (s : ℕ) → o ≡ Some s → IsSome o
 some_is None s e = cc
 some_is (Some x) s e = refl
 
-reads_term : (t : Tables) (b : Body) (free h : ℕ) → HaveFewPorts t → ReadsOn t b free h → (u : Term) (count : ℕ) (r : Reading) → names_in u ≤ suc h → arities_fit t u ≡ true → ((v : Term) → IsPartOf v u → IsTermOf b v) → IsRead t b free count r →
+reads_term : (t : Tables) (b : Body) (free : ℕ) → HaveFewPorts t → (u : Term) → AllByRecursion (ReadsOn t b free) (out-Term u).args → (count : ℕ) (r : Reading) → arities_fit t u ≡ true → heads_known t.names u ≡ true → ((v : Term) → IsPartOf v u → IsTermOf b v) → IsRead t b free count r →
     (o : Option ℕ) → number_in (out-Term u).name.text t.names ≡ o → IsReadOn t b free (count + names_in u) u r ((reader_of t u).reads r).0 ((reader_of t u).reads r).1
-reads_term t b free h small ih u count r short fits terms read None is =
+reads_term t b free small u each count r fits heads terms read None is =
     let out = names_out u in
     let spot : Spot = Occurrence (number_with r.names (out-Term u).name.text) (out-Term u).name.place in
     let grown = length-append r.spots (spot ∷ []) in
@@ -277,7 +278,7 @@ reads_term t b free h small ih u count r short fits terms read None is =
     let alone = added r.spots (spot ∷ []) r.joints read.joints 0 (omega arith) in
     let grown_names = grows_by r.names (out-Term u).name.text (number_in (out-Term u).name.text r.names) refl in
     let P : Reading × ℕ → Type 0 = λ p. IsReadOn t b free (count + names_in u) u r p.0 p.1 in
-    subst P (sym (read_occurrence t u r is))
+    subst P (sym (read_occurrence t u r is (no_arguments t.names u heads is)))
     (record {
       read = more_names t b free (count + 1) (count + names_in u) _ (omega (arith, out)) (with_occurrence_read t b free count r u (terms u (IsPartOf.itself u)) is read);
       more = spot ∷ [];
@@ -291,27 +292,27 @@ reads_term t b free h small ih u count r short fits terms read None is =
       more_names = grown_names.0;
       names_on = grown_names.1;
       keeps = keeps_more r (with_occurrence r (out-Term u).name) (spot ∷ []) grown_names.0 refl grown_names.1 (λ i lt. stays r.spots (spot ∷ []) r.joints read.joints i lt);
-      held = λ heads. record {
-        arguments = λ v w i part symbol e. absurd (none_of_it heads v part (λ x y. no_symbol x symbol y));
-        variables = λ v part variable. held_here heads v part last grown;
+      held = record {
+        arguments = λ v w i part symbol e. absurd (none_of_it v part (λ x y. no_symbol x symbol y));
+        variables = λ v part variable. held_here v part last grown;
       };
     })
   where
     -- a term without arguments has no part but itself
-    none_of_it : heads_known t.names u ≡ true → (v : Term) → IsPartOf v u → (v ≡ u → IsVariable t u → ⊥) → ⊥
-    none_of_it heads _ (IsPartOf.itself _) h = h refl is
-    none_of_it heads v (IsPartOf.deeper _ w _ among part) h = subst (IsAmong w) (no_arguments t.names u heads is) among
+    none_of_it : (v : Term) → IsPartOf v u → (v ≡ u → IsVariable t u → ⊥) → ⊥
+    none_of_it _ (IsPartOf.itself _) h = h refl is
+    none_of_it v (IsPartOf.deeper _ w _ among part) h = subst (IsAmong w) (no_arguments t.names u heads is) among
 
     no_symbol : {v : Term} → v ≡ u → IsSome (number_in (name_of v) t.names) → IsVariable t u → ⊥
     no_symbol e symbol variable = let wrong : IsSome {T = ℕ} None = subst IsSome variable (subst (λ v. IsSome (number_in (name_of v) t.names)) e symbol) in cc
 
-    held_here : heads_known t.names u ≡ true → (v : Term) → IsPartOf v u → nth_spot (r.spots ++ Occurrence (number_with r.names (out-Term u).name.text) (out-Term u).name.place ∷ []) (length r.spots) ≡ Occurrence (number_with r.names (out-Term u).name.text) (out-Term u).name.place →
+    held_here : (v : Term) → IsPartOf v u → nth_spot (r.spots ++ Occurrence (number_with r.names (out-Term u).name.text) (out-Term u).name.place ∷ []) (length r.spots) ≡ Occurrence (number_with r.names (out-Term u).name.text) (out-Term u).name.place →
         length (r.spots ++ Occurrence (number_with r.names (out-Term u).name.text) (out-Term u).name.place ∷ []) ≡ length r.spots + 1 → IsHeldAt (with_occurrence r (out-Term u).name) v
-    held_here heads _ (IsPartOf.itself _) last grown =
+    held_here _ (IsPartOf.itself _) last grown =
         let at = name_there r.names (out-Term u).name.text (number_in (out-Term u).name.text r.names) refl in
         record { spot = length r.spots; number = number_with r.names (out-Term u).name.text; inside = omega (arith, grown); is = last; known = at.0; name = at.1 }
-    held_here heads v (IsPartOf.deeper _ w _ among part) last grown = absurd (subst (IsAmong w) (no_arguments t.names u heads is) among)
-reads_term t b free h small ih u count r short fits terms read (Some s) is =
+    held_here v (IsPartOf.deeper _ w _ among part) last grown = absurd (subst (IsAmong w) (no_arguments t.names u heads is) among)
+reads_term t b free small u each count r fits heads terms read (Some s) is =
     let symbol : SymbolNo = record { 0 = s } in
     let args = (out-Term u).args in
     let place = (out-Term u).name.place in
@@ -334,7 +335,7 @@ reads_term t b free h small ih u count r short fits terms read (Some s) is =
       root = root;
       joined = λ i lt in_ side. absurd (beyond i lt (omega (arith, in_, grown)) side);
     } in
-    let on = reads_all t b free h ih u [] args (length r.spots) (arity_of t s) 1 (length r.agents) (count + 1) begun (omega (arith, out, short)) fit.1 (some_is (number_in (name_of u) t.names) s is) terms refl (omega arith) (omega (arith, fit.0))
+    let on = reads_all t b free u [] args each (length r.spots) (arity_of t s) 1 (length r.agents) (count + 1) begun fit.1 (arguments_known t.names u heads) (some_is (number_in (name_of u) t.names) s is) terms refl (omega arith) (omega (arith, fit.0))
     (omega (arith, grown)) ports past ready in
     let all_spots : (reads_arguments (length r.spots) (map (reader_of t) args) 1 begun).spots ≡ r.spots ++ (more ++ on.more) = on.spots ∙ append_assoc r.spots more on.more in
     let count_all = ap length on.spots ∙ length-append (r.spots ++ more) on.more in
@@ -356,9 +357,9 @@ reads_term t b free h small ih u count r short fits terms read (Some s) is =
       more_names = on.more_names;
       names_on = on.names_on;
       keeps = keeps_both r begun _ (keeps_more r begun more [] refl (sym (append-nil r.names)) (λ i lt. stays r.spots more r.joints read.joints i lt)) on.keeps;
-      held = λ heads. record {
-        arguments = λ v w i part symbol_ e. argument_by v w i part symbol_ e on.settled (on.held (arguments_known t.names u heads));
-        variables = λ v part variable. variable_by v part variable (on.held (arguments_known t.names u heads));
+      held = record {
+        arguments = λ v w i part symbol_ e. argument_by v w i part symbol_ e on.settled on.held;
+        variables = λ v part variable. variable_by v part variable on.held;
       };
     })
   where
@@ -379,7 +380,7 @@ reads_term t b free h small ih u count r short fits terms read (Some s) is =
     beyond i lt in_ (inl a) = absurd (omega (arith, lt, a))
     beyond i lt in_ (inr a) = absurd (omega (arith, in_, a))
 
-pub reads_on : (t : Tables) (b : Body) (free : ℕ) → HaveFewPorts t → (h : ℕ) → ReadsOn t b free h
-reads_on t b free small zero u count r short fits terms read = absurd (omega (arith, names_out u, short))
-reads_on t b free small (suc h) u count r short fits terms read =
-    reads_term t b free h small (λ v n q a c d e. reads_on t b free small h v n q a c d e) u count r short fits terms read (number_in (out-Term u).name.text t.names) refl
+pub reads_on : (t : Tables) (b : Body) (free : ℕ) → HaveFewPorts t → (u : Term) → ReadsOn t b free u
+reads_on t b free small =
+    term_by_arguments (ReadsOn t b free)
+    (λ u each count r fits heads terms read. reads_term t b free small u each count r fits heads terms read (number_in (out-Term u).name.text t.names) refl)

@@ -32,7 +32,7 @@ use Rattle.in_net.specs.Rules.{RuleParts, BuildsRule, BuildsRuleOf, body_of_rule
 use Rattle.in_net.specs.Searching.{first_fault}
 use Rattle.in_net.specs.TextNet as text
 use Rattle.in_base.specs.Lists.{IsAmong}
-use Rattle.in_net.specs.TextNet.{Body, LeftHead, IsPartOf, itself, deeper, IsTermOf, in_left, in_right, in_head, PlacedJoint, of_equation, of_argument, of_head, turned, Chain, one_placed, one_name, then_name, then_placed, Kind, IsLastOf, IsWireOf, IsClosedWireOf, Written, written_by, agents_of, agents_of_body, agents_of_heads, agents_of_equations, body_of, name_of, place_of}
+use Rattle.in_net.specs.TextNet.{Body, LeftHead, IsLastOf, IsClosedWireOf, Written, written_by, agents_of, agents_of_body, agents_of_heads, agents_of_equations, body_of, place_of}
 use Rattle.in_net.proofs.Texts.Agents.{agents_out, places_for}
 use Rattle.in_net.proofs.Texts.Bodies.{net_ready, net_heads, rule_ready, rule_heads, readable}
 use Rattle.in_net.proofs.Refusals.FirstFault.{IsReady, is_first, none_misfit, none_miscounted}
@@ -81,7 +81,7 @@ nth_of (a ∷ as_) (suc i) p e = let r = nth_of as_ i p e in (omega (arith, r.0)
 agents_apart : (t : Tables) (b : Body) → IsGood t b → StandApart (map (λ w. w.place) (agents_of_body t b))
 agents_apart t b good i j p h k =
     let as_ : List Agent = (reading_of t b).agents in
-    let same : map (λ (a : Agent). a.place) (reading_of t b).agents ≡ map (λ w. w.place) (agents_of_body t b) = places_for t b (reading_of t b) (map (λ (a : Agent). a.place) (reading_of t b).agents) good.ready.known refl refl in
+    let same : map (λ (a : Agent). a.place) (reading_of t b).agents ≡ map (λ w. w.place) (agents_of_body t b) = places_for t b (reading_of t b) (map (λ (a : Agent). a.place) (reading_of t b).agents) refl refl in
     let a = nth_of (reading_of t b).agents i p (ap (λ z. slice_get z i) same ∙ h) in
     let c = nth_of (reading_of t b).agents j p (ap (λ z. slice_get z j) same ∙ k) in
     let one = (read t b good).net.read.numbered.ports i 0 a.0 (omega arith) in

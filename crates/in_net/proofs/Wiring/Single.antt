@@ -16,14 +16,13 @@ use Rattle.in_net.specs.Counting.{none_seen, counted_from}
 use Rattle.in_net.specs.Joining.{links_of}
 use Rattle.in_net.specs.Building.{AreTwice, nth_link, nth_spot, nth_agent}
 use Rattle.in_net.specs.TextNet as text
-use Rattle.in_net.specs.TextNet.{Body, IsTermOf, IsPartOf, IsVariable, PlacedJoint, NameJoint, IsOccurrence, Chain, Kind, placed, of_name, IsWireOf, name_of, place_of, spot_of}
+use Rattle.in_net.specs.TextNet.{Body, IsTermOf, PlacedJoint, NameJoint, IsOccurrence, Chain, Kind, placed, of_name, IsWireOf, name_of, place_of, spot_of}
 use Rattle.std.proofs.lemmas.Option.{slice_get_within, same_Some}
 use Rattle.in_net.proofs.Wiring.Links.{all_at}
 use Rattle.in_net.proofs.Wiring.Sound.{named}
 use Rattle.in_net.proofs.Texts.Kept.{IsSettled}
 use Rattle.in_net.proofs.Texts.Read.{IsNamed, name_known}
 use Rattle.in_net.specs.Built.{IsEnd}
-use Rattle.in_net.proofs.Texts.Known.{IsBodyKnown, equation_known, head_known}
 use Rattle.in_net.proofs.Texts.NamedSpots.{AreNamesRead}
 use Rattle.in_net.proofs.Texts.NetRead.{IsBodyRead}
 use Rattle.in_net.proofs.Texts.Order.{root_place, root_places, same_root}
@@ -33,7 +32,6 @@ use Rattle.in_net.proofs.Refusals.Counts.{other_is_one}
 pub record IsReadWhole (t : Tables) (b : Body) (r : Reading) : Type 0 where
   pub body : IsBodyRead t b r
   pub names : AreNamesRead t b r
-  pub known : IsBodyKnown t b
   pub rises : Rises (root_places r.spots)
   pub apart : (m k : ℕ) → m < length r.names → k < length r.names → name_in m r.names ≡ name_in k r.names → m ≡ k
   pub twice : AreTwice r.spots (counted_from 0 r.spots (none_seen (length r.names)))
@@ -108,9 +106,9 @@ module _ (t : Tables) (b : Body) (r : Reading) (h : IsReadWhole t b r) where
       }
 
   argument_settled : (u v : Term) (i : ℕ) → IsTermOf b u → IsSome (number_in (name_of u) t.names) → slice_get (out-Term u).args i ≡ Some v → IsSettled r (text.port_at (place_of u) (suc i)) (spot_of t v) (place_of v)
-  argument_settled u v i (IsTermOf.in_left e among part) symbol is = ((h.body.equations e among).left (equation_known t b.equations e h.known.equations among).0).arguments u v i part symbol is
-  argument_settled u v i (IsTermOf.in_right e among part) symbol is = ((h.body.equations e among).right (equation_known t b.equations e h.known.equations among).1).arguments u v i part symbol is
-  argument_settled u v i (IsTermOf.in_head g w among inside part) symbol is = ((h.body.heads g among).held w inside (head_known t b.heads g w h.known.heads among inside)).arguments u v i part symbol is
+  argument_settled u v i (IsTermOf.in_left e among part) symbol is = (h.body.equations e among).left.arguments u v i part symbol is
+  argument_settled u v i (IsTermOf.in_right e among part) symbol is = (h.body.equations e among).right.arguments u v i part symbol is
+  argument_settled u v i (IsTermOf.in_head g w among inside part) symbol is = ((h.body.heads g among).held w inside).arguments u v i part symbol is
 
   pub settled_of : (x y : text.Spot) (p : Place) → PlacedJoint t b x y p → IsSettled r x y p
   settled_of _ _ _ (PlacedJoint.of_equation e among) = (h.body.equations e among).joint

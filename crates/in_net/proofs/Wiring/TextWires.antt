@@ -146,13 +146,13 @@ pub record IsGood (t : Tables) (b : Body) : Type 0 where
 
 module _ (t : Tables) (b : Body) (good : IsGood t b) where
   pub read : IsBodyRead t b (reading_of t b)
-  read = body_read t b good.small good.heads good.fits
+  read = body_read t b good.small good.heads good.fits good.ready.known
 
   rises : Rises (root_places (reading_of t b).spots)
-  rises = roots_rise t b good.ready.known good.ready.rises
+  rises = roots_rise t b good.ready.rises
 
   names : AreNamesRead t b (reading_of t b)
-  names = names_read t b good.ready.known
+  names = names_read t b
 
   pub read_joined : IsJoined (reading_of t b).spots (joining_of (reading_of t b)).links
   read_joined = are_joined t b (ends_in t b) (names_in_body b) (reading_of t b) read.net names good.ready.differ rises good.twice
@@ -167,7 +167,7 @@ module _ (t : Tables) (b : Body) (good : IsGood t b) where
 
   -- all of it, and that its joints are single
   pub read_whole : IsReadWhole t b (reading_of t b)
-  read_whole = record { body = read; names = names; known = good.ready.known; rises = rises; apart = names_apart t b; twice = good.twice }
+  read_whole = record { body = read; names = names; rises = rises; apart = names_apart t b; twice = good.twice }
 
   -- and it is the first closed wire
   pub read_first : (p q : Place) → (joining_of (reading_of t b)).closed ≡ Some p → IsClosedWireOf t b q → p.from ≤ q.from
@@ -212,8 +212,8 @@ is_text_net t b free r links n good is_read is_joined count ends made =
       record { cells = subst (AllByRecursion (IsCellOver t)) (sym at_read.cells) (cells_over t r0.spots links0 r0.agents (read t b good).net.read.known) },
       record {
         built = at_read.built;
-        agents = cells_for t b r0 links0 n.cells good.ready.known refl at_read.cells;
-        places = places_for t b r0 n.places good.ready.known refl at_read.places;
+        agents = cells_for t b r0 links0 n.cells refl at_read.cells;
+        places = places_for t b r0 n.places refl at_read.places;
       },
       subst (HasWiresOf t b) parts wires,
     )

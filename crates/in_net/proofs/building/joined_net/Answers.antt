@@ -6,7 +6,6 @@ use Rattle.in_net.specs.NetFaults.{max_agents, of_wires}
 use Rattle.in_net.specs.Reading.{reading_of}
 use Rattle.in_net.specs.TextNet.{body_of}
 use Rattle.in_net.proofs.Texts.Bodies.{net_ready}
-use Rattle.in_net.proofs.Texts.Known.{net_known}
 use Rattle.in_net.proofs.Refusals.FirstFault.{no_fault, names_inside}
 use Rattle.in_net.proofs.Texts.ReadFrom as read_from
 use Rattle.in_net.proofs.Wiring.TextWires.{read, read_closed, read_first}
@@ -21,7 +20,7 @@ join_all-requires-clause-joints c =
     subst (λ r. JointsInside (length r.spots) r.joints) (sym c.requires.read) (read_from.joints t (body_of source.net) (read t (body_of source.net) g))
 
 pub join_all-requires-clause-names : goal.join_all-requires-clause-names
-join_all-requires-clause-names c = subst (λ r. NamesInside (length r.names) r.spots) (sym c.requires.read) (names_inside c.args.symbols.now (body_of c.args.source.now.net) (net_known c.args.source.now c.args.symbols.now c.requires.readable.tabled))
+join_all-requires-clause-names c = subst (λ r. NamesInside (length r.names) r.spots) (sym c.requires.read) (names_inside c.args.symbols.now (body_of c.args.source.now.net))
 
 pub returns-in-Some : goal.returns-in-Some
 returns-in-Some c =

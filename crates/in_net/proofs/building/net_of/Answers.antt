@@ -3,12 +3,11 @@ use Rattle.in_net.specs.Counting.{NamesInside}
 use Rattle.in_net.specs.NetFaults.{max_agents, of_names}
 use Rattle.in_net.specs.TextNet.{body_of}
 use Rattle.in_net.proofs.Texts.Bodies.{net_ready}
-use Rattle.in_net.proofs.Texts.Known.{net_known}
 use Rattle.in_net.proofs.Refusals.FirstFault.{is_first, names_inside}
 use Rattle.in_net.proofs.building.net_of.Goals as goal
 
 pub first_fault-requires : goal.first_fault-requires
-first_fault-requires c = subst (λ r. NamesInside (length r.names) r.spots) (sym c.requires.read) (names_inside c.args.symbols.now (body_of c.args.source.now.net) (net_known c.args.source.now c.args.symbols.now c.requires.readable.tabled))
+first_fault-requires c = subst (λ r. NamesInside (length r.names) r.spots) (sym c.requires.read) (names_inside c.args.symbols.now (body_of c.args.source.now.net))
 
 pub returns-in-Some : goal.returns-in-Some
 returns-in-Some c =

@@ -22,7 +22,7 @@ pub join_all-requires-clause-names : goal.join_all-requires-clause-names
 join_all-requires-clause-names c =
     let t = c.args.symbols.now in
     let b = body_of_rule t c.args.rule.now in
-    subst (λ r. NamesInside (length r.names) r.spots) (sym c.requires.read) (names_inside t b (rule_ready t c.args.rule.now c.requires.readable.known c.requires.readable.order).known)
+    subst (λ r. NamesInside (length r.names) r.spots) (sym c.requires.read) (names_inside t b)
 
 pub returns-in-Some : goal.returns-in-Some
 returns-in-Some c =

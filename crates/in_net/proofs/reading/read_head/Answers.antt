@@ -11,5 +11,5 @@ returns c =
     let head = c.args.head.now in
     let of : ReadTerm = record { spot = c.args.first; place = head.name.place; is_head = true } in
     on_ok_weaker c.walk_terms.result
-    (λ e. e ∙ ap (λ ts. walks_terms reading_names of ts c.args.reader.now) c.as_slice.ensures ∙ terms_walked head.terms c.args.reader.now c.requires of)
+    (λ e. e ∙ ap (λ ts. walks_terms reading_names of ts c.args.reader.now) c.as_slice.ensures ∙ terms_walked head.terms c.args.reader.now of)
     c.walk_terms.ensures
