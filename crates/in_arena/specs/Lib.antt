@@ -10,6 +10,7 @@ pub mod Inside
 pub mod Leases
 pub mod Lending
 pub mod Lends
+pub mod Limiting
 pub mod Ownership
 pub mod Places
 pub mod Regions

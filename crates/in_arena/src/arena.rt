@@ -6,6 +6,7 @@ ghost use Rattle.in_arena.specs.Bags.{IsBagOf, IsIn, LeasesTo, empty_bag};
 ghost use Rattle.in_arena.specs.Classes.{Holds, classes};
 ghost use Rattle.in_arena.specs.declared.content.CellClass.{CellClass as Class};
 ghost use Rattle.in_arena.specs.Changes.{HasAllCells};
+ghost use Rattle.in_arena.specs.Limiting.{most_cells};
 
 use crate::bag::Bag;
 use crate::content::{CellClass, CellNo, End, SymbolWord};
@@ -42,9 +43,9 @@ impl Drop for Arena {
 }
 
 impl Arena {
-    /// An arena with so many cells of each class, all free. Refused for want of memory alone; no other call takes memory.
+    /// An arena with so many cells of each class, all free. Refused only when out of memory; no other call takes memory.
     pub fn new(alloc: Global, cells: u32) -> Result<Arena, AllocError>
-        requires { cells ≤ 1048576 }
+        requires { cells ≤ most_cells }
         ensures { IfOk result (λ a. (a.cells ≡ cells) × (a.states ≡ replicate (length classes * cells) Vacant)) }
     {
         let regions = Regions::new(alloc, cells)?;

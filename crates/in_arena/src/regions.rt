@@ -4,6 +4,7 @@ ghost use Rattle.in_arena.specs.States.{State, Live, Vacant, IsLive, IsLeased, I
 ghost use Rattle.in_arena.specs.Arenas.{written};
 ghost use Rattle.in_arena.specs.Classes.{Holds, classes, width};
 ghost use Rattle.in_arena.specs.declared.content.CellClass.TheVariants.{Wide as Widest};
+ghost use Rattle.in_arena.specs.Limiting.{most_cells};
 ghost use Rattle.in_arena.specs.Regions.{IsFresh};
 ghost use Rattle.in_arena.specs.ByClass.{IsRegions, AreWhole, AreFresh, Become, Lend, IsCellOf, IsHeldCell, IsPlace, IsSacks, IsOut, SacksBecome, HandOut, AreEmpty, row_of, cell_at, cell_view, index_of, sack_cell};
 
@@ -39,7 +40,7 @@ pub struct Sacks {
 // The class of the cell of this number where there are so many cells of each class, and its place in the region of that class.
 #[inline(always)]
 pub fn place_of(cells: u32, cell: CellNo) -> (CellClass, u32)
-    requires { (cells ≤ 1048576) × (cell.0 < length classes * cells) }
+    requires { (cells ≤ most_cells) × (cell.0 < length classes * cells) }
     ensures { IsPlace cells cell.0 result.0 result.1 }
 {
     if cell.0 < cells {
@@ -54,7 +55,7 @@ pub fn place_of(cells: u32, cell: CellNo) -> (CellClass, u32)
 impl Regions {
     // So many cells of each class, all free.
     pub fn new(alloc: Global, cells: u32) -> Result<Regions, AllocError>
-        requires { cells ≤ 1048576 }
+        requires { cells ≤ most_cells }
         ensures { IfOk result (λ r. AreFresh cells r) }
     {
         let small = Region::new(alloc, cells)?;
@@ -74,7 +75,7 @@ impl Regions {
         small: Region<3>,
         large: Region<9>,
     ) -> Result<Regions, AllocError>
-        requires cells { cells ≤ 1048576 }
+        requires cells { cells ≤ most_cells }
         requires small { IsFresh cells small }
         requires large { IsFresh cells large }
         ensures { IfOk result (λ r. AreFresh cells r) }

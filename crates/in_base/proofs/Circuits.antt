@@ -97,8 +97,8 @@ module _ (g : Graph) (E L : g.Node × ℕ → Type 0) where
   walk_crossing s from to (x ∷ xs) w = (s x.node x.enter x.leave w.1 w.2, walk_crossing s (left x) to xs w.3)
 
   -- a walk whose nodes are different and that comes back to its first node is a crossing circle
-  ring_of : AreSeparate g E L → (n : g.Node) (i j : ℕ) (xs : List (Passage g.Node)) → E (n, i) → L (n, j) → Walk g E L (n, j) xs (n, i) → AllByRecursion (λ q. n ≢ q.node) xs → AreApart xs → CrossingCircle g
-  ring_of s n i j xs e l w other apart =
+  cycle_of : AreSeparate g E L → (n : g.Node) (i j : ℕ) (xs : List (Passage g.Node)) → E (n, i) → L (n, j) → Walk g E L (n, j) xs (n, i) → AllByRecursion (λ q. n ≢ q.node) xs → AreApart xs → CrossingCircle g
+  cycle_of s n i j xs e l w other apart =
       record {
         first = record { node = n; enter = i; leave = j };
         rest = xs;
@@ -116,7 +116,7 @@ module _ (g : Graph) (E L : g.Node × ℕ → Type 0) where
       found apart f =
           let w' = walk_to (left p) to f.before f.here f.after (subst (λ ps. Walk g E L (left p) ps to) f.whole w) in
           let apart' : AreApart (f.before ++ f.here ∷ f.after) = subst AreApart f.whole apart in
-          ring_of s p.node f.here.enter p.leave f.before
+          cycle_of s p.node f.here.enter p.leave f.before
           (subst (λ v. E (v, f.here.enter)) (sym f.same) w'.1) l
           (subst (λ v. Walk g E L (left p) f.before (v, f.here.enter)) (sym f.same) w'.0)
           f.none_before (apart_before f.before (f.here ∷ f.after) apart')

@@ -38,7 +38,7 @@ IsCrossing g p = g.class p.node p.enter ≢ g.class p.node p.leave
 abbrev pub AreApart : {V : Type 0} → List (Passage V) → Type 0
 AreApart = Pairwise (λ p q. p.node ≢ q.node)
 
--- one or more different nodes in a ring, each entered and left by ports of different classes
+-- one or more different nodes in a cycle, each entered and left by ports of different classes
 pub record CrossingCircle (g : Graph) : Type 0 where
   pub first : Passage g.Node
   pub rest : List (Passage g.Node)
@@ -50,7 +50,7 @@ pub record CrossingCircle (g : Graph) : Type 0 where
 abbrev pub IsFromPrincipal : {V : Type 0} → Passage V → Type 0
 IsFromPrincipal p = (p.leave ≡ 0) × (p.enter ≢ 0)
 
--- one or more different nodes in a ring, each left by its principal port, which is wired to an auxiliary port of the next
+-- one or more different nodes in a cycle, each left by its principal port, which is wired to an auxiliary port of the next
 pub record ViciousCircle (g : Graph) : Type 0 where
   pub first : Passage g.Node
   pub rest : List (Passage g.Node)

@@ -9,7 +9,7 @@ use Rattle.in_program.specs.declared.acting.Status.{Status}
 use Rattle.in_program.specs.Acting.{IsReply, WantsMemory, memory_status, status}
 use Rattle.in_c.specs.Giving.{IsGiven}
 
--- the program's reply to the text, or that memory is wanted
+-- the program's reply to the text, or that memory ran out
 abbrev pub IsSaid : Action → List ℕ → List ℕ → Status → Type 0
 IsSaid a text lines s = IsReply a text lines s ⊎ WantsMemory lines s
 
@@ -18,7 +18,7 @@ abbrev pub IsRunSaid : ℕ → ℕ → List ℕ → List ℕ → Status → Type
 IsRunSaid limit cells text lines s =
     ((l : Limits) × AreLimits 1 limit cells (Some l) × IsSaid (Run l) text lines s) ⊎ (AreLimits 1 limit cells None × (lines ≡ []) × (s ≡ status 2))
 
--- what is told of the text, which is refused; nothing, where it is accepted; or nothing, for want of memory
+-- what is told of the text, which is refused; nothing, where it is accepted; or nothing, when out of memory
 pub data IsDiagnosis (text words : List ℕ) (s : Status) : Type 0 where
   refused : IsTold text true → s ≡ status 1 → IsDiagnosis text words s
   accepted : IsTold text false → words ≡ [] → s ≡ status 0 → IsDiagnosis text words s

@@ -11,7 +11,7 @@ use in_program::{Status, report_text, run_text};
 use in_run::Limits;
 use std::alloc::{AllocError, Global};
 
-/// What was written with this status. A write fails only for want of memory, and then there is no answer.
+/// What was written with this status. A write fails only when out of memory, and then there is no answer.
 fn answer(writer: Collected, status: Status) -> Result<Answer, AllocError>
     ensures { IfOk result (λ a. (a.bytes ≡ writer.bytes) × (a.status ≡ status) × (status ≢ fault_status)) }
 {
@@ -22,7 +22,7 @@ fn answer(writer: Collected, status: Status) -> Result<Answer, AllocError>
     Ok(Answer { bytes, status })
 }
 
-/// What `check`, or `derive`, says of a text. Its only error is want of memory.
+/// What `check`, or `derive`, says of a text. Its only error is running out of memory.
 pub fn reported(alloc: Global, derive: bool, text: &[u8]) -> Result<Answer, AllocError>
     ensures { IfOk result (λ a. IsSaid (report_action derive) text.now a.bytes.items a.status) }
 {
@@ -41,7 +41,7 @@ fn run_said(alloc: Global, limits: Limits, text: &[u8]) -> Result<Answer, AllocE
 }
 
 /// What `run` with one worker says of a text, with so many interactions at most and so many cells of each class; that the words are wrong where
-/// one of the two is out of range. Its only error is want of memory, which comes only where both are in range.
+/// one of the two is out of range. Its only error is running out of memory, which comes only where both are in range.
 pub fn ran(alloc: Global, limit: u64, cells: u32, text: &[u8]) -> Result<Answer, AllocError>
     ensures ok { IfOk result (λ a. IsRunSaid limit cells text.now a.bytes.items a.status) }
     ensures err { OnErr result (IsRunSaid limit cells text.now memory_line memory_status) }

@@ -30,7 +30,7 @@ impl<'a> Model for Plain<'a> {
 }
 
 impl<'a> Plain<'a> {
-    /// The initial net of an accepted program, which is reached by no interaction. Refused for want of memory alone.
+    /// The initial net of an accepted program, which is reached by no interaction. Refused only when out of memory.
     pub fn new(alloc: Global, checked: &'a Checked) -> Result<Plain<'a>, AllocError>
         ensures starts { IfOk result (λ p. (p.program ≡ checked.now) × (p.net ≡ checked.now.net) × IsReachedBy p 0) }
         ensures promised { IfOk result (λ p. IsAsPromised (system_of p.program) (net_of p.net)) }
@@ -50,7 +50,7 @@ impl<'a> Plain<'a> {
 
     /// One interaction of two agents, by the rule of their symbols: Lafont 1990's, as `interact` says. Their principal ports are joined,
     /// the first one's symbol is a constructor, and the net has at most `MOST_AGENTS` agents. The net is then reached by one
-    /// interaction more. Refused for want of memory alone, and then nothing has changed.
+    /// interaction more. Refused only when out of memory, and then nothing has changed.
     pub fn step(&mut self, alloc: Global, a: AgentNo, b: AgentNo) -> Result<(), AllocError>
         requires pair { IsPairAt self.old a b }
         requires few { count_by is_some self.old.net.cells ≤ most_agents }

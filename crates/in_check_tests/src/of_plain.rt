@@ -14,7 +14,7 @@ impl Look<(Reduced, Reduced)> for BothWays {
     }
 }
 
-/// The same, or want of memory.
+/// The same, or running out of memory.
 fn both_ways(alloc: Global, program: &Checked) -> Result<(Reduced, Reduced), AllocError> {
     Ok((
         reduced(alloc, program, Order::FirstInFirstOut, 200)?,
@@ -87,7 +87,7 @@ impl<'a> Look<bool> for EndsInEachOrder<'a> {
 }
 
 impl<'a> EndsInEachOrder<'a> {
-    /// The same of one order, or want of memory.
+    /// The same of one order, or running out of memory.
     fn ends_in(&self, alloc: Global, program: &Checked, order: Order) -> Result<bool, AllocError> {
         match ended(alloc, program, order, 400)? {
             Some((count, text)) => Ok(count == self.count && text.as_str() == self.text),

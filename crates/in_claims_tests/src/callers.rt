@@ -24,6 +24,7 @@ pub fn a_first_claim(alloc: Global, limit: u32) -> Result<Option<u32>, AllocErro
 {
     let (board, mut seats) = Board::new(alloc, limit, 1)?;
     let Some(mut seat) = seats.pop() else {
+        // There is one seat.
         unreachable!()
     };
     let found = board.claim(&mut seat);

@@ -17,6 +17,7 @@ pub fn two_seats(alloc: Global, limit: u32) -> Result<(Board, Seat, Seat), Alloc
     let first = seats.pop();
     match (first, second) {
         (Some(first), Some(second)) => Ok((board, first, second)),
+        // There are two seats.
         _ => unreachable!(),
     }
 }

@@ -56,6 +56,7 @@ fn the_largest_board(rt: HostRuntime) -> Result<(), Fail> {
     let (board, mut seats) = Board::new(rt.alloc(), 4_294_967_295, 1)?;
     assert_eq!(rt; seats.len(), 1);
     let Some(mut seat) = seats.pop() else {
+        // There is one seat.
         unreachable!()
     };
     gets(&rt, &board, &mut seat, 0);

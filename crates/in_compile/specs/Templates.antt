@@ -58,7 +58,7 @@ IsMost templates c most = ((k : ℕ) (p : TemplateParts) → slice_get templates
 abbrev pub IsLargestNeed : List TemplateParts → Need → Type 0
 IsLargestNeed templates need = (c : CellClass) → IsMost templates c (count_of need c)
 
--- the templates of the program's rules, for two symbols exactly where it has a rule for them, and its net
+-- the templates of the program's rules, for two symbols exactly when it has a rule for them, and its net
 pub record AreTemplatesOf (p : Program) (ts : TemplatesParts) : Type 0 where
   pub templates : HaveTemplates p.tables p.rules ts.templates
   pub numbers : IsTableOf p.tables p.rules ts.numbers

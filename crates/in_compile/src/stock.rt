@@ -76,7 +76,7 @@ fn give_back(lists: &mut Lists, bag: &mut Bag, arena: &mut Arena, class: CellCla
 }
 
 impl Stock {
-    /// Holds no cell, is of this arena, and has room for so many of each class. Refused for want of memory alone.
+    /// Holds no cell, is of this arena, and has room for so many of each class. Refused only when out of memory.
     pub fn empty(alloc: Global, arena: &Arena, room: Need) -> Result<Stock, AllocError>
         ensures { IfOk result (λ s. s ≡ empty_stock arena.now room) }
     {
@@ -102,7 +102,7 @@ impl Stock {
         lease_more(lists, bag, arena, CellClass::Wide, need.wide);
     }
 
-    /// A stock of so many cells of each class, which is its room too. So many have to be free. Refused for want of memory alone, and then
+    /// A stock of so many cells of each class, which is its room too. So many have to be free. Refused only when out of memory, and then
     /// the arena is as it was.
     pub fn fill(alloc: Global, arena: &mut Arena, need: Need) -> Result<Stock, AllocError>
         requires { IsEnough (count_of need) (free_of arena.old) }

@@ -1,4 +1,4 @@
-//! What a template holds, as a text that tests compare. Nothing where the program is refused, the symbols don't match or memory is wanted.
+//! What a template holds, as a text that tests compare. Nothing where the program is refused, the symbols don't match or memory runs out.
 ghost use Rattle.std.specs.Prelude.{◌<◌, length};
 ghost use Rattle.in_compile.specs.Templates.{AreTemplatesOf};
 

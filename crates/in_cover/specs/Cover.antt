@@ -37,7 +37,7 @@ pub record IsComplete (t : Tables) (rules : List RuleParts) : Type 0 where
   pub at_most_one : (c d j k : ℕ) → IsRuleFor rules j c d → IsRuleFor rules k c d → j ≡ k
   pub pairs_alone : (c d k : ℕ) → IsRuleFor rules k c d → IsPair t c d
 
--- the table has a number for two symbols exactly where the rule of that number is for them
+-- the table has a number for two symbols exactly when the rule of that number is for them
 abbrev pub Numbers : Cells → List RuleParts → Type 0
 Numbers table rules = (c d : ℕ) (k : RuleNo) → (rule_at table c d ≡ Some k) ↔ IsRuleFor rules k.0 c d
 
@@ -97,7 +97,7 @@ pub record IsFirstMissing (t : Tables) (rules : List RuleParts) (refusal : Refus
 
 -- ---- what is answered
 
--- Ok exactly where the rules are complete, and then the table is theirs; else refused for the first second rule, or, where there is
+-- Ok exactly when the rules are complete, and then the table is theirs; else refused for the first second rule, or, where there is
 -- none, for the first pair without a rule
 abbrev pub Covers : Tables → List RuleParts → Result Cells Fault → Type 0
 Covers t rules (Ok table) = IsComplete t rules × IsTableOf t rules table

@@ -100,7 +100,7 @@ fn add_first_fault(report: &mut Report, text: &[u8]) -> Result<bool, AllocError>
 /// memory.
 ///
 /// The fault is the one that `in_check::check` refuses the text for. The words are this project's own choice: a clause says
-/// that there are some exactly where the text is refused, and none says which.
+/// that there are some exactly when the text is refused, and none says which.
 pub fn diagnosis(alloc: Global, text: &[u8]) -> Result<Option<String>, AllocError>
     ensures { IfOk result (λ found. IsTold text.now (is_some found)) }
 {

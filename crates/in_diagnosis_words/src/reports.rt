@@ -129,7 +129,7 @@ impl<'a> Report<'a> {
         self.say_name("help: ", sentence, "\n");
     }
 
-    /// The whole diagnosis. Its only error is want of memory, where that was met while the diagnosis was written.
+    /// The whole diagnosis. Its only error is running out of memory, where that was met while the diagnosis was written.
     pub fn into_text(self) -> Result<String, AllocError> {
         let Report {
             alloc: _,

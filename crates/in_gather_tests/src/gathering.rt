@@ -54,7 +54,7 @@ fn is_pair(checked: &Checked, templates: &Templates, c: SymbolNo, d: SymbolNo) -
     symbols.matching(c, d)
 }
 
-/// What is placed for a job, in cells of the stock. Nothing where it may hold too few, or for want of memory.
+/// What is placed for a job, in cells of the stock. Nothing where it may hold too few, or when out of memory.
 fn made<'t>(
     alloc: Global,
     templates: &'t Templates,

@@ -83,7 +83,7 @@ AllJoinedIsGlued = (parts : ℕ → Net ℕ) (name : ℕ → ℕ → ℕ) (numbe
 
 -- ---- a joint can always be made, and a wire be cut
 
--- what a joint makes of a net exists, and its partners lead back. Where the two free ends are partners of one another, the ring is gone
+-- what a joint makes of a net exists, and its partners lead back. Where the two free ends are partners of one another, the cycle is gone
 abbrev pub JoinExists : Type 0
 JoinExists = (m : Net ℕ) (a b : ℕ) → a ≢ b → WiresLeadBack m → (w : Net ℕ) × JoinsEnds m a b w × WiresLeadBack w
 

@@ -44,7 +44,7 @@ pub record IsPairAtSides (t : Tables) (n : Parts) (r : RuleParts) (a b : AgentNo
   pub sides : AreAtSides (net_of n) (redex_at r a.0 b.0) e m (Port q.0.0 0) (Port q.1.0 0)
   pub order : StandsFirst t first second q.0 q.1
 
--- joining this boundary end, after those above it, makes a pair exactly where two principal ports are at its sides: the one that has it
+-- joining this boundary end, after those above it, makes a pair exactly when two principal ports are at its sides: the one that has it
 -- for its lowest end
 abbrev pub PairsAreMadeWhereJoined : Type 0
 PairsAreMadeWhereJoined = (t : Tables) (n : Parts) (r : RuleParts) (a b : AgentNo) (name : ℕ → ℕ) (e : ℕ) (m : Net ℕ) →

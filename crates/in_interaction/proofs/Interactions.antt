@@ -4,6 +4,8 @@ pub mod AtNets
 pub mod ByPlaces
 pub mod ClosedPath
 pub mod Compress
+pub mod CycleWalks
+pub mod Cycles
 pub mod EachJoined
 pub mod EndsApart
 pub mod Expand
@@ -16,8 +18,6 @@ pub mod PathEnds
 pub mod Paths
 pub mod Pieces
 pub mod Places
-pub mod RingWalks
-pub mod Rings
 pub mod Rounds
 pub mod StaysNet
 pub mod StepExists

@@ -5,7 +5,7 @@ use Rattle.in_base.specs.Graphs.{Passage, CrossingCircle, ViciousCircle}
 use Rattle.in_net.specs.Graphs.{graph_of}
 use Rattle.in_net.specs.Interactions.{Redex, IsRedex, IsNaming, IsStep, ClosedPath, class_node, open_member}
 use Rattle.in_net.specs.Nets.{Signature, AreClasses, Net, IsNet}
-use Rattle.in_interaction.specs.Pieces.{IsOuterPiece, PieceRing, IsMadeOf, IsPassage, ClosedWalk}
+use Rattle.in_interaction.specs.Pieces.{IsOuterPiece, PieceCycle, IsMadeOf, IsPassage, ClosedWalk}
 use Rattle.std.specs.List.{AllByRecursion}
 
 -- an interaction has a result, and it is a net
@@ -24,9 +24,9 @@ abbrev pub OuterPiecesArePassages : Type 0
 OuterPiecesArePassages = (sig : Signature) (n : Net ℕ) (x : Redex ℕ ℕ) → AreClasses sig → IsNet sig n → IsRedex sig n x → (CrossingCircle (graph_of sig n) → ⊥) →
     (e f : ℕ) (ps : List (Passage ℕ)) → IsOuterPiece sig n x e f ps → (class_node sig x e ≡ class_node sig x f) × (e ≢ f)
 
--- .. so that a ring of pieces leaves a closed walk of the open right member
-abbrev pub RingsLeaveWalks : Type 0
-RingsLeaveWalks = (sig : Signature) (n : Net ℕ) (x : Redex ℕ ℕ) → (r : PieceRing sig n x) → AllByRecursion (IsPassage sig x) (r.first ∷ r.rest) → ClosedWalk sig x
+-- .. so that a cycle of pieces leaves a closed walk of the open right member
+abbrev pub CyclesLeaveWalks : Type 0
+CyclesLeaveWalks = (sig : Signature) (n : Net ℕ) (x : Redex ℕ ℕ) → (r : PieceCycle sig n x) → AllByRecursion (IsPassage sig x) (r.first ∷ r.rest) → ClosedWalk sig x
 
 -- a closed walk of the open right member shortens to a crossing circle
 abbrev pub ClosedWalksShorten : Type 0

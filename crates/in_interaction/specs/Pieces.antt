@@ -1,4 +1,4 @@
--- What a ring after an interaction is made of: pieces outside and inside, cut at the boundary ends, and what they leave of the ring in
+-- What a cycle after an interaction is made of: pieces outside and inside, cut at the boundary ends, and what they leave of the cycle in
 -- the right member with its class nodes. This project's own.
 use Rattle.std.specs.Prelude.{◌≡◌, ◌≢◌, ◌⊎◌, ℕ, Bool, List, [], ◌∷◌, ◌++◌, map}
 use Rattle.std.specs.List.{AllByRecursion}
@@ -75,8 +75,8 @@ abbrev pub AreDifferent : {X : Type 0} → List X → Type 0
 AreDifferent [] = Unit {0}
 AreDifferent (x ∷ xs) = AllByRecursion (λ y. x ≢ y) xs × AreDifferent xs
 
--- outer and inner pieces by turns in a ring, through different agents and different boundary ends
-pub record PieceRing {A B : Type 0} (sig : Signature) (n : Net A) (x : Redex A B) : Type 0 where
+-- outer and inner pieces by turns in a cycle, through different agents and different boundary ends
+pub record PieceCycle {A B : Type 0} (sig : Signature) (n : Net A) (x : Redex A B) : Type 0 where
   pub first : Piece A B
   pub rest : List (Piece A B)
   pub closed : FollowInTurn first rest first
@@ -88,14 +88,14 @@ pub record PieceRing {A B : Type 0} (sig : Signature) (n : Net A) (x : Redex A B
 abbrev pub IsTurned : {X : Type 0} → List X → List X → Type 0
 IsTurned {X} xs ys = (front back : List X) × (xs ≡ front ++ back) × (ys ≡ back ++ front)
 
--- what a ring of these agents after the interaction is: one of the net before, or of the right member, as it stands; or pieces in a
--- ring, whose agents are the ring's, each once
-pub data IsMadeOf {A B : Type 0} (sig : Signature) (n : Net A) (x : Redex A B) (name : B → A) (ring : List (Passage A)) : Type 0 where
-  wholly_outside : (c : CrossingCircle (graph_of sig n)) → c.first ∷ c.rest ≡ ring → IsMadeOf sig n x name ring
-  wholly_inside : (c : CrossingCircle (graph_of sig x.member)) → map (renamed name) (c.first ∷ c.rest) ≡ ring → IsMadeOf sig n x name ring
-  of_pieces : (r : PieceRing sig n x) → IsTurned ring (map (renamed (name_after name)) (passages_of (r.first ∷ r.rest))) → IsMadeOf sig n x name ring
+-- what a cycle of these agents after the interaction is: one of the net before, or of the right member, as it stands; or pieces in a
+-- cycle, whose agents are the cycle's, each once
+pub data IsMadeOf {A B : Type 0} (sig : Signature) (n : Net A) (x : Redex A B) (name : B → A) (cycle : List (Passage A)) : Type 0 where
+  wholly_outside : (c : CrossingCircle (graph_of sig n)) → c.first ∷ c.rest ≡ cycle → IsMadeOf sig n x name cycle
+  wholly_inside : (c : CrossingCircle (graph_of sig x.member)) → map (renamed name) (c.first ∷ c.rest) ≡ cycle → IsMadeOf sig n x name cycle
+  of_pieces : (r : PieceCycle sig n x) → IsTurned cycle (map (renamed (name_after name)) (passages_of (r.first ∷ r.rest))) → IsMadeOf sig n x name cycle
 
--- ---- what is left of a ring inside
+-- ---- what is left of a cycle inside
 
 -- where each outer piece is a passage through one class node, by two different ports
 abbrev pub IsPassage : {A B : Type 0} → Signature → Redex A B → Piece A B → Type 0

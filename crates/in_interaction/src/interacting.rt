@@ -235,7 +235,7 @@ fn renew(alloc: Global, net: &mut Net, after: After)
 /// and the order of wires, are this project's own choice.
 ///
 /// Net and rule are over one `Symbols`; `a` and `b` have the symbols of the rule's heads, in this order, and their principal ports are
-/// joined; the net has at most `MOST_AGENTS` agents. Refused for want of memory alone, and then the net is unchanged.
+/// joined; the net has at most `MOST_AGENTS` agents. Refused only when out of memory, and then the net is unchanged.
 pub fn interact(
     alloc: Global,
     net: &mut Net,

@@ -1,6 +1,6 @@
 //! Laws of interactions, over the definitions alone, in the order of the argument. No function here does anything.
 
-ghost use Rattle.in_interaction.specs.InteractionLaws.{StepExists, CirclesFallApart, OuterPiecesArePassages, RingsLeaveWalks, ClosedWalksShorten, NoNewCircle, NoClosedPath, NoViciousCircle, EachLeadsOn};
+ghost use Rattle.in_interaction.specs.InteractionLaws.{StepExists, CirclesFallApart, OuterPiecesArePassages, CyclesLeaveWalks, ClosedWalksShorten, NoNewCircle, NoClosedPath, NoViciousCircle, EachLeadsOn};
 
 /// An interaction has a result, and it is a net.
 pub fn step_exists()
@@ -19,9 +19,9 @@ pub fn outer_pieces_are_passages()
     ensures { OuterPiecesArePassages }
 {}
 
-/// Where each outer piece of a ring is such a passage, what is left of the ring is a closed walk of the open right member.
-pub fn rings_leave_walks()
-    ensures { RingsLeaveWalks }
+/// Where each outer piece of a cycle is such a passage, what is left of the cycle is a closed walk of the open right member.
+pub fn cycles_leave_walks()
+    ensures { CyclesLeaveWalks }
 {}
 
 /// A closed walk of the open right member that enters and leaves each node by different classes, and meets each agent and each port

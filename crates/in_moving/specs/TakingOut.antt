@@ -23,7 +23,7 @@ pub record AreRetired (agents : List CellNo) (old new : ArenaView) : Type 0 wher
   pub cells : new.cells ≡ old.cells
   pub many : length new.states ≡ length old.states
 
--- the list has what each free end leads to: a place of a cell is in it exactly where the place leads to that free end
+-- the list has what each free end leads to: a place of a cell is in it if and only if the place leads to that free end
 pub record AreLedTo (a : ArenaView) (ends : List End) : Type 0 where
   pub back : (k i : ℕ) (c : CellNo) → slice_get ends k ≡ Some (Cell c i) → end_at (state_at a c.0) i ≡ Some (Free k)
   pub all : (y i k : ℕ) → end_at (state_at a y) i ≡ Some (Free k) → slice_get ends k ≡ Some (Cell (record { 0 = y }) i)

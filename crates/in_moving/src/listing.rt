@@ -6,7 +6,7 @@ ghost use Rattle.in_moving.specs.Copying.{IsListOfLive};
 use in_arena::{Arena, CellNo};
 use std::alloc::{AllocError, Global};
 
-/// The live cells of an arena that has no cell on lease, each once, in the order of their numbers. Refused for want of memory alone.
+/// The live cells of an arena that has no cell on lease, each once, in the order of their numbers. Refused only when out of memory.
 pub fn live_cells(alloc: Global, arena: &Arena) -> Result<Vec<CellNo>, AllocError>
     requires { NoneLeased arena.now }
     ensures { IfOk result (λ v. IsListOfLive arena.now v.items) }

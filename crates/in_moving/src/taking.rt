@@ -33,6 +33,7 @@ fn take_cell(from: &Arena, cell: CellNo, to: &mut Arena) -> CellNo
 {
     let places = from.places(cell);
     let Some(mut lease) = to.lease(class_for(places)) else {
+        // A cell of that class is free.
         unreachable!()
     };
     lease.begin(from.symbol(cell), places);

@@ -121,7 +121,7 @@ abbrev pub EndPath : (Side → ℕ → ℕ → Type 0) → Side → ℕ → List
 EndPath wire s e [] t f = (s ≡ t) × wire s e f
 EndPath wire s e (g ∷ gs) t f = wire s e g × EndPath wire (other s) g gs t f
 
--- boundary ends that wires of alternate sides join in a ring
+-- boundary ends that wires of alternate sides join in a cycle
 pub record ClosedPath {A B : Type 0} (sig : Signature) (n : Net A) (x : Redex A B) : Type 0 where
   pub side : Side
   pub first : ℕ

@@ -45,7 +45,7 @@ fn free_ends(alloc: Global, free: &[FreeEnd]) -> Result<Vec<FreeEnd>, AllocError
 }
 
 impl Net {
-    /// A copy of the net: an equal one, with the same numbers, names and places. Refused for want of memory alone.
+    /// A copy of the net: an equal one, with the same numbers, names and places. Refused only when out of memory.
     pub fn copy(&self, alloc: Global) -> Result<Net, AllocError>
         ensures { IfOk result (λ copy. copy ≡ self.now) }
     {

@@ -79,7 +79,7 @@ impl Drop for Net {
     }
 }
 
-// Contracts see all that a looking call reads. Which net that is, `specs/Parts.antt` says.
+// Contracts see all that an accessor reads. Which net that is, `specs/Parts.antt` says.
 impl Model for Net {
     ghost use Rattle.in_net.specs.Parts.{Parts, IsWhole};
 

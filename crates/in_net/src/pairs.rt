@@ -64,7 +64,7 @@ impl Net {
 
     /// The active pairs, each once: two agents whose principal ports are joined (Lafont 1990). The constructor stands first, and of two
     /// constructors or two destructors the one with the lower number. The pairs are in the order of their lower numbers, which is this
-    /// project's own choice. The `Symbols` are those of the net. Refused for want of memory alone.
+    /// project's own choice. The `Symbols` are those of the net. Refused only when out of memory.
     pub fn active_pairs(
         &self,
         alloc: Global,

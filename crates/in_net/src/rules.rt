@@ -20,7 +20,7 @@ pub struct Rule {
     pub(crate) member: Net,
 }
 
-// Contracts see all that a looking call reads. A right member has few agents.
+// Contracts see all that an accessor reads. A right member has few agents.
 impl Model for Rule {
     ghost use Rattle.std.specs.Prelude.{◌≤◌, length};
     ghost use Rattle.in_net.specs.NetFaults.{max_member_agents};

@@ -2,7 +2,7 @@
 -- and the wires between the classes of their ports. This project's own: by its bridges it is decided which nodes split the set.
 use Rattle.std.specs.Prelude.{◌≡◌, ◌⊎◌, ℕ, suc, ◌<◌, Bool, List, length, slice_get, Option, Some, None}
 use Rattle.in_base.specs.Graphs.{Graph}
-use Rattle.in_simple_bridges.specs.Ways.{Way, HasTwoEnds, IsOnRing}
+use Rattle.in_simple_bridges.specs.Ways.{Way, HasTwoEnds, IsOnCycle}
 use Rattle.in_open_nets.specs.declared.open_nets.Node.TheVariants.{AgentNode, ClassNode}
 use Rattle.in_open_nets.specs.declared.open_nets.OpenNode.{OpenNode}
 use Rattle.in_open_nets.specs.Constructions.{IsIn}
@@ -45,9 +45,9 @@ pub record IsClassGraph (g : Graph) (Has : g.Node → ℕ → Type 0) (s : g.Nod
   pub only : (e a b : ℕ) → slice_get es e ≡ Some (a, b) → ((m : g.Node) × (k : ℕ) × IsIn m s × Has m k × (e ≡ hub_edge m k))
       ⊎ ((l : g.Node) × (m : g.Node) × (i : ℕ) × (j : ℕ) × IsIn l s × IsIn m s × g.Wire (l, i) (m, j) × (a ≡ number (Class l (g.class l i))) × (b ≡ number (Class m (g.class m j))))
 
--- no hub edge of n is on a ring
-abbrev pub HubEdgesAreOffRings : (g : Graph) → (g.Node → ℕ → Type 0) → (g.Node → ℕ → ℕ) → List (ℕ × ℕ) → g.Node → Type 0
-HubEdgesAreOffRings g Has hub_edge es n = (c : ℕ) → Has n c → IsOnRing es (hub_edge n c) → ⊥
+-- no hub edge of n is on a cycle
+abbrev pub HubEdgesAreOffCycles : (g : Graph) → (g.Node → ℕ → Type 0) → (g.Node → ℕ → ℕ) → List (ℕ × ℕ) → g.Node → Type 0
+HubEdgesAreOffCycles g Has hub_edge es n = (c : ℕ) → Has n c → IsOnCycle es (hub_edge n c) → ⊥
 
 -- ---- of an open net
 

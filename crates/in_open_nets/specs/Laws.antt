@@ -5,23 +5,23 @@ use Rattle.in_open_nets.specs.Constructions.{IsIn}
 use Rattle.in_open_nets.specs.Members.{IsUnion, nodes_in}
 use Rattle.in_open_nets.specs.Parts.{IsReached, IsRest}
 use Rattle.in_open_nets.specs.Splitting.{SplitsAt}
-use Rattle.in_open_nets.specs.ClassGraphs.{Vertex, HasClass, HubEdgesAreBridges, HubEdgesAreOffRings, IsClassGraph}
+use Rattle.in_open_nets.specs.ClassGraphs.{Vertex, HasClass, HubEdgesAreBridges, HubEdgesAreOffCycles, IsClassGraph}
 use Rattle.in_open_nets.specs.OpenNets.{OpenNet, IsOpenNet, IsDerivable, NetSplits, open_graph}
 use Rattle.in_open_nets.specs.Stuck.{IsFirstStuck, IsListed}
 use Rattle.in_open_nets.specs.Tries.{IsFirstIn}
 
--- an open net splits exactly where it is derivable
+-- an open net splits exactly when it is derivable
 abbrev pub SplitsWhereDerivable : Type 0
 SplitsWhereDerivable = (o : OpenNet) → IsOpenNet o → NetSplits o ↔ IsDerivable o
 
--- a node splits a set of nodes exactly where each of its hub edges is a bridge of the class graph
+-- a node splits a set of nodes exactly when each of its hub edges is a bridge of the class graph
 abbrev pub SplitsByBridges : Type 0
 SplitsByBridges = (o : OpenNet) → IsOpenNet o → (n : ℕ) (s : ℕ → Bool) → IsIn n s → SplitsAt (open_graph o) n s ↔ HubEdgesAreBridges (open_graph o) (HasClass o) n s
 
--- .. and, where the class graph stands as a list of edges, exactly where none of its hub edges is on a ring
-abbrev pub SplitsOffRings : Type 0
-SplitsOffRings = (o : OpenNet) → IsOpenNet o → (s : ℕ → Bool) (number : Vertex ℕ → ℕ) (hub_edge : ℕ → ℕ → ℕ) (es : List (ℕ × ℕ)) → IsClassGraph (open_graph o) (HasClass o) s number hub_edge es →
-    (n : ℕ) → IsIn n s → SplitsAt (open_graph o) n s ↔ HubEdgesAreOffRings (open_graph o) (HasClass o) hub_edge es n
+-- .. and, where the class graph stands as a list of edges, exactly when none of its hub edges is on a cycle
+abbrev pub SplitsOffCycles : Type 0
+SplitsOffCycles = (o : OpenNet) → IsOpenNet o → (s : ℕ → Bool) (number : Vertex ℕ → ℕ) (hub_edge : ℕ → ℕ → ℕ) (es : List (ℕ × ℕ)) → IsClassGraph (open_graph o) (HasClass o) s number hub_edge es →
+    (n : ℕ) → IsIn n s → SplitsAt (open_graph o) n s ↔ HubEdgesAreOffCycles (open_graph o) (HasClass o) hub_edge es n
 
 -- what is derivable has no crossing circle
 abbrev pub DerivableHasNoCircle : Type 0

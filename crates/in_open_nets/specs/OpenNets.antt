@@ -91,7 +91,7 @@ IsDerivable o = (s : ℕ → Bool) × ((n : ℕ) → IsIn n s ↔ IsNode o n) ×
 abbrev pub NetSplits : OpenNet → Type 0
 NetSplits o = (s : ℕ → Bool) × ((n : ℕ) → IsIn n s ↔ IsNode o n) × Splits (open_graph o) (λ m n. m < n) s
 
--- ---- what the looking calls read
+-- ---- what the accessors read
 
 abbrev pub node_in : OpenNet → ℕ → Option Node
 node_in o n = option_map (λ m. m.node) (slice_get o.nodes n)

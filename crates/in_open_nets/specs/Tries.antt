@@ -1,4 +1,4 @@
--- Whether one node splits a part, by what a search from the node alone found: a ring shows that it does not, and labels show that it does.
+-- Whether one node splits a part, by what a search from the node alone found: a cycle shows that it does not, and labels show that it does.
 use Rattle.std.specs.Prelude.{◌≡◌, ◌≢◌, ℕ, ◌<◌, Bool, cond, nat_eq, List, slice_get, slice_index_or, Option, Some, None, MatchOption, IsSomeAnd, length}
 use Rattle.in_open_nets.specs.declared.labels.Labels.{Labels}
 use Rattle.in_open_nets.specs.declared.labels.Mark.{Mark}
@@ -10,7 +10,7 @@ use Rattle.in_open_nets.specs.Members.{nodes_in}
 use Rattle.in_open_nets.specs.Parts.{SplitsIt, NoneSplits, IsFirst}
 use Rattle.in_open_nets.specs.Stuck.{Among, ports_of}
 
--- ---- rings
+-- ---- cycles
 
 -- from a port of n in class c a walk by nodes of the part leads to l, and not through n
 abbrev pub IsLedTo : OpenNet → List Bool → ℕ → ℕ → ℕ → Type 0

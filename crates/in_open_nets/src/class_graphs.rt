@@ -172,15 +172,15 @@ impl ClassGraph {
         Ok(())
     }
 
-    /// Whether none of a node's hub edges is on a ring.
-    pub(crate) fn is_off_rings(&self, rings: &Items<bool>, node: usize, width: usize) -> bool
+    /// Whether none of a node's hub edges is on a cycle.
+    pub(crate) fn is_off_cycles(&self, cycles: &Items<bool>, node: usize, width: usize) -> bool
         requires node { node < length self.now.hubs }
-        requires edges { (c : ℕ) → c < width → hub_edge_in self.now.hubs node c < length rings.now }
-        ensures { IsTrue result ↔ ((c : ℕ) → c < width → slice_index_or rings.now (hub_edge_in self.now.hubs node c) false ≡ false) }
+        requires edges { (c : ℕ) → c < width → hub_edge_in self.now.hubs node c < length cycles.now }
+        ensures { IsTrue result ↔ ((c : ℕ) → c < width → slice_index_or cycles.now (hub_edge_in self.now.hubs node c) false ≡ false) }
     {
         let first = self.hubs.as_slice()[node].edge;
         for class in 0..width {
-            if rings.as_slice()[first + class] {
+            if cycles.as_slice()[first + class] {
                 return false;
             }
         }

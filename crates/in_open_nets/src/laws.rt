@@ -1,26 +1,26 @@
 //! Laws over the definitions of open nets, for whoever reasons above them. No function here does anything.
 
-ghost use Rattle.in_open_nets.specs.Laws.{ComponentIsOne, DerivableHasNoCircle, FirstSplittingIsOne, MembersAreListedOnce, RestIsOne, SetIsItsMembers, SplitsByBridges, SplitsOffRings, SplitsOrFirstStuck, SplitsWhereDerivable, UnionIsOne};
+ghost use Rattle.in_open_nets.specs.Laws.{ComponentIsOne, DerivableHasNoCircle, FirstSplittingIsOne, MembersAreListedOnce, RestIsOne, SetIsItsMembers, SplitsByBridges, SplitsOffCycles, SplitsOrFirstStuck, SplitsWhereDerivable, UnionIsOne};
 
-/// An open net splits exactly where it is derivable. Derivable is Lafont 1990's semi-simple; to decide it by splitting is this
+/// An open net splits exactly when it is derivable. Derivable is Lafont 1990's semi-simple; to decide it by splitting is this
 /// project's own choice.
 pub fn splits_where_derivable()
     ensures { SplitsWhereDerivable }
 {}
 
-/// A node splits a set of nodes exactly where each of its hub edges is a bridge of the class graph of the set: a hub for each node
+/// A node splits a set of nodes exactly when each of its hub edges is a bridge of the class graph of the set: a hub for each node
 /// and a vertex for each of its classes, joined by the hub edges, and the wires between classes. This project's own.
 pub fn splits_by_bridges()
     ensures { SplitsByBridges }
 {}
 
-/// Where the class graph stands as a list of edges, a node splits the set exactly where none of its hub edges is on a ring.
-pub fn splits_off_rings()
-    ensures { SplitsOffRings }
+/// Where the class graph stands as a list of edges, a node splits the set exactly when none of its hub edges is on a cycle.
+pub fn splits_off_cycles()
+    ensures { SplitsOffCycles }
 {}
 
-/// A derivable open net has no ring of one or more different nodes, each entered and left by ports of different classes.
-/// Lafont 1990 has semi-simple nets without vicious circles, which are such rings.
+/// A derivable open net has no cycle of one or more different nodes, each entered and left by ports of different classes.
+/// Lafont 1990 has semi-simple nets without vicious circles, which are such cycles.
 pub fn derivable_has_no_circle()
     ensures { DerivableHasNoCircle }
 {}

@@ -7,7 +7,7 @@
 //! `parts` has what goes from call to call: a `Part` (the net and a set of its nodes) and a `Candidate` (a node of the part, which may
 //! split it).
 //!
-//! `splitting` looks for the first node that splits the part, by trying its nodes one after another. `rings` keeps for each node the
+//! `splitting` looks for the first node that splits the part, by trying its nodes one after another. `cycles` keeps for each node the
 //! nodes of a walk from one class of the node to another, which it checked when it was found: where the part has them all, the node does
 //! not split it. Where all ports of the node that lead into the part are of one class, it splits the part, whatever the rest is like.
 //! Else `trials` searches from all its ports at once: either it meets two classes, and keeps the walk by which they met for the parts to
@@ -31,6 +31,7 @@
 
 mod class_graphs;
 mod components;
+mod cycles;
 mod derivations;
 mod labels;
 pub mod laws;
@@ -38,7 +39,6 @@ mod nodes;
 mod open_nets;
 mod parts;
 mod pieces;
-mod rings;
 mod scratch;
 mod splitting;
 mod stuck;
@@ -46,11 +46,11 @@ mod trials;
 mod wired;
 
 pub use components::DoneNodes;
+pub use cycles::Cycles;
 pub use derivations::{Derivation, Step, Stuck, Undone};
 pub use nodes::{NodeList, NodeSet};
 pub use open_nets::{Node, OpenNet, OpenNode, OpenPoint};
 pub use parts::Part;
-pub use rings::Rings;
 pub use scratch::Scratch;
 pub use splitting::first_splitting;
 pub use trials::Trials;

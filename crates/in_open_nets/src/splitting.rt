@@ -1,5 +1,5 @@
 ghost use Rattle.std.specs.Prelude.{◌≡◌, ◌<◌, ◌↔◌, length, IfOk, IsTrue};
-ghost use Rattle.in_simple_bridges.specs.Rings.{AreRings};
+ghost use Rattle.in_simple_bridges.specs.Cycles.{AreCycles};
 ghost use Rattle.in_open_nets.specs.ClassEdges.{IsGraphOf};
 ghost use Rattle.in_open_nets.specs.OpenNets.{IsOrderly};
 ghost use Rattle.in_open_nets.specs.Tries.{AreTried, IsFirstIn, IsTried};
@@ -10,7 +10,7 @@ use crate::components::neighbour;
 use crate::parts::{Candidate, Part};
 use crate::trials::Trials;
 use in_base::use_promise;
-use in_simple_bridges::on_rings;
+use in_simple_bridges::on_cycles;
 use sqlite_items::Items;
 use std::alloc::{AllocError, Global};
 
@@ -35,30 +35,30 @@ fn touches_by_one_class(candidate: &Candidate) -> bool
 }
 
 /// Whether the node is in the part and splits it: each of its hub edges is a bridge.
-fn splits(part: &Part, graph: &ClassGraph, rings: &Items<bool>, node: usize) -> bool
+fn splits(part: &Part, graph: &ClassGraph, cycles: &Items<bool>, node: usize) -> bool
     requires node { node < length part.now.wired.now.nodes }
     requires graph { IsGraphOf part.now.wired.now part.now.nodes.now graph.now }
-    requires rings { AreRings graph.now.edges (length graph.now.edges) rings.now }
+    requires cycles { AreCycles graph.now.edges (length graph.now.edges) cycles.now }
     ensures { IsTrue result ↔ SplitsIt part.now.wired.now part.now.nodes.now node }
 {
     if part.nodes.has(node) {
-        graph.is_off_rings(rings, node, part.wired.width(node))
+        graph.is_off_cycles(cycles, node, part.wired.width(node))
     } else {
         false
     }
 }
 
-/// The first node that is off the rings of the part's class graph.
-fn first_off_rings(part: &Part, graph: &ClassGraph, rings: &Items<bool>) -> Option<usize>
+/// The first node that is off the cycles of the part's class graph.
+fn first_off_cycles(part: &Part, graph: &ClassGraph, cycles: &Items<bool>) -> Option<usize>
     requires graph { IsGraphOf part.now.wired.now part.now.nodes.now graph.now }
-    requires rings { AreRings graph.now.edges (length graph.now.edges) rings.now }
+    requires cycles { AreCycles graph.now.edges (length graph.now.edges) cycles.now }
     ensures net { IsOrderly part.now.wired.now }
     ensures found { IsFirstIn part.now.wired.now part.now.nodes.now result }
 {
     use_promise!(part.wired.nodes());
     for member in part.nodes.members() {
         let node = *member as usize;
-        if splits(part, graph, rings, node) {
+        if splits(part, graph, cycles, node) {
             return Some(node);
         }
     }
@@ -71,21 +71,21 @@ fn first_in(alloc: Global, part: &Part, graph: &ClassGraph) -> Result<Option<usi
     ensures net { IfOk result (λ found. IsOrderly part.now.wired.now) }
     ensures found { IfOk result (IsFirstIn part.now.wired.now part.now.nodes.now) }
 {
-    let rings = on_rings(alloc, graph.count, &graph.edges)?;
-    Ok(first_off_rings(part, graph, &rings))
+    let cycles = on_cycles(alloc, graph.count, &graph.edges)?;
+    Ok(first_off_cycles(part, graph, &cycles))
 }
 
-/// Whether the candidate splits the part, by the ring through it that was found before, or by its own ports, or by a search from it.
+/// Whether the candidate splits the part, by the cycle through it that was found before, or by its own ports, or by a search from it.
 fn tried(
     alloc: Global,
     candidate: &Candidate,
     trials: &mut Trials,
 ) -> Result<Option<bool>, AllocError>
-    requires { trials.old.rings ≡ candidate.now.part.wired.now }
-    ensures same { trials.new.rings ≡ trials.old.rings }
+    requires { trials.old.cycles ≡ candidate.now.part.wired.now }
+    ensures same { trials.new.cycles ≡ trials.old.cycles }
     ensures tried { IfOk result (IsTried candidate.now.part.wired.now candidate.now.part.nodes.now candidate.now.node) }
 {
-    if trials.is_ringed(candidate) {
+    if trials.has_cycle(candidate) {
         Ok(Some(false))
     } else if touches_by_one_class(candidate) {
         Ok(Some(true))
@@ -100,8 +100,8 @@ fn first_by_trials(
     part: &Part,
     trials: &mut Trials,
 ) -> Result<Option<Option<usize>>, AllocError>
-    requires { trials.old.rings ≡ part.now.wired.now }
-    ensures same { trials.new.rings ≡ trials.old.rings }
+    requires { trials.old.cycles ≡ part.now.wired.now }
+    ensures same { trials.new.cycles ≡ trials.old.cycles }
     ensures net { IfOk result (λ found. IsOrderly part.now.wired.now) }
     ensures found { IfOk result (AreTried part.now.wired.now part.now.nodes.now) }
 {
@@ -137,8 +137,8 @@ pub fn first_splitting(
     part: &Part,
     trials: &mut Trials,
 ) -> Result<Option<usize>, AllocError>
-    requires { trials.old.rings ≡ part.now.wired.now }
-    ensures same { trials.new.rings ≡ trials.old.rings }
+    requires { trials.old.cycles ≡ part.now.wired.now }
+    ensures same { trials.new.cycles ≡ trials.old.cycles }
     ensures net { IfOk result (λ found. IsOrderly part.now.wired.now) }
     ensures found { IfOk result (IsFirstIn part.now.wired.now part.now.nodes.now) }
 {

@@ -4,16 +4,16 @@ ghost use Rattle.in_open_nets.specs.Stuck.{ports_of};
 ghost use Rattle.in_open_nets.specs.Tries.{IsTried};
 
 use crate::class_graphs::ClassGraph;
+use crate::cycles::{Cycles, are_in};
 use crate::labels::{Labels, Mark, show_splitting};
 use crate::nodes::NodeSet;
 use crate::open_nets::OpenPoint;
 use crate::parts::Candidate;
-use crate::rings::{Rings, are_in};
 use crate::wired::Wired;
 use sqlite_items::Items;
 use std::alloc::{AllocError, Global};
 
-/// The most nodes of a ring on either side of where a search met.
+/// The most nodes of a cycle on either side of where a search met.
 const MOST_STEPS: usize = 64;
 
 /// How many ports are looked at for each node of a part, before all of its nodes are decided at once.
@@ -47,7 +47,7 @@ enum Answer {
 }
 
 /// A search from single nodes: what the last one reached, and how many more ports may be looked at. Nothing is claimed of what it finds,
-/// since rings and labels are checked before they are used.
+/// since cycles and labels are checked before they are used.
 struct Search {
     labels: Labels,
     reached: Items<Reached>,
@@ -65,9 +65,9 @@ impl Drop for Search {
     }
 }
 
-/// The rings that searches from single nodes found, the last search, and room for a class graph, where searches do not tell.
+/// The cycles that searches from single nodes found, the last search, and room for a class graph, where searches do not tell.
 pub struct Trials<'a> {
-    pub rings: Rings<'a>,
+    pub cycles: Cycles<'a>,
     pub(crate) graph: ClassGraph,
     search: Search,
 }
@@ -76,7 +76,7 @@ pub struct Trials<'a> {
 impl<'a> Drop for Trials<'a> {
     fn drop(self) {
         let Trials {
-            rings: _,
+            cycles: _,
             graph: _,
             search: _,
         } = self;
@@ -273,25 +273,25 @@ impl Search {
         Ok(way)
     }
 
-    /// The ring by which two classes meet.
-    fn ring(&self, alloc: Global, meeting: Meeting) -> Result<Items<u8>, AllocError> {
+    /// The cycle by which two classes meet.
+    fn cycle(&self, alloc: Global, meeting: Meeting) -> Result<Items<u8>, AllocError> {
         let way = self.way(alloc, meeting.from)?;
         let back = self.way(alloc, meeting.to)?;
-        let mut ring = Items::new(alloc);
-        join_ways(way, meeting.port, &back, &mut ring)?;
-        Ok(ring)
+        let mut cycle = Items::new(alloc);
+        join_ways(way, meeting.port, &back, &mut cycle)?;
+        Ok(cycle)
     }
 }
 
 impl<'a> Trials<'a> {
     /// Nothing tried yet.
     pub fn new(alloc: Global, wired: &'a Wired<'a>) -> Result<Trials<'a>, AllocError>
-        ensures { IfOk result (λ trials. trials.rings ≡ wired.now) }
+        ensures { IfOk result (λ trials. trials.cycles ≡ wired.now) }
     {
-        let rings = Rings::none(alloc, wired)?;
+        let cycles = Cycles::none(alloc, wired)?;
         let search = Search::new(alloc, wired.nodes())?;
         Ok(Trials {
-            rings,
+            cycles,
             graph: ClassGraph::new(alloc),
             search,
         })
@@ -299,19 +299,19 @@ impl<'a> Trials<'a> {
 
     /// As many ports may be looked at as the size of the part allows.
     pub(crate) fn begin(&mut self, part: &NodeSet)
-        ensures { self.new.rings ≡ self.old.rings }
+        ensures { self.new.cycles ≡ self.old.cycles }
     {
         self.search.budget = part.count().saturating_mul(PORTS_FOR_A_NODE);
     }
 
-    /// Whether the ring that was kept of the candidate shows that it does not split the part.
-    pub(crate) fn is_ringed(&mut self, candidate: &Candidate) -> bool
-        requires { self.old.rings ≡ candidate.now.part.wired.now }
-        ensures ringed { IsTrue result → SplitsIt candidate.now.part.wired.now candidate.now.part.nodes.now candidate.now.node → ⊥ }
-        ensures same { self.new.rings ≡ self.old.rings }
+    /// Whether the cycle that was kept of the candidate shows that it does not split the part.
+    pub(crate) fn has_cycle(&mut self, candidate: &Candidate) -> bool
+        requires { self.old.cycles ≡ candidate.now.part.wired.now }
+        ensures on_cycle { IsTrue result → SplitsIt candidate.now.part.wired.now candidate.now.part.nodes.now candidate.now.node → ⊥ }
+        ensures same { self.new.cycles ≡ self.old.cycles }
     {
-        match self.rings.ring(candidate.node) {
-            Some(ring) => self.search.spend(ring.len()) && are_in(&candidate.part, ring),
+        match self.cycles.cycle(candidate.node) {
+            Some(cycle) => self.search.spend(cycle.len()) && are_in(&candidate.part, cycle),
             None => false,
         }
     }
@@ -322,15 +322,15 @@ impl<'a> Trials<'a> {
         alloc: Global,
         candidate: &Candidate,
     ) -> Result<Option<bool>, AllocError>
-        requires { self.old.rings ≡ candidate.now.part.wired.now }
+        requires { self.old.cycles ≡ candidate.now.part.wired.now }
         ensures tried { IfOk result (IsTried candidate.now.part.wired.now candidate.now.part.nodes.now candidate.now.node) }
-        ensures same { self.new.rings ≡ self.old.rings }
+        ensures same { self.new.cycles ≡ self.old.cycles }
     {
         match self.search.run(alloc, candidate)? {
             Answer::Met(meeting) => {
-                let ring = self.search.ring(alloc, meeting)?;
-                self.rings.keep(alloc, candidate.node, &ring)?;
-                if self.is_ringed(candidate) {
+                let cycle = self.search.cycle(alloc, meeting)?;
+                self.cycles.keep(alloc, candidate.node, &cycle)?;
+                if self.has_cycle(candidate) {
                     Ok(Some(false))
                 } else {
                     Ok(None)
@@ -353,15 +353,15 @@ fn join_ways(
     way: Items<(u8, u8)>,
     port: u8,
     back: &Items<(u8, u8)>,
-    ring: &mut Items<u8>,
+    cycle: &mut Items<u8>,
 ) -> Result<(), AllocError> {
     let mut left = way;
     while let Some(step) = left.pop() {
-        ring.push(step.0)?;
+        cycle.push(step.0)?;
     }
-    ring.push(port)?;
+    cycle.push(port)?;
     for step in 0..back.len() {
-        ring.push(back.as_slice()[step].1)?;
+        cycle.push(back.as_slice()[step].1)?;
     }
     Ok(())
 }

@@ -109,7 +109,7 @@ fn wires(alloc: Global, net: &Net) -> Result<Items<(OpenPoint, OpenPoint)>, Allo
 }
 
 /// The open net of an initial net, as built: a node for each agent, in order and with the classes of its symbol, a wire for each
-/// wire, by number, and the free ends. Refused for want of memory alone. The tables are to number classes from 1, which those of a
+/// wire, by number, and the free ends. Refused only when out of memory. The tables are to number classes from 1, which those of a
 /// program do. Lafont 1990 asks of a net that it is semi-simple; the open net has what is needed to say so.
 pub fn open_net(alloc: Global, symbols: &Symbols, net: &Net) -> Result<OpenNet, AllocError>
     requires over { IsOver symbols.now net.now }

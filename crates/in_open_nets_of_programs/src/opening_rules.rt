@@ -281,7 +281,7 @@ impl<'a> Layout<'a> {
 
 /// The open net of a rule: a node for each class of its two heads and for each agent of its right member, in the order of their
 /// names, and a wire for each wire of the right member, by number; an end of a wire at a boundary end is that end's port of its
-/// class node, so that no free end is left. Refused for want of memory alone. The rule is to be whole and the tables to number
+/// class node, so that no free end is left. Refused only when out of memory. The rule is to be whole and the tables to number
 /// classes from 1, which those of a program are. That the classes of the heads are nodes, and each of their ports a class by itself,
 /// is this project's own choice; Lafont 1990 has a right member simple for these classes.
 pub fn open_rule(alloc: Global, symbols: &Symbols, rule: &Rule) -> Result<OpenNet, AllocError>

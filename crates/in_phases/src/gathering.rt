@@ -108,7 +108,7 @@ impl Branch {
     }
 
     /// Forgets what it had, and gathers the trees behind the first so many pairs: both agents of each, each agent whose principal port is joined
-    /// to an auxiliary port of one of them, and so on. Few wires lead out of them. Refused for want of memory alone.
+    /// to an auxiliary port of one of them, and so on. Few wires lead out of them. Refused only when out of memory.
     pub(crate) fn gather(&mut self, reducer: &Reducer, pairs: u32) -> Result<(), AllocError>
         requires many { length self.old.marks.items ≡ length reducer.now.agents }
         requires pairs { pairs ≤ length reducer.now.queue }

@@ -21,7 +21,7 @@ pub struct Came {
     pub free_ends: u32,
 }
 
-/// A reducer at the program's net, with 4,096 cells of each class; none for want of memory, or where the net has more agents.
+/// A reducer at the program's net, with 4,096 cells of each class; none when out of memory, or where the net has more agents.
 fn start<'a>(alloc: Global, program: &'a Checked, templates: &Templates) -> Option<Reducer<'a>>
     requires { AreTemplatesOf program.now templates.now }
     ensures { IfSome result (λ r. r.program ≡ program.now) }

@@ -25,7 +25,7 @@ abbrev pub WritesAll : Device → Device → List ℕ → Result (Unit {0}) ℕ 
 WritesAll old new bytes (Ok u) = Moves old new bytes
 WritesAll old new bytes (Err n) = BreaksAt old new bytes n
 
--- a text is written, and how long it is; or a front of it, and how long that is; or nothing, for want of memory
+-- a text is written, and how long it is; or a front of it, and how long that is; or nothing, when out of memory
 abbrev pub Prints : Device → Device → List ℕ → Result ℕ PrintFault → Type 0
 Prints old new text (Ok n) = (n ≡ length text) × Moves old new text
 Prints old new text (Err Memory) = new ≡ old

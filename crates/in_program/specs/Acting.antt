@@ -29,7 +29,7 @@ status n = record { 0 = n }
 abbrev pub fault_status : Status
 fault_status = status 6
 
--- .. and of want of memory
+-- .. and of running out of memory
 abbrev pub memory_status : Status
 memory_status = status 5
 
@@ -99,11 +99,11 @@ pub record IsReply (a : Action) (text lines : List ℕ) (s : Status) : Type 0 wh
   pub status_is : s ≡ status_of report
   pub any_order : IsOfEachEnd a text lines s
 
--- the line of want of memory, and its status
+-- the line of running out of memory, and its status
 abbrev pub WantsMemory : List ℕ → Status → Type 0
 WantsMemory lines s = (lines ≡ memory_line) × (s ≡ memory_status)
 
--- what may be said once these bytes are read: what is so of them, if they are enough, or that memory is wanted
+-- what may be said once these bytes are read: what is so of them, if they are enough, or that memory ran out
 abbrev pub Says : Action → Bool → List ℕ → List ℕ → Status → Type 0
 Says a ended text lines s = (IsEnoughText ended text × IsReply a text lines s) ⊎ WantsMemory lines s
 
@@ -126,7 +126,7 @@ pub data Acts (a : Action) (r r' : Reader) (w w' : Device) (s : Status) : Type 0
 abbrev pub Tells : Device → Device → List ℕ → Status → Status → Type 0
 Tells w w' line s answer = (Moves w w' line × (answer ≡ s)) ⊎ (BreaksWithin w w' line × (answer ≡ fault_status))
 
--- help and want of memory go to the output w, what is wrong with the words to the errors e
+-- help and running out of memory go to the output w, what is wrong with the words to the errors e
 abbrev pub TellsUsage : Device → Device → Device → Device → Usage → Status → Type 0
 TellsUsage w w' e e' (Help text) answer = Tells w w' (string_bytes text) (status 0) answer × (e' ≡ e)
 TellsUsage w w' e e' (Wrong text) answer = (w' ≡ w) × (Moves e e' (string_bytes text) ⊎ BreaksWithin e e' (string_bytes text)) × (answer ≡ status 2)
@@ -134,7 +134,7 @@ TellsUsage w w' e e' Memory answer = Tells w w' memory_line memory_status answer
 
 -- ---- words of the inner contracts
 
--- lines and a status that are so are told, or want of memory
+-- lines and a status that are so are told, or running out of memory
 abbrev pub TellsOne : (List ℕ → Status → Type 0) → Device → Device → Status → Type 0
 TellsOne So w w' answer = (lines : List ℕ) × (s : Status) × (So lines s ⊎ WantsMemory lines s) × Tells w w' lines s answer
 

@@ -23,7 +23,7 @@ use std::sync::Wait;
 use std::thread::Threads;
 
 /// The exit status of the program. The numbers are this project's own choice: 0 accepted, run to its end, or help; 1 refused; 2 wrong
-/// words; 3 a run that stopped at its limit; 4 cells that were too few; 5 want of memory; 6 a read or a write that failed.
+/// words; 3 a run that stopped at its limit; 4 cells that were too few; 5 running out of memory; 6 a read or a write that failed.
 #[derive(Clone, Copy, Debug, PartialEq, Eq)]
 pub struct Status(pub u8);
 
@@ -116,7 +116,7 @@ pub(crate) fn tell_outcome<W: TextOut>(alloc: Global, writer: &mut W, outcome: &
     }
 }
 
-/// Writes that a net doesn't fit the cells, or that memory is wanted.
+/// Writes that a net doesn't fit the cells, or that memory ran out.
 fn tell_run_fault<W: TextOut>(alloc: Global, writer: &mut W, fault: &RunFault) -> Status
     requires { (W.device writer.old).failures < 2 ^ 64 - 1 }
     ensures { TellsOne (λ lines s. (c : CellClass) × (need : ℕ) × (free : ℕ) × (fault.now ≡ Start (Full c need free)) × AreThese (start_line c need free) (status 4) lines s)
@@ -167,7 +167,7 @@ fn tell_found<W: TextOut>(alloc: Global, writer: &mut W, derive: bool, checked: 
     }
 }
 
-/// Writes why a text is refused, or that memory is wanted.
+/// Writes why a text is refused, or that memory ran out.
 pub(crate) fn tell_fault<W: TextOut>(
     alloc: Global,
     writer: &mut W,
@@ -224,7 +224,7 @@ fn tell_reply<T: Threads + Wait, W: TextOut>(
 
 /// Reads a program's text, writes the lines of `check` on it, or those of `derive`, and answers the status. For `check` of an accepted
 /// program they are one line that counts what it has, for `derive` the steps that build its rules and its net; of a refused one they
-/// are the line of the refusal. Where memory is wanted they are the line `memory` alone. It makes at most 1,048,577 reads, and at most one
+/// are the line of the refusal. Where memory runs out they are the line `memory` alone. It makes at most 1,048,577 reads, and at most one
 /// more than it is given bytes. It waits for nobody.
 pub fn report<R: TextIn, W: TextOut>(
     alloc: Global,
@@ -283,7 +283,7 @@ pub fn act<T: Threads + Wait, R: TextIn, W: TextOut>(
     }
 }
 
-/// Tells why the words name no action: help as output, what is wrong with them as an error, want of memory as output.
+/// Tells why the words name no action: help as output, what is wrong with them as an error, running out of memory as output.
 /// That wrong words can't be told changes nothing.
 pub fn tell_usage<W: TextOut, E: TextOut>(usage: &Usage, output: &mut W, errors: &mut E) -> Status
     requires output { (W.device output.old).failures < 2 ^ 64 - 1 }

@@ -15,7 +15,7 @@ use in_run::{Limits, StartFault, run_in_turn};
 use in_syntax::TextOut;
 use std::alloc::Global;
 
-/// Writes why there is no start: a net that doesn't fit the cells, or want of memory.
+/// Writes why there is no start: a net that doesn't fit the cells, or running out of memory.
 fn tell_no_start<W: TextOut>(alloc: Global, writer: &mut W, fault: StartFault) -> Status
     requires { (W.device writer.old).failures < 2 ^ 64 - 1 }
     ensures { TellsOne (λ lines s. (c : CellClass) × (need : ℕ) × (free : ℕ) × (fault ≡ Full c need free) × AreThese (start_line c need free) (status 4) lines s)

@@ -1,4 +1,4 @@
--- What looking calls read of the net that cells show.
+-- What accessors read of the net that cells show.
 use Rattle.std.proofs.Common.{◌≡◌, ◌<◌, ◌≤◌, ◌+◌, ◌-◌, ◌*◌, ℕ, zero, suc, Option, Some, None, IsSome, List, [], ◌∷◌, length, take, get_or, slice_get, sum_by, unwrap_or, refl, sym, ap, ◌∙◌, arith}
 use Rattle.std.specs.Prelude.{is_some, option_map, option_and_then}
 use Rattle.std.proofs.lemmas.List.{take_all}

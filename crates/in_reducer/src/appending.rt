@@ -185,7 +185,7 @@ impl<'a> Reducer<'a> {
 
     /// Adds the net of another reducer of the same program, which stays as it is: a copy of it stands beside what was there, its free ends and
     /// its pairs after those. Of each class as many cells have to be free as it has agents, and there are at most 65,536 free ends. Refused
-    /// for want of memory alone, and then the reducer is as it was.
+    /// only when out of memory, and then the reducer is as it was.
     pub fn append(&mut self, alloc: Global, other: &Reducer) -> Result<(), AllocError>
         requires can { CanAppend self.old other.now }
         requires few { length self.old.free + length other.now.free ≤ most_free }

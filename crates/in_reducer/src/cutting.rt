@@ -57,7 +57,7 @@ impl<'a> Body<'a> {
 
 impl<'a> Reducer<'a> {
     /// Cuts the wire at a place of an agent, which is to be there and no active pair: its two points are at new free ends, which come last and
-    /// have no names, but types that fit. There are at most 65,536 free ends. Refused for want of memory alone, and then the reducer is as it
+    /// have no names, but types that fit. There are at most 65,536 free ends. Refused only when out of memory, and then the reducer is as it
     /// was.
     pub fn cut(&mut self, cell: CellNo, place: u8) -> Result<(), AllocError>
         requires can { CanCut self.old cell.0 place }

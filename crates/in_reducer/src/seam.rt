@@ -30,7 +30,7 @@ pub struct Seam {
 }
 
 impl Seam {
-    /// Room for so many free ends, at most 65,536, and a part with so many cells of each class. Refused for want of memory alone.
+    /// Room for so many free ends, at most 65,536, and a part with so many cells of each class. Refused only when out of memory.
     pub fn new(alloc: Global, most: u32, cells: u32) -> Result<Seam, AllocError>
         requires few { most ≤ most_free }
         requires cells { cells ≤ most_cells }

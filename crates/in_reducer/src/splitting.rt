@@ -345,7 +345,7 @@ impl<'a> Reducer<'a> {
     /// Splits these agents off, as a reducer by itself with so many cells of each class, which shares nothing with the rest. They and the first
     /// ends of so many cuts, which came after `own` free ends, are to lead to each other alone, so that both agents of a pair go or stay. The
     /// part has the first ends of the cuts, in their order, and the rest the others. The templates are those of the program. The new numbers of
-    /// the agents are written in `names`, which is as long as there are numbers. Refused for want of memory alone, and then the reducer is as
+    /// the agents are written in `names`, which is as long as there are numbers. Refused only when out of memory, and then the reducer is as
     /// it was.
     pub fn split_off(
         &mut self,

@@ -48,7 +48,7 @@ pub(crate) fn tools_for(
     })
 }
 
-/// Places the program's net in an arena whose cells are free. Refused for want of memory alone, and then the arena is as it was.
+/// Places the program's net in an arena whose cells are free. Refused only when out of memory, and then the arena is as it was.
 fn place_start(alloc: Global, start: &Member, arena: &mut Arena) -> Result<Placed, AllocError>
     requires { IsEnough (count_of start.now.need) (free_of arena.old) }
     ensures put { IfOk result (λ p. IsPut start.now p.cells arena.old arena.new) }
@@ -108,7 +108,7 @@ fn queue_of(
 impl<'a> Reducer<'a> {
     /// A reducer with so many cells of each class, at the program's net, which has to fit: of each class it has no more agents than cells.
     /// Its pairs are queued in the order of the places of their wires, which is this project's own choice, as are the sizes of cells. The
-    /// templates are those of the program. Refused for want of memory alone; no other call takes memory.
+    /// templates are those of the program. Refused only when out of memory; no other call takes memory.
     pub fn new(
         alloc: Global,
         checked: &'a Checked,

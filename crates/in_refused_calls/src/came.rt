@@ -9,11 +9,11 @@ use std::io;
 pub enum Came {
     /// It did what it has to do.
     Done,
-    /// Memory was wanted.
+    /// Memory ran out.
     Memory,
     /// .. and what has to be as before is.
     Unchanged,
-    /// What it left couldn't be looked at, for want of memory.
+    /// What it left couldn't be looked at, when out of memory.
     Unseen,
     /// It isn't as it has to be.
     Wrong,
@@ -25,7 +25,7 @@ pub enum Came {
     Reached(u64),
 }
 
-/// What came of a call that is refused for want of memory alone.
+/// What came of a call that is refused only when out of memory.
 pub fn came_of<T: Drop>(answer: Result<T, AllocError>) -> Came {
     match answer {
         Ok(_) => Came::Done,
@@ -40,7 +40,7 @@ fn say_round(rt: &impl Print, call: &str, of: &str, before: &str, round: Round) 
     println!(rt; "{call}{of}: {before}{interactions} interactions, {threads} threads")
 }
 
-/// The line of a call on a program. Where nothing came of it, memory was wanted before the call.
+/// The line of a call on a program. Where nothing came of it, memory ran out before the call.
 pub fn say(rt: &impl Print, call: &str, of: &str, came: Option<Came>) -> io::Result<()> {
     let words = match came {
         None => "memory before it",

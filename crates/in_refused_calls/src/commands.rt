@@ -17,7 +17,7 @@ pub struct Asked {
     pub lines: &'static str,
 }
 
-/// What is written for want of memory.
+/// What is written when out of memory.
 const MEMORY: &[u8] = b"memory\n";
 
 /// The status of a command.
@@ -34,7 +34,7 @@ fn status_of(
     act(rt, alloc, &action, &mut reader, writer)
 }
 
-/// What came of a command with this status, which wrote this: for want of memory the status is 5, and the line `memory` stands alone.
+/// What came of a command with this status, which wrote this: when out of memory the status is 5, and the line `memory` stands alone.
 fn came_of_reply(status: Status, written: &[u8], lines: &str) -> Came {
     if status == Status(0) && written == lines.as_bytes() {
         Came::Done

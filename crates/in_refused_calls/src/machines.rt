@@ -35,7 +35,7 @@ impl Look<Came> for MachineCall {
     }
 }
 
-/// What comes of printing a machine's net, which is this text. For want of memory no byte is written.
+/// What comes of printing a machine's net, which is this text. When out of memory, no byte is written.
 fn written(alloc: Global, machine: &Machine, writer: &mut MemoryOut, text: &[u8]) -> Came
     requires { writer.old.failures ≡ 0 }
 {

@@ -1,5 +1,5 @@
 //! Calls that take memory, each made directly on small programs, and a line on what came of each. It is for a run in which one request for
-//! memory is refused: then the line of one call says that memory was wanted, what has to be unchanged is looked at, and the others are as ever.
+//! memory is refused: then the line of one call says that memory ran out, what has to be unchanged is looked at, and the others are as ever.
 #![tactic(auto)]
 
 mod came;

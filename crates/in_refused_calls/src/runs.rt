@@ -15,7 +15,7 @@ fn reached(alloc: Global, program: &Checked, limits: Limits, count: u64) -> Opti
     printed_after(alloc, &mut machine, count)
 }
 
-/// Whether a machine's net is the one after so many interactions. Nothing for want of memory.
+/// Whether a machine's net is the one after so many interactions. Nothing when out of memory.
 fn is_reached(
     alloc: Global,
     program: &Checked,

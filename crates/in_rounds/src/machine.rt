@@ -38,7 +38,7 @@ impl<'a> Machine<'a> {
     /// A machine with so many cells of each class, at the program's net. Its pairs are queued in the order of the places of their wires,
     /// which is this project's own choice, as are the sizes of cells.
     ///
-    /// Refused `Full` where the net has more agents of a class than cells, tested in the order of the classes, or for want of memory. No
+    /// Refused `Full` where the net has more agents of a class than cells, tested in the order of the classes, or when out of memory. No
     /// other call takes memory.
     pub fn new(alloc: Global, checked: &'a Checked, cells: u32) -> Result<Machine<'a>, StartFault>
         requires least { least_cells ≤ cells }

@@ -15,7 +15,7 @@ use std::thread::Threads;
 /// The net is one that the program reaches by as many interactions more.
 ///
 /// There is at least one part, and so many cells are free. The room is for the machine's numbers, and is used again. A phase is never refused:
-/// where memory is wanted there are fewer parts, and where a thread can't be started the caller does its part. It waits for its threads.
+/// where memory runs out there are fewer parts, and where a thread can't be started the caller does its part. It waits for its threads.
 pub fn phase<R: Threads>(
     rt: &R,
     alloc: Global,

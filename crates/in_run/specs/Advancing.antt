@@ -11,7 +11,7 @@ pub data RunsAnyhow : MachineParts → ℕ → MachineParts → Type 0 where
   then_any : (m n o : MachineParts) (k i : ℕ) → RunsAnyhow m k n → StepsAt n i o → RunsAnyhow m (suc k) o
   then_phase : (m n o : MachineParts) (k j : ℕ) → RunsAnyhow m k n → IsPhase n j o → RunsAnyhow m (j + k) o
 
--- some interactions more, within the limit, and of one worker first in, first out; or for want of memory none
+-- some interactions more, within the limit, and of one worker first in, first out; or none, when out of memory
 abbrev pub Advances : {E : Type 0} → ℕ → ℕ → ℕ → MachineParts → Result ℕ E → MachineParts → Type 0
 Advances workers limit k m (Ok j) n = RunsAnyhow m j n × (workers ≡ 1 → Runs m j n) × (1 ≤ j) × (j + k ≤ limit)
 Advances workers limit k m (Err e) n = n ≡ m

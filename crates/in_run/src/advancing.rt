@@ -52,7 +52,7 @@ fn wants_round(machine: &Machine, interactions: u64, pace: &mut Pace) -> bool {
     pays(machine)
 }
 
-/// A round of all workers, where an interaction is next. Says how many interactions it did; for want of memory it did none.
+/// A round of all workers, where an interaction is next. Says how many interactions it did; when out of memory it did none.
 fn by_round<R: Threads + Wait, G: Gate + Sync>(
     rt: &R,
     alloc: Global,
@@ -176,7 +176,7 @@ fn by_steps<R: Threads>(
 }
 
 /// The next interactions, where one is next: of several workers a round where it pays, a phase where it pays, else one interaction after another.
-/// Of one worker they are first in, first out. Says how many they were; for want of memory nothing is done.
+/// Of one worker they are first in, first out. Says how many they were; when out of memory nothing is done.
 #[inline(always)]
 pub(crate) fn advance<R: Threads + Wait, G: Gate + Sync>(
     rt: &R,

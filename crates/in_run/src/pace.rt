@@ -58,7 +58,7 @@ impl Pace {
         }
     }
 
-    /// Takes the room for phases out, which is made the first time; none for want of memory.
+    /// Takes the room for phases out, which is made the first time; none when out of memory.
     pub(crate) fn take_room(&mut self, alloc: Global, machine: &Machine) -> Option<Room> {
         match self.room.take() {
             Some(room) => Some(room),

@@ -24,7 +24,7 @@ pub struct Outcome<'a> {
     pub stop: Stop,
 }
 
-/// Why a run has no outcome: there is no machine, or memory was wanted after so many interactions, and then the machine stands there.
+/// Why a run has no outcome: there is no machine, or memory ran out after so many interactions, and then the machine stands there.
 #[derive(Drop)]
 pub enum RunFault<'a> {
     Start(StartFault),
@@ -39,7 +39,7 @@ pub enum RunFault<'a> {
 ///
 /// Before each interaction, in this order: where no pair is left the run stops as `Normal`; where it did as many interactions as are
 /// allowed, as `Limit`; where the first pair needs more cells of a class than are free, tested in the order of the classes, as `Full`. Refused where no
-/// machine starts, and for want of memory, and then the machine stands at the interactions counted so far.
+/// machine starts, and when out of memory, and then the machine stands at the interactions counted so far.
 ///
 /// Where it stops as `Normal`, it has come to the one end of its program: each run that ends, its interactions in any order, has as many
 /// interactions and the same text.

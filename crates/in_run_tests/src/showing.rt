@@ -1,4 +1,4 @@
-//! What a machine shows, and what a run comes to, as texts that tests compare. Nothing where the program is refused or memory is wanted.
+//! What a machine shows, and what a run comes to, as texts that tests compare. Nothing where the program is refused or memory runs out.
 ghost use Rattle.std.specs.Prelude.{◌≤◌};
 
 use in_check::Checked;

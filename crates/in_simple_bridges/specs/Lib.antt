@@ -3,4 +3,4 @@ pub mod Trees
 pub mod Spans
 pub mod Stars
 pub mod Growing
-pub mod Rings
+pub mod Cycles

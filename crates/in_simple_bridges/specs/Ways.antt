@@ -16,5 +16,5 @@ module _ (edges : List (ℕ × ℕ)) where
   Other e a b = (k : ℕ) × (k ≢ e) × HasTwoEnds k a b
 
   -- its ends are joined by a way without it
-  abbrev pub IsOnRing : (number : ℕ) → Type 0
-  IsOnRing e = (a : ℕ) × (b : ℕ) × (slice_get edges e ≡ Some (a, b)) × Way ℕ (Other e) a b
+  abbrev pub IsOnCycle : (number : ℕ) → Type 0
+  IsOnCycle e = (a : ℕ) × (b : ℕ) × (slice_get edges e ≡ Some (a, b)) × Way ℕ (Other e) a b

@@ -3,15 +3,15 @@
 //!
 //! Nothing here knows nets. `star` has the edges at each vertex as chains of links; `forest` searches with a stack: a vertex is reached
 //! when it is pushed, and numbered when it is popped. By these numbers the vertices below a vertex are an interval. `intervals` finds for
-//! each number where its interval ends, and the least and the greatest number that edges lead to from it. `rings` marks the edges: one
+//! each number where its interval ends, and the least and the greatest number that edges lead to from it. `cycles` marks the edges: one
 //! outside the forest is on a cycle, and a tree edge is on one where another edge leads out of the interval below it. No function is
 //! recursive, and no edge is walked twice.
 #![tactic(auto)]
 
+mod cycles;
 mod forest;
 mod intervals;
 pub mod laws;
-mod rings;
 mod star;
 
-pub use rings::on_rings;
+pub use cycles::on_cycles;

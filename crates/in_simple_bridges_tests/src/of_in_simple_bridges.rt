@@ -1,7 +1,7 @@
 ghost use Rattle.std.specs.Prelude.{OnOk};
 ghost use Rattle.in_simple_bridges.specs.Spans.{AreWithin};
 
-use in_simple_bridges::on_rings;
+use in_simple_bridges::on_cycles;
 use sqlite_items::Items;
 use std::alloc::{AllocError, Global};
 
@@ -24,17 +24,21 @@ fn add_within(
     within.push((one, other))
 }
 
-/// Which of these edges of a graph of so many vertices are on a ring. Edges between other vertices are left out.
-fn rings(alloc: Global, count: usize, edges: &[(usize, usize)]) -> Result<Items<bool>, AllocError> {
+/// Which of these edges of a graph of so many vertices are on a cycle. Edges between other vertices are left out.
+fn cycles(
+    alloc: Global,
+    count: usize,
+    edges: &[(usize, usize)],
+) -> Result<Items<bool>, AllocError> {
     let mut within = Items::new(alloc);
     for (one, other) in edges {
         add_within(&mut within, count, *one, *other)?;
     }
-    on_rings(alloc, count, &within)
+    on_cycles(alloc, count, &within)
 }
 
 #[test]
-fn rings_are_told_from_bridges(rt: HostRuntime) {
+fn cycles_are_told_from_bridges(rt: HostRuntime) {
     // a triangle, a bridge out of it, two edges side by side, a loop, and a bridge at the end
     let edges = [
         (0, 1),
@@ -47,6 +51,6 @@ fn rings_are_told_from_bridges(rt: HostRuntime) {
         (4, 5),
     ];
     let wanted = [true, true, true, false, true, true, true, false];
-    let found = rings(rt.alloc(), 6, &edges);
-    assert!(rt; matches!(&found, Ok(rings) if rings.as_slice() == wanted.as_slice()));
+    let found = cycles(rt.alloc(), 6, &edges);
+    assert!(rt; matches!(&found, Ok(cycles) if cycles.as_slice() == wanted.as_slice()));
 }

@@ -10,7 +10,7 @@ use Rattle.in_open_nets.specs.declared.derivations.Undone.{Undone}
 use Rattle.in_open_nets.specs.declared.derivations.Undone.TheVariants.{Stuck, Memory}
 use Rattle.in_open_nets.specs.Stuck.{IsUndone, IsStuckAt}
 
--- there are steps that build it exactly where it is derivable
+-- there are steps that build it exactly when it is derivable
 abbrev pub DerivationWhereDerivable : Type 0
 DerivationWhereDerivable = (o : OpenNet) → IsOpenNet o → ((steps : List Step) × IsDerivation o steps) ↔ IsDerivable o
 
@@ -21,7 +21,7 @@ abbrev pub Derives : OpenNet → Result Derivation Undone → Type 0
 Derives o (Ok d) = IsDerivation o d.steps × AreTaken o d.steps
 Derives o (Err u) = IsUndone o u
 
--- both are Ok with the same steps, or both are stuck at the same nodes; nothing is said where memory was wanted
+-- both are Ok with the same steps, or both are stuck at the same nodes; nothing is said where memory ran out
 abbrev pub AgreeOnDeriving : Result Derivation Undone → Result Derivation Undone → Type 0
 AgreeOnDeriving (Ok d) (Ok e) = d.steps ≡ e.steps
 AgreeOnDeriving (Ok d) (Err (Stuck s)) = ⊥

@@ -204,9 +204,9 @@ fn take(
 ) -> Result<(Option<Stuck>, Room), AllocError>
     requires work { IsWork wired.now (Derive list ∷ reverse work.old.tasks) }
     requires steps { IsUnderWay wired.now (Derive list ∷ reverse work.old.tasks) work.old.steps work.old.roots }
-    requires rings { trials.old.rings ≡ wired.now }
+    requires cycles { trials.old.cycles ≡ wired.now }
     requires room { HasRoomForNodes wired.now room }
-    ensures rings { trials.new.rings ≡ trials.old.rings }
+    ensures cycles { trials.new.cycles ≡ trials.old.cycles }
     ensures room { IfOk result (λ r. HasRoomForNodes wired.now r.1) }
     ensures found { IfOk result (λ r. MatchOption r.0
         (IsWork wired.now (reverse work.new.tasks) × AreFewer wired.now (Derive list ∷ reverse work.old.tasks) (reverse work.new.tasks) × IsUnderWay wired.now (reverse work.new.tasks) work.new.steps work.new.roots)
@@ -240,7 +240,7 @@ fn finish(
 ) -> Result<Option<Stuck>, AllocError>
     requires work { IsWork wired.now (reverse work.old.tasks) }
     requires steps { IsUnderWay wired.now (reverse work.old.tasks) work.old.steps work.old.roots }
-    requires rings { trials.old.rings ≡ wired.now }
+    requires cycles { trials.old.cycles ≡ wired.now }
     requires room { HasRoomForNodes wired.now room }
     ensures { IfOk result (λ found. MatchOption found (IsDerivation wired.now work.new.steps × AreTaken wired.now work.new.steps) (IsStuckNet wired.now)) }
 {
@@ -272,7 +272,7 @@ fn come_to(
     room: Room,
 ) -> Result<Outcome, AllocError>
     requires net { wired.now ≡ «open».now }
-    requires rings { trials.old.rings ≡ wired.now }
+    requires cycles { trials.old.cycles ≡ wired.now }
     requires room { HasRoomForNodes wired.now room }
     ensures { IfOk result (IsDerivingOutcome «open».now) }
 {
@@ -301,7 +301,7 @@ fn attempt(alloc: Global, open: &OpenNet) -> Result<Outcome, AllocError>
 }
 
 /// The steps that build the open net: the first node in order that splits it is taken out, then each component that is left is
-/// derived, and they are joined, in one order, which determines the steps. Refused with the first stuck sub-net in that order, or for want of memory. Lafont 1990 asks
+/// derived, and they are joined, in one order, which determines the steps. Refused with the first stuck sub-net in that order, or when out of memory. Lafont 1990 asks
 /// whether a net is semi-simple; the order is this project's own choice.
 pub fn derive(alloc: Global, open: &OpenNet) -> Result<Derivation, Undone>
     ensures steps { MatchResult result (λ derivation. IsDerivation «open».now derivation.steps) (IsUndone «open».now) }

@@ -86,7 +86,7 @@ pub record IsShape (s : Shape) : Type 0 where
 abbrev pub AreShapes : List Shape → Type 0
 AreShapes = AllByRecursion IsShape
 
--- ---- what the looking calls read
+-- ---- what the accessors read
 
 abbrev pub IsSymbol : Tables → ℕ → Type 0
 IsSymbol t s = s < length t.names
@@ -179,7 +179,7 @@ pub record IsTabled (source : Source) (t : Tables) : Type 0 where
   pub free : FreeKnown t.types source.net.free
   pub rules : AllByRecursion (IsRuleKnown t.names) source.rules
 
--- Ok exactly where the program has no fault of names, and then the tables are its declarations; else refused for the first fault
+-- Ok exactly when the program has no fault of names, and then the tables are its declarations; else refused for the first fault
 abbrev pub Tabulates : Source → Result Tables Fault → Type 0
 Tabulates source (Ok t) = IsTabled source t × IsFaultless source
 Tabulates source (Err (Refused r)) = IsFirstFault source r.code r.place × (r.other ≡ None)

@@ -2,12 +2,12 @@
 
 ghost use Rattle.in_symbols.specs.Laws.{MatchingIsSymmetric, MatchingTypesAreOpposite, TablesAreOnce};
 
-/// Of two symbols, the first matches the second exactly where the second matches the first.
+/// Of two symbols, the first matches the second exactly when the second matches the first.
 pub fn matching_is_symmetric()
     ensures { MatchingIsSymmetric }
 {}
 
-/// Two symbols match exactly where their principal types have one name and opposite signs.
+/// Two symbols match exactly when their principal types have one name and opposite signs.
 pub fn matching_types_are_opposite()
     ensures { MatchingTypesAreOpposite }
 {}

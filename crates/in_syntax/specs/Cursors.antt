@@ -72,7 +72,7 @@ IsMove s text move.End = chars text ≡ []
 IsMove s text (move.Past token t rest) = Goes s text (option_to_list token) t rest.now
 IsMove s text (move.Wrong code at) = Faults s (chars text) code at
 
--- the fault is this refusal, or want of memory
+-- the fault is this refusal, or running out of memory
 abbrev pub RefusedBy : (Refusal → Type 0) → Fault → Type 0
 RefusedBy P (Refused r) = P r
 RefusedBy P (Memory e) = Unit {0}

@@ -82,7 +82,7 @@ impl Refusal {
     }
 }
 
-/// A refusal, or want of memory.
+/// A refusal, or running out of memory.
 #[derive(Debug, Drop)]
 pub enum Fault {
     Refused(Refusal),

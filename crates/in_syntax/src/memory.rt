@@ -44,7 +44,7 @@ impl TextIn for MemoryIn<'_> {
     }
 }
 
-/// A writer that keeps what it takes. Its room is taken once, when it is made, so that no write wants memory: a write takes as much
+/// A writer that keeps what it takes. Its room is taken once, when it is made, so that no write allocates: a write takes as much
 /// as there is room for, and fails where it has some bytes and there is no room at all.
 #[derive(Drop)]
 pub struct MemoryOut {
@@ -55,7 +55,7 @@ pub struct MemoryOut {
 }
 
 impl MemoryOut {
-    /// A writer with room for so many bytes, which took none yet; or want of memory.
+    /// A writer with room for so many bytes, which took none yet; or running out of memory.
     pub fn new(alloc: Global, room: usize) -> Result<MemoryOut, AllocError>
         ensures { IfOk result (λ w. (length w.room.items ≡ room) × (w.taken ≡ 0) × (w.failures ≡ 0)) }
     {

@@ -20,7 +20,7 @@ use std::alloc::Global;
 ///   term at depth 201. A term of an equation or of a head has depth 1, an argument one more than its agent.
 ///
 /// The grammar is that of Lafont's language ("Interaction nets", 1990) in this project's own signs; the limits and the equations
-/// of rules are this project's own choice. Its other error is want of memory.
+/// of rules are this project's own choice. Its other error is running out of memory.
 ///
 /// Where the grammar refuses a program, `expected` has what one can go on with there.
 pub fn program(

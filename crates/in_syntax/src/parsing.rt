@@ -21,7 +21,7 @@ use std::alloc::Global;
 ///   `MAX_FREE_NAMES` + 1, or at the first name of a term at depth `MAX_DEPTH` + 1. A term of an equation or of a head
 ///   has depth 1, an argument one more than its agent. All limits are this project's own choice.
 ///
-/// Its other error is want of memory. The language is that of Lafont 1990: types, symbols with partitions, rules of two
+/// Its other error is running out of memory. The language is that of Lafont 1990: types, symbols with partitions, rules of two
 /// heads, agents and equations between terms, in signs of this project's own choice. So are the equations of a rule, which
 /// stand after its heads and the word `with`; elsewhere that word is a name.
 pub fn parse(alloc: Global, text: &[u8]) -> Result<Source, Fault>
@@ -36,7 +36,7 @@ pub fn parse(alloc: Global, text: &[u8]) -> Result<Source, Fault>
 
 /// The tree of a program's text, or the fault for which `parse` refuses it. Where the grammar refuses it, at a token or at its end,
 /// `expected` has what a program can go on with there: just the tokens that some program goes on with, and of which sort a name is. It has
-/// `Nothing` where the text is a program, and is as it was where `tokens` refuses the text; after want of memory it may be anything. The
+/// `Nothing` where the text is a program, and is as it was where `tokens` refuses the text; after running out of memory it may be anything. The
 /// sorts are this project's own choice.
 pub fn parse_expecting(alloc: Global, text: &[u8], expected: &mut Expected) -> Result<Source, Fault>
     ensures tree { Parses text.now result }

@@ -16,7 +16,7 @@ pub enum Sign {
     Plain(TokenKind),
 }
 
-/// The sign of a token of this text. Its only error is want of memory.
+/// The sign of a token of this text. Its only error is running out of memory.
 pub fn read_sign(alloc: Global, text: &[u8], token: Token) -> Result<Sign, AllocError>
     requires { HasText text.now token.kind token.place }
     ensures { IfOk result (λ s. s ≡ sign_of text.now token) }

@@ -18,7 +18,7 @@ impl Model for Text {
 }
 
 impl Text {
-    /// A copy of the text. Its only error is want of memory.
+    /// A copy of the text. Its only error is running out of memory.
     pub fn from_str(alloc: Global, text: &str) -> Result<Text, AllocError>
         ensures { IfOk result (λ t. t ≡ text.now) }
     {

@@ -75,7 +75,7 @@ impl Drop for SourceSymbol {
 }
 
 impl SourceSymbol {
-    /// The symbol with one more class, at the end. Its only error is want of memory.
+    /// The symbol with one more class, at the end. Its only error is running out of memory.
     pub(crate) fn with_class(mut self, class: SourceClass) -> Result<SourceSymbol, AllocError>
         ensures { IfOk result (λ t. t ≡ with_class self class) }
     {
@@ -114,7 +114,7 @@ impl SourceRule {
         }
     }
 
-    /// The rule with one more equation, at the end. Its only error is want of memory.
+    /// The rule with one more equation, at the end. Its only error is running out of memory.
     pub(crate) fn with_equation(mut self, equation: Equation) -> Result<SourceRule, AllocError>
         ensures { IfOk result (λ t. t ≡ rule_with_equation self equation) }
     {
@@ -147,7 +147,7 @@ impl Head {
         }
     }
 
-    /// The head with one more term, at the end. Its only error is want of memory.
+    /// The head with one more term, at the end. Its only error is running out of memory.
     pub(crate) fn with_term(mut self, term: Term) -> Result<Head, AllocError>
         ensures { IfOk result (λ h. h ≡ with_term self term) }
     {
@@ -174,7 +174,7 @@ impl Term {
         }
     }
 
-    /// The term with one more argument, at the end. Its only error is want of memory.
+    /// The term with one more argument, at the end. Its only error is running out of memory.
     pub(crate) fn with_argument(mut self, argument: Term) -> Result<Term, AllocError>
         ensures { IfOk result (λ t. t ≡ with_argument self argument) }
     {
@@ -215,7 +215,7 @@ impl Drop for SourceNet {
 }
 
 impl SourceNet {
-    /// The net with one more equation, at the end. Its only error is want of memory.
+    /// The net with one more equation, at the end. Its only error is running out of memory.
     pub(crate) fn with_equation(mut self, equation: Equation) -> Result<SourceNet, AllocError>
         ensures { IfOk result (λ t. t ≡ with_equation self equation) }
     {

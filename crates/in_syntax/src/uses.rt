@@ -73,7 +73,7 @@ fn list_equations(listed: &mut Listed, equations: &[Equation]) -> Result<(), All
 }
 
 /// Where the names of a rule stand, in the order of the text: of its first head, of its second one, and of its equations. The word
-/// before its equations is no name. The only error is want of memory.
+/// before its equations is no name. The only error is running out of memory.
 pub fn names_of_rule(alloc: Global, rule: &SourceRule) -> Result<Items<NameUse>, AllocError>
     ensures { IfOk result (λ uses. uses ≡ uses_of_rule rule.now) }
 {
@@ -87,7 +87,7 @@ pub fn names_of_rule(alloc: Global, rule: &SourceRule) -> Result<Items<NameUse>,
 }
 
 /// Where the names of the net's equations stand, in the order of the text; those that declare its free ends are not among them. The
-/// only error is want of memory.
+/// only error is running out of memory.
 pub fn names_of_body(alloc: Global, net: &SourceNet) -> Result<Items<NameUse>, AllocError>
     ensures { IfOk result (λ uses. uses ≡ uses_of_body net.now) }
 {

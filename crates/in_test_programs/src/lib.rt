@@ -11,7 +11,7 @@ use std::alloc::Global;
 
 /// A question about an accepted program.
 pub trait Look<A> {
-    /// Its answer; nothing for want of memory.
+    /// Its answer; nothing when out of memory.
     fn look(&self, alloc: Global, program: &Checked) -> Option<A>;
 }
 
@@ -20,7 +20,7 @@ fn answer(alloc: Global, text: &str) -> Result<Checked, Fault> {
     check(alloc, text.as_bytes())
 }
 
-/// What a look at the program of a text finds; nothing where the text is refused, or for want of memory. The text comes in parts.
+/// What a look at the program of a text finds; nothing where the text is refused, or when out of memory. The text comes in parts.
 pub fn seen<A, L: Look<A>>(alloc: Global, parts: &[&str], look: &L) -> Option<A> {
     let text = joined(alloc, parts).ok()?;
     seen_in(alloc, answer(alloc, text.as_str()), look)
@@ -42,7 +42,7 @@ pub fn seen_in<A, L: Look<A>>(
     }
 }
 
-/// The refusal of a text, which comes in parts; nothing where it is accepted, or for want of memory.
+/// The refusal of a text, which comes in parts; nothing where it is accepted, or when out of memory.
 pub fn refusal_of(alloc: Global, parts: &[&str]) -> Option<Refusal> {
     let text = joined(alloc, parts).ok()?;
     refusal_in(answer(alloc, text.as_str()))

@@ -39,7 +39,7 @@ pub record IsMistyped (t : Tables) (n : Parts) (r : Refusal) : Type 0 where
   pub place : wire_place_in n wire ≡ Some r.place
   pub other : r.other ≡ None
 
--- Ok exactly where each wire fits, else the first that doesn't
+-- Ok exactly when each wire fits, else the first that doesn't
 abbrev pub Types : Tables → Parts → Result (Unit {0}) Refusal → Type 0
 Types t n (Ok u) = IsTyped t n
 Types t n (Err r) = IsMistyped t n r
@@ -56,7 +56,7 @@ pub data IsRuleMistyped (t : Tables) (p : RuleParts) (r : Refusal) : Type 0 wher
   of_heads : (HeadsMatch t p → ⊥) → r ≡ record { code = E11; place = place_of_head p 1; other = None } → IsRuleMistyped t p r
   of_wire : HeadsMatch t p → IsMistyped t p.member r → IsRuleMistyped t p r
 
--- Ok exactly where the heads' principal types are opposite, and each wire of the right member fits
+-- Ok exactly when the heads' principal types are opposite, and each wire of the right member fits
 abbrev pub TypesRule : Tables → RuleParts → Result (Unit {0}) Refusal → Type 0
 TypesRule t p (Ok u) = HeadsMatch t p × IsTyped t p.member
 TypesRule t p (Err r) = IsRuleMistyped t p r

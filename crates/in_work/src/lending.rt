@@ -81,7 +81,7 @@ pub(crate) fn parts<'t>(
     Ok(parts)
 }
 
-/// Each worker gets its share of the cells. The list for them is empty and has room for all, so that no memory is wanted.
+/// Each worker gets its share of the cells. The list for them is empty and has room for all, so that no memory is taken.
 pub(crate) fn lend<'t>(
     mut parts: Vec<Part<'t>>,
     mut lent: Vec<Part<'t>>,

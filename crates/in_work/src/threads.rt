@@ -37,7 +37,7 @@ pub(crate) enum Begun<P, W: Work<P>> {
 }
 
 /// Lets each of the others be worked on in a thread of its own, or here where none can be started, and works on one part here. Says how many
-/// threads there were. The two lists have the room that is asked for, so that no memory is wanted once work has begun.
+/// threads there were. The two lists have the room that is asked for, so that no memory is taken once work has begun.
 pub(crate) fn all<P: Send + Drop, W: Work<P> + Sync, R: Threads + Wait>(
     rt: &R,
     work: &W,

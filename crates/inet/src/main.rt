@@ -25,7 +25,7 @@ use std::sync::Wait;
 use std::thread::Threads;
 use std::{env, io};
 
-/// Why the program's words can't be had: want of memory, or a word that is no text.
+/// Why the program's words can't be had: running out of memory, or a word that is not valid UTF-8.
 fn unreadable(alloc: Global, error: Error) -> Usage {
     let told = match error.kind() {
         ErrorKind::OutOfMemory => return Usage::Memory,
@@ -51,14 +51,14 @@ fn action_asked(alloc: Global, words: io::Result<Args>) -> Result<Action, Usage>
     action_of(alloc, words.as_slice())
 }
 
-/// Tells what is wrong with a text that is refused, in words for people. Where memory is wanted, or it can't be told, nothing is added.
+/// Tells what is wrong with a text that is refused, in words for people. Where memory runs out, or it can't be told, nothing is added.
 fn tell_diagnosis<E: Write>(alloc: Global, text: &[u8], errors: &mut E) {
     if let Ok(Some(words)) = diagnosis(alloc, text) {
         let _ = errors.write_all(words.as_bytes());
     }
 }
 
-/// Tells what failed, and why. Where memory is wanted, or it can't be told, nothing is added.
+/// Tells what failed, and why. Where memory runs out, or it can't be told, nothing is added.
 fn tell_failure<E: Write>(alloc: Global, what: &str, why: Error, errors: &mut E) {
     if let Ok(words) = format!(in alloc; "error: {what}: {why}\n") {
         let _ = errors.write_all(words.as_bytes());

@@ -43,7 +43,7 @@ fn read_text<R: Read>(alloc: Global, reader: &mut R) -> io::Result<Vec<u8>> {
     Ok(text)
 }
 
-/// Tells what failed, and why. Where memory is wanted, or it can't be told, nothing is added.
+/// Tells what failed, and why. Where memory runs out, or it can't be told, nothing is added.
 fn tell_failure<E: Write>(alloc: Global, what: &str, why: Error, errors: &mut E) {
     if let Ok(words) = format!(in alloc; "error: {what}: {why}\n") {
         let _ = errors.write_all(words.as_bytes());
@@ -60,7 +60,7 @@ fn tell<W: TextOut>(writer: &mut W, bytes: &[u8], status: Status) -> Status
     }
 }
 
-/// Writes the line of a text's program; where the text is refused, what `inet check` writes on it; or that memory is wanted.
+/// Writes the line of a text's program; where the text is refused, what `inet check` writes on it; or that memory ran out.
 fn tell_program<W: TextOut>(alloc: Global, writer: &mut W, text: &[u8]) -> Status
     requires { (W.device writer.old).failures < 2 ^ 64 - 1 }
 {

@@ -1,4 +1,4 @@
--- The boundary ends that a ring after an interaction passes are different: from each of them one path leads on, and one back.
+-- The boundary ends that a cycle after an interaction passes are different: from each of them one path leads on, and one back.
 use Rattle.std.proofs.Common.{◌≡◌, ◌≢◌, ◌⊎◌, ◌<◌, ℕ, suc, List, [], ◌∷◌, length, sym, subst, ap, inl, inr, arith}
 use Rattle.std.specs.List.{AllByRecursion}
 use Rattle.in_base.specs.Graphs.{Passage, entered, left, AreApart}
@@ -8,7 +8,7 @@ use Rattle.in_base.proofs.Circuits.{Walk, AreSeparate, Circuit}
 use Rattle.in_interaction.proofs.Interactions.Places.{Place, Boundary, Path, Stays, side_of, IsJoined}
 use Rattle.in_interaction.proofs.Interactions.Paths.{AreWires, other_twice, one_path}
 use Rattle.in_interaction.proofs.Interactions.Expand.{place, after, bounds}
-use Rattle.in_interaction.proofs.Interactions.Rings.{different_join}
+use Rattle.in_interaction.proofs.Interactions.Cycles.{different_join}
 use Rattle.in_base.proofs.Each.{all_map, all_append}
 
 module _ {A B : Type 0} (wire : Side → Place A B → Place A B → Type 0) (wires : AreWires wire) where
@@ -59,7 +59,7 @@ module _ {A B : Type 0} (wire : Side → Place A B → Place A B → Type 0) (wi
       elim (meet u v u v (suc (length es)) (length es) e f same hv hu hv here h) [ inl r ↦ shorter es h.on r.1 h.fewer | inr r ↦ d r ] in
       (all_map (Between u v (length es)) (λ f. e ≢ f) apart es (passed (other s) (Boundary e) es u v w.1 next), once (other s) (Boundary e) es u v hu hv d w.1 next)
 
-  -- ---- over the walk of a ring
+  -- ---- over the walk of a cycle
 
   module _ (class : A ⊎ B → ℕ → ℕ) (E L : (A ⊎ B) × ℕ → Type 0) (separate : AreSeparate (after wire class) E L) where
     stays : (v : (A ⊎ B) × ℕ) → Stays (place {A = A} {B = B} v)
@@ -133,7 +133,7 @@ module _ {A B : Type 0} (wire : Side → Place A B → Place A B → Type 0) (wi
     entered_all u v [] w = tt
     entered_all u v (p ∷ ps) w = (w.1, entered_all (left p) v ps w.3)
 
-    -- a ring through different agents passes no boundary end twice
+    -- a cycle through different agents passes no boundary end twice
     pub ends_apart : (c : Circuit (after wire class) E L) → AreApart (c.first ∷ c.rest) → AreDifferent (bounds wire wires class E L (left c.first) (entered c.first) c.rest c.closed)
     ends_apart c apart =
         different (left c.first) (entered c.first) c.rest c.leaves c.enters apart.1 (all_map (λ q. c.first.node ≢ q.node) (λ q. q.node ≢ c.first.node) (λ q d h. d (sym h)) c.rest apart.0)

@@ -1,4 +1,4 @@
--- A ring after an interaction, laid out wire by wire, is cut into pieces at its boundary ends.
+-- A cycle after an interaction, laid out wire by wire, is cut into pieces at its boundary ends.
 use Rattle.std.proofs.Common.{◌≡◌, ◌≢◌, ◌⊎◌, ℕ, Some, List, [], ◌∷◌, ◌++◌, map, refl, sym, subst, ap, inl, inr, ◌∙◌, append-nil}
 use Rattle.std.specs.List.{AllByRecursion}
 use Rattle.std.proofs.lemmas.List.{map-append}
@@ -6,12 +6,12 @@ use Rattle.in_base.specs.Graphs.{Passage, Leads, IsCrossing, AreApart}
 use Rattle.in_net.specs.Graphs.{graph_of}
 use Rattle.in_net.specs.Nets.{Port, Free, Signature, AreClasses, Net, IsNet}
 use Rattle.in_net.specs.Interactions.{Redex, IsRedex, Side, Outer, Inner, other, open_port, open_member}
-use Rattle.in_interaction.specs.Pieces.{Piece, Outside, Inside, begins, lies, IsPiece, passages_of, FollowInTurn, AreDifferent, PieceRing, IsMadeOf, wholly_outside, wholly_inside, of_pieces, end_port, renamed, name_after}
+use Rattle.in_interaction.specs.Pieces.{Piece, Outside, Inside, begins, lies, IsPiece, passages_of, FollowInTurn, AreDifferent, PieceCycle, IsMadeOf, wholly_outside, wholly_inside, of_pieces, end_port, renamed, name_after}
 use Rattle.in_base.proofs.Circuits.{apart_before}
 use Rattle.in_interaction.proofs.Interactions.AtNets.{sides, are_sides}
 use Rattle.in_interaction.proofs.Interactions.Compress.{outer_port, inner_port, IsOn, outer_inner}
 use Rattle.in_interaction.proofs.Interactions.Places.{Place, Old, New, Boundary, wires}
-use Rattle.in_interaction.proofs.Interactions.Rings.{apart_turned, different_turned, apart_unnamed}
+use Rattle.in_interaction.proofs.Interactions.Cycles.{apart_turned, different_turned, apart_unnamed}
 use Rattle.in_interaction.proofs.Interactions.Stops.{tour_to, tour_join, agents_join, boundary_join}
 use Rattle.in_interaction.proofs.Interactions.Tours.{Stop, At_old, At_new, Through, enters, leaves, Passes, AnyPlace, IsCrossingStop, LaidOut, agents_of, boundary_of}
 use Rattle.in_base.proofs.Each.{all_append, all_left, all_right}
@@ -41,7 +41,7 @@ find_end (At_new y i j ∷ ss) = elim (find_end ss) [
   | inr h ↦ inr (tt, h)
 ]
 
--- a ring of stops, begun elsewhere
+-- a cycle of stops, begun elsewhere
 agents_turned : {A B : Type 0} (xs ys : List (Stop A B)) → AreApart (agents_of (xs ++ ys)) → AreApart (agents_of (ys ++ xs))
 agents_turned xs ys h = subst AreApart (sym (agents_join ys xs)) (apart_turned (agents_of xs) (agents_of ys) (subst AreApart (agents_join xs ys) h))
 
@@ -152,9 +152,9 @@ module _ {A B : Type 0} (sig : Signature) (classed : AreClasses sig) (n : Net A)
   cut (Through Outer b ∷ ss) Inner p t e on h w = absurd (outer_inner (sym w.0.0))
   cut (Through Inner b ∷ ss) Outer p t e on h w = absurd (outer_inner w.0.0)
 
-  -- a ring that begins at a boundary end
-  ring : (s : Side) (e : ℕ) (ss : List (Stop A B)) → IsCut ss → AreDifferent (e ∷ boundary_of ss) → Passes sig n x (other s, Boundary e) ss (s, Boundary e) → (r : PieceRing sig n x) × (agents_of ss ≡ passages_of (r.first ∷ r.rest))
-  ring Outer e ss h d w =
+  -- a cycle that begins at a boundary end
+  cycle : (s : Side) (e : ℕ) (ss : List (Stop A B)) → IsCut ss → AreDifferent (e ∷ boundary_of ss) → Passes sig n x (other s, Boundary e) ss (s, Boundary e) → (r : PieceCycle sig n x) × (agents_of ss ≡ passages_of (r.first ∷ r.rest))
+  cycle Outer e ss h d w =
       let r = cut ss Inner (Boundary e) Outer e tt h w in (
         record {
           first = Inside e r.here r.to;
@@ -166,7 +166,7 @@ module _ {A B : Type 0} (sig : Signature) (classed : AreClasses sig) (n : Net A)
         },
         r.agents,
       )
-  ring Inner e ss h d w =
+  cycle Inner e ss h d w =
       let r = cut ss Outer (Boundary e) Inner e tt h w in (
         record {
           first = Outside e r.here r.to;
@@ -231,7 +231,7 @@ module _ {A B : Type 0} (sig : Signature) (classed : AreClasses sig) (n : Net A)
         (sym (named_in (p ∷ r.0)) ∙ sym (ap names all) ∙ same)
     whole (Through s e) ss a h apart w same = absurd a.0
 
-    -- a ring of stops, begun at one of its boundary ends
+    -- a cycle of stops, begun at one of its boundary ends
     turned : (l : LaidOut sig n x) → FirstEnd l.rest → names (agents_of (l.first ∷ l.rest)) ≡ circle → IsMadeOf sig n x name circle
     turned l f same =
         let front = l.first ∷ f.before in
@@ -241,7 +241,7 @@ module _ {A B : Type 0} (sig : Signature) (classed : AreClasses sig) (n : Net A)
         let crossing = crossed front f.after (Through f.side f.end) (subst (AllByRecursion (IsCrossingStop sig n x)) stops l.crossing) in
         let apart = agents_turned front (Through f.side f.end ∷ f.after) (subst (λ z. AreApart (agents_of z)) stops l.agents) in
         let different = ends_turned front (Through f.side f.end ∷ f.after) (subst (λ z. AreDifferent (boundary_of z)) stops l.boundary) in
-        let r = ring f.side f.end (f.after ++ front) (crossing, apart) different w in
+        let r = cycle f.side f.end (f.after ++ front) (crossing, apart) different w in
         of_pieces r.0 (
           names (agents_of front),
           names (agents_of f.after),
@@ -256,7 +256,7 @@ module _ {A B : Type 0} (sig : Signature) (classed : AreClasses sig) (n : Net A)
     at_end : (s : Side) (e : ℕ) (l : LaidOut sig n x) → l.first ≡ Through s e → names (agents_of (l.first ∷ l.rest)) ≡ circle → IsMadeOf sig n x name circle
     at_end s e l is same =
         let stops : l.first ∷ l.rest ≡ Through s e ∷ l.rest = ap (λ q. q ∷ l.rest) is in
-        let r = ring s e l.rest (l.crossing.1, subst AreApart (ap agents_of stops) l.agents) (subst AreDifferent (ap boundary_of stops) l.boundary) (subst (λ q. Passes sig n x (leaves q) l.rest (enters q)) is l.closed) in
+        let r = cycle s e l.rest (l.crossing.1, subst AreApart (ap agents_of stops) l.agents) (subst AreDifferent (ap boundary_of stops) l.boundary) (subst (λ q. Passes sig n x (leaves q) l.rest (enters q)) is l.closed) in
         of_pieces r.0 ([], circle, refl, ap names (sym r.1) ∙ sym (ap names (ap agents_of stops)) ∙ same ∙ sym (append-nil circle))
 
     pub falls_apart : (l : LaidOut sig n x) → names (agents_of (l.first ∷ l.rest)) ≡ circle → IsMadeOf sig n x name circle

@@ -15,7 +15,7 @@ use Rattle.std.specs.List.{AllByRecursion}
 use Rattle.in_interaction.proofs.Interactions.Tours.{Stop, At_old, At_new, Through, enters, leaves, Tour, IsCrossingStop, Passes, LaidOut, agents_of}
 use Rattle.in_interaction.specs.Pieces.{AreDifferent, renamed}
 use Rattle.in_interaction.proofs.Interactions.EndsApart.{ends_apart}
-use Rattle.in_interaction.proofs.Interactions.Rings.{apart_unnamed}
+use Rattle.in_interaction.proofs.Interactions.Cycles.{apart_unnamed}
 use Rattle.in_interaction.proofs.Interactions.Stops.{AtPlace}
 use Rattle.in_interaction.proofs.Interactions.Expand.{place, after, at_place, closed_tour, tour_agents, tour_bounds}
 use Rattle.in_interaction.proofs.Interactions.AtNets.{are_wires, sides}

@@ -11,8 +11,8 @@ use Rattle.in_interaction.proofs.Interactions.ByPlaces.{by_places}
 use Rattle.in_interaction.proofs.Interactions.FallsApart.{falls_apart}
 use Rattle.in_interaction.proofs.Interactions.LaidOut.{laid_out}
 use Rattle.in_interaction.proofs.Interactions.OuterPieces.{is_passage}
-use Rattle.in_interaction.proofs.Interactions.RingWalks.{crossing_in, closed_walk}
-use Rattle.in_interaction.proofs.Interactions.Rings.{apart_named}
+use Rattle.in_interaction.proofs.Interactions.CycleWalks.{crossing_in, closed_walk}
+use Rattle.in_interaction.proofs.Interactions.Cycles.{apart_named}
 use Rattle.in_interaction.proofs.Interactions.Rounds.{shortens}
 
 -- a crossing circle of the right member is one of the open right member

@@ -6,7 +6,7 @@ use Rattle.std.proofs.lemmas.Bool.{cases_eq, cases_lt, cases_order, false≢true
 use Rattle.std.proofs.lemmas.List.{length-set}
 use Rattle.std.proofs.lemmas.Option.{slice_get_within, slice_get-get_or}
 use Rattle.in_simple_bridges.specs.Spans.{AreWithin}
-use Rattle.in_simple_bridges.specs.Rings.{AreRings}
+use Rattle.in_simple_bridges.specs.Cycles.{AreCycles}
 use Rattle.in_simple_bridges.proofs.Public.{pair_same}
 use Rattle.in_base.proofs.Places.{kept_at, last_at, more_at}
 use Rattle.in_open_nets.specs.declared.class_graphs.HubNumbers.{HubNumbers}
@@ -16,7 +16,7 @@ use Rattle.in_open_nets.specs.declared.open_nets.OpenPoint.TheVariants.{Port}
 use Rattle.in_open_nets.specs.Constructions.{IsIn}
 use Rattle.in_open_nets.specs.OpenNets.{OpenNet, IsOpenNet, IsWire, class_in, open_graph}
 use Rattle.in_open_nets.specs.Members.{nodes_in}
-use Rattle.in_open_nets.specs.ClassGraphs.{Vertex, Hub, Class, HasClass, IsVertex, IsClassGraph, HubEdgesAreOffRings, width_of}
+use Rattle.in_open_nets.specs.ClassGraphs.{Vertex, Hub, Class, HasClass, IsVertex, IsClassGraph, HubEdgesAreOffCycles, width_of}
 use Rattle.in_open_nets.specs.ClassEdges.{no_hub, vertex_in, hub_edge_in, HaveNumbers, AreHubEdges, AddsHubEdges, ComesFirst, IsEdgeOf, IsPast, ListsNone, AreEdges}
 use Rattle.in_open_nets.specs.Stuck.{ports_of}
 use Rattle.in_open_nets.proofs.Built.Balance.{wire_turn}
@@ -262,18 +262,18 @@ module _ (o : OpenNet) (net : IsOpenNet o) (part : List Bool) (all : length part
           (omega arith, omega arith)
     ]
 
--- ---- the marks of the rings
+-- ---- the marks of the cycles
 
-module _ (o : OpenNet) (part : List Bool) (g : ClassGraph) (graph : IsClassGraph (open_graph o) (HasClass o) (nodes_in part) (vertex_in g.hubs) (hub_edge_in g.hubs) g.edges) (rings : List Bool) (r : AreRings g.edges (length g.edges) rings) (n : ℕ) (here : IsIn n (nodes_in part)) where
-  pub hub_edge_small : (c : ℕ) → HasClass o n c → hub_edge_in g.hubs n c < length rings
+module _ (o : OpenNet) (part : List Bool) (g : ClassGraph) (graph : IsClassGraph (open_graph o) (HasClass o) (nodes_in part) (vertex_in g.hubs) (hub_edge_in g.hubs) g.edges) (cycles : List Bool) (r : AreCycles g.edges (length g.edges) cycles) (n : ℕ) (here : IsIn n (nodes_in part)) where
+  pub hub_edge_small : (c : ℕ) → HasClass o n c → hub_edge_in g.hubs n c < length cycles
   hub_edge_small c h =
       let l = slice_get_within g.edges (hub_edge_in g.hubs n c) (vertex_in g.hubs (Hub n), vertex_in g.hubs (Class n c)) (graph.hub n c here h) in
       let s = r.0 in
       omega arith
 
-  pub off_rings : ((c : ℕ) → HasClass o n c → slice_index_or rings (hub_edge_in g.hubs n c) false ≡ false) ↔ HubEdgesAreOffRings (open_graph o) (HasClass o) (hub_edge_in g.hubs) g.edges n
-  off_rings =
+  pub off_cycles : ((c : ℕ) → HasClass o n c → slice_index_or cycles (hub_edge_in g.hubs n c) false ≡ false) ↔ HubEdgesAreOffCycles (open_graph o) (HasClass o) (hub_edge_in g.hubs) g.edges n
+  off_cycles =
       let at : (c : ℕ) → HasClass o n c → hub_edge_in g.hubs n c < length g.edges = λ c h. let l = hub_edge_small c h in let s = r.0 in omega arith in (
-        (λ off c h ring. false≢true (sym (off c h) ∙ (r.1 (hub_edge_in g.hubs n c) (at c h)).1 ring)),
-        λ none c h. false_from_ne_true (slice_index_or rings (hub_edge_in g.hubs n c) false) (λ t. none c h ((r.1 (hub_edge_in g.hubs n c) (at c h)).0 t)),
+        (λ off c h cycle. false≢true (sym (off c h) ∙ (r.1 (hub_edge_in g.hubs n c) (at c h)).1 cycle)),
+        λ none c h. false_from_ne_true (slice_index_or cycles (hub_edge_in g.hubs n c) false) (λ t. none c h ((r.1 (hub_edge_in g.hubs n c) (at c h)).0 t)),
       )

@@ -2,12 +2,12 @@
 use Rattle.std.proofs.Common.{◌≡◌, ◌≢◌, ◌⊎◌, ◌↔◌, ◌<◌, ◌≤◌, ℕ, suc, Bool, List, Option, Some, None, IsSomeAnd, length, get_or, arith, refl, sym, subst, ap, inl, inr, ◌∙◌}
 use Rattle.std.specs.Prelude.{slice_get}
 use Rattle.std.proofs.lemmas.Bool.{cases_eq}
-use Rattle.in_simple_bridges.specs.Ways.{Way, done, along, HasTwoEnds, Other, IsOnRing}
+use Rattle.in_simple_bridges.specs.Ways.{Way, done, along, HasTwoEnds, Other, IsOnCycle}
 use Rattle.in_simple_bridges.proofs.Public.{way_back, joins_same, other_back, pair_same}
 use Rattle.in_base.specs.Graphs.{Graph}
 use Rattle.in_open_nets.specs.Constructions.{IsIn}
 use Rattle.in_open_nets.specs.Splitting.{SplitsAt}
-use Rattle.in_open_nets.specs.ClassGraphs.{Vertex, Hub, Class, AreNodeClasses, OtherEdge, IsVertex, IsClassGraph, HubEdgesAreBridges, HubEdgesAreOffRings, HasClass, width_at}
+use Rattle.in_open_nets.specs.ClassGraphs.{Vertex, Hub, Class, AreNodeClasses, OtherEdge, IsVertex, IsClassGraph, HubEdgesAreBridges, HubEdgesAreOffCycles, HasClass, width_at}
 use Rattle.in_open_nets.specs.declared.open_nets.Node.{Node}
 use Rattle.in_open_nets.specs.declared.open_nets.Node.TheVariants.{AgentNode, ClassNode}
 use Rattle.in_open_nets.specs.declared.open_nets.OpenNode.{OpenNode}
@@ -98,19 +98,19 @@ module _ (g : Graph) (Has : g.Node → ℕ → Type 0) (has : AreNodeClasses g H
       let t = edge_back u a w hu eu o in
       along u t.0 v t.3 (way_back_by w b r t.0 v t.1 hv t.2 ev)
 
-  pub ring_of : Way (Vertex g.Node) E (Class n x) (Hub n) → IsOnRing es (hub_edge n x)
-  ring_of w = (number (Hub n), number (Class n x), c.hub n x here hx, way_back ℕ O (other_back es (hub_edge n x)) (number (Class n x)) (number (Hub n)) (way_forth (Class n x) (Hub n) w))
+  pub cycle_of : Way (Vertex g.Node) E (Class n x) (Hub n) → IsOnCycle es (hub_edge n x)
+  cycle_of w = (number (Hub n), number (Class n x), c.hub n x here hx, way_back ℕ O (other_back es (hub_edge n x)) (number (Class n x)) (number (Hub n)) (way_forth (Class n x) (Hub n) w))
 
-  pub of_ring : IsOnRing es (hub_edge n x) → Way (Vertex g.Node) E (Class n x) (Hub n)
-  of_ring r =
+  pub of_cycle : IsOnCycle es (hub_edge n x) → Way (Vertex g.Node) E (Class n x) (Hub n)
+  of_cycle r =
       let p = pair_same (slice_get es (hub_edge n x)) r.0 r.1 (number (Hub n)) (number (Class n x)) r.2 (c.hub n x here hx) in
       way_back_by r.1 r.0 (way_back ℕ O (other_back es (hub_edge n x)) r.0 r.1 r.3) (Class n x) (Hub n) (here, hx) here (sym p.1) (sym p.0)
 
-pub splits_off_rings : (g : Graph) (Has : g.Node → ℕ → Type 0) → AreNodeClasses g Has → ((m n : g.Node) → (m ≡ n) ⊎ (m ≡ n → ⊥)) → (back : (u v : g.Node × ℕ) → g.Wire u v → g.Wire v u) → (s : g.Node → Bool) (number : Vertex g.Node → ℕ) (hub_edge : g.Node → ℕ → ℕ) (es : List (ℕ × ℕ)) → IsClassGraph g Has s number hub_edge es → (n : g.Node) → IsIn n s → SplitsAt g n s ↔ HubEdgesAreOffRings g Has hub_edge es n
-splits_off_rings g Has has same back s number hub_edge es c n here =
+pub splits_off_cycles : (g : Graph) (Has : g.Node → ℕ → Type 0) → AreNodeClasses g Has → ((m n : g.Node) → (m ≡ n) ⊎ (m ≡ n → ⊥)) → (back : (u v : g.Node × ℕ) → g.Wire u v → g.Wire v u) → (s : g.Node → Bool) (number : Vertex g.Node → ℕ) (hub_edge : g.Node → ℕ → ℕ) (es : List (ℕ × ℕ)) → IsClassGraph g Has s number hub_edge es → (n : g.Node) → IsIn n s → SplitsAt g n s ↔ HubEdgesAreOffCycles g Has hub_edge es n
+splits_off_cycles g Has has same back s number hub_edge es c n here =
     let law = splits_by_bridges g Has has same back n s here in (
-      (λ h x hx r. law.0 h x hx (of_ring g Has has back s number hub_edge es c n x here hx r)),
-      λ none. law.1 (λ x hx w. none x hx (ring_of g Has has back s number hub_edge es c n x here hx w)),
+      (λ h x hx r. law.0 h x hx (of_cycle g Has has back s number hub_edge es c n x here hx r)),
+      λ none. law.1 (λ x hx w. none x hx (cycle_of g Has has back s number hub_edge es c n x here hx w)),
     )
 
 -- ---- of an open net
@@ -136,5 +136,5 @@ module _ (o : OpenNet) (net : IsOpenNet o) where
   pub net_by_bridges : (n : ℕ) (s : ℕ → Bool) → IsIn n s → SplitsAt (open_graph o) n s ↔ HubEdgesAreBridges (open_graph o) (HasClass o) n s
   net_by_bridges n s here = splits_by_bridges (open_graph o) (HasClass o) has_class cases_eq wire_back n s here
 
-  pub net_off_rings : (s : ℕ → Bool) (number : Vertex ℕ → ℕ) (hub_edge : ℕ → ℕ → ℕ) (es : List (ℕ × ℕ)) → IsClassGraph (open_graph o) (HasClass o) s number hub_edge es → (n : ℕ) → IsIn n s → SplitsAt (open_graph o) n s ↔ HubEdgesAreOffRings (open_graph o) (HasClass o) hub_edge es n
-  net_off_rings s number hub_edge es c n here = splits_off_rings (open_graph o) (HasClass o) has_class cases_eq wire_back s number hub_edge es c n here
+  pub net_off_cycles : (s : ℕ → Bool) (number : Vertex ℕ → ℕ) (hub_edge : ℕ → ℕ → ℕ) (es : List (ℕ × ℕ)) → IsClassGraph (open_graph o) (HasClass o) s number hub_edge es → (n : ℕ) → IsIn n s → SplitsAt (open_graph o) n s ↔ HubEdgesAreOffCycles (open_graph o) (HasClass o) hub_edge es n
+  net_off_cycles s number hub_edge es c n here = splits_off_cycles (open_graph o) (HasClass o) has_class cases_eq wire_back s number hub_edge es c n here

@@ -1,4 +1,4 @@
--- A node splits a set exactly where each of its hub edges is a bridge.
+-- A node splits a set exactly when each of its hub edges is a bridge.
 use Rattle.std.proofs.Common.{◌≡◌, ◌≢◌, ◌⊎◌, ◌↔◌, ℕ, Bool, refl, sym, subst, ap, inl, inr, ◌∙◌}
 use Rattle.std.proofs.lemmas.Bool.{cases_eq}
 use Rattle.in_simple_bridges.specs.Ways.{Way, done, along}
@@ -47,8 +47,8 @@ module _ (g : Graph) (Has : g.Node → ℕ → Type 0) (has : AreNodeClasses g H
     leads u _ (done _) r = r
     leads u v (along _ m _ e w) r = leads m v w (stays u m e r)
 
-    no_ring : Way (Vertex g.Node) (OtherEdge g Has s n c) (Class n c) (Hub n) → ⊥
-    no_ring w = (leads (Class n c) (Hub n) w (inl (refl, refl))).0 refl
+    no_cycle : Way (Vertex g.Node) (OtherEdge g Has s n c) (Class n c) (Hub n) → ⊥
+    no_cycle w = (leads (Class n c) (Hub n) w (inl (refl, refl))).0 refl
 
   module _ (c : ℕ) where
     -- through the hubs of other nodes
@@ -74,4 +74,4 @@ module _ (g : Graph) (Has : g.Node → ℕ → Type 0) (has : AreNodeClasses g H
   }
 
   pub splits_by_bridges : SplitsAt g n s ↔ HubEdgesAreBridges g Has n s
-  splits_by_bridges = ((λ h c a w. no_ring h c w), splitting)
+  splits_by_bridges = ((λ h c a w. no_cycle h c w), splitting)

@@ -21,7 +21,7 @@ use Rattle.in_syntax.specs.Grammar.{Marked, within, plain, max_types, max_symbol
 use Rattle.in_syntax.specs.Programs.{sign_of, signs_of, unmarked}
 use Rattle.in_syntax.specs.Parsing.{IsTreeOf, Parses}
 use Rattle.in_syntax.specs.Sizes.{total, names_in, names_in_equation, names_in_equations, names_in_head, names_in_rule, names_in_rules, IsSizedSymbol, IsSized}
-use Rattle.in_syntax.specs.Tokens.{StandsIn, StandInOrder}
+use Rattle.in_syntax.specs.Tokens.{StandsIn, StandInOrder, text_limit}
 use Rattle.in_syntax.proofs.Grammar.Separated.{counted_all}
 use Rattle.in_syntax.proofs.Lexing.Standing.{tokens_stand, tokens_in_order}
 use Rattle.in_syntax.proofs.Trees.Terms.{names_out, spell_out}
@@ -248,7 +248,7 @@ net_free n all =
     separated_within max_free spell_free free_within 1 n.free (omega arith) (front_all (separated (numbered spell_free 1 n.free)) _ (front_all _ (plain kind.CloseBrace ∷ []) all.1.1)) in
     omega (arith, frees)
 
-program_sized : (p : Program) (s : List Sign) → spelling p ≡ unmarked s → length s ≤ 1048576 → IsSized (source_of p)
+program_sized : (p : Program) (s : List Sign) → spelling p ≡ unmarked s → length s ≤ text_limit → IsSized (source_of p)
 program_sized p s is short =
     let all : Unmarked (spelling p) = subst Unmarked (sym is) (unmarked_all s) in
     let size : length (spelling p) ≡ length s = ap length is ∙ length-map s within in

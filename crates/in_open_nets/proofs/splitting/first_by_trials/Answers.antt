@@ -29,7 +29,7 @@ loop-member-preserved c =
     record {
       none = none_next o part c.members-member-items.result.now c.members-member-items.ensures c.loop-member.member-index c.loop-member-test.true c.loop-member.invariant.none
           (subst (IsTried o part _) (c.in-Some-false.is ∙ ap Some c.in-Some-false.field-0-test) c.in_ok-tried.ensures.tried);
-      rings = c.in_ok-tried.ensures.same ∙ c.loop-member.invariant.rings;
+      cycles = c.in_ok-tried.ensures.same ∙ c.loop-member.invariant.cycles;
     }
 
 pub returns-clause-found : goal.returns-clause-found

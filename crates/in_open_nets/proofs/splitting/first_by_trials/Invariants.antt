@@ -6,5 +6,5 @@ use Rattle.in_open_nets.proofs.splitting.first_by_trials.Given as goal
 abbrev pub invariant-loop-member : goal.invariant-loop-member
 invariant-loop-member l = record {
   none : NoneSplits l.part.wired.now l.part.nodes.now (past l.member-items l.member-index);
-  rings : l.trials.rings ≡ l.part.wired.now;
+  cycles : l.trials.cycles ≡ l.part.wired.now;
 }

@@ -8,7 +8,7 @@ abbrev pub invariant-loop-part : goal.invariant-loop-part
 invariant-loop-part l = record {
   work : IsWork l.wired (reverse l.work.tasks);
   steps : IsUnderWay l.wired (reverse l.work.tasks) l.work.steps l.work.roots;
-  rings : l.trials.rings ≡ l.wired;
+  cycles : l.trials.cycles ≡ l.wired;
   room : HasRoomForNodes l.wired l.lent;
 }
 

@@ -1,5 +1,0 @@
-use Rattle.in_open_nets.proofs.Graphs.ClassWays.{net_off_rings}
-use Rattle.in_open_nets.proofs.laws.splits_off_rings.Goals as goal
-
-pub returns : goal.returns
-returns c = λ o net s number hub_edge es c n here. net_off_rings o net s number hub_edge es c n here
