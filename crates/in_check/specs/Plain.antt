@@ -1,4 +1,4 @@
--- A net on its way: what the slow reducer over plain nets keeps of its program, its net and its count, and what one step does. That its
+-- The state of a run: what the slow reducer over plain nets keeps of its program, its net and its count, and what one step does. That its
 -- agents are numbers, and which numbers new agents get, is this project's own choice; the interaction is that of Lafont 1990.
 use Rattle.std.specs.Prelude.{◌≡◌, ◌≤◌, count_by, is_some, ◌++◌, ℕ, zero, suc, true, List, map, slice_get, Some}
 use Rattle.in_symbols.specs.declared.symbols.SymbolNo.{SymbolNo}

@@ -34,7 +34,7 @@ pub struct Certificate {
     pub derivation: Derivation,
 }
 
-/// What the passes answered of a text: its tables, its rules and its net, the number of the rule of each two matching symbols, and
+/// What the passes answered of a text: its tables, its rules and its net, the number of the rule of every two matching symbols, and
 /// for each rule and the net the steps that build it.
 #[derive(Drop)]
 pub(crate) struct Passed {

@@ -296,7 +296,7 @@ fn check_tree(alloc: Global, text: &[u8], evidence: &mut Option<Evidence>) -> Re
 }
 
 /// Checks a program's text: its tokens and its tree, then its names, then rule by rule and the net at last its agents, variables
-/// and wires, then in the same order the types of wires, then that each two matching symbols have one rule, then rule by rule and
+/// and wires, then in the same order the types of wires, then that every two matching symbols have one rule, then rule by rule and
 /// the net at last whether it is semi-simple. What is accepted is kept.
 ///
 /// The first fault of the first pass that finds one is answered: E01 to E03, E04 to E06, E03 and E07 to E09, E10 and E11, E14 and

@@ -121,7 +121,7 @@ module _ (p : Program) (ts : TemplatesParts) (h : AreTemplatesOf p ts) where
       let n : RuleNo = record { 0 = k } in
       ap (λ (o : Option RuleNo). option_and_then (λ (k : RuleNo). slice_get ts.templates k.0) o) ((h.numbers.numbers c d n).1 is) ∙ stands
 
-  -- .. so each two symbols that match have one
+  -- .. so every two matching symbols have one
   found_by : (c d : ℕ) (o : Option RuleNo) → rule_at ts.numbers c d ≡ o → IsSome o → IsSome (template_at ts c d)
   found_by c d None is some = cc
   found_by c d (Some k) is some =

@@ -62,7 +62,7 @@ fn largest_need(templates: &[Template]) -> Need
 }
 
 /// The templates of an accepted program: for each rule its right member, which is found by the rule's two symbols, and the initial net. So
-/// each two symbols that match have one template. Refused only when out of memory.
+/// every two matching symbols have one template. Refused only when out of memory.
 pub fn compile(alloc: Global, checked: &Checked) -> Result<Templates, AllocError>
     ensures { IfOk result (λ ts. AreTemplatesOf checked.now ts) }
 {

@@ -3,7 +3,7 @@
 ghost use Rattle.in_compile.specs.Laws.{EachPairHasOneTemplate, TemplatesAreOne, TemplatesOfAreOne, LargestNeedsAreOne};
 ghost use Rattle.in_compile.specs.PlacingLaws.{MembersAreOne, LeasingKeepsAll, GivingBackKeepsAll, AllGoBack, PlacingLosesNone, SettlingLosesNone, PlacingSharesOut, OtherBagsStay, SettledMembersStand};
 
-/// Of an accepted program, each two symbols that match have exactly one template, whichever is named first, and it is that of their rule.
+/// Of an accepted program, every two matching symbols have exactly one template, whichever is named first, and it is that of their rule.
 pub fn each_pair_has_one_template()
     ensures { EachPairHasOneTemplate }
 {}

@@ -89,7 +89,7 @@ fn missing(symbols: &Symbols, later: SymbolNo, earlier: SymbolNo) -> Refusal
     }
 }
 
-/// The table that has the one rule of each two matching symbols.
+/// The table that has the one rule of every two matching symbols.
 ///
 /// Refused with E14 for the first rule that is the second one for its two symbols, at the name of its first head; where there is
 /// none, with E15 for two matching symbols without a rule, at the later declared of the two, with the place of the other: for the

@@ -10,7 +10,7 @@ use sqlite_items::Items;
 use std::alloc::{AllocError, Global};
 use std::marker::Model;
 
-/// Nodes of so many, in rising order: as large as they are many, however large the net is.
+/// Some of the numbers below a bound, in rising order. It takes as much memory as it has members, however large the net is.
 pub struct NodeList {
     members: Items<u32>,
     count: usize,

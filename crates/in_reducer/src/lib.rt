@@ -17,6 +17,10 @@
 //! with (`body`) is reduced all the same: for contracts a leased cell counts as free (`at_rest` in `specs/Standing.antt`), so that what
 //! is shown doesn't depend on which are out.
 //!
+//! **Parts**: `cutting` cuts a wire, and `rejoining` joins the last two free ends again. `splitting` splits agents off that lead to each other
+//! and to cuts alone, as a reducer by itself; `gluing` glues such a part on again, in the room that a `seam` has. `appending` adds the whole
+//! net of another reducer. `numbered` has ends under other numbers.
+//!
 //! A **round** (`round`): the first pairs of the queue are its jobs, told by their symbols. `in_work::gather_jobs` lends each worker its
 //! share of the free cells, lets each claim jobs from a board and place their templates, in a thread of its own, takes all back by value,
 //! gives back what wasn't used, and answers a `Gather` of what was placed. Then the owner (`rounding`) goes through the jobs in rising

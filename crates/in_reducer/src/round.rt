@@ -91,8 +91,8 @@ impl<'a> Reducer<'a> {
     /// by what stands at each pair when its turn comes; the last one is that of the last job, or the next pair's need isn't free.
     ///
     /// There has to be a pair, and what the first one needs has to be free; the budget is at least 1, the workers are 1 to 64, and the
-    /// templates are those of the program. All memory but what starting a thread takes is taken before a cell is lent: refused for want of it
-    /// alone, and then the reducer is as it was. A thread that can't be started is no fault. It waits for its threads.
+    /// templates are those of the program. All memory but what starting a thread takes is taken before a cell is lent: refused only
+    /// when out of memory, and then the reducer is as it was. A thread that can't be started is no fault. It waits for its threads.
     pub fn round<R: Threads + Wait, G: Gate + Sync>(
         &mut self,
         rt: &R,

@@ -1,8 +1,9 @@
 //! A machine over raw cells, and rounds of several workers on its queue.
 //!
-//! A `Machine` is a reducer with its templates, and keeps besides that its program reaches the net; that is all that it adds. Its `round`
-//! is the reducer's, and its `phase` reduces the net in parts, as `in_phases` does. `specs/Same.antt` says when two machines differ in
-//! numbers alone. `in_run` gives the machine out again.
+//! A `Machine` (`machine`) is a reducer with its templates, and keeps besides that its program reaches the net; that is all that it adds.
+//! `starting` says why there is none, and `looking` reads it. Its `round` (`rounds`) is the reducer's, and its `phase` (`phases`) reduces the
+//! net in parts, as `in_phases` does. `specs/Same.antt` says when two machines differ in numbers alone, and `machine_laws` what this
+//! leaves open. `in_run` re-exports the machine.
 #![tactic(auto)]
 
 mod looking;

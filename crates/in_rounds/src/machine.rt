@@ -13,8 +13,8 @@ use in_reducer::Reducer;
 use std::alloc::Global;
 use std::marker::Model;
 
-/// A net on its way over a number of cells: its active pairs are in a queue, and for each class of agents so many cells are free. Its program
-/// reaches the net.
+/// The state of a run over a number of cells: the active pairs of its net are in a queue, and for each class of agents so many cells are
+/// free. Its program reaches the net.
 #[derive(Drop)]
 pub struct Machine<'a> {
     pub(crate) templates: Templates,

@@ -21,7 +21,7 @@ use std::thread::Threads;
 /// one interaction at least, and those of all jobs where what they need together is free. Which worker does which job, and how many cells each
 /// is lent, is this project's own choice and open.
 ///
-/// All memory but what starting a thread takes is taken before the first claim: refused for want of it alone, and then the machine is as it
+/// All memory but what starting a thread takes is taken before the first claim: refused only when out of memory, and then the machine is as it
 /// was. A thread that can't be started is no fault: the caller does its part. It waits for its threads.
 pub fn round<R: Threads + Wait, G: Gate + Sync>(
     rt: &R,

@@ -1,4 +1,4 @@
-//! Runs of a machine within limits. The machine is that of `in_rounds`, which is given out again here.
+//! Runs of a machine within limits. The machine is that of `in_rounds`, re-exported here.
 //!
 //! `running` is the loop, with the three stops tested in their order. With several workers `advancing` looks whether a round pays, and in a
 //! long run whether a phase does, in which each worker reduces a part of the net by itself (`pace`); else it does some steps.

@@ -22,7 +22,7 @@ use std::thread::Threads;
 /// with its share of the free ones; and gathers what they did. Says how many threads were started. Each worker claims while its stock holds
 /// the most that a job can need, and passes the gate after each claim. What isn't used is free again.
 ///
-/// All memory but what starting a thread takes is taken before the first cell is lent: refused for want of it alone, and then the arena
+/// All memory but what starting a thread takes is taken before the first cell is lent: refused only when out of memory, and then the arena
 /// is as it was. A thread that can't be started is no fault: the caller does its part. It waits for its threads.
 pub fn gather_jobs<'t, R: Threads + Wait, G: Gate + Sync>(
     rt: &R,
