@@ -1,4 +1,4 @@
-"""What no proof says of the house: which lemmas a crate may cite of another, and how many names of types have two homes."""
+"""What no proof says of the house: which lemmas a crate may cite of another, how many names of types have two homes, and which words are gone."""
 import glob
 import os
 import re
@@ -12,6 +12,16 @@ CITED = re.compile(r"^\s*(?:unfoldable )?(?:pub )?use (?:package\.)?Rattle\.(in\
 TYPE = re.compile(r"^\s*(?:pattern |unfoldable |abbrev )*pub (?:data |record )?([A-Z]\w*)", re.MULTILINE)
 # So many names of types have more than one home in specs/. The number may only fall: one name, one home.
 MOST_WITH_TWO_HOMES = 15
+# A line of crates.txt that has a crate's libraries, and the one below it that has those that the crate never names.
+LIBRARIES = re.compile(r"^(in\w+)(?: [^:\n]*)?:(.*)\n(?:#     for contracts alone:(.*)\n)?", re.MULTILINE)
+# What the field says in the place of words that were used here.
+RETIRED = {
+    "want of memory": "out of memory",
+    "memory is wanted": "memory runs out",
+    "memory was wanted": "memory ran out",
+    "exactly where": "exactly when",
+    "looking call": "accessor",
+}
 
 
 def texts_of(folder):
@@ -47,7 +57,46 @@ def wrong_homes():
     return f"{told}: {'; '.join(f'{name} in {chr(44).join(files)}' for name, files in sorted(several.items()))}"
 
 
+def code_of(crate):
+    """The lines of a crate's sources, specs and proofs, with their paths, and whether each is a comment."""
+    for folder in ("src", "specs", "proofs"):
+        for path in sorted(glob.glob(os.path.join(CRATES, crate, folder, "**", "*.*t*"), recursive=True)):
+            with open(path, encoding="utf-8") as file:
+                for line in file:
+                    yield os.path.relpath(path, CRATES), line, line.lstrip().startswith(("//", "--"))
+
+
+def wrong_libraries():
+    """Crates that name libraries which crates.txt lists for contracts alone, or don't name others."""
+    with open(os.path.join(CRATES, "..", "crates.txt"), encoding="utf-8") as file:
+        listed = LIBRARIES.findall(file.read())
+    wrong = []
+    for crate, libraries, alone in listed:
+        words = set()
+        for _, line, is_comment in code_of(crate):
+            if not is_comment:
+                words.update(re.findall(r"\w+", line))
+        unnamed = set(libraries.split()) - words
+        if unnamed != set(alone.split()):
+            wrong.append(f"{crate} doesn't name {' '.join(sorted(unnamed)) or 'nothing'}")
+    return "; ".join(wrong)
+
+
+def retired_words():
+    """Comments in words that the field doesn't use."""
+    return "; ".join(
+        f"crates/{path}: {word}, for which the field says {RETIRED[word]}"
+        for crate in sorted(os.listdir(CRATES))
+        for path, line, is_comment in code_of(crate)
+        if is_comment
+        for word in RETIRED
+        if word in line
+    )
+
+
 def house(_program):
     """The group: it needs no program."""
     yield "only Public is cited across crates", wrong_citations
     yield "one name, one home", wrong_homes
+    yield "libraries that are there for contracts alone", wrong_libraries
+    yield "words of the field", retired_words
