@@ -81,6 +81,7 @@ fn expect_closed(rt: &impl Abort, from: &Arena, agents: &[CellNo], many: usize)
 fn expect_room(rt: &impl Abort, from: &Arena, agents: &[CellNo], to: &Arena)
     ensures { HasCellsFor from.now agents.now to.now }
 {
+    // So that the arena's invariant is known.
     let _ = from;
     assert!(rt; agents.len() <= to.free_count(CellClass::Small) as usize);
     assert!(rt; agents.len() <= to.free_count(CellClass::Large) as usize);

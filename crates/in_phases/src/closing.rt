@@ -8,6 +8,7 @@ ghost use Rattle.in_reducer.specs.Parting.{CanSplit, IsInPart};
 ghost use Rattle.in_joining.specs.Shown.{point_of};
 
 use crate::branch::Branch;
+use in_base::use_invariant;
 use in_reducer::{CellNo, End, Reducer};
 
 /// Whether this is the number of the first end of one of so many cuts, which came after `own` free ends.
@@ -28,7 +29,7 @@ fn is_inside(reducer: &Reducer, branch: &Branch, own: u32, cuts: u32, end: End) 
     requires there { LeadsSomewhere reducer.now end }
     ensures { result ≡ true → IsInPart branch.now.agents.items own cuts (point_of end) }
 {
-    let _ = reducer;
+    use_invariant!(*reducer);
     match end {
         End::Cell(cell, _) => branch.has(cell),
         End::Free(number) => is_first_end(own, cuts, number),

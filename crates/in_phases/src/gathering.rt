@@ -3,6 +3,7 @@ ghost use Rattle.std.specs.Prelude.{◌≡◌, ◌<◌, ◌≤◌, true, [], len
 ghost use Rattle.in_phases.specs.Branches.{HasAgent, IsBranch};
 
 use crate::branch::Branch;
+use in_base::use_invariant;
 use in_reducer::{CellNo, End, Reducer};
 use std::alloc::{AllocError, Global};
 
@@ -52,7 +53,7 @@ impl Branch {
         ensures branch { OnOk result (IsBranch reducer.now self.new) }
         ensures many { length self.new.marks.items ≡ length self.old.marks.items }
     {
-        let _ = reducer;
+        use_invariant!(*reducer);
         if !self.has(cell) {
             self.agents.push(cell)?;
             self.marks[cell.0 as usize] = true;
