@@ -40,6 +40,7 @@ pub mod SplitBefore
 pub mod SplitCells
 pub mod SplitNets
 pub mod SplitKept
+pub mod Reordered
 pub mod SplitAlike
 pub mod Together
 pub mod Turns

@@ -11,10 +11,11 @@ use Rattle.in_glue.proofs.Public.{at_outer, map_some}
 use Rattle.in_moving.proofs.Public.{NamedOr, named_or}
 use Rattle.in_parts.proofs.Public.{beside_is_one, beside_parts_are_alike}
 use Rattle.in_reducer.specs.Cutting.{net_in}
-use Rattle.in_reducer.specs.Machines.{MachineParts}
+use Rattle.in_reducer.specs.Machines.{MachineParts, parts_of}
 use Rattle.in_reducer.specs.Parting.{IsSplitOff, ends_of_two, names_of, names_of_two, place_of_two}
 use Rattle.in_reducer.specs.PartingLaws.{DifferInNumbers, DifferInOrder, GluingsAreAlike, SplitsAreAlike}
 use Rattle.in_reducer.proofs.Reduced.{same_agents}
+use Rattle.in_reducer.proofs.Reordered.{joins_beside, joins_within, reordered, reordered_alone}
 use Rattle.in_reducer.proofs.TwoEnds.{part_of_two, rest_of_two}
 
 -- two lists of one length are one where they have the same at each place
@@ -94,10 +95,25 @@ module _ (m rest part rest_too part_too : MachineParts) (agents : List CellNo) (
       let nets =
       beside_parts_are_alike (net_in rest) (net_in part) (net_in rest_too) (net_in part_too) (net_in m) off.two.name off_too.two.name ends
       off.two.within_rest off.two.within_part off_too.two.within_rest off_too.two.within_part off.two.beside off_too.two.beside same_symbol in
-      let rests : DifferInNumbers rest rest_too =
-      record { number = λ y. y; net = nets.0; program = off.two.program_rest ∙ sym off_too.two.program_rest; names = same_rest_names; vacant = same_rest_vacant } in (
-        record { net = nets.0; alike = rests },
-        record { number = nets.1; net = nets.2; program = off.two.program_part ∙ sym off_too.two.program_part; names = same_part_names; vacant = same_part_vacant },
+      let t = m.program.tables in
+      let queues = reordered t (λ y. y) (parts_of rest) (parts_of rest_too) nets.0 (joins_within (net_in rest) off.two.within_rest) rest.queue rest_too.queue off.queue_rest off_too.queue_rest in
+      let rests : DifferInNumbers rest rest_too = record {
+        number = λ y. y;
+        net = nets.0;
+        queue = queues;
+        program = off.two.program_rest ∙ sym off_too.two.program_rest;
+        names = same_rest_names;
+        vacant = same_rest_vacant;
+      } in (
+        record { net = nets.0; queue = reordered_alone t (parts_of rest) (parts_of rest_too) nets.0 rest.queue rest_too.queue off.queue_rest off_too.queue_rest queues; alike = rests },
+        record {
+          number = nets.1;
+          net = nets.2;
+          queue = reordered t nets.1 (parts_of part) (parts_of part_too) nets.2 (joins_within (net_in part) off.two.within_part) part.queue part_too.queue off.queue_part off_too.queue_part;
+          program = off.two.program_part ∙ sym off_too.two.program_part;
+          names = same_part_names;
+          vacant = same_part_vacant;
+        },
       )
 
 pub splits_are_alike : SplitsAreAlike
@@ -110,6 +126,8 @@ gluings_are_alike rest part m m_too own cuts on on_too =
     record {
       number = nets.0;
       net = nets.1;
+      queue = reordered rest.program.tables nets.0 (parts_of m) (parts_of m_too) nets.1 (joins_beside (net_in rest) (net_in part) (net_in m) on.two.name (ends_of_two own cuts) on.two.within_rest on.two.within_part on.two.beside)
+          m.queue m_too.queue on.queue on_too.queue;
       program = program;
       names = map_some (names_of m) (names_of m_too) (on.two.names ∙ sym on_too.two.names);
       vacant = λ c. (

@@ -38,6 +38,10 @@ symbol_back f n m r x k s h e =
 
 -- ---- a queue under other numbers
 
+-- the two agents of an active pair are there
+pub lives : (t : Tables) (n : Parts) (q : ℕ × ℕ) → IsActivePair t n (agents_at q) → IsSome ((net_of n).symbol q.0) × IsSome ((net_of n).symbol q.1)
+lives t n q h = (there ((net_of n).symbol q.0) h.first.0 (symbol_number (symbol_in n q.0) h.first h.one), there ((net_of n).symbol q.1) h.second.0 (symbol_number (symbol_in n q.1) h.second h.two))
+
 module _ (t : Tables) (f : ℕ → ℕ) (n m : Parts) (net : IsNet (signature_of t) (net_of n)) (named : IsRenamed f (net_of n) (net_of m)) (opposed : AreOpposed t n) (qs : List (ℕ × ℕ)) (queue : IsQueueOf t n qs) where
   moved : (q : ℕ × ℕ) → IsActivePair t n (agents_at q) → IsActivePair t m (agents_at (both f q))
   moved q h =
@@ -68,9 +72,6 @@ module _ (t : Tables) (f : ℕ → ℕ) (n m : Parts) (net : IsNet (signature_of
         record { active = active; first = h.first; second = h.second; one = one; two = two; order = stands_anywhere t n x y q.0 q.1 h.first h.second opposed active one two h.order x y },
       )
 
-  pub lives : (q : ℕ × ℕ) → IsActivePair t n (agents_at q) → IsSome ((net_of n).symbol q.0) × IsSome ((net_of n).symbol q.1)
-  lives q h = (there ((net_of n).symbol q.0) h.first.0 (symbol_number (symbol_in n q.0) h.first h.one), there ((net_of n).symbol q.1) h.second.0 (symbol_number (symbol_in n q.1) h.second h.two))
-
   pub queue_moved : IsQueueOf t m (map (both f) qs)
   queue_moved = record {
     pairs = λ k q e. (let z = of_mapped (both f) qs k q e in subst (λ (v : ℕ × ℕ). IsActivePair t m (agents_at v)) z.2 (moved z.0 (queue.pairs k z.0 z.1)));
@@ -82,8 +83,8 @@ module _ (t : Tables) (f : ℕ → ℕ) (n m : Parts) (net : IsNet (signature_of
       once j k q e d =
           let x = of_mapped (both f) qs j q e in
           let y = of_mapped (both f) qs k q d in
-          let a = lives x.0 (queue.pairs j x.0 x.1) in
-          let b = lives y.0 (queue.pairs k y.0 y.1) in
+          let a = lives t n x.0 (queue.pairs j x.0 x.1) in
+          let b = lives t n y.0 (queue.pairs k y.0 y.1) in
           let named_alike : both f x.0 ≡ both f y.0 = x.2 ∙ sym y.2 in
           let one : x.0.0 ≡ y.0.0 = named.apart x.0.0 y.0.0 a.0 b.0 (ap (λ (z : ℕ × ℕ). z.0) named_alike) in
           let two : x.0.1 ≡ y.0.1 = named.apart x.0.1 y.0.1 a.1 b.1 (ap (λ (z : ℕ × ℕ). z.1) named_alike) in

@@ -1,7 +1,8 @@
 -- Laws on reducers that are reduced, cut, split and glued.
-use Rattle.std.specs.Prelude.{◌≡◌, ◌+◌, ◌≤◌, ℕ, zero, suc, List, length}
+use Rattle.std.specs.Prelude.{◌≡◌, ◌⊎◌, ◌+◌, ◌<◌, ◌≤◌, ℕ, zero, suc, List, Some, length, slice_get}
 use Rattle.in_arena.specs.declared.content.CellClass.{CellClass}
 use Rattle.in_arena.specs.declared.content.CellNo.{CellNo}
+use Rattle.in_interaction.specs.Queues.{both}
 use Rattle.in_check.specs.Runs.{IsRenamed}
 use Rattle.in_compile.specs.Cells.{count_of}
 use Rattle.in_reducer.specs.Cutting.{CanJoin, CutsAt, JoinsLast, net_in}
@@ -26,10 +27,26 @@ abbrev pub PartsReduceTheWhole : Type 0
 PartsReduceTheWhole = (m rest part rest_after part_after after : MachineParts) (agents : List CellNo) (own cuts cells j k : ℕ) → IsReducer m → IsReducer rest → IsReducer part →
     IsSplitOff m agents own cuts cells rest part → ReducesTo rest j rest_after → ReducesTo part k part_after → IsGluedOn rest_after part_after own cuts after → ReducesTo m (j + k) after
 
+-- ---- what is determined
+
+-- the one queue is the other in some order: each pair of the one has a place in the other, with the same pair there, no two have one place,
+-- and no place is left over
+pub record IsReordered (IsSame : ℕ × ℕ → ℕ × ℕ → Type 0) (queue queue_too : List (ℕ × ℕ)) : Type 0 where
+  pub place : ℕ → ℕ
+  pub pairs : (k : ℕ) (q : ℕ × ℕ) → slice_get queue k ≡ Some q → (r : ℕ × ℕ) × (slice_get queue_too (place k) ≡ Some r) × IsSame q r
+  pub once : (j k : ℕ) → j < length queue → k < length queue → place j ≡ place k → j ≡ k
+  pub all : (j : ℕ) → j < length queue_too → (k : ℕ) × (k < length queue) × (place k ≡ j)
+
+-- the same two agents, whichever stands first. (Of two constructors, or two destructors, the one with the lower number does; a sound net has
+-- no such pair)
+abbrev pub AreSameTwo : ℕ × ℕ → ℕ × ℕ → Type 0
+AreSameTwo q r = (r ≡ q) ⊎ (r ≡ (q.1, q.0))
+
 -- two reducers are the same but for the numbers of their agents, and the order of their queues
 pub record DifferInNumbers (m m_too : MachineParts) : Type 0 where
   pub number : ℕ → ℕ
   pub net : IsRenamed number (net_in m) (net_in m_too)
+  pub queue : IsReordered (λ q r. AreSameTwo (both number q) r) m.queue m_too.queue
   pub program : m.program ≡ m_too.program
   pub names : names_of m ≡ names_of m_too
   pub vacant : (c : CellClass) → count_of m.vacant c ≡ count_of m_too.vacant c
@@ -37,6 +54,7 @@ pub record DifferInNumbers (m m_too : MachineParts) : Type 0 where
 -- .. and the agents of both have the same numbers
 pub record DifferInOrder (m m_too : MachineParts) : Type 0 where
   pub net : IsRenamed (λ y. y) (net_in m) (net_in m_too)
+  pub queue : IsReordered (λ q r. q ≡ r) m.queue m_too.queue
   pub alike : DifferInNumbers m m_too
 
 -- what is split off is determined by the net, the agents and the cuts

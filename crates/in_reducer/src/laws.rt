@@ -46,7 +46,8 @@ pub fn parts_reduce_the_whole()
     ensures { PartsReduceTheWhole }
 {}
 
-/// What is split off is determined by the net, the agents and the cuts, but for the numbers that the agents get and the order of the queues.
+/// What is split off is determined by the net, the agents and the cuts, but for the numbers that the part's agents get and the order of the
+/// queues.
 pub fn splits_are_alike()
     ensures { SplitsAreAlike }
 {}

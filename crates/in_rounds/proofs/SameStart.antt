@@ -114,7 +114,7 @@ module _ (text : List ℕ) (p : Program) (accepted : IsAccepted text p) (cells :
         g.queue ∙ ap (map (both g.name)) (same_first p.tables p.net g.first h.first g.pairs h.pairs)
         ∙ map_same (both g.name) (λ q. both f (both h.name q)) h.first (λ k q e. (
         let z = h.pairs.pairs.pairs k q e in
-        let a = lives p.tables h.name p.net (parts_of m) net_at h.net opposed_at h.first h.pairs.pairs q z in
+        let a = lives p.tables p.net q z in
         let one : g.name q.0 ≡ f (h.name q.0) = sym (from_to (signature_of p.tables) (net_of p.net) (net_of (parts_of m)) (net_of (parts_of n)) net_at h.name g.name h.net g.net q.0 a.0) in
         let two : g.name q.1 ≡ f (h.name q.1) = sym (from_to (signature_of p.tables) (net_of p.net) (net_of (parts_of m)) (net_of (parts_of n)) net_at h.name g.name h.net g.net q.1 a.1) in
         ap (λ (z : ℕ). let w : ℕ × ℕ = (z, g.name q.1) in w) one ∙ ap (λ (z : ℕ). let w : ℕ × ℕ = (f (h.name q.0), z) in w) two

@@ -231,6 +231,6 @@ returns c =
         };
         none = cells.part_none r k a own cuts can x.numbers x.names x.size x.first x.new h.same h.empty h.copied;
       };
-      split = kept.split_off r k a own cuts can x h c.requires.kept.none q o;
+      split = kept.split_off r k a own cuts can x h c.requires.kept.none q o c.split_queue.ensures.rest c.split_queue.ensures.part;
       names = c.move_cells.ensures.names;
     }
