@@ -1,5 +1,5 @@
 use Rattle.std.proofs.Common.{arith}
-use Rattle.in_reducer.proofs.Turns.{turn_done}
+use Rattle.in_reducer.proofs.Parts.Turns.{turn_done}
 use Rattle.in_reducer.proofs.gluing.add_free_in_turn.Goals as goal
 
 pub loop-cut-preserved : goal.loop-cut-preserved

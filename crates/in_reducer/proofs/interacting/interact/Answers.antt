@@ -6,8 +6,8 @@ use Rattle.in_joining.specs.Between.{IsReady}
 use Rattle.in_joining.specs.Cells.{KeepsCells}
 use Rattle.in_compile.specs.Members.{IsSoundMember}
 use Rattle.in_reducer.specs.Interacting.{interaction_of}
-use Rattle.in_reducer.proofs.SetUp as ready
-use Rattle.in_reducer.proofs.StillNet as still
+use Rattle.in_reducer.proofs.Steps.SetUp as ready
+use Rattle.in_reducer.proofs.Steps.StillNet as still
 use Rattle.in_reducer.proofs.interacting.interact.Goals as goal
 
 pub set_sides-requires-clause-ports : goal.set_sides-requires-clause-ports

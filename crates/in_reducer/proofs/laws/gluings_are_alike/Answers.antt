@@ -1,4 +1,4 @@
-use Rattle.in_reducer.proofs.SplitAlike.{gluings_are_alike}
+use Rattle.in_reducer.proofs.Parts.SplitAlike.{gluings_are_alike}
 use Rattle.in_reducer.proofs.laws.gluings_are_alike.Goals as goal
 
 pub returns : goal.returns

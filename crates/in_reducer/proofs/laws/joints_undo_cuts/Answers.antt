@@ -1,4 +1,4 @@
-use Rattle.in_reducer.proofs.Undone.{joints_undo_cuts}
+use Rattle.in_reducer.proofs.Cuts.Undone.{joints_undo_cuts}
 use Rattle.in_reducer.proofs.laws.joints_undo_cuts.Goals as goal
 
 pub returns : goal.returns

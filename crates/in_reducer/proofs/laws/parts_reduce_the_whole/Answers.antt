@@ -1,4 +1,4 @@
-use Rattle.in_reducer.proofs.Reduced as proved
+use Rattle.in_reducer.proofs.Cuts.Reduced as proved
 use Rattle.in_reducer.proofs.laws.parts_reduce_the_whole.Goals as goal
 
 pub returns : goal.returns

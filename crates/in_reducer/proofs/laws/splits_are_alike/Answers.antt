@@ -1,4 +1,4 @@
-use Rattle.in_reducer.proofs.SplitAlike.{splits_are_alike}
+use Rattle.in_reducer.proofs.Parts.SplitAlike.{splits_are_alike}
 use Rattle.in_reducer.proofs.laws.splits_are_alike.Goals as goal
 
 pub returns : goal.returns

@@ -1,4 +1,4 @@
-use Rattle.in_reducer.proofs.Started as proved
+use Rattle.in_reducer.proofs.Starts.Started as proved
 use Rattle.in_reducer.proofs.laws.starts_are_reducers.Goals as goal
 
 pub returns : goal.returns

@@ -1,4 +1,4 @@
-use Rattle.in_reducer.proofs.StepsOn as proved
+use Rattle.in_reducer.proofs.Steps.StepsOn as proved
 use Rattle.in_reducer.proofs.laws.steps_keep_reducers.Goals as goal
 
 pub returns : goal.returns

@@ -2,8 +2,8 @@ use Rattle.std.proofs.Common.{ap, subst, ◌∙◌, arith}
 use Rattle.in_compile.specs.declared.cells.Need.{Need}
 use Rattle.in_compile.specs.Cells.{count_of}
 use Rattle.in_compile.specs.Stocks.{AddsTo}
-use Rattle.in_reducer.proofs.Putting as proved
-use Rattle.in_reducer.proofs.Putting.{none_free}
+use Rattle.in_reducer.proofs.Steps.Putting as proved
+use Rattle.in_reducer.proofs.Steps.Putting.{none_free}
 use Rattle.in_reducer.proofs.placing.put.Goals as goal
 
 pub add-requires-clause-room : goal.add-requires-clause-room

@@ -1,5 +1,5 @@
 use Rattle.std.proofs.Common.{◌∙◌, arith}
-use Rattle.in_reducer.proofs.Queued.{one_more_own}
+use Rattle.in_reducer.proofs.Pairs.Queued.{one_more_own}
 use Rattle.in_reducer.proofs.queueing.queue_own.Goals as goal
 
 pub loop-number-preserved : goal.loop-number-preserved

@@ -1,7 +1,7 @@
 use Rattle.std.proofs.Common.{◌≡◌, ◌<◌, ◌+◌, ℕ, Some, length, set, slice_get, sym, ap, subst, ◌∙◌, arith}
 use Rattle.std.specs.Prelude.{option_map}
 use Rattle.in_reducer.specs.Sides.{inner_of, AreSetBelow}
-use Rattle.in_reducer.proofs.Sided.{has_place, not_one, not_other, outer_read, one_more_set}
+use Rattle.in_reducer.proofs.Steps.Sided.{has_place, not_one, not_other, outer_read, one_more_set}
 use Rattle.in_reducer.proofs.sides.set_sides.Goals as goal
 
 pub port-requires : goal.port-requires

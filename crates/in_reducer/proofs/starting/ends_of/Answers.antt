@@ -1,6 +1,6 @@
 use Rattle.std.proofs.Common.{◌<◌, length, ◌∙◌, arith}
 use Rattle.std.proofs.lemmas.List.{length-set}
-use Rattle.in_reducer.proofs.Begun.{one_more_end}
+use Rattle.in_reducer.proofs.Starts.Begun.{one_more_end}
 use Rattle.in_reducer.proofs.starting.ends_of.Goals as goal
 
 pub loop-number-preserved : goal.loop-number-preserved

@@ -4,7 +4,7 @@ use Rattle.in_net.specs.Parts.{Parts}
 use Rattle.in_check.specs.Programs.{Program}
 use Rattle.in_reducer.specs.declared.body.OwnEnd.TheVariants.{Named}
 use Rattle.in_reducer.specs.Inside.{IsOwnEnd}
-use Rattle.in_reducer.proofs.Begun.{each_push, one_more_free}
+use Rattle.in_reducer.proofs.Starts.Begun.{each_push, one_more_free}
 use Rattle.in_reducer.proofs.starting.free_ends.Goals as goal
 
 pub loop-number-preserved : goal.loop-number-preserved

@@ -1,5 +1,5 @@
 use Rattle.std.proofs.Common.{arith}
-use Rattle.in_reducer.proofs.Begun.{are_tools}
+use Rattle.in_reducer.proofs.Starts.Begun.{are_tools}
 use Rattle.in_reducer.proofs.starting.tools_for.Goals as goal
 
 pub returns-clause-tools : goal.returns-clause-tools

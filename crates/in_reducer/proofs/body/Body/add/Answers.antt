@@ -7,9 +7,9 @@ use Rattle.in_arena.specs.declared.content.End.{End}
 use Rattle.in_interaction.specs.Queues.{both}
 use Rattle.in_moving.specs.Copying.{AreClosed, HasCellsFor, IsCopied, IsEndWithin, moved_end, name_in, number_in}
 use Rattle.in_reducer.specs.declared.body.OwnEnd.{OwnEnd}
-use Rattle.in_reducer.proofs.Appended as appended
-use Rattle.in_reducer.proofs.StillNet as still
-use Rattle.in_reducer.proofs.Together as together
+use Rattle.in_reducer.proofs.Parts.Appended as appended
+use Rattle.in_reducer.proofs.Steps.StillNet as still
+use Rattle.in_reducer.proofs.Parts.Together as together
 use Rattle.in_reducer.proofs.body.Body.add.Goals as goal
 
 pub copy-requires-clause-closed : goal.copy-requires-clause-closed

@@ -10,8 +10,8 @@ use Rattle.in_reducer.specs.declared.body.OwnEnd.{OwnEnd}
 use Rattle.in_reducer.specs.declared.body.OwnEnd.TheVariants.{Cut}
 use Rattle.in_reducer.specs.Cutting.{net_in}
 use Rattle.in_reducer.specs.Inside.{reducer_view}
-use Rattle.in_reducer.proofs.CutOff as cut_off
-use Rattle.in_reducer.proofs.StillNet as still
+use Rattle.in_reducer.proofs.Cuts.CutOff as cut_off
+use Rattle.in_reducer.proofs.Steps.StillNet as still
 use Rattle.in_reducer.proofs.body.Body.cut.Goals as goal
 
 pub cut-requires-clause-shown : goal.cut-requires-clause-shown

@@ -6,7 +6,7 @@ use Rattle.in_interaction.specs.Queues.{both}
 use Rattle.in_compile.specs.Members.{MemberParts}
 use Rattle.in_reducer.specs.Interacting.{named}
 use Rattle.in_reducer.specs.Standing.{IsNetIn, at_rest}
-use Rattle.in_reducer.proofs.Finished as finished
+use Rattle.in_reducer.proofs.Steps.Finished as finished
 use Rattle.in_reducer.proofs.body.Body.finish.Goals as goal
 
 pub interact-requires-clause-beside : goal.interact-requires-clause-beside

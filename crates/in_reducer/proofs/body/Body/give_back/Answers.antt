@@ -1,5 +1,5 @@
 use Rattle.in_gather.specs.Gathers.{bags_of}
-use Rattle.in_reducer.proofs.Lending as lending
+use Rattle.in_reducer.proofs.Cells.Lending as lending
 use Rattle.in_reducer.proofs.body.Body.give_back.Goals as goal
 
 pub returns-clause-kept : goal.returns-clause-kept

@@ -10,9 +10,9 @@ use Rattle.in_reducer.specs.declared.body.Body.{Body}
 use Rattle.in_reducer.specs.declared.body.OwnEnd.{OwnEnd}
 use Rattle.in_reducer.specs.Gluing.{IsFreeWithin, glued}
 use Rattle.in_reducer.specs.Inside.{KeepsNet}
-use Rattle.in_reducer.proofs.Glued as glue
-use Rattle.in_reducer.proofs.StillNet as still
-use Rattle.in_reducer.proofs.Together as together
+use Rattle.in_reducer.proofs.Parts.Glued as glue
+use Rattle.in_reducer.proofs.Steps.StillNet as still
+use Rattle.in_reducer.proofs.Parts.Together as together
 use Rattle.in_reducer.proofs.body.Body.glue.Goals as goal
 
 pub number_anew-requires-clause-led : goal.number_anew-requires-clause-led

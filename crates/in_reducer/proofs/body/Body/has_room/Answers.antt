@@ -4,9 +4,9 @@ use Rattle.in_arena.specs.Arenas.{ArenaView, free_of}
 use Rattle.in_compile.specs.declared.cells.Need.{Need}
 use Rattle.in_compile.specs.Cells.{count_of}
 use Rattle.in_reducer.specs.Standing.{at_rest}
-use Rattle.in_reducer.proofs.AtRest.{rests}
-use Rattle.in_reducer.proofs.Short.{enough_if, short_if}
-use Rattle.in_reducer.proofs.Stepped as stepped
+use Rattle.in_reducer.proofs.Cells.AtRest.{rests}
+use Rattle.in_reducer.proofs.Cells.Short.{enough_if, short_if}
+use Rattle.in_reducer.proofs.Steps.Stepped as stepped
 use Rattle.in_reducer.proofs.body.Body.has_room.Goals as goal
 
 pub returns-clause-room : goal.returns-clause-room

@@ -1,6 +1,6 @@
 use Rattle.in_reducer.specs.Inside.{reducer_view}
 use Rattle.in_reducer.specs.Machines.{parts_of}
-use Rattle.in_reducer.proofs.Looked.{read_at, have_symbols}
+use Rattle.in_reducer.proofs.Cells.Looked.{read_at, have_symbols}
 use Rattle.in_reducer.proofs.body.Body.heads.Goals as goal
 
 pub symbol-requires : goal.symbol-requires

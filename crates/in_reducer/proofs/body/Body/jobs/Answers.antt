@@ -2,8 +2,8 @@ use Rattle.std.proofs.Common.{◌≡◌, Some, None, IsSome, [], ◌∷◌, leng
 use Rattle.in_symbols.specs.declared.symbols.SymbolNo.{SymbolNo}
 use Rattle.in_compile.specs.Templates.{template_at}
 use Rattle.in_reducer.specs.Inside.{reducer_view}
-use Rattle.in_reducer.proofs.Begun.{each_push}
-use Rattle.in_reducer.proofs.Found as found
+use Rattle.in_reducer.proofs.Starts.Begun.{each_push}
+use Rattle.in_reducer.proofs.Steps.Found as found
 use Rattle.in_work.proofs.Public.{templates_are_small}
 use Rattle.in_reducer.proofs.body.Body.jobs.Goals as goal
 

@@ -10,8 +10,8 @@ use Rattle.in_joining.specs.Pairs.{AddsPair}
 use Rattle.in_joining.specs.Shown.{IsShown}
 use Rattle.in_reducer.specs.Cutting.{net_in}
 use Rattle.in_reducer.specs.Inside.{reducer_view}
-use Rattle.in_reducer.proofs.Rejoined as rejoined
-use Rattle.in_reducer.proofs.StillNet as still
+use Rattle.in_reducer.proofs.Cuts.Rejoined as rejoined
+use Rattle.in_reducer.proofs.Steps.StillNet as still
 use Rattle.in_reducer.proofs.body.Body.join_last.Goals as goal
 
 pub join_last-requires-clause-shown : goal.join_last-requires-clause-shown

@@ -1,4 +1,4 @@
-use Rattle.in_reducer.proofs.Lending as lending
+use Rattle.in_reducer.proofs.Cells.Lending as lending
 use Rattle.in_reducer.proofs.body.Body.put_back.Goals as goal
 
 pub returns-clause-all : goal.returns-clause-all

@@ -6,12 +6,12 @@ use Rattle.in_moving.specs.Copying.{IsCopied, IsEndWithin, moved_end, name_in, n
 use Rattle.in_reducer.specs.declared.body.OwnEnd.{OwnEnd}
 use Rattle.in_reducer.specs.Parting.{place_of_two}
 use Rattle.in_reducer.specs.Splitting.{ArePicked, ArePickedWithRoom, LosesPart}
-use Rattle.in_reducer.proofs.SplitBefore as before
-use Rattle.in_reducer.proofs.SplitCells as cells
-use Rattle.in_reducer.proofs.SplitKept as kept
-use Rattle.in_reducer.proofs.SplitNets as nets
-use Rattle.in_reducer.proofs.SplitNets.{ArePieces, Pieces}
-use Rattle.in_reducer.proofs.StartNet.{all_free}
+use Rattle.in_reducer.proofs.Parts.SplitBefore as before
+use Rattle.in_reducer.proofs.Parts.SplitCells as cells
+use Rattle.in_reducer.proofs.Parts.SplitKept as kept
+use Rattle.in_reducer.proofs.Parts.SplitNets as nets
+use Rattle.in_reducer.proofs.Parts.SplitNets.{ArePieces, Pieces}
+use Rattle.in_reducer.proofs.Starts.StartNet.{all_free}
 use Rattle.in_reducer.proofs.body.Body.split.Goals as goal
 
 pub overflow_mul-many : goal.overflow_mul-many

@@ -8,8 +8,8 @@ use Rattle.in_compile.specs.Members.{MemberParts}
 use Rattle.in_compile.specs.Placing.{PlacedParts}
 use Rattle.in_compile.specs.Stocks.{StockParts}
 use Rattle.in_reducer.specs.Placed.{IsNoneOf, IsPut}
-use Rattle.in_reducer.proofs.Stepped as stepped
-use Rattle.in_reducer.proofs.StillNet as still
+use Rattle.in_reducer.proofs.Steps.Stepped as stepped
+use Rattle.in_reducer.proofs.Steps.StillNet as still
 use Rattle.in_reducer.proofs.body.Body.step.Goals as goal
 
 pub put-requires-clause-free : goal.put-requires-clause-free

@@ -5,7 +5,7 @@ use Rattle.in_reducer.specs.declared.body.Body.{Body}
 use Rattle.in_reducer.specs.Inside.{reducer_view}
 use Rattle.in_reducer.specs.Runs.{Runs, then_step}
 use Rattle.in_reducer.specs.Steps.{HasRoomAt}
-use Rattle.in_reducer.proofs.Lending.{one_fewer}
+use Rattle.in_reducer.proofs.Cells.Lending.{one_fewer}
 use Rattle.in_reducer.proofs.body.Body.step_on.Goals as goal
 
 pub loop-count-preserved : goal.loop-count-preserved

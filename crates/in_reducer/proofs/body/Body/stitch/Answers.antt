@@ -5,7 +5,7 @@ use Rattle.in_compile.specs.Templates.{TemplateParts}
 use Rattle.in_reducer.specs.declared.body.Body.{Body}
 use Rattle.in_reducer.specs.declared.tools.Tools.{Tools}
 use Rattle.in_reducer.specs.Inside.{StandsBeside}
-use Rattle.in_reducer.proofs.Besides as besides
+use Rattle.in_reducer.proofs.Steps.Besides as besides
 use Rattle.in_reducer.proofs.body.Body.stitch.Goals as goal
 
 pub finish-requires-clause-beside : goal.finish-requires-clause-beside

@@ -10,8 +10,8 @@ use Rattle.in_arena.specs.Bags.{IsBagOf}
 use Rattle.in_reducer.specs.Inside.{reducer_view}
 use Rattle.in_reducer.specs.Lent.{AreSettled}
 use Rattle.in_reducer.specs.Runs.{Runs, at_start, then_step}
-use Rattle.in_reducer.proofs.Found as found
-use Rattle.in_reducer.proofs.Lending as lending
+use Rattle.in_reducer.proofs.Steps.Found as found
+use Rattle.in_reducer.proofs.Cells.Lending as lending
 use Rattle.in_reducer.proofs.body.Body.stitch_all.Goals as goal
 
 pub loop-job-init : goal.loop-job-init

@@ -6,9 +6,9 @@ use Rattle.in_compile.specs.Cells.{agents_of}
 use Rattle.in_reducer.specs.declared.body.Body.{Body}
 use Rattle.in_reducer.specs.Inside.{IsKept}
 use Rattle.in_reducer.specs.Standing.{agents_in, at_rest}
-use Rattle.in_reducer.proofs.AtRest.{rests}
-use Rattle.in_reducer.proofs.Counted.{cells_at_rest}
-use Rattle.in_reducer.proofs.Stepped as stepped
+use Rattle.in_reducer.proofs.Cells.AtRest.{rests}
+use Rattle.in_reducer.proofs.Cells.Counted.{cells_at_rest}
+use Rattle.in_reducer.proofs.Steps.Stepped as stepped
 use Rattle.in_reducer.proofs.body.Body.taken.Goals as goal
 
 -- free cells and agents of a class make up its cells

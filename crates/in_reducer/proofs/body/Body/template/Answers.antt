@@ -1,5 +1,5 @@
 use Rattle.in_reducer.specs.Inside.{reducer_view}
-use Rattle.in_reducer.proofs.Found as found
+use Rattle.in_reducer.proofs.Steps.Found as found
 use Rattle.in_reducer.proofs.body.Body.template.Goals as goal
 
 pub of-requires : goal.of-requires

@@ -1,10 +1,10 @@
 use Rattle.std.proofs.Common.{count_by, is_some, sym, ap, ◌∙◌, arith}
 use Rattle.in_reducer.specs.Machines.{MachineParts}
 use Rattle.in_reducer.specs.Standing.{agents_in}
-use Rattle.in_reducer.proofs.Accepted.{few_ports}
-use Rattle.in_reducer.proofs.AtRest.{net_rests}
-use Rattle.in_reducer.proofs.Looked.{one_more_class, no_more, all_counted}
-use Rattle.in_reducer.proofs.Queues.{all_classes}
+use Rattle.in_reducer.proofs.Starts.Accepted.{few_ports}
+use Rattle.in_reducer.proofs.Cells.AtRest.{net_rests}
+use Rattle.in_reducer.proofs.Cells.Looked.{one_more_class, no_more, all_counted}
+use Rattle.in_reducer.proofs.Pairs.Queues.{all_classes}
 use Rattle.in_reducer.proofs.reducer.Reducer.agents.Goals as goal
 
 pub overflow_add-agents : goal.overflow_add-agents

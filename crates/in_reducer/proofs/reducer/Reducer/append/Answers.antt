@@ -1,6 +1,6 @@
 use Rattle.std.proofs.Common.{◌≡◌, ◌+◌, ℕ, length, ap, ◌∙◌, arith}
 use Rattle.in_reducer.specs.Machines.{MachineParts}
-use Rattle.in_reducer.proofs.CutOff.{free_many}
+use Rattle.in_reducer.proofs.Cuts.CutOff.{free_many}
 use Rattle.in_reducer.proofs.reducer.Reducer.append.Goals as goal
 
 abbrev ends : MachineParts → ℕ

@@ -1,6 +1,6 @@
 use Rattle.std.proofs.Common.{length, ap, arith}
 use Rattle.in_reducer.specs.Machines.{MachineParts}
-use Rattle.in_reducer.proofs.CutOff.{free_many}
+use Rattle.in_reducer.proofs.Cuts.CutOff.{free_many}
 use Rattle.in_reducer.proofs.reducer.Reducer.cut.Goals as goal
 
 pub cut-requires-clause-few : goal.cut-requires-clause-few

@@ -3,8 +3,8 @@ use Rattle.in_arena.specs.Arenas.{ArenaView, free_of}
 use Rattle.in_compile.specs.Cells.{count_of}
 use Rattle.in_reducer.specs.Machines.{MachineParts}
 use Rattle.in_reducer.specs.Standing.{at_rest}
-use Rattle.in_reducer.proofs.AtRest.{rests}
-use Rattle.in_reducer.proofs.Stepped.{free_is}
+use Rattle.in_reducer.proofs.Cells.AtRest.{rests}
+use Rattle.in_reducer.proofs.Steps.Stepped.{free_is}
 use Rattle.in_reducer.proofs.reducer.Reducer.free.Goals as goal
 
 pub returns : goal.returns

@@ -3,7 +3,7 @@ use Rattle.std.proofs.lemmas.List.{length-map}
 use Rattle.in_reducer.specs.Inside.{declared_as, own_free}
 use Rattle.in_reducer.specs.Machines.{MachineParts}
 use Rattle.in_reducer.proofs.reducer.Reducer.free_ends.Goals as goal
-use Rattle.in_reducer.proofs.Shown.{same_many}
+use Rattle.in_reducer.proofs.Cells.Shown.{same_many}
 
 pub returns : goal.returns
 returns c =

@@ -9,9 +9,9 @@ use Rattle.in_reducer.specs.declared.body.OwnEnd.TheVariants.{Named}
 use Rattle.in_reducer.specs.Inside.{IsOwnEnd, declared_as, own_free}
 use Rattle.in_reducer.specs.Machines.{MachineParts, parts_of}
 use Rattle.in_reducer.specs.Standing.{leading_to}
-use Rattle.in_reducer.proofs.Looked.{read_at, free_named}
+use Rattle.in_reducer.proofs.Cells.Looked.{read_at, free_named}
 use Rattle.in_reducer.proofs.reducer.Reducer.free_name.Goals as goal
-use Rattle.in_reducer.proofs.Shown.{same_many}
+use Rattle.in_reducer.proofs.Cells.Shown.{same_many}
 
 pub index-requires : goal.index-requires
 index-requires c =

@@ -5,8 +5,8 @@ use Rattle.in_arena.specs.Classes.{classes}
 use Rattle.in_compile.specs.Cells.{agents_of, count_of}
 use Rattle.in_reducer.specs.Machines.{MachineParts}
 use Rattle.in_reducer.specs.Standing.{rested}
-use Rattle.in_reducer.proofs.Counted.{cells_at_rest}
-use Rattle.in_reducer.proofs.CutOff.{free_many}
+use Rattle.in_reducer.proofs.Cells.Counted.{cells_at_rest}
+use Rattle.in_reducer.proofs.Cuts.CutOff.{free_many}
 use Rattle.in_reducer.proofs.reducer.Reducer.glue_on.Goals as goal
 
 abbrev ends : MachineParts → ℕ

@@ -1,7 +1,7 @@
 use Rattle.std.proofs.Common.{length, sym, ap, subst, arith}
 use Rattle.in_reducer.specs.Cutting.{CanJoin}
 use Rattle.in_reducer.specs.Machines.{MachineParts}
-use Rattle.in_reducer.proofs.CutOff.{free_many}
+use Rattle.in_reducer.proofs.Cuts.CutOff.{free_many}
 use Rattle.in_reducer.proofs.reducer.Reducer.join_last.Goals as goal
 
 pub join_last-requires-clause-can : goal.join_last-requires-clause-can

@@ -3,8 +3,8 @@ use Rattle.std.specs.VecDeque.{deque_capacity}
 use Rattle.in_arena.specs.Arenas.{free_of}
 use Rattle.in_arena.specs.Classes.{classes}
 use Rattle.in_reducer.specs.declared.body.Body.{Body}
-use Rattle.in_reducer.proofs.StartKept.{is_kept, member_is, starts}
-use Rattle.in_reducer.proofs.StartNet.{all_free, enough, few_joints, few_pairs, has_joint, has_pair, none_after}
+use Rattle.in_reducer.proofs.Starts.StartKept.{is_kept, member_is, starts}
+use Rattle.in_reducer.proofs.Starts.StartNet.{all_free, enough, few_joints, few_pairs, has_joint, has_pair, none_after}
 use Rattle.in_reducer.proofs.reducer.Reducer.new.Goals as goal
 
 pub place_start-requires : goal.place_start-requires

@@ -2,7 +2,7 @@ use Rattle.std.proofs.Common.{◌<◌, IsSome, length, sym, subst}
 use Rattle.in_net.specs.Parts.{symbol_in}
 use Rattle.in_reducer.specs.Inside.{reducer_view}
 use Rattle.in_reducer.specs.Machines.{MachineParts, parts_of}
-use Rattle.in_reducer.proofs.Looked.{read_at, have_symbols}
+use Rattle.in_reducer.proofs.Cells.Looked.{read_at, have_symbols}
 use Rattle.in_reducer.proofs.reducer.Reducer.pair.Goals as goal
 
 pub returns-clause-agents : goal.returns-clause-agents

@@ -1,5 +1,5 @@
 use Rattle.std.proofs.Common.{arith}
-use Rattle.in_reducer.proofs.Queues.{short_queue}
+use Rattle.in_reducer.proofs.Pairs.Queues.{short_queue}
 use Rattle.in_reducer.proofs.reducer.Reducer.pairs.Goals as goal
 
 pub overflow_cast-result : goal.overflow_cast-result

@@ -5,7 +5,7 @@ use Rattle.in_net.specs.Parts.{IsPointOf, partner_in}
 use Rattle.in_reducer.specs.Inside.{own_free, reducer_view}
 use Rattle.in_reducer.specs.Machines.{MachineParts, parts_of, point_at}
 use Rattle.in_reducer.specs.Standing.{leading_to}
-use Rattle.in_reducer.proofs.Looked.{read_at, partner_is, free_below, free_leads}
+use Rattle.in_reducer.proofs.Cells.Looked.{read_at, partner_is, free_below, free_leads}
 use Rattle.in_reducer.proofs.reducer.Reducer.partner.Goals as goal
 
 pub index-requires : goal.index-requires

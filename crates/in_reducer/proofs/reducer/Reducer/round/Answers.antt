@@ -6,8 +6,8 @@ use Rattle.in_reducer.specs.Machines.{MachineParts}
 use Rattle.in_reducer.specs.Runs.{Runs, jobs_of}
 use Rattle.in_reducer.specs.Steps.{HasRoomAt}
 use Rattle.in_work.proofs.Public.{lent_have_all}
-use Rattle.in_reducer.proofs.Lending as lending
-use Rattle.in_reducer.proofs.Queues.{short_queue}
+use Rattle.in_reducer.proofs.Cells.Lending as lending
+use Rattle.in_reducer.proofs.Pairs.Queues.{short_queue}
 use Rattle.in_reducer.proofs.reducer.Reducer.round.Goals as goal
 
 some_or_none : (k : ℕ) → (0 < k) ⊎ (k ≡ 0)

@@ -2,8 +2,8 @@ use Rattle.std.proofs.Common.{◌≡◌, ℕ, length, sym, ap, subst, arith}
 use Rattle.in_check.specs.Programs.{Program}
 use Rattle.in_compile.specs.Templates.{AreTemplatesOf}
 use Rattle.in_reducer.specs.Machines.{MachineParts}
-use Rattle.in_reducer.proofs.CutOff.{free_many}
-use Rattle.in_reducer.proofs.StartKept.{tools_fit}
+use Rattle.in_reducer.proofs.Cuts.CutOff.{free_many}
+use Rattle.in_reducer.proofs.Starts.StartKept.{tools_fit}
 use Rattle.in_reducer.proofs.reducer.Reducer.split_off.Goals as goal
 
 abbrev ends : MachineParts → ℕ

@@ -1,0 +1,9 @@
+-- What the cells show, and how many there are.
+pub mod AsMany
+pub mod AtRest
+pub mod Counted
+pub mod Lending
+pub mod LiveCounted
+pub mod Looked
+pub mod Short
+pub mod Shown

@@ -1,0 +1,7 @@
+-- Queues of active pairs.
+pub mod QueueBeside
+pub mod QueueSplit
+pub mod Queued
+pub mod Queues
+pub mod Reordered
+pub mod Requeued

@@ -1,0 +1,14 @@
+-- One interaction.
+pub mod Besides
+pub mod Finished
+pub mod Found
+pub mod Laid
+pub mod Ordered
+pub mod Putting
+pub mod SetUp
+pub mod Settled
+pub mod Sided
+pub mod Stepped
+pub mod StepsOn
+pub mod StillNet
+pub mod TakesNeed

@@ -1,0 +1,146 @@
+-- After an interaction each live cell is of the class of its agent's symbol, and the cells on lease are those of before.
+use Rattle.std.proofs.Common.{◌≡◌, ◌≢◌, ◌⊎◌, inl, inr, ◌<◌, ◌*◌, ℕ, true, Some, None, List, length, get_or, refl, sym, ap, subst, ◌∙◌, get_or-set_same, get_or-set_other, arith}
+use Rattle.std.proofs.Math.ListN.{get_or-map}
+use Rattle.std.proofs.lemmas.List.{length-map, length-set}
+use native.Mathlib.Decide.{ℕ_discrete}
+use Rattle.std.proofs.lemmas.Bool.{cases_eq}
+use Rattle.in_arena.specs.Arenas.{ArenaView, changed, state_at}
+use Rattle.in_arena.specs.Changes.{HasAllCells}
+use Rattle.in_arena.specs.Classes.{classes, IsNumberOf}
+use Rattle.in_arena.specs.States.{State, Vacant, Leased, Live, IsLeased, IsLive, word_of}
+use Rattle.in_arena.specs.declared.content.CellClass.{CellClass}
+use Rattle.in_arena.specs.declared.content.CellNo.{CellNo}
+use Rattle.in_arena.proofs.Public.{state_inside, numbers_apart, live_in}
+use Rattle.in_symbols.specs.Tables.{Tables}
+use Rattle.in_net.specs.Built.{IsOver}
+use Rattle.in_net.specs.Parts.{Parts}
+use Rattle.in_joining.specs.Cells.{KeepsCells, outline}
+use Rattle.in_joining.proofs.Public.{word_kept}
+use Rattle.in_compile.specs.Cells.{is_of}
+use Rattle.in_compile.specs.Members.{MemberParts, IsMemberOf}
+use Rattle.in_reducer.specs.Placed.{IsNoneOf, IsPut}
+use Rattle.in_reducer.specs.Standing.{AreLeasedAlike, IsNetIn, at_rest}
+use Rattle.in_reducer.proofs.Cells.AtRest as rest
+use Rattle.in_reducer.proofs.Steps.Laid as laid
+use Rattle.in_reducer.proofs.Steps.Laid.{in_or_out}
+
+-- what a cell is, as far as this asks
+abbrev pub IsGood : Tables → ArenaView → ℕ → State → Type 0
+IsGood t a n x = (c : CellClass) (s : ℕ) → IsNumberOf a.cells c n → word_of x ≡ Some s → is_of t c s ≡ true
+
+pub net_in : (t : Tables) (a b : ArenaView) → HasAllCells (at_rest a) → b.cells ≡ a.cells → length b.states ≡ length a.states → ((n : ℕ) → IsGood t a n (state_at b n)) → IsNetIn t (at_rest b)
+net_in t a b all cells many good = record {
+  all = (let f = ap (λ (z : ℕ). length classes * z) cells in let g = rest.as_many a in let h = rest.as_many b in omega (arith, all, many, f, g, h));
+  none = rest.none_at_rest b;
+  classed = λ c n s at w. good n c s (subst (λ (z : ℕ). IsNumberOf z c n) cells at) (sym (rest.word_at b n) ∙ w);
+}
+
+pub good_of : (t : Tables) (a : ArenaView) → IsNetIn t (at_rest a) → (n : ℕ) → IsGood t a n (state_at a n)
+good_of t a h n c s at w = h.classed c n s at (rest.word_at a n ∙ w)
+
+pub good_vacant : (t : Tables) (a : ArenaView) (n : ℕ) → IsGood t a n Vacant
+good_vacant t a n c s at w = absurd (let f : None ≡ Some s = w in cc)
+
+-- a retired cell, and others as they were
+pub retired_good : (t : Tables) (a b : ArenaView) (y : ℕ) → length b.states ≡ length a.states → IsLive (state_at b y) → ((n : ℕ) → IsGood t a n (state_at b n)) → (n : ℕ) → IsGood t a n (state_at (changed b y Vacant) n)
+retired_good t a b y many live good n = elim (ℕ_discrete n y) [
+  | yes e ↦ subst (IsGood t a n) (sym (ap (state_at (changed b y Vacant)) e ∙ get_or-set_same b.states y Vacant Leased (state_inside b y (λ f. (subst IsLive f live))))) (good_vacant t a n)
+  | no ne ↦ subst (IsGood t a n) (sym (get_or-set_other b.states y n Vacant Leased ne)) (good n)
+]
+
+module _ (t : Tables) (n : Parts) (over : IsOver t n) (m : MemberParts) (of : IsMemberOf t n m) (ns : List CellNo) (a b : ArenaView) (put : IsPut m ns a b) (net : IsNetIn t (at_rest a)) where
+  pub put_good : (y : ℕ) → IsGood t a y (state_at b y)
+  put_good y = go (in_or_out ns y)
+    where
+      go : laid.InOrOut ns y → IsGood t a y (state_at b y)
+      go (inr out) = subst (IsGood t a y) (sym (put.others y out)) (good_of t a net y)
+      go (inl at) =
+          let x = laid.whose t n over m of ns a b put at.0 y at.1 in
+          let there = put.each at.0 x.0 (record { 0 = y }) x.1 at.1 in
+          let number : IsNumberOf a.cells x.0.class y = subst (λ (z : ℕ). IsNumberOf z x.0.class y) put.cells there.0 in
+          λ c s in_class w. (
+          let same : x.0.symbol.0 ≡ s = (let f : Some x.0.symbol.0 ≡ Some s = sym (ap word_of there.2) ∙ w in cc) in
+          let one : x.0.class ≡ c = numbers_apart a.cells y x.0.class c number in_class in
+          subst (λ (d : CellClass). is_of t d s ≡ true) one (subst (λ (z : ℕ). is_of t x.0.class z ≡ true) same (of.classes at.0 x.0 x.1))
+          )
+
+  -- a cell on lease was so before
+  pub put_leased : (y : ℕ) → IsLeased (state_at b y) → IsLeased (state_at a y)
+  put_leased y leased = go (in_or_out ns y)
+    where
+      go : laid.InOrOut ns y → IsLeased (state_at a y)
+      go (inr out) = subst IsLeased (put.others y out) leased
+      go (inl at) = let x = laid.whose t n over m of ns a b put at.0 y at.1 in absurd (subst IsLeased (put.each at.0 x.0 (record { 0 = y }) x.1 at.1).2 leased)
+
+-- ---- leases
+
+pub alike_through : (a b c : ArenaView) → AreLeasedAlike a b → AreLeasedAlike b c → AreLeasedAlike a c
+alike_through a b c h k = record {
+  memory = k.memory ∙ h.memory;
+  cells = k.cells ∙ h.cells;
+  many = k.many ∙ h.many;
+  stay = λ n l. k.stay n (h.stay n l);
+  none = λ n low l. h.none n low (k.none n (subst (λ (z : ℕ). n < z) (sym h.many) low) l);
+}
+
+-- a retired cell was none of them, and is none
+pub retired_alike : (a b : ArenaView) (y : ℕ) → IsLive (state_at a y) → b ≡ changed a y Vacant → AreLeasedAlike a b
+retired_alike a b y live e = subst (AreLeasedAlike a) (sym e) (record {
+  memory = refl;
+  cells = refl;
+  many = length-set a.states y Vacant;
+  stay = λ n l. go n l (cases_eq n y);
+  none = λ n low l. back n l (cases_eq n y);
+})
+  where
+    go : (n : ℕ) → IsLeased (state_at a n) → (n ≡ y) ⊎ (n ≢ y) → IsLeased (state_at (changed a y Vacant) n)
+    go n l (inl same) = absurd (live_in (state_at a y) live (subst (λ (z : ℕ). IsLeased (state_at a z)) same l))
+    go n l (inr ne) = subst IsLeased (sym (get_or-set_other a.states y n Vacant Leased ne)) l
+
+    back : (n : ℕ) → IsLeased (state_at (changed a y Vacant) n) → (n ≡ y) ⊎ (n ≢ y) → IsLeased (state_at a n)
+    back n l (inl same) = absurd (subst IsLeased (ap (state_at (changed a y Vacant)) same ∙ get_or-set_same a.states y Vacant Leased (state_inside a y (λ f. (subst IsLive f live)))) l)
+    back n l (inr ne) = subst IsLeased (get_or-set_other a.states y n Vacant Leased ne) l
+
+-- ---- joining
+
+leased_outline : (x : State) → IsLeased x → outline x ≡ Leased
+leased_outline Vacant h = absurd h
+leased_outline Leased h = refl
+leased_outline (Live w es) h = absurd h
+
+outline_leased : (x : State) → outline x ≡ Leased → IsLeased x
+outline_leased Vacant e = absurd (subst IsLeased (sym e) tt)
+outline_leased Leased e = tt
+outline_leased (Live w es) e = absurd (subst IsLeased (sym e) tt)
+
+module _ (a b : ArenaView) (kept : KeepsCells a b) where
+  pub as_many : length b.states ≡ length a.states
+  as_many = sym (length-map b.states outline) ∙ ap length kept.outlines ∙ length-map a.states outline
+
+  same_outline : (n : ℕ) → outline (state_at b n) ≡ outline (state_at a n)
+  same_outline n = sym (get_or-map outline b.states n Leased) ∙ ap (λ (xs : List State). get_or xs n Leased) kept.outlines ∙ get_or-map outline a.states n Leased
+
+  pub kept_good : (t : Tables) (first : ArenaView) → ((n : ℕ) → IsGood t first n (state_at a n)) → (n : ℕ) → IsGood t first n (state_at b n)
+  kept_good t first good n c s at w = good n c s at (sym (word_kept a b kept n) ∙ w)
+
+  pub kept_alike : AreLeasedAlike a b
+  kept_alike = record {
+    memory = kept.memory;
+    cells = kept.cells;
+    many = as_many;
+    stay = λ n l. outline_leased (state_at b n) (same_outline n ∙ leased_outline (state_at a n) l);
+    none = λ n low l. outline_leased (state_at a n) (sym (same_outline n) ∙ leased_outline (state_at b n) l);
+  }
+
+-- ---- bags
+
+-- what has no cell is of the arena after
+pub still_none : (b a c : ArenaView) → AreLeasedAlike a c → IsNoneOf b a → IsNoneOf b c
+still_none b a c alike h = (
+  record {
+    memory = h.0.memory ∙ sym alike.memory;
+    cells = h.0.cells ∙ sym alike.cells;
+    leased = λ n here. absurd (here (subst IsLeased (sym (h.1 n)) tt));
+  },
+  h.1,
+)
