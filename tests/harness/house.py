@@ -11,7 +11,7 @@ FOR_EVERYBODY = {"in_base"}
 CITED = re.compile(r"^\s*(?:unfoldable )?(?:pub )?use (?:package\.)?Rattle\.(in\w+)\.proofs\.(\w+)", re.MULTILINE)
 TYPE = re.compile(r"^\s*(?:pattern |unfoldable |abbrev )*pub (?:data |record )?([A-Z]\w*)", re.MULTILINE)
 # So many names of types have more than one home in specs/. The number may only fall: one name, one home.
-MOST_WITH_TWO_HOMES = 15
+MOST_WITH_TWO_HOMES = 14
 # A line of crates.txt that has a crate's libraries, and the one below it that has those that the crate never names.
 LIBRARIES = re.compile(r"^(in\w+)(?: [^:\n]*)?:(.*)\n(?:#     for contracts alone:(.*)\n)?", re.MULTILINE)
 # What the field says in the place of words that were used here.

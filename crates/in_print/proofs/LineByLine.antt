@@ -9,16 +9,16 @@ use Rattle.in_reducer.specs.Machines.{MachineParts}
 use Rattle.in_rounds.specs.Machines.{IsMachine}
 use Rattle.in_print.specs.Terms.{term_in}
 use Rattle.in_print.specs.Texts.{setting_of, IsPointAt, Wrote, free_lines_in, pair_lines_in}
-use Rattle.in_print.specs.Writings.{Setting, Written, with_bytes, with_parts}
+use Rattle.in_print.specs.Writings.{Setting, TextSoFar, with_bytes, with_parts}
 use Rattle.in_print.proofs.Looking.{shown_partner, net}
 use Rattle.in_print.proofs.Remaining.{agent_at}
 use Rattle.in_print.proofs.Texts.{with_parts_join}
 
 -- a front, a term, and the end of the line
-pub one_line : (s : Setting) (w : Written) (front : List ℕ) (parts : List (TextPart ℕ)) → with_bytes (with_parts s (with_bytes w front) parts) (10 ∷ []) ≡ with_parts s w (Bytes front ∷ (parts ++ (Bytes (10 ∷ []) ∷ [])))
+pub one_line : (s : Setting) (w : TextSoFar) (front : List ℕ) (parts : List (TextPart ℕ)) → with_bytes (with_parts s (with_bytes w front) parts) (10 ∷ []) ≡ with_parts s w (Bytes front ∷ (parts ++ (Bytes (10 ∷ []) ∷ [])))
 one_line s w front parts = sym (with_parts_join s (with_bytes w front) parts (Bytes (10 ∷ []) ∷ []))
 
-pub two_terms : (s : Setting) (w : Written) (first second : List (TextPart ℕ)) → with_bytes (with_parts s (with_bytes (with_parts s w first) (32 ∷ 126 ∷ 32 ∷ [])) second) (10 ∷ []) ≡ with_parts s w (first ++ (Bytes (32 ∷ 126 ∷ 32 ∷ []) ∷ (second ++ (Bytes (10 ∷ []) ∷ []))))
+pub two_terms : (s : Setting) (w : TextSoFar) (first second : List (TextPart ℕ)) → with_bytes (with_parts s (with_bytes (with_parts s w first) (32 ∷ 126 ∷ 32 ∷ [])) second) (10 ∷ []) ≡ with_parts s w (first ++ (Bytes (32 ∷ 126 ∷ 32 ∷ []) ∷ (second ++ (Bytes (10 ∷ []) ∷ []))))
 two_terms s w first second = one_line s (with_parts s w first) (32 ∷ 126 ∷ 32 ∷ []) second ∙ sym (with_parts_join s w first (Bytes (32 ∷ 126 ∷ 32 ∷ []) ∷ (second ++ (Bytes (10 ∷ []) ∷ []))))
 
 -- one line more
@@ -49,8 +49,8 @@ take_more [] i q h = cc
 take_more (r ∷ qs) zero q h = ap (λ r. r ∷ []) (same_Some r q h)
 take_more (r ∷ qs) (suc i) q h = ap (λ l. r ∷ l) (take_more qs i q h)
 
-module _ (m : MachineParts) (start : Written) where
-  pub wrote_free : (old new : Written) (k : ℕ) → Wrote m start old (λ d. free_lines_in m d 0 k) → Wrote m old new (λ d. free_lines_in m d k 1) → Wrote m start new (λ d. free_lines_in m d 0 (k + 1))
+module _ (m : MachineParts) (start : TextSoFar) where
+  pub wrote_free : (old new : TextSoFar) (k : ℕ) → Wrote m start old (λ d. free_lines_in m d 0 k) → Wrote m old new (λ d. free_lines_in m d k 1) → Wrote m start new (λ d. free_lines_in m d 0 (k + 1))
   wrote_free old new k h g d le =
       let s = setting_of m in
       let at : 0 + k ≡ k = omega arith in
@@ -58,7 +58,7 @@ module _ (m : MachineParts) (start : Written) where
       g d le ∙ ap (λ w. with_parts s w (free_lines_in m d k 1)) (h d le) ∙ sym (with_parts_join s start (free_lines_in m d 0 k) (free_lines_in m d k 1))
       ∙ ap (with_parts s start) (sym (free_more s.symbols s.words s.net d 0 k ∙ ap (λ j. free_lines_in m d 0 k ++ free_lines_in m d j 1) at) ∙ ap (free_lines_in m d 0) next)
 
-  pub wrote_pair : (old new : Written) (i : ℕ) (q : ℕ × ℕ) → slice_get m.queue i ≡ Some q → Wrote m start old (λ d. pair_lines_in m d (take i m.queue)) → Wrote m old new (λ d. pair_lines_in m d (q ∷ [])) → Wrote m start new (λ d. pair_lines_in m d (take (i + 1) m.queue))
+  pub wrote_pair : (old new : TextSoFar) (i : ℕ) (q : ℕ × ℕ) → slice_get m.queue i ≡ Some q → Wrote m start old (λ d. pair_lines_in m d (take i m.queue)) → Wrote m old new (λ d. pair_lines_in m d (q ∷ [])) → Wrote m start new (λ d. pair_lines_in m d (take (i + 1) m.queue))
   wrote_pair old new i q at h g d le =
       let s = setting_of m in
       let next : suc i ≡ i + 1 = omega arith in

@@ -4,8 +4,8 @@ use Rattle.in_net.specs.Nets.{Point, Port, Free, IsPoint, IsNet}
 use Rattle.in_check.specs.NetText.{TextPart, Bytes, Head, Variable, arity_of, listed, bracketed, agent_term, term_at, IsAuxiliary}
 use Rattle.in_arena.specs.declared.content.CellNo.{CellNo}
 use Rattle.in_print.specs.declared.terms.Frame.{Frame}
-use Rattle.in_print.specs.Writings.{Setting, Written, with_parts}
-use Rattle.in_print.specs.Terms.{arity_at, term_in, rest_of, Leads, remaining, last_point, IsInHand, IsShallow, WritesOn}
+use Rattle.in_print.specs.Writings.{Setting, TextSoFar, with_parts}
+use Rattle.in_print.specs.Terms.{arity_at, term_in, rest_of, LeadsDown, remaining, last_point, IsInHand, IsShallow, WritesOn}
 use Rattle.in_print.proofs.Texts.{with_parts_join}
 
 abbrev pub frame : CellNo → ℕ → Frame
@@ -64,11 +64,11 @@ followed s (suc d) (g ∷ fs) y i lt le = ap (λ l. l ++ rest_of (term_in s d) g
 
 -- ---- the agents that hang on each other
 
-pub leads_push : (s : Setting) (p : Point ℕ) (fs : List Frame) (f : Frame) → Leads s p fs → s.net.partner (last_point p fs) ≡ Some (Port f.cell.0 0) → 0 < f.place → f.place ≤ arity_at s f.cell.0 → Leads s p (fs ++ f ∷ [])
+pub leads_push : (s : Setting) (p : Point ℕ) (fs : List Frame) (f : Frame) → LeadsDown s p fs → s.net.partner (last_point p fs) ≡ Some (Port f.cell.0 0) → 0 < f.place → f.place ≤ arity_at s f.cell.0 → LeadsDown s p (fs ++ f ∷ [])
 leads_push s p [] f h e lt le = (e, lt, le, tt)
 leads_push s p (g ∷ fs) f h e lt le = (h.0, h.1, h.2, leads_push s (Port g.cell.0 g.place) fs f h.3 e lt le)
 
-pub leads_pop : (s : Setting) (p : Point ℕ) (fs : List Frame) (f : Frame) → Leads s p (fs ++ f ∷ []) → Leads s p fs × (s.net.partner (last_point p fs) ≡ Some (Port f.cell.0 0)) × (0 < f.place) × (f.place ≤ arity_at s f.cell.0)
+pub leads_pop : (s : Setting) (p : Point ℕ) (fs : List Frame) (f : Frame) → LeadsDown s p (fs ++ f ∷ []) → LeadsDown s p fs × (s.net.partner (last_point p fs) ≡ Some (Port f.cell.0 0)) × (0 < f.place) × (f.place ≤ arity_at s f.cell.0)
 leads_pop s p [] f h = (tt, h.0, h.1, h.2)
 leads_pop s p (g ∷ fs) f h = let r = leads_pop s (Port g.cell.0 g.place) fs f h.3 in ((h.0, h.1, h.2, r.0), r.1, r.2, r.3)
 
@@ -79,13 +79,13 @@ last_push p (g ∷ fs) f = last_push (Port g.cell.0 g.place) fs f
 -- ---- each step
 
 -- these parts were written
-step : (s : Setting) (d : ℕ) (p : Point ℕ) (w : Written) (fs gs : List Frame) (x y : Option (Point ℕ)) (done : List (TextPart ℕ)) → 0 < length done → remaining s d fs x ≡ done ++ remaining s d gs y → Leads s p gs → IsInHand p gs y
+step : (s : Setting) (d : ℕ) (p : Point ℕ) (w : TextSoFar) (fs gs : List Frame) (x y : Option (Point ℕ)) (done : List (TextPart ℕ)) → 0 < length done → remaining s d fs x ≡ done ++ remaining s d gs y → LeadsDown s p gs → IsInHand p gs y
     → WritesOn s d p w fs x (with_parts s w done) gs y
 step s d p w fs gs x y done some e h f =
     record { text = sym (with_parts_join s w done (remaining s d gs y)) ∙ ap (with_parts s w) (sym e); fewer = omega (arith, ap length e, length-append done (remaining s d gs y), some); leads = h; in_hand = f }
 
 -- there is room for one agent more
-deeper : (s : Setting) (d : ℕ) (p : Point ℕ) (fs : List Frame) (f : Frame) → IsShallow s d p → Leads s p (fs ++ f ∷ []) → length fs < d
+deeper : (s : Setting) (d : ℕ) (p : Point ℕ) (fs : List Frame) (f : Frame) → IsShallow s d p → LeadsDown s p (fs ++ f ∷ []) → length fs < d
 deeper s d p fs f shallow h = let le = (shallow (fs ++ f ∷ []) h).0 in omega (arith, length-append fs (f ∷ []), le)
 
 variable_at : (agent : ℕ → List (TextPart ℕ)) (p q : Point ℕ) → IsAuxiliary q → term_at agent p (Some q) ≡ Variable p q ∷ []
@@ -97,7 +97,7 @@ variable_term : (s : Setting) (k : ℕ) (p q : Point ℕ) → s.net.partner p �
 variable_term s zero p q e h = ap (term_at (λ y. []) p) e ∙ variable_at (λ y. []) p q h
 variable_term s (suc k) p q e h = ap (term_at (agent_term s.symbols s.net (term_in s k)) p) e ∙ variable_at (agent_term s.symbols s.net (term_in s k)) p q h
 
-pub writes_variable : (s : Setting) (d : ℕ) (p : Point ℕ) (w : Written) (fs : List Frame) (x q : Point ℕ) → IsShallow s d p → Leads s p fs → s.net.partner x ≡ Some q → IsAuxiliary q
+pub writes_variable : (s : Setting) (d : ℕ) (p : Point ℕ) (w : TextSoFar) (fs : List Frame) (x q : Point ℕ) → IsShallow s d p → LeadsDown s p fs → s.net.partner x ≡ Some q → IsAuxiliary q
     → WritesOn s d p w fs (Some x) (with_parts s w (Variable x q ∷ [])) fs None
 writes_variable s d p w fs x q shallow h e aux =
     step s d p w fs fs (Some x) None (Variable x q ∷ []) (omega arith) (leaf s d fs x (Variable x q) (shallow fs h).0 (λ k i. variable_term s k x q e aux)) h tt
@@ -106,7 +106,7 @@ head_term : (s : Setting) (k : ℕ) (p : Point ℕ) (y : ℕ) → s.net.partner 
 head_term s zero p y e a lt = absurd (omega (arith, lt))
 head_term s (suc k) p y e a lt = agent_at s k p y e ∙ closed_term s k y a
 
-pub writes_head : (s : Setting) (d : ℕ) (p : Point ℕ) (w : Written) (fs : List Frame) (x : Point ℕ) (y : CellNo) → IsShallow s d p → Leads s p fs → x ≡ last_point p fs → s.net.partner x ≡ Some (Port y.0 0) → arity_at s y.0 ≡ 0
+pub writes_head : (s : Setting) (d : ℕ) (p : Point ℕ) (w : TextSoFar) (fs : List Frame) (x : Point ℕ) (y : CellNo) → IsShallow s d p → LeadsDown s p fs → x ≡ last_point p fs → s.net.partner x ≡ Some (Port y.0 0) → arity_at s y.0 ≡ 0
     → WritesOn s d p w fs (Some x) (with_parts s w (Head y.0 ∷ [])) fs None
 writes_head s d p w fs x y shallow h at e a =
     let lt : length fs < d = (shallow fs h).1 y.0 (ap s.net.partner (sym at) ∙ e) in
@@ -116,7 +116,7 @@ pred_of : (a : ℕ) → 0 < a → (k : ℕ) × (a ≡ suc k)
 pred_of zero lt = absurd (omega (arith, lt))
 pred_of (suc k) lt = (k, refl)
 
-pub writes_agent : (s : Setting) (d : ℕ) (p : Point ℕ) (w : Written) (fs : List Frame) (x : Point ℕ) (y : CellNo) → IsShallow s d p → Leads s p fs → x ≡ last_point p fs → s.net.partner x ≡ Some (Port y.0 0) → 0 < arity_at s y.0
+pub writes_agent : (s : Setting) (d : ℕ) (p : Point ℕ) (w : TextSoFar) (fs : List Frame) (x : Point ℕ) (y : CellNo) → IsShallow s d p → LeadsDown s p fs → x ≡ last_point p fs → s.net.partner x ≡ Some (Port y.0 0) → 0 < arity_at s y.0
     → WritesOn s d p w fs (Some x) (with_parts s w (Head y.0 ∷ Bytes (40 ∷ []) ∷ [])) (fs ++ frame y 1 ∷ []) (Some (Port y.0 1))
 writes_agent s d p w fs x y shallow h at e lt =
     let more = leads_push s p fs (frame y 1) h (ap s.net.partner (sym at) ∙ e) (omega arith) (omega (arith, lt)) in
@@ -124,12 +124,12 @@ writes_agent s d p w fs x y shallow h at e lt =
     step s d p w fs (fs ++ frame y 1 ∷ []) (Some x) (Some (Port y.0 1)) (Head y.0 ∷ Bytes (40 ∷ []) ∷ []) (omega arith)
     (opened s d fs x y a.0 (deeper s d p fs (frame y 1) shallow more) e a.1) more (sym (last_push p fs (frame y 1)))
 
-pub writes_close : (s : Setting) (d : ℕ) (p : Point ℕ) (w : Written) (fs : List Frame) (f : Frame) → IsShallow s d p → Leads s p (fs ++ f ∷ []) → arity_at s f.cell.0 ≤ f.place
+pub writes_close : (s : Setting) (d : ℕ) (p : Point ℕ) (w : TextSoFar) (fs : List Frame) (f : Frame) → IsShallow s d p → LeadsDown s p (fs ++ f ∷ []) → arity_at s f.cell.0 ≤ f.place
     → WritesOn s d p w (fs ++ f ∷ []) None (with_parts s w (Bytes (41 ∷ []) ∷ [])) fs None
 writes_close s d p w fs f shallow h le =
     step s d p w (fs ++ f ∷ []) fs None None (Bytes (41 ∷ []) ∷ []) (omega arith) (closed s d fs f (deeper s d p fs f shallow h) (omega (arith, le))) (leads_pop s p fs f h).0 tt
 
-pub writes_comma : (s : Setting) (d : ℕ) (p : Point ℕ) (w : Written) (fs : List Frame) (y : CellNo) (i : ℕ) → IsShallow s d p → Leads s p (fs ++ frame y i ∷ []) → i < arity_at s y.0
+pub writes_comma : (s : Setting) (d : ℕ) (p : Point ℕ) (w : TextSoFar) (fs : List Frame) (y : CellNo) (i : ℕ) → IsShallow s d p → LeadsDown s p (fs ++ frame y i ∷ []) → i < arity_at s y.0
     → WritesOn s d p w (fs ++ frame y i ∷ []) None (with_parts s w (Bytes (44 ∷ 32 ∷ []) ∷ [])) (fs ++ frame y (i + 1) ∷ []) (Some (Port y.0 (i + 1)))
 writes_comma s d p w fs y i shallow h lt =
     let old = leads_pop s p fs (frame y i) h in
@@ -139,7 +139,7 @@ writes_comma s d p w fs y i shallow h lt =
 -- ---- points of the net
 
 -- the point in hand is one
-pub last_there : (s : Setting) → IsNet s.symbols s.net → (p : Point ℕ) (fs : List Frame) (q : Point ℕ) → IsPoint s.symbols s.net p → Leads s p fs → q ≡ last_point p fs → IsPoint s.symbols s.net q
+pub last_there : (s : Setting) → IsNet s.symbols s.net → (p : Point ℕ) (fs : List Frame) (q : Point ℕ) → IsPoint s.symbols s.net p → LeadsDown s p fs → q ≡ last_point p fs → IsPoint s.symbols s.net q
 last_there s net p [] q h leads e = subst (IsPoint s.symbols s.net) (sym e) h
 last_there s net p (f ∷ fs) q h leads e = last_there s net (Port f.cell.0 f.place) fs q (there (s.net.symbol f.cell.0) (net.points (Port f.cell.0 0) p (net.back p (Port f.cell.0 0) leads.0)) leads.2) leads.3 e
   where

@@ -3,7 +3,7 @@
 use Rattle.std.specs.Prelude.{◌≡◌, ℕ, zero, suc, ◌-◌, ◌<◌, ◌≤◌, List, [], ◌∷◌, ◌++◌, length, Option, Some, None}
 use Rattle.in_net.specs.Nets.{Point, Port}
 use Rattle.in_check.specs.NetText.{TextPart, Bytes, arity_of, term}
-use Rattle.in_print.specs.Writings.{Setting, Written, with_parts}
+use Rattle.in_print.specs.Writings.{Setting, TextSoFar, with_parts}
 use Rattle.in_print.specs.declared.terms.Frame.{Frame}
 
 abbrev pub arity_at : Setting → ℕ → ℕ
@@ -18,9 +18,9 @@ rest_of t y i zero = Bytes (41 ∷ []) ∷ []
 rest_of t y i (suc k) = Bytes (44 ∷ 32 ∷ []) ∷ (t (Port y (suc i)) ++ rest_of t y (suc i) k)
 
 -- each of these agents, the first one at the point, hangs at the place of the one before it
-abbrev pub Leads : Setting → Point ℕ → List Frame → Type 0
-Leads s p [] = Unit {0}
-Leads s p (f ∷ fs) = (s.net.partner p ≡ Some (Port f.cell.0 0)) × (0 < f.place) × (f.place ≤ arity_at s f.cell.0) × Leads s (Port f.cell.0 f.place) fs
+abbrev pub LeadsDown : Setting → Point ℕ → List Frame → Type 0
+LeadsDown s p [] = Unit {0}
+LeadsDown s p (f ∷ fs) = (s.net.partner p ≡ Some (Port f.cell.0 0)) × (0 < f.place) × (f.place ≤ arity_at s f.cell.0) × LeadsDown s (Port f.cell.0 f.place) fs
 
 -- what is still to be written: the term at the point in hand, where there is one, and then the rest of each of these agents
 abbrev pub remaining : Setting → ℕ → List Frame → Option (Point ℕ) → List (TextPart ℕ)
@@ -40,11 +40,11 @@ IsInHand p fs (Some q) = q ≡ last_point p fs
 
 -- no more agents than so many hang on each other there, whether the last of them has auxiliary ports or not
 abbrev pub IsShallow : Setting → ℕ → Point ℕ → Type 0
-IsShallow s d p = (fs : List Frame) → Leads s p fs → (length fs ≤ d) × ((y : ℕ) → s.net.partner (last_point p fs) ≡ Some (Port y 0) → length fs < d)
+IsShallow s d p = (fs : List Frame) → LeadsDown s p fs → (length fs ≤ d) × ((y : ℕ) → s.net.partner (last_point p fs) ≡ Some (Port y 0) → length fs < d)
 
 -- some of it was written, and less is still to be written
-pub record WritesOn (s : Setting) (d : ℕ) (p : Point ℕ) (old : Written) (fs : List Frame) (x : Option (Point ℕ)) (new : Written) (gs : List Frame) (y : Option (Point ℕ)) : Type 0 where
+pub record WritesOn (s : Setting) (d : ℕ) (p : Point ℕ) (old : TextSoFar) (fs : List Frame) (x : Option (Point ℕ)) (new : TextSoFar) (gs : List Frame) (y : Option (Point ℕ)) : Type 0 where
   pub text : with_parts s new (remaining s d gs y) ≡ with_parts s old (remaining s d fs x)
   pub fewer : length (remaining s d gs y) < length (remaining s d fs x)
-  pub leads : Leads s p gs
+  pub leads : LeadsDown s p gs
   pub in_hand : IsInHand p gs y

@@ -11,11 +11,11 @@ pub record Setting : Type 0 where
   pub net : Net ℕ
 
 -- the bytes, and the points at which a wire was met for the first time, the last one first
-pub record Written : Type 0 where
+pub record TextSoFar : Type 0 where
   pub bytes : List ℕ
   pub met : List (Point ℕ)
 
-abbrev pub nothing_written : Written
+abbrev pub nothing_written : TextSoFar
 nothing_written = record { bytes = []; met = [] }
 
 -- the number of a wire between these points, and the wires that are met afterwards
@@ -25,19 +25,19 @@ number_at met p q = unwrap_or (number_of nat_eq met p q) (suc (length met))
 abbrev pub met_after : List (Point ℕ) → Point ℕ → Point ℕ → List (Point ℕ)
 met_after met p q = elim (number_of nat_eq met p q) [ None ↦ p ∷ met | Some k ↦ met ]
 
-abbrev pub with_bytes : Written → List ℕ → Written
+abbrev pub with_bytes : TextSoFar → List ℕ → TextSoFar
 with_bytes w bs = record { bytes = w.bytes ++ bs; met = w.met }
 
-abbrev pub with_variable : Written → Point ℕ → Point ℕ → Written
+abbrev pub with_variable : TextSoFar → Point ℕ → Point ℕ → TextSoFar
 with_variable w p q = record { bytes = w.bytes ++ variable_name (number_at w.met p q); met = met_after w.met p q }
 
 -- after one part more
-abbrev pub with_part : Setting → Written → TextPart ℕ → Written
+abbrev pub with_part : Setting → TextSoFar → TextPart ℕ → TextSoFar
 with_part s w (Bytes bs) = with_bytes w bs
 with_part s w (Head y) = with_bytes w (symbol_name s.words (s.net.symbol y))
 with_part s w (Variable p q) = with_variable w p q
 
 -- .. and after these parts
-abbrev pub with_parts : Setting → Written → List (TextPart ℕ) → Written
+abbrev pub with_parts : Setting → TextSoFar → List (TextPart ℕ) → TextSoFar
 with_parts s w [] = w
 with_parts s w (x ∷ xs) = with_parts s (with_part s w x) xs

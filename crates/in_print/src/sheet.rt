@@ -15,9 +15,9 @@ pub(crate) struct Sheet {
 }
 
 impl Model for Sheet {
-    ghost use Rattle.in_print.specs.Writings.{Written};
+    ghost use Rattle.in_print.specs.Writings.{TextSoFar};
 
-    ghost Value = { Written };
+    ghost Value = { TextSoFar };
 
     ghost view = { λ s. record { bytes = s.bytes.items; met = s.numbers } };
 }

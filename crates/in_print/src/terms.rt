@@ -4,7 +4,7 @@ ghost use Rattle.in_net.specs.Parts.{symbol_in};
 ghost use Rattle.in_rounds.specs.Machines.{IsMachine};
 ghost use Rattle.in_reducer.specs.Machines.{parts_of};
 ghost use Rattle.in_print.specs.Points.{point_at};
-ghost use Rattle.in_print.specs.Terms.{term_in, Leads, IsShallow, WritesOn, last_point};
+ghost use Rattle.in_print.specs.Terms.{term_in, LeadsDown, IsShallow, WritesOn, last_point};
 ghost use Rattle.in_print.specs.Texts.{setting_of, IsPointAt, IsPrincipalAt, Wrote};
 
 use crate::sheet::Sheet;
@@ -39,7 +39,7 @@ fn begin(
 ) -> Result<Option<End>, AllocError>
     requires machine { IsMachine machine.now }
     requires point { IsPointAt machine.now end }
-    ensures { IfOk result (λ x. (d : ℕ) (p : Point ℕ) → IsShallow (setting_of machine.now) d p → Leads (setting_of machine.now) p stack.old.items → point_at end ≡ last_point p stack.old.items →
+    ensures { IfOk result (λ x. (d : ℕ) (p : Point ℕ) → IsShallow (setting_of machine.now) d p → LeadsDown (setting_of machine.now) p stack.old.items → point_at end ≡ last_point p stack.old.items →
         WritesOn (setting_of machine.now) d p sheet.old stack.old.items (Some (point_at end)) sheet.new stack.new.items (option_map point_at x)) }
 {
     let partner = machine.partner(end);
@@ -65,7 +65,7 @@ fn go_on(
     frame: Frame,
 ) -> Result<Option<End>, AllocError>
     requires { IsSome (symbol_in (parts_of machine.now) frame.cell.0) }
-    ensures { IfOk result (λ x. (d : ℕ) (p : Point ℕ) → IsShallow (setting_of machine.now) d p → Leads (setting_of machine.now) p (stack.old.items ++ frame ∷ []) →
+    ensures { IfOk result (λ x. (d : ℕ) (p : Point ℕ) → IsShallow (setting_of machine.now) d p → LeadsDown (setting_of machine.now) p (stack.old.items ++ frame ∷ []) →
         WritesOn (setting_of machine.now) d p sheet.old (stack.old.items ++ frame ∷ []) None sheet.new stack.new.items (option_map point_at x)) }
 {
     let Frame { cell, place } = frame;

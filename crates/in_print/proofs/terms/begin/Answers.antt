@@ -4,7 +4,7 @@ use Rattle.in_check.specs.NetText.{Head}
 use Rattle.in_print.specs.declared.terms.Frame.{Frame}
 use Rattle.in_print.specs.Points.{point_at}
 use Rattle.in_print.specs.Texts.{setting_of}
-use Rattle.in_print.specs.Writings.{Written, with_bytes, with_parts}
+use Rattle.in_print.specs.Writings.{TextSoFar, with_bytes, with_parts}
 use Rattle.in_print.specs.Terms.{WritesOn}
 use Rattle.in_print.proofs.Looking.{shown_partner, shown_arity, shown_name, agent_there}
 use Rattle.in_print.proofs.Remaining.{writes_variable, writes_head, writes_agent}
@@ -36,5 +36,5 @@ returns c = λ d p shallow leads at.
     let head : c.add.new.self ≡ with_parts s c.args.sheet.now (Head y.0 ∷ []) = c.in_ok-add.ensures ∙ ap (with_bytes c.args.sheet.now) (c.as_bytes.ensures.value ∙ sym (shown_name m y.0 c.symbol_name.result.now c.symbol_name.ensures)) in
     let written = c.in_ok-add-2.ensures ∙ ap (λ w. with_bytes w (40 ∷ [])) head in
     let some = shown_arity m y.0 c.arity.result c.arity.ensures in
-    subst (λ (z : Written × List Frame). WritesOn s d p c.args.sheet.now fs (Some x) z.0 z.1 (Some (Port y.0 1))) (λ i. (sym written i, sym c.in_ok-push.ensures.items i))
+    subst (λ (z : TextSoFar × List Frame). WritesOn s d p c.args.sheet.now fs (Some x) z.0 z.1 (Some (Port y.0 1))) (λ i. (sym written i, sym c.in_ok-push.ensures.items i))
     (writes_agent s d p c.args.sheet.now fs x y shallow leads at e (omega (arith, some, c.if-arity-eq0.false)))
