@@ -7,6 +7,7 @@ pub mod Listed
 pub mod Moved
 pub mod Numbers
 pub mod Others
+pub mod PairRules
 pub mod Plain
 pub mod Renaming
 pub mod SameText

@@ -10,7 +10,8 @@ use Rattle.in_net.specs.Rules.{RuleParts}
 use Rattle.in_cover.specs.Cover.{IsPair, IsRuleOfSymbols, IsRuleFor}
 use Rattle.in_check.specs.Checking.{IsAccepted}
 use Rattle.in_check.specs.Plain.{PlainParts, IsPlain, IsPairAt, IsRuleAt, StepsTo}
-use Rattle.in_check.proofs.Reached.Plain.{fits, have_their_rule}
+use Rattle.in_check.proofs.Reached.PairRules.{fits}
+use Rattle.in_check.proofs.Reached.Plain.{have_their_rule}
 
 module _ (text : List ℕ) (p : PlainParts) (a b : AgentNo) (accepted : IsAccepted text p.program) (h : IsPlain p) (at : IsPairAt p a b) where
   pub pair_of : (c d : SymbolNo) → symbol_in p.net a.0 ≡ Some c → symbol_in p.net b.0 ≡ Some d → IsPair p.program.tables c.0 d.0
@@ -28,7 +29,7 @@ module _ (text : List ℕ) (p : PlainParts) (a b : AgentNo) (accepted : IsAccept
       (have_their_rule text p a b accepted h at).1 k r stands both
 
   pub can : (k : ℕ) (r : RuleParts) → IsRuleAt p a b k r → CanInteract p.program.tables p.net r a b
-  can k r is = fits p a b h at k r is
+  can k r is = fits p a b h.over at k r is
 
   pub stepped : (k : ℕ) (r : RuleParts) (m : Parts) → IsRuleAt p a b k r → Interacts p.net r a b m → StepsTo p a b (record { program = p.program; net = m })
   stepped k r m is act = record { number = k; rule = r; is_rule = is; acts = act; program = refl }

@@ -1,53 +1,14 @@
 -- What a reducer that keeps a sound net has: steps, a rule for each pair, one result. As for nets that are reached, with soundness in their place.
-use Rattle.std.proofs.Common.{◌≡◌, ◌++◌, ℕ, ◌<◌, ◌≤◌, true, false, List, length, Option, Some, slice_get, sym, subst, ap, inl, inr, ◌∙◌}
-use Rattle.std.specs.Prelude.{option_map, count_by, is_some}
-use native.Mathlib.Decide.{ℕ_discrete}
-use Rattle.in_symbols.specs.declared.symbols.SymbolNo.{SymbolNo}
-use Rattle.in_symbols.specs.Tables.{port_at}
-use Rattle.in_net.specs.declared.nets.AgentNo.{AgentNo}
-use Rattle.in_net.specs.declared.nets.Point as coded
+use Rattle.std.proofs.Common.{sym, subst}
 use Rattle.in_net.specs.Built.{IsOver}
-use Rattle.in_interaction.specs.Interacting.{unused, most_agents, CanInteract, Interacts}
+use Rattle.in_interaction.specs.Interacting.{unused}
 use Rattle.in_net.specs.Interactions.{redex_at}
-use Rattle.in_net.specs.Nets.{Port, net_of, signature_of, point_of}
-use Rattle.in_net.specs.Parts.{Parts, IsWhole, symbol_in}
-use Rattle.in_net.specs.Rules.{RuleParts, auxiliary_types}
-use Rattle.in_cover.specs.Cover.{IsPair, IsRuleOfSymbols}
-use Rattle.std.proofs.lemmas.Option.{same_Some}
-use Rattle.in_interaction.proofs.Public.{least_are_names, one_outcome}
-use Rattle.in_open_nets_of_programs.proofs.Public.{same_symbol}
-use Rattle.in_check.specs.Checking.{IsAccepted, IsProgramOf}
-use Rattle.in_check.specs.Programs.{Program}
-use Rattle.in_check.specs.Plain.{PlainParts, StepsTo, StepsAs, IsPairAt, IsRuleAt}
-use Rattle.in_check.specs.Runs.{IsInteraction}
-use Rattle.in_check.specs.Systems.{IsSound, IsMatching, IsNumberOfRule, IsSoundSystem, rule_in, system_of}
-use Rattle.in_check.proofs.Public.{program_of, is_matching, is_sound, to_mapped, sound_reached}
+use Rattle.in_net.specs.Nets.{net_of}
+use Rattle.in_check.specs.Systems.{IsSound, system_of}
+use Rattle.in_check.proofs.Public.{acts_of, as_least, is_pair, is_sound, one_step, plain_is_sound, rule_at}
 use Rattle.in_glue.specs.PartRuns.{one_more}
-use Rattle.in_glue.specs.Reducible.{IsReducible, PlainIsReducible, ReducibleSteps, ReducibleStepsUnderNames, ReduciblePairsHaveTheirRule, ReducibleStepsAreOne, ReducibleAsPromised}
+use Rattle.in_glue.specs.Reducible.{PlainIsReducible, ReducibleSteps, ReducibleStepsUnderNames, ReduciblePairsHaveTheirRule, ReducibleStepsAreOne, ReducibleAsPromised}
 use Rattle.in_glue.proofs.Gluing.Sound.{sound_is_promised, sound_steps}
-
--- symbols and wires as numbers
-symbol_is : (p : PlainParts) (x : ℕ) (s : SymbolNo) → symbol_in p.net x ≡ Some s → (net_of p.net).symbol x ≡ Some s.0
-symbol_is p x s e = ap (λ (o : Option SymbolNo). option_map (λ (s : SymbolNo). s.0) o) e
-
-active_is : (p : PlainParts) (a b : AgentNo) → IsPairAt p a b → (net_of p.net).partner (Port a.0 0) ≡ Some (Port b.0 0)
-active_is p a b at = ap (λ (o : Option coded.Point). option_map point_of o) at.active
-
--- the two agents can interact by the rule
-fits : (p : PlainParts) (a b : AgentNo) → IsReducible p → IsPairAt p a b → (k : ℕ) (r : RuleParts) → IsRuleAt p a b k r → CanInteract p.program.tables p.net r a b
-fits p a b h at k r is = record { net = h.over; rule = is.over; declared = is.declared; one = is.one; two = is.two; active = at.active }
-
--- a step is an interaction
-acts_of : (p q : PlainParts) (a b : AgentNo) (name : ℕ → ℕ) → IsPairAt p a b → (to : StepsAs p a b name q) → IsInteraction (system_of p.program) (net_of p.net) (redex_at to.rule a.0 b.0) name (net_of q.net)
-acts_of p q a b name at to = record {
-  at = record {
-    one = symbol_is p a.0 to.rule.heads.0 to.is_rule.one;
-    two = symbol_is p b.0 to.rule.heads.1 to.is_rule.two;
-    active = active_is p a b at;
-    rule = (to.number, to_mapped rule_in p.program.rules to.number to.rule to.is_rule.stands);
-  };
-  step = to.acts.step;
-}
 
 pub reducible_steps_under_names : ReducibleStepsUnderNames
 reducible_steps_under_names text p q a b name accepted h at to =
@@ -60,87 +21,19 @@ reducible_steps_under_names text p q a b name accepted h at to =
       λ k n run. one_more k n (net_of p.net) (redex_at to.rule a.0 b.0) name (net_of q.net) run act,
     )
 
--- a step under the least numbers
-as_least : (p q : PlainParts) (a b : AgentNo) → IsReducible p → IsPairAt p a b → StepsTo p a b q → StepsAs p a b (unused p.net.cells) q
-as_least p q a b h at to = record {
-  number = to.number;
-  rule = to.rule;
-  is_rule = to.is_rule;
-  acts = least_are_names p.program.tables p.net to.rule a b q.net (fits p a b h at to.number to.rule to.is_rule) to.acts;
-  program = to.program;
-}
-
 pub reducible_steps : ReducibleSteps
-reducible_steps text p q a b accepted h at to = reducible_steps_under_names text p q a b (unused p.net.cells) accepted h at (as_least p q a b h at to)
-
-same_plain : (q r : PlainParts) → q.program ≡ r.program → q.net ≡ r.net → q ≡ r
-same_plain q r e f = ap (λ (z : Program). record { program = z; net = q.net }) e ∙ ap (λ (z : Parts). record { program = r.program; net = z }) f
-
-module _ (text : List ℕ) (p : PlainParts) (a b : AgentNo) (accepted : IsAccepted text p.program) (h : IsReducible p) (at : IsPairAt p a b) where
-  good : IsSoundSystem (system_of p.program)
-  good = is_sound text p.program accepted
-
-  matches : IsMatching (signature_of p.program.tables) at.first.0 at.second.0
-  matches = elim ((sound_is_promised (system_of p.program) (net_of p.net) good h.sound).one_rule a.0 b.0 at.first.0 at.second.0 (symbol_is p a.0 at.first at.one) (symbol_is p b.0 at.second at.two) (active_is p a b at)) [
-    | inl r ↦ r.0
-    | inr r ↦ absurd (let z : true ≡ false = sym at.constructor ∙ r.0.1 in cc)
-  ]
-
-  rule_at : (i : ℕ) (r : RuleParts) → slice_get p.program.rules i ≡ Some r → IsRuleOfSymbols r at.first.0 at.second.0 → IsRuleAt p a b i r
-  rule_at i r e for =
-      let program : IsProgramOf text p.program = program_of text p.program accepted in
-      let b = program.builds_rules.each i r e in
-      let heads = in_order for in
-      record {
-        stands = e;
-        over = b.2.0;
-        declared = b.2.1.member.types ∙ ap (λ (h : SymbolNo × SymbolNo). auxiliary_types p.program.tables h.0.0 ++ auxiliary_types p.program.tables h.1.0) (sym b.2.1.heads);
-        one = at.one ∙ ap Some (same_symbol at.first r.heads.0 (sym heads.0));
-        two = at.two ∙ ap Some (same_symbol at.second r.heads.1 (sym heads.1));
-      }
-    where
-      in_order : IsRuleOfSymbols r at.first.0 at.second.0 → (r.heads.0.0 ≡ at.first.0) × (r.heads.1.0 ≡ at.second.0)
-      in_order (inl f) = f
-      in_order (inr f) =
-          let m = (good.rule i (rule_in r) (to_mapped rule_in p.program.rules i r e)).matching in
-          absurd (let z : true ≡ false = sym m.0 ∙ ap (λ z. (port_at p.program.tables z 0).output) f.0 ∙ matches.1 in cc)
-
-  below : (x : ℕ) (s : SymbolNo) → symbol_in p.net x ≡ Some s → s.0 < length p.program.tables.names
-  below x s e = h.sound.within x s.0 (symbol_is p x s e)
-
-  is_pair : IsPair p.program.tables at.first.0 at.second.0
-  is_pair = record { first = below a.0 at.first at.one; second = below b.0 at.second at.two; matched = is_matching p.program.tables at.first.0 at.second.0 matches }
-
-  -- the rule of the pair is one
-  is_rule_of : (i : ℕ) (r : RuleParts) → IsRuleAt p a b i r → IsNumberOfRule (system_of p.program) at.first.0 at.second.0 i
-  is_rule_of i r is = (
-    rule_in r,
-    to_mapped rule_in p.program.rules i r is.stands,
-    ap (λ (s : SymbolNo). s.0) (same_Some r.heads.0 at.first (sym is.one ∙ at.one)),
-    ap (λ (s : SymbolNo). s.0) (same_Some r.heads.1 at.second (sym is.two ∙ at.two)),
-  )
-
-  same_rule : (i j : ℕ) (r s : RuleParts) → IsRuleAt p a b i r → IsRuleAt p a b j s → r ≡ s
-  same_rule i j r s x y =
-      let one = good.covered at.first.0 at.second.0 (below a.0 at.first at.one) (below b.0 at.second at.two) matches in
-      let number : i ≡ j = one.2 i (is_rule_of i r x) ∙ sym (one.2 j (is_rule_of j s y)) in
-      same_Some r s (sym x.stands ∙ ap (λ k. slice_get p.program.rules k) number ∙ y.stands)
-
-  one_step : (q r : PlainParts) → count_by is_some p.net.cells ≤ most_agents → IsWhole q.net → IsWhole r.net → StepsTo p a b q → StepsTo p a b r → q ≡ r
-  one_step q r few whole other x y =
-      let same = same_rule x.number y.number x.rule y.rule x.is_rule y.is_rule in
-      let acts = subst (λ (z : RuleParts). Interacts p.net z a b r.net) (sym same) y.acts in
-      let net = one_outcome p.net x.rule a b q.net r.net ((p.program.tables, fits p a b h at x.number x.rule x.is_rule), few) whole other x.acts acts in
-      same_plain q r (x.program ∙ sym y.program) net
-
-pub reducible_steps_are_one : ReducibleStepsAreOne
-reducible_steps_are_one text p q r a b accepted h at few whole other x y = one_step text p a b accepted h at q r few whole other x y
-
-pub reducible_pairs_have_their_rule : ReduciblePairsHaveTheirRule
-reducible_pairs_have_their_rule text p a b accepted h at = (is_pair text p a b accepted h at, λ i r e for. rule_at text p a b accepted h at i r e for)
+reducible_steps text p q a b accepted h at to = reducible_steps_under_names text p q a b (unused p.net.cells) accepted h at (as_least p q a b h.over at to)
 
 pub reducible_as_promised : ReducibleAsPromised
 reducible_as_promised text p accepted h = sound_is_promised (system_of p.program) (net_of p.net) (is_sound text p.program accepted) h.sound
 
+pub reducible_steps_are_one : ReducibleStepsAreOne
+reducible_steps_are_one text p q r a b accepted h at few whole other x y = one_step text p a b accepted h.sound (reducible_as_promised text p accepted h) h.over at q r few whole other x y
+
+pub reducible_pairs_have_their_rule : ReduciblePairsHaveTheirRule
+reducible_pairs_have_their_rule text p a b accepted h at =
+    let z = reducible_as_promised text p accepted h in
+    (is_pair text p a b accepted h.sound z h.over at, λ i r e for. rule_at text p a b accepted h.sound z h.over at i r e for)
+
 pub plain_is_reducible : PlainIsReducible
-plain_is_reducible text p accepted h = record { sound = sound_reached (system_of p.program) (is_sound text p.program accepted) ℕ_discrete h.reached.0 (net_of p.net) h.reached.1; over = h.over }
+plain_is_reducible text p accepted h = record { sound = plain_is_sound text p accepted h; over = h.over }
