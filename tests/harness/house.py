@@ -1,4 +1,4 @@
-"""What no proof says of the house: which lemmas a crate may cite of another, how many names of types have two homes, and which words are gone."""
+"""What no proof says of the house: which lemmas a crate may cite of another, that a name of a type has one home, and which words are gone."""
 import glob
 import os
 import re
@@ -10,8 +10,6 @@ CRATES = os.path.join(HERE, "..", "..", "crates")
 FOR_EVERYBODY = {"in_base"}
 CITED = re.compile(r"^\s*(?:unfoldable )?(?:pub )?use (?:package\.)?Rattle\.(in\w+)\.proofs\.(\w+)", re.MULTILINE)
 TYPE = re.compile(r"^\s*(?:pattern |unfoldable |abbrev )*pub (?:data |record )?([A-Z]\w*)", re.MULTILINE)
-# So many names of types have more than one home in specs/. The number may only fall: one name, one home.
-MOST_WITH_TWO_HOMES = 14
 # A line of crates.txt that has a crate's libraries, and the one below it that has those that the crate never names.
 LIBRARIES = re.compile(r"^(in\w+)(?: [^:\n]*)?:(.*)\n(?:#     for contracts alone:(.*)\n)?", re.MULTILINE)
 # What the field says in the place of words that were used here.
@@ -43,18 +41,12 @@ def wrong_citations():
 
 
 def wrong_homes():
-    """More names with several homes than there were."""
+    """Names of types that are declared in several files of specs/: one name, one home."""
     homes = defaultdict(set)
     for crate, name, text in texts_of("specs"):
         for declared in TYPE.findall(text):
             homes[declared].add(f"{crate}/{name}")
-    several = {name: sorted(files) for name, files in homes.items() if len(files) > 1}
-    if len(several) == MOST_WITH_TWO_HOMES:
-        return None
-    told = f"{len(several)} names of types have several homes, and MOST_WITH_TWO_HOMES says {MOST_WITH_TWO_HOMES}"
-    if len(several) < MOST_WITH_TWO_HOMES:
-        return f"{told}: lower it"
-    return f"{told}: {'; '.join(f'{name} in {chr(44).join(files)}' for name, files in sorted(several.items()))}"
+    return "; ".join(f"{name} in {' and '.join(sorted(files))}" for name, files in sorted(homes.items()) if len(files) > 1)
 
 
 def code_of(crate):

@@ -5,7 +5,7 @@ use Rattle.std.proofs.lemmas.List.{set-set, length-replicate}
 use Rattle.std.proofs.lemmas.List.Sums.{sum_by-cons, sum_by-take-drop, sum_by-take-le}
 use denote.RawPtr.{Ptr, null_ptr}
 use Rattle.in_arena.specs.Arenas.{ArenaView, LeaseView, IsOf, changed, free_of, state_at, written}
-use Rattle.in_arena.specs.Bags.{IsIn, IsBagOf, AreOfOne, LeasesTo, empty_bag}
+use Rattle.in_arena.specs.Bags.{IsInBag, IsBagOf, AreOfOne, LeasesTo, empty_bag}
 use Rattle.in_arena.specs.Changes.{one_if_free, EmptyBagIsOf, BagsStay, LeaseToTakesOne, BagsStayApart, MovingKeepsApart, LeaseIsInNoBag}
 use Rattle.in_arena.specs.ByClass.{view_of, block_of, cell_at, IsRegions, Become, Lend, cell_view, index_of, IsHeldCell, IsCellOf, IsPlace, sack_row, sack_cell, sack_block, sacks_view, IsSacks, SacksBecome, IsOut, HandOut, AreEmpty}
 use Rattle.in_arena.specs.Classes.{classes, class_no, IsNumberOf}
@@ -126,7 +126,7 @@ out_again s h l m x o held e =
     (ap (λ c. sack_cell s c (index_of m)) class ∙ ap (sack_cell s (cell_view l).class) (same_index l m x e) ∙ out_cell s l o)
 
 module _ (s : Sacks) (h : IsSacks s) (b : ArenaView) (n : ℕ) (c : CellClass) (i : ℕ) (e : sacks_view s ≡ b) (p : IsPlace s.cells n c i) where
-  pub may_take : IsIn b n → IsLeased (sack_cell s c i) → ⊥
+  pub may_take : IsInBag b n → IsLeased (sack_cell s c i) → ⊥
   may_take in_it = subst (λ x. IsLeased x → ⊥) (found_in s h c i e p) in_it
 
   module _ (l : HeldCell) (t : Sacks) (hand : HandOut s c i l t) where
@@ -180,7 +180,7 @@ module _ (r : Regions) (h : IsRegions r) (s : Sacks) (k : IsSacks s) (a b : Aren
   same_block = same_blocks (sack_block s) (block_of r) (ap (λ (v : ArenaView). v.memory) eb ∙ of.memory ∙ sym (ap (λ (v : ArenaView). v.memory) ea))
 
   -- a cell was taken out of the bag
-  module _ (n : ℕ) (c : CellClass) (i : ℕ) (p : IsPlace s.cells n c i) (in_it : IsIn b n) (l : HeldCell) (t : Sacks) (hand : HandOut s c i l t) where
+  module _ (n : ℕ) (c : CellClass) (i : ℕ) (p : IsPlace s.cells n c i) (in_it : IsInBag b n) (l : HeldCell) (t : Sacks) (hand : HandOut s c i l t) where
     pub of_region : IsCellOf l r
     of_region =
         let g = out_of t hand.4.whole l hand.3 in let cl = (cell_view l).class in

@@ -6,8 +6,8 @@ use Rattle.in_arena.specs.Arenas.{ArenaView, memory_of, state_at, changed, free_
 use Rattle.in_arena.specs.Classes.{classes, class_no, IsNumberOf}
 use Rattle.in_arena.specs.ByClass.{row_of, cell_at, block_of, view_of, IsRegions, Become, AreWhole, IsPlace, cell_view, index_of, IsHeldCell, IsCellOf, Lend, sack_row, sack_cell, sack_block, sacks_view, IsSacks, SacksBecome, IsOut}
 use Rattle.in_arena.specs.States.{State, Vacant, Leased, IsLeased, is_vacant}
-use Rattle.in_arena.specs.Regions.{state_of, states, IsRegion, IsHeld, IsWhole, IsFresh}
-use Rattle.in_arena.specs.Regions.{IsOf as IsOfRegion, state_at as state_in_region}
+use Rattle.in_arena.specs.Regions.{state_of, states, IsRegion, IsHeld, IsWholeRegion, IsFreshRegion}
+use Rattle.in_arena.specs.Regions.{IsHeldOf, state_at as state_in_region}
 use Rattle.in_arena.specs.declared.content.CellClass.{CellClass}
 use Rattle.in_arena.specs.declared.content.CellClass.TheVariants as class
 use Rattle.in_arena.specs.declared.region.Region.{Region}
@@ -39,12 +39,12 @@ long_states : {W : ℕ} (r : Region W) → IsRegion r → length (states r) ≡ 
 long_states r h = length-map r.cells.slots state_of ∙ h.size.0
 
 -- a new region has no cell that is leased
-pub fresh_whole : {W : ℕ} (cells : ℕ) (r : Region W) → IsFresh cells r → IsWhole r
+pub fresh_whole : {W : ℕ} (cells : ℕ) (r : Region W) → IsFreshRegion cells r → IsWholeRegion r
 fresh_whole cells r h i lt leased =
     let size : r.size ≡ cells = sym (long_states r h.0) ∙ ap length h.1 ∙ length-replicate cells Vacant in
     subst IsLeased (sym (region_state r i) ∙ ap (λ l. get_or l i Leased) h.1 ∙ get_or-replicate cells i Vacant Leased (omega (arith, size, lt))) leased
 
-in_region : {W : ℕ} (l : Held W) (r : Region W) (cells : ℕ) → IsHeld l → IsRegion r → l.cells.at ≡ r.cells.at → length l.cells.slots ≡ cells → r.size ≡ cells → state_in_region r l.index ≡ Leased → IsOfRegion l r
+in_region : {W : ℕ} (l : Held W) (r : Region W) (cells : ℕ) → IsHeld l → IsRegion r → l.cells.at ≡ r.cells.at → length l.cells.slots ≡ cells → r.size ≡ cells → state_in_region r l.index ≡ Leased → IsHeldOf l r
 in_region l r cells held h at long size out =
     record { held = held; block = at; size = long ∙ sym size ∙ sym h.size.0; out = leased_none (get_or r.cells.slots l.index None) (subst IsLeased (sym out) tt) }
 

@@ -14,7 +14,7 @@ use Rattle.in_arena.specs.declared.content.Stored.{Stored}
 use Rattle.in_arena.specs.declared.region.Region.{Region}
 use Rattle.in_arena.specs.declared.region.Held.{Held}
 use Rattle.in_arena.specs.States.{State, Vacant, Leased, Live, IsLive, IsLeased, is_vacant, places, with_end}
-use Rattle.in_arena.specs.Regions.{with_ends, one_if_zero, state_in, state_of, state, states, vacancy, vacancies, IsVacantTo, IsFreeList, AreDifferent, IsCell, AreNew, IsRegion, IsHeld, IsOf, Becomes, IsSame, IsLeasedTo, IsSameCell, state_at}
+use Rattle.in_arena.specs.Regions.{with_ends, one_if_zero, state_in, state_of, state, states, vacancy, vacancies, IsVacantTo, IsFreeList, AreDifferentNumbers, IsCell, AreNew, IsRegion, IsHeld, IsHeldOf, Becomes, IsSame, IsLeasedTo, IsSameCell, state_at}
 use Rattle.in_arena.specs.Lends.{with_slots}
 use Rattle.in_arena.proofs.Rows.{filled_inside}
 
@@ -226,7 +226,7 @@ module _ {W : ℕ} where
       → Becomes r (with_cells r cs k r.fresh (r.free - 1)) r.next Leased
   taken r cs h p at e k same =
       let xs = r.cells.slots in let i = r.next in
-      let once = subst AreDifferent p.is h.once in
+      let once = subst AreDifferentNumbers p.is h.once in
       let long : length h.free ≡ suc (length p.rest) = ap length p.is in
       let one : vacancy (get_or xs i None) ≡ 1 = ap vacancy p.here ∙ vacancy_one p.cell p.free in
       record {
@@ -368,7 +368,7 @@ module _ {W : ℕ} where
       → together xs ls ≡ set xs l.index (Some (Some c))
   back_in xs l c ls inside size out e = ap (together xs) e ∙ together_one xs (length l.cells.slots) l.index (Some c) size inside out
 
-  pub back : (r : Region W) (l : Held W) (o : IsOf l r) (c : Content W) (ls : Slots W) → ls ≡ set (replicate (length l.cells.slots) None) l.index (Some (Some c)) → together r.cells.slots ls ≡ set r.cells.slots l.index (Some (Some c))
+  pub back : (r : Region W) (l : Held W) (o : IsHeldOf l r) (c : Content W) (ls : Slots W) → ls ≡ set (replicate (length l.cells.slots) None) l.index (Some (Some c)) → together r.cells.slots ls ≡ set r.cells.slots l.index (Some (Some c))
   back r l o c ls e = back_in r.cells.slots l c ls o.held.index.0 o.size o.out e
 
   -- what is written in a lease
@@ -425,7 +425,7 @@ module _ {W : ℕ} where
       omega (arith, rest, sum_by-cons vacancy x xs)
 
   -- as many are free as are listed and were never used, or more
-  free_counted : (xs : Slots W) (fresh next : ℕ) (fs : List ℕ) → IsFreeList xs next fs → AreDifferent fs → AreNew xs fresh → length fs + length xs ≤ vacancies xs + fresh
+  free_counted : (xs : Slots W) (fresh next : ℕ) (fs : List ℕ) → IsFreeList xs next fs → AreDifferentNumbers fs → AreNew xs fresh → length fs + length xs ≤ vacancies xs + fresh
   free_counted xs fresh next [] h once new = omega (arith, new_counted xs fresh new)
   free_counted xs fresh next (f ∷ fs) h once new =
       let v = vacant_cell (get_or xs f None) h.2.0 h.2.1 in

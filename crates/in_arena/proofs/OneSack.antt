@@ -4,7 +4,7 @@ use Rattle.std.proofs.lemmas.Bool.{cases_eq}
 use Rattle.std.proofs.lemmas.List.{length-replicate, map-set}
 use Rattle.in_arena.specs.Places.{together}
 use Rattle.in_arena.specs.Regions.{IsRegion, state, state_of}
-use Rattle.in_arena.specs.Sacks.{sack_state, IsKept, IsSack, IsOfSack, SackBecomes, IsTakenFrom, IsEmptyOf}
+use Rattle.in_arena.specs.Sacks.{sack_state, IsKeptCell, IsSack, IsOfSack, SackBecomes, IsTakenFrom, IsEmptyOf}
 use Rattle.in_arena.specs.States.{Leased, IsLeased}
 use Rattle.in_arena.specs.declared.cells.Cells.{Cells}
 use Rattle.in_arena.specs.declared.content.Content.{Content}
@@ -21,18 +21,18 @@ module _ {W : ℕ} where
   abbrev with_cells : Sack W → Cells (Content W) → Sack W
   with_cells s cs = record { base = s.base; cells = cs }
 
-  kept_set : (xs : List (Slot W)) (i : ℕ) (c : Slot W) → i < length xs → IsKept c → ((j : ℕ) → IsKept (get_or xs j None)) → (j : ℕ) → IsKept (get_or (set xs i c) j None)
+  kept_set : (xs : List (Slot W)) (i : ℕ) (c : Slot W) → i < length xs → IsKeptCell c → ((j : ℕ) → IsKeptCell (get_or xs j None)) → (j : ℕ) → IsKeptCell (get_or (set xs i c) j None)
   kept_set xs i c lt h all j = elim (cases_eq j i) [
-    | inl e ↦ subst (λ k. IsKept (get_or (set xs i c) k None)) (sym e) (subst IsKept (sym (get_or-set_same xs i c None lt)) h)
-    | inr apart ↦ subst IsKept (sym (get_or-set_other xs i j c None apart)) (all j)
+    | inl e ↦ subst (λ k. IsKeptCell (get_or (set xs i c) k None)) (sym e) (subst IsKeptCell (sym (get_or-set_same xs i c None lt)) h)
+    | inr apart ↦ subst IsKeptCell (sym (get_or-set_other xs i j c None apart)) (all j)
   ]
 
   -- one cell becomes that
-  becomes : (s : Sack W) (cs : Cells (Content W)) (i : ℕ) (c : Slot W) → IsSack s → cs.at ≡ s.cells.at → cs.slots ≡ set s.cells.slots i c → i < length s.cells.slots → IsKept c → SackBecomes s (with_cells s cs) i (state_of c)
+  becomes : (s : Sack W) (cs : Cells (Content W)) (i : ℕ) (c : Slot W) → IsSack s → cs.at ≡ s.cells.at → cs.slots ≡ set s.cells.slots i c → i < length s.cells.slots → IsKeptCell c → SackBecomes s (with_cells s cs) i (state_of c)
   becomes s cs i c h at e lt kept =
       let xs = s.cells.slots in let long = ap length e ∙ length-set xs i c in
       record {
-        sack = record { block = at ∙ h.block; size = omega (arith, long, h.size); cells = subst (λ l. (j : ℕ) → IsKept (get_or l j None)) (sym e) (kept_set xs i c lt kept h.cells); width = h.width };
+        sack = record { block = at ∙ h.block; size = omega (arith, long, h.size); cells = subst (λ l. (j : ℕ) → IsKeptCell (get_or l j None)) (sym e) (kept_set xs i c lt kept h.cells); width = h.width };
         memory = (at, long);
         states = ap (map state_of) e ∙ map-set state_of xs i c;
       }
@@ -45,7 +45,7 @@ module _ {W : ℕ} where
       (omega (arith, inside, o.size)) o.held.few)
 
   -- a cell that is here has a content
-  here : (x : Slot W) → IsKept x → (IsLeased (state_of x) → ⊥) → (c : Content W) × (x ≡ Some (Some c))
+  here : (x : Slot W) → IsKeptCell x → (IsLeased (state_of x) → ⊥) → (c : Content W) × (x ≡ Some (Some c))
   here None kept in_it = absurd (in_it tt)
   here (Some None) kept in_it = absurd kept
   here (Some (Some c)) kept in_it = (c, refl)
@@ -59,7 +59,7 @@ module _ {W : ℕ} where
   taken_out s one rest i h in_it at_one at_rest =
       let xs = s.cells.slots in let n = length xs in let x = here (get_or xs i None) (h.cells i) in_it in let c = x.0 in let lt = inside s i h in_it in
       let alone = at_one.1 ∙ ap (set (replicate n None) i) x.1 in
-      let few = subst IsKept x.1 (h.cells i) in let nothing : List (Slot W) = replicate n None in
+      let few = subst IsKeptCell x.1 (h.cells i) in let nothing : List (Slot W) = replicate n None in
       let b = becomes s rest i None h at_rest.0 at_rest.1 lt tt in (
         refl,
         alone_state one i n c lt alone ∙ ap state_of (sym x.1),
@@ -76,7 +76,7 @@ none_states : (W n : ℕ) → map (state_of {W = W}) (replicate n None) ≡ repl
 none_states W zero = refl
 none_states W (suc n) = ap (λ l. Leased ∷ l) (none_states W n)
 
-kept_none : (W n i : ℕ) → IsKept {W = W} (get_or (replicate n None) i None)
+kept_none : (W n i : ℕ) → IsKeptCell {W = W} (get_or (replicate n None) i None)
 kept_none W zero i = tt
 kept_none W (suc n) zero = tt
 kept_none W (suc n) (suc i) = kept_none W n i
@@ -89,7 +89,7 @@ empty {W} r cs h e =
       sack = record {
         block = e.0 ∙ h.block.0;
         size = omega (arith, long, h.size.0, h.size.1);
-        cells = λ i. subst (λ l. IsKept (get_or l i None)) (sym e.1) (kept_none W n i);
+        cells = λ i. subst (λ l. IsKeptCell (get_or l i None)) (sym e.1) (kept_none W n i);
         width = h.width;
       };
       memory = (e.0, long ∙ h.size.0);

@@ -12,18 +12,18 @@ abbrev pub empty_bag : ArenaView → ArenaView
 empty_bag a = record { memory = a.memory; cells = a.cells; states = replicate (length classes * a.cells) Leased }
 
 -- the cell of this number is in the bag
-abbrev pub IsIn : ArenaView → ℕ → Type 0
-IsIn b n = IsLeased (state_at b n) → ⊥
+abbrev pub IsInBag : ArenaView → ℕ → Type 0
+IsInBag b n = IsLeased (state_at b n) → ⊥
 
 -- the bag has cells of this arena, which are leased there
 pub record IsBagOf (b a : ArenaView) : Type 0 where
   pub memory : b.memory ≡ a.memory
   pub cells : b.cells ≡ a.cells
-  pub leased : (n : ℕ) → IsIn b n → state_at a n ≡ Leased
+  pub leased : (n : ℕ) → IsInBag b n → state_at a n ≡ Leased
 
 -- no cell is in both
-abbrev pub AreApart : ArenaView → ArenaView → Type 0
-AreApart b d = (n : ℕ) → IsIn b n → state_at d n ≡ Leased
+abbrev pub BagsAreApart : ArenaView → ArenaView → Type 0
+BagsAreApart b d = (n : ℕ) → IsInBag b n → state_at d n ≡ Leased
 
 -- the bags are of one arena
 abbrev pub AreOfOne : ArenaView → ArenaView → Type 0

@@ -4,7 +4,7 @@ use denote.RawPtr.{Ptr}
 use Rattle.in_arena.specs.Arenas.{ArenaView, LeaseView}
 use Rattle.in_arena.specs.Classes.{classes, class_no}
 use Rattle.in_arena.specs.States.{State, Vacant, Leased, is_vacant}
-use Rattle.in_arena.specs.Regions.{IsRegion, IsHeld, IsOf, IsWhole, state, states, state_at}
+use Rattle.in_arena.specs.Regions.{IsRegion, IsHeld, IsHeldOf, IsWholeRegion, state, states, state_at}
 use Rattle.in_arena.specs.declared.content.CellClass.{CellClass}
 use Rattle.in_arena.specs.declared.content.CellClass.TheVariants as class
 use Rattle.in_arena.specs.declared.region.Held.{Held}
@@ -58,9 +58,9 @@ pub record Become (r s : Regions) (c : CellClass) (i : ℕ) (x : State) : Type 0
 
 -- no cell is leased
 pub record AreWhole (r : Regions) : Type 0 where
-  pub small : IsWhole r.small
-  pub large : IsWhole r.large
-  pub wide : IsWhole r.wide
+  pub small : IsWholeRegion r.small
+  pub large : IsWholeRegion r.large
+  pub wide : IsWholeRegion r.wide
 
 -- regions of so many cells of each class, all of them free
 abbrev pub AreFresh : ℕ → Regions → Type 0
@@ -87,9 +87,9 @@ IsHeldCell (Wide h) = IsHeld h
 
 -- the cell that it owns is one of the region of its class
 abbrev pub IsCellOf : HeldCell → Regions → Type 0
-IsCellOf (Small h) r = IsOf h r.small
-IsCellOf (Large h) r = IsOf h r.large
-IsCellOf (Wide h) r = IsOf h r.wide
+IsCellOf (Small h) r = IsHeldOf h r.small
+IsCellOf (Large h) r = IsHeldOf h r.large
+IsCellOf (Wide h) r = IsHeldOf h r.wide
 
 -- a cell of this class that was free is leased, and nothing is written in it; or none was free
 abbrev pub Lend : Regions → CellClass → Option HeldCell → Regions → Type 0

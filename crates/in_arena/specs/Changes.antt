@@ -1,7 +1,7 @@
 -- What a change of a cell leaves of an arena's counts and of its leases.
 use Rattle.std.specs.Prelude.{◌≡◌, ◌+◌, ◌*◌, ℕ, cond, length, Some}
 use Rattle.in_arena.specs.Arenas.{ArenaView, LeaseView, IsOf, Leases, changed, free_of, state_at}
-use Rattle.in_arena.specs.Bags.{AreApart, IsBagOf, LeasesTo, empty_bag}
+use Rattle.in_arena.specs.Bags.{BagsAreApart, IsBagOf, LeasesTo, empty_bag}
 use Rattle.in_arena.specs.Classes.{classes, IsNumberOf}
 use Rattle.in_arena.specs.States.{State, Vacant, Leased, is_vacant}
 use Rattle.in_arena.specs.declared.content.CellClass.{CellClass}
@@ -56,11 +56,11 @@ LeaseToTakesOne = (a b a' b' : ArenaView) (c : CellClass) (n : CellNo) → HasAl
 
 -- where a cell is leased into one of two bags that are apart, they stay apart, and the other one stays a bag of the arena
 abbrev pub BagsStayApart : Type 0
-BagsStayApart = (a b d a' b' : ArenaView) (c : CellClass) (n : CellNo) → IsBagOf d a → AreApart b d → LeasesTo a c b (Some n) a' b' → AreApart b' d × IsBagOf d a'
+BagsStayApart = (a b d a' b' : ArenaView) (c : CellClass) (n : CellNo) → IsBagOf d a → BagsAreApart b d → LeasesTo a c b (Some n) a' b' → BagsAreApart b' d × IsBagOf d a'
 
 -- .. and where a cell is moved from one to the other
 abbrev pub MovingKeepsApart : Type 0
-MovingKeepsApart = (b d : ArenaView) (n : ℕ) (x : State) → AreApart b d → AreApart (changed b n Leased) (changed d n x)
+MovingKeepsApart = (b d : ArenaView) (n : ℕ) (x : State) → BagsAreApart b d → BagsAreApart (changed b n Leased) (changed d n x)
 
 -- a lease is of another cell than one that is leased into a bag while it is out, and stays a lease of the arena
 abbrev pub LeaseIsInNoBag : Type 0

@@ -50,13 +50,13 @@ module _ {W : ℕ} where
   IsVacantTo (Some None) k = ⊥
   IsVacantTo (Some (Some c)) k = (c.count ≡ 0) × (c.word ≡ k)
 
-  abbrev pub LeadsOn : List (Option (Option (Content W))) → ℕ → (ℕ → Type 0) → Type 0
-  LeadsOn cells f P = (k : ℕ) × IsVacantTo (get_or cells f None) k × P k
+  abbrev pub LeadsToNext : List (Option (Option (Content W))) → ℕ → (ℕ → Type 0) → Type 0
+  LeadsToNext cells f P = (k : ℕ) × IsVacantTo (get_or cells f None) k × P k
 
   -- the used cells that are free from this one on, each of which names the next one, and the last the end of the region
   abbrev pub IsFreeList : List (Option (Option (Content W))) → ℕ → List ℕ → Type 0
   IsFreeList cells next [] = next ≡ length cells
-  IsFreeList cells next (f ∷ fs) = (next ≡ f) × (f < length cells) × LeadsOn cells f (λ k. IsFreeList cells k fs)
+  IsFreeList cells next (f ∷ fs) = (next ≡ f) × (f < length cells) × LeadsToNext cells f (λ k. IsFreeList cells k fs)
 
   -- a content that stands in a cell has at most so many ends
   abbrev pub IsCell : Option (Option (Content W)) → Type 0
@@ -64,9 +64,9 @@ module _ {W : ℕ} where
   IsCell (Some None) = Unit {0}
   IsCell (Some (Some c)) = c.count ≤ W
 
-abbrev pub AreDifferent : List ℕ → Type 0
-AreDifferent [] = Unit {0}
-AreDifferent (x ∷ xs) = AllByRecursion (λ y. x ≢ y) xs × AreDifferent xs
+abbrev pub AreDifferentNumbers : List ℕ → Type 0
+AreDifferentNumbers [] = Unit {0}
+AreDifferentNumbers (x ∷ xs) = AllByRecursion (λ y. x ≢ y) xs × AreDifferentNumbers xs
 
 -- the cells from this one on were never used: they are here, and nothing was ever written in them
 abbrev pub AreNew : {W : ℕ} → List (Option (Option (Content W))) → ℕ → Type 0
@@ -80,7 +80,7 @@ pub record IsRegion {W : ℕ} (r : Region W) : Type 0 where
   pub cells : (i : ℕ) → IsCell (get_or r.cells.slots i None)
   pub free : List ℕ
   pub listed : IsFreeList r.cells.slots r.next free
-  pub once : AreDifferent free
+  pub once : AreDifferentNumbers free
   pub unused : (r.fresh ≤ r.size) × AreNew r.cells.slots r.fresh
   pub all : vacancies r.cells.slots + r.fresh ≡ length free + r.size
   pub count : r.free + r.fresh ≡ length free + r.size
@@ -99,7 +99,7 @@ abbrev pub state : {W : ℕ} → Held W → State
 state l = state_of (get_or l.cells.slots l.index None)
 
 -- the cell that it owns is one of this region
-pub record IsOf {W : ℕ} (l : Held W) (r : Region W) : Type 0 where
+pub record IsHeldOf {W : ℕ} (l : Held W) (r : Region W) : Type 0 where
   pub held : IsHeld l
   pub block : l.cells.at ≡ r.cells.at
   pub size : length l.cells.slots ≡ length r.cells.slots
@@ -118,18 +118,18 @@ pub record IsSame {W : ℕ} (r s : Region W) : Type 0 where
   pub states : states s ≡ states r
 
 -- the list has a cell; or none is free
-abbrev pub IsReady : {W : ℕ} → Region W → Bool → Region W → Type 0
-IsReady r true s = IsSame r s × (s.next ≡ s.size → ⊥)
-IsReady r false s = (count_by is_vacant (states r) ≡ 0) × (s ≡ r)
+abbrev pub IsReadyRegion : {W : ℕ} → Region W → Bool → Region W → Type 0
+IsReadyRegion r true s = IsSame r s × (s.next ≡ s.size → ⊥)
+IsReadyRegion r false s = (count_by is_vacant (states r) ≡ 0) × (s ≡ r)
 
 -- a cell that was free is leased, and nothing is written in it; or none was free
 abbrev pub IsLeasedTo : {W : ℕ} → Region W → Region W → Option (Held W) → Type 0
 IsLeasedTo r s None = (count_by is_vacant (states r) ≡ 0) × (s ≡ r)
-IsLeasedTo r s (Some l) = (state_at r l.index ≡ Vacant) × Becomes r s l.index Leased × IsOf l s × (state l ≡ Vacant)
+IsLeasedTo r s (Some l) = (state_at r l.index ≡ Vacant) × Becomes r s l.index Leased × IsHeldOf l s × (state l ≡ Vacant)
 
 -- no cell is leased
-abbrev pub IsWhole : {W : ℕ} → Region W → Type 0
-IsWhole r = (i : ℕ) → i < r.size → IsLeased (state_at r i) → ⊥
+abbrev pub IsWholeRegion : {W : ℕ} → Region W → Type 0
+IsWholeRegion r = (i : ℕ) → i < r.size → IsLeased (state_at r i) → ⊥
 
 -- they own the same cell of one memory
 pub record IsSameCell {W : ℕ} (l m : Held W) : Type 0 where
@@ -138,5 +138,5 @@ pub record IsSameCell {W : ℕ} (l m : Held W) : Type 0 where
   pub size : length m.cells.slots ≡ length l.cells.slots
 
 -- a region of so many cells, all of them free
-abbrev pub IsFresh : {W : ℕ} → ℕ → Region W → Type 0
-IsFresh cells r = IsRegion r × (states r ≡ replicate cells Vacant)
+abbrev pub IsFreshRegion : {W : ℕ} → ℕ → Region W → Type 0
+IsFreshRegion cells r = IsRegion r × (states r ≡ replicate cells Vacant)

@@ -16,15 +16,15 @@ module _ {W : ℕ} where
   sack_state s i = state_of (get_or s.cells.slots i None)
 
   -- a cell is another owner's, or here with a content of at most so many ends
-  abbrev pub IsKept : Option (Option (Content W)) → Type 0
-  IsKept None = Unit {0}
-  IsKept (Some None) = ⊥
-  IsKept (Some (Some c)) = c.count ≤ W
+  abbrev pub IsKeptCell : Option (Option (Content W)) → Type 0
+  IsKeptCell None = Unit {0}
+  IsKeptCell (Some None) = ⊥
+  IsKeptCell (Some (Some c)) = c.count ≤ W
 
 pub record IsSack {W : ℕ} (s : Sack W) : Type 0 where
   pub block : s.cells.at ≡ s.base.ptr
   pub size : length s.cells.slots < 2 ^ 31
-  pub cells : (i : ℕ) → IsKept (get_or s.cells.slots i None)
+  pub cells : (i : ℕ) → IsKeptCell (get_or s.cells.slots i None)
   pub width : W < 2 ^ 32
 
 -- the cell is one of the same region, and not in the sack

@@ -2,7 +2,7 @@
 ghost use Rattle.std.specs.Prelude.{◌≡◌, ◌*◌, ◌<◌, ◌≤◌, ◌↔◌, IsTrue, Some, IfOk, length, replicate};
 ghost use Rattle.in_arena.specs.States.{Vacant, Leased, IsLive, IsLeased, word_of, end_at, places, with_end};
 ghost use Rattle.in_arena.specs.Arenas.{Leases, IsOf, NoneLeased, state_at, changed, free_of};
-ghost use Rattle.in_arena.specs.Bags.{IsBagOf, IsIn, LeasesTo, empty_bag};
+ghost use Rattle.in_arena.specs.Bags.{IsBagOf, IsInBag, LeasesTo, empty_bag};
 ghost use Rattle.in_arena.specs.Classes.{Holds, classes};
 ghost use Rattle.in_arena.specs.declared.content.CellClass.{CellClass as Class};
 ghost use Rattle.in_arena.specs.Changes.{HasAllCells};
@@ -202,7 +202,7 @@ impl Arena {
     #[inline(always)]
     pub fn give_back_from(&mut self, bag: &mut Bag, cell: CellNo)
         requires of_this_arena { IsBagOf bag.old self.old }
-        requires is_in { IsIn bag.old cell.0 }
+        requires is_in { IsInBag bag.old cell.0 }
         ensures { (self.new ≡ changed self.old cell.0 Vacant) × (bag.new ≡ changed bag.old cell.0 Leased) × IsBagOf bag.new self.new }
     {
         let (class, index) = place_of(bag.sacks.cells, cell);

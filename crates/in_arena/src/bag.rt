@@ -2,7 +2,7 @@
 ghost use Rattle.std.specs.Prelude.{◌≡◌, ◌<◌, Some, length};
 ghost use Rattle.in_arena.specs.States.{State, Live, Leased, IsBegun, places, with_end};
 ghost use Rattle.in_arena.specs.Arenas.{state_at, changed};
-ghost use Rattle.in_arena.specs.Bags.{IsIn, AreOfOne, IsFor};
+ghost use Rattle.in_arena.specs.Bags.{IsInBag, AreOfOne, IsFor};
 
 use crate::content::{CellNo, End, SymbolWord};
 use crate::regions::{Sacks, place_of};
@@ -33,7 +33,7 @@ impl Bag {
     /// Writes the symbol word and the ends at the places of a cell, the principal port first: as many as its class is for.
     #[inline(always)]
     pub fn write(&mut self, cell: CellNo, symbol: SymbolWord, ends: &[End])
-        requires is_in { IsIn self.old cell.0 }
+        requires is_in { IsInBag self.old cell.0 }
         requires many { IsFor self.old.cells cell.0 (length ends.now) }
         ensures { self.new ≡ changed self.old cell.0 (Live symbol ends.now) }
     {
@@ -46,7 +46,7 @@ impl Bag {
     /// Writes the symbol word of a cell, and how many ends it has, the principal port's among them: as many as its class is for. What the
     /// ends are is open until they are set one by one, so that they needn't be gathered before.
     pub fn begin(&mut self, cell: CellNo, symbol: SymbolWord, ends: u8)
-        requires is_in { IsIn self.old cell.0 }
+        requires is_in { IsInBag self.old cell.0 }
         requires many { IsFor self.old.cells cell.0 ends }
         ensures { (x : State) × IsBegun symbol ends x × (self.new ≡ changed self.old cell.0 x) }
     {
@@ -71,7 +71,7 @@ impl Bag {
     /// Moves a cell to another bag of the same arena, with what is written in it.
     #[inline(always)]
     pub fn move_to(&mut self, cell: CellNo, other: &mut Bag)
-        requires is_in { IsIn self.old cell.0 }
+        requires is_in { IsInBag self.old cell.0 }
         requires of_one { AreOfOne self.old other.old }
         requires apart { state_at other.old cell.0 ≡ Leased }
         ensures { (other.new ≡ changed other.old cell.0 (state_at self.old cell.0)) × (self.new ≡ changed self.old cell.0 Leased) }

@@ -1,7 +1,7 @@
 // A region of cells of one width: free ones, leased ones and live ones.
 ghost use Rattle.std.specs.Prelude.{◌≡◌, ◌<◌, ◌≤◌, ◌^◌, ◌↔◌, IsTrue, length, map, count_by, replicate, Some, None, IfOk};
 ghost use Rattle.in_arena.specs.States.{Live, Vacant, IsLive, IsLeased, is_vacant, word_of, end_at, places, with_end, IsBegun};
-ghost use Rattle.in_arena.specs.Regions.{IsRegion, IsHeld, IsOf, Becomes, IsReady, IsLeasedTo, IsSameCell, IsWhole, state, states, state_at};
+ghost use Rattle.in_arena.specs.Regions.{IsRegion, IsHeld, IsHeldOf, Becomes, IsReadyRegion, IsLeasedTo, IsSameCell, IsWholeRegion, state, states, state_at};
 ghost use Rattle.in_arena.specs.Filling.{Fills};
 ghost use Rattle.in_arena.specs.Sacks.{IsSack, IsOfSack, SackBecomes, IsTakenFrom, IsEmptyOf, sack_state};
 
@@ -80,7 +80,7 @@ impl<const WIDTH: usize> Region<WIDTH> {
 
     // Gives the block back: the region's deed can't be let go otherwise.
     pub fn close(self)
-        requires { IsRegion self × IsWhole self }
+        requires { IsRegion self × IsWholeRegion self }
     {
         let Region {
             base,
@@ -138,7 +138,7 @@ impl<const WIDTH: usize> Region<WIDTH> {
     #[inline(always)]
     fn is_ready(&mut self) -> bool
         requires { IsRegion self.old }
-        ensures { IsReady self.old result self.new }
+        ensures { IsReadyRegion self.old result self.new }
     {
         if self.next != self.size {
             return true;
@@ -150,7 +150,7 @@ impl<const WIDTH: usize> Region<WIDTH> {
     #[inline(always)]
     fn list_new(&mut self) -> bool
         requires { IsRegion self.old × (self.old.next ≡ self.old.size) }
-        ensures { IsReady self.old result self.new }
+        ensures { IsReadyRegion self.old result self.new }
     {
         if self.fresh == self.size {
             return false;
@@ -165,7 +165,7 @@ impl<const WIDTH: usize> Region<WIDTH> {
 
     // The cell is live from now on.
     pub fn settle(&mut self, held: Held<WIDTH>)
-        requires { IsRegion self.old × IsOf held self.old × IsLive (state held) }
+        requires { IsRegion self.old × IsHeldOf held self.old × IsLive (state held) }
         ensures { Becomes self.old self.new held.entry.index (state held.entry) }
     {
         let Held {
@@ -178,7 +178,7 @@ impl<const WIDTH: usize> Region<WIDTH> {
 
     // The cell is free again.
     pub fn give_back(&mut self, held: Held<WIDTH>)
-        requires { IsRegion self.old × IsOf held self.old }
+        requires { IsRegion self.old × IsHeldOf held self.old }
         ensures { Becomes self.old self.new held.entry.index Vacant }
     {
         let Held {

@@ -5,7 +5,7 @@ ghost use Rattle.in_arena.specs.Arenas.{written};
 ghost use Rattle.in_arena.specs.Classes.{Holds, classes, width};
 ghost use Rattle.in_arena.specs.declared.content.CellClass.TheVariants.{Wide as Widest};
 ghost use Rattle.in_arena.specs.Limiting.{most_cells};
-ghost use Rattle.in_arena.specs.Regions.{IsFresh};
+ghost use Rattle.in_arena.specs.Regions.{IsFreshRegion};
 ghost use Rattle.in_arena.specs.ByClass.{IsRegions, AreWhole, AreFresh, Become, Lend, IsCellOf, IsHeldCell, IsPlace, IsSacks, IsOut, SacksBecome, HandOut, AreEmpty, row_of, cell_at, cell_view, index_of, sack_cell};
 
 use crate::content::{CellClass, CellNo, End, SymbolWord};
@@ -76,8 +76,8 @@ impl Regions {
         large: Region<9>,
     ) -> Result<Regions, AllocError>
         requires cells { cells ≤ most_cells }
-        requires small { IsFresh cells small }
-        requires large { IsFresh cells large }
+        requires small { IsFreshRegion cells small }
+        requires large { IsFreshRegion cells large }
         ensures { IfOk result (λ r. AreFresh cells r) }
     {
         match Region::new(alloc, cells) {

@@ -2,7 +2,7 @@
 ghost use Rattle.std.specs.Prelude.{◌≡◌, ◌<◌, length, slice_set};
 ghost use Rattle.in_arena.specs.States.{Live, Leased};
 ghost use Rattle.in_arena.specs.Arenas.{NoneLeased, changed, state_at};
-ghost use Rattle.in_arena.specs.Bags.{IsBagOf, IsFor, IsIn};
+ghost use Rattle.in_arena.specs.Bags.{IsBagOf, IsFor, IsInBag};
 ghost use Rattle.in_arena.specs.Classes.{Holds};
 
 use in_arena::{Arena, Bag, CellClass, CellNo, End};
@@ -78,7 +78,7 @@ pub fn make_in_two_bags(
 }
 
 fn filled(mut bag: Bag, cell: CellNo, symbol: u32, ends: &[End]) -> Bag
-    requires { IsIn bag cell.0 × IsFor bag.cells cell.0 (length ends.now) }
+    requires { IsInBag bag cell.0 × IsFor bag.cells cell.0 (length ends.now) }
     ensures { result ≡ changed bag cell.0 (Live symbol ends.now) }
 {
     bag.write(cell, symbol, ends);
@@ -101,7 +101,7 @@ pub fn make_in_a_bag_elsewhere(
     let (mut bag, ()) = thread::join(
         rt,
         move || -> Bag
-            requires { IsIn bag cell.0 × IsFor bag.cells cell.0 (length ends.now) }
+            requires { IsInBag bag cell.0 × IsFor bag.cells cell.0 (length ends.now) }
             ensures { result ≡ changed bag cell.0 (Live symbol ends.entry.now) }
         { filled(bag, cell, symbol, ends) },
         || (),

@@ -2,7 +2,7 @@
 use Rattle.std.proofs.Common.{◌≡◌, ◌≢◌, ◌⊎◌, ℕ, List, [], ◌∷◌, ◌++◌, refl, sym, subst, ap, inl, inr, ◌∙◌}
 use mathlib.Core.HLevel.{Discrete}
 use Rattle.std.specs.List.{AllByRecursion}
-use Rattle.in_base.specs.Graphs.{Graph, Passage, entered, left, Leads, IsCrossing, AreApart, CrossingCircle}
+use Rattle.in_base.specs.Graphs.{Graph, Passage, entered, left, LeadsThrough, IsCrossing, AreApart, CrossingCircle}
 use Rattle.in_base.specs.Lists.{AnyByRecursion}
 use Rattle.in_base.proofs.Each.{all_left, all_map}
 
@@ -88,9 +88,9 @@ module _ (g : Graph) (E L : g.Node × ℕ → Type 0) where
   walk_join from to [] q ys w e l v = (w, e, l, v)
   walk_join from to (x ∷ xs) q ys w e l v = (w.0, w.1, w.2, walk_join (left x) to xs q ys w.3 e l v)
 
-  pub walk-Leads : (from to : g.Node × ℕ) (xs : List (Passage g.Node)) → Walk g E L from xs to → Leads g from xs to
-  walk-Leads from to [] w = w
-  walk-Leads from to (x ∷ xs) w = (w.0, walk-Leads (left x) to xs w.3)
+  pub walk-LeadsThrough : (from to : g.Node × ℕ) (xs : List (Passage g.Node)) → Walk g E L from xs to → LeadsThrough g from xs to
+  walk-LeadsThrough from to [] w = w
+  walk-LeadsThrough from to (x ∷ xs) w = (w.0, walk-LeadsThrough (left x) to xs w.3)
 
   pub walk_crossing : AreSeparate g E L → (from to : g.Node × ℕ) (xs : List (Passage g.Node)) → Walk g E L from xs to → AllByRecursion (IsCrossing g) xs
   walk_crossing s from to [] w = tt
@@ -102,7 +102,7 @@ module _ (g : Graph) (E L : g.Node × ℕ → Type 0) where
       record {
         first = record { node = n; enter = i; leave = j };
         rest = xs;
-        closed = walk-Leads (n, j) (n, i) xs w;
+        closed = walk-LeadsThrough (n, j) (n, i) xs w;
         crossing = (s n i j e l, walk_crossing s (n, j) (n, i) xs w);
         apart = (other, apart);
       }
@@ -135,7 +135,7 @@ module _ (g : Graph) (E L : g.Node × ℕ → Type 0) where
           record {
             first = c.first;
             rest = c.rest;
-            closed = walk-Leads (left c.first) (entered c.first) c.rest c.closed;
+            closed = walk-LeadsThrough (left c.first) (entered c.first) c.rest c.closed;
             crossing = (s c.first.node c.first.enter c.first.leave c.enters c.leaves, walk_crossing s (left c.first) (entered c.first) c.rest c.closed);
             apart = apart;
           }
@@ -152,7 +152,7 @@ module _ (g : Graph) (E L : g.Node × ℕ → Type 0) where
         closed = walk_join (left q) (entered q) ys first xs r.3 e l r.0;
       }
 
-  pub leads_walk : (from to : g.Node × ℕ) (ps : List (Passage g.Node)) → Leads g from ps to → AllByRecursion (λ p. E (entered p)) ps → AllByRecursion (λ p. L (left p)) ps → Walk g E L from ps to
+  pub leads_walk : (from to : g.Node × ℕ) (ps : List (Passage g.Node)) → LeadsThrough g from ps to → AllByRecursion (λ p. E (entered p)) ps → AllByRecursion (λ p. L (left p)) ps → Walk g E L from ps to
   leads_walk from to [] w e l = w
   leads_walk from to (p ∷ ps) w e l = (w.0, e.0, l.0, leads_walk (left p) to ps w.1 e.1 l.1)
 

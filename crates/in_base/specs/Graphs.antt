@@ -26,9 +26,9 @@ module _ {V : Type 0} (p : Passage V) where
   left = (p.node, p.leave)
 
 -- a wire, or wires through these nodes in turn, lead from one port to the other
-abbrev pub Leads : (g : Graph) → g.Node × ℕ → List (Passage g.Node) → g.Node × ℕ → Type 0
-Leads g from [] to = g.Wire from to
-Leads g from (p ∷ ps) to = g.Wire from (entered p) × Leads g (left p) ps to
+abbrev pub LeadsThrough : (g : Graph) → g.Node × ℕ → List (Passage g.Node) → g.Node × ℕ → Type 0
+LeadsThrough g from [] to = g.Wire from to
+LeadsThrough g from (p ∷ ps) to = g.Wire from (entered p) × LeadsThrough g (left p) ps to
 
 -- it changes class within its node
 abbrev pub IsCrossing : (g : Graph) → Passage g.Node → Type 0
@@ -42,7 +42,7 @@ AreApart = Pairwise (λ p q. p.node ≢ q.node)
 pub record CrossingCircle (g : Graph) : Type 0 where
   pub first : Passage g.Node
   pub rest : List (Passage g.Node)
-  pub closed : Leads g (left first) rest (entered first)
+  pub closed : LeadsThrough g (left first) rest (entered first)
   pub crossing : AllByRecursion (IsCrossing g) (first ∷ rest)
   pub apart : AreApart (first ∷ rest)
 
@@ -54,6 +54,6 @@ IsFromPrincipal p = (p.leave ≡ 0) × (p.enter ≢ 0)
 pub record ViciousCircle (g : Graph) : Type 0 where
   pub first : Passage g.Node
   pub rest : List (Passage g.Node)
-  pub closed : Leads g (left first) rest (entered first)
+  pub closed : LeadsThrough g (left first) rest (entered first)
   pub principal : AllByRecursion IsFromPrincipal (first ∷ rest)
   pub apart : AreApart (first ∷ rest)

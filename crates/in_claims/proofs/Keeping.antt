@@ -14,7 +14,7 @@ use lib.ListN.{get_elem?}
 use Rattle.atomic_table.specs.Table.{State, keeps, Allows, Splits, Joins}
 use Rattle.in_claims.specs.declared.hands.Hand.{Hand}
 use Rattle.in_claims.specs.declared.hands.Size.{Size}
-use Rattle.in_claims.specs.Rule.{hand, drew, times_claimed, done_count, all_hands, limit_of, AreClaims, IsHandOf, IsKept}
+use Rattle.in_claims.specs.Rule.{hand, drew, times_claimed, done_count, all_hands, limit_of, AreClaims, IsHandOf, IsBoardRule}
 use Rattle.in_claims.proofs.Sums.{at_get, at_most_one, if_below, sum_le, stands_counted, length_le_sum}
 use Rattle.in_claims.proofs.Views.{change, all_changed, all_at, all_in_view, alone}
 
@@ -46,7 +46,7 @@ none_rises k inside = absurd (omega arith)
 
 -- a seat claims, and finds the word of a state that keeps the rule
 module _ (size : Size) (limit_fits : size.limit < 2 ^ 32) (seats_fit : size.seats < 2 ^ 32) (id : ℕ) (h : Hand) (not_done : h.done ≡ false)
-    (s : State (Unit {0}) (List Hand)) (kept : IsKept size s) (at : get_elem? s.views id ≡ some (h ∷ [])) where
+    (s : State (Unit {0}) (List Hand)) (kept : IsBoardRule size s) (at : get_elem? s.views id ≡ some (h ∷ [])) where
   abbrev word : ℕ
   word = get_or s.words 0 0
 
@@ -120,7 +120,7 @@ module _ (size : Size) (limit_fits : size.limit < 2 ^ 32) (seats_fit : size.seat
         done = omega (arith, change_to (λ v. cond v.done 1 0) u, kept.claims.done, was);
       }
 
-  kept_by : (u : Hand) → u.shares ≡ h.shares → u.size ≡ h.size → AreClaims size.limit (word + 1) (all_hands (set s.views id (u ∷ []))) → IsKept size (after u (word + 1))
+  kept_by : (u : Hand) → u.shares ≡ h.shares → u.size ≡ h.size → AreClaims size.limit (word + 1) (all_hands (set s.views id (u ∷ []))) → IsBoardRule size (after u (word + 1))
   kept_by u same_shares same_size claims =
       let some_word : 0 < length s.words = omega (arith, kept.one_word) in
       let word_is : get_or (set s.words 0 (word + 1)) 0 0 ≡ word + 1 = get_or-set_same s.words 0 (word + 1) 0 some_word in
@@ -132,22 +132,22 @@ module _ (size : Size) (limit_fits : size.limit < 2 ^ 32) (seats_fit : size.seat
         hands = all_changed (IsHandOf size) s.views id (u ∷ []) (single (IsHandOf size) u of) kept.hands;
       }
 
-  goes_by : (b : Bool) → nat_lt word h.size.limit ≡ b → IsKept size (after (cond b (hand h.shares h.size (h.numbers ++ word ∷ []) h.done) (hand h.shares h.size h.numbers true)) (word + 1))
+  goes_by : (b : Bool) → nat_lt word h.size.limit ≡ b → IsBoardRule size (after (cond b (hand h.shares h.size (h.numbers ++ word ∷ []) h.done) (hand h.shares h.size h.numbers true)) (word + 1))
   goes_by true e =
       kept_by (hand h.shares h.size (h.numbers ++ word ∷ []) h.done) refl refl (drawn (subst (λ (z : Size). word < z.limit) is_of.size_is (ltb-true _ _ e)))
   goes_by false e =
       kept_by (hand h.shares h.size h.numbers true) refl refl (ended (subst (λ (z : Size). z.limit ≤ word) is_of.size_is (ltb-false _ _ e)))
 
-  keeps_rule : IsKept size (after (drew h word) ((word + 1) % 18446744073709551616))
+  keeps_rule : IsBoardRule size (after (drew h word) ((word + 1) % 18446744073709551616))
   keeps_rule =
       let whole : (word + 1) % 18446744073709551616 ≡ word + 1 = omega (arith, small) in
-      subst (λ w. IsKept size (after (drew h word) w)) (sym whole) (goes_by (nat_lt word h.size.limit) refl)
+      subst (λ w. IsBoardRule size (after (drew h word) w)) (sym whole) (goes_by (nat_lt word h.size.limit) refl)
 
   list_rises : IsStrictlyIncreasing (drew h word).numbers
   list_rises = rises_by (nat_lt word h.size.limit)
 
 pub claims : (size : Size) (slots id : ℕ) (h : Hand) → size.limit < 2 ^ 32 → size.seats < 2 ^ 32 → h.done ≡ false →
-    Allows (IsKept size) slots id (h ∷ [], []) 0 (λ w. (w + 1) % 18446744073709551616) (λ found after. (after ≡ (drew h found ∷ [], [])) × All (λ (v : Hand). IsStrictlyIncreasing v.numbers) after.0)
+    Allows (IsBoardRule size) slots id (h ∷ [], []) 0 (λ w. (w + 1) % 18446744073709551616) (λ found after. (after ≡ (drew h found ∷ [], [])) × All (λ (v : Hand). IsStrictlyIncreasing v.numbers) after.0)
 claims size slots id h limit_fits seats_fit not_done s kept homes at fits_word =
     let word = get_or s.words 0 0 in
     let rises = single (λ (v : Hand). IsStrictlyIncreasing v.numbers) (drew h word) (list_rises size limit_fits seats_fit id h not_done s kept at) in
@@ -155,7 +155,7 @@ claims size slots id h limit_fits seats_fit not_done s kept homes at fits_word =
 
 -- a seat that is not done gives a share to a new one
 pub splits : (size : Size) (id : ℕ) (h : Hand) → 1 < h.shares → h.done ≡ false →
-    Splits (IsKept size) id (h ∷ []) (hand (h.shares - 1) h.size h.numbers h.done ∷ []) (hand 1 h.size [] false ∷ [])
+    Splits (IsBoardRule size) id (h ∷ []) (hand (h.shares - 1) h.size h.numbers h.done ∷ []) (hand 1 h.size [] false ∷ [])
 splits size id h shares not_done s kept at =
     let left = hand (h.shares - 1) h.size h.numbers h.done in
     let right = hand 1 h.size [] false in
@@ -183,7 +183,7 @@ splits size id h shares not_done s kept at =
     }
 
 -- a seat takes in another, which keeps no hand
-pub joins : (size : Size) (id : ℕ) (ours : List Hand) (other : ℕ) (theirs : List Hand) → Joins (IsKept size) id ours other theirs (theirs ++ ours) []
+pub joins : (size : Size) (id : ℕ) (ours : List Hand) (other : ℕ) (theirs : List Hand) → Joins (IsBoardRule size) id ours other theirs (theirs ++ ours) []
 joins size id ours other theirs s kept at apart there =
     let middle : List (List Hand) = set s.views id (theirs ++ ours) in
     let after : List (List Hand) = set middle other [] in
@@ -215,14 +215,14 @@ limit_is size (h ∷ hands) one of = ap (λ (z : Size). z.limit) (All-head (IsHa
 
 -- who has as many hands as the board has seats has all of them
 pub tells : (size : Size) (slots id : ℕ) (hands : List Hand) → 0 < size.seats → length hands ≡ size.seats →
-    Allows (IsKept size) slots id (hands, []) 0 (λ w. w) (λ found after. AreClaims (limit_of hands) found hands)
+    Allows (IsBoardRule size) slots id (hands, []) 0 (λ w. w) (λ found after. AreClaims (limit_of hands) found hands)
 tells size slots id hands some_seat all s kept homes at fits_word =
     let word = get_or s.words 0 0 in
     let t = at_get s.views id hands at in
     let same_views : set s.views id hands ≡ s.views = ap (λ l. set s.views id l) (sym t.1) ∙ set-get_or s.views id hands in
     let same_words : set s.words 0 word ≡ s.words = set-get_or s.words 0 0 in
-    let still : IsKept size (record { words = set s.words 0 word; homes = s.homes; views = set s.views id hands }) =
-    subst (λ v. IsKept size (record { words = set s.words 0 word; homes = s.homes; views = v })) (sym same_views) (subst (λ w. IsKept size (record { words = w; homes = s.homes; views = s.views })) (sym same_words) kept)
+    let still : IsBoardRule size (record { words = set s.words 0 word; homes = s.homes; views = set s.views id hands }) =
+    subst (λ v. IsBoardRule size (record { words = set s.words 0 word; homes = s.homes; views = v })) (sym same_views) (subst (λ w. IsBoardRule size (record { words = w; homes = s.homes; views = s.views })) (sym same_words) kept)
     in
     let few = length_le_sum (λ (h : Hand). h.shares) (all_hands s.views) (λ k d lt. (kept.hands k d lt).share) in
     let whole : all_hands s.views ≡ hands = alone s.views id hands at (omega (arith, few, kept.shares, all)) in

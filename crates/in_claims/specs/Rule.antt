@@ -37,7 +37,7 @@ abbrev pub all_hands : List (List Hand) → List Hand
 all_hands views = flat_map (λ hands. hands) views
 
 -- the rule of the table of a board: it has one word, which with the hands of the seats makes the claims of the board, and a share for each seat
-pub record IsKept (size : Size) (state : State (Unit {0}) (List Hand)) : Type 0 where
+pub record IsBoardRule (size : Size) (state : State (Unit {0}) (List Hand)) : Type 0 where
   pub one_word : length state.words ≡ 1
   pub claims : AreClaims size.limit (slice_index state.words 0) (all_hands state.views)
   pub shares : sum_by (λ h. h.shares) (all_hands state.views) ≡ size.seats

@@ -27,9 +27,9 @@ pub struct Claims;
 
 impl TableRule<(), Hands, Size> for Claims {
     ghost use Rattle.std.specs.Prelude.{false, [], ◌∷◌};
-    ghost use Rattle.in_claims.specs.Rule.{IsKept, hand};
+    ghost use Rattle.in_claims.specs.Rule.{IsBoardRule, hand};
 
-    ghost holds = { IsKept };
+    ghost holds = { IsBoardRule };
 
     ghost first = { λ size. hand size.seats size [] false ∷ [] };
 }

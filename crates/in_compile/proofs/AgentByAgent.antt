@@ -8,7 +8,7 @@ use Rattle.std.proofs.lemmas.Option.{same_Some, slice_get_within, slice_get-get_
 use Rattle.in_base.proofs.Each.{all_append, at_index}
 use Rattle.in_base.proofs.Places.{more_at}
 use Rattle.in_arena.specs.Arenas.{ArenaView, changed, free_of, state_at}
-use Rattle.in_arena.specs.Bags.{IsIn, AreOfOne}
+use Rattle.in_arena.specs.Bags.{IsInBag, AreOfOne}
 use Rattle.in_arena.specs.Changes.{HasAllCells}
 use Rattle.in_arena.specs.Classes.{IsNumberOf}
 use Rattle.in_arena.specs.States.{State, Vacant, Leased, IsLeased, IsLive}
@@ -111,7 +111,7 @@ module _ (m : MemberParts) (old : StockParts) (first : ArenaView) (x : ℕ) (s :
         let now : held less d + of_class c 1 d ≡ held s d = ap (λ (z : StockParts). held z d + of_class c 1 d) (sym t.stock) ∙ t.left d in
         omega (arith, sum, one, so_far, now)
 
-    apart_by : (p : ℕ) → (p ≡ n.0) ⊎ (p ≢ n.0) → IsIn less.bag p → state_at more p ≡ Leased
+    apart_by : (p : ℕ) → (p ≡ n.0) ⊎ (p ≢ n.0) → IsInBag less.bag p → state_at more p ≡ Leased
     apart_by p (inl e) in_it = absurd (in_it (subst IsLeased (sym (ap (state_at less.bag) e ∙ stays s.bag.states n.0 Leased)) tt))
     apart_by p (inr other) in_it =
         get_or-set_other b.states n.0 p Vacant Leased other ∙ h.apart p (not_leased (state_at s.bag p) (state_at less.bag p) in_it (sym (get_or-set_other s.bag.states n.0 p Leased Leased other)))

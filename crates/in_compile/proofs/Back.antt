@@ -5,7 +5,7 @@ use Rattle.std.proofs.lemmas.List.{get_or-drop}
 use Rattle.std.proofs.lemmas.List.Sums.{sum_by-cons}
 use Rattle.in_base.proofs.Each.{all_at}
 use Rattle.in_arena.specs.Arenas.{ArenaView, free_of, state_at}
-use Rattle.in_arena.specs.Bags.{IsBagOf, IsIn, AreOfOne, empty_bag}
+use Rattle.in_arena.specs.Bags.{IsBagOf, IsInBag, AreOfOne, empty_bag}
 use Rattle.in_arena.specs.Changes.{HasAllCells, one_if_free}
 use Rattle.in_arena.specs.Classes.{classes, class_no}
 use Rattle.in_arena.specs.States.{State, Vacant, Leased, Live, IsLeased, IsLive, is_vacant}
@@ -13,7 +13,7 @@ use Rattle.in_arena.specs.declared.content.CellClass.{CellClass}
 use Rattle.in_arena.specs.declared.content.CellNo.{CellNo}
 use Rattle.in_arena.proofs.Public.{vacant_inside, leased_or, empty_is_of, stays}
 use Rattle.in_compile.specs.declared.cells.Need.{Need}
-use Rattle.in_compile.specs.Placing.{PlacedParts, AreCellsOf, Takes}
+use Rattle.in_compile.specs.Placing.{PlacedParts, AreCellsOf, TakesCells}
 use Rattle.in_compile.specs.Stocks.{StockParts, Adds, Regains, IsStockOf, with_all}
 use Rattle.in_compile.proofs.Stocked.{not_leased, count_all, cells_all, memory_all, none_in_empty}
 
@@ -77,10 +77,10 @@ module _ (count : CellClass → ℕ) (a a' b' a'' : ArenaView) (all : HasAllCell
 -- ---- what is placed
 
 -- a placed cell was the stock's
-placed_was : (need : Need) (s s' : StockParts) (p : PlacedParts) → Takes need p.cells s s' → AreCellsOf p.bag p.cells → (n : ℕ) → IsIn p.bag n → state_at s.bag n ≡ Vacant
+placed_was : (need : Need) (s s' : StockParts) (p : PlacedParts) → TakesCells need p.cells s s' → AreCellsOf p.bag p.cells → (n : ℕ) → IsInBag p.bag n → state_at s.bag n ≡ Vacant
 placed_was need s s' p takes cells n in_it = let at = cells.only n in_it in all_at (λ (m : CellNo). state_at s.bag m.0 ≡ Vacant) p.cells at.0 (record { 0 = n }) takes.were at.1
 
-module _ (need : Need) (s s' : StockParts) (p : PlacedParts) (a a' a'' : ArenaView) (takes : Takes need p.cells s s') (cells : AreCellsOf p.bag p.cells) (first : Regains (λ _. Vacant) a s'.bag a') (second : Regains (λ _. Vacant) a' p.bag a'') where
+module _ (need : Need) (s s' : StockParts) (p : PlacedParts) (a a' a'' : ArenaView) (takes : TakesCells need p.cells s s') (cells : AreCellsOf p.bag p.cells) (first : Regains (λ _. Vacant) a s'.bag a') (second : Regains (λ _. Vacant) a' p.bag a'') where
   -- a cell that isn't placed is the stock's where it was
   left : (n : ℕ) → state_at p.bag n ≡ Leased → ((k : ℕ) × (slice_get p.cells k ≡ Some (record { 0 = n }))) ⊎ (state_at (with_all s.bag p.cells Leased) n ≡ state_at s.bag n) → state_at s'.bag n ≡ state_at s.bag n
   left n out (inl at) = absurd (cells.each at.0 (record { 0 = n }) at.1 (subst IsLeased (sym out) tt))
@@ -89,11 +89,11 @@ module _ (need : Need) (s s' : StockParts) (p : PlacedParts) (a a' a'' : ArenaVi
   as_left : (n : ℕ) → state_at p.bag n ≡ Leased → state_at s'.bag n ≡ state_at s.bag n
   as_left n out = left n out (one_or_same s.bag p.cells Leased n)
 
-  back_by : (n : ℕ) → (state_at p.bag n ≡ Leased) ⊎ IsIn p.bag n → IsIn s.bag n → state_at a'' n ≡ Vacant
+  back_by : (n : ℕ) → (state_at p.bag n ≡ Leased) ⊎ IsInBag p.bag n → IsInBag s.bag n → state_at a'' n ≡ Vacant
   back_by n (inl out) in_it = second.others n out ∙ first.back n (not_leased (state_at s'.bag n) (state_at s.bag n) in_it (as_left n out))
   back_by n (inr placed) in_it = second.back n placed
 
-  others_by : (n : ℕ) → (state_at p.bag n ≡ Leased) ⊎ IsIn p.bag n → state_at s.bag n ≡ Leased → state_at a'' n ≡ state_at a n
+  others_by : (n : ℕ) → (state_at p.bag n ≡ Leased) ⊎ IsInBag p.bag n → state_at s.bag n ≡ Leased → state_at a'' n ≡ state_at a n
   others_by n (inl out) leased = second.others n out ∙ first.others n (as_left n out ∙ leased)
   others_by n (inr placed) leased = absurd (let e : Vacant ≡ Leased = sym (placed_was need s s' p takes cells n placed) ∙ leased in subst IsLeased (sym e) tt)
 
@@ -107,26 +107,26 @@ module _ (need : Need) (s s' : StockParts) (p : PlacedParts) (a a' a'' : ArenaVi
   }
 
 -- a cell that is left in a bag is in it
-still_in : (b : ArenaView) (ns : List CellNo) (n : ℕ) → IsIn (with_all b ns Leased) n → IsIn b n
+still_in : (b : ArenaView) (ns : List CellNo) (n : ℕ) → IsInBag (with_all b ns Leased) n → IsInBag b n
 still_in b [] n h = h
 still_in b (m ∷ ns) n h = go (cases_eq n m.0) (still_in b ns n)
   where
-    go : (n ≡ m.0) ⊎ (n ≢ m.0) → (IsIn (with_all b ns Leased) n → IsIn b n) → IsIn b n
+    go : (n ≡ m.0) ⊎ (n ≢ m.0) → (IsInBag (with_all b ns Leased) n → IsInBag b n) → IsInBag b n
     go (inl e) rest = absurd (h (subst IsLeased (sym (ap (state_at (with_all b (m ∷ ns) Leased)) e ∙ stays (with_all b ns Leased).states m.0 Leased)) tt))
     go (inr other) rest = rest (not_leased (state_at (with_all b ns Leased) n) (state_at (with_all b (m ∷ ns) Leased) n) h (sym (get_or-set_other (with_all b ns Leased).states m.0 n Leased Leased other)))
 
-module _ (need : Need) (s s' : StockParts) (p : PlacedParts) (a : ArenaView) (of : IsStockOf s a) (takes : Takes need p.cells s s') (cells : AreCellsOf p.bag p.cells) (one : AreOfOne s.bag p.bag) where
-  is_left : (n : ℕ) → IsIn s'.bag n → IsIn s.bag n
-  is_left n in_it = still_in s.bag p.cells n (subst (λ v. IsIn v n) takes.bag in_it)
+module _ (need : Need) (s s' : StockParts) (p : PlacedParts) (a : ArenaView) (of : IsStockOf s a) (takes : TakesCells need p.cells s s') (cells : AreCellsOf p.bag p.cells) (one : AreOfOne s.bag p.bag) where
+  is_left : (n : ℕ) → IsInBag s'.bag n → IsInBag s.bag n
+  is_left n in_it = still_in s.bag p.cells n (subst (λ v. IsInBag v n) takes.bag in_it)
 
   -- a placed cell isn't the stock's any more
-  gone : (n : ℕ) → IsIn s'.bag n → IsIn p.bag n → ⊥
+  gone : (n : ℕ) → IsInBag s'.bag n → IsInBag p.bag n → ⊥
   gone n in_stock placed =
       let at = cells.only n placed in
       let inside = vacant_inside s.bag n (placed_was need s s' p takes cells n placed) in
       in_stock (subst IsLeased (sym (ap (λ v. state_at v n) takes.bag ∙ one_of_all s.bag p.cells Leased (record { 0 = n }) at.0 inside at.1)) tt)
 
-  pub shared_out : IsStockOf s' a × IsBagOf p.bag a × ((n : ℕ) → IsIn s'.bag n → IsIn p.bag n → ⊥)
+  pub shared_out : IsStockOf s' a × IsBagOf p.bag a × ((n : ℕ) → IsInBag s'.bag n → IsInBag p.bag n → ⊥)
   shared_out = (
     record {
       memory = ap (λ v. v.memory) takes.bag ∙ memory_all s.bag p.cells Leased ∙ of.memory;
@@ -141,14 +141,14 @@ module _ (need : Need) (s s' : StockParts) (p : PlacedParts) (a : ArenaView) (of
     gone,
   )
 
-pub other_stays : (f : State → State) (a b d a' : ArenaView) → Regains f a b a' → IsBagOf d a → ((n : ℕ) → IsIn d n → IsIn b n → ⊥) → IsBagOf d a'
+pub other_stays : (f : State → State) (a b d a' : ArenaView) → Regains f a b a' → IsBagOf d a → ((n : ℕ) → IsInBag d n → IsInBag b n → ⊥) → IsBagOf d a'
 other_stays f a b d a' back of apart = record {
   memory = of.memory ∙ sym back.memory;
   cells = of.cells ∙ sym back.cells;
   leased = λ n in_it. go n in_it (leased_or (state_at b n));
 }
   where
-    go : (n : ℕ) → IsIn d n → (state_at b n ≡ Leased) ⊎ IsIn b n → state_at a' n ≡ Leased
+    go : (n : ℕ) → IsInBag d n → (state_at b n ≡ Leased) ⊎ IsInBag b n → state_at a' n ≡ Leased
     go n in_it (inl out) = back.others n out ∙ of.leased n in_it
     go n in_it (inr both) = absurd (apart n in_it both)
 
@@ -176,7 +176,7 @@ module _ (a b a' : ArenaView) (c : CellClass) (all : HasAllCells a) (all_b : Has
   one_by : (n : ℕ) (y : State) → state_at b n ≡ y → one_if_free (state_at a' n) ≡ one_if_free (state_at a n) + one_if_free (state_at b n)
   one_by n Leased e = let f = ap one_if_free (back.others n e) in let g : one_if_free (state_at b n) ≡ 0 = ap one_if_free e in omega (arith, f, g)
   one_by n Vacant e =
-      let in_it : IsIn b n = λ leased. subst IsLeased e leased in
+      let in_it : IsInBag b n = λ leased. subst IsLeased e leased in
       let f : one_if_free (state_at a' n) ≡ 1 = ap one_if_free (back.back n in_it) in
       let g : one_if_free (state_at b n) ≡ 1 = ap one_if_free e in
       let k : one_if_free (state_at a n) ≡ 0 = ap one_if_free (of.leased n in_it) in

@@ -4,7 +4,7 @@ use Rattle.std.specs.Prelude.{option_map, option_and_then}
 use Rattle.std.proofs.lemmas.List.{length-set, take_more_set, take_all}
 use Rattle.std.proofs.lemmas.Option.{same_Some, slice_get_within}
 use Rattle.in_arena.specs.Arenas.{ArenaView, changed, state_at}
-use Rattle.in_arena.specs.Bags.{IsIn}
+use Rattle.in_arena.specs.Bags.{IsInBag}
 use Rattle.in_arena.specs.States.{State, Leased, Live, IsBegun, places, with_end}
 use Rattle.in_arena.specs.declared.content.CellNo.{CellNo}
 use Rattle.in_arena.specs.declared.content.End.{End}
@@ -44,7 +44,7 @@ module _ (m : MemberParts) (ns : List CellNo) (k : ℕ) (n : CellNo) (first : Ar
   }
 
   module _ (x : ℕ) (b : ArenaView) (h : IsBeingWritten m ns k x n first b) where
-    module _ (in_it : IsIn first n.0) where
+    module _ (in_it : IsInBag first n.0) where
       now : state_at b n.0 ≡ Live h.agent.symbol.0 h.ends
       now = ap (λ v. state_at v n.0) h.bag ∙ get_or-set_same first.states n.0 (Live h.agent.symbol.0 h.ends) Leased (in_range first n.0 in_it)
 

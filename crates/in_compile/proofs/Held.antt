@@ -5,7 +5,7 @@ use Rattle.std.proofs.lemmas.List.{length-set}
 use Rattle.std.proofs.lemmas.Option.{same_Some, slice_get_within}
 use Rattle.in_base.proofs.Places.{last_at, more_at, kept_at}
 use Rattle.in_arena.specs.Arenas.{ArenaView, changed, state_at}
-use Rattle.in_arena.specs.Bags.{IsBagOf, IsIn}
+use Rattle.in_arena.specs.Bags.{IsBagOf, IsInBag}
 use Rattle.in_arena.specs.States.{State, Leased, IsLeased}
 use Rattle.in_arena.specs.declared.content.CellNo.{CellNo}
 use Rattle.in_arena.proofs.Public.{leased_or, stays}
@@ -19,19 +19,19 @@ module _ (b : ArenaView) (ns : List CellNo) (n : CellNo) (y : State) (h : AreCel
   b' = changed b n.0 y
 
   module _ (inside : n.0 < length b.states) where
-    here : IsIn b' n.0
+    here : IsInBag b' n.0
     here = not_leased (state_at b' n.0) y live (get_or-set_same b.states n.0 y Leased inside)
 
-    in_by : (m : ℕ) → (m ≡ n.0) ⊎ (m ≢ n.0) → IsIn b m → IsIn b' m
-    in_by m (inl e) in_it = subst (IsIn b') (sym e) here
+    in_by : (m : ℕ) → (m ≡ n.0) ⊎ (m ≢ n.0) → IsInBag b m → IsInBag b' m
+    in_by m (inl e) in_it = subst (IsInBag b') (sym e) here
     in_by m (inr other) in_it = not_leased (state_at b' m) (state_at b m) in_it (get_or-set_other b.states n.0 m y Leased other)
 
-  was_in : (m : ℕ) → m ≢ n.0 → IsIn b' m → IsIn b m
+  was_in : (m : ℕ) → m ≢ n.0 → IsInBag b' m → IsInBag b m
   was_in m other in_it = not_leased (state_at b m) (state_at b' m) in_it (sym (get_or-set_other b.states n.0 m y Leased other))
 
   -- a cell of the bag changes
   module _ (k : ℕ) (at : slice_get ns k ≡ Some n) where
-    only_by : (m : ℕ) → (m ≡ n.0) ⊎ (m ≢ n.0) → IsIn b' m → (j : ℕ) × (slice_get ns j ≡ Some (record { 0 = m }))
+    only_by : (m : ℕ) → (m ≡ n.0) ⊎ (m ≢ n.0) → IsInBag b' m → (j : ℕ) × (slice_get ns j ≡ Some (record { 0 = m }))
     only_by m (inl e) in_it = (k, at ∙ ap (λ (z : ℕ). Some (record { 0 = z })) (sym e))
     only_by m (inr other) in_it = h.only m (was_in m other in_it)
 
@@ -47,9 +47,9 @@ module _ (b : ArenaView) (ns : List CellNo) (n : CellNo) (y : State) (h : AreCel
     apart : (j : ℕ) (m : CellNo) → slice_get ns j ≡ Some m → n ≡ m → ⊥
     apart j m s e = h.each j m s (subst IsLeased (sym (ap (λ (z : CellNo). state_at b z.0) (sym e) ∙ out)) tt)
 
-    each_by : (j : ℕ) (m : CellNo) → (slice_get ns j ≡ Some m) ⊎ ((j ≡ length ns) × (n ≡ m)) → IsIn b' m.0
+    each_by : (j : ℕ) (m : CellNo) → (slice_get ns j ≡ Some m) ⊎ ((j ≡ length ns) × (n ≡ m)) → IsInBag b' m.0
     each_by j m (inl s) = in_by inside m.0 (cases_eq m.0 n.0) (h.each j m s)
-    each_by j m (inr e) = subst (λ (z : CellNo). IsIn b' z.0) e.1 (here inside)
+    each_by j m (inr e) = subst (λ (z : CellNo). IsInBag b' z.0) e.1 (here inside)
 
     once_by : (i j : ℕ) (m : CellNo) → (slice_get ns i ≡ Some m) ⊎ ((i ≡ length ns) × (n ≡ m)) → (slice_get ns j ≡ Some m) ⊎ ((j ≡ length ns) × (n ≡ m)) → i ≡ j
     once_by i j m (inl s) (inl r) = h.once i j m s r
@@ -57,7 +57,7 @@ module _ (b : ArenaView) (ns : List CellNo) (n : CellNo) (y : State) (h : AreCel
     once_by i j m (inr s) (inl r) = absurd (apart j m r s.1)
     once_by i j m (inr s) (inr r) = s.0 ∙ sym r.0
 
-    put_by : (m : ℕ) → (m ≡ n.0) ⊎ (m ≢ n.0) → IsIn b' m → (j : ℕ) × (slice_get (ns ++ n ∷ []) j ≡ Some (record { 0 = m }))
+    put_by : (m : ℕ) → (m ≡ n.0) ⊎ (m ≢ n.0) → IsInBag b' m → (j : ℕ) × (slice_get (ns ++ n ∷ []) j ≡ Some (record { 0 = m }))
     put_by m (inl e) in_it = (length ns, last_at ns n ∙ ap (λ (z : ℕ). Some (record { 0 = z })) (sym e))
     put_by m (inr other) in_it = let was = h.only m (was_in m other in_it) in (was.0, kept_at ns (n ∷ []) was.0 (record { 0 = m }) was.1)
 
@@ -71,7 +71,7 @@ module _ (b : ArenaView) (ns : List CellNo) (n : CellNo) (y : State) (h : AreCel
 -- ---- the arena gets them back
 
 module _ (f : State → State) (P : State → Type 0) (ns : List CellNo) where
-  module _ (x : ℕ) (a b a' b' : ArenaView) (n : CellNo) (y : State) (once : (j k : ℕ) (m : CellNo) → slice_get ns j ≡ Some m → slice_get ns k ≡ Some m → j ≡ k) (at : slice_get ns x ≡ Some n) (in_it : IsIn b' n.0) (is : y ≡ f (state_at b' n.0))
+  module _ (x : ℕ) (a b a' b' : ArenaView) (n : CellNo) (y : State) (once : (j k : ℕ) (m : CellNo) → slice_get ns j ≡ Some m → slice_get ns k ≡ Some m → j ≡ k) (at : slice_get ns x ≡ Some n) (in_it : IsInBag b' n.0) (is : y ≡ f (state_at b' n.0))
       (h : AreOnTheWay f P ns x a b a' b') where
     abbrev less : ArenaView
     less = changed b' n.0 Leased
@@ -79,7 +79,7 @@ module _ (f : State → State) (P : State → Type 0) (ns : List CellNo) where
     other : (j : ℕ) (m : CellNo) → x + 1 ≤ j → slice_get ns j ≡ Some m → m.0 ≢ n.0
     other j m le s e = let same : j ≡ x = once j x n (s ∙ ap (λ (z : ℕ). Some (record { 0 = z })) e) at in omega (arith, le, same)
 
-    left_by : (m : ℕ) → (m ≡ n.0) ⊎ (m ≢ n.0) → IsIn less m → (k : ℕ) × (x + 1 ≤ k) × (slice_get ns k ≡ Some (record { 0 = m }))
+    left_by : (m : ℕ) → (m ≡ n.0) ⊎ (m ≢ n.0) → IsInBag less m → (k : ℕ) × (x + 1 ≤ k) × (slice_get ns k ≡ Some (record { 0 = m }))
     left_by m (inl e) held = absurd (held (subst IsLeased (sym (ap (state_at less) e ∙ stays b'.states n.0 Leased)) tt))
     left_by m (inr apart) held =
         let was = h.left.only m (not_leased (state_at b' m) (state_at less m) held (sym (get_or-set_other b'.states n.0 m Leased Leased apart))) in
@@ -105,7 +105,7 @@ module _ (f : State → State) (P : State → Type 0) (ns : List CellNo) where
 
   -- all of them
   module _ (a b a' b' : ArenaView) (h : AreOnTheWay f P ns (length ns) a b a' b') where
-    none_left : (n : ℕ) → IsIn b' n → ⊥
+    none_left : (n : ℕ) → IsInBag b' n → ⊥
     none_left n in_it = let k = h.left.only n in_it in let l = k.1 in let w = slice_get_within ns k.0 (record { 0 = n }) k.2 in omega (arith, l, w)
 
     pub has_none : HasNoCell b'

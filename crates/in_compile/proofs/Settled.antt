@@ -9,7 +9,7 @@ use Rattle.in_arena.specs.declared.content.CellClass.{CellClass}
 use Rattle.in_arena.specs.declared.content.CellNo.{CellNo}
 use Rattle.in_arena.proofs.Public.{vacant_inside, empty_is_of}
 use Rattle.in_compile.specs.declared.cells.Need.{Need}
-use Rattle.in_compile.specs.Placing.{PlacedParts, AreCellsOf, Takes}
+use Rattle.in_compile.specs.Placing.{PlacedParts, AreCellsOf, TakesCells}
 use Rattle.in_compile.specs.Stocks.{StockParts, Adds, Regains, with_all}
 use Rattle.in_compile.proofs.Back.{one_or_same, one_of_all}
 use Rattle.in_compile.proofs.Stocked.{count_all, cells_all, memory_all, none_in_empty}
@@ -35,7 +35,7 @@ module _ (count : CellClass → ℕ) (a a1 : ArenaView) (s : StockParts) (all : 
       go (inr same) (inl at) = inl (was_added n at.0 at.1)
       go (inr same) (inr none) = inr (ap (λ v. state_at v n) adds.arena ∙ same, ap (λ v. state_at v n) adds.bag ∙ none ∙ none_in_empty a n)
 
-  module _ (need : Need) (s' : StockParts) (p : PlacedParts) (a2 a3 : ArenaView) (takes : Takes need p.cells s s') (cells : AreCellsOf p.bag p.cells) (first : Regains (λ _. Vacant) a1 s'.bag a2) (second : Regains (λ x. x) a2 p.bag a3) where
+  module _ (need : Need) (s' : StockParts) (p : PlacedParts) (a2 a3 : ArenaView) (takes : TakesCells need p.cells s s') (cells : AreCellsOf p.bag p.cells) (first : Regains (λ _. Vacant) a1 s'.bag a2) (second : Regains (λ x. x) a2 p.bag a3) where
     -- a cell that isn't placed is the stock's where it was
     as_left : (n : ℕ) → state_at p.bag n ≡ Leased → state_at s'.bag n ≡ state_at s.bag n
     as_left n out = go (one_or_same s.bag p.cells Leased n)

@@ -6,7 +6,7 @@ use Rattle.std.proofs.lemmas.Option.{slice_get_within}
 use Rattle.in_base.proofs.Each.{all_append, all_map}
 use Rattle.in_base.proofs.Places.{kept_at, last_at, more_at}
 use Rattle.in_arena.specs.Arenas.{ArenaView, changed, free_of, state_at}
-use Rattle.in_arena.specs.Bags.{IsBagOf, IsIn, LeasesTo, empty_bag}
+use Rattle.in_arena.specs.Bags.{IsBagOf, IsInBag, LeasesTo, empty_bag}
 use Rattle.in_arena.specs.Changes.{HasAllCells, one_if_free}
 use Rattle.in_arena.specs.Classes.{classes, IsNumberOf}
 use Rattle.in_arena.specs.States.{State, Vacant, Leased, Live, IsLeased}
@@ -45,7 +45,7 @@ pub not_leased : (x y : State) → (IsLeased y → ⊥) → x ≡ y → IsLeased
 not_leased x y h e l = h (subst IsLeased e l)
 
 -- a cell in the bag is one of all
-pub in_range : (b : ArenaView) (n : ℕ) → IsIn b n → n < length b.states
+pub in_range : (b : ArenaView) (n : ℕ) → IsInBag b n → n < length b.states
 in_range b n in_it = go (cases_lt n (length b.states))
   where
     go : (n < length b.states) ⊎ (length b.states ≤ n) → n < length b.states
@@ -153,7 +153,7 @@ added_too f g k a b a' b' a'' b'' sum h j = record {
 -- ---- the lists of a bag's cells
 
 -- nothing stands in empty lists, as nothing is in an empty bag
-pub none_listed : (b : ArenaView) (l : CellClass → List CellNo) → HasAllCells b → ((n : ℕ) → IsIn b n → ⊥) → ((c : CellClass) → free_of b c ≡ 0) → ((c : CellClass) → l c ≡ []) → IsListing b l
+pub none_listed : (b : ArenaView) (l : CellClass → List CellNo) → HasAllCells b → ((n : ℕ) → IsInBag b n → ⊥) → ((c : CellClass) → free_of b c ≡ 0) → ((c : CellClass) → l c ≡ []) → IsListing b l
 none_listed b l all none free empty = record {
   all = all;
   each = λ c k n s. absurd (nothing c k n s);
@@ -210,7 +210,7 @@ module _ (b : ArenaView) (l k : CellClass → List CellNo) (c : CellClass) (n : 
     kept d i m (inl e) s = ap (λ (z : CellClass). slice_get (k z) i) e ∙ ap (λ z. slice_get z i) here ∙ kept_at (l c) (n ∷ []) i m (sym (ap (λ (z : CellClass). slice_get (l z) i) e) ∙ s)
     kept d i m (inr o) s = ap (λ z. slice_get z i) (others d o.0) ∙ s
 
-    only_by : (m : ℕ) → (m ≡ n.0) ⊎ (m ≢ n.0) → IsIn new m → (d : CellClass) × (i : ℕ) × (slice_get (k d) i ≡ Some (record { 0 = m }))
+    only_by : (m : ℕ) → (m ≡ n.0) ⊎ (m ≢ n.0) → IsInBag new m → (d : CellClass) × (i : ℕ) × (slice_get (k d) i ≡ Some (record { 0 = m }))
     only_by m (inl e) in_it = (c, length (l c), ap (λ z. slice_get z (length (l c))) here ∙ last_at (l c) n ∙ ap (λ (z : ℕ). Some (record { 0 = z })) (sym e))
     only_by m (inr other) in_it =
         let was = h.only m (not_leased (state_at b m) (state_at new m) in_it (sym (get_or-set_other b.states n.0 m Vacant Leased other))) in
@@ -245,7 +245,7 @@ module _ (b : ArenaView) (l k : CellClass → List CellNo) (c : CellClass) (n : 
     pub taken_at : IsNumberOf b.cells c n.0 × (state_at b n.0 ≡ Vacant)
     taken_at = h.each c (length (l c)) n last
 
-    pub taken_in : IsIn b n.0
+    pub taken_in : IsInBag b n.0
     taken_in = λ leased. subst IsLeased taken_at.1 leased
 
     abbrev less : ArenaView
@@ -277,7 +277,7 @@ module _ (b : ArenaView) (l k : CellClass → List CellNo) (c : CellClass) (n : 
         go (inr r) = absurd (other (ap (λ (z : CellNo). z.0) (sym r.1)))
     left d i m (inr o) other s = sym (ap (λ z. slice_get z i) (others d o.0)) ∙ s
 
-    only_left : (m : ℕ) → (m ≡ n.0) ⊎ (m ≢ n.0) → IsIn less m → (d : CellClass) × (i : ℕ) × (slice_get (l d) i ≡ Some (record { 0 = m }))
+    only_left : (m : ℕ) → (m ≡ n.0) ⊎ (m ≢ n.0) → IsInBag less m → (d : CellClass) × (i : ℕ) × (slice_get (l d) i ≡ Some (record { 0 = m }))
     only_left m (inl e) in_it = absurd (in_it (subst IsLeased (sym (ap (state_at less) e ∙ is_out)) tt))
     only_left m (inr other) in_it =
         let was = h.only m (not_leased (state_at b m) (state_at less m) in_it (sym (get_or-set_other b.states n.0 m Leased Leased other))) in
@@ -328,7 +328,7 @@ module _ (f : State → State) where
   }
 
   -- a cell is back
-  module _ (a b : ArenaView) (n : ℕ) (x : State) (all : HasAllCells a) (all_b : HasAllCells b) (of : IsBagOf b a) (in_it : IsIn b n) (is : x ≡ f (state_at b n)) where
+  module _ (a b : ArenaView) (n : ℕ) (x : State) (all : HasAllCells a) (all_b : HasAllCells b) (of : IsBagOf b a) (in_it : IsInBag b n) (is : x ≡ f (state_at b n)) where
     inside : n < length a.states
     inside =
         let l = in_range b n in_it in
@@ -347,7 +347,7 @@ module _ (f : State → State) where
     one_back = record { arena = (refl, refl, length-set a.states n x); bag = (refl, refl); states = λ m. states_by m (cases_eq m n) }
 
   -- all of them are
-  pub all_back : (a b a' b' : ArenaView) → ((n : ℕ) → IsIn b' n → ⊥) → IsOnTheWay f a b a' b' → Regains f a b a'
+  pub all_back : (a b a' b' : ArenaView) → ((n : ℕ) → IsInBag b' n → ⊥) → IsOnTheWay f a b a' b' → Regains f a b a'
   all_back a b a' b' empty h = record {
     memory = h.arena.0;
     cells = h.arena.1;
@@ -364,7 +364,7 @@ module _ (f : State → State) where
       is n = out_by (state_at b' n) (state_at a' n) (leased_or (state_at b' n)) (empty n) ∙ h.states n
 
 -- no cell is in a bag whose lists are empty
-pub none_in : (b : ArenaView) (l : CellClass → List CellNo) → IsListing b l → ((c : CellClass) → l c ≡ []) → (n : ℕ) → IsIn b n → ⊥
+pub none_in : (b : ArenaView) (l : CellClass → List CellNo) → IsListing b l → ((c : CellClass) → l c ≡ []) → (n : ℕ) → IsInBag b n → ⊥
 none_in b l h empty n in_it =
     let at = h.only n in_it in
     let e = slice_get_within (l at.0) at.1 (record { 0 = n }) at.2 in

@@ -1,7 +1,7 @@
 -- How a stock finds its cells: their numbers, in a list for each class. No contract of a public call speaks of it. This project's own choice.
 use Rattle.std.specs.Prelude.{◌≡◌, ℕ, nat_eq, cond, List, [], ◌∷◌, ◌++◌, length, Some, slice_get, vec_capacity}
 use Rattle.in_arena.specs.Arenas.{ArenaView, free_of, state_at}
-use Rattle.in_arena.specs.Bags.{IsIn}
+use Rattle.in_arena.specs.Bags.{IsInBag}
 use Rattle.in_arena.specs.Changes.{HasAllCells}
 use Rattle.in_arena.specs.Classes.{IsNumberOf, class_no}
 use Rattle.in_arena.specs.States.{State, Vacant, Leased, Live}
@@ -35,7 +35,7 @@ pub record IsListing (b : ArenaView) (l : CellClass → List CellNo) : Type 0 wh
   pub all : HasAllCells b
   pub each : (c : CellClass) (k : ℕ) (n : CellNo) → slice_get (l c) k ≡ Some n → IsNumberOf b.cells c n.0 × (state_at b n.0 ≡ Vacant)
   pub once : (c : CellClass) (j k : ℕ) (n : CellNo) → slice_get (l c) j ≡ Some n → slice_get (l c) k ≡ Some n → j ≡ k
-  pub only : (n : ℕ) → IsIn b n → (c : CellClass) × (k : ℕ) × (slice_get (l c) k ≡ Some (record { 0 = n }))
+  pub only : (n : ℕ) → IsInBag b n → (c : CellClass) × (k : ℕ) × (slice_get (l c) k ≡ Some (record { 0 = n }))
   pub count : (c : CellClass) → length (l c) ≡ free_of b c
 
 -- ---- cells that go back one by one

@@ -3,7 +3,7 @@
 use Rattle.std.specs.Prelude.{◌≡◌, ◌+◌, ℕ, List, length, map, Some, slice_get, slice_index_or}
 use Rattle.std.specs.List.{AllByRecursion}
 use Rattle.in_arena.specs.Arenas.{ArenaView, state_at}
-use Rattle.in_arena.specs.Bags.{IsIn}
+use Rattle.in_arena.specs.Bags.{IsInBag}
 use Rattle.in_arena.specs.Classes.{IsNumberOf}
 use Rattle.in_arena.specs.States.{State, Vacant, Leased, Live, IsLive}
 use Rattle.in_arena.specs.declared.content.CellClass.{CellClass}
@@ -28,9 +28,9 @@ HasNoCell b = (n : ℕ) → state_at b n ≡ Leased
 
 -- the bag has these cells, each once, and no other
 pub record AreCellsOf (b : ArenaView) (ns : List CellNo) : Type 0 where
-  pub each : (k : ℕ) (n : CellNo) → slice_get ns k ≡ Some n → IsIn b n.0
+  pub each : (k : ℕ) (n : CellNo) → slice_get ns k ≡ Some n → IsInBag b n.0
   pub once : (j k : ℕ) (n : CellNo) → slice_get ns j ≡ Some n → slice_get ns k ≡ Some n → j ≡ k
-  pub only : (n : ℕ) → IsIn b n → (k : ℕ) × (slice_get ns k ≡ Some (record { 0 = n }))
+  pub only : (n : ℕ) → IsInBag b n → (k : ℕ) × (slice_get ns k ≡ Some (record { 0 = n }))
 
 -- .. and in each of them an agent is written
 pub record AreWritten (b : ArenaView) (ns : List CellNo) : Type 0 where
@@ -55,7 +55,7 @@ pub record IsPlacedMember (m : MemberParts) (p : PlacedParts) : Type 0 where
   pub written : AreWritten p.bag p.cells
 
 -- these cells, so many of each class, were the stock's and no longer are; nothing else of it changes
-pub record Takes (need : Need) (cells : List CellNo) (old new : StockParts) : Type 0 where
+pub record TakesCells (need : Need) (cells : List CellNo) (old new : StockParts) : Type 0 where
   pub were : AllByRecursion (λ n. state_at old.bag n.0 ≡ Vacant) cells
   pub bag : new.bag ≡ with_all old.bag cells Leased
   pub left : (c : CellClass) → held new c + count_of need c ≡ held old c

@@ -1,7 +1,7 @@
 -- Laws over stocks and what is placed: no cell is lost, and a settled member stands in the arena.
 use Rattle.std.specs.Prelude.{◌≡◌, ◌+◌, ℕ, Some, List, slice_get}
 use Rattle.in_arena.specs.Arenas.{ArenaView, free_of, state_at}
-use Rattle.in_arena.specs.Bags.{IsBagOf, IsIn, AreOfOne, empty_bag}
+use Rattle.in_arena.specs.Bags.{IsBagOf, IsInBag, AreOfOne, empty_bag}
 use Rattle.in_arena.specs.Changes.{HasAllCells}
 use Rattle.in_arena.specs.States.{State, Vacant, IsLive, word_of, end_at}
 use Rattle.in_arena.specs.declared.content.CellClass.{CellClass}
@@ -13,7 +13,7 @@ use Rattle.in_net.specs.Parts.{Parts}
 use Rattle.in_compile.specs.declared.cells.Need.{Need}
 use Rattle.in_compile.specs.declared.joints.Joint.TheVariants.{ToAgent, ToBoundary}
 use Rattle.in_compile.specs.Members.{MemberParts, IsMemberOf, symbol_at, joint_at}
-use Rattle.in_compile.specs.Placing.{PlacedParts, AreCellsOf, IsPlacedMember, Takes}
+use Rattle.in_compile.specs.Placing.{PlacedParts, AreCellsOf, IsPlacedMember, TakesCells}
 use Rattle.in_compile.specs.Stocks.{StockParts, Adds, Regains, IsStockOf}
 
 -- a member is determined by its net
@@ -36,22 +36,22 @@ AllGoBack = (count : CellClass → ℕ) (a a' b' a'' : ArenaView) → HasAllCell
 
 -- what is placed and what is left of the stock go back to where the stock would have
 abbrev pub PlacingLosesNone : Type 0
-PlacingLosesNone = (need : Need) (s s' : StockParts) (p : PlacedParts) (a a' a'' : ArenaView) → Takes need p.cells s s' → AreCellsOf p.bag p.cells
+PlacingLosesNone = (need : Need) (s s' : StockParts) (p : PlacedParts) (a a' a'' : ArenaView) → TakesCells need p.cells s s' → AreCellsOf p.bag p.cells
     → Regains (λ _. Vacant) a s'.bag a' → Regains (λ _. Vacant) a' p.bag a'' → Regains (λ _. Vacant) a s.bag a''
 
 -- .. and where what is placed is settled in the end, its cells are live, and the arena is else as it was before the stock was filled
 abbrev pub SettlingLosesNone : Type 0
 SettlingLosesNone = (count : CellClass → ℕ) (a a1 : ArenaView) (s : StockParts) → HasAllCells a → Adds count a (empty_bag a) a1 s.bag
-    → (need : Need) (s' : StockParts) (p : PlacedParts) (a2 a3 : ArenaView) → Takes need p.cells s s' → AreCellsOf p.bag p.cells
+    → (need : Need) (s' : StockParts) (p : PlacedParts) (a2 a3 : ArenaView) → TakesCells need p.cells s s' → AreCellsOf p.bag p.cells
     → Regains (λ _. Vacant) a1 s'.bag a2 → Regains (λ x. x) a2 p.bag a3 → Regains (λ x. x) a p.bag a3
 
 -- no cell is in both
 abbrev pub HaveNoneInCommon : ArenaView → ArenaView → Type 0
-HaveNoneInCommon b d = (n : ℕ) → IsIn b n → IsIn d n → ⊥
+HaveNoneInCommon b d = (n : ℕ) → IsInBag b n → IsInBag d n → ⊥
 
 -- what is placed and what is left of a stock are of the stock's arena, and have no cell in common
 abbrev pub PlacingSharesOut : Type 0
-PlacingSharesOut = (need : Need) (s s' : StockParts) (p : PlacedParts) (a : ArenaView) → IsStockOf s a → Takes need p.cells s s' → AreCellsOf p.bag p.cells → AreOfOne s.bag p.bag
+PlacingSharesOut = (need : Need) (s s' : StockParts) (p : PlacedParts) (a : ArenaView) → IsStockOf s a → TakesCells need p.cells s s' → AreCellsOf p.bag p.cells → AreOfOne s.bag p.bag
     → IsStockOf s' a × IsBagOf p.bag a × HaveNoneInCommon s'.bag p.bag
 
 -- a bag stays one of its arena where that regains the cells of another

@@ -2,7 +2,7 @@
 use Rattle.std.specs.Prelude.{◌≡◌, ◌<◌, ◌≤◌, ◌+◌, ℕ, List, length, map, take, count_by, Some, slice_get}
 use Rattle.std.specs.List.{AllByRecursion}
 use Rattle.in_arena.specs.Arenas.{ArenaView, changed, state_at}
-use Rattle.in_arena.specs.Bags.{IsBagOf, IsIn, AreOfOne}
+use Rattle.in_arena.specs.Bags.{AreOfOne, BagsAreApart, IsBagOf}
 use Rattle.in_arena.specs.Changes.{HasAllCells}
 use Rattle.in_arena.specs.Classes.{IsNumberOf}
 use Rattle.in_arena.specs.States.{State, Vacant, Leased, Live}
@@ -15,10 +15,6 @@ use Rattle.in_compile.specs.Listing.{of_class, IsOnTheWay}
 use Rattle.in_compile.specs.Members.{AgentParts, MemberParts, has_class}
 use Rattle.in_compile.specs.Placing.{AreCellsOf, content, end_in}
 use Rattle.in_compile.specs.Stocks.{StockParts, held, with_all}
-
--- no cell of the stock is in the bag
-abbrev pub AreApart : ArenaView → ArenaView → Type 0
-AreApart s b = (n : ℕ) → IsIn s n → state_at b n ≡ Leased
 
 -- a cell of this class goes from the stock to the bag
 pub record TakesOne (s : StockParts) (c : CellClass) (b : ArenaView) (n : CellNo) (s' : StockParts) (b' : ArenaView) : Type 0 where
@@ -38,7 +34,7 @@ pub record AreTakenBelow (m : MemberParts) (old : StockParts) (first : ArenaView
   pub rest : s.bag ≡ with_all old.bag ns Leased
   pub left : (c : CellClass) → held s c + count_by (has_class c) (take x m.agents) ≡ held old c
   pub room : s.room ≡ old.room
-  pub apart : AreApart s.bag b
+  pub apart : BagsAreApart s.bag b
   pub one : AreOfOne s.bag b
   pub same : AreOfOne first b
   pub all : HasAllCells b
@@ -67,7 +63,7 @@ pub record AreWrittenBelow (m : MemberParts) (ns : List CellNo) (first : ArenaVi
 -- the cells from this number on are still in the bag, and no other
 pub record AreLeftFrom (P : State → Type 0) (ns : List CellNo) (x : ℕ) (b : ArenaView) : Type 0 where
   pub each : (k : ℕ) (n : CellNo) → x ≤ k → slice_get ns k ≡ Some n → P (state_at b n.0)
-  pub only : (n : ℕ) → IsIn b n → (k : ℕ) × (x ≤ k) × (slice_get ns k ≡ Some (record { 0 = n }))
+  pub only : (n : ℕ) → IsInBag b n → (k : ℕ) × (x ≤ k) × (slice_get ns k ≡ Some (record { 0 = n }))
 
 -- the arena has some of the bag's cells back, each as f makes it
 pub record AreOnTheWay (f : State → State) (P : State → Type 0) (ns : List CellNo) (x : ℕ) (a b a' b' : ArenaView) : Type 0 where

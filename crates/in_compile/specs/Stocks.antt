@@ -3,7 +3,7 @@
 use Rattle.std.specs.Prelude.{◌≡◌, ◌≤◌, ◌+◌, ℕ, length, List, [], ◌∷◌}
 use Rattle.std.specs.List.{AllByRecursion}
 use Rattle.in_arena.specs.Arenas.{ArenaView, changed, free_of, state_at}
-use Rattle.in_arena.specs.Bags.{IsBagOf, IsIn, empty_bag}
+use Rattle.in_arena.specs.Bags.{IsBagOf, IsInBag, empty_bag}
 use Rattle.in_arena.specs.States.{State, Vacant, Leased}
 use Rattle.in_arena.specs.declared.content.CellClass.{CellClass}
 use Rattle.in_arena.specs.declared.content.CellNo.{CellNo}
@@ -56,5 +56,5 @@ pub record Regains (f : State → State) (a b a' : ArenaView) : Type 0 where
   pub memory : a'.memory ≡ a.memory
   pub cells : a'.cells ≡ a.cells
   pub count : length a'.states ≡ length a.states
-  pub back : (n : ℕ) → IsIn b n → state_at a' n ≡ f (state_at b n)
+  pub back : (n : ℕ) → IsInBag b n → state_at a' n ≡ f (state_at b n)
   pub others : (n : ℕ) → state_at b n ≡ Leased → state_at a' n ≡ state_at a n

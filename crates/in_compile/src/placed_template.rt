@@ -6,7 +6,7 @@ ghost use Rattle.in_compile.specs.declared.joints.Joint.TheVariants.{ToBoundary}
 ghost use Rattle.in_compile.specs.Cells.{count_of, IsEnough};
 ghost use Rattle.in_compile.specs.Members.{joint_at};
 ghost use Rattle.in_compile.specs.PlacedTemplates.{IsOfTemplate};
-ghost use Rattle.in_compile.specs.Placing.{IsPlacedMember, Takes, HasNoCell};
+ghost use Rattle.in_compile.specs.Placing.{IsPlacedMember, TakesCells, HasNoCell};
 ghost use Rattle.in_compile.specs.Stocks.{held, Regains};
 
 use crate::joints::Joint;
@@ -46,7 +46,7 @@ pub fn place<'a>(template: &'a Template, stock: &mut Stock, room: Placed) -> Pla
     requires empty { HasNoCell room.bag }
     ensures template { result.template ≡ template.now }
     ensures placed { IsPlacedMember template.now.member result.placed }
-    ensures takes { Takes template.now.member.need result.placed.cells stock.old stock.new }
+    ensures takes { TakesCells template.now.member.need result.placed.cells stock.old stock.new }
     ensures same { AreOfOne room.bag result.placed.bag × (result.placed.room ≡ room.room) }
 {
     let mut placed = room;

@@ -1,13 +1,13 @@
 // A member is placed in cells of a stock.
 ghost use Rattle.std.specs.Prelude.{◌≡◌, ◌≤◌, ◌<◌, ℕ, [], length, Some, slice_get, vec_capacity};
 ghost use Rattle.in_arena.specs.Arenas.{changed};
-ghost use Rattle.in_arena.specs.Bags.{IsIn, AreOfOne};
+ghost use Rattle.in_arena.specs.Bags.{IsInBag, AreOfOne};
 ghost use Rattle.in_arena.specs.Changes.{HasAllCells};
 ghost use Rattle.in_arena.specs.Classes.{IsNumberOf};
 ghost use Rattle.in_arena.specs.declared.content.CellNo.{CellNo as Number};
 ghost use Rattle.in_compile.specs.Cells.{count_of, IsEnough};
 ghost use Rattle.in_compile.specs.Members.{AgentParts};
-ghost use Rattle.in_compile.specs.Placing.{AreCellsOf, IsPlacedMember, Takes, HasNoCell, end_in, content};
+ghost use Rattle.in_compile.specs.Placing.{AreCellsOf, IsPlacedMember, TakesCells, HasNoCell, end_in, content};
 ghost use Rattle.in_compile.specs.PlacingSteps.{AreTakenBelow, AreWrittenBelow, IsInside};
 ghost use Rattle.in_compile.specs.Stocks.{held};
 
@@ -29,7 +29,7 @@ fn end_of(numbers: &[CellNo], joint: Joint) -> End
     }
 }
 
-/// Takes a cell for each agent.
+/// TakesCells a cell for each agent.
 fn take_cells(member: &Member, stock: &mut Stock, numbers: &mut Vec<CellNo>, bag: &mut Bag)
     requires none { numbers.old.items ≡ [] }
     requires room { length member.now.agents ≤ vec_capacity numbers.old }
@@ -52,7 +52,7 @@ fn take_cells(member: &Member, stock: &mut Stock, numbers: &mut Vec<CellNo>, bag
 fn write_agent(member: &Member, numbers: &[CellNo], bag: &mut Bag, agent: u32)
     requires there { agent < length member.now.agents }
     requires many { length numbers.now ≡ length member.now.agents }
-    requires cell { (a : AgentParts) (n : Number) → slice_get member.now.agents agent ≡ Some a → slice_get numbers.now agent ≡ Some n → IsNumberOf bag.old.cells a.class n.0 × IsIn bag.old n.0 }
+    requires cell { (a : AgentParts) (n : Number) → slice_get member.now.agents agent ≡ Some a → slice_get numbers.now agent ≡ Some n → IsNumberOf bag.old.cells a.class n.0 × IsInBag bag.old n.0 }
     ensures { (a : AgentParts) (n : Number) → slice_get member.now.agents agent ≡ Some a → slice_get numbers.now agent ≡ Some n → bag.new ≡ changed bag.old n.0 (content numbers.now a) }
 {
     member.is_sound();
@@ -87,7 +87,7 @@ pub fn place_into(member: &Member, stock: &mut Stock, placed: &mut Placed)
     requires of_one { AreOfOne stock.old.bag placed.old.bag }
     requires empty { HasNoCell placed.old.bag }
     ensures placed { IsPlacedMember member.now placed.new }
-    ensures takes { Takes member.now.need placed.new.cells stock.old stock.new }
+    ensures takes { TakesCells member.now.need placed.new.cells stock.old stock.new }
     ensures same { AreOfOne placed.old.bag placed.new.bag × (placed.new.room ≡ placed.old.room) }
 {
     member.is_sound();

@@ -2,12 +2,12 @@
 ghost use Rattle.std.specs.Prelude.{◌≡◌, ◌≤◌, ◌<◌, ◌+◌, ◌↔◌, IsTrue, [], length, IfOk, OnErr};
 ghost use Rattle.in_arena.specs.declared.content.CellClass.{CellClass as Class};
 ghost use Rattle.in_arena.specs.Arenas.{free_of};
-ghost use Rattle.in_arena.specs.Bags.{IsBagOf, AreOfOne};
+ghost use Rattle.in_arena.specs.Bags.{AreOfOne, BagsAreApart, IsBagOf};
 ghost use Rattle.in_arena.specs.Changes.{HasAllCells};
 ghost use Rattle.in_arena.specs.States.{Vacant};
 ghost use Rattle.in_compile.specs.Cells.{count_of, IsEnough};
 ghost use Rattle.in_compile.specs.Stocks.{empty_stock, held, IsStockOf, HasRoom, Adds, AddsTo, Regains};
-ghost use Rattle.in_compile.specs.PlacingSteps.{AreApart, TakesOne};
+ghost use Rattle.in_compile.specs.PlacingSteps.{TakesOne};
 ghost use Rattle.in_compile.specs.Listing.{listed, room_of, of_class, IsListing, IsOnTheWay};
 
 use crate::cells::Need;
@@ -132,7 +132,7 @@ impl Stock {
     pub(crate) fn take(&mut self, class: CellClass, bag: &mut Bag) -> CellNo
         requires some { 0 < held self.old class }
         requires of_one { AreOfOne self.old.bag bag.old }
-        requires apart { AreApart self.old.bag bag.old }
+        requires apart { BagsAreApart self.old.bag bag.old }
         requires all { HasAllCells bag.old }
         ensures { TakesOne self.old class bag.old result self.new bag.new }
     {

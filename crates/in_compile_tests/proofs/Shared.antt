@@ -1,13 +1,13 @@
 -- What is known of a stock that is filled, and of what is placed from it.
 use Rattle.std.proofs.Common.{◌≡◌, ◌⊎◌, inl, inr, ℕ, ◌<◌, sym, ap, subst, ◌∙◌}
 use Rattle.in_arena.specs.Arenas.{ArenaView, NoneLeased, state_at}
-use Rattle.in_arena.specs.Bags.{IsBagOf, IsIn, AreOfOne, empty_bag}
+use Rattle.in_arena.specs.Bags.{IsBagOf, IsInBag, AreOfOne, empty_bag}
 use Rattle.in_arena.specs.Changes.{HasAllCells}
 use Rattle.in_arena.specs.States.{Vacant, Leased, IsLeased}
 use Rattle.in_arena.specs.declared.content.CellClass.{CellClass}
 use Rattle.in_arena.proofs.Public.{leased_or}
 use Rattle.in_compile.specs.declared.cells.Need.{Need}
-use Rattle.in_compile.specs.Placing.{PlacedParts, AreCellsOf, Takes}
+use Rattle.in_compile.specs.Placing.{PlacedParts, AreCellsOf, TakesCells}
 use Rattle.in_compile.specs.Stocks.{StockParts, Adds, Regains, IsStockOf}
 use Rattle.in_compile.proofs.Public.{all_back, both_back, other_stays, shared_out, settled, memory_all, cells_all}
 
@@ -19,7 +19,7 @@ is_empty a b e = (ap (λ (v : ArenaView). v.memory) e, ap (λ (v : ArenaView). v
 pub still_whole : (a b a' : ArenaView) → NoneLeased a → Regains (λ x. x) a b a' → NoneLeased a'
 still_whole a b a' whole back n inside leased = go (leased_or (state_at b n))
   where
-    go : (state_at b n ≡ Leased) ⊎ IsIn b n → ⊥
+    go : (state_at b n ≡ Leased) ⊎ IsInBag b n → ⊥
     go (inl out) = whole n (subst (λ z. n < z) back.count inside) (subst IsLeased (back.others n out) leased)
     go (inr in_it) = in_it (subst IsLeased (back.back n in_it) leased)
 
@@ -30,8 +30,8 @@ module _ (count : CellClass → ℕ) (a a1 : ArenaView) (s : StockParts) (adds :
     same_arena.1 ∙ sym (ap (λ (v : ArenaView). v.cells) adds.bag ∙ cells_all (empty_bag a) adds.cells Vacant),
   )
 
-  module _ (need : Need) (s' : StockParts) (p : PlacedParts) (takes : Takes need p.cells s s') (cells : AreCellsOf p.bag p.cells) (same : AreOfOne b p.bag) where
-    shared : IsStockOf s' a1 × IsBagOf p.bag a1 × ((n : ℕ) → IsIn s'.bag n → IsIn p.bag n → ⊥)
+  module _ (need : Need) (s' : StockParts) (p : PlacedParts) (takes : TakesCells need p.cells s s') (cells : AreCellsOf p.bag p.cells) (same : AreOfOne b p.bag) where
+    shared : IsStockOf s' a1 × IsBagOf p.bag a1 × ((n : ℕ) → IsInBag s'.bag n → IsInBag p.bag n → ⊥)
     shared = shared_out need s s' p a1 adds.of takes cells (same.0 ∙ of_one.0, same.1 ∙ of_one.1)
 
     pub stock_of : IsStockOf s' a1

@@ -3,7 +3,7 @@ use Rattle.std.proofs.Common.{◌≡◌, ◌⊎◌, inl, inr, ◌≤◌, ◌<◌
 use Rattle.std.proofs.lemmas.List.Elements.{All-append, All-cons, All-head, All-tail}
 use Rattle.std.proofs.lemmas.List.Sums.{sum_by-append}
 use Rattle.in_arena.specs.Arenas.{ArenaView, NoneLeased, state_at}
-use Rattle.in_arena.specs.Bags.{IsBagOf, IsIn, AreOfOne}
+use Rattle.in_arena.specs.Bags.{IsBagOf, IsInBag, AreOfOne}
 use Rattle.in_arena.specs.States.{State, Vacant, Leased, Live, IsLeased}
 use Rattle.in_compile.specs.Stocks.{Regains}
 use Rattle.in_gather.specs.Holding.{is_own, holders, AreBagsOf, HaveAllLeased, Returns}
@@ -18,7 +18,7 @@ holders-cons n b bs = holders-append n (b ∷ []) bs
 
 -- a bag has a cell once, or not
 pub data InOrOut (b : ArenaView) (n : ℕ) : Type 0 where
-  IsHere : IsIn b n → holders n (b ∷ []) ≡ 1 → InOrOut b n
+  IsHere : IsInBag b n → holders n (b ∷ []) ≡ 1 → InOrOut b n
   IsOut : state_at b n ≡ Leased → holders n (b ∷ []) ≡ 0 → InOrOut b n
 
 pub in_or_out : (b : ArenaView) (n : ℕ) → InOrOut b n
@@ -29,18 +29,18 @@ in_or_out b n = go (state_at b n) refl
     go Leased e = IsOut e (let h = ap (λ y. cond {A = ℕ} (is_own y) 1 0) e in omega (arith, h))
     go (Live w es) e = IsHere (λ leased. subst IsLeased e leased) (let h = ap (λ y. cond {A = ℕ} (is_own y) 1 0) e in omega (arith, h))
 
-pub in_one : (b : ArenaView) (n : ℕ) → IsIn b n → holders n (b ∷ []) ≡ 1
+pub in_one : (b : ArenaView) (n : ℕ) → IsInBag b n → holders n (b ∷ []) ≡ 1
 in_one b n in_it = elim (in_or_out b n) [ IsHere h one ↦ one | IsOut out none ↦ absurd (in_it (subst IsLeased (sym out) tt)) ]
 
 pub out_of_one : (b : ArenaView) (n : ℕ) → state_at b n ≡ Leased → holders n (b ∷ []) ≡ 0
 out_of_one b n out = elim (in_or_out b n) [ IsHere h one ↦ absurd (h (subst IsLeased (sym out) tt)) | IsOut e none ↦ none ]
 
 -- a cell that some bag has
-pub holder_of : (P : ArenaView → Type 0) (n : ℕ) (bs : List ArenaView) → 0 < holders n bs → All P bs → (b : ArenaView) × P b × IsIn b n
+pub holder_of : (P : ArenaView → Type 0) (n : ℕ) (bs : List ArenaView) → 0 < holders n bs → All P bs → (b : ArenaView) × P b × IsInBag b n
 holder_of P n [] some all = absurd (omega (arith, some))
 holder_of P n (b ∷ bs) some all = go (in_or_out b n) (λ more. holder_of P n bs more (All-tail P b bs all))
   where
-    go : InOrOut b n → (0 < holders n bs → (c : ArenaView) × P c × IsIn c n) → (c : ArenaView) × P c × IsIn c n
+    go : InOrOut b n → (0 < holders n bs → (c : ArenaView) × P c × IsInBag c n) → (c : ArenaView) × P c × IsInBag c n
     go (IsHere h one) rest = (b, All-head P b bs all, h)
     go (IsOut e none) rest = rest (let split = holders-cons n b bs in omega (arith, some, split, none))
 

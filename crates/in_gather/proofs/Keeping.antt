@@ -8,7 +8,7 @@ use Rattle.in_arena.specs.Bags.{AreOfOne, IsBagOf}
 use Rattle.in_arena.specs.States.{Vacant}
 use Rattle.in_compile.specs.Stocks.{Regains}
 use Rattle.in_gather.specs.Dones.{DoneParts}
-use Rattle.in_gather.specs.Gathers.{GatherParts, Puts, Takes, bags_of}
+use Rattle.in_gather.specs.Gathers.{GatherParts, Puts, TakesDone, bags_of}
 use Rattle.in_gather.specs.Holding.{holders, AreBagsOf, HaveAllLeased, Returns}
 use Rattle.in_gather.specs.declared.gather.Slot.{Slot}
 use Rattle.in_gather.specs.declared.gather.Slot.TheVariants.{Fresh, Kept, Taken}
@@ -74,7 +74,7 @@ take_all P (Kept e ∷ slots) (suc j) d at all =
 take_all P (Taken ∷ slots) (suc j) d at all = take_all P slots j d at all
 
 -- where each cell that is on lease was kept or in hand, it still is once it is taken
-pub taken_have_all : (d : DoneParts) (g h : GatherParts) (job : ℕ) (a : ArenaView) → HaveAllLeased (bags_of g.slots) a → Takes g job (Some d) h → HaveAllLeased (d.placed.placed.bag ∷ bags_of h.slots) a
+pub taken_have_all : (d : DoneParts) (g h : GatherParts) (job : ℕ) (a : ArenaView) → HaveAllLeased (bags_of g.slots) a → TakesDone g job (Some d) h → HaveAllLeased (d.placed.placed.bag ∷ bags_of h.slots) a
 taken_have_all d g h job a have takes =
     let bag = d.placed.placed.bag in
     let slots = ap (λ (z : GatherParts). z.slots) takes.1 in

@@ -3,7 +3,7 @@ use Rattle.std.proofs.Common.{◌≡◌, ◌⊎◌, inl, inr, ◌+◌, ℕ, cond
 use Rattle.std.proofs.lemmas.Option.{option_and_then_some}
 use Rattle.in_base.proofs.Each.{all_at}
 use Rattle.in_arena.specs.Arenas.{ArenaView, state_at}
-use Rattle.in_arena.specs.Bags.{IsIn, AreOfOne}
+use Rattle.in_arena.specs.Bags.{IsInBag, AreOfOne}
 use Rattle.in_arena.specs.States.{Vacant, Leased, IsLeased}
 use Rattle.in_arena.specs.declared.content.CellNo.{CellNo}
 use Rattle.in_arena.proofs.Public.{vacant_inside}
@@ -11,7 +11,7 @@ use Rattle.in_cover.specs.Table.{rule_at}
 use Rattle.in_cover.specs.declared.table.RuleNo.{RuleNo}
 use Rattle.in_compile.specs.declared.cells.Need.{Need}
 use Rattle.in_compile.specs.Cells.{count_of, IsEnough}
-use Rattle.in_compile.specs.Placing.{PlacedParts, AreCellsOf, Takes}
+use Rattle.in_compile.specs.Placing.{PlacedParts, AreCellsOf, TakesCells}
 use Rattle.in_compile.specs.Stocks.{StockParts, held, with_all}
 use Rattle.in_compile.specs.Templates.{TemplateParts, TemplatesParts, IsLargestNeed, template_at}
 use Rattle.in_compile.proofs.Public.{one_or_same, one_of_all, cells_all, memory_all}
@@ -19,12 +19,12 @@ use Rattle.in_gather.specs.Holding.{holders, is_own}
 use Rattle.in_gather.proofs.Holding.{InOrOut, in_or_out, in_one, out_of_one}
 use Rattle.in_gather.proofs.Holding.InOrOut.{IsHere, IsOut}
 
-module _ (need : Need) (s s' : StockParts) (p : PlacedParts) (takes : Takes need p.cells s s') (cells : AreCellsOf p.bag p.cells) where
+module _ (need : Need) (s s' : StockParts) (p : PlacedParts) (takes : TakesCells need p.cells s s') (cells : AreCellsOf p.bag p.cells) where
   -- a placed cell was the stock's, and no longer is
-  was : (n : ℕ) → IsIn p.bag n → state_at s.bag n ≡ Vacant
+  was : (n : ℕ) → IsInBag p.bag n → state_at s.bag n ≡ Vacant
   was n in_it = let at = cells.only n in_it in all_at (λ (m : CellNo). state_at s.bag m.0 ≡ Vacant) p.cells at.0 (record { 0 = n }) takes.were at.1
 
-  gone : (n : ℕ) → IsIn p.bag n → state_at s'.bag n ≡ Leased
+  gone : (n : ℕ) → IsInBag p.bag n → state_at s'.bag n ≡ Leased
   gone n in_it =
       let at = cells.only n in_it in
       ap (λ v. state_at v n) takes.bag ∙ one_of_all s.bag p.cells Leased (record { 0 = n }) at.0 (vacant_inside s.bag n (was n in_it)) at.1

@@ -31,8 +31,8 @@ abbrev pub HasJob : GatherParts → DoneParts → Type 0
 HasJob g d = slice_get g.jobs d.job ≡ Some d.heads
 
 -- nothing was put for this job, which is in the list
-abbrev pub IsFresh : GatherParts → ℕ → Type 0
-IsFresh g job = slice_get g.slots job ≡ Some Fresh
+abbrev pub IsFreshJob : GatherParts → ℕ → Type 0
+IsFreshJob g job = slice_get g.slots job ≡ Some Fresh
 
 -- what was put for this job is kept, or was taken
 abbrev pub WasPut : GatherParts → ℕ → Type 0
@@ -50,10 +50,10 @@ IsPutRefused g d Double = HasJob g d × WasPut g d.job
 
 -- it is kept where the list has its job and none of that job was put before; else it comes back, and nothing changes
 abbrev pub Puts : GatherParts → DoneParts → Result (Unit {0}) (DoneParts × Why) → GatherParts → Type 0
-Puts old d (Ok _) new = HasJob old d × IsFresh old d.job × (new ≡ with_slot old d.job (Kept d))
+Puts old d (Ok _) new = HasJob old d × IsFreshJob old d.job × (new ≡ with_slot old d.job (Kept d))
 Puts old d (Err e) new = (e.0 ≡ d) × IsPutRefused old d e.1 × (new ≡ old)
 
 -- what was kept for that job is kept no more, but stays put; or none is kept for it, and nothing changes
-abbrev pub Takes : GatherParts → ℕ → Option DoneParts → GatherParts → Type 0
-Takes old job (Some d) new = (slice_get old.slots job ≡ Some (Kept d)) × (new ≡ with_slot old job Taken)
-Takes old job None new = ((d : DoneParts) → slice_get old.slots job ≡ Some (Kept d) → ⊥) × (new ≡ old)
+abbrev pub TakesDone : GatherParts → ℕ → Option DoneParts → GatherParts → Type 0
+TakesDone old job (Some d) new = (slice_get old.slots job ≡ Some (Kept d)) × (new ≡ with_slot old job Taken)
+TakesDone old job None new = ((d : DoneParts) → slice_get old.slots job ≡ Some (Kept d) → ⊥) × (new ≡ old)

@@ -3,7 +3,7 @@ ghost use Rattle.std.specs.Prelude.{◌≡◌, ◌≤◌, length, IsSome, Some};
 ghost use Rattle.in_arena.specs.Bags.{IsBagOf, AreOfOne};
 ghost use Rattle.in_arena.specs.States.{Vacant};
 ghost use Rattle.in_compile.specs.Cells.{count_of, IsEnough};
-ghost use Rattle.in_compile.specs.Placing.{Takes, HasNoCell};
+ghost use Rattle.in_compile.specs.Placing.{TakesCells, HasNoCell};
 ghost use Rattle.in_compile.specs.Stocks.{held, Regains};
 ghost use Rattle.in_compile.specs.Templates.{template_at, TemplateParts};
 ghost use Rattle.in_gather.specs.Dones.{IsItsTemplate};
@@ -57,7 +57,7 @@ impl<'t> Done<'t> {
         ensures heads { result.heads ≡ (constructor, destructor) }
         ensures templates { result.templates ≡ templates.now }
         ensures template { IsItsTemplate result }
-        ensures takes { Takes result.placed.template.member.need result.placed.placed.cells stock.old stock.new }
+        ensures takes { TakesCells result.placed.template.member.need result.placed.placed.cells stock.old stock.new }
         ensures same { AreOfOne room.bag result.placed.placed.bag }
     {
         let template = templates.of(constructor, destructor);

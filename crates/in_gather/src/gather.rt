@@ -2,7 +2,7 @@
 ghost use Rattle.std.specs.Prelude.{◌≡◌, ◌⊎◌, ◌<◌, true, false, [], IfOk, replicate, length, Some, slice_get};
 ghost use Rattle.in_gather.specs.declared.gather.Slot.TheVariants.{Fresh, Kept, Taken};
 ghost use Rattle.in_gather.specs.Dones.{DoneParts};
-ghost use Rattle.in_gather.specs.Gathers.{bags_of, new_gather, Puts, Takes};
+ghost use Rattle.in_gather.specs.Gathers.{bags_of, new_gather, Puts, TakesDone};
 ghost use Rattle.in_gather.specs.Holding.{AreBagsOf, Returns};
 
 use crate::done::Done;
@@ -136,7 +136,7 @@ impl<'t> Gather<'t> {
 
     /// What is kept for the job of that number, which is then kept no more; or nothing where none is kept.
     pub fn take(&mut self, job: u32) -> Option<Done<'t>>
-        ensures { Takes self.old job result self.new }
+        ensures { TakesDone self.old job result self.new }
     {
         let index = job as usize;
         if index >= self.slots.len() {

@@ -6,7 +6,7 @@ use Rattle.in_arena.specs.Bags.{AreOfOne}
 use Rattle.in_arena.specs.States.{Vacant}
 use Rattle.in_compile.specs.Stocks.{StockParts, Regains}
 use Rattle.in_gather.specs.Dones.{DoneParts}
-use Rattle.in_gather.specs.Gathers.{GatherParts, Puts, Takes, bags_of}
+use Rattle.in_gather.specs.Gathers.{GatherParts, Puts, TakesDone, bags_of}
 use Rattle.in_gather.specs.Holding.{HaveAllLeased, Returns, holders}
 use Rattle.in_gather.specs.Laws.{Shares}
 use Rattle.in_gather.specs.declared.gather.Slot.{Slot}
@@ -51,7 +51,7 @@ module _ (s s' : StockParts) (d : DoneParts) (g : GatherParts) (a : ArenaView) (
       omega (arith, put, first, second, new))
 
 -- what is taken is in hand
-pub taken_in_hand : (s : StockParts) (d : DoneParts) (g h : GatherParts) (job : ℕ) (a : ArenaView) → HaveAllLeased (s.bag ∷ bags_of g.slots) a → Takes g job (Some d) h → HaveAllLeased (d.placed.placed.bag ∷ s.bag ∷ bags_of h.slots) a
+pub taken_in_hand : (s : StockParts) (d : DoneParts) (g h : GatherParts) (job : ℕ) (a : ArenaView) → HaveAllLeased (s.bag ∷ bags_of g.slots) a → TakesDone g job (Some d) h → HaveAllLeased (d.placed.placed.bag ∷ s.bag ∷ bags_of h.slots) a
 taken_in_hand s d g h job a have takes =
     let bag = d.placed.placed.bag in
     let one = bags_are_of_one (s.bag ∷ bags_of g.slots) a have.bags in

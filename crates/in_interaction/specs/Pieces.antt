@@ -3,7 +3,7 @@
 use Rattle.std.specs.Prelude.{◌≡◌, ◌≢◌, ◌⊎◌, ℕ, Bool, List, [], ◌∷◌, ◌++◌, map}
 use Rattle.std.specs.List.{AllByRecursion}
 use mathlib.Core.Logic.{inl, inr}
-use Rattle.in_base.specs.Graphs.{Passage, entered, left, Leads, IsCrossing, AreApart, CrossingCircle}
+use Rattle.in_base.specs.Graphs.{Passage, entered, left, LeadsThrough, IsCrossing, AreApart, CrossingCircle}
 use Rattle.in_net.specs.Graphs.{graph_of}
 use Rattle.in_net.specs.Nets.{Free, Signature, Net}
 use Rattle.in_net.specs.Interactions.{Redex, Side, Outer, Inner, other, end_agent, end_place, class_node, open_port, open_member}
@@ -23,14 +23,14 @@ end_port sig x e = (end_agent sig x e, end_place sig x e)
 
 -- a walk of the net before from a boundary end to one, through different agents that stay, each entered and left by different classes
 pub record IsOuterPiece {A B : Type 0} (sig : Signature) (n : Net A) (x : Redex A B) (e f : ℕ) (ps : List (Passage A)) : Type 0 where
-  pub leads : Leads (graph_of sig n) (end_port sig x e) ps (end_port sig x f)
+  pub leads : LeadsThrough (graph_of sig n) (end_port sig x e) ps (end_port sig x f)
   pub crossing : AllByRecursion (IsCrossing (graph_of sig n)) ps
   pub apart : AreApart ps
   pub stays : AllByRecursion (λ p. (p.node ≢ x.one) × (p.node ≢ x.two)) ps
 
 -- a walk of the right member from a boundary end to one, through different new agents, each entered and left by different classes
 pub record IsInnerPiece {A B : Type 0} (sig : Signature) (x : Redex A B) (e f : ℕ) (ps : List (Passage B)) : Type 0 where
-  pub leads : Leads (open_member sig x) (open_port sig x (Free e)) (map (renamed (λ y. inl y)) ps) (open_port sig x (Free f))
+  pub leads : LeadsThrough (open_member sig x) (open_port sig x (Free e)) (map (renamed (λ y. inl y)) ps) (open_port sig x (Free f))
   pub crossing : AllByRecursion (IsCrossing (graph_of sig x.member)) ps
   pub apart : AreApart ps
 
@@ -120,7 +120,7 @@ AgentsOnce (p ∷ ps) = AllByRecursion (AtOtherAgent p) ps × AgentsOnce ps
 pub record ClosedWalk {A B : Type 0} (sig : Signature) (x : Redex A B) : Type 0 where
   pub first : Passage (B ⊎ (Bool × ℕ))
   pub rest : List (Passage (B ⊎ (Bool × ℕ)))
-  pub closed : Leads (open_member sig x) (left first) rest (entered first)
+  pub closed : LeadsThrough (open_member sig x) (left first) rest (entered first)
   pub crossing : AllByRecursion (IsCrossing (open_member sig x)) (first ∷ rest)
   pub ports : AreDifferent (ports_of (first ∷ rest))
   pub agents : AgentsOnce (first ∷ rest)

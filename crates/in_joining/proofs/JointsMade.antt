@@ -21,7 +21,7 @@ use Rattle.in_glue.proofs.Public.{agent_back, join_exists, ends_are_joined_in_tu
 use Rattle.in_glue.proofs.Public.{pairs_are_made_where_joined, none_is_made_first, one_more_is_made, no_more_is_made}
 use Rattle.in_glue.proofs.Public.{all_made_are_over_ends, mapped, taken_apart_has_joined_none}
 use Rattle.in_open_nets_of_programs.proofs.Public.{same_symbol}
-use Rattle.in_joining.specs.Between.{Interaction, before, redex_of, IsWith, IsReady, IsBetween, HasMade, AddsMade}
+use Rattle.in_joining.specs.Between.{Interaction, before, redex_of, IsWith, IsReadyToJoin, IsBetween, HasMade, AddsMade}
 use Rattle.in_joining.specs.Cells.{KeepsCells}
 use Rattle.in_joining.specs.Pairs.{IsPrincipal, IsPairOf, IsNoPair, AddsPair}
 use Rattle.in_joining.specs.Shown.{point_of, end_of, AreExchanged}
@@ -32,7 +32,7 @@ use Rattle.in_joining.proofs.Writes.{end_point}
 module _ (t : Tables) (x : Interaction) (own many : ℕ) where
   -- ---- the first
 
-  pub begins : (a : ArenaView) (es : List End) → IsReady t x own many a es → IsBetween t x own many many a es
+  pub begins : (a : ArenaView) (es : List End) → IsReadyToJoin t x own many a es → IsBetween t x own many many a es
   begins a es h = record {
     given = h.given;
     net = h.net;

@@ -6,7 +6,7 @@ use Rattle.in_arena.specs.declared.content.End.{End}
 use Rattle.in_arena.specs.declared.content.End.TheVariants as end
 use Rattle.in_arena.proofs.Public.{places_live}
 use Rattle.in_symbols.specs.Tables.{Tables}
-use Rattle.in_joining.specs.Between.{Interaction, IsReady, IsBetween, IsDone, HasMade, AddsMade}
+use Rattle.in_joining.specs.Between.{Interaction, IsReadyToJoin, IsBetween, IsDone, HasMade, AddsMade}
 use Rattle.in_joining.specs.Cells.{KeepsCells, HasSymbols}
 use Rattle.in_joining.specs.Pairs.{IsAtLive, AddsPair}
 use Rattle.in_joining.specs.Shown.{point_of, end_of, IsPlaceAt, AreExchanged}
@@ -74,8 +74,8 @@ module _ (t : Tables) (x : Interaction) (own many e : ℕ) (a : ArenaView) (es :
 
 -- the boundary ends from this one on are joined
 pub record IsOnTheWay (t : Tables) (own many e : ℕ) (a : ArenaView) (es : List End) (old : List (ℕ × ℕ)) (b : ArenaView) (fs : List End) (new : List (ℕ × ℕ)) : Type 0 where
-  pub between : (x : Interaction) → IsReady t x own many a es → IsBetween t x own many e b fs
-  pub made : (x : Interaction) → IsReady t x own many a es → HasMade t x e old new
+  pub between : (x : Interaction) → IsReadyToJoin t x own many a es → IsBetween t x own many e b fs
+  pub made : (x : Interaction) → IsReadyToJoin t x own many a es → HasMade t x e old new
   pub kept : KeepsCells a b
 
 pub starts : (t : Tables) (own many : ℕ) (a : ArenaView) (es : List End) (old : List (ℕ × ℕ)) → IsOnTheWay t own many many a es old a es old
@@ -99,10 +99,10 @@ module _ (t : Tables) (own many : ℕ) (a : ArenaView) (es : List End) (old : Li
       same : k ≡ k - 1 + 1
       same = omega (arith, some)
 
-      here : (x : Interaction) → IsReady t x own many a es → IsBetween t x own many (k - 1 + 1) b fs
+      here : (x : Interaction) → IsReadyToJoin t x own many a es → IsBetween t x own many (k - 1 + 1) b fs
       here x h = subst (λ (k : ℕ). IsBetween t x own many k b fs) same (way.between x h)
 
-  pub ends_done : k ≤ 0 → ((x : Interaction) → IsReady t x own many a es → IsDone t x own b fs) × ((x : Interaction) → IsReady t x own many a es → AddsMade t x old new)
+  pub ends_done : k ≤ 0 → ((x : Interaction) → IsReadyToJoin t x own many a es → IsDone t x own b fs) × ((x : Interaction) → IsReadyToJoin t x own many a es → AddsMade t x old new)
   ends_done none = (
     (λ x h. all_done t x own many b fs (subst (λ (k : ℕ). IsBetween t x own many k b fs) zero_left (way.between x h))),
     (λ x h. all_made t x own many old new (subst (λ (k : ℕ). HasMade t x k old new) zero_left (way.made x h))),

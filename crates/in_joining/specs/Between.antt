@@ -37,7 +37,7 @@ pub record IsWith (t : Tables) (x : Interaction) (own many : ℕ) : Type 0 where
   pub boundary : many ≡ length (redex_of x).member.free
 
 -- the cells and the list of ends show its net taken apart, no boundary end being joined
-pub record IsReady (t : Tables) (x : Interaction) (own many : ℕ) (a : ArenaView) (ends : List End) : Type 0 where
+pub record IsReadyToJoin (t : Tables) (x : Interaction) (own many : ℕ) (a : ArenaView) (ends : List End) : Type 0 where
   pub given : IsWith t x own many
   pub net : Net ℕ
   pub apart : IsTakenApart (signature_of t) (before x) (redex_of x) x.name net

@@ -8,7 +8,7 @@ use Rattle.in_net.specs.Interactions.{IsStep, end_agent, end_place}
 use Rattle.in_net.specs.Nets.{Point, Port, Free, Net, signature_of}
 use Rattle.in_symbols.specs.Tables.{Tables}
 use Rattle.in_glue.specs.EndByEnd.{IsOuterAt, IsInnerAt}
-use Rattle.in_joining.specs.Between.{Interaction, before, redex_of, IsWith, IsReady, IsDone}
+use Rattle.in_joining.specs.Between.{Interaction, before, redex_of, IsWith, IsReadyToJoin, IsDone}
 use Rattle.in_joining.specs.Cells.{HasSymbols}
 use Rattle.in_joining.specs.Shown.{point_of, end_of, IsShown}
 
@@ -48,7 +48,7 @@ pub record AreSet (t : Tables) (x : Interaction) (own many : ℕ) (old a : Arena
 
 -- then joining can begin
 abbrev pub SetIsReady : Type 0
-SetIsReady = (t : Tables) (x : Interaction) (own many : ℕ) (old a : ArenaView) (ends : List End) → AreSet t x own many old a ends → IsReady t x own many a ends
+SetIsReady = (t : Tables) (x : Interaction) (own many : ℕ) (old a : ArenaView) (ends : List End) → AreSet t x own many old a ends → IsReadyToJoin t x own many a ends
 
 -- .. over cells that have the number of a symbol each
 abbrev pub SetHasSymbols : Type 0

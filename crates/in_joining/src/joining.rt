@@ -1,6 +1,6 @@
 // Joining boundary ends, from the highest to the lowest.
 ghost use Rattle.std.specs.Prelude.{◌≡◌, ◌+◌, ◌<◌, ◌≤◌, ℕ, List, vec_len, vec_capacity};
-ghost use Rattle.in_joining.specs.Between.{Interaction, IsReady, IsBetween, IsDone, HasMade, AddsMade};
+ghost use Rattle.in_joining.specs.Between.{Interaction, IsReadyToJoin, IsBetween, IsDone, HasMade, AddsMade};
 ghost use Rattle.in_joining.specs.Cells.{KeepsCells, HasSymbols};
 
 use crate::pairing::add_pair;
@@ -52,11 +52,11 @@ pub fn join_all(
     symbols: &Symbols,
     made: &mut Vec<(u32, u32)>,
 )
-    requires ready { (x : Interaction) × IsReady symbols.now x own many arena.old ends.old }
+    requires ready { (x : Interaction) × IsReadyToJoin symbols.now x own many arena.old ends.old }
     requires symbols { HasSymbols symbols.now arena.old }
     requires room { vec_len made.old + many ≤ vec_capacity made.old }
-    ensures done { (x : Interaction) → IsReady symbols.now x own many arena.old ends.old → IsDone symbols.now x own arena.new ends.new }
-    ensures made { (x : Interaction) → IsReady symbols.now x own many arena.old ends.old → AddsMade symbols.now x made.old.items made.new.items }
+    ensures done { (x : Interaction) → IsReadyToJoin symbols.now x own many arena.old ends.old → IsDone symbols.now x own arena.new ends.new }
+    ensures made { (x : Interaction) → IsReadyToJoin symbols.now x own many arena.old ends.old → AddsMade symbols.now x made.old.items made.new.items }
     ensures kept { KeepsCells arena.old arena.new }
     ensures capacity { vec_capacity made.new ≡ vec_capacity made.old }
 {

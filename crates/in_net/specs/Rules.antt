@@ -75,6 +75,10 @@ types_from t s i (suc n) = port_at t s i ∷ types_from t s (i + 1) n
 abbrev pub auxiliary_types : Tables → ℕ → List PortType
 auxiliary_types t s = types_from t s 1 (arity_of t s)
 
+-- the right member's free ends have the types of the heads' auxiliary ports
+abbrev pub HasTypesOfHeads : Tables → RuleParts → Type 0
+HasTypesOfHeads t r = map (λ f. f.kind) r.member.free ≡ auxiliary_types t r.heads.0.0 ++ auxiliary_types t r.heads.1.0
+
 -- the right member: the agents and wires of the rule's text, and as free ends the auxiliary places of the two symbols, each declared
 -- with that place's type and without a name; each point is in exactly one of these wires
 pub record IsRightMemberOf (t : Tables) (r : SourceRule) (m : Parts) : Type 0 where

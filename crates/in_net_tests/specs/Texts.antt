@@ -1,12 +1,12 @@
 -- What is known of a text's tables, rules and net: as much as the calls on them ask for.
-use Rattle.std.specs.Prelude.{◌≡◌, ◌++◌, map, IsTrue}
+use Rattle.std.specs.Prelude.{IsTrue}
 use Rattle.in_syntax.specs.Order.{IsWrittenInOrder}
 use Rattle.in_syntax.specs.Parsing.{IsOfText}
 use Rattle.in_syntax.specs.Sizes.{IsSized}
 use Rattle.in_symbols.specs.Tables.{Tables}
 use Rattle.in_net.specs.Built.{IsOver, IsReadableNet}
 use Rattle.in_net.specs.Parts.{Parts}
-use Rattle.in_net.specs.Rules.{RuleParts, IsRuleOver, auxiliary_types}
+use Rattle.in_net.specs.Rules.{HasTypesOfHeads, IsRuleOver, RuleParts}
 use Rattle.in_syntax.specs.declared.tree.Source.{Source}
 
 -- a tree that was read
@@ -20,10 +20,6 @@ IsReadProgram s t = IsReadableNet s t
 -- a net as built
 abbrev pub IsBuilt : Tables → Parts → Type 0
 IsBuilt t n = IsOver t n × IsTrue n.built
-
--- the right member's free ends have the types of the heads' auxiliary ports
-abbrev pub HasTypesOfHeads : Tables → RuleParts → Type 0
-HasTypesOfHeads t r = map (λ f. f.kind) r.member.free ≡ auxiliary_types t r.heads.0.0 ++ auxiliary_types t r.heads.1.0
 
 -- a rule as built
 abbrev pub IsBuiltRule : Tables → RuleParts → Type 0

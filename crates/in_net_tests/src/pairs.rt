@@ -2,8 +2,8 @@
 ghost use Rattle.std.specs.Prelude.{IfOk, IfSome};
 ghost use Rattle.in_net.specs.ActivePairs.{AreActive};
 ghost use Rattle.in_net.specs.Built.{IsOver};
-ghost use Rattle.in_net.specs.Rules.{IsRuleOver};
-ghost use Rattle.in_net_tests.specs.Texts.{IsReadProgram, HasTypesOfHeads};
+ghost use Rattle.in_net.specs.Rules.{HasTypesOfHeads, IsRuleOver};
+ghost use Rattle.in_net_tests.specs.Texts.{IsReadProgram};
 
 use crate::texts::{Look, net_in, rule_in};
 use in_interaction::{MOST_AGENTS, made};

@@ -80,9 +80,9 @@ abbrev pub ShareNothing : List Part → Type 0
 ShareNothing [] = Unit {0}
 ShareNothing (x ∷ xs) = ((n : ℕ) → IsIn n x.nodes → IsIn n (nodes_of xs) → ⊥) × ((w : ℕ) → IsIn w x.links → IsIn w (links_of xs) → ⊥) × ShareNothing xs
 
-abbrev pub AreDifferent : List ℕ → Type 0
-AreDifferent [] = Unit {0}
-AreDifferent (n ∷ ns) = (is_among n ns ≡ false) × AreDifferent ns
+abbrev pub HaveNoRepeats : List ℕ → Type 0
+HaveNoRepeats [] = Unit {0}
+HaveNoRepeats (n ∷ ns) = (is_among n ns ≡ false) × HaveNoRepeats ns
 
 -- these steps are earlier than step k, and build these parts
 abbrev pub AreEarlier : List Part → ℕ → List ℕ → List Part → Type 0
@@ -123,7 +123,7 @@ Joins o (Mix a b) xs x = (w : ℕ) (p q : OpenPoint) → IsWire o w p q → x.en
 pub record BuildsPart (o : OpenNet) (parts : List Part) (k : ℕ) (step : Step) (x : Part) : Type 0 where
   pub from : List Part
   pub earlier : AreEarlier parts k (named step) from
-  pub different : AreDifferent (named step)
+  pub different : HaveNoRepeats (named step)
   pub apart : ShareNothing from
   pub nodes : (n : ℕ) → x.nodes n ≡ (is_among n (own_nodes step) || nodes_of from n)
   pub links : (w : ℕ) → x.links w ≡ (is_among w (own_links step) || links_of from w)

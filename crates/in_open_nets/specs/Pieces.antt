@@ -37,12 +37,12 @@ module _ (o : OpenNet) (within : List Bool) where
   AreNeighboursJoined n = (k l : ℕ) → IsNeighbourOf n k → IsNeighbourOf n l → AreJoinedWithin k l
 
 -- any two nodes of the set are joined through it
-abbrev pub IsPiece : OpenNet → List Bool → Type 0
-IsPiece o s = AreTogether o s s
+abbrev pub IsOnePiece : OpenNet → List Bool → Type 0
+IsOnePiece o s = AreTogether o s s
 
 -- a part that lacks a node is a component, and so in one piece; the whole net may be in several
 abbrev pub IsPieceOrWhole : OpenNet → List Bool → Type 0
-IsPieceOrWhole o s = 0 < missing s → IsPiece o s
+IsPieceOrWhole o s = 0 < missing s → IsOnePiece o s
 
 -- s is what n leaves of a set that is in one piece, or of the whole net
 abbrev pub IsLeftOf : OpenNet → ℕ → List Bool → Type 0

@@ -1,7 +1,7 @@
 ghost use Rattle.std.specs.Prelude.{◌≡◌, ◌<◌, length, IfOk, IsTrue, OnOk, OnErr, false, ℕ};
 ghost use Rattle.in_open_nets.specs.Members.{IsUnion, missing, nodes_in};
 ghost use Rattle.in_open_nets.specs.Constructions.{IsIn};
-ghost use Rattle.in_open_nets.specs.Pieces.{IsLeftOf, IsPiece};
+ghost use Rattle.in_open_nets.specs.Pieces.{IsLeftOf, IsOnePiece};
 ghost use Rattle.in_open_nets.specs.Parts.{AreReachedNodes, IsNeighbour, IsReached, IsSearch, SpreadsOver};
 ghost use Rattle.in_open_nets.specs.Stuck.{ports_of};
 
@@ -115,7 +115,7 @@ fn component(
     from: u32,
 ) -> Result<NodeList, AllocError>
     requires size { length lent.old ≡ length part.now.wired.now.nodes }
-    requires piece { IsTrue is_piece → IsPiece part.now.wired.now part.now.nodes.now }
+    requires piece { IsTrue is_piece → IsOnePiece part.now.wired.now part.now.nodes.now }
     requires here { IsIn from (nodes_in part.now.nodes.now) }
     ensures lent { length lent.new ≡ length lent.old }
     ensures size { IfOk result (λ c. length c ≡ length part.now.wired.now.nodes) }
@@ -205,7 +205,7 @@ impl DoneNodes {
         requires size { length self.old ≡ length part.now.wired.now.nodes }
         requires left { IsLeftOf part.now.wired.now node part.now.nodes.now }
         ensures same { self.new ≡ self.old }
-        ensures piece { IfOk result (λ is_piece. IsTrue is_piece → IsPiece part.now.wired.now part.now.nodes.now) }
+        ensures piece { IfOk result (λ is_piece. IsTrue is_piece → IsOnePiece part.now.wired.now part.now.nodes.now) }
     {
         if self.tried || part.nodes.absent() <= 1 {
             return Ok(false);

@@ -258,15 +258,15 @@ module _ (one two m : Net ℕ) (name : ℕ → ℕ) (ends : List (ℕ × ℕ)) (
         last : ℕ
         at : in_whole i last ≡ to.0
         live_last : IsSome ((both i).symbol last)
-        leads : graphs.Leads (graph_of p.symbols (both i)) (x, l) qs (last, to.1)
+        leads : graphs.LeadsThrough (graph_of p.symbols (both i)) (x, l) qs (last, to.1)
 
-      lift : (i x l : ℕ) (ps : List (Passage ℕ)) (to : ℕ × ℕ) → IsSome ((both i).symbol x) → graphs.Leads (graph_of p.symbols m) (in_whole i x, l) ps to → Lifted i x l ps to
+      lift : (i x l : ℕ) (ps : List (Passage ℕ)) (to : ℕ × ℕ) → IsSome ((both i).symbol x) → graphs.LeadsThrough (graph_of p.symbols m) (in_whole i x, l) ps to → Lifted i x l ps to
       lift i x l [] to there w =
           let n = next i x l to there w in
           record { qs = []; same = refl; there = tt; last = n.0; at = n.1; live_last = n.2; leads = n.3 }
       lift i x l (q ∷ qs) to there w =
           let n = next i x l (entered q) there w.0 in
-          let r = lift i n.0 q.leave qs to n.2 (subst (λ (y : ℕ). graphs.Leads (graph_of p.symbols m) (y, q.leave) qs to) (sym n.1) w.1) in
+          let r = lift i n.0 q.leave qs to n.2 (subst (λ (y : ℕ). graphs.LeadsThrough (graph_of p.symbols m) (y, q.leave) qs to) (sym n.1) w.1) in
           let here : Passage ℕ = record { node = n.0; enter = q.enter; leave = q.leave } in
           record {
             qs = here ∷ r.qs;
@@ -297,7 +297,7 @@ module _ (one two m : Net ℕ) (name : ℕ → ℕ) (ends : List (ℕ × ℕ)) (
       apart_all i (q ∷ qs) g = (apart_one i q.node qs g.0, apart_all i qs g.1)
 
       -- the first wire of a circle leads from an agent
-      leaves : (q : ℕ × ℕ) (ps : List (Passage ℕ)) (to : ℕ × ℕ) → graphs.Leads (graph_of p.symbols m) q ps to → IsSome (m.symbol q.0)
+      leaves : (q : ℕ × ℕ) (ps : List (Passage ℕ)) (to : ℕ × ℕ) → graphs.LeadsThrough (graph_of p.symbols m) q ps to → IsSome (m.symbol q.0)
       leaves q [] to w = let s = symbol_of p.symbols (m.symbol q.0) q.1 (whole_net.points (Port q.0 q.1) (Port to.0 to.1) w) in is_some (m.symbol q.0) s.0 s.1
       leaves q (r ∷ rs) to w = let s = symbol_of p.symbols (m.symbol q.0) q.1 (whole_net.points (Port q.0 q.1) (Port r.node r.enter) w.0) in is_some (m.symbol q.0) s.0 s.1
 
@@ -308,14 +308,14 @@ module _ (one two m : Net ℕ) (name : ℕ → ℕ) (ends : List (ℕ × ℕ)) (
           let i = a.0 in
           let x = a.1 in
           let there = is_some ((both i).symbol x) s.0 a.3 in
-          let r = lift i x c.first.leave c.rest (entered c.first) there (subst (λ (y : ℕ). graphs.Leads (graph_of p.symbols m) (y, c.first.leave) c.rest (entered c.first)) (sym a.2) c.closed) in
+          let r = lift i x c.first.leave c.rest (entered c.first) there (subst (λ (y : ℕ). graphs.LeadsThrough (graph_of p.symbols m) (y, c.first.leave) c.rest (entered c.first)) (sym a.2) c.closed) in
           let first : Passage ℕ = record { node = x; enter = c.first.enter; leave = c.first.leave } in
           let back : x ≡ r.last = (h.apart i i x r.last there r.live_last (a.2 ∙ sym r.at)).1 in
           let all : map (moved i) (first ∷ r.qs) ≡ c.first ∷ c.rest = λ k. record { node = a.2 k; enter = c.first.enter; leave = c.first.leave } ∷ r.same k in
           (sound_part i).no_circle (record {
             first = first;
             rest = r.qs;
-            closed = subst (λ (z : ℕ). graphs.Leads (graph_of p.symbols (both i)) (x, c.first.leave) r.qs (z, c.first.enter)) (sym back) r.leads;
+            closed = subst (λ (z : ℕ). graphs.LeadsThrough (graph_of p.symbols (both i)) (x, c.first.leave) r.qs (z, c.first.enter)) (sym back) r.leads;
             crossing = crossing i (first ∷ r.qs) (there, r.there) (subst (AllByRecursion (IsCrossing (graph_of p.symbols m))) (sym all) c.crossing);
             apart = apart_all i (first ∷ r.qs) (subst NodesApart (sym all) c.apart);
           })

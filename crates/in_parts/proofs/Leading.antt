@@ -193,7 +193,7 @@ module _ (parts other_parts : ℕ → Net ℕ) (f : ℕ → ℕ → ℕ) (named 
 pub no_wire : (q r : Point ℕ) → empty.partner q ≡ Some r → ⊥
 no_wire q r e = let f : ◌≡◌ {A = Option (Point ℕ)} None (Some r) = e in cc
 
-no_path : (p : System) (from to : ℕ × ℕ) (qs : List (Passage ℕ)) → graphs.Leads (graph_of p.symbols empty) from qs to → ⊥
+no_path : (p : System) (from to : ℕ × ℕ) (qs : List (Passage ℕ)) → graphs.LeadsThrough (graph_of p.symbols empty) from qs to → ⊥
 no_path p from to [] h = no_wire (Port from.0 from.1) (Port to.0 to.1) h
 no_path p from to (q ∷ qs) h = no_wire (Port from.0 from.1) (Port q.node q.enter) h.0
 

@@ -1,11 +1,10 @@
 -- Each rule of an accepted program is over its tables, and its right member's free ends are as the heads' auxiliary ports.
 use Rattle.std.proofs.Common.{◌≡◌, ◌++◌, ◌∙◌, ℕ, List, Some, slice_get, sym, ap}
 use Rattle.in_symbols.specs.declared.symbols.SymbolNo.{SymbolNo}
-use Rattle.in_net.specs.Rules.{RuleParts, IsRuleOver, auxiliary_types}
+use Rattle.in_net.specs.Rules.{HasTypesOfHeads, RuleParts, IsRuleOver, auxiliary_types}
 use Rattle.in_check.specs.Checking.{IsAccepted}
 use Rattle.in_check.specs.Programs.{Program}
 use Rattle.in_check.proofs.Public.{program_of}
-use Rattle.in_plain_runs.specs.RuleTypes.{HasTypesOfHeads}
 
 module _ (text : List ℕ) (p : Program) (accepted : IsAccepted text p) (i : ℕ) (r : RuleParts) (stands : slice_get p.rules i ≡ Some r) where
   pub rule_over : IsRuleOver p.tables r

@@ -2,8 +2,7 @@
 ghost use Rattle.std.specs.Prelude.{◌≡◌, ◌<◌, length};
 ghost use Rattle.in_net.specs.ActivePairs.{AreActive};
 ghost use Rattle.in_net.specs.Built.{IsOver};
-ghost use Rattle.in_net.specs.Rules.{IsRuleOver};
-ghost use Rattle.in_plain_runs.specs.RuleTypes.{HasTypesOfHeads};
+ghost use Rattle.in_net.specs.Rules.{HasTypesOfHeads, IsRuleOver};
 
 use in_check::{Checked, Plain};
 use in_cover::RuleNo;

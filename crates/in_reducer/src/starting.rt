@@ -15,6 +15,7 @@ ghost use Rattle.in_reducer.specs.Limiting.{most_cells};
 ghost use Rattle.in_reducer.specs.Placed.{IsPut};
 ghost use Rattle.in_reducer.specs.Sides.{inner_of, HasJoint};
 ghost use Rattle.in_reducer.specs.Starts.{IsStart};
+ghost use Rattle.in_syntax.specs.Grammar.{max_free};
 
 use crate::body::{Body, OwnEnd};
 use crate::placing::put;
@@ -75,7 +76,7 @@ fn free_ends(alloc: Global, net: &Net) -> Result<Vec<OwnEnd>, AllocError>
 
 /// What the program's free ends lead to, and after that room for the sides of boundary ends.
 fn ends_of(alloc: Global, start: &Member, placed: &Placed) -> Result<Vec<End>, AllocError>
-    requires few { length start.now.joints ≤ 256 }
+    requires few { length start.now.joints ≤ max_free }
     requires there { (e : ℕ) (j : Target) → slice_get start.now.joints e ≡ Some j → HasJoint placed.now.cells j }
     ensures first { IfOk result (λ es. take (length start.now.joints) es.items ≡ map (inner_of placed.now.cells 0) start.now.joints) }
     ensures long { IfOk result (λ es. length start.now.joints + most_ends + most_ends ≤ length es.items) }

@@ -7,7 +7,7 @@ use Rattle.in_simple_deriving.specs.declared.plans.Task.TheVariants.{Derive, Mak
 use Rattle.in_open_nets.specs.OpenNets.{OpenNet}
 use Rattle.in_open_nets.specs.declared.derivations.Step.{Step}
 use Rattle.in_open_nets.specs.declared.derivations.Step.TheVariants.{Graft, Cut, Mix}
-use Rattle.in_open_nets.specs.Derivations.{Part, named, own_nodes, is_among, nodes_of, ShareNothing, AreDifferent, AreEarlier, BuildsPart, times}
+use Rattle.in_open_nets.specs.Derivations.{Part, named, own_nodes, is_among, nodes_of, ShareNothing, HaveNoRepeats, AreEarlier, BuildsPart, times}
 use Rattle.in_open_nets.specs.Members.{nodes_in}
 use Rattle.in_simple_deriving.specs.Planned.{TakesPart}
 use Rattle.in_simple_deriving.specs.Stacks as yields
@@ -200,7 +200,7 @@ module _ (o : OpenNet) where
             subst (λ u. BuildsPart o (k.parts ++ y ∷ []) i u y) same (subst (λ u. BuildsPart o (k.parts ++ y ∷ []) u step y) z (record {
               from = p.us;
               earlier = subst (λ u. AreEarlier (k.parts ++ y ∷ []) (length s) u p.us) (sym b.names_are) (earlier_push k.parts y (length s) (length s) (omega arith) p.names p.us p.upper);
-              different = subst AreDifferent (sym b.names_are) (different_of p.names few);
+              different = subst HaveNoRepeats (sym b.names_are) (different_of p.names few);
               apart = b.apart;
               nodes = b.nodes;
               links = b.links;

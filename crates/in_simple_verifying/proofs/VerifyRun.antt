@@ -4,7 +4,7 @@ use Rattle.std.proofs.lemmas.Option.{slice_get_within}
 use Rattle.in_simple_verifying.specs.declared.verifying.Built.{Built}
 use Rattle.in_open_nets.specs.OpenNets.{OpenNet, IsOpenNet}
 use Rattle.in_open_nets.specs.declared.derivations.Step.{Step}
-use Rattle.in_open_nets.specs.Derivations.{Part, named, own_nodes, is_among, AreDifferent, AreEarlier, BuildsPart, IsDerivation, is_free, times, times_in}
+use Rattle.in_open_nets.specs.Derivations.{Part, named, own_nodes, is_among, HaveNoRepeats, AreEarlier, BuildsPart, IsDerivation, is_free, times, times_in}
 use Rattle.in_simple_verifying.specs.Checking.{AreSizedBuilt, AreHeld, AllHold, Again, IsBuiltPart, IsLastBuilt, IsMadeByStep, IsWholeNet, IsSizedBuilt, IsTaken, Took, MakesPart, OnStep, OnAlone, OnPair, has_node, in_one, left_of, left_at, times_left}
 use Rattle.in_simple_verifying.proofs.Named.{AreLeft, left_start, left_more, left_app, take_next, take_whole}
 use Rattle.in_open_nets.proofs.Public.{get_past, get_cases, times_in_app, same_nat, at_most, one_same, one_other, earlier_of, times_among}
@@ -102,7 +102,7 @@ module _ (o : OpenNet) where
 
     pub first_refused : (mid new : List (Option Built)) (second : Built) → IsTaken b old mid second → left_at mid a ≡ 0 → OnStep o (f a b) old new None
     first_refused mid new second t h all x held k =
-        let d = subst AreDifferent (two a b) k.different in
+        let d = subst HaveNoRepeats (two a b) k.different in
         inl (a, subst (λ z. is_among a z ≡ true) (sym (two a b)) (or_left (nat_eq a a) (is_among a (b ∷ [])) (eq-eqb a a refl)), again_left (b ∷ []) old mid (second ∷ []) a (old, refl, t) h d.0)
 
     pub step_pair : (mid new : List (Option Built)) (first second : Built) (r : Option Built) → IsTaken b old mid second → IsTaken a mid new first → OnPair o f first second r → OnStep o (f a b) old new r

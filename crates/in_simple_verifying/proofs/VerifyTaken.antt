@@ -4,7 +4,7 @@ use Rattle.std.proofs.Math.ListN.{set}
 use Rattle.std.proofs.lemmas.Option.{slice_get_within}
 use Rattle.in_simple_verifying.specs.declared.verifying.Built.{Built}
 use Rattle.in_open_nets.specs.OpenNets.{OpenNet}
-use Rattle.in_open_nets.specs.Derivations.{Part, is_among, AreDifferent, AreEarlier, times}
+use Rattle.in_open_nets.specs.Derivations.{Part, is_among, HaveNoRepeats, AreEarlier, times}
 use Rattle.in_simple_verifying.specs.Checking.{IsBuiltPart, AllHold, AreHeld, AreSizedBuilt, IsTaken, Took, TakesNamed, in_one, left_of, left_at, times_left}
 use Rattle.in_open_nets.proofs.Public.{different_of, same_nat, not_both, among_times}
 use Rattle.in_simple_verifying.proofs.Named.{take_one, take_none}
@@ -58,7 +58,7 @@ took_kept [] old new (b ∷ bs) h j c g = absurd h
 took_kept (i ∷ is) old new [] h j c g = absurd h
 took_kept (i ∷ is) old new (b ∷ bs) h j c g = took_kept is old h.0 bs h.1 j c (taken_kept i h.0 new b h.2 j c g)
 
-pub took_different : (is : List ℕ) (old new : List (Option Built)) (bs : List Built) → Took is old new bs → AreDifferent is
+pub took_different : (is : List ℕ) (old new : List (Option Built)) (bs : List Built) → Took is old new bs → HaveNoRepeats is
 took_different is old new bs h = let t = took_takes is old new bs h in different_of is (λ j. let a = t.each j in let b = left_most old j in omega arith)
 
 -- a step that is named and was not left when others had been taken was not left before

@@ -5,7 +5,7 @@ use Rattle.in_open_nets.specs.declared.open_nets.OpenPoint.TheVariants.{Port, Fr
 use Rattle.in_simple_verifying.specs.declared.verifying.Built.{Built}
 use Rattle.in_open_nets.specs.Constructions.{IsIn}
 use Rattle.in_open_nets.specs.declared.derivations.Step.{Step}
-use Rattle.in_open_nets.specs.Derivations.{Part, named, own_nodes, own_links, is_port_in, is_principal, is_auxiliary, is_free, is_among, nodes_of, links_of, ends_of, ShareNothing, AreDifferent, AreEarlier, Joins, BuildsPart, times}
+use Rattle.in_open_nets.specs.Derivations.{Part, named, own_nodes, own_links, is_port_in, is_principal, is_auxiliary, is_free, is_among, nodes_of, links_of, ends_of, ShareNothing, HaveNoRepeats, AreEarlier, Joins, BuildsPart, times}
 use Rattle.in_open_nets.specs.OpenNets.{OpenNet, class_in, IsWire}
 use Rattle.in_open_nets.specs.Members.{IsUnion, nodes_in}
 
@@ -247,7 +247,7 @@ pub record AreGathered (o : OpenNet) (n c : ℕ) (is : List ℕ) (old new : List
   pub counted : (m : ℕ) → times_left m new + in_one built m ≡ times_left m old
 
 abbrev pub AreRefused : OpenNet → ℕ → ℕ → List ℕ → List (Option Built) → Type 0
-AreRefused o n c is old = (all from : List Part) → AreHeld o old all → AreEarlier all (length old) is from → AreDifferent is → ShareNothing from → AreOpen o n c from → (i : ℕ) × (is_among i is ≡ true) × (left_at old i ≡ 0)
+AreRefused o n c is old = (all from : List Part) → AreHeld o old all → AreEarlier all (length old) is from → HaveNoRepeats is → ShareNothing from → AreOpen o n c from → (i : ℕ) × (is_among i is ≡ true) × (left_at old i ≡ 0)
 
 -- ---- the whole
 

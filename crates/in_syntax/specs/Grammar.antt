@@ -204,13 +204,13 @@ IsItem (symbol s) = AllByRecursion (λ c. 0 < length c) s.classes
 IsItem (rule w r) = StandAfterWord w r.equations
 
 -- program = item* net
-pub record Program : Type 0 where
+pub record GrammarProgram : Type 0 where
   pub items : List Item
   pub each : AllByRecursion IsItem items
   pub net : SourceNet
 
 -- its signs in the order of the text
-abbrev pub spelling : Program → List Marked
+abbrev pub spelling : GrammarProgram → List Marked
 spelling p = spell_items none_yet p.items ++ spell_net p.net
 
 -- the types that an item declares
@@ -232,7 +232,7 @@ rules_in (symbol s) = []
 rules_in (rule w r) = r ∷ []
 
 -- the tree, which gathers the types, the symbols and the rules, each in the order of the text
-abbrev pub source_of : Program → Source
+abbrev pub source_of : GrammarProgram → Source
 source_of p = record {
   types = flat_map types_in p.items;
   symbols = flat_map symbols_in p.items;

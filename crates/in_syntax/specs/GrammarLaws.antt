@@ -1,7 +1,7 @@
 -- What is proved of the grammar over the definitions alone.
 use Rattle.std.specs.Prelude.{◌≡◌, ◌↔◌, ℕ, ◌≤◌, List, length, take}
 use Rattle.in_syntax.specs.declared.signs.Sign.{Sign}
-use Rattle.in_syntax.specs.Grammar.{Program, spelling, source_of}
+use Rattle.in_syntax.specs.Grammar.{GrammarProgram, spelling, source_of}
 use Rattle.in_syntax.specs.Programs.{signs, BeginsWithin, Outcome, tree, fault, IsOutcomeOfSigns}
 
 -- every list of signs has exactly one outcome: one tree, or one first fault
@@ -10,7 +10,7 @@ OneOutcome = (s : List Sign) → (o : Outcome) × IsOutcomeOfSigns s o × ((p : 
 
 -- two programs with the same signs have one tree, and pass the limits at the same signs
 abbrev pub OneTree : Type 0
-OneTree = (p q : Program) → signs (spelling p) ≡ signs (spelling q) → (source_of p ≡ source_of q) × (spelling p ≡ spelling q)
+OneTree = (p q : GrammarProgram) → signs (spelling p) ≡ signs (spelling q) → (source_of p ≡ source_of q) × (spelling p ≡ spelling q)
 
 -- how many signs stand before the first fault: all of them where there is none
 abbrev pub before_fault : List Sign → Outcome → ℕ

@@ -13,7 +13,7 @@ use Rattle.in_syntax.specs.declared.signs.Sign.{Sign}
 use Rattle.in_syntax.specs.declared.signs.Sign.TheVariants.{Named, Tilde, Plain}
 use Rattle.in_syntax.specs.declared.tree.Name.{Name}
 use Rattle.in_syntax.specs.declared.tree.Source.{Source}
-use Rattle.in_syntax.specs.Grammar.{Marked, marked, within, Program, spelling, source_of}
+use Rattle.in_syntax.specs.Grammar.{Marked, marked, within, GrammarProgram, spelling, source_of}
 
 -- a place is that of a part of the text
 pub record IsTextAt (text : List ℕ) (place : Place) : Type 0 where
@@ -59,23 +59,23 @@ unmarked = map within
 
 -- the signs are those of a program of this tree, and none of them passes a limit
 abbrev pub IsTree : List Sign → Source → Type 0
-IsTree s source = (p : Program) × (spelling p ≡ unmarked s) × (source_of p ≡ source)
+IsTree s source = (p : GrammarProgram) × (spelling p ≡ unmarked s) × (source_of p ≡ source)
 
 -- the signs are a program's, whether or not one passes a limit
 abbrev pub IsProgram : List Sign → Type 0
-IsProgram s = (p : Program) × (signs (spelling p) ≡ s)
+IsProgram s = (p : GrammarProgram) × (signs (spelling p) ≡ s)
 
 -- some program begins so, whether or not a sign passes a limit
 abbrev pub Begins : List Sign → Type 0
-Begins front = (p : Program) × (more : List Sign) × (signs (spelling p) ≡ front ++ more)
+Begins front = (p : GrammarProgram) × (more : List Sign) × (signs (spelling p) ≡ front ++ more)
 
 -- some program begins so, and passes no limit there
 abbrev pub BeginsWithin : List Sign → Type 0
-BeginsWithin front = (p : Program) × (more : List Marked) × (spelling p ≡ unmarked front ++ more)
+BeginsWithin front = (p : GrammarProgram) × (more : List Marked) × (spelling p ≡ unmarked front ++ more)
 
 -- some program begins so, and passes a limit first at the last sign
 abbrev pub BeginsPast : List Sign → Sign → Type 0
-BeginsPast front s = (p : Program) × (more : List Marked) × (spelling p ≡ unmarked front ++ marked true s ∷ more)
+BeginsPast front s = (p : GrammarProgram) × (more : List Marked) × (spelling p ≡ unmarked front ++ marked true s ∷ more)
 
 -- the first fault is this one, between the signs before it and those from it on: some program begins with the former, and passes no
 -- limit there; E02 where none goes on with the next sign, or none ends here, E03 where one does, and its sign passes a limit

@@ -322,15 +322,15 @@ abbrev pub taken : Reader → Sign → Option Reader
 taken r x = moved r (move_of (step (counts_of r) r.state x))
 
 -- the signs lead from one reader to another
-abbrev pub Leads : Reader → List Sign → Reader → Type 0
-Leads r [] last = r ≡ last
-Leads r (x ∷ s) last = (next : Reader) × (taken r x ≡ Some next) × Leads next s last
+abbrev pub SignsLead : Reader → List Sign → Reader → Type 0
+SignsLead r [] last = r ≡ last
+SignsLead r (x ∷ s) last = (next : Reader) × (taken r x ≡ Some next) × SignsLead next s last
 
 -- what one sign, that of a token at a place, makes of a reader
-abbrev pub Takes : Reader → Sign → Place → Result Reader Fault → Type 0
-Takes r x place (Ok next) = taken r x ≡ Some next
-Takes r x place (Err (Refused f)) = ((s : List Sign) → run r (x ∷ s) ≡ refused f.code (x ∷ s)) × (f.place ≡ place) × (f.other ≡ None)
-Takes r x place (Err (Memory e)) = Unit {0}
+abbrev pub TakesSign : Reader → Sign → Place → Result Reader Fault → Type 0
+TakesSign r x place (Ok next) = taken r x ≡ Some next
+TakesSign r x place (Err (Refused f)) = ((s : List Sign) → run r (x ∷ s) ≡ refused f.code (x ∷ s)) × (f.place ≡ place) × (f.other ≡ None)
+TakesSign r x place (Err (Memory e)) = Unit {0}
 
 -- what the end of the text makes of it
 abbrev pub EndsText : Reader → Place → Result Source Fault → Type 0
@@ -395,7 +395,7 @@ expected_in (state.Done n) = expected.Nothing
 
 -- what is noted where the tokens before this one are read
 abbrev pub IsNotedBefore : List ℕ → List Token → ℕ → Expected → Type 0
-IsNotedBefore text tokens i e = (last : Reader) × Leads start (signs_of text (take i tokens)) last × (e ≡ expected_in last.state)
+IsNotedBefore text tokens i e = (last : Reader) × SignsLead start (signs_of text (take i tokens)) last × (e ≡ expected_in last.state)
 
 -- what is noted of a run that gives this
 abbrev pub Notes : List ℕ → List Token → Result Source Fault → Expected → Type 0

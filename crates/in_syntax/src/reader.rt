@@ -1,6 +1,6 @@
 ghost use Rattle.std.specs.Prelude.{◌≡◌};
 ghost use Rattle.in_syntax.specs.Programs.{HasText, sign_of};
-ghost use Rattle.in_syntax.specs.Steps.{start, Takes, EndsText};
+ghost use Rattle.in_syntax.specs.Steps.{start, TakesSign, EndsText};
 ghost use Rattle.in_syntax.specs.Steps as steps;
 
 use crate::counts::Counts;
@@ -37,7 +37,7 @@ impl Reader {
     /// Reads one token.
     pub fn take(self, alloc: Global, text: &[u8], token: Token) -> Result<Reader, Fault>
         requires { HasText text.now token.kind token.place }
-        ensures { Takes self (sign_of text.now token) token.place result }
+        ensures { TakesSign self (sign_of text.now token) token.place result }
     {
         match read_sign(alloc, text, token) {
             Ok(sign) => self.take_sign(alloc, sign, token.place),
@@ -50,7 +50,7 @@ impl Reader {
 
     /// Reads one sign, that of the token at this place.
     pub fn take_sign(self, alloc: Global, sign: Sign, place: Place) -> Result<Reader, Fault>
-        ensures { Takes self sign place result }
+        ensures { TakesSign self sign place result }
     {
         let Reader {
             mut types,

@@ -17,7 +17,7 @@ use Rattle.in_claims.specs.Seats.{BoardView}
 use Rattle.in_gather.specs.Holding.{holders}
 use Rattle.in_gather.proofs.Public.{Change, change, Lends, Stays, leased_of, each_of, bags_are_of_one, no_bags, of_one_by, holders-append}
 use Rattle.in_work.specs.Bringing.{hand, hands}
-use Rattle.in_work.specs.Lending.{AreLentOut, IsFresh, IsShare}
+use Rattle.in_work.specs.Lending.{AreLentOut, IsFreshPart, IsShare}
 use Rattle.in_work.specs.Plans.{PlanParts}
 use Rattle.in_work.specs.Works.{IsEmptyRoom, IsReady, bags}
 use Rattle.in_work.specs.declared.part.Part.{Part}
@@ -92,7 +92,7 @@ pub rooms_of : (s s' : StockParts) (rooms : List PlacedParts) → AreOfOne s.bag
 rooms_of s s' rooms one all = All-weaker (IsEmptyRoom s) (IsEmptyRoom s') (λ p is. record { one = (is.one.0 ∙ sym one.0, is.one.1 ∙ sym one.1); none = is.none; room = is.room }) rooms all
 
 -- a fresh part that has got its share
-module _ (plan : PlanParts) (board : BoardView) (share : Need) (ps : List Part) (a a' a'' : ArenaView) (p : Part) (s : StockParts) (all : HasAllCells a) (lent : AreLentOut (hands ps) a a') (is : IsFresh plan board a share p) (added : AddsTo share a' p.stock a'' s) where
+module _ (plan : PlanParts) (board : BoardView) (share : Need) (ps : List Part) (a a' a'' : ArenaView) (p : Part) (s : StockParts) (all : HasAllCells a) (lent : AreLentOut (hands ps) a a') (is : IsFreshPart plan board a share p) (added : AddsTo share a' p.stock a'' s) where
   abbrev got : Part
   got = record p { stock = s }
 

@@ -7,7 +7,7 @@ use Rattle.in_arena.specs.Bags.{AreOfOne}
 use Rattle.in_symbols.specs.declared.symbols.SymbolNo.{SymbolNo}
 use Rattle.in_claims.specs.Seats.{SeatView}
 use Rattle.in_compile.specs.declared.cells.Need.{Need}
-use Rattle.in_compile.specs.Placing.{AreCellsOf, Takes}
+use Rattle.in_compile.specs.Placing.{AreCellsOf, TakesCells}
 use Rattle.in_compile.specs.Cells.{count_of, IsEnough}
 use Rattle.in_compile.specs.Stocks.{StockParts, held}
 use Rattle.in_compile.specs.Templates.{IsLargestNeed}
@@ -32,7 +32,7 @@ no_work plan p q done seat stock = record {
 }
 
 -- a job that was claimed and placed
-module _ (plan : PlanParts) (p q r : Part) (d : DoneParts) (need : Need) (w : Works plan p q) (done : r.done.items ≡ q.done.items ++ d ∷ []) (board : r.seat.board ≡ q.seat.board) (numbers : r.seat.numbers ≡ q.seat.numbers ++ d.job ∷ []) (is : IsDoneJob plan d) (takes : Takes need d.placed.placed.cells q.stock r.stock) (cells : AreCellsOf d.placed.placed.bag d.placed.placed.cells) (one : AreOfOne p.stock.bag d.placed.placed.bag) where
+module _ (plan : PlanParts) (p q r : Part) (d : DoneParts) (need : Need) (w : Works plan p q) (done : r.done.items ≡ q.done.items ++ d ∷ []) (board : r.seat.board ≡ q.seat.board) (numbers : r.seat.numbers ≡ q.seat.numbers ++ d.job ∷ []) (is : IsDoneJob plan d) (takes : TakesCells need d.placed.placed.cells q.stock r.stock) (cells : AreCellsOf d.placed.placed.bag d.placed.placed.cells) (one : AreOfOne p.stock.bag d.placed.placed.bag) where
   pub one_done : Works plan p r
   one_done = record {
     more = w.more ++ d ∷ [];

@@ -13,7 +13,7 @@ use Rattle.in_work.specs.Works.{IsReady}
 use Rattle.in_work.specs.declared.part.Part.{Part}
 
 -- a worker that is ready, and has neither a cell nor anything done
-pub record IsFresh (plan : PlanParts) (board : BoardView) (a : ArenaView) (share : Need) (p : Part) : Type 0 where
+pub record IsFreshPart (plan : PlanParts) (board : BoardView) (a : ArenaView) (share : Need) (p : Part) : Type 0 where
   pub stock : p.stock ≡ empty_stock a share
   pub done : p.done.items ≡ []
   pub ready : IsReady plan board p

@@ -4,7 +4,7 @@ ghost use Rattle.in_arena.specs.Arenas.{NoneLeased, free_of};
 ghost use Rattle.in_claims.specs.Seats.{fresh};
 ghost use Rattle.in_compile.specs.Stocks.{empty_stock};
 ghost use Rattle.in_work.specs.Bringing.{hands};
-ghost use Rattle.in_work.specs.Lending.{AreLentOut, IsFresh, IsShare};
+ghost use Rattle.in_work.specs.Lending.{AreLentOut, IsFreshPart, IsShare};
 ghost use Rattle.in_work.specs.Works.{IsEmptyRoom, IsReady};
 
 use crate::part::Part;
@@ -45,7 +45,7 @@ fn part<'t>(
 ) -> Result<Part<'t>, AllocError>
     requires seat { seat ≡ fresh board.now }
     requires limit { board.now.limit ≤ length plan.now.jobs }
-    ensures { IfOk result (IsFresh plan.now board.now arena.now share) }
+    ensures { IfOk result (IsFreshPart plan.now board.now arena.now share) }
 {
     let stock = Stock::empty(alloc, arena, share)?;
     let done = Vec::with_capacity(alloc, rooms as usize)?;
@@ -70,7 +70,7 @@ pub(crate) fn parts<'t>(
 ) -> Result<Vec<Part<'t>>, AllocError>
     requires seats { All (λ s. s ≡ fresh board.now) seats.items }
     requires limit { board.now.limit ≤ length plan.now.jobs }
-    ensures each { IfOk result (λ v. All (IsFresh plan.now board.now arena.now share) v.items) }
+    ensures each { IfOk result (λ v. All (IsFreshPart plan.now board.now arena.now share) v.items) }
     ensures count { IfOk result (λ v. vec_len v ≡ vec_len seats) }
 {
     let mut parts = Vec::with_capacity(alloc, seats.len())?;
@@ -91,7 +91,7 @@ pub(crate) fn lend<'t>(
     arena: &mut Arena,
 ) -> Vec<Part<'t>>
     requires none { NoneLeased arena.old }
-    requires parts { All (IsFresh plan.now board.now arena.old share) parts.items }
+    requires parts { All (IsFreshPart plan.now board.now arena.old share) parts.items }
     requires share { IsShare (vec_len parts) share (free_of arena.old) }
     requires room { (lent.items ≡ []) × (vec_len parts ≤ vec_capacity lent) }
     ensures lent { AreLentOut (hands result.items) arena.old arena.new }

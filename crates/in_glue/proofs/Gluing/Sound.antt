@@ -4,7 +4,7 @@ use native.Mathlib.Decide.{ℕ_discrete}
 use Rattle.std.specs.List.{AllByRecursion}
 use Rattle.std.proofs.lemmas.Bool.{cases_order}
 use Rattle.std.proofs.lemmas.Option.{same_Some}
-use Rattle.in_base.specs.Graphs.{Passage, entered, left, Leads, IsCrossing, AreApart as NodesApart, CrossingCircle}
+use Rattle.in_base.specs.Graphs.{Passage, entered, left, LeadsThrough, IsCrossing, AreApart as NodesApart, CrossingCircle}
 use Rattle.in_net.specs.Graphs.{class_of_symbol, graph_of}
 use Rattle.in_net.specs.Interactions.{Redex, Outer}
 use Rattle.in_net.specs.Nets.{Point, Port, Free, Net, IsPoint, IsNet}
@@ -126,7 +126,7 @@ module _ (p : System) (parts : ℕ → Net ℕ) (name : ℕ → ℕ → ℕ) (cu
   abbrev moved : Passage ℕ → Passage ℕ
   moved q = record { node = name i q.node; enter = q.enter; leave = q.leave }
 
-  leads : (from to : ℕ × ℕ) (ps : List (Passage ℕ)) → Leads (graph_of p.symbols (parts i)) from ps to → Leads (graph_of p.symbols whole) (name i from.0, from.1) (map moved ps) (name i to.0, to.1)
+  leads : (from to : ℕ × ℕ) (ps : List (Passage ℕ)) → LeadsThrough (graph_of p.symbols (parts i)) from ps to → LeadsThrough (graph_of p.symbols whole) (name i from.0, from.1) (map moved ps) (name i to.0, to.1)
   leads from to [] w = wire_placed (Port from.0 from.1) (Port to.0 to.1) (Port (name i from.0) from.1) (Port (name i to.0) to.1) (λ h. h) (λ h. h) refl refl w
   leads from to (q ∷ qs) w = (
     wire_placed (Port from.0 from.1) (Port q.node q.enter) (Port (name i from.0) from.1) (Port (name i q.node) q.enter) (λ h. h) (λ h. h) refl refl w.0,

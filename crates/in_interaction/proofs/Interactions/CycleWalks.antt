@@ -2,7 +2,7 @@
 use Rattle.std.proofs.Common.{◌≡◌, ◌≢◌, ◌⊎◌, ℕ, Bool, List, [], ◌∷◌, ◌++◌, map, refl, sym, subst, ap, inl, inr, ◌∙◌, append-nil, append_assoc}
 use Rattle.std.specs.List.{AllByRecursion}
 use Rattle.std.proofs.lemmas.List.{map-append}
-use Rattle.in_base.specs.Graphs.{Graph, Passage, entered, left, Leads, IsCrossing, AreApart}
+use Rattle.in_base.specs.Graphs.{Graph, Passage, entered, left, LeadsThrough, IsCrossing, AreApart}
 use Rattle.in_net.specs.Graphs.{graph_of}
 use Rattle.in_net.specs.Nets.{Signature, Net}
 use Rattle.in_net.specs.Interactions.{Redex, Outer, class_node, open_member}
@@ -11,7 +11,7 @@ use Rattle.in_interaction.proofs.Interactions.Compress.{outer_inner}
 use Rattle.in_interaction.proofs.Interactions.Cycles.{apart_turned, different_turned, apart_after}
 use Rattle.in_base.proofs.Each.{all_map, all_append, all_left, all_right}
 
-leads_join : (g : Graph) (from to : g.Node × ℕ) (xs : List (Passage g.Node)) (q : Passage g.Node) (ys : List (Passage g.Node)) → Leads g from xs (entered q) → Leads g (left q) ys to → Leads g from (xs ++ q ∷ ys) to
+leads_join : (g : Graph) (from to : g.Node × ℕ) (xs : List (Passage g.Node)) (q : Passage g.Node) (ys : List (Passage g.Node)) → LeadsThrough g from xs (entered q) → LeadsThrough g (left q) ys to → LeadsThrough g from (xs ++ q ∷ ys) to
 leads_join g from to [] q ys w v = (w, v)
 leads_join g from to (x ∷ xs) q ys w v = (w.0, leads_join g (left x) to xs q ys w.1 v)
 
@@ -50,15 +50,15 @@ module _ {A B : Type 0} (sig : Signature) (n : Net A) (x : Redex A B) where
 
   -- from an inner piece on the walk leads to the boundary end at which an outer one begins
   leads : (e : ℕ) (ps : List (Passage B)) (f : ℕ) (qs : List (Piece A B)) (t : Piece A B) → lies t ≡ Outer → FollowInTurn (Inside e ps f) qs t → AllByRecursion (IsPiece sig n x) (Inside e ps f ∷ qs) → AllByRecursion (IsPassage sig x) qs →
-      Leads (open_member sig x) (port e) (walk (Inside e ps f ∷ qs)) (port (begins t))
-  leads e ps f [] t o w h k = subst (λ z. Leads (open_member sig x) (port e) z (port (begins t))) (sym (append-nil (map (renamed (λ y. inl y)) ps))) (subst (λ z. Leads (open_member sig x) (port e) (map (renamed (λ y. inl y)) ps) (port z)) w.0 h.0.leads)
+      LeadsThrough (open_member sig x) (port e) (walk (Inside e ps f ∷ qs)) (port (begins t))
+  leads e ps f [] t o w h k = subst (λ z. LeadsThrough (open_member sig x) (port e) z (port (begins t))) (sym (append-nil (map (renamed (λ y. inl y)) ps))) (subst (λ z. LeadsThrough (open_member sig x) (port e) (map (renamed (λ y. inl y)) ps) (port z)) w.0 h.0.leads)
   leads e ps f (Outside a os b ∷ []) t o w h k = absurd (outer_inner (sym o ∙ w.1.1))
   leads e ps f (Outside a os b ∷ Inside c is d ∷ qs) t o w h k =
       let rest = leads c is d qs t o w.1.1 (h.1.1.0, h.1.1.1) k.1.1 in
-      let here : Leads (open_member sig x) (left (through a b)) (walk (Inside c is d ∷ qs)) (port (begins t)) =
-      subst (λ z. Leads (open_member sig x) (inr z, b) (walk (Inside c is d ∷ qs)) (port (begins t))) (sym k.0.0) (subst (λ z. Leads (open_member sig x) (port z) (walk (Inside c is d ∷ qs)) (port (begins t))) (sym w.1.0.0) rest) in
+      let here : LeadsThrough (open_member sig x) (left (through a b)) (walk (Inside c is d ∷ qs)) (port (begins t)) =
+      subst (λ z. LeadsThrough (open_member sig x) (inr z, b) (walk (Inside c is d ∷ qs)) (port (begins t))) (sym k.0.0) (subst (λ z. LeadsThrough (open_member sig x) (port z) (walk (Inside c is d ∷ qs)) (port (begins t))) (sym w.1.0.0) rest) in
       leads_join (open_member sig x) (port e) (port (begins t)) (map (renamed (λ y. inl y)) ps) (through a b) (walk (Inside c is d ∷ qs))
-      (subst (λ z. Leads (open_member sig x) (port e) (map (renamed (λ y. inl y)) ps) (port z)) w.0.0 h.0.leads) here
+      (subst (λ z. LeadsThrough (open_member sig x) (port e) (map (renamed (λ y. inl y)) ps) (port z)) w.0.0 h.0.leads) here
   leads e ps f (Outside a os b ∷ Outside c is d ∷ qs) t o w h k = absurd (outer_inner w.1.0.1)
   leads e ps f (Inside a os b ∷ qs) t o w h k = absurd (outer_inner (sym w.0.1))
 
@@ -206,7 +206,7 @@ module _ {A B : Type 0} (sig : Signature) (n : Net A) (x : Redex A B) where
       record {
         first = through e f;
         rest = walk (Inside c is b ∷ rs);
-        closed = subst (λ z. Leads (open_member sig x) (inr z, f) (walk (Inside c is b ∷ rs)) (port e)) (sym k.0.0) (subst (λ z. Leads (open_member sig x) (port z) (walk (Inside c is b ∷ rs)) (port e)) (sym w.0.0) on);
+        closed = subst (λ z. LeadsThrough (open_member sig x) (inr z, f) (walk (Inside c is b ∷ rs)) (port e)) (sym k.0.0) (subst (λ z. LeadsThrough (open_member sig x) (port z) (walk (Inside c is b ∷ rs)) (port e)) (sym w.0.0) on);
         crossing = cross;
         ports = ports_differ (walk (Outside e ps f ∷ Inside c is b ∷ rs)) cross apart;
         agents = agents_once (walk (Outside e ps f ∷ Inside c is b ∷ rs)) apart;

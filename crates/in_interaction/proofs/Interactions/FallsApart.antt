@@ -2,7 +2,7 @@
 use Rattle.std.proofs.Common.{◌≡◌, ◌≢◌, ◌⊎◌, ℕ, Some, List, [], ◌∷◌, ◌++◌, map, refl, sym, subst, ap, inl, inr, ◌∙◌, append-nil}
 use Rattle.std.specs.List.{AllByRecursion}
 use Rattle.std.proofs.lemmas.List.{map-append}
-use Rattle.in_base.specs.Graphs.{Passage, Leads, IsCrossing, AreApart}
+use Rattle.in_base.specs.Graphs.{Passage, LeadsThrough, IsCrossing, AreApart}
 use Rattle.in_net.specs.Graphs.{graph_of}
 use Rattle.in_net.specs.Nets.{Port, Free, Signature, AreClasses, Net, IsNet}
 use Rattle.in_net.specs.Interactions.{Redex, IsRedex, Side, Outer, Inner, other, open_port, open_member}
@@ -59,8 +59,8 @@ module _ {A B : Type 0} (sig : Signature) (classed : AreClasses sig) (n : Net A)
   piece Inner e ps f = Inside e ps f
 
   abbrev Goes : (s : Side) → Place A B → Agents s → ℕ → Type 0
-  Goes Outer p ps f = Leads (graph_of sig n) (outer_port (sides sig n x) p) ps (end_port sig x f) × AllByRecursion (IsCrossing (graph_of sig n)) ps × AllByRecursion (λ q. (q.node ≢ x.one) × (q.node ≢ x.two)) ps
-  Goes Inner p ps f = Leads (open_member sig x) (inner_port (sides sig n x) p) (map (renamed (λ y. inl y)) ps) (open_port sig x (Free f)) × AllByRecursion (IsCrossing (graph_of sig x.member)) ps
+  Goes Outer p ps f = LeadsThrough (graph_of sig n) (outer_port (sides sig n x) p) ps (end_port sig x f) × AllByRecursion (IsCrossing (graph_of sig n)) ps × AllByRecursion (λ q. (q.node ≢ x.one) × (q.node ≢ x.two)) ps
+  Goes Inner p ps f = LeadsThrough (open_member sig x) (inner_port (sides sig n x) p) (map (renamed (λ y. inl y)) ps) (open_port sig x (Free f)) × AllByRecursion (IsCrossing (graph_of sig x.member)) ps
 
   -- a walk to boundary end e, cut at its boundary ends: what is left of the piece in which it begins, and the later pieces
   record Cut (s : Side) (p : Place A B) (ss : List (Stop A B)) (t : Side) (e : ℕ) : Type 0 where
@@ -181,7 +181,7 @@ module _ {A B : Type 0} (sig : Signature) (classed : AreClasses sig) (n : Net A)
 
   -- a walk without boundary ends goes by agents that stay alone, or by new agents alone
   outside : (ss : List (Stop A B)) (p : Place A B) (y : A) (i : ℕ) → IsOn p → AllByRecursion IsAgent ss → AllByRecursion (IsCrossingStop sig n x) ss → Passes sig n x (Outer, p) ss (Outer, Old y i) →
-      (ps : List (Passage A)) × Leads (graph_of sig n) (outer_port (sides sig n x) p) ps (y, i) × AllByRecursion (IsCrossing (graph_of sig n)) ps × (agents_of ss ≡ map (renamed (λ y. inl y)) ps)
+      (ps : List (Passage A)) × LeadsThrough (graph_of sig n) (outer_port (sides sig n x) p) ps (y, i) × AllByRecursion (IsCrossing (graph_of sig n)) ps × (agents_of ss ≡ map (renamed (λ y. inl y)) ps)
   outside [] p y i on a h w = ([], (are_sides sig n x net inside redex classed).outer p (Old y i) on tt w.1, tt, refl)
   outside (At_old z k j ∷ ss) p y i on a h w =
       let r = outside ss (Old z j) y i tt a.1 h.1 w.3 in
@@ -193,7 +193,7 @@ module _ {A B : Type 0} (sig : Signature) (classed : AreClasses sig) (n : Net A)
   inner_wire y z i j w = sym (ap x.member.partner w.2) ∙ w.4 ∙ ap (λ v. Some v) w.3
 
   within : (ss : List (Stop A B)) (z : B) (k : ℕ) (y : B) (i : ℕ) → AllByRecursion IsAgent ss → AllByRecursion (IsCrossingStop sig n x) ss → Passes sig n x (Inner, New z k) ss (Inner, New y i) →
-      (ps : List (Passage B)) × Leads (graph_of sig x.member) (z, k) ps (y, i) × AllByRecursion (IsCrossing (graph_of sig x.member)) ps × (agents_of ss ≡ map (renamed (λ y. inr y)) ps)
+      (ps : List (Passage B)) × LeadsThrough (graph_of sig x.member) (z, k) ps (y, i) × AllByRecursion (IsCrossing (graph_of sig x.member)) ps × (agents_of ss ≡ map (renamed (λ y. inr y)) ps)
   within [] z k y i a h w = ([], inner_wire z y k i w.1, tt, refl)
   within (At_new v l j ∷ ss) z k y i a h w =
       let r = within ss v j y i a.1 h.1 w.3 in

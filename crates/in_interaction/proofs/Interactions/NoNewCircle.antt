@@ -2,7 +2,7 @@
 use Rattle.std.proofs.Common.{◌≡◌, ◌⊎◌, ℕ, Bool, List, [], ◌∷◌, map, refl, inl}
 use Rattle.std.specs.List.{AllByRecursion}
 use mathlib.Core.HLevel.{Discrete}
-use Rattle.in_base.specs.Graphs.{Passage, Leads, CrossingCircle}
+use Rattle.in_base.specs.Graphs.{Passage, LeadsThrough, CrossingCircle}
 use Rattle.in_net.specs.Graphs.{graph_of}
 use Rattle.in_net.specs.Nets.{Port, Signature, AreClasses, Net, IsNet}
 use Rattle.in_net.specs.Interactions.{Redex, IsRedex, IsStep, open_member}
@@ -17,7 +17,7 @@ use Rattle.in_interaction.proofs.Interactions.Rounds.{shortens}
 
 -- a crossing circle of the right member is one of the open right member
 module _ {A B : Type 0} (sig : Signature) (x : Redex A B) where
-  leads_in : (y z : B) (i j : ℕ) (ps : List (Passage B)) → Leads (graph_of sig x.member) (y, i) ps (z, j) → Leads (open_member sig x) (inl y, i) (map (renamed (λ y. inl y)) ps) (inl z, j)
+  leads_in : (y z : B) (i j : ℕ) (ps : List (Passage B)) → LeadsThrough (graph_of sig x.member) (y, i) ps (z, j) → LeadsThrough (open_member sig x) (inl y, i) (map (renamed (λ y. inl y)) ps) (inl z, j)
   leads_in y z i j [] w = (Port y i, Port z j, refl, refl, w)
   leads_in y z i j (p ∷ ps) w = ((Port y i, Port p.node p.enter, refl, refl, w.0), leads_in p.node z p.leave j ps w.1)
 

@@ -3,7 +3,7 @@ use Rattle.std.proofs.Common.{◌≡◌, ◌≢◌, ℕ, suc, ◌-◌, Bool, tru
 use Rattle.std.specs.List.{AllByRecursion}
 use mathlib.Core.HLevel.{Discrete}
 use native.Mathlib.Decide.{ℕ_discrete}
-use Rattle.in_base.specs.Graphs.{Graph, Passage, entered, left, Leads, IsCrossing, AreApart, CrossingCircle}
+use Rattle.in_base.specs.Graphs.{Graph, Passage, entered, left, LeadsThrough, IsCrossing, AreApart, CrossingCircle}
 use Rattle.in_net.specs.Graphs.{class_of_symbol, graph_of}
 use Rattle.in_net.specs.Nets.{Point, Port, Signature, AreClasses, Net, IsNet}
 use Rattle.in_base.proofs.Circuits.{Walk, IsEntered, IsLeft, each_any, not_entered, not_left, crossings_separate, leads_walk}
@@ -13,7 +13,7 @@ use Rattle.in_interaction.proofs.Interactions.Pieces.{close_one, close_two}
 use Rattle.in_base.proofs.Each.{all_map}
 
 -- the last wire of a walk
-last_wire : (g : Graph) (P : Passage g.Node → Type 0) (p : Passage g.Node) (qs : List (Passage g.Node)) (to : g.Node × ℕ) → P p → AllByRecursion P qs → Leads g (left p) qs to → (r : Passage g.Node) × P r × g.Wire (left r) to
+last_wire : (g : Graph) (P : Passage g.Node → Type 0) (p : Passage g.Node) (qs : List (Passage g.Node)) (to : g.Node × ℕ) → P p → AllByRecursion P qs → LeadsThrough g (left p) qs to → (r : Passage g.Node) × P r × g.Wire (left r) to
 last_wire g P p [] to h all w = (p, h, w)
 last_wire g P p (q ∷ qs) to h all w = last_wire g P q qs to all.0 all.1 w.1
 
@@ -27,7 +27,7 @@ module _ {A B : Type 0} (sig : Signature) (n : Net A) (x : Redex A B) (classed :
   L : A × ℕ → Type 0
   L = IsLeft ps
 
-  walk : (u v : A × ℕ) → Leads g u ps v → Walk g (IsEntered ps) (IsLeft ps) u ps v
+  walk : (u v : A × ℕ) → LeadsThrough g u ps v → Walk g (IsEntered ps) (IsLeft ps) u ps v
   walk u v w = leads_walk g (IsEntered ps) (IsLeft ps) u v ps w (each_any (λ p q. entered q ≡ entered p) (λ p. refl) ps) (each_any (λ p q. left q ≡ left p) (λ p. refl) ps)
 
   not_one : AllByRecursion (λ p. x.one ≢ p.node) ps
@@ -39,7 +39,7 @@ module _ {A B : Type 0} (sig : Signature) (n : Net A) (x : Redex A B) (classed :
   class_at : (y : A) (s i : ℕ) → n.symbol y ≡ Some s → g.class y i ≡ sig.class_of s i
   class_at y s i e = ap (λ o. class_of_symbol sig o i) e
 
-  at_one : (i j : ℕ) → Leads g (x.one, j) ps (x.one, i) → sig.class_of x.first j ≡ sig.class_of x.first i
+  at_one : (i j : ℕ) → LeadsThrough g (x.one, j) ps (x.one, i) → sig.class_of x.first j ≡ sig.class_of x.first i
   at_one i j w = elim (ℕ_discrete (sig.class_of x.first j) (sig.class_of x.first i)) [
     | yes e ↦ e
     | no d ↦ absurd (none (close_one g same (IsEntered ps) (IsLeft ps) (crossings_separate g ps crossing apart) x.one i j
@@ -47,7 +47,7 @@ module _ {A B : Type 0} (sig : Signature) (n : Net A) (x : Redex A B) (classed :
         (λ v h e. not_entered x.one v ps not_one h (sym e)) (λ v h e. not_left x.one v ps not_one h (sym e)) ps (walk (x.one, j) (x.one, i) w)))
   ]
 
-  at_two : (i j : ℕ) → Leads g (x.two, j) ps (x.two, i) → sig.class_of x.second j ≡ sig.class_of x.second i
+  at_two : (i j : ℕ) → LeadsThrough g (x.two, j) ps (x.two, i) → sig.class_of x.second j ≡ sig.class_of x.second i
   at_two i j w = elim (ℕ_discrete (sig.class_of x.second j) (sig.class_of x.second i)) [
     | yes e ↦ e
     | no d ↦ absurd (none (close_one g same (IsEntered ps) (IsLeft ps) (crossings_separate g ps crossing apart) x.two i j
@@ -55,7 +55,7 @@ module _ {A B : Type 0} (sig : Signature) (n : Net A) (x : Redex A B) (classed :
         (λ v h e. not_entered x.two v ps not_two h (sym e)) (λ v h e. not_left x.two v ps not_two h (sym e)) ps (walk (x.two, j) (x.two, i) w)))
   ]
 
-  one_two : (i j : ℕ) → Leads g (x.one, suc j) ps (x.two, suc i) → ⊥
+  one_two : (i j : ℕ) → LeadsThrough g (x.one, suc j) ps (x.two, suc i) → ⊥
   one_two i j w = none (close_two g same (IsEntered ps) (IsLeft ps) (crossings_separate g ps crossing apart) x.one x.two (suc i) (suc j) redex.differ
       (net.back (Port x.one 0) (Port x.two 0) redex.active)
       (λ c. classed x.second i (sym (class_at x.two x.second (suc i) redex.two) ∙ c ∙ class_at x.two x.second 0 redex.two))
@@ -63,7 +63,7 @@ module _ {A B : Type 0} (sig : Signature) (n : Net A) (x : Redex A B) (classed :
       (λ v h. ((λ e. not_entered x.one v ps not_one h (sym e)), (λ e. not_entered x.two v ps not_two h (sym e))))
       (λ v h. ((λ e. not_left x.one v ps not_one h (sym e)), (λ e. not_left x.two v ps not_two h (sym e)))) ps (walk (x.one, suc j) (x.two, suc i) w))
 
-  two_one : (i j : ℕ) → Leads g (x.two, suc j) ps (x.one, suc i) → ⊥
+  two_one : (i j : ℕ) → LeadsThrough g (x.two, suc j) ps (x.one, suc i) → ⊥
   two_one i j w = none (close_two g same (IsEntered ps) (IsLeft ps) (crossings_separate g ps crossing apart) x.two x.one (suc i) (suc j) (λ e. redex.differ (sym e))
       redex.active
       (λ c. classed x.first i (sym (class_at x.one x.first (suc i) redex.one) ∙ c ∙ class_at x.one x.first 0 redex.one))
@@ -71,13 +71,13 @@ module _ {A B : Type 0} (sig : Signature) (n : Net A) (x : Redex A B) (classed :
       (λ v h. ((λ e. not_entered x.two v ps not_two h (sym e)), (λ e. not_entered x.one v ps not_one h (sym e))))
       (λ v h. ((λ e. not_left x.two v ps not_two h (sym e)), (λ e. not_left x.one v ps not_one h (sym e)))) ps (walk (x.two, suc j) (x.one, suc i) w))
 
-  one_node : (e f : ℕ) → Leads g (end_port sig x e) ps (end_port sig x f) → class_node sig x e ≡ class_node sig x f
+  one_node : (e f : ℕ) → LeadsThrough g (end_port sig x e) ps (end_port sig x f) → class_node sig x e ≡ class_node sig x f
   one_node e f w = go (of_first sig x e) (of_first sig x f) w
     where
       place : Bool → ℕ → ℕ
       place b e = cond b (suc e) (suc (e - sig.arity x.first))
 
-      go : (b c : Bool) → Leads g (cond b x.one x.two, cond b (suc e) (suc (e - sig.arity x.first))) ps (cond c x.one x.two, cond c (suc f) (suc (f - sig.arity x.first))) →
+      go : (b c : Bool) → LeadsThrough g (cond b x.one x.two, cond b (suc e) (suc (e - sig.arity x.first))) ps (cond c x.one x.two, cond c (suc f) (suc (f - sig.arity x.first))) →
           ◌≡◌ {A = Bool × ℕ} (b, sig.class_of (cond b x.first x.second) (cond b (suc e) (suc (e - sig.arity x.first)))) (c, sig.class_of (cond c x.first x.second) (cond c (suc f) (suc (f - sig.arity x.first))))
       go true true w = ap (λ (z : ℕ). (true, z)) (at_one (suc f) (suc e) w)
       go true false w = absurd (one_two (f - sig.arity x.first) e w)
@@ -85,8 +85,8 @@ module _ {A B : Type 0} (sig : Signature) (n : Net A) (x : Redex A B) (classed :
       go false false w = ap (λ (z : ℕ). (false, z)) (at_two (suc (f - sig.arity x.first)) (suc (e - sig.arity x.first)) w)
 
   -- a walk doesn't come back by the port by which it left
-  other_port : (u v : A × ℕ) → u ≡ v → Leads g u ps v → ⊥
-  other_port u v e w = go ps crossing apart (subst (λ z. Leads g u ps z) (sym e) w)
+  other_port : (u v : A × ℕ) → u ≡ v → LeadsThrough g u ps v → ⊥
+  other_port u v e w = go ps crossing apart (subst (λ z. LeadsThrough g u ps z) (sym e) w)
     where
       pair : (a b : A) (i j : ℕ) → ◌≡◌ {A = Point A} (Port a i) (Port b j) → ◌≡◌ {A = A × ℕ} (a, i) (b, j)
       pair a b i j h = let k : a ≡ b = cc in let l : i ≡ j = cc in ap (λ (z : A). (z, i)) k ∙ ap (λ (z : ℕ). (b, z)) l
@@ -94,7 +94,7 @@ module _ {A B : Type 0} (sig : Signature) (n : Net A) (x : Redex A B) (classed :
       one : (p q : Point A) → n.partner (Port u.0 u.1) ≡ Some p → n.partner (Port u.0 u.1) ≡ Some q → p ≡ q
       one p q h k = cc
 
-      go : (ps : List (Passage A)) → AllByRecursion (IsCrossing g) ps → AreApart ps → Leads g u ps u → ⊥
+      go : (ps : List (Passage A)) → AllByRecursion (IsCrossing g) ps → AreApart ps → LeadsThrough g u ps u → ⊥
       go [] c a w = net.apart (Port u.0 u.1) w
       go (p ∷ qs) c a w =
           let r = last_wire g (λ r. p.node ≡ r.node → left r ≡ left p) p qs u (λ h. refl) (all_map (λ q. p.node ≢ q.node) (λ r. p.node ≡ r.node → left r ≡ left p) (λ q d h. absurd (d h)) qs a.0) w.1 in

@@ -1,7 +1,7 @@
 -- A vicious circle is a crossing one, since the principal port is a class by itself.
 use Rattle.std.proofs.Common.{◌≢◌, ℕ, zero, suc, List, [], ◌∷◌, refl, sym, ap, ◌∙◌}
 use Rattle.std.specs.List.{AllByRecursion}
-use Rattle.in_base.specs.Graphs.{Passage, entered, left, Leads, IsCrossing, IsFromPrincipal, CrossingCircle, ViciousCircle}
+use Rattle.in_base.specs.Graphs.{Passage, entered, left, LeadsThrough, IsCrossing, IsFromPrincipal, CrossingCircle, ViciousCircle}
 use Rattle.in_net.specs.Graphs.{class_of_symbol, graph_of}
 use Rattle.in_net.specs.Nets.{Port, Signature, AreClasses, Net, IsPoint, IsNet}
 use Rattle.in_net.proofs.Public.{symbol_of}
@@ -20,11 +20,11 @@ module _ {A : Type 0} (sig : Signature) (classed : AreClasses sig) (n : Net A) (
   far_end : (u v : A × ℕ) → (graph_of sig n).Wire u v → IsPoint sig n (Port v.0 v.1)
   far_end u v w = net.points (Port v.0 v.1) (Port u.0 u.1) (net.back (Port u.0 u.1) (Port v.0 v.1) w)
 
-  last_end : (u v : A × ℕ) (ps : List (Passage A)) → Leads (graph_of sig n) u ps v → IsPoint sig n (Port v.0 v.1)
+  last_end : (u v : A × ℕ) (ps : List (Passage A)) → LeadsThrough (graph_of sig n) u ps v → IsPoint sig n (Port v.0 v.1)
   last_end u v [] w = far_end u v w
   last_end u v (p ∷ ps) w = last_end (left p) v ps w.1
 
-  all_cross : (u v : A × ℕ) (ps : List (Passage A)) → Leads (graph_of sig n) u ps v → AllByRecursion IsFromPrincipal ps → AllByRecursion (IsCrossing (graph_of sig n)) ps
+  all_cross : (u v : A × ℕ) (ps : List (Passage A)) → LeadsThrough (graph_of sig n) u ps v → AllByRecursion IsFromPrincipal ps → AllByRecursion (IsCrossing (graph_of sig n)) ps
   all_cross u v [] w h = tt
   all_cross u v (p ∷ ps) w h = (crosses p (far_end u (entered p) w.0) h.0, all_cross (left p) v ps w.1 h.1)
 

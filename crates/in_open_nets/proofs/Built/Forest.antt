@@ -3,7 +3,7 @@ use Rattle.std.proofs.Common.{◌≡◌, ◌⊎◌, ◌<◌, ◌≤◌, ◌+◌,
 use Rattle.in_open_nets.specs.Constructions.{IsIn}
 use Rattle.in_open_nets.specs.OpenNets.{OpenNet}
 use Rattle.in_open_nets.specs.declared.derivations.Step.{Step}
-use Rattle.in_open_nets.specs.Derivations.{Part, named, own_nodes, own_links, is_among, nodes_of, links_of, ShareNothing, AreDifferent, AreEarlier, Joins, BuildsPart, times, times_in}
+use Rattle.in_open_nets.specs.Derivations.{Part, named, own_nodes, own_links, is_among, nodes_of, links_of, ShareNothing, HaveNoRepeats, AreEarlier, Joins, BuildsPart, times, times_in}
 use Rattle.in_base.proofs.Places.{kept_at}
 use Rattle.in_base.proofs.Places.{some_same}
 use Rattle.in_open_nets.proofs.PartsOf.Sums.{not_both, one_same, one_other}
@@ -69,7 +69,7 @@ share_app (x ∷ xs) ys s t f g = (
   share_app xs ys s.2 t (λ n h k. f n (or_right (x.nodes n) (nodes_of xs n) h) k) (λ w h k. g w (or_right (x.links w) (links_of xs w) h) k),
 )
 
-pub different_of : (ns : List ℕ) → ((j : ℕ) → times j ns ≤ 1) → AreDifferent ns
+pub different_of : (ns : List ℕ) → ((j : ℕ) → times j ns ≤ 1) → HaveNoRepeats ns
 different_of [] h = tt
 different_of (n ∷ ns) h = (
   false_from_ne_true (is_among n ns) (λ a. let t = times_among n ns a in let u = h n in let v = one_same n n refl in omega arith),
@@ -217,7 +217,7 @@ module _ (o : OpenNet) where
             subst (λ u. BuildsPart o all (k + i) u x) same (record {
               from = t;
               earlier = subst (λ u. AreEarlier all (k + i) u t) (sym names) (subst (λ u. AreEarlier all u r t) (sym z) (f.earlier all (left all a)));
-              different = subst AreDifferent (sym names) (different_of r few);
+              different = subst HaveNoRepeats (sym names) (different_of r few);
               apart = f.share;
               nodes = nodes;
               links = links;

@@ -2,7 +2,7 @@
 use Rattle.std.proofs.Common.{◌≤◌, ◌≡◌, ◌≢◌, ◌⊎◌, ◌<◌, ℕ, Bool, true, nat_eq, List, [], ◌∷◌, ◌++◌, refl, sym, subst, inl, inr, ◌∙◌, eq-eqb}
 use mathlib.Core.HLevel.{Discrete}
 use Rattle.std.specs.List.{AllByRecursion}
-use Rattle.in_base.specs.Graphs.{Graph, Passage, entered, left, Leads, CrossingCircle}
+use Rattle.in_base.specs.Graphs.{Graph, Passage, entered, left, LeadsThrough, CrossingCircle}
 use Rattle.in_open_nets.specs.Constructions.{IsIn, AreParts, numbered, IsGraft, Built, empty, given, mix, cut, graft}
 use Rattle.in_base.proofs.Circuits.{Walk, AreSeparate, Circuit, Found, find, rotate, IsEntered, IsLeft, crossings_separate, circuit_of}
 use Rattle.in_open_nets.proofs.PartsOf.Sums.{not_both, swap_parts}
@@ -138,7 +138,7 @@ module _ (g : Graph) (same : Discrete g.Node) (E L : g.Node × ℕ → Type 0) (
           net (r.others c.first.node h.0 (λ i. e (sym i))) (r.most c.first.node h.0 (λ i. e (sym i))) (avoid n s part (classes n) r c.first c.rest (entered c.first) c.closed h (e, f))
 
 -- the nodes of a walk and the one where it ends are where each wire ends
-leads_in : (g : Graph) (s : g.Node → Bool) → ((u v : g.Node × ℕ) → g.Wire u v → IsIn v.0 s) → (from to : g.Node × ℕ) (ps : List (Passage g.Node)) → Leads g from ps to → AllByRecursion (λ q. IsIn q.node s) ps × IsIn to.0 s
+leads_in : (g : Graph) (s : g.Node → Bool) → ((u v : g.Node × ℕ) → g.Wire u v → IsIn v.0 s) → (from to : g.Node × ℕ) (ps : List (Passage g.Node)) → LeadsThrough g from ps to → AllByRecursion (λ q. IsIn q.node s) ps × IsIn to.0 s
 leads_in g s all from to [] w = (tt, all from to w)
 leads_in g s all from to (p ∷ ps) w =
     let r = leads_in g s all (left p) to ps w.1 in

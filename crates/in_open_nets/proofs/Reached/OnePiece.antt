@@ -6,7 +6,7 @@ use Rattle.std.proofs.lemmas.List.{length-set}
 use Rattle.in_open_nets.specs.declared.open_nets.OpenPoint.TheVariants.{Port}
 use Rattle.in_open_nets.specs.Constructions.{IsIn}
 use Rattle.in_open_nets.specs.OpenNets.{OpenNet, IsWire, IsOpenNet, open_graph}
-use Rattle.in_open_nets.specs.Pieces.{AreJoinedWithin, AreMet, AreNeighboursJoined, AreTogether, IsJoinedTo, IsMetAt, IsLeftOf, IsNeighbourOf, IsPiece}
+use Rattle.in_open_nets.specs.Pieces.{AreJoinedWithin, AreMet, AreNeighboursJoined, AreTogether, IsJoinedTo, IsMetAt, IsLeftOf, IsNeighbourOf, IsOnePiece}
 use Rattle.in_open_nets.specs.Members.{nodes_in, missing}
 use Rattle.in_open_nets.specs.Parts.{IsNeighbour, IsReached, IsRest, IsSearch}
 use Rattle.in_open_nets.specs.Splitting.{IsComponent, Linked, alone, onward}
@@ -50,7 +50,7 @@ module _ (o : OpenNet) (s : List Bool) where
       here : (k : ℕ) → IsNeighbourOf o s n k → IsIn k (nodes_in these)
       here k x = met x.0 (in_ports o net x.1 n x.0 (Port k x.2) x.3) x.1 k x.2 x.3 x.4
 
-  pub piece_reached : (from : ℕ) → IsPiece o s → IsIn from (nodes_in s) → IsReached o s from s
+  pub piece_reached : (from : ℕ) → IsOnePiece o s → IsIn from (nodes_in s) → IsReached o s from s
   piece_reached from p h k = ((λ x. p from k h x), λ x. link_last (open_graph o) (λ m. IsIn m (nodes_in s)) from k x)
 
 module _ (o : OpenNet) (within : List Bool) (n i : ℕ) (these : List Bool) where
@@ -67,7 +67,7 @@ pub joined_to : (o : OpenNet) (within these : List Bool) (from k l i j w : ℕ) 
 joined_to o within these from k l i j w h g inside here = (l, here, link_snoc o (λ m. IsIn m (nodes_in within)) from k l i j w h g inside)
 
 -- a component is in one piece
-pub component_piece : (o : OpenNet) (P : ℕ → Type 0) → ((n : ℕ) → Decided (P n)) → (c : List Bool) → IsComponent (open_graph o) P (nodes_in c) → IsPiece o c
+pub component_piece : (o : OpenNet) (P : ℕ → Type 0) → ((n : ℕ) → Decided (P n)) → (c : List Bool) → IsComponent (open_graph o) P (nodes_in c) → IsOnePiece o c
 component_piece o P dec c part k l x y = within k l x (link_join o P dec k part.0 l (link_back o P dec part.0 k ((part.2 k).0 x)) ((part.2 l).0 y))
   where
     within : (k l : ℕ) → IsIn k (nodes_in c) → Linked (open_graph o) P k l → AreJoinedWithin o c k l
@@ -86,7 +86,7 @@ module _ (o : OpenNet) (part rest : List Bool) (n : ℕ) (left : IsRest n part r
         elim (on_the_way m l q z y) [ inl a ↦ inl (onward k m l i j x w a) | inr a ↦ inr (a.0, a.1, onward k m a.0 i j x w a.2) ]
   ]
 
-  pub rest_piece : IsPiece o part → AreNeighboursJoined o rest n → IsPiece o rest
+  pub rest_piece : IsOnePiece o part → AreNeighboursJoined o rest n → IsOnePiece o rest
   rest_piece p joins k l x y = elim (on_the_way k l (p k l ((left k).0 x).0 ((left l).0 y).0) x y) [
     | inl h ↦ h
     | inr u ↦ elim (on_the_way l k (p l k ((left l).0 y).0 ((left k).0 x).0) y x) [
@@ -114,5 +114,5 @@ rest_missing part rest n size left =
     ]
 
 -- where two nodes lack, the set was not the whole net
-pub left_piece : (o : OpenNet) (n : ℕ) (rest : List Bool) → IsLeftOf o n rest → 1 < missing rest → AreNeighboursJoined o rest n → IsPiece o rest
+pub left_piece : (o : OpenNet) (n : ℕ) (rest : List Bool) → IsLeftOf o n rest → 1 < missing rest → AreNeighboursJoined o rest n → IsOnePiece o rest
 left_piece o n rest h few joins = let a = rest_missing h.0 rest n h.1 h.2 in rest_piece o h.0 rest n h.2 (h.3 (omega arith)) joins

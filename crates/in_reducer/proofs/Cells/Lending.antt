@@ -2,7 +2,7 @@
 use Rattle.std.proofs.Common.{◌≡◌, ◌⊎◌, inl, inr, ◌<◌, ◌≤◌, ℕ, zero, suc, Some, List, [], ◌∷◌, ◌++◌, length, length-append, map, get_or, remove, set, slice_get, All, refl, sym, ap, subst, ◌∙◌, arith}
 use Rattle.std.proofs.lemmas.List.Elements.{All-cons, All-head, All-tail}
 use Rattle.in_arena.specs.Arenas.{ArenaView, NoneLeased, state_at}
-use Rattle.in_arena.specs.Bags.{IsBagOf, IsIn}
+use Rattle.in_arena.specs.Bags.{IsBagOf, IsInBag}
 use Rattle.in_arena.specs.States.{State, Vacant, Leased, Live, IsLeased}
 use Rattle.in_arena.proofs.Public.{leased_or}
 use Rattle.in_compile.specs.Stocks.{Regains}
@@ -106,7 +106,7 @@ module _ (a b bag : ArenaView) (of : IsBagOf bag a) (back : Regains (λ _. Vacan
   pub back_alike : (n : ℕ) → n < length a.states → IsAlike (state_at a n) (state_at b n)
   back_alike n l = go (leased_or (state_at bag n))
     where
-      go : (state_at bag n ≡ Leased) ⊎ IsIn bag n → IsAlike (state_at a n) (state_at b n)
+      go : (state_at bag n ≡ Leased) ⊎ IsInBag bag n → IsAlike (state_at a n) (state_at b n)
       go (inl out) = inl (back.others n out)
       go (inr here) = inr (inl (of.leased n here, back.back n here))
 
@@ -119,7 +119,7 @@ module _ (a b bag : ArenaView) (of : IsBagOf bag a) (back : Regains (λ _. Vacan
     none = λ n l leased. still n leased (leased_or (state_at bag n));
   }
     where
-      still : (n : ℕ) → IsLeased (state_at b n) → (state_at bag n ≡ Leased) ⊎ IsIn bag n → IsLeased (state_at a n) × (state_at bag n ≡ Leased)
+      still : (n : ℕ) → IsLeased (state_at b n) → (state_at bag n ≡ Leased) ⊎ IsInBag bag n → IsLeased (state_at a n) × (state_at bag n ≡ Leased)
       still n leased (inl out) = (subst IsLeased (back.others n out) leased, out)
       still n leased (inr here) = absurd (subst IsLeased (back.back n here) leased)
 
@@ -198,7 +198,7 @@ module _ (slots : List Slot) (j : ℕ) (d : DoneParts) (at : slice_get slots j �
 
   module _ (b : ArenaView) (settled : AreSettled d.placed.placed.bag a b) where
     -- a cell of one that is left is none of those taken
-    apart : (n : ℕ) → 0 < holders n (bags_of (set slots j Taken)) → (state_at d.placed.placed.bag n ≡ Leased) ⊎ IsIn d.placed.placed.bag n → state_at d.placed.placed.bag n ≡ Leased
+    apart : (n : ℕ) → 0 < holders n (bags_of (set slots j Taken)) → (state_at d.placed.placed.bag n ≡ Leased) ⊎ IsInBag d.placed.placed.bag n → state_at d.placed.placed.bag n ≡ Leased
     apart n some (inl out) = out
     apart n some (inr here) = absurd (
         let both = take_holders n slots j d at in
@@ -207,7 +207,7 @@ module _ (slots : List Slot) (j : ℕ) (d : DoneParts) (at : slice_get slots j �
         omega (arith, both, one, once, some)
         )
 
-    bag_after : (c : ArenaView) → IsBagOf c a → ((n : ℕ) → IsIn c n → 0 < holders n (bags_of (set slots j Taken))) → IsBagOf c b
+    bag_after : (c : ArenaView) → IsBagOf c a → ((n : ℕ) → IsInBag c n → 0 < holders n (bags_of (set slots j Taken))) → IsBagOf c b
     bag_after c of some = record {
       memory = of.memory ∙ sym settled.memory;
       cells = of.cells ∙ sym settled.cells;

@@ -3,7 +3,7 @@ use Rattle.std.proofs.Common.{◌≡◌, ◌⊎◌, inl, inr, ◌<◌, ◌*◌, 
 use Rattle.std.proofs.lemmas.List.Sums.{sum_by-cons}
 use Rattle.in_base.proofs.Each.{all_at}
 use Rattle.in_arena.specs.Arenas.{ArenaView, free_of, state_at}
-use Rattle.in_arena.specs.Bags.{IsBagOf, IsIn, AreOfOne}
+use Rattle.in_arena.specs.Bags.{IsBagOf, IsInBag, AreOfOne}
 use Rattle.in_arena.specs.Changes.{HasAllCells, one_if_free}
 use Rattle.in_arena.specs.Classes.{classes, class_no, IsNumberOf}
 use Rattle.in_arena.specs.States.{State, Vacant, Leased, IsLeased, is_vacant, word_of}
@@ -12,7 +12,7 @@ use Rattle.in_arena.specs.declared.content.CellNo.{CellNo}
 use Rattle.in_arena.proofs.Public.{vacant_inside, leased_or, counts_change, class_of_number}
 use Rattle.in_compile.specs.Cells.{count_of}
 use Rattle.in_compile.specs.Members.{AgentParts, MemberParts}
-use Rattle.in_compile.specs.Placing.{PlacedParts, HasNoCell, IsPlacedMember, Takes, content}
+use Rattle.in_compile.specs.Placing.{PlacedParts, HasNoCell, IsPlacedMember, TakesCells, content}
 use Rattle.in_compile.specs.Stocks.{StockParts, AddsTo, Regains, held, with_all}
 use Rattle.in_compile.proofs.Public.{one_or_same, one_of_all, shared_out, all_stay, cells_all, count_all, memory_all}
 use Rattle.in_reducer.specs.Placed.{IsPut, IsNoneOf}
@@ -91,7 +91,7 @@ module _ (m : MemberParts) (a a' : ArenaView) (s s' : StockParts) (p : PlacedPar
           )
       go (inr same) = inr (ap (λ v. state_at v n) adds.0.bag ∙ same ∙ stock.1 n)
 
-  module _ (s'' : StockParts) (p' : PlacedParts) (is : IsPlacedMember m p') (takes : Takes m.need p'.cells s' s'') (same : AreOfOne p.bag p'.bag) where
+  module _ (s'' : StockParts) (p' : PlacedParts) (is : IsPlacedMember m p') (takes : TakesCells m.need p'.cells s' s'') (same : AreOfOne p.bag p'.bag) where
     one_placed : AreOfOne s'.bag p'.bag
     one_placed = (same.0 ∙ of_one.0, same.1 ∙ of_one.1)
 
@@ -108,7 +108,7 @@ module _ (m : MemberParts) (a a' : ArenaView) (s s' : StockParts) (p : PlacedPar
     none_vacant n is = some_free s''.bag n all_left is none_held
 
     -- a placed cell was the stock's
-    placed_was : (n : ℕ) → IsIn p'.bag n → state_at s'.bag n ≡ Vacant
+    placed_was : (n : ℕ) → IsInBag p'.bag n → state_at s'.bag n ≡ Vacant
     placed_was n here = let at = is.written.cells.only n here in all_at (λ (m : CellNo). state_at s'.bag m.0 ≡ Vacant) p'.cells at.0 (record { 0 = n }) takes.were at.1
 
     placed_inside : (k : ℕ) (n : ℕ) → slice_get p'.cells k ≡ Some (record { 0 = n }) → n < length s'.bag.states
@@ -146,7 +146,7 @@ module _ (m : MemberParts) (a a' : ArenaView) (s s' : StockParts) (p : PlacedPar
       other : (n : ℕ) → ((k : ℕ) → slice_get p'.cells k ≡ Some (record { 0 = n }) → ⊥) → state_at a'' n ≡ state_at a n
       other n out = back.others n (not_in (leased_or (state_at p'.bag n))) ∙ ap (λ v. state_at v n) adds.0.arena ∙ not_more (one_or_same a adds.0.cells Leased n)
         where
-          not_in : (state_at p'.bag n ≡ Leased) ⊎ IsIn p'.bag n → state_at p'.bag n ≡ Leased
+          not_in : (state_at p'.bag n ≡ Leased) ⊎ IsInBag p'.bag n → state_at p'.bag n ≡ Leased
           not_in (inl e) = e
           not_in (inr here) = let k = is.written.cells.only n here in absurd (out k.0 k.1)
 

@@ -19,7 +19,7 @@ use Rattle.in_interaction.proofs.Public.{has_value}
 use Rattle.in_glue.specs.AsGluing.{boundary_port}
 use Rattle.in_glue.specs.EndByEnd.{IsOuterAt, IsInnerAt}
 use Rattle.in_glue.specs.MadeByJoining.{CanStepAt}
-use Rattle.in_joining.specs.Between.{IsReady, IsWith}
+use Rattle.in_joining.specs.Between.{IsReadyToJoin, IsWith}
 use Rattle.in_joining.specs.Cells.{HasSymbols}
 use Rattle.in_joining.specs.Shown as shown
 use Rattle.in_joining.specs.Shown.{end_of, stands_at}
@@ -297,7 +297,7 @@ module _ (t : Tables) (s : PairSetting) (p : TemplateParts) (pair : Pair) (own :
         room = (let l = set.long in let r = about.room in omega (arith, l, r));
       }
 
-      pub is_ready : IsReady t (interaction_of s ns) own (length p.member.joints) after list
+      pub is_ready : IsReadyToJoin t (interaction_of s ns) own (length p.member.joints) after list
       is_ready = set_is_ready t (interaction_of s ns) own (length p.member.joints) old after list are_set
 
       pub has_symbols : HasSymbols t after

@@ -3,7 +3,7 @@ use Rattle.std.proofs.Common.{◌≡◌, ◌⊎◌, inl, inr, ◌<◌, ◌≤◌
 use Rattle.std.proofs.lemmas.List.{length-set}
 use Rattle.std.proofs.lemmas.List.Sums.{sum_by-cons}
 use Rattle.in_arena.specs.Arenas.{ArenaView, changed, free_of, state_at}
-use Rattle.in_arena.specs.Bags.{IsBagOf, IsIn}
+use Rattle.in_arena.specs.Bags.{IsBagOf, IsInBag}
 use Rattle.in_arena.specs.Changes.{HasAllCells, one_if_free}
 use Rattle.in_arena.specs.Classes.{class_no, IsNumberOf}
 use Rattle.in_arena.specs.States.{State, Vacant, Leased, Live, word_of}
@@ -39,7 +39,7 @@ module _ (m : MemberParts) (p : PlacedParts) (is : IsPlacedMember m p) (a b : Ar
     many = back.count;
   })
     where
-      not_in : (n : ℕ) → ((k : ℕ) → slice_get p.cells k ≡ Some (record { 0 = n }) → ⊥) → (state_at p.bag n ≡ Leased) ⊎ IsIn p.bag n → state_at p.bag n ≡ Leased
+      not_in : (n : ℕ) → ((k : ℕ) → slice_get p.cells k ≡ Some (record { 0 = n }) → ⊥) → (state_at p.bag n ≡ Leased) ⊎ IsInBag p.bag n → state_at p.bag n ≡ Leased
       not_in n out (inl e) = e
       not_in n out (inr here) = let k = is.written.cells.only n here in absurd (out k.0 k.1)
 

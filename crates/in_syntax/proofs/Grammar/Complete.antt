@@ -29,7 +29,7 @@ use Rattle.in_syntax.specs.declared.states.TermOf.TheVariants.{Left, Right, Insi
 use Rattle.in_syntax.specs.declared.states.Nest.{Nest}
 use Rattle.in_syntax.specs.declared.states.Body.{Body}
 use Rattle.in_syntax.specs.declared.states.Body.TheVariants as body
-use Rattle.in_syntax.specs.Grammar.{Marked, marked, within, plain, separated, numbered, spell_auxiliary, spell_class, spell_classes, spell_symbol, spell_type, spell_types, spell_arguments, spell_term, spell_outermost, spell_head, spell_with, StandAfterWord, spell_rule, spell_equation, spell_free, spell_net, max_types, max_depth, Item, types, symbol, rule, none_yet, counted, spell_items, IsItem, types_in, symbols_in, rules_in, Program, spelling}
+use Rattle.in_syntax.specs.Grammar.{Marked, marked, within, plain, separated, numbered, spell_auxiliary, spell_class, spell_classes, spell_symbol, spell_type, spell_types, spell_arguments, spell_term, spell_outermost, spell_head, spell_with, StandAfterWord, spell_rule, spell_equation, spell_free, spell_net, max_types, max_depth, Item, types, symbol, rule, none_yet, counted, spell_items, IsItem, types_in, symbols_in, rules_in, GrammarProgram, spelling}
 use Rattle.in_syntax.specs.Steps.{at_term_open, at_term_end, after_port, body_with, step, at_state, with_types, with_symbol, with_rule, counts_of, between_items, start}
 use Rattle.in_syntax.specs.Trees.{bare, bare_head, bare_rule, with_argument, with_class, with_term}
 use Rattle.in_syntax.proofs.Grammar.Separated.{ports_after, after}
@@ -499,7 +499,7 @@ path_net n r = (
   ),
 )
 
-abbrev pub done_with : Program → Reader
+abbrev pub done_with : GrammarProgram → Reader
 done_with p = record {
   types = flat_map types_in p.items;
   symbols = flat_map symbols_in p.items;
@@ -508,5 +508,5 @@ done_with p = record {
 }
 
 -- a program's signs, with their marks, lead to its tree
-pub program_path : (p : Program) → Path start (spelling p) (done_with p)
+pub program_path : (p : GrammarProgram) → Path start (spelling p) (done_with p)
 program_path p = join (spell_items none_yet p.items) (spell_net p.net) start (with_items start p.items) (done_with p) (path_items p.items start p.each) (path_net p.net (with_items start p.items))

@@ -16,7 +16,7 @@ use Rattle.in_syntax.specs.declared.tree.SourceNet.{SourceNet}
 use Rattle.in_syntax.specs.declared.reader.Reader.{Reader}
 use Rattle.in_syntax.specs.declared.states.State.{State}
 use Rattle.in_syntax.specs.declared.states.State.TheVariants as state
-use Rattle.in_syntax.specs.Grammar.{Marked, marked, Program, spelling, source_of, none_yet, spell_items, symbols_in, rules_in}
+use Rattle.in_syntax.specs.Grammar.{Marked, marked, GrammarProgram, spelling, source_of, none_yet, spell_items, symbols_in, rules_in}
 use Rattle.in_syntax.specs.Programs.{signs_of, signs, unmarked, IsProgram, Begins, BeginsWithin, BeginsPast, IsFault, Outcome, tree, fault, IsOutcomeOfSigns, IsParsing}
 use Rattle.in_syntax.specs.GrammarLaws.{OneOutcome, OneTree}
 use Rattle.in_syntax.specs.Steps.{Step, goes, adds_types, adds_symbol, adds_rule, stuck, step, move_of, Answer, reads, refused, net_of, whole, counts_of, run, start, GivesSource, expected_in}
@@ -31,7 +31,7 @@ signs_unmarked (x ∷ s) = ap (λ z. x ∷ z) (signs_unmarked s)
 
 -- the program that was read where the net is whole
 abbrev Reads : Reader → List Marked → SourceNet → Type 0
-Reads last m n = (p : Program) × (spelling p ≡ m) × (source_of p ≡ record { types = last.types; symbols = last.symbols; rules = last.rules; net = n })
+Reads last m n = (p : GrammarProgram) × (spelling p ≡ m) × (source_of p ≡ record { types = last.types; symbols = last.symbols; rules = last.rules; net = n })
 
 program_read : (last : Reader) (m : List Marked) (n : SourceNet) → HasRead last m → last.state ≡ state.Done n → Reads last m n
 program_read last m n h e = (
@@ -46,7 +46,7 @@ read_path : (m : List Marked) (last : Reader) → Path start m last → HasRead 
 read_path m last path = has_read m [] start last read_nothing path
 
 -- what leads from the start begins a program
-begun : (front : List Marked) (last : Reader) → Path start front last → (p : Program) × (more : List Marked) × (spelling p ≡ front ++ more)
+begun : (front : List Marked) (last : Reader) → Path start front last → (p : GrammarProgram) × (more : List Marked) × (spelling p ≡ front ++ more)
 begun front last path =
     let c = can_end last in
     let p = program_read c.last (front ++ c.more) c.net (has_read c.more front last c.last (read_path front last path) c.path) c.done in

@@ -9,7 +9,7 @@ use Rattle.in_syntax.specs.declared.reader.Reader.{Reader}
 use Rattle.in_syntax.specs.declared.machine.Move.{Move}
 use Rattle.in_syntax.specs.declared.machine.Move.TheVariants as move
 use Rattle.in_syntax.specs.Programs.{HasTexts, sign_of, signs_of, unmarked}
-use Rattle.in_syntax.specs.Steps.{Step, goes, adds_types, adds_symbol, adds_rule, stuck, step, move_of, Answer, at_state, with_types, with_symbol, with_rule, counts_of, run, start, moved, taken, Leads}
+use Rattle.in_syntax.specs.Steps.{Step, goes, adds_types, adds_symbol, adds_rule, stuck, step, move_of, Answer, at_state, with_types, with_symbol, with_rule, counts_of, run, start, moved, taken, SignsLead}
 use Rattle.in_syntax.proofs.Grammar.Paths.{turns, turn_of, Path, along}
 
 texts_suc : (text : List ℕ) (i : ℕ) (tokens : List Token) → HasTexts text (drop i tokens) → HasTexts text (drop (suc i) tokens)
@@ -43,14 +43,14 @@ goes_on text i tokens reader next all lt takes e =
 
 -- ---- what leads to a reader
 
-lead_on : (s : List Sign) (x : Sign) (r mid next : Reader) → Leads r s mid → taken mid x ≡ Some next → Leads r (s ++ x ∷ []) next
+lead_on : (s : List Sign) (x : Sign) (r mid next : Reader) → SignsLead r s mid → taken mid x ≡ Some next → SignsLead r (s ++ x ∷ []) next
 lead_on [] x r mid next p e = (next, ap (λ z. taken z x) p ∙ e, refl)
 lead_on (y ∷ s) x r mid next p e = (p.0, p.1, lead_on s x p.0 mid next p.2 e)
 
 pub leads_after : (text : List ℕ) (i : ℕ) (tokens : List Token) (reader next : Reader) → i < length tokens → taken reader (sign_of text (get_or tokens i no_token)) ≡ Some next →
-    Leads start (signs_of text (take i tokens)) reader → Leads start (signs_of text (take (i + 1) tokens)) next
+    SignsLead start (signs_of text (take i tokens)) reader → SignsLead start (signs_of text (take (i + 1) tokens)) next
 leads_after text i tokens reader next lt takes h =
-    rw (add-one i) (subst (λ z. Leads start z next) (sym (ap (signs_of text) (take-suc tokens i no_token lt) ∙ map-append (sign_of text) (take i tokens) (get_or tokens i no_token ∷ [])))
+    rw (add-one i) (subst (λ z. SignsLead start z next) (sym (ap (signs_of text) (take-suc tokens i no_token lt) ∙ map-append (sign_of text) (take i tokens) (get_or tokens i no_token ∷ [])))
     (lead_on (signs_of text (take i tokens)) (sign_of text (get_or tokens i no_token)) start reader next h takes))
 
 turn_moved : (r next : Reader) (m : Step) → moved r (move_of m) ≡ Some next → turn_of r m ≡ turns false next
@@ -61,6 +61,6 @@ turn_moved r next (adds_symbol y) e = let is : with_symbol r y ≡ next = cc in 
 turn_moved r next (adds_rule y) e = let is : with_rule r y ≡ next = cc in ap (turns false) is
 turn_moved r next stuck e = cc
 
-pub led_path : (s : List Sign) (r last : Reader) → Leads r s last → Path r (unmarked s) last
+pub led_path : (s : List Sign) (r last : Reader) → SignsLead r s last → Path r (unmarked s) last
 led_path [] r last h = h
 led_path (x ∷ s) r last h = (h.0, turn_moved r h.0 (step (counts_of r) r.state x) h.1, led_path s h.0 last h.2)

@@ -16,7 +16,7 @@ use Rattle.in_syntax.specs.declared.words.TokenKind.{TokenKind}
 use Rattle.in_syntax.specs.declared.words.TokenKind.TheVariants as kind
 use Rattle.in_syntax.specs.declared.signs.Sign.{Sign}
 use Rattle.in_syntax.specs.declared.signs.Sign.TheVariants.{Named, Tilde, Plain}
-use Rattle.in_syntax.specs.Grammar.{Marked, within, plain, separated, numbered, spell_arguments, spell_term, spell_outermost, spell_head, spell_with, StandAfterWord, spell_rule, spell_equation, IsItem, spell_free, spell_net, Item, types, symbol, rule, none_yet, counted, spell_item, spell_items, Program, spelling, rules_in, source_of}
+use Rattle.in_syntax.specs.Grammar.{Marked, within, plain, separated, numbered, spell_arguments, spell_term, spell_outermost, spell_head, spell_with, StandAfterWord, spell_rule, spell_equation, IsItem, spell_free, spell_net, Item, types, symbol, rule, none_yet, counted, spell_item, spell_items, GrammarProgram, spelling, rules_in, source_of}
 use Rattle.in_syntax.specs.Programs.{sign_at, signs_of, unmarked}
 use Rattle.in_syntax.specs.Parsing.{IsTreeOf, Parses}
 use Rattle.in_syntax.specs.Sizes.{total, names_in}
@@ -200,7 +200,7 @@ net_in_order n up =
     let opened : List Marked = plain kind.CloseParenthesis ∷ plain kind.OpenBrace ∷ flat_map spell_equation n.equations in
     subst Rises (equations_placed n.equations) (back_rising free opened (front_rising (free ++ opened) (plain kind.CloseBrace ∷ []) up))
 
-program_in_order : (p : Program) → Rising (spelling p) → IsWrittenInOrder (source_of p)
+program_in_order : (p : GrammarProgram) → Rising (spelling p) → IsWrittenInOrder (source_of p)
 program_in_order p up = record {
   rules = rules_in_order p.items none_yet p.each (front_rising (spell_items none_yet p.items) (spell_net p.net) up);
   net = net_in_order p.net (back_rising (spell_items none_yet p.items) (spell_net p.net) up);

@@ -17,7 +17,7 @@ use Rattle.in_syntax.specs.declared.words.Token.{Token}
 use Rattle.in_syntax.specs.declared.words.TokenKind.TheVariants as kind
 use Rattle.in_syntax.specs.declared.signs.Sign.{Sign}
 use Rattle.in_syntax.specs.declared.signs.Sign.TheVariants.{Tilde}
-use Rattle.in_syntax.specs.Grammar.{Marked, within, plain, max_types, max_symbols, max_rules, max_free, max_ports, separated, numbered, spell_port, spell_auxiliary, spell_class, spell_classes, spell_symbol, spell_type, spell_arguments, spell_term, spell_outermost, spell_head, spell_with, StandAfterWord, spell_rule, spell_equation, spell_free, spell_net, Item, types, symbol, rule, none_yet, counted, spell_item, spell_items, IsItem, Program, spelling, types_in, symbols_in, rules_in, source_of}
+use Rattle.in_syntax.specs.Grammar.{Marked, within, plain, max_types, max_symbols, max_rules, max_free, max_ports, separated, numbered, spell_port, spell_auxiliary, spell_class, spell_classes, spell_symbol, spell_type, spell_arguments, spell_term, spell_outermost, spell_head, spell_with, StandAfterWord, spell_rule, spell_equation, spell_free, spell_net, Item, types, symbol, rule, none_yet, counted, spell_item, spell_items, IsItem, GrammarProgram, spelling, types_in, symbols_in, rules_in, source_of}
 use Rattle.in_syntax.specs.Programs.{sign_of, signs_of, unmarked}
 use Rattle.in_syntax.specs.Parsing.{IsTreeOf, Parses}
 use Rattle.in_syntax.specs.Sizes.{total, names_in, names_in_equation, names_in_equations, names_in_head, names_in_rule, names_in_rules, IsSizedSymbol, IsSized}
@@ -248,7 +248,7 @@ net_free n all =
     separated_within max_free spell_free free_within 1 n.free (omega arith) (front_all (separated (numbered spell_free 1 n.free)) _ (front_all _ (plain kind.CloseBrace ∷ []) all.1.1)) in
     omega (arith, frees)
 
-program_sized : (p : Program) (s : List Sign) → spelling p ≡ unmarked s → length s ≤ text_limit → IsSized (source_of p)
+program_sized : (p : GrammarProgram) (s : List Sign) → spelling p ≡ unmarked s → length s ≤ text_limit → IsSized (source_of p)
 program_sized p s is short =
     let all : Unmarked (spelling p) = subst Unmarked (sym is) (unmarked_all s) in
     let size : length (spelling p) ≡ length s = ap length is ∙ length-map s within in

@@ -18,7 +18,7 @@ use Rattle.in_syntax.specs.declared.tree.Term.{Term, out-Term}
 use Rattle.in_syntax.specs.declared.words.Token.{Token}
 use Rattle.in_syntax.specs.declared.words.TokenKind.{TokenKind}
 use Rattle.in_syntax.specs.declared.words.TokenKind.TheVariants as kind
-use Rattle.in_syntax.specs.Grammar.{Marked, within, plain, separated, numbered, spell_level, spell_arguments, spell_term, spell_outermost, spell_head, named, word_at, spell_with, StandAfterWord, IsItem, spell_rule, spell_equation, spell_free, spell_net, spell_port, spell_auxiliary, spell_class, spell_classes, spell_symbol, spell_type, spell_types, Item, types, symbol, rule, none_yet, counted, spell_item, spell_items, types_in, symbols_in, rules_in, Program, spelling, source_of}
+use Rattle.in_syntax.specs.Grammar.{Marked, within, plain, separated, numbered, spell_level, spell_arguments, spell_term, spell_outermost, spell_head, named, word_at, spell_with, StandAfterWord, IsItem, spell_rule, spell_equation, spell_free, spell_net, spell_port, spell_auxiliary, spell_class, spell_classes, spell_symbol, spell_type, spell_types, Item, types, symbol, rule, none_yet, counted, spell_item, spell_items, types_in, symbols_in, rules_in, GrammarProgram, spelling, source_of}
 use Rattle.in_syntax.specs.Order.{BeginApart, term_places, equation_places, head_places, symbol_places, rule_places, free_places, source_places}
 use Rattle.in_syntax.specs.Parsing.{IsTreeOf}
 use Rattle.in_syntax.specs.Programs.{sign_at, sign_of, signs_of, unmarked}
@@ -205,7 +205,7 @@ rule_item (symbol s) r p is h k c = absurd h
 rule_item (rule w u) r p is (inl e) k c = in_rule (c.rules + 1) w u p is (subst (λ r. IsAmong p (rule_places r)) (sym e) k)
 rule_item (rule w u) r p is (inr h) k c = absurd h
 
-in_program : (g : Program) (p : Place) → IsAmong p (source_places (source_of g)) → Spells (spelling g) p
+in_program : (g : GrammarProgram) (p : Place) → IsAmong p (source_places (source_of g)) → Spells (spelling g) p
 in_program g p h = by_types (among_either p (map (λ (n : Name). n.place) (flat_map types_in g.items)) _ h)
   where
     front : Spells (spell_items none_yet g.items) p → Spells (spelling g) p

@@ -2,7 +2,7 @@ use Rattle.std.proofs.Common.{◌≡◌, ℕ, length, refl, sym, ap, subst, ◌�
 use Rattle.std.proofs.lemmas.List.{length-set}
 use Rattle.in_arena.specs.Arenas.{ArenaView, changed, state_at}
 use Rattle.in_arena.specs.States.{Vacant, IsLive}
-use Rattle.in_joining.specs.Between.{IsReady}
+use Rattle.in_joining.specs.Between.{IsReadyToJoin}
 use Rattle.in_joining.specs.Cells.{KeepsCells}
 use Rattle.in_compile.specs.Members.{IsSoundMember}
 use Rattle.in_reducer.specs.Interacting.{interaction_of}
@@ -54,7 +54,7 @@ join_all-requires-clause-ready c =
     let x = interaction_of s c.args.placed.now.cells in
     let is_ready = ready.is_ready c.args.symbols.now s c.args.template.now c.args.pair c.args.own a c.args.ends.now about c.args.placed.now.cells c.args.arena.now put
     c.retire-2.new.self retired c.set_sides.new.ends c.set_sides.ensures in
-    (x, subst (λ (many : ℕ). IsReady c.args.symbols.now x c.args.own many c.retire-2.new.self c.set_sides.new.ends) (sym (c.from-many.ensures ∙ c.boundary_ends.ensures)) is_ready)
+    (x, subst (λ (many : ℕ). IsReadyToJoin c.args.symbols.now x c.args.own many c.retire-2.new.self c.set_sides.new.ends) (sym (c.from-many.ensures ∙ c.boundary_ends.ensures)) is_ready)
 
 pub join_all-requires-clause-symbols : goal.join_all-requires-clause-symbols
 join_all-requires-clause-symbols c =
@@ -75,7 +75,7 @@ returns-clause-interacted c s beside =
     let x = interaction_of s c.args.placed.now.cells in
     let is_ready = ready.is_ready c.args.symbols.now s c.args.template.now c.args.pair c.args.own a c.args.ends.now about c.args.placed.now.cells c.args.arena.now put
     c.retire-2.new.self retired c.set_sides.new.ends c.set_sides.ensures in
-    let at = subst (λ (many : ℕ). IsReady c.args.symbols.now x c.args.own many c.retire-2.new.self c.set_sides.new.ends) (sym (c.from-many.ensures ∙ c.boundary_ends.ensures)) is_ready in
+    let at = subst (λ (many : ℕ). IsReadyToJoin c.args.symbols.now x c.args.own many c.retire-2.new.self c.set_sides.new.ends) (sym (c.from-many.ensures ∙ c.boundary_ends.ensures)) is_ready in
     (c.join_all.ensures.done x at, c.join_all.ensures.made x at)
 
 pub returns-clause-net : goal.returns-clause-net

@@ -9,7 +9,7 @@ use Rattle.in_syntax.specs.declared.reader.Reader.{Reader}
 use Rattle.in_syntax.specs.declared.tree.Source.{Source}
 use Rattle.in_syntax.specs.declared.words.Token.{Token}
 use Rattle.in_syntax.specs.Programs.{signs_of, place_at}
-use Rattle.in_syntax.specs.Steps.{run, start, refused, EndsText, GivesSource, Leads, Notes, expected_in}
+use Rattle.in_syntax.specs.Steps.{run, start, refused, EndsText, GivesSource, SignsLead, Notes, expected_in}
 use Rattle.in_syntax.proofs.Lexing.Reading.{texts_after, goes_on, leads_after}
 use Rattle.in_syntax.proofs.Grammar.Outcomes.{whole_expects}
 use Rattle.in_syntax.proofs.parser.program_by_steps.Goals as goal
@@ -45,14 +45,14 @@ ended text i tokens end reader (Err (Memory m)) past e h = tt
 
 -- and what is noted then
 noted_at_end : (text : List ℕ) (i : ℕ) (tokens : List Token) (end : Place) (reader : Reader) (e : Expected) (r : Result Source Fault) → length tokens ≤ i →
-    Leads start (signs_of text (take i tokens)) reader → e ≡ expected_in reader.state → run reader (signs_of text (drop i tokens)) ≡ run start (signs_of text tokens) → EndsText reader end r →
+    SignsLead start (signs_of text (take i tokens)) reader → e ≡ expected_in reader.state → run reader (signs_of text (drop i tokens)) ≡ run start (signs_of text tokens) → EndsText reader end r →
     Notes text tokens r e
 noted_at_end text i tokens end reader e (Ok source) past leads is same h = is ∙ whole_expects reader source h
 noted_at_end text i tokens end reader e (Err (Refused f)) past leads is same h = (
   length tokens,
   omega arith,
   refused_at_end text i tokens reader f.code past same h.0,
-  (reader, subst (λ ts. Leads start (signs_of text ts) reader) (take_all i tokens past ∙ sym (take_all (length tokens) tokens (omega arith))) leads, is),
+  (reader, subst (λ ts. SignsLead start (signs_of text ts) reader) (take_all i tokens past ∙ sym (take_all (length tokens) tokens (omega arith))) leads, is),
 )
 noted_at_end text i tokens end reader e (Err (Memory m)) past leads is same h = tt
 

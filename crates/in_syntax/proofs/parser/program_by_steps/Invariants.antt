@@ -1,12 +1,12 @@
 use Rattle.std.proofs.Common.{◌≡◌, take, drop}
 use Rattle.in_syntax.specs.Programs.{HasTexts, signs_of}
-use Rattle.in_syntax.specs.Steps.{run, start, Leads, expected_in}
+use Rattle.in_syntax.specs.Steps.{run, start, SignsLead, expected_in}
 use Rattle.in_syntax.proofs.parser.program_by_steps.Given as goal
 
 abbrev pub invariant-loop-token : goal.invariant-loop-token
 invariant-loop-token l = record {
   texts : HasTexts l.text (drop l.token-index l.tokens);
   answer : run l.reader (signs_of l.text (drop l.token-index l.tokens)) ≡ run start (signs_of l.text l.tokens);
-  leads : Leads start (signs_of l.text (take l.token-index l.tokens)) l.reader;
+  leads : SignsLead start (signs_of l.text (take l.token-index l.tokens)) l.reader;
   expected : l.expected ≡ expected_in l.reader.state;
 }

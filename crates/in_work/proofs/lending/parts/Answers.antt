@@ -2,7 +2,7 @@ use Rattle.std.proofs.Common.{◌≡◌, [], ◌∷◌, ◌++◌, ap, ◌∙◌,
 use Rattle.std.specs.Option.{option_to_list}
 use Rattle.std.proofs.lemmas.List.Elements.{All-push, All-same}
 use Rattle.in_claims.specs.Seats.{SeatView, fresh}
-use Rattle.in_work.specs.Lending.{IsFresh}
+use Rattle.in_work.specs.Lending.{IsFreshPart}
 use Rattle.in_work.proofs.Threading.{all_but_last}
 use Rattle.in_work.proofs.lending.parts.Goals as goal
 
@@ -10,7 +10,7 @@ pub loop-seat-preserved : goal.loop-seat-preserved
 loop-seat-preserved c =
     let split = c.pop.ensures.items ∙ ap (λ r. c.pop.new.self.items ++ option_to_list r) c.in-Some.is in
     let v = c.loop-seat.invariant in
-    let Fresh = IsFresh c.args.plan.now c.args.board.now c.args.arena.now c.args.share in
+    let Fresh = IsFreshPart c.args.plan.now c.args.board.now c.args.arena.now c.args.share in
     record {
       seats = all_but_last (λ (s : SeatView). s ≡ fresh c.args.board.now) c.loop-seat.seats.items c.pop.new.self.items c.in-Some.seat split v.seats;
       each = All-same Fresh c.push_reserved.new.self.items (c.loop-seat.parts.items ++ c.in_ok-part.field-0 ∷ []) c.push_reserved.ensures.items (All-push Fresh c.loop-seat.parts.items c.in_ok-part.field-0 v.each c.in_ok-part.ensures);

@@ -1,6 +1,6 @@
 use Rattle.std.proofs.Common.{◌≡◌, ◌+◌, ◌-◌, [], ◌∷◌, List, map, false, refl, sym, subst, ap, ◌∙◌, arith}
 use Rattle.atomic_table.specs.Table.{Splits}
-use Rattle.in_claims.specs.Rule.{hand, IsKept}
+use Rattle.in_claims.specs.Rule.{hand, IsBoardRule}
 use Rattle.in_claims.specs.Seats.{BoardView, SeatView, fresh}
 use Rattle.in_claims.specs.Sitting.{only}
 use Rattle.in_claims.specs.declared.hands.Hand.{Hand}
@@ -14,7 +14,7 @@ split_seat-inner-requires c =
     let size : Size = record { limit = c.args.limit; seats = c.args.seats } in
     let opened = c.in_ok-table.ensures in
     let allowed : List Hand → Type 0 =
-    λ hands. Splits (IsKept c.in_ok-table.table.shared.key) c.loop-made.first.id hands (map (λ h. hand (h.shares - 1) h.size h.numbers h.done) hands) (map (λ h. hand 1 h.size [] false) hands)
+    λ hands. Splits (IsBoardRule c.in_ok-table.table.shared.key) c.loop-made.first.id hands (map (λ h. hand (h.shares - 1) h.size h.numbers h.done) hands) (map (λ h. hand 1 h.size [] false) hands)
     in
     let h : Hand = hand (c.args.seats + 1 - c.loop-made._made) size [] false in
     let base : allowed (h ∷ []) = splits c.in_ok-table.table.shared.key c.loop-made.first.id h (omega arith) refl in

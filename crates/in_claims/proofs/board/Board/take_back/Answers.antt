@@ -3,7 +3,7 @@ use Rattle.std.specs.Option.{IfSome}
 use Rattle.std.proofs.lemmas.List.{length-map, nil_from_length}
 use Rattle.std.proofs.lemmas.List.Elements.{All-pop}
 use Rattle.atomic_table.specs.Table.{Allows, Me}
-use Rattle.in_claims.specs.Rule.{AreClaims, IsKept, limit_of}
+use Rattle.in_claims.specs.Rule.{AreClaims, IsBoardRule, limit_of}
 use Rattle.in_claims.specs.Seats.{SeatView, hand_of}
 use Rattle.in_claims.specs.declared.hands.Hand.{Hand}
 use Rattle.in_claims.specs.declared.hands.Size.{Size}
@@ -52,7 +52,7 @@ load-requires c =
     let mine : c.loop-seat.all.me.0 ≡ hands = ap (λ l. map hand_of l ++ c.loop-seat.all.me.0) (sym none) ∙ c.loop-seat.invariant.hands in
     let me : c.loop-seat.all.me ≡ (hands, []) = λ i. (mine i, c.loop-seat.invariant.no_slot i) in
     let allowed : Size → Me (Unit {0}) (List Hand) → Type 0 =
-    λ size me. Allows (IsKept size) slots c.loop-seat.all.id me 0 (λ w. w) (λ found after. AreClaims (limit_of me.0) found me.0)
+    λ size me. Allows (IsBoardRule size) slots c.loop-seat.all.id me 0 (λ w. w) (λ found after. AreClaims (limit_of me.0) found me.0)
     in
     let long : length hands ≡ board.size.seats = length-map c.args.seats.items hand_of ∙ c.requires.all ∙ sym (ap (λ b. b.seats) c.self.view_is) in
     let base : allowed board.size (hands, []) = tells board.size slots c.loop-seat.all.id hands c.self.invariant.some_seat long in (
