@@ -22,7 +22,7 @@ use Rattle.in_glue.specs.MadeByJoining.{CanStepAt}
 use Rattle.in_joining.specs.Between.{IsReadyToJoin, IsWith}
 use Rattle.in_joining.specs.Cells.{HasSymbols}
 use Rattle.in_joining.specs.Shown as shown
-use Rattle.in_joining.specs.Shown.{end_of, stands_at}
+use Rattle.in_joining.specs.Shown.{end_of}
 use Rattle.in_joining.specs.Start.{AreLaid, AreSet, IsNew}
 use Rattle.in_joining.proofs.Public.{set_has_symbols, set_is_ready, started_end_point as end_point}
 use Rattle.in_compile.specs.declared.joints.Joint.{Joint}
