@@ -2,7 +2,7 @@
 use Rattle.std.specs.Prelude.{◌≡◌, ◌<◌, ◌≤◌, ◌+◌, ℕ, List, length, map, take, count_by, Some, slice_get}
 use Rattle.std.specs.List.{AllByRecursion}
 use Rattle.in_arena.specs.Arenas.{ArenaView, changed, state_at}
-use Rattle.in_arena.specs.Bags.{AreOfOne, BagsAreApart, IsBagOf}
+use Rattle.in_arena.specs.Bags.{AreOfOne, BagsAreApart, IsBagOf, IsInBag}
 use Rattle.in_arena.specs.Changes.{HasAllCells}
 use Rattle.in_arena.specs.Classes.{IsNumberOf}
 use Rattle.in_arena.specs.States.{State, Vacant, Leased, Live}
