@@ -37,7 +37,7 @@ enum inet_status {
     INET_WRONG_NUMBERS = 2, /* inet_run: the limit or the cells are out of range; the answer has no bytes */
     INET_LIMIT = 3,         /* a run: as many interactions as are allowed */
     INET_FULL = 4,          /* a run: too few cells */
-    INET_MEMORY = 5         /* want of memory; the answer is the line `memory`, that of inet_diagnose has no bytes */
+    INET_MEMORY = 5         /* out of memory; the answer is the line `memory`, that of inet_diagnose has no bytes */
 };
 
 /* What `inet check` writes to standard output: a line that counts what the program has, or the line of the refusal. */

@@ -14,7 +14,7 @@ REFUSED = re.compile(r": (memory( before it| after it|, as before\b.*|, the net 
 
 
 def wrong_lines(answer, usual):
-    """What is wrong where one request was refused: each line is the usual one, but for one at most, which says that memory was wanted and
+    """What is wrong where one request was refused: each line is the usual one, but for one at most, which says that memory ran out and
     what is as before, or that no thread was started."""
     if answer.status != 0:
         return str(answer)

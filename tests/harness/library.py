@@ -136,7 +136,7 @@ def numbers(program, binding):
 
 
 def wrong_without_memory(answer, usual):
-    """What is wrong where one request for memory was refused: the usual answer is right, its diagnosis may be missing; so is want of memory."""
+    """What is wrong where one request for memory was refused: the usual answer is right, its diagnosis may be missing; so is running out of memory."""
     if (answer.status, answer.output) == (usual.status, usual.output):
         return None if answer.errors in (b"", usual.errors) else f"a part of a diagnosis: {answer.errors!r}"
     return None if answer.status == MEMORY and answer.output in (b"", b"memory\n") else str(answer)

@@ -179,7 +179,7 @@ def wrong_in_small_space(answer, usual):
 
 
 def address_spaces(program):
-    """Real want of memory, in small address spaces: for the most cells, and for the stacks of threads."""
+    """Memory that really runs out, in small address spaces: for the most cells, and for the stacks of threads."""
     for text, count in ((text_of("sum"), "1048576"), (text_of(WITH_THREADS, ROWS), "200000")):
         usual = program.run(["run", "--cells", count], text)
         for kilobytes, workers in itertools.product(SPACES, ("1", "2", "64")):
