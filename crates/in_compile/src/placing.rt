@@ -29,7 +29,7 @@ fn end_of(numbers: &[CellNo], joint: Joint) -> End
     }
 }
 
-/// TakesCells a cell for each agent.
+/// Takes a cell for each agent.
 fn take_cells(member: &Member, stock: &mut Stock, numbers: &mut Vec<CellNo>, bag: &mut Bag)
     requires none { numbers.old.items ≡ [] }
     requires room { length member.now.agents ≤ vec_capacity numbers.old }

@@ -4,8 +4,8 @@ use in_syntax::Place;
 use std::alloc::{AllocError, Global};
 use std::fmt::Display;
 
-/// A diagnosis that is being written, on a program's text. That memory was wanting is kept, and `into_text` answers it: so who writes
-/// has one way out.
+/// A diagnosis that is being written, on a program's text. That memory ran out is kept, and `into_text` answers it: so code that
+/// writes has one way out.
 #[derive(Drop)]
 pub struct Report<'a> {
     /// Where its memory comes from.
@@ -36,12 +36,12 @@ impl<'a> Report<'a> {
         between(self.text, place.from, place.to)
     }
 
-    /// Keeps that memory was wanting, so that there will be no diagnosis: `into_text` answers the error, or the last one of several.
+    /// Keeps that memory ran out, so that there will be no diagnosis: `into_text` answers the error, or the last one of several.
     pub fn fail(&mut self, error: AllocError) {
         self.failure = Some(error);
     }
 
-    /// Keeps that memory was wanting, if it was, as `fail` does.
+    /// Keeps that memory ran out, if it did, as `fail` does.
     pub fn keep(&mut self, done: Result<(), AllocError>) {
         if let Err(error) = done {
             self.fail(error);

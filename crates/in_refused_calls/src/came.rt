@@ -13,7 +13,7 @@ pub enum Came {
     Memory,
     /// .. and what has to be as before is.
     Unchanged,
-    /// What it left couldn't be looked at, when out of memory.
+    /// Memory ran out before what it left could be looked at.
     Unseen,
     /// It isn't as it has to be.
     Wrong,
