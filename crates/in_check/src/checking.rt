@@ -12,7 +12,7 @@
 //! | `check_net_steps` | `open_net` and `derive` | the tables, the net | the steps of the net, and with all that was given `Passed` | E13 |
 //!
 //! A pass makes its call and then the next pass, to which it hands all that was given so far. Where it refuses, it drops that by itself: the
-//! prover goes through a function way by way, and few ways then lead out. Each call but those on types may also end when out of memory.
+//! prover goes through a function way by way, and few ways then lead out. Each call but those on types may also end because memory ran out.
 ghost use Rattle.std.specs.Prelude.{◌≡◌, Err, IfOk, IsTrue, MatchOption, Ok, OnErr};
 ghost use Rattle.std.specs.List.{AllByRecursion};
 ghost use Rattle.in_syntax.specs.Order.{IsWrittenInOrder};
@@ -300,7 +300,7 @@ fn check_tree(alloc: Global, text: &[u8], evidence: &mut Option<Evidence>) -> Re
 /// the net at last whether it is semi-simple. What is accepted is kept.
 ///
 /// The first fault of the first pass that finds one is answered: E01 to E03, E04 to E06, E03 and E07 to E09, E10 and E11, E14 and
-/// E15, E12, E13; or running out of memory. Lafont 1990 asks for types that fit, for one rule for each pair and for semi-simple nets; the
+/// E15, E12, E13; or that memory ran out. Lafont 1990 asks for types that fit, for one rule for each pair and for semi-simple nets; the
 /// order of the passes is this project's own choice.
 ///
 /// Every net that an accepted program reaches, by any number of interactions in any order, is typed; has exactly one rule for each

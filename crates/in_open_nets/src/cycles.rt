@@ -78,7 +78,7 @@ pub(crate) fn are_in(part: &Part, nodes: &Items<u32>) -> bool
     true
 }
 
-/// No cycle for each node.
+/// For each node no cycle yet.
 fn no_cycles(alloc: Global, count: usize) -> Result<Items<Option<Items<u32>>>, AllocError>
     ensures { IfOk result AreNone }
 {

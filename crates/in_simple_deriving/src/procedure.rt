@@ -301,8 +301,8 @@ fn attempt(alloc: Global, open: &OpenNet) -> Result<Outcome, AllocError>
 }
 
 /// The steps that build the open net: the first node in order that splits it is taken out, then each component that is left is
-/// derived, and they are joined, in one order, which determines the steps. Refused with the first stuck sub-net in that order, or when out of memory. Lafont 1990 asks
-/// whether a net is semi-simple; the order is this project's own choice.
+/// derived, and they are joined, in one order, which determines the steps. Refused with the first stuck sub-net in
+/// that order, or when out of memory. Lafont 1990 asks whether a net is semi-simple; the order is this project's own choice.
 pub fn derive(alloc: Global, open: &OpenNet) -> Result<Derivation, Undone>
     ensures steps { MatchResult result (λ derivation. IsDerivation «open».now derivation.steps) (IsUndone «open».now) }
     ensures order { IfOk result (λ derivation. AreTaken «open».now derivation.steps) }

@@ -82,7 +82,7 @@ impl Refusal {
     }
 }
 
-/// A refusal, or running out of memory.
+/// A refusal, or that memory ran out.
 #[derive(Debug, Drop)]
 pub enum Fault {
     Refused(Refusal),
