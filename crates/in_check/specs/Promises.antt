@@ -30,7 +30,7 @@ HasOneRuleEach p n = (a b c d : ℕ) → n.symbol a ≡ Some c → n.symbol b �
 abbrev pub HasNoCircle : System → Net ℕ → Type 0
 HasNoCircle p n = (CrossingCircle (graph_of p.symbols n) → ⊥) × (ViciousCircle (graph_of p.symbols n) → ⊥)
 
--- each interaction ends: it leaves no closed alternating path, which would be a dangling wire, and under any new names for the
+-- each interaction ends: it leaves no closed alternating path, which would be a wire without ends, and under any new names for the
 -- new agents there is a net after it
 abbrev pub EndsEachInteraction : System → Net ℕ → Type 0
 EndsEachInteraction p n = (x : Redex ℕ ℕ) → IsPairWithRule p n x → (ClosedPath p.symbols n x → ⊥) × ((name : ℕ → ℕ) → IsNaming n x name → (after : Net ℕ) × IsInteraction p n x name after)

@@ -38,7 +38,7 @@ NoNewCircle = (sig : Signature) (n : Net ℕ) (x : Redex ℕ ℕ) (name : ℕ �
     AreClasses sig → IsNet sig n → IsNet sig x.member → IsRedex sig n x → IsStep sig n x name after →
     (CrossingCircle (graph_of sig n) → ⊥) → (CrossingCircle (open_member sig x) → ⊥) → CrossingCircle (graph_of sig after) → ⊥
 
--- .. and leaves no closed alternating path, which would be a dangling wire
+-- .. and leaves no closed alternating path, which would be a wire without ends
 abbrev pub NoClosedPath : Type 0
 NoClosedPath = (sig : Signature) (n : Net ℕ) (x : Redex ℕ ℕ) → AreClasses sig → IsNet sig n → IsNet sig x.member → IsRedex sig n x →
     (CrossingCircle (graph_of sig n) → ⊥) → (CrossingCircle (open_member sig x) → ⊥) → ClosedPath sig n x → ⊥

@@ -1,7 +1,7 @@
 ghost use Rattle.std.specs.Prelude.{◌≡◌, ◌+◌, ◌<◌, ◌++◌, cond, length, None, IfOk, OnOk};
 ghost use Rattle.in_syntax.specs.Sizes.{IsSized};
 ghost use Rattle.in_syntax.specs.Order.{IsWrittenInOrder};
-ghost use Rattle.in_symbols.specs.Tables.{IsSymbol, IsTabled, IsHeadKnown, IsRuleKnown, arity_of};
+ghost use Rattle.in_symbols.specs.Tables.{IsSymbol, IsTabled, IsHeadKnown, arity_of};
 ghost use Rattle.in_net.specs.Building.{AreSmallSpots, IsJoined, boundary_of};
 ghost use Rattle.in_net.specs.Built.{ArePointsAt};
 ghost use Rattle.in_net.specs.Rules.{symbol_of, is_turned, body_of_rule, IsReadable, BuildsRuleOf, BuildsRule};
