@@ -22,13 +22,13 @@ same_ends m o k h = sym (length-map o.free (λ f. f.name)) ∙ ap length h.names
 module _ (m : MachineParts) (k : ℕ) (t : Taken) (now : MachineParts) (h : CanComeBack m k t now) where
   -- the programs are one
   program_part : t.part.program ≡ now.program
-  program_part = h.part_reduced.program ∙ h.taken.split.split.two.program_part ∙ sym (h.rest_reduced.program ∙ h.taken.split.split.two.program_rest)
+  program_part = h.part_reduced.program ∙ h.taken.split.split.but_queues.two.program_part ∙ sym (h.rest_reduced.program ∙ h.taken.split.split.but_queues.two.program_rest)
 
   pub many_rest : length now.free ≡ h.taken.split.own + t.cuts
-  many_rest = same_ends h.rest now h.by_rest h.rest_reduced ∙ h.taken.split.split.many_rest
+  many_rest = same_ends h.rest now h.by_rest h.rest_reduced ∙ h.taken.split.split.but_queues.many_rest
 
   pub many_part : length t.part.free ≡ t.cuts
-  many_part = same_ends h.part t.part h.by_part h.part_reduced ∙ h.taken.split.split.many_part
+  many_part = same_ends h.part t.part h.by_part h.part_reduced ∙ h.taken.split.split.but_queues.many_part
 
   pub can_append : CanAppend now t.part
   can_append = record { program = program_part; room = h.room }
@@ -44,7 +44,7 @@ module _ (m : MachineParts) (k : ℕ) (t : Taken) (now : MachineParts) (h : CanC
   cells_fit c =
       let a = ap (λ (p : Program). count_of t.part.vacant c + agents_of p.tables c t.part.agents) h.part_reduced.program in
       let b = h.part_reduced.cells c in
-      let d = h.taken.split.split.part_cells c in
+      let d = h.taken.split.split.but_queues.part_cells c in
       let e = h.taken.split.cells in
       omega (arith, a, b, d, e)
 
@@ -55,7 +55,7 @@ module _ (m : MachineParts) (k : ℕ) (t : Taken) (now : MachineParts) (h : CanC
       times = h.taken.times;
       reduced = subst (λ (z : ℕ). ReducesTo h.taken.cut z after) h.together
           (parts_reduce_the_whole h.taken.cut h.rest h.part now t.part after h.taken.split.agents h.taken.split.own t.cuts t.cells h.by_rest h.by_part h.taken.of_cut h.taken.split.of_rest h.taken.split.of_part
-          h.taken.split.split h.rest_reduced h.part_reduced glued);
+          h.taken.split.split.but_queues h.rest_reduced h.part_reduced glued.but_queue);
     }
 
 module _ (m : MachineParts) (k : ℕ) (t : Taken) (now after : MachineParts) (h : CanComeBack m k t now) (glues : (own : ℕ) → length now.free ≡ own + length t.part.free → IsGluedOn now t.part own (length t.part.free) after) where
@@ -69,7 +69,7 @@ module _ (m : MachineParts) (k : ℕ) (t : Taken) (now after : MachineParts) (h 
   comes_back = whole_reduced m k t now h after glued_there
 
   pub room_back : (c : CellClass) → count_of after.vacant c + agents_of now.program.tables c t.part.agents ≡ count_of now.vacant c
-  room_back c = ap (λ (p : Program). count_of after.vacant c + agents_of p.tables c t.part.agents) glued_there.two.program_rest ∙ glued_there.vacant c
+  room_back c = ap (λ (p : Program). count_of after.vacant c + agents_of p.tables c t.part.agents) glued_there.but_queue.two.program_rest ∙ glued_there.but_queue.vacant c
 
 -- what has just been taken can come back at once
 pub comes_at_once : (m cut now : MachineParts) (t : Taken) → IsReducer m → IsReducer cut → (cuts : ℕ) → IsCutTimes m cuts cut → t.cuts ≡ cuts → IsSplitBy cut t.cuts t.cells t.seam t.part now → CanComeBack m 0 t now
@@ -83,8 +83,8 @@ comes_at_once m cut now t of of_cut cuts times same split = record {
   part_reduced = stays_reduce t.part;
   together = refl;
   room = λ c. (
-      let out = split.split.vacant c in
-      let tables = ap (λ (p : Program). agents_of p.tables c t.part.agents) split.split.two.program_rest in
+      let out = split.split.but_queues.vacant c in
+      let tables = ap (λ (p : Program). agents_of p.tables c t.part.agents) split.split.but_queues.two.program_rest in
       omega (arith, out, tables)
       );
 }
@@ -104,9 +104,9 @@ comes_reduced m rest now part t i j floor taken of_rest of_part free = record {
   room = λ c. (
       let there = free c in
       let many = of_part.cells c in
-      let size = taken.split.split.part_cells c in
-      let tables = ap (λ (p : Program). agents_of p.tables c part.agents) (taken.split.split.two.program_part ∙ sym (of_rest.program ∙ taken.split.split.two.program_rest)) in
-      let first = ap (λ (p : Program). agents_of p.tables c part.agents) taken.split.split.two.program_part in
+      let size = taken.split.split.but_queues.part_cells c in
+      let tables = ap (λ (p : Program). agents_of p.tables c part.agents) (taken.split.split.but_queues.two.program_part ∙ sym (of_rest.program ∙ taken.split.split.but_queues.two.program_rest)) in
+      let first = ap (λ (p : Program). agents_of p.tables c part.agents) taken.split.split.but_queues.two.program_part in
       omega (arith, there, many, size, tables, first)
       );
 }

@@ -9,6 +9,7 @@ use Rattle.in_net.specs.declared.nets.FreeEnd.{FreeEnd}
 use Rattle.in_net.specs.declared.nets.Point as points
 use Rattle.in_net.specs.declared.nets.Point.TheVariants as point
 use Rattle.in_interaction.specs.Listing.{unlisted}
+use Rattle.in_interaction.specs.Queues.{IsQueueOf}
 use Rattle.in_net.specs.Parts.{Parts}
 use Rattle.in_check.specs.Plain.{PlainParts}
 use Rattle.in_check.specs.Programs.{Program}
@@ -35,6 +36,10 @@ plain_of m = record { program = m.program; net = parts_of m }
 abbrev pub point_at : End → points.Point
 point_at (end.Cell c i) = point.Port (record { 0 = c.0 }) i
 point_at (end.Free k) = point.Free k
+
+-- its queue has each active pair of its net, once, and nothing else
+abbrev pub HasItsPairs : MachineParts → Type 0
+HasItsPairs m = IsQueueOf m.program.tables (parts_of m) m.queue
 
 -- of each class it has so many cells, free ones and those of its agents
 abbrev pub HasCells : ℕ → MachineParts → Type 0

@@ -4,13 +4,12 @@ use Rattle.std.specs.Prelude.{◌≡◌, ◌+◌, ◌-◌, ◌<◌, ℕ, zero, s
 use Rattle.in_arena.specs.declared.content.CellClass.{CellClass}
 use Rattle.in_arena.specs.declared.content.CellNo.{CellNo}
 use Rattle.in_net.specs.Nets.{Point, Port, Free}
-use Rattle.in_interaction.specs.Queues.{IsQueueOf}
 use Rattle.in_compile.specs.Cells.{agents_of, count_of}
 use Rattle.in_check.specs.Systems.{system_of}
 use Rattle.in_moving.specs.Laws.{ends_of}
 use Rattle.in_parts.specs.Leading.{IsWiredWithin, Leads, StandBeside}
 use Rattle.in_reducer.specs.Cutting.{net_in}
-use Rattle.in_reducer.specs.Machines.{MachineParts, HasCells, parts_of}
+use Rattle.in_reducer.specs.Machines.{MachineParts, HasCells, HasItsPairs}
 
 abbrev pub names_of : MachineParts → List (List ℕ)
 names_of m = map (λ f. f.name) m.free
@@ -66,27 +65,34 @@ pub record HasOthers (m : MachineParts) (agents : List CellNo) (rest : MachinePa
   pub gone : (k : ℕ) (c : CellNo) → slice_get agents k ≡ Some c → (net_in rest).symbol c.0 ≡ None
   pub others : (y : ℕ) → ((k : ℕ) → slice_get agents k ≡ Some (record { 0 = y }) → ⊥) → (net_in rest).symbol y ≡ (net_in m).symbol y
 
--- these agents are the part, which has so many cells of each class, and theirs are free in the rest; the queue of either has its active pairs,
--- each once
-pub record IsSplitOff (m : MachineParts) (agents : List CellNo) (own cuts size : ℕ) (rest part : MachineParts) : Type 0 where
+-- these agents are the part, which has so many cells of each class, and theirs are free in the rest; nothing is said of queues
+pub record IsSplitButQueues (m : MachineParts) (agents : List CellNo) (own cuts size : ℕ) (rest part : MachineParts) : Type 0 where
   pub of_rest : HasOthers m agents rest
   pub two : IsOfTwo m rest part own cuts
   pub many_rest : length rest.free ≡ own + cuts
   pub many_part : length part.free ≡ cuts
-  pub queue_rest : IsQueueOf m.program.tables (parts_of rest) rest.queue
-  pub queue_part : IsQueueOf m.program.tables (parts_of part) part.queue
   pub part_cells : HasCells size part
   pub vacant : (c : CellClass) → count_of rest.vacant c ≡ count_of m.vacant c + agents_of m.program.tables c part.agents
   pub cells : (c : CellClass) → count_of rest.vacant c + agents_of m.program.tables c rest.agents ≡ count_of m.vacant c + agents_of m.program.tables c m.agents
 
+-- .. and the queue of either has its active pairs, each once
+pub record IsSplitOff (m : MachineParts) (agents : List CellNo) (own cuts size : ℕ) (rest part : MachineParts) : Type 0 where
+  pub but_queues : IsSplitButQueues m agents own cuts size rest part
+  pub queue_rest : HasItsPairs rest
+  pub queue_part : HasItsPairs part
+
 -- ---- glued on
 
--- the agents of the part have taken as many free cells of each class; the queue has the active pairs, each once
-pub record IsGluedOn (rest part : MachineParts) (own cuts : ℕ) (m : MachineParts) : Type 0 where
+-- the agents of the part have taken as many free cells of each class; nothing is said of queues
+pub record IsGluedButQueue (rest part : MachineParts) (own cuts : ℕ) (m : MachineParts) : Type 0 where
   pub two : IsOfTwo m rest part own cuts
-  pub queue : IsQueueOf rest.program.tables (parts_of m) m.queue
   pub vacant : (c : CellClass) → count_of m.vacant c + agents_of m.program.tables c part.agents ≡ count_of rest.vacant c
   pub cells : (c : CellClass) → count_of m.vacant c + agents_of m.program.tables c m.agents ≡ count_of rest.vacant c + agents_of m.program.tables c rest.agents
+
+-- .. and the queue has the active pairs, each once
+pub record IsGluedOn (rest part : MachineParts) (own cuts : ℕ) (m : MachineParts) : Type 0 where
+  pub but_queue : IsGluedButQueue rest part own cuts m
+  pub queue : HasItsPairs m
 
 -- ---- reduced
 

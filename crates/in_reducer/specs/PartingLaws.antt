@@ -6,8 +6,8 @@ use Rattle.in_interaction.specs.Queues.{both}
 use Rattle.in_check.specs.Runs.{IsRenamed}
 use Rattle.in_compile.specs.Cells.{count_of}
 use Rattle.in_reducer.specs.Cutting.{CanJoin, CutsAt, JoinsLast, net_in}
-use Rattle.in_reducer.specs.Machines.{MachineParts}
-use Rattle.in_reducer.specs.Parting.{IsGluedOn, IsSplitOff, ReducesTo, names_of}
+use Rattle.in_reducer.specs.Machines.{MachineParts, HasItsPairs}
+use Rattle.in_reducer.specs.Parting.{IsGluedButQueue, IsSplitButQueues, ReducesTo, names_of}
 use Rattle.in_reducer.specs.Reducers.{IsReducer}
 use Rattle.in_reducer.specs.Steps.{StepsAt}
 
@@ -25,7 +25,7 @@ ReductionsGoOn = (l m n : MachineParts) (j k : ℕ) → ReducesTo l j m → Redu
 -- a part that is split off, reduced by itself while the rest is, and glued on again: the whole is reduced by both counts together
 abbrev pub PartsReduceTheWhole : Type 0
 PartsReduceTheWhole = (m rest part rest_after part_after after : MachineParts) (agents : List CellNo) (own cuts cells j k : ℕ) → IsReducer m → IsReducer rest → IsReducer part →
-    IsSplitOff m agents own cuts cells rest part → ReducesTo rest j rest_after → ReducesTo part k part_after → IsGluedOn rest_after part_after own cuts after → ReducesTo m (j + k) after
+    IsSplitButQueues m agents own cuts cells rest part → ReducesTo rest j rest_after → ReducesTo part k part_after → IsGluedButQueue rest_after part_after own cuts after → ReducesTo m (j + k) after
 
 -- ---- what is determined
 
@@ -42,29 +42,29 @@ pub record IsReordered (IsSame : ℕ × ℕ → ℕ × ℕ → Type 0) (queue qu
 abbrev pub AreSameTwo : ℕ × ℕ → ℕ × ℕ → Type 0
 AreSameTwo q r = (r ≡ q) ⊎ (r ≡ (q.1, q.0))
 
--- two reducers are the same but for the numbers of their agents, and the order of their queues
+-- two reducers are the same but for the numbers of their agents, and the order of their queues, where these have the active pairs, each once
 pub record DifferInNumbers (m m_too : MachineParts) : Type 0 where
   pub number : ℕ → ℕ
   pub net : IsRenamed number (net_in m) (net_in m_too)
-  pub queue : IsReordered (λ q r. AreSameTwo (both number q) r) m.queue m_too.queue
   pub program : m.program ≡ m_too.program
   pub names : names_of m ≡ names_of m_too
   pub vacant : (c : CellClass) → count_of m.vacant c ≡ count_of m_too.vacant c
+  pub queue : HasItsPairs m → HasItsPairs m_too → IsReordered (λ q r. AreSameTwo (both number q) r) m.queue m_too.queue
 
 -- .. and the agents of both have the same numbers
 pub record DifferInOrder (m m_too : MachineParts) : Type 0 where
   pub net : IsRenamed (λ y. y) (net_in m) (net_in m_too)
-  pub queue : IsReordered (λ q r. q ≡ r) m.queue m_too.queue
   pub alike : DifferInNumbers m m_too
+  pub queue : HasItsPairs m → HasItsPairs m_too → IsReordered (λ q r. q ≡ r) m.queue m_too.queue
 
 -- what is split off is determined by the net, the agents and the cuts
 abbrev pub SplitsAreAlike : Type 0
 SplitsAreAlike = (m rest part rest_too part_too : MachineParts) (agents : List CellNo) (own cuts cells : ℕ) →
-    IsSplitOff m agents own cuts cells rest part → IsSplitOff m agents own cuts cells rest_too part_too → DifferInOrder rest rest_too × DifferInNumbers part part_too
+    IsSplitButQueues m agents own cuts cells rest part → IsSplitButQueues m agents own cuts cells rest_too part_too → DifferInOrder rest rest_too × DifferInNumbers part part_too
 
 -- what is glued is determined by the rest, the part and the cuts
 abbrev pub GluingsAreAlike : Type 0
-GluingsAreAlike = (rest part m m_too : MachineParts) (own cuts : ℕ) → IsGluedOn rest part own cuts m → IsGluedOn rest part own cuts m_too → DifferInNumbers m m_too
+GluingsAreAlike = (rest part m m_too : MachineParts) (own cuts : ℕ) → IsGluedButQueue rest part own cuts m → IsGluedButQueue rest part own cuts m_too → DifferInNumbers m m_too
 
 -- where a wire is cut, and only interactions are done since, the two ends can be joined, and what was before the cut is reduced to that
 abbrev pub CutsAreUndone : Type 0

@@ -2,13 +2,12 @@
 use Rattle.std.specs.Prelude.{◌≤◌, ℕ, List}
 use Rattle.in_check.specs.Checking.{IsAccepted}
 use Rattle.in_check.specs.Plain.{IsPlain}
-use Rattle.in_interaction.specs.Queues.{IsQueueOf}
 use Rattle.in_reducer.specs.Limiting.{most_cells}
-use Rattle.in_reducer.specs.Machines.{MachineParts, HasCells, parts_of, plain_of}
+use Rattle.in_reducer.specs.Machines.{MachineParts, HasCells, HasItsPairs, plain_of}
 
 -- its program is accepted and reaches its net, its queue has each active pair once, and it has one number of cells of each class
 pub record IsMachine (m : MachineParts) : Type 0 where
   pub accepted : (text : List ℕ) × IsAccepted text m.program
   pub plain : IsPlain (plain_of m)
-  pub queue : IsQueueOf m.program.tables (parts_of m) m.queue
+  pub queue : HasItsPairs m
   pub cells : (cells : ℕ) × (cells ≤ most_cells) × HasCells cells m

@@ -21,7 +21,7 @@ use Rattle.in_parts.specs.Leading.{Leads}
 use Rattle.in_parts.proofs.Public.{beside_leads, leads_go_on}
 use Rattle.in_reducer.specs.Cutting.{CanJoin, CutsAt, JoinsLast, net_in}
 use Rattle.in_reducer.specs.Machines.{MachineParts}
-use Rattle.in_reducer.specs.Parting.{IsGluedOn, IsSplitOff, ReducesTo, ends_of_two, names_of, names_of_two}
+use Rattle.in_reducer.specs.Parting.{IsGluedButQueue, IsSplitButQueues, ReducesTo, ends_of_two, names_of, names_of_two}
 use Rattle.in_reducer.specs.PartingLaws.{CutsAreUndone, PartsReduceTheWhole, ReductionsGoOn, StaysReduce, StepsReduce}
 use Rattle.in_reducer.specs.Reducers.{IsReducer}
 use Rattle.in_reducer.proofs.Steps.StepsOn.{steps_keep_reducers}
@@ -62,8 +62,8 @@ reductions_go_on l m n j k first on = record {
 
 -- ---- parts
 
-module _ (m rest part rest_after part_after after : MachineParts) (agents : List CellNo) (own cuts size j k : ℕ) (h : IsReducer m) (h_rest : IsReducer rest) (h_part : IsReducer part) (off : IsSplitOff m agents own cuts size rest part)
-    (first : ReducesTo rest j rest_after) (second : ReducesTo part k part_after) (glued : IsGluedOn rest_after part_after own cuts after) where
+module _ (m rest part rest_after part_after after : MachineParts) (agents : List CellNo) (own cuts size j k : ℕ) (h : IsReducer m) (h_rest : IsReducer rest) (h_part : IsReducer part) (off : IsSplitButQueues m agents own cuts size rest part)
+    (first : ReducesTo rest j rest_after) (second : ReducesTo part k part_after) (glued : IsGluedButQueue rest_after part_after own cuts after) where
   good : IsSoundSystem (system_of m.program)
   good = is_sound h.accepted.0 m.program h.accepted.1
 

@@ -202,8 +202,10 @@ module _ (r o : Body) (k : KeepsNet r) (l : KeepsNet o) (can : CanAppend (reduce
 
       pub glued_on : NoneLeased r.arena → IsGluedOn (reducer_view r) (reducer_view o) own cuts after
       glued_on none = record {
-        two = record { program_rest = refl; program_part = can.program; name = name; beside = stand; within_rest = net_within _ _ k.reducer.net.sound.net; within_part = net_within _ _ l.reducer.net.sound.net; names = names_told };
+        but_queue = record {
+          two = record { program_rest = refl; program_part = can.program; name = name; beside = stand; within_rest = net_within _ _ k.reducer.net.sound.net; within_part = net_within _ _ l.reducer.net.sound.net; names = names_told };
+          vacant = together.vacant_after r o k l can agents live (number_in rest_numbers) a anew part_numbers names b copied none;
+          cells = together.cells_after r o k l can agents live (number_in rest_numbers) a anew part_numbers names b copied;
+        };
         queue = is_reducer.queue;
-        vacant = together.vacant_after r o k l can agents live (number_in rest_numbers) a anew part_numbers names b copied none;
-        cells = together.cells_after r o k l can agents live (number_in rest_numbers) a anew part_numbers names b copied;
       }

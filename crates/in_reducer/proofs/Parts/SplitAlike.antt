@@ -6,16 +6,18 @@ use Rattle.in_arena.specs.declared.content.CellClass.{CellClass}
 use Rattle.in_arena.specs.declared.content.CellNo.{CellNo}
 use Rattle.in_net.proofs.Public.{all_same}
 use Rattle.in_check.specs.Programs.{Program}
+use Rattle.in_check.specs.Runs.{IsRenamed}
 use Rattle.in_compile.specs.Cells.{agents_of, count_of}
+use Rattle.in_interaction.specs.Queues.{IsQueueOf, both}
 use Rattle.in_glue.proofs.Public.{at_outer, map_some}
 use Rattle.in_moving.proofs.Public.{NamedOr, named_or}
 use Rattle.in_parts.proofs.Public.{beside_is_one, beside_parts_are_alike}
 use Rattle.in_reducer.specs.Cutting.{net_in}
-use Rattle.in_reducer.specs.Machines.{MachineParts, parts_of}
-use Rattle.in_reducer.specs.Parting.{IsSplitOff, ends_of_two, names_of, names_of_two, place_of_two}
-use Rattle.in_reducer.specs.PartingLaws.{DifferInNumbers, DifferInOrder, GluingsAreAlike, SplitsAreAlike}
+use Rattle.in_reducer.specs.Machines.{MachineParts, HasItsPairs, parts_of}
+use Rattle.in_reducer.specs.Parting.{IsSplitButQueues, ends_of_two, names_of, names_of_two, place_of_two}
+use Rattle.in_reducer.specs.PartingLaws.{AreSameTwo, DifferInNumbers, DifferInOrder, GluingsAreAlike, IsReordered, SplitsAreAlike}
 use Rattle.in_reducer.proofs.Cuts.Reduced.{same_agents}
-use Rattle.in_reducer.proofs.Pairs.Reordered.{joins_beside, joins_within, reordered, reordered_alone}
+use Rattle.in_reducer.proofs.Pairs.Reordered.{JoinsThere, joins_beside, joins_within, reordered, reordered_alone}
 use Rattle.in_reducer.proofs.Parts.TwoEnds.{part_of_two, rest_of_two}
 
 -- two lists of one length are one where they have the same at each place
@@ -27,7 +29,18 @@ same_below {X} xs ys w many many_too at = all_same xs ys (λ e. go e (slice_get 
     go e None (Some y) f g = at e (let l = slice_get_within ys e y g in omega (arith, l, many_too))
     go e None None f g = f ∙ sym g
 
-module _ (m rest part rest_too part_too : MachineParts) (agents : List CellNo) (own cuts size : ℕ) (off : IsSplitOff m agents own cuts size rest part) (off_too : IsSplitOff m agents own cuts size rest_too part_too) where
+-- queues of nets that are the same but for their numbers
+module _ (m m_too : MachineParts) (program : m.program ≡ m_too.program) (own : HasItsPairs m) (own_too : HasItsPairs m_too) where
+  pairs_too : IsQueueOf m.program.tables (parts_of m_too) m_too.queue
+  pairs_too = subst (λ (z : Program). IsQueueOf z.tables (parts_of m_too) m_too.queue) (sym program) own_too
+
+  queues_alike : (f : ℕ → ℕ) → IsRenamed f (net_in m) (net_in m_too) → JoinsThere (net_in m) → IsReordered (λ q r. AreSameTwo (both f q) r) m.queue m_too.queue
+  queues_alike f named joins = reordered m.program.tables f (parts_of m) (parts_of m_too) named joins m.queue m_too.queue own pairs_too
+
+  one_way_round : IsRenamed (λ y. y) (net_in m) (net_in m_too) → IsReordered (λ q r. AreSameTwo (both (λ y. y) q) r) m.queue m_too.queue → IsReordered (λ q r. q ≡ r) m.queue m_too.queue
+  one_way_round named alike = reordered_alone m.program.tables (parts_of m) (parts_of m_too) named m.queue m_too.queue own pairs_too alike
+
+module _ (m rest part rest_too part_too : MachineParts) (agents : List CellNo) (own cuts size : ℕ) (off : IsSplitButQueues m agents own cuts size rest part) (off_too : IsSplitButQueues m agents own cuts size rest_too part_too) where
   abbrev ends : List (ℕ × ℕ)
   ends = ends_of_two own cuts
 
@@ -95,24 +108,28 @@ module _ (m rest part rest_too part_too : MachineParts) (agents : List CellNo) (
       let nets =
       beside_parts_are_alike (net_in rest) (net_in part) (net_in rest_too) (net_in part_too) (net_in m) off.two.name off_too.two.name ends
       off.two.within_rest off.two.within_part off_too.two.within_rest off_too.two.within_part off.two.beside off_too.two.beside same_symbol in
-      let t = m.program.tables in
-      let queues = reordered t (λ y. y) (parts_of rest) (parts_of rest_too) nets.0 (joins_within (net_in rest) off.two.within_rest) rest.queue rest_too.queue off.queue_rest off_too.queue_rest in
+      let program_rest = off.two.program_rest ∙ sym off_too.two.program_rest in
+      let program_part = off.two.program_part ∙ sym off_too.two.program_part in
       let rests : DifferInNumbers rest rest_too = record {
         number = λ y. y;
         net = nets.0;
-        queue = queues;
-        program = off.two.program_rest ∙ sym off_too.two.program_rest;
+        program = program_rest;
         names = same_rest_names;
         vacant = same_rest_vacant;
+        queue = λ own_pairs too. queues_alike rest rest_too program_rest own_pairs too (λ y. y) nets.0 (joins_within (net_in rest) off.two.within_rest);
       } in (
-        record { net = nets.0; queue = reordered_alone t (parts_of rest) (parts_of rest_too) nets.0 rest.queue rest_too.queue off.queue_rest off_too.queue_rest queues; alike = rests },
+        record {
+          net = nets.0;
+          alike = rests;
+          queue = λ own_pairs too. one_way_round rest rest_too program_rest own_pairs too nets.0 (rests.queue own_pairs too);
+        },
         record {
           number = nets.1;
           net = nets.2;
-          queue = reordered t nets.1 (parts_of part) (parts_of part_too) nets.2 (joins_within (net_in part) off.two.within_part) part.queue part_too.queue off.queue_part off_too.queue_part;
-          program = off.two.program_part ∙ sym off_too.two.program_part;
+          program = program_part;
           names = same_part_names;
           vacant = same_part_vacant;
+          queue = λ own_pairs too. queues_alike part part_too program_part own_pairs too nets.1 nets.2 (joins_within (net_in part) off.two.within_part);
         },
       )
 
@@ -126,8 +143,6 @@ gluings_are_alike rest part m m_too own cuts on on_too =
     record {
       number = nets.0;
       net = nets.1;
-      queue = reordered rest.program.tables nets.0 (parts_of m) (parts_of m_too) nets.1 (joins_beside (net_in rest) (net_in part) (net_in m) on.two.name (ends_of_two own cuts) on.two.within_rest on.two.within_part on.two.beside)
-          m.queue m_too.queue on.queue on_too.queue;
       program = program;
       names = map_some (names_of m) (names_of m_too) (on.two.names ∙ sym on_too.two.names);
       vacant = λ c. (
@@ -136,4 +151,6 @@ gluings_are_alike rest part m m_too own cuts on on_too =
           let same = ap (λ (p : Program). agents_of p.tables c part.agents) program in
           omega (arith, a, b, same)
           );
+      queue = λ own_pairs too.
+          queues_alike m m_too program own_pairs too nets.0 nets.1 (joins_beside (net_in rest) (net_in part) (net_in m) on.two.name (ends_of_two own cuts) on.two.within_rest on.two.within_part on.two.beside);
     }

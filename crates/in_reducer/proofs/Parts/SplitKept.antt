@@ -26,7 +26,7 @@ use Rattle.in_reducer.specs.Cutting.{net_in}
 use Rattle.in_reducer.specs.Inside.{AreTools, IsOwnEnd, KeepsNet, declared_as, most_free, own_free, reducer_view}
 use Rattle.in_reducer.specs.Limiting.{most_cells}
 use Rattle.in_reducer.specs.Machines.{parts_of}
-use Rattle.in_reducer.specs.Parting.{CanSplit, IsSplitOff, ends_of_two}
+use Rattle.in_reducer.specs.Parting.{CanSplit, IsSplitButQueues, IsSplitOff, ends_of_two}
 use Rattle.in_reducer.specs.Reducers.{IsReducer}
 use Rattle.in_reducer.specs.Splitting.{ArePicked, goes, is_gone, is_there, stays}
 use Rattle.in_reducer.specs.Standing.{AreLeasedAlike}
@@ -179,8 +179,8 @@ module _ (r : Body) (k : KeepsNet r) (agents : List CellNo) (own cuts : ℕ) (ca
       let same = length-map (filter (goes x.left) r.queue.items) (both (name_in x.names)) in
       omega (arith, short, same, wide)
 
-  pub split_off : NoneLeased r.arena → (q o : List (ℕ × ℕ)) → q ≡ rest_pairs → o ≡ part_pairs → IsSplitOff (reducer_view r) agents own cuts x.size (nets.rest r k agents own cuts can x h q) (nets.part r k agents own cuts can x h o)
-  split_off none q o is is_part = record {
+  but_queues : NoneLeased r.arena → (q o : List (ℕ × ℕ)) → IsSplitButQueues (reducer_view r) agents own cuts x.size (nets.rest r k agents own cuts can x h q) (nets.part r k agents own cuts can x h o)
+  but_queues none q o = record {
     of_rest = record {
       gone = λ j c at. symbol_seen x.left rest_fs x.rest_ends c.0 ∙ ap word_of (h.lost.out.gone j c at);
       others = λ y out. (
@@ -191,8 +191,6 @@ module _ (r : Body) (k : KeepsNet r) (agents : List CellNo) (own cuts : ℕ) (ca
     two = record { program_rest = refl; program_part = refl; name = nets.origin r k agents own cuts can x h; beside = nets.stand r k agents own cuts can x h; within_rest = net_within _ _ (nets.sound r k agents own cuts can x h).0.net; within_part = net_within _ _ (nets.sound r k agents own cuts can x h).1.net; names = nets.names_are r k agents own cuts can x h q o };
     many_rest = nets.rest_many r k agents own cuts can x h;
     many_part = nets.part_many r k agents own cuts can x h;
-    queue_rest = subst (IsQueueOf t rest_parts) (sym is) rest_queue;
-    queue_part = subst (IsQueueOf t part_parts) (sym is_part) part_queue;
     part_cells = λ d. cells.part_cells r k agents own cuts can x.numbers x.names x.size x.first x.new h.same h.empty h.copied d;
     vacant = λ d. (
         let a = cells.rest_vacant r k agents own cuts can (number_in x.rest_numbers) x.left h.lost none d in
@@ -204,6 +202,13 @@ module _ (r : Body) (k : KeepsNet r) (agents : List CellNo) (own cuts : ℕ) (ca
         let b = cells_at_rest t r.arena k.net d in
         omega (arith, a, b)
         );
+  }
+
+  pub split_off : NoneLeased r.arena → (q o : List (ℕ × ℕ)) → q ≡ rest_pairs → o ≡ part_pairs → IsSplitOff (reducer_view r) agents own cuts x.size (nets.rest r k agents own cuts can x h q) (nets.part r k agents own cuts can x h o)
+  split_off none q o is is_part = record {
+    but_queues = but_queues none q o;
+    queue_rest = subst (IsQueueOf t rest_parts) (sym is) rest_queue;
+    queue_part = subst (IsQueueOf t part_parts) (sym is_part) part_queue;
   }
 
   -- ---- what is kept of both

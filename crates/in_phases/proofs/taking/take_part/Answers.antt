@@ -63,7 +63,7 @@ overflow_add-floor c =
     let split = c.in-Some.ensures.split.1 in
     let part = split.of_part.cells in
     let there = part.2 Small in
-    let size = split.split.part_cells Small in
+    let size = split.split.but_queues.part_cells Small in
     let few = part.1 in
     omega (arith, floor, all, most, there, size, few)
 
@@ -91,8 +91,8 @@ returns c =
         reduced,
         λ d. (
             let back = c.bring_back.ensures.vacant d in
-            let out = split.split.vacant d in
-            let same = ap (λ (p : Program). agents_of p.tables d t.part.agents) split.split.two.program_rest in
+            let out = split.split.but_queues.vacant d in
+            let same = ap (λ (p : Program). agents_of p.tables d t.part.agents) split.split.but_queues.two.program_rest in
             let before = ap (λ (n : Need). count_of n d) (times_stay m cut c.cut_off-cuts.result c.cut_off-cuts.ensures.cuts).vacant in
             let floor = c.requires.floor d in
             omega (arith, back, out, same, before, floor)
@@ -111,13 +111,13 @@ returns c =
 -- a part and the rest are of the program
 pub returns-then-has_free-clause-templates : goal.returns-then-has_free-clause-templates
 returns-then-has_free-clause-templates c =
-    let split = c.in-Some.ensures.split.1.split.two in
+    let split = c.in-Some.ensures.split.1.split.but_queues.two in
     let s = times_stay c.args.reducer.now c.cut_off-cuts.new.reducer c.cut_off-cuts.result c.cut_off-cuts.ensures.cuts in
     subst (λ (p : Program). AreTemplatesOf p c.args.templates.now) (sym (split.program_rest ∙ s.program)) c.requires.templates
 
 pub returns-then-has_free-clause-part_templates : goal.returns-then-has_free-clause-part_templates
 returns-then-has_free-clause-part_templates c =
-    let split = c.in-Some.ensures.split.1.split.two in
+    let split = c.in-Some.ensures.split.1.split.but_queues.two in
     let s = times_stay c.args.reducer.now c.cut_off-cuts.new.reducer c.cut_off-cuts.result c.cut_off-cuts.ensures.cuts in
     subst (λ (p : Program). AreTemplatesOf p c.args.templates.now) (sym (split.program_part ∙ s.program)) c.requires.templates
 
