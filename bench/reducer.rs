@@ -1,6 +1,6 @@
 // A sequential reducer in plain Rust with unchecked memory, written by hand for speed: what `bench/run` measures `inet` against.
 //
-// reducer LIMIT TIMES [net] < TEXT      reduces the net of the text, so many times anew in the same memory, with so many interactions
+// reducer LIMIT TIMES [net] < TEXT      reduces the net of the text, TIMES times anew in the same memory, with LIMIT interactions
 // at most, and prints: interactions, agents left, the most cells that were taken, nanoseconds of processor time that the reduction
 // alone took, by the least of the times, and by the first one, which is the first to touch the memory. With `net` it then prints the
 // net as `inet run` does.

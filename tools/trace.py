@@ -71,7 +71,7 @@ def coming(program, net, pair):
 
 
 def section(program, net, pair):
-    """The net after so many interactions, and what comes next."""
+    """The net after its interactions so far, and what comes next."""
     picture = svg(dot(net, pair))
     figure = f"<figure>{picture}</figure>" if picture else "<p>(No picture: Graphviz isn't there.)</p>"
     count = f"{net.interactions} interaction{'' if net.interactions == 1 else 's'}"

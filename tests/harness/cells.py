@@ -60,7 +60,7 @@ def wrong_sum_of_cells(answer, text, cells):
 
 
 def limited(program, name, text, cells):
-    """A program in so many cells: with one worker its cells add up, and each number of workers answers the same each time."""
+    """A program in `cells` cells: with one worker its cells add up, and each number of workers answers the same each time."""
     words = ["run", "--cells", str(cells)]
     usual = program.run(words, text)
     yield f"{name} in {cells} cells: all cells", lambda: wrong_sum_of_cells(usual, text.decode(), cells)

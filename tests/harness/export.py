@@ -16,7 +16,7 @@ from harness.refusals import Refuser, target
 
 TOOLS = os.path.join(HERE, "..", "..", "tools")
 BUILT = os.path.join(HERE, "..", "..", "crates", "inet_export", "out", "inet_export")
-# So many random orders, each with a seed of its own.
+# This many random orders, each with a seed of its own.
 ORDERS = 10
 # An accepted program and a refused one, of which requests are refused.
 REFUSING = ("sum", "used_three_times")

@@ -5,21 +5,28 @@ import re
 from collections import defaultdict
 
 HERE = os.path.dirname(os.path.abspath(__file__))
-CRATES = os.path.join(HERE, "..", "..", "crates")
+TOP = os.path.join(HERE, "..", "..")
+CRATES = os.path.join(TOP, "crates")
 # The lemmas on lists and graphs are for everybody: this crate has them by subject, in no module Public.
 FOR_EVERYBODY = {"in_base"}
 CITED = re.compile(r"^\s*(?:unfoldable )?(?:pub )?use (?:package\.)?Rattle\.(in\w+)\.proofs\.(\w+)", re.MULTILINE)
 TYPE = re.compile(r"^\s*(?:pattern |unfoldable |abbrev )*pub (?:data |record )?([A-Z]\w*)", re.MULTILINE)
+# What a crate gives out of its own modules, and what its first file declares.
+EXPORT = re.compile(r"^pub use (?!in_)([\w:]+?)(?:::\{([^}]*)\})?;", re.MULTILINE)
+DECLARED = re.compile(r"^pub (?:fn|struct|enum|trait|const) (\w+)", re.MULTILINE)
 # A line of crates.txt that has a crate's libraries, and the one below it that has those that the crate never names.
 LIBRARIES = re.compile(r"^(in\w+)(?: [^:\n]*)?:(.*)\n(?:#     for contracts alone:(.*)\n)?", re.MULTILINE)
-# What the field says in the place of words that were used here.
+# Words that were used here, and what the field says in their place.
 RETIRED = {
-    "want of memory": "out of memory",
-    "memory is wanted": "memory runs out",
-    "memory was wanted": "memory ran out",
-    "exactly where": "exactly when",
-    "looking call": "accessor",
+    r"want of (?:memory|cells|steps)": "out of memory, lack of cells",
+    r"memory(?: \w+){0,6} (?:is|are|was|be) (?:not )?wanted": "memory runs out",
+    r"exactly where": "exactly when",
+    r"looking call": "accessor",
+    r"spaces? of names": "namespace",
+    r"goes on so": "an unexpected token",
 }
+# The marks with which a line of a comment begins, and the blanks around them.
+MARK = re.compile(r"^\s*(?://[/!]?|--|#|\*)?\s*")
 
 
 def texts_of(folder):
@@ -49,6 +56,20 @@ def wrong_homes():
     return "; ".join(f"{name} in {' and '.join(sorted(files))}" for name, files in sorted(homes.items()) if len(files) > 1)
 
 
+def wrong_exports():
+    """Names that two crates give out as their own: a name is found by itself."""
+    homes = defaultdict(set)
+    for path in sorted(glob.glob(os.path.join(CRATES, "*", "src", "lib.rt"))):
+        with open(path, encoding="utf-8") as file:
+            text = file.read()
+        names = DECLARED.findall(text)
+        for module, several in EXPORT.findall(text):
+            names += [name.split()[-1] for name in several.split(",") if name.strip()] if several else [module.split("::")[-1]]
+        for name in names:
+            homes[name].add(os.path.relpath(path, CRATES).split(os.sep)[0])
+    return "; ".join(f"{name} of {' and '.join(sorted(crates))}" for name, crates in sorted(homes.items()) if len(crates) > 1)
+
+
 def code_of(crate):
     """The lines of a crate's sources, specs and proofs, with their paths, and whether each is a comment."""
     for folder in ("src", "specs", "proofs"):
@@ -74,15 +95,25 @@ def wrong_libraries():
     return "; ".join(wrong)
 
 
+def prose():
+    """What people read: each file of the crates, the documents, the tests and the measurements, as one line without the marks of comments."""
+    patterns = ["README.md", "crates.txt", "docs/**/*.md", "tests/**/*", "bench/*", "tools/*", "include/*"]
+    patterns += [f"crates/*/{folder}/**/*.*t*" for folder in ("src", "specs", "proofs")]
+    for pattern in patterns:
+        for path in sorted(glob.glob(os.path.join(TOP, pattern), recursive=True)):
+            if os.path.isfile(path) and not os.path.samefile(path, __file__) and not path.endswith(".pyc"):
+                with open(path, encoding="utf-8", errors="replace") as file:
+                    yield os.path.relpath(path, TOP), " ".join(MARK.sub("", line).strip() for line in file)
+
+
 def retired_words():
-    """Comments in words that the field doesn't use."""
+    """Words that the field doesn't use."""
     return "; ".join(
-        f"crates/{path}: {word}, for which the field says {RETIRED[word]}"
-        for crate in sorted(os.listdir(CRATES))
-        for path, line, is_comment in code_of(crate)
-        if is_comment
-        for word in RETIRED
-        if word in line
+        f"{path}: {found.group()}, for which the field says {said}"
+        for path, text in prose()
+        for word, said in RETIRED.items()
+        for found in [re.search(word, text, re.IGNORECASE)]
+        if found
     )
 
 
@@ -90,5 +121,6 @@ def house(_program):
     """The group: it needs no program."""
     yield "only Public is cited across crates", wrong_citations
     yield "one name, one home", wrong_homes
+    yield "one name, one crate", wrong_exports
     yield "libraries that are there for contracts alone", wrong_libraries
     yield "words of the field", retired_words

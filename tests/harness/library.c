@@ -4,7 +4,7 @@
  *                            answer that differs, or that isn't given as include/inet.h says in rooms of several sizes; nothing else.
  *                            Exit status 1 where there is a line.
  *   library time CALL FILE.. what a call of check, derive, run or diagnose takes on each text: its bytes, and microseconds
- *   library stack CALL KIB FILE..   the call by a thread with a stack of so many KiB
+ *   library stack CALL KIB FILE..   the call by a thread with a stack of KIB KiB
  */
 #include "inet.h"
 

@@ -13,19 +13,19 @@ from harness.refusals import LINE, Refuser, refused_memory
 from harness.rows import sessions
 
 BUILT = os.path.join(HERE, "..", "..", "crates", "in_forced_phases", "out", "in_forced_phases")
-# How a run is forced into parts: how many, after so many interactions in turn each time, and with so many in a phase, or none: then a net
+# How a run is forced into parts: how many, after how many interactions in turn each time, and with how many in a phase, or none: then a net
 # is split and glued again. Where nothing is ever done there is no run.
 PARTS = (1, 2, 3, 8)
 BETWEEN = (0, 1, 7)
 MOST = (0, 1, 5, 1000)
 FORCED = [by for by in itertools.product(PARTS, BETWEEN, MOST) if by[1] or by[2]]
 CELLS = 2_000
-# A text with more bytes may have more agents, and so may a run with more interactions. No run is forced into more phases than so many.
+# A text with more bytes may have more agents, and so may a run with more interactions. No run is forced into more than `MOST_PHASES` phases.
 LARGE_TEXT, CELLS_OF_LARGE_TEXT = 4_000, 10_000
 LONG_RUN, CELLS_OF_LONG_RUN = 2_000, 200_000
 MOST_PHASES = 500
 NO_LIMIT = 1_000_000
-# So many generated programs, and so many of the ways above for each.
+# This many generated programs, and this many of the ways above for each.
 PROGRAMS, WAYS = 200, 12
 # Of how many generated programs runs are stopped, and how: by limits, in ways of their own, and by few cells.
 STOPPED = 60
@@ -86,7 +86,7 @@ def gone_on(text, net):
 
 
 def wrong_end(program, text, usual, net, count):
-    """What is wrong with a net that was come to by so many interactions: at its end it is the usual one; else it goes on to that."""
+    """What is wrong with a net that was reached by `count` interactions: at its end it is the usual one; else it goes on to that."""
     if is_at_end(net):
         return None if (net, count) == usual else f"{count} interactions, {net!r}; wanted: {usual[1]}, {usual[0]!r}"
     rest = gone_on(text, net)
@@ -97,7 +97,7 @@ def wrong_end(program, text, usual, net, count):
 
 
 def cells_for(text, count):
-    """So many cells of each class as a forced run of so many interactions gets, which are enough in any order."""
+    """How many cells of each class a forced run of `count` interactions gets, which are enough in any order."""
     if count > LONG_RUN:
         return CELLS_OF_LONG_RUN
     return CELLS_OF_LARGE_TEXT if len(text) > LARGE_TEXT else CELLS

@@ -69,7 +69,7 @@ class Refuser:
 def wrong_without_memory(answer, usual, may_answer, may_want):
     """What is wrong where a request for memory was refused: the answer is the usual one, or `memory`, as far as each is right.
 
-    Where the usual answer has come and only what is told on standard error wants memory, nothing is told.
+    Where the usual answer has come and memory runs out only for what is told on standard error, nothing is told.
     """
     if (answer.status, answer.output) == (usual.status, usual.output):
         if usual.status in (REFUSED, WRONG_WORDS):

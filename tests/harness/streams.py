@@ -85,7 +85,7 @@ def outputs(program):
 
 
 def read_a_beginning(program, words, text, size):
-    """Runs the program into a small pipe, whose reader closes it after so many bytes: the status, what was read, standard error."""
+    """Runs the program into a small pipe, whose reader closes it after `size` bytes: the status, what was read, standard error."""
     reader, writer = os.pipe()
     fcntl.fcntl(writer, SET_PIPE_SIZE, SMALL_PIPE)
     got = []
@@ -104,7 +104,7 @@ def read_a_beginning(program, words, text, size):
 
 
 def wrong_early_end(program, words, text, size, usual):
-    """What is wrong where the reader closes the pipe after so many bytes of an output that is much longer than the pipe."""
+    """What is wrong where the reader closes the pipe after `size` bytes of an output that is much longer than the pipe."""
     answer, got = read_a_beginning(program, words, text, size)
     if len(usual.output) < 3 * SMALL_PIPE or not got[0] or not usual.output.startswith(got[0]):
         return f"read {got[0]!r} of {len(usual.output)} bytes"

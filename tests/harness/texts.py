@@ -63,7 +63,7 @@ def encodings(program):
 
 
 def comment_of_letters(size):
-    """A comment of so many bytes, whose letters take two each."""
+    """A comment of `size` bytes, whose letters take two each."""
     letters = (size - 2) // 2
     return b"# " + "\u00e9".encode() * letters + b" " * (size - 2 - 2 * letters)
 
@@ -114,7 +114,7 @@ def names(program):
 
 
 def turned(count):
-    """A program with so many free names, each with an active pair that leaves one agent at it."""
+    """A program with `count` free names, each with an active pair that leaves one agent at it."""
     ends = [f"end{number}" for number in range(count)]
     declared = ",\n  ".join(f"{end} : t+" for end in ends)
     joints = "\n".join(f"  Turn({end}) ~ Z;" for end in ends)

@@ -29,7 +29,7 @@ BagsAreApart b d = (n : ℕ) → IsInBag b n → state_at d n ≡ Leased
 abbrev pub AreOfOne : ArenaView → ArenaView → Type 0
 AreOfOne b d = (d.memory ≡ b.memory) × (d.cells ≡ b.cells)
 
--- where there are so many cells of each class, the cell of this number is for so many ends
+-- where there are `cells` cells of each class, the cell of number n is for `ends` ends
 abbrev pub IsFor : ℕ → ℕ → ℕ → Type 0
 IsFor cells n ends = (c : CellClass) × IsNumberOf cells c n × Holds c ends
 

@@ -43,7 +43,7 @@ RowsChange old new c i x = map new classes ≡ slice_set (map old classes) (clas
 abbrev pub view_of : Regions → ArenaView
 view_of r = seen (block_of r) r.cells (row_of r)
 
--- each is a region, and each of so many cells
+-- each is a region, and each has `r.cells` cells
 pub record IsRegions (r : Regions) : Type 0 where
   pub small : IsRegion r.small
   pub large : IsRegion r.large
@@ -62,7 +62,7 @@ pub record AreWhole (r : Regions) : Type 0 where
   pub large : IsWholeRegion r.large
   pub wide : IsWholeRegion r.wide
 
--- regions of so many cells of each class, all of them free
+-- regions with `cells` cells of each class, all of them free
 abbrev pub AreFresh : ℕ → Regions → Type 0
 AreFresh cells r = IsRegions r × (r.cells ≡ cells) × ((c : CellClass) → row_of r c ≡ replicate cells Vacant)
 

@@ -7,7 +7,7 @@ use Rattle.in_arena.specs.States.{State, Vacant, Leased, is_vacant}
 use Rattle.in_arena.specs.declared.content.CellClass.{CellClass}
 use Rattle.in_arena.specs.declared.content.CellNo.{CellNo}
 
--- it has so many cells of each class
+-- it has `a.cells` cells of each class
 abbrev pub HasAllCells : ArenaView → Type 0
 HasAllCells a = length a.states ≡ length classes * a.cells
 

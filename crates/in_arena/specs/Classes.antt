@@ -24,18 +24,18 @@ least Small = 1
 least Large = width Small + 1
 least Wide = width Large + 1
 
--- a cell of this class is for so many ends
+-- a cell of this class is for n ends
 abbrev pub Holds : CellClass → ℕ → Type 0
 Holds c n = (least c ≤ n) × (n ≤ width c)
 
 abbrev pub holds : CellClass → ℕ → Bool
 holds c n = nat_le (least c) n && nat_le n (width c)
 
--- where there are so many cells of each class, this is the number of one of that class: the cells of a class stand after those of the class before
+-- where there are `cells` cells of each class, n is the number of one of class c: the cells of a class stand after those of the class before
 abbrev pub IsNumberOf : ℕ → CellClass → ℕ → Type 0
 IsNumberOf cells c n = (class_no c * cells ≤ n) × (n < (class_no c + 1) * cells)
 
--- so many ends that some class holds are held by one class
+-- a number of ends that some class holds is held by only one class
 abbrev pub ClassesAreApart : Type 0
 ClassesAreApart = (n : ℕ) (c d : CellClass) → Holds c n → Holds d n → c ≡ d
 

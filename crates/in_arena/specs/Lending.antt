@@ -51,7 +51,7 @@ pub record Lends (a b : ArenaView) (ls : List LeaseView) : Type 0 where
   pub free : All (λ n. state_at a n ≡ Vacant) (numbers ls)
   pub of : AreOf b ls
 
--- so many more leases of cells of this class, and of no other class fewer cells are free
+-- `count` more leases of cells of this class, and of no other class fewer cells are free
 pub record LendsMore (old : List LeaseView) (a : ArenaView) (class : CellClass) (count : ℕ) (new : List LeaseView) (b : ArenaView) : Type 0 where
   pub more : List LeaseView
   pub list : new ≡ old ++ more

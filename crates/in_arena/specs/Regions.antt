@@ -8,7 +8,7 @@ use Rattle.in_arena.specs.declared.content.Stored.{Stored}
 use Rattle.in_arena.specs.declared.region.Region.{Region}
 use Rattle.in_arena.specs.declared.region.Held.{Held}
 
--- with so many ends; none: the cell is free
+-- with a given number of ends; none: the cell is free
 abbrev pub with_ends : ℕ → ℕ → List Stored → State
 with_ends zero word ends = Vacant
 with_ends (suc n) word ends = Live word (map end_of (take (suc n) ends))
@@ -58,7 +58,7 @@ module _ {W : ℕ} where
   IsFreeList cells next [] = next ≡ length cells
   IsFreeList cells next (f ∷ fs) = (next ≡ f) × (f < length cells) × LeadsToNext cells f (λ k. IsFreeList cells k fs)
 
-  -- a content that stands in a cell has at most so many ends
+  -- a content that stands in a cell has at most W ends
   abbrev pub IsCell : Option (Option (Content W)) → Type 0
   IsCell None = Unit {0}
   IsCell (Some None) = Unit {0}
@@ -137,6 +137,6 @@ pub record IsSameCell {W : ℕ} (l m : Held W) : Type 0 where
   pub block : m.cells.at ≡ l.cells.at
   pub size : length m.cells.slots ≡ length l.cells.slots
 
--- a region of so many cells, all of them free
+-- a region of `cells` cells, all of them free
 abbrev pub IsFreshRegion : {W : ℕ} → ℕ → Region W → Type 0
 IsFreshRegion cells r = IsRegion r × (states r ≡ replicate cells Vacant)

@@ -15,7 +15,7 @@ module _ {W : ℕ} where
   abbrev pub sack_state : Sack W → ℕ → State
   sack_state s i = state_of (get_or s.cells.slots i None)
 
-  -- a cell is another owner's, or here with a content of at most so many ends
+  -- a cell is another owner's, or here with a content of at most W ends
   abbrev pub IsKeptCell : Option (Option (Content W)) → Type 0
   IsKeptCell None = Unit {0}
   IsKeptCell (Some None) = ⊥

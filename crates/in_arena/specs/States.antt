@@ -38,7 +38,7 @@ end_at Vacant place = None
 end_at Leased place = None
 end_at (Live word ends) place = slice_get ends place
 
--- live with this symbol word and so many ends, which are open
+-- live with this symbol word and `count` ends, which are open
 abbrev pub IsBegun : ℕ → ℕ → State → Type 0
 IsBegun word count x = (ends : List End) × (length ends ≡ count) × (x ≡ Live word ends)
 

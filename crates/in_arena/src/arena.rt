@@ -15,7 +15,7 @@ use crate::regions::{Regions, place_of};
 use std::alloc::{AllocError, Global};
 use std::marker::Model;
 
-/// So many cells of each class in raw memory, numbered class by class from 0. Contracts see what each cell is,
+/// Cells in raw memory, as many of each class, numbered class by class from 0. Contracts see what each cell is,
 /// by its number: free, leased, or live with a symbol word and its ends. It is dropped only while no cell is on lease.
 pub struct Arena {
     regions: Regions,
@@ -33,6 +33,7 @@ impl Model for Arena {
     ghost invariant = { IsArena };
 }
 
+// By hand, since an arena may go only where none of its cells is on lease.
 impl Drop for Arena {
     fn drop(self)
         requires { NoneLeased self }
@@ -43,7 +44,7 @@ impl Drop for Arena {
 }
 
 impl Arena {
-    /// An arena with so many cells of each class, all free. Refused only when out of memory; no other call takes memory.
+    /// An arena with `cells` cells of each class, all free. Refused only when out of memory; no other call takes memory.
     pub fn new(alloc: Global, cells: u32) -> Result<Arena, AllocError>
         requires { cells ≤ most_cells }
         ensures { IfOk result (λ a. (a.cells ≡ cells) × (a.states ≡ replicate (length classes * cells) Vacant)) }
@@ -116,7 +117,7 @@ impl Arena {
         self.regions.is_live(class, index)
     }
 
-    /// How many places a live cell has, the principal one among them. Some class of cells is for so many.
+    /// How many places a live cell has, the principal one among them. Some class of cells is for that many.
     pub fn places(&self, cell: CellNo) -> u8
         requires { IsLive (state_at self.now cell.0) }
         ensures places { result ≡ places (state_at self.now cell.0) }

@@ -71,7 +71,7 @@ unsafe impl<T, A: Allocator + Send> Send for Deed<T, A> {}
 // A `&` to it holds nothing.
 unsafe impl<T, A: Allocator> Sync for Deed<T, A> {}
 
-/// A row of so many cells, none of which was written.
+/// A row of `len` cells, none of which was written.
 pub fn allocate<T, A: Allocator>(
     alloc: &A,
     len: usize,

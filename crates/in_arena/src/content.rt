@@ -62,7 +62,7 @@ impl CellClass {
         }
     }
 
-    /// Whether a cell of this class is for so many ends, the principal port's among them.
+    /// Whether a cell of this class is for that many ends, the principal port's among them.
     pub fn holds(self, ends: usize) -> bool
         ensures { result ≡ holds self ends }
     {

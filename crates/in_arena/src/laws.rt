@@ -3,7 +3,7 @@ ghost use Rattle.in_arena.specs.Classes.{ClassesAreApart, ClassesAreAll, Numbers
 ghost use Rattle.in_arena.specs.Changes.{FreeCountsChange, LeaseTakesOne, AllCellsStay, LeasesStay, LeasesDiffer, EmptyBagIsOf, BagsStay, FreeCellsAreInNoBag, LeaseToTakesOne, BagsStayApart, MovingKeepsApart, LeaseIsInNoBag};
 ghost use Rattle.in_arena.specs.Lending.{LeaseLends, LendingsJoin, LendingGoesBack, OthersStay};
 
-/// So many ends that some class holds are held by one class alone.
+/// A number of ends that some class holds is held by one class alone.
 pub fn classes_are_apart()
     ensures { ClassesAreApart }
 {}
@@ -34,7 +34,7 @@ pub fn lease_takes_one()
     ensures { LeaseTakesOne }
 {}
 
-/// A change of a cell leaves so many cells of each class.
+/// A change of a cell leaves as many cells of each class.
 pub fn all_cells_stay()
     ensures { AllCellsStay }
 {}

@@ -56,7 +56,7 @@ fn are_all<const WIDTH: usize>(places: &[Stored; WIDTH])
 }
 
 impl<const WIDTH: usize> Region<WIDTH> {
-    // So many cells, all free.
+    // `size` cells, all free.
     pub fn new(alloc: Global, size: u32) -> Result<Region<WIDTH>, AllocError>
         requires size { size < 2 ^ 31 }
         requires width { WIDTH < 2 ^ 32 }

@@ -12,7 +12,7 @@ use crate::content::{CellClass, CellNo, End, SymbolWord};
 use crate::region::{Held, Region, Sack};
 use std::alloc::{AllocError, Global};
 
-// So many cells of each class. That a class has a region of its width is said in this file and nowhere else.
+// As many cells of each class. That a class has a region of its width is said in this file and nowhere else.
 pub struct Regions {
     small: Region<3>,
     large: Region<9>,
@@ -37,7 +37,7 @@ pub struct Sacks {
     pub cells: u32,
 }
 
-// The class of the cell of this number where there are so many cells of each class, and its place in the region of that class.
+// The class of the cell of this number where there are `cells` cells of each class, and its place in the region of that class.
 #[inline(always)]
 pub fn place_of(cells: u32, cell: CellNo) -> (CellClass, u32)
     requires { (cells ≤ most_cells) × (cell.0 < length classes * cells) }
@@ -53,7 +53,7 @@ pub fn place_of(cells: u32, cell: CellNo) -> (CellClass, u32)
 }
 
 impl Regions {
-    // So many cells of each class, all free.
+    // `cells` cells of each class, all free.
     pub fn new(alloc: Global, cells: u32) -> Result<Regions, AllocError>
         requires { cells ≤ most_cells }
         ensures { IfOk result (λ r. AreFresh cells r) }

@@ -16,7 +16,7 @@ AreFreeOrLive a = (n : ℕ) → n < length a.states → (state_at a n ≡ Vacant
 abbrev pub NoneFree : ArenaView → Type 0
 NoneFree a = (c : CellClass) → free_of a c ≡ 0
 
--- all cells of an arena of so many in all
+-- all cells are live with three places or more, and there are `all` of them
 abbrev pub IsFull : ArenaView → ℕ → Type 0
 IsFull a all = AreLive a × (length a.states ≡ all)
 

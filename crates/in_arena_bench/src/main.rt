@@ -14,7 +14,7 @@ use std::{env, io};
 
 const TURNS: u32 = 20_000_000;
 
-// So many turns over an arena of so many cells of each class, in a line: the nanoseconds of all turns, and what they read last.
+// `TURNS` turns over an arena of `cells` cells of each class, in a line: the nanoseconds of all turns, and what they read last.
 fn measure(
     rt: &HostRuntime,
     name: &str,

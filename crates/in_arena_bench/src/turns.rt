@@ -101,7 +101,7 @@ fn turn(
     Some(mend(arena, cell))
 }
 
-// So many turns over the cells from the first one on, in an order without neighbours.
+// `count` turns over the cells from the first one on, in an order without neighbours.
 #[tactic(auto, using(crate::proofs::Renewed::none_leased, crate::proofs::Renewed::live_free))]
 pub fn turns(
     mut arena: Arena,

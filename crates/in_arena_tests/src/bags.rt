@@ -10,7 +10,7 @@ use std::process::Abort;
 use std::thread;
 use std::thread::Threads;
 
-// Leases all free cells of a class, which are so many, into a bag, and gives them back.
+// Leases all `count` free cells of a class into a bag, and gives them back.
 pub fn bag_all(rt: &impl Abort, arena: &mut Arena, bag: &mut Bag, class: CellClass, count: u32)
     requires { IsBagOf bag.old arena.old }
     ensures { (arena.new ≡ arena.old) × (bag.new ≡ bag.old) }
@@ -26,7 +26,7 @@ pub fn bag_all(rt: &impl Abort, arena: &mut Arena, bag: &mut Bag, class: CellCla
     }
 }
 
-// All cells of an arena, so many of each class, are leased into a bag and given back, class by class.
+// All cells of an arena, `count` of each class, are leased into a bag and given back, class by class.
 pub fn bag_each(rt: &impl Abort, arena: &mut Arena, count: u32)
     ensures { arena.new ≡ arena.old }
 {

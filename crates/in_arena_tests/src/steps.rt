@@ -18,7 +18,7 @@ pub fn fresh(alloc: Global, cells: u32) -> Result<Arena, AllocError>
     Arena::new(alloc, cells)
 }
 
-// Leases all free cells of a class, which are so many, while so many of the other are free, and gives them back.
+// Leases all `count` free cells of a class, while `others.1` of the class `others.0` are free, and gives them back.
 pub fn lease_all(
     rt: &impl Abort,
     arena: &mut Arena,
@@ -43,7 +43,7 @@ pub fn lease_all(
     }
 }
 
-// Leases all free cells of a class, which are so many, gives one of them back and leases it again.
+// Leases all `count` free cells of a class, gives one of them back and leases it again.
 pub fn one_back(rt: &impl Abort, arena: &mut Arena, class: CellClass, count: u32)
     ensures { arena.new ≡ arena.old }
 {

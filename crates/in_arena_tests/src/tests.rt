@@ -125,7 +125,7 @@ fn a_cell_written_in_another_thread(rt: HostRuntime) -> Result<(), Fail> {
     Ok(())
 }
 
-// Ends at so many free ones from this number on, and the last of them at a cell.
+// This many ends, at free ones in a row but for the last, which is at a cell.
 const TEN: [End; 10] = [
     End::Free(10),
     End::Free(11),

@@ -24,7 +24,7 @@ pub data IsDiagnosis (text words : List ℕ) (s : Status) : Type 0 where
   accepted : IsTold text false → words ≡ [] → s ≡ status 0 → IsDiagnosis text words s
   wanting : words ≡ [] → s ≡ memory_status → IsDiagnosis text words s
 
--- so many bytes and this status, of which this is so, are given
+-- `count` bytes and this status, of which this is so, are given
 abbrev pub GivesAnswer : (List ℕ → Status → Type 0) → List ℕ → List ℕ → ℕ → ℕ → Type 0
 GivesAnswer So old new count s = (bytes : List ℕ) × So bytes (status s) × IsGiven bytes old new count
 

@@ -40,7 +40,7 @@ pub extern "C" fn inet_derive(alloc: Global, text: &[u8], room: &mut [u8], lengt
     give(reported(alloc, true, text), room, length)
 }
 
-/// The same of `inet run` with one worker, so many interactions at most, and so many cells of each class: nothing is written where one of
+/// The same of `inet run` with one worker, at most `limit` interactions, and `cells` cells of each class: nothing is written where one of
 /// the two numbers is out of range, and the status is that of wrong words.
 #[unsafe(no_mangle)]
 pub extern "C" fn inet_run(
@@ -56,7 +56,7 @@ pub extern "C" fn inet_run(
     give(ran(alloc, limit, cells, text), room, length)
 }
 
-/// The diagnosis that `inet check` writes to standard error on a text that is refused; nothing where it is accepted, and none for want of
+/// The diagnosis that `inet check` writes to standard error on a text that is refused; nothing where it is accepted, and none when out of
 /// memory. Answers the status of the text.
 #[unsafe(no_mangle)]
 pub extern "C" fn inet_diagnose(

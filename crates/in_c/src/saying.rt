@@ -40,7 +40,7 @@ fn run_said(alloc: Global, limits: Limits, text: &[u8]) -> Result<Answer, AllocE
     answer(writer, status)
 }
 
-/// What `run` with one worker says of a text, with so many interactions at most and so many cells of each class; that the words are wrong where
+/// What `run` with one worker says of a text, with at most `limit` interactions and `cells` cells of each class; that the words are wrong where
 /// one of the two is out of range. Its only error is running out of memory, which comes only where both are in range.
 pub fn ran(alloc: Global, limit: u64, cells: u32, text: &[u8]) -> Result<Answer, AllocError>
     ensures ok { IfOk result (λ a. IsRunSaid limit cells text.now a.bytes.items a.status) }

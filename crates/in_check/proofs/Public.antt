@@ -2,7 +2,7 @@
 pub use Rattle.in_check.proofs.Chain.{chain_of, program_of, then_refused, then_rest}
 pub use Rattle.in_check.proofs.OneAnswer.{checked_once}
 pub use Rattle.in_check.proofs.Reached.Counts.{all_of}
-pub use Rattle.in_check.proofs.Reached.FromText.{is_matching, is_sound, of_mapped, to_mapped}
+pub use Rattle.in_check.proofs.Reached.FromText.{is_sound, of_mapped, to_mapped}
 pub use Rattle.in_check.proofs.Reached.Holds.{Tops, higher}
 pub use Rattle.in_check.proofs.Reached.HoldsEach.{few_tops, tops_of}
 pub use Rattle.in_check.proofs.Reached.Kept.{each_promised, redex_of, sound_reached}

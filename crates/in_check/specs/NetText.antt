@@ -17,7 +17,7 @@ pub data TextPart (A : Type 0) : Type 0 where
   Head : A → TextPart A
   Variable : Point A → Point A → TextPart A
 
--- the terms at so many places from this one on, joined by commas
+-- the terms at a given number of places from this one on, joined by commas
 abbrev pub listed : {A : Type 0} → (Point A → List (TextPart A)) → A → ℕ → ℕ → List (TextPart A)
 listed term y i zero = []
 listed term y i (suc zero) = term (Port y i)
@@ -43,12 +43,12 @@ term_at agent p (Some (Port y zero)) = agent y
 term_at agent p (Some (Port y (suc i))) = Variable p (Port y (suc i)) ∷ []
 term_at agent p (Some (Free k)) = Variable p (Free k) ∷ []
 
--- the term at a point, at most so many agents deep
+-- the term at a point, at most a given number of agents deep
 abbrev pub term : {A : Type 0} → Signature → Net A → ℕ → Point A → List (TextPart A)
 term sig n zero p = term_at (λ y. []) p (n.partner p)
 term sig n (suc d) p = term_at (agent_term sig n (term sig n d)) p (n.partner p)
 
--- a line for each free end from this number on, so many
+-- a line for each of a given number of free ends, from number k on
 abbrev pub free_lines : {A : Type 0} → Signature → Words → Net A → ℕ → ℕ → ℕ → List (TextPart A)
 free_lines sig words n d k zero = []
 free_lines sig words n d k (suc more) = Bytes (words.free k ++ 32 ∷ 61 ∷ 32 ∷ []) ∷ (term sig n d (Free k) ++ (Bytes (10 ∷ []) ∷ free_lines sig words n d (suc k) more))
@@ -99,7 +99,7 @@ bytes_of words n ks (Head y ∷ ps) = symbol_name words (n.symbol y) ++ bytes_of
 bytes_of words n [] (Variable p q ∷ ps) = bytes_of words n [] ps
 bytes_of words n (k ∷ ks) (Variable p q ∷ ps) = variable_name k ++ bytes_of words n ks ps
 
--- the text of a net with so many agents, its active pairs in this order
+-- the text of a net with d agents, its active pairs in this order
 abbrev pub text : {A : Type 0} → Signature → Words → (A → A → Bool) → Net A → ℕ → List (A × A) → List ℕ
 text sig words same n d queue = bytes_of words n (numbers same [] (text_parts sig words n d queue)) (text_parts sig words n d queue)
 
@@ -108,7 +108,7 @@ pub record AreAgents {A : Type 0} (n : Net A) (xs : List A) : Type 0 where
   pub all : (x : A) → IsSome (n.symbol x) ↔ IsAmong x xs
   pub once : AreDifferent xs
 
--- it stands exactly so many times in the list
+-- it stands exactly a given number of times in the list
 abbrev pub StandsTimes : {X : Type 0} → ℕ → X → List X → Type 0
 StandsTimes zero x [] = Unit {0}
 StandsTimes (suc n) x [] = ⊥

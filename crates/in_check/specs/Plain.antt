@@ -22,7 +22,7 @@ pub record PlainParts : Type 0 where
   pub program : Program
   pub net : Parts
 
--- the program reaches the net by so many interactions
+-- the program reaches the net by k interactions
 abbrev pub IsReachedBy : PlainParts → ℕ → Type 0
 IsReachedBy p k = Reached (system_of p.program) k (net_of p.net)
 

@@ -4,7 +4,7 @@ use in_open_nets::{Derivation, Node, OpenNet, OpenPoint, Step};
 use in_simple_verifying::verify;
 use in_symbols::SymbolNo;
 use in_syntax::Code;
-use in_test_programs::{Look, refusal_of, seen};
+use in_test_programs::{Look, refusal_of_parts, seen};
 use in_test_texts::{ADDITION, DUPLICATION, SUMS};
 use sqlite_items::Items;
 use std::alloc::{AllocError, Global};
@@ -101,7 +101,7 @@ impl Look<bool> for NetIs<'_> {
     }
 }
 
-/// Whether a program has so much, and its second rule is of these symbols.
+/// Whether a program has these counts, and its second rule is of these symbols.
 #[derive(Clone, Copy)]
 struct Keeps {
     counts: Counts,
@@ -308,7 +308,7 @@ fn nodes_beside_each_other_are_not_joined(rt: HostRuntime) {
 
 /// The refusal's code, line and column, where no other place is told.
 fn refused(alloc: Global, parts: &[&str]) -> Option<(Code, u32, u32)> {
-    let refusal = refusal_of(alloc, parts)?;
+    let refusal = refusal_of_parts(alloc, parts)?;
     if refusal.other.is_some() {
         return None;
     }

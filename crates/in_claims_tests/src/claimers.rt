@@ -61,7 +61,7 @@ pub struct Returned {
     pub numbers: Option<Vec<u32>>,
 }
 
-// Both seats of a board are taken back, and answer so many claims.
+// Both seats of a board are taken back, and answer `claims` claims.
 pub fn both_made(
     rt: &impl Abort,
     alloc: Global,

@@ -41,7 +41,7 @@ pub record AsksFor (words : List Text) (a : Action) : Type 0 where
   pub given : subcommand_of command_line words ≡ Some (name, options)
   pub named : Names name options a
 
--- the words are refused: they ask for help, or have another error; and memory may be wanted at any words
+-- the words are refused: they ask for help, or have another error; and memory may run out at any words
 abbrev pub AreWordsRefused : List Text → Usage → Type 0
 AreWordsRefused words (Help text) = IsAmong DisplayHelp (faults words)
 AreWordsRefused words (Wrong text) = (kind : ErrorKind) × IsAmong kind (faults words) × (kind ≢ DisplayHelp)

@@ -31,7 +31,7 @@ pub enum Usage {
     /// Help was asked for; what `clap` says.
     #[error("{0}")]
     Help(String),
-    /// Want of memory.
+    /// Out of memory.
     #[error("memory")]
     Memory,
 }
@@ -204,9 +204,9 @@ fn action_named(matches: &ArgMatches) -> Option<Action>
 /// What the words ask for; the first is the program's name. That is the subcommand which `clap` gives for them, with the numbers of the
 /// texts of its options, or the usual ones where an option is missing.
 ///
-/// Refused with the text of `clap` where it finds an error in the words, and a line more where one of them is a file's name: as `Help` where `-h`, `--help` or `help` stands, and else as
-/// `Wrong`, as where they name no command, have more than one needs, or give a number that is out of range. Refused as `Memory` for want
-/// of memory.
+/// Refused with the text of `clap` where it finds an error in the words, and a line more where one of them is a file's name: as `Help` where
+/// `-h`, `--help` or `help` stands, and else as `Wrong`, as where they name no command, have more than one needs, or give a number that is
+/// out of range. Refused as `Memory` when out of memory.
 pub fn action_of(alloc: Global, words: &[&str]) -> Result<Action, Usage>
     ensures ok { IfOk result (AsksFor (texts words.now)) }
     ensures err { IfErr result (AreWordsRefused (texts words.now)) }

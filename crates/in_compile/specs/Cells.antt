@@ -31,7 +31,7 @@ count_of need Small = need.small
 count_of need Large = need.large
 count_of need Wide = need.wide
 
--- of each class so many of these agents take a cell
+-- of each class as many of these agents take a cell as `need` says
 abbrev pub IsNeedOf : Tables → List (Option Cell) → Need → Type 0
 IsNeedOf t agents need = (c : CellClass) → count_of need c ≡ agents_of t c agents
 

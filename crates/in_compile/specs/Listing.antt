@@ -26,7 +26,7 @@ pub record HasOneMore (fewer more : Lists) (c : CellClass) (n : CellNo) : Type 0
   pub others : (d : CellClass) → (d ≡ c → ⊥) → listed more d ≡ listed fewer d
   pub room : room_of more ≡ room_of fewer
 
--- so many of one class
+-- n of class c, and none of another
 abbrev pub of_class : CellClass → ℕ → CellClass → ℕ
 of_class c n d = cond (nat_eq (class_no c) (class_no d)) n 0
 

@@ -67,7 +67,7 @@ pub record IsMemberOf (t : Tables) (n : Parts) (m : MemberParts) : Type 0 where
 abbrev pub has_class : CellClass → AgentParts → Bool
 has_class c a = nat_eq (class_no a.class) (class_no c)
 
--- each agent's cell is for its places; a wire leads back from where it leads to; of each class so many cells are needed as agents take one;
+-- each agent's cell is for its places; a wire leads back from where it leads to; of each class as many cells are needed as agents take one;
 -- and numbers fit
 pub record IsSoundMember (m : MemberParts) : Type 0 where
   pub fits : (k : ℕ) (a : AgentParts) → slice_get m.agents k ≡ Some a → Holds a.class (length a.ends)

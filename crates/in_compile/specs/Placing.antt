@@ -54,7 +54,7 @@ pub record IsPlacedMember (m : MemberParts) (p : PlacedParts) : Type 0 where
       → IsNumberOf p.bag.cells a.class n.0 × (state_at p.bag n.0 ≡ content p.cells a)
   pub written : AreWritten p.bag p.cells
 
--- these cells, so many of each class, were the stock's and no longer are; nothing else of it changes
+-- these cells, as many of each class as `need` says, were the stock's and no longer are; nothing else of it changes
 pub record TakesCells (need : Need) (cells : List CellNo) (old new : StockParts) : Type 0 where
   pub were : AllByRecursion (λ n. state_at old.bag n.0 ≡ Vacant) cells
   pub bag : new.bag ≡ with_all old.bag cells Leased

@@ -25,7 +25,7 @@ pub record TakesOne (s : StockParts) (c : CellClass) (b : ArenaView) (n : CellNo
   pub inside : n.0 < length b.states
   pub left : (d : CellClass) → held s' d + of_class c 1 d ≡ held s d
 
--- the first so many agents have their cells
+-- the first x agents have their cells
 pub record AreTakenBelow (m : MemberParts) (old : StockParts) (first : ArenaView) (x : ℕ) (s : StockParts) (ns : List CellNo) (b : ArenaView) : Type 0 where
   pub count : length ns ≡ x
   pub classes : (k : ℕ) (a : AgentParts) (n : CellNo) → slice_get m.agents k ≡ Some a → slice_get ns k ≡ Some n → IsNumberOf b.cells a.class n.0
@@ -39,12 +39,12 @@ pub record AreTakenBelow (m : MemberParts) (old : StockParts) (first : ArenaView
   pub same : AreOfOne first b
   pub all : HasAllCells b
 
--- a joint leads to a boundary end, or to one of so many agents
+-- a joint leads to a boundary end, or to one of `count` agents
 abbrev pub IsInside : ℕ → Joint → Type 0
 IsInside count (ToAgent k place) = k < count
 IsInside count (ToBoundary e) = Unit {0}
 
--- an agent's cell is live, and its first so many ends are written
+-- an agent's cell is live, and its first x ends are written
 pub record IsBeingWritten (m : MemberParts) (ns : List CellNo) (k x : ℕ) (n : CellNo) (first b : ArenaView) : Type 0 where
   pub agent : AgentParts
   pub stands : slice_get m.agents k ≡ Some agent
@@ -53,7 +53,7 @@ pub record IsBeingWritten (m : MemberParts) (ns : List CellNo) (k x : ℕ) (n : 
   pub count : length ends ≡ length agent.ends
   pub so_far : take x ends ≡ map (end_in ns) (take x agent.ends)
 
--- the first so many agents are written in their cells
+-- the first x agents are written in their cells
 pub record AreWrittenBelow (m : MemberParts) (ns : List CellNo) (first : ArenaView) (x : ℕ) (b : ArenaView) : Type 0 where
   pub each : (k : ℕ) (a : AgentParts) (n : CellNo) → k < x → slice_get m.agents k ≡ Some a → slice_get ns k ≡ Some n → state_at b n.0 ≡ content ns a
   pub cells : AreCellsOf b ns

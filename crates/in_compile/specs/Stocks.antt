@@ -26,7 +26,7 @@ held s c = free_of s.bag c
 abbrev pub IsStockOf : StockParts → ArenaView → Type 0
 IsStockOf s a = IsBagOf s.bag a
 
--- with those that it holds, so many fit its room
+-- with those that it holds, as many as `need` says fit its room
 abbrev pub HasRoom : StockParts → Need → Type 0
 HasRoom s need = (c : CellClass) → held s c + count_of need c ≤ count_of s.room c
 
@@ -37,7 +37,7 @@ abbrev pub with_all : ArenaView → List CellNo → State → ArenaView
 with_all a [] x = a
 with_all a (n ∷ ns) x = changed (with_all a ns x) n.0 x
 
--- of each class so many cells that were free are leased and in the bag, with nothing written; nothing else changes
+-- of each class c, `count c` cells that were free are leased and in the bag, with nothing written; nothing else changes
 pub record Adds (count : CellClass → ℕ) (a b a' b' : ArenaView) : Type 0 where
   pub cells : List CellNo
   pub free : AllByRecursion (λ n. state_at a n.0 ≡ Vacant) cells

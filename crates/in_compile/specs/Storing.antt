@@ -96,7 +96,7 @@ pub record AddsAgent (t : Tables) (c : Cell) (agents : List MemberAgent) (joints
   pub of : IsAgentOf t longer c agent
   pub joints_are : longer ≡ joints ++ map joint_of c.ends
 
--- the first so many agents of the net, with their joints after those of the boundary ends
+-- the first x agents of the net, with their joints after those of the boundary ends
 pub record AreLaidBelow (t : Tables) (n : Parts) (x : ℕ) (agents : List MemberAgent) (joints : List Joint) : Type 0 where
   pub count : length agents ≡ x
   pub rest : List Joint

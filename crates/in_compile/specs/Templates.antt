@@ -41,7 +41,7 @@ template_at ts c d = option_and_then (λ k. slice_get ts.templates k.0) (table.r
 abbrev pub HasHeads : TemplateParts → ℕ → ℕ → Type 0
 HasHeads p c d = ((p.heads.0.0 ≡ c) × (p.heads.1.0 ≡ d)) ⊎ ((p.heads.0.0 ≡ d) × (p.heads.1.0 ≡ c))
 
--- each of the first so many rules has its template
+-- each of the first `count` rules has its template
 pub record HaveFirst (t : Tables) (rules : List RuleParts) (count : ℕ) (templates : List TemplateParts) : Type 0 where
   pub count_is : length templates ≡ count
   pub each : (k : ℕ) (r : RuleParts) (p : TemplateParts) → slice_get rules k ≡ Some r → slice_get templates k ≡ Some p → IsTemplateOf t r p
@@ -50,7 +50,7 @@ pub record HaveFirst (t : Tables) (rules : List RuleParts) (count : ℕ) (templa
 abbrev pub HaveTemplates : Tables → List RuleParts → List TemplateParts → Type 0
 HaveTemplates t rules templates = HaveFirst t rules (length rules) templates
 
--- of this class some template needs so much, and none more; where there are none, it is 0
+-- of this class some template needs `most`, and none more; where there are none, it is 0
 abbrev pub IsMost : List TemplateParts → CellClass → ℕ → Type 0
 IsMost templates c most = ((k : ℕ) (p : TemplateParts) → slice_get templates k ≡ Some p → count_of p.member.need c ≤ most)
     × (((length templates ≡ 0) × (most ≡ 0)) ⊎ ((k : ℕ) × (p : TemplateParts) × (slice_get templates k ≡ Some p) × (count_of p.member.need c ≡ most)))

@@ -9,7 +9,7 @@ use in_arena::CellClass;
 use in_net::{AgentNo, Net};
 use in_symbols::{SymbolNo, Symbols};
 
-/// So many cells of each class: those that an interaction needs, or those that are free.
+/// Numbers of cells, one for each class: of those that an interaction needs, or of those that are free.
 #[derive(Clone, Copy, Debug, PartialEq, Eq)]
 pub struct Need {
     pub small: u32,
@@ -91,7 +91,7 @@ fn agents_of(symbols: &Symbols, net: &Net, class: CellClass) -> u32
     count
 }
 
-/// How many cells of each class the agents of a net take, which is as built.
+/// How many cells of each class the agents of a net as built take.
 pub fn need_of_net(symbols: &Symbols, net: &Net) -> Need
     requires over { IsOver symbols.now net.now }
     requires there { AreAllThere net.now }

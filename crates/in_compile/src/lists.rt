@@ -7,7 +7,8 @@ use crate::cells::Need;
 use in_arena::{CellClass, CellNo};
 use std::alloc::{AllocError, Global};
 
-/// Numbers of cells, in a list for each class with room for so many. That a class has its list is said in this file and nowhere else.
+/// Numbers of cells, in a list for each class, with room for a given number of them. That a class has its list is said in this file and
+/// nowhere else.
 #[derive(Drop)]
 pub(crate) struct Lists {
     small: Vec<CellNo>,
@@ -18,7 +19,7 @@ pub(crate) struct Lists {
 impl Lists {
     ghost use Rattle.in_arena.specs.declared.content.CellClass.{CellClass};
 
-    /// Empty lists with room for so many.
+    /// Empty lists, each with room for as many as `room` has of its class.
     pub(crate) fn with_room(alloc: Global, room: Need) -> Result<Lists, AllocError>
         ensures { IfOk result (λ l. ((c : CellClass) → listed l c ≡ []) × (room_of l ≡ room)) }
     {

@@ -11,7 +11,7 @@ use in_symbols::SymbolNo;
 use sqlite_items::Items;
 use std::marker::Model;
 
-/// An agent as it is stored: its joints are so many from the first one on, in the member's list.
+/// An agent as it is stored: its joints stand one after another in the member's list, from number `first` on.
 #[derive(Clone, Copy)]
 pub(crate) struct MemberAgent {
     pub(crate) symbol: SymbolNo,

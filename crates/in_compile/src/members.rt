@@ -25,7 +25,7 @@ use in_symbols::Symbols;
 use sqlite_items::Items;
 use std::alloc::{AllocError, Global};
 
-/// The class of cells that are for so many ends, the principal port's among them.
+/// The class of cells that are for that many ends, the principal port's among them.
 fn class_for(ends: usize) -> CellClass
     requires some { 1 ≤ ends }
     requires few { ends ≤ width Wide }

@@ -58,7 +58,7 @@ fn free_all(numbers: &[CellNo], bag: &mut Bag, arena: &mut Arena)
 }
 
 impl Placed {
-    /// Nothing yet, of this arena, with room for so many agents. Refused only when out of memory.
+    /// Nothing yet, of this arena, with room for `room` agents. Refused only when out of memory.
     pub fn empty(alloc: Global, arena: &Arena, room: u32) -> Result<Placed, AllocError>
         ensures { IfOk result (λ p. p ≡ record { cells = []; bag = empty_bag arena.now; room = room }) }
     {

@@ -16,7 +16,7 @@ use in_arena::{Arena, Bag, CellClass, CellNo};
 use std::alloc::{AllocError, Global};
 use std::marker::Model;
 
-/// Holds cells of one arena in which nothing is written, with room for so many of each class. They are to be spent, as a bag's are.
+/// Holds cells of one arena in which nothing is written, with room for a given number of each class. They are to be spent, as a bag's are.
 #[derive(Drop)]
 pub struct Stock {
     pub(crate) lists: Lists,
@@ -36,7 +36,7 @@ impl Model for Stock {
     ghost invariant = { IsStock };
 }
 
-/// Leases so many cells of a class, which are free and for which there is room.
+/// Leases `count` cells of a class, which are free and for which there is room.
 fn lease_more(lists: &mut Lists, bag: &mut Bag, arena: &mut Arena, class: CellClass, count: u32)
     requires listing { IsListing bag.old (listed lists.old) }
     requires of { IsBagOf bag.old arena.old }
@@ -76,7 +76,7 @@ fn give_back(lists: &mut Lists, bag: &mut Bag, arena: &mut Arena, class: CellCla
 }
 
 impl Stock {
-    /// Holds no cell, is of this arena, and has room for so many of each class. Refused only when out of memory.
+    /// Holds no cell, is of this arena, and has room for as many of each class as `room` says. Refused only when out of memory.
     pub fn empty(alloc: Global, arena: &Arena, room: Need) -> Result<Stock, AllocError>
         ensures { IfOk result (λ s. s ≡ empty_stock arena.now room) }
     {
@@ -87,8 +87,8 @@ impl Stock {
         })
     }
 
-    /// Leases so many more cells of each class. So many have to be free and to fit the room, with those that it holds; it has to be of this
-    /// arena. It takes no memory.
+    /// Leases as many more cells of each class as are needed. They have to be free and to fit the room, with those that it holds; it has to be
+    /// of this arena. It takes no memory.
     pub fn add(&mut self, arena: &mut Arena, need: Need)
         requires of { IsStockOf self.old arena.old }
         requires free { IsEnough (count_of need) (free_of arena.old) }
@@ -102,8 +102,8 @@ impl Stock {
         lease_more(lists, bag, arena, CellClass::Wide, need.wide);
     }
 
-    /// A stock of so many cells of each class, which is its room too. So many have to be free. Refused only when out of memory, and then
-    /// the arena is as it was.
+    /// A stock of as many cells of each class as are needed, which is its room too. They have to be free. Refused only when out of memory, and
+    /// then the arena is as it was.
     pub fn fill(alloc: Global, arena: &mut Arena, need: Need) -> Result<Stock, AllocError>
         requires { IsEnough (count_of need) (free_of arena.old) }
         ensures filled { IfOk result (λ s. AddsTo need arena.old (empty_stock arena.old need) arena.new s) }
@@ -114,7 +114,7 @@ impl Stock {
         Ok(stock)
     }
 
-    /// Whether it holds so many cells of each class. It takes no memory.
+    /// Whether it holds as many cells of each class as are needed. It takes no memory.
     pub fn holds(&self, need: Need) -> bool
         ensures { IsTrue result ↔ IsEnough (count_of need) (held self.now) }
     {

@@ -55,7 +55,7 @@ impl RuleWord {
     }
 }
 
-/// The number of the rule of each two symbols, in either order, for so many symbols.
+/// The number of the rule of each two symbols, in either order, for `size` symbols.
 #[derive(Drop)]
 pub(crate) struct NumberTable {
     size: u32,

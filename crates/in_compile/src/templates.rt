@@ -10,7 +10,8 @@ use in_symbols::SymbolNo;
 use sqlite_items::Items;
 use std::marker::Model;
 
-/// The templates of all rules of a program, found by their two symbols, and its initial net. It borrows nothing of the program, so that threads can share it.
+/// The templates of all rules of a program, found by their two symbols, and its initial net. It borrows nothing of the program, so that
+/// threads can share it.
 #[derive(Drop)]
 pub struct Templates {
     pub(crate) templates: Items<Template>,

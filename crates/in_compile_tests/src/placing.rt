@@ -1,4 +1,4 @@
-//! Templates placed as values, twice in one room. Nothing where memory or cells are wanted.
+//! Templates placed as values, twice in one room. Nothing where memory or cells run out.
 ghost use Rattle.std.specs.Prelude.{◌≡◌, ◌≤◌, ℕ, length, Some, IfSome, slice_get};
 ghost use Rattle.in_arena.specs.declared.content.CellNo.{CellNo as Number};
 ghost use Rattle.in_arena.specs.Arenas.{NoneLeased, state_at};
@@ -130,7 +130,7 @@ fn twice(alloc: Global, arena: &mut Arena, template: &Template) -> Option<String
     Some(text)
 }
 
-/// The template of two symbols, by their numbers, in an arena of so many cells of each class.
+/// The template of two symbols, by their numbers, in an arena of a given number of cells of each class.
 #[derive(Clone, Copy)]
 pub struct PlacedTwice(pub u32, pub u32, pub u32);
 

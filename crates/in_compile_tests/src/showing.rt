@@ -8,7 +8,7 @@ use in_symbols::SymbolNo;
 use in_test_programs::Look;
 use std::alloc::{AllocError, Global};
 
-/// So many cells of each class.
+/// The number of cells of each class in `need`, as a text.
 pub fn shown_need(alloc: Global, need: Need) -> Result<String, AllocError> {
     format!(in alloc;
         "{} small, {} large, {} wide",

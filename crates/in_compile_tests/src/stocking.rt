@@ -1,4 +1,4 @@
-//! Stocks of an arena's cells, and members placed in them. Nothing where memory or cells are wanted.
+//! Stocks of an arena's cells, and members placed in them. Nothing where memory or cells run out.
 ghost use Rattle.std.specs.Prelude.{◌≡◌, ◌≤◌, IsTrue, IfOk};
 ghost use Rattle.in_arena.specs.Arenas.{NoneLeased, free_of};
 ghost use Rattle.in_compile.specs.Cells.{count_of, IsEnough};
@@ -28,7 +28,7 @@ pub fn free(arena: &Arena) -> Need {
     }
 }
 
-/// Whether so many are.
+/// Whether as many cells of each class are free as `need` asks for.
 pub fn are_free(arena: &Arena, need: Need) -> bool
     ensures { IsTrue result → IsEnough (count_of need) (free_of arena.now) }
 {
@@ -41,7 +41,7 @@ pub fn are_free(arena: &Arena, need: Need) -> bool
     need.wide <= arena.free_count(CellClass::Wide)
 }
 
-/// The free cells while a stock of so many is held, and after it is spent.
+/// The free cells while a stock of the cells of `need` is held, and after it is spent.
 fn filled(alloc: Global, arena: &mut Arena, need: Need) -> Option<(Need, Need)>
     ensures { arena.new ≡ arena.old }
 {
@@ -57,7 +57,7 @@ fn filled(alloc: Global, arena: &mut Arena, need: Need) -> Option<(Need, Need)>
     Some((during, free(arena)))
 }
 
-/// Whether an empty stock with that room holds so many before they are added, and after.
+/// Whether an empty stock with room for the cells of `need` holds that many before they are added, and after.
 fn added(alloc: Global, arena: &mut Arena, need: Need) -> Option<(bool, bool)>
     ensures { arena.new ≡ arena.old }
 {
@@ -106,7 +106,7 @@ fn placed(alloc: Global, arena: &mut Arena, member: &Member) -> Option<(bool, bo
     Some((before, after, agents))
 }
 
-/// What is found of the template of two symbols, by their numbers, in an arena of so many cells of each class.
+/// What is found of the template of two symbols, by their numbers, in an arena of a given number of cells of each class.
 #[derive(Clone, Copy)]
 pub struct Stocked(pub u32, pub u32, pub u32);
 

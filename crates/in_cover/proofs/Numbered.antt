@@ -1,4 +1,4 @@
--- The table holds the first so many rules.
+-- The table holds the first rules, a given number of them.
 use Rattle.std.proofs.Common.{◌≡◌, ◌⊎◌, ℕ, ◌+◌, ◌<◌, ◌≤◌, List, length, Option, Some, None, IsSome, slice_get, refl, sym, ◌∙◌, ap, subst, inl, inr, arith}
 use Rattle.std.proofs.lemmas.Bool.{cases_lt, cases_eq}
 use Rattle.std.proofs.lemmas.Option.{none-some, same_Some, slice_get_within}
@@ -99,7 +99,7 @@ pub not_second : (rules : List RuleParts) (i : ℕ) (r : RuleParts) (table : Cel
 not_second rules i r table stands holds nothing h =
     unruled rules i r table holds nothing h.before h.c h.d h.is_before h.one (same_rule rules i r stands i h.c h.d refl h.other)
 
--- no second one among so many, and not this one either
+-- no second one among the first i, and not this one either
 pub no_second_more : (rules : List RuleParts) (i : ℕ) → ((k : ℕ) → k < i → IsSecond rules k → ⊥) → (IsSecond rules i → ⊥) → (k : ℕ) → k < i + 1 → IsSecond rules k → ⊥
 no_second_more rules i before this k lt h = by (cases_lt k i)
   where

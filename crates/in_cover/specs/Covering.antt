@@ -30,7 +30,7 @@ abbrev pub AddsRule : Cells → RuleNo → ℕ → ℕ → Cells → Bool → Ty
 AddsRule old k c d new true = (rule_at old c d ≡ None) × SetsBoth old c d k new
 AddsRule old k c d new false = IsSome (rule_at old c d) × (new ≡ old)
 
--- the first so many rules are in the table, and no others
+-- the first n rules are in the table, and no others
 abbrev pub HoldsBelow : List RuleParts → ℕ → Cells → Type 0
 HoldsBelow rules n table = (c d : ℕ) (k : RuleNo) → (rule_at table c d ≡ Some k) ↔ ((k.0 < n) × IsRuleFor rules k.0 c d)
 
@@ -43,7 +43,7 @@ NumbersRules t rules (Err (Memory e)) = Unit {0}
 abbrev pub IsGap : Tables → Cells → ℕ → ℕ → Type 0
 IsGap t table c d = (matching t c d ≡ true) × (rule_at table c d ≡ None)
 
--- the later symbol has no gap with so many symbols
+-- the later symbol has no gap with the first n symbols
 abbrev pub HasNoGapBelow : Tables → Cells → ℕ → ℕ → Type 0
 HasNoGapBelow t table later n = (d : ℕ) → d < n → IsGap t table later d → ⊥
 

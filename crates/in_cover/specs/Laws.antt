@@ -12,7 +12,7 @@ use Rattle.in_cover.specs.Table.{Cells, rule_at}
 abbrev pub RefusedRulesAreIncomplete : Type 0
 RefusedRulesAreIncomplete = (t : Tables) (rules : List RuleParts) (r : Refusal) → Covers t rules (Err (Refused r)) → IsComplete t rules → ⊥
 
--- they are refused in one way
+-- they have one refusal
 abbrev pub OneRefusal : Type 0
 OneRefusal = (t : Tables) (rules : List RuleParts) (r s : Refusal) → Covers t rules (Err (Refused r)) → Covers t rules (Err (Refused s)) → r ≡ s
 

@@ -2,7 +2,7 @@
 use Rattle.std.specs.Prelude.{ℕ, ◌+◌, ◌*◌, nat_lt, ◌&&◌, if◌then◌else◌, List, Option, None, slice_index_or}
 use Rattle.in_cover.specs.declared.table.RuleNo.{RuleNo}
 
--- for so many symbols, the cells symbol by symbol, each with a cell for each symbol in turn
+-- for `size` symbols, the cells symbol by symbol, each with a cell for each symbol in turn
 pub record Cells : Type 0 where
   pub size : ℕ
   pub cells : List (Option RuleNo)

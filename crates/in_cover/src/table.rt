@@ -31,7 +31,7 @@ impl Model for RuleTable {
 }
 
 impl RuleTable {
-    /// A table without any rule, for so many symbols.
+    /// A table without any rule, for `size` symbols.
     pub(crate) fn empty(alloc: Global, size: u32) -> Result<RuleTable, AllocError>
         ensures { IfOk result (λ t. HasNoRule size t) }
     {

@@ -6,7 +6,7 @@ use Rattle.in_net.specs.Nets.{Point, Port, Net, IsNet, Signature}
 use Rattle.in_glue.specs.Joining.{CutsWire}
 use Rattle.in_joining.specs.Shown.{IsShown}
 
--- the cells, with the first so many ends of the list for its free ends, show this net
+-- the cells, with the first `own` ends of the list for its free ends, show this net
 pub record Shows (sig : Signature) (own : ℕ) (a : ArenaView) (ends : List End) (w : Net ℕ) : Type 0 where
   pub net : IsNet sig w
   pub many : own ≡ length w.free

@@ -86,7 +86,7 @@ struct Trial<'a> {
 }
 
 impl Trial<'_> {
-    /// Where the refused part begins once so many bytes are the text. The declarations come before it.
+    /// Where the refused part begins once the text has that many bytes. The declarations come before it.
     fn moved(&self, bytes: usize) -> usize {
         let end = self.place.from.saturating_add(bytes);
         end.saturating_sub(self.text.len())
@@ -146,7 +146,7 @@ fn tried<'r, 'a>(text: &[u8], remedies: &'r [Remedy<'a>]) -> &'r [Remedy<'a>] {
     remedies.get(..most).unwrap_or(remedies)
 }
 
-/// What helps where no declaration does, of so many remedies and so many that were tried.
+/// What helps where no declaration does, by the number of remedies and of those that were tried.
 fn help_without(remedies: usize, tried: usize) -> &'static str {
     if remedies == 0 {
         "no braces mend this circle: join ports of different braces to parts that have nothing to do with each other"

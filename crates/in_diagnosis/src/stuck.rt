@@ -20,15 +20,15 @@ const MOST_TOLD: usize = 6;
 /// How many of the first nodes of a longer list are told. Its last one is told too.
 const FIRST_TOLD: usize = 4;
 
-/// On a way of so many nodes the line of the text is shown for each.
+/// On a circle of at most this many nodes the line of the text is shown for each.
 const MOST_SHOWN: usize = 3;
 
-/// Whether the node of this number in a list of so many is told.
+/// Whether the node of this number in a list of `count` is told.
 fn is_told(index: usize, count: usize) -> bool {
     count <= MOST_TOLD || index < FIRST_TOLD || index == count - 1
 }
 
-/// How many nodes of a list of so many are not told.
+/// How many nodes of a list of `count` are not told.
 fn left_out(count: usize) -> usize {
     if count <= MOST_TOLD {
         0
@@ -73,7 +73,7 @@ fn say_node(report: &mut Report, source: &Source, open: &OpenNet, node: u32) {
     }
 }
 
-/// What stands before the node of this number in a list of so many.
+/// What stands before the node of this number in a list of `count`.
 fn before_node(index: usize, count: usize) -> &'static str {
     if index == 0 {
         ""

@@ -1,6 +1,6 @@
 //! Wires whose two ends don't fit.
 use in_check::{Misfit, WireEnd};
-use in_diagnosis_words::{Report, ToldEnd, add_ends, agent_end, free_end, head_end};
+use in_diagnosis_words::{Report, ToldEnd, agent_end, free_end, head_end, say_ends};
 use in_symbols::SymbolNo;
 use in_syntax::{Place, Source, SourceSymbol};
 
@@ -43,7 +43,7 @@ pub(crate) fn add_misfit(
     place: Place,
 ) {
     match told_both(source, misfit) {
-        Some((one, other)) => add_ends(report, place, &one, &other),
+        Some((one, other)) => say_ends(report, place, &one, &other),
         None => report.wrong(place, "the types of the two ends of this wire don't fit"),
     }
 }

@@ -3,7 +3,7 @@ use crate::reports::Report;
 use in_syntax::{Fault, Place, Token, TokenKind, tokens};
 use std::alloc::{AllocError, Global};
 
-/// The tokens of a part of a text whose tokens have no fault, so only memory may be wanted.
+/// The tokens of a part of a text whose tokens have no fault, so the only error is running out of memory.
 pub(crate) fn tokens_of(alloc: Global, part: &[u8]) -> Result<Vec<Token>, AllocError> {
     match tokens(alloc, part) {
         Ok(tokens) => Ok(tokens),

@@ -47,7 +47,7 @@ pub fn head_end(symbol: &SourceSymbol, number: usize, place: Place) -> Option<To
     })
 }
 
-/// The end of a wire at the free end of that number, in the order of the net. Nothing where there are not so many.
+/// The end of a wire at the free end of that number, in the order of the net. Nothing where there is none of that number.
 pub fn free_end(source: &Source, number: u32) -> Option<ToldEnd<'_>> {
     let end = source.net.free.get(number as usize)?;
     Some(ToldEnd {
@@ -210,7 +210,7 @@ fn input_beside<'a>(end: &ToldEnd<'a>) -> Option<(&'a SourceSymbol, usize)> {
     None
 }
 
-/// What stands before the next one of so many, where so many are told.
+/// What stands before the next one of `count`, where `told` are told.
 fn separator(told: usize, count: usize) -> &'static str {
     if told == 0 {
         ""
@@ -251,7 +251,7 @@ fn say_outputs(report: &mut Report, giving: Giving, principal: bool) {
     }
 }
 
-/// Says the letters of so many ports at which it is given.
+/// Says the letters of the `count` ports at which it is given.
 fn say_output_letters(report: &mut Report, giving: Giving, count: usize) {
     let mut told: usize = 0;
     for number in 0..=arity(giving.symbol) {
@@ -402,7 +402,7 @@ fn are_of_one_type(one: &ToldEnd, other: &ToldEnd) -> bool {
 
 /// Adds that the two ends of the wire at a place of the text don't fit: their types differ, or both are outputs or both inputs. Then what
 /// stands at each end, and what helps.
-pub fn add_ends(report: &mut Report, place: Place, one: &ToldEnd, other: &ToldEnd) {
+pub fn say_ends(report: &mut Report, place: Place, one: &ToldEnd, other: &ToldEnd) {
     say_misfit(report, one, other);
     report.end_at(place);
     add_end(report, one);

@@ -9,10 +9,10 @@ const BEFORE: usize = 48;
 /// How many characters of a line are shown from the beginning of the marked place on.
 const AFTER: usize = 64;
 
-/// In so many bytes there are more characters than are shown before the marked place.
+/// In this many bytes there are more characters than are shown before the marked place.
 const MOST_BYTES_BEFORE: usize = 4 * (BEFORE + 2);
 
-/// In so many bytes there are more characters than are shown from the beginning of the marked place on.
+/// In this many bytes there are more characters than are shown from the beginning of the marked place on.
 const MOST_BYTES_AFTER: usize = 4 * (AFTER + 2);
 
 /// The longest front of some bytes that is well-formed UTF-8.
@@ -131,14 +131,14 @@ fn blank(c: char) -> char {
     if c == '\t' { '\t' } else { ' ' }
 }
 
-/// Adds what stands before the place, but for so many characters.
+/// Adds what stands before the place, but for the first `hidden` characters.
 fn add_before(report: &mut Report, before: &str, hidden: usize) {
     for c in before.chars().skip(hidden) {
         report.push(shown(c));
     }
 }
 
-/// Adds so many of these characters at most; answers how many more may come, or nothing where some are left out.
+/// Adds at most `most` of these characters; answers how many more may come, or nothing where some are left out.
 fn add_some(report: &mut Report, text: &str, most: usize) -> Option<usize> {
     let mut left = most;
     for c in text.chars() {
@@ -164,7 +164,7 @@ fn where_it_holds(holds: bool, words: &'static str) -> &'static str {
     if holds { words } else { "" }
 }
 
-/// Adds the line, of which so many characters are not shown.
+/// Adds the line, of which the first `hidden` characters are not shown.
 fn add_line(report: &mut Report, line: &Line, hidden: usize) {
     report.say(where_it_holds(hidden > 0, "..."));
     add_before(report, line.before, hidden);
@@ -172,7 +172,7 @@ fn add_line(report: &mut Report, line: &Line, hidden: usize) {
     add_rest(report, line);
 }
 
-/// Adds blanks as wide as what stands before the place, but for so many characters.
+/// Adds blanks as wide as what stands before the place, but for the first `hidden` characters.
 fn add_blanks(report: &mut Report, before: &str, hidden: usize) {
     for c in before.chars().skip(hidden) {
         report.push(blank(c));

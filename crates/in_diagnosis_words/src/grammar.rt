@@ -373,7 +373,7 @@ fn around(report: &Report, place: Place) -> Result<(Vec<Token>, Option<TokenKind
     Ok((before, after))
 }
 
-/// No program goes on so, where this is expected.
+/// An unexpected token, where this is expected.
 pub(crate) fn add_unexpected(report: &mut Report, place: Place, expected: Expected) {
     let found = report.at(place);
     say_found(report, found);

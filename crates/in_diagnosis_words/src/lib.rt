@@ -3,7 +3,7 @@
 //!
 //! This is what is told by the text and its tree alone, so that it is proved beside the passes. `refusals` picks what is told of a code,
 //! which is in the file of its kind: `letters` (characters, with their names from `in_diagnosis_characters::name_of`), `grammar` (what was
-//! expected; limits), `names`, `rings` (closed wires), `pairs`.
+//! expected; limits), `names`, `closed_wires`, `pairs`.
 //!
 //! `declarations` and `occurrences` look into the tree, the latter where a name stands in a rule or in the net; `single` finds the
 //! variables that occur once, `near` the names that may have been meant (`strsim`). `ends` has the two ends of a wire that don't fit,
@@ -16,6 +16,7 @@
 
 mod before;
 mod braces;
+mod closed_wires;
 mod declarations;
 mod ends;
 mod excerpts;
@@ -28,12 +29,11 @@ mod occurrences;
 mod pairs;
 mod refusals;
 mod reports;
-mod rings;
 mod single;
 
 pub use braces::{Braces, changed_braces, declaration_with, text_with};
 pub use declarations::port;
-pub use ends::{ToldEnd, add_ends, agent_end, free_end, head_end};
+pub use ends::{ToldEnd, agent_end, free_end, head_end, say_ends};
 pub use nodes::{add_braces, say_node_at, say_port_of};
 pub use occurrences::rule_at;
 pub use refusals::{add_text_fault, add_tree_fault};

@@ -38,7 +38,7 @@ fn add_second_end(report: &mut Report, source: &Source, place: Place) {
     }
 }
 
-/// A name that is declared twice in its space.
+/// A name that is declared twice in its namespace.
 pub(crate) fn add_declared_twice(report: &mut Report, source: &Source, place: Place) {
     let types = source.types.as_slice();
     let symbols = source.symbols.as_slice();
@@ -73,7 +73,7 @@ pub(crate) fn add_unknown_symbol(report: &mut Report, source: &Source, place: Pl
     report.help("a name before `(` or `[` is that of a declared symbol");
 }
 
-/// The word for so many.
+/// The word for that many.
 fn plural(count: usize, one: &'static str, several: &'static str) -> &'static str {
     if count == 1 { one } else { several }
 }
@@ -88,7 +88,7 @@ fn say_counts(report: &mut Report, count: usize, ports: usize) {
     );
 }
 
-/// What helps where a symbol has so many auxiliary ports.
+/// What helps where a symbol has that many auxiliary ports.
 fn arity_help(ports: usize) -> &'static str {
     if ports == 0 {
         "it is written without brackets in a term, and with `[]` as a head"
@@ -97,7 +97,7 @@ fn arity_help(ports: usize) -> &'static str {
     }
 }
 
-/// Where a symbol with so many auxiliary ports is declared.
+/// Where a symbol with that many auxiliary ports is declared.
 fn where_ports_stand(ports: usize) -> &'static str {
     if ports == 0 {
         "it is declared here, without auxiliary ports"
@@ -106,7 +106,7 @@ fn where_ports_stand(ports: usize) -> &'static str {
     }
 }
 
-/// So many arguments of a symbol, other than its arity.
+/// A number of arguments of a symbol that is not its arity.
 fn add_count(report: &mut Report, symbol: &SourceSymbol, count: usize, place: Place) {
     let ports = arity(symbol);
     report.say_name("error: `", report.at(place), "");
@@ -116,7 +116,7 @@ fn add_count(report: &mut Report, symbol: &SourceSymbol, count: usize, place: Pl
     report.help(arity_help(ports));
 }
 
-/// So many arguments, other than the arity of the symbol, where it is declared.
+/// A number of arguments that is not the arity of the symbol, and where that is declared.
 fn add_arguments(report: &mut Report, source: &Source, count: Option<usize>, place: Place) {
     match (symbol_named(source, report.at(place)), count) {
         (Some(symbol), Some(count)) => add_count(report, symbol, count, place),

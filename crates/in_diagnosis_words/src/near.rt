@@ -8,7 +8,7 @@ use strsim::osa_distance;
 /// How many characters may differ in a near name at most.
 const FARTHEST: usize = 3;
 
-/// How many characters may differ in a name that is near to one of so many characters.
+/// How many characters may differ in a name that is near to one of that many characters.
 fn most(characters: usize) -> usize {
     (characters / 3).min(FARTHEST)
 }
@@ -77,7 +77,7 @@ fn add_name(report: &mut Report, name: &Name, further: bool) {
     report.note_name(name.place, before, name.text.as_str(), "`?");
 }
 
-/// Adds those names that differ by so many characters, where so many are told already; answers how many are told now.
+/// Adds those names that differ by `distance` characters, where `told` are told already; answers how many are told now.
 fn add_at(report: &mut Report, found: &[Near], distance: usize, told: usize) -> usize {
     let mut count = told;
     for near in found {

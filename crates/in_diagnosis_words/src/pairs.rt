@@ -156,7 +156,7 @@ fn comma(number: usize) -> &'static str {
     if number > 0 { ", " } else { "" }
 }
 
-/// A name for each of so many terms, from this number on, as they stand in a head.
+/// A name for each of `count` terms, from number `first` on, as they stand in a head.
 pub(crate) fn say_letters(report: &mut Report, first: usize, count: usize) {
     for number in 0..count {
         report.say(comma(number));

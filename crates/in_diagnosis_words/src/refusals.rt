@@ -1,4 +1,5 @@
 //! What is refused of a text, or of a program's tree without a look at its nets.
+use crate::closed_wires::add_closed;
 use crate::grammar::{add_limit, add_long_text, add_long_word, add_unexpected};
 use crate::letters::add_no_token;
 use crate::names::{
@@ -6,7 +7,6 @@ use crate::names::{
 };
 use crate::pairs::{add_missing_rule, add_second_rule, add_unmatched};
 use crate::reports::Report;
-use crate::rings::add_closed;
 use in_syntax::{Code, Expected, MAX_TEXT_BYTES, Place, Refusal, Source};
 
 /// A limit of tokens or of the grammar that is passed.

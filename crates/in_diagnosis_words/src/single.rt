@@ -85,7 +85,8 @@ fn single_variables<'a>(
     Ok(single)
 }
 
-/// The variables that stand once in the rule or in the net in which a place stands, but for that of the place, in the order of the text: 64 at most.
+/// The variables that stand once in the rule or in the net in which a place stands, but for that of the place, in the order of the text: 64
+/// at most.
 fn single_in<'a>(
     alloc: Global,
     text: &'a [u8],
@@ -107,7 +108,7 @@ struct Wanted<'a> {
     further: &'static str,
 }
 
-/// Adds those that are wanted, where so many are told already; answers how many are told now.
+/// Adds those that are asked for, where `told` are told already; answers how many are told now.
 fn add_wanted(report: &mut Report, single: &[Bare], wanted: Wanted, told: usize) -> usize {
     let mut count = told;
     for bare in single {

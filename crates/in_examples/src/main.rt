@@ -102,7 +102,7 @@ fn is_written_if_there(
     Ok(!fs::exists(rt, file)? || is_written(rt, threads, action, text, file)?)
 }
 
-/// Whether the diagnosis of a program is what stands beside it, and nothing stands there where it is accepted.
+/// Whether the diagnosis of a program is that of the file beside it, and there is no such file where it is accepted.
 fn is_told(rt: &HostRuntime, name: &str, text: &[u8]) -> Result<bool> {
     let file = format!(in rt.alloc(); "{name}.diagnosis")?;
     match diagnosis(rt.alloc(), text)? {
@@ -133,12 +133,12 @@ fn is_derived(
     is_written_if_there(rt, threads, Action::Derive, text, file.as_str())
 }
 
-/// `run` with so many workers, and the limits that it has where none are given.
+/// `run` with `workers` workers, and the limits that it has where none are given.
 fn running(alloc: Global, workers: &str) -> Option<Action> {
     action_of(alloc, &["inet", "run", "--workers", workers]).ok()
 }
 
-/// Whether `run` with so many workers answers what stands beside a program, where something does.
+/// Whether `run` with `workers` workers answers what stands beside a program, where something does.
 fn is_run(
     rt: &HostRuntime,
     threads: &(impl Threads + Wait),
@@ -170,7 +170,7 @@ fn is_answered(
     )
 }
 
-/// The text of a program, which may be no UTF-8.
+/// The text of a program, which may not be UTF-8.
 fn text_of(rt: &HostRuntime, name: &str) -> Result<Vec<u8>> {
     let file = format!(in rt.alloc(); "{name}.inet")?;
     Ok(fs::read(rt, file.as_str())?)
@@ -206,7 +206,7 @@ fn programs(rt: &HostRuntime) -> Result<Vec<String>> {
     Ok(names)
 }
 
-/// Whether there are programs and all are answered as is written beside them; each that isn't is told.
+/// Whether there are programs and all are answered as is written beside them; each that isn't is reported.
 fn are_as_written(
     rt: &HostRuntime,
     threads: &(impl Threads + Wait),

@@ -18,12 +18,12 @@ abbrev pub comma : ℕ → List ℕ
 comma zero = []
 comma (suc k) = codes ","
 
--- the texts of so many numbers, from k on, each after its comma
+-- the texts of a given count of numbers, from k on, each after its comma
 abbrev pub elements : (ℕ → List ℕ) → ℕ → ℕ → List ℕ
 elements text k zero = []
 elements text k (suc n) = (comma k ++ text k) ++ elements text (k + 1) n
 
--- an array of the texts of the numbers 0, 1 .. , of which there are so many
+-- an array of the texts of the first n numbers 0, 1 ..
 abbrev pub array : (ℕ → List ℕ) → ℕ → List ℕ
 array text n = codes "[" ++ (elements text 0 n ++ codes "]")
 

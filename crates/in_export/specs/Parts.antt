@@ -69,7 +69,7 @@ abbrev pub joins_principals : Option (Point × Point) → Bool
 joins_principals None = false
 joins_principals (Some (p, q)) = is_principal p && is_principal q
 
--- those of so many wires, from number w on, that join two principal ports: Lafont 1990 calls their agents an active pair
+-- those of a given number of wires, from number w on, that join two principal ports: Lafont 1990 calls their agents an active pair
 abbrev pub active_from : Parts → ℕ → ℕ → List ℕ
 active_from n w zero = []
 active_from n w (suc many) = cond (joins_principals (wire_in n w)) (w ∷ active_from n (w + 1) many) (active_from n (w + 1) many)

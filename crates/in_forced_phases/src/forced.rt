@@ -31,7 +31,7 @@ struct Count {
     phases: u64,
 }
 
-/// The interactions of the first pairs in turn, at most so many, while what the first one needs is free. Says how many they were.
+/// The interactions of the first pairs in turn, at most `most`, while what the first one needs is free. Says how many they were.
 fn turns(machine: &mut Machine, most: u64) -> u64 {
     for turn in 0..most {
         if machine.pairs() == 0 || !machine.has_room(0) {
@@ -42,7 +42,7 @@ fn turns(machine: &mut Machine, most: u64) -> u64 {
     most
 }
 
-/// How many free cells of each class each of so many parts gets.
+/// How many free cells of each class each of `parts` parts gets.
 fn share(machine: &Machine, parts: u32) -> u32
     requires { 1 ≤ parts }
     ensures { result ≤ 1048576 }
@@ -53,7 +53,7 @@ fn share(machine: &Machine, parts: u32) -> u32
     (small.min(large).min(wide) / parts).min(MOST_SHARE)
 }
 
-/// A phase of so many interactions at most, which may leave no cell free.
+/// A phase of at most `most` interactions, which may leave no cell free.
 fn one_phase<R: Threads>(
     rt: &R,
     alloc: Global,
@@ -72,7 +72,7 @@ fn one_phase<R: Threads>(
     phase(rt, alloc, machine, sharing, room)
 }
 
-/// So many interactions in turn as are asked for, and a phase, within what is left.
+/// As many interactions in turn as are asked for, and a phase, within what is left.
 fn turns_and_phase<R: Threads>(
     rt: &R,
     alloc: Global,

@@ -1,7 +1,7 @@
-//! A run with a phase at every chance, for tests alone: of the program that comes on standard input, again and again so many interactions in
-//! turn, first in, first out, and then a phase, until no pair is left, the limit is reached, or nothing goes on. Prints the net, how many
-//! interactions there were, and how many phases in more than one part; or `none` where the input can't be read, its text is refused, no machine
-//! can start, or memory runs out.
+//! A run with a phase at every chance, for tests alone: of the program that comes on standard input, again and again a given number of
+//! interactions in turn, first in, first out, and then a phase, until no pair is left, the limit is reached, or nothing goes on. Prints the
+//! net, how many interactions there were, and how many phases in more than one part; or `none` where the input can't be read, its text is
+//! refused, no machine can start, or memory runs out.
 //!
 //! Its words are five numbers: the parts of a phase, the interactions in turn before each, the most interactions of a phase, the cells of
 //! each class, and the most interactions of all.

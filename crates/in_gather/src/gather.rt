@@ -108,8 +108,8 @@ fn spend_all(mut slots: Vec<Slot>, arena: &mut Arena)
 }
 
 impl<'t> Gather<'t> {
-    /// Nothing was put yet. The list has for each job, by its number, the symbols of its pair, the constructor first. Refused for want of
-    /// memory alone; no other call takes memory.
+    /// Nothing was put yet. The list has for each job, by its number, the symbols of its pair, the constructor first. Refused only when out
+    /// of memory; no other call takes memory.
     pub fn new(alloc: Global, jobs: &[(SymbolNo, SymbolNo)]) -> Result<Gather<'t>, AllocError>
         ensures { IfOk result (λ g. g ≡ new_gather jobs.now) }
     {

@@ -1,4 +1,4 @@
-//! Jobs that are put and taken, as a text that tests compare. Nothing where memory or cells are wanted.
+//! Jobs that are put and taken, as a text that tests compare. Nothing where memory or cells run out.
 ghost use Rattle.std.specs.Prelude.{◌≡◌, ◌≤◌, [], ◌∷◌, IsTrue, IsSome, IfOk, MatchOption};
 ghost use Rattle.in_arena.specs.Arenas.{NoneLeased, free_of};
 ghost use Rattle.in_arena.specs.Bags.{AreOfOne, empty_bag};
@@ -29,7 +29,7 @@ fn free(arena: &Arena) -> u32 {
     arena.free_count(CellClass::Small)
 }
 
-/// Whether so many cells of each class are free.
+/// Whether as many cells of each class are free as `need` asks for.
 fn are_free(arena: &Arena, need: Need) -> bool
     ensures { IsTrue result → IsEnough (count_of need) (free_of arena.now) }
 {

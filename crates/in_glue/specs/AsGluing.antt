@@ -48,7 +48,7 @@ across_at joined zero e = cond (joined e) (Some (1, e)) None
 across_at joined (suc zero) e = cond (joined e) (Some (0, e)) None
 across_at joined (suc (suc i)) e = None
 
--- so many free ends of the rest, from this one on
+-- a given number of free ends of the rest, from this one on
 abbrev pub own_ends : ℕ → ℕ → List (ℕ × ℕ)
 own_ends first zero = []
 own_ends first (suc k) = (0, first) ∷ own_ends (suc first) k

@@ -10,12 +10,12 @@ use Rattle.in_check.specs.Systems.{System}
 use Rattle.in_glue.specs.Gluing.{Cuts, IsJointEndAt, glue_wire}
 use Rattle.in_net.specs.Interactions.{Outer, Inner}
 
--- so many interactions lead from one net to the other, the new agents' names being new at each
+-- a given number of interactions lead from one net to the other, the new agents' names being new at each
 pub data Run (p : System) : ℕ → Net ℕ → Net ℕ → Type 0 where
   none : (n : Net ℕ) → Run p zero n n
   one_more : (k : ℕ) (n m : Net ℕ) (x : Redex ℕ ℕ) (name : ℕ → ℕ) (after : Net ℕ) → Run p k n m → IsInteraction p m x name after → Run p (suc k) n after
 
--- what the first so many counts are together
+-- what a given number of counts, from the first one on, are together
 abbrev pub total : (ℕ → ℕ) → ℕ → ℕ
 total counts zero = 0
 total counts (suc w) = total counts w + counts w

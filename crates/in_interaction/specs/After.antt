@@ -61,7 +61,7 @@ pub record IsAfter (s : SiteParts) (a : After) : Type 0 where
   pub ends : AreOuterEnds s a.ends
   pub listed : (free : List FreeEnd) → AreEndsOf a.ends free → AreListed (unlisted a.cells free) (λ p. Unit {0}) a.wires
 
--- .. after these two interact: their site has so many auxiliary places of the first one, and these numbers for the new agents
+-- .. after these two interact: their site has `first` auxiliary places of the first one, and these numbers for the new agents
 pub record IsAfterPair (n : Parts) (r : RuleParts) (a b : AgentNo) (x : After) : Type 0 where
   pub first : ℕ
   pub names : List AgentNo
@@ -81,7 +81,7 @@ pub record AreFreeAfter (s : SiteParts) (free : List FreeEnd) : Type 0 where
 
 -- ---- unused numbers
 
--- the numbers without an agent are so many of these
+-- the first `count` numbers without an agent are these
 abbrev pub AreUnused : List (Option Cell) → ℕ → List AgentNo → Type 0
 AreUnused cs count names = (length names ≡ count) × ((k : ℕ) → k < count → slice_get names k ≡ Some (record { 0 = unused cs k }))
 
@@ -89,7 +89,7 @@ AreUnused cs count names = (length names ≡ count) × ((k : ℕ) → k < count 
 abbrev pub AreFirstUnused : List (Option Cell) → List AgentNo → Type 0
 AreFirstUnused cs found = (k : ℕ) → k < length found → slice_get found k ≡ Some (record { 0 = unused cs k })
 
--- no more of them than so many, of which the rest is past the last cell
+-- no more of them than `count`, of which the rest is past the last cell
 pub record AreEmptyNumbers (cs : List (Option Cell)) (count : ℕ) (found : List AgentNo) : Type 0 where
   pub few : length found ≤ count
   pub names : AreFirstUnused cs found

@@ -66,7 +66,7 @@ abbrev pub IsLanding : SiteParts → Side → ℕ → Option coded.Point → Typ
 IsLanding s side e None = LandsNowhere s side e
 IsLanding s side e (Some p) = LandsAt s side e p
 
--- after so many wires of the path from a boundary end it leaves another one, and has gone through no lower one
+-- after at least `count` wires of the path from a boundary end it leaves another one, and has gone through no lower one
 pub record IsOnWay (s : SiteParts) (side : Side) (e : ℕ) (by : Side) (at count : ℕ) : Type 0 where
   pub within : at < length s.rule.member.free
   pub ahead : (t : Tables) → Over s t → (es : List (Point ℕ)) (v : Point ℕ) → Leaves t s side e es v →

@@ -15,7 +15,7 @@ use std::alloc::{AllocError, Global};
 /// choice.
 pub const MOST_AGENTS: u32 = 400_000_000;
 
-/// The numbers below the number of cells that have no agent, in order, but no more than so many.
+/// The numbers below the number of cells that have no agent, in order, but at most `count` of them.
 fn empty_numbers(
     alloc: Global,
     cells: &[Option<Cell>],
@@ -33,7 +33,7 @@ fn empty_numbers(
     Ok(names)
 }
 
-/// The least numbers without an agent, so many.
+/// The `count` least numbers without an agent.
 pub(crate) fn unused(
     alloc: Global,
     cells: &[Option<Cell>],

@@ -30,7 +30,7 @@ before x = net_of x.net
 abbrev pub redex_of : Interaction → Redex ℕ ℕ
 redex_of x = redex_at x.rule x.one.0 x.two.0
 
--- it can be done, and its net has so many free ends, and its pair so many boundary ends
+-- it can be done, and its net has `own` free ends, and its pair `many` boundary ends
 pub record IsWith (t : Tables) (x : Interaction) (own many : ℕ) : Type 0 where
   pub can : CanStepAt t x.net x.rule x.one x.two x.name
   pub own_ends : own ≡ length (before x).free

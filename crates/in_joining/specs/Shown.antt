@@ -46,7 +46,7 @@ pub record AreExchanged (x y : End) (a : ArenaView) (ends : List End) (b : Arena
 
 -- ---- while boundary ends are joined
 
--- a side of a boundary end below this one, where the net has so many free ends of its own and there are so many boundary ends: the outer
+-- a side of a boundary end below this one, where the net has `own` free ends of its own and there are `many` boundary ends: the outer
 -- sides are numbered after the net's own free ends, and the inner sides after these
 abbrev pub IsSideBelow : ℕ → ℕ → ℕ → Point ℕ → Type 0
 IsSideBelow own many e (Port y i) = ⊥

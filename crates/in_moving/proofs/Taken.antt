@@ -37,7 +37,7 @@ one_if b = cond b 1 0
 pub one_for : (c : CellClass) (n : ℕ) → Holds c n → one_if (holds c n) ≡ 1
 one_for c n h = ap one_if (both_true (le-leb (least c) n h.0) (le-leb n (width c) h.1))
 
--- so many places are for this class, or for another one
+-- n places are for this class, or for another one
 pub which : (c : CellClass) (n : ℕ) → Holds c n ⊎ (one_if (holds c n) ≡ 0)
 which c n = go (holds c n) refl
   where

@@ -49,7 +49,7 @@ pub record IsListOfLive (a : ArenaView) (agents : List CellNo) : Type 0 where
   pub all : AreAllLive a agents
   pub rising : (j k : ℕ) (c d : CellNo) → j < k → slice_get agents j ≡ Some c → slice_get agents k ≡ Some d → c.0 < d.0
 
--- an end leads to one of these agents, or to one of so many free ends
+-- an end leads to one of these agents, or to one of `many` free ends
 abbrev pub LeadsInto : List CellNo → ℕ → End → Type 0
 LeadsInto agents many (Cell c i) = (k : ℕ) × (slice_get agents k ≡ Some c)
 LeadsInto agents many (Free k) = k < many

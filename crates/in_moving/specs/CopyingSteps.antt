@@ -8,7 +8,7 @@ use Rattle.in_arena.specs.declared.content.CellNo.{CellNo}
 use Rattle.in_arena.specs.declared.content.End.{End}
 use Rattle.in_moving.specs.Copying.{LooksLike, HaveOwnNames, is_for, moved, moved_end, name_in, number_in}
 
--- the live cells of the first so many are these
+-- the live cells of the first x are these
 pub record AreListedBelow (a : ArenaView) (x : ℕ) (cells : List CellNo) : Type 0 where
   pub live : (k : ℕ) (c : CellNo) → slice_get cells k ≡ Some c → IsLive (state_at a c.0)
   pub below : (k : ℕ) (c : CellNo) → slice_get cells k ≡ Some c → c.0 < x
@@ -32,7 +32,7 @@ pub record HasCell (x : State) (old now : ArenaView) (n : ℕ) : Type 0 where
   pub alike : LooksLike x (state_at now n)
   pub class : (d : CellClass) × Holds d (places x) × IsNumberOf old.cells d n
 
--- the first so many agents have their cells
+-- the first x agents have their cells
 pub record HaveCellsBelow (from : ArenaView) (agents : List CellNo) (old : ArenaView) (x : ℕ) (now : ArenaView) (names : List CellNo) : Type 0 where
   pub each : (k : ℕ) (c : CellNo) → k < x → slice_get agents k ≡ Some c → HasCell (state_at from c.0) old now (name_in names c.0)
   pub once : (j k : ℕ) (c d : CellNo) → j < x → k < x → slice_get agents j ≡ Some c → slice_get agents k ≡ Some d → name_in names c.0 ≡ name_in names d.0 → j ≡ k
@@ -47,7 +47,7 @@ pub record HaveOwnCells (from : ArenaView) (agents names : List CellNo) (now : A
   pub each : (k : ℕ) (c : CellNo) → slice_get agents k ≡ Some c → LooksLike (state_at from c.0) (state_at now (name_in names c.0))
   pub once : HaveOwnNames agents names
 
--- what stands in a cell, its first so many ends being written
+-- what stands in a cell, its first i ends being written
 pub record IsBeingMoved (name number : ℕ → ℕ) (x : State) (n i : ℕ) (first now : ArenaView) : Type 0 where
   pub word : ℕ
   pub all : List End
@@ -57,7 +57,7 @@ pub record IsBeingMoved (name number : ℕ → ℕ) (x : State) (n i : ℕ) (fir
   pub count : length ends ≡ length all
   pub so_far : take i ends ≡ map (moved_end name number) (take i all)
 
--- the first so many agents are written in their cells
+-- the first x agents are written in their cells
 pub record AreMovedBelow (from : ArenaView) (agents names : List CellNo) (ends : List ℕ) (first : ArenaView) (x : ℕ) (now : ArenaView) : Type 0 where
   pub each : (k : ℕ) (c : CellNo) → k < x → slice_get agents k ≡ Some c → state_at now (name_in names c.0) ≡ moved (name_in names) (number_in ends) (state_at from c.0)
   pub others : (n : ℕ) → ((k : ℕ) (c : CellNo) → k < x → slice_get agents k ≡ Some c → name_in names c.0 ≡ n → ⊥) → state_at now n ≡ state_at first n

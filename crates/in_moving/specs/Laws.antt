@@ -77,7 +77,7 @@ CopiesStandBeside = (from before old new : ArenaView) (agents names : List CellN
     AreEndsOfBoth m n (name_in names) own (number_in numbers) of_before of_from ends of_new → IsShown new of_new w →
     map (λ t. Some t) w.free ≡ map (λ p. slice_get (two_parts m n p.0).free p.1) ends → StandBeside m n (name_in names) ends w
 
--- so many free ends of this part, from this one on
+-- a given number of free ends of this part, from this one on
 abbrev pub ends_of : ℕ → ℕ → ℕ → List (ℕ × ℕ)
 ends_of i first zero = []
 ends_of i first (suc k) = (i, first) ∷ ends_of i (suc first) k

@@ -7,7 +7,7 @@ use Rattle.in_arena.specs.declared.content.CellClass.{CellClass}
 use Rattle.in_arena.specs.declared.content.CellNo.{CellNo}
 use Rattle.in_moving.specs.Copying.{is_for}
 
--- the cells of the first so many agents are free
+-- the cells of the first x agents are free
 pub record AreRetiredBelow (agents : List CellNo) (old : ArenaView) (x : ℕ) (now : ArenaView) : Type 0 where
   pub gone : (k : ℕ) (c : CellNo) → k < x → slice_get agents k ≡ Some c → state_at now c.0 ≡ Vacant
   pub others : (y : ℕ) → ((k : ℕ) → k < x → slice_get agents k ≡ Some (record { 0 = y }) → ⊥) → state_at now y ≡ state_at old y

@@ -10,7 +10,7 @@ ghost use Rattle.in_moving.specs.CopyingSteps.{TakesCell, HaveCellsBelow};
 
 use in_arena::{Arena, CellClass, CellNo};
 
-// The class of a cell with so many places, which some class is for.
+// The class of a cell with that many places, which some class is for.
 fn class_for(places: u8) -> CellClass
     requires { (c : Class) × Holds c places }
     ensures { Holds result places }

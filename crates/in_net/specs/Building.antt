@@ -111,7 +111,7 @@ abbrev pub wires_from : List Spot → List Link → ℕ → ℕ → List Wire
 wires_from spots links at zero = []
 wires_from spots links at (suc n) = option_to_list (wire_of spots links at) ++ wires_from spots links (at + 1) n
 
--- the boundary ends at the places of a symbol, from the place after so many on
+-- the boundary ends at the places of a symbol, from place i + 1 on
 abbrev pub boundary_from : Tables → List Spot → List Link → ℕ → ℕ → ℕ → ℕ → List FreeEnd
 boundary_from t spots links s i k zero = []
 boundary_from t spots links s i k (suc n) = record { name = []; kind = port_at t s (i + 1); end = partner_of spots links k } ∷ boundary_from t spots links s (i + 1) (k + 1) n

@@ -34,7 +34,7 @@ pub record IsReadableNet (source : Source) (t : Tables) : Type 0 where
   pub tabled : IsTabled source t
   pub faultless : IsFaultless source
 
--- so many spots from one on are points
+-- n spots from `first` on are points
 abbrev pub ArePointsAt : List Spot → ℕ → ℕ → Type 0
 ArePointsAt spots first n = (j : ℕ) → j < n → (first + j < length spots) × IsPointSpot (nth_spot spots (first + j))
 
@@ -69,7 +69,7 @@ pub record IsNumbered (t : Tables) (free : ℕ) (r : Reading) : Type 0 where
 abbrev pub HaveFewPorts : Tables → Type 0
 HaveFewPorts t = (s : ℕ) → arity_of t s ≤ max_ports
 
--- what was read, with so many free or boundary ends, is in range, and not too much
+-- what was read, with `free` free or boundary ends, is in range, and not too much
 pub record IsReadFrom (t : Tables) (free : ℕ) (r : Reading) : Type 0 where
   pub numbered : IsNumbered t free r
   pub agents : AgentsOf t r.spots r.agents

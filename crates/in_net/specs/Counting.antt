@@ -39,7 +39,7 @@ abbrev pub counted_from : ℕ → List Spot → List Seen → List Seen
 counted_from at [] seen = seen
 counted_from at (s ∷ ss) seen = counted_from (at + 1) ss (counted seen at s)
 
--- the spot is the third one of its name, which was seen so often before
+-- the spot is the third one of its name, by what was seen of that before
 abbrev pub third_time : Seen → Spot → Option Place
 third_time Never s = None
 third_time (Once one) s = None

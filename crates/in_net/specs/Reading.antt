@@ -21,7 +21,7 @@ use Rattle.in_net.specs.TextNet.{Body, LeftHead}
 abbrev pub nothing_read : Reading
 nothing_read = record { spots = []; agents = []; joints = []; names = [] }
 
--- the ports of an agent at so many places from a place on
+-- the ports of an agent at a given number of places from a place on
 abbrev pub ports_from : ℕ → Place → ℕ → ℕ → List Spot
 ports_from agent at place zero = []
 ports_from agent at place (suc n) = Port agent place at ∷ ports_from agent at (place + 1) n
@@ -101,7 +101,7 @@ reads_free_from k (f ∷ fs) r = reads_free_from (k + 1) fs (reads_free_end k f 
 abbrev pub reads_free : List SourceFree → Reading
 reads_free fs = reads_free_from 0 fs nothing_read
 
--- so many boundary ends from a number on
+-- a given number of boundary ends, from number k on
 abbrev pub boundary_spots : ℕ → ℕ → List Spot
 boundary_spots k zero = []
 boundary_spots k (suc n) = End k ∷ boundary_spots (k + 1) n
@@ -115,7 +115,7 @@ abbrev pub reads_heads : Tables → List LeftHead → Reading → Reading
 reads_heads t [] r = r
 reads_heads t (h ∷ hs) r = reads_heads t hs (reads_arguments h.first (map (reader_of t) h.head.terms) 0 r)
 
--- a head's symbol has so many auxiliary places
+-- how many auxiliary places a head's symbol has
 abbrev pub head_arity : Tables → LeftHead → ℕ
 head_arity t h = arity_of t (unwrap_or (number_in h.head.name.text t.names) 0)
 

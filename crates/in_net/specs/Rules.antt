@@ -67,7 +67,7 @@ module _ (t : Tables) (r : SourceRule) where
         equations = r.equations;
       }
 
--- the types at so many places from one on, and at all auxiliary places of a symbol
+-- the types at a given number of places from one on, and at all auxiliary places of a symbol
 abbrev pub types_from : Tables → ℕ → ℕ → ℕ → List PortType
 types_from t s i zero = []
 types_from t s i (suc n) = port_at t s i ∷ types_from t s (i + 1) n

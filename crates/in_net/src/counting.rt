@@ -55,7 +55,7 @@ struct Counting {
     third: Option<Place>,
 }
 
-/// Where the spot stands as the third one of its name, where its name was seen so often before.
+/// Where the spot stands as the third one of its name, by what was seen of that before.
 fn third_time(seen: Seen, spot: Spot) -> Option<Place>
     ensures { result ≡ third_time seen spot }
 {

@@ -19,7 +19,7 @@ pub const MAX_AGENTS: usize = 4_000;
 /// The most agents that a right member may have. This is this project's own choice.
 pub const MAX_MEMBER_AGENTS: usize = 64;
 
-/// Where the first agent stands that is one more than so many.
+/// Where the first agent stands that is one more than `most`.
 fn too_many(most: usize, agents: &[Agent]) -> Option<Place>
     ensures { result ≡ too_many most agents.now }
 {
@@ -89,7 +89,7 @@ fn misfit_in_head(symbols: &Symbols, head: &Head) -> Option<Place>
 }
 
 /// The first fault of the agents and names of what was read, in the order of the text; at one place the lower code comes first.
-/// Allowed are so many agents, the first misfit stands there, and these are the free names.
+/// At most `most` agents are allowed, the first misfit stands at `misfit`, and these are the free names.
 fn fault_of(
     alloc: Global,
     most: usize,

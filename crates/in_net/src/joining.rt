@@ -94,7 +94,7 @@ fn merge(links: &mut Items<Link>, one: usize, other: usize) -> Option<Place>
     None
 }
 
-/// Meets a spot of a name that was seen so often: the second one is joined to the first.
+/// Meets a spot of a name, of which this was seen before: the second spot is joined to the first.
 fn meet(links: &mut Items<Link>, seen: Seen, at: usize) -> Option<Place>
     requires at { at < length links.old }
     requires seen { IsSeenInside (length links.old) seen }

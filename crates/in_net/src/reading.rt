@@ -30,7 +30,7 @@ pub(crate) struct Agent {
 }
 
 /// Two spots that the text joins at a place: the terms of an equation at its `~`, an argument and the port of its agent at the
-/// argument's first token, a head's term and its boundary end at the term's first token. The first of them stands so many spots
+/// argument's first token, a head's term and its boundary end at the term's first token. The first of them stands a number of spots
 /// after `one`: the agent's principal port, the head's first boundary end, or the term's spot.
 #[derive(Clone, Copy)]
 pub(crate) struct Joint {
@@ -222,7 +222,7 @@ pub(crate) fn read_net(
     Ok(reader.reading)
 }
 
-/// Reads so many boundary ends.
+/// Reads `count` boundary ends.
 fn read_ends(alloc: Global, count: usize) -> Result<Reading, AllocError>
     ensures { IfOk result (λ r. r ≡ with_ends nothing_read count) }
 {
@@ -245,7 +245,7 @@ fn read_head(reader: &mut NetReader, head: &Head, first: usize) -> Result<(), Al
     walk_terms(reader, first, head.terms.as_slice())
 }
 
-/// Reads a rule, the boundary ends of whose heads begin at these numbers: so many boundary ends, then the terms of each head in the
+/// Reads a rule, the boundary ends of whose heads begin at these numbers: the boundary ends, then the terms of each head in the
 /// order of the text, and then its equations.
 pub(crate) fn read_rule(
     alloc: Global,

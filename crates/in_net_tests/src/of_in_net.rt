@@ -25,7 +25,7 @@ fn has_symbols(
         && net.symbol(AgentNo(6)) == seventh
 }
 
-/// Whether the net is as built, with so many agents and free ends.
+/// Whether the net is as built, with `agents` agents and `free_ends` free ends.
 fn is_built_with(net: &Net, agents: u32, free_ends: u32) -> bool {
     net.is_built() && net.agents() == agents && net.free_ends() == free_ends
 }

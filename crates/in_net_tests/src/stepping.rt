@@ -133,7 +133,7 @@ fn counted(
     steps(alloc, source, symbols, &mut net, last)
 }
 
-/// Whether there are so many agents after each step, and the wires are partners each time.
+/// Whether the numbers of agents after each step are `agents`, and the wires are partners each time.
 #[derive(Clone, Copy)]
 pub struct Counts<'a> {
     pub last: bool,
@@ -147,7 +147,7 @@ impl Look<bool> for Counts<'_> {
     }
 }
 
-/// Whether there are so many steps, so many agents at the end, and the wires are partners each time.
+/// Whether there are `steps` steps, `agents` agents at the end, and the wires are partners each time.
 #[derive(Clone, Copy)]
 pub struct EndsWith {
     pub last: bool,

@@ -1,5 +1,5 @@
 -- Class graphs, and their edges.
 pub mod ClassEdges
-pub mod ClassWays
+pub mod ClassWalks
 pub mod HubEdges
 pub mod HubMembers

@@ -2,7 +2,7 @@
 -- and the wires between the classes of their ports. This project's own: by its bridges it is decided which nodes split the set.
 use Rattle.std.specs.Prelude.{◌≡◌, ◌⊎◌, ℕ, suc, ◌<◌, Bool, List, length, slice_get, Option, Some, None}
 use Rattle.in_base.specs.Graphs.{Graph}
-use Rattle.in_simple_bridges.specs.Ways.{Way, HasTwoEnds, IsOnCycle}
+use Rattle.in_simple_bridges.specs.Walks.{EdgeWalk, HasTwoEnds, IsOnCycle}
 use Rattle.in_open_nets.specs.declared.open_nets.Node.TheVariants.{AgentNode, ClassNode}
 use Rattle.in_open_nets.specs.declared.open_nets.OpenNode.{OpenNode}
 use Rattle.in_open_nets.specs.Constructions.{IsIn}
@@ -27,9 +27,9 @@ OtherEdge g Has s n c (Hub l) (Class m h) = (l ≡ m) × OtherHubEdge g Has s n 
 OtherEdge g Has s n c (Class l k) (Hub m) = (l ≡ m) × OtherHubEdge g Has s n c l k
 OtherEdge g Has s n c (Class l k) (Class m h) = IsIn l s × IsIn m s × (i : ℕ) × (j : ℕ) × g.Wire (l, i) (m, j) × (g.class l i ≡ k) × (g.class m j ≡ h)
 
--- each hub edge of n is a bridge: without it no way leads from the class to the hub
+-- each hub edge of n is a bridge: without it no walk leads from the class to the hub
 abbrev pub HubEdgesAreBridges : (g : Graph) → (g.Node → ℕ → Type 0) → g.Node → (g.Node → Bool) → Type 0
-HubEdgesAreBridges g Has n s = (c : ℕ) → Has n c → Way (Vertex g.Node) (OtherEdge g Has s n c) (Class n c) (Hub n) → ⊥
+HubEdgesAreBridges g Has n s = (c : ℕ) → Has n c → EdgeWalk (Vertex g.Node) (OtherEdge g Has s n c) (Class n c) (Hub n) → ⊥
 
 -- ---- as a list of edges between numbers
 

@@ -31,7 +31,7 @@ AreUnjoined g a b = (u v : g.Node × ℕ) → g.Wire u v → IsIn u.0 a → IsIn
 abbrev pub OwnWiresAreOfOneClass : (g : Graph) → g.Node → Type 0
 OwnWiresAreOfOneClass g n = (i j : ℕ) → g.Wire (n, i) (n, j) → g.class n i ≡ g.class n j
 
--- the agent n joins the nets of its classes, of which there are so many: every other node of s is numbered by one of them, a wire
+-- the agent n joins the nets of its `classes` classes: every other node of s is numbered by one of them, a wire
 -- between two of these is within one class, and one at n leads to the net of its port's class
 pub record IsGraft (g : Graph) (n : g.Node) (classes : ℕ) (s : Nodes g) (part : g.Node → ℕ) : Type 0 where
   pub root : IsIn n s
@@ -41,7 +41,7 @@ pub record IsGraft (g : Graph) (n : g.Node) (classes : ℕ) (s : Nodes g) (part 
   pub to : (i j : ℕ) (m : g.Node) → IsIn m s → m ≢ n → g.Wire (n, i) (m, j) → part m ≡ g.class n i
   pub among : (l m : g.Node) (i j : ℕ) → IsIn l s → IsIn m s → l ≢ n → m ≢ n → g.Wire (l, i) (m, j) → part l ≡ part m
 
--- the sub-net of these nodes, with all wires at them, is built by the constructions, where an agent has so many classes of auxiliary
+-- the sub-net of these nodes, with all wires at them, is built by the constructions, where an agent n has `classes n` classes of auxiliary
 -- ports. A wire that leads out of it is an open end
 pub data Built (g : Graph) (IsAgent : g.Node → Type 0) (classes : g.Node → ℕ) : (g.Node → Bool) → Type 0 where
   -- EMPTY; and LINK, a wire between two open ends, which has no node. Which wires are LINKs, a derivation says

@@ -19,14 +19,14 @@ IsUnion a b c = (n : ℕ) → nodes_in c n ≡ (nodes_in a n || nodes_in b n)
 abbrev pub marked : ℕ → List ℕ → List Bool
 marked last marks = map (λ m. nat_eq m last) marks
 
--- no mark is past the last one, and so many numbers are no members
+-- no mark is past the last one, and `out` numbers are no members
 pub record AreMarks (marks : List ℕ) (last out : ℕ) : Type 0 where
   pub some : 0 < last
   pub most : (n : ℕ) → slice_index_or marks n 0 ≤ last
   pub absent : out ≡ missing (marked last marks)
   pub few : length marks < 2 ^ 64
 
--- of so many nodes these are members
+-- of `count` nodes these are members
 abbrev pub tests_of : ℕ → List ℕ → List Bool
 tests_of count [] = replicate count false
 tests_of count (n ∷ ns) = slice_set (tests_of count ns) n true

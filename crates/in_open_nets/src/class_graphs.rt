@@ -29,7 +29,7 @@ pub(crate) struct ClassGraph {
     pub(crate) edges: Items<(usize, usize)>,
 }
 
-/// An edge from a hub to each of so many classes.
+/// An edge from a hub to each of `width` classes.
 fn add_hub_edges(
     hub: usize,
     width: usize,
@@ -61,7 +61,7 @@ impl ClassGraph {
         }
     }
 
-    /// Numbers for so many nodes: nothing is to be done but the first time.
+    /// Numbers for that many nodes: nothing is to be done but the first time.
     fn make_room(&mut self, nodes: usize) -> Result<(), AllocError>
         ensures { OnOk result (nodes ≤ length self.new.hubs) }
     {

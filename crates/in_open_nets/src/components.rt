@@ -160,7 +160,7 @@ impl Model for DoneNodes {
 }
 
 impl DoneNodes {
-    /// None of so many.
+    /// None of `count` nodes.
     pub fn new(alloc: Global, count: usize) -> Result<DoneNodes, AllocError>
         ensures size { IfOk result (λ done. length done ≡ count) }
         ensures none { IfOk result (λ done. (n : ℕ) → nodes_in done n ≡ false) }

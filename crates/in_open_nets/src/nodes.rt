@@ -41,7 +41,7 @@ impl Model for NodeList {
 }
 
 impl NodeList {
-    /// All of so many.
+    /// All of `count` nodes.
     pub fn all(alloc: Global, count: u32) -> Result<NodeList, AllocError>
         ensures size { IfOk result (λ set. length set ≡ count) }
         ensures all { IfOk result (λ set. (n : ℕ) → n < count → nodes_in set n ≡ true) }

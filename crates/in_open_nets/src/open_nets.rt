@@ -53,7 +53,7 @@ impl Model for OpenNet {
 }
 
 impl OpenNet {
-    /// The open net of these nodes, these wires and so many free ends: each point is in exactly one wire, an agent's principal port is the
+    /// The open net of these nodes, these wires and `free` free ends: each point is in exactly one wire, an agent's principal port is the
     /// one place of class 0, and its other classes stand in order.
     pub fn new(nodes: Items<OpenNode>, wires: Items<(OpenPoint, OpenPoint)>, free: u32) -> OpenNet
         requires { IsOrderly (open_of nodes wires free) }

@@ -32,7 +32,7 @@ fn leads_to(part: &Part, node: usize, these: &Scratch) -> bool
     false
 }
 
-/// About so many nodes that are joined to one, the nearest ones, with itself.
+/// About `enough` nodes that are joined to one, the nearest ones, with itself.
 fn gather(
     alloc: Global,
     part: &Part,
@@ -60,7 +60,7 @@ fn gather(
     Ok(())
 }
 
-/// Whether a node is joined to one of these, where about so many nodes near to it tell.
+/// Whether a node is joined to one of these, where about `enough` nodes near to it tell.
 fn meets(
     alloc: Global,
     part: &Part,

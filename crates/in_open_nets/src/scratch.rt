@@ -38,7 +38,7 @@ impl Model for Scratch {
 }
 
 impl Scratch {
-    /// None of so many.
+    /// None of `count` nodes.
     pub fn new(alloc: Global, count: usize) -> Result<Scratch, AllocError>
         ensures size { IfOk result (λ set. length set ≡ count) }
         ensures none { IfOk result (λ set. (n : ℕ) → nodes_in set n ≡ false) }

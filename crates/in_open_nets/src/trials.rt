@@ -107,7 +107,7 @@ impl Search {
         })
     }
 
-    /// So many ports are looked at, where that many still may be.
+    /// Whether that many ports may still be looked at; then they count as looked at.
     fn spend(&mut self, ports: usize) -> bool {
         if ports > self.budget {
             return false;

@@ -130,7 +130,7 @@ fn ports(alloc: Global, open: &OpenNet) -> Result<Items<u8>, AllocError>
     Ok(ports)
 }
 
-/// So many empty slots.
+/// `count` empty slots.
 fn empty(alloc: Global, count: usize) -> Result<Items<Slot>, AllocError>
     ensures count { IfOk result (λ slots. length slots ≡ count) }
     ensures empty { IfOk result (λ slots. (i : ℕ) → slice_index_or slots i None ≡ None) }

@@ -43,7 +43,7 @@ fn places_in(symbols: &Symbols, symbol: SymbolNo, class: u8, last: u8) -> u8
     count
 }
 
-/// A port for each of so many places.
+/// A port for each of `count` places.
 fn ports(alloc: Global, count: u8) -> Result<Items<u8>, AllocError>
     ensures size { IfOk result (λ ports. length ports ≡ count) }
     ensures numbers { IfOk result (Each (λ i k. k ≡ i)) }

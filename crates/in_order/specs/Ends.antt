@@ -14,7 +14,7 @@ use Rattle.in_check.specs.Systems.{system_of}
 abbrev pub words_in : Program → Words
 words_in p = record { symbol = λ s. name_in s p.tables.names; free = λ k. unwrap_or (free_name_in p.net k) [] }
 
--- some run of the program, its interactions in any order and its agents under any names, ends after so many interactions, in a net
+-- some run of the program, its interactions in any order and its agents under any names, ends after k interactions, in a net
 -- without active pairs that has this text
 pub record Ends (p : Program) (k : ℕ) (written : List ℕ) : Type 0 where
   pub net : Net ℕ

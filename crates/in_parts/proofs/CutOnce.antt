@@ -51,7 +51,7 @@ at_own first (suc many) (suc k) p e =
     ((omega (arith, l)), r.1 ∙ ap (λ (z : ℕ). (0, z)) (let f : suc first + k ≡ first + suc k = omega arith in f))
 
 module _ (f : ℕ) where
-  -- the last two, of so many and two
+  -- the last two of f + 2 free ends
   abbrev across_by : Bool → Bool → Option (ℕ × ℕ)
   across_by at_first at_second = cond at_first (Some (0, suc f)) (cond at_second (Some (0, f)) None)
 

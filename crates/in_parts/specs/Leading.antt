@@ -13,7 +13,7 @@ use Rattle.in_glue.specs.Gluing.{Cuts, IsGlued}
 use Rattle.in_glue.specs.Joining.{CutsWire, IsBeside, JoinsEnds, WiresLeadBack}
 use Rattle.in_glue.specs.Laws.{KeepsApart}
 
--- so many interactions lead from the one net to the other
+-- k interactions lead from the one net to the other
 abbrev pub Leads : System → ℕ → Net ℕ → Net ℕ → Type 0
 Leads p k n m = Reached (from_net p n) k m
 
@@ -60,12 +60,12 @@ CutLeadsAreJoined = (p : System) (k : ℕ) (w m n o : Net ℕ) → IsSoundSystem
 
 -- ---- wires that are cut one after another, and joined in the opposite order
 
--- so many wires are cut, one after another
+-- a given number of wires are cut, one after another
 pub data IsCutDown (p : System) : ℕ → Net ℕ → Net ℕ → Type 0 where
   uncut : (n : Net ℕ) → IsCutDown p zero n n
   then_cut : (w : ℕ) (n m o : Net ℕ) → IsCutDown p w n m → IsCutOnce p m o → IsCutDown p (suc w) n o
 
--- so often the last two free ends are joined
+-- the last two free ends are joined, a given number of times
 pub data IsJoinedUp : ℕ → Net ℕ → Net ℕ → Type 0 where
   unjoined : (n : Net ℕ) → IsJoinedUp zero n n
   joined_first : (w : ℕ) (n m o : Net ℕ) → IsJoinedOnce n m → IsJoinedUp w m o → IsJoinedUp (suc w) n o

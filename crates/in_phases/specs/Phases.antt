@@ -10,11 +10,11 @@ use Rattle.in_reducer.specs.Parting.{IsSplitOff, ReducesTo}
 use Rattle.in_reducer.specs.PartingLaws.{IsCutTimes}
 use Rattle.in_reducer.specs.Reducers.{IsReducer}
 
--- at least so many cells of each class are free
+-- at least `count` cells of each class are free
 abbrev pub HasFree : MachineParts → ℕ → Type 0
 HasFree m count = (c : CellClass) → count ≤ count_of m.vacant c
 
--- some agents were split off where so many wires were cut, and the seam has room for it to come back
+-- some agents were split off where `cuts` wires were cut, and the seam has room for it to come back
 pub record IsSplitBy (cut : MachineParts) (cuts size : ℕ) (seam : Seam) (part rest : MachineParts) : Type 0 where
   pub agents : List CellNo
   pub own : ℕ
@@ -32,7 +32,7 @@ pub record IsTakenOut (m : MachineParts) (cuts size : ℕ) (seam : Seam) (part r
   pub of_cut : IsReducer cut
   pub split : IsSplitBy cut cuts size seam part rest
 
--- a part that was taken out has been reduced since, and so was the rest, by so many interactions together; there is room for its agents
+-- a part that was taken out has been reduced since, and so was the rest, by k interactions together; there is room for its agents
 pub record CanComeBack (m : MachineParts) (k : ℕ) (t : Taken) (now : MachineParts) : Type 0 where
   pub rest : MachineParts
   pub part : MachineParts

@@ -11,7 +11,7 @@ use crate::branch::Branch;
 use in_base::use_invariant;
 use in_reducer::{CellNo, End, Reducer};
 
-/// Whether this is the number of the first end of one of so many cuts, which came after `own` free ends.
+/// Whether this is the number of the first end of one of `cuts` cuts, which came after `own` free ends.
 fn is_first_end(own: u32, cuts: u32, number: u32) -> bool
     ensures { result ≡ true → (j : ℕ) × (j < cuts) × (number ≡ own + (j + j)) }
 {
@@ -23,7 +23,7 @@ fn is_first_end(own: u32, cuts: u32, number: u32) -> bool
     after == 2 * cut && cut < cuts
 }
 
-/// Whether an end leads to an agent of the branch, or to the first end of one of so many cuts, which came after `own` free ends.
+/// Whether an end leads to an agent of the branch, or to the first end of one of `cuts` cuts, which came after `own` free ends.
 fn is_inside(reducer: &Reducer, branch: &Branch, own: u32, cuts: u32, end: End) -> bool
     requires branch { IsBranch reducer.now branch.now }
     requires there { LeadsSomewhere reducer.now end }

@@ -25,7 +25,7 @@ fn leads_out(reducer: &Reducer, branch: &Branch, cell: CellNo, place: u8) -> boo
 }
 
 /// Cuts the wire at this place of an agent, where it leads out of the branch. Says how many cuts that were: none where memory or numbers of free
-/// ends are wanted.
+/// ends run out.
 fn cut_place(reducer: &mut Reducer, branch: &Branch, cell: CellNo, place: u8) -> u32
     requires branch { IsBranch reducer.old branch.now }
     requires there { HasPlace reducer.old cell.0 place }
@@ -57,7 +57,7 @@ fn cut_agent(reducer: &mut Reducer, branch: &Branch, cell: CellNo) -> u32
     cuts
 }
 
-/// Cuts all wires that lead out of the branch, and says how many. Where memory or numbers of free ends are wanted, some are left.
+/// Cuts all wires that lead out of the branch, and says how many. Where memory or numbers of free ends run out, some are left.
 pub(crate) fn cut_off(reducer: &mut Reducer, branch: &Branch) -> u32
     requires branch { IsBranch reducer.old branch.now }
     ensures cuts { IsCutTimes reducer.old result reducer.new }
@@ -71,7 +71,7 @@ pub(crate) fn cut_off(reducer: &mut Reducer, branch: &Branch) -> u32
     cuts
 }
 
-/// Joins the ends of so many cuts again, the last one first: what was before the cuts is reduced to that by as many interactions as were done
+/// Joins the ends of `cuts` cuts again, the last one first: what was before the cuts is reduced to that by as many interactions as were done
 /// since.
 pub(crate) fn join_up(reducer: &mut Reducer, cuts: u32)
     requires cut { (m : MachineParts) × (cut : MachineParts) × (k : ℕ) × IsReducer m × IsCutTimes m cuts cut × ReducesTo cut k reducer.old }

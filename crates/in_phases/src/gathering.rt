@@ -7,7 +7,7 @@ use in_base::use_invariant;
 use in_reducer::{CellNo, End, Reducer};
 use std::alloc::{AllocError, Global};
 
-/// A branch without agents, for nets with so many numbers.
+/// A branch without agents, for nets with `numbers` numbers for agents.
 pub(crate) fn empty(alloc: Global, numbers: u32) -> Result<Branch, AllocError>
     ensures { IfOk result (λ b. length b.marks.items ≡ numbers) }
 {
@@ -18,7 +18,7 @@ pub(crate) fn empty(alloc: Global, numbers: u32) -> Result<Branch, AllocError>
 }
 
 impl Branch {
-    /// Whether it is for nets with so many numbers.
+    /// Whether it is for nets with that many numbers for agents.
     pub(crate) fn is_for(&self, numbers: u32) -> bool
         ensures { result ≡ true → length self.now.marks.items ≡ numbers }
     {
@@ -61,7 +61,7 @@ impl Branch {
         Ok(())
     }
 
-    /// Takes in both agents of each of the first so many pairs.
+    /// Takes in both agents of each of the first `pairs` pairs.
     fn take_pairs(&mut self, reducer: &Reducer, pairs: u32) -> Result<(), AllocError>
         requires branch { IsBranch reducer.now self.old }
         requires pairs { pairs ≤ length reducer.now.queue }
@@ -108,7 +108,7 @@ impl Branch {
         Ok(())
     }
 
-    /// Forgets what it had, and gathers the trees behind the first so many pairs: both agents of each, each agent whose principal port is joined
+    /// Forgets what it had, and gathers the trees behind the first `pairs` pairs: both agents of each, each agent whose principal port is joined
     /// to an auxiliary port of one of them, and so on. Few wires lead out of them. Refused only when out of memory.
     pub(crate) fn gather(&mut self, reducer: &Reducer, pairs: u32) -> Result<(), AllocError>
         requires many { length self.old.marks.items ≡ length reducer.now.agents }

@@ -14,8 +14,8 @@ use in_reducer::Reducer;
 use std::alloc::Global;
 use std::thread::{Threads, join_mut};
 
-/// How a net is shared out: into at most so many parts, the rest among them; each part gets so many free cells of each class besides those of
-/// its agents; so many cells of each class stay free in the rest; and at most so many interactions are done together.
+/// How a net is shared out: into at most `parts` parts, the rest among them; each part gets `share` free cells of each class besides those of
+/// its agents; `floor` cells of each class stay free in the rest; and at most `most` interactions are done together.
 #[derive(Clone, Copy, Debug, PartialEq, Eq)]
 pub struct Sharing {
     pub parts: u32,
@@ -87,7 +87,7 @@ fn at_once<R: Threads>(
     )
 }
 
-/// Reduces a net in parts, each in a thread of its own but the rest: newest pairs first. It is never refused: where memory or cells are wanted
+/// Reduces a net in parts, each in a thread of its own but the rest: newest pairs first. It is never refused: where memory or cells run out
 /// there are fewer parts, and where a thread can't be started its part is reduced after the rest. Which agents are whose is open. The room is
 /// for the reducer's numbers; it is used again. There is at least one part, and as many cells are free as are to stay so.
 #[cycle(phases)]

@@ -20,14 +20,14 @@ fn vacant(reducer: &Reducer) -> Need
     }
 }
 
-/// Whether so many cells more than the floor are free.
+/// Whether `need` cells more than the floor are free.
 fn is_above(free: u32, need: u32, floor: u32) -> bool
     ensures { result ≡ true → floor + need ≤ free }
 {
     u64::from(need) + u64::from(floor) <= u64::from(free)
 }
 
-/// Whether what a pair needs is free, and so many cells of each class besides.
+/// Whether what a pair needs is free, and `floor` cells of each class besides.
 fn has_room_above(free: Need, need: Need, floor: u32) -> bool
     ensures { result ≡ true → (c : Class) → floor + count_of need c ≤ count_of free c }
 {
@@ -36,7 +36,7 @@ fn has_room_above(free: Need, need: Need, floor: u32) -> bool
         && is_above(free.wide, need.wide, floor)
 }
 
-/// Interactions of the newest pairs, at most so many, while as many cells of each class as are to be left stay free. Says how many they were.
+/// Interactions of the newest pairs, at most `most`, while as many cells of each class as are to be left stay free. Says how many they were.
 /// What was made last is still in the cache, and a net that is reduced from there stays small.
 pub(crate) fn reduce_newest(
     reducer: &mut Reducer,

@@ -15,7 +15,7 @@ pub struct Room {
 }
 
 impl Room {
-    /// Room for reducers with so many numbers for agents (`Reducer::numbers`); of one with another number `reduce_in_parts` makes no parts.
+    /// Room for reducers with that many numbers for agents (`Reducer::numbers`); of one with another number `reduce_in_parts` makes no parts.
     /// Refused only when out of memory.
     pub fn new(alloc: Global, numbers: u32) -> Result<Room, AllocError>
         ensures { IfOk result (IsRoomFor numbers) }

@@ -28,7 +28,7 @@ pub(crate) struct Taken<'a> {
     pub(crate) cells: u32,
 }
 
-/// Whether at least so many cells of each class are free.
+/// Whether at least `count` cells of each class are free.
 fn has_free(reducer: &Reducer, count: u32) -> bool
     ensures { result ≡ true → HasFree reducer.now count }
 {
@@ -105,8 +105,8 @@ pub(crate) fn bring_back(reducer: &mut Reducer, taken: Taken, names: &mut [CellN
     join_up(reducer, cuts);
 }
 
-/// Takes the trees behind the first so many pairs out of a net, as a part with so many free cells of each class besides those of its agents.
-/// So many cells of each class stay free in the rest, besides as many as the part has. Nothing where memory or cells are wanted for that: then
+/// Takes the trees behind the first `pairs` pairs out of a net, as a part with `share` free cells of each class besides those of its agents.
+/// `floor` cells of each class stay free in the rest, besides as many as the part has. Nothing where memory or cells run out for that: then
 /// the net is what it was, but for the numbers of its agents.
 pub(crate) fn take_part<'a>(
     alloc: Global,

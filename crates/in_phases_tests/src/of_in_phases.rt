@@ -11,7 +11,7 @@ const SUMS_OF_SUMS: &str = "net (r : nat+, s : nat+, t : nat+) {
 }
 ";
 
-/// What it came to in so many parts, with so many interactions a phase and so many in turn before each.
+/// What it came to in `parts` parts, with at most `most` interactions a phase and `between` in turn before each.
 fn came<R: Threads + Drop>(
     rt: R,
     alloc: Global,
@@ -31,7 +31,7 @@ fn came<R: Threads + Drop>(
     )
 }
 
-/// Whether it came to the end, in so many phases.
+/// Whether it came to the end, in `phases` phases.
 fn ended(came: Option<Came>, phases: u64) -> bool {
     came == Some(Came {
         interactions: 26,

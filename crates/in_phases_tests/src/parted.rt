@@ -37,7 +37,7 @@ fn start<'a>(alloc: Global, program: &'a Checked, templates: &Templates) -> Opti
     }
 }
 
-/// Interactions first in, first out, so many at most. Says how many.
+/// Interactions first in, first out, at most `most` of them. Says how many.
 fn turns(reducer: &mut Reducer, templates: &Templates, most: u64) -> u64
     requires { AreTemplatesOf reducer.old.program templates.now }
     ensures { AreTemplatesOf reducer.new.program templates.now }
@@ -53,7 +53,7 @@ fn turns(reducer: &mut Reducer, templates: &Templates, most: u64) -> u64
     interactions
 }
 
-/// So many cells of each class are free, and no more than a thousand.
+/// The number of free cells of the class that has the fewest, a thousand at most.
 fn floor_of(reducer: &Reducer) -> u32
     ensures { HasFree reducer.now result }
 {
@@ -63,7 +63,7 @@ fn floor_of(reducer: &Reducer) -> u32
     small.min(large).min(wide).min(1000)
 }
 
-/// How it is shared out: into so many parts, one at least, with so many interactions together; and how many are done in turn before.
+/// How it is shared out: into `parts` parts, one at least, with at most `most` interactions together; and `between` are done in turn before.
 #[derive(Clone, Copy, Debug)]
 pub struct Shares {
     pub parts: u32,
@@ -92,7 +92,7 @@ fn phase<R: Threads>(
     reduce_in_parts(rt, alloc, reducer, templates, sharing, room)
 }
 
-/// So many phases as it takes until no pair is left, 200 at most. Says how many interactions there were, and how many phases in more than one
+/// As many phases as it takes until no pair is left, 200 at most. Says how many interactions there were, and how many phases in more than one
 /// part.
 fn phases<R: Threads>(
     rt: &R,

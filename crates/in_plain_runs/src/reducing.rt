@@ -98,7 +98,7 @@ pub fn started(alloc: Global, checked: &Checked) -> Result<u32, AllocError> {
     Ok(plain.net().agents())
 }
 
-/// So many turns at most. How many there were.
+/// At most `turns` turns. How many there were.
 fn turned(
     alloc: Global,
     checked: &Checked,
@@ -127,7 +127,7 @@ pub struct PlainOutcome {
     pub text: String,
 }
 
-/// What so many turns at most come to.
+/// What at most `turns` turns come to.
 fn stopped_after(
     alloc: Global,
     checked: &Checked,
@@ -147,7 +147,7 @@ fn stopped_after(
     })
 }
 
-/// Reduces the program's net for so many turns at most.
+/// Reduces the program's net for at most `turns` turns.
 pub fn stopped(
     alloc: Global,
     checked: &Checked,

@@ -15,7 +15,7 @@ pub record Breaks (old new : Device) (bytes : List ℕ) : Type 0 where
   pub moved : new.bytes ≡ append_known old.bytes bytes
   pub failed : new.failures ≡ old.failures + 1
 
--- so many of the first bytes were moved, but not all, and then a call failed
+-- the first `count` bytes were moved, but not all, and then a call failed
 pub record BreaksAt (old new : Device) (bytes : List ℕ) (count : ℕ) : Type 0 where
   pub short : count < length bytes
   pub breaks : Breaks old new (take count bytes)

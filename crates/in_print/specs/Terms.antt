@@ -12,7 +12,7 @@ arity_at s y = arity_of s.symbols (s.net.symbol y)
 abbrev pub term_in : Setting → ℕ → Point ℕ → List (TextPart ℕ)
 term_in s d p = term s.symbols s.net d p
 
--- the terms at so many places after this one, and the bracket
+-- the terms at a given number of places after this one, and the bracket
 abbrev pub rest_of : (Point ℕ → List (TextPart ℕ)) → ℕ → ℕ → ℕ → List (TextPart ℕ)
 rest_of t y i zero = Bytes (41 ∷ []) ∷ []
 rest_of t y i (suc k) = Bytes (44 ∷ 32 ∷ []) ∷ (t (Port y (suc i)) ++ rest_of t y (suc i) k)
@@ -38,7 +38,7 @@ abbrev pub IsInHand : Point ℕ → List Frame → Option (Point ℕ) → Type 0
 IsInHand p fs None = Unit {0}
 IsInHand p fs (Some q) = q ≡ last_point p fs
 
--- no more agents than so many hang on each other there, whether the last of them has auxiliary ports or not
+-- no more than d agents hang on each other there, whether the last of them has auxiliary ports or not
 abbrev pub IsShallow : Setting → ℕ → Point ℕ → Type 0
 IsShallow s d p = (fs : List Frame) → LeadsDown s p fs → (length fs ≤ d) × ((y : ℕ) → s.net.partner (last_point p fs) ≡ Some (Port y 0) → length fs < d)
 

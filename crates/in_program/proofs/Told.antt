@@ -24,7 +24,7 @@ tells_reply a r r' w w' text seen answer of_text (read, enough) (lines, s, inl r
     tells a r r' w w' text lines s answer read (inl (enough, subst P of_text reply)) tell
 tells_reply a r r' w w' text seen answer of_text (read, enough) (lines, s, inr wants, tell) = tells a r r' w w' text lines s answer read (inr wants) tell
 
--- memory may be wanted for any text
+-- memory may run out for any text
 pub wants_memory : (a : Action) (r r' : Reader) (w w' : Device) (text : List ℕ) (answer : Status) →
     Gives r r' text → Tells w w' memory_line memory_status answer → Acts a r r' w w' answer
 wants_memory a r r' w w' text answer read tell = tells a r r' w w' text memory_line memory_status answer read (inr (refl, refl)) tell

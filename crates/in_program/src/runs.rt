@@ -15,7 +15,7 @@ fn class_name(class: CellClass) -> &'static str
     }
 }
 
-/// The lines that follow the net of a run that stopped for want of cells.
+/// The lines that follow the net of a run that stopped for lack of cells.
 fn full_lines(
     alloc: Global,
     interactions: u64,

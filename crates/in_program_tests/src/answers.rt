@@ -24,7 +24,7 @@ fn status_of(
     act(rt, alloc, &action, &mut reader, writer)
 }
 
-/// Whether a command writes these lines on a text and ends with this status. Nothing for want of
+/// Whether a command writes these lines on a text and ends with this status. Nothing when out of
 /// memory.
 pub fn is_answer(
     rt: &(impl Threads + Wait),

@@ -3,7 +3,7 @@ ghost use Rattle.std.specs.Prelude.{◌≡◌, None};
 use in_syntax::{TextIn, TextOut};
 use std::alloc::Global;
 
-/// Gives a text from memory, so many bytes a read, and fails at the read of one number, counted from 1.
+/// Gives a text from memory, at most `step` bytes a read, and fails at the read of one number, counted from 1.
 #[derive(Drop)]
 pub struct Tape<'a> {
     text: &'a [u8],
@@ -70,7 +70,7 @@ pub enum Stop {
     TakesNothing,
 }
 
-/// Keeps what it takes, so many bytes a write and so many in all.
+/// Keeps what it takes, at most `step` bytes a write and at most `room` in all.
 #[derive(Drop)]
 pub struct Paper {
     text: Vec<u8>,

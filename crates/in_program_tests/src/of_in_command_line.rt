@@ -43,7 +43,7 @@ fn the_words_check_and_derive_are_actions(rt: HostRuntime) {
     assert!(rt; action(rt.alloc(), &["inet", "derive"]) == Some(Action::Derive));
 }
 
-/// Whether the words ask for a run of so many workers within so many interactions and so many cells.
+/// Whether the words ask for a run of `workers` workers within `limit` interactions and `cells` cells.
 fn is_run(alloc: Global, words: &[&str], workers: u32, limit: u64, cells: u32) -> bool {
     match action(alloc, words) {
         Some(Action::Run(limits)) => {

@@ -204,7 +204,7 @@ fn passes_come_one_after_another(rt: HostRuntime) {
     );
 }
 
-/// A program whose last rule has a right member of so many agents.
+/// A program whose last rule has a right member of `agents` agents.
 fn text_of_agents(alloc: Global, agents: usize) -> Result<String, AllocError> {
     let mut text = joined(
         alloc,
@@ -220,7 +220,7 @@ fn text_of_agents(alloc: Global, agents: usize) -> Result<String, AllocError> {
     Ok(text)
 }
 
-/// One word after a text, once less than so often.
+/// Adds a word `count - 1` times.
 fn push_often(text: &mut String, word: &str, count: usize) -> Result<(), AllocError> {
     for _ in 1..count {
         text.push_str(word)?;
@@ -228,7 +228,7 @@ fn push_often(text: &mut String, word: &str, count: usize) -> Result<(), AllocEr
     Ok(())
 }
 
-/// Checks the line and the status on a rule of so many agents.
+/// Checks the line and the status on a rule of `agents` agents.
 fn expect_agents(
     rt: &(impl Abort + Threads + Wait),
     alloc: Global,
@@ -286,7 +286,7 @@ fn faults_of_nets_stand_at_their_places(rt: HostRuntime) {
     expect_refused(&rt, rt.alloc(), [SUMS, "", "\n"], &FAULTS_OF_NETS);
 }
 
-/// A net of so many lines of two agents.
+/// A net of `lines` lines of two agents.
 fn text_of_lines(alloc: Global, lines: usize) -> Result<String, AllocError> {
     let mut text = joined(alloc, &[SUMS, ADDITION, ERASURE, "net () {\n"])?;
     push_often(&mut text, "Era ~ Z;\n", lines.saturating_add(1))?;
@@ -294,7 +294,7 @@ fn text_of_lines(alloc: Global, lines: usize) -> Result<String, AllocError> {
     Ok(text)
 }
 
-/// Checks the line and the status on a net of so many lines.
+/// Checks the line and the status on a net of `lines` lines.
 fn expect_lines(
     rt: &(impl Abort + Threads + Wait),
     alloc: Global,
@@ -332,7 +332,7 @@ fn names_come_before_types(rt: HostRuntime) {
     expect(&rt, rt.alloc(), &text, "refused E09 at 4:25: ~\n", 1);
 }
 
-/// The accepted text with so many bytes, the last of them blanks.
+/// The accepted text with `length` bytes, the last of them blanks.
 fn padded(alloc: Global, program: &[u8], length: usize) -> Result<Vec<u8>, AllocError> {
     let mut text = vec![in alloc; b' '; length]?;
     for (place, byte) in text.iter_mut().zip(program) {
@@ -413,7 +413,7 @@ fn a_text_comes_byte_by_byte_until_a_read_fails(rt: HostRuntime) -> Result<(), F
     Ok(())
 }
 
-/// A writer that takes so many bytes in all and so many a write.
+/// A writer that takes at most `room` bytes in all and at most `step` a write.
 #[derive(Clone, Copy)]
 struct Width {
     room: usize,

@@ -8,7 +8,7 @@ use std::process::Abort;
 use std::sync::Wait;
 use std::thread::Threads;
 
-/// Whether `run` writes these lines on a text, with so many workers, within so many interactions and so many cells, and ends with this
+/// Whether `run` writes these lines on a text, with the workers, the limit of interactions and the cells of `bounds`, and ends with this
 /// status.
 fn answers(
     rt: &(impl Threads + Wait),
@@ -22,7 +22,8 @@ fn answers(
     is_written(rt, alloc, Action::Run(limits), parts, lines, status)
 }
 
-/// Checks the lines, which come in parts, and the status of `run` on a text, with so many workers, within so many interactions and so many cells.
+/// Checks the lines, which come in parts, and the status of `run` on a text, with the workers, the limit of interactions and the cells of
+/// `bounds`.
 fn expect_parts(
     rt: &(impl Abort + Threads + Wait),
     alloc: Global,
@@ -38,7 +39,7 @@ fn expect_parts(
     );
 }
 
-/// Checks the lines and the status of `run` on a text, with so many workers, within so many interactions and so many cells.
+/// Checks the lines and the status of `run` on a text, with the workers, the limit of interactions and the cells of `bounds`.
 fn expect(
     rt: &(impl Abort + Threads + Wait),
     alloc: Global,
@@ -120,7 +121,7 @@ const RUN: [(&str, &str); 6] = [
     ),
 ];
 
-/// Checks the lines of `run` with so many workers on each net of numbers.
+/// Checks the lines of `run` with `workers` workers on each net of numbers.
 fn expect_runs(
     rt: &(impl Abort + Threads + Wait),
     alloc: Global,
@@ -191,7 +192,7 @@ fn wide_term(alloc: Global, agents: u8) -> Result<String, AllocError> {
     Ok(term)
 }
 
-/// So many closing parentheses after a text.
+/// `count` closing parentheses after a text.
 fn push_closed(text: &mut String, count: u8) -> Result<(), AllocError> {
     for _ in 0..count {
         text.push_str(")")?;

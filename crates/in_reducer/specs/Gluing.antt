@@ -13,6 +13,6 @@ in_turn (y ∷ ys) (x ∷ xs) = y ∷ x ∷ in_turn ys xs
 abbrev pub glued : {X : Type 0} → ℕ → List X → List X → List X
 glued own rest part = take own rest ++ in_turn part (drop own rest)
 
--- where the end leads to a free end, it is one of so many
+-- where the end leads to a free end, it is one of the first `many`
 abbrev pub IsFreeWithin : ℕ → End → Type 0
 IsFreeWithin many e = (k : ℕ) → e ≡ Free k → k < many

@@ -65,7 +65,7 @@ most_ends = 32
 abbrev pub most_free : ℕ
 most_free = 65536
 
--- the tools are of this arena, hold nothing, and have room for so many agents and pairs
+-- the tools are of this arena, hold nothing, and have room for `max_member_agents` agents and `most_ends` pairs
 pub record AreTools (x : Tools) (a : ArenaView) : Type 0 where
   pub stock : IsNoneOf x.stock.bag a
   pub stock_all : HasAllCells x.stock.bag

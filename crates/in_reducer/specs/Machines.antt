@@ -41,6 +41,6 @@ point_at (end.Free k) = point.Free k
 abbrev pub HasItsPairs : MachineParts → Type 0
 HasItsPairs m = IsQueueOf m.program.tables (parts_of m) m.queue
 
--- of each class it has so many cells, free ones and those of its agents
+-- of each class it has `cells` cells, free ones and those of its agents
 abbrev pub HasCells : ℕ → MachineParts → Type 0
 HasCells cells m = (c : CellClass) → count_of m.vacant c + agents_of m.program.tables c m.agents ≡ cells

@@ -16,12 +16,12 @@ names_of m = map (λ f. f.name) m.free
 
 -- ---- the free ends of a net in two parts
 
--- by turns one of the part (1) and one of the rest (0), so often, from these on
+-- by turns one of the part (1) and one of the rest (0), from these on, a given number of times
 abbrev pub by_turns : ℕ → ℕ → ℕ → List (ℕ × ℕ)
 by_turns own j zero = []
 by_turns own j (suc w) = (1, j) ∷ (0, own + j) ∷ by_turns own (suc j) w
 
--- of a net that had so many free ends before so many wires were cut: the first end of each cut is one of the part, the second one of the rest
+-- of a net that had `own` free ends before `cuts` wires were cut: the first end of each cut is one of the part, the second one of the rest
 abbrev pub ends_of_two : ℕ → ℕ → List (ℕ × ℕ)
 ends_of_two own cuts = ends_of 0 0 own ++ by_turns own 0 cuts
 
@@ -65,7 +65,7 @@ pub record HasOthers (m : MachineParts) (agents : List CellNo) (rest : MachinePa
   pub gone : (k : ℕ) (c : CellNo) → slice_get agents k ≡ Some c → (net_in rest).symbol c.0 ≡ None
   pub others : (y : ℕ) → ((k : ℕ) → slice_get agents k ≡ Some (record { 0 = y }) → ⊥) → (net_in rest).symbol y ≡ (net_in m).symbol y
 
--- these agents are the part, which has so many cells of each class, and theirs are free in the rest; nothing is said of queues
+-- these agents are the part, which has `size` cells of each class, and theirs are free in the rest; nothing is said of queues
 pub record IsSplitButQueues (m : MachineParts) (agents : List CellNo) (own cuts size : ℕ) (rest part : MachineParts) : Type 0 where
   pub of_rest : HasOthers m agents rest
   pub two : IsOfTwo m rest part own cuts
@@ -96,7 +96,7 @@ pub record IsGluedOn (rest part : MachineParts) (own cuts : ℕ) (m : MachinePar
 
 -- ---- reduced
 
--- so many interactions lead from the net of the one to that of the other, whatever numbers their agents have; program, names of free ends and
+-- k interactions lead from the net of the one to that of the other, whatever numbers their agents have; program, names of free ends and
 -- numbers of cells stay
 pub record ReducesTo (m : MachineParts) (k : ℕ) (after : MachineParts) : Type 0 where
   pub program : after.program ≡ m.program

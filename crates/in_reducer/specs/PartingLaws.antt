@@ -71,7 +71,7 @@ abbrev pub CutsAreUndone : Type 0
 CutsAreUndone = (m n o : MachineParts) (c i k : ℕ) → IsReducer m → CutsAt m c i n → ReducesTo n k o →
     CanJoin o × (2 ≤ length o.free) × ((after : MachineParts) → JoinsLast o after → ReducesTo m k after)
 
--- so many wires are cut, one after another
+-- a given number of wires are cut, one after another
 pub data IsCutTimes : MachineParts → ℕ → MachineParts → Type 0 where
   uncut : (m : MachineParts) → IsCutTimes m zero m
   then_cut : (w : ℕ) (m n o : MachineParts) (c i : ℕ) → IsCutTimes m w n → IsReducer n → CutsAt n c i o → IsCutTimes m (suc w) o

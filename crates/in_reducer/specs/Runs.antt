@@ -3,12 +3,12 @@ use Rattle.std.specs.Prelude.{◌≡◌, ◌⊎◌, ◌≤◌, ℕ, zero, suc, m
 use Rattle.in_reducer.specs.Machines.{MachineParts}
 use Rattle.in_reducer.specs.Steps.{HasRoomAt, StepsAt}
 
--- so many interactions, each at the first pair: first in, first out
+-- a given number of interactions, each at the first pair: first in, first out
 pub data Runs : MachineParts → ℕ → MachineParts → Type 0 where
   at_start : (m : MachineParts) → Runs m zero m
   then_step : (m n o : MachineParts) (k : ℕ) → Runs m k n → StepsAt n 0 o → Runs m (suc k) o
 
--- as many pairs as a round of at most so many interactions is for
+-- as many pairs as a round of at most `budget` interactions is for
 abbrev pub jobs_of : MachineParts → ℕ → ℕ
 jobs_of m budget = min (length m.queue) budget
 

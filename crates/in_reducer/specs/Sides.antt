@@ -27,7 +27,7 @@ abbrev pub inner_of : List CellNo → ℕ → Joint → End
 inner_of ns from (ToAgent k i) = Cell (slice_index_or ns k (record { 0 = 0 })) i
 inner_of ns from (ToBoundary e) = Free (from + e)
 
--- the sides of the first so many boundary ends are set, and what the net's own free ends lead to is as it was
+-- the sides of the first x boundary ends are set, and what the net's own free ends lead to is as it was
 pub record AreSetBelow (p : Pair) (a : ArenaView) (joints : List Joint) (ns : List CellNo) (own many x : ℕ) (old new : List End) : Type 0 where
   pub long : length new ≡ length old
   pub first : take own new ≡ take own old

@@ -15,7 +15,7 @@ use Rattle.in_reducer.specs.Parting.{place_of_two}
 
 -- ---- lists
 
--- so many elements, each what stands at its place in the other list, or what this makes of it
+-- `many` elements, each what stands at its place in the other list, or what this makes of it
 pub record ArePicked {X Y : Type 0} (f : X → Y) (place : ℕ → ℕ) (many : ℕ) (all : List X) (picked : List Y) : Type 0 where
   pub count : length picked ≡ many
   pub each : (e : ℕ) → e < many → slice_get picked e ≡ option_map f (slice_get all (place e))
@@ -28,19 +28,19 @@ pub record ArePickedWithRoom {X Y : Type 0} (f : X → Y) (place : ℕ → ℕ) 
   pub sides : length room ≡ most_ends + most_ends
   pub list_is : list ≡ picked ++ room
 
--- the number that a free end of the whole has in the rest (part 0) or the part (part 1), where that has so many
+-- the number that a free end of the whole has in the rest (part 0) or the part (part 1), where that has `many` of them
 pub record AreNumbersOfTwo (own cuts i many : ℕ) (numbers : List ℕ) : Type 0 where
   pub count : length numbers ≡ own + (cuts + cuts)
   pub each : (e : ℕ) → e < many → number_in numbers (place_of_two own i e) ≡ e
 
--- the lists are empty, and have room for so many free ends
+-- the lists are empty, and have room for `many` free ends
 pub record HasRoomForEnds (many : ℕ) (l : Lists) : Type 0 where
   pub free : l.free.items ≡ []
   pub free_room : many ≤ vec_capacity l.free
   pub ends : l.ends.items ≡ []
   pub ends_room : many + most_ends + most_ends ≤ vec_capacity l.ends
 
--- what is taken for a part with so many cells of each class
+-- what is taken for a part with `size` cells of each class
 pub record IsTakenFor (own cuts size : ℕ) (f : Fresh) : Type 0 where
   pub cells : f.arena.cells ≡ size
   pub empty : f.arena.states ≡ replicate (length classes * size) Vacant

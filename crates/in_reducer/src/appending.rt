@@ -18,7 +18,7 @@ use in_moving::{add_ends, copy, live_cells};
 use std::alloc::{AllocError, Global};
 use std::collections::VecDeque;
 
-/// So many numbers from one on.
+/// `count` numbers, from `first` on.
 fn numbers_from(alloc: Global, first: u32, count: u32) -> Result<Vec<u32>, AllocError>
     requires { first + count ≤ most_free }
     ensures count { IfOk result (λ v. length v.items ≡ count) }
@@ -78,7 +78,7 @@ struct Luggage {
     names: Vec<CellNo>,
 }
 
-/// That, where its free ends come after so many.
+/// That, where its free ends come after `first` others.
 fn pack(alloc: Global, other: &Body, first: u32) -> Result<Luggage, AllocError>
     requires kept { IsKept other.now }
     requires few { first + length other.now.free.items ≤ most_free }
@@ -121,7 +121,7 @@ impl<'a> Body<'a> {
         short.is_none()
     }
 
-    /// Room for so many free ends more, and for the sides of boundary ends after them.
+    /// Room for `more` free ends more, and for the sides of boundary ends after them.
     fn make_room_for(&mut self, more: usize) -> Result<(), AllocError>
         requires kept { IsKept self.old }
         requires few { more ≤ most_free }

@@ -18,7 +18,7 @@ use crate::seam::Seam;
 use in_arena::{Arena, CellNo, End};
 use in_moving::{copy, moved_end, number_anew};
 
-/// The number in the whole of a free end of the rest, which had so many before the cuts.
+/// The number in the whole of a free end of the rest, which had `own` before the cuts.
 fn rest_number(own: u32, number: u32) -> u32
     requires { number ≤ most_free }
     ensures { result ≡ place_of_two own 0 number }
@@ -30,7 +30,7 @@ fn rest_number(own: u32, number: u32) -> u32
     }
 }
 
-/// The numbers in the whole of so many free ends of the rest. No memory is taken.
+/// The numbers in the whole of the first `many` free ends of the rest. No memory is taken.
 fn list_rest_numbers(own: u32, many: u32, numbers: &mut Vec<u32>)
     requires few { many ≤ most_free }
     requires none { numbers.old.items ≡ [] }
@@ -157,7 +157,7 @@ fn glue_ends(
 }
 
 impl<'a> Body<'a> {
-    /// Glues the part on, which has the first end of each of so many cuts. The rest has the second ones, after its own free ends. The new
+    /// Glues the part on, which has the first end of each of `cuts` cuts. The rest has the second ones, after its own free ends. The new
     /// numbers of the part's cells are written in `names`, which is as long as it has cells.
     fn glue(&mut self, part: &Body, own: u32, cuts: u32, seam: Seam, names: &mut [CellNo])
         requires kept { IsKept self.old }
@@ -213,7 +213,7 @@ impl<'a> Reducer<'a> {
     /// Glues a part on, which has as many free ends as there were cuts when it was split off: these come by turns between those that the rest
     /// has of the cuts, so that the two ends of a cut stand side by side again, the last ones last, and `join_last` undoes the cuts. Of each
     /// class as many cells have to be free as the part has agents. The new numbers of the part's cells are written in `names`, which is as long
-    /// as there are numbers where the seam is for so many cells. It takes no memory: the seam has all else that is wanted, for so many free ends and cells.
+    /// as there are numbers in an arena of as many cells as the seam is for. It takes no memory: the seam has all else.
     pub fn glue_on(&mut self, part: &Reducer, seam: Seam, names: &mut [CellNo])
         requires can { CanAppend self.old part.now }
         requires fewer { length part.now.free ≤ length self.old.free }

@@ -26,7 +26,7 @@ pub struct Round {
     pub threads: u32,
 }
 
-/// As many cells as so many jobs can need, or as there are.
+/// As many cells as `jobs` jobs can need, or as there are.
 fn at_most(there: u32, largest: u32, jobs: u32) -> u32
     requires { 1 ≤ jobs }
     ensures most { result ≤ there }
@@ -40,7 +40,7 @@ fn at_most(there: u32, largest: u32, jobs: u32) -> u32
     }
 }
 
-/// How many of the free cells each of so many workers is lent: as many as so many jobs can need, or its part of them; and none where that is
+/// How many of the free cells each of `workers` workers is lent: as many as `jobs` jobs can need, or its part of them; and none where that is
 /// less than one job can need. The sizes are this project's own choice.
 fn share_of(free: Need, workers: u32, largest: Need, jobs: u32) -> Need
     requires some { 1 ≤ workers }
@@ -64,7 +64,7 @@ fn share_of(free: Need, workers: u32, largest: Need, jobs: u32) -> Need
 }
 
 impl<'a> Body<'a> {
-    /// The symbols of each of the first so many pairs.
+    /// The symbols of each of the first `count` pairs.
     fn jobs(
         &self,
         alloc: Global,
@@ -86,7 +86,7 @@ impl<'a> Body<'a> {
 }
 
 impl<'a> Reducer<'a> {
-    /// A round: interactions of the first pairs of the queue, as many as the budget allows, whose templates so many workers place at once, of
+    /// A round: interactions of the first pairs of the queue, as many as the budget allows, whose templates several workers place at once, of
     /// which the caller is one; each worker passes the gate after it has claimed a job. They are done one after another, first in, first out,
     /// by what stands at each pair when its turn comes; the last one is that of the last job, or the next pair's need isn't free.
     ///

@@ -86,8 +86,8 @@ impl<'a> Body<'a> {
         gather.spend(&mut self.arena);
     }
 
-    /// Does the jobs that are left after so many, each at the first pair of the queue, as `step` does; and ends at the first whose need isn't
-    /// free. Says how many are done then.
+    /// Does the jobs that are left after the first `done`, each at the first pair of the queue, as `step` does; and ends at the first whose
+    /// need isn't free. Says how many are done then.
     pub(crate) fn step_on(&mut self, templates: &Templates, jobs: u32, done: u32) -> u32
         requires kept { IsKept self.old }
         requires templates { AreTemplatesOf self.old.checked.now templates.now }

@@ -10,7 +10,7 @@ use in_arena::{CellClass, CellNo, End};
 use std::alloc::{AllocError, Global};
 
 /// All memory that gluing a part on takes, besides the list of new numbers that is lent to it, so that it can't be refused then: for a net of at
-/// most so many free ends afterwards, and a part with at most so many cells of each class.
+/// most `most` free ends afterwards, and a part with at most `cells` cells of each class.
 #[derive(Drop)]
 pub struct Seam {
     pub(crate) most: u32,
@@ -30,7 +30,7 @@ pub struct Seam {
 }
 
 impl Seam {
-    /// Room for so many free ends, at most 65,536, and a part with so many cells of each class. Refused only when out of memory.
+    /// Room for `most` free ends, at most 65,536, and a part with `cells` cells of each class. Refused only when out of memory.
     pub fn new(alloc: Global, most: u32, cells: u32) -> Result<Seam, AllocError>
         requires few { most ≤ most_free }
         requires cells { cells ≤ most_cells }

@@ -73,7 +73,7 @@ fn part_numbers(alloc: Global, own: u32, cuts: u32) -> Result<Vec<u32>, AllocErr
     Ok(numbers)
 }
 
-/// Lists for so many free ends, with these numbers.
+/// Lists for `many` free ends, with these numbers.
 fn lists_for(alloc: Global, numbers: Vec<u32>, many: u32) -> Result<Lists, AllocError>
     requires { many ≤ most_free }
     ensures room { IfOk result (HasRoomForEnds many) }
@@ -89,7 +89,7 @@ fn lists_for(alloc: Global, numbers: Vec<u32>, many: u32) -> Result<Lists, Alloc
     })
 }
 
-/// All that is taken, for a part with so many cells of each class.
+/// All that is taken, for a part with `cells` cells of each class.
 fn take_room(
     alloc: Global,
     templates: &Templates,
@@ -342,8 +342,8 @@ impl<'a> Body<'a> {
 }
 
 impl<'a> Reducer<'a> {
-    /// Splits these agents off, as a reducer by itself with so many cells of each class, which shares nothing with the rest. They and the first
-    /// ends of so many cuts, which came after `own` free ends, are to lead to each other alone, so that both agents of a pair go or stay. The
+    /// Splits these agents off, as a reducer by itself with `cells` cells of each class, which shares nothing with the rest. They and the first
+    /// ends of `cuts` cuts, which came after `own` free ends, are to lead to each other alone, so that both agents of a pair go or stay. The
     /// part has the first ends of the cuts, in their order, and the rest the others. The templates are those of the program. The new numbers of
     /// the agents are written in `names`, which is as long as there are numbers. Refused only when out of memory, and then the reducer is as
     /// it was.

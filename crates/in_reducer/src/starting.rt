@@ -107,7 +107,7 @@ fn queue_of(
 }
 
 impl<'a> Reducer<'a> {
-    /// A reducer with so many cells of each class, at the program's net, which has to fit: of each class it has no more agents than cells.
+    /// A reducer with `cells` cells of each class, at the program's net, which has to fit: of each class it has no more agents than cells.
     /// Its pairs are queued in the order of the places of their wires, which is this project's own choice, as are the sizes of cells. The
     /// templates are those of the program. Refused only when out of memory; no other call takes memory.
     pub fn new(

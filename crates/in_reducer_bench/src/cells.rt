@@ -142,7 +142,7 @@ pub struct Cells {
 }
 
 impl Cells {
-    /// So many free cells of each size.
+    /// `cells` free cells of each size.
     pub fn new(alloc: Global, cells: u32) -> Result<Cells, AllocError> {
         Ok(Cells {
             small: Region::new(alloc, cells)?,
@@ -151,7 +151,7 @@ impl Cells {
         })
     }
 
-    /// Whether so many cells of each size are free.
+    /// Whether `small` small and `large` large cells are free.
     #[inline(always)]
     pub fn has(&self, small: u32, large: u32) -> bool {
         small <= self.small.free_count && large <= self.large.free_count

@@ -27,7 +27,7 @@ pub struct Machine {
 }
 
 impl Machine {
-    /// So many free cells of each size, and a queue with room for a pair for each.
+    /// `cells` free cells of each size, and a queue with room for a pair for each.
     pub fn new(alloc: Global, cells: u32) -> Result<Machine, AllocError> {
         let room: Vec<Pair> = Vec::with_capacity(alloc, cells as usize)?;
         Ok(Machine {
@@ -175,7 +175,7 @@ impl Machine {
     }
 }
 
-/// Reduces, first in first out, with so many interactions at most, until no pair is queued or cells are too few; how many there were.
+/// Reduces, first in first out, with at most `limit` interactions, until no pair is queued or cells are too few; how many there were.
 #[inline(never)]
 pub fn run(machine: &mut Machine, templates: &Templates, limit: u32) -> u32 {
     let mut placed = Placed::new();

@@ -1,7 +1,7 @@
 //! A reducer that tests each number that it uses, in place of contracts: so a change of the layout of cells or templates can be tried in
 //! minutes, before it is proved over contracts. `bench/layout` runs it.
 //!
-//! in_reducer_bench CELLS LIMIT [times] < NUMBERS      reduces the program's net in so many cells of each size, with so many interactions at
+//! in_reducer_bench CELLS LIMIT [times] < NUMBERS      reduces the program's net in CELLS cells of each size, with LIMIT interactions at
 //! most, and prints: interactions, agents left, and with `times` the nanoseconds by the clock that the reduction alone took.
 //!
 //! Its safety alone is proved: no contract says what it computes, and `bench/layout` compares its counts.

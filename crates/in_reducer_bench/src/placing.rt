@@ -20,7 +20,7 @@ impl Stock {
         })
     }
 
-    /// Leases so many cells more of each size. Where a list could not grow it stops: there is room for what one template needs.
+    /// Leases `small` small and `large` large cells more. Where a list could not grow it stops: there is room for what one template needs.
     #[inline(always)]
     pub fn add(&mut self, cells: &mut Cells, small: u32, large: u32) {
         for _ in 0..small {

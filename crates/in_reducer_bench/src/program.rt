@@ -57,7 +57,7 @@ impl Program {
         ports_of(&self.symbols, symbol)
     }
 
-    /// Whether each agent fits into a cell, each right member into the lists of placing, and the initial net into so many cells.
+    /// Whether each agent fits into a cell, each right member into the lists of placing, and the initial net into `cells` cells.
     pub fn fits(&self, cells: u32) -> bool {
         for symbol in self.symbols.iter() {
             if symbol.ports as usize > MOST_PORTS {

@@ -21,7 +21,7 @@ pub enum Came {
     Rounded(Round),
     /// A round was refused, all was as before, and then it was done.
     RoundedThen(Round),
-    /// A run was refused, and its net is that of so many interactions.
+    /// A run was refused, and its net is that of this many interactions.
     Reached(u64),
 }
 

@@ -52,7 +52,7 @@ fn replied(rt: &(impl Threads + Wait), alloc: Global, text: &[u8], asked: Asked)
     Some(came_of_reply(status, writer.text(), asked.lines))
 }
 
-/// What comes of a command on a text that comes in parts. Nothing where memory for the text or the writer is wanted.
+/// What comes of a command on a text that comes in parts. Nothing where memory for the text or the writer runs out.
 pub fn answered(
     rt: &(impl Threads + Wait),
     alloc: Global,

@@ -75,7 +75,7 @@ fn step(machine: &mut Machine) {
     }
 }
 
-/// So many of them.
+/// The same `count` times.
 fn steps(machine: &mut Machine, count: u64) {
     for _step in 0..count {
         step(machine);
@@ -105,13 +105,13 @@ fn view_of(alloc: Global, machine: &Machine) -> Option<View> {
     })
 }
 
-/// .. after so many steps of it.
+/// .. after `count` steps of it.
 fn view_after(alloc: Global, machine: &mut Machine, count: u64) -> Option<View> {
     steps(machine, count);
     view_of(alloc, machine)
 }
 
-/// The printed net of a program after so many interactions, first in, first out.
+/// The printed net of a program after `count` interactions, first in, first out.
 pub fn printed_after(alloc: Global, machine: &mut Machine, count: u64) -> Option<String> {
     steps(machine, count);
     printed(alloc, machine)

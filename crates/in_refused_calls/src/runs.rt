@@ -9,13 +9,13 @@ use std::alloc::Global;
 use std::sync::Wait;
 use std::thread::Threads;
 
-/// The printed net of a program after so many interactions, first in, first out.
+/// The printed net of a program after `count` interactions, first in, first out.
 fn reached(alloc: Global, program: &Checked, limits: Limits, count: u64) -> Option<String> {
     let mut machine = Machine::new(alloc, program, limits.cells()).ok()?;
     printed_after(alloc, &mut machine, count)
 }
 
-/// Whether a machine's net is the one after so many interactions. Nothing when out of memory.
+/// Whether a machine's net is the one after `count` interactions. Nothing when out of memory.
 fn is_reached(
     alloc: Global,
     program: &Checked,
@@ -28,7 +28,7 @@ fn is_reached(
     Some(found.as_str() == wanted.as_str())
 }
 
-/// What comes of a run that was refused after so many interactions.
+/// What comes of a run that was refused after `count` interactions.
 fn refused(
     alloc: Global,
     program: &Checked,
@@ -64,7 +64,7 @@ fn came_of_outcome(outcome: &Outcome, interactions: u64) -> Came {
     }
 }
 
-/// A run of two workers, within so many interactions and so many cells of each class; and how many interactions it has.
+/// A run of two workers, within `limit` interactions and `cells` cells of each class; and how many interactions it has.
 #[derive(Clone, Copy)]
 pub struct RunCall<'r, R> {
     pub rt: &'r R,

@@ -51,7 +51,7 @@ fn free(arena: &Arena) -> Need {
     }
 }
 
-/// Whether so many are.
+/// Whether as many cells of each class are free as `need` asks for.
 fn are_free(arena: &Arena, need: Need) -> bool
     ensures { IsTrue result → IsEnough (count_of need) (free_of arena.now) }
 {
@@ -73,7 +73,7 @@ fn unchanged(arena: &Arena, before: Need) -> Came {
     }
 }
 
-/// What comes of a stock of so many cells, which are given back.
+/// What comes of a stock of the cells of `need`, which are given back.
 fn filled(alloc: Global, arena: &mut Arena, need: Need) -> Came
     ensures { arena.new ≡ arena.old }
 {

@@ -73,7 +73,7 @@ module _ (sig : Signature) (n m k : Net ℕ) (net : IsNet sig n) (h g : ℕ → 
 
 -- ---- starts
 
--- so many cells are free
+-- of the `cells` cells of each class, as many are free as the agents of the program's net leave
 pub count_at : (p : Program) (cells : ℕ) (m : MachineParts) → IsStart p cells m → (c : CellClass) → count_of m.vacant c + agents_of p.tables c p.net.cells ≡ cells
 count_at p cells m h c = ap (λ (k : ℕ). count_of m.vacant c + k) (as_many_of p.tables c h.name p.net (parts_of m) h.net) ∙ ap (λ (q : Program). count_of m.vacant c + agents_of q.tables c m.agents) (sym h.program) ∙ h.counted c
 

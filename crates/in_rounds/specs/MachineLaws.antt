@@ -49,7 +49,7 @@ StartsAreSame = (text : List ℕ) (p : Program) (cells : ℕ) (m n : MachinePart
 abbrev pub StepsKeepSame : Type 0
 StepsKeepSame = (m n o u : MachineParts) (i : ℕ) → IsMachine m → IsMachine n → AreSame m n → StepsAt m i o → StepsAt n i u → AreSame o u
 
--- .. and a run of so many
+-- .. and a run of k interactions
 abbrev pub RunsKeepSame : Type 0
 RunsKeepSame = (m n o u : MachineParts) (k : ℕ) → IsMachine m → IsMachine n → AreSame m n → Runs m k o → Runs n k u → AreSame o u
 
@@ -61,17 +61,17 @@ StartsAreMachines = (text : List ℕ) (p : Program) (cells : ℕ) (m : MachinePa
 abbrev pub NormalEndsAreOne : Type 0
 NormalEndsAreOne = (m : MachineParts) (k : ℕ) → IsMachine m → IsReachedBy (plain_of m) k → m.queue ≡ [] → EndsOnce m.program k (text_of m)
 
--- where there is room for the first so many pairs together, each of them has room when its turn comes
+-- where there is room for the first k pairs together, each of them has room when its turn comes
 abbrev pub RoomLasts : Type 0
 RoomLasts = (m n : MachineParts) (j k : ℕ) → IsMachine m → HasRoomFor m k → Runs m j n → j < k → HasRoomAt n 0
 
--- after so many interactions, first in, first out, the queue is what is left of it, and then new pairs; a further interaction adds its own
+-- after j interactions, first in, first out, the queue is what is left of it, and then new pairs; a further interaction adds its own
 -- at its end
 abbrev pub QueuesMoveUp : Type 0
 QueuesMoveUp = (m n : MachineParts) (j : ℕ) → Runs m j n → j ≤ length m.queue → (new : List (ℕ × ℕ)) × (n.queue ≡ drop j m.queue ++ new)
     × ((o : MachineParts) (s : StepsAt n 0 o) → suc j ≤ length m.queue → o.queue ≡ drop (suc j) m.queue ++ (new ++ map numbers_of s.made))
 
--- who takes the first pairs in turn until there are no more jobs, or no room for the next one, does a round
+-- whoever takes the first pairs in turn until there are no more jobs, or no room for the next one, does a round
 abbrev pub RoundsEnd : Type 0
 RoundsEnd = (m n : MachineParts) (budget k : ℕ) → IsMachine m → IsFront m budget n k → IsRound m budget n k
 

@@ -6,8 +6,8 @@ use Rattle.in_compile.specs.Cells.{agents_of, count_of}
 use Rattle.in_reducer.specs.Machines.{MachineParts, plain_of}
 use Rattle.in_rounds.specs.Machines.{IsMachine}
 
--- so many interactions of any pairs, one after another: a machine of the same program, with as many cells of each class, whose net is reached
--- by so many interactions more
+-- k interactions of any pairs, one after another: a machine of the same program, with as many cells of each class, whose net is reached
+-- by k interactions more
 pub record IsPhase (m : MachineParts) (k : ℕ) (after : MachineParts) : Type 0 where
   pub machine : IsMachine after
   pub program : after.program ≡ m.program

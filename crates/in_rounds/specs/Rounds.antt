@@ -8,7 +8,7 @@ use Rattle.in_reducer.specs.Machines.{MachineParts}
 use Rattle.in_reducer.specs.Steps.{NeedsAt}
 use Rattle.in_reducer.specs.Runs.{IsFront, jobs_of}
 
--- the first so many pairs need so many cells of each class together
+-- the first pairs, a given number of them, need a given number of cells of each class together
 pub data NeedTogether (m : MachineParts) : ℕ → (CellClass → ℕ) → Type 0 where
   none : NeedTogether m zero (λ c. zero)
   then_next : (k : ℕ) (sum : CellClass → ℕ) (need : Need) → NeedTogether m k sum → NeedsAt m k need → NeedTogether m (suc k) (λ c. sum c + count_of need c)
@@ -17,7 +17,7 @@ pub data NeedTogether (m : MachineParts) : ℕ → (CellClass → ℕ) → Type 
 abbrev pub HasRoomFor : MachineParts → ℕ → Type 0
 HasRoomFor m k = (sum : CellClass → ℕ) × NeedTogether m k sum × IsEnough sum (count_of m.vacant)
 
--- what a round did: the first so many pairs of the queue in turn, until no job was left, or no room for the next one; and so all of its
+-- what a round did: the first k pairs of the queue in turn, until no job was left, or no room for the next one; and so all of its
 -- jobs where there is room for them together
 pub record IsRound (m : MachineParts) (budget : ℕ) (after : MachineParts) (k : ℕ) : Type 0 where
   pub front : IsFront m budget after k

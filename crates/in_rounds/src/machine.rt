@@ -13,7 +13,7 @@ use in_reducer::Reducer;
 use std::alloc::Global;
 use std::marker::Model;
 
-/// The state of a run over a number of cells: the active pairs of its net are in a queue, and for each class of agents so many cells are
+/// The state of a run over a number of cells: the active pairs of its net are in a queue, and for each class of agents a number of cells is
 /// free. Its program reaches the net.
 #[derive(Drop)]
 pub struct Machine<'a> {
@@ -35,7 +35,7 @@ impl<'a> Model for Machine<'a> {
 }
 
 impl<'a> Machine<'a> {
-    /// A machine with so many cells of each class, at the program's net. Its pairs are queued in the order of the places of their wires,
+    /// A machine with `cells` cells of each class, at the program's net. Its pairs are queued in the order of the places of their wires,
     /// which is this project's own choice, as are the sizes of cells.
     ///
     /// Refused `Full` where the net has more agents of a class than cells, tested in the order of the classes, or when out of memory. No

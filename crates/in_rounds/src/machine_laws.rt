@@ -13,7 +13,7 @@ pub fn queues_are_queues()
     ensures { QueuesAreQueues }
 {}
 
-/// A run of so many steps reaches its net by as many interactions more.
+/// A run of any number of steps reaches its net by as many interactions more.
 pub fn runs_reach()
     ensures { RunsReach }
 {}
@@ -65,7 +65,7 @@ pub fn queues_move_up()
     ensures { QueuesMoveUp }
 {}
 
-/// Who takes the first pairs in turn until there are no more jobs, or no room for the next one, does a round.
+/// Whoever takes the first pairs in turn until there are no more jobs, or no room for the next one, does a round.
 pub fn rounds_end()
     ensures { RoundsEnd }
 {}

@@ -12,8 +12,8 @@ use std::alloc::{AllocError, Global};
 use std::sync::Wait;
 use std::thread::Threads;
 
-/// A round of so many workers, 1 to 64, of which the caller is one: the interactions of the first pairs of the queue, at most so many as the
-/// budget, which is at least 1. There has to be a pair, and what the first one needs has to be free.
+/// A round of `workers` workers, 1 to 64, of which the caller is one: the interactions of the first pairs of the queue, at most `budget` of
+/// them, which is at least 1. There has to be a pair, and what the first one needs has to be free.
 ///
 /// Each worker claims jobs, which are the first pairs by number, and places their templates, while its stock holds the most that one can need
 /// and it has room; after each claim it passes the gate. Then the caller does the interactions in turn, first in, first out, as `Machine::step`

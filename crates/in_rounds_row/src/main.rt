@@ -1,5 +1,5 @@
 //! A round of two workers at two sums, of which the one waits for the other, and then the rest of the run: prints what the round came to, and
-//! the net at the end; or `memory` where that is wanted. With each request for memory refused in turn, it shows what is done where the thread
+//! the net at the end; or `memory` where it runs out. With each request for memory refused in turn, it shows what is done where the thread
 //! can't be started.
 #![tactic(auto)]
 

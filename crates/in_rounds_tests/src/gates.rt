@@ -5,8 +5,8 @@ use std::sync::atomic::{AtomicU64, Ordering};
 /// For how many turns a job is held at most.
 const TURNS: u32 = 100_000_000;
 
-/// Holds each of so many first jobs, at most 64, until the others were reached too, so that one thread alone can't pass; after so many turns
-/// it gives up, and notes it.
+/// Holds each of the first `jobs` jobs, at most 64, until the others were reached too, so that one thread alone can't pass; after `TURNS`
+/// turns it gives up, and notes it.
 #[derive(Drop)]
 pub struct Together {
     jobs: u32,
@@ -15,7 +15,7 @@ pub struct Together {
 }
 
 impl Together {
-    /// For so many jobs; for one it stands open.
+    /// For `jobs` jobs; for one it stands open.
     pub fn of(jobs: u32) -> Together {
         Together {
             jobs,

@@ -12,7 +12,7 @@ use std::thread::Threads;
 /// Room for a printed net, in bytes.
 const ROOM: usize = 65_536;
 
-/// What a round came to, how many pairs it left, and the net as it is printed after so many steps more.
+/// What a round came to, how many pairs it left, and the net as it is printed after a given number of steps more.
 #[derive(Drop)]
 pub struct Rounded {
     pub round: Round,
@@ -53,14 +53,14 @@ fn step(machine: &mut Machine) {
     }
 }
 
-/// So many of them.
+/// The same `count` times.
 fn steps(machine: &mut Machine, count: u32) {
     for _step in 0..count {
         step(machine);
     }
 }
 
-/// A round of a new machine of a program over so many cells of each class, and so many steps after it.
+/// A round of a new machine of a program over `cells` cells of each class, and `steps` steps after it.
 #[derive(Clone, Copy)]
 pub struct RoundOf<'r, R> {
     pub rt: &'r R,
@@ -71,7 +71,7 @@ pub struct RoundOf<'r, R> {
     pub steps: u32,
 }
 
-/// A round of a machine and so many steps after it.
+/// A round of a machine and the steps after it that are asked for.
 fn round_and_steps<R: Threads + Wait>(
     alloc: Global,
     machine: &mut Machine,
@@ -101,7 +101,7 @@ impl<'r, R: Threads + Wait> Look<Rounded> for RoundOf<'r, R> {
     }
 }
 
-/// Whether so many rounds in a row leave each time what as many steps of another machine of the program do.
+/// Whether `rounds` rounds in a row leave each time what as many steps of another machine of the program do.
 #[derive(Clone, Copy)]
 pub struct LikeSteps<'r, R> {
     pub rt: &'r R,

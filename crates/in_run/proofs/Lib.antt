@@ -1,5 +1,5 @@
 pub mod Ended
-pub mod OnItsWay
+pub mod StatesOfRuns
 pub mod OneEnd
 pub mod Public
 pub mod SameOutcome

@@ -5,7 +5,7 @@ use Rattle.in_reducer.specs.Runs.{Runs}
 use Rattle.in_reducer.specs.Steps.{StepsAt}
 use Rattle.in_rounds.specs.Phases.{IsPhase}
 
--- so many interactions one after another, each at any pair of the queue, and phases
+-- a given number of interactions one after another, each at any pair of the queue, and phases
 pub data RunsAnyhow : MachineParts → ℕ → MachineParts → Type 0 where
   no_step : (m : MachineParts) → RunsAnyhow m zero m
   then_any : (m n o : MachineParts) (k i : ℕ) → RunsAnyhow m k n → StepsAt n i o → RunsAnyhow m (suc k) o

@@ -16,7 +16,7 @@ use Rattle.in_run.specs.Stops.{GoesOn, IsOutcome, IsStop}
 
 -- ---- in any order
 
--- so many interactions of the program, from a start with so many cells of each class: they come in any order, and the program reaches the
+-- k interactions of the program, from a start with `cells` cells of each class: they come in any order, and the program reaches the
 -- net by exactly as many
 pub record ReachesWith (p : Program) (cells k : ℕ) (m : MachineParts) : Type 0 where
   pub start : (s : MachineParts) × IsStart p cells s
@@ -25,7 +25,7 @@ pub record ReachesWith (p : Program) (cells k : ℕ) (m : MachineParts) : Type 0
   pub counted : HasCells cells m
   pub reached : IsReachedBy (plain_of m) k
 
--- what a run comes to within the limits. Or there is no start; or memory ran out after so many interactions, where another one was next
+-- what a run comes to within the limits. Or there is no start; or memory ran out after k interactions, where another one was next
 abbrev pub RunsInAnyOrder : Program → Limits → Result Outcome RunFault → Type 0
 RunsInAnyOrder p l (Ok o) = ReachesWith p l.cells o.interactions o.machine × (o.interactions ≤ l.limit) × IsStop l.limit o.machine o.interactions o.stop
 RunsInAnyOrder p l (Err (Start f)) = IsNoStart p l.cells f

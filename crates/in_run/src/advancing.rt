@@ -31,7 +31,7 @@ fn agents(need: Need) -> u64
     u64::from(need.small) + u64::from(need.large) + u64::from(need.wide)
 }
 
-/// Whether so many first pairs need so many agents together that a round of several workers pays. There have to be as many pairs.
+/// Whether the first 2,048 pairs, of which there have to be as many, need enough agents together that a round of several workers pays.
 fn pays(machine: &Machine) -> bool
     requires { 2048 ≤ length machine.now.queue }
 {
@@ -71,7 +71,7 @@ fn by_round<R: Threads + Wait, G: Gate + Sync>(
     Ok(u64::from(done.interactions))
 }
 
-/// Whether half of so many cells of each class are free: enough that the order in which pairs are taken is no reason to stop.
+/// Whether half of `cells` cells of each class are free: enough that the order in which pairs are taken is no reason to stop.
 #[inline(always)]
 fn has_plenty(machine: &Machine, cells: u32) -> bool {
     let half = cells / 2;
@@ -80,7 +80,7 @@ fn has_plenty(machine: &Machine, cells: u32) -> bool {
         && machine.free(CellClass::Wide) >= half
 }
 
-/// Interactions of the newest pairs, at most so many, while half of the cells are free and so is what the newest pair needs. Says how many
+/// Interactions of the newest pairs, at most `most`, while half of the cells are free and so is what the newest pair needs. Says how many
 /// they were. What was made last is still in the cache, and a net that is reduced from there stays small.
 fn take_newest(machine: &mut Machine, cells: u32, most: u64) -> u64
     ensures goes { (m : MachineParts) (k : ℕ) → RunsAnyhow m k machine.old → RunsAnyhow m (result + k) machine.new }
@@ -98,7 +98,7 @@ fn take_newest(machine: &mut Machine, cells: u32, most: u64) -> u64
     count
 }
 
-/// Interactions of the oldest pairs, at most so many, while what the oldest pair needs is free. Says how many they were. They make the queue
+/// Interactions of the oldest pairs, at most `most`, while what the oldest pair needs is free. Says how many they were. They make the queue
 /// long, and what its pairs lead to independent of each other.
 fn take_oldest(machine: &mut Machine, most: u64) -> u64
     ensures goes { (m : MachineParts) (k : ℕ) → RunsAnyhow m k machine.old → RunsAnyhow m (result + k) machine.new }
@@ -115,7 +115,7 @@ fn take_oldest(machine: &mut Machine, most: u64) -> u64
     count
 }
 
-/// Interactions of several workers' long run, of which so many are left: a phase where it pays and there is memory for its room, else those of
+/// Interactions of several workers' long run, of which `left` are left: a phase where it pays and there is memory for its room, else those of
 /// some pairs by this thread, the newest ones first while no phase is tried. Says how many they were.
 fn by_parts<R: Threads>(
     rt: &R,
@@ -175,8 +175,8 @@ fn by_steps<R: Threads>(
     1 + by_parts(rt, alloc, machine, limits, interactions, left, pace)
 }
 
-/// The next interactions, where one is next: of several workers a round where it pays, a phase where it pays, else one interaction after another.
-/// Of one worker they are first in, first out. Says how many they were; when out of memory nothing is done.
+/// The next interactions, where one is next: of several workers a round where it pays, a phase where it pays, else one interaction after
+/// another. Of one worker they are first in, first out. Says how many they were; when out of memory nothing is done.
 #[inline(always)]
 pub(crate) fn advance<R: Threads + Wait, G: Gate + Sync>(
     rt: &R,

@@ -16,7 +16,7 @@ fn vacant(machine: &Machine) -> Need
     }
 }
 
-/// Why no interaction of the first pair is next, after so many interactions.
+/// Why no interaction of the first pair is next, after `interactions` interactions.
 pub(crate) fn stop(machine: &Machine, limit: u64, interactions: u64) -> Option<Stop>
     requires { interactions ≤ limit }
     ensures { MatchOption result (GoesOn limit machine.now interactions) (IsStop limit machine.now interactions) }

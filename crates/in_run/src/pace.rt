@@ -31,7 +31,7 @@ const MOST_FOR_EACH_AGENT: u64 = 16;
 
 const MOST_BESIDES: u64 = 32_768;
 
-/// What a phase costs beside copying agents, for each thread: as much as so many interactions.
+/// What a phase costs beside copying agents, for each thread: as much as this many interactions.
 const COST_OF_A_THREAD: u64 = 1_700;
 
 /// How long is waited after a phase that hasn't paid, in what it cost; twice as long after each further one.
@@ -71,8 +71,8 @@ impl Pace {
         interactions < self.phase_from
     }
 
-    /// Notes what a phase brought, of a net with so many agents, after which so many interactions are done. It has paid where what the other
-    /// parts did beside the longest one is at least twice what it cost, and a quarter of all.
+    /// Notes what a phase brought, of a net with `agents` agents, after which `interactions` interactions are done. It has paid where what
+    /// the other parts did beside the longest one is at least twice what it cost, and a quarter of all.
     pub(crate) fn note(&mut self, worked: Worked, agents: u32, interactions: u64) {
         let gain = worked.interactions.saturating_sub(worked.longest);
         let cost = u64::from(agents) + COST_OF_A_THREAD * u64::from(worked.parts);
@@ -95,7 +95,7 @@ fn least_free(machine: &Machine) -> u32
     small.min(large).min(wide)
 }
 
-/// How a machine's net is shared out among so many workers, where so many interactions are left; nothing where a phase can't pay. Half of the
+/// How a machine's net is shared out among the workers, where `left` interactions are left; nothing where a phase can't pay. Half of the
 /// cells are kept back, so that the order in which pairs are taken is no reason to stop.
 pub(crate) fn sharing(machine: &Machine, limits: Limits, left: u64) -> Option<Sharing>
     ensures parts { IfSome result (λ s. 1 ≤ s.parts) }

@@ -24,7 +24,7 @@ pub struct Outcome<'a> {
     pub stop: Stop,
 }
 
-/// Why a run has no outcome: there is no machine, or memory ran out after so many interactions, and then the machine stands there.
+/// Why a run has no outcome: there is no machine, or memory ran out after some interactions, and then the machine stands there.
 #[derive(Drop)]
 pub enum RunFault<'a> {
     Start(StartFault),
@@ -37,9 +37,9 @@ pub enum RunFault<'a> {
 /// Runs a program. With one worker it does so first in, first out: each interaction is at the first pair of the queue, and its new pairs come
 /// last. How several workers share the interactions is open: in a long run they reduce the net in parts that share nothing.
 ///
-/// Before each interaction, in this order: where no pair is left the run stops as `Normal`; where it did as many interactions as are
-/// allowed, as `Limit`; where the first pair needs more cells of a class than are free, tested in the order of the classes, as `Full`. Refused where no
-/// machine starts, and when out of memory, and then the machine stands at the interactions counted so far.
+/// Before each interaction, in this order: where no pair is left the run stops as `Normal`; where it did as many interactions as are allowed,
+/// as `Limit`; where the first pair needs more cells of a class than are free, tested in the order of the classes, as `Full`. Refused where
+/// no machine starts, and when out of memory, and then the machine stands at the interactions counted so far.
 ///
 /// Where it stops as `Normal`, it has come to the one end of its program: each run that ends, its interactions in any order, has as many
 /// interactions and the same text.

@@ -44,8 +44,8 @@ fn runs_to(
     are_alike(alloc, &outcome, plain)
 }
 
-/// Whether the run of so many workers and the slow reducer, which takes the pair that has waited longest first, come to one outcome within so
-/// many interactions.
+/// Whether the run of a given number of workers and the slow reducer, which takes the pair that has waited longest first, come to one
+/// outcome within a given number of interactions.
 #[derive(Drop)]
 pub struct AlikeWithin<'a, R: Threads + Wait>(pub &'a R, pub u32, pub u32);
 
@@ -57,7 +57,7 @@ impl<R: Threads + Wait> Look<bool> for AlikeWithin<'_, R> {
     }
 }
 
-/// Whether the slow reducer comes to a net without active pairs within so many interactions.
+/// Whether the slow reducer comes to a net without active pairs within a given number of interactions.
 #[derive(Clone, Copy)]
 pub struct EndsWithin(pub u32);
 

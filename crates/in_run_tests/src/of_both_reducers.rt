@@ -7,7 +7,7 @@ use std::process::Abort;
 use std::sync::Wait;
 use std::thread::Threads;
 
-/// Checks that both reducers come to one outcome, so many workers of the one, within so many interactions.
+/// Checks that both reducers come to one outcome, with the workers of the one and the limit of interactions in `bounds`.
 fn expect_alike_within<R: Abort + Threads + Wait>(
     rt: &R,
     alloc: Global,

@@ -106,20 +106,20 @@ fn step(machine: &mut Machine) {
     machine.step(0);
 }
 
-/// So many steps of the first pair.
+/// `steps` steps of the first pair.
 fn steps_of(machine: &mut Machine, steps: u32) {
     for _ in 0..steps {
         step(machine);
     }
 }
 
-/// What a machine shows after so many steps of the first pair.
+/// What a machine shows after `steps` steps of the first pair.
 fn shown_after(alloc: Global, machine: &mut Machine, steps: u32) -> Option<String> {
     steps_of(machine, steps);
     shown(alloc, machine).ok()
 }
 
-/// What the machine of a program shows after so many steps of the first pair, over 16 cells of
+/// What the machine of a program shows after a given number of steps of the first pair, over 16 cells of
 /// each class.
 #[derive(Clone, Copy)]
 pub struct After(pub u32);
@@ -137,7 +137,7 @@ fn shown_end(alloc: Global, outcome: &Outcome) -> Result<String, AllocError> {
     format!(in alloc; "{} {:?}\n{machine}", outcome.interactions, outcome.stop)
 }
 
-/// How the run of a program ends, with so many workers, within so many interactions and so many cells of each class.
+/// How the run of a program ends, with given numbers of workers, of interactions at most, and of cells of each class.
 #[derive(Drop)]
 pub struct Ending<'a, R: Threads + Wait>(pub &'a R, pub u32, pub u64, pub u32);
 
@@ -149,7 +149,7 @@ impl<R: Threads + Wait> Look<String> for Ending<'_, R> {
     }
 }
 
-/// Why the net of a program doesn't fit so many cells of each class; the empty text where it does.
+/// Why the net of a program doesn't fit a given number of cells of each class; the empty text where it does.
 #[derive(Clone, Copy)]
 pub struct Start(pub u32);
 

@@ -1,5 +1,5 @@
 pub mod Public
-pub mod Ways
+pub mod Walks
 pub mod Forests
 pub mod Widening
 pub mod Chains

@@ -1,4 +1,4 @@
-pub mod Ways
+pub mod Walks
 pub mod Trees
 pub mod Spans
 pub mod Stars

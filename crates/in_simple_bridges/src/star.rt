@@ -12,7 +12,7 @@ pub(crate) struct Star {
     pub(crate) links: Items<(usize, usize)>,
 }
 
-/// So many zeros.
+/// `count` zeros.
 pub(crate) fn zeros(alloc: Global, count: usize) -> Result<Items<usize>, AllocError>
     ensures size { IfOk result (λ zeros. length zeros ≡ count) }
     ensures zero { IfOk result (λ zeros. (n : ℕ) → at zeros n ≡ 0) }

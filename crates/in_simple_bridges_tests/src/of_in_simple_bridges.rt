@@ -5,7 +5,7 @@ use in_simple_bridges::on_cycles;
 use sqlite_items::Items;
 use std::alloc::{AllocError, Global};
 
-/// Adds an edge between two of so many vertices; others are left out.
+/// Adds an edge between two of `count` vertices; others are left out.
 fn add_within(
     within: &mut Items<(usize, usize)>,
     count: usize,
@@ -24,7 +24,7 @@ fn add_within(
     within.push((one, other))
 }
 
-/// Which of these edges of a graph of so many vertices are on a cycle. Edges between other vertices are left out.
+/// Which of these edges of a graph of `count` vertices are on a cycle. Edges between other vertices are left out.
 fn cycles(
     alloc: Global,
     count: usize,

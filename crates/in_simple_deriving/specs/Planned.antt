@@ -126,7 +126,7 @@ abbrev pub WhatPort : OpenNet → ℕ → ℕ → Plan → Plan → Bool → Typ
 WhatPort o n i old new true = (x : Shape) × AddsPort o n i old new x
 WhatPort o n i old new false = AddsNothing o n i old new
 
--- with so many empty nets
+-- with a given number of empty nets
 abbrev pub with_empty : ℕ → List Shape → List Shape
 with_empty zero xs = xs
 with_empty (suc k) xs = with_empty k xs ++ shape (λ n. false) no_wires ∷ []
@@ -153,7 +153,7 @@ abbrev pub WhatComes : OpenNet → ℕ → ℕ → Plan → Plan → Bool → Ty
 WhatComes o n k old new true = (task : Task) × (new.tasks ≡ old.tasks ++ task ∷ []) × Brings o (nodes_in old.rest) n k task
 WhatComes o n k old new false = (new.tasks ≡ old.tasks) × NothingAt o (nodes_in old.rest) n k
 
--- so many Empties more
+-- `count` Empties more
 abbrev pub WithEmpties : ℕ → Plan → Plan → Type 0
 WithEmpties count old new = new.tasks ≡ old.tasks ++ map Make (empties count)
 

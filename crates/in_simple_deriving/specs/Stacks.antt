@@ -67,7 +67,7 @@ pub record IsStack (o : OpenNet) (steps : List Step) (roots : List ℕ) (shapes 
 abbrev pub IsLastLeft : ℕ → List ℕ → List ℕ → Type 0
 IsLastLeft n old new = (old ≡ new ++ n ∷ []) ⊎ ((old ≡ []) × (new ≡ []))
 
--- so many of the last of these are gone, or all
+-- the last `count` of these are gone, or all
 abbrev pub AreLast : ℕ → List ℕ → List ℕ → Type 0
 AreLast count old new = (gone : List ℕ) × (old ≡ new ++ gone) × ((length gone ≡ count) ⊎ ((new ≡ []) × (length gone ≤ count)))
 

@@ -20,7 +20,7 @@ use Rattle.in_open_nets.specs.Stuck.{ComesAt, IsFirstToSplit, IsPart, ports_of, 
 
 -- ---- the joints at a node, turn by turn: what comes at a turn, what before it, and what joins it to that which came so far
 
--- so many Empties
+-- a given number of Empties
 abbrev pub empties : ℕ → List Joint
 empties zero = []
 empties (suc k) = Empty ∷ empties k
@@ -109,7 +109,7 @@ pub data Comes (o : OpenNet) : Stage → List Joint → Type 0 where
 
 -- ---- the whole open net
 
--- so many wires from w on: a Link of each between two free ends, beside what came so far; Empty where nothing came
+-- a given number of wires from w on: a Link of each between two free ends, beside what came so far; Empty where nothing came
 abbrev pub links_from : OpenNet → Bool → ℕ → ℕ → List Joint
 links_from o came w zero = cond came [] (Empty ∷ [])
 links_from o came w (suc n) = cond (loose_in o w) (Link w ∷ (cond came (Mix ∷ []) [] ++ links_from o true (w + 1) n)) (links_from o came (w + 1) n)

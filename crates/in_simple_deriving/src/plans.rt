@@ -72,7 +72,7 @@ impl Drop for Room {
 }
 
 impl Room {
-    /// For so many nodes.
+    /// For `count` nodes.
     pub(crate) fn new(alloc: Global, count: usize) -> Result<Room, AllocError>
         ensures tests { IfOk result (λ room. length room.tests ≡ count) }
         ensures done { IfOk result (λ room. length room.done ≡ count) }
@@ -292,7 +292,7 @@ impl<'a> Model for Begun<'a> {
     ghost invariant = { λ b. StartsPlan b.wired.now b.node b.plan };
 }
 
-/// A plan that puts the nets of an agent's classes, as far as the ports before this one go. So many classes are begun.
+/// A plan that puts the nets of an agent's classes, as far as the ports before this one go; `begun` classes are begun.
 #[derive(Drop)]
 struct Classes<'a> {
     wired: &'a Wired<'a>,

@@ -5,7 +5,7 @@ use in_check::Checked;
 use in_cover::RuleNo;
 use in_symbols::{SymbolNo, Symbols};
 use in_syntax::{Code, Place};
-use in_test_programs::{Look, refusal_of, seen};
+use in_test_programs::{Look, refusal_of_parts, seen};
 use in_test_texts::SUMS;
 use std::alloc::Global;
 use std::process::Abort;
@@ -66,7 +66,7 @@ fn at(place: Place) -> (u32, u32) {
 
 /// The refusal's code and place, and the other place.
 fn refused(alloc: Global, parts: &[&str]) -> Option<(Code, (u32, u32), Option<(u32, u32)>)> {
-    let refusal = refusal_of(alloc, parts)?;
+    let refusal = refusal_of_parts(alloc, parts)?;
     let other = match refusal.other {
         Some(place) => Some(at(place)),
         None => None,

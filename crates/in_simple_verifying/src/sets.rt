@@ -23,7 +23,7 @@ impl Model for NumberSet {
 }
 
 impl NumberSet {
-    /// None of so many.
+    /// None of `count` numbers.
     pub(crate) fn none(alloc: Global, count: usize) -> Result<NumberSet, AllocError>
         ensures count { IfOk result (λ set. length set ≡ count) }
         ensures none { IfOk result (λ set. (n : ℕ) → nodes_in set n ≡ false) }

@@ -323,7 +323,7 @@ fn taken(parts: &mut Vec<Option<Built>>, step: u32) -> Option<Built>
     }
 }
 
-/// Whether there is an agent of that number, with so many classes of auxiliary ports.
+/// Whether there is an agent of that number, with `classes` classes of auxiliary ports.
 fn is_agent_with(open: &OpenNet, node: u32, classes: usize) -> bool
     ensures within { IsTrue result → node < length «open».now.nodes }
     ensures agent { IsTrue result ↔ (IsAgent «open».now node × (classes ≡ classes_of «open».now node)) }

@@ -59,7 +59,7 @@ pub empty_map : {X Y : Type 0} (f : X → Y) (xs : List X) → is_empty (map f x
 empty_map f [] = refl
 empty_map f (x ∷ xs) = refl
 
--- terms of at most so many names
+-- terms of at most h names
 abbrev TermsLeast : Source → List (List ℕ) → ℕ → Type 0
 TermsLeast s names h = (t : Term) → names_in t ≤ h → IsLeast (λ q. HasPart (IsUnknownHead s q) t) (unknown_in_term names t)
 

@@ -1,6 +1,6 @@
 -- Faults of names: what is wrong with the types, symbols and free names of a program, and which of its faults is the first one.
 -- Lafont 1990 declares the type and sign of each port of a symbol, and lets an agent be of a declared symbol. That types and
--- symbols are two spaces of names, the codes, and where a fault stands are this project's own choice.
+-- symbols are two namespaces, the codes, and where a fault stands are this project's own choice.
 use Rattle.std.specs.Prelude.{◌≡◌, ◌⊎◌, ℕ, List, [], ◌∷◌, map}
 use Rattle.in_base.specs.Lists.{AnyByRecursion, IsAmong}
 use Rattle.in_syntax.specs.declared.faults.Code.{Code}

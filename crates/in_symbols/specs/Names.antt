@@ -1,4 +1,4 @@
--- A space of names as a list, in the order of declaration.
+-- A namespace as a list of its names, in the order of declaration.
 use Rattle.std.specs.Prelude.{◌≡◌, ℕ, List, [], ◌∷◌, ◌++◌, Bool, true, false, Option, Result, Ok, Err, position, slice_index_or}
 use Rattle.std.specs.List.{list_any}
 use Rattle.std.specs.declared.alloc.AllocError.{AllocError}

@@ -77,7 +77,7 @@ pub record AddsClass (types : List (List ℕ)) (number : ℕ) (class : List Sour
   pub classes : new.classes ≡ old.classes ++ replicate (length class) number
   pub others : (new.place ≡ old.place) × (new.class_count ≡ old.class_count)
 
--- a principal port, so many auxiliary ports at most, and a class for each
+-- a principal port, `max_ports` auxiliary ports at most, and a class for each
 pub record IsShape (s : Shape) : Type 0 where
   pub some : 1 ≤ length s.ports
   pub few : length s.ports ≤ max_ports + 1

@@ -5,7 +5,7 @@ use indexmap::IndexSet;
 use std::alloc::{AllocError, Global};
 use std::marker::Model;
 
-/// A space of names, numbered from 0 in the order of their declaration. Contracts see the list of them.
+/// A namespace: its names, numbered from 0 in the order of their declaration. Contracts see the list of them.
 pub struct Names {
     set: IndexSet<String>,
 }

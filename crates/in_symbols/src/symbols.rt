@@ -69,9 +69,9 @@ impl Symbols {
     /// The tables of a program that `parse` answers for some text.
     ///
     /// Refused for the first fault of the names in the order of the text: E04 at the name of a type, symbol or free name that
-    /// is declared twice in its space, at the later one, and at a free name that is a symbol's; E05 at an unknown type of a
+    /// is declared twice in its namespace, at the later one, and at a free name that is a symbol's; E05 at an unknown type of a
     /// port or a free name; E06 at a name before `(` or `[` that is no symbol's. Or when out of memory. Lafont 1990 has the types of
-    /// ports and the symbols of agents; the spaces of names, the codes and the places are this project's own choice.
+    /// ports and the symbols of agents; the namespaces, the codes and the places are this project's own choice.
     pub fn build(alloc: Global, source: &Source) -> Result<Symbols, Fault>
         requires { IsOfText source.now }
         ensures { Tabulates source.now result }

@@ -186,7 +186,7 @@ counted c (types names) = record { types = c.types + length names; symbols = c.s
 counted c (symbol s) = record { types = c.types; symbols = c.symbols + 1; rules = c.rules }
 counted c (rule w r) = record { types = c.types; symbols = c.symbols; rules = c.rules + 1 }
 
--- item = "type" .. | "symbol" .. | "rule" .., where so much is declared before it
+-- item = "type" .. | "symbol" .. | "rule" .., where that much is declared before it
 abbrev pub spell_item : Counts → Item → List Marked
 spell_item c (types names) = spell_types (c.types + 1) names
 spell_item c (symbol s) = spell_symbol (c.symbols + 1) s

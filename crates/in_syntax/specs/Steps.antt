@@ -51,7 +51,7 @@ pub data Step : Type 0 where
   adds_types : List Name → Step
   adds_symbol : SourceSymbol → Step
   adds_rule : SourceRule → Step
-  -- nowhere: no program goes on so
+  -- nowhere: the token is unexpected
   stuck : Step
 
 -- on to another state, within the limits

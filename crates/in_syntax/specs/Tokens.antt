@@ -117,7 +117,7 @@ pub record StandsIn (text : List ℕ) (t : Token) : Type 0 where
   pub utf8 : IsUtf8 (slice_range text t.place.from t.place.to)
   pub kind : kind_of (chars (slice_range text t.place.from t.place.to)) ≡ Some t.kind
 
--- from so many bytes on the tokens stand one after another
+-- after the first n bytes the tokens stand one after another
 abbrev pub StandInOrder : ℕ → List Token → Type 0
 StandInOrder n [] = Unit {0}
 StandInOrder n (t ∷ ts) = (n ≤ t.place.from) × StandInOrder t.place.to ts

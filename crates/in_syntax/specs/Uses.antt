@@ -12,7 +12,7 @@ use Rattle.in_syntax.specs.declared.uses.NameUse.{NameUse}
 use Rattle.in_syntax.specs.declared.uses.Listed.{Listed}
 use Rattle.in_syntax.specs.Walks.{Visits}
 
--- a name with so many terms after it, which may be a head's
+-- a name with `terms` terms after it, which may be a head's
 abbrev pub use_of : Name → ℕ → Bool → NameUse
 use_of n terms head = record { place = n.place; arguments = terms; is_head = head }
 

@@ -9,11 +9,11 @@ use std::alloc::AllocError;
 pub enum Code {
     /// No token begins here, or no well-formed character.
     E01,
-    /// No program goes on so.
+    /// An unexpected token.
     E02,
     /// A limit is passed.
     E03,
-    /// A name is declared twice in its space.
+    /// A name is declared twice in its namespace.
     E04,
     /// A type that isn't declared.
     E05,

@@ -53,7 +53,7 @@ pub enum Move {
     Refuses(Code),
 }
 
-/// What this sign leads to from this state, where so much is declared before the item. Its only error is running out of memory.
+/// What this sign leads to from this state, where that much is declared before the item. Its only error is running out of memory.
 pub fn step(alloc: Global, counts: Counts, state: State, sign: Sign) -> Result<Move, AllocError>
     ensures { IfOk result (λ m. m ≡ move_of (steps.step counts state sign)) }
 {

@@ -55,7 +55,7 @@ pub struct MemoryOut {
 }
 
 impl MemoryOut {
-    /// A writer with room for so many bytes, which took none yet. Its only error is running out of memory.
+    /// A writer with room for `room` bytes, which took none yet. Its only error is running out of memory.
     pub fn new(alloc: Global, room: usize) -> Result<MemoryOut, AllocError>
         ensures { IfOk result (λ w. (length w.room.items ≡ room) × (w.taken ≡ 0) × (w.failures ≡ 0)) }
     {

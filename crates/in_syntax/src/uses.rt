@@ -19,7 +19,7 @@ pub struct NameUse {
 }
 
 impl NameUse {
-    /// A name with so many terms after it.
+    /// A name with `arguments` terms after it.
     fn of(name: &Name, arguments: usize, is_head: bool) -> NameUse
         ensures { result ≡ use_of name.now arguments is_head }
     {

@@ -13,7 +13,7 @@ pub trait Visitor {
     /// What it is after each call, and what it knows then.
     ghost visits: { Visits Self Self.Known };
 
-    /// A term's name, which has so many arguments; none of these was walked yet.
+    /// A term's name, which has `arguments` arguments; none of these was walked yet.
     fn name(&mut self, name: &Name, arguments: usize) -> Result<Self::Known, AllocError>
         ensures { IfOk result (λ known. (self.new, known) ≡ visits.name self.old name.now arguments) };
 

@@ -42,7 +42,7 @@ fn are_types(names: &[Name], texts: &[&str]) -> bool {
     true
 }
 
-/// Whether the symbol has this name and sign, and so many classes.
+/// Whether the symbol has this name and sign, and `classes` classes.
 fn is_symbol(symbol: &SourceSymbol, name: &str, output: bool, classes: usize) -> bool {
     is_named(&symbol.name, name) && symbol.port.output == output && symbol.classes.len() == classes
 }
@@ -144,7 +144,7 @@ fn nets(rt: HostRuntime) -> Result<(), Fail> {
     Ok(())
 }
 
-/// Whether the head has this name, and so many terms.
+/// Whether the head has this name, and `terms` terms.
 fn is_head(head: &Head, name: &str, terms: usize) -> bool {
     is_named(&head.name, name) && head.terms.len() == terms
 }
@@ -327,7 +327,7 @@ fn refusals_after_the_heads_of_a_rule(rt: HostRuntime) {
     expect_faults(&rt, rt.alloc(), &REFUSED_AFTER_HEADS);
 }
 
-/// One more word in a text, once less than so often.
+/// Adds a word `count - 1` times.
 fn push_often(text: &mut String, word: &str, count: usize) -> Result<(), AllocError> {
     for _ in 1..count {
         text.push_str(word)?;
@@ -345,7 +345,7 @@ fn deep(alloc: Global, depth: usize, between: [&str; 2]) -> Result<String, Alloc
     Ok(text)
 }
 
-/// One word so often, between two texts.
+/// One word `count` times, between two texts.
 fn often(
     alloc: Global,
     count: usize,
@@ -379,13 +379,13 @@ fn lengths(alloc: Global, text: &str) -> Option<[usize; 5]> {
     tree_seen(alloc, text.as_bytes(), &HowMany).ok()
 }
 
-/// How a text with one word so often is read.
+/// How a text with one word `count` times is read.
 fn often_read(alloc: Global, count: usize, word: &str, between: [&str; 2]) -> Option<[usize; 5]> {
     let text = often(alloc, count, word, between).ok()?;
     lengths(alloc, text.as_str())
 }
 
-/// The fault of a text with one word so often.
+/// The fault of a text with one word `count` times.
 fn often_fault(
     alloc: Global,
     count: usize,
@@ -396,7 +396,7 @@ fn often_fault(
     fault(alloc, text.as_str())
 }
 
-/// Checks that a word may stand so often, with what is then read, and not once more, with the place of the fault.
+/// Checks that a word may stand `count` times, with what is then read, and not once more, with the place of the fault.
 fn expect_limit(
     rt: &impl Abort,
     alloc: Global,

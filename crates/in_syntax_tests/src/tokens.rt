@@ -184,7 +184,7 @@ fn count(alloc: Global, text: &[u8]) -> Result<usize, Option<Refusal>> {
     }
 }
 
-/// The same of some bytes so often, with more bytes after them.
+/// The same of some bytes `times` times, with more bytes after them.
 fn often(alloc: Global, bytes: &[u8], times: u32, more: &[u8]) -> Result<usize, Option<Refusal>> {
     match text_of(alloc, bytes, times, more) {
         Ok(text) => count(alloc, text.as_slice()),
@@ -192,7 +192,7 @@ fn often(alloc: Global, bytes: &[u8], times: u32, more: &[u8]) -> Result<usize, 
     }
 }
 
-/// Some bytes so often, with more bytes after them.
+/// Some bytes `times` times, with more bytes after them.
 fn text_of(alloc: Global, bytes: &[u8], times: u32, more: &[u8]) -> Result<Vec<u8>, AllocError> {
     let mut text = Vec::new(alloc);
     for _ in 0..times {
@@ -202,7 +202,7 @@ fn text_of(alloc: Global, bytes: &[u8], times: u32, more: &[u8]) -> Result<Vec<u
     Ok(text)
 }
 
-/// Whether some bytes so often, with more bytes after them, are refused at their beginning as too
+/// Whether some bytes `times` times, with more bytes after them, are refused at their beginning as too
 /// long.
 fn is_too_long(alloc: Global, bytes: &[u8], times: u32, more: &[u8]) -> bool {
     often(alloc, bytes, times, more) == Err(empty_place(Code::E03, 0, 1, 1))

@@ -43,7 +43,7 @@ pub fn seen_in<A, L: Look<A>>(
 }
 
 /// The refusal of a text, which comes in parts; nothing where it is accepted, or when out of memory.
-pub fn refusal_of(alloc: Global, parts: &[&str]) -> Option<Refusal> {
+pub fn refusal_of_parts(alloc: Global, parts: &[&str]) -> Option<Refusal> {
     let text = joined(alloc, parts).ok()?;
     refusal_in(answer(alloc, text.as_str()))
 }

@@ -18,7 +18,7 @@ pub record IsFreshPart (plan : PlanParts) (board : BoardView) (a : ArenaView) (s
   pub done : p.done.items ≡ []
   pub ready : IsReady plan board p
 
--- so many workers with so many cells each have no more than are free
+-- `workers` workers with the cells of `share` each have no more than are free
 abbrev pub IsShare : ℕ → Need → (CellClass → ℕ) → Type 0
 IsShare workers share free = (c : CellClass) → workers * count_of share c ≤ free c
 

@@ -18,7 +18,7 @@ use std::alloc::{AllocError, Global};
 use std::sync::Wait;
 use std::thread::Threads;
 
-/// Lets so many workers, 1 to 64, of which the caller is one, claim the plan's jobs and place their templates in cells of the arena, each
+/// Lets `workers` workers, 1 to 64, of which the caller is one, claim the plan's jobs and place their templates in cells of the arena, each
 /// with its share of the free ones; and gathers what they did. Says how many threads were started. Each worker claims while its stock holds
 /// the most that a job can need, and passes the gate after each claim. What isn't used is free again.
 ///

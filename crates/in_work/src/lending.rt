@@ -15,7 +15,7 @@ use in_compile::{Need, Placed, Stock};
 use in_net::MAX_MEMBER_AGENTS;
 use std::alloc::{AllocError, Global};
 
-/// Room for so many templates.
+/// Rooms for `count` templates.
 fn rooms_for(
     alloc: Global,
     arena: &Arena,
@@ -33,7 +33,7 @@ fn rooms_for(
     Ok(rooms)
 }
 
-/// A worker with this seat, room for so many jobs, and a stock that has room for its share of the cells and none of them yet.
+/// A worker with this seat, room for its jobs, and a stock that has room for its share of the cells and none of them yet.
 fn part<'t>(
     alloc: Global,
     plan: &Plan<'t>,

@@ -3,7 +3,7 @@ use in_claims::Seat;
 use in_compile::{Placed, Stock};
 use in_gather::Done;
 
-/// A seat, a stock, room for so many jobs, and what was done.
+/// A seat, a stock, room for its jobs, and what was done.
 #[derive(Drop)]
 pub(crate) struct Part<'t> {
     pub(crate) seat: Seat,

@@ -5,7 +5,7 @@ use std::alloc::Global;
 use std::sync::Wait;
 use std::thread::Threads;
 
-/// What so many workers do. The symbols are 0 (zero), 1 (the next number) and 2 (a sum).
+/// What `workers` workers do. The symbols are 0 (zero), 1 (the next number) and 2 (a sum).
 fn found<R: Threads + Wait>(rt: &R, alloc: Global, workers: u32) -> Option<(u32, bool, bool)> {
     let round = Round { rt, workers };
     seen(alloc, &[SUMS, ADDITION, "net () { }\n"], &round)

@@ -1,4 +1,4 @@
-//! Jobs that workers do in threads. Nothing where memory or cells are wanted.
+//! Jobs that workers do in threads. Nothing where memory or cells run out.
 ghost use Rattle.std.specs.Prelude.{◌≤◌, IsTrue, IsSome, IfOk, IfSome};
 ghost use Rattle.in_arena.specs.Arenas.{NoneLeased, free_of};
 ghost use Rattle.in_compile.specs.Templates.{AreTemplatesOf, template_at};
@@ -26,7 +26,7 @@ fn fresh(alloc: Global, cells: u32) -> Result<Arena, AllocError>
     Arena::new(alloc, cells)
 }
 
-/// Whether so many workers may have eight cells of each class each.
+/// Whether `workers` workers may have eight cells of each class each.
 fn are_free(arena: &Arena, workers: u32) -> bool
     requires { workers ≤ 64 }
     ensures { IsTrue result → IsShare workers (record { small = 8; large = 8; wide = 8 }) (free_of arena.now) }
@@ -89,7 +89,7 @@ fn compiled(alloc: Global, program: &Checked) -> Option<Templates>
     }
 }
 
-/// How many of six jobs so many workers do, whether there are fewer threads than workers, and whether all cells are free again.
+/// How many of six jobs `workers` workers do, whether there are fewer threads than workers, and whether all cells are free again.
 fn done<R: Threads + Wait>(
     rt: &R,
     alloc: Global,
@@ -128,7 +128,7 @@ fn done<R: Threads + Wait>(
     Some((found, threads < workers, all))
 }
 
-/// The six jobs, done by so many workers, each with eight cells of each class.
+/// The six jobs, done by `workers` workers, each with eight cells of each class.
 #[derive(Drop)]
 pub struct Round<'a, R> {
     pub rt: &'a R,

@@ -71,7 +71,7 @@ fn a_failed_stream_is_told_with_its_error(rt: HostRuntime) -> Result<(), Fail> {
     Ok(())
 }
 
-/// Whether a text of so many bytes is refused, and what is told begins so.
+/// Whether a text of that many bytes is refused, and what is told begins with these words.
 fn is_too_long(
     rt: &(impl Threads + Wait),
     alloc: Global,

@@ -28,7 +28,7 @@ module _ {X : Type 0} (x : X) where
   once_right (y ∷ xs) ys h k = inr (h.0, once_right xs ys h.1 k)
 
 module _ {A : Type 0} (n : Net A) where
-  -- from a point one goes up through so many agents to the other one
+  -- from a point one goes up through a given number of agents to the other one
   abbrev pub Climb : Point A → ℕ → Point A → Type 0
   Climb p zero q = p ≡ q
   Climb p (suc l) q = (y : A) × (i : ℕ) × (Climb p l (Port y (suc i))) × (n.partner (Port y 0) ≡ Some q)

@@ -83,7 +83,7 @@ module _ (p : System) (good : IsSoundSystem p) (name : ℕ → ℕ → ℕ) (apa
       subst (λ c. Reaches c (with_part parts w m)) (omega arith) done
 
   module _ (k : ℕ) (parts after : ℕ → Net ℕ) (counts : ℕ → ℕ) (start : Reaches k parts) where
-    -- the first so many parts have run, and the others not
+    -- the first w parts have run, and the others not
     record Mixed (w : ℕ) : Type 0 where
       family : ℕ → Net ℕ
       done : (j : ℕ) → j < w → family j ≡ after j

@@ -49,7 +49,7 @@ at_most : (d : Option Cell) → cond (is_some d) 1 0 ≤ 1
 at_most None = omega arith
 at_most (Some d) = omega arith
 
--- agents that have a number of the old ones or one of so many unused ones are few
+-- agents that have a number of the old ones or one of the first `count` unused ones are few
 few_agents : (cs ds : List (Option Cell)) (count : ℕ) → ((x : ℕ) (d : Cell) → cell_at ds x ≡ Some d → ((c : Cell) × (cell_at cs x ≡ Some c)) ⊎ ((k : ℕ) × (k < count) × (unused cs k ≡ x))) → count_by is_some ds ≤ count_by is_some cs + count
 few_agents cs [] count h = omega arith
 few_agents [] (None ∷ ds) count h =

@@ -23,7 +23,7 @@ at_some (None ∷ cs) zero c e k = cc
 at_some (Some d ∷ cs) zero c e k = refl
 at_some (d ∷ cs) (suc i) c e k = at_some cs i c e k
 
--- one more after so many
+-- one more after those of `old`
 pub one_more : (cs : List (Option Cell)) (old : List AgentNo) (n : ℕ) → n ≡ unused cs (length old) → AreFirstUnused cs old →
     (k : ℕ) → k < length old + 1 → slice_get (old ++ record { 0 = n } ∷ []) k ≡ Some (record { 0 = unused cs k })
 one_more cs old n is h k lt = by_last (let o : (k < length old) ⊎ (k ≡ length old) = grind arith in o)
@@ -34,7 +34,7 @@ one_more cs old n is h k lt = by_last (let o : (k < length old) ⊎ (k ≡ lengt
         let P : ℕ → Type 0 = λ k. slice_get (old ++ record { 0 = n } ∷ []) k ≡ Some (record { 0 = unused cs k }) in
         subst P (sym same) (last_at old (record { 0 = n }) ∙ ap (λ (z : ℕ). let y : AgentNo = record { 0 = z } in Some y) is)
 
--- of so many cells, with the rest behind them
+-- of the first i cells, with the rest behind them
 pub record AreFound (cs : List (Option Cell)) (count i : ℕ) (found : List AgentNo) : Type 0 where
   pub few : length found ≤ count
   pub names : AreFirstUnused cs found

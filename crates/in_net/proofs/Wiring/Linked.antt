@@ -20,7 +20,7 @@ at_front xs ys i d lt = get_or_append_left xs ys d i lt
 pub at_back : {X : Type 0} (xs ys : List X) (j : ℕ) (d : X) → get_or (xs ++ ys) (length xs + j) d ≡ get_or ys j d
 at_back xs ys j d = get_or-append-add xs ys j d
 
--- a number is in front, or so many behind
+-- a number is in front, or j behind
 pub front_or_back : (n i : ℕ) → (i < n) ⊎ ((j : ℕ) × (i ≡ n + j))
 front_or_back n i = part (cases_lt i n)
   where

@@ -136,7 +136,7 @@ module _ (t : Tables) (b : Body) (free : List FreeEnd) (r : Reading) (links : Li
 
 -- ---- what is read of a body
 
--- what is known of a body before it is read, and of its numbers: so much is read, and each name twice
+-- what is known of a body before it is read, and of its numbers: as much is read as there is, and each name twice
 pub record IsGood (t : Tables) (b : Body) : Type 0 where
   pub ready : IsReady t b
   pub small : HaveFewPorts t

@@ -20,7 +20,7 @@ use Rattle.in_open_nets.specs.ClassGraphs.{Vertex, Hub, Class, HasClass, IsVerte
 use Rattle.in_open_nets.specs.ClassEdges.{no_hub, vertex_in, hub_edge_in, HaveNumbers, AreHubEdges, AddsHubEdges, ComesFirst, IsEdgeOf, IsPast, ListsNone, AreEdges}
 use Rattle.in_open_nets.specs.Stuck.{ports_of}
 use Rattle.in_open_nets.proofs.Built.Balance.{wire_turn}
-use Rattle.in_open_nets.proofs.Graphs.ClassWays.{has_class, port_class}
+use Rattle.in_open_nets.proofs.Graphs.ClassWalks.{has_class, port_class}
 use Rattle.in_open_nets.proofs.Splits.Search.{in_ports}
 use Rattle.in_open_nets.proofs.PartsOf.Sums.{point_node}
 use Rattle.in_open_nets.proofs.Reached.Reaching.{in_length}

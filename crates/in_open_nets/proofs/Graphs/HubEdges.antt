@@ -1,7 +1,7 @@
 -- A node splits a set exactly when each of its hub edges is a bridge.
 use Rattle.std.proofs.Common.{◌≡◌, ◌≢◌, ◌⊎◌, ◌↔◌, ℕ, Bool, refl, sym, subst, ap, inl, inr, ◌∙◌}
 use Rattle.std.proofs.lemmas.Bool.{cases_eq}
-use Rattle.in_simple_bridges.specs.Ways.{Way, done, along}
+use Rattle.in_simple_bridges.specs.Walks.{EdgeWalk, done, along}
 use Rattle.in_base.specs.Graphs.{Graph}
 use Rattle.in_open_nets.specs.Constructions.{IsIn}
 use Rattle.in_open_nets.specs.Splitting.{Linked, alone, onward, Without, SplitsAt}
@@ -18,7 +18,7 @@ module _ (g : Graph) (Has : g.Node → ℕ → Type 0) (has : AreNodeClasses g H
     abbrev Touches : g.Node → Type 0
     Touches m = (i : ℕ) × (l : g.Node) × (h : ℕ) × g.Wire (n, i) (l, h) × (g.class n i ≡ c) × Linked g (Without n s) l m
 
-    -- where a way from class c of n can come to without its hub edge
+    -- where a walk from class c of n can come to without its hub edge
     abbrev Reached : Vertex g.Node → Type 0
     Reached (Hub m) = (m ≢ n) × Touches m
     Reached (Class m k) = ((m ≡ n) × (k ≡ c)) ⊎ ((m ≢ n) × Touches m)
@@ -43,22 +43,22 @@ module _ (g : Graph) (Has : g.Node → ℕ → Type 0) (has : AreNodeClasses g H
     stays (Class l k) (Hub m) e (inr r) = subst (λ z. (z ≢ n) × Touches z) e.0 r
     stays (Class l k) (Class m h) e r = subst (λ z. Reached (Class m z)) e.6 (over_wire l m e.2 e.3 e.1 e.4 (subst (λ z. Reached (Class l z)) (sym e.5) r))
 
-    leads : (u v : Vertex g.Node) → Way (Vertex g.Node) (OtherEdge g Has s n c) u v → Reached u → Reached v
+    leads : (u v : Vertex g.Node) → EdgeWalk (Vertex g.Node) (OtherEdge g Has s n c) u v → Reached u → Reached v
     leads u _ (done _) r = r
     leads u v (along _ m _ e w) r = leads m v w (stays u m e r)
 
-    no_cycle : Way (Vertex g.Node) (OtherEdge g Has s n c) (Class n c) (Hub n) → ⊥
+    no_cycle : EdgeWalk (Vertex g.Node) (OtherEdge g Has s n c) (Class n c) (Hub n) → ⊥
     no_cycle w = (leads (Class n c) (Hub n) w (inl (refl, refl))).0 refl
 
   module _ (c : ℕ) where
     -- through the hubs of other nodes
-    through : (l m : g.Node) (k h : ℕ) → Has l k → Has m h → Linked g (Without n s) l m → (v : Vertex g.Node) → Way (Vertex g.Node) (OtherEdge g Has s n c) (Class m h) v → Way (Vertex g.Node) (OtherEdge g Has s n c) (Class l k) v
+    through : (l m : g.Node) (k h : ℕ) → Has l k → Has m h → Linked g (Without n s) l m → (v : Vertex g.Node) → EdgeWalk (Vertex g.Node) (OtherEdge g Has s n c) (Class m h) v → EdgeWalk (Vertex g.Node) (OtherEdge g Has s n c) (Class l k) v
     through l _ k h a b (alone _ p) v w =
         along (Class l k) (Hub l) v (refl, (p.0, a, λ x. p.1 x.0)) (along (Hub l) (Class l h) v (refl, (p.0, b, λ x. p.1 x.0)) w)
     through l m k h a b (onward _ x _ i j p e r) v w =
         along (Class l k) (Hub l) v (refl, (p.0, a, λ x. p.1 x.0)) (along (Hub l) (Class l (g.class l i)) v (refl, (p.0, has l i (x, j) e, λ x. p.1 x.0)) (along (Class l (g.class l i)) (Class x (g.class x j)) v (p.0, (link_first g (Without n s) x m r).0, i, j, e, refl, refl) (through x m (g.class x j) h (has x j (l, i) (back (l, i) (x, j) e)) b r v w)))
 
-  home : (c d : ℕ) → Has n d → d ≢ c → Way (Vertex g.Node) (OtherEdge g Has s n c) (Class n d) (Hub n)
+  home : (c d : ℕ) → Has n d → d ≢ c → EdgeWalk (Vertex g.Node) (OtherEdge g Has s n c) (Class n d) (Hub n)
   home c d a ne = along (Class n d) (Hub n) (Hub n) (refl, (here, a, λ x. ne x.1)) (done (Hub n))
 
   splitting : HubEdgesAreBridges g Has n s → SplitsAt g n s

@@ -76,7 +76,7 @@ component_piece o P dec c part k l x y = within k l x (link_join o P dec k part.
         onward k m l i j x w (within m l ((part.2 m).1 (link_snoc o P part.0 k m i j w.0 ((part.2 k).0 x) w.1 (link_first (open_graph o) P m l q))) q)
 
 module _ (o : OpenNet) (part rest : List Bool) (n : ℕ) (left : IsRest n part rest) where
-  -- a way through the part goes through the rest, or comes by a neighbour of n
+  -- a walk through the part goes through the rest, or comes by a neighbour of n
   on_the_way : (k l : ℕ) → AreJoinedWithin o part k l → IsIn k (nodes_in rest) → IsIn l (nodes_in rest) → AreJoinedWithin o rest k l ⊎ ((p : ℕ) × IsNeighbourOf o rest n p × AreJoinedWithin o rest k p)
   on_the_way k l (alone _ h) x y = inl (alone k x)
   on_the_way k l (onward _ m _ i j h w q) x y = elim (same_nat m n) [

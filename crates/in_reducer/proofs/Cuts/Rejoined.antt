@@ -339,7 +339,7 @@ module _ (r : Body) (k : KeepsNet r) (two : 2 ≤ length r.free.items) (own : �
       cells = (b.cells, (let e = kept.cells in let f = k.few in omega (arith, e, f)), λ d. cells_at_rest t b still_net d);
     }
 
-    -- so many pairs fit the queue
+    -- the queue has room for as many pairs as `queue` has
     pub few_pairs : (queue : List (ℕ × ℕ)) → IsQueueOf t (seen b gs es) queue → length queue ≤ deque_capacity r.queue
     few_pairs queue h =
         let reducer = is_reducer queue h in

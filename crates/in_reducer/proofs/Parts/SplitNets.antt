@@ -58,7 +58,7 @@ picked_by g place n all picked h = record {
 picked_at : {X : Type 0} (place : ℕ → ℕ) (n : ℕ) (all picked : List X) → ArePicked (λ z. z) place n all picked → (e : ℕ) → e < n → slice_get picked e ≡ slice_get all (place e)
 picked_at place n all picked h e l = h.each e l ∙ map_same (slice_get all (place e))
 
--- a free end of a part is one of so many
+-- a free end is one of the `own + cuts` of the rest, or one of the `cuts` of the part
 pub few_of_two : (own cuts k i e : ℕ) → slice_get (ends_of_two own cuts) k ≡ Some (i, e) → (i < 2) × (i ≡ 0 → e < own + cuts) × (i ≡ 1 → e < cuts)
 few_of_two own cuts k i e at = elim (which_of_two own cuts k i e at) [
   | of_own l p q ↦ ((let z : i < 2 = omega (arith, p) in z), (λ f. (let z : e < own + cuts = omega (arith, l, q) in z)), (λ f. absurd (omega (arith, p, f))))

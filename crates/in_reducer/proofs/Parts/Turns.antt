@@ -1,4 +1,4 @@
--- Lists that are glued: the first so many of one list, and then by turns an element of the other and of this one.
+-- Lists that are glued: the first elements of one list, a given number of them, and then by turns an element of the other and of this one.
 use Rattle.std.proofs.Common.{◌≡◌, ◌<◌, ◌≤◌, ◌+◌, ◌-◌, ℕ, zero, suc, Option, Some, None, List, [], ◌∷◌, ◌++◌, length, map, take, drop, get_or, slice_get, refl, sym, ap, ◌∙◌, length-append, length-drop, append_assoc, arith}
 use Rattle.std.proofs.lemmas.List.{drop-map, length-map, length-take-le, map-append, map_more, take-map, take_more, take_rest}
 use Rattle.std.proofs.lemmas.Option.{same_Some}

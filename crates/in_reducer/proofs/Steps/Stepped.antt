@@ -231,7 +231,7 @@ module _ (r : Body) (k : KeepsNet r) (i : ℕ) (p : TemplateParts) (at : IsTempl
         let room = k.queue in
         omega (arith, short, one, other, cells, room)
 
-    -- so many pairs in all
+    -- no more pairs in all than the queue has room for
     pub lengths : length (remove r.queue.items i) + length made + length p.member.pairs ≤ deque_capacity r.queue
     lengths =
         let rest = remove r.queue.items i in

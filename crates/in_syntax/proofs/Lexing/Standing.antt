@@ -15,7 +15,7 @@ use Rattle.in_syntax.proofs.Lexing.PastCharacters.{past_all-at}
 use Rattle.in_syntax.proofs.Lexing.Moves.{scalars-front, scalars-rest}
 use Rattle.in_base.proofs.Each.{all_append}
 
--- a spot of a text: so many bytes stand before it
+-- a spot of a text: `s.at` bytes stand before it
 record IsSpotOf (text front cs : List ℕ) (s : Spot) : Type 0 where
   bytes : text ≡ encode_utf8_all front ++ encode_utf8_all cs
   at : s.at ≡ length (encode_utf8_all front)

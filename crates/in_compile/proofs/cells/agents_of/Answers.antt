@@ -1,7 +1,7 @@
 use Rattle.std.proofs.Common.{◌≡◌, ◌<◌, ◌≤◌, ◌+◌, length, count_by, is_some, sym, ap, ◌∙◌, arith}
 use Rattle.std.proofs.lemmas.List.{take_all}
 use Rattle.in_compile.specs.Cells.{takes}
-use Rattle.in_compile.proofs.Counting.{all_there, one_more, no_more, none_here}
+use Rattle.in_compile.proofs.Needs.Counting.{all_there, one_more, no_more, none_here}
 use Rattle.in_compile.proofs.cells.agents_of.Goals as goal
 use Rattle.in_compile.proofs.cells.agents_of.Goals.{in-Some+then-is_of, in-Some+else-is_of, in_default}
 

@@ -2,7 +2,7 @@ use Rattle.std.proofs.Common.{◌≡◌, max, length, refl, ap, ◌∙◌, arith
 use Rattle.std.proofs.lemmas.Option.{slice_get_read}
 use Rattle.in_compile.specs.declared.cells.Need.{Need}
 use Rattle.in_compile.specs.Cells.{count_of}
-use Rattle.in_compile.proofs.Most.{one_more, of_all}
+use Rattle.in_compile.proofs.Needs.Most.{one_more, of_all}
 use Rattle.in_compile.proofs.compiling.largest_need.Goals as goal
 
 pub loop-number-preserved : goal.loop-number-preserved

@@ -1,6 +1,6 @@
 use Rattle.in_arena.specs.declared.content.CellClass.{CellClass}
 use Rattle.in_compile.specs.Cells.{count_of}
-use Rattle.in_compile.proofs.Most.{IsMostBelow}
+use Rattle.in_compile.proofs.Needs.Most.{IsMostBelow}
 use Rattle.in_compile.proofs.compiling.largest_need.Given as goal
 
 abbrev pub invariant-loop-number : goal.invariant-loop-number

@@ -1,4 +1,4 @@
-use Rattle.in_compile.proofs.Back.{counted_back}
+use Rattle.in_compile.proofs.Placements.Back.{counted_back}
 use Rattle.in_compile.proofs.laws.giving_back_keeps_all.Goals as goal
 
 pub returns : goal.returns

@@ -1,4 +1,4 @@
-use Rattle.in_compile.proofs.Back.{other_stays}
+use Rattle.in_compile.proofs.Placements.Back.{other_stays}
 use Rattle.in_compile.proofs.laws.other_bags_stay.Goals as goal
 
 pub returns : goal.returns

@@ -1,4 +1,4 @@
-use Rattle.in_compile.proofs.Standing.{stands}
+use Rattle.in_compile.proofs.Placements.Standing.{stands}
 use Rattle.in_compile.proofs.laws.settled_members_stand.Goals as goal
 
 pub returns : goal.returns

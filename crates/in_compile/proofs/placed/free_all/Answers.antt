@@ -1,8 +1,8 @@
 use Rattle.std.proofs.Common.{refl, arith}
 use Rattle.std.specs.Prelude.{slice_index_or}
 use Rattle.in_arena.specs.States.{Vacant, IsLeased}
-use Rattle.in_compile.proofs.Held.{one_more_back}
-use Rattle.in_compile.proofs.AgentByAgent.{read_at}
+use Rattle.in_compile.proofs.Placements.Held.{one_more_back}
+use Rattle.in_compile.proofs.Placements.AgentByAgent.{read_at}
 use Rattle.in_compile.proofs.placed.free_all.Goals as goal
 
 pub loop-number-preserved : goal.loop-number-preserved

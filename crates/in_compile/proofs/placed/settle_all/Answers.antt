@@ -3,8 +3,8 @@ use Rattle.std.specs.Prelude.{slice_index_or}
 use Rattle.in_arena.specs.Arenas.{state_at}
 use Rattle.in_arena.specs.States.{IsLive}
 use Rattle.in_arena.proofs.Public.{live_in}
-use Rattle.in_compile.proofs.Held.{one_more_back}
-use Rattle.in_compile.proofs.AgentByAgent.{read_at}
+use Rattle.in_compile.proofs.Placements.Held.{one_more_back}
+use Rattle.in_compile.proofs.Placements.AgentByAgent.{read_at}
 use Rattle.in_compile.proofs.placed.settle_all.Goals as goal
 
 pub loop-number-preserved : goal.loop-number-preserved

@@ -1,7 +1,7 @@
 use Rattle.std.proofs.Common.{List, length, subst, vec_capacity}
 use Rattle.in_arena.specs.declared.content.CellNo.{CellNo}
 use Rattle.in_compile.specs.PlacingSteps.{AreWrittenBelow}
-use Rattle.in_compile.proofs.AgentByAgent.{placed}
+use Rattle.in_compile.proofs.Placements.AgentByAgent.{placed}
 use Rattle.in_compile.proofs.placing.place_into.Goals as goal
 
 pub returns-clause-placed : goal.returns-clause-placed

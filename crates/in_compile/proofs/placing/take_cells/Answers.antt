@@ -1,5 +1,5 @@
 use Rattle.std.proofs.Common.{◌∙◌}
-use Rattle.in_compile.proofs.AgentByAgent.{some_left, one_more_taken}
+use Rattle.in_compile.proofs.Placements.AgentByAgent.{some_left, one_more_taken}
 use Rattle.in_compile.proofs.placing.take_cells.Goals as goal
 
 pub take-cell-requires-clause-some : goal.take-cell-requires-clause-some

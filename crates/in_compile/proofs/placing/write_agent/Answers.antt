@@ -6,8 +6,8 @@ use Rattle.in_arena.specs.Classes.{Holds}
 use Rattle.in_arena.specs.declared.content.CellNo.{CellNo}
 use Rattle.in_compile.specs.declared.joints.Joint.TheVariants.{ToAgent}
 use Rattle.in_compile.specs.PlacingSteps.{IsInside, IsBeingWritten}
-use Rattle.in_compile.proofs.AgentByAgent.{read_at}
-use Rattle.in_compile.proofs.EndByEnd.{inside_of, places_are, has_place, one_more_end, all_written}
+use Rattle.in_compile.proofs.Placements.AgentByAgent.{read_at}
+use Rattle.in_compile.proofs.Placements.EndByEnd.{inside_of, places_are, has_place, one_more_end, all_written}
 use Rattle.in_compile.proofs.placing.write_agent.Goals as goal
 
 pub begin-requires-clause-is_in : goal.begin-requires-clause-is_in

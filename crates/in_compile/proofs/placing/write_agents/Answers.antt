@@ -1,7 +1,7 @@
 use Rattle.std.proofs.Common.{◌<◌, arith}
 use Rattle.std.specs.Prelude.{length, slice_index_or}
 use Rattle.in_base.proofs.Each.{at_index}
-use Rattle.in_compile.proofs.AgentByAgent.{one_more_written, read_at}
+use Rattle.in_compile.proofs.Placements.AgentByAgent.{one_more_written, read_at}
 use Rattle.in_compile.proofs.placing.write_agents.Goals as goal
 
 pub loop-agent-preserved : goal.loop-agent-preserved

@@ -4,7 +4,7 @@ use Rattle.in_arena.specs.Arenas.{ArenaView}
 use Rattle.in_arena.specs.Changes.{HasAllCells}
 use Rattle.in_arena.specs.States.{Vacant}
 use Rattle.in_compile.specs.Listing.{listed, IsListing, IsOnTheWay}
-use Rattle.in_compile.proofs.Stocked.{taken_in, rest_listed, one_back, back_too}
+use Rattle.in_compile.proofs.Placements.Stocked.{taken_in, rest_listed, one_back, back_too}
 use Rattle.in_compile.proofs.stock.give_back.Goals as goal
 
 pub loop-turn-preserved : goal.loop-turn-preserved

@@ -4,7 +4,7 @@ use Rattle.in_arena.specs.Bags.{LeasesTo}
 use Rattle.in_arena.specs.Classes.{IsNumberOf}
 use Rattle.in_arena.proofs.Public.{vacant_apart}
 use Rattle.in_compile.specs.Listing.{listed, IsListing}
-use Rattle.in_compile.proofs.Stocked.{all_stay, one_added, one_listed}
+use Rattle.in_compile.proofs.Placements.Stocked.{all_stay, one_added, one_listed}
 use Rattle.in_compile.proofs.stock.lease_more.Goals as goal
 
 pub loop-turn-preserved : goal.loop-turn-preserved

@@ -1,4 +1,4 @@
-use Rattle.in_open_nets.proofs.Graphs.ClassWays.{net_by_bridges}
+use Rattle.in_open_nets.proofs.Graphs.ClassWalks.{net_by_bridges}
 use Rattle.in_open_nets.proofs.laws.splits_by_bridges.Goals as goal
 
 pub returns : goal.returns

@@ -1,4 +1,4 @@
-use Rattle.in_open_nets.proofs.Graphs.ClassWays.{net_off_cycles}
+use Rattle.in_open_nets.proofs.Graphs.ClassWalks.{net_off_cycles}
 use Rattle.in_open_nets.proofs.laws.splits_off_cycles.Goals as goal
 
 pub returns : goal.returns

@@ -1,7 +1,7 @@
 use Rattle.std.proofs.Common.{◌∙◌, ◌<◌, sym, subst}
 use Rattle.in_open_nets.specs.Members.{nodes_in}
 use Rattle.in_open_nets.specs.ClassEdges.{vertex_in, hub_edge_in}
-use Rattle.in_open_nets.proofs.Graphs.ClassWays.{net_off_cycles}
+use Rattle.in_open_nets.proofs.Graphs.ClassWalks.{net_off_cycles}
 use Rattle.in_open_nets.proofs.Graphs.ClassEdges.{hub_edge_small, off_cycles}
 use Rattle.in_open_nets.proofs.splitting.splits.Goals as goal
 

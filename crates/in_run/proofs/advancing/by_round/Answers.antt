@@ -1,6 +1,6 @@
 use Rattle.std.proofs.Common.{ℕ, sym, subst, arith}
 use Rattle.in_reducer.specs.Runs.{Runs}
-use Rattle.in_run.proofs.OnItsWay.{runs_anyhow}
+use Rattle.in_run.proofs.StatesOfRuns.{runs_anyhow}
 use Rattle.in_run.proofs.advancing.by_round.Goals as goal
 
 pub returns : goal.returns

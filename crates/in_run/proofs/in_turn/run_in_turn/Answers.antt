@@ -2,7 +2,7 @@ use Rattle.std.proofs.Common.{ℕ, Ok, subst}
 use Rattle.in_reducer.specs.Starts.{IsStart}
 use Rattle.in_run.specs.Stops.{IsStop}
 use Rattle.in_run.proofs.OneEnd.{normal_outcomes_are_one}
-use Rattle.in_run.proofs.OnItsWay.{begins_in_turn, ends_in_turn, steps_in_turn, turns_are_allowed}
+use Rattle.in_run.proofs.StatesOfRuns.{begins_in_turn, ends_in_turn, steps_in_turn, turns_are_allowed}
 use Rattle.in_run.proofs.in_turn.run_in_turn.Goals as goal
 
 pub loop-stop-init : goal.loop-stop-init

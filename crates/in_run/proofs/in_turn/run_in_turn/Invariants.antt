@@ -1,5 +1,5 @@
 use Rattle.std.proofs.Common.{◌-◌}
-use Rattle.in_run.proofs.OnItsWay.{IsInTurn}
+use Rattle.in_run.proofs.StatesOfRuns.{IsInTurn}
 use Rattle.in_run.proofs.in_turn.run_in_turn.Given as goal
 
 abbrev pub invariant-loop-stop : goal.invariant-loop-stop

@@ -1,4 +1,4 @@
-use Rattle.in_run.proofs.OnItsWay.{turns_are_allowed as law}
+use Rattle.in_run.proofs.StatesOfRuns.{turns_are_allowed as law}
 use Rattle.in_run.proofs.laws.turns_are_allowed.Goals as goal
 
 pub returns : goal.returns

@@ -4,8 +4,8 @@ use Rattle.in_reducer.specs.Machines.{MachineParts}
 use Rattle.in_run.specs.declared.running.RunFault.TheVariants.{Memory}
 use Rattle.in_run.specs.Outcomes.{RunsTo}
 use Rattle.in_run.specs.Stops.{GoesOn, IsStop}
-use Rattle.in_run.proofs.OneEnd.{way_ended}
-use Rattle.in_run.proofs.OnItsWay.{advances_further, begins, ends_so, wants_memory}
+use Rattle.in_run.proofs.OneEnd.{state_ended}
+use Rattle.in_run.proofs.StatesOfRuns.{advances_further, begins, ends_so, wants_memory}
 use Rattle.in_run.proofs.running.run.Goals as goal
 
 pub loop-stop-init : goal.loop-stop-init
@@ -25,7 +25,7 @@ returns-in-Some-clause-runs g c =
 
 pub returns-in-Some-clause-order : goal.returns-in-Some-clause-order
 returns-in-Some-clause-order g c = λ normal.
-    way_ended c.args.checked.now c.args.limits c.loop-stop.machine c.loop-stop.interactions c.loop-stop.invariant _ c.in-Some.stop (c.in-Some.ensures {u = tt}) normal
+    state_ended c.args.checked.now c.args.limits c.loop-stop.machine c.loop-stop.interactions c.loop-stop.invariant _ c.in-Some.stop (c.in-Some.ensures {u = tt}) normal
 
 pub returns-in-Err-done-clause-runs : goal.returns-in-Err-done-clause-runs
 returns-in-Err-done-clause-runs g c =

@@ -1,9 +1,9 @@
 use Rattle.std.proofs.Common.{◌-◌}
-use Rattle.in_run.proofs.OnItsWay.{IsOnItsWay}
+use Rattle.in_run.proofs.StatesOfRuns.{IsStateOfRun}
 use Rattle.in_run.proofs.running.run.Given as goal
 
 abbrev pub invariant-loop-stop : goal.invariant-loop-stop
-invariant-loop-stop g l = IsOnItsWay l.checked l.limits l.interactions l.machine
+invariant-loop-stop g l = IsStateOfRun l.checked l.limits l.interactions l.machine
 
 abbrev pub decreases-loop-stop : goal.decreases-loop-stop
 decreases-loop-stop g l = l.limits.limit - l.interactions

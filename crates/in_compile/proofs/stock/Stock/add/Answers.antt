@@ -6,7 +6,7 @@ use Rattle.in_compile.specs.declared.cells.Need.{Need}
 use Rattle.in_compile.specs.Cells.{count_of}
 use Rattle.in_compile.specs.Listing.{of_class}
 use Rattle.in_compile.specs.Stocks.{StockParts, Adds, HasRoom}
-use Rattle.in_compile.proofs.Stocked.{added_too}
+use Rattle.in_compile.proofs.Placements.Stocked.{added_too}
 use Rattle.in_compile.proofs.stock.Stock.add.Goals as goal
 
 pub lease_more-requires-clause-free : goal.lease_more-requires-clause-free

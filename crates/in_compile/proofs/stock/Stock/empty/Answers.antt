@@ -1,7 +1,7 @@
 use Rattle.std.proofs.Common.{sym, subst}
 use Rattle.in_arena.specs.Arenas.{ArenaView}
 use Rattle.in_compile.specs.Listing.{listed, IsListing}
-use Rattle.in_compile.proofs.Stocked.{empty_listed}
+use Rattle.in_compile.proofs.Placements.Stocked.{empty_listed}
 use Rattle.in_compile.proofs.stock.Stock.empty.Goals as goal
 
 pub invariant_of-result : goal.invariant_of-result

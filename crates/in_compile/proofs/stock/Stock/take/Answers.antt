@@ -6,8 +6,8 @@ use Rattle.in_compile.specs.declared.cells.Need.{Need}
 use Rattle.in_compile.specs.Listing.{listed, room_of, IsListing}
 use Rattle.in_compile.specs.PlacingSteps.{TakesOne}
 use Rattle.in_compile.specs.Stocks.{StockParts}
-use Rattle.in_compile.proofs.AgentByAgent.{one_taken}
-use Rattle.in_compile.proofs.Stocked.{rest_listed, taken_at}
+use Rattle.in_compile.proofs.Placements.AgentByAgent.{one_taken}
+use Rattle.in_compile.proofs.Placements.Stocked.{rest_listed, taken_at}
 use Rattle.in_compile.proofs.stock.Stock.take.Goals as goal
 
 pub invariant_of-self : goal.invariant_of-self

@@ -39,7 +39,7 @@ move_cells-requires-clause-closed c =
     before.closed c.args.self.now c.requires.kept.all.net c.args.agents.now c.args.own c.args.cuts c.requires.can
     (length c.as_slice-3.result.now) (ap length c.as_slice-3.ensures.value ∙ c.requires.taken.part_numbers.count)
 
--- so many ends of the list
+-- the first `own + 2 * cuts` ends of the list
 first_ends : (own cuts : ℕ) (xs ys : List End) → xs ≡ ys → take (own + 2 * cuts) xs ≡ take (own + (cuts + cuts)) ys
 first_ends own cuts xs ys e = ap (take (own + 2 * cuts)) e ∙ ap (λ (z : ℕ). take z ys) (let z : own + 2 * cuts ≡ own + (cuts + cuts) = omega arith in z)
 

@@ -15,7 +15,7 @@ use Rattle.in_arena.proofs.Public.{vacant_inside, leased_or, empty_is_of, stays}
 use Rattle.in_compile.specs.declared.cells.Need.{Need}
 use Rattle.in_compile.specs.Placing.{PlacedParts, AreCellsOf, TakesCells}
 use Rattle.in_compile.specs.Stocks.{StockParts, Adds, Regains, IsStockOf, with_all}
-use Rattle.in_compile.proofs.Stocked.{not_leased, count_all, cells_all, memory_all, none_in_empty}
+use Rattle.in_compile.proofs.Placements.Stocked.{not_leased, count_all, cells_all, memory_all, none_in_empty}
 
 -- ---- among some cells
 

@@ -12,7 +12,7 @@ use Rattle.in_arena.proofs.Public.{leased_or, stays}
 use Rattle.in_compile.specs.Placing.{AreCellsOf, HasNoCell}
 use Rattle.in_compile.specs.PlacingSteps.{AreOnTheWay}
 use Rattle.in_compile.specs.Stocks.{Regains}
-use Rattle.in_compile.proofs.Stocked.{in_range, not_leased, one_back, back_too, all_back}
+use Rattle.in_compile.proofs.Placements.Stocked.{in_range, not_leased, one_back, back_too, all_back}
 
 module _ (b : ArenaView) (ns : List CellNo) (n : CellNo) (y : State) (h : AreCellsOf b ns) (live : IsLeased y → ⊥) where
   abbrev b' : ArenaView

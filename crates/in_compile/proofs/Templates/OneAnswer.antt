@@ -13,9 +13,9 @@ use Rattle.in_compile.specs.declared.cells.Need.{Need}
 use Rattle.in_compile.specs.Cells.{count_of}
 use Rattle.in_compile.specs.Laws.{AreAlike}
 use Rattle.in_compile.specs.Templates.{TemplateParts, TemplatesParts, IsMost, IsLargestNeed, AreTemplatesOf}
-use Rattle.in_compile.proofs.Classes.{same_need}
-use Rattle.in_compile.proofs.Most.{NeedsIt}
-use Rattle.in_compile.proofs.OneTemplate.{one_member, one_template}
+use Rattle.in_compile.proofs.Needs.Classes.{same_need}
+use Rattle.in_compile.proofs.Needs.Most.{NeedsIt}
+use Rattle.in_compile.proofs.Templates.OneTemplate.{one_member, one_template}
 
 -- ---- the largest need
 

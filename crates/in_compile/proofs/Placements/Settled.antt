@@ -11,8 +11,8 @@ use Rattle.in_arena.proofs.Public.{vacant_inside, empty_is_of}
 use Rattle.in_compile.specs.declared.cells.Need.{Need}
 use Rattle.in_compile.specs.Placing.{PlacedParts, AreCellsOf, TakesCells}
 use Rattle.in_compile.specs.Stocks.{StockParts, Adds, Regains, with_all}
-use Rattle.in_compile.proofs.Back.{one_or_same, one_of_all}
-use Rattle.in_compile.proofs.Stocked.{count_all, cells_all, memory_all, none_in_empty}
+use Rattle.in_compile.proofs.Placements.Back.{one_or_same, one_of_all}
+use Rattle.in_compile.proofs.Placements.Stocked.{count_all, cells_all, memory_all, none_in_empty}
 
 module _ (count : CellClass → ℕ) (a a1 : ArenaView) (s : StockParts) (all : HasAllCells a) (adds : Adds count a (empty_bag a) a1 s.bag) where
   -- a cell was free and is the stock's, or is as it was

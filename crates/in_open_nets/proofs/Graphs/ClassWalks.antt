@@ -1,9 +1,9 @@
--- Ways of a class graph, by vertices and by numbers.
+-- Walks of a class graph, by vertices and by numbers.
 use Rattle.std.proofs.Common.{◌≡◌, ◌≢◌, ◌⊎◌, ◌↔◌, ◌<◌, ◌≤◌, ℕ, suc, Bool, List, Option, Some, None, IsSomeAnd, length, get_or, arith, refl, sym, subst, ap, inl, inr, ◌∙◌}
 use Rattle.std.specs.Prelude.{slice_get}
 use Rattle.std.proofs.lemmas.Bool.{cases_eq}
-use Rattle.in_simple_bridges.specs.Ways.{Way, done, along, HasTwoEnds, Other, IsOnCycle}
-use Rattle.in_simple_bridges.proofs.Public.{way_back, joins_same, other_back, pair_same}
+use Rattle.in_simple_bridges.specs.Walks.{EdgeWalk, done, along, HasTwoEnds, Other, IsOnCycle}
+use Rattle.in_simple_bridges.proofs.Public.{walk_turned, joins_same, other_back, pair_same}
 use Rattle.in_base.specs.Graphs.{Graph}
 use Rattle.in_open_nets.specs.Constructions.{IsIn}
 use Rattle.in_open_nets.specs.Splitting.{SplitsAt}
@@ -61,9 +61,9 @@ module _ (g : Graph) (Has : g.Node → ℕ → Type 0) (has : AreNodeClasses g H
       let j : HasTwoEnds es t.0 (number (Class l k)) (number (Class m h)) = subst (λ z. HasTwoEnds es t.0 (number (Class l z)) (number (Class m h))) e.5 (subst (λ z. HasTwoEnds es t.0 (number (Class l (g.class l e.2))) (number (Class m z))) e.6 t.1) in
       ((t.0, wire_other t.0 l m k h e.0 e.1 hk hh j, j), (e.1, hh))
 
-  way_forth : (u v : Vertex g.Node) → Way (Vertex g.Node) E u v → Way ℕ O (number u) (number v)
-  way_forth u _ (done _) = done (number u)
-  way_forth u v (along _ w _ e r) = along (number u) (number w) (number v) (edge_forth u w e).0 (way_forth w v r)
+  walk_forth : (u v : Vertex g.Node) → EdgeWalk (Vertex g.Node) E u v → EdgeWalk ℕ O (number u) (number v)
+  walk_forth u _ (done _) = done (number u)
+  walk_forth u v (along _ w _ e r) = along (number u) (number w) (number v) (edge_forth u w e).0 (walk_forth w v r)
 
   -- an edge by numbers is one of the class graph
   abbrev Next : Vertex g.Node → ℕ → Type 0
@@ -92,19 +92,19 @@ module _ (g : Graph) (Has : g.Node → ℕ → Type 0) (has : AreNodeClasses g H
       let t = pair_back k b a ne h in
       (t.0, t.2, t.4, subst (λ z. E z t.0) (c.apart t.1 u t.3 hu (t.5 ∙ sym e)) t.7)
 
-  way_back_by : (a b : ℕ) → Way ℕ O a b → (u v : Vertex g.Node) → IsVertex g Has s u → IsVertex g Has s v → number u ≡ a → number v ≡ b → Way (Vertex g.Node) E u v
-  way_back_by a _ (done _) u v hu hv eu ev = subst (Way (Vertex g.Node) E u) (c.apart u v hu hv (eu ∙ sym ev)) (done u)
-  way_back_by a b (along _ w _ o r) u v hu hv eu ev =
+  walk_back_by : (a b : ℕ) → EdgeWalk ℕ O a b → (u v : Vertex g.Node) → IsVertex g Has s u → IsVertex g Has s v → number u ≡ a → number v ≡ b → EdgeWalk (Vertex g.Node) E u v
+  walk_back_by a _ (done _) u v hu hv eu ev = subst (EdgeWalk (Vertex g.Node) E u) (c.apart u v hu hv (eu ∙ sym ev)) (done u)
+  walk_back_by a b (along _ w _ o r) u v hu hv eu ev =
       let t = edge_back u a w hu eu o in
-      along u t.0 v t.3 (way_back_by w b r t.0 v t.1 hv t.2 ev)
+      along u t.0 v t.3 (walk_back_by w b r t.0 v t.1 hv t.2 ev)
 
-  pub cycle_of : Way (Vertex g.Node) E (Class n x) (Hub n) → IsOnCycle es (hub_edge n x)
-  cycle_of w = (number (Hub n), number (Class n x), c.hub n x here hx, way_back ℕ O (other_back es (hub_edge n x)) (number (Class n x)) (number (Hub n)) (way_forth (Class n x) (Hub n) w))
+  pub cycle_of : EdgeWalk (Vertex g.Node) E (Class n x) (Hub n) → IsOnCycle es (hub_edge n x)
+  cycle_of w = (number (Hub n), number (Class n x), c.hub n x here hx, walk_turned ℕ O (other_back es (hub_edge n x)) (number (Class n x)) (number (Hub n)) (walk_forth (Class n x) (Hub n) w))
 
-  pub of_cycle : IsOnCycle es (hub_edge n x) → Way (Vertex g.Node) E (Class n x) (Hub n)
+  pub of_cycle : IsOnCycle es (hub_edge n x) → EdgeWalk (Vertex g.Node) E (Class n x) (Hub n)
   of_cycle r =
       let p = pair_same (slice_get es (hub_edge n x)) r.0 r.1 (number (Hub n)) (number (Class n x)) r.2 (c.hub n x here hx) in
-      way_back_by r.1 r.0 (way_back ℕ O (other_back es (hub_edge n x)) r.0 r.1 r.3) (Class n x) (Hub n) (here, hx) here (sym p.1) (sym p.0)
+      walk_back_by r.1 r.0 (walk_turned ℕ O (other_back es (hub_edge n x)) r.0 r.1 r.3) (Class n x) (Hub n) (here, hx) here (sym p.1) (sym p.0)
 
 pub splits_off_cycles : (g : Graph) (Has : g.Node → ℕ → Type 0) → AreNodeClasses g Has → ((m n : g.Node) → (m ≡ n) ⊎ (m ≡ n → ⊥)) → (back : (u v : g.Node × ℕ) → g.Wire u v → g.Wire v u) → (s : g.Node → Bool) (number : Vertex g.Node → ℕ) (hub_edge : g.Node → ℕ → ℕ) (es : List (ℕ × ℕ)) → IsClassGraph g Has s number hub_edge es → (n : g.Node) → IsIn n s → SplitsAt g n s ↔ HubEdgesAreOffCycles g Has hub_edge es n
 splits_off_cycles g Has has same back s number hub_edge es c n here =

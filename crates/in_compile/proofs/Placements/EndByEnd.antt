@@ -14,8 +14,8 @@ use Rattle.in_compile.specs.declared.joints.Joint.TheVariants.{ToAgent, ToBounda
 use Rattle.in_compile.specs.Members.{AgentParts, MemberParts, joint_at, places_at, IsSoundMember}
 use Rattle.in_compile.specs.Placing.{end_in, content}
 use Rattle.in_compile.specs.PlacingSteps.{IsBeingWritten, IsInside}
-use Rattle.in_compile.proofs.Stocked.{in_range}
-use Rattle.in_compile.proofs.Taken.{mapped_more}
+use Rattle.in_compile.proofs.Placements.Stocked.{in_range}
+use Rattle.in_compile.proofs.Templates.Taken.{mapped_more}
 
 -- a joint leads to an agent that is there
 module _ (m : MemberParts) (sound : IsSoundMember m) where

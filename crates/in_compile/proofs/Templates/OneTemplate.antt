@@ -22,7 +22,7 @@ use Rattle.in_compile.specs.Cells.{is_of}
 use Rattle.in_compile.specs.Members.{AgentParts, MemberParts, IsMemberOf}
 use Rattle.in_compile.specs.Templates.{TemplateParts, HasHeads, IsTemplateOf, TemplatesParts, template_at, AreTemplatesOf}
 use Rattle.in_compile.specs.Laws.{HasOneTemplate}
-use Rattle.in_compile.proofs.Classes.{same_need}
+use Rattle.in_compile.proofs.Needs.Classes.{same_need}
 
 -- ---- one class
 

@@ -22,8 +22,8 @@ use Rattle.in_compile.specs.Members.{AgentParts, MemberParts, has_class, class_a
 use Rattle.in_compile.specs.Placing.{content, IsPlacedMember}
 use Rattle.in_compile.specs.PlacingSteps.{TakesOne, AreTakenBelow, AreWrittenBelow}
 use Rattle.in_compile.specs.Stocks.{StockParts, held, with_all}
-use Rattle.in_compile.proofs.Held.{cell_changed, cell_put}
-use Rattle.in_compile.proofs.Stocked.{of_itself, same_or_other, in_range, not_leased, with_all-append, was_vacant, taken_at, fewer}
+use Rattle.in_compile.proofs.Placements.Held.{cell_changed, cell_put}
+use Rattle.in_compile.proofs.Placements.Stocked.{of_itself, same_or_other, in_range, not_leased, with_all-append, was_vacant, taken_at, fewer}
 
 -- ---- the same for one cell more
 

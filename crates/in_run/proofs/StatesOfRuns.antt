@@ -20,8 +20,8 @@ use Rattle.in_reducer.specs.Runs.{Runs, at_start, then_step}
 use Rattle.in_reducer.specs.Steps.{StepsAt}
 use Rattle.in_rounds.proofs.Public.{joined, machine_on, start_machine, start_reached}
 
--- so many interactions of a program's run within these limits
-pub record IsOnItsWay (p : Program) (l : Limits) (k : ℕ) (m : MachineParts) : Type 0 where
+-- k interactions of a program's run within these limits
+pub record IsStateOfRun (p : Program) (l : Limits) (k : ℕ) (m : MachineParts) : Type 0 where
   pub start : MachineParts
   pub starts : IsStart p l.cells start
   pub reaches : ReachesWith p l.cells k m
@@ -81,7 +81,7 @@ module _ (text : List ℕ) (p : Program) (l : Limits) (accepted : IsAccepted tex
     reached = start_reached text p accepted l.cells m h;
   }
 
-  pub begins : IsOnItsWay p l 0 m
+  pub begins : IsStateOfRun p l 0 m
   begins = record { start = m; starts = h; reaches = at_first; in_turn = λ _. at_start m; within = omega arith }
 
   pub reaches_in_turn : (k : ℕ) (n : MachineParts) → Runs m k n → ReachesWith p l.cells k n
@@ -94,9 +94,9 @@ turns_are_allowed text p l (Err (Memory m k)) accepted h = ((reaches_in_turn tex
 
 -- ---- further on
 
-module _ (p : Program) (l : Limits) (k : ℕ) (m : MachineParts) (h : IsOnItsWay p l k m) where
+module _ (p : Program) (l : Limits) (k : ℕ) (m : MachineParts) (h : IsStateOfRun p l k m) where
   -- more interactions in any order, and in turn where there is one worker
-  runs_further : (n : MachineParts) (j : ℕ) → RunsAnyhow m j n → (l.workers ≡ 1 → Runs m j n) → j + k ≤ l.limit → IsOnItsWay p l (j + k) n
+  runs_further : (n : MachineParts) (j : ℕ) → RunsAnyhow m j n → (l.workers ≡ 1 → Runs m j n) → j + k ≤ l.limit → IsStateOfRun p l (j + k) n
   runs_further n j run turn fits = record {
     start = h.start;
     starts = h.starts;
@@ -105,8 +105,8 @@ module _ (p : Program) (l : Limits) (k : ℕ) (m : MachineParts) (h : IsOnItsWay
     within = fits;
   }
 
-  pub advances_further : (n : MachineParts) (j : ℕ) → RunsAnyhow m j n → (l.workers ≡ 1 → Runs m j n) → j + k ≤ l.limit → IsOnItsWay p l (k + j) n
-  advances_further n j run turn fits = subst (λ i. IsOnItsWay p l i n) (let z : j + k ≡ k + j = omega arith in z) (runs_further n j run turn fits)
+  pub advances_further : (n : MachineParts) (j : ℕ) → RunsAnyhow m j n → (l.workers ≡ 1 → Runs m j n) → j + k ≤ l.limit → IsStateOfRun p l (k + j) n
+  advances_further n j run turn fits = subst (λ i. IsStateOfRun p l i n) (let z : j + k ≡ k + j = omega arith in z) (runs_further n j run turn fits)
 
   -- ---- its outcome
 

@@ -7,11 +7,11 @@ use Rattle.in_compile.specs.Cells.{count_of}
 use Rattle.in_compile.specs.Templates.{TemplateParts, IsMost}
 
 module _ (templates : List TemplateParts) (c : CellClass) where
-  -- some template needs so much
+  -- some template needs `most`
   abbrev pub NeedsIt : ℕ → Type 0
   NeedsIt most = (k : ℕ) × (p : TemplateParts) × (slice_get templates k ≡ Some p) × (count_of p.member.need c ≡ most)
 
-  -- of the first so many templates
+  -- of the first x templates
   pub record IsMostBelow (x most : ℕ) : Type 0 where
     pub least : (k : ℕ) (p : TemplateParts) → k < x → slice_get templates k ≡ Some p → count_of p.member.need c ≤ most
     pub some : ((x ≡ 0) × (most ≡ 0)) ⊎ NeedsIt most

@@ -1,0 +1,8 @@
+-- Members placed in cells of a stock, and what goes back.
+pub mod AgentByAgent
+pub mod Back
+pub mod EndByEnd
+pub mod Held
+pub mod Settled
+pub mod Standing
+pub mod Stocked
