@@ -1,4 +1,4 @@
+pub mod Compiled
 pub mod Needs
 pub mod Placements
 pub mod Public
-pub mod Templates

@@ -1,13 +1,13 @@
 -- The lemmas that proofs of other crates cite. They import this module alone, so all others may be renamed and cut anew.
-pub use Rattle.in_compile.proofs.Templates.Accepted.{complete, whole_rule}
+pub use Rattle.in_compile.proofs.Compiled.Accepted.{complete, whole_rule}
 pub use Rattle.in_compile.proofs.Placements.AgentByAgent.{read_at}
 pub use Rattle.in_compile.proofs.Placements.Back.{all_back, both_back, one_of_all, one_or_same, other_stays, shared_out}
 pub use Rattle.in_compile.proofs.Needs.Classes.{one_short, same_need, short_needed}
 pub use Rattle.in_compile.proofs.Placements.EndByEnd.{inside_of}
-pub use Rattle.in_compile.proofs.Templates.OneTemplate.{has_template, held, one_class, one_for}
+pub use Rattle.in_compile.proofs.Compiled.OneTemplate.{has_template, held, one_class, one_for}
 pub use Rattle.in_compile.proofs.Placements.Settled.{settled}
-pub use Rattle.in_compile.proofs.Templates.Sound.{few_agents, joints_many, sound}
+pub use Rattle.in_compile.proofs.Compiled.Sound.{few_agents, joints_many, sound}
 pub use Rattle.in_compile.proofs.Placements.Stocked.{all_stay, cells_all, count_all, memory_all, none_in_empty}
-pub use Rattle.in_compile.proofs.Templates.Taken.{mapped_more}
-pub use Rattle.in_compile.proofs.Templates.Accepted
-pub use Rattle.in_compile.proofs.Templates.Sound
+pub use Rattle.in_compile.proofs.Compiled.Taken.{mapped_more}
+pub use Rattle.in_compile.proofs.Compiled.Accepted
+pub use Rattle.in_compile.proofs.Compiled.Sound

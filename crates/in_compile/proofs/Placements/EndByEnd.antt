@@ -15,7 +15,7 @@ use Rattle.in_compile.specs.Members.{AgentParts, MemberParts, joint_at, places_a
 use Rattle.in_compile.specs.Placing.{end_in, content}
 use Rattle.in_compile.specs.PlacingSteps.{IsBeingWritten, IsInside}
 use Rattle.in_compile.proofs.Placements.Stocked.{in_range}
-use Rattle.in_compile.proofs.Templates.Taken.{mapped_more}
+use Rattle.in_compile.proofs.Compiled.Taken.{mapped_more}
 
 -- a joint leads to an agent that is there
 module _ (m : MemberParts) (sound : IsSoundMember m) where

@@ -1,8 +1,8 @@
 use Rattle.std.proofs.Common.{◌≡◌, ◌<◌, length, ap, subst, ◌∙◌, arith}
 use Rattle.in_symbols.specs.declared.symbols.SymbolNo.{SymbolNo}
 use Rattle.in_cover.specs.Covering.{HoldsBelow, Sets}
-use Rattle.in_compile.proofs.Templates.Accepted.{complete, rule_over}
-use Rattle.in_compile.proofs.Templates.Numbers.{one_rule_more, table_of}
+use Rattle.in_compile.proofs.Compiled.Accepted.{complete, rule_over}
+use Rattle.in_compile.proofs.Compiled.Numbers.{one_rule_more, table_of}
 use Rattle.in_compile.proofs.compiling.numbers_of.Goals as goal
 
 pub set-requires-clause-first : goal.set-requires-clause-first

@@ -4,7 +4,7 @@ use Rattle.in_net.specs.Built.{IsOver}
 use Rattle.in_net.specs.NetFaults.{max_agents}
 use Rattle.in_net.specs.Parts.{Parts}
 use Rattle.in_open_nets_of_programs.specs.Opening.{AreAllThere}
-use Rattle.in_compile.proofs.Templates.Accepted.{net_over, net_there, net_few}
+use Rattle.in_compile.proofs.Compiled.Accepted.{net_over, net_there, net_few}
 use Rattle.in_compile.proofs.compiling.start_of.Goals as goal
 
 pub member_of-requires-clause-over : goal.member_of-requires-clause-over

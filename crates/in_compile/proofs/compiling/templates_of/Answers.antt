@@ -3,8 +3,8 @@ use Rattle.in_symbols.specs.Tables.{Tables}
 use Rattle.in_net.specs.Rules.{IsRuleOver}
 use Rattle.in_open_nets_of_programs.specs.OpeningRules.{IsRuleWhole}
 use Rattle.in_compile.specs.Templates.{IsTemplateOf}
-use Rattle.in_compile.proofs.Templates.Accepted.{rule_over, whole_rule}
-use Rattle.in_compile.proofs.Templates.Made.{one_more}
+use Rattle.in_compile.proofs.Compiled.Accepted.{rule_over, whole_rule}
+use Rattle.in_compile.proofs.Compiled.Made.{one_more}
 use Rattle.in_compile.proofs.compiling.templates_of.Goals as goal
 
 pub template-requires-clause-over : goal.template-requires-clause-over

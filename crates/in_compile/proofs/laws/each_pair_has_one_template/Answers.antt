@@ -1,5 +1,5 @@
-use Rattle.in_compile.proofs.Templates.Accepted.{complete}
-use Rattle.in_compile.proofs.Templates.OneTemplate.{one_for}
+use Rattle.in_compile.proofs.Compiled.Accepted.{complete}
+use Rattle.in_compile.proofs.Compiled.OneTemplate.{one_for}
 use Rattle.in_compile.proofs.laws.each_pair_has_one_template.Goals as goal
 
 pub returns : goal.returns

@@ -1,4 +1,4 @@
-use Rattle.in_compile.proofs.Templates.OneTemplate.{one_member}
+use Rattle.in_compile.proofs.Compiled.OneTemplate.{one_member}
 use Rattle.in_compile.proofs.laws.members_are_one.Goals as goal
 
 pub returns : goal.returns

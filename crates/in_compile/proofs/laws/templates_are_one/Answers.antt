@@ -1,4 +1,4 @@
-use Rattle.in_compile.proofs.Templates.OneTemplate.{one_template}
+use Rattle.in_compile.proofs.Compiled.OneTemplate.{one_template}
 use Rattle.in_compile.proofs.laws.templates_are_one.Goals as goal
 
 pub returns : goal.returns

@@ -7,8 +7,8 @@ use Rattle.in_net.specs.Parts.{cell_in}
 use Rattle.in_compile.specs.declared.joints.Joint.{Joint}
 use Rattle.in_compile.specs.declared.member.MemberAgent.{MemberAgent}
 use Rattle.in_compile.specs.Storing.{AreLaidBelow}
-use Rattle.in_compile.proofs.Templates.Laid.{one_laid}
-use Rattle.in_compile.proofs.Templates.Narrow.{narrow_ends}
+use Rattle.in_compile.proofs.Compiled.Laid.{one_laid}
+use Rattle.in_compile.proofs.Compiled.Narrow.{narrow_ends}
 use Rattle.in_compile.proofs.members.add_agents.Goals as goal
 use Rattle.in_compile.proofs.members.add_agents.Goals.{in-Some+in_ok-add_agent, in_default}
 

@@ -6,8 +6,8 @@ use Rattle.in_net.specs.declared.nets.FreeEnd.{FreeEnd}
 use Rattle.in_net.specs.declared.nets.Point.TheVariants.{Free}
 use Rattle.in_compile.specs.declared.joints.Joint.{Joint}
 use Rattle.in_compile.specs.Members.{joint_of}
-use Rattle.in_compile.proofs.Templates.Narrow.{narrow}
-use Rattle.in_compile.proofs.Templates.Taken.{mapped_more}
+use Rattle.in_compile.proofs.Compiled.Narrow.{narrow}
+use Rattle.in_compile.proofs.Compiled.Taken.{mapped_more}
 use Rattle.in_compile.proofs.members.boundary_joints.Goals as goal
 
 pub of-requires : goal.of-requires

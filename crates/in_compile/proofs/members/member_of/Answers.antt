@@ -1,7 +1,7 @@
 use Rattle.std.proofs.Common.{arith}
-use Rattle.in_compile.proofs.Templates.Made.{made}
-use Rattle.in_compile.proofs.Templates.Laid.{ends_within}
-use Rattle.in_compile.proofs.Templates.Sound.{sound}
+use Rattle.in_compile.proofs.Compiled.Made.{made}
+use Rattle.in_compile.proofs.Compiled.Laid.{ends_within}
+use Rattle.in_compile.proofs.Compiled.Sound.{sound}
 use Rattle.in_compile.proofs.members.member_of.Goals as goal
 
 pub returns : goal.returns

@@ -4,7 +4,7 @@ use Rattle.in_symbols.specs.Tables.{arity_of}
 use Rattle.in_net.specs.NetFaults.{max_member_agents}
 use Rattle.in_net.specs.Parts.{Parts}
 use Rattle.in_compile.specs.Members.{IsMemberOf}
-use Rattle.in_compile.proofs.Templates.Sound.{few_agents, joints_many}
+use Rattle.in_compile.proofs.Compiled.Sound.{few_agents, joints_many}
 use Rattle.in_compile.proofs.members.template.Goals as goal
 
 pub invariant_of-result : goal.invariant_of-result

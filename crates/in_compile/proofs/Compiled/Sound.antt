@@ -23,8 +23,8 @@ use Rattle.in_compile.specs.declared.joints.Joint.{Joint}
 use Rattle.in_compile.specs.declared.joints.Joint.TheVariants.{ToAgent, ToBoundary}
 use Rattle.in_compile.specs.Cells.{is_of, takes, count_of}
 use Rattle.in_compile.specs.Members.{AgentParts, MemberParts, joint_of, joint_at, has_class, IsMemberOf, IsSoundMember}
-use Rattle.in_compile.proofs.Templates.Laid.{end_joint}
-use Rattle.in_compile.proofs.Templates.OneTemplate.{held, one_class}
+use Rattle.in_compile.proofs.Compiled.Laid.{end_joint}
+use Rattle.in_compile.proofs.Compiled.OneTemplate.{held, one_class}
 
 -- ---- points and joints are the same
 

@@ -15,7 +15,7 @@ use Rattle.in_compile.specs.Laws.{AreAlike}
 use Rattle.in_compile.specs.Templates.{TemplateParts, TemplatesParts, IsMost, IsLargestNeed, AreTemplatesOf}
 use Rattle.in_compile.proofs.Needs.Classes.{same_need}
 use Rattle.in_compile.proofs.Needs.Most.{NeedsIt}
-use Rattle.in_compile.proofs.Templates.OneTemplate.{one_member, one_template}
+use Rattle.in_compile.proofs.Compiled.OneTemplate.{one_member, one_template}
 
 -- ---- the largest need
 

@@ -16,7 +16,7 @@ use Rattle.in_compile.specs.Cells.{IsNeedOf}
 use Rattle.in_compile.specs.Storing.{agents_from, AreLaidBelow}
 use Rattle.in_compile.specs.Members.{joint_of, joint_at, IsMemberOf}
 use Rattle.in_compile.specs.Templates.{TemplateParts, IsTemplateOf, HaveFirst}
-use Rattle.in_compile.proofs.Templates.Laid.{symbols_are, classes_are, ends_are, boundary_is}
+use Rattle.in_compile.proofs.Compiled.Laid.{symbols_are, classes_are, ends_are, boundary_is}
 
 module _ (t : Tables) (n : Parts) (agents : List MemberAgent) (joints : List Joint) (pairs : List (ℕ × ℕ)) (need : Need) (boundary : ℕ) where
   module _ (laid : AreLaidBelow t n (length n.cells) agents joints) (ends : boundary ≡ length n.free) (queue : IsFirstQueue t n pairs) (counts : IsNeedOf t n.cells need) where
