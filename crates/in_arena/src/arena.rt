@@ -15,7 +15,7 @@ use crate::regions::{Regions, place_of};
 use std::alloc::{AllocError, Global};
 use std::marker::Model;
 
-/// Cells in raw memory, as many of each class, numbered class by class from 0. Contracts see what each cell is,
+/// Cells in raw memory, the same number of each class, numbered class by class from 0. Contracts see what each cell is,
 /// by its number: free, leased, or live with a symbol word and its ends. It is dropped only while no cell is on lease.
 pub struct Arena {
     regions: Regions,

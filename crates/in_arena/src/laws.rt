@@ -34,7 +34,7 @@ pub fn lease_takes_one()
     ensures { LeaseTakesOne }
 {}
 
-/// A change of a cell leaves as many cells of each class.
+/// A change of a cell leaves the number of cells of each class.
 pub fn all_cells_stay()
     ensures { AllCellsStay }
 {}

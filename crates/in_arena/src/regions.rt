@@ -12,7 +12,7 @@ use crate::content::{CellClass, CellNo, End, SymbolWord};
 use crate::region::{Held, Region, Sack};
 use std::alloc::{AllocError, Global};
 
-// As many cells of each class. That a class has a region of its width is said in this file and nowhere else.
+// The same number of cells of each class. That a class has a region of its width is said in this file and nowhere else.
 pub struct Regions {
     small: Region<3>,
     large: Region<9>,

@@ -87,7 +87,7 @@ impl Stock {
         })
     }
 
-    /// Leases as many more cells of each class as are needed. They have to be free and to fit the room, with those that it holds; it has to be
+    /// Leases as many more cells of each class as `need` says. They have to be free and to fit the room, with those that it holds; it has to be
     /// of this arena. It takes no memory.
     pub fn add(&mut self, arena: &mut Arena, need: Need)
         requires of { IsStockOf self.old arena.old }
@@ -102,7 +102,7 @@ impl Stock {
         lease_more(lists, bag, arena, CellClass::Wide, need.wide);
     }
 
-    /// A stock of as many cells of each class as are needed, which is its room too. They have to be free. Refused only when out of memory, and
+    /// A stock of as many cells of each class as `need` says, which is its room too. They have to be free. Refused only when out of memory, and
     /// then the arena is as it was.
     pub fn fill(alloc: Global, arena: &mut Arena, need: Need) -> Result<Stock, AllocError>
         requires { IsEnough (count_of need) (free_of arena.old) }
@@ -114,7 +114,7 @@ impl Stock {
         Ok(stock)
     }
 
-    /// Whether it holds as many cells of each class as are needed. It takes no memory.
+    /// Whether it holds as many cells of each class as `need` says. It takes no memory.
     pub fn holds(&self, need: Need) -> bool
         ensures { IsTrue result ↔ IsEnough (count_of need) (held self.now) }
     {
