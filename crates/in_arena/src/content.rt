@@ -1,6 +1,7 @@
 // What stands in a cell.
-ghost use Rattle.std.specs.Prelude.{◌≡◌, replicate};
-ghost use Rattle.in_arena.specs.Classes.{class_no, width, least, holds};
+ghost use Rattle.std.specs.Prelude.{◌≡◌, ◌≤◌, replicate};
+ghost use Rattle.in_arena.specs.Classes.{Holds, class_no, width, least, holds};
+ghost use Rattle.in_arena.specs.declared.content.CellClass.TheVariants.{Wide};
 ghost use Rattle.in_arena.specs.Contents.{end_of};
 
 /// The number of a cell in its arena.
@@ -37,6 +38,21 @@ impl CellClass {
             CellClass::Small => 0,
             CellClass::Large => 1,
             CellClass::Wide => 2,
+        }
+    }
+
+    /// The class of cells that are for that many ends, 1 to 17, the principal port's among them.
+    pub fn for_places(places: u8) -> CellClass
+        requires some { 1 ≤ places }
+        requires few { places ≤ width Wide }
+        ensures { Holds result places }
+    {
+        if places <= CellClass::Small.width() {
+            CellClass::Small
+        } else if places <= CellClass::Large.width() {
+            CellClass::Large
+        } else {
+            CellClass::Wide
         }
     }
 

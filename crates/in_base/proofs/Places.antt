@@ -1,9 +1,13 @@
--- What stands at a place of a list that grew at its end, or in which one place was set.
-use Rattle.std.proofs.Common.{◌≡◌, ◌≢◌, ◌⊎◌, inl, inr, ◌<◌, ℕ, zero, suc, Option, Some, List, [], ◌∷◌, ◌++◌, length, slice_get, set, refl, ap, arith}
+-- What stands at a place of a list that grew at its end, in which one place was set, or that is another one mapped.
+use Rattle.std.proofs.Common.{◌≡◌, ◌≢◌, ◌⊎◌, inl, inr, ◌<◌, ℕ, zero, suc, Option, Some, None, IsSome, List, [], ◌∷◌, ◌++◌, map, option_map, length, slice_get, set, refl, sym, ap, ◌∙◌, subst, arith}
+use Rattle.std.proofs.lemmas.Option.{slice_get-map, same_Some}
 
 -- one place has one element
 pub some_same : {X : Type 0} (o : Option X) (x y : X) → o ≡ Some x → o ≡ Some y → x ≡ y
 some_same o x y h k = cc
+
+pub is_some : {X : Type 0} (o : Option X) (s : X) → o ≡ Some s → IsSome o
+is_some o s e = subst IsSome (sym e) refl
 
 pub last_at : {X : Type 0} (xs : List X) (x : X) → slice_get (xs ++ x ∷ []) (length xs) ≡ Some x
 last_at [] x = refl
@@ -42,3 +46,14 @@ pub unsnoc : {X : Type 0} (xs : List X) → 0 < length xs → (ys : List X) × (
 unsnoc [] some = absurd (omega (arith, some))
 unsnoc (x ∷ []) some = ([], x, refl)
 unsnoc (x ∷ y ∷ ys) some = let r = unsnoc (y ∷ ys) (omega arith) in (x ∷ r.0, r.1, ap (λ zs. x ∷ zs) r.2)
+
+-- what a mapped list has at a place
+pub to_mapped : {X Y : Type 0} (f : X → Y) (xs : List X) (i : ℕ) (x : X) → slice_get xs i ≡ Some x → slice_get (map f xs) i ≡ Some (f x)
+to_mapped f xs i x e = slice_get-map f xs i ∙ ap (option_map f) e
+
+pub of_mapped : {X Y : Type 0} (f : X → Y) (xs : List X) (i : ℕ) (y : Y) → slice_get (map f xs) i ≡ Some y → (x : X) × (slice_get xs i ≡ Some x) × (f x ≡ y)
+of_mapped {X} {Y} f xs i y e = go (slice_get xs i) refl
+  where
+    go : (o : Option X) → slice_get xs i ≡ o → (x : X) × (slice_get xs i ≡ Some x) × (f x ≡ y)
+    go None h = absurd (let z : ◌≡◌ {A = Option Y} None (Some y) = sym (slice_get-map f xs i ∙ ap (option_map f) h) ∙ e in cc)
+    go (Some x) h = (x, h, same_Some (f x) y (sym (slice_get-map f xs i ∙ ap (option_map f) h) ∙ e))

@@ -1,8 +1,8 @@
 -- What a call answers to a text. What is said of a text is the program's: see `in_program`'s definitions of what it does.
 use Rattle.std.specs.Prelude.{◌≡◌, ◌⊎◌, ℕ, true, false, List, [], Some, None}
 use Rattle.in_diagnosis.specs.Programs.{IsTold}
-use Rattle.in_run.specs.AllowedLimits.{AreLimits}
-use Rattle.in_run.specs.declared.limits.Limits.{Limits}
+use Rattle.in_limits.specs.AllowedLimits.{AreLimits}
+use Rattle.in_limits.specs.declared.limits.Limits.{Limits}
 use Rattle.in_command_line.specs.declared.action.Action.{Action}
 use Rattle.in_command_line.specs.declared.action.Action.TheVariants.{Run}
 use Rattle.in_program.specs.declared.acting.Status.{Status}

@@ -1,20 +1,10 @@
 -- What a program reaches: nets after any number of interactions, the agents under any names. Lafont 1990 reduces a net by interactions,
 -- one active pair after another, and takes nets up to the names of their agents.
-use Rattle.std.specs.Prelude.{◌≡◌, ◌↔◌, ℕ, zero, suc, Some, IsSome, slice_get}
+use Rattle.std.specs.Prelude.{◌≡◌, ℕ, zero, suc, Some, slice_get}
 use Rattle.in_net.specs.Interactions.{Redex, IsStep}
-use Rattle.in_net.specs.Nets.{Point, Port, Free, Net}
+use Rattle.in_net.specs.Nets.{Port, Net}
+pub use Rattle.in_net.specs.Renaming.{renamed, IsRenamed}
 use Rattle.in_check.specs.Systems.{System, SystemRule}
-
-abbrev pub renamed : {A B : Type 0} → (A → B) → Point A → Point B
-renamed f (Port y i) = Port (f y) i
-renamed f (Free k) = Free k
-
--- the second net is the first under other names, and different agents get different ones
-pub record IsRenamed {A B : Type 0} (f : A → B) (n : Net A) (m : Net B) : Type 0 where
-  pub apart : (x y : A) → IsSome (n.symbol x) → IsSome (n.symbol y) → f x ≡ f y → x ≡ y
-  pub agents : (y : B) (s : ℕ) → (m.symbol y ≡ Some s) ↔ ((x : A) × (f x ≡ y) × (n.symbol x ≡ Some s))
-  pub wires : (u v : Point B) → (m.partner u ≡ Some v) ↔ ((p q : Point A) × (renamed f p ≡ u) × (renamed f q ≡ v) × (n.partner p ≡ Some q))
-  pub free : m.free ≡ n.free
 
 -- an active pair under other names, with the same rule
 abbrev pub moved : {A B C : Type 0} → (A → B) → Redex A C → Redex B C

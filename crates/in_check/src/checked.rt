@@ -123,6 +123,13 @@ impl Checked {
         self.passed.numbers.rule(one, other)
     }
 
+    /// The numbers of the rules by their two symbols.
+    pub fn numbers(&self) -> &RuleTable
+        ensures { result.now ≡ self.now.numbers }
+    {
+        &self.passed.numbers
+    }
+
     /// The initial net.
     pub fn net(&self) -> &Net
         ensures { result.now ≡ self.now.net }

@@ -8,8 +8,7 @@ use Rattle.clap.specs.declared.builder.value_parser.ValueParser.TheVariants.{Uns
 use Rattle.clap.specs.declared.parser.matches.ValueSource.TheVariants.{DefaultValue, CommandLine}
 use Rattle.clap.proofs.OnLiterals.{clap_on_literals}
 use Rattle.clap.proofs.ValueTestLemmas.{Accepts-accepts}
-use Rattle.in_reducer.specs.Limiting.{least_cells, most_cells}
-use Rattle.in_run.specs.Limiting.{most_interactions, most_workers}
+use Rattle.in_limits.specs.Limiting.{least_cells, most_cells, most_interactions, most_workers}
 use Rattle.in_command_line.specs.Asking.{Spells, faults}
 use Rattle.in_command_line.specs.CommandLine.{command_line}
 use Rattle.in_command_line.proofs.Options.{new_row}

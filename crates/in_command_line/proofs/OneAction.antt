@@ -4,9 +4,8 @@ use Rattle.std.proofs.lemmas.Option.{same_Some}
 use Rattle.std.specs.Prelude.{codes}
 use Rattle.std.proofs.Math.Bridge.{le_prop}
 use Rattle.clap.specs.Words.{Row, Text}
-use Rattle.in_reducer.specs.Limiting.{least_cells, most_cells}
-use Rattle.in_run.specs.Limiting.{most_interactions, most_workers}
-use Rattle.in_run.specs.declared.limits.Limits.{Limits}
+use Rattle.in_limits.specs.Limiting.{least_cells, most_cells, most_interactions, most_workers}
+use Rattle.in_limits.specs.declared.limits.Limits.{Limits}
 use Rattle.in_command_line.specs.Asking.{Names}
 use Rattle.in_command_line.specs.Laws.{WordsAskForOneAction}
 use Rattle.in_command_line.specs.declared.action.Action.{Action}

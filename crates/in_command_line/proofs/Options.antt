@@ -19,9 +19,8 @@ use Rattle.clap.specs.declared.error.kind.ErrorKind.TheVariants as kind
 use Rattle.clap.specs.declared.parser.matches.ValueSource.{ValueSource}
 use Rattle.clap.specs.declared.parser.matches.ValueSource.TheVariants.{DefaultValue, CommandLine}
 use Rattle.clap.proofs.ValueTestLemmas.{accepts-Accepts}
-use Rattle.in_reducer.specs.Limiting.{least_cells, most_cells}
-use Rattle.in_run.specs.Limiting.{most_interactions, most_workers}
-use Rattle.in_run.specs.declared.limits.Limits.{Limits}
+use Rattle.in_limits.specs.Limiting.{least_cells, most_cells, most_interactions, most_workers}
+use Rattle.in_limits.specs.declared.limits.Limits.{Limits}
 use Rattle.in_command_line.specs.Asking.{HasLimits, IsNumber}
 use Rattle.in_command_line.specs.CommandLine.{command_line, number_option, run_command}
 use Rattle.in_command_line.proofs.Faultless.{AllKeep, Keeps, first_none, settled_keeps, walk_keeps}

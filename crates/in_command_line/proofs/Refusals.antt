@@ -7,14 +7,17 @@ use Rattle.clap.specs.declared.builder.value_parser.ValueParser.TheVariants.{Uns
 use Rattle.clap.specs.declared.error.kind.ErrorKind.TheVariants.{ValueValidation}
 use Rattle.clap.proofs.OnLiterals.{clap_on_literals}
 use Rattle.clap.proofs.ValueTestLemmas.{accepts-Accepts}
-use Rattle.in_reducer.specs.Limiting.{least_cells, most_cells}
-use Rattle.in_run.specs.Limiting.{most_interactions, most_workers}
+use Rattle.in_limits.specs.Limiting.{least_cells, most_cells, most_interactions, most_workers}
 use Rattle.in_command_line.specs.Asking.{Spells, faults}
-use Rattle.in_command_line.specs.Laws.{HelpIsAsked, NumbersOutOfRangeAreWrong, OtherWordsAreWrong}
+use Rattle.in_command_line.specs.Laws.{HelpIsAsked, NumbersOutOfRangeAreWrong, OtherWordsAreWrong, VersionIsAsked}
 
 pub help_asked : HelpIsAsked
 unfolding clap_on_literals
 help_asked = (refl, refl, refl)
+
+pub version_asked : VersionIsAsked
+unfolding clap_on_literals
+version_asked = (refl, refl)
 
 pub others_wrong : OtherWordsAreWrong
 unfolding clap_on_literals

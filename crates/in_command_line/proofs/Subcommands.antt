@@ -8,12 +8,12 @@ use Rattle.clap.specs.declared.error.Error.{Error}
 use Rattle.clap.specs.declared.error.kind.ErrorKind.{ErrorKind}
 use Rattle.clap.specs.declared.parser.matches.ArgMatches.{ArgMatches}
 use Rattle.clap.specs.declared.parser.matches.ArgMatches.TheViews.{out-ArgMatches, out-SubCommand}
-use Rattle.in_run.specs.declared.limits.Limits.{Limits}
+use Rattle.in_limits.specs.declared.limits.Limits.{Limits}
 use Rattle.in_command_line.specs.Asking.{HasLimits, IsNamed, AreWordsRefused, IsErrorTold, Names, faults}
 use Rattle.in_command_line.specs.declared.action.Action.{Action}
 use Rattle.in_command_line.specs.declared.action.Action.TheVariants.{Check, Derive, Run}
 use Rattle.in_command_line.specs.declared.action.Usage.{Usage}
-use Rattle.in_command_line.specs.declared.action.Usage.TheVariants.{Wrong, Help, Memory}
+use Rattle.in_command_line.specs.declared.action.Usage.TheVariants.{Wrong, Help, Version, Memory}
 
 pub name_of_rows : (m : ArgMatches) → subcommand_name_of m ≡ option_map (λ p. p.0) (subcommand_rows_of m)
 name_of_rows m = elim (out-ArgMatches m).subcommand as (λ o. option_map (λ b. (out-SubCommand (box_value b)).name.now) o ≡ option_map (λ p. p.0) (subcommand_rows o)) [
@@ -45,7 +45,11 @@ refused_so words e (Help text) has told = elim has [
   | inl memory ↦ cc
   | inr among ↦ subst (λ (k : ErrorKind). IsAmong k (faults words)) told among
 ]
+refused_so words e Version has told = elim has [
+  | inl memory ↦ cc
+  | inr among ↦ subst (λ (k : ErrorKind). IsAmong k (faults words)) told among
+]
 refused_so words e (Wrong text) has told = elim has [
-  | inl memory ↦ absurd (told.1 memory)
-  | inr among ↦ (kind_of e, among, told.0)
+  | inl memory ↦ absurd (told.2 memory)
+  | inr among ↦ (kind_of e, among, told.0, told.1)
 ]

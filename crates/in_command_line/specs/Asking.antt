@@ -3,13 +3,13 @@ use Rattle.std.specs.Prelude.{◌≡◌, ◌≢◌, ◌<◌, ◌^◌, ℕ, List,
 use Rattle.std.specs.Str.Parse.{IsNumeral, without_leading_plus, digits_value}
 use Rattle.clap.specs.Words.{IsAmong, Kinds, Row, Text, fault_of, one_of, subcommand_of}
 use Rattle.clap.specs.declared.error.kind.ErrorKind.{ErrorKind}
-use Rattle.clap.specs.declared.error.kind.ErrorKind.TheVariants.{DisplayHelp, OutOfMemory}
-use Rattle.in_run.specs.declared.limits.Limits.{Limits}
+use Rattle.clap.specs.declared.error.kind.ErrorKind.TheVariants.{DisplayHelp, DisplayVersion, OutOfMemory}
+use Rattle.in_limits.specs.declared.limits.Limits.{Limits}
 use Rattle.in_command_line.specs.CommandLine.{command_line}
 use Rattle.in_command_line.specs.declared.action.Action.{Action}
 use Rattle.in_command_line.specs.declared.action.Action.TheVariants.{Check, Derive, Run}
 use Rattle.in_command_line.specs.declared.action.Usage.{Usage}
-use Rattle.in_command_line.specs.declared.action.Usage.TheVariants.{Wrong, Help, Memory}
+use Rattle.in_command_line.specs.declared.action.Usage.TheVariants.{Wrong, Help, Version, Memory}
 
 -- the kinds of errors that `clap` finds in the words; none where it gives a match
 abbrev pub faults : List Text → Kinds
@@ -41,10 +41,11 @@ pub record AsksFor (words : List Text) (a : Action) : Type 0 where
   pub given : subcommand_of command_line words ≡ Some (name, options)
   pub named : Names name options a
 
--- the words are refused: they ask for help, or have another error; and memory may run out at any words
+-- the words are refused: they ask for help or for the version, or have another error; and memory may run out at any words
 abbrev pub AreWordsRefused : List Text → Usage → Type 0
 AreWordsRefused words (Help text) = IsAmong DisplayHelp (faults words)
-AreWordsRefused words (Wrong text) = (kind : ErrorKind) × IsAmong kind (faults words) × (kind ≢ DisplayHelp)
+AreWordsRefused words Version = IsAmong DisplayVersion (faults words)
+AreWordsRefused words (Wrong text) = (kind : ErrorKind) × IsAmong kind (faults words) × (kind ≢ DisplayHelp) × (kind ≢ DisplayVersion)
 AreWordsRefused words Memory = Unit {0}
 
 -- ---- words of the inner contracts
@@ -52,7 +53,8 @@ AreWordsRefused words Memory = Unit {0}
 -- an error of this kind is told so
 abbrev pub IsErrorTold : ErrorKind → Usage → Type 0
 IsErrorTold kind (Help text) = kind ≡ DisplayHelp
-IsErrorTold kind (Wrong text) = (kind ≢ DisplayHelp) × (kind ≢ OutOfMemory)
+IsErrorTold kind Version = kind ≡ DisplayVersion
+IsErrorTold kind (Wrong text) = (kind ≢ DisplayHelp) × (kind ≢ DisplayVersion) × (kind ≢ OutOfMemory)
 IsErrorTold kind Memory = Unit {0}
 
 -- the number that the option of this name gives, if it gives one of 32 bits

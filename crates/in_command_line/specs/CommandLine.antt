@@ -3,8 +3,7 @@ use Rattle.std.specs.Prelude.{ℕ, true, [], ◌∷◌, Some, codes}
 use Rattle.clap.specs.Words.{App, Rule, Text, new_app, new_rule, with_rule, with_subcommand}
 use Rattle.clap.specs.declared.builder.action.ArgAction.TheVariants.{Set}
 use Rattle.clap.specs.declared.builder.value_parser.ValueParser.TheVariants.{Unsigned}
-use Rattle.in_run.specs.Limiting.{most_interactions, most_workers}
-use Rattle.in_reducer.specs.Limiting.{least_cells, most_cells}
+use Rattle.in_limits.specs.Limiting.{least_cells, most_cells, most_interactions, most_workers}
 
 -- the option `--name N`, where N is a number from least to most; a command line without it has the usual text
 abbrev pub number_option : Text → Text → ℕ → ℕ → Rule
@@ -34,10 +33,13 @@ run_command = with_rule (with_rule (with_rule (new_app (codes "run")) workers_op
 abbrev pub needs_subcommand : App → App
 needs_subcommand a = record a { top = record a.top { subcommand_required = true } }
 
--- `inet check`, `inet derive` and `inet run` with its three options
+abbrev pub tells_version : App → App
+tells_version a = record a { top = record a.top { has_version = true } }
+
+-- `inet check`, `inet derive` and `inet run` with its three options, and `inet --version`
 abbrev pub command_line : App
 command_line = with_subcommand (with_subcommand (with_subcommand
-    (needs_subcommand (new_app (codes "inet")))
+    (tells_version (needs_subcommand (new_app (codes "inet"))))
     (new_app (codes "check")).top)
     (new_app (codes "derive")).top)
     run_command.top

@@ -1,10 +1,9 @@
 -- Laws over what the words of a command line ask for.
 use Rattle.std.specs.Prelude.{◌≡◌, ◌<◌, ◌⊎◌, ◌++◌, ℕ, List, [], ◌∷◌, codes}
 use Rattle.clap.specs.Words.{Text}
-use Rattle.clap.specs.declared.error.kind.ErrorKind.TheVariants.{ArgumentConflict, DisplayHelp, MissingSubcommand, UnknownArgument, ValueValidation}
-use Rattle.in_reducer.specs.Limiting.{least_cells, most_cells}
-use Rattle.in_run.specs.Limiting.{most_interactions, most_workers}
-use Rattle.in_run.specs.declared.limits.Limits.{Limits}
+use Rattle.clap.specs.declared.error.kind.ErrorKind.TheVariants.{ArgumentConflict, DisplayHelp, DisplayVersion, MissingSubcommand, UnknownArgument, ValueValidation}
+use Rattle.in_limits.specs.Limiting.{least_cells, most_cells, most_interactions, most_workers}
+use Rattle.in_limits.specs.declared.limits.Limits.{Limits}
 use Rattle.in_command_line.specs.Asking.{AsksFor, Spells, faults}
 use Rattle.in_command_line.specs.declared.action.Action.{Action}
 use Rattle.in_command_line.specs.declared.action.Action.TheVariants.{Check, Derive, Run}
@@ -35,6 +34,11 @@ abbrev pub HelpIsAsked : Type 0
 HelpIsAsked = (faults (codes "inet" ∷ codes "-h" ∷ []) ≡ DisplayHelp ∷ [])
     × (faults (codes "inet" ∷ codes "--help" ∷ []) ≡ DisplayHelp ∷ [])
     × (faults (codes "inet" ∷ codes "run" ∷ codes "--help" ∷ []) ≡ DisplayHelp ∷ [])
+
+-- `-V` and `--version` ask for the version
+abbrev pub VersionIsAsked : Type 0
+VersionIsAsked = (faults (codes "inet" ∷ codes "-V" ∷ []) ≡ DisplayVersion ∷ [])
+    × (faults (codes "inet" ∷ codes "--version" ∷ []) ≡ DisplayVersion ∷ [])
 
 -- wrong are `inet` alone, a word too many and an option that stands twice
 abbrev pub OtherWordsAreWrong : Type 0

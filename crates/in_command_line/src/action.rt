@@ -3,11 +3,11 @@ ghost use Rattle.clap.specs.Words.{app_of, found_of, kind_of, new_app, rows_of, 
 ghost use Rattle.clap.specs.Walk.{texts};
 ghost use Rattle.clap.specs.declared.builder.command.Command.TheViews.{out-Command};
 ghost use Rattle.in_command_line.specs.Asking.{AreGiven, AsksFor, IsOptionGiven, IsNamed, AreWordsRefused, IsErrorTold};
-ghost use Rattle.in_command_line.specs.CommandLine.{cells_option, command_line, limit_option, needs_subcommand, run_command, workers_option};
+ghost use Rattle.in_command_line.specs.CommandLine.{cells_option, command_line, limit_option, needs_subcommand, run_command, tells_version, workers_option};
 
 use clap::error::ErrorKind;
 use clap::{Arg, ArgAction, ArgMatches, Command, value_parser};
-use in_run::{LEAST_CELLS, Limits, MOST_CELLS, MOST_INTERACTIONS, MOST_WORKERS};
+use in_limits::{LEAST_CELLS, Limits, MOST_CELLS, MOST_INTERACTIONS, MOST_WORKERS};
 use std::alloc::{AllocError, Global};
 use thiserror::Error;
 
@@ -31,6 +31,9 @@ pub enum Usage {
     /// Help was asked for; what `clap` says.
     #[error("{0}")]
     Help(String),
+    /// The version was asked for, which the program knows.
+    #[error("version")]
+    Version,
     /// Out of memory.
     #[error("memory")]
     Memory,
@@ -100,9 +103,9 @@ fn run_command<'a>(alloc: Global) -> Result<Command<'a>, AllocError>
         .arg(cells_option(alloc))
 }
 
-/// `inet`, of whose subcommands one is needed, with `check` and `derive`.
+/// `inet`, which tells its version, and of whose subcommands one is needed, with `check` and `derive`.
 fn command_without_run<'a>(alloc: Global) -> Result<Command<'a>, AllocError>
-    ensures { IfOk result (λ c. app_of c ≡ with_subcommand (with_subcommand (needs_subcommand (new_app (codes "inet"))) (new_app (codes "check")).top) (new_app (codes "derive")).top) }
+    ensures { IfOk result (λ c. app_of c ≡ with_subcommand (with_subcommand (tells_version (needs_subcommand (new_app (codes "inet")))) (new_app (codes "check")).top) (new_app (codes "derive")).top) }
 {
     let check = Command::new(alloc, "check").about(
         "Says whether the program on standard input is accepted",
@@ -110,6 +113,8 @@ fn command_without_run<'a>(alloc: Global) -> Result<Command<'a>, AllocError>
     let inet = Command::new(alloc, "inet")
         .about("Checks and runs programs of interaction nets")
         .subcommand_required(true)
+        // Only that there is one counts here: `Usage::Version` has no text of `clap`.
+        .version("")
         .subcommand(check)?;
     let derive = Command::new(alloc, "derive").about(
         "Prints the steps that build the rules and the net of the program on standard input",
@@ -161,6 +166,7 @@ fn usage_of(alloc: Global, error: clap::Error, words: &[&str]) -> Usage
         Ok(text) => match error.kind() {
             ErrorKind::OutOfMemory => Usage::Memory,
             ErrorKind::DisplayHelp => Usage::Help(text),
+            ErrorKind::DisplayVersion => Usage::Version,
             _ => Usage::Wrong(text),
         },
         Err(_) => Usage::Memory,
@@ -205,7 +211,7 @@ fn action_named(matches: &ArgMatches) -> Option<Action>
 /// texts of its options, or the usual ones where an option is missing.
 ///
 /// Refused with the text of `clap` where it finds an error in the words, and a line more where one of them is a file's name: as `Help` where
-/// `-h`, `--help` or `help` stands, and else as `Wrong`, as where they name no command, have more than one needs, or give a number that is
+/// `-h`, `--help` or `help` stands, as `Version` where `-V` or `--version` does, and else as `Wrong`, as where they name no command, have more than one needs, or give a number that is
 /// out of range. Refused as `Memory` when out of memory.
 pub fn action_of(alloc: Global, words: &[&str]) -> Result<Action, Usage>
     ensures ok { IfOk result (AsksFor (texts words.now)) }

@@ -1,6 +1,6 @@
 //! Laws over what the words of a command line ask for. No function here does anything.
 
-ghost use Rattle.in_command_line.specs.Laws.{FaultlessWordsAsk, HelpIsAsked, NumbersOutOfRangeAreWrong, OtherWordsAreWrong, RunAsksForTheGiven, RunAsksForTheUsual, SubcommandsAsk, WordsAskForOneAction};
+ghost use Rattle.in_command_line.specs.Laws.{FaultlessWordsAsk, HelpIsAsked, NumbersOutOfRangeAreWrong, OtherWordsAreWrong, RunAsksForTheGiven, RunAsksForTheUsual, SubcommandsAsk, VersionIsAsked, WordsAskForOneAction};
 
 /// Words ask for one action at most.
 pub fn words_ask_for_one_action()
@@ -19,10 +19,11 @@ pub fn subcommands_ask()
     ensures given { RunAsksForTheGiven }
 {}
 
-/// Which words are refused: help where it is asked for, and as wrong no subcommand, a word too many, an option that stands twice and a
+/// Which words are refused: help and the version where they are asked for, and as wrong no subcommand, a word too many, an option that stands twice and a
 /// number that is out of range.
 pub fn words_are_refused()
     ensures help { HelpIsAsked }
+    ensures version { VersionIsAsked }
     ensures wrong { OtherWordsAreWrong }
     ensures range { NumbersOutOfRangeAreWrong }
 {}

@@ -3,7 +3,6 @@ pub mod Accepted
 pub mod Laid
 pub mod Made
 pub mod Narrow
-pub mod Numbers
 pub mod OneAnswer
 pub mod OneTemplate
 pub mod Sound

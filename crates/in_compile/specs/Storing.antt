@@ -1,7 +1,5 @@
 -- How members and templates are stored: no contract of a public call speaks of it. This project's own choice.
 use Rattle.std.specs.Prelude.{◌≡◌, ◌≢◌, ◌≤◌, ◌<◌, ◌+◌, ◌^◌, ◌*◌, ℕ, nat_eq, cond, true, List, ◌∷◌, [], ◌++◌, length, take, drop, map, Option, Some, None, slice_get}
-use Rattle.std.proofs.Common.{inl, inr, ap, sym, ◌∙◌}
-use Rattle.std.proofs.lemmas.Bool.Decides.{eqb_tells}
 use Rattle.in_symbols.specs.Tables.{Tables}
 use Rattle.in_net.specs.declared.nets.Cell.{Cell}
 use Rattle.in_net.specs.declared.nets.Point.{Point}
@@ -9,7 +7,6 @@ use Rattle.in_net.specs.declared.nets.Point.TheVariants.{Port, Free}
 use Rattle.in_net.specs.NetFaults.{max_member_agents}
 use Rattle.in_net.specs.Parts.{Parts}
 use Rattle.in_syntax.specs.Grammar.{max_ports}
-use Rattle.in_cover.specs.declared.table.RuleNo.{RuleNo}
 use Rattle.in_compile.specs.declared.joints.Joint.{Joint}
 use Rattle.in_compile.specs.declared.joints.Joint.TheVariants.{ToAgent, ToBoundary}
 use Rattle.in_compile.specs.declared.member.MemberAgent.{MemberAgent}
@@ -35,26 +32,6 @@ IsNarrow (Free e) = e < 2 ^ 8
 
 abbrev pub AreNarrow : List Point → Type 0
 AreNarrow ps = (k : ℕ) (q : Point) → slice_get ps k ≡ Some q → IsNarrow q
-
--- ---- numbers of rules in a word
-
--- no rule has this number
-abbrev pub no_rule : ℕ
-no_rule = 4294967295
-
-abbrev pub rule_from : ℕ → Option RuleNo
-rule_from number = cond (nat_eq number no_rule) None (Some (record { 0 = number }))
-
-abbrev pub word_of : Option RuleNo → ℕ
-word_of None = no_rule
-word_of (Some k) = k.0
-
--- so nothing is lost in the word
-pub word_back : (n : ℕ) → word_of (rule_from n) ≡ n
-word_back n = elim (eqb_tells n no_rule) [
-  | inl h ↦ ap (λ b. word_of (cond b None (Some (record { 0 = n })))) h.0 ∙ sym h.1
-  | inr h ↦ ap (λ b. word_of (cond b None (Some (record { 0 = n })))) h.0
-]
 
 -- ---- agents, and all joints of a member in one list, those of the boundary ends first
 

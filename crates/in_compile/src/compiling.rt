@@ -7,11 +7,10 @@ ghost use Rattle.in_compile.specs.Templates.{HaveTemplates, IsLargestNeed, AreTe
 use crate::cells::Need;
 use crate::member::Member;
 use crate::members::{member_of, template};
-use crate::table::NumberTable;
 use crate::template::Template;
 use crate::templates::Templates;
 use in_check::Checked;
-use in_cover::RuleNo;
+use in_cover::{RuleNo, RuleTable};
 use sqlite_items::Items;
 use std::alloc::{AllocError, Global};
 
@@ -29,17 +28,11 @@ fn templates_of(alloc: Global, checked: &Checked) -> Result<Items<Template>, All
 }
 
 /// The number of the rule of each two symbols.
-fn numbers_of(alloc: Global, checked: &Checked) -> Result<NumberTable, AllocError>
+fn numbers_of(alloc: Global, checked: &Checked) -> Result<RuleTable, AllocError>
     ensures { IfOk result (λ t. IsTableOf checked.now.tables checked.now.rules t) }
 {
     checked.is_accepted();
-    let mut table = NumberTable::empty(alloc, checked.symbols().symbols())?;
-    for number in 0..checked.rules() {
-        let (c, d) = checked.rule(RuleNo(number)).heads();
-        table.set(c, d, RuleNo(number));
-        table.set(d, c, RuleNo(number));
-    }
-    Ok(table)
+    checked.numbers().copy(alloc)
 }
 
 /// The initial net.

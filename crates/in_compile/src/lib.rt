@@ -3,9 +3,8 @@
 //!
 //! What is placed in cells is a *member*: the right member of a rule, or the initial net, in a form that is placed without looking at
 //! nets. `cells` says which cells agents take, and how many a net needs (`Need`). `members` lays a member out: where the boundary ends
-//! lead, then agent after agent with where its places lead, in one list, and the active pairs that it holds. `table` has the number of
-//! each two symbols' rule in a word; `joints` stores where a wire leads in two words. `Templates` borrows nothing of the program, so that
-//! threads can share it.
+//! lead, then agent after agent with where its places lead, in one list, and the active pairs that it holds. `joints`
+//! stores where a wire leads in two words. `Templates` borrows nothing of the program, so that threads can share it.
 //!
 //! `stock` holds leased cells, by class, over a bag; `placing` writes a member's agents into cells of a stock, end by end, and `placed`
 //! keeps which cells these are, so that placing takes no memory. A value `PlacedTemplate` keeps a template with its agents in leased
@@ -23,7 +22,6 @@ mod placed;
 mod placed_template;
 mod placing;
 mod stock;
-mod table;
 mod template;
 mod templates;
 

@@ -1,7 +1,5 @@
 // From a net to its member, and from a rule to its template.
 ghost use Rattle.std.specs.Prelude.{◌≡◌, ◌+◌, ◌≤◌, ◌<◌, ◌^◌, ◌++◌, map, length, Some, IfOk, OnOk};
-ghost use Rattle.in_arena.specs.Classes.{Holds, width};
-ghost use Rattle.in_arena.specs.declared.content.CellClass.TheVariants.{Wide};
 ghost use Rattle.in_syntax.specs.Grammar.{max_ports};
 ghost use Rattle.in_net.specs.Built.{IsOver, IsCellOver};
 ghost use Rattle.in_net.specs.NetFaults.{max_agents};
@@ -24,21 +22,6 @@ use in_net::{Cell, Net, Point, Rule};
 use in_symbols::Symbols;
 use sqlite_items::Items;
 use std::alloc::{AllocError, Global};
-
-/// The class of cells that are for that many ends, the principal port's among them.
-fn class_for(ends: usize) -> CellClass
-    requires some { 1 ≤ ends }
-    requires few { ends ≤ width Wide }
-    ensures { Holds result ends }
-{
-    if ends <= CellClass::Small.width() as usize {
-        CellClass::Small
-    } else if ends <= CellClass::Large.width() as usize {
-        CellClass::Large
-    } else {
-        CellClass::Wide
-    }
-}
 
 /// Adds where the wires lead whose other points these are.
 fn add_joints(joints: &mut Items<StoredJoint>, points: &[Point]) -> Result<(), AllocError>
@@ -81,7 +64,7 @@ fn add_agent(
     agents.push(MemberAgent {
         symbol: cell.symbol,
         first,
-        class: class_for(places as usize),
+        class: CellClass::for_places(places),
         places,
     })
 }

@@ -4,8 +4,8 @@ ghost use Rattle.in_compile.specs.Templates.{template_at, IsLargestNeed};
 
 use crate::cells::Need;
 use crate::member::Member;
-use crate::table::NumberTable;
 use crate::template::Template;
+use in_cover::RuleTable;
 use in_symbols::SymbolNo;
 use sqlite_items::Items;
 use std::marker::Model;
@@ -15,7 +15,7 @@ use std::marker::Model;
 #[derive(Drop)]
 pub struct Templates {
     pub(crate) templates: Items<Template>,
-    pub(crate) numbers: NumberTable,
+    pub(crate) numbers: RuleTable,
     pub(crate) start: Member,
     pub(crate) largest: Need,
 }

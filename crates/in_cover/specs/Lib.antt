@@ -1,4 +1,5 @@
 pub mod Cover
 pub mod Covering
 pub mod Laws
+pub mod Storing
 pub mod Table

@@ -3,6 +3,7 @@ ghost use Rattle.std.specs.List.{AllByRecursion};
 ghost use Rattle.in_symbols.specs.Tables.{IsSymbol};
 ghost use Rattle.in_cover.specs.Cover.{IsRuleOfPair, Covers, second_at, IsMissingAt};
 ghost use Rattle.in_cover.specs.Covering.{AddsRule, NumbersRules, FindsGapBelow, FindsGap};
+ghost use Rattle.in_cover.specs.Storing.{no_rule};
 
 use crate::table::{RuleNo, RuleTable};
 use in_net::Rule;
@@ -14,6 +15,7 @@ use std::alloc::Global;
 fn add(table: &mut RuleTable, number: RuleNo, rule: &Rule) -> bool
     requires first { rule.now.heads.0.0 < table.old.size }
     requires second { rule.now.heads.1.0 < table.old.size }
+    requires number { number.0 < no_rule }
     ensures { AddsRule table.old number rule.now.heads.0.0 rule.now.heads.1.0 table.new result }
 {
     let (c, d) = rule.heads();

@@ -12,6 +12,7 @@
 
 mod circles;
 mod remedies;
+mod sentences;
 mod stuck;
 mod telling;
 mod wires;

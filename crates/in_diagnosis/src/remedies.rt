@@ -2,8 +2,9 @@
 ghost use Rattle.std.specs.Prelude.{◌≡◌, IfOk};
 ghost use Rattle.in_diagnosis.specs.Remedies.{IsAnsweredWith, is_stuck_behind};
 
+use crate::sentences;
 use in_check::check;
-use in_diagnosis_words::{Braces, Report, declaration_with, text_with};
+use in_diagnosis_words::{Braces, Report, Value, declaration_with, text_with};
 use in_syntax::{Code, Fault, Place, Refusal, SourceSymbol};
 use std::alloc::{AllocError, Global};
 
@@ -149,25 +150,26 @@ fn tried<'r, 'a>(text: &[u8], remedies: &'r [Remedy<'a>]) -> &'r [Remedy<'a>] {
 /// What helps where no declaration does, by the number of remedies and of those that were tried.
 fn help_without(remedies: usize, tried: usize) -> &'static str {
     if remedies == 0 {
-        "no braces mend this circle: join ports of different braces to parts that have nothing to do with each other"
+        sentences::NO_BRACES
     } else if tried == 0 {
-        "join ports of different braces to parts that have nothing to do with each other"
+        sentences::JOIN_OTHERS
     } else {
-        "no braces that were tried mend this circle: join ports of different braces to parts that have nothing to do with each other"
+        sentences::NO_BRACES_TRIED
     }
 }
 
-/// A declaration with which this is built.
-fn say_mend(report: &mut Report, mend: &Mend, what: &str) {
-    report.say("help: with `symbol ");
-    report.say(mend.declaration.as_str());
-    report.say(";` ");
-    report.say(what);
-    report.say(if mend.accepted {
-        " is built, and the program is accepted\n"
+/// Adds a declaration with which this is built.
+fn add_mend(report: &mut Report, mend: &Mend, what: &str) {
+    let sentence = if mend.accepted {
+        sentences::MENDS
     } else {
-        " is built, and the program is refused further on\n"
-    });
+        sentences::BUILDS
+    };
+    let slots = [
+        ("declaration", Value::Text(mend.declaration.as_str())),
+        ("what", Value::Text(what)),
+    ];
+    report.help_with(sentence, &slots);
 }
 
 /// Adds what helps: the first of these remedies with which the text is accepted, or else one with which what no steps build, which is this at a
@@ -179,7 +181,7 @@ pub(crate) fn add_help(report: &mut Report, remedies: &[Remedy], what: &str, pla
         place,
     };
     match best_mend(report.alloc, trial, tried) {
-        Ok(Some(mend)) => say_mend(report, &mend, what),
+        Ok(Some(mend)) => add_mend(report, &mend, what),
         Ok(None) => report.help(help_without(remedies.len(), tried.len())),
         Err(error) => report.fail(error),
     }

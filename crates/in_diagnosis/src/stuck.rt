@@ -1,8 +1,11 @@
 //! Rules and nets that no steps build: the first part in which no node splits, and a circle in it.
 use crate::circles::{Circle, Field, Wires};
 use crate::remedies::{MOST_TRIED, Remedy, add_help, add_remedy};
+use crate::sentences;
 use in_check::StuckPart;
-use in_diagnosis_words::{Report, add_braces, changed_braces, say_node_at, say_port_of};
+use in_diagnosis_words::{
+    Kind, Report, Value, Words, add_braces, changed_braces, port_of, say_node_at,
+};
 use in_open_nets::{Node, OpenNet};
 use in_syntax::{Place, Source, SourceSymbol};
 use std::alloc::{AllocError, Global};
@@ -64,12 +67,12 @@ fn place_of(open: &OpenNet, node: u32) -> Option<Place> {
 }
 
 /// A node in words, with its place.
-fn say_node(report: &mut Report, source: &Source, open: &OpenNet, node: u32) {
+fn say_node(words: &mut Words, source: &Source, open: &OpenNet, node: u32) {
     if let (Some((symbol, class)), Some(place)) = (
         symbol_of(source, open, node),
         place_of(open, node),
     ) {
-        say_node_at(report, symbol, class, place);
+        say_node_at(words, symbol, class, place);
     }
 }
 
@@ -84,51 +87,43 @@ fn before_node(index: usize, count: usize) -> &'static str {
     }
 }
 
-/// Nodes, in words; of many nodes the first ones and the last one, and how many others there are.
-fn say_nodes(report: &mut Report, source: &Source, open: &OpenNet, nodes: &[u32]) {
+/// Says nodes; of many nodes the first ones and the last one, and how many others there are.
+fn say_nodes(words: &mut Words, source: &Source, open: &OpenNet, nodes: &[u32]) {
     let count = nodes.len();
     for (index, node) in nodes.iter().enumerate() {
         if is_told(index, count) {
-            report.say(before_node(index, count));
-            say_node(report, source, open, *node);
+            words.say(before_node(index, count));
+            say_node(words, source, open, *node);
         } else if index == FIRST_TOLD {
-            report.say_number(", ", left_out(count), " more");
+            let more = Value::Number(left_out(count));
+            words.fill(", {count} more", &[("count", more)]);
         }
     }
 }
 
-/// The nodes of the part.
-fn add_part(report: &mut Report, source: &Source, open: &OpenNet, nodes: &[u32]) {
-    report.say("note: none of these can be built last: ");
-    say_nodes(report, source, open, nodes);
-    report.end();
+/// Adds a sentence that ends with nodes.
+fn note_nodes(report: &mut Report, source: &Source, open: &OpenNet, sentence: &str, nodes: &[u32]) {
+    let mut words = Words::new(report.alloc);
+    words.say(sentence);
+    say_nodes(&mut words, source, open, nodes);
+    report.add(Kind::Note, None, words);
 }
 
-/// The nodes on the way of a circle, in words.
-fn add_way_words(report: &mut Report, field: Field, way: &[u32]) {
-    report.say("note: on its way are ");
-    say_nodes(report, field.source, field.open, way);
-    report.end();
-}
-
-/// A circle through a node of this symbol, in words.
-fn add_circle_words(
-    report: &mut Report,
-    symbol: &SourceSymbol,
-    class: Option<usize>,
-    circle: &Circle,
-) {
-    report.say("note: a circle leads from ");
-    say_port_of(report, symbol, class, circle.first);
-    report.say(" back to ");
-    say_port_of(report, symbol, class, circle.second);
-    report.end();
+/// Adds from where to where a circle through a node of this symbol leads.
+fn add_ports(report: &mut Report, symbol: &SourceSymbol, class: Option<usize>, circle: &Circle) {
+    let slots = [
+        ("first", port_of(symbol, class, circle.first)),
+        ("second", port_of(symbol, class, circle.second)),
+    ];
+    let mut words = Words::new(report.alloc);
+    words.fill(sentences::CIRCLE, &slots);
+    report.add(Kind::Note, None, words);
 }
 
 /// Where a node stands in the text.
 fn add_place(report: &mut Report, open: &OpenNet, node: u32) {
     if let Some(place) = place_of(open, node) {
-        report.note(place, "through this");
+        report.note(place, sentences::THROUGH_THIS);
     }
 }
 
@@ -144,7 +139,7 @@ fn add_way(report: &mut Report, field: Field, way: &[u32]) {
     if way.len() <= MOST_SHOWN {
         add_places(report, field.open, way);
     } else {
-        add_way_words(report, field, way);
+        note_nodes(report, field.source, field.open, sentences::ON_ITS_WAY, way);
     }
 }
 
@@ -280,7 +275,7 @@ fn add_help_for(report: &mut Report, field: Field, node: u32, circle: &Circle, r
 /// A circle through a node.
 fn add_found(report: &mut Report, field: Field, node: u32, circle: &Circle, refused: Refused) {
     if let Some((symbol, class)) = symbol_of(field.source, field.open, node) {
-        add_circle_words(report, symbol, class, circle);
+        add_ports(report, symbol, class, circle);
         add_way(report, field, circle.way.as_slice());
         add_braces(report, symbol, class, (circle.first, circle.second));
         add_reasons(report, field, node, symbol, circle);
@@ -346,10 +341,10 @@ pub(crate) fn add_stuck(
     what: &str,
     place: Place,
 ) {
-    report.wrong_name(place, "no steps build ", what, ": it could close a circle");
+    report.wrong_on(place, sentences::NO_STEPS, what);
     if let Some(StuckPart { open, stuck }) = part {
         let nodes = stuck.nodes.as_slice();
-        add_part(report, source, open, nodes);
+        note_nodes(report, source, open, sentences::NONE_IS_LAST, nodes);
         add_first_circle(report, source, open, nodes, Refused { what, place });
     }
 }

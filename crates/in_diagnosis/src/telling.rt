@@ -6,7 +6,7 @@ ghost use Rattle.in_diagnosis.specs.Programs.{IsTold, IsToldOfTree};
 use crate::stuck::add_stuck;
 use crate::wires::add_misfit;
 use in_check::{Evidence, Misfit, StuckPart, refusal_of};
-use in_diagnosis_words::{Report, add_text_fault, add_tree_fault, rule_at};
+use in_diagnosis_words::{Report, add_more_than, add_text_fault, add_tree_fault, rule_at};
 use in_net::{MAX_AGENTS, MAX_MEMBER_AGENTS};
 use in_syntax::{Code, Expected, Fault, Place, Refusal, Source, parse_expecting};
 use std::alloc::{AllocError, Global};
@@ -14,10 +14,10 @@ use std::alloc::{AllocError, Global};
 /// More agents than a right member or the net may have.
 fn add_agents(report: &mut Report, source: &Source, place: Place) {
     let (most, what) = match rule_at(source, place.from) {
-        Some(_) => (MAX_MEMBER_AGENTS, " agents in the right member of a rule"),
-        None => (MAX_AGENTS, " agents in the net"),
+        Some(_) => (MAX_MEMBER_AGENTS, "agents in the right member of a rule"),
+        None => (MAX_AGENTS, "agents in the net"),
     };
-    report.wrong_number(place, "more than ", most, what);
+    add_more_than(report, place, most, what);
 }
 
 /// What is refused of a program that has a tree, but for wires that don't fit and for what no steps build.

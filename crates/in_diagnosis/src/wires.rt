@@ -1,4 +1,5 @@
 //! Wires whose two ends don't fit.
+use crate::sentences;
 use in_check::{Misfit, WireEnd};
 use in_diagnosis_words::{Report, ToldEnd, agent_end, free_end, head_end, say_ends};
 use in_symbols::SymbolNo;
@@ -44,6 +45,6 @@ pub(crate) fn add_misfit(
 ) {
     match told_both(source, misfit) {
         Some((one, other)) => say_ends(report, place, &one, &other),
-        None => report.wrong(place, "the types of the two ends of this wire don't fit"),
+        None => report.wrong(place, sentences::MISFIT),
     }
 }

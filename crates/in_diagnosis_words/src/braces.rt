@@ -1,6 +1,7 @@
 //! Declarations of symbols with other braces.
 use crate::before::tokens_of;
 use crate::declarations::{arity, place_in, port, sign};
+use crate::words::Words;
 use in_syntax::{Place, SourceSymbol, TokenKind};
 use std::alloc::{AllocError, Global};
 
@@ -56,13 +57,25 @@ fn before_port(symbol: &SourceSymbol, braces: Braces, number: usize) -> &'static
     }
 }
 
-/// Adds the port of that number of a symbol, as it is declared.
-fn add_port(words: &mut String, symbol: &SourceSymbol, number: usize) -> Result<(), AllocError> {
+/// Says the port of that number of a symbol, as it is declared.
+fn say_port(words: &mut Words, symbol: &SourceSymbol, number: usize) {
     if let Some((_, port)) = port(symbol, number) {
-        words.push_str(port.kind.text.as_str())?;
-        words.push_str(sign(port))?;
+        words.say(port.kind.text.as_str());
+        words.say(sign(port));
     }
-    Ok(())
+}
+
+/// Says what a symbol is declared as with these braces.
+fn say_declaration(words: &mut Words, symbol: &SourceSymbol, braces: Braces) {
+    words.say(symbol.name.text.as_str());
+    words.say(" : ");
+    say_port(words, symbol, 0);
+    let ports = arity(symbol);
+    for number in 1..=ports {
+        words.say(before_port(symbol, braces, number));
+        say_port(words, symbol, number);
+    }
+    words.say(if ports > 0 { "}" } else { "" });
 }
 
 /// What a symbol is declared as with these braces, without the word `symbol` and the `;`.
@@ -71,18 +84,9 @@ pub fn declaration_with(
     symbol: &SourceSymbol,
     braces: Braces,
 ) -> Result<String, AllocError> {
-    let mut words = String::from_str(alloc, symbol.name.text.as_str())?;
-    words.push_str(" : ")?;
-    add_port(&mut words, symbol, 0)?;
-    let ports = arity(symbol);
-    for number in 1..=ports {
-        words.push_str(before_port(symbol, braces, number))?;
-        add_port(&mut words, symbol, number)?;
-    }
-    if ports > 0 {
-        words.push_str("}")?;
-    }
-    Ok(words)
+    let mut words = Words::new(alloc);
+    say_declaration(&mut words, symbol, braces);
+    words.into_text()
 }
 
 /// Where the declaration ends whose name stands at a place: at its `;`, which the tree doesn't have.

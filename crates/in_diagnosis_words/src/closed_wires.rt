@@ -1,6 +1,7 @@
 //! Closed wires: equations of bare names that lead back to the first.
 use crate::occurrences::rule_around;
 use crate::reports::Report;
+use crate::sentences;
 use in_syntax::{Equation, Place, Source};
 
 /// The two names of an equation of two bare names.
@@ -47,7 +48,7 @@ fn equation_at(equations: &[Equation], place: Place) -> Option<usize> {
 /// Where the equation of this number stands.
 fn add_turn(report: &mut Report, equations: &[Equation], number: usize) {
     if let Some(equation) = equations.get(number) {
-        report.note(equation.tilde, "the wire goes on here");
+        report.note(equation.tilde, sentences::GOES_ON_HERE);
     }
 }
 
@@ -84,13 +85,10 @@ fn equations_around(source: &Source, place: Place) -> &[Equation] {
 
 /// A wire that is joined to itself.
 pub(crate) fn add_closed(report: &mut Report, source: &Source, place: Place) {
-    report.wrong(
-        place,
-        "this wire is closed: no agent and no free end is on it",
-    );
+    report.wrong(place, sentences::CLOSED);
     let equations = equations_around(source, place);
     if let Some((first, name)) = ring_at(equations, place) {
         add_ring(report, equations, first, name);
     }
-    report.help("leave the equation out, or join its ends to something");
+    report.help(sentences::LEAVE_OUT_OR_JOIN);
 }

@@ -1,5 +1,4 @@
 //! What a program declares.
-use crate::reports::Report;
 use in_syntax::{Name, Place, Source, SourceClass, SourceFree, SourcePort, SourceSymbol};
 
 /// What is declared by a name: a type, a symbol or a free end.
@@ -100,20 +99,4 @@ pub(crate) fn place_in(symbol: &SourceSymbol, class: usize, number: usize) -> us
 /// The sign of a port's type.
 pub(crate) fn sign(port: &SourcePort) -> &'static str {
     if port.output { "+" } else { "-" }
-}
-
-/// Says a port's type between these words, as it is written.
-pub(crate) fn say_type(report: &mut Report, before: &str, port: &SourcePort, after: &str) {
-    report.say_name(before, port.kind.text.as_str(), sign(port));
-    report.say(after);
-}
-
-/// Says a port, in words.
-pub(crate) fn say_port(report: &mut Report, symbol: &SourceSymbol, place: usize) {
-    if place == 0 {
-        report.say("the principal port");
-    } else {
-        report.say_number("auxiliary port ", place, "");
-    }
-    report.say_name(" of `", symbol.name.text.as_str(), "`");
 }

@@ -1,7 +1,9 @@
 //! The two ends of a wire, which don't fit.
-use crate::declarations::{arity, port, say_port, say_type};
-use crate::pairs::{letter, say_letters};
+use crate::declarations::{arity, port};
 use crate::reports::Report;
+use crate::sentences;
+use crate::slots::Value;
+use crate::words::{Words, letter};
 use in_syntax::{Place, Source, SourcePort, SourceSymbol};
 
 /// What stands at an end of a wire.
@@ -63,64 +65,40 @@ fn direction(output: bool) -> &'static str {
     if output { "output" } else { "input" }
 }
 
-/// What an end is, and what it counts as.
-fn say_end(report: &mut Report, end: &ToldEnd) {
-    let direction = direction(end.output);
-    match end.owner {
-        Owner::Agent(symbol, number) => {
-            say_port(report, symbol, number);
-            report.say_name(" is an ", direction, "");
-            say_type(report, ", `", end.port, "`");
-        }
-        Owner::Head(symbol, number) => {
-            say_port(report, symbol, number);
-            say_type(report, ", `", end.port, "`, counts");
-            report.say_name(" as an ", direction, " in the right member");
-        }
-        Owner::Free(name) => {
-            report.say_name("the free end `", name, " : ");
-            say_type(report, "", end.port, "` counts");
-            report.say_name(" as an ", direction, " in the net");
-        }
-    }
-}
-
-/// What an end is, and where.
+/// Adds what an end is, and where.
 fn add_end(report: &mut Report, end: &ToldEnd) {
-    report.say("note: ");
-    say_end(report, end);
-    report.end_at(end.place);
+    let kind = Value::Type(end.port);
+    let direction = Value::Text(direction(end.output));
+    let (sentence, first) = match end.owner {
+        Owner::Agent(symbol, number) => (
+            sentences::AGENT_END,
+            ("port", Value::Port(symbol, number)),
+        ),
+        Owner::Head(symbol, number) => (sentences::HEAD_END, ("port", Value::Port(symbol, number))),
+        Owner::Free(name) => (sentences::FREE_END, ("name", Value::Text(name))),
+    };
+    let slots = [first, ("type", kind), ("direction", direction)];
+    report.note_with(end.place, sentence, &slots);
 }
 
-/// A wire between two types.
-fn say_types(report: &mut Report, kind: &str, second: &str) {
-    report.say_name("error: this wire joins the type `", kind, "` to the type `");
-    report.say_name(second, "`", "");
-}
-
-/// The words before the type of two outputs, or of two inputs.
-fn two_of(output: bool) -> &'static str {
-    if output {
-        "error: this wire joins two outputs of type `"
+/// Adds what is wrong with a wire of these two ends, at a place of the text.
+fn add_misfit(report: &mut Report, place: Place, one: &ToldEnd, other: &ToldEnd) {
+    let first = Value::Text(one.port.kind.text.as_str());
+    let second = Value::Text(other.port.kind.text.as_str());
+    let sentence = if !are_of_one_type(one, other) {
+        sentences::TWO_TYPES
+    } else if one.output {
+        sentences::TWO_OUTPUTS
     } else {
-        "error: this wire joins two inputs of type `"
-    }
-}
-
-/// What is wrong with a wire of these two ends.
-fn say_misfit(report: &mut Report, one: &ToldEnd, other: &ToldEnd) {
-    let kind = one.port.kind.text.as_str();
-    let second = other.port.kind.text.as_str();
-    if kind != second {
-        say_types(report, kind, second);
-    } else {
-        report.say_name(two_of(one.output), kind, "`");
-    }
+        sentences::TWO_INPUTS
+    };
+    let slots = [("one", first), ("other", second), ("type", first)];
+    report.wrong_with(place, sentence, &slots);
 }
 
 /// A symbol whose agents give something of this type, and how many of their auxiliary ports do.
 #[derive(Clone, Copy)]
-struct Giving<'a> {
+pub struct Giving<'a> {
     symbol: &'a SourceSymbol,
     kind: &'a str,
     auxiliary: usize,
@@ -221,98 +199,95 @@ fn separator(told: usize, count: usize) -> &'static str {
     }
 }
 
-/// Says the auxiliary ports at which it is given, by their numbers.
-fn say_auxiliary(report: &mut Report, giving: Giving) {
-    let several = giving.auxiliary > 1;
-    report.say(if several {
-        "auxiliary ports "
-    } else {
-        "auxiliary port "
-    });
-    let mut told: usize = 0;
-    for number in 1..=arity(giving.symbol) {
-        if gives(giving.symbol, giving.kind, number) {
-            report.say_number(separator(told, giving.auxiliary), number, "");
-            told = told.saturating_add(1);
+impl Giving<'_> {
+    /// Whether it is given at the port of that number.
+    fn is_at(&self, number: usize) -> bool {
+        gives(self.symbol, self.kind, number)
+    }
+
+    /// Says the auxiliary ports at which it is given, by their numbers.
+    fn say_auxiliary(&self, words: &mut Words) {
+        words.say(if self.auxiliary > 1 {
+            "auxiliary ports "
+        } else {
+            "auxiliary port "
+        });
+        let mut told: usize = 0;
+        for number in 1..=arity(self.symbol) {
+            if self.is_at(number) {
+                words.say(separator(told, self.auxiliary));
+                words.put(&number);
+                told = told.saturating_add(1);
+            }
+        }
+    }
+
+    /// Says the ports at which it is given.
+    pub(crate) fn say_outputs(&self, words: &mut Words) {
+        if self.is_at(0) {
+            words.say("the principal port");
+            if self.auxiliary > 0 {
+                words.say(" and ");
+            }
+        }
+        if self.auxiliary > 0 {
+            self.say_auxiliary(words);
+        }
+    }
+
+    /// Says the letters of the ports at which it is given, of an agent with a letter for each of its ports.
+    pub(crate) fn say_letters(&self, words: &mut Words) {
+        let principal: usize = if self.is_at(0) { 1 } else { 0 };
+        let count = self.auxiliary.saturating_add(principal);
+        let mut told: usize = 0;
+        for number in 0..=arity(self.symbol) {
+            if self.is_at(number) {
+                words.say(separator(told, count));
+                words.say("`");
+                words.push(letter(number));
+                words.say("`");
+                told = told.saturating_add(1);
+            }
         }
     }
 }
 
-/// Says the ports at which it is given.
-fn say_outputs(report: &mut Report, giving: Giving, principal: bool) {
-    if principal {
-        report.say("the principal port");
-    }
-    if principal && giving.auxiliary > 0 {
-        report.say(" and ");
-    }
-    if giving.auxiliary > 0 {
-        say_auxiliary(report, giving);
-    }
-}
-
-/// Says the letters of the `count` ports at which it is given.
-fn say_output_letters(report: &mut Report, giving: Giving, count: usize) {
-    let mut told: usize = 0;
-    for number in 0..=arity(giving.symbol) {
-        if gives(giving.symbol, giving.kind, number) {
-            report.say_name(separator(told, count), "`", "");
-            report.push(letter(number));
-            report.say("`");
-            told = told.saturating_add(1);
-        }
-    }
-}
-
-/// Says an agent with a letter for each of its ports, joined by its principal port.
-fn say_lettered(report: &mut Report, symbol: &SourceSymbol) {
-    report.say_name("`a ~ ", symbol.name.text.as_str(), "(");
-    say_letters(report, 1, arity(symbol));
-    report.say(");`");
-}
-
-/// Says at which ports it is given, and ends the sentence.
-fn end_with_outputs(report: &mut Report, giving: Giving) {
-    let principal = gives(giving.symbol, giving.kind, 0);
-    let count = giving
-        .auxiliary
-        .saturating_add(if principal { 1 } else { 0 });
-    say_outputs(report, giving, principal);
-    report.say(": ");
-    say_output_letters(report, giving, count);
-    report.say(" in ");
-    say_lettered(report, giving.symbol);
-    report.end();
+/// Adds that something is given at these ports.
+fn help_with_giving(report: &mut Report, sentence: &str, giving: Giving) {
+    let slots = [
+        ("type", Value::Text(giving.kind)),
+        ("symbol", Value::Text(giving.symbol.name.text.as_str())),
+        ("ports", Value::Outputs(giving)),
+        ("letters", Value::OutputLetters(giving)),
+        ("arguments", Value::Letters(1, arity(giving.symbol))),
+    ];
+    report.help_with(sentence, &slots);
 }
 
 /// What helps where a term is taken for what its agent gives.
 fn help_with_result(report: &mut Report, giving: Giving) {
     let symbol = giving.symbol;
-    report.say_name(
-        "help: the term stands for the principal port of `",
-        symbol.name.text.as_str(),
-        "`, which takes a `",
-    );
-    report.say_name("", symbol.port.kind.text.as_str(), "`\n");
-    report.say_name("help: the `", giving.kind, "` that it gives is at ");
-    end_with_outputs(report, giving);
+    let slots = [
+        ("symbol", Value::Text(symbol.name.text.as_str())),
+        ("type", Value::Text(symbol.port.kind.text.as_str())),
+    ];
+    report.help_with(sentences::TERM_IS_PRINCIPAL, &slots);
+    help_with_giving(report, sentences::TERM_GIVES, giving);
 }
 
-/// What helps where a port of an agent is taken for another one, at which it gives something.
-fn help_with_port(report: &mut Report, giving: Giving) {
-    report.say_name("help: the `", giving.kind, "` that `");
-    report.say_name("", giving.symbol.name.text.as_str(), "` gives is at ");
-    end_with_outputs(report, giving);
-}
-
-/// What helps where a free end has the wrong sign: these words and its declaration with the other one.
-fn help_with_free_end(report: &mut Report, before: &str, name: &str, port: &SourcePort) {
-    report.say_name(before, name, " : ");
-    report.say_name(
-        "",
-        port.kind.text.as_str(),
-        if port.output { "-`\n" } else { "+`\n" },
-    );
+/// What helps where a free end has the wrong sign: its declaration with the other one.
+fn help_with_free_end<'e>(
+    report: &mut Report,
+    sentence: &str,
+    name: &'e str,
+    port: &'e SourcePort,
+) {
+    let slots = [
+        ("name", Value::Text(name)),
+        ("type", Value::Text(port.kind.text.as_str())),
+        ("sign", Value::Text(if port.output { "-" } else { "+" })),
+    ];
+    report.help_with(sentence, &slots);
 }
 
 /// The free end that one of two ends is, and the port that belongs there; nothing where both are free ends.
@@ -349,14 +324,12 @@ fn add_input(report: &mut Report, one: &ToldEnd, other: &ToldEnd) {
     let Some((symbol, number)) = input_beside(one).or(input_beside(other)) else {
         return;
     };
-    report.say_name(
-        "help: or, where `",
-        symbol.name.text.as_str(),
-        "` is to take what comes here: it takes a `",
-    );
-    report.say_name("", one.port.kind.text.as_str(), "` at auxiliary port ");
-    report.say_number("", number, "");
-    report.end();
+    let slots = [
+        ("symbol", Value::Text(symbol.name.text.as_str())),
+        ("type", Value::Text(one.port.kind.text.as_str())),
+        ("number", Value::Number(number)),
+    ];
+    report.help_with(sentences::OR_TAKES, &slots);
 }
 
 /// Whether one of these ends is a principal port.
@@ -368,7 +341,7 @@ fn has_principal(one: &ToldEnd, other: &ToldEnd) -> bool {
 fn add_other_port(report: &mut Report, one: &ToldEnd, other: &ToldEnd) -> bool {
     match (result_of(one, other), port_of(one, other)) {
         (Some(result), _) if has_principal(one, other) => help_with_result(report, result),
-        (_, Some(result)) => help_with_port(report, result),
+        (_, Some(result)) => help_with_giving(report, sentences::SYMBOL_GIVES, result),
         _ => return false,
     }
     true
@@ -379,12 +352,12 @@ fn add_other_port(report: &mut Report, one: &ToldEnd, other: &ToldEnd) -> bool {
 fn add_turned(report: &mut Report, one: &ToldEnd, other: &ToldEnd) -> bool {
     match (free_end_of(one, other), result_of(one, other)) {
         (Some((name, port)), _) => {
-            let before = if add_other_port(report, one, other) {
-                "help: or, where the net is to take it, declare `"
+            let sentence = if add_other_port(report, one, other) {
+                sentences::OR_DECLARE_FREE_END
             } else {
-                "help: declare `"
+                sentences::DECLARE_FREE_END
             };
-            help_with_free_end(report, before, name, port);
+            help_with_free_end(report, sentence, name, port);
         }
         (None, Some(result)) => {
             help_with_result(report, result);
@@ -403,13 +376,10 @@ fn are_of_one_type(one: &ToldEnd, other: &ToldEnd) -> bool {
 /// Adds that the two ends of the wire at a place of the text don't fit: their types differ, or both are outputs or both inputs. Then what
 /// stands at each end, and what helps.
 pub fn say_ends(report: &mut Report, place: Place, one: &ToldEnd, other: &ToldEnd) {
-    say_misfit(report, one, other);
-    report.end_at(place);
+    add_misfit(report, place, one, other);
     add_end(report, one);
     add_end(report, other);
     if !are_of_one_type(one, other) || !add_turned(report, one, other) {
-        report.help(
-            "a wire joins an output `+` to an input `-` of the same type: look at the declarations",
-        );
+        report.help(sentences::OUTPUT_TO_INPUT);
     }
 }

@@ -1,5 +1,5 @@
 //! A line of a text with a mark under a place in it.
-use crate::reports::Report;
+use crate::words::Words;
 use in_syntax::Place;
 use std::str;
 
@@ -132,30 +132,30 @@ fn blank(c: char) -> char {
 }
 
 /// Adds what stands before the place, but for the first `hidden` characters.
-fn add_before(report: &mut Report, before: &str, hidden: usize) {
+fn add_before(page: &mut Words, before: &str, hidden: usize) {
     for c in before.chars().skip(hidden) {
-        report.push(shown(c));
+        page.push(shown(c));
     }
 }
 
 /// Adds at most `most` of these characters; answers how many more may come, or nothing where some are left out.
-fn add_some(report: &mut Report, text: &str, most: usize) -> Option<usize> {
+fn add_some(page: &mut Words, text: &str, most: usize) -> Option<usize> {
     let mut left = most;
     for c in text.chars() {
         if left == 0 {
-            report.say("...");
+            page.say("...");
             return None;
         }
         left -= 1;
-        report.push(shown(c));
+        page.push(shown(c));
     }
     Some(left)
 }
 
 /// Adds the marked part and what stands after it, as far as there is room.
-fn add_rest(report: &mut Report, line: &Line) {
-    if let Some(left) = add_some(report, line.marked, AFTER) {
-        let _ = add_some(report, line.after, left);
+fn add_rest(page: &mut Words, line: &Line) {
+    if let Some(left) = add_some(page, line.marked, AFTER) {
+        let _ = add_some(page, line.after, left);
     }
 }
 
@@ -165,37 +165,37 @@ fn where_it_holds(holds: bool, words: &'static str) -> &'static str {
 }
 
 /// Adds the line, of which the first `hidden` characters are not shown.
-fn add_line(report: &mut Report, line: &Line, hidden: usize) {
-    report.say(where_it_holds(hidden > 0, "..."));
-    add_before(report, line.before, hidden);
-    report.say(where_it_holds(line.broken, "\u{FFFD}"));
-    add_rest(report, line);
+fn add_line(page: &mut Words, line: &Line, hidden: usize) {
+    page.say(where_it_holds(hidden > 0, "..."));
+    add_before(page, line.before, hidden);
+    page.say(where_it_holds(line.broken, "\u{FFFD}"));
+    add_rest(page, line);
 }
 
 /// Adds blanks as wide as what stands before the place, but for the first `hidden` characters.
-fn add_blanks(report: &mut Report, before: &str, hidden: usize) {
+fn add_blanks(page: &mut Words, before: &str, hidden: usize) {
     for c in before.chars().skip(hidden) {
-        report.push(blank(c));
+        page.push(blank(c));
     }
 }
 
 /// Adds the mark under the line.
-fn add_mark(report: &mut Report, line: &Line, hidden: usize) {
-    report.say(where_it_holds(hidden > 0, "   "));
-    add_blanks(report, line.before, hidden);
+fn add_mark(page: &mut Words, line: &Line, hidden: usize) {
+    page.say(where_it_holds(hidden > 0, "   "));
+    add_blanks(page, line.before, hidden);
     for _mark in 0..line.marked.chars().count().clamp(1, AFTER) {
-        report.push('^');
+        page.push('^');
     }
 }
 
 /// Adds the line in which a place begins, with its number, and a mark under the place; a line that is too long for a screen is cut.
-pub(crate) fn add_excerpt(report: &mut Report, place: Place) {
-    let line = line_of(report.text, place);
+pub(crate) fn add_excerpt(page: &mut Words, text: &[u8], place: Place) {
+    let line = line_of(text, place);
     let hidden = line.before.chars().count().saturating_sub(BEFORE);
     let number = place.line;
-    report.put(&format_args!("{number:>5} | "));
-    add_line(report, &line, hidden);
-    report.say("\n      | ");
-    add_mark(report, &line, hidden);
-    report.end();
+    page.put(&format_args!("{number:>5} | "));
+    add_line(page, &line, hidden);
+    page.say("\n      | ");
+    add_mark(page, &line, hidden);
+    page.say("\n");
 }

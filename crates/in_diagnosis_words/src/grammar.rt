@@ -5,6 +5,8 @@ use crate::before::{
 };
 use crate::near::distance;
 use crate::reports::Report;
+use crate::sentences;
+use crate::slots::Value;
 use in_syntax::{
     Expected, MAX_DEPTH, MAX_FREE_NAMES, MAX_NAME_CHARACTERS, MAX_PORTS, MAX_RULES, MAX_SYMBOLS,
     MAX_TEXT_BYTES, MAX_TYPES, PartOf, Place, Token, TokenKind,
@@ -169,15 +171,11 @@ impl Unexpected<'_> {
     /// What helps where brackets close after a comma, or with nothing in them.
     fn help_with_closing(&self) -> Option<&'static str> {
         match (self.expected, last_kind(self.before)?) {
-            (Expected::Term, TokenKind::Comma) => Some("a term is missing after the comma"),
-            (Expected::PortType, TokenKind::Comma) => Some("a port is missing after the comma"),
-            (Expected::FreeName, TokenKind::Comma) => Some("a free end is missing after the comma"),
-            (Expected::Term, TokenKind::OpenParenthesis) => {
-                Some("a symbol without auxiliary ports is written without brackets in a term")
-            }
-            (Expected::PortType, TokenKind::OpenBrace) => {
-                Some("a pair of braces has at least one port")
-            }
+            (Expected::Term, TokenKind::Comma) => Some(sentences::TERM_AFTER_COMMA),
+            (Expected::PortType, TokenKind::Comma) => Some(sentences::PORT_AFTER_COMMA),
+            (Expected::FreeName, TokenKind::Comma) => Some(sentences::FREE_END_AFTER_COMMA),
+            (Expected::Term, TokenKind::OpenParenthesis) => Some(sentences::NO_ARGUMENTS),
+            (Expected::PortType, TokenKind::OpenBrace) => Some(sentences::NO_EMPTY_BRACES),
             _ => None,
         }
     }
@@ -186,20 +184,12 @@ impl Unexpected<'_> {
     fn help_with_brackets(&self) -> Option<&'static str> {
         match (self.expected, self.found) {
             (_, ")" | "]" | "}") => self.help_with_closing(),
-            (Expected::HeadOpen, "(") => Some("the terms of a head stand in `[` and `]`"),
-            (Expected::HeadOpen, _) => {
-                Some("a head has brackets, also where it has no terms: `Z[]`")
-            }
-            (Expected::AfterName(_) | Expected::AfterTerm(_), "[") => {
-                Some(
-                    "the arguments of an agent stand in `(` and `)`; `[` and `]` are for heads of rules",
-                )
-            }
-            (Expected::NetOpen, _) => {
-                Some(
-                    "the net has brackets for its free ends, also where it has none: `net () { .. }`",
-                )
-            }
+            (Expected::HeadOpen, "(") => Some(sentences::HEAD_BRACKETS),
+            (Expected::HeadOpen, _) => Some(sentences::EMPTY_HEAD),
+            (Expected::AfterName(_) | Expected::AfterTerm(_), "[") => Some(
+                sentences::ARGUMENT_BRACKETS,
+            ),
+            (Expected::NetOpen, _) => Some(sentences::NET_BRACKETS),
             _ => None,
         }
     }
@@ -207,11 +197,9 @@ impl Unexpected<'_> {
     /// What helps where it was found in the place of a name, or of what stands after one.
     fn help_with_name(&self) -> Option<&'static str> {
         match self.expected {
-            Expected::Colon if begin_symbol(self.before) => {
-                Some("a symbol is declared with the types of its ports: `symbol S : nat+ {nat-};`")
-            }
-            Expected::Colon => Some("a free end is declared with its type: `r : nat+`"),
-            _ if self.is_no_name() => Some("a reserved word is no name"),
+            Expected::Colon if begin_symbol(self.before) => Some(sentences::SYMBOL_DECLARATION),
+            Expected::Colon => Some(sentences::FREE_END_DECLARATION),
+            _ if self.is_no_name() => Some(sentences::RESERVED_WORD),
             _ => None,
         }
     }
@@ -219,18 +207,14 @@ impl Unexpected<'_> {
     /// What helps where it was found in the place of a section, or after the last one.
     fn help_with_section(&self) -> Option<&'static str> {
         match (self.expected, self.found, self.after) {
-            (Expected::Item, "", _) => Some("a program ends with its net: `net (..) { .. }`"),
-            (Expected::Item, ";", _) => Some("a declaration or a rule ends with one `;`"),
-            (Expected::Item, _, Some(TokenKind::OpenBracket)) if !is_sign(self.found) => {
-                Some("a rule begins with the word `rule`")
-            }
-            (Expected::Item, _, _) => {
-                Some(
-                    "equations stand in the braces of the net, or of a rule behind the word `with`",
-                )
-            }
-            (Expected::Nothing, ";", _) => Some("no `;` stands after the net"),
-            (Expected::Nothing, _, _) => Some("the net comes last, and there is one"),
+            (Expected::Item, "", _) => Some(sentences::ENDS_WITH_NET),
+            (Expected::Item, ";", _) => Some(sentences::ONE_SEMICOLON),
+            (Expected::Item, _, Some(TokenKind::OpenBracket)) if !is_sign(self.found) => Some(
+                sentences::RULE_BEGINS,
+            ),
+            (Expected::Item, _, _) => Some(sentences::WHERE_EQUATIONS_STAND),
+            (Expected::Nothing, ";", _) => Some(sentences::NOTHING_AFTER_NET),
+            (Expected::Nothing, _, _) => Some(sentences::NET_COMES_LAST),
             _ => None,
         }
     }
@@ -238,43 +222,37 @@ impl Unexpected<'_> {
     /// What helps where it was found in the place of something else.
     fn help_with_other(&self) -> &'static str {
         match (self.expected, self.found) {
-            (Expected::AfterName(PartOf::Left) | Expected::AfterTerm(PartOf::Left), _) => {
-                "an equation is a term, `~`, another term and `;`"
-            }
-            (Expected::AfterName(PartOf::Right) | Expected::AfterTerm(PartOf::Right), _) => {
-                "an equation ends with `;`"
-            }
-            (Expected::PortSign, _) => {
-                "a port is a type's name and `+` for an output, `-` for an input"
-            }
-            (Expected::TypeEnd, _) => "types are declared as in `type nat, bool;`",
-            (Expected::SymbolEnd, "type" | "symbol" | "rule" | "net" | "") => {
-                "a declaration ends with `;`"
-            }
-            (Expected::SymbolEnd, _) => "auxiliary ports stand in braces, one pair for each class",
-            (Expected::Meets, _) => "a rule is two heads with `><` between them",
-            (Expected::RuleEnd, _) => {
-                "a rule ends with `;`, or goes on with `with { .. }` and its equations"
-            }
-            (Expected::RuleClose, _) => {
-                "a rule with equations ends with `;` behind its closing brace"
-            }
-            (Expected::Equation, ";") => "an equation ends with one `;`",
-            (Expected::BodyOpen | Expected::Equation, _) => {
-                "equations stand in braces, each with `;` at its end"
-            }
+            (Expected::AfterName(PartOf::Left) | Expected::AfterTerm(PartOf::Left), _) =>
+                sentences::EQUATION_FORM,
+            (Expected::AfterName(PartOf::Right) | Expected::AfterTerm(PartOf::Right), _) =>
+                sentences::EQUATION_END,
+            (Expected::Equation, ";") => sentences::ONE_EQUATION_END,
+            (Expected::BodyOpen | Expected::Equation, _) => sentences::EQUATIONS_FORM,
             (Expected::ClassEnd | Expected::FreeEnd, _)
-            | (Expected::AfterName(_) | Expected::AfterTerm(_), _) => {
-                "what stands in brackets is separated by `,`"
-            }
-            _ => "look at what stands before it: most often a `;`, a `~` or a bracket is missing",
+            | (Expected::AfterName(_) | Expected::AfterTerm(_), _) => sentences::COMMAS,
+            _ => self.help_with_declaration(),
+        }
+    }
+
+    /// What helps where it was found within a declaration or a rule.
+    fn help_with_declaration(&self) -> &'static str {
+        match (self.expected, self.found) {
+            (Expected::PortSign, _) => sentences::PORT_FORM,
+            (Expected::TypeEnd, _) => sentences::TYPES_FORM,
+            (Expected::SymbolEnd, "type" | "symbol" | "rule" | "net" | "") =>
+                sentences::DECLARATION_END,
+            (Expected::SymbolEnd, _) => sentences::BRACES_FORM,
+            (Expected::Meets, _) => sentences::RULE_FORM,
+            (Expected::RuleEnd, _) => sentences::RULE_END,
+            (Expected::RuleClose, _) => sentences::RULE_CLOSE,
+            _ => sentences::LOOK_BEFORE,
         }
     }
 
     /// What helps.
     fn help(&self) -> &'static str {
         if self.cuts_name() {
-            return "a name has letters, digits and `_`, and no `-`";
+            return sentences::NO_MINUS_IN_NAMES;
         }
         if let Some(help) = self.help_with_section() {
             return help;
@@ -289,19 +267,10 @@ impl Unexpected<'_> {
     }
 }
 
-/// What was found in the place of what is expected.
-fn say_found(report: &mut Report, found: &str) {
-    if found.is_empty() {
-        report.say("error: the text ends here");
-    } else {
-        report.say_name("error: unexpected `", found, "`");
-    }
-}
-
 /// Adds where a `;` is missing: after the last token.
 fn add_missing_semicolon(report: &mut Report, before: &[Token]) {
     if let Some(place) = place_after(before) {
-        report.note(place, "expected `;` here");
+        report.note(place, sentences::SEMICOLON_HERE);
     }
 }
 
@@ -316,9 +285,8 @@ fn closing(kind: TokenKind) -> &'static str {
 
 /// Adds the bracket that is open, and what closes it.
 fn add_open(report: &mut Report, bracket: Token) {
-    let text = report.at(bracket.place);
-    report.note_name(bracket.place, "this `", text, "` is open");
-    report.say_name("help: it is closed by ", closing(bracket.kind), "\n");
+    report.note_on(bracket.place, sentences::IS_OPEN, report.at(bracket.place));
+    report.help_on(sentences::CLOSED_BY, closing(bracket.kind));
 }
 
 /// The last bracket that is open, where it may have been meant to be closed before this.
@@ -330,27 +298,15 @@ fn open_before(unexpected: &Unexpected) -> Option<Token> {
     }
 }
 
-/// What helps, where a word of the grammar may have been meant.
-fn help_with_word(report: &mut Report, unexpected: &Unexpected, word: Option<&str>) {
-    match word {
-        Some(word) => report.say_name("help: did you mean `", word, "`?\n"),
-        None => report.help(unexpected.help()),
-    }
-}
-
 /// What helps.
 fn add_help(report: &mut Report, unexpected: &Unexpected) {
     if let Some(name) = unexpected.bare_name() {
-        let name = report.at(name);
-        report.say_name(
-            "help: write `",
-            name,
-            "` without brackets: `[]` is for heads of rules\n",
-        );
+        report.help_on(sentences::BARE_AGENT, report.at(name));
         return;
     }
     match unexpected.meant(report.alloc) {
-        Ok(word) => help_with_word(report, unexpected, word),
+        Ok(Some(word)) => report.help_on(sentences::MEANT_WORD, word),
+        Ok(None) => report.help(unexpected.help()),
         Err(error) => report.fail(error),
     }
 }
@@ -373,12 +329,24 @@ fn around(report: &Report, place: Place) -> Result<(Vec<Token>, Option<TokenKind
     Ok((before, after))
 }
 
+/// What was found in the place of what is expected.
+fn wrong_token(report: &mut Report, place: Place, found: &str, expected: Expected) {
+    let sentence = if found.is_empty() {
+        sentences::ENDS_HERE
+    } else {
+        sentences::UNEXPECTED
+    };
+    let slots = [
+        ("found", Value::Text(found)),
+        ("expected", Value::Text(words(expected))),
+    ];
+    report.wrong_with(place, sentence, &slots);
+}
+
 /// An unexpected token, where this is expected.
 pub(crate) fn add_unexpected(report: &mut Report, place: Place, expected: Expected) {
     let found = report.at(place);
-    say_found(report, found);
-    report.say_name(", where ", words(expected), " is expected");
-    report.end_at(place);
+    wrong_token(report, place, found, expected);
     match around(report, place) {
         Ok((before, after)) => add_reasons(
             report,
@@ -396,17 +364,14 @@ pub(crate) fn add_unexpected(report: &mut Report, place: Place, expected: Expect
 
 /// A text of too many bytes. How many is not known: who reads one stops past the limit.
 pub(crate) fn add_long_text(report: &mut Report, place: Place) {
-    report.wrong_number(place, "the text has more than ", MAX_TEXT_BYTES, " bytes");
+    let most = Value::Number(MAX_TEXT_BYTES);
+    report.wrong_with(place, sentences::LONG_TEXT, &[("most", most)]);
 }
 
 /// A word of too many characters.
 pub(crate) fn add_long_word(report: &mut Report, place: Place) {
-    report.wrong_number(
-        place,
-        "this word has more than ",
-        MAX_NAME_CHARACTERS,
-        " characters",
-    );
+    let most = Value::Number(MAX_NAME_CHARACTERS);
+    report.wrong_with(place, sentences::LONG_WORD, &[("most", most)]);
 }
 
 /// What there is too much of, and the most of it, where the grammar expects this.
@@ -424,19 +389,21 @@ fn limit(expected: Expected) -> (usize, &'static str) {
 /// What helps against too much of it.
 fn limit_help(expected: Expected) -> &'static str {
     match expected {
-        Expected::Term => {
-            "give an inner term a name: write a variable in its place, and an equation of the two"
-        }
-        Expected::PortType => "let one argument be an agent that holds several",
-        _ => "split the program",
+        Expected::Term => sentences::NAME_AN_INNER_TERM,
+        Expected::PortType => sentences::AGENT_FOR_SEVERAL,
+        _ => sentences::SPLIT_THE_PROGRAM,
     }
+}
+
+/// Adds that there is more of something than there may be at most.
+pub fn add_more_than(report: &mut Report, place: Place, most: usize, what: &str) {
+    let slots = [("most", Value::Number(most)), ("what", Value::Text(what))];
+    report.wrong_with(place, sentences::MORE_THAN, &slots);
 }
 
 /// A limit of the grammar that is passed, where this is expected.
 pub(crate) fn add_limit(report: &mut Report, place: Place, expected: Expected) {
     let (most, what) = limit(expected);
-    report.say_number("error: more than ", most, " ");
-    report.say(what);
-    report.end_at(place);
+    add_more_than(report, place, most, what);
     report.help(limit_help(expected));
 }

@@ -10,8 +10,9 @@
 //! `nodes` the nodes of a circle, and `braces` declarations with other braces, in words. Tokens are read again in `before` alone: those
 //! before a place where the grammar refuses, where there is no tree, and for `braces` those of a declaration, whose `;` no tree has.
 //!
-//! `reports` and `excerpts` write it: lines of the text with marks under them. A `Report` keeps that memory ran out, and `into_text`
-//! answers it.
+//! `sentences` has each sentence whole, with named slots; `words` writes a sentence with what stands in its slots (`slots`). `reports` keeps
+//! the parts of a diagnosis, and writes its text with `excerpts`: lines of the text with marks under them. A `Report` keeps that memory ran
+//! out, and `into_text` returns it.
 #![tactic(auto)]
 
 mod before;
@@ -29,12 +30,18 @@ mod occurrences;
 mod pairs;
 mod refusals;
 mod reports;
+mod sentences;
 mod single;
+mod slots;
+mod words;
 
 pub use braces::{Braces, changed_braces, declaration_with, text_with};
 pub use declarations::port;
-pub use ends::{ToldEnd, agent_end, free_end, head_end, say_ends};
-pub use nodes::{add_braces, say_node_at, say_port_of};
+pub use ends::{Giving, ToldEnd, agent_end, free_end, head_end, say_ends};
+pub use grammar::add_more_than;
+pub use nodes::{add_braces, port_of, say_node_at};
 pub use occurrences::rule_at;
 pub use refusals::{add_text_fault, add_tree_fault};
-pub use reports::Report;
+pub use reports::{Kind, Report};
+pub use slots::{Slot, Value};
+pub use words::Words;

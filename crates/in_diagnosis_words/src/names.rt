@@ -4,37 +4,39 @@ use crate::near::add_near;
 use crate::occurrences::{arguments, names_around, occurrences, rule_around};
 use crate::pairs::add_unmet;
 use crate::reports::Report;
+use crate::sentences;
 use crate::single::add_single;
+use crate::slots::{Slot, Value};
 use in_syntax::{Name, NameUse, Place, Source, SourceSymbol};
 
-/// Where the first of these names stands that is this one.
-fn note_first<D: Declared>(report: &mut Report, declared: &[D], name: &str) {
-    if let Some(first) = first_of(declared, name) {
-        report.note(first.place, "it is declared here first");
+/// Adds what is wrong with the name at a place.
+fn wrong_name(report: &mut Report, place: Place, sentence: &str) {
+    report.wrong_on(place, sentence, report.at(place));
+}
+
+/// Adds a second declaration, and the first one among these.
+fn add_second<D: Declared>(report: &mut Report, sentence: &str, declared: &[D], place: Place) {
+    wrong_name(report, place, sentence);
+    if let Some(first) = first_of(declared, report.at(place)) {
+        report.note(first.place, sentences::FIRST_DECLARATION);
     }
-}
-
-/// A second declaration, and the first one of these names.
-fn add_second<D: Declared>(report: &mut Report, what: &str, declared: &[D], place: Place) {
-    let name = report.at(place);
-    report.wrong_name(place, what, name, "` is declared twice");
-    note_first(report, declared, name);
-    report.help("give one of them another name, or leave one out");
-}
-
-/// A free end that has the name of a symbol.
-fn add_taken(report: &mut Report, symbol: &SourceSymbol, place: Place) {
-    let name = report.at(place);
-    report.wrong_name(place, "the free end `", name, "` has the name of a symbol");
-    report.note(symbol.name.place, "the symbol is declared here");
-    report.help("give the free end another name");
+    report.help(sentences::RENAME_OR_LEAVE_OUT);
 }
 
 /// A free end that is declared twice, or has the name of a symbol.
 fn add_second_end(report: &mut Report, source: &Source, place: Place) {
     match symbol_named(source, report.at(place)) {
-        Some(symbol) => add_taken(report, symbol, place),
-        None => add_second(report, "the free end `", source.net.free.as_slice(), place),
+        Some(symbol) => {
+            wrong_name(report, place, sentences::NAME_OF_A_SYMBOL);
+            report.note(symbol.name.place, sentences::SYMBOL_IS_HERE);
+            report.help(sentences::RENAME_FREE_END);
+        }
+        None => add_second(
+            report,
+            sentences::FREE_END_TWICE,
+            source.net.free.as_slice(),
+            place,
+        ),
     }
 }
 
@@ -43,9 +45,9 @@ pub(crate) fn add_declared_twice(report: &mut Report, source: &Source, place: Pl
     let types = source.types.as_slice();
     let symbols = source.symbols.as_slice();
     if is_among(types, place) {
-        add_second(report, "the type `", types, place);
+        add_second(report, sentences::TYPE_TWICE, types, place);
     } else if is_among(symbols, place) {
-        add_second(report, "the symbol `", symbols, place);
+        add_second(report, sentences::SYMBOL_TWICE, symbols, place);
     } else {
         add_second_end(report, source, place);
     }
@@ -59,59 +61,75 @@ fn add_near_symbols(report: &mut Report, source: &Source, name: &str) -> bool {
 /// A type that isn't declared.
 pub(crate) fn add_unknown_type(report: &mut Report, source: &Source, place: Place) {
     let name = report.at(place);
-    report.wrong_name(place, "the type `", name, "` is not declared");
+    wrong_name(report, place, sentences::UNKNOWN_TYPE);
     if !add_near(report, name, source.types.as_slice()) {
-        report.say_name("help: declare it: `type ", name, ";`\n");
+        report.help_on(sentences::DECLARE_TYPE, name);
     }
 }
 
 /// A name before brackets that is no symbol.
 pub(crate) fn add_unknown_symbol(report: &mut Report, source: &Source, place: Place) {
-    let name = report.at(place);
-    report.wrong_name(place, "no symbol `", name, "` is declared");
-    let _ = add_near_symbols(report, source, name);
-    report.help("a name before `(` or `[` is that of a declared symbol");
-}
-
-/// The word for that many.
-fn plural(count: usize, one: &'static str, several: &'static str) -> &'static str {
-    if count == 1 { one } else { several }
-}
-
-/// How many arguments there are, and how many auxiliary ports.
-fn say_counts(report: &mut Report, count: usize, ports: usize) {
-    report.say_number("` has ", count, plural(count, " argument", " arguments"));
-    report.say_number(
-        " here, and ",
-        ports,
-        plural(ports, " auxiliary port", " auxiliary ports"),
-    );
+    wrong_name(report, place, sentences::UNKNOWN_SYMBOL);
+    let _ = add_near_symbols(report, source, report.at(place));
+    report.help(sentences::NAMES_BEFORE_BRACKETS);
 }
 
 /// What helps where a symbol has that many auxiliary ports.
 fn arity_help(ports: usize) -> &'static str {
     if ports == 0 {
-        "it is written without brackets in a term, and with `[]` as a head"
+        sentences::WITHOUT_BRACKETS
     } else {
-        "write one argument for each auxiliary port"
+        sentences::ONE_ARGUMENT_EACH
     }
 }
 
 /// Where a symbol with that many auxiliary ports is declared.
 fn where_ports_stand(ports: usize) -> &'static str {
     if ports == 0 {
-        "it is declared here, without auxiliary ports"
+        sentences::WITHOUT_PORTS
     } else {
-        "its auxiliary ports stand in braces here"
+        sentences::PORTS_STAND_HERE
+    }
+}
+
+/// A name with another number of arguments than its symbol has auxiliary ports.
+#[derive(Clone, Copy)]
+struct Miscounted<'a> {
+    symbol: &'a SourceSymbol,
+    name: &'a str,
+    arguments: usize,
+    place: Place,
+}
+
+impl<'a> Miscounted<'a> {
+    /// What stands in the slots of the sentence on it.
+    fn slots(&self) -> [Slot<'a>; 3] {
+        let ports = arity(self.symbol);
+        [
+            ("name", Value::Text(self.name)),
+            (
+                "arguments",
+                Value::Count(self.arguments, " argument", " arguments"),
+            ),
+            (
+                "ports",
+                Value::Count(ports, " auxiliary port", " auxiliary ports"),
+            ),
+        ]
     }
 }
 
 /// A number of arguments of a symbol that is not its arity.
-fn add_count(report: &mut Report, symbol: &SourceSymbol, count: usize, place: Place) {
+fn add_count(report: &mut Report, symbol: &SourceSymbol, arguments: usize, place: Place) {
+    let name = report.at(place);
+    let miscounted = Miscounted {
+        symbol,
+        name,
+        arguments,
+        place,
+    };
+    report.wrong_with(place, sentences::OTHER_COUNT, &miscounted.slots());
     let ports = arity(symbol);
-    report.say_name("error: `", report.at(place), "");
-    say_counts(report, count, ports);
-    report.end_at(place);
     report.note(symbol.name.place, where_ports_stand(ports));
     report.help(arity_help(ports));
 }
@@ -120,7 +138,7 @@ fn add_count(report: &mut Report, symbol: &SourceSymbol, count: usize, place: Pl
 fn add_arguments(report: &mut Report, source: &Source, count: Option<usize>, place: Place) {
     match (symbol_named(source, report.at(place)), count) {
         (Some(symbol), Some(count)) => add_count(report, symbol, count, place),
-        _ => report.wrong(place, "another number of arguments than auxiliary ports"),
+        _ => report.wrong(place, sentences::OTHER_COUNT_UNKNOWN),
     }
 }
 
@@ -132,17 +150,9 @@ pub(crate) fn add_other_arity(report: &mut Report, source: &Source, place: Place
     }
 }
 
-/// A name with another number of arguments than its symbol has auxiliary ports.
-#[derive(Clone, Copy)]
-struct Miscounted<'a> {
-    symbol: &'a SourceSymbol,
-    arguments: usize,
-    place: Place,
-}
-
 /// The first of these names that has another number of arguments than its symbol has auxiliary ports.
 fn first_miscounted<'a>(
-    report: &Report,
+    report: &Report<'a>,
     source: &'a Source,
     names: &[NameUse],
 ) -> Option<Miscounted<'a>> {
@@ -151,10 +161,12 @@ fn first_miscounted<'a>(
         arguments,
         ..
     } in names {
-        if let Some(symbol) = symbol_named(source, report.at(*place)) {
+        let name = report.at(*place);
+        if let Some(symbol) = symbol_named(source, name) {
             if *arguments != arity(symbol) {
                 return Some(Miscounted {
                     symbol,
+                    name,
                     arguments: *arguments,
                     place: *place,
                 });
@@ -164,20 +176,12 @@ fn first_miscounted<'a>(
     None
 }
 
-/// Adds how many arguments such a name has, and what helps.
-fn note_miscounted(report: &mut Report, name: Miscounted) {
-    let ports = arity(name.symbol);
-    report.say_name("note: `", report.at(name.place), "");
-    say_counts(report, name.arguments, ports);
-    report.end_at(name.place);
-    report.help(arity_help(ports));
-}
-
-/// Adds the first of these names that is such a one; says whether any is.
+/// Adds the first of these names that is such a one, and what helps; says whether any is.
 fn add_first_miscounted(report: &mut Report, source: &Source, names: &[NameUse]) -> bool {
     match first_miscounted(report, source, names) {
         Some(name) => {
-            note_miscounted(report, name);
+            report.note_with(name.place, sentences::OTHER_COUNT, &name.slots());
+            report.help(arity_help(arity(name.symbol)));
             true
         }
         None => false,
@@ -196,21 +200,21 @@ fn add_miscounted(report: &mut Report, source: &Source, at: Place) -> bool {
     }
 }
 
-/// The other places of a variable.
-fn add_others(report: &mut Report, places: &[Place], place: Place) {
+/// Adds the places of a variable or a free end before this one.
+fn add_earlier(report: &mut Report, places: &[Place], place: Place) {
     for other in places {
         if other.from < place.from {
-            report.note(*other, "it occurs here");
+            report.note(*other, sentences::OCCURS_HERE);
         }
     }
 }
 
-/// What helps where a variable of this name occurs once, and no other name is near.
-fn erasing_help(name: &str) -> &'static str {
+/// What helps with a variable of this name: this, but for the name that means nothing in other languages.
+fn variable_help(name: &str, help: &'static str) -> &'static str {
     if name == "_" {
-        "`_` is a name like others: what isn't needed is joined to an agent that erases it, with rules of its own"
+        sentences::ERASE_NO_WILDCARD
     } else {
-        "what isn't needed is joined to an agent that erases it, with rules of its own"
+        help
     }
 }
 
@@ -220,80 +224,52 @@ fn help_once(report: &mut Report, source: &Source, name: &str, place: Place) {
     if add_unmet(report, source, place) {
         return;
     }
-    if add_single(report, source, place, name, "` occurs once too") {
-        report.help("if they are the two ends of one wire, write one name for both");
+    if add_single(report, source, place, name, sentences::OCCURS_ONCE_TOO) {
+        report.help(sentences::ONE_NAME_FOR_BOTH);
     }
     if !add_miscounted(report, source, place) {
-        report.help(erasing_help(name));
+        report.help(variable_help(name, sentences::ERASE));
     }
 }
 
 /// A variable that occurs once.
 fn add_once(report: &mut Report, source: &Source, name: &str, place: Place) {
-    report.wrong_name(
-        place,
-        "the variable `",
-        name,
-        "` occurs once; a wire has two ends",
-    );
+    wrong_name(report, place, sentences::OCCURS_ONCE);
     if add_near_symbols(report, source, name) {
-        report.help("a name that is no symbol's is a variable");
+        report.help(sentences::NO_SYMBOL_IS_A_VARIABLE);
     } else {
         help_once(report, source, name, place);
     }
 }
 
-/// What helps where a variable of this name occurs a third time.
-fn copying_help(name: &str) -> &'static str {
-    if name == "_" {
-        "`_` is a name like others: what isn't needed is joined to an agent that erases it, with rules of its own"
-    } else {
-        "what is needed twice is joined to an agent that copies it, with rules of its own"
-    }
-}
-
 /// A variable that occurs a third time.
 fn add_third(report: &mut Report, name: &str, places: &[Place], place: Place) {
-    report.wrong_name(
-        place,
-        "the variable `",
-        name,
-        "` occurs a third time; a wire has two ends",
-    );
-    add_others(report, places, place);
-    report.help(copying_help(name));
+    wrong_name(report, place, sentences::OCCURS_A_THIRD_TIME);
+    add_earlier(report, places, place);
+    report.help(variable_help(name, sentences::COPY));
 }
 
 /// A free end that occurs nowhere in the body.
 fn add_unjoined(report: &mut Report, source: &Source, name: &str, place: Place) {
-    report.wrong_name(place, "nothing is joined to the free end `", name, "`");
-    let _ = add_single(
-        report,
-        source,
-        place,
-        name,
-        "` occurs once, and is no free end",
-    );
+    wrong_name(report, place, sentences::NOT_JOINED);
+    let _ = add_single(report, source, place, name, sentences::NO_FREE_END);
     let _ = add_miscounted(report, source, place);
-    report.help("its name occurs exactly once in the equations of the net");
+    report.help(sentences::OCCURS_IN_THE_NET);
 }
 
 /// A free end that occurs a second time.
-fn add_second_time(report: &mut Report, name: &str, places: &[Place], place: Place) {
-    report.wrong_name(place, "the free end `", name, "` occurs a second time");
-    add_others(report, places, place);
-    report.help(
-        "a free end is one end of one wire; what is needed twice takes an agent that copies it",
-    );
+fn add_second_time(report: &mut Report, places: &[Place], place: Place) {
+    wrong_name(report, place, sentences::OCCURS_A_SECOND_TIME);
+    add_earlier(report, places, place);
+    report.help(sentences::ONE_END_OF_ONE_WIRE);
 }
 
 /// A free end that occurs nowhere in the body, or a second time.
 fn add_free(report: &mut Report, source: &Source, declared: &Name, places: &[Place], place: Place) {
-    let name = declared.text.as_str();
     if declared.place.from == place.from {
-        add_unjoined(report, source, name, place);
+        add_unjoined(report, source, declared.text.as_str(), place);
     } else {
-        add_second_time(report, name, places, place);
+        add_second_time(report, places, place);
     }
 }
 
@@ -318,7 +294,7 @@ fn add_places(report: &mut Report, source: &Source, places: &[Place], place: Pla
 /// A variable that doesn't occur twice, or a free end that doesn't occur once.
 pub(crate) fn add_occurrences(report: &mut Report, source: &Source, place: Place) {
     let name = report.at(place).as_bytes();
-    match occurrences(report.alloc, report.text, source, place, name) {
+    match occurrences(report.alloc, report.text(), source, place, name) {
         Ok(places) => add_places(report, source, places.as_slice(), place),
         Err(error) => report.fail(error),
     }

@@ -1,6 +1,7 @@
 //! Names that are near to one that isn't declared.
 use crate::declarations::Declared;
 use crate::reports::Report;
+use crate::sentences;
 use in_syntax::Name;
 use std::alloc::{AllocError, Global};
 use strsim::osa_distance;
@@ -73,8 +74,12 @@ const MOST_TOLD: usize = 4;
 
 /// Asks whether this name was meant, or this one too.
 fn add_name(report: &mut Report, name: &Name, further: bool) {
-    let before = if further { "or `" } else { "did you mean `" };
-    report.note_name(name.place, before, name.text.as_str(), "`?");
+    let sentence = if further {
+        sentences::MEANT_NAME_TOO
+    } else {
+        sentences::MEANT_NAME
+    };
+    report.note_on(name.place, sentence, name.text.as_str());
 }
 
 /// Adds those names that differ by `distance` characters, where `told` are told already; answers how many are told now.

@@ -1,7 +1,9 @@
 //! Rules: of heads that can't meet, a second one for two symbols, and one that is missing.
-use crate::declarations::{arity, say_type, symbol_named};
+use crate::declarations::{arity, symbol_named};
 use crate::occurrences::rule_around;
 use crate::reports::Report;
+use crate::sentences;
+use crate::slots::Value;
 use in_syntax::{Name, Place, Source, SourceRule, SourceSymbol};
 
 /// The rule of which a head's name stands at a place.
@@ -14,20 +16,18 @@ fn rule_with(source: &Source, place: Place) -> Option<&SourceRule> {
     None
 }
 
-/// What a symbol is, by its principal port.
-fn sort(symbol: &SourceSymbol) -> &'static str {
-    if symbol.port.output {
-        "` is a constructor: its principal port is `"
-    } else {
-        "` is a destructor: its principal port is `"
-    }
-}
-
-/// A head's symbol, where it is declared, with the type of its principal port.
+/// Adds what a symbol is, by its principal port, where it is declared.
 fn add_principal(report: &mut Report, symbol: &SourceSymbol) {
-    report.say_name("note: `", symbol.name.text.as_str(), sort(symbol));
-    say_type(report, "", &symbol.port, "`");
-    report.end_at(symbol.name.place);
+    let sentence = if symbol.port.output {
+        sentences::CONSTRUCTOR
+    } else {
+        sentences::DESTRUCTOR
+    };
+    let slots = [
+        ("symbol", Value::Text(symbol.name.text.as_str())),
+        ("type", Value::Type(&symbol.port)),
+    ];
+    report.note_with(symbol.name.place, sentence, &slots);
 }
 
 /// The symbol of a head, where it is declared.
@@ -47,17 +47,13 @@ fn add_heads(report: &mut Report, source: &Source, rule: &SourceRule) {
     }
 }
 
-/// What helps where heads can't meet.
-const MEETING: &str =
-    "a rule is for a constructor and a destructor whose principal ports are of one type";
-
 /// Heads that can't meet.
 pub(crate) fn add_unmatched(report: &mut Report, source: &Source, place: Place) {
-    report.wrong(place, "the two heads of this rule can't meet");
+    report.wrong(place, sentences::CANNOT_MEET);
     if let Some(rule) = rule_with(source, place) {
         add_heads(report, source, rule);
     }
-    report.help(MEETING);
+    report.help(sentences::MEETING);
 }
 
 /// Whether two symbols can meet: a constructor and a destructor, with principal ports of one type.
@@ -84,12 +80,9 @@ pub(crate) fn add_unmet(report: &mut Report, source: &Source, place: Place) -> b
     if !is_unmet(source, rule) {
         return false;
     }
-    report.note(
-        rule.second.name.place,
-        "the two heads of this rule can't meet",
-    );
+    report.note(rule.second.name.place, sentences::CANNOT_MEET);
     add_heads(report, source, rule);
-    report.help(MEETING);
+    report.help(sentences::MEETING);
     true
 }
 
@@ -118,78 +111,66 @@ fn first_for<'a>(source: &'a Source, rule: &SourceRule) -> Option<&'a SourceRule
 /// Where the first rule for the two symbols of this one stands.
 fn note_first(report: &mut Report, source: &Source, rule: &SourceRule) {
     if let Some(first) = first_for(source, rule) {
-        report.note(first.first.name.place, "the first one is here");
+        report.note(first.first.name.place, sentences::FIRST_RULE);
     }
 }
 
 /// A second rule for two symbols: the first one, and the symbols where they are declared.
 fn add_second(report: &mut Report, source: &Source, place: Place, rule: &SourceRule) {
-    let other = rule.second.name.text.as_str();
-    report.say_name(
-        "error: this is a second rule for `",
-        rule.first.name.text.as_str(),
-        "` and `",
-    );
-    report.say_name(other, "`", "");
-    report.end_at(place);
+    let slots = [
+        ("first", Value::Text(rule.first.name.text.as_str())),
+        ("second", Value::Text(rule.second.name.text.as_str())),
+    ];
+    report.wrong_with(place, sentences::SECOND_RULE, &slots);
     note_first(report, source, rule);
     add_heads(report, source, rule);
-    report.help("keep one of them: the order of the heads doesn't matter");
+    report.help(sentences::KEEP_ONE_RULE);
 }
 
 /// A second rule for two symbols.
 pub(crate) fn add_second_rule(report: &mut Report, source: &Source, place: Place) {
     match rule_with(source, place) {
         Some(rule) => add_second(report, source, place, rule),
-        None => report.wrong(place, "this is a second rule for its two symbols"),
+        None => report.wrong(place, sentences::SECOND_RULE_UNKNOWN),
     }
 }
 
-/// The letter of this number.
-pub(crate) fn letter(number: usize) -> char {
-    let letter = number % 26;
-    char::from(b'a' + letter as u8)
-}
-
-/// What stands before the letter of this number in a head.
-fn comma(number: usize) -> &'static str {
-    if number > 0 { ", " } else { "" }
-}
-
-/// A name for each of `count` terms, from number `first` on, as they stand in a head.
-pub(crate) fn say_letters(report: &mut Report, first: usize, count: usize) {
-    for number in 0..count {
-        report.say(comma(number));
-        report.push(letter(first.saturating_add(number)));
-    }
-}
-
-/// A head with variables for its terms, from this number on.
-fn say_head(report: &mut Report, before: &str, symbol: &SourceSymbol, first: usize) {
-    report.say_name(before, symbol.name.text.as_str(), "[");
-    say_letters(report, first, arity(symbol));
-}
-
-/// The rule to write, with variables for its terms: the constructor first.
-fn help_rule(report: &mut Report, first: &SourceSymbol, second: &SourceSymbol) {
-    say_head(report, "help: add `rule ", first, 0);
-    say_head(report, "] >< ", second, arity(first));
-    report.say("];`, with terms for the letters\n");
+/// Adds the rule to write, with variables for its terms.
+fn help_rule<'s>(report: &mut Report, constructor: &'s SourceSymbol, destructor: &'s SourceSymbol) {
+    let ports = arity(constructor);
+    let slots = [
+        ("constructor", Value::Text(constructor.name.text.as_str())),
+        ("first", Value::Letters(0, ports)),
+        ("destructor", Value::Text(destructor.name.text.as_str())),
+        ("second", Value::Letters(ports, arity(destructor))),
+    ];
+    report.help_with(sentences::ADD_RULE, &slots);
 }
 
 /// A constructor and a destructor that can meet and have no rule.
-fn add_gap(report: &mut Report, place: Place, first: &SourceSymbol, second: &SourceSymbol) {
-    let destructor = second.name.text.as_str();
-    report.say_name("error: `", first.name.text.as_str(), "` and `");
-    report.say_name(destructor, "` can meet, and have no rule", "");
-    report.end_at(place);
-    add_principal(report, first);
-    add_principal(report, second);
-    help_rule(report, first, second);
+fn add_gap<'s>(
+    report: &mut Report,
+    place: Place,
+    constructor: &'s SourceSymbol,
+    destructor: &'s SourceSymbol,
+) {
+    let slots = [
+        ("constructor", Value::Text(constructor.name.text.as_str())),
+        ("destructor", Value::Text(destructor.name.text.as_str())),
+    ];
+    report.wrong_with(place, sentences::NO_RULE, &slots);
+    add_principal(report, constructor);
+    add_principal(report, destructor);
+    help_rule(report, constructor, destructor);
 }
 
 /// Two symbols that can meet and have no rule.
-fn add_gap_of(report: &mut Report, place: Place, one: &SourceSymbol, other: &SourceSymbol) {
+fn add_gap_of<'s>(
+    report: &mut Report,
+    place: Place,
+    one: &'s SourceSymbol,
+    other: &'s SourceSymbol,
+) {
     if one.port.output {
         add_gap(report, place, one, other);
     } else {
@@ -220,6 +201,6 @@ pub(crate) fn add_missing_rule(
     let other = symbol_at(report, source, earlier);
     match (one, other) {
         (Some(one), Some(other)) => add_gap_of(report, place, one, other),
-        _ => report.wrong(place, "two symbols can meet, and have no rule"),
+        _ => report.wrong(place, sentences::NO_RULE_UNKNOWN),
     }
 }

@@ -11,7 +11,7 @@ use in_syntax::{Code, Expected, MAX_TEXT_BYTES, Place, Refusal, Source};
 
 /// A limit of tokens or of the grammar that is passed.
 fn add_limit_of_text(report: &mut Report, place: Place, expected: Expected) {
-    if report.text.len() > MAX_TEXT_BYTES {
+    if report.text().len() > MAX_TEXT_BYTES {
         add_long_text(report, place);
     } else if place.from == place.to {
         add_long_word(report, place);

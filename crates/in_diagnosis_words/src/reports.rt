@@ -1,27 +1,44 @@
-//! The text of a diagnosis, line by line.
+//! A diagnosis, part by part, and its text.
 use crate::excerpts::{add_excerpt, between};
+use crate::slots::Slot;
+use crate::words::Words;
 use in_syntax::Place;
 use std::alloc::{AllocError, Global};
-use std::fmt::Display;
 
-/// A diagnosis that is being written, on a program's text. That memory ran out is kept, and `into_text` answers it: so code that
-/// writes has one way out.
+/// What a part of a diagnosis has: what is wrong, what belongs to it, or what helps.
+#[derive(Clone, Copy, Debug, PartialEq, Eq)]
+pub enum Kind {
+    Error,
+    Note,
+    Help,
+}
+
+/// A sentence of a diagnosis, and the place of the text that it is about.
+#[derive(Drop)]
+struct Part {
+    kind: Kind,
+    place: Option<Place>,
+    sentence: String,
+}
+
+/// A diagnosis of a program's text that is being made. That memory ran out is kept, and `into_text` returns it: so code that makes one has one
+/// way out.
 #[derive(Drop)]
 pub struct Report<'a> {
     /// Where its memory comes from.
     pub alloc: Global,
-    pub(crate) text: &'a [u8],
-    lines: String,
+    text: &'a [u8],
+    parts: Vec<Part>,
     failure: Option<AllocError>,
 }
 
 impl<'a> Report<'a> {
-    /// A diagnosis of a text, with no line yet.
+    /// A diagnosis of a text, with no part yet.
     pub fn new(alloc: Global, text: &'a [u8]) -> Report<'a> {
         Report {
             alloc,
             text,
-            lines: String::new(alloc),
+            parts: Vec::new(alloc),
             failure: None,
         }
     }
@@ -36,7 +53,7 @@ impl<'a> Report<'a> {
         between(self.text, place.from, place.to)
     }
 
-    /// Keeps that memory ran out, so that there will be no diagnosis: `into_text` answers the error, or the last one of several.
+    /// Keeps that memory ran out, so that there will be no diagnosis: `into_text` returns the error, or the last one of several.
     pub fn fail(&mut self, error: AllocError) {
         self.failure = Some(error);
     }
@@ -48,98 +65,128 @@ impl<'a> Report<'a> {
         }
     }
 
-    /// Goes on with these words.
-    pub fn say(&mut self, words: &str) {
-        let done = self.lines.push_str(words);
+    /// Adds a part.
+    fn push(&mut self, kind: Kind, place: Option<Place>, words: Words) -> Result<(), AllocError> {
+        let sentence = words.into_text()?;
+        self.parts.push(Part {
+            kind,
+            place,
+            sentence,
+        })?;
+        Ok(())
+    }
+
+    /// Adds a part with these words.
+    pub fn add(&mut self, kind: Kind, place: Option<Place>, words: Words) {
+        let done = self.push(kind, place, words);
         self.keep(done);
     }
 
-    /// Goes on with a character.
-    pub(crate) fn push(&mut self, c: char) {
-        let done = self.lines.push(c);
-        self.keep(done);
+    /// Adds a part with this sentence, which has no slot.
+    fn add_plain(&mut self, kind: Kind, place: Option<Place>, sentence: &str) {
+        let mut words = Words::new(self.alloc);
+        words.say(sentence);
+        self.add(kind, place, words);
     }
 
-    /// Goes on with what is shown so.
-    pub(crate) fn put<S: Display>(&mut self, shown: &S) {
-        let done = write!(self.lines, "{shown}");
-        self.keep(done);
+    /// Adds a part with this sentence, and this text in its one slot.
+    fn add_on(&mut self, kind: Kind, place: Option<Place>, sentence: &str, text: &str) {
+        let mut words = Words::new(self.alloc);
+        words.fill_one(sentence, text);
+        self.add(kind, place, words);
     }
 
-    /// Goes on with a name between these words.
-    pub(crate) fn say_name(&mut self, before: &str, name: &str, after: &str) {
-        self.say(before);
-        self.say(name);
-        self.say(after);
+    /// Adds a part with this sentence, and these values in its slots.
+    fn add_with(&mut self, kind: Kind, place: Option<Place>, sentence: &str, slots: &[Slot]) {
+        let mut words = Words::new(self.alloc);
+        words.fill(sentence, slots);
+        self.add(kind, place, words);
     }
 
-    /// Goes on with a number between these words.
-    pub fn say_number(&mut self, before: &str, number: usize, after: &str) {
-        self.say(before);
-        self.put(&number);
-        self.say(after);
-    }
-
-    /// Ends a sentence, and its line.
-    pub fn end(&mut self) {
-        self.say("\n");
-    }
-
-    /// Ends a sentence on what stands at a place.
-    pub(crate) fn end_at(&mut self, place: Place) {
-        self.end();
-        add_excerpt(self, place);
-    }
-
-    /// Adds what is wrong, and where: a sentence, and the line of the text with a mark under the place.
+    /// Adds what is wrong at a place of the text: a sentence without a slot.
     pub fn wrong(&mut self, place: Place, sentence: &str) {
-        self.say_name("error: ", sentence, "");
-        self.end_at(place);
+        self.add_plain(Kind::Error, Some(place), sentence);
     }
 
-    /// The same with a name between these words.
-    pub fn wrong_name(&mut self, place: Place, before: &str, name: &str, after: &str) {
-        self.say("error: ");
-        self.say_name(before, name, after);
-        self.end_at(place);
+    /// The same with a text in the one slot of the sentence.
+    pub fn wrong_on(&mut self, place: Place, sentence: &str, text: &str) {
+        self.add_on(Kind::Error, Some(place), sentence, text);
     }
 
-    /// The same with a number between these words.
-    pub fn wrong_number(&mut self, place: Place, before: &str, number: usize, after: &str) {
-        self.say("error: ");
-        self.say_number(before, number, after);
-        self.end_at(place);
+    /// The same with values in the slots of the sentence.
+    pub fn wrong_with(&mut self, place: Place, sentence: &str, slots: &[Slot]) {
+        self.add_with(Kind::Error, Some(place), sentence, slots);
     }
 
-    /// Adds what belongs to it, and where: a sentence, and the line of the text with a mark under the place.
+    /// Adds what belongs to it, at a place of the text: a sentence without a slot.
     pub fn note(&mut self, place: Place, sentence: &str) {
-        self.say_name("note: ", sentence, "");
-        self.end_at(place);
+        self.add_plain(Kind::Note, Some(place), sentence);
     }
 
-    /// The same with a name between these words.
-    pub(crate) fn note_name(&mut self, place: Place, before: &str, name: &str, after: &str) {
-        self.say("note: ");
-        self.say_name(before, name, after);
-        self.end_at(place);
+    /// The same with a text in the one slot of the sentence.
+    pub fn note_on(&mut self, place: Place, sentence: &str, text: &str) {
+        self.add_on(Kind::Note, Some(place), sentence, text);
     }
 
-    /// Adds what helps, a sentence.
+    /// The same with values in the slots of the sentence.
+    pub fn note_with(&mut self, place: Place, sentence: &str, slots: &[Slot]) {
+        self.add_with(Kind::Note, Some(place), sentence, slots);
+    }
+
+    /// Adds what helps: a sentence without a slot.
     pub fn help(&mut self, sentence: &str) {
-        self.say_name("help: ", sentence, "\n");
+        self.add_plain(Kind::Help, None, sentence);
     }
 
-    /// The whole diagnosis. Its only error is running out of memory, where that was met while the diagnosis was written.
+    /// The same with a text in the one slot of the sentence.
+    pub fn help_on(&mut self, sentence: &str, text: &str) {
+        self.add_on(Kind::Help, None, sentence, text);
+    }
+
+    /// The same with values in the slots of the sentence.
+    pub fn help_with(&mut self, sentence: &str, slots: &[Slot]) {
+        self.add_with(Kind::Help, None, sentence, slots);
+    }
+
+    /// The whole diagnosis. Refused only when out of memory, also where that was met while the diagnosis was made.
     pub fn into_text(self) -> Result<String, AllocError> {
         let Report {
-            alloc: _,
-            text: _,
-            lines,
+            alloc,
+            text,
+            parts,
             failure,
         } = self;
         match failure {
-            None => Ok(lines),
+            None => text_of(alloc, text, parts.as_slice()),
             Some(error) => Err(error),
         }
+    }
+}
+
+/// The text of these parts.
+fn text_of(alloc: Global, text: &[u8], parts: &[Part]) -> Result<String, AllocError> {
+    let mut page = Words::new(alloc);
+    for part in parts {
+        add_part(&mut page, text, part);
+    }
+    page.into_text()
+}
+
+/// What stands before a sentence of this kind.
+fn head(kind: Kind) -> &'static str {
+    match kind {
+        Kind::Error => "error: ",
+        Kind::Note => "note: ",
+        Kind::Help => "help: ",
+    }
+}
+
+/// A part in a line, and under it the line of the text with a mark under the place.
+fn add_part(page: &mut Words, text: &[u8], part: &Part) {
+    page.say(head(part.kind));
+    page.say(part.sentence.as_str());
+    page.say("\n");
+    if let Some(place) = part.place {
+        add_excerpt(page, text, place);
     }
 }

@@ -105,7 +105,7 @@ fn single_in<'a>(
 struct Wanted<'a> {
     name: &'a str,
     near: bool,
-    further: &'static str,
+    sentence: &'static str,
 }
 
 /// Adds those that are asked for, where `told` are told already; answers how many are told now.
@@ -120,7 +120,7 @@ fn add_wanted(report: &mut Report, single: &[Bare], wanted: Wanted, told: usize)
             }
         };
         if near == wanted.near && count < MOST_TOLD {
-            report.note_name(bare.place, "`", bare.name, wanted.further);
+            report.note_on(bare.place, wanted.sentence, bare.name);
             count += 1;
         }
     }
@@ -128,11 +128,11 @@ fn add_wanted(report: &mut Report, single: &[Bare], wanted: Wanted, told: usize)
 }
 
 /// Adds these, the near ones first; answers how many are told.
-fn add_all(report: &mut Report, single: &[Bare], name: &str, further: &'static str) -> usize {
+fn add_all(report: &mut Report, single: &[Bare], name: &str, sentence: &'static str) -> usize {
     let near = Wanted {
         name,
         near: true,
-        further,
+        sentence,
     };
     let told = add_wanted(report, single, near, 0);
     add_wanted(
@@ -153,10 +153,10 @@ pub(crate) fn add_single(
     source: &Source,
     at: Place,
     name: &str,
-    further: &'static str,
+    sentence: &'static str,
 ) -> bool {
-    match single_in(report.alloc, report.text, source, at) {
-        Ok(single) => add_all(report, single.as_slice(), name, further) > 0,
+    match single_in(report.alloc, report.text(), source, at) {
+        Ok(single) => add_all(report, single.as_slice(), name, sentence) > 0,
         Err(error) => {
             report.fail(error);
             false

@@ -44,6 +44,10 @@ tables_text p = key (codes "types") ++ (types_text p.tables ++ (codes "," ++ (ke
 abbrev pub rules_and_net_text : Program → List ℕ
 rules_and_net_text p = key (codes "rules") ++ (rules_text p ++ (codes "," ++ (key (codes "net") ++ net_text p)))
 
+-- the number of this form of the line: a form that a reader of this one can't read has another
+abbrev pub format_text : List ℕ
+format_text = key (codes "format") ++ decimal 1
+
 -- the line: one object, and the line's end
 abbrev pub program_line : Program → List ℕ
-program_line p = codes "{" ++ (tables_text p ++ (codes "," ++ (rules_and_net_text p ++ (125 ∷ 10 ∷ []))))
+program_line p = codes "{" ++ (format_text ++ (codes "," ++ (tables_text p ++ (codes "," ++ (rules_and_net_text p ++ (125 ∷ 10 ∷ []))))))

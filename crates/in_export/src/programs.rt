@@ -1,6 +1,6 @@
 ghost use Rattle.std.specs.Prelude.{◌≡◌, ◌<◌, ◌++◌, length, slice_get, IfOk, OnOk};
 ghost use Rattle.in_check.specs.Programs.{IsItemOf};
-ghost use Rattle.in_export.specs.Programs.{both_members_text, ends_text, heads_text, item_text, net_text, program_line, rule_text, rules_text, rules_and_net_text, tables_text};
+ghost use Rattle.in_export.specs.Programs.{both_members_text, ends_text, format_text, heads_text, item_text, net_text, program_line, rule_text, rules_text, rules_and_net_text, tables_text};
 
 use crate::json::{add_comma, add_key, add_number};
 use crate::nets::{add_free_ends, add_graph};
@@ -11,6 +11,17 @@ use in_cover::RuleNo;
 use in_net::{Net, Rule};
 use in_symbols::SymbolNo;
 use std::alloc::{AllocError, Global};
+
+/// The number of this form of the line.
+const FORMAT: u32 = 1;
+
+/// Adds the number of this form of the line, as a member.
+fn add_format(bytes: &mut Vec<u8>, alloc: Global) -> Result<(), AllocError>
+    ensures { OnOk result (bytes.new.items ≡ bytes.old.items ++ format_text) }
+{
+    add_key(bytes, "format")?;
+    add_number(bytes, alloc, FORMAT)
+}
 
 /// Adds the two symbols of a rule, the constructor first.
 fn add_heads(
@@ -137,6 +148,8 @@ pub fn line_of(alloc: Global, checked: &Checked) -> Result<Vec<u8>, AllocError>
 {
     let mut bytes = Vec::new(alloc);
     bytes.push(b'{')?;
+    add_format(&mut bytes, alloc)?;
+    bytes.push(b',')?;
     add_tables(&mut bytes, alloc, checked)?;
     bytes.push(b',')?;
     add_rules_and_net(&mut bytes, alloc, checked)?;

@@ -11,6 +11,7 @@ pub mod NetFaults
 pub mod Nets
 pub mod Parts
 pub mod Reading
+pub mod Renaming
 pub mod Renewing
 pub mod Rules
 pub mod Searching

@@ -6,5 +6,5 @@ pub use Rattle.in_open_nets_of_programs.proofs.OfRules.{rule_circle}
 pub use Rattle.in_open_nets_of_programs.proofs.OneOpening.{by_elements, one_open_net}
 pub use Rattle.in_open_nets_of_programs.proofs.Opened.{is_open_net}
 pub use Rattle.in_open_nets_of_programs.proofs.RuleLaws.{no_circle, opened_once, rules_open}
-pub use Rattle.in_open_nets_of_programs.proofs.TextRules.{rule_whole, same_symbol}
+pub use Rattle.in_open_nets_of_programs.proofs.TextRules.{rule_whole}
 pub use Rattle.in_open_nets_of_programs.proofs.Opened

@@ -5,6 +5,7 @@ use Rattle.std.proofs.lemmas.List.{length-map}
 use Rattle.in_syntax.specs.declared.tree.SourceRule.{SourceRule}
 use Rattle.in_symbols.specs.declared.symbols.SymbolNo.{SymbolNo}
 use Rattle.in_symbols.specs.Tables.{Tables, arity_of}
+use Rattle.in_symbols.proofs.Public.{same_symbol}
 use Rattle.in_net.specs.declared.nets.FreeEnd.{FreeEnd}
 use Rattle.in_net.specs.NetFaults.{max_member_agents}
 use Rattle.in_net.specs.Rules.{RuleParts, IsRuleOf, BuildsRuleOf, types_from, auxiliary_types, body_of_rule, heads_of, written_of}
@@ -12,9 +13,6 @@ use Rattle.in_net.specs.Rules as rules_of
 use Rattle.in_open_nets_of_programs.specs.OpeningRules.{is_turned, IsRuleWhole}
 use Rattle.in_open_nets_of_programs.proofs.Counted.{cells_there}
 use Rattle.in_net.proofs.Public.{few_agents, types_many}
-
-pub same_symbol : (x y : SymbolNo) → x.0 ≡ y.0 → x ≡ y
-same_symbol x y e = ap (λ (z : ℕ). record { 0 = z }) e
 
 same_pair : (x y u v : SymbolNo) → x ≡ u → y ≡ v → ◌≡◌ {A = SymbolNo × SymbolNo} (x, y) (u, v)
 same_pair x y u v e f = ap (λ (z : SymbolNo). (z, y)) e ∙ ap (λ (z : SymbolNo). (u, z)) f

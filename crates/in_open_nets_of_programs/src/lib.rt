@@ -4,7 +4,7 @@
 //! rule, by a `Layout`, which says where the class nodes and the agents of the rule have their numbers. `OpenNet::new` asks that each
 //! point is in exactly one wire.
 //!
-//! It needs `in_open_nets` alone of the crates of open nets, so that it is proved beside `in_simple_deriving` and `in_simple_verifying`.
+//! It needs `in_open_nets` alone of the crates of open nets, so that it is proved beside `in_simple_deriving`.
 #![tactic(auto)]
 
 pub mod laws;

@@ -1,22 +1,11 @@
 //! Laws over the definitions alone. No function here does anything.
 
+ghost use Rattle.in_order.specs.GluingLaws.{CutRunAndGlued, CutsKeepSound, PartsAreSound, PartsAreSoundByNames, RunsAreGlued, RunsKeepSound, SoundIsPromised, SoundIsStart, SoundSteps};
+ghost use Rattle.in_order.specs.PartRuns.{RunsGoOn, RunsLeadOn};
+ghost use Rattle.in_order.specs.Reducible.{PlainIsReducible, ReducibleAsPromised, ReduciblePairsHaveTheirRule, ReducibleSteps, ReducibleStepsAreOne, ReducibleStepsUnderNames};
 ghost use Rattle.in_order.specs.Ends.{ProgramsHaveOneEnd};
-ghost use Rattle.in_order.specs.Laws.{InteractionsCommute, InteractionsMeet, OrdersAreBothAtOnce, OrdersAreOne, RunsAreJoined, RunsEndAlike, RunsLeadToTheEnd};
-
-/// Under birth names, two interactions on different active pairs lead, each followed by the other, to one net.
-pub fn interactions_commute()
-    ensures { InteractionsCommute }
-{}
-
-/// Under birth names, whatever two interactions lead to in either order is one net.
-pub fn orders_are_one()
-    ensures { OrdersAreOne }
-{}
-
-/// What two interactions lead to, one after the other, is the net after both at once.
-pub fn orders_are_both_at_once()
-    ensures { OrdersAreBothAtOnce }
-{}
+ghost use Rattle.in_order.specs.Laws.{InteractionsMeet, RunsAreJoined, RunsEndAlike, RunsLeadToTheEnd};
+ghost use Rattle.in_order.specs.Leading.{BesideLeads, BesidePartsAreSound, BesideSoundIsSound, CutDownIsSound, CutDownLeadsAreJoinedUp, CutLeadsAreJoined, CutOnceIsSound, LeadsGoOn, PartsLeadTheWhole};
 
 /// Two interactions of a reached net on different active pairs meet: each can follow the other, and the nets after both are one up to names.
 pub fn interactions_meet()
@@ -41,4 +30,137 @@ pub fn runs_are_joined()
 /// An accepted program has one end, if it has any: each run that ends has one number of interactions and one text.
 pub fn programs_have_one_end()
     ensures { ProgramsHaveOneEnd }
+{}
+
+/// A run goes on where another one ended.
+pub fn runs_go_on()
+    ensures { RunsGoOn }
+{}
+
+/// A run leads from a net that is reached to one that is, by as many interactions more.
+pub fn runs_lead_on()
+    ensures { RunsLeadOn }
+{}
+
+/// Parts that are reduced each by itself are glued to a net that is reached by all their interactions together.
+pub fn runs_are_glued()
+    ensures { RunsAreGlued }
+{}
+
+/// A net that is reached, cut into sound parts that are reduced each by itself and glued again, is reached by all their interactions. Which
+/// names agents have before, in the parts and after is left open.
+pub fn cut_run_and_glued()
+    ensures { CutRunAndGlued }
+{}
+
+/// A sound net of a sound system is as promised, whether or not the system reaches it.
+pub fn sound_is_promised()
+    ensures { SoundIsPromised }
+{}
+
+/// An interaction of a sound system leaves a sound net sound.
+pub fn sound_steps()
+    ensures { SoundSteps }
+{}
+
+/// A run of a sound system keeps a net sound.
+pub fn runs_keep_sound()
+    ensures { RunsKeepSound }
+{}
+
+/// A sound system that begins with a sound net is sound.
+pub fn sound_is_start()
+    ensures { SoundIsStart }
+{}
+
+/// A part of a sound net is sound: it is to be a net, typed where it is cut.
+pub fn parts_are_sound()
+    ensures { PartsAreSound }
+{}
+
+/// A part of a sound net is sound, under whatever names the agents have in the whole.
+pub fn parts_are_sound_by_names()
+    ensures { PartsAreSoundByNames }
+{}
+
+/// A net that an accepted program reaches is sound, as a reducer wants it.
+pub fn plain_is_reducible()
+    ensures { PlainIsReducible }
+{}
+
+/// Of an accepted program, a reducer's step leads from a sound net to one, by one interaction more.
+pub fn reducible_steps()
+    ensures { ReducibleSteps }
+{}
+
+/// The same where new agents have any other names that are new.
+pub fn reducible_steps_under_names()
+    ensures { ReducibleStepsUnderNames }
+{}
+
+/// Of an accepted program, each active pair of a reducer's net matches and has its rule.
+pub fn reducible_pairs_have_their_rule()
+    ensures { ReduciblePairsHaveTheirRule }
+{}
+
+/// Of an accepted program, what a reducer's step leads to is one.
+pub fn reducible_steps_are_one()
+    ensures { ReducibleStepsAreOne }
+{}
+
+/// Of an accepted program, a reducer's net is as promised.
+pub fn reducible_as_promised()
+    ensures { ReducibleAsPromised }
+{}
+
+/// A sound net that is cut at a wire is sound.
+pub fn cuts_keep_sound()
+    ensures { CutsKeepSound }
+{}
+
+/// A run goes on where one ended: the counts are added.
+pub fn leads_go_on()
+    ensures { LeadsGoOn }
+{}
+
+/// Two sound parts of a sound net, each reduced by itself and glued along the same cuts: the whole leads to what they are glued to, by as many
+/// interactions as both did. Agents may have any names, before and after, in the parts and in the whole.
+pub fn parts_lead_the_whole()
+    ensures { PartsLeadTheWhole }
+{}
+
+/// A sound net stays sound where a wire is cut.
+pub fn cut_once_is_sound()
+    ensures { CutOnceIsSound }
+{}
+
+/// What a net leads to in which a wire is cut, with the two ends joined again, the net itself leads to. So wires may be cut one after another
+/// and joined in the opposite order.
+pub fn cut_leads_are_joined()
+    ensures { CutLeadsAreJoined }
+{}
+
+/// What two nets lead to by themselves, side by side, the two side by side lead to.
+pub fn beside_leads()
+    ensures { BesideLeads }
+{}
+
+/// A sound net stays sound where wires are cut, one after another.
+pub fn cut_down_is_sound()
+    ensures { CutDownIsSound }
+{}
+
+/// What a net leads to in which wires are cut one after another, with the ends joined again in the opposite order, the net itself leads to.
+pub fn cut_down_leads_are_joined_up()
+    ensures { CutDownLeadsAreJoinedUp }
+{}
+
+/// Nets that stand side by side in a sound net are sound.
+pub fn beside_parts_are_sound()
+    ensures { BesidePartsAreSound }
+{}
+
+/// Sound nets that stand side by side are a sound net.
+pub fn beside_sound_is_sound()
+    ensures { BesideSoundIsSound }
 {}

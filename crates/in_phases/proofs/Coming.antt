@@ -5,7 +5,7 @@ use Rattle.std.proofs.lemmas.List.{length-map, with_items_is}
 use Rattle.in_arena.specs.declared.content.CellClass.{CellClass}
 use Rattle.in_check.specs.Programs.{Program}
 use Rattle.in_compile.specs.Cells.{agents_of, count_of}
-use Rattle.in_reducer.specs.Appending.{CanAppend}
+use Rattle.in_reducer.specs.Gluing.{CanAppend}
 use Rattle.in_reducer.specs.Machines.{MachineParts}
 use Rattle.in_reducer.specs.Parting.{IsGluedOn, ReducesTo}
 use Rattle.in_reducer.specs.Reducers.{IsReducer}

@@ -3,7 +3,7 @@ use Rattle.std.proofs.Common.{◌≡◌, ◌≤◌, ◌<◌, ◌+◌, ℕ, Optio
 use Rattle.std.proofs.lemmas.Option.{same_Some}
 use Rattle.in_arena.specs.declared.content.End.{End}
 use Rattle.in_arena.specs.declared.content.End.TheVariants as end
-use Rattle.in_joining.specs.Shown as joining
+use Rattle.in_cells.specs.Shown as joining
 use Rattle.in_symbols.specs.Tables.{arity_of}
 use Rattle.in_symbols.specs.declared.symbols.SymbolNo.{SymbolNo}
 use Rattle.in_net.specs.declared.nets.Point as points
@@ -15,7 +15,7 @@ use Rattle.in_reducer.specs.Cutting.{net_in}
 use Rattle.in_reducer.specs.Machines.{MachineParts, parts_of, point_at}
 use Rattle.in_reducer.specs.Reducers.{IsReducer}
 use Rattle.in_phases.specs.Branches.{HasAgent, HasPlace, LeadsSomewhere}
-use Rattle.in_glue.proofs.Public.{not_some}
+use Rattle.in_gluing.proofs.Public.{not_some}
 
 -- the point of an end, in the code's words and back
 end_point : (e : End) → coded_point (joining.point_of e) ≡ point_at e

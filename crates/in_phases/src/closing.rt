@@ -5,10 +5,10 @@ ghost use Rattle.in_net.specs.Nets.{Point, Port, Free};
 ghost use Rattle.in_phases.specs.Branches.{HasAgent, IsBranch, LeadsSomewhere};
 ghost use Rattle.in_reducer.specs.Cutting.{net_in};
 ghost use Rattle.in_reducer.specs.Parting.{CanSplit, IsInPart};
-ghost use Rattle.in_joining.specs.Shown.{point_of};
+ghost use Rattle.in_cells.specs.Shown.{point_of};
 
 use crate::branch::Branch;
-use in_base::use_invariant;
+use in_base::{use_invariant, use_promise};
 use in_reducer::{CellNo, End, Reducer};
 
 /// Whether this is the number of the first end of one of `cuts` cuts, which came after `own` free ends.
@@ -42,7 +42,7 @@ fn is_agent_closed(reducer: &Reducer, branch: &Branch, own: u32, cuts: u32, cell
     requires there { HasAgent reducer.now cell.0 }
     ensures { result ≡ true → (i : ℕ) (q : Point ℕ) → (net_in reducer.now).partner (Port cell.0 i) ≡ Some q → IsInPart branch.now.agents.items own cuts q }
 {
-    reducer.pairs();
+    use_promise!(reducer.pairs());
     for place in 0..u32::from(reducer.arity(cell)) + 1 {
         let end = reducer.partner(End::Cell(cell, place as u8));
         if !is_inside(reducer, branch, own, cuts, end) {
@@ -71,8 +71,8 @@ fn are_ends_closed(reducer: &Reducer, branch: &Branch, own: u32, cuts: u32) -> b
     requires many { length reducer.now.free ≡ own + (cuts + cuts) }
     ensures { result ≡ true → (j : ℕ) (q : Point ℕ) → j < cuts → (net_in reducer.now).partner (Free (own + (j + j))) ≡ Some q → IsInPart branch.now.agents.items own cuts q }
 {
-    reducer.pairs();
-    reducer.free_ends();
+    use_promise!(reducer.pairs());
+    use_promise!(reducer.free_ends());
     for cut in 0..cuts {
         let end = reducer.partner(End::Free(own + 2 * cut));
         if !is_inside(reducer, branch, own, cuts, end) {

@@ -8,6 +8,7 @@ ghost use Rattle.in_reducer.specs.PartingLaws.{IsCutTimes};
 ghost use Rattle.in_reducer.specs.Reducers.{IsReducer};
 
 use crate::branch::Branch;
+use in_base::use_promise;
 use in_reducer::{CellNo, End, MOST_FREE_ENDS, Reducer};
 
 /// Whether the wire at this place of an agent leads out of the branch. That of a pair doesn't count, of which the branch has both agents or
@@ -17,7 +18,7 @@ fn leads_out(reducer: &Reducer, branch: &Branch, cell: CellNo, place: u8) -> boo
     requires there { HasPlace reducer.now cell.0 place }
     ensures { result ≡ true → CanCut reducer.now cell.0 place }
 {
-    reducer.pairs();
+    use_promise!(reducer.pairs());
     match reducer.partner(End::Cell(cell, place)) {
         End::Cell(other, at) => !branch.has(other) && (place != 0 || at != 0),
         End::Free(_) => true,
@@ -32,7 +33,7 @@ fn cut_place(reducer: &mut Reducer, branch: &Branch, cell: CellNo, place: u8) ->
     ensures cuts { IsCutTimes reducer.old result reducer.new }
     ensures few { result ≤ 1 }
 {
-    reducer.pairs();
+    use_promise!(reducer.pairs());
     if !leads_out(reducer, branch, cell, place) || reducer.free_ends() > MOST_FREE_ENDS - 2 {
         return 0;
     }
@@ -51,7 +52,7 @@ fn cut_agent(reducer: &mut Reducer, branch: &Branch, cell: CellNo) -> u32
     let mut cuts = 0;
     let places = u32::from(reducer.arity(cell)) + 1;
     for place in 0..places {
-        reducer.pairs();
+        use_promise!(reducer.pairs());
         cuts += cut_place(reducer, branch, cell, place as u8);
     }
     cuts
@@ -65,7 +66,7 @@ pub(crate) fn cut_off(reducer: &mut Reducer, branch: &Branch) -> u32
     let mut cuts = 0;
     for number in 0..branch.agents.len() {
         let more = cut_agent(reducer, branch, branch.agents[number]);
-        reducer.free_ends();
+        use_promise!(reducer.free_ends());
         cuts += more;
     }
     cuts

@@ -3,7 +3,7 @@ ghost use Rattle.std.specs.Prelude.{◌≡◌, ◌<◌, ◌≤◌, true, [], len
 ghost use Rattle.in_phases.specs.Branches.{HasAgent, IsBranch};
 
 use crate::branch::Branch;
-use in_base::use_invariant;
+use in_base::{use_invariant, use_promise};
 use in_reducer::{CellNo, End, Reducer};
 use std::alloc::{AllocError, Global};
 
@@ -83,7 +83,7 @@ impl Branch {
         ensures branch { OnOk result (IsBranch reducer.now self.new) }
         ensures many { length self.new.marks.items ≡ length self.old.marks.items }
     {
-        reducer.pairs();
+        use_promise!(reducer.pairs());
         for port in 0..reducer.arity(cell) {
             if let End::Cell(behind, 0) = reducer.partner(End::Cell(cell, port + 1)) {
                 self.take_in(reducer, behind)?;

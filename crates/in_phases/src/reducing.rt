@@ -7,18 +7,7 @@ ghost use Rattle.in_phases.specs.Phases.{HasFree};
 ghost use Rattle.in_reducer.specs.Parting.{ReducesTo};
 
 use in_compile::Templates;
-use in_reducer::{CellClass, Need, Reducer};
-
-/// How many cells of each class are free.
-fn vacant(reducer: &Reducer) -> Need
-    ensures { (c : Class) → count_of result c ≡ count_of reducer.now.vacant c }
-{
-    Need {
-        small: reducer.free(CellClass::Small),
-        large: reducer.free(CellClass::Large),
-        wide: reducer.free(CellClass::Wide),
-    }
-}
+use in_reducer::{Need, Reducer};
 
 /// Whether `need` cells more than the floor are free.
 fn is_above(free: u32, need: u32, floor: u32) -> bool
@@ -56,7 +45,7 @@ pub(crate) fn reduce_newest(
             return count;
         }
         let need = reducer.need_of(templates, pairs - 1);
-        if !has_room_above(vacant(reducer), need, floor) {
+        if !has_room_above(reducer.vacant(), need, floor) {
             return count;
         }
         reducer.step(templates, pairs - 1);

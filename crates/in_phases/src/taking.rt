@@ -15,8 +15,9 @@ use crate::branch::Branch;
 use crate::closing::is_closed;
 use crate::cutting::{cut_off, join_up};
 use crate::room::Room;
+use in_base::use_promise;
 use in_compile::Templates;
-use in_reducer::{CellClass, CellNo, MOST_CELLS, MOST_FREE_ENDS, Reducer, Seam};
+use in_reducer::{CellNo, MOST_CELLS, MOST_FREE_ENDS, Reducer, Seam};
 use std::alloc::Global;
 
 /// A part that was split off, and the seam at which it comes back; how many cuts there were, and how many cells of each class it has.
@@ -26,15 +27,6 @@ pub(crate) struct Taken<'a> {
     pub(crate) seam: Seam,
     pub(crate) cuts: u32,
     pub(crate) cells: u32,
-}
-
-/// Whether at least `count` cells of each class are free.
-fn has_free(reducer: &Reducer, count: u32) -> bool
-    ensures { result ≡ true → HasFree reducer.now count }
-{
-    reducer.free(CellClass::Small) >= count
-        && reducer.free(CellClass::Large) >= count
-        && reducer.free(CellClass::Wide) >= count
 }
 
 /// Splits the branch off, where its wires are cut, with room for it to come back. Nothing where it can't be split off, and then the reducer is
@@ -76,8 +68,8 @@ fn split<'a>(
     let Ok(part) = reducer.split_off(alloc, templates, agents, own, cuts, cells, names) else {
         return None;
     };
-    reducer.pairs();
-    part.pairs();
+    use_promise!(reducer.pairs());
+    use_promise!(part.pairs());
     Some(Taken {
         part,
         seam,
@@ -127,7 +119,7 @@ pub(crate) fn take_part<'a>(
     ensures room { IsForAsMany room.old room.new }
     ensures fits { IfSome result (λ t. length classes * t.cells ≤ length room.new.names.items) }
 {
-    reducer.pairs();
+    use_promise!(reducer.pairs());
     if !room.branch.is_for(reducer.numbers()) {
         return None;
     }
@@ -135,13 +127,13 @@ pub(crate) fn take_part<'a>(
         return None;
     };
     let cuts = cut_off(reducer, &room.branch);
-    reducer.pairs();
+    use_promise!(reducer.pairs());
     let names = room.names.as_mut_slice();
     let Some(taken) = split(alloc, reducer, templates, &room.branch, cuts, share, names) else {
         join_up(reducer, cuts);
         return None;
     };
-    if has_free(reducer, floor + taken.cells) {
+    if reducer.least_free() >= floor + taken.cells {
         return Some(taken);
     }
     bring_back(reducer, taken, room.names.as_mut_slice());

@@ -6,7 +6,7 @@ use Rattle.in_arena.specs.declared.content.End.TheVariants as end
 use Rattle.in_net.specs.Nets.{Port, Free, Signature, Net}
 use Rattle.in_check.specs.NetText.{Words, TextPart, Bytes, agent_term, term, free_lines, pair_lines}
 use Rattle.in_reducer.specs.Machines.{MachineParts}
-use Rattle.in_rounds.specs.Machines.{IsMachine}
+use Rattle.in_machine.specs.Machines.{IsMachine}
 use Rattle.in_print.specs.Terms.{term_in}
 use Rattle.in_print.specs.Texts.{setting_of, IsPointAt, Wrote, free_lines_in, pair_lines_in}
 use Rattle.in_print.specs.Writings.{Setting, TextSoFar, with_bytes, with_parts}

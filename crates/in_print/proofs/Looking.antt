@@ -16,7 +16,7 @@ use Rattle.in_check.specs.Promises.{IsAsPromised}
 use Rattle.in_check.specs.Systems.{system_of}
 use Rattle.in_check.proofs.Public.{promised}
 use Rattle.in_reducer.specs.Machines.{MachineParts, parts_of, plain_of}
-use Rattle.in_rounds.specs.Machines.{IsMachine}
+use Rattle.in_machine.specs.Machines.{IsMachine}
 use Rattle.in_reducer.specs.Machines as machines
 use Rattle.in_print.specs.Points.{point_at}
 use Rattle.in_print.specs.Terms.{arity_at}

@@ -1,7 +1,7 @@
 ghost use Rattle.std.specs.Prelude.{◌≡◌, ◌++◌, [], ◌∷◌, ℕ, IsSome, IfOk, OnOk, option_map};
 ghost use Rattle.in_net.specs.Nets.{Point};
 ghost use Rattle.in_net.specs.Parts.{symbol_in};
-ghost use Rattle.in_rounds.specs.Machines.{IsMachine};
+ghost use Rattle.in_machine.specs.Machines.{IsMachine};
 ghost use Rattle.in_reducer.specs.Machines.{parts_of};
 ghost use Rattle.in_print.specs.Points.{point_at};
 ghost use Rattle.in_print.specs.Terms.{term_in, LeadsDown, IsShallow, WritesOn, last_point};
@@ -9,7 +9,7 @@ ghost use Rattle.in_print.specs.Texts.{setting_of, IsPointAt, IsPrincipalAt, Wro
 
 use crate::sheet::Sheet;
 use in_arena::{CellNo, End};
-use in_run::Machine;
+use in_machine::Machine;
 use std::alloc::{AllocError, Global};
 
 /// An agent whose terms up to this place have been begun.

@@ -13,13 +13,13 @@ use Rattle.in_check.specs.Runs.{Reached}
 use Rattle.in_check.specs.Systems.{System, rule_in, system_of}
 use Rattle.in_check.proofs.Public.{checked_once}
 use Rattle.in_order.specs.Ends.{words_in, Ends, EndsOnce}
-use Rattle.in_run.specs.declared.limits.Limits.{Limits}
+use Rattle.in_limits.specs.declared.limits.Limits.{Limits}
 use Rattle.in_run.specs.declared.running.Outcome.{Outcome}
 use Rattle.in_run.specs.declared.stops.Stop.{Stop}
 use Rattle.in_run.specs.declared.stops.Stop.TheVariants.{Normal, Limit, Full}
 use Rattle.in_reducer.specs.Machines.{MachineParts}
 use Rattle.in_print.specs.Devices.{Moves}
-use Rattle.in_rounds.specs.Texts.{text_of}
+use Rattle.in_machine.specs.Texts.{text_of}
 use Rattle.in_run.proofs.Public.{normal_outcomes_are_one}
 use Rattle.in_command_line.specs.declared.action.Action.{Action}
 use Rattle.in_command_line.specs.declared.action.Action.TheVariants.{Check, Derive, Run}

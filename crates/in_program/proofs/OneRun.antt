@@ -15,7 +15,7 @@ use Rattle.in_check.specs.Programs.{Program}
 use Rattle.in_check.specs.Runs.{IsRenamed}
 use Rattle.in_interaction.specs.Queues.{IsFirstQueue}
 use Rattle.in_compile.specs.declared.cells.Need.{Need}
-use Rattle.in_run.specs.declared.limits.Limits.{Limits}
+use Rattle.in_limits.specs.declared.limits.Limits.{Limits}
 use Rattle.in_run.specs.declared.stops.Stop.{Stop}
 use Rattle.in_run.specs.declared.stops.Stop.TheVariants.{Normal, Limit, Full}
 use Rattle.in_compile.specs.Cells.{agents_of}
@@ -24,11 +24,11 @@ use Rattle.in_reducer.specs.Steps.{StepsAt, NeedsAt}
 use Rattle.in_reducer.specs.Runs.{Runs, at_start, then_step}
 use Rattle.in_run.specs.Stops.{IsStop, IsOutcome}
 use Rattle.in_reducer.specs.Starts.{IsStart}
-use Rattle.in_rounds.specs.Starts.{DoesNotFit}
-use Rattle.in_rounds.proofs.Public.{machine_runs, count_at, same_start, start_machine}
+use Rattle.in_machine.specs.Starts.{DoesNotFit}
+use Rattle.in_machine.proofs.Public.{machine_runs, count_at, same_start, start_machine}
 use Rattle.in_run.proofs.Public.{same_outcome}
 use Rattle.in_print.proofs.Public.{same_texts}
-use Rattle.in_rounds.specs.Texts.{text_of}
+use Rattle.in_machine.specs.Texts.{text_of}
 
 -- ---- another table of rules
 

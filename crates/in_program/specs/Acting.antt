@@ -5,18 +5,18 @@ use Rattle.in_syntax.specs.declared.faults.Refusal.{Refusal}
 use Rattle.in_command_line.specs.declared.action.Action.{Action}
 use Rattle.in_command_line.specs.declared.action.Action.TheVariants.{Check, Derive, Run}
 use Rattle.in_command_line.specs.declared.action.Usage.{Usage}
-use Rattle.in_command_line.specs.declared.action.Usage.TheVariants.{Wrong, Help, Memory}
+use Rattle.in_command_line.specs.declared.action.Usage.TheVariants.{Wrong, Help, Version, Memory}
 use Rattle.in_program.specs.declared.acting.Status.{Status}
 use Rattle.in_check.specs.Checking.{IsAccepted, IsRefused}
 use Rattle.in_check.specs.Programs.{Program, counts_of}
 use Rattle.in_arena.specs.declared.content.CellClass.{CellClass}
 use Rattle.in_print.specs.Devices.{Moves}
-use Rattle.in_rounds.specs.Texts.{text_of}
+use Rattle.in_machine.specs.Texts.{text_of}
 use Rattle.in_run.specs.declared.stops.Stop.{Stop}
 use Rattle.in_run.specs.declared.stops.Stop.TheVariants.{Normal, Limit, Full}
 use Rattle.in_reducer.specs.Machines.{MachineParts}
 use Rattle.in_order.specs.Ends.{Ends}
-use Rattle.in_rounds.specs.Starts.{DoesNotFit}
+use Rattle.in_machine.specs.Starts.{DoesNotFit}
 use Rattle.in_run.specs.Outcomes.{RunsTo}
 use Rattle.in_program.specs.Devices.{Gives, Fails, BreaksWithin, IsEnoughText}
 use Rattle.in_program.specs.Lines.{accepted_line, refused_line, memory_line, run_lines, start_line}
@@ -126,9 +126,10 @@ pub data Acts (a : Action) (r r' : Reader) (w w' : Device) (s : Status) : Type 0
 abbrev pub Tells : Device → Device → List ℕ → Status → Status → Type 0
 Tells w w' line s answer = (Moves w w' line × (answer ≡ s)) ⊎ (BreaksWithin w w' line × (answer ≡ fault_status))
 
--- help and running out of memory go to the output w, what is wrong with the words to the errors e
+-- help and running out of memory go to the output w, what is wrong with the words to the errors e, and the version to neither
 abbrev pub TellsUsage : Device → Device → Device → Device → Usage → Status → Type 0
 TellsUsage w w' e e' (Help text) answer = Tells w w' (string_bytes text) (status 0) answer × (e' ≡ e)
+TellsUsage w w' e e' Version answer = (w' ≡ w) × (e' ≡ e) × (answer ≡ status 0)
 TellsUsage w w' e e' (Wrong text) answer = (w' ≡ w) × (Moves e e' (string_bytes text) ⊎ BreaksWithin e e' (string_bytes text)) × (answer ≡ status 2)
 TellsUsage w w' e e' Memory answer = Tells w w' memory_line memory_status answer × (e' ≡ e)
 

@@ -1,10 +1,10 @@
 ghost use Rattle.std.specs.Prelude.{ℕ, ◌≡◌, ◌-◌, ◌^◌, ◌<◌, ◌++◌, IfOk, OnErr};
-ghost use Rattle.in_rounds.specs.Texts.{text_of};
+ghost use Rattle.in_machine.specs.Texts.{text_of};
 ghost use Rattle.in_program.specs.Acting.{Acts, IsReply, Tells, TellsOne, TellsUsage, memory_status, AreFound, AreThese, report_action, status, stop_status};
 ghost use Rattle.in_program.specs.Lines.{memory_line, refused_line, run_lines, start_line};
 ghost use Rattle.in_arena.specs.declared.content.CellClass.{CellClass};
 ghost use Rattle.in_run.specs.declared.running.RunFault.TheVariants.{Start};
-ghost use Rattle.in_rounds.specs.declared.starting.StartFault.TheVariants.{Full};
+ghost use Rattle.in_machine.specs.declared.starting.StartFault.TheVariants.{Full};
 ghost use Rattle.in_syntax.specs.declared.faults.Fault.TheVariants.{Refused};
 ghost use Rattle.in_syntax.specs.declared.faults.Refusal.{Refusal};
 ghost use Rattle.in_command_line.specs.declared.action.Action.TheVariants.{Run};
@@ -22,7 +22,7 @@ use std::alloc::{AllocError, Global};
 use std::sync::Wait;
 use std::thread::Threads;
 
-/// The exit status of the program. The numbers are this project's own choice: 0 accepted, run to its end, or help; 1 refused; 2 wrong
+/// The exit status of the program. The numbers are this project's own choice: 0 accepted, run to its end, help, or the version; 1 refused; 2 wrong
 /// words; 3 a run that stopped at its limit; 4 cells that were too few; 5 running out of memory; 6 a read or a write that failed.
 #[derive(Clone, Copy, Debug, PartialEq, Eq)]
 pub struct Status(pub u8);
@@ -54,7 +54,7 @@ fn stop_status(stop: Stop) -> Status
 }
 
 /// Writes a text, and answers the status, or that of a fault where the writer failed.
-pub(crate) fn tell<W: TextOut>(writer: &mut W, text: &[u8], status: Status) -> Status
+pub fn tell<W: TextOut>(writer: &mut W, text: &[u8], status: Status) -> Status
     requires { (W.device writer.old).failures < 2 ^ 64 - 1 }
     ensures { Tells (W.device writer.old) (W.device writer.new) text.now status result }
 {
@@ -283,8 +283,8 @@ pub fn act<T: Threads + Wait, R: TextIn, W: TextOut>(
     }
 }
 
-/// Tells why the words name no action: help as output, what is wrong with them as an error, running out of memory as output.
-/// That wrong words can't be told changes nothing.
+/// Tells why the words name no action: help as output, what is wrong with them as an error, running out of memory as output. The version
+/// is left to the program, which knows it. That wrong words can't be told changes nothing.
 pub fn tell_usage<W: TextOut, E: TextOut>(usage: &Usage, output: &mut W, errors: &mut E) -> Status
     requires output { (W.device output.old).failures < 2 ^ 64 - 1 }
     requires errors { (E.device errors.old).failures < 2 ^ 64 - 1 }
@@ -292,6 +292,7 @@ pub fn tell_usage<W: TextOut, E: TextOut>(usage: &Usage, output: &mut W, errors:
 {
     match usage {
         Usage::Help(text) => tell(output, text.as_bytes(), ACCEPTED),
+        Usage::Version => ACCEPTED,
         Usage::Wrong(text) => {
             let _ = write_all(errors, text.as_bytes());
             WRONG_WORDS

@@ -3,7 +3,7 @@ ghost use Rattle.std.specs.Prelude.{ℕ, ◌≡◌, ◌-◌, ◌^◌, ◌<◌};
 ghost use Rattle.in_arena.specs.declared.content.CellClass.{CellClass};
 ghost use Rattle.in_program.specs.Acting.{AreFound, AreThese, IsReply, TellsOne, status};
 ghost use Rattle.in_program.specs.Lines.{start_line};
-ghost use Rattle.in_rounds.specs.declared.starting.StartFault.TheVariants.{Full};
+ghost use Rattle.in_machine.specs.declared.starting.StartFault.TheVariants.{Full};
 ghost use Rattle.in_command_line.specs.declared.action.Action.TheVariants.{Run};
 
 use crate::acting::{

@@ -15,6 +15,6 @@ mod runs;
 mod steps;
 mod streams;
 
-pub use acting::{Status, act, report, report_text, tell_usage};
+pub use acting::{Status, act, report, report_text, tell, tell_usage};
 pub use in_turn::run_text;
 pub use streams::{StreamIn, StreamOut};

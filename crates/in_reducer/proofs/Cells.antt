@@ -2,8 +2,8 @@
 pub mod AsMany
 pub mod AtRest
 pub mod Counted
-pub mod Lending
 pub mod LiveCounted
+pub mod Least
 pub mod Looked
 pub mod Short
 pub mod Shown

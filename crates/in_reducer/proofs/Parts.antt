@@ -1,5 +1,4 @@
--- Parts that are split off, glued on and added.
-pub mod Appended
+-- Parts that are split off and glued on.
 pub mod Glued
 pub mod SplitAlike
 pub mod SplitBefore

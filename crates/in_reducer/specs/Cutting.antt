@@ -3,7 +3,7 @@
 use Rattle.std.specs.Prelude.{◌≡◌, ◌≢◌, ℕ, List, [], ◌∷◌, ◌++◌, map, Some}
 use Rattle.in_net.specs.Nets.{Point, Port, Net, net_of}
 use Rattle.in_check.specs.Systems.{IsSound, system_of}
-use Rattle.in_parts.specs.Leading.{IsCutOnce, IsJoinedOnce, Leads}
+use Rattle.in_order.specs.Leading.{IsCutOnce, IsJoinedOnce, Leads}
 use Rattle.in_reducer.specs.Machines.{MachineParts, parts_of}
 use Rattle.in_reducer.specs.Reducers.{IsReducer}
 
@@ -29,7 +29,7 @@ pub record CutsAt (m : MachineParts) (c i : ℕ) (after : MachineParts) : Type 0
 
 -- ---- a joint
 
--- where the last two free ends are joined, the net is sound. (Two ends that come from a cut are joined to a sound net: see `in_parts`.)
+-- where the last two free ends are joined, the net is sound. (Two ends that come from a cut are joined to a sound net: see `in_order`.)
 abbrev pub CanJoin : MachineParts → Type 0
 CanJoin m = (w : Net ℕ) → IsJoinedOnce (net_in m) w → IsSound (system_of m.program) w
 

@@ -1,7 +1,15 @@
--- How a part is glued on: the order of the free ends of both. This project's own choice.
-use Rattle.std.specs.Prelude.{◌≡◌, ◌<◌, ℕ, List, [], ◌∷◌, ◌++◌, take, drop}
+-- When a part can be glued on, and in which order the free ends of both come. That nets are reduced in parts is this project's own choice.
+use Rattle.std.specs.Prelude.{◌≡◌, ◌<◌, ◌≤◌, ℕ, List, [], ◌∷◌, ◌++◌, take, drop}
+use Rattle.in_arena.specs.declared.content.CellClass.{CellClass}
 use Rattle.in_arena.specs.declared.content.End.{End}
 use Rattle.in_arena.specs.declared.content.End.TheVariants.{Free}
+use Rattle.in_compile.specs.Cells.{agents_of, count_of}
+use Rattle.in_reducer.specs.Machines.{MachineParts}
+
+-- it is of the same program, and of each class as many cells are free as it has agents
+pub record CanAppend (m other : MachineParts) : Type 0 where
+  pub program : other.program ≡ m.program
+  pub room : (c : CellClass) → agents_of m.program.tables c other.agents ≤ count_of m.vacant c
 
 -- by turns an element of the one list and one of the other
 abbrev pub in_turn : {X : Type 0} → List X → List X → List X

@@ -10,8 +10,8 @@ use Rattle.in_net.specs.Interactions.{IsRedex, redex_at}
 use Rattle.in_net.specs.Nets.{IsNet, net_of, signature_of}
 use Rattle.in_net.specs.Parts.{Parts}
 use Rattle.in_net.specs.Rules.{RuleParts}
-use Rattle.in_joining.specs.Between.{Interaction, IsDone, AddsMade}
-use Rattle.in_joining.specs.Shown.{IsShown}
+use Rattle.in_cells.specs.Between.{Interaction, IsDone, AddsMade}
+use Rattle.in_cells.specs.Shown.{IsShown}
 use Rattle.in_compile.specs.Templates.{TemplateParts, IsTemplateOf}
 use Rattle.in_reducer.specs.declared.sides.Pair.{Pair}
 use Rattle.in_reducer.specs.Placed.{IsPut}

@@ -1,4 +1,3 @@
-pub mod Appending
 pub mod Cutting
 pub mod Gluing
 pub mod Inside

@@ -6,8 +6,9 @@ use Rattle.in_arena.specs.declared.content.CellNo.{CellNo}
 use Rattle.in_net.specs.Nets.{Point, Port, Free}
 use Rattle.in_compile.specs.Cells.{agents_of, count_of}
 use Rattle.in_check.specs.Systems.{system_of}
-use Rattle.in_moving.specs.Laws.{ends_of}
-use Rattle.in_parts.specs.Leading.{IsWiredWithin, Leads, StandBeside}
+use Rattle.in_cells.specs.Laws.{ends_of}
+use Rattle.in_gluing.specs.SideBySide.{IsWiredWithin, StandBeside}
+use Rattle.in_order.specs.Leading.{Leads}
 use Rattle.in_reducer.specs.Cutting.{net_in}
 use Rattle.in_reducer.specs.Machines.{MachineParts, HasCells, HasItsPairs}
 

@@ -2,7 +2,7 @@
 -- itself. Soundness is all that a step needs: each active pair has one rule, and each interaction ends.
 use Rattle.std.specs.Prelude.{◌≤◌, ℕ, List}
 use Rattle.in_check.specs.Checking.{IsAccepted}
-use Rattle.in_glue.specs.Reducible.{IsReducible}
+use Rattle.in_order.specs.Reducible.{IsReducible}
 use Rattle.in_reducer.specs.Limiting.{most_cells}
 use Rattle.in_reducer.specs.Machines.{MachineParts, HasCells, HasItsPairs, plain_of}
 

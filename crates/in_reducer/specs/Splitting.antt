@@ -6,8 +6,8 @@ use Rattle.in_arena.specs.Classes.{classes}
 use Rattle.in_arena.specs.States.{State, Vacant, Leased, Live}
 use Rattle.in_arena.specs.declared.content.CellClass.{CellClass}
 use Rattle.in_arena.specs.declared.content.CellNo.{CellNo}
-use Rattle.in_moving.specs.Copying.{is_for, number_in}
-use Rattle.in_moving.specs.Laws.{AreTakenOut}
+use Rattle.in_cells.specs.Copying.{is_for, number_in}
+use Rattle.in_cells.specs.Laws.{AreTakenOut}
 use Rattle.in_reducer.specs.declared.splitting.Fresh.{Fresh}
 use Rattle.in_reducer.specs.declared.splitting.Lists.{Lists}
 use Rattle.in_reducer.specs.Inside.{AreTools, most_ends}

@@ -12,10 +12,11 @@ pub(crate) enum OwnEnd {
     Cut(PortType),
 }
 
-/// What each free end leads to stands at its number in `ends`, and after that is room for the sides of the boundary ends of a pair.
-pub(crate) struct Body<'a> {
+/// What a reducer works with. What each free end leads to stands at its number in `ends`, and after that is room for the sides of the boundary
+/// ends of a pair. Cells of the arena may be on lease, so that it has no invariant: each call says what it needs and keeps.
+pub struct Body<'a> {
     pub(crate) checked: &'a Checked,
-    pub(crate) arena: Arena,
+    pub arena: Arena,
     pub(crate) free: Vec<OwnEnd>,
     pub(crate) ends: Vec<End>,
     pub(crate) queue: VecDeque<(u32, u32)>,

@@ -8,7 +8,7 @@ ghost use Rattle.in_reducer.specs.Inside.{IsKept, most_free, reducer_view};
 use crate::body::{Body, OwnEnd};
 use crate::reducer::Reducer;
 use in_arena::{CellNo, End};
-use in_cutting::cut;
+use in_cells::cut;
 use in_symbols::PortType;
 use std::alloc::AllocError;
 

@@ -4,9 +4,8 @@ ghost use Rattle.in_arena.specs.Arenas.{NoneLeased};
 ghost use Rattle.in_arena.specs.declared.content.CellClass.{CellClass as Class};
 ghost use Rattle.in_arena.specs.Classes.{classes};
 ghost use Rattle.in_compile.specs.Cells.{agents_of, count_of};
-ghost use Rattle.in_moving.specs.Copying.{IsEndWithin, IsListOfLive, moved_end, name_in, number_in};
-ghost use Rattle.in_reducer.specs.Appending.{CanAppend};
-ghost use Rattle.in_reducer.specs.Gluing.{IsFreeWithin, glued, in_turn};
+ghost use Rattle.in_cells.specs.Copying.{IsEndWithin, IsListOfLive, moved_end, name_in, number_in};
+ghost use Rattle.in_reducer.specs.Gluing.{CanAppend, IsFreeWithin, glued, in_turn};
 ghost use Rattle.in_reducer.specs.Inside.{IsKept, most_free, reducer_view};
 ghost use Rattle.in_reducer.specs.Parting.{IsGluedOn, place_of_two};
 
@@ -16,7 +15,7 @@ use crate::numbered::numbered_end;
 use crate::reducer::Reducer;
 use crate::seam::Seam;
 use in_arena::{Arena, CellNo, End};
-use in_moving::{copy, moved_end, number_anew};
+use in_cells::{copy, moved_end, number_anew};
 
 /// The number in the whole of a free end of the rest, which had `own` before the cuts.
 fn rest_number(own: u32, number: u32) -> u32

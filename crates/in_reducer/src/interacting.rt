@@ -7,8 +7,8 @@ ghost use Rattle.in_reducer.specs.Standing.{IsNetIn, AreLeasedAlike, at_rest};
 
 use crate::sides::{Pair, set_sides};
 use in_arena::{Arena, End};
+use in_cells::join_all;
 use in_compile::{Placed, Template};
-use in_joining::join_all;
 use in_symbols::Symbols;
 
 /// The interaction of a pair beside which its right member stands: the sides of the boundary ends are set, the pair's cells are free from

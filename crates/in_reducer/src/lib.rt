@@ -9,24 +9,18 @@
 //!
 //! `starting` places the program's net, `looking` reads it, `stepping` does one interaction: the template of the pair is found by the two
 //! symbols, `placing` puts the right member into free cells while the pair is still there, `sides` writes what is at the two sides of
-//! each boundary end behind the free ends in the list, the pair's cells are retired, `in_joining` joins end by end, and `queueing` adds
+//! each boundary end behind the free ends in the list, the pair's cells are retired, `in_cells` joins end by end, and `queueing` adds
 //! the new pairs. The room for all this (`tools`: a stock, a list of cells, a list of pairs; the queue; the list of ends) is taken at the
 //! start, so that an interaction takes no memory and can't be refused.
 //!
-//! No cell is on lease between two calls, so that the arena can be dropped. During a round cells are on lease, and what the reducer works
-//! with (`body`) is reduced all the same: for contracts a leased cell counts as free (`at_rest` in `specs/Standing.antt`), so that what
-//! is shown doesn't depend on which are out.
+//! No cell is on lease between two calls, so that the arena can be dropped. A round (`in_rounds`) lends cells to workers, and what the reducer
+//! works with (`body`) is reduced all the same: for contracts a leased cell counts as free (`at_rest` in `specs/Standing.antt`), so that what
+//! is shown doesn't depend on which are out. `stitching` does an interaction whose right member a worker placed: its cells are settled, and
+//! the second half of a step (`finish`) joins them, by what is at the pair's ports now.
 //!
 //! **Parts**: `cutting` cuts a wire, and `rejoining` joins the last two free ends again. `splitting` splits agents off that lead to each other
-//! and to cuts alone, as a reducer by itself; `gluing` glues such a part on again, in the room that a `seam` has. `appending` adds the whole
-//! net of another reducer. `numbered` has ends under other numbers.
-//!
-//! A **round** (`round`): the first pairs of the queue are its jobs, told by their symbols. `in_work::gather_jobs` lends each worker its
-//! share of the free cells, lets each claim jobs from a board and place their templates, in a thread of its own, takes all back by value,
-//! gives back what wasn't used, and answers a `Gather` of what was placed. Then the owner (`rounding`) goes through the jobs in rising
-//! number: what was gathered is settled and stitched in (`stitching`), which is the second half of a step (`finish`), by what is at the
-//! pair's ports now. At the first job for which nothing is there, the rest of the gather goes back, and the jobs that are left are done
-//! by plain steps while what they need is free. So the jobs done are the first ones, whatever the schedule.
+//! and to cuts alone, as a reducer by itself; `gluing` glues such a part on again, in the room that a `seam` has. `numbered` has ends under
+//! other numbers.
 #![tactic(auto)]
 
 mod appending;
@@ -42,8 +36,6 @@ mod placing;
 mod queueing;
 mod reducer;
 mod rejoining;
-mod round;
-mod rounding;
 mod seam;
 mod sides;
 mod splitting;
@@ -52,9 +44,10 @@ mod stepping;
 mod stitching;
 mod tools;
 
+pub use body::Body;
 pub use in_arena::{CellClass, CellNo, End};
 pub use in_compile::Need;
-pub use limits::{LEAST_CELLS, MOST_CELLS, MOST_FREE_ENDS};
+pub use in_limits::{LEAST_CELLS, MOST_CELLS};
+pub use limits::MOST_FREE_ENDS;
 pub use reducer::Reducer;
-pub use round::Round;
 pub use seam::Seam;

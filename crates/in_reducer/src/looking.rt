@@ -1,7 +1,8 @@
 // What a reducer shows.
-ghost use Rattle.std.specs.Prelude.{◌≡◌, ◌<◌, length, count_by, is_some, Some, IsSome, slice_get, option_map};
+ghost use Rattle.std.specs.Prelude.{◌≡◌, ◌<◌, ◌≤◌, length, count_by, is_some, Some, IsSome, slice_get, option_map};
 ghost use Rattle.in_symbols.specs.Tables.{arity_of};
 ghost use Rattle.in_net.specs.Parts.{IsPointOf, symbol_in, partner_in, free_name_in};
+ghost use Rattle.in_arena.specs.declared.content.CellClass.{CellClass as Class};
 ghost use Rattle.in_compile.specs.Cells.{count_of};
 ghost use Rattle.in_reducer.specs.Machines.{parts_of, point_at};
 ghost use Rattle.in_reducer.specs.Reducers.{IsReducer};
@@ -10,6 +11,7 @@ use crate::body::OwnEnd;
 use crate::reducer::Reducer;
 use in_arena::{CellClass, CellNo, End};
 use in_check::Checked;
+use in_compile::Need;
 use in_symbols::SymbolNo;
 
 impl<'a> Reducer<'a> {
@@ -43,6 +45,22 @@ impl<'a> Reducer<'a> {
         ensures { result ≡ count_of self.now.vacant class }
     {
         self.body.arena.free_count(class)
+    }
+
+    /// How many cells of each class are free.
+    pub fn vacant(&self) -> Need
+        ensures { result ≡ self.now.vacant }
+    {
+        self.body.vacant()
+    }
+
+    /// The least number of free cells of a class.
+    pub fn least_free(&self) -> u32
+        ensures least { (c : Class) → result ≤ count_of self.now.vacant c }
+        ensures one { (c : Class) × (count_of self.now.vacant c ≡ result) }
+    {
+        let free = self.vacant();
+        free.small.min(free.large).min(free.wide)
     }
 
     /// How many numbers there are for agents: those of all cells, whether free or not.

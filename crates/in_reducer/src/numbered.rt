@@ -1,6 +1,6 @@
 // Ends in cells that keep their numbers, where free ends get other ones.
 ghost use Rattle.std.specs.Prelude.{◌≡◌, ◌<◌, ℕ, length};
-ghost use Rattle.in_moving.specs.Copying.{moved_end, number_in};
+ghost use Rattle.in_cells.specs.Copying.{moved_end, number_in};
 
 use in_arena::End;
 

@@ -6,6 +6,7 @@ ghost use Rattle.in_compile.specs.Cells.{count_of, IsEnough};
 ghost use Rattle.in_reducer.specs.Placed.{IsPut, IsNoneOf};
 
 use in_arena::Arena;
+use in_base::use_promise;
 use in_compile::{Member, Placed, Stock, place_into};
 
 /// Places a member in free cells of the arena, each agent in one of its class, with its wires to others of its agents and, at boundary
@@ -24,7 +25,7 @@ pub(crate) fn put(member: &Member, arena: &mut Arena, stock: &mut Stock, placed:
     ensures stock_all { HasAllCells stock.new.bag }
     ensures placed { IsNoneOf placed.new.bag arena.new × (placed.new.room ≡ placed.old.room) }
 {
-    arena.cells();
+    use_promise!(arena.cells());
     stock.add(arena, member.need());
     place_into(member, stock, placed);
     placed.settle(arena);

@@ -5,8 +5,10 @@ use std::marker::Model;
 /// A sound net of a program over a number of cells: its active pairs are in a queue, and each interaction is done in place, without taking
 /// memory. It need not be one that the program reaches, and its free ends are its own: each is one of the program's, with its name and type,
 /// or an end of a wire that was cut, with its type and no name.
+///
+/// A round lends its cells to workers, so its body can be named outside. Whoever changes that proves again what is kept.
 pub struct Reducer<'a> {
-    pub(crate) body: Body<'a>,
+    pub body: Body<'a>,
 }
 
 impl<'a> Model for Reducer<'a> {

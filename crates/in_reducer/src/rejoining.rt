@@ -6,7 +6,7 @@ ghost use Rattle.in_reducer.specs.Inside.{IsKept, reducer_view};
 use crate::body::Body;
 use crate::queueing::queue_made;
 use crate::reducer::Reducer;
-use in_cutting::join_last;
+use in_cells::join_last;
 
 impl<'a> Body<'a> {
     /// Joins the last two free ends.
@@ -33,7 +33,7 @@ impl<'a> Body<'a> {
 impl<'a> Reducer<'a> {
     /// Joins the last two free ends: what they led to lead to each other from then on, and the two are gone. Where principal ports led to both,
     /// their agents are a new pair, which comes last. The net after it has to be sound, as it is where the two come from a cut, and only
-    /// interactions were done since: who calls it shows that (`in_parts`). It takes no memory.
+    /// interactions were done since: who calls it shows that (`in_order`). It takes no memory.
     pub fn join_last(&mut self)
         requires two { 2 ≤ length self.old.free }
         requires can { CanJoin self.old }

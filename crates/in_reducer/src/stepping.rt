@@ -19,6 +19,7 @@ use crate::reducer::Reducer;
 use crate::sides::Pair;
 use crate::tools::Tools;
 use in_arena::{CellClass, CellNo};
+use in_base::use_promise;
 use in_compile::{Need, Template, Templates};
 use in_symbols::SymbolNo;
 
@@ -32,7 +33,7 @@ impl<'a> Body<'a> {
     }
 
     /// The symbols of the pair of that number, in its order.
-    pub(crate) fn heads(&self, number: u32) -> (SymbolNo, SymbolNo)
+    pub fn heads(&self, number: u32) -> (SymbolNo, SymbolNo)
         requires net { KeepsNet self.now }
         requires pair { number < length self.now.queue.items }
         ensures { HasHeadsAt (reducer_view self.now) number result }
@@ -141,7 +142,7 @@ impl<'a> Reducer<'a> {
         requires pair { number < length self.now.queue }
         ensures { NeedsAt self.now number result }
     {
-        self.pairs();
+        use_promise!(self.pairs());
         self.body.template(templates, number).need()
     }
 

@@ -13,7 +13,7 @@ use std::mem;
 impl<'a> Body<'a> {
     /// The interaction of the first pair, whose template is placed in cells on lease from the arena: these are live from then on, and joined
     /// by what stands at the pair's ports now. Other cells may be on lease, and stay so. It takes no memory.
-    pub(crate) fn stitch(&mut self, done: PlacedTemplate)
+    pub fn stitch(&mut self, done: PlacedTemplate)
         requires all { KeepsAll self.old }
         requires pair { 0 < length self.old.queue.items }
         requires template { IsTemplateAt (reducer_view self.old) 0 done.template }

@@ -3,12 +3,13 @@ use Rattle.std.proofs.Common.{◌≡◌, ◌⊎◌, inl, inr, ◌<◌, ℕ, min,
 use Rattle.std.proofs.lemmas.List.{length-map}
 use Rattle.in_interaction.specs.Queues.{both}
 use Rattle.in_reducer.specs.Machines.{MachineParts}
-use Rattle.in_reducer.specs.Runs.{IsFront, Runs, jobs_of}
-use Rattle.in_rounds.specs.MachineLaws.{RoundsAreSame}
-use Rattle.in_rounds.specs.Machines.{IsMachine}
-use Rattle.in_rounds.specs.Same.{AreSame}
-use Rattle.in_rounds.proofs.SameKind.{an_equivalence}
-use Rattle.in_rounds.proofs.SameRun.{machine_runs, passes, room_moved, same_run}
+use Rattle.in_reducer.specs.Runs.{Runs}
+use Rattle.in_machine.specs.Machines.{IsMachine}
+use Rattle.in_names.specs.Same.{AreSame}
+use Rattle.in_names.proofs.Public.{an_equivalence}
+use Rattle.in_machine.proofs.Public.{as_reducer, machine_runs, passes, room_moved, same_run}
+use Rattle.in_rounds.specs.Laws.{RoundsAreSame}
+use Rattle.in_rounds.specs.Rounds.{IsFront, jobs_of}
 
 same_jobs : (m n : MachineParts) (budget : ℕ) → AreSame m n → jobs_of m budget ≡ jobs_of n budget
 same_jobs m n budget (f, same) = ap (λ (z : ℕ). min z budget) (sym (ap length same.queue ∙ length-map m.queue (both f)))
@@ -18,7 +19,7 @@ not_shorter : (start other m n : MachineParts) (budget j k : ℕ) → IsMachine 
 not_shorter start other m n budget j k h g same x y l =
     let u = passes other n j k y.run l in
     let r = same_run start other m u.0 j h g same x.run u.1 in
-    let back = an_equivalence.back m u.0 (machine_runs start m j h x.run) r in
+    let back = an_equivalence.back m u.0 (as_reducer m (machine_runs start m j h x.run)) r in
     let jobs = same_jobs start other budget same in
     let most = y.most in
     elim x.ends [
@@ -28,7 +29,7 @@ not_shorter start other m n budget j k h g same x y l =
 
 pub same_round : RoundsAreSame
 same_round start other m n budget j k h g same x y =
-    let back = an_equivalence.back start other h same in
+    let back = an_equivalence.back start other (as_reducer start h) same in
     let as_long : j ≡ k = elim (let z : (j < k) ⊎ (k < j) ⊎ (j ≡ k) = grind arith in z) [
       | inl l ↦ absurd (not_shorter start other m n budget j k h g same x.front y.front l)
       | inr z ↦ elim z [ inl l ↦ absurd (not_shorter other start n m budget k j g h back y.front x.front l) | inr e ↦ e ]

@@ -1,7 +1,9 @@
-pub mod MachineLaws
-pub mod Machines
-pub mod Phases
+pub mod Bringing
+pub mod Dones
+pub mod Gathers
+pub mod Holding
+pub mod Laws
+pub mod Lending
+pub mod Plans
 pub mod Rounds
-pub mod Same
-pub mod Starts
-pub mod Texts
+pub mod Works

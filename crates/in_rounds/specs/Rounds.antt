@@ -1,21 +1,21 @@
--- Several interactions at once, as workers do them: they are those of the first pairs of the queue, one after another. What is free for all
--- of these pairs together is free for each in its turn. This project's own choice.
-use Rattle.std.specs.Prelude.{◌≡◌, ◌+◌, ℕ, zero, suc}
-use Rattle.in_arena.specs.declared.content.CellClass.{CellClass}
-use Rattle.in_compile.specs.declared.cells.Need.{Need}
-use Rattle.in_compile.specs.Cells.{count_of, IsEnough}
+-- Several interactions at once, as workers do them: they are those of the first pairs of the queue, one after another. This project's own
+-- choice.
+use Rattle.std.specs.Prelude.{◌≡◌, ◌⊎◌, ◌≤◌, ℕ, min, length}
+use Rattle.in_machine.specs.Together.{HasRoomFor}
 use Rattle.in_reducer.specs.Machines.{MachineParts}
-use Rattle.in_reducer.specs.Steps.{NeedsAt}
-use Rattle.in_reducer.specs.Runs.{IsFront, jobs_of}
+use Rattle.in_reducer.specs.Runs.{Runs}
+use Rattle.in_reducer.specs.Steps.{HasRoomAt}
 
--- the first pairs, a given number of them, need a given number of cells of each class together
-pub data NeedTogether (m : MachineParts) : ℕ → (CellClass → ℕ) → Type 0 where
-  none : NeedTogether m zero (λ c. zero)
-  then_next : (k : ℕ) (sum : CellClass → ℕ) (need : Need) → NeedTogether m k sum → NeedsAt m k need → NeedTogether m (suc k) (λ c. sum c + count_of need c)
+-- as many pairs as a round of at most `budget` interactions is for
+abbrev pub jobs_of : MachineParts → ℕ → ℕ
+jobs_of m budget = min (length m.queue) budget
 
--- these are free
-abbrev pub HasRoomFor : MachineParts → ℕ → Type 0
-HasRoomFor m k = (sum : CellClass → ℕ) × NeedTogether m k sum × IsEnough sum (count_of m.vacant)
+-- the first pairs of the queue in turn, one at least, until there are no more jobs, or no room for the next one
+pub record IsFront (m : MachineParts) (budget : ℕ) (after : MachineParts) (k : ℕ) : Type 0 where
+  pub run : Runs m k after
+  pub some : 1 ≤ k
+  pub most : k ≤ jobs_of m budget
+  pub ends : (k ≡ jobs_of m budget) ⊎ (HasRoomAt after 0 → ⊥)
 
 -- what a round did: the first k pairs of the queue in turn, until no job was left, or no room for the next one; and so all of its
 -- jobs where there is room for them together

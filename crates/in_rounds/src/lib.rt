@@ -1,25 +1,44 @@
-//! A machine over raw cells, and rounds of several workers on its queue.
+//! Rounds of several workers on the queue of a machine: they place the right members of the first pairs at once, and the owner does these
+//! interactions one after another.
 //!
-//! A `Machine` (`machine`) is a reducer with its templates, and keeps besides that its program reaches the net; that is all that it adds.
-//! `starting` says why there is none, and `looking` reads it. Its `round` (`rounds`) is the reducer's, and its `phase` (`phases`) reduces the
-//! net in parts, as `in_phases` does. `specs/Same.antt` says when two machines differ in numbers alone, and `machine_laws` what this
-//! leaves open. `in_run` re-exports the machine.
+//! Jobs are the first pairs of the queue, told by their symbols. `lending` gives each worker its `hand`: a seat at a board (`in_claims`), a
+//! stock with its share of the free cells (`sharing`), and room for what it does. `working` is what a worker does, each in a thread of its own
+//! (`threads`): it claims jobs from the board and places their templates. All comes back by value; `bringing` gives back what wasn't used and
+//! puts what was done in a `Gather` (`gathering`).
+//!
+//! A `Done` is a placed template with its job and the templates that made it, and keeps that it is the template of the job's symbols; a
+//! `Gather` keeps one for each job of a list. Which cells are out, and in which bags they are, is said by one number: how many bags of a list
+//! have a cell (`holders` in `specs/Holding.antt`). What is lent, placed, put, taken and given back only moves cells from one list of bags to
+//! another, so sums say that none is lost.
+//!
+//! Then the owner (`rounding`) goes through the jobs in rising number: what was gathered is settled and stitched in (`stitching`), which is the
+//! second half of a step, by what is at the pair's ports now. At the first job for which nothing is there, the rest of the gather goes back, and
+//! the jobs that are left are done by plain steps while what they need is free. So the jobs done are the first ones, whatever the schedule.
+//! `rounds` is the call over machines.
 #![tactic(auto)]
 
-mod looking;
-mod machine;
-pub mod machine_laws;
-mod phases;
+mod bringing;
+mod done;
+mod gather;
+mod gathering;
+mod hand;
+pub mod laws;
+mod lending;
+mod plan;
+mod rounding;
 mod rounds;
-mod starting;
+mod sharing;
+mod stitching;
+mod threads;
+mod working;
 
+pub use done::Done;
+pub use gather::{Gather, Why};
+pub use gathering::gather_jobs;
 pub use in_arena::{CellClass, CellNo, End};
 pub use in_claims::{Board, Gate, NoGate, Seat};
-pub use in_compile::Need;
-pub use in_gather::{Done, Gather, Why};
-pub use in_phases::{Room, Sharing, Worked};
-pub use in_reducer::{LEAST_CELLS, MOST_CELLS, Round};
-pub use machine::Machine;
-pub use phases::phase;
+pub use in_compile::{Need, Placed, Stock, place};
+pub use in_machine::{LEAST_CELLS, MOST_CELLS, Machine, StartFault};
+pub use plan::Plan;
+pub use rounding::Round;
 pub use rounds::round;
-pub use starting::StartFault;

@@ -5,9 +5,10 @@ ghost use Rattle.in_reducer.specs.Machines.{plain_of};
 ghost use Rattle.in_reducer.specs.Steps.{HasRoomAt};
 ghost use Rattle.in_rounds.specs.Rounds.{IsRound};
 
-use crate::machine::Machine;
+use crate::rounding::{Round, reducer_round};
+use in_base::use_promise;
 use in_claims::Gate;
-use in_reducer::Round;
+use in_machine::Machine;
 use std::alloc::{AllocError, Global};
 use std::sync::Wait;
 use std::thread::Threads;
@@ -41,7 +42,7 @@ pub fn round<R: Threads + Wait, G: Gate + Sync>(
     ensures threads { IfOk result (λ r. r.threads + 1 ≤ workers) }
     ensures refused { OnErr result (machine.new ≡ machine.old) }
 {
-    machine.pairs();
+    use_promise!(machine.pairs());
     let Machine { templates, reducer } = machine;
-    reducer.round(rt, alloc, templates, workers, budget, gate)
+    reducer_round(rt, alloc, reducer, templates, workers, budget, gate)
 }

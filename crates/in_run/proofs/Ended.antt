@@ -4,14 +4,14 @@ use Rattle.std.proofs.Common.{◌≡◌, ℕ, List, Ok}
 use Rattle.in_check.specs.Checking.{IsAccepted}
 use Rattle.in_check.specs.Plain.{IsReachedBy}
 use Rattle.in_check.specs.Programs.{Program}
-use Rattle.in_run.specs.declared.limits.Limits.{Limits}
+use Rattle.in_limits.specs.declared.limits.Limits.{Limits}
 use Rattle.in_run.specs.declared.running.Outcome.{Outcome}
-use Rattle.in_rounds.specs.Machines.{IsMachine}
+use Rattle.in_machine.specs.Machines.{IsMachine}
 use Rattle.in_reducer.specs.Machines.{plain_of}
 use Rattle.in_run.specs.Outcomes.{RunsTo}
-use Rattle.in_rounds.specs.Same.{AreSame}
+use Rattle.in_names.specs.Same.{AreSame}
 use Rattle.in_run.proofs.SameOutcome.{same_outcome}
-use Rattle.in_rounds.proofs.Public.{same_start, start_machine}
+use Rattle.in_machine.proofs.Public.{same_start, start_machine}
 
 module _ (p : Program) (l : Limits) (o : Outcome) (h : RunsTo p l (Ok o)) where
   pub ended_reached : IsReachedBy (plain_of o.machine) o.interactions

@@ -1,6 +1,6 @@
 -- A run that stops normally has come to the one end of its program.
 use Rattle.std.proofs.Common.{◌≡◌, ℕ, [], subst}
-use Rattle.in_run.specs.declared.limits.Limits.{Limits}
+use Rattle.in_limits.specs.declared.limits.Limits.{Limits}
 use Rattle.in_run.specs.declared.stops.Stop.{Stop}
 use Rattle.in_run.specs.declared.stops.Stop.TheVariants.{Normal}
 use Rattle.in_reducer.specs.Machines.{MachineParts}
@@ -8,10 +8,10 @@ use Rattle.in_check.specs.Programs.{Program}
 use Rattle.in_run.specs.Outcomes.{ReachesWith}
 use Rattle.in_run.specs.Stops.{IsStop}
 use Rattle.in_run.proofs.StatesOfRuns.{IsStateOfRun}
-use Rattle.in_rounds.specs.Texts.{text_of}
+use Rattle.in_machine.specs.Texts.{text_of}
 use Rattle.in_order.specs.Ends.{EndsOnce}
 use Rattle.in_run.specs.Laws.{NormalOutcomesAreOne}
-use Rattle.in_rounds.proofs.Public.{normal_ends_are_one}
+use Rattle.in_machine.proofs.Public.{normal_ends_are_one}
 
 no_pair : (limit : ℕ) (m : MachineParts) (k : ℕ) (s : Stop) → IsStop limit m k s → s ≡ Normal → m.queue ≡ []
 no_pair limit m k s h e = subst (IsStop limit m k) e h

@@ -4,17 +4,17 @@ use Rattle.in_check.specs.Checking.{IsAccepted}
 use Rattle.in_check.specs.Plain.{IsReachedBy}
 use Rattle.in_check.specs.Programs.{Program}
 use Rattle.in_order.specs.Ends.{EndsOnce}
-use Rattle.in_run.specs.declared.limits.Limits.{Limits}
+use Rattle.in_limits.specs.declared.limits.Limits.{Limits}
 use Rattle.in_run.specs.declared.running.Outcome.{Outcome}
 use Rattle.in_run.specs.declared.running.RunFault.{RunFault}
 use Rattle.in_run.specs.declared.stops.Stop.{Stop}
 use Rattle.in_run.specs.declared.stops.Stop.TheVariants.{Normal}
 use Rattle.in_reducer.specs.Machines.{MachineParts, plain_of}
-use Rattle.in_rounds.specs.Machines.{IsMachine}
+use Rattle.in_machine.specs.Machines.{IsMachine}
 use Rattle.in_run.specs.Outcomes.{RunsInTurn, RunsTo}
 use Rattle.in_run.specs.Stops.{IsStop, IsOutcome}
-use Rattle.in_rounds.specs.Same.{AreSame}
-use Rattle.in_rounds.specs.Texts.{text_of}
+use Rattle.in_names.specs.Same.{AreSame}
+use Rattle.in_machine.specs.Texts.{text_of}
 
 -- .. and the one stops as the other
 abbrev pub StopsAreSame : Type 0

@@ -2,15 +2,15 @@
 use Rattle.std.specs.Prelude.{◌≡◌, ◌≤◌, ℕ, Result, Ok, Err}
 use Rattle.in_check.specs.Plain.{IsReachedBy}
 use Rattle.in_check.specs.Programs.{Program}
-use Rattle.in_run.specs.declared.limits.Limits.{Limits}
+use Rattle.in_limits.specs.declared.limits.Limits.{Limits}
 use Rattle.in_run.specs.declared.running.Outcome.{Outcome}
 use Rattle.in_run.specs.declared.running.RunFault.{RunFault}
 use Rattle.in_run.specs.declared.running.RunFault.TheVariants.{Start, Memory}
 use Rattle.in_reducer.specs.Machines.{MachineParts, HasCells, plain_of}
 use Rattle.in_reducer.specs.Starts.{IsStart}
-use Rattle.in_rounds.specs.Machines.{IsMachine}
-use Rattle.in_rounds.specs.Starts.{IsNoStart}
-use Rattle.in_rounds.specs.declared.starting.StartFault.{StartFault}
+use Rattle.in_machine.specs.Machines.{IsMachine}
+use Rattle.in_machine.specs.Starts.{IsNoStart}
+use Rattle.in_machine.specs.declared.starting.StartFault.{StartFault}
 use Rattle.in_reducer.specs.Runs.{Runs}
 use Rattle.in_run.specs.Stops.{GoesOn, IsOutcome, IsStop}
 

@@ -3,13 +3,13 @@ ghost use Rattle.std.specs.Prelude.{◌≡◌, IfOk};
 ghost use Rattle.in_order.specs.Ends.{EndsOnce};
 ghost use Rattle.in_run.specs.declared.stops.Stop.TheVariants.{Normal};
 ghost use Rattle.in_run.specs.Outcomes.{RunsInTurn, RunsTo, at_start};
-ghost use Rattle.in_rounds.specs.Texts.{text_of};
+ghost use Rattle.in_machine.specs.Texts.{text_of};
 
-use crate::limits::Limits;
 use crate::next::stop;
 use crate::running::Outcome;
 use in_check::Checked;
-use in_rounds::{Machine, StartFault};
+use in_limits::Limits;
+use in_machine::{Machine, StartFault};
 use std::alloc::Global;
 
 /// Runs a program first in, first out, as `run` does with one worker, whatever number of workers the limits have: for who has no runtime to
@@ -34,7 +34,6 @@ pub fn run_in_turn<'a>(
                 stop,
             });
         }
-        machine.step(0);
-        interactions += 1;
+        interactions += machine.take_first(limits.limit() - interactions);
     }
 }

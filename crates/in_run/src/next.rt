@@ -1,20 +1,9 @@
 // Whether an interaction is next.
-ghost use Rattle.std.specs.Prelude.{◌≡◌, ◌≤◌, MatchOption};
+ghost use Rattle.std.specs.Prelude.{◌≤◌, MatchOption};
 ghost use Rattle.in_run.specs.Stops.{IsStop, GoesOn};
 
 use crate::stops::Stop;
-use in_rounds::{CellClass, Machine, Need};
-
-/// How many cells of each class are free.
-fn vacant(machine: &Machine) -> Need
-    ensures { result ≡ machine.now.vacant }
-{
-    Need {
-        small: machine.free(CellClass::Small),
-        large: machine.free(CellClass::Large),
-        wide: machine.free(CellClass::Wide),
-    }
-}
+use in_machine::Machine;
 
 /// Why no interaction of the first pair is next, after `interactions` interactions.
 pub(crate) fn stop(machine: &Machine, limit: u64, interactions: u64) -> Option<Stop>
@@ -28,7 +17,7 @@ pub(crate) fn stop(machine: &Machine, limit: u64, interactions: u64) -> Option<S
         return Some(Stop::Limit);
     }
     let need = machine.need_of(0);
-    let class = need.first_short(vacant(machine))?;
+    let class = need.first_short(machine.vacant())?;
     Some(Stop::Full {
         class,
         need: need.of(class),

@@ -4,8 +4,8 @@ ghost use Rattle.std.specs.Prelude.{◌≡◌, ◌≤◌, IfSome};
 ghost use Rattle.in_phases.specs.Phases.{HasFree};
 ghost use Rattle.in_reducer.specs.Limiting.{most_cells};
 
-use crate::limits::Limits;
-use in_rounds::{CellClass, MOST_CELLS, Machine, Room, Sharing, Worked};
+use in_limits::Limits;
+use in_machine::{MOST_CELLS, Machine, Room, Sharing, Worked};
 use std::alloc::Global;
 
 /// From how many interactions on a phase is tried: a shorter run is over before it could pay, and the pairs are spread far by then.
@@ -37,11 +37,10 @@ const COST_OF_A_THREAD: u64 = 1_700;
 /// How long is waited after a phase that hasn't paid, in what it cost; twice as long after each further one.
 const FIRST_WAIT: u64 = 4;
 
-/// What a run of several workers keeps from one look at its machine to the next: from how many interactions on a round and a phase are looked
-/// at, how many times its cost is waited after the next phase that doesn't pay, and the room for phases, from the first one on.
+/// What a run of several workers keeps from one look at its machine to the next: from how many interactions on a phase is looked at, how many
+/// times its cost is waited after the next phase that doesn't pay, and the room for phases, from the first one on.
 #[derive(Drop)]
 pub(crate) struct Pace {
-    pub(crate) round_from: u64,
     phase_from: u64,
     wait: u64,
     pub(crate) room: Option<Room>,
@@ -51,7 +50,6 @@ impl Pace {
     /// That of the beginning of a run.
     pub(crate) fn begin() -> Pace {
         Pace {
-            round_from: 0,
             phase_from: PHASES_FROM,
             wait: FIRST_WAIT,
             room: None,
@@ -85,16 +83,6 @@ impl Pace {
     }
 }
 
-/// The least number of free cells of a class.
-fn least_free(machine: &Machine) -> u32
-    ensures { HasFree machine.now result }
-{
-    let small = machine.free(CellClass::Small);
-    let large = machine.free(CellClass::Large);
-    let wide = machine.free(CellClass::Wide);
-    small.min(large).min(wide)
-}
-
 /// How a machine's net is shared out among the workers, where `left` interactions are left; nothing where a phase can't pay. Half of the
 /// cells are kept back, so that the order in which pairs are taken is no reason to stop.
 pub(crate) fn sharing(machine: &Machine, limits: Limits, left: u64) -> Option<Sharing>
@@ -106,7 +94,7 @@ pub(crate) fn sharing(machine: &Machine, limits: Limits, left: u64) -> Option<Sh
     let pairs = machine.pairs();
     let parts = limits.workers().min(MOST_PARTS).min(pairs / PART_PAIRS);
     let floor = limits.cells() / 2;
-    let free = least_free(machine);
+    let free = machine.least_free();
     if pairs < PHASE_PAIRS || parts < 2 || left < LEAST_LEFT || free < floor {
         return None;
     }

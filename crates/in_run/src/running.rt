@@ -3,15 +3,16 @@ ghost use Rattle.std.specs.Prelude.{◌≡◌, IfOk};
 ghost use Rattle.in_order.specs.Ends.{EndsOnce};
 ghost use Rattle.in_run.specs.declared.stops.Stop.TheVariants.{Normal};
 ghost use Rattle.in_run.specs.Outcomes.{RunsTo};
-ghost use Rattle.in_rounds.specs.Texts.{text_of};
+ghost use Rattle.in_machine.specs.Texts.{text_of};
 
 use crate::advancing::advance;
-use crate::limits::Limits;
 use crate::next::stop;
 use crate::pace::Pace;
 use crate::stops::Stop;
 use in_check::Checked;
-use in_rounds::{Gate, Machine, StartFault};
+use in_claims::Gate;
+use in_limits::Limits;
+use in_machine::{Machine, StartFault};
 use std::alloc::Global;
 use std::sync::Wait;
 use std::thread::Threads;
@@ -24,7 +25,8 @@ pub struct Outcome<'a> {
     pub stop: Stop,
 }
 
-/// Why a run has no outcome: there is no machine, or memory ran out after some interactions, and then the machine stands there.
+/// Why a run has no outcome: there is no machine, or memory ran out after some interactions, and then the machine stands there. No run answers
+/// the second: a phase for which memory runs out has fewer parts.
 #[derive(Drop)]
 pub enum RunFault<'a> {
     Start(StartFault),
@@ -35,11 +37,12 @@ pub enum RunFault<'a> {
 }
 
 /// Runs a program. With one worker it does so first in, first out: each interaction is at the first pair of the queue, and its new pairs come
-/// last. How several workers share the interactions is open: in a long run they reduce the net in parts that share nothing.
+/// last. How several workers share the interactions is open: in a long run they reduce the net in parts that share nothing. Parts have no jobs,
+/// so no worker passes the gate, which is for the workers of rounds.
 ///
 /// Before each interaction, in this order: where no pair is left the run stops as `Normal`; where it did as many interactions as are allowed,
 /// as `Limit`; where the first pair needs more cells of a class than are free, tested in the order of the classes, as `Full`. Refused where
-/// no machine starts, and when out of memory, and then the machine stands at the interactions counted so far.
+/// no machine starts.
 ///
 /// Where it stops as `Normal`, it has come to the one end of its program: each run that ends, its interactions in any order, has as many
 /// interactions and the same text.
@@ -48,7 +51,7 @@ pub fn run<'a, R: Threads + Wait, G: Gate + Sync>(
     alloc: Global,
     checked: &'a Checked,
     limits: Limits,
-    gate: &G,
+    _gate: &G,
 ) -> Result<Outcome<'a>, RunFault<'a>>
     ensures runs { RunsTo checked.now limits result }
     ensures order { IfOk result (λ o. o.stop ≡ Normal → EndsOnce checked.now o.interactions (text_of o.machine)) }
@@ -68,23 +71,6 @@ pub fn run<'a, R: Threads + Wait, G: Gate + Sync>(
                 stop,
             });
         }
-        let done = advance(
-            rt,
-            alloc,
-            &mut machine,
-            limits,
-            interactions,
-            &mut pace,
-            gate,
-        );
-        match done {
-            Ok(more) => interactions += more,
-            Err(_) => {
-                return Err(RunFault::Memory {
-                    machine,
-                    interactions,
-                });
-            }
-        }
+        interactions += advance(rt, alloc, &mut machine, limits, interactions, &mut pace);
     }
 }

@@ -4,6 +4,7 @@ pub mod Heads
 pub mod Looking
 pub mod Maps
 pub mod Named
+pub mod Numbers
 pub mod OneTables
 pub mod Public
 pub mod Repeated

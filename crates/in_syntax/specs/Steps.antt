@@ -36,8 +36,10 @@ use Rattle.in_syntax.specs.declared.expecting.Expected.{Expected}
 use Rattle.in_syntax.specs.declared.expecting.Expected.TheVariants as expected
 use Rattle.in_syntax.specs.declared.expecting.PartOf.{PartOf}
 use Rattle.in_syntax.specs.declared.expecting.PartOf.TheVariants as part
-use Rattle.in_syntax.specs.declared.machine.Move.{Move}
-use Rattle.in_syntax.specs.declared.machine.Move.TheVariants as move
+use Rattle.in_syntax.specs.Moves.{Move}
+use Rattle.in_syntax.specs.Moves as move
+use Rattle.in_syntax.specs.declared.machine.Event.{Event}
+use Rattle.in_syntax.specs.declared.machine.Event.TheVariants as event
 use Rattle.in_syntax.specs.declared.reader.Reader.{Reader}
 use Rattle.in_syntax.specs.Grammar.{max_types, max_symbols, max_rules, max_free, max_ports, max_depth, is_with}
 use Rattle.in_syntax.specs.Trees.{bare, bare_head, bare_rule, with_argument, with_class, with_equation, rule_with_equation, with_term}
@@ -261,6 +263,14 @@ move_of (adds_symbol s) = move.Symbol s
 move_of (adds_rule r) = move.Rule r
 move_of stuck = move.Refuses E02
 
+-- the move that the code's event is, where this state was written
+abbrev pub led : Event → State → Move
+led event.Goes s = move.Goes s
+led (event.Types names) s = move.Types names
+led (event.Symbol y) s = move.Symbol y
+led (event.Rule r) s = move.Rule r
+led (event.Refuses c) s = move.Refuses c
+
 abbrev pub start : Reader
 start = record { types = []; symbols = []; rules = []; state = state.Item }
 
@@ -327,10 +337,10 @@ SignsLead r [] last = r ≡ last
 SignsLead r (x ∷ s) last = (next : Reader) × (taken r x ≡ Some next) × SignsLead next s last
 
 -- what one sign, that of a token at a place, makes of a reader
-abbrev pub TakesSign : Reader → Sign → Place → Result Reader Fault → Type 0
-TakesSign r x place (Ok next) = taken r x ≡ Some next
-TakesSign r x place (Err (Refused f)) = ((s : List Sign) → run r (x ∷ s) ≡ refused f.code (x ∷ s)) × (f.place ≡ place) × (f.other ≡ None)
-TakesSign r x place (Err (Memory e)) = Unit {0}
+abbrev pub TakesSign : Reader → Sign → Place → Reader → Result (Unit {0}) Fault → Type 0
+TakesSign r x place next (Ok u) = taken r x ≡ Some next
+TakesSign r x place next (Err (Refused f)) = ((s : List Sign) → run r (x ∷ s) ≡ refused f.code (x ∷ s)) × (f.place ≡ place) × (f.other ≡ None)
+TakesSign r x place next (Err (Memory e)) = Unit {0}
 
 -- what the end of the text makes of it
 abbrev pub EndsText : Reader → Place → Result Source Fault → Type 0

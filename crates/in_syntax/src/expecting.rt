@@ -79,7 +79,7 @@ fn part_of(nest: &Nest) -> PartOf
     if nest.around.len() > 0 {
         return PartOf::Agent;
     }
-    match &nest.of {
+    match nest.of.get() {
         TermOf::Left(_) => PartOf::Left,
         TermOf::Right(..) => PartOf::Right,
         TermOf::Inside(..) => PartOf::Head,

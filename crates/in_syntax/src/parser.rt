@@ -51,7 +51,7 @@ fn program_by_steps(
     let mut reader = Reader::new(alloc);
     *expected = expected_in(&reader.state);
     for token in tokens {
-        reader = reader.take(alloc, text, *token)?;
+        reader.take(alloc, text, *token)?;
         *expected = expected_in(&reader.state);
     }
     reader.finish(end)

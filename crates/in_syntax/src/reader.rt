@@ -5,7 +5,7 @@ ghost use Rattle.in_syntax.specs.Steps as steps;
 
 use crate::counts::Counts;
 use crate::faults::{Code, Fault, Refusal};
-use crate::machine::{Move, step};
+use crate::machine::{Event, step, write};
 use crate::places::Place;
 use crate::signs::{Sign, read_sign};
 use crate::states::{State, put_away};
@@ -14,12 +14,24 @@ use crate::words::Token;
 use std::alloc::Global;
 
 /// What was read of a program, between two tokens.
-#[derive(Drop)]
 pub struct Reader {
     pub types: TypeNames,
     pub symbols: SourceSymbols,
     pub rules: SourceRules,
     pub state: State,
+}
+
+// By hand, so that each drop is a call.
+impl Drop for Reader {
+    fn drop(self) {
+        let Reader {
+            types: _,
+            symbols: _,
+            rules: _,
+            state,
+        } = self;
+        put_away(state);
+    }
 }
 
 impl Reader {
@@ -35,55 +47,40 @@ impl Reader {
     }
 
     /// Reads one token.
-    pub fn take(self, alloc: Global, text: &[u8], token: Token) -> Result<Reader, Fault>
+    pub fn take(&mut self, alloc: Global, text: &[u8], token: Token) -> Result<(), Fault>
         requires { HasText text.now token.kind token.place }
-        ensures { TakesSign self (sign_of text.now token) token.place result }
+        ensures { TakesSign self.old (sign_of text.now token) token.place self.new result }
     {
-        match read_sign(alloc, text, token) {
-            Ok(sign) => self.take_sign(alloc, sign, token.place),
-            Err(error) => {
-                put_away(self.state);
-                Err(Fault::Memory(error))
-            }
-        }
+        let sign = read_sign(alloc, text, token)?;
+        self.take_sign(alloc, sign, token.place)
     }
 
     /// Reads one sign, that of the token at this place.
-    pub fn take_sign(self, alloc: Global, sign: Sign, place: Place) -> Result<Reader, Fault>
-        ensures { TakesSign self sign place result }
+    pub fn take_sign(&mut self, alloc: Global, sign: Sign, place: Place) -> Result<(), Fault>
+        ensures { TakesSign self.old sign place self.new result }
     {
-        let Reader {
-            mut types,
-            mut symbols,
-            mut rules,
-            state,
-        } = self;
         let counts = Counts {
-            types: types.len(),
-            symbols: symbols.len(),
-            rules: rules.len(),
+            types: self.types.len(),
+            symbols: self.symbols.len(),
+            rules: self.rules.len(),
         };
-        match step(alloc, counts, state, sign)? {
-            Move::Goes(state) => Ok(Reader {
-                types,
-                symbols,
-                rules,
-                state,
-            }),
-            Move::Types(names) => {
-                types.append(names)?;
-                Ok(between_items(types, symbols, rules))
+        match step(&mut self.state, alloc, counts, sign)? {
+            Event::Goes => {}
+            Event::Types(names) => {
+                self.types.append(names)?;
+                write(&mut self.state, State::Item);
             }
-            Move::Symbol(symbol) => {
-                symbols.push(symbol)?;
-                Ok(between_items(types, symbols, rules))
+            Event::Symbol(symbol) => {
+                self.symbols.push(symbol.into_inner())?;
+                write(&mut self.state, State::Item);
             }
-            Move::Rule(rule) => {
-                rules.push(rule)?;
-                Ok(between_items(types, symbols, rules))
+            Event::Rule(rule) => {
+                self.rules.push(rule.into_inner())?;
+                write(&mut self.state, State::Item);
             }
-            Move::Refuses(code) => Err(refused(code, place)),
+            Event::Refuses(code) => return Err(refused(code, place)),
         }
+        Ok(())
     }
 
     /// The program, where the text ends here.
@@ -105,17 +102,6 @@ impl Reader {
             }),
             None => Err(refused(Code::E02, end)),
         }
-    }
-}
-
-fn between_items(types: TypeNames, symbols: SourceSymbols, rules: SourceRules) -> Reader
-    ensures { result ≡ steps.between_items types symbols rules }
-{
-    Reader {
-        types,
-        symbols,
-        rules,
-        state: State::Item,
     }
 }
 

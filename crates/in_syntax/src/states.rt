@@ -3,17 +3,20 @@ use crate::stack::Stack;
 use crate::tree::{
     Head, Name, SourceClass, SourceFrees, SourceNet, SourceRule, SourceSymbol, Term, TypeNames,
 };
+use sqlite_items::Boxed;
+
+// What is large and seldom changes is boxed, since a state is moved at each token.
 
 /// What a port's type is written for.
 #[derive(Drop)]
 pub enum PortOf {
     /// The principal port of the symbol of this name.
-    Principal(Name),
+    Principal(Boxed<Name>),
     /// A port of a class, after the symbol so far and the class so far, with the number of the auxiliary port
     /// whose type is named next.
-    Auxiliary(SourceSymbol, SourceClass, usize),
+    Auxiliary(Boxed<SourceSymbol>, SourceClass, usize),
     /// A free name, after those before it.
-    Free(SourceFrees, Name),
+    Free(SourceFrees, Boxed<Name>),
 }
 
 /// Which head of a rule is written.
@@ -21,7 +24,7 @@ pub enum PortOf {
 pub enum HeadOf {
     First,
     /// After the first head.
-    Second(Head),
+    Second(Boxed<Head>),
 }
 
 /// What equations are written for, with those so far.
@@ -30,7 +33,7 @@ pub enum Body {
     /// The net.
     Net(SourceNet),
     /// A rule, with the place of its word `with`.
-    Rule(SourceRule, Place),
+    Rule(Boxed<SourceRule>, Place),
 }
 
 /// What a term is written for.
@@ -47,7 +50,7 @@ pub enum TermOf {
 /// Where a term stands: what it is a part of, and the terms that are open around it.
 #[derive(Drop)]
 pub struct Nest {
-    pub of: TermOf,
+    pub of: Boxed<TermOf>,
     pub around: Stack,
 }
 
@@ -69,9 +72,9 @@ pub enum State {
     /// The sign of a port comes.
     PortSign(PortOf, Name),
     /// After the principal port or a class, with the number of the next auxiliary port.
-    SymbolEnd(SourceSymbol, usize),
+    SymbolEnd(Boxed<SourceSymbol>, usize),
     /// After a port of a class, with the number of the next auxiliary port.
-    ClassEnd(SourceSymbol, SourceClass, usize),
+    ClassEnd(Boxed<SourceSymbol>, SourceClass, usize),
     /// After `rule`, or after the `><` of a rule.
     HeadName(HeadOf),
     /// After a head's name.
@@ -81,9 +84,9 @@ pub enum State {
     /// After a head's `]`.
     HeadEnd(HeadOf, Head),
     /// After the word `with` of a rule of these heads, with its place.
-    RuleOpen(Head, Head, Place),
+    RuleOpen(Boxed<Head>, Head, Place),
     /// After the `}` of a rule's equations, with the place of its word `with`.
-    RuleClose(SourceRule, Place),
+    RuleClose(Boxed<SourceRule>, Place),
     /// After `net`.
     NetOpen,
     /// After the `(` of the free names.
@@ -129,7 +132,7 @@ pub fn put_away_nest(nest: Nest) {
         of,
         around: _around,
     } = nest;
-    put_away_term(of);
+    put_away_term(of.into_inner());
 }
 
 pub fn put_away(state: State) {

@@ -1,4 +1,4 @@
-ghost use Rattle.std.specs.Prelude.{◌≡◌, IfOk};
+ghost use Rattle.std.specs.Prelude.{◌≡◌, [], ◌∷◌, ◌++◌, IfOk, OnOk};
 ghost use Rattle.in_syntax.specs.Trees.{bare, bare_head, bare_rule, with_argument, with_class, with_equation, rule_with_equation, with_term};
 
 use crate::places::Place;
@@ -147,11 +147,16 @@ impl Head {
         }
     }
 
-    /// The head with one more term, at the end. Its only error is running out of memory.
-    pub(crate) fn with_term(mut self, term: Term) -> Result<Head, AllocError>
+    /// The head with one more term, at the end; where it is the first, with room for so many. Its only error is running out of memory.
+    pub(crate) fn with_term(
+        mut self,
+        alloc: Global,
+        term: Term,
+        room: usize,
+    ) -> Result<Head, AllocError>
         ensures { IfOk result (λ h. h ≡ with_term self term) }
     {
-        self.terms.push(term)?;
+        add_one(alloc, &mut self.terms, term, room)?;
         Ok(self)
     }
 }
@@ -174,13 +179,37 @@ impl Term {
         }
     }
 
-    /// The term with one more argument, at the end. Its only error is running out of memory.
-    pub(crate) fn with_argument(mut self, argument: Term) -> Result<Term, AllocError>
-        ensures { IfOk result (λ t. t ≡ with_argument self argument) }
+    /// Adds an argument at the end; where it is the first, with room for so many. Its only error is running out of memory.
+    pub(crate) fn add_argument(
+        &mut self,
+        alloc: Global,
+        argument: Term,
+        room: usize,
+    ) -> Result<(), AllocError>
+        ensures { OnOk result (self.new ≡ with_argument self.old argument) }
     {
-        self.args.push(argument)?;
-        Ok(self)
+        add_one(alloc, &mut self.args, argument, room)
     }
+}
+
+// Adds a term at the end; where it is the first, with room for so many.
+fn add_one(alloc: Global, terms: &mut Terms, term: Term, room: usize) -> Result<(), AllocError>
+    ensures { OnOk result (terms.new ≡ terms.old ++ term ∷ []) }
+{
+    if terms.is_empty() {
+        *terms = first_of(alloc, term, room)?;
+        return Ok(());
+    }
+    terms.push(term)
+}
+
+// One term, with room for so many.
+fn first_of(alloc: Global, term: Term, room: usize) -> Result<Terms, AllocError>
+    ensures { IfOk result (λ t. t ≡ term ∷ []) }
+{
+    let mut terms = Vec::with_capacity(alloc, room)?;
+    terms.push(term)?;
+    Ok(Terms::from_vec(terms))
 }
 
 /// Two terms that are joined, and where the `~` between them stands.

@@ -1,13 +1,15 @@
-//! The programs that the tests of several crates look at.
+//! The texts that tests are about, and the programs that they look at.
 //!
 //! No call promises anything of its answer, so that a test is proved without what `in_check::check` says of it. To let a program go costs
-//! the prover much at each way out of a function, so `seen_in` and `refusal_in` alone own one, and tests look at it.
+//! the prover much at each way out of a function, so `seen_in` alone owns one, and tests look at it.
 #![tactic(auto)]
 
+mod texts;
+
 use in_check::{Checked, check};
-use in_syntax::{Fault, Refusal};
-use in_test_texts::joined;
+use in_syntax::Fault;
 use std::alloc::Global;
+pub use texts::{ADDITION, DUPLICATION, ERASURE, SUMS, joined};
 
 /// A question about an accepted program.
 pub trait Look<A> {
@@ -27,11 +29,7 @@ pub fn seen<A, L: Look<A>>(alloc: Global, parts: &[&str], look: &L) -> Option<A>
 }
 
 /// What a look at the program that `check` answers finds.
-pub fn seen_in<A, L: Look<A>>(
-    alloc: Global,
-    answer: Result<Checked, Fault>,
-    look: &L,
-) -> Option<A> {
+fn seen_in<A, L: Look<A>>(alloc: Global, answer: Result<Checked, Fault>, look: &L) -> Option<A> {
     match answer {
         Ok(program) => {
             let found = look.look(alloc, &program);
@@ -39,23 +37,5 @@ pub fn seen_in<A, L: Look<A>>(
             found
         }
         Err(_) => None,
-    }
-}
-
-/// The refusal of a text, which comes in parts; nothing where it is accepted, or when out of memory.
-pub fn refusal_of_parts(alloc: Global, parts: &[&str]) -> Option<Refusal> {
-    let text = joined(alloc, parts).ok()?;
-    refusal_in(answer(alloc, text.as_str()))
-}
-
-/// The refusal that `check` answers.
-pub fn refusal_in(answer: Result<Checked, Fault>) -> Option<Refusal> {
-    match answer {
-        Ok(program) => {
-            drop(program);
-            None
-        }
-        Err(Fault::Refused(refusal)) => Some(refusal),
-        Err(Fault::Memory(_)) => None,
     }
 }

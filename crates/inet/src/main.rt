@@ -15,8 +15,9 @@ mod tests;
 use crate::keeping::KeepingIn;
 use in_command_line::{Action, Usage, action_of};
 use in_diagnosis::diagnosis;
-use in_program::{Status, StreamIn, StreamOut, act, tell_usage};
+use in_program::{Status, StreamIn, StreamOut, act, tell, tell_usage};
 use in_syntax::TextOut;
+use in_version::version_line;
 use std::alloc::Global;
 use std::env::Args;
 use std::io::{Error, ErrorKind, Read, Write};
@@ -89,6 +90,16 @@ fn answer<T: Threads + Wait, R: Read + Drop, W: TextOut, E: Write>(
     status
 }
 
+/// Tells the version of the program.
+fn tell_version<W: TextOut>(alloc: Global, output: &mut W) -> Status
+    requires { (W.device output.old).failures < 2 ^ 64 - 1 }
+{
+    match version_line(alloc, "inet") {
+        Ok(line) => tell(output, line.as_bytes(), Status(0)),
+        Err(_) => tell(output, b"memory\n", Status(5)),
+    }
+}
+
 /// Does what the program's words ask for, or tells why they ask for nothing; and tells why its output can't be written.
 fn serve<T: Threads + Wait, R: Read + Drop, W: Write + Drop, E: Write>(
     rt: &T,
@@ -101,6 +112,7 @@ fn serve<T: Threads + Wait, R: Read + Drop, W: Write + Drop, E: Write>(
     let mut output = StreamOut::new(writer);
     let status = match action_asked(alloc, words) {
         Ok(action) => answer(rt, alloc, &action, reader, &mut output, errors),
+        Err(Usage::Version) => tell_version(alloc, &mut output),
         Err(usage) => tell_usage(&usage, &mut output, &mut StreamOut::new(&mut *errors)),
     };
     if let Some(why) = output.failure() {

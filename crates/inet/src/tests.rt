@@ -68,6 +68,15 @@ fn a_failed_stream_is_told_with_its_error(rt: HostRuntime) -> Result<(), Fail> {
         "error: standard output can't be written: No space left on device (os error 28)\n";
     assert!(rt; fails_with(&rt, alloc, "check", (io::empty(), Failing(28)), unwritten)?);
     assert!(rt; fails_with(&rt, alloc, "--help", (io::empty(), Failing(28)), unwritten)?);
+    assert!(rt;
+        fails_with(
+            &rt,
+            alloc,
+            "--version",
+            (io::empty(), Failing(28)),
+            unwritten
+        )?
+    );
     Ok(())
 }
 

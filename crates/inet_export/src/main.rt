@@ -7,10 +7,11 @@
 ghost use Rattle.std.specs.Prelude.{◌-◌, ◌<◌, ◌^◌};
 
 use in_export::export;
-use in_print::write_all;
-use in_program::{Status, StreamOut, report_text};
+use in_program::{Status, StreamOut, report_text, tell};
 use in_syntax::{Fault, MAX_TEXT_BYTES, TextOut};
+use in_version::version_line;
 use std::alloc::Global;
+use std::env::Args;
 use std::io::{Error, ErrorKind, Read, Write};
 use std::process::ExitCode;
 use std::{env, io};
@@ -25,8 +26,52 @@ const FAULT: Status = Status(6);
 
 const MEMORY_LINE: &[u8] = b"memory\n";
 
-const USAGE: &[u8] =
-    b"usage: inet_export < PROGRAM.inet\n\nWrites an accepted program as one line of JSON. It takes no words.\n";
+const USAGE: &[u8] = b"\
+Writes an accepted program as one line of JSON
+
+Usage: inet_export < PROGRAM.inet
+
+Options:
+  -h, --help     Print help
+  -V, --version  Print version
+";
+
+/// What the program is asked to do.
+enum Request {
+    /// Writes the line of the program on standard input.
+    Line,
+    /// Says how it is called.
+    Help,
+    /// Says which version it is.
+    Version,
+}
+
+/// Why the words ask for nothing.
+enum Usage {
+    /// They are wrong.
+    Wrong,
+    /// Out of memory.
+    Memory,
+}
+
+/// What these words ask for, of which the first is the program's name.
+fn asked(words: io::Result<Args>) -> Result<Request, Usage> {
+    let mut words = match words {
+        Ok(words) => words,
+        Err(error) if error.kind() == ErrorKind::OutOfMemory => return Err(Usage::Memory),
+        Err(_) => return Err(Usage::Wrong),
+    };
+    let _name = words.next();
+    match (words.next(), words.next()) {
+        (None, _) => Ok(Request::Line),
+        (Some(word), None) => match word.as_str() {
+            "-h" | "--help" => Ok(Request::Help),
+            "-V" | "--version" => Ok(Request::Version),
+            _ => Err(Usage::Wrong),
+        },
+        _ => Err(Usage::Wrong),
+    }
+}
 
 /// Reads to the end, or until more bytes came than a text has.
 fn read_text<R: Read>(alloc: Global, reader: &mut R) -> io::Result<Vec<u8>> {
@@ -50,16 +95,6 @@ fn tell_failure<E: Write>(alloc: Global, what: &str, why: Error, errors: &mut E)
     }
 }
 
-/// Writes these bytes, and answers the status, or that of a fault where the writer failed.
-fn tell<W: TextOut>(writer: &mut W, bytes: &[u8], status: Status) -> Status
-    requires { (W.device writer.old).failures < 2 ^ 64 - 1 }
-{
-    match write_all(writer, bytes) {
-        Ok(()) => status,
-        Err(_) => FAULT,
-    }
-}
-
 /// Writes the line of a text's program; where the text is refused, what `inet check` writes on it; or that memory ran out.
 fn tell_program<W: TextOut>(alloc: Global, writer: &mut W, text: &[u8]) -> Status
     requires { (W.device writer.old).failures < 2 ^ 64 - 1 }
@@ -71,23 +106,55 @@ fn tell_program<W: TextOut>(alloc: Global, writer: &mut W, text: &[u8]) -> Statu
     }
 }
 
-/// Reads a text, writes the line of its program, and tells why a stream failed.
-fn answer<R: Read, W: Write + Drop, E: Write>(
+/// Reads a text and writes the line of its program; tells why it can't be read.
+fn answer<R: Read, W: TextOut, E: Write>(
     alloc: Global,
     reader: &mut R,
-    writer: W,
+    output: &mut W,
     errors: &mut E,
-) -> Status {
-    let mut output = StreamOut::new(writer);
-    let status = match read_text(alloc, reader) {
-        Ok(text) => tell_program(alloc, &mut output, text.as_slice()),
+) -> Status
+    requires { (W.device output.old).failures < 2 ^ 64 - 1 }
+{
+    match read_text(alloc, reader) {
+        Ok(text) => tell_program(alloc, output, text.as_slice()),
         Err(error) => match error.kind() {
-            ErrorKind::OutOfMemory => tell(&mut output, MEMORY_LINE, MEMORY),
+            ErrorKind::OutOfMemory => tell(output, MEMORY_LINE, MEMORY),
             _ => {
                 tell_failure(alloc, "standard input can't be read", error, errors);
                 FAULT
             }
         },
+    }
+}
+
+/// Tells the version of the program.
+fn tell_version<W: TextOut>(alloc: Global, output: &mut W) -> Status
+    requires { (W.device output.old).failures < 2 ^ 64 - 1 }
+{
+    match version_line(alloc, "inet_export") {
+        Ok(line) => tell(output, line.as_bytes(), WRITTEN),
+        Err(_) => tell(output, MEMORY_LINE, MEMORY),
+    }
+}
+
+/// Does what the program's words ask for, or tells how it is called; and tells why its output can't be written.
+fn serve<R: Read, W: Write + Drop, E: Write>(
+    alloc: Global,
+    words: io::Result<Args>,
+    reader: &mut R,
+    writer: W,
+    errors: &mut E,
+) -> Status {
+    let mut output = StreamOut::new(writer);
+    let status = match asked(words) {
+        Ok(Request::Line) => answer(alloc, reader, &mut output, errors),
+        Ok(Request::Help) => tell(&mut output, USAGE, WRITTEN),
+        Ok(Request::Version) => tell_version(alloc, &mut output),
+        Err(Usage::Memory) => tell(&mut output, MEMORY_LINE, MEMORY),
+        Err(Usage::Wrong) => {
+            let _ = errors.write_all(USAGE);
+            WRONG_WORDS
+        }
     };
     if let Some(why) = output.failure() {
         tell_failure(alloc, "standard output can't be written", why, errors);
@@ -95,23 +162,13 @@ fn answer<R: Read, W: Write + Drop, E: Write>(
     status
 }
 
-/// Tells how the program is called.
-fn tell_usage<E: Write>(errors: &mut E) -> Status {
-    let _ = errors.write_all(USAGE);
-    WRONG_WORDS
-}
-
 fn main(rt: HostRuntime) -> ExitCode {
-    let mut errors = rt.stderr();
-    let status = match env::args(&rt) {
-        // The first word is the program's name.
-        Ok(words) if words.len() <= 1 => {
-            answer(rt.alloc(), &mut rt.reader(), io::writer(&rt), &mut errors)
-        }
-        Err(error) if error.kind() == ErrorKind::OutOfMemory => {
-            tell(&mut StreamOut::new(io::writer(&rt)), MEMORY_LINE, MEMORY)
-        }
-        _ => tell_usage(&mut errors),
-    };
+    let status = serve(
+        rt.alloc(),
+        env::args(&rt),
+        &mut rt.reader(),
+        io::writer(&rt),
+        &mut rt.stderr(),
+    );
     ExitCode::from(status.0)
 }

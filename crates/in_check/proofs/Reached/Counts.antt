@@ -9,7 +9,7 @@ use Rattle.in_base.specs.Lists.{IsAmong}
 use Rattle.in_interaction.proofs.Public.{has_value, few}
 use Rattle.in_check.specs.Runs.{IsRenamed}
 use Rattle.in_check.specs.NetText.{AreAgents}
-use Rattle.in_check.proofs.Reached.Renaming.{is_some}
+use Rattle.in_base.proofs.Places.{is_some}
 
 pub all_of : {X : Type 0} (P : X → Type 0) (xs : List X) → ((x : X) → IsAmong x xs → P x) → AllByRecursion P xs
 all_of P [] f = tt

@@ -33,19 +33,8 @@ use Rattle.in_check.specs.Programs.{Program}
 use Rattle.in_check.specs.Systems.{SystemRule, IsMatching, IsSoundRule, IsSound, HasOneRule, IsSoundSystem, rule_in, system_of}
 use Rattle.in_check.proofs.Chain.{program_of}
 use Rattle.in_base.proofs.Each.{at_index, all_at}
+use Rattle.in_base.proofs.Places.{of_mapped, to_mapped}
 use Rattle.std.proofs.lemmas.Bool.{and_parts}
-
--- ---- lists
-
-pub of_mapped : {X Y : Type 0} (f : X → Y) (xs : List X) (i : ℕ) (y : Y) → slice_get (map f xs) i ≡ Some y → (x : X) × (slice_get xs i ≡ Some x) × (f x ≡ y)
-of_mapped {X} {Y} f xs i y e = go (slice_get xs i) refl
-  where
-    go : (o : Option X) → slice_get xs i ≡ o → (x : X) × (slice_get xs i ≡ Some x) × (f x ≡ y)
-    go None h = absurd (let z : ◌≡◌ {A = Option Y} None (Some y) = sym (slice_get-map f xs i ∙ ap (option_map f) h) ∙ e in cc)
-    go (Some x) h = (x, h, same_Some (f x) y (sym (slice_get-map f xs i ∙ ap (option_map f) h) ∙ e))
-
-pub to_mapped : {X Y : Type 0} (f : X → Y) (xs : List X) (i : ℕ) (x : X) → slice_get xs i ≡ Some x → slice_get (map f xs) i ≡ Some (f x)
-to_mapped f xs i x e = slice_get-map f xs i ∙ ap (option_map f) e
 
 -- ---- classes
 

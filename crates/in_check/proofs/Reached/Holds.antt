@@ -10,7 +10,7 @@ use Rattle.in_base.specs.Lists.{IsAmong}
 use Rattle.in_interaction.specs.Ahead.{MeetsPair, pair, pair_later, WaitsAt, free, free_later}
 use Rattle.in_net.proofs.Public.{port_agent, port_place, symbol_of}
 use Rattle.in_check.specs.NetText.{Words, TextPart, Bytes, Head, Variable, listed, bracketed, arity_of, agent_term, term_at, term, free_lines, pair_lines, text_parts, StandsTimes, agents_of, IsQueue, IsAuxiliary}
-use Rattle.in_check.proofs.Reached.Renaming.{is_some}
+use Rattle.in_base.proofs.Places.{is_some}
 use Rattle.in_check.proofs.Reached.Counts.{all_of}
 
 module _ {X : Type 0} (x : X) where

@@ -4,7 +4,7 @@ use Rattle.std.specs.List.{AllByRecursion}
 use Rattle.in_net.specs.Nets.{Point, Port, Free, Signature, Net, IsNet}
 use Rattle.in_net.proofs.Public.{symbol_of}
 use Rattle.in_check.specs.NetText.{Words, TextPart, Bytes, listed, bracketed, arity_of, agent_term, term_at, term, free_lines, pair_lines, text_parts, IsQueue, IsAuxiliary, IsOfNet}
-use Rattle.in_check.proofs.Reached.Renaming.{is_some}
+use Rattle.in_base.proofs.Places.{is_some}
 use Rattle.in_base.proofs.Each.{all_append}
 
 module _ {A : Type 0} (sig : Signature) (n : Net A) (net : IsNet sig n) where

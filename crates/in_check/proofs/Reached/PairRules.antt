@@ -13,7 +13,7 @@ use Rattle.in_net.specs.Parts.{Parts, IsWhole, symbol_in}
 use Rattle.in_net.specs.Rules.{RuleParts, auxiliary_types}
 use Rattle.in_interaction.specs.Interacting.{unused, most_agents, CanInteract, Interacts}
 use Rattle.in_interaction.proofs.Public.{least_are_names, one_outcome}
-use Rattle.in_open_nets_of_programs.proofs.Public.{same_symbol}
+use Rattle.in_symbols.proofs.Public.{same_symbol}
 use Rattle.in_cover.specs.Cover.{IsPair, IsRuleOfSymbols}
 use Rattle.in_check.specs.Checking.{IsAccepted, IsProgramOf}
 use Rattle.in_check.specs.Programs.{Program}
@@ -22,7 +22,8 @@ use Rattle.in_check.specs.Promises.{IsAsPromised}
 use Rattle.in_check.specs.Runs.{IsInteraction}
 use Rattle.in_check.specs.Systems.{IsMatching, IsNumberOfRule, IsSound, IsSoundSystem, rule_in, system_of}
 use Rattle.in_check.proofs.Chain.{program_of}
-use Rattle.in_check.proofs.Reached.FromText.{is_matching, is_sound, to_mapped}
+use Rattle.in_check.proofs.Reached.FromText.{is_matching, is_sound}
+use Rattle.in_base.proofs.Places.{to_mapped}
 
 -- symbols and wires as numbers
 symbol_is : (p : PlainParts) (x : ℕ) (s : SymbolNo) → symbol_in p.net x ≡ Some s → (net_of p.net).symbol x ≡ Some s.0

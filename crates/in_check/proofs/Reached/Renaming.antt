@@ -2,6 +2,7 @@
 use Rattle.std.proofs.Common.{◌≡◌, ◌≤◌, ◌<◌, ℕ, Option, Some, None, IsSome, IsSomeAnd, List, [], ◌∷◌, map, length, slice_get, refl, sym, subst, ap, ◌∙◌}
 use mathlib.Core.HLevel.{Discrete}
 use Rattle.in_base.proofs.Among.{in_map}
+use Rattle.in_base.proofs.Places.{is_some}
 use Rattle.in_typing.proofs.Public.{port_type}
 use Rattle.in_base.specs.Graphs.{Passage, entered, CrossingCircle}
 use Rattle.in_net.specs.Graphs.{class_of_symbol, graph_of}
@@ -14,9 +15,6 @@ use Rattle.in_net.proofs.Public.{symbol_of, port_agent, port_place}
 use Rattle.in_base.proofs.Circuits.{Walk, Circuit, IsEntered, IsLeft, crossings_separate, circuit_of, shorten}
 use Rattle.in_check.specs.Systems.{HasSymbolsBelow}
 use Rattle.in_check.specs.Runs.{renamed, IsRenamed}
-
-pub is_some : {X : Type 0} (o : Option X) (s : X) → o ≡ Some s → IsSome o
-is_some o s e = subst IsSome (sym e) refl
 
 module _ {A B : Type 0} (sig : Signature) (f : A → B) (n : Net A) (m : Net B) (net : IsNet sig n) (r : IsRenamed f n m) where
   pub symbol_kept : (x : A) (s : ℕ) → n.symbol x ≡ Some s → m.symbol (f x) ≡ Some s

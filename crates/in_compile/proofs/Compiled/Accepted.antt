@@ -7,7 +7,7 @@ use Rattle.in_net.specs.Parts.{IsWhole}
 use Rattle.in_net.specs.TextNet.{body_of}
 use Rattle.in_net.proofs.Public.{few_agents}
 use Rattle.in_net.specs.Rules.{RuleParts, BuildsRuleOf, IsRuleOver}
-use Rattle.in_cover.specs.Cover.{IsComplete}
+use Rattle.in_cover.specs.Cover.{IsComplete, IsTableOf}
 use Rattle.in_open_nets_of_programs.specs.Opening.{AreAllThere}
 use Rattle.in_open_nets_of_programs.specs.OpeningRules.{IsRuleWhole}
 use Rattle.in_open_nets_of_programs.proofs.Public.{text_net_there, rule_whole}
@@ -21,6 +21,9 @@ module _ (text : List ℕ) (p : Program) (accepted : IsAccepted text p) where
 
   pub complete : IsComplete p.tables p.rules
   complete = of.covers.0
+
+  pub table : IsTableOf p.tables p.rules p.numbers
+  table = of.covers.1
 
   pub net_over : IsOver p.tables p.net
   net_over = of.builds.0

@@ -9,7 +9,7 @@ use Rattle.in_arena.specs.declared.content.CellClass.{CellClass}
 use Rattle.in_arena.specs.declared.content.CellNo.{CellNo}
 use Rattle.in_symbols.specs.Tables.{Tables, arity_of}
 use Rattle.in_compile.specs.Cells.{agents_of, takes}
-use Rattle.in_moving.specs.Copying.{IsListOfLive, is_for}
+use Rattle.in_cells.specs.Copying.{IsListOfLive, is_for}
 use Rattle.in_reducer.specs.Standing.{agent_in, agents_in}
 
 -- the cell is live, and of this class

@@ -20,11 +20,11 @@ use Rattle.in_net.specs.Nets.{Port, Free, IsNet, IsPoint, net_of, signature_of}
 use Rattle.in_net.specs.Parts.{Parts}
 use Rattle.in_interaction.specs.Listing.{unlisted}
 use Rattle.in_interaction.proofs.Public.{has_value}
-use Rattle.in_joining.specs.Shown.{point_of, stands_at, IsShown}
-use Rattle.in_joining.proofs.Public.{place_within}
+use Rattle.in_cells.specs.Shown.{point_of, stands_at, IsShown}
+use Rattle.in_cells.proofs.Public.{place_within}
 use Rattle.in_reducer.specs.Machines.{point_at}
 use Rattle.in_reducer.specs.Standing.{agent_in, agents_in, leading_to}
-use Rattle.in_cutting.proofs.Public.{end_there as end_some, mapped_some}
+use Rattle.in_cells.proofs.Public.{end_there as end_some, mapped_some}
 
 -- ---- cells
 

@@ -24,14 +24,14 @@ use Rattle.in_interaction.specs.Listing.{unlisted}
 use Rattle.in_interaction.specs.Queues.{IsQueueOf, agents_at}
 use Rattle.in_interaction.proofs.Public.{net_wire}
 use Rattle.in_check.specs.Systems.{System, IsSound, system_of}
-use Rattle.in_glue.specs.Joining.{CutsWire}
-use Rattle.in_joining.specs.Cells.{KeepsCells}
-use Rattle.in_joining.specs.Shown.{IsShown}
-use Rattle.in_joining.proofs.Public.{place_within, word_kept}
-use Rattle.in_cutting.specs.Cutting.{IsCutAt, Shows}
-use Rattle.in_cutting.proofs.Public.{stands_some}
-use Rattle.in_parts.specs.Leading.{IsCutOnce}
-use Rattle.in_parts.proofs.Public.{cut_once_is_sound}
+use Rattle.in_gluing.specs.Joining.{CutsWire}
+use Rattle.in_cells.specs.Cells.{KeepsCells}
+use Rattle.in_cells.specs.Shown.{IsShown}
+use Rattle.in_cells.proofs.Public.{place_within, word_kept}
+use Rattle.in_cells.specs.Cutting.{IsCutAt, Shows}
+use Rattle.in_cells.proofs.Public.{stands_some}
+use Rattle.in_order.specs.Leading.{IsCutOnce}
+use Rattle.in_order.proofs.Public.{cut_once_is_sound}
 use Rattle.in_reducer.specs.declared.body.Body.{Body}
 use Rattle.in_reducer.specs.declared.body.OwnEnd.{OwnEnd}
 use Rattle.in_reducer.specs.declared.body.OwnEnd.TheVariants.{Cut}

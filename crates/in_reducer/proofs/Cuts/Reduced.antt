@@ -14,11 +14,12 @@ use Rattle.in_check.specs.Programs.{Program}
 use Rattle.in_check.specs.Runs.{at_start, then_step}
 use Rattle.in_check.specs.Systems.{System, IsSound, IsSoundSystem, system_of}
 use Rattle.in_check.proofs.Public.{is_sound, renamed_self}
-use Rattle.in_glue.specs.PartRuns.{Run, none, one_more}
-use Rattle.in_glue.proofs.Public.{map_some, with_start}
+use Rattle.in_order.specs.PartRuns.{Run, none, one_more}
+use Rattle.in_gluing.proofs.Public.{map_some}
+use Rattle.in_order.proofs.Public.{with_start}
 use Rattle.in_compile.specs.Cells.{agents_of, count_of, is_of, takes}
-use Rattle.in_parts.specs.Leading.{Leads}
-use Rattle.in_parts.proofs.Public.{beside_leads, leads_go_on}
+use Rattle.in_order.specs.Leading.{Leads}
+use Rattle.in_order.proofs.Public.{beside_leads, leads_go_on}
 use Rattle.in_reducer.specs.Cutting.{CanJoin, CutsAt, JoinsLast, net_in}
 use Rattle.in_reducer.specs.Machines.{MachineParts}
 use Rattle.in_reducer.specs.Parting.{IsGluedButQueue, IsSplitButQueues, ReducesTo, ends_of_two, names_of, names_of_two}

@@ -21,14 +21,14 @@ use Rattle.in_net.proofs.Public.{map_is, port_agent}
 use Rattle.in_interaction.specs.Queues.{IsQueueOf, agents_at, numbers_of}
 use Rattle.in_interaction.proofs.Public.{apart, back_in, net_wire}
 use Rattle.in_check.specs.Systems.{System, IsSound, system_of}
-use Rattle.in_glue.specs.Joining.{JoinsEnds}
-use Rattle.in_joining.specs.Cells.{HasSymbols, KeepsCells}
-use Rattle.in_joining.specs.Pairs.{AddsPair, IsNoPair, IsPairOf}
-use Rattle.in_joining.specs.Shown.{IsShown}
-use Rattle.in_joining.specs.Shown as shown_point
-use Rattle.in_joining.proofs.Public.{take_at, writes_end_point as end_point, point_end}
-use Rattle.in_cutting.specs.Cutting.{Shows}
-use Rattle.in_parts.specs.Leading.{IsJoinedOnce}
+use Rattle.in_gluing.specs.Joining.{JoinsEnds}
+use Rattle.in_cells.specs.Cells.{HasSymbols, KeepsCells}
+use Rattle.in_cells.specs.Pairs.{AddsPair, IsNoPair, IsPairOf}
+use Rattle.in_cells.specs.Shown.{IsShown}
+use Rattle.in_cells.specs.Shown as shown_point
+use Rattle.in_cells.proofs.Public.{take_at, writes_end_point as end_point, point_end}
+use Rattle.in_cells.specs.Cutting.{Shows}
+use Rattle.in_order.specs.Leading.{IsJoinedOnce}
 use Rattle.in_reducer.specs.declared.body.Body.{Body}
 use Rattle.in_reducer.specs.declared.body.OwnEnd.{OwnEnd}
 use Rattle.in_reducer.specs.Cutting.{CanJoin, JoinsLast, net_in}

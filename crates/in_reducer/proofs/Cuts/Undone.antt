@@ -6,9 +6,9 @@ use Rattle.in_check.specs.Programs.{Program}
 use Rattle.in_check.specs.Systems.{System, IsSound, IsSoundSystem, system_of}
 use Rattle.in_check.proofs.Public.{is_sound, sound_reached}
 use Rattle.in_order.specs.Laws.{from_net}
-use Rattle.in_glue.proofs.Public.{sound_is_start}
-use Rattle.in_parts.specs.Leading.{Leads, IsJoinedOnce}
-use Rattle.in_parts.proofs.Public.{cut_leads_are_joined}
+use Rattle.in_order.proofs.Public.{sound_is_start}
+use Rattle.in_order.specs.Leading.{Leads, IsJoinedOnce}
+use Rattle.in_order.proofs.Public.{cut_leads_are_joined}
 use Rattle.in_reducer.specs.Cutting.{JointsUndoCuts, net_in}
 
 -- what a sound net leads to is sound

@@ -1,7 +1,7 @@
 -- The active pairs of two nets side by side are those of both.
 use Rattle.std.proofs.Common.{◌≡◌, ◌⊎◌, inl, inr, ◌+◌, ℕ, zero, suc, Some, IsSome, List, [], ◌∷◌, ◌++◌, length, map, slice_get, refl, sym, ap, subst, ◌∙◌, arith}
 use Rattle.std.proofs.lemmas.Option.{same_Some}
-use Rattle.in_base.proofs.Places.{kept_at}
+use Rattle.in_base.proofs.Places.{kept_at, of_mapped, to_mapped, is_some as there}
 use Rattle.in_symbols.specs.Tables.{Tables}
 use Rattle.in_symbols.specs.declared.symbols.SymbolNo.{SymbolNo}
 use Rattle.in_net.specs.declared.nets.AgentNo.{AgentNo}
@@ -12,11 +12,11 @@ use Rattle.in_net.specs.Parts.{Parts, symbol_in, partner_in}
 use Rattle.in_net.proofs.Public.{map_is, symbol_of, port_agent, port_place}
 use Rattle.in_interaction.specs.Queues.{IsQueueOf, agents_at, both, numbers_of}
 use Rattle.in_interaction.proofs.Public.{symbol_is, symbol_number, net_wire}
-use Rattle.in_check.proofs.Public.{of_mapped, to_mapped, is_some as there, AreOpposed, stands_anywhere}
-use Rattle.in_glue.specs.AsGluing.{old_and_new, two_parts}
-use Rattle.in_glue.specs.Joining.{IsAtNumber}
-use Rattle.in_parts.specs.Leading.{StandBeside}
-use Rattle.in_parts.proofs.Public.{no_wire}
+use Rattle.in_check.proofs.Public.{AreOpposed, stands_anywhere}
+use Rattle.in_gluing.specs.AsGluing.{old_and_new, two_parts}
+use Rattle.in_gluing.specs.Joining.{IsAtNumber}
+use Rattle.in_gluing.specs.SideBySide.{StandBeside}
+use Rattle.in_order.proofs.Public.{no_wire}
 use Rattle.in_reducer.proofs.Pairs.Requeued.{StandOnce}
 
 -- ---- lists

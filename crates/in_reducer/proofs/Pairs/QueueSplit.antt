@@ -8,8 +8,9 @@ use Rattle.in_net.specs.Nets.{IsNet, net_of, signature_of}
 use Rattle.in_net.specs.Parts.{Parts, symbol_in}
 use Rattle.in_interaction.specs.Queues.{IsQueueOf, agents_at, both, numbers_of}
 use Rattle.in_interaction.proofs.Public.{symbol_number}
-use Rattle.in_check.proofs.Public.{of_mapped, to_mapped, is_some as there, AreOpposed}
-use Rattle.in_parts.specs.Leading.{StandBeside}
+use Rattle.in_check.proofs.Public.{AreOpposed}
+use Rattle.in_base.proofs.Places.{of_mapped, to_mapped, is_some as there}
+use Rattle.in_gluing.specs.SideBySide.{StandBeside}
 use Rattle.in_reducer.proofs.Pairs.QueueBeside as beside
 use Rattle.in_reducer.proofs.Pairs.Requeued.{StandOnce}
 

@@ -26,7 +26,7 @@ use Rattle.in_check.specs.NetText.{IsQueue, agents_of}
 use Rattle.in_check.specs.Programs.{Program}
 use Rattle.in_check.specs.Promises.{IsAsPromised}
 use Rattle.in_check.specs.Systems.{system_of}
-use Rattle.in_glue.proofs.Public.{reducible_as_promised}
+use Rattle.in_order.proofs.Public.{reducible_as_promised}
 use Rattle.in_interaction.specs.Queues.{IsQueueOf, agents_at}
 use Rattle.in_compile.specs.Cells as machines
 use Rattle.in_compile.specs.Cells.{takes}

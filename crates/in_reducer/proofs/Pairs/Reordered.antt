@@ -2,7 +2,7 @@
 use Rattle.std.proofs.Common.{◌≡◌, ◌≢◌, ◌⊎◌, inl, inr, ◌<◌, ℕ, zero, suc, Bool, true, false, Option, Some, None, IsSome, List, length, slice_get, refl, sym, ap, subst, ◌∙◌, arith}
 use Rattle.std.proofs.lemmas.Option.{same_Some, slice_get_within}
 use Rattle.in_base.proofs.Each.{at_index}
-use Rattle.in_base.proofs.Places.{some_same}
+use Rattle.in_base.proofs.Places.{some_same, is_some}
 use Rattle.in_symbols.specs.Tables.{Tables, is_constructor}
 use Rattle.in_symbols.specs.declared.symbols.SymbolNo.{SymbolNo}
 use Rattle.in_net.specs.declared.nets.AgentNo.{AgentNo}
@@ -14,10 +14,10 @@ use Rattle.in_net.proofs.Public.{flipped, map_is, no_both, port_agent}
 use Rattle.in_interaction.specs.Queues.{IsQueueOf, agents_at, both}
 use Rattle.in_interaction.proofs.Public.{has_value, net_wire}
 use Rattle.in_check.specs.Runs.{IsRenamed}
-use Rattle.in_check.proofs.Public.{agents_before, is_some}
-use Rattle.in_glue.specs.AsGluing.{old_and_new, two_parts}
-use Rattle.in_glue.specs.Joining.{IsAtNumber}
-use Rattle.in_parts.specs.Leading.{IsThere, IsWiredWithin, StandBeside}
+use Rattle.in_check.proofs.Public.{agents_before}
+use Rattle.in_gluing.specs.AsGluing.{old_and_new, two_parts}
+use Rattle.in_gluing.specs.Joining.{IsAtNumber}
+use Rattle.in_gluing.specs.SideBySide.{IsThere, IsWiredWithin, StandBeside}
 use Rattle.in_reducer.specs.PartingLaws.{AreSameTwo, IsReordered}
 use Rattle.in_reducer.proofs.Starts.Started.{lives, symbol_back, symbol_moved}
 

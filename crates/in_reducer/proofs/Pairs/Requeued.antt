@@ -12,8 +12,8 @@ use Rattle.in_net.specs.Interactions.{Outer, Inner, InnerWire, IsNaming, redex_a
 use Rattle.in_net.specs.Nets.{Port, IsNet, net_of, signature_of}
 use Rattle.in_net.specs.Parts.{Parts, symbol_in}
 use Rattle.in_net.specs.Rules.{RuleParts}
-use Rattle.in_base.proofs.Places.{kept_at}
-use Rattle.in_check.proofs.Public.{of_mapped, to_mapped, AreOpposed, stands_anywhere}
+use Rattle.in_base.proofs.Places.{kept_at, of_mapped, to_mapped}
+use Rattle.in_check.proofs.Public.{AreOpposed, stands_anywhere}
 use Rattle.in_interaction.specs.Made.{AreMadeOverEnds, IsOwn}
 use Rattle.in_interaction.specs.OutcomeLaws.{IsOtherPair}
 use Rattle.in_interaction.proofs.Public.{apart, back_in, kept_or_made, not_made, net_wire}

@@ -12,18 +12,17 @@ use Rattle.in_net.specs.declared.nets.FreeEnd.{FreeEnd}
 use Rattle.in_net.specs.Nets.{Net}
 use Rattle.in_interaction.specs.Queues.{both}
 use Rattle.in_check.specs.Programs.{Program}
-use Rattle.in_glue.specs.AsGluing.{two_parts}
-use Rattle.in_moving.specs.Copying.{IsCopied, IsListOfLive, moved_end, name_in, number_in}
-use Rattle.in_moving.specs.Laws.{AreEndsOfBoth, leads_to, number_of}
-use Rattle.in_moving.specs.TakingOut.{AreLedTo, AreNumberedAnew}
-use Rattle.in_moving.proofs.Public.{copies_stand_beside, led_to, numbered_anew}
-use Rattle.in_parts.specs.Leading.{StandBeside}
-use Rattle.in_parts.proofs.Public.{net_within}
+use Rattle.in_gluing.specs.AsGluing.{two_parts}
+use Rattle.in_cells.specs.Copying.{IsCopied, IsListOfLive, moved_end, name_in, number_in}
+use Rattle.in_cells.specs.Laws.{AreEndsOfBoth, leads_to, number_of}
+use Rattle.in_cells.specs.TakingOut.{AreLedTo, AreNumberedAnew}
+use Rattle.in_cells.proofs.Public.{copies_stand_beside, led_to, numbered_anew}
+use Rattle.in_gluing.specs.SideBySide.{StandBeside}
+use Rattle.in_gluing.proofs.Public.{net_within}
 use Rattle.in_reducer.specs.declared.body.Body.{Body}
 use Rattle.in_reducer.specs.declared.body.OwnEnd.{OwnEnd}
-use Rattle.in_reducer.specs.Appending.{CanAppend}
+use Rattle.in_reducer.specs.Gluing.{CanAppend, glued}
 use Rattle.in_reducer.specs.Cutting.{net_in}
-use Rattle.in_reducer.specs.Gluing.{glued}
 use Rattle.in_reducer.specs.Inside.{IsOwnEnd, KeepsNet, declared_as, most_ends, most_free, own_free, reducer_view}
 use Rattle.in_reducer.specs.Machines.{MachineParts}
 use Rattle.in_reducer.specs.Parting.{IsGluedOn, ends_of_two, names_of, names_of_two, place_of_two}

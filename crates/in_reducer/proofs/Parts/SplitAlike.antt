@@ -9,9 +9,8 @@ use Rattle.in_check.specs.Programs.{Program}
 use Rattle.in_check.specs.Runs.{IsRenamed}
 use Rattle.in_compile.specs.Cells.{agents_of, count_of}
 use Rattle.in_interaction.specs.Queues.{IsQueueOf, both}
-use Rattle.in_glue.proofs.Public.{at_outer, map_some}
-use Rattle.in_moving.proofs.Public.{NamedOr, named_or}
-use Rattle.in_parts.proofs.Public.{beside_is_one, beside_parts_are_alike}
+use Rattle.in_gluing.proofs.Public.{at_outer, map_some, beside_is_one, beside_parts_are_alike}
+use Rattle.in_cells.proofs.Public.{NamedOr, named_or}
 use Rattle.in_reducer.specs.Cutting.{net_in}
 use Rattle.in_reducer.specs.Machines.{MachineParts, HasItsPairs, parts_of}
 use Rattle.in_reducer.specs.Parting.{IsSplitButQueues, ends_of_two, names_of, names_of_two, place_of_two}

@@ -17,12 +17,12 @@ use Rattle.in_net.specs.Nets.{Port, Free, Net, signature_of}
 use Rattle.in_net.specs.Parts.{symbol_in}
 use Rattle.in_net.proofs.Public.{symbol_of}
 use Rattle.in_interaction.proofs.Public.{has_value, symbol_number}
-use Rattle.in_glue.specs.Joining.{WiresLeadBack}
-use Rattle.in_joining.specs.Shown.{point_of}
-use Rattle.in_moving.specs.Copying.{ArePart, AreClosed, HasCellsFor, IsEndWithin, LeadsInto, is_for}
-use Rattle.in_moving.specs.Laws.{LeadsIntoPart, ShowsAll}
-use Rattle.in_moving.specs.TakingOut.{AreClassed, AreLedTo}
-use Rattle.in_moving.proofs.Public.{led_to}
+use Rattle.in_gluing.specs.Joining.{WiresLeadBack}
+use Rattle.in_cells.specs.Shown.{point_of}
+use Rattle.in_cells.specs.Copying.{ArePart, AreClosed, HasCellsFor, IsEndWithin, LeadsInto, is_for}
+use Rattle.in_cells.specs.Laws.{LeadsIntoPart, ShowsAll}
+use Rattle.in_cells.specs.TakingOut.{AreClassed, AreLedTo}
+use Rattle.in_cells.proofs.Public.{led_to}
 use Rattle.in_reducer.specs.declared.body.Body.{Body}
 use Rattle.in_reducer.specs.Cutting.{net_in}
 use Rattle.in_reducer.specs.Inside.{KeepsNet, declared_as, own_free, reducer_view}

@@ -11,8 +11,8 @@ use Rattle.in_arena.specs.declared.content.CellNo.{CellNo}
 use Rattle.in_arena.proofs.Public.{numbers_apart, live_in}
 use Rattle.in_symbols.specs.Tables.{Tables, arity_of}
 use Rattle.in_compile.specs.Cells.{agents_of, count_of, is_of}
-use Rattle.in_moving.specs.Copying.{IsCopied, is_for, moved, name_in, number_in}
-use Rattle.in_moving.proofs.Public.{NamedOr, named_or, not_leased, word_moved, leased_before, leased_after}
+use Rattle.in_cells.specs.Copying.{IsCopied, is_for, moved, name_in, number_in}
+use Rattle.in_cells.proofs.Public.{NamedOr, named_or, not_leased, word_moved, leased_before, leased_after}
 use Rattle.in_reducer.specs.declared.body.Body.{Body}
 use Rattle.in_reducer.specs.Inside.{KeepsNet, reducer_view}
 use Rattle.in_reducer.specs.Parting.{CanSplit}

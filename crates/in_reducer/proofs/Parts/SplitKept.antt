@@ -16,9 +16,9 @@ use Rattle.in_interaction.specs.Queues.{IsQueueOf, both}
 use Rattle.in_interaction.proofs.Public.{has_value}
 use Rattle.in_check.proofs.Public.{AreOpposed, opposed_in}
 use Rattle.in_check.specs.Programs.{Program}
-use Rattle.in_moving.specs.Copying.{name_in, number_in}
-use Rattle.in_moving.proofs.Public.{NamedOr, live_has_word, named_or, word_moved}
-use Rattle.in_parts.proofs.Public.{net_within}
+use Rattle.in_cells.specs.Copying.{name_in, number_in}
+use Rattle.in_cells.proofs.Public.{NamedOr, live_has_word, named_or, word_moved}
+use Rattle.in_gluing.proofs.Public.{net_within}
 use Rattle.in_reducer.specs.declared.body.Body.{Body}
 use Rattle.in_reducer.specs.declared.body.OwnEnd.{OwnEnd}
 use Rattle.in_reducer.specs.declared.tools.Tools.{Tools}

@@ -17,13 +17,13 @@ use Rattle.in_net.specs.declared.nets.FreeEnd.{FreeEnd}
 use Rattle.in_net.specs.Nets.{Free, Net, IsNet, net_of, signature_of}
 use Rattle.in_check.specs.Programs.{Program}
 use Rattle.in_check.specs.Systems.{IsSound, system_of}
-use Rattle.in_glue.specs.AsGluing.{two_parts}
-use Rattle.in_joining.specs.Shown.{IsShown, point_of}
-use Rattle.in_moving.specs.Copying.{HaveOwnNames, IsCopied, moved_end, name_in, number_in}
-use Rattle.in_moving.specs.Laws.{AreEndsSplit, LeadsIntoPart, ShowsAll}
-use Rattle.in_moving.proofs.Public.{part_stands_beside, split_are_nets}
-use Rattle.in_parts.specs.Leading.{StandBeside}
-use Rattle.in_parts.proofs.Public.{beside_parts_are_sound}
+use Rattle.in_gluing.specs.AsGluing.{two_parts}
+use Rattle.in_cells.specs.Shown.{IsShown, point_of}
+use Rattle.in_cells.specs.Copying.{HaveOwnNames, IsCopied, moved_end, name_in, number_in}
+use Rattle.in_cells.specs.Laws.{AreEndsSplit, LeadsIntoPart, ShowsAll}
+use Rattle.in_cells.proofs.Public.{part_stands_beside, split_are_nets}
+use Rattle.in_gluing.specs.SideBySide.{StandBeside}
+use Rattle.in_order.proofs.Public.{beside_parts_are_sound}
 use Rattle.in_reducer.specs.declared.body.Body.{Body}
 use Rattle.in_reducer.specs.declared.body.OwnEnd.{OwnEnd}
 use Rattle.in_reducer.specs.Cutting.{net_in}
@@ -320,7 +320,7 @@ module _ (r : Body) (k : KeepsNet r) (agents : List CellNo) (own cuts : ℕ) (ca
       h.copied (no_word x.first x.size h.same h.empty) h.lost.out from_where (before.leads r k agents own cuts can) split kinds
 
   pub nets : IsNet (signature_of prog.tables) rest_net × IsNet (signature_of prog.tables) part_net
-  nets = split_are_nets (system_of prog) r.arena x.left x.first x.new agents x.names x.numbers (number_in x.rest_numbers) origin (place_of_two own) (before.own_ends r k) h.rest_ends.picked h.part_ends.picked ends m rest_net part_net k.reducer.net.sound.net (before.shows r k) rest_shows part_shows
+  nets = split_are_nets (signature_of prog.tables) r.arena x.left x.first x.new agents x.names x.numbers (number_in x.rest_numbers) origin (place_of_two own) (before.own_ends r k) h.rest_ends.picked h.part_ends.picked ends m rest_net part_net k.reducer.net.sound.net (before.shows r k) rest_shows part_shows
       h.copied (no_word x.first x.size h.same h.empty) h.lost.out from_where (before.leads r k agents own cuts can) split kinds
 
   pub sound : IsSound (system_of prog) rest_net × IsSound (system_of prog) part_net

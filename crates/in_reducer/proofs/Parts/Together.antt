@@ -25,19 +25,18 @@ use Rattle.in_check.specs.Programs.{Program}
 use Rattle.in_check.specs.Systems.{System, IsSound, system_of}
 use Rattle.in_check.proofs.Public.{opposed_in}
 use Rattle.in_compile.specs.Cells.{agents_of, count_of, is_of}
-use Rattle.in_glue.specs.Joining.{WiresLeadBack}
-use Rattle.in_joining.specs.Shown.{IsShown, point_of}
-use Rattle.in_moving.specs.Copying.{AreClosed, HasCellsFor, IsCopied, IsListOfLive, IsEndWithin, is_for, moved, name_in, number_in}
-use Rattle.in_moving.specs.Laws.{ShowsAll}
-use Rattle.in_moving.specs.TakingOut.{AreNumberedAnew}
-use Rattle.in_moving.proofs.Public.{all_are_closed, not_leased, numbered_leased_stays, numbered_was_leased, numbered_word, word_moved}
-use Rattle.in_parts.specs.Leading.{StandBeside}
-use Rattle.in_parts.proofs.Public.{beside_sound_is_sound}
+use Rattle.in_gluing.specs.Joining.{WiresLeadBack}
+use Rattle.in_cells.specs.Shown.{IsShown, point_of}
+use Rattle.in_cells.specs.Copying.{AreClosed, HasCellsFor, IsCopied, IsListOfLive, IsEndWithin, is_for, moved, name_in, number_in}
+use Rattle.in_cells.specs.Laws.{ShowsAll}
+use Rattle.in_cells.specs.TakingOut.{AreNumberedAnew}
+use Rattle.in_cells.proofs.Public.{all_are_closed, not_leased, numbered_leased_stays, numbered_was_leased, numbered_word, word_moved}
+use Rattle.in_gluing.specs.SideBySide.{StandBeside}
+use Rattle.in_order.proofs.Public.{beside_sound_is_sound}
 use Rattle.in_reducer.specs.declared.body.Body.{Body}
 use Rattle.in_reducer.specs.declared.body.OwnEnd.{OwnEnd}
-use Rattle.in_reducer.specs.Appending.{CanAppend}
+use Rattle.in_reducer.specs.Gluing.{CanAppend, IsFreeWithin}
 use Rattle.in_reducer.specs.Cutting.{net_in}
-use Rattle.in_reducer.specs.Gluing.{IsFreeWithin}
 use Rattle.in_reducer.specs.Inside.{KeepsNet, declared_as, most_ends, own_free, reducer_view}
 use Rattle.in_reducer.specs.Machines.{MachineParts, parts_of}
 use Rattle.in_reducer.specs.Reducers.{IsReducer}

@@ -2,7 +2,7 @@
 use Rattle.std.proofs.Common.{◌≡◌, ◌<◌, ◌≤◌, ◌+◌, ◌-◌, ℕ, zero, suc, Option, Some, None, List, [], ◌∷◌, ◌++◌, length, map, take, drop, get_or, slice_get, refl, sym, ap, ◌∙◌, length-append, length-drop, append_assoc, arith}
 use Rattle.std.proofs.lemmas.List.{drop-map, length-map, length-take-le, map-append, map_more, take-map, take_more, take_rest}
 use Rattle.std.proofs.lemmas.Option.{same_Some}
-use Rattle.in_moving.specs.Laws.{ends_of}
+use Rattle.in_cells.specs.Laws.{ends_of}
 use Rattle.in_reducer.specs.Gluing.{glued, in_turn}
 use Rattle.in_reducer.specs.Parting.{by_turns, ends_of_two}
 

@@ -4,9 +4,9 @@ use Rattle.std.proofs.lemmas.Bool.{cases_lt}
 use Rattle.std.proofs.lemmas.Bool.Decides.{nat_tests}
 use Rattle.std.proofs.lemmas.Option.{same_Some, slice_get_within}
 use Rattle.in_base.proofs.Places.{kept_at}
-use Rattle.in_moving.specs.Laws.{ends_of}
+use Rattle.in_cells.specs.Laws.{ends_of}
 use Rattle.in_reducer.specs.Parting.{by_turns, ends_of_two, place_of_two}
-use Rattle.in_moving.proofs.Public.{length-ends_of, ends_there, past_first}
+use Rattle.in_cells.proofs.Public.{length-ends_of, ends_there, past_first}
 
 -- ---- lists
 

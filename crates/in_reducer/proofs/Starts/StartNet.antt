@@ -25,9 +25,9 @@ use Rattle.in_interaction.proofs.Public.{has_value, symbol_number}
 use Rattle.in_check.specs.Checking.{IsAccepted}
 use Rattle.in_check.specs.Programs.{Program}
 use Rattle.in_check.specs.Runs.{renamed, IsRenamed}
-use Rattle.in_joining.specs.Shown as shown
-use Rattle.in_joining.specs.Shown.{end_of, stands_at}
-use Rattle.in_joining.proofs.Public.{place_within}
+use Rattle.in_cells.specs.Shown as shown
+use Rattle.in_cells.specs.Shown.{end_of, stands_at}
+use Rattle.in_cells.proofs.Public.{place_within}
 use Rattle.in_compile.specs.declared.joints.Joint.{Joint}
 use Rattle.in_compile.specs.declared.joints.Joint.TheVariants.{ToAgent, ToBoundary}
 use Rattle.in_compile.specs.Cells.{agents_of, count_of, takes, IsEnough}

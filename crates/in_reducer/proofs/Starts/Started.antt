@@ -17,7 +17,8 @@ use Rattle.in_check.specs.Checking.{IsAccepted}
 use Rattle.in_check.specs.Programs.{Program}
 use Rattle.in_check.specs.Runs.{IsRenamed, at_start}
 use Rattle.in_check.specs.Systems.{IsSound, system_of}
-use Rattle.in_check.proofs.Public.{is_sound, of_mapped, to_mapped, sound_reached, agents_before, is_some as there, AreOpposed, opposed_in}
+use Rattle.in_check.proofs.Public.{is_sound, sound_reached, agents_before, AreOpposed, opposed_in}
+use Rattle.in_base.proofs.Places.{of_mapped, to_mapped, is_some as there}
 use Rattle.in_check.proofs.Public.{stands_anywhere}
 use Rattle.in_reducer.specs.Laws.{StartsAreReducers}
 use Rattle.in_reducer.specs.Limiting.{most_cells}

@@ -6,8 +6,8 @@ use Rattle.in_net.specs.Parts.{symbol_in}
 use Rattle.in_cover.specs.Cover.{IsPair, IsRuleOfSymbols}
 use Rattle.in_net.specs.Rules.{RuleParts}
 use Rattle.in_check.specs.Plain.{IsPairAt, IsRuleAt}
-use Rattle.in_check.proofs.Public.{is_some as there}
-use Rattle.in_glue.proofs.Public.{reducible_pairs_have_their_rule}
+use Rattle.in_base.proofs.Places.{is_some as there}
+use Rattle.in_order.proofs.Public.{reducible_pairs_have_their_rule}
 use Rattle.in_interaction.specs.Queues.{agents_at}
 use Rattle.in_compile.specs.Laws.{HasOneTemplate}
 use Rattle.in_compile.specs.Templates.{TemplateParts, TemplatesParts, IsTemplateOf, AreTemplatesOf, template_at}

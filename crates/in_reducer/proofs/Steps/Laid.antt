@@ -16,7 +16,7 @@ use Rattle.in_net.specs.declared.nets.Point.TheVariants as code
 use Rattle.in_net.specs.Built.{IsOver, IsCellOver}
 use Rattle.in_net.specs.Nets.{Point, Port, Free, net_of, point_of}
 use Rattle.in_net.specs.Parts.{Parts, symbol_in, partner_in}
-use Rattle.in_joining.specs.Shown.{end_of}
+use Rattle.in_cells.specs.Shown.{end_of}
 use Rattle.in_compile.specs.declared.joints.Joint.{Joint}
 use Rattle.in_compile.specs.declared.joints.Joint.TheVariants.{ToAgent, ToBoundary}
 use Rattle.in_compile.specs.Members.{AgentParts, MemberParts, IsMemberOf, joint_of, joint_at}

@@ -16,15 +16,15 @@ use Rattle.in_net.specs.declared.nets.Point.TheVariants as code
 use Rattle.in_net.specs.Interactions.{redex_at, end_agent, end_place}
 use Rattle.in_net.specs.Nets.{Point, Port, Free, net_of, point_of, signature_of}
 use Rattle.in_interaction.proofs.Public.{has_value}
-use Rattle.in_glue.specs.AsGluing.{boundary_port}
-use Rattle.in_glue.specs.EndByEnd.{IsOuterAt, IsInnerAt}
-use Rattle.in_glue.specs.MadeByJoining.{CanStepAt}
-use Rattle.in_joining.specs.Between.{IsReadyToJoin, IsWith}
-use Rattle.in_joining.specs.Cells.{HasSymbols}
-use Rattle.in_joining.specs.Shown as shown
-use Rattle.in_joining.specs.Shown.{end_of}
-use Rattle.in_joining.specs.Start.{AreLaid, AreSet, IsNew}
-use Rattle.in_joining.proofs.Public.{set_has_symbols, set_is_ready, started_end_point as end_point}
+use Rattle.in_gluing.specs.AsGluing.{boundary_port}
+use Rattle.in_gluing.specs.EndByEnd.{IsOuterAt, IsInnerAt}
+use Rattle.in_gluing.specs.MadeByJoining.{CanStepAt}
+use Rattle.in_cells.specs.Between.{IsReadyToJoin, IsWith}
+use Rattle.in_cells.specs.Cells.{HasSymbols}
+use Rattle.in_cells.specs.Shown as shown
+use Rattle.in_cells.specs.Shown.{end_of}
+use Rattle.in_cells.specs.Start.{AreLaid, AreSet, IsNew}
+use Rattle.in_cells.proofs.Public.{set_has_symbols, set_is_ready, started_end_point as end_point}
 use Rattle.in_compile.specs.declared.joints.Joint.{Joint}
 use Rattle.in_compile.specs.declared.joints.Joint.TheVariants.{ToAgent, ToBoundary}
 use Rattle.in_compile.specs.Members.{IsSoundMember, joint_of}

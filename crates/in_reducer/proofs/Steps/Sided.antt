@@ -9,7 +9,7 @@ use Rattle.in_arena.specs.States.{end_at, places}
 use Rattle.in_arena.specs.declared.content.CellNo.{CellNo}
 use Rattle.in_arena.specs.declared.content.End.{End}
 use Rattle.in_arena.specs.declared.content.End.TheVariants.{Cell}
-use Rattle.in_joining.proofs.Public.{place_within}
+use Rattle.in_cells.proofs.Public.{place_within}
 use Rattle.in_compile.specs.declared.joints.Joint.{Joint}
 use Rattle.in_reducer.specs.declared.sides.Pair.{Pair}
 use Rattle.in_reducer.specs.Sides.{port_at, end_there, outer_of, inner_of, AreSetBelow, HasPort}

@@ -23,10 +23,11 @@ use Rattle.in_interaction.specs.Queues.{agents_at, both, numbers_of}
 use Rattle.in_interaction.proofs.Public.{made_numbers}
 use Rattle.in_check.specs.Runs.{IsInteraction}
 use Rattle.in_check.specs.Systems.{IsSound, rule_in, system_of}
-use Rattle.in_check.proofs.Public.{is_sound, to_mapped}
-use Rattle.in_glue.proofs.Public.{sound_steps}
-use Rattle.in_joining.specs.Shown.{IsShown}
-use Rattle.in_joining.proofs.Public.{shown_is_step}
+use Rattle.in_check.proofs.Public.{is_sound}
+use Rattle.in_base.proofs.Places.{to_mapped}
+use Rattle.in_order.proofs.Public.{sound_steps}
+use Rattle.in_cells.specs.Shown.{IsShown}
+use Rattle.in_cells.proofs.Public.{shown_is_step}
 use Rattle.in_compile.specs.Cells.{agents_of, count_of}
 use Rattle.in_compile.specs.Members.{AgentParts}
 use Rattle.in_compile.specs.Templates.{TemplateParts}

@@ -10,10 +10,11 @@ use Rattle.in_check.specs.Checking.{IsAccepted}
 use Rattle.in_check.specs.Programs.{Program}
 use Rattle.in_check.specs.Systems.{IsSoundRule, rule_in, system_of}
 use Rattle.in_check.specs.Plain.{IsRuleAt, IsPairAt}
-use Rattle.in_check.proofs.Public.{is_sound, to_mapped, AreOpposed, opposed_in}
-use Rattle.in_glue.specs.PartRuns.{Run}
-use Rattle.in_glue.specs.Reducible.{IsReducible}
-use Rattle.in_glue.proofs.Public.{reducible_as_promised, reducible_steps_under_names}
+use Rattle.in_check.proofs.Public.{is_sound, AreOpposed, opposed_in}
+use Rattle.in_base.proofs.Places.{to_mapped}
+use Rattle.in_order.specs.PartRuns.{Run}
+use Rattle.in_order.specs.Reducible.{IsReducible}
+use Rattle.in_order.proofs.Public.{reducible_as_promised, reducible_steps_under_names}
 use Rattle.in_interaction.specs.Queues.{IsQueueOf, agents_at, numbers_of, both}
 use Rattle.in_compile.specs.Cells.{agents_of, count_of}
 use Rattle.in_reducer.specs.Laws.{ReducersAsPromised, StepsKeepReducers}

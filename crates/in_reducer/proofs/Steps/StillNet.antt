@@ -14,8 +14,8 @@ use Rattle.in_arena.proofs.Public.{state_inside, numbers_apart, live_in}
 use Rattle.in_symbols.specs.Tables.{Tables}
 use Rattle.in_net.specs.Built.{IsOver}
 use Rattle.in_net.specs.Parts.{Parts}
-use Rattle.in_joining.specs.Cells.{KeepsCells, outline}
-use Rattle.in_joining.proofs.Public.{word_kept}
+use Rattle.in_cells.specs.Cells.{KeepsCells, outline}
+use Rattle.in_cells.proofs.Public.{word_kept}
 use Rattle.in_compile.specs.Cells.{is_of}
 use Rattle.in_compile.specs.Members.{MemberParts, IsMemberOf}
 use Rattle.in_reducer.specs.Placed.{IsNoneOf, IsPut}

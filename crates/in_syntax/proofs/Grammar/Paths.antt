@@ -4,8 +4,8 @@ use Rattle.in_syntax.specs.declared.faults.Code.{Code}
 use Rattle.in_syntax.specs.declared.faults.Code.TheVariants.{E02, E03}
 use Rattle.in_syntax.specs.declared.signs.Sign.{Sign}
 use Rattle.in_syntax.specs.declared.reader.Reader.{Reader}
-use Rattle.in_syntax.specs.declared.machine.Move.{Move}
-use Rattle.in_syntax.specs.declared.machine.Move.TheVariants as move
+use Rattle.in_syntax.specs.Moves.{Move}
+use Rattle.in_syntax.specs.Moves as move
 use Rattle.in_syntax.specs.Grammar.{Marked, marked}
 use Rattle.in_syntax.specs.Programs.{signs, unmarked}
 use Rattle.in_syntax.specs.Steps.{Step, goes, adds_types, adds_symbol, adds_rule, stuck, step, move_of, Answer, reads, refused, net_of, whole, at_state, with_types, with_symbol, with_rule, counts_of, run}

@@ -6,8 +6,8 @@ use Rattle.in_syntax.specs.declared.words.Token.{Token}
 use Rattle.in_syntax.specs.declared.words.TokenKind.TheVariants as kind
 use Rattle.in_syntax.specs.declared.signs.Sign.{Sign}
 use Rattle.in_syntax.specs.declared.reader.Reader.{Reader}
-use Rattle.in_syntax.specs.declared.machine.Move.{Move}
-use Rattle.in_syntax.specs.declared.machine.Move.TheVariants as move
+use Rattle.in_syntax.specs.Moves.{Move}
+use Rattle.in_syntax.specs.Moves as move
 use Rattle.in_syntax.specs.Programs.{HasTexts, sign_of, signs_of, unmarked}
 use Rattle.in_syntax.specs.Steps.{Step, goes, adds_types, adds_symbol, adds_rule, stuck, step, move_of, Answer, at_state, with_types, with_symbol, with_rule, counts_of, run, start, moved, taken, SignsLead}
 use Rattle.in_syntax.proofs.Grammar.Paths.{turns, turn_of, Path, along}

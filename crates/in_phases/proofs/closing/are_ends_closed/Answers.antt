@@ -1,6 +1,6 @@
 use Rattle.std.proofs.Common.{◌+◌, ◌*◌}
 use Rattle.in_arena.specs.declared.content.End.TheVariants as end
-use Rattle.in_joining.specs.Shown.{point_of}
+use Rattle.in_cells.specs.Shown.{point_of}
 use Rattle.in_phases.proofs.Places.{leads_somewhere, partner_shown}
 use Rattle.in_phases.proofs.closing.are_ends_closed.Goals as goal
 

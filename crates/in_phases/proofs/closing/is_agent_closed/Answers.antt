@@ -1,6 +1,6 @@
 use Rattle.std.proofs.Common.{arith}
 use Rattle.in_arena.specs.declared.content.End.TheVariants as end
-use Rattle.in_joining.specs.Shown.{point_of}
+use Rattle.in_cells.specs.Shown.{point_of}
 use Rattle.in_phases.proofs.Places.{leads_somewhere, partner_shown, place_below}
 use Rattle.in_phases.proofs.closing.is_agent_closed.Goals as goal
 

@@ -1,7 +1,7 @@
 use Rattle.std.proofs.Common.{◌≡◌, ℕ, true, nat_eq, sym, ap, subst, ◌∙◌}
 use mathlib.Core.Bool.{not}
 use Rattle.in_arena.specs.declared.content.End.TheVariants as end
-use Rattle.in_joining.specs.Shown.{point_of}
+use Rattle.in_cells.specs.Shown.{point_of}
 use Rattle.in_net.specs.Nets.{Point, Port, Free}
 use Rattle.in_phases.specs.Branches.{LeadsSomewhere}
 use Rattle.in_phases.proofs.Places.{leads_somewhere, partner_shown}

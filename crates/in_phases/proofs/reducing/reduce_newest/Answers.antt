@@ -1,5 +1,7 @@
-use Rattle.std.proofs.Common.{◌-◌, refl, sym, subst, arith}
+use Rattle.std.proofs.Common.{◌-◌, refl, sym, ap, subst, arith}
 use Rattle.in_check.specs.Programs.{Program}
+use Rattle.in_compile.specs.declared.cells.Need.{Need}
+use Rattle.in_compile.specs.Cells.{count_of}
 use Rattle.in_compile.specs.Templates.{AreTemplatesOf}
 use Rattle.in_reducer.proofs.Public.{reductions_go_on, stays_reduce, steps_reduce, takes_its_need}
 use Rattle.in_phases.proofs.reducing.reduce_newest.Goals as goal
@@ -21,7 +23,7 @@ loop-count-preserved c =
       most = (let low = c.loop-count-test.true in omega (arith, low));
       floor = λ h d. (
           let room = c.if-not-has_room_above.ensures refl d in
-          let free = c.vacant.ensures d in
+          let free = ap (λ (n : Need). count_of n d) c.vacant.ensures in
           let need = takes_its_need now after i of step c.need_of-need.result c.need_of-need.ensures d in
           omega (arith, room, free, need)
           );

@@ -109,14 +109,14 @@ returns c =
     }
 
 -- a part and the rest are of the program
-pub returns-then-has_free-clause-templates : goal.returns-then-has_free-clause-templates
-returns-then-has_free-clause-templates c =
+pub returns-then-least_free-floor-clause-templates : goal.returns-then-least_free-floor-clause-templates
+returns-then-least_free-floor-clause-templates c =
     let split = c.in-Some.ensures.split.1.split.but_queues.two in
     let s = times_stay c.args.reducer.now c.cut_off-cuts.new.reducer c.cut_off-cuts.result c.cut_off-cuts.ensures.cuts in
     subst (λ (p : Program). AreTemplatesOf p c.args.templates.now) (sym (split.program_rest ∙ s.program)) c.requires.templates
 
-pub returns-then-has_free-clause-part_templates : goal.returns-then-has_free-clause-part_templates
-returns-then-has_free-clause-part_templates c =
+pub returns-then-least_free-floor-clause-part_templates : goal.returns-then-least_free-floor-clause-part_templates
+returns-then-least_free-floor-clause-part_templates c =
     let split = c.in-Some.ensures.split.1.split.but_queues.two in
     let s = times_stay c.args.reducer.now c.cut_off-cuts.new.reducer c.cut_off-cuts.result c.cut_off-cuts.ensures.cuts in
     subst (λ (p : Program). AreTemplatesOf p c.args.templates.now) (sym (split.program_part ∙ s.program)) c.requires.templates

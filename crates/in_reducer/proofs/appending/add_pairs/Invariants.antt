@@ -1,7 +1,7 @@
 use Rattle.std.proofs.Common.{◌≡◌, ◌+◌, ◌++◌, map, take}
 use Rattle.std.specs.VecDeque.{deque_len, deque_capacity}
 use Rattle.in_interaction.specs.Queues.{both}
-use Rattle.in_moving.specs.Copying.{name_in}
+use Rattle.in_cells.specs.Copying.{name_in}
 use Rattle.in_reducer.proofs.appending.add_pairs.Given as goal
 
 abbrev pub invariant-loop-number : goal.invariant-loop-number

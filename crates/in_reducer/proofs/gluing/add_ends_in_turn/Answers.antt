@@ -1,5 +1,5 @@
 use Rattle.std.proofs.Common.{arith}
-use Rattle.in_moving.specs.Copying.{moved_end, name_in, number_in}
+use Rattle.in_cells.specs.Copying.{moved_end, name_in, number_in}
 use Rattle.in_reducer.proofs.Parts.Turns.{mapped_turn_done}
 use Rattle.in_reducer.proofs.gluing.add_ends_in_turn.Goals as goal
 

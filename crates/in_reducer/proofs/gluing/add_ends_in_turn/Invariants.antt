@@ -1,5 +1,5 @@
 use Rattle.std.proofs.Common.{◌≡◌, ◌+◌, ◌++◌, map, take, vec_len, vec_capacity}
-use Rattle.in_moving.specs.Copying.{moved_end, name_in, number_in}
+use Rattle.in_cells.specs.Copying.{moved_end, name_in, number_in}
 use Rattle.in_reducer.specs.Gluing.{in_turn}
 use Rattle.in_reducer.proofs.gluing.add_ends_in_turn.Given as goal
 

@@ -1,5 +1,5 @@
 use Rattle.std.proofs.Common.{◌≡◌, ◌+◌, ◌++◌, map, take, vec_len, vec_capacity}
-use Rattle.in_moving.specs.Copying.{moved_end, number_in}
+use Rattle.in_cells.specs.Copying.{moved_end, number_in}
 use Rattle.in_reducer.proofs.gluing.add_numbered.Given as goal
 
 abbrev pub invariant-loop-number : goal.invariant-loop-number

@@ -1,6 +1,6 @@
 use Rattle.std.proofs.Common.{◌-◌, length, map, ap, arith}
 use Rattle.std.proofs.lemmas.List.{length-map}
-use Rattle.in_moving.specs.Copying.{moved_end, name_in, number_in}
+use Rattle.in_cells.specs.Copying.{moved_end, name_in, number_in}
 use Rattle.in_reducer.proofs.Parts.Turns.{glued_by, length-glued}
 use Rattle.in_reducer.proofs.gluing.glue_ends.Goals as goal
 

@@ -1,5 +1,5 @@
 use Rattle.std.proofs.Common.{◌≡◌, ◌≤◌, vec_len, vec_capacity}
-use Rattle.in_moving.specs.CopyingSteps.{AreListedBelow}
+use Rattle.in_cells.specs.CopyingSteps.{AreListedBelow}
 use Rattle.in_reducer.proofs.gluing.list_live.Given as goal
 
 abbrev pub invariant-loop-number : goal.invariant-loop-number

@@ -1,5 +1,5 @@
 use Rattle.std.proofs.Common.{◌≡◌, ◌≤◌, ◌<◌, ℕ, vec_len, vec_capacity}
-use Rattle.in_moving.specs.Copying.{number_in}
+use Rattle.in_cells.specs.Copying.{number_in}
 use Rattle.in_reducer.specs.Parting.{place_of_two}
 use Rattle.in_reducer.proofs.gluing.list_part_numbers.Given as goal
 

@@ -2,8 +2,8 @@ use Rattle.std.proofs.Common.{◌≡◌, ℕ, length, refl, sym, ap, subst, ◌�
 use Rattle.std.proofs.lemmas.List.{length-set}
 use Rattle.in_arena.specs.Arenas.{ArenaView, changed, state_at}
 use Rattle.in_arena.specs.States.{Vacant, IsLive}
-use Rattle.in_joining.specs.Between.{IsReadyToJoin}
-use Rattle.in_joining.specs.Cells.{KeepsCells}
+use Rattle.in_cells.specs.Between.{IsReadyToJoin}
+use Rattle.in_cells.specs.Cells.{KeepsCells}
 use Rattle.in_compile.specs.Members.{IsSoundMember}
 use Rattle.in_reducer.specs.Interacting.{interaction_of}
 use Rattle.in_reducer.proofs.Steps.SetUp as ready

@@ -1,7 +1,7 @@
 use Rattle.std.proofs.Common.{◌≡◌, count_by, ◌∙◌, arith}
 use Rattle.in_arena.specs.Classes.{holds}
-use Rattle.in_moving.specs.Copying.{is_for, number_in}
-use Rattle.in_moving.proofs.Public.{numbered_classed, numbered_places, numbered_taken_out}
+use Rattle.in_cells.specs.Copying.{is_for, number_in}
+use Rattle.in_cells.proofs.Public.{numbered_classed, numbered_places, numbered_taken_out}
 use Rattle.in_reducer.proofs.splitting.move_cells.Goals as goal
 
 pub retire_all-requires-clause-classed : goal.retire_all-requires-clause-classed

@@ -1,5 +1,5 @@
 use Rattle.std.proofs.Common.{◌≡◌, ◌≤◌, ◌<◌, ◌-◌, ◌/◌, ℕ, vec_len, vec_capacity}
-use Rattle.in_moving.specs.Copying.{number_in}
+use Rattle.in_cells.specs.Copying.{number_in}
 use Rattle.in_reducer.proofs.splitting.part_numbers.Given as goal
 
 abbrev pub invariant-loop-number : goal.invariant-loop-number

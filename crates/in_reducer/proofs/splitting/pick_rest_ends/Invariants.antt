@@ -1,5 +1,5 @@
 use Rattle.std.proofs.Common.{◌≡◌, vec_len, vec_capacity}
-use Rattle.in_moving.specs.Copying.{moved_end, number_in}
+use Rattle.in_cells.specs.Copying.{moved_end, number_in}
 use Rattle.in_reducer.specs.Parting.{place_of_two}
 use Rattle.in_reducer.specs.Splitting.{ArePicked}
 use Rattle.in_reducer.proofs.splitting.pick_rest_ends.Given as goal

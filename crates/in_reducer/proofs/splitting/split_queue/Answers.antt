@@ -5,7 +5,7 @@ use Rattle.std.proofs.lemmas.List.{append-nil, length-map, map-append}
 use Rattle.in_arena.specs.Arenas.{state_at}
 use Rattle.in_arena.specs.States.{State, Vacant, Leased, Live, IsLive}
 use Rattle.in_interaction.specs.Queues.{both}
-use Rattle.in_moving.specs.Copying.{name_in}
+use Rattle.in_cells.specs.Copying.{name_in}
 use Rattle.in_reducer.specs.Splitting.{goes, is_gone, is_there, stays}
 use Rattle.in_reducer.proofs.Pairs.QueueSplit.{filter_next, next_of, room_for}
 use Rattle.in_reducer.proofs.splitting.split_queue.Goals as goal

@@ -2,7 +2,7 @@ use Rattle.std.proofs.Common.{◌≡◌, ◌++◌, map, take, drop}
 use Rattle.std.specs.List.{filter}
 use Rattle.std.specs.VecDeque.{deque_capacity}
 use Rattle.in_interaction.specs.Queues.{both}
-use Rattle.in_moving.specs.Copying.{name_in}
+use Rattle.in_cells.specs.Copying.{name_in}
 use Rattle.in_reducer.specs.Splitting.{goes, stays}
 use Rattle.in_reducer.proofs.splitting.split_queue.Given as goal
 

@@ -2,12 +2,11 @@ use Rattle.std.proofs.Common.{◌≡◌, ◌+◌, ℕ, Result, Ok, Err, IfOk, On
 use Rattle.in_check.specs.Plain.{IsReachedBy}
 use Rattle.in_check.specs.Programs.{Program}
 use Rattle.in_compile.specs.Templates.{AreTemplatesOf, TemplatesParts}
-use Rattle.in_reducer.specs.declared.round.Round.{Round}
+use Rattle.in_rounds.specs.declared.rounding.Round.{Round}
 use Rattle.in_reducer.specs.Machines.{MachineParts, plain_of}
-use Rattle.in_reducer.specs.Runs.{IsFront}
-use Rattle.in_rounds.specs.Machines.{IsMachine}
-use Rattle.in_rounds.specs.Rounds.{IsRound}
-use Rattle.in_rounds.proofs.Alongside.{along}
+use Rattle.in_machine.specs.Machines.{IsMachine}
+use Rattle.in_rounds.specs.Rounds.{IsFront, IsRound}
+use Rattle.in_machine.proofs.Public.{along}
 use Rattle.in_rounds.proofs.Rounded.{rounds_end}
 use Rattle.in_rounds.proofs.rounds.round.Goals as goal
 
@@ -28,14 +27,14 @@ counted_by m n budget (Err e) h front = tt
 pub invariant_of-machine : goal.invariant_of-machine
 invariant_of-machine g c =
     let old = c.machine.inside.reducer in
-    kept old c.round.new.self c.machine.inside.templates c.args.budget c.round.result c.machine.invariant.0 c.machine.invariant.1 c.round.ensures.front c.round.ensures.refused
+    kept old c.reducer_round.new.reducer c.machine.inside.templates c.args.budget c.reducer_round.result c.machine.invariant.0 c.machine.invariant.1 c.reducer_round.ensures.front c.reducer_round.ensures.refused
 
 pub returns-clause-round : goal.returns-clause-round
 returns-clause-round g c =
-    subst (λ (z : MachineParts). IfOk c.round.result (λ r. IsRound z c.args.budget c.round.new.self r.interactions)) c.machine.view_is
-    (round_by c.machine.inside.reducer c.round.new.self c.args.budget c.round.result c.machine.invariant.0 c.round.ensures.front)
+    subst (λ (z : MachineParts). IfOk c.reducer_round.result (λ r. IsRound z c.args.budget c.reducer_round.new.reducer r.interactions)) c.machine.view_is
+    (round_by c.machine.inside.reducer c.reducer_round.new.reducer c.args.budget c.reducer_round.result c.machine.invariant.0 c.reducer_round.ensures.front)
 
 pub returns-clause-counted : goal.returns-clause-counted
 returns-clause-counted g c =
-    subst (λ (z : MachineParts). IfOk c.round.result (λ r. (k : ℕ) → IsReachedBy (plain_of z) k → IsReachedBy (plain_of c.round.new.self) (r.interactions + k))) c.machine.view_is
-    (counted_by c.machine.inside.reducer c.round.new.self c.args.budget c.round.result c.machine.invariant.0 c.round.ensures.front)
+    subst (λ (z : MachineParts). IfOk c.reducer_round.result (λ r. (k : ℕ) → IsReachedBy (plain_of z) k → IsReachedBy (plain_of c.reducer_round.new.reducer) (r.interactions + k))) c.machine.view_is
+    (counted_by c.machine.inside.reducer c.reducer_round.new.reducer c.args.budget c.reducer_round.result c.machine.invariant.0 c.reducer_round.ensures.front)

@@ -17,9 +17,9 @@ use Rattle.in_syntax.proofs.parser.program_by_steps.Goals as goal
 pub loop-token-preserved : goal.loop-token-preserved
 loop-token-preserved c = record {
   texts = texts_after c.args.text.now c.loop-token.token-index c.args.tokens.now c.loop-token.invariant.texts;
-  answer = goes_on c.args.text.now c.loop-token.token-index c.args.tokens.now c.loop-token.reader c.in_ok-reader.reader
-      (run start (signs_of c.args.text.now c.args.tokens.now)) (omega arith) c.in_ok-reader.ensures c.loop-token.invariant.answer;
-  leads = leads_after c.args.text.now c.loop-token.token-index c.args.tokens.now c.loop-token.reader c.in_ok-reader.reader (omega arith) c.in_ok-reader.ensures c.loop-token.invariant.leads;
+  answer = goes_on c.args.text.now c.loop-token.token-index c.args.tokens.now c.loop-token.reader c.take.new.self
+      (run start (signs_of c.args.text.now c.args.tokens.now)) (omega arith) c.in_ok-take.ensures c.loop-token.invariant.answer;
+  leads = leads_after c.args.text.now c.loop-token.token-index c.args.tokens.now c.loop-token.reader c.take.new.self (omega arith) c.in_ok-take.ensures c.loop-token.invariant.leads;
   expected = c.expected_in-in-loop-token.ensures;
 }
 

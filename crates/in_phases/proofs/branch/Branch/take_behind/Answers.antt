@@ -1,6 +1,6 @@
 use Rattle.std.proofs.Common.{◌+◌, subst}
 use Rattle.in_arena.specs.declared.content.End.TheVariants.{Cell}
-use Rattle.in_joining.specs.Shown.{point_of}
+use Rattle.in_cells.specs.Shown.{point_of}
 use Rattle.in_phases.specs.Branches.{LeadsSomewhere}
 use Rattle.in_phases.proofs.Places.{leads_somewhere, partner_shown}
 use Rattle.in_phases.proofs.branch.Branch.take_behind.Goals as goal

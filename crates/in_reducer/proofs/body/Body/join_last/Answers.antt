@@ -5,9 +5,9 @@ use Rattle.in_arena.specs.declared.content.End.{End}
 use Rattle.in_symbols.specs.Tables.{Tables}
 use Rattle.in_net.specs.Nets.{Net, signature_of}
 use Rattle.in_interaction.specs.Queues.{IsQueueOf}
-use Rattle.in_glue.specs.Joining.{JoinsEnds}
-use Rattle.in_joining.specs.Pairs.{AddsPair}
-use Rattle.in_joining.specs.Shown.{IsShown}
+use Rattle.in_gluing.specs.Joining.{JoinsEnds}
+use Rattle.in_cells.specs.Pairs.{AddsPair}
+use Rattle.in_cells.specs.Shown.{IsShown}
 use Rattle.in_reducer.specs.Cutting.{net_in}
 use Rattle.in_reducer.specs.Inside.{reducer_view}
 use Rattle.in_reducer.proofs.Cuts.Rejoined as rejoined

@@ -2,7 +2,7 @@ use Rattle.std.proofs.Common.{◌≡◌, ◌<◌, ◌+◌, ◌*◌, ℕ, List, l
 use Rattle.std.proofs.lemmas.List.{length-take-le}
 use Rattle.in_arena.specs.declared.content.End.{End}
 use Rattle.in_arena.specs.declared.content.End.TheVariants.{Free}
-use Rattle.in_moving.specs.Copying.{IsCopied, IsEndWithin, moved_end, name_in, number_in}
+use Rattle.in_cells.specs.Copying.{IsCopied, IsEndWithin, moved_end, name_in, number_in}
 use Rattle.in_reducer.specs.declared.body.OwnEnd.{OwnEnd}
 use Rattle.in_reducer.specs.Parting.{place_of_two}
 use Rattle.in_reducer.specs.Splitting.{ArePicked, ArePickedWithRoom, LosesPart}

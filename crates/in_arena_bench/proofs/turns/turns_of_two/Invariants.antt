@@ -1,7 +1,0 @@
-use Rattle.std.proofs.Common.{◌≤◌, length}
-use Rattle.in_arena.specs.Classes.{Holds}
-use Rattle.in_arena_bench.specs.Turns.{IsFull}
-use Rattle.in_arena_bench.proofs.turns.turns_of_two.Given as goal
-
-abbrev pub invariant-loop-word : goal.invariant-loop-word
-invariant-loop-word l = IsFull l.one l.all × IsFull l.other l.all × Holds l.class (length l.ends) × (3 ≤ length l.ends)

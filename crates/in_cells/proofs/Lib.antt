@@ -1,0 +1,17 @@
+pub mod AllShown
+pub mod Beside
+pub mod CutInCells
+pub mod JoinedInCells
+pub mod JointsMade
+pub mod Kept
+pub mod Numbered
+pub mod OnTheWay
+pub mod OneJoint
+pub mod Public
+pub mod Retired
+pub mod Shown
+pub mod Split
+pub mod Started
+pub mod Taken
+pub mod Writes
+pub mod Written

@@ -1,0 +1,11 @@
+pub mod Between
+pub mod Cells
+pub mod Copying
+pub mod CopyingSteps
+pub mod Cutting
+pub mod Laws
+pub mod Pairs
+pub mod Shown
+pub mod Start
+pub mod TakingOut
+pub mod TakingOutSteps

@@ -1,0 +1,37 @@
+-- Agents that leave an arena, and free ends that get other numbers in it: how a part of a net is taken out, and how what is left is numbered
+-- anew. This project's own choice.
+use Rattle.std.specs.Prelude.{◌≡◌, ◌+◌, ℕ, List, length, count_by, Some, slice_get}
+use Rattle.in_arena.specs.Arenas.{ArenaView, free_of, state_at}
+use Rattle.in_arena.specs.Classes.{Holds, IsNumberOf}
+use Rattle.in_arena.specs.States.{Vacant, end_at, places}
+use Rattle.in_arena.specs.declared.content.CellClass.{CellClass}
+use Rattle.in_arena.specs.declared.content.CellNo.{CellNo}
+use Rattle.in_arena.specs.declared.content.End.{End}
+use Rattle.in_arena.specs.declared.content.End.TheVariants.{Cell, Free}
+use Rattle.in_cells.specs.Copying.{is_for, moved}
+
+-- each of these agents stands in a cell of the class for its places
+abbrev pub AreClassed : ArenaView → List CellNo → Type 0
+AreClassed a agents = (k : ℕ) (c : CellNo) (d : CellClass) → slice_get agents k ≡ Some c → IsNumberOf a.cells d c.0 → Holds d (places (state_at a c.0))
+
+-- the cells of these agents are free, and all others are as they were
+pub record AreRetired (agents : List CellNo) (old new : ArenaView) : Type 0 where
+  pub gone : (k : ℕ) (c : CellNo) → slice_get agents k ≡ Some c → state_at new c.0 ≡ Vacant
+  pub others : (y : ℕ) → ((k : ℕ) → slice_get agents k ≡ Some (record { 0 = y }) → ⊥) → state_at new y ≡ state_at old y
+  pub free : (d : CellClass) → free_of new d ≡ free_of old d + count_by (is_for old d) agents
+  pub memory : new.memory ≡ old.memory
+  pub cells : new.cells ≡ old.cells
+  pub many : length new.states ≡ length old.states
+
+-- the list has what each free end leads to: a place of a cell is in it if and only if the place leads to that free end
+pub record AreLedTo (a : ArenaView) (ends : List End) : Type 0 where
+  pub back : (k i : ℕ) (c : CellNo) → slice_get ends k ≡ Some (Cell c i) → end_at (state_at a c.0) i ≡ Some (Free k)
+  pub all : (y i k : ℕ) → end_at (state_at a y) i ≡ Some (Free k) → slice_get ends k ≡ Some (Cell (record { 0 = y }) i)
+
+-- each place that leads to a free end leads to it under its new number, and all else is as it was
+pub record AreNumberedAnew (number : ℕ → ℕ) (old new : ArenaView) : Type 0 where
+  pub each : (y : ℕ) → state_at new y ≡ moved (λ z. z) number (state_at old y)
+  pub free : (d : CellClass) → free_of new d ≡ free_of old d
+  pub memory : new.memory ≡ old.memory
+  pub cells : new.cells ≡ old.cells
+  pub many : length new.states ≡ length old.states

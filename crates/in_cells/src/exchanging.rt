@@ -1,0 +1,27 @@
+// Writing what a point leads to.
+ghost use Rattle.in_cells.specs.Shown.{IsPlaceAt, IsWritten, AreExchanged};
+
+use in_arena::{Arena, End};
+
+/// Writes an end at a place of a live cell, or in the list at a free end's number.
+#[inline(always)]
+fn write(arena: &mut Arena, ends: &mut [End], at: End, end: End)
+    requires { IsPlaceAt arena.old ends.old at }
+    ensures { IsWritten at end arena.old ends.old arena.new ends.new }
+{
+    match at {
+        End::Cell(cell, place) => arena.set_port(cell, place, end),
+        End::Free(number) => ends[number as usize] = end,
+    }
+}
+
+/// Writes each of two ends at the other.
+#[inline(always)]
+pub fn exchange(arena: &mut Arena, ends: &mut [End], one: End, other: End)
+    requires one { IsPlaceAt arena.old ends.old one }
+    requires other { IsPlaceAt arena.old ends.old other }
+    ensures { AreExchanged one other arena.old ends.old arena.new ends.new }
+{
+    write(arena, ends, one, other);
+    write(arena, ends, other, one);
+}

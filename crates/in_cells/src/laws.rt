@@ -1,0 +1,57 @@
+//! Laws over the definitions alone. No function here does anything.
+
+ghost use Rattle.in_cells.specs.Between.{PairsAreAddedOnce};
+ghost use Rattle.in_cells.specs.Start.{SetHasSymbols, SetIsReady, ShownIsStep};
+ghost use Rattle.in_cells.specs.Laws.{CopiesAreShown, NoneIsLeased, AllAreClosed, CopiesStandBeside, CopiesFollow, PartStandsBeside};
+
+/// Where the cells showed a net, the right member stands in cells of its own, the pair is retired and the sides of the boundary ends are
+/// set, joining can begin.
+pub fn set_is_ready()
+    ensures { SetIsReady }
+{}
+
+/// There each live cell has the number of a symbol, where the net and the right member are over the symbols.
+pub fn set_has_symbols()
+    ensures { SetHasSymbols }
+{}
+
+/// When joining is done, each net that the cells show, with the free ends of the net before, is the net after the interaction.
+pub fn shown_is_step()
+    ensures { ShownIsStep }
+{}
+
+/// Which pairs an interaction adds over boundary ends, and in which order, is determined.
+pub fn pairs_are_added_once()
+    ensures { PairsAreAddedOnce }
+{}
+
+/// What the cells show afterwards has the copied agents under their new names, with their wires, beside all that was there.
+pub fn copies_are_shown()
+    ensures { CopiesAreShown }
+{}
+
+/// Where no cell was on lease none is afterwards.
+pub fn none_is_leased()
+    ensures { NoneIsLeased }
+{}
+
+/// All agents of a net lead to each other and to its free ends.
+pub fn all_are_closed()
+    ensures { AllAreClosed }
+{}
+
+/// Where all agents of a net are copied to the cells of another one, both nets stand side by side, whatever the order of their free ends.
+pub fn copies_stand_beside()
+    ensures { CopiesStandBeside }
+{}
+
+/// .. as where the free ends of the copied net follow those that were there.
+pub fn copies_follow()
+    ensures { CopiesFollow }
+{}
+
+/// Where agents that lead to each other and to free ends of their own are copied to cells that show no agent, and taken out, the net before is
+/// the rest and the part side by side.
+pub fn part_stands_beside()
+    ensures { PartStandsBeside }
+{}

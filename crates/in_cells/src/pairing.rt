@@ -1,0 +1,63 @@
+// The pair that stands where two principal ports are joined.
+ghost use Rattle.std.specs.Prelude.{◌≡◌, ◌≢◌, ◌<◌, ◌≤◌, ◌+◌, MatchOption, Some, vec_len, vec_capacity};
+ghost use Rattle.in_arena.specs.declared.content.CellNo.{CellNo};
+ghost use Rattle.in_arena.specs.declared.content.End.TheVariants.{Cell};
+ghost use Rattle.in_arena.specs.Arenas.{state_at};
+ghost use Rattle.in_arena.specs.States.{IsLive, word_of};
+ghost use Rattle.in_cells.specs.Cells.{HasSymbols};
+ghost use Rattle.in_cells.specs.Pairs.{IsAtLive, IsPairOf, IsNoPair, AddsPair};
+
+use in_arena::{Arena, CellNo, End};
+use in_net::{AgentNo, in_order};
+use in_symbols::{SymbolNo, Symbols};
+
+/// The cell whose principal port this is.
+#[inline(always)]
+fn principal(end: End) -> Option<CellNo>
+    ensures { MatchOption result ((c : CellNo) → end ≢ Cell c 0) (λ c. end ≡ Cell c 0) }
+{
+    match end {
+        End::Cell(cell, place) => { if place == 0 { Some(cell) } else { None } }
+        End::Free(_) => None,
+    }
+}
+
+/// An agent with its symbol.
+#[inline(always)]
+fn agent(arena: &Arena, cell: CellNo) -> (AgentNo, SymbolNo)
+    requires { IsLive (state_at arena.now cell.0) }
+    ensures { (result.0.0 ≡ cell.0) × (word_of (state_at arena.now cell.0) ≡ Some result.1.0) }
+{
+    (AgentNo(cell.0), SymbolNo(arena.symbol(cell)))
+}
+
+/// The two agents whose principal ports these are, in their order, if both are principal ports.
+#[inline(always)]
+fn pair_of(arena: &Arena, symbols: &Symbols, one: End, other: End) -> Option<(AgentNo, AgentNo)>
+    requires one { IsAtLive arena.now one }
+    requires other { IsAtLive arena.now other }
+    requires differ { one ≢ other }
+    requires symbols { HasSymbols symbols.now arena.now }
+    ensures { MatchOption result (IsNoPair one other) (IsPairOf symbols.now arena.now one other) }
+{
+    let first = agent(arena, principal(one)?);
+    let second = agent(arena, principal(other)?);
+    Some(in_order(symbols, first, second))
+}
+
+/// Adds that pair, if both are principal ports.
+#[inline(always)]
+pub fn add_pair(arena: &Arena, symbols: &Symbols, one: End, other: End, made: &mut Vec<(u32, u32)>)
+    requires one { IsAtLive arena.now one }
+    requires other { IsAtLive arena.now other }
+    requires differ { one ≢ other }
+    requires symbols { HasSymbols symbols.now arena.now }
+    requires room { vec_len made.old < vec_capacity made.old }
+    ensures added { AddsPair symbols.now arena.now one other made.old.items made.new.items }
+    ensures longer { vec_len made.new ≤ vec_len made.old + 1 }
+    ensures capacity { vec_capacity made.new ≡ vec_capacity made.old }
+{
+    if let Some((first, second)) = pair_of(arena, symbols, one, other) {
+        made.push_reserved((first.0, second.0));
+    }
+}

@@ -1,3 +1,0 @@
-pub mod CutInCells
-pub mod JoinedInCells
-pub mod Public

@@ -1,0 +1,45 @@
+//! What stands in the slots of a sentence.
+use crate::ends::Giving;
+use in_syntax::{Place, SourcePort, SourceSymbol};
+
+/// What stands in a slot of a sentence.
+#[derive(Clone, Copy)]
+pub enum Value<'v> {
+    /// A text, as it is.
+    Text(&'v str),
+    /// A number.
+    Number(usize),
+    /// A number, and the words after it where it is one and where it isn't.
+    Count(usize, &'static str, &'static str),
+    /// A character.
+    Character(char),
+    /// The number of a character, as `U+00AD`.
+    Code(char),
+    /// A byte, as `0xff`.
+    Byte(u8),
+    /// The type of a port with its sign, as `nat+`.
+    Type(&'v SourcePort),
+    /// The port of that number of a symbol, as "auxiliary port 2 of `Add`".
+    Port(&'v SourceSymbol, usize),
+    /// A letter for each of so many terms, from the letter of the first number on, as `a, b, c`.
+    Letters(usize, usize),
+    /// The ports of a symbol that are outputs of a type.
+    Outputs(Giving<'v>),
+    /// The letters of these ports.
+    OutputLetters(Giving<'v>),
+    /// Where something stands, as `12:15`.
+    Spot(Place),
+}
+
+/// The name of a slot, and what stands in it.
+pub type Slot<'v> = (&'static str, Value<'v>);
+
+/// The value of the slot of this name.
+pub(crate) fn value_of<'v>(slots: &[Slot<'v>], name: &str) -> Option<Value<'v>> {
+    for (slot, value) in slots {
+        if *slot == name {
+            return Some(*value);
+        }
+    }
+    None
+}

@@ -1,4 +1,0 @@
-pub mod Dones
-pub mod Gathers
-pub mod Holding
-pub mod Laws

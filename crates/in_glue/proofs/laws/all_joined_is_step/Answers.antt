@@ -1,5 +1,0 @@
-use Rattle.in_glue.proofs.Gluing.EndByEnd.{all_joined_is_step}
-use Rattle.in_glue.proofs.laws.all_joined_is_step.Goals as goal
-
-pub returns : goal.returns
-returns c = all_joined_is_step

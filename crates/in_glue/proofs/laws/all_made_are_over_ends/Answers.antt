@@ -1,5 +1,0 @@
-use Rattle.in_glue.proofs.Gluing.MadeByJoining.{all_made_are_over_ends}
-use Rattle.in_glue.proofs.laws.all_made_are_over_ends.Goals as goal
-
-pub returns : goal.returns
-returns c = all_made_are_over_ends

@@ -1,5 +1,0 @@
-use Rattle.in_glue.proofs.Gluing.SoundCuts.{cuts_keep_sound}
-use Rattle.in_glue.proofs.laws.cuts_keep_sound.Goals as goal
-
-pub returns : goal.returns
-returns c = cuts_keep_sound

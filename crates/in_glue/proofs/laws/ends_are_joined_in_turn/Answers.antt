@@ -1,5 +1,0 @@
-use Rattle.in_glue.proofs.Gluing.EndByEnd.{ends_are_joined_in_turn}
-use Rattle.in_glue.proofs.laws.ends_are_joined_in_turn.Goals as goal
-
-pub returns : goal.returns
-returns c = ends_are_joined_in_turn

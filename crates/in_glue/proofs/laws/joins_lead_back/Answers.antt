@@ -1,5 +1,0 @@
-use Rattle.in_glue.proofs.Gluing.Cutting.{joins_lead_back}
-use Rattle.in_glue.proofs.laws.joins_lead_back.Goals as goal
-
-pub returns : goal.returns
-returns c = joins_lead_back

@@ -1,5 +1,0 @@
-use Rattle.in_glue.proofs.Gluing.MadeByJoining.{none_is_made_first}
-use Rattle.in_glue.proofs.laws.none_is_made_first.Goals as goal
-
-pub returns : goal.returns
-returns c = none_is_made_first

@@ -1,5 +1,0 @@
-use Rattle.in_glue.proofs.Gluing.MadeByJoining.{pairs_are_made_where_joined}
-use Rattle.in_glue.proofs.laws.pairs_are_made_where_joined.Goals as goal
-
-pub returns : goal.returns
-returns c = pairs_are_made_where_joined

@@ -1,5 +1,0 @@
-use Rattle.in_glue.proofs.Gluing.Reducible.{plain_is_reducible}
-use Rattle.in_glue.proofs.laws.plain_is_reducible.Goals as goal
-
-pub returns : goal.returns
-returns c = plain_is_reducible

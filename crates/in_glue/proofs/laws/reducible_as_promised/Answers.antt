@@ -1,5 +1,0 @@
-use Rattle.in_glue.proofs.Gluing.Reducible.{reducible_as_promised}
-use Rattle.in_glue.proofs.laws.reducible_as_promised.Goals as goal
-
-pub returns : goal.returns
-returns c = reducible_as_promised

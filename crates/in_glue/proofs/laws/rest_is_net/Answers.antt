@@ -1,5 +1,0 @@
-use Rattle.in_glue.proofs.Gluing.TwoParts.{rest_is_net}
-use Rattle.in_glue.proofs.laws.rest_is_net.Goals as goal
-
-pub returns : goal.returns
-returns c = rest_is_net

@@ -1,5 +1,0 @@
-use Rattle.in_glue.proofs.Gluing.PartRuns.{runs_are_glued}
-use Rattle.in_glue.proofs.laws.runs_are_glued.Goals as goal
-
-pub returns : goal.returns
-returns c = runs_are_glued

@@ -1,5 +1,0 @@
-use Rattle.in_glue.proofs.Gluing.Names.{runs_keep_sound}
-use Rattle.in_glue.proofs.laws.runs_keep_sound.Goals as goal
-
-pub returns : goal.returns
-returns c = runs_keep_sound

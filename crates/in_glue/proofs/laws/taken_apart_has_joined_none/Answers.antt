@@ -1,5 +1,0 @@
-use Rattle.in_glue.proofs.Gluing.TakenApart.{taken_apart_has_joined_none}
-use Rattle.in_glue.proofs.laws.taken_apart_has_joined_none.Goals as goal
-
-pub returns : goal.returns
-returns c = taken_apart_has_joined_none

@@ -1,0 +1,9 @@
+pub mod AsGluing
+pub mod BirthNames
+pub mod EndByEnd
+pub mod Gluing
+pub mod Joining
+pub mod Laws
+pub mod MadeByJoining
+pub mod Orders
+pub mod SideBySide

@@ -1,0 +1,193 @@
+//! Laws over the definitions alone. No function here does anything.
+
+ghost use Rattle.in_gluing.specs.AsGluing.{BoundaryIsCut, InteractionsAreGluings, RestExists, RestIsNet};
+ghost use Rattle.in_gluing.specs.EndByEnd.{AllJoinedIsStep, AnyOrderIsStep, BesideHasJoinedNone, EndsAreJoinedInTurn, EndsFromHaveOneMore, EndsFromNoneToAll, TakenApartExists, TakenApartHasJoinedNone};
+ghost use Rattle.in_gluing.specs.Joining.{AllJoinedIsGlued, BesideJoinsNone, CutsAreJoined, JoinExists, JoinsLeadBack, JoinsNext};
+ghost use Rattle.in_gluing.specs.Laws.{FramesGlue, FramesStep, GluedOnce, NamesExist, PairsAreOfPartsOrMade, RenamedExists};
+ghost use Rattle.in_gluing.specs.MadeByJoining.{AllMadeAreOverEnds, JoinsAtLowestEnd, NoMoreIsMade, NoneIsMadeFirst, OneMoreIsMade, PairsAreMadeWhereJoined};
+ghost use Rattle.in_gluing.specs.Orders.{InteractionsCommute, OrdersAreBothAtOnce, OrdersAreOne};
+ghost use Rattle.in_gluing.specs.SideBySide.{BesideIsOne, BesidePartsAreAlike, BesidePartsAreNets};
+
+/// Under birth names, two interactions on different active pairs lead, each followed by the other, to one net.
+pub fn interactions_commute()
+    ensures { InteractionsCommute }
+{}
+
+/// Under birth names, whatever two interactions lead to in either order is one net.
+pub fn orders_are_one()
+    ensures { OrdersAreOne }
+{}
+
+/// What two interactions lead to, one after the other, is the net after both at once.
+pub fn orders_are_both_at_once()
+    ensures { OrdersAreBothAtOnce }
+{}
+
+/// An interaction of one part is an interaction of the whole: what is glued from the parts after it is the whole after it. The names of
+/// different agents are to be different.
+pub fn frames_step()
+    ensures { FramesStep }
+{}
+
+/// What an interaction of one part makes of the whole is glued from the parts after it, so that there is such a net.
+pub fn frames_glue()
+    ensures { FramesGlue }
+{}
+
+/// The active pairs of the whole are those of its parts, and those that joints make.
+pub fn pairs_are_of_parts_or_made()
+    ensures { PairsAreOfPartsOrMade }
+{}
+
+/// There are names by part and agent, by which no two agents have one name.
+pub fn names_exist()
+    ensures { NamesExist }
+{}
+
+/// Under names that keep a net's agents apart there is a net.
+pub fn renamed_exists()
+    ensures { RenamedExists }
+{}
+
+/// What is glued from the same parts along the same cuts is one net, up to the names of its agents.
+pub fn glued_once()
+    ensures { GluedOnce }
+{}
+
+/// Parts that stand side by side in one net are joined by no joint.
+pub fn beside_joins_none()
+    ensures { BesideJoinsNone }
+{}
+
+/// The next joint is made by making the partners of its two free ends partners of one another. Each is to be the only free end in use of its
+/// number.
+pub fn joins_next()
+    ensures { JoinsNext }
+{}
+
+/// Where all joints are made, and the free ends that stay have their numbers, the net is glued.
+pub fn all_joined_is_glued()
+    ensures { AllJoinedIsGlued }
+{}
+
+/// A joint can always be made.
+pub fn join_exists()
+    ensures { JoinExists }
+{}
+
+/// Whatever net a joint makes, its partners lead back.
+pub fn joins_lead_back()
+    ensures { JoinsLeadBack }
+{}
+
+/// Joining the two new free ends of a wire that was cut undoes the cut.
+pub fn cuts_are_joined()
+    ensures { CutsAreJoined }
+{}
+
+/// There is a net that is left of a net without an active pair of it.
+pub fn rest_exists()
+    ensures { RestExists }
+{}
+
+/// What is left of a net without an active pair is a net.
+pub fn rest_is_net()
+    ensures { RestIsNet }
+{}
+
+/// What is left of a net without an active pair is cut from the right member at free ends of opposite types, and the net's own free ends stay.
+pub fn boundary_is_cut()
+    ensures { BoundaryIsCut }
+{}
+
+/// An interaction is a gluing: the net after it is what is left of the net without the pair, glued to the right member along the boundary ends.
+pub fn interactions_are_gluings()
+    ensures { InteractionsAreGluings }
+{}
+
+/// There is a net in which the pair is taken out and the right member stands beside what is left.
+pub fn taken_apart_exists()
+    ensures { TakenApartExists }
+{}
+
+/// Where the pair is taken out of the net and the right member stands beside it, no boundary end is joined.
+pub fn taken_apart_has_joined_none()
+    ensures { TakenApartHasJoinedNone }
+{}
+
+/// Where what is left of the net and the right member stand side by side, no boundary end is joined.
+pub fn beside_has_joined_none()
+    ensures { BesideHasJoinedNone }
+{}
+
+/// One boundary end more is joined by making the partners of its two sides partners of one another. No path is followed.
+pub fn ends_are_joined_in_turn()
+    ensures { EndsAreJoinedInTurn }
+{}
+
+/// The boundary ends from one on are those from the next one on, and it besides.
+pub fn ends_from_have_one_more()
+    ensures { EndsFromHaveOneMore }
+{}
+
+/// From their number on there is no boundary end, and from 0 on there are all.
+pub fn ends_from_none_to_all()
+    ensures { EndsFromNoneToAll }
+{}
+
+/// Where all boundary ends are joined, the net is the one after the interaction.
+pub fn all_joined_is_step()
+    ensures { AllJoinedIsStep }
+{}
+
+/// The net taken apart, and joined at the boundary ends one after another in any order, comes to the net after the interaction.
+pub fn any_order_is_step()
+    ensures { AnyOrderIsStep }
+{}
+
+/// Where the boundary ends are joined from the highest to the lowest, one makes two ports partners exactly if it is the lowest end between them.
+pub fn joins_at_lowest_end()
+    ensures { JoinsAtLowestEnd }
+{}
+
+/// Where the boundary ends are joined from the highest to the lowest, one makes an active pair exactly if two principal ports are at its sides;
+/// it is the pair of which this is the lowest end.
+pub fn pairs_are_made_where_joined()
+    ensures { PairsAreMadeWhereJoined }
+{}
+
+/// Before any boundary end is joined no pair is made.
+pub fn none_is_made_first()
+    ensures { NoneIsMadeFirst }
+{}
+
+/// The pair that is made at the next boundary end is the one pair more.
+pub fn one_more_is_made()
+    ensures { OneMoreIsMade }
+{}
+
+/// Where none is made at the next boundary end there is no pair more.
+pub fn no_more_is_made()
+    ensures { NoMoreIsMade }
+{}
+
+/// When all boundary ends are joined, the pairs turned round are those that the interaction makes over boundary ends, in their order.
+pub fn all_made_are_over_ends()
+    ensures { AllMadeAreOverEnds }
+{}
+
+/// What stands side by side in a net is a net, if it has finitely many agents, and its wires lead back and from points that are there.
+pub fn beside_parts_are_nets()
+    ensures { BesidePartsAreNets }
+{}
+
+/// Which nets stand side by side in a net is determined by the symbols of the first one, but for the numbers that agents of the second have by
+/// themselves.
+pub fn beside_parts_are_alike()
+    ensures { BesidePartsAreAlike }
+{}
+
+/// What two nets are side by side is one net, up to the names of its agents.
+pub fn beside_is_one()
+    ensures { BesideIsOne }
+{}

@@ -1,5 +1,0 @@
-use Rattle.in_joining.proofs.Started as proved
-use Rattle.in_joining.proofs.laws.set_has_symbols.Goals as goal
-
-pub returns : goal.returns
-returns c = proved.set_has_symbols

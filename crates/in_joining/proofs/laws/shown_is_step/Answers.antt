@@ -1,5 +1,0 @@
-use Rattle.in_joining.proofs.AllShown as proved
-use Rattle.in_joining.proofs.laws.shown_is_step.Goals as goal
-
-pub returns : goal.returns
-returns c = proved.shown_is_step

@@ -1,5 +1,0 @@
-pub mod Between
-pub mod Cells
-pub mod Pairs
-pub mod Shown
-pub mod Start

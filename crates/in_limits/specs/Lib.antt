@@ -1,0 +1,2 @@
+pub mod AllowedLimits
+pub mod Limiting

@@ -1,0 +1,75 @@
+ghost use Rattle.std.specs.Prelude.{◌≡◌, ◌≤◌};
+ghost use Rattle.in_limits.specs.Limiting.{least_cells, most_cells, most_interactions, most_workers};
+
+/// The least cells of each class that a run has.
+pub const LEAST_CELLS: u32 = 16;
+
+/// The most cells of each class that a run has.
+pub const MOST_CELLS: u32 = 1_048_576;
+
+/// The most workers that a run may have.
+pub const MOST_WORKERS: u32 = 64;
+
+/// The most interactions that a run may be allowed.
+pub const MOST_INTERACTIONS: u64 = 1_000_000_000_000;
+
+/// How many workers a run has, how many interactions it may do, and how many cells of each class its machine has.
+#[derive(Clone, Copy, Debug, PartialEq, Eq)]
+pub struct Limits {
+    workers: u32,
+    limit: u64,
+    cells: u32,
+    ghost some_worker: { 1 ≤ workers },
+    ghost few_workers: { workers ≤ most_workers },
+    ghost limit_in_range: { limit ≤ most_interactions },
+    ghost least: { least_cells ≤ cells },
+    ghost most: { cells ≤ most_cells },
+}
+
+impl Limits {
+    ghost use Rattle.in_limits.specs.AllowedLimits.{AreLimits};
+
+    /// These limits; nothing where one of them is out of range: 1 to 64 workers, 0 to 1,000,000,000,000 interactions and 16 to 1,048,576
+    /// cells, which is this project's own choice.
+    pub fn new(workers: u32, limit: u64, cells: u32) -> Option<Limits>
+        ensures { AreLimits workers limit cells result }
+    {
+        let has_workers = 1 <= workers && workers <= MOST_WORKERS;
+        let has_cells = LEAST_CELLS <= cells && cells <= MOST_CELLS;
+        if has_workers && limit <= MOST_INTERACTIONS && has_cells {
+            Some(Limits {
+                workers,
+                limit,
+                cells,
+            })
+        } else {
+            None
+        }
+    }
+
+    /// The workers.
+    pub fn workers(&self) -> u32
+        ensures workers { result ≡ self.now.workers }
+        ensures some { 1 ≤ result }
+        ensures few { result ≤ most_workers }
+    {
+        self.workers
+    }
+
+    /// The most interactions.
+    pub fn limit(&self) -> u64
+        ensures limit { result ≡ self.now.limit }
+        ensures most { result ≤ most_interactions }
+    {
+        self.limit
+    }
+
+    /// The cells of each class.
+    pub fn cells(&self) -> u32
+        ensures cells { result ≡ self.now.cells }
+        ensures least { least_cells ≤ result }
+        ensures most { result ≤ most_cells }
+    {
+        self.cells
+    }
+}

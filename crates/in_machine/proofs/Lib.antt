@@ -1,0 +1,11 @@
+pub mod Alongside
+pub mod InTurn
+pub mod ListedAgents
+pub mod OneEnd
+pub mod Phased
+pub mod Public
+pub mod SameMachine
+pub mod SameRun
+pub mod SameStart
+pub mod StepsOn
+pub mod Taking

@@ -1,0 +1,16 @@
+-- Interactions of the first pairs, one after another: where they end, and that this is one answer. This project's own choice.
+use Rattle.std.specs.Prelude.{◌≡◌, ◌⊎◌, ◌<◌, ◌≤◌, ℕ, []}
+use Rattle.in_reducer.specs.Machines.{MachineParts}
+use Rattle.in_reducer.specs.Steps.{HasRoomAt}
+use Rattle.in_names.specs.Same.{AreSame, RunsUpToNumbers}
+use Rattle.in_machine.specs.Machines.{IsMachine}
+
+-- no pair is left, or what the first one needs isn't free
+abbrev pub TakesNoFirst : MachineParts → Type 0
+TakesNoFirst m = (m.queue ≡ []) ⊎ (HasRoomAt m 0 → ⊥)
+
+-- so many interactions, at most as many as were asked for, and fewer only where no further one is taken, are as many each time, and lead to
+-- one machine up to numbers
+abbrev pub FirstsTakenAreOne : Type 0
+FirstsTakenAreOne = (m n o : MachineParts) (most j k : ℕ) → IsMachine m → RunsUpToNumbers m j n → j ≤ most → (j < most → TakesNoFirst n) →
+    RunsUpToNumbers m k o → k ≤ most → (k < most → TakesNoFirst o) → (j ≡ k) × AreSame n o

@@ -1,0 +1,134 @@
+// What a machine shows.
+ghost use Rattle.std.specs.Prelude.{◌≡◌, ◌<◌, ◌≤◌, ◌↔◌, IsTrue, length, count_by, is_some, Some, IsSome, slice_get, option_map};
+ghost use Rattle.in_symbols.specs.Names.{name_in};
+ghost use Rattle.in_symbols.specs.Tables.{arity_of};
+ghost use Rattle.in_net.specs.Parts.{IsPointOf, symbol_in, partner_in, free_name_in};
+ghost use Rattle.in_arena.specs.declared.content.CellClass.{CellClass as Class};
+ghost use Rattle.in_compile.specs.Cells.{count_of};
+ghost use Rattle.in_reducer.specs.Machines.{parts_of, point_at};
+ghost use Rattle.in_reducer.specs.Steps.{NeedsAt, HasRoomAt};
+ghost use Rattle.in_machine.specs.Machines.{IsMachine};
+
+use crate::machine::Machine;
+use in_arena::{CellClass, CellNo, End};
+use in_compile::Need;
+use in_symbols::SymbolNo;
+
+impl<'a> Machine<'a> {
+    /// How many active pairs are left.
+    pub fn pairs(&self) -> u32
+        ensures count { result ≡ length self.now.queue }
+        ensures machine { IsMachine self.now }
+    {
+        self.reducer.pairs()
+    }
+
+    /// The active pair of that number in the queue, the constructor first.
+    pub fn pair(&self, number: u32) -> (CellNo, CellNo)
+        requires { number < length self.now.queue }
+        ensures pair { slice_get self.now.queue number ≡ Some (result.0.0, result.1.0) }
+        ensures agents { IsSome (symbol_in (parts_of self.now) result.0.0) × IsSome (symbol_in (parts_of self.now) result.1.0) }
+    {
+        self.reducer.pair(number)
+    }
+
+    /// How many cells of this class are free.
+    pub fn free(&self, class: CellClass) -> u32
+        ensures { result ≡ count_of self.now.vacant class }
+    {
+        self.reducer.free(class)
+    }
+
+    /// How many cells of each class are free.
+    pub fn vacant(&self) -> Need
+        ensures { result ≡ self.now.vacant }
+    {
+        self.reducer.vacant()
+    }
+
+    /// The least number of free cells of a class.
+    pub fn least_free(&self) -> u32
+        ensures least { (c : Class) → result ≤ count_of self.now.vacant c }
+        ensures one { (c : Class) × (count_of self.now.vacant c ≡ result) }
+    {
+        self.reducer.least_free()
+    }
+
+    /// How many agents there are.
+    pub fn agents(&self) -> u32
+        ensures { result ≡ count_by is_some self.now.agents }
+    {
+        self.reducer.agents()
+    }
+
+    /// How many numbers there are for agents: those of all cells, whether free or not.
+    pub fn numbers(&self) -> u32
+        ensures { result ≡ length self.now.agents }
+    {
+        self.reducer.numbers()
+    }
+
+    /// What a place of an agent leads to, the principal port being place 0, or what a free end leads to.
+    pub fn partner(&self, end: End) -> End
+        requires { IsPointOf (parts_of self.now) (point_at end) }
+        ensures { partner_in (parts_of self.now) (point_at end) ≡ Some (point_at result) }
+    {
+        self.reducer.partner(end)
+    }
+
+    /// The symbol of an agent.
+    pub fn symbol(&self, cell: CellNo) -> SymbolNo
+        requires { IsSome (symbol_in (parts_of self.now) cell.0) }
+        ensures { symbol_in (parts_of self.now) cell.0 ≡ Some result }
+    {
+        self.reducer.symbol(cell)
+    }
+
+    /// How many auxiliary ports an agent has.
+    pub fn arity(&self, cell: CellNo) -> u8
+        requires { IsSome (symbol_in (parts_of self.now) cell.0) }
+        ensures { option_map (λ s. arity_of self.now.program.tables s.0) (symbol_in (parts_of self.now) cell.0) ≡ Some result }
+    {
+        self.reducer.checked().symbols().arity(self.symbol(cell))
+    }
+
+    /// The name of an agent's symbol.
+    pub fn symbol_name(&self, cell: CellNo) -> &str
+        requires { IsSome (symbol_in (parts_of self.now) cell.0) }
+        ensures { option_map (λ s. name_in s.0 self.now.program.tables.names) (symbol_in (parts_of self.now) cell.0) ≡ Some result.now }
+    {
+        self.reducer.checked().symbols().name(self.symbol(cell))
+    }
+
+    /// How many free ends the net has.
+    pub fn free_ends(&self) -> u32
+        ensures { result ≡ length self.now.free }
+    {
+        self.reducer.free_ends()
+    }
+
+    /// The name of a free end.
+    pub fn free_name(&self, number: u32) -> &str
+        requires { number < length self.now.free }
+        ensures { Some result.now ≡ free_name_in (parts_of self.now) number }
+    {
+        self.reducer.free_name(number)
+    }
+
+    /// How many cells of each class the interaction of the pair of that number needs: the agents of its rule's right member. They have to
+    /// be free while the pair still stands.
+    pub fn need_of(&self, number: u32) -> Need
+        requires { number < length self.now.queue }
+        ensures { NeedsAt self.now number result }
+    {
+        self.reducer.need_of(&self.templates, number)
+    }
+
+    /// Whether what the pair of that number needs is free, so that `step` may do its interaction.
+    pub fn has_room(&self, number: u32) -> bool
+        requires { number < length self.now.queue }
+        ensures { IsTrue result ↔ HasRoomAt self.now number }
+    {
+        self.reducer.has_room(&self.templates, number)
+    }
+}

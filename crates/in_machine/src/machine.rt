@@ -1,0 +1,109 @@
+// A machine, how it starts, and one interaction of it.
+ghost use Rattle.std.specs.Prelude.{◌<◌, ◌≤◌, ℕ, suc, length};
+ghost use Rattle.in_check.specs.Plain.{IsReachedBy};
+ghost use Rattle.in_reducer.specs.Limiting.{least_cells, most_cells};
+ghost use Rattle.in_reducer.specs.Machines.{plain_of};
+ghost use Rattle.in_reducer.specs.Steps.{HasRoomAt, StepsAt};
+ghost use Rattle.in_names.specs.Same.{RunsUpToNumbers, StepsUpToNumbers};
+ghost use Rattle.in_machine.specs.Starts.{Starts};
+ghost use Rattle.in_machine.specs.Taking.{TakesNoFirst};
+
+use crate::starting::StartFault;
+use in_check::Checked;
+use in_compile::{Need, Templates, compile, need_of_net};
+use in_reducer::Reducer;
+use std::alloc::Global;
+use std::marker::Model;
+
+/// The state of a run over a number of cells: the active pairs of its net are in a queue, and for each class of agents a number of cells is
+/// free. Its program reaches the net.
+///
+/// A round lends the cells of its reducer to workers; so both fields can be named outside. Whoever changes one proves again what is kept.
+#[derive(Drop)]
+pub struct Machine<'a> {
+    pub templates: Templates,
+    pub reducer: Reducer<'a>,
+}
+
+// Contracts see the net that it reduces. It keeps that the program reaches it, which a reducer alone doesn't.
+impl<'a> Model for Machine<'a> {
+    ghost use Rattle.in_compile.specs.Templates.{AreTemplatesOf};
+    ghost use Rattle.in_reducer.specs.Machines.{MachineParts};
+    ghost use Rattle.in_machine.specs.Machines.{IsMachine};
+
+    ghost Value = { MachineParts };
+
+    ghost view = { λ m. m.reducer };
+
+    ghost invariant = { λ m. IsMachine m.reducer × AreTemplatesOf m.reducer.program m.templates };
+}
+
+impl<'a> Machine<'a> {
+    /// A machine with `cells` cells of each class, at the program's net. Its pairs are queued in the order of the places of their wires,
+    /// which is this project's own choice, as are the sizes of cells.
+    ///
+    /// Refused `Full` where the net has more agents of a class than cells, tested in the order of the classes, or when out of memory. No
+    /// other call takes memory.
+    pub fn new(alloc: Global, checked: &'a Checked, cells: u32) -> Result<Machine<'a>, StartFault>
+        requires least { least_cells ≤ cells }
+        requires most { cells ≤ most_cells }
+        ensures { Starts checked.now cells result }
+    {
+        checked.is_accepted();
+        let need = need_of_net(checked.symbols(), checked.net());
+        if let Some(class) = need.first_short(Need::each(cells)) {
+            return Err(StartFault::Full {
+                class,
+                need: need.of(class),
+                free: cells,
+            });
+        }
+        let templates = compile(alloc, checked)?;
+        let reducer = Reducer::new(alloc, checked, &templates, cells)?;
+        Ok(Machine { templates, reducer })
+    }
+
+    /// The interaction of the pair of that number, by the rule of its symbols: Lafont 1990's, as `in_check`'s `Plain::step` says. The pair
+    /// leaves the queue, and the new pairs come last, by the lowest-numbered boundary end on the path that made each, and then the right
+    /// member's own; the cells of the pair are free, and those of the new agents aren't. What the pair needs has to be free while it still
+    /// stands. It takes no memory.
+    pub fn step(&mut self, number: u32)
+        requires pair { number < length self.old.queue }
+        requires room { HasRoomAt self.old number }
+        ensures steps { StepsAt self.old number self.new }
+        ensures counted { (k : ℕ) → IsReachedBy (plain_of self.old) k → IsReachedBy (plain_of self.new) (suc k) }
+    {
+        self.reducer.step(&self.templates, number);
+    }
+
+    /// Interactions of the first pair of the queue, one after another, at most `most`, first in, first out. Fewer only where no pair is left, or
+    /// what the first one needs isn't free. Returns how many they were. They are those of a machine that is this one up to the numbers of
+    /// agents: so an agent may go on under another number, and a new one may have the number of one that is gone. It takes no memory.
+    pub fn take_first(&mut self, most: u64) -> u64
+        ensures runs { RunsUpToNumbers self.old result self.new }
+        ensures most { result ≤ most }
+        ensures fewer { result < most → TakesNoFirst self.new }
+    {
+        if self.pairs() == 0 {
+            return 0;
+        }
+        let mut count = 0;
+        while count < most {
+            if self.pairs() == 0 || !self.has_room(0) {
+                return count;
+            }
+            self.step_first();
+            count += 1;
+        }
+        count
+    }
+
+    /// The interaction of the first pair, up to the numbers of agents. Here the numbers stay; no proof above it uses that.
+    fn step_first(&mut self)
+        requires pair { 0 < length self.old.queue }
+        requires room { HasRoomAt self.old 0 }
+        ensures { StepsUpToNumbers self.old 0 self.new }
+    {
+        self.step(0);
+    }
+}

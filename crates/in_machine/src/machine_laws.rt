@@ -1,0 +1,72 @@
+//! Laws over machines and their runs, for whoever reasons above them. No function here does anything.
+
+ghost use Rattle.in_machine.specs.MachineLaws.{MachinesAreReducers, MachinesAsPromised, NormalEndsAreOne, QueuesAreQueues, QueuesMoveUp, RoomLasts, RunsReach, SameAreMachines, SameAreReached, StartsAreMachines, StartsAreSame, StepsKeepMachines};
+ghost use Rattle.in_machine.specs.Taking.{FirstsTakenAreOne};
+
+/// What a machine shows is as promised: typed, with one rule for each active pair, without crossing circle or vicious one, with an end
+/// to each interaction, leading on from each agent, and written whole.
+pub fn machines_as_promised()
+    ensures { MachinesAsPromised }
+{}
+
+/// The queue of a machine holds each active pair of its net once, as the text of a net asks for.
+pub fn queues_are_queues()
+    ensures { QueuesAreQueues }
+{}
+
+/// A run of any number of steps reaches its net by as many interactions more.
+pub fn runs_reach()
+    ensures { RunsReach }
+{}
+
+/// An interaction of a machine leaves a machine, whatever numbers the new agents have.
+pub fn steps_keep_machines()
+    ensures { StepsKeepMachines }
+{}
+
+/// A machine is a reducer: the laws of `in_names` on what is the same up to the numbers of agents hold of machines.
+pub fn machines_are_reducers()
+    ensures { MachinesAreReducers }
+{}
+
+/// What is the same as a machine up to the numbers of its agents is one.
+pub fn same_are_machines()
+    ensures { SameAreMachines }
+{}
+
+/// And it is reached by as many interactions.
+pub fn same_are_reached()
+    ensures { SameAreReached }
+{}
+
+/// An accepted program and a number of cells have one machine to start with, up to the numbers of its agents.
+pub fn starts_are_same()
+    ensures { StartsAreSame }
+{}
+
+/// A start of an accepted program is a machine: what is said of machines holds of it.
+pub fn starts_are_machines()
+    ensures { StartsAreMachines }
+{}
+
+/// A machine without active pairs is the one end of its program: each run that ends, its interactions in any order, has as many interactions
+/// and the same text.
+pub fn normal_ends_are_one()
+    ensures { NormalEndsAreOne }
+{}
+
+/// Where there is room for the first pairs of the queue together, each of them has room when its turn comes, first in, first out, whatever
+/// was made before.
+pub fn room_lasts()
+    ensures { RoomLasts }
+{}
+
+/// While pairs of the queue are left, interactions, first in, first out, take them in turn, and add the new ones behind them.
+pub fn queues_move_up()
+    ensures { QueuesMoveUp }
+{}
+
+/// What `take_first` answers is one: as many interactions each time, and one machine up to the numbers of its agents.
+pub fn firsts_taken_are_one()
+    ensures { FirstsTakenAreOne }
+{}

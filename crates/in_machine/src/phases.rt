@@ -1,0 +1,46 @@
+// A machine's net is reduced in parts.
+ghost use Rattle.std.specs.Prelude.{◌≤◌};
+ghost use Rattle.in_phases.specs.Phases.{HasFree};
+ghost use Rattle.in_phases.specs.Rooms.{IsForAsMany};
+ghost use Rattle.in_reducer.specs.Limiting.{most_cells};
+ghost use Rattle.in_machine.specs.Phases.{IsPhase};
+
+use crate::machine::Machine;
+use in_base::use_promise;
+use in_phases::{Room, Sharing, Worked, reduce_in_parts};
+use std::alloc::Global;
+use std::thread::Threads;
+
+/// A phase: the net is reduced in parts that share nothing, each in a thread of its own but the rest, which the caller reduces. Which
+/// interactions are done, and in which order, is open; they are at most as many as the sharing says, and of each class at least as many cells
+/// are free afterwards as it says are to stay so. The net is one that the program reaches by as many interactions more.
+///
+/// The sharing is into at least one part, and the cells that are to stay free are free before. The room is for the machine's numbers, and is
+/// used again. A phase is never refused: where memory runs out there are fewer parts, and where a thread can't be started the caller does its
+/// part. It waits for its threads.
+pub fn phase<R: Threads>(
+    rt: &R,
+    alloc: Global,
+    machine: &mut Machine,
+    sharing: Sharing,
+    room: &mut Room,
+) -> Worked
+    requires parts { 1 ≤ sharing.parts }
+    requires share { sharing.share ≤ most_cells }
+    requires floor { HasFree machine.old sharing.floor }
+    ensures phase { IsPhase machine.old result.interactions machine.new }
+    ensures most { result.interactions ≤ sharing.most }
+    ensures free { HasFree machine.new sharing.floor }
+    ensures room { IsForAsMany room.old room.new }
+{
+    let worked = reduce_in_parts(
+        rt,
+        alloc,
+        &mut machine.reducer,
+        &machine.templates,
+        sharing,
+        room,
+    );
+    use_promise!(machine.reducer.pairs());
+    worked
+}

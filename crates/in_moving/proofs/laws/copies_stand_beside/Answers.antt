@@ -1,5 +1,0 @@
-use Rattle.in_moving.proofs.Beside as proved
-use Rattle.in_moving.proofs.laws.copies_stand_beside.Goals as goal
-
-pub returns : goal.returns
-returns c = proved.copies_stand_beside

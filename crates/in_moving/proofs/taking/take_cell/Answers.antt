@@ -1,9 +1,0 @@
-use Rattle.in_arena.specs.Arenas.{state_at}
-use Rattle.in_moving.proofs.Taken.{cell_taken}
-use Rattle.in_moving.proofs.taking.take_cell.Goals as goal
-
-pub returns : goal.returns
-returns c =
-    let p = c.places-places in
-    cell_taken c.args.to.now c.requires.all (state_at c.args.from.now c.args.cell.0) c.class_for.result p.result c.symbol.result p.ensures.places c.symbol.ensures c.class_for.ensures c.in-Some.lease c.lease.new.self
-    c.in-Some.ensures c.begin.new.self c.begin.ensures c.settle.new.self c.settle.ensures c.cell-new.result.0 c.cell-new.ensures

@@ -1,5 +1,0 @@
-use Rattle.in_moving.specs.CopyingSteps.{AreMovedBelow}
-use Rattle.in_moving.proofs.writing.write_agents.Given as goal
-
-abbrev pub invariant-loop-number : goal.invariant-loop-number
-invariant-loop-number l = AreMovedBelow l.from l.agents l.names l.ends l.fn.to l.number l.to

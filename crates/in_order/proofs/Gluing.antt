@@ -1,0 +1,5 @@
+pub mod Names
+pub mod PartRuns
+pub mod Reducible
+pub mod Sound
+pub mod SoundCuts

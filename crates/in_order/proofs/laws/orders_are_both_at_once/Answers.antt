@@ -1,5 +1,0 @@
-use Rattle.in_order.proofs.Orders.BothOrders.{orders_are_both_at_once as law}
-use Rattle.in_order.proofs.laws.orders_are_both_at_once.Goals as goal
-
-pub returns : goal.returns
-returns c = law

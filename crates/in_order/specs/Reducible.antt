@@ -1,0 +1,48 @@
+-- What a reducer keeps of a net with free ends of its own, as a part of a net: that it is sound, in place of that the program reaches it.
+use Rattle.std.specs.Prelude.{◌≡◌, ◌≤◌, ℕ, suc, List, slice_get, Some, count_by, is_some}
+use Rattle.in_net.specs.declared.nets.AgentNo.{AgentNo}
+use Rattle.in_net.specs.Built.{IsOver}
+use Rattle.in_net.specs.Nets.{Net, net_of}
+use Rattle.in_net.specs.Parts.{IsWhole}
+use Rattle.in_net.specs.Rules.{RuleParts}
+use Rattle.in_interaction.specs.Interacting.{most_agents}
+use Rattle.in_cover.specs.Cover.{IsPair, IsRuleOfSymbols}
+use Rattle.in_check.specs.Checking.{IsAccepted}
+use Rattle.in_check.specs.Plain.{PlainParts, IsPlain, StepsTo, StepsAs, IsPairAt, IsRuleAt}
+use Rattle.in_check.specs.Promises.{IsAsPromised}
+use Rattle.in_check.specs.Systems.{IsSound, system_of}
+use Rattle.in_order.specs.PartRuns.{Run}
+
+-- the net is sound for the program's rules, and has its symbols
+pub record IsReducible (p : PlainParts) : Type 0 where
+  pub sound : IsSound (system_of p.program) (net_of p.net)
+  pub over : IsOver p.program.tables p.net
+
+-- a net that the program reaches is one
+abbrev pub PlainIsReducible : Type 0
+PlainIsReducible = (text : List ℕ) (p : PlainParts) → IsAccepted text p.program → IsPlain p → IsReducible p
+
+-- a step leads from one to one, and is one interaction more of a run
+abbrev pub ReducibleSteps : Type 0
+ReducibleSteps = (text : List ℕ) (p q : PlainParts) (a b : AgentNo) → IsAccepted text p.program → IsReducible p → IsPairAt p a b → StepsTo p a b q →
+    IsReducible q × ((k : ℕ) (n : Net ℕ) → Run (system_of p.program) k n (net_of p.net) → Run (system_of p.program) (suc k) n (net_of q.net))
+
+-- .. also under other names of the new agents
+abbrev pub ReducibleStepsUnderNames : Type 0
+ReducibleStepsUnderNames = (text : List ℕ) (p q : PlainParts) (a b : AgentNo) (name : ℕ → ℕ) → IsAccepted text p.program → IsReducible p → IsPairAt p a b → StepsAs p a b name q →
+    IsReducible q × ((k : ℕ) (n : Net ℕ) → Run (system_of p.program) k n (net_of p.net) → Run (system_of p.program) (suc k) n (net_of q.net))
+
+-- each active pair matches, and each rule that is for its symbols, in whichever order, is for them in this one
+abbrev pub ReduciblePairsHaveTheirRule : Type 0
+ReduciblePairsHaveTheirRule = (text : List ℕ) (p : PlainParts) (a b : AgentNo) → IsAccepted text p.program → IsReducible p → (at : IsPairAt p a b) →
+    IsPair p.program.tables at.first.0 at.second.0 × ((i : ℕ) (r : RuleParts) → slice_get p.program.rules i ≡ Some r → IsRuleOfSymbols r at.first.0 at.second.0 → IsRuleAt p a b i r)
+
+-- what a step leads to is one
+abbrev pub ReducibleStepsAreOne : Type 0
+ReducibleStepsAreOne = (text : List ℕ) (p q r : PlainParts) (a b : AgentNo) →
+    IsAccepted text p.program → IsReducible p → IsPairAt p a b → count_by is_some p.net.cells ≤ most_agents →
+    IsWhole q.net → IsWhole r.net → StepsTo p a b q → StepsTo p a b r → q ≡ r
+
+-- .. and the net is as promised
+abbrev pub ReducibleAsPromised : Type 0
+ReducibleAsPromised = (text : List ℕ) (p : PlainParts) → IsAccepted text p.program → IsReducible p → IsAsPromised (system_of p.program) (net_of p.net)

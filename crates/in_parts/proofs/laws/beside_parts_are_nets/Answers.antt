@@ -1,5 +1,0 @@
-use Rattle.in_parts.proofs.BesideNets.{beside_parts_are_nets}
-use Rattle.in_parts.proofs.laws.beside_parts_are_nets.Goals as goal
-
-pub returns : goal.returns
-returns c = beside_parts_are_nets

@@ -1,5 +1,0 @@
-use Rattle.in_parts.proofs.CutDown.{cut_down_is_sound}
-use Rattle.in_parts.proofs.laws.cut_down_is_sound.Goals as goal
-
-pub returns : goal.returns
-returns c = cut_down_is_sound

@@ -1,5 +1,0 @@
-use Rattle.in_parts.proofs.CutDown.{cut_down_leads_are_joined_up}
-use Rattle.in_parts.proofs.laws.cut_down_leads_are_joined_up.Goals as goal
-
-pub returns : goal.returns
-returns c = cut_down_leads_are_joined_up

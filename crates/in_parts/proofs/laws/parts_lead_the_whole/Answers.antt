@@ -1,5 +1,0 @@
-use Rattle.in_parts.proofs.Leading.{parts_lead_the_whole}
-use Rattle.in_parts.proofs.laws.parts_lead_the_whole.Goals as goal
-
-pub returns : goal.returns
-returns c = parts_lead_the_whole

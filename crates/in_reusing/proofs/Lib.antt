@@ -1,0 +1,5 @@
+pub mod Aside
+pub mod InPlace
+pub mod Public
+pub mod StepsInPlace
+pub mod Unmarked

@@ -1,0 +1,4 @@
+pub mod Aside
+pub mod InPlace
+pub mod StepsInPlace
+pub mod Unmarked

@@ -1,0 +1,48 @@
+//! Laws over interactions in place. No function here does anything.
+
+ghost use Rattle.in_reusing.specs.Aside.{PairsAsideAreAlike};
+ghost use Rattle.in_reusing.specs.InPlace.{InPlaceExists, InPlaceIsAStep, InPlaceIsOne};
+ghost use Rattle.in_reusing.specs.StepsInPlace.{StepsInPlaceAreSame, StepsInPlaceAreSteps};
+ghost use Rattle.in_reusing.specs.Unmarked.{UnmarkedLeadNoneBack, UnmarkedPairsOfSoundNetsAreApart};
+
+/// What is said of a net in which an active pair has other numbers, all others being as they are, is said of the net itself, where no wire
+/// leads back to the pair. So new agents may have the numbers that the pair had.
+pub fn pairs_aside_are_alike()
+    ensures { PairsAsideAreAlike }
+{}
+
+/// What overwrites partners in the net itself, its new agents under any numbers that no other agent has, those of the pair among them, is the
+/// interaction of the net in which the pair has other numbers.
+pub fn reuse_is_a_step()
+    ensures { InPlaceIsAStep }
+{}
+
+/// There is a net that is so overwritten.
+pub fn reuse_exists()
+    ensures { InPlaceExists }
+{}
+
+/// There is one such net.
+pub fn reuse_is_one()
+    ensures { InPlaceIsOne }
+{}
+
+/// An interaction in place of a reducer is one up to numbers.
+pub fn steps_in_place_are_steps()
+    ensures { StepsInPlaceAreSteps }
+{}
+
+/// And it leads to one reducer up to numbers.
+pub fn steps_in_place_are_same()
+    ensures { StepsInPlaceAreSame }
+{}
+
+/// In a sound net of a sound system no wire leads back to an active pair of which neither symbol is marked.
+pub fn unmarked_pairs_of_sound_nets_are_apart()
+    ensures { UnmarkedPairsOfSoundNetsAreApart }
+{}
+
+/// So none does to such a pair of a reducer.
+pub fn unmarked_lead_none_back()
+    ensures { UnmarkedLeadNoneBack }
+{}

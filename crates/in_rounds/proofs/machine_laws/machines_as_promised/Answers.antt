@@ -1,5 +1,0 @@
-use Rattle.in_rounds.proofs.StepsOn.{machine_promised}
-use Rattle.in_rounds.proofs.machine_laws.machines_as_promised.Goals as goal
-
-pub returns : goal.returns
-returns c = machine_promised

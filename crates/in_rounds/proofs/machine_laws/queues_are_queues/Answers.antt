@@ -1,5 +1,0 @@
-use Rattle.in_rounds.proofs.StepsOn.{machine_queue}
-use Rattle.in_rounds.proofs.machine_laws.queues_are_queues.Goals as goal
-
-pub returns : goal.returns
-returns c = machine_queue

@@ -1,5 +1,0 @@
-use Rattle.in_rounds.proofs.Rounded.{runs_on}
-use Rattle.in_rounds.proofs.machine_laws.rounds_run_on.Goals as goal
-
-pub returns : goal.returns
-returns c = runs_on

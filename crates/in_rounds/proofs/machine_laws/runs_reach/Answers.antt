@@ -1,5 +1,0 @@
-use Rattle.in_rounds.proofs.SameRun.{run_keeps}
-use Rattle.in_rounds.proofs.machine_laws.runs_reach.Goals as goal
-
-pub returns : goal.returns
-returns c = λ m n j k machine reached run. (run_keeps m n j k machine.plain reached run).1

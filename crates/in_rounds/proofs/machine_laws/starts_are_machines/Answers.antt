@@ -1,5 +1,0 @@
-use Rattle.in_rounds.proofs.SameStart.{start_machine}
-use Rattle.in_rounds.proofs.machine_laws.starts_are_machines.Goals as goal
-
-pub returns : goal.returns
-returns c = λ text p cells m accepted few h. start_machine text p accepted cells m h few

@@ -1,5 +1,0 @@
-use Rattle.in_rounds.proofs.SameStart.{same_start}
-use Rattle.in_rounds.proofs.machine_laws.starts_are_same.Goals as goal
-
-pub returns : goal.returns
-returns c = λ text p cells m n accepted h g. same_start text p accepted cells m n h g

@@ -1,0 +1,27 @@
+-- What the hands of a round have together, once they are back.
+use Rattle.std.specs.Prelude.{◌≡◌, ℕ, List, [], ◌∷◌, ◌++◌, Some, slice_get, All}
+use Rattle.in_arena.specs.Arenas.{ArenaView}
+use Rattle.in_compile.specs.Templates.{TemplatesParts}
+use Rattle.in_rounds.specs.Dones.{DoneParts}
+use Rattle.in_rounds.specs.declared.gather.Slot.{Slot}
+use Rattle.in_rounds.specs.declared.gather.Slot.TheVariants.{Kept}
+use Rattle.in_rounds.specs.Works.{bags}
+use Rattle.in_rounds.specs.declared.hand.Hand.{Hand}
+
+-- the cells of a hand, in its stock and in what it has done; of all hands
+abbrev pub in_hand : Hand → List ArenaView
+in_hand p = p.stock.bag ∷ bags p.done.items
+
+abbrev pub in_hands : List Hand → List ArenaView
+in_hands [] = []
+in_hands (p ∷ ps) = in_hand p ++ in_hands ps
+
+-- all that is kept was made with these templates
+abbrev pub AreMadeWith : TemplatesParts → List Slot → Type 0
+AreMadeWith ts slots = (k : ℕ) (d : DoneParts) → slice_get slots k ≡ Some (Kept d) → d.templates ≡ ts
+
+abbrev pub IsHandMadeWith : TemplatesParts → Hand → Type 0
+IsHandMadeWith ts p = All (λ (d : DoneParts). d.templates ≡ ts) p.done.items
+
+abbrev pub HandsAreMadeWith : TemplatesParts → List Hand → Type 0
+HandsAreMadeWith ts ps = All (IsHandMadeWith ts) ps

@@ -1,0 +1,47 @@
+-- Laws over what is gathered, and over rounds.
+use Rattle.std.specs.Prelude.{◌≡◌, ◌<◌, ◌≤◌, ◌+◌, ◌-◌, ℕ, List, [], ◌∷◌, Option, Result, Ok, Some}
+use Rattle.in_arena.specs.Arenas.{ArenaView}
+use Rattle.in_machine.specs.Machines.{IsMachine}
+use Rattle.in_names.specs.Same.{AreSame}
+use Rattle.in_reducer.specs.Machines.{MachineParts}
+use Rattle.in_reducer.specs.Runs.{Runs}
+use Rattle.in_rounds.specs.Dones.{DoneParts}
+use Rattle.in_rounds.specs.Gathers.{GatherParts, Puts, TakesDone, bags_of}
+use Rattle.in_rounds.specs.Holding.{holders}
+use Rattle.in_rounds.specs.Rounds.{IsFront, IsRound}
+use Rattle.in_rounds.specs.declared.gather.Why.{Why}
+
+-- ---- no cell is lost
+
+-- what the one list of bags has and what the other has is what the third has
+abbrev pub Shares : List ArenaView → List ArenaView → List ArenaView → Type 0
+Shares bs cs both = (n : ℕ) → holders n both ≡ holders n bs + holders n cs
+
+abbrev pub PuttingLosesNone : Type 0
+PuttingLosesNone = (g h : GatherParts) (d : DoneParts) (u : Unit {0}) → Puts g d (Ok u) h → Shares (d.placed.placed.bag ∷ []) (bags_of g.slots) (bags_of h.slots)
+
+abbrev pub TakingLosesNone : Type 0
+TakingLosesNone = (g h : GatherParts) (job : ℕ) (d : DoneParts) → TakesDone g job (Some d) h → Shares (d.placed.placed.bag ∷ []) (bags_of h.slots) (bags_of g.slots)
+
+-- ---- one answer
+
+abbrev pub PutsAreOne : Type 0
+PutsAreOne = (g h i : GatherParts) (d : DoneParts) (r s : Result (Unit {0}) (DoneParts × Why)) → Puts g d r h → Puts g d s i → (r ≡ s) × (h ≡ i)
+
+abbrev pub TakesAreOne : Type 0
+TakesAreOne = (g h i : GatherParts) (job : ℕ) (r s : Option DoneParts) → TakesDone g job r h → TakesDone g job s i → (r ≡ s) × (h ≡ i)
+
+-- ---- rounds
+
+-- whoever takes the first pairs in turn until there are no more jobs, or no room for the next one, does a round
+abbrev pub RoundsEnd : Type 0
+RoundsEnd = (m n : MachineParts) (budget k : ℕ) → IsMachine m → IsFront m budget n k → IsRound m budget n k
+
+-- rounds of machines that are the same up to numbers, with one budget, have one count, and leave machines that are the same
+abbrev pub RoundsAreSame : Type 0
+RoundsAreSame = (start other m n : MachineParts) (budget j k : ℕ) → IsMachine start → IsMachine other → AreSame start other → IsRound start budget m j → IsRound other budget n k →
+    AreSame m n × (j ≡ k)
+
+-- a round after a run is a longer run, within its limit
+abbrev pub RoundsRunOn : Type 0
+RoundsRunOn = (start m n : MachineParts) (limit j k : ℕ) → Runs start j m → j < limit → IsRound m (limit - j) n k → Runs start (k + j) n × (k + j ≤ limit) × (j < k + j)

@@ -1,0 +1,164 @@
+// Where what was done is kept, by the numbers of the jobs.
+ghost use Rattle.std.specs.Prelude.{◌≡◌, ◌⊎◌, ◌<◌, true, false, [], IfOk, replicate, length, Some, slice_get};
+ghost use Rattle.in_rounds.specs.declared.gather.Slot.TheVariants.{Fresh, Kept, Taken};
+ghost use Rattle.in_rounds.specs.Dones.{DoneParts};
+ghost use Rattle.in_rounds.specs.Gathers.{bags_of, new_gather, Puts, TakesDone};
+ghost use Rattle.in_rounds.specs.Holding.{AreBagsOf, Returns};
+
+use crate::done::Done;
+use in_arena::Arena;
+use in_symbols::SymbolNo;
+use std::alloc::{AllocError, Global};
+use std::marker::Model;
+use std::mem;
+
+/// Why a `Done` isn't kept: one of its job was put before, or the list has no job of its number with its symbols.
+#[derive(Clone, Copy, Debug, PartialEq, Eq)]
+pub enum Why {
+    Double,
+    Stranger,
+}
+
+/// What became of a job: nothing was put for it yet; what was put is kept; or it was put and taken.
+#[derive(Drop)]
+pub(crate) enum Slot<'t> {
+    Fresh,
+    Kept(Done<'t>),
+    Taken,
+}
+
+/// Keeps what was done for each job of a list, by the job's number: which jobs a round has, and in which order, is this project's own choice.
+///
+/// It is to be spent: the cells of what it keeps are leased until then.
+#[derive(Drop)]
+pub struct Gather<'t> {
+    jobs: Vec<(SymbolNo, SymbolNo)>,
+    slots: Vec<Slot<'t>>,
+}
+
+impl<'t> Model for Gather<'t> {
+    ghost use Rattle.std.specs.Prelude.{◌≡◌, length};
+    ghost use Rattle.in_rounds.specs.Gathers.{GatherParts};
+
+    ghost Value = { GatherParts };
+
+    ghost view = { λ g. record { jobs = g.jobs.items; slots = g.slots.items } };
+
+    ghost invariant = { λ g. length g.slots.items ≡ length g.jobs.items };
+}
+
+/// A slot for each job, for which nothing was put.
+fn fresh<'t>(alloc: Global, count: usize) -> Result<Vec<Slot<'t>>, AllocError>
+    ensures { IfOk result (λ v. v.items ≡ replicate count Fresh) }
+{
+    let mut slots = Vec::with_capacity(alloc, count)?;
+    for _made in 0..count {
+        slots.push_reserved(Slot::Fresh);
+    }
+    Ok(slots)
+}
+
+fn copied(
+    alloc: Global,
+    jobs: &[(SymbolNo, SymbolNo)],
+) -> Result<Vec<(SymbolNo, SymbolNo)>, AllocError>
+    ensures { IfOk result (λ v. v.items ≡ jobs.now) }
+{
+    let mut list = Vec::with_capacity(alloc, jobs.len())?;
+    for job in jobs {
+        list.push_reserved(*job);
+    }
+    Ok(list)
+}
+
+/// Whether the list has this job, with these symbols.
+fn has_job(jobs: &[(SymbolNo, SymbolNo)], done: &Done) -> bool
+    ensures yes { result ≡ true → slice_get jobs.now done.now.job ≡ Some done.now.heads }
+    ensures no_job { result ≡ false → slice_get jobs.now done.now.job ≡ Some done.now.heads → ⊥ }
+{
+    let (constructor, destructor) = done.heads();
+    match jobs.get(done.job() as usize) {
+        Some(heads) => heads.0 == constructor && heads.1 == destructor,
+        None => false,
+    }
+}
+
+/// Whether nothing was put for the job, which is in the list.
+fn is_fresh(slots: &[Slot], job: u32) -> bool
+    requires { job < length slots.now }
+    ensures yes { result ≡ true → slice_get slots.now job ≡ Some Fresh }
+    ensures other { result ≡ false → ((d : DoneParts) × (slice_get slots.now job ≡ Some (Kept d))) ⊎ (slice_get slots.now job ≡ Some Taken) }
+{
+    match &slots[job as usize] {
+        Slot::Fresh => true,
+        Slot::Kept(_) | Slot::Taken => false,
+    }
+}
+
+/// Gives back what is kept.
+fn spend_all(mut slots: Vec<Slot>, arena: &mut Arena)
+    requires { AreBagsOf (bags_of slots.items) arena.old }
+    ensures { Returns (bags_of slots.entry.items) [] arena.old arena.new }
+{
+    while let Some(slot) = slots.pop() {
+        if let Slot::Kept(done) = slot {
+            done.spend(arena);
+        }
+    }
+}
+
+impl<'t> Gather<'t> {
+    /// Nothing was put yet. The list has for each job, by its number, the symbols of its pair, the constructor first. Refused only when out
+    /// of memory; no other call takes memory.
+    pub fn new(alloc: Global, jobs: &[(SymbolNo, SymbolNo)]) -> Result<Gather<'t>, AllocError>
+        ensures { IfOk result (λ g. g ≡ new_gather jobs.now) }
+    {
+        let slots = fresh(alloc, jobs.len())?;
+        let jobs = copied(alloc, jobs)?;
+        Ok(Gather { jobs, slots })
+    }
+
+    /// Keeps what was done for its job. Refused, and handed back, where the list has no job of its number with its symbols (`Stranger`,
+    /// tested first), and where one of that job was put before (`Double`), also if that was taken.
+    pub fn put(&mut self, done: Done<'t>) -> Result<(), (Done<'t>, Why)>
+        ensures { Puts self.old done.entry result self.new }
+    {
+        if !has_job(self.jobs.as_slice(), &done) {
+            return Err((done, Why::Stranger));
+        }
+        let job = done.job();
+        if !is_fresh(self.slots.as_slice(), job) {
+            return Err((done, Why::Double));
+        }
+        self.slots[job as usize] = Slot::Kept(done);
+        Ok(())
+    }
+
+    /// What is kept for the job of that number, which is then kept no more; or nothing where none is kept.
+    pub fn take(&mut self, job: u32) -> Option<Done<'t>>
+        ensures { TakesDone self.old job result self.new }
+    {
+        let index = job as usize;
+        if index >= self.slots.len() {
+            return None;
+        }
+        if let Slot::Kept(_) = &self.slots[index] {
+            match mem::replace(&mut self.slots[index], Slot::Taken) {
+                Slot::Kept(done) => Some(done),
+                // The slot was looked at just now, and it keeps one.
+                _ => unreachable!(),
+            }
+        } else {
+            None
+        }
+    }
+
+    /// Gives back the cells of all that was put and not taken: they are free. These have to be of this arena. It takes no memory.
+    pub fn spend(self, arena: &mut Arena)
+        requires { AreBagsOf (bags_of self.slots) arena.old }
+        ensures { Returns (bags_of self.entry.slots) [] arena.old arena.new }
+    {
+        let Gather { jobs: _, slots } = self;
+        spend_all(slots, arena);
+    }
+}

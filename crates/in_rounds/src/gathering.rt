@@ -1,0 +1,67 @@
+// The workers' part of a round.
+ghost use Rattle.std.specs.Prelude.{◌≡◌, ◌≤◌, ◌<◌, ◌+◌, ◌^◌, length, IfOk, OnErr};
+ghost use Rattle.in_arena.specs.Arenas.{NoneLeased, free_of};
+ghost use Rattle.in_rounds.specs.Gathers.{bags_of};
+ghost use Rattle.in_rounds.specs.Bringing.{AreMadeWith};
+ghost use Rattle.in_rounds.specs.Lending.{AreLentOut, IsShare};
+
+use crate::bringing::bring_all;
+use crate::gather::Gather;
+use crate::lending::{hands, lend};
+use crate::plan::Plan;
+use crate::threads::all;
+use crate::working::Worker;
+use in_arena::Arena;
+use in_claims::{Board, Gate};
+use in_compile::Need;
+use std::alloc::{AllocError, Global};
+use std::sync::Wait;
+use std::thread::Threads;
+
+/// Lets `workers` workers, 1 to 64, of which the caller is one, claim the plan's jobs and place their templates in cells of the arena, each
+/// with its share of the free ones; and gathers what they did. Says how many threads were started. Each worker claims while its stock holds
+/// the most that a job can need, and passes the gate after each claim. What isn't used is free again.
+///
+/// All memory but what starting a thread takes is taken before the first cell is lent: refused only when out of memory, and then the arena
+/// is as it was. A thread that can't be started is no fault: the caller does its part. It waits for its threads.
+pub fn gather_jobs<'t, R: Threads + Wait, G: Gate + Sync>(
+    rt: &R,
+    alloc: Global,
+    plan: &Plan<'t>,
+    workers: u32,
+    share: Need,
+    arena: &mut Arena,
+    gate: &G,
+) -> Result<(Gather<'t>, u32), AllocError>
+    requires some { 1 ≤ workers }
+    requires most { workers ≤ 64 }
+    requires few { length plan.now.jobs < 2 ^ 31 }
+    requires none { NoneLeased arena.old }
+    requires share { IsShare workers share (free_of arena.old) }
+    ensures lent { IfOk result (λ r. AreLentOut (bags_of r.0.slots) arena.old arena.new) }
+    ensures jobs { IfOk result (λ r. r.0.jobs ≡ plan.now.jobs) }
+    ensures made { IfOk result (λ r. AreMadeWith plan.now.templates r.0.slots) }
+    ensures threads { IfOk result (λ r. r.1 + 1 ≤ workers) }
+    ensures refused { OnErr result (arena.new ≡ arena.old) }
+{
+    let jobs = plan.jobs.len() as u32;
+    let (board, seats) = Board::new(alloc, jobs, workers)?;
+    let mut gather = Gather::new(alloc, plan.jobs)?;
+    let fresh = hands(alloc, plan, &board, arena, seats, share, jobs / workers + 1)?;
+    let lent = Vec::with_capacity(alloc, workers as usize)?;
+    let back = Vec::with_capacity(alloc, workers as usize)?;
+    let begun = Vec::with_capacity(alloc, workers as usize)?;
+    let mut others = lend(fresh, lent, plan, &board, share, arena);
+    let Some(mine) = others.pop() else {
+        // There is one worker at least, and each has its hand.
+        unreachable!()
+    };
+    let worker = Worker {
+        plan,
+        board: &board,
+        gate,
+    };
+    let (back, threads) = all(rt, &worker, mine, others, begun, back);
+    bring_all(back, plan.templates, &mut gather, arena);
+    Ok((gather, threads))
+}

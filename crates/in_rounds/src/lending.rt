@@ -1,0 +1,108 @@
+// What the workers of a round have before it begins.
+ghost use Rattle.std.specs.Prelude.{◌≡◌, ◌≤◌, ◌<◌, ◌++◌, ◌+◌, [], replicate, length, All, IfOk, vec_len, vec_capacity};
+ghost use Rattle.in_arena.specs.Arenas.{NoneLeased, free_of};
+ghost use Rattle.in_claims.specs.Seats.{fresh};
+ghost use Rattle.in_compile.specs.Stocks.{empty_stock};
+ghost use Rattle.in_rounds.specs.Bringing.{in_hands};
+ghost use Rattle.in_rounds.specs.Lending.{AreLentOut, IsFreshHand, IsShare};
+ghost use Rattle.in_rounds.specs.Works.{IsEmptyRoom, IsReady};
+
+use crate::hand::Hand;
+use crate::plan::Plan;
+use in_arena::Arena;
+use in_claims::{Board, Seat};
+use in_compile::{Need, Placed, Stock};
+use in_net::MAX_MEMBER_AGENTS;
+use std::alloc::{AllocError, Global};
+
+/// Rooms for `count` templates.
+fn rooms_for(
+    alloc: Global,
+    arena: &Arena,
+    stock: &Stock,
+    count: u32,
+) -> Result<Vec<Placed>, AllocError>
+    requires { (stock.now.bag.memory ≡ arena.now.memory) × (stock.now.bag.cells ≡ arena.now.cells) }
+    ensures each { IfOk result (λ v. All (IsEmptyRoom stock.now) v.items) }
+    ensures count { IfOk result (λ v. vec_len v ≡ count) }
+{
+    let mut rooms = Vec::with_capacity(alloc, count as usize)?;
+    for _made in 0..count {
+        rooms.push_reserved(Placed::empty(alloc, arena, MAX_MEMBER_AGENTS as u32)?);
+    }
+    Ok(rooms)
+}
+
+/// A worker with this seat, room for its jobs, and a stock that has room for its share of the cells and none of them yet.
+fn hand<'t>(
+    alloc: Global,
+    plan: &Plan<'t>,
+    board: &Board,
+    arena: &Arena,
+    seat: Seat,
+    share: Need,
+    rooms: u32,
+) -> Result<Hand<'t>, AllocError>
+    requires seat { seat ≡ fresh board.now }
+    requires limit { board.now.limit ≤ length plan.now.jobs }
+    ensures { IfOk result (IsFreshHand plan.now board.now arena.now share) }
+{
+    let stock = Stock::empty(alloc, arena, share)?;
+    let done = Vec::with_capacity(alloc, rooms as usize)?;
+    let rooms = rooms_for(alloc, arena, &stock, rooms)?;
+    Ok(Hand {
+        seat,
+        stock,
+        rooms,
+        done,
+    })
+}
+
+/// A worker for each seat.
+pub(crate) fn hands<'t>(
+    alloc: Global,
+    plan: &Plan<'t>,
+    board: &Board,
+    arena: &Arena,
+    seats: Vec<Seat>,
+    share: Need,
+    rooms: u32,
+) -> Result<Vec<Hand<'t>>, AllocError>
+    requires seats { All (λ s. s ≡ fresh board.now) seats.items }
+    requires limit { board.now.limit ≤ length plan.now.jobs }
+    ensures each { IfOk result (λ v. All (IsFreshHand plan.now board.now arena.now share) v.items) }
+    ensures count { IfOk result (λ v. vec_len v ≡ vec_len seats) }
+{
+    let mut hands = Vec::with_capacity(alloc, seats.len())?;
+    let mut seats = seats;
+    while let Some(seat) = seats.pop() {
+        hands.push_reserved(hand(alloc, plan, board, arena, seat, share, rooms)?);
+    }
+    Ok(hands)
+}
+
+/// Each worker gets its share of the cells. The list for them is empty and has room for all, so that no memory is taken.
+pub(crate) fn lend<'t>(
+    mut hands: Vec<Hand<'t>>,
+    mut lent: Vec<Hand<'t>>,
+    plan: &Plan<'t>,
+    board: &Board,
+    share: Need,
+    arena: &mut Arena,
+) -> Vec<Hand<'t>>
+    requires none { NoneLeased arena.old }
+    requires hands { All (IsFreshHand plan.now board.now arena.old share) hands.items }
+    requires share { IsShare (vec_len hands) share (free_of arena.old) }
+    requires room { (lent.items ≡ []) × (vec_len hands ≤ vec_capacity lent) }
+    ensures lent { AreLentOut (in_hands result.items) arena.old arena.new }
+    ensures ready { All (IsReady plan.now board.now) result.items }
+    ensures none_done { All (λ p. p.done.items ≡ []) result.items }
+    ensures count { vec_len result ≡ vec_len hands.entry }
+{
+    arena.cells();
+    while let Some(mut hand) = hands.pop() {
+        hand.stock.add(arena, share);
+        lent.push_reserved(hand);
+    }
+    lent
+}

@@ -1,0 +1,44 @@
+// How many cells each worker of a round is lent.
+ghost use Rattle.std.specs.Prelude.{◌≤◌, ◌*◌};
+ghost use Rattle.in_arena.specs.declared.content.CellClass.{CellClass as Class};
+ghost use Rattle.in_compile.specs.Cells.{count_of};
+ghost use Rattle.in_rounds.specs.Lending.{IsShare};
+
+use in_compile::Need;
+
+/// As many cells as `jobs` jobs can need, or as there are.
+fn at_most(there: u32, largest: u32, jobs: u32) -> u32
+    requires { 1 ≤ jobs }
+    ensures most { result ≤ there }
+    ensures once { largest ≤ there → largest ≤ result }
+{
+    let wanted = u64::from(largest) * u64::from(jobs);
+    if wanted < u64::from(there) {
+        wanted as u32
+    } else {
+        there
+    }
+}
+
+/// How many of the free cells each of `workers` workers is lent: as many as `jobs` jobs can need, or its part of them; and none where that is
+/// less than one job can need. The sizes are this project's own choice.
+pub(crate) fn share_of(free: Need, workers: u32, largest: Need, jobs: u32) -> Need
+    requires some { 1 ≤ workers }
+    requires jobs { 1 ≤ jobs }
+    ensures share { IsShare workers result (count_of free) }
+    ensures once { ((c : Class) → workers * count_of largest c ≤ count_of free c) → (c : Class) → count_of largest c ≤ count_of result c }
+{
+    let part = Need {
+        small: free.small / workers,
+        large: free.large / workers,
+        wide: free.wide / workers,
+    };
+    if largest.first_short(part).is_some() {
+        return Need::each(0);
+    }
+    Need {
+        small: at_most(part.small, largest.small, jobs),
+        large: at_most(part.large, largest.large, jobs),
+        wide: at_most(part.wide, largest.wide, jobs),
+    }
+}

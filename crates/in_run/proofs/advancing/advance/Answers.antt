@@ -1,0 +1,23 @@
+use Rattle.std.proofs.Common.{◌≡◌, ◌+◌, ◌-◌, ℕ, subst, arith}
+use Rattle.in_run.specs.Advancing.{RunsAnyhow, no_step, then_any}
+use Rattle.in_run.proofs.StatesOfRuns.{takes_some, up_to_numbers_anyhow}
+use Rattle.in_run.proofs.advancing.advance.Goals as goal
+
+pub returns-then-workers-eq1-clause-goes : goal.returns-then-workers-eq1-clause-goes
+returns-then-workers-eq1-clause-goes g c = up_to_numbers_anyhow c.args.machine.now c.take_first.new.self c.take_first.result c.take_first.ensures.runs
+
+pub returns-then-workers-eq1-clause-some : goal.returns-then-workers-eq1-clause-some
+returns-then-workers-eq1-clause-some g c =
+    let goes = c.requires in
+    let limit = c.limit.ensures.limit in
+    let within = goes.1 in
+    takes_some c.args.machine.now c.take_first.new.self c.take_first.result (c.limit.result - c.args.interactions) c.take_first.ensures.runs goes.0 goes.2 (omega (arith, limit, within)) c.take_first.ensures.fewer
+
+pub returns-then-interactions-lt-PHASES_FROM-clause-goes : goal.returns-then-interactions-lt-PHASES_FROM-clause-goes
+returns-then-interactions-lt-PHASES_FROM-clause-goes g c = let m = c.args.machine.now in then_any m m c.step.new.self 0 0 (no_step m) c.step.ensures.steps
+
+pub returns-clause-goes : goal.returns-clause-goes
+returns-clause-goes g c =
+    let m = c.args.machine.now in
+    subst (λ (k : ℕ). RunsAnyhow m k c.by_parts.new.machine) (let z : c.by_parts.result + 1 ≡ 1 + c.by_parts.result = omega arith in z)
+    (c.by_parts.ensures.goes m 1 (then_any m m c.step.new.self 0 0 (no_step m) c.step.ensures.steps))

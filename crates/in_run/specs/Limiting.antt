@@ -1,8 +1,0 @@
--- The limits of a run. This project's own choice.
-use Rattle.std.specs.Prelude.{ℕ}
-
-abbrev pub most_workers : ℕ
-most_workers = 64
-
-abbrev pub most_interactions : ℕ
-most_interactions = 1000000000000

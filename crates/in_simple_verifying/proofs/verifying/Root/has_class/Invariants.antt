@@ -1,5 +1,0 @@
-use Rattle.in_simple_verifying.specs.Checking.{IsOpen}
-use Rattle.in_simple_verifying.proofs.verifying.Root.has_class.Given as goal
-
-abbrev pub invariant-loop-wire : goal.invariant-loop-wire
-invariant-loop-wire l = IsOpen l.self.net.now l.self.node l.class l.built.ends l.wire

@@ -1,5 +1,0 @@
-use Rattle.in_simple_verifying.proofs.VerifyEnds.{IsAddedTo}
-use Rattle.in_simple_verifying.proofs.verifying.add_ends.Given as goal
-
-abbrev pub invariant-loop-wire : goal.invariant-loop-wire
-invariant-loop-wire l = IsAddedTo l.more l.initial.ends l.ends l.wire

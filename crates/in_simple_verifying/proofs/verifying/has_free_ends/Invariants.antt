@@ -1,5 +1,0 @@
-use Rattle.in_simple_verifying.specs.Checking.{HasFreeEnds}
-use Rattle.in_simple_verifying.proofs.verifying.has_free_ends.Given as goal
-
-abbrev pub invariant-loop-wire : goal.invariant-loop-wire
-invariant-loop-wire l = HasFreeEnds l.«open» l.built l.wire

@@ -1,4 +1,0 @@
-pub mod Bringing
-pub mod Lending
-pub mod Plans
-pub mod Works
