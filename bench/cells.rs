@@ -1,4 +1,4 @@
-// The turns of `crates/in_arena_bench` in plain Rust: the same calls, with unchecked pointers. Built and run by `bench/cells`.
+// The turns of `bench/in_arena_bench` in plain Rust: the same calls, with unchecked pointers. Built and run by `bench/cells`.
 use std::alloc::{Layout, alloc, dealloc};
 use std::time::Instant;
 

@@ -5,7 +5,7 @@
 // alone took, by the least of the times, and by the first one, which is the first to touch the memory. With `net` it then prints the
 // net as `inet run` does.
 //
-// reducer numbers < TEXT      prints the text's program as the numbers that `crates/in_reducer_bench` reads and describes.
+// reducer numbers < TEXT      prints the text's program as the numbers that `bench/in_reducer_bench` reads and describes.
 //
 // The text is one that `inet check` accepts; nothing is checked here. All cells lie in one row of words, and an end is the number of a
 // word in it: joining two ends is two stores, whatever they are ends of.

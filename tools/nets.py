@@ -11,6 +11,8 @@ import sys
 
 # Limits of `inet run`: it stops at as many interactions where it isn't told otherwise.
 USUAL_LIMIT = 1_000_000
+# The form of the line that these tools read.
+FORMAT = 1
 
 
 def is_principal(point):
@@ -44,11 +46,16 @@ class Program:
 
     @staticmethod
     def read(file):
-        """The program on this file; where it was refused, the line that says so ends the tool."""
+        """The program on this file. What is no line of this form ends the tool, with the reason: where the program was refused or memory ran out, its line."""
         text = file.read()
+        if text.startswith(("refused", "memory")):
+            sys.exit(text.strip())
         if not text.startswith("{"):
-            sys.exit(text.strip() or "no program was read")
-        return Program(json.loads(text))
+            sys.exit("no exported program on standard input: write inet_export < PROGRAM.inet | ..")
+        data = json.loads(text)
+        if data.get("format") != FORMAT:
+            sys.exit(f"this line has format {data.get('format', 'none')}, and this tool reads format {FORMAT} alone (docs/use/EXPORT.md)")
+        return Program(data)
 
     def places(self, rule):
         """The auxiliary ports that a rule's boundary ends stand for: the number of a head (0: the constructor) and the place."""

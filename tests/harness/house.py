@@ -2,11 +2,14 @@
 import glob
 import os
 import re
+import sys
 from collections import defaultdict
 
 HERE = os.path.dirname(os.path.abspath(__file__))
 TOP = os.path.join(HERE, "..", "..")
 CRATES = os.path.join(TOP, "crates")
+sys.path.insert(0, os.path.join(TOP, "tools"))
+import libraries
 # The lemmas on lists and graphs are for everybody: this crate has them by subject, in no module Public.
 FOR_EVERYBODY = {"in_base"}
 CITED = re.compile(r"^\s*(?:unfoldable )?(?:pub )?use (?:package\.)?Rattle\.(in\w+)\.proofs\.(\w+)", re.MULTILINE)
@@ -14,8 +17,6 @@ TYPE = re.compile(r"^\s*(?:pattern |unfoldable |abbrev )*pub (?:data |record )?(
 # What a crate gives out of its own modules, and what its first file declares.
 EXPORT = re.compile(r"^pub use (?!in_)([\w:]+?)(?:::\{([^}]*)\})?;", re.MULTILINE)
 DECLARED = re.compile(r"^pub (?:fn|struct|enum|trait|const) (\w+)", re.MULTILINE)
-# A line of crates.txt that has a crate's libraries, and the one below it that has those that the crate never names.
-LIBRARIES = re.compile(r"^(in\w+)(?: [^:\n]*)?:(.*)\n(?:#     for contracts alone:(.*)\n)?", re.MULTILINE)
 # Words that were used here, and what the field says in their place.
 RETIRED = {
     r"want of (?:memory|cells|steps)": "out of memory, lack of cells",
@@ -70,34 +71,14 @@ def wrong_exports():
     return "; ".join(f"{name} of {' and '.join(sorted(crates))}" for name, crates in sorted(homes.items()) if len(crates) > 1)
 
 
-def code_of(crate):
-    """The lines of a crate's sources, specs and proofs, with their paths, and whether each is a comment."""
-    for folder in ("src", "specs", "proofs"):
-        for path in sorted(glob.glob(os.path.join(CRATES, crate, folder, "**", "*.*t*"), recursive=True)):
-            with open(path, encoding="utf-8") as file:
-                for line in file:
-                    yield os.path.relpath(path, CRATES), line, line.lstrip().startswith(("//", "--"))
-
-
 def wrong_libraries():
-    """Crates that name libraries which crates.txt lists for contracts alone, or don't name others."""
-    with open(os.path.join(CRATES, "..", "crates.txt"), encoding="utf-8") as file:
-        listed = LIBRARIES.findall(file.read())
-    wrong = []
-    for crate, libraries, alone in listed:
-        words = set()
-        for _, line, is_comment in code_of(crate):
-            if not is_comment:
-                words.update(re.findall(r"\w+", line))
-        unnamed = set(libraries.split()) - words
-        if unnamed != set(alone.split()):
-            wrong.append(f"{crate} doesn't name {' '.join(sorted(unnamed)) or 'nothing'}")
-    return "; ".join(wrong)
+    """Crates whose line in crates.txt isn't what they name."""
+    return "; ".join(f"{crate}: too many {' '.join(unnamed) or 'none'}, lacking {' '.join(lacking) or 'none'}" for crate, (unnamed, lacking) in libraries.wrong().items())
 
 
 def prose():
     """What people read: each file of the crates, the documents, the tests and the measurements, as one line without the marks of comments."""
-    patterns = ["README.md", "crates.txt", "docs/**/*.md", "tests/**/*", "bench/*", "tools/*", "include/*"]
+    patterns = ["README.md", "crates.txt", "docs/**/*.md", "tests/**/*", "bench/**/*", "tools/*", "include/*"]
     patterns += [f"crates/*/{folder}/**/*.*t*" for folder in ("src", "specs", "proofs")]
     for pattern in patterns:
         for path in sorted(glob.glob(os.path.join(TOP, pattern), recursive=True)):
@@ -122,5 +103,5 @@ def house(_program):
     yield "only Public is cited across crates", wrong_citations
     yield "one name, one home", wrong_homes
     yield "one name, one crate", wrong_exports
-    yield "libraries that are there for contracts alone", wrong_libraries
+    yield "crates.txt lists what each crate names", wrong_libraries
     yield "words of the field", retired_words

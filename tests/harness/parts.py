@@ -1,4 +1,4 @@
-"""Nets that are reduced in parts, by threads of their own: by the program `in_forced_phases`, which does so at every chance, and by `inet run`
+"""Nets that are reduced in parts, by threads of their own: by `in_harness phases`, which does so at every chance, and by `inet run`
 in long runs. What ends has the text and the count of one worker; what stops before goes on to them.
 """
 import itertools
@@ -8,11 +8,11 @@ import re
 from functools import partial
 
 from harness import generated
-from harness.programs import ACCEPTED, EXAMPLES, FULL, HERE, LIMIT, ROWS, Program, answering, text_of
+from harness.asked import harness_program
+from harness.programs import ACCEPTED, EXAMPLES, FULL, LIMIT, ROWS, answering, text_of
 from harness.refusals import LINE, Refuser, refused_memory
 from harness.rows import sessions
 
-BUILT = os.path.join(HERE, "..", "..", "crates", "in_forced_phases", "out", "in_forced_phases")
 # How a run is forced into parts: how many, after how many interactions in turn each time, and with how many in a phase, or none: then a net
 # is split and glued again. Where nothing is ever done there is no run.
 PARTS = (1, 2, 3, 8)
@@ -60,7 +60,7 @@ FORCED_ANSWER = re.compile(rb"(?s)(.*)interactions: (\d+)\nphases: (\d+)\n")
 RUN_ANSWER = re.compile(rb"(?s)(.*)interactions: (\d+)\nstop: [^\n]*\n")
 NET = re.compile(r"(?s)(.*)\bnet\s*(\([^()]*\))\s*\{[^{}]*\}\s*")
 VARIABLE = re.compile(r"\bv\d+\b")
-NONE = b"none\n"
+NONE, NO_MEMORY = b"none\n", b"memory\n"
 
 
 def parted(answer, form=FORCED_ANSWER):
@@ -107,15 +107,11 @@ class Forced:
     """The program that does phases at every chance, beside `inet`."""
 
     def __init__(self, program):
-        if not os.access(BUILT, os.X_OK):
-            raise FileNotFoundError(os.path.normpath(BUILT))
-        room = os.path.join(program.room, "in_forced_phases")
-        os.mkdir(room)
-        self.program, self.forcing = program, Program(BUILT, room)
+        self.program, self.forcing = program, harness_program(program, "phases")
 
     @staticmethod
     def words(way, cells, limit):
-        return [str(number) for number in (*way, cells, limit)]
+        return ["phases", *(str(number) for number in (cells, *way, limit))]
 
     def wrong_run(self, text, way, usual):
         """What is wrong with a run to the end."""
@@ -196,7 +192,7 @@ def forced_stops(program, forced):
 def wrong_refused(refuser, words, text, usual, number, asked):
     """What is wrong where requests for memory are refused: fewer phases are right, and so is no run."""
     answer = refuser.answer(words, text, "memory", number, **asked)
-    if (answer.status, answer.output) == (ACCEPTED, NONE):
+    if (answer.status, answer.output) == (ACCEPTED, NO_MEMORY):
         return None
     net, count, _ = parted(answer)
     return None if (net, count) == usual[:2] else str(answer)

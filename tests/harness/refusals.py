@@ -7,17 +7,23 @@ from dataclasses import dataclass
 from functools import partial
 
 from harness.programs import (
-    ACCEPTED, COMMANDS, HERE, MEMORY, REFUSED, ROWS, WRONG_WORDS, answering, differing, failing, text_of, wrong_stream
+    ACCEPTED, COMMANDS, HERE, MEMORY, REFUSED, ROWS, STREAM, WRONG_WORDS, answering, differing, failing, text_of, wrong_stream
 )
 
 # Four programs that are accepted and one that is refused; and one whose runs start threads.
 EXAMPLES = ["queue", "sum", "double", "insertion_sort", "waits_for_itself"]
 WITH_THREADS = "tree_of_large_leaves"
+# Rows of which requests for memory are refused, these apart.
+OF_ROWS, APART = ["sum_of_two_and_one", "copies_added", "two_sums_and_a_zero", "agent_with_a_large_cell", "copies_side_by_side"], 3
 
 # The report of the library: requests for memory, reads, writes, writes to standard error, threads that were to start, what was refused.
 REPORT = struct.Struct("6l")
 NOTHING, REQUEST, THREAD_START = range(3)
-ONE_BYTE = {"ONE_BYTE": "1"}
+ONE_BYTE = {"AT_ONCE": "1"}
+# How many bytes a write takes at once where standard output has room for so many in all.
+STEPS = (1, 7, 100)
+# An accepted program, and a text that is refused.
+SHORT = "type nat;\nsymbol Z : nat+;\nsymbol S : nat+ {nat-};\nnet (r : nat+) { r ~ S(S(Z)); }\n", "net net"
 # Sizes of address spaces, in kilobytes: too small for the most cells, and large enough.
 SPACES = (20_000, 40_000, 60_000, 80_000, 100_000, 120_000, 150_000, 200_000, 300_000, 500_000, 1_000_000)
 # The line that is printed asks for no more memory than so often.
@@ -85,8 +91,8 @@ def wrong_beginning(answer, usual):
     return wrong_stream(answer, "output", answer.output if begun else b"a beginning of " + usual.output)
 
 
-def refused_memory(refuser, words, text, usual, counts, first=1):
-    """Each request for memory, from the first one of these on, by itself and with all that follow.
+def refused_memory(refuser, words, text, usual, counts, first=1, apart=1):
+    """Each request for memory, from the first one of these on, or only some, by itself and with all that follow.
 
     A request by itself may be followed by one that asks for less, when a list that grows is content with the room that it needs. What a
     thread's start asks for besides the C library can't be told from other requests; by itself, what the C library asks for it is no fault.
@@ -98,7 +104,7 @@ def refused_memory(refuser, words, text, usual, counts, first=1):
         may_want = report.refused == REQUEST or bool(asked) and report.refused == THREAD_START
         return wrong_without_memory(answer, usual, may_answer, may_want)
 
-    for number in range(first, counts.memory + 1):
+    for number in range(first, counts.memory + 1, apart):
         yield f"memory refused at request {number}", partial(wrong, number, {})
         yield f"memory refused from request {number} on", partial(wrong, number, {"REFUSE_ON": "1"})
 
@@ -132,6 +138,10 @@ def refusals(program):
     for name in EXAMPLES:
         for words in COMMANDS:
             yield from target(refuser, name, words, text_of(name))
+    for name, words in itertools.product(OF_ROWS, COMMANDS[:3]):
+        text = text_of(name, ROWS)
+        for what, trial in refused_memory(refuser, words, text, *refuser.run(words, text), apart=APART):
+            yield f"{name}: {' '.join(words)}: {what}", trial
     for words in (["--help"], ["run", "--help"], ["run", "--workers", "65"], ["walk"], []):
         yield from target(refuser, "sum", words, text_of("sum"))
 
@@ -170,6 +180,31 @@ def one_byte(program):
         for by, size in itertools.product(WAYS, range(len(output))):
             run = partial(refuser.answer, words, text, "write", size + 1, REFUSE_BY=by, **ONE_BYTE)
             yield f"sum: {words[0]}: {by} after {size} bytes written", failing(run, "output", output[:size])
+
+
+def wrong_in_room(refuser, words, text, usual, room, asked):
+    """What is wrong where standard output takes so many bytes: these are the first ones of the usual answer, which is there where it fits."""
+    answer = refuser.answer(words, text, "none", 0, ROOM=str(room), **asked)
+    if room >= len(usual.output):
+        return differing(answer, usual.status, usual.output)
+    return wrong_stream(answer, "output", usual.output[:room])
+
+
+def rooms(program):
+    """Standard output with room for so many bytes, in writes of several sizes: of two short texts, of help, of wrong words, and of `memory`."""
+    refuser = Refuser(program)
+    for text, by, step in itertools.product(SHORT, WAYS, STEPS):
+        usual = program.run(["check"], text.encode())
+        for room in range(len(usual.output) + 1):
+            run = partial(wrong_in_room, refuser, ["check"], text.encode(), usual, room, {"REFUSE_BY": by, "AT_ONCE": str(step)})
+            yield f"{usual.output[:8]!r}: {by} after {room} bytes, {step} at once", run
+    usual = program.run(["--help"])
+    yield "help in little room", partial(wrong_in_room, refuser, ["--help"], b"", usual, 2, {"AT_ONCE": "1"})
+    wrong = program.run(["walk"])
+    yield "wrong words in little room", answering(partial(refuser.answer, ["walk"], b"", "none", 0, ROOM="2", AT_ONCE="1"), WRONG_WORDS, wrong.output)
+    run = partial(refuser.answer, ["check"], b"", "memory", 1, REFUSE_ON="1", ROOM="2", AT_ONCE="1")
+    # The message on the failed write takes memory, which is out.
+    yield "memory in little room", answering(run, STREAM, b"me")
 
 
 def wrong_in_small_space(answer, usual):

@@ -4,7 +4,8 @@
  *   REFUSE_AT     the number, from 1, of the request that is refused (without it none is)
  *   REFUSE_ON     set: that request and all that follow
  *   REFUSE_BY     fail (the default: an error is answered) or nothing (a write that takes no byte)
- *   ONE_BYTE      set: each read and write moves one byte at most
+ *   AT_ONCE       so many bytes at most are moved by each read and write
+ *   ROOM          so many bytes in all are taken by standard output, after which each write is refused
  *   REFUSE_REPORT a file of sizeof(struct report) bytes, which holds the counts at each moment: they outlast any end
  *
  * The start of a thread is one request for memory, and each request that the C library makes for it is one more. The report tells
@@ -15,6 +16,7 @@
 #include <errno.h>
 #include <fcntl.h>
 #include <pthread.h>
+#include <stdint.h>
 #include <stdlib.h>
 #include <string.h>
 #include <sys/mman.h>
@@ -33,7 +35,8 @@ struct report {
 
 static struct report unreported, *report = &unreported;
 static long refuse_at;
-static int refuse_kind = KINDS, goes_on, takes_nothing, one_byte;
+static int refuse_kind = KINDS, goes_on, takes_nothing;
+static size_t at_once = SIZE_MAX, room = SIZE_MAX;
 static __thread int starts_thread;
 static int (*start_thread)(pthread_t *, const pthread_attr_t *, void *(*)(void *), void *);
 
@@ -51,6 +54,14 @@ static int kind_of(const char *word)
     return KINDS;
 }
 
+static size_t bytes(const char *name)
+{
+    const char *number = getenv(name);
+    return number ? (size_t)atol(number) : SIZE_MAX;
+}
+
+static size_t least(size_t one, size_t other) { return one < other ? one : other; }
+
 /* Until this ran nothing is refused: what the loader asks for is no request of the program. */
 __attribute__((constructor)) static void begin(void)
 {
@@ -59,7 +70,8 @@ __attribute__((constructor)) static void begin(void)
     void *shared = file < 0 ? MAP_FAILED : mmap(0, sizeof *report, PROT_READ | PROT_WRITE, MAP_SHARED, file, 0);
     start_thread = dlsym(RTLD_NEXT, "pthread_create");
     goes_on = getenv("REFUSE_ON") != 0;
-    one_byte = getenv("ONE_BYTE") != 0;
+    at_once = bytes("AT_ONCE");
+    room = bytes("ROOM");
     takes_nothing = by && !strcmp(by, "nothing");
     if (file >= 0)
         close(file);
@@ -122,18 +134,21 @@ ssize_t read(int file, void *to, size_t size)
         errno = EIO;
         return -1;
     }
-    return syscall(SYS_read, file, to, file == 0 && one_byte && size ? 1 : size);
+    return syscall(SYS_read, file, to, file == 0 ? least(size, at_once) : size);
 }
 
 ssize_t write(int file, const void *from, size_t size)
 {
-    if ((file == 1 && is_refused(WRITE, REQUEST)) || (file == 2 && is_refused(TELL, REQUEST))) {
+    if ((file == 1 && (is_refused(WRITE, REQUEST) || (size && !room))) || (file == 2 && is_refused(TELL, REQUEST))) {
         if (takes_nothing)
             return 0;
         errno = EIO;
         return -1;
     }
-    return syscall(SYS_write, file, from, file == 1 && one_byte && size ? 1 : size);
+    ssize_t written = syscall(SYS_write, file, from, file == 1 ? least(least(size, at_once), room) : size);
+    if (file == 1 && room != SIZE_MAX && written > 0)
+        room -= (size_t)written;
+    return written;
 }
 
 ssize_t __write(int file, const void *from, size_t size) { return write(file, from, size); }
