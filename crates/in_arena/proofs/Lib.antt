@@ -3,15 +3,10 @@ pub mod Bags
 pub mod ByClass
 pub mod Changes
 pub mod Classes
-pub mod Crossing
 pub mod Filled
 pub mod Lending
-pub mod Memory
 pub mod OneSack
 pub mod Parts
 pub mod OneRegion
 pub mod Public
-pub mod Rows
 pub mod Seen
-pub mod Sharing
-pub mod Walks

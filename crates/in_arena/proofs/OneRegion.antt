@@ -5,24 +5,20 @@ use Rattle.std.proofs.lemmas.List.{length-map, length-replicate, length-take-le,
 use Rattle.std.proofs.Math.ListN.{get_or-map}
 use Rattle.std.proofs.lemmas.List.Sums.{sum_by-set, sum_by-cons}
 use Rattle.std.specs.List.{AllByRecursion}
-use Rattle.in_arena.specs.Places.{AreHere, either_of, together}
+use Rattle.in_memory.specs.Places.{AreHere, either_of, together}
+use Rattle.in_memory.specs.declared.cells.Base.{Base}
+use Rattle.in_memory.specs.declared.cells.Cells.{Cells}
+use Rattle.in_memory.specs.Lends.{with_slots}
+use Rattle.in_memory.proofs.Public.{either_none, filled_inside}
 use Rattle.in_arena.specs.Contents.{end_of}
-use Rattle.in_arena.specs.declared.cells.Base.{Base}
-use Rattle.in_arena.specs.declared.cells.Cells.{Cells}
 use Rattle.in_arena.specs.declared.content.Content.{Content}
 use Rattle.in_arena.specs.declared.content.Stored.{Stored}
 use Rattle.in_arena.specs.declared.region.Region.{Region}
 use Rattle.in_arena.specs.declared.region.Held.{Held}
 use Rattle.in_arena.specs.States.{State, Vacant, Leased, Live, IsLive, IsLeased, is_vacant, places, with_end}
 use Rattle.in_arena.specs.Regions.{with_ends, one_if_zero, state_in, state_of, state, states, vacancy, vacancies, IsVacantTo, IsFreeList, AreDifferentNumbers, IsCell, AreNew, IsRegion, IsHeld, IsHeldOf, Becomes, IsSame, IsLeasedTo, IsSameCell, state_at}
-use Rattle.in_arena.specs.Lends.{with_slots}
-use Rattle.in_arena.proofs.Rows.{filled_inside}
 
 -- ---- two owners' cells
-
-either_none : {X : Type 0} (d : Option (Option X)) → either_of d None ≡ d
-either_none None = refl
-either_none (Some d) = refl
 
 together_none : {X : Type 0} (cs : List (Option (Option X))) (n : ℕ) → n ≡ length cs → together cs (replicate n None) ≡ cs
 together_none [] n e = refl

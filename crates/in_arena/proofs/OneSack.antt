@@ -2,17 +2,17 @@
 use Rattle.std.proofs.Common.{◌≡◌, ℕ, zero, suc, ◌<◌, List, ◌∷◌, map, length, set, get_or, replicate, Option, Some, None, inl, inr, refl, sym, ap, ◌∙◌, subst, arith, length-set, get_or-set_same, get_or-set_other}
 use Rattle.std.proofs.lemmas.Bool.{cases_eq}
 use Rattle.std.proofs.lemmas.List.{length-replicate, map-set}
-use Rattle.in_arena.specs.Places.{together}
+use Rattle.in_memory.specs.Places.{together}
+use Rattle.in_memory.specs.declared.cells.Cells.{Cells}
+use Rattle.in_memory.proofs.Public.{filled_inside}
 use Rattle.in_arena.specs.Regions.{IsRegion, state, state_of}
 use Rattle.in_arena.specs.Sacks.{sack_state, IsKeptCell, IsSack, IsOfSack, SackBecomes, IsTakenFrom, IsEmptyOf}
 use Rattle.in_arena.specs.States.{Leased, IsLeased}
-use Rattle.in_arena.specs.declared.cells.Cells.{Cells}
 use Rattle.in_arena.specs.declared.content.Content.{Content}
 use Rattle.in_arena.specs.declared.region.Held.{Held}
 use Rattle.in_arena.specs.declared.region.Region.{Region}
 use Rattle.in_arena.specs.declared.region.Sack.{Sack}
 use Rattle.in_arena.proofs.OneRegion.{back_in, held_cell, held_alone, alone_state, leased_none}
-use Rattle.in_arena.proofs.Rows.{filled_inside}
 
 abbrev Slot : ℕ → Type 0
 Slot W = Option (Option (Content W))
@@ -50,7 +50,7 @@ module _ {W : ℕ} where
   here (Some None) kept in_it = absurd kept
   here (Some (Some c)) kept in_it = (c, refl)
 
-  pub inside : (s : Sack W) (i : ℕ) → IsSack s → (IsLeased (sack_state s i) → ⊥) → i < length s.cells.slots
+  inside : (s : Sack W) (i : ℕ) → IsSack s → (IsLeased (sack_state s i) → ⊥) → i < length s.cells.slots
   inside s i h in_it = let x = here (get_or s.cells.slots i None) (h.cells i) in_it in filled_inside s.cells.slots i (Some x.0) x.1
 
   pub taken_out : (s : Sack W) (one rest : Cells (Content W)) (i : ℕ) → IsSack s → (IsLeased (sack_state s i) → ⊥)

@@ -9,10 +9,7 @@ pub mod Filling
 pub mod Inside
 pub mod Leases
 pub mod Lending
-pub mod Lends
 pub mod Limiting
-pub mod Ownership
-pub mod Places
 pub mod Regions
 pub mod Sacks
 pub mod States

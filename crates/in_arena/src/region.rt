@@ -5,8 +5,8 @@ ghost use Rattle.in_arena.specs.Regions.{IsRegion, IsHeld, IsHeldOf, Becomes, Is
 ghost use Rattle.in_arena.specs.Filling.{Fills};
 ghost use Rattle.in_arena.specs.Sacks.{IsSack, IsOfSack, SackBecomes, IsTakenFrom, IsEmptyOf, sack_state};
 
-use crate::cells::{Base, Cells, Deed, allocate, deallocate};
 use crate::content::{Content, End, Stored};
+use in_memory::{Base, Cells, Deed, allocate, deallocate};
 use std::alloc::{AllocError, Global};
 use std_alloc::room::may_hold;
 

@@ -1,6 +1,6 @@
 -- What a call answers to a text. What is said of a text is the program's: see `in_program`'s definitions of what it does.
 use Rattle.std.specs.Prelude.{◌≡◌, ◌⊎◌, ℕ, true, false, List, [], Some, None}
-use Rattle.in_diagnosis.specs.Programs.{IsTold}
+use Rattle.in_diagnosis.specs.Programs.{IsToldOfText}
 use Rattle.in_limits.specs.AllowedLimits.{AreLimits}
 use Rattle.in_limits.specs.declared.limits.Limits.{Limits}
 use Rattle.in_command_line.specs.declared.action.Action.{Action}
@@ -20,8 +20,8 @@ IsRunSaid limit cells text lines s =
 
 -- what is told of the text, which is refused; nothing, where it is accepted; or nothing, when out of memory
 pub data IsDiagnosis (text words : List ℕ) (s : Status) : Type 0 where
-  refused : IsTold text true → s ≡ status 1 → IsDiagnosis text words s
-  accepted : IsTold text false → words ≡ [] → s ≡ status 0 → IsDiagnosis text words s
+  refused : IsToldOfText text true → s ≡ status 1 → IsDiagnosis text words s
+  accepted : IsToldOfText text false → words ≡ [] → s ≡ status 0 → IsDiagnosis text words s
   wanting : words ≡ [] → s ≡ memory_status → IsDiagnosis text words s
 
 -- `count` bytes and this status, of which this is so, are given

@@ -1,16 +1,12 @@
 -- A net whose agents were copied stands beside the net that was there.
-use Rattle.std.proofs.Common.{◌≡◌, ◌⊎◌, inl, inr, ◌≤◌, ◌<◌, ◌+◌, ◌-◌, ℕ, zero, suc, true, false, Option, Some, None, List, [], ◌∷◌, ◌++◌, length, map, slice_get, refl, sym, ap, subst, ◌∙◌, length-append, arith}
+use Rattle.std.proofs.Common.{◌≡◌, inl, inr, ◌<◌, ◌+◌, ℕ, zero, suc, true, false, Some, None, List, [], ◌∷◌, ◌++◌, length, map, slice_get, refl, sym, ap, subst, ◌∙◌, arith}
 use Rattle.std.specs.Prelude.{option_map}
-use Rattle.std.proofs.lemmas.Bool.{cases_lt}
-use Rattle.std.proofs.lemmas.List.{length-map, map-append}
-use Rattle.std.proofs.lemmas.Option.{same_Some, slice_get-map, slice_get_within}
+use Rattle.std.proofs.lemmas.Option.{same_Some, slice_get_within}
 use Rattle.in_base.proofs.Each.{at_index}
-use Rattle.in_base.proofs.Places.{kept_at}
 use Rattle.in_arena.specs.Arenas.{ArenaView, state_at}
 use Rattle.in_arena.specs.States.{IsLive, end_at, word_of}
 use Rattle.in_arena.specs.declared.content.CellNo.{CellNo}
 use Rattle.in_arena.specs.declared.content.End.{End}
-use Rattle.in_arena.specs.declared.content.End.TheVariants.{Cell, Free as FreeEnd}
 use Rattle.in_arena.proofs.Public.{word_live}
 use Rattle.in_net.specs.Nets.{Point, Port, Free, Net}
 use Rattle.in_gluing.specs.AsGluing.{old_and_new, two_parts}
@@ -19,11 +15,10 @@ use Rattle.in_gluing.specs.Laws.{KeepsApart}
 use Rattle.in_gluing.proofs.Public.{mapped}
 use Rattle.in_cells.specs.Shown.{IsShown, point_of}
 use Rattle.in_gluing.specs.SideBySide.{StandBeside}
-use Rattle.in_cells.specs.Copying.{AreAllLive, IsCopied, moved_end, name_in, number_in}
-use Rattle.in_cells.specs.Laws.{moved_point, ShowsAll, AreRenumbered, number_of, leads_to, AreEndsOfBoth, CopiesStandBeside, ends_of, one_after_other, CopiesFollow}
+use Rattle.in_cells.specs.Copying.{AreAllLive, IsCopied, name_in, number_in}
+use Rattle.in_cells.specs.Laws.{moved_point, ShowsAll, AreRenumbered, number_of, AreEndsOfBoth, CopiesStandBeside, ends_of}
 use Rattle.in_cells.proofs.Shown.{word_moved, end_moved, point_moved, end_live, NamedOr, named_or}
 use Rattle.in_cells.proofs.Written.{moved_live}
-use Rattle.in_cells.proofs.Numbered.{state_same}
 use Rattle.in_interaction.proofs.Public.{has_value}
 
 -- ---- side by side
@@ -215,7 +210,7 @@ pub copies_stand_beside : CopiesStandBeside
 copies_stand_beside from before old new agents names numbers own of_from of_before of_new ends n m w shows_n shows_m all numbered copied lists shows_w free =
     stands from before old new agents names numbers own of_from of_before of_new ends n m w shows_n shows_m all numbered copied lists shows_w free
 
--- ---- free ends behind those that were there
+-- ---- lists of free ends
 
 pub length-ends_of : (i first count : ℕ) → length (ends_of i first count) ≡ count
 length-ends_of i first zero = refl
@@ -226,111 +221,6 @@ ends_there i first zero k less = absurd (omega (arith, less))
 ends_there i first (suc count) zero less = ap (λ (z : ℕ). Some (i, z)) (let e : first ≡ first + 0 = omega arith in e)
 ends_there i first (suc count) (suc k) less = ends_there i (suc first) count k (omega (arith, less)) ∙ ap (λ (z : ℕ). Some (i, z)) (let e : suc first + k ≡ first + suc k = omega arith in e)
 
-ends_are : {T : Type 0} (f : ℕ × ℕ → Option T) (i first : ℕ) (xs : List T) → ((k : ℕ) → f (i, first + k) ≡ slice_get xs k) → map f (ends_of i first (length xs)) ≡ map (λ t. Some t) xs
-ends_are f i first [] h = refl
-ends_are {T} f i first (x ∷ xs) h =
-    let one : f (i, first) ≡ Some x = ap (λ (z : ℕ). f (i, z)) (let e : first ≡ first + 0 = omega arith in e) ∙ h 0 in
-    let rest = ends_are f i (suc first) xs (λ k. ap (λ (z : ℕ). f (i, z)) (let e : suc first + k ≡ first + suc k = omega arith in e) ∙ h (suc k)) in
-    ap (λ (z : Option T). z ∷ map f (ends_of i (suc first) (length xs))) one ∙ ap (λ zs. Some x ∷ zs) rest
-
 pub past_first : {X : Type 0} (xs ys : List X) (j : ℕ) → slice_get (xs ++ ys) (length xs + j) ≡ slice_get ys j
 past_first [] ys j = ap (slice_get ys) (let e : 0 + j ≡ j = omega arith in e)
 past_first (x ∷ xs) ys j = ap (slice_get (x ∷ xs ++ ys)) (let e : suc (length xs) + j ≡ suc (length xs + j) = omega arith in e) ∙ past_first xs ys j
-
-in_first : {X : Type 0} (xs ys : List X) (k : ℕ) → k < length xs → slice_get (xs ++ ys) k ≡ slice_get xs k
-in_first xs ys k less = let x = at_index xs k less in kept_at xs ys k x.0 x.1 ∙ sym x.1
-
--- under the numbers that they have nothing changes
-same_end : (e : End) → moved_end (λ z. z) (λ z. z) e ≡ e
-same_end (Cell c i) = refl
-same_end (FreeEnd k) = refl
-
-same_ends : (es : List End) → map (moved_end (λ z. z) (λ z. z)) es ≡ es
-same_ends [] = refl
-same_ends (e ∷ es) = ap (λ (z : End). z ∷ map (moved_end (λ z. z) (λ z. z)) es) (same_end e) ∙ ap (λ zs. e ∷ zs) (same_ends es)
-
-same_option : (o : Option End) → o ≡ option_map (moved_end (λ z. z) (λ z. z)) o
-same_option None = refl
-same_option (Some e) = ap (λ (z : End). Some z) (sym (same_end e))
-
-module _ (name : ℕ → ℕ) (numbers : List ℕ) (of_from of_old : List End) (n m : Net ℕ) (many_n : length of_from ≡ length n.free) (many_m : length of_old ≡ length m.free) (after : (k : ℕ) → k < length of_from → number_in numbers k ≡ length of_old + k) where
-  abbrev first : ℕ
-  first = length m.free
-
-  abbrev front : List (ℕ × ℕ)
-  front = ends_of 0 0 first
-
-  abbrev more : List (ℕ × ℕ)
-  more = ends_of 1 0 (length n.free)
-
-  abbrev both : List End
-  both = of_old ++ map (moved_end name (number_in numbers)) of_from
-
-  abbrev IsEnd : ℕ → ℕ × ℕ → Type 0
-  IsEnd k p = (number_of (λ z. z) (number_in numbers) p.0 p.1 ≡ k) × (slice_get both k ≡ leads_to name (λ z. z) (number_in numbers) of_old of_from p.0 p.1)
-
-  long : length front ≡ first
-  long = length-ends_of 0 0 first
-
-  in_front : (k : ℕ) → k < first → IsEnd k (0, 0 + k)
-  in_front k less =
-      let same : 0 + k ≡ k = omega arith in (
-        same,
-        in_first of_old (map (moved_end name (number_in numbers)) of_from) k (let l = many_m in omega (arith, less, l)) ∙ ap (slice_get of_old) (sym same) ∙ same_option (slice_get of_old (0 + k)),
-      )
-
-  behind : (k j : ℕ) → first + j ≡ k → j < length n.free → IsEnd k (1, 0 + j)
-  behind k j is less =
-      let same : 0 + j ≡ j = omega arith in
-      let at : length of_old + j ≡ k = (let l = many_m in omega (arith, is, l)) in (
-        ap (number_in numbers) same ∙ after j (let l = many_n in omega (arith, less, l)) ∙ at,
-        ap (slice_get both) (sym at) ∙ past_first of_old (map (moved_end name (number_in numbers)) of_from) j ∙ slice_get-map (moved_end name (number_in numbers)) of_from j
-            ∙ ap (λ (z : ℕ). option_map (moved_end name (number_in numbers)) (slice_get of_from z)) (sym same),
-      )
-
-  each_end : (k i e : ℕ) → slice_get (front ++ more) k ≡ Some (i, e) → IsEnd k (i, e)
-  each_end k i e at = go (cases_lt k first)
-    where
-      go : (k < first) ⊎ (first ≤ k) → IsEnd k (i, e)
-      go (inl less) =
-          let is : (0, 0 + k) ≡ (i, e) = same_Some (0, 0 + k) (i, e) (sym (ends_there 0 0 first k less) ∙ sym (in_first front more k (let l = long in omega (arith, less, l))) ∙ at) in
-          subst (IsEnd k) is (in_front k less)
-      go (inr past) =
-          let j = k - first in
-          let here : length front + j ≡ k = (let l = long in omega (arith, past, l)) in
-          let stands : slice_get more j ≡ Some (i, e) = sym (past_first front more j) ∙ ap (slice_get (front ++ more)) here ∙ at in
-          let less : j < length n.free = (let l = slice_get_within more j (i, e) stands in let g = length-ends_of 1 0 (length n.free) in omega (arith, l, g)) in
-          let at_last : first + j ≡ k = omega (arith, past) in
-          let is : (1, 0 + j) ≡ (i, e) = same_Some (1, 0 + j) (i, e) (sym (ends_there 1 0 (length n.free) j less) ∙ stands) in
-          subst (IsEnd k) is (behind k j at_last less)
-
-  all_ends : (i e : ℕ) → e < length (two_parts m n i).free → slice_get (front ++ more) (number_of (λ z. z) (number_in numbers) i e) ≡ Some (i, e)
-  all_ends zero e less =
-      in_first front more e (let l = long in omega (arith, less, l)) ∙ ends_there 0 0 first e less ∙ ap (λ (z : ℕ). Some (0, z)) (let f : 0 + e ≡ e = omega arith in f)
-  all_ends (suc zero) e less =
-      let at : number_in numbers e ≡ length front + e = after e (let l = many_n in omega (arith, less, l)) ∙ (let l = long in let g = many_m in let f : length of_old + e ≡ length front + e = omega (arith, l, g) in f) in
-      ap (slice_get (front ++ more)) at ∙ past_first front more e ∙ ends_there 1 0 (length n.free) e less ∙ ap (λ (z : ℕ). Some (1, z)) (let f : 0 + e ≡ e = omega arith in f)
-  all_ends (suc (suc i)) e less = absurd (omega (arith, less))
-
-  are_ends : AreEndsOfBoth m n name (λ z. z) (number_in numbers) of_old of_from (front ++ more) both
-  are_ends = record {
-    many = (
-        length-append of_old (map (moved_end name (number_in numbers)) of_from) ∙ ap (λ z. length of_old + z) (length-map of_from (moved_end name (number_in numbers)))
-        ∙ (let a = many_m in let b = many_n in let l = long in let g = length-ends_of 1 0 (length n.free) in let f : length of_old + length of_from ≡ length front + length more = omega (arith, a, b, l, g) in f)
-        ∙ sym (length-append front more)
-        );
-    each = each_end;
-    all = all_ends;
-  }
-
-  types : (w : Net ℕ) → w.free ≡ m.free ++ n.free → map (λ t. Some t) w.free ≡ map (λ p. slice_get (two_parts m n p.0).free p.1) (one_after_other m n)
-  types w is =
-      ap (map (λ t. Some t)) is ∙ map-append (λ t. Some t) m.free n.free
-      ∙ ap (λ zs. zs ++ map (λ t. Some t) n.free) (sym (ends_are (λ p. slice_get (two_parts m n p.0).free p.1) 0 0 m.free (λ k. ap (slice_get m.free) (let f : 0 + k ≡ k = omega arith in f))))
-      ∙ ap (λ zs. map (λ p. slice_get (two_parts m n p.0).free p.1) front ++ zs) (sym (ends_are (λ p. slice_get (two_parts m n p.0).free p.1) 1 0 n.free (λ k. ap (slice_get n.free) (let f : 0 + k ≡ k = omega arith in f))))
-      ∙ sym (map-append (λ p. slice_get (two_parts m n p.0).free p.1) front more)
-
-pub copies_follow : CopiesFollow
-copies_follow from old new agents names numbers of_from of_old n m w shows_n shows_m all after copied shows_w is_free =
-    stands from old old new agents names numbers (λ z. z) of_from of_old (of_old ++ map (moved_end (name_in names) (number_in numbers)) of_from) (one_after_other m n) n m w shows_n shows_m all (λ y. state_same (state_at old y)) copied
-    (are_ends (name_in names) numbers of_from of_old n m shows_n.many shows_m.many after) shows_w (types (name_in names) numbers of_from of_old n m shows_n.many shows_m.many after w is_free)

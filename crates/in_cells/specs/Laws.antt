@@ -1,5 +1,5 @@
 -- What copies are to nets.
-use Rattle.std.specs.Prelude.{◌≡◌, ◌<◌, ◌+◌, ℕ, zero, suc, List, [], ◌∷◌, ◌++◌, length, map, Option, Some, None, slice_get, option_map}
+use Rattle.std.specs.Prelude.{◌≡◌, ◌<◌, ℕ, zero, suc, List, [], ◌∷◌, length, map, Option, Some, None, slice_get, option_map}
 use Rattle.in_arena.specs.Arenas.{ArenaView, NoneLeased, state_at}
 use Rattle.in_arena.specs.declared.content.CellNo.{CellNo}
 use Rattle.in_arena.specs.States.{Vacant, end_at, word_of}
@@ -81,17 +81,6 @@ CopiesStandBeside = (from before old new : ArenaView) (agents names : List CellN
 abbrev pub ends_of : ℕ → ℕ → ℕ → List (ℕ × ℕ)
 ends_of i first zero = []
 ends_of i first (suc k) = (i, first) ∷ ends_of i (suc first) k
-
--- the free ends of one net and after them those of another
-abbrev pub one_after_other : Net ℕ → Net ℕ → List (ℕ × ℕ)
-one_after_other m n = ends_of 0 0 (length m.free) ++ ends_of 1 0 (length n.free)
-
--- .. as where the free ends of the copied net are added behind those that were there, which keep their numbers
-abbrev pub CopiesFollow : Type 0
-CopiesFollow = (from old new : ArenaView) (agents names : List CellNo) (ends : List ℕ) (of_from of_old : List End) (n m w : Net ℕ) → ShowsAll from of_from n → ShowsAll old of_old m →
-    AreAllLive from agents → ((k : ℕ) → k < length of_from → number_in ends k ≡ length of_old + k) →
-    IsCopied from agents ends names old new → IsShown new (of_old ++ map (moved_end (name_in names) (number_in ends)) of_from) w → w.free ≡ m.free ++ n.free →
-    StandBeside m n (name_in names) (one_after_other m n) w
 
 -- ---- agents that are taken out
 

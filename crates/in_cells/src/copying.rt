@@ -5,6 +5,7 @@ ghost use Rattle.in_cells.specs.Copying.{ArePart, AreClosed, HasCellsFor, IsCopi
 use crate::taking::take_cells;
 use crate::writing::write_agents;
 use in_arena::{Arena, CellNo};
+use in_base::use_promise;
 
 /// Copies agents to another arena, each to a cell that was free there and is of the class for its places: live cells of `from`, each once,
 /// whose places lead to each other and to free ends below the length of `ends`. At each place stands afterwards what stood there, the cells
@@ -18,7 +19,7 @@ pub fn copy(from: &Arena, agents: &[CellNo], ends: &[u32], to: &mut Arena, names
     ensures copied { IsCopied from.now agents.now ends.now names.new to.old to.new }
     ensures names { length names.new ≡ length names.old }
 {
-    to.cells();
+    use_promise!(to.cells());
     take_cells(from, agents, to, names);
     write_agents(from, agents, names, ends, to);
 }

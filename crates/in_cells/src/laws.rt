@@ -2,7 +2,7 @@
 
 ghost use Rattle.in_cells.specs.Between.{PairsAreAddedOnce};
 ghost use Rattle.in_cells.specs.Start.{SetHasSymbols, SetIsReady, ShownIsStep};
-ghost use Rattle.in_cells.specs.Laws.{CopiesAreShown, NoneIsLeased, AllAreClosed, CopiesStandBeside, CopiesFollow, PartStandsBeside};
+ghost use Rattle.in_cells.specs.Laws.{CopiesAreShown, NoneIsLeased, AllAreClosed, CopiesStandBeside, PartStandsBeside};
 
 /// Where the cells showed a net, the right member stands in cells of its own, the pair is retired and the sides of the boundary ends are
 /// set, joining can begin.
@@ -43,11 +43,6 @@ pub fn all_are_closed()
 /// Where all agents of a net are copied to the cells of another one, both nets stand side by side, whatever the order of their free ends.
 pub fn copies_stand_beside()
     ensures { CopiesStandBeside }
-{}
-
-/// .. as where the free ends of the copied net follow those that were there.
-pub fn copies_follow()
-    ensures { CopiesFollow }
 {}
 
 /// Where agents that lead to each other and to free ends of their own are copied to cells that show no agent, and taken out, the net before is

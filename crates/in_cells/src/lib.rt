@@ -6,8 +6,8 @@
 //!   `exchanging` has the two writes for one end, `pairing` adds the active pair that they make.
 //! - A wire is cut (`cutting`), and two free ends are joined (`rejoining`): how a net falls into parts, and how it is glued again.
 //! - Agents are copied to another arena, under the numbers of the cells that they get there (`copying`): `taking` takes a cell for each, and
-//!   `writing` writes what stands at their places, cells and free ends under their new numbers (`ends`). `listing` lists the agents of an
-//!   arena; `numbering` gives the free ends that cells lead to other numbers; `retiring` frees the cells of agents that are gone.
+//!   `writing` writes what stands at their places, cells and free ends under their new numbers (`ends`). `numbering`
+//!   gives the free ends that cells lead to other numbers; `retiring` frees the cells of agents that are gone.
 //!
 //! `laws` says of what the cells show afterwards that it is a net after an interaction, or that two nets stand side by side.
 #![tactic(auto)]
@@ -18,7 +18,6 @@ mod ends;
 mod exchanging;
 mod joining;
 pub mod laws;
-mod listing;
 mod numbering;
 mod pairing;
 mod rejoining;
@@ -28,10 +27,9 @@ mod writing;
 
 pub use copying::copy;
 pub use cutting::cut;
-pub use ends::{add_ends, moved_end};
+pub use ends::moved_end;
 pub use exchanging::exchange;
 pub use joining::join_all;
-pub use listing::live_cells;
 pub use numbering::number_anew;
 pub use pairing::add_pair;
 pub use rejoining::join_last;

@@ -3,6 +3,7 @@ ghost use Rattle.in_cells.specs.Copying.{ArePart};
 ghost use Rattle.in_cells.specs.TakingOut.{AreClassed, AreRetired};
 
 use in_arena::{Arena, CellNo};
+use in_base::use_promise;
 
 /// The cells of these agents, which are live, of the classes for their places and each named once, are free from then on. It takes no memory.
 pub fn retire_all(arena: &mut Arena, agents: &[CellNo])
@@ -10,7 +11,7 @@ pub fn retire_all(arena: &mut Arena, agents: &[CellNo])
     requires classed { AreClassed arena.old agents.now }
     ensures { AreRetired agents.now arena.old arena.new }
 {
-    arena.cells();
+    use_promise!(arena.cells());
     for number in 0..agents.len() {
         arena.retire(agents[number]);
     }

@@ -1,4 +1,5 @@
 -- Numbers of cells by class.
 pub mod Classes
 pub mod Counting
+pub mod Least
 pub mod Most

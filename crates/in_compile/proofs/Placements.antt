@@ -3,6 +3,7 @@ pub mod AgentByAgent
 pub mod Back
 pub mod EndByEnd
 pub mod Held
+pub mod Put
 pub mod Settled
 pub mod Standing
 pub mod Stocked

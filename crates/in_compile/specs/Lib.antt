@@ -8,6 +8,7 @@ pub mod PlacedTemplates
 pub mod Placing
 pub mod PlacingLaws
 pub mod PlacingSteps
+pub mod Putting
 pub mod StockInside
 pub mod Stocks
 pub mod Storing

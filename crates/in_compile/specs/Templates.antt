@@ -1,9 +1,11 @@
 -- Templates: a rule's right member, with what joins it in the place of an active pair.
-use Rattle.std.specs.Prelude.{◌≡◌, ◌⊎◌, ◌≤◌, ℕ, List, length, Option, Some, option_and_then, slice_get}
+use Rattle.std.specs.Prelude.{◌≡◌, ◌⊎◌, ◌↔◌, ◌≤◌, ℕ, Bool, IsTrue, List, length, Option, Some, option_and_then, slice_get}
 use Rattle.in_arena.specs.declared.content.CellClass.{CellClass}
 use Rattle.in_symbols.specs.declared.symbols.SymbolNo.{SymbolNo}
 use Rattle.in_symbols.specs.Tables.{Tables, arity_of}
+use Rattle.in_net.specs.Nets.{signature_of}
 use Rattle.in_net.specs.Rules.{RuleParts}
+use Rattle.in_overwriting.specs.Flag.{IsMarkedSymbol}
 use Rattle.in_cover.specs.Cover.{IsTableOf}
 use Rattle.in_cover.specs.Table as table
 use Rattle.in_check.specs.Programs.{Program}
@@ -13,16 +15,23 @@ use Rattle.in_compile.specs.Members.{MemberParts, IsMemberOf}
 
 -- ---- a template
 
--- the rule's two symbols; how many boundary ends are places of the first one, which come first; and the right member
+-- the rule's two symbols; how many boundary ends are places of the first one, which come first; whether neither symbol is marked; and the
+-- right member
 pub record TemplateParts : Type 0 where
   pub heads : SymbolNo × SymbolNo
   pub first_ends : ℕ
+  pub unmarked : Bool
   pub member : MemberParts
+
+-- neither of the two symbols is marked
+abbrev pub AreUnmarked : Tables → SymbolNo × SymbolNo → Type 0
+AreUnmarked t heads = (IsMarkedSymbol (signature_of t) heads.0.0 → ⊥) × (IsMarkedSymbol (signature_of t) heads.1.0 → ⊥)
 
 -- the template is that of the rule, whose right member it has
 pub record IsTemplateOf (t : Tables) (r : RuleParts) (p : TemplateParts) : Type 0 where
   pub heads : p.heads ≡ r.heads
   pub first_ends : p.first_ends ≡ arity_of t r.heads.0.0
+  pub unmarked : IsTrue p.unmarked ↔ AreUnmarked t r.heads
   pub member : IsMemberOf t r.member p.member
 
 -- ---- the templates of a program

@@ -1,13 +1,21 @@
 // Cells by their classes: which an agent takes, and how many are needed.
-ghost use Rattle.std.specs.Prelude.{◌≡◌, ◌<◌, ◌^◌, length, max, MatchOption};
+ghost use Rattle.std.specs.Prelude.{◌≡◌, ◌≤◌, ◌<◌, ◌+◌, ◌^◌, ◌↔◌, IsTrue, length, max, MatchOption};
+ghost use Rattle.in_arena.specs.Arenas.{free_of};
 ghost use Rattle.in_symbols.specs.Tables.{IsSymbol};
 ghost use Rattle.in_net.specs.Built.{IsOver};
 ghost use Rattle.in_open_nets_of_programs.specs.Opening.{AreAllThere};
 ghost use Rattle.in_compile.specs.Cells.{is_of, agents_of, count_of, IsNeedOf, IsEnough, IsFirstShort};
 
-use in_arena::CellClass;
+use in_arena::{Arena, CellClass};
 use in_net::{AgentNo, Net};
 use in_symbols::{SymbolNo, Symbols};
+
+/// Whether `need` cells more than the floor are free.
+fn is_above(free: u32, need: u32, floor: u32) -> bool
+    ensures { IsTrue result ↔ floor + need ≤ free }
+{
+    u64::from(need) + u64::from(floor) <= u64::from(free)
+}
 
 /// Numbers of cells, one for each class: of those that an interaction needs, or of those that are free.
 #[derive(Clone, Copy, Debug, PartialEq, Eq)]
@@ -40,6 +48,37 @@ impl Need {
             large: self.large.max(other.large),
             wide: self.wide.max(other.wide),
         }
+    }
+
+    /// How many cells of each class are free in an arena.
+    pub fn free_in(arena: &Arena) -> Need
+        ensures { (c : CellClass) → count_of result c ≡ free_of arena.now c }
+    {
+        Need {
+            small: arena.free_count(CellClass::Small),
+            large: arena.free_count(CellClass::Large),
+            wide: arena.free_count(CellClass::Wide),
+        }
+    }
+
+    /// The least of the numbers.
+    pub fn least(self) -> u32
+        ensures least { (c : CellClass) → result ≤ count_of self c }
+        ensures one { (c : CellClass) × (count_of self c ≡ result) }
+    {
+        self.small.min(self.large).min(self.wide)
+    }
+
+    /// Whether of each class these are as many as are needed, and `floor` besides.
+    pub fn has_besides(self, need: Need, floor: u32) -> bool
+        ensures { IsTrue result ↔ ((c : CellClass) → floor + count_of need c ≤ count_of self c) }
+    {
+        for class in CellClass::ALL {
+            if !is_above(self.of(class), need.of(class), floor) {
+                return false;
+            }
+        }
+        true
     }
 
     /// How many of this class.

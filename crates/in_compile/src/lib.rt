@@ -21,6 +21,7 @@ mod members;
 mod placed;
 mod placed_template;
 mod placing;
+mod putting;
 mod stock;
 mod template;
 mod templates;

@@ -19,6 +19,7 @@ use crate::template::Template;
 use in_arena::CellClass;
 use in_base::use_promise;
 use in_net::{Cell, Net, Point, Rule};
+use in_overwriting::is_marked;
 use in_symbols::Symbols;
 use sqlite_items::Items;
 use std::alloc::{AllocError, Global};
@@ -142,9 +143,11 @@ pub(crate) fn template(
     let (first, second) = rule.heads();
     let first_ends = symbols.arity(first);
     use_promise!(symbols.arity(second));
+    let unmarked = !is_marked(symbols, first) && !is_marked(symbols, second);
     Ok(Template {
         member,
         first_ends,
+        unmarked,
         heads: (first, second),
     })
 }

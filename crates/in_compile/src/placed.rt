@@ -8,6 +8,7 @@ ghost use Rattle.in_compile.specs.PlacingSteps.{AreOnTheWay};
 ghost use Rattle.in_compile.specs.Stocks.{Regains};
 
 use in_arena::{Arena, Bag, CellNo};
+use in_base::use_promise;
 use std::alloc::{AllocError, Global};
 use std::marker::Model;
 
@@ -93,7 +94,7 @@ impl Placed {
         ensures numbers { (self.new.cells ≡ self.old.cells) × (self.new.room ≡ self.old.room) }
         ensures bag { HasNoCell self.new.bag × AreOfOne self.old.bag self.new.bag }
     {
-        arena.cells();
+        use_promise!(arena.cells());
         let Placed { numbers, bag } = self;
         settle_all(numbers.as_slice(), bag, arena);
     }
@@ -106,7 +107,7 @@ impl Placed {
         ensures numbers { (self.new.cells ≡ self.old.cells) × (self.new.room ≡ self.old.room) }
         ensures bag { HasNoCell self.new.bag × AreOfOne self.old.bag self.new.bag }
     {
-        arena.cells();
+        use_promise!(arena.cells());
         let Placed { numbers, bag } = self;
         free_all(numbers.as_slice(), bag, arena);
     }

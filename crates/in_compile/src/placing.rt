@@ -19,7 +19,7 @@ use in_arena::{Bag, CellNo, End};
 
 /// The end that a joint is, where the agents have these cells.
 #[inline(always)]
-fn end_of(numbers: &[CellNo], joint: Joint) -> End
+pub(crate) fn end_of(numbers: &[CellNo], joint: Joint) -> End
     requires { IsInside (length numbers.now) joint }
     ensures { result ≡ end_in numbers.now joint }
 {

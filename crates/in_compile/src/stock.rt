@@ -13,6 +13,7 @@ ghost use Rattle.in_compile.specs.Listing.{listed, room_of, of_class, IsListing,
 use crate::cells::Need;
 use crate::lists::Lists;
 use in_arena::{Arena, Bag, CellClass, CellNo};
+use in_base::use_promise;
 use std::alloc::{AllocError, Global};
 use std::marker::Model;
 
@@ -95,7 +96,7 @@ impl Stock {
         requires room { HasRoom self.old need }
         ensures { AddsTo need arena.old self.old arena.new self.new }
     {
-        arena.cells();
+        use_promise!(arena.cells());
         let Stock { lists, bag } = self;
         lease_more(lists, bag, arena, CellClass::Small, need.small);
         lease_more(lists, bag, arena, CellClass::Large, need.large);
@@ -146,7 +147,7 @@ impl Stock {
         requires { IsStockOf self arena.old }
         ensures { Regains (λ _. Vacant) arena.old self.bag arena.new }
     {
-        arena.cells();
+        use_promise!(arena.cells());
         let Stock { mut lists, mut bag } = self;
         give_back(&mut lists, &mut bag, arena, CellClass::Small);
         give_back(&mut lists, &mut bag, arena, CellClass::Large);

@@ -16,6 +16,7 @@ use std::marker::Model;
 pub struct Template {
     pub(crate) member: Member,
     pub(crate) first_ends: u8,
+    pub(crate) unmarked: bool,
     pub(crate) heads: (SymbolNo, SymbolNo),
 }
 
@@ -26,7 +27,7 @@ impl Model for Template {
 
     ghost Value = { TemplateParts };
 
-    ghost view = { λ t. record { heads = t.heads; first_ends = t.first_ends; member = t.member } };
+    ghost view = { λ t. record { heads = t.heads; first_ends = t.first_ends; unmarked = t.unmarked; member = t.member } };
 
     ghost invariant = { λ t. IsSmallMember t.member };
 }
@@ -104,6 +105,14 @@ impl Template {
         ensures { result ≡ self.now.first_ends }
     {
         self.first_ends
+    }
+
+    /// Whether neither of its symbols is marked: then no wire of a sound net leads from an auxiliary port of the rule's pair back to one.
+    #[inline(always)]
+    pub fn is_unmarked(&self) -> bool
+        ensures { result ≡ self.now.unmarked }
+    {
+        self.unmarked
     }
 
     /// Where the wire at this boundary end leads.

@@ -7,14 +7,14 @@ use Rattle.in_syntax.specs.declared.tree.Source.{Source}
 use Rattle.in_syntax.specs.Parsing.{Parses}
 use Rattle.in_check.specs.Checking.{ChecksNames}
 use Rattle.in_check.proofs.Public.{chain_of, then_refused, then_rest}
-use Rattle.in_diagnosis.specs.Programs.{IsTold, IsToldOfTree}
+use Rattle.in_diagnosis.specs.Programs.{IsToldOfText, IsToldOfTree}
 
 -- what is told of a tree is told of its text
-pub of_tree : {E : Type 0} (text : List ℕ) (s : Source) (answer : Result Bool E) → Parses text (Ok s) → IfOk answer (IsToldOfTree s) → IfOk answer (IsTold text)
+pub of_tree : {E : Type 0} (text : List ℕ) (s : Source) (answer : Result Bool E) → Parses text (Ok s) → IfOk answer (IsToldOfTree s) → IfOk answer (IsToldOfText text)
 of_tree text s (Ok true) parses (r, refuses) = (r, chain_of text (Err (Refused r)) (then_rest (Parses text) ChecksNames s (Err (Refused r)) parses refuses))
 of_tree text s (Ok false) parses (p, accepts) = (p, chain_of text (Ok p) (then_rest (Parses text) ChecksNames s (Ok p) parses accepts))
 of_tree text s (Err e) parses told = tt
 
 -- a text without a tree is refused
-pub without_tree : (text : List ℕ) (r : Refusal) → Parses text (Err (Refused r)) → IsTold text true
+pub without_tree : (text : List ℕ) (r : Refusal) → Parses text (Err (Refused r)) → IsToldOfText text true
 without_tree text r refuses = (r, chain_of text (Err (Refused r)) (then_refused (Parses text) ChecksNames (Refused r) refuses))

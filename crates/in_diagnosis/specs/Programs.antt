@@ -7,9 +7,9 @@ use Rattle.in_check.specs.Checking.{ChecksNames, IsAccepted, IsRefused}
 use Rattle.in_check.specs.Programs.{Program}
 
 -- something is told of a text that is refused, and nothing of one that is accepted
-abbrev pub IsTold : List ℕ → Bool → Type 0
-IsTold text true = (r : Refusal) × IsRefused text r
-IsTold text false = (p : Program) × IsAccepted text p
+abbrev pub IsToldOfText : List ℕ → Bool → Type 0
+IsToldOfText text true = (r : Refusal) × IsRefused text r
+IsToldOfText text false = (p : Program) × IsAccepted text p
 
 -- the same of a text's tree
 abbrev pub IsToldOfTree : Source → Bool → Type 0

@@ -1,7 +1,7 @@
 //! The diagnosis of a program's text.
 ghost use Rattle.std.specs.Prelude.{◌≡◌, IfOk, is_some};
 ghost use Rattle.in_syntax.specs.Parsing.{IsOfText};
-ghost use Rattle.in_diagnosis.specs.Programs.{IsTold, IsToldOfTree};
+ghost use Rattle.in_diagnosis.specs.Programs.{IsToldOfText, IsToldOfTree};
 
 use crate::stuck::add_stuck;
 use crate::wires::add_misfit;
@@ -82,7 +82,7 @@ fn add_refusal(report: &mut Report, source: &Source) -> Result<bool, AllocError>
 
 /// What is wrong with a text, the report's; says whether anything is.
 fn add_first_fault(report: &mut Report, text: &[u8]) -> Result<bool, AllocError>
-    ensures { IfOk result (IsTold text.now) }
+    ensures { IfOk result (IsToldOfText text.now) }
 {
     let mut expected = Expected::Item;
     match parse_expecting(report.alloc, text, &mut expected) {
@@ -102,7 +102,7 @@ fn add_first_fault(report: &mut Report, text: &[u8]) -> Result<bool, AllocError>
 /// The fault is the one that `in_check::check` refuses the text for. The words are this project's own choice: a clause says
 /// that there are some exactly when the text is refused, and none says which.
 pub fn diagnosis(alloc: Global, text: &[u8]) -> Result<Option<String>, AllocError>
-    ensures { IfOk result (λ found. IsTold text.now (is_some found)) }
+    ensures { IfOk result (λ found. IsToldOfText text.now (is_some found)) }
 {
     let mut report = Report::new(alloc, text);
     if add_first_fault(&mut report, text)? {

@@ -6,7 +6,7 @@ use in_syntax::{Place, SourceSymbol, TokenKind};
 use std::alloc::{AllocError, Global};
 
 /// Other braces for the auxiliary ports of a symbol, whose order stays as it is.
-#[derive(Clone, Copy, Debug, PartialEq, Eq)]
+#[derive(Clone, Copy, PartialEq, Eq)]
 pub enum Braces {
     /// The ports from that of the first number to that of the second one are in one pair.
     Together(usize, usize),

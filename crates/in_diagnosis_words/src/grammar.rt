@@ -73,11 +73,13 @@ fn reserved_near(alloc: Global, found: &str) -> Result<Option<&'static str>, All
     Ok(None)
 }
 
-/// Whether a token is a sign of the grammar, and no word.
+/// Whether a token is a sign of the grammar, and no word: no word begins as a sign does.
 fn is_sign(token: &str) -> bool {
     matches!(
-        token,
-        "," | ";" | ":" | "+" | "-" | "{" | "}" | "(" | ")" | "[" | "]" | "~" | "><"
+        token.as_bytes().first(),
+        Some(
+            b',' | b';' | b':' | b'+' | b'-' | b'{' | b'}' | b'(' | b')' | b'[' | b']' | b'~' | b'>'
+        )
     )
 }
 

@@ -6,7 +6,7 @@ use in_syntax::Place;
 use std::alloc::{AllocError, Global};
 
 /// What a part of a diagnosis has: what is wrong, what belongs to it, or what helps.
-#[derive(Clone, Copy, Debug, PartialEq, Eq)]
+#[derive(Clone, Copy)]
 pub enum Kind {
     Error,
     Note,

@@ -8,6 +8,7 @@ use Rattle.in_interaction.proofs.Public.{same_option}
 use Rattle.in_gluing.specs.BirthNames.{wire_of_both, IsOfEither, AreJoinedByBoth, IsAfterBoth, IsStepOfBoth}
 use Rattle.in_gluing.proofs.Commute.{Way, AreIndependent, After_x, Then_y, AtOnce, join, split}
 use Rattle.in_gluing.proofs.Pairs.{AreApart, turned}
+use Rattle.in_gluing.proofs.Points.{turned as swap}
 
 -- the specification's paths are ways
 pub to_way : {P : Type 0} (wire : Side → P → P → Type 0) (End : P → Type 0) (s : Side) (u : P) (es : List P) (v : P) → Alternates wire End s u es v → (t : Side) × Way (wire Outer) (wire Inner) End s u es t v
@@ -155,10 +156,6 @@ module _ {A B : Type 0} (sig : Signature) where
 
 -- what is both at once is so in either order
 module _ {A B : Type 0} (sig : Signature) (n : Net A) (x y : Redex A B) (of_x of_y : B → A) where
-  swap : {P Q : Type 0} → P ⊎ Q → Q ⊎ P
-  swap (inl a) = inr a
-  swap (inr b) = inl b
-
   swap_wire : (s : Side) (u v : Point A) → wire_of_both sig n x y of_x of_y s u v → wire_of_both sig n y x of_y of_x s u v
   swap_wire Outer u v w = w
   swap_wire Inner u v w = swap w

@@ -61,9 +61,6 @@ module _ (sig : Signature) (n : Net ℕ) (x : Redex ℕ ℕ) (name : ℕ → ℕ
   In Outer p u = IsPoint sig n u × IsInRest sig x u p
   In Inner p u = IsPoint sig x.member p × (stands_for sig x name p ≡ u)
 
-  pair_at : (e : ℕ) → IsOfPair x (pt e)
-  pair_at e = end_of_pair sig n x name site.net site.inside site.redex site.naming e
-
   -- ---- wires
 
   outside : (u : Point ℕ) → Stays u → (p : Point ℕ) × IsInRest sig x u p
@@ -148,12 +145,12 @@ module _ (sig : Signature) (n : Net ℕ) (x : Redex ℕ ℕ) (name : ℕ → ℕ
   port_in Inner a k u at = sym at.1
 
   pub in_port : (s : Side) (p : Point ℕ) (y i : ℕ) → Stays (Port y i) → In s p (Port y i) → (a : ℕ) × (p ≡ Port a i) × (old_and_new name (part_of s) a ≡ y)
-  in_port Outer p y i h at = elim at.1 [ inl k ↦ (y, k.2, refl) | inr k ↦ absurd (h (subst (IsOfPair x) k.2 (pair_at k.0))) ]
+  in_port Outer p y i h at = elim at.1 [ inl k ↦ (y, k.2, refl) | inr k ↦ absurd (h (subst (IsOfPair x) k.2 (end_of_pair sig n x name site.net site.inside site.redex site.naming k.0))) ]
   in_port Inner (Port k j) y i h at =
       let agent : name k ≡ y = (let e : Port (name k) j ≡ Port y i = at.1 in cc) in
       let place : j ≡ i = (let e : Port (name k) j ≡ Port y i = at.1 in cc) in
       (k, ap (λ (j : ℕ). Port k j) place, agent)
-  in_port Inner (Free e) y i h at = absurd (h (subst (IsOfPair x) at.1 (pair_at e)))
+  in_port Inner (Free e) y i h at = absurd (h (subst (IsOfPair x) at.1 (end_of_pair sig n x name site.net site.inside site.redex site.naming e)))
 
   pub port_stays : (s : Side) (a k : ℕ) (u : Point ℕ) → In s (Port a k) u → Stays u
   port_stays Outer a k (Port y i) at o = elim at.1 [ inl h ↦ elim o [ inl e ↦ h.0 e | inr e ↦ h.1 e ] | inr h ↦ absurd (port_free a k h.0 h.3) ]
@@ -238,7 +235,7 @@ module _ (sig : Signature) (n : Net ℕ) (x : Redex ℕ ℕ) (name : ℕ → ℕ
           end = k.end;
           at = k.at;
           ends = pt joint.0 ∷ k.ends;
-          way = (subst (wire_of sig n x name s u) at r.2, pair_at joint.0, k.way);
+          way = (subst (wire_of sig n x name s u) at r.2, end_of_pair sig n x name site.net site.inside site.redex site.naming joint.0, k.way);
           goes = λ d m. elim m [
             | inl same ↦ subst (λ z. joined z ≡ true) (pt_same sig n x name site.net site.inside site.redex site.naming joint.0 d same) j.0
             | inr m ↦ k.goes d m
@@ -250,7 +247,7 @@ module _ (sig : Signature) (n : Net ℕ) (x : Redex ℕ ℕ) (name : ℕ → ℕ
     uncut : (s : Side) (p u : Point ℕ) → In s p u → Stays u → IsJointEnd cuts (part_of s, p) → ⊥
     uncut Outer p (Port y i) at h c = elim at.1 [
       | inl k ↦ subst (λ u. IsJointEndAt cuts 0 u) k.2 c
-      | inr k ↦ h (subst (IsOfPair x) k.2 (pair_at k.0))
+      | inr k ↦ h (subst (IsOfPair x) k.2 (end_of_pair sig n x name site.net site.inside site.redex site.naming k.0))
     ]
     uncut Outer p (Free k) at h c =
         let r = has_value (across_at joined 0 (many + k)) (subst (λ u. IsJointEndAt cuts 0 u) at.1 c) in
@@ -258,7 +255,7 @@ module _ (sig : Signature) (n : Net ℕ) (x : Redex ℕ ℕ) (name : ℕ → ℕ
         let l = within (many + k) j.0 in
         absurd (omega (arith, l))
     uncut Inner (Port k i) u at h c = c
-    uncut Inner (Free e) u at h c = h (subst (IsOfPair x) at.1 (pair_at e))
+    uncut Inner (Free e) u at h c = h (subst (IsOfPair x) at.1 (end_of_pair sig n x name site.net site.inside site.redex site.naming e))
 
     begin : (s : Side) (u : Point ℕ) (es : List (Point ℕ)) (v : Point ℕ) → Stays u → Way s u es v → (p : Point ℕ) × In s p u
     begin s u es v h w = go s (first_wire sig n x name site.net site.inside site.redex site.naming s u es v w)

@@ -231,14 +231,8 @@ module _ {A C : Type 0} (parts : ℕ → Net A) (name : ℕ → A → C) (number
   )
 
   stays : (p : Spot) (u : Point C) → At p u → IsNeither (number one) (number two) u → SY p
-  stays p u h n (inl e) = n.0 (is_free p u one h e)
-    where
-      is_free : (p : Spot) (u : Point C) (r : ℕ × ℕ) → At p u → p ≡ (r.0, Free r.1) → u ≡ Free (number r)
-      is_free p u r h e = subst (λ z. At z u) e h
-  stays p u h n (inr e) = n.1 (is_free p u two h e)
-    where
-      is_free : (p : Spot) (u : Point C) (r : ℕ × ℕ) → At p u → p ≡ (r.0, Free r.1) → u ≡ Free (number r)
-      is_free p u r h e = subst (λ z. At z u) e h
+  stays p u h n (inl e) = n.0 (subst (λ z. At z u) e h)
+  stays p u h n (inr e) = n.1 (subst (λ z. At z u) e h)
 
   at_one : (p : Spot) → p ≡ P1 → At p (Free (number one))
   at_one p e = subst (λ z. At z (Free (number one))) (sym e) refl

@@ -182,16 +182,13 @@ pairs_are_made_where_joined t n r a b name e m site low h q = (to, from)
     below : e < length (net_of r.member).free
     below = subst (λ k. e < k) (sym (length-map r.member.free (λ f. f.kind))) low
 
-    stays : (y : AgentNo) (s : SymbolNo) → HasSymbolAfter n r a b name y s → IsOfPair (redex_at r a.0 b.0) (Port y.0 0) → ⊥
-    stays = stays_as t n r a b name site.net site.inside site.redex site.naming
-
     to : IsMade t n r a b name e q → IsPairAtSides t n r a b name e m q
     to g = record {
       first = g.first;
       second = g.second;
       one = g.one;
       two = g.two;
-      sides = (joins_at_lowest_end (signature_of t) (net_of n) (redex_at r a.0 b.0) name e m q.0.0 0 q.1.0 0 site below h (stays q.0 g.first g.one) (stays q.1 g.second g.two)).0 g.path;
+      sides = (joins_at_lowest_end (signature_of t) (net_of n) (redex_at r a.0 b.0) name e m q.0.0 0 q.1.0 0 site below h (stays_as t n r a b name site.net site.inside site.redex site.naming q.0 g.first g.one) (stays_as t n r a b name site.net site.inside site.redex site.naming q.1 g.second g.two)).0 g.path;
       order = g.order;
     }
 
@@ -201,7 +198,7 @@ pairs_are_made_where_joined t n r a b name e m site low h q = (to, from)
       second = g.second;
       one = g.one;
       two = g.two;
-      path = (joins_at_lowest_end (signature_of t) (net_of n) (redex_at r a.0 b.0) name e m q.0.0 0 q.1.0 0 site below h (stays q.0 g.first g.one) (stays q.1 g.second g.two)).1 g.sides;
+      path = (joins_at_lowest_end (signature_of t) (net_of n) (redex_at r a.0 b.0) name e m q.0.0 0 q.1.0 0 site below h (stays_as t n r a b name site.net site.inside site.redex site.naming q.0 g.first g.one) (stays_as t n r a b name site.net site.inside site.redex site.naming q.1 g.second g.two)).1 g.sides;
       order = g.order;
     }
 

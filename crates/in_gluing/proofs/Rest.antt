@@ -75,9 +75,6 @@ module _ (sig : Signature) (n : Net ℕ) (x : Redex ℕ ℕ) (net : IsNet sig n)
 
   -- ---- these are where points stand
 
-  room : (o : Option ℕ) (s i : ℕ) → o ≡ Some s → IsSomeAnd o (λ s. i ≤ sig.arity s) → i ≤ sig.arity s
-  room o s i e h = subst (λ o. IsSomeAnd o (λ s. i ≤ sig.arity s)) e h
-
   pt_first : (j : ℕ) → j < sig.arity x.first → pt j ≡ Port x.one (suc j)
   pt_first j h = go (of_first sig x j) (lt-ltb j (sig.arity x.first) h)
     where
@@ -99,12 +96,12 @@ module _ (sig : Signature) (n : Net ℕ) (x : Redex ℕ ℕ) (net : IsNet sig n)
       go : (i : ℕ) (k : Kind y) → IsPoint sig n (Port y i) → port_out y i k ≡ Some u → IsInRest sig x (Port y i) u
       go zero (first a) h e = cc
       go (suc j) (first a) h e =
-          let low : suc j ≤ sig.arity x.first = room (n.symbol y) x.first (suc j) (ap n.symbol a ∙ redex.one) h in
+          let low : suc j ≤ sig.arity x.first = subst (λ (o : Option ℕ). IsSomeAnd o (λ s. suc j ≤ sig.arity s)) (ap n.symbol a ∙ redex.one) h in
           let all = redex.ends in
           inr (j, omega (arith, low, all), pt_first j (omega (arith, low)) ∙ ap (λ (y : ℕ). Port y (suc j)) (sym a), sym (same_Some (Free j) u e))
       go zero (second a) h e = cc
       go (suc j) (second a) h e =
-          let low : suc j ≤ sig.arity x.second = room (n.symbol y) x.second (suc j) (ap n.symbol a ∙ redex.two) h in
+          let low : suc j ≤ sig.arity x.second = subst (λ (o : Option ℕ). IsSomeAnd o (λ s. suc j ≤ sig.arity s)) (ap n.symbol a ∙ redex.two) h in
           let all = redex.ends in
           inr (sig.arity x.first + j, omega (arith, low, all), pt_second j ∙ ap (λ (y : ℕ). Port y (suc j)) (sym a), sym (same_Some (Free (sig.arity x.first + j)) u e))
       go i (neither a b) h e = inl (a, b, sym (same_Some (Port y i) u e))

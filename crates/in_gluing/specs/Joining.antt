@@ -9,9 +9,17 @@ abbrev pub IsAtNumber : {A C : Type 0} → (ℕ × ℕ → ℕ) → (ℕ → A �
 IsAtNumber number name i (Port x k) u = u ≡ Port (name i x) k
 IsAtNumber number name i (Free e) u = u ≡ Free (number (i, e))
 
+-- the net has the agents of the parts under their names
+abbrev pub HasAgentsOfParts : {A C : Type 0} → (ℕ → Net A) → (ℕ → A → C) → Net C → Type 0
+HasAgentsOfParts {A} {C} parts name m = (y : C) (s : ℕ) → (m.symbol y ≡ Some s) ↔ ((i : ℕ) × (x : A) × (name i x ≡ y) × ((parts i).symbol x ≡ Some s))
+
+-- the net has the same agents
+abbrev pub HasSameAgents : {C : Type 0} → Net C → Net C → Type 0
+HasSameAgents {C} w m = (y : C) (s : ℕ) → (w.symbol y ≡ Some s) ↔ (m.symbol y ≡ Some s)
+
 -- the net is the parts, so far joined by these joints
 pub record IsJoinedBy {A C : Type 0} (parts : ℕ → Net A) (name : ℕ → A → C) (number : ℕ × ℕ → ℕ) (cuts : Cuts) (m : Net C) : Type 0 where
-  pub agents : (y : C) (s : ℕ) → (m.symbol y ≡ Some s) ↔ ((i : ℕ) × (x : A) × (name i x ≡ y) × ((parts i).symbol x ≡ Some s))
+  pub agents : HasAgentsOfParts parts name m
   pub wires : (u v : Point C) → (m.partner u ≡ Some v) ↔ ((p q : ℕ × Point A) × IsAtNumber number name p.0 p.1 u × IsAtNumber number name q.0 q.1 v × AreLinked parts cuts p q)
 
 -- one joint more, between two free ends that weren't joined
@@ -29,7 +37,7 @@ ArePartnersAfter m a b u v = (m.partner u ≡ Some v) ⊎ ((m.partner u ≡ Some
 
 -- what one joint makes of a net: the partners of the two free ends are partners of one another
 pub record JoinsEnds {C : Type 0} (m : Net C) (a b : ℕ) (w : Net C) : Type 0 where
-  pub agents : (y : C) (s : ℕ) → (w.symbol y ≡ Some s) ↔ (m.symbol y ≡ Some s)
+  pub agents : HasSameAgents w m
   pub wires : (u v : Point C) → (w.partner u ≡ Some v) ↔ (IsNeither a b u × IsNeither a b v × ArePartnersAfter m a b u v)
 
 -- partners lead back, and no point is its own
@@ -54,7 +62,7 @@ JoinsNext = (parts : ℕ → Net ℕ) (name : ℕ → ℕ → ℕ) (number : ℕ
 
 -- the parts stand side by side: the wires are those of the parts
 pub record IsBeside {A C : Type 0} (parts : ℕ → Net A) (name : ℕ → A → C) (number : ℕ × ℕ → ℕ) (m : Net C) : Type 0 where
-  pub agents : (y : C) (s : ℕ) → (m.symbol y ≡ Some s) ↔ ((i : ℕ) × (x : A) × (name i x ≡ y) × ((parts i).symbol x ≡ Some s))
+  pub agents : HasAgentsOfParts parts name m
   pub wires : (u v : Point C) → (m.partner u ≡ Some v) ↔ ((i : ℕ) × (p q : Point A) × IsAtNumber number name i p u × IsAtNumber number name i q v × ((parts i).partner p ≡ Some q))
 
 -- .. so that they are joined by no joint
@@ -68,7 +76,7 @@ IsRenumbered number outer (Port y i) u = u ≡ Port y i
 IsRenumbered number outer (Free a) u = (k : ℕ) × (p : ℕ × ℕ) × (u ≡ Free k) × (slice_get outer k ≡ Some p) × (number p ≡ a)
 
 pub record Renumbers {A C : Type 0} (parts : ℕ → Net A) (number : ℕ × ℕ → ℕ) (cuts : Cuts) (m w : Net C) : Type 0 where
-  pub agents : (y : C) (s : ℕ) → (w.symbol y ≡ Some s) ↔ (m.symbol y ≡ Some s)
+  pub agents : HasSameAgents w m
   pub wires : (u v : Point C) → (w.partner u ≡ Some v) ↔ ((x y : Point C) × IsRenumbered number cuts.outer x u × IsRenumbered number cuts.outer y v × (m.partner x ≡ Some y))
   pub free : map (λ t. Some t) w.free ≡ map (λ p. slice_get (parts p.0).free p.1) cuts.outer
 
@@ -90,7 +98,7 @@ JoinsLeadBack = (m : Net ℕ) (a b : ℕ) (w : Net ℕ) → a ≢ b → WiresLea
 
 -- the wire between these two points is cut: the first one is at this new free end, the second one at that
 pub record CutsWire {C : Type 0} (w : Net C) (u v : Point C) (a b : ℕ) (m : Net C) : Type 0 where
-  pub agents : (y : C) (s : ℕ) → (w.symbol y ≡ Some s) ↔ (m.symbol y ≡ Some s)
+  pub agents : HasSameAgents w m
   pub wires : (x y : Point C) → (m.partner x ≡ Some y) ↔
       (((x ≢ u) × (x ≢ v) × (w.partner x ≡ Some y)) ⊎ ((x ≡ u) × (y ≡ Free a)) ⊎ ((x ≡ Free a) × (y ≡ u)) ⊎ ((x ≡ v) × (y ≡ Free b)) ⊎ ((x ≡ Free b) × (y ≡ v)))
 

@@ -1,3 +1,2 @@
-pub mod Alone
-pub mod BuiltRules
 pub mod LedTo
+pub mod Putting

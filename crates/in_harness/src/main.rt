@@ -2,49 +2,50 @@
 //!
 //! tokens, count, tree, sizes, tables, nets     what is read, before types are looked at
 //! program, templates                           what `check` answers, and what is made of it
+//! stock ONE OTHER CELLS                        a stock for the template of these symbols, and what is placed from it
 //! verify ITEM STEP ..                          whether these steps build the net (`net`), or the rule of this number
 //! plain ORDER TURNS                            the slow reducer: `oldest`, `newest`, or a seed
 //! run WORKERS LIMIT CELLS                      what a run comes to, as its machine shows it
-//! round CELLS WORKERS BUDGET STEPS             a round, and steps after it
+//! round CELLS WORKERS BUDGET STEPS HELD        a round whose first jobs wait for one another, and steps after it
+//! rounds CELLS WORKERS BUDGET ROUNDS           what a machine shows after each of these rounds
+//! steps CELLS COUNT ..                         what it shows after each of these counts of interactions in turn
 //! phases CELLS PARTS BETWEEN MOST LIMIT        a run with a phase at every chance
+//! gather ONE OTHER ONE OTHER WORD ..           what a gather of two jobs answers: `put JOB ONE OTHER`, `take JOB`
+//! workers COUNT                                six jobs that this many workers do
 //! calls LIMIT CELLS INTERACTIONS               calls that take memory, a line for each
 //! action WORD ..                               what these words ask of `inet`
 //!
 //! Where the text is refused, it says so; `none` where nothing can start, and `memory` where memory runs out. `tests/harness/asked.py` has what
-//! is wanted.
+//! is wanted. What needs no machine is answered by `in_harness_texts`, which is proved beside the machines.
 #![tactic(auto)]
 
+mod arenas;
 mod calls;
-mod machines;
-mod nets;
-mod only;
-mod programs;
-mod queueing;
-mod reducing;
-mod sheet;
-mod templates;
-mod texts;
-mod words;
+mod gates;
+mod gathers;
+mod phases;
+mod rounds;
+mod runs;
+mod showing;
+mod workers;
 
-use crate::calls::say_calls;
-use crate::machines::{add_machine_run, add_run};
-use crate::nets::{Read, add_read};
-use crate::only::answer;
-use crate::programs::{add_action, add_program, add_verified};
-use crate::reducing::add_plain;
-use crate::sheet::Sheet;
-use crate::templates::add_templates;
-use crate::texts::{Shown, add_count, add_tokens, add_tree};
+use crate::arenas::add_over_arena;
+use crate::calls::add_all_calls;
+use crate::phases::add_phases;
+use crate::rounds::{add_round, add_rounds, add_steps};
+use crate::runs::add_run;
 use in_check::Checked;
+use in_harness_texts::{Sheet, add_answer, answer, small, word};
+use in_rounds::{LEAST_CELLS, MOST_CELLS, Machine, StartFault};
 use in_syntax::MAX_TEXT_BYTES;
 use std::alloc::Global;
-use std::io::Read as Reading;
+use std::io::Read;
 use std::sync::Wait;
 use std::thread::Threads;
 use std::{env, io};
 
 /// Reads to the end, or until more bytes came than a text has.
-fn read_text<R: Reading>(alloc: Global, reader: &mut R) -> io::Result<Vec<u8>> {
+fn read_text<R: Read>(alloc: Global, reader: &mut R) -> io::Result<Vec<u8>> {
     let mut text = Vec::new(alloc);
     let mut buffer = [0u8; 4096];
     // Each turn but the last brings a byte or more, so these are enough.
@@ -58,21 +59,59 @@ fn read_text<R: Reading>(alloc: Global, reader: &mut R) -> io::Result<Vec<u8>> {
     Ok(text)
 }
 
+/// What is asked of a machine.
+fn add_of_machine<R: Threads + Wait>(
+    rt: &R,
+    sheet: &mut Sheet,
+    machine: &mut Machine,
+    words: &[String],
+) {
+    match word(words, 1) {
+        "round" => add_round(rt, sheet, machine, words),
+        "rounds" => add_rounds(rt, sheet, machine, words),
+        "steps" => add_steps(sheet, machine, words),
+        _ => add_phases(rt, sheet, machine, words),
+    }
+}
+
+/// A machine of a program with the cells of each class that the words say, and what is asked of it.
+fn add_machine_run<R: Threads + Wait>(
+    rt: &R,
+    sheet: &mut Sheet,
+    program: &Checked,
+    words: &[String],
+) {
+    let cells = small(words, 2);
+    if cells < LEAST_CELLS || cells > MOST_CELLS {
+        return sheet.say("none\n");
+    }
+    match Machine::new(sheet.alloc, program, cells) {
+        Ok(mut machine) => {
+            add_of_machine(rt, sheet, &mut machine, words);
+            drop(machine);
+        }
+        Err(StartFault::Full { .. }) => sheet.say("none\n"),
+        Err(StartFault::Memory(_)) => sheet.fail(),
+    }
+}
+
 /// What is asked of an accepted program.
-fn add_of_program<R: Threads + Wait>(rt: &R, sheet: &mut Sheet, program: &Checked, words: &[&str]) {
-    match words.get(1).copied().unwrap_or("") {
-        "program" => add_program(sheet, program),
-        "templates" => add_templates(sheet, program),
-        "verify" => add_verified(sheet, program, words),
-        "plain" => add_plain(sheet, program, words),
+fn add_of_program<R: Threads + Wait>(
+    rt: &R,
+    sheet: &mut Sheet,
+    program: &Checked,
+    words: &[String],
+) {
+    match word(words, 1) {
         "run" => add_run(rt, sheet, program, words),
-        "round" | "phases" => add_machine_run(rt, sheet, program, words),
-        _ => sheet.say("no such word\n"),
+        "calls" => add_all_calls(rt, sheet, program, words),
+        "gather" | "workers" => add_over_arena(rt, sheet, program, words),
+        _ => add_machine_run(rt, sheet, program, words),
     }
 }
 
 /// The same of a text.
-fn add_checked<R: Threads + Wait>(rt: &R, sheet: &mut Sheet, words: &[&str], text: &[u8]) {
+fn add_checked<R: Threads + Wait>(rt: &R, sheet: &mut Sheet, words: &[String], text: &[u8]) {
     match answer(sheet.alloc, text) {
         Ok(program) => {
             add_of_program(rt, sheet, &program, words);
@@ -82,56 +121,20 @@ fn add_checked<R: Threads + Wait>(rt: &R, sheet: &mut Sheet, words: &[&str], tex
     }
 }
 
-/// What is asked of a text.
-fn add_answer<R: Threads + Wait>(rt: &R, sheet: &mut Sheet, words: &[&str], text: &[u8]) {
-    match words.get(1).copied().unwrap_or("") {
-        "tokens" => add_tokens(sheet, text),
-        "count" => add_count(sheet, text),
-        "tree" => add_tree(sheet, text, Shown::Tree),
-        "sizes" => add_tree(sheet, text, Shown::Sizes),
-        "tables" => add_read(sheet, text, Read::Tables),
-        "nets" => add_read(sheet, text, Read::Nets),
-        "action" => add_action(sheet, words),
-        _ => add_checked(rt, sheet, words, text),
-    }
-}
-
-/// The calls on the program of a text.
-fn call<R: Print + Threads + Wait>(
-    rt: &R,
-    alloc: Global,
-    words: &[&str],
-    text: &[u8],
-) -> io::Result<()> {
-    match answer(alloc, text) {
-        Ok(program) => {
-            let said = say_calls(rt, alloc, &program, words);
-            drop(program);
-            said
-        }
-        Err(_) => println!(rt; "memory"),
-    }
-}
-
 /// Answers the words on a text.
 fn tell<R: Print + Threads + Wait>(
     rt: &R,
     alloc: Global,
-    owned: &[String],
+    words: &[String],
     text: &[u8],
 ) -> io::Result<()> {
-    let Ok(words) = owned
-        .iter()
-        .map(|word| word.as_str())
-        .collect::<Vec<&str>>(alloc)
-    else {
-        return println!(rt; "memory");
-    };
-    if words.get(1).copied() == Some("calls") {
-        return call(rt, alloc, words.as_slice(), text);
-    }
     let mut sheet = Sheet::new(alloc);
-    add_answer(rt, &mut sheet, words.as_slice(), text);
+    match word(words, 1) {
+        "run" | "calls" | "gather" | "workers" | "round" | "rounds" | "steps" | "phases" => {
+            add_checked(rt, &mut sheet, words, text)
+        }
+        _ => add_answer(&mut sheet, words, text),
+    }
     sheet.print(rt)
 }
 

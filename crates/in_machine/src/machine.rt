@@ -1,5 +1,5 @@
 // A machine, how it starts, and one interaction of it.
-ghost use Rattle.std.specs.Prelude.{◌<◌, ◌≤◌, ℕ, suc, length};
+ghost use Rattle.std.specs.Prelude.{◌≡◌, ◌<◌, ◌≤◌, ℕ, suc, true, false, length};
 ghost use Rattle.in_check.specs.Plain.{IsReachedBy};
 ghost use Rattle.in_reducer.specs.Limiting.{least_cells, most_cells};
 ghost use Rattle.in_reducer.specs.Machines.{plain_of};
@@ -9,6 +9,7 @@ ghost use Rattle.in_machine.specs.Starts.{Starts};
 ghost use Rattle.in_machine.specs.Taking.{TakesNoFirst};
 
 use crate::starting::StartFault;
+use in_base::use_promise;
 use in_check::Checked;
 use in_compile::{Need, Templates, compile, need_of_net};
 use in_reducer::Reducer;
@@ -84,26 +85,24 @@ impl<'a> Machine<'a> {
         ensures most { result ≤ most }
         ensures fewer { result < most → TakesNoFirst self.new }
     {
-        if self.pairs() == 0 {
-            return 0;
-        }
+        use_promise!(self.pairs());
         let mut count = 0;
         while count < most {
-            if self.pairs() == 0 || !self.has_room(0) {
+            if !self.step_first() {
                 return count;
             }
-            self.step_first();
             count += 1;
         }
         count
     }
 
-    /// The interaction of the first pair, up to the numbers of agents. Here the numbers stay; no proof above it uses that.
-    fn step_first(&mut self)
-        requires pair { 0 < length self.old.queue }
-        requires room { HasRoomAt self.old 0 }
-        ensures { StepsUpToNumbers self.old 0 self.new }
+    /// The interaction of the first pair, up to the numbers of agents, where there is one and what it needs is free. Returns whether it was
+    /// done. Here the numbers stay; no proof above it uses that.
+    #[inline(always)]
+    fn step_first(&mut self) -> bool
+        ensures done { result ≡ true → StepsUpToNumbers self.old 0 self.new }
+        ensures none { result ≡ false → (self.new ≡ self.old) × TakesNoFirst self.old }
     {
-        self.step(0);
+        self.reducer.step_first(&self.templates)
     }
 }

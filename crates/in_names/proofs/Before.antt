@@ -17,12 +17,14 @@ use Rattle.in_interaction.specs.Interacting.{InteractsAs}
 use Rattle.in_interaction.specs.Made.{AreMade, AreMadeOverEnds}
 use Rattle.in_interaction.specs.Queues.{agents_at, numbers_of, both}
 use Rattle.in_interaction.proofs.Public.{has_value, made_numbers}
+use Rattle.in_gluing.proofs.Public.{pick}
 use Rattle.in_check.specs.Plain.{IsPairAt, IsRuleAt, StepsAs}
 use Rattle.in_check.specs.Programs.{Program}
 use Rattle.in_check.specs.Runs.{IsInteraction}
 use Rattle.in_net.specs.Renaming.{renamed, IsRenamed}
 use Rattle.in_check.specs.Systems.{rule_in, system_of}
 use Rattle.in_check.proofs.Public.{live, symbol_kept, wire_kept, AreOpposed}
+use Rattle.in_base.proofs.Options.{none_of}
 use Rattle.in_base.proofs.Places.{to_mapped, is_some as there}
 use Rattle.in_check.proofs.Public.Moved as moving
 use Rattle.in_compile.specs.Cells.{agents_of, count_of}
@@ -36,7 +38,7 @@ use Rattle.in_names.specs.Same.{IsSameMachine, AreSame, StepsUpToNumbers, RunsUp
 use Rattle.in_names.proofs.OfSame.{reducer_same}
 use Rattle.in_names.proofs.Renamed.{machine_under, is_under}
 use Rattle.in_names.proofs.SameKind.{same_back, same_through}
-use Rattle.in_names.proofs.SameStep.{Acts, acts_of, map_same, rule_moved, pair_moved, need_moved, all_moved, queue_on}
+use Rattle.in_names.proofs.SameStep.{moved_pair, Acts, acts_of, map_same, rule_moved, pair_moved, need_moved, all_moved, queue_on}
 use Rattle.in_names.proofs.SameStep as two_steps
 
 -- ---- numbers beyond those of a net
@@ -50,19 +52,15 @@ number_below n y h = let s = has_value ((net_of n).symbol y) h in go s.0 (slice_
 
 -- ---- numbers of which two are chosen
 
-abbrev picked : {P X : Type 0} → Dec P → X → X → X
-picked (yes e) a b = a
-picked (no d) a b = b
-
 chosen : (f : ℕ → ℕ) (a b x y : ℕ) → ℕ → ℕ
-chosen f a b x y z = picked (ℕ_discrete z a) x (picked (ℕ_discrete z b) y (f z))
+chosen f a b x y z = pick (ℕ_discrete z a) x (pick (ℕ_discrete z b) y (f z))
 
 module _ (f : ℕ → ℕ) (a b x y : ℕ) where
   chosen_one : chosen f a b x y a ≡ x
   unfolding chosen
   chosen_one = go (ℕ_discrete a a)
     where
-      go : (d : Dec (a ≡ a)) → picked d x (picked (ℕ_discrete a b) y (f a)) ≡ x
+      go : (d : Dec (a ≡ a)) → pick d x (pick (ℕ_discrete a b) y (f a)) ≡ x
       go (yes e) = refl
       go (no n) = absurd (n refl)
 
@@ -70,7 +68,7 @@ module _ (f : ℕ → ℕ) (a b x y : ℕ) where
   unfolding chosen
   chosen_two differ = go (ℕ_discrete b a) (ℕ_discrete b b)
     where
-      go : (d : Dec (b ≡ a)) (e : Dec (b ≡ b)) → picked d x (picked e y (f b)) ≡ y
+      go : (d : Dec (b ≡ a)) (e : Dec (b ≡ b)) → pick d x (pick e y (f b)) ≡ y
       go (yes e) h = absurd (differ (sym e))
       go (no n) (yes e) = refl
       go (no n) (no m) = absurd (m refl)
@@ -79,7 +77,7 @@ module _ (f : ℕ → ℕ) (a b x y : ℕ) where
   unfolding chosen
   chosen_old z not_a not_b = go (ℕ_discrete z a) (ℕ_discrete z b)
     where
-      go : (d : Dec (z ≡ a)) (e : Dec (z ≡ b)) → picked d x (picked e y (f z)) ≡ f z
+      go : (d : Dec (z ≡ a)) (e : Dec (z ≡ b)) → pick d x (pick e y (f z)) ≡ f z
       go (yes e) h = absurd (not_a e)
       go (no n) (yes e) = absurd (not_b e)
       go (no n) (no m) = refl
@@ -213,10 +211,6 @@ module _ (m n o : MachineParts) (i : ℕ) (reducer : IsReducer m) (s : StepsAt m
   naming : IsNaming (net_of (parts_of first)) (redex_at r (h a) (h b)) named
   naming = record { fresh = fresh; apart = apart }
     where
-      none_of : (o : Option ℕ) → ((k : ℕ) → o ≡ Some k → ⊥) → o ≡ None
-      none_of None never = refl
-      none_of (Some k) never = absurd (never k refl)
-
       fresh : (k k' : ℕ) → (net_of r.member).symbol k ≡ Some k' → (net_of (parts_of first)).symbol (named k) ≡ None
       fresh k k' e = none_of ((net_of (parts_of first)).symbol (named k)) (λ u there_u. (
           let z = (renamed_first.net.agents (named k) u).0 there_u in
@@ -359,20 +353,17 @@ module _ (m n o : MachineParts) (i : ℕ) (reducer : IsReducer m) (s : StepsAt m
   e_is : (z : ℕ) → IsSome (after.symbol z) → e z ≡ f z
   e_is = agrees e e_old e_new
 
-  abbrev moved_pair : AgentNo × AgentNo → AgentNo × AgentNo
-  moved_pair q = agents_at (both e (numbers_of q))
-
   abbrev made : List (AgentNo × AgentNo)
-  made = map moved_pair s.new.over ++ map (λ q. agents_at (both named q)) s.new.own
+  made = map (moved_pair e) s.new.over ++ map (λ q. agents_at (both named q)) s.new.own
 
-  over_ends : AreMadeOverEnds t (parts_of first) r (agents_at (both h s.pair)).0 (agents_at (both h s.pair)).1 named (map moved_pair s.new.over)
+  over_ends : AreMadeOverEnds t (parts_of first) r (agents_at (both h s.pair)).0 (agents_at (both h s.pair)).1 named (map (moved_pair e) s.new.over)
   unfolding e x y
   over_ends = all_moved m.program h m first s.pair r n o net (net_at first first_reducer) inside renamed_first.net x y opposed s.new.over s.new.are_over
 
   new : AreMade t (parts_of first) r (agents_at (both h s.pair)).0 (agents_at (both h s.pair)).1 named made
-  new = record { over = map moved_pair s.new.over; own = s.new.own; are_over = over_ends; are_own = s.new.are_own; listed = refl }
+  new = record { over = map (moved_pair e) s.new.over; own = s.new.own; are_over = over_ends; are_own = s.new.are_own; listed = refl }
 
-  queue_moved_on : remove first.queue i ++ (map numbers_of (map moved_pair s.new.over) ++ map (both named) s.new.own) ≡ map (both e) (remove m.queue i ++ (map numbers_of s.new.over ++ map (both s.name) s.new.own))
+  queue_moved_on : remove first.queue i ++ (map numbers_of (map (moved_pair e) s.new.over) ++ map (both named) s.new.own) ≡ map (both e) (remove m.queue i ++ (map numbers_of s.new.over ++ map (both s.name) s.new.own))
   unfolding e x y
   queue_moved_on = queue_on m.program h m first s.pair r n o net (net_at first first_reducer) inside renamed_first.net x y opposed s.new.over s.new.are_over i reducer.queue refl s.new.own s.new.are_own
 

@@ -13,7 +13,8 @@ use Rattle.in_net.specs.Nets.{Port, Free, Point, net_of, point_of}
 use Rattle.in_net.specs.Parts.{Parts, cell_in}
 use Rattle.in_net.proofs.Public.{port_agent, port_place}
 use Rattle.in_interaction.specs.Queues.{IsQueueOf, both}
-use Rattle.in_interaction.proofs.Public.{has_value}
+use Rattle.in_interaction.proofs.Public.{cell_of_symbol, has_value}
+use Rattle.in_gluing.proofs.Public.{not_some}
 use Rattle.in_check.specs.Checking.{IsAccepted}
 use Rattle.in_check.specs.Programs.{Program}
 use Rattle.in_net.specs.Renaming.{renamed, IsRenamed}
@@ -28,6 +29,7 @@ use Rattle.in_reducer.specs.Starts.{IsStart}
 use Rattle.in_reducer.proofs.Public.{as_many_of, queue_moved}
 use Rattle.in_reducer.proofs.Public.StepsOn.{net_at, opposed_at}
 use Rattle.in_names.specs.Same.{IsSameMachine, AreSame}
+use Rattle.in_names.proofs.Renamed.{symbol_of_cell}
 use Rattle.in_names.proofs.SameStep.{map_twice}
 use Rattle.in_names.proofs.SameKind.{composed}
 
@@ -43,9 +45,6 @@ sound_under p f n m named h = record {
 
 -- ---- lists
 
-no_some : {X : Type 0} (o : Option X) → o ≡ None → IsSome o → ⊥
-no_some {X} o e h = let q = has_value o h in let z : ◌≡◌ {A = Option X} None (Some q.0) = sym e ∙ q.1 in cc
-
 -- the place of what is among a list
 place_of : {X : Type 0} (xs : List X) (x : X) → IsAmong x xs → (k : ℕ) × (slice_get xs k ≡ Some x)
 place_of [] x a = absurd a
@@ -56,8 +55,8 @@ place_of {X} (y ∷ xs) x a = elim a [ inl e ↦ (0, ap (λ (z : X). Some z) e) 
 -- each of the first k places of the one list is there, and what is there in the other one is there in it
 as_long : {X Y : Type 0} (xs : List X) (ys : List Y) → ((i : ℕ) → IsSome (slice_get xs i) → IsSome (slice_get ys i)) → ((i : ℕ) → IsSome (slice_get ys i) → IsSome (slice_get xs i)) → length xs ≡ length ys
 as_long [] [] a b = refl
-as_long {X} [] (y ∷ ys) a b = absurd (no_some {X = X} None refl (b 0 refl))
-as_long {X} {Y} (x ∷ xs) [] a b = absurd (no_some {X = Y} None refl (a 0 refl))
+as_long {X} [] (y ∷ ys) a b = absurd (not_some {X = X} None refl (b 0 refl))
+as_long {X} {Y} (x ∷ xs) [] a b = absurd (not_some {X = Y} None refl (a 0 refl))
 as_long (x ∷ xs) (y ∷ ys) a b = ap suc (as_long xs ys (λ i. a (suc i)) (λ i. b (suc i)))
 
 module _ (t : Tables) (f : ℕ → ℕ) (m n : Parts) (named : IsRenamed f (net_of m) (net_of n)) (over : IsOver t m) where
@@ -69,22 +68,12 @@ module _ (t : Tables) (f : ℕ → ℕ) (m n : Parts) (named : IsRenamed f (net_
       some_end c e = by (slice_get c.ends i) refl e
         where
           by : (o : Option points.Point) → slice_get c.ends i ≡ o → option_map point_of o ≡ Some v → IsSome (slice_get c.ends i)
-          by None is h = absurd (no_some {X = Point ℕ} None refl (there None v h))
+          by None is h = absurd (not_some {X = Point ℕ} None refl (there None v h))
           by (Some q) is h = there (slice_get c.ends i) q is
 
       go : (o : Option Cell) → cell_in k x ≡ o → option_map point_of (option_and_then (λ (c : Cell). slice_get c.ends i) o) ≡ Some v → (c : Cell) × (cell_in k x ≡ Some c) × IsSome (slice_get c.ends i)
-      go None is h = absurd (no_some {X = Point ℕ} None refl (there None v h))
+      go None is h = absurd (not_some {X = Point ℕ} None refl (there None v h))
       go (Some c) is h = (c, is, some_end c h)
-
-  symbol_at : (k : Parts) (x : ℕ) (c : Cell) → cell_in k x ≡ Some c → (net_of k).symbol x ≡ Some c.symbol.0
-  symbol_at k x c e = ap (λ (o : Option Cell). option_map (λ s. s.0) (option_map (λ (c : Cell). c.symbol) o)) e
-
-  cell_at : (k : Parts) (x s : ℕ) → (net_of k).symbol x ≡ Some s → (c : Cell) × (cell_in k x ≡ Some c) × (c.symbol.0 ≡ s)
-  cell_at k x s e = go (cell_in k x) refl e
-    where
-      go : (o : Option Cell) → cell_in k x ≡ o → option_map (λ s. s.0) (option_map (λ (c : Cell). c.symbol) o) ≡ Some s → (c : Cell) × (cell_in k x ≡ Some c) × (c.symbol.0 ≡ s)
-      go None is h = absurd (no_some {X = ℕ} None refl (there None s h))
-      go (Some c) is h = (c, is, same_Some c.symbol.0 s h)
 
   end_at : (k : Parts) (x i : ℕ) (c : Cell) → cell_in k x ≡ Some c → IsSome (slice_get c.ends i) → (v : Point ℕ) × ((net_of k).partner (Port x i) ≡ Some v)
   end_at k x i c e h =
@@ -95,18 +84,18 @@ module _ (t : Tables) (f : ℕ → ℕ) (m n : Parts) (named : IsRenamed f (net_
   listed_at k x c e = go (slice_get k.cells x) refl e
     where
       go : (o : Option (Option Cell)) → slice_get k.cells x ≡ o → option_and_then (λ (c : Option Cell). c) o ≡ Some c → slice_get k.cells x ≡ Some (Some c)
-      go None is h = absurd (no_some {X = Cell} None refl (there None c h))
+      go None is h = absurd (not_some {X = Cell} None refl (there None c h))
       go (Some o) is h = is ∙ ap (λ (z : Option Cell). Some z) h
 
   module _ (y : ℕ) (d : Cell) (stands : cell_in n y ≡ Some d) where
     before : (x : ℕ) × (f x ≡ y) × ((net_of m).symbol x ≡ Some d.symbol.0)
-    before = (named.agents y d.symbol.0).0 (symbol_at n y d stands)
+    before = (named.agents y d.symbol.0).0 (symbol_of_cell n y d stands)
 
     abbrev Old : Type 0
     Old = (c : Cell) × (cell_in m before.0 ≡ Some c) × (c.symbol.0 ≡ d.symbol.0)
 
     old : Old
-    old = cell_at m before.0 d.symbol.0 before.2
+    old = cell_of_symbol m before.0 d.symbol.0 before.2
 
     old_over : IsCellOver t (Some old.0)
     old_over = among_all (IsCellOver t) m.cells (Some old.0) over.cells (among_at m.cells before.0 (Some old.0) (listed_at m before.0 old.0 old.1))
@@ -128,7 +117,7 @@ module _ (t : Tables) (f : ℕ → ℕ) (m n : Parts) (named : IsRenamed f (net_
         go (Free k) q e h = cc
         go (Port x j) q e h =
             let z = joined_there m x j q h in
-            let same : x ≡ before.0 = named.apart x before.0 (there ((net_of m).symbol x) z.0.symbol.0 (symbol_at m x z.0 z.1)) (there ((net_of m).symbol before.0) d.symbol.0 before.2) (port_agent (f x) y j i e ∙ sym before.1) in
+            let same : x ≡ before.0 = named.apart x before.0 (there ((net_of m).symbol x) z.0.symbol.0 (symbol_of_cell m x z.0 z.1)) (there ((net_of m).symbol before.0) d.symbol.0 before.2) (port_agent (f x) y j i e ∙ sym before.1) in
             let cell : z.0 ≡ old.0 = same_Some z.0 old.0 (sym z.1 ∙ ap (cell_in m) same ∙ old.1) in
             subst (λ (k : ℕ). IsSome (slice_get old.0.ends k)) (port_place (f x) y j i e) (subst (λ (c : Cell). IsSome (slice_get c.ends j)) cell z.2)
 

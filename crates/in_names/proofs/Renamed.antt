@@ -14,7 +14,8 @@ use Rattle.in_interaction.specs.Listing.{unlisted}
 use Rattle.in_interaction.specs.Queues.{both}
 use Rattle.in_net.specs.Renaming.{renamed, IsRenamed}
 use Rattle.in_base.proofs.Places.{of_mapped, to_mapped, is_some as there}
-use Rattle.in_interaction.proofs.Public.{has_value}
+use Rattle.in_interaction.proofs.Public.{cell_of_symbol, has_value}
+use Rattle.in_gluing.proofs.Public.{pick}
 use Rattle.in_reducer.specs.Machines.{MachineParts, parts_of}
 use Rattle.in_names.specs.Same.{IsSameMachine}
 
@@ -32,9 +33,8 @@ in_table g (suc n) (suc y) h = in_table (λ k. g (suc k)) n y (λ l. h (omega (a
 
 -- ---- cells under other numbers
 
-abbrev picked : {P X : Type 0} → Dec P → X → X → X
-picked (yes e) a b = a
-picked (no d) a b = b
+pub symbol_of_cell : (n : Parts) (x : ℕ) (c : Cell) → cell_in n x ≡ Some c → (net_of n).symbol x ≡ Some c.symbol.0
+symbol_of_cell n x c e = ap (λ (o : Option Cell). option_map (λ (s : SymbolNo). s.0) (option_map (λ (c : Cell). c.symbol) o)) e
 
 module _ (f : ℕ → ℕ) where
   abbrev pub point_under : points.Point → points.Point
@@ -55,7 +55,7 @@ module _ (f : ℕ → ℕ) where
   at_number : List (Option Cell) → ℕ → ℕ → Option Cell
   at_number [] k y = None
   at_number (None ∷ cs) k y = at_number cs (suc k) y
-  at_number (Some c ∷ cs) k y = picked (ℕ_discrete (f k) y) (Some (cell_under c)) (at_number cs (suc k) y)
+  at_number (Some c ∷ cs) k y = pick (ℕ_discrete (f k) y) (Some (cell_under c)) (at_number cs (suc k) y)
 
   record IsAt (cs : List (Option Cell)) (k y : ℕ) (d : Cell) : Type 0 where
     place : ℕ
@@ -73,7 +73,7 @@ module _ (f : ℕ → ℕ) where
   of_number (None ∷ cs) k y d h = later None cs k y d (of_number cs (suc k) y d h)
   of_number (Some c ∷ cs) k y d h = go (λ z. of_number cs (suc k) y d z) (ℕ_discrete (f k) y) h
     where
-      go : (at_number cs (suc k) y ≡ Some d → IsAt cs (suc k) y d) → (dec : Dec (f k ≡ y)) → picked dec (Some (cell_under c)) (at_number cs (suc k) y) ≡ Some d → IsAt (Some c ∷ cs) k y d
+      go : (at_number cs (suc k) y ≡ Some d → IsAt cs (suc k) y d) → (dec : Dec (f k ≡ y)) → pick dec (Some (cell_under c)) (at_number cs (suc k) y) ≡ Some d → IsAt (Some c ∷ cs) k y d
       go rest (yes e) h = record { place = 0; cell = c; stands = refl; number = ap f (let z : k + 0 ≡ k = omega arith in z) ∙ e; under = same_Some (cell_under c) d h }
       go rest (no n) h = later (Some c) cs k y d (rest h)
 
@@ -84,12 +84,12 @@ module _ (f : ℕ → ℕ) where
   to_number (None ∷ cs) k (suc j) c e = subst (λ (z : ℕ). IsSome (at_number cs (suc k) (f z))) (let z : suc k + j ≡ k + suc j = omega arith in z) (to_number cs (suc k) j c e)
   to_number (Some d ∷ cs) k zero c e = go (ℕ_discrete (f k) (f (k + 0)))
     where
-      go : (dec : Dec (f k ≡ f (k + 0))) → IsSome (picked dec (Some (cell_under d)) (at_number cs (suc k) (f (k + 0))))
+      go : (dec : Dec (f k ≡ f (k + 0))) → IsSome (pick dec (Some (cell_under d)) (at_number cs (suc k) (f (k + 0))))
       go (yes e) = refl
       go (no n) = absurd (n (ap f (let z : k ≡ k + 0 = omega arith in z)))
   to_number (Some d ∷ cs) k (suc j) c e = go (subst (λ (z : ℕ). IsSome (at_number cs (suc k) (f z))) (let z : suc k + j ≡ k + suc j = omega arith in z) (to_number cs (suc k) j c e)) (ℕ_discrete (f k) (f (k + suc j)))
     where
-      go : IsSome (at_number cs (suc k) (f (k + suc j))) → (dec : Dec (f k ≡ f (k + suc j))) → IsSome (picked dec (Some (cell_under d)) (at_number cs (suc k) (f (k + suc j))))
+      go : IsSome (at_number cs (suc k) (f (k + suc j))) → (dec : Dec (f k ≡ f (k + suc j))) → IsSome (pick dec (Some (cell_under d)) (at_number cs (suc k) (f (k + suc j))))
       go rest (yes e) = refl
       go rest (no n) = rest
 
@@ -133,16 +133,6 @@ module _ (f : ℕ → ℕ) where
     cell_is : (y : ℕ) → cell_in new y ≡ at_number cs 0 y
     unfolding cells_under
     cell_is y = in_table (at_number cs 0) (bound cs 0) y (beyond cs y)
-
-    symbol_of_cell : (n : Parts) (x : ℕ) (c : Cell) → cell_in n x ≡ Some c → (net_of n).symbol x ≡ Some c.symbol.0
-    symbol_of_cell n x c e = ap (λ (o : Option Cell). option_map (λ (s : SymbolNo). s.0) (option_map (λ (c : Cell). c.symbol) o)) e
-
-    cell_of_symbol : (n : Parts) (x s : ℕ) → (net_of n).symbol x ≡ Some s → (c : Cell) × (cell_in n x ≡ Some c) × (c.symbol.0 ≡ s)
-    cell_of_symbol n x s e = go (cell_in n x) refl e
-      where
-        go : (o : Option Cell) → cell_in n x ≡ o → option_map (λ (s : SymbolNo). s.0) (option_map (λ (c : Cell). c.symbol) o) ≡ Some s → (c : Cell) × (cell_in n x ≡ Some c) × (c.symbol.0 ≡ s)
-        go None is h = absurd (let z : ◌≡◌ {A = Option ℕ} None (Some s) = h in cc)
-        go (Some c) is h = (c, is, same_Some c.symbol.0 s h)
 
     cell_listed : (x : ℕ) (c : Cell) → cell_in old x ≡ Some c → slice_get cs x ≡ Some (Some c)
     cell_listed x c e = go (slice_get cs x) refl e

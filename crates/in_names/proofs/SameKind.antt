@@ -7,7 +7,7 @@ use Rattle.in_base.proofs.Places.{is_some as there}
 use Rattle.in_interaction.proofs.Public.{has_value, symbol_number}
 use Rattle.in_net.specs.Parts.{symbol_in}
 use Rattle.in_interaction.specs.Queues.{both}
-use Rattle.in_names.specs.Laws.{AreSameIsAnEquivalence}
+use Rattle.in_names.specs.Laws.{EachIsTheSame, SameGoesThrough, AreSameIsAnEquivalence}
 use Rattle.in_reducer.specs.Machines.{MachineParts, parts_of}
 use Rattle.in_reducer.specs.Reducers.{IsReducer}
 use Rattle.in_names.specs.Same.{IsSameMachine, AreSame}
@@ -47,10 +47,10 @@ module _ (f g : ℕ → ℕ) (a b c : Net ℕ) (one : IsRenamed f a b) (two : Is
 
 -- ---- machines
 
-pub same_self : (m : MachineParts) → AreSame m m
+pub same_self : EachIsTheSame
 same_self m = ((λ x. x), record { program = refl; net = renamed_self (net_of (parts_of m)); names = refl; queue = sym (map_self m.queue); vacant = refl })
 
-pub same_through : (m n o : MachineParts) → AreSame m n → AreSame n o → AreSame m o
+pub same_through : SameGoesThrough
 same_through m n o (f, h) (g, k) = (
   (λ x. g (f x)),
   record {

@@ -62,6 +62,10 @@ acts_of m o i h s = record { can = can_at m o i h s; name = s.name; acts = s.ste
 
 -- ---- the two
 
+-- a pair under other numbers
+abbrev pub moved_pair : (ℕ → ℕ) → AgentNo × AgentNo → AgentNo × AgentNo
+moved_pair f q = agents_at (both f (numbers_of q))
+
 module _ (p : Program) (f : ℕ → ℕ) (m n : MachineParts) (pair : ℕ × ℕ) (r : RuleParts) (o u : MachineParts) (net : IsNet (signature_of p.tables) (net_of (parts_of m))) (net_n : IsNet (signature_of p.tables) (net_of (parts_of n))) (inside : IsNet (signature_of p.tables) (net_of r.member))
     (named : IsRenamed f (net_of (parts_of m)) (net_of (parts_of n))) (x : Acts p m pair r o) (y : Acts p n (both f pair) r u) (opposed : AreOpposed p.tables (parts_of o)) where
   abbrev t : Tables
@@ -97,9 +101,6 @@ module _ (p : Program) (f : ℕ → ℕ) (m n : MachineParts) (pair : ℕ × ℕ
   unfolding g
   g_new = moving.g_new (signature_of t) (net_of (parts_of m)) (net_of (parts_of n)) net f named (redex_at r pair.0 pair.1) inside redex x.name y.name (net_of (parts_of o)) (net_of (parts_of u)) x.acts.step y.acts.step
 
-  abbrev pub moved_pair : AgentNo × AgentNo → AgentNo × AgentNo
-  moved_pair q = agents_at (both g (numbers_of q))
-
   -- ---- the pairs that they make
 
   wire_m : (e : ℕ) (q : AgentNo × AgentNo) → IsMade t (parts_of m) r a b x.name e q → (net_of (parts_of o)).partner (Port q.0.0 0) ≡ Some (Port q.1.0 0)
@@ -118,7 +119,7 @@ module _ (p : Program) (f : ℕ → ℕ) (m n : MachineParts) (pair : ℕ × ℕ
         (h.path.passed.0, h.path.passed.1, h.path.passed.2),
       )
 
-  made_forth : (e : ℕ) (q : AgentNo × AgentNo) → IsMade t (parts_of m) r a b x.name e q → IsMade t (parts_of n) r fa fb y.name e (moved_pair q)
+  made_forth : (e : ℕ) (q : AgentNo × AgentNo) → IsMade t (parts_of m) r a b x.name e q → IsMade t (parts_of n) r fa fb y.name e (moved_pair g q)
   unfolding g
   made_forth e q h =
       let wire = wire_m e q h in
@@ -128,13 +129,13 @@ module _ (p : Program) (f : ℕ → ℕ) (m n : MachineParts) (pair : ℕ × ℕ
       record {
         first = h.first;
         second = h.second;
-        one = symbol_after t (parts_of n) r fa fb y.name (parts_of u) net_n inside y.can y.acts (moved_pair q).0 h.first (symbol_moved g (parts_of o) (parts_of u) named_after q.0.0 h.first one);
-        two = symbol_after t (parts_of n) r fa fb y.name (parts_of u) net_n inside y.can y.acts (moved_pair q).1 h.second (symbol_moved g (parts_of o) (parts_of u) named_after q.1.0 h.second two);
+        one = symbol_after t (parts_of n) r fa fb y.name (parts_of u) net_n inside y.can y.acts (moved_pair g q).0 h.first (symbol_moved g (parts_of o) (parts_of u) named_after q.0.0 h.first one);
+        two = symbol_after t (parts_of n) r fa fb y.name (parts_of u) net_n inside y.can y.acts (moved_pair g q).1 h.second (symbol_moved g (parts_of o) (parts_of u) named_after q.1.0 h.second two);
         path = moving.lowest (signature_of t) (net_of (parts_of m)) (net_of (parts_of n)) net f named (redex_at r pair.0 pair.1) inside redex x.name y.name (net_of (parts_of o)) (net_of (parts_of u)) x.acts.step y.acts.step e (Port q.0.0 0) (Port q.1.0 0) wire h.path;
-        order = stands_anywhere t (parts_of o) q.0 q.1 q.0 q.1 h.first h.second opposed active one two h.order (moved_pair q).0 (moved_pair q).1;
+        order = stands_anywhere t (parts_of o) q.0 q.1 q.0 q.1 h.first h.second opposed active one two h.order (moved_pair g q).0 (moved_pair g q).1;
       }
 
-  made_back : (e : ℕ) (q : AgentNo × AgentNo) → IsMade t (parts_of n) r fa fb y.name e q → (z : AgentNo × AgentNo) × (moved_pair z ≡ q) × IsMade t (parts_of m) r a b x.name e z
+  made_back : (e : ℕ) (q : AgentNo × AgentNo) → IsMade t (parts_of n) r fa fb y.name e q → (z : AgentNo × AgentNo) × (moved_pair g z ≡ q) × IsMade t (parts_of m) r a b x.name e z
   unfolding g
   made_back e q h =
       let w = agents_before g (net_of (parts_of o)) (net_of (parts_of u)) named_after q.0.0 q.1.0 (wire_n e q h) in
@@ -143,13 +144,13 @@ module _ (p : Program) (f : ℕ → ℕ) (m n : MachineParts) (pair : ℕ × ℕ
       net_o : IsNet (signature_of t) (net_of (parts_of o))
       net_o = moving.net_after (signature_of t) (net_of (parts_of m)) (net_of (parts_of n)) net f named (redex_at r pair.0 pair.1) inside redex x.name y.name (net_of (parts_of o)) (net_of (parts_of u)) x.acts.step y.acts.step
 
-      go : (k l : ℕ) → g k ≡ q.0.0 → g l ≡ q.1.0 → (net_of (parts_of o)).partner (Port k 0) ≡ Some (Port l 0) → (z : AgentNo × AgentNo) × (moved_pair z ≡ q) × IsMade t (parts_of m) r a b x.name e z
+      go : (k l : ℕ) → g k ≡ q.0.0 → g l ≡ q.1.0 → (net_of (parts_of o)).partner (Port k 0) ≡ Some (Port l 0) → (z : AgentNo × AgentNo) × (moved_pair g z ≡ q) × IsMade t (parts_of m) r a b x.name e z
       go k l is_k is_l wire =
           let z : AgentNo × AgentNo = agents_at (k, l) in
-          let same : moved_pair z ≡ q = ap (λ (v : ℕ). agents_at (v, g l)) is_k ∙ ap (λ (v : ℕ). agents_at (q.0.0, v)) is_l in
-          let h' : IsMade t (parts_of n) r fa fb y.name e (moved_pair z) = subst (IsMade t (parts_of n) r fa fb y.name e) (sym same) h in
-          let one_u : symbol_in (parts_of u) (g k) ≡ Some h'.first = has_symbol t (parts_of n) r fa fb y.name (parts_of u) net_n inside y.can y.acts (moved_pair z).0 h'.first h'.one in
-          let two_u : symbol_in (parts_of u) (g l) ≡ Some h'.second = has_symbol t (parts_of n) r fa fb y.name (parts_of u) net_n inside y.can y.acts (moved_pair z).1 h'.second h'.two in
+          let same : moved_pair g z ≡ q = ap (λ (v : ℕ). agents_at (v, g l)) is_k ∙ ap (λ (v : ℕ). agents_at (q.0.0, v)) is_l in
+          let h' : IsMade t (parts_of n) r fa fb y.name e (moved_pair g z) = subst (IsMade t (parts_of n) r fa fb y.name e) (sym same) h in
+          let one_u : symbol_in (parts_of u) (g k) ≡ Some h'.first = has_symbol t (parts_of n) r fa fb y.name (parts_of u) net_n inside y.can y.acts (moved_pair g z).0 h'.first h'.one in
+          let two_u : symbol_in (parts_of u) (g l) ≡ Some h'.second = has_symbol t (parts_of n) r fa fb y.name (parts_of u) net_n inside y.can y.acts (moved_pair g z).1 h'.second h'.two in
           let s = symbol_of (signature_of t) ((net_of (parts_of o)).symbol k) 0 (net_o.points (Port k 0) (Port l 0) wire) in
           let v = symbol_of (signature_of t) ((net_of (parts_of o)).symbol l) 0 (net_o.points (Port l 0) (Port k 0) (net_o.back (Port k 0) (Port l 0) wire)) in
           let one : symbol_in (parts_of o) k ≡ Some h'.first = symbol_back g (parts_of o) (parts_of u) named_after k s.0 h'.first s.1 one_u in
@@ -163,22 +164,22 @@ module _ (p : Program) (f : ℕ → ℕ) (m n : MachineParts) (pair : ℕ × ℕ
               one = symbol_after t (parts_of m) r a b x.name (parts_of o) net inside x.can x.acts z.0 h'.first one;
               two = symbol_after t (parts_of m) r a b x.name (parts_of o) net inside x.can x.acts z.1 h'.second two;
               path = moving.lowest_back (signature_of t) (net_of (parts_of m)) (net_of (parts_of n)) net f named (redex_at r pair.0 pair.1) inside redex x.name y.name (net_of (parts_of o)) (net_of (parts_of u)) x.acts.step y.acts.step e (Port k 0) (Port l 0) wire h'.path;
-              order = stands_anywhere t (parts_of o) z.0 z.1 (moved_pair z).0 (moved_pair z).1 h'.first h'.second opposed active one two h'.order z.0 z.1;
+              order = stands_anywhere t (parts_of o) z.0 z.1 (moved_pair g z).0 (moved_pair g z).1 h'.first h'.second opposed active one two h'.order z.0 z.1;
             },
           )
 
   module _ (made : List (AgentNo × AgentNo)) (new : AreMadeOverEnds t (parts_of m) r a b x.name made) where
-    pub all_moved : AreMadeOverEnds t (parts_of n) r fa fb y.name (map moved_pair made)
+    pub all_moved : AreMadeOverEnds t (parts_of n) r fa fb y.name (map (moved_pair g) made)
     all_moved = record {
-      each = λ k q h. (let z = of_mapped moved_pair made k q h in let e = new.each k z.0 z.1 in (e.0, subst (IsMade t (parts_of n) r fa fb y.name e.0) z.2 (made_forth e.0 z.0 e.1)));
-      all = λ e q h. (let z = made_back e q h in let k = new.all e z.0 z.2 in (k.0, to_mapped moved_pair made k.0 z.0 k.1 ∙ ap (λ (v : AgentNo × AgentNo). Some v) z.1));
+      each = λ k q h. (let z = of_mapped (moved_pair g) made k q h in let e = new.each k z.0 z.1 in (e.0, subst (IsMade t (parts_of n) r fa fb y.name e.0) z.2 (made_forth e.0 z.0 e.1)));
+      all = λ e q h. (let z = made_back e q h in let k = new.all e z.0 z.2 in (k.0, to_mapped (moved_pair g) made k.0 z.0 k.1 ∙ ap (λ (v : AgentNo × AgentNo). Some v) z.1));
       rising = rising;
     }
       where
-        rising : (j k d e : ℕ) (v w : AgentNo × AgentNo) → j < k → slice_get (map moved_pair made) j ≡ Some v → slice_get (map moved_pair made) k ≡ Some w → IsMade t (parts_of n) r fa fb y.name d v → IsMade t (parts_of n) r fa fb y.name e w → d < e
+        rising : (j k d e : ℕ) (v w : AgentNo × AgentNo) → j < k → slice_get (map (moved_pair g) made) j ≡ Some v → slice_get (map (moved_pair g) made) k ≡ Some w → IsMade t (parts_of n) r fa fb y.name d v → IsMade t (parts_of n) r fa fb y.name e w → d < e
         rising j k d e v w l at_j at_k one two =
-            let q = of_mapped moved_pair made j v at_j in
-            let z = of_mapped moved_pair made k w at_k in
+            let q = of_mapped (moved_pair g) made j v at_j in
+            let z = of_mapped (moved_pair g) made k w at_k in
             let c = new.each j q.0 q.1 in
             let h = new.each k z.0 z.1 in
             let less = new.rising j k c.0 h.0 q.0 z.0 l q.1 z.1 c.1 h.1 in
@@ -186,8 +187,8 @@ module _ (p : Program) (f : ℕ → ℕ) (m n : MachineParts) (pair : ℕ × ℕ
             let second = end_once t (parts_of n) r fa fb y.name h.0 e w (subst (IsMade t (parts_of n) r fa fb y.name h.0) z.2 (made_forth h.0 z.0 h.1)) two in
             omega (arith, less, first, second)
 
-    pub same_made : (other : List (AgentNo × AgentNo)) → AreMadeOverEnds t (parts_of n) r fa fb y.name other → other ≡ map moved_pair made
-    same_made other there = one_made_over_ends t (parts_of n) r fa fb y.name other (map moved_pair made) there all_moved
+    pub same_made : (other : List (AgentNo × AgentNo)) → AreMadeOverEnds t (parts_of n) r fa fb y.name other → other ≡ map (moved_pair g) made
+    same_made other there = one_made_over_ends t (parts_of n) r fa fb y.name other (map (moved_pair g) made) there all_moved
 
     -- ---- their queues
 
@@ -204,8 +205,8 @@ module _ (p : Program) (f : ℕ → ℕ) (m n : MachineParts) (pair : ℕ × ℕ
           both_same f g q (sym (g_old q.0 (there ((net_of (parts_of m)).symbol q.0) h.first.0 (symbol_number (symbol_in (parts_of m) q.0) h.first h.one)))) (sym (g_old q.1 (there ((net_of (parts_of m)).symbol q.1) h.second.0 (symbol_number (symbol_in (parts_of m) q.1) h.second h.two))))
           ))
 
-      over_ends : map numbers_of (map moved_pair made) ≡ map (both g) (map numbers_of made)
-      over_ends = map_twice numbers_of moved_pair made ∙ sym (map_twice (both g) numbers_of made)
+      over_ends : map numbers_of (map (moved_pair g) made) ≡ map (both g) (map numbers_of made)
+      over_ends = map_twice numbers_of (moved_pair g) made ∙ sym (map_twice (both g) numbers_of made)
 
       inner_pairs : map (both y.name) own ≡ map (both g) (map (both x.name) own)
       inner_pairs =
@@ -216,9 +217,9 @@ module _ (p : Program) (f : ℕ → ℕ) (m n : MachineParts) (pair : ℕ × ℕ
           ∙ sym (map_twice (both g) (both x.name) own)
 
       -- what is left, and the new pairs by their two kinds
-      pub queue_on : remove n.queue i ++ (map numbers_of (map moved_pair made) ++ map (both y.name) own) ≡ map (both g) (remove m.queue i ++ (map numbers_of made ++ map (both x.name) own))
+      pub queue_on : remove n.queue i ++ (map numbers_of (map (moved_pair g) made) ++ map (both y.name) own) ≡ map (both g) (remove m.queue i ++ (map numbers_of made ++ map (both x.name) own))
       queue_on =
-          ap (λ (z : List (ℕ × ℕ)). z ++ (map numbers_of (map moved_pair made) ++ map (both y.name) own)) left
+          ap (λ (z : List (ℕ × ℕ)). z ++ (map numbers_of (map (moved_pair g) made) ++ map (both y.name) own)) left
           ∙ ap (λ (z : List (ℕ × ℕ)). map (both g) (remove m.queue i) ++ (z ++ map (both y.name) own)) over_ends
           ∙ ap (λ (z : List (ℕ × ℕ)). map (both g) (remove m.queue i) ++ (map (both g) (map numbers_of made) ++ z)) inner_pairs
           ∙ ap (λ (z : List (ℕ × ℕ)). map (both g) (remove m.queue i) ++ z) (sym (map-append (both g) (map numbers_of made) (map (both x.name) own)))

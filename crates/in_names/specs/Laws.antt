@@ -9,11 +9,17 @@ use Rattle.in_reducer.specs.Starts.{IsStart}
 use Rattle.in_reducer.specs.Steps.{StepsAt}
 use Rattle.in_names.specs.Same.{IsSameMachine, AreSame, StepsUpToNumbers, RunsUpToNumbers}
 
+abbrev pub EachIsTheSame : Type 0
+EachIsTheSame = (m : MachineParts) → AreSame m m
+
+abbrev pub SameGoesThrough : Type 0
+SameGoesThrough = (m n o : MachineParts) → AreSame m n → AreSame n o → AreSame m o
+
 -- being the same up to numbers is an equivalence of reducers
 pub record AreSameIsAnEquivalence : Type 0 where
-  pub itself : (m : MachineParts) → AreSame m m
+  pub itself : EachIsTheSame
   pub back : (m n : MachineParts) → IsReducer m → AreSame m n → AreSame n m
-  pub through : (m n o : MachineParts) → AreSame m n → AreSame n o → AreSame m o
+  pub through : SameGoesThrough
 
 -- what is the same as a reducer is one
 abbrev pub SameAreReducers : Type 0

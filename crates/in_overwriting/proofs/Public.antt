@@ -5,5 +5,5 @@ pub use Rattle.in_overwriting.proofs.Overwriting.InTurn.{stored_are_overwritten,
 pub use Rattle.in_overwriting.proofs.Overwriting.MadeByWires.{pairs_are_made_by_wires, wires_make_one, wires_make_all_pairs, wires_make_pairs_in_turn}
 pub use Rattle.in_overwriting.proofs.Overwriting.OneByOne.{all_made, each_made, in_order}
 pub use Rattle.in_overwriting.proofs.Overwriting.Own.{wires_make_own_in_turn}
-pub use Rattle.in_overwriting.proofs.Overwriting.Sides.{sides_are_apart}
+pub use Rattle.in_overwriting.proofs.Overwriting.Sides.{side_once, sides_are_apart}
 pub use Rattle.in_overwriting.proofs.Overwriting.Steps.{overwritten_exists, overwritten_is_one, overwritten_leads_none_back, steps_are_overwritten}

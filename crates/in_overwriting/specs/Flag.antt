@@ -9,7 +9,11 @@ use Rattle.in_typing.specs.Typed.{opposite}
 use Rattle.in_typing.specs.TypedNets.{IsTypedNet}
 use Rattle.in_overwriting.specs.Overwriting.{NoneLeadsBack}
 
--- two auxiliary places of the symbol are of one class, and have types of one name and opposite signs
+-- two places of the symbol are of one class, and have types of one name and opposite signs
+abbrev pub AreMarkedPlaces : Signature → ℕ → ℕ → ℕ → Type 0
+AreMarkedPlaces sig s p q = (sig.class_of s p ≡ sig.class_of s q) × (sig.type_of s q ≡ opposite (sig.type_of s p))
+
+-- two auxiliary places of the symbol are such
 pub record IsMarkedAt (sig : Signature) (s i j : ℕ) : Type 0 where
   pub first : suc i ≤ sig.arity s
   pub second : suc j ≤ sig.arity s

@@ -7,9 +7,13 @@ use Rattle.in_net.specs.Nets.{Point, Port, Free, Signature, Net, IsNet}
 use Rattle.in_overwriting.specs.Overwriting.{CanOverwrite, IsSideAt, IsSide, AreOverwritten}
 use Rattle.in_overwriting.specs.MadeByWires.{AreOverEnds}
 
+-- each of the list is a wire of the net
+abbrev pub AreAmongWires : {B : Type 0} → Net B → List (Point B × Point B) → Type 0
+AreAmongWires {B} m wires = (p q : Point B) → IsAmong (p, q) wires → m.partner p ≡ Some q
+
 -- the list has each wire of the net, in one direction or in both, and nothing else
 pub record AreAllWiresOf {B : Type 0} (m : Net B) (wires : List (Point B × Point B)) : Type 0 where
-  pub wire : (p q : Point B) → IsAmong (p, q) wires → m.partner p ≡ Some q
+  pub wire : AreAmongWires m wires
   pub all : (p q : Point B) → m.partner p ≡ Some q → IsAmong (p, q) wires ⊎ IsAmong (q, p) wires
 
 -- each of the two is written at the other, and nothing else
@@ -39,7 +43,7 @@ StoredAreOverwritten = (sig : Signature) (n : Net ℕ) (x : Redex ℕ ℕ) (name
 
 -- these are the wires between ports, in one direction or in both
 pub record AreWiresWithin {B : Type 0} (m : Net B) (wires : List (Point B × Point B)) : Type 0 where
-  pub wire : (p q : Point B) → IsAmong (p, q) wires → m.partner p ≡ Some q
+  pub wire : AreAmongWires m wires
   pub all : (k l : B) (i j : ℕ) → m.partner (Port k i) ≡ Some (Port l j) → IsAmong (Port k i, Port l j) wires ⊎ IsAmong (Port l j, Port k i) wires
 
 -- first the wires with boundary ends, each from its lowest one, and then the others

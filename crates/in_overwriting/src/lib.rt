@@ -1,5 +1,5 @@
 //! Interactions in place, by overwriting. Laws over the definitions alone, for whoever writes an interaction as two stores for each wire of
-//! the right member.
+//! the right member; and which symbols are marked (`marking`), the one call that does anything.
 //!
 //! Where no wire of the net joins two auxiliary ports of the active pair, the net after an interaction has the partners of the net before,
 //! overwritten at both sides of each wire of the right member, where a boundary end stands for what its port led to (`Overwriting` of
@@ -10,3 +10,6 @@
 #![tactic(auto)]
 
 pub mod laws;
+mod marking;
+
+pub use marking::is_marked;

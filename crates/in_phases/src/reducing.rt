@@ -1,29 +1,11 @@
 // A net is reduced by one thread, the newest pair first.
-ghost use Rattle.std.specs.Prelude.{◌≡◌, ◌<◌, ◌≤◌, ◌+◌, true, length};
-ghost use Rattle.in_arena.specs.declared.content.CellClass.{CellClass as Class};
-ghost use Rattle.in_compile.specs.Cells.{count_of};
+ghost use Rattle.std.specs.Prelude.{◌≡◌, ◌<◌, ◌≤◌, length};
 ghost use Rattle.in_compile.specs.Templates.{AreTemplatesOf};
 ghost use Rattle.in_phases.specs.Phases.{HasFree};
 ghost use Rattle.in_reducer.specs.Parting.{ReducesTo};
 
 use in_compile::Templates;
-use in_reducer::{Need, Reducer};
-
-/// Whether `need` cells more than the floor are free.
-fn is_above(free: u32, need: u32, floor: u32) -> bool
-    ensures { result ≡ true → floor + need ≤ free }
-{
-    u64::from(need) + u64::from(floor) <= u64::from(free)
-}
-
-/// Whether what a pair needs is free, and `floor` cells of each class besides.
-fn has_room_above(free: Need, need: Need, floor: u32) -> bool
-    ensures { result ≡ true → (c : Class) → floor + count_of need c ≤ count_of free c }
-{
-    is_above(free.small, need.small, floor)
-        && is_above(free.large, need.large, floor)
-        && is_above(free.wide, need.wide, floor)
-}
+use in_reducer::Reducer;
 
 /// Interactions of the newest pairs, at most `most`, while as many cells of each class as are to be left stay free. Says how many they were.
 /// What was made last is still in the cache, and a net that is reduced from there stays small.
@@ -45,7 +27,7 @@ pub(crate) fn reduce_newest(
             return count;
         }
         let need = reducer.need_of(templates, pairs - 1);
-        if !has_room_above(reducer.vacant(), need, floor) {
+        if !reducer.vacant().has_besides(need, floor) {
             return count;
         }
         reducer.step(templates, pairs - 1);

@@ -3,7 +3,6 @@ pub mod AsMany
 pub mod AtRest
 pub mod Counted
 pub mod LiveCounted
-pub mod Least
 pub mod Looked
 pub mod Short
 pub mod Shown

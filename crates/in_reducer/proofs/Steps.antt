@@ -3,7 +3,10 @@ pub mod Besides
 pub mod Finished
 pub mod Found
 pub mod Laid
+pub mod NextWire
+pub mod OneWire
 pub mod Ordered
+pub mod Overwritten
 pub mod Putting
 pub mod SetUp
 pub mod Settled
@@ -12,3 +15,4 @@ pub mod Stepped
 pub mod StepsOn
 pub mod StillNet
 pub mod TakesNeed
+pub mod WrittenFrom

@@ -1,8 +1,9 @@
 -- When a part can be glued on, and in which order the free ends of both come. That nets are reduced in parts is this project's own choice.
 use Rattle.std.specs.Prelude.{◌≡◌, ◌<◌, ◌≤◌, ℕ, List, [], ◌∷◌, ◌++◌, take, drop}
 use Rattle.in_arena.specs.declared.content.CellClass.{CellClass}
+use Rattle.in_arena.specs.declared.content.CellNo.{CellNo}
 use Rattle.in_arena.specs.declared.content.End.{End}
-use Rattle.in_arena.specs.declared.content.End.TheVariants.{Free}
+use Rattle.in_arena.specs.declared.content.End.TheVariants.{Cell, Free}
 use Rattle.in_compile.specs.Cells.{agents_of, count_of}
 use Rattle.in_reducer.specs.Machines.{MachineParts}
 
@@ -24,3 +25,7 @@ glued own rest part = take own rest ++ in_turn part (drop own rest)
 -- where the end leads to a free end, it is one of the first `many`
 abbrev pub IsFreeWithin : ℕ → End → Type 0
 IsFreeWithin many e = (k : ℕ) → e ≡ Free k → k < many
+
+-- .. and where it leads to a cell, that is one of them
+abbrev pub IsCellWithin : ℕ → End → Type 0
+IsCellWithin many e = (c : CellNo) (i : ℕ) → e ≡ Cell c i → c.0 < many

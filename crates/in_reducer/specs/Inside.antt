@@ -19,7 +19,8 @@ use Rattle.in_reducer.specs.declared.body.OwnEnd.TheVariants.{Named, Cut}
 use Rattle.in_reducer.specs.declared.tools.Tools.{Tools}
 use Rattle.in_reducer.specs.Limiting.{most_cells}
 use Rattle.in_reducer.specs.Machines.{MachineParts}
-use Rattle.in_reducer.specs.Placed.{IsNoneOf, IsPut}
+use Rattle.in_compile.specs.Putting.{IsPut}
+use Rattle.in_reducer.specs.Placed.{IsNoneOf}
 use Rattle.in_reducer.specs.Reducers.{IsReducer}
 use Rattle.in_reducer.specs.Standing.{agents_in, at_rest, leading_to, vacant_in, IsNetIn}
 use Rattle.in_reducer.specs.Steps.{HasRoomAt}

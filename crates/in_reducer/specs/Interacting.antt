@@ -12,9 +12,10 @@ use Rattle.in_net.specs.Parts.{Parts}
 use Rattle.in_net.specs.Rules.{RuleParts}
 use Rattle.in_cells.specs.Between.{Interaction, IsDone, AddsMade}
 use Rattle.in_cells.specs.Shown.{IsShown}
-use Rattle.in_compile.specs.Templates.{TemplateParts, IsTemplateOf}
+use Rattle.in_compile.specs.Templates.{AreUnmarked, TemplateParts, IsTemplateOf}
+use Rattle.in_overwriting.specs.Overwriting.{NoneLeadsBack}
 use Rattle.in_reducer.specs.declared.sides.Pair.{Pair}
-use Rattle.in_reducer.specs.Placed.{IsPut}
+use Rattle.in_compile.specs.Putting.{IsPut}
 
 -- a net, and two agents of it that interact by a rule
 pub record PairSetting : Type 0 where
@@ -38,6 +39,7 @@ pub record IsAbout (t : Tables) (s : PairSetting) (p : TemplateParts) (pair : Pa
   pub member_over : IsOver t s.rule.member
   pub redex : IsRedex (signature_of t) (net_of s.net) (redex_at s.rule s.one.0 s.two.0)
   pub template : IsTemplateOf t s.rule p
+  pub apart : AreUnmarked t s.rule.heads → NoneLeadsBack (net_of s.net) (redex_at s.rule s.one.0 s.two.0)
   pub one : pair.one.0 ≡ s.one.0
   pub two : pair.other.0 ≡ s.two.0
   pub first_ends : pair.first_ends ≡ p.first_ends

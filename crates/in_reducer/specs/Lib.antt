@@ -3,13 +3,16 @@ pub mod Gluing
 pub mod Inside
 pub mod Interacting
 pub mod Laws
+pub mod Laying
 pub mod Lent
 pub mod Limiting
 pub mod Machines
+pub mod Overwriting
 pub mod Parting
 pub mod PartingLaws
 pub mod Placed
 pub mod Reducers
+pub mod Reserved
 pub mod Runs
 pub mod Sides
 pub mod Standing

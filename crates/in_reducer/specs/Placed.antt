@@ -1,24 +1,21 @@
--- A member that is placed in an arena and settled at once.
-use Rattle.std.specs.Prelude.{◌≡◌, ℕ, List, length, Some, None, slice_get}
-use Rattle.in_arena.specs.Arenas.{ArenaView, state_at}
+-- A stock and placed cells between two interactions.
+use Rattle.std.specs.Prelude.{◌≤◌, length}
+use Rattle.in_arena.specs.Arenas.{ArenaView}
 use Rattle.in_arena.specs.Bags.{IsBagOf}
-use Rattle.in_arena.specs.Classes.{IsNumberOf}
-use Rattle.in_arena.specs.States.{word_of}
-use Rattle.in_arena.specs.declared.content.CellNo.{CellNo}
-use Rattle.in_compile.specs.Members.{AgentParts, MemberParts}
-use Rattle.in_compile.specs.Placing.{HasNoCell, content}
-
--- each agent stands in a cell of its class that held none, its own one; all other cells are as they were
-pub record IsPut (m : MemberParts) (ns : List CellNo) (old new : ArenaView) : Type 0 where
-  pub count : length ns ≡ length m.agents
-  pub each : (k : ℕ) (a : AgentParts) (n : CellNo) → slice_get m.agents k ≡ Some a → slice_get ns k ≡ Some n
-      → IsNumberOf new.cells a.class n.0 × (word_of (state_at old n.0) ≡ None) × (state_at new n.0 ≡ content ns a)
-  pub once : (j k : ℕ) (n : CellNo) → slice_get ns j ≡ Some n → slice_get ns k ≡ Some n → j ≡ k
-  pub others : (n : ℕ) → ((k : ℕ) → slice_get ns k ≡ Some (record { 0 = n }) → ⊥) → state_at new n ≡ state_at old n
-  pub memory : new.memory ≡ old.memory
-  pub cells : new.cells ≡ old.cells
-  pub many : length new.states ≡ length old.states
+use Rattle.in_arena.specs.Changes.{HasAllCells}
+use Rattle.in_compile.specs.Cells.{count_of, IsEnough}
+use Rattle.in_compile.specs.Members.{MemberParts}
+use Rattle.in_compile.specs.Placing.{HasNoCell, PlacedParts}
+use Rattle.in_compile.specs.Stocks.{StockParts}
 
 -- a bag of this arena that has no cell
 abbrev pub IsNoneOf : ArenaView → ArenaView → Type 0
 IsNoneOf b a = IsBagOf b a × HasNoCell b
+
+-- a stock and placed cells, both of this arena and without a cell
+abbrev pub HoldNone : StockParts → PlacedParts → ArenaView → Type 0
+HoldNone x p a = IsNoneOf x.bag a × HasAllCells x.bag × IsNoneOf p.bag a
+
+-- .. with room for the member
+abbrev pub HaveRoomFor : MemberParts → StockParts → PlacedParts → Type 0
+HaveRoomFor m x p = IsEnough (count_of m.need) (count_of x.room) × (length m.agents ≤ p.room)

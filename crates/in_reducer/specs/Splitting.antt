@@ -1,17 +1,16 @@
 -- How a part is split off, step by step. No contract of a public call speaks of it. This project's own choice.
-use Rattle.std.specs.Prelude.{◌≡◌, ◌+◌, ◌*◌, ◌<◌, ◌≤◌, ℕ, Bool, true, false, List, [], ◌++◌, length, count_by, option_map, replicate, slice_get, vec_capacity}
-use Rattle.std.specs.VecDeque.{deque_capacity}
+use Rattle.std.specs.Prelude.{◌≡◌, ◌+◌, ◌<◌, ℕ, Bool, true, false, List, ◌++◌, length, count_by, option_map, slice_get}
 use Rattle.in_arena.specs.Arenas.{ArenaView, free_of, state_at}
-use Rattle.in_arena.specs.Classes.{classes}
 use Rattle.in_arena.specs.States.{State, Vacant, Leased, Live}
 use Rattle.in_arena.specs.declared.content.CellClass.{CellClass}
 use Rattle.in_arena.specs.declared.content.CellNo.{CellNo}
 use Rattle.in_cells.specs.Copying.{is_for, number_in}
 use Rattle.in_cells.specs.Laws.{AreTakenOut}
-use Rattle.in_reducer.specs.declared.splitting.Fresh.{Fresh}
-use Rattle.in_reducer.specs.declared.splitting.Lists.{Lists}
-use Rattle.in_reducer.specs.Inside.{AreTools, most_ends}
+use Rattle.in_reducer.specs.declared.splitting.SplitLists.{SplitLists}
+use Rattle.in_reducer.specs.declared.splitting.EndLists.{EndLists}
+use Rattle.in_reducer.specs.Inside.{most_ends}
 use Rattle.in_reducer.specs.Parting.{place_of_two}
+use Rattle.in_reducer.specs.Reserved.{IsReserved}
 
 -- ---- lists
 
@@ -34,23 +33,15 @@ pub record AreNumbersOfTwo (own cuts i many : ℕ) (numbers : List ℕ) : Type 0
   pub each : (e : ℕ) → e < many → number_in numbers (place_of_two own i e) ≡ e
 
 -- the lists are empty, and have room for `many` free ends
-pub record HasRoomForEnds (many : ℕ) (l : Lists) : Type 0 where
-  pub free : l.free.items ≡ []
-  pub free_room : many ≤ vec_capacity l.free
-  pub ends : l.ends.items ≡ []
-  pub ends_room : many + most_ends + most_ends ≤ vec_capacity l.ends
+abbrev pub HasRoomForEnds : ℕ → EndLists → Type 0
+HasRoomForEnds many l = IsReserved many l.free × IsReserved (many + most_ends + most_ends) l.ends
 
--- what is taken for a part with `size` cells of each class
-pub record IsTakenFor (own cuts size : ℕ) (f : Fresh) : Type 0 where
-  pub cells : f.arena.cells ≡ size
-  pub empty : f.arena.states ≡ replicate (length classes * size) Vacant
-  pub tools : AreTools f.tools f.arena
-  pub queue : f.queue.items ≡ []
-  pub queue_room : length classes * size ≤ 2 * deque_capacity f.queue + 1
-  pub rest_numbers : AreNumbersOfTwo own cuts 0 (own + cuts) f.rest.numbers.items
-  pub part_numbers : AreNumbersOfTwo own cuts 1 cuts f.part.numbers.items
-  pub rest : HasRoomForEnds (own + cuts) f.rest
-  pub part : HasRoomForEnds cuts f.part
+-- .. and have the numbers of the free ends, of the rest and of the part
+pub record AreListsFor (own cuts : ℕ) (l : SplitLists) : Type 0 where
+  pub rest_numbers : AreNumbersOfTwo own cuts 0 (own + cuts) l.rest.numbers.items
+  pub part_numbers : AreNumbersOfTwo own cuts 1 cuts l.part.numbers.items
+  pub rest : HasRoomForEnds (own + cuts) l.rest
+  pub part : HasRoomForEnds cuts l.part
 
 -- ---- cells
 

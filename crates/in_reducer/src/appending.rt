@@ -7,7 +7,7 @@ ghost use Rattle.in_cells.specs.Copying.{name_in};
 ghost use Rattle.in_reducer.specs.Inside.{most_ends};
 
 use crate::body::OwnEnd;
-use crate::starting::MOST_ENDS;
+use crate::limits::MOST_ENDS;
 use in_arena::{CellNo, End};
 use std::collections::VecDeque;
 

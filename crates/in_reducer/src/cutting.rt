@@ -1,11 +1,10 @@
 // A wire that is cut.
 ghost use Rattle.std.specs.Prelude.{◌≡◌, ◌≤◌, ◌+◌, length, OnErr, OnOk, vec_len, vec_capacity};
-ghost use Rattle.in_arena.specs.declared.content.CellNo.{CellNo as Number};
 ghost use Rattle.in_typing.specs.Typed.{opposite};
 ghost use Rattle.in_reducer.specs.Cutting.{CanCut, CutsAt};
-ghost use Rattle.in_reducer.specs.Inside.{IsKept, most_free, reducer_view};
+ghost use Rattle.in_reducer.specs.Inside.{most_free};
 
-use crate::body::{Body, OwnEnd};
+use crate::body::OwnEnd;
 use crate::reducer::Reducer;
 use in_arena::{CellNo, End};
 use in_cells::cut;
@@ -22,37 +21,15 @@ fn opposite_of(kind: PortType) -> PortType
     }
 }
 
-impl<'a> Body<'a> {
-    /// Room for two free ends more.
-    fn make_room(&mut self) -> Result<(), AllocError>
-        requires kept { IsKept self.old }
-        ensures kept { IsKept self.new }
-        ensures same { reducer_view self.new ≡ reducer_view self.old }
-        ensures free { OnOk result (vec_len self.new.free + 2 ≤ vec_capacity self.new.free) }
-        ensures ends { OnOk result (vec_len self.new.ends + 2 ≤ vec_capacity self.new.ends) }
-    {
-        self.free.reserve(2)?;
-        self.ends.reserve(2)
-    }
-
-    /// Cuts the wire at a place, which is no active pair.
-    fn cut(&mut self, cell: CellNo, place: u8)
-        requires kept { IsKept self.old }
-        requires can { CanCut (reducer_view self.old) cell.0 place }
-        requires few { length self.old.free.items + 2 ≤ most_free }
-        requires free { vec_len self.old.free + 2 ≤ vec_capacity self.old.free }
-        requires ends { vec_len self.old.ends + 2 ≤ vec_capacity self.old.ends }
-        ensures kept { IsKept self.new }
-        ensures cut { CutsAt (reducer_view self.old) cell.0 place (reducer_view self.new) }
-    {
-        let own = self.free.len() as u32;
-        let kind = self.checked.symbols().port(self.symbol(cell), place);
-        cut(&mut self.arena, self.ends.as_mut_slice(), own, cell, place);
-        self.free.push_reserved(OwnEnd::Cut(kind));
-        self.free.push_reserved(OwnEnd::Cut(opposite_of(kind)));
-        self.ends.push_reserved(End::Free(0));
-        self.ends.push_reserved(End::Free(0));
-    }
+/// Room for two free ends more. Both lists stay as they are.
+fn make_room(free: &mut Vec<OwnEnd>, ends: &mut Vec<End>) -> Result<(), AllocError>
+    ensures free { free.new.items ≡ free.old.items }
+    ensures ends { ends.new.items ≡ ends.old.items }
+    ensures free_room { OnOk result (vec_len free.new + 2 ≤ vec_capacity free.new) }
+    ensures ends_room { OnOk result (vec_len ends.new + 2 ≤ vec_capacity ends.new) }
+{
+    free.reserve(2)?;
+    ends.reserve(2)
 }
 
 impl<'a> Reducer<'a> {
@@ -65,8 +42,15 @@ impl<'a> Reducer<'a> {
         ensures cut { OnOk result (CutsAt self.old cell.0 place self.new) }
         ensures refused { OnErr result (self.new ≡ self.old) }
     {
-        self.body.make_room()?;
-        self.body.cut(cell, place);
+        let body = &mut self.body;
+        let own = body.free.len() as u32;
+        let kind = body.checked.symbols().port(body.symbol(cell), place);
+        make_room(&mut body.free, &mut body.ends)?;
+        cut(&mut body.arena, body.ends.as_mut_slice(), own, cell, place);
+        body.free.push_reserved(OwnEnd::Cut(kind));
+        body.free.push_reserved(OwnEnd::Cut(opposite_of(kind)));
+        body.ends.push_reserved(End::Free(0));
+        body.ends.push_reserved(End::Free(0));
         Ok(())
     }
 }

@@ -8,10 +8,12 @@
 //! own: each is one of its program's, or an end of a wire that was cut, which has a type and no name.
 //!
 //! `starting` places the program's net, `looking` reads it, `stepping` does one interaction: the template of the pair is found by the two
-//! symbols, `placing` puts the right member into free cells while the pair is still there, `sides` writes what is at the two sides of
-//! each boundary end behind the free ends in the list, the pair's cells are retired, `in_cells` joins end by end, and `queueing` adds
-//! the new pairs. The room for all this (`tools`: a stock, a list of cells, a list of pairs; the queue; the list of ends) is taken at the
-//! start, so that an interaction takes no memory and can't be refused.
+//! symbols, `placing` puts the right member into free cells while the pair is still there, `interacting` joins it in the pair's place, and
+//! `queueing` adds the new pairs. Where neither symbol is marked no wire leads back to the pair: then each wire of the right member with
+//! boundary ends is written at its two sides (`overwriting`), and the pair's cells are retired. Else `sides` writes what is at the two sides
+//! of each boundary end behind the free ends in the list, the pair's cells are retired, and `in_cells` joins end by end. The room for all
+//! this (`tools`: a stock, a list of cells, a list of pairs; the queue; the list of ends) is taken at the start, so that an interaction takes
+//! no memory and can't be refused.
 //!
 //! No cell is on lease between two calls, so that the arena can be dropped. A round (`in_rounds`) lends cells to workers, and what the reducer
 //! works with (`body`) is reduced all the same: for contracts a leased cell counts as free (`at_rest` in `specs/Standing.antt`), so that what
@@ -25,13 +27,16 @@
 
 mod appending;
 mod body;
+mod cut_ends;
 mod cutting;
+mod fresh;
 mod gluing;
 mod interacting;
 pub mod laws;
 mod limits;
 mod looking;
 mod numbered;
+mod overwriting;
 mod placing;
 mod queueing;
 mod reducer;

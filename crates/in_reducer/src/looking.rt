@@ -51,7 +51,7 @@ impl<'a> Reducer<'a> {
     pub fn vacant(&self) -> Need
         ensures { result ≡ self.now.vacant }
     {
-        self.body.vacant()
+        Need::free_in(&self.body.arena)
     }
 
     /// The least number of free cells of a class.
@@ -59,8 +59,7 @@ impl<'a> Reducer<'a> {
         ensures least { (c : Class) → result ≤ count_of self.now.vacant c }
         ensures one { (c : Class) × (count_of self.now.vacant c ≡ result) }
     {
-        let free = self.vacant();
-        free.small.min(free.large).min(free.wide)
+        self.vacant().least()
     }
 
     /// How many numbers there are for agents: those of all cells, whether free or not.

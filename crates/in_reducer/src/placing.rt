@@ -1,9 +1,9 @@
 // A member is placed in an arena.
-ghost use Rattle.std.specs.Prelude.{◌≡◌, ◌≤◌, length};
+ghost use Rattle.std.specs.Prelude.{◌≡◌};
 ghost use Rattle.in_arena.specs.Arenas.{free_of};
-ghost use Rattle.in_arena.specs.Changes.{HasAllCells};
 ghost use Rattle.in_compile.specs.Cells.{count_of, IsEnough};
-ghost use Rattle.in_reducer.specs.Placed.{IsPut, IsNoneOf};
+ghost use Rattle.in_compile.specs.Putting.{IsPut};
+ghost use Rattle.in_reducer.specs.Placed.{HaveRoomFor, HoldNone};
 
 use in_arena::Arena;
 use in_base::use_promise;
@@ -15,15 +15,11 @@ use in_compile::{Member, Placed, Stock, place_into};
 #[inline(always)]
 pub(crate) fn put(member: &Member, arena: &mut Arena, stock: &mut Stock, placed: &mut Placed)
     requires free { IsEnough (count_of member.now.need) (free_of arena.old) }
-    requires stock { IsNoneOf stock.old.bag arena.old }
-    requires stock_all { HasAllCells stock.old.bag }
-    requires stock_room { IsEnough (count_of member.now.need) (count_of stock.old.room) }
-    requires placed { IsNoneOf placed.old.bag arena.old }
-    requires room { length member.now.agents ≤ placed.old.room }
+    requires none { HoldNone stock.old placed.old arena.old }
+    requires room { HaveRoomFor member.now stock.old placed.old }
     ensures put { IsPut member.now placed.new.cells arena.old arena.new }
-    ensures stock { IsNoneOf stock.new.bag arena.new × (stock.new.room ≡ stock.old.room) }
-    ensures stock_all { HasAllCells stock.new.bag }
-    ensures placed { IsNoneOf placed.new.bag arena.new × (placed.new.room ≡ placed.old.room) }
+    ensures none { HoldNone stock.new placed.new arena.new }
+    ensures room { (stock.new.room ≡ stock.old.room) × (placed.new.room ≡ placed.old.room) }
 {
     use_promise!(arena.cells());
     stock.add(arena, member.need());

@@ -1,11 +1,12 @@
 // Room for a part that comes back.
-ghost use Rattle.std.specs.Prelude.{◌≡◌, ◌≤◌, ◌*◌, ◌+◌, IfOk, [], length, vec_capacity};
+ghost use Rattle.std.specs.Prelude.{◌≡◌, ◌≤◌, ◌*◌, ◌+◌, IfOk, length};
 ghost use Rattle.in_arena.specs.Classes.{classes};
 ghost use Rattle.in_reducer.specs.Inside.{most_ends, most_free};
 ghost use Rattle.in_reducer.specs.Limiting.{most_cells};
+ghost use Rattle.in_reducer.specs.Reserved.{IsReserved};
 
 use crate::body::OwnEnd;
-use crate::starting::MOST_ENDS;
+use crate::limits::MOST_ENDS;
 use in_arena::{CellClass, CellNo, End};
 use std::alloc::{AllocError, Global};
 
@@ -22,11 +23,11 @@ pub struct Seam {
     pub(crate) part: Vec<u32>,
     ghost few_free: { most ≤ most_free },
     ghost few_cells: { cells ≤ most_cells },
-    ghost free_room: { (free.items ≡ []) × (most ≤ vec_capacity free) },
-    ghost ends_room: { (ends.items ≡ []) × (most + most_ends + most_ends ≤ vec_capacity ends) },
-    ghost agents_room: { (agents.items ≡ []) × (length classes * cells ≤ vec_capacity agents) },
-    ghost rest_room: { (rest.items ≡ []) × (most ≤ vec_capacity rest) },
-    ghost part_room: { (part.items ≡ []) × (most ≤ vec_capacity part) },
+    ghost free_room: { IsReserved most free },
+    ghost ends_room: { IsReserved (most + most_ends + most_ends) ends },
+    ghost agents_room: { IsReserved (length classes * cells) agents },
+    ghost rest_room: { IsReserved most rest },
+    ghost part_room: { IsReserved most part },
 }
 
 impl Seam {

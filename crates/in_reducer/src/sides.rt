@@ -2,7 +2,7 @@
 ghost use Rattle.std.specs.Prelude.{◌≡◌, ◌≢◌, ◌≤◌, ◌<◌, ◌+◌, ◌^◌, ℕ, length, Some, slice_get};
 ghost use Rattle.in_arena.specs.declared.content.End.TheVariants.{Cell};
 ghost use Rattle.in_compile.specs.declared.joints.Joint.{Joint as Target};
-ghost use Rattle.in_reducer.specs.Inside.{most_free};
+ghost use Rattle.in_reducer.specs.Inside.{most_ends, most_free};
 ghost use Rattle.in_reducer.specs.Sides.{port_at, end_there, outer_of, inner_of, AreSetBelow, HasPort, HasJoint};
 
 use in_arena::{Arena, CellNo, End};
@@ -16,10 +16,22 @@ pub(crate) struct Pair {
     pub(crate) first_ends: u8,
 }
 
+/// An interaction that is next: the pair, the template of its rule, the cells in which the right member stands beside it, and how many free ends
+/// the net has.
+#[derive(Clone, Copy)]
+pub(crate) struct PlacedPair<'b> {
+    pub(crate) pair: Pair,
+    pub(crate) template: &'b Template,
+    pub(crate) placed: &'b Placed,
+    pub(crate) own: u32,
+    ghost few_own: { own ≤ most_free },
+    ghost few_ends: { length template.now.member.joints ≤ most_ends },
+}
+
 impl Pair {
     /// The port that is this boundary end.
     #[inline(always)]
-    fn port(self, end: u8) -> (CellNo, u8)
+    pub(crate) fn port(self, end: u8) -> (CellNo, u8)
         requires { end < 32 }
         ensures { result ≡ port_at self end }
     {
@@ -64,28 +76,23 @@ pub(crate) fn inner(placed: &Placed, from: u32, joint: Joint) -> End
     }
 }
 
-/// Sets the sides of all boundary ends of a pair that still stands, after the net's `own` free ends: first the outer sides, then the inner
-/// ones.
-pub(crate) fn set_sides(
-    arena: &Arena,
-    pair: Pair,
-    template: &Template,
-    placed: &Placed,
-    own: u32,
-    ends: &mut [End],
-)
-    requires few { length template.now.member.joints ≤ 32 }
-    requires own { own ≤ most_free }
-    requires ports { (e : ℕ) → e < length template.now.member.joints → HasPort arena.now pair e }
-    requires joints { (e : ℕ) (j : Target) → slice_get template.now.member.joints e ≡ Some j → HasJoint placed.now.cells j }
-    requires room { own + length template.now.member.joints + length template.now.member.joints ≤ length ends.old }
-    ensures { AreSetBelow pair arena.now template.now.member.joints placed.now.cells own (length template.now.member.joints) (length template.now.member.joints) ends.old ends.new }
+/// Sets the sides of all boundary ends of a pair that still stands, after the net's own free ends: first the outer sides, then the inner ones.
+pub(crate) fn set_sides(arena: &Arena, next: &PlacedPair, ends: &mut [End])
+    requires ports { (e : ℕ) → e < length next.now.template.now.member.joints → HasPort arena.now next.now.pair e }
+    requires joints { (e : ℕ) (j : Target) → slice_get next.now.template.now.member.joints e ≡ Some j → HasJoint next.now.placed.now.cells j }
+    requires room { next.now.own + length next.now.template.now.member.joints + length next.now.template.now.member.joints ≤ length ends.old }
+    ensures { AreSetBelow next.now.pair arena.now next.now.template.now.member.joints next.now.placed.now.cells next.now.own (length next.now.template.now.member.joints) (length next.now.template.now.member.joints) ends.old ends.new }
 {
-    let many = template.boundary_ends();
+    let own = next.own;
+    let many = next.template.boundary_ends();
     let inner_sides = own + u32::from(many);
     for end in 0..many {
-        let (cell, place) = pair.port(end);
-        ends[own as usize + end as usize] = pair.outer(own, arena.port(cell, place));
-        ends[inner_sides as usize + end as usize] = inner(placed, inner_sides, template.joint(end));
+        let (cell, place) = next.pair.port(end);
+        ends[own as usize + end as usize] = next.pair.outer(own, arena.port(cell, place));
+        ends[inner_sides as usize + end as usize] = inner(
+            next.placed,
+            inner_sides,
+            next.template.joint(end),
+        );
     }
 }

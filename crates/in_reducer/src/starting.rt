@@ -1,53 +1,29 @@
 // A reducer at its program's net.
-ghost use Rattle.std.specs.Prelude.{◌≡◌, ◌≤◌, ◌<◌, ◌+◌, ℕ, [], length, map, take, Some, IfOk, OnErr, slice_get, vec_capacity};
-ghost use Rattle.std.specs.VecDeque.{deque_capacity};
+ghost use Rattle.std.specs.Prelude.{◌≡◌, ◌≤◌, ℕ, map, Some, IfOk, OnErr, slice_get};
 ghost use Rattle.in_arena.specs.declared.content.CellClass.{CellClass as Class};
 ghost use Rattle.in_arena.specs.Arenas.{free_of};
 ghost use Rattle.in_check.specs.Programs.{Program};
-ghost use Rattle.in_compile.specs.declared.joints.Joint.{Joint as Target};
 ghost use Rattle.in_compile.specs.Cells.{agents_of, count_of, IsEnough};
-ghost use Rattle.in_compile.specs.Templates.{AreTemplatesOf, TemplateParts};
-ghost use Rattle.in_interaction.specs.Queues.{both};
+ghost use Rattle.in_compile.specs.Templates.{AreTemplatesOf};
 ghost use Rattle.in_reducer.specs.declared.body.OwnEnd.{OwnEnd as Own};
-ghost use Rattle.in_reducer.specs.Inside.{AreTools, AreToolsFor, IsOwnEnd, declared_as, most_ends};
-ghost use Rattle.in_reducer.specs.Interacting.{named};
+ghost use Rattle.in_reducer.specs.Inside.{IsOwnEnd, declared_as};
+ghost use Rattle.in_reducer.specs.Laying.{CanLay, IsLaid};
 ghost use Rattle.in_reducer.specs.Limiting.{most_cells};
-ghost use Rattle.in_reducer.specs.Placed.{IsPut};
-ghost use Rattle.in_reducer.specs.Sides.{inner_of, HasJoint};
+ghost use Rattle.in_compile.specs.Putting.{IsPut};
 ghost use Rattle.in_reducer.specs.Starts.{IsStart};
-ghost use Rattle.in_syntax.specs.Grammar.{max_free};
 
-use crate::body::{Body, OwnEnd};
+use crate::body::OwnEnd;
+use crate::fresh::{Fresh, fresh_cells};
+use crate::limits::MOST_ENDS;
 use crate::placing::put;
 use crate::queueing::queue_own;
 use crate::reducer::Reducer;
 use crate::sides::inner;
-use crate::tools::Tools;
-use in_arena::{Arena, CellClass, End};
+use in_arena::{Arena, End};
 use in_check::Checked;
 use in_compile::{Member, Placed, Stock, Templates};
-use in_net::{MAX_MEMBER_AGENTS, Net};
+use in_net::Net;
 use std::alloc::{AllocError, Global};
-use std::collections::VecDeque;
-
-/// The most boundary ends that a rule has.
-pub(crate) const MOST_ENDS: usize = 32;
-
-/// Tools for the program's rules.
-pub(crate) fn tools_for(
-    alloc: Global,
-    templates: &Templates,
-    arena: &Arena,
-) -> Result<Tools, AllocError>
-    ensures tools { IfOk result (λ x. AreTools x arena.now) }
-    ensures fit { IfOk result (λ x. (k : ℕ) (p : TemplateParts) (c : Class) → slice_get templates.now.templates k ≡ Some p → count_of p.member.need c ≤ count_of x.stock.room c) }
-{
-    Ok(Tools {
-        stock: Stock::empty(alloc, arena, templates.largest_need())?,
-        placed: Placed::empty(alloc, arena, MAX_MEMBER_AGENTS as u32)?,
-        made: Vec::with_capacity(alloc, MOST_ENDS)?,
-    })
-}
 
 /// Places the program's net in an arena whose cells are free. Refused only when out of memory, and then the arena is as it was.
 fn place_start(alloc: Global, start: &Member, arena: &mut Arena) -> Result<Placed, AllocError>
@@ -74,36 +50,21 @@ fn free_ends(alloc: Global, net: &Net) -> Result<Vec<OwnEnd>, AllocError>
     Ok(free)
 }
 
-/// What the program's free ends lead to, and after that room for the sides of boundary ends.
-fn ends_of(alloc: Global, start: &Member, placed: &Placed) -> Result<Vec<End>, AllocError>
-    requires few { length start.now.joints ≤ max_free }
-    requires there { (e : ℕ) (j : Target) → slice_get start.now.joints e ≡ Some j → HasJoint placed.now.cells j }
-    ensures first { IfOk result (λ es. take (length start.now.joints) es.items ≡ map (inner_of placed.now.cells 0) start.now.joints) }
-    ensures long { IfOk result (λ es. length start.now.joints + most_ends + most_ends ≤ length es.items) }
+/// Lays the program's net in fresh cells, and queues its pairs. Returns what its free ends lead to, and after that room for the sides of boundary
+/// ends. Refused only when out of memory, and then the arena is as it was.
+fn lay(alloc: Global, start: &Member, fresh: &mut Fresh) -> Result<Vec<End>, AllocError>
+    requires { CanLay start.now fresh.old }
+    ensures laid { IfOk result (λ es. IsLaid start.now fresh.old fresh.new es.items) }
+    ensures refused { OnErr result (fresh.new.arena ≡ fresh.old.arena) }
 {
     let own = start.boundary_ends() as usize;
     let mut ends = vec![in alloc; End::Free(0); own + 2 * MOST_ENDS]?;
+    let placed = place_start(alloc, start, &mut fresh.arena)?;
     for number in 0..own {
-        ends[number] = inner(placed, 0, start.joint(number as u8));
+        ends[number] = inner(&placed, 0, start.joint(number as u8));
     }
+    queue_own(start, &placed, &mut fresh.queue);
     Ok(ends)
-}
-
-/// The active pairs of the program's net, by their cells, in a queue with at least this much room.
-fn queue_of(
-    alloc: Global,
-    start: &Member,
-    placed: &Placed,
-    room: usize,
-) -> Result<VecDeque<(u32, u32)>, AllocError>
-    requires there { (k : ℕ) (q : ℕ × ℕ) → slice_get start.now.pairs k ≡ Some q → (q.0 < length placed.now.cells) × (q.1 < length placed.now.cells) }
-    requires few { length start.now.pairs ≤ room }
-    ensures items { IfOk result (λ q. q.items ≡ map (both (named placed.now.cells)) start.now.pairs) }
-    ensures room { IfOk result (λ q. room ≤ deque_capacity q) }
-{
-    let mut queue = VecDeque::with_capacity(alloc, room)?;
-    queue_own(start, placed, &mut queue);
-    Ok(queue)
 }
 
 impl<'a> Reducer<'a> {
@@ -122,23 +83,11 @@ impl<'a> Reducer<'a> {
         ensures { IfOk result (IsStart checked.now cells) }
     {
         checked.is_accepted();
-        let mut arena = Arena::new(alloc, cells)?;
-        let tools = tools_for(alloc, templates, &arena)?;
-        let start = templates.start();
-        let placed = place_start(alloc, start, &mut arena)?;
         let free = free_ends(alloc, checked.net())?;
-        let ends = ends_of(alloc, start, &placed)?;
-        let room = CellClass::ALL.len() * cells as usize / 2;
-        let queue = queue_of(alloc, start, &placed, room)?;
+        let mut fresh = fresh_cells(alloc, templates, cells)?;
+        let ends = lay(alloc, templates.start(), &mut fresh)?;
         Ok(Reducer {
-            body: Body {
-                checked,
-                arena,
-                free,
-                ends,
-                queue,
-                tools,
-            },
+            body: fresh.into_body(checked, free, ends),
         })
     }
 }

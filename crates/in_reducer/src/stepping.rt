@@ -1,11 +1,9 @@
 // One interaction of a reducer.
-ghost use Rattle.std.specs.Prelude.{◌≡◌, ◌<◌, ◌≤◌, ◌↔◌, true, false, IsTrue, [], length, IsSome, Some, vec_capacity};
-ghost use Rattle.in_arena.specs.declared.content.CellClass.{CellClass as Class};
-ghost use Rattle.in_arena.specs.Arenas.{ArenaView, free_of};
-ghost use Rattle.in_compile.specs.Cells.{count_of};
+ghost use Rattle.std.specs.Prelude.{◌≡◌, ◌⊎◌, ◌<◌, ◌≤◌, ◌↔◌, true, false, IsTrue, [], length, IsSome, Some, vec_capacity};
+ghost use Rattle.in_arena.specs.Arenas.{ArenaView};
 ghost use Rattle.in_compile.specs.Templates.{AreTemplatesOf};
 ghost use Rattle.in_net.specs.Parts.{symbol_in};
-ghost use Rattle.in_reducer.specs.Inside.{AreAsBefore, IsKept, KeepsNet, StandsBeside, most_ends, over, reducer_view};
+ghost use Rattle.in_reducer.specs.Inside.{AreAsBefore, KeepsNet, StandsBeside, most_ends, over, reducer_view};
 ghost use Rattle.in_reducer.specs.Machines.{parts_of};
 ghost use Rattle.in_reducer.specs.Standing.{AreLeasedAlike};
 ghost use Rattle.in_reducer.specs.Steps.{NeedsAt, HasRoomAt, StepsAt};
@@ -13,13 +11,10 @@ ghost use Rattle.in_reducer.specs.Templates.{HasHeadsAt, IsTemplateAt};
 
 use crate::body::Body;
 use crate::interacting::interact;
-use crate::placing::put;
 use crate::queueing::{queue_made, queue_own, take_out};
 use crate::reducer::Reducer;
-use crate::sides::Pair;
-use crate::tools::Tools;
-use in_arena::{CellClass, CellNo};
-use in_base::use_promise;
+use crate::sides::{Pair, PlacedPair};
+use in_arena::CellNo;
 use in_compile::{Need, Template, Templates};
 use in_symbols::SymbolNo;
 
@@ -42,41 +37,6 @@ impl<'a> Body<'a> {
         (self.symbol(CellNo(one)), self.symbol(CellNo(other)))
     }
 
-    /// The template of the pair of that number: its agents' symbols match, and match one rule.
-    pub(crate) fn template<'b>(&self, templates: &'b Templates, number: u32) -> &'b Template
-        requires net { KeepsNet self.now }
-        requires templates { AreTemplatesOf self.now.checked.now templates.now }
-        requires pair { number < length self.now.queue.items }
-        ensures { IsTemplateAt (reducer_view self.now) number result.now }
-    {
-        let (constructor, destructor) = self.heads(number);
-        templates.of(constructor, destructor)
-    }
-
-    /// How many cells of each class are free now.
-    pub(crate) fn vacant(&self) -> Need
-        ensures { (c : Class) → count_of result c ≡ free_of self.now.arena c }
-    {
-        Need {
-            small: self.arena.free_count(CellClass::Small),
-            large: self.arena.free_count(CellClass::Large),
-            wide: self.arena.free_count(CellClass::Wide),
-        }
-    }
-
-    /// Whether what the pair of that number needs is free.
-    pub(crate) fn has_room(&self, templates: &Templates, number: u32) -> bool
-        requires kept { IsKept self.now }
-        requires templates { AreTemplatesOf self.now.checked.now templates.now }
-        requires pair { number < length self.now.queue.items }
-        ensures room { result ≡ true → HasRoomAt (reducer_view self.now) number }
-        ensures none { result ≡ false → HasRoomAt (reducer_view self.now) number → ⊥ }
-    {
-        let need = self.template(templates, number).need();
-        let short = need.first_short(self.vacant());
-        short.is_none()
-    }
-
     /// The interaction of the pair of that number, beside which the right member of its template stands in the cells that the tools tell.
     /// The pair leaves the queue, and the new pairs come last: first those over boundary ends, by the lowest-numbered one on the path that
     /// made each, then the right member's own. It takes no memory.
@@ -91,50 +51,42 @@ impl<'a> Body<'a> {
         ensures program { self.new.checked ≡ self.old.checked }
     {
         let (one, other) = self.queue[number as usize];
-        let pair = Pair {
-            one: CellNo(one),
-            other: CellNo(other),
-            first_ends: template.first_ends(),
-        };
         let own = self.free.len() as u32;
+        let next = PlacedPair {
+            pair: Pair {
+                one: CellNo(one),
+                other: CellNo(other),
+                first_ends: template.first_ends(),
+            },
+            template,
+            placed: &self.tools.placed,
+            own,
+        };
         take_out(&mut self.queue, number as usize);
         interact(
             self.checked.symbols(),
-            template,
-            pair,
-            own,
+            &next,
             &mut self.arena,
             self.ends.as_mut_slice(),
-            &self.tools.placed,
             &mut self.tools.made,
         );
         queue_made(&mut self.tools.made, &mut self.queue);
         queue_own(template.member(), &self.tools.placed, &mut self.queue);
     }
-
-    /// The interaction of the pair of that number, by the rule of its symbols, as `Reducer::step` says.
-    #[inline(always)]
-    pub(crate) fn step(&mut self, templates: &Templates, number: u32)
-        requires kept { IsKept self.old }
-        requires templates { AreTemplatesOf self.old.checked.now templates.now }
-        requires pair { number < length self.old.queue.items }
-        requires room { HasRoomAt (reducer_view self.old) number }
-        ensures kept { IsKept self.new }
-        ensures steps { StepsAt (reducer_view self.old) number (reducer_view self.new) }
-        ensures program { self.new.checked ≡ self.old.checked }
-    {
-        let template = self.template(templates, number);
-        let Tools {
-            stock,
-            placed,
-            made: _,
-        } = &mut self.tools;
-        put(template.member(), &mut self.arena, stock, placed);
-        self.finish(template, number);
-    }
 }
 
 impl<'a> Reducer<'a> {
+    /// The template of the pair of that number: its agents' symbols match, and match one rule. The templates are those of the program.
+    #[inline(always)]
+    fn template<'b>(&self, templates: &'b Templates, number: u32) -> &'b Template
+        requires templates { AreTemplatesOf self.now.program templates.now }
+        requires pair { number < length self.now.queue }
+        ensures { IsTemplateAt self.now number result.now }
+    {
+        let (constructor, destructor) = self.body.heads(number);
+        templates.of(constructor, destructor)
+    }
+
     /// How many cells of each class the interaction of the pair of that number needs: the agents of its rule's right member. They have to
     /// be free while the pair still stands. The templates are those of the program.
     pub fn need_of(&self, templates: &Templates, number: u32) -> Need
@@ -142,8 +94,7 @@ impl<'a> Reducer<'a> {
         requires pair { number < length self.now.queue }
         ensures { NeedsAt self.now number result }
     {
-        use_promise!(self.pairs());
-        self.body.template(templates, number).need()
+        self.template(templates, number).need()
     }
 
     /// Whether what the pair of that number needs is free, so that `step` may do its interaction. The templates are those of the program.
@@ -152,7 +103,30 @@ impl<'a> Reducer<'a> {
         requires pair { number < length self.now.queue }
         ensures { IsTrue result ↔ HasRoomAt self.now number }
     {
-        self.body.has_room(templates, number)
+        self.fits(self.template(templates, number), number)
+    }
+
+    /// Whether what the template of the pair of that number needs is free.
+    #[inline(always)]
+    fn fits(&self, template: &Template, number: u32) -> bool
+        requires { IsTemplateAt self.now number template.now }
+        ensures { IsTrue result ↔ HasRoomAt self.now number }
+    {
+        let need = template.need();
+        let short = need.first_short(Need::free_in(&self.body.arena));
+        short.is_none()
+    }
+
+    /// The interaction of the pair of that number, as `step` says.
+    #[inline(always)]
+    fn step_by(&mut self, template: &Template, number: u32)
+        requires at { IsTemplateAt self.old number template.now }
+        requires room { HasRoomAt self.old number }
+        ensures { StepsAt self.old number self.new }
+    {
+        let body = &mut self.body;
+        body.tools.placed.put(template.member(), &mut body.arena);
+        body.finish(template, number);
     }
 
     /// The interaction of the pair of that number, by the rule of its symbols: Lafont 1990's, which replaces the pair by the right member.
@@ -165,6 +139,26 @@ impl<'a> Reducer<'a> {
         requires room { HasRoomAt self.old number }
         ensures { StepsAt self.old number self.new }
     {
-        self.body.step(templates, number);
+        let template = self.template(templates, number);
+        self.step_by(template, number);
+    }
+
+    /// The interaction of the first pair, as `step` says, where there is one and what it needs is free. Returns whether it was done. The
+    /// templates are those of the program. It takes no memory.
+    #[inline(always)]
+    pub fn step_first(&mut self, templates: &Templates) -> bool
+        requires { AreTemplatesOf self.old.program templates.now }
+        ensures done { result ≡ true → StepsAt self.old 0 self.new }
+        ensures none { result ≡ false → (self.new ≡ self.old) × ((self.old.queue ≡ []) ⊎ (HasRoomAt self.old 0 → ⊥)) }
+    {
+        if self.pairs() == 0 {
+            return false;
+        }
+        let template = self.template(templates, 0);
+        if !self.fits(template, 0) {
+            return false;
+        }
+        self.step_by(template, 0);
+        true
     }
 }

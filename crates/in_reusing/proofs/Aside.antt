@@ -8,9 +8,15 @@ use Rattle.in_net.proofs.Public.{port_agent, port_place}
 use Rattle.in_net.specs.Renaming.{renamed}
 use Rattle.in_check.specs.Runs.{moved}
 use Rattle.in_check.proofs.Public.{cond_map, live}
+use Rattle.in_base.proofs.Options.{none_of}
 use Rattle.in_base.proofs.Places.{is_some as there}
 use Rattle.in_overwriting.specs.Overwriting.{NoneLeadsBack}
-use Rattle.in_reusing.specs.Aside.{IsAside, IsReusing, AreAlikeAside, PairsAsideAreAlike}
+use Rattle.in_reusing.specs.Aside.{IsAside, WiresAreOfBefore, NumbersAreNew, AreAlikeAside, PairsAsideAreAlike}
+
+-- a point that isn't the pair's stays
+pub point_stays : (n m : Net ℕ) (x : Redex ℕ ℕ) (f : ℕ → ℕ) → IsAside n m x f → (u : Point ℕ) → (IsOfPair x u → ⊥) → renamed f u ≡ u
+point_stays n m x f aside (Port y i) away = ap (λ (z : ℕ). Port z i) (aside.stays y (λ e. away (inl e)) (λ e. away (inr e)))
+point_stays n m x f aside (Free k) away = refl
 
 module _ (sig : Signature) (n m : Net ℕ) (x : Redex ℕ ℕ) (f : ℕ → ℕ) (net : IsNet sig n) (redex : IsRedex sig n x) (none_back : NoneLeadsBack n x) (aside : IsAside n m x f) where
   either : (y : ℕ) → ((y ≡ x.one) ⊎ (y ≡ x.two)) ⊎ (((y ≡ x.one) ⊎ (y ≡ x.two)) → ⊥)
@@ -20,10 +26,6 @@ module _ (sig : Signature) (n m : Net ℕ) (x : Redex ℕ ℕ) (f : ℕ → ℕ)
       go (yes e) d = inl (inl e)
       go (no a) (yes e) = inl (inr e)
       go (no a) (no b) = inr (λ h. elim h [ inl e ↦ a e | inr e ↦ b e ])
-
-  point_stays : (u : Point ℕ) → (IsOfPair x u → ⊥) → renamed f u ≡ u
-  point_stays (Port y i) away = ap (λ (z : ℕ). Port z i) (aside.stays y (λ e. away (inl e)) (λ e. away (inr e)))
-  point_stays (Free k) away = refl
 
   live_one : IsSome (n.symbol x.one)
   live_one = there (n.symbol x.one) x.first redex.one
@@ -110,12 +112,12 @@ module _ (sig : Signature) (n m : Net ℕ) (x : Redex ℕ ℕ) (f : ℕ → ℕ)
   end_forth : (e : ℕ) (u : Point ℕ) → n.partner (Port (end_agent sig x e) (end_place sig x e)) ≡ Some u → m.partner (Port (end_agent sig (moved f x) e) (end_place sig x e)) ≡ Some u
   end_forth e u wire =
       ap (λ (z : ℕ). m.partner (Port z (end_place sig x e))) (sym (end_moved e))
-      ∙ (aside.renamed.wires (Port (f (end_agent sig x e)) (end_place sig x e)) u).1 (Port (end_agent sig x e) (end_place sig x e), u, refl, point_stays u (end_away e u wire), wire)
+      ∙ (aside.renamed.wires (Port (f (end_agent sig x e)) (end_place sig x e)) u).1 (Port (end_agent sig x e) (end_place sig x e), u, refl, point_stays n m x f aside u (end_away e u wire), wire)
 
   end_back : (e : ℕ) (u : Point ℕ) → m.partner (Port (end_agent sig (moved f x) e) (end_place sig x e)) ≡ Some u → n.partner (Port (end_agent sig x e) (end_place sig x e)) ≡ Some u
   end_back e u wire =
       let w = wire_aside (end_agent sig x e) (end_place sig x e) u (end_of e) (ap (λ (z : ℕ). m.partner (Port z (end_place sig x e))) (end_moved e) ∙ wire) in
-      w.2 ∙ ap (λ (z : Point ℕ). Some z) (sym (point_stays w.0 (end_away e w.0 w.2)) ∙ w.1)
+      w.2 ∙ ap (λ (z : Point ℕ). Some z) (sym (point_stays n m x f aside w.0 (end_away e w.0 w.2)) ∙ w.1)
 
   -- ---- all other points
 
@@ -127,24 +129,20 @@ module _ (sig : Signature) (n m : Net ℕ) (x : Redex ℕ ℕ) (f : ℕ → ℕ)
       go (Port y i) (inr e) = inr (ap f e)
       go (Free k) h = h
 
-  wire_back : (u v : Point ℕ) → (IsOfPair (moved f x) u → ⊥) → (IsOfPair (moved f x) v → ⊥) → m.partner u ≡ Some v → (n.partner u ≡ Some v) × (IsOfPair x u → ⊥) × (IsOfPair x v → ⊥)
+  wire_back : WiresAreOfBefore n m x f
   wire_back u v away_u away_v wire =
       let w = (aside.renamed.wires u v).0 wire in
       let out_p = stays_away w.0 u w.2 away_u in
       let out_q = stays_away w.1 v w.3 away_v in
-      let is_u : w.0 ≡ u = sym (point_stays w.0 out_p) ∙ w.2 in
-      let is_v : w.1 ≡ v = sym (point_stays w.1 out_q) ∙ w.3 in
+      let is_u : w.0 ≡ u = sym (point_stays n m x f aside w.0 out_p) ∙ w.2 in
+      let is_v : w.1 ≡ v = sym (point_stays n m x f aside w.1 out_q) ∙ w.3 in
       (ap n.partner (sym is_u) ∙ w.4 ∙ ap (λ (z : Point ℕ). Some z) is_v, subst (λ (z : Point ℕ). IsOfPair x z → ⊥) is_u out_p, subst (λ (z : Point ℕ). IsOfPair x z → ⊥) is_v out_q)
 
   -- ---- names
 
-  naming : (name : ℕ → ℕ) → IsReusing n x f name → IsNaming m (moved f x) name
-  naming name h = record { fresh = fresh; apart = h.apart }
+  naming : NumbersAreNew n m x f
+  naming name h = record { fresh = fresh; apart = h.in_place.apart }
     where
-      none_of : (o : Option ℕ) → ((k : ℕ) → o ≡ Some k → ⊥) → o ≡ None
-      none_of None never = refl
-      none_of (Some k) never = absurd (never k refl)
-
       old : (y z t : ℕ) → z ≡ y → n.symbol z ≡ Some t → ((z ≡ x.one) ⊎ (z ≡ x.two) → ⊥) → (n.symbol y ≡ None) ⊎ ((y ≡ x.one) ⊎ (y ≡ x.two)) → ⊥
       old y z t e is away (inl none) = let w : ◌≡◌ {A = Option ℕ} None (Some t) = sym none ∙ ap n.symbol (sym e) ∙ is in cc
       old y z t e is away (inr (inl d)) = away (inl (e ∙ d))
@@ -155,7 +153,7 @@ module _ (sig : Signature) (n m : Net ℕ) (x : Redex ℕ ℕ) (f : ℕ → ℕ)
           let z = (aside.renamed.agents (name k) t).0 is in
           elim (either z.0) [
             | inl of ↦ elim of [ inl d ↦ (h.aside k s e).0 (sym z.1 ∙ ap f d) | inr d ↦ (h.aside k s e).1 (sym z.1 ∙ ap f d) ]
-            | inr away ↦ old (name k) z.0 t (sym (aside.stays z.0 (λ d. away (inl d)) (λ d. away (inr d))) ∙ z.1) z.2 away (h.fresh k s e)
+            | inr away ↦ old (name k) z.0 t (sym (aside.stays z.0 (λ d. away (inl d)) (λ d. away (inr d))) ∙ z.1) z.2 away (h.in_place.fresh k s e)
           ]
           ))
 
@@ -163,7 +161,7 @@ module _ (sig : Signature) (n m : Net ℕ) (x : Redex ℕ ℕ) (f : ℕ → ℕ)
   alike = record {
     none_back = none_aside;
     ends = λ e u. (end_back e u, end_forth e u);
-    forth = λ u v away_u away_v wire. (aside.renamed.wires u v).1 (u, v, point_stays u away_u, point_stays v away_v, wire);
+    forth = λ u v away_u away_v wire. (aside.renamed.wires u v).1 (u, v, point_stays n m x f aside u away_u, point_stays n m x f aside v away_v, wire);
     back = wire_back;
     naming = naming;
   }

@@ -2,6 +2,7 @@
 use Rattle.std.proofs.Common.{◌≡◌, ◌≢◌, ◌⊎◌, inl, inr, ◌<◌, ◌≤◌, ℕ, Option, Some, None, IsSomeAnd, length, refl, sym, ap, subst, ◌∙◌}
 use native.Mathlib.Decide.{ℕ_discrete}
 use Rattle.std.proofs.lemmas.Option.{same_Some}
+use Rattle.in_base.proofs.Options.{none_of}
 use Rattle.in_net.specs.Interactions.{Redex, IsRedex, IsOfPair, IsNaming, IsStep}
 use Rattle.in_net.specs.Nets.{Point, Port, Free, Signature, Net, IsNet, IsPoint}
 use Rattle.in_net.proofs.Public.{symbol_of}
@@ -14,7 +15,7 @@ use Rattle.in_check.proofs.Public.{net_renamed, symbol_kept, wire_kept}
 use Rattle.in_overwriting.specs.Overwriting.{CanOverwrite, IsOverwritten, IsSideAt, IsSide}
 use Rattle.in_overwriting.proofs.Public.{overwritten_exists, sides_are_apart, steps_are_overwritten}
 use Rattle.in_reusing.specs.Aside.{IsAside, AreAlikeAside}
-use Rattle.in_reusing.proofs.Aside.{pairs_aside_are_alike}
+use Rattle.in_reusing.proofs.Aside.{pairs_aside_are_alike, point_stays}
 use Rattle.in_reusing.specs.InPlace.{CanReuse, IsOverwrittenInPlace, InPlaceIsAStep, InPlaceExists, InPlaceIsOne}
 
 module _ (sig : Signature) (n m : Net ℕ) (x : Redex ℕ ℕ) (f name : ℕ → ℕ) (can : CanReuse sig n x f name) (aside : IsAside n m x f) where
@@ -81,12 +82,8 @@ module _ (sig : Signature) (n m : Net ℕ) (x : Redex ℕ ℕ) (f name : ℕ →
 
   out_n : (u v : Point ℕ) → (IsOfPair x u → ⊥) → (IsOfPair z u → ⊥) → (IsSide sig m z name u → ⊥) → n.partner u ≡ Some v → IsOfPair x v → ⊥
   out_n u v away away_m none wire of =
-      stays_out u (renamed f v) away_m none (ap m.partner (sym (stay u away)) ∙ wire_kept sig f n m can.net aside.renamed u v wire) (pair_kept v of)
+      stays_out u (renamed f v) away_m none (ap m.partner (sym (point_stays n m x f aside u away)) ∙ wire_kept sig f n m can.net aside.renamed u v wire) (pair_kept v of)
     where
-      stay : (u : Point ℕ) → (IsOfPair x u → ⊥) → renamed f u ≡ u
-      stay (Port y i) away = ap (λ (k : ℕ). Port k i) (aside.stays y (λ e. away (inl e)) (λ e. away (inr e)))
-      stay (Free k) away = refl
-
       pair_kept : (v : Point ℕ) → IsOfPair x v → IsOfPair z (renamed f v)
       pair_kept (Port y i) (inl e) = inl (ap f e)
       pair_kept (Port y i) (inr e) = inr (ap f e)
@@ -176,10 +173,6 @@ module _ (sig : Signature) (n m : Net ℕ) (x : Redex ℕ ℕ) (f name : ℕ →
         go : (t : ℕ) → after.symbol y ≡ Some t → StaysAt y t ⊎ NewAt y t → IsSomeAnd (Some t) (λ s. i ≤ sig.arity s) → IsPoint sig m (Port y i) ⊎ IsSide sig m z name (Port y i)
         go t is (inl k) l = inl (subst (λ (o : Option ℕ). IsSomeAnd o (λ s. i ≤ sig.arity s)) (sym k.2) l)
         go t is (inr k) l = inr (is_side (Port k.0 i) (Port y i) (subst (λ (o : Option ℕ). IsSomeAnd o (λ s. i ≤ sig.arity s)) (sym k.2) l) (ap (λ (y : ℕ). Port y i) (sym k.1)))
-
-    none_of : {X : Type 0} (o : Option X) → ((v : X) → o ≡ Some v → ⊥) → o ≡ None
-    none_of None never = refl
-    none_of (Some v) never = absurd (never v refl)
 
     -- the numbers that the pair has aside are no agent's after
     gone_agent : (y s : ℕ) → (y ≡ f x.one) ⊎ (y ≡ f x.two) → after.symbol y ≡ Some s → ⊥

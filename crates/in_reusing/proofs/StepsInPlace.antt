@@ -11,7 +11,7 @@ use Rattle.in_net.specs.Parts.{symbol_in}
 use Rattle.in_net.specs.Rules.{RuleParts}
 use Rattle.in_interaction.specs.Made.{HasSymbolAfter, AreMade}
 use Rattle.in_interaction.specs.Queues.{agents_at, both, numbers_of}
-use Rattle.in_interaction.proofs.Public.{symbol_is, symbol_number}
+use Rattle.in_interaction.proofs.Public.{agent_same, symbol_is, symbol_number}
 use Rattle.in_base.proofs.Places.{is_some as there}
 use Rattle.in_compile.specs.Cells.{agents_of, count_of}
 use Rattle.in_overwriting.specs.MadeByWires.{IsMadeByWire, MakeInTurn, of_none, with_one, without}
@@ -132,12 +132,11 @@ module _ (m o : MachineParts) (i : ℕ) (reducer : IsReducer m) (h : StepsInPlac
 
   reusing : IsReusing before x f h.name
   reusing = record {
-    fresh = h.naming.fresh;
+    in_place = h.naming;
     aside = λ k k' e. (
       (λ d. (let l = name_near k k' e in let z = f_one in omega (arith, d, l, z))),
       (λ d. (let l = name_near k k' e in let z = f_two in omega (arith, d, l, z))),
     );
-    apart = h.naming.apart;
   }
 
   can : CanReuse (signature_of t) before x f h.name
@@ -154,14 +153,11 @@ module _ (m o : MachineParts) (i : ℕ) (reducer : IsReducer m) (h : StepsInPlac
   abbrev fb : AgentNo
   fb = (agents_at (both f h.pair)).1
 
-  numbered : (y z : AgentNo) → y.0 ≡ z.0 → y ≡ z
-  numbered y z e = ap (λ (k : ℕ). let w : AgentNo = record { 0 = k } in w) e
-
   symbol_forth : (y : AgentNo) (k : SymbolNo) → HasSymbolAfter (parts_of m) r (agents_at h.pair).0 (agents_at h.pair).1 h.name y k → HasSymbolAfter (parts_of s) r fa fb h.name y k
   symbol_forth y k (inr new) = inr new
   symbol_forth y k (inl old) =
-      let not_a : y.0 ≢ a = λ e. old.0 (numbered y (agents_at h.pair).0 e) in
-      let not_b : y.0 ≢ b = λ e. old.1 (numbered y (agents_at h.pair).1 e) in
+      let not_a : y.0 ≢ a = λ e. old.0 (agent_same y (agents_at h.pair).0 e) in
+      let not_b : y.0 ≢ b = λ e. old.1 (agent_same y (agents_at h.pair).1 e) in
       let live = symbol_number (symbol_in (parts_of m) y.0) k old.2 in
       let out : (z : ℕ) → before.symbol z ≡ None → y.0 ≢ z = λ z none e. (let w : ◌≡◌ {A = Option ℕ} None (Some k.0) = sym none ∙ ap before.symbol (sym e) ∙ live in cc) in
       inl (
@@ -174,8 +170,8 @@ module _ (m o : MachineParts) (i : ℕ) (reducer : IsReducer m) (h : StepsInPlac
   symbol_back y k (inr new) = inr new
   symbol_back y k (inl old) =
       let z = (same.net.agents y.0 k.0).0 (symbol_number (symbol_in (parts_of s) y.0) k old.2) in
-      let not_a : z.0 ≢ a = λ e. old.0 (numbered y fa (sym z.1 ∙ ap f e)) in
-      let not_b : z.0 ≢ b = λ e. old.1 (numbered y fb (sym z.1 ∙ ap f e)) in
+      let not_a : z.0 ≢ a = λ e. old.0 (agent_same y fa (sym z.1 ∙ ap f e)) in
+      let not_b : z.0 ≢ b = λ e. old.1 (agent_same y fb (sym z.1 ∙ ap f e)) in
       let is_y : z.0 ≡ y.0 = sym (f_old z.0 not_a not_b) ∙ z.1 in
       inl (
         (λ e. not_a (is_y ∙ ap (λ (z : AgentNo). z.0) e)),
@@ -237,8 +233,8 @@ module _ (m o : MachineParts) (i : ℕ) (reducer : IsReducer m) (h : StepsInPlac
       ∙ map_fixed (both f) (remove m.queue i) (λ k q e. (
       let w = was_there m.queue i k q e in
       let d = other_pair t (parts_of m) (agents_at h.pair).0 (agents_at h.pair).1 m.queue i net reducer.queue h.stands w.0 q w.2 w.1 in
-      let one : f q.0 ≡ q.0 = f_old q.0 (λ z. d.1 (numbered (agents_at q).0 (agents_at h.pair).0 z)) (λ z. d.2 (numbered (agents_at q).0 (agents_at h.pair).1 z)) in
-      let two : f q.1 ≡ q.1 = f_old q.1 (λ z. d.3 (numbered (agents_at q).1 (agents_at h.pair).0 z)) (λ z. d.4 (numbered (agents_at q).1 (agents_at h.pair).1 z)) in
+      let one : f q.0 ≡ q.0 = f_old q.0 (λ z. d.1 (agent_same (agents_at q).0 (agents_at h.pair).0 z)) (λ z. d.2 (agent_same (agents_at q).0 (agents_at h.pair).1 z)) in
+      let two : f q.1 ≡ q.1 = f_old q.1 (λ z. d.3 (agent_same (agents_at q).1 (agents_at h.pair).0 z)) (λ z. d.4 (agent_same (agents_at q).1 (agents_at h.pair).1 z)) in
       ap (λ (z : ℕ). let w : ℕ × ℕ = (z, f q.1) in w) one ∙ ap (λ (z : ℕ). let w : ℕ × ℕ = (q.0, z) in w) two
       ))
 

@@ -12,19 +12,32 @@ pub record IsAside (n m : Net ℕ) (x : Redex ℕ ℕ) (f : ℕ → ℕ) : Type 
   pub renamed : IsRenamed f n m
   pub stays : (z : ℕ) → z ≢ x.one → z ≢ x.two → f z ≡ z
 
--- new agents have different numbers, which no agent has that stays; they may have those of the pair, but not those that it has aside
-pub record IsReusing (n : Net ℕ) (x : Redex ℕ ℕ) (f name : ℕ → ℕ) : Type 0 where
+-- new agents have different numbers, which no agent has that stays; they may have those of the pair
+pub record IsNamingInPlace (n : Net ℕ) (x : Redex ℕ ℕ) (name : ℕ → ℕ) : Type 0 where
   pub fresh : (k s : ℕ) → x.member.symbol k ≡ Some s → (n.symbol (name k) ≡ None) ⊎ ((name k ≡ x.one) ⊎ (name k ≡ x.two))
-  pub aside : (k s : ℕ) → x.member.symbol k ≡ Some s → (name k ≢ f x.one) × (name k ≢ f x.two)
   pub apart : (k l s t : ℕ) → x.member.symbol k ≡ Some s → x.member.symbol l ≡ Some t → name k ≡ name l → k ≡ l
+
+-- .. but not those that it has aside
+pub record IsReusing (n : Net ℕ) (x : Redex ℕ ℕ) (f name : ℕ → ℕ) : Type 0 where
+  pub in_place : IsNamingInPlace n x name
+  pub aside : (k s : ℕ) → x.member.symbol k ≡ Some s → (name k ≢ f x.one) × (name k ≢ f x.two)
+
+-- a wire of the net with the pair aside, away from the pair, is one of the net itself, away from the pair there
+abbrev pub WiresAreOfBefore : (n m : Net ℕ) (x : Redex ℕ ℕ) (f : ℕ → ℕ) → Type 0
+WiresAreOfBefore n m x f =
+    (u v : Point ℕ) → (IsOfPair (moved f x) u → ⊥) → (IsOfPair (moved f x) v → ⊥) → m.partner u ≡ Some v → (n.partner u ≡ Some v) × (IsOfPair x u → ⊥) × (IsOfPair x v → ⊥)
+
+-- numbers that new agents may have in place are new in the net with the pair aside
+abbrev pub NumbersAreNew : (n m : Net ℕ) (x : Redex ℕ ℕ) (f : ℕ → ℕ) → Type 0
+NumbersAreNew n m x f = (name : ℕ → ℕ) → IsReusing n x f name → IsNaming m (moved f x) name
 
 -- what is said of the net with the pair aside is said of the net itself: what a boundary end stands for, and all other wires
 pub record AreAlikeAside (sig : Signature) (n m : Net ℕ) (x : Redex ℕ ℕ) (f : ℕ → ℕ) : Type 0 where
   pub none_back : NoneLeadsBack m (moved f x)
   pub ends : (e : ℕ) (u : Point ℕ) → (m.partner (Port (end_agent sig (moved f x) e) (end_place sig (moved f x) e)) ≡ Some u) ↔ (n.partner (Port (end_agent sig x e) (end_place sig x e)) ≡ Some u)
   pub forth : (u v : Point ℕ) → (IsOfPair x u → ⊥) → (IsOfPair x v → ⊥) → n.partner u ≡ Some v → m.partner u ≡ Some v
-  pub back : (u v : Point ℕ) → (IsOfPair (moved f x) u → ⊥) → (IsOfPair (moved f x) v → ⊥) → m.partner u ≡ Some v → (n.partner u ≡ Some v) × (IsOfPair x u → ⊥) × (IsOfPair x v → ⊥)
-  pub naming : (name : ℕ → ℕ) → IsReusing n x f name → IsNaming m (moved f x) name
+  pub back : WiresAreOfBefore n m x f
+  pub naming : NumbersAreNew n m x f
 
 -- so it is where no wire leads back to the pair
 abbrev pub PairsAsideAreAlike : Type 0

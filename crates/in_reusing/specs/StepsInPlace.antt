@@ -15,12 +15,8 @@ use Rattle.in_reducer.specs.Machines.{MachineParts, parts_of, plain_of}
 use Rattle.in_reducer.specs.Reducers.{IsReducer}
 use Rattle.in_reducer.specs.Steps.{HasRoomAt}
 use Rattle.in_names.specs.Same.{AreSame, StepsUpToNumbers}
+pub use Rattle.in_reusing.specs.Aside.{IsNamingInPlace}
 use Rattle.in_reusing.specs.InPlace.{IsOverwrittenInPlace}
-
--- new agents have different numbers, which no agent has that stays; they may have those of the pair
-pub record IsNamingInPlace (n : Net ℕ) (x : Redex ℕ ℕ) (name : ℕ → ℕ) : Type 0 where
-  pub fresh : (k s : ℕ) → x.member.symbol k ≡ Some s → (n.symbol (name k) ≡ None) ⊎ ((name k ≡ x.one) ⊎ (name k ≡ x.two))
-  pub apart : (k l s t : ℕ) → x.member.symbol k ≡ Some s → x.member.symbol l ≡ Some t → name k ≡ name l → k ≡ l
 
 -- the interaction of the active pair of that number by its rule, where no wire leads back to the pair: partners are overwritten, and the
 -- right member's wires make the new pairs in turn

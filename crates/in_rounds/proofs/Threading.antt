@@ -2,6 +2,7 @@
 use Rattle.std.proofs.Common.{◌≡◌, ◌≤◌, List, [], ◌∷◌, ◌++◌, length, All, refl, sym, ap, ◌∙◌, subst, arith}
 use Rattle.std.specs.List.{AllZip}
 use Rattle.std.proofs.lemmas.List.{append-nil, append_assoc, length-append, get_or_append_left, get_or_at}
+use Rattle.in_base.proofs.Options.{snoc_parts}
 use Rattle.in_rounds.specs.declared.threads.Begun.{Begun}
 use Rattle.in_rounds.specs.declared.threads.Begun.TheVariants.{There, Here}
 
@@ -24,16 +25,6 @@ pub record Ends {P W : Type 0} (is_worked : W → P → P → Type 0) (w : W) (a
   pub rest : Mirrors is_worked w left begun
 
 -- ---- lists that are taken from their end
-
--- two lists with one element at their ends are one where they are equal
-snoc_parts : {X : Type 0} (xs ys : List X) (x y : X) → xs ++ x ∷ [] ≡ ys ++ y ∷ [] → (xs ≡ ys) × (x ≡ y)
-snoc_parts [] [] x y e = (refl, (cc))
-snoc_parts [] (z ∷ zs) x y e = absurd (omega (arith, ap length e, length-append zs (y ∷ [])))
-snoc_parts (w ∷ ws) [] x y e = absurd (omega (arith, ap length e, length-append ws (x ∷ [])))
-snoc_parts (w ∷ ws) (z ∷ zs) x y e =
-    let tails : ws ++ x ∷ [] ≡ zs ++ y ∷ [] = cc in
-    let heads : w ≡ z = cc in
-    let rest = snoc_parts ws zs x y tails in (cc (rest.0, heads), rest.1)
 
 all_zip-push : {A B : Type 0} (R : A → B → Type 0) (xs : List A) (ys : List B) (x : A) (y : B) → AllZip R xs ys → R x y → AllZip R (xs ++ x ∷ []) (ys ++ y ∷ [])
 all_zip-push R [] [] x y all one = (one, tt)

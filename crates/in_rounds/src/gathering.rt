@@ -1,22 +1,65 @@
 // The workers' part of a round.
-ghost use Rattle.std.specs.Prelude.{◌≡◌, ◌≤◌, ◌<◌, ◌+◌, ◌^◌, length, IfOk, OnErr};
+ghost use Rattle.std.specs.Prelude.{◌≡◌, ◌≤◌, ◌<◌, ◌+◌, ◌^◌, length, All, IfOk, OnErr, OnOk, vec_len};
 ghost use Rattle.in_arena.specs.Arenas.{NoneLeased, free_of};
-ghost use Rattle.in_rounds.specs.Gathers.{bags_of};
+ghost use Rattle.in_claims.specs.Seats.{fresh};
+ghost use Rattle.in_rounds.specs.Gathers.{bags_of, new_gather};
 ghost use Rattle.in_rounds.specs.Bringing.{AreMadeWith};
 ghost use Rattle.in_rounds.specs.Lending.{AreLentOut, IsShare};
 
 use crate::bringing::bring_all;
 use crate::gather::Gather;
-use crate::lending::{hands, lend};
+use crate::lending::{Crew, crew_of, lend};
 use crate::plan::Plan;
 use crate::threads::all;
 use crate::working::Worker;
 use in_arena::Arena;
-use in_claims::{Board, Gate};
+use in_claims::{Board, Gate, Seat};
 use in_compile::Need;
 use std::alloc::{AllocError, Global};
 use std::sync::Wait;
 use std::thread::Threads;
+
+/// A worker for each seat places jobs of the plan, in as many rooms as each has, and what they did is gathered, where nothing was yet. Says how many
+/// threads were started.
+fn place_jobs<'t, R: Threads + Wait, G: Gate + Sync>(
+    rt: &R,
+    alloc: Global,
+    plan: &Plan<'t>,
+    board: &Board,
+    seats: Vec<Seat>,
+    share: Need,
+    rooms: u32,
+    arena: &mut Arena,
+    gate: &G,
+    gather: &mut Gather<'t>,
+) -> Result<u32, AllocError>
+    requires seats { All (λ s. s ≡ fresh board.now) seats.items }
+    requires limit { board.now.limit ≤ length plan.now.jobs }
+    requires some { 1 ≤ vec_len seats }
+    requires most { vec_len seats ≤ 64 }
+    requires none { NoneLeased arena.old }
+    requires share { IsShare (vec_len seats) share (free_of arena.old) }
+    requires gather { gather.old ≡ new_gather plan.now.jobs }
+    ensures lent { OnOk result (AreLentOut (bags_of gather.new.slots) arena.old arena.new) }
+    ensures jobs { OnOk result (gather.new.jobs ≡ plan.now.jobs) }
+    ensures made { OnOk result (AreMadeWith plan.now.templates gather.new.slots) }
+    ensures threads { IfOk result (λ n. n + 1 ≤ vec_len seats) }
+    ensures refused { OnErr result (arena.new ≡ arena.old) }
+{
+    let many = seats.len();
+    let crew = crew_of(alloc, plan, board, arena, seats, share, rooms)?;
+    let begun = Vec::with_capacity(alloc, many)?;
+    let Crew { hands, lent, back } = crew;
+    let mut others = lend(hands, lent, plan, board, share, arena);
+    let Some(mine) = others.pop() else {
+        // There is one worker at least, and each has its hand.
+        unreachable!()
+    };
+    let worker = Worker { plan, board, gate };
+    let (back, threads) = all(rt, &worker, mine, others, begun, back);
+    bring_all(back, plan.templates, gather, arena);
+    Ok(threads)
+}
 
 /// Lets `workers` workers, 1 to 64, of which the caller is one, claim the plan's jobs and place their templates in cells of the arena, each
 /// with its share of the free ones; and gathers what they did. Says how many threads were started. Each worker claims while its stock holds
@@ -45,23 +88,19 @@ pub fn gather_jobs<'t, R: Threads + Wait, G: Gate + Sync>(
     ensures refused { OnErr result (arena.new ≡ arena.old) }
 {
     let jobs = plan.jobs.len() as u32;
-    let (board, seats) = Board::new(alloc, jobs, workers)?;
     let mut gather = Gather::new(alloc, plan.jobs)?;
-    let fresh = hands(alloc, plan, &board, arena, seats, share, jobs / workers + 1)?;
-    let lent = Vec::with_capacity(alloc, workers as usize)?;
-    let back = Vec::with_capacity(alloc, workers as usize)?;
-    let begun = Vec::with_capacity(alloc, workers as usize)?;
-    let mut others = lend(fresh, lent, plan, &board, share, arena);
-    let Some(mine) = others.pop() else {
-        // There is one worker at least, and each has its hand.
-        unreachable!()
-    };
-    let worker = Worker {
+    let (board, seats) = Board::new(alloc, jobs, workers)?;
+    let threads = place_jobs(
+        rt,
+        alloc,
         plan,
-        board: &board,
+        &board,
+        seats,
+        share,
+        jobs / workers + 1,
+        arena,
         gate,
-    };
-    let (back, threads) = all(rt, &worker, mine, others, begun, back);
-    bring_all(back, plan.templates, &mut gather, arena);
+        &mut gather,
+    )?;
     Ok((gather, threads))
 }

@@ -10,6 +10,7 @@ ghost use Rattle.in_rounds.specs.Works.{IsEmptyRoom, IsReady};
 use crate::hand::Hand;
 use crate::plan::Plan;
 use in_arena::Arena;
+use in_base::use_promise;
 use in_claims::{Board, Seat};
 use in_compile::{Need, Placed, Stock};
 use in_net::MAX_MEMBER_AGENTS;
@@ -59,7 +60,7 @@ fn hand<'t>(
 }
 
 /// A worker for each seat.
-pub(crate) fn hands<'t>(
+fn hands<'t>(
     alloc: Global,
     plan: &Plan<'t>,
     board: &Board,
@@ -81,6 +82,39 @@ pub(crate) fn hands<'t>(
     Ok(hands)
 }
 
+/// What is taken before the first cell is lent: a hand without cells for each worker, and lists with room for all hands, as they are lent and when
+/// they are back.
+#[derive(Drop)]
+pub(crate) struct Crew<'t> {
+    pub(crate) hands: Vec<Hand<'t>>,
+    pub(crate) lent: Vec<Hand<'t>>,
+    pub(crate) back: Vec<Hand<'t>>,
+}
+
+/// A crew of a worker for each seat.
+pub(crate) fn crew_of<'t>(
+    alloc: Global,
+    plan: &Plan<'t>,
+    board: &Board,
+    arena: &Arena,
+    seats: Vec<Seat>,
+    share: Need,
+    rooms: u32,
+) -> Result<Crew<'t>, AllocError>
+    requires seats { All (λ s. s ≡ fresh board.now) seats.items }
+    requires limit { board.now.limit ≤ length plan.now.jobs }
+    ensures hands { IfOk result (λ w. All (IsFreshHand plan.now board.now arena.now share) w.hands.items) }
+    ensures count { IfOk result (λ w. vec_len w.hands ≡ vec_len seats) }
+    ensures lent { IfOk result (λ w. (w.lent.items ≡ []) × (vec_len seats ≤ vec_capacity w.lent)) }
+    ensures back { IfOk result (λ w. (w.back.items ≡ []) × (vec_len seats ≤ vec_capacity w.back)) }
+{
+    let many = seats.len();
+    let lent = Vec::with_capacity(alloc, many)?;
+    let back = Vec::with_capacity(alloc, many)?;
+    let hands = hands(alloc, plan, board, arena, seats, share, rooms)?;
+    Ok(Crew { hands, lent, back })
+}
+
 /// Each worker gets its share of the cells. The list for them is empty and has room for all, so that no memory is taken.
 pub(crate) fn lend<'t>(
     mut hands: Vec<Hand<'t>>,
@@ -99,7 +133,7 @@ pub(crate) fn lend<'t>(
     ensures none_done { All (λ p. p.done.items ≡ []) result.items }
     ensures count { vec_len result ≡ vec_len hands.entry }
 {
-    arena.cells();
+    use_promise!(arena.cells());
     while let Some(mut hand) = hands.pop() {
         hand.stock.add(arena, share);
         lent.push_reserved(hand);

@@ -9,6 +9,7 @@ use Rattle.in_simple.specs.Checking.{AreSizedBuilt, AreHeld, AllHold, Again, IsB
 use Rattle.in_simple.proofs.Named.{AreLeft, left_start, left_more, left_app, take_next, take_whole}
 use Rattle.in_open_nets.proofs.Public.{get_past, get_cases, times_in_app, same_nat, at_most, one_same, one_other, earlier_of, times_among}
 use Rattle.in_open_nets.proofs.Public.{is_node}
+use Rattle.in_base.proofs.Options.{snoc_parts}
 use Rattle.in_base.proofs.Places.{kept_at, unsnoc}
 use Rattle.in_base.proofs.Places.{some_same}
 use Rattle.in_simple.proofs.VerifyMade.{at_points, part_of, holds_part}
@@ -350,19 +351,8 @@ module _ (o : OpenNet) (steps : List Step) where
           absurd (omega arith)
       go (front, Some b, e) = of front b e (sym (length-append front (Some b ∷ [])) ∙ ap length (sym e) ∙ h.left.size)
 
-snoc_same : {X : Type 0} (xs ys : List X) (x y : X) → xs ++ x ∷ [] ≡ ys ++ y ∷ [] → (xs ≡ ys) × (x ≡ y)
-snoc_same [] [] x y e = (refl, cc)
-snoc_same [] (z ∷ ys) x y e = let a = ap length e in let b = length-append ys (y ∷ []) in absurd (omega arith)
-snoc_same (z ∷ xs) [] x y e = let a = ap length e in let b = length-append xs (x ∷ []) in absurd (omega arith)
-snoc_same {X} (z ∷ xs) (v ∷ ys) x y e =
-    let a : z ≡ v = cc in
-    let b : xs ++ x ∷ [] ≡ ys ++ y ∷ [] = cc in
-    let r = snoc_same xs ys x y b in
-    let s : xs ≡ ys = r.0 in
-    (cc, r.1)
-
 pub whole_last : (o : OpenNet) (parts others : List (Option Built)) (b : Built) → parts ≡ others ++ Some b ∷ [] → IsWholeNet o parts → IsLastBuilt o b others
 whole_last o parts others b e w =
-    let r = snoc_same w.0 others (Some w.1) (Some b) (sym w.2 ∙ e) in
+    let r = snoc_parts w.0 others (Some w.1) (Some b) (sym w.2 ∙ e) in
     let s : w.1 ≡ b = let f = r.1 in cc in
     subst (λ z. IsLastBuilt o z others) s (subst (λ z. IsLastBuilt o w.1 z) r.0 w.3)

@@ -100,7 +100,25 @@ fn tell_version<W: TextOut>(alloc: Global, output: &mut W) -> Status
     }
 }
 
-/// Does what the program's words ask for, or tells why they ask for nothing; and tells why its output can't be written.
+/// Does what the program's words ask for, or tells why they ask for nothing.
+fn answer_words<T: Threads + Wait, R: Read + Drop, W: TextOut, E: Write>(
+    rt: &T,
+    alloc: Global,
+    words: io::Result<Args>,
+    reader: R,
+    output: &mut W,
+    errors: &mut E,
+) -> Status
+    requires { (W.device output.old).failures < 2 ^ 64 - 1 }
+{
+    match action_asked(alloc, words) {
+        Ok(action) => answer(rt, alloc, &action, reader, output, errors),
+        Err(Usage::Version) => tell_version(alloc, output),
+        Err(usage) => tell_usage(&usage, output, &mut StreamOut::new(&mut *errors)),
+    }
+}
+
+/// The same, and tells why its output can't be written.
 fn serve<T: Threads + Wait, R: Read + Drop, W: Write + Drop, E: Write>(
     rt: &T,
     alloc: Global,
@@ -110,11 +128,7 @@ fn serve<T: Threads + Wait, R: Read + Drop, W: Write + Drop, E: Write>(
     errors: &mut E,
 ) -> Status {
     let mut output = StreamOut::new(writer);
-    let status = match action_asked(alloc, words) {
-        Ok(action) => answer(rt, alloc, &action, reader, &mut output, errors),
-        Err(Usage::Version) => tell_version(alloc, &mut output),
-        Err(usage) => tell_usage(&usage, &mut output, &mut StreamOut::new(&mut *errors)),
-    };
+    let status = answer_words(rt, alloc, words, reader, &mut output, errors);
     if let Some(why) = output.failure() {
         tell_failure(alloc, "standard output can't be written", why, errors);
     }

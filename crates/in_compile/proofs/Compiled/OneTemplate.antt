@@ -1,5 +1,5 @@
 -- A net has one member and a rule one template, and two symbols that match have that of their rule.
-use Rattle.std.proofs.Common.{◌≡◌, ◌⊎◌, ℕ, true, nat_le, Option, Some, None, IsSome, slice_get, refl, sym, ap, subst, ◌∙◌, leb-true, arith}
+use Rattle.std.proofs.Common.{◌≡◌, ◌⊎◌, ◌↔◌, ℕ, Bool, true, false, IsTrue, nat_le, Option, Some, None, IsSome, slice_get, refl, sym, ap, subst, ◌∙◌, leb-true, arith}
 use Rattle.std.specs.Prelude.{option_map, option_and_then}
 use Rattle.std.proofs.lemmas.Bool.{and_parts}
 use Rattle.std.proofs.lemmas.Option.{same_Some, slice_get_within}
@@ -95,6 +95,12 @@ module _ (t : Tables) (n : Parts) (p q : MemberParts) (a : IsMemberOf t n p) (b 
 
 -- ---- one template
 
+same_truth : (b c : Bool) → (IsTrue b ↔ IsTrue c) → b ≡ c
+same_truth true true h = refl
+same_truth true false h = absurd (let f : false ≡ true = h.0 refl in cc)
+same_truth false true h = absurd (let f : false ≡ true = h.1 refl in cc)
+same_truth false false h = refl
+
 module _ (t : Tables) (r : RuleParts) (p q : TemplateParts) (a : IsTemplateOf t r p) (b : IsTemplateOf t r q) where
   heads : p.heads ≡ q.heads
   heads = a.heads ∙ sym b.heads
@@ -102,8 +108,11 @@ module _ (t : Tables) (r : RuleParts) (p q : TemplateParts) (a : IsTemplateOf t 
   first_ends : p.first_ends ≡ q.first_ends
   first_ends = a.first_ends ∙ sym b.first_ends
 
+  unmarked : p.unmarked ≡ q.unmarked
+  unmarked = same_truth p.unmarked q.unmarked ((λ h. b.unmarked.1 (a.unmarked.0 h)), (λ h. a.unmarked.1 (b.unmarked.0 h)))
+
   pub one_template : p ≡ q
-  one_template = λ i. record { heads = heads i; first_ends = first_ends i; member = one_member t r.member p.member q.member a.member b.member i }
+  one_template = λ i. record { heads = heads i; first_ends = first_ends i; unmarked = unmarked i; member = one_member t r.member p.member q.member a.member b.member i }
 
 -- ---- the template of two symbols
 

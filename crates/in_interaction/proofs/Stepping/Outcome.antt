@@ -32,6 +32,14 @@ use Rattle.in_interaction.proofs.Stepping.Sites.{Site, at_site, net, inside, red
 use Rattle.in_interaction.proofs.Stepping.Unused.{counted}
 use Rattle.in_base.proofs.Each.{at_index}
 
+-- an agent that is there has a cell with its symbol
+pub cell_of_symbol : (n : Parts) (y i : ℕ) → (net_of n).symbol y ≡ Some i → (c : Cell) × (cell_in n y ≡ Some c) × (c.symbol.0 ≡ i)
+cell_of_symbol n y i e = go (cell_in n y) refl e
+  where
+    go : (o : Option Cell) → cell_in n y ≡ o → option_map (λ (s : SymbolNo). s.0) (option_map (λ (c : Cell). c.symbol) o) ≡ Some i → (c : Cell) × (cell_in n y ≡ Some c) × (c.symbol.0 ≡ i)
+    go None is e = cc
+    go (Some c) is e = (c, is, cc)
+
 -- ---- lists
 
 map_same : {X Y : Type 0} (f : X → Y) (xs ys : List X) → length xs ≡ length ys → ((k : ℕ) (x y : X) → slice_get ys k ≡ Some y → slice_get xs k ≡ Some x → f x ≡ f y) → map f xs ≡ map f ys
@@ -139,14 +147,6 @@ module _ (s : SiteParts) (site : IsSite s) (cells : List (Option Cell)) (free : 
             λ o f. ap (λ (o : Option Cell). option_map (λ (s : SymbolNo). s.0) (option_map (λ (c : Cell). c.symbol) o)) f ∙ ap (λ (s : SymbolNo). Some s.0) (sym r.2.symbol) ∙ e in
             elim r.1 [ inl h ↦ inl (h.one, h.two, number (cell_in s.net y) h.there) | inr h ↦ inr (h.agent, h.name, number (cell_in s.rule.member h.agent) h.there) ]
 
-    -- an agent that is there has a cell with its symbol
-    cell_of : (n : Parts) (y i : ℕ) → (net_of n).symbol y ≡ Some i → (c : Cell) × (cell_in n y ≡ Some c) × (c.symbol.0 ≡ i)
-    cell_of n y i e = go (cell_in n y) refl e
-      where
-        go : (o : Option Cell) → cell_in n y ≡ o → option_map (λ (s : SymbolNo). s.0) (option_map (λ (c : Cell). c.symbol) o) ≡ Some i → (c : Cell) × (cell_in n y ≡ Some c) × (c.symbol.0 ≡ i)
-        go None is e = cc
-        go (Some c) is e = (c, is, cc)
-
     new_at : (k : ℕ) (c : Cell) → cell_in s.rule.member k ≡ Some c → IsNewAt s (unused s.net.cells k) c
     new_at k c e = record { agent = k; within = (let l = cell_within s.rule.member.cells k c e in let n = site.many in omega (arith, l, n)); name = refl; there = e }
 
@@ -154,9 +154,9 @@ module _ (s : SiteParts) (site : IsSite s) (cells : List (Option Cell)) (free : 
     shown y i c e r = ap (λ (o : Option Cell). option_map (λ (s : SymbolNo). s.0) (option_map (λ (c : Cell). c.symbol) o)) r.1 ∙ ap (λ (s : SymbolNo). Some s.0) r.2.symbol ∙ ap (λ (z : ℕ). Some z) e
 
     agents_to : (y i : ℕ) → IsAgent y i → (net_of m).symbol y ≡ Some i
-    agents_to y i (inl h) = let c = cell_of s.net y i h.2 in shown y i c.0 c.2 ((after y).stays c.0 (record { there = c.1; one = h.0; two = h.1 }))
+    agents_to y i (inl h) = let c = cell_of_symbol s.net y i h.2 in shown y i c.0 c.2 ((after y).stays c.0 (record { there = c.1; one = h.0; two = h.1 }))
     agents_to y i (inr h) =
-        let c = cell_of s.rule.member h.0 i h.2 in
+        let c = cell_of_symbol s.rule.member h.0 i h.2 in
         subst (λ (z : ℕ). (net_of m).symbol z ≡ Some i) h.1 (shown (unused s.net.cells h.0) i c.0 c.2 ((after (unused s.net.cells h.0)).fresh c.0 (new_at h.0 c.0 c.1)))
 
     wires_from : (u v : Point ℕ) → (net_of m).partner u ≡ Some v → Joined u v

@@ -202,13 +202,10 @@ module _ (s : SiteParts) (site : IsSite s) where
     half_of Outer e q h = let r = making.halves (here t can) e q h in (r.one, r.outer)
     half_of Inner e q h = let r = making.halves (here t can) e q h in (r.two, r.inner)
 
-    stays : (y : AgentNo) (z : SymbolNo) → HasSymbol y z → Stays (Port y.0 0)
-    stays = making.stays_after (here t can)
-
     pub nowhere : (side : Side) (e : ℕ) → LandsNowhere s side e → (q : AgentNo × AgentNo) → Made e q → ⊥
     nowhere side e lost q h =
         let r = half_of side e q h in
-        let l = lost t can r.1.ends (Port r.0.0 0) (r.1.way, stays r.0 r.1.symbol r.1.has) r.1.few in
+        let l = lost t can r.1.ends (Port r.0.0 0) (r.1.way, making.stays_after (here t can) r.0 r.1.symbol r.1.has) r.1.few in
         let lt = l.1 in
         let le = r.1.low l.0 l.2 in
         absurd (omega (arith, lt, le))
@@ -216,7 +213,7 @@ module _ (s : SiteParts) (site : IsSite s) where
     landed : (side : Side) (e : ℕ) (p : coded.Point) → LandsAt s side e p → (z : AgentNo) → Half side e z → p ≡ code.Port z 0
     landed side e p at z h =
         let l = at t can in
-        let one = (making.one_from (here t can) side e (point_of p) (Port z.0 0) l.0 h.ends l.1.1 (stays z h.symbol h.has) l.1.0 h.way).1 in
+        let one = (making.one_from (here t can) side e (point_of p) (Port z.0 0) l.0 h.ends l.1.1 (making.stays_after (here t can) z h.symbol h.has) l.1.0 h.way).1 in
         sym (round_code p) ∙ ap coded_point one
 
     pub not_principal_port : (side : Side) (e : ℕ) (p : coded.Point) → LandsAt s side e p → principal_of p ≡ None → (q : AgentNo × AgentNo) → Made e q → ⊥

@@ -230,24 +230,21 @@ one_built s t sized order apart tabled (Err (Memory e)) b h k = tt
 
 -- ---- a rule
 
+in_heads : (r : SourceRule) (p : Place) → IsAmong p (head_places r.first ++ head_places r.second) → IsAmong p (rule_places r)
+in_heads r p h = among_left p (head_places r.first ++ head_places r.second) (flat_map equation_places r.equations) h
+
 -- the places of a rule are those of its heads and equations
 rule_place : (t : Tables) (r : SourceRule) (p : Place) → IsAmong p (all_places (body_of_rule t r)) → IsAmong p (rule_places r)
 rule_place t r p (inl e) = inl e
-rule_place t r p (inr (inl e)) = in_heads (among_right p (head_places r.first) (head_places r.second) (inl e))
-  where
-    in_heads : IsAmong p (head_places r.first ++ head_places r.second) → IsAmong p (rule_places r)
-    in_heads h = among_left p (head_places r.first ++ head_places r.second) (flat_map equation_places r.equations) h
+rule_place t r p (inr (inl e)) = in_heads r p (among_right p (head_places r.first) (head_places r.second) (inl e))
 rule_place t r p (inr (inr h)) = by_side (among_either p (flat_map term_places r.first.terms ++ (flat_map term_places r.second.terms ++ [])) (flat_map equation_places r.equations) h)
   where
-    in_heads : IsAmong p (head_places r.first ++ head_places r.second) → IsAmong p (rule_places r)
-    in_heads h = among_left p (head_places r.first ++ head_places r.second) (flat_map equation_places r.equations) h
-
     by_last : IsAmong p (flat_map term_places r.second.terms) ⊎ ⊥ → IsAmong p (rule_places r)
-    by_last (inl c) = in_heads (among_right p (head_places r.first) (head_places r.second) (inr c))
+    by_last (inl c) = in_heads r p (among_right p (head_places r.first) (head_places r.second) (inr c))
     by_last (inr c) = absurd c
 
     by_head : IsAmong p (flat_map term_places r.first.terms) ⊎ IsAmong p (flat_map term_places r.second.terms ++ []) → IsAmong p (rule_places r)
-    by_head (inl a) = in_heads (among_left p (head_places r.first) (head_places r.second) (inr a))
+    by_head (inl a) = in_heads r p (among_left p (head_places r.first) (head_places r.second) (inr a))
     by_head (inr a) = by_last (among_either p (flat_map term_places r.second.terms) [] a)
 
     by_side : IsAmong p (flat_map term_places r.first.terms ++ (flat_map term_places r.second.terms ++ [])) ⊎ IsAmong p (flat_map equation_places r.equations) → IsAmong p (rule_places r)

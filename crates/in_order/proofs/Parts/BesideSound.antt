@@ -69,9 +69,6 @@ module _ (one two m : Net ℕ) (name : ℕ → ℕ) (ends : List (ℕ × ℕ)) (
       sound_part (suc zero) = sound_two
       sound_part (suc (suc i)) = empty_sound p
 
-      net_part : (i : ℕ) → IsNet p.symbols (both i)
-      net_part i = (sound_part i).net
-
       abbrev Whose : Point ℕ → Type 0
       Whose u = (i : ℕ) × (q : Point ℕ) × (image one two m name ends h i q ≡ u) × IsPoint p.symbols (both i) q
 
@@ -120,20 +117,20 @@ module _ (one two m : Net ℕ) (name : ℕ → ℕ) (ends : List (ℕ × ℕ)) (
         all = all_among;
         joined = λ u g. (
             let w = whose u g in
-            let r = has_value ((both w.0).partner w.1) ((net_part w.0).joined w.1 w.3) in
+            let r = has_value ((both w.0).partner w.1) ((sound_part w.0).net.joined w.1 w.3) in
             is_some (m.partner u) (image one two m name ends h w.0 r.0) (ap m.partner (sym w.2) ∙ wire_kept one two m name ends h w.0 w.1 r.0 r.1)
             );
         points = λ u v e. (
             let w = (h.beside.wires u v).0 e in
-            subst (IsPoint p.symbols m) (sym (is_image one two m name ends h w.0 w.1 u w.3)) (point_kept one two m name ends h p.symbols w.0 w.1 ((net_part w.0).points w.1 w.2 w.5))
+            subst (IsPoint p.symbols m) (sym (is_image one two m name ends h w.0 w.1 u w.3)) (point_kept one two m name ends h p.symbols w.0 w.1 ((sound_part w.0).net.points w.1 w.2 w.5))
             );
         back = λ u v e. (
             let w = (h.beside.wires u v).0 e in
-            (h.beside.wires v u).1 (w.0, w.2, w.1, w.4, w.3, (net_part w.0).back w.1 w.2 w.5)
+            (h.beside.wires v u).1 (w.0, w.2, w.1, w.4, w.3, (sound_part w.0).net.back w.1 w.2 w.5)
             );
         apart = λ u e. (
             let w = (h.beside.wires u u).0 e in
-            let net = net_part w.0 in
+            let net = (sound_part w.0).net in
             let same : w.1 ≡ w.2 = one_point one two m name ends h p.symbols w.0 w.1 w.2 (net.points w.1 w.2 w.5) (net.points w.2 w.1 (net.back w.1 w.2 w.5)) (sym (is_image one two m name ends h w.0 w.1 u w.3) ∙ is_image one two m name ends h w.0 w.2 u w.4) in
             net.apart w.1 (w.5 ∙ ap (λ (z : Point ℕ). Some z) (sym same))
             );
@@ -150,7 +147,7 @@ module _ (one two m : Net ℕ) (name : ℕ → ℕ) (ends : List (ℕ × ℕ)) (
       whole_typed : IsTypedNet p.symbols m
       whole_typed u v s t e hs ht =
           let w = (h.beside.wires u v).0 e in
-          let net = net_part w.0 in
+          let net = (sound_part w.0).net in
           (sound_part w.0).typed w.1 w.2 s t w.5
           (sym (type_kept w.0 w.1 (net.points w.1 w.2 w.5)) ∙ ap (type_in p.symbols m) (sym (is_image one two m name ends h w.0 w.1 u w.3)) ∙ hs)
           (sym (type_kept w.0 w.2 (net.points w.2 w.1 (net.back w.1 w.2 w.5))) ∙ ap (type_in p.symbols m) (sym (is_image one two m name ends h w.0 w.2 v w.4)) ∙ ht)
@@ -168,7 +165,7 @@ module _ (one two m : Net ℕ) (name : ℕ → ℕ) (ends : List (ℕ × ℕ)) (
       next : (i x l : ℕ) (to : ℕ × ℕ) → IsSome ((both i).symbol x) → m.partner (Port (in_whole i x) l) ≡ Some (Port to.0 to.1) → Next (i, x) l to
       next i x l to there e =
           let w = (h.beside.wires (Port (in_whole i x) l) (Port to.0 to.1)).0 e in
-          let net = net_part w.0 in
+          let net = (sound_part w.0).net in
           let a = is_port w.0 w.1 (in_whole i x) l (is_image one two m name ends h w.0 w.1 (Port (in_whole i x) l) w.3) in
           let b = is_port w.0 w.2 to.0 to.1 (is_image one two m name ends h w.0 w.2 (Port to.0 to.1) w.4) in
           let wire : (both w.0).partner (Port a.0 l) ≡ Some (Port b.0 to.1) = ap (both w.0).partner (sym a.1) ∙ w.5 ∙ ap (λ (z : Point ℕ). Some z) b.1 in

@@ -4,23 +4,20 @@ use native.Mathlib.Decide.{ℕ_discrete}
 use Rattle.std.proofs.lemmas.Option.{none-some}
 use Rattle.in_net.specs.Nets.{Point, Port, Free, Signature, Net, IsNet}
 use Rattle.in_net.specs.Interactions.{Redex, IsRedex, Side, Outer, Inner, stands_for, InnerWire, wire_of, IsOfPair, AreJoined, IsNaming, IsStep, end_agent, end_place}
-use Rattle.in_net.proofs.Public.{first_wire}
+use Rattle.in_base.proofs.Options.{none_of}
+use Rattle.in_net.proofs.Public.{end_of_pair, first_wire}
 use Rattle.in_interaction.proofs.Public.{has_value, is_net, outer_at, outer_next, same_option, step_exists}
 use Rattle.in_interaction.proofs.Public.Through as through
 use Rattle.in_gluing.proofs.Public.{one_result}
 use Rattle.in_overwriting.specs.Overwriting.{CanOverwrite, IsSideAt, AreSides, IsSide, IsOverwritten, StepsAreOverwritten, OverwrittenExists, OverwrittenIsOne, OverwrittenLeadsNoneBack}
 use Rattle.in_overwriting.proofs.Overwriting.Sides as sides
 
-is_none : {X : Type 0} (o : Option X) → ((v : X) → o ≡ Some v → ⊥) → o ≡ None
-is_none None h = refl
-is_none (Some v) h = absurd (h v refl)
-
 module _ (sig : Signature) (n : Net ℕ) (x : Redex ℕ ℕ) (name : ℕ → ℕ) (can : CanOverwrite sig n x name) where
-  abbrev pt : ℕ → Point ℕ
-  pt = sides.pt sig n x name can
-
   abbrev Stays : Point ℕ → Type 0
   Stays u = IsOfPair x u → ⊥
+
+  abbrev pt : ℕ → Point ℕ
+  pt = sides.pt sig n x name can
 
   abbrev Joined : Point ℕ → Point ℕ → Type 0
   Joined = AreJoined sig n x name
@@ -49,7 +46,7 @@ module _ (sig : Signature) (n : Net ℕ) (x : Redex ℕ ℕ) (name : ℕ → ℕ
     where
       go : (p : Point ℕ) → stands_for sig x name p ≡ u → x.member.partner p ≡ Some w.1 → AtSide u
       go (Port k i) s e = at_side (Port k i) w.1 u e (sym s)
-      go (Free c) s e = absurd (hu (subst (IsOfPair x) s (sides.at_pair sig n x name can c)))
+      go (Free c) s e = absurd (hu (subst (IsOfPair x) s (end_of_pair sig n x name can.net can.inside can.redex can.naming c)))
 
   pair_side : (u f : Point ℕ) → Stays u → n.partner u ≡ Some f → IsOfPair x f → AtSide u
   pair_side u f hu w o =
@@ -102,7 +99,7 @@ module _ (sig : Signature) (n : Net ℕ) (x : Redex ℕ ℕ) (name : ℕ → ℕ
     agents = step.agents;
     partners = record {
       written = λ u v a. (step.wires u v).1 (sides_joined u v a);
-      gone = λ u o. is_none (after.partner u) (λ v e. ((step.wires u v).0 e).0 o);
+      gone = λ u o. none_of (after.partner u) (λ v e. ((step.wires u v).0 e).0 o);
       kept = λ u hu clear. same_option (after.partner u) (n.partner u) (λ v e. was u clear v (joined_are u v ((step.wires u v).0 e))) (λ v e. (step.wires u v).1 (kept_joined u v hu clear e));
     };
     free = step.free;
@@ -126,7 +123,7 @@ module _ (sig : Signature) (n : Net ℕ) (x : Redex ℕ ℕ) (name : ℕ → ℕ
       go None e (inr hu) =
           let none : (v : Point ℕ) → Joined u v → ⊥ = λ v j. none-some v (sym e ∙ (step.wires u v).1 j) in
           let clear : AtSide u → ⊥ = λ s. none s.0 (sides_joined u s.0 s.1) in
-          over.partners.kept u hu clear ∙ is_none (n.partner u) (λ v w. none v (kept_joined u v hu clear w)) ∙ sym e
+          over.partners.kept u hu clear ∙ none_of (n.partner u) (λ v w. none v (kept_joined u v hu clear w)) ∙ sym e
 
   pub stepped : (after : Net ℕ) → IsOverwritten sig n x name after → IsStep sig n x name after
   stepped after over =

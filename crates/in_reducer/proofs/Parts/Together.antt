@@ -1,5 +1,5 @@
 -- The nets of two reducers in the cells of one of them, side by side, whatever the order of their free ends.
-use Rattle.std.proofs.Common.{◌≡◌, ◌⊎◌, inl, inr, ◌<◌, ◌≤◌, ◌+◌, ℕ, zero, suc, true, Some, List, [], ◌∷◌, ◌++◌, length, map, take, get_or, count_by, slice_get, refl, sym, ap, subst, ◌∙◌, length-append, arith}
+use Rattle.std.proofs.Common.{◌≡◌, ◌⊎◌, inl, inr, ◌<◌, ◌≤◌, ◌+◌, ℕ, zero, suc, true, Some, List, [], ◌∷◌, ◌++◌, length, map, take, drop, get_or, count_by, slice_get, refl, sym, ap, subst, ◌∙◌, length-append, arith}
 use Rattle.std.specs.Prelude.{All, option_map}
 use Rattle.std.specs.VecDeque.{deque_capacity}
 use Rattle.std.proofs.Math.Seq.{take-append_seam}
@@ -35,7 +35,7 @@ use Rattle.in_gluing.specs.SideBySide.{StandBeside}
 use Rattle.in_order.proofs.Public.{beside_sound_is_sound}
 use Rattle.in_reducer.specs.declared.body.Body.{Body}
 use Rattle.in_reducer.specs.declared.body.OwnEnd.{OwnEnd}
-use Rattle.in_reducer.specs.Gluing.{CanAppend, IsFreeWithin}
+use Rattle.in_reducer.specs.Gluing.{CanAppend, IsCellWithin, IsFreeWithin}
 use Rattle.in_reducer.specs.Cutting.{net_in}
 use Rattle.in_reducer.specs.Inside.{KeepsNet, declared_as, most_ends, own_free, reducer_view}
 use Rattle.in_reducer.specs.Machines.{MachineParts, parts_of}
@@ -84,6 +84,26 @@ within_more cells more many (end.Free k) low h = h
 free_within : (cells many : ℕ) (e : End) → IsEndWithin cells many e → IsFreeWithin many e
 free_within cells many (end.Cell c i) h j is = cc
 free_within cells many (end.Free k) h j is = let same : k ≡ j = cc in omega (arith, same, h)
+
+cell_within : (cells many : ℕ) (e : End) → IsEndWithin cells many e → IsCellWithin cells e
+cell_within cells many (end.Cell c i) h d j is = let same : c ≡ d = cc in subst (λ (z : CellNo). z.0 < cells) same h
+cell_within cells many (end.Free k) h d j is = cc
+
+pub within_both : (cells many : ℕ) (e : End) → IsCellWithin cells e → IsFreeWithin many e → IsEndWithin cells many e
+within_both cells many (end.Cell c i) h g = h c i refl
+within_both cells many (end.Free k) h g = g k refl
+
+-- what holds of each element holds of each of a part of the list
+pub all_drop : {X : Type 0} (P : X → Type 0) (n : ℕ) (xs : List X) → All P xs → All P (drop n xs)
+all_drop P zero xs h = h
+all_drop P (suc n) [] h = λ k d low. absurd (omega (arith, low))
+all_drop P (suc n) (x ∷ xs) h = all_drop P n xs (λ k d low. h (suc k) d (omega (arith, low)))
+
+pub all_take : {X : Type 0} (P : X → Type 0) (n : ℕ) (xs : List X) → All P xs → All P (take n xs)
+all_take P zero xs h k d low = absurd (omega (arith, low))
+all_take P (suc n) [] h k d low = absurd (omega (arith, low))
+all_take P (suc n) (x ∷ xs) h zero d low = h 0 d (omega arith)
+all_take P (suc n) (x ∷ xs) h (suc k) d low = all_take P n xs (λ j z less. h (suc j) z (omega (arith, less))) k d (omega (arith, low))
 
 -- ---- one reducer
 
@@ -135,6 +155,9 @@ module _ (o : Body) (l : KeepsNet o) where
 
   pub all_free_within : (many : ℕ) → many ≡ length o.free.items → All (IsFreeWithin many) (take many o.ends.items)
   all_free_within many is = λ j d low. free_within (length o.arena.states) many (get_or (take many o.ends.items) j d) (all_within (length o.arena.states) many (omega arith) is j d low)
+
+  pub all_cells_within : (cells many : ℕ) → length o.arena.states ≤ cells → many ≡ length o.free.items → All (IsCellWithin cells) (take many o.ends.items)
+  all_cells_within cells many low is = λ j d at. cell_within cells many (get_or (take many o.ends.items) j d) (all_within cells many low is j d at)
 
   -- a pair is of agents that are there
   pub pair_within : (j : ℕ) (q : ℕ × ℕ) → slice_get o.queue.items j ≡ Some q → (q.0 < length o.arena.states) × (q.1 < length o.arena.states)

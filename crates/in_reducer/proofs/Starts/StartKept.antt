@@ -22,7 +22,8 @@ use Rattle.in_reducer.specs.declared.tools.Tools.{Tools}
 use Rattle.in_reducer.specs.Inside.{AreTools, AreToolsFor, IsKept, IsOwnEnd, declared_as, most_ends, own_free, reducer_view}
 use Rattle.in_reducer.specs.Interacting.{named}
 use Rattle.in_reducer.specs.Limiting.{most_cells}
-use Rattle.in_reducer.specs.Placed.{IsNoneOf, IsPut}
+use Rattle.in_compile.specs.Putting.{IsPut}
+use Rattle.in_reducer.specs.Placed.{IsNoneOf}
 use Rattle.in_reducer.specs.Sides.{inner_of}
 use Rattle.in_reducer.specs.Standing.{agents_in, at_rest, leading_to, vacant_in}
 use Rattle.in_reducer.specs.Starts.{IsStart}

@@ -36,7 +36,7 @@ use Rattle.in_compile.proofs.Public.Accepted as accepting
 use Rattle.in_compile.proofs.Public.{inside_of, joints_many, sound}
 use Rattle.in_reducer.specs.Inside.{most_ends}
 use Rattle.in_reducer.specs.Interacting.{named}
-use Rattle.in_reducer.specs.Placed.{IsPut}
+use Rattle.in_compile.specs.Putting.{IsPut}
 use Rattle.in_reducer.specs.Sides.{HasJoint, inner_of}
 use Rattle.in_reducer.specs.Standing.{agent_in, agents_in, at_rest, leading_to, vacant_in, IsNetIn}
 use Rattle.in_reducer.specs.Starts.{IsStart}

@@ -10,7 +10,7 @@ use Rattle.in_compile.specs.Templates.{TemplateParts}
 use Rattle.in_reducer.specs.declared.body.Body.{Body}
 use Rattle.in_reducer.specs.declared.tools.Tools.{Tools}
 use Rattle.in_reducer.specs.Inside.{KeepsNet, StandsBeside, reducer_view}
-use Rattle.in_reducer.specs.Placed.{IsPut}
+use Rattle.in_compile.specs.Putting.{IsPut}
 use Rattle.in_reducer.specs.Standing.{at_rest}
 use Rattle.in_reducer.specs.Steps.{HasRoomAt}
 use Rattle.in_reducer.specs.Templates.{IsTemplateAt}

@@ -23,7 +23,7 @@ use Rattle.in_compile.specs.Members.{AgentParts, MemberParts, IsMemberOf, joint_
 use Rattle.in_compile.specs.Placing.{end_in, content}
 use Rattle.in_compile.proofs.Public.{read_at}
 use Rattle.in_reducer.specs.Interacting.{named}
-use Rattle.in_reducer.specs.Placed.{IsPut}
+use Rattle.in_compile.specs.Putting.{IsPut}
 
 -- ---- lists
 

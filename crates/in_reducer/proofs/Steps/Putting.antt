@@ -15,7 +15,8 @@ use Rattle.in_compile.specs.Members.{AgentParts, MemberParts}
 use Rattle.in_compile.specs.Placing.{PlacedParts, HasNoCell, IsPlacedMember, TakesCells, content}
 use Rattle.in_compile.specs.Stocks.{StockParts, AddsTo, Regains, held, with_all}
 use Rattle.in_compile.proofs.Public.{one_or_same, one_of_all, shared_out, all_stay, cells_all, count_all, memory_all}
-use Rattle.in_reducer.specs.Placed.{IsPut, IsNoneOf}
+use Rattle.in_compile.specs.Putting.{IsPut}
+use Rattle.in_reducer.specs.Placed.{IsNoneOf}
 
 -- ---- what a bag without a cell counts
 

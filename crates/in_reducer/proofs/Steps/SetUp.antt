@@ -32,7 +32,7 @@ use Rattle.in_compile.specs.Templates.{TemplateParts}
 use Rattle.in_compile.proofs.Public.{inside_of, joints_many}
 use Rattle.in_reducer.specs.declared.sides.Pair.{Pair}
 use Rattle.in_reducer.specs.Interacting.{PairSetting, IsAbout, interaction_of, named}
-use Rattle.in_reducer.specs.Placed.{IsPut}
+use Rattle.in_compile.specs.Putting.{IsPut}
 use Rattle.in_reducer.specs.Sides.{AreSetBelow, HasJoint, HasPort, end_there, inner_of, outer_of, port_at}
 use Rattle.in_reducer.proofs.Steps.Laid as laid
 use Rattle.in_reducer.proofs.Steps.Laid.{in_or_out}
@@ -44,7 +44,7 @@ port_parts y i z j e = (cc, cc)
 
 module _ (p : Pair) (first : ℕ) (one two : ℕ) (is_one : p.one.0 ≡ one) (is_two : p.other.0 ≡ two) (is_first : p.first_ends ≡ first) where
   -- the port of a boundary end, by its agent and place
-  port_is : (e : ℕ) → ((port_at p e).0.0 ≡ cond (nat_lt e first) one two) × ((port_at p e).1 ≡ cond (nat_lt e first) (suc e) (suc (e - first)))
+  pub port_is : (e : ℕ) → ((port_at p e).0.0 ≡ cond (nat_lt e first) one two) × ((port_at p e).1 ≡ cond (nat_lt e first) (suc e) (suc (e - first)))
   port_is e = subst (λ (f : ℕ). ((port_at p e).0.0 ≡ cond (nat_lt e f) one two) × ((port_at p e).1 ≡ cond (nat_lt e f) (suc e) (suc (e - f)))) is_first (go (nat_lt e p.first_ends))
     where
       go : (b : Bool) → ((let q : CellNo × ℕ = cond b (p.one, suc e) (p.other, suc (e - p.first_ends)) in q).0.0 ≡ cond b one two)
@@ -99,7 +99,7 @@ module _ (t : Tables) (s : PairSetting) (p : TemplateParts) (pair : Pair) (own :
 
     -- ---- the pair still stands
 
-    stays : (y x : ℕ) → (net_of s.net).symbol y ≡ Some x → state_at put y ≡ state_at old y
+    pub stays : (y x : ℕ) → (net_of s.net).symbol y ≡ Some x → state_at put y ≡ state_at old y
     stays y x e = is_put.others y (λ k at. (
         let a = laid.whose t s.rule.member about.member_over p.member about.template.member ns old put is_put k y at in
         not_vacant y x e (ap (λ (z : ℕ). word_of (state_at old z)) (sym a.2) ∙ laid.was_free t s.rule.member about.member_over p.member about.template.member ns old put is_put k a.0 a.1)

@@ -15,7 +15,7 @@ use Rattle.in_compile.specs.Cells.{count_of}
 use Rattle.in_compile.specs.Members.{AgentParts, MemberParts, IsSoundMember, has_class}
 use Rattle.in_compile.specs.Placing.{PlacedParts, IsPlacedMember}
 use Rattle.in_compile.specs.Stocks.{Regains}
-use Rattle.in_reducer.specs.Placed.{IsPut}
+use Rattle.in_compile.specs.Putting.{IsPut}
 use Rattle.in_reducer.specs.Standing.{at_rest, rested}
 use Rattle.in_reducer.proofs.Cells.AtRest.{as_many}
 

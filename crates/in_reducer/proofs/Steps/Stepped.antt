@@ -27,6 +27,8 @@ use Rattle.in_check.proofs.Public.{is_sound}
 use Rattle.in_base.proofs.Places.{to_mapped}
 use Rattle.in_order.proofs.Public.{sound_steps}
 use Rattle.in_cells.specs.Shown.{IsShown}
+use Rattle.in_overwriting.specs.Flag.{IsCalm}
+use Rattle.in_overwriting.proofs.Public.{unmarked_pairs_are_apart}
 use Rattle.in_cells.proofs.Public.{shown_is_step}
 use Rattle.in_compile.specs.Cells.{agents_of, count_of}
 use Rattle.in_compile.specs.Members.{AgentParts}
@@ -102,6 +104,15 @@ module _ (r : Body) (k : KeepsNet r) (i : ℕ) (p : TemplateParts) (at : IsTempl
   pub room_there : (own : ℕ) → own ≡ length (own_free r) → (ends : List End) → ends ≡ r.ends.items → own + length p.member.joints + length p.member.joints ≤ length ends
   room_there own is_own ends is_ends = let l = ap length is_ends in let e = k.ends in let f = few_joints in let m = own_many in omega (arith, l, e, f, m, is_own)
 
+  -- a sound net is typed and without crossing circle
+  calm : IsCalm (signature_of t) (net_of (parts_of (reducer_view r)))
+  calm = record {
+    classes = (is_sound k.reducer.accepted.0 r.checked.now k.reducer.accepted.1).classes;
+    net = k.reducer.net.sound.net;
+    typed = k.reducer.net.sound.typed;
+    no_circle = k.reducer.net.sound.no_circle;
+  }
+
   pub is_about : (tables : Tables) → tables ≡ t → (pair : Pair) → pair.one.0 ≡ one.0 → pair.other.0 ≡ two.0 → pair.first_ends ≡ p.first_ends → (own : ℕ) → own ≡ length (own_free r) → (ends : List End) → ends ≡ r.ends.items
       → IsAbout tables setting p pair own r.arena ends
   is_about tables same pair is_one is_two is_first own is_own ends is_ends = subst (λ (u : Tables). IsAbout u setting p pair own r.arena ends) (sym same) (record {
@@ -111,6 +122,8 @@ module _ (r : Body) (k : KeepsNet r) (i : ℕ) (p : TemplateParts) (at : IsTempl
     member_over = at.is_rule.over.member;
     redex = steps.redex (reducer_view r) k.reducer one two at.active at.number at.rule at.is_rule;
     template = at.template;
+    apart = λ none. unmarked_pairs_are_apart (signature_of t) (net_of (parts_of (reducer_view r))) (redex_at at.rule one.0 two.0) calm
+        (steps.redex (reducer_view r) k.reducer one two at.active at.number at.rule at.is_rule) none.0 none.1;
     one = is_one;
     two = is_two;
     first_ends = is_first;

@@ -18,7 +18,8 @@ use Rattle.in_cells.specs.Cells.{KeepsCells, outline}
 use Rattle.in_cells.proofs.Public.{word_kept}
 use Rattle.in_compile.specs.Cells.{is_of}
 use Rattle.in_compile.specs.Members.{MemberParts, IsMemberOf}
-use Rattle.in_reducer.specs.Placed.{IsNoneOf, IsPut}
+use Rattle.in_compile.specs.Putting.{IsPut}
+use Rattle.in_reducer.specs.Placed.{IsNoneOf}
 use Rattle.in_reducer.specs.Standing.{AreLeasedAlike, IsNetIn, at_rest}
 use Rattle.in_reducer.proofs.Cells.AtRest as rest
 use Rattle.in_reducer.proofs.Steps.Laid as laid
@@ -134,13 +135,17 @@ module _ (a b : ArenaView) (kept : KeepsCells a b) where
 
 -- ---- bags
 
--- what has no cell is of the arena after
-pub still_none : (b a c : ArenaView) → AreLeasedAlike a c → IsNoneOf b a → IsNoneOf b c
-still_none b a c alike h = (
+-- what has no cell is of each arena in that memory
+pub none_there : (b a c : ArenaView) → c.memory ≡ a.memory → c.cells ≡ a.cells → IsNoneOf b a → IsNoneOf b c
+none_there b a c memory cells h = (
   record {
-    memory = h.0.memory ∙ sym alike.memory;
-    cells = h.0.cells ∙ sym alike.cells;
+    memory = h.0.memory ∙ sym memory;
+    cells = h.0.cells ∙ sym cells;
     leased = λ n here. absurd (here (subst IsLeased (sym (h.1 n)) tt));
   },
   h.1,
 )
+
+-- .. and so of the arena after
+pub still_none : (b a c : ArenaView) → AreLeasedAlike a c → IsNoneOf b a → IsNoneOf b c
+still_none b a c alike h = none_there b a c alike.memory alike.cells h

@@ -22,7 +22,7 @@ loop-count-preserved c =
       reduces = reductions_go_on m now after c.loop-count.count 1 c.loop-count.invariant.reduces (steps_reduce now after i of step);
       most = (let low = c.loop-count-test.true in omega (arith, low));
       floor = λ h d. (
-          let room = c.if-not-has_room_above.ensures refl d in
+          let room = c.if-not-has_besides.ensures.0 refl d in
           let free = ap (λ (n : Need). count_of n d) c.vacant.ensures in
           let need = takes_its_need now after i of step c.need_of-need.result c.need_of-need.ensures d in
           omega (arith, room, free, need)

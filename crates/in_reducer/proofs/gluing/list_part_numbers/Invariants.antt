@@ -6,6 +6,6 @@ use Rattle.in_reducer.proofs.gluing.list_part_numbers.Given as goal
 abbrev pub invariant-loop-cut : goal.invariant-loop-cut
 invariant-loop-cut l = record {
   long : vec_len l.numbers ≡ l.cut;
-  each : (k : ℕ) → k < l.cut → number_in l.numbers.items k ≡ place_of_two l.own 1 k;
-  capacity : l.cuts ≤ vec_capacity l.numbers;
+  each : (k : ℕ) → k < l.cut → number_in l.numbers.items k ≡ place_of_two l.cuts.own 1 k;
+  capacity : l.cuts.count ≤ vec_capacity l.numbers;
 }

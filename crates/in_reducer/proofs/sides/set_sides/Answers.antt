@@ -6,26 +6,26 @@ use Rattle.in_reducer.proofs.sides.set_sides.Goals as goal
 
 pub port-requires : goal.port-requires
 port-requires c =
-    let low : c.loop-end.end < length c.args.template.now.member.joints = omega (arith, c.boundary_ends-many.ensures) in
-    has_place c.args.arena.now c.args.pair c.loop-end.end (c.requires.ports c.loop-end.end low) c.port-place.result c.port-place.ensures
+    let low : c.loop-end.end < length c.args.next.now.template.now.member.joints = omega (arith, c.boundary_ends-many.ensures) in
+    has_place c.args.arena.now c.args.next.now.pair c.loop-end.end (c.requires.ports c.loop-end.end low) c.port-place.result c.port-place.ensures
 
 pub outer-requires-clause-one : goal.outer-requires-clause-one
 outer-requires-clause-one c =
-    let low : c.loop-end.end < length c.args.template.now.member.joints = omega (arith, c.boundary_ends-many.ensures) in
-    not_one c.args.arena.now c.args.pair c.loop-end.end (c.requires.ports c.loop-end.end low) c.port-place.result c.port-place.ensures c.port.result c.port.ensures
+    let low : c.loop-end.end < length c.args.next.now.template.now.member.joints = omega (arith, c.boundary_ends-many.ensures) in
+    not_one c.args.arena.now c.args.next.now.pair c.loop-end.end (c.requires.ports c.loop-end.end low) c.port-place.result c.port-place.ensures c.port.result c.port.ensures
 
 pub outer-requires-clause-other : goal.outer-requires-clause-other
 outer-requires-clause-other c =
-    let low : c.loop-end.end < length c.args.template.now.member.joints = omega (arith, c.boundary_ends-many.ensures) in
-    not_other c.args.arena.now c.args.pair c.loop-end.end (c.requires.ports c.loop-end.end low) c.port-place.result c.port-place.ensures c.port.result c.port.ensures
+    let low : c.loop-end.end < length c.args.next.now.template.now.member.joints = omega (arith, c.boundary_ends-many.ensures) in
+    not_other c.args.arena.now c.args.next.now.pair c.loop-end.end (c.requires.ports c.loop-end.end low) c.port-place.result c.port-place.ensures c.port.result c.port.ensures
 
 pub loop-end-preserved : goal.loop-end-preserved
 loop-end-preserved c =
     let a = c.args.arena.now in
-    let p = c.args.pair in
-    let joints = c.args.template.now.member.joints in
-    let ns = c.args.placed.now.cells in
-    let own = c.args.own in
+    let p = c.args.next.now.pair in
+    let joints = c.args.next.now.template.now.member.joints in
+    let ns = c.args.next.now.placed.now.cells in
+    let own = c.args.next.now.own in
     let x = c.loop-end.end in
     let u = c.outer.result in
     let v = c.inner.result in

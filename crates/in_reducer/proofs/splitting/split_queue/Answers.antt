@@ -33,7 +33,7 @@ push_back_reserved-requires-else-is_live c =
     let other = other_goes (state_at a q.0) (λ live. (let f : false ≡ true = c.if-is_live.ensures.1 live in cc)) in
     let room = room_for (goes a) old x q next.0 other.1 in
     let long = ap length r.part ∙ length-map (filter (goes a) (take x old)) (both (name_in c.args.names.now)) in
-    let all = c.requires.room in
+    let all = c.requires.part.1 in
     let kept = r.part_room in
     omega (arith, room, long, all, kept)
 

@@ -1,5 +1,5 @@
 use Rattle.std.proofs.Common.{refl, Some, None, get_or, slice_set}
-use Rattle.in_arena.specs.Lends.{with_slots}
+use Rattle.in_memory.specs.Lends.{with_slots}
 use Rattle.in_arena.specs.declared.content.Content.{Content}
 use Rattle.in_arena.proofs.OneRegion.{freed, free_small, live_within, live_vacancy}
 use Rattle.in_arena.proofs.region.Region.retire.Goals as goal

@@ -1,6 +1,6 @@
 use Rattle.std.proofs.Common.{◌≡◌, ◌∙◌, ap, refl, sym, subst, Some, None, get_or, slice_set}
 use Rattle.in_arena.specs.Contents.{end_of}
-use Rattle.in_arena.specs.Lends.{with_slots}
+use Rattle.in_memory.specs.Lends.{with_slots}
 use Rattle.in_arena.specs.Regions.{Becomes, IsCell, vacancy, state_of, state_at}
 use Rattle.in_arena.specs.States.{with_end}
 use Rattle.in_arena.specs.declared.content.Content.{Content}

@@ -1,12 +1,11 @@
-use Rattle.std.proofs.Common.{◌≡◌, ◌+◌, ℕ, suc, subst, arith}
+use Rattle.std.proofs.Common.{◌≡◌, ◌+◌, ℕ, suc, sym, subst, arith}
+use Rattle.in_reducer.specs.Machines.{MachineParts}
 use Rattle.in_reducer.specs.Runs.{at_start}
 use Rattle.in_names.specs.Same.{RunsUpToNumbers}
 use Rattle.in_names.proofs.Public.{same_self, takes_step}
+use Rattle.in_machine.specs.Taking.{TakesNoFirst}
 use Rattle.in_machine.proofs.StepsOn.{as_reducer}
 use Rattle.in_machine.proofs.machine.Machine.take_first.Goals as goal
-
-pub returns-then-pairs-eq0-clause-runs : goal.returns-then-pairs-eq0-clause-runs
-returns-then-pairs-eq0-clause-runs c = (c.args.self.now, same_self c.args.self.now, at_start c.args.self.now)
 
 pub loop-count-init : goal.loop-count-init
 loop-count-init c = (omega arith, c.pairs.ensures.machine, (c.args.self.now, same_self c.args.self.now, at_start c.args.self.now))
@@ -18,5 +17,5 @@ loop-count-preserved c =
     let n = c.step_first.new.self in (
       omega arith,
       c.loop-count.invariant.1,
-      subst (λ (k : ℕ). RunsUpToNumbers m k n) (let z : suc i ≡ i + 1 = omega arith in z) (takes_step m c.loop-count.self n i (as_reducer m c.loop-count.invariant.1) c.loop-count.invariant.2 c.step_first.ensures),
+      subst (λ (k : ℕ). RunsUpToNumbers m k n) (let z : suc i ≡ i + 1 = omega arith in z) (takes_step m c.loop-count.self n i (as_reducer m c.loop-count.invariant.1) c.loop-count.invariant.2 (c.step_first.ensures.done c.if-not-step_first.false)),
     )

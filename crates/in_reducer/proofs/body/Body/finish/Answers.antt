@@ -23,8 +23,8 @@ interact-requires-clause-beside c =
 pub interact-requires-clause-net : goal.interact-requires-clause-net
 interact-requires-clause-net c = finished.put_net c.args.self.now c.requires.beside.0 c.args.number c.args.template.now c.requires.beside.1 c.symbols.result.now c.symbols.ensures
 
-pub interact-requires-clause-few : goal.interact-requires-clause-few
-interact-requires-clause-few c = finished.few c.args.self.now c.requires.beside.0 c.args.number c.args.template.now c.requires.beside.1
+pub invariant_of-next-clause-few_ends : goal.invariant_of-next-clause-few_ends
+invariant_of-next-clause-few_ends c = finished.few c.args.self.now c.requires.beside.0 c.args.number c.args.template.now c.requires.beside.1
 
 pub interact-requires-clause-room : goal.interact-requires-clause-room
 interact-requires-clause-room c =

@@ -1,12 +1,107 @@
-use Rattle.std.proofs.Common.{length, ap, arith}
+use Rattle.std.proofs.Common.{◌≡◌, ◌≤◌, ◌+◌, ℕ, List, [], ◌∷◌, ◌++◌, length, sym, ap, subst, ◌∙◌, arith}
+use Rattle.std.specs.Vec.{with_items}
+use Rattle.std.proofs.lemmas.List.{with_items_is}
+use Rattle.in_arena.specs.declared.content.End.{End}
+use Rattle.in_arena.specs.declared.content.End.TheVariants.{Free}
+use Rattle.in_symbols.specs.Tables.{Tables, port_at}
+use Rattle.in_symbols.specs.declared.symbols.PortType.{PortType}
+use Rattle.in_net.specs.Nets.{signature_of}
+use Rattle.in_reducer.specs.declared.body.OwnEnd.{OwnEnd}
+use Rattle.in_reducer.specs.declared.body.OwnEnd.TheVariants.{Cut}
+use Rattle.in_reducer.specs.Cutting.{CanCut, CutsAt, net_in}
+use Rattle.in_reducer.specs.Inside.{most_free, reducer_view}
 use Rattle.in_reducer.specs.Machines.{MachineParts}
-use Rattle.in_reducer.proofs.Cuts.CutOff.{free_many}
+use Rattle.in_reducer.proofs.Cuts.CutOff as cut_off
+use Rattle.in_reducer.proofs.Steps.StillNet as still
 use Rattle.in_reducer.proofs.reducer.Reducer.cut.Goals as goal
 
-pub cut-requires-clause-few : goal.cut-requires-clause-few
-cut-requires-clause-few c =
-    let many = free_many c.make_room.new.self c.make_room.ensures.kept.all.net in
-    let same = ap (λ (m : MachineParts). length m.free) c.make_room.ensures.same in
-    let view = ap (λ (m : MachineParts). length m.free) c.self.view_is in
-    let few = c.requires.few in
-    omega (arith, many, same, view, few)
+pub cut-requires-clause-shown : goal.cut-requires-clause-shown
+cut-requires-clause-shown c =
+    let r = c.self.inside.body in
+    let k = c.self.invariant.all.net in
+    let can = subst (λ (m : MachineParts). CanCut m c.args.cell.0 c.args.place) (sym c.self.view_is) c.requires.can in
+    let own : c.len-own.result ≡ length r.free.items = (let e = c.len-own.ensures in let ok = r.free.ok.0 in omega (arith, e, ok)) in
+    (signature_of r.checked.now.tables, net_in (reducer_view r), cut_off.shows r k c.args.cell.0 c.args.place can c.len-own.result own c.as_mut_slice.result.now (c.as_mut_slice.ensures.value ∙ c.make_room.ensures.ends))
+
+pub cut-requires-clause-there : goal.cut-requires-clause-there
+cut-requires-clause-there c =
+    cut_off.place_there c.self.inside.body c.self.invariant.all.net c.args.cell.0 c.args.place (subst (λ (m : MachineParts). CanCut m c.args.cell.0 c.args.place) (sym c.self.view_is) c.requires.can)
+
+cuts_there : (m n o : MachineParts) (x i : ℕ) → m ≡ n → CutsAt m x i o → CutsAt n x i o
+cuts_there m n o x i same h = subst (λ (z : MachineParts). CutsAt z x i o) same h
+
+pub returns-clause-cut : goal.returns-clause-cut
+returns-clause-cut c =
+    let r = c.self.inside.body in
+    let k = c.self.invariant.all.net in
+    let can = subst (λ (m : MachineParts). CanCut m c.args.cell.0 c.args.place) (sym c.self.view_is) c.requires.can in
+    let own : c.len-own.result ≡ length r.free.items = (let e = c.len-own.ensures in let ok = r.free.ok.0 in omega (arith, e, ok)) in
+    let ends = c.make_room.new.ends in
+    let value = c.as_mut_slice.ensures.value ∙ c.make_room.ensures.ends in
+    let es = c.cut.new.ends in
+    let longer = c.cut.ensures.long ∙ ap length c.as_mut_slice.ensures.value in
+    let long = c.cut.ensures.long ∙ ap length value in
+    let items : (with_items ends es).items ≡ es = with_items_is ends es (let ok = ends.ok.0 in omega (arith, ok, longer)) in
+    let kind = c.port-kind.result in
+    let is_kind = c.port-kind.ensures ∙ ap (λ (t : Tables). port_at t c.symbol.result.0 c.args.place) c.symbols.ensures in
+    let first = c.push_reserved.ensures.items ∙ ap (λ (z : List OwnEnd). z ++ Cut kind ∷ []) c.make_room.ensures.free in
+    let new = c.push_reserved-2.ensures.items ∙ ap (λ (z : List OwnEnd). z ++ Cut c.opposite_of.result ∷ []) first ∙ ap (λ (z : PortType). (r.free.items ++ Cut kind ∷ []) ++ Cut z ∷ []) c.opposite_of.ensures in
+    let list = c.push_reserved-4.ensures.items ∙ ap (λ (z : List End). z ++ Free 0 ∷ []) (c.push_reserved-3.ensures.items ∙ ap (λ (z : List End). z ++ Free 0 ∷ []) items) in
+    cuts_there _ _ _ c.args.cell.0 c.args.place c.self.view_is
+    (cut_off.cuts r k c.args.cell.0 c.args.place can c.cut.new.arena es c.cut.ensures.kept long c.len-own.result own c.as_mut_slice.result.now value
+    (c.cut.ensures.cut (signature_of r.checked.now.tables)) c.symbol.result c.symbol.ensures kind is_kind c.push_reserved-2.new.self.items new (Free 0) (Free 0) c.push_reserved-4.new.self.items list c.self.invariant.none)
+
+pub invariant_of-self-2 : goal.invariant_of-self-2
+invariant_of-self-2 c =
+    let r = c.self.inside.body in
+    let k = c.self.invariant.all.net in
+    let tools = c.self.invariant.all.tools in
+    let can = subst (λ (m : MachineParts). CanCut m c.args.cell.0 c.args.place) (sym c.self.view_is) c.requires.can in
+    let own : c.len-own.result ≡ length r.free.items = (let e = c.len-own.ensures in let ok = r.free.ok.0 in omega (arith, e, ok)) in
+    let b = c.cut.new.arena in
+    let ends = c.make_room.new.ends in
+    let value = c.as_mut_slice.ensures.value ∙ c.make_room.ensures.ends in
+    let es = c.cut.new.ends in
+    let kept = c.cut.ensures.kept in
+    let longer = c.cut.ensures.long ∙ ap length c.as_mut_slice.ensures.value in
+    let long = c.cut.ensures.long ∙ ap length value in
+    let items : (with_items ends es).items ≡ es = with_items_is ends es (let ok = ends.ok.0 in omega (arith, ok, longer)) in
+    let kind = c.port-kind.result in
+    let is_kind = c.port-kind.ensures ∙ ap (λ (t : Tables). port_at t c.symbol.result.0 c.args.place) c.symbols.ensures in
+    let first = c.push_reserved.ensures.items ∙ ap (λ (z : List OwnEnd). z ++ Cut kind ∷ []) c.make_room.ensures.free in
+    let second = c.push_reserved-2.ensures.items ∙ ap (λ (z : List OwnEnd). z ++ Cut c.opposite_of.result ∷ []) first in
+    let new = second ∙ ap (λ (z : PortType). (r.free.items ++ Cut kind ∷ []) ++ Cut z ∷ []) c.opposite_of.ensures in
+    let list = c.push_reserved-4.ensures.items ∙ ap (λ (z : List End). z ++ Free 0 ∷ []) (c.push_reserved-3.ensures.items ∙ ap (λ (z : List End). z ++ Free 0 ∷ []) items) in
+    let alike = still.kept_alike r.arena b kept in
+    let few : length r.free.items + 2 ≤ most_free = (let m = cut_off.free_many r k in let v = ap (λ (m : MachineParts). length m.free) c.self.view_is in let f = c.requires.few in omega (arith, m, v, f)) in
+    record {
+      all = record {
+        net = record {
+          reducer = cut_off.is_reducer r k c.args.cell.0 c.args.place can b es kept long c.len-own.result own c.as_mut_slice.result.now value
+              (c.cut.ensures.cut (signature_of r.checked.now.tables)) c.symbol.result c.symbol.ensures kind is_kind c.push_reserved-2.new.self.items new (Free 0) (Free 0) c.push_reserved-4.new.self.items list;
+          net = cut_off.still_net r k c.args.cell.0 c.args.place can b es kept long c.len-own.result own c.as_mut_slice.result.now value
+              (c.cut.ensures.cut (signature_of r.checked.now.tables)) c.symbol.result c.symbol.ensures kind is_kind c.push_reserved-2.new.self.items new (Free 0) (Free 0) c.push_reserved-4.new.self.items list;
+          few = (let e = kept.cells in let f = k.few in omega (arith, e, f));
+          few_free = (let n = cut_off.two_longer r.free.items (Cut kind) (Cut c.opposite_of.result) c.push_reserved-2.new.self.items second in omega (arith, few, n));
+          free = cut_off.own_ends r.checked.now r.free.items kind _ c.push_reserved-2.new.self.items new k.free;
+          ends = (
+              let f = k.ends in
+              let n = cut_off.two_longer r.free.items (Cut kind) (Cut c.opposite_of.result) c.push_reserved-2.new.self.items second in
+              let m = cut_off.two_longer es (Free 0) (Free 0) c.push_reserved-4.new.self.items list in
+              omega (arith, f, n, m, long)
+              );
+          queue = (let f = k.queue in let e = kept.cells in omega (arith, f, e));
+        };
+        tools = record {
+          stock = still.still_none r.tools.stock.bag r.arena b alike tools.stock;
+          stock_all = tools.stock_all;
+          placed = still.still_none r.tools.placed.bag r.arena b alike tools.placed;
+          room = tools.room;
+          made = tools.made;
+          made_room = tools.made_room;
+        };
+        tools_for = c.self.invariant.all.tools_for;
+      };
+      none = cut_off.none_after r k c.args.cell.0 c.args.place can b es kept long c.len-own.result own c.as_mut_slice.result.now value
+          (c.cut.ensures.cut (signature_of r.checked.now.tables)) c.symbol.result c.symbol.ensures kind is_kind c.push_reserved-2.new.self.items new (Free 0) (Free 0) c.push_reserved-4.new.self.items list c.self.invariant.none;
+    }

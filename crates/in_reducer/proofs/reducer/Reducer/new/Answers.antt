@@ -1,91 +1,63 @@
-use Rattle.std.proofs.Common.{sym, ◌≤◌, ◌+◌, ◌*◌, length, arith}
+use Rattle.std.proofs.Common.{◌≡◌, ◌≤◌, ◌+◌, ◌*◌, ℕ, Some, length, slice_get, sym, subst, arith}
 use Rattle.std.specs.VecDeque.{deque_capacity}
-use Rattle.in_arena.specs.Arenas.{free_of}
+use Rattle.in_arena.specs.Arenas.{NoneLeased}
 use Rattle.in_arena.specs.Classes.{classes}
+use Rattle.in_arena.specs.declared.content.CellClass.{CellClass}
+use Rattle.in_compile.specs.Cells.{count_of}
+use Rattle.in_compile.specs.Templates.{TemplateParts}
 use Rattle.in_reducer.specs.declared.body.Body.{Body}
+use Rattle.in_reducer.specs.declared.tools.Tools.{Tools}
+use Rattle.in_reducer.specs.Inside.{AreTools, IsKept, reducer_view}
+use Rattle.in_reducer.specs.Starts.{IsStart}
 use Rattle.in_reducer.proofs.Starts.StartKept.{is_kept, member_is, starts}
-use Rattle.in_reducer.proofs.Starts.StartNet.{all_free, enough, few_joints, few_pairs, has_joint, has_pair, none_after}
+use Rattle.in_reducer.proofs.Starts.StartNet.{all_free, empty_none, enough, few_joints, few_pairs, has_joint, has_pair}
 use Rattle.in_reducer.proofs.reducer.Reducer.new.Goals as goal
 
-pub place_start-requires : goal.place_start-requires
-place_start-requires c =
+pub lay-requires : goal.lay-requires
+lay-requires c =
     let p = c.args.checked.now in
     let h = c.is_accepted.ensures in
-    let m = c.start-start.result.now in
-    let of = member_is p c.args.templates.now m c.requires.templates c.start-start.ensures in
-    let a = c.in_ok-arena.arena in
-    enough h.0 p h.1 m of c.args.cells (free_of a) c.requires.fits (all_free a c.args.cells c.in_ok-arena.ensures.0 c.in_ok-arena.ensures.1 p.tables)
+    let m = c.start.result.now in
+    let of = member_is p c.args.templates.now m c.requires.templates c.start.ensures in
+    let a = c.in_ok-fresh.fresh.arena in
+    let fresh = c.in_ok-fresh.ensures.fresh in
+    record {
+      free = enough h.0 p h.1 m of c.args.cells _ c.requires.fits (all_free a c.args.cells fresh.cells fresh.empty p.tables);
+      few = few_joints h.0 p h.1 m of;
+      joints = has_joint h.0 p h.1 m of;
+      pairs = has_pair h.0 p h.1 m of;
+      queue = fresh.queue;
+      room = (let few = few_pairs h.0 p h.1 m of c.args.cells c.requires.fits in let room = fresh.queue_room in omega (arith, few, room));
+    }
 
-pub ends_of-requires-clause-few : goal.ends_of-requires-clause-few
-ends_of-requires-clause-few c =
-    let p = c.args.checked.now in
-    let h = c.is_accepted.ensures in
-    let m = c.start-start.result.now in
-    few_joints h.0 p h.1 m (member_is p c.args.templates.now m c.requires.templates c.start-start.ensures)
-
-pub ends_of-requires-clause-there : goal.ends_of-requires-clause-there
-ends_of-requires-clause-there c =
-    let p = c.args.checked.now in
-    let h = c.is_accepted.ensures in
-    let m = c.start-start.result.now in
-    let of = member_is p c.args.templates.now m c.requires.templates c.start-start.ensures in
-    has_joint h.0 p h.1 m of c.in_ok-placed.placed.cells c.in_ok-placed.ensures.put.count
-
-pub drop-arena-requires-in_err-free : goal.drop-arena-requires-in_err-free
-drop-arena-requires-in_err-free c =
-    let p = c.args.checked.now in
-    let h = c.is_accepted.ensures in
-    let m = c.start-start.result.now in
-    let of = member_is p c.args.templates.now m c.requires.templates c.start-start.ensures in
-    none_after h.0 p h.1 m of c.in_ok-placed.placed.cells c.in_ok-arena.arena c.place_start.new.arena c.args.cells c.in_ok-arena.ensures.0 c.in_ok-arena.ensures.1 c.in_ok-placed.ensures.put
-
-pub drop-arena-requires-in_err-ends : goal.drop-arena-requires-in_err-ends
-drop-arena-requires-in_err-ends c =
-    let p = c.args.checked.now in
-    let h = c.is_accepted.ensures in
-    let m = c.start-start.result.now in
-    let of = member_is p c.args.templates.now m c.requires.templates c.start-start.ensures in
-    none_after h.0 p h.1 m of c.in_ok-placed.placed.cells c.in_ok-arena.arena c.place_start.new.arena c.args.cells c.in_ok-arena.ensures.0 c.in_ok-arena.ensures.1 c.in_ok-placed.ensures.put
-
-pub queue_of-requires-clause-there : goal.queue_of-requires-clause-there
-queue_of-requires-clause-there c =
-    let p = c.args.checked.now in
-    let h = c.is_accepted.ensures in
-    let m = c.start-start.result.now in
-    let of = member_is p c.args.templates.now m c.requires.templates c.start-start.ensures in
-    has_pair h.0 p h.1 m of c.in_ok-placed.placed.cells c.in_ok-placed.ensures.put.count
-
-pub queue_of-requires-clause-few : goal.queue_of-requires-clause-few
-queue_of-requires-clause-few c =
-    let p = c.args.checked.now in
-    let h = c.is_accepted.ensures in
-    let m = c.start-start.result.now in
-    let of = member_is p c.args.templates.now m c.requires.templates c.start-start.ensures in
-    let few = few_pairs h.0 p h.1 m of c.args.cells c.requires.fits in
-    omega (arith, few)
-
-pub drop-arena-requires-in_err-queue : goal.drop-arena-requires-in_err-queue
-drop-arena-requires-in_err-queue c =
-    let p = c.args.checked.now in
-    let h = c.is_accepted.ensures in
-    let m = c.start-start.result.now in
-    let of = member_is p c.args.templates.now m c.requires.templates c.start-start.ensures in
-    none_after h.0 p h.1 m of c.in_ok-placed.placed.cells c.in_ok-arena.arena c.place_start.new.arena c.args.cells c.in_ok-arena.ensures.0 c.in_ok-arena.ensures.1 c.in_ok-placed.ensures.put
+pub drop-fresh-requires : goal.drop-fresh-requires
+drop-fresh-requires c =
+    let fresh = c.in_ok-fresh.ensures.fresh in
+    subst NoneLeased (sym c.in_err-ends.ensures.refused) (empty_none c.in_ok-fresh.fresh.arena c.args.cells fresh.cells fresh.empty)
 
 pub invariant_of-result : goal.invariant_of-result
 invariant_of-result c =
     let h = c.is_accepted.ensures in
     let p = c.args.checked.now in
-    let x : Body = record { checked = c.args.checked; arena = c.place_start.new.arena; free = c.in_ok-free.free; ends = c.in_ok-ends.ends; queue = c.in_ok-queue.queue; tools = c.in_ok-tools.tools } in
-    let r = c.in_ok-queue.ensures.room in
-    let room : length classes * c.args.cells ≤ 2 * deque_capacity c.in_ok-queue.queue + 1 = omega (arith, r) in
-    is_kept h.0 x h.1 c.args.templates.now c.requires.templates c.start-start.result.now c.start-start.ensures c.args.cells c.requires.cells c.in_ok-arena.arena c.in_ok-arena.ensures.0 c.in_ok-arena.ensures.1
-    c.in_ok-placed.placed.cells c.in_ok-placed.ensures.put c.in_ok-ends.ensures.first c.in_ok-ends.ensures.long c.in_ok-queue.ensures.items (c.in_ok-free.ensures.program p (sym c.net.ensures)) room c.in_ok-tools.ensures.tools c.in_ok-tools.ensures.fit (c.in_ok-free.ensures.each p (sym c.net.ensures))
+    let f = c.lay.new.fresh in
+    let fresh = c.in_ok-fresh.ensures.fresh in
+    let laid = c.in_ok-ends.ensures.laid in
+    let x : Body = record { checked = c.args.checked; arena = f.arena; free = c.in_ok-free.free; ends = c.in_ok-ends.ends; queue = f.queue; tools = f.tools } in
+    let room : length classes * c.args.cells ≤ 2 * deque_capacity f.queue + 1 = (let r = laid.room in let s = fresh.queue_room in omega (arith, r, s)) in
+    let tools = subst (λ (t : Tools). AreTools t c.in_ok-fresh.fresh.arena) (sym laid.tools) fresh.tools in
+    let fit = subst (λ (t : Tools). (k : ℕ) (q : TemplateParts) (d : CellClass) → slice_get c.args.templates.now.templates k ≡ Some q → count_of q.member.need d ≤ count_of t.stock.room d) (sym laid.tools) c.in_ok-fresh.ensures.fit in
+    subst IsKept (sym c.into_body.ensures)
+    (is_kept h.0 x h.1 c.args.templates.now c.requires.templates c.start.result.now c.start.ensures c.args.cells c.requires.cells c.in_ok-fresh.fresh.arena fresh.cells fresh.empty laid.names laid.put laid.first laid.long laid.queue
+    (c.in_ok-free.ensures.program p (sym c.net.ensures)) room tools fit (c.in_ok-free.ensures.each p (sym c.net.ensures)))
 
 pub returns : goal.returns
 returns c =
     let h = c.is_accepted.ensures in
     let p = c.args.checked.now in
-    let x : Body = record { checked = c.args.checked; arena = c.place_start.new.arena; free = c.in_ok-free.free; ends = c.in_ok-ends.ends; queue = c.in_ok-queue.queue; tools = c.in_ok-tools.tools } in
-    starts h.0 x h.1 c.args.templates.now c.requires.templates c.start-start.result.now c.start-start.ensures c.args.cells c.requires.cells c.in_ok-arena.arena c.in_ok-arena.ensures.0 c.in_ok-arena.ensures.1
-    c.in_ok-placed.placed.cells c.in_ok-placed.ensures.put c.in_ok-ends.ensures.first c.in_ok-ends.ensures.long c.in_ok-queue.ensures.items (c.in_ok-free.ensures.program c.args.checked.now (sym c.net.ensures))
+    let f = c.lay.new.fresh in
+    let fresh = c.in_ok-fresh.ensures.fresh in
+    let laid = c.in_ok-ends.ensures.laid in
+    let x : Body = record { checked = c.args.checked; arena = f.arena; free = c.in_ok-free.free; ends = c.in_ok-ends.ends; queue = f.queue; tools = f.tools } in
+    subst (λ (b : Body). IsStart p c.args.cells (reducer_view b)) (sym c.into_body.ensures)
+    (starts h.0 x h.1 c.args.templates.now c.requires.templates c.start.result.now c.start.ensures c.args.cells c.requires.cells c.in_ok-fresh.fresh.arena fresh.cells fresh.empty laid.names laid.put laid.first laid.long laid.queue
+    (c.in_ok-free.ensures.program p (sym c.net.ensures)))

@@ -10,5 +10,5 @@ use Rattle.in_reducer.proofs.reducer.Reducer.vacant.Goals as goal
 pub returns : goal.returns
 returns c =
     let a = c.self.inside.body.arena in
-    same_need c.vacant.result (vacant_in (at_rest a)) (λ d. c.vacant.ensures d ∙ ap (λ (v : ArenaView). free_of v d) (sym (rests a c.self.invariant.none)) ∙ sym (free_is (at_rest a) d))
+    same_need c.free_in.result (vacant_in (at_rest a)) (λ d. c.free_in.ensures d ∙ ap (λ (v : ArenaView). free_of v d) (sym (rests a c.self.invariant.none)) ∙ sym (free_is (at_rest a) d))
     ∙ ap (λ (m : MachineParts). m.vacant) c.self.view_is

@@ -1,1 +1,0 @@
-pub use Rattle.in_arena.proofs.Crossing.{cells_sync as sync}

@@ -1,4 +1,0 @@
-use Rattle.in_cells_tests.proofs.leases.+lease_all.Given as goal
-
-abbrev pub decreases-lease_all : goal.decreases-lease_all
-decreases-lease_all g l = l.count

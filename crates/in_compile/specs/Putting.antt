@@ -1,0 +1,53 @@
+-- Members that are put into an arena at once. Which cell of its class an agent gets is open. That boundary ends hold their numbers is this
+-- project's own choice.
+use Rattle.std.specs.Prelude.{◌≡◌, ◌≤◌, ◌<◌, ◌+◌, ℕ, cond, List, length, take, count_by, Some, None, slice_get}
+use Rattle.in_arena.specs.Arenas.{ArenaView, changed, free_of, state_at}
+use Rattle.in_arena.specs.Classes.{IsNumberOf}
+use Rattle.in_arena.specs.States.{State, Vacant, IsBegun, word_of}
+use Rattle.in_arena.specs.declared.content.CellClass.{CellClass}
+use Rattle.in_arena.specs.declared.content.CellNo.{CellNo}
+use Rattle.in_compile.specs.Members.{AgentParts, MemberParts, has_class}
+use Rattle.in_compile.specs.Placing.{content}
+
+-- each agent stands in a cell of its class that held none, its own one; all other cells are as they were
+pub record IsPut (m : MemberParts) (ns : List CellNo) (old new : ArenaView) : Type 0 where
+  pub count : length ns ≡ length m.agents
+  pub each : (k : ℕ) (a : AgentParts) (n : CellNo) → slice_get m.agents k ≡ Some a → slice_get ns k ≡ Some n
+      → IsNumberOf new.cells a.class n.0 × (word_of (state_at old n.0) ≡ None) × (state_at new n.0 ≡ content ns a)
+  pub once : (j k : ℕ) (n : CellNo) → slice_get ns j ≡ Some n → slice_get ns k ≡ Some n → j ≡ k
+  pub others : (n : ℕ) → ((k : ℕ) → slice_get ns k ≡ Some (record { 0 = n }) → ⊥) → state_at new n ≡ state_at old n
+  pub memory : new.memory ≡ old.memory
+  pub cells : new.cells ≡ old.cells
+  pub many : length new.states ≡ length old.states
+
+-- ---- how: no contract of a public call speaks of it
+
+-- a free cell of the agent's class is live with its symbol; what its places lead to is open
+pub record Begins (a : AgentParts) (old : ArenaView) (n : ℕ) (new : ArenaView) : Type 0 where
+  pub at : IsNumberOf old.cells a.class n
+  pub was : state_at old n ≡ Vacant
+  pub state : State
+  pub begun : IsBegun a.symbol.0 (length a.ends) state
+  pub arena : new ≡ changed old n state
+  pub left : (d : CellClass) → free_of new d + cond (has_class d a) 1 0 ≡ free_of old d
+
+-- the first x agents have their cells
+pub record AreBegunBelow (m : MemberParts) (old : ArenaView) (x : ℕ) (now : ArenaView) (ns : List CellNo) : Type 0 where
+  pub count : length ns ≡ x
+  pub each : (k : ℕ) (a : AgentParts) (n : CellNo) → slice_get m.agents k ≡ Some a → slice_get ns k ≡ Some n
+      → IsNumberOf old.cells a.class n.0 × (state_at old n.0 ≡ Vacant) × IsBegun a.symbol.0 (length a.ends) (state_at now n.0)
+  pub once : (j k : ℕ) (n : CellNo) → slice_get ns j ≡ Some n → slice_get ns k ≡ Some n → j ≡ k
+  pub others : (n : ℕ) → ((k : ℕ) → slice_get ns k ≡ Some (record { 0 = n }) → ⊥) → state_at now n ≡ state_at old n
+  pub free : (d : CellClass) → free_of now d + count_by (has_class d) (take x m.agents) ≡ free_of old d
+  pub memory : now.memory ≡ old.memory
+  pub cells : now.cells ≡ old.cells
+  pub many : length now.states ≡ length old.states
+
+-- the first x of them are written
+pub record ArePutBelow (m : MemberParts) (ns : List CellNo) (begun : ArenaView) (x : ℕ) (now : ArenaView) : Type 0 where
+  pub each : (k : ℕ) (a : AgentParts) (n : CellNo) → k < x → slice_get m.agents k ≡ Some a → slice_get ns k ≡ Some n → state_at now n.0 ≡ content ns a
+  pub rest : (k : ℕ) (n : CellNo) → x ≤ k → slice_get ns k ≡ Some n → state_at now n.0 ≡ state_at begun n.0
+  pub others : (n : ℕ) → ((k : ℕ) → slice_get ns k ≡ Some (record { 0 = n }) → ⊥) → state_at now n ≡ state_at begun n
+  pub memory : now.memory ≡ begun.memory
+  pub cells : now.cells ≡ begun.cells
+  pub many : length now.states ≡ length begun.states

@@ -1,0 +1,98 @@
+// A member is put into free cells of an arena.
+ghost use Rattle.std.specs.Prelude.{◌≡◌, ◌≤◌, ◌<◌, ℕ, [], length, Some, slice_get, vec_capacity};
+ghost use Rattle.in_arena.specs.Arenas.{ArenaView, changed, free_of, state_at};
+ghost use Rattle.in_arena.specs.Changes.{HasAllCells};
+ghost use Rattle.in_arena.specs.States.{IsBegun};
+ghost use Rattle.in_arena.specs.declared.content.CellNo.{CellNo as Number};
+ghost use Rattle.in_compile.specs.Cells.{count_of, IsEnough};
+ghost use Rattle.in_compile.specs.Members.{AgentParts};
+ghost use Rattle.in_compile.specs.Placing.{content};
+ghost use Rattle.in_compile.specs.Putting.{AreBegunBelow, Begins, IsPut};
+
+use crate::member::Member;
+use crate::placed::Placed;
+use crate::placing::end_of;
+use in_arena::{Arena, CellNo};
+
+/// A cell for an agent: one of its class that was free is live with its symbol. What its places lead to is open.
+#[inline(always)]
+fn begin(member: &Member, agent: u32, arena: &mut Arena) -> CellNo
+    requires there { agent < length member.now.agents }
+    requires all { HasAllCells arena.old }
+    requires free { (a : AgentParts) → slice_get member.now.agents agent ≡ Some a → 0 < free_of arena.old a.class }
+    ensures { (a : AgentParts) → slice_get member.now.agents agent ≡ Some a → Begins a arena.old result.0 arena.new }
+{
+    member.is_sound();
+    let Some(mut lease) = arena.lease(member.class(agent)) else {
+        // A cell of that class is free.
+        unreachable!()
+    };
+    lease.begin(member.symbol(agent).0, member.places(agent));
+    let cell = lease.cell();
+    arena.settle(lease);
+    cell
+}
+
+/// A cell for each agent.
+#[inline(always)]
+fn begin_all(member: &Member, arena: &mut Arena, numbers: &mut Vec<CellNo>)
+    requires none { numbers.old.items ≡ [] }
+    requires room { length member.now.agents ≤ vec_capacity numbers.old }
+    requires all { HasAllCells arena.old }
+    requires free { IsEnough (count_of member.now.need) (free_of arena.old) }
+    ensures begun { AreBegunBelow member.now arena.old (length member.now.agents) arena.new numbers.new.items }
+    ensures room { vec_capacity numbers.new ≡ vec_capacity numbers.old }
+{
+    member.is_sound();
+    for agent in 0..member.agents() {
+        let cell = begin(member, agent, arena);
+        numbers.push_reserved(cell);
+    }
+}
+
+/// Writes what the places of an agent lead to.
+#[inline(always)]
+fn write(member: &Member, numbers: &[CellNo], arena: &mut Arena, agent: u32)
+    requires there { agent < length member.now.agents }
+    requires many { length numbers.now ≡ length member.now.agents }
+    requires begun { (a : AgentParts) (n : Number) → slice_get member.now.agents agent ≡ Some a → slice_get numbers.now agent ≡ Some n → IsBegun a.symbol.0 (length a.ends) (state_at arena.old n.0) }
+    ensures { (a : AgentParts) (n : Number) → slice_get member.now.agents agent ≡ Some a → slice_get numbers.now agent ≡ Some n → arena.new ≡ changed arena.old n.0 (content numbers.now a) }
+{
+    member.is_sound();
+    let cell = numbers[agent as usize];
+    for place in 0..member.places(agent) {
+        let end = end_of(numbers, member.end(agent, place));
+        arena.set_port(cell, place, end);
+    }
+}
+
+/// Writes what the places of each agent lead to.
+#[inline(always)]
+fn write_all(member: &Member, numbers: &[CellNo], arena: &mut Arena)
+    requires begun { (a : ArenaView) × AreBegunBelow member.now a (length member.now.agents) arena.old numbers.now }
+    ensures { (a : ArenaView) → AreBegunBelow member.now a (length member.now.agents) arena.old numbers.now → IsPut member.now numbers.now a arena.new }
+{
+    for agent in 0..member.agents() {
+        write(member, numbers, arena, agent);
+    }
+}
+
+impl Placed {
+    /// Puts a member into free cells of an arena: each agent in a cell of its class, with its wires to others of its agents and, at boundary
+    /// ends, the numbers of these. The cells are the arena's, and it tells which they are. Of each class as many cells have to be free as the
+    /// member needs, and there has to be room for its agents. It takes no memory.
+    #[inline(always)]
+    pub fn put(&mut self, member: &Member, arena: &mut Arena)
+        requires free { IsEnough (count_of member.now.need) (free_of arena.old) }
+        requires room { length member.now.agents ≤ self.old.room }
+        ensures put { IsPut member.now self.new.cells arena.old arena.new }
+        ensures same { (self.new.bag ≡ self.old.bag) × (self.new.room ≡ self.old.room) }
+    {
+        arena.cells();
+        member.is_sound();
+        let Placed { numbers, bag: _ } = self;
+        numbers.clear();
+        begin_all(member, arena, numbers);
+        write_all(member, numbers.as_slice(), arena);
+    }
+}

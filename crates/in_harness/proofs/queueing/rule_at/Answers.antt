@@ -1,8 +1,0 @@
-use Rattle.in_harness.proofs.BuiltRules.{rule_over, rule_types}
-use Rattle.in_harness.proofs.queueing.rule_at.Goals as goal
-
-pub returns-clause-over : goal.returns-clause-over
-returns-clause-over c = rule_over c.is_accepted.ensures.0 c.args.checked.now c.is_accepted.ensures.1 c.args.number c.rule.result.now c.rule.ensures
-
-pub returns-clause-declared : goal.returns-clause-declared
-returns-clause-declared c = rule_types c.is_accepted.ensures.0 c.args.checked.now c.is_accepted.ensures.1 c.args.number c.rule.result.now c.rule.ensures

@@ -1,0 +1,13 @@
+use Rattle.in_rounds.specs.Gathers.{bags_of}
+use Rattle.in_rounds.proofs.Public.{first_is_bag, one_less, taken_have_all}
+use Rattle.in_harness.proofs.workers.taken.Goals as goal
+
+pub spend-requires : goal.spend-requires
+spend-requires c =
+    let hand = taken_have_all c.in-Some.done c.args.gather.now c.take.new.self c.args.job c.args.arena.now c.requires c.in-Some.ensures in
+    first_is_bag c.in-Some.done.placed.placed.bag (bags_of c.take.new.self.slots) c.args.arena.now hand.bags
+
+pub returns-in-Some-clause-all : goal.returns-in-Some-clause-all
+returns-in-Some-clause-all c =
+    let hand = taken_have_all c.in-Some.done c.args.gather.now c.take.new.self c.args.job c.args.arena.now c.requires c.in-Some.ensures in
+    one_less c.in-Some.done.placed.placed.bag (bags_of c.take.new.self.slots) c.args.arena.now c.spend.new.arena hand c.spend.ensures

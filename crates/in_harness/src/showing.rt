@@ -1,0 +1,79 @@
+//! What a machine shows, and its net as it is printed.
+use in_harness_texts::Sheet;
+use in_print::write_net;
+use in_rounds::{CellClass, End, Machine};
+use in_syntax::MemoryOut;
+use std::alloc::Global;
+
+/// Room for a printed net, in bytes.
+pub const ROOM: usize = 1_048_576;
+
+/// A pair of the queue by its agents' symbols and numbers of auxiliary ports. Which cells they have is open.
+fn add_pair(sheet: &mut Sheet, machine: &Machine, number: u32) {
+    if number >= machine.pairs() {
+        return;
+    }
+    let (one, other) = machine.pair(number);
+    sheet.say(machine.symbol_name(one));
+    sheet.fill("# ", &[machine.arity(one) as u64]);
+    sheet.say(machine.symbol_name(other));
+    sheet.fill("#\n", &[machine.arity(other) as u64]);
+}
+
+/// A free end by its name and the port, of an agent by its symbol, or free end that its wire leads to.
+fn add_free(sheet: &mut Sheet, machine: &Machine, number: u32) {
+    if number >= machine.free_ends() {
+        return;
+    }
+    // It is a machine, so that the agent which a wire leads to is there.
+    let _ = machine.pairs();
+    sheet.say(machine.free_name(number));
+    match machine.partner(End::Free(number)) {
+        End::Cell(cell, place) => {
+            sheet.say(" at ");
+            sheet.say(machine.symbol_name(cell));
+            sheet.fill(".#\n", &[place as u64]);
+        }
+        End::Free(other) => sheet.fill(" at end #\n", &[other as u64]),
+    }
+}
+
+/// What a machine shows: agents and free cells, pairs, free ends, a line each.
+pub fn add_machine(sheet: &mut Sheet, machine: &Machine) {
+    let numbers = [
+        machine.agents() as u64,
+        machine.free(CellClass::Small) as u64,
+        machine.free(CellClass::Large) as u64,
+        machine.free(CellClass::Wide) as u64,
+    ];
+    sheet.fill("# agents, #, # and # free\n", &numbers);
+    for number in 0..machine.pairs() {
+        add_pair(sheet, machine, number);
+    }
+    for number in 0..machine.free_ends() {
+        add_free(sheet, machine, number);
+    }
+}
+
+/// A machine's net as it is printed; nothing when out of memory.
+pub fn printed(alloc: Global, machine: &Machine) -> Option<MemoryOut> {
+    let mut writer = MemoryOut::new(alloc, ROOM).ok()?;
+    match write_net(alloc, machine, &mut writer) {
+        Ok(_) => Some(writer),
+        Err(_) => None,
+    }
+}
+
+/// Adds the net as it is printed.
+pub fn add_printed(sheet: &mut Sheet, machine: &Machine) {
+    match printed(sheet.alloc, machine) {
+        Some(writer) => sheet.say(str::from_utf8(writer.text()).unwrap_or("?")),
+        None => sheet.fail(),
+    }
+}
+
+/// Adds its printed net, and what it shows.
+pub fn add_view(sheet: &mut Sheet, machine: &Machine) {
+    add_printed(sheet, machine);
+    add_machine(sheet, machine);
+}

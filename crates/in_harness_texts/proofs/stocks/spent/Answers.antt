@@ -1,0 +1,42 @@
+use Rattle.in_compile.specs.Cells.{count_of}
+use Rattle.in_harness_texts.proofs.Shared.{of_one, stock_of, placed_of, as_it_was}
+use Rattle.in_harness_texts.proofs.stocks.spent.Goals as goal
+
+pub place-placed-requires-clause-of_one : goal.place-placed-requires-clause-of_one
+place-placed-requires-clause-of_one c =
+    let a = c.args.arena.now in
+    let s = c.in-Ok.stock in
+    let count = count_of c.need-2.result in
+    let adds = c.in-Ok.ensures.filled.0 in
+    let of = c.requires.of_one in
+    of_one count a c.fill.new.arena s adds c.args.room.bag of
+
+pub spend-requires : goal.spend-requires
+spend-requires c =
+    let a = c.args.arena.now in
+    let s = c.in-Ok.stock in
+    let count = count_of c.need-2.result in
+    let adds = c.in-Ok.ensures.filled.0 in
+    let of = c.requires.of_one in
+    stock_of count a c.fill.new.arena s adds c.args.room.bag of
+    c.args.template.now.member.need c.place-placed.new.stock c.place-placed.result.placed c.place-placed.ensures.takes c.place-placed.ensures.placed.written.cells c.place-placed.ensures.same.0
+
+pub spend-back-requires : goal.spend-back-requires
+spend-back-requires c =
+    let a = c.args.arena.now in
+    let s = c.in-Ok.stock in
+    let count = count_of c.need-2.result in
+    let adds = c.in-Ok.ensures.filled.0 in
+    let of = c.requires.of_one in
+    placed_of count a c.fill.new.arena s adds c.args.room.bag of
+    c.args.template.now.member.need c.place-placed.new.stock c.place-placed.result.placed c.place-placed.ensures.takes c.place-placed.ensures.placed.written.cells c.place-placed.ensures.same.0 c.spend.new.arena c.spend.ensures
+
+pub returns-clause-arena : goal.returns-clause-arena
+returns-clause-arena c =
+    let a = c.args.arena.now in
+    let s = c.in-Ok.stock in
+    let count = count_of c.need-2.result in
+    let adds = c.in-Ok.ensures.filled.0 in
+    let of = c.requires.of_one in
+    as_it_was count a c.fill.new.arena s adds c.args.room.bag of
+    c.args.template.now.member.need c.place-placed.new.stock c.place-placed.result.placed c.place-placed.ensures.takes c.place-placed.ensures.placed.written.cells c.place-placed.ensures.same.0 c.spend.new.arena c.spend.ensures c.spend-back.new.arena c.cells.ensures.1 c.spend-back.ensures.arena

@@ -1,0 +1,64 @@
+//! What the program `in_harness` answers of a text and of an accepted program, without machines, and what it prints on (`Sheet`). It is a crate
+//! of its own so that it is proved beside the machines and the runs.
+#![tactic(auto)]
+
+mod calls;
+mod nets;
+mod only;
+mod programs;
+mod queueing;
+mod reducing;
+mod sheet;
+mod stocks;
+mod templates;
+mod texts;
+mod words;
+
+use crate::nets::{Read, add_read};
+use crate::programs::{add_action, add_program, add_verified};
+use crate::reducing::add_plain;
+use crate::stocks::add_stock;
+use crate::templates::add_templates;
+use crate::texts::{Shown, add_count, add_tokens, add_tree};
+pub use calls::{Came, add_call, add_calls, are_free, came_of, fresh};
+use in_check::Checked;
+pub use only::answer;
+pub use sheet::Sheet;
+pub use words::{number, small, word};
+
+/// What is asked of an accepted program.
+fn add_of_program(sheet: &mut Sheet, program: &Checked, words: &[String]) {
+    match word(words, 1) {
+        "program" => add_program(sheet, program),
+        "templates" => add_templates(sheet, program),
+        "verify" => add_verified(sheet, program, words),
+        "plain" => add_plain(sheet, program, words),
+        "stock" => add_stock(sheet, program, words),
+        _ => sheet.say("no such word\n"),
+    }
+}
+
+/// The same of a text.
+fn add_checked(sheet: &mut Sheet, words: &[String], text: &[u8]) {
+    match answer(sheet.alloc, text) {
+        Ok(program) => {
+            add_of_program(sheet, &program, words);
+            drop(program);
+        }
+        Err(fault) => sheet.add_fault(&fault),
+    }
+}
+
+/// What the words ask of a text.
+pub fn add_answer(sheet: &mut Sheet, words: &[String], text: &[u8]) {
+    match word(words, 1) {
+        "tokens" => add_tokens(sheet, text),
+        "count" => add_count(sheet, text),
+        "tree" => add_tree(sheet, text, Shown::Tree),
+        "sizes" => add_tree(sheet, text, Shown::Sizes),
+        "tables" => add_read(sheet, text, Read::Tables),
+        "nets" => add_read(sheet, text, Read::Nets),
+        "action" => add_action(sheet, words),
+        _ => add_checked(sheet, words, text),
+    }
+}

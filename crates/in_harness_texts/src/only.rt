@@ -1,0 +1,20 @@
+//! What `check` answers to a text, where the definitions allow no other answer, whatever the code does.
+ghost use Rattle.in_harness_texts.specs.Only.{IsOnlyAnswer};
+
+use in_check::laws::texts_are_checked_once;
+use in_check::{Checked, check};
+use in_syntax::Fault;
+use std::alloc::Global;
+
+/// The answer to a text, and the definitions allow no other.
+fn only_answer(alloc: Global, text: &[u8]) -> Result<Checked, Fault>
+    ensures { IsOnlyAnswer text.now result }
+{
+    texts_are_checked_once();
+    check(alloc, text)
+}
+
+/// The same answer, where what it is the only one of matters no more.
+pub fn answer(alloc: Global, text: &[u8]) -> Result<Checked, Fault> {
+    only_answer(alloc, text)
+}

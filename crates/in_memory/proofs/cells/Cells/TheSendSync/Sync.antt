@@ -1,0 +1,1 @@
+pub use Rattle.in_memory.proofs.Crossing.{cells_sync as sync}

@@ -1,0 +1,4 @@
+pub mod Lends
+pub mod Ownership
+pub mod Places
+pub mod Splitting

@@ -1,0 +1,12 @@
+// What follows of parting a row among owners.
+ghost use Rattle.in_memory.specs.Splitting.{PartsAreAll, WrittenInPartIsWritten};
+
+/// Two owners among whom cells were parted have together what the one had, whichever takes in the other.
+pub fn parts_are_all<T>()
+    ensures { PartsAreAll T }
+{}
+
+/// What an owner writes in a cell of its part is written in the whole, once the part is joined again.
+pub fn written_in_part_is_written<T>()
+    ensures { WrittenInPartIsWritten T }
+{}

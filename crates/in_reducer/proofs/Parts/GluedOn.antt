@@ -1,0 +1,46 @@
+-- What is known of a reducer and of a part that is glued on to it, by what contracts see of both.
+use Rattle.std.proofs.Common.{◌≡◌, ◌≤◌, ◌+◌, ◌-◌, ◌*◌, ℕ, length, sym, ap, subst, ◌∙◌, arith}
+use Rattle.std.proofs.lemmas.List.{length-map}
+use Rattle.in_arena.specs.Classes.{classes}
+use Rattle.in_arena.specs.declared.content.CellClass.TheVariants.{Small}
+use Rattle.in_compile.specs.Cells.{agents_of, count_of}
+use Rattle.in_reducer.specs.declared.body.Body.{Body}
+use Rattle.in_reducer.specs.Gluing.{CanAppend}
+use Rattle.in_reducer.specs.Inside.{KeepsNet, reducer_view}
+use Rattle.in_reducer.specs.Machines.{MachineParts}
+use Rattle.in_reducer.specs.Parting.{IsGluedOn}
+use Rattle.in_reducer.specs.Standing.{rested}
+use Rattle.in_reducer.proofs.Cells.Counted.{cells_at_rest}
+use Rattle.in_reducer.proofs.Cuts.CutOff.{free_many}
+
+-- the free ends of both, and that the part can be glued on
+pub record AreApart (r o : Body) (own cuts : ℕ) : Type 0 where
+  pub rest : length r.free.items ≡ own + cuts
+  pub part : length o.free.items ≡ cuts
+  pub can : CanAppend (reducer_view r) (reducer_view o)
+
+pub known : (r o : Body) → KeepsNet r → KeepsNet o → (m p : MachineParts) → reducer_view r ≡ m → reducer_view o ≡ p → (all cuts : ℕ) → all ≡ length m.free → cuts ≡ length p.free → length p.free ≤ length m.free → CanAppend m p →
+    AreApart r o (all - cuts) cuts
+known r o k l m p is_rest is_part all cuts many_rest many_part fewer can = record {
+  rest = (let many = free_many r k in let v = ap (λ (z : MachineParts). length z.free) is_rest in omega (arith, many, v, many_rest, many_part, fewer));
+  part = (let many = free_many o l in let v = ap (λ (z : MachineParts). length z.free) is_part in omega (arith, many, v, many_part));
+  can = subst (λ (z : MachineParts). CanAppend z (reducer_view o)) (sym is_rest) (subst (CanAppend m) (sym is_part) can);
+}
+
+-- how many small cells there are
+abbrev pub small_cells : MachineParts → ℕ
+small_cells m = count_of m.vacant Small + agents_of m.program.tables Small m.agents
+
+-- as many names as the part has cells
+pub names_fit : (o : Body) → KeepsNet o → (p : MachineParts) → reducer_view o ≡ p → (size names : ℕ) → small_cells p ≤ size → length classes * size ≤ names → length o.arena.states ≤ names
+names_fit o l p view size names few fits =
+    let many : length o.arena.states ≡ length classes * o.arena.cells = sym (length-map o.arena.states rested) ∙ l.net.all in
+    let all = cells_at_rest o.checked.now.tables o.arena l.net Small in
+    let v = ap small_cells view in
+    omega (arith, all, v, few, many, fits)
+
+-- the same, as contracts see both
+pub glued_there : (r m o p : MachineParts) (own n cuts many : ℕ) (new : MachineParts) → r ≡ m → o ≡ p → own ≡ n → cuts ≡ many → IsGluedOn r o own cuts new → IsGluedOn m p n many new
+glued_there r m o p own n cuts many new is_rest is_part is_own is_cuts h =
+    subst (λ (z : MachineParts). IsGluedOn z p n many new) is_rest
+    (subst (λ (z : MachineParts). IsGluedOn r z n many new) is_part (subst (λ (z : ℕ). IsGluedOn r o z many new) is_own (subst (λ (z : ℕ). IsGluedOn r o own z new) is_cuts h)))

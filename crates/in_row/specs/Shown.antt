@@ -1,0 +1,21 @@
+-- What an owner of words shows of a net: what stands in the first word of each cell, and where each end leads to.
+use Rattle.std.specs.Prelude.{ℕ, List, get_or, Option, Some, None, option_map}
+use Rattle.in_row.specs.Ends.{Layout, RowEnd, encode, decode}
+
+abbrev pub Slots : Type 0
+Slots = List (Option (Option ℕ))
+
+-- what stands in a word, if it is here and was written
+abbrev pub written : Option (Option ℕ) → Option ℕ
+written None = None
+written (Some w) = w
+
+abbrev pub word_at : Slots → ℕ → Option ℕ
+word_at ws i = written (get_or ws i None)
+
+abbrev pub first_word : Slots → ℕ → Option ℕ
+first_word ws y = word_at ws y
+
+-- the end to which this one leads
+abbrev pub leads : Layout → Slots → RowEnd → Option RowEnd
+leads l ws e = option_map (decode l) (word_at ws (encode e))

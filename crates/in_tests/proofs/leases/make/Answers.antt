@@ -1,0 +1,6 @@
+use Rattle.in_tests.proofs.Changes.{settled}
+use Rattle.in_tests.proofs.leases.make.Goals as goal
+
+pub returns : goal.returns
+returns g c =
+    settled c.args.arena.now c.lease.new.self c.settle.new.self c.args.class c.lease.result c.expect-lease.result c.write.new.self c.args.symbol c.cell-cell.result.0 c.args.ends.now c.requires.0 c.lease.ensures c.expect-lease.ensures c.write.ensures c.settle.ensures c.cell-cell.ensures

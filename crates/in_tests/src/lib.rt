@@ -1,0 +1,22 @@
+//! Tests of what has no text: edges on cycles, cells by leases and by bags, agents copied from one arena to another, and boards with their seats.
+//! Each `of_` module is named after what it tests.
+#![tactic(auto)]
+
+#[cfg(test)]
+mod bags;
+#[cfg(test)]
+mod callers;
+#[cfg(test)]
+mod claimers;
+#[cfg(test)]
+mod copies;
+#[cfg(test)]
+mod leases;
+#[cfg(test)]
+mod of_in_arena;
+#[cfg(test)]
+mod of_in_claims;
+#[cfg(test)]
+mod of_in_simple_bridges;
+#[cfg(test)]
+mod of_moving;

@@ -1,2 +1,0 @@
-pub mod First
-pub mod Putting
