@@ -1,4 +1,5 @@
-"""What `inet`, and the program `in_harness`, answer on the texts of tests/asked: tokens, trees, tables, nets, steps, machines, templates.
+"""What `inet`, and the program `in_harness`, answer on the texts of tests/asked: tokens, trees, tables, nets, steps, machines, templates, stocks,
+gathers, rounds.
 
 A file NAME.asked has cases. `$ WORDS` is what is asked, of `inet` where that is the first word, else of `in_harness`; `<` a text in parts: a name
 of tests/asked/texts, or a text in quotes, perhaps repeated (`"a " * 3`). The lines after it are what is printed:
