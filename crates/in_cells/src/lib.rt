@@ -31,6 +31,6 @@ pub use ends::moved_end;
 pub use exchanging::exchange;
 pub use joining::join_all;
 pub use numbering::number_anew;
-pub use pairing::add_pair;
+pub use pairing::{add_pair, pair_of};
 pub use rejoining::join_last;
 pub use retiring::retire_all;

@@ -7,30 +7,31 @@ ghost use Rattle.in_arena.specs.declared.content.CellNo.{CellNo as Number};
 ghost use Rattle.in_compile.specs.Cells.{count_of, IsEnough};
 ghost use Rattle.in_compile.specs.Members.{AgentParts};
 ghost use Rattle.in_compile.specs.Placing.{content};
-ghost use Rattle.in_compile.specs.Putting.{AreBegunBelow, Begins, IsPut};
+ghost use Rattle.in_compile.specs.Putting.{AreBegunBelow, BeginsAgent, IsPut};
 
 use crate::member::Member;
 use crate::placed::Placed;
 use crate::placing::end_of;
 use in_arena::{Arena, CellNo};
 
-/// A cell for an agent: one of its class that was free is live with its symbol. What its places lead to is open.
-#[inline(always)]
-fn begin(member: &Member, agent: u32, arena: &mut Arena) -> CellNo
-    requires there { agent < length member.now.agents }
-    requires all { HasAllCells arena.old }
-    requires free { (a : AgentParts) → slice_get member.now.agents agent ≡ Some a → 0 < free_of arena.old a.class }
-    ensures { (a : AgentParts) → slice_get member.now.agents agent ≡ Some a → Begins a arena.old result.0 arena.new }
-{
-    member.is_sound();
-    let Some(mut lease) = arena.lease(member.class(agent)) else {
-        // A cell of that class is free.
-        unreachable!()
-    };
-    lease.begin(member.symbol(agent).0, member.places(agent));
-    let cell = lease.cell();
-    arena.settle(lease);
-    cell
+impl Member {
+    /// Begins a cell for the agent of that number: one of its class that was free is live with its symbol and its places. What these lead to is
+    /// open. One has to be free.
+    #[inline(always)]
+    pub fn begin(&self, agent: u32, arena: &mut Arena) -> CellNo
+        requires there { agent < length self.now.agents }
+        requires all { HasAllCells arena.old }
+        requires free { (a : AgentParts) → slice_get self.now.agents agent ≡ Some a → 0 < free_of arena.old a.class }
+        ensures { (a : AgentParts) → slice_get self.now.agents agent ≡ Some a → BeginsAgent a arena.old result.0 arena.new }
+    {
+        self.is_sound();
+        let begun = arena.begin(self.class(agent), self.symbol(agent).0, self.places(agent));
+        let Some(cell) = begun else {
+            // A cell of that class is free.
+            unreachable!()
+        };
+        cell
+    }
 }
 
 /// A cell for each agent.
@@ -45,7 +46,7 @@ fn begin_all(member: &Member, arena: &mut Arena, numbers: &mut Vec<CellNo>)
 {
     member.is_sound();
     for agent in 0..member.agents() {
-        let cell = begin(member, agent, arena);
+        let cell = member.begin(agent, arena);
         numbers.push_reserved(cell);
     }
 }

@@ -34,13 +34,11 @@ pub(crate) struct Taken<'a> {
 fn split<'a>(
     alloc: Global,
     reducer: &mut Reducer<'a>,
-    templates: &Templates,
     branch: &Branch,
     cuts: u32,
     share: u32,
     names: &mut [CellNo],
 ) -> Option<Taken<'a>>
-    requires templates { AreTemplatesOf reducer.old.program templates.now }
     requires branch { IsBranch reducer.old branch.now }
     requires cuts { cuts + cuts ≤ length reducer.old.free }
     requires share { share ≤ most_cells }
@@ -65,7 +63,7 @@ fn split<'a>(
         return None;
     };
     let agents = branch.agents.as_slice();
-    let Ok(part) = reducer.split_off(alloc, templates, agents, own, cuts, cells, names) else {
+    let Ok(part) = reducer.split_off(alloc, agents, own, cuts, cells, names) else {
         return None;
     };
     use_promise!(reducer.pairs());
@@ -129,7 +127,7 @@ pub(crate) fn take_part<'a>(
     let cuts = cut_off(reducer, &room.branch);
     use_promise!(reducer.pairs());
     let names = room.names.as_mut_slice();
-    let Some(taken) = split(alloc, reducer, templates, &room.branch, cuts, share, names) else {
+    let Some(taken) = split(alloc, reducer, &room.branch, cuts, share, names) else {
         join_up(reducer, cuts);
         return None;
     };

@@ -1,13 +1,14 @@
 -- One interaction.
 pub mod Besides
+pub mod CanWire
 pub mod Finished
 pub mod Found
+pub mod InPlace
 pub mod Laid
 pub mod NextWire
 pub mod OneWire
 pub mod Ordered
-pub mod Overwritten
-pub mod Putting
+pub mod Points
 pub mod SetUp
 pub mod Settled
 pub mod Sided
@@ -15,4 +16,4 @@ pub mod Stepped
 pub mod StepsOn
 pub mod StillNet
 pub mod TakesNeed
-pub mod WrittenFrom
+pub mod Wired

@@ -66,18 +66,17 @@ most_ends = 32
 abbrev pub most_free : ℕ
 most_free = 65536
 
--- the tools are of this arena, hold nothing, and have room for `max_member_agents` agents and `most_ends` pairs
+-- how many points a right member has at most: a boundary end each, and an agent each
+abbrev pub most_points : ℕ
+most_points = most_ends + max_member_agents
+
+-- the tools are of this arena, hold nothing, and have room for `max_member_agents` agents, `most_ends` pairs and all points
 pub record AreTools (x : Tools) (a : ArenaView) : Type 0 where
-  pub stock : IsNoneOf x.stock.bag a
-  pub stock_all : HasAllCells x.stock.bag
   pub placed : IsNoneOf x.placed.bag a
   pub room : max_member_agents ≤ x.placed.room
   pub made : x.made.items ≡ []
   pub made_room : most_ends ≤ vec_capacity x.made
-
--- .. and for the right member of each rule of the program
-abbrev pub AreToolsFor : Program → Tools → Type 0
-AreToolsFor p x = (k : ℕ) (r : RuleParts) (c : CellClass) → slice_get p.rules k ≡ Some r → agents_of p.tables c r.member.cells ≤ count_of x.stock.room c
+  pub points : most_points ≤ length x.points.items
 
 -- what is kept of the net, of whatever tools
 pub record KeepsNet (r : Body) : Type 0 where
@@ -87,13 +86,12 @@ pub record KeepsNet (r : Body) : Type 0 where
   pub few_free : length r.free.items ≤ most_free
   pub free : (k : ℕ) (e : OwnEnd) → slice_get r.free.items k ≡ Some e → IsOwnEnd r.checked.now e
   pub ends : length r.free.items + most_ends + most_ends ≤ length r.ends.items
-  pub queue : length classes * r.arena.cells ≤ 2 * deque_capacity r.queue + 1
+  pub queue : length classes * r.arena.cells + 2 * most_ends ≤ 2 * deque_capacity r.queue + 1
 
 -- .. while cells may be on lease
 pub record KeepsAll (r : Body) : Type 0 where
   pub net : KeepsNet r
   pub tools : AreTools r.tools r.arena
-  pub tools_for : AreToolsFor r.checked.now r.tools
 
 -- .. and between two calls none is
 pub record IsKept (r : Body) : Type 0 where
@@ -115,7 +113,7 @@ pub record StandsBeside (r : Body) (a : ArenaView) (i : ℕ) (p : TemplateParts)
 
 -- the tools are those of before, but for the list of new pairs, which is empty and has the room that it had
 pub record AreAsBefore (old new : Tools) : Type 0 where
-  pub stock : new.stock ≡ old.stock
   pub placed : new.placed ≡ old.placed
+  pub points : new.points ≡ old.points
   pub made : new.made.items ≡ []
   pub made_room : vec_capacity new.made ≡ vec_capacity old.made

@@ -17,13 +17,13 @@ use Rattle.in_compile.specs.Putting.{IsPut}
 use Rattle.in_reducer.specs.Sides.{inner_of, HasJoint}
 use Rattle.in_syntax.specs.Grammar.{max_free}
 
--- `size` free cells of each class and no other, tools of this arena, and an empty queue with room for all pairs
+-- `size` free cells of each class and no other, tools of this arena, and an empty queue with room for all pairs and for those that an interaction makes
 pub record IsFresh (size : ℕ) (f : Fresh) : Type 0 where
   pub cells : f.arena.cells ≡ size
   pub empty : f.arena.states ≡ replicate (length classes * size) Vacant
   pub tools : AreTools f.tools f.arena
   pub queue : f.queue.items ≡ []
-  pub queue_room : length classes * size ≤ 2 * deque_capacity f.queue + 1
+  pub queue_room : length classes * size + 2 * most_ends ≤ 2 * deque_capacity f.queue + 1
 
 -- there is room for the member, which has no more joints than a net has free ends, and whose joints and pairs are of its own agents
 pub record CanLay (m : MemberParts) (f : Fresh) : Type 0 where

@@ -7,7 +7,7 @@ pub mod Laying
 pub mod Lent
 pub mod Limiting
 pub mod Machines
-pub mod Overwriting
+pub mod Wiring
 pub mod Parting
 pub mod PartingLaws
 pub mod Placed

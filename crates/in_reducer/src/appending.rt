@@ -8,7 +8,7 @@ ghost use Rattle.in_reducer.specs.Inside.{most_ends};
 
 use crate::body::OwnEnd;
 use crate::limits::MOST_ENDS;
-use in_arena::{CellNo, End};
+use in_arena::{CellNo, EndWord};
 use std::collections::VecDeque;
 
 /// The pairs of a queue at the end of another, their agents under these numbers. No memory is taken.
@@ -40,12 +40,12 @@ pub(crate) fn add_free(more: &[OwnEnd], free: &mut Vec<OwnEnd>)
 }
 
 /// Room for the sides of boundary ends, after what the free ends lead to. No memory is taken.
-pub(crate) fn add_sides(ends: &mut Vec<End>)
+pub(crate) fn add_sides(ends: &mut Vec<EndWord>)
     requires room { vec_len ends.old + most_ends + most_ends ≤ vec_capacity ends.old }
     ensures items { (room : List Target) × (length room ≡ most_ends + most_ends) × (ends.new.items ≡ ends.old.items ++ room) }
     ensures room { vec_capacity ends.new ≡ vec_capacity ends.old }
 {
     for _side in 0..2 * MOST_ENDS {
-        ends.push_reserved(End::Free(0));
+        ends.push_reserved(EndWord::free(0));
     }
 }

@@ -1,6 +1,6 @@
 // What a reducer works with, also while cells of its arena are lent to the workers of a round.
 use crate::tools::Tools;
-use in_arena::{Arena, End};
+use in_arena::{Arena, EndWord};
 use in_check::Checked;
 use in_symbols::PortType;
 use std::collections::VecDeque;
@@ -18,7 +18,7 @@ pub struct Body<'a> {
     pub(crate) checked: &'a Checked,
     pub arena: Arena,
     pub(crate) free: Vec<OwnEnd>,
-    pub(crate) ends: Vec<End>,
+    pub(crate) ends: Vec<EndWord>,
     pub(crate) queue: VecDeque<(u32, u32)>,
     pub(crate) tools: Tools,
 }

@@ -6,7 +6,7 @@ ghost use Rattle.in_reducer.specs.Inside.{most_free};
 
 use crate::body::OwnEnd;
 use crate::reducer::Reducer;
-use in_arena::{CellNo, End};
+use in_arena::{CellNo, EndWord};
 use in_cells::cut;
 use in_symbols::PortType;
 use std::alloc::AllocError;
@@ -22,7 +22,7 @@ fn opposite_of(kind: PortType) -> PortType
 }
 
 /// Room for two free ends more. Both lists stay as they are.
-fn make_room(free: &mut Vec<OwnEnd>, ends: &mut Vec<End>) -> Result<(), AllocError>
+fn make_room(free: &mut Vec<OwnEnd>, ends: &mut Vec<EndWord>) -> Result<(), AllocError>
     ensures free { free.new.items ≡ free.old.items }
     ensures ends { ends.new.items ≡ ends.old.items }
     ensures free_room { OnOk result (vec_len free.new + 2 ≤ vec_capacity free.new) }
@@ -49,8 +49,8 @@ impl<'a> Reducer<'a> {
         cut(&mut body.arena, body.ends.as_mut_slice(), own, cell, place);
         body.free.push_reserved(OwnEnd::Cut(kind));
         body.free.push_reserved(OwnEnd::Cut(opposite_of(kind)));
-        body.ends.push_reserved(End::Free(0));
-        body.ends.push_reserved(End::Free(0));
+        body.ends.push_reserved(EndWord::free(0));
+        body.ends.push_reserved(EndWord::free(0));
         Ok(())
     }
 }

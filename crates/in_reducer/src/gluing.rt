@@ -15,7 +15,7 @@ use crate::cut_ends::Cuts;
 use crate::numbered::numbered_end;
 use crate::reducer::Reducer;
 use crate::seam::Seam;
-use in_arena::{Arena, CellNo, End};
+use in_arena::{Arena, CellNo, EndWord};
 use in_cells::{copy, moved_end, number_anew};
 
 /// What the free ends of the part and of the rest lead to, with the new numbers of the part's cells, and of the free ends of both.
@@ -23,9 +23,9 @@ use in_cells::{copy, moved_end, number_anew};
 struct Halves<'b> {
     names: &'b [CellNo],
     part_numbers: &'b [u32],
-    part: &'b [End],
+    part: &'b [EndWord],
     rest_numbers: &'b [u32],
-    rest: &'b [End],
+    rest: &'b [EndWord],
     ghost fewer: { length part.now ≤ length rest.now },
     ghost part_cells: { All (IsCellWithin (length names.now)) part.now },
     ghost part_free: { All (IsFreeWithin (length part_numbers.now)) part.now },
@@ -93,7 +93,7 @@ fn glue_free(rest: &[OwnEnd], part: &[OwnEnd], free: &mut Vec<OwnEnd>)
 }
 
 /// What the free ends of both lead to, under the new numbers. No memory is taken.
-fn glue_ends(halves: &Halves, ends: &mut Vec<End>)
+fn glue_ends(halves: &Halves, ends: &mut Vec<EndWord>)
     requires { IsReserved (length halves.now.part.now + length halves.now.rest.now) ends.old }
     ensures items { (own : ℕ) → length halves.now.rest.now ≡ own + length halves.now.part.now → ends.new.items
         ≡ glued own (map (moved_end (λ z. z) (number_in halves.now.rest_numbers.now)) halves.now.rest.now) (map (moved_end (name_in halves.now.names.now) (number_in halves.now.part_numbers.now)) halves.now.part.now) }

@@ -1,47 +1,22 @@
-// One interaction, over cells.
-ghost use Rattle.std.specs.Prelude.{◌≡◌, ◌≤◌, ◌+◌, IsTrue, length, vec_capacity};
+// One interaction, over cells, of a pair beside which its right member stands.
+ghost use Rattle.std.specs.Prelude.{◌≡◌, ◌≤◌, ◌+◌, length, vec_capacity};
 ghost use Rattle.in_reducer.specs.Inside.{most_ends};
 ghost use Rattle.in_reducer.specs.Interacting.{PairSetting, HasBeside, IsInteracted};
 ghost use Rattle.in_reducer.specs.Standing.{IsNetIn, AreLeasedAlike, at_rest};
 
-use crate::overwriting::overwrite;
 use crate::sides::{PlacedPair, set_sides};
-use in_arena::{Arena, End};
+use in_arena::{Arena, EndWord};
 use in_cells::join_all;
 use in_symbols::Symbols;
 
-/// The interaction of a pair beside which its right member stands, where no wire leads back to the pair: each wire of the right member with
-/// boundary ends is written at its two sides. It takes no memory, and other cells may be on lease.
-#[inline(always)]
-fn interact_in_place(
+/// The interaction of a pair beside which its right member stands, whatever wires lead back to the pair: the sides of the boundary ends are set, the
+/// pair's cells are free from then on, and the ends are joined one after another, by what stands at them now. It takes no memory, and other
+/// cells may be on lease.
+pub(crate) fn interact(
     symbols: &Symbols,
     next: &PlacedPair,
     arena: &mut Arena,
-    ends: &mut [End],
-    made: &mut Vec<(u32, u32)>,
-)
-    requires unmarked { IsTrue next.now.template.now.unmarked }
-    requires beside { (s : PairSetting) × HasBeside symbols.now s next.now.template.now next.now.pair next.now.own next.now.placed.now.cells arena.old ends.old }
-    requires net { IsNetIn symbols.now (at_rest arena.old) }
-    requires made_room { length made.old.items + most_ends ≤ vec_capacity made.old }
-    ensures interacted { (s : PairSetting) → HasBeside symbols.now s next.now.template.now next.now.pair next.now.own next.now.placed.now.cells arena.old ends.old → IsInteracted symbols.now s next.now.own next.now.placed.now.cells arena.new ends.new made.old.items made.new.items }
-    ensures net { IsNetIn symbols.now (at_rest arena.new) }
-    ensures leased { AreLeasedAlike arena.old arena.new }
-    ensures long { length ends.new ≡ length ends.old }
-    ensures made_room { vec_capacity made.new ≡ vec_capacity made.old }
-{
-    overwrite(symbols, next, arena, ends, made);
-    arena.retire(next.pair.one);
-    arena.retire(next.pair.other);
-}
-
-/// The same whatever wires lead back: the sides of the boundary ends are set, the pair's cells are free from then on, and the ends are joined
-/// one after another, by what stands at them now.
-fn interact_end_by_end(
-    symbols: &Symbols,
-    next: &PlacedPair,
-    arena: &mut Arena,
-    ends: &mut [End],
+    ends: &mut [EndWord],
     made: &mut Vec<(u32, u32)>,
 )
     requires beside { (s : PairSetting) × HasBeside symbols.now s next.now.template.now next.now.pair next.now.own next.now.placed.now.cells arena.old ends.old }
@@ -60,31 +35,4 @@ fn interact_end_by_end(
     arena.retire(next.pair.one);
     arena.retire(next.pair.other);
     join_all(arena, ends, next.own as usize, many as usize, symbols, made);
-}
-
-/// The interaction of a pair beside which its right member stands: in place where neither symbol is marked, else end by end. It takes no
-/// memory, and other cells may be on lease.
-#[inline(always)]
-pub(crate) fn interact(
-    symbols: &Symbols,
-    next: &PlacedPair,
-    arena: &mut Arena,
-    ends: &mut [End],
-    made: &mut Vec<(u32, u32)>,
-)
-    requires beside { (s : PairSetting) × HasBeside symbols.now s next.now.template.now next.now.pair next.now.own next.now.placed.now.cells arena.old ends.old }
-    requires net { IsNetIn symbols.now (at_rest arena.old) }
-    requires room { next.now.own + length next.now.template.now.member.joints + length next.now.template.now.member.joints ≤ length ends.old }
-    requires made_room { length made.old.items + most_ends ≤ vec_capacity made.old }
-    ensures interacted { (s : PairSetting) → HasBeside symbols.now s next.now.template.now next.now.pair next.now.own next.now.placed.now.cells arena.old ends.old → IsInteracted symbols.now s next.now.own next.now.placed.now.cells arena.new ends.new made.old.items made.new.items }
-    ensures net { IsNetIn symbols.now (at_rest arena.new) }
-    ensures leased { AreLeasedAlike arena.old arena.new }
-    ensures long { length ends.new ≡ length ends.old }
-    ensures made_room { vec_capacity made.new ≡ vec_capacity made.old }
-{
-    if next.template.is_unmarked() {
-        interact_in_place(symbols, next, arena, ends, made);
-    } else {
-        interact_end_by_end(symbols, next, arena, ends, made);
-    }
 }

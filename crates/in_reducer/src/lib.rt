@@ -36,8 +36,6 @@ pub mod laws;
 mod limits;
 mod looking;
 mod numbered;
-mod overwriting;
-mod placing;
 mod queueing;
 mod reducer;
 mod rejoining;
@@ -48,6 +46,7 @@ mod starting;
 mod stepping;
 mod stitching;
 mod tools;
+mod wiring;
 
 pub use body::Body;
 pub use in_arena::{CellClass, CellNo, End};

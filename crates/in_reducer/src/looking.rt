@@ -87,7 +87,7 @@ impl<'a> Reducer<'a> {
     {
         match end {
             End::Cell(cell, place) => self.body.arena.port(cell, place),
-            End::Free(number) => self.body.ends[number as usize],
+            End::Free(number) => self.body.ends[number as usize].end(),
         }
     }
 

@@ -1,16 +1,17 @@
 // Ends in cells that keep their numbers, where free ends get other ones.
 ghost use Rattle.std.specs.Prelude.{◌≡◌, ◌<◌, ℕ, length};
+ghost use Rattle.in_arena.specs.declared.content.End.TheVariants.{Free};
 ghost use Rattle.in_cells.specs.Copying.{moved_end, number_in};
 
-use in_arena::End;
+use in_arena::{End, EndWord};
 
 /// The end that leads to what this one does, where free ends have these numbers and cells keep theirs.
-pub(crate) fn numbered_end(numbers: &[u32], end: End) -> End
-    requires { (k : ℕ) → end ≡ End.Free k → k < length numbers.now }
+pub(crate) fn numbered_end(numbers: &[u32], end: EndWord) -> EndWord
+    requires { (k : ℕ) → end ≡ Free k → k < length numbers.now }
     ensures { result ≡ moved_end (λ z. z) (number_in numbers.now) end }
 {
-    match end {
+    match end.end() {
         End::Cell(_, _) => end,
-        End::Free(number) => End::Free(numbers[number as usize]),
+        End::Free(number) => EndWord::free(numbers[number as usize]),
     }
 }

@@ -7,7 +7,7 @@ ghost use Rattle.in_reducer.specs.Reserved.{IsReserved};
 
 use crate::body::OwnEnd;
 use crate::limits::MOST_ENDS;
-use in_arena::{CellClass, CellNo, End};
+use in_arena::{CellClass, CellNo, EndWord};
 use std::alloc::{AllocError, Global};
 
 /// All memory that gluing a part on takes, besides the list of new numbers that is lent to it, so that it can't be refused then: for a net of at
@@ -17,7 +17,7 @@ pub struct Seam {
     pub(crate) most: u32,
     pub(crate) cells: u32,
     pub(crate) free: Vec<OwnEnd>,
-    pub(crate) ends: Vec<End>,
+    pub(crate) ends: Vec<EndWord>,
     pub(crate) agents: Vec<CellNo>,
     pub(crate) rest: Vec<u32>,
     pub(crate) part: Vec<u32>,

@@ -5,7 +5,7 @@ ghost use Rattle.in_compile.specs.declared.joints.Joint.{Joint as Target};
 ghost use Rattle.in_reducer.specs.Inside.{most_ends, most_free};
 ghost use Rattle.in_reducer.specs.Sides.{port_at, end_there, outer_of, inner_of, AreSetBelow, HasPort, HasJoint};
 
-use in_arena::{Arena, CellNo, End};
+use in_arena::{Arena, CellNo, End, EndWord};
 use in_compile::{Joint, Placed, Template};
 
 /// Two agents that interact, the one whose ports are the first boundary ends, and how many these are.
@@ -77,7 +77,7 @@ pub(crate) fn inner(placed: &Placed, from: u32, joint: Joint) -> End
 }
 
 /// Sets the sides of all boundary ends of a pair that still stands, after the net's own free ends: first the outer sides, then the inner ones.
-pub(crate) fn set_sides(arena: &Arena, next: &PlacedPair, ends: &mut [End])
+pub(crate) fn set_sides(arena: &Arena, next: &PlacedPair, ends: &mut [EndWord])
     requires ports { (e : ℕ) → e < length next.now.template.now.member.joints → HasPort arena.now next.now.pair e }
     requires joints { (e : ℕ) (j : Target) → slice_get next.now.template.now.member.joints e ≡ Some j → HasJoint next.now.placed.now.cells j }
     requires room { next.now.own + length next.now.template.now.member.joints + length next.now.template.now.member.joints ≤ length ends.old }
@@ -88,11 +88,13 @@ pub(crate) fn set_sides(arena: &Arena, next: &PlacedPair, ends: &mut [End])
     let inner_sides = own + u32::from(many);
     for end in 0..many {
         let (cell, place) = next.pair.port(end);
-        ends[own as usize + end as usize] = next.pair.outer(own, arena.port(cell, place));
-        ends[inner_sides as usize + end as usize] = inner(
+        ends[own as usize + end as usize] = EndWord::of(
+            next.pair.outer(own, arena.port(cell, place)),
+        );
+        ends[inner_sides as usize + end as usize] = EndWord::of(inner(
             next.placed,
             inner_sides,
             next.template.joint(end),
-        );
+        ));
     }
 }

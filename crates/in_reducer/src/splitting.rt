@@ -22,7 +22,7 @@ use crate::fresh::{Fresh, fresh_cells};
 use crate::limits::MOST_ENDS;
 use crate::numbered::numbered_end;
 use crate::reducer::Reducer;
-use in_arena::{Arena, CellNo, End};
+use in_arena::{Arena, CellNo, EndWord};
 use in_base::use_invariant;
 use in_cells::{copy, moved_end, number_anew, retire_all};
 use in_compile::Templates;
@@ -34,7 +34,7 @@ use std::collections::VecDeque;
 struct EndLists {
     numbers: Vec<u32>,
     free: Vec<OwnEnd>,
-    ends: Vec<End>,
+    ends: Vec<EndWord>,
 }
 
 /// .. in the rest, and in the part.
@@ -55,7 +55,7 @@ struct PartRoom {
 struct Whole<'b> {
     cuts: Cuts,
     free: &'b [OwnEnd],
-    ends: &'b [End],
+    ends: &'b [EndWord],
     ghost all_free: { length free.now ≡ cuts.own + (cuts.count + cuts.count) },
     ghost all_ends: { length ends.now ≡ cuts.own + (cuts.count + cuts.count) },
 }
@@ -112,19 +112,13 @@ fn split_lists(alloc: Global, cuts: Cuts) -> Result<SplitLists, AllocError>
 }
 
 /// All that is taken, for a part with `cells` cells of each class.
-fn take_room(
-    alloc: Global,
-    templates: &Templates,
-    cuts: Cuts,
-    cells: u32,
-) -> Result<PartRoom, AllocError>
+fn take_room(alloc: Global, cuts: Cuts, cells: u32) -> Result<PartRoom, AllocError>
     requires { cells ≤ most_cells }
     ensures lists { IfOk result (λ r. AreListsFor cuts.own cuts.count r.lists) }
     ensures fresh { IfOk result (λ r. IsFresh cells r.fresh) }
-    ensures fit { IfOk result (λ r. (k : ℕ) (p : TemplateParts) (c : Class) → slice_get templates.now.templates k ≡ Some p → count_of p.member.need c ≤ count_of r.fresh.tools.stock.room c) }
 {
     let lists = split_lists(alloc, cuts)?;
-    let fresh = fresh_cells(alloc, templates, cells)?;
+    let fresh = fresh_cells(alloc, cells)?;
     Ok(PartRoom { lists, fresh })
 }
 
@@ -190,20 +184,17 @@ fn split_queue(
 impl<'a> Reducer<'a> {
     /// Splits these agents off, as a reducer by itself with `cells` cells of each class, which shares nothing with the rest. They and the first
     /// ends of `cuts` cuts, which came after `own` free ends, are to lead to each other alone, so that both agents of a pair go or stay. The
-    /// part has the first ends of the cuts, in their order, and the rest the others. The templates are those of the program. The new numbers of
-    /// the agents are written in `names`, which is as long as there are numbers. Refused only when out of memory, and then the reducer is as
-    /// it was.
+    /// part has the first ends of the cuts, in their order, and the rest the others. The new numbers of the agents are written in `names`, which
+    /// is as long as there are numbers. Refused only when out of memory, and then the reducer is as it was.
     pub fn split_off(
         &mut self,
         alloc: Global,
-        templates: &Templates,
         agents: &[CellNo],
         own: u32,
         cuts: u32,
         cells: u32,
         names: &mut [CellNo],
     ) -> Result<Reducer<'a>, AllocError>
-        requires templates { AreTemplatesOf self.old.program templates.now }
         requires can { CanSplit self.old agents.now own cuts }
         requires fits { length agents.now ≤ cells }
         requires cells { cells ≤ most_cells }
@@ -214,7 +205,7 @@ impl<'a> Reducer<'a> {
     {
         use_invariant!(self.body);
         let cuts = Cuts { own, count: cuts };
-        let room = take_room(alloc, templates, cuts, cells)?;
+        let room = take_room(alloc, cuts, cells)?;
         let PartRoom { lists, mut fresh } = room;
         let SplitLists { mut rest, mut part } = lists;
         let body = &mut self.body;

@@ -15,13 +15,12 @@ ghost use Rattle.in_reducer.specs.Starts.{IsStart};
 use crate::body::OwnEnd;
 use crate::fresh::{Fresh, fresh_cells};
 use crate::limits::MOST_ENDS;
-use crate::placing::put;
 use crate::queueing::queue_own;
 use crate::reducer::Reducer;
 use crate::sides::inner;
-use in_arena::{Arena, End};
+use in_arena::{Arena, EndWord};
 use in_check::Checked;
-use in_compile::{Member, Placed, Stock, Templates};
+use in_compile::{Member, Placed, Templates};
 use in_net::Net;
 use std::alloc::{AllocError, Global};
 
@@ -31,9 +30,8 @@ fn place_start(alloc: Global, start: &Member, arena: &mut Arena) -> Result<Place
     ensures put { IfOk result (λ p. IsPut start.now p.cells arena.old arena.new) }
     ensures refused { OnErr result (arena.new ≡ arena.old) }
 {
-    let mut stock = Stock::empty(alloc, arena, start.need())?;
     let mut placed = Placed::empty(alloc, arena, start.agents())?;
-    put(start, arena, &mut stock, &mut placed);
+    placed.put(start, arena);
     Ok(placed)
 }
 
@@ -52,16 +50,16 @@ fn free_ends(alloc: Global, net: &Net) -> Result<Vec<OwnEnd>, AllocError>
 
 /// Lays the program's net in fresh cells, and queues its pairs. Returns what its free ends lead to, and after that room for the sides of boundary
 /// ends. Refused only when out of memory, and then the arena is as it was.
-fn lay(alloc: Global, start: &Member, fresh: &mut Fresh) -> Result<Vec<End>, AllocError>
+fn lay(alloc: Global, start: &Member, fresh: &mut Fresh) -> Result<Vec<EndWord>, AllocError>
     requires { CanLay start.now fresh.old }
     ensures laid { IfOk result (λ es. IsLaid start.now fresh.old fresh.new es.items) }
     ensures refused { OnErr result (fresh.new.arena ≡ fresh.old.arena) }
 {
     let own = start.boundary_ends() as usize;
-    let mut ends = vec![in alloc; End::Free(0); own + 2 * MOST_ENDS]?;
+    let mut ends = vec![in alloc; EndWord::free(0); own + 2 * MOST_ENDS]?;
     let placed = place_start(alloc, start, &mut fresh.arena)?;
     for number in 0..own {
-        ends[number] = inner(&placed, 0, start.joint(number as u8));
+        ends[number] = EndWord::of(inner(&placed, 0, start.joint(number as u8)));
     }
     queue_own(start, &placed, &mut fresh.queue);
     Ok(ends)
@@ -84,7 +82,7 @@ impl<'a> Reducer<'a> {
     {
         checked.is_accepted();
         let free = free_ends(alloc, checked.net())?;
-        let mut fresh = fresh_cells(alloc, templates, cells)?;
+        let mut fresh = fresh_cells(alloc, cells)?;
         let ends = lay(alloc, templates.start(), &mut fresh)?;
         Ok(Reducer {
             body: fresh.into_body(checked, free, ends),

@@ -14,7 +14,9 @@ use crate::interacting::interact;
 use crate::queueing::{queue_made, queue_own, take_out};
 use crate::reducer::Reducer;
 use crate::sides::{Pair, PlacedPair};
+use crate::wiring::{queue_begun, wire_up};
 use in_arena::CellNo;
+use in_base::use_promise;
 use in_compile::{Need, Template, Templates};
 use in_symbols::SymbolNo;
 
@@ -117,9 +119,8 @@ impl<'a> Reducer<'a> {
         short.is_none()
     }
 
-    /// The interaction of the pair of that number, as `step` says.
-    #[inline(always)]
-    fn step_by(&mut self, template: &Template, number: u32)
+    /// The interaction of the pair of that number, as `step` says, whatever wires lead back to the pair.
+    fn step_beside(&mut self, template: &Template, number: u32)
         requires at { IsTemplateAt self.old number template.now }
         requires room { HasRoomAt self.old number }
         ensures { StepsAt self.old number self.new }
@@ -127,6 +128,56 @@ impl<'a> Reducer<'a> {
         let body = &mut self.body;
         body.tools.placed.put(template.member(), &mut body.arena);
         body.finish(template, number);
+    }
+
+    /// The interaction of the pair of that number, as `step` says, where neither symbol of the pair is marked: the wires of the right member are
+    /// written in place.
+    #[inline(always)]
+    fn step_in_place(&mut self, template: &Template, number: u32)
+        requires at { IsTemplateAt self.old number template.now }
+        requires room { HasRoomAt self.old number }
+        requires unmarked { IsTrue template.now.unmarked }
+        ensures { StepsAt self.old number self.new }
+    {
+        let body = &mut self.body;
+        let (one, other) = body.queue[number as usize];
+        let pair = Pair {
+            one: CellNo(one),
+            other: CellNo(other),
+            first_ends: template.first_ends(),
+        };
+        use_promise!(body.arena.cells());
+        take_out(&mut body.queue, number as usize);
+        wire_up(
+            body.checked.symbols(),
+            template,
+            pair,
+            &mut body.arena,
+            body.ends.as_mut_slice(),
+            body.tools.points.as_mut_slice(),
+            &mut body.queue,
+        );
+        body.arena.retire(pair.one);
+        body.arena.retire(pair.other);
+        queue_begun(
+            template.member(),
+            body.tools.points.as_slice(),
+            &mut body.queue,
+        );
+    }
+
+    /// The interaction of the pair of that number, as `step` says.
+    #[inline(always)]
+    fn step_by(&mut self, template: &Template, number: u32)
+        requires at { IsTemplateAt self.old number template.now }
+        requires room { HasRoomAt self.old number }
+        ensures { StepsAt self.old number self.new }
+    {
+        if template.is_unmarked() {
+            self.step_in_place(template, number);
+        } else {
+            self.step_beside(template, number);
+        }
     }
 
     /// The interaction of the pair of that number, by the rule of its symbols: Lafont 1990's, which replaces the pair by the right member.

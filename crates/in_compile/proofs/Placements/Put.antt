@@ -6,57 +6,47 @@ use Rattle.std.proofs.lemmas.List.Sums.{sum_by_more, sum_by_more_le}
 use Rattle.std.proofs.lemmas.Option.{same_Some, slice_get_within, get_or_from_slice_get}
 use Rattle.in_base.proofs.Each.{at_index}
 use Rattle.in_base.proofs.Places.{kept_at, last_at, more_at}
-use Rattle.in_arena.specs.Arenas.{ArenaView, LeaseView, Leases, changed, free_of, state_at, written}
-use Rattle.in_arena.specs.Bags.{IsInBag}
+use Rattle.in_arena.specs.Arenas.{ArenaView, BeginsCell, changed, free_of, state_at}
 use Rattle.in_arena.specs.Changes.{HasAllCells, one_if_free}
 use Rattle.in_arena.specs.Classes.{IsNumberOf}
 use Rattle.in_arena.specs.States.{State, Vacant, Leased, Live, IsBegun, IsLeased, word_of}
 use Rattle.in_arena.specs.declared.content.CellClass.{CellClass}
 use Rattle.in_arena.specs.declared.content.CellNo.{CellNo}
-use Rattle.in_arena.proofs.Public.{changed_same, changed_twice, counts_change, state_inside, vacant_inside}
+use Rattle.in_arena.proofs.Public.{counts_change, state_inside, vacant_inside}
 use Rattle.in_compile.specs.Cells.{count_of, IsEnough}
 use Rattle.in_compile.specs.Listing.{of_class}
 use Rattle.in_compile.specs.Members.{AgentParts, MemberParts, has_class, IsSoundMember}
 use Rattle.in_compile.specs.Placing.{content}
 use Rattle.in_compile.specs.PlacingSteps.{IsBeingWritten}
-use Rattle.in_compile.specs.Putting.{AreBegunBelow, ArePutBelow, Begins, IsPut}
+use Rattle.in_compile.specs.Putting.{AreBegunBelow, ArePutBelow, BeginsAgent, IsPut}
 use Rattle.in_compile.proofs.Placements.Stocked.{of_itself, same_or_other}
 
 -- ---- one cell
 
-module _ (old : ArenaView) (all : HasAllCells old) (a : AgentParts) (d : CellClass) (is : a.class ≡ d) (word many : ℕ) (symbol : a.symbol.0 ≡ word) (ends : length a.ends ≡ many) (l : LeaseView) (mid : ArenaView) (made : Leases old d (Some l) mid) where
-  module _ (m : LeaseView) (begun : (x : State) × IsBegun word many x × (m ≡ written l x)) (new : ArenaView) (e : new ≡ changed mid m.number m.state) (n : ℕ) (at : n ≡ m.number) where
-    number_is : n ≡ l.number
-    number_is = at ∙ ap (λ (v : LeaseView). v.number) begun.2
+module _ (old : ArenaView) (all : HasAllCells old) (a : AgentParts) (d : CellClass) (is : a.class ≡ d) (word many : ℕ) (symbol : a.symbol.0 ≡ word) (ends : length a.ends ≡ many) (n : ℕ) (new : ArenaView) (b : BeginsCell d word many old n new) where
+  counts_are : (free_of (changed old n b.state) d + one_if_free (state_at old n) ≡ free_of old d + one_if_free b.state) × ((c : CellClass) → (c ≡ d → ⊥) → free_of (changed old n b.state) c ≡ free_of old c)
+  counts_are = counts_change old n d b.state all b.at
 
-    arena_is : new ≡ changed old n begun.0
-    arena_is =
-        e ∙ changed_same made.3 (ap (λ (v : LeaseView). v.number) begun.2) (ap (λ (v : LeaseView). v.state) begun.2) ∙ changed_twice old l.number Leased begun.0
-        ∙ ap (λ k. changed old k begun.0) (sym number_is)
+  as_counted : (c : CellClass) → free_of new c ≡ free_of (changed old n b.state) c
+  as_counted c = ap (λ v. free_of v c) b.arena
 
-    counts_are : (free_of (changed old l.number begun.0) d + one_if_free (state_at old l.number) ≡ free_of old d + one_if_free begun.0) × ((c : CellClass) → (c ≡ d → ⊥) → free_of (changed old l.number begun.0) c ≡ free_of old c)
-    counts_are = counts_change old l.number d begun.0 all made.1
+  left_by : (c : CellClass) → (c ≡ d) ⊎ ((c ≡ d → ⊥) × ((x : ℕ) → of_class d x c ≡ 0)) → free_of new c + of_class d 1 c ≡ free_of old c
+  left_by c (inl same) =
+      let first = counts_are.0 in
+      let was : one_if_free (state_at old n) ≡ 1 = ap one_if_free b.was in
+      let none : one_if_free b.state ≡ 0 = ap one_if_free b.begun.2 in
+      subst (λ (z : CellClass). free_of new z + of_class d 1 z ≡ free_of old z) (sym same) (omega (arith, first, was, none, as_counted d, of_itself d 1))
+  left_by c (inr o) = let rest = counts_are.1 c o.0 in let none = o.1 1 in omega (arith, none, rest, as_counted c)
 
-    as_counted : (c : CellClass) → free_of new c ≡ free_of (changed old l.number begun.0) c
-    as_counted c = ap (λ v. free_of v c) (arena_is ∙ ap (λ k. changed old k begun.0) number_is)
-
-    left_by : (c : CellClass) → (c ≡ d) ⊎ ((c ≡ d → ⊥) × ((x : ℕ) → of_class d x c ≡ 0)) → free_of new c + of_class d 1 c ≡ free_of old c
-    left_by c (inl same) =
-        let first = counts_are.0 in
-        let was : one_if_free (state_at old l.number) ≡ 1 = ap one_if_free made.2 in
-        let none : one_if_free begun.0 ≡ 0 = ap one_if_free begun.1.2 in
-        subst (λ (z : CellClass). free_of new z + of_class d 1 z ≡ free_of old z) (sym same) (omega (arith, first, was, none, as_counted d, of_itself d 1))
-    left_by c (inr o) = let rest = counts_are.1 c o.0 in let none = o.1 1 in omega (arith, none, rest, as_counted c)
-
-    pub begins : Begins a old n new
-    begins = record {
-      at = subst (λ (c : CellClass). IsNumberOf old.cells c n) (sym is) (subst (IsNumberOf old.cells d) (sym number_is) made.1);
-      was = ap (state_at old) number_is ∙ made.2;
-      state = begun.0;
-      begun = (begun.1.0, begun.1.1 ∙ sym ends, begun.1.2 ∙ ap (λ (w : ℕ). Live w begun.1.0) (sym symbol));
-      arena = arena_is;
-      left = λ c. subst (λ (z : CellClass). free_of new c + of_class z 1 c ≡ free_of old c) (sym is) (left_by c (same_or_other d c));
-    }
+  pub begins : BeginsAgent a old n new
+  begins = record {
+    at = subst (λ (c : CellClass). IsNumberOf old.cells c n) (sym is) b.at;
+    was = b.was;
+    state = b.state;
+    begun = (b.begun.0, b.begun.1 ∙ sym ends, b.begun.2 ∙ ap (λ (w : ℕ). Live w b.begun.0) (sym symbol));
+    arena = b.arena;
+    left = λ c. subst (λ (z : CellClass). free_of new c + of_class z 1 c ≡ free_of old c) (sym is) (left_by c (same_or_other d c));
+  }
 
 -- ---- one agent after another
 
@@ -94,7 +84,7 @@ module _ (m : MemberParts) (old : ArenaView) (x : ℕ) (now : ArenaView) (ns : L
       let itself : cond (has_class a.class a) 1 0 ≡ 1 = of_itself a.class 1 in
       omega (arith, within, one, so_far, need, has, itself)
 
-  module _ (n : CellNo) (now' : ArenaView) (b : Begins a now n.0 now') (ns' : List CellNo) (more : ns' ≡ ns ++ n ∷ []) where
+  module _ (n : CellNo) (now' : ArenaView) (b : BeginsAgent a now n.0 now') (ns' : List CellNo) (more : ns' ≡ ns ++ n ∷ []) where
     here : state_at now' n.0 ≡ b.state
     here = ap (λ (v : ArenaView). state_at v n.0) b.arena ∙ get_or-set_same now.states n.0 b.state Leased (vacant_inside now n.0 b.was)
 

@@ -72,12 +72,11 @@ picked_own p place n all picked h own j e at = go (slice_get all (place j)) refl
 -- the tools are of an arena with the same leases
 pub tools_stay : (y : Tools) (a b : ArenaView) → AreLeasedAlike a b → AreTools y a → AreTools y b
 tools_stay y a b alike tools = record {
-  stock = still_none y.stock.bag a b alike tools.stock;
-  stock_all = tools.stock_all;
   placed = still_none y.placed.bag a b alike tools.placed;
   room = tools.room;
   made = tools.made;
   made_room = tools.made_room;
+  points = tools.points;
 }
 
 module _ (r : Body) (k : KeepsNet r) (agents : List CellNo) (own cuts : ℕ) (can : CanSplit (reducer_view r) agents own cuts) (x : Pieces) (h : ArePieces r agents own cuts x) where

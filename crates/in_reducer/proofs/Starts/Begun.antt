@@ -4,22 +4,19 @@ use Rattle.std.proofs.lemmas.List.{map-append, take_more, take_more_set}
 use Rattle.std.proofs.lemmas.Option.{same_Some}
 use Rattle.in_arena.specs.Arenas.{ArenaView}
 use Rattle.in_arena.specs.Bags.{empty_bag}
-use Rattle.in_arena.specs.Changes.{HasAllCells}
 use Rattle.in_arena.specs.declared.content.CellNo.{CellNo}
 use Rattle.in_arena.specs.declared.content.End.{End}
 use Rattle.in_arena.proofs.Public.{empty_is_of}
 use Rattle.in_net.specs.declared.nets.FreeEnd.{FreeEnd}
 use Rattle.in_net.specs.NetFaults.{max_member_agents}
 use Rattle.in_check.specs.Programs.{Program}
-use Rattle.in_compile.specs.declared.cells.Need.{Need}
 use Rattle.in_compile.specs.declared.joints.Joint.{Joint}
 use Rattle.in_compile.specs.Placing.{PlacedParts}
-use Rattle.in_compile.specs.Stocks.{StockParts, empty_stock}
 use Rattle.in_compile.proofs.Public.{none_in_empty, mapped_more}
 use Rattle.in_reducer.specs.declared.body.OwnEnd.{OwnEnd}
 use Rattle.in_reducer.specs.declared.body.OwnEnd.TheVariants.{Named}
 use Rattle.in_reducer.specs.declared.tools.Tools.{Tools}
-use Rattle.in_reducer.specs.Inside.{AreTools, declared_as, most_ends}
+use Rattle.in_reducer.specs.Inside.{AreTools, declared_as, most_ends, most_points}
 use Rattle.in_reducer.specs.Placed.{IsNoneOf}
 use Rattle.in_reducer.specs.Sides.{inner_of}
 
@@ -27,19 +24,15 @@ none_of : (b a : ArenaView) → b ≡ empty_bag a → IsNoneOf b a
 none_of b a e = subst (λ (v : ArenaView). IsNoneOf v a) (sym e) ((empty_is_of a).0, none_in_empty a)
 
 -- tools of an arena that hold nothing
-pub are_tools : (x : Tools) (a : ArenaView) (need : Need) (room : ℕ) → x.stock ≡ empty_stock a need → x.placed ≡ record { cells = []; bag = empty_bag a; room = room } → max_member_agents ≤ room →
-    x.made.items ≡ [] → most_ends ≤ vec_capacity x.made → AreTools x a
-are_tools x a need room stock placed fits none made = record {
-  stock = none_of x.stock.bag a stock_bag;
-  stock_all = subst (λ (v : ArenaView). HasAllCells v) (sym stock_bag) (empty_is_of a).1;
+pub are_tools : (x : Tools) (a : ArenaView) (room : ℕ) → x.placed ≡ record { cells = []; bag = empty_bag a; room = room } → max_member_agents ≤ room → x.made.items ≡ [] → most_ends ≤ vec_capacity x.made
+    → most_points ≤ length x.points.items → AreTools x a
+are_tools x a room placed fits none made points = record {
   placed = none_of x.placed.bag a (ap (λ (p : PlacedParts). p.bag) placed);
   room = subst (λ (n : ℕ). max_member_agents ≤ n) (sym (ap (λ (p : PlacedParts). p.room) placed)) fits;
   made = none;
   made_room = made;
+  points = points;
 }
-  where
-    stock_bag : x.stock.bag ≡ empty_bag a
-    stock_bag = ap (λ (s : StockParts). s.bag) stock
 
 -- one free end more leads where its joint does
 pub one_more_end : (ns : List CellNo) (joints : List Joint) (k : ℕ) (j : Joint) (es : List End) (v : End) → slice_get joints k ≡ Some j → k < length es → v ≡ inner_of ns 0 j →

@@ -19,7 +19,7 @@ use Rattle.in_net.specs.declared.nets.FreeEnd.{FreeEnd}
 use Rattle.in_reducer.specs.declared.body.Body.{Body}
 use Rattle.in_reducer.specs.declared.body.OwnEnd.{OwnEnd}
 use Rattle.in_reducer.specs.declared.tools.Tools.{Tools}
-use Rattle.in_reducer.specs.Inside.{AreTools, AreToolsFor, IsKept, IsOwnEnd, declared_as, most_ends, own_free, reducer_view}
+use Rattle.in_reducer.specs.Inside.{AreTools, IsKept, IsOwnEnd, declared_as, most_ends, own_free, reducer_view}
 use Rattle.in_reducer.specs.Interacting.{named}
 use Rattle.in_reducer.specs.Limiting.{most_cells}
 use Rattle.in_compile.specs.Putting.{IsPut}
@@ -34,15 +34,6 @@ use Rattle.in_reducer.proofs.Starts.Started.{start_reducer}
 pub member_is : (p : Program) (ts : TemplatesParts) (m : MemberParts) → AreTemplatesOf p ts → m ≡ ts.start → IsMemberOf p.tables p.net m
 member_is p ts m of e = subst (IsMemberOf p.tables p.net) (sym e) of.start
 
--- tools with room for the templates' members are for the program's rules
-pub tools_fit : (p : Program) (ts : TemplatesParts) (x : Tools) → AreTemplatesOf p ts → ((k : ℕ) (q : TemplateParts) (c : CellClass) → slice_get ts.templates k ≡ Some q → count_of q.member.need c ≤ count_of x.stock.room c) → AreToolsFor p x
-tools_fit p ts x of fit k r c e =
-    let l = slice_get_within p.rules k r e in
-    let q = at_index ts.templates k (let n = of.templates.count_is in omega (arith, l, n)) in
-    let need = (of.templates.each k r q.0 e q.1).member.need c in
-    let f = fit k q.0 c q.1 in
-    omega (arith, need, f)
-
 module _ (text : List ℕ) (x : Body) (accepted : IsAccepted text x.checked.now) (ts : TemplatesParts) (of : AreTemplatesOf x.checked.now ts) (m : MemberParts) (is : m ≡ ts.start) (cells : ℕ) (few : cells ≤ most_cells)
     (a : ArenaView) (same : a.cells ≡ cells) (empty : a.states ≡ replicate (length classes * cells) Vacant) (ns : List CellNo) (put : IsPut m ns a x.arena)
     (first : take (length m.joints) x.ends.items ≡ map (inner_of ns 0) m.joints) (long : length m.joints + most_ends + most_ends ≤ length x.ends.items) (queue : x.queue.items ≡ map (both (named ns)) m.pairs) (free : own_free x ≡ x.checked.now.net.free) where
@@ -53,7 +44,7 @@ module _ (text : List ℕ) (x : Body) (accepted : IsAccepted text x.checked.now)
   starts = subst (λ (fs : List FreeEnd). IsStart x.checked.now cells (record { program = x.checked.now; agents = agents_in x.arena; free = leading_to fs x.ends.items; queue = x.queue.items; vacant = vacant_in (at_rest x.arena) })) (sym free)
       (is_start text x.checked.now accepted m member ns a x.arena cells same empty put x.ends.items first long x.queue.items queue)
 
-  module _ (room : length classes * cells ≤ 2 * deque_capacity x.queue + 1) (tools : AreTools x.tools a) (fit : (k : ℕ) (p : TemplateParts) (c : CellClass) → slice_get ts.templates k ≡ Some p → count_of p.member.need c ≤ count_of x.tools.stock.room c) where
+  module _ (room : length classes * cells + 2 * most_ends ≤ 2 * deque_capacity x.queue + 1) (tools : AreTools x.tools a) where
     still_none : (b : ArenaView) → IsNoneOf b a → IsNoneOf b x.arena
     still_none b h = (
       record {
@@ -66,16 +57,12 @@ module _ (text : List ℕ) (x : Body) (accepted : IsAccepted text x.checked.now)
 
     tools_there : AreTools x.tools x.arena
     tools_there = record {
-      stock = still_none x.tools.stock.bag tools.stock;
-      stock_all = tools.stock_all;
       placed = still_none x.tools.placed.bag tools.placed;
       room = tools.room;
       made = tools.made;
       made_room = tools.made_room;
+      points = tools.points;
     }
-
-    tools_for : AreToolsFor x.checked.now x.tools
-    tools_for = tools_fit x.checked.now ts x.tools of fit
 
     cells_there : x.arena.cells ≡ cells
     cells_there = cells_after text x.checked.now accepted m member ns a x.arena cells same empty put
@@ -97,7 +84,6 @@ module _ (text : List ℕ) (x : Body) (accepted : IsAccepted text x.checked.now)
           queue = (let e = cells_there in omega (arith, e, room));
         };
         tools = tools_there;
-        tools_for = tools_for;
       };
       none = none_after text x.checked.now accepted m member ns a x.arena cells same empty put;
     }

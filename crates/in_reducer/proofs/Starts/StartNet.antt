@@ -167,7 +167,7 @@ module _ (text : List ℕ) (p : Program) (accepted : IsAccepted text p) (m : Mem
 
     -- no cell is on lease
     pub none_after : NoneLeased b
-    none_after n l leased = empty_none a cells same empty n (subst (λ (z : ℕ). n < z) put.many l) (put_leased p.tables p.net over m of ns a b put empty_at_rest n leased)
+    none_after n l leased = empty_none a cells same empty n (subst (λ (z : ℕ). n < z) put.many l) (put_leased p.tables p.net over m of ns a b put n leased)
 
     pub cells_after : b.cells ≡ cells
     cells_after = put.cells ∙ same

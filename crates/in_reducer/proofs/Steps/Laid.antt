@@ -1,12 +1,12 @@
 -- A right member that is put beside an active pair: its agents have names that the net doesn't have.
-use Rattle.std.proofs.Common.{◌≡◌, ◌≢◌, ◌⊎◌, inl, inr, ℕ, zero, suc, Option, Some, None, List, [], ◌∷◌, length, slice_get, refl, sym, ap, ◌∙◌, arith}
+use Rattle.std.proofs.Common.{◌≡◌, ◌≢◌, ◌⊎◌, inl, inr, ℕ, zero, suc, Option, Some, None, List, [], ◌∷◌, length, map, slice_get, refl, sym, ap, ◌∙◌, arith}
 use Rattle.std.specs.Prelude.{option_map, option_and_then, slice_index_or}
 use Rattle.std.proofs.lemmas.List.{length-map}
 use Rattle.std.proofs.lemmas.Option.{same_Some, slice_get-map, slice_get_within}
 use native.Mathlib.Decide.{ℕ_discrete}
 use Rattle.in_base.proofs.Each.{all_at, at_index}
 use Rattle.in_arena.specs.Arenas.{ArenaView, state_at}
-use Rattle.in_arena.specs.States.{State, word_of, end_at, places}
+use Rattle.in_arena.specs.States.{State, IsBegun, word_of, end_at, places}
 use Rattle.in_arena.specs.declared.content.CellNo.{CellNo}
 use Rattle.in_symbols.specs.Tables.{Tables, arity_of}
 use Rattle.in_symbols.specs.declared.symbols.SymbolNo.{SymbolNo}
@@ -24,6 +24,7 @@ use Rattle.in_compile.specs.Placing.{end_in, content}
 use Rattle.in_compile.proofs.Public.{read_at}
 use Rattle.in_reducer.specs.Interacting.{named}
 use Rattle.in_compile.specs.Putting.{IsPut}
+use Rattle.in_reducer.specs.Wiring.{HasBegun}
 
 -- ---- lists
 
@@ -116,37 +117,74 @@ module _ (t : Tables) (n : Parts) (over : IsOver t n) (m : MemberParts) (of : Is
   pub boundary_joint : (e : ℕ) (v : Point ℕ) → (net_of n).partner (Free e) ≡ Some v → (p : coded.Point) × (slice_get m.joints e ≡ Some (joint_of p)) × (point_of p ≡ v)
   boundary_joint e v h = joint_by (code.Free e) v h
 
-  module _ (ns : List CellNo) (old new : ArenaView) (put : IsPut m ns old new) where
+  -- ---- the agents are begun
+
+  module _ (ns : List CellNo) (old new : ArenaView) (begun : HasBegun m ns old new) where
     -- an agent's own cell
+    own_cell : (k : ℕ) (a : AgentParts) → slice_get m.agents k ≡ Some a → slice_get ns k ≡ Some (slice_index_or ns k (record { 0 = 0 }))
+    own_cell k a e = read_at ns k (let l = slice_get_within m.agents k a e in let c = begun.count in omega (arith, l, c))
+
+    pub begun_free : (k : ℕ) (a : AgentParts) → slice_get m.agents k ≡ Some a → word_of (state_at old (named ns k)) ≡ None
+    begun_free k a e = (begun.each k a (slice_index_or ns k (record { 0 = 0 })) e (own_cell k a e)).1
+
+    begun_there : (k : ℕ) (a : AgentParts) → slice_get m.agents k ≡ Some a → IsBegun a.symbol.0 (length a.ends) (state_at new (named ns k))
+    begun_there k a e = (begun.each k a (slice_index_or ns k (record { 0 = 0 })) e (own_cell k a e)).2
+
+    pub begun_once : (k l : ℕ) (a b : AgentParts) → slice_get m.agents k ≡ Some a → slice_get m.agents l ≡ Some b → named ns k ≡ named ns l → k ≡ l
+    begun_once k l a b e f same =
+        begun.once k l (slice_index_or ns k (record { 0 = 0 })) (own_cell k a e)
+        (own_cell l b f ∙ ap (λ (z : ℕ). Some (record { 0 = z })) (sym same))
+
+    -- a cell of these is an agent's
+    pub begun_whose : (k y : ℕ) → slice_get ns k ≡ Some (record { 0 = y }) → (a : AgentParts) × (slice_get m.agents k ≡ Some a) × (named ns k ≡ y)
+    begun_whose k y at =
+        let l = slice_get_within ns k (record { 0 = y }) at in
+        let a = at_index m.agents k (let c = begun.count in omega (arith, l, c)) in
+        let here : slice_index_or ns k (record { 0 = 0 }) ≡ record { 0 = y } = same_Some (slice_index_or ns k (record { 0 = 0 })) (record { 0 = y }) (sym (read_at ns k l) ∙ at) in
+        (a.0, a.1, ap (λ (z : CellNo). z.0) here)
+
+    pub begun_word : (k s : ℕ) → (net_of n).symbol k ≡ Some s → word_of (state_at new (named ns k)) ≡ Some s
+    begun_word k s e = let a = agent_at k s e in ap word_of (begun_there k a.0 a.1).2 ∙ ap (λ (z : ℕ). Some z) a.2
+
+    pub begun_places : (k s : ℕ) → (net_of n).symbol k ≡ Some s → places (state_at new (named ns k)) ≡ suc (arity_of t s)
+    begun_places k s e =
+        let a = agent_at k s e in
+        ap places (begun_there k a.0 a.1).2 ∙ (begun_there k a.0 a.1).1 ∙ places_of k a.0 a.1 ∙ ap (λ (z : ℕ). suc (arity_of t z)) a.2
+
+  -- ---- .. and put
+
+  pub begun_of : (ns : List CellNo) (old new : ArenaView) → IsPut m ns old new → HasBegun m ns old new
+  begun_of ns old new put = record {
+    count = put.count;
+    each = λ k a n e at. (let z = put.each k a n e at in (z.0, z.1, (map (end_in ns) a.ends, length-map a.ends (end_in ns), z.2)));
+    once = put.once;
+    others = put.others;
+    memory = put.memory;
+    cells = put.cells;
+    many = put.many;
+  }
+
+  module _ (ns : List CellNo) (old new : ArenaView) (put : IsPut m ns old new) where
     pub cell_there : (k : ℕ) (a : AgentParts) → slice_get m.agents k ≡ Some a → slice_get ns k ≡ Some (slice_index_or ns k (record { 0 = 0 }))
-    cell_there k a e = read_at ns k (let l = slice_get_within m.agents k a e in let c = put.count in omega (arith, l, c))
+    cell_there = own_cell ns old new (begun_of ns old new put)
 
     pub was_free : (k : ℕ) (a : AgentParts) → slice_get m.agents k ≡ Some a → word_of (state_at old (named ns k)) ≡ None
-    was_free k a e = (put.each k a (slice_index_or ns k (record { 0 = 0 })) e (cell_there k a e)).1
+    was_free = begun_free ns old new (begun_of ns old new put)
 
     pub stands_there : (k : ℕ) (a : AgentParts) → slice_get m.agents k ≡ Some a → state_at new (named ns k) ≡ content ns a
     stands_there k a e = (put.each k a (slice_index_or ns k (record { 0 = 0 })) e (cell_there k a e)).2
 
     pub named_once : (k l : ℕ) (a b : AgentParts) → slice_get m.agents k ≡ Some a → slice_get m.agents l ≡ Some b → named ns k ≡ named ns l → k ≡ l
-    named_once k l a b e f same =
-        put.once k l (slice_index_or ns k (record { 0 = 0 })) (cell_there k a e)
-        (cell_there l b f ∙ ap (λ (z : ℕ). Some (record { 0 = z })) (sym same))
+    named_once = begun_once ns old new (begun_of ns old new put)
 
-    -- a cell of these is an agent's
     pub whose : (k y : ℕ) → slice_get ns k ≡ Some (record { 0 = y }) → (a : AgentParts) × (slice_get m.agents k ≡ Some a) × (named ns k ≡ y)
-    whose k y at =
-        let l = slice_get_within ns k (record { 0 = y }) at in
-        let a = at_index m.agents k (let c = put.count in omega (arith, l, c)) in
-        let here : slice_index_or ns k (record { 0 = 0 }) ≡ record { 0 = y } = same_Some (slice_index_or ns k (record { 0 = 0 })) (record { 0 = y }) (sym (read_at ns k l) ∙ at) in
-        (a.0, a.1, ap (λ (z : CellNo). z.0) here)
+    whose = begun_whose ns old new (begun_of ns old new put)
 
     pub word_there : (k s : ℕ) → (net_of n).symbol k ≡ Some s → word_of (state_at new (named ns k)) ≡ Some s
-    word_there k s e = let a = agent_at k s e in ap word_of (stands_there k a.0 a.1) ∙ ap (λ (z : ℕ). Some z) a.2
+    word_there = begun_word ns old new (begun_of ns old new put)
 
     pub places_there : (k s : ℕ) → (net_of n).symbol k ≡ Some s → places (state_at new (named ns k)) ≡ suc (arity_of t s)
-    places_there k s e =
-        let a = agent_at k s e in
-        ap places (stands_there k a.0 a.1) ∙ length-map a.0.ends (end_in ns) ∙ places_of k a.0 a.1 ∙ ap (λ (z : ℕ). suc (arity_of t z)) a.2
+    places_there = begun_places ns old new (begun_of ns old new put)
 
     by_joint : (k i : ℕ) (j : Joint) (o : Option AgentParts) → slice_get m.agents k ≡ o → option_and_then (λ (a : AgentParts). slice_get a.ends i) o ≡ Some j → end_at (state_at new (named ns k)) i ≡ Some (end_in ns j)
     by_joint k i j None is e = absurd (let f : None ≡ Some j = e in cc)

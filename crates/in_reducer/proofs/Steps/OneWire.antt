@@ -1,152 +1,224 @@
--- One boundary end of an interaction in place: nothing is written there, or both sides of a wire.
-use Rattle.std.proofs.Common.{◌≡◌, ◌≢◌, ◌<◌, ◌≤◌, ◌+◌, ◌-◌, ℕ, suc, Option, Some, None, List, length, slice_get, sym, ap, subst, ◌∙◌, arith}
-use Rattle.std.proofs.lemmas.Option.{same_Some}
+-- One wire of a right member is written: what that asks, and what it leaves.
+use Rattle.std.proofs.Common.{◌≡◌, ◌≢◌, ◌⊎◌, ◌<◌, ◌+◌, ℕ, Some, List, length, map, slice_get, refl, sym, ap, subst, ◌∙◌, inl, inr, arith}
+use Rattle.std.specs.Prelude.{slice_index_or}
+use Rattle.std.proofs.lemmas.Option.{get_or_from_slice_get, slice_get_within}
 use Rattle.in_arena.specs.Arenas.{ArenaView, state_at}
-use Rattle.in_arena.specs.States.{end_at}
+use Rattle.in_arena.specs.States.{word_of}
 use Rattle.in_arena.specs.declared.content.CellNo.{CellNo}
 use Rattle.in_arena.specs.declared.content.End.{End}
-use Rattle.in_symbols.specs.Tables.{Tables}
-use Rattle.in_net.specs.Nets.{Point, Free, net_of}
+use Rattle.in_symbols.specs.Tables.{Tables, IsSymbol}
+use Rattle.in_symbols.specs.declared.symbols.SymbolNo.{SymbolNo}
+use Rattle.in_net.specs.Built.{IsOver}
+use Rattle.in_net.specs.Nets.{Point, Free, net_of, signature_of}
+use Rattle.in_net.specs.Parts.{Parts, symbol_in}
+use Rattle.in_net.proofs.Public.{symbol_known}
+use Rattle.in_gluing.proofs.Public.{mapped}
+use Rattle.in_cells.specs.Between.{Interaction, before, redex_of}
 use Rattle.in_cells.specs.Cells.{HasSymbols, KeepsCells}
-use Rattle.in_cells.specs.Pairs.{AddsPair, IsAtLive}
+use Rattle.in_cells.specs.Pairs.{AddsPair}
 use Rattle.in_cells.specs.Shown.{AreExchanged, IsPlaceAt, end_of, point_of}
-use Rattle.in_cells.proofs.Public.{exchange_keeps, keep_on, keeps, live_after, symbols_kept, writes_end_point as end_point}
+use Rattle.in_cells.proofs.Public.{exchange_keeps, live_after, symbols_kept, writes_end_point as end_point}
 use Rattle.in_compile.specs.declared.joints.Joint.{Joint}
+use Rattle.in_compile.specs.declared.joints.Joint.TheVariants.{ToBoundary}
 use Rattle.in_compile.specs.Templates.{TemplateParts}
-use Rattle.in_overwriting.specs.MadeByWires.{LeadsFrom}
-use Rattle.in_reducer.specs.declared.sides.Pair.{Pair}
+use Rattle.in_compile.specs.Wires.{over_of, over_point, place_in, point_at, slot_of, within_of}
 use Rattle.in_reducer.specs.Interacting.{PairSetting, interaction_of}
-use Rattle.in_reducer.specs.Overwriting.{HasMadeFrom, IsOverwriting, IsSideOf, IsWrittenFrom, other_side}
-use Rattle.in_reducer.specs.Sides.{end_there, port_at}
-use Rattle.in_reducer.proofs.Steps.NextWire.{Next, many, next, none, wire}
-use Rattle.in_reducer.proofs.Steps.WrittenFrom as wires
+use Rattle.in_reducer.specs.Wiring.{CanPair, HasQueued, IsAtPlace, IsWiring, wires_of}
+use Rattle.in_reducer.proofs.Steps.NextWire.{IsReadAt, inner_read, one_read, other_read, outer_read, over_at, over_wire, within_wire}
+use Rattle.in_reducer.proofs.Steps.Wired as wires
 
-module _ (t : Tables) (s : PairSetting) (p : TemplateParts) (pair : Pair) (own : ℕ) (ns : List CellNo) (e : ℕ) (a : ArenaView) (es : List End) (h : IsOverwriting t s p pair own ns (e + 1) a es) (j : Joint) (at : slice_get p.member.joints e ≡ Some j) where
-  from : IsWrittenFrom t (interaction_of s ns) own (suc e) a es
-  from = let more : e + 1 ≡ suc e = omega arith in subst (λ (k : ℕ). IsWrittenFrom t (interaction_of s ns) own k a es) more h.from
+module _ (t : Tables) (s : PairSetting) (p : TemplateParts) (own : ℕ) (ns : List CellNo) (points : List End) (k : ℕ) (a : ArenaView) (es : List End) (h : IsWiring t s p own ns points k a es) where
+  abbrev x : Interaction
+  x = interaction_of s ns
 
-  made_from : (first old : List (ℕ × ℕ)) → HasMadeFrom t (interaction_of s ns) (e + 1) first old → HasMadeFrom t (interaction_of s ns) (suc e) first old
-  made_from first old made = let more : e + 1 ≡ suc e = omega arith in subst (λ (k : ℕ). HasMadeFrom t (interaction_of s ns) k first old) more made
+  abbrev Read : Joint → Type 0
+  Read = IsReadAt t s p own ns points k a es h
 
-  its_next : Next t s p pair own ns (e + 1) a es h e (other_side a pair ns e j)
-  its_next = next t s p pair own ns (e + 1) a es h e j at
+  -- ---- reading
 
-  -- nothing is written there
-  module _ (nothing : (inner : End) → other_side a pair ns e j ≡ Some inner → ⊥) where
-    no_wire : (q : Point ℕ) → LeadsFrom (net_of s.rule.member) e q → ⊥
-    no_wire = go its_next
-      where
-        go : Next t s p pair own ns (e + 1) a es h e (other_side a pair ns e j) → (q : Point ℕ) → LeadsFrom (net_of s.rule.member) e q → ⊥
-        go (none is out) = out
-        go (wire q u v is leads at_u at_v stands) = absurd (nothing (end_of v) is)
+  -- a side is read at its slot and place
+  pub can_read : (j : Joint) (r : Read j) (slot place : ℕ) → slot ≡ slot_of j → place ≡ place_in j → (y : End) × (z : End) × (slice_get points slot ≡ Some y) × IsAtPlace y place z
+  can_read j r slot place is_slot is_place = (r.point, end_of r.side, ap (slice_get points) is_slot ∙ r.stands, subst (λ (n : ℕ). IsAtPlace r.point n (end_of r.side)) (sym is_place) r.at)
 
-    pub skipped : IsOverwriting t s p pair own ns e a es
-    skipped = record { told = h.told; from = wires.skipped t (interaction_of s ns) h.from.can own e a es from no_wire }
+  pub is_read : (j : Joint) (r : Read j) (slot place : ℕ) → slot ≡ slot_of j → place ≡ place_in j → (result : End) → ((y z : End) → slice_get points slot ≡ Some y → IsAtPlace y place z → result ≡ z) → result ≡ end_of r.side
+  unfolding can_read
+  is_read j r slot place is_slot is_place result read = let c = can_read j r slot place is_slot is_place in read c.0 c.1 c.2 c.3
 
-    pub skipped_made : (first old : List (ℕ × ℕ)) → HasMadeFrom t (interaction_of s ns) (e + 1) first old → HasMadeFrom t (interaction_of s ns) e first old
-    skipped_made first old made = wires.skipped_made t (interaction_of s ns) h.from.can e no_wire first old (made_from first old made)
+  -- at a boundary end's point it stands itself
+  pub is_outer : (e : ℕ) (r : Read (ToBoundary e)) (n : ℕ) → n ≡ e → (result : End) → result ≡ slice_index_or points n result → result ≡ end_of r.side
+  is_outer e r n same result read = read ∙ get_or_from_slice_get points n r.point result (ap (slice_get points) same ∙ r.stands) ∙ itself r.at
+    where
+      itself : IsAtPlace r.point 0 (end_of r.side) → r.point ≡ end_of r.side
+      itself (inl (zero, is)) = sym is
+      itself (inr (c, at, is)) = at ∙ sym is
 
-  -- both sides of a wire are written
-  module _ (inner : End) (told : other_side a pair ns e j ≡ Some inner) (place : CellNo × ℕ) (is_place : place ≡ port_at pair e) (outer : End) (read : end_at (state_at a place.0.0) place.1 ≡ Some outer) where
-    record Sides : Type 0 where
-      pub q : Point ℕ
-      pub u : Point ℕ
-      pub v : Point ℕ
-      pub leads : LeadsFrom (net_of s.rule.member) e q
-      pub at_u : IsSideOf t (interaction_of s ns) (Free e) u
-      pub at_v : IsSideOf t (interaction_of s ns) q v
-      pub is_outer : outer ≡ end_of u
-      pub is_inner : inner ≡ end_of v
+  has_symbols : HasSymbols t a
+  has_symbols y z w = go ((h.from.symbols y z).0 w)
+    where
+      known : (n : Parts) (y : ℕ) → IsOver t n → (net_of n).symbol y ≡ Some z → IsSymbol t z
+      known n y over e = let q = mapped (λ (s : SymbolNo). s.0) (symbol_in n y) z e in subst (IsSymbol t) q.2 (symbol_known t n y q.0 over q.1)
 
-    sides : Sides
-    sides = go its_next
-      where
-        go : Next t s p pair own ns (e + 1) a es h e (other_side a pair ns e j) → Sides
-        go (none is out) = absurd (let f : None ≡ Some inner = sym is ∙ told in cc)
-        go (wire q u v is leads at_u at_v stands) = record {
-          q = q;
-          u = u;
-          v = v;
-          leads = leads;
-          at_u = at_u;
-          at_v = at_v;
-          is_outer = same_Some outer (end_of u) (sym read ∙ ap (end_there a) is_place ∙ stands);
-          is_inner = same_Some inner (end_of v) (sym told ∙ is);
-        }
+      go : ((before x).symbol y ≡ Some z) ⊎ ((l : ℕ) × (x.name l ≡ y) × ((redex_of x).member.symbol l ≡ Some z)) → IsSymbol t z
+      go (inl f) = known s.net y h.over f
+      go (inr (l, name, f)) = known s.rule.member l h.member_over f
 
-    pub outer_place : IsPlaceAt a es outer
-    outer_place = subst (IsPlaceAt a es) (sym sides.is_outer) (wires.place_u t (interaction_of s ns) h.from.can own e a es from sides.q sides.u sides.v sides.leads sides.at_u sides.at_v)
+  -- ---- writing
 
-    pub inner_place : IsPlaceAt a es inner
-    inner_place = subst (IsPlaceAt a es) (sym sides.is_inner) (wires.place_v t (interaction_of s ns) h.from.can own e a es from sides.q sides.u sides.v sides.leads sides.at_u sides.at_v)
+  module _ (i j : Joint) (at : slice_get (wires_of p.member) k ≡ Some (point_at i, point_at j)) (one : Read i) (two : Read j) (u v : End) (is_u : u ≡ end_of one.side) (is_v : v ≡ end_of two.side) where
+    pub place_u : IsPlaceAt a es u
+    place_u = subst (IsPlaceAt a es) (sym is_u) (wires.place_u t x (wires_of p.member) h.from.can h.from.all own k a es h.from (point_at i) (point_at j) one.side two.side at one.is_side two.is_side)
 
-    pub sides_differ : outer ≢ inner
-    sides_differ same =
-        wires.differ t (interaction_of s ns) h.from.can own e a es from sides.q sides.u sides.v sides.leads sides.at_u sides.at_v
-        (sym (end_point sides.u) ∙ ap point_of (sym sides.is_outer ∙ same ∙ sides.is_inner) ∙ end_point sides.v)
+    pub place_v : IsPlaceAt a es v
+    place_v = subst (IsPlaceAt a es) (sym is_v) (wires.place_v t x (wires_of p.member) h.from.can h.from.all own k a es h.from (point_at i) (point_at j) one.side two.side at one.is_side two.is_side)
 
-    module _ (b : ArenaView) (fs : List End) (exchanged : AreExchanged outer inner a es b fs) where
+    differ : u ≢ v
+    differ same =
+        wires.differ t x (wires_of p.member) h.from.can h.from.all own k a es h.from (point_at i) (point_at j) one.side two.side at one.is_side two.is_side
+        (sym (end_point one.side) ∙ ap point_of (sym is_u ∙ same ∙ is_v) ∙ end_point two.side)
+
+    module _ (b : ArenaView) (fs : List End) (exchanged : AreExchanged u v a es b fs) where
       pub kept : KeepsCells a b × (length fs ≡ length es)
-      kept = exchange_keeps outer inner a es b fs outer_place inner_place exchanged
+      kept = exchange_keeps u v a es b fs place_u place_v exchanged
 
-      at_sides : AreExchanged (end_of sides.u) (end_of sides.v) a es b fs
-      at_sides = subst (λ (z : End). AreExchanged z (end_of sides.v) a es b fs) sides.is_outer (subst (λ (z : End). AreExchanged outer z a es b fs) sides.is_inner exchanged)
+      pub can_pair : CanPair t b u v
+      can_pair = record {
+        one = live_after u a es b kept.0 place_u;
+        other = live_after v a es b kept.0 place_v;
+        differ = differ;
+        symbols = symbols_kept t a b kept.0 has_symbols;
+      }
 
-      pub outer_live : IsAtLive b outer
-      outer_live = live_after outer a es b kept.0 outer_place
+      at_sides : AreExchanged (end_of one.side) (end_of two.side) a es b fs
+      at_sides = subst (λ (z : End). AreExchanged z (end_of two.side) a es b fs) is_u (subst (λ (z : End). AreExchanged u z a es b fs) is_v exchanged)
 
-      pub inner_live : IsAtLive b inner
-      inner_live = live_after inner a es b kept.0 inner_place
+      pub written : IsWiring t s p own ns points (k + 1) b fs
+      written = record {
+        over = h.over;
+        member_over = h.member_over;
+        template = h.template;
+        many = h.many;
+        sides = h.sides;
+        from = wires.one_more t x (wires_of p.member) h.from.can h.from.all own k a es h.from (point_at i) (point_at j) one.side two.side at one.is_side two.is_side b fs at_sides;
+      }
 
-      pub has_symbols : HasSymbols t a → HasSymbols t b
-      has_symbols known = symbols_kept t a b kept.0 known
+      -- the pair that a wire with a boundary end makes
+      pub queued : (e : ℕ) → i ≡ ToBoundary e → slice_get (over_of p.member) k ≡ Some (e, j) → (first old new : List (ℕ × ℕ)) → HasQueued t x (map over_point (over_of p.member)) k first old → AddsPair t b u v old new
+          → HasQueued t x (map over_point (over_of p.member)) (k + 1) first new
+      queued e is listed first old new before added =
+          wires.one_more_queued t x (wires_of p.member) h.from.can h.from.all own k a es h.from (point_at i) (point_at j) one.side two.side at one.is_side two.is_side b fs at_sides
+          e (ap point_at is) (map over_point (over_of p.member)) (over_at t s p own ns points k a es h k e j listed) first old new before
+          (subst (λ (z : End). AddsPair t b z (end_of two.side) old new) is_u (subst (λ (z : End). AddsPair t b u z old new) is_v added))
 
-      pub written : IsOverwriting t s p pair own ns e b fs
-      written = record { told = h.told; from = wires.one_more t (interaction_of s ns) h.from.can own e a es from sides.q sides.u sides.v sides.leads sides.at_u sides.at_v b fs at_sides }
+-- ---- a wire with a boundary end
 
-      pub written_made : (first old new : List (ℕ × ℕ)) → HasMadeFrom t (interaction_of s ns) (e + 1) first old → AddsPair t b outer inner old new → HasMadeFrom t (interaction_of s ns) e first new
-      written_made first old new made added =
-          wires.made_more t (interaction_of s ns) h.from.can own e a es from sides.q sides.u sides.v sides.leads sides.at_u sides.at_v b fs at_sides first old new (made_from first old made)
-          (subst (λ (z : End). AddsPair t b z (end_of sides.v) old new) sides.is_outer (subst (λ (z : End). AddsPair t b outer z old new) sides.is_inner added))
+-- u is read at the boundary end's point, and v at the slot and place of the joint to which the wire leads
+pub record HasReadOver (points : List End) (w : ℕ × Joint) (u v : End) : Type 0 where
+  pub end : ℕ
+  pub slot : ℕ
+  pub place : ℕ
+  pub is_end : end ≡ w.0
+  pub is_slot : slot ≡ slot_of w.1
+  pub is_place : place ≡ place_in w.1
+  pub outer : u ≡ slice_index_or points end u
+  pub inner : (y z : End) → slice_get points slot ≡ Some y → IsAtPlace y place z → v ≡ z
 
--- ---- one after another
+module _ (t : Tables) (s : PairSetting) (p : TemplateParts) (own : ℕ) (ns : List CellNo) (points : List End) (k : ℕ) (a : ArenaView) (es : List End) (h : IsWiring t s p own ns points k a es)
+    (w : ℕ × Joint) (listed : slice_get (over_of p.member) k ≡ Some w) where
+  outer : IsReadAt t s p own ns points k a es h (ToBoundary w.0)
+  outer = outer_read t s p own ns points k a es h k w.0 w.1 listed
 
--- what the wires from this boundary end on leave
-pub record IsOnTheWay (t : Tables) (p : TemplateParts) (pair : Pair) (ns : List CellNo) (a : ArenaView) (es : List End) (old : List (ℕ × ℕ)) (e : ℕ) (b : ArenaView) (fs : List End) (new : List (ℕ × ℕ)) : Type 0 where
-  pub from : (s : PairSetting) (own : ℕ) → IsOverwriting t s p pair own ns (length p.member.joints) a es → IsOverwriting t s p pair own ns e b fs
-  pub made : (s : PairSetting) (own : ℕ) → IsOverwriting t s p pair own ns (length p.member.joints) a es → HasMadeFrom t (interaction_of s ns) e old new
-  pub kept : KeepsCells a b
+  inner : IsReadAt t s p own ns points k a es h w.1
+  inner = inner_read t s p own ns points k a es h k w.0 w.1 listed
 
-module _ (t : Tables) (p : TemplateParts) (pair : Pair) (ns : List CellNo) (a : ArenaView) (es : List End) (old : List (ℕ × ℕ)) where
-  abbrev Whole : PairSetting → ℕ → Type 0
-  Whole s own = IsOverwriting t s p pair own ns (length p.member.joints) a es
+  pub over_low : (end : ℕ) → end ≡ w.0 → end < length points
+  over_low end is = let l = slice_get_within points w.0 outer.point outer.stands in omega (arith, l, is)
 
-  pub starts : (e : ℕ) → e ≡ length p.member.joints → IsOnTheWay t p pair ns a es old e a es old
-  starts e all = record {
-    from = λ s own h. subst (λ (e : ℕ). IsOverwriting t s p pair own ns e a es) (sym all) h;
-    made = λ s own h. subst (λ (e : ℕ). HasMadeFrom t (interaction_of s ns) e old old) (sym all)
-        (wires.none_made t (interaction_of s ns) h.from.can (length p.member.joints) (let m = many t s p pair own ns (length p.member.joints) a es h in omega (arith, m)) old);
-    kept = keeps a;
-  }
+  pub over_can_read : (slot place : ℕ) → slot ≡ slot_of w.1 → place ≡ place_in w.1 → (y : End) × (z : End) × (slice_get points slot ≡ Some y) × IsAtPlace y place z
+  over_can_read = can_read t s p own ns points k a es h w.1 inner
 
-  module _ (e : ℕ) (b : ArenaView) (fs : List End) (new : List (ℕ × ℕ)) (way : IsOnTheWay t p pair ns a es old e b fs new) where
-    -- the next one is the one below
-    pub below : 0 < e → (s : PairSetting) (own : ℕ) → Whole s own → IsOverwriting t s p pair own ns (e - 1 + 1) b fs
-    below some s own h = let same : e ≡ e - 1 + 1 = omega (arith, some) in subst (λ (e : ℕ). IsOverwriting t s p pair own ns e b fs) same (way.from s own h)
+  module _ (u v : End) (r : HasReadOver points w u v) where
+    at_wire : slice_get (wires_of p.member) k ≡ Some (point_at (ToBoundary w.0), point_at w.1)
+    at_wire = over_wire t s p own ns points k a es h k w.0 w.1 listed
 
-    pub goes_on : (c : ArenaView) (gs : List End) (newer : List (ℕ × ℕ)) → 0 < e →
-        ((s : PairSetting) (own : ℕ) → IsOverwriting t s p pair own ns (e - 1 + 1) b fs → IsOverwriting t s p pair own ns (e - 1) c gs) →
-        ((s : PairSetting) (own : ℕ) (first : List (ℕ × ℕ)) → IsOverwriting t s p pair own ns (e - 1 + 1) b fs → HasMadeFrom t (interaction_of s ns) (e - 1 + 1) first new → HasMadeFrom t (interaction_of s ns) (e - 1) first newer) →
-        KeepsCells b c → IsOnTheWay t p pair ns a es old (e - 1) c gs newer
-    goes_on c gs newer some from made kept = record {
-      from = λ s own h. from s own (below some s own h);
-      made = λ s own h. made s own old (below some s own h) (let same : e ≡ e - 1 + 1 = omega (arith, some) in subst (λ (e : ℕ). HasMadeFrom t (interaction_of s ns) e old new) same (way.made s own h));
-      kept = keep_on a b c way.kept kept;
-    }
+    u_is : u ≡ end_of outer.side
+    u_is = is_outer t s p own ns points k a es h w.0 outer r.end r.is_end u r.outer
 
-    pub ends_done : e ≤ 0 → ((s : PairSetting) (own : ℕ) → Whole s own → IsOverwriting t s p pair own ns 0 b fs) × ((s : PairSetting) (own : ℕ) → Whole s own → HasMadeFrom t (interaction_of s ns) 0 old new)
-    ends_done few =
-        let zero_left : e ≡ 0 = omega (arith, few) in (
-          (λ s own h. subst (λ (e : ℕ). IsOverwriting t s p pair own ns e b fs) zero_left (way.from s own h)),
-          (λ s own h. subst (λ (e : ℕ). HasMadeFrom t (interaction_of s ns) e old new) zero_left (way.made s own h)),
-        )
+    v_is : v ≡ end_of inner.side
+    v_is = is_read t s p own ns points k a es h w.1 inner r.slot r.place r.is_slot r.is_place v r.inner
+
+    pub over_place_u : IsPlaceAt a es u
+    over_place_u = place_u t s p own ns points k a es h (ToBoundary w.0) w.1 at_wire outer inner u v u_is v_is
+
+    pub over_place_v : IsPlaceAt a es v
+    over_place_v = place_v t s p own ns points k a es h (ToBoundary w.0) w.1 at_wire outer inner u v u_is v_is
+
+    module _ (b : ArenaView) (fs : List End) (exchanged : AreExchanged u v a es b fs) where
+      pub over_kept : KeepsCells a b × (length fs ≡ length es)
+      over_kept = kept t s p own ns points k a es h (ToBoundary w.0) w.1 at_wire outer inner u v u_is v_is b fs exchanged
+
+      pub over_can_pair : CanPair t b u v
+      over_can_pair = can_pair t s p own ns points k a es h (ToBoundary w.0) w.1 at_wire outer inner u v u_is v_is b fs exchanged
+
+      pub over_written : IsWiring t s p own ns points (k + 1) b fs
+      over_written = written t s p own ns points k a es h (ToBoundary w.0) w.1 at_wire outer inner u v u_is v_is b fs exchanged
+
+      pub over_queued : (first old new : List (ℕ × ℕ)) → HasQueued t (interaction_of s ns) (map over_point (over_of p.member)) k first old → AddsPair t b u v old new
+          → HasQueued t (interaction_of s ns) (map over_point (over_of p.member)) (k + 1) first new
+      over_queued = queued t s p own ns points k a es h (ToBoundary w.0) w.1 at_wire outer inner u v u_is v_is b fs exchanged w.0 refl listed
+
+-- ---- a wire within the right member
+
+-- u and v are read at the slots and places of the two joints
+pub record HasReadWithin (points : List End) (w : Joint × Joint) (u v : End) : Type 0 where
+  pub slot : ℕ
+  pub place : ℕ
+  pub other_slot : ℕ
+  pub other_place : ℕ
+  pub is_slot : slot ≡ slot_of w.0
+  pub is_place : place ≡ place_in w.0
+  pub is_other_slot : other_slot ≡ slot_of w.1
+  pub is_other_place : other_place ≡ place_in w.1
+  pub one : (y z : End) → slice_get points slot ≡ Some y → IsAtPlace y place z → u ≡ z
+  pub other : (y z : End) → slice_get points other_slot ≡ Some y → IsAtPlace y other_place z → v ≡ z
+
+module _ (t : Tables) (s : PairSetting) (p : TemplateParts) (own : ℕ) (ns : List CellNo) (points : List End) (i : ℕ) (a : ArenaView) (es : List End) (h : IsWiring t s p own ns points (length (over_of p.member) + i) a es)
+    (w : Joint × Joint) (listed : slice_get (within_of p.member) i ≡ Some w) where
+  abbrev k : ℕ
+  k = length (over_of p.member) + i
+
+  one_side : IsReadAt t s p own ns points k a es h w.0
+  one_side = one_read t s p own ns points k a es h i w.0 w.1 listed
+
+  other_side : IsReadAt t s p own ns points k a es h w.1
+  other_side = other_read t s p own ns points k a es h i w.0 w.1 listed
+
+  pub one_can_read : (slot place : ℕ) → slot ≡ slot_of w.0 → place ≡ place_in w.0 → (y : End) × (z : End) × (slice_get points slot ≡ Some y) × IsAtPlace y place z
+  one_can_read = can_read t s p own ns points k a es h w.0 one_side
+
+  pub other_can_read : (slot place : ℕ) → slot ≡ slot_of w.1 → place ≡ place_in w.1 → (y : End) × (z : End) × (slice_get points slot ≡ Some y) × IsAtPlace y place z
+  other_can_read = can_read t s p own ns points k a es h w.1 other_side
+
+  module _ (u v : End) (r : HasReadWithin points w u v) where
+    within_at : slice_get (wires_of p.member) k ≡ Some (point_at w.0, point_at w.1)
+    within_at = within_wire t s p own ns points k a es h i w.0 w.1 listed
+
+    one_is : u ≡ end_of one_side.side
+    one_is = is_read t s p own ns points k a es h w.0 one_side r.slot r.place r.is_slot r.is_place u r.one
+
+    other_is : v ≡ end_of other_side.side
+    other_is = is_read t s p own ns points k a es h w.1 other_side r.other_slot r.other_place r.is_other_slot r.is_other_place v r.other
+
+    pub within_place_u : IsPlaceAt a es u
+    within_place_u = place_u t s p own ns points k a es h w.0 w.1 within_at one_side other_side u v one_is other_is
+
+    pub within_place_v : IsPlaceAt a es v
+    within_place_v = place_v t s p own ns points k a es h w.0 w.1 within_at one_side other_side u v one_is other_is
+
+    module _ (b : ArenaView) (fs : List End) (exchanged : AreExchanged u v a es b fs) where
+      pub within_kept : KeepsCells a b × (length fs ≡ length es)
+      within_kept = kept t s p own ns points k a es h w.0 w.1 within_at one_side other_side u v one_is other_is b fs exchanged
+
+      pub within_written : IsWiring t s p own ns points (length (over_of p.member) + (i + 1)) b fs
+      within_written =
+          let more : length (over_of p.member) + i + 1 ≡ length (over_of p.member) + (i + 1) = omega arith in
+          subst (λ (n : ℕ). IsWiring t s p own ns points n b fs) more (written t s p own ns points k a es h w.0 w.1 within_at one_side other_side u v one_is other_is b fs exchanged)

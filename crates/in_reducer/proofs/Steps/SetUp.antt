@@ -33,6 +33,7 @@ use Rattle.in_compile.proofs.Public.{inside_of, joints_many}
 use Rattle.in_reducer.specs.declared.sides.Pair.{Pair}
 use Rattle.in_reducer.specs.Interacting.{PairSetting, IsAbout, interaction_of, named}
 use Rattle.in_compile.specs.Putting.{IsPut}
+use Rattle.in_reducer.specs.Wiring.{HasBegun}
 use Rattle.in_reducer.specs.Sides.{AreSetBelow, HasJoint, HasPort, end_there, inner_of, outer_of, port_at}
 use Rattle.in_reducer.proofs.Steps.Laid as laid
 use Rattle.in_reducer.proofs.Steps.Laid.{in_or_out}
@@ -77,33 +78,50 @@ module _ (t : Tables) (s : PairSetting) (p : TemplateParts) (pair : Pair) (own :
   differ : pair.one.0 ≢ pair.other.0
   differ e = about.redex.differ (sym about.one ∙ e ∙ about.two)
 
-  module _ (ns : List CellNo) (put : ArenaView) (is_put : IsPut p.member ns old put) where
+  module _ (ns : List CellNo) (now : ArenaView) (begun : HasBegun p.member ns old now) where
     -- ---- names
 
-    fresh : (k x : ℕ) → (net_of s.rule.member).symbol k ≡ Some x → (net_of s.net).symbol (named ns k) ≡ None
-    fresh k x e =
+    begun_fresh : (k x : ℕ) → (net_of s.rule.member).symbol k ≡ Some x → (net_of s.net).symbol (named ns k) ≡ None
+    begun_fresh k x e =
         let a = laid.agent_at t s.rule.member about.member_over p.member about.template.member k x e in
-        about.shown.agents (named ns k) ∙ laid.was_free t s.rule.member about.member_over p.member about.template.member ns old put is_put k a.0 a.1
+        about.shown.agents (named ns k) ∙ laid.begun_free t s.rule.member about.member_over p.member about.template.member ns old now begun k a.0 a.1
 
-    apart : (k l x y : ℕ) → (net_of s.rule.member).symbol k ≡ Some x → (net_of s.rule.member).symbol l ≡ Some y → named ns k ≡ named ns l → k ≡ l
-    apart k l x y e f same =
+    begun_apart : (k l x y : ℕ) → (net_of s.rule.member).symbol k ≡ Some x → (net_of s.rule.member).symbol l ≡ Some y → named ns k ≡ named ns l → k ≡ l
+    begun_apart k l x y e f same =
         let a = laid.agent_at t s.rule.member about.member_over p.member about.template.member k x e in
         let b = laid.agent_at t s.rule.member about.member_over p.member about.template.member l y f in
-        laid.named_once t s.rule.member about.member_over p.member about.template.member ns old put is_put k l a.0 b.0 a.1 b.1 same
+        laid.begun_once t s.rule.member about.member_over p.member about.template.member ns old now begun k l a.0 b.0 a.1 b.1 same
+
+    begun_can : CanStepAt t s.net s.rule s.one s.two (named ns)
+    begun_can = record { net = about.net; inside = about.inside; redex = about.redex; naming = record { fresh = begun_fresh; apart = begun_apart } }
+
+    pub begun_with : IsWith t (interaction_of s ns) own (length p.member.joints)
+    begun_with = record { can = begun_can; own_ends = own_many; boundary = boundary_many }
+
+    -- the net's own agents still stand
+    pub begun_stays : (y x : ℕ) → (net_of s.net).symbol y ≡ Some x → state_at now y ≡ state_at old y
+    begun_stays y x e = begun.others y (λ k at. (
+        let a = laid.begun_whose t s.rule.member about.member_over p.member about.template.member ns old now begun k y at in
+        not_vacant y x e (ap (λ (z : ℕ). word_of (state_at old z)) (sym a.2) ∙ laid.begun_free t s.rule.member about.member_over p.member about.template.member ns old now begun k a.0 a.1)
+        ))
+
+  module _ (ns : List CellNo) (put : ArenaView) (is_put : IsPut p.member ns old put) where
+    begun : HasBegun p.member ns old put
+    begun = laid.begun_of t s.rule.member about.member_over p.member about.template.member ns old put is_put
+
+    fresh : (k x : ℕ) → (net_of s.rule.member).symbol k ≡ Some x → (net_of s.net).symbol (named ns k) ≡ None
+    fresh = begun_fresh ns put begun
 
     can : CanStepAt t s.net s.rule s.one s.two (named ns)
-    can = record { net = about.net; inside = about.inside; redex = about.redex; naming = record { fresh = fresh; apart = apart } }
+    can = begun_can ns put begun
 
     pub is_with : IsWith t (interaction_of s ns) own (length p.member.joints)
-    is_with = record { can = can; own_ends = own_many; boundary = boundary_many }
+    is_with = begun_with ns put begun
 
     -- ---- the pair still stands
 
     pub stays : (y x : ℕ) → (net_of s.net).symbol y ≡ Some x → state_at put y ≡ state_at old y
-    stays y x e = is_put.others y (λ k at. (
-        let a = laid.whose t s.rule.member about.member_over p.member about.template.member ns old put is_put k y at in
-        not_vacant y x e (ap (λ (z : ℕ). word_of (state_at old z)) (sym a.2) ∙ laid.was_free t s.rule.member about.member_over p.member about.template.member ns old put is_put k a.0 a.1)
-        ))
+    stays = begun_stays ns put begun
 
     one_stays : state_at put pair.one.0 ≡ state_at old pair.one.0
     one_stays = stays pair.one.0 s.rule.heads.0.0 (ap (net_of s.net).symbol about.one ∙ about.redex.one)

@@ -37,7 +37,7 @@ use Rattle.in_compile.proofs.Public.Accepted as rules
 use Rattle.in_compile.proofs.Public.Sound as members
 use Rattle.in_reducer.specs.declared.body.Body.{Body}
 use Rattle.in_reducer.specs.declared.sides.Pair.{Pair}
-use Rattle.in_reducer.specs.Inside.{AreToolsFor, KeepsNet, declared_as, most_ends, own_free, reducer_view}
+use Rattle.in_reducer.specs.Inside.{KeepsNet, declared_as, most_ends, own_free, reducer_view}
 use Rattle.in_reducer.specs.Interacting.{IsAbout, IsInteracted, PairSetting, interaction_of, named}
 use Rattle.in_reducer.specs.Machines.{MachineParts, parts_of}
 use Rattle.in_reducer.specs.Reducers.{IsReducer}
@@ -144,9 +144,6 @@ module _ (r : Body) (k : KeepsNet r) (i : ℕ) (p : TemplateParts) (at : IsTempl
       let l = free c in
       let e = free_is (at_rest r.arena) c ∙ ap (λ (v : ArenaView). free_of v c) (rests r.arena none) in
       omega (arith, a, b, l, e)
-
-  pub stock_room : AreToolsFor r.checked.now r.tools → (c : CellClass) → count_of p.member.need c ≤ count_of r.tools.stock.room c
-  stock_room tools_for c = let a = tools_for at.number at.rule c at.is_rule.stands in let b = at.template.member.need c in omega (arith, a, b)
 
   -- the pairs of the right member are of its agents
   pub pairs_there : (j : ℕ) (q : ℕ × ℕ) → slice_get p.member.pairs j ≡ Some q → (q.0 < length p.member.agents) × (q.1 < length p.member.agents)

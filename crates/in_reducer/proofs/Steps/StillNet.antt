@@ -19,6 +19,7 @@ use Rattle.in_cells.proofs.Public.{word_kept}
 use Rattle.in_compile.specs.Cells.{is_of}
 use Rattle.in_compile.specs.Members.{MemberParts, IsMemberOf}
 use Rattle.in_compile.specs.Putting.{IsPut}
+use Rattle.in_reducer.specs.Wiring.{HasBegun}
 use Rattle.in_reducer.specs.Placed.{IsNoneOf}
 use Rattle.in_reducer.specs.Standing.{AreLeasedAlike, IsNetIn, at_rest}
 use Rattle.in_reducer.proofs.Cells.AtRest as rest
@@ -49,29 +50,36 @@ retired_good t a b y many live good n = elim (ℕ_discrete n y) [
   | no ne ↦ subst (IsGood t a n) (sym (get_or-set_other b.states y n Vacant Leased ne)) (good n)
 ]
 
-module _ (t : Tables) (n : Parts) (over : IsOver t n) (m : MemberParts) (of : IsMemberOf t n m) (ns : List CellNo) (a b : ArenaView) (put : IsPut m ns a b) (net : IsNetIn t (at_rest a)) where
-  pub put_good : (y : ℕ) → IsGood t a y (state_at b y)
-  put_good y = go (in_or_out ns y)
+module _ (t : Tables) (n : Parts) (over : IsOver t n) (m : MemberParts) (of : IsMemberOf t n m) (ns : List CellNo) (a b : ArenaView) (begun : HasBegun m ns a b) where
+  pub begun_good : IsNetIn t (at_rest a) → (y : ℕ) → IsGood t a y (state_at b y)
+  begun_good net y = go (in_or_out ns y)
     where
       go : laid.InOrOut ns y → IsGood t a y (state_at b y)
-      go (inr out) = subst (IsGood t a y) (sym (put.others y out)) (good_of t a net y)
+      go (inr out) = subst (IsGood t a y) (sym (begun.others y out)) (good_of t a net y)
       go (inl at) =
-          let x = laid.whose t n over m of ns a b put at.0 y at.1 in
-          let there = put.each at.0 x.0 (record { 0 = y }) x.1 at.1 in
-          let number : IsNumberOf a.cells x.0.class y = subst (λ (z : ℕ). IsNumberOf z x.0.class y) put.cells there.0 in
+          let x = laid.begun_whose t n over m of ns a b begun at.0 y at.1 in
+          let there = begun.each at.0 x.0 (record { 0 = y }) x.1 at.1 in
+          let number : IsNumberOf a.cells x.0.class y = subst (λ (z : ℕ). IsNumberOf z x.0.class y) begun.cells there.0 in
           λ c s in_class w. (
-          let same : x.0.symbol.0 ≡ s = (let f : Some x.0.symbol.0 ≡ Some s = sym (ap word_of there.2) ∙ w in cc) in
+          let same : x.0.symbol.0 ≡ s = (let f : Some x.0.symbol.0 ≡ Some s = sym (ap word_of there.2.2) ∙ w in cc) in
           let one : x.0.class ≡ c = numbers_apart a.cells y x.0.class c number in_class in
           subst (λ (d : CellClass). is_of t d s ≡ true) one (subst (λ (z : ℕ). is_of t x.0.class z ≡ true) same (of.classes at.0 x.0 x.1))
           )
 
   -- a cell on lease was so before
-  pub put_leased : (y : ℕ) → IsLeased (state_at b y) → IsLeased (state_at a y)
-  put_leased y leased = go (in_or_out ns y)
+  pub begun_leased : (y : ℕ) → IsLeased (state_at b y) → IsLeased (state_at a y)
+  begun_leased y leased = go (in_or_out ns y)
     where
       go : laid.InOrOut ns y → IsLeased (state_at a y)
-      go (inr out) = subst IsLeased (put.others y out) leased
-      go (inl at) = let x = laid.whose t n over m of ns a b put at.0 y at.1 in absurd (subst IsLeased (put.each at.0 x.0 (record { 0 = y }) x.1 at.1).2 leased)
+      go (inr out) = subst IsLeased (begun.others y out) leased
+      go (inl at) = let x = laid.begun_whose t n over m of ns a b begun at.0 y at.1 in absurd (subst IsLeased (begun.each at.0 x.0 (record { 0 = y }) x.1 at.1).2.2 leased)
+
+module _ (t : Tables) (n : Parts) (over : IsOver t n) (m : MemberParts) (of : IsMemberOf t n m) (ns : List CellNo) (a b : ArenaView) (put : IsPut m ns a b) where
+  pub put_good : IsNetIn t (at_rest a) → (y : ℕ) → IsGood t a y (state_at b y)
+  put_good = begun_good t n over m of ns a b (laid.begun_of t n over m of ns a b put)
+
+  pub put_leased : (y : ℕ) → IsLeased (state_at b y) → IsLeased (state_at a y)
+  put_leased = begun_leased t n over m of ns a b (laid.begun_of t n over m of ns a b put)
 
 -- ---- leases
 

@@ -13,11 +13,6 @@ use Rattle.in_phases.proofs.Coming.{comes_at_once, lent_back}
 use Rattle.in_phases.proofs.CutTimes.{ends_more, gathered_on, times_stay}
 use Rattle.in_phases.proofs.taking.take_part.Goals as goal
 
-pub split-requires-clause-templates : goal.split-requires-clause-templates
-split-requires-clause-templates c =
-    let s = times_stay c.args.reducer.now c.cut_off-cuts.new.reducer c.cut_off-cuts.result c.cut_off-cuts.ensures.cuts in
-    subst (λ (p : Program). AreTemplatesOf p c.args.templates.now) (sym s.program) c.requires.templates
-
 pub split-requires-clause-branch : goal.split-requires-clause-branch
 split-requires-clause-branch c =
     let b = c.gather.new.self in

@@ -1,4 +1,4 @@
-use Rattle.std.proofs.Common.{◌-◌, ◌++◌, List, length, map, take, drop, refl, ap, ◌∙◌, length-drop, arith}
+use Rattle.std.proofs.Common.{◌-◌, ◌++◌, List, length, map, take, drop, refl, sym, ap, subst, ◌∙◌, length-drop, arith}
 use Rattle.std.proofs.lemmas.List.{length-map, length-take-le, take_all}
 use Rattle.in_arena.specs.declared.content.End.{End}
 use Rattle.in_cells.specs.Copying.{moved_end, name_in, number_in}
@@ -20,7 +20,7 @@ numbered_end-requires-in-loop-cut c =
     let fewer = h.fewer in
     let dropped = length-drop own h.rest.now in
     let long = length-take-le (length h.rest.now - own) (drop own h.rest.now) (omega (arith, dropped)) in
-    all_take within (length h.rest.now - own) (drop own h.rest.now) (all_drop within own h.rest.now h.rest_free) c.loop-cut.cut _ (omega (arith, long, fewer))
+    subst within (sym c.index-of_cuts-cut.is) (all_take within (length h.rest.now - own) (drop own h.rest.now) (all_drop within own h.rest.now h.rest_free) c.loop-cut.cut c.index-of_cuts-cut.result (omega (arith, long, fewer)))
 
 pub loop-cut-preserved : goal.loop-cut-preserved
 loop-cut-preserved c =
@@ -31,7 +31,7 @@ loop-cut-preserved c =
     let long = length-take-le (length h.rest.now - own) (drop own h.rest.now) (omega (arith, dropped)) in
     record {
       items = mapped_turn_done (moved_end (name_in h.names.now) (number_in h.part_numbers.now)) (moved_end (λ z. z) (number_in h.rest_numbers.now)) _ _ _ _ h.part.now (take (length h.rest.now - own) (drop own h.rest.now)) c.loop-cut.cut _ _ _ _ (omega arith) (omega (arith, long, fewer))
-          c.loop-cut.invariant.items c.push_reserved-in-loop-cut.ensures.items c.moved_end.ensures c.push_reserved-in-loop-cut-2.ensures.items c.numbered_end-in-loop-cut.ensures;
+          c.loop-cut.invariant.items c.push_reserved-in-loop-cut.ensures.items c.moved_end.ensures c.push_reserved-in-loop-cut-2.ensures.items (c.numbered_end-in-loop-cut.ensures ∙ ap (moved_end (λ z. z) (number_in h.rest_numbers.now)) c.index-of_cuts-cut.is);
       long = omega arith;
       capacity = omega arith;
     }

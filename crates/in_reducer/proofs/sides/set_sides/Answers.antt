@@ -27,12 +27,12 @@ loop-end-preserved c =
     let ns = c.args.next.now.placed.now.cells in
     let own = c.args.next.now.own in
     let x = c.loop-end.end in
-    let u = c.outer.result in
-    let v = c.inner.result in
+    let u = c.of.result in
+    let v = c.of-in-loop-end.result in
     let low : x < length joints = omega (arith, c.boundary_ends-many.ensures) in
     let many : length joints ≡ c.from.result = omega (arith, c.boundary_ends-many.ensures, c.from.ensures) in
-    let outer = outer_read a p x (c.requires.ports x low) c.port-place.result c.port-place.ensures c.port.result c.port.ensures own u c.outer.ensures in
-    let inner : Some v ≡ option_map (inner_of ns (own + c.from.result)) (slice_get joints x) = ap (λ z. Some z) c.inner.ensures ∙ ap (option_map (inner_of ns (own + c.from.result))) (sym c.joint.ensures) in
+    let outer = outer_read a p x (c.requires.ports x low) c.port-place.result c.port-place.ensures c.port.result c.port.ensures own u (c.of.ensures ∙ c.outer.ensures) in
+    let inner : Some v ≡ option_map (inner_of ns (own + c.from.result)) (slice_get joints x) = ap (λ z. Some z) (c.of-in-loop-end.ensures ∙ c.inner.ensures) ∙ ap (option_map (inner_of ns (own + c.from.result))) (sym c.joint.ensures) in
     let more = one_more_set p a joints ns own c.args.ends.now x c.loop-end.ends c.loop-end.invariant low c.requires.room u v outer
     (subst (λ (m : ℕ). Some v ≡ option_map (inner_of ns (own + m)) (slice_get joints x)) (sym many) inner) in
     subst (λ (m : ℕ). AreSetBelow p a joints ns own (length joints) (x + 1) c.args.ends.now (set (set c.loop-end.ends (own + x) u) (own + m + x) v)) many more

@@ -19,8 +19,8 @@ loop-number-preserved c =
     let long = c.loop-number.invariant.long in
     let low : k < length es = omega (arith, long) in
     record {
-      first = one_more_end c.in_ok-placed.placed.cells c.args.start.now.joints k c.joint.result es c.inner.result c.joint.ensures low c.inner.ensures c.loop-number.invariant.first;
-      long = length-set es k c.inner.result ∙ long;
+      first = one_more_end c.in_ok-placed.placed.cells c.args.start.now.joints k c.joint.result es c.of.result c.joint.ensures low (c.of.ensures ∙ c.inner.ensures) c.loop-number.invariant.first;
+      long = length-set es k c.of.result ∙ long;
     }
 
 pub queue_own-requires-clause-there : goal.queue_own-requires-clause-there

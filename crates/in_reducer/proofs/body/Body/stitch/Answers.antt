@@ -1,11 +1,6 @@
-use Rattle.std.proofs.Common.{◌≡◌, ◌≤◌, Some, slice_get, sym, ap, subst, ◌∙◌, arith}
+use Rattle.std.proofs.Common.{◌≡◌, ◌≤◌, length, sym, ap, subst, ◌∙◌, arith}
 use Rattle.in_arena.specs.Arenas.{ArenaView}
-use Rattle.in_arena.specs.Changes.{HasAllCells}
 use Rattle.in_net.specs.NetFaults.{max_member_agents}
-use Rattle.in_check.specs.Programs.{Program}
-use Rattle.in_compile.specs.declared.cells.Need.{Need}
-use Rattle.in_compile.specs.Cells.{agents_of, count_of}
-use Rattle.in_compile.specs.Stocks.{StockParts}
 use Rattle.in_compile.specs.Members.{IsSoundMember}
 use Rattle.in_compile.specs.Placing.{PlacedParts}
 use Rattle.in_compile.specs.Templates.{TemplateParts}
@@ -23,7 +18,7 @@ finish-requires-clause-beside c =
     let p = c.args.done.template in
     let same : c.template-template.result.now ≡ p = c.template-template.ensures in
     let sound = subst IsSoundMember (c.member.ensures ∙ ap (λ (z : TemplateParts). z.member) same) c.is_sound.ensures in
-    let x : Tools = record { stock = r.tools.stock; placed = c.replace-own.new.dest; made = r.tools.made } in
+    let x : Tools = record { placed = c.replace-own.new.dest; made = r.tools.made; points = r.tools.points } in
     let o : Body = record { checked = r.checked; arena = c.settle-settled.new.arena; free = r.free; ends = r.ends; queue = r.queue; tools = x } in
     let cells = ap (λ (z : PlacedParts). z.cells) c.replace-own.ensures.after ∙ c.settle-settled.ensures.numbers.0 in
     (r.arena, subst (StandsBeside o r.arena 0) (sym same) (besides.stands_beside r c.requires.all.net 0 p c.requires.template sound c.args.done.placed c.is_of_template.ensures c.requires.of c.settle-settled.new.arena c.settle-settled.ensures.arena x cells))
@@ -34,7 +29,7 @@ returns-clause-steps c =
     let p = c.args.done.template in
     let same : c.template-template.result.now ≡ p = c.template-template.ensures in
     let sound = subst IsSoundMember (c.member.ensures ∙ ap (λ (z : TemplateParts). z.member) same) c.is_sound.ensures in
-    let x : Tools = record { stock = r.tools.stock; placed = c.replace-own.new.dest; made = r.tools.made } in
+    let x : Tools = record { placed = c.replace-own.new.dest; made = r.tools.made; points = r.tools.points } in
     let o : Body = record { checked = r.checked; arena = c.settle-settled.new.arena; free = r.free; ends = r.ends; queue = r.queue; tools = x } in
     let cells = ap (λ (z : PlacedParts). z.cells) c.replace-own.ensures.after ∙ c.settle-settled.ensures.numbers.0 in
     c.finish.ensures.steps r.arena (subst (StandsBeside o r.arena 0) (sym same) (besides.stands_beside r c.requires.all.net 0 p c.requires.template sound c.args.done.placed c.is_of_template.ensures c.requires.of c.settle-settled.new.arena c.settle-settled.ensures.arena x cells))
@@ -49,23 +44,14 @@ returns-clause-all c =
     let tools = c.finish.ensures.tools in
     let memory = c.finish.ensures.leased.memory ∙ c.settle-settled.ensures.arena.memory in
     let cells = c.finish.ensures.leased.cells ∙ c.settle-settled.ensures.arena.cells in
-    let stock : n.tools.stock.bag ≡ r.tools.stock.bag = ap (λ (s : StockParts). s.bag) tools.stock in
     let placed : c.replace-own.result ≡ r.tools.placed = c.replace-own.ensures.value in
     record {
       net = record { reducer = net.reducer; net = net.net; few = net.few; few_free = net.few_free; free = net.free; ends = net.ends; queue = net.queue };
       tools = record {
-        stock = subst (λ (b : ArenaView). IsNoneOf b n.arena) (sym stock) (still.none_there r.tools.stock.bag r.arena n.arena memory cells k.tools.stock);
-        stock_all = subst HasAllCells (sym stock) k.tools.stock_all;
         placed = subst (λ (p : PlacedParts). IsNoneOf p.bag n.arena) (sym placed) (still.none_there r.tools.placed.bag r.arena n.arena memory cells k.tools.placed);
         room = subst (λ (p : PlacedParts). max_member_agents ≤ p.room) (sym placed) k.tools.room;
         made = tools.made;
         made_room = (let e = tools.made_room in let g = k.tools.made_room in omega (arith, e, g));
+        points = (let e = ap (λ v. length v.items) tools.points in let g = k.tools.points in omega (arith, e, g));
       };
-      tools_for = λ j rule class stands. (
-          let need : n.tools.stock.room ≡ r.tools.stock.room = ap (λ (s : StockParts). s.room) tools.stock in
-          let same : n.checked.now ≡ r.checked.now = ap (λ x. x.now) c.finish.ensures.program in
-          subst (λ (z : Need). agents_of n.checked.now.tables class rule.member.cells ≤ count_of z class) (sym need)
-          (subst (λ (p : Program). agents_of p.tables class rule.member.cells ≤ count_of r.tools.stock.room class) (sym same)
-          (k.tools_for j rule class (subst (λ (p : Program). slice_get p.rules j ≡ Some rule) same stands)))
-          );
     }

@@ -46,10 +46,10 @@ returns-clause-cut c =
     let is_kind = c.port-kind.ensures ∙ ap (λ (t : Tables). port_at t c.symbol.result.0 c.args.place) c.symbols.ensures in
     let first = c.push_reserved.ensures.items ∙ ap (λ (z : List OwnEnd). z ++ Cut kind ∷ []) c.make_room.ensures.free in
     let new = c.push_reserved-2.ensures.items ∙ ap (λ (z : List OwnEnd). z ++ Cut c.opposite_of.result ∷ []) first ∙ ap (λ (z : PortType). (r.free.items ++ Cut kind ∷ []) ++ Cut z ∷ []) c.opposite_of.ensures in
-    let list = c.push_reserved-4.ensures.items ∙ ap (λ (z : List End). z ++ Free 0 ∷ []) (c.push_reserved-3.ensures.items ∙ ap (λ (z : List End). z ++ Free 0 ∷ []) items) in
+    let list = c.push_reserved-4.ensures.items ∙ ap (λ (z : List End). z ++ c.free-2.result ∷ []) (c.push_reserved-3.ensures.items ∙ ap (λ (z : List End). z ++ c.free.result ∷ []) items) in
     cuts_there _ _ _ c.args.cell.0 c.args.place c.self.view_is
     (cut_off.cuts r k c.args.cell.0 c.args.place can c.cut.new.arena es c.cut.ensures.kept long c.len-own.result own c.as_mut_slice.result.now value
-    (c.cut.ensures.cut (signature_of r.checked.now.tables)) c.symbol.result c.symbol.ensures kind is_kind c.push_reserved-2.new.self.items new (Free 0) (Free 0) c.push_reserved-4.new.self.items list c.self.invariant.none)
+    (c.cut.ensures.cut (signature_of r.checked.now.tables)) c.symbol.result c.symbol.ensures kind is_kind c.push_reserved-2.new.self.items new c.free.result c.free-2.result c.push_reserved-4.new.self.items list c.self.invariant.none)
 
 pub invariant_of-self-2 : goal.invariant_of-self-2
 invariant_of-self-2 c =
@@ -71,37 +71,35 @@ invariant_of-self-2 c =
     let first = c.push_reserved.ensures.items ∙ ap (λ (z : List OwnEnd). z ++ Cut kind ∷ []) c.make_room.ensures.free in
     let second = c.push_reserved-2.ensures.items ∙ ap (λ (z : List OwnEnd). z ++ Cut c.opposite_of.result ∷ []) first in
     let new = second ∙ ap (λ (z : PortType). (r.free.items ++ Cut kind ∷ []) ++ Cut z ∷ []) c.opposite_of.ensures in
-    let list = c.push_reserved-4.ensures.items ∙ ap (λ (z : List End). z ++ Free 0 ∷ []) (c.push_reserved-3.ensures.items ∙ ap (λ (z : List End). z ++ Free 0 ∷ []) items) in
+    let list = c.push_reserved-4.ensures.items ∙ ap (λ (z : List End). z ++ c.free-2.result ∷ []) (c.push_reserved-3.ensures.items ∙ ap (λ (z : List End). z ++ c.free.result ∷ []) items) in
     let alike = still.kept_alike r.arena b kept in
     let few : length r.free.items + 2 ≤ most_free = (let m = cut_off.free_many r k in let v = ap (λ (m : MachineParts). length m.free) c.self.view_is in let f = c.requires.few in omega (arith, m, v, f)) in
     record {
       all = record {
         net = record {
           reducer = cut_off.is_reducer r k c.args.cell.0 c.args.place can b es kept long c.len-own.result own c.as_mut_slice.result.now value
-              (c.cut.ensures.cut (signature_of r.checked.now.tables)) c.symbol.result c.symbol.ensures kind is_kind c.push_reserved-2.new.self.items new (Free 0) (Free 0) c.push_reserved-4.new.self.items list;
+              (c.cut.ensures.cut (signature_of r.checked.now.tables)) c.symbol.result c.symbol.ensures kind is_kind c.push_reserved-2.new.self.items new c.free.result c.free-2.result c.push_reserved-4.new.self.items list;
           net = cut_off.still_net r k c.args.cell.0 c.args.place can b es kept long c.len-own.result own c.as_mut_slice.result.now value
-              (c.cut.ensures.cut (signature_of r.checked.now.tables)) c.symbol.result c.symbol.ensures kind is_kind c.push_reserved-2.new.self.items new (Free 0) (Free 0) c.push_reserved-4.new.self.items list;
+              (c.cut.ensures.cut (signature_of r.checked.now.tables)) c.symbol.result c.symbol.ensures kind is_kind c.push_reserved-2.new.self.items new c.free.result c.free-2.result c.push_reserved-4.new.self.items list;
           few = (let e = kept.cells in let f = k.few in omega (arith, e, f));
           few_free = (let n = cut_off.two_longer r.free.items (Cut kind) (Cut c.opposite_of.result) c.push_reserved-2.new.self.items second in omega (arith, few, n));
           free = cut_off.own_ends r.checked.now r.free.items kind _ c.push_reserved-2.new.self.items new k.free;
           ends = (
               let f = k.ends in
               let n = cut_off.two_longer r.free.items (Cut kind) (Cut c.opposite_of.result) c.push_reserved-2.new.self.items second in
-              let m = cut_off.two_longer es (Free 0) (Free 0) c.push_reserved-4.new.self.items list in
+              let m = cut_off.two_longer es c.free.result c.free-2.result c.push_reserved-4.new.self.items list in
               omega (arith, f, n, m, long)
               );
           queue = (let f = k.queue in let e = kept.cells in omega (arith, f, e));
         };
         tools = record {
-          stock = still.still_none r.tools.stock.bag r.arena b alike tools.stock;
-          stock_all = tools.stock_all;
           placed = still.still_none r.tools.placed.bag r.arena b alike tools.placed;
           room = tools.room;
           made = tools.made;
           made_room = tools.made_room;
+          points = tools.points;
         };
-        tools_for = c.self.invariant.all.tools_for;
       };
       none = cut_off.none_after r k c.args.cell.0 c.args.place can b es kept long c.len-own.result own c.as_mut_slice.result.now value
-          (c.cut.ensures.cut (signature_of r.checked.now.tables)) c.symbol.result c.symbol.ensures kind is_kind c.push_reserved-2.new.self.items new (Free 0) (Free 0) c.push_reserved-4.new.self.items list c.self.invariant.none;
+          (c.cut.ensures.cut (signature_of r.checked.now.tables)) c.symbol.result c.symbol.ensures kind is_kind c.push_reserved-2.new.self.items new c.free.result c.free-2.result c.push_reserved-4.new.self.items list c.self.invariant.none;
     }

@@ -301,14 +301,12 @@ invariant_of-self c =
           queue = (let f = k.queue in let e = copied.cells in let h = anew.cells in let g = c.add_pairs.ensures.room in omega (arith, e, f, g, h));
         };
         tools = record {
-          stock = still.still_none r.tools.stock.bag r.arena b alike tools.stock;
-          stock_all = tools.stock_all;
           placed = still.still_none r.tools.placed.bag r.arena b alike tools.placed;
           room = tools.room;
           made = tools.made;
           made_room = tools.made_room;
+          points = tools.points;
         };
-        tools_for = c.self.invariant.all.tools_for;
       };
       none = together.none_after r o k l apart.can agents live (number_in rest_numbers) a anew part_numbers ns b copied c.self.invariant.none;
     }

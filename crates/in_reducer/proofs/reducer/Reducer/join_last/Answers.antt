@@ -146,14 +146,12 @@ invariant_of-self c =
           queue = (let f = k.queue in let e = kept.cells in let q = c.queue_made.ensures.room in omega (arith, f, e, q));
         };
         tools = record {
-          stock = still.still_none r.tools.stock.bag r.arena b alike tools.stock;
-          stock_all = tools.stock_all;
           placed = still.still_none r.tools.placed.bag r.arena b alike tools.placed;
           room = tools.room;
           made = c.queue_made.ensures.none;
           made_room = (let f = tools.made_room in let g = c.join_last.ensures.capacity in let h = c.queue_made.ensures.made_room in omega (arith, f, g, h));
+          points = tools.points;
         };
-        tools_for = c.self.invariant.all.tools_for;
       };
       none = rejoined.none_after r k two own is_own b es kept long joins can new is_new c.self.invariant.none;
     }

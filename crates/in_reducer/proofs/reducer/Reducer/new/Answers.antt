@@ -7,7 +7,7 @@ use Rattle.in_compile.specs.Cells.{count_of}
 use Rattle.in_compile.specs.Templates.{TemplateParts}
 use Rattle.in_reducer.specs.declared.body.Body.{Body}
 use Rattle.in_reducer.specs.declared.tools.Tools.{Tools}
-use Rattle.in_reducer.specs.Inside.{AreTools, IsKept, reducer_view}
+use Rattle.in_reducer.specs.Inside.{AreTools, IsKept, most_ends, reducer_view}
 use Rattle.in_reducer.specs.Starts.{IsStart}
 use Rattle.in_reducer.proofs.Starts.StartKept.{is_kept, member_is, starts}
 use Rattle.in_reducer.proofs.Starts.StartNet.{all_free, empty_none, enough, few_joints, few_pairs, has_joint, has_pair}
@@ -20,7 +20,7 @@ lay-requires c =
     let m = c.start.result.now in
     let of = member_is p c.args.templates.now m c.requires.templates c.start.ensures in
     let a = c.in_ok-fresh.fresh.arena in
-    let fresh = c.in_ok-fresh.ensures.fresh in
+    let fresh = c.in_ok-fresh.ensures in
     record {
       free = enough h.0 p h.1 m of c.args.cells _ c.requires.fits (all_free a c.args.cells fresh.cells fresh.empty p.tables);
       few = few_joints h.0 p h.1 m of;
@@ -32,7 +32,7 @@ lay-requires c =
 
 pub drop-fresh-requires : goal.drop-fresh-requires
 drop-fresh-requires c =
-    let fresh = c.in_ok-fresh.ensures.fresh in
+    let fresh = c.in_ok-fresh.ensures in
     subst NoneLeased (sym c.in_err-ends.ensures.refused) (empty_none c.in_ok-fresh.fresh.arena c.args.cells fresh.cells fresh.empty)
 
 pub invariant_of-result : goal.invariant_of-result
@@ -40,22 +40,21 @@ invariant_of-result c =
     let h = c.is_accepted.ensures in
     let p = c.args.checked.now in
     let f = c.lay.new.fresh in
-    let fresh = c.in_ok-fresh.ensures.fresh in
+    let fresh = c.in_ok-fresh.ensures in
     let laid = c.in_ok-ends.ensures.laid in
     let x : Body = record { checked = c.args.checked; arena = f.arena; free = c.in_ok-free.free; ends = c.in_ok-ends.ends; queue = f.queue; tools = f.tools } in
-    let room : length classes * c.args.cells ≤ 2 * deque_capacity f.queue + 1 = (let r = laid.room in let s = fresh.queue_room in omega (arith, r, s)) in
+    let room : length classes * c.args.cells + 2 * most_ends ≤ 2 * deque_capacity f.queue + 1 = (let r = laid.room in let s = fresh.queue_room in omega (arith, r, s)) in
     let tools = subst (λ (t : Tools). AreTools t c.in_ok-fresh.fresh.arena) (sym laid.tools) fresh.tools in
-    let fit = subst (λ (t : Tools). (k : ℕ) (q : TemplateParts) (d : CellClass) → slice_get c.args.templates.now.templates k ≡ Some q → count_of q.member.need d ≤ count_of t.stock.room d) (sym laid.tools) c.in_ok-fresh.ensures.fit in
     subst IsKept (sym c.into_body.ensures)
     (is_kept h.0 x h.1 c.args.templates.now c.requires.templates c.start.result.now c.start.ensures c.args.cells c.requires.cells c.in_ok-fresh.fresh.arena fresh.cells fresh.empty laid.names laid.put laid.first laid.long laid.queue
-    (c.in_ok-free.ensures.program p (sym c.net.ensures)) room tools fit (c.in_ok-free.ensures.each p (sym c.net.ensures)))
+    (c.in_ok-free.ensures.program p (sym c.net.ensures)) room tools (c.in_ok-free.ensures.each p (sym c.net.ensures)))
 
 pub returns : goal.returns
 returns c =
     let h = c.is_accepted.ensures in
     let p = c.args.checked.now in
     let f = c.lay.new.fresh in
-    let fresh = c.in_ok-fresh.ensures.fresh in
+    let fresh = c.in_ok-fresh.ensures in
     let laid = c.in_ok-ends.ensures.laid in
     let x : Body = record { checked = c.args.checked; arena = f.arena; free = c.in_ok-free.free; ends = c.in_ok-ends.ends; queue = f.queue; tools = f.tools } in
     subst (λ (b : Body). IsStart p c.args.cells (reducer_view b)) (sym c.into_body.ensures)

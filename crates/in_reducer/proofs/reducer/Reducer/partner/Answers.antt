@@ -30,5 +30,5 @@ returns-in-Free c =
     let there = subst (λ (m : MachineParts). IsPointOf (parts_of m) (point_at c.args.end)) (sym c.self.view_is) c.requires in
     let low : c.in-Free.number < length (leading_to free es) = subst (λ (e : End). IsPointOf (parts_of (reducer_view c.self.inside.body)) (point_at e)) c.in-Free.is there in
     let at = read_at es c.in-Free.number c.index.result.now (free_below free es c.in-Free.number low) c.index.ensures in
-    subst (λ (m : MachineParts). partner_in (parts_of m) (point_at c.args.end) ≡ Some (point_at c.index.result.now)) c.self.view_is
-    (ap (λ (e : End). partner_in (parts_of (reducer_view c.self.inside.body)) (point_at e)) c.in-Free.is ∙ free_leads free es c.in-Free.number c.index.result.now low at)
+    subst (λ (m : MachineParts). partner_in (parts_of m) (point_at c.args.end) ≡ Some (point_at c.end.result)) c.self.view_is
+    (ap (λ (e : End). partner_in (parts_of (reducer_view c.self.inside.body)) (point_at e)) c.in-Free.is ∙ free_leads free es c.in-Free.number c.index.result.now low at ∙ ap (λ (e : End). Some (point_at e)) (sym c.end.ensures))

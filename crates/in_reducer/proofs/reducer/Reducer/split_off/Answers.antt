@@ -1,5 +1,6 @@
 use Rattle.std.proofs.Common.{◌≡◌, ◌<◌, ◌+◌, ℕ, List, length, take, slice_get, sym, ap, subst, ◌∙◌, arith}
 use Rattle.std.proofs.lemmas.List.{length-map, length-take-le}
+use Rattle.std.specs.VecDeque.{deque_capacity}
 use Rattle.in_arena.specs.declared.content.CellNo.{CellNo}
 use Rattle.in_arena.specs.declared.content.End.{End}
 use Rattle.in_arena.specs.declared.content.End.TheVariants.{Free}
@@ -17,7 +18,6 @@ use Rattle.in_reducer.proofs.Parts.SplitCells as cells
 use Rattle.in_reducer.proofs.Parts.SplitKept as kept
 use Rattle.in_reducer.proofs.Parts.SplitNets as nets
 use Rattle.in_reducer.proofs.Parts.SplitOff.{known, loses, pieces, stay_part}
-use Rattle.in_reducer.proofs.Starts.StartKept.{tools_fit}
 use Rattle.in_reducer.proofs.Starts.StartNet.{all_free}
 use Rattle.in_reducer.proofs.reducer.Reducer.split_off.Goals as goal
 
@@ -204,7 +204,7 @@ split_queue-requires-clause-part c =
       rest_ends = c.fill_rest.ensures.ends;
       part_ends = c.fill_part.ensures.ends;
     }) in
-    (fresh.queue, kept.few_pairs r k a own cuts can x h c.requires.cells _ fresh.queue_room)
+    (fresh.queue, kept.few_pairs r k a own cuts can x h c.requires.cells (deque_capacity f.queue) (let e = fresh.queue_room in omega (arith, e)))
 
 pub invariant_of-self : goal.invariant_of-self
 invariant_of-self c =
@@ -248,7 +248,6 @@ invariant_of-self c =
           queue = (let e = h.lost.cells in let l = k.queue in let g = c.split_queue.ensures.rest_room in omega (arith, e, l, g));
         };
         tools = kept.tools_stay r.tools r.arena x.left (cells.rest_alike r k a own cuts can (number_in x.rest_numbers) x.left h.lost) c.self.invariant.all.tools;
-        tools_for = c.self.invariant.all.tools_for;
       };
       none = cells.rest_none r k a own cuts can (number_in x.rest_numbers) x.left h.lost c.self.invariant.none;
     }
@@ -282,8 +281,6 @@ invariant_of-result c =
       rest_ends = c.fill_rest.ensures.ends;
       part_ends = c.fill_part.ensures.ends;
     }) in
-    let program : c.args.self.now.program ≡ r.checked.now = sym (ap (λ (m : MachineParts). m.program) c.self.view_is) in
-    let fit = tools_fit r.checked.now c.args.templates.now f.tools (subst (λ (p : Program). AreTemplatesOf p c.args.templates.now) program c.requires.templates) c.in_ok-room.ensures.fit in
     let o = c.split_queue.new.part.items in
     subst IsKept (sym c.into_body.ensures) (record {
       all = record {
@@ -297,7 +294,6 @@ invariant_of-result c =
           queue = (let e = h.copied.cells in let same = h.same in let l = fresh.queue_room in let g = c.split_queue.ensures.part_room in omega (arith, e, same, l, g));
         };
         tools = kept.tools_stay f.tools f.arena x.new (cells.part_alike r k a own cuts can x.numbers x.names x.size x.first x.new h.same h.empty h.copied) fresh.tools;
-        tools_for = fit;
       };
       none = cells.part_none r k a own cuts can x.numbers x.names x.size x.first x.new h.same h.empty h.copied;
     })

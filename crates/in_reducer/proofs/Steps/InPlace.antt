@@ -1,0 +1,194 @@
+-- An interaction in place, of a pair of a reducer: what its steps owe, and what it leaves.
+use Rattle.std.proofs.Common.{◌≡◌, ◌<◌, ◌≤◌, ◌+◌, ℕ, List, [], ◌++◌, map, remove, reverse, length, length-append, get_or, slice_get, Some, refl, sym, ap, subst, ◌∙◌, arith}
+use Rattle.std.specs.VecDeque.{deque_capacity}
+use Rattle.std.proofs.lemmas.List.{length-map, length-reverse, length-set, take_all}
+use Rattle.std.proofs.lemmas.List.Edits.{length-remove}
+use Rattle.std.specs.Prelude.{IsTrue}
+use Rattle.std.proofs.lemmas.Option.{same_Some, slice_get_within}
+use Rattle.in_arena.specs.Arenas.{ArenaView, NoneLeased, changed, state_at}
+use Rattle.in_arena.specs.Changes.{HasAllCells}
+use Rattle.in_arena.specs.States.{Vacant, IsLeased, IsLive}
+use Rattle.in_arena.specs.declared.content.CellClass.TheVariants.{Small}
+use Rattle.in_arena.specs.declared.content.CellNo.{CellNo}
+use Rattle.in_arena.specs.declared.content.End.{End}
+use Rattle.in_symbols.specs.Tables.{Tables}
+use Rattle.in_net.specs.declared.nets.AgentNo.{AgentNo}
+use Rattle.in_net.specs.Nets.{Point, net_of}
+use Rattle.in_interaction.specs.Made.{AreMadeOverEnds}
+use Rattle.in_interaction.specs.Queues.{agents_at, both, numbers_of}
+use Rattle.in_cells.specs.Cells.{KeepsCells}
+use Rattle.in_compile.specs.Templates.{TemplateParts}
+use Rattle.in_compile.specs.Wires.{over_of, over_point}
+use Rattle.in_compile.proofs.Public.{over_ends}
+use Rattle.in_overwriting.specs.MadeByWires.{AreOverEnds, MakeInTurn}
+use Rattle.in_overwriting.proofs.Public.{wires_make_pairs_in_turn}
+use Rattle.in_reducer.specs.declared.body.Body.{Body}
+use Rattle.in_reducer.specs.declared.sides.Pair.{Pair}
+use Rattle.in_reducer.specs.Inside.{KeepsNet, most_ends, most_points, own_free, reducer_view}
+use Rattle.in_reducer.specs.Interacting.{IsAbout, IsInteracted, PairSetting, interaction_of, named}
+use Rattle.in_reducer.specs.Machines.{MachineParts}
+use Rattle.in_reducer.specs.Reducers.{IsReducer}
+use Rattle.in_reducer.specs.Standing.{IsNetIn, AreLeasedAlike, agents_in, at_rest, leading_to, vacant_in}
+use Rattle.in_reducer.specs.Steps.{HasRoomAt, StepsAt}
+use Rattle.in_reducer.specs.Templates.{IsTemplateAt}
+use Rattle.in_reducer.specs.Wiring.{CanWireUp, IsWiredUp, IsWiring, wires_of}
+use Rattle.in_reducer.proofs.Cells.Counted.{cells_at_rest}
+use Rattle.in_reducer.proofs.Cells.Looked.{read_at as looked}
+use Rattle.in_reducer.proofs.Pairs.Queues.{short_queue}
+use Rattle.in_reducer.proofs.Steps.CanWire as can
+use Rattle.in_reducer.proofs.Steps.StillNet as still
+use Rattle.in_reducer.proofs.Steps.Stepped as stepped
+
+module _ (r : Body) (k : KeepsNet r) (i : ℕ) (p : TemplateParts) (at : IsTemplateAt (reducer_view r) i p) where
+  abbrev t : Tables
+  t = r.checked.now.tables
+
+  abbrev pub setting : PairSetting
+  setting = stepped.setting r k i p at
+
+  -- as many free ends as are told
+  abbrev pub own_ends : ℕ
+  own_ends = length (own_free r)
+
+  -- the pair that is read of the queue
+  module _ (q : ℕ × ℕ) (read : q ≡ get_or r.queue.items i q) (first : ℕ) (is_first : first ≡ p.first_ends) (ends : List End) (is_ends : ends ≡ r.ends.items) where
+    abbrev pub pair_read : Pair
+    pair_read = record { one = record { 0 = q.0 }; other = record { 0 = q.1 }; first_ends = first }
+
+    same_pair : at.pair ≡ q
+    same_pair = same_Some at.pair q (sym at.stands ∙ looked r.queue.items i q (slice_get_within r.queue.items i at.pair at.stands) read)
+
+    pub about_in : (tables : Tables) → tables ≡ t → IsAbout tables setting p pair_read own_ends r.arena ends
+    about_in tables same =
+        stepped.is_about r k i p at tables same pair_read (ap (λ (z : ℕ × ℕ). z.0) (sym same_pair)) (ap (λ (z : ℕ × ℕ). z.1) (sym same_pair)) is_first own_ends refl ends is_ends
+
+    pub can_wire_up : (tables : Tables) → tables ≡ t → HasRoomAt (reducer_view r) i → NoneLeased r.arena → HasAllCells r.arena → IsTrue p.unmarked → (points : List End) → most_points ≤ length points → CanWireUp tables p pair_read r.arena ends points
+    can_wire_up tables same room none all unmarked points long = record {
+      about = (setting, own_ends, about_in tables same);
+      unmarked = unmarked;
+      begin = record { all = all; free = stepped.enough r k i p at none room; few = stepped.few_agents r k i p at; long = long };
+      few = stepped.few_joints r k i p at;
+    }
+
+  -- one pair fewer and those that an interaction makes fit the queue
+  pub over_room : (rest : List (ℕ × ℕ)) → rest ≡ remove r.queue.items i → length rest + most_ends ≤ deque_capacity r.queue
+  over_room rest same =
+      let short = short_queue (reducer_view r) k.reducer in
+      let one = k.reducer.cells.2 Small in
+      let other = cells_at_rest t r.arena k.net Small in
+      let room = k.queue in
+      let low = slice_get_within r.queue.items i at.pair at.stands in
+      let gone = ap length same in
+      let fewer = length-remove r.queue.items i low in
+      omega (arith, short, one, other, room, gone, fewer)
+
+  module _ (room : HasRoomAt (reducer_view r) i) (none : NoneLeased r.arena) (pair : Pair) (own : ℕ) (is_own : own ≡ length (own_free r)) (ends : List End) (about : IsAbout t setting p pair own r.arena ends)
+      (old : List (ℕ × ℕ)) (a : ArenaView) (es points : List End) (middle : List (ℕ × ℕ)) (up : IsWiredUp t p pair r.arena ends old a es points middle) where
+    abbrev ns : List CellNo
+    ns = up.cells
+
+    wiring : IsWiring t setting p own ns points (length (wires_of p.member)) a es
+    wiring = up.written setting own about
+
+    pub one_live : IsLive (state_at a pair.one.0)
+    one_live = can.one_live t setting p pair own ns points a es about.one about.two wiring
+
+    pub other_live : IsLive (state_at (changed a pair.one.0 Vacant) pair.other.0)
+    other_live = can.other_live t setting p pair own ns points a es about.one about.two wiring
+
+    -- the pairs of the right member are of agents that have cells
+    pub pairs_there : (j : ℕ) (q : ℕ × ℕ) → slice_get p.member.pairs j ≡ Some q → (q.0 < length ns) × (q.1 < length ns)
+    pairs_there j q e =
+        let there = stepped.pairs_there r k i p at j q e in
+        let many = up.begun.count in
+        ((let l = there.0 in omega (arith, l, many)), (let l = there.1 in omega (arith, l, many)))
+
+    abbrev pub qs : List (AgentNo × AgentNo)
+    qs = (up.queued setting own about).0
+
+    -- the pairs over boundary ends, the last one first
+    abbrev made : List (ℕ × ℕ)
+    made = map numbers_of (reverse qs)
+
+    over_many : length (over_of p.member) ≡ length (map over_point (over_of p.member))
+    over_many = sym (length-map (over_of p.member) over_point)
+
+    in_turn : MakeInTurn t setting.net setting.rule setting.one setting.two (named ns) (map over_point (over_of p.member)) qs
+    in_turn =
+        subst (λ (ws : List (ℕ × Point ℕ)). MakeInTurn t setting.net setting.rule setting.one setting.two (named ns) ws qs)
+        (take_all (length (over_of p.member)) (map over_point (over_of p.member)) (let l = over_many in omega (arith, l))) (up.queued setting own about).1
+
+    over : AreMadeOverEnds t setting.net setting.rule setting.one setting.two (named ns) qs
+    over =
+        (wires_make_pairs_in_turn t setting.net setting.rule setting.one setting.two (named ns) (map over_point (over_of p.member)) qs wiring.from.can
+        (over_ends t at.rule.member p.member at.template.member)).0 in_turn
+
+    module _ (b : ArenaView) (retired : b ≡ changed (changed a pair.one.0 Vacant) pair.other.0 Vacant) (long : length es ≡ length r.ends.items) where
+      did : IsInteracted t setting own ns b es [] made
+      did = (can.is_done t setting p pair own ns points a es about.one about.two wiring b retired, (qs, refl, over))
+
+      -- ---- the cells
+
+      as_many : length b.states ≡ length r.arena.states
+      as_many =
+          ap (λ (b : ArenaView). length b.states) retired ∙ length-set (changed a pair.one.0 Vacant).states pair.other.0 Vacant ∙ length-set a.states pair.one.0 Vacant
+          ∙ still.as_many up.middle a up.kept ∙ up.begun.many
+
+      pub cells : b.cells ≡ r.arena.cells
+      cells = ap (λ (b : ArenaView). b.cells) retired ∙ up.kept.cells ∙ up.begun.cells
+
+      pub memory : b.memory ≡ r.arena.memory
+      memory = ap (λ (b : ArenaView). b.memory) retired ∙ up.kept.memory ∙ up.begun.memory
+
+      pub net : IsNetIn t (at_rest b)
+      net =
+          let good = still.kept_good up.middle a up.kept t r.arena (still.begun_good t at.rule.member at.is_rule.over.member p.member at.template.member ns r.arena up.middle up.begun k.net) in
+          let many = still.as_many up.middle a up.kept ∙ up.begun.many in
+          let first = still.retired_good t r.arena a pair.one.0 many one_live good in
+          let second = still.retired_good t r.arena (changed a pair.one.0 Vacant) pair.other.0 (length-set a.states pair.one.0 Vacant ∙ many) other_live first in
+          still.net_in t r.arena b k.net.all cells as_many (λ n. subst (λ (b : ArenaView). still.IsGood t r.arena n (state_at b n)) (sym retired) (second n))
+
+      alike : AreLeasedAlike up.middle b
+      alike =
+          still.alike_through up.middle a b (still.kept_alike up.middle a up.kept)
+          (still.alike_through a (changed a pair.one.0 Vacant) b (still.retired_alike a (changed a pair.one.0 Vacant) pair.one.0 one_live refl)
+          (still.retired_alike (changed a pair.one.0 Vacant) b pair.other.0 other_live retired))
+
+      pub none_leased : NoneLeased b
+      none_leased n low leased =
+          let same = alike.many in
+          let all = as_many in
+          let before = alike.none n (let l : n < length up.middle.states = omega (arith, low, same) in l) leased in
+          none n (let l : n < length r.arena.states = omega (arith, low, all) in l) (still.begun_leased t at.rule.member at.is_rule.over.member p.member at.template.member ns r.arena up.middle up.begun n before)
+
+      -- ---- the queue
+
+      module _ (removed : old ≡ remove r.queue.items i) where
+        is_middle : middle ≡ old ++ reverse made
+        is_middle = (up.queued setting own about).2 ∙ ap (λ (z : List (ℕ × ℕ)). old ++ z) (sym (stepped.turned_back numbers_of qs))
+
+        -- there is room for the pairs of the right member
+        pub own_room : length middle + length p.member.pairs ≤ deque_capacity r.queue
+        own_room =
+            let few = stepped.lengths r k i p at room own is_own ns b es made did net cells long in
+            let m = ap length is_middle ∙ length-append old (reverse made) in
+            let o = ap length removed in
+            let l = length-reverse made in
+            omega (arith, few, m, o, l)
+
+        module _ (queue : List (ℕ × ℕ)) (is_queue : queue ≡ middle ++ map (both (named ns)) p.member.pairs) where
+          final : queue ≡ stepped.final r k i p at room own is_own ns b es made did net cells long
+          final = stepped.in_turn r k i p at room own is_own ns b es made did net cells long old middle queue removed is_middle is_queue
+
+          abbrev pub seen : List End → MachineParts
+          seen zs = record { program = r.checked.now; agents = agents_in b; free = leading_to (own_free r) zs; queue = queue; vacant = vacant_in (at_rest b) }
+
+          pub steps : (zs : List End) → zs ≡ es → StepsAt (reducer_view r) i (seen zs)
+          steps zs is = subst (λ (z : List End). StepsAt (reducer_view r) i (seen z)) (sym is)
+              (subst (λ (z : List (ℕ × ℕ)). StepsAt (reducer_view r) i (stepped.after r k i p at room own is_own ns b es made did net cells long z)) (sym final)
+              (stepped.is_step r k i p at room own is_own ns b es made did net cells long))
+
+          pub is_reducer : (zs : List End) → zs ≡ es → IsReducer (seen zs)
+          is_reducer zs is = subst (λ (z : List End). IsReducer (seen z)) (sym is)
+              (subst (λ (z : List (ℕ × ℕ)). IsReducer (stepped.after r k i p at room own is_own ns b es made did net cells long z)) (sym final)
+              (stepped.reducer_after r k i p at room own is_own ns b es made did net cells long))

@@ -1,0 +1,110 @@
+-- The points of a right member, filled one after another.
+use Rattle.std.proofs.Common.{◌≡◌, ◌≢◌, ◌⊎◌, inl, inr, ◌<◌, ◌≤◌, ◌+◌, ℕ, Some, List, [], ◌∷◌, ◌++◌, length, length-append, map, set, slice_get, sym, ap, subst, ◌∙◌, arith}
+use Rattle.std.specs.Prelude.{slice_index_or}
+use Rattle.std.proofs.lemmas.List.{length-map, length-set}
+use Rattle.std.proofs.lemmas.Bool.{cases_eq}
+use Rattle.std.proofs.lemmas.Option.{get_or_from_slice_get, same_Some}
+use Rattle.in_base.proofs.Places.{kept_at, last_at, set_here, set_there}
+use Rattle.std.specs.List.{enumerate_from}
+use Rattle.std.proofs.lemmas.List.FromFn.{length-enumerate_from}
+use Rattle.std.proofs.lemmas.List.Sums.{count_by-le-length, length-filter}
+use Rattle.in_arena.specs.Arenas.{ArenaView}
+use Rattle.in_arena.specs.Classes.{IsNumberOf}
+use Rattle.in_arena.specs.States.{word_of}
+use Rattle.in_arena.specs.declared.content.CellNo.{CellNo}
+use Rattle.in_arena.specs.declared.content.End.{End}
+use Rattle.in_arena.specs.declared.content.End.TheVariants.{Cell}
+use Rattle.in_net.specs.Nets.{Point, Free}
+use Rattle.in_compile.specs.Members.{MemberParts}
+use Rattle.in_compile.specs.Putting.{AreBegunBelow}
+use Rattle.in_compile.specs.Wires.{both_points, is_from_lowest, over_of, over_point, within_of}
+use Rattle.in_compile.proofs.Public.{read_at}
+use Rattle.in_reducer.proofs.Cells.Looked.{read_at as looked}
+use Rattle.in_reducer.specs.declared.sides.Pair.{Pair}
+use Rattle.in_reducer.specs.Sides.{end_there, port_at}
+use Rattle.in_reducer.specs.Wiring.{AreAtAgents, HasBegun, wires_of}
+
+-- ---- agents
+
+pub none_at : (points : List End) → AreAtAgents [] points
+none_at points k low = absurd (let l : k < 0 = low in omega (arith, l))
+
+-- the next agent's point comes after those of the ones before
+module _ (ns : List CellNo) (n : CellNo) (points : List End) (x : ℕ) (here : length ns ≡ x) (long : 32 + x < length points) (v : End) (is : v ≡ Cell n 0) (at : AreAtAgents ns points) where
+  abbrev more : List CellNo
+  more = ns ++ n ∷ []
+
+  stands : (k : ℕ) (m : CellNo) → slice_get more k ≡ Some m → slice_index_or more k (record { 0 = 0 }) ≡ m
+  stands k m e = get_or_from_slice_get more k m (record { 0 = 0 }) e
+
+  pub one_more_at : AreAtAgents (ns ++ n ∷ []) (set points (32 + x) v)
+  one_more_at k low = go (cases_eq k x)
+    where
+      go : (k ≡ x) ⊎ (k ≢ x) → slice_get (set points (32 + x) v) (32 + k) ≡ Some (Cell (slice_index_or more k (record { 0 = 0 })) 0)
+      go (inl same) =
+          let last : slice_get more k ≡ Some n = ap (slice_get more) (same ∙ sym here) ∙ last_at ns n in
+          ap (λ (z : ℕ). slice_get (set points (32 + x) v) (32 + z)) same ∙ set_here points (32 + x) v long
+          ∙ ap (λ (e : End). Some e) is ∙ ap (λ (m : CellNo). Some (Cell m 0)) (sym (stands k n last))
+      go (inr other) =
+          let l : k < length ns = (let m = length-append ns (n ∷ []) in omega (arith, low, m, other, here)) in
+          let old = kept_at ns (n ∷ []) k (slice_index_or ns k (record { 0 = 0 })) (read_at ns k l) in
+          set_there points (32 + x) (32 + k) v (λ f. other (let g : k ≡ x = omega (arith, f) in g)) ∙ at k l
+          ∙ ap (λ (m : CellNo). Some (Cell m 0)) (sym (stands k (slice_index_or ns k (record { 0 = 0 })) old))
+
+-- ---- boundary ends
+
+-- the first x of them are read, and other points are as they were
+pub record AreRead (a : ArenaView) (p : Pair) (x : ℕ) (old new : List End) : Type 0 where
+  pub read : (e : ℕ) → e < x → slice_get new e ≡ end_there a (port_at p e)
+  pub others : (k : ℕ) → x ≤ k → slice_get new k ≡ slice_get old k
+  pub long : length new ≡ length old
+
+pub none_read : (a : ArenaView) (p : Pair) (points : List End) → AreRead a p 0 points points
+none_read a p points = record { read = λ e low. absurd (omega (arith, low)); others = λ k low. λ i. slice_get points k; long = λ i. length points }
+
+pub one_more_read : (a : ArenaView) (p : Pair) (x : ℕ) (old points : List End) (v : End) → AreRead a p x old points → x < length points → Some v ≡ end_there a (port_at p x) → AreRead a p (x + 1) old (set points x v)
+one_more_read a p x old points v h low is = record {
+  read = λ e l. read e l (cases_eq e x);
+  others = λ k l. set_there points x k v (λ f. omega (arith, l, f)) ∙ h.others k (let z : x ≤ k = omega (arith, l) in z);
+  long = length-set points x v ∙ h.long;
+}
+  where
+    read : (e : ℕ) → e < x + 1 → (e ≡ x) ⊎ (e ≢ x) → slice_get (set points x v) e ≡ end_there a (port_at p e)
+    read e l (inl same) = ap (slice_get (set points x v)) same ∙ set_here points x v low ∙ is ∙ ap (λ (e : ℕ). end_there a (port_at p e)) (sym same)
+    read e l (inr other) = set_there points x e v other ∙ h.read e (let z : e < x = omega (arith, l, other) in z)
+
+-- ---- wires
+
+-- an element that is read of a list, which is this one
+pub listed_at : {X : Type 0} (xs ys : List X) (k : ℕ) (x : X) → ys ≡ xs → k < length ys → x ≡ slice_index_or ys k x → slice_get xs k ≡ Some x
+listed_at {X} xs ys k x same low is = ap (λ (zs : List X). slice_get zs k) (sym same) ∙ looked ys k x low is
+
+-- no more wires have boundary ends than there are such ends
+pub over_few : (m : MemberParts) → length (over_of m) ≤ length m.joints
+over_few m =
+    let a = length-filter is_from_lowest (enumerate_from 0 m.joints) in
+    let b = count_by-le-length is_from_lowest (enumerate_from 0 m.joints) in
+    let c = length-enumerate_from 0 m.joints in
+    omega (arith, a, b, c)
+
+-- ---- all agents are begun
+
+pub all_begun : (m : MemberParts) (old now : ArenaView) (ns : List CellNo) (x : ℕ) → x ≡ length m.agents → AreBegunBelow m old x now ns → HasBegun m ns old now
+all_begun m old now ns x all h = record {
+  count = h.count ∙ all;
+  each = λ k a n e at. (let g = h.each k a n e at in (subst (λ (z : ℕ). IsNumberOf z a.class n.0) (sym h.cells) g.0, ap word_of g.1, g.2));
+  once = h.once;
+  others = h.others;
+  memory = h.memory;
+  cells = h.cells;
+  many = h.many;
+}
+
+-- the wires of a member are those with boundary ends and those within it
+pub wires_many : (m : MemberParts) → length (wires_of m) ≡ length (over_of m) + length (within_of m)
+wires_many m =
+    let a = length-append (map (λ (w : ℕ × Point ℕ). (Free w.0, w.1)) (map over_point (over_of m))) (map both_points (within_of m)) in
+    let b = length-map {B = Point ℕ × Point ℕ} (map over_point (over_of m)) (λ (w : ℕ × Point ℕ). (Free w.0, w.1)) in
+    let c = length-map (over_of m) over_point in
+    let d = length-map (within_of m) both_points in
+    omega (arith, a, b, c, d)

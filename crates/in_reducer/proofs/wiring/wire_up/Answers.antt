@@ -1,0 +1,89 @@
+use Rattle.std.proofs.Common.{◌≡◌, ◌<◌, ◌≤◌, ◌+◌, ℕ, List, length, slice_get, sym, subst, ◌∙◌, arith}
+use Rattle.in_arena.specs.Arenas.{ArenaView}
+use Rattle.in_arena.specs.declared.content.CellNo.{CellNo}
+use Rattle.in_cells.proofs.Public.{keep_on}
+use Rattle.in_compile.specs.Members.{MemberParts}
+use Rattle.in_reducer.specs.Wiring.{AreAtAgents, HasBegun}
+use Rattle.in_reducer.proofs.Steps.CanWire as can
+use Rattle.in_reducer.proofs.Steps.Points.{over_few}
+use Rattle.in_reducer.proofs.wiring.wire_up.Goals as goal
+
+-- the agents that were begun are the template's
+begun_there : (m n : MemberParts) (ns : List CellNo) (a b : ArenaView) → m ≡ n → HasBegun m ns a b → HasBegun n ns a b
+begun_there m n ns a b same h = subst (λ (m : MemberParts). HasBegun m ns a b) same h
+
+pub read_ports-requires : goal.read_ports-requires
+read_ports-requires c =
+    let ready = c.requires.ready in
+    let q = ready.about in
+    let b = c.begin_agents.ensures.begun in
+    let p = c.args.template.now in
+    let many = c.boundary_ends.ensures in
+    let begun = begun_there c.member.result.now p.member b.0 c.args.arena.now c.begin_agents.new.arena c.member.ensures b.1 in
+    record {
+      ports = λ e low. can.has_port c.args.symbols.now q.0 p c.args.pair q.1 c.args.arena.now c.args.ends.now q.2 b.0 c.begin_agents.new.arena begun ready.unmarked e (let l : e < length p.member.joints = omega (arith, low, many) in l);
+      few = (let f = ready.few in omega (arith, f, many));
+      long = (let l = ready.begin.long in let m = c.begin_agents.ensures.long in omega (arith, l, m));
+    }
+
+pub write_over-requires-clause-ready : goal.write_over-requires-clause-ready
+write_over-requires-clause-ready c =
+    let ready = c.requires.ready in
+    let q = ready.about in
+    let b = c.begin_agents.ensures.begun in
+    let p = c.args.template.now in
+    let many = c.boundary_ends.ensures in
+    let few = ready.few in
+    let begun = begun_there c.member.result.now p.member b.0 c.args.arena.now c.begin_agents.new.arena c.member.ensures b.1 in (
+      q.0,
+      q.1,
+      b.0,
+      can.can_wire c.args.symbols.now q.0 p c.args.pair q.1 c.args.arena.now c.args.ends.now q.2 b.0 c.begin_agents.new.arena begun ready.unmarked c.read_ports.new.points
+          (λ e low. c.read_ports.ensures.read e (let l : e < c.boundary_ends.result = omega (arith, low, many) in l))
+          (λ k low. c.read_ports.ensures.others (32 + k) (let l : c.boundary_ends.result ≤ 32 + k = omega (arith, many, few) in l) ∙ b.2 k low),
+    )
+
+pub write_over-requires-clause-room : goal.write_over-requires-clause-room
+write_over-requires-clause-room c =
+    let few = c.requires.ready.few in
+    let over = over_few c.args.template.now.member in
+    let room = c.requires.room in
+    omega (arith, few, over, room)
+
+pub write_within-requires : goal.write_within-requires
+write_within-requires c =
+    let ready = c.requires.ready in
+    let q = ready.about in
+    let b = c.begin_agents.ensures.begun in
+    let p = c.args.template.now in
+    let many = c.boundary_ends.ensures in
+    let few = ready.few in
+    let begun = begun_there c.member.result.now p.member b.0 c.args.arena.now c.begin_agents.new.arena c.member.ensures b.1 in
+    let start = can.can_wire c.args.symbols.now q.0 p c.args.pair q.1 c.args.arena.now c.args.ends.now q.2 b.0 c.begin_agents.new.arena begun ready.unmarked c.read_ports.new.points
+    (λ e low. c.read_ports.ensures.read e (let l : e < c.boundary_ends.result = omega (arith, low, many) in l))
+    (λ k low. c.read_ports.ensures.others (32 + k) (let l : c.boundary_ends.result ≤ 32 + k = omega (arith, many, few) in l) ∙ b.2 k low) in
+    record { ready = (c.args.symbols.now, q.0, q.1, b.0, c.write_over.ensures.written q.0 q.1 b.0 start) }
+
+pub returns-clause-wired : goal.returns-clause-wired
+returns-clause-wired c =
+    let ready = c.requires.ready in
+    let b = c.begin_agents.ensures.begun in
+    let t = c.args.symbols.now in
+    let p = c.args.template.now in
+    let middle = c.begin_agents.new.arena in
+    let points = c.read_ports.new.points in
+    let many = c.boundary_ends.ensures in
+    let few = ready.few in
+    let begun = begun_there c.member.result.now p.member b.0 c.args.arena.now middle c.member.ensures b.1 in
+    let at : AreAtAgents b.0 points = (λ k low. c.read_ports.ensures.others (32 + k) (let l : c.boundary_ends.result ≤ 32 + k = omega (arith, many, few) in l) ∙ b.2 k low) in
+    let read : (e : ℕ) → e < length p.member.joints → _ = (λ e low. c.read_ports.ensures.read e (let l : e < c.boundary_ends.result = omega (arith, low, many) in l)) in
+    record {
+      cells = b.0;
+      middle = middle;
+      begun = begun;
+      kept = keep_on middle c.write_over.new.arena c.write_within.new.arena c.write_over.ensures.kept c.write_within.ensures.kept;
+      at = at;
+      written = λ s own about. c.write_within.ensures.written t s own b.0
+          (c.write_over.ensures.written s own b.0 (can.can_wire t s p c.args.pair own c.args.arena.now c.args.ends.now about b.0 middle begun ready.unmarked points read at));
+      queued = λ s own about. c.write_over.ensures.queued s own b.0 (can.can_wire t s p c.args.pair own c.args.arena.now c.args.ends.now about b.0 middle begun ready.unmarked points read at);
+    }

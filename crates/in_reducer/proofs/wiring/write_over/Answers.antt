@@ -1,0 +1,135 @@
+use Rattle.std.proofs.Common.{◌≡◌, ◌+◌, ℕ, Some, List, [], length, map, slice_get, refl, sym, ap, subst, ◌∙◌, append-nil, arith}
+use Rattle.in_cells.proofs.Public.{keep_on, keeps}
+use Rattle.in_compile.specs.Wires.{over_of, over_point}
+use Rattle.in_overwriting.specs.MadeByWires.{of_none}
+use Rattle.in_reducer.specs.Interacting.{interaction_of}
+use Rattle.in_reducer.specs.Wiring.{HasQueued, IsWiring}
+use Rattle.in_reducer.proofs.Steps.Points.{listed_at}
+use Rattle.in_reducer.proofs.Steps.OneWire as one
+use Rattle.in_reducer.proofs.wiring.write_over.Goals as goal
+
+pub loop-number-init : goal.loop-number-init
+loop-number-init c = record {
+  written = λ s own ns h. h;
+  queued = λ s own ns h. ([], of_none, sym (append-nil c.args.queue.now.items));
+  kept = keeps c.args.arena.now;
+  long = refl;
+  room = omega arith;
+  capacity = refl;
+}
+
+pub bounds-points-end : goal.bounds-points-end
+bounds-points-end c =
+    let q = c.requires.ready in
+    let w = c.index-wires-number.result in
+    let at = listed_at (over_of c.args.template.now.member) c.over-wires.result.now c.loop-number.number w c.over-wires.ensures c.loop-number-test.true c.index-wires-number.is in
+    one.over_low c.args.symbols.now q.0 c.args.template.now q.1 q.2 c.args.points.now c.loop-number.number c.loop-number.arena c.loop-number.ends (c.loop-number.invariant.written q.0 q.1 q.2 q.3) w at c.end.result c.end.ensures.end
+
+pub side-inner-requires : goal.side-inner-requires
+side-inner-requires c =
+    let q = c.requires.ready in
+    let w = c.index-wires-number.result in
+    let at = listed_at (over_of c.args.template.now.member) c.over-wires.result.now c.loop-number.number w c.over-wires.ensures c.loop-number-test.true c.index-wires-number.is in
+    one.over_can_read c.args.symbols.now q.0 c.args.template.now q.1 q.2 c.args.points.now c.loop-number.number c.loop-number.arena c.loop-number.ends (c.loop-number.invariant.written q.0 q.1 q.2 q.3) w at
+    c.slot.result c.place.result c.slot.ensures.slot c.place.ensures.place
+
+pub exchange-requires-clause-one : goal.exchange-requires-clause-one
+exchange-requires-clause-one c =
+    let q = c.requires.ready in
+    let w = c.index-wires-number.result in
+    let at = listed_at (over_of c.args.template.now.member) c.over-wires.result.now c.loop-number.number w c.over-wires.ensures c.loop-number-test.true c.index-wires-number.is in
+    one.over_place_u c.args.symbols.now q.0 c.args.template.now q.1 q.2 c.args.points.now c.loop-number.number c.loop-number.arena c.loop-number.ends (c.loop-number.invariant.written q.0 q.1 q.2 q.3) w at
+    c.index-points-end.result c.side-inner.result (record {
+      end = c.end.result;
+      slot = c.slot.result;
+      place = c.place.result;
+      is_end = c.end.ensures.end;
+      is_slot = c.slot.ensures.slot;
+      is_place = c.place.ensures.place;
+      outer = c.index-points-end.is;
+      inner = c.side-inner.ensures;
+    })
+
+pub exchange-requires-clause-other : goal.exchange-requires-clause-other
+exchange-requires-clause-other c =
+    let q = c.requires.ready in
+    let w = c.index-wires-number.result in
+    let at = listed_at (over_of c.args.template.now.member) c.over-wires.result.now c.loop-number.number w c.over-wires.ensures c.loop-number-test.true c.index-wires-number.is in
+    one.over_place_v c.args.symbols.now q.0 c.args.template.now q.1 q.2 c.args.points.now c.loop-number.number c.loop-number.arena c.loop-number.ends (c.loop-number.invariant.written q.0 q.1 q.2 q.3) w at
+    c.index-points-end.result c.side-inner.result (record {
+      end = c.end.result;
+      slot = c.slot.result;
+      place = c.place.result;
+      is_end = c.end.ensures.end;
+      is_slot = c.slot.ensures.slot;
+      is_place = c.place.ensures.place;
+      outer = c.index-points-end.is;
+      inner = c.side-inner.ensures;
+    })
+
+pub queue_pair-requires-clause-ends : goal.queue_pair-requires-clause-ends
+queue_pair-requires-clause-ends c =
+    let q = c.requires.ready in
+    let w = c.index-wires-number.result in
+    let at = listed_at (over_of c.args.template.now.member) c.over-wires.result.now c.loop-number.number w c.over-wires.ensures c.loop-number-test.true c.index-wires-number.is in
+    one.over_can_pair c.args.symbols.now q.0 c.args.template.now q.1 q.2 c.args.points.now c.loop-number.number c.loop-number.arena c.loop-number.ends (c.loop-number.invariant.written q.0 q.1 q.2 q.3) w at
+    c.index-points-end.result c.side-inner.result (record {
+      end = c.end.result;
+      slot = c.slot.result;
+      place = c.place.result;
+      is_end = c.end.ensures.end;
+      is_slot = c.slot.ensures.slot;
+      is_place = c.place.ensures.place;
+      outer = c.index-points-end.is;
+      inner = c.side-inner.ensures;
+    }) c.exchange.new.arena c.exchange.new.ends c.exchange.ensures
+
+pub loop-number-preserved : goal.loop-number-preserved
+loop-number-preserved c =
+    let q = c.requires.ready in
+    let t = c.args.symbols.now in
+    let p = c.args.template.now in
+    let points = c.args.points.now in
+    let k = c.loop-number.number in
+    let a = c.loop-number.arena in
+    let es = c.loop-number.ends in
+    let i = c.loop-number.invariant in
+    let w = c.index-wires-number.result in
+    let u = c.index-points-end.result in
+    let v = c.side-inner.result in
+    let b = c.exchange.new.arena in
+    let fs = c.exchange.new.ends in
+    let at = listed_at (over_of p.member) c.over-wires.result.now k w c.over-wires.ensures c.loop-number-test.true c.index-wires-number.is in
+    let read : one.HasReadOver points w u v = record {
+      end = c.end.result;
+      slot = c.slot.result;
+      place = c.place.result;
+      is_end = c.end.ensures.end;
+      is_slot = c.slot.ensures.slot;
+      is_place = c.place.ensures.place;
+      outer = c.index-points-end.is;
+      inner = c.side-inner.ensures;
+    } in
+    let kept = one.over_kept t q.0 p q.1 q.2 points k a es (i.written q.0 q.1 q.2 q.3) w at u v read b fs c.exchange.ensures in
+    record {
+      written = λ s own ns h. one.over_written t s p own ns points k a es (i.written s own ns h) w at u v read b fs c.exchange.ensures;
+      queued = λ s own ns h. one.over_queued t s p own ns points k a es (i.written s own ns h) w at u v read b fs c.exchange.ensures c.args.queue.now.items c.loop-number.queue.items c.queue_pair.new.queue.items (i.queued s own ns h) c.queue_pair.ensures.added;
+      kept = keep_on c.args.arena.now a b i.kept kept.0;
+      long = kept.1 ∙ i.long;
+      room = (let r = i.room in let l = c.queue_pair.ensures.longer in omega (arith, r, l));
+      capacity = c.queue_pair.ensures.capacity ∙ i.capacity;
+    }
+
+pub returns-clause-written : goal.returns-clause-written
+returns-clause-written c = λ s own ns h. (
+    let many = ap length c.over-wires.ensures in
+    let all : c.loop-number.number ≡ length (over_of c.args.template.now.member) = omega (arith, many) in
+    subst (λ (n : ℕ). IsWiring c.args.symbols.now s c.args.template.now own ns c.args.points.now n c.loop-number.arena c.loop-number.ends) all (c.loop-number.invariant.written s own ns h)
+    )
+
+pub returns-clause-queued : goal.returns-clause-queued
+returns-clause-queued c = λ s own ns h. (
+    let many = ap length c.over-wires.ensures in
+    let all : c.loop-number.number ≡ length (over_of c.args.template.now.member) = omega (arith, many) in
+    subst (λ (n : ℕ). HasQueued c.args.symbols.now (interaction_of s ns) (map over_point (over_of c.args.template.now.member)) n c.args.queue.now.items c.loop-number.queue.items) all (c.loop-number.invariant.queued s own ns h)
+    )

@@ -1,0 +1,147 @@
+-- An interaction in place, over cells: new agents are begun in cells of their own, beside the pair, and the wires of the right member are
+-- written one after another, each at its two sides. Lafont 1990: the right member takes the place of the active pair on the same boundary
+-- ends. That an interaction is done so where no wire leads back to its pair is this project's own choice.
+use Rattle.std.specs.Prelude.{◌≡◌, ◌≢◌, ◌⊎◌, IsTrue, ◌↔◌, ◌≤◌, ◌<◌, ◌+◌, ◌++◌, ℕ, suc, List, length, map, take, slice_get, slice_index_or, Some, None}
+use Rattle.in_arena.specs.Arenas.{ArenaView, free_of, state_at}
+use Rattle.in_arena.specs.Changes.{HasAllCells}
+use Rattle.in_arena.specs.Classes.{IsNumberOf}
+use Rattle.in_arena.specs.States.{IsBegun, word_of, places}
+use Rattle.in_arena.specs.declared.content.CellNo.{CellNo}
+use Rattle.in_arena.specs.declared.content.End.{End}
+use Rattle.in_arena.specs.declared.content.End.TheVariants.{Cell}
+use Rattle.in_symbols.specs.Tables.{Tables}
+use Rattle.in_net.specs.Built.{IsOver}
+use Rattle.in_net.specs.declared.nets.AgentNo.{AgentNo}
+use Rattle.in_net.specs.NetFaults.{max_member_agents}
+use Rattle.in_net.specs.Nets.{Point, Port, Free, Net, signature_of}
+use Rattle.in_interaction.specs.Queues.{numbers_of}
+use Rattle.in_cells.specs.Between.{Interaction, before, redex_of}
+use Rattle.in_cells.specs.Cells.{HasSymbols, KeepsCells}
+use Rattle.in_cells.specs.Pairs.{IsAtLive}
+use Rattle.in_cells.specs.Shown.{end_of, stands_at}
+use Rattle.in_compile.specs.Cells.{count_of, IsEnough}
+use Rattle.in_compile.specs.Members.{AgentParts, MemberParts}
+use Rattle.in_compile.specs.Templates.{TemplateParts, IsTemplateOf}
+use Rattle.in_compile.specs.Wires.{both_points, over_of, over_point, within_of}
+use Rattle.in_overwriting.specs.InTurn.{AreAllWiresOf, in_two_parts}
+use Rattle.in_overwriting.specs.MadeByWires.{CanOverwriteAt, MakeInTurn}
+use Rattle.in_overwriting.specs.Overwriting.{IsSideAt}
+use Rattle.in_reducer.specs.declared.sides.Pair.{Pair}
+use Rattle.in_reducer.specs.Inside.{most_ends, most_points}
+use Rattle.in_reducer.specs.Interacting.{PairSetting, IsAbout, interaction_of}
+use Rattle.in_reducer.specs.Sides.{port_at}
+
+-- ---- the new agents
+
+-- each agent has a cell of its own, one of its class that held none; it is live there with its symbol and its places, and what these lead to
+-- is open. All other cells are as they were
+pub record HasBegun (m : MemberParts) (ns : List CellNo) (old new : ArenaView) : Type 0 where
+  pub count : length ns ≡ length m.agents
+  pub each : (k : ℕ) (a : AgentParts) (n : CellNo) → slice_get m.agents k ≡ Some a → slice_get ns k ≡ Some n
+      → IsNumberOf new.cells a.class n.0 × (word_of (state_at old n.0) ≡ None) × IsBegun a.symbol.0 (length a.ends) (state_at new n.0)
+  pub once : (j k : ℕ) (n : CellNo) → slice_get ns j ≡ Some n → slice_get ns k ≡ Some n → j ≡ k
+  pub others : (n : ℕ) → ((k : ℕ) → slice_get ns k ≡ Some (record { 0 = n }) → ⊥) → state_at new n ≡ state_at old n
+  pub memory : new.memory ≡ old.memory
+  pub cells : new.cells ≡ old.cells
+  pub many : length new.states ≡ length old.states
+
+-- of each class enough cells are free, and there are points for all agents, which are few
+pub record CanBegin (m : MemberParts) (a : ArenaView) (points : List End) : Type 0 where
+  pub all : HasAllCells a
+  pub free : IsEnough (count_of m.need) (free_of a)
+  pub few : length m.agents ≤ max_member_agents
+  pub long : most_points ≤ length points
+
+-- ---- the wires that are written
+
+-- where a wire of the right member that has this point ends in the net after the interaction
+abbrev pub IsSideOf : Tables → Interaction → Point ℕ → Point ℕ → Type 0
+IsSideOf t x = IsSideAt (signature_of t) (before x) (redex_of x) x.name
+
+-- a side of one of the first k of these wires
+abbrev pub IsSideOfFirst : Tables → Interaction → List (Point ℕ × Point ℕ) → ℕ → Point ℕ → Type 0
+IsSideOfFirst t x wires k u = (j : ℕ) × (p : Point ℕ) × (q : Point ℕ) × (j < k) × (slice_get wires j ≡ Some (p, q)) × (IsSideOf t x p u ⊎ IsSideOf t x q u)
+
+-- the cells hold the net's agents and the new ones. Of the first k of these wires both sides lead to each other; each other point of the net
+-- before leads where it led, those of the pair too
+pub record IsWired (t : Tables) (x : Interaction) (own : ℕ) (wires : List (Point ℕ × Point ℕ)) (k : ℕ) (a : ArenaView) (ends : List End) : Type 0 where
+  pub can : CanOverwriteAt t x.net x.rule x.one x.two x.name
+  pub all : AreAllWiresOf (redex_of x).member wires
+  pub own_ends : own ≡ length (before x).free
+  pub room : own ≤ length ends
+  pub symbols : (y s : ℕ) → (word_of (state_at a y) ≡ Some s) ↔ (((before x).symbol y ≡ Some s) ⊎ ((l : ℕ) × (x.name l ≡ y) × ((redex_of x).member.symbol l ≡ Some s)))
+  pub places : (y s : ℕ) → word_of (state_at a y) ≡ Some s → places (state_at a y) ≡ suc ((signature_of t).arity s)
+  pub written : (j : ℕ) (p q u v : Point ℕ) → j < k → slice_get wires j ≡ Some (p, q) → IsSideOf t x p u → IsSideOf t x q v → (stands_at a ends u ≡ Some (end_of v)) × (stands_at a ends v ≡ Some (end_of u))
+  pub still : (u v : Point ℕ) → (before x).partner u ≡ Some v → (IsSideOfFirst t x wires k u → ⊥) → stands_at a ends u ≡ Some (end_of v)
+
+-- ---- the pairs that they make
+
+-- the pairs that the first k of these wires make were added, in turn; a wire is named by its lowest boundary end
+abbrev pub HasQueued : Tables → Interaction → List (ℕ × Point ℕ) → ℕ → List (ℕ × ℕ) → List (ℕ × ℕ) → Type 0
+HasQueued t x over k old new = (qs : List (AgentNo × AgentNo)) × MakeInTurn t x.net x.rule x.one x.two x.name (take k over) qs × (new ≡ old ++ map numbers_of qs)
+
+-- ---- where the sides are read
+
+-- the wires of a member, by their points: those with boundary ends first
+abbrev pub wires_of : MemberParts → List (Point ℕ × Point ℕ)
+wires_of m = in_two_parts (map over_point (over_of m)) (map both_points (within_of m))
+
+-- the end itself at place 0; else that place of the cell whose principal port the end is
+abbrev pub IsAtPlace : End → ℕ → End → Type 0
+IsAtPlace x place y = ((place ≡ 0) × (y ≡ x)) ⊎ ((c : CellNo) × (x ≡ Cell c 0) × (y ≡ Cell c place))
+
+-- the pair has a port for this boundary end
+abbrev pub HasPortAt : ArenaView → Pair → ℕ → Type 0
+HasPortAt a p e = (port_at p e).1 < places (state_at a (port_at p e).0.0)
+
+-- it has one for each of these boundary ends, and there are points for them
+pub record CanRead (a : ArenaView) (p : Pair) (many : ℕ) (points : List End) : Type 0 where
+  pub ports : (e : ℕ) → e < many → HasPortAt a p e
+  pub few : many ≤ most_ends
+  pub long : most_points ≤ length points
+
+-- the two are of live cells, which have symbols, and differ
+pub record CanPair (t : Tables) (a : ArenaView) (x y : End) : Type 0 where
+  pub one : IsAtLive a x
+  pub other : IsAtLive a y
+  pub differ : x ≢ y
+  pub symbols : HasSymbols t a
+
+-- after the points of 32 boundary ends come those of the agents, which have these cells: their principal ports
+abbrev pub AreAtAgents : List CellNo → List End → Type 0
+AreAtAgents ns points = (k : ℕ) → k < length ns → slice_get points (32 + k) ≡ Some (Cell (slice_index_or ns k (record { 0 = 0 })) 0)
+
+-- at the points of the boundary ends stand their sides
+pub record AreSidesIn (t : Tables) (x : Interaction) (ns : List CellNo) (points : List End) : Type 0 where
+  pub ends : (e : ℕ) (u : Point ℕ) → e < length (redex_of x).member.free → IsSideOf t x (Free e) u → slice_get points e ≡ Some (end_of u)
+  pub agents : AreAtAgents ns points
+
+-- in an interaction of this template, whose agents have these cells, the first k wires are written
+pub record IsWiring (t : Tables) (s : PairSetting) (p : TemplateParts) (own : ℕ) (ns : List CellNo) (points : List End) (k : ℕ) (a : ArenaView) (ends : List End) : Type 0 where
+  pub over : IsOver t s.net
+  pub member_over : IsOver t s.rule.member
+  pub template : IsTemplateOf t s.rule p
+  pub many : length ns ≡ length p.member.agents
+  pub sides : AreSidesIn t (interaction_of s ns) ns points
+  pub from : IsWired t (interaction_of s ns) own (wires_of p.member) k a ends
+
+-- the member's own pairs are of agents that have these cells
+abbrev pub ArePairsOf : List CellNo → MemberParts → Type 0
+ArePairsOf ns m = (k : ℕ) (q : ℕ × ℕ) → slice_get m.pairs k ≡ Some q → (q.0 < length ns) × (q.1 < length ns)
+
+-- the cells show a net of which this is a pair, of this template, and neither of its symbols is marked; and the agents can be begun
+pub record CanWireUp (t : Tables) (p : TemplateParts) (pair : Pair) (a : ArenaView) (ends points : List End) : Type 0 where
+  pub about : (s : PairSetting) × (own : ℕ) × IsAbout t s p pair own a ends
+  pub unmarked : IsTrue p.unmarked
+  pub begin : CanBegin p.member a points
+  pub few : length p.member.joints ≤ most_ends
+
+-- the agents were begun beside the pair, and all wires are written, whatever net it is about
+pub record IsWiredUp (t : Tables) (p : TemplateParts) (pair : Pair) (old : ArenaView) (old_ends : List End) (old_queue : List (ℕ × ℕ)) (new : ArenaView) (new_ends points : List End) (new_queue : List (ℕ × ℕ)) : Type 0 where
+  pub cells : List CellNo
+  pub middle : ArenaView
+  pub begun : HasBegun p.member cells old middle
+  pub kept : KeepsCells middle new
+  pub at : AreAtAgents cells points
+  pub written : (s : PairSetting) (own : ℕ) → IsAbout t s p pair own old old_ends → IsWiring t s p own cells points (length (wires_of p.member)) new new_ends
+  pub queued : (s : PairSetting) (own : ℕ) → IsAbout t s p pair own old old_ends → HasQueued t (interaction_of s cells) (map over_point (over_of p.member)) (length (over_of p.member)) old_queue new_queue

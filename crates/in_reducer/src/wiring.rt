@@ -1,0 +1,182 @@
+// One interaction in place: new agents are begun beside the pair, and the wires of the right member are written.
+ghost use Rattle.std.specs.Prelude.{◌≡◌, ◌≤◌, ◌<◌, ◌+◌, ◌++◌, ℕ, List, length, map, Some, slice_get};
+ghost use Rattle.std.specs.VecDeque.{deque_len, deque_capacity};
+ghost use Rattle.in_arena.specs.declared.content.CellNo.{CellNo as Number};
+ghost use Rattle.in_arena.specs.declared.content.End.{End};
+ghost use Rattle.in_arena.specs.declared.content.End.TheVariants.{Cell};
+ghost use Rattle.in_symbols.specs.Tables.{Tables};
+ghost use Rattle.in_interaction.specs.Queues.{both};
+ghost use Rattle.in_cells.specs.Cells.{KeepsCells};
+ghost use Rattle.in_cells.specs.Pairs.{AddsPair};
+ghost use Rattle.in_compile.specs.Wires.{over_of, over_point};
+ghost use Rattle.in_reducer.specs.Inside.{most_ends};
+ghost use Rattle.in_reducer.specs.Interacting.{PairSetting, interaction_of, named};
+ghost use Rattle.in_reducer.specs.Sides.{end_there, port_at};
+ghost use Rattle.in_reducer.specs.Wiring.{AreAtAgents, ArePairsOf, CanBegin, CanPair, CanRead, CanWireUp, HasBegun, HasQueued, IsAtPlace, IsWiredUp, IsWiring, wires_of};
+
+use crate::limits::MOST_ENDS;
+use crate::sides::Pair;
+use in_arena::{Arena, CellNo, EndWord};
+use in_cells::{exchange, pair_of};
+use in_compile::{Member, Template};
+use in_net::MAX_MEMBER_AGENTS;
+use in_symbols::Symbols;
+use std::collections::VecDeque;
+
+/// How many points a right member has at most: a boundary end each, and an agent each.
+pub(crate) const POINTS: usize = MOST_ENDS + MAX_MEMBER_AGENTS;
+
+/// Begins a cell for each agent, whose principal port is its point.
+#[inline(always)]
+fn begin_agents(member: &Member, arena: &mut Arena, points: &mut [EndWord])
+    requires { CanBegin member.now arena.old points.old }
+    ensures begun { (ns : List Number) × HasBegun member.now ns arena.old arena.new × AreAtAgents ns points.new }
+    ensures long { length points.new ≡ length points.old }
+{
+    member.is_sound();
+    for agent in 0..member.agents() {
+        let cell = member.begin(agent, arena);
+        points[MOST_ENDS + agent as usize] = EndWord::port(cell, 0);
+    }
+}
+
+/// Reads what the pair's ports lead to, at the points of their boundary ends.
+#[inline(always)]
+fn read_ports(arena: &Arena, pair: Pair, many: u8, points: &mut [EndWord])
+    requires { CanRead arena.now pair many points.old }
+    ensures read { (e : ℕ) → e < many → slice_get points.new e ≡ end_there arena.now (port_at pair e) }
+    ensures others { (k : ℕ) → many ≤ k → slice_get points.new k ≡ slice_get points.old k }
+{
+    for end in 0..many {
+        let (cell, place) = pair.port(end);
+        points[end as usize] = arena.word(cell, place);
+    }
+}
+
+/// The side of a wire that is read at this point, at this place.
+#[inline(always)]
+fn side(points: &[EndWord], slot: u8, place: u8) -> EndWord
+    requires { (x : End) × (y : End) × (slice_get points.now slot ≡ Some x) × IsAtPlace x place y }
+    ensures { (x y : End) → slice_get points.now slot ≡ Some x → IsAtPlace x place y → result ≡ y }
+{
+    points[slot as usize].at(place)
+}
+
+/// Queues the pair of two principal ports, if both are.
+#[inline(always)]
+fn queue_pair(
+    arena: &Arena,
+    symbols: &Symbols,
+    one: EndWord,
+    other: EndWord,
+    queue: &mut VecDeque<(u32, u32)>,
+)
+    requires ends { CanPair symbols.now arena.now one other }
+    requires room { deque_len queue.old < deque_capacity queue.old }
+    ensures added { AddsPair symbols.now arena.now one other queue.old.items queue.new.items }
+    ensures longer { deque_len queue.new ≤ deque_len queue.old + 1 }
+    ensures capacity { deque_capacity queue.new ≡ deque_capacity queue.old }
+{
+    if let Some((first, second)) = pair_of(arena, symbols, one, other) {
+        queue.push_back_reserved((first.0, second.0));
+    }
+}
+
+/// Writes the wires with boundary ends, and queues the pairs that they make, by their lowest boundary ends.
+#[inline(always)]
+fn write_over(
+    symbols: &Symbols,
+    template: &Template,
+    points: &[EndWord],
+    arena: &mut Arena,
+    ends: &mut [EndWord],
+    queue: &mut VecDeque<(u32, u32)>,
+)
+    requires ready { (s : PairSetting) × (own : ℕ) × (ns : List Number) × IsWiring symbols.now s template.now own ns points.now 0 arena.old ends.old }
+    requires room { deque_len queue.old + length (over_of template.now.member) ≤ deque_capacity queue.old }
+    ensures written { (s : PairSetting) (own : ℕ) (ns : List Number) → IsWiring symbols.now s template.now own ns points.now 0 arena.old ends.old → IsWiring symbols.now s template.now own ns points.now (length (over_of template.now.member)) arena.new ends.new }
+    ensures queued { (s : PairSetting) (own : ℕ) (ns : List Number) → IsWiring symbols.now s template.now own ns points.now 0 arena.old ends.old → HasQueued symbols.now (interaction_of s ns) (map over_point (over_of template.now.member)) (length (over_of template.now.member)) queue.old.items queue.new.items }
+    ensures kept { KeepsCells arena.old arena.new }
+    ensures long { length ends.new ≡ length ends.old }
+    ensures capacity { deque_capacity queue.new ≡ deque_capacity queue.old }
+{
+    let wires = template.over();
+    for number in 0..wires.len() {
+        let wire = &wires[number];
+        let outer = points[wire.end() as usize];
+        let inner = side(points, wire.slot(), wire.place());
+        exchange(arena, ends, outer, inner);
+        queue_pair(arena, symbols, outer, inner, queue);
+    }
+}
+
+/// Writes the wires within the right member, after those with boundary ends.
+#[inline(always)]
+fn write_within(template: &Template, points: &[EndWord], arena: &mut Arena, ends: &mut [EndWord])
+    requires ready { (t : Tables) × (s : PairSetting) × (own : ℕ) × (ns : List Number) × IsWiring t s template.now own ns points.now (length (over_of template.now.member)) arena.old ends.old }
+    ensures written { (t : Tables) (s : PairSetting) (own : ℕ) (ns : List Number) → IsWiring t s template.now own ns points.now (length (over_of template.now.member)) arena.old ends.old → IsWiring t s template.now own ns points.now (length (wires_of template.now.member)) arena.new ends.new }
+    ensures kept { KeepsCells arena.old arena.new }
+    ensures long { length ends.new ≡ length ends.old }
+{
+    let wires = template.within();
+    for number in 0..wires.len() {
+        let wire = &wires[number];
+        let one = side(points, wire.one().slot(), wire.one().place());
+        let other = side(points, wire.other().slot(), wire.other().place());
+        exchange(arena, ends, one, other);
+    }
+}
+
+/// Begins the right member's agents beside a pair to which no wire leads back, and writes the wires. The pairs that they make over boundary ends are
+/// queued. It takes no memory, and other cells may be on lease.
+#[inline(always)]
+pub(crate) fn wire_up(
+    symbols: &Symbols,
+    template: &Template,
+    pair: Pair,
+    arena: &mut Arena,
+    ends: &mut [EndWord],
+    points: &mut [EndWord],
+    queue: &mut VecDeque<(u32, u32)>,
+)
+    requires ready { CanWireUp symbols.now template.now pair arena.old ends.old points.old }
+    requires room { deque_len queue.old + most_ends ≤ deque_capacity queue.old }
+    ensures wired { IsWiredUp symbols.now template.now pair arena.old ends.old queue.old.items arena.new ends.new points.new queue.new.items }
+    ensures points { length points.new ≡ length points.old }
+    ensures long { length ends.new ≡ length ends.old }
+    ensures capacity { deque_capacity queue.new ≡ deque_capacity queue.old }
+{
+    begin_agents(template.member(), arena, points);
+    read_ports(arena, pair, template.boundary_ends(), points);
+    write_over(symbols, template, points, arena, ends, queue);
+    write_within(template, points, arena, ends);
+}
+
+/// The cell of the agent of that number, whose principal port is its point.
+#[inline(always)]
+fn agent_at(points: &[EndWord], agent: u32) -> CellNo
+    requires { (c : Number) × (slice_get points.now (most_ends + agent) ≡ Some (Cell c 0)) }
+    ensures { (c : Number) → slice_get points.now (most_ends + agent) ≡ Some (Cell c 0) → result ≡ c }
+{
+    let Some(cell) = points[MOST_ENDS + agent as usize].principal() else {
+        // A principal port is there.
+        unreachable!()
+    };
+    cell
+}
+
+/// Queues the active pairs that a member's agents are, whose principal ports are at their points.
+#[inline(always)]
+pub(crate) fn queue_begun(member: &Member, points: &[EndWord], queue: &mut VecDeque<(u32, u32)>)
+    requires there { (ns : List Number) × AreAtAgents ns points.now × ArePairsOf ns member.now }
+    requires room { deque_len queue.old + length member.now.pairs ≤ deque_capacity queue.old }
+    ensures items { (ns : List Number) → AreAtAgents ns points.now → ArePairsOf ns member.now → queue.new.items ≡ queue.old.items ++ map (both (named ns)) member.now.pairs }
+    ensures room { deque_capacity queue.new ≡ deque_capacity queue.old }
+{
+    for number in 0..member.pairs() {
+        let (one, other) = member.pair(number);
+        let first = agent_at(points, one);
+        let second = agent_at(points, other);
+        queue.push_back_reserved((first.0, second.0));
+    }
+}
