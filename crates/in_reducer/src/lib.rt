@@ -1,5 +1,5 @@
-//! A net in raw cells that is reduced in place: each interaction places the right member of its rule in free cells and joins it end by end,
-//! and takes no memory.
+//! A net in raw cells that is reduced in place: each interaction begins the right member's agents in free cells and writes its wires, and takes
+//! no memory.
 //!
 //! A `Reducer` has a net in an arena: live cells are the agents, their ends the wires, and a list has what the free ends lead to. What
 //! contracts see of it is one value (`specs/Machines.antt`): the program, the agent of each cell by number, the free ends, the queue, the
@@ -8,12 +8,11 @@
 //! own: each is one of its program's, or an end of a wire that was cut, which has a type and no name.
 //!
 //! `starting` places the program's net, `looking` reads it, `stepping` does one interaction: the template of the pair is found by the two
-//! symbols, `placing` puts the right member into free cells while the pair is still there, `interacting` joins it in the pair's place, and
-//! `queueing` adds the new pairs. Where neither symbol is marked no wire leads back to the pair: then each wire of the right member with
-//! boundary ends is written at its two sides (`overwriting`), and the pair's cells are retired. Else `sides` writes what is at the two sides
-//! of each boundary end behind the free ends in the list, the pair's cells are retired, and `in_cells` joins end by end. The room for all
-//! this (`tools`: a stock, a list of cells, a list of pairs; the queue; the list of ends) is taken at the start, so that an interaction takes
-//! no memory and can't be refused.
+//! symbols. Where neither symbol is marked no wire leads back to the pair: then the right member's agents are begun in free cells, each wire of
+//! the right member is written at its two sides, and the new pairs are queued (`wiring`). Else the right member is put into free cells, `sides`
+//! writes what is at the two sides of each boundary end behind the free ends in the list, `interacting` joins them end by end by `in_cells`, and
+//! `queueing` adds the new pairs. Then the pair's cells are free. The room for all this (`tools`: a list of cells, a list of pairs, the points
+//! at which wires are joined; the queue; the list of ends) is taken at the start, so that an interaction takes no memory and can't be refused.
 //!
 //! No cell is on lease between two calls, so that the arena can be dropped. A round (`in_rounds`) lends cells to workers, and what the reducer
 //! works with (`body`) is reduced all the same: for contracts a leased cell counts as free (`at_rest` in `specs/Standing.antt`), so that what

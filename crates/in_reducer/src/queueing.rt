@@ -15,7 +15,6 @@ pub(crate) fn take_out(queue: &mut VecDeque<(u32, u32)>, number: usize)
     ensures room { deque_capacity queue.new ≡ deque_capacity queue.old }
 {
     if number == 0 {
-        // As remove does, in a tenth of its time.
         queue.pop_front();
     } else {
         queue.remove(number);
