@@ -5,7 +5,6 @@ use Rattle.std.proofs.lemmas.Option.{slice_get_within}
 use Rattle.in_arena.specs.declared.content.CellClass.{CellClass}
 use Rattle.in_symbols.specs.declared.symbols.SymbolNo.{SymbolNo}
 use Rattle.in_net.specs.Parts.{symbol_in}
-use Rattle.in_interaction.proofs.Public.{has_symbol}
 use Rattle.in_check.specs.Plain.{IsRuleAt}
 use Rattle.in_check.specs.Programs.{Program}
 use Rattle.in_interaction.specs.Queues.{agents_at, numbers_of}
@@ -16,8 +15,8 @@ use Rattle.in_machine.specs.Machines.{IsMachine}
 use Rattle.in_machine.specs.Together.{NeedTogether, none, then_next, HasRoomFor}
 use Rattle.in_reducer.specs.Steps.{NeedsAt, HasRoomAt, StepsAt}
 use Rattle.in_reducer.specs.Runs.{Runs, at_start, then_step}
-use Rattle.in_reducer.proofs.Public.{other_pair, takes_its_need}
-use Rattle.in_machine.proofs.StepsOn.{net_at, can_at, inside_at, as_reducer, machine_on}
+use Rattle.in_reducer.proofs.Public.{symbols_stay, takes_its_need}
+use Rattle.in_machine.proofs.StepsOn.{as_reducer, machine_on}
 
 -- ---- queues
 
@@ -93,17 +92,6 @@ pub record StandsOn (m n : MachineParts) (j : ℕ) : Type 0 where
   pub queue : n.queue ≡ drop j m.queue ++ new
   pub symbols : (i : ℕ) (q : ℕ × ℕ) (c d : SymbolNo) → slice_get m.queue (j + i) ≡ Some q → symbol_in (parts_of m) q.0 ≡ Some c → symbol_in (parts_of m) q.1 ≡ Some d → (symbol_in (parts_of n) q.0 ≡ Some c) × (symbol_in (parts_of n) q.1 ≡ Some d)
 
--- an agent of another pair keeps its symbol
-kept_by : (n o : MachineParts) → (h : IsMachine n) → (s : StepsAt n 0 o) → (i : ℕ) (q : ℕ × ℕ) (c d : SymbolNo) → slice_get n.queue (suc i) ≡ Some q → symbol_in (parts_of n) q.0 ≡ Some c → symbol_in (parts_of n) q.1 ≡ Some d → (symbol_in (parts_of o) q.0 ≡ Some c) × (symbol_in (parts_of o) q.1 ≡ Some d)
-kept_by n o h s i q c d at one two =
-    let t = n.program.tables in
-    let a = (agents_at s.pair).0 in
-    let b = (agents_at s.pair).1 in
-    let other = other_pair t (parts_of n) a b n.queue 0 (net_at n h) h.queue s.stands (suc i) q at (λ e. omega (arith, e)) in
-    let can = can_at n o 0 h s in
-    let inside = inside_at n o 0 h s in
-    (has_symbol t (parts_of n) s.step.rule a b s.name (parts_of o) (net_at n h) inside can s.step.acts (agents_at q).0 c (inl (other.1, other.2, one)), has_symbol t (parts_of n) s.step.rule a b s.name (parts_of o) (net_at n h) inside can s.step.acts (agents_at q).1 d (inl (other.3, other.4, two)))
-
 pub stands_on : (m n : MachineParts) (j : ℕ) → IsMachine m → Runs m j n → j ≤ length m.queue → StandsOn m n j
 stands_on m n zero h (at_start _) l = record {
   program = refl;
@@ -123,7 +111,7 @@ stands_on m o (suc j) h (then_step _ n _ _ before s) l =
           let here : slice_get m.queue (j + suc i) ≡ Some q = ap (slice_get m.queue) (let z : j + suc i ≡ suc j + i = omega arith in z) ∙ at in
           let now = r.symbols (suc i) q c d here one two in
           let place : slice_get n.queue (suc i) ≡ Some q = ap (λ (z : List (ℕ × ℕ)). slice_get z (suc i)) r.queue ∙ later_of_rest m.queue j (suc i) r.new q here in
-          kept_by n o r.machine s i q c d place now.0 now.1
+          symbols_stay n o (as_reducer n r.machine) s i q c d place now.0 now.1
           );
     }
 

@@ -4,12 +4,11 @@ ghost use Rattle.in_check.specs.Plain.{IsReachedBy};
 ghost use Rattle.in_reducer.specs.Limiting.{least_cells, most_cells};
 ghost use Rattle.in_reducer.specs.Machines.{plain_of};
 ghost use Rattle.in_reducer.specs.Steps.{HasRoomAt, StepsAt};
-ghost use Rattle.in_names.specs.Same.{RunsUpToNumbers, StepsUpToNumbers};
+ghost use Rattle.in_names.specs.Same.{RunsUpToNumbers};
 ghost use Rattle.in_machine.specs.Starts.{Starts};
 ghost use Rattle.in_machine.specs.Taking.{TakesNoFirst};
 
 use crate::starting::StartFault;
-use in_base::use_promise;
 use in_check::Checked;
 use in_compile::{Need, Templates, compile, need_of_net};
 use in_reducer::Reducer;
@@ -85,24 +84,6 @@ impl<'a> Machine<'a> {
         ensures most { result ≤ most }
         ensures fewer { result < most → TakesNoFirst self.new }
     {
-        use_promise!(self.pairs());
-        let mut count = 0;
-        while count < most {
-            if !self.step_first() {
-                return count;
-            }
-            count += 1;
-        }
-        count
-    }
-
-    /// The interaction of the first pair, up to the numbers of agents, where there is one and what it needs is free. Returns whether it was
-    /// done. Here the numbers stay; no proof above it uses that.
-    #[inline(always)]
-    fn step_first(&mut self) -> bool
-        ensures done { result ≡ true → StepsUpToNumbers self.old 0 self.new }
-        ensures none { result ≡ false → (self.new ≡ self.old) × TakesNoFirst self.old }
-    {
-        self.reducer.step_first(&self.templates)
+        self.reducer.take_first(&self.templates, most)
     }
 }

@@ -7,6 +7,7 @@ pub use Rattle.in_reducer.proofs.Cuts.Reduced.{cuts_are_undone, parts_reduce_the
 pub use Rattle.in_reducer.proofs.Pairs.Requeued.{other_pair, was_there}
 pub use Rattle.in_reducer.proofs.Starts.Begun.{each_push}
 pub use Rattle.in_reducer.proofs.Starts.Started.{lives, queue_moved, symbol_back, symbol_moved}
+pub use Rattle.in_reducer.proofs.Steps.Ahead.{symbols_stay}
 pub use Rattle.in_reducer.proofs.Steps.Found
 pub use Rattle.in_reducer.proofs.Steps.Stepped.{free_is}
 pub use Rattle.in_reducer.proofs.Steps.StepsOn

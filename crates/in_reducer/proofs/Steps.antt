@@ -1,4 +1,5 @@
 -- One interaction.
+pub mod Ahead
 pub mod Besides
 pub mod CanWire
 pub mod Finished

@@ -2,16 +2,12 @@
 use Rattle.std.specs.Prelude.{◌≡◌, ◌+◌, ◌*◌, ◌≤◌, ◌<◌, ℕ, false, List, [], length, map, Some, slice_get, slice_index_or, vec_capacity}
 use Rattle.std.specs.VecDeque.{deque_capacity}
 use Rattle.in_arena.specs.Arenas.{ArenaView, NoneLeased}
-use Rattle.in_arena.specs.Changes.{HasAllCells}
 use Rattle.in_arena.specs.Classes.{classes}
-use Rattle.in_arena.specs.declared.content.CellClass.{CellClass}
 use Rattle.in_symbols.specs.declared.symbols.PortType.{PortType}
 use Rattle.in_net.specs.declared.nets.FreeEnd.{FreeEnd}
 use Rattle.in_net.specs.declared.nets.Point.TheVariants.{Free}
 use Rattle.in_net.specs.NetFaults.{max_member_agents}
-use Rattle.in_net.specs.Rules.{RuleParts}
 use Rattle.in_check.specs.Programs.{Program}
-use Rattle.in_compile.specs.Cells.{agents_of, count_of}
 use Rattle.in_compile.specs.Templates.{TemplateParts}
 use Rattle.in_reducer.specs.declared.body.Body.{Body}
 use Rattle.in_reducer.specs.declared.body.OwnEnd.{OwnEnd}

@@ -18,5 +18,6 @@ pub mod Sides
 pub mod Standing
 pub mod Starts
 pub mod Steps
+pub mod Taking
 pub mod Templates
 pub mod Splitting

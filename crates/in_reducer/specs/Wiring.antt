@@ -13,7 +13,7 @@ use Rattle.in_symbols.specs.Tables.{Tables}
 use Rattle.in_net.specs.Built.{IsOver}
 use Rattle.in_net.specs.declared.nets.AgentNo.{AgentNo}
 use Rattle.in_net.specs.NetFaults.{max_member_agents}
-use Rattle.in_net.specs.Nets.{Point, Port, Free, Net, signature_of}
+use Rattle.in_net.specs.Nets.{Point, Free, signature_of}
 use Rattle.in_interaction.specs.Queues.{numbers_of}
 use Rattle.in_cells.specs.Between.{Interaction, before, redex_of}
 use Rattle.in_cells.specs.Cells.{HasSymbols, KeepsCells}

@@ -44,6 +44,7 @@ mod splitting;
 mod starting;
 mod stepping;
 mod stitching;
+mod taking;
 mod tools;
 mod wiring;
 

@@ -78,15 +78,30 @@ impl<'a> Body<'a> {
 }
 
 impl<'a> Reducer<'a> {
-    /// The template of the pair of that number: its agents' symbols match, and match one rule. The templates are those of the program.
+    /// The template of the pair of that number, by its symbols: they match, and match one rule. The templates are those of the program.
+    #[inline(always)]
+    fn template_by<'b>(
+        &self,
+        templates: &'b Templates,
+        number: u32,
+        heads: (SymbolNo, SymbolNo),
+    ) -> &'b Template
+        requires { AreTemplatesOf self.now.program templates.now × HasHeadsAt self.now number heads }
+        ensures { IsTemplateAt self.now number result.now }
+    {
+        use_promise!(self.pairs());
+        let _ = number;
+        templates.of(heads.0, heads.1)
+    }
+
+    /// The template of the pair of that number, as above.
     #[inline(always)]
     fn template<'b>(&self, templates: &'b Templates, number: u32) -> &'b Template
         requires templates { AreTemplatesOf self.now.program templates.now }
         requires pair { number < length self.now.queue }
         ensures { IsTemplateAt self.now number result.now }
     {
-        let (constructor, destructor) = self.body.heads(number);
-        templates.of(constructor, destructor)
+        self.template_by(templates, number, self.body.heads(number))
     }
 
     /// How many cells of each class the interaction of the pair of that number needs: the agents of its rule's right member. They have to
@@ -194,10 +209,25 @@ impl<'a> Reducer<'a> {
         self.step_by(template, number);
     }
 
+    /// The interaction of the first pair, which has these symbols, as `step` says, where what it needs is free. Returns whether it was done.
+    #[inline(always)]
+    pub(crate) fn step_known(&mut self, templates: &Templates, heads: (SymbolNo, SymbolNo)) -> bool
+        requires { AreTemplatesOf self.old.program templates.now × HasHeadsAt self.old 0 heads }
+        ensures done { result ≡ true → StepsAt self.old 0 self.new }
+        ensures none { result ≡ false → (self.new ≡ self.old) × (HasRoomAt self.old 0 → ⊥) }
+    {
+        let template = self.template_by(templates, 0, heads);
+        if !self.fits(template, 0) {
+            return false;
+        }
+        self.step_by(template, 0);
+        true
+    }
+
     /// The interaction of the first pair, as `step` says, where there is one and what it needs is free. Returns whether it was done. The
     /// templates are those of the program. It takes no memory.
     #[inline(always)]
-    pub fn step_first(&mut self, templates: &Templates) -> bool
+    pub(crate) fn step_first(&mut self, templates: &Templates) -> bool
         requires { AreTemplatesOf self.old.program templates.now }
         ensures done { result ≡ true → StepsAt self.old 0 self.new }
         ensures none { result ≡ false → (self.new ≡ self.old) × ((self.old.queue ≡ []) ⊎ (HasRoomAt self.old 0 → ⊥)) }
@@ -205,11 +235,7 @@ impl<'a> Reducer<'a> {
         if self.pairs() == 0 {
             return false;
         }
-        let template = self.template(templates, 0);
-        if !self.fits(template, 0) {
-            return false;
-        }
-        self.step_by(template, 0);
-        true
+        let heads = self.body.heads(0);
+        self.step_known(templates, heads)
     }
 }

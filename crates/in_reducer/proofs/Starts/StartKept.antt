@@ -2,23 +2,18 @@
 use Rattle.std.proofs.Common.{◌≡◌, ◌≤◌, ◌+◌, ◌*◌, ℕ, Some, List, length, map, take, replicate, slice_get, sym, ap, subst, ◌∙◌, arith}
 use Rattle.std.specs.VecDeque.{deque_capacity}
 use Rattle.std.proofs.lemmas.List.{length-map}
-use Rattle.std.proofs.lemmas.Option.{slice_get_within}
-use Rattle.in_base.proofs.Each.{at_index}
 use Rattle.in_arena.specs.Arenas.{ArenaView}
 use Rattle.in_arena.specs.Classes.{classes}
 use Rattle.in_arena.specs.States.{Vacant, IsLeased}
-use Rattle.in_arena.specs.declared.content.CellClass.{CellClass}
 use Rattle.in_arena.specs.declared.content.CellNo.{CellNo}
 use Rattle.in_interaction.specs.Queues.{both}
 use Rattle.in_check.specs.Checking.{IsAccepted}
 use Rattle.in_check.specs.Programs.{Program}
-use Rattle.in_compile.specs.Cells.{count_of}
 use Rattle.in_compile.specs.Members.{MemberParts, IsMemberOf}
-use Rattle.in_compile.specs.Templates.{TemplateParts, TemplatesParts, AreTemplatesOf}
+use Rattle.in_compile.specs.Templates.{TemplatesParts, AreTemplatesOf}
 use Rattle.in_net.specs.declared.nets.FreeEnd.{FreeEnd}
 use Rattle.in_reducer.specs.declared.body.Body.{Body}
 use Rattle.in_reducer.specs.declared.body.OwnEnd.{OwnEnd}
-use Rattle.in_reducer.specs.declared.tools.Tools.{Tools}
 use Rattle.in_reducer.specs.Inside.{AreTools, IsKept, IsOwnEnd, declared_as, most_ends, own_free, reducer_view}
 use Rattle.in_reducer.specs.Interacting.{named}
 use Rattle.in_reducer.specs.Limiting.{most_cells}

@@ -1,5 +1,5 @@
 -- Where new agents are begun beside a pair to which no wire leads back, the wires can be written; and when they are, the pair is retired.
-use Rattle.std.proofs.Common.{◌≡◌, ◌≢◌, ◌⊎◌, ◌↔◌, inl, inr, ◌<◌, ◌≤◌, ◌-◌, ◌+◌, ℕ, suc, Bool, cond, nat_lt, Option, Some, None, List, length, map, take, slice_get, refl, sym, ap, subst, ◌∙◌, get_or-set_same, get_or-set_other, arith}
+use Rattle.std.proofs.Common.{◌≡◌, ◌≢◌, ◌⊎◌, ◌↔◌, inl, inr, ◌<◌, ◌≤◌, ◌-◌, ℕ, suc, Bool, cond, nat_lt, Option, Some, None, List, length, map, take, slice_get, refl, sym, ap, subst, ◌∙◌, get_or-set_same, get_or-set_other, arith}
 use Rattle.std.specs.Prelude.{option_map, IsSomeAnd, IsTrue}
 use Rattle.in_arena.specs.Arenas.{ArenaView, changed, state_at}
 use Rattle.in_arena.specs.States.{State, Vacant, Leased, Live, IsLive, word_of, end_at, places}

@@ -7,25 +7,24 @@ use Rattle.std.specs.Prelude.{IsTrue}
 use Rattle.std.proofs.lemmas.Option.{same_Some, slice_get_within}
 use Rattle.in_arena.specs.Arenas.{ArenaView, NoneLeased, changed, state_at}
 use Rattle.in_arena.specs.Changes.{HasAllCells}
-use Rattle.in_arena.specs.States.{Vacant, IsLeased, IsLive}
+use Rattle.in_arena.specs.States.{Vacant, IsLive}
 use Rattle.in_arena.specs.declared.content.CellClass.TheVariants.{Small}
 use Rattle.in_arena.specs.declared.content.CellNo.{CellNo}
 use Rattle.in_arena.specs.declared.content.End.{End}
 use Rattle.in_symbols.specs.Tables.{Tables}
 use Rattle.in_net.specs.declared.nets.AgentNo.{AgentNo}
-use Rattle.in_net.specs.Nets.{Point, net_of}
+use Rattle.in_net.specs.Nets.{Point}
 use Rattle.in_interaction.specs.Made.{AreMadeOverEnds}
-use Rattle.in_interaction.specs.Queues.{agents_at, both, numbers_of}
-use Rattle.in_cells.specs.Cells.{KeepsCells}
+use Rattle.in_interaction.specs.Queues.{both, numbers_of}
 use Rattle.in_compile.specs.Templates.{TemplateParts}
 use Rattle.in_compile.specs.Wires.{over_of, over_point}
 use Rattle.in_compile.proofs.Public.{over_ends}
-use Rattle.in_overwriting.specs.MadeByWires.{AreOverEnds, MakeInTurn}
+use Rattle.in_overwriting.specs.MadeByWires.{MakeInTurn}
 use Rattle.in_overwriting.proofs.Public.{wires_make_pairs_in_turn}
 use Rattle.in_reducer.specs.declared.body.Body.{Body}
 use Rattle.in_reducer.specs.declared.sides.Pair.{Pair}
 use Rattle.in_reducer.specs.Inside.{KeepsNet, most_ends, most_points, own_free, reducer_view}
-use Rattle.in_reducer.specs.Interacting.{IsAbout, IsInteracted, PairSetting, interaction_of, named}
+use Rattle.in_reducer.specs.Interacting.{IsAbout, IsInteracted, PairSetting, named}
 use Rattle.in_reducer.specs.Machines.{MachineParts}
 use Rattle.in_reducer.specs.Reducers.{IsReducer}
 use Rattle.in_reducer.specs.Standing.{IsNetIn, AreLeasedAlike, agents_in, at_rest, leading_to, vacant_in}

@@ -1,5 +1,5 @@
 -- The wires of a right member, written one after another: one more, and all.
-use Rattle.std.proofs.Common.{◌≡◌, ◌≢◌, ◌⊎◌, ◌↔◌, ◌<◌, ◌≤◌, ◌+◌, ◌++◌, ℕ, zero, suc, List, [], ◌∷◌, length, map, slice_get, take, Option, Some, None, option_map, refl, sym, ap, subst, ◌∙◌, inl, inr, append_assoc, append-nil, arith}
+use Rattle.std.proofs.Common.{◌≡◌, ◌≢◌, ◌⊎◌, ◌↔◌, ◌<◌, ◌≤◌, ◌+◌, ◌++◌, ℕ, suc, List, [], ◌∷◌, length, map, slice_get, take, Option, Some, None, option_map, refl, sym, ap, subst, ◌∙◌, inl, inr, append_assoc, arith}
 use native.Mathlib.Decide.{ℕ_discrete}
 use Rattle.std.proofs.lemmas.List.{length-take-le, map-append, take_more}
 use Rattle.std.proofs.lemmas.Option.{get_or_from_slice_get, same_Some, slice_get_within}
@@ -15,8 +15,8 @@ use Rattle.in_symbols.proofs.Public.{same_symbol}
 use Rattle.in_net.specs.declared.nets.AgentNo.{AgentNo}
 use Rattle.in_net.specs.ActivePairs.{IsOrdered}
 use Rattle.in_net.specs.Interactions.{IsOfPair, end_agent, end_place}
-use Rattle.in_net.specs.Nets.{Point, Port, Free, Signature, Net, IsPoint, net_of, signature_of}
-use Rattle.in_net.specs.Parts.{Parts, symbol_in}
+use Rattle.in_net.specs.Nets.{Point, Port, Free, Signature, Net, IsPoint, signature_of}
+use Rattle.in_net.specs.Parts.{symbol_in}
 use Rattle.in_net.proofs.Public.{symbol_of}
 use Rattle.in_interaction.specs.Made.{HasSymbolAfter}
 use Rattle.in_interaction.specs.Queues.{numbers_of}
@@ -25,7 +25,7 @@ use Rattle.in_gluing.proofs.Public.{mapped, same_point}
 use Rattle.in_cells.specs.Between.{Interaction, before, redex_of, IsDone}
 use Rattle.in_cells.specs.Cells.{KeepsCells}
 use Rattle.in_cells.specs.Pairs.{AddsPair, IsNoPair, IsPairOf, IsPrincipal}
-use Rattle.in_cells.specs.Shown.{AreExchanged, IsPlaceAt, IsShown, end_of, point_of, stands_at}
+use Rattle.in_cells.specs.Shown.{AreExchanged, IsPlaceAt, end_of, point_of, stands_at}
 use Rattle.in_cells.proofs.Public.{exchange_keeps, place_within, places_kept, stands_one, stands_still, stands_two, take_at, word_kept, writes_end_point as end_point}
 use Rattle.in_overwriting.specs.MadeByWires.{AreItsSides, CanOverwriteAt, IsMadeByWire, MakeInTurn, OneByOne, of_none, with_one, without}
 use Rattle.in_overwriting.specs.InTurn.{AreAllWiresOf}

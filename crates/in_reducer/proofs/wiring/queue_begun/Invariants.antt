@@ -1,4 +1,4 @@
-use Rattle.std.proofs.Common.{◌≡◌, ◌≤◌, ◌+◌, ◌++◌, List, length, map, take}
+use Rattle.std.proofs.Common.{◌≡◌, ◌+◌, ◌++◌, List, map, take}
 use Rattle.std.specs.VecDeque.{deque_len, deque_capacity}
 use Rattle.in_arena.specs.declared.content.CellNo.{CellNo}
 use Rattle.in_interaction.specs.Queues.{both}

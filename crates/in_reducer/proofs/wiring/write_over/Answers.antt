@@ -1,4 +1,4 @@
-use Rattle.std.proofs.Common.{◌≡◌, ◌+◌, ℕ, Some, List, [], length, map, slice_get, refl, sym, ap, subst, ◌∙◌, append-nil, arith}
+use Rattle.std.proofs.Common.{◌≡◌, ℕ, [], length, map, refl, sym, ap, subst, ◌∙◌, append-nil, arith}
 use Rattle.in_cells.proofs.Public.{keep_on, keeps}
 use Rattle.in_compile.specs.Wires.{over_of, over_point}
 use Rattle.in_overwriting.specs.MadeByWires.{of_none}

@@ -1,5 +1,4 @@
 use Rattle.std.proofs.Common.{◌≡◌, ◌≤◌, length, sym, ap, subst, ◌∙◌, arith}
-use Rattle.in_arena.specs.Arenas.{ArenaView}
 use Rattle.in_net.specs.NetFaults.{max_member_agents}
 use Rattle.in_compile.specs.Members.{IsSoundMember}
 use Rattle.in_compile.specs.Placing.{PlacedParts}

@@ -2,7 +2,6 @@ use Rattle.std.proofs.Common.{◌≡◌, ◌≤◌, ◌+◌, ℕ, List, [], ◌�
 use Rattle.std.specs.Vec.{with_items}
 use Rattle.std.proofs.lemmas.List.{with_items_is}
 use Rattle.in_arena.specs.declared.content.End.{End}
-use Rattle.in_arena.specs.declared.content.End.TheVariants.{Free}
 use Rattle.in_symbols.specs.Tables.{Tables, port_at}
 use Rattle.in_symbols.specs.declared.symbols.PortType.{PortType}
 use Rattle.in_net.specs.Nets.{signature_of}

@@ -1,10 +1,7 @@
-use Rattle.std.proofs.Common.{◌≡◌, ◌≤◌, ◌+◌, ◌*◌, ℕ, Some, length, slice_get, sym, subst, arith}
+use Rattle.std.proofs.Common.{◌≤◌, ◌+◌, ◌*◌, length, sym, subst, arith}
 use Rattle.std.specs.VecDeque.{deque_capacity}
 use Rattle.in_arena.specs.Arenas.{NoneLeased}
 use Rattle.in_arena.specs.Classes.{classes}
-use Rattle.in_arena.specs.declared.content.CellClass.{CellClass}
-use Rattle.in_compile.specs.Cells.{count_of}
-use Rattle.in_compile.specs.Templates.{TemplateParts}
 use Rattle.in_reducer.specs.declared.body.Body.{Body}
 use Rattle.in_reducer.specs.declared.tools.Tools.{Tools}
 use Rattle.in_reducer.specs.Inside.{AreTools, IsKept, most_ends, reducer_view}

@@ -6,8 +6,6 @@ use Rattle.in_arena.specs.declared.content.End.{End}
 use Rattle.in_arena.specs.declared.content.End.TheVariants.{Free}
 use Rattle.in_cells.specs.Copying.{IsEndWithin, number_in}
 use Rattle.in_cells.proofs.Public.{numbered_classed}
-use Rattle.in_check.specs.Programs.{Program}
-use Rattle.in_compile.specs.Templates.{AreTemplatesOf}
 use Rattle.in_reducer.specs.Inside.{IsKept, reducer_view}
 use Rattle.in_reducer.specs.Machines.{MachineParts}
 use Rattle.in_reducer.specs.Parting.{CanSplit, IsSplitOff, place_of_two}

@@ -1,12 +1,8 @@
-use Rattle.std.proofs.Common.{◌≡◌, ◌≤◌, ℕ, Some, length, slice_get, sym, ap, subst, ◌∙◌, arith}
+use Rattle.std.proofs.Common.{◌≡◌, ℕ, length, sym, ap, subst, ◌∙◌, arith}
 use Rattle.in_arena.specs.Arenas.{ArenaView}
-use Rattle.in_arena.specs.Changes.{HasAllCells}
-use Rattle.in_check.specs.Programs.{Program}
-use Rattle.in_compile.specs.declared.cells.Need.{Need}
-use Rattle.in_compile.specs.Cells.{agents_of, count_of}
+use Rattle.in_compile.specs.Cells.{count_of}
 use Rattle.in_compile.specs.Members.{MemberParts}
 use Rattle.in_compile.specs.Placing.{PlacedParts}
-use Rattle.in_compile.specs.Stocks.{StockParts}
 use Rattle.in_reducer.specs.Inside.{KeepsNet, over}
 use Rattle.in_reducer.specs.Machines.{MachineParts}
 use Rattle.in_compile.specs.Putting.{IsPut}

@@ -1,0 +1,27 @@
+use Rattle.std.proofs.Common.{◌≡◌, ◌+◌, ℕ, suc, refl, sym, subst, ◌∙◌, arith}
+use Rattle.in_check.specs.Programs.{Program}
+use Rattle.in_compile.specs.Templates.{AreTemplatesOf}
+use Rattle.in_reducer.specs.Runs.{Runs, at_start, then_step}
+use Rattle.in_reducer.proofs.Steps.Ahead.{none_ahead}
+use Rattle.in_reducer.proofs.reducer.Reducer.take_first.Goals as goal
+
+pub loop-count-init : goal.loop-count-init
+loop-count-init c = record { few = omega arith; runs = at_start c.args.self.now; ahead = none_ahead c.args.self.now c.none-ahead.result c.none-ahead.ensures.0 c.none-ahead.ensures.1; program = refl }
+
+pub look_ahead-requires : goal.look_ahead-requires
+look_ahead-requires c = c.loop-count.invariant.ahead
+
+pub step_next-requires : goal.step_next-requires
+step_next-requires c = (subst (λ (p : Program). AreTemplatesOf p c.args.templates.now) (sym c.loop-count.invariant.program) c.requires, c.look_ahead.ensures)
+
+pub loop-count-preserved : goal.loop-count-preserved
+loop-count-preserved c =
+    let i = c.loop-count.invariant in
+    let k = c.loop-count.count in
+    let step = c.step_next.ensures.done c.if-not-step_next.false in
+    record {
+      few = omega arith;
+      runs = subst (λ (n : ℕ). Runs c.args.self.now n c.step_next.new.self) (let z : suc k ≡ k + 1 = omega arith in z) (then_step c.args.self.now c.loop-count.self c.step_next.new.self k i.runs step.0);
+      ahead = step.1;
+      program = step.0.step.program ∙ i.program;
+    }

@@ -1,0 +1,97 @@
+// Interactions of the first pairs, one after another.
+ghost use Rattle.std.specs.Prelude.{◌≡◌, ◌⊎◌, ◌≤◌, ◌<◌, ℕ, true, false, [], length, Some, slice_get};
+ghost use Rattle.in_symbols.specs.declared.symbols.SymbolNo.{SymbolNo as Symbol};
+ghost use Rattle.in_compile.specs.Templates.{AreTemplatesOf};
+ghost use Rattle.in_reducer.specs.Runs.{Runs};
+ghost use Rattle.in_reducer.specs.Steps.{HasRoomAt, StepsAt};
+ghost use Rattle.in_reducer.specs.Taking.{AreAhead, together};
+ghost use Rattle.in_reducer.specs.Templates.{HasHeadsAt};
+
+use crate::reducer::Reducer;
+use in_base::use_promise;
+use in_compile::Templates;
+use in_symbols::SymbolNo;
+
+/// The symbols of how many pairs are read together, so that their cells are fetched at once: more than eight gain nothing. This project's own
+/// choice.
+const TOGETHER: usize = 8;
+
+/// The symbols of pairs of the queue, read ahead: those from number `next` on are of the queue's first pairs.
+#[derive(Drop)]
+struct Ahead {
+    heads: [(SymbolNo, SymbolNo); TOGETHER],
+    next: usize,
+}
+
+impl Ahead {
+    /// None is read.
+    fn none() -> Ahead
+        ensures { (result.next ≡ together) × (length result.heads ≡ together) }
+    {
+        Ahead {
+            heads: [(SymbolNo(0), SymbolNo(0)); TOGETHER],
+            next: TOGETHER,
+        }
+    }
+}
+
+impl<'a> Reducer<'a> {
+    /// Reads the symbols of the first pairs, if none is left that was read and there are so many pairs.
+    #[inline(always)]
+    fn look_ahead(&self, ahead: &mut Ahead)
+        requires { AreAhead self.now ahead.old }
+        ensures { AreAhead self.now ahead.new }
+    {
+        if ahead.next == TOGETHER && self.pairs() as usize >= TOGETHER {
+            self.read_heads(&mut ahead.heads);
+            ahead.next = 0;
+        }
+    }
+
+    /// Reads the symbols of the first pairs, of which there are so many.
+    #[inline(always)]
+    fn read_heads(&self, heads: &mut [(SymbolNo, SymbolNo); TOGETHER])
+        requires { together ≤ length self.now.queue }
+        ensures { (k : ℕ) (h : Symbol × Symbol) → slice_get heads.new k ≡ Some h → HasHeadsAt self.now k h }
+    {
+        for number in 0..TOGETHER {
+            heads[number] = self.body.heads(number as u32);
+        }
+    }
+
+    /// The interaction of the first pair, as `step_first` says, by what was read ahead, if anything was.
+    #[inline(always)]
+    fn step_next(&mut self, templates: &Templates, ahead: &mut Ahead) -> bool
+        requires { AreTemplatesOf self.old.program templates.now × AreAhead self.old ahead.old }
+        ensures done { result ≡ true → StepsAt self.old 0 self.new × AreAhead self.new ahead.new }
+        ensures none { result ≡ false → (self.new ≡ self.old) × ((self.old.queue ≡ []) ⊎ (HasRoomAt self.old 0 → ⊥)) }
+    {
+        use_promise!(self.pairs());
+        if ahead.next == TOGETHER {
+            return self.step_first(templates);
+        }
+        let heads = ahead.heads[ahead.next];
+        ahead.next += 1;
+        self.step_known(templates, heads)
+    }
+
+    /// Interactions of the first pair of the queue, one after another, at most `most`, first in, first out. Fewer only where no pair is left, or
+    /// what the first one needs isn't free. Returns how many they were. The templates are those of the program. It takes no memory.
+    pub fn take_first(&mut self, templates: &Templates, most: u64) -> u64
+        requires { AreTemplatesOf self.old.program templates.now }
+        ensures runs { Runs self.old result self.new }
+        ensures most { result ≤ most }
+        ensures fewer { result < most → (self.new.queue ≡ []) ⊎ (HasRoomAt self.new 0 → ⊥) }
+    {
+        let mut ahead = Ahead::none();
+        let mut count = 0;
+        while count < most {
+            self.look_ahead(&mut ahead);
+            if !self.step_next(templates, &mut ahead) {
+                return count;
+            }
+            count += 1;
+        }
+        count
+    }
+}
