@@ -1,5 +1,6 @@
 -- A part without a directed circle has a node to which nothing in it leads, and such a node splits it.
 use Rattle.std.proofs.Common.{◌≡◌, ◌≢◌, ◌≤◌, ◌<◌, ℕ, zero, suc, Bool, true, false, List, [], ◌∷◌, length, slice_get, refl, sym, ap, inl, inr, ◌∙◌, arith}
+use Rattle.std.proofs.lemmas.Bool.{true_from_ne_false}
 use native.Mathlib.Decide.{ℕ_discrete}
 use Rattle.std.specs.List.{AllByRecursion}
 use Rattle.in_base.specs.Graphs.{Passage, left, AreApart}
@@ -82,13 +83,9 @@ inside : (o : OpenNet) (s t : ℕ → Bool) → FirstStuck o s t → (n : ℕ) �
 inside o s _ (whole _ h) n here = here
 inside o s t (within _ m c k _ first part comes before later) n here = (way_ends o m s part.0 n ((part.2 n).0 (inside o c t later n here))).1
 
-not_false : (b : Bool) → (b ≡ false → ⊥) → b ≡ true
-not_false true h = refl
-not_false false h = absurd (h refl)
-
 module _ (o : OpenNet) (out : Outputs) (net : IsOpenNet o) (signed : AreSigned o out) where
   other_side : (w n i m j : ℕ) → IsWire o w (Port n i) (Port m j) → out n i ≡ false → out m j ≡ true
-  other_side w n i m j h e = not_false (out m j) (λ k. signed w n i m j h (e ∙ sym k))
+  other_side w n i m j h e = true_from_ne_false (out m j) (λ k. signed w n i m j h (e ∙ sym k))
 
   is_point : (n i w : ℕ) (q : OpenPoint) → IsWire o w (Port n i) q → IsOpenPoint o (Port n i)
   is_point n i w q h = net.points w (Port n i) q h
@@ -166,11 +163,11 @@ module _ (o : OpenNet) (out : Outputs) (net : IsOpenNet o) (signed : AreSigned o
               | inl same ↦ same
               | inr differ ↦ absurd (none i (within_ports i f) ((e, λ k b out_k same. differ (same ∙ sym (of_output j k g b h out_k))), f))
             ]
-            | inr h ↦ of_output i j f (within_ports j g) e (not_false (out n j) h)
+            | inr h ↦ of_output i j f (within_ports j g) e (true_from_ne_false (out n j) h)
           ]
           | inr e ↦ elim (is_value (out n j) false) [
-            | inl h ↦ sym (of_output j i g (within_ports i f) h (not_false (out n i) e))
-            | inr h ↦ together n i j here (point i f) (point j g) (not_false (out n i) e) (not_false (out n j) h)
+            | inl h ↦ sym (of_output j i g (within_ports i f) h (true_from_ne_false (out n i) e))
+            | inr h ↦ together n i j here (point i f) (point j g) (true_from_ne_false (out n i) e) (true_from_ne_false (out n j) h)
           ]
         ]
 

@@ -13,11 +13,10 @@ use Rattle.in_net.specs.Parts.{Parts, IsWhole, IsPointOf, partner_in, cell_in, w
 use Rattle.in_net.specs.Rules.{RuleParts}
 use Rattle.in_net.proofs.Public.{cell_over, has_partner, lt_tells, map_is}
 use Rattle.in_open_nets.specs.declared.open_nets.OpenNode.{OpenNode}
-use Rattle.in_open_nets.specs.declared.open_nets.OpenPoint.{OpenPoint}
 use Rattle.in_open_nets.specs.declared.open_nets.OpenPoint.TheVariants as open_p
 use Rattle.in_open_nets.specs.OpenNets.{OpenNet, IsDerivable, IsOpenPoint, open_graph}
-use Rattle.in_open_nets.proofs.Public.{some_of, wire_turn}
-use Rattle.in_open_nets_of_programs.specs.Opening.{AreNumbered, IsNodeOf, Opens, open_point, open_wire}
+use Rattle.in_open_nets.proofs.Public.{port_place, some_of, wire_turn}
+use Rattle.in_open_nets_of_programs.specs.Opening.{AreNumbered, IsNodeOf, Opens, open_wire}
 use Rattle.in_open_nets_of_programs.specs.OpeningRules.{agents_before, agent_node, is_turned, rule_point, rule_wire, IsRuleWhole, OpensRule}
 use Rattle.in_open_nets_of_programs.proofs.Public.OpenedRules as rules
 use Rattle.in_open_nets_of_programs.proofs.Public.Opened as opened
@@ -28,7 +27,7 @@ use Rattle.in_usual_braces.specs.Directions.{DirectedCircle}
 use Rattle.in_usual_braces.proofs.Public.{circle_inside, circle_moved}
 use Rattle.in_usual_braces_of_programs.specs.Laws.{HasNoDirectedCircle}
 use Rattle.in_usual_braces_of_programs.specs.Signs.{AreUsual, member_signs, sign_of, signs_of}
-use Rattle.in_usual_braces_of_programs.proofs.OfNets.{agent_sign}
+use Rattle.in_usual_braces_of_programs.proofs.OfNets.{agent_sign, same_code}
 use Rattle.in_usual_braces_of_programs.proofs.OfRules.{IsOfAgent, circle_agents}
 
 -- the sign of an agent's port, in the member and in the open net
@@ -59,10 +58,6 @@ module _ (t : Tables) (n : Parts) (o : OpenNet) (numbered : AreNumbered t) (whol
 
   net_there : (u v : ℕ × ℕ) → (open_graph o).Wire u v → IsThere v.0
   net_there u v w = there v.0 v.1 ((opened.is_open_net t n o numbered whole over opens).points w.0 (open_p.Port v.0 v.1) (open_p.Port u.0 u.1) (wire_turn o w.0 (open_p.Port u.0 u.1) (open_p.Port v.0 v.1) w.1))
-
-  same_code : (p : points.Point) (x i : ℕ) → open_point p ≡ open_p.Port x i → p ≡ point.Port (record { 0 = x }) i
-  same_code (point.Port z k) x i e = let a : z.0 ≡ x = cc in let b : k ≡ i = cc in ap (λ (z : ℕ). point.Port (record { 0 = z }) k) a ∙ ap (λ (k : ℕ). point.Port (record { 0 = x }) k) b
-  same_code (point.Free k) x i e = cc
 
   from_listed : (w x i y j : ℕ) → slice_get o.wires w ≡ Some (open_p.Port x i, open_p.Port y j) → partner_in n (point.Port (record { 0 = x }) i) ≡ Some (point.Port (record { 0 = y }) j)
   from_listed w x i y j e = go (wire_in n w) refl (opens.wires.1 w (open_p.Port x i, open_p.Port y j) e)
@@ -160,12 +155,9 @@ module _ (t : Tables) (p : RuleParts) (o : OpenNet) (numbered : AreNumbered t) (
   abbrev OfAgent : ℕ → Type 0
   OfAgent = IsOfAgent t p o numbered whole net over built opens
 
-  port_is : (a b i j : ℕ) → ◌≡◌ {A = OpenPoint} (open_p.Port a i) (open_p.Port b j) → (a ≡ b) × (i ≡ j)
-  port_is a b i j e = (cc, cc)
-
   code_of : (r : points.Point) (x i : ℕ) → IsPointOf p.member r → rule_point t p (is_turned p) r ≡ open_p.Port (agent_node t p x) i → r ≡ point.Port (record { 0 = x }) i
   code_of (point.Port z k) x i h e =
-      let q = port_is (agent_node t p z.0) (agent_node t p x) k i e in
+      let q = port_place (agent_node t p z.0) (agent_node t p x) k i e in
       ap (λ (z : ℕ). point.Port (record { 0 = z }) k) (same_agent t p z.0 x q.0) ∙ ap (λ (k : ℕ). point.Port (record { 0 = x }) k) q.1
   code_of (point.Free k) x i h e = absurd (rules.agent_not_end t p o numbered whole net over built opens x i k h (sym e))
 

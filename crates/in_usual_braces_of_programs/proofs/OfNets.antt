@@ -15,7 +15,7 @@ use Rattle.in_open_nets.specs.declared.open_nets.OpenNode.{OpenNode}
 use Rattle.in_open_nets.specs.declared.open_nets.OpenPoint.TheVariants.{Port}
 use Rattle.in_open_nets.specs.OpenNets as nets
 use Rattle.in_open_nets.specs.OpenNets.{OpenNet, IsOpenNet, IsDerivable, IsOpenPoint, class_in, open_graph}
-use Rattle.in_open_nets.proofs.Public.{some_of}
+use Rattle.in_open_nets.proofs.Public.{port_place, some_of}
 use Rattle.in_open_nets_of_programs.specs.Opening.{AreNumbered, IsNodeOf, Opens, open_point, open_wire}
 use Rattle.in_open_nets_of_programs.proofs.Public.{is_open_net}
 use Rattle.in_base.proofs.Each.{at_index}
@@ -44,6 +44,11 @@ agent_class t parts o n i x m e is h =
 -- the type of an agent's port
 pub agent_type : (t : Tables) (parts : Parts) (x i : ℕ) (s : SymbolNo) → symbol_in parts x ≡ Some s → type_at t parts (point.Port (record { 0 = x }) i) ≡ Some (port_at t s.0 i)
 agent_type t parts x i s e = ap (option_map (λ (s : SymbolNo). port_at t s.0 i)) e
+
+-- the point that has this port
+pub same_code : (p : points.Point) (x i : ℕ) → open_point p ≡ Port x i → p ≡ point.Port (record { 0 = x }) i
+same_code (point.Port z k) x i e = let r = port_place z.0 x k i e in ap (λ (z : ℕ). point.Port (record { 0 = z }) k) r.0 ∙ ap (λ (k : ℕ). point.Port (record { 0 = x }) k) r.1
+same_code (point.Free k) x i e = cc
 
 module _ (t : Tables) (n : Parts) (o : OpenNet) (numbered : AreNumbered t) (whole : IsWhole n) (over : IsOver t n) (typed : IsTyped t n) (opens : Opens t n o) where
   net : IsOpenNet o
@@ -79,10 +84,6 @@ module _ (t : Tables) (n : Parts) (o : OpenNet) (numbered : AreNumbered t) (whol
 
       there : IsOpenPoint o (Port y j)
       there = net.points w (Port y j) (Port x i) (inr e)
-
-      same_code : (p : points.Point) (x i : ℕ) → open_point p ≡ Port x i → p ≡ point.Port (record { 0 = x }) i
-      same_code (point.Port z k) x i e = let a : z.0 ≡ x = cc in let b : k ≡ i = cc in ap (λ (z : ℕ). point.Port (record { 0 = z }) k) a ∙ ap (λ (k : ℕ). point.Port (record { 0 = x }) k) b
-      same_code (point.Free k) x i e = cc
 
       go : (v : Option (points.Point × points.Point)) → wire_in n w ≡ v → option_map open_wire v ≡ Some (Port x i, Port y j) → signs_of t o x i ≢ signs_of t o y j
       go None h k = cc

@@ -1,5 +1,5 @@
 -- The open net of a typed rule in usual braces.
-use Rattle.std.proofs.Common.{◌≡◌, ◌≢◌, ◌⊎◌, ◌↔◌, ◌<◌, ◌≤◌, ◌+◌, ◌-◌, ℕ, suc, Bool, true, false, not, cond, nat_lt, List, [], ◌∷◌, Option, Some, None, IsSomeAnd, length, slice_get, get_or, refl, sym, subst, ap, inl, inr, ◌∙◌, arith}
+use Rattle.std.proofs.Common.{◌≡◌, ◌≢◌, ◌⊎◌, ◌↔◌, ◌<◌, ◌≤◌, ◌+◌, ◌-◌, ℕ, suc, Bool, true, false, not, cond, nat_lt, List, [], ◌∷◌, Option, Some, None, IsSomeAnd, length, slice_get, get_or, refl, sym, subst, ap, inl, inr, ◌∙◌, arith, lt-ltb, le-ltb}
 use Rattle.std.specs.Prelude.{option_map}
 use Rattle.std.specs.List.{AllByRecursion}
 use Rattle.std.proofs.lemmas.List.Sums.{count_by-le-length}
@@ -16,7 +16,7 @@ use Rattle.in_net.specs.declared.nets.Point as points
 use Rattle.in_net.specs.declared.nets.Point.TheVariants as point
 use Rattle.in_net.specs.Parts.{IsWhole, IsPointOf, cell_in, wire_in}
 use Rattle.in_net.specs.Rules.{RuleParts, HasTypesOfHeads}
-use Rattle.in_net.proofs.Public.{cell_over, declared_at, has_partner, lt_tells}
+use Rattle.in_net.proofs.Public.{cell_over, declared_at, has_partner}
 use Rattle.in_typing.specs.Typed.{IsTyped, opposite, type_at}
 use Rattle.in_open_nets.specs.declared.open_nets.Node.{Node}
 use Rattle.in_open_nets.specs.declared.open_nets.Node.TheVariants.{AgentNode, ClassNode}
@@ -25,7 +25,7 @@ use Rattle.in_open_nets.specs.declared.open_nets.OpenPoint.{OpenPoint}
 use Rattle.in_open_nets.specs.declared.open_nets.OpenPoint.TheVariants.{Port}
 use Rattle.in_open_nets.specs.OpenNets as nets
 use Rattle.in_open_nets.specs.OpenNets.{OpenNet, IsAgent, IsAgentNode, IsOpenNet, IsDerivable, IsOpenPoint, class_in, open_graph}
-use Rattle.in_open_nets.proofs.Public.{some_of}
+use Rattle.in_open_nets.proofs.Public.{not_both, port_place, some_of}
 use Rattle.in_open_nets_of_programs.specs.Opening.{AreNumbered, IsNodeOf}
 use Rattle.in_open_nets_of_programs.specs.OpeningRules.{places_in, agents_before, agent_node, second_node, boundary_port, is_turned, rule_point, rule_wire, IsClassNodeOf, IsRuleWhole, OpensRule}
 use Rattle.in_open_nets_of_programs.proofs.Public.OpenedRules.{is_open_net, is_end, IsEnd, in_first, in_second, first_port, second_port, class_low, first_end, second_end}
@@ -37,16 +37,7 @@ use Rattle.in_usual_braces.specs.Laws.{CrossingDirectedCirclesDecide, UsualBrace
 use Rattle.in_usual_braces.proofs.Public.{begins, ends}
 use Rattle.in_usual_braces_of_programs.specs.Signs.{AreUsual, AreWide, is_output, place_of_class, sign_at, signs_of}
 use Rattle.in_usual_braces_of_programs.proofs.OfNets.{agent_class, agent_sign}
-use Rattle.in_usual_braces_of_programs.proofs.Places.{negated, not_both, place_found, signs_differ}
-
-lt_yes : (a b : ℕ) → a < b → nat_lt a b ≡ true
-lt_yes a b h = elim (lt_tells a b) [ inl l ↦ l.0 | inr l ↦ let k = l.1 in absurd (omega arith) ]
-
-lt_other : (a b : ℕ) → b ≤ a → nat_lt a b ≡ false
-lt_other a b h = elim (lt_tells a b) [ inl l ↦ let k = l.1 in absurd (omega arith) | inr l ↦ l.0 ]
-
-port_parts : (a b i j : ℕ) → ◌≡◌ {A = OpenPoint} (Port a i) (Port b j) → (a ≡ b) × (i ≡ j)
-port_parts a b i j e = (cc, cc)
+use Rattle.in_usual_braces_of_programs.proofs.Places.{negated, place_found, signs_differ}
 
 -- the sign of a class node's port: the opposite of that of its place
 class_sign : (t : Tables) (o : OpenNet) (n k : ℕ) (m : OpenNode) (s : SymbolNo) (c : ℕ) → slice_get o.nodes n ≡ Some m → m.node ≡ ClassNode s c → signs_of t o n k ≡ not (is_output t s.0 (place_of_class t s.0 c k (arity_of t s.0)))
@@ -83,20 +74,20 @@ module _ (t : Tables) (p : RuleParts) where
   first_type true e j h =
       let a : arity_of t p.heads.0.0 ≡ arity_of t p.written.1.0 = ap (λ (z : SymbolNo × SymbolNo). arity_of t z.0.0) e in
       let k : suc (arity_of t p.written.1.0 + j - arity_of t p.heads.0.0) ≡ suc j = omega arith in
-      of_second_head (arity_of t p.written.1.0 + j) (lt_other (arity_of t p.written.1.0 + j) (arity_of t p.heads.0.0) (omega arith))
+      of_second_head (arity_of t p.written.1.0 + j) (le-ltb (arity_of t p.written.1.0 + j) (arity_of t p.heads.0.0) (omega arith))
       ∙ ap (port_at t p.heads.1.0) k ∙ ap (λ (z : SymbolNo × SymbolNo). port_at t z.1.0 (suc j)) e
   first_type false e j h =
       let a : arity_of t p.heads.0.0 ≡ arity_of t p.written.0.0 = ap (λ (z : SymbolNo × SymbolNo). arity_of t z.0.0) e in
-      of_first_head j (lt_yes j (arity_of t p.heads.0.0) (omega arith)) ∙ ap (λ (z : SymbolNo × SymbolNo). port_at t z.0.0 (suc j)) e
+      of_first_head j (lt-ltb j (arity_of t p.heads.0.0) (omega arith)) ∙ ap (λ (z : SymbolNo × SymbolNo). port_at t z.0.0 (suc j)) e
 
   second_type : (turned : Bool) → Heads turned → (j : ℕ) → suc j ≤ arity_of t p.written.1.0 → end_type (second_end t p turned j) ≡ port_at t p.written.1.0 (suc j)
   second_type true e j h =
       let a : arity_of t p.heads.0.0 ≡ arity_of t p.written.1.0 = ap (λ (z : SymbolNo × SymbolNo). arity_of t z.0.0) e in
-      of_first_head j (lt_yes j (arity_of t p.heads.0.0) (omega arith)) ∙ ap (λ (z : SymbolNo × SymbolNo). port_at t z.0.0 (suc j)) e
+      of_first_head j (lt-ltb j (arity_of t p.heads.0.0) (omega arith)) ∙ ap (λ (z : SymbolNo × SymbolNo). port_at t z.0.0 (suc j)) e
   second_type false e j h =
       let a : arity_of t p.heads.0.0 ≡ arity_of t p.written.0.0 = ap (λ (z : SymbolNo × SymbolNo). arity_of t z.0.0) e in
       let k : suc (arity_of t p.written.0.0 + j - arity_of t p.heads.0.0) ≡ suc j = omega arith in
-      of_second_head (arity_of t p.written.0.0 + j) (lt_other (arity_of t p.written.0.0 + j) (arity_of t p.heads.0.0) (omega arith))
+      of_second_head (arity_of t p.written.0.0 + j) (le-ltb (arity_of t p.written.0.0 + j) (arity_of t p.heads.0.0) (omega arith))
       ∙ ap (port_at t p.heads.1.0) k ∙ ap (λ (z : SymbolNo × SymbolNo). port_at t z.1.0 (suc j)) e
 
 -- ---- class nodes
@@ -236,7 +227,7 @@ module _ (t : Tables) (p : RuleParts) (o : OpenNet) (numbered : AreNumbered t) (
 
   module _ (heads : HasTypesOfHeads t p) (typed : IsTyped t p.member) where
     same_sign : (a b i j : ℕ) → ◌≡◌ {A = OpenPoint} (Port a i) (Port b j) → signs_of t o b j ≡ signs_of t o a i
-    same_sign a b i j e = let q = port_parts a b i j e in ap (λ z. signs_of t o z j) (sym q.0) ∙ ap (signs_of t o a) (sym q.1)
+    same_sign a b i j e = let q = port_place a b i j e in ap (λ z. signs_of t o z j) (sym q.0) ∙ ap (signs_of t o a) (sym q.1)
 
     -- a point has a type, and its port the sign of that
     abbrev HasSign : points.Point → ℕ → ℕ → Type 0

@@ -38,10 +38,6 @@ place_found t s c i (suc n) l e = elim (eqb_tells i n) [
 
 -- ---- signs
 
-pub not_both : (b : Bool) → b ≡ true → b ≡ false → ⊥
-not_both true e f = cc
-not_both false e f = cc
-
 pub negated : (b c : Bool) → not b ≡ c → b ≡ not c
 negated true true e = cc
 negated true false e = refl
