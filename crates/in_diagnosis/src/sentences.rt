@@ -54,7 +54,8 @@ pub(crate) const NO_BRACES: &str =
 pub(crate) const ONLY_JOINED: &str =
     "a change of braces removes this circle only if it puts two ports of one agent on it into one pair: better connect one of these ports to something else";
 
-pub(crate) const NO_BRACES_TRIED: &str = "with no braces that were tried is the program accepted";
+pub(crate) const NO_BRACES_TRIED: &str =
+    "the program is not accepted with any braces that were tried";
 
 pub(crate) const CONNECT_OTHERS: &str =
     "connect one of these ports to something else, so that they lead to separate parts";
@@ -63,4 +64,4 @@ pub(crate) const OUTPUTS_APART: &str =
     "the outputs of `{symbol}` can be in one pair of braces only where they are neighbours in its declaration";
 
 pub(crate) const CONSTRUCTOR_WITH_OUTPUTS: &str =
-    "`{symbol}` is a constructor with an output at an auxiliary port: for such a symbol no rule is known which braces suffice";
+    "`{symbol}` is a constructor with an output at an auxiliary port: no rule is known for the braces of such a symbol";

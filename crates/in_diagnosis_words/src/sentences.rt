@@ -64,20 +64,20 @@ pub(crate) const NO_EMPTY_BRACES: &str = "a pair of braces has at least one port
 
 pub(crate) const HEAD_BRACKETS: &str = "the terms of a head stand in `[` and `]`";
 
-pub(crate) const EMPTY_HEAD: &str = "a head has brackets, also where it has no terms: `Z[]`";
+pub(crate) const EMPTY_HEAD: &str = "a head has brackets even if it has no terms: `Z[]`";
 
 pub(crate) const ARGUMENT_BRACKETS: &str =
     "the arguments of an agent stand in `(` and `)`; `[` and `]` are for heads of rules";
 
 pub(crate) const NET_BRACKETS: &str =
-    "the net has brackets for its free ends, also where it has none: `net () { .. }`";
+    "the net has brackets for its free ends even if it has none: `net () { .. }`";
 
 pub(crate) const SYMBOL_DECLARATION: &str =
     "a symbol is declared with the types of its ports: `symbol S : nat+ {nat-};`";
 
 pub(crate) const FREE_END_DECLARATION: &str = "a free end is declared with its type: `r : nat+`";
 
-pub(crate) const RESERVED_WORD: &str = "a reserved word is no name";
+pub(crate) const RESERVED_WORD: &str = "a reserved word can't be a name";
 
 pub(crate) const ENDS_WITH_NET: &str = "a program ends with its net: `net (..) { .. }`";
 
@@ -116,7 +116,7 @@ pub(crate) const ONE_EQUATION_END: &str = "an equation ends with one `;`";
 
 pub(crate) const EQUATIONS_FORM: &str = "equations stand in braces, each with `;` at its end";
 
-pub(crate) const COMMAS: &str = "what stands in brackets is separated by `,`";
+pub(crate) const COMMAS: &str = "items in brackets are separated by `,`";
 
 pub(crate) const LOOK_BEFORE: &str =
     "look at what stands before it: most often a `;`, a `~` or a bracket is missing";
@@ -148,7 +148,7 @@ pub(crate) const FREE_END_TWICE: &str = "the free end `{name}` is declared twice
 
 pub(crate) const FIRST_DECLARATION: &str = "it is declared here first";
 
-pub(crate) const RENAME_OR_LEAVE_OUT: &str = "give one of them another name, or leave one out";
+pub(crate) const RENAME_OR_LEAVE_OUT: &str = "rename one of them, or remove one";
 
 pub(crate) const NAME_OF_A_SYMBOL: &str = "the free end `{name}` has the name of a symbol";
 
@@ -193,7 +193,7 @@ pub(crate) const OCCURS_HERE: &str = "it occurs here";
 
 pub(crate) const OCCURS_ONCE_TOO: &str = "`{name}` occurs once too";
 
-pub(crate) const NO_FREE_END: &str = "`{name}` occurs once, and is no free end";
+pub(crate) const NO_FREE_END: &str = "`{name}` occurs once, and isn't a free end";
 
 pub(crate) const ONE_NAME_FOR_BOTH: &str =
     "if they are the two ends of one wire, write one name for both";
