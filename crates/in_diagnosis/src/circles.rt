@@ -5,10 +5,10 @@ use in_syntax::{MAX_PORTS, Source};
 use std::alloc::{AllocError, Global};
 
 /// The most ports of a node.
-const MOST_PORTS: usize = MAX_PORTS + 1;
+pub(crate) const MOST_PORTS: usize = MAX_PORTS + 1;
 
 /// A port of a node.
-type Port = (u32, u8);
+pub(crate) type Port = (u32, u8);
 
 /// The wires between ports of nodes, by port.
 #[derive(Drop)]
@@ -32,7 +32,7 @@ impl Wires {
     }
 
     /// The other end of the wire at a port, where it is a port.
-    fn end(&self, from: Port) -> Option<Port> {
+    pub(crate) fn end(&self, from: Port) -> Option<Port> {
         *self.ends.get(slot(from))?
     }
 

@@ -6,11 +6,13 @@
 //! (`Evidence`): the two ends of a wire whose types don't fit, or the open net that no steps build, with the part that is stuck; so no
 //! table, net or rule is built for the diagnosis alone.
 //!
-//! `wires` tells the ends of a wire, `circles` finds a circle through a part in which nothing splits, `stuck` tells it, and `remedies`
-//! tries declarations with other braces (`braces` of `in_diagnosis_words` writes them) and tells the first with which the program is accepted.
+//! `wires` tells the ends of a wire. `directed` finds agents in a circle of which each gives what the next one takes; where there are none,
+//! `circles` finds a circle through a part in which nothing splits. `stuck` tells it, and `remedies` tries declarations with other braces
+//! (`braces` of `in_diagnosis_words` writes them): each alone, and then the usual ones of all symbols.
 #![tactic(auto)]
 
 mod circles;
+mod directed;
 mod remedies;
 mod sentences;
 mod stuck;

@@ -1,11 +1,14 @@
 //! Other braces with which a program that no steps build is accepted: each is tried before it is told.
 ghost use Rattle.std.specs.Prelude.{◌≡◌, IfOk};
-ghost use Rattle.in_diagnosis.specs.Remedies.{IsAnsweredWith, is_stuck_behind};
+ghost use Rattle.in_diagnosis.specs.Remedies.{IsAnsweredWith, is_stuck};
 
 use crate::sentences;
 use in_check::check;
-use in_diagnosis_words::{Braces, Report, Value, declaration_with, text_with};
-use in_syntax::{Code, Fault, Place, Refusal, SourceSymbol};
+use in_diagnosis_words::{
+    Braces, Change, Changed, Kind, Report, Value, Words, declaration_with, has_usual_braces,
+    place_at, rule_at,
+};
+use in_syntax::{Code, Fault, Place, Source, SourceSymbol};
 use std::alloc::{AllocError, Global};
 
 /// How many declarations are tried at most. Each takes a check, which may go further than the one that refused the text.
@@ -13,6 +16,9 @@ pub(crate) const MOST_TRIED: usize = 4;
 
 /// How many bytes are checked at most for all that are tried, so that a diagnosis takes no more than some checks.
 const MOST_CHECKED: usize = 32_768;
+
+/// The most declarations that are told at once.
+const MOST_DECLARED: usize = 6;
 
 /// A symbol with other braces.
 #[derive(Clone, Copy)]
@@ -48,141 +54,301 @@ pub(crate) fn add_remedy<'a>(
 }
 
 /// What `in_check::check` answers a text with other braces.
+#[derive(Clone, Copy)]
 enum Outcome {
     /// It is accepted.
     Accepted,
-    /// What was refused is built, and the text is refused further on.
-    Built,
-    /// It is refused as before, or earlier.
+    /// It is refused at this byte, since no steps build a rule or the net.
+    Stuck(usize),
+    /// It is refused for another fault.
     Refused,
 }
 
-/// Whether a text is refused at a rule or the net that no steps build, which begins behind this byte.
-fn is_refused_behind(refusal: Refusal, at: usize) -> bool
-    ensures { result ≡ is_stuck_behind at refusal }
+/// Whether a code is that of a rule or a net that no steps build.
+fn is_stuck(code: Code) -> bool
+    ensures { result ≡ is_stuck code }
 {
-    match refusal.code {
-        Code::E12 | Code::E13 => at < refusal.place.from,
+    match code {
+        Code::E12 | Code::E13 => true,
         _ => false,
     }
 }
 
-/// What `in_check::check` answers a text in which what was refused begins at this byte.
-fn answer_to(alloc: Global, text: &[u8], at: usize) -> Result<Outcome, AllocError>
-    ensures { IfOk result (IsAnsweredWith text.now at) }
+/// What `in_check::check` answers a text.
+fn answer_to(alloc: Global, text: &[u8]) -> Result<Outcome, AllocError>
+    ensures { IfOk result (IsAnsweredWith text.now) }
 {
     match check(alloc, text) {
         Ok(_program) => Ok(Outcome::Accepted),
-        Err(Fault::Refused(refusal)) if is_refused_behind(refusal, at) => Ok(Outcome::Built),
+        Err(Fault::Refused(refusal)) if is_stuck(refusal.code) => {
+            Ok(Outcome::Stuck(refusal.place.from))
+        }
         Err(Fault::Refused(_)) => Ok(Outcome::Refused),
         Err(Fault::Memory(error)) => Err(error),
     }
 }
 
-/// What is tried of a text: in which a rule or the net, which begins at a place, is refused.
+/// What is refused, a rule or the net, and where: of which text.
+#[derive(Clone, Copy)]
+pub(crate) struct Refused<'a> {
+    pub(crate) text: &'a [u8],
+    pub(crate) source: &'a Source,
+    pub(crate) what: &'a str,
+    pub(crate) place: Place,
+}
+
+/// What a change does.
+#[derive(Clone, Copy, PartialEq, Eq)]
+enum Effect {
+    /// The program is accepted with it.
+    Accepts,
+    /// What was refused is built, and a later rule or the net is not.
+    Builds,
+    /// An earlier rule, in which this byte of the text stands, is not built.
+    BreaksRuleAt(usize),
+    /// What was refused is still not built.
+    Nothing,
+}
+
+impl Refused<'_> {
+    /// The number of the rule in which a byte stands; that of the net is larger.
+    fn number(&self, at: usize) -> usize {
+        rule_at(self.source, at).unwrap_or(usize::MAX)
+    }
+
+    /// What a change does with which a rule or the net is refused, in which this byte of the text stands.
+    fn effect_at(&self, at: usize) -> Effect {
+        let (here, there) = (self.number(self.place.from), self.number(at));
+        if here < there {
+            Effect::Builds
+        } else if there < here {
+            Effect::BreaksRuleAt(at)
+        } else {
+            Effect::Nothing
+        }
+    }
+
+    /// What a change does.
+    fn effect(&self, alloc: Global, change: Change) -> Result<Effect, AllocError> {
+        let changed = Changed::new(alloc, self.text, self.source, change)?;
+        match answer_to(alloc, changed.text()) {
+            Ok(Outcome::Accepted) => Ok(Effect::Accepts),
+            Ok(Outcome::Stuck(at)) => Ok(self.effect_at(changed.before(at))),
+            Ok(Outcome::Refused) => Ok(Effect::Nothing),
+            Err(error) => Err(error),
+        }
+    }
+
+    /// What the usual braces do, where some symbol is declared in others.
+    fn usual_effect(&self, alloc: Global) -> Result<Effect, AllocError> {
+        if Change::AllUsual.count(self.source) == 0 {
+            return Ok(Effect::Nothing);
+        }
+        self.effect(alloc, Change::AllUsual)
+    }
+}
+
+/// A remedy, and what it does.
 #[derive(Clone, Copy)]
 struct Trial<'a> {
-    text: &'a [u8],
-    place: Place,
+    remedy: Remedy<'a>,
+    effect: Effect,
 }
 
-impl Trial<'_> {
-    /// Where the refused part begins once the text has that many bytes. The declarations come before it.
-    fn moved(&self, bytes: usize) -> usize {
-        let end = self.place.from.saturating_add(bytes);
-        end.saturating_sub(self.text.len())
-    }
-
-    /// What the text with this declaration in the place of a symbol's is answered.
-    fn with(
-        &self,
-        alloc: Global,
-        symbol: &SourceSymbol,
-        declaration: &str,
-    ) -> Result<Outcome, AllocError> {
-        let changed = text_with(alloc, self.text, symbol, declaration)?;
-        answer_to(alloc, changed.as_slice(), self.moved(changed.len()))
+/// How much is known of a remedy by what it does: the more, the better.
+fn rank(effect: Effect) -> u8 {
+    match effect {
+        Effect::Accepts => 3,
+        Effect::Builds => 2,
+        Effect::BreaksRuleAt(_) => 1,
+        Effect::Nothing => 0,
     }
 }
 
-/// A declaration that mends a circle, and whether the program is accepted with it.
-#[derive(Drop)]
-struct Mend {
-    declaration: String,
-    accepted: bool,
+/// The better of two remedies; of two that are as good the first.
+fn better<'a>(best: Option<Trial<'a>>, tried: Trial<'a>) -> Trial<'a> {
+    match best {
+        Some(best) if rank(tried.effect) <= rank(best.effect) => best,
+        _ => tried,
+    }
 }
 
-/// The declaration of a remedy, where it mends the circle.
-fn mend_by(alloc: Global, trial: Trial, remedy: &Remedy) -> Result<Option<Mend>, AllocError> {
-    let Remedy { symbol, braces } = *remedy;
-    let declaration = declaration_with(alloc, symbol, braces)?;
-    let accepted = match trial.with(alloc, symbol, declaration.as_str())? {
-        Outcome::Accepted => true,
-        Outcome::Built => false,
-        Outcome::Refused => return Ok(None),
-    };
-    Ok(Some(Mend {
-        declaration,
-        accepted,
-    }))
-}
-
-/// The first of these remedies with which the text is accepted; where there is none, the first that mends the circle.
-fn best_mend(alloc: Global, trial: Trial, remedies: &[Remedy]) -> Result<Option<Mend>, AllocError> {
+/// The first of these remedies with which the text is accepted; where there is none, the first one of the best.
+fn best_of<'a>(
+    alloc: Global,
+    refused: Refused,
+    remedies: &[Remedy<'a>],
+) -> Result<Option<Trial<'a>>, AllocError> {
     let mut best = None;
     for remedy in remedies {
-        let mend = mend_by(alloc, trial, remedy)?;
-        match mend {
-            Some(Mend { accepted: true, .. }) => return Ok(mend),
-            Some(_) if best.is_none() => best = mend,
-            _ => (),
+        let effect = refused.effect(alloc, Change::One(remedy.symbol, remedy.braces))?;
+        let tried = Trial {
+            remedy: *remedy,
+            effect,
+        };
+        best = Some(better(best, tried));
+        if effect == Effect::Accepts {
+            break;
         }
     }
     Ok(best)
 }
 
 /// Of some remedies those that are tried of a text.
-fn tried<'r, 'a>(text: &[u8], remedies: &'r [Remedy<'a>]) -> &'r [Remedy<'a>] {
+fn to_try<'r, 'a>(text: &[u8], remedies: &'r [Remedy<'a>]) -> &'r [Remedy<'a>] {
     let most = MOST_CHECKED.checked_div(text.len()).unwrap_or(0);
     remedies.get(..most).unwrap_or(remedies)
 }
 
-/// What helps where no declaration does, by the number of remedies and of those that were tried.
-fn help_without(remedies: usize, tried: usize) -> &'static str {
-    if remedies == 0 {
-        sentences::NO_BRACES
-    } else if tried == 0 {
-        sentences::JOIN_OTHERS
-    } else {
-        sentences::NO_BRACES_TRIED
+/// Says a sentence with the declaration of a remedy, what was refused, and a place.
+fn say_remedy<'s>(
+    words: &mut Words,
+    sentence: &str,
+    declaration: &'s str,
+    what: &'s str,
+    place: Place,
+) {
+    let slots = [
+        ("declaration", Value::Text(declaration)),
+        ("what", Value::Text(what)),
+        ("place", Value::Spot(place)),
+    ];
+    words.fill(sentence, &slots);
+}
+
+/// Adds what a remedy does, by a sentence with its declaration.
+fn add_declaration(
+    report: &mut Report,
+    kind: Kind,
+    sentence: &str,
+    remedy: Remedy,
+    what: &str,
+    place: Place,
+) {
+    match declaration_with(report.alloc, remedy.symbol, remedy.braces) {
+        Ok(declaration) => {
+            let mut words = Words::new(report.alloc);
+            say_remedy(&mut words, sentence, declaration.as_str(), what, place);
+            report.add(kind, None, words);
+        }
+        Err(error) => report.fail(error),
     }
 }
 
-/// Adds a declaration with which this is built.
-fn add_mend(report: &mut Report, mend: &Mend, what: &str) {
-    let sentence = if mend.accepted {
-        sentences::MENDS
-    } else {
-        sentences::BUILDS
-    };
-    let slots = [
-        ("declaration", Value::Text(mend.declaration.as_str())),
-        ("what", Value::Text(what)),
-    ];
-    report.help_with(sentence, &slots);
+/// Adds what a remedy does, where it does anything. Says whether it builds what was refused.
+fn add_tried(report: &mut Report, refused: Refused, tried: Trial) -> bool {
+    let Refused {
+        text,
+        what,
+        place,
+        ..
+    } = refused;
+    let remedy = tried.remedy;
+    match tried.effect {
+        Effect::Accepts => {
+            add_declaration(report, Kind::Help, sentences::MENDS, remedy, what, place);
+        }
+        Effect::Builds => {
+            add_declaration(report, Kind::Help, sentences::BUILDS, remedy, what, place);
+        }
+        Effect::BreaksRuleAt(at) => {
+            let there = place_at(text, at);
+            add_declaration(
+                report,
+                Kind::Note,
+                sentences::REFUSED_BEFORE,
+                remedy,
+                what,
+                there,
+            );
+        }
+        Effect::Nothing => (),
+    }
+    rank(tried.effect) > 1
 }
 
-/// Adds what helps: the first of these remedies with which the text is accepted, or else one with which what no steps build, which is this at a
-/// place, is built.
-pub(crate) fn add_help(report: &mut Report, remedies: &[Remedy], what: &str, place: Place) {
-    let tried = tried(report.text(), remedies);
-    let trial = Trial {
-        text: report.text(),
-        place,
-    };
-    match best_mend(report.alloc, trial, tried) {
-        Ok(Some(mend)) => add_mend(report, &mend, what),
-        Ok(None) => report.help(help_without(remedies.len(), tried.len())),
+/// Adds the declarations that the usual braces change, by a sentence on what these do.
+fn add_usual(report: &mut Report, refused: Refused, sentence: &str) {
+    let mut words = Words::new(report.alloc);
+    words.fill(sentence, &[("what", Value::Text(refused.what))]);
+    Change::AllUsual.say(&mut words, refused.source, MOST_DECLARED);
+    let count = Change::AllUsual.count(refused.source);
+    if count > MOST_DECLARED {
+        let more = Value::Number(count - MOST_DECLARED);
+        words.fill(sentences::AND_MORE, &[("count", more)]);
+    }
+    report.add(Kind::Help, None, words);
+}
+
+/// The first symbol of a program that has no usual braces.
+fn first_without(source: &Source) -> Option<&SourceSymbol> {
+    for symbol in source.symbols.as_slice() {
+        if !has_usual_braces(symbol) {
+            return Some(symbol);
+        }
+    }
+    None
+}
+
+/// Adds what is known where nothing that was tried helps, or nothing was tried.
+fn add_without(report: &mut Report, source: &Source, best: Option<Trial>) {
+    report.help(match best {
+        Some(_) => sentences::NO_BRACES_TRIED,
+        None => sentences::CONNECT_OTHERS,
+    });
+    if let Some(symbol) = first_without(source) {
+        let sentence = if symbol.port.output {
+            sentences::CONSTRUCTOR_WITH_OUTPUTS
+        } else {
+            sentences::OUTPUTS_APART
+        };
+        report.help_with(
+            sentence,
+            &[("symbol", Value::Text(symbol.name.text.as_str()))],
+        );
+    }
+}
+
+/// Adds what the usual braces do, or else one declaration, which was tried, or else what is known.
+fn add_usual_or(report: &mut Report, refused: Refused, best: Option<Trial>, usual: Effect) {
+    match (usual, best) {
+        (Effect::Accepts, _) => add_usual(report, refused, sentences::USUAL_MENDS),
+        (Effect::Builds, _) => add_usual(report, refused, sentences::USUAL_BUILDS),
+        (_, Some(tried)) if add_tried(report, refused, tried) => (),
+        _ => add_without(report, refused.source, best),
+    }
+}
+
+/// Adds what helps where no single declaration makes the program accepted.
+fn add_other_help(report: &mut Report, refused: Refused, best: Option<Trial>) {
+    match refused.usual_effect(report.alloc) {
+        Ok(usual) => add_usual_or(report, refused, best, usual),
+        Err(error) => report.fail(error),
+    }
+}
+
+/// Adds what helps: the first of these remedies with which the text is accepted, or else the usual braces, where what no steps build is built
+/// with them, or else the best of the remedies.
+pub(crate) fn add_help(report: &mut Report, remedies: &[Remedy], refused: Refused) {
+    match best_of(report.alloc, refused, to_try(refused.text, remedies)) {
+        Ok(Some(tried)) if tried.effect == Effect::Accepts => {
+            add_tried(report, refused, tried);
+        }
+        Ok(best) => add_other_help(report, refused, best),
+        Err(error) => report.fail(error),
+    }
+}
+
+/// Adds what helps against a circle in which each agent gives what the next one takes: the first of these remedies that builds what was
+/// refused; in the usual braces it stays as it is.
+pub(crate) fn add_help_for_value(report: &mut Report, remedies: &[Remedy], refused: Refused) {
+    if remedies.is_empty() {
+        report.help(sentences::NO_BRACES);
+        return;
+    }
+    match best_of(report.alloc, refused, to_try(refused.text, remedies)) {
+        Ok(Some(tried)) if add_tried(report, refused, tried) => (),
+        Ok(_) => report.help(sentences::ONLY_JOINED),
         Err(error) => report.fail(error),
     }
 }

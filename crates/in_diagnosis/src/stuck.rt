@@ -1,6 +1,8 @@
-//! Rules and nets that no steps build: the first part in which no node splits, and a circle in it.
-use crate::circles::{Circle, Field, Wires};
-use crate::remedies::{MOST_TRIED, Remedy, add_help, add_remedy};
+//! Rules and nets that no steps build: agents in a circle of which each gives what the next one takes; or else the first part in which no
+//! node splits, and a circle in it.
+use crate::circles::{Circle, Field, Port, Wires};
+use crate::directed::{Flow, agent_symbol};
+use crate::remedies::{MOST_TRIED, Refused, Remedy, add_help, add_help_for_value, add_remedy};
 use crate::sentences;
 use in_check::StuckPart;
 use in_diagnosis_words::{
@@ -9,13 +11,6 @@ use in_diagnosis_words::{
 use in_open_nets::{Node, OpenNet};
 use in_syntax::{Place, Source, SourceSymbol};
 use std::alloc::{AllocError, Global};
-
-/// What is refused, a rule or the net, and where.
-#[derive(Clone, Copy)]
-struct Refused<'a> {
-    what: &'a str,
-    place: Place,
-}
 
 /// The most nodes of a list that is told whole.
 const MOST_TOLD: usize = 6;
@@ -267,7 +262,7 @@ fn remedies_for<'a>(
 /// What helps against a circle through a node.
 fn add_help_for(report: &mut Report, field: Field, node: u32, circle: &Circle, refused: Refused) {
     match remedies_for(report.alloc, field, node, circle) {
-        Ok(remedies) => add_help(report, remedies.as_slice(), refused.what, refused.place),
+        Ok(remedies) => add_help(report, remedies.as_slice(), refused),
         Err(error) => report.fail(error),
     }
 }
@@ -292,7 +287,7 @@ fn add_circle(report: &mut Report, field: Field, node: u32, refused: Refused) {
     }
 }
 
-/// A circle through the first node of a part.
+/// The first node of a part, from which a circle through it leads back to it.
 fn add_circle_of(
     report: &mut Report,
     source: &Source,
@@ -319,21 +314,218 @@ fn add_circle_of(
     }
 }
 
-/// A circle through the first node of a part of an open net.
-fn add_first_circle(
+/// A part in which no node splits, and a circle through its first node.
+fn add_part(
     report: &mut Report,
     source: &Source,
     open: &OpenNet,
+    wires: &Wires,
     nodes: &[u32],
     refused: Refused,
 ) {
-    match Wires::of(report.alloc, open) {
-        Ok(wires) => add_circle_of(report, source, open, &wires, nodes, refused),
+    report.wrong_on(refused.place, sentences::NO_STEPS, refused.what);
+    note_nodes(report, source, open, sentences::NONE_IS_LAST, nodes);
+    add_circle_of(report, source, open, wires, nodes, refused);
+}
+
+// ---- a value that is needed to compute itself
+
+/// The symbol of an agent, and the number of its port.
+fn port_at<'a>(source: &'a Source, open: &OpenNet, at: Port) -> Option<Value<'a>> {
+    let (node, place) = at;
+    Some(Value::Port(agent_symbol(source, open, node)?, place as usize))
+}
+
+/// Says that an agent gives what another one takes, or it itself.
+fn say_flow(words: &mut Words, field: Field, flow: Flow) {
+    let ((from, _), (to, _)) = (flow.output, flow.input);
+    if let (Some(output), Some(input), Some(place)) = (
+        port_at(field.source, field.open, flow.output),
+        port_at(field.source, field.open, flow.input),
+        place_of(field.open, to),
+    ) {
+        let slots = [
+            ("output", output),
+            ("input", input),
+            ("place", Value::Spot(place)),
+        ];
+        let sentence = if from == to {
+            sentences::GIVES_ITSELF
+        } else {
+            sentences::GIVES_NEXT
+        };
+        words.fill(sentence, &slots);
+    }
+}
+
+/// Adds that an agent gives what another one takes, or it itself, and shows the line of the text at a place.
+fn add_flow(report: &mut Report, field: Field, flow: Flow, shown: Option<Place>) {
+    let mut words = Words::new(report.alloc);
+    say_flow(&mut words, field, flow);
+    report.add(Kind::Note, shown, words);
+}
+
+/// Where the agent stands that gives something.
+fn giver_place(open: &OpenNet, flow: Flow) -> Option<Place> {
+    let (from, _) = flow.output;
+    place_of(open, from)
+}
+
+/// The same, but for an agent that is shown already.
+fn giver_place_elsewhere(open: &OpenNet, flow: Flow, shown: Place) -> Option<Place> {
+    match giver_place(open, flow) {
+        Some(place) if place.from != shown.from => Some(place),
+        _ => None,
+    }
+}
+
+/// The nodes of a circle, in the direction of the values.
+fn nodes_of(alloc: Global, circle: &[Flow]) -> Result<Vec<u32>, AllocError> {
+    let mut nodes = Vec::new(alloc);
+    for flow in circle {
+        let (from, _) = flow.output;
+        nodes.push(from)?;
+    }
+    Ok(nodes)
+}
+
+/// Adds a circle of many agents.
+fn add_long(report: &mut Report, field: Field, circle: &[Flow]) {
+    match nodes_of(report.alloc, circle) {
+        Ok(nodes) => note_nodes(
+            report,
+            field.source,
+            field.open,
+            sentences::GIVE_NEXT,
+            nodes.as_slice(),
+        ),
         Err(error) => report.fail(error),
     }
 }
 
-/// A rule or a net that no steps build, with the part of it in which no node splits.
+/// Adds each agent of a circle of a few.
+fn add_short(report: &mut Report, field: Field, circle: &[Flow]) {
+    for flow in circle {
+        add_flow(report, field, *flow, giver_place(field.open, *flow));
+    }
+}
+
+/// Adds the agents of a circle; a single one that is shown already is not shown again.
+fn add_flows(report: &mut Report, field: Field, circle: &[Flow], shown: Place) {
+    match circle {
+        [flow] => add_flow(
+            report,
+            field,
+            *flow,
+            giver_place_elsewhere(field.open, *flow, shown),
+        ),
+        _ if circle.len() > MOST_SHOWN => add_long(report, field, circle),
+        _ => add_short(report, field, circle),
+    }
+}
+
+/// The remedies to try for a circle: for each agent that takes by an auxiliary port and gives by another one, both in one pair of braces.
+fn remedies_for_value<'a>(
+    alloc: Global,
+    field: Field<'a>,
+    circle: &[Flow],
+) -> Result<Vec<Remedy<'a>>, AllocError> {
+    let mut remedies = Vec::new(alloc);
+    let mut before = circle.last().copied();
+    for flow in circle {
+        if let Some(
+            Flow {
+                input: (node, entered),
+                ..
+            },
+        ) = before
+        {
+            let (_, left) = flow.output;
+            add_remedy_at(
+                &mut remedies,
+                field.source,
+                field.open,
+                node,
+                (entered, left),
+            )?;
+        }
+        before = Some(*flow);
+    }
+    Ok(remedies)
+}
+
+/// A value that is needed to compute itself.
+fn add_value(report: &mut Report, field: Field, circle: &[Flow], refused: Refused) {
+    report.wrong_on(refused.place, sentences::NEEDS_ITSELF, refused.what);
+    add_flows(report, field, circle, refused.place);
+    match remedies_for_value(report.alloc, field, circle) {
+        Ok(remedies) => add_help_for_value(report, remedies.as_slice(), refused),
+        Err(error) => report.fail(error),
+    }
+}
+
+/// A directed circle of agents in an open net; without a wire where there is none.
+fn value_circle(
+    alloc: Global,
+    source: &Source,
+    open: &OpenNet,
+    wires: &Wires,
+) -> Result<Vec<Flow>, AllocError> {
+    let all = vec![in alloc; true; open.nodes() as usize]?;
+    let part = all.as_slice();
+    let field = Field {
+        source,
+        open,
+        wires,
+        part,
+    };
+    field.directed_circle(alloc)
+}
+
+/// A value of an open net that is needed to compute itself, or else the part in which no node splits.
+fn add_open(
+    report: &mut Report,
+    source: &Source,
+    open: &OpenNet,
+    wires: &Wires,
+    nodes: &[u32],
+    refused: Refused,
+) {
+    match value_circle(report.alloc, source, open, wires) {
+        Ok(circle) => {
+            let field = Field {
+                source,
+                open,
+                wires,
+                part: &[],
+            };
+            if circle.is_empty() {
+                add_part(report, source, open, wires, nodes, refused);
+            } else {
+                add_value(report, field, circle.as_slice(), refused);
+            }
+        }
+        Err(error) => report.fail(error),
+    }
+}
+
+/// An open net that no steps build, with the part of it in which no node splits.
+fn add_stuck_part(report: &mut Report, source: &Source, part: &StuckPart, refused: Refused) {
+    let StuckPart { open, stuck } = part;
+    match Wires::of(report.alloc, open) {
+        Ok(wires) => add_open(
+            report,
+            source,
+            open,
+            &wires,
+            stuck.nodes.as_slice(),
+            refused,
+        ),
+        Err(error) => report.fail(error),
+    }
+}
+
+/// A rule or a net that no steps build.
 pub(crate) fn add_stuck(
     report: &mut Report,
     source: &Source,
@@ -341,10 +533,16 @@ pub(crate) fn add_stuck(
     what: &str,
     place: Place,
 ) {
-    report.wrong_on(place, sentences::NO_STEPS, what);
-    if let Some(StuckPart { open, stuck }) = part {
-        let nodes = stuck.nodes.as_slice();
-        note_nodes(report, source, open, sentences::NONE_IS_LAST, nodes);
-        add_first_circle(report, source, open, nodes, Refused { what, place });
+    match part {
+        Some(part) => {
+            let refused = Refused {
+                text: report.text(),
+                source,
+                what,
+                place,
+            };
+            add_stuck_part(report, source, part, refused);
+        }
+        None => report.wrong_on(place, sentences::NO_STEPS, what),
     }
 }

@@ -3,6 +3,7 @@ ghost use Rattle.std.specs.Prelude.{◌≡◌, IfOk, is_some};
 ghost use Rattle.in_syntax.specs.Parsing.{IsOfText};
 ghost use Rattle.in_diagnosis.specs.Programs.{IsToldOfText, IsToldOfTree};
 
+use crate::sentences;
 use crate::stuck::add_stuck;
 use crate::wires::add_misfit;
 use in_check::{Evidence, Misfit, StuckPart, refusal_of};
@@ -18,6 +19,7 @@ fn add_agents(report: &mut Report, source: &Source, place: Place) {
         None => (MAX_AGENTS, "agents in the net"),
     };
     add_more_than(report, place, most, what);
+    report.help(sentences::BUILD_LATER);
 }
 
 /// What is refused of a program that has a tree, but for wires that don't fit and for what no steps build.

@@ -1,8 +1,7 @@
 //! Declarations of symbols with other braces.
-use crate::before::tokens_of;
 use crate::declarations::{arity, place_in, port, sign};
 use crate::words::Words;
-use in_syntax::{Place, SourceSymbol, TokenKind};
+use in_syntax::{Place, Source, SourceSymbol};
 use std::alloc::{AllocError, Global};
 
 /// Other braces for the auxiliary ports of a symbol, whose order stays as it is.
@@ -12,6 +11,8 @@ pub enum Braces {
     Together(usize, usize),
     /// The port of this number begins a pair.
     Apart(usize),
+    /// Each input is in a pair of its own, and neighbouring outputs are in one pair.
+    Usual,
 }
 
 /// Braces with which a circle no longer passes a node by two ports, by their numbers at the node: those of an agent are put together, those of
@@ -37,13 +38,57 @@ fn class_of(symbol: &SourceSymbol, number: usize) -> usize {
     }
 }
 
-/// Whether a pair of braces begins with the auxiliary port of that number, which is not the first one.
+/// Whether the port of that number is an output.
+fn is_output(symbol: &SourceSymbol, number: usize) -> bool {
+    match port(symbol, number) {
+        Some((_, port)) => port.output,
+        None => false,
+    }
+}
+
+/// Whether the auxiliary port of that number and the one before it are two outputs.
+fn joins_outputs(symbol: &SourceSymbol, number: usize) -> bool {
+    number > 1 && is_output(symbol, number) && is_output(symbol, number - 1)
+}
+
+/// Whether a pair of braces begins with the auxiliary port of that number, which is not the first one, as the symbol is declared.
+fn begins_now(symbol: &SourceSymbol, number: usize) -> bool {
+    class_of(symbol, number) != class_of(symbol, number.saturating_sub(1))
+}
+
+/// The same with other braces.
 fn begins(symbol: &SourceSymbol, braces: Braces, number: usize) -> bool {
     match braces {
         Braces::Together(first, last) if first < number && number <= last => false,
         Braces::Apart(at) if at == number => true,
-        _ => class_of(symbol, number) != class_of(symbol, number.saturating_sub(1)),
+        Braces::Usual => !joins_outputs(symbol, number),
+        _ => begins_now(symbol, number),
     }
+}
+
+/// Whether some braces put each input of a symbol into a pair of its own, and all outputs, its principal port among them, into one class:
+/// it has no output, one principal output, or neighbouring outputs at auxiliary ports.
+pub fn has_usual_braces(symbol: &SourceSymbol) -> bool {
+    let mut groups: usize = if symbol.port.output { 1 } else { 0 };
+    for number in 1..=arity(symbol) {
+        if is_output(symbol, number) && !joins_outputs(symbol, number) {
+            groups = groups.saturating_add(1);
+        }
+    }
+    groups <= 1
+}
+
+/// Whether a symbol is declared in other braces than the usual ones, and has such.
+fn is_unusual(symbol: &SourceSymbol) -> bool {
+    if !has_usual_braces(symbol) {
+        return false;
+    }
+    for number in 2..=arity(symbol) {
+        if begins_now(symbol, number) == joins_outputs(symbol, number) {
+            return true;
+        }
+    }
+    false
 }
 
 /// What stands before the auxiliary port of that number.
@@ -78,6 +123,51 @@ fn say_declaration(words: &mut Words, symbol: &SourceSymbol, braces: Braces) {
     words.say(if ports > 0 { "}" } else { "" });
 }
 
+/// What is changed in a text: the braces of one symbol, or those of all symbols that are declared in other braces than the usual ones and
+/// have such.
+#[derive(Clone, Copy)]
+pub enum Change<'a> {
+    One(&'a SourceSymbol, Braces),
+    AllUsual,
+}
+
+impl Change<'_> {
+    /// The braces that a symbol gets; nothing where they stay as they are.
+    fn braces_of(&self, symbol: &SourceSymbol) -> Option<Braces> {
+        match self {
+            Change::One(one, braces) if one.name.place.from == symbol.name.place.from => {
+                Some(*braces)
+            }
+            Change::AllUsual if is_unusual(symbol) => Some(Braces::Usual),
+            _ => None,
+        }
+    }
+
+    /// How many declarations of a program it changes.
+    pub fn count(&self, source: &Source) -> usize {
+        let mut count: usize = 0;
+        for symbol in source.symbols.as_slice() {
+            if self.braces_of(symbol).is_some() {
+                count = count.saturating_add(1);
+            }
+        }
+        count
+    }
+
+    /// Says the first declarations that it changes, `most` at most, each as it is with the change and in a line of its own.
+    pub fn say(&self, words: &mut Words, source: &Source, most: usize) {
+        let mut left = most;
+        for symbol in source.symbols.as_slice() {
+            if let (Some(braces), true) = (self.braces_of(symbol), left > 0) {
+                words.say("\n    symbol ");
+                say_declaration(words, symbol, braces);
+                words.say(";");
+                left -= 1;
+            }
+        }
+    }
+}
+
 /// What a symbol is declared as with these braces, without the word `symbol` and the `;`.
 pub fn declaration_with(
     alloc: Global,
@@ -89,29 +179,133 @@ pub fn declaration_with(
     words.into_text()
 }
 
-/// Where the declaration ends whose name stands at a place: at its `;`, which the tree doesn't have.
-fn declaration_end(alloc: Global, text: &[u8], name: Place) -> Result<usize, AllocError> {
-    let tokens = tokens_of(alloc, text.get(name.from..).unwrap_or(&[]))?;
-    for token in tokens.as_slice() {
-        if token.kind == TokenKind::Semicolon {
-            return Ok(name.from.saturating_add(token.place.from));
+/// Where the declaration ends whose name stands at a place: at its `;`, which the tree doesn't have. Comments may stand in it.
+fn declaration_end(text: &[u8], name: Place) -> usize {
+    let mut is_comment = false;
+    for (index, byte) in text.get(name.from..).unwrap_or(&[]).iter().enumerate() {
+        match *byte {
+            b'#' => is_comment = true,
+            b'\n' => is_comment = false,
+            b';' if !is_comment => return name.from.saturating_add(index),
+            _ => (),
         }
     }
-    Ok(text.len())
+    text.len()
 }
 
-/// A text in which a symbol is declared so: these words stand in the place of its declaration, without the word `symbol` and the `;`.
-pub fn text_with(
-    alloc: Global,
-    text: &[u8],
-    symbol: &SourceSymbol,
-    declaration: &str,
-) -> Result<Vec<u8>, AllocError> {
-    let name = symbol.name.place;
-    let after = declaration_end(alloc, text, name)?;
-    let mut changed = Vec::new(alloc);
-    changed.extend_from_slice(text.get(..name.from).unwrap_or(&[]))?;
-    changed.extend_from_slice(declaration.as_bytes())?;
-    changed.extend_from_slice(text.get(after..).unwrap_or(&[]))?;
-    Ok(changed)
+/// Where a declaration ended, and where it ends now.
+#[derive(Clone, Copy)]
+struct Edit {
+    before: usize,
+    after: usize,
+}
+
+/// A text with other braces, beside the one that it was made of.
+#[derive(Drop)]
+pub struct Changed {
+    text: Vec<u8>,
+    edits: Vec<Edit>,
+}
+
+impl Changed {
+    /// The text.
+    pub fn text(&self) -> &[u8] {
+        self.text.as_slice()
+    }
+
+    /// Where the byte that stands at this one, in no declaration that was changed, stood before.
+    pub fn before(&self, at: usize) -> usize {
+        let mut found = at;
+        for edit in self.edits.as_slice() {
+            if edit.after <= at {
+                found = edit.before.saturating_add(at - edit.after);
+            }
+        }
+        found
+    }
+
+    /// Goes on with the text from where the last declaration that was changed ended, up to this byte.
+    fn copy(&mut self, text: &[u8], to: usize) -> Result<(), AllocError> {
+        let from = match self.edits.last() {
+            Some(edit) => edit.before,
+            None => 0,
+        };
+        self.text
+            .extend_from_slice(text.get(from..to).unwrap_or(&[]))?;
+        Ok(())
+    }
+
+    /// Goes on up to the declaration of a symbol, and with it in these braces.
+    fn declare(
+        &mut self,
+        alloc: Global,
+        text: &[u8],
+        symbol: &SourceSymbol,
+        braces: Braces,
+    ) -> Result<(), AllocError> {
+        let declaration = declaration_with(alloc, symbol, braces)?;
+        self.copy(text, symbol.name.place.from)?;
+        self.text.extend_from_slice(declaration.as_bytes())?;
+        self.edits.push(Edit {
+            before: declaration_end(text, symbol.name.place),
+            after: self.text.len(),
+        })?;
+        Ok(())
+    }
+
+    /// Goes on to the end with what is changed so.
+    fn fill(
+        &mut self,
+        alloc: Global,
+        text: &[u8],
+        source: &Source,
+        change: Change,
+    ) -> Result<(), AllocError> {
+        for symbol in source.symbols.as_slice() {
+            if let Some(braces) = change.braces_of(symbol) {
+                self.declare(alloc, text, symbol, braces)?;
+            }
+        }
+        self.copy(text, text.len())
+    }
+
+    /// The text of this program with a change.
+    pub fn new(
+        alloc: Global,
+        text: &[u8],
+        source: &Source,
+        change: Change,
+    ) -> Result<Changed, AllocError> {
+        let mut changed = Changed {
+            text: Vec::new(alloc),
+            edits: Vec::new(alloc),
+        };
+        changed.fill(alloc, text, source, change)?;
+        Ok(changed)
+    }
+}
+
+/// Whether a byte goes on with a character.
+fn is_inside(byte: u8) -> bool {
+    (0x80..=0xBF).contains(&byte)
+}
+
+/// The place of the character that begins at a byte of a text: its line and its column, both from 1.
+pub fn place_at(text: &[u8], at: usize) -> Place {
+    let mut line: u32 = 1;
+    let mut column: u32 = 1;
+    for byte in text.get(..at).unwrap_or(text) {
+        if *byte == b'\n' {
+            line = line.saturating_add(1);
+            column = 1;
+        } else if !is_inside(*byte) {
+            column = column.saturating_add(1);
+        }
+    }
+    Place {
+        from: at,
+        to: at,
+        line,
+        col: column,
+    }
 }

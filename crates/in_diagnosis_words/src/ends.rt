@@ -360,7 +360,11 @@ fn add_turned(report: &mut Report, one: &ToldEnd, other: &ToldEnd) -> bool {
             help_with_free_end(report, sentence, name, port);
         }
         (None, Some(result)) => {
-            help_with_result(report, result);
+            if has_principal(one, other) {
+                help_with_result(report, result);
+            } else {
+                help_with_giving(report, sentences::SYMBOL_GIVES, result);
+            }
             add_input(report, one, other);
         }
         (None, None) => return false,

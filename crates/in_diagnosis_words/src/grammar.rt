@@ -388,12 +388,13 @@ fn limit(expected: Expected) -> (usize, &'static str) {
     }
 }
 
-/// What helps against too much of it.
-fn limit_help(expected: Expected) -> &'static str {
+/// What helps against too much of it, where anything does.
+fn limit_help(expected: Expected) -> Option<&'static str> {
     match expected {
-        Expected::Term => sentences::NAME_AN_INNER_TERM,
-        Expected::PortType => sentences::AGENT_FOR_SEVERAL,
-        _ => sentences::SPLIT_THE_PROGRAM,
+        Expected::Term => Some(sentences::NAME_AN_INNER_TERM),
+        Expected::PortType => Some(sentences::AGENT_FOR_SEVERAL),
+        Expected::FreeName => Some(sentences::FREE_END_FOR_SEVERAL),
+        _ => None,
     }
 }
 
@@ -407,5 +408,7 @@ pub fn add_more_than(report: &mut Report, place: Place, most: usize, what: &str)
 pub(crate) fn add_limit(report: &mut Report, place: Place, expected: Expected) {
     let (most, what) = limit(expected);
     add_more_than(report, place, most, what);
-    report.help(limit_help(expected));
+    if let Some(sentence) = limit_help(expected) {
+        report.help(sentence);
+    }
 }

@@ -7,8 +7,8 @@
 //!
 //! `declarations` and `occurrences` look into the tree, the latter where a name stands in a rule or in the net; `single` finds the
 //! variables that occur once, `near` the names that may have been meant (`strsim`). `ends` has the two ends of a wire that don't fit,
-//! `nodes` the nodes of a circle, and `braces` declarations with other braces, in words. Tokens are read again in `before` alone: those
-//! before a place where the grammar refuses, where there is no tree, and for `braces` those of a declaration, whose `;` no tree has.
+//! `nodes` the nodes of a circle, and `braces` declarations with other braces, in words, and the texts with them. Tokens are read again in
+//! `before` alone: those before a place where the grammar refuses, where there is no tree.
 //!
 //! `sentences` has each sentence whole, with named slots; `words` writes a sentence with what stands in its slots (`slots`). `reports` keeps
 //! the parts of a diagnosis, and writes its text with `excerpts`: lines of the text with marks under them. A `Report` keeps that memory ran
@@ -35,7 +35,9 @@ mod single;
 mod slots;
 mod words;
 
-pub use braces::{Braces, changed_braces, declaration_with, text_with};
+pub use braces::{
+    Braces, Change, Changed, changed_braces, declaration_with, has_usual_braces, place_at,
+};
 pub use declarations::port;
 pub use ends::{Giving, ToldEnd, agent_end, free_end, head_end, say_ends};
 pub use grammar::add_more_than;

@@ -2,7 +2,7 @@
 
 // ---- characters
 
-pub(crate) const NO_UTF8: &str = "the byte {byte} is no UTF-8 here";
+pub(crate) const NO_UTF8: &str = "invalid UTF-8: byte {byte}";
 
 pub(crate) const SAVE_AS_UTF8: &str = "save the text as UTF-8";
 
@@ -64,20 +64,20 @@ pub(crate) const NO_EMPTY_BRACES: &str = "a pair of braces has at least one port
 
 pub(crate) const HEAD_BRACKETS: &str = "the terms of a head stand in `[` and `]`";
 
-pub(crate) const EMPTY_HEAD: &str = "a head has brackets, also where it has no terms: `Z[]`";
+pub(crate) const EMPTY_HEAD: &str = "a head has brackets even if it has no terms: `Z[]`";
 
 pub(crate) const ARGUMENT_BRACKETS: &str =
     "the arguments of an agent stand in `(` and `)`; `[` and `]` are for heads of rules";
 
 pub(crate) const NET_BRACKETS: &str =
-    "the net has brackets for its free ends, also where it has none: `net () { .. }`";
+    "the net has brackets for its free ends even if it has none: `net () { .. }`";
 
 pub(crate) const SYMBOL_DECLARATION: &str =
     "a symbol is declared with the types of its ports: `symbol S : nat+ {nat-};`";
 
 pub(crate) const FREE_END_DECLARATION: &str = "a free end is declared with its type: `r : nat+`";
 
-pub(crate) const RESERVED_WORD: &str = "a reserved word is no name";
+pub(crate) const RESERVED_WORD: &str = "a reserved word can't be a name";
 
 pub(crate) const ENDS_WITH_NET: &str = "a program ends with its net: `net (..) { .. }`";
 
@@ -88,7 +88,7 @@ pub(crate) const RULE_BEGINS: &str = "a rule begins with the word `rule`";
 pub(crate) const WHERE_EQUATIONS_STAND: &str =
     "equations stand in the braces of the net, or of a rule behind the word `with`";
 
-pub(crate) const NOTHING_AFTER_NET: &str = "no `;` stands after the net";
+pub(crate) const NOTHING_AFTER_NET: &str = "the net is not followed by `;`";
 
 pub(crate) const NET_COMES_LAST: &str = "the net comes last, and there is one";
 
@@ -116,7 +116,7 @@ pub(crate) const ONE_EQUATION_END: &str = "an equation ends with one `;`";
 
 pub(crate) const EQUATIONS_FORM: &str = "equations stand in braces, each with `;` at its end";
 
-pub(crate) const COMMAS: &str = "what stands in brackets is separated by `,`";
+pub(crate) const COMMAS: &str = "items in brackets are separated by `,`";
 
 pub(crate) const LOOK_BEFORE: &str =
     "look at what stands before it: most often a `;`, a `~` or a bracket is missing";
@@ -136,7 +136,7 @@ pub(crate) const NAME_AN_INNER_TERM: &str =
 
 pub(crate) const AGENT_FOR_SEVERAL: &str = "let one argument be an agent that holds several";
 
-pub(crate) const SPLIT_THE_PROGRAM: &str = "split the program";
+pub(crate) const FREE_END_FOR_SEVERAL: &str = "let one free end take an agent that holds several";
 
 // ---- names
 
@@ -148,7 +148,7 @@ pub(crate) const FREE_END_TWICE: &str = "the free end `{name}` is declared twice
 
 pub(crate) const FIRST_DECLARATION: &str = "it is declared here first";
 
-pub(crate) const RENAME_OR_LEAVE_OUT: &str = "give one of them another name, or leave one out";
+pub(crate) const RENAME_OR_LEAVE_OUT: &str = "rename one of them, or remove one";
 
 pub(crate) const NAME_OF_A_SYMBOL: &str = "the free end `{name}` has the name of a symbol";
 
@@ -193,21 +193,21 @@ pub(crate) const OCCURS_HERE: &str = "it occurs here";
 
 pub(crate) const OCCURS_ONCE_TOO: &str = "`{name}` occurs once too";
 
-pub(crate) const NO_FREE_END: &str = "`{name}` occurs once, and is no free end";
+pub(crate) const NO_FREE_END: &str = "`{name}` occurs once, and isn't a free end";
 
 pub(crate) const ONE_NAME_FOR_BOTH: &str =
     "if they are the two ends of one wire, write one name for both";
 
-pub(crate) const NO_SYMBOL_IS_A_VARIABLE: &str = "a name that is no symbol's is a variable";
+pub(crate) const NO_SYMBOL_IS_A_VARIABLE: &str = "a name that isn't a symbol is a variable";
 
 pub(crate) const ERASE: &str =
-    "what isn't needed is joined to an agent that erases it, with rules of its own";
+    "to discard a value, connect it to an eraser: a symbol of your own with a rule for each constructor";
 
 pub(crate) const ERASE_NO_WILDCARD: &str =
-    "`_` is a name like others: what isn't needed is joined to an agent that erases it, with rules of its own";
+    "`_` is a name like others; to discard a value, connect it to an eraser: a symbol of your own with a rule for each constructor";
 
 pub(crate) const COPY: &str =
-    "what is needed twice is joined to an agent that copies it, with rules of its own";
+    "to use a value twice, connect it to a duplicator: a symbol of your own with a rule for each constructor";
 
 pub(crate) const NOT_JOINED: &str = "nothing is joined to the free end `{name}`";
 
@@ -217,15 +217,15 @@ pub(crate) const OCCURS_IN_THE_NET: &str =
 pub(crate) const OCCURS_A_SECOND_TIME: &str = "the free end `{name}` occurs a second time";
 
 pub(crate) const ONE_END_OF_ONE_WIRE: &str =
-    "a free end is one end of one wire; what is needed twice takes an agent that copies it";
+    "a free end is one end of one wire; to use a value twice, connect it to a duplicator";
 
 // ---- wires
 
-pub(crate) const CLOSED: &str = "this wire is closed: no agent and no free end is on it";
+pub(crate) const CLOSED: &str = "this wire is a loop: it has no agent and no free end";
 
 pub(crate) const GOES_ON_HERE: &str = "the wire goes on here";
 
-pub(crate) const LEAVE_OUT_OR_JOIN: &str = "leave the equation out, or join its ends to something";
+pub(crate) const LEAVE_OUT_OR_JOIN: &str = "remove the equation, or connect its ends to something";
 
 pub(crate) const TWO_TYPES: &str = "this wire joins the type `{one}` to the type `{other}`";
 
@@ -268,8 +268,7 @@ pub(crate) const DESTRUCTOR: &str = "`{symbol}` is a destructor: its principal p
 
 pub(crate) const CANNOT_MEET: &str = "the two heads of this rule can't meet";
 
-pub(crate) const MEETING: &str =
-    "a rule is for a constructor and a destructor whose principal ports are of one type";
+pub(crate) const MEETING: &str = "a rule needs a constructor and a destructor of the same type";
 
 pub(crate) const FIRST_RULE: &str = "the first one is here";
 
@@ -279,9 +278,9 @@ pub(crate) const SECOND_RULE_UNKNOWN: &str = "this is a second rule for its two 
 
 pub(crate) const KEEP_ONE_RULE: &str = "keep one of them: the order of the heads doesn't matter";
 
-pub(crate) const NO_RULE: &str = "`{constructor}` and `{destructor}` can meet, and have no rule";
+pub(crate) const NO_RULE: &str = "`{constructor}` and `{destructor}` can meet, but have no rule";
 
-pub(crate) const NO_RULE_UNKNOWN: &str = "two symbols can meet, and have no rule";
+pub(crate) const NO_RULE_UNKNOWN: &str = "these two symbols can meet, but have no rule";
 
 pub(crate) const ADD_RULE: &str =
     "add `rule {constructor}[{first}] >< {destructor}[{second}];`, with terms for the letters";

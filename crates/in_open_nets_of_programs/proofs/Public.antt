@@ -6,5 +6,7 @@ pub use Rattle.in_open_nets_of_programs.proofs.OfRules.{rule_circle}
 pub use Rattle.in_open_nets_of_programs.proofs.OneOpening.{by_elements, one_open_net}
 pub use Rattle.in_open_nets_of_programs.proofs.Opened.{is_open_net}
 pub use Rattle.in_open_nets_of_programs.proofs.RuleLaws.{no_circle, opened_once, rules_open}
+pub use Rattle.in_open_nets_of_programs.proofs.RulePoints.{NodeKind, agent_within, kind_of, of_agent, of_first, of_second, place_there, same_agent, same_place}
 pub use Rattle.in_open_nets_of_programs.proofs.TextRules.{rule_whole}
 pub use Rattle.in_open_nets_of_programs.proofs.Opened
+pub use Rattle.in_open_nets_of_programs.proofs.OpenedRules

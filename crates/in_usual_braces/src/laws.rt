@@ -1,0 +1,39 @@
+//! Laws over the definitions of usual braces, for whoever reasons above them. No function here does anything.
+
+ghost use Rattle.in_usual_braces.specs.Laws.{CrossingDirectedCirclesDecide, DirectedCirclesCross, NoBracesMend, StuckPartsHaveCircles, UsualBracesDecide};
+
+use in_open_nets::laws::{splits_or_first_stuck, splits_where_derivable};
+
+/// Where all outputs of a node are of one class, an open net is derivable exactly when it has no directed circle that enters and leaves
+/// each of its nodes by different classes. Derivable is Lafont 1990's semi-simple; that directed circles decide it is this project's own.
+pub fn crossing_directed_circles_decide()
+    ensures { CrossingDirectedCirclesDecide }
+{
+    splits_or_first_stuck();
+    splits_where_derivable();
+}
+
+/// Where no input of a node is of the class of an output, each directed circle is such a one.
+pub fn directed_circles_cross()
+    ensures { DirectedCirclesCross }
+{}
+
+/// So with both, an open net is derivable exactly when it has no directed circle.
+pub fn usual_braces_decide()
+    ensures { UsualBracesDecide }
+{
+    crossing_directed_circles_decide();
+    directed_circles_cross();
+}
+
+/// A circle that goes through the principal port of each of its agents excludes a derivation: in whatever braces their other ports stand,
+/// the principal port is a class by itself.
+pub fn no_braces_mend()
+    ensures { NoBracesMend }
+{}
+
+/// What a refusal can show: where all outputs of each node of the first stuck sub-net are of one class, there is a directed circle in it
+/// that crosses. So where there is none, some node of it has outputs of several classes.
+pub fn stuck_parts_have_circles()
+    ensures { StuckPartsHaveCircles }
+{}

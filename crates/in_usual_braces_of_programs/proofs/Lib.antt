@@ -1,0 +1,4 @@
+pub mod Members
+pub mod OfNets
+pub mod OfRules
+pub mod Places
