@@ -1,10 +1,11 @@
 -- What the regions of an arena are to contracts, and what a change of one of their cells is. Each is said by class.
-use Rattle.std.proofs.Common.{◌≡◌, ℕ, zero, suc, ◌+◌, ◌*◌, ◌<◌, List, [], ◌∷◌, length, set, get_or, count_by, Some, None, sym, ap, ◌∙◌, subst, refl, arith}
-use Rattle.std.proofs.lemmas.List.{length-map, get_or-replicate, length-replicate}
+use Rattle.std.proofs.Common.{◌≡◌, ℕ, zero, suc, ◌+◌, ◌*◌, ◌<◌, List, [], ◌∷◌, length, set, get_or, count_by, Some, None, sym, ap, ◌∙◌, subst, refl, ⊎_elim, arith}
+use Rattle.std.proofs.lemmas.Bool.{cases_lt}
+use Rattle.std.proofs.lemmas.List.{length-map, get_or-replicate, length-replicate, get_or_past}
 use Rattle.std.proofs.Math.ListN.{get_or-map}
-use Rattle.in_arena.specs.Arenas.{ArenaView, memory_of, state_at, changed, free_of, IsOf, NoneLeased, Leases}
+use Rattle.in_arena.specs.Arenas.{ArenaView, memory_of, state_at, changed, free_of, IsOf, NoneLeased, Leases, BeginsCell}
 use Rattle.in_arena.specs.Classes.{classes, class_no, IsNumberOf}
-use Rattle.in_arena.specs.ByClass.{row_of, cell_at, block_of, view_of, IsRegions, Become, AreWhole, IsPlace, cell_view, index_of, IsHeldCell, IsCellOf, Lend, sack_row, sack_cell, sack_block, sacks_view, IsSacks, SacksBecome, IsOut}
+use Rattle.in_arena.specs.ByClass.{row_of, cell_at, block_of, view_of, IsRegions, Become, AreWhole, IsPlace, cell_view, index_of, IsHeldCell, IsCellOf, Lend, Begin, sack_row, sack_cell, sack_block, sacks_view, IsSacks, SacksBecome, IsOut}
 use Rattle.in_arena.specs.States.{State, Vacant, Leased, IsLeased, is_vacant}
 use Rattle.in_arena.specs.Regions.{state_of, states, IsRegion, IsHeld, IsWholeRegion, IsFreshRegion}
 use Rattle.in_arena.specs.Regions.{IsHeldOf, state_at as state_in_region}
@@ -82,6 +83,29 @@ module _ (r : Regions) (h : IsRegions r) where
 
   pub frees_are : (c : CellClass) → free_of (view_of r) c ≡ count_by is_vacant (row_of r c)
   frees_are c = free_is (block_of r) r.cells (row_of r) row_long c
+
+  -- ---- a cell is begun
+
+  cell_inside : (c : CellClass) (i : ℕ) → cell_at r c i ≡ Vacant → i < r.cells
+  cell_inside c i free =
+      ⊎_elim
+      (λ lt. omega (arith, lt, row_long c))
+      (λ past. absurd (subst IsLeased (sym (get_or_past (row_of r c) i Leased past) ∙ cell_is c i ∙ free) tt))
+      (cases_lt i (length (row_of r c)))
+
+  pub none_begun : {a : ArenaView} (s : Regions) (c : CellClass) (w n : ℕ) → view_of r ≡ a → Begin r c w n None s → (free_of a c ≡ 0) × (view_of s ≡ a)
+  none_begun s c w n e none = (ap (λ a. free_of a c) (sym e) ∙ frees_are c ∙ none.0, ap view_of none.1 ∙ e)
+
+  pub begun_cell : {a : ArenaView} (s : Regions) (c : CellClass) (w n i k : ℕ) → view_of r ≡ a → Begin r c w n (Some i) s → k ≡ class_no c * s.cells + i → BeginsCell c w n a k (view_of s)
+  begun_cell s c w n i k e made at =
+      let b = made.1.2 in let p : IsPlace r.cells k c i = (cell_inside c i made.0, at ∙ ap (λ m. class_no c * m + i) b.memory.1) in
+      record {
+        at = subst (λ (v : ArenaView). IsNumberOf v.cells c k) e (number_of_place r.cells k c i p);
+        was = found c i e p ∙ made.0;
+        state = made.1.0;
+        begun = made.1.1;
+        arena = changed_from s c i e p b refl;
+      }
 
   -- ---- a lease of one of their cells
 

@@ -1,7 +1,7 @@
 -- What a change of one cell leaves of a region.
 use Rattle.std.proofs.Common.{◌≡◌, ◌≢◌, ℕ, zero, suc, ◌+◌, ◌-◌, ◌<◌, ◌≤◌, ◌^◌, List, [], ◌∷◌, map, take, length, set, get_or, replicate, cond, count_by, Option, Some, None, refl, sym, ap, ◌∙◌, subst, inl, inr, arith, length-set, get_or-set_same, get_or-set_other}
 use Rattle.std.proofs.lemmas.Bool.{cases_eq, cases_lt}
-use Rattle.std.proofs.lemmas.List.{length-map, length-replicate, length-take-le, get_or-replicate, map-set, set-get_or}
+use Rattle.std.proofs.lemmas.List.{length-replicate, length-take-le, get_or-replicate, map-set, set-get_or}
 use Rattle.std.proofs.Math.ListN.{get_or-map}
 use Rattle.std.proofs.lemmas.List.Sums.{sum_by-set, sum_by-cons}
 use Rattle.std.specs.List.{AllByRecursion}
@@ -10,13 +10,12 @@ use Rattle.in_memory.specs.declared.cells.Base.{Base}
 use Rattle.in_memory.specs.declared.cells.Cells.{Cells}
 use Rattle.in_memory.specs.Lends.{with_slots}
 use Rattle.in_memory.proofs.Public.{either_none, filled_inside}
-use Rattle.in_arena.specs.Contents.{end_of}
 use Rattle.in_arena.specs.declared.content.Content.{Content}
-use Rattle.in_arena.specs.declared.content.Stored.{Stored}
+use Rattle.in_arena.specs.declared.content.End.{End}
 use Rattle.in_arena.specs.declared.region.Region.{Region}
 use Rattle.in_arena.specs.declared.region.Held.{Held}
-use Rattle.in_arena.specs.States.{State, Vacant, Leased, Live, IsLive, IsLeased, is_vacant, places, with_end}
-use Rattle.in_arena.specs.Regions.{with_ends, one_if_zero, state_in, state_of, state, states, vacancy, vacancies, IsVacantTo, IsFreeList, AreDifferentNumbers, IsCell, AreNew, IsRegion, IsHeld, IsHeldOf, Becomes, IsSame, IsLeasedTo, IsSameCell, state_at}
+use Rattle.in_arena.specs.States.{State, Vacant, Leased, Live, IsLive, IsLeased, IsBegun, is_vacant, places, with_end}
+use Rattle.in_arena.specs.Regions.{with_ends, one_if_zero, state_in, state_of, state, states, vacancy, vacancies, IsVacantTo, IsFreeList, AreDifferentNumbers, IsCell, AreNew, IsRegion, IsHeld, IsHeldOf, Becomes, IsSame, IsLeasedTo, IsBegunIn, IsSameCell, state_at}
 
 -- ---- two owners' cells
 
@@ -45,7 +44,7 @@ Slots W = List (Slot W)
 
 -- ---- how many cells are free
 
-one_if : (n w : ℕ) (es : List Stored) → one_if_zero n ≡ cond (is_vacant (with_ends n w es)) 1 0
+one_if : (n w : ℕ) (es : List End) → one_if_zero n ≡ cond (is_vacant (with_ends n w es)) 1 0
 one_if zero w es = refl
 one_if (suc n) w es = refl
 
@@ -58,7 +57,7 @@ pub vacancies_are : {W : ℕ} (xs : List (Slot W)) → vacancies xs ≡ count_by
 vacancies_are [] = refl
 vacancies_are (x ∷ xs) = omega (arith, sum_by-cons vacancy x xs, sum_by-cons (λ s. cond (is_vacant s) 1 0) (state_of x) (map state_of xs), vacancy_is x, vacancies_are xs)
 
-not_leased : (n w : ℕ) (es : List Stored) → IsLeased (with_ends n w es) → ⊥
+not_leased : (n w : ℕ) (es : List End) → IsLeased (with_ends n w es) → ⊥
 not_leased zero w es h = h
 not_leased (suc n) w es h = h
 
@@ -67,7 +66,7 @@ leased_none None h = refl
 leased_none (Some None) h = absurd h
 leased_none (Some (Some c)) h = absurd (not_leased c.count c.word c.ends h)
 
-live_count : (n w : ℕ) (es : List Stored) → IsLive (with_ends n w es) → one_if_zero n ≡ 0
+live_count : (n w : ℕ) (es : List End) → IsLive (with_ends n w es) → one_if_zero n ≡ 0
 live_count zero w es h = absurd h
 live_count (suc n) w es h = refl
 
@@ -275,14 +274,14 @@ module _ {W : ℕ} where
       ap (λ cs. get_or cs l.index None) h.cell ∙ get_or-set_same none l.index (Some (Some h.content)) None (omega (arith, long, h.index.0))
 
   -- .. from a region whose cells were the same
+  state_same : (r s : Region W) (i : ℕ) → IsSame r s → state_at r i ≡ state_at s i
+  state_same r s i same = sym (get_or-map state_of r.cells.slots i None) ∙ ap (λ xs. get_or xs i Leased) (sym same.states) ∙ get_or-map state_of s.cells.slots i None
+
+  becomes_from : (r s t : Region W) (i : ℕ) (x : State) → IsSame r s → Becomes s t i x → Becomes r t i x
+  becomes_from r s t i x same b = record { region = b.region; memory = (b.memory.0 ∙ same.memory.0, b.memory.1 ∙ same.memory.1); states = b.states ∙ ap (λ xs. set xs i x) same.states }
+
   pub leased_from : (r s t : Region W) (l : Held W) → IsSame r s → IsLeasedTo s t (Some l) → IsLeasedTo r t (Some l)
-  leased_from r s t l same made =
-      let b = made.1 in (
-        sym (get_or-map state_of r.cells.slots l.index None) ∙ ap (λ xs. get_or xs l.index Leased) (sym same.states) ∙ get_or-map state_of s.cells.slots l.index None ∙ made.0,
-        record { region = b.region; memory = (b.memory.0 ∙ same.memory.0, b.memory.1 ∙ same.memory.1); states = b.states ∙ ap (λ xs. set xs l.index Leased) same.states },
-        made.2,
-        made.3,
-      )
+  leased_from r s t l same made = (state_same r s l.index same ∙ made.0, becomes_from r s t l.index Leased same made.1, made.2, made.3)
 
   pub unchanged : (r : Region W) → IsRegion r → IsSame r r
   unchanged r h = record { region = h; memory = (refl, refl); states = refl }
@@ -467,21 +466,52 @@ take_set (suc n) [] i y = refl
 take_set (suc n) (x ∷ xs) zero y = refl
 take_set (suc n) (x ∷ xs) (suc i) y = ap (λ l. x ∷ l) (take_set n xs i y)
 
-pub end_written : (w n : ℕ) (es : List Stored) (p : ℕ) (e : Stored) → with_ends n w (set es p e) ≡ with_end (with_ends n w es) p (end_of e)
+pub end_written : (w n : ℕ) (es : List End) (p : ℕ) (e : End) → with_ends n w (set es p e) ≡ with_end (with_ends n w es) p e
 end_written w zero es p e = refl
-end_written w (suc n) es p e = ap (λ l. Live w (map end_of l)) (take_set (suc n) es p e) ∙ ap (Live w) (map-set end_of (take (suc n) es) p e)
+end_written w (suc n) es p e = ap (Live w) (take_set (suc n) es p e)
 
-pub live_written : (w n : ℕ) (es : List Stored) → 0 < n → with_ends n w es ≡ Live w (map end_of (take n es))
+pub live_written : (w n : ℕ) (es : List End) → 0 < n → with_ends n w es ≡ Live w (take n es)
 live_written w zero es lt = absurd (omega arith)
 live_written w (suc n) es lt = refl
 
-pub places_written : (w n : ℕ) (es : List Stored) → IsLive (with_ends n w es) → n ≤ length es → (places (with_ends n w es) ≡ n) × (1 ≤ n)
+pub places_written : (w n : ℕ) (es : List End) → IsLive (with_ends n w es) → n ≤ length es → (places (with_ends n w es) ≡ n) × (1 ≤ n)
 places_written w zero es live few = absurd live
-places_written w (suc n) es live few = (length-map (take (suc n) es) end_of ∙ length-take-le (suc n) es few, omega arith)
+places_written w (suc n) es live few = (length-take-le (suc n) es few, omega arith)
 
-pub live_or : (w n : ℕ) (es : List Stored) → (n ≡ 0 → IsLive (with_ends n w es) → ⊥) × ((n ≡ 0 → ⊥) → IsLive (with_ends n w es))
+pub live_or : (w n : ℕ) (es : List End) → (n ≡ 0 → IsLive (with_ends n w es) → ⊥) × ((n ≡ 0 → ⊥) → IsLive (with_ends n w es))
 live_or w zero es = (λ e live. live, λ some. absurd (some refl))
 live_or w (suc n) es = (λ e live. omega (arith, e), λ some. tt)
+
+-- ---- a cell is live with open ends
+
+filled_count : (n : ℕ) → 0 < n → one_if_zero n ≡ 0
+filled_count zero some = absurd (omega arith)
+filled_count (suc n) some = refl
+
+module _ {W : ℕ} where
+  pub begun : (c : Content W) → 0 < c.count → c.count ≤ length c.ends → IsBegun c.word c.count (state_in c)
+  begun c some few = (take c.count c.ends, length-take-le c.count c.ends few, live_written c.word c.count c.ends some)
+
+  pub begun_at : (r s : Region W) (i : ℕ) (c : Content W) → 0 < c.count → c.count ≤ W → length c.ends ≡ W → (vacancy (Some (Some c)) ≡ 0 → Becomes r s i (state_in c)) → (x : State) × IsBegun c.word c.count x × Becomes r s i x
+  begun_at r s i c some few long becomes = (state_in c, begun c some (omega (arith, few, long)), becomes (filled_count c.count some))
+
+  becomes_twice : (r s t : Region W) (i : ℕ) (x y : State) → Becomes r s i x → Becomes s t i y → Becomes r t i y
+  becomes_twice r s t i x y b c = record { region = c.region; memory = (c.memory.0 ∙ b.memory.0, c.memory.1 ∙ b.memory.1); states = c.states ∙ ap (λ xs. set xs i y) b.states ∙ set_twice (states r) i x y }
+
+  -- the first free cell is
+  pub begun_first : (r : Region W) (cs : Cells (Content W)) (h : IsRegion r) (p : First r.cells.slots r.next h.free) (c : Content W) (k : ℕ) → k ≡ p.cell.word → cs.at ≡ r.cells.at → cs.slots ≡ set r.cells.slots r.next (Some (Some c))
+      → 0 < c.count → c.count ≤ W → length c.ends ≡ W → IsBegunIn r c.word c.count (Some r.next) (with_cells r cs k r.fresh (r.free - 1))
+  begun_first r cs h p c k same at e some few long =
+      let xs = r.cells.slots in let i = r.next in let new = Some (Some c) in
+      let out = with_slots r.cells (set xs i None) in let s = with_cells r out k r.fresh (r.free - 1) in
+      let b = taken r out h p refl refl k same in
+      let q = begun_at s (with_cells r cs k r.fresh (r.free - 1)) i c some few long (λ after.
+      put s cs i new b.region at (e ∙ sym (set_twice xs i None new)) (omega (arith, length-set xs i None, p.inside)) (ap vacancy (get_or-set_same xs i None None p.inside)) after few)
+      in
+      (ap state_of p.here ∙ vacant_state p.cell p.free, (q.0, q.1, becomes_twice r s (with_cells r cs k r.fresh (r.free - 1)) i Leased q.0 b q.2))
+
+  pub begun_from : (r s t : Region W) (w n i : ℕ) → IsSame r s → IsBegunIn s w n (Some i) t → IsBegunIn r w n (Some i) t
+  begun_from r s t w n i same made = (state_same r s i same ∙ made.0, (made.1.0, made.1.1, becomes_from r s t i made.1.0 same made.1.2))
 
 -- ---- a new region
 

@@ -2,7 +2,7 @@
 use Rattle.std.specs.Prelude.{◌≡◌, ◌<◌, ◌*◌, ℕ, List, length, get_or, take, drop, slice_index_or, slice_set, count_by, Option, Some, None}
 use denote.RawPtr.{Ptr, null_ptr}
 use Rattle.in_arena.specs.Classes.{class_no, IsNumberOf}
-use Rattle.in_arena.specs.States.{State, Vacant, Leased, IsLeased, is_vacant}
+use Rattle.in_arena.specs.States.{State, Vacant, Leased, IsLeased, IsBegun, is_vacant}
 use Rattle.in_arena.specs.declared.content.CellClass.{CellClass}
 
 -- where its cells of each class lie, by the number of the class: by this contracts tell it from other arenas; how many cells there are of
@@ -58,3 +58,11 @@ written l x = record { class = l.class; memory = l.memory; cells = l.cells; numb
 abbrev pub Leases : ArenaView → CellClass → Option LeaseView → ArenaView → Type 0
 Leases old c None new = (free_of old c ≡ 0) × (new ≡ old)
 Leases old c (Some l) new = (l.class ≡ c) × IsNumberOf old.cells c l.number × (state_at old l.number ≡ Vacant) × (new ≡ changed old l.number Leased) × IsOf l new × (l.state ≡ Vacant)
+
+-- a cell of this class that was free, the one of this number, is live with this symbol word and so many ends, which are open
+pub record BeginsCell (c : CellClass) (symbol places : ℕ) (old : ArenaView) (n : ℕ) (new : ArenaView) : Type 0 where
+  pub at : IsNumberOf old.cells c n
+  pub was : state_at old n ≡ Vacant
+  pub state : State
+  pub begun : IsBegun symbol places state
+  pub arena : new ≡ changed old n state

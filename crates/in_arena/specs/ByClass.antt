@@ -3,7 +3,7 @@ use Rattle.std.specs.Prelude.{◌≡◌, ◌<◌, ◌+◌, ◌*◌, ℕ, List, l
 use denote.RawPtr.{Ptr}
 use Rattle.in_arena.specs.Arenas.{ArenaView, LeaseView}
 use Rattle.in_arena.specs.Classes.{classes, class_no}
-use Rattle.in_arena.specs.States.{State, Vacant, Leased, is_vacant}
+use Rattle.in_arena.specs.States.{State, Vacant, Leased, IsBegun, is_vacant}
 use Rattle.in_arena.specs.Regions.{IsRegion, IsHeld, IsHeldOf, IsWholeRegion, state, states, state_at}
 use Rattle.in_arena.specs.declared.content.CellClass.{CellClass}
 use Rattle.in_arena.specs.declared.content.CellClass.TheVariants as class
@@ -95,6 +95,11 @@ IsCellOf (Wide h) r = IsHeldOf h r.wide
 abbrev pub Lend : Regions → CellClass → Option HeldCell → Regions → Type 0
 Lend r c None s = (count_by is_vacant (row_of r c) ≡ 0) × (s ≡ r)
 Lend r c (Some h) s = ((cell_view h).class ≡ c) × (cell_at r c (index_of h) ≡ Vacant) × Become r s c (index_of h) Leased × IsCellOf h s × ((cell_view h).state ≡ Vacant)
+
+-- a cell of this class that was free is live with this symbol word and so many ends, which are open; or none was free
+abbrev pub Begin : Regions → CellClass → ℕ → ℕ → Option ℕ → Regions → Type 0
+Begin r c word count None s = (count_by is_vacant (row_of r c) ≡ 0) × (s ≡ r)
+Begin r c word count (Some i) s = (cell_at r c i ≡ Vacant) × ((x : State) × IsBegun word count x × Become r s c i x)
 
 -- this number is that of a cell of this class, at this place of its region
 abbrev pub IsPlace : ℕ → ℕ → CellClass → ℕ → Type 0

@@ -1,8 +1,6 @@
 -- The first places hold these ends.
-use Rattle.std.specs.Prelude.{◌≡◌, List, length, map, take}
-use Rattle.in_arena.specs.Contents.{end_of}
+use Rattle.std.specs.Prelude.{◌≡◌, List, length, take}
 use Rattle.in_arena.specs.declared.content.End.{End}
-use Rattle.in_arena.specs.declared.content.Stored.{Stored}
 
-abbrev pub Fills : List Stored → List End → Type 0
-Fills places ends = map end_of (take (length ends) places) ≡ ends
+abbrev pub Fills : List End → List End → Type 0
+Fills places ends = take (length ends) places ≡ ends

@@ -4,7 +4,7 @@ pub mod Bags
 pub mod ByClass
 pub mod Changes
 pub mod Classes
-pub mod Contents
+pub mod EndWords
 pub mod Filling
 pub mod Inside
 pub mod Leases

@@ -1,17 +1,16 @@
 -- A region of cells of one width. What stands in its cells says which are free, leased or live.
 use Rattle.std.specs.Prelude.{◌≡◌, ◌≢◌, ◌≤◌, ◌<◌, ◌+◌, ◌^◌, ℕ, zero, suc, List, [], ◌∷◌, length, map, take, sum_by, get_or, slice_set, replicate, count_by, Bool, true, false, Option, Some, None}
 use Rattle.std.specs.List.{AllByRecursion}
-use Rattle.in_arena.specs.Contents.{end_of}
-use Rattle.in_arena.specs.States.{State, Vacant, Leased, Live, IsLeased, is_vacant}
+use Rattle.in_arena.specs.States.{State, Vacant, Leased, Live, IsLeased, IsBegun, is_vacant}
 use Rattle.in_arena.specs.declared.content.Content.{Content}
-use Rattle.in_arena.specs.declared.content.Stored.{Stored}
+use Rattle.in_arena.specs.declared.content.End.{End}
 use Rattle.in_arena.specs.declared.region.Region.{Region}
 use Rattle.in_arena.specs.declared.region.Held.{Held}
 
 -- with a given number of ends; none: the cell is free
-abbrev pub with_ends : ℕ → ℕ → List Stored → State
+abbrev pub with_ends : ℕ → ℕ → List End → State
 with_ends zero word ends = Vacant
-with_ends (suc n) word ends = Live word (map end_of (take (suc n) ends))
+with_ends (suc n) word ends = Live word (take (suc n) ends)
 
 abbrev pub one_if_zero : ℕ → ℕ
 one_if_zero zero = 1
@@ -126,6 +125,11 @@ IsReadyRegion r false s = (count_by is_vacant (states r) ≡ 0) × (s ≡ r)
 abbrev pub IsLeasedTo : {W : ℕ} → Region W → Region W → Option (Held W) → Type 0
 IsLeasedTo r s None = (count_by is_vacant (states r) ≡ 0) × (s ≡ r)
 IsLeasedTo r s (Some l) = (state_at r l.index ≡ Vacant) × Becomes r s l.index Leased × IsHeldOf l s × (state l ≡ Vacant)
+
+-- a cell that was free is live with this symbol word and so many ends, which are open; or none was free
+abbrev pub IsBegunIn : {W : ℕ} → Region W → ℕ → ℕ → Option ℕ → Region W → Type 0
+IsBegunIn r word count None s = (count_by is_vacant (states r) ≡ 0) × (s ≡ r)
+IsBegunIn r word count (Some i) s = (state_at r i ≡ Vacant) × ((x : State) × IsBegun word count x × Becomes r s i x)
 
 -- no cell is leased
 abbrev pub IsWholeRegion : {W : ℕ} → Region W → Type 0

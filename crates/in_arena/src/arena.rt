@@ -1,8 +1,8 @@
 // An arena: regions of cells, in which each cell has a number.
-ghost use Rattle.std.specs.Prelude.{◌≡◌, ◌*◌, ◌<◌, ◌≤◌, ◌↔◌, IsTrue, Some, IfOk, length, replicate};
-ghost use Rattle.in_arena.specs.States.{Vacant, Leased, IsLive, IsLeased, word_of, end_at, places, with_end};
-ghost use Rattle.in_arena.specs.Arenas.{Leases, IsOf, NoneLeased, state_at, changed, free_of};
-ghost use Rattle.in_arena.specs.Bags.{IsBagOf, IsInBag, LeasesTo, empty_bag};
+ghost use Rattle.std.specs.Prelude.{◌≡◌, ◌*◌, ◌<◌, ◌≤◌, ◌↔◌, IsTrue, MatchOption, Some, IfOk, length, replicate};
+ghost use Rattle.in_arena.specs.States.{State, Vacant, Leased, IsLive, IsLeased, IsBegun, word_of, end_at, places, with_end};
+ghost use Rattle.in_arena.specs.Arenas.{Leases, BeginsCell, IsOf, NoneLeased, state_at, changed, free_of};
+ghost use Rattle.in_arena.specs.Bags.{IsBagOf, IsFor, IsInBag, LeasesTo, empty_bag};
 ghost use Rattle.in_arena.specs.Classes.{Holds, classes};
 ghost use Rattle.in_arena.specs.declared.content.CellClass.{CellClass as Class};
 ghost use Rattle.in_arena.specs.Changes.{HasAllCells};
@@ -12,6 +12,7 @@ use crate::bag::Bag;
 use crate::content::{CellClass, CellNo, End, SymbolWord};
 use crate::lease::Lease;
 use crate::regions::{Regions, place_of};
+use crate::word::EndWord;
 use std::alloc::{AllocError, Global};
 use std::marker::Model;
 
@@ -143,8 +144,17 @@ impl Arena {
         requires { place < places (state_at self.now cell.0) }
         ensures { end_at (state_at self.now cell.0) place ≡ Some result }
     {
+        self.word(cell, place).end()
+    }
+
+    /// The same end in one word.
+    #[inline(always)]
+    pub fn word(&self, cell: CellNo, place: u8) -> EndWord
+        requires { place < places (state_at self.now cell.0) }
+        ensures { end_at (state_at self.now cell.0) place ≡ Some result }
+    {
         let (class, index) = place_of(self.regions.cells, cell);
-        self.regions.port(class, index, place)
+        self.regions.word(class, index, place)
     }
 
     /// Writes what a place of a live cell leads to.
@@ -153,8 +163,40 @@ impl Arena {
         requires { place < places (state_at self.old cell.0) }
         ensures { self.new ≡ changed self.old cell.0 (with_end (state_at self.old cell.0) place end) }
     {
+        self.set_word(cell, place, EndWord::of(end));
+    }
+
+    /// Writes it where it is in one word.
+    #[inline(always)]
+    pub fn set_word(&mut self, cell: CellNo, place: u8, end: EndWord)
+        requires { place < places (state_at self.old cell.0) }
+        ensures { self.new ≡ changed self.old cell.0 (with_end (state_at self.old cell.0) place end) }
+    {
         let (class, index) = place_of(self.regions.cells, cell);
-        self.regions.set_port(class, index, place, end);
+        self.regions.set_word(class, index, place, end);
+    }
+
+    /// A free cell of this class is live with this symbol word and so many places, the principal port's among them: as many as the class is
+    /// for. What they lead to is open until it is written. Nothing changes where none of the class is free. Which free cell it is is open.
+    #[inline(always)]
+    pub fn begin(&mut self, class: CellClass, symbol: SymbolWord, places: u8) -> Option<CellNo>
+        requires { Holds class places }
+        ensures { MatchOption result ((free_of self.old class ≡ 0) × (self.new ≡ self.old)) (λ c. BeginsCell class symbol places self.old c.0 self.new) }
+    {
+        let index = self.regions.begin(class, symbol, u32::from(places))?;
+        Some(CellNo(class.number() * self.regions.cells + index))
+    }
+
+    /// A live cell has this symbol word and so many places from now on, the principal port's among them: as many as its class is for. What
+    /// they lead to is open until it is written.
+    #[inline(always)]
+    pub fn renew(&mut self, cell: CellNo, symbol: SymbolWord, places: u8)
+        requires live { IsLive (state_at self.old cell.0) }
+        requires many { IsFor self.old.cells cell.0 places }
+        ensures { (x : State) × IsBegun symbol places x × (self.new ≡ changed self.old cell.0 x) }
+    {
+        let (class, index) = place_of(self.regions.cells, cell);
+        self.regions.renew(class, index, symbol, u32::from(places));
     }
 
     /// The live cell is free from now on.

@@ -6,6 +6,7 @@ ghost use Rattle.in_arena.specs.Bags.{IsInBag, AreOfOne, IsFor};
 
 use crate::content::{CellNo, End, SymbolWord};
 use crate::regions::{Sacks, place_of};
+use crate::word::EndWord;
 use std::marker::Model;
 
 /// Owns some cells of an arena, by their numbers, which no other part of the program reads or writes meanwhile; it takes no bytes for a
@@ -64,7 +65,7 @@ impl Bag {
     {
         let (class, index) = place_of(self.sacks.cells, cell);
         let mut held = self.sacks.take(class, index);
-        held.set(place, end);
+        held.set(place, EndWord::of(end));
         self.sacks.put(held);
     }
 

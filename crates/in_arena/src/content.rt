@@ -2,7 +2,8 @@
 ghost use Rattle.std.specs.Prelude.{◌≡◌, ◌≤◌, replicate};
 ghost use Rattle.in_arena.specs.Classes.{Holds, class_no, width, least, holds};
 ghost use Rattle.in_arena.specs.declared.content.CellClass.TheVariants.{Wide};
-ghost use Rattle.in_arena.specs.Contents.{end_of};
+
+use crate::word::EndWord;
 
 /// The number of a cell in its arena.
 #[derive(Clone, Copy, Debug, PartialEq, Eq, Hash)]
@@ -86,64 +87,25 @@ impl CellClass {
     }
 }
 
-// What stands in the place's word of a free end. A place is less.
-const FREE: u32 = 256;
-
-/// An end as it is stored, in two words: the number of its cell and the place there, or the number of a free end and 256.
-#[derive(Clone, Copy)]
-pub struct Stored {
-    pub number: u32,
-    pub place: u32,
-}
-
-impl Stored {
-    pub fn of(end: End) -> Stored
-        ensures { end_of result ≡ end }
-    {
-        match end {
-            End::Cell(cell, place) => Stored {
-                number: cell.0,
-                place: u32::from(place),
-            },
-            End::Free(number) => Stored {
-                number,
-                place: FREE,
-            },
-        }
-    }
-
-    pub fn end(self) -> End
-        ensures { result ≡ end_of self }
-    {
-        if self.place == FREE {
-            End::Free(self.number)
-        } else {
-            End::Cell(CellNo(self.number), (self.place % 256) as u8)
-        }
-    }
-}
-
 /// A symbol word and the ends at the first `count` of `WIDTH` places. Where there is none the cell is free, and the word is the number
 /// of the next free cell.
 #[derive(Clone, Copy)]
 pub struct Content<const WIDTH: usize> {
     pub word: u32,
     pub count: u32,
-    pub ends: [Stored; WIDTH],
+    pub ends: [EndWord; WIDTH],
 }
 
 impl<const WIDTH: usize> Content<WIDTH> {
     /// What stands in a free cell, before the free cell of this number.
+    #[inline(always)]
     pub fn free(next: u32) -> Content<WIDTH>
         ensures { (result.word ≡ next) × (result.count ≡ 0) }
     {
         Content {
             word: next,
             count: 0,
-            ends: [Stored {
-                number: 0,
-                place: FREE,
-            }; WIDTH],
+            ends: [EndWord::free(0); WIDTH],
         }
     }
 }

@@ -6,6 +6,7 @@ ghost use Rattle.in_arena.specs.Classes.{Holds};
 
 use crate::content::{CellClass, CellNo, End, SymbolWord};
 use crate::regions::HeldCell;
+use crate::word::EndWord;
 use std::marker::Model;
 
 /// Owns one cell of an arena, which no other part of the program reads or writes meanwhile; it may be moved to another thread. To be
@@ -66,6 +67,6 @@ impl Lease {
         requires { place < places self.old.state }
         ensures { self.new ≡ written self.old (with_end self.old.state place end) }
     {
-        self.held.set(place, end);
+        self.held.set(place, EndWord::of(end));
     }
 }

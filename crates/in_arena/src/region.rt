@@ -1,11 +1,12 @@
 // A region of cells of one width: free ones, leased ones and live ones.
 ghost use Rattle.std.specs.Prelude.{◌≡◌, ◌<◌, ◌≤◌, ◌^◌, ◌↔◌, IsTrue, length, map, count_by, replicate, Some, None, IfOk};
-ghost use Rattle.in_arena.specs.States.{Live, Vacant, IsLive, IsLeased, is_vacant, word_of, end_at, places, with_end, IsBegun};
-ghost use Rattle.in_arena.specs.Regions.{IsRegion, IsHeld, IsHeldOf, Becomes, IsReadyRegion, IsLeasedTo, IsSameCell, IsWholeRegion, state, states, state_at};
+ghost use Rattle.in_arena.specs.States.{State, Live, Vacant, IsLive, IsLeased, is_vacant, word_of, end_at, places, with_end, IsBegun};
+ghost use Rattle.in_arena.specs.Regions.{IsRegion, IsHeld, IsHeldOf, Becomes, IsReadyRegion, IsLeasedTo, IsBegunIn, IsSameCell, IsWholeRegion, state, states, state_at};
 ghost use Rattle.in_arena.specs.Filling.{Fills};
 ghost use Rattle.in_arena.specs.Sacks.{IsSack, IsOfSack, SackBecomes, IsTakenFrom, IsEmptyOf, sack_state};
 
-use crate::content::{Content, End, Stored};
+use crate::content::{Content, End};
+use crate::word::EndWord;
 use in_memory::{Base, Cells, Deed, allocate, deallocate};
 use std::alloc::{AllocError, Global};
 use std_alloc::room::may_hold;
@@ -39,17 +40,17 @@ pub struct Sack<const WIDTH: usize> {
 }
 
 // Writes the ends to the first places.
-fn fill<const WIDTH: usize>(places: &mut [Stored; WIDTH], ends: &[End])
+fn fill<const WIDTH: usize>(places: &mut [EndWord; WIDTH], ends: &[End])
     requires { length ends.now ≤ WIDTH }
     ensures { Fills places.new ends.now }
 {
     for (place, end) in ends.iter().enumerate() {
-        places[place] = Stored::of(*end);
+        places[place] = EndWord::of(*end);
     }
 }
 
 // There are as many places as a cell has room for. The call does nothing.
-fn are_all<const WIDTH: usize>(places: &[Stored; WIDTH])
+fn are_all<const WIDTH: usize>(places: &[EndWord; WIDTH])
     ensures { length places.now ≡ WIDTH }
 {
     let _ = places;
@@ -226,24 +227,60 @@ impl<const WIDTH: usize> Region<WIDTH> {
     }
 
     // What stands at a place of a live cell.
-    pub fn port(&self, index: u32, place: u8) -> End
+    #[inline(always)]
+    pub fn word(&self, index: u32, place: u8) -> EndWord
         requires { IsRegion self.now × (place < places (state_at self.now index)) }
         ensures { end_at (state_at self.now index) place ≡ Some result }
     {
-        self.cells.get(self.base, index as usize).ends[place as usize].end()
+        self.cells.get(self.base, index as usize).ends[place as usize]
     }
 
     // Writes the end at a place of a live cell.
-    pub fn set_port(&mut self, index: u32, place: u8, end: End)
+    #[inline(always)]
+    pub fn set_word(&mut self, index: u32, place: u8, end: EndWord)
         requires { IsRegion self.old × (place < places (state_at self.old index)) }
         ensures { Becomes self.old self.new index (with_end (state_at self.old index) place end) }
     {
         let base = self.base;
-        let stored = Stored::of(end);
-        self.cells.get_mut(base, index as usize).ends[place as usize] = stored;
+        self.cells.get_mut(base, index as usize).ends[place as usize] = end;
+    }
+
+    // A free cell is live with this symbol word and so many ends, which are open; nothing where none is free.
+    #[inline(always)]
+    pub fn begin(&mut self, word: u32, count: u32) -> Option<u32>
+        requires { IsRegion self.old × (0 < count) × (count ≤ WIDTH) }
+        ensures { IsBegunIn self.old word count result self.new }
+    {
+        if !self.is_ready() {
+            return None;
+        }
+        let base = self.base;
+        let index = self.next;
+        let content = self.cells.get_mut(base, index as usize);
+        are_all(&content.ends);
+        let next = content.word;
+        content.word = word;
+        content.count = count;
+        self.next = next;
+        self.free -= 1;
+        Some(index)
+    }
+
+    // The live cell has this symbol word and so many ends, which are open, from now on.
+    #[inline(always)]
+    pub fn renew(&mut self, index: u32, word: u32, count: u32)
+        requires { IsRegion self.old × IsLive (state_at self.old index) × (0 < count) × (count ≤ WIDTH) }
+        ensures { (x : State) × IsBegun word count x × Becomes self.old self.new index x }
+    {
+        let base = self.base;
+        let content = self.cells.get_mut(base, index as usize);
+        are_all(&content.ends);
+        content.word = word;
+        content.count = count;
     }
 
     // The live cell is free from now on.
+    #[inline(always)]
     pub fn retire(&mut self, index: u32)
         requires { IsRegion self.old × IsLive (state_at self.old index) }
         ensures { Becomes self.old self.new index Vacant }
@@ -291,13 +328,13 @@ impl<const WIDTH: usize> Held<WIDTH> {
     }
 
     // Writes the end at a place of the cell, which is written.
-    pub fn set(&mut self, place: u8, end: End)
+    #[inline(always)]
+    pub fn set(&mut self, place: u8, end: EndWord)
         requires { IsHeld self.old × (place < places (state self.old)) }
         ensures { IsHeld self.new × IsSameCell self.old self.new × (state self.new ≡ with_end (state self.old) place end) }
     {
         let base = self.base;
-        let stored = Stored::of(end);
-        self.cells.get_mut(base, self.index as usize).ends[place as usize] = stored;
+        self.cells.get_mut(base, self.index as usize).ends[place as usize] = end;
     }
 }
 

@@ -6,10 +6,11 @@ ghost use Rattle.in_arena.specs.Classes.{Holds, classes, width};
 ghost use Rattle.in_arena.specs.declared.content.CellClass.TheVariants.{Wide as Widest};
 ghost use Rattle.in_arena.specs.Limiting.{most_cells};
 ghost use Rattle.in_arena.specs.Regions.{IsFreshRegion};
-ghost use Rattle.in_arena.specs.ByClass.{IsRegions, AreWhole, AreFresh, Become, Lend, IsCellOf, IsHeldCell, IsPlace, IsSacks, IsOut, SacksBecome, HandOut, AreEmpty, row_of, cell_at, cell_view, index_of, sack_cell};
+ghost use Rattle.in_arena.specs.ByClass.{IsRegions, AreWhole, AreFresh, Become, Begin, Lend, IsCellOf, IsHeldCell, IsPlace, IsSacks, IsOut, SacksBecome, HandOut, AreEmpty, row_of, cell_at, cell_view, index_of, sack_cell};
 
 use crate::content::{CellClass, CellNo, End, SymbolWord};
 use crate::region::{Held, Region, Sack};
+use crate::word::EndWord;
 use std::alloc::{AllocError, Global};
 
 // The same number of cells of each class. That a class has a region of its width is said in this file and nowhere else.
@@ -215,27 +216,53 @@ impl Regions {
 
     // What stands at a place of a live cell.
     #[inline(always)]
-    pub fn port(&self, class: CellClass, index: u32, place: u8) -> End
+    pub fn word(&self, class: CellClass, index: u32, place: u8) -> EndWord
         requires { IsRegions self.now × (place < places (cell_at self.now class index)) }
         ensures { end_at (cell_at self.now class index) place ≡ Some result }
     {
         match class {
-            CellClass::Small => self.small.port(index, place),
-            CellClass::Large => self.large.port(index, place),
-            CellClass::Wide => self.wide.port(index, place),
+            CellClass::Small => self.small.word(index, place),
+            CellClass::Large => self.large.word(index, place),
+            CellClass::Wide => self.wide.word(index, place),
         }
     }
 
     // Writes the end at a place of a live cell.
     #[inline(always)]
-    pub fn set_port(&mut self, class: CellClass, index: u32, place: u8, end: End)
+    pub fn set_word(&mut self, class: CellClass, index: u32, place: u8, end: EndWord)
         requires { IsRegions self.old × (place < places (cell_at self.old class index)) }
         ensures { Become self.old self.new class index (with_end (cell_at self.old class index) place end) }
     {
         match class {
-            CellClass::Small => self.small.set_port(index, place, end),
-            CellClass::Large => self.large.set_port(index, place, end),
-            CellClass::Wide => self.wide.set_port(index, place, end),
+            CellClass::Small => self.small.set_word(index, place, end),
+            CellClass::Large => self.large.set_word(index, place, end),
+            CellClass::Wide => self.wide.set_word(index, place, end),
+        }
+    }
+
+    // A free cell of this class is live with this symbol word and so many ends, which are open; nothing where none is free.
+    #[inline(always)]
+    pub fn begin(&mut self, class: CellClass, symbol: SymbolWord, count: u32) -> Option<u32>
+        requires { IsRegions self.old × Holds class count }
+        ensures { Begin self.old class symbol count result self.new }
+    {
+        match class {
+            CellClass::Small => self.small.begin(symbol, count),
+            CellClass::Large => self.large.begin(symbol, count),
+            CellClass::Wide => self.wide.begin(symbol, count),
+        }
+    }
+
+    // The live cell has this symbol word and so many ends, which are open, from now on.
+    #[inline(always)]
+    pub fn renew(&mut self, class: CellClass, index: u32, symbol: SymbolWord, count: u32)
+        requires { IsRegions self.old × IsLive (cell_at self.old class index) × Holds class count }
+        ensures { (x : State) × IsBegun symbol count x × Become self.old self.new class index x }
+    {
+        match class {
+            CellClass::Small => self.small.renew(index, symbol, count),
+            CellClass::Large => self.large.renew(index, symbol, count),
+            CellClass::Wide => self.wide.renew(index, symbol, count),
         }
     }
 
@@ -302,7 +329,7 @@ impl HeldCell {
     }
 
     // Writes the end at a place of a cell that is written.
-    pub fn set(&mut self, place: u8, end: End)
+    pub fn set(&mut self, place: u8, end: EndWord)
         requires { IsHeldCell self.old × (place < places (cell_view self.old).state) }
         ensures { IsHeldCell self.new × (cell_view self.new ≡ written (cell_view self.old) (with_end (cell_view self.old).state place end)) }
     {

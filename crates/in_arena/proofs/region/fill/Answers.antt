@@ -1,6 +1,5 @@
-use Rattle.std.proofs.Common.{◌≡◌, ◌∙◌, arith, length-set, subst, map, take, length}
+use Rattle.std.proofs.Common.{◌≡◌, ◌∙◌, arith, length-set, subst, take, length}
 use Rattle.std.proofs.Math.Seq.{take-length}
-use Rattle.in_arena.specs.Contents.{end_of}
 use Rattle.in_arena.proofs.Filled.{one_more_end}
 use Rattle.in_arena.proofs.region.fill.Goals as goal
 
@@ -16,4 +15,4 @@ pub returns : goal.returns
 returns g c =
     let l = c.loop-place in
     let all : l.place ≡ length c.args.ends.now = omega (arith, c.loop-place-test.false, l.auto.place-end) in
-    subst (λ n. map end_of (take n l.places) ≡ take n c.args.ends.now) all l.invariant.filled ∙ take-length c.args.ends.now
+    subst (λ n. take n l.places ≡ take n c.args.ends.now) all l.invariant.filled ∙ take-length c.args.ends.now

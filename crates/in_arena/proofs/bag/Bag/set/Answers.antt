@@ -24,4 +24,4 @@ returns c =
     let was = hand_state s k _ c.args.cell.0 q.0 q.1 c.self.view_is c.place_of-class.ensures l c.take-held.new.self hand in
     back_view s k _ c.args.cell.0 q.0 q.1 c.self.view_is c.place_of-class.ensures l c.take-held.new.self hand
     c.set.new.self c.put.new.self (with_end (state_at c.args.self.now c.args.cell.0) c.args.place c.args.end)
-    (c.set.ensures.1 ∙ ap (λ x. written (cell_view l) (with_end x c.args.place c.args.end)) was) c.put.ensures
+    (c.set.ensures.1 ∙ ap (λ e. written (cell_view l) (with_end (cell_view l).state c.args.place e)) c.of.ensures ∙ ap (λ x. written (cell_view l) (with_end x c.args.place c.args.end)) was) c.put.ensures

@@ -1,8 +1,6 @@
-use Rattle.std.proofs.Common.{◌∙◌, map, take, arith}
-use Rattle.std.proofs.lemmas.List.{length-map, length-take-le}
-use Rattle.in_arena.specs.Contents.{end_of}
+use Rattle.std.proofs.Common.{◌∙◌, arith}
 use Rattle.in_arena.specs.declared.content.Content.{Content}
-use Rattle.in_arena.proofs.OneRegion.{rewritten, live_written}
+use Rattle.in_arena.proofs.OneRegion.{rewritten, begun}
 use Rattle.in_arena.proofs.region.Held.begin.Goals as goal
 
 pub returns : goal.returns
@@ -11,4 +9,5 @@ returns g c =
     let n = c.args.count in
     let new : Content g.row.WIDTH = record { word = c.args.word; count = n; ends = es } in
     let r = rewritten c.args.self.now new c.requires.0 c.requires.2 in
-    (r.0, r.1, (map end_of (take n es), length-map (take n es) end_of ∙ length-take-le n es (omega (arith, c.are_all.ensures, c.requires.2)), r.2 ∙ live_written c.args.word n es c.requires.1))
+    let b = begun new c.requires.1 (omega (arith, c.are_all.ensures, c.requires.2)) in
+    (r.0, r.1, (b.0, b.1, r.2 ∙ b.2))

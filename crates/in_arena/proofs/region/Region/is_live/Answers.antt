@@ -3,13 +3,13 @@ use Rattle.std.proofs.lemmas.Bool.{eqb-true}
 use Rattle.std.specs.Prelude.{IsTrue, nat_eq, not}
 use Rattle.in_arena.specs.Regions.{state_of, with_ends}
 use Rattle.in_arena.specs.States.{IsLive}
-use Rattle.in_arena.specs.declared.content.Stored.{Stored}
+use Rattle.in_arena.specs.declared.content.End.{End}
 use Rattle.std.specs.Prelude.{List}
 use Rattle.in_arena.proofs.OneRegion.{used, used_cell, live_or}
 use Rattle.in_arena.proofs.region.Region.is_live.Goals as goal
 
 -- a cell is live where its count isn't 0
-tested : (w n : ℕ) (es : List Stored) (b : Bool) → nat_eq n 0 ≡ b → (IsTrue (not b) → IsLive (with_ends n w es)) × (IsLive (with_ends n w es) → IsTrue (not b))
+tested : (w n : ℕ) (es : List End) (b : Bool) → nat_eq n 0 ≡ b → (IsTrue (not b) → IsLive (with_ends n w es)) × (IsLive (with_ends n w es) → IsTrue (not b))
 tested w n es true e = (λ t. absurd (let f : false ≡ true = t in cc), λ live. absurd ((live_or w n es).0 (eqb-true n 0 e) live))
 tested w n es false e = (λ t. (live_or w n es).1 (λ z. (let f : false ≡ true = sym e ∙ eq-eqb n 0 z in cc)), λ live. refl)
 
