@@ -25,24 +25,18 @@ symbols_kept t a b kept h y s e = h y s (sym (word_kept a b kept y) ∙ e)
 
 -- ---- one joint
 
-module _ (t : Tables) (x : Interaction) (own many e : ℕ) (a : ArenaView) (es : List End) (h : IsBetween t x own many (e + 1) a es) (low : e < many) (d : End) where
+module _ (t : Tables) (x : Interaction) (own many e : ℕ) (a : ArenaView) (es : List End) (h : IsBetween t x own many (e + 1) a es) (low : e < many) (outer inner : End) (outer_read : outer ≡ get_or es (own + e) outer) (inner_read : inner ≡ get_or es (own + many + e) inner) where
   abbrev next_end : IsBetween t x own many (suc e) a es
   next_end = let s : e + 1 ≡ suc e = omega arith in subst (λ (k : ℕ). IsBetween t x own many k a es) s h
 
   abbrev at : AreAtSides own many e a es next_end.net
   at = sides t x own many e a es next_end low
 
-  abbrev outer : End
-  outer = get_or es (own + e) d
-
-  abbrev inner : End
-  inner = get_or es (own + many + e) d
-
   outer_is : outer ≡ end_of at.p
-  outer_is = get_or_from_slice_get es (own + e) (end_of at.p) d at.stands_outer
+  outer_is = outer_read ∙ get_or_from_slice_get es (own + e) (end_of at.p) outer at.stands_outer
 
   inner_is : inner ≡ end_of at.q
-  inner_is = get_or_from_slice_get es (own + many + e) (end_of at.q) d at.stands_inner
+  inner_is = inner_read ∙ get_or_from_slice_get es (own + many + e) (end_of at.q) inner at.stands_inner
 
   pub outer_place : IsPlaceAt a es outer
   outer_place = subst (λ (z : End). IsPlaceAt a es z) (sym outer_is) at.at_p

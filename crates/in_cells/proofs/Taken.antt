@@ -7,14 +7,14 @@ use Rattle.std.proofs.lemmas.List.Sums.{sum_by_more, sum_by_more_le}
 use Rattle.std.proofs.lemmas.Option.{same_Some, slice_get_within, get_or_from_slice_get}
 use Rattle.std.specs.Cmp.{first_so, second_so}
 use Rattle.std.specs.Cmp.Derive.{both_true}
-use Rattle.in_arena.specs.Arenas.{ArenaView, LeaseView, Leases, changed, free_of, state_at, written}
+use Rattle.in_arena.specs.Arenas.{ArenaView, BeginsCell, changed, free_of, state_at}
 use Rattle.in_arena.specs.Changes.{HasAllCells, one_if_free}
 use Rattle.in_arena.specs.Classes.{Holds, holds, IsNumberOf, least, width}
-use Rattle.in_arena.specs.States.{State, Vacant, Leased, Live, IsBegun, IsLive, places, word_of}
+use Rattle.in_arena.specs.States.{State, Vacant, Leased, Live, IsLive, places, word_of}
 use Rattle.in_arena.specs.declared.content.CellClass.{CellClass}
 use Rattle.in_arena.specs.declared.content.CellClass.TheVariants.{Small, Large, Wide}
 use Rattle.in_arena.specs.declared.content.CellNo.{CellNo}
-use Rattle.in_arena.proofs.Public.{changed_same, vacant_inside, changed_twice, counts_change}
+use Rattle.in_arena.proofs.Public.{vacant_inside, counts_change}
 use Rattle.in_cells.specs.Copying.{ArePart, LooksLike, HasCellsFor, is_for, name_in}
 use Rattle.in_cells.specs.CopyingSteps.{TakesCell, HasCell, HaveCellsBelow, HaveOwnCells}
 
@@ -62,49 +62,37 @@ name_there names n m c other = ap (λ (z : CellNo). z.0) (get_or-set_other names
 
 -- ---- one cell is taken
 
-module _ (old : ArenaView) (all : HasAllCells old) (y : State) (d : CellClass) (p w : ℕ) (many : p ≡ places y) (word : word_of y ≡ Some w) (held : Holds d p) (l : LeaseView) (mid : ArenaView) (made : Leases old d (Some l) mid) where
-  module _ (m : LeaseView) (begun : (x : State) × IsBegun w p x × (m ≡ written l x)) (new : ArenaView) (e : new ≡ changed mid m.number m.state) (n : ℕ) (at : n ≡ m.number) where
-    abbrev state_now : State
-    state_now = begun.0
+module _ (old : ArenaView) (all : HasAllCells old) (y : State) (d : CellClass) (p w : ℕ) (many : p ≡ places y) (word : word_of y ≡ Some w) (held : Holds d p) (n : ℕ) (new : ArenaView) (b : BeginsCell d w p old n new) where
+  counts_are : (free_of (changed old n b.state) d + one_if_free (state_at old n) ≡ free_of old d + one_if_free b.state) × ((c : CellClass) → (c ≡ d → ⊥) → free_of (changed old n b.state) c ≡ free_of old c)
+  counts_are = counts_change old n d b.state all b.at
 
-    number_is : n ≡ l.number
-    number_is = at ∙ ap (λ (v : LeaseView). v.number) begun.2
+  as_counted : (c : CellClass) → free_of new c ≡ free_of (changed old n b.state) c
+  as_counted c = ap (λ v. free_of v c) b.arena
 
-    arena_is : new ≡ changed old n state_now
-    arena_is =
-        e ∙ changed_same made.3 (ap (λ (v : LeaseView). v.number) begun.2) (ap (λ (v : LeaseView). v.state) begun.2) ∙ changed_twice old l.number Leased state_now
-        ∙ ap (λ k. changed old k state_now) (sym number_is)
+  left_by : (c : CellClass) → Holds c (places y) ⊎ (one_if (holds c (places y)) ≡ 0) → free_of new c + one_if (holds c (places y)) ≡ free_of old c
+  left_by c (inl h) =
+      let is : c ≡ d = apart (places y) d c (subst (Holds d) many held) h in
+      let first = counts_are.0 in
+      let was : one_if_free (state_at old n) ≡ 1 = ap one_if_free b.was in
+      let none : one_if_free b.state ≡ 0 = ap one_if_free b.begun.2 in
+      let one = one_for d (places y) (subst (Holds d) many held) in
+      subst (λ (z : CellClass). free_of new z + one_if (holds z (places y)) ≡ free_of old z) (sym is) (omega (arith, first, was, none, one, as_counted d))
+  left_by c (inr none) =
+      let other : c ≡ d → ⊥ = λ is. (let one = ap (λ (z : CellClass). one_if (holds z (places y))) is ∙ one_for d (places y) (subst (Holds d) many held) in omega (arith, one, none)) in
+      let rest = counts_are.1 c other in
+      omega (arith, none, rest, as_counted c)
 
-    counts_are : (free_of (changed old l.number state_now) d + one_if_free (state_at old l.number) ≡ free_of old d + one_if_free state_now) × ((c : CellClass) → (c ≡ d → ⊥) → free_of (changed old l.number state_now) c ≡ free_of old c)
-    counts_are = counts_change old l.number d state_now all made.1
-
-    as_counted : (c : CellClass) → free_of new c ≡ free_of (changed old l.number state_now) c
-    as_counted c = ap (λ v. free_of v c) (arena_is ∙ ap (λ k. changed old k state_now) number_is)
-
-    left_by : (c : CellClass) → Holds c (places y) ⊎ (one_if (holds c (places y)) ≡ 0) → free_of new c + one_if (holds c (places y)) ≡ free_of old c
-    left_by c (inl h) =
-        let is : c ≡ d = apart (places y) d c (subst (Holds d) many held) h in
-        let first = counts_are.0 in
-        let was : one_if_free (state_at old l.number) ≡ 1 = ap one_if_free made.2 in
-        let none : one_if_free state_now ≡ 0 = ap one_if_free begun.1.2 in
-        let one = one_for d (places y) (subst (Holds d) many held) in
-        subst (λ (z : CellClass). free_of new z + one_if (holds z (places y)) ≡ free_of old z) (sym is) (omega (arith, first, was, none, one, as_counted d))
-    left_by c (inr none) =
-        let other : c ≡ d → ⊥ = λ is. (let one = ap (λ (z : CellClass). one_if (holds z (places y))) is ∙ one_for d (places y) (subst (Holds d) many held) in omega (arith, one, none)) in
-        let rest = counts_are.1 c other in
-        omega (arith, none, rest, as_counted c)
-
-    pub cell_taken : TakesCell y old n new
-    cell_taken = record {
-      class = d;
-      held = subst (Holds d) many held;
-      at = subst (IsNumberOf old.cells d) (sym number_is) made.1;
-      was = ap (state_at old) number_is ∙ made.2;
-      state = state_now;
-      alike = (ap word_of begun.1.2 ∙ sym word, ap places begun.1.2 ∙ begun.1.1 ∙ many);
-      arena = arena_is;
-      left = λ c. left_by c (which c (places y));
-    }
+  pub cell_taken : TakesCell y old n new
+  cell_taken = record {
+    class = d;
+    held = subst (Holds d) many held;
+    at = b.at;
+    was = b.was;
+    state = b.state;
+    alike = (ap word_of b.begun.2 ∙ sym word, ap places b.begun.2 ∙ b.begun.1 ∙ many);
+    arena = b.arena;
+    left = λ c. left_by c (which c (places y));
+  }
 
 -- ---- one agent after another
 

@@ -8,12 +8,12 @@ ghost use Rattle.in_cells.specs.Shown.{IsShown};
 ghost use Rattle.in_cells.specs.Cutting.{IsCutAt, Shows};
 
 use crate::exchanging::exchange;
-use in_arena::{Arena, CellNo, End};
+use in_arena::{Arena, CellNo, EndWord};
 
 /// Cuts the wire at a place of a live cell. The list of ends has first what each of the net's `own` free ends leads to, and then room for two
 /// more. Afterwards the place leads to the free end that comes after these, and the point that it led to leads to the one after that; all else
 /// is as it was. It takes no memory.
-pub fn cut(arena: &mut Arena, ends: &mut [End], own: u32, cell: CellNo, place: u8)
+pub fn cut(arena: &mut Arena, ends: &mut [EndWord], own: u32, cell: CellNo, place: u8)
     requires shown { (sig : Signature) × (w : Net ℕ) × Shows sig own arena.old ends.old w }
     requires there { place < places (state_at arena.old cell.0) }
     requires room { own + 2 ≤ length ends.old }
@@ -22,8 +22,8 @@ pub fn cut(arena: &mut Arena, ends: &mut [End], own: u32, cell: CellNo, place: u
     ensures kept { KeepsCells arena.old arena.new }
     ensures long { length ends.new ≡ length ends.old }
 {
-    let here = End::Cell(cell, place);
-    let other = arena.port(cell, place);
-    exchange(arena, ends, here, End::Free(own));
-    exchange(arena, ends, other, End::Free(own + 1));
+    let here = EndWord::port(cell, place);
+    let other = arena.word(cell, place);
+    exchange(arena, ends, here, EndWord::free(own));
+    exchange(arena, ends, other, EndWord::free(own + 1));
 }

@@ -2,16 +2,16 @@
 ghost use Rattle.std.specs.Prelude.{◌≡◌, length};
 ghost use Rattle.in_cells.specs.Copying.{IsEndWithin, moved_end, name_in, number_in};
 
-use in_arena::{CellNo, End};
+use in_arena::{CellNo, End, EndWord};
 
 /// The end that leads to what this one does, where cells and free ends have these numbers.
 #[inline(always)]
-pub fn moved_end(names: &[CellNo], ends: &[u32], end: End) -> End
+pub fn moved_end(names: &[CellNo], ends: &[u32], end: EndWord) -> EndWord
     requires { IsEndWithin (length names.now) (length ends.now) end }
     ensures { result ≡ moved_end (name_in names.now) (number_in ends.now) end }
 {
-    match end {
-        End::Cell(cell, place) => End::Cell(names[cell.0 as usize], place),
-        End::Free(number) => End::Free(ends[number as usize]),
+    match end.end() {
+        End::Cell(cell, place) => EndWord::port(names[cell.0 as usize], place),
+        End::Free(number) => EndWord::free(ends[number as usize]),
     }
 }

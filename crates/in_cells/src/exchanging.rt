@@ -1,23 +1,23 @@
 // Writing what a point leads to.
 ghost use Rattle.in_cells.specs.Shown.{IsPlaceAt, IsWritten, AreExchanged};
 
-use in_arena::{Arena, End};
+use in_arena::{Arena, End, EndWord};
 
 /// Writes an end at a place of a live cell, or in the list at a free end's number.
 #[inline(always)]
-fn write(arena: &mut Arena, ends: &mut [End], at: End, end: End)
+fn write(arena: &mut Arena, ends: &mut [EndWord], at: EndWord, end: EndWord)
     requires { IsPlaceAt arena.old ends.old at }
     ensures { IsWritten at end arena.old ends.old arena.new ends.new }
 {
-    match at {
-        End::Cell(cell, place) => arena.set_port(cell, place, end),
+    match at.end() {
+        End::Cell(cell, place) => arena.set_word(cell, place, end),
         End::Free(number) => ends[number as usize] = end,
     }
 }
 
 /// Writes each of two ends at the other.
 #[inline(always)]
-pub fn exchange(arena: &mut Arena, ends: &mut [End], one: End, other: End)
+pub fn exchange(arena: &mut Arena, ends: &mut [EndWord], one: EndWord, other: EndWord)
     requires one { IsPlaceAt arena.old ends.old one }
     requires other { IsPlaceAt arena.old ends.old other }
     ensures { AreExchanged one other arena.old ends.old arena.new ends.new }

@@ -5,7 +5,7 @@ ghost use Rattle.in_cells.specs.Cells.{KeepsCells, HasSymbols};
 
 use crate::exchanging::exchange;
 use crate::pairing::add_pair;
-use in_arena::{Arena, End};
+use in_arena::{Arena, EndWord};
 use in_symbols::Symbols;
 
 /// Joins one boundary end: what stands at its outer side and what stands at its inner side lead to each other from now on. Where both are
@@ -13,7 +13,7 @@ use in_symbols::Symbols;
 #[inline(always)]
 fn join(
     arena: &mut Arena,
-    ends: &mut [End],
+    ends: &mut [EndWord],
     own: usize,
     many: usize,
     end: usize,
@@ -46,7 +46,7 @@ fn join(
 /// this project's own choice.
 pub fn join_all(
     arena: &mut Arena,
-    ends: &mut [End],
+    ends: &mut [EndWord],
     own: usize,
     many: usize,
     symbols: &Symbols,

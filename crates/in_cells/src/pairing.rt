@@ -1,26 +1,13 @@
 // The pair that stands where two principal ports are joined.
 ghost use Rattle.std.specs.Prelude.{◌≡◌, ◌≢◌, ◌<◌, ◌≤◌, ◌+◌, MatchOption, Some, vec_len, vec_capacity};
-ghost use Rattle.in_arena.specs.declared.content.CellNo.{CellNo};
-ghost use Rattle.in_arena.specs.declared.content.End.TheVariants.{Cell};
 ghost use Rattle.in_arena.specs.Arenas.{state_at};
 ghost use Rattle.in_arena.specs.States.{IsLive, word_of};
 ghost use Rattle.in_cells.specs.Cells.{HasSymbols};
 ghost use Rattle.in_cells.specs.Pairs.{IsAtLive, IsPairOf, IsNoPair, AddsPair};
 
-use in_arena::{Arena, CellNo, End};
+use in_arena::{Arena, CellNo, EndWord};
 use in_net::{AgentNo, in_order};
 use in_symbols::{SymbolNo, Symbols};
-
-/// The cell whose principal port this is.
-#[inline(always)]
-fn principal(end: End) -> Option<CellNo>
-    ensures { MatchOption result ((c : CellNo) → end ≢ Cell c 0) (λ c. end ≡ Cell c 0) }
-{
-    match end {
-        End::Cell(cell, place) => { if place == 0 { Some(cell) } else { None } }
-        End::Free(_) => None,
-    }
-}
 
 /// An agent with its symbol.
 #[inline(always)]
@@ -33,21 +20,32 @@ fn agent(arena: &Arena, cell: CellNo) -> (AgentNo, SymbolNo)
 
 /// The two agents whose principal ports these are, in their order, if both are principal ports.
 #[inline(always)]
-fn pair_of(arena: &Arena, symbols: &Symbols, one: End, other: End) -> Option<(AgentNo, AgentNo)>
+fn pair_of(
+    arena: &Arena,
+    symbols: &Symbols,
+    one: EndWord,
+    other: EndWord,
+) -> Option<(AgentNo, AgentNo)>
     requires one { IsAtLive arena.now one }
     requires other { IsAtLive arena.now other }
     requires differ { one ≢ other }
     requires symbols { HasSymbols symbols.now arena.now }
     ensures { MatchOption result (IsNoPair one other) (IsPairOf symbols.now arena.now one other) }
 {
-    let first = agent(arena, principal(one)?);
-    let second = agent(arena, principal(other)?);
-    Some(in_order(symbols, first, second))
+    let first = one.principal()?;
+    let second = other.principal()?;
+    Some(in_order(symbols, agent(arena, first), agent(arena, second)))
 }
 
 /// Adds that pair, if both are principal ports.
 #[inline(always)]
-pub fn add_pair(arena: &Arena, symbols: &Symbols, one: End, other: End, made: &mut Vec<(u32, u32)>)
+pub fn add_pair(
+    arena: &Arena,
+    symbols: &Symbols,
+    one: EndWord,
+    other: EndWord,
+    made: &mut Vec<(u32, u32)>,
+)
     requires one { IsAtLive arena.now one }
     requires other { IsAtLive arena.now other }
     requires differ { one ≢ other }

@@ -10,7 +10,7 @@ ghost use Rattle.in_cells.specs.Cutting.{Shows};
 
 use crate::exchanging::exchange;
 use crate::pairing::add_pair;
-use in_arena::{Arena, End};
+use in_arena::{Arena, EndWord};
 use in_symbols::Symbols;
 
 /// Joins the last two free ends of a net, which has `own` more: what the one leads to and what the other leads to lead to each other from now
@@ -18,7 +18,7 @@ use in_symbols::Symbols;
 /// two alone is dropped. It takes no memory.
 pub fn join_last(
     arena: &mut Arena,
-    ends: &mut [End],
+    ends: &mut [EndWord],
     own: u32,
     symbols: &Symbols,
     made: &mut Vec<(u32, u32)>,

@@ -18,13 +18,11 @@ fn take_cell(from: &Arena, cell: CellNo, to: &mut Arena) -> CellNo
     ensures { TakesCell (state_at from.now cell.0) to.old result.0 to.new }
 {
     let places = from.places(cell);
-    let Some(mut lease) = to.lease(CellClass::for_places(places)) else {
+    let class = CellClass::for_places(places);
+    let Some(new) = to.begin(class, from.symbol(cell), places) else {
         // A cell of that class is free.
         unreachable!()
     };
-    lease.begin(from.symbol(cell), places);
-    let new = lease.cell();
-    to.settle(lease);
     new
 }
 

@@ -20,8 +20,8 @@ fn write_agent(from: &Arena, cell: CellNo, names: &[CellNo], ends: &[u32], to: &
 {
     let new = names[cell.0 as usize];
     for place in 0..from.places(cell) {
-        let end = moved_end(names, ends, from.port(cell, place));
-        to.set_port(new, place, end);
+        let end = moved_end(names, ends, from.word(cell, place));
+        to.set_word(new, place, end);
     }
 }
 

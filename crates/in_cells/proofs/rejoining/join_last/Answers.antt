@@ -14,18 +14,12 @@ use Rattle.in_cells.proofs.JoinedInCells as cells
 use Rattle.in_cells.proofs.rejoining.join_last.Goals as goal
 
 -- what is read at the two free ends
-module _ (sig : Signature) (own : ℕ) (a : ArenaView) (es : List End) (m : Net ℕ) (before : Shows sig (own + 2) a es m) (long : own + 2 ≤ length es) (d : End) where
-  abbrev one : End
-  one = get_or es own d
-
-  abbrev other : End
-  other = get_or es (own + 1) d
-
+module _ (sig : Signature) (own : ℕ) (a : ArenaView) (es : List End) (m : Net ℕ) (before : Shows sig (own + 2) a es m) (long : own + 2 ≤ length es) (one other : End) (one_read : one ≡ get_or es own one) (other_read : other ≡ get_or es (own + 1) other) where
   one_there : slice_get es own ≡ Some one
-  one_there = slice_get-get_or es own d (omega (arith, long))
+  one_there = slice_get-get_or es own one (omega (arith, long)) ∙ ap Some (sym one_read)
 
   other_there : slice_get es (suc own) ≡ Some other
-  other_there = ap (slice_get es) (let e : suc own ≡ own + 1 = omega arith in e) ∙ slice_get-get_or es (own + 1) d (omega (arith, long))
+  other_there = ap (slice_get es) (let e : suc own ≡ own + 1 = omega arith in e) ∙ slice_get-get_or es (own + 1) other (omega (arith, long)) ∙ ap Some (sym other_read)
 
   is_one : one ≡ end_of (cells.at sig own a es m before long).p
   is_one = cells.is_one sig own a es m before long one one_there
@@ -55,42 +49,42 @@ adds t b es own one other x y old new h k u v made =
     subst (λ (z : End). AddsPair t b x z old new) (same_Some other y (sym k ∙ v)) (subst (λ (z : End). AddsPair t b z other old new) (same_Some one x (sym h ∙ u)) made)
 
 pub exchange-requires-clause-one : goal.exchange-requires-clause-one
-exchange-requires-clause-one c = let s = c.requires.shown in place_one s.0 c.args.own c.args.arena.now c.args.ends.now s.1 s.2 c.requires.room _
+exchange-requires-clause-one c = let s = c.requires.shown in place_one s.0 c.args.own c.args.arena.now c.args.ends.now s.1 s.2 c.requires.room _ _ c.index-ends-first.is c.index-ends-first-2.is
 
 pub exchange-requires-clause-other : goal.exchange-requires-clause-other
-exchange-requires-clause-other c = let s = c.requires.shown in place_other s.0 c.args.own c.args.arena.now c.args.ends.now s.1 s.2 c.requires.room _
+exchange-requires-clause-other c = let s = c.requires.shown in place_other s.0 c.args.own c.args.arena.now c.args.ends.now s.1 s.2 c.requires.room _ _ c.index-ends-first.is c.index-ends-first-2.is
 
 pub add_pair-requires-clause-one : goal.add_pair-requires-clause-one
 add_pair-requires-clause-one c =
     let s = c.requires.shown in
-    let k = kept s.0 c.args.own c.args.arena.now c.args.ends.now s.1 s.2 c.requires.room _ c.exchange.new.arena c.exchange.new.ends c.exchange.ensures in
-    live_after _ c.args.arena.now c.args.ends.now c.exchange.new.arena k (place_one s.0 c.args.own c.args.arena.now c.args.ends.now s.1 s.2 c.requires.room _)
+    let k = kept s.0 c.args.own c.args.arena.now c.args.ends.now s.1 s.2 c.requires.room _ _ c.index-ends-first.is c.index-ends-first-2.is c.exchange.new.arena c.exchange.new.ends c.exchange.ensures in
+    live_after _ c.args.arena.now c.args.ends.now c.exchange.new.arena k (place_one s.0 c.args.own c.args.arena.now c.args.ends.now s.1 s.2 c.requires.room _ _ c.index-ends-first.is c.index-ends-first-2.is)
 
 pub add_pair-requires-clause-other : goal.add_pair-requires-clause-other
 add_pair-requires-clause-other c =
     let s = c.requires.shown in
-    let k = kept s.0 c.args.own c.args.arena.now c.args.ends.now s.1 s.2 c.requires.room _ c.exchange.new.arena c.exchange.new.ends c.exchange.ensures in
-    live_after _ c.args.arena.now c.args.ends.now c.exchange.new.arena k (place_other s.0 c.args.own c.args.arena.now c.args.ends.now s.1 s.2 c.requires.room _)
+    let k = kept s.0 c.args.own c.args.arena.now c.args.ends.now s.1 s.2 c.requires.room _ _ c.index-ends-first.is c.index-ends-first-2.is c.exchange.new.arena c.exchange.new.ends c.exchange.ensures in
+    live_after _ c.args.arena.now c.args.ends.now c.exchange.new.arena k (place_other s.0 c.args.own c.args.arena.now c.args.ends.now s.1 s.2 c.requires.room _ _ c.index-ends-first.is c.index-ends-first-2.is)
 
 pub add_pair-requires-clause-differ : goal.add_pair-requires-clause-differ
-add_pair-requires-clause-differ c = let s = c.requires.shown in differ s.0 c.args.own c.args.arena.now c.args.ends.now s.1 s.2 c.requires.room _
+add_pair-requires-clause-differ c = let s = c.requires.shown in differ s.0 c.args.own c.args.arena.now c.args.ends.now s.1 s.2 c.requires.room _ _ c.index-ends-first.is c.index-ends-first-2.is
 
 pub add_pair-requires-clause-symbols : goal.add_pair-requires-clause-symbols
 add_pair-requires-clause-symbols c =
     let s = c.requires.shown in
-    let k = kept s.0 c.args.own c.args.arena.now c.args.ends.now s.1 s.2 c.requires.room _ c.exchange.new.arena c.exchange.new.ends c.exchange.ensures in
+    let k = kept s.0 c.args.own c.args.arena.now c.args.ends.now s.1 s.2 c.requires.room _ _ c.index-ends-first.is c.index-ends-first-2.is c.exchange.new.arena c.exchange.new.ends c.exchange.ensures in
     symbols_kept c.args.symbols.now c.args.arena.now c.exchange.new.arena k c.requires.symbols
 
 pub returns-clause-joined : goal.returns-clause-joined
 returns-clause-joined c sig m n shows shown =
-    let w = written sig c.args.own c.args.arena.now c.args.ends.now m shows c.requires.room _ c.exchange.new.arena c.exchange.new.ends c.exchange.ensures in
+    let w = written sig c.args.own c.args.arena.now c.args.ends.now m shows c.requires.room _ _ c.index-ends-first.is c.index-ends-first-2.is c.exchange.new.arena c.exchange.new.ends c.exchange.ensures in
     cells.joins sig c.args.own c.args.arena.now c.args.ends.now m shows c.requires.room c.exchange.new.arena c.exchange.new.ends w n shown
 
 pub returns-clause-made : goal.returns-clause-made
 returns-clause-made c one other h k =
     let s = c.requires.shown in
     adds c.args.symbols.now c.exchange.new.arena c.args.ends.now c.args.own _ _ one other c.args.made.now.items c.add_pair.new.made.items
-    (one_there s.0 c.args.own c.args.arena.now c.args.ends.now s.1 s.2 c.requires.room _) (other_there s.0 c.args.own c.args.arena.now c.args.ends.now s.1 s.2 c.requires.room _) h k c.add_pair.ensures.added
+    (one_there s.0 c.args.own c.args.arena.now c.args.ends.now s.1 s.2 c.requires.room _ _ c.index-ends-first.is c.index-ends-first-2.is) (other_there s.0 c.args.own c.args.arena.now c.args.ends.now s.1 s.2 c.requires.room _ _ c.index-ends-first.is c.index-ends-first-2.is) h k c.add_pair.ensures.added
 
 pub returns-clause-kept : goal.returns-clause-kept
-returns-clause-kept c = let s = c.requires.shown in kept s.0 c.args.own c.args.arena.now c.args.ends.now s.1 s.2 c.requires.room _ c.exchange.new.arena c.exchange.new.ends c.exchange.ensures
+returns-clause-kept c = let s = c.requires.shown in kept s.0 c.args.own c.args.arena.now c.args.ends.now s.1 s.2 c.requires.room _ _ c.index-ends-first.is c.index-ends-first-2.is c.exchange.new.arena c.exchange.new.ends c.exchange.ensures

@@ -5,5 +5,5 @@ use Rattle.in_cells.proofs.taking.take_cell.Goals as goal
 pub returns : goal.returns
 returns c =
     let p = c.places-places in
-    cell_taken c.args.to.now c.requires.all (state_at c.args.from.now c.args.cell.0) c.for_places.result p.result c.symbol.result p.ensures.places c.symbol.ensures c.for_places.ensures c.in-Some.lease c.lease.new.self
-    c.in-Some.ensures c.begin.new.self c.begin.ensures c.settle.new.self c.settle.ensures c.cell-new.result.0 c.cell-new.ensures
+    cell_taken c.args.to.now c.requires.all (state_at c.args.from.now c.args.cell.0) c.for_places-class.result p.result c.symbol.result p.ensures.places c.symbol.ensures c.for_places-class.ensures c.in-Some.new.0 c.begin.new.self
+    c.in-Some.ensures

@@ -17,5 +17,5 @@ loop-place-preserved c =
     let x = state_at c.args.from.now c.args.cell.0 in
     let n = name_in names c.args.cell.0 in
     let to = c.args.to.now in
-    one_more_end (name_in names) (number_in c.args.ends.now) x n to c.loop-place.place c.loop-place.to c.loop-place.invariant (live_inside to n (alike_live x (state_at to n) c.requires.live c.requires.begun)) c.port.result
-    c.set_port.new.self c.port.ensures (c.set_port.ensures ∙ ap (λ e. changed c.loop-place.to n (with_end (state_at c.loop-place.to n) c.loop-place.place e)) c.moved_end-end.ensures)
+    one_more_end (name_in names) (number_in c.args.ends.now) x n to c.loop-place.place c.loop-place.to c.loop-place.invariant (live_inside to n (alike_live x (state_at to n) c.requires.live c.requires.begun)) c.word.result
+    c.set_word.new.self c.word.ensures (c.set_word.ensures ∙ ap (λ e. changed c.loop-place.to n (with_end (state_at c.loop-place.to n) c.loop-place.place e)) c.moved_end-end.ensures)
