@@ -2,7 +2,7 @@
 use Rattle.std.proofs.Common.{◌≡◌, ◌<◌, ◌*◌, refl, ℕ, List, length, set, get_or, Option, Some, sym, ap, ◌∙◌, subst, ⊎_elim, arith, length-set, get_or-set_same, get_or-set_other}
 use Rattle.std.proofs.lemmas.Bool.{cases_eq}
 use Rattle.std.proofs.lemmas.List.{set-set, set-get_or, length-replicate}
-use Rattle.in_arena.specs.Arenas.{ArenaView, LeaseView, Leases, NoneLeased, changed, state_at, written}
+use Rattle.in_arena.specs.Arenas.{ArenaView, BeginsCell, LeaseView, Leases, NoneLeased, changed, state_at, written}
 use Rattle.in_arena.specs.Bags.{LeasesTo, empty_bag}
 use Rattle.in_arena.specs.Changes.{HasAllCells}
 use Rattle.in_arena.specs.Classes.{classes, IsNumberOf}
@@ -12,14 +12,19 @@ use Rattle.in_arena.specs.declared.content.End.{End}
 use Rattle.in_arena.specs.declared.content.CellNo.{CellNo}
 use Rattle.in_arena.proofs.Public.{vacant_inside, number_inside}
 
--- a cell that was lent and given back
+-- a free cell that was something else meanwhile
+free_again : (a : ArenaView) (n : ℕ) (x : State) → state_at a n ≡ Vacant → changed (changed a n x) n Vacant ≡ a
+free_again a n x free = λ i. record { memory = a.memory; cells = a.cells; states = (set-set a.states n x Vacant ∙ ap (set a.states n) (sym free) ∙ set-get_or a.states n Leased) i }
+
+-- .. as one that was lent and given back
 pub given_back : (a b d : ArenaView) (c : CellClass) (r : Option LeaseView) (l : LeaseView) → Leases a c r b → r ≡ Some l → d ≡ changed b l.number Vacant → d ≡ a
 given_back a b d c r l made is e =
     let m = subst (λ o. Leases a c o b) is made in
-    let lists : set (set a.states l.number Leased) l.number Vacant ≡ a.states =
-    set-set a.states l.number Leased Vacant ∙ ap (set a.states l.number) (sym m.2) ∙ set-get_or a.states l.number Leased
-    in
-    e ∙ ap (λ v. changed v l.number Vacant) m.3 ∙ (λ i. record { memory = a.memory; cells = a.cells; states = lists i })
+    e ∙ ap (λ v. changed v l.number Vacant) m.3 ∙ free_again a l.number Leased m.2
+
+-- .. or begun and retired
+pub begun_back : (c : CellClass) (s p : ℕ) (a b d : ArenaView) (n : ℕ) → BeginsCell c s p a n b → d ≡ changed b n Vacant → d ≡ a
+begun_back c s p a b d n h e = e ∙ ap (λ v. changed v n Vacant) h.arena ∙ free_again a n h.state h.was
 
 -- a cell that becomes live, while no other is on lease
 pub live_now : (a b d : ArenaView) (n : ℕ) (x : State) (word : ℕ) (ends : List End) → NoneLeased a → state_at a n ≡ Vacant → b ≡ changed a n Leased → d ≡ changed b n x → x ≡ Live word ends → NoneLeased d × (state_at d n ≡ Live word ends)

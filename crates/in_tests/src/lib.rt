@@ -20,3 +20,5 @@ mod of_in_claims;
 mod of_in_simple_bridges;
 #[cfg(test)]
 mod of_moving;
+#[cfg(test)]
+mod words;

@@ -3,6 +3,7 @@ use crate::leases::{
     expect, expect_cell, expect_free, expect_port, fresh, lease_all, make, make_elsewhere,
     make_with, next_cell, one_back, two_leases,
 };
+use crate::words::{begin_all, expect_end, expect_word, make_twice, moved};
 use in_arena::{CellClass, CellNo, End};
 use std::test::Fail;
 
@@ -209,5 +210,43 @@ fn a_bag_written_in_another_thread(rt: HostRuntime) -> Result<(), Fail> {
     let mut arena = fresh(rt.alloc(), 3)?;
     let cell = make_in_a_bag_elsewhere(&rt, &mut arena, CellClass::Wide, 10, &TEN);
     expect_cell(&rt, &arena, cell, 10, &TEN);
+    Ok(())
+}
+
+#[test]
+fn ends_in_words(rt: HostRuntime) -> Result<(), Fail> {
+    let last = CellNo(4_294_967_295);
+    expect_word(&rt, End::Cell(CellNo(0), 0), Some(CellNo(0)));
+    expect_word(&rt, End::Cell(last, 0), Some(last));
+    expect_word(&rt, End::Cell(last, 255), None);
+    expect_word(&rt, End::Cell(CellNo(7), 1), None);
+    expect_word(&rt, End::Free(0), None);
+    expect_word(&rt, End::Free(4_294_967_295), None);
+    expect_end(&rt, moved(last, 255), End::Cell(last, 255));
+    expect_end(&rt, moved(CellNo(0), 0), End::Cell(CellNo(0), 0));
+    Ok(())
+}
+
+#[test]
+fn all_cells_begun(rt: HostRuntime) -> Result<(), Fail> {
+    let mut arena = fresh(rt.alloc(), 4)?;
+    begin_all(&rt, &mut arena, CellClass::Small, 4, (CellClass::Wide, 4));
+    begin_all(&rt, &mut arena, CellClass::Large, 4, (CellClass::Small, 4));
+    begin_all(&rt, &mut arena, CellClass::Wide, 4, (CellClass::Large, 4));
+    one_back(&rt, &mut arena, CellClass::Wide, 4);
+    Ok(())
+}
+
+#[test]
+fn a_cell_begun_and_renewed(rt: HostRuntime) -> Result<(), Fail> {
+    let mut arena = fresh(rt.alloc(), 1)?;
+    let wide = CellClass::Wide;
+    let cell = make_twice(&rt, &mut arena, wide, (8, 9), &SEVENTEEN, &TEN);
+    expect(&rt, cell.0, 2);
+    expect_cell(&rt, &arena, cell, 9, &TEN);
+    expect_free(&rt, &arena, wide, 0);
+    expect_free(&rt, &arena, CellClass::Large, 1);
+    arena.retire(cell);
+    expect(&rt, next_cell(&rt, &mut arena, wide).0, cell.0);
     Ok(())
 }
