@@ -13,3 +13,4 @@ pub mod StockInside
 pub mod Stocks
 pub mod Storing
 pub mod Templates
+pub mod Wires
