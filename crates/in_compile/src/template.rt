@@ -2,12 +2,15 @@
 ghost use Rattle.std.specs.Prelude.{◌≡◌, ◌<◌, length, Some, slice_get};
 ghost use Rattle.in_compile.specs.declared.joints.Joint.TheVariants.{ToAgent, ToBoundary};
 ghost use Rattle.in_compile.specs.Members.{symbol_at, class_at, places_at, joint_at, IsPlaceOf};
+ghost use Rattle.in_compile.specs.Wires.{over_of, within_of};
 
 use crate::cells::Need;
 use crate::joints::Joint;
 use crate::member::Member;
+use crate::wires::{OverWire, WithinWire};
 use in_arena::CellClass;
 use in_symbols::SymbolNo;
+use sqlite_items::Items;
 use std::marker::Model;
 
 /// The right member of a rule, with what joins it in the place of the rule's active pair: its boundary ends are the auxiliary ports of the
@@ -18,18 +21,20 @@ pub struct Template {
     pub(crate) first_ends: u8,
     pub(crate) unmarked: bool,
     pub(crate) heads: (SymbolNo, SymbolNo),
+    pub(crate) over: Items<OverWire>,
+    pub(crate) within: Items<WithinWire>,
 }
 
-// Contracts see its fields.
+// Contracts see its fields, and of the lists of wires that its member has them.
 impl Model for Template {
     ghost use Rattle.in_compile.specs.Templates.{TemplateParts};
-    ghost use Rattle.in_compile.specs.Storing.{IsSmallMember};
+    ghost use Rattle.in_compile.specs.TemplateInside.{IsTemplate};
 
     ghost Value = { TemplateParts };
 
     ghost view = { λ t. record { heads = t.heads; first_ends = t.first_ends; unmarked = t.unmarked; member = t.member } };
 
-    ghost invariant = { λ t. IsSmallMember t.member };
+    ghost invariant = { IsTemplate };
 }
 
 impl Template {
@@ -121,6 +126,22 @@ impl Template {
         ensures { joint_at self.now.member (ToBoundary end) ≡ Some result }
     {
         self.member.joint(end)
+    }
+
+    /// The wires that have a boundary end, each once, by its lowest boundary end and where it leads from there, in the order of these ends.
+    #[inline(always)]
+    pub fn over(&self) -> &[OverWire]
+        ensures { result.now ≡ over_of self.now.member }
+    {
+        self.over.as_slice()
+    }
+
+    /// The wires between two places of agents, each once, from its first place in the order of agents and places.
+    #[inline(always)]
+    pub fn within(&self) -> &[WithinWire]
+        ensures { result.now ≡ within_of self.now.member }
+    {
+        self.within.as_slice()
     }
 
     /// How many active pairs its agents are.
