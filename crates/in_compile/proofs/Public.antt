@@ -2,6 +2,7 @@
 pub use Rattle.in_compile.proofs.Compiled.Accepted.{complete, whole_rule}
 pub use Rattle.in_compile.proofs.Placements.AgentByAgent.{read_at}
 pub use Rattle.in_compile.proofs.Placements.Back.{all_back, both_back, one_of_all, one_or_same, other_stays, shared_out}
+pub use Rattle.in_compile.proofs.Listed.Once.{listed_once}
 pub use Rattle.in_compile.proofs.Listed.WiresOver.{over_ends}
 pub use Rattle.in_compile.proofs.Listed.WiresWithin.{wires_within}
 pub use Rattle.in_compile.proofs.Needs.Classes.{one_short, same_need, short_needed}

@@ -1,10 +1,11 @@
 -- Laws over templates.
-use Rattle.std.specs.Prelude.{◌≡◌, ℕ, List, map, Some, slice_get}
+use Rattle.std.specs.Prelude.{◌≡◌, ◌⊎◌, ℕ, List, map, Some, slice_get}
+use Rattle.in_base.specs.Lists.{Pairwise}
 use Rattle.in_symbols.specs.Tables.{Tables}
-use Rattle.in_net.specs.Nets.{IsNet, Signature, net_of}
+use Rattle.in_net.specs.Nets.{IsNet, Point, Signature, net_of}
 use Rattle.in_net.specs.Parts.{Parts}
 use Rattle.in_net.specs.Rules.{RuleParts}
-use Rattle.in_overwriting.specs.InTurn.{AreWiresWithin}
+use Rattle.in_overwriting.specs.InTurn.{AreWiresWithin, in_two_parts}
 use Rattle.in_overwriting.specs.MadeByWires.{AreOverEnds}
 use Rattle.in_cover.specs.Cover.{IsPair, IsRuleFor}
 use Rattle.in_check.specs.Checking.{IsAccepted}
@@ -54,3 +55,13 @@ WiresOverAreListed = (t : Tables) (n : Parts) (m : MemberParts) → IsMemberOf t
 -- .. and the others are those between its agents
 abbrev pub WiresWithinAreListed : Type 0
 WiresWithinAreListed = (t : Tables) (n : Parts) (m : MemberParts) (sig : Signature) → IsMemberOf t n m → IsNet sig (net_of n) → AreWiresWithin (net_of n) (map both_points (within_of m))
+
+abbrev pub IsOneOf : Point ℕ → Point ℕ × Point ℕ → Type 0
+IsOneOf p w = (p ≡ w.0) ⊎ (p ≡ w.1)
+
+abbrev pub ShareNone : Point ℕ × Point ℕ → Point ℕ × Point ℕ → Type 0
+ShareNone v w = (p : Point ℕ) → IsOneOf p v → IsOneOf p w → ⊥
+
+-- .. and no point stands in two of them
+abbrev pub WiresAreListedOnce : Type 0
+WiresAreListedOnce = (t : Tables) (n : Parts) (m : MemberParts) (sig : Signature) → IsMemberOf t n m → IsNet sig (net_of n) → Pairwise ShareNone (in_two_parts (map over_point (over_of m)) (map both_points (within_of m)))

@@ -1,6 +1,6 @@
 //! Laws over templates, stocks and what is placed, for whoever reasons above them. No function here does anything.
 
-ghost use Rattle.in_compile.specs.Laws.{EachPairHasOneTemplate, TemplatesAreOne, TemplatesOfAreOne, LargestNeedsAreOne, WiresOverAreListed, WiresWithinAreListed};
+ghost use Rattle.in_compile.specs.Laws.{EachPairHasOneTemplate, TemplatesAreOne, TemplatesOfAreOne, LargestNeedsAreOne, WiresOverAreListed, WiresWithinAreListed, WiresAreListedOnce};
 ghost use Rattle.in_compile.specs.PlacingLaws.{MembersAreOne, PutsAreOne, LeasingKeepsAll, GivingBackKeepsAll, AllGoBack, PlacingLosesNone, SettlingLosesNone, PlacingSharesOut, OtherBagsStay, SettledMembersStand};
 
 /// Of an accepted program, every two matching symbols have exactly one template, whichever is named first, and it is that of their rule.
@@ -36,6 +36,11 @@ pub fn wires_over_are_listed()
 /// The wires between agents of a net are listed by its member.
 pub fn wires_within_are_listed()
     ensures { WiresWithinAreListed }
+{}
+
+/// No point of a net stands in two of the wires that its member lists.
+pub fn wires_are_listed_once()
+    ensures { WiresAreListedOnce }
 {}
 
 /// A member that is put into an arena makes one arena, where its agents get the same cells.

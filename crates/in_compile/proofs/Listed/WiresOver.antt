@@ -21,7 +21,7 @@ mapped_at {X} {Y} f xs k y at = go (slice_get xs k) refl (sym (slice_get-map f x
     go None is at = absurd (none-some y at)
     go (Some x) is at = (x, is, same_Some (f x) y at)
 
-lowest : (e : ℕ) (j : Joint) → is_from_lowest (e, j) ≡ true → (d : ℕ) → point_at j ≡ Free d → e ≤ d
+pub lowest : (e : ℕ) (j : Joint) → is_from_lowest (e, j) ≡ true → (d : ℕ) → point_at j ≡ Free d → e ≤ d
 lowest e (ToAgent k i) is d same = absurd (let f : Port k i ≡ Free d = same in cc)
 lowest e (ToBoundary f) is d same =
     let low = leb-true e f is in
