@@ -22,8 +22,8 @@ abbrev pub MembersAreOne : Type 0
 MembersAreOne = (t : Tables) (n : Parts) (p q : MemberParts) → IsMemberOf t n p → IsMemberOf t n q → p ≡ q
 
 -- what putting a member makes is determined by the cells that its agents get
-abbrev pub PutsAreOne : Type 0
-PutsAreOne = (m : MemberParts) (ns : List CellNo) (old new other : ArenaView) → IsPut m ns old new → IsPut m ns old other → new ≡ other
+abbrev pub MemberPutsAreOne : Type 0
+MemberPutsAreOne = (m : MemberParts) (ns : List CellNo) (old new other : ArenaView) → IsPut m ns old new → IsPut m ns old other → new ≡ other
 
 -- ---- no cell is lost
 

@@ -1,14 +1,16 @@
 // A template, and what is read of it.
-ghost use Rattle.std.specs.Prelude.{◌≡◌, ◌<◌, length, Some, slice_get};
+ghost use Rattle.std.specs.Prelude.{◌≡◌, ◌≤◌, ◌<◌, length, Some, slice_get};
+ghost use Rattle.in_net.specs.NetFaults.{max_member_agents};
 ghost use Rattle.in_compile.specs.declared.joints.Joint.TheVariants.{ToAgent, ToBoundary};
 ghost use Rattle.in_compile.specs.Members.{symbol_at, class_at, places_at, joint_at, IsPlaceOf};
-ghost use Rattle.in_compile.specs.Wires.{over_of, within_of};
+ghost use Rattle.in_compile.specs.Wires.{first_agent_slot, over_of, within_of};
 
 use crate::cells::Need;
 use crate::joints::Joint;
 use crate::member::Member;
 use crate::wires::{OverWire, WithinWire};
 use in_arena::CellClass;
+use in_base::use_invariant;
 use in_symbols::SymbolNo;
 use sqlite_items::Items;
 use std::marker::Model;
@@ -43,6 +45,14 @@ impl Template {
         ensures { result ≡ self.now.heads }
     {
         self.heads
+    }
+
+    /// Its boundary ends and its agents are few, so that each has a slot of its own: what its proof rests on. The call does nothing.
+    pub fn is_small(&self)
+        ensures ends { length self.now.member.joints ≤ first_agent_slot }
+        ensures agents { length self.now.member.agents ≤ max_member_agents }
+    {
+        use_invariant!(self.first_ends);
     }
 
     /// The right member.
