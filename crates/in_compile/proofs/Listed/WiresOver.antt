@@ -32,6 +32,14 @@ from_lowest : (e : ℕ) (j : Joint) → ((d : ℕ) → point_at j ≡ Free d →
 from_lowest e (ToAgent k i) low = refl
 from_lowest e (ToBoundary f) low = le-leb e f (low f refl)
 
+-- what is listed leads from its boundary end
+pub over_at : (m : MemberParts) (k : ℕ) (w : ℕ × Joint) → slice_get (over_of m) k ≡ Some w → (slice_get m.joints w.0 ≡ Some w.1) × (is_from_lowest w ≡ true)
+over_at m k w at =
+    let s = there is_from_lowest 0 m.joints k w at in
+    let number = s.1 in
+    let end : s.0 ≡ w.0 = omega (arith, number) in
+    (ap (slice_get m.joints) (sym end) ∙ s.2, s.3)
+
 module _ (t : Tables) (n : Parts) (m : MemberParts) (of : IsMemberOf t n m) where
   abbrev net : Net ℕ
   net = net_of n
@@ -39,11 +47,8 @@ module _ (t : Tables) (n : Parts) (m : MemberParts) (of : IsMemberOf t n m) wher
   each : (k : ℕ) (w : ℕ × Point ℕ) → slice_get (map over_point (over_of m)) k ≡ Some w → LeadsFrom net w.0 w.1
   each k w at =
       let x = mapped_at over_point (over_of m) k w at in
-      let s = there is_from_lowest 0 m.joints k x.0 x.1 in
-      let number = s.1 in
-      let end : s.0 ≡ x.0.0 = omega (arith, number) in
-      let joint : slice_get m.joints x.0.0 ≡ Some x.0.1 = ap (slice_get m.joints) (sym end) ∙ s.2 in
-      let from : LeadsFrom net x.0.0 (point_at x.0.1) = record { wire = leads t n m of (ToBoundary x.0.0) x.0.1 joint; lowest = lowest x.0.0 x.0.1 s.3 } in
+      let s = over_at m k x.0 x.1 in
+      let from : LeadsFrom net x.0.0 (point_at x.0.1) = record { wire = leads t n m of (ToBoundary x.0.0) x.0.1 s.0; lowest = lowest x.0.0 x.0.1 s.1 } in
       subst (λ (w : ℕ × Point ℕ). LeadsFrom net w.0 w.1) x.2 from
 
   all : (w : ℕ × Point ℕ) → LeadsFrom net w.0 w.1 → (k : ℕ) × (slice_get (map over_point (over_of m)) k ≡ Some w)
