@@ -1,4 +1,5 @@
 pub mod Compiled
+pub mod Listed
 pub mod Needs
 pub mod Placements
 pub mod Public

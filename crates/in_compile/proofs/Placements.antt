@@ -3,6 +3,7 @@ pub mod AgentByAgent
 pub mod Back
 pub mod EndByEnd
 pub mod Held
+pub mod OnePut
 pub mod Put
 pub mod Settled
 pub mod Standing

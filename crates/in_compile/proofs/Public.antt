@@ -2,9 +2,14 @@
 pub use Rattle.in_compile.proofs.Compiled.Accepted.{complete, whole_rule}
 pub use Rattle.in_compile.proofs.Placements.AgentByAgent.{read_at}
 pub use Rattle.in_compile.proofs.Placements.Back.{all_back, both_back, one_of_all, one_or_same, other_stays, shared_out}
+pub use Rattle.in_compile.proofs.Listed.Once.{listed_once}
+pub use Rattle.in_compile.proofs.Listed.Partners.{joins, leads, one_joint}
+pub use Rattle.in_compile.proofs.Listed.WiresOver.{over_at, over_ends}
+pub use Rattle.in_compile.proofs.Listed.WiresWithin.{is_listed, listed, wires_within}
 pub use Rattle.in_compile.proofs.Needs.Classes.{one_short, same_need, short_needed}
 pub use Rattle.in_compile.proofs.Placements.EndByEnd.{inside_of}
 pub use Rattle.in_compile.proofs.Compiled.OneTemplate.{has_template, held, one_class, one_for}
+pub use Rattle.in_compile.proofs.Placements.OnePut.{one_put}
 pub use Rattle.in_compile.proofs.Placements.Settled.{settled}
 pub use Rattle.in_compile.proofs.Compiled.Sound.{few_agents, joints_many, sound}
 pub use Rattle.in_compile.proofs.Placements.Stocked.{all_stay, cells_all, count_all, memory_all, none_in_empty}

@@ -1,12 +1,19 @@
 -- Laws over templates.
-use Rattle.std.specs.Prelude.{◌≡◌, ℕ, List, Some, slice_get}
+use Rattle.std.specs.Prelude.{◌≡◌, ◌⊎◌, ℕ, List, map, Some, slice_get}
+use Rattle.in_base.specs.Lists.{Pairwise}
 use Rattle.in_symbols.specs.Tables.{Tables}
+use Rattle.in_net.specs.Nets.{IsNet, Point, Signature, net_of}
+use Rattle.in_net.specs.Parts.{Parts}
 use Rattle.in_net.specs.Rules.{RuleParts}
+use Rattle.in_overwriting.specs.InTurn.{AreWiresWithin, in_two_parts}
+use Rattle.in_overwriting.specs.MadeByWires.{AreOverEnds}
 use Rattle.in_cover.specs.Cover.{IsPair, IsRuleFor}
 use Rattle.in_check.specs.Checking.{IsAccepted}
 use Rattle.in_check.specs.Programs.{Program}
 use Rattle.in_compile.specs.declared.cells.Need.{Need}
+use Rattle.in_compile.specs.Members.{MemberParts, IsMemberOf}
 use Rattle.in_compile.specs.Templates.{TemplateParts, HasHeads, IsTemplateOf, TemplatesParts, template_at, IsLargestNeed, AreTemplatesOf}
+use Rattle.in_compile.specs.Wires.{both_points, over_of, over_point, within_of}
 
 -- the rule for the two symbols and its template, which is found for them; no other template has these heads
 pub record HasOneTemplate (p : Program) (ts : TemplatesParts) (c d : ℕ) : Type 0 where
@@ -38,3 +45,23 @@ TemplatesOfAreOne = (p : Program) (ts us : TemplatesParts) → AreTemplatesOf p 
 -- .. and the largest need by the templates
 abbrev pub LargestNeedsAreOne : Type 0
 LargestNeedsAreOne = (ts : List TemplateParts) (n m : Need) → IsLargestNeed ts n → IsLargestNeed ts m → n ≡ m
+
+-- ---- the wires that a member lists
+
+-- those with boundary ends are the net's, each once, by its lowest end
+abbrev pub WiresOverAreListed : Type 0
+WiresOverAreListed = (t : Tables) (n : Parts) (m : MemberParts) → IsMemberOf t n m → AreOverEnds (net_of n) (map over_point (over_of m))
+
+-- .. and the others are those between its agents
+abbrev pub WiresWithinAreListed : Type 0
+WiresWithinAreListed = (t : Tables) (n : Parts) (m : MemberParts) (sig : Signature) → IsMemberOf t n m → IsNet sig (net_of n) → AreWiresWithin (net_of n) (map both_points (within_of m))
+
+abbrev pub IsOneOf : Point ℕ → Point ℕ × Point ℕ → Type 0
+IsOneOf p w = (p ≡ w.0) ⊎ (p ≡ w.1)
+
+abbrev pub ShareNone : Point ℕ × Point ℕ → Point ℕ × Point ℕ → Type 0
+ShareNone v w = (p : Point ℕ) → IsOneOf p v → IsOneOf p w → ⊥
+
+-- .. and no point stands in two of them
+abbrev pub WiresAreListedOnce : Type 0
+WiresAreListedOnce = (t : Tables) (n : Parts) (m : MemberParts) (sig : Signature) → IsMemberOf t n m → IsNet sig (net_of n) → Pairwise ShareNone (in_two_parts (map over_point (over_of m)) (map both_points (within_of m)))

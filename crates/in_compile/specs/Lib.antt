@@ -12,4 +12,6 @@ pub mod Putting
 pub mod StockInside
 pub mod Stocks
 pub mod Storing
+pub mod TemplateInside
 pub mod Templates
+pub mod Wires

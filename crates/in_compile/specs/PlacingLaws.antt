@@ -14,11 +14,16 @@ use Rattle.in_compile.specs.declared.cells.Need.{Need}
 use Rattle.in_compile.specs.declared.joints.Joint.TheVariants.{ToAgent, ToBoundary}
 use Rattle.in_compile.specs.Members.{MemberParts, IsMemberOf, symbol_at, joint_at}
 use Rattle.in_compile.specs.Placing.{PlacedParts, AreCellsOf, IsPlacedMember, TakesCells}
+use Rattle.in_compile.specs.Putting.{IsPut}
 use Rattle.in_compile.specs.Stocks.{StockParts, Adds, Regains, IsStockOf}
 
 -- a member is determined by its net
 abbrev pub MembersAreOne : Type 0
 MembersAreOne = (t : Tables) (n : Parts) (p q : MemberParts) → IsMemberOf t n p → IsMemberOf t n q → p ≡ q
+
+-- what putting a member makes is determined by the cells that its agents get
+abbrev pub MemberPutsAreOne : Type 0
+MemberPutsAreOne = (m : MemberParts) (ns : List CellNo) (old new other : ArenaView) → IsPut m ns old new → IsPut m ns old other → new ≡ other
 
 -- ---- no cell is lost
 

@@ -23,7 +23,7 @@ pub record IsPut (m : MemberParts) (ns : List CellNo) (old new : ArenaView) : Ty
 -- ---- how: no contract of a public call speaks of it
 
 -- a free cell of the agent's class is live with its symbol; what its places lead to is open
-pub record Begins (a : AgentParts) (old : ArenaView) (n : ℕ) (new : ArenaView) : Type 0 where
+pub record BeginsAgent (a : AgentParts) (old : ArenaView) (n : ℕ) (new : ArenaView) : Type 0 where
   pub at : IsNumberOf old.cells a.class n
   pub was : state_at old n ≡ Vacant
   pub state : State

@@ -1,5 +1,5 @@
 -- How members and templates are stored: no contract of a public call speaks of it. This project's own choice.
-use Rattle.std.specs.Prelude.{◌≡◌, ◌≢◌, ◌≤◌, ◌<◌, ◌+◌, ◌^◌, ◌*◌, ℕ, nat_eq, cond, true, List, ◌∷◌, [], ◌++◌, length, take, drop, map, Option, Some, None, slice_get}
+use Rattle.std.specs.Prelude.{◌≡◌, ◌≢◌, ◌≤◌, ◌<◌, ◌+◌, ◌-◌, ◌^◌, ◌*◌, ℕ, nat_eq, nat_lt, cond, true, List, ◌∷◌, [], ◌++◌, length, take, drop, map, Some, slice_get}
 use Rattle.in_symbols.specs.Tables.{Tables}
 use Rattle.in_net.specs.declared.nets.Cell.{Cell}
 use Rattle.in_net.specs.declared.nets.Point.{Point}
@@ -12,6 +12,7 @@ use Rattle.in_compile.specs.declared.joints.Joint.TheVariants.{ToAgent, ToBounda
 use Rattle.in_compile.specs.declared.member.MemberAgent.{MemberAgent}
 use Rattle.in_compile.specs.Cells.{is_of}
 use Rattle.in_compile.specs.Members.{AgentParts, MemberParts, joint_of}
+use Rattle.in_compile.specs.Wires.{first_agent_slot, slots}
 
 -- ---- joints in two words
 
@@ -53,9 +54,22 @@ pub record IsLaidOut (agents : List MemberAgent) (joints : List Joint) (boundary
   pub few_ends : boundary < 2 ^ 16
   pub few_pairs : length pairs < 2 ^ 32
 
--- a right member's boundary ends are numbered in a byte, and its agents are few
+-- a right member's boundary ends and its agents are few
 abbrev pub IsSmallMember : MemberParts → Type 0
-IsSmallMember m = (length m.joints < 2 ^ 8) × (length m.agents ≤ max_member_agents)
+IsSmallMember m = (length m.joints ≤ first_agent_slot) × (length m.agents ≤ max_member_agents)
+
+-- ---- joints of a right member in two bytes
+
+abbrev pub joint_at_slot : ℕ → ℕ → Joint
+joint_at_slot slot place = cond (nat_lt slot first_agent_slot) (ToBoundary slot) (ToAgent (slot - first_agent_slot) place)
+
+-- there are so many slots, and at a boundary end there is one place
+abbrev pub FitsSlot : ℕ → ℕ → Type 0
+FitsSlot slot place = (slot < slots) × (place ≤ max_ports) × (slot < first_agent_slot → place ≡ 0)
+
+abbrev pub IsSmallJoint : Joint → Type 0
+IsSmallJoint (ToAgent k i) = (k < max_member_agents) × (i ≤ max_ports)
+IsSmallJoint (ToBoundary e) = e < first_agent_slot
 
 -- ---- what compiling adds
 

@@ -1,7 +1,7 @@
 //! Laws over templates, stocks and what is placed, for whoever reasons above them. No function here does anything.
 
-ghost use Rattle.in_compile.specs.Laws.{EachPairHasOneTemplate, TemplatesAreOne, TemplatesOfAreOne, LargestNeedsAreOne};
-ghost use Rattle.in_compile.specs.PlacingLaws.{MembersAreOne, LeasingKeepsAll, GivingBackKeepsAll, AllGoBack, PlacingLosesNone, SettlingLosesNone, PlacingSharesOut, OtherBagsStay, SettledMembersStand};
+ghost use Rattle.in_compile.specs.Laws.{EachPairHasOneTemplate, TemplatesAreOne, TemplatesOfAreOne, LargestNeedsAreOne, WiresOverAreListed, WiresWithinAreListed, WiresAreListedOnce};
+ghost use Rattle.in_compile.specs.PlacingLaws.{MembersAreOne, MemberPutsAreOne, LeasingKeepsAll, GivingBackKeepsAll, AllGoBack, PlacingLosesNone, SettlingLosesNone, PlacingSharesOut, OtherBagsStay, SettledMembersStand};
 
 /// Of an accepted program, every two matching symbols have exactly one template, whichever is named first, and it is that of their rule.
 pub fn each_pair_has_one_template()
@@ -26,6 +26,26 @@ pub fn largest_needs_are_one()
 /// A net has one member.
 pub fn members_are_one()
     ensures { MembersAreOne }
+{}
+
+/// The wires of a net that have a free end are listed by its member, each once, by its lowest free end and its other point.
+pub fn wires_over_are_listed()
+    ensures { WiresOverAreListed }
+{}
+
+/// The wires between agents of a net are listed by its member.
+pub fn wires_within_are_listed()
+    ensures { WiresWithinAreListed }
+{}
+
+/// No point of a net stands in two of the wires that its member lists.
+pub fn wires_are_listed_once()
+    ensures { WiresAreListedOnce }
+{}
+
+/// A member that is put into an arena makes one arena, where its agents get the same cells.
+pub fn puts_are_one()
+    ensures { MemberPutsAreOne }
 {}
 
 /// Leasing into a stock loses no cell: of each class as many are free or held as before.

@@ -25,6 +25,7 @@ mod putting;
 mod stock;
 mod template;
 mod templates;
+mod wires;
 
 pub use cells::{Need, is_of, need_of_net};
 pub use compiling::compile;
@@ -36,3 +37,4 @@ pub use placing::place_into;
 pub use stock::Stock;
 pub use template::Template;
 pub use templates::Templates;
+pub use wires::{FIRST_AGENT_SLOT, OverWire, SmallJoint, WithinWire};

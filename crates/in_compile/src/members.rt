@@ -16,6 +16,7 @@ use crate::cells::need_of_net;
 use crate::joints::{Joint, StoredJoint};
 use crate::member::{Member, MemberAgent};
 use crate::template::Template;
+use crate::wires::{over_wires, within_wires};
 use in_arena::CellClass;
 use in_base::use_promise;
 use in_net::{Cell, Net, Point, Rule};
@@ -144,10 +145,14 @@ pub(crate) fn template(
     let first_ends = symbols.arity(first);
     use_promise!(symbols.arity(second));
     let unmarked = !is_marked(symbols, first) && !is_marked(symbols, second);
+    let over = over_wires(alloc, &member)?;
+    let within = within_wires(alloc, &member)?;
     Ok(Template {
         member,
         first_ends,
         unmarked,
         heads: (first, second),
+        over,
+        within,
     })
 }

@@ -7,7 +7,7 @@ ghost use Rattle.in_arena.specs.declared.content.CellNo.{CellNo as Number};
 ghost use Rattle.in_compile.specs.Cells.{count_of, IsEnough};
 ghost use Rattle.in_compile.specs.Members.{AgentParts};
 ghost use Rattle.in_compile.specs.Placing.{content};
-ghost use Rattle.in_compile.specs.Putting.{AreBegunBelow, Begins, IsPut};
+ghost use Rattle.in_compile.specs.Putting.{AreBegunBelow, BeginsAgent, IsPut};
 
 use crate::member::Member;
 use crate::placed::Placed;
@@ -20,7 +20,7 @@ fn begin(member: &Member, agent: u32, arena: &mut Arena) -> CellNo
     requires there { agent < length member.now.agents }
     requires all { HasAllCells arena.old }
     requires free { (a : AgentParts) → slice_get member.now.agents agent ≡ Some a → 0 < free_of arena.old a.class }
-    ensures { (a : AgentParts) → slice_get member.now.agents agent ≡ Some a → Begins a arena.old result.0 arena.new }
+    ensures { (a : AgentParts) → slice_get member.now.agents agent ≡ Some a → BeginsAgent a arena.old result.0 arena.new }
 {
     member.is_sound();
     let Some(mut lease) = arena.lease(member.class(agent)) else {

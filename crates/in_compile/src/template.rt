@@ -1,13 +1,18 @@
 // A template, and what is read of it.
-ghost use Rattle.std.specs.Prelude.{◌≡◌, ◌<◌, length, Some, slice_get};
+ghost use Rattle.std.specs.Prelude.{◌≡◌, ◌≤◌, ◌<◌, length, Some, slice_get};
+ghost use Rattle.in_net.specs.NetFaults.{max_member_agents};
 ghost use Rattle.in_compile.specs.declared.joints.Joint.TheVariants.{ToAgent, ToBoundary};
 ghost use Rattle.in_compile.specs.Members.{symbol_at, class_at, places_at, joint_at, IsPlaceOf};
+ghost use Rattle.in_compile.specs.Wires.{first_agent_slot, over_of, within_of};
 
 use crate::cells::Need;
 use crate::joints::Joint;
 use crate::member::Member;
+use crate::wires::{OverWire, WithinWire};
 use in_arena::CellClass;
+use in_base::use_invariant;
 use in_symbols::SymbolNo;
+use sqlite_items::Items;
 use std::marker::Model;
 
 /// The right member of a rule, with what joins it in the place of the rule's active pair: its boundary ends are the auxiliary ports of the
@@ -18,18 +23,20 @@ pub struct Template {
     pub(crate) first_ends: u8,
     pub(crate) unmarked: bool,
     pub(crate) heads: (SymbolNo, SymbolNo),
+    pub(crate) over: Items<OverWire>,
+    pub(crate) within: Items<WithinWire>,
 }
 
-// Contracts see its fields.
+// Contracts see its fields, and of the lists of wires that its member has them.
 impl Model for Template {
     ghost use Rattle.in_compile.specs.Templates.{TemplateParts};
-    ghost use Rattle.in_compile.specs.Storing.{IsSmallMember};
+    ghost use Rattle.in_compile.specs.TemplateInside.{IsTemplate};
 
     ghost Value = { TemplateParts };
 
     ghost view = { λ t. record { heads = t.heads; first_ends = t.first_ends; unmarked = t.unmarked; member = t.member } };
 
-    ghost invariant = { λ t. IsSmallMember t.member };
+    ghost invariant = { IsTemplate };
 }
 
 impl Template {
@@ -38,6 +45,14 @@ impl Template {
         ensures { result ≡ self.now.heads }
     {
         self.heads
+    }
+
+    /// Its boundary ends and its agents are few, so that each has a slot of its own: what its proof rests on. The call does nothing.
+    pub fn is_small(&self)
+        ensures ends { length self.now.member.joints ≤ first_agent_slot }
+        ensures agents { length self.now.member.agents ≤ max_member_agents }
+    {
+        use_invariant!(self.first_ends);
     }
 
     /// The right member.
@@ -121,6 +136,22 @@ impl Template {
         ensures { joint_at self.now.member (ToBoundary end) ≡ Some result }
     {
         self.member.joint(end)
+    }
+
+    /// The wires that have a boundary end, each once, by its lowest boundary end and where it leads from there, in the order of these ends.
+    #[inline(always)]
+    pub fn over(&self) -> &[OverWire]
+        ensures { result.now ≡ over_of self.now.member }
+    {
+        self.over.as_slice()
+    }
+
+    /// The wires between two places of agents, each once, from its first place in the order of agents and places.
+    #[inline(always)]
+    pub fn within(&self) -> &[WithinWire]
+        ensures { result.now ≡ within_of self.now.member }
+    {
+        self.within.as_slice()
     }
 
     /// How many active pairs its agents are.

@@ -28,21 +28,21 @@ use Rattle.in_compile.proofs.Compiled.OneTemplate.{held, one_class}
 
 -- ---- points and joints are the same
 
-point_of : Joint → Point
+unfoldable pub point_of : Joint → Point
 point_of (ToAgent k i) = Port (record { 0 = k }) i
 point_of (ToBoundary e) = Free e
 
-back_joint : (j : Joint) → joint_of (point_of j) ≡ j
+pub back_joint : (j : Joint) → joint_of (point_of j) ≡ j
 unfolding point_of
 back_joint (ToAgent k i) = refl
 back_joint (ToBoundary e) = refl
 
-back_point : (q : Point) → point_of (joint_of q) ≡ q
+pub back_point : (q : Point) → point_of (joint_of q) ≡ q
 unfolding point_of
 back_point (Port x i) = refl
 back_point (Free e) = refl
 
-mapped_back : (o : Option Point) (j : Joint) → option_map joint_of o ≡ Some j → o ≡ Some (point_of j)
+pub mapped_back : (o : Option Point) (j : Joint) → option_map joint_of o ≡ Some j → o ≡ Some (point_of j)
 mapped_back None j h = let e : None ≡ Some j = h in cc
 mapped_back (Some q) j h = ap (λ (z : Point). Some z) (sym (back_point q) ∙ ap point_of (same_Some (joint_of q) j h))
 

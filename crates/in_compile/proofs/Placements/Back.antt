@@ -45,7 +45,7 @@ one_of_all a (m ∷ ns) x n (suc k) inside at = go (cases_eq n.0 m.0) (one_of_al
 
 -- ---- what was leased and goes back
 
-same_states : (xs ys : List State) → length xs ≡ length ys → ((n : ℕ) → get_or xs n Leased ≡ get_or ys n Leased) → xs ≡ ys
+pub same_states : (xs ys : List State) → length xs ≡ length ys → ((n : ℕ) → get_or xs n Leased ≡ get_or ys n Leased) → xs ≡ ys
 same_states [] [] e h = refl
 same_states [] (y ∷ ys) e h = cc
 same_states (x ∷ xs) [] e h = cc

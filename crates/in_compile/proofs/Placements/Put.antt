@@ -7,7 +7,6 @@ use Rattle.std.proofs.lemmas.Option.{same_Some, slice_get_within, get_or_from_sl
 use Rattle.in_base.proofs.Each.{at_index}
 use Rattle.in_base.proofs.Places.{kept_at, last_at, more_at}
 use Rattle.in_arena.specs.Arenas.{ArenaView, LeaseView, Leases, changed, free_of, state_at, written}
-use Rattle.in_arena.specs.Bags.{IsInBag}
 use Rattle.in_arena.specs.Changes.{HasAllCells, one_if_free}
 use Rattle.in_arena.specs.Classes.{IsNumberOf}
 use Rattle.in_arena.specs.States.{State, Vacant, Leased, Live, IsBegun, IsLeased, word_of}
@@ -19,7 +18,7 @@ use Rattle.in_compile.specs.Listing.{of_class}
 use Rattle.in_compile.specs.Members.{AgentParts, MemberParts, has_class, IsSoundMember}
 use Rattle.in_compile.specs.Placing.{content}
 use Rattle.in_compile.specs.PlacingSteps.{IsBeingWritten}
-use Rattle.in_compile.specs.Putting.{AreBegunBelow, ArePutBelow, Begins, IsPut}
+use Rattle.in_compile.specs.Putting.{AreBegunBelow, ArePutBelow, BeginsAgent, IsPut}
 use Rattle.in_compile.proofs.Placements.Stocked.{of_itself, same_or_other}
 
 -- ---- one cell
@@ -48,7 +47,7 @@ module _ (old : ArenaView) (all : HasAllCells old) (a : AgentParts) (d : CellCla
         subst (λ (z : CellClass). free_of new z + of_class d 1 z ≡ free_of old z) (sym same) (omega (arith, first, was, none, as_counted d, of_itself d 1))
     left_by c (inr o) = let rest = counts_are.1 c o.0 in let none = o.1 1 in omega (arith, none, rest, as_counted c)
 
-    pub begins : Begins a old n new
+    pub begins : BeginsAgent a old n new
     begins = record {
       at = subst (λ (c : CellClass). IsNumberOf old.cells c n) (sym is) (subst (IsNumberOf old.cells d) (sym number_is) made.1);
       was = ap (state_at old) number_is ∙ made.2;
@@ -94,7 +93,7 @@ module _ (m : MemberParts) (old : ArenaView) (x : ℕ) (now : ArenaView) (ns : L
       let itself : cond (has_class a.class a) 1 0 ≡ 1 = of_itself a.class 1 in
       omega (arith, within, one, so_far, need, has, itself)
 
-  module _ (n : CellNo) (now' : ArenaView) (b : Begins a now n.0 now') (ns' : List CellNo) (more : ns' ≡ ns ++ n ∷ []) where
+  module _ (n : CellNo) (now' : ArenaView) (b : BeginsAgent a now n.0 now') (ns' : List CellNo) (more : ns' ≡ ns ++ n ∷ []) where
     here : state_at now' n.0 ≡ b.state
     here = ap (λ (v : ArenaView). state_at v n.0) b.arena ∙ get_or-set_same now.states n.0 b.state Leased (vacant_inside now n.0 b.was)
 

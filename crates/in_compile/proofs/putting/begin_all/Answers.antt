@@ -1,4 +1,4 @@
-use Rattle.std.proofs.Common.{◌≡◌, ◌<◌, ap, length, arith, ◌∙◌}
+use Rattle.std.proofs.Common.{◌<◌, length, arith, ◌∙◌}
 use Rattle.in_base.proofs.Each.{at_index}
 use Rattle.in_compile.proofs.Placements.Put.{one_more_begun, some_free}
 use Rattle.in_compile.proofs.putting.begin_all.Goals as goal
