@@ -14,8 +14,6 @@ import libraries
 FOR_EVERYBODY = {"in_base"}
 CITED = re.compile(r"^\s*(?:unfoldable )?(?:pub )?use (?:package\.)?Rattle\.(in\w+)\.proofs\.(\w+)", re.MULTILINE)
 TYPE = re.compile(r"^\s*(?:pattern |unfoldable |abbrev )*pub (?:data |record )?([A-Z]\w*)", re.MULTILINE)
-# A name that still has two homes, and the one that has to go: no public clause cites it.
-TWO_HOMES = {"Begins": "in_compile/specs/Putting.antt"}
 # What a crate gives out of its own modules, and what its first file declares.
 EXPORT = re.compile(r"^pub use (?!in_)([\w:]+?)(?:::\{([^}]*)\})?;", re.MULTILINE)
 DECLARED = re.compile(r"^pub (?:fn|struct|enum|trait|const) (\w+)", re.MULTILINE)
@@ -55,8 +53,7 @@ def wrong_homes():
     homes = defaultdict(set)
     for crate, name, text in texts_of("specs"):
         for declared in TYPE.findall(text):
-            if TWO_HOMES.get(declared) != f"{crate}/{name}":
-                homes[declared].add(f"{crate}/{name}")
+            homes[declared].add(f"{crate}/{name}")
     return "; ".join(f"{name} in {' and '.join(sorted(files))}" for name, files in sorted(homes.items()) if len(files) > 1)
 
 
