@@ -9,7 +9,7 @@ import sys
 from functools import partial
 
 from harness.export import TOOLS, by_tool
-from harness.programs import ACCEPTED, EXAMPLES, LIMIT, REFUSED, differing, shortened
+from harness.programs import ACCEPTED, EXAMPLES, HERE, LIMIT, REFUSED, differing, shortened
 
 sys.path.insert(0, TOOLS)
 import compile as compiler  # noqa: E402  (the tools stand beside the tests)
@@ -216,6 +216,8 @@ FAULTY = {
     "(" * 501: "1:501: error: more than 500 brackets stand within each other: make a function of a part",
     "(" * 100_000: "1:501: error: more than 500 brackets stand within each other: make a function of a part",
 }
+# Of the functions that bench/run measures.
+MEASURED = ("(queens 4 4 Nil)", "(descents (merge_sort (some 5 1)))", "(rounds 9 (Queue (up_to 4) Nil))", "(digits (factorial 4 (Digit One End) (Digit One End)))")
 # One that never comes to its value.
 ENDLESS = NAT + "(fun f ((x nat)) nat (f (S x))) (main nat (f 1))"
 
@@ -241,6 +243,11 @@ def compiled(program):
         for words in ([], ["--value"]) if "takes at most" not in told else ([],):
             yield f"{shortened(text.encode(), 60)} {' '.join(words)}", partial(wrong_fault, words, text, told)
     yield "a value without end", lambda: differing(by_tool("compile.py", ["--value", "--limit", "1000"], ENDLESS.encode()), LIMIT, b"")
+    with open(os.path.join(HERE, "..", "..", "bench", "functions.fun"), encoding="utf-8") as file:
+        measured = file.read()
+    for what in MEASURED:
+        text = f"{measured}(main nat {what})"
+        yield f"bench/functions.fun: {what}", partial(wrong_run, program, text, value_in(text))
     for seed in range(PROGRAMS):
         text = Generator(seed).program()
         line = value_in(text)
