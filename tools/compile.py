@@ -18,8 +18,8 @@ import functions
 import streams
 from functions import Build, Call, Fault, Kept, Let, Match, Number, Use
 
-# Of `inet` (docs/use/LANGUAGE.md): the agents of a right member and of the net, auxiliary ports, symbols, types, bytes of the text.
-MOST_OF_A_RULE, MOST_OF_THE_NET, MOST_PORTS, MOST_SYMBOLS, MOST_TYPES, MOST_BYTES = 64, 4_000, 16, 512, 256, 1_048_576
+# Of `inet` (docs/use/COMPILING.md): the agents of a right member and of the net, auxiliary ports, types, symbols, rules, bytes of the text.
+MOST_OF_A_RULE, MOST_OF_THE_NET, MOST_PORTS, MOST_TYPES, MOST_SYMBOLS, MOST_RULES, MOST_BYTES = 64, 4_000, 16, 256, 512, 4_096, 1_048_576
 # A part of a right member that is too large becomes one of its own where it has more agents.
 PART = 24
 # The largest number that is written as it is; and how deep a term becomes before it is cut by an equation.
@@ -336,18 +336,19 @@ class Compiler:
         body.join(Term(answer), body.value(fitting(main.body, MOST_OF_THE_NET)))
         self.own.append("")
         self.finish()
-        for name, constructor in self.program.constructors.items():
-            if len(constructor.fields) > MOST_PORTS:
-                raise Fault(main.place, f"`{name}` has {len(constructor.fields)} fields, and at most {MOST_PORTS} can be had")
-        for count, most, what in (
-            (body.agents, MOST_OF_THE_NET, "agents of the net"), (len(self.types), MOST_TYPES, "types"), (len(self.symbols), MOST_SYMBOLS, "symbols"),
-        ):
-            if count > most:
-                raise Fault(main.place, f"the program needs {count} {what}, and `inet` takes {most}")
         lines = [f"# Compiled by tools/compile.py from {source}: changes belong there.", f"type {', '.join(self.types)};", ""]
         for name, constructor in self.program.constructors.items():
             self.declare(lines, name, f"{constructor.type}+", [f"{field}-" for field in constructor.fields])
-        return "\n".join([*lines, *self.own, *self.common, "", f"net ({answer} : {main.result}+) {{\n{body.lines()}}}\n"])
+        lines += [*self.own, *self.common]
+        text = "\n".join([*lines, "", f"net ({answer} : {main.result}+) {{\n{body.lines()}}}\n"])
+        begun = Counter(line.split(" ", 1)[0] for line in lines)
+        for count, most, what in (
+            (body.agents, MOST_OF_THE_NET, "agents of the net"), (len(self.types), MOST_TYPES, "types"), (begun["symbol"], MOST_SYMBOLS, "symbols"),
+            (begun["rule"], MOST_RULES, "rules"), (len(text.encode()), MOST_BYTES, "bytes"),
+        ):
+            if count > most:
+                raise Fault(main.place, f"the program needs {count} {what}, and `inet` takes {most}")
+        return text
 
 
 def explained(fault, source, text):

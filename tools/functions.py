@@ -25,6 +25,8 @@ from streams import Refused
 MOST_DEPTH = 500
 MOST_NUMBER = 1_000_000
 MOST_CHARACTERS = 64
+# The most fields of a constructor.
+MOST_FIELDS = 16
 # The most constructors of a value that is written.
 MOST_WRITTEN = 10_000_000
 # Words of `inet`, which no name may be, and those of this language.
@@ -300,6 +302,8 @@ class Checker:
                 if isinstance(form, Group):
                     head, *fields = form.parts
                     self.program.constructors[head.text].fields += [self.type_name(field) for field in fields]
+                    if len(fields) > MOST_FIELDS:
+                        raise Fault(form.place, f"`{head.text}` has {len(fields)} fields, and a constructor has at most {MOST_FIELDS}")
 
     def new(self, part, what):
         """A name of a constructor or a function, which no other one has."""

@@ -181,6 +181,7 @@ HARD = {
     "a right member of many agents": (
         PLUS + f"(fun f ((x nat)) nat (match x (Z {'(add 3 ' * 40}1{')' * 40}) ((S n) {'(add n ' * 30}x{')' * 30}))) (main nat (f 0))", "answer = " + "S(" * 121 + "Z" + ")" * 121),
     "brackets as deep as may be": (NAT + f"(main nat {'(S ' * 499}Z{')' * 499})", "answer = " + "S(" * 499 + "Z" + ")" * 499),
+    "many constructors": (f"(data t {' '.join(f'C{number}' for number in range(300))}) (main t (let x C7 C0))", "answer = C0"),
     "a chain of calls that double": (chain(8), "answer = Z"),
 }
 # Programs with a fault, and the place and the words that are told.
@@ -213,6 +214,8 @@ FAULTY = {
     NAT + "(data two (Two nat nat)) (main nat (match (Two 1 2) ((Two a a) a)))": "1:75: error: two fields have the name `a`",
     NAT + "(fun f (" + "".join(f"(x{number} nat)" for number in range(17)) + ") nat x0) (main nat 1)":
         "1:179: error: this takes 17 values beside the one that it waits for, and a symbol takes at most 15",
+    NAT + f"(data big (Big{' nat' * 17})) (main nat 1)": "1:32: error: `Big` has 17 fields, and a constructor has at most 16",
+    NAT + "".join(f"(fun f{number} () nat 1)" for number in range(511)) + " (main nat 1)": "1:9623: error: the program needs 514 symbols, and `inet` takes 512",
     "(" * 501: "1:501: error: more than 500 brackets stand within each other: make a function of a part",
     "(" * 100_000: "1:501: error: more than 500 brackets stand within each other: make a function of a part",
 }
@@ -240,7 +243,7 @@ def compiled(program):
         yield f"{name}: value", lambda text=text, line=line: None if value_in(text) == f"{line}\n".encode() else str(value_in(text))
         yield name, partial(wrong_run, program, text, f"{line}\n".encode())
     for text, told in FAULTY.items():
-        for words in ([], ["--value"]) if "takes at most" not in told else ([],):
+        for words in ([],) if "takes at most" in told or "the program needs" in told else ([], ["--value"]):
             yield f"{shortened(text.encode(), 60)} {' '.join(words)}", partial(wrong_fault, words, text, told)
     yield "a value without end", lambda: differing(by_tool("compile.py", ["--value", "--limit", "1000"], ENDLESS.encode()), LIMIT, b"")
     with open(os.path.join(HERE, "..", "..", "bench", "functions.fun"), encoding="utf-8") as file:
