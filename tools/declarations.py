@@ -9,7 +9,7 @@ COMMENT = re.compile(r"#[^\n]*")
 PORT = re.compile(r"(\w+)\s*([+-])")
 CLASS = re.compile(r"\{([^{}]*)\}")
 DECLARATION = re.compile(r"\bsymbol\s+(\w+)\s*:\s*(\w+)\s*([+-])((?:\s*\{[^{};]*\})*)\s*;")
-TYPES = re.compile(r"\btype\s+([^;:{}()~]*);")
+TYPES = re.compile(r"\btype\s+((?:\w+\s*,\s*)*\w+)\s*;")
 
 
 @dataclass(frozen=True)

@@ -17,8 +17,8 @@ from declarations import without_comments
 from nets import Net, Program, chooser, dot, rule_text, svg
 
 USUAL_STEPS = 60
-# The heads of a rule as it is written, up to its end or the equations of its right member.
-RULE = re.compile(r"\brule\s+(\w+)\s*\[[^\]]*\]\s*><\s*(\w+)\s*\[[^\]]*\]\s*(?:\bwith\s*\{[^}]*\}\s*)?;")
+# A rule as it is written, with the names of its heads. No right member, of 64 agents at most, is longer.
+RULE = re.compile(r"\brule\s+(\w+)\s*\[[^\]]{0,9999}\]\s*><\s*(\w+)\s*\[[^\]]{0,9999}\]\s*(?:\bwith\s*\{[^}]{0,19999}\}\s*)?;")
 
 PAGE = """<!DOCTYPE html>
 <html lang="en">

@@ -26,7 +26,7 @@ ALL = {**OF_LINES, **OF_PROGRAMS, **OF_FUNCTIONS}
 STATUSES = (ACCEPTED, REFUSED, LIMIT)
 HOSTILE = [b"", b"\n", b"\0", b"\xff\xfe", b"\xef\xbb\xbf{}", b"{", b"{}", b"[]", b"(", b"refused", b'{"types":[]}', b'{"format":1}', b'{"format":"1"}',
            b'{"format":1,"types":{}}', b'{"format":1,"types":["\\ud800"],"symbols":[],"rules":[],"net":{}}', b"{" * 100_000, b'{"a":' * 100_000, b"[" * 100_000,
-           b'{"format":' + b"9" * 10_000 + b"}", b"symbol " * 1_000, b"symbol A : t+ " + b"{t- " * 10_000, b"#" * 100_000, "\u2118 \u00b2 \U0001d4b3".encode()]
+           b'{"format":' + b"9" * 10_000 + b"}", b"symbol " * 1_000, b"symbol A : t+ " + b"{t- " * 10_000, b"#" * 100_000, b"type " * 100_000, b"type a, " * 50_000, b"symbol A : t+ {t-} " * 20_000, "\u2118 \u00b2 \U0001d4b3".encode()]
 CHANGES = 40
 # Programs of which the braces are put at random, and how often.
 SCRAMBLED = ("insertion_sort", "sum", "list", "quicksort", "fold_of_a_tree", "queue_of_two_lists", "binary_numbers")
@@ -188,6 +188,10 @@ def tools(program):
         for number, text in enumerate([*HOSTILE, source, functional, line, *changed]):
             yield f"{name}: odd text {number}, {shortened(text, 40)}", lambda name=name, words=words, text=text: without_traceback(by_tool(name, words, text))
     yield "trace.py: page", partial(wrong_page, exporter)
+    for what in (b"rule A[" * 50_000, b"rule A[] >< B[] with {" * 20_000, b"\xff"):
+        words = ["--program", program.file_of(what)]
+        yield f"trace.py: {shortened(what, 40)} as the program", lambda words=words: without_traceback(by_tool("trace.py", words, line))
+    yield "corpus.py: no programs", lambda: without_traceback(by_tool("corpus.py", ["check", "/no/inet", "/no/inet_export"], b""), [REFUSED])
     yield "braces.py: accepted as it is", lambda: differing(by_tool("braces.py", ["--inet", program.path, "--fix"], text_of("sum")), ACCEPTED, text_of("sum"))
     yield "braces.py: no such program", lambda: without_traceback(by_tool("braces.py", ["--inet", "/no/program"], text_of("sum")), [REFUSED])
     for name in MENDED:
