@@ -16,6 +16,7 @@ declared as above. Arguments are computed first; of a match the branch of the va
 import re
 from collections import Counter
 from dataclasses import dataclass, field
+from difflib import get_close_matches
 from functools import lru_cache
 from typing import NamedTuple
 
@@ -375,11 +376,16 @@ class Checker:
             of, form, what = self.program.functions[head.text], Call, "parameter"
             kinds, kind = [variable.type for variable in of.parameters], of.result
         else:
-            raise Fault(head.place, f"`{head.text}` is not known here")
+            raise Fault(head.place, f"`{head.text}` is not known here{self.nearest(head.text, scope)}")
         if len(kinds) != len(rest):
             raise Fault(place, f"`{head.text}` has {several(len(kinds), what)}, and {len(rest) or 'none'} {'is' if len(rest) < 2 else 'are'} given")
         parts = [self.typed(part, scope, kind, f"this {what} of `{head.text}`") for part, kind in zip(rest, kinds)]
         return form(place, kind, head.text, tuple(parts))
+
+    def nearest(self, name, scope):
+        """A question for the name that may be meant."""
+        found = get_close_matches(name, [*scope, *self.program.functions, *self.program.constructors], 1)
+        return f": `{found[0]}`?" if found else ""
 
     def let(self, part, rest, scope, wanted):
         if len(rest) != 3:

@@ -1,19 +1,24 @@
 """`tools/compile.py`: its examples, random programs, whose value `inet run` must come to, deep and faulty ones, and what is said of these.
 
+Of the net of a random program the steps are checked too, as `inet_export` writes them, and it is reduced in a random order by `tools/nets.py`.
+
 A random program has functions of several types that call themselves, each other and those before, and begin by a match or don't; each call
 within a group of functions has a part of what was matched, so that all come to an end.
 """
+import json
 import os
 import random
 import sys
 from functools import partial
 
-from harness.export import TOOLS, by_tool
-from harness.programs import ACCEPTED, EXAMPLES, HERE, LIMIT, REFUSED, differing, shortened
+from harness.export import BUILT, TOOLS, by_tool
+from harness.programs import ACCEPTED, EXAMPLES, HERE, LIMIT, REFUSED, Program, differing, shortened
 
 sys.path.insert(0, TOOLS)
 import compile as compiler  # noqa: E402  (the tools stand beside the tests)
 import functions  # noqa: E402
+import nets  # noqa: E402
+import steps  # noqa: E402
 
 sys.setrecursionlimit(compiler.streams.MOST_CALLS)
 ENDING = ".fun"
@@ -21,6 +26,9 @@ ENDING = ".fun"
 PROGRAMS = 150
 MOST_CALLS, MOST_SIZE = 2_000, 5_000
 RUN = ["run", "--limit", "2000000", "--cells", "200000"]
+WORKERS = (1, 2, 64)
+# A run of more interactions isn't done by tools/nets.py, which is slow.
+FEW_INTERACTIONS = 2_000
 DATA = {
     "nat": [("Z", ()), ("S", ("nat",))],
     "bool": [("F", ()), ("T", ())],
@@ -129,12 +137,26 @@ def value_in(text):
     return f"{program.answer} = {functions.written(value)}\n".encode() if value.size <= MOST_SIZE else None
 
 
-def wrong_run(program, text, line):
+def wrong_run(program, text, line, workers=1):
     """What is wrong with a compiled program: it must be accepted, and come to the value."""
     net = compiler.compiled(text, "a test").encode()
-    answer = program.run(RUN, net)
+    answer = program.run([*RUN, "--workers", str(workers)], net)
     begins = answer.output.startswith(line + b"interactions: ")
     return None if answer.status == ACCEPTED and begins else f"{answer}; wanted: {shortened(line)}; program:\n{text}"
+
+
+def wrong_export(exporter, text, line, seed):
+    """What is wrong with the exported line of a compiled program: its steps build it, and in a random order it comes to the value."""
+    answer = exporter.run([], compiler.compiled(text, "a test").encode())
+    if answer.status != ACCEPTED:
+        return str(answer)
+    program = nets.Program(json.loads(answer.output))
+    for item in [*program.data["rules"], program.data["net"]]:
+        steps.check_steps(program, item)
+    net = nets.Net.initial(program)
+    net.run(nets.chooser("random", seed), FEW_INTERACTIONS)
+    found = "\n".join([*net.lines(), ""]).encode()
+    return None if net.queue or found == line else f"in a random order {shortened(found)}; wanted: {shortened(line)}"
 
 
 def wrong_compiled(name):
@@ -192,6 +214,7 @@ FAULTY = {
     "main": "1:1: error: here an item begins: (data ..), (fun ..) or (main ..)",
     "()": "1:1: error: here an item begins: (data ..), (fun ..) or (main ..)",
     NAT + "(main nat (add 1 2))": "1:33: error: `add` is not known here",
+    PLUS + "(main nat (ad 1 2))": "1:103: error: `ad` is not known here: `add`?",
     NAT + "(main nat 1) (main nat 2)": "1:36: error: a program has one `main`, and this is a second one",
     "(main nat 1)": "1:7: error: there is no type `nat`: declare it with (data nat ..)",
     "(data bool F T) (main bool 1)": "1:28: error: numbers are of the type `nat`: declare it with (data nat Z (S nat))",
@@ -251,8 +274,12 @@ def compiled(program):
     for what in MEASURED:
         text = f"{measured}(main nat {what})"
         yield f"bench/functions.fun: {what}", partial(wrong_run, program, text, value_in(text))
+    room = os.path.join(program.room, "compiled_export")
+    os.mkdir(room)
+    exporter = Program(BUILT, room)
     for seed in range(PROGRAMS):
         text = Generator(seed).program()
         line = value_in(text)
         if line:
-            yield f"random program {seed}", partial(wrong_run, program, text, line)
+            yield f"random program {seed}", partial(wrong_run, program, text, line, WORKERS[seed % len(WORKERS)])
+            yield f"random program {seed}: steps and a random order", partial(wrong_export, exporter, text, line, seed)
