@@ -13,6 +13,8 @@ import re
 import subprocess
 import sys
 
+import streams
+
 TOP = os.path.dirname(os.path.dirname(os.path.abspath(__file__)))
 EXAMPLES = os.path.join(TOP, "examples")
 BUILT = [os.path.join(TOP, "crates", name, "out", name) for name in ("inet", "inet_export")]
@@ -36,9 +38,12 @@ def read(file):
 
 def answer(words, name):
     """What a program prints on an example, with its status."""
-    ran = subprocess.run(words, input=read(name + ".inet"), stdout=subprocess.PIPE, check=False)
+    try:
+        ran = subprocess.run(words, input=read(name + ".inet"), stdout=subprocess.PIPE, check=False)
+    except OSError as error:
+        raise streams.Refused(f"{words[0]} can't be run: {error.strerror}") from None
     if ran.returncode not in (TO_ITS_END, STOPPED):
-        raise RuntimeError(f"{' '.join(words)}: status {ran.returncode} on {name}")
+        raise streams.Refused(f"{' '.join(words)}: status {ran.returncode} on {name}")
     return ran.stdout, ran.returncode
 
 
@@ -84,17 +89,17 @@ def make(programs):
 
 def check(programs):
     found = [what for name in names() if (what := wrong(name, *programs))] + [f"examples/{file} belongs to no program" for file in superfluous()]
-    print("\n".join(found) or f"the corpus of {len(names())} programs is as it should be")
+    streams.write("\n".join([*found] or [f"the corpus of {len(names())} programs is as it should be"]) + "\n")
     return 1 if found else 0
 
 
 def main():
     commands = {"make": make, "check": check}
     if len(sys.argv) not in (2, 4) or sys.argv[1] not in commands:
-        print(__doc__.strip())
-        return 0 if sys.argv[1:] == ["--help"] else 2
+        streams.write(f"{__doc__.strip()}\n")
+        return 0 if sys.argv[1:] == ["--help"] else streams.WRONG_WORDS
     return commands[sys.argv[1]](sys.argv[2:] or BUILT)
 
 
 if __name__ == "__main__":
-    sys.exit(main())
+    streams.run(main)

@@ -7,25 +7,25 @@ Agents are circles and free ends are names. Each principal port is an arrow out 
 place. Active pairs are red, and the next one in the order of `inet run` is filled.
 """
 import argparse
-import sys
 
+import streams
 from nets import Net, Program, chooser, dot, svg
 
 
 def main():
     words = argparse.ArgumentParser(description=__doc__, formatter_class=argparse.RawDescriptionHelpFormatter)
-    words.add_argument("--after", type=int, default=0, metavar="K", help="how many interactions, in the order of `inet run`")
+    words.add_argument("--after", type=streams.natural, default=0, metavar="K", help="how many interactions, in the order of `inet run`")
     words.add_argument("--svg", action="store_true", help="a picture in place of its text")
     asked = words.parse_args()
-    net = Net.initial(Program.read(sys.stdin))
+    net = Net.initial(Program.read())
     net.run(chooser("queue"), asked.after)
     text = dot(net, net.queue[0] if net.queue else None)
     drawn = svg(text) if asked.svg else text
     if drawn is None:
-        return "Graphviz isn't there: no program `dot`"
-    sys.stdout.write(drawn)
+        raise streams.Refused("no picture is drawn: `--svg` needs Graphviz, whose program is `dot`")
+    streams.write(drawn)
     return 0
 
 
 if __name__ == "__main__":
-    sys.exit(main())
+    streams.run(main)

@@ -7,7 +7,9 @@ import json
 import random
 import shutil
 import subprocess
-import sys
+from collections import Counter
+
+import streams
 
 # Limits of `inet run`: it stops at as many interactions where it isn't told otherwise.
 USUAL_LIMIT = 1_000_000
@@ -45,21 +47,87 @@ class Program:
         self.rule_numbers = {rule.heads: number for number, rule in enumerate(self.rules)}
 
     @staticmethod
-    def read(file):
-        """The program on this file. What is no line of this form ends the tool, with the reason: where the program was refused or memory ran out, its line."""
-        text = file.read()
+    def read():
+        """The program on standard input. What is no line of this form is refused, with the reason: where the program was refused or memory ran
+        out, with its line."""
+        text = streams.read_text()
         if text.startswith(("refused", "memory")):
-            sys.exit(text.strip())
+            raise streams.Refused(text.strip())
         if not text.startswith("{"):
-            sys.exit("no exported program on standard input: write inet_export < PROGRAM.inet | ..")
-        data = json.loads(text)
+            raise streams.Refused("no exported program on standard input: write ./inet_export < PROGRAM.inet | ..")
+        try:
+            data = json.loads(text)
+        except (ValueError, RecursionError):
+            raise streams.Refused("this begins as an exported program, and goes on as none: is it cut off?") from None
         if data.get("format") != FORMAT:
-            sys.exit(f"this line has format {data.get('format', 'none')}, and this tool reads format {FORMAT} alone (docs/use/EXPORT.md)")
+            raise streams.Refused(f"this line has format {data.get('format', 'none')}, and this tool reads format {FORMAT} alone (docs/use/EXPORT.md)")
+        check_form(data)
         return Program(data)
 
     def places(self, rule):
         """The auxiliary ports that a rule's boundary ends stand for: the number of a head (0: the constructor) and the place."""
         return [(head, place) for head in (0, 1) for place in range(1, self.symbols[rule.heads[head]].arity + 1)]
+
+
+def need(condition, what):
+    if not condition:
+        raise streams.Refused(f"this line isn't as docs/use/EXPORT.md says: {what}")
+
+
+def is_list_of(items, test):
+    return isinstance(items, list) and all(map(test, items))
+
+
+def numbers_below(most):
+    """Whether something is a number from 0 on that is below this one."""
+    return lambda number: type(number) is int and 0 <= number < most
+
+
+def is_port(types):
+    """Whether something is the type and the sign of a port or a free end."""
+    return lambda port: isinstance(port, dict) and numbers_below(types)(port.get("type")) and isinstance(port.get("output"), bool)
+
+
+def check_form(data):
+    """Needs of a line what a reduction relies on: numbers that name something, each point in one wire, wires that fit, one rule for each pair."""
+    types, symbols = data.get("types"), data.get("symbols")
+    need(is_list_of(types, lambda name: isinstance(name, str)), "`types`")
+    port, number = is_port(len(types)), numbers_below(1 << 32)
+    need(is_list_of(symbols, lambda symbol: isinstance(symbol, dict) and isinstance(symbol.get("name"), str)), "`symbols`")
+    for symbol in symbols:
+        ports = symbol.get("ports")
+        need(is_list_of(ports, lambda one: port(one) and number(one.get("class"))) and ports, f"the ports of `{symbol['name']}`")
+    is_symbol, rules, net = numbers_below(len(symbols)), data.get("rules"), data.get("net")
+    need(is_list_of(rules, lambda rule: isinstance(rule, dict)), "`rules`")
+    met = Counter()
+    for place, rule in enumerate(rules):
+        heads = rule.get("constructor"), rule.get("destructor")
+        need(all(map(is_symbol, heads)), f"the heads of rule {place}")
+        met[heads] += 1
+        check_part(symbols, rule, [end for head in heads for end in symbols[head]["ports"][1:]], f"rule {place}")
+    kinds = [(symbol["ports"][0]["type"], symbol["ports"][0]["output"]) for symbol in symbols]
+    pairs = {(one, other) for one, kind in enumerate(kinds) for other, taken in enumerate(kinds) if kind == (taken[0], True) and not taken[1]}
+    need(met == dict.fromkeys(pairs, 1), "not each pair of symbols that match has one rule")
+    need(isinstance(net, dict) and is_list_of(net.get("free"), lambda end: port(end) and isinstance(end.get("name"), str)), "`net`")
+    check_part(symbols, net, net["free"], "the net")
+
+
+def check_part(symbols, part, free, name):
+    """Needs the same of a right member or of the net, with these free ends."""
+    agents, wires, active = (part.get(word) for word in ("agents", "wires", "active"))
+    need(is_list_of(agents, numbers_below(len(symbols))), f"the agents of {name}")
+    need(all(isinstance(part.get(word), list) for word in ("nodes", "steps")), f"nodes or steps of {name}")
+    # What stands at each point, seen from inside: its type, and whether it gives; a free end has the opposite sign of its declaration.
+    signs = {(number, place): (port["type"], port["output"]) for number, agent in enumerate(agents) for place, port in enumerate(symbols[agent]["ports"])}
+    signs.update({(number,): (end["type"], not end["output"]) for number, end in enumerate(free)})
+    need(is_list_of(wires, lambda wire: is_list_of(wire, lambda point: is_list_of(point, lambda number: type(number) is int)) and len(wire) == 2), f"the wires of {name}")
+    points = Counter(tuple(point) for wire in wires for point in wire)
+    need(points == dict.fromkeys(signs, 1), f"not each point of {name} is in one wire")
+    ends = [[signs[tuple(point)] for point in wire] for wire in wires]
+    need(all(one[0] == other[0] and one[1] != other[1] for one, other in ends), f"a wire of {name} doesn't fit")
+    need(is_list_of(active, numbers_below(len(wires))), f"the active pairs of {name}")
+    pairs = [number for number, wire in enumerate(wires) if all(is_principal(point) for point in wire)]
+    need(sorted(active) == pairs, f"the active pairs of {name}")
 
 
 class Net:
@@ -206,7 +274,9 @@ def dot(net, next_pair=None):
         colour = f', color="{MARKED}", penwidth=2' if agent in active else ""
         filled = ', style=filled, fillcolor="#fadbd8"' if next_pair and agent in next_pair else ""
         lines.append(f"  agent{agent} [shape=circle, margin=0.04, label={quoted(net.symbol(agent).name)}{colour}{filled}];")
-    for one, other in net.partner.items():
+    there = [point for point in net.partner if len(point) == 1 or point[0] in net.agents]
+    for one in there:
+        other = net.partner[one]
         if one > other:
             continue
         # The two ends of a wire: an arrow out of the agent at a principal port, the number of the place at another port.
@@ -219,8 +289,8 @@ def dot(net, next_pair=None):
 
 
 def svg(text):
-    """A picture of this text of Graphviz as SVG, None where Graphviz isn't there."""
+    """A picture of this text of Graphviz as SVG, None where Graphviz isn't there or draws nothing."""
     if not shutil.which("dot"):
         return None
-    drawn = subprocess.run(["dot", "-Tsvg"], input=text.encode(), stdout=subprocess.PIPE, check=True).stdout.decode()
-    return drawn[drawn.index("<svg"):]
+    drawn = subprocess.run(["dot", "-Tsvg"], input=text.encode(errors="backslashreplace"), stdout=subprocess.PIPE, check=False).stdout.decode()
+    return drawn[drawn.index("<svg"):] if "<svg" in drawn else None

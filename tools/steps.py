@@ -6,9 +6,10 @@ Usage: inet_export < PROGRAM.inet | tools/steps.py
 Prints `yes` and how many steps there are, or for each rule or net that isn't built by its steps a line that says why, and ends with
 status 1. The steps are Lafont 1990's constructions; docs/use/EXPORT.md says what each one builds.
 """
-import sys
+import argparse
 from collections import Counter
 
+import streams
 from nets import Program
 
 
@@ -145,19 +146,18 @@ def check_steps(program, item):
 
 
 def main():
-    program = Program.read(sys.stdin)
+    argparse.ArgumentParser(description=__doc__, formatter_class=argparse.RawDescriptionHelpFormatter).parse_args()
+    program = Program.read()
     items = [(f"rule {number}", item) for number, item in enumerate(program.data["rules"])] + [("net", program.data["net"])]
-    wrong = 0
+    wrong = []
     for name, item in items:
         try:
             check_steps(program, item)
-        except (Wrong, LookupError, TypeError, ValueError) as why:
-            print(f"{name}: {why}")
-            wrong += 1
-    if not wrong:
-        print(f"yes: {sum(len(item['steps']) for _, item in items)} steps")
-    return 1 if wrong else 0
+        except (Wrong, LookupError, TypeError, ValueError, AttributeError) as why:
+            wrong.append(f"{name}: {why}\n")
+    streams.write("".join(wrong) or f"yes: {sum(len(item['steps']) for _, item in items)} steps\n")
+    return streams.REFUSED if wrong else 0
 
 
 if __name__ == "__main__":
-    sys.exit(main())
+    streams.run(main)

@@ -1,15 +1,17 @@
 """The documents: each link and path in README.md and docs/ leads to a file, each crate named there is one, and each command on an example
 prints what is shown.
 
-A command stands in a block as `$ ./inet WORDS < FILE` or `$ cat FILE`, and the lines up to the next command are what it prints, those on
-standard error last. Other commands aren't tried.
+A command stands in a block as `$ ./inet WORDS < FILE`, `$ cat FILE` or `$ tools/NAME.py WORDS < FILE`, and the lines up to the next command are
+what it prints, those on standard error last. Other commands, and those with pipes and files that are written, aren't tried.
 """
 import glob
 import os
 import re
+import subprocess
+import sys
 from functools import partial
 
-from harness.programs import HERE, shortened
+from harness.programs import HERE, LONGEST, shortened
 
 TOP = os.path.normpath(os.path.join(HERE, "..", ".."))
 FOLDERS = ("bench", "bindings", "crates", "docs", "examples", "include", "tests", "tools")
@@ -20,7 +22,7 @@ BLOCK = re.compile(r"^```[a-z]*\n(.*?)^```$", re.MULTILINE | re.DOTALL)
 LINK = re.compile(r"\]\(([^)\s]+)\)")
 WORD = re.compile(r"`([^`\n]+)`")
 CRATE = re.compile(r"`(in_\w+)(?:::[^`\n]*)?`")
-COMMAND = re.compile(r"\$ (?:\./)?(inet|cat)\b(?: (.*?))?(?: ?< (\S+))?$")
+COMMAND = re.compile(r"\$ (?:\./)?(inet|cat|tools/\w+\.py)\b(?: ([^>|]*?))?(?: ?< (\S+))?$")
 
 
 def pages():
@@ -89,6 +91,10 @@ def wrong_print(program, name, words, file, shown):
     """What is wrong with what a command prints, None where it is what is shown."""
     if name == "cat":
         printed = text_at(words).encode()
+    elif name.startswith("tools/"):
+        command = [sys.executable, "-B", name, *(words or "").split()]
+        ran = subprocess.run(command, input=text_at(file).encode() if file else b"", cwd=TOP, capture_output=True, timeout=LONGEST, check=False)
+        printed = ran.stdout + ran.stderr
     else:
         answer = program.run((words or "").split(), text_at(file).encode())
         printed = answer.output + answer.errors
@@ -107,5 +113,5 @@ def documents(program):
         for name in sorted(set(CRATE.findall(outside))):
             yield f"{page}: {name}", partial(wrong_crate, name)
         for line, name, words, file, shown in commands(text):
-            if file or name == "cat":
+            if file or name != "inet":
                 yield f"{page}: {line}", partial(wrong_print, program, name, words, file, shown)
