@@ -64,7 +64,7 @@ IsSideOfFirst t x wires k u = (j : ℕ) × (p : Point ℕ) × (q : Point ℕ) ×
 
 -- the cells hold the net's agents and the new ones. Of the first k of these wires both sides lead to each other; each other point of the net
 -- before leads where it led, those of the pair too
-pub record IsWired (t : Tables) (x : Interaction) (own : ℕ) (wires : List (Point ℕ × Point ℕ)) (k : ℕ) (a : ArenaView) (ends : List End) : Type 0 where
+pub record AreFirstWired (t : Tables) (x : Interaction) (own : ℕ) (wires : List (Point ℕ × Point ℕ)) (k : ℕ) (a : ArenaView) (ends : List End) : Type 0 where
   pub can : CanOverwriteAt t x.net x.rule x.one x.two x.name
   pub all : AreAllWiresOf (redex_of x).member wires
   pub own_ends : own ≡ length (before x).free
@@ -123,11 +123,11 @@ pub record IsWiring (t : Tables) (s : PairSetting) (p : TemplateParts) (own : �
   pub template : IsTemplateOf t s.rule p
   pub many : length ns ≡ length p.member.agents
   pub sides : AreSidesIn t (interaction_of s ns) ns points
-  pub from : IsWired t (interaction_of s ns) own (wires_of p.member) k a ends
+  pub from : AreFirstWired t (interaction_of s ns) own (wires_of p.member) k a ends
 
 -- the member's own pairs are of agents that have these cells
-abbrev pub ArePairsOf : List CellNo → MemberParts → Type 0
-ArePairsOf ns m = (k : ℕ) (q : ℕ × ℕ) → slice_get m.pairs k ≡ Some q → (q.0 < length ns) × (q.1 < length ns)
+abbrev pub AreOwnPairs : List CellNo → MemberParts → Type 0
+AreOwnPairs ns m = (k : ℕ) (q : ℕ × ℕ) → slice_get m.pairs k ≡ Some q → (q.0 < length ns) × (q.1 < length ns)
 
 -- the cells show a net of which this is a pair, of this template, and neither of its symbols is marked; and the agents can be begun
 pub record CanWireUp (t : Tables) (p : TemplateParts) (pair : Pair) (a : ArenaView) (ends points : List End) : Type 0 where

@@ -12,7 +12,7 @@ ghost use Rattle.in_compile.specs.Wires.{over_of, over_point};
 ghost use Rattle.in_reducer.specs.Inside.{most_ends};
 ghost use Rattle.in_reducer.specs.Interacting.{PairSetting, interaction_of, named};
 ghost use Rattle.in_reducer.specs.Sides.{end_there, port_at};
-ghost use Rattle.in_reducer.specs.Wiring.{AreAtAgents, ArePairsOf, CanBegin, CanPair, CanRead, CanWireUp, HasBegun, HasQueued, IsAtPlace, IsWiredUp, IsWiring, wires_of};
+ghost use Rattle.in_reducer.specs.Wiring.{AreAtAgents, AreOwnPairs, CanBegin, CanPair, CanRead, CanWireUp, HasBegun, HasQueued, IsAtPlace, IsWiredUp, IsWiring, wires_of};
 
 use crate::limits::MOST_ENDS;
 use crate::sides::Pair;
@@ -168,9 +168,9 @@ fn agent_at(points: &[EndWord], agent: u32) -> CellNo
 /// Queues the active pairs that a member's agents are, whose principal ports are at their points.
 #[inline(always)]
 pub(crate) fn queue_begun(member: &Member, points: &[EndWord], queue: &mut VecDeque<(u32, u32)>)
-    requires there { (ns : List Number) × AreAtAgents ns points.now × ArePairsOf ns member.now }
+    requires there { (ns : List Number) × AreAtAgents ns points.now × AreOwnPairs ns member.now }
     requires room { deque_len queue.old + length member.now.pairs ≤ deque_capacity queue.old }
-    ensures items { (ns : List Number) → AreAtAgents ns points.now → ArePairsOf ns member.now → queue.new.items ≡ queue.old.items ++ map (both (named ns)) member.now.pairs }
+    ensures items { (ns : List Number) → AreAtAgents ns points.now → AreOwnPairs ns member.now → queue.new.items ≡ queue.old.items ++ map (both (named ns)) member.now.pairs }
     ensures room { deque_capacity queue.new ≡ deque_capacity queue.old }
 {
     for number in 0..member.pairs() {

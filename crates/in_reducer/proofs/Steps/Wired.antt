@@ -31,7 +31,7 @@ use Rattle.in_overwriting.specs.MadeByWires.{AreItsSides, CanOverwriteAt, IsMade
 use Rattle.in_overwriting.specs.InTurn.{AreAllWiresOf}
 use Rattle.in_overwriting.specs.Overwriting.{AreSides, IsOverwritten, IsSide}
 use Rattle.in_overwriting.proofs.Public.{side_once, sides_are_apart, steps_are_overwritten}
-use Rattle.in_reducer.specs.Wiring.{HasQueued, IsSideOf, IsSideOfFirst, IsWired}
+use Rattle.in_reducer.specs.Wiring.{AreFirstWired, HasQueued, IsSideOf, IsSideOfFirst}
 
 -- ---- lists
 
@@ -83,7 +83,7 @@ module _ (t : Tables) (x : Interaction) (wires : List (Point ℕ × Point ℕ)) 
 
   -- ---- one wire more
 
-  module _ (own k : ℕ) (a : ArenaView) (es : List End) (h : IsWired t x own wires k a es) where
+  module _ (own k : ℕ) (a : ArenaView) (es : List End) (h : AreFirstWired t x own wires k a es) where
     -- a point of the net can be written
     net_place : (u v : Point ℕ) → (before x).partner u ≡ Some v → IsPlaceAt a es (end_of u)
     net_place (Port y i) v w =
@@ -135,7 +135,7 @@ module _ (t : Tables) (x : Interaction) (wires : List (Point ℕ × Point ℕ)) 
         others_stand w one two =
             stands_still (end_of u) (end_of v) a es b fs place_u place_v exchanged w (λ same. one (same ∙ end_point u)) (λ same. two (same ∙ end_point v))
 
-        pub one_more : IsWired t x own wires (k + 1) b fs
+        pub one_more : AreFirstWired t x own wires (k + 1) b fs
         one_more = record {
           can = h.can;
           all = h.all;
@@ -284,7 +284,7 @@ module _ (t : Tables) (x : Interaction) (wires : List (Point ℕ × Point ℕ)) 
   -- ---- all
 
   -- the pair is gone, and all other cells are as they were
-  module _ (own : ℕ) (a : ArenaView) (es : List End) (h : IsWired t x own wires (length wires) a es) (b : ArenaView) (one : state_at b x.one.0 ≡ Vacant) (two : state_at b x.two.0 ≡ Vacant)
+  module _ (own : ℕ) (a : ArenaView) (es : List End) (h : AreFirstWired t x own wires (length wires) a es) (b : ArenaView) (one : state_at b x.one.0 ≡ Vacant) (two : state_at b x.two.0 ≡ Vacant)
       (others : (y : ℕ) → y ≢ x.one.0 → y ≢ x.two.0 → state_at b y ≡ state_at a y) where
     -- the net that the cells show
     abbrev shown_net : Net ℕ
