@@ -21,7 +21,7 @@ from functions import Build, Call, Fault, Kept, Let, Match, Number, Use
 # Of `inet` (docs/use/COMPILING.md): the agents of a right member and of the net, auxiliary ports, types, symbols, rules, bytes of the text.
 MOST_OF_A_RULE, MOST_OF_THE_NET, MOST_PORTS, MOST_TYPES, MOST_SYMBOLS, MOST_RULES, MOST_BYTES = 64, 4_000, 16, 256, 512, 4_096, 1_048_576
 # A part of a right member that is too large becomes one of its own where it has more agents.
-PART = 24
+PART = 40
 # The largest number that is written as it is; and how deep a term becomes before it is cut by an equation.
 WRITTEN_NUMBER, MOST_DEPTH = 16, 100
 # A name with a number behind it has at most 64 characters.
@@ -201,10 +201,18 @@ class Compiler:
     def symbol(self, name):
         """A name for a symbol that nothing else has: this one, or it with a number."""
         name = name[:MOST_OF_A_NAME]
-        others = self.program.words | self.symbols | self.wires | functions.RESERVED | {self.program.answer}
-        found = next(made for made in itertools.chain([name], (f"{name}_{number}" for number in itertools.count(1))) if made not in others)
+        others = self.program.words, self.symbols, self.wires, functions.RESERVED, {self.program.answer}
+        numbered = (f"{name}_{number}" for number in itertools.count(1))
+        found = next(made for made in itertools.chain([name], numbered) if not any(made in names for names in others))
         self.symbols.add(found)
+        # One of these names may be that of the type of what starts.
+        self.limit(len(self.symbols) - 1, MOST_SYMBOLS, "symbols at least")
         return found
+
+    def limit(self, count, most, what):
+        """Ends the compiler where the program needs more of something than `inet` takes."""
+        if count > most:
+            raise Fault(self.program.main.place, f"the program needs {count} {what}, and `inet` takes {most}")
 
     def inner(self):
         """A symbol for a part of the function in hand."""
@@ -327,6 +335,7 @@ class Compiler:
 
     def text(self, source):
         """The program as a text of `inet`."""
+        self.limit(len(self.symbols), MOST_SYMBOLS, "symbols at least")
         for name, function in self.program.functions.items():
             self.function = name
             self.compile_function(function)
@@ -346,8 +355,7 @@ class Compiler:
             (body.agents, MOST_OF_THE_NET, "agents of the net"), (len(self.types), MOST_TYPES, "types"), (begun["symbol"], MOST_SYMBOLS, "symbols"),
             (begun["rule"], MOST_RULES, "rules"), (len(text.encode()), MOST_BYTES, "bytes"),
         ):
-            if count > most:
-                raise Fault(main.place, f"the program needs {count} {what}, and `inet` takes {most}")
+            self.limit(count, most, what)
         return text
 
 

@@ -238,7 +238,7 @@ FAULTY = {
     NAT + "(fun f (" + "".join(f"(x{number} nat)" for number in range(17)) + ") nat x0) (main nat 1)":
         "1:179: error: this takes 17 values beside the one that it waits for, and a symbol takes at most 15",
     NAT + f"(data big (Big{' nat' * 17})) (main nat 1)": "1:32: error: `Big` has 17 fields, and a constructor has at most 16",
-    NAT + "".join(f"(fun f{number} () nat 1)" for number in range(511)) + " (main nat 1)": "1:9623: error: the program needs 514 symbols, and `inet` takes 512",
+    NAT + "".join(f"(fun f{number} () nat 1)" for number in range(511)) + " (main nat 1)": "1:9623: error: the program needs 513 symbols at least, and `inet` takes 512",
     "(" * 501: "1:501: error: more than 500 brackets stand within each other: make a function of a part",
     "(" * 100_000: "1:501: error: more than 500 brackets stand within each other: make a function of a part",
 }

@@ -24,9 +24,12 @@ OF_FUNCTIONS = {"compile.py": []}
 ALL = {**OF_LINES, **OF_PROGRAMS, **OF_FUNCTIONS}
 # Statuses with which a tool may end on a text that may be anything.
 STATUSES = (ACCEPTED, REFUSED, LIMIT)
-HOSTILE = [b"", b"\n", b"\0", b"\xff\xfe", b"\xef\xbb\xbf{}", b"{", b"{}", b"[]", b"(", b"refused", b'{"types":[]}', b'{"format":1}', b'{"format":"1"}',
-           b'{"format":1,"types":{}}', b'{"format":1,"types":["\\ud800"],"symbols":[],"rules":[],"net":{}}', b"{" * 100_000, b'{"a":' * 100_000, b"[" * 100_000,
-           b'{"format":' + b"9" * 10_000 + b"}", b"symbol " * 1_000, b"symbol A : t+ " + b"{t- " * 10_000, b"#" * 100_000, b"type " * 100_000, b"type a, " * 50_000, b"symbol A : t+ {t-} " * 20_000, "\u2118 \u00b2 \U0001d4b3".encode()]
+HOSTILE = [
+    b"", b"\n", b"\0", b"\xff\xfe", b"\xef\xbb\xbf{}", b"{", b"{}", b"[]", b"(", b"refused", "\u2118 \u00b2 \U0001d4b3".encode(),
+    b'{"types":[]}', b'{"format":1}', b'{"format":"1"}', b'{"format":1,"types":{}}', b'{"format":' + b"9" * 10_000 + b"}",
+    b'{"format":1,"types":["\\ud800"],"symbols":[],"rules":[],"net":{}}', b"{" * 100_000, b'{"a":' * 100_000, b"[" * 100_000,
+    b"#" * 100_000, b"type " * 100_000, b"type a, " * 50_000, b"symbol " * 1_000, b"symbol A : t+ " + b"{t- " * 10_000, b"symbol A : t+ {t-} " * 20_000,
+]
 CHANGES = 40
 # Programs of which the braces are put at random, and how often.
 SCRAMBLED = ("insertion_sort", "sum", "list", "quicksort", "fold_of_a_tree", "queue_of_two_lists", "binary_numbers")
