@@ -1,5 +1,5 @@
 //! Rules: of heads that can't meet, a second one for two symbols, and one that is missing.
-use crate::declarations::{arity, symbol_named};
+use crate::declarations::{arity, port, symbol_named};
 use crate::occurrences::rule_around;
 use crate::reports::Report;
 use crate::sentences;
@@ -147,6 +147,23 @@ fn help_rule<'s>(report: &mut Report, constructor: &'s SourceSymbol, destructor:
     report.help_with(sentences::ADD_RULE, &slots);
 }
 
+/// Whether the auxiliary port of a symbol at a place is an output of the type of its principal port.
+fn gives_back(symbol: &SourceSymbol, place: usize) -> bool {
+    match port(symbol, place) {
+        Some((_, port)) => port.output && port.kind.text.as_str() == symbol.port.kind.text.as_str(),
+        None => false,
+    }
+}
+
+/// Whether a destructor has the ports of an eraser or of a duplicator: none, or two outputs of what it takes.
+fn erases_or_copies(destructor: &SourceSymbol) -> bool {
+    match arity(destructor) {
+        0 => true,
+        2 => gives_back(destructor, 1) && gives_back(destructor, 2),
+        _ => false,
+    }
+}
+
 /// A constructor and a destructor that can meet and have no rule.
 fn add_gap<'s>(
     report: &mut Report,
@@ -162,6 +179,9 @@ fn add_gap<'s>(
     add_principal(report, constructor);
     add_principal(report, destructor);
     help_rule(report, constructor, destructor);
+    if erases_or_copies(destructor) {
+        report.help(sentences::COPIES_ARE_WRITTEN);
+    }
 }
 
 /// Two symbols that can meet and have no rule.

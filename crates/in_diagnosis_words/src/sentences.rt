@@ -201,13 +201,13 @@ pub(crate) const ONE_NAME_FOR_BOTH: &str =
 pub(crate) const NO_SYMBOL_IS_A_VARIABLE: &str = "a name that isn't a symbol is a variable";
 
 pub(crate) const ERASE: &str =
-    "to discard a value, connect it to an eraser: a symbol of your own with a rule for each constructor";
+    "to discard a value, connect it to an eraser: a symbol of your own with a rule for each constructor, which `tools/copies.py` writes";
 
 pub(crate) const ERASE_NO_WILDCARD: &str =
-    "`_` is a name like others; to discard a value, connect it to an eraser: a symbol of your own with a rule for each constructor";
+    "`_` is a name like others; to discard a value, connect it to an eraser: a symbol of your own with a rule for each constructor, which `tools/copies.py` writes";
 
 pub(crate) const COPY: &str =
-    "to use a value twice, connect it to a duplicator: a symbol of your own with a rule for each constructor";
+    "to use a value twice, connect it to a duplicator: a symbol of your own with a rule for each constructor, which `tools/copies.py` writes";
 
 pub(crate) const NOT_JOINED: &str = "nothing is joined to the free end `{name}`";
 
@@ -284,6 +284,9 @@ pub(crate) const NO_RULE_UNKNOWN: &str = "these two symbols can meet, but have n
 
 pub(crate) const ADD_RULE: &str =
     "add `rule {constructor}[{first}] >< {destructor}[{second}];`, with terms for the letters";
+
+pub(crate) const COPIES_ARE_WRITTEN: &str =
+    "`tools/copies.py` writes erasers and duplicators of a type, with all their rules";
 
 // ---- nodes of a circle
 
