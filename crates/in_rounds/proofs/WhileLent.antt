@@ -90,14 +90,12 @@ module _ (r : Body) (b : ArenaView) (memory : b.memory ≡ r.arena.memory) (cell
   keeps_all k = record {
     net = keeps_net k.net;
     tools = record {
-      stock = none_alike r.arena b memory cells many each r.tools.stock.bag k.tools.stock;
-      stock_all = k.tools.stock_all;
       placed = none_alike r.arena b memory cells many each r.tools.placed.bag k.tools.placed;
       room = k.tools.room;
       made = k.tools.made;
       made_room = k.tools.made_room;
+      points = k.tools.points;
     };
-    tools_for = k.tools_for;
   }
 
 -- ---- given back
