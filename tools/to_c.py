@@ -306,7 +306,7 @@ class Compiler:
             "// Interacts at most so often: how often it didn't.",
             "static int64_t reduce(struct reducer *w, int64_t fuel) {\n  word c, d, *sp = w->sp, *bump = w->bump;",
             *(f"  word *f{size} = w->free[{size}];" for size in sizes),
-            f"next:\n  if (sp == w->bottom) goto end;\n  {take}\n  {switch(itertools.chain(*cases))}",
+            f"{'next:' if 'NEXT;' in code else ''}\n  if (sp == w->bottom) goto end;\n  {take}\n  {switch(itertools.chain(*cases))}",
             *meets,
             code,
             *([] if self.is_queue else ["pause:\n  PUSH(c, d);"]),

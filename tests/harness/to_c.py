@@ -3,7 +3,7 @@
 That is tried on the accepted examples, the rows that end normally, generated programs, random programs of `tools/compile.py`, and on nets made
 for it: wires between free ends, wires from an agent of a pair back to itself, many ports. All that ends is tried in any order; with `--order
 queue` what is left at a limit has to be the same too. A program is compiled in each form in turn: all rules in one function, or each in its
-own, with room looked for at each interaction, or seldom; one in four by clang, where it is there.
+own, with room looked for at each interaction, or seldom; one in seven by clang, where it is there.
 """
 import json
 import os
@@ -16,7 +16,8 @@ from functools import partial
 from harness import compiled, generated
 from harness.export import BUILT, TOOLS, by_tool
 from harness.parts import accepted_texts
-from harness.programs import ACCEPTED, HERE, LIMIT, MEMORY, REFUSED, WRONG_WORDS, Program, differing, failing, shortened
+from harness.programs import ACCEPTED, EXAMPLES, HERE, LIMIT, MEMORY, REFUSED, STREAM, WRONG_WORDS, Answer, Program, differing, failing, text_of
+from harness.streams import closed_pipe
 
 sys.path.insert(0, TOOLS)
 import compile as compiler  # noqa: E402  (the tools stand beside the tests)
@@ -24,8 +25,9 @@ import compile as compiler  # noqa: E402  (the tools stand beside the tests)
 SCRIPT = os.path.join(HERE, "..", "..", "inet_c")
 GENERATED, RANDOM = 100, 30
 # Interactions of a run of `inet` that is compared, and its cells.
-MOST = 2_000_000
-CELLS = 200_000
+MOST = 1_000_000
+CELLS = 1_048_576
+SANITIZERS = ["-O1", "-g", "-fsanitize=address,undefined", "-fno-sanitize-recover=all"]
 # Forms of the code, and words for the C compiler, by turns.
 FORMS = [["--functions", functions, "--order", order] for functions in ("one", "each") for order in ("newest", "queue")]
 # In Pass >< Swap a path leads through each of the four classes, where both ports of a class may be joined outside.
@@ -74,50 +76,58 @@ class CompiledPrograms:
         self.room = os.path.join(program.room, "to_c")
         os.mkdir(self.room)
         self.exporter = Program(BUILT, self.room)
-        self.compilers = ["cc", "cc", "cc", shutil.which("clang") or "cc"]
+        self.clang = shutil.which("clang") or "cc"
 
-    def compiled(self, number, text, form, *words):
-        """The compiled program of a text, as a path."""
+    def built(self, name, code, compiler, words):
+        """The program of this C text, as a path."""
+        source, made = (os.path.join(self.room, f"{name}{ending}") for ending in (".c", ""))
+        with open(source, "wb") as file:
+            file.write(code)
+        command = [compiler, "-std=c11", "-Wall", "-Wextra", "-pedantic", "-Werror", *words, "-o", made, source]
+        ran = subprocess.run(command, stdout=subprocess.PIPE, stderr=subprocess.STDOUT)
+        if ran.returncode:
+            raise RuntimeError(f"{compiler}: {ran.stdout[:500]!r}")
+        return made
+
+    def compiled(self, name, text, form=(), compiler="cc", words=("-O1",)):
+        """The compiled program of a text."""
         exported = self.exporter.run([], text)
         if exported.status != ACCEPTED:
             raise RuntimeError(f"not exported: {exported}")
         code = by_tool("to_c.py", form, exported.output)
         if code.status or code.errors:
             raise RuntimeError(f"no code: {code} {code.errors!r}")
-        source, made = (os.path.join(self.room, f"{number}{ending}") for ending in (".c", ""))
-        with open(source, "wb") as file:
-            file.write(code.output)
-        command = [self.compilers[number % 4], "-std=c11", "-Wall", "-Wextra", "-Werror", *(words or ["-O1"]), "-o", made, source]
-        ran = subprocess.run(command, stdout=subprocess.PIPE, stderr=subprocess.STDOUT)
-        if ran.returncode:
-            raise RuntimeError(f"{command[0]}: {ran.stdout[:500]!r}")
-        return made
+        return self.built(name, code.output, compiler, words)
 
-    def wrong_run(self, number, text, *words):
-        """What is wrong with a compiled program, to the end and at limits."""
+    def has_sanitizers(self):
+        """Whether the C compiler has them."""
+        try:
+            return bool(self.built("sanitized", b"int main(void) { return 0; }", "cc", SANITIZERS))
+        except RuntimeError:
+            return False
+
+    def wrong_run(self, name, number, text, words=("-O1",)):
+        """What is wrong with a program that is compiled in one form, to the end and at limits."""
         form = FORMS[number % len(FORMS)]
-        slices = ["-DSLICE=1"] if number // 4 % 2 else []
-        path = self.compiled(number, text, form, *(words or ["-O1"]), *slices)
-        run = partial(self.program.run_command, text=b"")
-        usual = self.program.run(["run", "--limit", str(MOST), "--cells", str(CELLS)], text)
-        answer = run([path, "--limit", str(MOST)])
-        if usual.status not in (ACCEPTED, LIMIT) or answer.errors:
-            return f"{usual}; compiled: {answer} {answer.errors!r}"
-        if usual.status == ACCEPTED and differing(answer, usual.status, usual.output):
-            return differing(answer, usual.status, usual.output)
+        often = ["-DSLICE=1"] if number // len(FORMS) % 2 else []
+        path = self.compiled(name, text, form, self.clang if number % 7 == 3 else "cc", [*words, *often])
+        usual = self.inet(text, MOST)
+        if usual.status not in (ACCEPTED, LIMIT):
+            return f"not to be compared: {usual}"
         count = int(usual.output.rsplit(b"\n", 3)[-3].split()[1])
-        for limit in sorted({0, 1, 2, 3, count // 2, max(count - 1, 0), count}):
-            found = run([path, f"--limit={limit}"])
-            wanted = self.program.run(["run", "--limit", str(limit), "--cells", str(CELLS)], text)
-            if "queue" in form:
-                wrong = differing(found, wanted.status, wanted.output)
-            else:
-                lasts = [answer.output.rsplit(b"\n", 3)[-3:] for answer in (found, wanted)]
-                wrong = None if found.status == wanted.status and lasts[0] == lasts[1] else f"{found}; wanted: {wanted}"
-            if wrong:
-                return f"limit {limit}: {wrong}"
+        for limit in sorted({0, 1, 2, 3, count // 2, max(count - 1, 0), count, MOST}):
+            found, wanted = self.program.run_command([path, f"--limit={limit}"], b""), self.inet(text, limit)
+            wrong = differing(found, wanted.status, wanted.output)
+            if wrong and "newest" in form and wanted.status == LIMIT:
+                same = found.status == LIMIT and found.output.rsplit(b"\n", 3)[-3:] == wanted.output.rsplit(b"\n", 3)[-3:]
+                wrong = None if same else wrong
+            if wrong or found.errors:
+                return f"limit {limit}: {wrong} {found.errors!r}"
         os.remove(path)
         return None
+
+    def inet(self, text, limit):
+        return self.program.run(["run", "--limit", str(limit), "--cells", str(CELLS)], text)
 
 
 def texts():
@@ -138,15 +148,24 @@ def texts():
         yield "random program", compiler.compiled(text, "a test").encode()
 
 
-def deep(count):
-    """A number of which the text is this deep, and deeper."""
-    return generated.program(generated.piece([], [*generated.long_number(count, "number"), "@ ~ number"], "nat", "deep")).encode()
+def many_rules(count):
+    """A program with so many constructors and destructors, one more each, and a rule for each two."""
+    names = range(count)
+    symbols = [f"symbol C{i} : t+ {{t-}}; symbol D{i} : t- {{t+}};" for i in names]
+    rules = [
+        f"rule C{i}[r] >< D{j}[r];" if (i + j) % 7 == 0 else f"rule C{i}[D{(i + 3 * j) % count}(r)] >< D{j}[C{(i * j + 1) % count}(r)];"
+        for i in names for j in names
+    ]
+    ends = [f"rule E[] >< D{j}[E];" for j in names]
+    net = "".join(f"C{5 * k % count}(" for k in range(60)) + "E" + ")" * 60
+    meets = "; ".join([f"{net} ~ D0(d0)", *(f"d{j} ~ D{(j + 1) % count}(d{j + 1})" for j in range(20))])
+    return "\n".join(["type t; symbol E : t+;", *symbols, *rules, *ends, f"net (end : t+) {{ {meets}; end ~ d20; }}"]).encode()
 
 
 def wrong_memory(made):
-    """What is wrong where memory runs out: one line, and the usual answer where there is enough."""
-    path = made.compiled("memory", ENDLESS, [])
-    for room in (3_000, 8_000, 20_000, 60_000):
+    """What is wrong where memory runs out: there is one line, however much there was."""
+    path = made.compiled("memory", ENDLESS)
+    for room in (4_000, 8_000, 20_000, 60_000):
         answer = made.program.run_command(["sh", "-c", f'ulimit -v {room}; exec "$@"', "sh", path, "--limit", "1000000000000"], b"")
         wrong = differing(answer, MEMORY, b"memory\n")
         if wrong:
@@ -155,41 +174,94 @@ def wrong_memory(made):
 
 
 def wrong_depth(made):
-    """What is wrong with a deep net: it is printed with a small C stack."""
-    text = deep(200_000)
-    path = made.compiled("deep", text, [])
+    """What is wrong with a number of two hundred thousand: it is printed with a C stack of 64 kB."""
+    equations = [*generated.long_number(200_000, "number"), "deep ~ number"]
+    text = generated.program(generated.Piece([generated.NUMBERS], equations, ["deep : nat+"])).encode()
+    path = made.compiled("deep", text)
     answer = made.program.run_command(["sh", "-c", 'ulimit -s 64; exec "$@"', "sh", path], b"")
-    wanted = made.program.run(["run", "--cells", "1048576"], text)
+    wanted = made.inet(text, MOST)
     return differing(answer, wanted.status, wanted.output)
 
 
-def wrong_words(path, program, words):
+def wrong_words(program, path, words):
     answer = program.run_command([path, *words], b"")
     return differing(answer, WRONG_WORDS, b"") or (None if answer.errors.startswith(b"error: ") else f"told: {answer.errors!r}")
 
 
-def wrong_altered(made, change):
-    """What is wrong where a line is altered: no code is made of it."""
-    data = json.loads(made.exporter.run([], generated.text_of_example("sum")).output)
+def into(program, path, kind):
+    """What a compiled program answers where its standard output takes nothing."""
+    if kind == "closed":
+        return program.run_command(["sh", "-c", 'exec "$@" >&-', "sh", path], b"")
+    if kind == "full":
+        with open("/dev/full", "wb") as device:
+            return program.run_command([path], b"", stdout=device)
+    writer = closed_pipe()
+    try:
+        return program.run_command([path], b"", stdout=writer)
+    finally:
+        os.close(writer)
+
+
+# What makes the line of examples/sum.inet one that no accepted program has.
+ALTERED = {
+    "another format": lambda data: data.update(format=2),
+    "a rule left out": lambda data: data["rules"].pop(),
+    "a step left out": lambda data: data["net"]["steps"].pop(),
+    "another step": lambda data: data["rules"][0]["steps"].__setitem__(0, ["empty"]),
+    "too many ports": lambda data: data["symbols"].append({"name": "Wide", "ports": [{"type": 0, "output": False, "class": min(k, 1)} for k in range(18)]}),
+}
+
+
+def wrong_altered(line, change):
+    """What is wrong where a line is altered: no code is made of it, and a reason is told."""
+    data = json.loads(line)
     change(data)
     answer = by_tool("to_c.py", [], json.dumps(data).encode())
-    return differing(answer, REFUSED, b"") or (None if answer.errors else "no reason is told")
+    return differing(answer, REFUSED, b"") or (None if answer.errors and b"Traceback" not in answer.errors else f"told: {answer.errors!r}")
 
 
-def wrong_script(program, name, words, wanted, room):
+def wrong_script(program, words, wanted, kept):
     """What is wrong with `./inet_c`, called twice: the second time what was compiled is kept."""
-    text = os.path.join(HERE, "..", "..", "examples", f"{name}.inet")
     for _ in range(2):
-        answer = program.run_command([SCRIPT, text, *words], b"", {"INET_C_KEPT": room})
+        answer = program.run_command([SCRIPT, *words], b"", {"INET_C_KEPT": kept})
         wrong = differing(answer, wanted.status, wanted.output)
         if wrong:
-            return wrong
+            return f"{wrong} {answer.errors!r}"
     return None
 
 
+def by_script(program, room):
+    """Calls of `./inet_c`."""
+    path = lambda name: os.path.join(EXAMPLES, f"{name}.inet")
+    for name, words in (("sum", []), ("sum", ["--limit", "2"]), ("used_three_times", []), ("waits_for_itself", ["--limit", "2"])):
+        checked = program.run(["check"], text_of(name))
+        wanted = program.run(["run", *words], text_of(name)) if checked.status == ACCEPTED else checked
+        for order in ([], ["--order", "queue"]):
+            yield f"./inet_c: {name} {' '.join([*order, *words])}", partial(wrong_script, program, [*order, path(name), *words], wanted, os.path.join(room, "kept"))
+    for words in ([], ["--order"], ["--order", "x", path("sum")], ["--limit", "2", path("sum")], [path("sum"), "--cells", "16"]):
+        yield f"./inet_c: {' '.join(words)}", partial(wrong_script, program, words, Answer(WRONG_WORDS, b""), os.path.join(room, "kept"))
+    yield "./inet_c: no file", partial(wrong_script, program, [path("no_such_file")], Answer(STREAM, b""), os.path.join(room, "kept"))
+
+
 def to_c(program):
-    if not shutil.which("cc"):
-        raise FileNotFoundError("cc")
     made = CompiledPrograms(program)
+    yield "memory", partial(wrong_memory, made)
+    yield "a deep net", partial(wrong_depth, made)
+    for number, form in enumerate(FORMS):
+        yield f"many rules: {' '.join(form)}", partial(made.wrong_run, f"many{number}", number, many_rules(17), ("-O0",))
+    yield "a thousand rules", partial(made.wrong_run, "thousand", 3, many_rules(32), ("-O0",))
     for number, (name, text) in enumerate(texts()):
-        yield f"{name}: number {number}", partial(made.wrong_run, number, text)
+        yield f"{name}: program {number}", partial(made.wrong_run, number, number, text)
+    if made.has_sanitizers():
+        for number in range(2 * len(FORMS)):
+            text = (LOOPS + NETS["sixteen ports and wires back"]).encode() if number % 2 else generated.program(generated.sorting_network(3)).encode()
+            yield f"sanitizers, form {number}", partial(made.wrong_run, f"sanitized{number}", number, text, SANITIZERS)
+    path = made.compiled("words", text_of("sum"))
+    for words in WRONG:
+        yield f"words: {' '.join(words)}", partial(wrong_words, program, path, words)
+    for kind in ("closed", "full", "a pipe without a reader"):
+        yield f"standard output: {kind}", failing(partial(into, program, path, kind), "output")
+    line = made.exporter.run([], text_of("sum")).output
+    for name, change in ALTERED.items():
+        yield f"a line with {name}", partial(wrong_altered, line, change)
+    yield from by_script(program, made.room)
