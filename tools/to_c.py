@@ -59,12 +59,12 @@ class Tags:
         return self.symbols[symbol].ports[0]["type"]
 
 
-def loops_of(symbol):
-    """The pairs of places of one class, the first an input and the second an output, that a wire may join: no other wire leads from an agent of
-    an active pair back to itself or to its partner."""
-    places = range(1, symbol.arity + 1)
+def looping(symbol):
+    """The inputs among a symbol's places that a wire may join to an output of the same class: no other wire leads from an agent of an active
+    pair back to itself or to its partner."""
+    ports = symbol.ports[1:]
     fits = lambda one, other: not one["output"] and other["output"] and all(one[what] == other[what] for what in ("type", "class"))
-    return [(i, j) for i in places for j in places if fits(symbol.ports[i], symbol.ports[j])]
+    return [place for place, port in enumerate(ports, 1) if any(fits(port, other) for other in ports)]
 
 
 def joined(p, m, action):
@@ -83,7 +83,7 @@ class Code:
         self.heads = [program.symbols[symbol] for symbol in self.rule.heads]
         self.agents = [program.symbols[symbol] for symbol in self.rule.agents]
         self.ends = program.places(self.rule)
-        self.loops = [(head, i, j) for head in (0, 1) for i, j in loops_of(self.heads[head])]
+        self.loops = [(head, place) for head in (0, 1) for place in looping(self.heads[head])]
         # How many words of fresh cells and how many pairs the code takes at most.
         self.words = self.pairs = 0
 
@@ -112,9 +112,9 @@ class Code:
     def lines(self, is_looped=False):
         """The statements of the rule; `is_looped` where a wire leads from an agent of the pair back to itself."""
         self.choose_cells(is_looped)
-        held = self.held_before() if is_looped else []
+        held = list(self.held_before()) if is_looped else []
         made, wires = self.wires()
-        body = [*self.reads(), *held, *self.cells(), *wires]
+        body = [*(held or self.reads()), *self.cells(), *wires]
         given = [f"GIVE({head.arity}, {'CD'[k]});" for k, head in enumerate(self.heads) if head.arity and self.kept[k] is None]
         own = [("own", self.rule.wires[number], len(self.ends)) for number in self.rule.active]
         if is_looped:
@@ -129,7 +129,7 @@ class Code:
         return heads + body
 
     def loop_test(self):
-        tests = " || ".join(f"{'CD'[head]}[{i - 1}] == WIRE({'CD'[head]} + {j - 1})" for head, i, j in self.loops)
+        tests = " || ".join(f"LEADS_INTO({letter}[{place - 1}], {letter}, {self.heads[head].arity})" for head, place in self.loops for letter in "CD"[head])
         return [f"if ({tests}) LOOPED({self.number});"]
 
     def reads(self):
@@ -220,20 +220,18 @@ class Code:
             ends = [point[0] for point in wire if len(point) == 1]
             for end in ends:
                 lowest[end] = min(ends)
-        most = len(self.loops) + len(self.ends)
-        yield f"word t[{2 * len(self.loops)}]; int joins = 0; unsigned char lowest[] = {{{numbers(lowest)}}}; struct made made[{most}]; int held = 0;"
-        for k, (head, i, j) in enumerate(self.loops):
-            e, f = self.end(head, i), self.end(head, j)
-            yield f"int k{k} = -1;"
-            yield (
-                f"if (o{e} == WIRE({'CD'[head]} + {j - 1})) {{ o{e} = WIRE(t + joins); o{f} = WIRE(t + joins + 1); k{k} = joins; joins += 2;"
-                f" same_path(lowest, {len(self.ends)}, {e}, {f}); }}"
-            )
+        inputs = sum(1 << self.end(head, place) for head, place in self.loops)
+        most, count = len(self.loops), len(self.ends)
+        yield f"word o[] = {{{numbers(f'{letter}[{place - 1}]' for head, place in self.ends for letter in 'CD'[head])}}}, t[{2 * most}];"
+        yield f"unsigned char lowest[] = {{{numbers(lowest)}}}, from[{most}]; int joins = 0, held = 0; struct made made[{most + count}];"
+        for head, (letter, first) in enumerate((("C", 0), ("D", self.heads[0].arity))):
+            if looping(self.heads[head]):
+                yield f"joins = cut_loops(o, {letter}, {first}, {self.heads[head].arity}, {inputs}u, t, joins, from, lowest, {count});"
+        yield from (f"word o{end} = o[{end}];" for end in range(count))
 
     def held_after(self):
-        for k, (head, i, _) in enumerate(self.loops):
-            action = f"HOLD(p, m, lowest[{self.end(head, i)}]);"
-            yield f"if (k{k} >= 0) {{ word p = t[k{k} + 1], m = t[k{k}]; {joined('p', 'm', action)} }}"
+        action = "HOLD(p, m, lowest[from[k]]);"
+        yield f"for (int k = 0; k < joins; k++) {{ word p = t[2 * k + 1], m = t[2 * k]; {joined('p', 'm', action)} }}"
         yield "sort_made(made, held);"
         yield "for (int k = 0; k < held; k++) PUSH(made[k].p, made[k].m);"
 
@@ -386,7 +384,7 @@ class Compiler:
         # The code comes first: it says how many words and pairs a rule takes.
         rules = self.rules()
         runtime = streams.read_file(RUNTIME)
-        if not any(map(loops_of, self.program.symbols)):
+        if not any(map(looping, self.program.symbols)):
             runtime = re.sub("//@LOOPS\n.*//@END\n", "", runtime, flags=re.DOTALL)
         return runtime.replace("//@TABLES\n", self.tables() + "\n").replace("//@RULES\n", rules + "\n").replace("//@LOOPS\n", "").replace("//@END\n", "")
 

@@ -63,6 +63,16 @@ NETS = {
 ENDLESS = b"""type nat; type go; symbol S : nat+ {nat-}; symbol Go : go+; symbol Count : go- {nat+};
 rule Go[] >< Count[S(r)] with { Go ~ Count(r); };
 net (a : nat+) { Go ~ Count(a); }"""
+# Rules of which each symbol has sixteen ports, in one class.
+PORTS = "{" + ", ".join(["n-"] * 8 + ["n+"] * 8) + "}"
+MANY_PORTS = (
+    "type n; type t; symbol Z : n+; symbol Era : n-; rule Z[] >< Era[];\n"
+    + "".join(f"symbol C{i} : t+ {PORTS}; symbol D{i} : t- {PORTS};\n" for i in range(4))
+    + "".join(f"rule C{i}[{values}] >< D{j}[{values}];\n" for values in [", ".join(["Era"] * 8 + ["Z"] * 8)] for i in range(4) for j in range(4))
+    + "net () { " + " ".join(
+        f"C{k}({', '.join(f'a{k}_{place % 8}' for place in range(16))}) ~ D{3 - k}({', '.join(f'b{k}_{place * 3 % 8}' for place in range(16))});" for k in range(4)
+    ) + " }\n"
+)
 # Programs with nothing to compile.
 BARE = {"no symbol": "net () { }", "no rule": "type nat; symbol Z : nat+; net (a : nat+) { a ~ Z; }"}
 WRONG = (["--limit"], ["--limit", "-1"], ["--limit", "x"], ["--limit", "1000000000001"], ["--limit="], ["--limit", "1", "--limit", "1"], ["run"], ["--workers", "2"])
@@ -137,6 +147,7 @@ def texts():
     for name, net in NETS.items():
         yield name, (LOOPS + net).encode()
     yield from ((name, text.encode()) for name, text in BARE.items())
+    yield "rules with sixteen ports and wires back", MANY_PORTS.encode()
     kinds = list(generated.SMALL)
     for number in range(GENERATED):
         chance = random.Random(number)
