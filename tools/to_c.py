@@ -364,7 +364,7 @@ class Compiler:
         is_plus = lambda data: program.symbols[net["agents"][data[0]]].ports[data[1]]["output"] if len(data) == 2 else not net["free"][data[0]]["output"]
         wires = [wire if is_plus(wire[0]) else wire[::-1] for wire in net["wires"]]
         active = net["active"] if self.is_queue else net["active"][::-1]
-        counts = {"FREE": len(frees), "AGENTS": len(agents), "WIRES": len(wires), "ACTIVE": len(active), "WORDS": self.words, "PUSHES": self.pairs}
+        counts = {"FREE": len(frees), "AGENTS": len(agents), "WIRES": len(wires), "ACTIVE": len(active), "WORDS": self.words, "PUSHES": self.pairs, "IS_QUEUE": int(self.is_queue)}
         return "\n".join([
             *lines,
             f"static const struct symbol symbols[] = {{{', '.join(rows) or '{0}'}}};",
