@@ -18,7 +18,7 @@ sys.path.insert(0, TOOLS)
 import declarations  # noqa: E402  (the tools stand beside the tests)
 
 # The tools with the words that they need, by what they read: exported lines, programs, programs of functions.
-OF_LINES = {"reduce.py": [], "steps.py": [], "draw.py": [], "trace.py": ["--limit", "5"]}
+OF_LINES = {"reduce.py": [], "steps.py": [], "draw.py": [], "trace.py": ["--limit", "5"], "to_c.py": []}
 OF_PROGRAMS = {"copies.py": ["nat"], "braces.py": ["--most", "20"]}
 OF_FUNCTIONS = {"compile.py": []}
 ALL = {**OF_LINES, **OF_PROGRAMS, **OF_FUNCTIONS}
