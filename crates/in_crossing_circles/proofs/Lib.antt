@@ -1,0 +1,4 @@
+pub mod Cycles
+pub mod Public
+pub mod StuckParts
+pub mod Walks
