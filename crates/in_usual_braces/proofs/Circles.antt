@@ -1,66 +1,11 @@
--- Directed circles: they cross, and a long walk along the wires has one.
-use Rattle.std.proofs.Common.{◌≡◌, ◌≢◌, ◌⊎◌, ℕ, Bool, true, false, List, [], ◌∷◌, ◌++◌, sym, subst, inl, inr, ◌∙◌}
-use mathlib.Core.HLevel.{Discrete}
+-- Directed circles and circles through principal ports cross.
+use Rattle.std.proofs.Common.{ℕ, List, [], ◌∷◌, sym, inl, inr, ◌∙◌}
 use Rattle.std.specs.List.{AllByRecursion}
-use Rattle.in_base.specs.Graphs.{Graph, Passage, entered, left, LeadsThrough, IsCrossing, AreApart, CrossingCircle}
-use Rattle.in_base.proofs.Circuits.{Walk, Found, find, apart_before, AreSeparate, walk_crossing, walk_to, walk-LeadsThrough}
+use Rattle.in_base.specs.Graphs.{Passage, entered, left, LeadsThrough, IsCrossing, CrossingCircle}
 use Rattle.in_open_nets.specs.declared.open_nets.OpenPoint.TheVariants.{Port}
 use Rattle.in_open_nets.specs.OpenNets.{OpenNet, IsOpenNet, IsOpenPoint, open_graph}
 use Rattle.in_open_nets.proofs.Public.{wire_turn}
 use Rattle.in_usual_braces.specs.Directions.{Outputs, AreByThemselves, IsAlong, DirectedCircle, Crosses, IsByPrincipal, PrincipalCircle}
-
--- ---- long walks
-
--- a closed walk whose nodes are different
-pub record Ring (g : Graph) (E L : g.Node × ℕ → Type 0) : Type 0 where
-  pub first : Passage g.Node
-  pub rest : List (Passage g.Node)
-  pub enters : E (entered first)
-  pub leaves : L (left first)
-  pub closed : Walk g E L (left first) rest (entered first)
-  pub apart : AreApart (first ∷ rest)
-
-module _ (g : Graph) (E L : g.Node × ℕ → Type 0) where
-  -- a walk whose nodes are different and that comes back to its first node is a ring
-  ring_of : (n : g.Node) (i j : ℕ) (xs : List (Passage g.Node)) → E (n, i) → L (n, j) → Walk g E L (n, j) xs (n, i) → AllByRecursion (λ q. n ≢ q.node) xs → AreApart xs → Ring g E L
-  ring_of n i j xs e l w other apart = record { first = record { node = n; enter = i; leave = j }; rest = xs; enters = e; leaves = l; closed = w; apart = (other, apart) }
-
-  -- going from the end of a walk to its start, the first node that comes again closes a ring
-  pub scan : Discrete g.Node → (p : Passage g.Node) (ps : List (Passage g.Node)) (to : g.Node × ℕ) → L (left p) → Walk g E L (left p) ps to → Ring g E L ⊎ AreApart (p ∷ ps)
-  scan same p [] to l w = inr (tt, tt)
-  scan same p (q ∷ qs) to l w = go (scan same q qs to w.2 w.3)
-    where
-      found : AreApart (q ∷ qs) → Found p.node (q ∷ qs) → Ring g E L
-      found apart f =
-          let w' = walk_to g E L (left p) to f.before f.here f.after (subst (λ ps. Walk g E L (left p) ps to) f.whole w) in
-          let apart' : AreApart (f.before ++ f.here ∷ f.after) = subst AreApart f.whole apart in
-          ring_of p.node f.here.enter p.leave f.before
-          (subst (λ v. E (v, f.here.enter)) (sym f.same) w'.1) l
-          (subst (λ v. Walk g E L (left p) f.before (v, f.here.enter)) (sym f.same) w'.0)
-          f.none_before (apart_before f.before (f.here ∷ f.after) apart')
-
-      go : Ring g E L ⊎ AreApart (q ∷ qs) → Ring g E L ⊎ AreApart (p ∷ q ∷ qs)
-      go (inl c) = inl c
-      go (inr apart) = elim (find same p.node (q ∷ qs)) [ inl f ↦ inl (found apart f) | inr f ↦ inr (f, apart) ]
-
-  -- what holds of what enters and of what leaves holds at each passage of a walk
-  pub walk_each : (P : Passage g.Node → Type 0) → ((p : Passage g.Node) → E (entered p) → L (left p) → P p) → (from to : g.Node × ℕ) (ps : List (Passage g.Node)) → Walk g E L from ps to → AllByRecursion P ps
-  walk_each P f from to [] w = tt
-  walk_each P f from to (p ∷ ps) w = (f p w.1 w.2, walk_each P f (left p) to ps w.3)
-
-  -- a ring that is entered by inputs and left by outputs, of other classes, is a directed circle that crosses
-  pub ring_circle : (out : g.Node → ℕ → Bool) → ((v : g.Node × ℕ) → E v → out v.0 v.1 ≡ false) → ((v : g.Node × ℕ) → L v → out v.0 v.1 ≡ true) → AreSeparate g E L → (P : Passage g.Node → Type 0) → ((p : Passage g.Node) → E (entered p) → L (left p) → P p) → Ring g E L → (c : DirectedCircle g out) × Crosses g out c × AllByRecursion P (c.first ∷ c.rest)
-  ring_circle out e l s P f r = (
-    record {
-      first = r.first;
-      rest = r.rest;
-      closed = walk-LeadsThrough g E L (left r.first) (entered r.first) r.rest r.closed;
-      along = ((e (entered r.first) r.enters, l (left r.first) r.leaves), walk_each (IsAlong out) (λ p x y. (e (entered p) x, l (left p) y)) (left r.first) (entered r.first) r.rest r.closed);
-      apart = r.apart;
-    },
-    (s r.first.node r.first.enter r.first.leave r.enters r.leaves, walk_crossing g E L s (left r.first) (entered r.first) r.rest r.closed),
-    (f r.first r.enters r.leaves, walk_each P f (left r.first) (entered r.first) r.rest r.closed),
-  )
 
 -- ---- directed circles cross
 

@@ -1,4 +1,4 @@
-use Rattle.in_usual_braces.proofs.Sources.{crossing_none, directed_derivable}
+use Rattle.in_usual_braces.proofs.Directed.{crossing_none, directed_derivable}
 use Rattle.in_usual_braces.proofs.laws.crossing_directed_circles_decide.Goals as goal
 
 pub returns : goal.returns
