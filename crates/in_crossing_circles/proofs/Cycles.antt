@@ -245,7 +245,7 @@ module _ (o : OpenNet) (t : ℕ → Bool) where
 
   module _ (each : (v : ℕ) → IsIn v t → (i : ℕ) × (j : ℕ) × (ps : List (Passage ℕ)) × Cycle v i j ps) where
     module _ (v k : ℕ) (r : ℕ → Bool) (leads : LeadInto v k r) (next : (u l : ℕ) → IsIn u t → IsIn u r → LeadInto u l (less r u) → HasCircleIn o t) where
-      -- a closed walk that leaves v by another class than k, goes by A to its first cusp u, and has fewest cusps
+      -- a closed walk that leaves v by another class than k, with its first cusp, where one with fewer cusps gives a circle
       module _ (i j : ℕ) (ps : List (Passage ℕ)) (c : Cycle v i j ps) (differ : class v i ≢ k) (f : FirstCusp o ps)
           (fewer : (i' j' : ℕ) (qs : List (Passage ℕ)) → Cycle v i' j' qs → class v i' ≡ class v i → cusps o qs < cusps o ps → HasCircleIn o t) where
         ways : Way o (v, i) f.before (entered f.here) × Way o (left f.here) f.after (v, j)
@@ -294,6 +294,7 @@ module _ (o : OpenNet) (t : ℕ → Bool) where
               (λ x qs w d path other. elim (through x qs w d path other) [ inl found ↦ inl found | inr h ↦ inr (less_kept r f.here.node w h.1 h.0) ])
         ]
 
+      -- any that does so, and has fewer than b cusps
       from_cycle : (b i j : ℕ) (ps : List (Passage ℕ)) → Cycle v i j ps → class v i ≢ k → cusps o ps < b → HasCircleIn o t
       from_cycle zero i j ps c differ l = absurd (omega arith)
       from_cycle (suc b) i j ps c differ l = elim (first_cusp o ps) [
@@ -311,6 +312,7 @@ module _ (o : OpenNet) (t : ℕ → Bool) where
             | inl e ↦ from_cycle (suc (cusps o (back c.2))) c.1 c.0 (back c.2) (cycle_back v c.0 c.1 c.2 c.3) (λ g. c.3.changes (e ∙ sym g)) (omega arith)
           ]
 
+    -- on to the first cusp, and to the first cusp of its closed walk, and so on: r has fewer nodes each time
     climb : (b : ℕ) → ((n : ℕ) → IsIn n t → n < b) → (s v k : ℕ) (r : ℕ → Bool) → count r b ≤ s → IsIn v t → LeadInto v k r → HasCircleIn o t
     climb b below zero v k r most here leads =
         from_node v k r leads (λ u l in_t in_r on. let a = count_less r (less r u) (less_in r u) u in_r (less_itself r u) b (below u in_t) in absurd (omega arith)) here

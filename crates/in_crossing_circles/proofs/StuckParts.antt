@@ -16,12 +16,12 @@ use Rattle.in_crossing_circles.proofs.Walks.{Wire, linked_way, one_room, turned}
 -- ---- the first stuck sub-net
 
 -- no node splits it
-pub stuck : (o : OpenNet) (s t : ℕ → Bool) → FirstStuck o s t → IsStuck (open_graph o) t
+stuck : (o : OpenNet) (s t : ℕ → Bool) → FirstStuck o s t → IsStuck (open_graph o) t
 stuck o s _ (whole _ h) = h
 stuck o s t (within _ n c k _ first part comes before later) = stuck o c t later
 
 -- .. and its nodes are nodes of the net
-pub inside : (o : OpenNet) (net : IsOpenNet o) (s t : ℕ → Bool) → ((n : ℕ) → IsIn n s → n < length o.nodes) → FirstStuck o s t → (n : ℕ) → IsIn n t → n < length o.nodes
+inside : (o : OpenNet) (net : IsOpenNet o) (s t : ℕ → Bool) → ((n : ℕ) → IsIn n s → n < length o.nodes) → FirstStuck o s t → (n : ℕ) → IsIn n t → n < length o.nodes
 inside o net s _ in_net (whole _ h) n here = in_net n here
 inside o net s t in_net (within _ m c k _ first part comes before later) n here =
     inside o net c t (λ l l_here. in_net l (link_first (open_graph o) (Without m s) l part.0 (link_back o (Without m s) (without o net s in_net m) part.0 l ((part.2 l).0 l_here))).0) later n here
