@@ -3,20 +3,22 @@
 `inet run` does.
 
 Usage: inet_export < PROGRAM.inet | tools/to_c.py > PROGRAM.c
-       cc -std=c11 -O2 -o PROGRAM PROGRAM.c && ./PROGRAM [--limit N]
+       cc -std=c11 -O2 -pthread -o PROGRAM PROGRAM.c && ./PROGRAM [--limit N] [--workers N] [NET]
 
 docs/use/COMPILED.md says how the code works and why. No rule tests what acceptance promises, so the steps of a line are checked before.
 """
 import argparse
 import itertools
+import json
 import re
+import zlib
 from pathlib import Path
 
 import nets
 import steps
 import streams
 
-RUNTIME = Path(__file__).with_name("to_c_runtime.c")
+RUNTIME, WORKERS, READER = (Path(__file__).with_name(f"to_c_{part}.c") for part in ("runtime", "workers", "reader"))
 # What a program has at most.
 MOST_SYMBOLS, MOST_ARITY, MOST_FREE_ENDS, MOST_MEMBER_AGENTS = 512, 16, 256, 64
 # All rules are one function, in which one goes on with the next by a jump, in a program of at most so many rules with at most so many wires
@@ -59,6 +61,13 @@ class Tags:
         return self.symbols[symbol].ports[0]["type"]
 
 
+def rules_text(program):
+    """The line of a program up to its net: its types, symbols and rules, as `inet_export` writes them."""
+    written = lambda value: json.dumps(value, ensure_ascii=False, separators=(",", ":"))
+    members = ("format", "types", "symbols", "rules")
+    return f"{{{''.join(f'{written(member)}:{written(program.data[member])},' for member in members)}\"net\":".encode(errors="backslashreplace")
+
+
 def looping(symbol):
     """The inputs among a symbol's places that a wire may join to an output of the same class: no other wire leads from an agent of an active
     pair back to itself or to its partner."""
@@ -97,6 +106,10 @@ class Code:
     def end(self, head, place):
         return self.ends.index((head, place))
 
+    def freed(self):
+        """How many words of cells become free, less those that are taken."""
+        return sum(head.arity for head in self.heads) - sum(agent.arity for agent in self.agents)
+
     def choose_cells(self, is_looped):
         """Which new agents stand in the cells of the pair: those of which most ports can stay as they are. And the ends that stay."""
         stays = [(end[0], point) for wire in self.rule.wires for end, point in (wire, wire[::-1]) if len(end) == 1 and len(point) == 2 and point[1]]
@@ -116,6 +129,7 @@ class Code:
         made, wires = self.wires()
         body = [*(held or self.reads()), *self.cells(), *wires]
         given = [f"GIVE({head.arity}, {'CD'[k]});" for k, head in enumerate(self.heads) if head.arity and self.kept[k] is None]
+        given += [f"FREED({self.freed()});"] if self.freed() and self.compiler.is_one else []
         own = [("own", self.rule.wires[number], len(self.ends)) for number in self.rule.active]
         if is_looped:
             last = [*given, *(self.join(pair, True) for pair in made), *self.held_after(), *map(self.join, own), "NEXT;"]
@@ -269,7 +283,7 @@ class Compiler:
             return [f"{begin} goto m{kind};"]
         rule = lambda partner: self.rule_of(constructor, partner) if what == "plus" else self.rule_of(partner, destructor)
         cases = " ".join(f"case {self.tags.tag[partner]}: goto r{rule(partner)};" for partner in partners)
-        return [f"{begin} switch (TAG({'d' if what == 'plus' else 'c'})) {{ {cases} NO_DEFAULT }}"]
+        return [f"{begin} switch (TAG({'d' if what == 'plus' else 'c'})) {{ {cases} DEFAULT }}"]
 
     def title(self, number, is_looped):
         heads = " >< ".join(in_comment(self.program.symbols[symbol].name) for symbol in self.program.rules[number].heads)
@@ -284,42 +298,53 @@ class Compiler:
             self.words, self.pairs = max(self.words, code.words), max(self.pairs, code.pairs)
 
     def one_function(self, bodies):
-        """All rules in one function: a jump leads from each to the next one."""
+        """All rules in one function: a jump leads from each to the next one. Where no wire is shared, nothing tests for that; so there are two."""
         rules = []
         for number, is_looped, lines in bodies:
             label = f"r{number}_looped" if is_looped else f"r{number}"
-            first = [] if is_looped or self.is_queue else ["if (!fuel) goto pause;", "fuel--;"]
+            first = [] if is_looped else ["fuel--;"] if self.is_queue else ["if (!fuel) goto pause;", "fuel--;"]
             rules.append("\n  ".join([f"{label}: {{ // {self.title(number, is_looped)}", *first, *lines]) + "\n}")
         cases = [
             [f"case {self.tags.tag[d] << self.bits | self.tags.tag[c]}: goto r{self.rule_of(c, d)};" for d in self.tags.destructors[kind] for c in own]
             for kind, own in enumerate(self.tags.constructors)
         ]
-        switch = lambda cases: f"switch (TAG(d) << {self.bits} | TAG(c)) {{ {' '.join(cases)} NO_DEFAULT }}"
+        switch = lambda cases: f"switch (TAG(d) << {self.bits} | TAG(c)) {{ {' '.join(cases)} DEFAULT }}"
         code = "\n".join(rules)
         meets = [f"m{kind}:\n  {switch(own)}" for kind, own in enumerate(cases) if f"goto m{kind};" in code]
         sizes = sorted({symbol.arity for symbol in self.program.symbols if symbol.arity})
-        take = "if (!fuel) goto end;\n  fuel--;\n  c = w->bottom[0]; d = w->bottom[1]; w->bottom += 2;" if self.is_queue else "sp -= 2; c = sp[0]; d = sp[1];"
-        parts = [
-            "#define CELLS(size) f##size\n#define BUMP bump\n#define SP sp\n#define NEXT goto next\n#define LOOPED(number) goto r##number##_looped",
-            "// Interacts at most so often: how often it didn't.",
-            "static int64_t reduce(struct reducer *w, int64_t fuel) {\n  word c, d, *sp = w->sp, *bump = w->bump;",
+        ended, take = "sp == w->bottom", "sp -= 2; c = sp[0]; d = sp[1];"
+        if self.is_queue:
+            ended, take = f"{ended} || !fuel", "c = w->bottom[0]; d = w->bottom[1]; w->bottom += 2;"
+        begin = "\n".join([
+            "  word c, d, *sp = w->sp, *bump = w->bump;",
             *(f"  word *f{size} = w->free[{size}];" for size in sizes),
-            f"{'next:' if 'NEXT;' in code else ''}\n  if (sp == w->bottom) goto end;\n  {take}\n  {switch(itertools.chain(*cases))}",
+            f"{'next:' if 'NEXT;' in code else ''}\n  if ({ended}) goto end;\n  {take}\n  {switch(itertools.chain(*cases))}",
             *meets,
             code,
+        ])
+        end = "\n".join(["end:", *(f"  w->free[{size}] = f{size};" for size in sizes), "  w->sp = sp;\n  w->bump = bump;"])
+        pause = "" if self.is_queue else "pause:\n"
+        return "\n".join([
+            "#define CELLS(size) f##size\n#define BUMP bump\n#define SP sp\n#define NEXT goto next\n#define LOOPED(number) goto r##number##_looped",
+            "#define DEFAULT NO_DEFAULT\n#define FREED(words)",
+            "// Interacts at most so often, where no wire is shared: how often it didn't.",
+            f"static int64_t reduce_local(struct worker *w, int64_t fuel) {{\n{begin}",
             *([] if self.is_queue else ["pause:\n  PUSH(c, d);"]),
-            "end:",
-            *(f"  w->free[{size}] = f{size};" for size in sizes),
-            "  w->sp = sp;\n  w->bump = bump;\n  return fuel;\n}",
-        ]
-        return "\n".join(parts)
+            f"{end}\n  return fuel;\n}}",
+            "#undef DEFAULT\n#undef FREED",
+            "// What no pair of tags is has a shared wire in it.\n#define DEFAULT default: goto shared;\n#define FREED(words) freed += (words)",
+            "// Interacts at most so often, and until a shared wire is met: how often it didn't.",
+            f"static int64_t reduce_shared(struct worker *w, int64_t fuel) {{\n  int64_t freed = w->freed;\n{begin}",
+            f"{pause}shared:\n  PUSH(c, d);",
+            f"{end}\n  w->freed = freed;\n  return fuel;\n}}",
+        ])
 
     def functions(self, bodies):
         """Each rule in a function, which answers the pair that is gone on with, if any."""
         rules = []
         for number, is_looped, lines in bodies:
             name = f"r{number}_looped" if is_looped else f"r{number}"
-            title = f"// {self.title(number, is_looped)}\nstatic struct pair {name}(struct reducer *w, word c, word d) {{"
+            title = f"// {self.title(number, is_looped)}\nstatic struct pair {name}(struct worker *w, word c, word d) {{"
             rules.append("\n  ".join([title, "(void)w; (void)c; (void)d;", *lines]) + "\n}")
         rows, table = [0], []
         for kind, own in enumerate(self.tags.destructors):
@@ -327,44 +352,57 @@ class Compiler:
                 rows.append(len(table))
                 table += [f"r{self.rule_of(constructor, destructor)}" for constructor in self.tags.constructors[kind]]
         take = "word *at = w->bottom;\n      w->bottom += 2;" if self.is_queue else "word *at = w->sp -= 2;"
+        numbers_of = [int(name[1:]) for name in table]
+        freed = numbers(Code(self, number).freed() for number in numbers_of)
+        loop = lambda begin, shared, counted: "\n".join([
+            f"{begin}  word c = 0, d = 0;\n  for (; fuel; fuel--) {{\n    if (!d) {{",
+            f"      if (w->sp == w->bottom) return fuel;\n      {take}\n      c = at[0];\n      d = at[1];\n    }}{shared}",
+            f"    uint32_t number = first_rule[TAG(d)] + TAG(c) - 1;\n    struct pair next = rules[number](w, c, d);{counted}",
+            "    c = next.c;\n    d = next.d;\n  }\n  if (d) PUSH(c, d);\n  return fuel;\n}",
+        ])
         return "\n".join([
             "struct pair { word c, d; };",
             "#define CELLS(size) w->free[size]\n#define BUMP w->bump\n#define SP w->sp\n#define NEXT return (struct pair){0, 0}",
             "#define LOOPED(number) return r##number##_looped(w, c, d)",
             *rules,
-            f"static struct pair (*const rules[])(struct reducer *, word, word) = {{{numbers(table)}}};",
+            f"static struct pair (*const rules[])(struct worker *, word, word) = {{{numbers(table)}}};",
             f"static const uint32_t first_rule[] = {{{numbers(rows)}}};",
-            "// Interacts at most so often: how often it didn't.",
-            "static int64_t reduce(struct reducer *w, int64_t fuel) {\n  struct pair pair = {0, 0};\n  for (; fuel; fuel--) {\n    if (!pair.d) {",
-            f"      if (w->sp == w->bottom) return fuel;\n      {take}\n      pair = (struct pair){{at[0], at[1]}};\n    }}",
-            "    pair = rules[first_rule[TAG(pair.d)] + TAG(pair.c) - 1](w, pair.c, pair.d);\n  }",
-            "  if (pair.d) PUSH(pair.c, pair.d);\n  return 0;\n}",
+            f"// Of each rule the words of cells that become free, less those that are taken.\nstatic const int16_t freed[] = {{{freed}}};",
+            "// Interacts at most so often, where no wire is shared: how often it didn't.",
+            loop("static int64_t reduce_local(struct worker *w, int64_t fuel) {\n", "", ""),
+            "// Interacts at most so often, and until a shared wire is met: how often it didn't.",
+            loop("static int64_t reduce_shared(struct worker *w, int64_t fuel) {\n", "\n    if (IS_SHARED(c, d)) break;", "\n    w->freed += freed[number];"),
         ])
 
     def rules(self):
         if not self.program.rules:
-            return "static int64_t reduce(struct reducer *w, int64_t fuel) {\n  (void)w;\n  return fuel;\n}"
+            return "\n".join(f"static int64_t reduce_{kind}(struct worker *w, int64_t fuel) {{\n  (void)w;\n  return fuel;\n}}" for kind in ("local", "shared"))
         bodies = list(self.bodies())
         return self.one_function(bodies) if self.is_one else self.functions(bodies)
 
     def tables(self):
-        """The symbols, for the printer, and the net."""
+        """The symbols, the net, and the sum by which another net's line is known to be of the same rules."""
         program, net = self.program, self.program.data["net"]
         lines = []
+        port = lambda data: f"{{{data['type']}, {int(not data['output'])}, {data['class']}}}"
         for number, symbol in enumerate(program.symbols):
             if symbol.arity:
-                ports = ", ".join(f"{{{port['type']}, {int(not port['output'])}}}" for port in symbol.ports[1:])
-                lines.append(f"static const struct port ports{number}[] = {{{ports}}};")
-        rows = [f"{{{quoted(symbol.name)}, {symbol.arity}, {f'ports{number}' if symbol.arity else '0'}}}" for number, symbol in enumerate(program.symbols)]
+                lines.append(f"static const struct port ports{number}[] = {{{', '.join(map(port, symbol.ports[1:]))}}};")
+        rows = [
+            f"{{{quoted(symbol.name)}, {symbol.arity}, {symbol.classes}, {self.tags.tag[number]}, {port(symbol.ports[0])}, {f'ports{number}' if symbol.arity else '0'}}}"
+            for number, symbol in enumerate(program.symbols)
+        ]
         first = list(itertools.accumulate(map(len, self.tags.constructors), initial=0))
         destructors = list(itertools.chain(*self.tags.destructors))
-        frees = [f"{{{quoted(free['name'])}, {{{free['type']}, {int(free['output'])}}}}}" for free in net["free"]]
-        agents = [f"{{{symbol}, {self.tags.tag[symbol]}}}" for symbol in net["agents"]]
+        frees = [f"{{{quoted(free['name'])}, {{{free['type']}, {int(free['output'])}, 0}}}}" for free in net["free"]]
         point = lambda data: f"{{{data[0]}, {data[1] if len(data) == 2 else -1}}}"
         is_plus = lambda data: program.symbols[net["agents"][data[0]]].ports[data[1]]["output"] if len(data) == 2 else not net["free"][data[0]]["output"]
         wires = [wire if is_plus(wire[0]) else wire[::-1] for wire in net["wires"]]
-        active = net["active"] if self.is_queue else net["active"][::-1]
-        counts = {"FREE": len(frees), "AGENTS": len(agents), "WIRES": len(wires), "ACTIVE": len(active), "WORDS": self.words, "PUSHES": self.pairs, "IS_QUEUE": int(self.is_queue)}
+        rules = rules_text(program)
+        counts = {
+            "TYPES": len(program.data["types"]), "SYMBOLS": len(program.symbols), "FREE": len(frees), "AGENTS": len(net["agents"]), "WIRES": len(wires),
+            "ACTIVE": len(net["active"]), "WORDS": self.words, "PUSHES": self.pairs, "IS_QUEUE": int(self.is_queue), "RULES_LENGTH": len(rules),
+        }
         return "\n".join([
             *lines,
             f"static const struct symbol symbols[] = {{{', '.join(rows) or '{0}'}}};",
@@ -373,17 +411,20 @@ class Compiler:
             f"static const uint16_t destructors[] = {{{numbers(destructors)}}}, destructor_types[] = {{{numbers(map(self.tags.type_of, destructors))}}};",
             "// A rule takes at most WORDS words of fresh cells, and makes at most PUSHES pairs.",
             f"enum {{ {', '.join(f'{name} = {count}' for name, count in counts.items())} }};",
-            f"static const struct {{ const char *name; struct port port; }} frees[] = {{{', '.join(frees) or '{0}'}}};",
-            f"static const struct {{ uint16_t symbol, tag; }} net_agents[] = {{{', '.join(agents) or '{0}'}}};",
-            "// Of each wire the point that gives comes first.",
-            f"static const struct {{ struct point plus, minus; }} net_wires[] = {{{', '.join(f'{{{point(one)}, {point(other)}}}' for one, other in wires) or '{{0, 0}, {0, 0}}'}}};",
-            f"static const int net_active[] = {{{numbers(active)}}};",
+            "// Of the line up to the net the length, and its sum.",
+            f"static const uint32_t RULES_SUM = {zlib.crc32(rules)}u;",
+            f"static const struct free_end own_free_ends[] = {{{', '.join(frees) or '{0}'}}};",
+            f"static const uint16_t own_symbols[] = {{{numbers(net['agents'])}}};",
+            f"static const struct joint own_joints[] = {{{', '.join(f'{{{point(one)}, {point(other)}}}' for one, other in wires) or '{{0, 0}, {0, 0}}'}}};",
+            f"static const uint32_t own_pairs[] = {{{numbers(net['active'])}}};",
         ])
 
     def text(self):
         # The code comes first: it says how many words and pairs a rule takes.
         rules = self.rules()
         runtime = streams.read_file(RUNTIME)
+        for name, part in (("WORKERS", WORKERS), ("READER", READER)):
+            runtime = runtime.replace(f"//@{name}\n", streams.read_file(part) + "\n")
         if not any(map(looping, self.program.symbols)):
             runtime = re.sub("//@LOOPS\n.*//@END\n", "", runtime, flags=re.DOTALL)
         return runtime.replace("//@TABLES\n", self.tables() + "\n").replace("//@RULES\n", rules + "\n").replace("//@LOOPS\n", "").replace("//@END\n", "")
