@@ -1,10 +1,16 @@
 """`tools/to_c.py`: what a compiled program prints is what `inet run` prints, text, count and status.
 
 That is tried on the accepted examples, the rows that end normally, generated programs, random programs of `tools/compile.py`, and on nets made
-for it: wires between free ends, wires from an agent of a pair back to itself, many ports. All that ends is tried in any order; with `--order
-queue` what is left at a limit has to be the same too. A program is compiled in each form in turn: all rules in one function, or each in its
-own, with room looked for at each interaction, or seldom; one in seven by clang, where it is there.
+for it: wires between free ends, wires from an agent of a pair back to itself, many ports. All that ends is tried in any order; with one worker
+and `--order queue` what is left at a limit has to be the same too. A program is compiled in each form in turn: all rules in one function, or each
+in its own; as it is, or so that several workers give pairs away after each interaction, and part and meet again and again (`-DSTRESS
+-DSLICE=1`); one in seven by clang, where it is there. Each runs with one to four workers.
+
+Generated programs with the same rules are compiled once, and their nets are read. Lines of nets that are changed by chance have to be refused, by
+a program with the sanitizers, where `tools/nets.py` and `tools/steps.py` refuse them, and nowhere else.
 """
+import copy
+import itertools
 import json
 import os
 import random
@@ -21,13 +27,26 @@ from harness.streams import closed_pipe
 
 sys.path.insert(0, TOOLS)
 import compile as compiler  # noqa: E402  (the tools stand beside the tests)
+import nets  # noqa: E402
+import steps  # noqa: E402
+import streams  # noqa: E402
 
 SCRIPT = os.path.join(HERE, "..", "..", "inet_c")
-GENERATED, RANDOM = 100, 30
+GENERATED = 300
+# Nets that are changed by chance, of each program that is taken for that.
+CHANGED = 120
+WORKERS = (1, 2, 3, 4)
 # Interactions of a run of `inet` that is compared, and its cells.
 MOST = 1_000_000
 CELLS = 1_048_576
-SANITIZERS = ["-O1", "-g", "-fsanitize=address,undefined", "-fno-sanitize-recover=all"]
+SANITIZERS = ["-O0", "-g", "-fsanitize=address,undefined", "-fno-sanitize-recover=all"]
+THREADS = ["-O0", "-g", "-fsanitize=thread"]
+# A C compiler for aarch64, and what runs its programs.
+ARM, EMULATOR = "aarch64-linux-gnu-gcc", "qemu-aarch64"
+# What a sanitizer tells has one of these in it.
+TOLD = (b"Sanitizer", b"runtime error")
+# Workers that disturb each other as often as they can.
+STRESS = ["-DSTRESS", "-DSLICE=1"]
 # Forms of the code, and words for the C compiler, by turns.
 FORMS = [["--functions", functions, "--order", order] for functions in ("one", "each") for order in ("newest", "queue")]
 # In Pass >< Swap a path leads through each of the four classes, where both ports of a class may be joined outside.
@@ -62,7 +81,7 @@ NETS = {
 # One that takes more and more memory.
 ENDLESS = b"""type nat; type go; symbol S : nat+ {nat-}; symbol Go : go+; symbol Count : go- {nat+};
 rule Go[] >< Count[S(r)] with { Go ~ Count(r); };
-net (a : nat+) { Go ~ Count(a); }"""
+net (a : nat+, b : nat+, c : nat+) { Go ~ Count(a); Go ~ Count(b); Go ~ Count(c); }"""
 # Rules of which each symbol has sixteen ports, in one class.
 PORTS = "{" + ", ".join(["n-"] * 8 + ["n+"] * 8) + "}"
 MANY_PORTS = (
@@ -75,7 +94,10 @@ MANY_PORTS = (
 )
 # Programs with nothing to compile.
 BARE = {"no symbol": "net () { }", "no rule": "type nat; symbol Z : nat+; net (a : nat+) { a ~ Z; }"}
-WRONG = (["--limit"], ["--limit", "-1"], ["--limit", "x"], ["--limit", "1000000000001"], ["--limit="], ["--limit", "1", "--limit", "1"], ["run"], ["--workers", "2"])
+WRONG = (
+    ["--limit"], ["--limit", "-1"], ["--limit", "x"], ["--limit", "1000000000001"], ["--limit="], ["--limit", "1", "--limit", "1"], ["--cells", "2"],
+    ["--workers"], ["--workers", "0"], ["--workers", "65"], ["--workers=x"], ["one.json", "other.json"], ["--limits"],
+)
 
 
 class CompiledPrograms:
@@ -93,7 +115,7 @@ class CompiledPrograms:
         source, made = (os.path.join(self.room, f"{name}{ending}") for ending in (".c", ""))
         with open(source, "wb") as file:
             file.write(code)
-        command = [compiler, "-std=c11", "-Wall", "-Wextra", "-pedantic", "-Werror", *words, "-o", made, source]
+        command = [compiler, "-std=c11", "-pthread", "-Wall", "-Wextra", "-pedantic", "-Werror", *words, "-o", made, source]
         ran = subprocess.run(command, stdout=subprocess.PIPE, stderr=subprocess.STDOUT)
         if ran.returncode:
             raise RuntimeError(f"{compiler}: {ran.stdout[:500]!r}")
@@ -109,35 +131,68 @@ class CompiledPrograms:
             raise RuntimeError(f"no code: {code} {code.errors!r}")
         return self.built(name, code.output, compiler, words)
 
-    def has_sanitizers(self):
+    def has_sanitizers(self, words):
         """Whether the C compiler has them."""
         try:
-            return bool(self.built("sanitized", b"int main(void) { return 0; }", "cc", SANITIZERS))
+            return bool(self.built("sanitized", b"int main(void) { return 0; }", "cc", words))
         except RuntimeError:
             return False
 
-    def wrong_run(self, name, number, text, words=("-O1",)):
-        """What is wrong with a program that is compiled in one form, to the end and at limits."""
-        form = FORMS[number % len(FORMS)]
-        often = ["-DSLICE=1"] if number // len(FORMS) % 2 else []
-        path = self.compiled(name, text, form, self.clang if number % 7 == 3 else "cc", [*words, *often])
+    def wrong_answer(self, command, text, limit, workers, is_queue, net=()):
+        """What is wrong with one run of a compiled program. At a limit the net is that of `inet run` in the order of a queue alone."""
+        found, wanted = self.program.run_command([*command, f"--limit={limit}", "--workers", str(workers), *net], b""), self.inet(text, limit)
+        wrong = differing(found, wanted.status, wanted.output)
+        if wrong and wanted.status == LIMIT and (workers > 1 or not is_queue):
+            same = found.status == LIMIT and found.output.rsplit(b"\n", 3)[-3:] == wanted.output.rsplit(b"\n", 3)[-3:]
+            wrong = None if same else wrong
+        return f"limit {limit}, {workers} workers: {wrong} {found.errors[:2000]!r}" if wrong or found.errors else None
+
+    def wrong_runs(self, command, text, is_queue, net=(), limits=(0, 1, 2, 3)):
+        """What is wrong with runs of a compiled program: to the end by one to four workers, and at limits."""
         usual = self.inet(text, MOST)
         if usual.status not in (ACCEPTED, LIMIT):
             return f"not to be compared: {usual}"
         count = int(usual.output.rsplit(b"\n", 3)[-3].split()[1])
-        for limit in sorted({0, 1, 2, 3, count // 2, max(count - 1, 0), count, MOST}):
-            found, wanted = self.program.run_command([path, f"--limit={limit}"], b""), self.inet(text, limit)
-            wrong = differing(found, wanted.status, wanted.output)
-            if wrong and limit and "newest" in form and wanted.status == LIMIT:
-                same = found.status == LIMIT and found.output.rsplit(b"\n", 3)[-3:] == wanted.output.rsplit(b"\n", 3)[-3:]
-                wrong = None if same else wrong
-            if wrong or found.errors:
-                return f"limit {limit}: {wrong} {found.errors!r}"
+        stops = sorted({*limits, count // 2, max(count - 1, 0), count})
+        runs = [*((MOST, workers) for workers in WORKERS), *zip(stops, itertools.cycle(WORKERS))]
+        return next(filter(None, (self.wrong_answer(command, text, limit, workers, is_queue, net) for limit, workers in runs)), None)
+
+    def wrong_run(self, name, number, text, words=()):
+        """What is wrong with a program that is compiled in one form, with one in two under stress, and one in three optimised."""
+        form = FORMS[number % len(FORMS)]
+        stress = STRESS if number // len(FORMS) % 2 else []
+        usual = ["-O0" if number % 3 else "-O1"]
+        path = self.compiled(name, text, form, self.clang if number % 7 == 3 else "cc", [*(words or usual), *stress])
+        wrong = self.wrong_runs([path], text, "queue" in form)
         os.remove(path)
+        return wrong
+
+    def wrong_nets(self, name, number, programs):
+        """What is wrong with nets that are read: programs with the same rules, of which the first one is compiled, as it is and under stress."""
+        form = FORMS[number % len(FORMS)]
+        paths = [self.compiled(f"{name}{kind}", programs[0], form, words=words) for kind, words in (("", ["-O1"]), ("stress", ["-O0", *STRESS]))]
+        file = os.path.join(self.room, f"{name}.json")
+        for which, text in enumerate(programs):
+            with open(file, "wb") as line:
+                line.write(self.exporter.run([], text).output)
+            wrong = self.wrong_runs([paths[which % 2]], text, "queue" in form, [file], ())
+            if wrong:
+                return f"net {which}: {wrong}"
+        for path in paths:
+            os.remove(path)
         return None
 
     def inet(self, text, limit):
         return self.program.run(["run", "--limit", str(limit), "--cells", str(CELLS)], text)
+
+
+def nets_by_rules():
+    """Generated programs, those with the same rules together."""
+    kinds, found = list(generated.SMALL), {}
+    for number in range(GENERATED):
+        text = generated.program(generated.SMALL[kinds[number % len(kinds)]](random.Random(number)))
+        found.setdefault(text[: text.rindex("net (")], []).append(text.encode())
+    return list(found.values())
 
 
 def texts():
@@ -148,15 +203,10 @@ def texts():
         yield name, (LOOPS + net).encode()
     yield from ((name, text.encode()) for name, text in BARE.items())
     yield "rules with sixteen ports and wires back", MANY_PORTS.encode()
-    kinds = list(generated.SMALL)
-    for number in range(GENERATED):
-        chance = random.Random(number)
-        kind = kinds[number % len(kinds)]
-        yield f"{kind}, number {number}", generated.program(generated.SMALL[kind](chance)).encode()
-    seeds = iter(range(compiled.PROGRAMS))
-    for _ in range(RANDOM):
-        text = next(filter(compiled.value_in, map(lambda seed: compiled.Generator(seed).program(), seeds)))
-        yield "random program", compiler.compiled(text, "a test").encode()
+    for seed in range(compiled.PROGRAMS):
+        text = compiled.Generator(seed).program()
+        if compiled.value_in(text):
+            yield f"random program {seed}", compiler.compiled(text, "a test").encode()
 
 
 def many_rules(count):
@@ -173,14 +223,39 @@ def many_rules(count):
     return "\n".join(["type t; symbol E : t+;", *symbols, *rules, *ends, f"net (end : t+) {{ {meets}; end ~ d20; }}"]).encode()
 
 
+def limits(count):
+    """A program with so many constructors and destructors of sixteen ports each, a rule for each two, and as many symbols as there may be: with 64
+    it is at all limits at once."""
+    ports = lambda sign: "".join(f" {{n{sign}}}" for _ in range(16))
+    names, others = "abcdefghijklmnop", "qrstuvwxyzABCDEF"
+    symbols = [f"symbol C{i} : t+{ports('-')}; symbol D{i} : t-{ports('+')};" for i in range(count)]
+    symbols += [f"symbol N{i} : n+{ports('-')};" for i in range(511 - 2 * count)]
+    listed = ",".join
+    rules = [
+        f"rule C{i}[{listed(names)}] >< D{j}[{listed(others)}] with {{C{i - 1}({listed(names[1:] + names[0])})~D{j - 1}({listed(others[::-1])});}};"
+        if i and j else f"rule C{i}[{listed(names)}] >< D{j}[{listed(names)}];"
+        for i in range(count) for j in range(count)
+    ]
+    ends = listed(f"e{k} : n+" for k in range(16))
+    net = f"C{count - 1}({listed('Z' * 16)}) ~ D{count - 1}({listed(f'e{k}' for k in range(16))});"
+    return "\n".join(["type t; type n; symbol Z : n+;", *symbols, *rules, f"net ({ends}) {{ {net} }}"]).encode()
+
+
+def wrong_limits(made):
+    """What is wrong with a program of as many symbols and ports as there may be, and a sixteenth of as many rules."""
+    text = limits(16)
+    path = made.compiled("limits", text, words=["-O0"])
+    return made.wrong_runs([path], text, False)
+
+
 def wrong_memory(made):
-    """What is wrong where memory runs out: there is one line, however much there was."""
-    path = made.compiled("memory", ENDLESS)
-    for room in (4_000, 8_000, 20_000, 60_000):
-        answer = made.program.run_command(["sh", "-c", f'ulimit -v {room}; exec "$@"', "sh", path, "--limit", "1000000000000"], b"")
-        wrong = differing(answer, MEMORY, b"memory\n")
+    """What is wrong where memory runs out: there is one line, however much there was, and of however many workers."""
+    path = made.compiled("memory", ENDLESS, words=["-O1", "-DSTRESS"])
+    for room, workers in itertools.product((4_000, 8_000, 20_000, 60_000, 200_000), (1, 4)):
+        command = ["sh", "-c", f'ulimit -v {room}; exec "$@"', "sh", path, "--limit", "1000000000000", "--workers", str(workers)]
+        wrong = differing(made.program.run_command(command, b""), MEMORY, b"memory\n")
         if wrong:
-            return f"{room} kB: {wrong}"
+            return f"{room} kB, {workers} workers: {wrong}"
     return None
 
 
@@ -231,6 +306,97 @@ def wrong_altered(line, change):
     return differing(answer, REFUSED, b"") or (None if answer.errors and b"Traceback" not in answer.errors else f"told: {answer.errors!r}")
 
 
+def changed(data, chance):
+    """A line of which the net is changed in one place, or in two."""
+    data = copy.deepcopy(data)
+    for _ in range(chance.choice((1, 1, 1, 2))):
+        lists = []
+        todo = [data["net"]]
+        while todo:
+            item = todo.pop()
+            todo += item.values() if isinstance(item, dict) else item if isinstance(item, list) else []
+            lists += [item] if isinstance(item, list) and item else []
+        items = chance.choice(lists)
+        place = chance.randrange(len(items))
+        kind = chance.randrange(6)
+        if kind == 0:
+            del items[place]
+        elif kind == 1:
+            items.insert(place, copy.deepcopy(chance.choice(items)))
+        elif kind == 2:
+            other = chance.randrange(len(items))
+            items[place], items[other] = items[other], items[place]
+        elif isinstance(items[place], int):
+            items[place] = max(0, items[place] + chance.choice((-1, 1, -2, 2, 5, 1 << 20, 1 << 31, 1 << 40)))
+        elif isinstance(items[place], dict):
+            items[place]["output"] ^= True
+        elif isinstance(items[place], str):
+            items[place] = chance.choice(("empty", "link", "given", "graft", "cut", "mix"))
+        else:
+            items[place] = chance.choice(([], [0], [0, 0], ["empty"], 0, copy.deepcopy(chance.choice(items))))
+    return data
+
+
+def is_sound(data):
+    """Whether the tools take the net of a line."""
+    try:
+        nets.check_form(data)
+        steps.check_steps(nets.Program(data), data["net"])
+        return True
+    except (streams.Refused, steps.Wrong, LookupError, TypeError, ValueError, AttributeError):
+        return False
+
+
+def wrong_lines(made, name, text):
+    """What is wrong with what a program with sanitizers says of lines that are changed: by chance, and by bytes."""
+    path = made.compiled(name, text, words=[*SANITIZERS, *STRESS])
+    line = made.exporter.run([], text).output
+    data, chance, file = json.loads(line), random.Random(name), os.path.join(made.room, f"{name}.json")
+    lines = []
+    for _ in range(CHANGED):
+        other = changed(data, chance)
+        lines.append((json.dumps(other, ensure_ascii=False, separators=(",", ":")).encode(), is_sound(other)))
+    begin = line.index(b'"net":') + len(b'"net":')
+    for _ in range(CHANGED // 2):
+        place = chance.randrange(begin, len(line))
+        lines.append((line[:place], False))
+        lines.append((line[:place] + bytes([chance.randrange(256)]) + line[place:], None))
+        other = chance.choice((b"[", b"]", b"0", b"9" * 30, b"-1", b",", b" ", b'"', b"\\"))
+        lines.append((line[:place] + other + line[place + 1:], None))
+    for other, sound in lines:
+        with open(file, "wb") as there:
+            there.write(other)
+        answer = made.program.run_command([path, file, "--workers", "2", "--limit", "1000"], b"")
+        taken = answer.status in (ACCEPTED, LIMIT)
+        told = answer.errors.startswith(b"error: ") if answer.status == REFUSED else not answer.errors and taken
+        if any(word in answer.errors for word in TOLD) or not told or sound not in (None, taken):
+            return f"{answer} {answer.errors[:1000]!r} for {other[begin:]!r}"
+    return None
+
+
+def wrong_net(program, path, words, data, status):
+    """What is wrong with the end of a run on a net that is none, or can't be read."""
+    answer = program.run_command([path, *words], data)
+    return differing(answer, status, b"") or (None if answer.errors.startswith(b"error: ") and b"\n" in answer.errors else f"told: {answer.errors!r}")
+
+
+def wrong_threads(made, name, text, workers):
+    """What ThreadSanitizer finds in a run under stress, or what is wrong with it."""
+    path = made.compiled(name, text, words=[*THREADS, *STRESS])
+    for count in workers:
+        wrong = made.wrong_answer([path], text, MOST, count, False)
+        if wrong:
+            return wrong
+    return None
+
+
+def wrong_arm(made, number, text):
+    """What is wrong with a program that is compiled for aarch64, and run by an emulator."""
+    form = FORMS[number % len(FORMS)]
+    path = made.compiled(f"arm{number}", text, form, ARM, ["-O0", "-static", *(STRESS if number % 2 else [])])
+    return made.wrong_runs([EMULATOR, path], text, "queue" in form, limits=(0,))
+
+
 def wrong_script(program, words, wanted, kept):
     """What is wrong with `./inet_c`, called twice: the second time what was compiled is kept."""
     for _ in range(2):
@@ -254,6 +420,24 @@ def by_script(program, room):
     yield "./inet_c: no file", partial(wrong_script, program, [path("no_such_file")], Answer(STREAM, b""), os.path.join(room, "kept"))
 
 
+# Programs on which ThreadSanitizer looks.
+WATCHED = [
+    generated.fibonacci(9), generated.tree_summed(6), generated.tree_summed_in_binary(6), generated.jobs(4, 5), generated.sorting_network(4),
+    generated.pipeline(20, 6), generated.lists([1, 2, 0, 3], [2, 2]), generated.ackermann(2, 3), generated.bush_eaten(4, 16, 3),
+]
+# Longer runs, in which all workers begin by themselves.
+LONG = [
+    generated.fibonacci(24), generated.jobs(10, 9), generated.sorting_network(10), generated.tree_summed_in_binary(16), generated.pipeline(1_000, 40),
+    generated.turns(1_000, 500), generated.bush(13, 64), generated.list_reversed(1_000),
+]
+
+
+def watched():
+    """What the sanitizers of threads are tried on."""
+    yield from (generated.program(piece).encode() for piece in WATCHED)
+    yield (LOOPS + NETS["steps with wires back"]).encode()
+
+
 def to_c(program):
     made = CompiledPrograms(program)
     yield "memory", partial(wrong_memory, made)
@@ -261,18 +445,43 @@ def to_c(program):
     for number, form in enumerate(FORMS):
         yield f"many rules: {' '.join(form)}", partial(made.wrong_run, f"many{number}", number, many_rules(17), ("-O0",))
     yield "a thousand rules", partial(made.wrong_run, "thousand", 3, many_rules(32), ("-O0",))
-    for number, (name, text) in enumerate(texts()):
-        yield f"{name}: program {number}", partial(made.wrong_run, number, number, text)
-    if made.has_sanitizers():
+    yield "512 symbols with sixteen ports", partial(wrong_limits, made)
+    if made.has_sanitizers(THREADS):
+        for number, text in enumerate(watched()):
+            yield f"threads, program {number}", partial(wrong_threads, made, f"threads{number}", text, (2 + number % 3, 4))
+    if made.has_sanitizers(SANITIZERS):
         for number in range(2 * len(FORMS)):
             text = (LOOPS + NETS["sixteen ports and wires back"]).encode() if number % 2 else generated.program(generated.sorting_network(3)).encode()
             yield f"sanitizers, form {number}", partial(made.wrong_run, f"sanitized{number}", number, text, SANITIZERS)
+        for name, text in (("sum", text_of("sum")), ("word", text_of("word")), ("values", (LOOPS + NETS["values on wires"]).encode())):
+            yield f"lines that are changed: {name}", partial(wrong_lines, made, f"lines_{name}", text)
+    if shutil.which(ARM) and shutil.which(EMULATOR):
+        for number, text in enumerate([*map(text_of, ("sum", "word", "quicksort")), *watched()]):
+            yield f"aarch64, program {number}", partial(wrong_arm, made, number, text)
+    for number, piece in enumerate(LONG):
+        yield f"long run {number}", partial(made.wrong_run, f"long{number}", 8 * number, generated.program(piece).encode(), ("-O0",))
+    for number, programs in enumerate(nets_by_rules()):
+        yield f"nets that are read, rules {number}", partial(made.wrong_nets, f"nets{number}", number, programs)
+    for number, (name, text) in enumerate(texts()):
+        yield f"{name}: program {number}", partial(made.wrong_run, number, number, text)
     path = made.compiled("words", text_of("sum"))
     for words in WRONG:
         yield f"words: {' '.join(words)}", partial(wrong_words, program, path, words)
     for kind in ("closed", "full", "a pipe without a reader"):
         yield f"standard output: {kind}", failing(partial(into, program, path, kind), "output")
     line = made.exporter.run([], text_of("sum")).output
+    yield "a net from standard input", lambda: differing(program.run_command([path, "-"], line), ACCEPTED, program.run(["run"], text_of("sum")).output)
+    others = {
+        "no line": b"",
+        "another program": made.exporter.run([], text_of("word")).output,
+        "a refused one": made.exporter.run([], text_of("used_three_times")).output,
+        "another format": line.replace(b'"format":1', b'"format":2'),
+        "two lines": line + line,
+    }
+    for name, data in others.items():
+        yield f"a net: {name}", partial(wrong_net, program, path, ["-"], data, REFUSED)
+    yield "a net: no file", partial(wrong_net, program, path, ["/nowhere/net.json"], b"", STREAM)
+    yield "a net: a folder", partial(wrong_net, program, path, ["/"], b"", STREAM)
     for name, change in ALTERED.items():
         yield f"a line with {name}", partial(wrong_altered, line, change)
     yield from by_script(program, made.room)
